@@ -3,39 +3,39 @@ use Rattle.std.specs.Prelude.{◌≡◌, ◌≢◌, ◌⊎◌, ℕ, suc, ◌%◌
 use Rattle.std.specs.List.{sum}
 use Rattle.std.proofs.Common.{inl, inr, refl, sym, ap, subst, ◌∙◌, arith}
 use Rattle.std.proofs.lemmas.Bool.{cases_eq}
-use Rattle.seize_words.specs.Mem.{Took, value_at}
-use Rattle.seize_words.specs.Plan.{Steps}
-use Rattle.seize.specs.World.{with_at}
-use Rattle.seize.specs.declared.progress.Progress.{Progress as Counted}
-use Rattle.seize.specs.declared.progress.Progress.TheVariants as counted_as
-use Rattle.seize.specs.declared.rows.settle.Settled.{Settled}
-use Rattle.seize.specs.declared.rows.settle.Settled.TheVariants as settled
+use Rattle.papaya_executor.specs.Given.SeizeWords.Mem.{Took, value_at}
+use Rattle.papaya_executor.specs.Given.SeizeWords.Plan.{Steps}
+use Rattle.papaya_executor.specs.Given.Seize.World.{with_at}
+use Rattle.papaya_executor.specs.Given.Seize.declared.progress.Progress.{Progress as Counted}
+use Rattle.papaya_executor.specs.Given.Seize.declared.progress.Progress.TheVariants as counted_as
+use Rattle.papaya_executor.specs.Given.Seize.declared.rows.settle.Settled.{Settled}
+use Rattle.papaya_executor.specs.Given.Seize.declared.rows.settle.Settled.TheVariants as settled
 use Rattle.seize_acts.proofs.Answers.{was_stepped}
 use Rattle.seize_acts.proofs.Begun.{and_both}
-use Rattle.seize_rule.proofs.Rows.Leaving.{steps_back}
-use Rattle.papaya_tables.specs.Counts.{count_in}
-use Rattle.papaya_tables.specs.declared.node.Node.{Node}
-use Rattle.papaya_tables.specs.declared.setting.Setting.{Setting}
-use Rattle.papaya_resize.specs.Sum.{summing, sum_plan}
-use Rattle.papaya_resize.specs.declared.sum.Sum.{Sum}
-use Rattle.papaya_resize.specs.declared.sum.Summing.{Summing}
-use Rattle.papaya_reserves.specs.Reserve.{reserve_plan}
-use Rattle.papaya_sweeps.specs.Sweep.{sweep_plan}
-use Rattle.papaya_raw.specs.Call.{call_plan}
-use Rattle.papaya_raw.specs.Machine.{machine_plan, machine_replied, machine_asked, called, reserved, swept, counted}
-use Rattle.papaya_raw.specs.Progress.{of_counting}
-use Rattle.papaya_raw.specs.declared.machines.asking.Reply.{Reply}
-use Rattle.papaya_raw.specs.declared.machines.machine.Machine.{Machine}
-use Rattle.papaya_raw.specs.declared.machines.machine.Machine.TheVariants as kinds
-use Rattle.papaya_raw.specs.declared.machines.progress.Answer.TheVariants as answers
-use Rattle.papaya_raw.specs.declared.machines.progress.Progress.{Progress}
-use Rattle.papaya_raw.specs.declared.machines.progress.Progress.TheVariants as progress
-use Rattle.papaya_points.specs.FactsTables.{CountsShards, SumFacts}
-use Rattle.papaya_callers.specs.Together.{UnderWay, OnKey, ForRoom, Counting, OverAll, in_slot}
-use Rattle.papaya_callers.proofs.Together.At.{at_same, at_other}
-use Rattle.papaya_finishes.specs.Endings.{StepsOfEnding, MakingStepsAmong}
-use Rattle.papaya_finishes.specs.Machines.{machine_of, GoesOnAs}
-use Rattle.papaya_finishes.specs.Maps.{Standing, with_call}
+use Rattle.papaya_executor.proofs.Given.SeizeRule.Rows.Leaving.{steps_back}
+use Rattle.papaya_executor.specs.Given.Tables.Counts.{count_in}
+use Rattle.papaya_executor.specs.Given.Tables.declared.node.Node.{Node}
+use Rattle.papaya_executor.specs.Given.Tables.declared.setting.Setting.{Setting}
+use Rattle.papaya_executor.specs.Given.Resize.Sum.{summing, sum_plan}
+use Rattle.papaya_executor.specs.Given.Resize.declared.sum.Sum.{Sum}
+use Rattle.papaya_executor.specs.Given.Resize.declared.sum.Summing.{Summing}
+use Rattle.papaya_executor.specs.Given.Reserves.Reserve.{reserve_plan}
+use Rattle.papaya_executor.specs.Given.Sweeps.Sweep.{sweep_plan}
+use Rattle.papaya_executor.specs.Given.Raw.Call.{call_plan}
+use Rattle.papaya_executor.specs.Given.Raw.Machine.{machine_plan, machine_replied, machine_asked, called, reserved, swept, counted}
+use Rattle.papaya_executor.specs.Given.Raw.Progress.{of_counting}
+use Rattle.papaya_executor.specs.Given.Raw.declared.machines.asking.Reply.{Reply}
+use Rattle.papaya_executor.specs.Given.Raw.declared.machines.machine.Machine.{Machine}
+use Rattle.papaya_executor.specs.Given.Raw.declared.machines.machine.Machine.TheVariants as kinds
+use Rattle.papaya_executor.specs.Given.Raw.declared.machines.progress.Answer.TheVariants as answers
+use Rattle.papaya_executor.specs.Given.Raw.declared.machines.progress.Progress.{Progress}
+use Rattle.papaya_executor.specs.Given.Raw.declared.machines.progress.Progress.TheVariants as progress
+use Rattle.papaya_executor.specs.Given.Points.FactsTables.{CountsShards, SumFacts}
+use Rattle.papaya_executor.specs.Given.Callers.Together.{UnderWay, OnKey, ForRoom, Counting, OverAll, in_slot}
+use Rattle.papaya_executor.proofs.Given.Callers.Together.At.{at_same, at_other}
+use Rattle.papaya_executor.specs.Given.Finishes.Endings.{StepsOfEnding, MakingStepsAmong}
+use Rattle.papaya_executor.specs.Given.Finishes.Machines.{machine_of, GoesOnAs}
+use Rattle.papaya_executor.specs.Given.Finishes.Maps.{Standing, with_call}
 use Rattle.papaya_executor.specs.IsAt.{Scene}
 use Rattle.papaya_executor.specs.Replying.{unless_stopped}
 use Rattle.papaya_acts.specs.Acts.{Act, Answer, OfCall, Wanted, Count, its, begun}

@@ -3,43 +3,43 @@ use Rattle.std.specs.Prelude.{◌≢◌, ◌++◌, Option, Some, None, option_ma
 use Rattle.std.specs.Option.{is_none}
 use Rattle.std.proofs.Common.{◌≡◌, ℕ, Bool, true, false, List, [], ◌∷◌, ◌⊎◌, inl, inr, refl, ap, sym, subst, ◌∙◌}
 use Rattle.std.proofs.lemmas.Bool.{cases_eq}
-use Rattle.seize_words.specs.Mem.{Mem}
-use Rattle.seize.specs.World.{World, Row, Rests, with_at}
-use Rattle.seize.specs.declared.progress.Progress.{Progress}
-use Rattle.seize.specs.declared.progress.Progress.TheVariants as progress
-use Rattle.seize.specs.declared.rows.settle.Settled.{Settled}
-use Rattle.seize.specs.declared.rows.settle.Settled.TheVariants as settled
+use Rattle.papaya_executor.specs.Given.SeizeWords.Mem.{Mem}
+use Rattle.papaya_executor.specs.Given.Seize.World.{World, Row, Rests, with_at}
+use Rattle.papaya_executor.specs.Given.Seize.declared.progress.Progress.{Progress}
+use Rattle.papaya_executor.specs.Given.Seize.declared.progress.Progress.TheVariants as progress
+use Rattle.papaya_executor.specs.Given.Seize.declared.rows.settle.Settled.{Settled}
+use Rattle.papaya_executor.specs.Given.Seize.declared.rows.settle.Settled.TheVariants as settled
 use Rattle.seize_acts.specs.Acts.{row_steps}
 use Rattle.seize_acts.specs.Answers.{Grant, stepped}
 use Rattle.seize_acts.proofs.Answers.{same_some}
-use Rattle.seize_rule.proofs.Rows.Others.{begins_others, steps_others}
-use Rattle.seize_ends.proofs.Batches.Rows.{begins_memory}
-use Rattle.papaya_tables.specs.Nodes.{deferred_word}
-use Rattle.papaya_tables.specs.declared.node.Node.{Node}
-use Rattle.papaya_tables.specs.declared.setting.Setting.{Setting}
-use Rattle.papaya_resize.specs.NewMap.{new_map_plan}
-use Rattle.papaya_resize.specs.Sum.{summing}
-use Rattle.papaya_resize.specs.declared.new_map.NewMap.{NewMap}
-use Rattle.papaya_reserves.specs.Reserve.{reserving}
-use Rattle.papaya_sweeps.specs.SweepPoints.{sweeping}
-use Rattle.papaya_raw.specs.CallAsks.{computing, updating, updating_or_inserting, trying_to_insert_with, removing_if}
-use Rattle.papaya_raw.specs.CallPoints.{getting, removing, inserting, trying_to_insert}
-use Rattle.papaya_raw.specs.EndMap.{ending, end_map_plan}
-use Rattle.papaya_raw.specs.Machine.{machine_plan, machine_replied, machine_asked}
-use Rattle.papaya_raw.specs.declared.machines.end_map.EndMap.{EndMap}
-use Rattle.papaya_raw.specs.declared.machines.machine.Machine.{Machine}
-use Rattle.papaya_raw.specs.declared.machines.machine.Machine.TheVariants as kinds
-use Rattle.papaya_raw.specs.declared.machines.progress.Progress.{Progress as CallProgress}
-use Rattle.papaya_points.specs.Steps.{told_first}
-use Rattle.papaya_callers.specs.Together.{UnderWay, OnKey, ForRoom, Counting, OverAll, in_slot}
-use Rattle.papaya_callers.proofs.Together.At.{at_same, at_other}
-use Rattle.papaya_callers.proofs.Together.Users.{events_rows}
-use Rattle.papaya_finishes.specs.Endings.{Finishing, finishing_of, waiting_by}
-use Rattle.papaya_finishes.specs.FactsEnds.{Deed}
-use Rattle.papaya_finishes.specs.Machines.{machine_of}
-use Rattle.papaya_finishes.specs.Makings.{Beginning}
-use Rattle.papaya_finishes.specs.Maps.{Standing, IsSameMap, with_call}
-use Rattle.papaya_finishes.proofs.Among.Sweeps.{walks_stop_among}
+use Rattle.papaya_executor.proofs.Given.SeizeRule.Rows.Others.{begins_others, steps_others}
+use Rattle.papaya_executor.proofs.Given.SeizeEnds.Batches.Rows.{begins_memory}
+use Rattle.papaya_executor.specs.Given.Tables.Nodes.{deferred_word}
+use Rattle.papaya_executor.specs.Given.Tables.declared.node.Node.{Node}
+use Rattle.papaya_executor.specs.Given.Tables.declared.setting.Setting.{Setting}
+use Rattle.papaya_executor.specs.Given.Resize.NewMap.{new_map_plan}
+use Rattle.papaya_executor.specs.Given.Resize.Sum.{summing}
+use Rattle.papaya_executor.specs.Given.Resize.declared.new_map.NewMap.{NewMap}
+use Rattle.papaya_executor.specs.Given.Reserves.Reserve.{reserving}
+use Rattle.papaya_executor.specs.Given.Sweeps.SweepPoints.{sweeping}
+use Rattle.papaya_executor.specs.Given.Raw.CallAsks.{computing, updating, updating_or_inserting, trying_to_insert_with, removing_if}
+use Rattle.papaya_executor.specs.Given.Raw.CallPoints.{getting, removing, inserting, trying_to_insert}
+use Rattle.papaya_executor.specs.Given.Raw.EndMap.{ending, end_map_plan}
+use Rattle.papaya_executor.specs.Given.Raw.Machine.{machine_plan, machine_replied, machine_asked}
+use Rattle.papaya_executor.specs.Given.Raw.declared.machines.end_map.EndMap.{EndMap}
+use Rattle.papaya_executor.specs.Given.Raw.declared.machines.machine.Machine.{Machine}
+use Rattle.papaya_executor.specs.Given.Raw.declared.machines.machine.Machine.TheVariants as kinds
+use Rattle.papaya_executor.specs.Given.Raw.declared.machines.progress.Progress.{Progress as CallProgress}
+use Rattle.papaya_executor.specs.Given.Points.Steps.{told_first}
+use Rattle.papaya_executor.specs.Given.Callers.Together.{UnderWay, OnKey, ForRoom, Counting, OverAll, in_slot}
+use Rattle.papaya_executor.proofs.Given.Callers.Together.At.{at_same, at_other}
+use Rattle.papaya_executor.proofs.Given.Callers.Together.Users.{events_rows}
+use Rattle.papaya_executor.specs.Given.Finishes.Endings.{Finishing, finishing_of, waiting_by}
+use Rattle.papaya_executor.specs.Given.Finishes.FactsEnds.{Deed}
+use Rattle.papaya_executor.specs.Given.Finishes.Machines.{machine_of}
+use Rattle.papaya_executor.specs.Given.Finishes.Makings.{Beginning}
+use Rattle.papaya_executor.specs.Given.Finishes.Maps.{Standing, IsSameMap, with_call}
+use Rattle.papaya_executor.proofs.Given.Finishes.Among.Sweeps.{walks_stop_among}
 use Rattle.papaya_executor.specs.IsAt.{Scene, at_first}
 use Rattle.papaya_executor.specs.Replying.{unless_stopped}
 use Rattle.papaya_executor.specs.Stepping.{going_on}

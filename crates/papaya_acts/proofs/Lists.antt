@@ -1,24 +1,24 @@
 -- A course: where each act leads. Each next step may be taken, and is that of an act.
 use Rattle.std.specs.Prelude.{◌≡◌, ℕ, Bool, [], Option, Some, None}
 use Rattle.std.proofs.Common.{refl}
-use Rattle.seize.specs.World.{at_start}
+use Rattle.papaya_executor.specs.Given.Seize.World.{at_start}
 use Rattle.seize_acts.proofs.Steps.{steps_so, row_so}
-use Rattle.papaya_tables.specs.Nodes.{deferred_word}
-use Rattle.papaya_resize.specs.NewMap.{new_map_plan}
-use Rattle.papaya_raw.specs.EndMap.{end_map_plan}
-use Rattle.papaya_raw.specs.Machine.{machine_plan}
-use Rattle.papaya_points.specs.Steps.{AreLawful}
-use Rattle.papaya_callers.specs.Together.{UnderWay}
-use Rattle.papaya_finishes.specs.Machines.{machine_of}
-use Rattle.papaya_finishes.specs.Maps.{Standing}
-use Rattle.papaya_finishes.proofs.Among.Begins.{no_endings_begin}
-use Rattle.papaya_finishes.proofs.Among.Machines.{machines_stand_among}
-use Rattle.papaya_finishes.proofs.Among.Makings.{makings_stand_among}
-use Rattle.papaya_finishes.proofs.Among.Own.Steps.{endings_stand}
-use Rattle.papaya_finishes.proofs.Among.Rows.{guards_stand_among}
-use Rattle.papaya_finishes.proofs.Beside.Makings.Promised.{no_makings_begin}
-use Rattle.papaya_finishes.proofs.Beside.Makings.Samples.{start_roots}
-use Rattle.papaya_finishes.proofs.Beside.Maps.Comes.{no_maps_begin}
+use Rattle.papaya_executor.specs.Given.Tables.Nodes.{deferred_word}
+use Rattle.papaya_executor.specs.Given.Resize.NewMap.{new_map_plan}
+use Rattle.papaya_executor.specs.Given.Raw.EndMap.{end_map_plan}
+use Rattle.papaya_executor.specs.Given.Raw.Machine.{machine_plan}
+use Rattle.papaya_executor.specs.Given.Points.Steps.{AreLawful}
+use Rattle.papaya_executor.specs.Given.Callers.Together.{UnderWay}
+use Rattle.papaya_executor.specs.Given.Finishes.Machines.{machine_of}
+use Rattle.papaya_executor.specs.Given.Finishes.Maps.{Standing}
+use Rattle.papaya_executor.proofs.Given.Finishes.Among.Begins.{no_endings_begin}
+use Rattle.papaya_executor.proofs.Given.Finishes.Among.Machines.{machines_stand_among}
+use Rattle.papaya_executor.proofs.Given.Finishes.Among.Makings.{makings_stand_among}
+use Rattle.papaya_executor.proofs.Given.Finishes.Among.Own.Steps.{endings_stand}
+use Rattle.papaya_executor.proofs.Given.Finishes.Among.Rows.{guards_stand_among}
+use Rattle.papaya_executor.proofs.Given.Finishes.Beside.Makings.Promised.{no_makings_begin}
+use Rattle.papaya_executor.proofs.Given.Finishes.Beside.Makings.Samples.{start_roots}
+use Rattle.papaya_executor.proofs.Given.Finishes.Beside.Maps.Comes.{no_maps_begin}
 use Rattle.papaya_executor.specs.IsAt.{Scene, at_first}
 use Rattle.papaya_acts.specs.Acts.{Act, Answer, Nothing, BeginsCall, StepsCall, TellsCall, AsksCall, StopsCall, BeginsMaking, StepsMaking, BeginsEnding, StepsEnding, BeginsRow, StepsRow}
 use Rattle.papaya_acts.specs.Leads.{MayBe, AllStand, Led}

@@ -2,29 +2,29 @@
 use Rattle.std.specs.Prelude.{◌≡◌, ℕ, ◌≤◌, ◌^◌, Bool, [], ◌∷◌, ◌++◌, max, Some, None}
 use Rattle.std.specs.Int.{IsPowerOfTwo}
 use Rattle.std.proofs.Common.{refl}
-use Rattle.seize.specs.World.{with_at, with_effect}
-use Rattle.seize.specs.Law.{Ended}
-use Rattle.seize.specs.declared.progress.Progress.{Progress}
-use Rattle.seize.specs.declared.progress.Progress.TheVariants as progress
-use Rattle.seize.specs.declared.rows.settle.Settled.{Settled}
-use Rattle.seize.specs.declared.rows.settle.Settled.TheVariants as settled
+use Rattle.papaya_executor.specs.Given.Seize.World.{with_at, with_effect}
+use Rattle.papaya_executor.specs.Given.Seize.Law.{Ended}
+use Rattle.papaya_executor.specs.Given.Seize.declared.progress.Progress.{Progress}
+use Rattle.papaya_executor.specs.Given.Seize.declared.progress.Progress.TheVariants as progress
+use Rattle.papaya_executor.specs.Given.Seize.declared.rows.settle.Settled.{Settled}
+use Rattle.papaya_executor.specs.Given.Seize.declared.rows.settle.Settled.TheVariants as settled
 use Rattle.seize_acts.specs.Answers.{Grant, then_on}
 use Rattle.seize_acts.proofs.Answers.{some, was_stepped}
-use Rattle.seize_words.specs.Mem.{Mem}
-use Rattle.papaya_tables.specs.Lengths.{IsTableLen}
-use Rattle.papaya_tables.specs.declared.node.Node.{Node}
-use Rattle.papaya_tables.specs.declared.setting.Setting.{Setting}
-use Rattle.papaya_resize.specs.NewMap.{new_map_plan}
-use Rattle.papaya_resize.specs.declared.new_map.NewMap.{NewMap}
-use Rattle.papaya_raw.specs.EndMap.{end_map_plan}
-use Rattle.papaya_raw.specs.declared.machines.end_map.EndMap.{EndMap}
-use Rattle.papaya_points.specs.Steps.{AreLawful}
-use Rattle.papaya_finishes.specs.Endings.{Finishing, MakingStepsAmong, MakingToldAmong, StepsOfEnding, FinishingTold, waiting_by}
-use Rattle.papaya_finishes.specs.Makings.{Beginning}
-use Rattle.papaya_finishes.proofs.Among.Begins.{endings_begin}
-use Rattle.papaya_finishes.proofs.Among.Makings.{makings_stand_among, makings_begin_among}
-use Rattle.papaya_finishes.proofs.Among.Own.Steps.{endings_stand}
-use Rattle.papaya_finishes.proofs.Beside.Makings.Promised.{makings_begin}
+use Rattle.papaya_executor.specs.Given.SeizeWords.Mem.{Mem}
+use Rattle.papaya_executor.specs.Given.Tables.Lengths.{IsTableLen}
+use Rattle.papaya_executor.specs.Given.Tables.declared.node.Node.{Node}
+use Rattle.papaya_executor.specs.Given.Tables.declared.setting.Setting.{Setting}
+use Rattle.papaya_executor.specs.Given.Resize.NewMap.{new_map_plan}
+use Rattle.papaya_executor.specs.Given.Resize.declared.new_map.NewMap.{NewMap}
+use Rattle.papaya_executor.specs.Given.Raw.EndMap.{end_map_plan}
+use Rattle.papaya_executor.specs.Given.Raw.declared.machines.end_map.EndMap.{EndMap}
+use Rattle.papaya_executor.specs.Given.Points.Steps.{AreLawful}
+use Rattle.papaya_executor.specs.Given.Finishes.Endings.{Finishing, MakingStepsAmong, MakingToldAmong, StepsOfEnding, FinishingTold, waiting_by}
+use Rattle.papaya_executor.specs.Given.Finishes.Makings.{Beginning}
+use Rattle.papaya_executor.proofs.Given.Finishes.Among.Begins.{endings_begin}
+use Rattle.papaya_executor.proofs.Given.Finishes.Among.Makings.{makings_stand_among, makings_begin_among}
+use Rattle.papaya_executor.proofs.Given.Finishes.Among.Own.Steps.{endings_stand}
+use Rattle.papaya_executor.proofs.Given.Finishes.Beside.Makings.Promised.{makings_begin}
 use Rattle.papaya_executor.specs.Ending.{ending_begun}
 use Rattle.papaya_executor.specs.IsAt.{Scene}
 use Rattle.papaya_acts.specs.Acts.{Answer, Nothing, OfMaking, OfEnding, BeginsMaking, StepsMaking, BeginsEnding, StepsEnding}

@@ -1,15 +1,15 @@
 -- The steps of a caller that reclaims all are those of acts.
 use Rattle.std.specs.Prelude.{◌≡◌, ℕ, Bool, List, Some}
 use Rattle.std.proofs.Common.{refl}
-use Rattle.seize_words.specs.Mem.{Mem}
-use Rattle.seize.specs.ReclaimAll.{reclaim_all_plan}
-use Rattle.seize.specs.declared.rows.reclaim_all.ReclaimAll.{ReclaimAll}
-use Rattle.seize.specs.declared.rows.settle.Settled.{Settled}
+use Rattle.papaya_executor.specs.Given.SeizeWords.Mem.{Mem}
+use Rattle.papaya_executor.specs.Given.Seize.ReclaimAll.{reclaim_all_plan}
+use Rattle.papaya_executor.specs.Given.Seize.declared.rows.reclaim_all.ReclaimAll.{ReclaimAll}
+use Rattle.papaya_executor.specs.Given.Seize.declared.rows.settle.Settled.{Settled}
 use Rattle.seize_acts.specs.Answers.{Grant}
 use Rattle.seize_acts.proofs.Answers.{was_stepped}
 use Rattle.seize_acts.proofs.Steps.{steps_so}
-use Rattle.papaya_tables.specs.Nodes.{deferred_word, was_left}
-use Rattle.papaya_tables.specs.declared.node.Node.{Node}
+use Rattle.papaya_executor.specs.Given.Tables.Nodes.{deferred_word, was_left}
+use Rattle.papaya_executor.specs.Given.Tables.declared.node.Node.{Node}
 use Rattle.papaya_reclaims.specs.Reclaims.{StepsOfReclaiming}
 use Rattle.papaya_reclaims.proofs.Promised.{reclaiming_stands}
 use Rattle.papaya_executor.specs.IsAt.{Scene}

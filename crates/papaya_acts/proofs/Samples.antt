@@ -2,12 +2,12 @@
 use Rattle.std.specs.Prelude.{◌≡◌, ℕ, ◌+◌, ◌<◌, ◌≤◌, ◌^◌, Bool, max, Some, None}
 use Rattle.std.specs.Int.{IsPowerOfTwo}
 use Rattle.std.proofs.Common.{refl, arith}
-use Rattle.seize.specs.World.{Register', with_at}
+use Rattle.papaya_executor.specs.Given.Seize.World.{Register', with_at}
 use Rattle.seize_acts.specs.Answers.{Grant}
-use Rattle.papaya_tables.specs.Lengths.{IsTableLen}
-use Rattle.papaya_tables.specs.declared.setting.Setting.{Setting}
-use Rattle.papaya_resize.specs.declared.new_map.Opening.TheVariants as at
-use Rattle.papaya_finishes.specs.Makings.{Beginning}
+use Rattle.papaya_executor.specs.Given.Tables.Lengths.{IsTableLen}
+use Rattle.papaya_executor.specs.Given.Tables.declared.setting.Setting.{Setting}
+use Rattle.papaya_executor.specs.Given.Resize.declared.new_map.Opening.TheVariants as at
+use Rattle.papaya_executor.specs.Given.Finishes.Makings.{Beginning}
 use Rattle.papaya_executor.specs.IsAt.{Scene, at_first}
 use Rattle.papaya_acts.specs.Acts.{Act, Wanted, BeginsCall, StepsCall, BeginsMaking, StepsMaking, BeginsRow}
 use Rattle.papaya_acts.specs.Courses.{AreAlike}

@@ -1,21 +1,21 @@
 -- What an executor does, it does by acts: where it is, its acts have led.
 use Rattle.std.specs.Prelude.{◌≡◌, ℕ, ◌+◌, ◌<◌, ◌≤◌, ◌^◌, length, max, Bool, Some, Result}
 use Rattle.std.specs.Int.{IsPowerOfTwo}
-use Rattle.seize.specs.declared.progress.Progress.{Progress}
-use Rattle.seize.specs.declared.rows.settle.Settled.{Settled}
+use Rattle.papaya_executor.specs.Given.Seize.declared.progress.Progress.{Progress}
+use Rattle.papaya_executor.specs.Given.Seize.declared.rows.settle.Settled.{Settled}
 use Rattle.seize_acts.specs.Answers.{Grant}
-use Rattle.papaya_tables.specs.Lengths.{IsTableLen}
-use Rattle.papaya_tables.specs.declared.node.Node.{Node}
-use Rattle.papaya_tables.specs.declared.setting.Setting.{Setting}
-use Rattle.papaya_raw.specs.declared.machines.asking.Reply.{Reply}
-use Rattle.papaya_raw.specs.declared.machines.machine.Machine.{Machine}
-use Rattle.papaya_raw.specs.declared.machines.progress.Progress.{Progress as CallProgress}
-use Rattle.papaya_points.specs.Steps.{AreLawful}
-use Rattle.papaya_callers.specs.Together.{UnderWay}
-use Rattle.papaya_finishes.specs.Endings.{Finishing}
-use Rattle.papaya_finishes.specs.Machines.{machine_of}
-use Rattle.papaya_finishes.specs.Makings.{Beginning}
-use Rattle.papaya_finishes.specs.Maps.{Standing}
+use Rattle.papaya_executor.specs.Given.Tables.Lengths.{IsTableLen}
+use Rattle.papaya_executor.specs.Given.Tables.declared.node.Node.{Node}
+use Rattle.papaya_executor.specs.Given.Tables.declared.setting.Setting.{Setting}
+use Rattle.papaya_executor.specs.Given.Raw.declared.machines.asking.Reply.{Reply}
+use Rattle.papaya_executor.specs.Given.Raw.declared.machines.machine.Machine.{Machine}
+use Rattle.papaya_executor.specs.Given.Raw.declared.machines.progress.Progress.{Progress as CallProgress}
+use Rattle.papaya_executor.specs.Given.Points.Steps.{AreLawful}
+use Rattle.papaya_executor.specs.Given.Callers.Together.{UnderWay}
+use Rattle.papaya_executor.specs.Given.Finishes.Endings.{Finishing}
+use Rattle.papaya_executor.specs.Given.Finishes.Machines.{machine_of}
+use Rattle.papaya_executor.specs.Given.Finishes.Makings.{Beginning}
+use Rattle.papaya_executor.specs.Given.Finishes.Maps.{Standing}
 use Rattle.papaya_executor.specs.declared.executor.Executor.{Executor}
 use Rattle.papaya_executor.specs.declared.row.RowTold.{RowTold}
 use Rattle.papaya_executor.specs.declared.row.SlotCall.{SlotCall}

@@ -1,32 +1,32 @@
 -- When an act may be made, and from which scene to which one it leads, with what it tells.
 use Rattle.std.specs.Prelude.{◌≡◌, ◌≢◌, ◌⊎◌, ℕ, ◌+◌, ◌<◌, ◌^◌, Bool, true, false, [], ◌∷◌, ◌++◌, Option, Some, None}
 use Rattle.std.specs.Option.{is_none}
-use Rattle.seize_words.specs.Mem.{Mem, value_at}
-use Rattle.seize.specs.World.{World, Begin, Step, Happens, with_at}
-use Rattle.seize.specs.declared.progress.Progress.{Progress}
-use Rattle.seize.specs.declared.progress.Progress.TheVariants as progress
-use Rattle.seize.specs.declared.rows.settle.Settled.{Settled}
-use Rattle.seize.specs.declared.rows.settle.Settled.TheVariants as settled
+use Rattle.papaya_executor.specs.Given.SeizeWords.Mem.{Mem, value_at}
+use Rattle.papaya_executor.specs.Given.Seize.World.{World, Begin, Step, Happens, with_at}
+use Rattle.papaya_executor.specs.Given.Seize.declared.progress.Progress.{Progress}
+use Rattle.papaya_executor.specs.Given.Seize.declared.progress.Progress.TheVariants as progress
+use Rattle.papaya_executor.specs.Given.Seize.declared.rows.settle.Settled.{Settled}
+use Rattle.papaya_executor.specs.Given.Seize.declared.rows.settle.Settled.TheVariants as settled
 use Rattle.seize_acts.specs.Acts.{rests, is_within, begun as row_begun, row_steps}
 use Rattle.seize_acts.specs.Answers.{Grant, then_on, stepped}
-use Rattle.papaya_tables.specs.Chunks.{is_incremental}
-use Rattle.papaya_tables.specs.Nodes.{deferred_word}
-use Rattle.papaya_tables.specs.declared.node.Node.{Node}
-use Rattle.papaya_tables.specs.declared.setting.Setting.{Setting}
-use Rattle.papaya_resize.specs.NewMap.{opening, new_map_plan}
-use Rattle.papaya_resize.specs.declared.new_map.NewMap.{NewMap}
-use Rattle.papaya_raw.specs.EndMap.{end_map_plan}
-use Rattle.papaya_raw.specs.Machine.{machine_plan, machine_replied, machine_asked}
-use Rattle.papaya_raw.specs.declared.machines.end_map.EndMap.{EndMap}
-use Rattle.papaya_raw.specs.declared.machines.machine.Machine.{Machine}
-use Rattle.papaya_raw.specs.declared.machines.progress.Progress.{Progress as CallProgress}
-use Rattle.papaya_callers.specs.Claims.{AreFew}
-use Rattle.papaya_callers.specs.Together.{UnderWay, HasCall, IsOfSlots, Closes}
-use Rattle.papaya_finishes.specs.Endings.{Finishing, EndingsTogether, StepsOfEnding, MakingStepsAmong, HasFinished, waiting_by}
-use Rattle.papaya_finishes.specs.FactsEnds.{Deed, taken_by}
-use Rattle.papaya_finishes.specs.Machines.{machine_of, ToldOfKind, MachineStepsAmong}
-use Rattle.papaya_finishes.specs.Makings.{Beginning, IsMade}
-use Rattle.papaya_finishes.specs.Maps.{Standing, IsSameMap, with_call}
+use Rattle.papaya_executor.specs.Given.Tables.Chunks.{is_incremental}
+use Rattle.papaya_executor.specs.Given.Tables.Nodes.{deferred_word}
+use Rattle.papaya_executor.specs.Given.Tables.declared.node.Node.{Node}
+use Rattle.papaya_executor.specs.Given.Tables.declared.setting.Setting.{Setting}
+use Rattle.papaya_executor.specs.Given.Resize.NewMap.{opening, new_map_plan}
+use Rattle.papaya_executor.specs.Given.Resize.declared.new_map.NewMap.{NewMap}
+use Rattle.papaya_executor.specs.Given.Raw.EndMap.{end_map_plan}
+use Rattle.papaya_executor.specs.Given.Raw.Machine.{machine_plan, machine_replied, machine_asked}
+use Rattle.papaya_executor.specs.Given.Raw.declared.machines.end_map.EndMap.{EndMap}
+use Rattle.papaya_executor.specs.Given.Raw.declared.machines.machine.Machine.{Machine}
+use Rattle.papaya_executor.specs.Given.Raw.declared.machines.progress.Progress.{Progress as CallProgress}
+use Rattle.papaya_executor.specs.Given.Callers.Claims.{AreFew}
+use Rattle.papaya_executor.specs.Given.Callers.Together.{UnderWay, HasCall, IsOfSlots, Closes}
+use Rattle.papaya_executor.specs.Given.Finishes.Endings.{Finishing, EndingsTogether, StepsOfEnding, MakingStepsAmong, HasFinished, waiting_by}
+use Rattle.papaya_executor.specs.Given.Finishes.FactsEnds.{Deed, taken_by}
+use Rattle.papaya_executor.specs.Given.Finishes.Machines.{machine_of, ToldOfKind, MachineStepsAmong}
+use Rattle.papaya_executor.specs.Given.Finishes.Makings.{Beginning, IsMade}
+use Rattle.papaya_executor.specs.Given.Finishes.Maps.{Standing, IsSameMap, with_call}
 use Rattle.papaya_executor.specs.Ending.{ending_begun}
 use Rattle.papaya_executor.specs.IsAt.{Scene}
 use Rattle.papaya_executor.specs.Replying.{scene_with, unless_stopped}

@@ -1,28 +1,28 @@
 -- Lists of acts: to which scene each leads, and what is promised of it.
 use Rattle.std.specs.Prelude.{◌≡◌, ℕ, Bool, List, [], ◌∷◌, Some}
-use Rattle.seize_words.specs.Mem.{Mem, Can, Took, value_at}
-use Rattle.seize_words.specs.Plan.{May, Steps}
-use Rattle.seize.specs.World.{World, MayStep, Steps'}
-use Rattle.seize.specs.declared.progress.Progress.{Progress}
-use Rattle.seize.specs.declared.rows.settle.Settled.{Settled}
+use Rattle.papaya_executor.specs.Given.SeizeWords.Mem.{Mem, Can, Took, value_at}
+use Rattle.papaya_executor.specs.Given.SeizeWords.Plan.{May, Steps}
+use Rattle.papaya_executor.specs.Given.Seize.World.{World, MayStep, Steps'}
+use Rattle.papaya_executor.specs.Given.Seize.declared.progress.Progress.{Progress}
+use Rattle.papaya_executor.specs.Given.Seize.declared.rows.settle.Settled.{Settled}
 use Rattle.seize_acts.specs.Acts.{row_steps}
 use Rattle.seize_acts.specs.Answers.{Grant}
-use Rattle.papaya_tables.specs.Nodes.{deferred_word}
-use Rattle.papaya_tables.specs.declared.node.Node.{Node}
-use Rattle.papaya_tables.specs.declared.setting.Setting.{Setting}
-use Rattle.papaya_resize.specs.NewMap.{new_map_plan}
-use Rattle.papaya_resize.specs.declared.new_map.NewMap.{NewMap}
-use Rattle.papaya_raw.specs.EndMap.{end_map_plan}
-use Rattle.papaya_raw.specs.Machine.{machine_plan}
-use Rattle.papaya_raw.specs.declared.machines.end_map.EndMap.{EndMap}
-use Rattle.papaya_raw.specs.declared.machines.machine.Machine.{Machine}
-use Rattle.papaya_raw.specs.declared.machines.progress.Progress.{Progress as CallProgress}
-use Rattle.papaya_points.specs.Steps.{AreLawful}
-use Rattle.papaya_callers.specs.Together.{UnderWay}
-use Rattle.papaya_finishes.specs.Endings.{Finishing}
-use Rattle.papaya_finishes.specs.Machines.{machine_of}
-use Rattle.papaya_finishes.specs.Makings.{Beginning}
-use Rattle.papaya_finishes.specs.Maps.{Standing}
+use Rattle.papaya_executor.specs.Given.Tables.Nodes.{deferred_word}
+use Rattle.papaya_executor.specs.Given.Tables.declared.node.Node.{Node}
+use Rattle.papaya_executor.specs.Given.Tables.declared.setting.Setting.{Setting}
+use Rattle.papaya_executor.specs.Given.Resize.NewMap.{new_map_plan}
+use Rattle.papaya_executor.specs.Given.Resize.declared.new_map.NewMap.{NewMap}
+use Rattle.papaya_executor.specs.Given.Raw.EndMap.{end_map_plan}
+use Rattle.papaya_executor.specs.Given.Raw.Machine.{machine_plan}
+use Rattle.papaya_executor.specs.Given.Raw.declared.machines.end_map.EndMap.{EndMap}
+use Rattle.papaya_executor.specs.Given.Raw.declared.machines.machine.Machine.{Machine}
+use Rattle.papaya_executor.specs.Given.Raw.declared.machines.progress.Progress.{Progress as CallProgress}
+use Rattle.papaya_executor.specs.Given.Points.Steps.{AreLawful}
+use Rattle.papaya_executor.specs.Given.Callers.Together.{UnderWay}
+use Rattle.papaya_executor.specs.Given.Finishes.Endings.{Finishing}
+use Rattle.papaya_executor.specs.Given.Finishes.Machines.{machine_of}
+use Rattle.papaya_executor.specs.Given.Finishes.Makings.{Beginning}
+use Rattle.papaya_executor.specs.Given.Finishes.Maps.{Standing}
 use Rattle.papaya_executor.specs.IsAt.{Scene, at_first}
 use Rattle.papaya_acts.specs.Acts.{Act, Answer}
 use Rattle.papaya_acts.specs.Leads.{MayBe, AllStand, Led, HasNoCall, call_steps, making_steps, ending_steps}

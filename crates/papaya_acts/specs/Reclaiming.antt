@@ -1,14 +1,14 @@
 -- A caller reclaims all by acts: each of its steps is computed from the memory, and from what that was free to choose.
 use Rattle.std.specs.Prelude.{◌≡◌, ℕ, ◌<◌, ◌^◌, Bool, false, List, Option, Some}
 use Rattle.std.specs.Option.{is_none}
-use Rattle.seize_words.specs.Mem.{Mem, Can, Took, value_at}
-use Rattle.seize_words.specs.Plan.{May, Steps}
-use Rattle.seize.specs.ReclaimAll.{reclaim_all_plan}
-use Rattle.seize.specs.declared.rows.reclaim_all.ReclaimAll.{ReclaimAll}
-use Rattle.seize.specs.declared.rows.settle.Settled.{Settled}
+use Rattle.papaya_executor.specs.Given.SeizeWords.Mem.{Mem, Can, Took, value_at}
+use Rattle.papaya_executor.specs.Given.SeizeWords.Plan.{May, Steps}
+use Rattle.papaya_executor.specs.Given.Seize.ReclaimAll.{reclaim_all_plan}
+use Rattle.papaya_executor.specs.Given.Seize.declared.rows.reclaim_all.ReclaimAll.{ReclaimAll}
+use Rattle.papaya_executor.specs.Given.Seize.declared.rows.settle.Settled.{Settled}
 use Rattle.seize_acts.specs.Answers.{Grant, stepped}
-use Rattle.papaya_tables.specs.Nodes.{deferred_word, was_left}
-use Rattle.papaya_tables.specs.declared.node.Node.{Node}
+use Rattle.papaya_executor.specs.Given.Tables.Nodes.{deferred_word, was_left}
+use Rattle.papaya_executor.specs.Given.Tables.declared.node.Node.{Node}
 use Rattle.papaya_reclaims.specs.Reclaims.{ReclaimingTogether, StepsOfReclaiming}
 use Rattle.papaya_executor.specs.IsAt.{Scene}
 

@@ -1,15 +1,15 @@
 -- What a call hands to the collector and counts, on cases worked by hand.
 use Rattle.std.specs.Prelude.{◌-◌, ◌^◌, Option, Some}
 use Rattle.std.proofs.Common.{◌≡◌, ℕ, ◌<◌, true, false, [], ◌∷◌, refl, arith}
-use Rattle.seize_words.specs.Mem.{Mem}
-use Rattle.seize.specs.WaitingSets.{Retires}
-use Rattle.papaya_tables.specs.declared.resize_mode.ResizeMode.TheVariants.{Incremental, Blocking}
-use Rattle.papaya_tables.specs.declared.setting.Setting.{Setting}
-use Rattle.papaya_raw.specs.declared.machines.answer.KeyAnswer.TheVariants.{Stored as StoredWord, Replaced as ReplacedWord, Removed as RemovedWord}
-use Rattle.papaya_tables.specs.declared.node.Node.{Node}
-use Rattle.papaya_rule.specs.Chart.{Chart}
-use Rattle.papaya_points.specs.FactsCalls.{Unchanged, Stored, Replaced, Removed}
-use Rattle.papaya_rule.specs.Words.{Blocks}
+use Rattle.papaya_callers.specs.Given.SeizeWords.Mem.{Mem}
+use Rattle.papaya_callers.specs.Given.Seize.WaitingSets.{Retires}
+use Rattle.papaya_callers.specs.Given.Tables.declared.resize_mode.ResizeMode.TheVariants.{Incremental, Blocking}
+use Rattle.papaya_callers.specs.Given.Tables.declared.setting.Setting.{Setting}
+use Rattle.papaya_callers.specs.Given.Raw.declared.machines.answer.KeyAnswer.TheVariants.{Stored as StoredWord, Replaced as ReplacedWord, Removed as RemovedWord}
+use Rattle.papaya_callers.specs.Given.Tables.declared.node.Node.{Node}
+use Rattle.papaya_callers.specs.Given.Rule.Chart.{Chart}
+use Rattle.papaya_callers.specs.Given.Points.FactsCalls.{Unchanged, Stored, Replaced, Removed}
+use Rattle.papaya_callers.specs.Given.Rule.Words.{Blocks}
 use Rattle.papaya_alone.specs.Counted.{counted_for}
 use Rattle.papaya_alone.specs.Handed.{retirements, is_deferred, pair_handed, pairs_handed}
 use Rattle.papaya_alone.specs.Values.{IsItsPair, IsLinkedSince}

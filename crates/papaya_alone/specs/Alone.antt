@@ -1,49 +1,49 @@
 -- Whole calls of a map over a memory that has one owner, who is caller 0: a call takes its own steps and those of the rows of the collector
 -- that it begins, and nobody else takes any.
 use Rattle.std.specs.Prelude.{◌≡◌, ◌≢◌, ℕ, ◌+◌, ◌*◌, ◌<◌, ◌≤◌, ◌^◌, Bool, true, cond, List, [], ◌∷◌, ◌++◌, ◌⊎◌, Option, Some, None}
-use Rattle.seize_words.specs.Mem.{Mem, value_at}
-use Rattle.seize.specs.declared.rows.settle.Settle.{Settle}
-use Rattle.seize.specs.declared.rows.defer.Defer.{Defer}
-use Rattle.seize_words.specs.declared.at.At.TheVariants.{Word}
-use Rattle.seize.specs.Defer.{deferring}
-use Rattle.seize.specs.Law.{reachable}
-use Rattle.seize.specs.Settle.{retiring}
-use Rattle.seize.specs.WaitingSets.{Change as Waiting}
-use Rattle.seize.specs.World.{World, Settles, Defers as DefersBlock, Cutting, Retire, Defer', Begins}
-use Rattle.seize_alone.specs.Alone.{History, IsHistory, IsMidway, TakesSteps, at_rest}
-use Rattle.papaya_tables.specs.Nodes.{deferred_word}
-use Rattle.papaya_tables.specs.Chunks.{is_incremental}
-use Rattle.papaya_resize.specs.Dispose as dispose
-use Rattle.papaya_raw.specs.CallPoints.{standing}
-use Rattle.papaya_resize.specs.CopierStates as copying
-use Rattle.papaya_tables.specs.declared.node.Node.{Node}
-use Rattle.papaya_tables.specs.declared.setting.Setting.{Setting}
-use Rattle.papaya_tables.specs.declared.table_words.TheConstants.{DEFERRED}
-use Rattle.papaya_raw.specs.declared.machines.answer.KeyAnswer.{KeyAnswer}
-use Rattle.papaya_raw.specs.declared.machines.answer.Called.{Called}
-use Rattle.papaya_raw.specs.declared.machines.answer.Called.TheVariants as called
-use Rattle.papaya_raw.specs.declared.machines.call.KeyCall.{KeyCall}
-use Rattle.papaya_raw.specs.declared.machines.call.Calling.TheVariants as at
-use Rattle.papaya_tables.specs.declared.table.Table.{Table}
-use Rattle.papaya_resize.specs.declared.copier.Copier.{Copier}
-use Rattle.papaya_resize.specs.declared.copier.Copying.TheVariants as copies
-use Rattle.papaya_resize.specs.declared.dispose.Dispose.{Dispose}
-use Rattle.papaya_resize.specs.declared.dispose.Disposing.TheVariants as disposes
-use Rattle.papaya_rule.specs.Chart.{Chart}
-use Rattle.papaya_rule.specs.Lasts.{Lasts}
-use Rattle.papaya_rule.specs.Words.{Blocks}
-use Rattle.papaya_rule.specs.Maps.{spot_of}
-use Rattle.papaya_rule.specs.InWorld.{SameBlocks, IsMapIn, SparesPairs}
-use Rattle.papaya_points.specs.FactsCopies.{HasDone, ClaimsNone}
-use Rattle.papaya_points.specs.FactsCopiesBlocking.{HasNoShares}
-use Rattle.papaya_points.specs.FactsCalls.{Change, Unchanged, Stored, Replaced, Removed, CallFacts, AnswersOf, Tells, Changes}
-use Rattle.papaya_points.specs.Told.{HasAnswered}
+use Rattle.papaya_callers.specs.Given.SeizeWords.Mem.{Mem, value_at}
+use Rattle.papaya_callers.specs.Given.Seize.declared.rows.settle.Settle.{Settle}
+use Rattle.papaya_callers.specs.Given.Seize.declared.rows.defer.Defer.{Defer}
+use Rattle.papaya_callers.specs.Given.SeizeWords.declared.at.At.TheVariants.{Word}
+use Rattle.papaya_callers.specs.Given.Seize.Defer.{deferring}
+use Rattle.papaya_callers.specs.Given.Seize.Law.{reachable}
+use Rattle.papaya_callers.specs.Given.Seize.Settle.{retiring}
+use Rattle.papaya_callers.specs.Given.Seize.WaitingSets.{Change as Waiting}
+use Rattle.papaya_callers.specs.Given.Seize.World.{World, Settles, Defers as DefersBlock, Cutting, Retire, Defer', Begins}
+use Rattle.papaya_callers.specs.Given.SeizeAlone.Alone.{History, IsHistory, IsMidway, TakesSteps, at_rest}
+use Rattle.papaya_callers.specs.Given.Tables.Nodes.{deferred_word}
+use Rattle.papaya_callers.specs.Given.Tables.Chunks.{is_incremental}
+use Rattle.papaya_callers.specs.Given.Resize.Dispose as dispose
+use Rattle.papaya_callers.specs.Given.Raw.CallPoints.{standing}
+use Rattle.papaya_callers.specs.Given.Resize.CopierStates as copying
+use Rattle.papaya_callers.specs.Given.Tables.declared.node.Node.{Node}
+use Rattle.papaya_callers.specs.Given.Tables.declared.setting.Setting.{Setting}
+use Rattle.papaya_callers.specs.Given.Tables.declared.table_words.TheConstants.{DEFERRED}
+use Rattle.papaya_callers.specs.Given.Raw.declared.machines.answer.KeyAnswer.{KeyAnswer}
+use Rattle.papaya_callers.specs.Given.Raw.declared.machines.answer.Called.{Called}
+use Rattle.papaya_callers.specs.Given.Raw.declared.machines.answer.Called.TheVariants as called
+use Rattle.papaya_callers.specs.Given.Raw.declared.machines.call.KeyCall.{KeyCall}
+use Rattle.papaya_callers.specs.Given.Raw.declared.machines.call.Calling.TheVariants as at
+use Rattle.papaya_callers.specs.Given.Tables.declared.table.Table.{Table}
+use Rattle.papaya_callers.specs.Given.Resize.declared.copier.Copier.{Copier}
+use Rattle.papaya_callers.specs.Given.Resize.declared.copier.Copying.TheVariants as copies
+use Rattle.papaya_callers.specs.Given.Resize.declared.dispose.Dispose.{Dispose}
+use Rattle.papaya_callers.specs.Given.Resize.declared.dispose.Disposing.TheVariants as disposes
+use Rattle.papaya_callers.specs.Given.Rule.Chart.{Chart}
+use Rattle.papaya_callers.specs.Given.Rule.Lasts.{Lasts}
+use Rattle.papaya_callers.specs.Given.Rule.Words.{Blocks}
+use Rattle.papaya_callers.specs.Given.Rule.Maps.{spot_of}
+use Rattle.papaya_callers.specs.Given.Rule.InWorld.{SameBlocks, IsMapIn, SparesPairs}
+use Rattle.papaya_callers.specs.Given.Points.FactsCopies.{HasDone, ClaimsNone}
+use Rattle.papaya_callers.specs.Given.Points.FactsCopiesBlocking.{HasNoShares}
+use Rattle.papaya_callers.specs.Given.Points.FactsCalls.{Change, Unchanged, Stored, Replaced, Removed, CallFacts, AnswersOf, Tells, Changes}
+use Rattle.papaya_callers.specs.Given.Points.Told.{HasAnswered}
 use Rattle.papaya_alone.specs.Counting.{IsCounted}
 use Rattle.papaya_alone.specs.Counted.{HasAdded, counted_at}
 use Rattle.papaya_callers.specs.Kept.{IsMaking, IsWithin}
 use Rattle.papaya_alone.specs.Values.{BlocksBetween, BlocksAtEnd}
 use Rattle.papaya_alone.specs.Handed.{pairs_handed, all_handed, word_out, HasHandedTables, DisposesOf}
-use Rattle.papaya_raw.specs.declared.machines.asking.Takes.TheVariants as takes
+use Rattle.papaya_callers.specs.Given.Raw.declared.machines.asking.Takes.TheVariants as takes
 
 -- so many pairs it has stored
 abbrev pub pairs_stored : Change → ℕ

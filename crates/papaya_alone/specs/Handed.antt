@@ -1,25 +1,25 @@
 -- What a call that runs alone hands to the collector: the tables that the root passes while it runs, and the pair that it takes out of the map.
 use Rattle.std.specs.Prelude.{◌≡◌, ℕ, zero, suc, ◌-◌, ◌*◌, ◌<◌, ◌≤◌, Bool, true, false, cond, ltb, List, [], ◌∷◌, ◌++◌}
-use Rattle.seize.specs.Settle.{retiring}
-use Rattle.seize.specs.WaitingSets.{Change as Waiting, Retires, Defers}
-use Rattle.papaya_tables.specs.Chunks.{is_incremental}
-use Rattle.papaya_tables.specs.Marks.{link_in, has_mark}
-use Rattle.papaya_tables.specs.declared.marks.TheConstants.{BORROWED}
-use Rattle.papaya_tables.specs.declared.resize_mode.ResizeMode.{ResizeMode}
-use Rattle.papaya_tables.specs.declared.setting.Setting.{Setting}
-use Rattle.papaya_raw.specs.declared.machines.answer.KeyAnswer.{KeyAnswer}
-use Rattle.papaya_raw.specs.declared.machines.answer.KeyAnswer.TheVariants as answers
-use Rattle.papaya_raw.specs.declared.machines.call.KeyCall.{KeyCall}
-use Rattle.papaya_raw.specs.declared.machines.call.Calling.{Calling}
-use Rattle.papaya_raw.specs.declared.machines.call.Calling.TheVariants as at
-use Rattle.papaya_resize.specs.declared.copier.Copier.{Copier}
-use Rattle.papaya_resize.specs.declared.copier.Copying.{Copying}
-use Rattle.papaya_resize.specs.declared.copier.Copying.TheVariants as copies
-use Rattle.papaya_resize.specs.declared.dispose.Disposing.{Disposing}
-use Rattle.papaya_resize.specs.declared.dispose.Disposing.TheVariants as disposes
-use Rattle.papaya_points.specs.Unlinked.{has_unlinked}
-use Rattle.papaya_rule.specs.Words.{Blocks}
-use Rattle.papaya_points.specs.FactsCalls.{Change, Unchanged, Stored, Replaced, Removed}
+use Rattle.papaya_callers.specs.Given.Seize.Settle.{retiring}
+use Rattle.papaya_callers.specs.Given.Seize.WaitingSets.{Change as Waiting, Retires, Defers}
+use Rattle.papaya_callers.specs.Given.Tables.Chunks.{is_incremental}
+use Rattle.papaya_callers.specs.Given.Tables.Marks.{link_in, has_mark}
+use Rattle.papaya_callers.specs.Given.Tables.declared.marks.TheConstants.{BORROWED}
+use Rattle.papaya_callers.specs.Given.Tables.declared.resize_mode.ResizeMode.{ResizeMode}
+use Rattle.papaya_callers.specs.Given.Tables.declared.setting.Setting.{Setting}
+use Rattle.papaya_callers.specs.Given.Raw.declared.machines.answer.KeyAnswer.{KeyAnswer}
+use Rattle.papaya_callers.specs.Given.Raw.declared.machines.answer.KeyAnswer.TheVariants as answers
+use Rattle.papaya_callers.specs.Given.Raw.declared.machines.call.KeyCall.{KeyCall}
+use Rattle.papaya_callers.specs.Given.Raw.declared.machines.call.Calling.{Calling}
+use Rattle.papaya_callers.specs.Given.Raw.declared.machines.call.Calling.TheVariants as at
+use Rattle.papaya_callers.specs.Given.Resize.declared.copier.Copier.{Copier}
+use Rattle.papaya_callers.specs.Given.Resize.declared.copier.Copying.{Copying}
+use Rattle.papaya_callers.specs.Given.Resize.declared.copier.Copying.TheVariants as copies
+use Rattle.papaya_callers.specs.Given.Resize.declared.dispose.Disposing.{Disposing}
+use Rattle.papaya_callers.specs.Given.Resize.declared.dispose.Disposing.TheVariants as disposes
+use Rattle.papaya_callers.specs.Given.Points.Unlinked.{has_unlinked}
+use Rattle.papaya_callers.specs.Given.Rule.Words.{Blocks}
+use Rattle.papaya_callers.specs.Given.Points.FactsCalls.{Change, Unchanged, Stored, Replaced, Removed}
 
 -- so many tables, from the one with this turn on, are retired in the order of their turns
 abbrev pub retirements : ℕ → Blocks → ℕ → ℕ → List Waiting

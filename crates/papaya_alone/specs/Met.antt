@@ -1,29 +1,29 @@
 -- How many pairs the tries of a hash meet at a table: no more than the map has, where that table is the last.
 use Rattle.std.specs.Prelude.{◌≡◌, ◌≢◌, ℕ, suc, ◌<◌, ◌≤◌, ◌==◌, Bool, true, false, not, Option, Some, None, IfSome}
-use Rattle.seize_words.specs.Mem.{Mem, Took, value_at, word_at}
-use Rattle.seize_words.specs.Plan.{Steps}
-use Rattle.seize_words.specs.Word.{block_in}
-use Rattle.papaya_tables.specs.Chunks.{is_incremental}
-use Rattle.papaya_tables.specs.Lengths.{next_len, IsTableLen}
-use Rattle.papaya_tables.specs.TablePlaces.{at_place}
-use Rattle.papaya_tables.specs.Trials.{first_trial, with_met, next_trial}
-use Rattle.papaya_tables.specs.declared.lengths.Reason.TheVariants.{Full}
-use Rattle.papaya_tables.specs.declared.node.Node.{Node}
-use Rattle.papaya_tables.specs.declared.resize_mode.ResizeMode.{ResizeMode}
-use Rattle.papaya_tables.specs.declared.table.Table.{Table}
-use Rattle.papaya_tables.specs.declared.trial.Trial.{Trial}
-use Rattle.papaya_resize.specs.declared.new_table.Making.{Making}
-use Rattle.papaya_resize.specs.declared.new_table.Making.TheVariants as makes
-use Rattle.papaya_raw.specs.Call.{call_plan}
-use Rattle.papaya_raw.specs.declared.machines.answer.Called.{Called}
-use Rattle.papaya_raw.specs.declared.machines.asking.Asking.{Asking}
-use Rattle.papaya_raw.specs.declared.machines.call.KeyCall.{KeyCall}
-use Rattle.papaya_raw.specs.declared.machines.call.Calling.{Calling}
-use Rattle.papaya_raw.specs.declared.machines.call.Calling.TheVariants as at
-use Rattle.papaya_rule.specs.Chart.{Place, Holds, Chart}
-use Rattle.papaya_rule.specs.Rule.{IsLawful, Rule, total}
-use Rattle.papaya_rule.specs.Words.{Blocks, place_word}
-use Rattle.papaya_rule.specs.Maps.{spot_at, spot_of, IsMap, IsTable, IsTrial}
+use Rattle.papaya_callers.specs.Given.SeizeWords.Mem.{Mem, Took, value_at, word_at}
+use Rattle.papaya_callers.specs.Given.SeizeWords.Plan.{Steps}
+use Rattle.papaya_callers.specs.Given.SeizeWords.Word.{block_in}
+use Rattle.papaya_callers.specs.Given.Tables.Chunks.{is_incremental}
+use Rattle.papaya_callers.specs.Given.Tables.Lengths.{next_len, IsTableLen}
+use Rattle.papaya_callers.specs.Given.Tables.TablePlaces.{at_place}
+use Rattle.papaya_callers.specs.Given.Tables.Trials.{first_trial, with_met, next_trial}
+use Rattle.papaya_callers.specs.Given.Tables.declared.lengths.Reason.TheVariants.{Full}
+use Rattle.papaya_callers.specs.Given.Tables.declared.node.Node.{Node}
+use Rattle.papaya_callers.specs.Given.Tables.declared.resize_mode.ResizeMode.{ResizeMode}
+use Rattle.papaya_callers.specs.Given.Tables.declared.table.Table.{Table}
+use Rattle.papaya_callers.specs.Given.Tables.declared.trial.Trial.{Trial}
+use Rattle.papaya_callers.specs.Given.Resize.declared.new_table.Making.{Making}
+use Rattle.papaya_callers.specs.Given.Resize.declared.new_table.Making.TheVariants as makes
+use Rattle.papaya_callers.specs.Given.Raw.Call.{call_plan}
+use Rattle.papaya_callers.specs.Given.Raw.declared.machines.answer.Called.{Called}
+use Rattle.papaya_callers.specs.Given.Raw.declared.machines.asking.Asking.{Asking}
+use Rattle.papaya_callers.specs.Given.Raw.declared.machines.call.KeyCall.{KeyCall}
+use Rattle.papaya_callers.specs.Given.Raw.declared.machines.call.Calling.{Calling}
+use Rattle.papaya_callers.specs.Given.Raw.declared.machines.call.Calling.TheVariants as at
+use Rattle.papaya_callers.specs.Given.Rule.Chart.{Place, Holds, Chart}
+use Rattle.papaya_callers.specs.Given.Rule.Rule.{IsLawful, Rule, total}
+use Rattle.papaya_callers.specs.Given.Rule.Words.{Blocks, place_word}
+use Rattle.papaya_callers.specs.Given.Rule.Maps.{spot_at, spot_of, IsMap, IsTable, IsTrial}
 use Rattle.papaya_alone.specs.Counting.{one_if, pairs_in}
 
 -- a pair stands at a place

@@ -19,10 +19,10 @@ use Rattle.papaya_raw.specs.declared.machines.asking.Takes.TheVariants as takes
 use Rattle.papaya_raw.specs.declared.machines.asking.Told.TheVariants as tells
 use Rattle.papaya_raw.specs.CallAsks.{replied}
 use Rattle.papaya_raw.specs.declared.machines.call.KeyCall.{KeyCall}
-use Rattle.papaya_callers.specs.Kind.{Kind}
-use Rattle.papaya_callers.specs.Pairs.{IsTold}
-use Rattle.papaya_callers.specs.Together.{IsBegun}
-use Rattle.papaya_late.specs.Faults.{IsRoom}
+use Rattle.papaya_owned.specs.Given.Callers.Kind.{Kind}
+use Rattle.papaya_owned.specs.Given.Callers.Pairs.{IsTold}
+use Rattle.papaya_owned.specs.Given.Callers.Together.{IsBegun}
+use Rattle.papaya_owned.specs.Given.Late.Faults.{IsRoom}
 use Rattle.papaya_asks.specs.declared.lent.Lent.{Lent}
 use Rattle.papaya_owned.specs.Ending.{RunsTo}
 use Rattle.papaya_owned.specs.Machines.{on_key_plan}

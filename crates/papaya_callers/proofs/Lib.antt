@@ -6,3 +6,4 @@ mod Once
 pub mod Together
 pub mod MapBegins
 pub mod Claims
+pub mod Given

@@ -11,3 +11,4 @@ pub mod Pairs
 pub mod Claims
 pub mod OverAll
 pub mod Sweeps
+pub mod Given

@@ -1,24 +1,24 @@
 -- Walks, clearings and retainings among the callers of a map: what is promised of each, whoever takes the next step.
 use Rattle.std.specs.Prelude.{◌≡◌, ℕ, ◌≤◌, ◌⊎◌, Bool, false, List, Option, None, Some}
 use Rattle.std.specs.Int.{IsPowerOfTwo}
-use Rattle.seize_words.specs.Mem.{Mem, Can, Took, value_at}
-use Rattle.seize_words.specs.Plan.{May, Steps}
-use Rattle.seize.specs.World.{World, Rests, IsInside, with_at}
-use Rattle.papaya_tables.specs.Chunks.{is_incremental}
-use Rattle.papaya_tables.specs.declared.node.Node.{Node}
-use Rattle.papaya_tables.specs.declared.setting.Setting.{Setting}
-use Rattle.papaya_sweeps.specs.Sweep.{sweep_plan}
-use Rattle.papaya_sweeps.specs.SweepPoints.{after_next}
-use Rattle.papaya_sweeps.specs.declared.sweep.Purpose.{Purpose}
-use Rattle.papaya_sweeps.specs.declared.sweep.Sweep.{Sweep}
-use Rattle.papaya_sweeps.specs.declared.sweep.Sweeping.TheVariants as at
-use Rattle.papaya_sweeps.specs.declared.sweep.Swept.{Swept}
-use Rattle.papaya_sweeps.specs.declared.sweep.Swept.TheVariants as swept
-use Rattle.papaya_rule.specs.Chart.{Chart}
-use Rattle.papaya_rule.specs.Words.{Blocks}
-use Rattle.papaya_rule.specs.InWorld.{Went}
-use Rattle.papaya_rule.specs.Moments.{Remembers}
-use Rattle.papaya_points.specs.Steps.{AreLawful}
+use Rattle.papaya_late.specs.Given.SeizeWords.Mem.{Mem, Can, Took, value_at}
+use Rattle.papaya_late.specs.Given.SeizeWords.Plan.{May, Steps}
+use Rattle.papaya_late.specs.Given.Seize.World.{World, Rests, IsInside, with_at}
+use Rattle.papaya_late.specs.Given.Tables.Chunks.{is_incremental}
+use Rattle.papaya_late.specs.Given.Tables.declared.node.Node.{Node}
+use Rattle.papaya_late.specs.Given.Tables.declared.setting.Setting.{Setting}
+use Rattle.papaya_late.specs.Given.Sweeps.Sweep.{sweep_plan}
+use Rattle.papaya_late.specs.Given.Sweeps.SweepPoints.{after_next}
+use Rattle.papaya_late.specs.Given.Sweeps.declared.sweep.Purpose.{Purpose}
+use Rattle.papaya_late.specs.Given.Sweeps.declared.sweep.Sweep.{Sweep}
+use Rattle.papaya_late.specs.Given.Sweeps.declared.sweep.Sweeping.TheVariants as at
+use Rattle.papaya_late.specs.Given.Sweeps.declared.sweep.Swept.{Swept}
+use Rattle.papaya_late.specs.Given.Sweeps.declared.sweep.Swept.TheVariants as swept
+use Rattle.papaya_late.specs.Given.Rule.Chart.{Chart}
+use Rattle.papaya_late.specs.Given.Rule.Words.{Blocks}
+use Rattle.papaya_late.specs.Given.Rule.InWorld.{Went}
+use Rattle.papaya_late.specs.Given.Rule.Moments.{Remembers}
+use Rattle.papaya_late.specs.Given.Points.Steps.{AreLawful}
 use Rattle.papaya_late.specs.Covers.{WasSince, Came, NamesPair}
 use Rattle.papaya_late.specs.CoversSweeps.{DoneAt}
 use Rattle.papaya_late.specs.ToldSweeps.{IsRowOfSweep, word_told, SweepTold}

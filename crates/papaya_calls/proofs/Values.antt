@@ -7,9 +7,9 @@ use Rattle.seize_alone.specs.declared.calls.WholeCall.{WholeCall}
 use Rattle.seize.specs.World.{Request}
 use Rattle.seize_alone.specs.Alone.{History, IsMidway, row_of}
 use Rattle.seize_alone.proofs.Laws.{calls_end_with_more}
-use Rattle.papaya_tables.specs.Nodes.{deferred_word}
-use Rattle.papaya_tables.specs.declared.node.Node.{Node}
-use Rattle.papaya_tables.specs.declared.node.Node.TheVariants as node
+use Rattle.papaya_maps.specs.Given.Tables.Nodes.{deferred_word}
+use Rattle.papaya_maps.specs.Given.Tables.declared.node.Node.{Node}
+use Rattle.papaya_maps.specs.Given.Tables.declared.node.Node.TheVariants as node
 use Rattle.papaya_runs.specs.declared.outcome.Effect.{Effect}
 use Rattle.papaya_runs.specs.declared.outcome.Effect.TheVariants.{Reclaimed, TableReclaimed}
 use Rattle.papaya_runs.specs.declared.record.Pair.{Pair}

@@ -5,8 +5,8 @@ use Rattle.seize.specs.World.{Row, Request}
 use Rattle.seize_alone.specs.Alone.{History, IsHistory, IsMidway, AreValues, Spares, SameLeft, called, given_back}
 use Rattle.seize.specs.Law.{Effect}
 use Rattle.seize.specs.Sequence.{taken_in}
-use Rattle.papaya_tables.specs.Nodes.{deferred_word}
-use Rattle.papaya_tables.specs.declared.node.Node.{Node}
+use Rattle.papaya_maps.specs.Given.Tables.Nodes.{deferred_word}
+use Rattle.papaya_maps.specs.Given.Tables.declared.node.Node.{Node}
 use Rattle.papaya_calls.specs.Kept.{AreThings, pairs_kept, tables_kept, reclaims_kept}
 use Rattle.papaya_calls.specs.declared.giving.Given.{Given}
 use Rattle.papaya_calls.specs.declared.numbered.Numbered.{Numbered}

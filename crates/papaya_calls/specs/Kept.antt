@@ -1,8 +1,8 @@
 -- What the blocks of a run hold: pairs, tables, and a map's counter.
 use Rattle.std.specs.Prelude.{◌≢◌, ℕ, List, [], ◌∷◌, Option, Some, None, ◌+◌}
 use Rattle.seize_words.specs.Mem.{Mem, value_at}
-use Rattle.papaya_tables.specs.declared.node.Node.{Node}
-use Rattle.papaya_tables.specs.declared.node.Node.TheVariants as node
+use Rattle.papaya_maps.specs.Given.Tables.declared.node.Node.{Node}
+use Rattle.papaya_maps.specs.Given.Tables.declared.node.Node.TheVariants as node
 use Rattle.papaya_runs.specs.declared.outcome.Effect.{Effect}
 use Rattle.papaya_runs.specs.declared.outcome.Effect.TheVariants.{Reclaimed, TableReclaimed}
 use Rattle.papaya_runs.specs.declared.record.Pair.{Pair}

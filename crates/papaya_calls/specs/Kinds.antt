@@ -2,7 +2,7 @@
 use Rattle.papaya_raw.specs.declared.machines.answer.Missing.{Missing}
 use Rattle.papaya_raw.specs.declared.machines.answer.There.{There}
 use Rattle.papaya_raw.specs.declared.machines.asking.Takes.{Takes}
-use Rattle.papaya_late.specs.Kinds.{Fits, FaultFits}
+use Rattle.papaya_maps.specs.Given.Late.Kinds.{Fits, FaultFits}
 use Rattle.papaya_calls.specs.declared.calls.End.{End as Ending}
 use Rattle.papaya_calls.specs.declared.calls.End.TheVariants as ends
 

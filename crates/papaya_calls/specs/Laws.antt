@@ -1,7 +1,7 @@
 -- What is promised of values that are written down one after another.
 use Rattle.std.specs.Prelude.{◌≡◌, ◌≢◌, ◌+◌, List, [], ◌∷◌, ◌++◌, map, Some}
-use Rattle.papaya_tables.specs.declared.node.Node.{Node}
-use Rattle.papaya_tables.specs.declared.node.Node.TheVariants as node
+use Rattle.papaya_maps.specs.Given.Tables.declared.node.Node.{Node}
+use Rattle.papaya_maps.specs.Given.Tables.declared.node.Node.TheVariants as node
 use Rattle.papaya_calls.specs.Giving.{Adds}
 use Rattle.papaya_calls.specs.Kept.{AreThings, pairs_kept, reclaims_kept, tables_kept}
 use Rattle.papaya_calls.specs.declared.giving.Given.{Given}

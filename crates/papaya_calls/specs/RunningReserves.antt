@@ -4,19 +4,19 @@ use Rattle.std.specs.Int.{IsPowerOfTwo}
 use Rattle.seize_words.specs.declared.fault.Fault.{Fault}
 use Rattle.seize_words.specs.Mem.{Mem}
 use Rattle.seize_alone.specs.Alone.{History}
-use Rattle.papaya_tables.specs.Chunks.{is_incremental}
-use Rattle.papaya_tables.specs.declared.node.Node.{Node}
-use Rattle.papaya_tables.specs.declared.setting.Setting.{Setting}
-use Rattle.papaya_reserves.specs.declared.reserve.Reserve.{Reserve}
-use Rattle.papaya_rule.specs.Chart.{Chart}
-use Rattle.papaya_points.specs.Steps.{AreLawful}
-use Rattle.papaya_rule.specs.Words.{Blocks}
-use Rattle.papaya_alone.specs.Counting.{IsCounted}
+use Rattle.papaya_maps.specs.Given.Tables.Chunks.{is_incremental}
+use Rattle.papaya_maps.specs.Given.Tables.declared.node.Node.{Node}
+use Rattle.papaya_maps.specs.Given.Tables.declared.setting.Setting.{Setting}
+use Rattle.papaya_maps.specs.Given.Reserves.declared.reserve.Reserve.{Reserve}
+use Rattle.papaya_maps.specs.Given.Rule.Chart.{Chart}
+use Rattle.papaya_maps.specs.Given.Points.Steps.{AreLawful}
+use Rattle.papaya_maps.specs.Given.Rule.Words.{Blocks}
+use Rattle.papaya_maps.specs.Given.Alone.Counting.{IsCounted}
 use Rattle.papaya_maps.specs.AloneReserves.{HasRoom, HasReservedAll}
-use Rattle.papaya_alone.specs.FactsAloneCalls.{RestsAlone}
+use Rattle.papaya_maps.specs.Given.Alone.FactsAloneCalls.{RestsAlone}
 use Rattle.papaya_maps.specs.LoneReserves.{IsReservingAlone}
 use Rattle.papaya_maps.specs.Spares.{KeepsOthers}
-use Rattle.papaya_late.specs.Faults.{IsRoom, RoomInReserving}
+use Rattle.papaya_maps.specs.Given.Late.Faults.{IsRoom, RoomInReserving}
 use Rattle.papaya_shown.specs.Shown.{Stands}
 use Rattle.papaya_calls.specs.declared.numbered.Numbered.{Numbered}
 

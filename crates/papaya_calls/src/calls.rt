@@ -2,7 +2,7 @@
 ghost use Rattle.std.specs.Prelude.{◌≡◌, ◌<◌, ◌≤◌, Bool, None};
 ghost use Rattle.papaya_runs.specs.Stopped.{most_steps};
 ghost use Rattle.papaya_calls.specs.Kinds.{EndFits};
-ghost use Rattle.papaya_late.specs.Kinds.{IsFit, IsLookup};
+ghost use Rattle.papaya_maps.specs.Given.Late.Kinds.{IsFit, IsLookup};
 ghost use Rattle.papaya_calls.specs.declared.calls.End.TheVariants as ends;
 ghost use Rattle.papaya_calls.specs.Running.{Begun, MayRun, RunsTo};
 ghost use Rattle.papaya_calls.specs.RunningReserves.{BegunReserve, MayReserve, RunsReserve};

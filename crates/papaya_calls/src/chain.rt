@@ -1,9 +1,9 @@
 //! The tables of a map, from its root on.
 ghost use Rattle.std.specs.Prelude.{◌≡◌, ◌<◌, ◌≤◌, ◌++◌, ◌-◌, ℕ, Bool, map, IfOk, OnOk};
 ghost use Rattle.std.specs.List.{AllByRecursion};
-ghost use Rattle.papaya_tables.specs.Chunks.{is_incremental};
-ghost use Rattle.papaya_rule.specs.Chart.{Chart};
-ghost use Rattle.papaya_rule.specs.Words.{Blocks};
+ghost use Rattle.papaya_maps.specs.Given.Tables.Chunks.{is_incremental};
+ghost use Rattle.papaya_maps.specs.Given.Rule.Chart.{Chart};
+ghost use Rattle.papaya_maps.specs.Given.Rule.Words.{Blocks};
 ghost use Rattle.papaya_runs.specs.Runs.{IsTableShape};
 ghost use Rattle.papaya_shown.specs.Shown.{NoneMoves};
 ghost use Rattle.papaya_calls.specs.Endings.{AreNumbered, ListsCurrent};

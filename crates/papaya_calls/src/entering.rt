@@ -1,6 +1,6 @@
 //! The slot of a registration: the first guard on it enters it, and it is given up where no guard is left on it.
 ghost use Rattle.std.specs.Prelude.{◌≡◌, ◌==◌, ℕ, [], if◌then◌else◌};
-ghost use Rattle.papaya_tables.specs.Nodes.{deferred_word};
+ghost use Rattle.papaya_maps.specs.Given.Tables.Nodes.{deferred_word};
 ghost use Rattle.seize.specs.World.{Outside};
 ghost use Rattle.seize_alone.specs.Alone.{History, IsHistory, Spares, SameLinks, entered, given_up};
 

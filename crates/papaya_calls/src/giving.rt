@@ -1,7 +1,7 @@
 //! Calls of the collector that run to their ends, and what they reclaim.
 ghost use Rattle.std.specs.Prelude.{◌≡◌, ◌≢◌, ◌+◌, ◌<◌, ◌^◌, ◌∷◌, ℕ, List, [], OnOk};
-ghost use Rattle.papaya_tables.specs.declared.node.Node.{Node};
-ghost use Rattle.papaya_tables.specs.declared.node.Node.TheVariants as node;
+ghost use Rattle.papaya_maps.specs.Given.Tables.declared.node.Node.{Node};
+ghost use Rattle.papaya_maps.specs.Given.Tables.declared.node.Node.TheVariants as node;
 ghost use Rattle.papaya_calls.specs.Giving.{Adds, MayFinish, Finished};
 ghost use Rattle.papaya_calls.specs.Kept.{tables_kept};
 ghost use Rattle.papaya_calls.specs.Unmaking.{AddsEnded};

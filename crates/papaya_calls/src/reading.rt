@@ -1,11 +1,11 @@
 //! What the words and blocks of a map say.
 ghost use Rattle.std.specs.Prelude.{◌≡◌, ◌≢◌, ◌<◌, ◌≤◌, ◌/◌, ℕ, suc, Bool, Option, Some, None, IsSome};
-ghost use Rattle.papaya_tables.specs.Chunks.{is_incremental};
-ghost use Rattle.papaya_tables.specs.Nodes.{table_seen};
-ghost use Rattle.papaya_tables.specs.declared.node.Node.{Node};
-ghost use Rattle.papaya_tables.specs.declared.node.Node.TheVariants as node;
-ghost use Rattle.papaya_rule.specs.Chart.{Chart};
-ghost use Rattle.papaya_rule.specs.Words.{Blocks};
+ghost use Rattle.papaya_maps.specs.Given.Tables.Chunks.{is_incremental};
+ghost use Rattle.papaya_maps.specs.Given.Tables.Nodes.{table_seen};
+ghost use Rattle.papaya_maps.specs.Given.Tables.declared.node.Node.{Node};
+ghost use Rattle.papaya_maps.specs.Given.Tables.declared.node.Node.TheVariants as node;
+ghost use Rattle.papaya_maps.specs.Given.Rule.Chart.{Chart};
+ghost use Rattle.papaya_maps.specs.Given.Rule.Words.{Blocks};
 ghost use Rattle.seize_words.specs.Word.{block_in};
 ghost use Rattle.papaya_shown.specs.Shown.{Stands, pair_there, table_at, table_of};
 ghost use Rattle.papaya_calls.specs.Tables.{IsNumberOf};

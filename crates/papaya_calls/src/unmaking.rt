@@ -1,6 +1,6 @@
 //! The end of a map, run to its end.
 ghost use Rattle.std.specs.Prelude.{◌≡◌, ℕ, Bool, List, OnOk};
-ghost use Rattle.papaya_tables.specs.declared.node.Node.{Node};
+ghost use Rattle.papaya_maps.specs.Given.Tables.declared.node.Node.{Node};
 ghost use Rattle.papaya_calls.specs.Unmaking.{Unmaking, AddsEnded, MayUnmake, Unmakes};
 ghost use Rattle.papaya_calls.specs.declared.numbered.Numbered.{Numbered};
 

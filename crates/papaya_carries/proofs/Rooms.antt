@@ -1,22 +1,22 @@
 -- A step of a reservation that is none of a row leaves each block somebody's behind which something may be put.
 use Rattle.std.specs.Prelude.{Option, Some}
 use Rattle.std.proofs.Common.{◌≡◌, ℕ, Bool, inl, inr, ◌⊎◌, ap, subst}
-use Rattle.seize.specs.World.{World, Rests}
-use Rattle.papaya_tables.specs.declared.node.Node.{Node}
-use Rattle.papaya_tables.specs.declared.resize_mode.ResizeMode.{ResizeMode}
-use Rattle.papaya_resize.specs.declared.copier.Copier.{Copier}
-use Rattle.papaya_reserves.specs.declared.reserve.Reserving.{Reserving}
-use Rattle.papaya_reserves.specs.declared.reserve.Reserving.TheVariants as reserving
-use Rattle.papaya_rule.specs.Chart.{Chart}
-use Rattle.papaya_points.specs.Told.{OnlyLinks}
-use Rattle.papaya_late.specs.FactsReserves.{CopiesPairs, ReserveFacts, ReservingFacts}
-use Rattle.papaya_late.specs.LateReserves.{LateReserveFacts, LateReserving}
-use Rattle.papaya_callers.specs.Rooms.{CallForRoom}
-use Rattle.papaya_callers.specs.Sights.{seen_by}
-use Rattle.papaya_callers.specs.Together.{UnderWay, ForRoom, KnowsRoom, Stands, FreshRoom, LateRoom, RoomTold, in_slot, next_for_room}
-use Rattle.papaya_finishes.specs.Endings.{Finishing}
-use Rattle.papaya_finishes.specs.Makings.{Beginning}
-use Rattle.papaya_finishes.specs.Maps.{Standing}
+use Rattle.papaya_executor.specs.Given.Seize.World.{World, Rests}
+use Rattle.papaya_executor.specs.Given.Tables.declared.node.Node.{Node}
+use Rattle.papaya_executor.specs.Given.Tables.declared.resize_mode.ResizeMode.{ResizeMode}
+use Rattle.papaya_executor.specs.Given.Resize.declared.copier.Copier.{Copier}
+use Rattle.papaya_executor.specs.Given.Reserves.declared.reserve.Reserving.{Reserving}
+use Rattle.papaya_executor.specs.Given.Reserves.declared.reserve.Reserving.TheVariants as reserving
+use Rattle.papaya_executor.specs.Given.Rule.Chart.{Chart}
+use Rattle.papaya_executor.specs.Given.Points.Told.{OnlyLinks}
+use Rattle.papaya_executor.specs.Given.Late.FactsReserves.{CopiesPairs, ReserveFacts, ReservingFacts}
+use Rattle.papaya_executor.specs.Given.Late.LateReserves.{LateReserveFacts, LateReserving}
+use Rattle.papaya_executor.specs.Given.Callers.Rooms.{CallForRoom}
+use Rattle.papaya_executor.specs.Given.Callers.Sights.{seen_by}
+use Rattle.papaya_executor.specs.Given.Callers.Together.{UnderWay, ForRoom, KnowsRoom, Stands, FreshRoom, LateRoom, RoomTold, in_slot, next_for_room}
+use Rattle.papaya_executor.specs.Given.Finishes.Endings.{Finishing}
+use Rattle.papaya_executor.specs.Given.Finishes.Makings.{Beginning}
+use Rattle.papaya_executor.specs.Given.Finishes.Maps.{Standing}
 use Rattle.papaya_carries.specs.Promises.{RoomsKeepTheirs}
 use Rattle.papaya_carries.specs.Theirs.{copier_of_room}
 use Rattle.papaya_carries.proofs.Inside.{it_is, room_copies, room_row, room_without}

@@ -1,15 +1,15 @@
 -- What is promised of lists of acts: after any of them each block behind which something may be put is somebody's, what ended maps have left is behind roots
 -- that are nobody's, and once a caller has reclaimed all, nothing waits but pairs that are deferred on linked tables.
 use Rattle.std.specs.Prelude.{◌≡◌, ◌⊎◌, ℕ, ◌<◌, ◌^◌, Bool, List, [], ◌∷◌, None, IsSome}
-use Rattle.seize_words.specs.declared.at.At.TheVariants.{Slot}
-use Rattle.seize_words.specs.Mem.{word_at}
-use Rattle.seize.specs.ReclaimAll.{reclaiming_all, clearing}
-use Rattle.seize.specs.declared.rows.reclaim_all.ReclaimAll.{ReclaimAll}
-use Rattle.seize.specs.declared.rows.settle.Settled.{Settled}
-use Rattle.seize.specs.declared.rows.settle.Settled.TheVariants as settled
-use Rattle.seize.specs.declared.states.TheConstants.{HEAD}
+use Rattle.papaya_executor.specs.Given.SeizeWords.declared.at.At.TheVariants.{Slot}
+use Rattle.papaya_executor.specs.Given.SeizeWords.Mem.{word_at}
+use Rattle.papaya_executor.specs.Given.Seize.ReclaimAll.{reclaiming_all, clearing}
+use Rattle.papaya_executor.specs.Given.Seize.declared.rows.reclaim_all.ReclaimAll.{ReclaimAll}
+use Rattle.papaya_executor.specs.Given.Seize.declared.rows.settle.Settled.{Settled}
+use Rattle.papaya_executor.specs.Given.Seize.declared.rows.settle.Settled.TheVariants as settled
+use Rattle.papaya_executor.specs.Given.Seize.declared.states.TheConstants.{HEAD}
 use Rattle.seize_acts.specs.Answers.{Grant}
-use Rattle.papaya_tables.specs.declared.node.Node.{Node}
+use Rattle.papaya_executor.specs.Given.Tables.declared.node.Node.{Node}
 use Rattle.papaya_reclaims.specs.Deferred.{OnlyPairsWait}
 use Rattle.papaya_reclaims.specs.Left.{LeftAmong}
 use Rattle.papaya_reclaims.specs.Reclaims.{AllIsReclaimed}

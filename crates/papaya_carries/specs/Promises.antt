@@ -1,38 +1,38 @@
 -- What is promised of the blocks behind which something may be put: each kind of step leaves them somebody's, so that at rest they are linked tables.
 use Rattle.std.specs.Prelude.{◌≡◌, ℕ, Bool, List, Option, Some, None}
-use Rattle.seize_words.specs.Mem.{Mem, Took, value_at}
-use Rattle.seize_words.specs.Plan.{Steps}
-use Rattle.seize.specs.World.{World, Request, Begin, Step, Ends, Happens, with_at}
-use Rattle.seize.specs.declared.progress.Progress.{Progress}
-use Rattle.seize.specs.declared.progress.Progress.TheVariants as progress
-use Rattle.seize.specs.declared.rows.reclaim_all.ReclaimAll.{ReclaimAll}
-use Rattle.seize.specs.declared.rows.settle.Settled.{Settled}
+use Rattle.papaya_executor.specs.Given.SeizeWords.Mem.{Mem, Took, value_at}
+use Rattle.papaya_executor.specs.Given.SeizeWords.Plan.{Steps}
+use Rattle.papaya_executor.specs.Given.Seize.World.{World, Request, Begin, Step, Ends, Happens, with_at}
+use Rattle.papaya_executor.specs.Given.Seize.declared.progress.Progress.{Progress}
+use Rattle.papaya_executor.specs.Given.Seize.declared.progress.Progress.TheVariants as progress
+use Rattle.papaya_executor.specs.Given.Seize.declared.rows.reclaim_all.ReclaimAll.{ReclaimAll}
+use Rattle.papaya_executor.specs.Given.Seize.declared.rows.settle.Settled.{Settled}
 use Rattle.seize_acts.specs.Reclaimed.{IsStillHad}
-use Rattle.papaya_tables.specs.Nodes.{deferred_word}
-use Rattle.papaya_tables.specs.declared.node.Node.{Node}
-use Rattle.papaya_tables.specs.declared.setting.Setting.{Setting}
-use Rattle.papaya_resize.specs.declared.new_map.NewMap.{NewMap}
-use Rattle.papaya_resize.specs.declared.outcome.Outcome.{Outcome}
-use Rattle.papaya_reserves.specs.Reserve.{reserve_plan}
-use Rattle.papaya_reserves.specs.declared.reserve.Reserve.{Reserve}
-use Rattle.papaya_sweeps.specs.Sweep.{sweep_plan}
-use Rattle.papaya_sweeps.specs.declared.sweep.Sweep.{Sweep}
-use Rattle.papaya_sweeps.specs.declared.sweep.Swept.{Swept}
-use Rattle.papaya_raw.specs.Call.{call_plan}
-use Rattle.papaya_raw.specs.declared.machines.answer.Called.{Called}
-use Rattle.papaya_raw.specs.declared.machines.call.KeyCall.{KeyCall}
-use Rattle.papaya_raw.specs.declared.machines.end_map.EndMap.{EndMap}
-use Rattle.papaya_points.specs.Told.{IsRowOfCall}
-use Rattle.papaya_late.specs.ToldReserves.{IsRowOfReserve}
-use Rattle.papaya_late.specs.ToldSweeps.{IsRowOfSweep}
-use Rattle.papaya_callers.specs.OverAll.{CallOverAll, come_to, gone_on}
-use Rattle.papaya_callers.specs.Rooms.{CallForRoom}
-use Rattle.papaya_callers.specs.Together.{UnderWay, OnKey, ForRoom, OverAll, CallOnKey, IsOfSlots, next_of, next_for_room, next_over_all, change_told}
-use Rattle.papaya_finishes.specs.Endings.{Finishing, finishing_of, HasFinished, EndingsTogether, StepsAmong, RowStepsAmong, StepsOfEnding}
-use Rattle.papaya_finishes.specs.Makings.{Beginning, IsMade, StepsOfMaking}
-use Rattle.papaya_finishes.specs.Maps.{Standing, IsSameMap, MapsTogether, with_call}
-use Rattle.papaya_finishes.specs.Rooms.{RoomRowsAmong, RoomStepsAmong}
-use Rattle.papaya_finishes.specs.Sweeps.{SweepRowsAmong, SweepStepsAmong}
+use Rattle.papaya_executor.specs.Given.Tables.Nodes.{deferred_word}
+use Rattle.papaya_executor.specs.Given.Tables.declared.node.Node.{Node}
+use Rattle.papaya_executor.specs.Given.Tables.declared.setting.Setting.{Setting}
+use Rattle.papaya_executor.specs.Given.Resize.declared.new_map.NewMap.{NewMap}
+use Rattle.papaya_executor.specs.Given.Resize.declared.outcome.Outcome.{Outcome}
+use Rattle.papaya_executor.specs.Given.Reserves.Reserve.{reserve_plan}
+use Rattle.papaya_executor.specs.Given.Reserves.declared.reserve.Reserve.{Reserve}
+use Rattle.papaya_executor.specs.Given.Sweeps.Sweep.{sweep_plan}
+use Rattle.papaya_executor.specs.Given.Sweeps.declared.sweep.Sweep.{Sweep}
+use Rattle.papaya_executor.specs.Given.Sweeps.declared.sweep.Swept.{Swept}
+use Rattle.papaya_executor.specs.Given.Raw.Call.{call_plan}
+use Rattle.papaya_executor.specs.Given.Raw.declared.machines.answer.Called.{Called}
+use Rattle.papaya_executor.specs.Given.Raw.declared.machines.call.KeyCall.{KeyCall}
+use Rattle.papaya_executor.specs.Given.Raw.declared.machines.end_map.EndMap.{EndMap}
+use Rattle.papaya_executor.specs.Given.Points.Told.{IsRowOfCall}
+use Rattle.papaya_executor.specs.Given.Late.ToldReserves.{IsRowOfReserve}
+use Rattle.papaya_executor.specs.Given.Late.ToldSweeps.{IsRowOfSweep}
+use Rattle.papaya_executor.specs.Given.Callers.OverAll.{CallOverAll, come_to, gone_on}
+use Rattle.papaya_executor.specs.Given.Callers.Rooms.{CallForRoom}
+use Rattle.papaya_executor.specs.Given.Callers.Together.{UnderWay, OnKey, ForRoom, OverAll, CallOnKey, IsOfSlots, next_of, next_for_room, next_over_all, change_told}
+use Rattle.papaya_executor.specs.Given.Finishes.Endings.{Finishing, finishing_of, HasFinished, EndingsTogether, StepsAmong, RowStepsAmong, StepsOfEnding}
+use Rattle.papaya_executor.specs.Given.Finishes.Makings.{Beginning, IsMade, StepsOfMaking}
+use Rattle.papaya_executor.specs.Given.Finishes.Maps.{Standing, IsSameMap, MapsTogether, with_call}
+use Rattle.papaya_executor.specs.Given.Finishes.Rooms.{RoomRowsAmong, RoomStepsAmong}
+use Rattle.papaya_executor.specs.Given.Finishes.Sweeps.{SweepRowsAmong, SweepStepsAmong}
 use Rattle.papaya_reclaims.specs.Deferred.{OnlyPairsWait, OnlyTheyCarry}
 use Rattle.papaya_reclaims.specs.Left.{GoesOnBy}
 use Rattle.papaya_reclaims.specs.Reclaims.{AllIsReclaimed, AllStandIdle, StepsOfReclaiming}

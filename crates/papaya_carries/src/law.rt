@@ -1,11 +1,11 @@
 //! What is promised of the blocks that users have, and behind which something may be put.
 ghost use Rattle.std.specs.Prelude.{ℕ, Bool, Option};
-ghost use Rattle.seize.specs.World.{World};
-ghost use Rattle.papaya_tables.specs.declared.node.Node.{Node};
-ghost use Rattle.papaya_callers.specs.Together.{UnderWay};
-ghost use Rattle.papaya_finishes.specs.Endings.{Finishing};
-ghost use Rattle.papaya_finishes.specs.Makings.{Beginning};
-ghost use Rattle.papaya_finishes.specs.Maps.{Standing};
+ghost use Rattle.papaya_executor.specs.Given.Seize.World.{World};
+ghost use Rattle.papaya_executor.specs.Given.Tables.declared.node.Node.{Node};
+ghost use Rattle.papaya_executor.specs.Given.Callers.Together.{UnderWay};
+ghost use Rattle.papaya_executor.specs.Given.Finishes.Endings.{Finishing};
+ghost use Rattle.papaya_executor.specs.Given.Finishes.Makings.{Beginning};
+ghost use Rattle.papaya_executor.specs.Given.Finishes.Maps.{Standing};
 ghost use Rattle.papaya_acts.specs.Lists.{Course};
 ghost use Rattle.papaya_carries.specs.Lists.{ActsKeepTheirs, ActsLeaveIt, AllCanBeReclaimedThere, ListsKeepTheirs, OnlyPairsWaitThere, ReclaimingBeginsThere, ReclaimingComesToEnd};
 ghost use Rattle.papaya_carries.specs.Promises.{CallsKeepTheirs, ChangesKeepTheirs, EndingsBeginAndKeepTheirs, EndingsKeepTheirs, GuardsKeepTheirs, MakingsKeepTheirs, NoneBegins, NothingElseWaits, OnlyTablesCarry, ReclaimingKeepsTheirs, RoomRowsKeepTheirs, RoomsKeepTheirs, RowsKeepTheirs, SweepRowsKeepTheirs, SweepsKeepTheirs};

@@ -2,14 +2,14 @@
 use Rattle.std.specs.Prelude.{◌++◌, IsSome, Option, Some, None}
 use Rattle.std.proofs.Common.{◌≡◌, ℕ, ◌*◌, ◌<◌, ◌≤◌, List, [], ◌∷◌, length, refl, sym, subst, arith}
 use Rattle.std.proofs.lemmas.List.{length-append}
-use Rattle.seize_words.specs.Mem.{Mem, block_of, value_in, entry_in}
-use Rattle.seize_words.specs.declared.block.Block.{Block}
-use Rattle.seize.specs.Further.{ListFrom}
-use Rattle.seize.specs.World.{times}
-use Rattle.seize.specs.declared.states.TheConstants.{NEXT as LINK}
-use Rattle.papaya_rule.proofs.Words.WritesWords.{is_some_of}
-use Rattle.papaya_finishes.proofs.Ends.CountedBlocks.{some_here, some_last, times_here}
-use Rattle.papaya_finishes.proofs.Ends.Memory.{list_link}
+use Rattle.papaya_maps.specs.Given.SeizeWords.Mem.{Mem, block_of, value_in, entry_in}
+use Rattle.papaya_maps.specs.Given.SeizeWords.declared.block.Block.{Block}
+use Rattle.papaya_maps.specs.Given.Seize.Further.{ListFrom}
+use Rattle.papaya_maps.specs.Given.Seize.World.{times}
+use Rattle.papaya_maps.specs.Given.Seize.declared.states.TheConstants.{NEXT as LINK}
+use Rattle.papaya_maps.proofs.Given.Rule.Words.WritesWords.{is_some_of}
+use Rattle.papaya_maps.proofs.Given.Finishes.Ends.CountedBlocks.{some_here, some_last, times_here}
+use Rattle.papaya_maps.proofs.Given.Finishes.Ends.Memory.{list_link}
 use Rattle.papaya_maps.specs.MeasuresEnds.{most_blocks, list_len}
 use Rattle.papaya_maps.proofs.Ends.BlocksFew.{blocks_few, list_few, list_len_is}
 

@@ -1,22 +1,22 @@
 -- What is promised of the numbers of countings and of ends of maps: each step that goes on lowers them, whatever other callers have under way.
 use Rattle.std.specs.Prelude.{◌≡◌, ℕ, Bool, [], ◌∷◌, ◌++◌, Option, Some}
-use Rattle.seize_words.specs.Mem.{Mem, Took, value_at}
-use Rattle.seize_words.specs.Plan.{Steps}
-use Rattle.seize.specs.World.{World}
-use Rattle.seize.specs.declared.progress.Progress.TheVariants as progress
-use Rattle.seize.specs.declared.rows.settle.Settled.{Settled}
-use Rattle.seize.specs.declared.rows.settle.Settled.TheVariants as settled
-use Rattle.papaya_tables.specs.declared.node.Node.{Node}
-use Rattle.papaya_resize.specs.Sum.{sum_plan}
-use Rattle.papaya_resize.specs.declared.sum.Sum.{Sum}
-use Rattle.papaya_raw.specs.EndMap.{end_map_plan}
-use Rattle.papaya_raw.specs.declared.machines.end_map.EndMap.{EndMap}
-use Rattle.papaya_points.specs.Measures.{IsBelow}
-use Rattle.papaya_points.specs.MeasuresTables.{number_of_sum}
-use Rattle.papaya_callers.specs.Together.{UnderWay}
-use Rattle.papaya_finishes.specs.Endings.{Finishing, EndingsTogether}
-use Rattle.papaya_finishes.specs.Makings.{Beginning}
-use Rattle.papaya_finishes.specs.Maps.{Standing}
+use Rattle.papaya_maps.specs.Given.SeizeWords.Mem.{Mem, Took, value_at}
+use Rattle.papaya_maps.specs.Given.SeizeWords.Plan.{Steps}
+use Rattle.papaya_maps.specs.Given.Seize.World.{World}
+use Rattle.papaya_maps.specs.Given.Seize.declared.progress.Progress.TheVariants as progress
+use Rattle.papaya_maps.specs.Given.Seize.declared.rows.settle.Settled.{Settled}
+use Rattle.papaya_maps.specs.Given.Seize.declared.rows.settle.Settled.TheVariants as settled
+use Rattle.papaya_maps.specs.Given.Tables.declared.node.Node.{Node}
+use Rattle.papaya_maps.specs.Given.Resize.Sum.{sum_plan}
+use Rattle.papaya_maps.specs.Given.Resize.declared.sum.Sum.{Sum}
+use Rattle.papaya_maps.specs.Given.Raw.EndMap.{end_map_plan}
+use Rattle.papaya_maps.specs.Given.Raw.declared.machines.end_map.EndMap.{EndMap}
+use Rattle.papaya_maps.specs.Given.Points.Measures.{IsBelow}
+use Rattle.papaya_maps.specs.Given.Points.MeasuresTables.{number_of_sum}
+use Rattle.papaya_maps.specs.Given.Callers.Together.{UnderWay}
+use Rattle.papaya_maps.specs.Given.Finishes.Endings.{Finishing, EndingsTogether}
+use Rattle.papaya_maps.specs.Given.Finishes.Makings.{Beginning}
+use Rattle.papaya_maps.specs.Given.Finishes.Maps.{Standing}
 use Rattle.papaya_descends.specs.Numbers.{number_of_ending}
 
 -- A step of a counting that goes on, in any memory, leaves fewer shards to be read.

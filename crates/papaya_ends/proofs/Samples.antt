@@ -1,6 +1,6 @@
 -- Which step a call goes on by, on a case worked by hand.
-use Rattle.papaya_raw.specs.declared.machines.answer.KeyAnswer.{KeyAnswer}
-use Rattle.papaya_raw.specs.declared.machines.answer.Called.TheVariants.{Done}
+use Rattle.papaya_maps.specs.Given.Raw.declared.machines.answer.KeyAnswer.{KeyAnswer}
+use Rattle.papaya_maps.specs.Given.Raw.declared.machines.answer.Called.TheVariants.{Done}
 use Rattle.papaya_ends.specs.EndingsLone.{HasMore}
 
 -- wrong: a call takes a step after its answer

@@ -1,27 +1,27 @@
 -- Whole calls on a map whose copying nobody else has a part in come to an end, with the rows of the collector that they begin.
 use Rattle.std.specs.Prelude.{ℕ, ◌^◌, ◌<◌, Bool, List, Option}
 use Rattle.std.specs.Int.{IsPowerOfTwo}
-use Rattle.seize_words.specs.Mem.{Mem, Took, value_at}
-use Rattle.seize_words.specs.Plan.{Steps}
-use Rattle.seize.specs.World.{IsInside}
-use Rattle.seize_alone.specs.Alone.{History}
-use Rattle.papaya_raw.specs.Call.{call_plan}
-use Rattle.papaya_raw.specs.CallPoints.{getting, removing, inserting, trying_to_insert}
-use Rattle.papaya_tables.specs.Chunks.{is_incremental}
-use Rattle.papaya_tables.specs.declared.node.Node.{Node}
-use Rattle.papaya_tables.specs.declared.setting.Setting.{Setting}
-use Rattle.papaya_raw.specs.declared.machines.answer.Called.{Called}
-use Rattle.papaya_raw.specs.declared.machines.answer.Called.TheVariants as called
-use Rattle.papaya_raw.specs.declared.machines.call.KeyCall.{KeyCall}
-use Rattle.papaya_rule.specs.Chart.{Chart}
-use Rattle.papaya_rule.specs.Rule.{Rule}
-use Rattle.papaya_rule.specs.Words.{Blocks}
-use Rattle.papaya_rule.specs.Maps.{spot_of, IsClass}
-use Rattle.papaya_points.specs.Steps.{AreLawful}
-use Rattle.papaya_alone.specs.FactsAloneCalls.{RestsAlone}
-use Rattle.papaya_alone.specs.Endings.{RunsEnd}
-use Rattle.papaya_alone.specs.Alone.{MapRests}
-use Rattle.papaya_alone.specs.LoneCalls.{IsUnderWayAlone}
+use Rattle.papaya_maps.specs.Given.SeizeWords.Mem.{Mem, Took, value_at}
+use Rattle.papaya_maps.specs.Given.SeizeWords.Plan.{Steps}
+use Rattle.papaya_maps.specs.Given.Seize.World.{IsInside}
+use Rattle.papaya_maps.specs.Given.SeizeAlone.Alone.{History}
+use Rattle.papaya_maps.specs.Given.Raw.Call.{call_plan}
+use Rattle.papaya_maps.specs.Given.Raw.CallPoints.{getting, removing, inserting, trying_to_insert}
+use Rattle.papaya_maps.specs.Given.Tables.Chunks.{is_incremental}
+use Rattle.papaya_maps.specs.Given.Tables.declared.node.Node.{Node}
+use Rattle.papaya_maps.specs.Given.Tables.declared.setting.Setting.{Setting}
+use Rattle.papaya_maps.specs.Given.Raw.declared.machines.answer.Called.{Called}
+use Rattle.papaya_maps.specs.Given.Raw.declared.machines.answer.Called.TheVariants as called
+use Rattle.papaya_maps.specs.Given.Raw.declared.machines.call.KeyCall.{KeyCall}
+use Rattle.papaya_maps.specs.Given.Rule.Chart.{Chart}
+use Rattle.papaya_maps.specs.Given.Rule.Rule.{Rule}
+use Rattle.papaya_maps.specs.Given.Rule.Words.{Blocks}
+use Rattle.papaya_maps.specs.Given.Rule.Maps.{spot_of, IsClass}
+use Rattle.papaya_maps.specs.Given.Points.Steps.{AreLawful}
+use Rattle.papaya_maps.specs.Given.Alone.FactsAloneCalls.{RestsAlone}
+use Rattle.papaya_maps.specs.Given.Alone.Endings.{RunsEnd}
+use Rattle.papaya_maps.specs.Given.Alone.Alone.{MapRests}
+use Rattle.papaya_maps.specs.Given.Alone.LoneCalls.{IsUnderWayAlone}
 
 -- a call that tells this has not ended
 abbrev pub HasMore : {T : Type 0} → Called T → Type 0

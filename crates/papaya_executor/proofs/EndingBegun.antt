@@ -4,10 +4,10 @@ use Rattle.std.proofs.Common.{refl, sym, ap, ◌∙◌, inl, inr, arith}
 use Rattle.std.proofs.lemmas.Bool.{cases_eq}
 use Rattle.std.proofs.lemmas.List.{get_or-set_other, get_or-set_same, length-set}
 use Rattle.seize.specs.World.{with_at}
-use Rattle.papaya_tables.specs.declared.setting.Setting.{Setting}
+use Rattle.papaya_finishes.specs.Given.Tables.declared.setting.Setting.{Setting}
 use Rattle.papaya_raw.specs.EndMap.{ending}
-use Rattle.papaya_callers.proofs.Together.At.{at_other, at_same}
-use Rattle.papaya_callers.proofs.Together.Slots.{alike_same}
+use Rattle.papaya_finishes.proofs.Given.Callers.Together.At.{at_other, at_same}
+use Rattle.papaya_finishes.proofs.Given.Callers.Together.Slots.{alike_same}
 use Rattle.papaya_finishes.specs.Endings.{finishing_of}
 use Rattle.papaya_finishes.specs.Machines.{machine_of}
 use Rattle.papaya_finishes.specs.Maps.{Standing}

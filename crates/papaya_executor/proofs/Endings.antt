@@ -6,14 +6,14 @@ use Rattle.seize_words.specs.Plan.{May, Steps}
 use Rattle.seize.specs.World.{Row, Rests, with_at}
 use Rattle.seize.specs.declared.rows.settle.Settled.{Settled}
 use Rattle.seize.specs.declared.rows.settle.Settled.TheVariants as settled
-use Rattle.seize_alone.proofs.Histories.UsersTurn.{AreBetween}
-use Rattle.papaya_tables.specs.Nodes.{deferred_word}
-use Rattle.papaya_tables.specs.declared.node.Node.{Node}
+use Rattle.papaya_finishes.proofs.Given.SeizeAlone.Histories.UsersTurn.{AreBetween}
+use Rattle.papaya_finishes.specs.Given.Tables.Nodes.{deferred_word}
+use Rattle.papaya_finishes.specs.Given.Tables.declared.node.Node.{Node}
 use Rattle.papaya_raw.specs.EndMap.{end_map_plan}
 use Rattle.papaya_raw.specs.declared.machines.end_map.EndMap.{EndMap}
 use Rattle.papaya_teller.specs.declared.changed.Changed.TheVariants.{Nothing}
-use Rattle.papaya_callers.proofs.Together.Slots.{between_rows, between_slots}
-use Rattle.papaya_callers.specs.Rows.{LeavesSlots}
+use Rattle.papaya_finishes.proofs.Given.Callers.Together.Slots.{between_rows, between_slots}
+use Rattle.papaya_finishes.specs.Given.Callers.Rows.{LeavesSlots}
 use Rattle.papaya_finishes.specs.Endings.{Finishing, EndingsTogether, FinishingTold, StepsOfEnding, waiting_by}
 use Rattle.papaya_finishes.specs.FactsEnds.{Deed, Looks, TakesPair, LeavesTable, JoinsPair, TakesLeft, TakesCounter, WritesRoot, events_of}
 use Rattle.papaya_finishes.proofs.Among.Own.Steps.{endings_stand}

@@ -4,7 +4,7 @@ use Rattle.std.proofs.Common.{refl, sym, ap, subst, ◌∙◌, inl, inr, arith}
 use Rattle.std.proofs.lemmas.Bool.{cases_lt}
 use Rattle.std.proofs.lemmas.List.{get_or-replicate, get_or_past, length-replicate}
 use Rattle.seize.specs.World.{Rests, Vacant, at_start}
-use Rattle.papaya_tables.specs.Nodes.{deferred_word}
+use Rattle.papaya_finishes.specs.Given.Tables.Nodes.{deferred_word}
 use Rattle.papaya_finishes.specs.Endings.{EndingsTogether}
 use Rattle.papaya_finishes.proofs.Among.Begins.{no_endings_begin}
 use Rattle.papaya_finishes.proofs.Beside.Makings.Promised.{no_makings_begin}

@@ -21,3 +21,4 @@ pub mod Stops
 pub mod Taken
 pub mod Uses
 pub mod Vacated
+pub mod Given

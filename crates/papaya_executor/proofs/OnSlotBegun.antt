@@ -3,12 +3,12 @@ use Rattle.std.specs.Prelude.{◌≡◌, ◌≢◌, ◌<◌, ℕ, Bool, [], ◌�
 use Rattle.std.proofs.Common.{refl, sym, ap, subst, ◌∙◌, arith}
 use Rattle.std.proofs.lemmas.List.{length-set}
 use Rattle.seize.specs.World.{World, Row, Changing, Begin, Begins, Happens, with_at, one_more}
-use Rattle.seize_rule.proofs.Rows.Others.{with_here, with_other}
-use Rattle.papaya_tables.specs.Nodes.{deferred_word}
-use Rattle.papaya_tables.specs.declared.node.Node.{Node}
-use Rattle.papaya_callers.specs.Rows.{IsRowOn}
-use Rattle.papaya_callers.specs.Together.{UnderWay, IsOfSlots, Closes}
-use Rattle.papaya_callers.proofs.Together.Slots.{alike_more, alike_at}
+use Rattle.papaya_finishes.proofs.Given.SeizeRule.Rows.Others.{with_here, with_other}
+use Rattle.papaya_finishes.specs.Given.Tables.Nodes.{deferred_word}
+use Rattle.papaya_finishes.specs.Given.Tables.declared.node.Node.{Node}
+use Rattle.papaya_finishes.specs.Given.Callers.Rows.{IsRowOn}
+use Rattle.papaya_finishes.specs.Given.Callers.Together.{UnderWay, IsOfSlots, Closes}
+use Rattle.papaya_finishes.proofs.Given.Callers.Together.Slots.{alike_more, alike_at}
 use Rattle.papaya_finishes.specs.Endings.{AllEndingsStand}
 use Rattle.papaya_finishes.specs.Machines.{machine_of}
 use Rattle.papaya_finishes.proofs.Among.Rows.{guards_stand_among}

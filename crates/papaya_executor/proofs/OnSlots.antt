@@ -4,10 +4,10 @@ use Rattle.std.proofs.Common.{refl, sym, ap, subst, ◌∙◌, arith}
 use Rattle.std.proofs.lemmas.List.{length-set}
 use Rattle.seize_words.specs.Mem.{Mem}
 use Rattle.seize.specs.World.{World, Row, MayStep, Step, Happens, Steps'}
-use Rattle.seize_rule.proofs.Rows.Others.{steps_others}
-use Rattle.papaya_tables.specs.Nodes.{deferred_word}
-use Rattle.papaya_tables.specs.declared.node.Node.{Node}
-use Rattle.papaya_callers.specs.Rows.{IsRowOn}
+use Rattle.papaya_finishes.proofs.Given.SeizeRule.Rows.Others.{steps_others}
+use Rattle.papaya_finishes.specs.Given.Tables.Nodes.{deferred_word}
+use Rattle.papaya_finishes.specs.Given.Tables.declared.node.Node.{Node}
+use Rattle.papaya_finishes.specs.Given.Callers.Rows.{IsRowOn}
 use Rattle.papaya_finishes.specs.Endings.{Finishing, AllEndingsStand}
 use Rattle.papaya_finishes.specs.Machines.{machine_of}
 use Rattle.papaya_finishes.specs.Makings.{Beginning}

@@ -26,19 +26,19 @@ use Rattle.seize.specs.Leave as leave
 use Rattle.seize.specs.Register as register
 use Rattle.seize.specs.Settle.{counting_down, settle_plan}
 use Rattle.seize.specs.World.{World, Row, Rests, Registers, Enters, Settles, Leaves, Frees, Use, Vacant, Outside, Inside, left_as, left_row, with_at, with_use, after_step, settles_on, leaves_on, registers_on, registered_use, Steps'}
-use Rattle.seize_moves.proofs.State.Ghost.{State}
-use Rattle.seize_rule.proofs.Rows.Known.{FitsRow, FitsRegister, FitsLeave}
-use Rattle.seize_rule.proofs.Rows.Leaving.{steps_back}
-use Rattle.seize_rule.proofs.Rows.Others.{with_here}
-use Rattle.seize_rule.proofs.Rows.Teams.{shares}
-use Rattle.seize_rule.proofs.Words.Shows.{Extra}
-use Rattle.seize_rule.proofs.Words.View.{view}
-use Rattle.papaya_tables.specs.Nodes.{deferred_word}
-use Rattle.papaya_tables.specs.declared.node.Node.{Node}
+use Rattle.papaya_finishes.proofs.Given.SeizeMoves.State.Ghost.{State}
+use Rattle.papaya_finishes.proofs.Given.SeizeRule.Rows.Known.{FitsRow, FitsRegister, FitsLeave}
+use Rattle.papaya_finishes.proofs.Given.SeizeRule.Rows.Leaving.{steps_back}
+use Rattle.papaya_finishes.proofs.Given.SeizeRule.Rows.Others.{with_here}
+use Rattle.papaya_finishes.proofs.Given.SeizeRule.Rows.Teams.{shares}
+use Rattle.papaya_finishes.proofs.Given.SeizeRule.Words.Shows.{Extra}
+use Rattle.papaya_finishes.proofs.Given.SeizeRule.Words.View.{view}
+use Rattle.papaya_finishes.specs.Given.Tables.Nodes.{deferred_word}
+use Rattle.papaya_finishes.specs.Given.Tables.declared.node.Node.{Node}
 use Rattle.papaya_teller.specs.declared.changed.Changed.{Changed}
 use Rattle.papaya_teller.specs.declared.changed.Changed.TheVariants.{Nothing}
-use Rattle.papaya_callers.specs.Rows.{IsRowOn, LeavesSlots}
-use Rattle.papaya_callers.proofs.Together.Slots.{alike_same, alike_at, step_leaves}
+use Rattle.papaya_finishes.specs.Given.Callers.Rows.{IsRowOn, LeavesSlots}
+use Rattle.papaya_finishes.proofs.Given.Callers.Together.Slots.{alike_same, alike_at, step_leaves}
 use Rattle.papaya_executor.specs.declared.executor.Executor.{Executor}
 use Rattle.papaya_executor.specs.declared.row.RowTold.{RowTold}
 use Rattle.papaya_executor.specs.declared.row.SlotChange.{SlotChange}

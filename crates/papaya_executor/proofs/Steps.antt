@@ -4,14 +4,14 @@ use Rattle.std.proofs.Common.{refl, sym, ap, subst, ◌∙◌, inl, inr}
 use Rattle.std.proofs.lemmas.Bool.{cases_eq}
 use Rattle.seize_words.specs.Mem.{Mem, Can, Took, value_at}
 use Rattle.seize_words.specs.Plan.{May, Steps}
-use Rattle.papaya_tables.specs.declared.node.Node.{Node}
+use Rattle.papaya_finishes.specs.Given.Tables.declared.node.Node.{Node}
 use Rattle.papaya_raw.specs.Machine.{machine_plan}
 use Rattle.papaya_raw.specs.declared.machines.machine.Machine.{Machine}
 use Rattle.papaya_raw.specs.declared.machines.progress.Progress.{Progress}
 use Rattle.papaya_raw.specs.declared.machines.progress.Progress.TheVariants as progress
 use Rattle.papaya_teller.specs.Tells.{StepsTold}
 use Rattle.papaya_teller.specs.declared.changed.Changed.TheVariants.{Nothing}
-use Rattle.papaya_callers.specs.Together.{UnderWay}
+use Rattle.papaya_finishes.specs.Given.Callers.Together.{UnderWay}
 use Rattle.papaya_finishes.specs.Machines.{machine_of, GoesOnAs, StandsOn, MachineStepsAmong}
 use Rattle.papaya_finishes.specs.Maps.{Standing, IsSameMap}
 use Rattle.papaya_finishes.proofs.Among.Machines.{machines_stand_among}

@@ -1,12 +1,12 @@
 -- What it leads to that a caller begins a call.
 use Rattle.std.specs.Prelude.{◌≡◌, ◌≤◌, ◌^◌, ◌⊎◌, ℕ, Bool, length, Some}
 use Rattle.std.specs.Vec.{vec_capacity, vec_len}
-use Rattle.papaya_resize.specs.Sum.{summing}
-use Rattle.papaya_reserves.specs.Reserve.{reserving}
-use Rattle.papaya_sweeps.specs.declared.sweep.Purpose.{Purpose}
+use Rattle.papaya_finishes.specs.Given.Resize.Sum.{summing}
+use Rattle.papaya_finishes.specs.Given.Reserves.Reserve.{reserving}
+use Rattle.papaya_finishes.specs.Given.Sweeps.declared.sweep.Purpose.{Purpose}
 use Rattle.papaya_raw.specs.declared.machines.machine.Machine.{Machine}
-use Rattle.papaya_callers.specs.OverAll.{begun_over_all}
-use Rattle.papaya_callers.specs.Together.{UnderWay, OnKey, ForRoom, Counting, OverAll, IsBegun, begun_at, in_slot}
+use Rattle.papaya_finishes.specs.Given.Callers.OverAll.{begun_over_all}
+use Rattle.papaya_finishes.specs.Given.Callers.Together.{UnderWay, OnKey, ForRoom, Counting, OverAll, IsBegun, begun_at, in_slot}
 use Rattle.papaya_finishes.specs.Machines.{machine_of}
 use Rattle.papaya_finishes.specs.Maps.{Standing}
 use Rattle.papaya_executor.specs.declared.executor.Executor.{Executor}

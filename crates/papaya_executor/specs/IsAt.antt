@@ -1,13 +1,13 @@
 -- How callers, maps and a memory stand at a moment, and that an executor is there.
 use Rattle.std.specs.Prelude.{◌≡◌, ◌≢◌, ◌<◌, ◌≤◌, ◌^◌, ℕ, ◌==◌, ◌/◌, ◌%◌, Bool, length, Option, Some, None, option_map, slice_index_or, if◌then◌else◌}
 use Rattle.seize.specs.World.{World, Row, Rests, Registers, Enters, Settles, Leaves, Frees, Use, Vacant, Outside, Inside, Changing, at_start}
-use Rattle.papaya_tables.specs.Nodes.{deferred_word}
-use Rattle.papaya_tables.specs.declared.node.Node.{Node}
-use Rattle.papaya_resize.specs.declared.new_map.NewMap.{NewMap}
+use Rattle.papaya_finishes.specs.Given.Tables.Nodes.{deferred_word}
+use Rattle.papaya_finishes.specs.Given.Tables.declared.node.Node.{Node}
+use Rattle.papaya_finishes.specs.Given.Resize.declared.new_map.NewMap.{NewMap}
 use Rattle.papaya_raw.specs.declared.machines.end_map.EndMap.{EndMap}
 use Rattle.papaya_raw.specs.declared.machines.machine.Machine.{Machine}
-use Rattle.papaya_callers.specs.Rows.{IsRowOn}
-use Rattle.papaya_callers.specs.Together.{UnderWay}
+use Rattle.papaya_finishes.specs.Given.Callers.Rows.{IsRowOn}
+use Rattle.papaya_finishes.specs.Given.Callers.Together.{UnderWay}
 use Rattle.papaya_finishes.specs.Endings.{Finishing, EndingsTogether}
 use Rattle.papaya_finishes.specs.Machines.{machine_of}
 use Rattle.papaya_finishes.specs.Makings.{Beginning}

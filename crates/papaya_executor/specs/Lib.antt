@@ -7,3 +7,4 @@ pub mod OnSlots
 pub mod Replying
 pub mod Rows
 pub mod Stepping
+pub mod Given

@@ -2,10 +2,10 @@
 use Rattle.std.specs.Prelude.{◌≡◌, ◌<◌, ◌≤◌, ◌+◌, ◌^◌, ℕ, Bool, length, max, Some}
 use Rattle.std.specs.Int.{IsPowerOfTwo}
 use Rattle.seize.specs.World.{with_at}
-use Rattle.papaya_tables.specs.Lengths.{IsTableLen}
-use Rattle.papaya_tables.specs.declared.setting.Setting.{Setting}
-use Rattle.papaya_resize.specs.NewMap.{opening}
-use Rattle.papaya_points.specs.Steps.{AreLawful}
+use Rattle.papaya_finishes.specs.Given.Tables.Lengths.{IsTableLen}
+use Rattle.papaya_finishes.specs.Given.Tables.declared.setting.Setting.{Setting}
+use Rattle.papaya_finishes.specs.Given.Resize.NewMap.{opening}
+use Rattle.papaya_finishes.specs.Given.Points.Steps.{AreLawful}
 use Rattle.papaya_finishes.specs.Makings.{Beginning}
 use Rattle.papaya_executor.specs.declared.executor.Executor.{Executor}
 use Rattle.papaya_executor.specs.IsAt.{Scene, IsAt}

@@ -1,13 +1,13 @@
 -- What a step of a call that a caller has under way leads to.
 use Rattle.std.specs.Prelude.{◌≡◌, ℕ, Bool, true, false, Option, Some, None, if◌then◌else◌}
-use Rattle.papaya_tables.specs.declared.node.Node.{Node}
+use Rattle.papaya_finishes.specs.Given.Tables.declared.node.Node.{Node}
 use Rattle.papaya_raw.specs.Machine.{machine_plan}
 use Rattle.papaya_raw.specs.declared.machines.machine.Machine.{Machine}
 use Rattle.papaya_raw.specs.declared.machines.progress.Progress.{Progress}
 use Rattle.papaya_raw.specs.declared.machines.progress.Progress.TheVariants as progress
 use Rattle.papaya_teller.specs.Tells.{StepsTold}
 use Rattle.papaya_teller.specs.declared.changed.Changed.TheVariants.{Nothing}
-use Rattle.papaya_callers.specs.Together.{UnderWay}
+use Rattle.papaya_finishes.specs.Given.Callers.Together.{UnderWay}
 use Rattle.papaya_finishes.specs.Machines.{machine_of, MachineStepsAmong}
 use Rattle.papaya_finishes.specs.Maps.{Standing, with_call}
 use Rattle.papaya_executor.specs.IsAt.{Scene, IsAt, ChangesAt, worker_with, slot_of}

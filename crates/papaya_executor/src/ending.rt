@@ -1,6 +1,6 @@
 //! The beginning of the end of a map, and a step of it.
 ghost use Rattle.std.specs.Prelude.{◌≡◌, ◌<◌, ◌+◌, ◌*◌, ℕ, Bool, length, slice_index_or, slice_set, Some, None, IfOk, IfErr, OnErr};
-ghost use Rattle.papaya_tables.specs.declared.setting.Setting.{Setting};
+ghost use Rattle.papaya_finishes.specs.Given.Tables.declared.setting.Setting.{Setting};
 ghost use Rattle.papaya_executor.specs.IsAt.{Scene, IsAt, IsEnding, KeepsGiven, worker_of};
 ghost use Rattle.papaya_executor.specs.Beginning.{IsRefused, HasNoPlace};
 ghost use Rattle.papaya_executor.specs.Ending.{ending_on, EndingBegins, EndingLeads};

@@ -1,7 +1,7 @@
 //! A row on a slot begins, and takes its steps.
 ghost use Rattle.std.specs.Prelude.{◌≡◌, ◌<◌, ◌+◌, ◌*◌, ℕ, Bool, length, slice_set, Some, IfOk, IfErr, OnErr};
 ghost use Rattle.seize.specs.World.{MayStep, Registers, Enters, Settles, Leaves, Frees};
-ghost use Rattle.papaya_tables.specs.Nodes.{deferred_word};
+ghost use Rattle.papaya_finishes.specs.Given.Tables.Nodes.{deferred_word};
 ghost use Rattle.papaya_executor.specs.Beginning.{IsRefused, HasNoPlace};
 ghost use Rattle.papaya_executor.specs.IsAt.{Scene, IsAt, KeepsGiven, row_of, work_of, worker_of};
 ghost use Rattle.papaya_executor.specs.OnSlots.{row_on, RowSteps, RowBegins, RowLeads};

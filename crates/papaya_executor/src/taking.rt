@@ -3,7 +3,7 @@ ghost use Rattle.std.specs.Prelude.{◌≡◌, ◌<◌, ℕ, length, slice_index
 ghost use Rattle.papaya_executor.specs.IsAt.{worker_of, worker_with};
 ghost use Rattle.papaya_executor.specs.declared.row.SlotRow.{SlotRow};
 ghost use Rattle.papaya_executor.specs.declared.worker.Work.TheVariants.{Making, Ending, OnSlot};
-ghost use Rattle.papaya_resize.specs.declared.new_map.NewMap.{NewMap};
+ghost use Rattle.papaya_finishes.specs.Given.Resize.declared.new_map.NewMap.{NewMap};
 ghost use Rattle.papaya_raw.specs.declared.machines.end_map.EndMap.{EndMap};
 ghost use Rattle.papaya_raw.specs.declared.machines.machine.Machine.{Machine};
 

@@ -1,15 +1,15 @@
 -- Where a step led, the memory shows the tables that it showed, and those that it led to.
 use Rattle.std.proofs.Common.{ℕ, Bool, subst}
-use Rattle.seize.specs.World.{World}
-use Rattle.seize_words.specs.Mem.{Mem}
-use Rattle.papaya_tables.specs.declared.node.Node.{Node}
-use Rattle.papaya_tables.specs.declared.setting.Setting.{Setting}
-use Rattle.papaya_rule.specs.Chart.{Chart}
-use Rattle.papaya_rule.specs.InWorld.{IsMapIn, Went}
-use Rattle.papaya_rule.specs.Maps.{spot_of, IsMap}
-use Rattle.papaya_rule.specs.Rule.{IsLawful}
-use Rattle.papaya_rule.specs.Words.{Blocks}
-use Rattle.papaya_points.proofs.MovedLasts.{moved_lasts}
+use Rattle.papaya_late.specs.Given.Seize.World.{World}
+use Rattle.papaya_late.specs.Given.SeizeWords.Mem.{Mem}
+use Rattle.papaya_late.specs.Given.Tables.declared.node.Node.{Node}
+use Rattle.papaya_late.specs.Given.Tables.declared.setting.Setting.{Setting}
+use Rattle.papaya_late.specs.Given.Rule.Chart.{Chart}
+use Rattle.papaya_late.specs.Given.Rule.InWorld.{IsMapIn, Went}
+use Rattle.papaya_late.specs.Given.Rule.Maps.{spot_of, IsMap}
+use Rattle.papaya_late.specs.Given.Rule.Rule.{IsLawful}
+use Rattle.papaya_late.specs.Given.Rule.Words.{Blocks}
+use Rattle.papaya_late.proofs.Given.Points.MovedLasts.{moved_lasts}
 use Rattle.papaya_falls.proofs.Onward.{Onward}
 
 -- where a step led, both memories show their tables

@@ -1,20 +1,20 @@
 -- What is promised of the number of a call: each step that goes on lowers it, whatever other callers have under way.
 use Rattle.std.specs.Prelude.{◌≡◌, ℕ, Bool, length, ◌⊎◌}
-use Rattle.seize_words.specs.Mem.{Mem, Took, value_at}
-use Rattle.seize_words.specs.Plan.{Steps}
-use Rattle.seize.specs.World.{World}
-use Rattle.papaya_raw.specs.Call.{call_plan}
-use Rattle.papaya_raw.specs.declared.machines.answer.Called.TheVariants.{Goes}
-use Rattle.papaya_raw.specs.declared.machines.call.KeyCall.{KeyCall}
-use Rattle.papaya_tables.specs.declared.node.Node.{Node}
-use Rattle.papaya_tables.specs.declared.setting.Setting.{Setting}
-use Rattle.papaya_rule.specs.Chart.{Chart}
-use Rattle.papaya_rule.specs.Words.{Blocks}
-use Rattle.papaya_rule.specs.InWorld.{IsMapIn, Went}
-use Rattle.papaya_points.specs.FactsCalls.{Change, CallFacts}
-use Rattle.papaya_points.specs.Measures.{IsBelow}
-use Rattle.papaya_points.specs.Steps.{AreLawful}
-use Rattle.papaya_points.specs.Told.{IsRowOfCall}
+use Rattle.papaya_late.specs.Given.SeizeWords.Mem.{Mem, Took, value_at}
+use Rattle.papaya_late.specs.Given.SeizeWords.Plan.{Steps}
+use Rattle.papaya_late.specs.Given.Seize.World.{World}
+use Rattle.papaya_late.specs.Given.Raw.Call.{call_plan}
+use Rattle.papaya_late.specs.Given.Raw.declared.machines.answer.Called.TheVariants.{Goes}
+use Rattle.papaya_late.specs.Given.Raw.declared.machines.call.KeyCall.{KeyCall}
+use Rattle.papaya_late.specs.Given.Tables.declared.node.Node.{Node}
+use Rattle.papaya_late.specs.Given.Tables.declared.setting.Setting.{Setting}
+use Rattle.papaya_late.specs.Given.Rule.Chart.{Chart}
+use Rattle.papaya_late.specs.Given.Rule.Words.{Blocks}
+use Rattle.papaya_late.specs.Given.Rule.InWorld.{IsMapIn, Went}
+use Rattle.papaya_late.specs.Given.Points.FactsCalls.{Change, CallFacts}
+use Rattle.papaya_late.specs.Given.Points.Measures.{IsBelow}
+use Rattle.papaya_late.specs.Given.Points.Steps.{AreLawful}
+use Rattle.papaya_late.specs.Given.Points.Told.{IsRowOfCall}
 use Rattle.papaya_late.specs.LateCalls.{LateCallFacts}
 use Rattle.papaya_falls.specs.Calls.{number_of_call}
 

@@ -1,22 +1,22 @@
 -- What is promised of the number of a copier, within a call or elsewhere: each step that goes on lowers it, whatever other callers have under way.
 use Rattle.std.specs.Prelude.{◌≡◌, ℕ, Bool, true, false, List, ◌∷◌}
-use Rattle.seize_words.specs.Mem.{Mem, Took, value_at}
-use Rattle.seize_words.specs.Plan.{Steps}
-use Rattle.seize.specs.World.{World}
-use Rattle.papaya_tables.specs.Chunks.{is_incremental}
-use Rattle.papaya_tables.specs.declared.node.Node.{Node}
-use Rattle.papaya_tables.specs.declared.setting.Setting.{Setting}
-use Rattle.papaya_resize.specs.Copier.{copier_plan}
-use Rattle.papaya_resize.specs.declared.outcome.Outcome.TheVariants.{Goes}
-use Rattle.papaya_resize.specs.declared.copier.Copier.{Copier}
-use Rattle.papaya_rule.specs.Chart.{Chart}
-use Rattle.papaya_rule.specs.Words.{Blocks}
-use Rattle.papaya_rule.specs.InWorld.{IsMapIn, Went}
-use Rattle.papaya_points.specs.FactsCopies.{CopierFacts}
-use Rattle.papaya_points.specs.FactsCopiesBlocking.{CopierFactsBlocking}
-use Rattle.papaya_points.specs.Measures.{IsBelow}
-use Rattle.papaya_points.specs.Steps.{AreLawful}
-use Rattle.papaya_points.specs.Told.{IsRowOfCopier}
+use Rattle.papaya_late.specs.Given.SeizeWords.Mem.{Mem, Took, value_at}
+use Rattle.papaya_late.specs.Given.SeizeWords.Plan.{Steps}
+use Rattle.papaya_late.specs.Given.Seize.World.{World}
+use Rattle.papaya_late.specs.Given.Tables.Chunks.{is_incremental}
+use Rattle.papaya_late.specs.Given.Tables.declared.node.Node.{Node}
+use Rattle.papaya_late.specs.Given.Tables.declared.setting.Setting.{Setting}
+use Rattle.papaya_late.specs.Given.Resize.Copier.{copier_plan}
+use Rattle.papaya_late.specs.Given.Resize.declared.outcome.Outcome.TheVariants.{Goes}
+use Rattle.papaya_late.specs.Given.Resize.declared.copier.Copier.{Copier}
+use Rattle.papaya_late.specs.Given.Rule.Chart.{Chart}
+use Rattle.papaya_late.specs.Given.Rule.Words.{Blocks}
+use Rattle.papaya_late.specs.Given.Rule.InWorld.{IsMapIn, Went}
+use Rattle.papaya_late.specs.Given.Points.FactsCopies.{CopierFacts}
+use Rattle.papaya_late.specs.Given.Points.FactsCopiesBlocking.{CopierFactsBlocking}
+use Rattle.papaya_late.specs.Given.Points.Measures.{IsBelow}
+use Rattle.papaya_late.specs.Given.Points.Steps.{AreLawful}
+use Rattle.papaya_late.specs.Given.Points.Told.{IsRowOfCopier}
 use Rattle.papaya_late.specs.LateCopies.{LateCopierFacts}
 use Rattle.papaya_falls.specs.Room.{planned_in_copying, tables_to_come}
 use Rattle.papaya_falls.specs.Copies.{number_of_copier}

@@ -3,57 +3,57 @@ use Rattle.std.specs.Prelude.{◌≡◌, ◌≢◌, ℕ, ◌+◌, ◌-◌, ◌^�
 use Rattle.std.specs.List.{list_all}
 use Rattle.std.proofs.Common.{refl, ap, sym, subst, ◌∙◌, inl, inr}
 use Rattle.std.proofs.lemmas.Bool.{cases_eq, and_parts}
-use Rattle.seize_words.specs.Mem.{Mem}
-use Rattle.seize_words.specs.Op.{Out, Exchanged, Made}
-use Rattle.seize_words.specs.declared.at.At.TheVariants.{Root}
-use Rattle.seize_words.specs.declared.fault.Fault.{Fault}
-use Rattle.seize_words.specs.declared.fault.Fault.TheVariants.{Capacity, RootsUsedUp}
-use Rattle.seize.specs.World.{World, with_at}
-use Rattle.seize.specs.declared.progress.Progress.{Progress}
-use Rattle.seize.specs.declared.progress.Progress.TheVariants as progress
-use Rattle.papaya_tables.specs.Lengths.{places_for, len_of}
-use Rattle.papaya_tables.specs.Powers.{next_power}
-use Rattle.papaya_tables.specs.Probes.{limit_of}
-use Rattle.papaya_tables.specs.declared.node.Node.{Node}
-use Rattle.papaya_tables.specs.declared.setting.Setting.{Setting}
-use Rattle.papaya_tables.specs.declared.table.Table.{Table as Planned}
-use Rattle.papaya_resize.specs.NewMap.{at_root, with_counter, goes, done, refused, next_root, opened, taken, made, plan_at, new_map_plan}
-use Rattle.papaya_resize.specs.NewTable.{first_table, new_table_plan}
-use Rattle.papaya_resize.specs.declared.new_map.NewMap.{NewMap}
-use Rattle.papaya_resize.specs.declared.new_map.Opening.{Opening}
-use Rattle.papaya_resize.specs.declared.new_map.Opening.TheVariants as at
-use Rattle.papaya_resize.specs.declared.new_table.Making.TheVariants as makes
-use Rattle.papaya_resize.specs.declared.new_table.NewTable.{NewTable}
-use Rattle.papaya_runs.specs.Runs.{map_fault}
-use Rattle.papaya_schedules.specs.declared.effect.Effect.{Effect}
-use Rattle.papaya_schedules.specs.declared.effect.Effect.TheVariants as effect
-use Rattle.papaya_schedules.specs.declared.effect.Growth.TheVariants.{ABlock, ABucket}
-use Rattle.papaya_schedules.specs.Effects.{AtEachEffect, with_effect, with_effects}
-use Rattle.papaya_schedules.specs.Growing.{Has}
-use Rattle.papaya_schedules.specs.Handing.{is_first_making}
-use Rattle.papaya_schedules.specs.Lives.{IsMapsFirst, EventFinds}
-use Rattle.papaya_schedules.specs.Moment.{MapThere, Moment}
-use Rattle.papaya_schedules.specs.Views.{map_at, tables_of}
-use Rattle.papaya_teller.specs.Tells.{StepsTold}
-use Rattle.papaya_teller.specs.declared.changed.Changed.{Changed}
-use Rattle.papaya_teller.specs.declared.changed.Changed.TheVariants as changed
-use Rattle.papaya_rule.proofs.Keys.Always.{Always, AlwaysOf, always_steps}
-use Rattle.papaya_rule.specs.Rule.{no_table}
-use Rattle.papaya_callers.specs.Together.{no_blocks}
-use Rattle.papaya_callers.proofs.Together.At.{at_other, at_same}
+use Rattle.papaya_histories.specs.Given.SeizeWords.Mem.{Mem}
+use Rattle.papaya_histories.specs.Given.SeizeWords.Op.{Out, Exchanged, Made}
+use Rattle.papaya_histories.specs.Given.SeizeWords.declared.at.At.TheVariants.{Root}
+use Rattle.papaya_histories.specs.Given.SeizeWords.declared.fault.Fault.{Fault}
+use Rattle.papaya_histories.specs.Given.SeizeWords.declared.fault.Fault.TheVariants.{Capacity, RootsUsedUp}
+use Rattle.papaya_histories.specs.Given.Seize.World.{World, with_at}
+use Rattle.papaya_histories.specs.Given.Seize.declared.progress.Progress.{Progress}
+use Rattle.papaya_histories.specs.Given.Seize.declared.progress.Progress.TheVariants as progress
+use Rattle.papaya_histories.specs.Given.Tables.Lengths.{places_for, len_of}
+use Rattle.papaya_histories.specs.Given.Tables.Powers.{next_power}
+use Rattle.papaya_histories.specs.Given.Tables.Probes.{limit_of}
+use Rattle.papaya_histories.specs.Given.Tables.declared.node.Node.{Node}
+use Rattle.papaya_histories.specs.Given.Tables.declared.setting.Setting.{Setting}
+use Rattle.papaya_histories.specs.Given.Tables.declared.table.Table.{Table as Planned}
+use Rattle.papaya_histories.specs.Given.Resize.NewMap.{at_root, with_counter, goes, done, refused, next_root, opened, taken, made, plan_at, new_map_plan}
+use Rattle.papaya_histories.specs.Given.Resize.NewTable.{first_table, new_table_plan}
+use Rattle.papaya_histories.specs.Given.Resize.declared.new_map.NewMap.{NewMap}
+use Rattle.papaya_histories.specs.Given.Resize.declared.new_map.Opening.{Opening}
+use Rattle.papaya_histories.specs.Given.Resize.declared.new_map.Opening.TheVariants as at
+use Rattle.papaya_histories.specs.Given.Resize.declared.new_table.Making.TheVariants as makes
+use Rattle.papaya_histories.specs.Given.Resize.declared.new_table.NewTable.{NewTable}
+use Rattle.papaya_histories.specs.Given.Runs.Runs.{map_fault}
+use Rattle.papaya_histories.specs.Given.Schedules.declared.effect.Effect.{Effect}
+use Rattle.papaya_histories.specs.Given.Schedules.declared.effect.Effect.TheVariants as effect
+use Rattle.papaya_histories.specs.Given.Schedules.declared.effect.Growth.TheVariants.{ABlock, ABucket}
+use Rattle.papaya_histories.specs.Given.Schedules.Effects.{AtEachEffect, with_effect, with_effects}
+use Rattle.papaya_histories.specs.Given.Schedules.Growing.{Has}
+use Rattle.papaya_histories.specs.Given.Schedules.Handing.{is_first_making}
+use Rattle.papaya_histories.specs.Given.Schedules.Lives.{IsMapsFirst, EventFinds}
+use Rattle.papaya_histories.specs.Given.Schedules.Moment.{MapThere, Moment}
+use Rattle.papaya_histories.specs.Given.Schedules.Views.{map_at, tables_of}
+use Rattle.papaya_histories.specs.Given.Teller.Tells.{StepsTold}
+use Rattle.papaya_histories.specs.Given.Teller.declared.changed.Changed.{Changed}
+use Rattle.papaya_histories.specs.Given.Teller.declared.changed.Changed.TheVariants as changed
+use Rattle.papaya_histories.proofs.Given.Rule.Keys.Always.{Always, AlwaysOf, always_steps}
+use Rattle.papaya_histories.specs.Given.Rule.Rule.{no_table}
+use Rattle.papaya_histories.specs.Given.Callers.Together.{no_blocks}
+use Rattle.papaya_histories.proofs.Given.Callers.Together.At.{at_other, at_same}
 use Rattle.papaya_calls.specs.Beginning.{first_places}
-use Rattle.papaya_effects.specs.Effects.{table_at, effects_of, known_after}
-use Rattle.papaya_effects.specs.Known.{Known}
-use Rattle.papaya_effects.specs.declared.acting.Acting.{Acting}
-use Rattle.papaya_effects.specs.declared.acting.Acting.TheVariants as acts
-use Rattle.papaya_executor.specs.IsAt.{Scene, IsAt}
-use Rattle.papaya_executor.specs.Making.{MakingComesTo, MakingLeads}
-use Rattle.papaya_executor.specs.declared.executor.Executor.{Executor}
-use Rattle.papaya_executor.proofs.Forgotten.{as_step}
-use Rattle.papaya_finishes.specs.Makings.{Beginning, OpeningFacts}
-use Rattle.papaya_follows.specs.Shows.{Shows}
-use Rattle.papaya_follows.proofs.Steps.{one_of}
-use Rattle.papaya_others.specs.Makings.{making_after}
+use Rattle.papaya_histories.specs.Given.Effects.Effects.{table_at, effects_of, known_after}
+use Rattle.papaya_histories.specs.Given.Effects.Known.{Known}
+use Rattle.papaya_histories.specs.Given.Effects.declared.acting.Acting.{Acting}
+use Rattle.papaya_histories.specs.Given.Effects.declared.acting.Acting.TheVariants as acts
+use Rattle.papaya_histories.specs.Given.Executor.IsAt.{Scene, IsAt}
+use Rattle.papaya_histories.specs.Given.Executor.Making.{MakingComesTo, MakingLeads}
+use Rattle.papaya_histories.specs.Given.Executor.declared.executor.Executor.{Executor}
+use Rattle.papaya_histories.proofs.Given.Executor.Forgotten.{as_step}
+use Rattle.papaya_histories.specs.Given.Finishes.Makings.{Beginning, OpeningFacts}
+use Rattle.papaya_histories.specs.Given.Follows.Shows.{Shows}
+use Rattle.papaya_histories.proofs.Given.Follows.Steps.{one_of}
+use Rattle.papaya_histories.specs.Given.Others.Makings.{making_after}
 use Rattle.papaya_owes.specs.Making.{making_in_opening}
 use Rattle.papaya_owes.specs.Tables.{table_in, table_made, ShowsTables}
 use Rattle.papaya_owes.specs.TablesBeside.{MakesFirst}

@@ -1,37 +1,37 @@
 -- A call on one key that makes a table has a value for a pair: it began with one, or was told one.
 use Rattle.std.specs.Prelude.{◌≡◌, ◌≢◌, ℕ, Bool, true, List, Option, Some, None, ◌⊎◌}
 use Rattle.std.proofs.Common.{refl, ap, sym, ◌∙◌, inl, inr}
-use Rattle.seize_words.specs.Mem.{Mem}
-use Rattle.seize.specs.World.{World}
-use Rattle.papaya_tables.specs.declared.node.Node.{Node}
-use Rattle.papaya_tables.specs.declared.setting.Setting.{Setting}
-use Rattle.papaya_resize.specs.declared.new_table.NewTable.{NewTable}
-use Rattle.papaya_raw.specs.declared.machines.answer.Missing.TheVariants as missing
-use Rattle.papaya_raw.specs.declared.machines.asking.Reply.TheVariants as reply
-use Rattle.papaya_raw.specs.declared.machines.asking.Told.{Told}
-use Rattle.papaya_raw.specs.declared.machines.asking.Told.TheVariants as tells
-use Rattle.papaya_raw.specs.declared.machines.call.Calling.{Calling}
-use Rattle.papaya_raw.specs.declared.machines.call.Calling.TheVariants as at
-use Rattle.papaya_raw.specs.declared.machines.call.KeyCall.{KeyCall}
-use Rattle.papaya_schedules.specs.declared.call.Call.{Call}
-use Rattle.papaya_schedules.specs.declared.call.Call.TheVariants as call
-use Rattle.papaya_schedules.specs.declared.call.OneKey.{OneKey}
-use Rattle.papaya_schedules.specs.declared.call.OneKey.TheVariants.{Get, GetKeyValue, ContainsKey, Insert, TryInsert, TryInsertWith, GetOrInsert, GetOrInsertWith, Update, UpdateOrInsert, UpdateOrInsertWith, Compute, Remove, RemoveEntry, RemoveIf}
-use Rattle.papaya_schedules.specs.declared.call.Reply.{Reply}
-use Rattle.papaya_schedules.specs.Growing.{has_value_for}
-use Rattle.papaya_schedules.specs.Moment.{UnderWay as CallThere}
-use Rattle.papaya_schedules.specs.Sequential.{has_value}
-use Rattle.papaya_schedules.specs.Views.{has_gift}
-use Rattle.papaya_rule.specs.Chart.{Chart}
-use Rattle.papaya_rule.specs.Words.{Blocks}
-use Rattle.papaya_points.specs.FactsCalls.{Change, IsCopying}
-use Rattle.papaya_callers.specs.Asked.{Asked, last_told, IsAsTold}
-use Rattle.papaya_callers.specs.Kind.{Kind}
-use Rattle.papaya_callers.specs.Pairs.{Given, Begun, IsTold, kind_of, KeepsGiven}
-use Rattle.papaya_callers.specs.Together.{CallOnKey, OnKey, Knows}
-use Rattle.papaya_effects.specs.Known.{Known}
-use Rattle.papaya_follows.specs.Calls.{IsCalled}
-use Rattle.papaya_hands.specs.Asked.{given_by, AreReplies, IsAskedAs}
+use Rattle.papaya_histories.specs.Given.SeizeWords.Mem.{Mem}
+use Rattle.papaya_histories.specs.Given.Seize.World.{World}
+use Rattle.papaya_histories.specs.Given.Tables.declared.node.Node.{Node}
+use Rattle.papaya_histories.specs.Given.Tables.declared.setting.Setting.{Setting}
+use Rattle.papaya_histories.specs.Given.Resize.declared.new_table.NewTable.{NewTable}
+use Rattle.papaya_histories.specs.Given.Raw.declared.machines.answer.Missing.TheVariants as missing
+use Rattle.papaya_histories.specs.Given.Raw.declared.machines.asking.Reply.TheVariants as reply
+use Rattle.papaya_histories.specs.Given.Raw.declared.machines.asking.Told.{Told}
+use Rattle.papaya_histories.specs.Given.Raw.declared.machines.asking.Told.TheVariants as tells
+use Rattle.papaya_histories.specs.Given.Raw.declared.machines.call.Calling.{Calling}
+use Rattle.papaya_histories.specs.Given.Raw.declared.machines.call.Calling.TheVariants as at
+use Rattle.papaya_histories.specs.Given.Raw.declared.machines.call.KeyCall.{KeyCall}
+use Rattle.papaya_histories.specs.Given.Schedules.declared.call.Call.{Call}
+use Rattle.papaya_histories.specs.Given.Schedules.declared.call.Call.TheVariants as call
+use Rattle.papaya_histories.specs.Given.Schedules.declared.call.OneKey.{OneKey}
+use Rattle.papaya_histories.specs.Given.Schedules.declared.call.OneKey.TheVariants.{Get, GetKeyValue, ContainsKey, Insert, TryInsert, TryInsertWith, GetOrInsert, GetOrInsertWith, Update, UpdateOrInsert, UpdateOrInsertWith, Compute, Remove, RemoveEntry, RemoveIf}
+use Rattle.papaya_histories.specs.Given.Schedules.declared.call.Reply.{Reply}
+use Rattle.papaya_histories.specs.Given.Schedules.Growing.{has_value_for}
+use Rattle.papaya_histories.specs.Given.Schedules.Moment.{UnderWay as CallThere}
+use Rattle.papaya_histories.specs.Given.Schedules.Sequential.{has_value}
+use Rattle.papaya_histories.specs.Given.Schedules.Views.{has_gift}
+use Rattle.papaya_histories.specs.Given.Rule.Chart.{Chart}
+use Rattle.papaya_histories.specs.Given.Rule.Words.{Blocks}
+use Rattle.papaya_histories.specs.Given.Points.FactsCalls.{Change, IsCopying}
+use Rattle.papaya_histories.specs.Given.Callers.Asked.{Asked, last_told, IsAsTold}
+use Rattle.papaya_histories.specs.Given.Callers.Kind.{Kind}
+use Rattle.papaya_histories.specs.Given.Callers.Pairs.{Given, Begun, IsTold, kind_of, KeepsGiven}
+use Rattle.papaya_histories.specs.Given.Callers.Together.{CallOnKey, OnKey, Knows}
+use Rattle.papaya_histories.specs.Given.Effects.Known.{Known}
+use Rattle.papaya_histories.specs.Given.Follows.Calls.{IsCalled}
+use Rattle.papaya_histories.specs.Given.Hands.Asked.{given_by, AreReplies, IsAskedAs}
 use Rattle.papaya_owes.specs.Making.{making_in_calling}
 use Rattle.papaya_owes.proofs.Valued.{gift_told}
 use Rattle.papaya_finds.specs.Growing.{HasForNone, GrowsAt}

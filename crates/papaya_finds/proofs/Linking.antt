@@ -1,54 +1,54 @@
 -- The table that a call on one key links has the shape that it must have.
 use Rattle.std.specs.Prelude.{◌≡◌, ℕ, suc, ◌<◌, ◌++◌, Bool, false, List, [], ◌∷◌, length, Option, Some}
 use Rattle.std.proofs.Common.{refl, ap, sym, subst, ◌∙◌, inl, inr, arith}
-use Rattle.seize.specs.World.{World}
-use Rattle.seize_words.specs.declared.at.At.{At}
-use Rattle.papaya_tables.specs.Lengths.{entries_of}
-use Rattle.papaya_tables.specs.declared.lengths.Reason.{Reason}
-use Rattle.papaya_tables.specs.declared.lengths.Reason.TheVariants.{Full}
-use Rattle.papaya_tables.specs.declared.node.Node.{Node}
-use Rattle.papaya_tables.specs.declared.setting.Setting.{Setting}
-use Rattle.papaya_tables.specs.declared.table.Table.{Table as Planned}
-use Rattle.papaya_resize.specs.declared.new_table.Making.{Making}
-use Rattle.papaya_resize.specs.declared.new_table.Making.TheVariants as makes
-use Rattle.papaya_resize.specs.declared.new_table.NewTable.{NewTable}
-use Rattle.papaya_raw.specs.declared.machines.call.Calling.{Calling}
-use Rattle.papaya_raw.specs.declared.machines.call.Calling.TheVariants as at_point
-use Rattle.papaya_raw.specs.declared.machines.call.KeyCall.{KeyCall}
-use Rattle.papaya_raw.specs.declared.machines.progress.Progress.{Progress}
-use Rattle.papaya_schedules.specs.declared.call.Call.{Call}
-use Rattle.papaya_schedules.specs.declared.call.Call.TheVariants as call
-use Rattle.papaya_schedules.specs.declared.effect.Effect.{Effect}
-use Rattle.papaya_schedules.specs.declared.effect.Effect.TheVariants as effect
-use Rattle.papaya_schedules.specs.declared.effect.Growth.TheVariants.{ABlock}
-use Rattle.papaya_schedules.specs.Effects.{call_by, with_effect, AtEachEffect}
-use Rattle.papaya_schedules.specs.Entry.{ByCall}
-use Rattle.papaya_schedules.specs.Growing.{Has, IsFirstOf, MayMakeFor, IsNextShape, Follows}
-use Rattle.papaya_schedules.specs.Moment.{UnderWay as CallThere, Stage, TableThere, Moment}
-use Rattle.papaya_schedules.specs.Terms.{Terms}
-use Rattle.papaya_schedules.specs.Views.{map_at, capacity_or, call_of, tables_of, last_length}
-use Rattle.papaya_rule.specs.Chart.{Chart}
-use Rattle.papaya_rule.specs.Words.{Blocks}
-use Rattle.papaya_rule.specs.Maps.{IsTable}
-use Rattle.papaya_points.specs.FactsCalls.{Change, CallingFacts, IsCopying}
-use Rattle.papaya_points.specs.FactsTables.{MakingFacts, NewTableFacts}
-use Rattle.papaya_late.specs.LateCalls.{LateFirst, LateCalling}
-use Rattle.papaya_callers.specs.Sights.{seen_by}
-use Rattle.papaya_callers.specs.Together.{CallOnKey, OnKey, in_slot, Together}
-use Rattle.papaya_effects.specs.Effects.{effects_of}
-use Rattle.papaya_effects.specs.Known.{Known}
-use Rattle.papaya_effects.specs.declared.acting.Acting.TheVariants as acts
-use Rattle.papaya_executor.specs.IsAt.{Scene, IsAt, slot_of}
-use Rattle.papaya_executor.specs.Stepping.{StepLeads}
-use Rattle.papaya_executor.specs.declared.executor.Executor.{Executor}
-use Rattle.papaya_finishes.specs.Maps.{Standing}
-use Rattle.papaya_follows.specs.Calls.{IsCalled}
-use Rattle.papaya_follows.specs.Finds.{FindsMap}
-use Rattle.papaya_follows.specs.Maps.{table_of, shape_at, tables_to}
-use Rattle.papaya_follows.proofs.Finds.{tables_many}
-use Rattle.papaya_hands.specs.Asked.{IsAskedAs}
-use Rattle.papaya_hands.proofs.Steps.{numbers_apart}
-use Rattle.papaya_moments.specs.Whole.{ShowsWhole}
+use Rattle.papaya_histories.specs.Given.Seize.World.{World}
+use Rattle.papaya_histories.specs.Given.SeizeWords.declared.at.At.{At}
+use Rattle.papaya_histories.specs.Given.Tables.Lengths.{entries_of}
+use Rattle.papaya_histories.specs.Given.Tables.declared.lengths.Reason.{Reason}
+use Rattle.papaya_histories.specs.Given.Tables.declared.lengths.Reason.TheVariants.{Full}
+use Rattle.papaya_histories.specs.Given.Tables.declared.node.Node.{Node}
+use Rattle.papaya_histories.specs.Given.Tables.declared.setting.Setting.{Setting}
+use Rattle.papaya_histories.specs.Given.Tables.declared.table.Table.{Table as Planned}
+use Rattle.papaya_histories.specs.Given.Resize.declared.new_table.Making.{Making}
+use Rattle.papaya_histories.specs.Given.Resize.declared.new_table.Making.TheVariants as makes
+use Rattle.papaya_histories.specs.Given.Resize.declared.new_table.NewTable.{NewTable}
+use Rattle.papaya_histories.specs.Given.Raw.declared.machines.call.Calling.{Calling}
+use Rattle.papaya_histories.specs.Given.Raw.declared.machines.call.Calling.TheVariants as at_point
+use Rattle.papaya_histories.specs.Given.Raw.declared.machines.call.KeyCall.{KeyCall}
+use Rattle.papaya_histories.specs.Given.Raw.declared.machines.progress.Progress.{Progress}
+use Rattle.papaya_histories.specs.Given.Schedules.declared.call.Call.{Call}
+use Rattle.papaya_histories.specs.Given.Schedules.declared.call.Call.TheVariants as call
+use Rattle.papaya_histories.specs.Given.Schedules.declared.effect.Effect.{Effect}
+use Rattle.papaya_histories.specs.Given.Schedules.declared.effect.Effect.TheVariants as effect
+use Rattle.papaya_histories.specs.Given.Schedules.declared.effect.Growth.TheVariants.{ABlock}
+use Rattle.papaya_histories.specs.Given.Schedules.Effects.{call_by, with_effect, AtEachEffect}
+use Rattle.papaya_histories.specs.Given.Schedules.Entry.{ByCall}
+use Rattle.papaya_histories.specs.Given.Schedules.Growing.{Has, IsFirstOf, MayMakeFor, IsNextShape, Follows}
+use Rattle.papaya_histories.specs.Given.Schedules.Moment.{UnderWay as CallThere, Stage, TableThere, Moment}
+use Rattle.papaya_histories.specs.Given.Schedules.Terms.{Terms}
+use Rattle.papaya_histories.specs.Given.Schedules.Views.{map_at, capacity_or, call_of, tables_of, last_length}
+use Rattle.papaya_histories.specs.Given.Rule.Chart.{Chart}
+use Rattle.papaya_histories.specs.Given.Rule.Words.{Blocks}
+use Rattle.papaya_histories.specs.Given.Rule.Maps.{IsTable}
+use Rattle.papaya_histories.specs.Given.Points.FactsCalls.{Change, CallingFacts, IsCopying}
+use Rattle.papaya_histories.specs.Given.Points.FactsTables.{MakingFacts, NewTableFacts}
+use Rattle.papaya_histories.specs.Given.Late.LateCalls.{LateFirst, LateCalling}
+use Rattle.papaya_histories.specs.Given.Callers.Sights.{seen_by}
+use Rattle.papaya_histories.specs.Given.Callers.Together.{CallOnKey, OnKey, in_slot, Together}
+use Rattle.papaya_histories.specs.Given.Effects.Effects.{effects_of}
+use Rattle.papaya_histories.specs.Given.Effects.Known.{Known}
+use Rattle.papaya_histories.specs.Given.Effects.declared.acting.Acting.TheVariants as acts
+use Rattle.papaya_histories.specs.Given.Executor.IsAt.{Scene, IsAt, slot_of}
+use Rattle.papaya_histories.specs.Given.Executor.Stepping.{StepLeads}
+use Rattle.papaya_histories.specs.Given.Executor.declared.executor.Executor.{Executor}
+use Rattle.papaya_histories.specs.Given.Finishes.Maps.{Standing}
+use Rattle.papaya_histories.specs.Given.Follows.Calls.{IsCalled}
+use Rattle.papaya_histories.specs.Given.Follows.Finds.{FindsMap}
+use Rattle.papaya_histories.specs.Given.Follows.Maps.{table_of, shape_at, tables_to}
+use Rattle.papaya_histories.proofs.Given.Follows.Finds.{tables_many}
+use Rattle.papaya_histories.specs.Given.Hands.Asked.{IsAskedAs}
+use Rattle.papaya_histories.proofs.Given.Hands.Steps.{numbers_apart}
+use Rattle.papaya_histories.specs.Given.Moments.Whole.{ShowsWhole}
 use Rattle.papaya_owes.specs.Making.{making_in_calling}
 use Rattle.papaya_owes.specs.Tables.{table_in, table_made, of_map, ShowsTables}
 use Rattle.papaya_owes.proofs.Fields.{its_effect}

@@ -3,19 +3,19 @@ use Rattle.std.specs.Prelude.{◌≡◌, ℕ, zero, suc, ◌+◌, ◌==◌, nat_
 use Rattle.std.specs.List.{AllByRecursion, list_any}
 use Rattle.std.proofs.Common.{refl, ap, sym, subst, ◌∙◌, arith}
 use Rattle.std.proofs.lemmas.Bool.{or_parts, or_from}
-use Rattle.papaya_runs.specs.Same.{is_same}
-use Rattle.papaya_schedules.specs.declared.call.Call.{Call}
-use Rattle.papaya_schedules.specs.declared.call.Call.TheVariants as call
-use Rattle.papaya_schedules.specs.declared.effect.Table.{Table}
-use Rattle.papaya_schedules.specs.declared.effect.Thing.{Thing}
-use Rattle.papaya_schedules.specs.declared.effect.Thing.TheVariants.{APair, ATable}
-use Rattle.papaya_schedules.specs.After.{without_call}
-use Rattle.papaya_schedules.specs.Effects.{passed, due_for}
-use Rattle.papaya_schedules.specs.Lists.{is_in, without_one}
-use Rattle.papaya_schedules.specs.Moment.{UnderWay}
-use Rattle.papaya_schedules.specs.Things.{same_thing}
-use Rattle.papaya_follows.proofs.Calling.{is_same_is}
-use Rattle.papaya_follows.proofs.Calls.{IsOfSame, changed, of_same}
+use Rattle.papaya_histories.specs.Given.Runs.Same.{is_same}
+use Rattle.papaya_histories.specs.Given.Schedules.declared.call.Call.{Call}
+use Rattle.papaya_histories.specs.Given.Schedules.declared.call.Call.TheVariants as call
+use Rattle.papaya_histories.specs.Given.Schedules.declared.effect.Table.{Table}
+use Rattle.papaya_histories.specs.Given.Schedules.declared.effect.Thing.{Thing}
+use Rattle.papaya_histories.specs.Given.Schedules.declared.effect.Thing.TheVariants.{APair, ATable}
+use Rattle.papaya_histories.specs.Given.Schedules.After.{without_call}
+use Rattle.papaya_histories.specs.Given.Schedules.Effects.{passed, due_for}
+use Rattle.papaya_histories.specs.Given.Schedules.Lists.{is_in, without_one}
+use Rattle.papaya_histories.specs.Given.Schedules.Moment.{UnderWay}
+use Rattle.papaya_histories.specs.Given.Schedules.Things.{same_thing}
+use Rattle.papaya_histories.proofs.Given.Follows.Calling.{is_same_is}
+use Rattle.papaya_histories.proofs.Given.Follows.Calls.{IsOfSame, changed, of_same}
 use Rattle.papaya_finds.specs.Waiting.{once_if, owed_in, owed_by, AreApart, EndedOweNothing}
 
 -- among things

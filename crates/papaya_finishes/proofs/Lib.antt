@@ -1,3 +1,4 @@
 pub mod Ends
 pub mod Among
 pub mod Beside
+pub mod Given

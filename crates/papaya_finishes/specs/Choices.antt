@@ -1,8 +1,8 @@
 -- Choices of free block numbers come while maps are made and end, and calls are under way on others.
 use Rattle.std.specs.Prelude.{ℕ, Bool, Option}
-use Rattle.seize.specs.World.{World, Chooses, Happens}
-use Rattle.papaya_tables.specs.Nodes.{deferred_word}
-use Rattle.papaya_tables.specs.declared.node.Node.{Node}
+use Rattle.papaya_callers.specs.Given.Seize.World.{World, Chooses, Happens}
+use Rattle.papaya_callers.specs.Given.Tables.Nodes.{deferred_word}
+use Rattle.papaya_callers.specs.Given.Tables.declared.node.Node.{Node}
 use Rattle.papaya_callers.specs.Together.{UnderWay}
 use Rattle.papaya_finishes.specs.Endings.{Finishing, EndingsTogether}
 use Rattle.papaya_finishes.specs.Makings.{Beginning}

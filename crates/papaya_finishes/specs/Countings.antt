@@ -1,15 +1,15 @@
 -- Countings of the pairs of maps, among calls, reservations, makings and ends of maps.
 use Rattle.std.specs.Prelude.{◌≡◌, ◌≢◌, ℕ, ◌⊎◌, Bool, false, Option, Some, None}
-use Rattle.seize_words.specs.Mem.{Mem, Can, Took, value_at}
-use Rattle.seize_words.specs.Plan.{May, Steps}
-use Rattle.seize_words.specs.declared.fault.Fault.{Fault}
-use Rattle.seize.specs.World.{World, Rests, IsInside}
-use Rattle.seize.specs.declared.progress.Progress.{Progress}
-use Rattle.seize.specs.declared.progress.Progress.TheVariants as progress
-use Rattle.papaya_tables.specs.Chunks.{is_incremental}
-use Rattle.papaya_tables.specs.declared.node.Node.{Node}
-use Rattle.papaya_resize.specs.Sum.{summing, sum_plan}
-use Rattle.papaya_resize.specs.declared.sum.Sum.{Sum}
+use Rattle.papaya_callers.specs.Given.SeizeWords.Mem.{Mem, Can, Took, value_at}
+use Rattle.papaya_callers.specs.Given.SeizeWords.Plan.{May, Steps}
+use Rattle.papaya_callers.specs.Given.SeizeWords.declared.fault.Fault.{Fault}
+use Rattle.papaya_callers.specs.Given.Seize.World.{World, Rests, IsInside}
+use Rattle.papaya_callers.specs.Given.Seize.declared.progress.Progress.{Progress}
+use Rattle.papaya_callers.specs.Given.Seize.declared.progress.Progress.TheVariants as progress
+use Rattle.papaya_callers.specs.Given.Tables.Chunks.{is_incremental}
+use Rattle.papaya_callers.specs.Given.Tables.declared.node.Node.{Node}
+use Rattle.papaya_callers.specs.Given.Resize.Sum.{summing, sum_plan}
+use Rattle.papaya_callers.specs.Given.Resize.declared.sum.Sum.{Sum}
 use Rattle.papaya_finishes.specs.Makings.{Beginning}
 use Rattle.papaya_finishes.specs.Maps.{Standing, with_call}
 use Rattle.papaya_callers.specs.Claims.{AreFew}

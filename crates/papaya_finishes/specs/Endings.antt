@@ -1,29 +1,29 @@
 -- Maps that end while others have calls on other maps, and while maps are made: whoever takes the next step, all stand together.
 use Rattle.std.specs.Prelude.{◌≡◌, ◌≢◌, ℕ, ◌<◌, ◌≤◌, ◌⊎◌, Bool, false, cond, List, [], ◌∷◌, ◌++◌, Option, Some, None}
-use Rattle.seize_words.specs.Mem.{Mem, Can, Took, value_at}
-use Rattle.seize_words.specs.Plan.{May, Steps}
-use Rattle.seize.specs.World.{World, Rests, Request, MayStep, Begin, Step, Ends, Happens, Runs, LeftTo, IsNotLeft, IsInside, times, with_at}
-use Rattle.seize.specs.declared.rows.settle.Settled.{Settled}
-use Rattle.seize.specs.declared.rows.settle.Settled.TheVariants as settled
-use Rattle.seize.specs.declared.progress.Progress.{Progress}
-use Rattle.seize.specs.declared.progress.Progress.TheVariants as progress
-use Rattle.papaya_tables.specs.Chunks.{is_incremental}
-use Rattle.papaya_tables.specs.Nodes.{deferred_word}
-use Rattle.papaya_tables.specs.declared.node.Node.{Node}
-use Rattle.papaya_tables.specs.declared.setting.Setting.{Setting}
-use Rattle.papaya_resize.specs.NewMap.{opening, new_map_plan}
-use Rattle.papaya_resize.specs.declared.new_map.NewMap.{NewMap}
-use Rattle.papaya_raw.specs.Call.{call_plan}
-use Rattle.papaya_raw.specs.EndMap.{ending, end_map_plan}
-use Rattle.papaya_raw.specs.declared.machines.answer.Called.{Called}
-use Rattle.papaya_raw.specs.declared.machines.asking.Asking.{Asking}
-use Rattle.papaya_raw.specs.declared.machines.call.Calling.TheVariants as at
-use Rattle.papaya_raw.specs.declared.machines.call.KeyCall.{KeyCall}
-use Rattle.papaya_raw.specs.declared.machines.end_map.EndMap.{EndMap}
-use Rattle.papaya_rule.specs.Chart.{Chart}
-use Rattle.papaya_rule.specs.Words.{Blocks}
-use Rattle.papaya_points.specs.Steps.{AreLawful}
-use Rattle.papaya_points.specs.Told.{IsRowOfCall}
+use Rattle.papaya_callers.specs.Given.SeizeWords.Mem.{Mem, Can, Took, value_at}
+use Rattle.papaya_callers.specs.Given.SeizeWords.Plan.{May, Steps}
+use Rattle.papaya_callers.specs.Given.Seize.World.{World, Rests, Request, MayStep, Begin, Step, Ends, Happens, Runs, LeftTo, IsNotLeft, IsInside, times, with_at}
+use Rattle.papaya_callers.specs.Given.Seize.declared.rows.settle.Settled.{Settled}
+use Rattle.papaya_callers.specs.Given.Seize.declared.rows.settle.Settled.TheVariants as settled
+use Rattle.papaya_callers.specs.Given.Seize.declared.progress.Progress.{Progress}
+use Rattle.papaya_callers.specs.Given.Seize.declared.progress.Progress.TheVariants as progress
+use Rattle.papaya_callers.specs.Given.Tables.Chunks.{is_incremental}
+use Rattle.papaya_callers.specs.Given.Tables.Nodes.{deferred_word}
+use Rattle.papaya_callers.specs.Given.Tables.declared.node.Node.{Node}
+use Rattle.papaya_callers.specs.Given.Tables.declared.setting.Setting.{Setting}
+use Rattle.papaya_callers.specs.Given.Resize.NewMap.{opening, new_map_plan}
+use Rattle.papaya_callers.specs.Given.Resize.declared.new_map.NewMap.{NewMap}
+use Rattle.papaya_callers.specs.Given.Raw.Call.{call_plan}
+use Rattle.papaya_callers.specs.Given.Raw.EndMap.{ending, end_map_plan}
+use Rattle.papaya_callers.specs.Given.Raw.declared.machines.answer.Called.{Called}
+use Rattle.papaya_callers.specs.Given.Raw.declared.machines.asking.Asking.{Asking}
+use Rattle.papaya_callers.specs.Given.Raw.declared.machines.call.Calling.TheVariants as at
+use Rattle.papaya_callers.specs.Given.Raw.declared.machines.call.KeyCall.{KeyCall}
+use Rattle.papaya_callers.specs.Given.Raw.declared.machines.end_map.EndMap.{EndMap}
+use Rattle.papaya_callers.specs.Given.Rule.Chart.{Chart}
+use Rattle.papaya_callers.specs.Given.Rule.Words.{Blocks}
+use Rattle.papaya_callers.specs.Given.Points.Steps.{AreLawful}
+use Rattle.papaya_callers.specs.Given.Points.Told.{IsRowOfCall}
 use Rattle.papaya_callers.specs.Kept.{IsPair}
 use Rattle.papaya_callers.specs.Pairs.{Given}
 use Rattle.papaya_callers.specs.Claims.{AreFew}

@@ -9,3 +9,4 @@ pub mod Maps
 pub mod Makings
 pub mod Owners
 pub mod Choices
+pub mod Given

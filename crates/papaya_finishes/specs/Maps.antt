@@ -1,25 +1,25 @@
 -- Several maps on one collector, with calls of many callers on each: whoever takes the next step, all maps stand together.
 use Rattle.std.specs.Prelude.{◌≡◌, ◌≢◌, ◌≤◌, ℕ, ◌⊎◌, Bool, false, Option, Some, None}
 use Rattle.std.specs.Int.{IsPowerOfTwo}
-use Rattle.seize_words.specs.Mem.{Mem, Can, Took, value_at, word_at}
-use Rattle.seize_words.specs.Plan.{May, Steps}
-use Rattle.seize_words.specs.declared.at.At.TheVariants.{Root, Word}
-use Rattle.seize.specs.World.{World, Rests, Request, MayStep, Begin, Step, Happens, IsInside, with_at}
-use Rattle.papaya_tables.specs.Nodes.{deferred_word}
-use Rattle.papaya_tables.specs.Chunks.{is_incremental}
-use Rattle.papaya_tables.specs.declared.node.Node.{Node}
-use Rattle.papaya_tables.specs.declared.node.Node.TheVariants as node
-use Rattle.papaya_tables.specs.declared.setting.Setting.{Setting}
-use Rattle.papaya_raw.specs.Call.{call_plan}
-use Rattle.papaya_raw.specs.declared.machines.answer.Called.{Called}
-use Rattle.papaya_raw.specs.declared.machines.asking.Asking.{Asking}
-use Rattle.papaya_raw.specs.declared.machines.call.Calling.TheVariants as at
-use Rattle.papaya_raw.specs.declared.machines.call.KeyCall.{KeyCall}
-use Rattle.papaya_rule.specs.Chart.{Chart}
-use Rattle.papaya_rule.specs.Rule.{no_table}
-use Rattle.papaya_rule.specs.Words.{Blocks}
-use Rattle.papaya_points.specs.Steps.{AreLawful}
-use Rattle.papaya_points.specs.Told.{IsRowOfCall}
+use Rattle.papaya_callers.specs.Given.SeizeWords.Mem.{Mem, Can, Took, value_at, word_at}
+use Rattle.papaya_callers.specs.Given.SeizeWords.Plan.{May, Steps}
+use Rattle.papaya_callers.specs.Given.SeizeWords.declared.at.At.TheVariants.{Root, Word}
+use Rattle.papaya_callers.specs.Given.Seize.World.{World, Rests, Request, MayStep, Begin, Step, Happens, IsInside, with_at}
+use Rattle.papaya_callers.specs.Given.Tables.Nodes.{deferred_word}
+use Rattle.papaya_callers.specs.Given.Tables.Chunks.{is_incremental}
+use Rattle.papaya_callers.specs.Given.Tables.declared.node.Node.{Node}
+use Rattle.papaya_callers.specs.Given.Tables.declared.node.Node.TheVariants as node
+use Rattle.papaya_callers.specs.Given.Tables.declared.setting.Setting.{Setting}
+use Rattle.papaya_callers.specs.Given.Raw.Call.{call_plan}
+use Rattle.papaya_callers.specs.Given.Raw.declared.machines.answer.Called.{Called}
+use Rattle.papaya_callers.specs.Given.Raw.declared.machines.asking.Asking.{Asking}
+use Rattle.papaya_callers.specs.Given.Raw.declared.machines.call.Calling.TheVariants as at
+use Rattle.papaya_callers.specs.Given.Raw.declared.machines.call.KeyCall.{KeyCall}
+use Rattle.papaya_callers.specs.Given.Rule.Chart.{Chart}
+use Rattle.papaya_callers.specs.Given.Rule.Rule.{no_table}
+use Rattle.papaya_callers.specs.Given.Rule.Words.{Blocks}
+use Rattle.papaya_callers.specs.Given.Points.Steps.{AreLawful}
+use Rattle.papaya_callers.specs.Given.Points.Told.{IsRowOfCall}
 use Rattle.papaya_callers.specs.Pairs.{Given}
 use Rattle.papaya_callers.specs.Claims.{AreFew}
 use Rattle.papaya_callers.specs.Kept.{IsMaking}

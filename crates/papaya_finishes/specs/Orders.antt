@@ -1,9 +1,9 @@
 -- In which order a map that ends reclaims what it has: its pairs, then table by table the pairs that a table carries and the table, then its counter.
 use Rattle.std.specs.Prelude.{ℕ, zero, suc, ◌-◌, ◌<◌, ◌≤◌, Bool, true, false, cond, List, [], ◌∷◌, ◌++◌, map, if◌then◌else◌, ◌&&◌}
-use Rattle.seize.specs.WaitingSets.{Change, Ends}
-use Rattle.seize.specs.World.{times}
-use Rattle.papaya_rule.specs.Chart.{Place, Holds, Chart, is_marked}
-use Rattle.papaya_rule.specs.Words.{Blocks}
+use Rattle.papaya_callers.specs.Given.Seize.WaitingSets.{Change, Ends}
+use Rattle.papaya_callers.specs.Given.Seize.World.{times}
+use Rattle.papaya_callers.specs.Given.Rule.Chart.{Place, Holds, Chart, is_marked}
+use Rattle.papaya_callers.specs.Given.Rule.Words.{Blocks}
 
 -- the pair that a place reclaims: in incremental mode none that is marked, since a later table has it
 abbrev pub pair_at : Bool → Place → List ℕ

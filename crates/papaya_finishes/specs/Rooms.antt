@@ -1,14 +1,14 @@
 -- Reservations on maps, among calls, makings and ends of maps: whoever takes the next step, all stand together.
 use Rattle.std.specs.Prelude.{◌≡◌, ℕ, ◌⊎◌, Bool, false, Option, Some, None}
-use Rattle.seize_words.specs.Mem.{Mem, Can, Took, value_at}
-use Rattle.seize_words.specs.Plan.{May, Steps}
-use Rattle.seize.specs.World.{World, Rests, IsInside, with_at}
-use Rattle.papaya_tables.specs.Chunks.{is_incremental}
-use Rattle.papaya_tables.specs.declared.node.Node.{Node}
-use Rattle.papaya_resize.specs.declared.outcome.Outcome.{Outcome}
-use Rattle.papaya_reserves.specs.Reserve.{reserving, reserve_plan}
-use Rattle.papaya_reserves.specs.declared.reserve.Reserve.{Reserve}
-use Rattle.papaya_late.specs.ToldReserves.{IsRowOfReserve}
+use Rattle.papaya_callers.specs.Given.SeizeWords.Mem.{Mem, Can, Took, value_at}
+use Rattle.papaya_callers.specs.Given.SeizeWords.Plan.{May, Steps}
+use Rattle.papaya_callers.specs.Given.Seize.World.{World, Rests, IsInside, with_at}
+use Rattle.papaya_callers.specs.Given.Tables.Chunks.{is_incremental}
+use Rattle.papaya_callers.specs.Given.Tables.declared.node.Node.{Node}
+use Rattle.papaya_callers.specs.Given.Resize.declared.outcome.Outcome.{Outcome}
+use Rattle.papaya_callers.specs.Given.Reserves.Reserve.{reserving, reserve_plan}
+use Rattle.papaya_callers.specs.Given.Reserves.declared.reserve.Reserve.{Reserve}
+use Rattle.papaya_callers.specs.Given.Late.ToldReserves.{IsRowOfReserve}
 use Rattle.papaya_callers.specs.Claims.{AreFew}
 use Rattle.papaya_finishes.specs.Makings.{Beginning}
 use Rattle.papaya_finishes.specs.Maps.{Standing, with_call}

@@ -1,16 +1,16 @@
 -- Walks, clearings and retainings on maps, among calls, makings and ends of maps: whoever takes the next step, all stand together.
 use Rattle.std.specs.Prelude.{◌≡◌, ℕ, ◌⊎◌, Bool, false, Option, Some, None}
-use Rattle.seize_words.specs.Mem.{Mem, Can, Took, value_at}
-use Rattle.seize_words.specs.Plan.{May, Steps}
-use Rattle.seize.specs.World.{World, Rests, IsInside, with_at}
-use Rattle.papaya_tables.specs.Chunks.{is_incremental}
-use Rattle.papaya_tables.specs.declared.node.Node.{Node}
-use Rattle.papaya_sweeps.specs.Sweep.{sweep_plan}
-use Rattle.papaya_sweeps.specs.declared.sweep.Purpose.{Purpose}
-use Rattle.papaya_sweeps.specs.declared.sweep.Sweep.{Sweep}
-use Rattle.papaya_sweeps.specs.declared.sweep.Sweeping.TheVariants as at
-use Rattle.papaya_sweeps.specs.declared.sweep.Swept.{Swept}
-use Rattle.papaya_late.specs.ToldSweeps.{IsRowOfSweep}
+use Rattle.papaya_callers.specs.Given.SeizeWords.Mem.{Mem, Can, Took, value_at}
+use Rattle.papaya_callers.specs.Given.SeizeWords.Plan.{May, Steps}
+use Rattle.papaya_callers.specs.Given.Seize.World.{World, Rests, IsInside, with_at}
+use Rattle.papaya_callers.specs.Given.Tables.Chunks.{is_incremental}
+use Rattle.papaya_callers.specs.Given.Tables.declared.node.Node.{Node}
+use Rattle.papaya_callers.specs.Given.Sweeps.Sweep.{sweep_plan}
+use Rattle.papaya_callers.specs.Given.Sweeps.declared.sweep.Purpose.{Purpose}
+use Rattle.papaya_callers.specs.Given.Sweeps.declared.sweep.Sweep.{Sweep}
+use Rattle.papaya_callers.specs.Given.Sweeps.declared.sweep.Sweeping.TheVariants as at
+use Rattle.papaya_callers.specs.Given.Sweeps.declared.sweep.Swept.{Swept}
+use Rattle.papaya_callers.specs.Given.Late.ToldSweeps.{IsRowOfSweep}
 use Rattle.papaya_callers.specs.Claims.{AreFew}
 use Rattle.papaya_callers.specs.OverAll.{CallOverAll, begun_over_all, gone_on, come_to}
 use Rattle.papaya_callers.specs.Sights.{seen_by}

@@ -2,9 +2,9 @@
 use Rattle.std.specs.Prelude.{◌≡◌, ◌≢◌, ℕ, ◌+◌, ◌==◌, Bool, true, false, cond, not, ◌&&◌, List, [], ◌∷◌, length, filter, find, map, Option, Some, if◌then◌else◌, ◌⊎◌}
 use Rattle.std.proofs.Common.{refl, ap, sym, subst, ◌∙◌, arith, inl, inr}
 use Rattle.std.proofs.lemmas.Bool.{eq-eqb, cases_eq}
-use Rattle.seize.specs.World.{with_at}
+use Rattle.papaya_executor.specs.Given.Seize.World.{with_at}
 use Rattle.papaya_runs.specs.Same.{is_same}
-use Rattle.papaya_raw.specs.declared.machines.asking.Reply.{Reply as MachineReply}
+use Rattle.papaya_executor.specs.Given.Raw.declared.machines.asking.Reply.{Reply as MachineReply}
 use Rattle.papaya_schedules.specs.declared.call.Call.{Call}
 use Rattle.papaya_schedules.specs.declared.call.Reply.{Reply}
 use Rattle.papaya_schedules.specs.declared.outcome.Outcome.{Outcome}
@@ -14,11 +14,11 @@ use Rattle.papaya_schedules.specs.Beginning.{fresh_call, with_call}
 use Rattle.papaya_schedules.specs.Entry.{ends_call}
 use Rattle.papaya_schedules.specs.Moment.{Stands, Going, Asking, Told, IsReady, UnderWay as CallThere, Moment}
 use Rattle.papaya_schedules.specs.Views.{call_of}
-use Rattle.papaya_callers.specs.OverAll.{CallOverAll}
-use Rattle.papaya_callers.specs.Together.{CallOnKey, UnderWay, OnKey, ForRoom, Counting, OverAll}
-use Rattle.papaya_callers.proofs.Together.At.{at_other, at_same}
-use Rattle.papaya_finishes.specs.Machines.{ToldOfKind}
-use Rattle.papaya_finishes.specs.Maps.{Standing, with_call as with_in}
+use Rattle.papaya_executor.specs.Given.Callers.OverAll.{CallOverAll}
+use Rattle.papaya_executor.specs.Given.Callers.Together.{CallOnKey, UnderWay, OnKey, ForRoom, Counting, OverAll}
+use Rattle.papaya_executor.proofs.Given.Callers.Together.At.{at_other, at_same}
+use Rattle.papaya_executor.specs.Given.Finishes.Machines.{ToldOfKind}
+use Rattle.papaya_executor.specs.Given.Finishes.Maps.{Standing, with_call as with_in}
 use Rattle.papaya_effects.specs.Known.{Known}
 use Rattle.papaya_executor.specs.IsAt.{Scene, slot_of}
 use Rattle.papaya_follows.specs.Blocks.{HasRole}

@@ -24,3 +24,4 @@ pub mod Beginning
 pub mod Rows
 pub mod Handed
 pub mod RowSteps
+pub mod Given

@@ -2,39 +2,39 @@
 use Rattle.std.specs.Prelude.{◌≡◌, ◌≢◌, ℕ, zero, suc, ◌+◌, ◌*◌, ◌<◌, ◌≤◌, Bool, true, false, cond, eqb, List, [], ◌∷◌, Option, Some}
 use Rattle.std.proofs.Common.{refl, ap, sym, subst, ◌∙◌, arith, inl, inr}
 use Rattle.std.proofs.lemmas.Bool.{ne_eqb, eq-eqb, cases_eq}
-use Rattle.seize_words.specs.declared.at.At.{At}
-use Rattle.seize_words.specs.declared.at.At.TheVariants.{Root}
-use Rattle.seize_words.specs.Mem.{Mem, value_at}
-use Rattle.seize_words.specs.Word.{block_in}
-use Rattle.seize.specs.World.{World}
+use Rattle.papaya_executor.specs.Given.SeizeWords.declared.at.At.{At}
+use Rattle.papaya_executor.specs.Given.SeizeWords.declared.at.At.TheVariants.{Root}
+use Rattle.papaya_executor.specs.Given.SeizeWords.Mem.{Mem, value_at}
+use Rattle.papaya_executor.specs.Given.SeizeWords.Word.{block_in}
+use Rattle.papaya_executor.specs.Given.Seize.World.{World}
 use Rattle.papaya_runs.specs.declared.outcome.TableShape.{TableShape}
-use Rattle.papaya_tables.specs.Chunks.{is_incremental}
-use Rattle.papaya_tables.specs.declared.marks.TheConstants.{TOMBSTONE}
-use Rattle.papaya_tables.specs.declared.node.Node.{Node}
-use Rattle.papaya_tables.specs.declared.setting.Setting.{Setting}
-use Rattle.papaya_tables.specs.declared.table_words.TheConstants.{PLACES}
+use Rattle.papaya_executor.specs.Given.Tables.Chunks.{is_incremental}
+use Rattle.papaya_executor.specs.Given.Tables.declared.marks.TheConstants.{TOMBSTONE}
+use Rattle.papaya_executor.specs.Given.Tables.declared.node.Node.{Node}
+use Rattle.papaya_executor.specs.Given.Tables.declared.setting.Setting.{Setting}
+use Rattle.papaya_executor.specs.Given.Tables.declared.table_words.TheConstants.{PLACES}
 use Rattle.papaya_schedules.specs.declared.effect.Effect.{Effect}
 use Rattle.papaya_schedules.specs.declared.effect.Effect.TheVariants.{Copied, Stored, Replaced, Removed, Linked, Promoted}
 use Rattle.papaya_schedules.specs.declared.effect.Spot.{Spot}
 use Rattle.papaya_schedules.specs.Entry.{acting}
 use Rattle.papaya_schedules.specs.Effects.{with_effect, AtEachEffect}
 use Rattle.papaya_schedules.specs.Moment.{Moment}
-use Rattle.papaya_teller.specs.declared.changed.Changed.{Changed}
-use Rattle.papaya_teller.specs.declared.changed.Changed.TheVariants as changed
-use Rattle.papaya_tells.specs.Seen.{Seen, Wrote}
-use Rattle.papaya_tells.specs.Tells.{place_at, last_link, KeepsNames, IsQuiet, new_word, IsSeenAs, IsTold}
-use Rattle.papaya_rule.specs.Chart.{Phase, Still, Copying, Empty, Holds, Chart}
-use Rattle.papaya_rule.specs.Moves.{Move, Links, Stores, Replaces, Removes, Marks, MarksBlocking, Skips, Unmarks, Puts, Covers, PutsLate, Claims, Reclaims, Counts, GivesUp, Aborts, Promotes, Announces, Allowed, after, without}
-use Rattle.papaya_rule.specs.Words.{Blocks, byte_of, place_word}
-use Rattle.papaya_rule.specs.Maps.{spot_of}
-use Rattle.papaya_rule.specs.InWorld.{IsMapIn, Moved, Went}
-use Rattle.papaya_rule.proofs.Moves.Writes.{put_in_here}
-use Rattle.papaya_rule.proofs.Laws.{words_name_pairs, bytes_are_few}
-use Rattle.papaya_rule.proofs.Words.TablesSeen.{block_of_link}
-use Rattle.papaya_points.specs.Steps.{AreLawful}
-use Rattle.papaya_callers.specs.Sights.{Sight, seen_by, IsGrown, IsSight}
-use Rattle.papaya_callers.specs.Together.{in_slot}
-use Rattle.papaya_finishes.specs.Maps.{Standing}
+use Rattle.papaya_executor.specs.Given.Teller.declared.changed.Changed.{Changed}
+use Rattle.papaya_executor.specs.Given.Teller.declared.changed.Changed.TheVariants as changed
+use Rattle.papaya_executor.specs.Given.Tells.Seen.{Seen, Wrote}
+use Rattle.papaya_executor.specs.Given.Tells.Tells.{place_at, last_link, KeepsNames, IsQuiet, new_word, IsSeenAs, IsTold}
+use Rattle.papaya_executor.specs.Given.Rule.Chart.{Phase, Still, Copying, Empty, Holds, Chart}
+use Rattle.papaya_executor.specs.Given.Rule.Moves.{Move, Links, Stores, Replaces, Removes, Marks, MarksBlocking, Skips, Unmarks, Puts, Covers, PutsLate, Claims, Reclaims, Counts, GivesUp, Aborts, Promotes, Announces, Allowed, after, without}
+use Rattle.papaya_executor.specs.Given.Rule.Words.{Blocks, byte_of, place_word}
+use Rattle.papaya_executor.specs.Given.Rule.Maps.{spot_of}
+use Rattle.papaya_executor.specs.Given.Rule.InWorld.{IsMapIn, Moved, Went}
+use Rattle.papaya_executor.proofs.Given.Rule.Moves.Writes.{put_in_here}
+use Rattle.papaya_executor.proofs.Given.Rule.Laws.{words_name_pairs, bytes_are_few}
+use Rattle.papaya_executor.proofs.Given.Rule.Words.TablesSeen.{block_of_link}
+use Rattle.papaya_executor.specs.Given.Points.Steps.{AreLawful}
+use Rattle.papaya_executor.specs.Given.Callers.Sights.{Sight, seen_by, IsGrown, IsSight}
+use Rattle.papaya_executor.specs.Given.Callers.Together.{in_slot}
+use Rattle.papaya_executor.specs.Given.Finishes.Maps.{Standing}
 use Rattle.papaya_effects.specs.Effects.{spot_at, effects_of, known_after}
 use Rattle.papaya_effects.specs.Known.{Known, with_pair, with_role}
 use Rattle.papaya_effects.specs.declared.acting.Acting.{Acting}

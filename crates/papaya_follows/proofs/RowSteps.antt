@@ -1,19 +1,19 @@
 -- A step of a row within a call: the moment after its effects shows the scene after it, where it takes no block away and hands over what has left its map.
 use Rattle.std.specs.Prelude.{◌&&◌, ◌≡◌, ℕ, nat_lt, Bool, true, false, List, [], ◌∷◌, Option, Some, None, length, ◌⊎◌, if◌then◌else◌}
 use Rattle.std.proofs.Common.{refl, ap, sym, subst, ◌∙◌, inl, inr}
-use Rattle.seize_words.specs.Mem.{Mem, value_at}
-use Rattle.seize.specs.World.{World}
-use Rattle.papaya_tables.specs.declared.node.Node.{Node}
-use Rattle.papaya_raw.specs.declared.machines.progress.Progress.{Progress}
+use Rattle.papaya_executor.specs.Given.SeizeWords.Mem.{Mem, value_at}
+use Rattle.papaya_executor.specs.Given.Seize.World.{World}
+use Rattle.papaya_executor.specs.Given.Tables.declared.node.Node.{Node}
+use Rattle.papaya_executor.specs.Given.Raw.declared.machines.progress.Progress.{Progress}
 use Rattle.papaya_schedules.specs.declared.effect.Effect.{Effect}
 use Rattle.papaya_schedules.specs.declared.effect.Effect.TheVariants.{Asked}
 use Rattle.papaya_schedules.specs.declared.effect.Growth.TheVariants.{ABlock, ABucket}
 use Rattle.papaya_schedules.specs.Effects.{with_effects}
 use Rattle.papaya_schedules.specs.Moment.{Moment}
-use Rattle.papaya_teller.specs.declared.changed.Changed.{Changed}
-use Rattle.papaya_teller.specs.declared.changed.Changed.TheVariants as changed
-use Rattle.papaya_callers.specs.Together.{UnderWay, OnKey, ForRoom, Counting, OverAll, IsOneStep, Together}
-use Rattle.papaya_finishes.specs.Maps.{Standing, IsSameMap}
+use Rattle.papaya_executor.specs.Given.Teller.declared.changed.Changed.{Changed}
+use Rattle.papaya_executor.specs.Given.Teller.declared.changed.Changed.TheVariants as changed
+use Rattle.papaya_executor.specs.Given.Callers.Together.{UnderWay, OnKey, ForRoom, Counting, OverAll, IsOneStep, Together}
+use Rattle.papaya_executor.specs.Given.Finishes.Maps.{Standing, IsSameMap}
 use Rattle.papaya_effects.specs.Effects.{effects_of, known_after}
 use Rattle.papaya_effects.specs.Known.{Known}
 use Rattle.papaya_effects.specs.declared.acting.Acting.{Acting}

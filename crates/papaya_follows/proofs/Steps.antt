@@ -2,43 +2,43 @@
 use Rattle.std.specs.Prelude.{◌≡◌, ◌≢◌, ℕ, ◌<◌, Bool, List, Option, Some, None, length, ◌⊎◌}
 use Rattle.std.proofs.Common.{refl, ap, sym, subst, ◌∙◌, arith, inl, inr}
 use Rattle.std.proofs.lemmas.Bool.{cases_eq}
-use Rattle.seize_words.specs.declared.at.At.{At}
-use Rattle.seize_words.specs.declared.at.At.TheVariants.{Root, Used, Slot, Entry, Word}
-use Rattle.seize_words.specs.Mem.{Mem, value_at, word_at}
-use Rattle.seize_words.specs.Word.{block_in}
-use Rattle.seize.specs.World.{World, IsInside, with_at}
-use Rattle.papaya_tables.specs.Chunks.{is_incremental}
-use Rattle.papaya_tables.specs.declared.node.Node.{Node}
-use Rattle.papaya_tables.specs.declared.setting.Setting.{Setting}
-use Rattle.papaya_raw.specs.Machine.{machine_plan}
-use Rattle.papaya_raw.specs.declared.machines.machine.Machine.{Machine}
-use Rattle.papaya_raw.specs.declared.machines.progress.Progress.{Progress}
+use Rattle.papaya_executor.specs.Given.SeizeWords.declared.at.At.{At}
+use Rattle.papaya_executor.specs.Given.SeizeWords.declared.at.At.TheVariants.{Root, Used, Slot, Entry, Word}
+use Rattle.papaya_executor.specs.Given.SeizeWords.Mem.{Mem, value_at, word_at}
+use Rattle.papaya_executor.specs.Given.SeizeWords.Word.{block_in}
+use Rattle.papaya_executor.specs.Given.Seize.World.{World, IsInside, with_at}
+use Rattle.papaya_executor.specs.Given.Tables.Chunks.{is_incremental}
+use Rattle.papaya_executor.specs.Given.Tables.declared.node.Node.{Node}
+use Rattle.papaya_executor.specs.Given.Tables.declared.setting.Setting.{Setting}
+use Rattle.papaya_executor.specs.Given.Raw.Machine.{machine_plan}
+use Rattle.papaya_executor.specs.Given.Raw.declared.machines.machine.Machine.{Machine}
+use Rattle.papaya_executor.specs.Given.Raw.declared.machines.progress.Progress.{Progress}
 use Rattle.papaya_schedules.specs.declared.effect.Effect.{Effect}
 use Rattle.papaya_schedules.specs.declared.effect.Table.{Table}
 use Rattle.papaya_schedules.specs.Effects.{AtEachEffect, with_effects}
 use Rattle.papaya_schedules.specs.Moment.{Moment}
 use Rattle.papaya_schedules.specs.Views.{map_at}
-use Rattle.papaya_teller.specs.declared.changed.Changed.{Changed}
-use Rattle.papaya_teller.specs.declared.changed.Changed.TheVariants as changed
-use Rattle.papaya_tells.specs.Seen.{Seen, Unseen, Wrote, seen_of}
-use Rattle.papaya_tells.specs.Tells.{KeepsNames, IsTold}
-use Rattle.papaya_tells.proofs.Promised.{operations_tell, still_steps_tell}
-use Rattle.papaya_rule.specs.Chart.{Chart}
-use Rattle.papaya_rule.specs.Lasts.{Lasts}
-use Rattle.papaya_rule.specs.Maps.{spot_of}
-use Rattle.papaya_rule.specs.Words.{Blocks}
-use Rattle.papaya_rule.specs.InWorld.{IsIts, IsMapIn, Went}
-use Rattle.papaya_rule.proofs.World.BesideKept.{steps_spare_others}
-use Rattle.papaya_rule.proofs.World.WentTold.{went_as}
-use Rattle.papaya_points.specs.Steps.{AreLawful}
-use Rattle.papaya_points.proofs.MovedLasts.{moved_lasts}
-use Rattle.papaya_callers.specs.Sights.{Sight, seen_by, IsGrown, IsSight}
-use Rattle.papaya_callers.specs.Together.{UnderWay, OnKey, ForRoom, Counting, OverAll, in_slot, Together}
-use Rattle.papaya_callers.proofs.Sights.Seen.{map_seen}
-use Rattle.papaya_callers.proofs.Together.At.{at_other, at_same}
-use Rattle.papaya_callers.proofs.Together.Fits.{map_in_slot}
-use Rattle.papaya_finishes.specs.Machines.{machine_of, MachineStepsAmong}
-use Rattle.papaya_finishes.specs.Maps.{Standing, IsSameMap, with_call}
+use Rattle.papaya_executor.specs.Given.Teller.declared.changed.Changed.{Changed}
+use Rattle.papaya_executor.specs.Given.Teller.declared.changed.Changed.TheVariants as changed
+use Rattle.papaya_executor.specs.Given.Tells.Seen.{Seen, Unseen, Wrote, seen_of}
+use Rattle.papaya_executor.specs.Given.Tells.Tells.{KeepsNames, IsTold}
+use Rattle.papaya_executor.proofs.Given.Tells.Promised.{operations_tell, still_steps_tell}
+use Rattle.papaya_executor.specs.Given.Rule.Chart.{Chart}
+use Rattle.papaya_executor.specs.Given.Rule.Lasts.{Lasts}
+use Rattle.papaya_executor.specs.Given.Rule.Maps.{spot_of}
+use Rattle.papaya_executor.specs.Given.Rule.Words.{Blocks}
+use Rattle.papaya_executor.specs.Given.Rule.InWorld.{IsIts, IsMapIn, Went}
+use Rattle.papaya_executor.proofs.Given.Rule.World.BesideKept.{steps_spare_others}
+use Rattle.papaya_executor.proofs.Given.Rule.World.WentTold.{went_as}
+use Rattle.papaya_executor.specs.Given.Points.Steps.{AreLawful}
+use Rattle.papaya_executor.proofs.Given.Points.MovedLasts.{moved_lasts}
+use Rattle.papaya_executor.specs.Given.Callers.Sights.{Sight, seen_by, IsGrown, IsSight}
+use Rattle.papaya_executor.specs.Given.Callers.Together.{UnderWay, OnKey, ForRoom, Counting, OverAll, in_slot, Together}
+use Rattle.papaya_executor.proofs.Given.Callers.Sights.Seen.{map_seen}
+use Rattle.papaya_executor.proofs.Given.Callers.Together.At.{at_other, at_same}
+use Rattle.papaya_executor.proofs.Given.Callers.Together.Fits.{map_in_slot}
+use Rattle.papaya_executor.specs.Given.Finishes.Machines.{machine_of, MachineStepsAmong}
+use Rattle.papaya_executor.specs.Given.Finishes.Maps.{Standing, IsSameMap, with_call}
 use Rattle.papaya_effects.specs.Effects.{effects_of, known_after}
 use Rattle.papaya_effects.specs.Known.{Known}
 use Rattle.papaya_effects.specs.declared.acting.Acting.{Acting}

@@ -1,10 +1,10 @@
 -- What the blocks of the executor's memory are at a moment of a run, by what is noted of them.
 use Rattle.std.specs.Prelude.{◌≡◌, ◌≢◌, ℕ, List, length, Some, None}
-use Rattle.seize_words.specs.Mem.{value_at}
-use Rattle.seize.specs.World.{World, Hand, NoBlock, Making}
-use Rattle.papaya_tables.specs.Nodes.{deferred_word}
-use Rattle.papaya_tables.specs.declared.node.Node.{Node}
-use Rattle.papaya_tables.specs.declared.node.Node.TheVariants as node
+use Rattle.papaya_executor.specs.Given.SeizeWords.Mem.{value_at}
+use Rattle.papaya_executor.specs.Given.Seize.World.{World, Hand, NoBlock, Making}
+use Rattle.papaya_executor.specs.Given.Tables.Nodes.{deferred_word}
+use Rattle.papaya_executor.specs.Given.Tables.declared.node.Node.{Node}
+use Rattle.papaya_executor.specs.Given.Tables.declared.node.Node.TheVariants as node
 use Rattle.papaya_runs.specs.Log.{pair_at}
 use Rattle.papaya_schedules.specs.Moment.{Moment}
 use Rattle.papaya_effects.specs.Known.{Known}

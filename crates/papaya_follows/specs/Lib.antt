@@ -6,3 +6,4 @@ pub mod Calling
 pub mod Finds
 pub mod Steps
 pub mod Beginning
+pub mod Given

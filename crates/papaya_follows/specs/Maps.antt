@@ -4,8 +4,8 @@ use Rattle.papaya_runs.specs.declared.outcome.TableShape.{TableShape}
 use Rattle.papaya_schedules.specs.declared.effect.Table.{Table}
 use Rattle.papaya_schedules.specs.Moment.{InMap, MapThere, Stage, IsLinked, TableThere, Moment}
 use Rattle.papaya_schedules.specs.Views.{is_in_map, map_at, tables_of}
-use Rattle.papaya_rule.specs.Chart.{Chart}
-use Rattle.papaya_finishes.specs.Maps.{Standing}
+use Rattle.papaya_executor.specs.Given.Rule.Chart.{Chart}
+use Rattle.papaya_executor.specs.Given.Finishes.Maps.{Standing}
 use Rattle.papaya_effects.specs.Known.{Known}
 use Rattle.papaya_effects.specs.declared.role.Role.TheVariants as role
 

@@ -2,41 +2,41 @@
 use Rattle.std.specs.Prelude.{◌≡◌, ◌≢◌, ℕ, ◌<◌, ◌≤◌, Bool, List, [], ◌∷◌, Option, Some, None, ◌⊎◌}
 use Rattle.std.proofs.Common.{refl, ap, sym, subst, ◌∙◌, arith, inl, inr}
 use Rattle.std.proofs.lemmas.Bool.{cases_eq}
-use Rattle.seize_words.specs.Plan.{plan_as}
-use Rattle.seize_words.specs.Word.{block_in}
-use Rattle.seize.specs.World.{World, with_at}
-use Rattle.papaya_tables.specs.declared.node.Node.{Node}
-use Rattle.papaya_raw.specs.Call.{plan_at}
-use Rattle.papaya_raw.specs.Machine.{called}
-use Rattle.papaya_raw.specs.declared.machines.asking.Asking.{Asking as AskingAt}
-use Rattle.papaya_raw.specs.declared.machines.asking.Asking.TheVariants as asking
-use Rattle.papaya_raw.specs.declared.machines.answer.Called.{Called}
-use Rattle.papaya_raw.specs.declared.machines.call.KeyCall.{KeyCall}
-use Rattle.papaya_raw.specs.declared.machines.call.Calling.{Calling}
-use Rattle.papaya_raw.specs.declared.machines.call.Calling.TheVariants as at
-use Rattle.papaya_raw.specs.declared.machines.machine.Machine.{Machine}
-use Rattle.papaya_raw.specs.declared.machines.machine.Machine.TheVariants as kinds
-use Rattle.papaya_raw.specs.declared.machines.progress.Progress.{Progress}
-use Rattle.papaya_schedules.specs.declared.call.Call.{Call}
-use Rattle.papaya_schedules.specs.declared.call.Call.TheVariants as call
-use Rattle.papaya_schedules.specs.declared.call.OneKey.{OneKey}
-use Rattle.papaya_schedules.specs.declared.call.Reply.{Reply}
-use Rattle.papaya_schedules.specs.Moment.{UnderWay as CallThere}
-use Rattle.papaya_teller.specs.Tells.{StepsTold}
-use Rattle.papaya_teller.specs.declared.changed.Changed.TheVariants.{Nothing}
-use Rattle.papaya_points.specs.FactsCalls.{Change}
-use Rattle.papaya_callers.specs.Asked.{Asked}
-use Rattle.papaya_callers.specs.OverAll.{come_to, gone_on}
-use Rattle.papaya_callers.specs.Together.{CallOnKey, UnderWay, OnKey, ForRoom, Counting, OverAll, next_of, change_told}
-use Rattle.papaya_callers.proofs.Together.At.{at_other, at_same}
-use Rattle.papaya_effects.specs.Known.{Known}
-use Rattle.papaya_executor.specs.IsAt.{slot_of}
-use Rattle.papaya_executor.specs.Stepping.{StepsFrom}
-use Rattle.papaya_executor.specs.declared.executor.Executor.{Executor}
-use Rattle.papaya_finishes.specs.Endings.{Finishing}
-use Rattle.papaya_finishes.specs.Machines.{machine_of}
-use Rattle.papaya_finishes.specs.Makings.{Beginning}
-use Rattle.papaya_finishes.specs.Maps.{Standing, with_call}
+use Rattle.papaya_follows.specs.Given.SeizeWords.Plan.{plan_as}
+use Rattle.papaya_follows.specs.Given.SeizeWords.Word.{block_in}
+use Rattle.papaya_follows.specs.Given.Seize.World.{World, with_at}
+use Rattle.papaya_follows.specs.Given.Tables.declared.node.Node.{Node}
+use Rattle.papaya_follows.specs.Given.Raw.Call.{plan_at}
+use Rattle.papaya_follows.specs.Given.Raw.Machine.{called}
+use Rattle.papaya_follows.specs.Given.Raw.declared.machines.asking.Asking.{Asking as AskingAt}
+use Rattle.papaya_follows.specs.Given.Raw.declared.machines.asking.Asking.TheVariants as asking
+use Rattle.papaya_follows.specs.Given.Raw.declared.machines.answer.Called.{Called}
+use Rattle.papaya_follows.specs.Given.Raw.declared.machines.call.KeyCall.{KeyCall}
+use Rattle.papaya_follows.specs.Given.Raw.declared.machines.call.Calling.{Calling}
+use Rattle.papaya_follows.specs.Given.Raw.declared.machines.call.Calling.TheVariants as at
+use Rattle.papaya_follows.specs.Given.Raw.declared.machines.machine.Machine.{Machine}
+use Rattle.papaya_follows.specs.Given.Raw.declared.machines.machine.Machine.TheVariants as kinds
+use Rattle.papaya_follows.specs.Given.Raw.declared.machines.progress.Progress.{Progress}
+use Rattle.papaya_follows.specs.Given.Schedules.declared.call.Call.{Call}
+use Rattle.papaya_follows.specs.Given.Schedules.declared.call.Call.TheVariants as call
+use Rattle.papaya_follows.specs.Given.Schedules.declared.call.OneKey.{OneKey}
+use Rattle.papaya_follows.specs.Given.Schedules.declared.call.Reply.{Reply}
+use Rattle.papaya_follows.specs.Given.Schedules.Moment.{UnderWay as CallThere}
+use Rattle.papaya_follows.specs.Given.Teller.Tells.{StepsTold}
+use Rattle.papaya_follows.specs.Given.Teller.declared.changed.Changed.TheVariants.{Nothing}
+use Rattle.papaya_follows.specs.Given.Points.FactsCalls.{Change}
+use Rattle.papaya_follows.specs.Given.Callers.Asked.{Asked}
+use Rattle.papaya_follows.specs.Given.Callers.OverAll.{come_to, gone_on}
+use Rattle.papaya_follows.specs.Given.Callers.Together.{CallOnKey, UnderWay, OnKey, ForRoom, Counting, OverAll, next_of, change_told}
+use Rattle.papaya_follows.proofs.Given.Callers.Together.At.{at_other, at_same}
+use Rattle.papaya_follows.specs.Given.Effects.Known.{Known}
+use Rattle.papaya_follows.specs.Given.Executor.IsAt.{slot_of}
+use Rattle.papaya_follows.specs.Given.Executor.Stepping.{StepsFrom}
+use Rattle.papaya_follows.specs.Given.Executor.declared.executor.Executor.{Executor}
+use Rattle.papaya_follows.specs.Given.Finishes.Endings.{Finishing}
+use Rattle.papaya_follows.specs.Given.Finishes.Machines.{machine_of}
+use Rattle.papaya_follows.specs.Given.Finishes.Makings.{Beginning}
+use Rattle.papaya_follows.specs.Given.Finishes.Maps.{Standing, with_call}
 use Rattle.papaya_follows.specs.Steps.{Did}
 use Rattle.papaya_follows.proofs.Called.{key_goes_on, room_goes_on, counting_goes_on, sweep_goes_on}
 use Rattle.papaya_follows.proofs.Onward.{IsLasting, KeepsRoles}

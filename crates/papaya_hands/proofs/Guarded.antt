@@ -2,34 +2,34 @@
 use Rattle.std.specs.Prelude.{◌≡◌, ℕ, ◌+◌, ◌<◌, Bool, true, false, cond, eqb, List, [], ◌∷◌, ◌++◌, Option, Some, is_some}
 use Rattle.std.proofs.Common.{refl, ap, sym, subst, ◌∙◌, arith, eqb-true}
 use Rattle.std.proofs.lemmas.Bool.{eq-eqb}
-use Rattle.seize_words.specs.declared.at.At.TheVariants.{Entry}
-use Rattle.seize_words.specs.Mem.{value_at, word_at}
-use Rattle.seize.specs.declared.states.TheConstants.{FIRST, LAST_SLOT}
-use Rattle.seize.specs.Law.{Effect, Entered, Left, Retired, Taken, Deferred, holds, is_retired}
-use Rattle.seize.specs.Sequence.{IsBetween, taken_in}
-use Rattle.seize.specs.World.{World, Event, Begin, Step, Makes, Drops, Links, Parts, Unlinks, Rewrites, Operates, Ends, LeavesOver, Relinks, Clears, Chooses, Happens, Runs, Steps', IsInside, times, Request, Register', Enter', Leave', LeaveOwned, Refresh, Unregister', Retire, Flush, Defer', Begins}
-use Rattle.seize_waiting.specs.Held.{count}
-use Rattle.seize_moves.proofs.State.Ghost.{Debt, Stage, Unused, Open, Closing, Closed, Dead, Life, IsIn, IsDoomed, State, is_in, is_given}
-use Rattle.seize_moves.proofs.State.Held.{held_on}
-use Rattle.seize_moves.proofs.State.Moves.{left_over}
-use Rattle.seize_moves.proofs.State.Rule.{Inv, IsGuarded, IsLive, SameUnlessDead}
-use Rattle.seize_moves.proofs.Sets.Shown.{Alike, is_shut}
-use Rattle.seize_rule.proofs.Rows.Effects.{IsOneStep}
-use Rattle.seize_rule.proofs.Words.Chains.{first_or}
-use Rattle.seize_rule.proofs.Words.Named.{words_of, word_found, or_zero}
-use Rattle.seize_rule.proofs.Words.Shows.{FirstIs, lives}
-use Rattle.seize_rule.proofs.Rows.Sizes.{AllSized}
-use Rattle.seize_rule.proofs.Rows.SizesKept.{happens_sized}
-use Rattle.seize_rule.proofs.World.Events.{leaves_over_good}
-use Rattle.seize_rule.proofs.World.Good.{Good}
-use Rattle.seize_rule.proofs.World.Kept.{IsStill, users_good}
-use Rattle.seize_alone.proofs.Histories.NotTaken.{IsHeld, did, not_taken, still_held}
-use Rattle.seize_alone.proofs.Histories.Reached.{Reached}
-use Rattle.seize_alone.proofs.Histories.UsersTurn.{users_between}
-use Rattle.papaya_tables.specs.Nodes.{deferred_word}
-use Rattle.papaya_tables.specs.declared.node.Node.{Node}
-use Rattle.papaya_rule.specs.InWorld.{AllUsers}
-use Rattle.papaya_callers.proofs.Rows.Users.{events_hold}
+use Rattle.papaya_follows.specs.Given.SeizeWords.declared.at.At.TheVariants.{Entry}
+use Rattle.papaya_follows.specs.Given.SeizeWords.Mem.{value_at, word_at}
+use Rattle.papaya_follows.specs.Given.Seize.declared.states.TheConstants.{FIRST, LAST_SLOT}
+use Rattle.papaya_follows.specs.Given.Seize.Law.{Effect, Entered, Left, Retired, Taken, Deferred, holds, is_retired}
+use Rattle.papaya_follows.specs.Given.Seize.Sequence.{IsBetween, taken_in}
+use Rattle.papaya_follows.specs.Given.Seize.World.{World, Event, Begin, Step, Makes, Drops, Links, Parts, Unlinks, Rewrites, Operates, Ends, LeavesOver, Relinks, Clears, Chooses, Happens, Runs, Steps', IsInside, times, Request, Register', Enter', Leave', LeaveOwned, Refresh, Unregister', Retire, Flush, Defer', Begins}
+use Rattle.papaya_follows.specs.Given.SeizeWaiting.Held.{count}
+use Rattle.papaya_follows.proofs.Given.SeizeMoves.State.Ghost.{Debt, Stage, Unused, Open, Closing, Closed, Dead, Life, IsIn, IsDoomed, State, is_in, is_given}
+use Rattle.papaya_follows.proofs.Given.SeizeMoves.State.Held.{held_on}
+use Rattle.papaya_follows.proofs.Given.SeizeMoves.State.Moves.{left_over}
+use Rattle.papaya_follows.proofs.Given.SeizeMoves.State.Rule.{Inv, IsGuarded, IsLive, SameUnlessDead}
+use Rattle.papaya_follows.proofs.Given.SeizeMoves.Sets.Shown.{Alike, is_shut}
+use Rattle.papaya_follows.proofs.Given.SeizeRule.Rows.Effects.{IsOneStep}
+use Rattle.papaya_follows.proofs.Given.SeizeRule.Words.Chains.{first_or}
+use Rattle.papaya_follows.proofs.Given.SeizeRule.Words.Named.{words_of, word_found, or_zero}
+use Rattle.papaya_follows.proofs.Given.SeizeRule.Words.Shows.{FirstIs, lives}
+use Rattle.papaya_follows.proofs.Given.SeizeRule.Rows.Sizes.{AllSized}
+use Rattle.papaya_follows.proofs.Given.SeizeRule.Rows.SizesKept.{happens_sized}
+use Rattle.papaya_follows.proofs.Given.SeizeRule.World.Events.{leaves_over_good}
+use Rattle.papaya_follows.proofs.Given.SeizeRule.World.Good.{Good}
+use Rattle.papaya_follows.proofs.Given.SeizeRule.World.Kept.{IsStill, users_good}
+use Rattle.papaya_follows.proofs.Given.SeizeAlone.Histories.NotTaken.{IsHeld, did, not_taken, still_held}
+use Rattle.papaya_follows.proofs.Given.SeizeAlone.Histories.Reached.{Reached}
+use Rattle.papaya_follows.proofs.Given.SeizeAlone.Histories.UsersTurn.{users_between}
+use Rattle.papaya_follows.specs.Given.Tables.Nodes.{deferred_word}
+use Rattle.papaya_follows.specs.Given.Tables.declared.node.Node.{Node}
+use Rattle.papaya_follows.specs.Given.Rule.InWorld.{AllUsers}
+use Rattle.papaya_follows.proofs.Given.Callers.Rows.Users.{events_hold}
 use Rattle.papaya_hands.specs.Rows.{HoldsOne}
 use Rattle.papaya_hands.proofs.Firsts.{row_keeps_first}
 

@@ -2,46 +2,46 @@
 use Rattle.std.specs.Prelude.{◌&&◌, ◌≡◌, ℕ, zero, suc, ◌<◌, ◌==◌, ◌/◌, nat_lt, Bool, true, false, List, [], ◌∷◌, Some, None, if◌then◌else◌, ◌⊎◌}
 use Rattle.std.proofs.Common.{refl, ap, sym, subst, ◌∙◌, arith, inl, inr}
 use Rattle.std.proofs.lemmas.Bool.{eq-eqb, cases_lt}
-use Rattle.seize_words.specs.declared.at.At.{At}
-use Rattle.seize_words.specs.declared.at.At.TheVariants.{Root, Used, Slot, Entry, Word}
-use Rattle.seize_words.specs.Mem.{Mem, value_at, word_at}
-use Rattle.seize_words.specs.Word.{block_in}
-use Rattle.seize.specs.declared.states.TheConstants.{FIRST}
-use Rattle.seize.specs.World.{World, Hand, NoBlock, Making, InUse, Parting, Cutting, Handed, LeftTo, Request, Register', Enter', Leave', LeaveOwned, Refresh, Unregister', Retire, Flush, Defer', Begin, Steps', Happens, times}
-use Rattle.seize.specs.Sequence.{taken_in}
-use Rattle.seize_alone.proofs.Histories.NotTaken.{did, taken_gone}
-use Rattle.seize_alone.proofs.Histories.Reached.{Reached}
-use Rattle.seize_alone.proofs.Spared.Rows.{RowStepped}
-use Rattle.seize_rule.proofs.Rows.Effects.{hand_kept}
-use Rattle.seize_moves.proofs.State.Ghost.{Life}
-use Rattle.seize_rule.proofs.Points.Aside.{is_handed, HandFits}
-use Rattle.papaya_rule.proofs.World.Hands.{at_cases}
-use Rattle.papaya_rule.specs.InWorld.{IsHeldBy}
-use Rattle.papaya_tables.specs.Nodes.{deferred_word}
-use Rattle.papaya_tables.specs.declared.node.Node.{Node}
-use Rattle.papaya_tables.specs.declared.setting.Setting.{Setting}
-use Rattle.papaya_tables.specs.declared.table_words.TheConstants.{NEXT, DEFERRED}
-use Rattle.papaya_schedules.specs.declared.effect.Effect.{Effect}
-use Rattle.papaya_schedules.specs.declared.effect.Effect.TheVariants as effect
-use Rattle.papaya_schedules.specs.declared.effect.Growth.TheVariants.{ABlock, ABucket}
-use Rattle.papaya_schedules.specs.declared.effect.Spot.{Spot}
-use Rattle.papaya_schedules.specs.declared.effect.Table.{Table}
-use Rattle.papaya_schedules.specs.declared.effect.Thing.TheVariants.{APair, ATable}
-use Rattle.papaya_schedules.specs.Moment.{MapThere, Moment}
-use Rattle.papaya_schedules.specs.Views.{is_in_a_map, map_at}
-use Rattle.papaya_teller.specs.declared.changed.Changed.{Changed}
-use Rattle.papaya_teller.specs.declared.changed.Changed.TheVariants as changed
-use Rattle.papaya_teller.specs.declared.changed.Kind.{Kind}
-use Rattle.papaya_teller.specs.declared.changed.Kind.TheVariants as kind
-use Rattle.papaya_callers.specs.Together.{CameAbout, HandsOver, IsOneStep}
-use Rattle.papaya_callers.proofs.Together.Came.{came_reached, came_next}
-use Rattle.papaya_effects.specs.Effects.{made_by, taken_by, names_same, followed_by, led_to, carried, placed, spot_at, is_place, in_table, in_block, batched, named, written_by, effects_of}
-use Rattle.papaya_effects.specs.Known.{Known}
-use Rattle.papaya_effects.specs.declared.acting.Acting.{Acting}
-use Rattle.papaya_effects.specs.declared.acting.Acting.TheVariants as acts
-use Rattle.papaya_effects.specs.declared.role.Role.{Role}
-use Rattle.papaya_effects.specs.declared.role.Role.TheVariants as role
-use Rattle.papaya_executor.specs.IsAt.{Scene}
+use Rattle.papaya_follows.specs.Given.SeizeWords.declared.at.At.{At}
+use Rattle.papaya_follows.specs.Given.SeizeWords.declared.at.At.TheVariants.{Root, Used, Slot, Entry, Word}
+use Rattle.papaya_follows.specs.Given.SeizeWords.Mem.{Mem, value_at, word_at}
+use Rattle.papaya_follows.specs.Given.SeizeWords.Word.{block_in}
+use Rattle.papaya_follows.specs.Given.Seize.declared.states.TheConstants.{FIRST}
+use Rattle.papaya_follows.specs.Given.Seize.World.{World, Hand, NoBlock, Making, InUse, Parting, Cutting, Handed, LeftTo, Request, Register', Enter', Leave', LeaveOwned, Refresh, Unregister', Retire, Flush, Defer', Begin, Steps', Happens, times}
+use Rattle.papaya_follows.specs.Given.Seize.Sequence.{taken_in}
+use Rattle.papaya_follows.proofs.Given.SeizeAlone.Histories.NotTaken.{did, taken_gone}
+use Rattle.papaya_follows.proofs.Given.SeizeAlone.Histories.Reached.{Reached}
+use Rattle.papaya_follows.proofs.Given.SeizeAlone.Spared.Rows.{RowStepped}
+use Rattle.papaya_follows.proofs.Given.SeizeRule.Rows.Effects.{hand_kept}
+use Rattle.papaya_follows.proofs.Given.SeizeMoves.State.Ghost.{Life}
+use Rattle.papaya_follows.proofs.Given.SeizeRule.Points.Aside.{is_handed, HandFits}
+use Rattle.papaya_follows.proofs.Given.Rule.World.Hands.{at_cases}
+use Rattle.papaya_follows.specs.Given.Rule.InWorld.{IsHeldBy}
+use Rattle.papaya_follows.specs.Given.Tables.Nodes.{deferred_word}
+use Rattle.papaya_follows.specs.Given.Tables.declared.node.Node.{Node}
+use Rattle.papaya_follows.specs.Given.Tables.declared.setting.Setting.{Setting}
+use Rattle.papaya_follows.specs.Given.Tables.declared.table_words.TheConstants.{NEXT, DEFERRED}
+use Rattle.papaya_follows.specs.Given.Schedules.declared.effect.Effect.{Effect}
+use Rattle.papaya_follows.specs.Given.Schedules.declared.effect.Effect.TheVariants as effect
+use Rattle.papaya_follows.specs.Given.Schedules.declared.effect.Growth.TheVariants.{ABlock, ABucket}
+use Rattle.papaya_follows.specs.Given.Schedules.declared.effect.Spot.{Spot}
+use Rattle.papaya_follows.specs.Given.Schedules.declared.effect.Table.{Table}
+use Rattle.papaya_follows.specs.Given.Schedules.declared.effect.Thing.TheVariants.{APair, ATable}
+use Rattle.papaya_follows.specs.Given.Schedules.Moment.{MapThere, Moment}
+use Rattle.papaya_follows.specs.Given.Schedules.Views.{is_in_a_map, map_at}
+use Rattle.papaya_follows.specs.Given.Teller.declared.changed.Changed.{Changed}
+use Rattle.papaya_follows.specs.Given.Teller.declared.changed.Changed.TheVariants as changed
+use Rattle.papaya_follows.specs.Given.Teller.declared.changed.Kind.{Kind}
+use Rattle.papaya_follows.specs.Given.Teller.declared.changed.Kind.TheVariants as kind
+use Rattle.papaya_follows.specs.Given.Callers.Together.{CameAbout, HandsOver, IsOneStep}
+use Rattle.papaya_follows.proofs.Given.Callers.Together.Came.{came_reached, came_next}
+use Rattle.papaya_follows.specs.Given.Effects.Effects.{made_by, taken_by, names_same, followed_by, led_to, carried, placed, spot_at, is_place, in_table, in_block, batched, named, written_by, effects_of}
+use Rattle.papaya_follows.specs.Given.Effects.Known.{Known}
+use Rattle.papaya_follows.specs.Given.Effects.declared.acting.Acting.{Acting}
+use Rattle.papaya_follows.specs.Given.Effects.declared.acting.Acting.TheVariants as acts
+use Rattle.papaya_follows.specs.Given.Effects.declared.role.Role.{Role}
+use Rattle.papaya_follows.specs.Given.Effects.declared.role.Role.TheVariants as role
+use Rattle.papaya_follows.specs.Given.Executor.IsAt.{Scene}
 use Rattle.papaya_follows.specs.Steps.{HandTheirs}
 use Rattle.papaya_follows.proofs.Operations.{LeavesBy}
 use Rattle.papaya_hands.specs.Hands.{IsInUse, ShowsHands}

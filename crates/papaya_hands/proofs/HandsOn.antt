@@ -2,18 +2,18 @@
 use Rattle.std.specs.Prelude.{◌≡◌, ℕ, ◌<◌, ◌≤◌, Bool, true, List, length, Option, Some, None}
 use Rattle.std.proofs.Common.{refl, ap, sym, subst, ◌∙◌, arith, inl, inr}
 use Rattle.std.proofs.lemmas.Bool.{eq-eqb}
-use Rattle.seize.specs.World.{Hand, InUse}
-use Rattle.papaya_schedules.specs.declared.effect.Table.{Table}
-use Rattle.papaya_schedules.specs.Moment.{Place, Unborn, InMap, Out, Handed, Behind, Left, GivenBack, MapThere, UnderWay as CallThere, Moment}
-use Rattle.papaya_schedules.specs.Views.{is_in_map, is_in_a_map, map_at}
-use Rattle.papaya_rule.specs.InWorld.{IsMapIn}
-use Rattle.papaya_rule.proofs.Laws.{current_is_known}
-use Rattle.papaya_callers.specs.Together.{UnderWay}
-use Rattle.papaya_effects.specs.Known.{Known}
-use Rattle.papaya_effects.specs.declared.role.Role.TheVariants as role
-use Rattle.papaya_executor.specs.IsAt.{Scene, IsAt}
-use Rattle.papaya_executor.specs.declared.executor.Executor.{Executor}
-use Rattle.papaya_finishes.specs.Maps.{Standing}
+use Rattle.papaya_follows.specs.Given.Seize.World.{Hand, InUse}
+use Rattle.papaya_follows.specs.Given.Schedules.declared.effect.Table.{Table}
+use Rattle.papaya_follows.specs.Given.Schedules.Moment.{Place, Unborn, InMap, Out, Handed, Behind, Left, GivenBack, MapThere, UnderWay as CallThere, Moment}
+use Rattle.papaya_follows.specs.Given.Schedules.Views.{is_in_map, is_in_a_map, map_at}
+use Rattle.papaya_follows.specs.Given.Rule.InWorld.{IsMapIn}
+use Rattle.papaya_follows.proofs.Given.Rule.Laws.{current_is_known}
+use Rattle.papaya_follows.specs.Given.Callers.Together.{UnderWay}
+use Rattle.papaya_follows.specs.Given.Effects.Known.{Known}
+use Rattle.papaya_follows.specs.Given.Effects.declared.role.Role.TheVariants as role
+use Rattle.papaya_follows.specs.Given.Executor.IsAt.{Scene, IsAt}
+use Rattle.papaya_follows.specs.Given.Executor.declared.executor.Executor.{Executor}
+use Rattle.papaya_follows.specs.Given.Finishes.Maps.{Standing}
 use Rattle.papaya_follows.specs.Shows.{Shows}
 use Rattle.papaya_follows.proofs.Going.{ComesToBe, ShowsOn}
 use Rattle.papaya_follows.proofs.Onward.{IsOfMap}

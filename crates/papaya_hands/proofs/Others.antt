@@ -1,26 +1,26 @@
 -- Whoever takes a step that is none of a call, the rows within calls are as they were, and keep a block of the batch that they close.
 use Rattle.std.specs.Prelude.{◌≡◌, ℕ, zero, suc, ◌<◌, Bool, Option, Some, None, is_some, option_map}
 use Rattle.std.proofs.Common.{refl, ap, sym, subst, ◌∙◌, arith, inl, inr}
-use Rattle.seize_words.specs.Mem.{value_at}
-use Rattle.seize.specs.Law.{Ended, holds}
-use Rattle.seize.specs.World.{World, Row, Runs, with_effect, times}
-use Rattle.seize_rule.proofs.Rows.Others.{begins_others, steps_others}
-use Rattle.seize_alone.proofs.Histories.Reached.{Reached}
-use Rattle.papaya_tables.specs.Nodes.{deferred_word}
-use Rattle.papaya_tables.specs.declared.node.Node.{Node}
-use Rattle.papaya_callers.specs.Together.{UnderWay}
-use Rattle.papaya_callers.proofs.Together.Came.{came_reached}
-use Rattle.papaya_callers.proofs.Together.Users.{events_rows}
-use Rattle.papaya_finishes.specs.FactsEnds.{Deed, Looks, TakesPair, LeavesTable, JoinsPair, TakesLeft, TakesCounter, WritesRoot, events_of, taken_by}
-use Rattle.papaya_finishes.specs.Machines.{machine_of}
-use Rattle.papaya_finishes.specs.Maps.{with_call}
-use Rattle.papaya_executor.specs.Ending.{ending_begun}
-use Rattle.papaya_executor.specs.IsAt.{Scene, IsAt, slot_of, work_of, call_in}
-use Rattle.papaya_executor.specs.Rows.{request_of}
-use Rattle.papaya_executor.specs.declared.executor.Executor.{Executor}
-use Rattle.papaya_executor.specs.declared.row.SlotRow.{SlotRow}
-use Rattle.papaya_executor.specs.declared.worker.Work.{Work}
-use Rattle.papaya_executor.specs.declared.worker.Work.TheVariants.{OnSlot}
+use Rattle.papaya_follows.specs.Given.SeizeWords.Mem.{value_at}
+use Rattle.papaya_follows.specs.Given.Seize.Law.{Ended, holds}
+use Rattle.papaya_follows.specs.Given.Seize.World.{World, Row, Runs, with_effect, times}
+use Rattle.papaya_follows.proofs.Given.SeizeRule.Rows.Others.{begins_others, steps_others}
+use Rattle.papaya_follows.proofs.Given.SeizeAlone.Histories.Reached.{Reached}
+use Rattle.papaya_follows.specs.Given.Tables.Nodes.{deferred_word}
+use Rattle.papaya_follows.specs.Given.Tables.declared.node.Node.{Node}
+use Rattle.papaya_follows.specs.Given.Callers.Together.{UnderWay}
+use Rattle.papaya_follows.proofs.Given.Callers.Together.Came.{came_reached}
+use Rattle.papaya_follows.proofs.Given.Callers.Together.Users.{events_rows}
+use Rattle.papaya_follows.specs.Given.Finishes.FactsEnds.{Deed, Looks, TakesPair, LeavesTable, JoinsPair, TakesLeft, TakesCounter, WritesRoot, events_of, taken_by}
+use Rattle.papaya_follows.specs.Given.Finishes.Machines.{machine_of}
+use Rattle.papaya_follows.specs.Given.Finishes.Maps.{with_call}
+use Rattle.papaya_follows.specs.Given.Executor.Ending.{ending_begun}
+use Rattle.papaya_follows.specs.Given.Executor.IsAt.{Scene, IsAt, slot_of, work_of, call_in}
+use Rattle.papaya_follows.specs.Given.Executor.Rows.{request_of}
+use Rattle.papaya_follows.specs.Given.Executor.declared.executor.Executor.{Executor}
+use Rattle.papaya_follows.specs.Given.Executor.declared.row.SlotRow.{SlotRow}
+use Rattle.papaya_follows.specs.Given.Executor.declared.worker.Work.{Work}
+use Rattle.papaya_follows.specs.Given.Executor.declared.worker.Work.TheVariants.{OnSlot}
 use Rattle.papaya_hands.specs.Others.{RowsBeginAside, RowsGoAside, MakingsGoAside, EndingsBeginAside, EndingsGoAside, CallsGoAside}
 use Rattle.papaya_hands.specs.Rows.{ReclaimsNone, HoldsOne, KeepsOne, ShowsRows}
 use Rattle.papaya_hands.proofs.Asking.{which}

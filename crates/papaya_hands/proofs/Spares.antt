@@ -1,34 +1,34 @@
 -- A step of a call that is none of a row leaves what is of other maps in the hands that had it; and rows within calls hand something over.
 use Rattle.std.specs.Prelude.{◌≡◌, ℕ, Bool, List, Option, Some, None}
 use Rattle.std.proofs.Common.{ap, sym, subst, ◌∙◌, inl, inr}
-use Rattle.seize_words.specs.Mem.{value_at}
-use Rattle.seize.specs.World.{World, Hand, Row, Making}
-use Rattle.papaya_tables.specs.declared.node.Node.{Node}
-use Rattle.papaya_resize.specs.declared.copier.Copying.{Copying}
-use Rattle.papaya_resize.specs.declared.copier.Copying.TheVariants as copies
-use Rattle.papaya_resize.specs.declared.dispose.Disposing.{Disposing}
-use Rattle.papaya_resize.specs.declared.dispose.Disposing.TheVariants as disposes
-use Rattle.papaya_reserves.specs.declared.reserve.Reserving.{Reserving}
-use Rattle.papaya_reserves.specs.declared.reserve.Reserving.TheVariants as reserves
-use Rattle.papaya_sweeps.specs.declared.sweep.Sweeping.{Sweeping}
-use Rattle.papaya_sweeps.specs.declared.sweep.Sweeping.TheVariants as sweeps
-use Rattle.papaya_raw.specs.declared.machines.call.Calling.{Calling}
-use Rattle.papaya_raw.specs.declared.machines.call.Calling.TheVariants as at
-use Rattle.papaya_raw.specs.declared.machines.progress.Progress.{Progress}
-use Rattle.papaya_schedules.specs.declared.effect.Table.{Table}
-use Rattle.papaya_schedules.specs.Moment.{InMap, Moment}
-use Rattle.papaya_rule.specs.InWorld.{IsIts}
-use Rattle.papaya_callers.specs.OverAll.{row_of_sweep}
-use Rattle.papaya_callers.specs.Rooms.{row_of_room}
-use Rattle.papaya_callers.specs.Rows.{row_of_disposal, row_of_copier, row_of}
-use Rattle.papaya_callers.specs.Sights.{IsSight, seen_by}
-use Rattle.papaya_callers.specs.Together.{UnderWay, OnKey, ForRoom, Counting, OverAll, Together}
-use Rattle.papaya_effects.specs.Known.{Known}
-use Rattle.papaya_effects.specs.declared.role.Role.TheVariants as role
-use Rattle.papaya_executor.specs.IsAt.{Scene, IsAt, slot_of}
-use Rattle.papaya_executor.specs.Stepping.{StepLeads}
-use Rattle.papaya_executor.specs.declared.executor.Executor.{Executor}
-use Rattle.papaya_finishes.specs.Maps.{Standing}
+use Rattle.papaya_follows.specs.Given.SeizeWords.Mem.{value_at}
+use Rattle.papaya_follows.specs.Given.Seize.World.{World, Hand, Row, Making}
+use Rattle.papaya_follows.specs.Given.Tables.declared.node.Node.{Node}
+use Rattle.papaya_follows.specs.Given.Resize.declared.copier.Copying.{Copying}
+use Rattle.papaya_follows.specs.Given.Resize.declared.copier.Copying.TheVariants as copies
+use Rattle.papaya_follows.specs.Given.Resize.declared.dispose.Disposing.{Disposing}
+use Rattle.papaya_follows.specs.Given.Resize.declared.dispose.Disposing.TheVariants as disposes
+use Rattle.papaya_follows.specs.Given.Reserves.declared.reserve.Reserving.{Reserving}
+use Rattle.papaya_follows.specs.Given.Reserves.declared.reserve.Reserving.TheVariants as reserves
+use Rattle.papaya_follows.specs.Given.Sweeps.declared.sweep.Sweeping.{Sweeping}
+use Rattle.papaya_follows.specs.Given.Sweeps.declared.sweep.Sweeping.TheVariants as sweeps
+use Rattle.papaya_follows.specs.Given.Raw.declared.machines.call.Calling.{Calling}
+use Rattle.papaya_follows.specs.Given.Raw.declared.machines.call.Calling.TheVariants as at
+use Rattle.papaya_follows.specs.Given.Raw.declared.machines.progress.Progress.{Progress}
+use Rattle.papaya_follows.specs.Given.Schedules.declared.effect.Table.{Table}
+use Rattle.papaya_follows.specs.Given.Schedules.Moment.{InMap, Moment}
+use Rattle.papaya_follows.specs.Given.Rule.InWorld.{IsIts}
+use Rattle.papaya_follows.specs.Given.Callers.OverAll.{row_of_sweep}
+use Rattle.papaya_follows.specs.Given.Callers.Rooms.{row_of_room}
+use Rattle.papaya_follows.specs.Given.Callers.Rows.{row_of_disposal, row_of_copier, row_of}
+use Rattle.papaya_follows.specs.Given.Callers.Sights.{IsSight, seen_by}
+use Rattle.papaya_follows.specs.Given.Callers.Together.{UnderWay, OnKey, ForRoom, Counting, OverAll, Together}
+use Rattle.papaya_follows.specs.Given.Effects.Known.{Known}
+use Rattle.papaya_follows.specs.Given.Effects.declared.role.Role.TheVariants as role
+use Rattle.papaya_follows.specs.Given.Executor.IsAt.{Scene, IsAt, slot_of}
+use Rattle.papaya_follows.specs.Given.Executor.Stepping.{StepLeads}
+use Rattle.papaya_follows.specs.Given.Executor.declared.executor.Executor.{Executor}
+use Rattle.papaya_follows.specs.Given.Finishes.Maps.{Standing}
 use Rattle.papaya_follows.specs.Blocks.{HasRole}
 use Rattle.papaya_follows.specs.Maps.{table_of}
 use Rattle.papaya_follows.specs.Shows.{Shows}

@@ -2,18 +2,18 @@
 use Rattle.std.specs.Prelude.{◌≡◌, ℕ, ◌<◌, Bool, List, Some}
 use Rattle.std.proofs.Common.{arith, inl, inr}
 use Rattle.std.proofs.lemmas.Bool.{cases_eq, cases_lt}
-use Rattle.papaya_tables.specs.declared.node.Node.{Node}
-use Rattle.papaya_raw.specs.declared.machines.progress.Progress.{Progress}
-use Rattle.papaya_schedules.specs.Moment.{Moment}
-use Rattle.papaya_callers.specs.Together.{UnderWay, OnKey, ForRoom, Counting, OverAll}
-use Rattle.papaya_effects.specs.Effects.{effects_of}
-use Rattle.papaya_effects.specs.Known.{Known}
-use Rattle.papaya_effects.specs.declared.acting.Acting.TheVariants as acts
-use Rattle.papaya_executor.specs.IsAt.{Scene, IsAt}
-use Rattle.papaya_executor.specs.Stepping.{StepLeads}
-use Rattle.papaya_executor.specs.declared.executor.Executor.{Executor}
-use Rattle.papaya_finishes.specs.Maps.{Standing}
-use Rattle.papaya_rule.specs.InWorld.{IsMapIn}
+use Rattle.papaya_follows.specs.Given.Tables.declared.node.Node.{Node}
+use Rattle.papaya_follows.specs.Given.Raw.declared.machines.progress.Progress.{Progress}
+use Rattle.papaya_follows.specs.Given.Schedules.Moment.{Moment}
+use Rattle.papaya_follows.specs.Given.Callers.Together.{UnderWay, OnKey, ForRoom, Counting, OverAll}
+use Rattle.papaya_follows.specs.Given.Effects.Effects.{effects_of}
+use Rattle.papaya_follows.specs.Given.Effects.Known.{Known}
+use Rattle.papaya_follows.specs.Given.Effects.declared.acting.Acting.TheVariants as acts
+use Rattle.papaya_follows.specs.Given.Executor.IsAt.{Scene, IsAt}
+use Rattle.papaya_follows.specs.Given.Executor.Stepping.{StepLeads}
+use Rattle.papaya_follows.specs.Given.Executor.declared.executor.Executor.{Executor}
+use Rattle.papaya_follows.specs.Given.Finishes.Maps.{Standing}
+use Rattle.papaya_follows.specs.Given.Rule.InWorld.{IsMapIn}
 use Rattle.papaya_follows.specs.Maps.{ShowsPairs}
 use Rattle.papaya_follows.specs.Shows.{Shows}
 use Rattle.papaya_follows.specs.Steps.{StoreTheirs}

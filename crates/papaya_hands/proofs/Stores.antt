@@ -2,34 +2,34 @@
 use Rattle.std.specs.Prelude.{◌≡◌, ℕ, ◌<◌, Bool, true, false, cond, eqb, List, map, Option, Some, None, if◌then◌else◌, ◌⊎◌}
 use Rattle.std.proofs.Common.{refl, ap, sym, subst, ◌∙◌, arith, inl, inr}
 use Rattle.std.proofs.lemmas.Bool.{ne_eqb, eq-eqb, cases_eq}
-use Rattle.seize_words.specs.Mem.{Mem, value_at}
-use Rattle.seize.specs.World.{World}
-use Rattle.papaya_tables.specs.Chunks.{is_incremental}
-use Rattle.papaya_tables.specs.declared.node.Node.{Node}
-use Rattle.papaya_raw.specs.declared.machines.answer.Called.{Called}
-use Rattle.papaya_raw.specs.declared.machines.call.KeyCall.{KeyCall}
-use Rattle.papaya_runs.specs.Same.{is_same}
-use Rattle.papaya_schedules.specs.declared.call.Call.{Call}
-use Rattle.papaya_schedules.specs.declared.call.Call.TheVariants as call
-use Rattle.papaya_schedules.specs.declared.call.OneKey.{OneKey}
-use Rattle.papaya_schedules.specs.declared.call.Reply.{Reply}
-use Rattle.papaya_schedules.specs.declared.effect.Effect.TheVariants as effect
-use Rattle.papaya_schedules.specs.Effects.{new_pair, call_by, with_effect}
-use Rattle.papaya_schedules.specs.Entry.{acting}
-use Rattle.papaya_schedules.specs.Moment.{UnderWay as CallThere, Moment}
-use Rattle.papaya_schedules.specs.Sequential.{means, key_of, value_put}
-use Rattle.papaya_schedules.specs.Views.{call_of, reply_to}
-use Rattle.papaya_rule.specs.Chart.{Chart}
-use Rattle.papaya_rule.specs.Words.{Blocks}
-use Rattle.papaya_rule.specs.InWorld.{IsMapIn}
-use Rattle.papaya_rule.proofs.Laws.{current_is_known}
-use Rattle.papaya_points.specs.FactsCalls.{Change, Unchanged, Stored, Replaced, Removed, Changes}
-use Rattle.papaya_callers.specs.Pairs.{Given, kind_of, StoresGiven}
-use Rattle.papaya_callers.specs.OverAll.{CallOverAll, RemovesTold}
-use Rattle.papaya_callers.specs.Together.{CallOnKey, UnderWay, OnKey, StepTold, Fresh, Late, change_told, StepsTogether}
-use Rattle.papaya_effects.specs.Known.{Known}
-use Rattle.papaya_executor.specs.IsAt.{slot_of}
-use Rattle.papaya_finishes.specs.Maps.{Standing}
+use Rattle.papaya_follows.specs.Given.SeizeWords.Mem.{Mem, value_at}
+use Rattle.papaya_follows.specs.Given.Seize.World.{World}
+use Rattle.papaya_follows.specs.Given.Tables.Chunks.{is_incremental}
+use Rattle.papaya_follows.specs.Given.Tables.declared.node.Node.{Node}
+use Rattle.papaya_follows.specs.Given.Raw.declared.machines.answer.Called.{Called}
+use Rattle.papaya_follows.specs.Given.Raw.declared.machines.call.KeyCall.{KeyCall}
+use Rattle.papaya_follows.specs.Given.Runs.Same.{is_same}
+use Rattle.papaya_follows.specs.Given.Schedules.declared.call.Call.{Call}
+use Rattle.papaya_follows.specs.Given.Schedules.declared.call.Call.TheVariants as call
+use Rattle.papaya_follows.specs.Given.Schedules.declared.call.OneKey.{OneKey}
+use Rattle.papaya_follows.specs.Given.Schedules.declared.call.Reply.{Reply}
+use Rattle.papaya_follows.specs.Given.Schedules.declared.effect.Effect.TheVariants as effect
+use Rattle.papaya_follows.specs.Given.Schedules.Effects.{new_pair, call_by, with_effect}
+use Rattle.papaya_follows.specs.Given.Schedules.Entry.{acting}
+use Rattle.papaya_follows.specs.Given.Schedules.Moment.{UnderWay as CallThere, Moment}
+use Rattle.papaya_follows.specs.Given.Schedules.Sequential.{means, key_of, value_put}
+use Rattle.papaya_follows.specs.Given.Schedules.Views.{call_of, reply_to}
+use Rattle.papaya_follows.specs.Given.Rule.Chart.{Chart}
+use Rattle.papaya_follows.specs.Given.Rule.Words.{Blocks}
+use Rattle.papaya_follows.specs.Given.Rule.InWorld.{IsMapIn}
+use Rattle.papaya_follows.proofs.Given.Rule.Laws.{current_is_known}
+use Rattle.papaya_follows.specs.Given.Points.FactsCalls.{Change, Unchanged, Stored, Replaced, Removed, Changes}
+use Rattle.papaya_follows.specs.Given.Callers.Pairs.{Given, kind_of, StoresGiven}
+use Rattle.papaya_follows.specs.Given.Callers.OverAll.{CallOverAll, RemovesTold}
+use Rattle.papaya_follows.specs.Given.Callers.Together.{CallOnKey, UnderWay, OnKey, StepTold, Fresh, Late, change_told, StepsTogether}
+use Rattle.papaya_follows.specs.Given.Effects.Known.{Known}
+use Rattle.papaya_follows.specs.Given.Executor.IsAt.{slot_of}
+use Rattle.papaya_follows.specs.Given.Finishes.Maps.{Standing}
 use Rattle.papaya_follows.specs.Calls.{IsCalled}
 use Rattle.papaya_follows.specs.Steps.{HasToStore}
 use Rattle.papaya_follows.proofs.Calls.{changed_same, changed, found}

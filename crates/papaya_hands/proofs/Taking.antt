@@ -1,37 +1,37 @@
 -- A step of a row that is not to take a block away takes none.
 use Rattle.std.specs.Prelude.{◌≡◌, ℕ, zero, suc, ◌==◌, Bool, true, false, [], ◌∷◌, Option, None, IsSome, if◌then◌else◌}
 use Rattle.std.proofs.Common.{refl, ap, sym, subst, ◌∙◌, arith, inl, inr}
-use Rattle.seize_words.specs.Mem.{Mem, value_at}
-use Rattle.seize.specs.declared.progress.Progress.{Progress}
-use Rattle.seize.specs.declared.progress.Progress.TheVariants as progress
-use Rattle.seize.specs.declared.rows.leave.Leave.{Leave}
-use Rattle.seize.specs.declared.rows.leave.Leaving.{Leaving}
-use Rattle.seize.specs.declared.rows.leave.Leaving.TheVariants as leaving
-use Rattle.seize.specs.declared.rows.register.Register.{Register}
-use Rattle.seize.specs.declared.rows.register.Registering.{Registering}
-use Rattle.seize.specs.declared.rows.register.Registering.TheVariants as registering
-use Rattle.seize.specs.declared.rows.settle.Settle.{Settle}
-use Rattle.seize.specs.declared.rows.settle.Settled.{Settled}
-use Rattle.seize.specs.declared.rows.settle.Settled.TheVariants as settled
-use Rattle.seize.specs.declared.rows.settle.Settling.{Settling}
-use Rattle.seize.specs.declared.rows.settle.Settling.TheVariants as at
-use Rattle.seize.specs.declared.rows.defer.Defer.{Defer}
-use Rattle.seize.specs.declared.states.TheConstants.{ACTIVE}
-use Rattle.seize.specs.Law.{Entered}
-use Rattle.seize.specs.Sequence.{taken_in}
-use Rattle.seize.specs.World.{World, Hand, Row, Rests, Registers, Enters, Settles, Leaves, Defers, Frees, Request, Register', Enter', Leave', LeaveOwned, Refresh, Unregister', Retire, Flush, Defer', Begin, Happens, Steps', times, handed_by, settle_effects, leave_effects, register_effects, settles_on, registers_on, defers_on}
-use Rattle.seize_alone.proofs.Histories.NotTaken.{did, nobodys}
-use Rattle.seize_alone.proofs.Histories.Reached.{Reached}
-use Rattle.seize_alone.proofs.Spared.Rows.{RowStepped}
-use Rattle.seize_rule.proofs.Rows.Effects.{taken_hand}
-use Rattle.papaya_tables.specs.Nodes.{deferred_word}
-use Rattle.papaya_tables.specs.declared.node.Node.{Node}
-use Rattle.papaya_tables.specs.declared.setting.Setting.{Setting}
-use Rattle.papaya_rule.proofs.World.Hands.{at_cases}
-use Rattle.papaya_teller.specs.declared.changed.Changed.{Changed}
-use Rattle.papaya_teller.specs.declared.changed.Changed.TheVariants as changed
-use Rattle.papaya_callers.specs.Together.{CameAbout, HandsOver, IsOneStep}
-use Rattle.papaya_callers.proofs.Together.Came.{came_reached, came_next}
+use Rattle.papaya_follows.specs.Given.SeizeWords.Mem.{Mem, value_at}
+use Rattle.papaya_follows.specs.Given.Seize.declared.progress.Progress.{Progress}
+use Rattle.papaya_follows.specs.Given.Seize.declared.progress.Progress.TheVariants as progress
+use Rattle.papaya_follows.specs.Given.Seize.declared.rows.leave.Leave.{Leave}
+use Rattle.papaya_follows.specs.Given.Seize.declared.rows.leave.Leaving.{Leaving}
+use Rattle.papaya_follows.specs.Given.Seize.declared.rows.leave.Leaving.TheVariants as leaving
+use Rattle.papaya_follows.specs.Given.Seize.declared.rows.register.Register.{Register}
+use Rattle.papaya_follows.specs.Given.Seize.declared.rows.register.Registering.{Registering}
+use Rattle.papaya_follows.specs.Given.Seize.declared.rows.register.Registering.TheVariants as registering
+use Rattle.papaya_follows.specs.Given.Seize.declared.rows.settle.Settle.{Settle}
+use Rattle.papaya_follows.specs.Given.Seize.declared.rows.settle.Settled.{Settled}
+use Rattle.papaya_follows.specs.Given.Seize.declared.rows.settle.Settled.TheVariants as settled
+use Rattle.papaya_follows.specs.Given.Seize.declared.rows.settle.Settling.{Settling}
+use Rattle.papaya_follows.specs.Given.Seize.declared.rows.settle.Settling.TheVariants as at
+use Rattle.papaya_follows.specs.Given.Seize.declared.rows.defer.Defer.{Defer}
+use Rattle.papaya_follows.specs.Given.Seize.declared.states.TheConstants.{ACTIVE}
+use Rattle.papaya_follows.specs.Given.Seize.Law.{Entered}
+use Rattle.papaya_follows.specs.Given.Seize.Sequence.{taken_in}
+use Rattle.papaya_follows.specs.Given.Seize.World.{World, Hand, Row, Rests, Registers, Enters, Settles, Leaves, Defers, Frees, Request, Register', Enter', Leave', LeaveOwned, Refresh, Unregister', Retire, Flush, Defer', Begin, Happens, Steps', times, handed_by, settle_effects, leave_effects, register_effects, settles_on, registers_on, defers_on}
+use Rattle.papaya_follows.proofs.Given.SeizeAlone.Histories.NotTaken.{did, nobodys}
+use Rattle.papaya_follows.proofs.Given.SeizeAlone.Histories.Reached.{Reached}
+use Rattle.papaya_follows.proofs.Given.SeizeAlone.Spared.Rows.{RowStepped}
+use Rattle.papaya_follows.proofs.Given.SeizeRule.Rows.Effects.{taken_hand}
+use Rattle.papaya_follows.specs.Given.Tables.Nodes.{deferred_word}
+use Rattle.papaya_follows.specs.Given.Tables.declared.node.Node.{Node}
+use Rattle.papaya_follows.specs.Given.Tables.declared.setting.Setting.{Setting}
+use Rattle.papaya_follows.proofs.Given.Rule.World.Hands.{at_cases}
+use Rattle.papaya_follows.specs.Given.Teller.declared.changed.Changed.{Changed}
+use Rattle.papaya_follows.specs.Given.Teller.declared.changed.Changed.TheVariants as changed
+use Rattle.papaya_follows.specs.Given.Callers.Together.{CameAbout, HandsOver, IsOneStep}
+use Rattle.papaya_follows.proofs.Given.Callers.Together.Came.{came_reached, came_next}
 use Rattle.papaya_follows.specs.Steps.{TakesNone}
 use Rattle.papaya_follows.proofs.Operations.{LeavesBy}
 

@@ -1,33 +1,33 @@
 -- Where a call that asks takes what it is told, each call under way was asked and told as the moment says.
 use Rattle.std.specs.Prelude.{◌≡◌, ℕ, Bool, true, false, List, ◌∷◌, Option, Some, None, Ok, if◌then◌else◌, ◌⊎◌}
 use Rattle.std.proofs.Common.{refl, ap, sym, subst, ◌∙◌, inl, inr}
-use Rattle.seize_words.specs.Word.{block_in}
-use Rattle.papaya_runs.specs.Same.{is_same}
-use Rattle.papaya_raw.specs.CallAsks.{replied}
-use Rattle.papaya_raw.specs.Machine.{machine_replied}
-use Rattle.papaya_raw.specs.declared.machines.asking.Asking.{Asking as AskingAt}
-use Rattle.papaya_raw.specs.declared.machines.asking.Asking.TheVariants as asking
-use Rattle.papaya_raw.specs.declared.machines.call.Calling.TheVariants as at
-use Rattle.papaya_schedules.specs.declared.call.Call.{Call}
-use Rattle.papaya_schedules.specs.declared.call.Call.TheVariants as call
-use Rattle.papaya_schedules.specs.declared.call.OneKey.{OneKey}
-use Rattle.papaya_schedules.specs.declared.call.Reply.{Reply}
-use Rattle.papaya_schedules.specs.After.{replied as replied_at}
-use Rattle.papaya_schedules.specs.Moment.{Asking, Told, UnderWay as CallThere, Moment}
-use Rattle.papaya_schedules.specs.Views.{call_of}
-use Rattle.papaya_rule.specs.Chart.{Still}
-use Rattle.papaya_rule.specs.Words.{byte_of}
-use Rattle.papaya_rule.proofs.Laws.{words_name_pairs, bytes_are_few}
-use Rattle.papaya_callers.specs.Asked.{last_told}
-use Rattle.papaya_callers.specs.Pairs.{Given, and_told}
-use Rattle.papaya_callers.specs.Sights.{seen_by, IsSight}
-use Rattle.papaya_callers.specs.Together.{CallOnKey, UnderWay, OnKey, ForRoom, Counting, OverAll, told_about, AsksAbout, Together}
-use Rattle.papaya_effects.specs.Known.{Known}
-use Rattle.papaya_effects.specs.declared.role.Role.TheVariants as role
-use Rattle.papaya_executor.specs.IsAt.{Scene, IsAt, slot_of}
-use Rattle.papaya_executor.specs.declared.executor.Executor.{Executor}
-use Rattle.papaya_finishes.specs.Machines.{machine_of, ToldOfKind}
-use Rattle.papaya_finishes.specs.Maps.{Standing, with_call as with_in}
+use Rattle.papaya_follows.specs.Given.SeizeWords.Word.{block_in}
+use Rattle.papaya_follows.specs.Given.Runs.Same.{is_same}
+use Rattle.papaya_follows.specs.Given.Raw.CallAsks.{replied}
+use Rattle.papaya_follows.specs.Given.Raw.Machine.{machine_replied}
+use Rattle.papaya_follows.specs.Given.Raw.declared.machines.asking.Asking.{Asking as AskingAt}
+use Rattle.papaya_follows.specs.Given.Raw.declared.machines.asking.Asking.TheVariants as asking
+use Rattle.papaya_follows.specs.Given.Raw.declared.machines.call.Calling.TheVariants as at
+use Rattle.papaya_follows.specs.Given.Schedules.declared.call.Call.{Call}
+use Rattle.papaya_follows.specs.Given.Schedules.declared.call.Call.TheVariants as call
+use Rattle.papaya_follows.specs.Given.Schedules.declared.call.OneKey.{OneKey}
+use Rattle.papaya_follows.specs.Given.Schedules.declared.call.Reply.{Reply}
+use Rattle.papaya_follows.specs.Given.Schedules.After.{replied as replied_at}
+use Rattle.papaya_follows.specs.Given.Schedules.Moment.{Asking, Told, UnderWay as CallThere, Moment}
+use Rattle.papaya_follows.specs.Given.Schedules.Views.{call_of}
+use Rattle.papaya_follows.specs.Given.Rule.Chart.{Still}
+use Rattle.papaya_follows.specs.Given.Rule.Words.{byte_of}
+use Rattle.papaya_follows.proofs.Given.Rule.Laws.{words_name_pairs, bytes_are_few}
+use Rattle.papaya_follows.specs.Given.Callers.Asked.{last_told}
+use Rattle.papaya_follows.specs.Given.Callers.Pairs.{Given, and_told}
+use Rattle.papaya_follows.specs.Given.Callers.Sights.{seen_by, IsSight}
+use Rattle.papaya_follows.specs.Given.Callers.Together.{CallOnKey, UnderWay, OnKey, ForRoom, Counting, OverAll, told_about, AsksAbout, Together}
+use Rattle.papaya_follows.specs.Given.Effects.Known.{Known}
+use Rattle.papaya_follows.specs.Given.Effects.declared.role.Role.TheVariants as role
+use Rattle.papaya_follows.specs.Given.Executor.IsAt.{Scene, IsAt, slot_of}
+use Rattle.papaya_follows.specs.Given.Executor.declared.executor.Executor.{Executor}
+use Rattle.papaya_follows.specs.Given.Finishes.Machines.{machine_of, ToldOfKind}
+use Rattle.papaya_follows.specs.Given.Finishes.Maps.{Standing, with_call as with_in}
 use Rattle.papaya_follows.specs.Calling.{told}
 use Rattle.papaya_follows.specs.Calls.{IsCalled}
 use Rattle.papaya_follows.specs.Shows.{Shows}

@@ -1,8 +1,8 @@
 -- How a run begins: no call was told anything.
 use Rattle.std.specs.Prelude.{ℕ, Bool, List}
-use Rattle.papaya_schedules.specs.Moment.{start}
-use Rattle.papaya_effects.specs.Known.{nothing_known}
-use Rattle.papaya_executor.specs.IsAt.{at_first}
+use Rattle.papaya_follows.specs.Given.Schedules.Moment.{start}
+use Rattle.papaya_follows.specs.Given.Effects.Known.{nothing_known}
+use Rattle.papaya_follows.specs.Given.Executor.IsAt.{at_first}
 use Rattle.papaya_hands.specs.Shows.{ShowsAll}
 
 -- The promise: the moment before all events shows the first scene.

@@ -1,24 +1,24 @@
 -- Calls between their steps, with what they were told: where one begins, is told a reply, or has come to an outcome.
 use Rattle.std.specs.Prelude.{◌≡◌, ℕ, Bool, true, List, [], Option, Some, Ok}
-use Rattle.seize.specs.World.{Rests}
-use Rattle.papaya_runs.specs.Same.{is_same}
-use Rattle.papaya_raw.specs.Machine.{machine_replied}
-use Rattle.papaya_schedules.specs.declared.call.Call.{Call}
-use Rattle.papaya_schedules.specs.declared.call.Call.TheVariants.{On}
-use Rattle.papaya_schedules.specs.declared.call.Reply.{Reply}
-use Rattle.papaya_schedules.specs.declared.outcome.Outcome.{Outcome}
-use Rattle.papaya_schedules.specs.declared.outcome.Outcome.TheVariants.{Asks}
-use Rattle.papaya_schedules.specs.Beginning.{with_call}
-use Rattle.papaya_schedules.specs.Entry.{ends_call}
-use Rattle.papaya_schedules.specs.Moment.{Asking, UnderWay as CallThere, Moment}
-use Rattle.papaya_schedules.specs.Views.{call_of}
-use Rattle.papaya_callers.specs.Together.{UnderWay, OnKey}
-use Rattle.papaya_finishes.specs.Machines.{machine_of, ToldOfKind}
-use Rattle.papaya_finishes.specs.Maps.{Standing}
-use Rattle.papaya_effects.specs.Known.{Known}
-use Rattle.papaya_executor.specs.IsAt.{Scene, IsAt, slot_of}
-use Rattle.papaya_executor.specs.Replying.{scene_with}
-use Rattle.papaya_executor.specs.declared.executor.Executor.{Executor}
+use Rattle.papaya_follows.specs.Given.Seize.World.{Rests}
+use Rattle.papaya_follows.specs.Given.Runs.Same.{is_same}
+use Rattle.papaya_follows.specs.Given.Raw.Machine.{machine_replied}
+use Rattle.papaya_follows.specs.Given.Schedules.declared.call.Call.{Call}
+use Rattle.papaya_follows.specs.Given.Schedules.declared.call.Call.TheVariants.{On}
+use Rattle.papaya_follows.specs.Given.Schedules.declared.call.Reply.{Reply}
+use Rattle.papaya_follows.specs.Given.Schedules.declared.outcome.Outcome.{Outcome}
+use Rattle.papaya_follows.specs.Given.Schedules.declared.outcome.Outcome.TheVariants.{Asks}
+use Rattle.papaya_follows.specs.Given.Schedules.Beginning.{with_call}
+use Rattle.papaya_follows.specs.Given.Schedules.Entry.{ends_call}
+use Rattle.papaya_follows.specs.Given.Schedules.Moment.{Asking, UnderWay as CallThere, Moment}
+use Rattle.papaya_follows.specs.Given.Schedules.Views.{call_of}
+use Rattle.papaya_follows.specs.Given.Callers.Together.{UnderWay, OnKey}
+use Rattle.papaya_follows.specs.Given.Finishes.Machines.{machine_of, ToldOfKind}
+use Rattle.papaya_follows.specs.Given.Finishes.Maps.{Standing}
+use Rattle.papaya_follows.specs.Given.Effects.Known.{Known}
+use Rattle.papaya_follows.specs.Given.Executor.IsAt.{Scene, IsAt, slot_of}
+use Rattle.papaya_follows.specs.Given.Executor.Replying.{scene_with}
+use Rattle.papaya_follows.specs.Given.Executor.declared.executor.Executor.{Executor}
 use Rattle.papaya_follows.specs.Calls.{IsCalled}
 use Rattle.papaya_follows.specs.Calling.{NoneNamed, told, come_to}
 use Rattle.papaya_hands.specs.Asked.{as_told, given_by, AsksThere}

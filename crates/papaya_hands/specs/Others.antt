@@ -1,22 +1,22 @@
 -- Whoever takes a step that is none of a call, the rows within calls reclaim nothing still.
 use Rattle.std.specs.Prelude.{◌≡◌, ℕ, Bool, Option, Some}
-use Rattle.seize.specs.declared.progress.Progress.{Progress as Making}
-use Rattle.seize.specs.declared.rows.settle.Settled.{Settled}
-use Rattle.papaya_tables.specs.declared.node.Node.{Node}
-use Rattle.papaya_tables.specs.declared.setting.Setting.{Setting}
-use Rattle.papaya_callers.specs.Together.{UnderWay}
-use Rattle.papaya_finishes.specs.Endings.{Finishing}
-use Rattle.papaya_finishes.specs.Makings.{Beginning}
-use Rattle.papaya_finishes.specs.Maps.{Standing, with_call}
-use Rattle.papaya_executor.specs.Ending.{EndingLeads, ending_begun}
-use Rattle.papaya_executor.specs.IsAt.{Scene, IsAt, slot_of, work_of}
-use Rattle.papaya_executor.specs.Making.{MakingLeads}
-use Rattle.papaya_executor.specs.OnSlots.{MayBegin, RowBegins, RowLeads}
-use Rattle.papaya_executor.specs.declared.executor.Executor.{Executor}
-use Rattle.papaya_executor.specs.declared.row.RowTold.{RowTold}
-use Rattle.papaya_executor.specs.declared.row.SlotCall.{SlotCall}
-use Rattle.papaya_executor.specs.declared.row.SlotRow.{SlotRow}
-use Rattle.papaya_executor.specs.declared.worker.Work.TheVariants.{OnSlot}
+use Rattle.papaya_follows.specs.Given.Seize.declared.progress.Progress.{Progress as Making}
+use Rattle.papaya_follows.specs.Given.Seize.declared.rows.settle.Settled.{Settled}
+use Rattle.papaya_follows.specs.Given.Tables.declared.node.Node.{Node}
+use Rattle.papaya_follows.specs.Given.Tables.declared.setting.Setting.{Setting}
+use Rattle.papaya_follows.specs.Given.Callers.Together.{UnderWay}
+use Rattle.papaya_follows.specs.Given.Finishes.Endings.{Finishing}
+use Rattle.papaya_follows.specs.Given.Finishes.Makings.{Beginning}
+use Rattle.papaya_follows.specs.Given.Finishes.Maps.{Standing, with_call}
+use Rattle.papaya_follows.specs.Given.Executor.Ending.{EndingLeads, ending_begun}
+use Rattle.papaya_follows.specs.Given.Executor.IsAt.{Scene, IsAt, slot_of, work_of}
+use Rattle.papaya_follows.specs.Given.Executor.Making.{MakingLeads}
+use Rattle.papaya_follows.specs.Given.Executor.OnSlots.{MayBegin, RowBegins, RowLeads}
+use Rattle.papaya_follows.specs.Given.Executor.declared.executor.Executor.{Executor}
+use Rattle.papaya_follows.specs.Given.Executor.declared.row.RowTold.{RowTold}
+use Rattle.papaya_follows.specs.Given.Executor.declared.row.SlotCall.{SlotCall}
+use Rattle.papaya_follows.specs.Given.Executor.declared.row.SlotRow.{SlotRow}
+use Rattle.papaya_follows.specs.Given.Executor.declared.worker.Work.TheVariants.{OnSlot}
 use Rattle.papaya_hands.specs.Rows.{ShowsRows}
 
 module _ (K V S : Type 0) (same : K → K → Bool) (hash : K → ℕ) where

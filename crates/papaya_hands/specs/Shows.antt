@@ -1,8 +1,8 @@
 -- How a moment of a run, with what is noted of the memory, shows a scene of the executor, what its calls were told, in whose hands blocks are, and what rows do.
 use Rattle.std.specs.Prelude.{ℕ, Bool, List}
-use Rattle.papaya_schedules.specs.Moment.{Moment}
-use Rattle.papaya_effects.specs.Known.{Known}
-use Rattle.papaya_executor.specs.IsAt.{Scene}
+use Rattle.papaya_follows.specs.Given.Schedules.Moment.{Moment}
+use Rattle.papaya_follows.specs.Given.Effects.Known.{Known}
+use Rattle.papaya_follows.specs.Given.Executor.IsAt.{Scene}
 use Rattle.papaya_follows.specs.Shows.{Shows}
 use Rattle.papaya_hands.specs.Asked.{ShowsAsked}
 use Rattle.papaya_hands.specs.Hands.{ShowsHands}

@@ -1,31 +1,31 @@
 -- Before all events, between the steps of calls, and where an event is over, histories stay within the moments of the run.
 use Rattle.std.specs.Prelude.{◌≡◌, ℕ, ◌+◌, ◌≤◌, Bool, true, false, cond, not, List, ◌∷◌, length, find, map, Option, Some, if◌then◌else◌, ◌⊎◌}
 use Rattle.std.proofs.Common.{refl, ap, sym, subst, ◌∙◌, arith, inl, inr}
-use Rattle.papaya_runs.specs.Same.{is_same}
-use Rattle.papaya_raw.specs.declared.machines.asking.Reply.{Reply as MachineReply}
-use Rattle.papaya_schedules.specs.declared.outcome.Outcome.{Outcome}
-use Rattle.papaya_schedules.specs.After.{moment, moments_from, replied, without_call}
-use Rattle.papaya_schedules.specs.Beginning.{fresh_call, with_call}
-use Rattle.papaya_schedules.specs.Entry.{Entry, ends_call}
-use Rattle.papaya_schedules.specs.Lists.{OneOf}
-use Rattle.papaya_schedules.specs.Moment.{UnderWay as CallThere, Moment}
-use Rattle.papaya_schedules.specs.Views.{call_of, finite_map}
-use Rattle.papaya_callers.specs.Together.{UnderWay, OnKey, ForRoom, Counting, OverAll}
-use Rattle.papaya_effects.specs.Known.{Known}
-use Rattle.papaya_executor.specs.IsAt.{Scene, slot_of}
-use Rattle.papaya_executor.specs.Replying.{scene_with}
-use Rattle.papaya_finishes.specs.Machines.{ToldOfKind}
-use Rattle.papaya_finishes.specs.Maps.{Standing, with_call as with_in}
-use Rattle.papaya_follows.specs.Calling.{NoneNamed, told, come_to}
-use Rattle.papaya_follows.specs.Shows.{Shows}
-use Rattle.papaya_follows.proofs.Calling.{is_same_refl, apart_back, replied_same, come, come_of_same, found_kept, begins_with, told_with, come_with}
-use Rattle.papaya_follows.proofs.Calls.{found}
-use Rattle.papaya_follows.proofs.Steps.{one_of}
-use Rattle.papaya_hands.specs.Asked.{as_told, ShowsAsked}
-use Rattle.papaya_hands.proofs.Asking.{which}
-use Rattle.papaya_hands.proofs.Beginning.{runs_begin_so}
-use Rattle.papaya_hands.proofs.Calling.{caller_is, begins_asked, come_asked}
-use Rattle.papaya_hands.proofs.Told.{own_told, told_asked}
+use Rattle.papaya_moments.specs.Given.Runs.Same.{is_same}
+use Rattle.papaya_moments.specs.Given.Raw.declared.machines.asking.Reply.{Reply as MachineReply}
+use Rattle.papaya_moments.specs.Given.Schedules.declared.outcome.Outcome.{Outcome}
+use Rattle.papaya_moments.specs.Given.Schedules.After.{moment, moments_from, replied, without_call}
+use Rattle.papaya_moments.specs.Given.Schedules.Beginning.{fresh_call, with_call}
+use Rattle.papaya_moments.specs.Given.Schedules.Entry.{Entry, ends_call}
+use Rattle.papaya_moments.specs.Given.Schedules.Lists.{OneOf}
+use Rattle.papaya_moments.specs.Given.Schedules.Moment.{UnderWay as CallThere, Moment}
+use Rattle.papaya_moments.specs.Given.Schedules.Views.{call_of, finite_map}
+use Rattle.papaya_moments.specs.Given.Callers.Together.{UnderWay, OnKey, ForRoom, Counting, OverAll}
+use Rattle.papaya_moments.specs.Given.Effects.Known.{Known}
+use Rattle.papaya_moments.specs.Given.Executor.IsAt.{Scene, slot_of}
+use Rattle.papaya_moments.specs.Given.Executor.Replying.{scene_with}
+use Rattle.papaya_moments.specs.Given.Finishes.Machines.{ToldOfKind}
+use Rattle.papaya_moments.specs.Given.Finishes.Maps.{Standing, with_call as with_in}
+use Rattle.papaya_moments.specs.Given.Follows.Calling.{NoneNamed, told, come_to}
+use Rattle.papaya_moments.specs.Given.Follows.Shows.{Shows}
+use Rattle.papaya_moments.proofs.Given.Follows.Calling.{is_same_refl, apart_back, replied_same, come, come_of_same, found_kept, begins_with, told_with, come_with}
+use Rattle.papaya_moments.proofs.Given.Follows.Calls.{found}
+use Rattle.papaya_moments.proofs.Given.Follows.Steps.{one_of}
+use Rattle.papaya_moments.specs.Given.Hands.Asked.{as_told, ShowsAsked}
+use Rattle.papaya_moments.proofs.Given.Hands.Asking.{which}
+use Rattle.papaya_moments.proofs.Given.Hands.Beginning.{runs_begin_so}
+use Rattle.papaya_moments.proofs.Given.Hands.Calling.{caller_is, begins_asked, come_asked}
+use Rattle.papaya_moments.proofs.Given.Hands.Told.{own_told, told_asked}
 use Rattle.papaya_histories.specs.Had.{HadThen}
 use Rattle.papaya_histories.specs.Histories.{began_of, since, IsWithin, ShowsHistory, StaysWithin}
 use Rattle.papaya_histories.specs.Kept.{HistoriesBegin, CallsBeginHistories, CallsTakeHistories, CallsComeToHistories, EventsKeepHistories, FirstStepsChangeFirst}

@@ -1,59 +1,59 @@
 -- By a step of a call on one key its class changes once at most, by what the call means just then.
 use Rattle.std.specs.Prelude.{◌≡◌, ℕ, ◌+◌, ◌<◌, Bool, true, false, List, [], ◌∷◌, length, flat_map, map as list_map, Option, Some, None, ◌⊎◌, if◌then◌else◌}
 use Rattle.std.proofs.Common.{refl, ap, sym, subst, ◌∙◌, inl, inr}
-use Rattle.seize_words.specs.Mem.{Mem}
-use Rattle.seize.specs.World.{World}
-use Rattle.papaya_tables.specs.Chunks.{is_incremental}
-use Rattle.papaya_tables.specs.declared.node.Node.{Node}
-use Rattle.papaya_raw.specs.declared.machines.answer.Called.{Called}
-use Rattle.papaya_raw.specs.declared.machines.call.KeyCall.{KeyCall}
-use Rattle.papaya_raw.specs.declared.machines.progress.Progress.{Progress}
-use Rattle.papaya_runs.specs.Same.{is_same}
-use Rattle.papaya_schedules.specs.declared.call.Answer.{Answer}
-use Rattle.papaya_schedules.specs.declared.call.Call.{Call}
-use Rattle.papaya_schedules.specs.declared.call.Call.TheVariants.{On}
-use Rattle.papaya_schedules.specs.declared.call.OneKey.{OneKey}
-use Rattle.papaya_schedules.specs.declared.call.Reply.{Reply}
-use Rattle.papaya_schedules.specs.declared.effect.Effect.{Effect}
-use Rattle.papaya_schedules.specs.declared.effect.Effect.TheVariants as effect
-use Rattle.papaya_schedules.specs.declared.effect.Spot.{Spot}
-use Rattle.papaya_schedules.specs.Effects.{new_pair, call_by, with_effect, AtEachEffect}
-use Rattle.papaya_schedules.specs.Entry.{acting}
-use Rattle.papaya_schedules.specs.Linearizable.{shift_of, there_for, ChangesOnce}
-use Rattle.papaya_schedules.specs.Moment.{UnderWay as CallThere, Moment}
-use Rattle.papaya_schedules.specs.Sequential.{Answers, Deed, Puts, Takes, ComesIn, GivesWay, means, key_of, value_put, shifts}
-use Rattle.papaya_schedules.specs.Views.{call_of, finite_map, reply_to}
-use Rattle.papaya_rule.specs.Chart.{Chart}
-use Rattle.papaya_rule.specs.Maps.{IsAbsent, IsPair}
-use Rattle.papaya_rule.specs.Words.{Blocks}
-use Rattle.papaya_rule.proofs.Laws.{current_is_known}
-use Rattle.papaya_points.specs.FactsCalls.{Change, Unchanged, Stored, Replaced, Removed, Changes}
-use Rattle.papaya_callers.specs.Pairs.{Given, Begun, IsTold, kind_of, StoresGiven}
-use Rattle.papaya_callers.specs.Together.{CallOnKey, OnKey, Together, StepTold, Fresh, Late, change_told}
-use Rattle.papaya_finishes.specs.Endings.{StepsAmong}
-use Rattle.papaya_finishes.specs.Maps.{Standing}
-use Rattle.papaya_effects.specs.Effects.{effects_of}
-use Rattle.papaya_effects.specs.Known.{Known}
-use Rattle.papaya_effects.specs.declared.acting.Acting.TheVariants as acts
-use Rattle.papaya_executor.specs.IsAt.{Scene, IsAt, slot_of}
-use Rattle.papaya_executor.specs.Stepping.{StepLeads}
-use Rattle.papaya_executor.specs.declared.executor.Executor.{Executor}
-use Rattle.papaya_follows.specs.Shows.{Shows}
-use Rattle.papaya_follows.specs.Steps.{named_now, HasToStore, HasPair, TakesNone}
-use Rattle.papaya_follows.proofs.Calling.{is_same_refl}
-use Rattle.papaya_follows.proofs.Calls.{changed_same, found}
-use Rattle.papaya_follows.proofs.Operations.{operated_leaves, LeavesBy}
-use Rattle.papaya_follows.proofs.Rows.{HandsOn, IsStill, Puts as PutsBehind, Retires, one_step_leaves}
-use Rattle.papaya_follows.proofs.RowSteps.{row_done}
-use Rattle.papaya_follows.proofs.Steps.{WentTo, went_to, made_so, is_inside, DidSo, OfNoRow}
-use Rattle.papaya_hands.specs.Asked.{IsAskedOn, IsAskedAs, ShowsAsked}
-use Rattle.papaya_hands.proofs.Calling.{caller_is}
-use Rattle.papaya_hands.proofs.Done.{done}
-use Rattle.papaya_hands.proofs.Puts.{MayDo}
-use Rattle.papaya_hands.proofs.RowSteps.{rows_hand_theirs}
-use Rattle.papaya_hands.proofs.Steps.{numbers_apart, calls_store_theirs}
-use Rattle.papaya_spots.proofs.Shifts.{Shifts, calm_shifts}
-use Rattle.papaya_spots.proofs.Steps.{moved_shifts}
+use Rattle.papaya_moments.specs.Given.SeizeWords.Mem.{Mem}
+use Rattle.papaya_moments.specs.Given.Seize.World.{World}
+use Rattle.papaya_moments.specs.Given.Tables.Chunks.{is_incremental}
+use Rattle.papaya_moments.specs.Given.Tables.declared.node.Node.{Node}
+use Rattle.papaya_moments.specs.Given.Raw.declared.machines.answer.Called.{Called}
+use Rattle.papaya_moments.specs.Given.Raw.declared.machines.call.KeyCall.{KeyCall}
+use Rattle.papaya_moments.specs.Given.Raw.declared.machines.progress.Progress.{Progress}
+use Rattle.papaya_moments.specs.Given.Runs.Same.{is_same}
+use Rattle.papaya_moments.specs.Given.Schedules.declared.call.Answer.{Answer}
+use Rattle.papaya_moments.specs.Given.Schedules.declared.call.Call.{Call}
+use Rattle.papaya_moments.specs.Given.Schedules.declared.call.Call.TheVariants.{On}
+use Rattle.papaya_moments.specs.Given.Schedules.declared.call.OneKey.{OneKey}
+use Rattle.papaya_moments.specs.Given.Schedules.declared.call.Reply.{Reply}
+use Rattle.papaya_moments.specs.Given.Schedules.declared.effect.Effect.{Effect}
+use Rattle.papaya_moments.specs.Given.Schedules.declared.effect.Effect.TheVariants as effect
+use Rattle.papaya_moments.specs.Given.Schedules.declared.effect.Spot.{Spot}
+use Rattle.papaya_moments.specs.Given.Schedules.Effects.{new_pair, call_by, with_effect, AtEachEffect}
+use Rattle.papaya_moments.specs.Given.Schedules.Entry.{acting}
+use Rattle.papaya_moments.specs.Given.Schedules.Linearizable.{shift_of, there_for, ChangesOnce}
+use Rattle.papaya_moments.specs.Given.Schedules.Moment.{UnderWay as CallThere, Moment}
+use Rattle.papaya_moments.specs.Given.Schedules.Sequential.{Answers, Deed, Puts, Takes, ComesIn, GivesWay, means, key_of, value_put, shifts}
+use Rattle.papaya_moments.specs.Given.Schedules.Views.{call_of, finite_map, reply_to}
+use Rattle.papaya_moments.specs.Given.Rule.Chart.{Chart}
+use Rattle.papaya_moments.specs.Given.Rule.Maps.{IsAbsent, IsPair}
+use Rattle.papaya_moments.specs.Given.Rule.Words.{Blocks}
+use Rattle.papaya_moments.proofs.Given.Rule.Laws.{current_is_known}
+use Rattle.papaya_moments.specs.Given.Points.FactsCalls.{Change, Unchanged, Stored, Replaced, Removed, Changes}
+use Rattle.papaya_moments.specs.Given.Callers.Pairs.{Given, Begun, IsTold, kind_of, StoresGiven}
+use Rattle.papaya_moments.specs.Given.Callers.Together.{CallOnKey, OnKey, Together, StepTold, Fresh, Late, change_told}
+use Rattle.papaya_moments.specs.Given.Finishes.Endings.{StepsAmong}
+use Rattle.papaya_moments.specs.Given.Finishes.Maps.{Standing}
+use Rattle.papaya_moments.specs.Given.Effects.Effects.{effects_of}
+use Rattle.papaya_moments.specs.Given.Effects.Known.{Known}
+use Rattle.papaya_moments.specs.Given.Effects.declared.acting.Acting.TheVariants as acts
+use Rattle.papaya_moments.specs.Given.Executor.IsAt.{Scene, IsAt, slot_of}
+use Rattle.papaya_moments.specs.Given.Executor.Stepping.{StepLeads}
+use Rattle.papaya_moments.specs.Given.Executor.declared.executor.Executor.{Executor}
+use Rattle.papaya_moments.specs.Given.Follows.Shows.{Shows}
+use Rattle.papaya_moments.specs.Given.Follows.Steps.{named_now, HasToStore, HasPair, TakesNone}
+use Rattle.papaya_moments.proofs.Given.Follows.Calling.{is_same_refl}
+use Rattle.papaya_moments.proofs.Given.Follows.Calls.{changed_same, found}
+use Rattle.papaya_moments.proofs.Given.Follows.Operations.{operated_leaves, LeavesBy}
+use Rattle.papaya_moments.proofs.Given.Follows.Rows.{HandsOn, IsStill, Puts as PutsBehind, Retires, one_step_leaves}
+use Rattle.papaya_moments.proofs.Given.Follows.RowSteps.{row_done}
+use Rattle.papaya_moments.proofs.Given.Follows.Steps.{WentTo, went_to, made_so, is_inside, DidSo, OfNoRow}
+use Rattle.papaya_moments.specs.Given.Hands.Asked.{IsAskedOn, IsAskedAs, ShowsAsked}
+use Rattle.papaya_moments.proofs.Given.Hands.Calling.{caller_is}
+use Rattle.papaya_moments.proofs.Given.Hands.Done.{done}
+use Rattle.papaya_moments.proofs.Given.Hands.Puts.{MayDo}
+use Rattle.papaya_moments.proofs.Given.Hands.RowSteps.{rows_hand_theirs}
+use Rattle.papaya_moments.proofs.Given.Hands.Steps.{numbers_apart, calls_store_theirs}
+use Rattle.papaya_moments.proofs.Given.Spots.Shifts.{Shifts, calm_shifts}
+use Rattle.papaya_moments.proofs.Given.Spots.Steps.{moved_shifts}
 use Rattle.papaya_moments.specs.Whole.{ShowsWhole}
 use Rattle.papaya_moments.proofs.Calls.{of_row}
 use Rattle.papaya_histories.specs.Changes.{AreTaken, StepsChangeOnce}

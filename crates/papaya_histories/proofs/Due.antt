@@ -2,50 +2,50 @@
 use Rattle.std.specs.Prelude.{◌≡◌, ℕ, ◌+◌, ◌<◌, ◌≤◌, Bool, true, List, [], ◌∷◌, length, flat_map, Option, Some, None}
 use Rattle.std.proofs.Common.{refl, ap, sym, subst, ◌∙◌, arith, inl, inr}
 use Rattle.std.proofs.lemmas.Bool.{cases_lt, eq-eqb}
-use Rattle.papaya_tables.specs.Chunks.{is_incremental}
-use Rattle.papaya_tables.specs.declared.node.Node.{Node}
-use Rattle.papaya_raw.specs.declared.machines.progress.Progress.{Progress}
-use Rattle.papaya_runs.specs.Same.{is_same}
-use Rattle.papaya_schedules.specs.declared.call.Answer.{Answer}
-use Rattle.papaya_schedules.specs.declared.call.Call.{Call}
-use Rattle.papaya_schedules.specs.declared.call.Call.TheVariants.{On}
-use Rattle.papaya_schedules.specs.declared.call.OneKey.{OneKey}
-use Rattle.papaya_schedules.specs.declared.call.Reply.{Reply}
-use Rattle.papaya_schedules.specs.declared.effect.Effect.{Effect}
-use Rattle.papaya_schedules.specs.declared.effect.Effect.TheVariants as effect
-use Rattle.papaya_schedules.specs.declared.effect.Spot.{Spot}
-use Rattle.papaya_schedules.specs.Effects.{due_for, call_by, with_effect, with_effects}
-use Rattle.papaya_schedules.specs.Entry.{Entry}
-use Rattle.papaya_schedules.specs.Linearizable.{shift_of}
-use Rattle.papaya_schedules.specs.Moment.{InMap, UnderWay as CallThere, Moment}
-use Rattle.papaya_schedules.specs.Sequential.{Meaning, Answers, Deed, Puts, Takes, means, answer_due}
-use Rattle.papaya_schedules.specs.Views.{is_in_map, call_of, reply_to}
-use Rattle.papaya_rule.specs.Chart.{Chart}
-use Rattle.papaya_points.specs.FactsCalls.{Change, Unchanged, Stored, Replaced, Removed}
-use Rattle.papaya_callers.specs.Together.{CallOnKey, UnderWay, OnKey, ForRoom, Counting, OverAll, change_told}
-use Rattle.papaya_finishes.specs.Maps.{Standing}
-use Rattle.papaya_effects.specs.Effects.{effects_of}
-use Rattle.papaya_effects.specs.Known.{Known}
-use Rattle.papaya_effects.specs.declared.acting.Acting.TheVariants as acts
-use Rattle.papaya_executor.specs.IsAt.{Scene, IsAt, slot_of}
-use Rattle.papaya_executor.specs.Stepping.{StepLeads}
-use Rattle.papaya_executor.specs.declared.executor.Executor.{Executor}
-use Rattle.papaya_follows.specs.Maps.{ShowsPairs}
-use Rattle.papaya_follows.specs.Shows.{Shows}
-use Rattle.papaya_follows.proofs.Called.{room_goes_on, counting_goes_on, sweep_goes_on, key_goes_on}
-use Rattle.papaya_follows.proofs.Steps.{WentTo, DidSo, LeadsThere, one_of}
-use Rattle.papaya_hands.proofs.Asking.{which}
-use Rattle.papaya_hands.proofs.Calling.{caller_is}
-use Rattle.papaya_hands.proofs.Replacing.{calls_after}
+use Rattle.papaya_moments.specs.Given.Tables.Chunks.{is_incremental}
+use Rattle.papaya_moments.specs.Given.Tables.declared.node.Node.{Node}
+use Rattle.papaya_moments.specs.Given.Raw.declared.machines.progress.Progress.{Progress}
+use Rattle.papaya_moments.specs.Given.Runs.Same.{is_same}
+use Rattle.papaya_moments.specs.Given.Schedules.declared.call.Answer.{Answer}
+use Rattle.papaya_moments.specs.Given.Schedules.declared.call.Call.{Call}
+use Rattle.papaya_moments.specs.Given.Schedules.declared.call.Call.TheVariants.{On}
+use Rattle.papaya_moments.specs.Given.Schedules.declared.call.OneKey.{OneKey}
+use Rattle.papaya_moments.specs.Given.Schedules.declared.call.Reply.{Reply}
+use Rattle.papaya_moments.specs.Given.Schedules.declared.effect.Effect.{Effect}
+use Rattle.papaya_moments.specs.Given.Schedules.declared.effect.Effect.TheVariants as effect
+use Rattle.papaya_moments.specs.Given.Schedules.declared.effect.Spot.{Spot}
+use Rattle.papaya_moments.specs.Given.Schedules.Effects.{due_for, call_by, with_effect, with_effects}
+use Rattle.papaya_moments.specs.Given.Schedules.Entry.{Entry}
+use Rattle.papaya_moments.specs.Given.Schedules.Linearizable.{shift_of}
+use Rattle.papaya_moments.specs.Given.Schedules.Moment.{InMap, UnderWay as CallThere, Moment}
+use Rattle.papaya_moments.specs.Given.Schedules.Sequential.{Meaning, Answers, Deed, Puts, Takes, means, answer_due}
+use Rattle.papaya_moments.specs.Given.Schedules.Views.{is_in_map, call_of, reply_to}
+use Rattle.papaya_moments.specs.Given.Rule.Chart.{Chart}
+use Rattle.papaya_moments.specs.Given.Points.FactsCalls.{Change, Unchanged, Stored, Replaced, Removed}
+use Rattle.papaya_moments.specs.Given.Callers.Together.{CallOnKey, UnderWay, OnKey, ForRoom, Counting, OverAll, change_told}
+use Rattle.papaya_moments.specs.Given.Finishes.Maps.{Standing}
+use Rattle.papaya_moments.specs.Given.Effects.Effects.{effects_of}
+use Rattle.papaya_moments.specs.Given.Effects.Known.{Known}
+use Rattle.papaya_moments.specs.Given.Effects.declared.acting.Acting.TheVariants as acts
+use Rattle.papaya_moments.specs.Given.Executor.IsAt.{Scene, IsAt, slot_of}
+use Rattle.papaya_moments.specs.Given.Executor.Stepping.{StepLeads}
+use Rattle.papaya_moments.specs.Given.Executor.declared.executor.Executor.{Executor}
+use Rattle.papaya_moments.specs.Given.Follows.Maps.{ShowsPairs}
+use Rattle.papaya_moments.specs.Given.Follows.Shows.{Shows}
+use Rattle.papaya_moments.proofs.Given.Follows.Called.{room_goes_on, counting_goes_on, sweep_goes_on, key_goes_on}
+use Rattle.papaya_moments.proofs.Given.Follows.Steps.{WentTo, DidSo, LeadsThere, one_of}
+use Rattle.papaya_moments.proofs.Given.Hands.Asking.{which}
+use Rattle.papaya_moments.proofs.Given.Hands.Calling.{caller_is}
+use Rattle.papaya_moments.proofs.Given.Hands.Replacing.{calls_after}
 use Rattle.papaya_moments.specs.Whole.{ShowsWhole}
-use Rattle.papaya_callers.specs.Pairs.{kind_of}
-use Rattle.papaya_follows.specs.Steps.{named_now, HasToStore, TakesNone}
-use Rattle.papaya_follows.proofs.Alike.{put_here}
-use Rattle.papaya_hands.specs.Asked.{IsAskedOn}
-use Rattle.papaya_hands.proofs.Puts.{MayDo}
-use Rattle.papaya_hands.proofs.RowSteps.{rows_hand_theirs}
-use Rattle.papaya_hands.proofs.Steps.{calls_store_theirs}
-use Rattle.papaya_spots.proofs.Shifts.{Shifts}
+use Rattle.papaya_moments.specs.Given.Callers.Pairs.{kind_of}
+use Rattle.papaya_moments.specs.Given.Follows.Steps.{named_now, HasToStore, TakesNone}
+use Rattle.papaya_moments.proofs.Given.Follows.Alike.{put_here}
+use Rattle.papaya_moments.specs.Given.Hands.Asked.{IsAskedOn}
+use Rattle.papaya_moments.proofs.Given.Hands.Puts.{MayDo}
+use Rattle.papaya_moments.proofs.Given.Hands.RowSteps.{rows_hand_theirs}
+use Rattle.papaya_moments.proofs.Given.Hands.Steps.{calls_store_theirs}
+use Rattle.papaya_moments.proofs.Given.Spots.Shifts.{Shifts}
 use Rattle.papaya_histories.specs.Changes.{AreTaken}
 use Rattle.papaya_histories.proofs.Changes.{acted_on, Stores, has_to, replacing, there, asked_on, takes_now, Did, ToldOnce, told_once, none_by, its_shifts, its_done, by_row, DidSoHere, NoRow}
 use Rattle.papaya_histories.proofs.Meanings.{ToRemove}

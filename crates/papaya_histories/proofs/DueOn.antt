@@ -1,37 +1,37 @@
 -- What calls owe they owe on between their steps.
 use Rattle.std.specs.Prelude.{◌≡◌, ℕ, ◌+◌, Bool, true, false, cond, List, [], ◌∷◌, find, Option, Some, ◌⊎◌, if◌then◌else◌}
 use Rattle.std.proofs.Common.{refl, ap, sym, subst, ◌∙◌, arith, inl, inr}
-use Rattle.papaya_runs.specs.Same.{is_same}
-use Rattle.papaya_raw.specs.declared.machines.asking.Asking.{Asking as AskingAt}
-use Rattle.papaya_raw.specs.declared.machines.asking.Reply.{Reply as MachineReply}
-use Rattle.papaya_raw.specs.declared.machines.call.Calling.TheVariants as at
-use Rattle.papaya_schedules.specs.declared.call.Call.{Call}
-use Rattle.papaya_schedules.specs.declared.call.Call.TheVariants.{On}
-use Rattle.papaya_schedules.specs.declared.call.OneKey.{OneKey}
-use Rattle.papaya_schedules.specs.declared.call.Reply.{Reply}
-use Rattle.papaya_schedules.specs.declared.outcome.Outcome.{Outcome}
-use Rattle.papaya_schedules.specs.declared.outcome.Outcome.TheVariants as outcome
-use Rattle.papaya_schedules.specs.After.{asks_on, comes_to, replied}
-use Rattle.papaya_schedules.specs.Beginning.{fresh_call, with_call}
-use Rattle.papaya_schedules.specs.Things.{same_question}
-use Rattle.papaya_schedules.specs.Moment.{Stands, Going, Asking, Told, IsReady, UnderWay as CallThere, Moment}
-use Rattle.papaya_schedules.specs.Views.{call_of, reply_to}
-use Rattle.papaya_points.specs.FactsCalls.{Change, Unchanged, Seeks}
-use Rattle.papaya_points.specs.Told.{IsRowOfCall}
-use Rattle.papaya_callers.specs.Sights.{seen_by}
-use Rattle.papaya_callers.specs.Together.{CallOnKey, UnderWay, OnKey, ForRoom, Counting, OverAll, Knows, Stands as StandsAt, in_slot}
-use Rattle.papaya_finishes.specs.Machines.{ToldOfKind}
-use Rattle.papaya_finishes.specs.Maps.{Standing}
-use Rattle.papaya_executor.specs.IsAt.{Scene, IsAt, slot_of}
-use Rattle.papaya_executor.specs.Replying.{scene_with}
-use Rattle.papaya_executor.specs.declared.executor.Executor.{Executor}
-use Rattle.papaya_follows.specs.Calling.{told}
-use Rattle.papaya_follows.proofs.Calling.{is_same_refl, replied_same, come}
-use Rattle.papaya_follows.proofs.Calls.{found}
-use Rattle.papaya_follows.proofs.Steps.{one_of}
-use Rattle.papaya_hands.specs.Asked.{as_told, IsAskedAs}
-use Rattle.papaya_hands.proofs.Asking.{which}
-use Rattle.papaya_hands.proofs.Calling.{caller_is}
+use Rattle.papaya_moments.specs.Given.Runs.Same.{is_same}
+use Rattle.papaya_moments.specs.Given.Raw.declared.machines.asking.Asking.{Asking as AskingAt}
+use Rattle.papaya_moments.specs.Given.Raw.declared.machines.asking.Reply.{Reply as MachineReply}
+use Rattle.papaya_moments.specs.Given.Raw.declared.machines.call.Calling.TheVariants as at
+use Rattle.papaya_moments.specs.Given.Schedules.declared.call.Call.{Call}
+use Rattle.papaya_moments.specs.Given.Schedules.declared.call.Call.TheVariants.{On}
+use Rattle.papaya_moments.specs.Given.Schedules.declared.call.OneKey.{OneKey}
+use Rattle.papaya_moments.specs.Given.Schedules.declared.call.Reply.{Reply}
+use Rattle.papaya_moments.specs.Given.Schedules.declared.outcome.Outcome.{Outcome}
+use Rattle.papaya_moments.specs.Given.Schedules.declared.outcome.Outcome.TheVariants as outcome
+use Rattle.papaya_moments.specs.Given.Schedules.After.{asks_on, comes_to, replied}
+use Rattle.papaya_moments.specs.Given.Schedules.Beginning.{fresh_call, with_call}
+use Rattle.papaya_moments.specs.Given.Schedules.Things.{same_question}
+use Rattle.papaya_moments.specs.Given.Schedules.Moment.{Stands, Going, Asking, Told, IsReady, UnderWay as CallThere, Moment}
+use Rattle.papaya_moments.specs.Given.Schedules.Views.{call_of, reply_to}
+use Rattle.papaya_moments.specs.Given.Points.FactsCalls.{Change, Unchanged, Seeks}
+use Rattle.papaya_moments.specs.Given.Points.Told.{IsRowOfCall}
+use Rattle.papaya_moments.specs.Given.Callers.Sights.{seen_by}
+use Rattle.papaya_moments.specs.Given.Callers.Together.{CallOnKey, UnderWay, OnKey, ForRoom, Counting, OverAll, Knows, Stands as StandsAt, in_slot}
+use Rattle.papaya_moments.specs.Given.Finishes.Machines.{ToldOfKind}
+use Rattle.papaya_moments.specs.Given.Finishes.Maps.{Standing}
+use Rattle.papaya_moments.specs.Given.Executor.IsAt.{Scene, IsAt, slot_of}
+use Rattle.papaya_moments.specs.Given.Executor.Replying.{scene_with}
+use Rattle.papaya_moments.specs.Given.Executor.declared.executor.Executor.{Executor}
+use Rattle.papaya_moments.specs.Given.Follows.Calling.{told}
+use Rattle.papaya_moments.proofs.Given.Follows.Calling.{is_same_refl, replied_same, come}
+use Rattle.papaya_moments.proofs.Given.Follows.Calls.{found}
+use Rattle.papaya_moments.proofs.Given.Follows.Steps.{one_of}
+use Rattle.papaya_moments.specs.Given.Hands.Asked.{as_told, IsAskedAs}
+use Rattle.papaya_moments.proofs.Given.Hands.Asking.{which}
+use Rattle.papaya_moments.proofs.Given.Hands.Calling.{caller_is}
 use Rattle.papaya_histories.specs.Changes.{IsTaken, AreTaken}
 use Rattle.papaya_histories.specs.Due.{Owes, DuesBegin, CallsComeToDue, EventsKeepDue, CallsBeginDue, CallsTakeDue}
 use Rattle.papaya_histories.specs.Histories.{StaysWithin}

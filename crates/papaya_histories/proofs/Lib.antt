@@ -37,3 +37,4 @@ pub mod NoKey
 pub mod Aside
 pub mod AnyCall
 mod Samples
+pub mod Given

@@ -1,45 +1,45 @@
 -- What a call stands at to ask, and has not asked yet, it may ask.
 use Rattle.std.specs.Prelude.{◌≡◌, ℕ, ◌+◌, ◌<◌, ◌≤◌, Bool, true, false, List, [], ◌∷◌, ◌++◌, length, Option, Some, None, ◌⊎◌}
 use Rattle.std.proofs.Common.{refl, ap, sym, subst, ◌∙◌, inl, inr}
-use Rattle.seize_words.specs.Word.{block_in}
-use Rattle.papaya_raw.specs.declared.machines.answer.KeyAnswer.{KeyAnswer}
-use Rattle.papaya_raw.specs.declared.machines.answer.KeyAnswer.TheVariants as answers
-use Rattle.papaya_raw.specs.declared.machines.asking.Asking.{Asking as AskingAt}
-use Rattle.papaya_raw.specs.declared.machines.asking.Asking.TheVariants as asking
-use Rattle.papaya_raw.specs.declared.machines.asking.Gap.{Gap}
-use Rattle.papaya_raw.specs.declared.machines.call.Calling.{Calling}
-use Rattle.papaya_raw.specs.declared.machines.call.Calling.TheVariants as at
-use Rattle.papaya_schedules.specs.declared.call.Call.{Call}
-use Rattle.papaya_schedules.specs.declared.call.Call.TheVariants.{On}
-use Rattle.papaya_schedules.specs.declared.call.OneKey.{OneKey}
-use Rattle.papaya_schedules.specs.After.{moment, moments_from}
-use Rattle.papaya_schedules.specs.Entry.{Entry}
-use Rattle.papaya_schedules.specs.Linearizable.{there_for, MayAsk}
-use Rattle.papaya_schedules.specs.Lists.{OneOf, is_in}
-use Rattle.papaya_schedules.specs.Moment.{UnderWay as CallThere, Moment}
-use Rattle.papaya_schedules.specs.Sequential.{Wants, means, key_of, asks_again}
-use Rattle.papaya_schedules.specs.Things.{same_question}
-use Rattle.papaya_schedules.specs.Views.{call_of, finite_map}
-use Rattle.papaya_rule.specs.Chart.{Phase, Holds, Still}
-use Rattle.papaya_rule.specs.Words.{Blocks, place_word}
-use Rattle.papaya_points.specs.FactsCalls.{Change, Unchanged, Seeks}
-use Rattle.papaya_points.specs.Steps.{AreLawful}
-use Rattle.papaya_points.specs.Told.{IsRowOfCall, HasAnswered}
-use Rattle.papaya_late.specs.Kinds.{FitsAsking}
-use Rattle.papaya_callers.specs.Asked.{last_told}
-use Rattle.papaya_callers.specs.Pairs.{Given, kind_of, KeepsGiven}
-use Rattle.papaya_callers.specs.Sights.{seen_by}
-use Rattle.papaya_callers.specs.Since.{SoSince}
-use Rattle.papaya_callers.specs.Together.{CallOnKey, OnKey, Knows, Together, in_slot}
-use Rattle.papaya_finishes.specs.Maps.{Standing}
-use Rattle.papaya_effects.specs.Known.{Known}
-use Rattle.papaya_effects.specs.declared.role.Role.TheVariants as role
-use Rattle.papaya_executor.specs.IsAt.{Scene, IsAt, slot_of}
-use Rattle.papaya_executor.specs.declared.executor.Executor.{Executor}
-use Rattle.papaya_hands.specs.Asked.{given_by, KnowsFirst, IsSameQuestion, IsQuestion, IsAskedOn, IsAskedAs, AsksThere}
-use Rattle.papaya_hands.proofs.Replies.{told_as}
-use Rattle.papaya_hands.proofs.Steps.{numbers_apart}
-use Rattle.papaya_hands.proofs.Takes.{not_first}
+use Rattle.papaya_moments.specs.Given.SeizeWords.Word.{block_in}
+use Rattle.papaya_moments.specs.Given.Raw.declared.machines.answer.KeyAnswer.{KeyAnswer}
+use Rattle.papaya_moments.specs.Given.Raw.declared.machines.answer.KeyAnswer.TheVariants as answers
+use Rattle.papaya_moments.specs.Given.Raw.declared.machines.asking.Asking.{Asking as AskingAt}
+use Rattle.papaya_moments.specs.Given.Raw.declared.machines.asking.Asking.TheVariants as asking
+use Rattle.papaya_moments.specs.Given.Raw.declared.machines.asking.Gap.{Gap}
+use Rattle.papaya_moments.specs.Given.Raw.declared.machines.call.Calling.{Calling}
+use Rattle.papaya_moments.specs.Given.Raw.declared.machines.call.Calling.TheVariants as at
+use Rattle.papaya_moments.specs.Given.Schedules.declared.call.Call.{Call}
+use Rattle.papaya_moments.specs.Given.Schedules.declared.call.Call.TheVariants.{On}
+use Rattle.papaya_moments.specs.Given.Schedules.declared.call.OneKey.{OneKey}
+use Rattle.papaya_moments.specs.Given.Schedules.After.{moment, moments_from}
+use Rattle.papaya_moments.specs.Given.Schedules.Entry.{Entry}
+use Rattle.papaya_moments.specs.Given.Schedules.Linearizable.{there_for, MayAsk}
+use Rattle.papaya_moments.specs.Given.Schedules.Lists.{OneOf, is_in}
+use Rattle.papaya_moments.specs.Given.Schedules.Moment.{UnderWay as CallThere, Moment}
+use Rattle.papaya_moments.specs.Given.Schedules.Sequential.{Wants, means, key_of, asks_again}
+use Rattle.papaya_moments.specs.Given.Schedules.Things.{same_question}
+use Rattle.papaya_moments.specs.Given.Schedules.Views.{call_of, finite_map}
+use Rattle.papaya_moments.specs.Given.Rule.Chart.{Phase, Holds, Still}
+use Rattle.papaya_moments.specs.Given.Rule.Words.{Blocks, place_word}
+use Rattle.papaya_moments.specs.Given.Points.FactsCalls.{Change, Unchanged, Seeks}
+use Rattle.papaya_moments.specs.Given.Points.Steps.{AreLawful}
+use Rattle.papaya_moments.specs.Given.Points.Told.{IsRowOfCall, HasAnswered}
+use Rattle.papaya_moments.specs.Given.Late.Kinds.{FitsAsking}
+use Rattle.papaya_moments.specs.Given.Callers.Asked.{last_told}
+use Rattle.papaya_moments.specs.Given.Callers.Pairs.{Given, kind_of, KeepsGiven}
+use Rattle.papaya_moments.specs.Given.Callers.Sights.{seen_by}
+use Rattle.papaya_moments.specs.Given.Callers.Since.{SoSince}
+use Rattle.papaya_moments.specs.Given.Callers.Together.{CallOnKey, OnKey, Knows, Together, in_slot}
+use Rattle.papaya_moments.specs.Given.Finishes.Maps.{Standing}
+use Rattle.papaya_moments.specs.Given.Effects.Known.{Known}
+use Rattle.papaya_moments.specs.Given.Effects.declared.role.Role.TheVariants as role
+use Rattle.papaya_moments.specs.Given.Executor.IsAt.{Scene, IsAt, slot_of}
+use Rattle.papaya_moments.specs.Given.Executor.declared.executor.Executor.{Executor}
+use Rattle.papaya_moments.specs.Given.Hands.Asked.{given_by, KnowsFirst, IsSameQuestion, IsQuestion, IsAskedOn, IsAskedAs, AsksThere}
+use Rattle.papaya_moments.proofs.Given.Hands.Replies.{told_as}
+use Rattle.papaya_moments.proofs.Given.Hands.Steps.{numbers_apart}
+use Rattle.papaya_moments.proofs.Given.Hands.Takes.{not_first}
 use Rattle.papaya_histories.specs.Asking.{QuestionsMayBeAsked}
 use Rattle.papaya_histories.specs.Due.{Owes, ShowsDue}
 use Rattle.papaya_histories.specs.Had.{HadThen}

@@ -1,25 +1,25 @@
 -- What a map has now, the finite map of the moment has.
 use Rattle.std.specs.Prelude.{◌≡◌, ℕ, ◌<◌, Bool, true, false, ◌&&◌, length, Option, Some, None}
 use Rattle.std.proofs.Common.{refl, ap, sym, subst, ◌∙◌}
-use Rattle.seize.specs.World.{World}
-use Rattle.papaya_tables.specs.Chunks.{is_incremental}
-use Rattle.papaya_tables.specs.declared.node.Node.{Node}
-use Rattle.papaya_runs.specs.Log.{pair_at, is_key}
-use Rattle.papaya_schedules.specs.Moment.{Moment}
-use Rattle.papaya_schedules.specs.Views.{is_in_map, finite_map}
-use Rattle.papaya_rule.specs.Chart.{Chart}
-use Rattle.papaya_rule.specs.Maps.{spot_of}
-use Rattle.papaya_rule.specs.Rule.{is_of}
-use Rattle.papaya_rule.proofs.Laws.{current_is_known}
-use Rattle.papaya_points.specs.Steps.{AreLawful}
-use Rattle.papaya_callers.specs.Together.{UnderWay, Together}
-use Rattle.papaya_callers.proofs.Asked.OneCurrent.{one_current}
-use Rattle.papaya_finishes.specs.Maps.{Standing}
-use Rattle.papaya_effects.specs.Known.{Known}
-use Rattle.papaya_executor.specs.IsAt.{slot_of}
-use Rattle.papaya_follows.specs.Blocks.{HasRole, ShowsBlocks}
-use Rattle.papaya_follows.specs.Maps.{ShowsPairs}
-use Rattle.papaya_follows.proofs.Stored.{in_map_true}
+use Rattle.papaya_moments.specs.Given.Seize.World.{World}
+use Rattle.papaya_moments.specs.Given.Tables.Chunks.{is_incremental}
+use Rattle.papaya_moments.specs.Given.Tables.declared.node.Node.{Node}
+use Rattle.papaya_moments.specs.Given.Runs.Log.{pair_at, is_key}
+use Rattle.papaya_moments.specs.Given.Schedules.Moment.{Moment}
+use Rattle.papaya_moments.specs.Given.Schedules.Views.{is_in_map, finite_map}
+use Rattle.papaya_moments.specs.Given.Rule.Chart.{Chart}
+use Rattle.papaya_moments.specs.Given.Rule.Maps.{spot_of}
+use Rattle.papaya_moments.specs.Given.Rule.Rule.{is_of}
+use Rattle.papaya_moments.proofs.Given.Rule.Laws.{current_is_known}
+use Rattle.papaya_moments.specs.Given.Points.Steps.{AreLawful}
+use Rattle.papaya_moments.specs.Given.Callers.Together.{UnderWay, Together}
+use Rattle.papaya_moments.proofs.Given.Callers.Asked.OneCurrent.{one_current}
+use Rattle.papaya_moments.specs.Given.Finishes.Maps.{Standing}
+use Rattle.papaya_moments.specs.Given.Effects.Known.{Known}
+use Rattle.papaya_moments.specs.Given.Executor.IsAt.{slot_of}
+use Rattle.papaya_moments.specs.Given.Follows.Blocks.{HasRole, ShowsBlocks}
+use Rattle.papaya_moments.specs.Given.Follows.Maps.{ShowsPairs}
+use Rattle.papaya_moments.proofs.Given.Follows.Stored.{in_map_true}
 use Rattle.papaya_histories.specs.Had.{Had, HadJust, HadThen}
 use Rattle.papaya_histories.proofs.Found.{is_its, FoundIn, found}
 

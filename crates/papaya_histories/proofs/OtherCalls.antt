@@ -2,50 +2,50 @@
 use Rattle.std.specs.Prelude.{◌≡◌, ℕ, ◌<◌, Bool, true, false, List, [], ◌∷◌, ◌++◌, flat_map, Option, Some, ◌⊎◌}
 use Rattle.std.proofs.Common.{refl, ap, sym, subst, ◌∙◌, arith, inl, inr}
 use Rattle.std.proofs.lemmas.Bool.{cases_eq}
-use Rattle.seize_words.specs.Mem.{Mem}
-use Rattle.seize.specs.World.{World}
-use Rattle.papaya_tables.specs.Chunks.{is_incremental}
-use Rattle.papaya_tables.specs.declared.node.Node.{Node}
-use Rattle.papaya_sweeps.specs.declared.sweep.Purpose.{Purpose}
-use Rattle.papaya_sweeps.specs.declared.sweep.Purpose.TheVariants.{Walks, Retains}
-use Rattle.papaya_raw.specs.declared.machines.progress.Progress.{Progress}
-use Rattle.papaya_schedules.specs.declared.call.Call.{Call}
-use Rattle.papaya_schedules.specs.declared.call.Call.TheVariants as call
-use Rattle.papaya_schedules.specs.declared.effect.Effect.{Effect}
-use Rattle.papaya_schedules.specs.declared.outcome.Outcome.{Outcome}
-use Rattle.papaya_schedules.specs.declared.outcome.Outcome.TheVariants as outcome
-use Rattle.papaya_schedules.specs.After.{moment, moments_from}
-use Rattle.papaya_schedules.specs.Beginning.{at_work}
-use Rattle.papaya_schedules.specs.Effects.{with_effects, worked}
-use Rattle.papaya_schedules.specs.Entry.{caller_of, acting, acted_on}
-use Rattle.papaya_schedules.specs.Linearizable.{shift_of, MayRemove, RemovesOnly, Changes, Ends, AsksRight, ActsRight, ActsOf}
-use Rattle.papaya_schedules.specs.Moment.{Stands, Going, Asking, Told, IsReady, UnderWay as CallThere, Moment}
-use Rattle.papaya_schedules.specs.Sequential.{Shift, ComesIn, GivesWay, GoesOut}
-use Rattle.papaya_schedules.specs.Views.{call_of, reply_to}
-use Rattle.papaya_rule.specs.Chart.{Chart, put}
-use Rattle.papaya_rule.proofs.Laws.{current_is_known}
-use Rattle.papaya_rule.proofs.Moves.Writes.{put_here, put_elsewhere}
-use Rattle.papaya_points.specs.FactsCalls.{Unchanged}
-use Rattle.papaya_callers.specs.OverAll.{Verdict, CallOverAll, RemovesTold}
-use Rattle.papaya_callers.specs.Together.{UnderWay, OnKey, ForRoom, Counting, OverAll, Together, IsOneStep}
-use Rattle.papaya_finishes.specs.Maps.{Standing}
-use Rattle.papaya_effects.specs.Effects.{effects_of}
-use Rattle.papaya_effects.specs.Known.{Known}
-use Rattle.papaya_effects.specs.declared.acting.Acting.TheVariants as acts
-use Rattle.papaya_executor.specs.IsAt.{Scene, IsAt, slot_of}
-use Rattle.papaya_executor.specs.Stepping.{StepLeads}
-use Rattle.papaya_executor.specs.declared.executor.Executor.{Executor}
-use Rattle.papaya_follows.specs.Calls.{IsCalled}
-use Rattle.papaya_follows.specs.Shows.{Shows}
-use Rattle.papaya_follows.specs.Steps.{TakesNone}
-use Rattle.papaya_follows.proofs.Operations.{operated_leaves, LeavesBy}
-use Rattle.papaya_follows.proofs.Rows.{one_step_leaves}
-use Rattle.papaya_follows.proofs.RowSteps.{row_done}
-use Rattle.papaya_follows.proofs.Steps.{WentTo, went_to, made_so, is_inside, DidSo, OfNoRow, one_of}
-use Rattle.papaya_hands.proofs.Replacing.{calls_after}
-use Rattle.papaya_hands.proofs.RowSteps.{rows_hand_theirs}
-use Rattle.papaya_spots.proofs.Shifts.{Shifts, KeepsAll, StoresOne, ReplacesOne, RemovesOne, calm_shifts}
-use Rattle.papaya_spots.proofs.Steps.{moved_shifts, stayed_calm}
+use Rattle.papaya_moments.specs.Given.SeizeWords.Mem.{Mem}
+use Rattle.papaya_moments.specs.Given.Seize.World.{World}
+use Rattle.papaya_moments.specs.Given.Tables.Chunks.{is_incremental}
+use Rattle.papaya_moments.specs.Given.Tables.declared.node.Node.{Node}
+use Rattle.papaya_moments.specs.Given.Sweeps.declared.sweep.Purpose.{Purpose}
+use Rattle.papaya_moments.specs.Given.Sweeps.declared.sweep.Purpose.TheVariants.{Walks, Retains}
+use Rattle.papaya_moments.specs.Given.Raw.declared.machines.progress.Progress.{Progress}
+use Rattle.papaya_moments.specs.Given.Schedules.declared.call.Call.{Call}
+use Rattle.papaya_moments.specs.Given.Schedules.declared.call.Call.TheVariants as call
+use Rattle.papaya_moments.specs.Given.Schedules.declared.effect.Effect.{Effect}
+use Rattle.papaya_moments.specs.Given.Schedules.declared.outcome.Outcome.{Outcome}
+use Rattle.papaya_moments.specs.Given.Schedules.declared.outcome.Outcome.TheVariants as outcome
+use Rattle.papaya_moments.specs.Given.Schedules.After.{moment, moments_from}
+use Rattle.papaya_moments.specs.Given.Schedules.Beginning.{at_work}
+use Rattle.papaya_moments.specs.Given.Schedules.Effects.{with_effects, worked}
+use Rattle.papaya_moments.specs.Given.Schedules.Entry.{caller_of, acting, acted_on}
+use Rattle.papaya_moments.specs.Given.Schedules.Linearizable.{shift_of, MayRemove, RemovesOnly, Changes, Ends, AsksRight, ActsRight, ActsOf}
+use Rattle.papaya_moments.specs.Given.Schedules.Moment.{Stands, Going, Asking, Told, IsReady, UnderWay as CallThere, Moment}
+use Rattle.papaya_moments.specs.Given.Schedules.Sequential.{Shift, ComesIn, GivesWay, GoesOut}
+use Rattle.papaya_moments.specs.Given.Schedules.Views.{call_of, reply_to}
+use Rattle.papaya_moments.specs.Given.Rule.Chart.{Chart, put}
+use Rattle.papaya_moments.proofs.Given.Rule.Laws.{current_is_known}
+use Rattle.papaya_moments.proofs.Given.Rule.Moves.Writes.{put_here, put_elsewhere}
+use Rattle.papaya_moments.specs.Given.Points.FactsCalls.{Unchanged}
+use Rattle.papaya_moments.specs.Given.Callers.OverAll.{Verdict, CallOverAll, RemovesTold}
+use Rattle.papaya_moments.specs.Given.Callers.Together.{UnderWay, OnKey, ForRoom, Counting, OverAll, Together, IsOneStep}
+use Rattle.papaya_moments.specs.Given.Finishes.Maps.{Standing}
+use Rattle.papaya_moments.specs.Given.Effects.Effects.{effects_of}
+use Rattle.papaya_moments.specs.Given.Effects.Known.{Known}
+use Rattle.papaya_moments.specs.Given.Effects.declared.acting.Acting.TheVariants as acts
+use Rattle.papaya_moments.specs.Given.Executor.IsAt.{Scene, IsAt, slot_of}
+use Rattle.papaya_moments.specs.Given.Executor.Stepping.{StepLeads}
+use Rattle.papaya_moments.specs.Given.Executor.declared.executor.Executor.{Executor}
+use Rattle.papaya_moments.specs.Given.Follows.Calls.{IsCalled}
+use Rattle.papaya_moments.specs.Given.Follows.Shows.{Shows}
+use Rattle.papaya_moments.specs.Given.Follows.Steps.{TakesNone}
+use Rattle.papaya_moments.proofs.Given.Follows.Operations.{operated_leaves, LeavesBy}
+use Rattle.papaya_moments.proofs.Given.Follows.Rows.{one_step_leaves}
+use Rattle.papaya_moments.proofs.Given.Follows.RowSteps.{row_done}
+use Rattle.papaya_moments.proofs.Given.Follows.Steps.{WentTo, went_to, made_so, is_inside, DidSo, OfNoRow, one_of}
+use Rattle.papaya_moments.proofs.Given.Hands.Replacing.{calls_after}
+use Rattle.papaya_moments.proofs.Given.Hands.RowSteps.{rows_hand_theirs}
+use Rattle.papaya_moments.proofs.Given.Spots.Shifts.{Shifts, KeepsAll, StoresOne, ReplacesOne, RemovesOne, calm_shifts}
+use Rattle.papaya_moments.proofs.Given.Spots.Steps.{moved_shifts, stayed_calm}
 use Rattle.papaya_moments.specs.Whole.{ShowsWhole}
 use Rattle.papaya_moments.proofs.Calls.{of_row}
 use Rattle.papaya_histories.specs.AsCalled.{purpose_of, IsLastTold, IsAsCalled, ShowsAsCalled}

@@ -1,24 +1,24 @@
 -- What is of no call leaves histories within the moments of the run, and what calls owe: no pair of a map comes or goes.
 use Rattle.std.specs.Prelude.{◌≡◌, ℕ, Bool, List, find, Option, Some, ◌⊎◌}
 use Rattle.std.proofs.Common.{ap, sym, subst, ◌∙◌, arith, inl, inr}
-use Rattle.papaya_runs.specs.Same.{is_same}
-use Rattle.papaya_schedules.specs.declared.call.Call.TheVariants.{On}
-use Rattle.papaya_schedules.specs.declared.call.OneKey.{OneKey}
-use Rattle.papaya_schedules.specs.Entry.{Entry}
-use Rattle.papaya_schedules.specs.Moment.{UnderWay as CallThere, Moment}
-use Rattle.papaya_schedules.specs.Views.{call_of, finite_map}
-use Rattle.papaya_rule.specs.Chart.{Chart}
-use Rattle.papaya_callers.specs.Together.{CallOnKey, UnderWay, OnKey}
-use Rattle.papaya_finishes.specs.Maps.{Standing}
-use Rattle.papaya_effects.specs.Known.{Known}
-use Rattle.papaya_executor.specs.IsAt.{Scene, IsAt}
-use Rattle.papaya_executor.specs.declared.executor.Executor.{Executor}
-use Rattle.papaya_others.specs.After.{ShowsAfter}
-use Rattle.papaya_others.proofs.RowBegins.{rows_begin_shown}
-use Rattle.papaya_others.proofs.Rows.{rows_on_slots_are_shown}
+use Rattle.papaya_moments.specs.Given.Runs.Same.{is_same}
+use Rattle.papaya_moments.specs.Given.Schedules.declared.call.Call.TheVariants.{On}
+use Rattle.papaya_moments.specs.Given.Schedules.declared.call.OneKey.{OneKey}
+use Rattle.papaya_moments.specs.Given.Schedules.Entry.{Entry}
+use Rattle.papaya_moments.specs.Given.Schedules.Moment.{UnderWay as CallThere, Moment}
+use Rattle.papaya_moments.specs.Given.Schedules.Views.{call_of, finite_map}
+use Rattle.papaya_moments.specs.Given.Rule.Chart.{Chart}
+use Rattle.papaya_moments.specs.Given.Callers.Together.{CallOnKey, UnderWay, OnKey}
+use Rattle.papaya_moments.specs.Given.Finishes.Maps.{Standing}
+use Rattle.papaya_moments.specs.Given.Effects.Known.{Known}
+use Rattle.papaya_moments.specs.Given.Executor.IsAt.{Scene, IsAt}
+use Rattle.papaya_moments.specs.Given.Executor.declared.executor.Executor.{Executor}
+use Rattle.papaya_moments.specs.Given.Others.After.{ShowsAfter}
+use Rattle.papaya_moments.proofs.Given.Others.RowBegins.{rows_begin_shown}
+use Rattle.papaya_moments.proofs.Given.Others.Rows.{rows_on_slots_are_shown}
 use Rattle.papaya_moments.proofs.Beside.{IsBeside, StoodSo, StandsNew, asked_beside}
 use Rattle.papaya_moments.proofs.OnSlots.{row_beside, rows_begin_beside}
-use Rattle.papaya_hands.specs.Asked.{ShowsAsked}
+use Rattle.papaya_moments.specs.Given.Hands.Asked.{ShowsAsked}
 use Rattle.papaya_histories.specs.Due.{Owes, ShowsDue}
 use Rattle.papaya_histories.specs.Had.{HadThen}
 use Rattle.papaya_histories.specs.Histories.{began_of, since, IsWithin, ShowsHistory}

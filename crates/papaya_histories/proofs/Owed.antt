@@ -1,36 +1,36 @@
 -- An answer that tells a change is the one that the call owes.
 use Rattle.std.specs.Prelude.{◌≡◌, ℕ, ◌<◌, Bool, true, false, List, Option, Some, None}
 use Rattle.std.proofs.Common.{refl, ap, sym, subst, ◌∙◌, inl, inr}
-use Rattle.seize_words.specs.Word.{block_in}
-use Rattle.seize.specs.World.{World}
-use Rattle.papaya_tables.specs.declared.node.Node.{Node}
-use Rattle.papaya_raw.specs.declared.machines.answer.KeyAnswer.{KeyAnswer}
-use Rattle.papaya_raw.specs.declared.machines.answer.KeyAnswer.TheVariants as answers
-use Rattle.papaya_raw.specs.declared.machines.progress.Answer.TheVariants.{Key}
-use Rattle.papaya_raw.specs.declared.machines.progress.Progress.{Progress}
-use Rattle.papaya_raw.specs.declared.machines.progress.Progress.TheVariants.{Done}
-use Rattle.papaya_schedules.specs.declared.call.Answer.{Answer}
-use Rattle.papaya_schedules.specs.declared.call.Call.TheVariants.{On}
-use Rattle.papaya_schedules.specs.declared.call.OneKey.{OneKey}
-use Rattle.papaya_schedules.specs.declared.call.Reply.{Reply}
-use Rattle.papaya_schedules.specs.Entry.{Entry}
-use Rattle.papaya_schedules.specs.Moment.{UnderWay as CallThere, Moment}
-use Rattle.papaya_schedules.specs.Sequential.{Answers, Deed, Puts, Takes, means}
-use Rattle.papaya_schedules.specs.Views.{call_of, reply_to}
-use Rattle.papaya_rule.specs.Chart.{Still, Holds, Chart}
-use Rattle.papaya_rule.specs.Words.{Blocks, place_word}
-use Rattle.papaya_points.specs.FactsCalls.{Change, Unchanged, Stored, Replaced, Removed, Tells}
-use Rattle.papaya_callers.specs.Sights.{seen_by}
-use Rattle.papaya_callers.specs.Since.{SoSince}
-use Rattle.papaya_callers.specs.Together.{CallOnKey, OnKey, AnswersOnce, change_told, in_slot}
-use Rattle.papaya_finishes.specs.Maps.{Standing}
-use Rattle.papaya_effects.specs.Known.{Known}
-use Rattle.papaya_effects.specs.declared.role.Role.TheVariants as role
-use Rattle.papaya_executor.specs.IsAt.{Scene, IsAt, slot_of}
-use Rattle.papaya_executor.specs.Stepping.{StepLeads}
-use Rattle.papaya_executor.specs.declared.executor.Executor.{Executor}
-use Rattle.papaya_follows.specs.Shows.{Shows}
-use Rattle.papaya_follows.proofs.Steps.{WentTo, LeadsThere, DidSo}
+use Rattle.papaya_moments.specs.Given.SeizeWords.Word.{block_in}
+use Rattle.papaya_moments.specs.Given.Seize.World.{World}
+use Rattle.papaya_moments.specs.Given.Tables.declared.node.Node.{Node}
+use Rattle.papaya_moments.specs.Given.Raw.declared.machines.answer.KeyAnswer.{KeyAnswer}
+use Rattle.papaya_moments.specs.Given.Raw.declared.machines.answer.KeyAnswer.TheVariants as answers
+use Rattle.papaya_moments.specs.Given.Raw.declared.machines.progress.Answer.TheVariants.{Key}
+use Rattle.papaya_moments.specs.Given.Raw.declared.machines.progress.Progress.{Progress}
+use Rattle.papaya_moments.specs.Given.Raw.declared.machines.progress.Progress.TheVariants.{Done}
+use Rattle.papaya_moments.specs.Given.Schedules.declared.call.Answer.{Answer}
+use Rattle.papaya_moments.specs.Given.Schedules.declared.call.Call.TheVariants.{On}
+use Rattle.papaya_moments.specs.Given.Schedules.declared.call.OneKey.{OneKey}
+use Rattle.papaya_moments.specs.Given.Schedules.declared.call.Reply.{Reply}
+use Rattle.papaya_moments.specs.Given.Schedules.Entry.{Entry}
+use Rattle.papaya_moments.specs.Given.Schedules.Moment.{UnderWay as CallThere, Moment}
+use Rattle.papaya_moments.specs.Given.Schedules.Sequential.{Answers, Deed, Puts, Takes, means}
+use Rattle.papaya_moments.specs.Given.Schedules.Views.{call_of, reply_to}
+use Rattle.papaya_moments.specs.Given.Rule.Chart.{Still, Holds, Chart}
+use Rattle.papaya_moments.specs.Given.Rule.Words.{Blocks, place_word}
+use Rattle.papaya_moments.specs.Given.Points.FactsCalls.{Change, Unchanged, Stored, Replaced, Removed, Tells}
+use Rattle.papaya_moments.specs.Given.Callers.Sights.{seen_by}
+use Rattle.papaya_moments.specs.Given.Callers.Since.{SoSince}
+use Rattle.papaya_moments.specs.Given.Callers.Together.{CallOnKey, OnKey, AnswersOnce, change_told, in_slot}
+use Rattle.papaya_moments.specs.Given.Finishes.Maps.{Standing}
+use Rattle.papaya_moments.specs.Given.Effects.Known.{Known}
+use Rattle.papaya_moments.specs.Given.Effects.declared.role.Role.TheVariants as role
+use Rattle.papaya_moments.specs.Given.Executor.IsAt.{Scene, IsAt, slot_of}
+use Rattle.papaya_moments.specs.Given.Executor.Stepping.{StepLeads}
+use Rattle.papaya_moments.specs.Given.Executor.declared.executor.Executor.{Executor}
+use Rattle.papaya_moments.specs.Given.Follows.Shows.{Shows}
+use Rattle.papaya_moments.proofs.Given.Follows.Steps.{WentTo, LeadsThere, DidSo}
 use Rattle.papaya_moments.specs.Whole.{ShowsWhole}
 use Rattle.papaya_histories.specs.Answers.{IsToldAs, IsToldDone, AnswersAreOwed}
 use Rattle.papaya_histories.specs.Due.{Owes, ShowsDue}

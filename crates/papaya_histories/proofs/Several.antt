@@ -3,32 +3,32 @@ use Rattle.std.specs.Prelude.{◌≡◌, ℕ, ◌+◌, Bool, List, [], ◌++◌,
 use Rattle.std.proofs.Common.{refl, ap, sym, subst, ◌∙◌, inl, inr}
 use Rattle.std.proofs.lemmas.Grind.{flat_map-append}
 use Rattle.std.proofs.lemmas.List.{append-nil}
-use Rattle.papaya_tables.specs.declared.node.Node.{Node}
-use Rattle.papaya_raw.specs.declared.machines.progress.Progress.{Progress}
-use Rattle.papaya_schedules.specs.declared.call.Call.TheVariants.{On}
-use Rattle.papaya_schedules.specs.declared.call.OneKey.{OneKey}
-use Rattle.papaya_schedules.specs.declared.call.Reply.{Reply}
-use Rattle.papaya_schedules.specs.declared.effect.Effect.{Effect}
-use Rattle.papaya_schedules.specs.After.{moment}
-use Rattle.papaya_schedules.specs.Effects.{with_effects}
-use Rattle.papaya_schedules.specs.Entry.{Entry}
-use Rattle.papaya_schedules.specs.Linearizable.{shift_of, there_for, meaning_at, ChangesOnce}
-use Rattle.papaya_schedules.specs.Moment.{UnderWay as CallThere, Moment}
-use Rattle.papaya_schedules.specs.Sequential.{Shift, means, key_of, shifts}
-use Rattle.papaya_schedules.specs.Views.{call_of, finite_map, reply_to}
-use Rattle.papaya_points.specs.FactsCalls.{Change, Unchanged}
-use Rattle.papaya_callers.specs.Together.{CallOnKey, UnderWay, OnKey}
-use Rattle.seize.specs.World.{with_at}
-use Rattle.papaya_callers.proofs.Together.At.{at_same}
-use Rattle.papaya_finishes.specs.Maps.{Standing}
-use Rattle.papaya_effects.specs.Effects.{effects_of, known_after}
-use Rattle.papaya_effects.specs.Known.{Known}
-use Rattle.papaya_effects.specs.declared.acting.Acting.TheVariants as acts
-use Rattle.papaya_executor.specs.IsAt.{Scene, IsAt}
-use Rattle.papaya_executor.specs.Stepping.{StepLeads, scene_after}
-use Rattle.papaya_executor.specs.declared.executor.Executor.{Executor}
-use Rattle.papaya_follows.proofs.Steps.{one_of}
-use Rattle.papaya_hands.proofs.Replacing.{calls_after}
+use Rattle.papaya_moments.specs.Given.Tables.declared.node.Node.{Node}
+use Rattle.papaya_moments.specs.Given.Raw.declared.machines.progress.Progress.{Progress}
+use Rattle.papaya_moments.specs.Given.Schedules.declared.call.Call.TheVariants.{On}
+use Rattle.papaya_moments.specs.Given.Schedules.declared.call.OneKey.{OneKey}
+use Rattle.papaya_moments.specs.Given.Schedules.declared.call.Reply.{Reply}
+use Rattle.papaya_moments.specs.Given.Schedules.declared.effect.Effect.{Effect}
+use Rattle.papaya_moments.specs.Given.Schedules.After.{moment}
+use Rattle.papaya_moments.specs.Given.Schedules.Effects.{with_effects}
+use Rattle.papaya_moments.specs.Given.Schedules.Entry.{Entry}
+use Rattle.papaya_moments.specs.Given.Schedules.Linearizable.{shift_of, there_for, meaning_at, ChangesOnce}
+use Rattle.papaya_moments.specs.Given.Schedules.Moment.{UnderWay as CallThere, Moment}
+use Rattle.papaya_moments.specs.Given.Schedules.Sequential.{Shift, means, key_of, shifts}
+use Rattle.papaya_moments.specs.Given.Schedules.Views.{call_of, finite_map, reply_to}
+use Rattle.papaya_moments.specs.Given.Points.FactsCalls.{Change, Unchanged}
+use Rattle.papaya_moments.specs.Given.Callers.Together.{CallOnKey, UnderWay, OnKey}
+use Rattle.papaya_moments.specs.Given.Seize.World.{with_at}
+use Rattle.papaya_moments.proofs.Given.Callers.Together.At.{at_same}
+use Rattle.papaya_moments.specs.Given.Finishes.Maps.{Standing}
+use Rattle.papaya_moments.specs.Given.Effects.Effects.{effects_of, known_after}
+use Rattle.papaya_moments.specs.Given.Effects.Known.{Known}
+use Rattle.papaya_moments.specs.Given.Effects.declared.acting.Acting.TheVariants as acts
+use Rattle.papaya_moments.specs.Given.Executor.IsAt.{Scene, IsAt}
+use Rattle.papaya_moments.specs.Given.Executor.Stepping.{StepLeads, scene_after}
+use Rattle.papaya_moments.specs.Given.Executor.declared.executor.Executor.{Executor}
+use Rattle.papaya_moments.proofs.Given.Follows.Steps.{one_of}
+use Rattle.papaya_moments.proofs.Given.Hands.Replacing.{calls_after}
 use Rattle.papaya_moments.proofs.Calls.{calls_keep_whole}
 use Rattle.papaya_histories.specs.Due.{Owes}
 use Rattle.papaya_histories.specs.Kept.{ChangesFirst}

@@ -2,41 +2,41 @@
 use Rattle.std.specs.Prelude.{◌≡◌, ◌≢◌, ℕ, ◌≤◌, Bool, List, length, Option, Some, ◌⊎◌}
 use Rattle.std.proofs.Common.{refl, ap, sym, subst, ◌∙◌, arith, inl, inr}
 use Rattle.std.proofs.lemmas.Bool.{cases_eq}
-use Rattle.seize.specs.World.{World, with_at}
-use Rattle.papaya_tables.specs.Chunks.{is_incremental}
-use Rattle.papaya_tables.specs.declared.node.Node.{Node}
-use Rattle.papaya_raw.specs.declared.machines.progress.Progress.{Progress}
-use Rattle.papaya_schedules.specs.declared.effect.Effect.{Effect}
-use Rattle.papaya_schedules.specs.After.{moment}
-use Rattle.papaya_schedules.specs.Effects.{with_effects}
-use Rattle.papaya_schedules.specs.Entry.{Entry}
-use Rattle.papaya_schedules.specs.Moment.{UnderWay as CallThere, Moment}
-use Rattle.papaya_schedules.specs.Views.{call_of, finite_map}
-use Rattle.papaya_rule.specs.Chart.{Chart}
-use Rattle.papaya_rule.specs.InWorld.{IsMapIn, Went}
-use Rattle.papaya_rule.specs.Moments.{Remembers}
-use Rattle.papaya_rule.specs.Words.{Blocks}
-use Rattle.papaya_points.proofs.MovedLasts.{moved_lasts}
-use Rattle.papaya_callers.specs.Sights.{Sight, seen_by}
-use Rattle.papaya_callers.specs.Together.{UnderWay, OnKey, ForRoom, Counting, OverAll, in_slot}
-use Rattle.papaya_callers.proofs.Sights.Seen.{map_seen}
-use Rattle.papaya_callers.proofs.Together.At.{at_same}
-use Rattle.papaya_callers.proofs.Together.Fits.{map_in_slot}
-use Rattle.papaya_finishes.specs.Maps.{Standing, IsSameMap}
-use Rattle.papaya_effects.specs.Effects.{effects_of, known_after}
-use Rattle.papaya_effects.specs.Known.{Known}
-use Rattle.papaya_effects.specs.declared.acting.Acting.TheVariants as acts
-use Rattle.papaya_executor.specs.IsAt.{Scene, IsAt, slot_of}
-use Rattle.papaya_executor.specs.Stepping.{StepLeads, scene_after}
-use Rattle.papaya_executor.specs.declared.executor.Executor.{Executor}
-use Rattle.papaya_follows.specs.Shows.{Shows}
-use Rattle.papaya_follows.proofs.Called.{key_goes_on, room_goes_on, sweep_goes_on, counting_goes_on}
-use Rattle.papaya_follows.proofs.RowSteps.{row_step_shown}
-use Rattle.papaya_follows.proofs.Steps.{WentTo, went_to, made_so, is_inside, is_sight, DidSo, LeadsThere, step_shown, one_of}
-use Rattle.papaya_hands.proofs.AskedOn.{asked_on}
-use Rattle.papaya_hands.proofs.Asking.{which}
-use Rattle.papaya_hands.proofs.RowSteps.{rows_hand_theirs}
-use Rattle.papaya_hands.proofs.Steps.{calls_store_theirs}
+use Rattle.papaya_moments.specs.Given.Seize.World.{World, with_at}
+use Rattle.papaya_moments.specs.Given.Tables.Chunks.{is_incremental}
+use Rattle.papaya_moments.specs.Given.Tables.declared.node.Node.{Node}
+use Rattle.papaya_moments.specs.Given.Raw.declared.machines.progress.Progress.{Progress}
+use Rattle.papaya_moments.specs.Given.Schedules.declared.effect.Effect.{Effect}
+use Rattle.papaya_moments.specs.Given.Schedules.After.{moment}
+use Rattle.papaya_moments.specs.Given.Schedules.Effects.{with_effects}
+use Rattle.papaya_moments.specs.Given.Schedules.Entry.{Entry}
+use Rattle.papaya_moments.specs.Given.Schedules.Moment.{UnderWay as CallThere, Moment}
+use Rattle.papaya_moments.specs.Given.Schedules.Views.{call_of, finite_map}
+use Rattle.papaya_moments.specs.Given.Rule.Chart.{Chart}
+use Rattle.papaya_moments.specs.Given.Rule.InWorld.{IsMapIn, Went}
+use Rattle.papaya_moments.specs.Given.Rule.Moments.{Remembers}
+use Rattle.papaya_moments.specs.Given.Rule.Words.{Blocks}
+use Rattle.papaya_moments.proofs.Given.Points.MovedLasts.{moved_lasts}
+use Rattle.papaya_moments.specs.Given.Callers.Sights.{Sight, seen_by}
+use Rattle.papaya_moments.specs.Given.Callers.Together.{UnderWay, OnKey, ForRoom, Counting, OverAll, in_slot}
+use Rattle.papaya_moments.proofs.Given.Callers.Sights.Seen.{map_seen}
+use Rattle.papaya_moments.proofs.Given.Callers.Together.At.{at_same}
+use Rattle.papaya_moments.proofs.Given.Callers.Together.Fits.{map_in_slot}
+use Rattle.papaya_moments.specs.Given.Finishes.Maps.{Standing, IsSameMap}
+use Rattle.papaya_moments.specs.Given.Effects.Effects.{effects_of, known_after}
+use Rattle.papaya_moments.specs.Given.Effects.Known.{Known}
+use Rattle.papaya_moments.specs.Given.Effects.declared.acting.Acting.TheVariants as acts
+use Rattle.papaya_moments.specs.Given.Executor.IsAt.{Scene, IsAt, slot_of}
+use Rattle.papaya_moments.specs.Given.Executor.Stepping.{StepLeads, scene_after}
+use Rattle.papaya_moments.specs.Given.Executor.declared.executor.Executor.{Executor}
+use Rattle.papaya_moments.specs.Given.Follows.Shows.{Shows}
+use Rattle.papaya_moments.proofs.Given.Follows.Called.{key_goes_on, room_goes_on, sweep_goes_on, counting_goes_on}
+use Rattle.papaya_moments.proofs.Given.Follows.RowSteps.{row_step_shown}
+use Rattle.papaya_moments.proofs.Given.Follows.Steps.{WentTo, went_to, made_so, is_inside, is_sight, DidSo, LeadsThere, step_shown, one_of}
+use Rattle.papaya_moments.proofs.Given.Hands.AskedOn.{asked_on}
+use Rattle.papaya_moments.proofs.Given.Hands.Asking.{which}
+use Rattle.papaya_moments.proofs.Given.Hands.RowSteps.{rows_hand_theirs}
+use Rattle.papaya_moments.proofs.Given.Hands.Steps.{calls_store_theirs}
 use Rattle.papaya_moments.specs.Whole.{ShowsWhole}
 use Rattle.papaya_moments.proofs.Calls.{of_row}
 use Rattle.papaya_moments.proofs.OnSlots.{stood_same}

@@ -1,32 +1,32 @@
 -- What a call on one key answers without a change, in the words of a run, and when that was so.
 use Rattle.std.specs.Prelude.{◌≡◌, ℕ, Bool, List, Option, Some, None}
-use Rattle.seize_words.specs.declared.fault.Fault.{Fault}
-use Rattle.seize_words.specs.declared.fault.Fault.TheVariants.{RemoveNothing}
-use Rattle.seize_words.specs.Word.{block_in}
-use Rattle.papaya_raw.specs.declared.machines.answer.KeyAnswer.{KeyAnswer}
-use Rattle.papaya_raw.specs.declared.machines.answer.KeyAnswer.TheVariants as answers
-use Rattle.papaya_raw.specs.declared.machines.progress.Answer.TheVariants.{Key}
-use Rattle.papaya_raw.specs.declared.machines.progress.Progress.TheVariants.{Done, Refused}
-use Rattle.papaya_schedules.specs.declared.call.Answer.{Answer}
-use Rattle.papaya_schedules.specs.declared.call.Call.TheVariants.{On}
-use Rattle.papaya_schedules.specs.declared.call.OneKey.{OneKey}
-use Rattle.papaya_schedules.specs.declared.call.Reply.{Reply}
-use Rattle.papaya_schedules.specs.After.{moment, moments_from}
-use Rattle.papaya_schedules.specs.Effects.{with_effects}
-use Rattle.papaya_schedules.specs.Entry.{Entry}
-use Rattle.papaya_schedules.specs.Linearizable.{meaning_at}
-use Rattle.papaya_schedules.specs.Lists.{OneOf}
-use Rattle.papaya_schedules.specs.Moment.{UnderWay as CallThere, Moment}
-use Rattle.papaya_schedules.specs.Sequential.{Answers, Refuses, Leaves, Puts, Takes, means, key_of}
-use Rattle.papaya_schedules.specs.Views.{call_of, finite_map, reply_to}
-use Rattle.papaya_callers.specs.Together.{CallOnKey, OnKey}
-use Rattle.papaya_effects.specs.Effects.{effects_of, known_after}
-use Rattle.papaya_effects.specs.Known.{Known}
-use Rattle.papaya_effects.specs.declared.acting.Acting.TheVariants as acts
-use Rattle.papaya_effects.specs.declared.role.Role.TheVariants as role
-use Rattle.papaya_executor.specs.IsAt.{Scene, IsAt}
-use Rattle.papaya_executor.specs.Stepping.{StepLeads}
-use Rattle.papaya_executor.specs.declared.executor.Executor.{Executor}
+use Rattle.papaya_moments.specs.Given.SeizeWords.declared.fault.Fault.{Fault}
+use Rattle.papaya_moments.specs.Given.SeizeWords.declared.fault.Fault.TheVariants.{RemoveNothing}
+use Rattle.papaya_moments.specs.Given.SeizeWords.Word.{block_in}
+use Rattle.papaya_moments.specs.Given.Raw.declared.machines.answer.KeyAnswer.{KeyAnswer}
+use Rattle.papaya_moments.specs.Given.Raw.declared.machines.answer.KeyAnswer.TheVariants as answers
+use Rattle.papaya_moments.specs.Given.Raw.declared.machines.progress.Answer.TheVariants.{Key}
+use Rattle.papaya_moments.specs.Given.Raw.declared.machines.progress.Progress.TheVariants.{Done, Refused}
+use Rattle.papaya_moments.specs.Given.Schedules.declared.call.Answer.{Answer}
+use Rattle.papaya_moments.specs.Given.Schedules.declared.call.Call.TheVariants.{On}
+use Rattle.papaya_moments.specs.Given.Schedules.declared.call.OneKey.{OneKey}
+use Rattle.papaya_moments.specs.Given.Schedules.declared.call.Reply.{Reply}
+use Rattle.papaya_moments.specs.Given.Schedules.After.{moment, moments_from}
+use Rattle.papaya_moments.specs.Given.Schedules.Effects.{with_effects}
+use Rattle.papaya_moments.specs.Given.Schedules.Entry.{Entry}
+use Rattle.papaya_moments.specs.Given.Schedules.Linearizable.{meaning_at}
+use Rattle.papaya_moments.specs.Given.Schedules.Lists.{OneOf}
+use Rattle.papaya_moments.specs.Given.Schedules.Moment.{UnderWay as CallThere, Moment}
+use Rattle.papaya_moments.specs.Given.Schedules.Sequential.{Answers, Refuses, Leaves, Puts, Takes, means, key_of}
+use Rattle.papaya_moments.specs.Given.Schedules.Views.{call_of, finite_map, reply_to}
+use Rattle.papaya_moments.specs.Given.Callers.Together.{CallOnKey, OnKey}
+use Rattle.papaya_moments.specs.Given.Effects.Effects.{effects_of, known_after}
+use Rattle.papaya_moments.specs.Given.Effects.Known.{Known}
+use Rattle.papaya_moments.specs.Given.Effects.declared.acting.Acting.TheVariants as acts
+use Rattle.papaya_moments.specs.Given.Effects.declared.role.Role.TheVariants as role
+use Rattle.papaya_moments.specs.Given.Executor.IsAt.{Scene, IsAt}
+use Rattle.papaya_moments.specs.Given.Executor.Stepping.{StepLeads}
+use Rattle.papaya_moments.specs.Given.Executor.declared.executor.Executor.{Executor}
 use Rattle.papaya_moments.specs.Whole.{ShowsWhole}
 use Rattle.papaya_histories.specs.Due.{ShowsDue}
 use Rattle.papaya_histories.specs.Histories.{ShowsHistory}

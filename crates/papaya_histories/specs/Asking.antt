@@ -1,22 +1,22 @@
 -- What a call on one key asks, in the words of a run: when it may, and that the machine says so.
 use Rattle.std.specs.Prelude.{◌≡◌, ℕ, Bool, List, [], Option, Some, None}
-use Rattle.papaya_tables.specs.declared.node.Node.{Node}
-use Rattle.papaya_raw.specs.declared.machines.progress.Progress.{Progress}
-use Rattle.papaya_raw.specs.declared.machines.progress.Progress.TheVariants as progress
-use Rattle.papaya_schedules.specs.declared.call.Call.TheVariants.{On}
-use Rattle.papaya_schedules.specs.declared.call.OneKey.{OneKey}
-use Rattle.papaya_schedules.specs.After.{moment, moments_from}
-use Rattle.papaya_schedules.specs.Entry.{Entry}
-use Rattle.papaya_schedules.specs.Linearizable.{MayAsk}
-use Rattle.papaya_schedules.specs.Moment.{Asking, UnderWay as CallThere, Moment}
-use Rattle.papaya_schedules.specs.Sequential.{key_of}
-use Rattle.papaya_schedules.specs.Views.{call_of, finite_map}
-use Rattle.papaya_callers.specs.Together.{CallOnKey, OnKey}
-use Rattle.papaya_effects.specs.Known.{Known}
-use Rattle.papaya_executor.specs.IsAt.{Scene, IsAt}
-use Rattle.papaya_executor.specs.Stepping.{StepLeads}
-use Rattle.papaya_executor.specs.declared.executor.Executor.{Executor}
-use Rattle.papaya_hands.specs.Asked.{AsksThere, ShowsAsked}
+use Rattle.papaya_moments.specs.Given.Tables.declared.node.Node.{Node}
+use Rattle.papaya_moments.specs.Given.Raw.declared.machines.progress.Progress.{Progress}
+use Rattle.papaya_moments.specs.Given.Raw.declared.machines.progress.Progress.TheVariants as progress
+use Rattle.papaya_moments.specs.Given.Schedules.declared.call.Call.TheVariants.{On}
+use Rattle.papaya_moments.specs.Given.Schedules.declared.call.OneKey.{OneKey}
+use Rattle.papaya_moments.specs.Given.Schedules.After.{moment, moments_from}
+use Rattle.papaya_moments.specs.Given.Schedules.Entry.{Entry}
+use Rattle.papaya_moments.specs.Given.Schedules.Linearizable.{MayAsk}
+use Rattle.papaya_moments.specs.Given.Schedules.Moment.{Asking, UnderWay as CallThere, Moment}
+use Rattle.papaya_moments.specs.Given.Schedules.Sequential.{key_of}
+use Rattle.papaya_moments.specs.Given.Schedules.Views.{call_of, finite_map}
+use Rattle.papaya_moments.specs.Given.Callers.Together.{CallOnKey, OnKey}
+use Rattle.papaya_moments.specs.Given.Effects.Known.{Known}
+use Rattle.papaya_moments.specs.Given.Executor.IsAt.{Scene, IsAt}
+use Rattle.papaya_moments.specs.Given.Executor.Stepping.{StepLeads}
+use Rattle.papaya_moments.specs.Given.Executor.declared.executor.Executor.{Executor}
+use Rattle.papaya_moments.specs.Given.Hands.Asked.{AsksThere, ShowsAsked}
 use Rattle.papaya_histories.specs.Answers.{NamesPair}
 use Rattle.papaya_histories.specs.Due.{ShowsDue}
 use Rattle.papaya_histories.specs.Questions.{unanswered, ShowsQuestions}

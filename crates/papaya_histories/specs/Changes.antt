@@ -1,24 +1,24 @@
 -- What a step of a call on one key changes of its map.
 use Rattle.std.specs.Prelude.{◌≡◌, ℕ, Bool, true, List, flat_map, Option, Some, None}
-use Rattle.papaya_tables.specs.declared.node.Node.{Node}
-use Rattle.papaya_raw.specs.declared.machines.progress.Progress.{Progress}
-use Rattle.papaya_schedules.specs.declared.call.Call.TheVariants.{On}
-use Rattle.papaya_schedules.specs.declared.call.OneKey.{OneKey}
-use Rattle.papaya_schedules.specs.declared.call.OneKey.TheVariants.{Compute, RemoveIf}
-use Rattle.papaya_schedules.specs.declared.call.Reply.{Reply}
-use Rattle.papaya_schedules.specs.declared.call.Reply.TheVariants.{Decides}
-use Rattle.papaya_schedules.specs.Coming.{fits_key}
-use Rattle.papaya_schedules.specs.Linearizable.{shift_of, ChangesOnce}
-use Rattle.papaya_schedules.specs.Moment.{UnderWay as CallThere, Moment}
-use Rattle.papaya_schedules.specs.Views.{call_of, reply_to}
-use Rattle.papaya_points.specs.FactsCalls.{Unchanged}
-use Rattle.papaya_callers.specs.Together.{CallOnKey, OnKey}
-use Rattle.papaya_effects.specs.Effects.{effects_of}
-use Rattle.papaya_effects.specs.Known.{Known}
-use Rattle.papaya_effects.specs.declared.acting.Acting.TheVariants as acts
-use Rattle.papaya_executor.specs.IsAt.{Scene, IsAt}
-use Rattle.papaya_executor.specs.Stepping.{StepLeads}
-use Rattle.papaya_executor.specs.declared.executor.Executor.{Executor}
+use Rattle.papaya_moments.specs.Given.Tables.declared.node.Node.{Node}
+use Rattle.papaya_moments.specs.Given.Raw.declared.machines.progress.Progress.{Progress}
+use Rattle.papaya_moments.specs.Given.Schedules.declared.call.Call.TheVariants.{On}
+use Rattle.papaya_moments.specs.Given.Schedules.declared.call.OneKey.{OneKey}
+use Rattle.papaya_moments.specs.Given.Schedules.declared.call.OneKey.TheVariants.{Compute, RemoveIf}
+use Rattle.papaya_moments.specs.Given.Schedules.declared.call.Reply.{Reply}
+use Rattle.papaya_moments.specs.Given.Schedules.declared.call.Reply.TheVariants.{Decides}
+use Rattle.papaya_moments.specs.Given.Schedules.Coming.{fits_key}
+use Rattle.papaya_moments.specs.Given.Schedules.Linearizable.{shift_of, ChangesOnce}
+use Rattle.papaya_moments.specs.Given.Schedules.Moment.{UnderWay as CallThere, Moment}
+use Rattle.papaya_moments.specs.Given.Schedules.Views.{call_of, reply_to}
+use Rattle.papaya_moments.specs.Given.Points.FactsCalls.{Unchanged}
+use Rattle.papaya_moments.specs.Given.Callers.Together.{CallOnKey, OnKey}
+use Rattle.papaya_moments.specs.Given.Effects.Effects.{effects_of}
+use Rattle.papaya_moments.specs.Given.Effects.Known.{Known}
+use Rattle.papaya_moments.specs.Given.Effects.declared.acting.Acting.TheVariants as acts
+use Rattle.papaya_moments.specs.Given.Executor.IsAt.{Scene, IsAt}
+use Rattle.papaya_moments.specs.Given.Executor.Stepping.{StepLeads}
+use Rattle.papaya_moments.specs.Given.Executor.declared.executor.Executor.{Executor}
 use Rattle.papaya_moments.specs.Whole.{ShowsWhole}
 
 -- a call of this kind takes such a reply: `remove_if` a yes or no, and `compute` what is not

@@ -1,43 +1,43 @@
 -- What stays so where anything else happens than a step of a call: on a slot, to a map that is made or ends, or to a walk that goes on or is given up.
 use Rattle.std.specs.Prelude.{◌≡◌, ℕ, Bool, true, false, List, [], flat_map, Option, Some, None}
-use Rattle.seize.specs.World.{Begin, Step, with_at}
-use Rattle.seize.specs.declared.rows.settle.Settled.{Settled}
-use Rattle.papaya_tables.specs.declared.node.Node.{Node}
-use Rattle.papaya_tables.specs.declared.setting.Setting.{Setting}
-use Rattle.papaya_runs.specs.Same.{is_same}
-use Rattle.seize.specs.declared.progress.Progress.{Progress}
-use Rattle.papaya_schedules.specs.Beginning.{with_map}
-use Rattle.papaya_schedules.specs.Effects.{with_effects, AtEachEffect}
-use Rattle.papaya_schedules.specs.Entry.{Entry}
-use Rattle.papaya_schedules.specs.Linearizable.{shift_of}
-use Rattle.papaya_schedules.specs.Moment.{MapThere, Remains, Moment}
-use Rattle.papaya_schedules.specs.Views.{map_at, tables_of}
-use Rattle.papaya_sweeps.specs.SweepPoints.{after_next}
-use Rattle.papaya_callers.specs.OverAll.{CallOverAll, gone_on}
-use Rattle.papaya_callers.specs.Together.{UnderWay, OverAll}
-use Rattle.papaya_effects.specs.Effects.{effects_of, known_after}
-use Rattle.papaya_effects.specs.Known.{Known}
-use Rattle.papaya_effects.specs.declared.acting.Acting.TheVariants.{Row, Making, Ending}
-use Rattle.papaya_executor.specs.Ending.{EndingLeads, ending_begun}
-use Rattle.papaya_executor.specs.IsAt.{Scene, IsAt, slot_of, work_of}
-use Rattle.papaya_executor.specs.Making.{MakingLeads}
-use Rattle.papaya_executor.specs.OnSlots.{MayBegin, RowBegins, RowLeads}
-use Rattle.papaya_executor.specs.Replying.{AskLeads, StopLeads, scene_with, unless_stopped}
-use Rattle.papaya_executor.specs.Rows.{request_of}
-use Rattle.papaya_executor.specs.declared.executor.Executor.{Executor}
-use Rattle.papaya_executor.specs.declared.row.RowTold.{RowTold}
-use Rattle.papaya_executor.specs.declared.row.SlotCall.{SlotCall}
-use Rattle.papaya_executor.specs.declared.row.SlotRow.{SlotRow}
-use Rattle.papaya_executor.specs.declared.worker.Work.TheVariants.{OnSlot}
-use Rattle.papaya_finishes.specs.Endings.{Finishing}
-use Rattle.papaya_finishes.specs.Makings.{Beginning}
-use Rattle.papaya_finishes.specs.Maps.{Standing, with_call}
-use Rattle.papaya_follows.specs.Calling.{NoneNamed}
-use Rattle.papaya_others.specs.Elsewhere.{HasSame}
-use Rattle.papaya_others.specs.Endings.{ending_after, without_map}
-use Rattle.papaya_others.specs.Makings.{WasNew, making_after}
-use Rattle.papaya_others.specs.Rows.{scene_then}
-use Rattle.papaya_others.specs.Walks.{given_up}
+use Rattle.papaya_moments.specs.Given.Seize.World.{Begin, Step, with_at}
+use Rattle.papaya_moments.specs.Given.Seize.declared.rows.settle.Settled.{Settled}
+use Rattle.papaya_moments.specs.Given.Tables.declared.node.Node.{Node}
+use Rattle.papaya_moments.specs.Given.Tables.declared.setting.Setting.{Setting}
+use Rattle.papaya_moments.specs.Given.Runs.Same.{is_same}
+use Rattle.papaya_moments.specs.Given.Seize.declared.progress.Progress.{Progress}
+use Rattle.papaya_moments.specs.Given.Schedules.Beginning.{with_map}
+use Rattle.papaya_moments.specs.Given.Schedules.Effects.{with_effects, AtEachEffect}
+use Rattle.papaya_moments.specs.Given.Schedules.Entry.{Entry}
+use Rattle.papaya_moments.specs.Given.Schedules.Linearizable.{shift_of}
+use Rattle.papaya_moments.specs.Given.Schedules.Moment.{MapThere, Remains, Moment}
+use Rattle.papaya_moments.specs.Given.Schedules.Views.{map_at, tables_of}
+use Rattle.papaya_moments.specs.Given.Sweeps.SweepPoints.{after_next}
+use Rattle.papaya_moments.specs.Given.Callers.OverAll.{CallOverAll, gone_on}
+use Rattle.papaya_moments.specs.Given.Callers.Together.{UnderWay, OverAll}
+use Rattle.papaya_moments.specs.Given.Effects.Effects.{effects_of, known_after}
+use Rattle.papaya_moments.specs.Given.Effects.Known.{Known}
+use Rattle.papaya_moments.specs.Given.Effects.declared.acting.Acting.TheVariants.{Row, Making, Ending}
+use Rattle.papaya_moments.specs.Given.Executor.Ending.{EndingLeads, ending_begun}
+use Rattle.papaya_moments.specs.Given.Executor.IsAt.{Scene, IsAt, slot_of, work_of}
+use Rattle.papaya_moments.specs.Given.Executor.Making.{MakingLeads}
+use Rattle.papaya_moments.specs.Given.Executor.OnSlots.{MayBegin, RowBegins, RowLeads}
+use Rattle.papaya_moments.specs.Given.Executor.Replying.{AskLeads, StopLeads, scene_with, unless_stopped}
+use Rattle.papaya_moments.specs.Given.Executor.Rows.{request_of}
+use Rattle.papaya_moments.specs.Given.Executor.declared.executor.Executor.{Executor}
+use Rattle.papaya_moments.specs.Given.Executor.declared.row.RowTold.{RowTold}
+use Rattle.papaya_moments.specs.Given.Executor.declared.row.SlotCall.{SlotCall}
+use Rattle.papaya_moments.specs.Given.Executor.declared.row.SlotRow.{SlotRow}
+use Rattle.papaya_moments.specs.Given.Executor.declared.worker.Work.TheVariants.{OnSlot}
+use Rattle.papaya_moments.specs.Given.Finishes.Endings.{Finishing}
+use Rattle.papaya_moments.specs.Given.Finishes.Makings.{Beginning}
+use Rattle.papaya_moments.specs.Given.Finishes.Maps.{Standing, with_call}
+use Rattle.papaya_moments.specs.Given.Follows.Calling.{NoneNamed}
+use Rattle.papaya_moments.specs.Given.Others.Elsewhere.{HasSame}
+use Rattle.papaya_moments.specs.Given.Others.Endings.{ending_after, without_map}
+use Rattle.papaya_moments.specs.Given.Others.Makings.{WasNew, making_after}
+use Rattle.papaya_moments.specs.Given.Others.Rows.{scene_then}
+use Rattle.papaya_moments.specs.Given.Others.Walks.{given_up}
 use Rattle.papaya_moments.specs.Endings.{IsOfIts}
 use Rattle.papaya_moments.specs.OnSlots.{HadRetired}
 use Rattle.papaya_moments.specs.Whole.{ShowsWhole}

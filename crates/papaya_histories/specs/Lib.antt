@@ -16,3 +16,4 @@ pub mod AsCalled
 pub mod Elsewhere
 pub mod Words
 pub mod InEvent
+pub mod Given

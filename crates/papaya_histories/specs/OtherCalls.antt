@@ -1,27 +1,27 @@
 -- Reservations, countings, clearings, retainings and walks: what their steps change, and that their events are linearizable; so are those of no call.
 use Rattle.std.specs.Prelude.{◌≡◌, ℕ, Bool, List, [], ◌++◌, flat_map, Some, None}
-use Rattle.seize_words.specs.declared.fault.Fault.TheVariants.{Busy}
-use Rattle.papaya_tables.specs.declared.node.Node.{Node}
-use Rattle.papaya_raw.specs.declared.machines.progress.Progress.{Progress}
-use Rattle.papaya_schedules.specs.declared.call.Call.{Call}
-use Rattle.papaya_schedules.specs.declared.call.Call.TheVariants.{On}
-use Rattle.papaya_schedules.specs.declared.outcome.Outcome.{Outcome}
-use Rattle.papaya_schedules.specs.declared.outcome.Outcome.TheVariants.{Asks, Answered, Refused}
-use Rattle.papaya_schedules.specs.After.{moment, moments_from}
-use Rattle.papaya_schedules.specs.Beginning.{at_work}
-use Rattle.papaya_schedules.specs.Effects.{worked}
-use Rattle.papaya_schedules.specs.Entry.{Entry, caller_of, acted_on}
-use Rattle.papaya_schedules.specs.Linearizable.{shift_of, RemovesOnly, AsksRight, IsLinearizable}
-use Rattle.papaya_schedules.specs.Moment.{UnderWay as CallThere, Moment}
-use Rattle.papaya_schedules.specs.Sequential.{Shift}
-use Rattle.papaya_schedules.specs.Views.{call_of}
-use Rattle.papaya_callers.specs.Together.{UnderWay}
-use Rattle.papaya_effects.specs.Effects.{effects_of}
-use Rattle.papaya_effects.specs.Known.{Known}
-use Rattle.papaya_effects.specs.declared.acting.Acting.TheVariants as acts
-use Rattle.papaya_executor.specs.IsAt.{Scene, IsAt}
-use Rattle.papaya_executor.specs.Stepping.{StepLeads}
-use Rattle.papaya_executor.specs.declared.executor.Executor.{Executor}
+use Rattle.papaya_moments.specs.Given.SeizeWords.declared.fault.Fault.TheVariants.{Busy}
+use Rattle.papaya_moments.specs.Given.Tables.declared.node.Node.{Node}
+use Rattle.papaya_moments.specs.Given.Raw.declared.machines.progress.Progress.{Progress}
+use Rattle.papaya_moments.specs.Given.Schedules.declared.call.Call.{Call}
+use Rattle.papaya_moments.specs.Given.Schedules.declared.call.Call.TheVariants.{On}
+use Rattle.papaya_moments.specs.Given.Schedules.declared.outcome.Outcome.{Outcome}
+use Rattle.papaya_moments.specs.Given.Schedules.declared.outcome.Outcome.TheVariants.{Asks, Answered, Refused}
+use Rattle.papaya_moments.specs.Given.Schedules.After.{moment, moments_from}
+use Rattle.papaya_moments.specs.Given.Schedules.Beginning.{at_work}
+use Rattle.papaya_moments.specs.Given.Schedules.Effects.{worked}
+use Rattle.papaya_moments.specs.Given.Schedules.Entry.{Entry, caller_of, acted_on}
+use Rattle.papaya_moments.specs.Given.Schedules.Linearizable.{shift_of, RemovesOnly, AsksRight, IsLinearizable}
+use Rattle.papaya_moments.specs.Given.Schedules.Moment.{UnderWay as CallThere, Moment}
+use Rattle.papaya_moments.specs.Given.Schedules.Sequential.{Shift}
+use Rattle.papaya_moments.specs.Given.Schedules.Views.{call_of}
+use Rattle.papaya_moments.specs.Given.Callers.Together.{UnderWay}
+use Rattle.papaya_moments.specs.Given.Effects.Effects.{effects_of}
+use Rattle.papaya_moments.specs.Given.Effects.Known.{Known}
+use Rattle.papaya_moments.specs.Given.Effects.declared.acting.Acting.TheVariants as acts
+use Rattle.papaya_moments.specs.Given.Executor.IsAt.{Scene, IsAt}
+use Rattle.papaya_moments.specs.Given.Executor.Stepping.{StepLeads}
+use Rattle.papaya_moments.specs.Given.Executor.declared.executor.Executor.{Executor}
 use Rattle.papaya_moments.specs.Whole.{ShowsWhole}
 use Rattle.papaya_histories.specs.AsCalled.{ShowsAsCalled}
 

@@ -1,24 +1,24 @@
 -- Where a row on a slot begins, and takes its steps, the histories of maps stay within the moments of the run, and calls owe what they owed.
 use Rattle.std.specs.Prelude.{◌≡◌, ℕ, Bool, List, [], flat_map, Some, None}
-use Rattle.seize.specs.World.{Begin, Step}
-use Rattle.papaya_tables.specs.declared.node.Node.{Node}
-use Rattle.papaya_schedules.specs.Effects.{with_effects, AtEachEffect}
-use Rattle.papaya_schedules.specs.Entry.{Entry}
-use Rattle.papaya_schedules.specs.Linearizable.{shift_of}
-use Rattle.papaya_schedules.specs.Moment.{Moment}
-use Rattle.papaya_effects.specs.Effects.{effects_of, known_after}
-use Rattle.papaya_effects.specs.Known.{Known}
-use Rattle.papaya_effects.specs.declared.acting.Acting.TheVariants.{Row}
-use Rattle.papaya_executor.specs.IsAt.{Scene, IsAt, slot_of, work_of}
-use Rattle.papaya_executor.specs.OnSlots.{MayBegin, RowBegins, RowLeads}
-use Rattle.papaya_executor.specs.Rows.{request_of}
-use Rattle.papaya_executor.specs.declared.executor.Executor.{Executor}
-use Rattle.papaya_executor.specs.declared.row.RowTold.{RowTold}
-use Rattle.papaya_executor.specs.declared.row.SlotCall.{SlotCall}
-use Rattle.papaya_executor.specs.declared.row.SlotRow.{SlotRow}
-use Rattle.papaya_executor.specs.declared.worker.Work.TheVariants.{OnSlot}
-use Rattle.papaya_others.specs.Gone.{WasRetired}
-use Rattle.papaya_others.specs.Rows.{scene_then}
+use Rattle.papaya_moments.specs.Given.Seize.World.{Begin, Step}
+use Rattle.papaya_moments.specs.Given.Tables.declared.node.Node.{Node}
+use Rattle.papaya_moments.specs.Given.Schedules.Effects.{with_effects, AtEachEffect}
+use Rattle.papaya_moments.specs.Given.Schedules.Entry.{Entry}
+use Rattle.papaya_moments.specs.Given.Schedules.Linearizable.{shift_of}
+use Rattle.papaya_moments.specs.Given.Schedules.Moment.{Moment}
+use Rattle.papaya_moments.specs.Given.Effects.Effects.{effects_of, known_after}
+use Rattle.papaya_moments.specs.Given.Effects.Known.{Known}
+use Rattle.papaya_moments.specs.Given.Effects.declared.acting.Acting.TheVariants.{Row}
+use Rattle.papaya_moments.specs.Given.Executor.IsAt.{Scene, IsAt, slot_of, work_of}
+use Rattle.papaya_moments.specs.Given.Executor.OnSlots.{MayBegin, RowBegins, RowLeads}
+use Rattle.papaya_moments.specs.Given.Executor.Rows.{request_of}
+use Rattle.papaya_moments.specs.Given.Executor.declared.executor.Executor.{Executor}
+use Rattle.papaya_moments.specs.Given.Executor.declared.row.RowTold.{RowTold}
+use Rattle.papaya_moments.specs.Given.Executor.declared.row.SlotCall.{SlotCall}
+use Rattle.papaya_moments.specs.Given.Executor.declared.row.SlotRow.{SlotRow}
+use Rattle.papaya_moments.specs.Given.Executor.declared.worker.Work.TheVariants.{OnSlot}
+use Rattle.papaya_moments.specs.Given.Others.Gone.{WasRetired}
+use Rattle.papaya_moments.specs.Given.Others.Rows.{scene_then}
 use Rattle.papaya_histories.specs.Due.{ShowsDue}
 use Rattle.papaya_histories.specs.Histories.{ShowsHistory}
 

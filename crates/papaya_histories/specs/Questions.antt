@@ -1,17 +1,17 @@
 -- What calls have asked: just what they got replies to, and what they ask now.
 use Rattle.std.specs.Prelude.{◌≡◌, ℕ, List, [], ◌∷◌, ◌++◌, map, Option, Some}
-use Rattle.papaya_schedules.specs.declared.call.Call.{Call}
-use Rattle.papaya_schedules.specs.declared.call.Reply.{Reply}
-use Rattle.papaya_schedules.specs.declared.effect.Effect.{Effect}
-use Rattle.papaya_schedules.specs.declared.outcome.Outcome.{Outcome}
-use Rattle.papaya_schedules.specs.declared.outcome.Outcome.TheVariants.{Goes, Waits, Ready}
-use Rattle.papaya_schedules.specs.After.{moment, AtEachEvent}
-use Rattle.papaya_schedules.specs.Beginning.{with_call}
-use Rattle.papaya_schedules.specs.Effects.{with_effects, worked}
-use Rattle.papaya_schedules.specs.Entry.{Entry, acting, caller_of, IfCall}
-use Rattle.papaya_schedules.specs.Moment.{Stands, Asking, UnderWay as CallThere, Moment, start}
-use Rattle.papaya_schedules.specs.Views.{call_of}
-use Rattle.papaya_follows.specs.Calling.{told, come_to}
+use Rattle.papaya_moments.specs.Given.Schedules.declared.call.Call.{Call}
+use Rattle.papaya_moments.specs.Given.Schedules.declared.call.Reply.{Reply}
+use Rattle.papaya_moments.specs.Given.Schedules.declared.effect.Effect.{Effect}
+use Rattle.papaya_moments.specs.Given.Schedules.declared.outcome.Outcome.{Outcome}
+use Rattle.papaya_moments.specs.Given.Schedules.declared.outcome.Outcome.TheVariants.{Goes, Waits, Ready}
+use Rattle.papaya_moments.specs.Given.Schedules.After.{moment, AtEachEvent}
+use Rattle.papaya_moments.specs.Given.Schedules.Beginning.{with_call}
+use Rattle.papaya_moments.specs.Given.Schedules.Effects.{with_effects, worked}
+use Rattle.papaya_moments.specs.Given.Schedules.Entry.{Entry, acting, caller_of, IfCall}
+use Rattle.papaya_moments.specs.Given.Schedules.Moment.{Stands, Asking, UnderWay as CallThere, Moment, start}
+use Rattle.papaya_moments.specs.Given.Schedules.Views.{call_of}
+use Rattle.papaya_moments.specs.Given.Follows.Calling.{told, come_to}
 
 -- the question that has no reply yet, if there is one
 abbrev pub unanswered : Stands → List (Option ℕ)

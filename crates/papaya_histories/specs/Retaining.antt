@@ -1,17 +1,17 @@
 -- What a retaining asks about: a pair that the map has at a moment of the call.
 use Rattle.std.specs.Prelude.{◌≡◌, ℕ, Bool, List, Some, None, ◌⊎◌}
-use Rattle.papaya_sweeps.specs.declared.sweep.Sweeping.TheVariants as at
-use Rattle.papaya_schedules.specs.declared.call.Call.TheVariants.{Retain}
-use Rattle.papaya_schedules.specs.After.{moment, moments_from}
-use Rattle.papaya_schedules.specs.Entry.{Entry}
-use Rattle.papaya_schedules.specs.Linearizable.{MayAsk}
-use Rattle.papaya_schedules.specs.Moment.{UnderWay as CallThere, Moment}
-use Rattle.papaya_schedules.specs.Views.{call_of, finite_map}
-use Rattle.papaya_callers.specs.OverAll.{CallOverAll}
-use Rattle.papaya_callers.specs.Together.{OverAll}
-use Rattle.papaya_effects.specs.Known.{Known}
-use Rattle.papaya_executor.specs.IsAt.{Scene, IsAt}
-use Rattle.papaya_executor.specs.declared.executor.Executor.{Executor}
+use Rattle.papaya_moments.specs.Given.Sweeps.declared.sweep.Sweeping.TheVariants as at
+use Rattle.papaya_moments.specs.Given.Schedules.declared.call.Call.TheVariants.{Retain}
+use Rattle.papaya_moments.specs.Given.Schedules.After.{moment, moments_from}
+use Rattle.papaya_moments.specs.Given.Schedules.Entry.{Entry}
+use Rattle.papaya_moments.specs.Given.Schedules.Linearizable.{MayAsk}
+use Rattle.papaya_moments.specs.Given.Schedules.Moment.{UnderWay as CallThere, Moment}
+use Rattle.papaya_moments.specs.Given.Schedules.Views.{call_of, finite_map}
+use Rattle.papaya_moments.specs.Given.Callers.OverAll.{CallOverAll}
+use Rattle.papaya_moments.specs.Given.Callers.Together.{OverAll}
+use Rattle.papaya_moments.specs.Given.Effects.Known.{Known}
+use Rattle.papaya_moments.specs.Given.Executor.IsAt.{Scene, IsAt}
+use Rattle.papaya_moments.specs.Given.Executor.declared.executor.Executor.{Executor}
 use Rattle.papaya_histories.specs.Answers.{NamesPair}
 use Rattle.papaya_histories.specs.Histories.{ShowsHistory}
 

@@ -2,15 +2,15 @@
 use Rattle.std.specs.Prelude.{◌≡◌, ℕ, ◌⊎◌, Bool, List, [], ◌∷◌, Option, Some, None, Ok, Err}
 use Rattle.std.proofs.Common.{sym, ◌∙◌, inl, inr}
 use denote.Ref.{Bor}
-use Rattle.seize_words.specs.Mem.{Mem, value_at}
-use Rattle.seize_words.specs.Word.{block_in}
-use Rattle.seize_words.specs.declared.fault.Fault.{Fault}
-use Rattle.papaya_tables.specs.declared.node.Node.{Node}
-use Rattle.papaya_tables.specs.declared.node.Node.TheVariants as node
-use Rattle.papaya_tables.specs.declared.setting.Setting.{Setting}
-use Rattle.papaya_resize.specs.NewMap.{new_map_plan}
-use Rattle.papaya_raw.specs.declared.machines.answer.KeyAnswer.{KeyAnswer}
-use Rattle.papaya_raw.specs.declared.machines.answer.KeyAnswer.TheVariants as answers
+use Rattle.papaya_owned.specs.Given.SeizeWords.Mem.{Mem, value_at}
+use Rattle.papaya_owned.specs.Given.SeizeWords.Word.{block_in}
+use Rattle.papaya_owned.specs.Given.SeizeWords.declared.fault.Fault.{Fault}
+use Rattle.papaya_owned.specs.Given.Tables.declared.node.Node.{Node}
+use Rattle.papaya_owned.specs.Given.Tables.declared.node.Node.TheVariants as node
+use Rattle.papaya_owned.specs.Given.Tables.declared.setting.Setting.{Setting}
+use Rattle.papaya_owned.specs.Given.Resize.NewMap.{new_map_plan}
+use Rattle.papaya_owned.specs.Given.Raw.declared.machines.answer.KeyAnswer.{KeyAnswer}
+use Rattle.papaya_owned.specs.Given.Raw.declared.machines.answer.KeyAnswer.TheVariants as answers
 use Rattle.papaya_owned.specs.Calling.{HasStopped}
 use Rattle.papaya_owned.specs.Ending.{HasEnded}
 use Rattle.papaya_owned.specs.Machines.{for_room_plan}

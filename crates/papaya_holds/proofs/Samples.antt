@@ -2,12 +2,12 @@
 use Rattle.std.specs.Prelude.{◌≡◌, ℕ, ◌<◌, ◌==◌, if◌then◌else◌, [], ◌∷◌, ◌++◌, None, Some}
 use Rattle.std.proofs.Common.{Bool, true, false, refl, arith, ◌∙◌, sym, inl, inr}
 use Rattle.std.proofs.lemmas.List.Sorted.{length_permutation}
-use Rattle.seize_words.specs.Mem.{Mem, fresh, value_at, value_in}
-use Rattle.seize.specs.World.{times}
-use Rattle.seize.specs.declared.rows.settle.Settled.TheVariants as settled
-use Rattle.papaya_tables.specs.declared.node.Node.{Node}
-use Rattle.papaya_tables.specs.declared.node.Node.TheVariants as node
-use Rattle.papaya_finishes.proofs.Ends.CountedBlocks.{some_of_first}
+use Rattle.papaya_owned.specs.Given.SeizeWords.Mem.{Mem, fresh, value_at, value_in}
+use Rattle.papaya_owned.specs.Given.Seize.World.{times}
+use Rattle.papaya_owned.specs.Given.Seize.declared.rows.settle.Settled.TheVariants as settled
+use Rattle.papaya_owned.specs.Given.Tables.declared.node.Node.{Node}
+use Rattle.papaya_owned.specs.Given.Tables.declared.node.Node.TheVariants as node
+use Rattle.papaya_owned.proofs.Given.Finishes.Ends.CountedBlocks.{some_of_first}
 use Rattle.papaya_holds.specs.Balances.{HasJust, Balances}
 use Rattle.papaya_holds.specs.Came.{NoneCame, HandsOut, StayInPlace}
 use Rattle.papaya_holds.specs.Held.{HoldsOn, held_in}

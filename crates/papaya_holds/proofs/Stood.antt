@@ -1,14 +1,14 @@
 -- What could be looked at as the map rested stands still in its block: then so do all pairs of the map, each in a block of its own.
 use Rattle.std.specs.Prelude.{◌≡◌, ◌≢◌, ℕ, ◌<◌, Bool, true, List, Some, Result}
 use Rattle.std.proofs.Common.{refl, sym, ap}
-use Rattle.seize_words.specs.Mem.{Mem, value_at}
-use Rattle.seize_words.specs.Word.{block_in}
-use Rattle.seize_words.specs.declared.fault.Fault.{Fault}
-use Rattle.papaya_tables.specs.declared.node.Node.{Node}
-use Rattle.papaya_tables.specs.declared.setting.Setting.{Setting}
-use Rattle.papaya_rule.proofs.World.Hands.{current_known}
-use Rattle.papaya_rule.specs.InWorld.{IsMapIn}
-use Rattle.papaya_whole.proofs.Contents.Below.{below_stays}
+use Rattle.papaya_owned.specs.Given.SeizeWords.Mem.{Mem, value_at}
+use Rattle.papaya_owned.specs.Given.SeizeWords.Word.{block_in}
+use Rattle.papaya_owned.specs.Given.SeizeWords.declared.fault.Fault.{Fault}
+use Rattle.papaya_owned.specs.Given.Tables.declared.node.Node.{Node}
+use Rattle.papaya_owned.specs.Given.Tables.declared.setting.Setting.{Setting}
+use Rattle.papaya_owned.proofs.Given.Rule.World.Hands.{current_known}
+use Rattle.papaya_owned.specs.Given.Rule.InWorld.{IsMapIn}
+use Rattle.papaya_owned.proofs.Given.Whole.Contents.Below.{below_stays}
 use Rattle.papaya_owned.proofs.Owned.Standing.{blocks_below, none_there, standing_below}
 use Rattle.papaya_owned.specs.Owned.{Holds}
 use Rattle.papaya_owned.specs.Standing.{Standing}

@@ -1,11 +1,11 @@
 -- What the memory of a map has: its pairs, and others that a change took out of it and that wait there. Whatever runs, none is lost, and none comes twice.
 use Rattle.std.specs.Prelude.{◌≡◌, ℕ, ◌<◌, List, [], ◌∷◌, ◌++◌, IsPermutation}
-use Rattle.seize_words.specs.Mem.{Mem}
-use Rattle.seize_words.specs.Word.{block_in}
-use Rattle.seize.specs.World.{times}
-use Rattle.papaya_tables.specs.declared.node.Node.{Node}
-use Rattle.papaya_raw.specs.declared.machines.answer.KeyAnswer.{KeyAnswer}
-use Rattle.papaya_raw.specs.declared.machines.answer.KeyAnswer.TheVariants as answers
+use Rattle.papaya_owned.specs.Given.SeizeWords.Mem.{Mem}
+use Rattle.papaya_owned.specs.Given.SeizeWords.Word.{block_in}
+use Rattle.papaya_owned.specs.Given.Seize.World.{times}
+use Rattle.papaya_owned.specs.Given.Tables.declared.node.Node.{Node}
+use Rattle.papaya_owned.specs.Given.Raw.declared.machines.answer.KeyAnswer.{KeyAnswer}
+use Rattle.papaya_owned.specs.Given.Raw.declared.machines.answer.KeyAnswer.TheVariants as answers
 use Rattle.papaya_owned.specs.Standing.{Standing}
 use Rattle.papaya_holds.specs.Came.{StandsAt}
 

@@ -1,10 +1,10 @@
 -- Calls on one key of one owner's map, from question to question: what came to its memory by them, and what stood there.
 use Rattle.std.specs.Prelude.{ℕ, Bool, List, Result}
 use denote.Ref.{Bor}
-use Rattle.seize_words.specs.Mem.{Mem}
-use Rattle.seize_words.specs.declared.fault.Fault.{Fault}
-use Rattle.papaya_tables.specs.declared.node.Node.{Node}
-use Rattle.papaya_tables.specs.declared.setting.Setting.{Setting}
+use Rattle.papaya_owned.specs.Given.SeizeWords.Mem.{Mem}
+use Rattle.papaya_owned.specs.Given.SeizeWords.declared.fault.Fault.{Fault}
+use Rattle.papaya_owned.specs.Given.Tables.declared.node.Node.{Node}
+use Rattle.papaya_owned.specs.Given.Tables.declared.setting.Setting.{Setting}
 use Rattle.papaya_owned.specs.Calling.{IsCalling}
 use Rattle.papaya_owned.specs.Ending.{RunsTo}
 use Rattle.papaya_owned.specs.Machines.{on_key_plan}

@@ -1,23 +1,23 @@
 -- Which pairs a memory has, block by block, and which of them have come since it was another one.
 use Rattle.std.specs.Prelude.{◌≡◌, ◌≢◌, ℕ, ◌<◌, ◌^◌, ◌⊎◌, List, Option, Some, None, Result, Ok, Err}
-use Rattle.seize_words.specs.Mem.{Mem, value_at}
-use Rattle.seize_words.specs.Word.{block_in}
-use Rattle.seize_words.specs.declared.fault.Fault.{Fault}
-use Rattle.seize.specs.World.{times}
-use Rattle.seize.specs.declared.rows.settle.Settled.{Settled}
-use Rattle.seize.specs.declared.rows.settle.Settled.TheVariants as settled
-use Rattle.papaya_tables.specs.declared.marks.TheConstants.{TOMBSTONE}
-use Rattle.papaya_tables.specs.declared.node.Node.{Node}
-use Rattle.papaya_tables.specs.declared.node.Node.TheVariants as node
-use Rattle.papaya_raw.specs.declared.machines.answer.End.{End}
-use Rattle.papaya_raw.specs.declared.machines.answer.End.TheVariants as ends
-use Rattle.papaya_raw.specs.declared.machines.answer.KeyAnswer.{KeyAnswer}
-use Rattle.papaya_raw.specs.declared.machines.answer.KeyAnswer.TheVariants as answers
-use Rattle.papaya_raw.specs.declared.machines.answer.Missing.TheVariants as missing
-use Rattle.papaya_raw.specs.declared.machines.answer.There.TheVariants as there
-use Rattle.papaya_raw.specs.declared.machines.call.Calling.{Calling}
-use Rattle.papaya_raw.specs.declared.machines.call.Calling.TheVariants as at
-use Rattle.papaya_raw.specs.declared.machines.call.KeyCall.{KeyCall}
+use Rattle.papaya_owned.specs.Given.SeizeWords.Mem.{Mem, value_at}
+use Rattle.papaya_owned.specs.Given.SeizeWords.Word.{block_in}
+use Rattle.papaya_owned.specs.Given.SeizeWords.declared.fault.Fault.{Fault}
+use Rattle.papaya_owned.specs.Given.Seize.World.{times}
+use Rattle.papaya_owned.specs.Given.Seize.declared.rows.settle.Settled.{Settled}
+use Rattle.papaya_owned.specs.Given.Seize.declared.rows.settle.Settled.TheVariants as settled
+use Rattle.papaya_owned.specs.Given.Tables.declared.marks.TheConstants.{TOMBSTONE}
+use Rattle.papaya_owned.specs.Given.Tables.declared.node.Node.{Node}
+use Rattle.papaya_owned.specs.Given.Tables.declared.node.Node.TheVariants as node
+use Rattle.papaya_owned.specs.Given.Raw.declared.machines.answer.End.{End}
+use Rattle.papaya_owned.specs.Given.Raw.declared.machines.answer.End.TheVariants as ends
+use Rattle.papaya_owned.specs.Given.Raw.declared.machines.answer.KeyAnswer.{KeyAnswer}
+use Rattle.papaya_owned.specs.Given.Raw.declared.machines.answer.KeyAnswer.TheVariants as answers
+use Rattle.papaya_owned.specs.Given.Raw.declared.machines.answer.Missing.TheVariants as missing
+use Rattle.papaya_owned.specs.Given.Raw.declared.machines.answer.There.TheVariants as there
+use Rattle.papaya_owned.specs.Given.Raw.declared.machines.call.Calling.{Calling}
+use Rattle.papaya_owned.specs.Given.Raw.declared.machines.call.Calling.TheVariants as at
+use Rattle.papaya_owned.specs.Given.Raw.declared.machines.call.KeyCall.{KeyCall}
 use Rattle.papaya_owned.specs.Standing.{Standing}
 use Rattle.papaya_owned.specs.declared.machines.OnKey.{OnKey}
 use Rattle.papaya_owned.specs.declared.machines.Stop.{Stop}

@@ -1,11 +1,11 @@
 -- Sweeps over the map of one owner: what stood in its memory as they began stands there until their ends.
 use Rattle.std.specs.Prelude.{ℕ, Bool, List, Result}
 use denote.Ref.{Bor}
-use Rattle.seize_words.specs.Mem.{Mem}
-use Rattle.seize_words.specs.declared.fault.Fault.{Fault}
-use Rattle.papaya_tables.specs.declared.node.Node.{Node}
-use Rattle.papaya_tables.specs.declared.setting.Setting.{Setting}
-use Rattle.papaya_sweeps.specs.declared.sweep.Purpose.{Purpose}
+use Rattle.papaya_owned.specs.Given.SeizeWords.Mem.{Mem}
+use Rattle.papaya_owned.specs.Given.SeizeWords.declared.fault.Fault.{Fault}
+use Rattle.papaya_owned.specs.Given.Tables.declared.node.Node.{Node}
+use Rattle.papaya_owned.specs.Given.Tables.declared.setting.Setting.{Setting}
+use Rattle.papaya_owned.specs.Given.Sweeps.declared.sweep.Purpose.{Purpose}
 use Rattle.papaya_owned.specs.Ending.{RunsTo}
 use Rattle.papaya_owned.specs.Owned.{Holds}
 use Rattle.papaya_sifts.specs.Sweeping.{IsSweeping, over_pairs_plan}

@@ -2,36 +2,36 @@
 use Rattle.std.specs.Prelude.{◌≡◌, ◌⊎◌, ℕ, Bool, true, false, List, [], Option, Some, None}
 use Rattle.std.proofs.Common.{refl, ap, sym, subst, ◌∙◌, inl, inr}
 use Rattle.std.proofs.lemmas.Bool.{cases_eq}
-use Rattle.seize.specs.World.{Rests, with_at}
-use Rattle.papaya_tables.specs.declared.setting.Setting.{Setting}
-use Rattle.papaya_raw.specs.Machine.{is_ready, machine_asked}
-use Rattle.papaya_raw.specs.declared.machines.call.KeyCall.{KeyCall}
-use Rattle.papaya_raw.specs.declared.machines.machine.Machine.TheVariants as kinds
-use Rattle.papaya_sweeps.specs.declared.sweep.Sweeping.{Sweeping}
-use Rattle.papaya_sweeps.specs.declared.sweep.Sweeping.TheVariants as sweeping
-use Rattle.papaya_schedules.specs.Beginning.{with_call}
-use Rattle.papaya_schedules.specs.Growing.{only_looks}
-use Rattle.papaya_schedules.specs.Moment.{Moment}
-use Rattle.papaya_schedules.specs.declared.call.Call.{Call}
-use Rattle.papaya_schedules.specs.declared.call.Call.TheVariants.{On, Reserve, Clear, Retain, Len, Walk}
-use Rattle.papaya_points.specs.Steps.{AreLawful}
-use Rattle.papaya_late.specs.ToldSweeps.{IsRowOfSweep}
-use Rattle.papaya_callers.specs.OverAll.{CallOverAll}
-use Rattle.papaya_callers.specs.Rooms.{CallForRoom}
-use Rattle.papaya_callers.specs.Pairs.{Given}
-use Rattle.papaya_callers.specs.Together.{UnderWay, OnKey, ForRoom, Counting, OverAll, IsBegun, Gets, Removes, Inserts, TriesToInsert, Computes, Updates, UpdatesOrInserts, TriesToInsertWith, RemovesIf}
-use Rattle.papaya_callers.proofs.Together.At.{at_same, at_other}
-use Rattle.papaya_executor.specs.Beginning.{Begins}
-use Rattle.papaya_executor.specs.IsAt.{Scene, HasCall, IsAt, slot_of}
-use Rattle.papaya_executor.specs.Replying.{scene_with, unless_stopped}
-use Rattle.papaya_executor.specs.declared.executor.Executor.{Executor}
-use Rattle.papaya_executor.proofs.Changed.{standing_is}
-use Rattle.papaya_finishes.specs.Machines.{machine_of}
-use Rattle.papaya_finishes.specs.Maps.{Standing, with_call as with_in}
-use Rattle.papaya_follows.specs.Calling.{told}
-use Rattle.papaya_follows.specs.Calls.{IsCalled}
-use Rattle.papaya_hands.specs.Calling.{IsBegunFor}
-use Rattle.papaya_others.specs.Walks.{given_up}
+use Rattle.papaya_histories.specs.Given.Seize.World.{Rests, with_at}
+use Rattle.papaya_histories.specs.Given.Tables.declared.setting.Setting.{Setting}
+use Rattle.papaya_histories.specs.Given.Raw.Machine.{is_ready, machine_asked}
+use Rattle.papaya_histories.specs.Given.Raw.declared.machines.call.KeyCall.{KeyCall}
+use Rattle.papaya_histories.specs.Given.Raw.declared.machines.machine.Machine.TheVariants as kinds
+use Rattle.papaya_histories.specs.Given.Sweeps.declared.sweep.Sweeping.{Sweeping}
+use Rattle.papaya_histories.specs.Given.Sweeps.declared.sweep.Sweeping.TheVariants as sweeping
+use Rattle.papaya_histories.specs.Given.Schedules.Beginning.{with_call}
+use Rattle.papaya_histories.specs.Given.Schedules.Growing.{only_looks}
+use Rattle.papaya_histories.specs.Given.Schedules.Moment.{Moment}
+use Rattle.papaya_histories.specs.Given.Schedules.declared.call.Call.{Call}
+use Rattle.papaya_histories.specs.Given.Schedules.declared.call.Call.TheVariants.{On, Reserve, Clear, Retain, Len, Walk}
+use Rattle.papaya_histories.specs.Given.Points.Steps.{AreLawful}
+use Rattle.papaya_histories.specs.Given.Late.ToldSweeps.{IsRowOfSweep}
+use Rattle.papaya_histories.specs.Given.Callers.OverAll.{CallOverAll}
+use Rattle.papaya_histories.specs.Given.Callers.Rooms.{CallForRoom}
+use Rattle.papaya_histories.specs.Given.Callers.Pairs.{Given}
+use Rattle.papaya_histories.specs.Given.Callers.Together.{UnderWay, OnKey, ForRoom, Counting, OverAll, IsBegun, Gets, Removes, Inserts, TriesToInsert, Computes, Updates, UpdatesOrInserts, TriesToInsertWith, RemovesIf}
+use Rattle.papaya_histories.proofs.Given.Callers.Together.At.{at_same, at_other}
+use Rattle.papaya_histories.specs.Given.Executor.Beginning.{Begins}
+use Rattle.papaya_histories.specs.Given.Executor.IsAt.{Scene, HasCall, IsAt, slot_of}
+use Rattle.papaya_histories.specs.Given.Executor.Replying.{scene_with, unless_stopped}
+use Rattle.papaya_histories.specs.Given.Executor.declared.executor.Executor.{Executor}
+use Rattle.papaya_histories.proofs.Given.Executor.Changed.{standing_is}
+use Rattle.papaya_histories.specs.Given.Finishes.Machines.{machine_of}
+use Rattle.papaya_histories.specs.Given.Finishes.Maps.{Standing, with_call as with_in}
+use Rattle.papaya_histories.specs.Given.Follows.Calling.{told}
+use Rattle.papaya_histories.specs.Given.Follows.Calls.{IsCalled}
+use Rattle.papaya_histories.specs.Given.Hands.Calling.{IsBegunFor}
+use Rattle.papaya_histories.specs.Given.Others.Walks.{given_up}
 use Rattle.papaya_owes.specs.Looking.{IsLooking}
 use Rattle.papaya_owes.specs.Made.{OwnsSo}
 use Rattle.papaya_owes.proofs.Between.{calls_begin_made, calls_begin_owning, calls_take_made, walks_go_on_made, walks_stop_made}

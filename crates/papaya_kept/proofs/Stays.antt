@@ -1,16 +1,16 @@
 -- All that is kept is so as long as nothing of it has changed: the same world, the same calls, what the moment says of calls, tables and pairs.
 use Rattle.std.specs.Prelude.{◌≡◌, ℕ, List, Option, Some, find}
 use Rattle.std.proofs.Common.{refl, ap, sym, subst, ◌∙◌, inl}
-use Rattle.seize.specs.World.{World, with_at}
-use Rattle.papaya_tables.specs.declared.node.Node.{Node}
-use Rattle.papaya_runs.specs.Same.{is_same}
-use Rattle.papaya_schedules.specs.Moment.{UnderWay as CallThere, Moment}
-use Rattle.papaya_schedules.specs.Views.{call_of}
-use Rattle.papaya_callers.specs.Together.{UnderWay}
-use Rattle.papaya_effects.specs.Known.{Known}
-use Rattle.papaya_executor.specs.IsAt.{Scene, HasCall}
-use Rattle.papaya_finishes.specs.Machines.{machine_of}
-use Rattle.papaya_follows.specs.Calling.{come_to}
+use Rattle.papaya_histories.specs.Given.Seize.World.{World, with_at}
+use Rattle.papaya_histories.specs.Given.Tables.declared.node.Node.{Node}
+use Rattle.papaya_histories.specs.Given.Runs.Same.{is_same}
+use Rattle.papaya_histories.specs.Given.Schedules.Moment.{UnderWay as CallThere, Moment}
+use Rattle.papaya_histories.specs.Given.Schedules.Views.{call_of}
+use Rattle.papaya_histories.specs.Given.Callers.Together.{UnderWay}
+use Rattle.papaya_histories.specs.Given.Effects.Known.{Known}
+use Rattle.papaya_histories.specs.Given.Executor.IsAt.{Scene, HasCall}
+use Rattle.papaya_histories.specs.Given.Finishes.Machines.{machine_of}
+use Rattle.papaya_histories.specs.Given.Follows.Calling.{come_to}
 use Rattle.papaya_owes.proofs.Aside.{stays_made}
 use Rattle.papaya_owes.proofs.Between.{made_begins, calls_come_to_made}
 use Rattle.papaya_owes.proofs.Looking.Between.{looking_begins, stays_looking, calls_come_to_looking}

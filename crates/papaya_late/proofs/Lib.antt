@@ -10,3 +10,4 @@ pub mod Rooms
 pub mod KindsKept
 pub mod Swept
 pub mod Plans
+pub mod Given

@@ -4,41 +4,41 @@ use Rattle.std.specs.Prelude.{◌≡◌, ℕ, suc, ◌*◌, ◌<◌, ◌≤◌, 
 use Rattle.std.proofs.Common.{refl, ap, sym, subst, ◌∙◌, arith, inl, inr}
 use Rattle.std.proofs.lemmas.Bool.{ne_eqb}
 use Rattle.std.proofs.Math.Logic.{⊎_elim}
-use Rattle.seize_words.specs.declared.at.At.{At}
-use Rattle.seize_words.specs.declared.at.At.TheVariants.{Root, Word}
-use Rattle.seize_words.specs.Mem.{Mem, Took, value_at, word_at, with_word}
-use Rattle.seize_words.specs.Op.{Store, Exchange}
-use Rattle.seize_words.specs.Plan.{Plan, Do, Now, Steps}
-use Rattle.seize_words.proofs.OneOwner.AfterWrites.{word_at-with_word}
-use Rattle.seize_words.proofs.OneOwner.Operations.{stored, exchanged}
-use Rattle.seize_rule.proofs.Words.Named.{same_at-refl}
-use Rattle.seize.specs.World.{World}
-use Rattle.papaya_tables.specs.Chunks.{is_incremental}
-use Rattle.papaya_tables.specs.TablePlaces.{at_word, at_place}
-use Rattle.papaya_tables.specs.declared.node.Node.{Node}
-use Rattle.papaya_tables.specs.declared.setting.Setting.{Setting}
-use Rattle.papaya_tables.specs.declared.status.TheConstants.Status.{ABORTED, PROMOTED}
-use Rattle.papaya_tables.specs.declared.table.Table.{Table}
-use Rattle.papaya_tables.specs.declared.table_words.TheConstants.{STATUS}
-use Rattle.papaya_resize.specs.CopierStates.{standing}
-use Rattle.papaya_resize.specs.declared.copier.Copier.{Copier}
-use Rattle.papaya_resize.specs.declared.copier.Copying.TheVariants as copies
-use Rattle.papaya_raw.specs.CallPoints.{told_answer}
-use Rattle.papaya_raw.specs.declared.machines.answer.Called.{Called}
-use Rattle.papaya_raw.specs.declared.machines.answer.KeyAnswer.TheVariants as answers
-use Rattle.papaya_raw.specs.declared.machines.answer.Missing.TheVariants as missing
-use Rattle.papaya_raw.specs.declared.machines.answer.There.{There}
-use Rattle.papaya_raw.specs.declared.machines.asking.Takes.{Takes}
-use Rattle.papaya_raw.specs.declared.machines.call.KeyCall.{KeyCall}
-use Rattle.papaya_rule.specs.Chart.{Chart}
+use Rattle.papaya_points.specs.Given.SeizeWords.declared.at.At.{At}
+use Rattle.papaya_points.specs.Given.SeizeWords.declared.at.At.TheVariants.{Root, Word}
+use Rattle.papaya_points.specs.Given.SeizeWords.Mem.{Mem, Took, value_at, word_at, with_word}
+use Rattle.papaya_points.specs.Given.SeizeWords.Op.{Store, Exchange}
+use Rattle.papaya_points.specs.Given.SeizeWords.Plan.{Plan, Do, Now, Steps}
+use Rattle.papaya_points.proofs.Given.SeizeWords.OneOwner.AfterWrites.{word_at-with_word}
+use Rattle.papaya_points.proofs.Given.SeizeWords.OneOwner.Operations.{stored, exchanged}
+use Rattle.papaya_points.proofs.Given.SeizeRule.Words.Named.{same_at-refl}
+use Rattle.papaya_points.specs.Given.Seize.World.{World}
+use Rattle.papaya_points.specs.Given.Tables.Chunks.{is_incremental}
+use Rattle.papaya_points.specs.Given.Tables.TablePlaces.{at_word, at_place}
+use Rattle.papaya_points.specs.Given.Tables.declared.node.Node.{Node}
+use Rattle.papaya_points.specs.Given.Tables.declared.setting.Setting.{Setting}
+use Rattle.papaya_points.specs.Given.Tables.declared.status.TheConstants.Status.{ABORTED, PROMOTED}
+use Rattle.papaya_points.specs.Given.Tables.declared.table.Table.{Table}
+use Rattle.papaya_points.specs.Given.Tables.declared.table_words.TheConstants.{STATUS}
+use Rattle.papaya_points.specs.Given.Resize.CopierStates.{standing}
+use Rattle.papaya_points.specs.Given.Resize.declared.copier.Copier.{Copier}
+use Rattle.papaya_points.specs.Given.Resize.declared.copier.Copying.TheVariants as copies
+use Rattle.papaya_points.specs.Given.Raw.CallPoints.{told_answer}
+use Rattle.papaya_points.specs.Given.Raw.declared.machines.answer.Called.{Called}
+use Rattle.papaya_points.specs.Given.Raw.declared.machines.answer.KeyAnswer.TheVariants as answers
+use Rattle.papaya_points.specs.Given.Raw.declared.machines.answer.Missing.TheVariants as missing
+use Rattle.papaya_points.specs.Given.Raw.declared.machines.answer.There.{There}
+use Rattle.papaya_points.specs.Given.Raw.declared.machines.asking.Takes.{Takes}
+use Rattle.papaya_points.specs.Given.Raw.declared.machines.call.KeyCall.{KeyCall}
+use Rattle.papaya_points.specs.Given.Rule.Chart.{Chart}
 use Rattle.papaya_late.specs.Kinds.{ComesFit}
-use Rattle.papaya_rule.specs.Moments.{Moments}
-use Rattle.papaya_rule.specs.Words.{Blocks, root_word}
-use Rattle.papaya_rule.specs.Maps.{IsTable}
-use Rattle.papaya_rule.specs.InWorld.{IsMapIn, Went}
+use Rattle.papaya_points.specs.Given.Rule.Moments.{Moments}
+use Rattle.papaya_points.specs.Given.Rule.Words.{Blocks, root_word}
+use Rattle.papaya_points.specs.Given.Rule.Maps.{IsTable}
+use Rattle.papaya_points.specs.Given.Rule.InWorld.{IsMapIn, Went}
 use Rattle.papaya_points.specs.Steps.{AreLawful}
 use Rattle.papaya_late.proofs.Known.Steps.{lasts_went, others_step}
-use Rattle.papaya_rule.proofs.Words.TablesSeen.{block_of_link}
+use Rattle.papaya_points.proofs.Given.Rule.Words.TablesSeen.{block_of_link}
 
 -- An insertion whose exchange was lost answers that the key is missing, and stores nothing.
 module _ {K V Q : Type 0} where

@@ -1,19 +1,19 @@
 -- What a walk, a clearing or a retaining knows, at each of its points, in either mode.
 use Rattle.std.specs.Prelude.{◌≡◌, ℕ, suc, ◌<◌, ◌≤◌, Bool, true, false, cond, ◌⊎◌}
-use Rattle.seize.specs.World.{World, Parting, Cutting}
-use Rattle.papaya_tables.specs.Chunks.{is_incremental}
-use Rattle.papaya_tables.specs.declared.node.Node.{Node}
-use Rattle.papaya_tables.specs.declared.setting.Setting.{Setting}
-use Rattle.papaya_resize.specs.CopierStates.{no_table}
-use Rattle.papaya_resize.specs.declared.copier.Copier.{Copier}
-use Rattle.papaya_sweeps.specs.SweepPoints.{removes}
-use Rattle.papaya_sweeps.specs.declared.sweep.Purpose.TheVariants.{Walks, Retains}
-use Rattle.papaya_sweeps.specs.declared.sweep.Sweep.{Sweep}
-use Rattle.papaya_sweeps.specs.declared.sweep.Sweeping.{Sweeping}
-use Rattle.papaya_sweeps.specs.declared.sweep.Sweeping.TheVariants as at
-use Rattle.papaya_rule.specs.Chart.{Still, Holds, Chart}
-use Rattle.papaya_rule.specs.Words.{Blocks, place_word}
-use Rattle.papaya_rule.specs.Maps.{IsTable}
+use Rattle.papaya_points.specs.Given.Seize.World.{World, Parting, Cutting}
+use Rattle.papaya_points.specs.Given.Tables.Chunks.{is_incremental}
+use Rattle.papaya_points.specs.Given.Tables.declared.node.Node.{Node}
+use Rattle.papaya_points.specs.Given.Tables.declared.setting.Setting.{Setting}
+use Rattle.papaya_points.specs.Given.Resize.CopierStates.{no_table}
+use Rattle.papaya_points.specs.Given.Resize.declared.copier.Copier.{Copier}
+use Rattle.papaya_points.specs.Given.Sweeps.SweepPoints.{removes}
+use Rattle.papaya_points.specs.Given.Sweeps.declared.sweep.Purpose.TheVariants.{Walks, Retains}
+use Rattle.papaya_points.specs.Given.Sweeps.declared.sweep.Sweep.{Sweep}
+use Rattle.papaya_points.specs.Given.Sweeps.declared.sweep.Sweeping.{Sweeping}
+use Rattle.papaya_points.specs.Given.Sweeps.declared.sweep.Sweeping.TheVariants as at
+use Rattle.papaya_points.specs.Given.Rule.Chart.{Still, Holds, Chart}
+use Rattle.papaya_points.specs.Given.Rule.Words.{Blocks, place_word}
+use Rattle.papaya_points.specs.Given.Rule.Maps.{IsTable}
 use Rattle.papaya_points.specs.FactsDisposes.{StandsBefore, StandsNowhere, HasLeft, DisposeFacts}
 use Rattle.papaya_points.specs.FactsIdle.{IsIdle}
 use Rattle.papaya_late.specs.Left.{Entered}

@@ -21,3 +21,4 @@ pub mod Covers
 pub mod CoversSweeps
 pub mod LastsSweeps
 pub mod RowsSweeps
+pub mod Given

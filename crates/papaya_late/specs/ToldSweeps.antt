@@ -1,22 +1,22 @@
 -- What a step of a sweep tells, beside where it led.
 use Rattle.std.specs.Prelude.{◌≡◌, ◌≢◌, ℕ, Bool, true, false, Option, Some, None, ◌⊎◌}
-use Rattle.seize.specs.World.{World}
-use Rattle.papaya_tables.specs.Chunks.{is_incremental}
-use Rattle.papaya_tables.specs.declared.node.Node.{Node}
-use Rattle.papaya_tables.specs.declared.resize_mode.ResizeMode.{ResizeMode}
-use Rattle.papaya_tables.specs.declared.setting.Setting.{Setting}
-use Rattle.papaya_resize.specs.declared.copier.Copier.{Copier}
-use Rattle.papaya_resize.specs.declared.copier.Copying.TheVariants as copies
-use Rattle.papaya_sweeps.specs.declared.sweep.Purpose.TheVariants.{Retains}
-use Rattle.papaya_sweeps.specs.declared.sweep.Sweep.{Sweep}
-use Rattle.papaya_sweeps.specs.declared.sweep.Sweeping.{Sweeping}
-use Rattle.papaya_sweeps.specs.declared.sweep.Sweeping.TheVariants as at
-use Rattle.papaya_sweeps.specs.declared.sweep.Swept.{Swept}
-use Rattle.papaya_sweeps.specs.declared.sweep.Swept.TheVariants as swept
-use Rattle.papaya_rule.specs.Chart.{Phase, Still, Holds, Chart, put}
-use Rattle.papaya_rule.specs.Words.{Blocks, place_word}
-use Rattle.papaya_rule.specs.Moves.{Removes, after}
-use Rattle.papaya_rule.specs.Maps.{spot_of, IsTable}
+use Rattle.papaya_points.specs.Given.Seize.World.{World}
+use Rattle.papaya_points.specs.Given.Tables.Chunks.{is_incremental}
+use Rattle.papaya_points.specs.Given.Tables.declared.node.Node.{Node}
+use Rattle.papaya_points.specs.Given.Tables.declared.resize_mode.ResizeMode.{ResizeMode}
+use Rattle.papaya_points.specs.Given.Tables.declared.setting.Setting.{Setting}
+use Rattle.papaya_points.specs.Given.Resize.declared.copier.Copier.{Copier}
+use Rattle.papaya_points.specs.Given.Resize.declared.copier.Copying.TheVariants as copies
+use Rattle.papaya_points.specs.Given.Sweeps.declared.sweep.Purpose.TheVariants.{Retains}
+use Rattle.papaya_points.specs.Given.Sweeps.declared.sweep.Sweep.{Sweep}
+use Rattle.papaya_points.specs.Given.Sweeps.declared.sweep.Sweeping.{Sweeping}
+use Rattle.papaya_points.specs.Given.Sweeps.declared.sweep.Sweeping.TheVariants as at
+use Rattle.papaya_points.specs.Given.Sweeps.declared.sweep.Swept.{Swept}
+use Rattle.papaya_points.specs.Given.Sweeps.declared.sweep.Swept.TheVariants as swept
+use Rattle.papaya_points.specs.Given.Rule.Chart.{Phase, Still, Holds, Chart, put}
+use Rattle.papaya_points.specs.Given.Rule.Words.{Blocks, place_word}
+use Rattle.papaya_points.specs.Given.Rule.Moves.{Removes, after}
+use Rattle.papaya_points.specs.Given.Rule.Maps.{spot_of, IsTable}
 use Rattle.papaya_points.specs.Told.{IsRowOf, IsRowOfCopier}
 use Rattle.papaya_late.specs.FactsSweeps.{CopiesPairs, SweepFacts}
 

@@ -1,8 +1,8 @@
 -- Before all events all is carried that events need.
 use Rattle.std.proofs.Common.{refl, inl}
-use Rattle.papaya_moments.proofs.Calls.{whole_begins}
-use Rattle.papaya_moments.proofs.NewMaps.{pairs_begin}
-use Rattle.papaya_moments.proofs.Numbers.{numbers_begin}
+use Rattle.papaya_histories.proofs.Given.Moments.Calls.{whole_begins}
+use Rattle.papaya_histories.proofs.Given.Moments.NewMaps.{pairs_begin}
+use Rattle.papaya_histories.proofs.Given.Moments.Numbers.{numbers_begin}
 use Rattle.papaya_kept.proofs.Stays.{begins_kept}
 use Rattle.papaya_shards.proofs.ShardOthers.{counters_begin}
 use Rattle.papaya_histories.proofs.DueOn.{dues_begin}

@@ -1,42 +1,42 @@
 -- What a moment shows of calls is so on between the steps of events.
 use Rattle.std.specs.Prelude.{◌≡◌, ◌≤◌, nat_lt, ℕ, Bool, true, false, List, Option, Some, None, if◌then◌else◌}
 use Rattle.std.proofs.Common.{refl, ap, sym, subst, ◌∙◌, inl, inr, arith}
-use Rattle.seize_words.specs.declared.fault.Fault.TheVariants.{Memory}
-use Rattle.papaya_sweeps.specs.SweepPoints.{after_next, next_at}
-use Rattle.papaya_sweeps.specs.declared.sweep.Sweep.{Sweep}
-use Rattle.papaya_sweeps.specs.declared.sweep.Sweeping.{Sweeping}
-use Rattle.papaya_sweeps.specs.declared.sweep.Sweeping.TheVariants as sweeping
-use Rattle.papaya_points.specs.FactsCalls.{Unchanged}
-use Rattle.papaya_schedules.specs.After.{moment}
-use Rattle.papaya_schedules.specs.Beginning.{with_call, with_map}
-use Rattle.papaya_schedules.specs.declared.outcome.Outcome.TheVariants.{Refused}
-use Rattle.papaya_schedules.specs.Moment.{UnderWay as CallThere, Stands, Asking, Moment}
-use Rattle.papaya_schedules.specs.Views.{call_of}
-use Rattle.papaya_callers.specs.OverAll.{CallOverAll, gone_on}
-use Rattle.papaya_callers.specs.Rooms.{CallForRoom}
-use Rattle.papaya_callers.specs.Together.{UnderWay, CallOnKey, OnKey, ForRoom, Counting, OverAll}
-use Rattle.papaya_effects.specs.Known.{Known}
-use Rattle.papaya_executor.specs.Beginning.{Begins}
-use Rattle.papaya_executor.specs.IsAt.{Scene, HasCall}
-use Rattle.papaya_executor.specs.Replying.{scene_with, unless_stopped}
-use Rattle.papaya_finishes.specs.Machines.{machine_of}
-use Rattle.papaya_finishes.specs.Maps.{Standing, with_call as with_call_of}
-use Rattle.papaya_follows.specs.Calling.{NoneNamed}
-use Rattle.papaya_follows.specs.Calls.{IsCalled, ShowsCalls as IsThere}
-use Rattle.papaya_hands.specs.Asked.{as_told}
-use Rattle.papaya_others.specs.Elsewhere.{HasSame}
-use Rattle.papaya_others.specs.Endings.{without_map}
-use Rattle.papaya_others.specs.Walks.{given_up}
-use Rattle.papaya_hands.proofs.Asking.{which}
-use Rattle.papaya_follows.proofs.Steps.{one_of}
-use Rattle.papaya_moments.specs.Numbers.{NumbersMaps, PairsAreBelow}
-use Rattle.papaya_moments.proofs.Calls.{calls_begin_whole, calls_take_whole}
-use Rattle.papaya_moments.proofs.Ends.{endings_begin_whole}
-use Rattle.papaya_moments.proofs.MapsCome.{makings_begin_whole, maps_come_whole}
-use Rattle.papaya_moments.proofs.NewMaps.{pairs_stay_as_maps_come, pairs_stay_as_maps_go}
-use Rattle.papaya_moments.proofs.Numbers.{maps_come_by_number, maps_go}
-use Rattle.papaya_moments.proofs.Over.{endings_are_over_whole}
-use Rattle.papaya_moments.proofs.Walks.{walks_go_on_whole, walks_stop_whole}
+use Rattle.papaya_histories.specs.Given.SeizeWords.declared.fault.Fault.TheVariants.{Memory}
+use Rattle.papaya_histories.specs.Given.Sweeps.SweepPoints.{after_next, next_at}
+use Rattle.papaya_histories.specs.Given.Sweeps.declared.sweep.Sweep.{Sweep}
+use Rattle.papaya_histories.specs.Given.Sweeps.declared.sweep.Sweeping.{Sweeping}
+use Rattle.papaya_histories.specs.Given.Sweeps.declared.sweep.Sweeping.TheVariants as sweeping
+use Rattle.papaya_histories.specs.Given.Points.FactsCalls.{Unchanged}
+use Rattle.papaya_histories.specs.Given.Schedules.After.{moment}
+use Rattle.papaya_histories.specs.Given.Schedules.Beginning.{with_call, with_map}
+use Rattle.papaya_histories.specs.Given.Schedules.declared.outcome.Outcome.TheVariants.{Refused}
+use Rattle.papaya_histories.specs.Given.Schedules.Moment.{UnderWay as CallThere, Stands, Asking, Moment}
+use Rattle.papaya_histories.specs.Given.Schedules.Views.{call_of}
+use Rattle.papaya_histories.specs.Given.Callers.OverAll.{CallOverAll, gone_on}
+use Rattle.papaya_histories.specs.Given.Callers.Rooms.{CallForRoom}
+use Rattle.papaya_histories.specs.Given.Callers.Together.{UnderWay, CallOnKey, OnKey, ForRoom, Counting, OverAll}
+use Rattle.papaya_histories.specs.Given.Effects.Known.{Known}
+use Rattle.papaya_histories.specs.Given.Executor.Beginning.{Begins}
+use Rattle.papaya_histories.specs.Given.Executor.IsAt.{Scene, HasCall}
+use Rattle.papaya_histories.specs.Given.Executor.Replying.{scene_with, unless_stopped}
+use Rattle.papaya_histories.specs.Given.Finishes.Machines.{machine_of}
+use Rattle.papaya_histories.specs.Given.Finishes.Maps.{Standing, with_call as with_call_of}
+use Rattle.papaya_histories.specs.Given.Follows.Calling.{NoneNamed}
+use Rattle.papaya_histories.specs.Given.Follows.Calls.{IsCalled, ShowsCalls as IsThere}
+use Rattle.papaya_histories.specs.Given.Hands.Asked.{as_told}
+use Rattle.papaya_histories.specs.Given.Others.Elsewhere.{HasSame}
+use Rattle.papaya_histories.specs.Given.Others.Endings.{without_map}
+use Rattle.papaya_histories.specs.Given.Others.Walks.{given_up}
+use Rattle.papaya_histories.proofs.Given.Hands.Asking.{which}
+use Rattle.papaya_histories.proofs.Given.Follows.Steps.{one_of}
+use Rattle.papaya_histories.specs.Given.Moments.Numbers.{NumbersMaps, PairsAreBelow}
+use Rattle.papaya_histories.proofs.Given.Moments.Calls.{calls_begin_whole, calls_take_whole}
+use Rattle.papaya_histories.proofs.Given.Moments.Ends.{endings_begin_whole}
+use Rattle.papaya_histories.proofs.Given.Moments.MapsCome.{makings_begin_whole, maps_come_whole}
+use Rattle.papaya_histories.proofs.Given.Moments.NewMaps.{pairs_stay_as_maps_come, pairs_stay_as_maps_go}
+use Rattle.papaya_histories.proofs.Given.Moments.Numbers.{maps_come_by_number, maps_go}
+use Rattle.papaya_histories.proofs.Given.Moments.Over.{endings_are_over_whole}
+use Rattle.papaya_histories.proofs.Given.Moments.Walks.{walks_go_on_whole, walks_stop_whole}
 use Rattle.papaya_histories.specs.Answers.{NamesPair}
 use Rattle.papaya_histories.specs.AsCalled.{IsAsCalled, IsSweptAs, SweepAsks}
 use Rattle.papaya_histories.specs.Asking.{IsToldQuestion}

@@ -5,8 +5,8 @@ use Rattle.papaya_settles.proofs.Hand.Calls.{calls_keep_owed}
 use Rattle.papaya_finds.proofs.Joined.{parts_are_all}
 use Rattle.papaya_finds.proofs.Found.{steps_find_parts}
 use Rattle.std.proofs.Common.{ap, sym, ◌∙◌}
-use Rattle.papaya_follows.proofs.Steps.{one_of}
-use Rattle.papaya_schedules.specs.Moment.{UnderWay as CallThere}
+use Rattle.papaya_histories.proofs.Given.Follows.Steps.{one_of}
+use Rattle.papaya_histories.specs.Given.Schedules.Moment.{UnderWay as CallThere}
 use Rattle.papaya_legal.specs.CallRuns.{StepsFindAll}
 
 module _ (K V S : Type 0) (same : K → K → Bool) (hash : K → ℕ) where

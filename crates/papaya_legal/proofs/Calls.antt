@@ -3,28 +3,28 @@ use Rattle.std.specs.Prelude.{◌≡◌, ◌≢◌, ◌<◌, ℕ, ◌+◌, ◌�
 use Rattle.std.specs.List.{list_all}
 use Rattle.std.proofs.Common.{refl, ap, sym, subst, ◌∙◌, inl, inr, arith}
 use Rattle.std.proofs.lemmas.List.{append-nil}
-use Rattle.seize.specs.WaitingSets.{Sets}
-use Rattle.seize.specs.World.{World, Rests}
-use Rattle.papaya_tables.specs.declared.node.Node.{Node}
-use Rattle.papaya_tables.specs.Chunks.{is_incremental}
-use Rattle.papaya_schedules.specs.declared.effect.Effect.{Effect}
-use Rattle.papaya_schedules.specs.declared.event.Event.{Event}
-use Rattle.papaya_schedules.specs.declared.event.Event.TheVariants.{OneCall, Step, Go, Next}
-use Rattle.papaya_schedules.specs.declared.effect.Thing.{Thing}
-use Rattle.papaya_schedules.specs.After.{is_by, moment, moments_from}
-use Rattle.papaya_schedules.specs.Effects.{with_effects, AtEachEffect}
-use Rattle.papaya_schedules.specs.Entry.{caller_of, speaker}
-use Rattle.papaya_schedules.specs.Model.{sets_in, things_in}
-use Rattle.papaya_schedules.specs.Moment.{Moment}
-use Rattle.papaya_executor.specs.IsAt.{Scene, slot_of}
-use Rattle.papaya_executor.specs.Stepping.{scene_after}
-use Rattle.papaya_effects.specs.Effects.{effects_of, known_after}
-use Rattle.papaya_effects.specs.Known.{Known}
-use Rattle.papaya_effects.specs.declared.acting.Acting.TheVariants as acts
-use Rattle.papaya_moments.specs.Whole.{ShowsWhole}
-use Rattle.papaya_moments.proofs.After.{effects_after}
-use Rattle.papaya_moments.proofs.NewMaps.{effects_keep_pairs}
-use Rattle.papaya_moments.proofs.Numbers.{numbers_are_below, steps_keep_numbers}
+use Rattle.papaya_histories.specs.Given.Seize.WaitingSets.{Sets}
+use Rattle.papaya_histories.specs.Given.Seize.World.{World, Rests}
+use Rattle.papaya_histories.specs.Given.Tables.declared.node.Node.{Node}
+use Rattle.papaya_histories.specs.Given.Tables.Chunks.{is_incremental}
+use Rattle.papaya_histories.specs.Given.Schedules.declared.effect.Effect.{Effect}
+use Rattle.papaya_histories.specs.Given.Schedules.declared.event.Event.{Event}
+use Rattle.papaya_histories.specs.Given.Schedules.declared.event.Event.TheVariants.{OneCall, Step, Go, Next}
+use Rattle.papaya_histories.specs.Given.Schedules.declared.effect.Thing.{Thing}
+use Rattle.papaya_histories.specs.Given.Schedules.After.{is_by, moment, moments_from}
+use Rattle.papaya_histories.specs.Given.Schedules.Effects.{with_effects, AtEachEffect}
+use Rattle.papaya_histories.specs.Given.Schedules.Entry.{caller_of, speaker}
+use Rattle.papaya_histories.specs.Given.Schedules.Model.{sets_in, things_in}
+use Rattle.papaya_histories.specs.Given.Schedules.Moment.{Moment}
+use Rattle.papaya_histories.specs.Given.Executor.IsAt.{Scene, slot_of}
+use Rattle.papaya_histories.specs.Given.Executor.Stepping.{scene_after}
+use Rattle.papaya_histories.specs.Given.Effects.Effects.{effects_of, known_after}
+use Rattle.papaya_histories.specs.Given.Effects.Known.{Known}
+use Rattle.papaya_histories.specs.Given.Effects.declared.acting.Acting.TheVariants as acts
+use Rattle.papaya_histories.specs.Given.Moments.Whole.{ShowsWhole}
+use Rattle.papaya_histories.proofs.Given.Moments.After.{effects_after}
+use Rattle.papaya_histories.proofs.Given.Moments.NewMaps.{effects_keep_pairs}
+use Rattle.papaya_histories.proofs.Given.Moments.Numbers.{numbers_are_below, steps_keep_numbers}
 use Rattle.papaya_kept.proofs.Calls.{calls_keep_kept}
 use Rattle.papaya_shards.proofs.ShardCalls.{calls_keep_counters}
 use Rattle.papaya_histories.specs.AsCalled.{ShowsAsCalled}
@@ -36,7 +36,7 @@ use Rattle.papaya_histories.proofs.AnyCall.InEvent.{events_begin, events_go_on, 
 use Rattle.papaya_models.specs.CallEvents.{FollowsInEvent, IsInItsRow}
 use Rattle.papaya_models.proofs.CallEvents.{call_events_begin, call_events_go_on}
 use Rattle.papaya_models.proofs.MapEvents.{moments_note_once}
-use Rattle.papaya_spots.proofs.Unreclaimed.{and_both}
+use Rattle.papaya_histories.proofs.Given.Spots.Unreclaimed.{and_both}
 use Rattle.papaya_finds.specs.Life.{StoresOne}
 use Rattle.papaya_finds.proofs.Doing.{several_do_theirs}
 use Rattle.papaya_finds.proofs.Quiet.{several_store_one}

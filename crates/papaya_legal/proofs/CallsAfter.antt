@@ -1,21 +1,21 @@
 -- The moment after an event of a call shows what the next event needs.
 use Rattle.std.specs.Prelude.{◌≡◌, ◌<◌, ℕ, Bool, true, List, ◌∷◌, Option, Some, find}
 use Rattle.std.proofs.Common.{refl, ap, sym, subst, ◌∙◌}
-use Rattle.papaya_schedules.specs.declared.effect.Effect.{Effect}
-use Rattle.papaya_schedules.specs.declared.event.Event.{Event}
-use Rattle.papaya_schedules.specs.declared.event.Event.TheVariants.{OneCall, Step, Go, Next}
-use Rattle.papaya_schedules.specs.After.{moment, after}
-use Rattle.papaya_schedules.specs.Effects.{with_effects, AtEachEffect, worked}
-use Rattle.papaya_schedules.specs.Entry.{caller_of, Entry, acted_on, ends_call}
-use Rattle.papaya_schedules.specs.Moment.{Moment, UnderWay as CallThere}
-use Rattle.papaya_executor.specs.IsAt.{Scene}
-use Rattle.papaya_executor.specs.Stepping.{scene_after}
-use Rattle.papaya_effects.specs.Effects.{effects_of, known_after}
-use Rattle.papaya_effects.specs.Known.{Known}
-use Rattle.papaya_moments.specs.Whole.{ShowsWhole}
-use Rattle.papaya_moments.proofs.After.{effects_after}
-use Rattle.papaya_moments.proofs.NewMaps.{effects_keep_pairs}
-use Rattle.papaya_moments.proofs.Numbers.{numbers_are_below, steps_keep_numbers}
+use Rattle.papaya_histories.specs.Given.Schedules.declared.effect.Effect.{Effect}
+use Rattle.papaya_histories.specs.Given.Schedules.declared.event.Event.{Event}
+use Rattle.papaya_histories.specs.Given.Schedules.declared.event.Event.TheVariants.{OneCall, Step, Go, Next}
+use Rattle.papaya_histories.specs.Given.Schedules.After.{moment, after}
+use Rattle.papaya_histories.specs.Given.Schedules.Effects.{with_effects, AtEachEffect, worked}
+use Rattle.papaya_histories.specs.Given.Schedules.Entry.{caller_of, Entry, acted_on, ends_call}
+use Rattle.papaya_histories.specs.Given.Schedules.Moment.{Moment, UnderWay as CallThere}
+use Rattle.papaya_histories.specs.Given.Executor.IsAt.{Scene}
+use Rattle.papaya_histories.specs.Given.Executor.Stepping.{scene_after}
+use Rattle.papaya_histories.specs.Given.Effects.Effects.{effects_of, known_after}
+use Rattle.papaya_histories.specs.Given.Effects.Known.{Known}
+use Rattle.papaya_histories.specs.Given.Moments.Whole.{ShowsWhole}
+use Rattle.papaya_histories.proofs.Given.Moments.After.{effects_after}
+use Rattle.papaya_histories.proofs.Given.Moments.NewMaps.{effects_keep_pairs}
+use Rattle.papaya_histories.proofs.Given.Moments.Numbers.{numbers_are_below, steps_keep_numbers}
 use Rattle.papaya_kept.proofs.Calls.{calls_keep_kept}
 use Rattle.papaya_shards.proofs.ShardCalls.{calls_keep_counters}
 use Rattle.papaya_histories.specs.AsCalled.{ShowsAsCalled}
@@ -28,10 +28,10 @@ use Rattle.papaya_finds.proofs.Quiet.{several_store_one}
 use Rattle.papaya_finds.proofs.Steps.{steps_store_one}
 use Rattle.papaya_promises.specs.Reading.{LookupsStay}
 use Rattle.papaya_legal.specs.CallEvents.{CallEventsEnd}
-use Rattle.papaya_schedules.specs.declared.outcome.Outcome.{Outcome}
-use Rattle.papaya_moments.specs.Numbers.{NumbersMaps, PairsAreBelow}
-use Rattle.papaya_follows.specs.Calling.{come_to, NoneNamed}
-use Rattle.papaya_others.specs.Elsewhere.{HasSame}
+use Rattle.papaya_histories.specs.Given.Schedules.declared.outcome.Outcome.{Outcome}
+use Rattle.papaya_histories.specs.Given.Moments.Numbers.{NumbersMaps, PairsAreBelow}
+use Rattle.papaya_histories.specs.Given.Follows.Calling.{come_to, NoneNamed}
+use Rattle.papaya_histories.specs.Given.Others.Elsewhere.{HasSame}
 use Rattle.papaya_histories.proofs.AnyCall.Over.{events_are_over, like_over, none_named}
 use Rattle.papaya_purposes.proofs.Between.{events_keep_purposes}
 use Rattle.papaya_purposes.proofs.Elsewhere.{purposes_stay}
@@ -41,9 +41,9 @@ use Rattle.papaya_promises.proofs.Brief.Stays.{events_keep_readings, readings_st
 use Rattle.papaya_finds.specs.Within.{GoesInOrder}
 use Rattle.papaya_finds.proofs.Runs.{events_keep_order}
 use Rattle.papaya_finds.proofs.Closed.{over_stays_back}
-use Rattle.papaya_runs.specs.Same.{is_same}
+use Rattle.papaya_histories.specs.Given.Runs.Same.{is_same}
 use Rattle.papaya_legal.proofs.Maps.{stands_so}
-use Rattle.papaya_effects.specs.declared.acting.Acting.TheVariants as acts
+use Rattle.papaya_histories.specs.Given.Effects.declared.acting.Acting.TheVariants as acts
 use Rattle.papaya_legal.specs.Carried.{NoneCounted}
 use Rattle.papaya_legal.proofs.Uncounted.{calls_leave_uncounted}
 

@@ -2,25 +2,25 @@
 use Rattle.std.specs.Prelude.{◌≡◌, ◌⊎◌, [], ℕ, Bool, true, false, List, Some}
 use Rattle.std.specs.List.{list_all}
 use Rattle.std.proofs.Common.{refl, ap, sym, subst, ◌∙◌, inl, inr}
-use Rattle.seize_words.specs.declared.fault.Fault.TheVariants.{Busy}
-use Rattle.papaya_schedules.specs.declared.effect.Effect.{Effect}
-use Rattle.papaya_schedules.specs.declared.event.Event.{Event}
-use Rattle.papaya_schedules.specs.declared.event.Event.TheVariants.{OneCall, Step, Go, Next}
-use Rattle.papaya_schedules.specs.declared.outcome.Outcome.{Outcome}
-use Rattle.papaya_schedules.specs.declared.outcome.Outcome.TheVariants.{Refused}
-use Rattle.papaya_schedules.specs.After.{after, moment, moments_from}
-use Rattle.papaya_schedules.specs.Beginning.{at_work}
-use Rattle.papaya_schedules.specs.Effects.{with_effects, worked}
-use Rattle.papaya_schedules.specs.Entry.{caller_of, is_busy}
-use Rattle.papaya_schedules.specs.Handing.{AllFind, IsWhole, is_call_effect, is_granted, may_do}
-use Rattle.papaya_schedules.specs.Linearizable.{IsLinearizable}
-use Rattle.papaya_schedules.specs.Moment.{Moment}
-use Rattle.papaya_schedules.specs.Reclaims.{IsProtected}
-use Rattle.papaya_effects.specs.Effects.{effects_of, known_after}
-use Rattle.papaya_effects.specs.Known.{Known}
-use Rattle.papaya_effects.specs.declared.acting.Acting.TheVariants as acts
-use Rattle.papaya_moments.specs.Whole.{ShowsWhole}
-use Rattle.papaya_moments.proofs.After.{effects_after}
+use Rattle.papaya_histories.specs.Given.SeizeWords.declared.fault.Fault.TheVariants.{Busy}
+use Rattle.papaya_histories.specs.Given.Schedules.declared.effect.Effect.{Effect}
+use Rattle.papaya_histories.specs.Given.Schedules.declared.event.Event.{Event}
+use Rattle.papaya_histories.specs.Given.Schedules.declared.event.Event.TheVariants.{OneCall, Step, Go, Next}
+use Rattle.papaya_histories.specs.Given.Schedules.declared.outcome.Outcome.{Outcome}
+use Rattle.papaya_histories.specs.Given.Schedules.declared.outcome.Outcome.TheVariants.{Refused}
+use Rattle.papaya_histories.specs.Given.Schedules.After.{after, moment, moments_from}
+use Rattle.papaya_histories.specs.Given.Schedules.Beginning.{at_work}
+use Rattle.papaya_histories.specs.Given.Schedules.Effects.{with_effects, worked}
+use Rattle.papaya_histories.specs.Given.Schedules.Entry.{caller_of, is_busy}
+use Rattle.papaya_histories.specs.Given.Schedules.Handing.{AllFind, IsWhole, is_call_effect, is_granted, may_do}
+use Rattle.papaya_histories.specs.Given.Schedules.Linearizable.{IsLinearizable}
+use Rattle.papaya_histories.specs.Given.Schedules.Moment.{Moment}
+use Rattle.papaya_histories.specs.Given.Schedules.Reclaims.{IsProtected}
+use Rattle.papaya_histories.specs.Given.Effects.Effects.{effects_of, known_after}
+use Rattle.papaya_histories.specs.Given.Effects.Known.{Known}
+use Rattle.papaya_histories.specs.Given.Effects.declared.acting.Acting.TheVariants as acts
+use Rattle.papaya_histories.specs.Given.Moments.Whole.{ShowsWhole}
+use Rattle.papaya_histories.proofs.Given.Moments.After.{effects_after}
 use Rattle.papaya_histories.specs.InEvent.{here_of}
 use Rattle.papaya_histories.specs.Questions.{EventAsksStill}
 use Rattle.papaya_histories.proofs.AnyCall.InEvent.{events_end}

@@ -2,14 +2,14 @@
 use Rattle.std.specs.Prelude.{◌≡◌, Bool, true, false, not, ◌||◌, List}
 use Rattle.std.specs.List.{list_all, list_any}
 use Rattle.std.proofs.Common.{refl, sym, subst}
-use Rattle.papaya_schedules.specs.declared.effect.Effect.{Effect}
-use Rattle.papaya_schedules.specs.After.{after, moment}
-use Rattle.papaya_schedules.specs.Beginning.{at_work}
-use Rattle.papaya_schedules.specs.Effects.{AtEachEffect}
-use Rattle.papaya_schedules.specs.Entry.{acted_on, acting, caller_of}
-use Rattle.papaya_schedules.specs.Handing.{gives_all, is_granted, is_made, may_do, moments_of, refuses as refuses_growth}
-use Rattle.papaya_schedules.specs.Lives.{Finds}
-use Rattle.papaya_schedules.specs.Reclaims.{IsProtected}
+use Rattle.papaya_histories.specs.Given.Schedules.declared.effect.Effect.{Effect}
+use Rattle.papaya_histories.specs.Given.Schedules.After.{after, moment}
+use Rattle.papaya_histories.specs.Given.Schedules.Beginning.{at_work}
+use Rattle.papaya_histories.specs.Given.Schedules.Effects.{AtEachEffect}
+use Rattle.papaya_histories.specs.Given.Schedules.Entry.{acted_on, acting, caller_of}
+use Rattle.papaya_histories.specs.Given.Schedules.Handing.{gives_all, is_granted, is_made, may_do, moments_of, refuses as refuses_growth}
+use Rattle.papaya_histories.specs.Given.Schedules.Lives.{Finds}
+use Rattle.papaya_histories.specs.Given.Schedules.Reclaims.{IsProtected}
 use Rattle.papaya_histories.proofs.NoKey.Idle.{idle_are_linearizable}
 use Rattle.papaya_models.proofs.Follows.{idle_events_follow}
 use Rattle.papaya_promises.specs.Sheltered.{SectionsHold}

@@ -2,40 +2,40 @@
 use Rattle.std.specs.Prelude.{◌≡◌, ◌<◌, ℕ, Bool, List, ◌++◌, Option, Some, None}
 use Rattle.std.proofs.Common.{refl, ap, sym, subst, ◌∙◌, inl, inr}
 use Rattle.std.proofs.lemmas.Bool.{cases_eq}
-use Rattle.seize.specs.World.{World}
-use Rattle.seize.specs.declared.progress.Progress.{Progress as Making}
-use Rattle.seize.specs.declared.progress.Progress.TheVariants as progress
-use Rattle.seize.specs.declared.rows.settle.Settled.{Settled}
-use Rattle.seize.specs.declared.rows.settle.Settled.TheVariants as settled
-use Rattle.papaya_tables.specs.declared.node.Node.{Node}
-use Rattle.papaya_tables.specs.declared.setting.Setting.{Setting}
-use Rattle.papaya_schedules.specs.declared.effect.Effect.{Effect}
-use Rattle.papaya_schedules.specs.Effects.{with_effects}
-use Rattle.papaya_schedules.specs.Model.{sets_in, things_in}
-use Rattle.papaya_schedules.specs.Moment.{Moment}
-use Rattle.papaya_teller.specs.declared.changed.Changed.{Changed}
-use Rattle.papaya_callers.specs.Together.{UnderWay}
-use Rattle.papaya_callers.proofs.Together.At.{at_other}
-use Rattle.papaya_effects.specs.Effects.{effects_of, known_after, map_of}
-use Rattle.papaya_effects.specs.Known.{Known}
-use Rattle.papaya_effects.specs.declared.acting.Acting.{Acting}
-use Rattle.papaya_effects.specs.declared.acting.Acting.TheVariants as acts
-use Rattle.papaya_executor.specs.Ending.{EndingLeads}
-use Rattle.papaya_executor.specs.IsAt.{Scene, IsAt}
-use Rattle.papaya_executor.specs.Making.{MakingLeads}
-use Rattle.papaya_executor.specs.declared.executor.Executor.{Executor}
-use Rattle.papaya_finishes.specs.Endings.{Finishing}
-use Rattle.papaya_finishes.specs.Makings.{Beginning}
-use Rattle.papaya_finishes.specs.Maps.{Standing}
-use Rattle.papaya_others.specs.Endings.{ending_after}
-use Rattle.papaya_others.specs.Makings.{making_after}
-use Rattle.papaya_moments.specs.Whole.{ShowsWhole}
-use Rattle.papaya_moments.specs.Numbers.{NumbersMaps, PairsAreBelow}
-use Rattle.papaya_moments.proofs.After.{effects_after}
-use Rattle.papaya_moments.proofs.NewMaps.{effects_keep_pairs}
-use Rattle.papaya_moments.proofs.Numbers.{steps_keep_numbers}
-use Rattle.papaya_moments.proofs.Ends.{endings_keep_whole}
-use Rattle.papaya_moments.proofs.MakingSteps.{makings_keep_whole}
+use Rattle.papaya_histories.specs.Given.Seize.World.{World}
+use Rattle.papaya_histories.specs.Given.Seize.declared.progress.Progress.{Progress as Making}
+use Rattle.papaya_histories.specs.Given.Seize.declared.progress.Progress.TheVariants as progress
+use Rattle.papaya_histories.specs.Given.Seize.declared.rows.settle.Settled.{Settled}
+use Rattle.papaya_histories.specs.Given.Seize.declared.rows.settle.Settled.TheVariants as settled
+use Rattle.papaya_histories.specs.Given.Tables.declared.node.Node.{Node}
+use Rattle.papaya_histories.specs.Given.Tables.declared.setting.Setting.{Setting}
+use Rattle.papaya_histories.specs.Given.Schedules.declared.effect.Effect.{Effect}
+use Rattle.papaya_histories.specs.Given.Schedules.Effects.{with_effects}
+use Rattle.papaya_histories.specs.Given.Schedules.Model.{sets_in, things_in}
+use Rattle.papaya_histories.specs.Given.Schedules.Moment.{Moment}
+use Rattle.papaya_histories.specs.Given.Teller.declared.changed.Changed.{Changed}
+use Rattle.papaya_histories.specs.Given.Callers.Together.{UnderWay}
+use Rattle.papaya_histories.proofs.Given.Callers.Together.At.{at_other}
+use Rattle.papaya_histories.specs.Given.Effects.Effects.{effects_of, known_after, map_of}
+use Rattle.papaya_histories.specs.Given.Effects.Known.{Known}
+use Rattle.papaya_histories.specs.Given.Effects.declared.acting.Acting.{Acting}
+use Rattle.papaya_histories.specs.Given.Effects.declared.acting.Acting.TheVariants as acts
+use Rattle.papaya_histories.specs.Given.Executor.Ending.{EndingLeads}
+use Rattle.papaya_histories.specs.Given.Executor.IsAt.{Scene, IsAt}
+use Rattle.papaya_histories.specs.Given.Executor.Making.{MakingLeads}
+use Rattle.papaya_histories.specs.Given.Executor.declared.executor.Executor.{Executor}
+use Rattle.papaya_histories.specs.Given.Finishes.Endings.{Finishing}
+use Rattle.papaya_histories.specs.Given.Finishes.Makings.{Beginning}
+use Rattle.papaya_histories.specs.Given.Finishes.Maps.{Standing}
+use Rattle.papaya_histories.specs.Given.Others.Endings.{ending_after}
+use Rattle.papaya_histories.specs.Given.Others.Makings.{making_after}
+use Rattle.papaya_histories.specs.Given.Moments.Whole.{ShowsWhole}
+use Rattle.papaya_histories.specs.Given.Moments.Numbers.{NumbersMaps, PairsAreBelow}
+use Rattle.papaya_histories.proofs.Given.Moments.After.{effects_after}
+use Rattle.papaya_histories.proofs.Given.Moments.NewMaps.{effects_keep_pairs}
+use Rattle.papaya_histories.proofs.Given.Moments.Numbers.{steps_keep_numbers}
+use Rattle.papaya_histories.proofs.Given.Moments.Ends.{endings_keep_whole}
+use Rattle.papaya_histories.proofs.Given.Moments.MakingSteps.{makings_keep_whole}
 use Rattle.papaya_kept.proofs.Others.{endings_find_kept, endings_keep_kept, makings_keep_kept}
 use Rattle.papaya_shards.proofs.ShardMakes.{makings_keep_counters}
 use Rattle.papaya_shards.proofs.ShardOthers.{endings_keep_counters}

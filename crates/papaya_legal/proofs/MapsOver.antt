@@ -3,23 +3,23 @@ use Rattle.std.specs.Prelude.{◌≡◌, ℕ, Bool, true, List, [], ◌∷◌, f
 use Rattle.std.specs.List.{list_all}
 use Rattle.std.proofs.Common.{refl, ap, sym, subst, ◌∙◌, inl, inr}
 use Rattle.std.proofs.lemmas.Bool.{cases_eq}
-use Rattle.papaya_schedules.specs.declared.effect.Effect.{Effect}
-use Rattle.papaya_schedules.specs.declared.effect.Effect.TheVariants.{Asked, TableMade, Linked, Ended, Taken}
-use Rattle.papaya_schedules.specs.declared.effect.Growth.TheVariants.{ABlock}
-use Rattle.papaya_schedules.specs.declared.event.Event.TheVariants.{MakeMap, EndMap}
-use Rattle.papaya_schedules.specs.declared.outcome.Outcome.TheVariants.{Done}
-use Rattle.papaya_schedules.specs.After.{moment, remains_on}
-use Rattle.papaya_schedules.specs.Beginning.{at_work, with_map}
-use Rattle.papaya_schedules.specs.Effects.{with_effect, with_effects, AtEachEffect, worked}
-use Rattle.papaya_schedules.specs.Entry.{Entry, acted_on}
-use Rattle.papaya_schedules.specs.Handing.{is_ending, is_first_making, may_do}
-use Rattle.papaya_schedules.specs.Model.{changes_of, handing, left_last, sets_in, things_in}
-use Rattle.papaya_schedules.specs.Moment.{Moment}
-use Rattle.papaya_callers.proofs.Together.At.{at_other, at_same}
-use Rattle.papaya_executor.specs.Ending.{ending_begun}
-use Rattle.papaya_finishes.specs.Maps.{Standing}
-use Rattle.papaya_others.specs.Endings.{without_map}
-use Rattle.papaya_spots.proofs.Unreclaimed.{and_both}
+use Rattle.papaya_histories.specs.Given.Schedules.declared.effect.Effect.{Effect}
+use Rattle.papaya_histories.specs.Given.Schedules.declared.effect.Effect.TheVariants.{Asked, TableMade, Linked, Ended, Taken}
+use Rattle.papaya_histories.specs.Given.Schedules.declared.effect.Growth.TheVariants.{ABlock}
+use Rattle.papaya_histories.specs.Given.Schedules.declared.event.Event.TheVariants.{MakeMap, EndMap}
+use Rattle.papaya_histories.specs.Given.Schedules.declared.outcome.Outcome.TheVariants.{Done}
+use Rattle.papaya_histories.specs.Given.Schedules.After.{moment, remains_on}
+use Rattle.papaya_histories.specs.Given.Schedules.Beginning.{at_work, with_map}
+use Rattle.papaya_histories.specs.Given.Schedules.Effects.{with_effect, with_effects, AtEachEffect, worked}
+use Rattle.papaya_histories.specs.Given.Schedules.Entry.{Entry, acted_on}
+use Rattle.papaya_histories.specs.Given.Schedules.Handing.{is_ending, is_first_making, may_do}
+use Rattle.papaya_histories.specs.Given.Schedules.Model.{changes_of, handing, left_last, sets_in, things_in}
+use Rattle.papaya_histories.specs.Given.Schedules.Moment.{Moment}
+use Rattle.papaya_histories.proofs.Given.Callers.Together.At.{at_other, at_same}
+use Rattle.papaya_histories.specs.Given.Executor.Ending.{ending_begun}
+use Rattle.papaya_histories.specs.Given.Finishes.Maps.{Standing}
+use Rattle.papaya_histories.specs.Given.Others.Endings.{without_map}
+use Rattle.papaya_histories.proofs.Given.Spots.Unreclaimed.{and_both}
 use Rattle.papaya_promises.specs.Reading.{HasStood, ShowsReading}
 use Rattle.papaya_promises.specs.Sheltered.{SectionsHold}
 use Rattle.papaya_promises.proofs.Brief.Meanwhile.{other_work_keeps_readings}

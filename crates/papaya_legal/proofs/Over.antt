@@ -1,29 +1,29 @@
 -- A run goes on with an event that comes to what is right: the moment after it shows all that the next one needs.
 use Rattle.std.specs.Prelude.{◌≡◌, ℕ, ◌+◌, Bool, true, false, List, [], ◌∷◌, map, Some, if◌then◌else◌, ◌⊎◌}
 use Rattle.std.proofs.Common.{refl, ap, sym, subst, ◌∙◌, arith}
-use Rattle.seize_words.specs.declared.fault.Fault.TheVariants.{Busy}
-use Rattle.seize.specs.WaitingSets.{Sets}
-use Rattle.seize.specs.World.{World}
-use Rattle.papaya_tables.specs.declared.node.Node.{Node}
-use Rattle.papaya_runs.specs.Same.{is_same}
-use Rattle.papaya_schedules.specs.declared.effect.Effect.{Effect}
-use Rattle.papaya_schedules.specs.declared.effect.Thing.{Thing}
-use Rattle.papaya_schedules.specs.declared.event.Event.{Event}
-use Rattle.papaya_schedules.specs.declared.event.Event.TheVariants as event
-use Rattle.papaya_schedules.specs.declared.outcome.Outcome.{Outcome}
-use Rattle.papaya_schedules.specs.declared.outcome.Outcome.TheVariants.{Done, Goes, Refused}
-use Rattle.papaya_schedules.specs.After.{after, comes_to, is_alone_on, moment}
-use Rattle.papaya_schedules.specs.Beginning.{at_work}
-use Rattle.papaya_schedules.specs.Effects.{AtEachEffect}
-use Rattle.papaya_schedules.specs.Entry.{Entry, acted_on, caller_of, nameless}
-use Rattle.papaya_schedules.specs.Model.{IsByModel, sets_in, things_in}
-use Rattle.papaya_schedules.specs.Moment.{UnderWay as CallThere, Moment}
-use Rattle.papaya_schedules.specs.Terms.{Terms}
-use Rattle.papaya_schedules.specs.Views.{call_of}
-use Rattle.papaya_callers.specs.Together.{UnderWay}
-use Rattle.papaya_effects.specs.Known.{Known}
-use Rattle.papaya_executor.specs.IsAt.{Scene, slot_of}
-use Rattle.papaya_spots.proofs.Unreclaimed.{and_both}
+use Rattle.papaya_histories.specs.Given.SeizeWords.declared.fault.Fault.TheVariants.{Busy}
+use Rattle.papaya_histories.specs.Given.Seize.WaitingSets.{Sets}
+use Rattle.papaya_histories.specs.Given.Seize.World.{World}
+use Rattle.papaya_histories.specs.Given.Tables.declared.node.Node.{Node}
+use Rattle.papaya_histories.specs.Given.Runs.Same.{is_same}
+use Rattle.papaya_histories.specs.Given.Schedules.declared.effect.Effect.{Effect}
+use Rattle.papaya_histories.specs.Given.Schedules.declared.effect.Thing.{Thing}
+use Rattle.papaya_histories.specs.Given.Schedules.declared.event.Event.{Event}
+use Rattle.papaya_histories.specs.Given.Schedules.declared.event.Event.TheVariants as event
+use Rattle.papaya_histories.specs.Given.Schedules.declared.outcome.Outcome.{Outcome}
+use Rattle.papaya_histories.specs.Given.Schedules.declared.outcome.Outcome.TheVariants.{Done, Goes, Refused}
+use Rattle.papaya_histories.specs.Given.Schedules.After.{after, comes_to, is_alone_on, moment}
+use Rattle.papaya_histories.specs.Given.Schedules.Beginning.{at_work}
+use Rattle.papaya_histories.specs.Given.Schedules.Effects.{AtEachEffect}
+use Rattle.papaya_histories.specs.Given.Schedules.Entry.{Entry, acted_on, caller_of, nameless}
+use Rattle.papaya_histories.specs.Given.Schedules.Model.{IsByModel, sets_in, things_in}
+use Rattle.papaya_histories.specs.Given.Schedules.Moment.{UnderWay as CallThere, Moment}
+use Rattle.papaya_histories.specs.Given.Schedules.Terms.{Terms}
+use Rattle.papaya_histories.specs.Given.Schedules.Views.{call_of}
+use Rattle.papaya_histories.specs.Given.Callers.Together.{UnderWay}
+use Rattle.papaya_histories.specs.Given.Effects.Known.{Known}
+use Rattle.papaya_histories.specs.Given.Executor.IsAt.{Scene, slot_of}
+use Rattle.papaya_histories.proofs.Given.Spots.Unreclaimed.{and_both}
 use Rattle.papaya_promises.specs.Reading.{ShowsReading}
 use Rattle.papaya_promises.proofs.Brief.Stays.{events_keep_readings}
 use Rattle.papaya_models.specs.CallEvents.{IsInItsRow}

@@ -1,32 +1,32 @@
 -- An event whose work is a row on a slot, from its beginning on.
 use Rattle.std.specs.Prelude.{◌≡◌, ℕ, Bool, true, List, [], ◌∷◌, ◌++◌, Option, None}
 use Rattle.std.proofs.Common.{refl, ap, sym, subst, ◌∙◌}
-use Rattle.seize.specs.World.{World, Request, Begin, Step}
-use Rattle.papaya_tables.specs.declared.node.Node.{Node}
-use Rattle.papaya_schedules.specs.declared.effect.Effect.{Effect}
-use Rattle.papaya_schedules.specs.declared.event.Event.{Event}
-use Rattle.papaya_schedules.specs.declared.event.Event.TheVariants.{Register, Unregister, Enter, Own, Refresh, Flush, DropGuard, ReclaimAll, Close}
-use Rattle.papaya_schedules.specs.declared.outcome.Outcome.TheVariants.{Done}
-use Rattle.papaya_schedules.specs.After.{moment}
-use Rattle.papaya_schedules.specs.Effects.{with_effect, with_effects, AtEachEffect}
-use Rattle.papaya_schedules.specs.Model.{sets_in, things_in}
-use Rattle.papaya_schedules.specs.Moment.{Moment}
-use Rattle.papaya_callers.specs.Together.{IsOfSlots}
-use Rattle.papaya_effects.specs.Effects.{effects_of, known_after}
-use Rattle.papaya_effects.specs.Known.{Known}
-use Rattle.papaya_effects.specs.declared.acting.Acting.TheVariants as acts
-use Rattle.papaya_executor.specs.IsAt.{Scene, slot_of}
-use Rattle.papaya_executor.specs.Rows.{request_of}
-use Rattle.papaya_executor.specs.declared.row.SlotCall.{SlotCall}
-use Rattle.papaya_executor.specs.declared.row.SlotCall.TheVariants as call
-use Rattle.papaya_others.specs.Rows.{scene_then}
-use Rattle.papaya_moments.specs.OnSlots.{HadRetired}
-use Rattle.papaya_moments.specs.Whole.{ShowsWhole}
-use Rattle.papaya_moments.proofs.After.{effects_after}
-use Rattle.papaya_moments.proofs.NewMaps.{effects_keep_pairs}
-use Rattle.papaya_moments.proofs.Numbers.{rows_keep_numbers}
-use Rattle.papaya_moments.proofs.OnSlots.{rows_begin_whole, rows_keep_whole}
-use Rattle.papaya_spots.specs.OnSlots.{WaitUnreclaimed}
+use Rattle.papaya_histories.specs.Given.Seize.World.{World, Request, Begin, Step}
+use Rattle.papaya_histories.specs.Given.Tables.declared.node.Node.{Node}
+use Rattle.papaya_histories.specs.Given.Schedules.declared.effect.Effect.{Effect}
+use Rattle.papaya_histories.specs.Given.Schedules.declared.event.Event.{Event}
+use Rattle.papaya_histories.specs.Given.Schedules.declared.event.Event.TheVariants.{Register, Unregister, Enter, Own, Refresh, Flush, DropGuard, ReclaimAll, Close}
+use Rattle.papaya_histories.specs.Given.Schedules.declared.outcome.Outcome.TheVariants.{Done}
+use Rattle.papaya_histories.specs.Given.Schedules.After.{moment}
+use Rattle.papaya_histories.specs.Given.Schedules.Effects.{with_effect, with_effects, AtEachEffect}
+use Rattle.papaya_histories.specs.Given.Schedules.Model.{sets_in, things_in}
+use Rattle.papaya_histories.specs.Given.Schedules.Moment.{Moment}
+use Rattle.papaya_histories.specs.Given.Callers.Together.{IsOfSlots}
+use Rattle.papaya_histories.specs.Given.Effects.Effects.{effects_of, known_after}
+use Rattle.papaya_histories.specs.Given.Effects.Known.{Known}
+use Rattle.papaya_histories.specs.Given.Effects.declared.acting.Acting.TheVariants as acts
+use Rattle.papaya_histories.specs.Given.Executor.IsAt.{Scene, slot_of}
+use Rattle.papaya_histories.specs.Given.Executor.Rows.{request_of}
+use Rattle.papaya_histories.specs.Given.Executor.declared.row.SlotCall.{SlotCall}
+use Rattle.papaya_histories.specs.Given.Executor.declared.row.SlotCall.TheVariants as call
+use Rattle.papaya_histories.specs.Given.Others.Rows.{scene_then}
+use Rattle.papaya_histories.specs.Given.Moments.OnSlots.{HadRetired}
+use Rattle.papaya_histories.specs.Given.Moments.Whole.{ShowsWhole}
+use Rattle.papaya_histories.proofs.Given.Moments.After.{effects_after}
+use Rattle.papaya_histories.proofs.Given.Moments.NewMaps.{effects_keep_pairs}
+use Rattle.papaya_histories.proofs.Given.Moments.Numbers.{rows_keep_numbers}
+use Rattle.papaya_histories.proofs.Given.Moments.OnSlots.{rows_begin_whole, rows_keep_whole}
+use Rattle.papaya_histories.specs.Given.Spots.OnSlots.{WaitUnreclaimed}
 use Rattle.papaya_kept.proofs.Others.{rows_begin_kept, rows_find_kept, rows_keep_kept}
 use Rattle.papaya_shards.proofs.ShardOthers.{rows_begin_counters, rows_keep_counters}
 use Rattle.papaya_histories.proofs.Aside.Stays.{as_called_stays, dues_stay}

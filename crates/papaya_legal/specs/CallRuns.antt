@@ -1,36 +1,36 @@
 -- An event of a call, from its last step on: it is legal but for what it comes to, and a run goes on with it.
 use Rattle.std.specs.Prelude.{◌≡◌, ◌⊎◌, ◌≤◌, ℕ, ◌+◌, Bool, true, false, List, [], ◌∷◌, ◌++◌, Some, not, ◌||◌}
 use Rattle.std.specs.List.{list_any}
-use Rattle.seize_waiting.specs.Held.{count}
-use Rattle.seize.specs.World.{World, Request, Begin, Step, Happens}
-use Rattle.papaya_tables.specs.Nodes.{deferred_word}
-use Rattle.papaya_tables.specs.declared.node.Node.{Node}
-use Rattle.papaya_raw.specs.declared.machines.progress.Progress.{Progress}
-use Rattle.papaya_raw.specs.declared.machines.progress.Progress.TheVariants as progress
-use Rattle.papaya_schedules.specs.declared.effect.Effect.{Effect}
-use Rattle.papaya_schedules.specs.declared.outcome.Outcome.{Outcome}
-use Rattle.papaya_schedules.specs.declared.outcome.Outcome.TheVariants as outcome
-use Rattle.papaya_schedules.specs.After.{moment, moments_from}
-use Rattle.papaya_schedules.specs.Beginning.{at_work}
-use Rattle.papaya_schedules.specs.Effects.{with_effects, worked}
-use Rattle.papaya_schedules.specs.Entry.{Entry, IfCall, acted_on, acting, caller_of, ends_call, is_busy}
-use Rattle.papaya_schedules.specs.Handing.{LeavesOf, comes_clear, is_made, refuses}
-use Rattle.papaya_schedules.specs.InTurn.{ComesRight}
-use Rattle.papaya_schedules.specs.Model.{sets_in, things_in}
-use Rattle.papaya_schedules.specs.Moment.{UnderWay as CallThere, Moment}
-use Rattle.papaya_schedules.specs.Sweeps.{IsSwept}
-use Rattle.papaya_runs.specs.Present.{slot_of_guard}
-use Rattle.papaya_schedules.specs.Terms.{Terms, shards_of}
-use Rattle.papaya_schedules.specs.Views.{call_of}
-use Rattle.papaya_callers.specs.Together.{UnderWay, HandsOver}
-use Rattle.papaya_effects.specs.Effects.{effects_of, known_after}
-use Rattle.papaya_effects.specs.Known.{Known}
-use Rattle.papaya_effects.specs.declared.acting.Acting.TheVariants as acts
-use Rattle.papaya_executor.specs.IsAt.{Scene, IsAt, slot_of}
-use Rattle.papaya_executor.specs.Stepping.{StepLeads, has_ended, scene_after}
-use Rattle.papaya_executor.specs.declared.executor.Executor.{Executor}
-use Rattle.seize_words.specs.declared.fault.Fault.TheVariants.{Memory}
-use Rattle.papaya_moments.specs.Whole.{ShowsWhole}
+use Rattle.papaya_histories.specs.Given.SeizeWaiting.Held.{count}
+use Rattle.papaya_histories.specs.Given.Seize.World.{World, Request, Begin, Step, Happens}
+use Rattle.papaya_histories.specs.Given.Tables.Nodes.{deferred_word}
+use Rattle.papaya_histories.specs.Given.Tables.declared.node.Node.{Node}
+use Rattle.papaya_histories.specs.Given.Raw.declared.machines.progress.Progress.{Progress}
+use Rattle.papaya_histories.specs.Given.Raw.declared.machines.progress.Progress.TheVariants as progress
+use Rattle.papaya_histories.specs.Given.Schedules.declared.effect.Effect.{Effect}
+use Rattle.papaya_histories.specs.Given.Schedules.declared.outcome.Outcome.{Outcome}
+use Rattle.papaya_histories.specs.Given.Schedules.declared.outcome.Outcome.TheVariants as outcome
+use Rattle.papaya_histories.specs.Given.Schedules.After.{moment, moments_from}
+use Rattle.papaya_histories.specs.Given.Schedules.Beginning.{at_work}
+use Rattle.papaya_histories.specs.Given.Schedules.Effects.{with_effects, worked}
+use Rattle.papaya_histories.specs.Given.Schedules.Entry.{Entry, IfCall, acted_on, acting, caller_of, ends_call, is_busy}
+use Rattle.papaya_histories.specs.Given.Schedules.Handing.{LeavesOf, comes_clear, is_made, refuses}
+use Rattle.papaya_histories.specs.Given.Schedules.InTurn.{ComesRight}
+use Rattle.papaya_histories.specs.Given.Schedules.Model.{sets_in, things_in}
+use Rattle.papaya_histories.specs.Given.Schedules.Moment.{UnderWay as CallThere, Moment}
+use Rattle.papaya_histories.specs.Given.Schedules.Sweeps.{IsSwept}
+use Rattle.papaya_histories.specs.Given.Runs.Present.{slot_of_guard}
+use Rattle.papaya_histories.specs.Given.Schedules.Terms.{Terms, shards_of}
+use Rattle.papaya_histories.specs.Given.Schedules.Views.{call_of}
+use Rattle.papaya_histories.specs.Given.Callers.Together.{UnderWay, HandsOver}
+use Rattle.papaya_histories.specs.Given.Effects.Effects.{effects_of, known_after}
+use Rattle.papaya_histories.specs.Given.Effects.Known.{Known}
+use Rattle.papaya_histories.specs.Given.Effects.declared.acting.Acting.TheVariants as acts
+use Rattle.papaya_histories.specs.Given.Executor.IsAt.{Scene, IsAt, slot_of}
+use Rattle.papaya_histories.specs.Given.Executor.Stepping.{StepLeads, has_ended, scene_after}
+use Rattle.papaya_histories.specs.Given.Executor.declared.executor.Executor.{Executor}
+use Rattle.papaya_histories.specs.Given.SeizeWords.declared.fault.Fault.TheVariants.{Memory}
+use Rattle.papaya_histories.specs.Given.Moments.Whole.{ShowsWhole}
 use Rattle.papaya_kept.specs.Kept.{ShowsKept}
 use Rattle.papaya_histories.specs.Answers.{NamesPair}
 use Rattle.papaya_histories.specs.InEvent.{ComesSo, here_of}

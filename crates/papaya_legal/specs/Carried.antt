@@ -1,18 +1,18 @@
 -- What is so after each event of a run, of the moment and of the scene that it shows: by this each promise is had of the next event.
 use Rattle.std.specs.Prelude.{◌≡◌, ◌⊎◌, ◌≤◌, ℕ, Bool, true, ◌&&◌, List, []}
 use Rattle.std.specs.List.{list_all}
-use Rattle.seize.specs.World.{World}
-use Rattle.papaya_tables.specs.declared.node.Node.{Node}
-use Rattle.papaya_schedules.specs.declared.event.Event.{Event}
-use Rattle.papaya_schedules.specs.After.{is_by, moment}
-use Rattle.papaya_schedules.specs.Entry.{Entry, speaker}
-use Rattle.papaya_schedules.specs.Model.{sets_in, things_in}
-use Rattle.papaya_schedules.specs.Moment.{Moment}
-use Rattle.papaya_schedules.specs.Terms.{Terms}
-use Rattle.papaya_effects.specs.Known.{Known, nothing_known}
-use Rattle.papaya_executor.specs.IsAt.{Scene, at_first, slot_of}
-use Rattle.papaya_moments.specs.Numbers.{NumbersMaps, PairsAreBelow}
-use Rattle.papaya_moments.specs.Whole.{ShowsWhole}
+use Rattle.papaya_histories.specs.Given.Seize.World.{World}
+use Rattle.papaya_histories.specs.Given.Tables.declared.node.Node.{Node}
+use Rattle.papaya_histories.specs.Given.Schedules.declared.event.Event.{Event}
+use Rattle.papaya_histories.specs.Given.Schedules.After.{is_by, moment}
+use Rattle.papaya_histories.specs.Given.Schedules.Entry.{Entry, speaker}
+use Rattle.papaya_histories.specs.Given.Schedules.Model.{sets_in, things_in}
+use Rattle.papaya_histories.specs.Given.Schedules.Moment.{Moment}
+use Rattle.papaya_histories.specs.Given.Schedules.Terms.{Terms}
+use Rattle.papaya_histories.specs.Given.Effects.Known.{Known, nothing_known}
+use Rattle.papaya_histories.specs.Given.Executor.IsAt.{Scene, at_first, slot_of}
+use Rattle.papaya_histories.specs.Given.Moments.Numbers.{NumbersMaps, PairsAreBelow}
+use Rattle.papaya_histories.specs.Given.Moments.Whole.{ShowsWhole}
 use Rattle.papaya_histories.specs.AsCalled.{ShowsAsCalled}
 use Rattle.papaya_histories.specs.Due.{ShowsDue}
 use Rattle.papaya_histories.specs.Questions.{ShowsQuestions}

@@ -2,71 +2,71 @@
 use Rattle.std.specs.Prelude.{◌≡◌, ◌⊎◌, ℕ, zero, suc, ◌+◌, ◌==◌, Bool, true, false, List, [], ◌∷◌, length, Option, Some, if◌then◌else◌}
 use Rattle.std.proofs.Common.{refl, ap, sym, subst, ◌∙◌, inl, inr, arith}
 use Rattle.std.proofs.lemmas.Bool.{cases_eq, eq-eqb, ne_eqb}
-use Rattle.seize_words.specs.Mem.{Mem, value_at}
-use Rattle.seize_words.specs.Word.{block_in, link_to}
-use Rattle.seize_words.specs.declared.at.At.{At}
-use Rattle.seize_words.specs.declared.at.At.TheVariants.{Word}
-use Rattle.seize.specs.Defer.{deferring}
-use Rattle.seize.specs.Further.{IsWordOf}
-use Rattle.seize.specs.Settle.{retiring}
-use Rattle.seize.specs.Sequence.{taken_in}
-use Rattle.seize.specs.declared.progress.Progress.{Progress as Deferring}
-use Rattle.seize.specs.declared.progress.Progress.TheVariants as progress
-use Rattle.seize.specs.declared.rows.defer.Defer.{Defer}
-use Rattle.seize.specs.declared.rows.settle.Settle.{Settle}
-use Rattle.seize.specs.declared.rows.settle.Settled.{Settled}
-use Rattle.seize.specs.declared.rows.settle.Settled.TheVariants as settled
-use Rattle.seize.specs.declared.rows.settle.Settling.{Settling}
-use Rattle.seize.specs.declared.rows.settle.Settling.TheVariants as at_point
-use Rattle.seize.specs.declared.states.TheConstants.{LAST_SLOT}
-use Rattle.seize.specs.World.{World, Row, Rests, Registers, Enters, Settles, Leaves, Defers, Frees, Hand, NoBlock, Making, InUse, Parting, Cutting, Handed, LeftTo, MayCut, Request, Register', Enter', Leave', LeaveOwned, Refresh, Unregister', Retire, Flush, Defer', Begin, Begins, Steps', settles_on, defers_on, with_at, times}
-use Rattle.seize_moves.proofs.State.Ghost.{Life, IsDeferring, IsDeferred, IsPending, State}
-use Rattle.seize_moves.proofs.Sets.Unmoved.{is_in_wait}
-use Rattle.seize_rule.proofs.Points.Aside.{HandFits}
-use Rattle.seize_rule.proofs.Points.Known.{FitsAt, FirstsOf, bare}
-use Rattle.seize_rule.proofs.Rows.Effects.{hand_kept}
-use Rattle.seize_rule.proofs.Rows.Known.{FitsRow}
-use Rattle.seize_rule.proofs.Words.Chains.{Chain}
-use Rattle.seize_rule.proofs.Words.Shows.{Extra, Shows, lives}
-use Rattle.seize_rule.proofs.Words.There.{live_pos}
-use Rattle.seize_rule.proofs.Words.View.{View, view}
-use Rattle.seize_alone.proofs.Histories.NotTaken.{did, taken_gone}
-use Rattle.seize_alone.proofs.Histories.Reached.{Reached, happens_reached}
-use Rattle.papaya_tables.specs.Nodes.{deferred_word}
-use Rattle.papaya_tables.specs.declared.node.Node.{Node}
-use Rattle.papaya_raw.specs.declared.machines.progress.Progress.{Progress as CallTold}
-use Rattle.papaya_schedules.specs.declared.effect.Effect.{Effect}
-use Rattle.papaya_schedules.specs.declared.effect.Effect.TheVariants.{Retired, Deferred}
-use Rattle.papaya_schedules.specs.declared.effect.Table.{Table}
-use Rattle.papaya_schedules.specs.declared.effect.Thing.TheVariants.{APair}
-use Rattle.papaya_schedules.specs.Effects.{with_effects}
-use Rattle.papaya_schedules.specs.Lists.{is_among, put}
-use Rattle.papaya_schedules.specs.Moment.{Place, Behind, Deferral, Handed as IsHanded, Moment}
-use Rattle.papaya_schedules.specs.Things.{same_table}
-use Rattle.papaya_schedules.specs.Views.{behind}
-use Rattle.papaya_rule.proofs.World.Hands.{at_cases}
-use Rattle.papaya_callers.specs.Sights.{seen_by}
-use Rattle.papaya_callers.specs.Together.{UnderWay, OnKey, ForRoom, Counting, OverAll, Together, CameAbout, HandsOver, IsOneStep}
-use Rattle.papaya_callers.proofs.Together.Came.{came_reached}
-use Rattle.papaya_effects.specs.Effects.{carried, named, effects_of, known_after}
-use Rattle.papaya_effects.specs.Known.{Known}
-use Rattle.papaya_effects.specs.declared.acting.Acting.TheVariants.{Call}
-use Rattle.papaya_effects.specs.declared.role.Role.{Role}
-use Rattle.papaya_effects.specs.declared.role.Role.TheVariants as role
-use Rattle.papaya_executor.specs.IsAt.{Scene, IsAt, slot_of}
-use Rattle.papaya_executor.specs.Stepping.{StepLeads}
-use Rattle.papaya_executor.specs.declared.executor.Executor.{Executor}
-use Rattle.papaya_finishes.specs.Machines.{machine_of}
-use Rattle.papaya_follows.specs.Blocks.{HasRole}
-use Rattle.papaya_follows.proofs.Alike.{AllCalm, put_here, put_elsewhere}
-use Rattle.papaya_follows.proofs.Onward.{IsLasting}
-use Rattle.papaya_follows.proofs.RowSteps.{row_step_shown}
-use Rattle.papaya_follows.proofs.Steps.{WentTo, went_to, made_so, is_inside, DidSo, OfNoRow}
-use Rattle.papaya_hands.specs.Rows.{ReclaimsNone}
-use Rattle.papaya_hands.proofs.RowSteps.{rows_hand_theirs}
-use Rattle.papaya_spots.proofs.Steps.{stayed_calm}
-use Rattle.papaya_spots.proofs.Unreclaimed.{table_is, same_itself}
-use Rattle.papaya_moments.specs.Whole.{ShowsWhole}
+use Rattle.papaya_histories.specs.Given.SeizeWords.Mem.{Mem, value_at}
+use Rattle.papaya_histories.specs.Given.SeizeWords.Word.{block_in, link_to}
+use Rattle.papaya_histories.specs.Given.SeizeWords.declared.at.At.{At}
+use Rattle.papaya_histories.specs.Given.SeizeWords.declared.at.At.TheVariants.{Word}
+use Rattle.papaya_histories.specs.Given.Seize.Defer.{deferring}
+use Rattle.papaya_histories.specs.Given.Seize.Further.{IsWordOf}
+use Rattle.papaya_histories.specs.Given.Seize.Settle.{retiring}
+use Rattle.papaya_histories.specs.Given.Seize.Sequence.{taken_in}
+use Rattle.papaya_histories.specs.Given.Seize.declared.progress.Progress.{Progress as Deferring}
+use Rattle.papaya_histories.specs.Given.Seize.declared.progress.Progress.TheVariants as progress
+use Rattle.papaya_histories.specs.Given.Seize.declared.rows.defer.Defer.{Defer}
+use Rattle.papaya_histories.specs.Given.Seize.declared.rows.settle.Settle.{Settle}
+use Rattle.papaya_histories.specs.Given.Seize.declared.rows.settle.Settled.{Settled}
+use Rattle.papaya_histories.specs.Given.Seize.declared.rows.settle.Settled.TheVariants as settled
+use Rattle.papaya_histories.specs.Given.Seize.declared.rows.settle.Settling.{Settling}
+use Rattle.papaya_histories.specs.Given.Seize.declared.rows.settle.Settling.TheVariants as at_point
+use Rattle.papaya_histories.specs.Given.Seize.declared.states.TheConstants.{LAST_SLOT}
+use Rattle.papaya_histories.specs.Given.Seize.World.{World, Row, Rests, Registers, Enters, Settles, Leaves, Defers, Frees, Hand, NoBlock, Making, InUse, Parting, Cutting, Handed, LeftTo, MayCut, Request, Register', Enter', Leave', LeaveOwned, Refresh, Unregister', Retire, Flush, Defer', Begin, Begins, Steps', settles_on, defers_on, with_at, times}
+use Rattle.papaya_histories.proofs.Given.SeizeMoves.State.Ghost.{Life, IsDeferring, IsDeferred, IsPending, State}
+use Rattle.papaya_histories.proofs.Given.SeizeMoves.Sets.Unmoved.{is_in_wait}
+use Rattle.papaya_histories.proofs.Given.SeizeRule.Points.Aside.{HandFits}
+use Rattle.papaya_histories.proofs.Given.SeizeRule.Points.Known.{FitsAt, FirstsOf, bare}
+use Rattle.papaya_histories.proofs.Given.SeizeRule.Rows.Effects.{hand_kept}
+use Rattle.papaya_histories.proofs.Given.SeizeRule.Rows.Known.{FitsRow}
+use Rattle.papaya_histories.proofs.Given.SeizeRule.Words.Chains.{Chain}
+use Rattle.papaya_histories.proofs.Given.SeizeRule.Words.Shows.{Extra, Shows, lives}
+use Rattle.papaya_histories.proofs.Given.SeizeRule.Words.There.{live_pos}
+use Rattle.papaya_histories.proofs.Given.SeizeRule.Words.View.{View, view}
+use Rattle.papaya_histories.proofs.Given.SeizeAlone.Histories.NotTaken.{did, taken_gone}
+use Rattle.papaya_histories.proofs.Given.SeizeAlone.Histories.Reached.{Reached, happens_reached}
+use Rattle.papaya_histories.specs.Given.Tables.Nodes.{deferred_word}
+use Rattle.papaya_histories.specs.Given.Tables.declared.node.Node.{Node}
+use Rattle.papaya_histories.specs.Given.Raw.declared.machines.progress.Progress.{Progress as CallTold}
+use Rattle.papaya_histories.specs.Given.Schedules.declared.effect.Effect.{Effect}
+use Rattle.papaya_histories.specs.Given.Schedules.declared.effect.Effect.TheVariants.{Retired, Deferred}
+use Rattle.papaya_histories.specs.Given.Schedules.declared.effect.Table.{Table}
+use Rattle.papaya_histories.specs.Given.Schedules.declared.effect.Thing.TheVariants.{APair}
+use Rattle.papaya_histories.specs.Given.Schedules.Effects.{with_effects}
+use Rattle.papaya_histories.specs.Given.Schedules.Lists.{is_among, put}
+use Rattle.papaya_histories.specs.Given.Schedules.Moment.{Place, Behind, Deferral, Handed as IsHanded, Moment}
+use Rattle.papaya_histories.specs.Given.Schedules.Things.{same_table}
+use Rattle.papaya_histories.specs.Given.Schedules.Views.{behind}
+use Rattle.papaya_histories.proofs.Given.Rule.World.Hands.{at_cases}
+use Rattle.papaya_histories.specs.Given.Callers.Sights.{seen_by}
+use Rattle.papaya_histories.specs.Given.Callers.Together.{UnderWay, OnKey, ForRoom, Counting, OverAll, Together, CameAbout, HandsOver, IsOneStep}
+use Rattle.papaya_histories.proofs.Given.Callers.Together.Came.{came_reached}
+use Rattle.papaya_histories.specs.Given.Effects.Effects.{carried, named, effects_of, known_after}
+use Rattle.papaya_histories.specs.Given.Effects.Known.{Known}
+use Rattle.papaya_histories.specs.Given.Effects.declared.acting.Acting.TheVariants.{Call}
+use Rattle.papaya_histories.specs.Given.Effects.declared.role.Role.{Role}
+use Rattle.papaya_histories.specs.Given.Effects.declared.role.Role.TheVariants as role
+use Rattle.papaya_histories.specs.Given.Executor.IsAt.{Scene, IsAt, slot_of}
+use Rattle.papaya_histories.specs.Given.Executor.Stepping.{StepLeads}
+use Rattle.papaya_histories.specs.Given.Executor.declared.executor.Executor.{Executor}
+use Rattle.papaya_histories.specs.Given.Finishes.Machines.{machine_of}
+use Rattle.papaya_histories.specs.Given.Follows.Blocks.{HasRole}
+use Rattle.papaya_histories.proofs.Given.Follows.Alike.{AllCalm, put_here, put_elsewhere}
+use Rattle.papaya_histories.proofs.Given.Follows.Onward.{IsLasting}
+use Rattle.papaya_histories.proofs.Given.Follows.RowSteps.{row_step_shown}
+use Rattle.papaya_histories.proofs.Given.Follows.Steps.{WentTo, went_to, made_so, is_inside, DidSo, OfNoRow}
+use Rattle.papaya_histories.specs.Given.Hands.Rows.{ReclaimsNone}
+use Rattle.papaya_histories.proofs.Given.Hands.RowSteps.{rows_hand_theirs}
+use Rattle.papaya_histories.proofs.Given.Spots.Steps.{stayed_calm}
+use Rattle.papaya_histories.proofs.Given.Spots.Unreclaimed.{table_is, same_itself}
+use Rattle.papaya_histories.specs.Given.Moments.Whole.{ShowsWhole}
 use Rattle.papaya_settles.specs.Due.{ToRetire, ToPut, due_in_settle, due_in_row, told_retired, RowTells, TellsNone, TellsRetired, TellsDeferred, OwnAreMade}
 use Rattle.papaya_settles.specs.Entries.{ShowsEntries}
 use Rattle.papaya_settles.proofs.DueCalls.{rows_tell_due}

@@ -2,41 +2,41 @@
 use Rattle.std.specs.Prelude.{◌≡◌, ◌⊎◌, ◌<◌, ◌≤◌, ◌+◌, ℕ, zero, suc, Bool, false, List, [], ◌∷◌, ◌++◌, map, Option, Some, None, IsSome}
 use Rattle.std.proofs.Common.{refl, ap, sym, subst, ◌∙◌, inl, inr, arith}
 use Rattle.std.proofs.lemmas.Bool.{cases_eq}
-use Rattle.seize_words.specs.Mem.{value_at}
-use Rattle.seize.specs.declared.rows.settle.Settled.{Settled}
-use Rattle.seize.specs.declared.rows.settle.Settled.TheVariants as settled
-use Rattle.seize.specs.declared.states.TheConstants.{LAST_SLOT}
-use Rattle.seize.specs.World.{LeftTo, times, with_at}
-use Rattle.seize_rule.proofs.Words.There.{value_there}
-use Rattle.seize_alone.proofs.Histories.Reached.{Reached, runs_reached}
-use Rattle.papaya_tables.specs.Chunks.{is_incremental}
-use Rattle.papaya_tables.specs.Nodes.{deferred_word}
-use Rattle.papaya_tables.specs.declared.node.Node.{Node}
-use Rattle.papaya_raw.specs.declared.machines.end_map.EndMap.{EndMap}
-use Rattle.papaya_schedules.specs.declared.effect.Table.{Table}
-use Rattle.papaya_schedules.specs.Moment.{Moment}
-use Rattle.papaya_callers.specs.Kept.{IsPair}
-use Rattle.papaya_callers.proofs.Together.At.{at_same, at_other}
-use Rattle.papaya_callers.proofs.Together.Came.{came_reached}
-use Rattle.papaya_effects.specs.Effects.{known_after}
-use Rattle.papaya_effects.specs.Known.{Known}
-use Rattle.papaya_effects.specs.declared.acting.Acting.TheVariants.{Ending}
-use Rattle.papaya_effects.specs.declared.role.Role.{Role}
-use Rattle.papaya_effects.specs.declared.role.Role.TheVariants as role
-use Rattle.papaya_executor.specs.Ending.{EndingStepsFrom, EndingComesTo, ending_goes}
-use Rattle.papaya_executor.specs.IsAt.{Scene, IsAt, slot_of}
-use Rattle.papaya_executor.specs.declared.executor.Executor.{Executor}
-use Rattle.papaya_finishes.specs.Endings.{Finishing, HasFinished, StepsOfEnding, waiting_by}
-use Rattle.papaya_finishes.specs.FactsEnds.{events_of, from_table, taken_by as taken_of, left_by}
-use Rattle.papaya_finishes.specs.Orders.{pairs_of}
-use Rattle.papaya_finishes.proofs.Ends.CountedBlocks.{times-append, some_last}
-use Rattle.papaya_finishes.proofs.Ends.OrdersOn.{table_later}
-use Rattle.papaya_follows.specs.Blocks.{HasRole}
-use Rattle.papaya_follows.proofs.Onward.{IsOfMap}
-use Rattle.papaya_others.specs.Endings.{ending_after}
-use Rattle.papaya_moments.specs.Whole.{ShowsWhole}
-use Rattle.papaya_moments.proofs.Ends.{end_keeps}
-use Rattle.papaya_moments.proofs.OnSlots.{none_some}
+use Rattle.papaya_histories.specs.Given.SeizeWords.Mem.{value_at}
+use Rattle.papaya_histories.specs.Given.Seize.declared.rows.settle.Settled.{Settled}
+use Rattle.papaya_histories.specs.Given.Seize.declared.rows.settle.Settled.TheVariants as settled
+use Rattle.papaya_histories.specs.Given.Seize.declared.states.TheConstants.{LAST_SLOT}
+use Rattle.papaya_histories.specs.Given.Seize.World.{LeftTo, times, with_at}
+use Rattle.papaya_histories.proofs.Given.SeizeRule.Words.There.{value_there}
+use Rattle.papaya_histories.proofs.Given.SeizeAlone.Histories.Reached.{Reached, runs_reached}
+use Rattle.papaya_histories.specs.Given.Tables.Chunks.{is_incremental}
+use Rattle.papaya_histories.specs.Given.Tables.Nodes.{deferred_word}
+use Rattle.papaya_histories.specs.Given.Tables.declared.node.Node.{Node}
+use Rattle.papaya_histories.specs.Given.Raw.declared.machines.end_map.EndMap.{EndMap}
+use Rattle.papaya_histories.specs.Given.Schedules.declared.effect.Table.{Table}
+use Rattle.papaya_histories.specs.Given.Schedules.Moment.{Moment}
+use Rattle.papaya_histories.specs.Given.Callers.Kept.{IsPair}
+use Rattle.papaya_histories.proofs.Given.Callers.Together.At.{at_same, at_other}
+use Rattle.papaya_histories.proofs.Given.Callers.Together.Came.{came_reached}
+use Rattle.papaya_histories.specs.Given.Effects.Effects.{known_after}
+use Rattle.papaya_histories.specs.Given.Effects.Known.{Known}
+use Rattle.papaya_histories.specs.Given.Effects.declared.acting.Acting.TheVariants.{Ending}
+use Rattle.papaya_histories.specs.Given.Effects.declared.role.Role.{Role}
+use Rattle.papaya_histories.specs.Given.Effects.declared.role.Role.TheVariants as role
+use Rattle.papaya_histories.specs.Given.Executor.Ending.{EndingStepsFrom, EndingComesTo, ending_goes}
+use Rattle.papaya_histories.specs.Given.Executor.IsAt.{Scene, IsAt, slot_of}
+use Rattle.papaya_histories.specs.Given.Executor.declared.executor.Executor.{Executor}
+use Rattle.papaya_histories.specs.Given.Finishes.Endings.{Finishing, HasFinished, StepsOfEnding, waiting_by}
+use Rattle.papaya_histories.specs.Given.Finishes.FactsEnds.{events_of, from_table, taken_by as taken_of, left_by}
+use Rattle.papaya_histories.specs.Given.Finishes.Orders.{pairs_of}
+use Rattle.papaya_histories.proofs.Given.Finishes.Ends.CountedBlocks.{times-append, some_last}
+use Rattle.papaya_histories.proofs.Given.Finishes.Ends.OrdersOn.{table_later}
+use Rattle.papaya_histories.specs.Given.Follows.Blocks.{HasRole}
+use Rattle.papaya_histories.proofs.Given.Follows.Onward.{IsOfMap}
+use Rattle.papaya_histories.specs.Given.Others.Endings.{ending_after}
+use Rattle.papaya_histories.specs.Given.Moments.Whole.{ShowsWhole}
+use Rattle.papaya_histories.proofs.Given.Moments.Ends.{end_keeps}
+use Rattle.papaya_histories.proofs.Given.Moments.OnSlots.{none_some}
 use Rattle.papaya_lives.specs.Behind.{IsLeft}
 use Rattle.papaya_lives.specs.LeftTables.{IsToTake, ShowsLeft, EndingsKeepLeft}
 use Rattle.papaya_lives.proofs.Users.{left_lives}

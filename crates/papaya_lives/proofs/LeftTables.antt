@@ -1,37 +1,37 @@
 -- No step but one of the end of a map leaves a block over; so a table that is left over is to be reclaimed by the same end still.
 use Rattle.std.specs.Prelude.{◌≡◌, ℕ, Bool, List, [], ◌∷◌, Option, Some, Ok, Err}
 use Rattle.std.proofs.Common.{refl, ap, sym, subst, ◌∙◌, inl, inr}
-use Rattle.seize_words.specs.Mem.{Mem}
-use Rattle.seize_words.specs.Op.{Out, Found, Stored, Exchanged, Made, Taken, Roomed}
-use Rattle.seize.specs.Law.{Effect, Taken as TakenBlock}
-use Rattle.seize.specs.Sequence.{IsUsers}
-use Rattle.seize.specs.World.{World, Hand, NoBlock, Making as IsMade, InUse, Parting, Cutting, Handed, LeftTo, Request, Register', Enter', Leave', LeaveOwned, Refresh, Unregister', Retire, Flush, Defer', Event, Begin, Step, Makes, Drops, Links, Parts, Unlinks, Rewrites, Operates, Ends, LeavesOver, Relinks, Clears, Chooses, Begins, Steps', Happens, Runs, handed_by, with_at, made_by}
-use Rattle.seize_alone.proofs.Histories.NotTaken.{did}
-use Rattle.seize_alone.proofs.Histories.Reached.{Reached, happens_reached}
-use Rattle.papaya_tables.specs.Nodes.{deferred_word}
-use Rattle.papaya_tables.specs.declared.node.Node.{Node}
-use Rattle.papaya_tables.specs.declared.setting.Setting.{Setting}
-use Rattle.papaya_raw.specs.declared.machines.progress.Progress.{Progress}
-use Rattle.papaya_schedules.specs.declared.effect.Table.{Table}
-use Rattle.papaya_schedules.specs.Moment.{Moment}
-use Rattle.papaya_rule.specs.InWorld.{AllUsers}
-use Rattle.papaya_rule.proofs.World.Hands.{at_cases}
-use Rattle.papaya_callers.specs.Together.{UnderWay, OnKey, ForRoom, Counting, OverAll, IsOneStep}
-use Rattle.papaya_callers.proofs.Together.At.{at_other}
-use Rattle.papaya_callers.proofs.Together.Came.{came_reached}
-use Rattle.papaya_effects.specs.Effects.{known_after}
-use Rattle.papaya_effects.specs.Known.{Known}
-use Rattle.papaya_effects.specs.declared.acting.Acting.TheVariants.{Call, Making, Row}
-use Rattle.papaya_effects.specs.declared.role.Role.TheVariants as role
-use Rattle.papaya_executor.specs.Ending.{ending_begun}
-use Rattle.papaya_executor.specs.IsAt.{Scene, IsAt, slot_of}
-use Rattle.papaya_executor.specs.Stepping.{StepLeads, scene_after}
-use Rattle.papaya_executor.specs.declared.executor.Executor.{Executor}
-use Rattle.papaya_finishes.specs.Endings.{Finishing, finishing_of}
-use Rattle.papaya_follows.proofs.Steps.{WentTo, went_to, DidSo}
-use Rattle.papaya_others.proofs.RowPlans.{row_tells}
-use Rattle.papaya_moments.specs.Whole.{ShowsWhole}
-use Rattle.papaya_moments.proofs.OnSlots.{begun_hands}
+use Rattle.papaya_histories.specs.Given.SeizeWords.Mem.{Mem}
+use Rattle.papaya_histories.specs.Given.SeizeWords.Op.{Out, Found, Stored, Exchanged, Made, Taken, Roomed}
+use Rattle.papaya_histories.specs.Given.Seize.Law.{Effect, Taken as TakenBlock}
+use Rattle.papaya_histories.specs.Given.Seize.Sequence.{IsUsers}
+use Rattle.papaya_histories.specs.Given.Seize.World.{World, Hand, NoBlock, Making as IsMade, InUse, Parting, Cutting, Handed, LeftTo, Request, Register', Enter', Leave', LeaveOwned, Refresh, Unregister', Retire, Flush, Defer', Event, Begin, Step, Makes, Drops, Links, Parts, Unlinks, Rewrites, Operates, Ends, LeavesOver, Relinks, Clears, Chooses, Begins, Steps', Happens, Runs, handed_by, with_at, made_by}
+use Rattle.papaya_histories.proofs.Given.SeizeAlone.Histories.NotTaken.{did}
+use Rattle.papaya_histories.proofs.Given.SeizeAlone.Histories.Reached.{Reached, happens_reached}
+use Rattle.papaya_histories.specs.Given.Tables.Nodes.{deferred_word}
+use Rattle.papaya_histories.specs.Given.Tables.declared.node.Node.{Node}
+use Rattle.papaya_histories.specs.Given.Tables.declared.setting.Setting.{Setting}
+use Rattle.papaya_histories.specs.Given.Raw.declared.machines.progress.Progress.{Progress}
+use Rattle.papaya_histories.specs.Given.Schedules.declared.effect.Table.{Table}
+use Rattle.papaya_histories.specs.Given.Schedules.Moment.{Moment}
+use Rattle.papaya_histories.specs.Given.Rule.InWorld.{AllUsers}
+use Rattle.papaya_histories.proofs.Given.Rule.World.Hands.{at_cases}
+use Rattle.papaya_histories.specs.Given.Callers.Together.{UnderWay, OnKey, ForRoom, Counting, OverAll, IsOneStep}
+use Rattle.papaya_histories.proofs.Given.Callers.Together.At.{at_other}
+use Rattle.papaya_histories.proofs.Given.Callers.Together.Came.{came_reached}
+use Rattle.papaya_histories.specs.Given.Effects.Effects.{known_after}
+use Rattle.papaya_histories.specs.Given.Effects.Known.{Known}
+use Rattle.papaya_histories.specs.Given.Effects.declared.acting.Acting.TheVariants.{Call, Making, Row}
+use Rattle.papaya_histories.specs.Given.Effects.declared.role.Role.TheVariants as role
+use Rattle.papaya_histories.specs.Given.Executor.Ending.{ending_begun}
+use Rattle.papaya_histories.specs.Given.Executor.IsAt.{Scene, IsAt, slot_of}
+use Rattle.papaya_histories.specs.Given.Executor.Stepping.{StepLeads, scene_after}
+use Rattle.papaya_histories.specs.Given.Executor.declared.executor.Executor.{Executor}
+use Rattle.papaya_histories.specs.Given.Finishes.Endings.{Finishing, finishing_of}
+use Rattle.papaya_histories.proofs.Given.Follows.Steps.{WentTo, went_to, DidSo}
+use Rattle.papaya_histories.proofs.Given.Others.RowPlans.{row_tells}
+use Rattle.papaya_histories.specs.Given.Moments.Whole.{ShowsWhole}
+use Rattle.papaya_histories.proofs.Given.Moments.OnSlots.{begun_hands}
 use Rattle.papaya_settles.specs.Due.{OwnAreMade}
 use Rattle.papaya_lives.specs.Behind.{IsLeft}
 use Rattle.papaya_lives.specs.LeftTables.{IsToTake, ShowsLeft, LeftBegins, OthersKeepLeft, EndingsBeginLeft, NoneIsLeftTo, NoneIsLeft, WhereNoneIsLeft, RowsBeginLeft, RowsKeepLeft, MakingsKeepLeft, CallsKeepLeft}

@@ -2,54 +2,54 @@
 use Rattle.std.specs.Prelude.{◌≡◌, ◌⊎◌, ℕ, ◌+◌, nat_lt, ◌&&◌, Bool, true, false, List, [], ◌∷◌, length, Option, Some, None, option_map, if◌then◌else◌}
 use Rattle.std.proofs.Common.{refl, ap, sym, subst, ◌∙◌, inl, inr}
 use Rattle.std.proofs.lemmas.Bool.{ne_eqb}
-use Rattle.seize_words.specs.declared.at.At.TheVariants.{Root, Used, Slot, Entry, Word}
-use Rattle.seize.specs.Law.{is_retired as was_retired}
-use Rattle.seize.specs.World.{World, Row as Under, Begins, Hand, with_at}
-use Rattle.seize.specs.declared.states.TheConstants.{LAST_SLOT}
-use Rattle.seize_moves.proofs.State.Ghost.{Life, IsPending, IsIn, IsDoomed, is_given}
-use Rattle.seize_rule.proofs.Words.Shows.{lives}
-use Rattle.seize_rule.proofs.Words.There.{live_pos}
-use Rattle.seize_rule.proofs.Words.View.{view}
-use Rattle.seize_alone.proofs.Histories.Reached.{Reached}
-use Rattle.papaya_tables.specs.Nodes.{deferred_word}
-use Rattle.papaya_tables.specs.declared.node.Node.{Node}
-use Rattle.papaya_raw.specs.declared.machines.machine.Machine.{Machine}
-use Rattle.papaya_schedules.specs.declared.effect.Effect.{Effect}
-use Rattle.papaya_schedules.specs.declared.effect.Effect.TheVariants.{Asked}
-use Rattle.papaya_schedules.specs.declared.effect.Growth.TheVariants.{ABucket}
-use Rattle.papaya_schedules.specs.declared.effect.Table.{Table}
-use Rattle.papaya_schedules.specs.Effects.{with_effects, AtEachEffect}
-use Rattle.papaya_schedules.specs.Moment.{Moment}
-use Rattle.papaya_schedules.specs.Views.{is_stage, is_retired}
-use Rattle.papaya_teller.specs.declared.changed.Changed.{Changed}
-use Rattle.papaya_teller.specs.declared.changed.Changed.TheVariants as changed
-use Rattle.papaya_callers.specs.Together.{CameAbout}
-use Rattle.papaya_effects.specs.Effects.{names_same, taken_by, effects_of, known_after}
-use Rattle.papaya_effects.specs.Known.{Known, with_role}
-use Rattle.papaya_effects.specs.declared.acting.Acting.TheVariants.{Row}
-use Rattle.papaya_effects.specs.declared.role.Role.{Role}
-use Rattle.papaya_effects.specs.declared.role.Role.TheVariants as role
-use Rattle.papaya_executor.specs.IsAt.{Scene, HasCall, IsAt, call_in, slot_of, work_of}
-use Rattle.papaya_executor.specs.OnSlots.{RowLeads}
-use Rattle.papaya_executor.specs.Rows.{request_of}
-use Rattle.papaya_executor.specs.declared.executor.Executor.{Executor}
-use Rattle.papaya_executor.specs.declared.row.RowTold.{RowTold}
-use Rattle.papaya_executor.specs.declared.row.SlotCall.{SlotCall}
-use Rattle.papaya_executor.specs.declared.row.SlotCall.TheVariants as call
-use Rattle.papaya_executor.specs.declared.row.SlotRow.{SlotRow}
-use Rattle.papaya_executor.specs.declared.worker.Work.{Work}
-use Rattle.papaya_executor.specs.declared.worker.Work.TheVariants as work
-use Rattle.papaya_finishes.specs.Machines.{machine_of}
-use Rattle.papaya_follows.proofs.Alike.{put_here}
-use Rattle.papaya_follows.proofs.Onward.{IsOfMap}
-use Rattle.papaya_follows.proofs.Operations.{LeavesBy}
-use Rattle.papaya_follows.proofs.Told.{roomed_as_many}
-use Rattle.papaya_others.proofs.RowPlans.{TellsRow, row_tells}
-use Rattle.papaya_spots.specs.Unreclaimed.{ShowsUnreclaimed}
-use Rattle.papaya_spots.proofs.Calm.{put_back}
-use Rattle.papaya_moments.specs.OnSlots.{HadRetired}
-use Rattle.papaya_moments.specs.Whole.{ShowsWhole}
-use Rattle.papaya_moments.proofs.OnSlots.{begun_hands}
+use Rattle.papaya_histories.specs.Given.SeizeWords.declared.at.At.TheVariants.{Root, Used, Slot, Entry, Word}
+use Rattle.papaya_histories.specs.Given.Seize.Law.{is_retired as was_retired}
+use Rattle.papaya_histories.specs.Given.Seize.World.{World, Row as Under, Begins, Hand, with_at}
+use Rattle.papaya_histories.specs.Given.Seize.declared.states.TheConstants.{LAST_SLOT}
+use Rattle.papaya_histories.proofs.Given.SeizeMoves.State.Ghost.{Life, IsPending, IsIn, IsDoomed, is_given}
+use Rattle.papaya_histories.proofs.Given.SeizeRule.Words.Shows.{lives}
+use Rattle.papaya_histories.proofs.Given.SeizeRule.Words.There.{live_pos}
+use Rattle.papaya_histories.proofs.Given.SeizeRule.Words.View.{view}
+use Rattle.papaya_histories.proofs.Given.SeizeAlone.Histories.Reached.{Reached}
+use Rattle.papaya_histories.specs.Given.Tables.Nodes.{deferred_word}
+use Rattle.papaya_histories.specs.Given.Tables.declared.node.Node.{Node}
+use Rattle.papaya_histories.specs.Given.Raw.declared.machines.machine.Machine.{Machine}
+use Rattle.papaya_histories.specs.Given.Schedules.declared.effect.Effect.{Effect}
+use Rattle.papaya_histories.specs.Given.Schedules.declared.effect.Effect.TheVariants.{Asked}
+use Rattle.papaya_histories.specs.Given.Schedules.declared.effect.Growth.TheVariants.{ABucket}
+use Rattle.papaya_histories.specs.Given.Schedules.declared.effect.Table.{Table}
+use Rattle.papaya_histories.specs.Given.Schedules.Effects.{with_effects, AtEachEffect}
+use Rattle.papaya_histories.specs.Given.Schedules.Moment.{Moment}
+use Rattle.papaya_histories.specs.Given.Schedules.Views.{is_stage, is_retired}
+use Rattle.papaya_histories.specs.Given.Teller.declared.changed.Changed.{Changed}
+use Rattle.papaya_histories.specs.Given.Teller.declared.changed.Changed.TheVariants as changed
+use Rattle.papaya_histories.specs.Given.Callers.Together.{CameAbout}
+use Rattle.papaya_histories.specs.Given.Effects.Effects.{names_same, taken_by, effects_of, known_after}
+use Rattle.papaya_histories.specs.Given.Effects.Known.{Known, with_role}
+use Rattle.papaya_histories.specs.Given.Effects.declared.acting.Acting.TheVariants.{Row}
+use Rattle.papaya_histories.specs.Given.Effects.declared.role.Role.{Role}
+use Rattle.papaya_histories.specs.Given.Effects.declared.role.Role.TheVariants as role
+use Rattle.papaya_histories.specs.Given.Executor.IsAt.{Scene, HasCall, IsAt, call_in, slot_of, work_of}
+use Rattle.papaya_histories.specs.Given.Executor.OnSlots.{RowLeads}
+use Rattle.papaya_histories.specs.Given.Executor.Rows.{request_of}
+use Rattle.papaya_histories.specs.Given.Executor.declared.executor.Executor.{Executor}
+use Rattle.papaya_histories.specs.Given.Executor.declared.row.RowTold.{RowTold}
+use Rattle.papaya_histories.specs.Given.Executor.declared.row.SlotCall.{SlotCall}
+use Rattle.papaya_histories.specs.Given.Executor.declared.row.SlotCall.TheVariants as call
+use Rattle.papaya_histories.specs.Given.Executor.declared.row.SlotRow.{SlotRow}
+use Rattle.papaya_histories.specs.Given.Executor.declared.worker.Work.{Work}
+use Rattle.papaya_histories.specs.Given.Executor.declared.worker.Work.TheVariants as work
+use Rattle.papaya_histories.specs.Given.Finishes.Machines.{machine_of}
+use Rattle.papaya_histories.proofs.Given.Follows.Alike.{put_here}
+use Rattle.papaya_histories.proofs.Given.Follows.Onward.{IsOfMap}
+use Rattle.papaya_histories.proofs.Given.Follows.Operations.{LeavesBy}
+use Rattle.papaya_histories.proofs.Given.Follows.Told.{roomed_as_many}
+use Rattle.papaya_histories.proofs.Given.Others.RowPlans.{TellsRow, row_tells}
+use Rattle.papaya_histories.specs.Given.Spots.Unreclaimed.{ShowsUnreclaimed}
+use Rattle.papaya_histories.proofs.Given.Spots.Calm.{put_back}
+use Rattle.papaya_histories.specs.Given.Moments.OnSlots.{HadRetired}
+use Rattle.papaya_histories.specs.Given.Moments.Whole.{ShowsWhole}
+use Rattle.papaya_histories.proofs.Given.Moments.OnSlots.{begun_hands}
 use Rattle.papaya_lives.specs.Retired.{IsToRetire, ShowsRetired, RetiredBegins, OthersLeaveRetired, EndingsBeginRetired, RowsBeginRetired, RowsKeepRetired, RowsFindRetired}
 use Rattle.papaya_lives.proofs.Retires.{row_life, given_hand, handed_before}
 use Rattle.papaya_lives.proofs.Stages.{NoneEnds, still_retired, taken_ends}

@@ -1,20 +1,20 @@
 -- Where a choice of a block number comes, the executor is there as before, and the moment shows it as before.
 use Rattle.std.specs.Prelude.{ℕ, Bool, List}
 use Rattle.std.proofs.Common.{◌≡◌, refl, ap}
-use Rattle.seize_words.specs.Mem.{Mem}
+use Rattle.papaya_histories.specs.Given.SeizeWords.Mem.{Mem}
 use Rattle.seize.specs.World.{World}
-use Rattle.papaya_tables.specs.declared.node.Node.{Node}
+use Rattle.papaya_histories.specs.Given.Tables.declared.node.Node.{Node}
 use Rattle.papaya_schedules.specs.declared.effect.Table.{Table}
 use Rattle.papaya_schedules.specs.Moment.{Behind, Moment}
 use Rattle.papaya_effects.specs.Known.{Known, known}
 use Rattle.papaya_effects.specs.declared.role.Role.{Role}
 use Rattle.papaya_effects.specs.declared.role.Role.TheVariants as role
 use Rattle.papaya_executor.specs.IsAt.{Scene, IsAt, slot_of}
-use Rattle.papaya_finishes.proofs.Among.Choices.{choices_stand_among}
-use Rattle.papaya_follows.specs.Blocks.{HasRole}
-use Rattle.papaya_hands.specs.Rows.{HoldsOne}
-use Rattle.papaya_hands.proofs.SettlingRows.{one_kept}
-use Rattle.papaya_moments.specs.Whole.{ShowsWhole}
+use Rattle.papaya_histories.proofs.Given.Finishes.Among.Choices.{choices_stand_among}
+use Rattle.papaya_histories.specs.Given.Follows.Blocks.{HasRole}
+use Rattle.papaya_histories.specs.Given.Hands.Rows.{HoldsOne}
+use Rattle.papaya_histories.proofs.Given.Hands.SettlingRows.{one_kept}
+use Rattle.papaya_histories.specs.Given.Moments.Whole.{ShowsWhole}
 use Rattle.papaya_settles.specs.Entries.{IsBlank}
 use Rattle.papaya_settles.proofs.EntryScenes.{one_as}
 use Rattle.papaya_lives.specs.Behind.{LiesBehind}

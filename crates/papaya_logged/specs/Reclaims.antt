@@ -3,9 +3,9 @@ use Rattle.std.specs.Prelude.{◌≡◌, ℕ, Bool, List, ◌++◌, None, option
 use Rattle.seize.specs.declared.rows.reclaim_all.ReclaimAll.{ReclaimAll}
 use Rattle.seize.specs.declared.rows.settle.Settled.{Settled}
 use Rattle.seize.specs.declared.rows.settle.Settled.TheVariants as settled
-use Rattle.seize_acts.specs.Reclaimed.{HasNothingLeft}
-use Rattle.papaya_tables.specs.Nodes.{deferred_word}
-use Rattle.papaya_tables.specs.declared.node.Node.{Node}
+use Rattle.papaya_owned.specs.Given.SeizeActs.Reclaimed.{HasNothingLeft}
+use Rattle.papaya_histories.specs.Given.Tables.Nodes.{deferred_word}
+use Rattle.papaya_histories.specs.Given.Tables.declared.node.Node.{Node}
 use Rattle.papaya_schedules.specs.declared.effect.Effect.{Effect}
 use Rattle.papaya_schedules.specs.Effects.{with_effects, AtEachEffect}
 use Rattle.papaya_schedules.specs.Moment.{Moment}
@@ -14,9 +14,9 @@ use Rattle.papaya_reclaims.specs.Deferred.{TablesCarryPairs}
 use Rattle.papaya_reclaims.specs.Reclaims.{AllIsReclaimed}
 use Rattle.papaya_executor.specs.IsAt.{Scene}
 use Rattle.papaya_reclaiming.specs.Reclaiming.{IsReclaiming, MayReclaim, NobodyHas, ReclaimingLeads}
-use Rattle.papaya_spots.specs.OnSlots.{WaitUnreclaimed}
-use Rattle.papaya_moments.specs.OnSlots.{HadRetired}
-use Rattle.papaya_moments.specs.Whole.{ShowsWhole}
+use Rattle.papaya_histories.specs.Given.Spots.OnSlots.{WaitUnreclaimed}
+use Rattle.papaya_histories.specs.Given.Moments.OnSlots.{HadRetired}
+use Rattle.papaya_histories.specs.Given.Moments.Whole.{ShowsWhole}
 use Rattle.papaya_kept.specs.Kept.{ShowsKept}
 use Rattle.papaya_logged.specs.Shown.{IsShown}
 use Rattle.papaya_logged.specs.declared.logged.Logged.{Logged}

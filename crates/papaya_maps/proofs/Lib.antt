@@ -6,3 +6,4 @@ mod OtherMaps
 mod NextTables
 mod Samples
 pub mod Laws
+pub mod Given

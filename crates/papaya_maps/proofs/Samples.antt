@@ -1,12 +1,12 @@
 -- What a map's end reclaims, and which retirements a map rests on by, on cases worked by hand.
 use Rattle.std.specs.Prelude.{Some}
 use Rattle.std.proofs.Common.{◌≡◌, ℕ, true, false, [], ◌∷◌, refl}
-use Rattle.seize_words.specs.declared.at.At.TheVariants.{Root, Used}
-use Rattle.seize_words.specs.Mem.{Mem, word_at}
-use Rattle.seize.specs.World.{Hand, InUse, Retire}
-use Rattle.papaya_tables.specs.declared.setting.Setting.{Setting}
-use Rattle.papaya_tables.specs.declared.node.Node.{Node}
-use Rattle.papaya_rule.specs.Chart.{Still, Copied, Holds}
+use Rattle.papaya_finishes.specs.Given.SeizeWords.declared.at.At.TheVariants.{Root, Used}
+use Rattle.papaya_finishes.specs.Given.SeizeWords.Mem.{Mem, word_at}
+use Rattle.papaya_finishes.specs.Given.Seize.World.{Hand, InUse, Retire}
+use Rattle.papaya_finishes.specs.Given.Tables.declared.setting.Setting.{Setting}
+use Rattle.papaya_finishes.specs.Given.Tables.declared.node.Node.{Node}
+use Rattle.papaya_finishes.specs.Given.Rule.Chart.{Still, Copied, Holds}
 use Rattle.papaya_finishes.specs.FactsEnds.{RootIs}
 use Rattle.papaya_finishes.specs.Orders.{pair_at, tables_in}
 use Rattle.papaya_maps.specs.RestsOn.{RetiresCut}

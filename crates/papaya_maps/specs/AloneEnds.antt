@@ -1,16 +1,16 @@
 -- The end of a map over a memory that has one owner, who is caller 0: it takes its own steps, and begins no row of the collector.
 use Rattle.std.specs.Prelude.{◌≡◌, ℕ, Bool, List, [], ◌∷◌, ◌++◌}
-use Rattle.seize_words.specs.Mem.{Mem}
-use Rattle.seize_alone.specs.Alone.{History, IsHistory, AreValues, at_rest}
-use Rattle.seize.specs.WaitingSets.{Change, further_of, all_changed, at_start as sets_at_start}
-use Rattle.seize.specs.declared.rows.settle.Settled.{Settled}
-use Rattle.seize.specs.declared.rows.settle.Settled.TheVariants as settled
-use Rattle.papaya_tables.specs.Nodes.{deferred_word}
-use Rattle.papaya_tables.specs.declared.node.Node.{Node}
-use Rattle.papaya_tables.specs.declared.setting.Setting.{Setting}
-use Rattle.papaya_raw.specs.declared.machines.end_map.EndMap.{EndMap}
-use Rattle.papaya_rule.specs.Chart.{Chart}
-use Rattle.papaya_rule.specs.Words.{Blocks}
+use Rattle.papaya_finishes.specs.Given.SeizeWords.Mem.{Mem}
+use Rattle.papaya_finishes.specs.Given.SeizeAlone.Alone.{History, IsHistory, AreValues, at_rest}
+use Rattle.papaya_finishes.specs.Given.Seize.WaitingSets.{Change, further_of, all_changed, at_start as sets_at_start}
+use Rattle.papaya_finishes.specs.Given.Seize.declared.rows.settle.Settled.{Settled}
+use Rattle.papaya_finishes.specs.Given.Seize.declared.rows.settle.Settled.TheVariants as settled
+use Rattle.papaya_finishes.specs.Given.Tables.Nodes.{deferred_word}
+use Rattle.papaya_finishes.specs.Given.Tables.declared.node.Node.{Node}
+use Rattle.papaya_finishes.specs.Given.Tables.declared.setting.Setting.{Setting}
+use Rattle.papaya_finishes.specs.Given.Raw.declared.machines.end_map.EndMap.{EndMap}
+use Rattle.papaya_finishes.specs.Given.Rule.Chart.{Chart}
+use Rattle.papaya_finishes.specs.Given.Rule.Words.{Blocks}
 use Rattle.papaya_finishes.specs.FactsEnds.{RootIs, back_of, wait_from}
 use Rattle.papaya_maps.specs.FactsEnds.{SameOthers, Since, EndsAlone, change_from}
 

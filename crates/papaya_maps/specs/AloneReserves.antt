@@ -1,36 +1,36 @@
 -- Reservations over a memory that has one owner, who is caller 0: a reservation takes its own steps and those of the rows of the collector that
 -- retire the tables which it leaves behind, and nobody else takes any.
 use Rattle.std.specs.Prelude.{◌≡◌, ℕ, suc, ◌*◌, ◌-◌, ◌%◌, ◌<◌, ◌≤◌, ◌^◌, Bool, true, cond, List, [], ◌∷◌, ◌++◌}
-use Rattle.seize_words.specs.Mem.{Mem}
-use Rattle.seize.specs.declared.rows.settle.Settle.{Settle}
-use Rattle.seize.specs.Settle.{retiring}
-use Rattle.seize_alone.specs.Alone.{History, IsHistory, at_rest}
-use Rattle.papaya_tables.specs.Nodes.{deferred_word}
-use Rattle.papaya_tables.specs.Chunks.{is_incremental}
-use Rattle.papaya_tables.specs.Counts.{count_in}
-use Rattle.papaya_resize.specs.CopierStates as copying
-use Rattle.papaya_reserves.specs.Reserve.{needed, standing}
-use Rattle.papaya_tables.specs.declared.node.Node.{Node}
-use Rattle.papaya_resize.specs.declared.outcome.Outcome.{Outcome}
-use Rattle.papaya_resize.specs.declared.outcome.Outcome.TheVariants as outcome
-use Rattle.papaya_tables.specs.declared.setting.Setting.{Setting}
-use Rattle.papaya_resize.specs.declared.copier.Copier.{Copier}
-use Rattle.papaya_resize.specs.declared.copier.Copying.{Copying}
-use Rattle.papaya_resize.specs.declared.copier.Copying.TheVariants as copies
-use Rattle.papaya_reserves.specs.declared.reserve.Reserve.{Reserve}
-use Rattle.papaya_reserves.specs.declared.reserve.Reserving.{Reserving}
-use Rattle.papaya_reserves.specs.declared.reserve.Reserving.TheVariants as at
-use Rattle.papaya_rule.specs.Chart.{Chart}
-use Rattle.papaya_rule.specs.Lasts.{Lasts}
-use Rattle.papaya_rule.specs.Words.{Blocks}
-use Rattle.papaya_rule.specs.Maps.{spot_of}
-use Rattle.papaya_rule.specs.InWorld.{SameBlocks, IsMapIn}
+use Rattle.papaya_finishes.specs.Given.SeizeWords.Mem.{Mem}
+use Rattle.papaya_finishes.specs.Given.Seize.declared.rows.settle.Settle.{Settle}
+use Rattle.papaya_finishes.specs.Given.Seize.Settle.{retiring}
+use Rattle.papaya_finishes.specs.Given.SeizeAlone.Alone.{History, IsHistory, at_rest}
+use Rattle.papaya_finishes.specs.Given.Tables.Nodes.{deferred_word}
+use Rattle.papaya_finishes.specs.Given.Tables.Chunks.{is_incremental}
+use Rattle.papaya_finishes.specs.Given.Tables.Counts.{count_in}
+use Rattle.papaya_finishes.specs.Given.Resize.CopierStates as copying
+use Rattle.papaya_finishes.specs.Given.Reserves.Reserve.{needed, standing}
+use Rattle.papaya_finishes.specs.Given.Tables.declared.node.Node.{Node}
+use Rattle.papaya_finishes.specs.Given.Resize.declared.outcome.Outcome.{Outcome}
+use Rattle.papaya_finishes.specs.Given.Resize.declared.outcome.Outcome.TheVariants as outcome
+use Rattle.papaya_finishes.specs.Given.Tables.declared.setting.Setting.{Setting}
+use Rattle.papaya_finishes.specs.Given.Resize.declared.copier.Copier.{Copier}
+use Rattle.papaya_finishes.specs.Given.Resize.declared.copier.Copying.{Copying}
+use Rattle.papaya_finishes.specs.Given.Resize.declared.copier.Copying.TheVariants as copies
+use Rattle.papaya_finishes.specs.Given.Reserves.declared.reserve.Reserve.{Reserve}
+use Rattle.papaya_finishes.specs.Given.Reserves.declared.reserve.Reserving.{Reserving}
+use Rattle.papaya_finishes.specs.Given.Reserves.declared.reserve.Reserving.TheVariants as at
+use Rattle.papaya_finishes.specs.Given.Rule.Chart.{Chart}
+use Rattle.papaya_finishes.specs.Given.Rule.Lasts.{Lasts}
+use Rattle.papaya_finishes.specs.Given.Rule.Words.{Blocks}
+use Rattle.papaya_finishes.specs.Given.Rule.Maps.{spot_of}
+use Rattle.papaya_finishes.specs.Given.Rule.InWorld.{SameBlocks, IsMapIn}
 use Rattle.papaya_alone.specs.Counting.{pairs_in, shards_sum, count_ahead, IsCounted}
 use Rattle.papaya_alone.specs.Counted.{HasAdded}
-use Rattle.papaya_late.specs.FactsReserves.{ReserveFacts}
+use Rattle.papaya_finishes.specs.Given.Late.FactsReserves.{ReserveFacts}
 use Rattle.papaya_alone.specs.Handed.{retirements}
 use Rattle.papaya_alone.specs.Alone.{IsIdleNow, IsRetiring}
-use Rattle.papaya_callers.specs.Kept.{IsWithin}
+use Rattle.papaya_finishes.specs.Given.Callers.Kept.{IsWithin}
 use Rattle.papaya_alone.specs.Values.{HasCome, IsComing, IsMadeByReserve, IsLinkedSince}
 
 -- The root has as many places as the pairs that were counted and so many further ones need. Those are the pairs of the map, where this is so.

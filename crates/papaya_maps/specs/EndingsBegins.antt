@@ -1,11 +1,11 @@
 -- Beginnings of maps come to an end.
 use Rattle.std.specs.Prelude.{◌<◌}
-use Rattle.seize_words.specs.Mem.{Mem, Took, value_at}
-use Rattle.seize_words.specs.Plan.{Steps}
-use Rattle.seize.specs.declared.progress.Progress.TheVariants as progress
-use Rattle.papaya_resize.specs.NewMap.{new_map_plan}
-use Rattle.papaya_tables.specs.declared.node.Node.{Node}
-use Rattle.papaya_resize.specs.declared.new_map.NewMap.{NewMap}
+use Rattle.papaya_finishes.specs.Given.SeizeWords.Mem.{Mem, Took, value_at}
+use Rattle.papaya_finishes.specs.Given.SeizeWords.Plan.{Steps}
+use Rattle.papaya_finishes.specs.Given.Seize.declared.progress.Progress.TheVariants as progress
+use Rattle.papaya_finishes.specs.Given.Resize.NewMap.{new_map_plan}
+use Rattle.papaya_finishes.specs.Given.Tables.declared.node.Node.{Node}
+use Rattle.papaya_finishes.specs.Given.Resize.declared.new_map.NewMap.{NewMap}
 use Rattle.papaya_alone.specs.Endings.{RunsEnd}
 use Rattle.papaya_maps.specs.MeasuresBegins.{new_map_left}
 

@@ -1,14 +1,14 @@
 -- What is known of a map where one caller alone has a part in its copying, at each point of a reservation.
 use Rattle.std.specs.Prelude.{ℕ, Bool, true, false}
-use Rattle.papaya_resize.specs.declared.outcome.Outcome.{Outcome}
-use Rattle.papaya_resize.specs.declared.outcome.Outcome.TheVariants as outcome
-use Rattle.papaya_resize.specs.declared.copier.Copier.{Copier}
-use Rattle.papaya_reserves.specs.declared.reserve.Reserve.{Reserve}
-use Rattle.papaya_reserves.specs.declared.reserve.Reserving.{Reserving}
-use Rattle.papaya_reserves.specs.declared.reserve.Reserving.TheVariants as at
-use Rattle.papaya_rule.specs.Chart.{Chart}
-use Rattle.papaya_points.specs.Measures.{OthersIdle}
-use Rattle.papaya_points.specs.FactsAloneBlocking.{AloneBlocking}
+use Rattle.papaya_finishes.specs.Given.Resize.declared.outcome.Outcome.{Outcome}
+use Rattle.papaya_finishes.specs.Given.Resize.declared.outcome.Outcome.TheVariants as outcome
+use Rattle.papaya_finishes.specs.Given.Resize.declared.copier.Copier.{Copier}
+use Rattle.papaya_finishes.specs.Given.Reserves.declared.reserve.Reserve.{Reserve}
+use Rattle.papaya_finishes.specs.Given.Reserves.declared.reserve.Reserving.{Reserving}
+use Rattle.papaya_finishes.specs.Given.Reserves.declared.reserve.Reserving.TheVariants as at
+use Rattle.papaya_finishes.specs.Given.Rule.Chart.{Chart}
+use Rattle.papaya_finishes.specs.Given.Points.Measures.{OthersIdle}
+use Rattle.papaya_finishes.specs.Given.Points.FactsAloneBlocking.{AloneBlocking}
 use Rattle.papaya_alone.specs.FactsAlone.{AloneAt}
 use Rattle.papaya_alone.specs.FactsAloneCalls.{TablesAlone, RestsAlone}
 

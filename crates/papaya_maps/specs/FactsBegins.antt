@@ -1,28 +1,28 @@
 -- How a map begins: what is known at each of its points, and what a step comes to.
 use Rattle.std.specs.Prelude.{◌≡◌, ◌≢◌, ℕ, ◌^◌, ◌<◌, ◌≤◌, Bool, false, List, Some, max, ◌⊎◌}
-use Rattle.seize_words.specs.declared.at.At.TheVariants.{Root, Used}
-use Rattle.seize_words.specs.Mem.{Mem, value_at, word_at}
-use Rattle.seize.specs.World.{World, Making as MadeBy, Event, Runs}
-use Rattle.seize.specs.declared.progress.Progress.{Progress}
-use Rattle.seize.specs.declared.progress.Progress.TheVariants as progress
-use Rattle.papaya_tables.specs.Nodes.{deferred_word}
-use Rattle.papaya_tables.specs.Chunks.{is_incremental}
-use Rattle.papaya_tables.specs.Lengths.{IsTableLen}
-use Rattle.papaya_resize.specs.NewMap.{at_root, with_counter}
-use Rattle.papaya_tables.specs.declared.node.Node.{Node}
-use Rattle.papaya_tables.specs.declared.node.Node.TheVariants as node
-use Rattle.papaya_tables.specs.declared.setting.Setting.{Setting}
-use Rattle.papaya_resize.specs.declared.new_map.NewMap.{NewMap}
-use Rattle.papaya_resize.specs.declared.new_map.Opening.{Opening}
-use Rattle.papaya_resize.specs.declared.new_map.Opening.TheVariants as at
-use Rattle.papaya_tables.specs.Chunks.{is_incremental}
-use Rattle.papaya_rule.specs.Chart.{Chart}
-use Rattle.papaya_rule.specs.Rule.{no_table}
-use Rattle.papaya_rule.specs.Moves.{Links, after}
-use Rattle.papaya_rule.specs.Words.{Blocks}
-use Rattle.papaya_rule.specs.Maps.{spot_of}
-use Rattle.papaya_rule.specs.InWorld.{IsMapIn, AllUsers, SparesPairs}
-use Rattle.papaya_points.specs.FactsTables.{NewTableFacts}
+use Rattle.papaya_finishes.specs.Given.SeizeWords.declared.at.At.TheVariants.{Root, Used}
+use Rattle.papaya_finishes.specs.Given.SeizeWords.Mem.{Mem, value_at, word_at}
+use Rattle.papaya_finishes.specs.Given.Seize.World.{World, Making as MadeBy, Event, Runs}
+use Rattle.papaya_finishes.specs.Given.Seize.declared.progress.Progress.{Progress}
+use Rattle.papaya_finishes.specs.Given.Seize.declared.progress.Progress.TheVariants as progress
+use Rattle.papaya_finishes.specs.Given.Tables.Nodes.{deferred_word}
+use Rattle.papaya_finishes.specs.Given.Tables.Chunks.{is_incremental}
+use Rattle.papaya_finishes.specs.Given.Tables.Lengths.{IsTableLen}
+use Rattle.papaya_finishes.specs.Given.Resize.NewMap.{at_root, with_counter}
+use Rattle.papaya_finishes.specs.Given.Tables.declared.node.Node.{Node}
+use Rattle.papaya_finishes.specs.Given.Tables.declared.node.Node.TheVariants as node
+use Rattle.papaya_finishes.specs.Given.Tables.declared.setting.Setting.{Setting}
+use Rattle.papaya_finishes.specs.Given.Resize.declared.new_map.NewMap.{NewMap}
+use Rattle.papaya_finishes.specs.Given.Resize.declared.new_map.Opening.{Opening}
+use Rattle.papaya_finishes.specs.Given.Resize.declared.new_map.Opening.TheVariants as at
+use Rattle.papaya_finishes.specs.Given.Tables.Chunks.{is_incremental}
+use Rattle.papaya_finishes.specs.Given.Rule.Chart.{Chart}
+use Rattle.papaya_finishes.specs.Given.Rule.Rule.{no_table}
+use Rattle.papaya_finishes.specs.Given.Rule.Moves.{Links, after}
+use Rattle.papaya_finishes.specs.Given.Rule.Words.{Blocks}
+use Rattle.papaya_finishes.specs.Given.Rule.Maps.{spot_of}
+use Rattle.papaya_finishes.specs.Given.Rule.InWorld.{IsMapIn, AllUsers, SparesPairs}
+use Rattle.papaya_finishes.specs.Given.Points.FactsTables.{NewTableFacts}
 use Rattle.papaya_finishes.specs.Makings.{HasLen, HasRoots, IsTakenRoot, IsFreeRoot}
 use Rattle.papaya_alone.specs.FactsAloneCalls.{RestsAlone}
 

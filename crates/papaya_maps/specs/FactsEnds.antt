@@ -1,16 +1,16 @@
 -- How a map ends where nobody else takes a step: what its end has left as it was since it began.
 use Rattle.std.specs.Prelude.{◌≡◌, ◌≢◌, ℕ, ◌<◌, Bool, true, false, List, ◌++◌, None}
-use Rattle.seize_words.specs.declared.at.At.TheVariants.{Root, Used, Entry, Word}
-use Rattle.seize_words.specs.Mem.{Mem, value_at, word_at}
-use Rattle.seize.specs.declared.states.TheConstants.{NEXT}
-use Rattle.seize.specs.Law.{where_is, holds, is_over, is_orphan}
-use Rattle.seize.specs.WaitingSets.{Change}
-use Rattle.seize.specs.World.{World, LeftTo, InUse, times}
-use Rattle.papaya_tables.specs.declared.node.Node.{Node}
-use Rattle.papaya_tables.specs.declared.setting.Setting.{Setting}
-use Rattle.papaya_raw.specs.declared.machines.end_map.EndMap.{EndMap}
-use Rattle.papaya_rule.specs.Chart.{Chart}
-use Rattle.papaya_rule.specs.Words.{Blocks}
+use Rattle.papaya_finishes.specs.Given.SeizeWords.declared.at.At.TheVariants.{Root, Used, Entry, Word}
+use Rattle.papaya_finishes.specs.Given.SeizeWords.Mem.{Mem, value_at, word_at}
+use Rattle.papaya_finishes.specs.Given.Seize.declared.states.TheConstants.{NEXT}
+use Rattle.papaya_finishes.specs.Given.Seize.Law.{where_is, holds, is_over, is_orphan}
+use Rattle.papaya_finishes.specs.Given.Seize.WaitingSets.{Change}
+use Rattle.papaya_finishes.specs.Given.Seize.World.{World, LeftTo, InUse, times}
+use Rattle.papaya_finishes.specs.Given.Tables.declared.node.Node.{Node}
+use Rattle.papaya_finishes.specs.Given.Tables.declared.setting.Setting.{Setting}
+use Rattle.papaya_finishes.specs.Given.Raw.declared.machines.end_map.EndMap.{EndMap}
+use Rattle.papaya_finishes.specs.Given.Rule.Chart.{Chart}
+use Rattle.papaya_finishes.specs.Given.Rule.Words.{Blocks}
 use Rattle.papaya_finishes.specs.Orders.{changes_from, IsLeftBefore}
 use Rattle.papaya_finishes.specs.FactsEnds.{EndFacts}
 

@@ -18,3 +18,4 @@ pub mod Listed
 pub mod Spares
 pub mod FaultsBegins
 pub mod NextTables
+pub mod Given

@@ -1,14 +1,14 @@
 -- What else happens to a collector than calls of its map, over a memory that has one owner: a map that rests goes on resting.
 use Rattle.std.specs.Prelude.{◌≡◌, ◌≢◌, ℕ, ◌^◌, ◌<◌, ◌≤◌, Bool, true, List, [], ◌∷◌, ◌++◌}
-use Rattle.seize_words.specs.Mem.{Mem, value_at}
-use Rattle.seize.specs.Law.{reachable, where_is}
-use Rattle.seize.specs.World.{Hand, Cutting, Request, Retire, times}
-use Rattle.seize_alone.specs.Alone.{History, IsHistory, IsEnded, MayGive, Spares, registered, entered, given_up, called, given_back}
-use Rattle.papaya_tables.specs.Nodes.{deferred_word}
-use Rattle.papaya_tables.specs.declared.node.Node.{Node}
-use Rattle.papaya_tables.specs.declared.setting.Setting.{Setting}
-use Rattle.papaya_rule.specs.Chart.{Chart}
-use Rattle.papaya_rule.specs.Words.{Blocks}
+use Rattle.papaya_finishes.specs.Given.SeizeWords.Mem.{Mem, value_at}
+use Rattle.papaya_finishes.specs.Given.Seize.Law.{reachable, where_is}
+use Rattle.papaya_finishes.specs.Given.Seize.World.{Hand, Cutting, Request, Retire, times}
+use Rattle.papaya_finishes.specs.Given.SeizeAlone.Alone.{History, IsHistory, IsEnded, MayGive, Spares, registered, entered, given_up, called, given_back}
+use Rattle.papaya_finishes.specs.Given.Tables.Nodes.{deferred_word}
+use Rattle.papaya_finishes.specs.Given.Tables.declared.node.Node.{Node}
+use Rattle.papaya_finishes.specs.Given.Tables.declared.setting.Setting.{Setting}
+use Rattle.papaya_finishes.specs.Given.Rule.Chart.{Chart}
+use Rattle.papaya_finishes.specs.Given.Rule.Words.{Blocks}
 use Rattle.papaya_alone.specs.Counting.{IsCounted}
 use Rattle.papaya_alone.specs.Alone.{MapRests}
 

@@ -1,25 +1,25 @@
 -- What steps of calls and reservations that run alone leave as it is of what is none of their map's: slots that were taken, and other roots.
 use Rattle.std.specs.Prelude.{◌≡◌, ◌≢◌, ◌<◌, ℕ, Bool, List, Option, Some}
 use Rattle.std.specs.Int.{IsPowerOfTwo}
-use Rattle.seize_words.specs.declared.at.At.TheVariants.{Root, Slot}
-use Rattle.seize_words.specs.Mem.{Mem, Took, value_at, word_at}
-use Rattle.seize_words.specs.Plan.{Steps}
-use Rattle.seize.specs.declared.states.TheConstants.{HEAD}
-use Rattle.seize_alone.specs.Alone.{History}
-use Rattle.papaya_raw.specs.Call.{call_plan}
-use Rattle.papaya_reserves.specs.Reserve.{reserve_plan}
-use Rattle.papaya_tables.specs.Chunks.{is_incremental}
-use Rattle.papaya_tables.specs.declared.node.Node.{Node}
-use Rattle.papaya_resize.specs.declared.outcome.Outcome.{Outcome}
-use Rattle.papaya_tables.specs.declared.setting.Setting.{Setting}
-use Rattle.papaya_raw.specs.declared.machines.answer.Called.{Called}
-use Rattle.papaya_raw.specs.declared.machines.call.KeyCall.{KeyCall}
-use Rattle.papaya_reserves.specs.declared.reserve.Reserve.{Reserve}
-use Rattle.papaya_rule.specs.Chart.{Chart}
-use Rattle.papaya_rule.specs.Rule.{Rule}
-use Rattle.papaya_rule.specs.Words.{Blocks}
-use Rattle.papaya_rule.specs.Maps.{spot_of}
-use Rattle.papaya_points.specs.Steps.{AreLawful}
+use Rattle.papaya_finishes.specs.Given.SeizeWords.declared.at.At.TheVariants.{Root, Slot}
+use Rattle.papaya_finishes.specs.Given.SeizeWords.Mem.{Mem, Took, value_at, word_at}
+use Rattle.papaya_finishes.specs.Given.SeizeWords.Plan.{Steps}
+use Rattle.papaya_finishes.specs.Given.Seize.declared.states.TheConstants.{HEAD}
+use Rattle.papaya_finishes.specs.Given.SeizeAlone.Alone.{History}
+use Rattle.papaya_finishes.specs.Given.Raw.Call.{call_plan}
+use Rattle.papaya_finishes.specs.Given.Reserves.Reserve.{reserve_plan}
+use Rattle.papaya_finishes.specs.Given.Tables.Chunks.{is_incremental}
+use Rattle.papaya_finishes.specs.Given.Tables.declared.node.Node.{Node}
+use Rattle.papaya_finishes.specs.Given.Resize.declared.outcome.Outcome.{Outcome}
+use Rattle.papaya_finishes.specs.Given.Tables.declared.setting.Setting.{Setting}
+use Rattle.papaya_finishes.specs.Given.Raw.declared.machines.answer.Called.{Called}
+use Rattle.papaya_finishes.specs.Given.Raw.declared.machines.call.KeyCall.{KeyCall}
+use Rattle.papaya_finishes.specs.Given.Reserves.declared.reserve.Reserve.{Reserve}
+use Rattle.papaya_finishes.specs.Given.Rule.Chart.{Chart}
+use Rattle.papaya_finishes.specs.Given.Rule.Rule.{Rule}
+use Rattle.papaya_finishes.specs.Given.Rule.Words.{Blocks}
+use Rattle.papaya_finishes.specs.Given.Rule.Maps.{spot_of}
+use Rattle.papaya_finishes.specs.Given.Points.Steps.{AreLawful}
 use Rattle.papaya_alone.specs.Alone.{IsUnderWay}
 use Rattle.papaya_maps.specs.AloneReserves.{IsReserving}
 

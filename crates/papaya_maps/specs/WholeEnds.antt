@@ -1,19 +1,19 @@
 -- What is promised of the ends of maps over a memory that has one owner.
 use Rattle.std.specs.Prelude.{◌≡◌, ◌≢◌, ℕ, ◌+◌, ◌^◌, ◌<◌, ◌≤◌, Bool, true, cond, List, [], Some}
-use Rattle.seize_words.specs.declared.at.At.TheVariants.{Used}
-use Rattle.seize_words.specs.Mem.{Mem, Can, Took, value_at, word_at}
-use Rattle.seize_words.specs.Plan.{May, Steps}
-use Rattle.seize_alone.specs.Alone.{History, ended_owner}
-use Rattle.seize.specs.World.{IsOutside, times}
-use Rattle.seize.specs.declared.rows.settle.Settled.{Settled}
-use Rattle.papaya_tables.specs.Chunks.{is_incremental}
-use Rattle.papaya_raw.specs.EndMap.{ending, end_map_plan}
-use Rattle.papaya_tables.specs.declared.node.Node.{Node}
-use Rattle.papaya_tables.specs.declared.setting.Setting.{Setting}
-use Rattle.papaya_raw.specs.declared.machines.end_map.EndMap.{EndMap}
-use Rattle.papaya_rule.specs.Chart.{Chart}
-use Rattle.papaya_points.specs.Steps.{AreLawful}
-use Rattle.papaya_rule.specs.Words.{Blocks}
+use Rattle.papaya_finishes.specs.Given.SeizeWords.declared.at.At.TheVariants.{Used}
+use Rattle.papaya_finishes.specs.Given.SeizeWords.Mem.{Mem, Can, Took, value_at, word_at}
+use Rattle.papaya_finishes.specs.Given.SeizeWords.Plan.{May, Steps}
+use Rattle.papaya_finishes.specs.Given.SeizeAlone.Alone.{History, ended_owner}
+use Rattle.papaya_finishes.specs.Given.Seize.World.{IsOutside, times}
+use Rattle.papaya_finishes.specs.Given.Seize.declared.rows.settle.Settled.{Settled}
+use Rattle.papaya_finishes.specs.Given.Tables.Chunks.{is_incremental}
+use Rattle.papaya_finishes.specs.Given.Raw.EndMap.{ending, end_map_plan}
+use Rattle.papaya_finishes.specs.Given.Tables.declared.node.Node.{Node}
+use Rattle.papaya_finishes.specs.Given.Tables.declared.setting.Setting.{Setting}
+use Rattle.papaya_finishes.specs.Given.Raw.declared.machines.end_map.EndMap.{EndMap}
+use Rattle.papaya_finishes.specs.Given.Rule.Chart.{Chart}
+use Rattle.papaya_finishes.specs.Given.Points.Steps.{AreLawful}
+use Rattle.papaya_finishes.specs.Given.Rule.Words.{Blocks}
 use Rattle.papaya_alone.specs.Alone.{MapRests}
 use Rattle.papaya_maps.specs.AloneEnds.{IsEnding, EndsTo, HasEndedAlone, deferred_by, all_given, all_waiting}
 use Rattle.papaya_alone.specs.FactsAloneCalls.{RestsAlone}

@@ -1,18 +1,18 @@
 -- What is promised of whole reservations over a memory that has one owner.
 use Rattle.std.specs.Prelude.{◌≡◌, ℕ, ◌^◌, ◌<◌, Bool, List, []}
 use Rattle.std.specs.Int.{IsPowerOfTwo}
-use Rattle.seize_words.specs.Mem.{Mem, Can, Took, value_at}
-use Rattle.seize_words.specs.Plan.{May, Steps}
-use Rattle.seize.specs.World.{IsInside}
-use Rattle.seize_alone.specs.Alone.{History}
-use Rattle.papaya_reserves.specs.Reserve.{reserving, reserve_plan}
-use Rattle.papaya_tables.specs.declared.node.Node.{Node}
-use Rattle.papaya_resize.specs.declared.outcome.Outcome.{Outcome}
-use Rattle.papaya_tables.specs.declared.setting.Setting.{Setting}
-use Rattle.papaya_reserves.specs.declared.reserve.Reserve.{Reserve}
-use Rattle.papaya_rule.specs.Chart.{Chart}
-use Rattle.papaya_rule.specs.Words.{Blocks}
-use Rattle.papaya_points.specs.Steps.{AreLawful}
+use Rattle.papaya_finishes.specs.Given.SeizeWords.Mem.{Mem, Can, Took, value_at}
+use Rattle.papaya_finishes.specs.Given.SeizeWords.Plan.{May, Steps}
+use Rattle.papaya_finishes.specs.Given.Seize.World.{IsInside}
+use Rattle.papaya_finishes.specs.Given.SeizeAlone.Alone.{History}
+use Rattle.papaya_finishes.specs.Given.Reserves.Reserve.{reserving, reserve_plan}
+use Rattle.papaya_finishes.specs.Given.Tables.declared.node.Node.{Node}
+use Rattle.papaya_finishes.specs.Given.Resize.declared.outcome.Outcome.{Outcome}
+use Rattle.papaya_finishes.specs.Given.Tables.declared.setting.Setting.{Setting}
+use Rattle.papaya_finishes.specs.Given.Reserves.declared.reserve.Reserve.{Reserve}
+use Rattle.papaya_finishes.specs.Given.Rule.Chart.{Chart}
+use Rattle.papaya_finishes.specs.Given.Rule.Words.{Blocks}
+use Rattle.papaya_finishes.specs.Given.Points.Steps.{AreLawful}
 use Rattle.papaya_alone.specs.Alone.{MapRests}
 use Rattle.papaya_maps.specs.AloneReserves.{IsReserving, HasReservedAll, ReservesTo}
 

@@ -1,34 +1,34 @@
 -- Steps of calls, where they come one after another: the waiting sets of blocks are those of the model still, or will be once the row within the call has run.
 use Rattle.std.specs.Prelude.{◌≡◌, ◌≢◌, ℕ, Bool, List, [], ◌++◌, flat_map, Some, ◌⊎◌}
 use Rattle.std.proofs.Common.{refl, ap, sym, subst, ◌∙◌, inl, inr}
-use Rattle.seize.specs.Sequence.{changes}
-use Rattle.seize.specs.WaitingSets.{Change, Sets, After, all_changed, at_start as sets_at_start}
-use Rattle.seize.specs.World.{World, Rests, Request, Begin, Step, Event, Happens, Runs, Row, Steps'}
-use Rattle.seize_sets.proofs.Turns.Append.{changed_append}
-use Rattle.papaya_raw.specs.declared.machines.progress.Progress.{Progress}
-use Rattle.papaya_rule.specs.InWorld.{AllUsers}
-use Rattle.papaya_tables.specs.Nodes.{deferred_word}
-use Rattle.papaya_tables.specs.declared.node.Node.{Node}
-use Rattle.papaya_schedules.specs.Model.{handing}
-use Rattle.papaya_schedules.specs.Moment.{Moment}
-use Rattle.papaya_schedules.specs.declared.effect.Effect.{Effect}
-use Rattle.papaya_schedules.specs.declared.effect.Thing.{Thing}
-use Rattle.papaya_schedules.specs.declared.effect.Thing.TheVariants.{APair, ATable}
-use Rattle.papaya_callers.specs.Sights.{seen_by}
-use Rattle.papaya_callers.specs.Together.{UnderWay, OnKey, ForRoom, Counting, OverAll, HandsOver, IsOneStep, Stands, Together}
-use Rattle.papaya_effects.specs.Effects.{effects_of, known_after}
-use Rattle.papaya_effects.specs.Known.{Known}
-use Rattle.papaya_effects.specs.declared.acting.Acting.TheVariants.{Call}
-use Rattle.papaya_effects.specs.declared.role.Role.{Role}
-use Rattle.papaya_executor.specs.IsAt.{Scene, IsAt, slot_of}
-use Rattle.papaya_executor.specs.Stepping.{StepLeads}
-use Rattle.papaya_executor.specs.declared.executor.Executor.{Executor}
-use Rattle.papaya_follows.proofs.Onward.{IsLasting, KeepsRoles}
-use Rattle.papaya_follows.proofs.RowSteps.{row_step_shown}
-use Rattle.papaya_follows.proofs.Steps.{WentTo, went_to, DidSo, OfNoRow, step_shown}
-use Rattle.papaya_hands.proofs.RowSteps.{rows_hand_theirs}
-use Rattle.papaya_hands.proofs.Steps.{calls_store_theirs}
-use Rattle.papaya_moments.specs.Whole.{ShowsWhole}
+use Rattle.papaya_histories.specs.Given.Seize.Sequence.{changes}
+use Rattle.papaya_histories.specs.Given.Seize.WaitingSets.{Change, Sets, After, all_changed, at_start as sets_at_start}
+use Rattle.papaya_histories.specs.Given.Seize.World.{World, Rests, Request, Begin, Step, Event, Happens, Runs, Row, Steps'}
+use Rattle.papaya_histories.proofs.Given.SeizeSets.Turns.Append.{changed_append}
+use Rattle.papaya_histories.specs.Given.Raw.declared.machines.progress.Progress.{Progress}
+use Rattle.papaya_histories.specs.Given.Rule.InWorld.{AllUsers}
+use Rattle.papaya_histories.specs.Given.Tables.Nodes.{deferred_word}
+use Rattle.papaya_histories.specs.Given.Tables.declared.node.Node.{Node}
+use Rattle.papaya_histories.specs.Given.Schedules.Model.{handing}
+use Rattle.papaya_histories.specs.Given.Schedules.Moment.{Moment}
+use Rattle.papaya_histories.specs.Given.Schedules.declared.effect.Effect.{Effect}
+use Rattle.papaya_histories.specs.Given.Schedules.declared.effect.Thing.{Thing}
+use Rattle.papaya_histories.specs.Given.Schedules.declared.effect.Thing.TheVariants.{APair, ATable}
+use Rattle.papaya_histories.specs.Given.Callers.Sights.{seen_by}
+use Rattle.papaya_histories.specs.Given.Callers.Together.{UnderWay, OnKey, ForRoom, Counting, OverAll, HandsOver, IsOneStep, Stands, Together}
+use Rattle.papaya_histories.specs.Given.Effects.Effects.{effects_of, known_after}
+use Rattle.papaya_histories.specs.Given.Effects.Known.{Known}
+use Rattle.papaya_histories.specs.Given.Effects.declared.acting.Acting.TheVariants.{Call}
+use Rattle.papaya_histories.specs.Given.Effects.declared.role.Role.{Role}
+use Rattle.papaya_histories.specs.Given.Executor.IsAt.{Scene, IsAt, slot_of}
+use Rattle.papaya_histories.specs.Given.Executor.Stepping.{StepLeads}
+use Rattle.papaya_histories.specs.Given.Executor.declared.executor.Executor.{Executor}
+use Rattle.papaya_histories.proofs.Given.Follows.Onward.{IsLasting, KeepsRoles}
+use Rattle.papaya_histories.proofs.Given.Follows.RowSteps.{row_step_shown}
+use Rattle.papaya_histories.proofs.Given.Follows.Steps.{WentTo, went_to, DidSo, OfNoRow, step_shown}
+use Rattle.papaya_histories.proofs.Given.Hands.RowSteps.{rows_hand_theirs}
+use Rattle.papaya_histories.proofs.Given.Hands.Steps.{calls_store_theirs}
+use Rattle.papaya_histories.specs.Given.Moments.Whole.{ShowsWhole}
 use Rattle.papaya_promises.specs.Sheltered.{IsOfThing}
 use Rattle.papaya_models.specs.Alike.{SetsAlike}
 use Rattle.papaya_models.specs.Calls.{sets_on, FollowsInCall, MoreThingsFollow, RowsWithinEnd, CallsFollow, RowsWithinBegin, RowsWithinGoOn}

@@ -6,45 +6,45 @@ use Rattle.std.proofs.Common.{◌≡◌, ℕ, zero, suc, ◌+◌, Bool, true, fa
 use Rattle.std.proofs.lemmas.Bool.{eq-eqb}
 use Rattle.std.proofs.lemmas.List.{append-nil, map-append}
 use Rattle.std.proofs.lemmas.List.Concat.{flat_map-append, flat_map-cons}
-use Rattle.seize_words.specs.Mem.{value_at}
-use Rattle.seize.specs.Law.{Ended as HasEnded}
-use Rattle.seize.specs.Sequence.{IsBetween, ended_by}
-use Rattle.seize.specs.WaitingSets.{Change, Ends, Further, Sets, is_one_of}
-use Rattle.seize.specs.World.{World, LeftTo, Event, Runs, Ends as EndsOwner, times, with_effect}
-use Rattle.seize.specs.declared.rows.settle.Settled.{Settled}
-use Rattle.seize_waiting.specs.Held.{Every}
-use Rattle.papaya_tables.specs.Nodes.{deferred_word}
-use Rattle.papaya_tables.specs.declared.node.Node.{Node}
-use Rattle.papaya_tables.specs.declared.node.Node.TheVariants as node
-use Rattle.papaya_raw.specs.declared.machines.end_map.EndMap.{EndMap}
-use Rattle.papaya_schedules.specs.After.{tables_taken}
-use Rattle.papaya_schedules.specs.Lists.{is_in}
-use Rattle.papaya_schedules.specs.Moment.{Moment}
-use Rattle.papaya_schedules.specs.Things.{same_table}
-use Rattle.papaya_schedules.specs.declared.effect.Effect.{Effect}
-use Rattle.papaya_schedules.specs.declared.effect.Effect.TheVariants as effect
-use Rattle.papaya_schedules.specs.declared.effect.Table.{Table}
-use Rattle.papaya_schedules.specs.declared.effect.Thing.{Thing}
-use Rattle.papaya_schedules.specs.declared.effect.Thing.TheVariants.{APair, ATable}
-use Rattle.papaya_teller.specs.declared.changed.Changed.{Changed}
-use Rattle.papaya_teller.specs.declared.changed.Changed.TheVariants as changed
-use Rattle.papaya_effects.specs.Effects.{taken_by as what_was, effects_of, known_after}
-use Rattle.papaya_effects.specs.Known.{Known, with_role}
-use Rattle.papaya_effects.specs.declared.acting.Acting.{Acting}
-use Rattle.papaya_effects.specs.declared.acting.Acting.TheVariants as acts
-use Rattle.papaya_effects.specs.declared.role.Role.{Role}
-use Rattle.papaya_effects.specs.declared.role.Role.TheVariants as role
-use Rattle.papaya_executor.specs.Ending.{EndingStepsFrom, EndingComesTo}
-use Rattle.papaya_executor.specs.IsAt.{Scene, IsAt, slot_of}
-use Rattle.papaya_executor.specs.declared.executor.Executor.{Executor}
-use Rattle.papaya_finishes.specs.Endings.{Finishing, StepsOfEnding}
-use Rattle.papaya_finishes.specs.FactsEnds.{Deed, Looks, TakesPair, LeavesTable, JoinsPair, TakesLeft, TakesCounter, WritesRoot, events_of, taken_by, left_by}
-use Rattle.papaya_follows.specs.Blocks.{HasRole, ShowsBlocks}
-use Rattle.papaya_follows.proofs.Alike.{is_calm, AllCalm}
-use Rattle.papaya_moments.specs.Whole.{ShowsWhole}
-use Rattle.papaya_others.proofs.Ends.{says_or_takes, left}
+use Rattle.papaya_histories.specs.Given.SeizeWords.Mem.{value_at}
+use Rattle.papaya_histories.specs.Given.Seize.Law.{Ended as HasEnded}
+use Rattle.papaya_histories.specs.Given.Seize.Sequence.{IsBetween, ended_by}
+use Rattle.papaya_histories.specs.Given.Seize.WaitingSets.{Change, Ends, Further, Sets, is_one_of}
+use Rattle.papaya_histories.specs.Given.Seize.World.{World, LeftTo, Event, Runs, Ends as EndsOwner, times, with_effect}
+use Rattle.papaya_histories.specs.Given.Seize.declared.rows.settle.Settled.{Settled}
+use Rattle.papaya_histories.specs.Given.SeizeWaiting.Held.{Every}
+use Rattle.papaya_histories.specs.Given.Tables.Nodes.{deferred_word}
+use Rattle.papaya_histories.specs.Given.Tables.declared.node.Node.{Node}
+use Rattle.papaya_histories.specs.Given.Tables.declared.node.Node.TheVariants as node
+use Rattle.papaya_histories.specs.Given.Raw.declared.machines.end_map.EndMap.{EndMap}
+use Rattle.papaya_histories.specs.Given.Schedules.After.{tables_taken}
+use Rattle.papaya_histories.specs.Given.Schedules.Lists.{is_in}
+use Rattle.papaya_histories.specs.Given.Schedules.Moment.{Moment}
+use Rattle.papaya_histories.specs.Given.Schedules.Things.{same_table}
+use Rattle.papaya_histories.specs.Given.Schedules.declared.effect.Effect.{Effect}
+use Rattle.papaya_histories.specs.Given.Schedules.declared.effect.Effect.TheVariants as effect
+use Rattle.papaya_histories.specs.Given.Schedules.declared.effect.Table.{Table}
+use Rattle.papaya_histories.specs.Given.Schedules.declared.effect.Thing.{Thing}
+use Rattle.papaya_histories.specs.Given.Schedules.declared.effect.Thing.TheVariants.{APair, ATable}
+use Rattle.papaya_histories.specs.Given.Teller.declared.changed.Changed.{Changed}
+use Rattle.papaya_histories.specs.Given.Teller.declared.changed.Changed.TheVariants as changed
+use Rattle.papaya_histories.specs.Given.Effects.Effects.{taken_by as what_was, effects_of, known_after}
+use Rattle.papaya_histories.specs.Given.Effects.Known.{Known, with_role}
+use Rattle.papaya_histories.specs.Given.Effects.declared.acting.Acting.{Acting}
+use Rattle.papaya_histories.specs.Given.Effects.declared.acting.Acting.TheVariants as acts
+use Rattle.papaya_histories.specs.Given.Effects.declared.role.Role.{Role}
+use Rattle.papaya_histories.specs.Given.Effects.declared.role.Role.TheVariants as role
+use Rattle.papaya_histories.specs.Given.Executor.Ending.{EndingStepsFrom, EndingComesTo}
+use Rattle.papaya_histories.specs.Given.Executor.IsAt.{Scene, IsAt, slot_of}
+use Rattle.papaya_histories.specs.Given.Executor.declared.executor.Executor.{Executor}
+use Rattle.papaya_histories.specs.Given.Finishes.Endings.{Finishing, StepsOfEnding}
+use Rattle.papaya_histories.specs.Given.Finishes.FactsEnds.{Deed, Looks, TakesPair, LeavesTable, JoinsPair, TakesLeft, TakesCounter, WritesRoot, events_of, taken_by, left_by}
+use Rattle.papaya_histories.specs.Given.Follows.Blocks.{HasRole, ShowsBlocks}
+use Rattle.papaya_histories.proofs.Given.Follows.Alike.{is_calm, AllCalm}
+use Rattle.papaya_histories.specs.Given.Moments.Whole.{ShowsWhole}
+use Rattle.papaya_histories.proofs.Given.Others.Ends.{says_or_takes, left}
 use Rattle.papaya_promises.specs.Sheltered.{IsOfThing}
-use Rattle.papaya_spots.proofs.Handing.{KeepsAll, AllKeep, calm_keep}
+use Rattle.papaya_histories.proofs.Given.Spots.Handing.{KeepsAll, AllKeep, calm_keep}
 use Rattle.papaya_models.specs.Alike.{FurtherAlike}
 use Rattle.papaya_models.specs.Ends.{IsOfEnd, AreOfEnd, WasTaken, FollowsInEnd, EndsBegin, EndsGoOn}
 use Rattle.papaya_models.specs.Follows.{FollowsSets}

@@ -2,15 +2,15 @@
 use Rattle.std.specs.Prelude.{flat_map, map, MatchBool}
 use Rattle.std.proofs.Common.{◌≡◌, Bool, true, false, List, [], ◌∷◌, ◌++◌, ap, sym, ◌∙◌}
 use Rattle.std.proofs.lemmas.List.{append-nil}
-use Rattle.seize.specs.WaitingSets.{Change, all_changed}
-use Rattle.papaya_tables.specs.Nodes.{deferred_word}
-use Rattle.papaya_schedules.specs.After.{after, moment}
-use Rattle.papaya_schedules.specs.Entry.{Entry}
-use Rattle.papaya_schedules.specs.Model.{IsByModel, came, thing_back, number_in, things_in, sets_in, changes_of, left_last, back_by_model}
-use Rattle.papaya_schedules.specs.Terms.{Terms}
-use Rattle.papaya_schedules.specs.declared.effect.Effect.{Effect}
-use Rattle.papaya_schedules.specs.declared.effect.Thing.{Thing}
-use Rattle.papaya_effects.specs.Known.{nothing_known}
+use Rattle.papaya_histories.specs.Given.Seize.WaitingSets.{Change, all_changed}
+use Rattle.papaya_histories.specs.Given.Tables.Nodes.{deferred_word}
+use Rattle.papaya_histories.specs.Given.Schedules.After.{after, moment}
+use Rattle.papaya_histories.specs.Given.Schedules.Entry.{Entry}
+use Rattle.papaya_histories.specs.Given.Schedules.Model.{IsByModel, came, thing_back, number_in, things_in, sets_in, changes_of, left_last, back_by_model}
+use Rattle.papaya_histories.specs.Given.Schedules.Terms.{Terms}
+use Rattle.papaya_histories.specs.Given.Schedules.declared.effect.Effect.{Effect}
+use Rattle.papaya_histories.specs.Given.Schedules.declared.effect.Thing.{Thing}
+use Rattle.papaya_histories.specs.Given.Effects.Known.{nothing_known}
 use Rattle.papaya_models.specs.Follows.{FollowsAtFirst, IdleEventsFollow}
 use Rattle.papaya_models.specs.Numbers.{HasNumber}
 use Rattle.papaya_models.proofs.Alike.Changed.{start_alike}

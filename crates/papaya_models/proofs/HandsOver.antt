@@ -4,67 +4,67 @@ use Rattle.std.proofs.Common.{◌≡◌, ℕ, ◌+◌, Bool, true, false, List, 
 use Rattle.std.proofs.lemmas.Bool.{eq-eqb, ne_eqb}
 use Rattle.std.proofs.lemmas.List.{append-nil}
 use Rattle.std.proofs.lemmas.List.Concat.{flat_map-cons}
-use Rattle.seize_words.specs.declared.at.At.TheVariants.{Entry}
-use Rattle.seize_words.specs.Mem.{Mem, same_at, value_at, word_at, with_word, Can, Took}
-use Rattle.seize_words.specs.Plan.{May, Steps}
-use Rattle.seize_words.specs.Word.{link_to, block_in}
-use Rattle.seize_words.proofs.OneOwner.AfterWrites.{placed}
-use Rattle.seize.specs.declared.states.TheConstants.{NEXT, FIRST, LAST_SLOT}
-use Rattle.seize.specs.declared.rows.settle.Settle.{Settle}
-use Rattle.seize.specs.declared.rows.settle.Settled.{Settled}
-use Rattle.seize.specs.declared.rows.settle.Settled.TheVariants as settled
-use Rattle.seize.specs.declared.rows.settle.Settling.{Settling}
-use Rattle.seize.specs.declared.rows.settle.Settling.TheVariants as at
-use Rattle.seize.specs.Settle.{settle_plan, plan_at, retiring}
-use Rattle.seize.specs.Sequence.{changes}
-use Rattle.seize.specs.WaitingSets.{Change, Retires}
-use Rattle.seize.specs.World.{World, Row, Rests, Registers, Enters, Settles, Leaves, Defers, Frees, Hand, Cutting, Request, Retire, Begin, Step, Begins, Happens, Steps', settles_on, at_start}
-use Rattle.seize_moves.proofs.State.Ghost.{IsUnlinked}
-use Rattle.seize_rule.proofs.Points.Aside.{HandFits}
-use Rattle.seize_rule.proofs.Points.Known.{FitsAt, bare, open_blocks}
-use Rattle.seize_rule.proofs.Points.Retire.{of_link, open_chain}
-use Rattle.seize_rule.proofs.Rows.Known.{FitsRow}
-use Rattle.seize_rule.proofs.Rows.Others.{with_here}
-use Rattle.seize_rule.proofs.Words.Chains.{Chain, first_or}
-use Rattle.seize_rule.proofs.Words.Named.{link, block_there}
-use Rattle.seize_rule.proofs.Words.Shows.{NextIs, lives}
-use Rattle.seize_rule.proofs.Words.There.{value_there}
-use Rattle.seize_rule.proofs.Words.View.{view}
-use Rattle.seize_rule.proofs.World.Good.{Good}
-use Rattle.seize_rule.proofs.World.Kept.{row_may}
-use Rattle.seize_rule.proofs.World.Start.{start_good}
-use Rattle.seize_alone.proofs.Histories.Reached.{Reached}
-use Rattle.papaya_tables.specs.Nodes.{deferred_word}
-use Rattle.papaya_tables.specs.declared.node.Node.{Node}
-use Rattle.papaya_teller.specs.declared.changed.Changed.{Changed}
-use Rattle.papaya_teller.specs.declared.changed.Changed.TheVariants as changed
-use Rattle.papaya_raw.specs.declared.machines.progress.Progress.{Progress}
-use Rattle.papaya_callers.specs.Together.{UnderWay, CameAbout}
-use Rattle.papaya_callers.proofs.Together.Came.{came_reached, came_next}
-use Rattle.papaya_effects.specs.Effects.{names_same, effects_of, known_after}
-use Rattle.papaya_effects.specs.Known.{Known}
-use Rattle.papaya_effects.specs.declared.acting.Acting.TheVariants.{Call}
-use Rattle.papaya_effects.specs.declared.role.Role.{Role}
-use Rattle.papaya_effects.specs.declared.role.Role.TheVariants as role
-use Rattle.papaya_executor.specs.IsAt.{Scene, IsAt}
-use Rattle.papaya_executor.specs.Stepping.{StepLeads}
-use Rattle.papaya_executor.specs.declared.executor.Executor.{Executor}
-use Rattle.papaya_follows.specs.Blocks.{HasRole}
-use Rattle.papaya_follows.proofs.Onward.{KeepsRoles}
-use Rattle.papaya_follows.proofs.Operations.{LeavesBy, Operated, operated_leaves}
-use Rattle.papaya_follows.proofs.Steps.{WentTo, went_to, made_so}
-use Rattle.papaya_hands.specs.Rows.{ReclaimsNone}
-use Rattle.papaya_hands.proofs.Guarded.{there_is}
-use Rattle.papaya_hands.proofs.Handing.{plan_aside, settle_aside}
-use Rattle.papaya_moments.specs.Whole.{ShowsWhole}
-use Rattle.papaya_schedules.specs.Model.{handing}
-use Rattle.papaya_schedules.specs.Moment.{Moment}
-use Rattle.papaya_schedules.specs.declared.effect.Effect.{Effect}
-use Rattle.papaya_schedules.specs.declared.effect.Effect.TheVariants as effect
-use Rattle.papaya_schedules.specs.declared.effect.Thing.{Thing}
-use Rattle.papaya_schedules.specs.declared.effect.Thing.TheVariants.{APair, ATable}
+use Rattle.papaya_histories.specs.Given.SeizeWords.declared.at.At.TheVariants.{Entry}
+use Rattle.papaya_histories.specs.Given.SeizeWords.Mem.{Mem, same_at, value_at, word_at, with_word, Can, Took}
+use Rattle.papaya_histories.specs.Given.SeizeWords.Plan.{May, Steps}
+use Rattle.papaya_histories.specs.Given.SeizeWords.Word.{link_to, block_in}
+use Rattle.papaya_histories.proofs.Given.SeizeWords.OneOwner.AfterWrites.{placed}
+use Rattle.papaya_histories.specs.Given.Seize.declared.states.TheConstants.{NEXT, FIRST, LAST_SLOT}
+use Rattle.papaya_histories.specs.Given.Seize.declared.rows.settle.Settle.{Settle}
+use Rattle.papaya_histories.specs.Given.Seize.declared.rows.settle.Settled.{Settled}
+use Rattle.papaya_histories.specs.Given.Seize.declared.rows.settle.Settled.TheVariants as settled
+use Rattle.papaya_histories.specs.Given.Seize.declared.rows.settle.Settling.{Settling}
+use Rattle.papaya_histories.specs.Given.Seize.declared.rows.settle.Settling.TheVariants as at
+use Rattle.papaya_histories.specs.Given.Seize.Settle.{settle_plan, plan_at, retiring}
+use Rattle.papaya_histories.specs.Given.Seize.Sequence.{changes}
+use Rattle.papaya_histories.specs.Given.Seize.WaitingSets.{Change, Retires}
+use Rattle.papaya_histories.specs.Given.Seize.World.{World, Row, Rests, Registers, Enters, Settles, Leaves, Defers, Frees, Hand, Cutting, Request, Retire, Begin, Step, Begins, Happens, Steps', settles_on, at_start}
+use Rattle.papaya_histories.proofs.Given.SeizeMoves.State.Ghost.{IsUnlinked}
+use Rattle.papaya_histories.proofs.Given.SeizeRule.Points.Aside.{HandFits}
+use Rattle.papaya_histories.proofs.Given.SeizeRule.Points.Known.{FitsAt, bare, open_blocks}
+use Rattle.papaya_histories.proofs.Given.SeizeRule.Points.Retire.{of_link, open_chain}
+use Rattle.papaya_histories.proofs.Given.SeizeRule.Rows.Known.{FitsRow}
+use Rattle.papaya_histories.proofs.Given.SeizeRule.Rows.Others.{with_here}
+use Rattle.papaya_histories.proofs.Given.SeizeRule.Words.Chains.{Chain, first_or}
+use Rattle.papaya_histories.proofs.Given.SeizeRule.Words.Named.{link, block_there}
+use Rattle.papaya_histories.proofs.Given.SeizeRule.Words.Shows.{NextIs, lives}
+use Rattle.papaya_histories.proofs.Given.SeizeRule.Words.There.{value_there}
+use Rattle.papaya_histories.proofs.Given.SeizeRule.Words.View.{view}
+use Rattle.papaya_histories.proofs.Given.SeizeRule.World.Good.{Good}
+use Rattle.papaya_histories.proofs.Given.SeizeRule.World.Kept.{row_may}
+use Rattle.papaya_histories.proofs.Given.SeizeRule.World.Start.{start_good}
+use Rattle.papaya_histories.proofs.Given.SeizeAlone.Histories.Reached.{Reached}
+use Rattle.papaya_histories.specs.Given.Tables.Nodes.{deferred_word}
+use Rattle.papaya_histories.specs.Given.Tables.declared.node.Node.{Node}
+use Rattle.papaya_histories.specs.Given.Teller.declared.changed.Changed.{Changed}
+use Rattle.papaya_histories.specs.Given.Teller.declared.changed.Changed.TheVariants as changed
+use Rattle.papaya_histories.specs.Given.Raw.declared.machines.progress.Progress.{Progress}
+use Rattle.papaya_histories.specs.Given.Callers.Together.{UnderWay, CameAbout}
+use Rattle.papaya_histories.proofs.Given.Callers.Together.Came.{came_reached, came_next}
+use Rattle.papaya_histories.specs.Given.Effects.Effects.{names_same, effects_of, known_after}
+use Rattle.papaya_histories.specs.Given.Effects.Known.{Known}
+use Rattle.papaya_histories.specs.Given.Effects.declared.acting.Acting.TheVariants.{Call}
+use Rattle.papaya_histories.specs.Given.Effects.declared.role.Role.{Role}
+use Rattle.papaya_histories.specs.Given.Effects.declared.role.Role.TheVariants as role
+use Rattle.papaya_histories.specs.Given.Executor.IsAt.{Scene, IsAt}
+use Rattle.papaya_histories.specs.Given.Executor.Stepping.{StepLeads}
+use Rattle.papaya_histories.specs.Given.Executor.declared.executor.Executor.{Executor}
+use Rattle.papaya_histories.specs.Given.Follows.Blocks.{HasRole}
+use Rattle.papaya_histories.proofs.Given.Follows.Onward.{KeepsRoles}
+use Rattle.papaya_histories.proofs.Given.Follows.Operations.{LeavesBy, Operated, operated_leaves}
+use Rattle.papaya_histories.proofs.Given.Follows.Steps.{WentTo, went_to, made_so}
+use Rattle.papaya_histories.specs.Given.Hands.Rows.{ReclaimsNone}
+use Rattle.papaya_histories.proofs.Given.Hands.Guarded.{there_is}
+use Rattle.papaya_histories.proofs.Given.Hands.Handing.{plan_aside, settle_aside}
+use Rattle.papaya_histories.specs.Given.Moments.Whole.{ShowsWhole}
+use Rattle.papaya_histories.specs.Given.Schedules.Model.{handing}
+use Rattle.papaya_histories.specs.Given.Schedules.Moment.{Moment}
+use Rattle.papaya_histories.specs.Given.Schedules.declared.effect.Effect.{Effect}
+use Rattle.papaya_histories.specs.Given.Schedules.declared.effect.Effect.TheVariants as effect
+use Rattle.papaya_histories.specs.Given.Schedules.declared.effect.Thing.{Thing}
+use Rattle.papaya_histories.specs.Given.Schedules.declared.effect.Thing.TheVariants.{APair, ATable}
 use Rattle.papaya_promises.specs.Sheltered.{IsOfThing}
-use Rattle.papaya_spots.proofs.Handing.{AllKeep}
+use Rattle.papaya_histories.proofs.Given.Spots.Handing.{AllKeep}
 use Rattle.papaya_models.specs.Alike.{ChangesAlike}
 use Rattle.papaya_models.specs.Numbers.{HasNumber, AreOfThings}
 use Rattle.papaya_models.specs.Retires.{IsToRetireAt, IsToRetire, IsPast, HasRetired, HasToldSo, RetiresAreTold, RetiringBegins, RetiringGoesOn}

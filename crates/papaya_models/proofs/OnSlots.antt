@@ -4,48 +4,48 @@ use Rattle.std.proofs.Common.{◌≡◌, ℕ, Bool, List, [], ◌∷◌, ◌++�
 use Rattle.std.proofs.lemmas.Grind.{flat_map-append}
 use Rattle.std.proofs.lemmas.List.{append-nil, append_cancel_left}
 use Rattle.std.proofs.lemmas.List.Concat.{flat_map-cons}
-use Rattle.seize_words.specs.Mem.{Mem, value_at}
-use Rattle.seize.specs.Law.{Effect as EffectOfWorld}
-use Rattle.seize.specs.Sequence.{taken_in, changes, new_slot, entered_as, entered_at}
-use Rattle.seize.specs.WaitingSets.{Change, ReclaimsAll, Sets, After, all_changed, at_start as sets_at_start}
-use Rattle.seize.specs.World.{World, Rests, Step, Begins, Use, Vacant, Outside, Inside, Changing, Request, Register', Enter', Leave', LeaveOwned, Refresh, Unregister', Retire, Flush, Defer'}
-use Rattle.seize_alone.proofs.Histories.Reached.{Reached}
-use Rattle.seize_alone.proofs.Whole.Midway.{taken_append}
-use Rattle.seize_sets.proofs.Turns.Append.{changed_append}
-use Rattle.papaya_callers.specs.Together.{IsOfSlots}
-use Rattle.papaya_callers.proofs.Together.Came.{came_reached}
-use Rattle.papaya_tables.specs.Nodes.{deferred_word}
-use Rattle.papaya_tables.specs.declared.node.Node.{Node}
-use Rattle.papaya_teller.specs.declared.changed.Changed.{Changed}
-use Rattle.papaya_teller.specs.declared.changed.Changed.TheVariants as changed
-use Rattle.papaya_schedules.specs.After.{moment}
-use Rattle.papaya_schedules.specs.Beginning.{at_work}
-use Rattle.papaya_schedules.specs.Entry.{Entry}
-use Rattle.papaya_schedules.specs.Model.{thing_back, number_in, changes_by, things_in, sets_in, changes_of, left_last}
-use Rattle.papaya_schedules.specs.Moment.{Moment}
-use Rattle.papaya_schedules.specs.Terms.{Terms}
-use Rattle.papaya_schedules.specs.declared.effect.Effect.{Effect}
-use Rattle.papaya_schedules.specs.declared.effect.Thing.{Thing}
-use Rattle.papaya_schedules.specs.declared.event.Event.{Event}
-use Rattle.papaya_schedules.specs.declared.event.Event.TheVariants as event
-use Rattle.papaya_schedules.specs.declared.outcome.Outcome.{Outcome}
-use Rattle.papaya_schedules.specs.declared.outcome.Outcome.TheVariants as outcome
-use Rattle.papaya_effects.specs.Effects.{effects_of, known_after}
-use Rattle.papaya_effects.specs.Known.{Known}
-use Rattle.papaya_effects.specs.declared.acting.Acting.TheVariants.{Row}
-use Rattle.papaya_effects.specs.declared.role.Role.{Role}
-use Rattle.papaya_effects.specs.declared.role.Role.TheVariants as role
-use Rattle.papaya_executor.specs.IsAt.{Scene, IsAt, slot_of, work_of}
-use Rattle.papaya_executor.specs.OnSlots.{RowSteps, HappensAt}
-use Rattle.papaya_executor.specs.declared.executor.Executor.{Executor}
-use Rattle.papaya_executor.specs.declared.row.RowTold.{RowTold}
-use Rattle.papaya_executor.specs.declared.row.SlotRow.{SlotRow}
-use Rattle.papaya_executor.specs.declared.worker.Work.TheVariants as work
-use Rattle.papaya_executor.proofs.OnSlots.{row_at, may_taken}
-use Rattle.papaya_follows.specs.Blocks.{HasRole, ShowsBlocks}
-use Rattle.papaya_follows.proofs.Operations.{LeavesBy, operated_leaves}
-use Rattle.papaya_others.proofs.RowPlans.{TellsRow, row_tells, row_operated}
-use Rattle.papaya_moments.proofs.OnSlots.{none_some}
+use Rattle.papaya_histories.specs.Given.SeizeWords.Mem.{Mem, value_at}
+use Rattle.papaya_histories.specs.Given.Seize.Law.{Effect as EffectOfWorld}
+use Rattle.papaya_histories.specs.Given.Seize.Sequence.{taken_in, changes, new_slot, entered_as, entered_at}
+use Rattle.papaya_histories.specs.Given.Seize.WaitingSets.{Change, ReclaimsAll, Sets, After, all_changed, at_start as sets_at_start}
+use Rattle.papaya_histories.specs.Given.Seize.World.{World, Rests, Step, Begins, Use, Vacant, Outside, Inside, Changing, Request, Register', Enter', Leave', LeaveOwned, Refresh, Unregister', Retire, Flush, Defer'}
+use Rattle.papaya_histories.proofs.Given.SeizeAlone.Histories.Reached.{Reached}
+use Rattle.papaya_histories.proofs.Given.SeizeAlone.Whole.Midway.{taken_append}
+use Rattle.papaya_histories.proofs.Given.SeizeSets.Turns.Append.{changed_append}
+use Rattle.papaya_histories.specs.Given.Callers.Together.{IsOfSlots}
+use Rattle.papaya_histories.proofs.Given.Callers.Together.Came.{came_reached}
+use Rattle.papaya_histories.specs.Given.Tables.Nodes.{deferred_word}
+use Rattle.papaya_histories.specs.Given.Tables.declared.node.Node.{Node}
+use Rattle.papaya_histories.specs.Given.Teller.declared.changed.Changed.{Changed}
+use Rattle.papaya_histories.specs.Given.Teller.declared.changed.Changed.TheVariants as changed
+use Rattle.papaya_histories.specs.Given.Schedules.After.{moment}
+use Rattle.papaya_histories.specs.Given.Schedules.Beginning.{at_work}
+use Rattle.papaya_histories.specs.Given.Schedules.Entry.{Entry}
+use Rattle.papaya_histories.specs.Given.Schedules.Model.{thing_back, number_in, changes_by, things_in, sets_in, changes_of, left_last}
+use Rattle.papaya_histories.specs.Given.Schedules.Moment.{Moment}
+use Rattle.papaya_histories.specs.Given.Schedules.Terms.{Terms}
+use Rattle.papaya_histories.specs.Given.Schedules.declared.effect.Effect.{Effect}
+use Rattle.papaya_histories.specs.Given.Schedules.declared.effect.Thing.{Thing}
+use Rattle.papaya_histories.specs.Given.Schedules.declared.event.Event.{Event}
+use Rattle.papaya_histories.specs.Given.Schedules.declared.event.Event.TheVariants as event
+use Rattle.papaya_histories.specs.Given.Schedules.declared.outcome.Outcome.{Outcome}
+use Rattle.papaya_histories.specs.Given.Schedules.declared.outcome.Outcome.TheVariants as outcome
+use Rattle.papaya_histories.specs.Given.Effects.Effects.{effects_of, known_after}
+use Rattle.papaya_histories.specs.Given.Effects.Known.{Known}
+use Rattle.papaya_histories.specs.Given.Effects.declared.acting.Acting.TheVariants.{Row}
+use Rattle.papaya_histories.specs.Given.Effects.declared.role.Role.{Role}
+use Rattle.papaya_histories.specs.Given.Effects.declared.role.Role.TheVariants as role
+use Rattle.papaya_histories.specs.Given.Executor.IsAt.{Scene, IsAt, slot_of, work_of}
+use Rattle.papaya_histories.specs.Given.Executor.OnSlots.{RowSteps, HappensAt}
+use Rattle.papaya_histories.specs.Given.Executor.declared.executor.Executor.{Executor}
+use Rattle.papaya_histories.specs.Given.Executor.declared.row.RowTold.{RowTold}
+use Rattle.papaya_histories.specs.Given.Executor.declared.row.SlotRow.{SlotRow}
+use Rattle.papaya_histories.specs.Given.Executor.declared.worker.Work.TheVariants as work
+use Rattle.papaya_histories.proofs.Given.Executor.OnSlots.{row_at, may_taken}
+use Rattle.papaya_histories.specs.Given.Follows.Blocks.{HasRole, ShowsBlocks}
+use Rattle.papaya_histories.proofs.Given.Follows.Operations.{LeavesBy, operated_leaves}
+use Rattle.papaya_histories.proofs.Given.Others.RowPlans.{TellsRow, row_tells, row_operated}
+use Rattle.papaya_histories.proofs.Given.Moments.OnSlots.{none_some}
 use Rattle.papaya_promises.specs.Sheltered.{IsOfThing}
 use Rattle.papaya_models.specs.Alike.{AreAlike, SetsAlike, AfterAlike, ChangesAlike}
 use Rattle.papaya_models.specs.Follows.{IsFollowed}

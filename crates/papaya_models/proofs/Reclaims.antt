@@ -1,18 +1,18 @@
 -- What a caller reclaims that reclaims all, alone, as it has done with slots.
 use Rattle.std.specs.Prelude.{Option}
 use Rattle.std.proofs.Common.{◌≡◌, ◌<◌, ◌^◌, ◌+◌, ℕ, Bool, List, ◌++◌, refl, ap, sym, subst, ◌∙◌}
-use Rattle.seize.specs.declared.states.TheConstants.{LAST_SLOT}
-use Rattle.seize.specs.WaitingSets.{Change, ReclaimsAll, Sets, After, all_reclaimed, at_start as sets_at_start}
-use Rattle.seize.specs.World.{World, at_start}
-use Rattle.seize_rule.proofs.World.Rested.{start_rested}
-use Rattle.seize_sets.specs.Reclaims.{Reclaims, NothingWaits}
-use Rattle.seize_sets.proofs.Reclaims.Calls.{reclaims_by_calls}
-use Rattle.seize_sets.proofs.Reclaims.Ends.{Left, all_left_so}
-use Rattle.seize_sets.proofs.Reclaims.NeverTaken.{turns_past}
-use Rattle.seize_sets.proofs.Turns.All.{turns_shown, start_shown}
-use Rattle.seize_sets.proofs.Turns.Append.{turns_append, changed_append}
-use Rattle.papaya_tables.specs.Nodes.{deferred_word}
-use Rattle.papaya_tables.specs.declared.node.Node.{Node}
+use Rattle.papaya_histories.specs.Given.Seize.declared.states.TheConstants.{LAST_SLOT}
+use Rattle.papaya_histories.specs.Given.Seize.WaitingSets.{Change, ReclaimsAll, Sets, After, all_reclaimed, at_start as sets_at_start}
+use Rattle.papaya_histories.specs.Given.Seize.World.{World, at_start}
+use Rattle.papaya_histories.proofs.Given.SeizeRule.World.Rested.{start_rested}
+use Rattle.papaya_histories.specs.Given.SeizeSets.Reclaims.{Reclaims, NothingWaits}
+use Rattle.papaya_histories.proofs.Given.SeizeSets.Reclaims.Calls.{reclaims_by_calls}
+use Rattle.papaya_histories.proofs.Given.SeizeSets.Reclaims.Ends.{Left, all_left_so}
+use Rattle.papaya_histories.proofs.Given.SeizeSets.Reclaims.NeverTaken.{turns_past}
+use Rattle.papaya_histories.proofs.Given.SeizeSets.Turns.All.{turns_shown, start_shown}
+use Rattle.papaya_histories.proofs.Given.SeizeSets.Turns.Append.{turns_append, changed_append}
+use Rattle.papaya_histories.specs.Given.Tables.Nodes.{deferred_word}
+use Rattle.papaya_histories.specs.Given.Tables.declared.node.Node.{Node}
 use Rattle.papaya_models.specs.Alike.{SetsAlike}
 use Rattle.papaya_models.specs.Numbers.{HasNumber}
 use Rattle.papaya_models.specs.Reclaims.{HasReclaimed, SlotsReclaim, ReclaimingFollows}

@@ -1,30 +1,30 @@
 -- Events of calls, where they come one after another: what a call hands over changes the waiting sets of blocks as it does those of the model, once its row
 -- has run.
 use Rattle.std.specs.Prelude.{◌≡◌, ◌≢◌, ◌≤◌, ◌<◌, ◌^◌, ℕ, Bool, List, [], ◌∷◌, ◌++◌, flat_map, Some}
-use Rattle.seize.specs.Sequence.{changes}
-use Rattle.seize.specs.WaitingSets.{Change, Sets, all_changed}
-use Rattle.seize.specs.World.{World, Rests, Request, IsInside}
-use Rattle.seize_waiting.specs.Held.{count}
-use Rattle.papaya_raw.specs.declared.machines.progress.Progress.{Progress}
-use Rattle.papaya_tables.specs.Nodes.{deferred_word}
-use Rattle.papaya_tables.specs.declared.node.Node.{Node}
-use Rattle.papaya_schedules.specs.After.{moment}
-use Rattle.papaya_schedules.specs.Entry.{Entry}
-use Rattle.papaya_schedules.specs.Model.{IsByModel, thing_back, handing, things_in, sets_in, changes_of, left_last}
-use Rattle.papaya_schedules.specs.Moment.{Moment}
-use Rattle.papaya_schedules.specs.Terms.{Terms}
-use Rattle.papaya_schedules.specs.declared.effect.Effect.{Effect}
-use Rattle.papaya_schedules.specs.declared.effect.Effect.TheVariants.{Taken}
-use Rattle.papaya_schedules.specs.declared.effect.Thing.{Thing}
-use Rattle.papaya_callers.specs.Together.{UnderWay}
-use Rattle.papaya_effects.specs.Effects.{effects_of, known_after}
-use Rattle.papaya_effects.specs.Known.{Known}
-use Rattle.papaya_effects.specs.declared.acting.Acting.TheVariants.{Call}
-use Rattle.papaya_executor.specs.IsAt.{Scene, IsAt}
-use Rattle.papaya_executor.specs.Stepping.{StepLeads}
-use Rattle.papaya_executor.specs.declared.executor.Executor.{Executor}
-use Rattle.papaya_follows.specs.Steps.{IsOfNoRow}
-use Rattle.papaya_moments.specs.Whole.{ShowsWhole}
+use Rattle.papaya_histories.specs.Given.Seize.Sequence.{changes}
+use Rattle.papaya_histories.specs.Given.Seize.WaitingSets.{Change, Sets, all_changed}
+use Rattle.papaya_histories.specs.Given.Seize.World.{World, Rests, Request, IsInside}
+use Rattle.papaya_histories.specs.Given.SeizeWaiting.Held.{count}
+use Rattle.papaya_histories.specs.Given.Raw.declared.machines.progress.Progress.{Progress}
+use Rattle.papaya_histories.specs.Given.Tables.Nodes.{deferred_word}
+use Rattle.papaya_histories.specs.Given.Tables.declared.node.Node.{Node}
+use Rattle.papaya_histories.specs.Given.Schedules.After.{moment}
+use Rattle.papaya_histories.specs.Given.Schedules.Entry.{Entry}
+use Rattle.papaya_histories.specs.Given.Schedules.Model.{IsByModel, thing_back, handing, things_in, sets_in, changes_of, left_last}
+use Rattle.papaya_histories.specs.Given.Schedules.Moment.{Moment}
+use Rattle.papaya_histories.specs.Given.Schedules.Terms.{Terms}
+use Rattle.papaya_histories.specs.Given.Schedules.declared.effect.Effect.{Effect}
+use Rattle.papaya_histories.specs.Given.Schedules.declared.effect.Effect.TheVariants.{Taken}
+use Rattle.papaya_histories.specs.Given.Schedules.declared.effect.Thing.{Thing}
+use Rattle.papaya_histories.specs.Given.Callers.Together.{UnderWay}
+use Rattle.papaya_histories.specs.Given.Effects.Effects.{effects_of, known_after}
+use Rattle.papaya_histories.specs.Given.Effects.Known.{Known}
+use Rattle.papaya_histories.specs.Given.Effects.declared.acting.Acting.TheVariants.{Call}
+use Rattle.papaya_histories.specs.Given.Executor.IsAt.{Scene, IsAt}
+use Rattle.papaya_histories.specs.Given.Executor.Stepping.{StepLeads}
+use Rattle.papaya_histories.specs.Given.Executor.declared.executor.Executor.{Executor}
+use Rattle.papaya_histories.specs.Given.Follows.Steps.{IsOfNoRow}
+use Rattle.papaya_histories.specs.Given.Moments.Whole.{ShowsWhole}
 use Rattle.papaya_models.specs.Alike.{SetsAlike, ChangesAlike}
 use Rattle.papaya_models.specs.Follows.{FollowsSets}
 use Rattle.papaya_models.specs.Numbers.{HasNumber, EachIsOnce}

@@ -1,15 +1,15 @@
 -- A caller that reclaims all, alone: its work on slots, by the waiting sets of blocks, and by those of the model.
 use Rattle.std.specs.Prelude.{◌≡◌, ◌<◌, ◌^◌, ℕ, Bool, List, ◌++◌, Option}
-use Rattle.seize_words.specs.Mem.{Mem}
-use Rattle.seize.specs.ReclaimAll.{reclaiming_all}
-use Rattle.seize.specs.Sequence.{taken_in}
-use Rattle.seize.specs.WaitingSets.{Change, Sets, all_reclaimed}
-use Rattle.seize.specs.World.{World}
-use Rattle.seize_sets.specs.Reclaims.{RunsOnSlots, NothingWaits}
-use Rattle.papaya_tables.specs.Nodes.{deferred_word}
-use Rattle.papaya_tables.specs.declared.node.Node.{Node}
-use Rattle.papaya_effects.specs.Known.{Known}
-use Rattle.papaya_schedules.specs.declared.effect.Thing.{Thing}
+use Rattle.papaya_histories.specs.Given.SeizeWords.Mem.{Mem}
+use Rattle.papaya_histories.specs.Given.Seize.ReclaimAll.{reclaiming_all}
+use Rattle.papaya_histories.specs.Given.Seize.Sequence.{taken_in}
+use Rattle.papaya_histories.specs.Given.Seize.WaitingSets.{Change, Sets, all_reclaimed}
+use Rattle.papaya_histories.specs.Given.Seize.World.{World}
+use Rattle.papaya_histories.specs.Given.SeizeSets.Reclaims.{RunsOnSlots, NothingWaits}
+use Rattle.papaya_histories.specs.Given.Tables.Nodes.{deferred_word}
+use Rattle.papaya_histories.specs.Given.Tables.declared.node.Node.{Node}
+use Rattle.papaya_histories.specs.Given.Effects.Known.{Known}
+use Rattle.papaya_histories.specs.Given.Schedules.declared.effect.Thing.{Thing}
 use Rattle.papaya_models.specs.Alike.{AreAlike, SetsAlike}
 use Rattle.papaya_models.specs.Follows.{FollowsSets}
 use Rattle.papaya_models.specs.Numbers.{HasNumber, EachIsOnce}

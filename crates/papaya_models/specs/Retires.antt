@@ -1,28 +1,28 @@
 -- Rows within calls that retire a block: such a row tells that the thing in it is retired, just once.
 use Rattle.std.specs.Prelude.{◌≡◌, ◌≢◌, ◌⊎◌, ℕ, Bool, Some, List, [], ◌∷◌, ◌++◌, flat_map}
-use Rattle.seize_words.specs.declared.at.At.TheVariants.{Entry}
-use Rattle.seize_words.specs.Mem.{word_at}
-use Rattle.seize_words.specs.Word.{link_to}
-use Rattle.seize.specs.Sequence.{changes}
-use Rattle.seize.specs.WaitingSets.{Change, Retires}
-use Rattle.seize.specs.World.{World, Row, Rests, Settles, Use, Request, Retire}
-use Rattle.seize.specs.declared.rows.settle.Settle.{Settle}
-use Rattle.seize.specs.declared.rows.settle.Settling.{Settling}
-use Rattle.seize.specs.declared.rows.settle.Settling.TheVariants as at
-use Rattle.seize.specs.declared.states.TheConstants.{NEXT, FIRST}
-use Rattle.papaya_raw.specs.declared.machines.progress.Progress.{Progress}
-use Rattle.papaya_tables.specs.declared.node.Node.{Node}
-use Rattle.papaya_callers.specs.Together.{UnderWay}
-use Rattle.papaya_effects.specs.Effects.{effects_of, known_after}
-use Rattle.papaya_effects.specs.Known.{Known}
-use Rattle.papaya_effects.specs.declared.acting.Acting.TheVariants.{Call}
-use Rattle.papaya_executor.specs.IsAt.{Scene, IsAt}
-use Rattle.papaya_executor.specs.Stepping.{StepLeads}
-use Rattle.papaya_executor.specs.declared.executor.Executor.{Executor}
-use Rattle.papaya_moments.specs.Whole.{ShowsWhole}
-use Rattle.papaya_schedules.specs.Model.{handing}
-use Rattle.papaya_schedules.specs.Moment.{Moment}
-use Rattle.papaya_schedules.specs.declared.effect.Thing.{Thing}
+use Rattle.papaya_histories.specs.Given.SeizeWords.declared.at.At.TheVariants.{Entry}
+use Rattle.papaya_histories.specs.Given.SeizeWords.Mem.{word_at}
+use Rattle.papaya_histories.specs.Given.SeizeWords.Word.{link_to}
+use Rattle.papaya_histories.specs.Given.Seize.Sequence.{changes}
+use Rattle.papaya_histories.specs.Given.Seize.WaitingSets.{Change, Retires}
+use Rattle.papaya_histories.specs.Given.Seize.World.{World, Row, Rests, Settles, Use, Request, Retire}
+use Rattle.papaya_histories.specs.Given.Seize.declared.rows.settle.Settle.{Settle}
+use Rattle.papaya_histories.specs.Given.Seize.declared.rows.settle.Settling.{Settling}
+use Rattle.papaya_histories.specs.Given.Seize.declared.rows.settle.Settling.TheVariants as at
+use Rattle.papaya_histories.specs.Given.Seize.declared.states.TheConstants.{NEXT, FIRST}
+use Rattle.papaya_histories.specs.Given.Raw.declared.machines.progress.Progress.{Progress}
+use Rattle.papaya_histories.specs.Given.Tables.declared.node.Node.{Node}
+use Rattle.papaya_histories.specs.Given.Callers.Together.{UnderWay}
+use Rattle.papaya_histories.specs.Given.Effects.Effects.{effects_of, known_after}
+use Rattle.papaya_histories.specs.Given.Effects.Known.{Known}
+use Rattle.papaya_histories.specs.Given.Effects.declared.acting.Acting.TheVariants.{Call}
+use Rattle.papaya_histories.specs.Given.Executor.IsAt.{Scene, IsAt}
+use Rattle.papaya_histories.specs.Given.Executor.Stepping.{StepLeads}
+use Rattle.papaya_histories.specs.Given.Executor.declared.executor.Executor.{Executor}
+use Rattle.papaya_histories.specs.Given.Moments.Whole.{ShowsWhole}
+use Rattle.papaya_histories.specs.Given.Schedules.Model.{handing}
+use Rattle.papaya_histories.specs.Given.Schedules.Moment.{Moment}
+use Rattle.papaya_histories.specs.Given.Schedules.declared.effect.Thing.{Thing}
 use Rattle.papaya_models.specs.Alike.{ChangesAlike}
 use Rattle.papaya_models.specs.Calls.{OfNoRow}
 use Rattle.papaya_models.specs.Numbers.{HasNumber}

@@ -2,34 +2,34 @@
 use Rattle.std.specs.Prelude.{◌≡◌, ℕ, ◌<◌, ◌≤◌, ◌==◌, Bool, true, List, length, find, Option, Some, None, IsSome, ◌⊎◌}
 use Rattle.std.specs.Int.{IsPowerOfTwo}
 use Rattle.std.proofs.Common.{refl, ap, sym, subst, ◌∙◌, inl, inr}
-use Rattle.seize_words.specs.Mem.{value_at}
-use Rattle.seize_words.specs.Word.{block_in}
-use Rattle.seize.specs.World.{InUse}
-use Rattle.papaya_tables.specs.declared.node.Node.{Node}
-use Rattle.papaya_runs.specs.Same.{is_same}
-use Rattle.papaya_raw.specs.declared.machines.asking.Asking.{Asking as AskingAt}
-use Rattle.papaya_raw.specs.declared.machines.asking.Asking.TheVariants as asking
-use Rattle.papaya_raw.specs.declared.machines.call.Calling.TheVariants as at
-use Rattle.papaya_schedules.specs.declared.call.Call.{Call}
-use Rattle.papaya_schedules.specs.declared.call.Call.TheVariants as call
-use Rattle.papaya_schedules.specs.declared.effect.Table.{Table}
-use Rattle.papaya_schedules.specs.Moment.{InMap, MapThere, UnderWay as CallThere, Moment}
-use Rattle.papaya_schedules.specs.Views.{is_in_a_map, map_at, call_of}
-use Rattle.papaya_rule.specs.Chart.{Chart, Still}
-use Rattle.papaya_rule.specs.Words.{byte_of}
-use Rattle.papaya_rule.proofs.Laws.{words_name_pairs, bytes_are_few}
-use Rattle.papaya_points.specs.Steps.{AreLawful}
-use Rattle.papaya_callers.specs.Sights.{seen_by}
-use Rattle.papaya_callers.specs.Together.{CallOnKey, UnderWay, OnKey, ForRoom, Counting, OverAll, AsksAbout, Together}
-use Rattle.papaya_callers.proofs.Together.Replies.{replies_stand_together}
-use Rattle.papaya_effects.specs.Known.{Known}
-use Rattle.papaya_effects.specs.declared.role.Role.TheVariants as role
-use Rattle.papaya_executor.specs.IsAt.{Scene, IsAt, slot_of}
-use Rattle.papaya_executor.specs.declared.executor.Executor.{Executor}
-use Rattle.papaya_finishes.specs.Maps.{Standing}
-use Rattle.papaya_follows.specs.Blocks.{HasRole}
-use Rattle.papaya_follows.specs.Shows.{Shows}
-use Rattle.papaya_follows.proofs.Onward.{IsOfMap}
+use Rattle.papaya_others.specs.Given.SeizeWords.Mem.{value_at}
+use Rattle.papaya_others.specs.Given.SeizeWords.Word.{block_in}
+use Rattle.papaya_others.specs.Given.Seize.World.{InUse}
+use Rattle.papaya_others.specs.Given.Tables.declared.node.Node.{Node}
+use Rattle.papaya_others.specs.Given.Runs.Same.{is_same}
+use Rattle.papaya_others.specs.Given.Raw.declared.machines.asking.Asking.{Asking as AskingAt}
+use Rattle.papaya_others.specs.Given.Raw.declared.machines.asking.Asking.TheVariants as asking
+use Rattle.papaya_others.specs.Given.Raw.declared.machines.call.Calling.TheVariants as at
+use Rattle.papaya_others.specs.Given.Schedules.declared.call.Call.{Call}
+use Rattle.papaya_others.specs.Given.Schedules.declared.call.Call.TheVariants as call
+use Rattle.papaya_others.specs.Given.Schedules.declared.effect.Table.{Table}
+use Rattle.papaya_others.specs.Given.Schedules.Moment.{InMap, MapThere, UnderWay as CallThere, Moment}
+use Rattle.papaya_others.specs.Given.Schedules.Views.{is_in_a_map, map_at, call_of}
+use Rattle.papaya_others.specs.Given.Rule.Chart.{Chart, Still}
+use Rattle.papaya_others.specs.Given.Rule.Words.{byte_of}
+use Rattle.papaya_others.proofs.Given.Rule.Laws.{words_name_pairs, bytes_are_few}
+use Rattle.papaya_others.specs.Given.Points.Steps.{AreLawful}
+use Rattle.papaya_others.specs.Given.Callers.Sights.{seen_by}
+use Rattle.papaya_others.specs.Given.Callers.Together.{CallOnKey, UnderWay, OnKey, ForRoom, Counting, OverAll, AsksAbout, Together}
+use Rattle.papaya_others.proofs.Given.Callers.Together.Replies.{replies_stand_together}
+use Rattle.papaya_others.specs.Given.Effects.Known.{Known}
+use Rattle.papaya_others.specs.Given.Effects.declared.role.Role.TheVariants as role
+use Rattle.papaya_others.specs.Given.Executor.IsAt.{Scene, IsAt, slot_of}
+use Rattle.papaya_others.specs.Given.Executor.declared.executor.Executor.{Executor}
+use Rattle.papaya_others.specs.Given.Finishes.Maps.{Standing}
+use Rattle.papaya_others.specs.Given.Follows.Blocks.{HasRole}
+use Rattle.papaya_others.specs.Given.Follows.Shows.{Shows}
+use Rattle.papaya_others.proofs.Given.Follows.Onward.{IsOfMap}
 use Rattle.papaya_hands.specs.Asked.{IsQuestion, IsAskedAs, IsAsked, ShowsAsked}
 use Rattle.papaya_hands.specs.Hands.{IsInUse, ShowsHands}
 use Rattle.papaya_hands.proofs.HandsOn.{in_one}

@@ -1,21 +1,21 @@
 -- Calls keep all that a moment shows.
 use Rattle.std.specs.Prelude.{◌≡◌, ℕ, Bool, List, Some, ◌⊎◌}
 use Rattle.std.proofs.Common.{inl, inr}
-use Rattle.papaya_tables.specs.declared.node.Node.{Node}
-use Rattle.papaya_raw.specs.declared.machines.progress.Progress.{Progress}
-use Rattle.papaya_schedules.specs.Beginning.{with_call}
-use Rattle.papaya_schedules.specs.Effects.{with_effects}
-use Rattle.papaya_schedules.specs.Moment.{Moment}
-use Rattle.papaya_callers.specs.Together.{UnderWay, OnKey, ForRoom, Counting, OverAll}
-use Rattle.papaya_effects.specs.Effects.{effects_of, known_after}
-use Rattle.papaya_effects.specs.Known.{Known}
-use Rattle.papaya_effects.specs.declared.acting.Acting.TheVariants as acts
-use Rattle.papaya_executor.specs.IsAt.{Scene, IsAt}
-use Rattle.papaya_executor.specs.Stepping.{StepLeads, scene_after}
-use Rattle.papaya_executor.specs.declared.executor.Executor.{Executor}
-use Rattle.papaya_follows.specs.Calling.{told, come_to}
-use Rattle.papaya_follows.specs.Steps.{TakesNone}
-use Rattle.papaya_follows.proofs.Steps.{WentTo, went_to, DidSo, OfNoRow}
+use Rattle.papaya_others.specs.Given.Tables.declared.node.Node.{Node}
+use Rattle.papaya_others.specs.Given.Raw.declared.machines.progress.Progress.{Progress}
+use Rattle.papaya_others.specs.Given.Schedules.Beginning.{with_call}
+use Rattle.papaya_others.specs.Given.Schedules.Effects.{with_effects}
+use Rattle.papaya_others.specs.Given.Schedules.Moment.{Moment}
+use Rattle.papaya_others.specs.Given.Callers.Together.{UnderWay, OnKey, ForRoom, Counting, OverAll}
+use Rattle.papaya_others.specs.Given.Effects.Effects.{effects_of, known_after}
+use Rattle.papaya_others.specs.Given.Effects.Known.{Known}
+use Rattle.papaya_others.specs.Given.Effects.declared.acting.Acting.TheVariants as acts
+use Rattle.papaya_others.specs.Given.Executor.IsAt.{Scene, IsAt}
+use Rattle.papaya_others.specs.Given.Executor.Stepping.{StepLeads, scene_after}
+use Rattle.papaya_others.specs.Given.Executor.declared.executor.Executor.{Executor}
+use Rattle.papaya_others.specs.Given.Follows.Calling.{told, come_to}
+use Rattle.papaya_others.specs.Given.Follows.Steps.{TakesNone}
+use Rattle.papaya_others.proofs.Given.Follows.Steps.{WentTo, went_to, DidSo, OfNoRow}
 use Rattle.papaya_hands.specs.Shows.{ShowsAll}
 use Rattle.papaya_hands.proofs.Beginning.{runs_begin_so}
 use Rattle.papaya_hands.proofs.Calling.{calls_begin_for, calls_come_to_so}

@@ -3,36 +3,36 @@ use Rattle.std.specs.Prelude.{◌≡◌, ℕ, zero, suc, Bool, true, ◌&&◌, L
 use Rattle.std.specs.List.{list_any}
 use Rattle.std.proofs.Common.{refl, ap, sym, subst, ◌∙◌, arith, inl, inr}
 use Rattle.std.proofs.lemmas.Bool.{cases_eq}
-use Rattle.seize_words.specs.Mem.{value_at}
-use Rattle.seize.specs.World.{World, with_at, times}
-use Rattle.seize.specs.declared.rows.settle.Settled.{Settled}
-use Rattle.seize.specs.declared.rows.settle.Settled.TheVariants as settled
-use Rattle.papaya_tables.specs.declared.node.Node.{Node}
-use Rattle.papaya_raw.specs.declared.machines.end_map.EndMap.{EndMap}
-use Rattle.papaya_schedules.specs.declared.effect.Effect.{Effect}
-use Rattle.papaya_schedules.specs.declared.effect.Effect.TheVariants.{Stored, Deferred, Taken}
-use Rattle.papaya_schedules.specs.Effects.{with_effect, with_effects, AtEachEffect}
-use Rattle.papaya_schedules.specs.Moment.{Place, Left, GivenBack, IsTaken, Moment}
-use Rattle.papaya_schedules.specs.Things.{same_table}
-use Rattle.papaya_schedules.specs.Views.{behind, is_there}
-use Rattle.papaya_teller.specs.declared.changed.Changed.{Changed}
-use Rattle.papaya_teller.specs.declared.changed.Changed.TheVariants as changed
-use Rattle.papaya_callers.proofs.Together.At.{at_other, at_same}
-use Rattle.papaya_effects.specs.Effects.{taken_by, effects_of, known_after}
-use Rattle.papaya_effects.specs.Known.{Known, with_role}
-use Rattle.papaya_effects.specs.declared.acting.Acting.{Acting}
-use Rattle.papaya_effects.specs.declared.acting.Acting.TheVariants.{Ending}
-use Rattle.papaya_effects.specs.declared.role.Role.{Role}
-use Rattle.papaya_effects.specs.declared.role.Role.TheVariants as role
-use Rattle.papaya_executor.specs.Ending.{EndingStepsFrom, EndingComesTo, ending_begun}
-use Rattle.papaya_executor.specs.IsAt.{Scene, IsAt, slot_of}
-use Rattle.papaya_executor.specs.declared.executor.Executor.{Executor}
-use Rattle.papaya_finishes.specs.Endings.{Finishing, StepsOfEnding}
-use Rattle.papaya_finishes.specs.FactsEnds.{taken_by as taken_of, left_by}
-use Rattle.papaya_finishes.specs.Maps.{Standing}
-use Rattle.papaya_follows.proofs.Alike.{is_calm, AllCalm, AreSame, calm_still, put_elsewhere}
-use Rattle.papaya_follows.proofs.Onward.{IsOfMap}
-use Rattle.papaya_follows.proofs.Operations.{LeavesBy}
+use Rattle.papaya_others.specs.Given.SeizeWords.Mem.{value_at}
+use Rattle.papaya_others.specs.Given.Seize.World.{World, with_at, times}
+use Rattle.papaya_others.specs.Given.Seize.declared.rows.settle.Settled.{Settled}
+use Rattle.papaya_others.specs.Given.Seize.declared.rows.settle.Settled.TheVariants as settled
+use Rattle.papaya_others.specs.Given.Tables.declared.node.Node.{Node}
+use Rattle.papaya_others.specs.Given.Raw.declared.machines.end_map.EndMap.{EndMap}
+use Rattle.papaya_others.specs.Given.Schedules.declared.effect.Effect.{Effect}
+use Rattle.papaya_others.specs.Given.Schedules.declared.effect.Effect.TheVariants.{Stored, Deferred, Taken}
+use Rattle.papaya_others.specs.Given.Schedules.Effects.{with_effect, with_effects, AtEachEffect}
+use Rattle.papaya_others.specs.Given.Schedules.Moment.{Place, Left, GivenBack, IsTaken, Moment}
+use Rattle.papaya_others.specs.Given.Schedules.Things.{same_table}
+use Rattle.papaya_others.specs.Given.Schedules.Views.{behind, is_there}
+use Rattle.papaya_others.specs.Given.Teller.declared.changed.Changed.{Changed}
+use Rattle.papaya_others.specs.Given.Teller.declared.changed.Changed.TheVariants as changed
+use Rattle.papaya_others.proofs.Given.Callers.Together.At.{at_other, at_same}
+use Rattle.papaya_others.specs.Given.Effects.Effects.{taken_by, effects_of, known_after}
+use Rattle.papaya_others.specs.Given.Effects.Known.{Known, with_role}
+use Rattle.papaya_others.specs.Given.Effects.declared.acting.Acting.{Acting}
+use Rattle.papaya_others.specs.Given.Effects.declared.acting.Acting.TheVariants.{Ending}
+use Rattle.papaya_others.specs.Given.Effects.declared.role.Role.{Role}
+use Rattle.papaya_others.specs.Given.Effects.declared.role.Role.TheVariants as role
+use Rattle.papaya_others.specs.Given.Executor.Ending.{EndingStepsFrom, EndingComesTo, ending_begun}
+use Rattle.papaya_others.specs.Given.Executor.IsAt.{Scene, IsAt, slot_of}
+use Rattle.papaya_others.specs.Given.Executor.declared.executor.Executor.{Executor}
+use Rattle.papaya_others.specs.Given.Finishes.Endings.{Finishing, StepsOfEnding}
+use Rattle.papaya_others.specs.Given.Finishes.FactsEnds.{taken_by as taken_of, left_by}
+use Rattle.papaya_others.specs.Given.Finishes.Maps.{Standing}
+use Rattle.papaya_others.proofs.Given.Follows.Alike.{is_calm, AllCalm, AreSame, calm_still, put_elsewhere}
+use Rattle.papaya_others.proofs.Given.Follows.Onward.{IsOfMap}
+use Rattle.papaya_others.proofs.Given.Follows.Operations.{LeavesBy}
 use Rattle.papaya_hands.specs.Hands.{IsInUse}
 use Rattle.papaya_hands.specs.Rows.{ShowsRows}
 use Rattle.papaya_hands.proofs.Others.{endings_begin_aside, endings_go_aside}

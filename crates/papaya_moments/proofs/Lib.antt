@@ -12,3 +12,4 @@ pub mod WholeEnds
 pub mod Calls
 pub mod Walks
 pub mod Roles
+pub mod Given

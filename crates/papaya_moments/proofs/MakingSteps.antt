@@ -2,39 +2,39 @@
 use Rattle.std.specs.Prelude.{◌≡◌, ℕ, ◌<◌, ◌≤◌, Bool, true, false, List, [], ◌∷◌, Option, Some, None, IsSome, if◌then◌else◌, ◌⊎◌}
 use Rattle.std.proofs.Common.{refl, ap, sym, subst, ◌∙◌, inl, inr, arith}
 use Rattle.std.proofs.lemmas.Bool.{cases_eq}
-use Rattle.seize_words.specs.Mem.{value_at}
-use Rattle.seize_words.specs.Word.{block_in}
-use Rattle.seize_words.specs.declared.at.At.TheVariants.{Root, Used, Slot, Entry, Word}
-use Rattle.seize.specs.World.{World, Hand, NoBlock, Making, InUse, Parting, Cutting, Handed, LeftTo, with_at}
-use Rattle.seize.specs.declared.progress.Progress.{Progress}
-use Rattle.seize.specs.declared.progress.Progress.TheVariants as progress
-use Rattle.papaya_tables.specs.declared.node.Node.{Node}
-use Rattle.papaya_tables.specs.declared.setting.Setting.{Setting}
-use Rattle.papaya_resize.specs.declared.new_map.NewMap.{NewMap}
-use Rattle.papaya_runs.specs.declared.outcome.TableShape.{TableShape}
-use Rattle.papaya_schedules.specs.declared.effect.Effect.TheVariants.{Linked}
-use Rattle.papaya_schedules.specs.Effects.{with_effects}
-use Rattle.papaya_schedules.specs.Moment.{Moment}
-use Rattle.papaya_teller.specs.declared.changed.Changed.{Changed}
-use Rattle.papaya_teller.specs.declared.changed.Changed.TheVariants as changed
-use Rattle.papaya_rule.specs.InWorld.{IsOut, IsMapIn}
-use Rattle.papaya_callers.proofs.Together.At.{at_other, at_same}
-use Rattle.papaya_finishes.specs.Endings.{MakingStepsAmong}
-use Rattle.papaya_finishes.specs.Makings.{Beginning, IsMade}
-use Rattle.papaya_finishes.specs.Maps.{Standing}
-use Rattle.papaya_effects.specs.Effects.{table_at, made_role, taken_by, led_to, linked_on, named, names_same, effects_of, known_after}
-use Rattle.papaya_effects.specs.Known.{Known, with_role}
-use Rattle.papaya_effects.specs.declared.acting.Acting.{Acting}
-use Rattle.papaya_effects.specs.declared.acting.Acting.TheVariants as acts
-use Rattle.papaya_effects.specs.declared.role.Role.{Role}
-use Rattle.papaya_effects.specs.declared.role.Role.TheVariants as role
-use Rattle.papaya_executor.specs.IsAt.{Scene, IsAt, slot_of}
-use Rattle.papaya_executor.specs.Making.{MakingLeads, MakingStepsFrom}
-use Rattle.papaya_executor.specs.declared.executor.Executor.{Executor}
-use Rattle.papaya_follows.proofs.Alike.{AllStill, calm_still, put_here, put_elsewhere}
-use Rattle.papaya_follows.proofs.Onward.{IsOfMap}
-use Rattle.papaya_follows.proofs.Operations.{LeavesBy}
-use Rattle.papaya_follows.proofs.Steps.{one_of}
+use Rattle.papaya_others.specs.Given.SeizeWords.Mem.{value_at}
+use Rattle.papaya_others.specs.Given.SeizeWords.Word.{block_in}
+use Rattle.papaya_others.specs.Given.SeizeWords.declared.at.At.TheVariants.{Root, Used, Slot, Entry, Word}
+use Rattle.papaya_others.specs.Given.Seize.World.{World, Hand, NoBlock, Making, InUse, Parting, Cutting, Handed, LeftTo, with_at}
+use Rattle.papaya_others.specs.Given.Seize.declared.progress.Progress.{Progress}
+use Rattle.papaya_others.specs.Given.Seize.declared.progress.Progress.TheVariants as progress
+use Rattle.papaya_others.specs.Given.Tables.declared.node.Node.{Node}
+use Rattle.papaya_others.specs.Given.Tables.declared.setting.Setting.{Setting}
+use Rattle.papaya_others.specs.Given.Resize.declared.new_map.NewMap.{NewMap}
+use Rattle.papaya_others.specs.Given.Runs.declared.outcome.TableShape.{TableShape}
+use Rattle.papaya_others.specs.Given.Schedules.declared.effect.Effect.TheVariants.{Linked}
+use Rattle.papaya_others.specs.Given.Schedules.Effects.{with_effects}
+use Rattle.papaya_others.specs.Given.Schedules.Moment.{Moment}
+use Rattle.papaya_others.specs.Given.Teller.declared.changed.Changed.{Changed}
+use Rattle.papaya_others.specs.Given.Teller.declared.changed.Changed.TheVariants as changed
+use Rattle.papaya_others.specs.Given.Rule.InWorld.{IsOut, IsMapIn}
+use Rattle.papaya_others.proofs.Given.Callers.Together.At.{at_other, at_same}
+use Rattle.papaya_others.specs.Given.Finishes.Endings.{MakingStepsAmong}
+use Rattle.papaya_others.specs.Given.Finishes.Makings.{Beginning, IsMade}
+use Rattle.papaya_others.specs.Given.Finishes.Maps.{Standing}
+use Rattle.papaya_others.specs.Given.Effects.Effects.{table_at, made_role, taken_by, led_to, linked_on, named, names_same, effects_of, known_after}
+use Rattle.papaya_others.specs.Given.Effects.Known.{Known, with_role}
+use Rattle.papaya_others.specs.Given.Effects.declared.acting.Acting.{Acting}
+use Rattle.papaya_others.specs.Given.Effects.declared.acting.Acting.TheVariants as acts
+use Rattle.papaya_others.specs.Given.Effects.declared.role.Role.{Role}
+use Rattle.papaya_others.specs.Given.Effects.declared.role.Role.TheVariants as role
+use Rattle.papaya_others.specs.Given.Executor.IsAt.{Scene, IsAt, slot_of}
+use Rattle.papaya_others.specs.Given.Executor.Making.{MakingLeads, MakingStepsFrom}
+use Rattle.papaya_others.specs.Given.Executor.declared.executor.Executor.{Executor}
+use Rattle.papaya_others.proofs.Given.Follows.Alike.{AllStill, calm_still, put_here, put_elsewhere}
+use Rattle.papaya_others.proofs.Given.Follows.Onward.{IsOfMap}
+use Rattle.papaya_others.proofs.Given.Follows.Operations.{LeavesBy}
+use Rattle.papaya_others.proofs.Given.Follows.Steps.{one_of}
 use Rattle.papaya_hands.specs.Hands.{IsInUse}
 use Rattle.papaya_hands.specs.Rows.{ShowsRows}
 use Rattle.papaya_hands.proofs.Others.{makings_go_aside}

@@ -4,15 +4,15 @@ use Rattle.std.specs.Option.{option_or}
 use Rattle.std.proofs.Common.{refl, ap, sym, subst, ◌∙◌}
 use Rattle.std.proofs.lemmas.Bool.{eqb-true}
 use Rattle.std.proofs.lemmas.List.Folds.{find-append}
-use Rattle.papaya_runs.specs.Same.{is_same}
-use Rattle.papaya_schedules.specs.declared.effect.Table.{Table}
-use Rattle.papaya_schedules.specs.Beginning.{with_map}
-use Rattle.papaya_schedules.specs.Moment.{UnderWay as CallThere, MapThere, Moment}
-use Rattle.papaya_schedules.specs.Views.{map_at}
-use Rattle.papaya_effects.specs.Known.{Known}
-use Rattle.papaya_effects.specs.declared.role.Role.TheVariants as role
-use Rattle.papaya_executor.specs.IsAt.{Scene}
-use Rattle.papaya_follows.specs.Shows.{Shows}
+use Rattle.papaya_others.specs.Given.Runs.Same.{is_same}
+use Rattle.papaya_others.specs.Given.Schedules.declared.effect.Table.{Table}
+use Rattle.papaya_others.specs.Given.Schedules.Beginning.{with_map}
+use Rattle.papaya_others.specs.Given.Schedules.Moment.{UnderWay as CallThere, MapThere, Moment}
+use Rattle.papaya_others.specs.Given.Schedules.Views.{map_at}
+use Rattle.papaya_others.specs.Given.Effects.Known.{Known}
+use Rattle.papaya_others.specs.Given.Effects.declared.role.Role.TheVariants as role
+use Rattle.papaya_others.specs.Given.Executor.IsAt.{Scene}
+use Rattle.papaya_others.specs.Given.Follows.Shows.{Shows}
 use Rattle.papaya_hands.specs.Asked.{IsAsked, ShowsAsked}
 use Rattle.papaya_hands.specs.Hands.{IsInUse}
 use Rattle.papaya_others.specs.After.{ShowsAfter}

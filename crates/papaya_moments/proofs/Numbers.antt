@@ -6,31 +6,31 @@ use Rattle.std.proofs.Common.{refl, ap, sym, subst, ◌∙◌, arith}
 use Rattle.std.proofs.lemmas.Bool.{eq-eqb, eqb-true, ne_eqb}
 use Rattle.std.proofs.lemmas.List.Elements.{All-append, All-cons, All-filter, All-map}
 use Rattle.std.proofs.lemmas.List.Folds.{find-append}
-use Rattle.seize_words.specs.declared.at.At.TheVariants.{Root, Used, Slot, Entry, Word}
-use Rattle.seize.specs.declared.states.TheConstants.{FIRST}
-use Rattle.papaya_tables.specs.declared.table_words.TheConstants.{NEXT, DEFERRED}
-use Rattle.papaya_runs.specs.Same.{is_same}
-use Rattle.papaya_schedules.specs.declared.effect.Effect.{Effect}
-use Rattle.papaya_schedules.specs.declared.effect.Effect.TheVariants.{Asked, Linked, Promoted, Retired, Reclaimed, Taken}
-use Rattle.papaya_schedules.specs.declared.effect.Growth.TheVariants.{ABucket}
-use Rattle.papaya_schedules.specs.declared.effect.Spot.{Spot}
-use Rattle.papaya_schedules.specs.declared.effect.Table.{Table}
-use Rattle.papaya_schedules.specs.declared.effect.Thing.TheVariants.{APair, ATable}
-use Rattle.papaya_schedules.specs.Beginning.{with_map}
-use Rattle.papaya_schedules.specs.Effects.{at_stage, promoted, with_effect, with_effects}
-use Rattle.papaya_schedules.specs.Moment.{MapThere, Stage, IsLinked, IsRetired, IsReclaimed, IsTaken, TableThere, Moment}
-use Rattle.papaya_schedules.specs.Things.{same_table}
-use Rattle.papaya_schedules.specs.Views.{map_at}
-use Rattle.papaya_teller.specs.declared.changed.Changed.{Changed}
-use Rattle.papaya_teller.specs.declared.changed.Changed.TheVariants as changed
-use Rattle.papaya_teller.specs.declared.changed.Kind.{Kind}
-use Rattle.papaya_teller.specs.declared.changed.Kind.TheVariants as kind
-use Rattle.papaya_effects.specs.Effects.{map_of, names_same, named, made_by, taken_by, followed_by, led_to, carried, placed, spot_at, is_place, in_table, in_block, batched, effects_of}
-use Rattle.papaya_effects.specs.Known.{Known}
-use Rattle.papaya_effects.specs.declared.acting.Acting.{Acting}
-use Rattle.papaya_effects.specs.declared.acting.Acting.TheVariants as acts
-use Rattle.papaya_effects.specs.declared.role.Role.{Role}
-use Rattle.papaya_effects.specs.declared.role.Role.TheVariants as role
+use Rattle.papaya_others.specs.Given.SeizeWords.declared.at.At.TheVariants.{Root, Used, Slot, Entry, Word}
+use Rattle.papaya_others.specs.Given.Seize.declared.states.TheConstants.{FIRST}
+use Rattle.papaya_others.specs.Given.Tables.declared.table_words.TheConstants.{NEXT, DEFERRED}
+use Rattle.papaya_others.specs.Given.Runs.Same.{is_same}
+use Rattle.papaya_others.specs.Given.Schedules.declared.effect.Effect.{Effect}
+use Rattle.papaya_others.specs.Given.Schedules.declared.effect.Effect.TheVariants.{Asked, Linked, Promoted, Retired, Reclaimed, Taken}
+use Rattle.papaya_others.specs.Given.Schedules.declared.effect.Growth.TheVariants.{ABucket}
+use Rattle.papaya_others.specs.Given.Schedules.declared.effect.Spot.{Spot}
+use Rattle.papaya_others.specs.Given.Schedules.declared.effect.Table.{Table}
+use Rattle.papaya_others.specs.Given.Schedules.declared.effect.Thing.TheVariants.{APair, ATable}
+use Rattle.papaya_others.specs.Given.Schedules.Beginning.{with_map}
+use Rattle.papaya_others.specs.Given.Schedules.Effects.{at_stage, promoted, with_effect, with_effects}
+use Rattle.papaya_others.specs.Given.Schedules.Moment.{MapThere, Stage, IsLinked, IsRetired, IsReclaimed, IsTaken, TableThere, Moment}
+use Rattle.papaya_others.specs.Given.Schedules.Things.{same_table}
+use Rattle.papaya_others.specs.Given.Schedules.Views.{map_at}
+use Rattle.papaya_others.specs.Given.Teller.declared.changed.Changed.{Changed}
+use Rattle.papaya_others.specs.Given.Teller.declared.changed.Changed.TheVariants as changed
+use Rattle.papaya_others.specs.Given.Teller.declared.changed.Kind.{Kind}
+use Rattle.papaya_others.specs.Given.Teller.declared.changed.Kind.TheVariants as kind
+use Rattle.papaya_others.specs.Given.Effects.Effects.{map_of, names_same, named, made_by, taken_by, followed_by, led_to, carried, placed, spot_at, is_place, in_table, in_block, batched, effects_of}
+use Rattle.papaya_others.specs.Given.Effects.Known.{Known}
+use Rattle.papaya_others.specs.Given.Effects.declared.acting.Acting.{Acting}
+use Rattle.papaya_others.specs.Given.Effects.declared.acting.Acting.TheVariants as acts
+use Rattle.papaya_others.specs.Given.Effects.declared.role.Role.{Role}
+use Rattle.papaya_others.specs.Given.Effects.declared.role.Role.TheVariants as role
 use Rattle.papaya_others.proofs.EndBegins.{found_still}
 use Rattle.papaya_others.proofs.RowPlans.{TellsRow, row_tells}
 use Rattle.papaya_moments.specs.Numbers.{NumbersMaps, NumbersBegin, MapsComeByNumber, MapsGo, StepsKeepNumbers, NumbersAreBelow, RowsKeepNumbers}

@@ -1,19 +1,19 @@
 -- Walks that go on, or are given up, keep all that a moment shows.
 use Rattle.std.specs.Prelude.{◌≡◌, ℕ, Bool, true, false, List, Option, Some, None, ◌⊎◌}
 use Rattle.std.proofs.Common.{refl, ap, sym, subst, ◌∙◌, inl, inr}
-use Rattle.seize_words.specs.declared.fault.Fault.TheVariants.{Memory}
-use Rattle.papaya_raw.specs.Machine.{machine_asked}
-use Rattle.papaya_schedules.specs.declared.outcome.Outcome.TheVariants.{Refused}
-use Rattle.papaya_schedules.specs.Moment.{UnderWay as CallThere, Moment}
-use Rattle.papaya_schedules.specs.Views.{call_of}
-use Rattle.papaya_callers.specs.Together.{UnderWay, OnKey, ForRoom, Counting, OverAll}
-use Rattle.papaya_effects.specs.Known.{Known}
-use Rattle.papaya_executor.specs.IsAt.{Scene}
-use Rattle.papaya_executor.specs.Replying.{unless_stopped}
-use Rattle.papaya_finishes.specs.Machines.{machine_of}
-use Rattle.papaya_finishes.specs.Maps.{Standing, with_call}
-use Rattle.papaya_follows.specs.Calling.{NoneNamed}
-use Rattle.papaya_follows.proofs.Steps.{one_of}
+use Rattle.papaya_others.specs.Given.SeizeWords.declared.fault.Fault.TheVariants.{Memory}
+use Rattle.papaya_others.specs.Given.Raw.Machine.{machine_asked}
+use Rattle.papaya_others.specs.Given.Schedules.declared.outcome.Outcome.TheVariants.{Refused}
+use Rattle.papaya_others.specs.Given.Schedules.Moment.{UnderWay as CallThere, Moment}
+use Rattle.papaya_others.specs.Given.Schedules.Views.{call_of}
+use Rattle.papaya_others.specs.Given.Callers.Together.{UnderWay, OnKey, ForRoom, Counting, OverAll}
+use Rattle.papaya_others.specs.Given.Effects.Known.{Known}
+use Rattle.papaya_others.specs.Given.Executor.IsAt.{Scene}
+use Rattle.papaya_others.specs.Given.Executor.Replying.{unless_stopped}
+use Rattle.papaya_others.specs.Given.Finishes.Machines.{machine_of}
+use Rattle.papaya_others.specs.Given.Finishes.Maps.{Standing, with_call}
+use Rattle.papaya_others.specs.Given.Follows.Calling.{NoneNamed}
+use Rattle.papaya_others.proofs.Given.Follows.Steps.{one_of}
 use Rattle.papaya_hands.specs.Asked.{IsAsked, ShowsAsked}
 use Rattle.papaya_hands.specs.Calling.{AsksJust}
 use Rattle.papaya_hands.proofs.Asking.{which}

@@ -5,3 +5,4 @@ pub mod Endings
 pub mod Makings
 pub mod Walks
 pub mod WholeEnds
+pub mod Given

@@ -1,20 +1,20 @@
 -- Makings of maps: where one begins, its map comes, and it takes its steps, the moment shows all of the scene then.
 use Rattle.std.specs.Prelude.{◌≡◌, ℕ, Bool, List, [], Option, Some, None}
-use Rattle.seize.specs.World.{with_at}
-use Rattle.seize.specs.declared.progress.Progress.{Progress}
-use Rattle.papaya_tables.specs.declared.setting.Setting.{Setting}
-use Rattle.papaya_schedules.specs.Beginning.{with_map}
-use Rattle.papaya_schedules.specs.Effects.{with_effects}
-use Rattle.papaya_schedules.specs.Moment.{MapThere, Moment}
-use Rattle.papaya_schedules.specs.Views.{tables_of}
-use Rattle.papaya_effects.specs.Effects.{effects_of, known_after}
-use Rattle.papaya_effects.specs.Known.{Known}
-use Rattle.papaya_effects.specs.declared.acting.Acting.TheVariants.{Making}
-use Rattle.papaya_executor.specs.IsAt.{Scene, IsAt}
-use Rattle.papaya_executor.specs.Making.{MakingLeads}
-use Rattle.papaya_executor.specs.declared.executor.Executor.{Executor}
-use Rattle.papaya_finishes.specs.Makings.{Beginning, HasMade}
-use Rattle.papaya_follows.specs.Shows.{Shows}
+use Rattle.papaya_others.specs.Given.Seize.World.{with_at}
+use Rattle.papaya_others.specs.Given.Seize.declared.progress.Progress.{Progress}
+use Rattle.papaya_others.specs.Given.Tables.declared.setting.Setting.{Setting}
+use Rattle.papaya_others.specs.Given.Schedules.Beginning.{with_map}
+use Rattle.papaya_others.specs.Given.Schedules.Effects.{with_effects}
+use Rattle.papaya_others.specs.Given.Schedules.Moment.{MapThere, Moment}
+use Rattle.papaya_others.specs.Given.Schedules.Views.{tables_of}
+use Rattle.papaya_others.specs.Given.Effects.Effects.{effects_of, known_after}
+use Rattle.papaya_others.specs.Given.Effects.Known.{Known}
+use Rattle.papaya_others.specs.Given.Effects.declared.acting.Acting.TheVariants.{Making}
+use Rattle.papaya_others.specs.Given.Executor.IsAt.{Scene, IsAt}
+use Rattle.papaya_others.specs.Given.Executor.Making.{MakingLeads}
+use Rattle.papaya_others.specs.Given.Executor.declared.executor.Executor.{Executor}
+use Rattle.papaya_others.specs.Given.Finishes.Makings.{Beginning, HasMade}
+use Rattle.papaya_others.specs.Given.Follows.Shows.{Shows}
 use Rattle.papaya_others.specs.Makings.{WasNew, making_after}
 use Rattle.papaya_spots.specs.Unreclaimed.{ShowsUnreclaimed}
 use Rattle.papaya_moments.specs.Whole.{ShowsWhole}

@@ -1,19 +1,19 @@
 -- What a whole end of a map does: all of the map ends.
 use Rattle.std.specs.Prelude.{◌≡◌, ◌-◌, ℕ, zero, suc, Bool, List, [], ◌∷◌, ◌++◌, map, flat_map, Some, None}
-use Rattle.papaya_tables.specs.Chunks.{is_incremental}
-use Rattle.papaya_rule.specs.Chart.{Chart}
-use Rattle.papaya_schedules.specs.declared.effect.Effect.{Effect}
-use Rattle.papaya_schedules.specs.declared.effect.Effect.TheVariants.{Ended, Taken}
-use Rattle.papaya_schedules.specs.After.{tables_taken}
-use Rattle.papaya_schedules.specs.Effects.{with_effects}
-use Rattle.papaya_schedules.specs.Handing.{tables_in}
-use Rattle.papaya_schedules.specs.Moment.{Moment}
-use Rattle.papaya_schedules.specs.Views.{size_of, chain_of}
-use Rattle.papaya_finishes.specs.Endings.{AllPairsOnce}
-use Rattle.papaya_finishes.specs.Maps.{Standing}
-use Rattle.papaya_finishes.specs.Orders.{pairs_of}
-use Rattle.papaya_effects.specs.Known.{Known}
-use Rattle.papaya_follows.specs.Maps.{ShowsMap, table_of}
+use Rattle.papaya_others.specs.Given.Tables.Chunks.{is_incremental}
+use Rattle.papaya_others.specs.Given.Rule.Chart.{Chart}
+use Rattle.papaya_others.specs.Given.Schedules.declared.effect.Effect.{Effect}
+use Rattle.papaya_others.specs.Given.Schedules.declared.effect.Effect.TheVariants.{Ended, Taken}
+use Rattle.papaya_others.specs.Given.Schedules.After.{tables_taken}
+use Rattle.papaya_others.specs.Given.Schedules.Effects.{with_effects}
+use Rattle.papaya_others.specs.Given.Schedules.Handing.{tables_in}
+use Rattle.papaya_others.specs.Given.Schedules.Moment.{Moment}
+use Rattle.papaya_others.specs.Given.Schedules.Views.{size_of, chain_of}
+use Rattle.papaya_others.specs.Given.Finishes.Endings.{AllPairsOnce}
+use Rattle.papaya_others.specs.Given.Finishes.Maps.{Standing}
+use Rattle.papaya_others.specs.Given.Finishes.Orders.{pairs_of}
+use Rattle.papaya_others.specs.Given.Effects.Known.{Known}
+use Rattle.papaya_others.specs.Given.Follows.Maps.{ShowsMap, table_of}
 
 -- so many tables of a map end, from this one on
 abbrev pub tables_ended : ℕ → ℕ → ℕ → List Effect

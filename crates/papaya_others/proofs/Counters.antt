@@ -2,27 +2,27 @@
 use Rattle.std.specs.Prelude.{◌≡◌, ℕ, Bool, Some}
 use Rattle.std.proofs.Common.{sym, subst, ◌∙◌, inl, inr}
 use Rattle.std.proofs.lemmas.Bool.{cases_eq}
-use Rattle.seize_words.specs.Mem.{Can, Took, value_at}
-use Rattle.seize_words.specs.Plan.{May}
-use Rattle.seize.specs.declared.rows.settle.Settled.{Settled}
-use Rattle.seize.specs.declared.rows.settle.Settled.TheVariants as settled
-use Rattle.papaya_tables.specs.declared.node.Node.{Node}
-use Rattle.papaya_raw.specs.EndMap.{end_map_plan}
-use Rattle.papaya_raw.specs.Machine.{machine_plan}
-use Rattle.papaya_raw.specs.declared.machines.end_map.EndMap.{EndMap}
-use Rattle.papaya_callers.proofs.Together.At.{at_other, at_same}
-use Rattle.papaya_finishes.specs.Endings.{StepsOfEnding}
-use Rattle.papaya_finishes.specs.Makings.{Beginning, HasMade}
-use Rattle.papaya_finishes.specs.Machines.{machine_of}
-use Rattle.papaya_effects.specs.Effects.{known_after}
-use Rattle.papaya_effects.specs.declared.acting.Acting.TheVariants as acts
-use Rattle.papaya_effects.specs.declared.role.Role.TheVariants.{Counter}
-use Rattle.papaya_executor.specs.Ending.{EndingStepsFrom, EndingComesTo}
-use Rattle.papaya_executor.specs.IsAt.{Scene, IsAt, slot_of}
-use Rattle.papaya_executor.specs.Stepping.{scene_after}
-use Rattle.papaya_executor.proofs.Endings.{has_ending, taken_ending, may_taken as may_end}
-use Rattle.papaya_executor.proofs.OnSlots.{row_at, may_taken}
-use Rattle.papaya_executor.proofs.Steps.{may_step}
+use Rattle.papaya_follows.specs.Given.SeizeWords.Mem.{Can, Took, value_at}
+use Rattle.papaya_follows.specs.Given.SeizeWords.Plan.{May}
+use Rattle.papaya_follows.specs.Given.Seize.declared.rows.settle.Settled.{Settled}
+use Rattle.papaya_follows.specs.Given.Seize.declared.rows.settle.Settled.TheVariants as settled
+use Rattle.papaya_follows.specs.Given.Tables.declared.node.Node.{Node}
+use Rattle.papaya_follows.specs.Given.Raw.EndMap.{end_map_plan}
+use Rattle.papaya_follows.specs.Given.Raw.Machine.{machine_plan}
+use Rattle.papaya_follows.specs.Given.Raw.declared.machines.end_map.EndMap.{EndMap}
+use Rattle.papaya_follows.proofs.Given.Callers.Together.At.{at_other, at_same}
+use Rattle.papaya_follows.specs.Given.Finishes.Endings.{StepsOfEnding}
+use Rattle.papaya_follows.specs.Given.Finishes.Makings.{Beginning, HasMade}
+use Rattle.papaya_follows.specs.Given.Finishes.Machines.{machine_of}
+use Rattle.papaya_follows.specs.Given.Effects.Effects.{known_after}
+use Rattle.papaya_follows.specs.Given.Effects.declared.acting.Acting.TheVariants as acts
+use Rattle.papaya_follows.specs.Given.Effects.declared.role.Role.TheVariants.{Counter}
+use Rattle.papaya_follows.specs.Given.Executor.Ending.{EndingStepsFrom, EndingComesTo}
+use Rattle.papaya_follows.specs.Given.Executor.IsAt.{Scene, IsAt, slot_of}
+use Rattle.papaya_follows.specs.Given.Executor.Stepping.{scene_after}
+use Rattle.papaya_follows.proofs.Given.Executor.Endings.{has_ending, taken_ending, may_taken as may_end}
+use Rattle.papaya_follows.proofs.Given.Executor.OnSlots.{row_at, may_taken}
+use Rattle.papaya_follows.proofs.Given.Executor.Steps.{may_step}
 use Rattle.papaya_follows.proofs.Steps.{one_of}
 use Rattle.papaya_follows.proofs.Operations.{Operated, operated}
 use Rattle.papaya_others.specs.Counters.{NotesCounters, BeginningsNoteCounters, CallsNoteCounters, RowsNoteCounters, EndingsNoteCounters}

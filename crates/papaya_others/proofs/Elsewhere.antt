@@ -1,10 +1,10 @@
 -- What happens elsewhere leaves what is shown as it was.
 use Rattle.std.specs.Prelude.{ℕ, Bool, Option}
 use Rattle.std.proofs.Common.{refl, ap, sym, subst}
-use Rattle.seize_words.specs.Mem.{Mem, value_at}
-use Rattle.seize.specs.World.{Hand}
-use Rattle.papaya_tables.specs.declared.node.Node.{Node}
-use Rattle.papaya_callers.specs.Together.{UnderWay}
+use Rattle.papaya_follows.specs.Given.SeizeWords.Mem.{Mem, value_at}
+use Rattle.papaya_follows.specs.Given.Seize.World.{Hand}
+use Rattle.papaya_follows.specs.Given.Tables.declared.node.Node.{Node}
+use Rattle.papaya_follows.specs.Given.Callers.Together.{UnderWay}
 use Rattle.papaya_follows.specs.Blocks.{WasLinked}
 use Rattle.papaya_follows.specs.Calls.{ShowsCalls}
 use Rattle.papaya_others.specs.Elsewhere.{ShownElsewhere}

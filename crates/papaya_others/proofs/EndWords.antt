@@ -2,25 +2,25 @@
 use Rattle.std.specs.Prelude.{◌≡◌, ℕ, ◌<◌, ◌==◌, Bool, List, [], ◌∷◌, Some, if◌then◌else◌, ◌⊎◌}
 use Rattle.std.proofs.Common.{refl, ap, sym, subst, ◌∙◌, arith, inl, inr}
 use Rattle.std.proofs.lemmas.Bool.{eq-eqb}
-use Rattle.seize_words.specs.declared.at.At.TheVariants.{Root}
-use Rattle.seize_words.specs.Mem.{Mem, word_at}
-use Rattle.seize_words.specs.Word.{block_in}
-use Rattle.seize.specs.World.{World, times}
-use Rattle.seize.specs.declared.rows.settle.Settled.{Settled}
-use Rattle.papaya_tables.specs.declared.node.Node.{Node}
-use Rattle.papaya_tables.specs.declared.setting.Setting.{Setting}
-use Rattle.papaya_raw.specs.EndMap as end_map
-use Rattle.papaya_raw.specs.declared.machines.end_map.EndMap.{EndMap}
-use Rattle.papaya_raw.specs.declared.machines.end_map.Ending.{Ending}
-use Rattle.papaya_raw.specs.declared.machines.end_map.Ending.TheVariants as at
-use Rattle.papaya_teller.specs.Tells.{StepsTold}
-use Rattle.papaya_teller.specs.declared.changed.Changed.{Changed}
-use Rattle.papaya_teller.specs.declared.changed.Changed.TheVariants as changed
-use Rattle.papaya_rule.specs.Chart.{Chart}
-use Rattle.papaya_rule.specs.Words.{Blocks, root_word}
-use Rattle.papaya_rule.proofs.Words.TablesSeen.{block_of_link}
-use Rattle.papaya_callers.specs.Kept.{IsPair}
-use Rattle.papaya_finishes.specs.FactsEnds.{RootIs, RootAt}
+use Rattle.papaya_follows.specs.Given.SeizeWords.declared.at.At.TheVariants.{Root}
+use Rattle.papaya_follows.specs.Given.SeizeWords.Mem.{Mem, word_at}
+use Rattle.papaya_follows.specs.Given.SeizeWords.Word.{block_in}
+use Rattle.papaya_follows.specs.Given.Seize.World.{World, times}
+use Rattle.papaya_follows.specs.Given.Seize.declared.rows.settle.Settled.{Settled}
+use Rattle.papaya_follows.specs.Given.Tables.declared.node.Node.{Node}
+use Rattle.papaya_follows.specs.Given.Tables.declared.setting.Setting.{Setting}
+use Rattle.papaya_follows.specs.Given.Raw.EndMap as end_map
+use Rattle.papaya_follows.specs.Given.Raw.declared.machines.end_map.EndMap.{EndMap}
+use Rattle.papaya_follows.specs.Given.Raw.declared.machines.end_map.Ending.{Ending}
+use Rattle.papaya_follows.specs.Given.Raw.declared.machines.end_map.Ending.TheVariants as at
+use Rattle.papaya_follows.specs.Given.Teller.Tells.{StepsTold}
+use Rattle.papaya_follows.specs.Given.Teller.declared.changed.Changed.{Changed}
+use Rattle.papaya_follows.specs.Given.Teller.declared.changed.Changed.TheVariants as changed
+use Rattle.papaya_follows.specs.Given.Rule.Chart.{Chart}
+use Rattle.papaya_follows.specs.Given.Rule.Words.{Blocks, root_word}
+use Rattle.papaya_follows.proofs.Given.Rule.Words.TablesSeen.{block_of_link}
+use Rattle.papaya_follows.specs.Given.Callers.Kept.{IsPair}
+use Rattle.papaya_follows.specs.Given.Finishes.FactsEnds.{RootIs, RootAt}
 
 -- the word names nothing, or a pair
 abbrev pub NamesPair : {K V : Type 0} → World (Node K V) → ℕ → Type 0

@@ -2,43 +2,43 @@
 use Rattle.std.specs.Prelude.{◌&&◌, ◌≡◌, ◌≢◌, ℕ, zero, suc, ◌<◌, ◌≤◌, nat_lt, Bool, true, false, List, [], ◌∷◌, ◌++◌, Option, Some, None, if◌then◌else◌, ◌⊎◌, ◌==◌, IsSome}
 use Rattle.std.proofs.Common.{refl, ap, sym, subst, ◌∙◌, arith, inl, inr}
 use Rattle.std.proofs.lemmas.Bool.{eq-eqb, cases_eq}
-use Rattle.seize_words.specs.declared.at.At.TheVariants.{Root, Used, Slot, Entry, Word}
-use Rattle.seize_words.specs.Mem.{Mem, Can, Took, value_at, word_at}
-use Rattle.seize_words.specs.Plan.{May}
-use Rattle.seize_words.specs.Word.{block_in}
-use Rattle.seize.specs.World.{World, Hand, times, with_at}
-use Rattle.seize.specs.declared.rows.settle.Settled.{Settled}
-use Rattle.seize.specs.declared.rows.settle.Settled.TheVariants as settled
-use Rattle.papaya_tables.specs.declared.node.Node.{Node}
-use Rattle.papaya_raw.specs.EndMap.{end_map_plan}
-use Rattle.papaya_raw.specs.declared.machines.end_map.EndMap.{EndMap}
-use Rattle.papaya_raw.specs.declared.machines.end_map.Ending.{Ending}
-use Rattle.papaya_raw.specs.declared.machines.end_map.Ending.TheVariants as ending
-use Rattle.papaya_schedules.specs.declared.effect.Effect.{Effect}
-use Rattle.papaya_schedules.specs.declared.effect.Effect.TheVariants.{Asked, PairGivenUp, TableGivenUp, Ended, Taken}
-use Rattle.papaya_schedules.specs.declared.effect.Growth.TheVariants.{ABlock}
-use Rattle.papaya_schedules.specs.declared.effect.Table.{Table}
-use Rattle.papaya_schedules.specs.Effects.{with_effects, AtEachEffect}
-use Rattle.papaya_schedules.specs.Moment.{Left, IsTaken, Moment}
-use Rattle.papaya_schedules.specs.Things.{same_table}
-use Rattle.papaya_teller.specs.declared.changed.Changed.{Changed}
-use Rattle.papaya_teller.specs.declared.changed.Changed.TheVariants as changed
-use Rattle.papaya_rule.specs.InWorld.{IsMapIn}
-use Rattle.papaya_rule.specs.Words.{root_word}
-use Rattle.papaya_callers.proofs.Together.At.{at_same}
-use Rattle.papaya_finishes.specs.Endings.{Finishing, FinishingFacts, StepsOfEnding, waiting_by}
-use Rattle.papaya_finishes.specs.FactsEnds.{taken_by as taken_of, left_by, EndingFacts}
-use Rattle.papaya_finishes.specs.Maps.{Standing}
-use Rattle.papaya_effects.specs.Effects.{names_same, named, written_by, written_on, led_to, linked_on, taken_by, effects_of, known_after}
-use Rattle.papaya_effects.specs.Known.{Known, with_role}
-use Rattle.papaya_effects.specs.declared.acting.Acting.{Acting}
-use Rattle.papaya_effects.specs.declared.acting.Acting.TheVariants as acts
-use Rattle.papaya_effects.specs.declared.role.Role.{Role}
-use Rattle.papaya_effects.specs.declared.role.Role.TheVariants as role
-use Rattle.papaya_executor.specs.Ending.{EndingStepsFrom, EndingComesTo, ending_goes}
-use Rattle.papaya_executor.specs.IsAt.{Scene, IsAt, slot_of}
-use Rattle.papaya_executor.specs.declared.executor.Executor.{Executor}
-use Rattle.papaya_executor.proofs.Endings.{has_ending, taken_ending, may_taken}
+use Rattle.papaya_follows.specs.Given.SeizeWords.declared.at.At.TheVariants.{Root, Used, Slot, Entry, Word}
+use Rattle.papaya_follows.specs.Given.SeizeWords.Mem.{Mem, Can, Took, value_at, word_at}
+use Rattle.papaya_follows.specs.Given.SeizeWords.Plan.{May}
+use Rattle.papaya_follows.specs.Given.SeizeWords.Word.{block_in}
+use Rattle.papaya_follows.specs.Given.Seize.World.{World, Hand, times, with_at}
+use Rattle.papaya_follows.specs.Given.Seize.declared.rows.settle.Settled.{Settled}
+use Rattle.papaya_follows.specs.Given.Seize.declared.rows.settle.Settled.TheVariants as settled
+use Rattle.papaya_follows.specs.Given.Tables.declared.node.Node.{Node}
+use Rattle.papaya_follows.specs.Given.Raw.EndMap.{end_map_plan}
+use Rattle.papaya_follows.specs.Given.Raw.declared.machines.end_map.EndMap.{EndMap}
+use Rattle.papaya_follows.specs.Given.Raw.declared.machines.end_map.Ending.{Ending}
+use Rattle.papaya_follows.specs.Given.Raw.declared.machines.end_map.Ending.TheVariants as ending
+use Rattle.papaya_follows.specs.Given.Schedules.declared.effect.Effect.{Effect}
+use Rattle.papaya_follows.specs.Given.Schedules.declared.effect.Effect.TheVariants.{Asked, PairGivenUp, TableGivenUp, Ended, Taken}
+use Rattle.papaya_follows.specs.Given.Schedules.declared.effect.Growth.TheVariants.{ABlock}
+use Rattle.papaya_follows.specs.Given.Schedules.declared.effect.Table.{Table}
+use Rattle.papaya_follows.specs.Given.Schedules.Effects.{with_effects, AtEachEffect}
+use Rattle.papaya_follows.specs.Given.Schedules.Moment.{Left, IsTaken, Moment}
+use Rattle.papaya_follows.specs.Given.Schedules.Things.{same_table}
+use Rattle.papaya_follows.specs.Given.Teller.declared.changed.Changed.{Changed}
+use Rattle.papaya_follows.specs.Given.Teller.declared.changed.Changed.TheVariants as changed
+use Rattle.papaya_follows.specs.Given.Rule.InWorld.{IsMapIn}
+use Rattle.papaya_follows.specs.Given.Rule.Words.{root_word}
+use Rattle.papaya_follows.proofs.Given.Callers.Together.At.{at_same}
+use Rattle.papaya_follows.specs.Given.Finishes.Endings.{Finishing, FinishingFacts, StepsOfEnding, waiting_by}
+use Rattle.papaya_follows.specs.Given.Finishes.FactsEnds.{taken_by as taken_of, left_by, EndingFacts}
+use Rattle.papaya_follows.specs.Given.Finishes.Maps.{Standing}
+use Rattle.papaya_follows.specs.Given.Effects.Effects.{names_same, named, written_by, written_on, led_to, linked_on, taken_by, effects_of, known_after}
+use Rattle.papaya_follows.specs.Given.Effects.Known.{Known, with_role}
+use Rattle.papaya_follows.specs.Given.Effects.declared.acting.Acting.{Acting}
+use Rattle.papaya_follows.specs.Given.Effects.declared.acting.Acting.TheVariants as acts
+use Rattle.papaya_follows.specs.Given.Effects.declared.role.Role.{Role}
+use Rattle.papaya_follows.specs.Given.Effects.declared.role.Role.TheVariants as role
+use Rattle.papaya_follows.specs.Given.Executor.Ending.{EndingStepsFrom, EndingComesTo, ending_goes}
+use Rattle.papaya_follows.specs.Given.Executor.IsAt.{Scene, IsAt, slot_of}
+use Rattle.papaya_follows.specs.Given.Executor.declared.executor.Executor.{Executor}
+use Rattle.papaya_follows.proofs.Given.Executor.Endings.{has_ending, taken_ending, may_taken}
 use Rattle.papaya_follows.specs.Blocks.{WasLinked, HasRole}
 use Rattle.papaya_follows.specs.Calls.{ShowsCalls}
 use Rattle.papaya_follows.specs.Maps.{table_of}

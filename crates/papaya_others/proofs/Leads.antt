@@ -1,24 +1,24 @@
 -- Where a step leads that is of no call, and leaves the blocks that are there as they are: its effects move nothing, or it takes one block away.
 use Rattle.std.specs.Prelude.{◌≡◌, ◌≢◌, ℕ, Bool, true, false, List, [], ◌∷◌, Option, Some, None, if◌then◌else◌}
 use Rattle.std.proofs.Common.{refl, ap, arith}
-use Rattle.seize_words.specs.Mem.{value_at}
-use Rattle.seize.specs.World.{World}
-use Rattle.papaya_tables.specs.declared.node.Node.{Node}
-use Rattle.papaya_schedules.specs.declared.effect.Effect.{Effect}
-use Rattle.papaya_schedules.specs.declared.effect.Effect.TheVariants.{Asked}
-use Rattle.papaya_schedules.specs.declared.effect.Growth.TheVariants.{ABucket}
-use Rattle.papaya_schedules.specs.declared.effect.Table.{Table}
-use Rattle.papaya_schedules.specs.Effects.{with_effects}
-use Rattle.papaya_schedules.specs.Moment.{Moment}
-use Rattle.papaya_schedules.specs.Things.{same_table}
-use Rattle.papaya_rule.specs.InWorld.{IsMapIn}
-use Rattle.papaya_finishes.specs.Maps.{Standing, IsSameMap}
-use Rattle.papaya_effects.specs.Effects.{in_block, in_block_on}
-use Rattle.papaya_effects.specs.Known.{Known, with_role}
-use Rattle.papaya_effects.specs.declared.acting.Acting.{Acting}
-use Rattle.papaya_effects.specs.declared.role.Role.{Role}
-use Rattle.papaya_effects.specs.declared.role.Role.TheVariants as role
-use Rattle.papaya_executor.specs.IsAt.{Scene}
+use Rattle.papaya_follows.specs.Given.SeizeWords.Mem.{value_at}
+use Rattle.papaya_follows.specs.Given.Seize.World.{World}
+use Rattle.papaya_follows.specs.Given.Tables.declared.node.Node.{Node}
+use Rattle.papaya_follows.specs.Given.Schedules.declared.effect.Effect.{Effect}
+use Rattle.papaya_follows.specs.Given.Schedules.declared.effect.Effect.TheVariants.{Asked}
+use Rattle.papaya_follows.specs.Given.Schedules.declared.effect.Growth.TheVariants.{ABucket}
+use Rattle.papaya_follows.specs.Given.Schedules.declared.effect.Table.{Table}
+use Rattle.papaya_follows.specs.Given.Schedules.Effects.{with_effects}
+use Rattle.papaya_follows.specs.Given.Schedules.Moment.{Moment}
+use Rattle.papaya_follows.specs.Given.Schedules.Things.{same_table}
+use Rattle.papaya_follows.specs.Given.Rule.InWorld.{IsMapIn}
+use Rattle.papaya_follows.specs.Given.Finishes.Maps.{Standing, IsSameMap}
+use Rattle.papaya_follows.specs.Given.Effects.Effects.{in_block, in_block_on}
+use Rattle.papaya_follows.specs.Given.Effects.Known.{Known, with_role}
+use Rattle.papaya_follows.specs.Given.Effects.declared.acting.Acting.{Acting}
+use Rattle.papaya_follows.specs.Given.Effects.declared.role.Role.{Role}
+use Rattle.papaya_follows.specs.Given.Effects.declared.role.Role.TheVariants as role
+use Rattle.papaya_follows.specs.Given.Executor.IsAt.{Scene}
 use Rattle.papaya_follows.specs.Blocks.{HasRole}
 use Rattle.papaya_follows.specs.Calls.{ShowsCalls}
 use Rattle.papaya_follows.specs.Shows.{Shows}

@@ -22,3 +22,4 @@ pub mod Counters
 pub mod Elsewhere
 pub mod Outcomes
 pub mod RowGives
+pub mod Given

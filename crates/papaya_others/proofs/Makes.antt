@@ -3,61 +3,61 @@ use Rattle.std.specs.Prelude.{◌≡◌, ◌≢◌, ℕ, zero, suc, ◌*◌, ◌
 use Rattle.std.proofs.Common.{refl, ap, sym, subst, ◌∙◌, arith, inl, inr, append-nil}
 use Rattle.std.proofs.lemmas.Bool.{ne_eqb, eq-eqb, cases_eq}
 use Rattle.std.proofs.lemmas.List.Elements.{filter-append}
-use Rattle.seize_words.specs.declared.at.At.{At}
-use Rattle.seize_words.specs.declared.at.At.TheVariants.{Root, Used, Slot, Entry, Word}
-use Rattle.seize_words.specs.declared.fault.Fault.{Fault}
-use Rattle.seize_words.specs.Mem.{Mem, value_at, word_at}
-use Rattle.seize_words.specs.Word.{block_in}
-use Rattle.seize.specs.World.{World, Hand, Making as MadeBy, with_at}
-use Rattle.seize.specs.declared.progress.Progress.{Progress}
-use Rattle.seize.specs.declared.progress.Progress.TheVariants as progress
-use Rattle.papaya_tables.specs.Chunks.{is_incremental}
-use Rattle.papaya_tables.specs.Nodes.{deferred_word}
-use Rattle.papaya_tables.specs.declared.node.Node.{Node}
-use Rattle.papaya_tables.specs.declared.node.Node.TheVariants as node
-use Rattle.papaya_tables.specs.declared.setting.Setting.{Setting}
-use Rattle.papaya_tables.specs.declared.status.TheConstants.Status.{PROMOTED}
-use Rattle.papaya_tables.specs.declared.table.Table.{Table as Planned}
-use Rattle.papaya_resize.specs.NewMap.{new_map_plan}
-use Rattle.papaya_resize.specs.declared.new_map.NewMap.{NewMap}
-use Rattle.papaya_resize.specs.declared.new_map.Opening.{Opening}
-use Rattle.papaya_resize.specs.declared.new_map.Opening.TheVariants as opening
-use Rattle.papaya_runs.specs.declared.outcome.TableShape.{TableShape}
-use Rattle.papaya_schedules.specs.declared.effect.Effect.{Effect}
-use Rattle.papaya_schedules.specs.declared.effect.Effect.TheVariants.{Asked, PairGivenUp, TableGivenUp, Linked}
-use Rattle.papaya_schedules.specs.declared.effect.Growth.TheVariants.{ABlock}
-use Rattle.papaya_schedules.specs.declared.effect.Table.{Table}
-use Rattle.papaya_schedules.specs.Effects.{with_effects}
-use Rattle.papaya_schedules.specs.Lists.{put}
-use Rattle.papaya_schedules.specs.Moment.{IsLinked, TableThere, Moment}
-use Rattle.papaya_schedules.specs.Views.{tables_of}
-use Rattle.papaya_teller.specs.Changed.{kind_of}
-use Rattle.papaya_teller.specs.declared.changed.Changed.{Changed}
-use Rattle.papaya_teller.specs.declared.changed.Changed.TheVariants as changed
-use Rattle.papaya_teller.specs.declared.changed.Kind.{Kind}
-use Rattle.papaya_teller.specs.declared.changed.Kind.TheVariants as kind
-use Rattle.papaya_rule.specs.Chart.{Chart}
-use Rattle.papaya_rule.specs.InWorld.{IsMapIn}
-use Rattle.papaya_rule.specs.Maps.{spot_of}
-use Rattle.papaya_rule.specs.Moves.{Links, after as after_move}
-use Rattle.papaya_rule.specs.Rule.{no_table}
-use Rattle.papaya_rule.specs.Words.{root_word}
-use Rattle.papaya_rule.proofs.Words.TablesSeen.{block_of_link}
-use Rattle.papaya_points.specs.FactsTables.{IsOwnTable, IsPlanned}
-use Rattle.papaya_callers.proofs.Together.At.{at_other, at_same}
-use Rattle.papaya_finishes.specs.Endings.{MakingStepsAmong}
-use Rattle.papaya_finishes.specs.Makings.{Beginning, MakingFacts, OpeningFacts, HasTaken, HasMade, IsMade, IsNewChart, KeepsIts}
-use Rattle.papaya_finishes.specs.Maps.{Standing}
-use Rattle.papaya_effects.specs.Effects.{names_same, named, made_by, made_role, taken_by, effects_of, known_after}
-use Rattle.papaya_effects.specs.Known.{Known, with_role}
-use Rattle.papaya_effects.specs.declared.acting.Acting.{Acting}
-use Rattle.papaya_effects.specs.declared.acting.Acting.TheVariants as acts
-use Rattle.papaya_effects.specs.declared.role.Role.{Role}
-use Rattle.papaya_effects.specs.declared.role.Role.TheVariants as role
-use Rattle.papaya_executor.specs.IsAt.{Scene, IsAt, slot_of}
-use Rattle.papaya_executor.specs.Making.{MakingStepsFrom, MakingComesTo}
-use Rattle.papaya_executor.specs.declared.executor.Executor.{Executor}
-use Rattle.papaya_executor.proofs.Makings.{may_make}
+use Rattle.papaya_follows.specs.Given.SeizeWords.declared.at.At.{At}
+use Rattle.papaya_follows.specs.Given.SeizeWords.declared.at.At.TheVariants.{Root, Used, Slot, Entry, Word}
+use Rattle.papaya_follows.specs.Given.SeizeWords.declared.fault.Fault.{Fault}
+use Rattle.papaya_follows.specs.Given.SeizeWords.Mem.{Mem, value_at, word_at}
+use Rattle.papaya_follows.specs.Given.SeizeWords.Word.{block_in}
+use Rattle.papaya_follows.specs.Given.Seize.World.{World, Hand, Making as MadeBy, with_at}
+use Rattle.papaya_follows.specs.Given.Seize.declared.progress.Progress.{Progress}
+use Rattle.papaya_follows.specs.Given.Seize.declared.progress.Progress.TheVariants as progress
+use Rattle.papaya_follows.specs.Given.Tables.Chunks.{is_incremental}
+use Rattle.papaya_follows.specs.Given.Tables.Nodes.{deferred_word}
+use Rattle.papaya_follows.specs.Given.Tables.declared.node.Node.{Node}
+use Rattle.papaya_follows.specs.Given.Tables.declared.node.Node.TheVariants as node
+use Rattle.papaya_follows.specs.Given.Tables.declared.setting.Setting.{Setting}
+use Rattle.papaya_follows.specs.Given.Tables.declared.status.TheConstants.Status.{PROMOTED}
+use Rattle.papaya_follows.specs.Given.Tables.declared.table.Table.{Table as Planned}
+use Rattle.papaya_follows.specs.Given.Resize.NewMap.{new_map_plan}
+use Rattle.papaya_follows.specs.Given.Resize.declared.new_map.NewMap.{NewMap}
+use Rattle.papaya_follows.specs.Given.Resize.declared.new_map.Opening.{Opening}
+use Rattle.papaya_follows.specs.Given.Resize.declared.new_map.Opening.TheVariants as opening
+use Rattle.papaya_follows.specs.Given.Runs.declared.outcome.TableShape.{TableShape}
+use Rattle.papaya_follows.specs.Given.Schedules.declared.effect.Effect.{Effect}
+use Rattle.papaya_follows.specs.Given.Schedules.declared.effect.Effect.TheVariants.{Asked, PairGivenUp, TableGivenUp, Linked}
+use Rattle.papaya_follows.specs.Given.Schedules.declared.effect.Growth.TheVariants.{ABlock}
+use Rattle.papaya_follows.specs.Given.Schedules.declared.effect.Table.{Table}
+use Rattle.papaya_follows.specs.Given.Schedules.Effects.{with_effects}
+use Rattle.papaya_follows.specs.Given.Schedules.Lists.{put}
+use Rattle.papaya_follows.specs.Given.Schedules.Moment.{IsLinked, TableThere, Moment}
+use Rattle.papaya_follows.specs.Given.Schedules.Views.{tables_of}
+use Rattle.papaya_follows.specs.Given.Teller.Changed.{kind_of}
+use Rattle.papaya_follows.specs.Given.Teller.declared.changed.Changed.{Changed}
+use Rattle.papaya_follows.specs.Given.Teller.declared.changed.Changed.TheVariants as changed
+use Rattle.papaya_follows.specs.Given.Teller.declared.changed.Kind.{Kind}
+use Rattle.papaya_follows.specs.Given.Teller.declared.changed.Kind.TheVariants as kind
+use Rattle.papaya_follows.specs.Given.Rule.Chart.{Chart}
+use Rattle.papaya_follows.specs.Given.Rule.InWorld.{IsMapIn}
+use Rattle.papaya_follows.specs.Given.Rule.Maps.{spot_of}
+use Rattle.papaya_follows.specs.Given.Rule.Moves.{Links, after as after_move}
+use Rattle.papaya_follows.specs.Given.Rule.Rule.{no_table}
+use Rattle.papaya_follows.specs.Given.Rule.Words.{root_word}
+use Rattle.papaya_follows.proofs.Given.Rule.Words.TablesSeen.{block_of_link}
+use Rattle.papaya_follows.specs.Given.Points.FactsTables.{IsOwnTable, IsPlanned}
+use Rattle.papaya_follows.proofs.Given.Callers.Together.At.{at_other, at_same}
+use Rattle.papaya_follows.specs.Given.Finishes.Endings.{MakingStepsAmong}
+use Rattle.papaya_follows.specs.Given.Finishes.Makings.{Beginning, MakingFacts, OpeningFacts, HasTaken, HasMade, IsMade, IsNewChart, KeepsIts}
+use Rattle.papaya_follows.specs.Given.Finishes.Maps.{Standing}
+use Rattle.papaya_follows.specs.Given.Effects.Effects.{names_same, named, made_by, made_role, taken_by, effects_of, known_after}
+use Rattle.papaya_follows.specs.Given.Effects.Known.{Known, with_role}
+use Rattle.papaya_follows.specs.Given.Effects.declared.acting.Acting.{Acting}
+use Rattle.papaya_follows.specs.Given.Effects.declared.acting.Acting.TheVariants as acts
+use Rattle.papaya_follows.specs.Given.Effects.declared.role.Role.{Role}
+use Rattle.papaya_follows.specs.Given.Effects.declared.role.Role.TheVariants as role
+use Rattle.papaya_follows.specs.Given.Executor.IsAt.{Scene, IsAt, slot_of}
+use Rattle.papaya_follows.specs.Given.Executor.Making.{MakingStepsFrom, MakingComesTo}
+use Rattle.papaya_follows.specs.Given.Executor.declared.executor.Executor.{Executor}
+use Rattle.papaya_follows.proofs.Given.Executor.Makings.{may_make}
 use Rattle.papaya_follows.specs.Blocks.{WasLinked, HasRole}
 use Rattle.papaya_follows.specs.Calls.{ShowsCalls}
 use Rattle.papaya_follows.specs.Maps.{table_of, shape_at, ShowsMap}

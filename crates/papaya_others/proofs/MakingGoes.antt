@@ -2,34 +2,34 @@
 use Rattle.std.specs.Prelude.{◌≡◌, ℕ, ◌==◌, Bool, List, filter, find, Option, Some, None, ◌⊎◌}
 use Rattle.std.proofs.Common.{refl, ap, sym, subst, ◌∙◌, inl, inr}
 use Rattle.std.proofs.lemmas.Bool.{cases_eq}
-use Rattle.seize_words.specs.declared.at.At.TheVariants.{Root, Used, Slot, Entry, Word}
-use Rattle.seize_words.specs.Mem.{value_at}
-use Rattle.seize_words.specs.Word.{block_in}
-use Rattle.seize.specs.World.{World, with_at}
-use Rattle.seize.specs.declared.progress.Progress.{Progress}
-use Rattle.seize.specs.declared.progress.Progress.TheVariants as progress
-use Rattle.papaya_tables.specs.declared.node.Node.{Node}
-use Rattle.papaya_tables.specs.declared.setting.Setting.{Setting}
-use Rattle.papaya_resize.specs.NewMap.{new_map_plan}
-use Rattle.papaya_resize.specs.declared.new_map.NewMap.{NewMap}
-use Rattle.papaya_schedules.specs.Effects.{with_effects}
-use Rattle.papaya_schedules.specs.Moment.{Place, Moment}
-use Rattle.papaya_teller.specs.declared.changed.Changed.{Changed}
-use Rattle.papaya_teller.specs.declared.changed.Changed.TheVariants as changed
-use Rattle.papaya_teller.specs.declared.changed.Kind.TheVariants as kind
-use Rattle.papaya_callers.proofs.Together.At.{at_other, at_same}
-use Rattle.papaya_finishes.specs.Endings.{MakingStepsAmong}
-use Rattle.papaya_finishes.specs.Makings.{Beginning, HasMade}
-use Rattle.papaya_effects.specs.Effects.{names_same, named, made_role, taken_by, effects_of, known_after}
-use Rattle.papaya_effects.specs.Known.{Known}
-use Rattle.papaya_effects.specs.declared.acting.Acting.{Acting}
-use Rattle.papaya_effects.specs.declared.acting.Acting.TheVariants as acts
-use Rattle.papaya_effects.specs.declared.role.Role.{Role}
-use Rattle.papaya_effects.specs.declared.role.Role.TheVariants as role
-use Rattle.papaya_executor.specs.IsAt.{Scene, IsAt, slot_of}
-use Rattle.papaya_executor.specs.Making.{MakingStepsFrom, MakingComesTo}
-use Rattle.papaya_executor.specs.declared.executor.Executor.{Executor}
-use Rattle.papaya_executor.proofs.Makings.{may_make}
+use Rattle.papaya_follows.specs.Given.SeizeWords.declared.at.At.TheVariants.{Root, Used, Slot, Entry, Word}
+use Rattle.papaya_follows.specs.Given.SeizeWords.Mem.{value_at}
+use Rattle.papaya_follows.specs.Given.SeizeWords.Word.{block_in}
+use Rattle.papaya_follows.specs.Given.Seize.World.{World, with_at}
+use Rattle.papaya_follows.specs.Given.Seize.declared.progress.Progress.{Progress}
+use Rattle.papaya_follows.specs.Given.Seize.declared.progress.Progress.TheVariants as progress
+use Rattle.papaya_follows.specs.Given.Tables.declared.node.Node.{Node}
+use Rattle.papaya_follows.specs.Given.Tables.declared.setting.Setting.{Setting}
+use Rattle.papaya_follows.specs.Given.Resize.NewMap.{new_map_plan}
+use Rattle.papaya_follows.specs.Given.Resize.declared.new_map.NewMap.{NewMap}
+use Rattle.papaya_follows.specs.Given.Schedules.Effects.{with_effects}
+use Rattle.papaya_follows.specs.Given.Schedules.Moment.{Place, Moment}
+use Rattle.papaya_follows.specs.Given.Teller.declared.changed.Changed.{Changed}
+use Rattle.papaya_follows.specs.Given.Teller.declared.changed.Changed.TheVariants as changed
+use Rattle.papaya_follows.specs.Given.Teller.declared.changed.Kind.TheVariants as kind
+use Rattle.papaya_follows.proofs.Given.Callers.Together.At.{at_other, at_same}
+use Rattle.papaya_follows.specs.Given.Finishes.Endings.{MakingStepsAmong}
+use Rattle.papaya_follows.specs.Given.Finishes.Makings.{Beginning, HasMade}
+use Rattle.papaya_follows.specs.Given.Effects.Effects.{names_same, named, made_role, taken_by, effects_of, known_after}
+use Rattle.papaya_follows.specs.Given.Effects.Known.{Known}
+use Rattle.papaya_follows.specs.Given.Effects.declared.acting.Acting.{Acting}
+use Rattle.papaya_follows.specs.Given.Effects.declared.acting.Acting.TheVariants as acts
+use Rattle.papaya_follows.specs.Given.Effects.declared.role.Role.{Role}
+use Rattle.papaya_follows.specs.Given.Effects.declared.role.Role.TheVariants as role
+use Rattle.papaya_follows.specs.Given.Executor.IsAt.{Scene, IsAt, slot_of}
+use Rattle.papaya_follows.specs.Given.Executor.Making.{MakingStepsFrom, MakingComesTo}
+use Rattle.papaya_follows.specs.Given.Executor.declared.executor.Executor.{Executor}
+use Rattle.papaya_follows.proofs.Given.Executor.Makings.{may_make}
 use Rattle.papaya_follows.specs.Blocks.{HasRole}
 use Rattle.papaya_follows.specs.Shows.{Shows}
 use Rattle.papaya_follows.proofs.Alike.{AllStill, AreSame, calm_still, put_here}

@@ -1,29 +1,29 @@
 -- A counter goes on being noted while it is there, whoever acts.
 use Rattle.std.specs.Prelude.{◌≡◌, ◌≢◌, ℕ, ◌==◌, Bool, true, false, Some, if◌then◌else◌}
 use Rattle.std.proofs.Common.{refl, ap, sym, subst, ◌∙◌}
-use Rattle.seize_words.specs.declared.at.At.{At}
-use Rattle.seize_words.specs.declared.at.At.TheVariants.{Root, Used, Slot, Entry, Word}
-use Rattle.seize_words.specs.Mem.{Mem, value_at}
-use Rattle.seize_words.specs.Word.{block_in}
-use Rattle.seize.specs.World.{World}
-use Rattle.papaya_tables.specs.declared.node.Node.{Node}
-use Rattle.papaya_tables.specs.declared.node.Node.TheVariants as node
-use Rattle.papaya_tables.specs.declared.table_words.TheConstants.{NEXT}
-use Rattle.papaya_resize.specs.declared.new_map.NewMap.{NewMap}
-use Rattle.papaya_resize.specs.declared.new_map.Opening.{Opening}
-use Rattle.papaya_resize.specs.declared.new_map.Opening.TheVariants as opening
-use Rattle.papaya_schedules.specs.Lists.{put}
-use Rattle.papaya_schedules.specs.Moment.{Moment}
-use Rattle.papaya_teller.specs.declared.changed.Changed.{Changed}
-use Rattle.papaya_teller.specs.declared.changed.Changed.TheVariants as changed
-use Rattle.papaya_finishes.specs.Makings.{Beginning, OpeningFacts, HasMade}
-use Rattle.papaya_effects.specs.Effects.{names_same, is_place, named, linked_on, stored_on, in_block_on, in_table_on, written_on, known_after}
-use Rattle.papaya_effects.specs.Known.{Known}
-use Rattle.papaya_effects.specs.declared.acting.Acting.{Acting}
-use Rattle.papaya_effects.specs.declared.role.Role.{Role}
-use Rattle.papaya_effects.specs.declared.role.Role.TheVariants as role
-use Rattle.papaya_executor.specs.IsAt.{Scene, IsAt}
-use Rattle.papaya_executor.specs.declared.executor.Executor.{Executor}
+use Rattle.papaya_follows.specs.Given.SeizeWords.declared.at.At.{At}
+use Rattle.papaya_follows.specs.Given.SeizeWords.declared.at.At.TheVariants.{Root, Used, Slot, Entry, Word}
+use Rattle.papaya_follows.specs.Given.SeizeWords.Mem.{Mem, value_at}
+use Rattle.papaya_follows.specs.Given.SeizeWords.Word.{block_in}
+use Rattle.papaya_follows.specs.Given.Seize.World.{World}
+use Rattle.papaya_follows.specs.Given.Tables.declared.node.Node.{Node}
+use Rattle.papaya_follows.specs.Given.Tables.declared.node.Node.TheVariants as node
+use Rattle.papaya_follows.specs.Given.Tables.declared.table_words.TheConstants.{NEXT}
+use Rattle.papaya_follows.specs.Given.Resize.declared.new_map.NewMap.{NewMap}
+use Rattle.papaya_follows.specs.Given.Resize.declared.new_map.Opening.{Opening}
+use Rattle.papaya_follows.specs.Given.Resize.declared.new_map.Opening.TheVariants as opening
+use Rattle.papaya_follows.specs.Given.Schedules.Lists.{put}
+use Rattle.papaya_follows.specs.Given.Schedules.Moment.{Moment}
+use Rattle.papaya_follows.specs.Given.Teller.declared.changed.Changed.{Changed}
+use Rattle.papaya_follows.specs.Given.Teller.declared.changed.Changed.TheVariants as changed
+use Rattle.papaya_follows.specs.Given.Finishes.Makings.{Beginning, OpeningFacts, HasMade}
+use Rattle.papaya_follows.specs.Given.Effects.Effects.{names_same, is_place, named, linked_on, stored_on, in_block_on, in_table_on, written_on, known_after}
+use Rattle.papaya_follows.specs.Given.Effects.Known.{Known}
+use Rattle.papaya_follows.specs.Given.Effects.declared.acting.Acting.{Acting}
+use Rattle.papaya_follows.specs.Given.Effects.declared.role.Role.{Role}
+use Rattle.papaya_follows.specs.Given.Effects.declared.role.Role.TheVariants as role
+use Rattle.papaya_follows.specs.Given.Executor.IsAt.{Scene, IsAt}
+use Rattle.papaya_follows.specs.Given.Executor.declared.executor.Executor.{Executor}
 use Rattle.papaya_follows.specs.Blocks.{HasRole, ShowsBlocks}
 use Rattle.papaya_follows.proofs.Alike.{put_elsewhere}
 use Rattle.papaya_follows.proofs.Operations.{LeavesBy, Operated, operated_leaves}

@@ -2,15 +2,15 @@
 use Rattle.std.specs.Prelude.{◌≡◌, ℕ, zero, suc, ◌<◌, ◌≤◌, ◌==◌, Bool, true, false, List, [], ◌∷◌, ◌++◌, length, filter, find, map, if◌then◌else◌, ◌⊎◌}
 use Rattle.std.proofs.Common.{refl, ap, sym, ◌∙◌, arith, inl, inr}
 use Rattle.std.proofs.lemmas.Bool.{eq-eqb, cases_eq}
-use Rattle.papaya_schedules.specs.declared.effect.Table.{Table}
-use Rattle.papaya_schedules.specs.Effects.{all_at, at_stage}
-use Rattle.papaya_schedules.specs.Lists.{put, is_among}
-use Rattle.papaya_schedules.specs.Moment.{Place, InMap, Stage, TableThere, Moment}
-use Rattle.papaya_schedules.specs.Things.{same_table}
-use Rattle.papaya_schedules.specs.Views.{is_in_map, is_in_a_map, behind}
-use Rattle.papaya_rule.specs.Chart.{Chart}
-use Rattle.papaya_finishes.specs.Maps.{Standing}
-use Rattle.papaya_effects.specs.Known.{Known}
+use Rattle.papaya_follows.specs.Given.Schedules.declared.effect.Table.{Table}
+use Rattle.papaya_follows.specs.Given.Schedules.Effects.{all_at, at_stage}
+use Rattle.papaya_follows.specs.Given.Schedules.Lists.{put, is_among}
+use Rattle.papaya_follows.specs.Given.Schedules.Moment.{Place, InMap, Stage, TableThere, Moment}
+use Rattle.papaya_follows.specs.Given.Schedules.Things.{same_table}
+use Rattle.papaya_follows.specs.Given.Schedules.Views.{is_in_map, is_in_a_map, behind}
+use Rattle.papaya_follows.specs.Given.Rule.Chart.{Chart}
+use Rattle.papaya_follows.specs.Given.Finishes.Maps.{Standing}
+use Rattle.papaya_follows.specs.Given.Effects.Known.{Known}
 use Rattle.papaya_follows.specs.Maps.{table_of, shape_at, tables_to, ShowsMap}
 use Rattle.papaya_follows.proofs.Alike.{AlikePairs, put_here, put_elsewhere}
 use Rattle.papaya_follows.proofs.Onward.{blocks_same, pairs_same, pairs_on}

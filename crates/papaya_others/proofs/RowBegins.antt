@@ -1,15 +1,15 @@
 -- A row begins on a slot: nothing is shown otherwise.
 use Rattle.std.specs.Prelude.{◌≡◌, ℕ, Bool}
 use Rattle.std.proofs.Common.{refl, ap, sym, subst}
-use Rattle.seize_words.specs.Mem.{Mem, value_at}
-use Rattle.seize.specs.World.{World, Hand, Begins, Begin}
-use Rattle.papaya_tables.specs.Nodes.{deferred_word}
-use Rattle.papaya_tables.specs.declared.node.Node.{Node}
+use Rattle.papaya_follows.specs.Given.SeizeWords.Mem.{Mem, value_at}
+use Rattle.papaya_follows.specs.Given.Seize.World.{World, Hand, Begins, Begin}
+use Rattle.papaya_follows.specs.Given.Tables.Nodes.{deferred_word}
+use Rattle.papaya_follows.specs.Given.Tables.declared.node.Node.{Node}
 use Rattle.papaya_follows.specs.Blocks.{WasLinked}
-use Rattle.papaya_executor.specs.IsAt.{slot_of}
-use Rattle.papaya_executor.specs.Rows.{request_of}
-use Rattle.papaya_executor.specs.declared.row.SlotCall.{SlotCall}
-use Rattle.papaya_executor.specs.declared.row.SlotCall.TheVariants as call
+use Rattle.papaya_follows.specs.Given.Executor.IsAt.{slot_of}
+use Rattle.papaya_follows.specs.Given.Executor.Rows.{request_of}
+use Rattle.papaya_follows.specs.Given.Executor.declared.row.SlotCall.{SlotCall}
+use Rattle.papaya_follows.specs.Given.Executor.declared.row.SlotCall.TheVariants as call
 use Rattle.papaya_others.specs.Rows.{scene_then, RowsBeginShown}
 use Rattle.papaya_others.proofs.Scenes.{all_stay}
 use Rattle.papaya_others.proofs.Stays.{StaysBlock}

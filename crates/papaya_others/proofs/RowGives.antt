@@ -1,44 +1,44 @@
 -- A row on a slot hands out the value of the block that it has taken away.
 use Rattle.std.specs.Prelude.{◌≡◌, ℕ, nat_lt, Bool, true, false, List, [], Option, Some, Ok, Err, if◌then◌else◌}
 use Rattle.std.proofs.Common.{refl, ap, sym, subst}
-use Rattle.seize_words.specs.Mem.{Mem, Took, value_at}
-use Rattle.seize_words.specs.Op.{Op, Out, Load, Store, Swap, Add, Or, Exchange, Make, Take, Rewrite, Room, Found, Exchanged, Made, Taken, Roomed}
-use Rattle.seize_words.specs.Plan.{Plan, Turn, Do, Now, Ends}
-use Rattle.seize_words.specs.Word.{block_in}
-use Rattle.seize.specs.Enter.{enter_plan, unregister_plan}
-use Rattle.seize.specs.Law.{Effect}
-use Rattle.seize.specs.Leave as leave
-use Rattle.seize.specs.Register as register
-use Rattle.seize.specs.Sequence.{taken_in}
-use Rattle.seize.specs.Settle as settle
-use Rattle.seize.specs.World.{settle_effects}
-use Rattle.seize.specs.declared.progress.Progress.{Progress}
-use Rattle.seize.specs.declared.progress.Progress.TheVariants as progress
-use Rattle.seize.specs.declared.rows.leave.Leave.{Leave}
-use Rattle.seize.specs.declared.rows.leave.Leaving.{Leaving}
-use Rattle.seize.specs.declared.rows.leave.Leaving.TheVariants as leaving
-use Rattle.seize.specs.declared.rows.register.Register.{Register}
-use Rattle.seize.specs.declared.rows.register.Registering.{Registering}
-use Rattle.seize.specs.declared.rows.register.Registering.TheVariants as registering
-use Rattle.seize.specs.declared.rows.settle.Settle.{Settle}
-use Rattle.seize.specs.declared.rows.settle.Settled.{Settled}
-use Rattle.seize.specs.declared.rows.settle.Settled.TheVariants as settled
-use Rattle.seize.specs.declared.rows.settle.Settling.{Settling}
-use Rattle.seize.specs.declared.rows.settle.Settling.TheVariants as settling
-use Rattle.seize.specs.declared.states.TheConstants.{ACTIVE}
-use Rattle.seize_rule.proofs.Rows.Taken.{TellsTaken, settle_tells}
-use Rattle.papaya_tables.specs.Nodes.{deferred_word}
-use Rattle.papaya_tables.specs.declared.node.Node.{Node}
-use Rattle.papaya_tells.specs.Seen.{seen_of}
-use Rattle.papaya_teller.specs.Tells.{told_of, StepsTold}
-use Rattle.papaya_teller.specs.declared.changed.Changed.{Changed}
-use Rattle.papaya_teller.specs.declared.changed.Changed.TheVariants as changed
-use Rattle.papaya_executor.specs.OnSlots.{RowSteps}
-use Rattle.papaya_executor.specs.Rows.{of_registering, of_storing, of_settling}
-use Rattle.papaya_executor.specs.declared.row.RowTold.{RowTold}
-use Rattle.papaya_executor.specs.declared.row.SlotRow.{SlotRow}
-use Rattle.papaya_executor.specs.declared.row.SlotRow.TheVariants as rows
-use Rattle.papaya_executor.proofs.Forgotten.{as_step}
+use Rattle.papaya_follows.specs.Given.SeizeWords.Mem.{Mem, Took, value_at}
+use Rattle.papaya_follows.specs.Given.SeizeWords.Op.{Op, Out, Load, Store, Swap, Add, Or, Exchange, Make, Take, Rewrite, Room, Found, Exchanged, Made, Taken, Roomed}
+use Rattle.papaya_follows.specs.Given.SeizeWords.Plan.{Plan, Turn, Do, Now, Ends}
+use Rattle.papaya_follows.specs.Given.SeizeWords.Word.{block_in}
+use Rattle.papaya_follows.specs.Given.Seize.Enter.{enter_plan, unregister_plan}
+use Rattle.papaya_follows.specs.Given.Seize.Law.{Effect}
+use Rattle.papaya_follows.specs.Given.Seize.Leave as leave
+use Rattle.papaya_follows.specs.Given.Seize.Register as register
+use Rattle.papaya_follows.specs.Given.Seize.Sequence.{taken_in}
+use Rattle.papaya_follows.specs.Given.Seize.Settle as settle
+use Rattle.papaya_follows.specs.Given.Seize.World.{settle_effects}
+use Rattle.papaya_follows.specs.Given.Seize.declared.progress.Progress.{Progress}
+use Rattle.papaya_follows.specs.Given.Seize.declared.progress.Progress.TheVariants as progress
+use Rattle.papaya_follows.specs.Given.Seize.declared.rows.leave.Leave.{Leave}
+use Rattle.papaya_follows.specs.Given.Seize.declared.rows.leave.Leaving.{Leaving}
+use Rattle.papaya_follows.specs.Given.Seize.declared.rows.leave.Leaving.TheVariants as leaving
+use Rattle.papaya_follows.specs.Given.Seize.declared.rows.register.Register.{Register}
+use Rattle.papaya_follows.specs.Given.Seize.declared.rows.register.Registering.{Registering}
+use Rattle.papaya_follows.specs.Given.Seize.declared.rows.register.Registering.TheVariants as registering
+use Rattle.papaya_follows.specs.Given.Seize.declared.rows.settle.Settle.{Settle}
+use Rattle.papaya_follows.specs.Given.Seize.declared.rows.settle.Settled.{Settled}
+use Rattle.papaya_follows.specs.Given.Seize.declared.rows.settle.Settled.TheVariants as settled
+use Rattle.papaya_follows.specs.Given.Seize.declared.rows.settle.Settling.{Settling}
+use Rattle.papaya_follows.specs.Given.Seize.declared.rows.settle.Settling.TheVariants as settling
+use Rattle.papaya_follows.specs.Given.Seize.declared.states.TheConstants.{ACTIVE}
+use Rattle.papaya_follows.proofs.Given.SeizeRule.Rows.Taken.{TellsTaken, settle_tells}
+use Rattle.papaya_follows.specs.Given.Tables.Nodes.{deferred_word}
+use Rattle.papaya_follows.specs.Given.Tables.declared.node.Node.{Node}
+use Rattle.papaya_follows.specs.Given.Tells.Seen.{seen_of}
+use Rattle.papaya_follows.specs.Given.Teller.Tells.{told_of, StepsTold}
+use Rattle.papaya_follows.specs.Given.Teller.declared.changed.Changed.{Changed}
+use Rattle.papaya_follows.specs.Given.Teller.declared.changed.Changed.TheVariants as changed
+use Rattle.papaya_follows.specs.Given.Executor.OnSlots.{RowSteps}
+use Rattle.papaya_follows.specs.Given.Executor.Rows.{of_registering, of_storing, of_settling}
+use Rattle.papaya_follows.specs.Given.Executor.declared.row.RowTold.{RowTold}
+use Rattle.papaya_follows.specs.Given.Executor.declared.row.SlotRow.{SlotRow}
+use Rattle.papaya_follows.specs.Given.Executor.declared.row.SlotRow.TheVariants as rows
+use Rattle.papaya_follows.proofs.Given.Executor.Forgotten.{as_step}
 use Rattle.papaya_follows.specs.Steps.{TakesNone}
 use Rattle.papaya_others.specs.Gives.{GivesWhatItTook, RowsGiveWhatTheyTook}
 use Rattle.papaya_others.proofs.Outcomes.{told_in}

@@ -1,36 +1,36 @@
 -- What a row on a slot does by one operation: it writes words of slots and of entries, makes room for slots, or takes a block away.
 use Rattle.std.specs.Prelude.{ℕ, Option, Ok}
 use Rattle.std.proofs.Common.{sym, subst}
-use Rattle.seize_words.specs.declared.at.At.{At}
-use Rattle.seize_words.specs.declared.at.At.TheVariants.{Slot, Entry}
-use Rattle.seize_words.specs.Mem.{Mem}
-use Rattle.seize_words.specs.Op.{Op, Out, Load, Store, Swap, Add, Or, Exchange, Make, Take, Rewrite, Room, Found, Exchanged, Roomed}
-use Rattle.seize_words.specs.Plan.{Plan, Turn, Do, plan_as}
-use Rattle.seize.specs.World.{MayStep}
-use Rattle.seize.specs.declared.rows.leave.Leave.{Leave}
-use Rattle.seize.specs.declared.rows.leave.Leaving.{Leaving}
-use Rattle.seize.specs.declared.rows.leave.Leaving.TheVariants as leaving
-use Rattle.seize.specs.declared.rows.register.Register.{Register}
-use Rattle.seize.specs.declared.rows.register.Registering.{Registering}
-use Rattle.seize.specs.declared.rows.register.Registering.TheVariants as registering
-use Rattle.seize.specs.declared.rows.settle.Settle.{Settle}
-use Rattle.seize.specs.declared.rows.settle.Settling.{Settling}
-use Rattle.seize.specs.declared.rows.settle.Settling.TheVariants as settling
-use Rattle.seize.specs.Enter.{enter_plan, unregister_plan}
-use Rattle.seize.specs.Leave as leave
-use Rattle.seize.specs.Register as register
-use Rattle.seize.specs.Settle as settle
-use Rattle.papaya_tables.specs.Nodes.{deferred_word}
-use Rattle.papaya_tables.specs.declared.node.Node.{Node}
-use Rattle.papaya_tells.specs.Seen.{seen_of}
-use Rattle.papaya_teller.specs.Tells.{told_of, StepsTold}
-use Rattle.papaya_teller.specs.declared.changed.Changed.{Changed}
-use Rattle.papaya_teller.specs.declared.changed.Changed.TheVariants as changed
-use Rattle.papaya_executor.specs.IsAt.{row_of}
-use Rattle.papaya_executor.specs.OnSlots.{RowSteps}
-use Rattle.papaya_executor.specs.declared.row.RowTold.{RowTold}
-use Rattle.papaya_executor.specs.declared.row.SlotRow.{SlotRow}
-use Rattle.papaya_executor.specs.declared.row.SlotRow.TheVariants as rows
+use Rattle.papaya_follows.specs.Given.SeizeWords.declared.at.At.{At}
+use Rattle.papaya_follows.specs.Given.SeizeWords.declared.at.At.TheVariants.{Slot, Entry}
+use Rattle.papaya_follows.specs.Given.SeizeWords.Mem.{Mem}
+use Rattle.papaya_follows.specs.Given.SeizeWords.Op.{Op, Out, Load, Store, Swap, Add, Or, Exchange, Make, Take, Rewrite, Room, Found, Exchanged, Roomed}
+use Rattle.papaya_follows.specs.Given.SeizeWords.Plan.{Plan, Turn, Do, plan_as}
+use Rattle.papaya_follows.specs.Given.Seize.World.{MayStep}
+use Rattle.papaya_follows.specs.Given.Seize.declared.rows.leave.Leave.{Leave}
+use Rattle.papaya_follows.specs.Given.Seize.declared.rows.leave.Leaving.{Leaving}
+use Rattle.papaya_follows.specs.Given.Seize.declared.rows.leave.Leaving.TheVariants as leaving
+use Rattle.papaya_follows.specs.Given.Seize.declared.rows.register.Register.{Register}
+use Rattle.papaya_follows.specs.Given.Seize.declared.rows.register.Registering.{Registering}
+use Rattle.papaya_follows.specs.Given.Seize.declared.rows.register.Registering.TheVariants as registering
+use Rattle.papaya_follows.specs.Given.Seize.declared.rows.settle.Settle.{Settle}
+use Rattle.papaya_follows.specs.Given.Seize.declared.rows.settle.Settling.{Settling}
+use Rattle.papaya_follows.specs.Given.Seize.declared.rows.settle.Settling.TheVariants as settling
+use Rattle.papaya_follows.specs.Given.Seize.Enter.{enter_plan, unregister_plan}
+use Rattle.papaya_follows.specs.Given.Seize.Leave as leave
+use Rattle.papaya_follows.specs.Given.Seize.Register as register
+use Rattle.papaya_follows.specs.Given.Seize.Settle as settle
+use Rattle.papaya_follows.specs.Given.Tables.Nodes.{deferred_word}
+use Rattle.papaya_follows.specs.Given.Tables.declared.node.Node.{Node}
+use Rattle.papaya_follows.specs.Given.Tells.Seen.{seen_of}
+use Rattle.papaya_follows.specs.Given.Teller.Tells.{told_of, StepsTold}
+use Rattle.papaya_follows.specs.Given.Teller.declared.changed.Changed.{Changed}
+use Rattle.papaya_follows.specs.Given.Teller.declared.changed.Changed.TheVariants as changed
+use Rattle.papaya_follows.specs.Given.Executor.IsAt.{row_of}
+use Rattle.papaya_follows.specs.Given.Executor.OnSlots.{RowSteps}
+use Rattle.papaya_follows.specs.Given.Executor.declared.row.RowTold.{RowTold}
+use Rattle.papaya_follows.specs.Given.Executor.declared.row.SlotRow.{SlotRow}
+use Rattle.papaya_follows.specs.Given.Executor.declared.row.SlotRow.TheVariants as rows
 use Rattle.papaya_follows.proofs.Operations.{Operated, operated}
 
 -- a word of the collector's own

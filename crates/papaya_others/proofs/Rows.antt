@@ -1,38 +1,38 @@
 -- A step of a row on a slot: the moment after its effects shows the scene after it, also where it reclaims a pair or a table.
 use Rattle.std.specs.Prelude.{◌&&◌, ◌≡◌, ◌≢◌, ℕ, zero, suc, nat_lt, Bool, List, [], ◌∷◌, Option, Some, None}
 use Rattle.std.proofs.Common.{refl, ap, sym, subst, ◌∙◌, arith}
-use Rattle.seize_words.specs.declared.at.At.TheVariants.{Root, Used, Slot, Entry, Word}
-use Rattle.seize_words.specs.Mem.{Mem, value_at}
-use Rattle.seize.specs.Sequence.{taken_in}
-use Rattle.seize.specs.World.{World, Hand, Step, Steps', times}
-use Rattle.seize_rule.proofs.Rows.Effects.{hand_kept}
-use Rattle.seize_alone.proofs.Spared.Rows.{RowStepped}
-use Rattle.seize_alone.proofs.Histories.NotTaken.{did, taken_gone}
-use Rattle.seize_alone.proofs.Histories.Reached.{Reached}
-use Rattle.papaya_tables.specs.Nodes.{deferred_word}
-use Rattle.papaya_tables.specs.declared.node.Node.{Node}
-use Rattle.papaya_schedules.specs.declared.effect.Effect.{Effect}
-use Rattle.papaya_schedules.specs.declared.effect.Effect.TheVariants.{PairGivenUp, TableGivenUp, Reclaimed}
-use Rattle.papaya_schedules.specs.declared.effect.Thing.TheVariants.{APair, ATable}
-use Rattle.papaya_schedules.specs.Effects.{with_effects, AtEachEffect}
-use Rattle.papaya_schedules.specs.Moment.{Handed, IsReclaimed, Moment}
-use Rattle.papaya_teller.specs.declared.changed.Changed.{Changed}
-use Rattle.papaya_teller.specs.declared.changed.Changed.TheVariants as changed
-use Rattle.papaya_rule.specs.InWorld.{IsMapIn}
-use Rattle.papaya_callers.proofs.Together.Came.{came_reached}
-use Rattle.papaya_finishes.specs.Maps.{Standing, IsSameMap}
-use Rattle.papaya_effects.specs.Effects.{names_same, taken_by, effects_of, known_after}
-use Rattle.papaya_effects.specs.Known.{Known, with_role}
-use Rattle.papaya_effects.specs.declared.acting.Acting.TheVariants.{Row}
-use Rattle.papaya_effects.specs.declared.role.Role.{Role}
-use Rattle.papaya_effects.specs.declared.role.Role.TheVariants as role
-use Rattle.papaya_executor.specs.IsAt.{Scene, IsAt, slot_of, work_of}
-use Rattle.papaya_executor.specs.OnSlots.{RowSteps, HappensAt}
-use Rattle.papaya_executor.specs.declared.executor.Executor.{Executor}
-use Rattle.papaya_executor.specs.declared.row.RowTold.{RowTold}
-use Rattle.papaya_executor.specs.declared.row.SlotRow.{SlotRow}
-use Rattle.papaya_executor.specs.declared.worker.Work.TheVariants as work
-use Rattle.papaya_executor.proofs.OnSlots.{row_at, may_taken}
+use Rattle.papaya_follows.specs.Given.SeizeWords.declared.at.At.TheVariants.{Root, Used, Slot, Entry, Word}
+use Rattle.papaya_follows.specs.Given.SeizeWords.Mem.{Mem, value_at}
+use Rattle.papaya_follows.specs.Given.Seize.Sequence.{taken_in}
+use Rattle.papaya_follows.specs.Given.Seize.World.{World, Hand, Step, Steps', times}
+use Rattle.papaya_follows.proofs.Given.SeizeRule.Rows.Effects.{hand_kept}
+use Rattle.papaya_follows.proofs.Given.SeizeAlone.Spared.Rows.{RowStepped}
+use Rattle.papaya_follows.proofs.Given.SeizeAlone.Histories.NotTaken.{did, taken_gone}
+use Rattle.papaya_follows.proofs.Given.SeizeAlone.Histories.Reached.{Reached}
+use Rattle.papaya_follows.specs.Given.Tables.Nodes.{deferred_word}
+use Rattle.papaya_follows.specs.Given.Tables.declared.node.Node.{Node}
+use Rattle.papaya_follows.specs.Given.Schedules.declared.effect.Effect.{Effect}
+use Rattle.papaya_follows.specs.Given.Schedules.declared.effect.Effect.TheVariants.{PairGivenUp, TableGivenUp, Reclaimed}
+use Rattle.papaya_follows.specs.Given.Schedules.declared.effect.Thing.TheVariants.{APair, ATable}
+use Rattle.papaya_follows.specs.Given.Schedules.Effects.{with_effects, AtEachEffect}
+use Rattle.papaya_follows.specs.Given.Schedules.Moment.{Handed, IsReclaimed, Moment}
+use Rattle.papaya_follows.specs.Given.Teller.declared.changed.Changed.{Changed}
+use Rattle.papaya_follows.specs.Given.Teller.declared.changed.Changed.TheVariants as changed
+use Rattle.papaya_follows.specs.Given.Rule.InWorld.{IsMapIn}
+use Rattle.papaya_follows.proofs.Given.Callers.Together.Came.{came_reached}
+use Rattle.papaya_follows.specs.Given.Finishes.Maps.{Standing, IsSameMap}
+use Rattle.papaya_follows.specs.Given.Effects.Effects.{names_same, taken_by, effects_of, known_after}
+use Rattle.papaya_follows.specs.Given.Effects.Known.{Known, with_role}
+use Rattle.papaya_follows.specs.Given.Effects.declared.acting.Acting.TheVariants.{Row}
+use Rattle.papaya_follows.specs.Given.Effects.declared.role.Role.{Role}
+use Rattle.papaya_follows.specs.Given.Effects.declared.role.Role.TheVariants as role
+use Rattle.papaya_follows.specs.Given.Executor.IsAt.{Scene, IsAt, slot_of, work_of}
+use Rattle.papaya_follows.specs.Given.Executor.OnSlots.{RowSteps, HappensAt}
+use Rattle.papaya_follows.specs.Given.Executor.declared.executor.Executor.{Executor}
+use Rattle.papaya_follows.specs.Given.Executor.declared.row.RowTold.{RowTold}
+use Rattle.papaya_follows.specs.Given.Executor.declared.row.SlotRow.{SlotRow}
+use Rattle.papaya_follows.specs.Given.Executor.declared.worker.Work.TheVariants as work
+use Rattle.papaya_follows.proofs.Given.Executor.OnSlots.{row_at, may_taken}
 use Rattle.papaya_follows.specs.Blocks.{WasLinked}
 use Rattle.papaya_follows.specs.Calls.{ShowsCalls}
 use Rattle.papaya_follows.specs.Shows.{Shows}

@@ -1,24 +1,24 @@
 -- Scenes whose maps stand as they did, but for what may be looked at: what a moment shows of them where a block is another one.
 use Rattle.std.specs.Prelude.{◌≡◌, ◌≢◌, ℕ, ◌<◌, ◌≤◌, ◌==◌, Bool, true, false, List, filter, find, map, Option, Some, None}
 use Rattle.std.proofs.Common.{refl, ap, sym, subst, ◌∙◌}
-use Rattle.seize_words.specs.Mem.{value_at}
-use Rattle.seize.specs.World.{World}
-use Rattle.papaya_tables.specs.declared.node.Node.{Node}
-use Rattle.papaya_schedules.specs.declared.effect.Table.{Table}
-use Rattle.papaya_schedules.specs.Effects.{all_at, at_stage}
-use Rattle.papaya_schedules.specs.Lists.{put}
-use Rattle.papaya_schedules.specs.Moment.{Place, GivenBack, Stage, Moment}
-use Rattle.papaya_schedules.specs.Things.{same_table}
-use Rattle.papaya_schedules.specs.Views.{is_in_map, behind}
-use Rattle.papaya_rule.specs.InWorld.{IsMapIn}
-use Rattle.papaya_rule.specs.Words.{Blocks}
-use Rattle.papaya_rule.proofs.World.Hands.{current_known}
-use Rattle.papaya_callers.specs.Sights.{Sight, IsPartOf}
-use Rattle.papaya_finishes.specs.Maps.{Standing, IsSameMap}
-use Rattle.papaya_effects.specs.Known.{Known}
-use Rattle.papaya_effects.specs.declared.role.Role.{Role}
-use Rattle.papaya_effects.specs.declared.role.Role.TheVariants as role
-use Rattle.papaya_executor.specs.IsAt.{Scene}
+use Rattle.papaya_follows.specs.Given.SeizeWords.Mem.{value_at}
+use Rattle.papaya_follows.specs.Given.Seize.World.{World}
+use Rattle.papaya_follows.specs.Given.Tables.declared.node.Node.{Node}
+use Rattle.papaya_follows.specs.Given.Schedules.declared.effect.Table.{Table}
+use Rattle.papaya_follows.specs.Given.Schedules.Effects.{all_at, at_stage}
+use Rattle.papaya_follows.specs.Given.Schedules.Lists.{put}
+use Rattle.papaya_follows.specs.Given.Schedules.Moment.{Place, GivenBack, Stage, Moment}
+use Rattle.papaya_follows.specs.Given.Schedules.Things.{same_table}
+use Rattle.papaya_follows.specs.Given.Schedules.Views.{is_in_map, behind}
+use Rattle.papaya_follows.specs.Given.Rule.InWorld.{IsMapIn}
+use Rattle.papaya_follows.specs.Given.Rule.Words.{Blocks}
+use Rattle.papaya_follows.proofs.Given.Rule.World.Hands.{current_known}
+use Rattle.papaya_follows.specs.Given.Callers.Sights.{Sight, IsPartOf}
+use Rattle.papaya_follows.specs.Given.Finishes.Maps.{Standing, IsSameMap}
+use Rattle.papaya_follows.specs.Given.Effects.Known.{Known}
+use Rattle.papaya_follows.specs.Given.Effects.declared.role.Role.{Role}
+use Rattle.papaya_follows.specs.Given.Effects.declared.role.Role.TheVariants as role
+use Rattle.papaya_follows.specs.Given.Executor.IsAt.{Scene}
 use Rattle.papaya_follows.specs.Blocks.{HasRole}
 use Rattle.papaya_follows.specs.Calls.{ShowsCalls}
 use Rattle.papaya_follows.specs.Maps.{table_of, ShowsMap}

@@ -1,27 +1,27 @@
 -- The counter of a map that is being made is noted as that of its map, whoever takes a step.
 use Rattle.std.specs.Prelude.{◌≡◌, ℕ, Bool, List, Some}
-use Rattle.seize.specs.World.{with_at}
-use Rattle.seize.specs.declared.progress.Progress.{Progress as Making}
-use Rattle.seize.specs.declared.rows.settle.Settled.{Settled}
-use Rattle.papaya_tables.specs.declared.node.Node.{Node}
-use Rattle.papaya_tables.specs.declared.setting.Setting.{Setting}
-use Rattle.papaya_raw.specs.declared.machines.progress.Progress.{Progress}
-use Rattle.papaya_schedules.specs.Moment.{Moment}
-use Rattle.papaya_callers.specs.Together.{UnderWay}
-use Rattle.papaya_finishes.specs.Endings.{Finishing}
-use Rattle.papaya_finishes.specs.Makings.{Beginning, HasMade}
-use Rattle.papaya_effects.specs.Effects.{known_after}
-use Rattle.papaya_effects.specs.Known.{Known}
-use Rattle.papaya_effects.specs.declared.acting.Acting.TheVariants as acts
-use Rattle.papaya_executor.specs.Ending.{EndingLeads}
-use Rattle.papaya_executor.specs.IsAt.{Scene, IsAt, work_of}
-use Rattle.papaya_executor.specs.Making.{MakingLeads}
-use Rattle.papaya_executor.specs.OnSlots.{RowLeads}
-use Rattle.papaya_executor.specs.Stepping.{StepLeads, scene_after}
-use Rattle.papaya_executor.specs.declared.executor.Executor.{Executor}
-use Rattle.papaya_executor.specs.declared.row.RowTold.{RowTold}
-use Rattle.papaya_executor.specs.declared.row.SlotRow.{SlotRow}
-use Rattle.papaya_executor.specs.declared.worker.Work.TheVariants.{OnSlot}
+use Rattle.papaya_follows.specs.Given.Seize.World.{with_at}
+use Rattle.papaya_follows.specs.Given.Seize.declared.progress.Progress.{Progress as Making}
+use Rattle.papaya_follows.specs.Given.Seize.declared.rows.settle.Settled.{Settled}
+use Rattle.papaya_follows.specs.Given.Tables.declared.node.Node.{Node}
+use Rattle.papaya_follows.specs.Given.Tables.declared.setting.Setting.{Setting}
+use Rattle.papaya_follows.specs.Given.Raw.declared.machines.progress.Progress.{Progress}
+use Rattle.papaya_follows.specs.Given.Schedules.Moment.{Moment}
+use Rattle.papaya_follows.specs.Given.Callers.Together.{UnderWay}
+use Rattle.papaya_follows.specs.Given.Finishes.Endings.{Finishing}
+use Rattle.papaya_follows.specs.Given.Finishes.Makings.{Beginning, HasMade}
+use Rattle.papaya_follows.specs.Given.Effects.Effects.{known_after}
+use Rattle.papaya_follows.specs.Given.Effects.Known.{Known}
+use Rattle.papaya_follows.specs.Given.Effects.declared.acting.Acting.TheVariants as acts
+use Rattle.papaya_follows.specs.Given.Executor.Ending.{EndingLeads}
+use Rattle.papaya_follows.specs.Given.Executor.IsAt.{Scene, IsAt, work_of}
+use Rattle.papaya_follows.specs.Given.Executor.Making.{MakingLeads}
+use Rattle.papaya_follows.specs.Given.Executor.OnSlots.{RowLeads}
+use Rattle.papaya_follows.specs.Given.Executor.Stepping.{StepLeads, scene_after}
+use Rattle.papaya_follows.specs.Given.Executor.declared.executor.Executor.{Executor}
+use Rattle.papaya_follows.specs.Given.Executor.declared.row.RowTold.{RowTold}
+use Rattle.papaya_follows.specs.Given.Executor.declared.row.SlotRow.{SlotRow}
+use Rattle.papaya_follows.specs.Given.Executor.declared.worker.Work.TheVariants.{OnSlot}
 use Rattle.papaya_follows.specs.Shows.{Shows}
 use Rattle.papaya_others.specs.Endings.{ending_after}
 use Rattle.papaya_others.specs.Makings.{NotesCounter, making_after}

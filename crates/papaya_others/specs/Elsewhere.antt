@@ -1,10 +1,10 @@
 -- What is nothing to what is shown: of a moment all but its pairs, maps, tables and calls, and of a scene all but its memory, who has which block, its maps, and
 -- its calls.
 use Rattle.std.specs.Prelude.{◌≡◌, ℕ, Bool, List}
-use Rattle.papaya_schedules.specs.Moment.{Moment}
-use Rattle.papaya_finishes.specs.Maps.{IsSameMap}
-use Rattle.papaya_effects.specs.Known.{Known}
-use Rattle.papaya_executor.specs.IsAt.{Scene}
+use Rattle.papaya_follows.specs.Given.Schedules.Moment.{Moment}
+use Rattle.papaya_follows.specs.Given.Finishes.Maps.{IsSameMap}
+use Rattle.papaya_follows.specs.Given.Effects.Known.{Known}
+use Rattle.papaya_follows.specs.Given.Executor.IsAt.{Scene}
 use Rattle.papaya_follows.specs.Shows.{Shows}
 use Rattle.papaya_others.specs.After.{ShowsAfter}
 

@@ -1,25 +1,25 @@
 -- Ends of maps: where one begins, takes its steps and is over, the moment shows the scene then.
 use Rattle.std.specs.Prelude.{◌≡◌, ℕ, Bool, false, not, List, [], ◌∷◌, ◌++◌, filter, Some, None}
-use Rattle.seize.specs.World.{World, with_at}
-use Rattle.seize.specs.declared.rows.settle.Settled.{Settled}
-use Rattle.seize.specs.declared.rows.settle.Settled.TheVariants as settled
-use Rattle.papaya_tables.specs.declared.node.Node.{Node}
-use Rattle.papaya_runs.specs.Same.{is_same}
-use Rattle.papaya_schedules.specs.Effects.{with_effects, AtEachEffect}
-use Rattle.papaya_schedules.specs.Moment.{MapThere, Remains, Moment}
-use Rattle.papaya_schedules.specs.Views.{map_at}
-use Rattle.papaya_raw.specs.declared.machines.end_map.EndMap.{EndMap}
-use Rattle.papaya_teller.specs.declared.changed.Changed.{Changed}
-use Rattle.papaya_teller.specs.declared.changed.Changed.TheVariants.{Took}
-use Rattle.papaya_effects.specs.Effects.{effects_of, known_after}
-use Rattle.papaya_effects.specs.Known.{Known}
-use Rattle.papaya_effects.specs.declared.acting.Acting.TheVariants.{Ending}
-use Rattle.papaya_finishes.specs.Endings.{Finishing}
-use Rattle.papaya_finishes.specs.FactsEnds.{Deed}
-use Rattle.papaya_finishes.specs.Maps.{Standing}
-use Rattle.papaya_executor.specs.Ending.{EndingLeads, EndingComesTo, ending_begun, ending_goes}
-use Rattle.papaya_executor.specs.IsAt.{Scene, IsAt}
-use Rattle.papaya_executor.specs.declared.executor.Executor.{Executor}
+use Rattle.papaya_follows.specs.Given.Seize.World.{World, with_at}
+use Rattle.papaya_follows.specs.Given.Seize.declared.rows.settle.Settled.{Settled}
+use Rattle.papaya_follows.specs.Given.Seize.declared.rows.settle.Settled.TheVariants as settled
+use Rattle.papaya_follows.specs.Given.Tables.declared.node.Node.{Node}
+use Rattle.papaya_follows.specs.Given.Runs.Same.{is_same}
+use Rattle.papaya_follows.specs.Given.Schedules.Effects.{with_effects, AtEachEffect}
+use Rattle.papaya_follows.specs.Given.Schedules.Moment.{MapThere, Remains, Moment}
+use Rattle.papaya_follows.specs.Given.Schedules.Views.{map_at}
+use Rattle.papaya_follows.specs.Given.Raw.declared.machines.end_map.EndMap.{EndMap}
+use Rattle.papaya_follows.specs.Given.Teller.declared.changed.Changed.{Changed}
+use Rattle.papaya_follows.specs.Given.Teller.declared.changed.Changed.TheVariants.{Took}
+use Rattle.papaya_follows.specs.Given.Effects.Effects.{effects_of, known_after}
+use Rattle.papaya_follows.specs.Given.Effects.Known.{Known}
+use Rattle.papaya_follows.specs.Given.Effects.declared.acting.Acting.TheVariants.{Ending}
+use Rattle.papaya_follows.specs.Given.Finishes.Endings.{Finishing}
+use Rattle.papaya_follows.specs.Given.Finishes.FactsEnds.{Deed}
+use Rattle.papaya_follows.specs.Given.Finishes.Maps.{Standing}
+use Rattle.papaya_follows.specs.Given.Executor.Ending.{EndingLeads, EndingComesTo, ending_begun, ending_goes}
+use Rattle.papaya_follows.specs.Given.Executor.IsAt.{Scene, IsAt}
+use Rattle.papaya_follows.specs.Given.Executor.declared.executor.Executor.{Executor}
 use Rattle.papaya_follows.specs.Shows.{Shows}
 use Rattle.papaya_follows.specs.Steps.{TakesNone}
 use Rattle.papaya_others.specs.After.{ShowsAfter}

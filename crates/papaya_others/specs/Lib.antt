@@ -7,3 +7,4 @@ pub mod Makings
 pub mod Counters
 pub mod Elsewhere
 pub mod Gives
+pub mod Given

@@ -1,23 +1,23 @@
 -- Makings of maps: where one begins and takes its steps, the moment shows the scene then, and the map, once it stands.
 use Rattle.std.specs.Prelude.{◌≡◌, ℕ, Bool, List, [], Option, Some, None}
-use Rattle.seize.specs.World.{World, with_at}
-use Rattle.seize.specs.declared.progress.Progress.{Progress}
-use Rattle.seize.specs.declared.progress.Progress.TheVariants as progress
-use Rattle.papaya_tables.specs.declared.node.Node.{Node}
-use Rattle.papaya_tables.specs.declared.setting.Setting.{Setting}
-use Rattle.papaya_resize.specs.declared.new_map.NewMap.{NewMap}
-use Rattle.papaya_schedules.specs.Beginning.{with_map}
-use Rattle.papaya_schedules.specs.Effects.{with_effects}
-use Rattle.papaya_schedules.specs.Moment.{InMap, MapThere, Moment}
-use Rattle.papaya_schedules.specs.Views.{map_at, tables_of}
-use Rattle.papaya_effects.specs.Effects.{effects_of, known_after}
-use Rattle.papaya_effects.specs.Known.{Known}
-use Rattle.papaya_effects.specs.declared.acting.Acting.TheVariants.{Making}
-use Rattle.papaya_effects.specs.declared.role.Role.TheVariants.{Counter}
-use Rattle.papaya_finishes.specs.Makings.{Beginning, HasMade}
-use Rattle.papaya_executor.specs.IsAt.{Scene, IsAt}
-use Rattle.papaya_executor.specs.Making.{MakingLeads, MakingComesTo}
-use Rattle.papaya_executor.specs.declared.executor.Executor.{Executor}
+use Rattle.papaya_follows.specs.Given.Seize.World.{World, with_at}
+use Rattle.papaya_follows.specs.Given.Seize.declared.progress.Progress.{Progress}
+use Rattle.papaya_follows.specs.Given.Seize.declared.progress.Progress.TheVariants as progress
+use Rattle.papaya_follows.specs.Given.Tables.declared.node.Node.{Node}
+use Rattle.papaya_follows.specs.Given.Tables.declared.setting.Setting.{Setting}
+use Rattle.papaya_follows.specs.Given.Resize.declared.new_map.NewMap.{NewMap}
+use Rattle.papaya_follows.specs.Given.Schedules.Beginning.{with_map}
+use Rattle.papaya_follows.specs.Given.Schedules.Effects.{with_effects}
+use Rattle.papaya_follows.specs.Given.Schedules.Moment.{InMap, MapThere, Moment}
+use Rattle.papaya_follows.specs.Given.Schedules.Views.{map_at, tables_of}
+use Rattle.papaya_follows.specs.Given.Effects.Effects.{effects_of, known_after}
+use Rattle.papaya_follows.specs.Given.Effects.Known.{Known}
+use Rattle.papaya_follows.specs.Given.Effects.declared.acting.Acting.TheVariants.{Making}
+use Rattle.papaya_follows.specs.Given.Effects.declared.role.Role.TheVariants.{Counter}
+use Rattle.papaya_follows.specs.Given.Finishes.Makings.{Beginning, HasMade}
+use Rattle.papaya_follows.specs.Given.Executor.IsAt.{Scene, IsAt}
+use Rattle.papaya_follows.specs.Given.Executor.Making.{MakingLeads, MakingComesTo}
+use Rattle.papaya_follows.specs.Given.Executor.declared.executor.Executor.{Executor}
 use Rattle.papaya_follows.specs.Shows.{Shows}
 use Rattle.papaya_others.specs.After.{ShowsAfter}
 

@@ -1,20 +1,20 @@
 -- Rows on slots: where one begins, and takes its steps, the moment shows the scene then.
 use Rattle.std.specs.Prelude.{◌≡◌, ℕ, Bool, List, Some, None}
-use Rattle.seize.specs.World.{Event, Begin, Step}
-use Rattle.papaya_tables.specs.declared.node.Node.{Node}
-use Rattle.papaya_schedules.specs.Effects.{with_effects, AtEachEffect}
-use Rattle.papaya_schedules.specs.Moment.{Moment}
-use Rattle.papaya_effects.specs.Effects.{effects_of, known_after}
-use Rattle.papaya_effects.specs.Known.{Known}
-use Rattle.papaya_effects.specs.declared.acting.Acting.TheVariants.{Row}
-use Rattle.papaya_executor.specs.IsAt.{Scene, IsAt, slot_of, work_of}
-use Rattle.papaya_executor.specs.OnSlots.{MayBegin, HappensAt, RowBegins, RowLeads}
-use Rattle.papaya_executor.specs.Rows.{request_of}
-use Rattle.papaya_executor.specs.declared.executor.Executor.{Executor}
-use Rattle.papaya_executor.specs.declared.row.RowTold.{RowTold}
-use Rattle.papaya_executor.specs.declared.row.SlotCall.{SlotCall}
-use Rattle.papaya_executor.specs.declared.row.SlotRow.{SlotRow}
-use Rattle.papaya_executor.specs.declared.worker.Work.TheVariants.{OnSlot}
+use Rattle.papaya_follows.specs.Given.Seize.World.{Event, Begin, Step}
+use Rattle.papaya_follows.specs.Given.Tables.declared.node.Node.{Node}
+use Rattle.papaya_follows.specs.Given.Schedules.Effects.{with_effects, AtEachEffect}
+use Rattle.papaya_follows.specs.Given.Schedules.Moment.{Moment}
+use Rattle.papaya_follows.specs.Given.Effects.Effects.{effects_of, known_after}
+use Rattle.papaya_follows.specs.Given.Effects.Known.{Known}
+use Rattle.papaya_follows.specs.Given.Effects.declared.acting.Acting.TheVariants.{Row}
+use Rattle.papaya_follows.specs.Given.Executor.IsAt.{Scene, IsAt, slot_of, work_of}
+use Rattle.papaya_follows.specs.Given.Executor.OnSlots.{MayBegin, HappensAt, RowBegins, RowLeads}
+use Rattle.papaya_follows.specs.Given.Executor.Rows.{request_of}
+use Rattle.papaya_follows.specs.Given.Executor.declared.executor.Executor.{Executor}
+use Rattle.papaya_follows.specs.Given.Executor.declared.row.RowTold.{RowTold}
+use Rattle.papaya_follows.specs.Given.Executor.declared.row.SlotCall.{SlotCall}
+use Rattle.papaya_follows.specs.Given.Executor.declared.row.SlotRow.{SlotRow}
+use Rattle.papaya_follows.specs.Given.Executor.declared.worker.Work.TheVariants.{OnSlot}
 use Rattle.papaya_follows.specs.Shows.{Shows}
 use Rattle.papaya_others.specs.After.{ShowsAfter}
 use Rattle.papaya_others.specs.Gone.{WasRetired}

@@ -1,13 +1,13 @@
 -- Walks: one that is ready goes on, or is given up.
 use Rattle.std.specs.Prelude.{◌≡◌, ℕ, Bool, true, false, List, Some}
-use Rattle.papaya_schedules.specs.After.{without_call}
-use Rattle.papaya_schedules.specs.Moment.{Moment}
-use Rattle.papaya_callers.specs.Together.{UnderWay}
-use Rattle.papaya_finishes.specs.Maps.{with_call}
-use Rattle.papaya_effects.specs.Known.{Known}
-use Rattle.papaya_executor.specs.IsAt.{Scene}
-use Rattle.papaya_executor.specs.Replying.{AskLeads, StopLeads, scene_with, unless_stopped}
-use Rattle.papaya_executor.specs.declared.executor.Executor.{Executor}
+use Rattle.papaya_follows.specs.Given.Schedules.After.{without_call}
+use Rattle.papaya_follows.specs.Given.Schedules.Moment.{Moment}
+use Rattle.papaya_follows.specs.Given.Callers.Together.{UnderWay}
+use Rattle.papaya_follows.specs.Given.Finishes.Maps.{with_call}
+use Rattle.papaya_follows.specs.Given.Effects.Known.{Known}
+use Rattle.papaya_follows.specs.Given.Executor.IsAt.{Scene}
+use Rattle.papaya_follows.specs.Given.Executor.Replying.{AskLeads, StopLeads, scene_with, unless_stopped}
+use Rattle.papaya_follows.specs.Given.Executor.declared.executor.Executor.{Executor}
 use Rattle.papaya_follows.specs.Calling.{NoneNamed}
 use Rattle.papaya_follows.specs.Shows.{Shows}
 use Rattle.papaya_others.specs.After.{ShowsAfter}

@@ -1,43 +1,43 @@
 -- What is in somebody's hands is there still after a step of a row on a slot, and after one of the end of a map.
 use Rattle.std.proofs.Common.{ap, arith, refl, subst, sym, ◌∙◌}
 use Rattle.std.specs.Prelude.{◌≡◌, ◌≢◌, ◌<◌, ℕ, zero, suc, Bool, false, List, Some, None, ◌⊎◌}
-use Rattle.seize_words.specs.Mem.{Mem, Took, value_at}
-use Rattle.seize_words.specs.Plan.{Steps}
-use Rattle.seize.specs.World.{InUse, LeftTo, Step, World, times}
-use Rattle.seize.specs.declared.rows.settle.Settled.{Settled}
-use Rattle.seize_alone.proofs.Histories.NotTaken.{IsHad, kept_value}
-use Rattle.seize_alone.specs.Alone.{IsOfUsers}
-use Rattle.papaya_tables.specs.Nodes.{deferred_word}
-use Rattle.papaya_tables.specs.declared.node.Node.{Node}
-use Rattle.papaya_tables.specs.declared.node.Node.TheVariants as node
-use Rattle.papaya_raw.specs.EndMap.{end_map_plan}
-use Rattle.papaya_raw.specs.declared.machines.end_map.EndMap.{EndMap}
-use Rattle.papaya_schedules.specs.Moment.{Moment}
-use Rattle.papaya_teller.specs.declared.changed.Changed.{Changed}
-use Rattle.papaya_teller.specs.declared.changed.Changed.TheVariants as changed
-use Rattle.papaya_callers.proofs.Together.Came.{came_reached}
-use Rattle.papaya_effects.specs.Effects.{effects_of, known_after}
-use Rattle.papaya_effects.specs.Known.{Known}
-use Rattle.papaya_effects.specs.declared.acting.Acting.{Acting}
-use Rattle.papaya_effects.specs.declared.acting.Acting.TheVariants as acts
-use Rattle.papaya_executor.proofs.Forgotten.{as_step}
-use Rattle.papaya_executor.proofs.OnSlots.{may_taken, row_at}
-use Rattle.papaya_executor.specs.Ending.{EndingComesTo, EndingStepsFrom}
-use Rattle.papaya_executor.specs.IsAt.{IsAt, Scene, slot_of, work_of}
-use Rattle.papaya_executor.specs.OnSlots.{HappensAt, RowSteps}
-use Rattle.papaya_executor.specs.declared.executor.Executor.{Executor}
-use Rattle.papaya_executor.specs.declared.row.RowTold.{RowTold}
-use Rattle.papaya_executor.specs.declared.row.SlotRow.{SlotRow}
-use Rattle.papaya_executor.specs.declared.worker.Work.TheVariants as work
-use Rattle.papaya_finishes.proofs.Ends.Frames.{that_one}
-use Rattle.papaya_finishes.proofs.Ends.Points.{end_steps}
-use Rattle.papaya_finishes.specs.Endings.{Finishing, FinishingFacts, StepsOfEnding}
-use Rattle.papaya_finishes.specs.FactsEnds.{Deed, EndWent, IsFresh, IsItsDeed, JoinsPair, LeavesTable, Looks, TakesCounter, TakesLeft, TakesPair, WritesRoot, taken_by}
-use Rattle.papaya_follows.proofs.Alike.{AllCalm}
-use Rattle.papaya_follows.proofs.Operations.{LeavesBy, operated_leaves}
-use Rattle.papaya_follows.specs.Shows.{Shows}
-use Rattle.papaya_others.proofs.Ends.{left, says_or_takes}
-use Rattle.papaya_others.proofs.RowPlans.{row_operated}
+use Rattle.papaya_moments.specs.Given.SeizeWords.Mem.{Mem, Took, value_at}
+use Rattle.papaya_moments.specs.Given.SeizeWords.Plan.{Steps}
+use Rattle.papaya_moments.specs.Given.Seize.World.{InUse, LeftTo, Step, World, times}
+use Rattle.papaya_moments.specs.Given.Seize.declared.rows.settle.Settled.{Settled}
+use Rattle.papaya_moments.proofs.Given.SeizeAlone.Histories.NotTaken.{IsHad, kept_value}
+use Rattle.papaya_moments.specs.Given.SeizeAlone.Alone.{IsOfUsers}
+use Rattle.papaya_moments.specs.Given.Tables.Nodes.{deferred_word}
+use Rattle.papaya_moments.specs.Given.Tables.declared.node.Node.{Node}
+use Rattle.papaya_moments.specs.Given.Tables.declared.node.Node.TheVariants as node
+use Rattle.papaya_moments.specs.Given.Raw.EndMap.{end_map_plan}
+use Rattle.papaya_moments.specs.Given.Raw.declared.machines.end_map.EndMap.{EndMap}
+use Rattle.papaya_moments.specs.Given.Schedules.Moment.{Moment}
+use Rattle.papaya_moments.specs.Given.Teller.declared.changed.Changed.{Changed}
+use Rattle.papaya_moments.specs.Given.Teller.declared.changed.Changed.TheVariants as changed
+use Rattle.papaya_moments.proofs.Given.Callers.Together.Came.{came_reached}
+use Rattle.papaya_moments.specs.Given.Effects.Effects.{effects_of, known_after}
+use Rattle.papaya_moments.specs.Given.Effects.Known.{Known}
+use Rattle.papaya_moments.specs.Given.Effects.declared.acting.Acting.{Acting}
+use Rattle.papaya_moments.specs.Given.Effects.declared.acting.Acting.TheVariants as acts
+use Rattle.papaya_moments.proofs.Given.Executor.Forgotten.{as_step}
+use Rattle.papaya_moments.proofs.Given.Executor.OnSlots.{may_taken, row_at}
+use Rattle.papaya_moments.specs.Given.Executor.Ending.{EndingComesTo, EndingStepsFrom}
+use Rattle.papaya_moments.specs.Given.Executor.IsAt.{IsAt, Scene, slot_of, work_of}
+use Rattle.papaya_moments.specs.Given.Executor.OnSlots.{HappensAt, RowSteps}
+use Rattle.papaya_moments.specs.Given.Executor.declared.executor.Executor.{Executor}
+use Rattle.papaya_moments.specs.Given.Executor.declared.row.RowTold.{RowTold}
+use Rattle.papaya_moments.specs.Given.Executor.declared.row.SlotRow.{SlotRow}
+use Rattle.papaya_moments.specs.Given.Executor.declared.worker.Work.TheVariants as work
+use Rattle.papaya_moments.proofs.Given.Finishes.Ends.Frames.{that_one}
+use Rattle.papaya_moments.proofs.Given.Finishes.Ends.Points.{end_steps}
+use Rattle.papaya_moments.specs.Given.Finishes.Endings.{Finishing, FinishingFacts, StepsOfEnding}
+use Rattle.papaya_moments.specs.Given.Finishes.FactsEnds.{Deed, EndWent, IsFresh, IsItsDeed, JoinsPair, LeavesTable, Looks, TakesCounter, TakesLeft, TakesPair, WritesRoot, taken_by}
+use Rattle.papaya_moments.proofs.Given.Follows.Alike.{AllCalm}
+use Rattle.papaya_moments.proofs.Given.Follows.Operations.{LeavesBy, operated_leaves}
+use Rattle.papaya_moments.specs.Given.Follows.Shows.{Shows}
+use Rattle.papaya_moments.proofs.Given.Others.Ends.{left, says_or_takes}
+use Rattle.papaya_moments.proofs.Given.Others.RowPlans.{row_operated}
 use Rattle.papaya_owes.proofs.Held.{IsInHand}
 
 module _ {K V S : Type 0} (same : K → K → Bool) (hash : K → ℕ) (s : Scene K V) (old new : Executor K V S) (at : IsAt same hash old s) (i : ℕ) (row : SlotRow) (here : work_of old i ≡ Some (work.OnSlot row))

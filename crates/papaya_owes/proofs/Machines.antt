@@ -1,40 +1,40 @@
 -- What a step of whichever machine does to the word of its own block for a pair, and what it owns then.
 use Rattle.std.specs.Prelude.{◌≡◌, ℕ, Bool, Some, None}
 use Rattle.std.proofs.Common.{refl, ap, sym, subst, inl}
-use Rattle.seize_words.specs.Mem.{Mem, Can, Took, value_at}
-use Rattle.seize_words.specs.Plan.{May}
-use Rattle.seize_words.proofs.Plans.{may_as}
-use Rattle.papaya_tables.specs.declared.node.Node.{Node}
-use Rattle.papaya_resize.specs.declared.copier.Copying.{Copying}
-use Rattle.papaya_resize.specs.declared.copier.Copying.TheVariants as copying
-use Rattle.papaya_resize.specs.declared.new_table.NewTable.{NewTable}
-use Rattle.papaya_reserves.specs.Reserve.{reserve_plan}
-use Rattle.papaya_reserves.specs.declared.reserve.Reserve.{Reserve}
-use Rattle.papaya_reserves.specs.declared.reserve.Reserving.{Reserving}
-use Rattle.papaya_reserves.specs.declared.reserve.Reserving.TheVariants as reserving
-use Rattle.papaya_sweeps.specs.Sweep.{sweep_plan}
-use Rattle.papaya_sweeps.specs.declared.sweep.Sweep.{Sweep}
-use Rattle.papaya_sweeps.specs.declared.sweep.Sweeping.{Sweeping}
-use Rattle.papaya_sweeps.specs.declared.sweep.Sweeping.TheVariants as sweeping
-use Rattle.papaya_raw.specs.Call.{call_plan}
-use Rattle.papaya_raw.specs.Machine.{machine_plan, called as of_key, reserved as of_room, swept as of_sweep}
-use Rattle.papaya_raw.specs.Progress.{of_called}
-use Rattle.papaya_raw.specs.declared.machines.answer.Called.{Called}
-use Rattle.papaya_raw.specs.declared.machines.call.Calling.{Calling}
-use Rattle.papaya_raw.specs.declared.machines.call.Calling.TheVariants as calling
-use Rattle.papaya_raw.specs.declared.machines.call.KeyCall.{KeyCall}
-use Rattle.papaya_raw.specs.declared.machines.machine.Machine.{Machine}
-use Rattle.papaya_raw.specs.declared.machines.machine.Machine.TheVariants as kinds
-use Rattle.papaya_raw.specs.declared.machines.progress.Progress.{Progress}
-use Rattle.papaya_points.specs.Told.{IsRowOfCopier, IsRowOfCall}
-use Rattle.papaya_late.specs.ToldReserves.{IsRowOfReserve}
-use Rattle.papaya_late.specs.ToldSweeps.{IsRowOfSweep}
-use Rattle.papaya_teller.specs.Tells.{StepsTold}
-use Rattle.papaya_teller.specs.declared.changed.Changed.{Changed}
-use Rattle.papaya_teller.specs.declared.changed.Changed.TheVariants as changed
-use Rattle.papaya_teller.specs.declared.changed.Kind.TheVariants as kind
-use Rattle.papaya_executor.proofs.Forgotten.{as_step}
-use Rattle.papaya_others.proofs.Outcomes.{told_in}
+use Rattle.papaya_moments.specs.Given.SeizeWords.Mem.{Mem, Can, Took, value_at}
+use Rattle.papaya_moments.specs.Given.SeizeWords.Plan.{May}
+use Rattle.papaya_moments.proofs.Given.SeizeWords.Plans.{may_as}
+use Rattle.papaya_moments.specs.Given.Tables.declared.node.Node.{Node}
+use Rattle.papaya_moments.specs.Given.Resize.declared.copier.Copying.{Copying}
+use Rattle.papaya_moments.specs.Given.Resize.declared.copier.Copying.TheVariants as copying
+use Rattle.papaya_moments.specs.Given.Resize.declared.new_table.NewTable.{NewTable}
+use Rattle.papaya_moments.specs.Given.Reserves.Reserve.{reserve_plan}
+use Rattle.papaya_moments.specs.Given.Reserves.declared.reserve.Reserve.{Reserve}
+use Rattle.papaya_moments.specs.Given.Reserves.declared.reserve.Reserving.{Reserving}
+use Rattle.papaya_moments.specs.Given.Reserves.declared.reserve.Reserving.TheVariants as reserving
+use Rattle.papaya_moments.specs.Given.Sweeps.Sweep.{sweep_plan}
+use Rattle.papaya_moments.specs.Given.Sweeps.declared.sweep.Sweep.{Sweep}
+use Rattle.papaya_moments.specs.Given.Sweeps.declared.sweep.Sweeping.{Sweeping}
+use Rattle.papaya_moments.specs.Given.Sweeps.declared.sweep.Sweeping.TheVariants as sweeping
+use Rattle.papaya_moments.specs.Given.Raw.Call.{call_plan}
+use Rattle.papaya_moments.specs.Given.Raw.Machine.{machine_plan, called as of_key, reserved as of_room, swept as of_sweep}
+use Rattle.papaya_moments.specs.Given.Raw.Progress.{of_called}
+use Rattle.papaya_moments.specs.Given.Raw.declared.machines.answer.Called.{Called}
+use Rattle.papaya_moments.specs.Given.Raw.declared.machines.call.Calling.{Calling}
+use Rattle.papaya_moments.specs.Given.Raw.declared.machines.call.Calling.TheVariants as calling
+use Rattle.papaya_moments.specs.Given.Raw.declared.machines.call.KeyCall.{KeyCall}
+use Rattle.papaya_moments.specs.Given.Raw.declared.machines.machine.Machine.{Machine}
+use Rattle.papaya_moments.specs.Given.Raw.declared.machines.machine.Machine.TheVariants as kinds
+use Rattle.papaya_moments.specs.Given.Raw.declared.machines.progress.Progress.{Progress}
+use Rattle.papaya_moments.specs.Given.Points.Told.{IsRowOfCopier, IsRowOfCall}
+use Rattle.papaya_moments.specs.Given.Late.ToldReserves.{IsRowOfReserve}
+use Rattle.papaya_moments.specs.Given.Late.ToldSweeps.{IsRowOfSweep}
+use Rattle.papaya_moments.specs.Given.Teller.Tells.{StepsTold}
+use Rattle.papaya_moments.specs.Given.Teller.declared.changed.Changed.{Changed}
+use Rattle.papaya_moments.specs.Given.Teller.declared.changed.Changed.TheVariants as changed
+use Rattle.papaya_moments.specs.Given.Teller.declared.changed.Kind.TheVariants as kind
+use Rattle.papaya_moments.proofs.Given.Executor.Forgotten.{as_step}
+use Rattle.papaya_moments.proofs.Given.Others.Outcomes.{told_in}
 use Rattle.papaya_holds.specs.Came.{Owns}
 use Rattle.papaya_holds.proofs.Calls.Goes.{TellsSo}
 use Rattle.papaya_holds.proofs.Calls.Steps.{step_comes}

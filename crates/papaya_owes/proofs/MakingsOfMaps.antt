@@ -1,57 +1,57 @@
 -- A step of the making of a map makes no block for a pair, and takes none: what it takes it has made itself.
 use Rattle.std.specs.Prelude.{◌≡◌, ◌<◌, ℕ, ◌+◌, ◌%◌, ◌^◌, Bool, List, [], Option, Some, None, ◌⊎◌, Ok, Err, if◌then◌else◌}
 use Rattle.std.proofs.Common.{refl, ap, sym, subst, ◌∙◌, arith, inl, inr}
-use Rattle.seize_words.specs.declared.at.At.TheVariants.{Root, Used, Slot, Entry, Word}
-use Rattle.seize_words.specs.Mem.{Mem}
-use Rattle.seize_words.specs.Op.{Out, Make, Made}
-use Rattle.seize_words.specs.Word.{block_in}
-use Rattle.seize.specs.World.{World, Making as MadeBy}
-use Rattle.seize.specs.declared.progress.Progress.{Progress}
-use Rattle.seize.specs.declared.progress.Progress.TheVariants as progress
-use Rattle.papaya_tables.specs.declared.node.Node.{Node}
-use Rattle.papaya_tables.specs.declared.node.Node.TheVariants as node
-use Rattle.papaya_tables.specs.declared.setting.Setting.{Setting}
-use Rattle.papaya_resize.specs.NewMap as new_map
-use Rattle.papaya_resize.specs.NewTable as new_table
-use Rattle.papaya_resize.specs.Sum as sums
-use Rattle.papaya_resize.specs.declared.new_map.NewMap.{NewMap}
-use Rattle.papaya_resize.specs.declared.new_map.Opening.{Opening}
-use Rattle.papaya_resize.specs.declared.new_map.Opening.TheVariants as opening
-use Rattle.papaya_resize.specs.declared.new_table.Making.{Making}
-use Rattle.papaya_resize.specs.declared.new_table.Making.TheVariants as makes
-use Rattle.papaya_resize.specs.declared.new_table.NewTable.{NewTable}
-use Rattle.papaya_resize.specs.declared.sum.Sum.{Sum}
-use Rattle.papaya_resize.specs.declared.sum.Summing.{Summing}
-use Rattle.papaya_resize.specs.declared.sum.Summing.TheVariants as summing
-use Rattle.papaya_schedules.specs.Effects.{with_effects}
-use Rattle.papaya_schedules.specs.Moment.{Moment}
-use Rattle.papaya_tells.specs.Seen.{seen_of}
-use Rattle.papaya_teller.specs.Tells.{told_of, StepsTold}
-use Rattle.papaya_teller.specs.declared.changed.Changed.{Changed}
-use Rattle.papaya_teller.specs.declared.changed.Changed.TheVariants as changed
-use Rattle.papaya_teller.specs.declared.changed.Kind.{Kind}
-use Rattle.papaya_teller.specs.declared.changed.Kind.TheVariants as kind
-use Rattle.papaya_teller.specs.Changed.{kind_of}
-use Rattle.papaya_rule.specs.Rule.{no_table}
-use Rattle.papaya_points.specs.FactsTables.{MakingFacts}
-use Rattle.papaya_callers.specs.Together.{no_blocks}
-use Rattle.papaya_effects.specs.Effects.{names_same, named, made_by, led_to, effects_of, known_after}
-use Rattle.papaya_effects.specs.Known.{Known}
-use Rattle.papaya_effects.specs.declared.acting.Acting.{Acting}
-use Rattle.papaya_effects.specs.declared.acting.Acting.TheVariants as acts
-use Rattle.papaya_effects.specs.declared.role.Role.TheVariants as role
-use Rattle.papaya_executor.specs.IsAt.{Scene, IsAt, slot_of}
-use Rattle.papaya_executor.specs.Making.{MakingStepsFrom, MakingComesTo}
-use Rattle.papaya_executor.specs.declared.executor.Executor.{Executor}
-use Rattle.papaya_finishes.specs.Endings.{MakingStepsAmong}
-use Rattle.papaya_finishes.specs.Makings.{Beginning, OpeningFacts}
-use Rattle.papaya_follows.specs.Shows.{Shows}
-use Rattle.papaya_follows.proofs.Operations.{LeavesBy}
-use Rattle.papaya_others.specs.Makings.{making_after}
-use Rattle.papaya_others.proofs.Leads.{word_says}
-use Rattle.papaya_others.proofs.MakingPlans.{TellsMaking}
-use Rattle.papaya_others.proofs.Makes.{no_table_word, facts, tells, left}
-use Rattle.papaya_others.proofs.Quiet.{calls_none}
+use Rattle.papaya_moments.specs.Given.SeizeWords.declared.at.At.TheVariants.{Root, Used, Slot, Entry, Word}
+use Rattle.papaya_moments.specs.Given.SeizeWords.Mem.{Mem}
+use Rattle.papaya_moments.specs.Given.SeizeWords.Op.{Out, Make, Made}
+use Rattle.papaya_moments.specs.Given.SeizeWords.Word.{block_in}
+use Rattle.papaya_moments.specs.Given.Seize.World.{World, Making as MadeBy}
+use Rattle.papaya_moments.specs.Given.Seize.declared.progress.Progress.{Progress}
+use Rattle.papaya_moments.specs.Given.Seize.declared.progress.Progress.TheVariants as progress
+use Rattle.papaya_moments.specs.Given.Tables.declared.node.Node.{Node}
+use Rattle.papaya_moments.specs.Given.Tables.declared.node.Node.TheVariants as node
+use Rattle.papaya_moments.specs.Given.Tables.declared.setting.Setting.{Setting}
+use Rattle.papaya_moments.specs.Given.Resize.NewMap as new_map
+use Rattle.papaya_moments.specs.Given.Resize.NewTable as new_table
+use Rattle.papaya_moments.specs.Given.Resize.Sum as sums
+use Rattle.papaya_moments.specs.Given.Resize.declared.new_map.NewMap.{NewMap}
+use Rattle.papaya_moments.specs.Given.Resize.declared.new_map.Opening.{Opening}
+use Rattle.papaya_moments.specs.Given.Resize.declared.new_map.Opening.TheVariants as opening
+use Rattle.papaya_moments.specs.Given.Resize.declared.new_table.Making.{Making}
+use Rattle.papaya_moments.specs.Given.Resize.declared.new_table.Making.TheVariants as makes
+use Rattle.papaya_moments.specs.Given.Resize.declared.new_table.NewTable.{NewTable}
+use Rattle.papaya_moments.specs.Given.Resize.declared.sum.Sum.{Sum}
+use Rattle.papaya_moments.specs.Given.Resize.declared.sum.Summing.{Summing}
+use Rattle.papaya_moments.specs.Given.Resize.declared.sum.Summing.TheVariants as summing
+use Rattle.papaya_moments.specs.Given.Schedules.Effects.{with_effects}
+use Rattle.papaya_moments.specs.Given.Schedules.Moment.{Moment}
+use Rattle.papaya_moments.specs.Given.Tells.Seen.{seen_of}
+use Rattle.papaya_moments.specs.Given.Teller.Tells.{told_of, StepsTold}
+use Rattle.papaya_moments.specs.Given.Teller.declared.changed.Changed.{Changed}
+use Rattle.papaya_moments.specs.Given.Teller.declared.changed.Changed.TheVariants as changed
+use Rattle.papaya_moments.specs.Given.Teller.declared.changed.Kind.{Kind}
+use Rattle.papaya_moments.specs.Given.Teller.declared.changed.Kind.TheVariants as kind
+use Rattle.papaya_moments.specs.Given.Teller.Changed.{kind_of}
+use Rattle.papaya_moments.specs.Given.Rule.Rule.{no_table}
+use Rattle.papaya_moments.specs.Given.Points.FactsTables.{MakingFacts}
+use Rattle.papaya_moments.specs.Given.Callers.Together.{no_blocks}
+use Rattle.papaya_moments.specs.Given.Effects.Effects.{names_same, named, made_by, led_to, effects_of, known_after}
+use Rattle.papaya_moments.specs.Given.Effects.Known.{Known}
+use Rattle.papaya_moments.specs.Given.Effects.declared.acting.Acting.{Acting}
+use Rattle.papaya_moments.specs.Given.Effects.declared.acting.Acting.TheVariants as acts
+use Rattle.papaya_moments.specs.Given.Effects.declared.role.Role.TheVariants as role
+use Rattle.papaya_moments.specs.Given.Executor.IsAt.{Scene, IsAt, slot_of}
+use Rattle.papaya_moments.specs.Given.Executor.Making.{MakingStepsFrom, MakingComesTo}
+use Rattle.papaya_moments.specs.Given.Executor.declared.executor.Executor.{Executor}
+use Rattle.papaya_moments.specs.Given.Finishes.Endings.{MakingStepsAmong}
+use Rattle.papaya_moments.specs.Given.Finishes.Makings.{Beginning, OpeningFacts}
+use Rattle.papaya_moments.specs.Given.Follows.Shows.{Shows}
+use Rattle.papaya_moments.proofs.Given.Follows.Operations.{LeavesBy}
+use Rattle.papaya_moments.specs.Given.Others.Makings.{making_after}
+use Rattle.papaya_moments.proofs.Given.Others.Leads.{word_says}
+use Rattle.papaya_moments.proofs.Given.Others.MakingPlans.{TellsMaking}
+use Rattle.papaya_moments.proofs.Given.Others.Makes.{no_table_word, facts, tells, left}
+use Rattle.papaya_moments.proofs.Given.Others.Quiet.{calls_none}
 use Rattle.papaya_owes.specs.Beside.{of_block, NoneOfBlock, MakingsKeepMade}
 use Rattle.papaya_owes.specs.Made.{ShowsMade}
 use Rattle.papaya_owes.specs.Making.{making_in_opening}

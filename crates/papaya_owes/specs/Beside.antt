@@ -1,36 +1,36 @@
 -- What is promised of the blocks that calls have made for pairs where another one than a call takes a step, and where walks go on or are given up: they are as they were.
 use Rattle.std.specs.Prelude.{◌≡◌, ℕ, Bool, true, false, List, [], ◌∷◌, Option, Some, None}
-use Rattle.seize.specs.World.{Step}
-use Rattle.seize.specs.declared.progress.Progress.{Progress}
-use Rattle.seize.specs.declared.rows.settle.Settled.{Settled}
-use Rattle.papaya_tables.specs.declared.node.Node.{Node}
-use Rattle.papaya_tables.specs.declared.setting.Setting.{Setting}
-use Rattle.papaya_schedules.specs.declared.effect.Effect.{Effect}
-use Rattle.papaya_schedules.specs.declared.effect.Effect.TheVariants.{PairMade, PairGivenUp, Stored}
-use Rattle.papaya_schedules.specs.Effects.{with_effects}
-use Rattle.papaya_schedules.specs.Moment.{Moment}
-use Rattle.papaya_callers.specs.Together.{UnderWay}
-use Rattle.papaya_effects.specs.Effects.{effects_of, known_after}
-use Rattle.papaya_effects.specs.Known.{Known}
-use Rattle.papaya_effects.specs.declared.acting.Acting.TheVariants as acts
-use Rattle.papaya_executor.specs.Ending.{EndingLeads}
-use Rattle.papaya_executor.specs.IsAt.{Scene, IsAt, work_of}
-use Rattle.papaya_executor.specs.Making.{MakingLeads}
-use Rattle.papaya_executor.specs.OnSlots.{RowLeads}
-use Rattle.papaya_executor.specs.Replying.{AskLeads, StopLeads, scene_with, unless_stopped}
-use Rattle.papaya_executor.specs.declared.executor.Executor.{Executor}
-use Rattle.papaya_executor.specs.declared.row.RowTold.{RowTold}
-use Rattle.papaya_executor.specs.declared.row.SlotRow.{SlotRow}
-use Rattle.papaya_executor.specs.declared.worker.Work.TheVariants.{OnSlot}
-use Rattle.papaya_finishes.specs.Endings.{Finishing}
-use Rattle.papaya_finishes.specs.Makings.{Beginning}
-use Rattle.papaya_finishes.specs.Maps.{with_call}
-use Rattle.papaya_follows.specs.Calling.{NoneNamed}
-use Rattle.papaya_follows.specs.Shows.{Shows}
-use Rattle.papaya_others.specs.Endings.{ending_after}
-use Rattle.papaya_others.specs.Makings.{making_after}
-use Rattle.papaya_others.specs.Rows.{scene_then}
-use Rattle.papaya_others.specs.Walks.{given_up}
+use Rattle.papaya_moments.specs.Given.Seize.World.{Step}
+use Rattle.papaya_moments.specs.Given.Seize.declared.progress.Progress.{Progress}
+use Rattle.papaya_moments.specs.Given.Seize.declared.rows.settle.Settled.{Settled}
+use Rattle.papaya_moments.specs.Given.Tables.declared.node.Node.{Node}
+use Rattle.papaya_moments.specs.Given.Tables.declared.setting.Setting.{Setting}
+use Rattle.papaya_moments.specs.Given.Schedules.declared.effect.Effect.{Effect}
+use Rattle.papaya_moments.specs.Given.Schedules.declared.effect.Effect.TheVariants.{PairMade, PairGivenUp, Stored}
+use Rattle.papaya_moments.specs.Given.Schedules.Effects.{with_effects}
+use Rattle.papaya_moments.specs.Given.Schedules.Moment.{Moment}
+use Rattle.papaya_moments.specs.Given.Callers.Together.{UnderWay}
+use Rattle.papaya_moments.specs.Given.Effects.Effects.{effects_of, known_after}
+use Rattle.papaya_moments.specs.Given.Effects.Known.{Known}
+use Rattle.papaya_moments.specs.Given.Effects.declared.acting.Acting.TheVariants as acts
+use Rattle.papaya_moments.specs.Given.Executor.Ending.{EndingLeads}
+use Rattle.papaya_moments.specs.Given.Executor.IsAt.{Scene, IsAt, work_of}
+use Rattle.papaya_moments.specs.Given.Executor.Making.{MakingLeads}
+use Rattle.papaya_moments.specs.Given.Executor.OnSlots.{RowLeads}
+use Rattle.papaya_moments.specs.Given.Executor.Replying.{AskLeads, StopLeads, scene_with, unless_stopped}
+use Rattle.papaya_moments.specs.Given.Executor.declared.executor.Executor.{Executor}
+use Rattle.papaya_moments.specs.Given.Executor.declared.row.RowTold.{RowTold}
+use Rattle.papaya_moments.specs.Given.Executor.declared.row.SlotRow.{SlotRow}
+use Rattle.papaya_moments.specs.Given.Executor.declared.worker.Work.TheVariants.{OnSlot}
+use Rattle.papaya_moments.specs.Given.Finishes.Endings.{Finishing}
+use Rattle.papaya_moments.specs.Given.Finishes.Makings.{Beginning}
+use Rattle.papaya_moments.specs.Given.Finishes.Maps.{with_call}
+use Rattle.papaya_moments.specs.Given.Follows.Calling.{NoneNamed}
+use Rattle.papaya_moments.specs.Given.Follows.Shows.{Shows}
+use Rattle.papaya_moments.specs.Given.Others.Endings.{ending_after}
+use Rattle.papaya_moments.specs.Given.Others.Makings.{making_after}
+use Rattle.papaya_moments.specs.Given.Others.Rows.{scene_then}
+use Rattle.papaya_moments.specs.Given.Others.Walks.{given_up}
 use Rattle.papaya_owes.specs.Made.{ShowsMade}
 
 -- the effect says something of a block for a pair that is not stored

@@ -1,12 +1,12 @@
 -- What is promised of a walk that is ready: it has as little in hand as a call that has ended.
 use Rattle.std.specs.Prelude.{◌≡◌, ℕ, true, false, List, Some, None}
-use Rattle.papaya_raw.specs.Machine.{machine_asked}
-use Rattle.papaya_schedules.specs.Moment.{UnderWay as CallThere, Moment}
-use Rattle.papaya_schedules.specs.Views.{call_of}
-use Rattle.papaya_callers.specs.Together.{UnderWay}
-use Rattle.papaya_effects.specs.Known.{Known}
-use Rattle.papaya_executor.specs.IsAt.{Scene}
-use Rattle.papaya_finishes.specs.Machines.{machine_of}
+use Rattle.papaya_moments.specs.Given.Raw.Machine.{machine_asked}
+use Rattle.papaya_moments.specs.Given.Schedules.Moment.{UnderWay as CallThere, Moment}
+use Rattle.papaya_moments.specs.Given.Schedules.Views.{call_of}
+use Rattle.papaya_moments.specs.Given.Callers.Together.{UnderWay}
+use Rattle.papaya_moments.specs.Given.Effects.Known.{Known}
+use Rattle.papaya_moments.specs.Given.Executor.IsAt.{Scene}
+use Rattle.papaya_moments.specs.Given.Finishes.Machines.{machine_of}
 use Rattle.papaya_owes.specs.Made.{ShowsMade}
 use Rattle.papaya_owes.specs.Short.{ShowsShort}
 use Rattle.papaya_owes.specs.Tables.{ShowsTables}

@@ -1,38 +1,38 @@
 -- What is promised of a call that is short of no growth: it is to be refused for something else than want of memory, if it is at all.
 use Rattle.std.specs.Prelude.{◌≡◌, ℕ, Bool, true, not, List, Some}
-use Rattle.seize_words.specs.declared.fault.Fault.{Fault}
-use Rattle.seize_words.specs.declared.fault.Fault.TheVariants.{Memory}
-use Rattle.papaya_tables.specs.declared.node.Node.{Node}
-use Rattle.papaya_raw.specs.Machine.{machine_replied}
-use Rattle.papaya_raw.specs.declared.machines.asking.Reply.{Reply as MachineReply}
-use Rattle.papaya_raw.specs.declared.machines.machine.Machine.{Machine}
-use Rattle.papaya_raw.specs.declared.machines.machine.Machine.TheVariants as kinds
-use Rattle.papaya_raw.specs.declared.machines.progress.Progress.{Progress}
-use Rattle.papaya_raw.specs.declared.machines.progress.Progress.TheVariants as progress
-use Rattle.papaya_schedules.specs.declared.call.Call.{Call}
-use Rattle.papaya_schedules.specs.declared.call.Reply.{Reply}
-use Rattle.papaya_schedules.specs.declared.outcome.Outcome.{Outcome}
-use Rattle.papaya_schedules.specs.After.{moment}
-use Rattle.papaya_schedules.specs.Beginning.{with_call}
-use Rattle.papaya_schedules.specs.Effects.{with_effects, worked}
-use Rattle.papaya_schedules.specs.Entry.{Entry, IfCall, acting, caller_of, ends_call}
-use Rattle.papaya_schedules.specs.Moment.{UnderWay as CallThere, Moment, start}
-use Rattle.papaya_schedules.specs.Views.{call_of}
-use Rattle.papaya_callers.specs.Together.{UnderWay}
-use Rattle.papaya_effects.specs.Effects.{effects_of}
-use Rattle.papaya_effects.specs.Known.{Known}
-use Rattle.papaya_effects.specs.declared.acting.Acting.TheVariants as acts
-use Rattle.papaya_executor.specs.Beginning.{Begins}
-use Rattle.papaya_executor.specs.IsAt.{Scene, IsAt, at_first}
-use Rattle.papaya_executor.specs.Replying.{AskLeads, StopLeads, scene_with, unless_stopped}
-use Rattle.papaya_executor.specs.Stepping.{StepLeads, scene_after}
-use Rattle.papaya_executor.specs.declared.executor.Executor.{Executor}
-use Rattle.papaya_finishes.specs.Machines.{machine_of}
-use Rattle.papaya_finishes.specs.Maps.{Standing, with_call as with_in}
-use Rattle.papaya_follows.specs.Calling.{NoneNamed, told, come_to}
-use Rattle.papaya_late.specs.Faults.{SoInCalling, SoInReserving, SoInSweeping}
+use Rattle.papaya_moments.specs.Given.SeizeWords.declared.fault.Fault.{Fault}
+use Rattle.papaya_moments.specs.Given.SeizeWords.declared.fault.Fault.TheVariants.{Memory}
+use Rattle.papaya_moments.specs.Given.Tables.declared.node.Node.{Node}
+use Rattle.papaya_moments.specs.Given.Raw.Machine.{machine_replied}
+use Rattle.papaya_moments.specs.Given.Raw.declared.machines.asking.Reply.{Reply as MachineReply}
+use Rattle.papaya_moments.specs.Given.Raw.declared.machines.machine.Machine.{Machine}
+use Rattle.papaya_moments.specs.Given.Raw.declared.machines.machine.Machine.TheVariants as kinds
+use Rattle.papaya_moments.specs.Given.Raw.declared.machines.progress.Progress.{Progress}
+use Rattle.papaya_moments.specs.Given.Raw.declared.machines.progress.Progress.TheVariants as progress
+use Rattle.papaya_moments.specs.Given.Schedules.declared.call.Call.{Call}
+use Rattle.papaya_moments.specs.Given.Schedules.declared.call.Reply.{Reply}
+use Rattle.papaya_moments.specs.Given.Schedules.declared.outcome.Outcome.{Outcome}
+use Rattle.papaya_moments.specs.Given.Schedules.After.{moment}
+use Rattle.papaya_moments.specs.Given.Schedules.Beginning.{with_call}
+use Rattle.papaya_moments.specs.Given.Schedules.Effects.{with_effects, worked}
+use Rattle.papaya_moments.specs.Given.Schedules.Entry.{Entry, IfCall, acting, caller_of, ends_call}
+use Rattle.papaya_moments.specs.Given.Schedules.Moment.{UnderWay as CallThere, Moment, start}
+use Rattle.papaya_moments.specs.Given.Schedules.Views.{call_of}
+use Rattle.papaya_moments.specs.Given.Callers.Together.{UnderWay}
+use Rattle.papaya_moments.specs.Given.Effects.Effects.{effects_of}
+use Rattle.papaya_moments.specs.Given.Effects.Known.{Known}
+use Rattle.papaya_moments.specs.Given.Effects.declared.acting.Acting.TheVariants as acts
+use Rattle.papaya_moments.specs.Given.Executor.Beginning.{Begins}
+use Rattle.papaya_moments.specs.Given.Executor.IsAt.{Scene, IsAt, at_first}
+use Rattle.papaya_moments.specs.Given.Executor.Replying.{AskLeads, StopLeads, scene_with, unless_stopped}
+use Rattle.papaya_moments.specs.Given.Executor.Stepping.{StepLeads, scene_after}
+use Rattle.papaya_moments.specs.Given.Executor.declared.executor.Executor.{Executor}
+use Rattle.papaya_moments.specs.Given.Finishes.Machines.{machine_of}
+use Rattle.papaya_moments.specs.Given.Finishes.Maps.{Standing, with_call as with_in}
+use Rattle.papaya_moments.specs.Given.Follows.Calling.{NoneNamed, told, come_to}
+use Rattle.papaya_moments.specs.Given.Late.Faults.{SoInCalling, SoInReserving, SoInSweeping}
 use Rattle.papaya_moments.specs.Whole.{ShowsWhole}
-use Rattle.papaya_others.specs.Walks.{given_up}
+use Rattle.papaya_moments.specs.Given.Others.Walks.{given_up}
 use Rattle.papaya_owes.specs.Short.{ShowsShort}
 
 -- each fault that a machine has to tell, where it stands, is such a one

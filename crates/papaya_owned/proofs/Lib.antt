@@ -5,3 +5,4 @@ pub mod Owned
 pub mod Passing
 pub mod Runs
 pub mod Walks
+pub mod Given

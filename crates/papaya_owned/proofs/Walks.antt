@@ -7,10 +7,10 @@ use Rattle.papaya_tables.specs.Chunks.{is_incremental}
 use Rattle.papaya_tables.specs.declared.node.Node.{Node}
 use Rattle.papaya_tables.specs.declared.node.Node.TheVariants as node
 use Rattle.papaya_tables.specs.declared.setting.Setting.{Setting}
-use Rattle.papaya_rule.specs.Chart.{Chart}
-use Rattle.papaya_rule.specs.Words.{Blocks}
-use Rattle.papaya_rule.specs.Maps.{spot_of, IsMap}
-use Rattle.papaya_maps.proofs.Rests.NoneMoves.{none_copying, claims_none}
+use Rattle.papaya_whole.specs.Given.Rule.Chart.{Chart}
+use Rattle.papaya_whole.specs.Given.Rule.Words.{Blocks}
+use Rattle.papaya_whole.specs.Given.Rule.Maps.{spot_of, IsMap}
+use Rattle.papaya_whole.proofs.Given.Maps.Rests.NoneMoves.{none_copying, claims_none}
 use Rattle.papaya_whole.specs.Contents.{ContentsBelow}
 use Rattle.papaya_shown.specs.Chain.{pair_of}
 use Rattle.papaya_shown.specs.Shown.{Stands, NoneMoves, pairs_stored}

@@ -9,8 +9,8 @@ use Rattle.papaya_raw.specs.CallAsks.{replied}
 use Rattle.papaya_raw.specs.declared.machines.answer.KeyAnswer.{KeyAnswer}
 use Rattle.papaya_raw.specs.declared.machines.asking.Reply.{Reply}
 use Rattle.papaya_raw.specs.declared.machines.call.KeyCall.{KeyCall}
-use Rattle.papaya_callers.specs.Pairs.{Given}
-use Rattle.papaya_callers.specs.Together.{IsBegun}
+use Rattle.papaya_whole.specs.Given.Callers.Pairs.{Given}
+use Rattle.papaya_whole.specs.Given.Callers.Together.{IsBegun}
 use Rattle.papaya_owned.specs.Ending.{RunsTo}
 use Rattle.papaya_owned.specs.Machines.{on_key_plan}
 use Rattle.papaya_owned.specs.declared.machines.OnKey.{OnKey}

@@ -8,3 +8,4 @@ pub mod Rooms
 pub mod Standing
 pub mod Tries
 pub mod Within
+pub mod Given

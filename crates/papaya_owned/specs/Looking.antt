@@ -6,11 +6,11 @@ use Rattle.papaya_tables.specs.declared.table.Table.{Table}
 use Rattle.papaya_tables.specs.declared.trial.Trial.{Trial}
 use Rattle.papaya_resize.specs.declared.lookup.Lookup.{Lookup}
 use Rattle.papaya_resize.specs.declared.lookup.Looking.TheVariants as at
-use Rattle.papaya_rule.specs.Chart.{Chart}
-use Rattle.papaya_rule.specs.Words.{Blocks}
-use Rattle.papaya_rule.specs.Maps.{IsClass, IsMap}
-use Rattle.papaya_points.specs.FactsLooks.{Answers, LookupFacts}
-use Rattle.papaya_points.specs.Steps.{AreLawful}
+use Rattle.papaya_whole.specs.Given.Rule.Chart.{Chart}
+use Rattle.papaya_whole.specs.Given.Rule.Words.{Blocks}
+use Rattle.papaya_whole.specs.Given.Rule.Maps.{IsClass, IsMap}
+use Rattle.papaya_whole.specs.Given.Points.FactsLooks.{Answers, LookupFacts}
+use Rattle.papaya_whole.specs.Given.Points.Steps.{AreLawful}
 
 module _ {K V : Type 0} (same : K → K → Bool) (hash : K → ℕ) (keys : K → Bool) (m : Mem (Node K V)) (c : Chart K) (blocks : Blocks) where
   -- The map stands in the memory. A lookup that was begun as this one is for keys of one class, and knows now what its point knows.

@@ -11,8 +11,8 @@ use Rattle.papaya_tables.specs.declared.node.Node.{Node}
 use Rattle.papaya_tables.specs.declared.trial.Trial.{Trial}
 use Rattle.papaya_resize.specs.declared.outcome.Outcome.{Outcome}
 use Rattle.papaya_resize.specs.declared.outcome.Outcome.TheVariants as outcome
-use Rattle.papaya_reserves.specs.Reserve.{reserve_plan}
-use Rattle.papaya_reserves.specs.declared.reserve.Reserve.{Reserve}
+use Rattle.papaya_whole.specs.Given.Reserves.Reserve.{reserve_plan}
+use Rattle.papaya_whole.specs.Given.Reserves.declared.reserve.Reserve.{Reserve}
 use Rattle.papaya_raw.specs.Call.{call_plan}
 use Rattle.papaya_raw.specs.declared.machines.answer.Called.{Called}
 use Rattle.papaya_raw.specs.declared.machines.answer.Called.TheVariants as called

@@ -11,13 +11,13 @@ use Rattle.papaya_tables.specs.Chunks.{is_incremental}
 use Rattle.papaya_raw.specs.declared.machines.answer.Called.TheVariants as called
 use Rattle.papaya_raw.specs.declared.machines.answer.KeyAnswer.{KeyAnswer}
 use Rattle.papaya_raw.specs.declared.machines.answer.KeyAnswer.TheVariants as answers
-use Rattle.papaya_rule.specs.Chart.{Chart}
-use Rattle.papaya_rule.specs.Words.{Blocks}
-use Rattle.papaya_points.specs.Steps.{AreLawful}
-use Rattle.papaya_alone.specs.Counting.{IsCounted}
-use Rattle.papaya_callers.specs.Kind.{Kind}
-use Rattle.papaya_callers.specs.Sights.{Sight}
-use Rattle.papaya_late.specs.Kinds.{Fits, FaultFits, TellsFit}
+use Rattle.papaya_whole.specs.Given.Rule.Chart.{Chart}
+use Rattle.papaya_whole.specs.Given.Rule.Words.{Blocks}
+use Rattle.papaya_whole.specs.Given.Points.Steps.{AreLawful}
+use Rattle.papaya_whole.specs.Given.Alone.Counting.{IsCounted}
+use Rattle.papaya_whole.specs.Given.Callers.Kind.{Kind}
+use Rattle.papaya_whole.specs.Given.Callers.Sights.{Sight}
+use Rattle.papaya_whole.specs.Given.Late.Kinds.{Fits, FaultFits, TellsFit}
 use Rattle.papaya_whole.specs.Contents.{AreContents}
 use Rattle.papaya_whole.specs.Owner.{AtRest}
 use Rattle.papaya_owned.specs.Standing.{Standing, Waits}

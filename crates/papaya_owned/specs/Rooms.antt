@@ -9,8 +9,8 @@ use Rattle.papaya_tables.specs.Lengths.{places_for}
 use Rattle.papaya_tables.specs.declared.node.Node.{Node}
 use Rattle.papaya_tables.specs.declared.node.Node.TheVariants as node
 use Rattle.papaya_tables.specs.declared.setting.Setting.{Setting}
-use Rattle.papaya_reserves.specs.Reserve.{needed}
-use Rattle.papaya_late.specs.Faults.{IsRoom}
+use Rattle.papaya_whole.specs.Given.Reserves.Reserve.{needed}
+use Rattle.papaya_whole.specs.Given.Late.Faults.{IsRoom}
 use Rattle.papaya_owned.specs.Owned.{Holds}
 
 -- for so many pairs no table is long enough

@@ -5,8 +5,8 @@ use Rattle.papaya_tables.specs.Chunks.{is_incremental}
 use Rattle.papaya_tables.specs.declared.node.Node.{Node}
 use Rattle.papaya_tables.specs.declared.table.Table.{Table}
 use Rattle.papaya_resize.specs.declared.lookup.Lookup.{Lookup}
-use Rattle.papaya_rule.specs.Chart.{Chart}
-use Rattle.papaya_rule.specs.Words.{Blocks}
+use Rattle.papaya_whole.specs.Given.Rule.Chart.{Chart}
+use Rattle.papaya_whole.specs.Given.Rule.Words.{Blocks}
 use Rattle.papaya_owned.specs.Looking.{LooksIn, Finds, at_next}
 use Rattle.papaya_owned.specs.declared.tries.Tried.{Tried}
 use Rattle.papaya_owned.specs.declared.tries.Tried.TheVariants as tried

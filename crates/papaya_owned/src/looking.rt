@@ -7,8 +7,8 @@ ghost use Rattle.papaya_owned.specs.Ending.{Ends};
 ghost use Rattle.papaya_owned.specs.Looking.{LooksIn, Finds};
 ghost use Rattle.papaya_owned.specs.Owned.{NamesAPair};
 ghost use Rattle.papaya_resize.specs.Lookup.{lookup_plan};
-ghost use Rattle.papaya_rule.specs.Chart.{Chart};
-ghost use Rattle.papaya_rule.specs.Words.{Blocks};
+ghost use Rattle.papaya_whole.specs.Given.Rule.Chart.{Chart};
+ghost use Rattle.papaya_whole.specs.Given.Rule.Words.{Blocks};
 
 use crate::most_looks::MostLooks;
 use crate::tries::{Tried, tries};

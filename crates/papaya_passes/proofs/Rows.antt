@@ -1,34 +1,34 @@
 -- A row of the collector within a sweep leaves the sweep's number as it is, and its end lowers it.
 use Rattle.std.specs.Prelude.{nat_lt, ◌&&◌, if◌then◌else◌, ◌++◌}
 use Rattle.std.proofs.Common.{◌≡◌, ℕ, ◌+◌, ◌%◌, ◌^◌, Bool, true, false, [], ◌∷◌, ◌⊎◌, inl, inr, refl, ap, sym, subst, ◌∙◌}
-use Rattle.seize_words.specs.Mem.{Mem, Took, value_at}
-use Rattle.seize_words.specs.Plan.{Steps}
-use Rattle.seize_rule.proofs.Rows.Leaving.{steps_back}
-use Rattle.seize.specs.World.{World}
-use Rattle.seize.specs.declared.rows.settle.Settled.{Settled}
-use Rattle.seize.specs.declared.rows.settle.Settled.TheVariants as settled
-use Rattle.papaya_tables.specs.declared.node.Node.{Node}
-use Rattle.papaya_tables.specs.declared.setting.Setting.{Setting}
-use Rattle.papaya_tables.specs.declared.table.Table.{Table}
-use Rattle.papaya_resize.specs.Copier.{copier_plan}
-use Rattle.papaya_resize.specs.Dispose.{dispose_plan}
-use Rattle.papaya_resize.specs.declared.copier.Copier.{Copier}
-use Rattle.papaya_resize.specs.declared.dispose.Dispose.{Dispose}
-use Rattle.papaya_resize.specs.declared.outcome.Outcome.{Outcome}
-use Rattle.papaya_resize.specs.declared.outcome.Outcome.TheVariants as outcome
-use Rattle.papaya_sweeps.specs.Sweep.{copied, disposed, plan_at}
-use Rattle.papaya_sweeps.specs.SweepPoints.{removes, further}
-use Rattle.papaya_sweeps.specs.declared.sweep.Sweep.{Sweep}
-use Rattle.papaya_sweeps.specs.declared.sweep.Sweeping.{Sweeping}
-use Rattle.papaya_sweeps.specs.declared.sweep.Sweeping.TheVariants as at
-use Rattle.papaya_sweeps.specs.declared.sweep.Swept.{Swept}
-use Rattle.papaya_sweeps.specs.declared.sweep.Swept.TheVariants as swept
-use Rattle.papaya_rule.specs.Chart.{Chart}
-use Rattle.papaya_rule.specs.Words.{Blocks}
-use Rattle.papaya_rule.specs.InWorld.{IsMapIn}
-use Rattle.papaya_points.specs.Measures.{IsBelow}
-use Rattle.papaya_points.specs.MeasuresDisposes.{number_of_dispose}
-use Rattle.papaya_points.specs.Told.{IsRowOf}
+use Rattle.papaya_late.specs.Given.SeizeWords.Mem.{Mem, Took, value_at}
+use Rattle.papaya_late.specs.Given.SeizeWords.Plan.{Steps}
+use Rattle.papaya_late.proofs.Given.SeizeRule.Rows.Leaving.{steps_back}
+use Rattle.papaya_late.specs.Given.Seize.World.{World}
+use Rattle.papaya_late.specs.Given.Seize.declared.rows.settle.Settled.{Settled}
+use Rattle.papaya_late.specs.Given.Seize.declared.rows.settle.Settled.TheVariants as settled
+use Rattle.papaya_late.specs.Given.Tables.declared.node.Node.{Node}
+use Rattle.papaya_late.specs.Given.Tables.declared.setting.Setting.{Setting}
+use Rattle.papaya_late.specs.Given.Tables.declared.table.Table.{Table}
+use Rattle.papaya_late.specs.Given.Resize.Copier.{copier_plan}
+use Rattle.papaya_late.specs.Given.Resize.Dispose.{dispose_plan}
+use Rattle.papaya_late.specs.Given.Resize.declared.copier.Copier.{Copier}
+use Rattle.papaya_late.specs.Given.Resize.declared.dispose.Dispose.{Dispose}
+use Rattle.papaya_late.specs.Given.Resize.declared.outcome.Outcome.{Outcome}
+use Rattle.papaya_late.specs.Given.Resize.declared.outcome.Outcome.TheVariants as outcome
+use Rattle.papaya_late.specs.Given.Sweeps.Sweep.{copied, disposed, plan_at}
+use Rattle.papaya_late.specs.Given.Sweeps.SweepPoints.{removes, further}
+use Rattle.papaya_late.specs.Given.Sweeps.declared.sweep.Sweep.{Sweep}
+use Rattle.papaya_late.specs.Given.Sweeps.declared.sweep.Sweeping.{Sweeping}
+use Rattle.papaya_late.specs.Given.Sweeps.declared.sweep.Sweeping.TheVariants as at
+use Rattle.papaya_late.specs.Given.Sweeps.declared.sweep.Swept.{Swept}
+use Rattle.papaya_late.specs.Given.Sweeps.declared.sweep.Swept.TheVariants as swept
+use Rattle.papaya_late.specs.Given.Rule.Chart.{Chart}
+use Rattle.papaya_late.specs.Given.Rule.Words.{Blocks}
+use Rattle.papaya_late.specs.Given.Rule.InWorld.{IsMapIn}
+use Rattle.papaya_late.specs.Given.Points.Measures.{IsBelow}
+use Rattle.papaya_late.specs.Given.Points.MeasuresDisposes.{number_of_dispose}
+use Rattle.papaya_late.specs.Given.Points.Told.{IsRowOf}
 use Rattle.papaya_falls.specs.Room.{tables_to_come}
 use Rattle.papaya_falls.proofs.Within.DisposalRows.{StaysInRow, stays_in_row, none_in_row}
 use Rattle.papaya_late.specs.FactsSweeps.{CopiesPairs}

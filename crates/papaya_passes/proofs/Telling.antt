@@ -2,13 +2,13 @@
 use Rattle.std.specs.Prelude.{nat_lt, if◌then◌else◌}
 use Rattle.std.proofs.Common.{◌≡◌, ℕ, suc, ◌-◌, ◌<◌, ◌≤◌, Bool, true, false, ◌∷◌, ◌⊎◌, inl, inr, refl, subst, sym, arith}
 use Rattle.std.proofs.lemmas.Bool.{cases_lt}
-use Rattle.papaya_sweeps.specs.SweepPoints.{next_at, reply_at}
-use Rattle.papaya_sweeps.specs.declared.sweep.Sweep.{Sweep}
-use Rattle.papaya_sweeps.specs.declared.sweep.Sweeping.{Sweeping}
-use Rattle.papaya_sweeps.specs.declared.sweep.Sweeping.TheVariants as at
-use Rattle.papaya_rule.specs.Chart.{Chart}
-use Rattle.papaya_rule.specs.Words.{Blocks}
-use Rattle.papaya_points.specs.Measures.{IsBelow}
+use Rattle.papaya_late.specs.Given.Sweeps.SweepPoints.{next_at, reply_at}
+use Rattle.papaya_late.specs.Given.Sweeps.declared.sweep.Sweep.{Sweep}
+use Rattle.papaya_late.specs.Given.Sweeps.declared.sweep.Sweeping.{Sweeping}
+use Rattle.papaya_late.specs.Given.Sweeps.declared.sweep.Sweeping.TheVariants as at
+use Rattle.papaya_late.specs.Given.Rule.Chart.{Chart}
+use Rattle.papaya_late.specs.Given.Rule.Words.{Blocks}
+use Rattle.papaya_late.specs.Given.Points.Measures.{IsBelow}
 use Rattle.papaya_falls.specs.Room.{tables_to_come}
 use Rattle.papaya_late.specs.FactsSweeps.{SweepingFacts}
 use Rattle.papaya_passes.specs.FallsSweeps.{TellingFalls}

@@ -1,28 +1,28 @@
 -- A copying within a sweep is one within a reservation: its copier knows as much, and the numbers are those.
 use Rattle.std.proofs.Common.{◌≡◌, ℕ, List, Bool, ◌⊎◌, inl, inr, ap, sym, subst, ◌∙◌}
-use Rattle.seize_words.specs.Mem.{Mem, Can, Took, value_at}
-use Rattle.seize_words.specs.Plan.{Steps}
-use Rattle.seize_words.proofs.Plans.{steps_as}
-use Rattle.seize.specs.World.{World}
-use Rattle.seize.specs.declared.rows.settle.Settle.{Settle}
-use Rattle.seize.specs.declared.rows.settle.Settled.{Settled}
-use Rattle.seize.specs.declared.rows.settle.Settled.TheVariants as settled
-use Rattle.papaya_tables.specs.Chunks.{is_incremental}
-use Rattle.papaya_tables.specs.declared.node.Node.{Node}
-use Rattle.papaya_tables.specs.declared.setting.Setting.{Setting}
-use Rattle.papaya_tables.specs.declared.table.Table.{Table}
-use Rattle.papaya_resize.specs.Copier.{copier_plan}
-use Rattle.papaya_resize.specs.CopierPromotes.{retired}
-use Rattle.papaya_resize.specs.declared.copier.Copier.{Copier}
-use Rattle.papaya_resize.specs.declared.outcome.Outcome.{Outcome}
-use Rattle.papaya_resize.specs.declared.outcome.Outcome.TheVariants.{Goes, Done}
-use Rattle.papaya_reserves.specs.Reserve.{copied}
-use Rattle.papaya_reserves.specs.declared.reserve.Reserve.{Reserve}
-use Rattle.papaya_reserves.specs.declared.reserve.Reserving.TheVariants as at
-use Rattle.papaya_rule.specs.Chart.{Chart}
-use Rattle.papaya_rule.specs.Words.{Blocks}
-use Rattle.papaya_points.specs.Measures.{IsBelow}
-use Rattle.papaya_points.specs.Told.{IsRowOfCopier}
+use Rattle.papaya_late.specs.Given.SeizeWords.Mem.{Mem, Can, Took, value_at}
+use Rattle.papaya_late.specs.Given.SeizeWords.Plan.{Steps}
+use Rattle.papaya_late.proofs.Given.SeizeWords.Plans.{steps_as}
+use Rattle.papaya_late.specs.Given.Seize.World.{World}
+use Rattle.papaya_late.specs.Given.Seize.declared.rows.settle.Settle.{Settle}
+use Rattle.papaya_late.specs.Given.Seize.declared.rows.settle.Settled.{Settled}
+use Rattle.papaya_late.specs.Given.Seize.declared.rows.settle.Settled.TheVariants as settled
+use Rattle.papaya_late.specs.Given.Tables.Chunks.{is_incremental}
+use Rattle.papaya_late.specs.Given.Tables.declared.node.Node.{Node}
+use Rattle.papaya_late.specs.Given.Tables.declared.setting.Setting.{Setting}
+use Rattle.papaya_late.specs.Given.Tables.declared.table.Table.{Table}
+use Rattle.papaya_late.specs.Given.Resize.Copier.{copier_plan}
+use Rattle.papaya_late.specs.Given.Resize.CopierPromotes.{retired}
+use Rattle.papaya_late.specs.Given.Resize.declared.copier.Copier.{Copier}
+use Rattle.papaya_late.specs.Given.Resize.declared.outcome.Outcome.{Outcome}
+use Rattle.papaya_late.specs.Given.Resize.declared.outcome.Outcome.TheVariants.{Goes, Done}
+use Rattle.papaya_late.specs.Given.Reserves.Reserve.{copied}
+use Rattle.papaya_late.specs.Given.Reserves.declared.reserve.Reserve.{Reserve}
+use Rattle.papaya_late.specs.Given.Reserves.declared.reserve.Reserving.TheVariants as at
+use Rattle.papaya_late.specs.Given.Rule.Chart.{Chart}
+use Rattle.papaya_late.specs.Given.Rule.Words.{Blocks}
+use Rattle.papaya_late.specs.Given.Points.Measures.{IsBelow}
+use Rattle.papaya_late.specs.Given.Points.Told.{IsRowOfCopier}
 use Rattle.papaya_falls.specs.Reserves.{numbers_at}
 use Rattle.papaya_falls.proofs.Calls.LateFacts.{late_copying}
 use Rattle.papaya_falls.proofs.Copiers.Rows.{in_row, retires_back}

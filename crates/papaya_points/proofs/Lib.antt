@@ -8,3 +8,4 @@ pub mod MovedLasts
 pub mod Steps
 pub mod Values
 pub mod Descents
+pub mod Given

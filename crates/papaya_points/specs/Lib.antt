@@ -17,3 +17,4 @@ pub mod ToldMoves
 pub mod Looks
 pub mod Made
 pub mod Others
+pub mod Given

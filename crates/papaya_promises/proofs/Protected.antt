@@ -3,34 +3,34 @@ use Rattle.std.specs.Prelude.{◌&&◌, ◌≡◌, ℕ, nat_lt, Bool, true, fals
 use Rattle.std.specs.List.{AllByRecursion}
 use Rattle.std.proofs.Common.{refl, ap, sym, subst, ◌∙◌}
 use Rattle.std.proofs.lemmas.Grind.{flat_map-append}
-use Rattle.seize_words.specs.declared.at.At.TheVariants.{Root, Used, Slot as SlotWord, Entry as EntryWord, Word}
-use Rattle.seize.specs.World.{World}
-use Rattle.papaya_tables.specs.declared.node.Node.{Node}
-use Rattle.papaya_runs.specs.Present.{Present, slot_of_registration}
-use Rattle.papaya_schedules.specs.declared.call.Call.{Call}
-use Rattle.papaya_schedules.specs.declared.effect.Effect.{Effect}
-use Rattle.papaya_schedules.specs.declared.effect.Thing.{Thing}
-use Rattle.papaya_schedules.specs.declared.event.Event.{Event}
-use Rattle.papaya_schedules.specs.declared.event.Event.TheVariants.{Register, Unregister, Enter, Own, Refresh, Flush, DropGuard, Forget, ReclaimAll, Close, MakeMap, Begin, OneCall}
-use Rattle.papaya_schedules.specs.declared.outcome.Outcome.{Outcome}
-use Rattle.papaya_schedules.specs.declared.outcome.Outcome.TheVariants.{Done, Slot, Goes}
-use Rattle.papaya_schedules.specs.After.{there_on, unsheltered, sheltered_on, after, moment}
-use Rattle.papaya_schedules.specs.Beginning.{with_call, begun, at_work}
-use Rattle.papaya_schedules.specs.Effects.{with_effect, with_effects, worked}
-use Rattle.papaya_schedules.specs.Entry.{Entry, is_busy, nameless, caller_of, acted_on}
-use Rattle.papaya_schedules.specs.Lists.{is_in}
-use Rattle.papaya_schedules.specs.Model.{thing_back}
-use Rattle.papaya_schedules.specs.Moment.{Sheltered, Moment}
-use Rattle.papaya_schedules.specs.Things.{same_thing}
-use Rattle.papaya_schedules.specs.Views.{number_of}
-use Rattle.papaya_teller.specs.declared.changed.Changed.{Changed}
-use Rattle.papaya_teller.specs.declared.changed.Changed.TheVariants as changed
-use Rattle.papaya_effects.specs.Effects.{names_same, taken_by, effects_of}
-use Rattle.papaya_effects.specs.Known.{Known}
-use Rattle.papaya_effects.specs.declared.acting.Acting.TheVariants as acts
-use Rattle.papaya_effects.specs.declared.role.Role.{Role}
-use Rattle.papaya_effects.specs.declared.role.Role.TheVariants as role
-use Rattle.papaya_others.proofs.RowPlans.{TellsRow, row_tells}
+use Rattle.papaya_histories.specs.Given.SeizeWords.declared.at.At.TheVariants.{Root, Used, Slot as SlotWord, Entry as EntryWord, Word}
+use Rattle.papaya_histories.specs.Given.Seize.World.{World}
+use Rattle.papaya_histories.specs.Given.Tables.declared.node.Node.{Node}
+use Rattle.papaya_histories.specs.Given.Runs.Present.{Present, slot_of_registration}
+use Rattle.papaya_histories.specs.Given.Schedules.declared.call.Call.{Call}
+use Rattle.papaya_histories.specs.Given.Schedules.declared.effect.Effect.{Effect}
+use Rattle.papaya_histories.specs.Given.Schedules.declared.effect.Thing.{Thing}
+use Rattle.papaya_histories.specs.Given.Schedules.declared.event.Event.{Event}
+use Rattle.papaya_histories.specs.Given.Schedules.declared.event.Event.TheVariants.{Register, Unregister, Enter, Own, Refresh, Flush, DropGuard, Forget, ReclaimAll, Close, MakeMap, Begin, OneCall}
+use Rattle.papaya_histories.specs.Given.Schedules.declared.outcome.Outcome.{Outcome}
+use Rattle.papaya_histories.specs.Given.Schedules.declared.outcome.Outcome.TheVariants.{Done, Slot, Goes}
+use Rattle.papaya_histories.specs.Given.Schedules.After.{there_on, unsheltered, sheltered_on, after, moment}
+use Rattle.papaya_histories.specs.Given.Schedules.Beginning.{with_call, begun, at_work}
+use Rattle.papaya_histories.specs.Given.Schedules.Effects.{with_effect, with_effects, worked}
+use Rattle.papaya_histories.specs.Given.Schedules.Entry.{Entry, is_busy, nameless, caller_of, acted_on}
+use Rattle.papaya_histories.specs.Given.Schedules.Lists.{is_in}
+use Rattle.papaya_histories.specs.Given.Schedules.Model.{thing_back}
+use Rattle.papaya_histories.specs.Given.Schedules.Moment.{Sheltered, Moment}
+use Rattle.papaya_histories.specs.Given.Schedules.Things.{same_thing}
+use Rattle.papaya_histories.specs.Given.Schedules.Views.{number_of}
+use Rattle.papaya_histories.specs.Given.Teller.declared.changed.Changed.{Changed}
+use Rattle.papaya_histories.specs.Given.Teller.declared.changed.Changed.TheVariants as changed
+use Rattle.papaya_histories.specs.Given.Effects.Effects.{names_same, taken_by, effects_of}
+use Rattle.papaya_histories.specs.Given.Effects.Known.{Known}
+use Rattle.papaya_histories.specs.Given.Effects.declared.acting.Acting.TheVariants as acts
+use Rattle.papaya_histories.specs.Given.Effects.declared.role.Role.{Role}
+use Rattle.papaya_histories.specs.Given.Effects.declared.role.Role.TheVariants as role
+use Rattle.papaya_histories.proofs.Given.Others.RowPlans.{TellsRow, row_tells}
 use Rattle.papaya_promises.specs.Guards.{EntersInside}
 use Rattle.papaya_promises.specs.Protected.{is_of_slots, there_in, HasSpared, InMidst, EndsInside, EventsBeginProtected, EventsEndProtected, OtherEventsEndProtected, SlotEventsEndProtected, AllIsEndedProtected, IdleEventsAreProtected, CallsProtect, MakingsProtect, EndingsProtect, RowsBeginProtect, RowsProtect}
 use Rattle.papaya_promises.specs.Sheltered.{GuardsAreInside, AreSheltered, SectionsHold}

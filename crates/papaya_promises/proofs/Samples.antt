@@ -2,21 +2,21 @@
 use Rattle.std.specs.Prelude.{◌≡◌, ℕ, true, false, List, [], ◌∷◌}
 use Rattle.std.proofs.Common.{refl, sym, subst, ◌∙◌, arith, inl, inr}
 use Rattle.std.proofs.lemmas.Bool.{cases_eq}
-use Rattle.seize.specs.Law.{Entered, Linked, holds}
-use Rattle.seize.specs.World.{World, Inside}
-use Rattle.papaya_tables.specs.declared.node.Node.{Node}
-use Rattle.papaya_runs.specs.Present.{Present, drops}
-use Rattle.papaya_runs.specs.declared.holders.Guard.{Guard}
-use Rattle.papaya_schedules.specs.declared.effect.Effect.TheVariants.{Reclaimed}
-use Rattle.papaya_schedules.specs.declared.effect.Thing.TheVariants.{APair}
-use Rattle.papaya_schedules.specs.declared.event.Event.TheVariants.{Refresh, Flush}
-use Rattle.papaya_schedules.specs.Lists.{put}
-use Rattle.papaya_schedules.specs.Moment.{Sheltered, Moment, start}
-use Rattle.papaya_effects.specs.Known.{Known}
-use Rattle.papaya_effects.specs.declared.role.Role.TheVariants as role
-use Rattle.papaya_executor.specs.IsAt.{at_first}
-use Rattle.papaya_executor.specs.declared.row.SlotCall.TheVariants as call
-use Rattle.papaya_follows.proofs.Alike.{put_elsewhere}
+use Rattle.papaya_histories.specs.Given.Seize.Law.{Entered, Linked, holds}
+use Rattle.papaya_histories.specs.Given.Seize.World.{World, Inside}
+use Rattle.papaya_histories.specs.Given.Tables.declared.node.Node.{Node}
+use Rattle.papaya_histories.specs.Given.Runs.Present.{Present, drops}
+use Rattle.papaya_histories.specs.Given.Runs.declared.holders.Guard.{Guard}
+use Rattle.papaya_histories.specs.Given.Schedules.declared.effect.Effect.TheVariants.{Reclaimed}
+use Rattle.papaya_histories.specs.Given.Schedules.declared.effect.Thing.TheVariants.{APair}
+use Rattle.papaya_histories.specs.Given.Schedules.declared.event.Event.TheVariants.{Refresh, Flush}
+use Rattle.papaya_histories.specs.Given.Schedules.Lists.{put}
+use Rattle.papaya_histories.specs.Given.Schedules.Moment.{Sheltered, Moment, start}
+use Rattle.papaya_histories.specs.Given.Effects.Known.{Known}
+use Rattle.papaya_histories.specs.Given.Effects.declared.role.Role.TheVariants as role
+use Rattle.papaya_histories.specs.Given.Executor.IsAt.{at_first}
+use Rattle.papaya_histories.specs.Given.Executor.declared.row.SlotCall.TheVariants as call
+use Rattle.papaya_histories.proofs.Given.Follows.Alike.{put_elsewhere}
 use Rattle.papaya_promises.specs.Others.{SparesGuards}
 use Rattle.papaya_promises.specs.Protected.{InMidst}
 use Rattle.papaya_promises.specs.Sheltered.{GuardsAreInside, IsSheltered}

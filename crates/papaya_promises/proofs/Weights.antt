@@ -2,28 +2,28 @@
 use Rattle.std.specs.Prelude.{◌&&◌, ◌≡◌, ◌==◌, ℕ, nat_lt, Bool, true, false, List, [], ◌∷◌, ◌++◌, if◌then◌else◌}
 use Rattle.std.proofs.Common.{refl, arith}
 use Rattle.std.proofs.lemmas.List.Sums.{sum_by-append}
-use Rattle.seize_words.specs.Word.{block_in}
-use Rattle.seize_words.specs.declared.at.At.{At}
-use Rattle.seize_words.specs.declared.at.At.TheVariants.{Root, Used, Slot, Entry, Word}
-use Rattle.seize.specs.declared.states.TheConstants.{FIRST}
-use Rattle.papaya_tables.specs.declared.table_words.TheConstants.{NEXT, DEFERRED}
-use Rattle.papaya_schedules.specs.declared.effect.Effect.{Effect}
-use Rattle.papaya_schedules.specs.declared.effect.Effect.TheVariants.{Asked, PairMade, PairGivenUp, TableMade, TableGivenUp, Linked, Promoted, Copied, Stored, Replaced, Removed, Counted, Deferred, Retired, Reclaimed, Ended, Taken}
-use Rattle.papaya_schedules.specs.declared.effect.Growth.TheVariants.{ABlock, ABucket}
-use Rattle.papaya_schedules.specs.declared.effect.Spot.{Spot}
-use Rattle.papaya_schedules.specs.declared.effect.Table.{Table}
-use Rattle.papaya_schedules.specs.Handing.{is_granted}
-use Rattle.papaya_schedules.specs.Steps.{weight}
-use Rattle.papaya_teller.specs.declared.changed.Changed.{Changed}
-use Rattle.papaya_teller.specs.declared.changed.Changed.TheVariants as changed
-use Rattle.papaya_teller.specs.declared.changed.Kind.{Kind}
-use Rattle.papaya_teller.specs.declared.changed.Kind.TheVariants as kind
-use Rattle.papaya_effects.specs.Effects.{names_same, spot_at, is_place, made_by, taken_by, followed_by, led_to, carried, placed, in_table, in_block, batched, written_by, effects_of}
-use Rattle.papaya_effects.specs.Known.{Known}
-use Rattle.papaya_effects.specs.declared.acting.Acting.{Acting}
-use Rattle.papaya_effects.specs.declared.acting.Acting.TheVariants.{Call, Ending}
-use Rattle.papaya_effects.specs.declared.role.Role.{Role}
-use Rattle.papaya_effects.specs.declared.role.Role.TheVariants as role
+use Rattle.papaya_histories.specs.Given.SeizeWords.Word.{block_in}
+use Rattle.papaya_histories.specs.Given.SeizeWords.declared.at.At.{At}
+use Rattle.papaya_histories.specs.Given.SeizeWords.declared.at.At.TheVariants.{Root, Used, Slot, Entry, Word}
+use Rattle.papaya_histories.specs.Given.Seize.declared.states.TheConstants.{FIRST}
+use Rattle.papaya_histories.specs.Given.Tables.declared.table_words.TheConstants.{NEXT, DEFERRED}
+use Rattle.papaya_histories.specs.Given.Schedules.declared.effect.Effect.{Effect}
+use Rattle.papaya_histories.specs.Given.Schedules.declared.effect.Effect.TheVariants.{Asked, PairMade, PairGivenUp, TableMade, TableGivenUp, Linked, Promoted, Copied, Stored, Replaced, Removed, Counted, Deferred, Retired, Reclaimed, Ended, Taken}
+use Rattle.papaya_histories.specs.Given.Schedules.declared.effect.Growth.TheVariants.{ABlock, ABucket}
+use Rattle.papaya_histories.specs.Given.Schedules.declared.effect.Spot.{Spot}
+use Rattle.papaya_histories.specs.Given.Schedules.declared.effect.Table.{Table}
+use Rattle.papaya_histories.specs.Given.Schedules.Handing.{is_granted}
+use Rattle.papaya_histories.specs.Given.Schedules.Steps.{weight}
+use Rattle.papaya_histories.specs.Given.Teller.declared.changed.Changed.{Changed}
+use Rattle.papaya_histories.specs.Given.Teller.declared.changed.Changed.TheVariants as changed
+use Rattle.papaya_histories.specs.Given.Teller.declared.changed.Kind.{Kind}
+use Rattle.papaya_histories.specs.Given.Teller.declared.changed.Kind.TheVariants as kind
+use Rattle.papaya_histories.specs.Given.Effects.Effects.{names_same, spot_at, is_place, made_by, taken_by, followed_by, led_to, carried, placed, in_table, in_block, batched, written_by, effects_of}
+use Rattle.papaya_histories.specs.Given.Effects.Known.{Known}
+use Rattle.papaya_histories.specs.Given.Effects.declared.acting.Acting.{Acting}
+use Rattle.papaya_histories.specs.Given.Effects.declared.acting.Acting.TheVariants.{Call, Ending}
+use Rattle.papaya_histories.specs.Given.Effects.declared.role.Role.{Role}
+use Rattle.papaya_histories.specs.Given.Effects.declared.role.Role.TheVariants as role
 use Rattle.papaya_promises.specs.Weights.{AreDoneBy, OperationsAreSingle, PartsAddUp, GrantsAddUp}
 
 abbrev IsOne : List Effect → Type 0

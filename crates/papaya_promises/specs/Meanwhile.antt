@@ -1,34 +1,34 @@
 -- What lookups under way have read, where calls begin, step and come to an outcome meanwhile.
 use Rattle.std.specs.Prelude.{◌≡◌, ℕ, Bool, true, false, List, length, Some, None, if◌then◌else◌, Option, []}
-use Rattle.papaya_runs.specs.Same.{is_same}
-use Rattle.papaya_tables.specs.declared.node.Node.{Node}
-use Rattle.papaya_resize.specs.declared.lookup.Lookup.{Lookup}
-use Rattle.papaya_resize.specs.declared.lookup.Looking.TheVariants as looking
-use Rattle.papaya_raw.specs.declared.machines.call.Calling.TheVariants as at
-use Rattle.papaya_raw.specs.declared.machines.progress.Progress.{Progress}
-use Rattle.papaya_schedules.specs.declared.call.Call.{Call}
-use Rattle.papaya_schedules.specs.declared.call.Reply.{Reply}
-use Rattle.papaya_schedules.specs.declared.outcome.Outcome.{Outcome}
-use Rattle.papaya_schedules.specs.Beginning.{with_call}
-use Rattle.papaya_schedules.specs.Effects.{with_effects}
-use Rattle.papaya_schedules.specs.Entry.{Entry, ends_call}
-use Rattle.papaya_schedules.specs.Moment.{UnderWay as CallThere, Moment, start}
-use Rattle.papaya_schedules.specs.Views.{call_of}
-use Rattle.papaya_callers.specs.Together.{CallOnKey, UnderWay, OnKey}
-use Rattle.papaya_effects.specs.Effects.{effects_of}
-use Rattle.papaya_effects.specs.Known.{Known}
-use Rattle.papaya_effects.specs.declared.acting.Acting.TheVariants as acts
-use Rattle.seize.specs.World.{Event as WorldEvent}
-use Rattle.papaya_executor.specs.OnSlots.{HappensAt}
-use Rattle.papaya_finishes.specs.Maps.{Standing}
-use Rattle.papaya_others.specs.Rows.{scene_then}
-use Rattle.papaya_schedules.specs.declared.effect.Effect.{Effect}
-use Rattle.papaya_executor.specs.IsAt.{Scene, IsAt, at_first}
-use Rattle.papaya_executor.specs.Replying.{scene_with}
-use Rattle.papaya_executor.specs.Stepping.{StepLeads, scene_after}
-use Rattle.papaya_executor.specs.declared.executor.Executor.{Executor}
-use Rattle.papaya_follows.specs.Calling.{NoneNamed, told, come_to}
-use Rattle.papaya_moments.specs.Whole.{ShowsWhole}
+use Rattle.papaya_histories.specs.Given.Runs.Same.{is_same}
+use Rattle.papaya_histories.specs.Given.Tables.declared.node.Node.{Node}
+use Rattle.papaya_histories.specs.Given.Resize.declared.lookup.Lookup.{Lookup}
+use Rattle.papaya_histories.specs.Given.Resize.declared.lookup.Looking.TheVariants as looking
+use Rattle.papaya_histories.specs.Given.Raw.declared.machines.call.Calling.TheVariants as at
+use Rattle.papaya_histories.specs.Given.Raw.declared.machines.progress.Progress.{Progress}
+use Rattle.papaya_histories.specs.Given.Schedules.declared.call.Call.{Call}
+use Rattle.papaya_histories.specs.Given.Schedules.declared.call.Reply.{Reply}
+use Rattle.papaya_histories.specs.Given.Schedules.declared.outcome.Outcome.{Outcome}
+use Rattle.papaya_histories.specs.Given.Schedules.Beginning.{with_call}
+use Rattle.papaya_histories.specs.Given.Schedules.Effects.{with_effects}
+use Rattle.papaya_histories.specs.Given.Schedules.Entry.{Entry, ends_call}
+use Rattle.papaya_histories.specs.Given.Schedules.Moment.{UnderWay as CallThere, Moment, start}
+use Rattle.papaya_histories.specs.Given.Schedules.Views.{call_of}
+use Rattle.papaya_histories.specs.Given.Callers.Together.{CallOnKey, UnderWay, OnKey}
+use Rattle.papaya_histories.specs.Given.Effects.Effects.{effects_of}
+use Rattle.papaya_histories.specs.Given.Effects.Known.{Known}
+use Rattle.papaya_histories.specs.Given.Effects.declared.acting.Acting.TheVariants as acts
+use Rattle.papaya_histories.specs.Given.Seize.World.{Event as WorldEvent}
+use Rattle.papaya_histories.specs.Given.Executor.OnSlots.{HappensAt}
+use Rattle.papaya_histories.specs.Given.Finishes.Maps.{Standing}
+use Rattle.papaya_histories.specs.Given.Others.Rows.{scene_then}
+use Rattle.papaya_histories.specs.Given.Schedules.declared.effect.Effect.{Effect}
+use Rattle.papaya_histories.specs.Given.Executor.IsAt.{Scene, IsAt, at_first}
+use Rattle.papaya_histories.specs.Given.Executor.Replying.{scene_with}
+use Rattle.papaya_histories.specs.Given.Executor.Stepping.{StepLeads, scene_after}
+use Rattle.papaya_histories.specs.Given.Executor.declared.executor.Executor.{Executor}
+use Rattle.papaya_histories.specs.Given.Follows.Calling.{NoneNamed, told, come_to}
+use Rattle.papaya_histories.specs.Given.Moments.Whole.{ShowsWhole}
 use Rattle.papaya_promises.specs.Reading.{looks, HasStood, ShowsReading}
 
 module _ (K V : Type 0) (same : K → K → Bool) where

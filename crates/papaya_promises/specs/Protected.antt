@@ -1,44 +1,44 @@
 -- What is promised of an event as it goes on: what left its map in sections that it does not end is sheltered by these, and not reclaimed.
 use Rattle.std.specs.Prelude.{◌≡◌, ℕ, Bool, true, false, List, [], ◌++◌, Option, Some, None, flat_map}
-use Rattle.seize.specs.World.{World, Step, IsInside}
-use Rattle.seize.specs.declared.progress.Progress.{Progress as Making}
-use Rattle.seize.specs.declared.rows.settle.Settled.{Settled}
-use Rattle.papaya_tables.specs.declared.node.Node.{Node}
-use Rattle.papaya_tables.specs.declared.setting.Setting.{Setting}
-use Rattle.papaya_raw.specs.declared.machines.progress.Progress.{Progress}
-use Rattle.papaya_runs.specs.Present.{Present, nobody, guard_of, slot_of_registration, drops}
-use Rattle.papaya_runs.specs.declared.holders.Guard.{Guard}
-use Rattle.papaya_schedules.specs.declared.effect.Effect.{Effect}
-use Rattle.papaya_schedules.specs.declared.event.Event.{Event}
-use Rattle.papaya_schedules.specs.declared.event.Event.TheVariants.{Register, Unregister, Enter, Own, Refresh, Flush, DropGuard, ReclaimAll, Close}
-use Rattle.papaya_schedules.specs.declared.outcome.Outcome.{Outcome}
-use Rattle.papaya_schedules.specs.declared.outcome.Outcome.TheVariants.{Done, Slot}
-use Rattle.papaya_schedules.specs.After.{sheltered_on, after, moment}
-use Rattle.papaya_schedules.specs.Beginning.{at_work}
-use Rattle.papaya_schedules.specs.Effects.{with_effects, worked}
-use Rattle.papaya_schedules.specs.Entry.{Entry, caller_of, acted_on}
-use Rattle.papaya_schedules.specs.Model.{thing_back}
-use Rattle.papaya_schedules.specs.Moment.{Sheltered, Moment}
-use Rattle.papaya_schedules.specs.Reclaims.{IsProtected}
-use Rattle.papaya_callers.specs.Together.{UnderWay}
-use Rattle.papaya_effects.specs.Effects.{effects_of, known_after}
-use Rattle.papaya_effects.specs.Known.{Known}
-use Rattle.papaya_effects.specs.declared.acting.Acting.TheVariants as acts
-use Rattle.papaya_finishes.specs.Endings.{Finishing}
-use Rattle.papaya_finishes.specs.Makings.{Beginning}
-use Rattle.papaya_executor.specs.Ending.{EndingLeads}
-use Rattle.papaya_executor.specs.IsAt.{Scene, IsAt, slot_of, work_of}
-use Rattle.papaya_executor.specs.Making.{MakingLeads}
-use Rattle.papaya_executor.specs.OnSlots.{MayBegin, RowBegins, RowLeads}
-use Rattle.papaya_executor.specs.Stepping.{StepLeads}
-use Rattle.papaya_executor.specs.declared.executor.Executor.{Executor}
-use Rattle.papaya_executor.specs.declared.row.RowTold.{RowTold}
-use Rattle.papaya_executor.specs.declared.row.SlotCall.{SlotCall}
-use Rattle.papaya_executor.specs.declared.row.SlotRow.{SlotRow}
-use Rattle.papaya_executor.specs.declared.worker.Work.TheVariants.{OnSlot}
-use Rattle.papaya_others.specs.Makings.{WasNew}
-use Rattle.papaya_others.specs.Rows.{scene_then}
-use Rattle.papaya_moments.specs.Whole.{ShowsWhole}
+use Rattle.papaya_histories.specs.Given.Seize.World.{World, Step, IsInside}
+use Rattle.papaya_histories.specs.Given.Seize.declared.progress.Progress.{Progress as Making}
+use Rattle.papaya_histories.specs.Given.Seize.declared.rows.settle.Settled.{Settled}
+use Rattle.papaya_histories.specs.Given.Tables.declared.node.Node.{Node}
+use Rattle.papaya_histories.specs.Given.Tables.declared.setting.Setting.{Setting}
+use Rattle.papaya_histories.specs.Given.Raw.declared.machines.progress.Progress.{Progress}
+use Rattle.papaya_histories.specs.Given.Runs.Present.{Present, nobody, guard_of, slot_of_registration, drops}
+use Rattle.papaya_histories.specs.Given.Runs.declared.holders.Guard.{Guard}
+use Rattle.papaya_histories.specs.Given.Schedules.declared.effect.Effect.{Effect}
+use Rattle.papaya_histories.specs.Given.Schedules.declared.event.Event.{Event}
+use Rattle.papaya_histories.specs.Given.Schedules.declared.event.Event.TheVariants.{Register, Unregister, Enter, Own, Refresh, Flush, DropGuard, ReclaimAll, Close}
+use Rattle.papaya_histories.specs.Given.Schedules.declared.outcome.Outcome.{Outcome}
+use Rattle.papaya_histories.specs.Given.Schedules.declared.outcome.Outcome.TheVariants.{Done, Slot}
+use Rattle.papaya_histories.specs.Given.Schedules.After.{sheltered_on, after, moment}
+use Rattle.papaya_histories.specs.Given.Schedules.Beginning.{at_work}
+use Rattle.papaya_histories.specs.Given.Schedules.Effects.{with_effects, worked}
+use Rattle.papaya_histories.specs.Given.Schedules.Entry.{Entry, caller_of, acted_on}
+use Rattle.papaya_histories.specs.Given.Schedules.Model.{thing_back}
+use Rattle.papaya_histories.specs.Given.Schedules.Moment.{Sheltered, Moment}
+use Rattle.papaya_histories.specs.Given.Schedules.Reclaims.{IsProtected}
+use Rattle.papaya_histories.specs.Given.Callers.Together.{UnderWay}
+use Rattle.papaya_histories.specs.Given.Effects.Effects.{effects_of, known_after}
+use Rattle.papaya_histories.specs.Given.Effects.Known.{Known}
+use Rattle.papaya_histories.specs.Given.Effects.declared.acting.Acting.TheVariants as acts
+use Rattle.papaya_histories.specs.Given.Finishes.Endings.{Finishing}
+use Rattle.papaya_histories.specs.Given.Finishes.Makings.{Beginning}
+use Rattle.papaya_histories.specs.Given.Executor.Ending.{EndingLeads}
+use Rattle.papaya_histories.specs.Given.Executor.IsAt.{Scene, IsAt, slot_of, work_of}
+use Rattle.papaya_histories.specs.Given.Executor.Making.{MakingLeads}
+use Rattle.papaya_histories.specs.Given.Executor.OnSlots.{MayBegin, RowBegins, RowLeads}
+use Rattle.papaya_histories.specs.Given.Executor.Stepping.{StepLeads}
+use Rattle.papaya_histories.specs.Given.Executor.declared.executor.Executor.{Executor}
+use Rattle.papaya_histories.specs.Given.Executor.declared.row.RowTold.{RowTold}
+use Rattle.papaya_histories.specs.Given.Executor.declared.row.SlotCall.{SlotCall}
+use Rattle.papaya_histories.specs.Given.Executor.declared.row.SlotRow.{SlotRow}
+use Rattle.papaya_histories.specs.Given.Executor.declared.worker.Work.TheVariants.{OnSlot}
+use Rattle.papaya_histories.specs.Given.Others.Makings.{WasNew}
+use Rattle.papaya_histories.specs.Given.Others.Rows.{scene_then}
+use Rattle.papaya_histories.specs.Given.Moments.Whole.{ShowsWhole}
 use Rattle.papaya_promises.specs.Guards.{EntersInside}
 use Rattle.papaya_promises.specs.Others.{SparesGuards}
 use Rattle.papaya_promises.specs.Sheltered.{GuardsAreInside, AreSheltered, SectionsHold}

@@ -3,49 +3,49 @@ use Rattle.std.specs.Prelude.{◌≡◌, ◌≢◌, ℕ, ◌<◌, ◌≤◌, Boo
 use Rattle.std.specs.Int.{IsPowerOfTwo}
 use Rattle.std.specs.List.{AllByRecursion}
 use Rattle.std.proofs.Common.{refl, ap, sym, subst, ◌∙◌, arith, inl, inr}
-use Rattle.seize_words.specs.Mem.{Mem, Took, value_at}
-use Rattle.seize_words.specs.Plan.{Steps}
-use Rattle.seize_words.specs.declared.fault.Fault.{Fault}
-use Rattle.seize_rule.proofs.Rows.Leaving.{steps_back}
-use Rattle.seize.specs.World.{World}
-use Rattle.papaya_tables.specs.Chunks.{is_incremental}
-use Rattle.papaya_tables.specs.declared.node.Node.{Node}
-use Rattle.papaya_tables.specs.declared.setting.Setting.{Setting}
-use Rattle.papaya_tables.specs.declared.status.TheConstants.Status.{ABORTED}
-use Rattle.papaya_tables.specs.declared.table.Table.{Table}
-use Rattle.papaya_resize.specs.Copier.{copier_plan}
-use Rattle.papaya_resize.specs.declared.copier.Copier.{Copier}
-use Rattle.papaya_resize.specs.declared.outcome.Outcome.{Outcome}
-use Rattle.papaya_resize.specs.declared.outcome.Outcome.TheVariants as outcome
-use Rattle.papaya_sweeps.specs.Sweep.{copied, plan_at, sweep_plan}
-use Rattle.papaya_sweeps.specs.SweepPoints.{entering, told}
-use Rattle.papaya_sweeps.specs.declared.sweep.Purpose.TheVariants.{Walks}
-use Rattle.papaya_sweeps.specs.declared.sweep.Sweep.{Sweep}
-use Rattle.papaya_sweeps.specs.declared.sweep.Sweeping.{Sweeping}
-use Rattle.papaya_sweeps.specs.declared.sweep.Sweeping.TheVariants as at
-use Rattle.papaya_sweeps.specs.declared.sweep.Swept.{Swept}
-use Rattle.papaya_sweeps.specs.declared.sweep.Swept.TheVariants as swept
-use Rattle.papaya_rule.specs.Chart.{Chart}
-use Rattle.papaya_rule.specs.InWorld.{IsMapIn, Moved}
-use Rattle.papaya_rule.specs.Maps.{spot_of}
-use Rattle.papaya_rule.specs.Moments.{Moments}
-use Rattle.papaya_rule.specs.Rule.{IsLawful, Rule}
-use Rattle.papaya_rule.specs.Words.{Blocks}
-use Rattle.papaya_rule.proofs.Moves.Promised.{moves_keep}
-use Rattle.papaya_points.specs.Steps.{AreLawful}
-use Rattle.papaya_late.specs.Covers.{times, WasSince, CoversAt}
-use Rattle.papaya_late.specs.FactsSweeps.{GoesOver, SweepingFacts}
-use Rattle.papaya_late.specs.ToldSweeps.{IsRowOfSweep}
-use Rattle.papaya_late.proofs.Swept.Sweeps.Points.{went_sweep}
-use Rattle.papaya_late.proofs.Swept.Sweeps.Tables.{upto_in, live_in}
-use Rattle.papaya_callers.specs.OverAll.{CallOverAll, sweep_once_over, past_sweeping}
-use Rattle.papaya_callers.specs.Sights.{Sight, seen_by}
-use Rattle.papaya_callers.specs.Together.{UnderWay, OverAll, Stands, Together, in_slot}
-use Rattle.papaya_callers.proofs.Sights.Seen.{map_seen}
-use Rattle.papaya_callers.proofs.Together.Few.{claim_few}
-use Rattle.papaya_callers.proofs.Together.Fits.{map_in_slot}
-use Rattle.papaya_finishes.specs.Maps.{Standing, IsSameMap}
-use Rattle.papaya_follows.proofs.Steps.{one_of}
+use Rattle.papaya_histories.specs.Given.SeizeWords.Mem.{Mem, Took, value_at}
+use Rattle.papaya_histories.specs.Given.SeizeWords.Plan.{Steps}
+use Rattle.papaya_histories.specs.Given.SeizeWords.declared.fault.Fault.{Fault}
+use Rattle.papaya_histories.proofs.Given.SeizeRule.Rows.Leaving.{steps_back}
+use Rattle.papaya_histories.specs.Given.Seize.World.{World}
+use Rattle.papaya_histories.specs.Given.Tables.Chunks.{is_incremental}
+use Rattle.papaya_histories.specs.Given.Tables.declared.node.Node.{Node}
+use Rattle.papaya_histories.specs.Given.Tables.declared.setting.Setting.{Setting}
+use Rattle.papaya_histories.specs.Given.Tables.declared.status.TheConstants.Status.{ABORTED}
+use Rattle.papaya_histories.specs.Given.Tables.declared.table.Table.{Table}
+use Rattle.papaya_histories.specs.Given.Resize.Copier.{copier_plan}
+use Rattle.papaya_histories.specs.Given.Resize.declared.copier.Copier.{Copier}
+use Rattle.papaya_histories.specs.Given.Resize.declared.outcome.Outcome.{Outcome}
+use Rattle.papaya_histories.specs.Given.Resize.declared.outcome.Outcome.TheVariants as outcome
+use Rattle.papaya_histories.specs.Given.Sweeps.Sweep.{copied, plan_at, sweep_plan}
+use Rattle.papaya_histories.specs.Given.Sweeps.SweepPoints.{entering, told}
+use Rattle.papaya_histories.specs.Given.Sweeps.declared.sweep.Purpose.TheVariants.{Walks}
+use Rattle.papaya_histories.specs.Given.Sweeps.declared.sweep.Sweep.{Sweep}
+use Rattle.papaya_histories.specs.Given.Sweeps.declared.sweep.Sweeping.{Sweeping}
+use Rattle.papaya_histories.specs.Given.Sweeps.declared.sweep.Sweeping.TheVariants as at
+use Rattle.papaya_histories.specs.Given.Sweeps.declared.sweep.Swept.{Swept}
+use Rattle.papaya_histories.specs.Given.Sweeps.declared.sweep.Swept.TheVariants as swept
+use Rattle.papaya_histories.specs.Given.Rule.Chart.{Chart}
+use Rattle.papaya_histories.specs.Given.Rule.InWorld.{IsMapIn, Moved}
+use Rattle.papaya_histories.specs.Given.Rule.Maps.{spot_of}
+use Rattle.papaya_histories.specs.Given.Rule.Moments.{Moments}
+use Rattle.papaya_histories.specs.Given.Rule.Rule.{IsLawful, Rule}
+use Rattle.papaya_histories.specs.Given.Rule.Words.{Blocks}
+use Rattle.papaya_histories.proofs.Given.Rule.Moves.Promised.{moves_keep}
+use Rattle.papaya_histories.specs.Given.Points.Steps.{AreLawful}
+use Rattle.papaya_histories.specs.Given.Late.Covers.{times, WasSince, CoversAt}
+use Rattle.papaya_histories.specs.Given.Late.FactsSweeps.{GoesOver, SweepingFacts}
+use Rattle.papaya_histories.specs.Given.Late.ToldSweeps.{IsRowOfSweep}
+use Rattle.papaya_histories.proofs.Given.Late.Swept.Sweeps.Points.{went_sweep}
+use Rattle.papaya_histories.proofs.Given.Late.Swept.Sweeps.Tables.{upto_in, live_in}
+use Rattle.papaya_histories.specs.Given.Callers.OverAll.{CallOverAll, sweep_once_over, past_sweeping}
+use Rattle.papaya_histories.specs.Given.Callers.Sights.{Sight, seen_by}
+use Rattle.papaya_histories.specs.Given.Callers.Together.{UnderWay, OverAll, Stands, Together, in_slot}
+use Rattle.papaya_histories.proofs.Given.Callers.Sights.Seen.{map_seen}
+use Rattle.papaya_histories.proofs.Given.Callers.Together.Few.{claim_few}
+use Rattle.papaya_histories.proofs.Given.Callers.Together.Fits.{map_in_slot}
+use Rattle.papaya_histories.specs.Given.Finishes.Maps.{Standing, IsSameMap}
+use Rattle.papaya_histories.proofs.Given.Follows.Steps.{one_of}
 use Rattle.papaya_purposes.specs.Keys.{KeysAt, AreKeyed}
 use Rattle.papaya_purposes.specs.Purposes.{IsBefore, KeysOf}
 use Rattle.papaya_purposes.proofs.KeysOn.{IsLow, StandsLow, keys_at_on}

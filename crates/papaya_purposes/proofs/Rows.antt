@@ -1,25 +1,25 @@
 -- What is of no call leaves what calls on whole maps have come to: no pair of a map comes or goes.
 use Rattle.std.specs.Prelude.{◌≡◌, ℕ, ◌==◌, ◌<◌, ◌≤◌, Bool, List, find, Option, Some, ◌⊎◌}
 use Rattle.std.proofs.Common.{ap, sym, subst, ◌∙◌, arith, inl, inr}
-use Rattle.papaya_tables.specs.Chunks.{is_incremental}
-use Rattle.papaya_sweeps.specs.declared.sweep.Purpose.TheVariants.{Walks}
-use Rattle.papaya_runs.specs.Same.{is_same}
-use Rattle.papaya_schedules.specs.Entry.{Entry}
-use Rattle.papaya_schedules.specs.Moment.{MapThere, UnderWay as CallThere, Moment}
-use Rattle.papaya_schedules.specs.Views.{call_of, is_in_map, finite_map}
-use Rattle.papaya_rule.specs.Chart.{Chart}
-use Rattle.papaya_callers.specs.OverAll.{CallOverAll}
-use Rattle.papaya_callers.specs.Together.{UnderWay, OverAll}
-use Rattle.papaya_effects.specs.Known.{Known}
-use Rattle.papaya_executor.specs.IsAt.{Scene, IsAt, slot_of}
-use Rattle.papaya_executor.specs.declared.executor.Executor.{Executor}
-use Rattle.papaya_finishes.specs.Maps.{Standing}
-use Rattle.papaya_others.specs.After.{ShowsAfter}
-use Rattle.papaya_others.proofs.RowBegins.{rows_begin_shown}
-use Rattle.papaya_others.proofs.Rows.{rows_on_slots_are_shown}
-use Rattle.papaya_moments.proofs.Beside.{IsBeside, StoodSo, StandsNew}
-use Rattle.papaya_moments.proofs.OnSlots.{row_beside, rows_begin_beside}
-use Rattle.papaya_follows.proofs.Steps.{one_of}
+use Rattle.papaya_histories.specs.Given.Tables.Chunks.{is_incremental}
+use Rattle.papaya_histories.specs.Given.Sweeps.declared.sweep.Purpose.TheVariants.{Walks}
+use Rattle.papaya_histories.specs.Given.Runs.Same.{is_same}
+use Rattle.papaya_histories.specs.Given.Schedules.Entry.{Entry}
+use Rattle.papaya_histories.specs.Given.Schedules.Moment.{MapThere, UnderWay as CallThere, Moment}
+use Rattle.papaya_histories.specs.Given.Schedules.Views.{call_of, is_in_map, finite_map}
+use Rattle.papaya_histories.specs.Given.Rule.Chart.{Chart}
+use Rattle.papaya_histories.specs.Given.Callers.OverAll.{CallOverAll}
+use Rattle.papaya_histories.specs.Given.Callers.Together.{UnderWay, OverAll}
+use Rattle.papaya_histories.specs.Given.Effects.Known.{Known}
+use Rattle.papaya_histories.specs.Given.Executor.IsAt.{Scene, IsAt, slot_of}
+use Rattle.papaya_histories.specs.Given.Executor.declared.executor.Executor.{Executor}
+use Rattle.papaya_histories.specs.Given.Finishes.Maps.{Standing}
+use Rattle.papaya_histories.specs.Given.Others.After.{ShowsAfter}
+use Rattle.papaya_histories.proofs.Given.Others.RowBegins.{rows_begin_shown}
+use Rattle.papaya_histories.proofs.Given.Others.Rows.{rows_on_slots_are_shown}
+use Rattle.papaya_histories.proofs.Given.Moments.Beside.{IsBeside, StoodSo, StandsNew}
+use Rattle.papaya_histories.proofs.Given.Moments.OnSlots.{row_beside, rows_begin_beside}
+use Rattle.papaya_histories.proofs.Given.Follows.Steps.{one_of}
 use Rattle.papaya_histories.specs.Had.{HadThen}
 use Rattle.papaya_histories.specs.Histories.{since, IsWithin}
 use Rattle.papaya_histories.proofs.Had.{had_on, had_one}

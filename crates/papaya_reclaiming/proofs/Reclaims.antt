@@ -1,22 +1,22 @@
 -- All is reclaimed in the memory of an executor: it begins, each step may be taken, and at the end the executor is there.
 use Rattle.std.specs.Prelude.{◌≡◌, ℕ, Bool, true, false, List, length, Option, None, option_map, slice_index_or, if◌then◌else◌}
 use Rattle.std.proofs.Common.{refl, sym, ap, subst, ◌∙◌}
-use Rattle.seize_words.specs.Mem.{Mem, Can, Took, value_at}
-use Rattle.seize_words.specs.Plan.{May, Steps}
+use Rattle.papaya_executor.specs.Given.SeizeWords.Mem.{Mem, Can, Took, value_at}
+use Rattle.papaya_executor.specs.Given.SeizeWords.Plan.{May, Steps}
 use Rattle.seize.specs.declared.rows.reclaim_all.ReclaimAll.{ReclaimAll}
 use Rattle.seize.specs.declared.rows.settle.Settled.{Settled}
 use Rattle.seize.specs.declared.rows.settle.Settled.TheVariants as settled
 use Rattle.seize.specs.ReclaimAll.{reclaiming_all, clearing, reclaim_all_plan}
 use Rattle.seize.specs.World.{Rests}
-use Rattle.papaya_tables.specs.Nodes.{deferred_word, was_left}
-use Rattle.papaya_tables.specs.declared.node.Node.{Node}
-use Rattle.papaya_teller.specs.Tells.{StepsTold}
-use Rattle.papaya_teller.specs.declared.changed.Changed.TheVariants.{Nothing}
-use Rattle.papaya_teller.specs.declared.teller.Teller.{Teller}
-use Rattle.papaya_callers.specs.Rows.{IsRowOn}
-use Rattle.papaya_finishes.specs.Endings.{Finishing}
-use Rattle.papaya_finishes.specs.Machines.{machine_of}
-use Rattle.papaya_finishes.specs.Makings.{Beginning}
+use Rattle.papaya_executor.specs.Given.Tables.Nodes.{deferred_word, was_left}
+use Rattle.papaya_executor.specs.Given.Tables.declared.node.Node.{Node}
+use Rattle.papaya_executor.specs.Given.Teller.Tells.{StepsTold}
+use Rattle.papaya_executor.specs.Given.Teller.declared.changed.Changed.TheVariants.{Nothing}
+use Rattle.papaya_executor.specs.Given.Teller.declared.teller.Teller.{Teller}
+use Rattle.papaya_executor.specs.Given.Callers.Rows.{IsRowOn}
+use Rattle.papaya_executor.specs.Given.Finishes.Endings.{Finishing}
+use Rattle.papaya_executor.specs.Given.Finishes.Machines.{machine_of}
+use Rattle.papaya_executor.specs.Given.Finishes.Makings.{Beginning}
 use Rattle.papaya_reclaims.specs.Reclaims.{AllStandIdle, AllIsReclaimed, ReclaimingTogether, StepsOfReclaiming}
 use Rattle.papaya_reclaims.proofs.Promised.{reclaiming_begins, reclaiming_stands}
 use Rattle.papaya_executor.specs.declared.executor.Executor.{Executor}

@@ -1,17 +1,17 @@
 -- That all is being reclaimed in the memory of an executor, and what a step of it leads to.
 use Rattle.std.specs.Prelude.{◌≡◌, ◌<◌, ◌^◌, ℕ, Bool, true, false, List, length, Some, None, option_map, slice_index_or, IsSome}
-use Rattle.seize_words.specs.declared.at.At.TheVariants.{Slot}
-use Rattle.seize_words.specs.Mem.{word_at}
+use Rattle.papaya_executor.specs.Given.SeizeWords.declared.at.At.TheVariants.{Slot}
+use Rattle.papaya_executor.specs.Given.SeizeWords.Mem.{word_at}
 use Rattle.seize.specs.declared.rows.reclaim_all.ReclaimAll.{ReclaimAll}
 use Rattle.seize.specs.declared.rows.settle.Settled.{Settled}
 use Rattle.seize.specs.declared.rows.settle.Settled.TheVariants as settled
 use Rattle.seize.specs.declared.states.TheConstants.{HEAD}
 use Rattle.seize.specs.ReclaimAll.{reclaim_all_plan}
-use Rattle.papaya_tables.specs.Nodes.{deferred_word, was_left}
-use Rattle.papaya_tables.specs.declared.node.Node.{Node}
-use Rattle.papaya_teller.specs.Tells.{StepsTold}
-use Rattle.papaya_teller.specs.declared.changed.Changed.TheVariants.{Nothing}
-use Rattle.papaya_finishes.specs.Maps.{Standing}
+use Rattle.papaya_executor.specs.Given.Tables.Nodes.{deferred_word, was_left}
+use Rattle.papaya_executor.specs.Given.Tables.declared.node.Node.{Node}
+use Rattle.papaya_executor.specs.Given.Teller.Tells.{StepsTold}
+use Rattle.papaya_executor.specs.Given.Teller.declared.changed.Changed.TheVariants.{Nothing}
+use Rattle.papaya_executor.specs.Given.Finishes.Maps.{Standing}
 use Rattle.papaya_reclaims.specs.Reclaims.{LeftBehind, ReclaimingTogether, StepsOfReclaiming, AllIsReclaimed}
 use Rattle.papaya_reclaims.specs.Slots.{IsQuiet}
 use Rattle.papaya_executor.specs.declared.executor.Executor.{Executor}

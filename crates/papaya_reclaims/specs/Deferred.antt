@@ -1,14 +1,14 @@
 -- What waits once all is reclaimed: pairs that maps which stand have deferred on their tables, in resizes that are unfinished.
 use Rattle.std.specs.Prelude.{◌≡◌, ℕ, suc, ◌<◌, ◌≤◌, true, List, Option, Some}
-use Rattle.seize_words.specs.Mem.{value_at}
-use Rattle.seize.specs.Further.{FurtherAre}
-use Rattle.seize.specs.Law.{With, where_is}
-use Rattle.seize.specs.WaitingSets.{is_one_of}
-use Rattle.seize.specs.World.{World, Handed}
+use Rattle.papaya_finishes.specs.Given.SeizeWords.Mem.{value_at}
+use Rattle.papaya_finishes.specs.Given.Seize.Further.{FurtherAre}
+use Rattle.papaya_finishes.specs.Given.Seize.Law.{With, where_is}
+use Rattle.papaya_finishes.specs.Given.Seize.WaitingSets.{is_one_of}
+use Rattle.papaya_finishes.specs.Given.Seize.World.{World, Handed}
 use Rattle.seize_acts.specs.Reclaimed.{IsStillHad}
-use Rattle.papaya_tables.specs.Nodes.{deferred_word}
-use Rattle.papaya_tables.specs.declared.node.Node.{Node}
-use Rattle.papaya_callers.specs.Kept.{IsPairOf}
+use Rattle.papaya_finishes.specs.Given.Tables.Nodes.{deferred_word}
+use Rattle.papaya_finishes.specs.Given.Tables.declared.node.Node.{Node}
+use Rattle.papaya_finishes.specs.Given.Callers.Kept.{IsPairOf}
 use Rattle.papaya_finishes.specs.Maps.{Standing}
 
 module _ {K V : Type 0} (w : World (Node K V)) where

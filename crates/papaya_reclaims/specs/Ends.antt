@@ -1,15 +1,15 @@
 -- A caller that reclaims all comes to the end of it, whichever steps it takes.
 use Rattle.std.specs.Prelude.{◌≡◌, ℕ, ◌<◌, ◌^◌, Bool, List, Option}
-use Rattle.seize_words.specs.Mem.{Mem, Took, value_at}
-use Rattle.seize_words.specs.Plan.{Steps}
-use Rattle.seize.specs.declared.rows.settle.Settled.{Settled}
-use Rattle.seize.specs.declared.rows.settle.Settled.TheVariants as settled
-use Rattle.seize.specs.declared.rows.reclaim_all.ReclaimAll.{ReclaimAll}
-use Rattle.seize.specs.ReclaimAll.{reclaim_all_plan}
-use Rattle.seize.specs.World.{World}
-use Rattle.papaya_tables.specs.Nodes.{deferred_word, was_left}
-use Rattle.papaya_tables.specs.declared.node.Node.{Node}
-use Rattle.papaya_callers.specs.Together.{UnderWay}
+use Rattle.papaya_finishes.specs.Given.SeizeWords.Mem.{Mem, Took, value_at}
+use Rattle.papaya_finishes.specs.Given.SeizeWords.Plan.{Steps}
+use Rattle.papaya_finishes.specs.Given.Seize.declared.rows.settle.Settled.{Settled}
+use Rattle.papaya_finishes.specs.Given.Seize.declared.rows.settle.Settled.TheVariants as settled
+use Rattle.papaya_finishes.specs.Given.Seize.declared.rows.reclaim_all.ReclaimAll.{ReclaimAll}
+use Rattle.papaya_finishes.specs.Given.Seize.ReclaimAll.{reclaim_all_plan}
+use Rattle.papaya_finishes.specs.Given.Seize.World.{World}
+use Rattle.papaya_finishes.specs.Given.Tables.Nodes.{deferred_word, was_left}
+use Rattle.papaya_finishes.specs.Given.Tables.declared.node.Node.{Node}
+use Rattle.papaya_finishes.specs.Given.Callers.Together.{UnderWay}
 use Rattle.papaya_finishes.specs.Endings.{Finishing}
 use Rattle.papaya_finishes.specs.Makings.{Beginning}
 use Rattle.papaya_finishes.specs.Maps.{Standing}

@@ -1,26 +1,26 @@
 -- A caller reclaims all, with any number of maps on the collector, while nothing else is under way: whichever step it takes, all stand together, and at its
 -- end nothing waits but what is deferred.
 use Rattle.std.specs.Prelude.{◌≡◌, ◌≢◌, ℕ, ◌<◌, ◌≤◌, ◌^◌, ◌⊎◌, Bool, true, List, [], ◌∷◌, ◌++◌, Option, Some, None, IsSome}
-use Rattle.seize_words.specs.Word.{link_to}
-use Rattle.seize_words.specs.declared.at.At.TheVariants.{Root, Used, Slot, Entry}
-use Rattle.seize_words.specs.Mem.{Mem, Can, Took, value_at, word_at}
-use Rattle.seize_words.specs.Plan.{May, Steps}
-use Rattle.seize.specs.declared.states.TheConstants.{HEAD, NEXT}
-use Rattle.seize.specs.declared.rows.settle.Settled.{Settled}
-use Rattle.seize.specs.declared.rows.settle.Settled.TheVariants as settled
-use Rattle.seize.specs.declared.rows.reclaim_all.ReclaimAll.{ReclaimAll}
-use Rattle.seize.specs.declared.rows.reclaim_all.Reclaiming.{Reclaiming}
-use Rattle.seize.specs.declared.rows.reclaim_all.Reclaiming.TheVariants as at
-use Rattle.seize.specs.Further.{ListFrom}
-use Rattle.seize.specs.Law.{is_retired}
-use Rattle.seize.specs.ReclaimAll.{reclaiming_all, clearing, reclaim_all_plan}
-use Rattle.seize.specs.Sequence.{taken_in}
-use Rattle.seize.specs.World.{World, LeftTo, Event, Runs, times, with_at}
+use Rattle.papaya_finishes.specs.Given.SeizeWords.Word.{link_to}
+use Rattle.papaya_finishes.specs.Given.SeizeWords.declared.at.At.TheVariants.{Root, Used, Slot, Entry}
+use Rattle.papaya_finishes.specs.Given.SeizeWords.Mem.{Mem, Can, Took, value_at, word_at}
+use Rattle.papaya_finishes.specs.Given.SeizeWords.Plan.{May, Steps}
+use Rattle.papaya_finishes.specs.Given.Seize.declared.states.TheConstants.{HEAD, NEXT}
+use Rattle.papaya_finishes.specs.Given.Seize.declared.rows.settle.Settled.{Settled}
+use Rattle.papaya_finishes.specs.Given.Seize.declared.rows.settle.Settled.TheVariants as settled
+use Rattle.papaya_finishes.specs.Given.Seize.declared.rows.reclaim_all.ReclaimAll.{ReclaimAll}
+use Rattle.papaya_finishes.specs.Given.Seize.declared.rows.reclaim_all.Reclaiming.{Reclaiming}
+use Rattle.papaya_finishes.specs.Given.Seize.declared.rows.reclaim_all.Reclaiming.TheVariants as at
+use Rattle.papaya_finishes.specs.Given.Seize.Further.{ListFrom}
+use Rattle.papaya_finishes.specs.Given.Seize.Law.{is_retired}
+use Rattle.papaya_finishes.specs.Given.Seize.ReclaimAll.{reclaiming_all, clearing, reclaim_all_plan}
+use Rattle.papaya_finishes.specs.Given.Seize.Sequence.{taken_in}
+use Rattle.papaya_finishes.specs.Given.Seize.World.{World, LeftTo, Event, Runs, times, with_at}
 use Rattle.seize_reclaims.specs.Roots.{all_lists}
 use Rattle.seize_acts.specs.Reclaimed.{HasNothingLeft}
-use Rattle.papaya_tables.specs.Nodes.{deferred_word, was_left}
-use Rattle.papaya_tables.specs.declared.node.Node.{Node}
-use Rattle.papaya_callers.specs.Together.{UnderWay}
+use Rattle.papaya_finishes.specs.Given.Tables.Nodes.{deferred_word, was_left}
+use Rattle.papaya_finishes.specs.Given.Tables.declared.node.Node.{Node}
+use Rattle.papaya_finishes.specs.Given.Callers.Together.{UnderWay}
 use Rattle.papaya_finishes.specs.Endings.{Finishing, EndingsTogether}
 use Rattle.papaya_finishes.specs.FactsEnds.{TakesLeft, WritesRoot, events_of}
 use Rattle.papaya_finishes.specs.Makings.{Beginning, IsFreeRoot}

@@ -1,20 +1,20 @@
 -- A caller reclaims all, after whatever others did before it, step by step: its work on slots is one row after another, which leaves nothing that waits.
 use Rattle.std.specs.Prelude.{◌≡◌, ℕ, ◌+◌, ◌<◌, ◌≤◌, Bool, true, false, List, [], ◌∷◌, ◌++◌, Some, None, IsSome}
-use Rattle.seize_words.specs.declared.at.At.TheVariants.{Slot}
-use Rattle.seize_words.specs.Mem.{value_at, word_at}
-use Rattle.seize.specs.declared.states.TheConstants.{HEAD, BATCH, FREE, LAST_SLOT}
-use Rattle.seize.specs.declared.rows.settle.Settled.{Settled}
-use Rattle.seize.specs.declared.rows.settle.Settled.TheVariants as settled
-use Rattle.seize.specs.declared.rows.reclaim_all.ReclaimAll.{ReclaimAll}
-use Rattle.seize.specs.declared.rows.reclaim_all.Reclaiming.{Reclaiming}
-use Rattle.seize.specs.declared.rows.reclaim_all.Reclaiming.TheVariants as at
-use Rattle.seize.specs.Law.{is_retired}
-use Rattle.seize.specs.Sequence.{taken_in}
-use Rattle.seize.specs.World.{World, Row, Rests, Settles, Leaves, Vacant, Outside, Request, Register', Leave', Flush, Unregister', Event, Begin, Step, Begins}
-use Rattle.seize_alone.specs.Alone.{TakesSteps}
-use Rattle.papaya_tables.specs.Nodes.{deferred_word}
-use Rattle.papaya_tables.specs.declared.node.Node.{Node}
-use Rattle.papaya_callers.specs.Together.{CameAbout}
+use Rattle.papaya_finishes.specs.Given.SeizeWords.declared.at.At.TheVariants.{Slot}
+use Rattle.papaya_finishes.specs.Given.SeizeWords.Mem.{value_at, word_at}
+use Rattle.papaya_finishes.specs.Given.Seize.declared.states.TheConstants.{HEAD, BATCH, FREE, LAST_SLOT}
+use Rattle.papaya_finishes.specs.Given.Seize.declared.rows.settle.Settled.{Settled}
+use Rattle.papaya_finishes.specs.Given.Seize.declared.rows.settle.Settled.TheVariants as settled
+use Rattle.papaya_finishes.specs.Given.Seize.declared.rows.reclaim_all.ReclaimAll.{ReclaimAll}
+use Rattle.papaya_finishes.specs.Given.Seize.declared.rows.reclaim_all.Reclaiming.{Reclaiming}
+use Rattle.papaya_finishes.specs.Given.Seize.declared.rows.reclaim_all.Reclaiming.TheVariants as at
+use Rattle.papaya_finishes.specs.Given.Seize.Law.{is_retired}
+use Rattle.papaya_finishes.specs.Given.Seize.Sequence.{taken_in}
+use Rattle.papaya_finishes.specs.Given.Seize.World.{World, Row, Rests, Settles, Leaves, Vacant, Outside, Request, Register', Leave', Flush, Unregister', Event, Begin, Step, Begins}
+use Rattle.papaya_finishes.specs.Given.SeizeAlone.Alone.{TakesSteps}
+use Rattle.papaya_finishes.specs.Given.Tables.Nodes.{deferred_word}
+use Rattle.papaya_finishes.specs.Given.Tables.declared.node.Node.{Node}
+use Rattle.papaya_finishes.specs.Given.Callers.Together.{CameAbout}
 
 -- a row that takes a slot again, leaves one, flushes it or gives it up
 abbrev pub IsForSlots : Request → Type 0

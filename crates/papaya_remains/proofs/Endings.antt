@@ -3,25 +3,25 @@ use Rattle.std.specs.Prelude.{◌≢◌, ◌≤◌, ◌⊎◌, ◌==◌, ◌++�
 use Rattle.std.proofs.Common.{◌≡◌, ℕ, Bool, true, false, List, [], ◌∷◌, inl, inr, refl, ap, sym, subst, ◌∙◌}
 use Rattle.std.proofs.lemmas.Bool.{cases_eq}
 use Rattle.std.proofs.lemmas.List.{append-nil}
-use Rattle.seize.specs.Law.{Ended}
-use Rattle.seize.specs.World.{with_at, with_effect}
-use Rattle.seize.specs.declared.rows.settle.Settled.{Settled}
-use Rattle.seize.specs.declared.rows.settle.Settled.TheVariants as settled
-use Rattle.papaya_tables.specs.declared.node.Node.{Node}
-use Rattle.papaya_raw.specs.declared.machines.end_map.EndMap.{EndMap}
-use Rattle.papaya_runs.specs.LifeCycle.{times}
-use Rattle.papaya_schedules.specs.declared.effect.Effect.{Effect}
-use Rattle.papaya_schedules.specs.Beginning.{used_roots}
-use Rattle.papaya_schedules.specs.Effects.{with_effects}
-use Rattle.papaya_schedules.specs.Lists.{is_among}
-use Rattle.papaya_schedules.specs.Moment.{Moment, Remains}
-use Rattle.papaya_callers.proofs.Together.At.{at_other, at_same}
-use Rattle.papaya_executor.specs.Ending.{EndingComesTo, ending_begun}
-use Rattle.papaya_executor.specs.IsAt.{Scene, IsAt, slot_of}
-use Rattle.papaya_executor.specs.declared.executor.Executor.{Executor}
-use Rattle.papaya_finishes.specs.Endings.{Finishing, StepsOfEnding, finishing_of, waiting_by}
-use Rattle.papaya_finishes.specs.FactsEnds.{taken_by}
-use Rattle.papaya_others.specs.Endings.{ending_after}
+use Rattle.papaya_moments.specs.Given.Seize.Law.{Ended}
+use Rattle.papaya_moments.specs.Given.Seize.World.{with_at, with_effect}
+use Rattle.papaya_moments.specs.Given.Seize.declared.rows.settle.Settled.{Settled}
+use Rattle.papaya_moments.specs.Given.Seize.declared.rows.settle.Settled.TheVariants as settled
+use Rattle.papaya_moments.specs.Given.Tables.declared.node.Node.{Node}
+use Rattle.papaya_moments.specs.Given.Raw.declared.machines.end_map.EndMap.{EndMap}
+use Rattle.papaya_moments.specs.Given.Runs.LifeCycle.{times}
+use Rattle.papaya_moments.specs.Given.Schedules.declared.effect.Effect.{Effect}
+use Rattle.papaya_moments.specs.Given.Schedules.Beginning.{used_roots}
+use Rattle.papaya_moments.specs.Given.Schedules.Effects.{with_effects}
+use Rattle.papaya_moments.specs.Given.Schedules.Lists.{is_among}
+use Rattle.papaya_moments.specs.Given.Schedules.Moment.{Moment, Remains}
+use Rattle.papaya_moments.proofs.Given.Callers.Together.At.{at_other, at_same}
+use Rattle.papaya_moments.specs.Given.Executor.Ending.{EndingComesTo, ending_begun}
+use Rattle.papaya_moments.specs.Given.Executor.IsAt.{Scene, IsAt, slot_of}
+use Rattle.papaya_moments.specs.Given.Executor.declared.executor.Executor.{Executor}
+use Rattle.papaya_moments.specs.Given.Finishes.Endings.{Finishing, StepsOfEnding, finishing_of, waiting_by}
+use Rattle.papaya_moments.specs.Given.Finishes.FactsEnds.{taken_by}
+use Rattle.papaya_moments.specs.Given.Others.Endings.{ending_after}
 use Rattle.papaya_reclaims.proofs.Left.Endings.{endings_begin_and_leave_it, endings_leave_it}
 use Rattle.papaya_remains.specs.Remains.{ShowsRemains, has_some, map_roots}
 use Rattle.papaya_remains.specs.Steps.{EndingsBeginRemain, EndingsKeepRemains}

@@ -2,10 +2,10 @@
 use Rattle.std.specs.Prelude.{◌==◌, ◌||◌, nat_lt, not, filter, find, length, map, cond, if◌then◌else◌, Some}
 use Rattle.std.proofs.Common.{◌≡◌, ◌≤◌, ℕ, ◌+◌, Bool, true, false, List, [], ◌∷◌, ◌++◌, refl, ap, sym, ◌∙◌, arith}
 use Rattle.std.proofs.lemmas.Bool.{eq-eqb}
-use Rattle.papaya_runs.specs.LifeCycle.{times}
-use Rattle.papaya_schedules.specs.After.{with_remains}
-use Rattle.papaya_schedules.specs.Lists.{is_among}
-use Rattle.papaya_schedules.specs.Moment.{Remains}
+use Rattle.papaya_moments.specs.Given.Runs.LifeCycle.{times}
+use Rattle.papaya_moments.specs.Given.Schedules.After.{with_remains}
+use Rattle.papaya_moments.specs.Given.Schedules.Lists.{is_among}
+use Rattle.papaya_moments.specs.Given.Schedules.Moment.{Remains}
 
 pub among_append : (r : ℕ) (xs ys : List ℕ) → is_among r (xs ++ ys) ≡ (is_among r xs || is_among r ys)
 among_append r [] ys = refl

@@ -2,25 +2,25 @@
 use Rattle.std.specs.Prelude.{◌≢◌, ◌⊎◌, Option, Some, None, option_map}
 use Rattle.std.proofs.Common.{◌≡◌, ℕ, Bool, true, List, inl, inr, refl, ap, sym, subst, ◌∙◌}
 use Rattle.std.proofs.lemmas.Bool.{cases_eq}
-use Rattle.seize_words.specs.declared.at.At.TheVariants.{Used}
-use Rattle.seize_words.specs.Mem.{word_at}
-use Rattle.seize.specs.World.{World, with_at}
-use Rattle.seize.specs.declared.progress.Progress.{Progress}
-use Rattle.seize.specs.declared.progress.Progress.TheVariants as progress
-use Rattle.papaya_tables.specs.declared.node.Node.{Node}
-use Rattle.papaya_tables.specs.declared.setting.Setting.{Setting}
-use Rattle.papaya_resize.specs.declared.new_map.NewMap.{NewMap}
-use Rattle.papaya_schedules.specs.declared.effect.Effect.{Effect}
-use Rattle.papaya_schedules.specs.Effects.{with_effects}
-use Rattle.papaya_schedules.specs.Moment.{Moment}
-use Rattle.papaya_callers.proofs.Together.At.{at_other, at_same}
-use Rattle.papaya_executor.specs.IsAt.{Scene, IsAt, slot_of}
-use Rattle.papaya_executor.specs.Making.{MakingComesTo}
-use Rattle.papaya_executor.specs.declared.executor.Executor.{Executor}
-use Rattle.papaya_finishes.specs.Endings.{EndingsTogether, MakingStepsAmong}
-use Rattle.papaya_finishes.specs.Makings.{Beginning}
-use Rattle.papaya_finishes.specs.Maps.{Standing}
-use Rattle.papaya_others.specs.Makings.{making_after}
+use Rattle.papaya_moments.specs.Given.SeizeWords.declared.at.At.TheVariants.{Used}
+use Rattle.papaya_moments.specs.Given.SeizeWords.Mem.{word_at}
+use Rattle.papaya_moments.specs.Given.Seize.World.{World, with_at}
+use Rattle.papaya_moments.specs.Given.Seize.declared.progress.Progress.{Progress}
+use Rattle.papaya_moments.specs.Given.Seize.declared.progress.Progress.TheVariants as progress
+use Rattle.papaya_moments.specs.Given.Tables.declared.node.Node.{Node}
+use Rattle.papaya_moments.specs.Given.Tables.declared.setting.Setting.{Setting}
+use Rattle.papaya_moments.specs.Given.Resize.declared.new_map.NewMap.{NewMap}
+use Rattle.papaya_moments.specs.Given.Schedules.declared.effect.Effect.{Effect}
+use Rattle.papaya_moments.specs.Given.Schedules.Effects.{with_effects}
+use Rattle.papaya_moments.specs.Given.Schedules.Moment.{Moment}
+use Rattle.papaya_moments.proofs.Given.Callers.Together.At.{at_other, at_same}
+use Rattle.papaya_moments.specs.Given.Executor.IsAt.{Scene, IsAt, slot_of}
+use Rattle.papaya_moments.specs.Given.Executor.Making.{MakingComesTo}
+use Rattle.papaya_moments.specs.Given.Executor.declared.executor.Executor.{Executor}
+use Rattle.papaya_moments.specs.Given.Finishes.Endings.{EndingsTogether, MakingStepsAmong}
+use Rattle.papaya_moments.specs.Given.Finishes.Makings.{Beginning}
+use Rattle.papaya_moments.specs.Given.Finishes.Maps.{Standing}
+use Rattle.papaya_moments.specs.Given.Others.Makings.{making_after}
 use Rattle.papaya_reclaims.specs.Left.{LeftAmong, MakingLeft}
 use Rattle.papaya_reclaims.specs.Reclaims.{IsRootOf}
 use Rattle.papaya_reclaims.proofs.Behind.Kept.{keeps_still}

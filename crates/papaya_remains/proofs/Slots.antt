@@ -3,44 +3,44 @@ use Rattle.std.specs.Prelude.{◌⊎◌, ◌≤◌, ◌<◌, ◌==◌, nat_le, s
 use Rattle.std.proofs.Common.{◌≡◌, ℕ, zero, suc, ◌+◌, Bool, true, false, inl, inr, refl, ap, sym, subst, ◌∙◌, arith}
 use Rattle.std.proofs.lemmas.Bool.{eq-eqb}
 use Rattle.std.proofs.lemmas.List.{get_or-replicate}
-use Rattle.seize_words.specs.declared.at.At.{At}
-use Rattle.seize_words.specs.declared.at.At.TheVariants.{Root, Used, Slot, Entry, Word}
-use Rattle.seize_words.specs.declared.slots.TheConstants.{SLOT_WORDS}
-use Rattle.seize_words.specs.Mem.{Mem, Can, Took, after, same_at, value_at, with_room, with_word, word_at}
-use Rattle.seize_words.specs.Op.{Op, Out, Load, Store, Swap, Add, Or, Exchange, Make, Take, Rewrite, Room, Found, Exchanged, Made, Roomed}
-use Rattle.seize_words.specs.Place.{capacity}
-use Rattle.seize_words.specs.Plan.{May}
-use Rattle.seize_words.specs.SlotWords.{slot_word}
-use Rattle.seize_words.specs.SlotWords.{with_bucket as with_slots}
-use Rattle.seize_words.specs.Word.{block_in}
-use Rattle.seize_words.proofs.OneOwner.AfterWrites.{word_at-with_word}
-use Rattle.seize_words.proofs.Places.Words.{capacity_le_capacity, capacity_pos}
-use Rattle.seize.specs.declared.states.TheConstants.{HEAD}
-use Rattle.papaya_tables.specs.declared.node.Node.{Node}
-use Rattle.papaya_tables.specs.declared.table_words.TheConstants.{NEXT}
-use Rattle.papaya_raw.specs.EndMap.{end_map_plan}
-use Rattle.papaya_raw.specs.Machine.{machine_plan}
-use Rattle.papaya_raw.specs.declared.machines.end_map.EndMap.{EndMap}
-use Rattle.papaya_resize.specs.NewMap.{new_map_plan}
-use Rattle.papaya_teller.specs.Tells.{told_of}
-use Rattle.papaya_teller.specs.declared.changed.Changed.{Changed}
-use Rattle.papaya_teller.specs.declared.changed.Changed.TheVariants as changed
-use Rattle.papaya_tells.specs.Seen.{seen_of}
-use Rattle.papaya_effects.specs.Effects.{in_block_on, in_table_on, is_place, known_after, linked_on, named, names_same, stored_on, written_on}
-use Rattle.papaya_effects.specs.Known.{Known, with_bucket}
-use Rattle.papaya_effects.specs.declared.acting.Acting.{Acting}
-use Rattle.papaya_effects.specs.declared.acting.Acting.TheVariants as acts
-use Rattle.papaya_effects.specs.declared.role.Role.{Role}
-use Rattle.papaya_effects.specs.declared.role.Role.TheVariants as role
-use Rattle.papaya_executor.specs.IsAt.{slot_of}
-use Rattle.papaya_finishes.specs.Machines.{machine_of}
-use Rattle.papaya_executor.proofs.Endings.{has_ending, taken_ending}
-use Rattle.papaya_executor.proofs.Endings.{may_taken as may_end}
-use Rattle.papaya_executor.proofs.Makings.{may_make}
-use Rattle.papaya_executor.proofs.OnSlots.{may_taken, row_at}
-use Rattle.papaya_executor.proofs.Steps.{may_step}
-use Rattle.papaya_follows.proofs.Operations.{Operated, operated}
-use Rattle.papaya_others.proofs.RowPlans.{row_operated}
+use Rattle.papaya_moments.specs.Given.SeizeWords.declared.at.At.{At}
+use Rattle.papaya_moments.specs.Given.SeizeWords.declared.at.At.TheVariants.{Root, Used, Slot, Entry, Word}
+use Rattle.papaya_moments.specs.Given.SeizeWords.declared.slots.TheConstants.{SLOT_WORDS}
+use Rattle.papaya_moments.specs.Given.SeizeWords.Mem.{Mem, Can, Took, after, same_at, value_at, with_room, with_word, word_at}
+use Rattle.papaya_moments.specs.Given.SeizeWords.Op.{Op, Out, Load, Store, Swap, Add, Or, Exchange, Make, Take, Rewrite, Room, Found, Exchanged, Made, Roomed}
+use Rattle.papaya_moments.specs.Given.SeizeWords.Place.{capacity}
+use Rattle.papaya_moments.specs.Given.SeizeWords.Plan.{May}
+use Rattle.papaya_moments.specs.Given.SeizeWords.SlotWords.{slot_word}
+use Rattle.papaya_moments.specs.Given.SeizeWords.SlotWords.{with_bucket as with_slots}
+use Rattle.papaya_moments.specs.Given.SeizeWords.Word.{block_in}
+use Rattle.papaya_moments.proofs.Given.SeizeWords.OneOwner.AfterWrites.{word_at-with_word}
+use Rattle.papaya_moments.proofs.Given.SeizeWords.Places.Words.{capacity_le_capacity, capacity_pos}
+use Rattle.papaya_moments.specs.Given.Seize.declared.states.TheConstants.{HEAD}
+use Rattle.papaya_moments.specs.Given.Tables.declared.node.Node.{Node}
+use Rattle.papaya_moments.specs.Given.Tables.declared.table_words.TheConstants.{NEXT}
+use Rattle.papaya_moments.specs.Given.Raw.EndMap.{end_map_plan}
+use Rattle.papaya_moments.specs.Given.Raw.Machine.{machine_plan}
+use Rattle.papaya_moments.specs.Given.Raw.declared.machines.end_map.EndMap.{EndMap}
+use Rattle.papaya_moments.specs.Given.Resize.NewMap.{new_map_plan}
+use Rattle.papaya_moments.specs.Given.Teller.Tells.{told_of}
+use Rattle.papaya_moments.specs.Given.Teller.declared.changed.Changed.{Changed}
+use Rattle.papaya_moments.specs.Given.Teller.declared.changed.Changed.TheVariants as changed
+use Rattle.papaya_moments.specs.Given.Tells.Seen.{seen_of}
+use Rattle.papaya_moments.specs.Given.Effects.Effects.{in_block_on, in_table_on, is_place, known_after, linked_on, named, names_same, stored_on, written_on}
+use Rattle.papaya_moments.specs.Given.Effects.Known.{Known, with_bucket}
+use Rattle.papaya_moments.specs.Given.Effects.declared.acting.Acting.{Acting}
+use Rattle.papaya_moments.specs.Given.Effects.declared.acting.Acting.TheVariants as acts
+use Rattle.papaya_moments.specs.Given.Effects.declared.role.Role.{Role}
+use Rattle.papaya_moments.specs.Given.Effects.declared.role.Role.TheVariants as role
+use Rattle.papaya_moments.specs.Given.Executor.IsAt.{slot_of}
+use Rattle.papaya_moments.specs.Given.Finishes.Machines.{machine_of}
+use Rattle.papaya_moments.proofs.Given.Executor.Endings.{has_ending, taken_ending}
+use Rattle.papaya_moments.proofs.Given.Executor.Endings.{may_taken as may_end}
+use Rattle.papaya_moments.proofs.Given.Executor.Makings.{may_make}
+use Rattle.papaya_moments.proofs.Given.Executor.OnSlots.{may_taken, row_at}
+use Rattle.papaya_moments.proofs.Given.Executor.Steps.{may_step}
+use Rattle.papaya_moments.proofs.Given.Follows.Operations.{Operated, operated}
+use Rattle.papaya_moments.proofs.Given.Others.RowPlans.{row_operated}
 use Rattle.papaya_remains.specs.Slots.{CallsNoteSlots, EndingsNoteSlots, MakingsNoteSlots, RowsNoteSlots, SlotsBegin, SlotsNoted}
 
 -- no bucket came

@@ -1,15 +1,15 @@
 -- What ended maps have left over, while others go on: it is behind the roots that the moment says, and roots are used as it says.
 use Rattle.std.specs.Prelude.{◌≡◌, ◌<◌, ◌≤◌, ℕ, Bool, true, false, List, [], ◌∷◌, map, Some, if◌then◌else◌}
 use Rattle.std.specs.List.{AllByRecursion}
-use Rattle.seize_words.specs.declared.at.At.TheVariants.{Used}
-use Rattle.seize_words.specs.Mem.{Mem, word_at}
-use Rattle.papaya_runs.specs.LifeCycle.{times}
-use Rattle.papaya_schedules.specs.Beginning.{used_roots}
-use Rattle.papaya_schedules.specs.Lists.{is_among}
-use Rattle.papaya_schedules.specs.Moment.{Moment}
-use Rattle.papaya_finishes.specs.Endings.{Finishing}
-use Rattle.papaya_finishes.specs.Maps.{Standing}
-use Rattle.papaya_executor.specs.IsAt.{Scene}
+use Rattle.papaya_moments.specs.Given.SeizeWords.declared.at.At.TheVariants.{Used}
+use Rattle.papaya_moments.specs.Given.SeizeWords.Mem.{Mem, word_at}
+use Rattle.papaya_moments.specs.Given.Runs.LifeCycle.{times}
+use Rattle.papaya_moments.specs.Given.Schedules.Beginning.{used_roots}
+use Rattle.papaya_moments.specs.Given.Schedules.Lists.{is_among}
+use Rattle.papaya_moments.specs.Given.Schedules.Moment.{Moment}
+use Rattle.papaya_moments.specs.Given.Finishes.Endings.{Finishing}
+use Rattle.papaya_moments.specs.Given.Finishes.Maps.{Standing}
+use Rattle.papaya_moments.specs.Given.Executor.IsAt.{Scene}
 use Rattle.papaya_reclaims.specs.Left.{LeftAmong}
 
 -- there is something in the list

@@ -1,28 +1,28 @@
 -- That words of slots are noted just where there are some, and what is promised of each kind of step.
 use Rattle.std.specs.Prelude.{◌≡◌, ◌<◌, ℕ, Bool, [], Some, IsSome}
-use Rattle.seize_words.specs.declared.at.At.TheVariants.{Slot}
-use Rattle.seize_words.specs.Mem.{Mem, word_at}
-use Rattle.seize.specs.declared.progress.Progress.{Progress}
-use Rattle.seize.specs.declared.rows.settle.Settled.{Settled}
-use Rattle.seize.specs.declared.states.TheConstants.{HEAD}
-use Rattle.papaya_tables.specs.declared.node.Node.{Node}
-use Rattle.papaya_tables.specs.declared.setting.Setting.{Setting}
-use Rattle.papaya_raw.specs.declared.machines.progress.Progress.{Progress as CallTold}
-use Rattle.papaya_callers.specs.Together.{UnderWay}
-use Rattle.papaya_effects.specs.Effects.{known_after}
-use Rattle.papaya_effects.specs.Known.{Known, nothing_known}
-use Rattle.papaya_effects.specs.declared.acting.Acting.TheVariants as acts
-use Rattle.papaya_executor.specs.Ending.{EndingLeads}
-use Rattle.papaya_executor.specs.IsAt.{Scene, IsAt, at_first, work_of}
-use Rattle.papaya_executor.specs.Making.{MakingLeads}
-use Rattle.papaya_executor.specs.OnSlots.{RowLeads}
-use Rattle.papaya_executor.specs.Stepping.{StepLeads}
-use Rattle.papaya_executor.specs.declared.executor.Executor.{Executor}
-use Rattle.papaya_executor.specs.declared.row.RowTold.{RowTold}
-use Rattle.papaya_executor.specs.declared.row.SlotRow.{SlotRow}
-use Rattle.papaya_executor.specs.declared.worker.Work.TheVariants.{OnSlot}
-use Rattle.papaya_finishes.specs.Endings.{Finishing}
-use Rattle.papaya_finishes.specs.Makings.{Beginning}
+use Rattle.papaya_moments.specs.Given.SeizeWords.declared.at.At.TheVariants.{Slot}
+use Rattle.papaya_moments.specs.Given.SeizeWords.Mem.{Mem, word_at}
+use Rattle.papaya_moments.specs.Given.Seize.declared.progress.Progress.{Progress}
+use Rattle.papaya_moments.specs.Given.Seize.declared.rows.settle.Settled.{Settled}
+use Rattle.papaya_moments.specs.Given.Seize.declared.states.TheConstants.{HEAD}
+use Rattle.papaya_moments.specs.Given.Tables.declared.node.Node.{Node}
+use Rattle.papaya_moments.specs.Given.Tables.declared.setting.Setting.{Setting}
+use Rattle.papaya_moments.specs.Given.Raw.declared.machines.progress.Progress.{Progress as CallTold}
+use Rattle.papaya_moments.specs.Given.Callers.Together.{UnderWay}
+use Rattle.papaya_moments.specs.Given.Effects.Effects.{known_after}
+use Rattle.papaya_moments.specs.Given.Effects.Known.{Known, nothing_known}
+use Rattle.papaya_moments.specs.Given.Effects.declared.acting.Acting.TheVariants as acts
+use Rattle.papaya_moments.specs.Given.Executor.Ending.{EndingLeads}
+use Rattle.papaya_moments.specs.Given.Executor.IsAt.{Scene, IsAt, at_first, work_of}
+use Rattle.papaya_moments.specs.Given.Executor.Making.{MakingLeads}
+use Rattle.papaya_moments.specs.Given.Executor.OnSlots.{RowLeads}
+use Rattle.papaya_moments.specs.Given.Executor.Stepping.{StepLeads}
+use Rattle.papaya_moments.specs.Given.Executor.declared.executor.Executor.{Executor}
+use Rattle.papaya_moments.specs.Given.Executor.declared.row.RowTold.{RowTold}
+use Rattle.papaya_moments.specs.Given.Executor.declared.row.SlotRow.{SlotRow}
+use Rattle.papaya_moments.specs.Given.Executor.declared.worker.Work.TheVariants.{OnSlot}
+use Rattle.papaya_moments.specs.Given.Finishes.Endings.{Finishing}
+use Rattle.papaya_moments.specs.Given.Finishes.Makings.{Beginning}
 
 -- where a bucket is noted the first slot has a word, and where none is there is no slot
 pub record SlotsNoted {T : Type 0} (noted : Known) (m : Mem T) : Type 0 where

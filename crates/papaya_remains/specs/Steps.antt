@@ -1,39 +1,39 @@
 -- What is promised of each kind of step: what ended maps have left over is behind the roots that the moment after it says. So it is where maps come and go, and once all is reclaimed.
 use Rattle.std.specs.Prelude.{◌≡◌, ◌<◌, ◌≤◌, ℕ, Bool, false, List, [], length, filter, Option, Some, None}
-use Rattle.seize.specs.World.{Begin, Step, with_at}
-use Rattle.seize.specs.declared.progress.Progress.{Progress}
-use Rattle.seize.specs.declared.rows.settle.Settled.{Settled}
-use Rattle.papaya_tables.specs.declared.node.Node.{Node}
-use Rattle.papaya_tables.specs.declared.setting.Setting.{Setting}
-use Rattle.papaya_raw.specs.declared.machines.progress.Progress.{Progress as CallTold}
-use Rattle.papaya_runs.specs.Same.{is_same}
-use Rattle.papaya_schedules.specs.declared.effect.Effect.{Effect}
-use Rattle.papaya_schedules.specs.After.{if_any}
-use Rattle.papaya_schedules.specs.Beginning.{used_roots, with_map}
-use Rattle.papaya_schedules.specs.Effects.{with_effects}
-use Rattle.papaya_schedules.specs.Lists.{is_among}
-use Rattle.papaya_schedules.specs.Moment.{MapThere, Moment, start}
-use Rattle.papaya_schedules.specs.Views.{map_of}
-use Rattle.papaya_callers.specs.Together.{UnderWay}
-use Rattle.papaya_effects.specs.Known.{Known}
-use Rattle.papaya_executor.specs.Ending.{EndingLeads, ending_begun}
-use Rattle.papaya_executor.specs.IsAt.{Scene, IsAt, at_first, slot_of, work_of}
-use Rattle.papaya_executor.specs.Making.{MakingLeads}
-use Rattle.papaya_executor.specs.OnSlots.{MayBegin, RowBegins, RowLeads}
-use Rattle.papaya_executor.specs.Rows.{request_of}
-use Rattle.papaya_executor.specs.Stepping.{StepLeads, scene_after}
-use Rattle.papaya_executor.specs.declared.executor.Executor.{Executor}
-use Rattle.papaya_executor.specs.declared.row.RowTold.{RowTold}
-use Rattle.papaya_executor.specs.declared.row.SlotCall.{SlotCall}
-use Rattle.papaya_executor.specs.declared.row.SlotRow.{SlotRow}
-use Rattle.papaya_executor.specs.declared.worker.Work.TheVariants.{OnSlot}
-use Rattle.papaya_finishes.specs.Endings.{Finishing}
-use Rattle.papaya_finishes.specs.Makings.{Beginning, HasTaken}
-use Rattle.papaya_finishes.specs.Maps.{Standing}
-use Rattle.papaya_follows.specs.Shows.{Shows}
-use Rattle.papaya_others.specs.Endings.{ending_after, without_map}
-use Rattle.papaya_others.specs.Makings.{making_after}
-use Rattle.papaya_others.specs.Rows.{scene_then}
+use Rattle.papaya_moments.specs.Given.Seize.World.{Begin, Step, with_at}
+use Rattle.papaya_moments.specs.Given.Seize.declared.progress.Progress.{Progress}
+use Rattle.papaya_moments.specs.Given.Seize.declared.rows.settle.Settled.{Settled}
+use Rattle.papaya_moments.specs.Given.Tables.declared.node.Node.{Node}
+use Rattle.papaya_moments.specs.Given.Tables.declared.setting.Setting.{Setting}
+use Rattle.papaya_moments.specs.Given.Raw.declared.machines.progress.Progress.{Progress as CallTold}
+use Rattle.papaya_moments.specs.Given.Runs.Same.{is_same}
+use Rattle.papaya_moments.specs.Given.Schedules.declared.effect.Effect.{Effect}
+use Rattle.papaya_moments.specs.Given.Schedules.After.{if_any}
+use Rattle.papaya_moments.specs.Given.Schedules.Beginning.{used_roots, with_map}
+use Rattle.papaya_moments.specs.Given.Schedules.Effects.{with_effects}
+use Rattle.papaya_moments.specs.Given.Schedules.Lists.{is_among}
+use Rattle.papaya_moments.specs.Given.Schedules.Moment.{MapThere, Moment, start}
+use Rattle.papaya_moments.specs.Given.Schedules.Views.{map_of}
+use Rattle.papaya_moments.specs.Given.Callers.Together.{UnderWay}
+use Rattle.papaya_moments.specs.Given.Effects.Known.{Known}
+use Rattle.papaya_moments.specs.Given.Executor.Ending.{EndingLeads, ending_begun}
+use Rattle.papaya_moments.specs.Given.Executor.IsAt.{Scene, IsAt, at_first, slot_of, work_of}
+use Rattle.papaya_moments.specs.Given.Executor.Making.{MakingLeads}
+use Rattle.papaya_moments.specs.Given.Executor.OnSlots.{MayBegin, RowBegins, RowLeads}
+use Rattle.papaya_moments.specs.Given.Executor.Rows.{request_of}
+use Rattle.papaya_moments.specs.Given.Executor.Stepping.{StepLeads, scene_after}
+use Rattle.papaya_moments.specs.Given.Executor.declared.executor.Executor.{Executor}
+use Rattle.papaya_moments.specs.Given.Executor.declared.row.RowTold.{RowTold}
+use Rattle.papaya_moments.specs.Given.Executor.declared.row.SlotCall.{SlotCall}
+use Rattle.papaya_moments.specs.Given.Executor.declared.row.SlotRow.{SlotRow}
+use Rattle.papaya_moments.specs.Given.Executor.declared.worker.Work.TheVariants.{OnSlot}
+use Rattle.papaya_moments.specs.Given.Finishes.Endings.{Finishing}
+use Rattle.papaya_moments.specs.Given.Finishes.Makings.{Beginning, HasTaken}
+use Rattle.papaya_moments.specs.Given.Finishes.Maps.{Standing}
+use Rattle.papaya_moments.specs.Given.Follows.Shows.{Shows}
+use Rattle.papaya_moments.specs.Given.Others.Endings.{ending_after, without_map}
+use Rattle.papaya_moments.specs.Given.Others.Makings.{making_after}
+use Rattle.papaya_moments.specs.Given.Others.Rows.{scene_then}
 use Rattle.papaya_moments.specs.Numbers.{AreFound}
 use Rattle.papaya_reclaims.specs.Reclaims.{AllIsReclaimed, LeftBehind}
 use Rattle.papaya_remains.specs.Remains.{AllStand, RootsAreTaken, ShowsRemains, has_some, map_roots}

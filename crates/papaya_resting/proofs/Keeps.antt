@@ -12,7 +12,7 @@ use Rattle.papaya_raw.specs.declared.machines.answer.KeyAnswer.{KeyAnswer}
 use Rattle.papaya_raw.specs.declared.machines.answer.KeyAnswer.TheVariants as answers
 use Rattle.papaya_raw.specs.declared.machines.asking.Reply.{Reply}
 use Rattle.papaya_raw.specs.declared.machines.asking.Reply.TheVariants as reply
-use Rattle.papaya_callers.specs.Kind.{inserts, removes, tries_to_insert}
+use Rattle.papaya_owned.specs.Given.Callers.Kind.{inserts, removes, tries_to_insert}
 use Rattle.papaya_asks.specs.Asking.{AnswersAs, EndsAs}
 use Rattle.papaya_asks.specs.Closures.{ComputesTo, computing_stop}
 use Rattle.papaya_asks.specs.declared.computing.Computed.{Computed}

@@ -4,7 +4,7 @@ use Rattle.seize_words.specs.Mem.{Mem}
 use Rattle.seize_words.specs.declared.fault.Fault.{Fault}
 use Rattle.papaya_tables.specs.declared.node.Node.{Node}
 use Rattle.papaya_tables.specs.declared.setting.Setting.{Setting}
-use Rattle.papaya_late.specs.Faults.{IsRoom}
+use Rattle.papaya_owned.specs.Given.Late.Faults.{IsRoom}
 use Rattle.papaya_owned.specs.Owned.{Holds}
 use Rattle.papaya_owned.specs.Rooms.{HasRoomFor, RoomBy}
 

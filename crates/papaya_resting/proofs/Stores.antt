@@ -11,10 +11,10 @@ use Rattle.papaya_tables.specs.declared.setting.Setting.{Setting}
 use Rattle.papaya_raw.specs.CallPoints.{inserting, trying_to_insert}
 use Rattle.papaya_raw.specs.declared.machines.answer.KeyAnswer.TheVariants as answers
 use Rattle.papaya_raw.specs.declared.machines.call.KeyCall.{KeyCall}
-use Rattle.papaya_callers.specs.Kind.{Kind, inserts, tries_to_insert}
-use Rattle.papaya_callers.specs.Pairs.{Begun}
-use Rattle.papaya_callers.specs.Together.{Inserts, TriesToInsert}
-use Rattle.papaya_late.specs.Kinds.{FaultFits}
+use Rattle.papaya_owned.specs.Given.Callers.Kind.{Kind, inserts, tries_to_insert}
+use Rattle.papaya_owned.specs.Given.Callers.Pairs.{Begun}
+use Rattle.papaya_owned.specs.Given.Callers.Together.{Inserts, TriesToInsert}
+use Rattle.papaya_owned.specs.Given.Late.Kinds.{FaultFits}
 use Rattle.papaya_owned.specs.Calling.{IsCalling, HasStopped, begun}
 use Rattle.papaya_owned.specs.Ending.{Ends, RunsTo}
 use Rattle.papaya_owned.specs.Machines.{on_key_plan}

@@ -1,6 +1,6 @@
 //! Refreshes of the owner's section, and removals. Each change begins with a refresh.
 ghost use Rattle.std.specs.Prelude.{◌≡◌, List, [], None, is_some, IfErr, IfOk, OnOk, OnErr};
-ghost use Rattle.papaya_late.specs.Faults.{IsRoom};
+ghost use Rattle.papaya_owned.specs.Given.Late.Faults.{IsRoom};
 ghost use Rattle.papaya_holds.specs.Came.{NoneCame};
 ghost use Rattle.papaya_holds.specs.Held.{HoldsOn, held_in};
 ghost use Rattle.papaya_owned.specs.Owned.{Holds, found_by, hashed_by, left_by};

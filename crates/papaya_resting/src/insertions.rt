@@ -1,7 +1,7 @@
 //! Insertions, each after a refresh.
 ghost use Rattle.std.specs.Prelude.{◌≡◌, true, false, List, [], ◌∷◌, ◌++◌, None, Some, is_some, IsTrue, IfOk, IfErr, OnOk, OnErr};
-ghost use Rattle.papaya_callers.specs.Kind.{Kind};
-ghost use Rattle.papaya_late.specs.Faults.{IsRoom};
+ghost use Rattle.papaya_owned.specs.Given.Callers.Kind.{Kind};
+ghost use Rattle.papaya_owned.specs.Given.Late.Faults.{IsRoom};
 ghost use Rattle.papaya_tables.specs.declared.node.Node.TheVariants as node;
 ghost use Rattle.papaya_holds.specs.Held.{HoldsOn, held_in};
 ghost use Rattle.papaya_owned.specs.Calling.{HasStopped};

@@ -1,6 +1,6 @@
 //! Room for further pairs, after a refresh.
 ghost use Rattle.std.specs.Prelude.{List, [], length, IfErr, OnOk};
-ghost use Rattle.papaya_late.specs.Faults.{IsRoom};
+ghost use Rattle.papaya_owned.specs.Given.Late.Faults.{IsRoom};
 ghost use Rattle.papaya_holds.specs.Held.{HoldsOn, held_in};
 ghost use Rattle.papaya_owned.specs.Owned.{Holds, hashed_by};
 ghost use Rattle.papaya_owned.specs.Rooms.{HasRoomFor};

@@ -1,13 +1,13 @@
 -- What is nothing to what is shown: of a moment all but its pairs, maps, tables and calls.
 use Rattle.std.specs.Prelude.{ℕ, Bool, List}
 use Rattle.std.proofs.Common.{refl}
-use Rattle.papaya_runs.specs.Present.{Present}
-use Rattle.papaya_schedules.specs.Moment.{Remains, Sheltered, Moment}
-use Rattle.papaya_finishes.specs.Maps.{Standing}
-use Rattle.papaya_effects.specs.Known.{Known}
-use Rattle.papaya_executor.specs.IsAt.{Scene}
-use Rattle.papaya_follows.specs.Maps.{ShowsMap}
-use Rattle.papaya_moments.specs.Whole.{ShowsWhole}
+use Rattle.papaya_histories.specs.Given.Runs.Present.{Present}
+use Rattle.papaya_histories.specs.Given.Schedules.Moment.{Remains, Sheltered, Moment}
+use Rattle.papaya_histories.specs.Given.Finishes.Maps.{Standing}
+use Rattle.papaya_histories.specs.Given.Effects.Known.{Known}
+use Rattle.papaya_histories.specs.Given.Executor.IsAt.{Scene}
+use Rattle.papaya_histories.specs.Given.Follows.Maps.{ShowsMap}
+use Rattle.papaya_histories.specs.Given.Moments.Whole.{ShowsWhole}
 use Rattle.papaya_kept.specs.Kept.{ShowsKept}
 use Rattle.papaya_kept.proofs.Stays.{stays_kept}
 

@@ -1,6 +1,6 @@
 -- Everything that waits is reclaimed, and nobody is there any more.
 use Rattle.std.specs.Prelude.{◌≡◌, ℕ, Bool, List, [], ◌++◌, map}
-use Rattle.seize.specs.WaitingSets.{all_reclaimed}
+use Rattle.papaya_maps.specs.Given.Seize.WaitingSets.{all_reclaimed}
 use Rattle.papaya_runs.specs.Effects.{pairs_among, tables_among, reclaim_of}
 use Rattle.papaya_runs.specs.Present.{nobody}
 use Rattle.papaya_runs.specs.State.{State, of_numbers, without_numbers, without_turns}

@@ -2,9 +2,9 @@
 ghost use Rattle.std.specs.Prelude.{◌≡◌, ◌∷◌, ℕ, Bool, List, [], Some, None, IfOk, IsSorted};
 ghost use Rattle.std.specs.List.Sorted.{IsPermutation};
 ghost use Rattle.std.specs.Ordering.{nat_cmp};
-ghost use Rattle.papaya_tables.specs.Chunks.{is_incremental};
-ghost use Rattle.papaya_rule.specs.Chart.{Chart};
-ghost use Rattle.papaya_rule.specs.Words.{Blocks};
+ghost use Rattle.papaya_maps.specs.Given.Tables.Chunks.{is_incremental};
+ghost use Rattle.papaya_maps.specs.Given.Rule.Chart.{Chart};
+ghost use Rattle.papaya_maps.specs.Given.Rule.Words.{Blocks};
 ghost use Rattle.papaya_runs.specs.State.{State, Tells};
 ghost use Rattle.papaya_shown.specs.Shown.{NoneMoves};
 ghost use Rattle.papaya_calls.specs.Endings.{AreNumbered, ListsCurrent, MapStands, numbers_but, pairs_up_to};

@@ -1,7 +1,7 @@
 //! The state of a run: who is there, the memory with its blocks, and what was reclaimed.
 ghost use Rattle.std.specs.Prelude.{◌≡◌, ℕ, Bool, [], Option, Some, None, IfOk, OnOk};
-ghost use Rattle.papaya_tables.specs.declared.setting.Setting.{Setting};
-ghost use Rattle.papaya_points.specs.Steps.{AreLawful};
+ghost use Rattle.papaya_maps.specs.Given.Tables.declared.setting.Setting.{Setting};
+ghost use Rattle.papaya_maps.specs.Given.Points.Steps.{AreLawful};
 ghost use Rattle.papaya_runs.specs.State.{State, fresh};
 ghost use Rattle.papaya_runner.specs.Stands.{IsAt, Serves, slot_served};
 

@@ -1,6 +1,6 @@
 -- What is asked of an event, and what is promised of it then.
 use Rattle.std.specs.Prelude.{◌≡◌, ◌==◌, ℕ, Bool, true, false, List, ◌∷◌}
-use Rattle.papaya_points.specs.Steps.{AreLawful}
+use Rattle.papaya_histories.specs.Given.Points.Steps.{AreLawful}
 use Rattle.papaya_schedules.specs.declared.event.Event.{Event}
 use Rattle.papaya_schedules.specs.declared.event.Event.TheVariants.{ReclaimAll, Close, MakeMap, EndMap, ShowShape, Begin, Step, Go, Replied, OneCall, Next, Stop}
 use Rattle.papaya_schedules.specs.After.{moment}

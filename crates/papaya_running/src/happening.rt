@@ -1,6 +1,6 @@
 //! An event of a schedule happens.
 ghost use Rattle.std.specs.Prelude.{◌≡◌, true, false, IfOk};
-ghost use Rattle.papaya_executor.specs.IsAt.{StaysGiven, KeepsGiven};
+ghost use Rattle.papaya_histories.specs.Given.Executor.IsAt.{StaysGiven, KeepsGiven};
 ghost use Rattle.papaya_running.specs.Asked.{HappensAt, HappensDue, MayHappen, MayHappenDue, is_of_calls, is_of_maps};
 ghost use Rattle.papaya_running.specs.Back.{GivesAt, GivesDue};
 

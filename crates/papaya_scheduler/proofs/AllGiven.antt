@@ -5,10 +5,10 @@ use Rattle.std.proofs.Common.{refl, ap, sym, subst, ◌∙◌, arith, eqb-true}
 use Rattle.std.proofs.lemmas.Bool.{ne_eqb}
 use Rattle.seize.specs.World.{Rests}
 use Rattle.seize.specs.declared.states.TheConstants.{HEAD}
-use Rattle.seize_acts.specs.Reclaimed.{HasNothingLeft}
+use Rattle.papaya_owned.specs.Given.SeizeActs.Reclaimed.{HasNothingLeft}
 use Rattle.seize_words.specs.Mem.{word_at}
 use Rattle.seize_words.specs.declared.at.At.TheVariants.{Slot}
-use Rattle.papaya_tables.specs.Nodes.{deferred_word}
+use Rattle.papaya_histories.specs.Given.Tables.Nodes.{deferred_word}
 use Rattle.papaya_reclaims.specs.Deferred.{TablesCarryPairs}
 use Rattle.seize_words.specs.declared.fault.Fault.TheVariants.{Busy}
 use Rattle.papaya_runs.specs.Present.{Present, all_forgotten, nobody}
@@ -23,14 +23,14 @@ use Rattle.papaya_schedules.specs.InUse.{is_left}
 use Rattle.papaya_schedules.specs.Lists.{is_empty}
 use Rattle.papaya_schedules.specs.Moment.{UnderWay as CallThere, Moment}
 use Rattle.papaya_schedules.specs.Terms.{Terms}
-use Rattle.papaya_callers.specs.Together.{UnderWay}
+use Rattle.papaya_histories.specs.Given.Callers.Together.{UnderWay}
 use Rattle.papaya_effects.specs.Known.{known}
 use Rattle.papaya_executor.specs.IsAt.{Scene, use_at}
 use Rattle.papaya_executor.specs.declared.row.SlotUse.TheVariants as used
-use Rattle.papaya_finishes.specs.Endings.{Finishing}
-use Rattle.papaya_finishes.specs.Makings.{Beginning}
-use Rattle.papaya_finishes.specs.Maps.{Standing}
-use Rattle.papaya_others.proofs.Quiet.{calls_none}
+use Rattle.papaya_histories.specs.Given.Finishes.Endings.{Finishing}
+use Rattle.papaya_histories.specs.Given.Finishes.Makings.{Beginning}
+use Rattle.papaya_histories.specs.Given.Finishes.Maps.{Standing}
+use Rattle.papaya_histories.proofs.Given.Others.Quiet.{calls_none}
 use Rattle.papaya_reclaims.proofs.Slots.Stages.{never_taken}
 use Rattle.papaya_reclaiming.specs.Reclaiming.{MayReclaim, NobodyHas}
 use Rattle.papaya_logged.specs.Reclaims.{ReclaimRetired, ReclaimingCame, ReclaimingRan}

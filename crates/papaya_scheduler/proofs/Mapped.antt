@@ -6,10 +6,10 @@ use Rattle.seize.specs.World.{Row, Use}
 use Rattle.papaya_runs.specs.Present.{Present}
 use Rattle.papaya_schedules.specs.Moment.{Remains, Sheltered, UnderWay as CallThere, Moment}
 use Rattle.papaya_schedules.specs.Terms.{Terms}
-use Rattle.papaya_callers.specs.Together.{UnderWay}
+use Rattle.papaya_histories.specs.Given.Callers.Together.{UnderWay}
 use Rattle.papaya_effects.specs.Known.{known}
 use Rattle.papaya_executor.specs.IsAt.{Scene}
-use Rattle.papaya_finishes.specs.Maps.{Standing}
+use Rattle.papaya_histories.specs.Given.Finishes.Maps.{Standing}
 use Rattle.papaya_logged.specs.Shown.{IsShown}
 use Rattle.papaya_logged.specs.declared.logged.Logged.{Logged}
 use Rattle.papaya_rows.proofs.Elsewhere.{elsewhere, shown_elsewhere, kept_elsewhere}

@@ -5,8 +5,8 @@ use Rattle.std.proofs.Common.{refl, ap, sym, subst, ◌∙◌, inl, inr, eqb-tru
 use Rattle.std.proofs.lemmas.Bool.{cases_eq}
 use Rattle.seize_words.specs.declared.fault.Fault.TheVariants.{Busy}
 use Rattle.papaya_runs.specs.Same.{is_same}
-use Rattle.papaya_tables.specs.Chunks.{is_incremental}
-use Rattle.papaya_rule.specs.Chart.{Chart}
+use Rattle.papaya_histories.specs.Given.Tables.Chunks.{is_incremental}
+use Rattle.papaya_histories.specs.Given.Rule.Chart.{Chart}
 use Rattle.papaya_runs.specs.declared.record.Pair.{Pair}
 use Rattle.papaya_schedules.specs.declared.effect.Effect.{Effect}
 use Rattle.papaya_schedules.specs.declared.effect.Effect.TheVariants.{Ended}
@@ -19,22 +19,22 @@ use Rattle.papaya_schedules.specs.InTurn.{IsDone, is_called}
 use Rattle.papaya_schedules.specs.Moment.{MapThere, Remains, Moment}
 use Rattle.papaya_schedules.specs.Terms.{Terms}
 use Rattle.papaya_schedules.specs.Views.{map_at, map_of, number_of}
-use Rattle.papaya_callers.proofs.Together.At.{at_other, at_same}
-use Rattle.papaya_callers.specs.Together.{UnderWay}
+use Rattle.papaya_histories.proofs.Given.Callers.Together.At.{at_other, at_same}
+use Rattle.papaya_histories.specs.Given.Callers.Together.{UnderWay}
 use Rattle.papaya_effects.specs.Known.{known}
 use Rattle.papaya_executor.specs.Ending.{NoCallOn, ending_begun}
 use Rattle.papaya_executor.specs.IsAt.{Scene, IsAt, IsEnding}
-use Rattle.papaya_finishes.specs.Makings.{Beginning}
-use Rattle.papaya_finishes.specs.Endings.{Finishing, finishing_of}
-use Rattle.papaya_finishes.specs.Machines.{machine_of}
-use Rattle.papaya_finishes.specs.Maps.{Standing}
-use Rattle.papaya_others.proofs.Quiet.{calls_none}
-use Rattle.papaya_others.specs.Endings.{without_map}
-use Rattle.papaya_moments.proofs.After.{effects_after}
-use Rattle.papaya_moments.proofs.Numbers.{found_of}
-use Rattle.papaya_moments.specs.Numbers.{AreFound}
-use Rattle.papaya_moments.specs.WholeEnds.{all_ended, tables_ended}
-use Rattle.papaya_finishes.specs.Orders.{pairs_of}
+use Rattle.papaya_histories.specs.Given.Finishes.Makings.{Beginning}
+use Rattle.papaya_histories.specs.Given.Finishes.Endings.{Finishing, finishing_of}
+use Rattle.papaya_histories.specs.Given.Finishes.Machines.{machine_of}
+use Rattle.papaya_histories.specs.Given.Finishes.Maps.{Standing}
+use Rattle.papaya_histories.proofs.Given.Others.Quiet.{calls_none}
+use Rattle.papaya_histories.specs.Given.Others.Endings.{without_map}
+use Rattle.papaya_histories.proofs.Given.Moments.After.{effects_after}
+use Rattle.papaya_histories.proofs.Given.Moments.Numbers.{found_of}
+use Rattle.papaya_histories.specs.Given.Moments.Numbers.{AreFound}
+use Rattle.papaya_histories.specs.Given.Moments.WholeEnds.{all_ended, tables_ended}
+use Rattle.papaya_histories.specs.Given.Finishes.Orders.{pairs_of}
 use Rattle.papaya_logged.specs.Back.{ComesBack, EndBringsBack}
 use Rattle.papaya_logged.specs.Ends.{EndCame, EndIsBegun, EndIsOver, EndRan, NotedStill, ended_as}
 use Rattle.papaya_logged.specs.Shown.{IsShown}

@@ -10,9 +10,9 @@ use Rattle.seize.specs.declared.progress.Progress.{Progress}
 use Rattle.seize.specs.declared.progress.Progress.TheVariants as progress
 use Rattle.seize_words.specs.declared.fault.Fault.{Fault}
 use Rattle.seize_words.specs.declared.fault.Fault.TheVariants.{RootsUsedUp, Busy, Memory}
-use Rattle.papaya_tables.specs.declared.resize_mode.ResizeMode.{ResizeMode}
-use Rattle.papaya_tables.specs.declared.setting.Setting.{Setting}
-use Rattle.papaya_resize.specs.NewMap.{opening}
+use Rattle.papaya_histories.specs.Given.Tables.declared.resize_mode.ResizeMode.{ResizeMode}
+use Rattle.papaya_histories.specs.Given.Tables.declared.setting.Setting.{Setting}
+use Rattle.papaya_histories.specs.Given.Resize.NewMap.{opening}
 use Rattle.papaya_runs.specs.Runs.{map_fault}
 use Rattle.papaya_schedules.specs.declared.effect.Effect.{Effect}
 use Rattle.papaya_schedules.specs.declared.event.Event.{Event}
@@ -29,15 +29,15 @@ use Rattle.papaya_schedules.specs.Moment.{MapThere, Moment}
 use Rattle.papaya_schedules.specs.Terms.{Terms}
 use Rattle.papaya_schedules.specs.Views.{map_of, number_of}
 use Rattle.papaya_calls.specs.Beginning.{IsFirstLen}
-use Rattle.papaya_callers.proofs.Together.At.{at_other, at_same}
+use Rattle.papaya_histories.proofs.Given.Callers.Together.At.{at_other, at_same}
 use Rattle.papaya_executor.specs.IsAt.{Scene, IsAt}
 use Rattle.papaya_executor.specs.MakingBegins.{next_making}
-use Rattle.papaya_finishes.specs.Endings.{Finishing}
-use Rattle.papaya_finishes.specs.Makings.{Beginning}
-use Rattle.papaya_finishes.specs.Maps.{Standing}
-use Rattle.papaya_others.proofs.Quiet.{calls_none}
-use Rattle.papaya_others.specs.Makings.{IsNew}
-use Rattle.papaya_moments.proofs.NewMaps.{maps_come_as_new}
+use Rattle.papaya_histories.specs.Given.Finishes.Endings.{Finishing}
+use Rattle.papaya_histories.specs.Given.Finishes.Makings.{Beginning}
+use Rattle.papaya_histories.specs.Given.Finishes.Maps.{Standing}
+use Rattle.papaya_histories.proofs.Given.Others.Quiet.{calls_none}
+use Rattle.papaya_histories.specs.Given.Others.Makings.{IsNew}
+use Rattle.papaya_histories.proofs.Given.Moments.NewMaps.{maps_come_as_new}
 use Rattle.papaya_logged.specs.Makings.{HasTable, JustAsks, CameBare, MakingCame, MakingIsBegun, MakingRan, MapIsThere}
 use Rattle.papaya_logged.specs.Roots.{AreTaken, FindsRoot, IsFirstFree, MakingFinds}
 use Rattle.papaya_logged.specs.Shown.{IsShown}

@@ -7,10 +7,10 @@ use Rattle.seize_words.specs.declared.fault.Fault.{Fault}
 use Rattle.seize_words.specs.declared.fault.Fault.TheVariants.{Memory, SlotsUsedUp}
 use Rattle.seize.specs.declared.rows.register.Register.{Register}
 use Rattle.seize.specs.declared.rows.register.Registering.TheVariants as at
-use Rattle.seize_sets.proofs.Slots.Registers.{NoneOnVacant, WhyRefused}
-use Rattle.papaya_tables.specs.declared.node.Node.{Node}
-use Rattle.papaya_teller.specs.declared.changed.Changed.{Changed}
-use Rattle.papaya_teller.specs.declared.changed.Changed.TheVariants as changed
+use Rattle.papaya_histories.proofs.Given.SeizeSets.Slots.Registers.{NoneOnVacant, WhyRefused}
+use Rattle.papaya_histories.specs.Given.Tables.declared.node.Node.{Node}
+use Rattle.papaya_histories.specs.Given.Teller.declared.changed.Changed.{Changed}
+use Rattle.papaya_histories.specs.Given.Teller.declared.changed.Changed.TheVariants as changed
 use Rattle.papaya_runs.specs.Present.{Present}
 use Rattle.papaya_schedules.specs.declared.effect.Effect.{Effect}
 use Rattle.papaya_schedules.specs.declared.effect.Effect.TheVariants.{Asked}

@@ -2,7 +2,7 @@
 use Rattle.std.specs.Prelude.{◌≡◌, ℕ, Bool, false, not, ◌&&◌, ◌||◌, List, Option, Some, None, MatchOption}
 use Rattle.std.specs.List.{list_all}
 use Rattle.seize_words.specs.declared.fault.Fault.TheVariants.{Busy}
-use Rattle.papaya_tables.specs.declared.resize_mode.ResizeMode.{ResizeMode}
+use Rattle.papaya_histories.specs.Given.Tables.declared.resize_mode.ResizeMode.{ResizeMode}
 use Rattle.papaya_runs.specs.Runs.{map_fault}
 use Rattle.papaya_runs.specs.Same.{is_same}
 use Rattle.papaya_schedules.specs.declared.event.Event.{Event}

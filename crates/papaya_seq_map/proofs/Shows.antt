@@ -10,7 +10,7 @@ use Rattle.seize_words.specs.Mem.{Mem, word_at}
 use Rattle.papaya_tables.specs.declared.node.Node.{Node}
 use Rattle.papaya_tables.specs.declared.setting.Setting.{Setting}
 use Rattle.papaya_tables.specs.Chunks.{is_incremental}
-use Rattle.papaya_rule.specs.Words.{root_word}
+use Rattle.papaya_owned.specs.Given.Rule.Words.{root_word}
 use Rattle.papaya_resting.proofs.Given.{one_each_below, keeps_by_test, holds_stands, holds_moves_none, holds_pairs}
 use Rattle.papaya_shown.specs.Chain.{CountsTables, HasTables, pairs_from_root, pairs_on, root_link, word_or_none}
 use Rattle.papaya_shown.specs.Shown.{NoneMoves, Stands, pairs_stored}

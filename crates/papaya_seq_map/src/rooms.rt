@@ -1,7 +1,7 @@
 //! Room for further pairs in a map for one owner. It begins with a refresh, as a change does.
 ghost use Rattle.std.specs.Prelude.{◌≡◌, [], None, IfErr};
 ghost use Rattle.std.specs.List.Sorted.{IsPermutation};
-ghost use Rattle.papaya_late.specs.Faults.{IsRoom};
+ghost use Rattle.papaya_owned.specs.Given.Late.Faults.{IsRoom};
 ghost use Rattle.papaya_seq_map.specs.Maps.{Keeps, LastTook};
 
 use crate::map::HashMap;

@@ -1,54 +1,54 @@
 -- Between the steps of calls, and as others take steps: where a call begins, is told a reply, or has come to an outcome, each has to count what the moment says.
 use Rattle.std.specs.Prelude.{◌≡◌, ◌==◌, ◌+◌, ℕ, Bool, true, false, cond, not, List, find, map, Option, Some, None, if◌then◌else◌}
 use Rattle.std.proofs.Common.{refl, ap, sym, subst, ◌∙◌, inl, inr}
-use Rattle.papaya_sweeps.specs.SweepPoints.{next_at, reply_at, after_reply, further}
-use Rattle.papaya_sweeps.specs.declared.sweep.Sweep.{Sweep}
-use Rattle.papaya_sweeps.specs.declared.sweep.Sweeping.{Sweeping}
-use Rattle.papaya_sweeps.specs.declared.sweep.Sweeping.TheVariants as sweeping
-use Rattle.papaya_runs.specs.Same.{is_same}
-use Rattle.papaya_raw.specs.CallAsks.{with_absent, with_present, absent_told, present_told, told_at}
-use Rattle.papaya_raw.specs.CallPoints.{going, over, ending, storing, burying, at_gap}
-use Rattle.papaya_raw.specs.Machine.{sweep_told, machine_replied, machine_asked}
-use Rattle.papaya_raw.specs.declared.machines.answer.Called.{Called}
-use Rattle.papaya_raw.specs.declared.machines.answer.End.{End}
-use Rattle.papaya_raw.specs.declared.machines.answer.End.TheVariants as ends
-use Rattle.papaya_raw.specs.declared.machines.answer.KeyAnswer.TheVariants as answers
-use Rattle.papaya_raw.specs.declared.machines.asking.Asking.TheVariants as asking
-use Rattle.papaya_raw.specs.declared.machines.asking.Gap.{Gap}
-use Rattle.papaya_raw.specs.declared.machines.asking.Gap.TheVariants as gaps
-use Rattle.papaya_raw.specs.declared.machines.asking.Reply.{Reply as MachineReply}
-use Rattle.papaya_raw.specs.declared.machines.asking.Reply.TheVariants as reply
-use Rattle.papaya_raw.specs.declared.machines.asking.Takes.{Takes}
-use Rattle.papaya_raw.specs.declared.machines.asking.Takes.TheVariants as takes
-use Rattle.papaya_raw.specs.declared.machines.asking.Told.{Told}
-use Rattle.papaya_raw.specs.declared.machines.asking.Told.TheVariants as tells
-use Rattle.papaya_raw.specs.declared.machines.call.Calling.{Calling}
-use Rattle.papaya_raw.specs.declared.machines.call.Calling.TheVariants as at
-use Rattle.papaya_raw.specs.declared.machines.call.KeyCall.{KeyCall}
-use Rattle.papaya_raw.specs.declared.machines.machine.Machine.{Machine}
-use Rattle.papaya_raw.specs.declared.machines.machine.Machine.TheVariants as kinds
-use Rattle.papaya_tables.specs.declared.marks.TheConstants.{TOMBSTONE}
-use Rattle.papaya_tables.specs.declared.node.Node.{Node}
-use Rattle.papaya_schedules.specs.declared.call.Reply.{Reply}
-use Rattle.papaya_schedules.specs.declared.outcome.Outcome.{Outcome}
-use Rattle.papaya_schedules.specs.declared.outcome.Outcome.TheVariants as outcome
-use Rattle.papaya_schedules.specs.After.{asks_on, comes_to, replied, without_call}
-use Rattle.papaya_schedules.specs.Beginning.{fresh_call, with_call}
-use Rattle.papaya_schedules.specs.Entry.{ends_call}
-use Rattle.papaya_schedules.specs.Moment.{Stands, Going, Asking, Told as WasTold, IsReady, UnderWay as CallThere, Moment}
-use Rattle.papaya_schedules.specs.Views.{call_of}
-use Rattle.papaya_callers.specs.Together.{UnderWay, Gets, Removes, Inserts, TriesToInsert, Computes, Updates, UpdatesOrInserts, TriesToInsertWith, RemovesIf}
-use Rattle.papaya_executor.specs.IsAt.{Scene}
-use Rattle.papaya_finishes.specs.Machines.{machine_of}
-use Rattle.papaya_finishes.specs.Maps.{with_call as with_in}
-use Rattle.papaya_follows.specs.Calling.{NoneNamed}
-use Rattle.papaya_follows.specs.Calls.{ShowsCalls}
-use Rattle.papaya_follows.proofs.Calling.{is_same_refl, apart_back, found_kept, come, come_of_same, replied_same}
-use Rattle.papaya_follows.proofs.Calls.{IsOfSame, changed, found}
-use Rattle.papaya_follows.proofs.Steps.{one_of}
-use Rattle.papaya_hands.proofs.Asking.{which}
-use Rattle.papaya_hands.proofs.Calling.{caller_is}
-use Rattle.papaya_others.specs.Walks.{given_up}
+use Rattle.papaya_histories.specs.Given.Sweeps.SweepPoints.{next_at, reply_at, after_reply, further}
+use Rattle.papaya_histories.specs.Given.Sweeps.declared.sweep.Sweep.{Sweep}
+use Rattle.papaya_histories.specs.Given.Sweeps.declared.sweep.Sweeping.{Sweeping}
+use Rattle.papaya_histories.specs.Given.Sweeps.declared.sweep.Sweeping.TheVariants as sweeping
+use Rattle.papaya_histories.specs.Given.Runs.Same.{is_same}
+use Rattle.papaya_histories.specs.Given.Raw.CallAsks.{with_absent, with_present, absent_told, present_told, told_at}
+use Rattle.papaya_histories.specs.Given.Raw.CallPoints.{going, over, ending, storing, burying, at_gap}
+use Rattle.papaya_histories.specs.Given.Raw.Machine.{sweep_told, machine_replied, machine_asked}
+use Rattle.papaya_histories.specs.Given.Raw.declared.machines.answer.Called.{Called}
+use Rattle.papaya_histories.specs.Given.Raw.declared.machines.answer.End.{End}
+use Rattle.papaya_histories.specs.Given.Raw.declared.machines.answer.End.TheVariants as ends
+use Rattle.papaya_histories.specs.Given.Raw.declared.machines.answer.KeyAnswer.TheVariants as answers
+use Rattle.papaya_histories.specs.Given.Raw.declared.machines.asking.Asking.TheVariants as asking
+use Rattle.papaya_histories.specs.Given.Raw.declared.machines.asking.Gap.{Gap}
+use Rattle.papaya_histories.specs.Given.Raw.declared.machines.asking.Gap.TheVariants as gaps
+use Rattle.papaya_histories.specs.Given.Raw.declared.machines.asking.Reply.{Reply as MachineReply}
+use Rattle.papaya_histories.specs.Given.Raw.declared.machines.asking.Reply.TheVariants as reply
+use Rattle.papaya_histories.specs.Given.Raw.declared.machines.asking.Takes.{Takes}
+use Rattle.papaya_histories.specs.Given.Raw.declared.machines.asking.Takes.TheVariants as takes
+use Rattle.papaya_histories.specs.Given.Raw.declared.machines.asking.Told.{Told}
+use Rattle.papaya_histories.specs.Given.Raw.declared.machines.asking.Told.TheVariants as tells
+use Rattle.papaya_histories.specs.Given.Raw.declared.machines.call.Calling.{Calling}
+use Rattle.papaya_histories.specs.Given.Raw.declared.machines.call.Calling.TheVariants as at
+use Rattle.papaya_histories.specs.Given.Raw.declared.machines.call.KeyCall.{KeyCall}
+use Rattle.papaya_histories.specs.Given.Raw.declared.machines.machine.Machine.{Machine}
+use Rattle.papaya_histories.specs.Given.Raw.declared.machines.machine.Machine.TheVariants as kinds
+use Rattle.papaya_histories.specs.Given.Tables.declared.marks.TheConstants.{TOMBSTONE}
+use Rattle.papaya_histories.specs.Given.Tables.declared.node.Node.{Node}
+use Rattle.papaya_histories.specs.Given.Schedules.declared.call.Reply.{Reply}
+use Rattle.papaya_histories.specs.Given.Schedules.declared.outcome.Outcome.{Outcome}
+use Rattle.papaya_histories.specs.Given.Schedules.declared.outcome.Outcome.TheVariants as outcome
+use Rattle.papaya_histories.specs.Given.Schedules.After.{asks_on, comes_to, replied, without_call}
+use Rattle.papaya_histories.specs.Given.Schedules.Beginning.{fresh_call, with_call}
+use Rattle.papaya_histories.specs.Given.Schedules.Entry.{ends_call}
+use Rattle.papaya_histories.specs.Given.Schedules.Moment.{Stands, Going, Asking, Told as WasTold, IsReady, UnderWay as CallThere, Moment}
+use Rattle.papaya_histories.specs.Given.Schedules.Views.{call_of}
+use Rattle.papaya_histories.specs.Given.Callers.Together.{UnderWay, Gets, Removes, Inserts, TriesToInsert, Computes, Updates, UpdatesOrInserts, TriesToInsertWith, RemovesIf}
+use Rattle.papaya_histories.specs.Given.Executor.IsAt.{Scene}
+use Rattle.papaya_histories.specs.Given.Finishes.Machines.{machine_of}
+use Rattle.papaya_histories.specs.Given.Finishes.Maps.{with_call as with_in}
+use Rattle.papaya_histories.specs.Given.Follows.Calling.{NoneNamed}
+use Rattle.papaya_histories.specs.Given.Follows.Calls.{ShowsCalls}
+use Rattle.papaya_histories.proofs.Given.Follows.Calling.{is_same_refl, apart_back, found_kept, come, come_of_same, replied_same}
+use Rattle.papaya_histories.proofs.Given.Follows.Calls.{IsOfSame, changed, found}
+use Rattle.papaya_histories.proofs.Given.Follows.Steps.{one_of}
+use Rattle.papaya_histories.proofs.Given.Hands.Asking.{which}
+use Rattle.papaya_histories.proofs.Given.Hands.Calling.{caller_is}
+use Rattle.papaya_histories.specs.Given.Others.Walks.{given_up}
 use Rattle.papaya_settles.specs.Beside.{StaysCounts, EffectsLeaveCounts, WalksGoOnCounts, WalksStopCounts}
 use Rattle.papaya_settles.specs.Counts.{counts_in_calling, counts_in_sweeping, is_to_count, HasToCount, ShowsCounts}
 use Rattle.papaya_settles.specs.Keeping.{CountsBegin, CallsBeginCounts, CallsBeginUncounted, CallsTakeCounts, CallsComeToCounts}

@@ -1,21 +1,21 @@
 -- What a copier knows of the tables that it unlinks: where it makes its target the root, and where it reads which table comes next.
 use Rattle.std.specs.Prelude.{◌*◌}
 use Rattle.std.proofs.Common.{◌≡◌, ℕ, suc, ◌<◌, ◌≤◌, Bool, true, false, cond, arith, ap, subst, ◌∙◌}
-use Rattle.seize.specs.World.{World, Cutting}
-use Rattle.papaya_tables.specs.Chunks.{is_incremental}
-use Rattle.papaya_tables.specs.declared.node.Node.{Node}
-use Rattle.papaya_tables.specs.declared.setting.Setting.{Setting}
-use Rattle.papaya_tables.specs.declared.table.Table.{Table}
-use Rattle.papaya_resize.specs.declared.copier.Copier.{Copier}
-use Rattle.papaya_resize.specs.declared.copier.Copying.{Copying}
-use Rattle.papaya_resize.specs.declared.copier.Copying.TheVariants as copies
-use Rattle.papaya_rule.specs.Chart.{Chart}
-use Rattle.papaya_rule.specs.Maps.{IsTable}
-use Rattle.papaya_rule.specs.Words.{Blocks}
-use Rattle.papaya_points.specs.FactsCopies.{CopyingFacts, CopierFacts}
-use Rattle.papaya_points.specs.FactsCopiesBlocking.{CopyingFactsBlocking, CopierFactsBlocking}
-use Rattle.papaya_late.specs.FactsReserves.{CopiesWhole, IsEnding}
-use Rattle.papaya_late.specs.LateCopies.{LateCopying, LateCopierFacts}
+use Rattle.papaya_histories.specs.Given.Seize.World.{World, Cutting}
+use Rattle.papaya_histories.specs.Given.Tables.Chunks.{is_incremental}
+use Rattle.papaya_histories.specs.Given.Tables.declared.node.Node.{Node}
+use Rattle.papaya_histories.specs.Given.Tables.declared.setting.Setting.{Setting}
+use Rattle.papaya_histories.specs.Given.Tables.declared.table.Table.{Table}
+use Rattle.papaya_histories.specs.Given.Resize.declared.copier.Copier.{Copier}
+use Rattle.papaya_histories.specs.Given.Resize.declared.copier.Copying.{Copying}
+use Rattle.papaya_histories.specs.Given.Resize.declared.copier.Copying.TheVariants as copies
+use Rattle.papaya_histories.specs.Given.Rule.Chart.{Chart}
+use Rattle.papaya_histories.specs.Given.Rule.Maps.{IsTable}
+use Rattle.papaya_histories.specs.Given.Rule.Words.{Blocks}
+use Rattle.papaya_histories.specs.Given.Points.FactsCopies.{CopyingFacts, CopierFacts}
+use Rattle.papaya_histories.specs.Given.Points.FactsCopiesBlocking.{CopyingFactsBlocking, CopierFactsBlocking}
+use Rattle.papaya_histories.specs.Given.Late.FactsReserves.{CopiesWhole, IsEnding}
+use Rattle.papaya_histories.specs.Given.Late.LateCopies.{LateCopying, LateCopierFacts}
 
 module _ {K V : Type 0} (same : K → K → Bool) (hash : K → ℕ) (w : World (Node K V)) (caller : ℕ) (setting : Setting) (c : Chart K) (blocks : Blocks) where
   -- its source is a table, and its target one behind that

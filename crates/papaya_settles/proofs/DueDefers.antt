@@ -2,42 +2,42 @@
 use Rattle.std.specs.Prelude.{◌≡◌, ℕ, ◌+◌, ◌<◌, Option, Some, None, Ok, Err, Bool, true, false, List, [], ◌∷◌, ◌==◌, if◌then◌else◌}
 use Rattle.std.proofs.Common.{refl, ap, sym, subst, ◌∙◌, arith}
 use Rattle.std.proofs.lemmas.Bool.{ne_eqb, eq-eqb}
-use Rattle.seize_words.specs.declared.at.At.{At}
-use Rattle.seize_words.specs.declared.at.At.TheVariants as name
-use Rattle.seize_words.specs.Op.{Found, Stored, Exchanged, Made, Taken, Roomed}
-use Rattle.seize_words.specs.Mem.{Mem, value_at, word_at}
-use Rattle.seize_words.specs.Word.{block_in}
-use Rattle.seize.specs.Further.{IsWordOf}
-use Rattle.seize.specs.declared.progress.Progress.{Progress}
-use Rattle.seize.specs.declared.states.TheConstants.{LAST_SLOT}
-use Rattle.seize.specs.declared.rows.defer.Defer.{Defer}
-use Rattle.seize.specs.declared.rows.defer.Deferring.{Deferring}
-use Rattle.seize.specs.declared.rows.defer.Deferring.TheVariants as at
-use Rattle.seize.specs.Defer as plans
-use Rattle.seize.specs.Law.{holds}
-use Rattle.seize_waiting.specs.Held.{count}
-use Rattle.seize_moves.proofs.State.Ghost.{Debt, Life, IsDoomed, IsLeft, State, can_carry, is_deferred, lies_with}
-use Rattle.seize_moves.proofs.State.Rule.{IsGuarded}
-use Rattle.seize_rule.proofs.Rows.Known.{FitsDefer, OnWay}
-use Rattle.seize_rule.proofs.Words.Chains.{Chain, count_first}
-use Rattle.seize_rule.proofs.Words.Named.{link, word_found}
-use Rattle.seize_rule.proofs.Words.Shows.{DeferredIs, DrainedIs}
-use Rattle.seize_rule.proofs.Words.View.{view, list_in}
-use Rattle.seize_alone.proofs.Histories.Reached.{Reached}
-use Rattle.seize.specs.World.{World}
-use Rattle.papaya_tables.specs.Nodes.{deferred_word}
-use Rattle.papaya_tables.specs.declared.node.Node.{Node}
-use Rattle.papaya_tables.specs.declared.node.Node.TheVariants as node
-use Rattle.papaya_tables.specs.declared.table_words.TheConstants.{DEFERRED}
-use Rattle.papaya_schedules.specs.declared.effect.Table.{Table}
-use Rattle.papaya_teller.specs.Tells.{StepsTold}
-use Rattle.papaya_teller.specs.declared.changed.Changed.{Changed}
-use Rattle.papaya_teller.specs.declared.changed.Changed.TheVariants as changed
-use Rattle.papaya_effects.specs.Effects.{carried, in_block, named, names_same}
-use Rattle.papaya_effects.specs.Known.{Known}
-use Rattle.papaya_effects.specs.declared.acting.Acting.TheVariants as acts
-use Rattle.papaya_effects.specs.declared.role.Role.{Role}
-use Rattle.papaya_effects.specs.declared.role.Role.TheVariants as role
+use Rattle.papaya_histories.specs.Given.SeizeWords.declared.at.At.{At}
+use Rattle.papaya_histories.specs.Given.SeizeWords.declared.at.At.TheVariants as name
+use Rattle.papaya_histories.specs.Given.SeizeWords.Op.{Found, Stored, Exchanged, Made, Taken, Roomed}
+use Rattle.papaya_histories.specs.Given.SeizeWords.Mem.{Mem, value_at, word_at}
+use Rattle.papaya_histories.specs.Given.SeizeWords.Word.{block_in}
+use Rattle.papaya_histories.specs.Given.Seize.Further.{IsWordOf}
+use Rattle.papaya_histories.specs.Given.Seize.declared.progress.Progress.{Progress}
+use Rattle.papaya_histories.specs.Given.Seize.declared.states.TheConstants.{LAST_SLOT}
+use Rattle.papaya_histories.specs.Given.Seize.declared.rows.defer.Defer.{Defer}
+use Rattle.papaya_histories.specs.Given.Seize.declared.rows.defer.Deferring.{Deferring}
+use Rattle.papaya_histories.specs.Given.Seize.declared.rows.defer.Deferring.TheVariants as at
+use Rattle.papaya_histories.specs.Given.Seize.Defer as plans
+use Rattle.papaya_histories.specs.Given.Seize.Law.{holds}
+use Rattle.papaya_histories.specs.Given.SeizeWaiting.Held.{count}
+use Rattle.papaya_histories.proofs.Given.SeizeMoves.State.Ghost.{Debt, Life, IsDoomed, IsLeft, State, can_carry, is_deferred, lies_with}
+use Rattle.papaya_histories.proofs.Given.SeizeMoves.State.Rule.{IsGuarded}
+use Rattle.papaya_histories.proofs.Given.SeizeRule.Rows.Known.{FitsDefer, OnWay}
+use Rattle.papaya_histories.proofs.Given.SeizeRule.Words.Chains.{Chain, count_first}
+use Rattle.papaya_histories.proofs.Given.SeizeRule.Words.Named.{link, word_found}
+use Rattle.papaya_histories.proofs.Given.SeizeRule.Words.Shows.{DeferredIs, DrainedIs}
+use Rattle.papaya_histories.proofs.Given.SeizeRule.Words.View.{view, list_in}
+use Rattle.papaya_histories.proofs.Given.SeizeAlone.Histories.Reached.{Reached}
+use Rattle.papaya_histories.specs.Given.Seize.World.{World}
+use Rattle.papaya_histories.specs.Given.Tables.Nodes.{deferred_word}
+use Rattle.papaya_histories.specs.Given.Tables.declared.node.Node.{Node}
+use Rattle.papaya_histories.specs.Given.Tables.declared.node.Node.TheVariants as node
+use Rattle.papaya_histories.specs.Given.Tables.declared.table_words.TheConstants.{DEFERRED}
+use Rattle.papaya_histories.specs.Given.Schedules.declared.effect.Table.{Table}
+use Rattle.papaya_histories.specs.Given.Teller.Tells.{StepsTold}
+use Rattle.papaya_histories.specs.Given.Teller.declared.changed.Changed.{Changed}
+use Rattle.papaya_histories.specs.Given.Teller.declared.changed.Changed.TheVariants as changed
+use Rattle.papaya_histories.specs.Given.Effects.Effects.{carried, in_block, named, names_same}
+use Rattle.papaya_histories.specs.Given.Effects.Known.{Known}
+use Rattle.papaya_histories.specs.Given.Effects.declared.acting.Acting.TheVariants as acts
+use Rattle.papaya_histories.specs.Given.Effects.declared.role.Role.{Role}
+use Rattle.papaya_histories.specs.Given.Effects.declared.role.Role.TheVariants as role
 use Rattle.papaya_settles.specs.Due.{ToPut, due_in_defer, RowTells, TellsNone, TellsDeferred}
 use Rattle.papaya_settles.proofs.DueSettles.{effects_by, plan_none}
 use Rattle.papaya_settles.proofs.EntryRows.{named as named_by}

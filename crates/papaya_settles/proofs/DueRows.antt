@@ -1,66 +1,66 @@
 -- A step of a row within a disposal, or a copier, tells of what that has in hand.
 use Rattle.std.specs.Prelude.{◌≡◌, ◌≢◌, ℕ, ◌+◌, ◌*◌, ◌<◌, ◌==◌, Option, Some, None, Ok, Err, Bool, true, false, List, [], ◌∷◌, length, if◌then◌else◌}
 use Rattle.std.proofs.Common.{refl, ap, sym, subst, ◌∙◌, arith}
-use Rattle.seize_words.specs.declared.at.At.{At}
-use Rattle.seize_words.specs.Op.{Found, Stored, Exchanged, Made, Taken, Roomed}
-use Rattle.seize_words.specs.Mem.{Mem, value_at}
-use Rattle.seize_words.specs.Plan.{Ends, Now}
-use Rattle.seize_words.specs.Word.{block_in}
-use Rattle.seize.specs.declared.progress.Progress.{Progress}
-use Rattle.seize.specs.declared.progress.Progress.TheVariants as progress
-use Rattle.seize.specs.declared.states.TheConstants.{HELD, LAST_SLOT}
-use Rattle.seize.specs.declared.rows.defer.Defer.{Defer}
-use Rattle.seize.specs.declared.rows.defer.Deferring.{Deferring}
-use Rattle.seize.specs.declared.rows.defer.Deferring.TheVariants as deferring
-use Rattle.seize.specs.declared.rows.settle.Settle.{Settle}
-use Rattle.seize.specs.declared.rows.settle.Settled.{Settled}
-use Rattle.seize.specs.declared.rows.settle.Settled.TheVariants as settled
-use Rattle.seize.specs.declared.rows.settle.Settling.{Settling}
-use Rattle.seize.specs.declared.rows.settle.Settling.TheVariants as at
-use Rattle.seize.specs.Defer.{deferring as putting, defer_plan}
-use Rattle.seize.specs.Defer as defers
-use Rattle.seize.specs.Settle.{retiring, settle_plan, plan_at}
-use Rattle.seize.specs.Settle as plans
-use Rattle.seize.specs.World.{World, Hand, Cutting, Row, Settles, Defers}
-use Rattle.seize_moves.proofs.State.Ghost.{State}
-use Rattle.seize_rule.proofs.Points.Aside.{HandFits}
-use Rattle.seize_rule.proofs.Points.Known.{FitsAt, bare, open_blocks}
-use Rattle.seize_rule.proofs.Points.Retire.{open_chain}
-use Rattle.seize_rule.proofs.Points.Settle.{is_over, settle_steps}
-use Rattle.seize_rule.proofs.Points.Stepped.{IsGoing}
-use Rattle.seize_rule.proofs.Rows.Known.{FitsRow}
-use Rattle.seize_rule.proofs.Words.Chains.{Chain, first_or}
-use Rattle.seize_rule.proofs.Words.Named.{link, link-block}
-use Rattle.seize_rule.proofs.Words.Shows.{lives}
-use Rattle.seize_rule.proofs.Words.There.{live_pos}
-use Rattle.seize_rule.proofs.Words.View.{view}
-use Rattle.seize_rule.proofs.World.Start.{words_good}
-use Rattle.seize_alone.proofs.Histories.Reached.{Reached}
-use Rattle.papaya_tables.specs.Nodes.{deferred_word}
-use Rattle.papaya_tables.specs.declared.node.Node.{Node}
-use Rattle.papaya_tables.specs.declared.table.Table.{Table}
-use Rattle.papaya_resize.specs.Copier.{copier_plan}
-use Rattle.papaya_resize.specs.Copier as copiers
-use Rattle.papaya_resize.specs.CopierPromotes.{retired, table_retired}
-use Rattle.papaya_resize.specs.CopierStates.{standing}
-use Rattle.papaya_resize.specs.Dispose.{dispose_plan}
-use Rattle.papaya_resize.specs.Dispose as disposes
-use Rattle.papaya_resize.specs.declared.copier.Copier.{Copier}
-use Rattle.papaya_resize.specs.declared.copier.Copying.{Copying}
-use Rattle.papaya_resize.specs.declared.copier.Copying.TheVariants as copying
-use Rattle.papaya_resize.specs.declared.dispose.Dispose.{Dispose}
-use Rattle.papaya_resize.specs.declared.dispose.Disposing.{Disposing}
-use Rattle.papaya_resize.specs.declared.dispose.Disposing.TheVariants as disposing
-use Rattle.papaya_resize.specs.declared.outcome.Outcome.{Outcome}
-use Rattle.papaya_resize.specs.declared.outcome.Outcome.TheVariants as outcome
-use Rattle.papaya_schedules.specs.declared.effect.Effect.{Effect}
-use Rattle.papaya_teller.specs.Tells.{StepsTold}
-use Rattle.papaya_teller.specs.declared.changed.Changed.{Changed}
-use Rattle.papaya_teller.specs.declared.changed.Changed.TheVariants as changed
-use Rattle.papaya_effects.specs.Known.{Known}
-use Rattle.papaya_executor.proofs.Forgotten.{as_step}
-use Rattle.papaya_hands.specs.Rows.{SettlesAside, ReclaimsNone}
-use Rattle.papaya_others.proofs.Outcomes.{told_in}
+use Rattle.papaya_histories.specs.Given.SeizeWords.declared.at.At.{At}
+use Rattle.papaya_histories.specs.Given.SeizeWords.Op.{Found, Stored, Exchanged, Made, Taken, Roomed}
+use Rattle.papaya_histories.specs.Given.SeizeWords.Mem.{Mem, value_at}
+use Rattle.papaya_histories.specs.Given.SeizeWords.Plan.{Ends, Now}
+use Rattle.papaya_histories.specs.Given.SeizeWords.Word.{block_in}
+use Rattle.papaya_histories.specs.Given.Seize.declared.progress.Progress.{Progress}
+use Rattle.papaya_histories.specs.Given.Seize.declared.progress.Progress.TheVariants as progress
+use Rattle.papaya_histories.specs.Given.Seize.declared.states.TheConstants.{HELD, LAST_SLOT}
+use Rattle.papaya_histories.specs.Given.Seize.declared.rows.defer.Defer.{Defer}
+use Rattle.papaya_histories.specs.Given.Seize.declared.rows.defer.Deferring.{Deferring}
+use Rattle.papaya_histories.specs.Given.Seize.declared.rows.defer.Deferring.TheVariants as deferring
+use Rattle.papaya_histories.specs.Given.Seize.declared.rows.settle.Settle.{Settle}
+use Rattle.papaya_histories.specs.Given.Seize.declared.rows.settle.Settled.{Settled}
+use Rattle.papaya_histories.specs.Given.Seize.declared.rows.settle.Settled.TheVariants as settled
+use Rattle.papaya_histories.specs.Given.Seize.declared.rows.settle.Settling.{Settling}
+use Rattle.papaya_histories.specs.Given.Seize.declared.rows.settle.Settling.TheVariants as at
+use Rattle.papaya_histories.specs.Given.Seize.Defer.{deferring as putting, defer_plan}
+use Rattle.papaya_histories.specs.Given.Seize.Defer as defers
+use Rattle.papaya_histories.specs.Given.Seize.Settle.{retiring, settle_plan, plan_at}
+use Rattle.papaya_histories.specs.Given.Seize.Settle as plans
+use Rattle.papaya_histories.specs.Given.Seize.World.{World, Hand, Cutting, Row, Settles, Defers}
+use Rattle.papaya_histories.proofs.Given.SeizeMoves.State.Ghost.{State}
+use Rattle.papaya_histories.proofs.Given.SeizeRule.Points.Aside.{HandFits}
+use Rattle.papaya_histories.proofs.Given.SeizeRule.Points.Known.{FitsAt, bare, open_blocks}
+use Rattle.papaya_histories.proofs.Given.SeizeRule.Points.Retire.{open_chain}
+use Rattle.papaya_histories.proofs.Given.SeizeRule.Points.Settle.{is_over, settle_steps}
+use Rattle.papaya_histories.proofs.Given.SeizeRule.Points.Stepped.{IsGoing}
+use Rattle.papaya_histories.proofs.Given.SeizeRule.Rows.Known.{FitsRow}
+use Rattle.papaya_histories.proofs.Given.SeizeRule.Words.Chains.{Chain, first_or}
+use Rattle.papaya_histories.proofs.Given.SeizeRule.Words.Named.{link, link-block}
+use Rattle.papaya_histories.proofs.Given.SeizeRule.Words.Shows.{lives}
+use Rattle.papaya_histories.proofs.Given.SeizeRule.Words.There.{live_pos}
+use Rattle.papaya_histories.proofs.Given.SeizeRule.Words.View.{view}
+use Rattle.papaya_histories.proofs.Given.SeizeRule.World.Start.{words_good}
+use Rattle.papaya_histories.proofs.Given.SeizeAlone.Histories.Reached.{Reached}
+use Rattle.papaya_histories.specs.Given.Tables.Nodes.{deferred_word}
+use Rattle.papaya_histories.specs.Given.Tables.declared.node.Node.{Node}
+use Rattle.papaya_histories.specs.Given.Tables.declared.table.Table.{Table}
+use Rattle.papaya_histories.specs.Given.Resize.Copier.{copier_plan}
+use Rattle.papaya_histories.specs.Given.Resize.Copier as copiers
+use Rattle.papaya_histories.specs.Given.Resize.CopierPromotes.{retired, table_retired}
+use Rattle.papaya_histories.specs.Given.Resize.CopierStates.{standing}
+use Rattle.papaya_histories.specs.Given.Resize.Dispose.{dispose_plan}
+use Rattle.papaya_histories.specs.Given.Resize.Dispose as disposes
+use Rattle.papaya_histories.specs.Given.Resize.declared.copier.Copier.{Copier}
+use Rattle.papaya_histories.specs.Given.Resize.declared.copier.Copying.{Copying}
+use Rattle.papaya_histories.specs.Given.Resize.declared.copier.Copying.TheVariants as copying
+use Rattle.papaya_histories.specs.Given.Resize.declared.dispose.Dispose.{Dispose}
+use Rattle.papaya_histories.specs.Given.Resize.declared.dispose.Disposing.{Disposing}
+use Rattle.papaya_histories.specs.Given.Resize.declared.dispose.Disposing.TheVariants as disposing
+use Rattle.papaya_histories.specs.Given.Resize.declared.outcome.Outcome.{Outcome}
+use Rattle.papaya_histories.specs.Given.Resize.declared.outcome.Outcome.TheVariants as outcome
+use Rattle.papaya_histories.specs.Given.Schedules.declared.effect.Effect.{Effect}
+use Rattle.papaya_histories.specs.Given.Teller.Tells.{StepsTold}
+use Rattle.papaya_histories.specs.Given.Teller.declared.changed.Changed.{Changed}
+use Rattle.papaya_histories.specs.Given.Teller.declared.changed.Changed.TheVariants as changed
+use Rattle.papaya_histories.specs.Given.Effects.Known.{Known}
+use Rattle.papaya_histories.proofs.Given.Executor.Forgotten.{as_step}
+use Rattle.papaya_histories.specs.Given.Hands.Rows.{SettlesAside, ReclaimsNone}
+use Rattle.papaya_histories.proofs.Given.Others.Outcomes.{told_in}
 use Rattle.papaya_settles.specs.Due.{Due, ToPut, due_in_settle, due_in_defer, due_in_disposing, due_in_copying, RowTells, TellsNone}
 use Rattle.papaya_settles.specs.Entries.{IsSomebodys, IsBlank, OneAt, RetiresOne}
 use Rattle.papaya_settles.proofs.DueDefers.{AreTables, defer_tells}

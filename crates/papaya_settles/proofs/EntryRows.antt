@@ -1,44 +1,44 @@
 -- A step of a row leaves an entry as blank as it is, of a block that the row is not to retire or to put behind another one, and that is in no batch.
 use Rattle.std.specs.Prelude.{Option, ◌⊎◌}
 use Rattle.std.proofs.Common.{◌≡◌, ℕ, ◌+◌, ◌/◌, ◌<◌, List, length, refl, arith, inl, inr, ap, sym, subst, ◌∙◌}
-use Rattle.seize_words.specs.Mem.{Mem}
-use Rattle.seize.specs.declared.states.TheConstants.{NEXT, FIRST, COUNT, LINK, LAST_SLOT}
-use Rattle.seize.specs.declared.progress.Progress.{Progress}
-use Rattle.seize.specs.declared.progress.Progress.TheVariants as progress
-use Rattle.seize.specs.declared.rows.defer.Defer.{Defer}
-use Rattle.seize.specs.declared.rows.defer.Deferring.{Deferring}
-use Rattle.seize.specs.declared.rows.defer.Deferring.TheVariants as deferring
-use Rattle.seize.specs.declared.rows.leave.Leave.{Leave}
-use Rattle.seize.specs.declared.rows.leave.Leaving.{Leaving}
-use Rattle.seize.specs.declared.rows.leave.Leaving.TheVariants as leaving
-use Rattle.seize.specs.declared.rows.register.Register.{Register}
-use Rattle.seize.specs.declared.rows.register.Registering.{Registering}
-use Rattle.seize.specs.declared.rows.register.Registering.TheVariants as registering
-use Rattle.seize.specs.declared.rows.settle.Settle.{Settle}
-use Rattle.seize.specs.declared.rows.settle.Settled.{Settled}
-use Rattle.seize.specs.declared.rows.settle.Settled.TheVariants.{Goes, Waits, Gave, Done}
-use Rattle.seize.specs.declared.rows.settle.Settling.{Settling}
-use Rattle.seize.specs.declared.rows.settle.Settling.TheVariants as at
-use Rattle.seize.specs.Defer as defer
-use Rattle.seize.specs.Enter.{enter_plan, unregister_plan}
-use Rattle.seize.specs.Leave as leave
-use Rattle.seize.specs.Register as register
-use Rattle.seize.specs.Settle.{settle_plan, plan_at}
-use Rattle.seize.specs.World.{World, Row, Rests, Registers, Enters, Settles, Leaves, Defers, Frees, Steps', settles_on, registers_on, defers_on}
-use Rattle.seize_waiting.specs.Held.{count}
-use Rattle.seize_moves.proofs.Moves.Tries.{first_pending}
-use Rattle.seize_moves.proofs.State.Ghost.{Life, IsDeferring, IsPending, IsIn, State}
-use Rattle.seize_rule.proofs.Points.Deferred.{puts_some}
-use Rattle.seize_rule.proofs.Points.Known.{FitsAt, Appends, bare, open_blocks}
-use Rattle.seize_rule.proofs.Points.Retire.{open_stage, some_last}
-use Rattle.seize_rule.proofs.Rows.Known.{FitsLeave, FitsDefer, FitsRow}
-use Rattle.seize_rule.proofs.Words.Apart.{is_pending_put}
-use Rattle.seize_rule.proofs.Words.Chains.{last_of, last_from, count_last}
-use Rattle.seize_rule.proofs.Words.Named.{link, link-block}
-use Rattle.seize_rule.proofs.Words.View.{view}
-use Rattle.seize_rule.proofs.World.Kept.{row_may}
-use Rattle.seize_rule.proofs.Written.Retire.{in_batch}
-use Rattle.seize_alone.proofs.Histories.Reached.{Reached}
+use Rattle.papaya_histories.specs.Given.SeizeWords.Mem.{Mem}
+use Rattle.papaya_histories.specs.Given.Seize.declared.states.TheConstants.{NEXT, FIRST, COUNT, LINK, LAST_SLOT}
+use Rattle.papaya_histories.specs.Given.Seize.declared.progress.Progress.{Progress}
+use Rattle.papaya_histories.specs.Given.Seize.declared.progress.Progress.TheVariants as progress
+use Rattle.papaya_histories.specs.Given.Seize.declared.rows.defer.Defer.{Defer}
+use Rattle.papaya_histories.specs.Given.Seize.declared.rows.defer.Deferring.{Deferring}
+use Rattle.papaya_histories.specs.Given.Seize.declared.rows.defer.Deferring.TheVariants as deferring
+use Rattle.papaya_histories.specs.Given.Seize.declared.rows.leave.Leave.{Leave}
+use Rattle.papaya_histories.specs.Given.Seize.declared.rows.leave.Leaving.{Leaving}
+use Rattle.papaya_histories.specs.Given.Seize.declared.rows.leave.Leaving.TheVariants as leaving
+use Rattle.papaya_histories.specs.Given.Seize.declared.rows.register.Register.{Register}
+use Rattle.papaya_histories.specs.Given.Seize.declared.rows.register.Registering.{Registering}
+use Rattle.papaya_histories.specs.Given.Seize.declared.rows.register.Registering.TheVariants as registering
+use Rattle.papaya_histories.specs.Given.Seize.declared.rows.settle.Settle.{Settle}
+use Rattle.papaya_histories.specs.Given.Seize.declared.rows.settle.Settled.{Settled}
+use Rattle.papaya_histories.specs.Given.Seize.declared.rows.settle.Settled.TheVariants.{Goes, Waits, Gave, Done}
+use Rattle.papaya_histories.specs.Given.Seize.declared.rows.settle.Settling.{Settling}
+use Rattle.papaya_histories.specs.Given.Seize.declared.rows.settle.Settling.TheVariants as at
+use Rattle.papaya_histories.specs.Given.Seize.Defer as defer
+use Rattle.papaya_histories.specs.Given.Seize.Enter.{enter_plan, unregister_plan}
+use Rattle.papaya_histories.specs.Given.Seize.Leave as leave
+use Rattle.papaya_histories.specs.Given.Seize.Register as register
+use Rattle.papaya_histories.specs.Given.Seize.Settle.{settle_plan, plan_at}
+use Rattle.papaya_histories.specs.Given.Seize.World.{World, Row, Rests, Registers, Enters, Settles, Leaves, Defers, Frees, Steps', settles_on, registers_on, defers_on}
+use Rattle.papaya_histories.specs.Given.SeizeWaiting.Held.{count}
+use Rattle.papaya_histories.proofs.Given.SeizeMoves.Moves.Tries.{first_pending}
+use Rattle.papaya_histories.proofs.Given.SeizeMoves.State.Ghost.{Life, IsDeferring, IsPending, IsIn, State}
+use Rattle.papaya_histories.proofs.Given.SeizeRule.Points.Deferred.{puts_some}
+use Rattle.papaya_histories.proofs.Given.SeizeRule.Points.Known.{FitsAt, Appends, bare, open_blocks}
+use Rattle.papaya_histories.proofs.Given.SeizeRule.Points.Retire.{open_stage, some_last}
+use Rattle.papaya_histories.proofs.Given.SeizeRule.Rows.Known.{FitsLeave, FitsDefer, FitsRow}
+use Rattle.papaya_histories.proofs.Given.SeizeRule.Words.Apart.{is_pending_put}
+use Rattle.papaya_histories.proofs.Given.SeizeRule.Words.Chains.{last_of, last_from, count_last}
+use Rattle.papaya_histories.proofs.Given.SeizeRule.Words.Named.{link, link-block}
+use Rattle.papaya_histories.proofs.Given.SeizeRule.Words.View.{view}
+use Rattle.papaya_histories.proofs.Given.SeizeRule.World.Kept.{row_may}
+use Rattle.papaya_histories.proofs.Given.SeizeRule.Written.Retire.{in_batch}
+use Rattle.papaya_histories.proofs.Given.SeizeAlone.Histories.Reached.{Reached}
 use Rattle.papaya_settles.proofs.EntryOps.{IsApart, IsPlanApart, apart_as, Zero, plan_zero}
 
 -- a row of this caller leaves it alone

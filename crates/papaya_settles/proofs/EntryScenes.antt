@@ -2,40 +2,40 @@
 use Rattle.std.specs.Prelude.{◌≡◌, ◌≢◌, ℕ, Bool, List, [], ◌∷◌, Option, Some, None, option_map, ◌⊎◌}
 use Rattle.std.proofs.Common.{refl, ap, sym, subst, ◌∙◌, inl, inr}
 use Rattle.std.proofs.lemmas.Bool.{cases_eq}
-use Rattle.seize_words.specs.Mem.{Mem, word_at}
-use Rattle.seize_words.specs.declared.at.At.{At}
-use Rattle.seize_words.specs.declared.at.At.TheVariants.{Entry}
-use Rattle.seize.specs.declared.states.TheConstants.{NEXT, FIRST}
-use Rattle.seize.specs.declared.rows.settle.Settling.{Settling}
-use Rattle.seize.specs.declared.rows.settle.Settling.TheVariants as at
-use Rattle.seize.specs.Sequence.{IsBetween}
-use Rattle.seize.specs.World.{World, Row, Rests, Settles, Request, Register', Enter', Leave', LeaveOwned, Refresh, Unregister', Retire, Flush, Defer', Event, Begin, Happens, Runs, Steps'}
-use Rattle.seize_rule.proofs.Words.Named.{or_zero, words_of}
-use Rattle.seize_alone.proofs.Histories.Reached.{Reached, happens_reached}
-use Rattle.seize_alone.proofs.Histories.UsersTurn.{users_between}
-use Rattle.papaya_tables.specs.Nodes.{deferred_word}
-use Rattle.papaya_tables.specs.declared.node.Node.{Node}
-use Rattle.papaya_tables.specs.declared.setting.Setting.{Setting}
-use Rattle.papaya_raw.specs.declared.machines.progress.Progress.{Progress}
-use Rattle.papaya_rule.specs.InWorld.{AllUsers}
-use Rattle.papaya_schedules.specs.Moment.{Moment}
-use Rattle.papaya_callers.specs.Together.{UnderWay, OnKey, ForRoom, Counting, OverAll, HandsOver, IsOneStep}
-use Rattle.papaya_callers.proofs.Together.Came.{came_reached}
-use Rattle.papaya_effects.specs.Known.{Known}
-use Rattle.papaya_executor.specs.IsAt.{Scene, IsAt, slot_of, work_of, call_in}
-use Rattle.papaya_executor.specs.Rows.{request_of}
-use Rattle.papaya_executor.specs.Stepping.{StepLeads, scene_after}
-use Rattle.papaya_executor.specs.declared.executor.Executor.{Executor}
-use Rattle.papaya_executor.specs.declared.row.SlotRow.{SlotRow}
-use Rattle.papaya_executor.specs.declared.worker.Work.{Work}
-use Rattle.papaya_executor.specs.declared.worker.Work.TheVariants.{OnSlot}
-use Rattle.papaya_finishes.specs.FactsEnds.{Deed, Looks, TakesPair, LeavesTable, JoinsPair, TakesLeft, TakesCounter, WritesRoot, events_of}
-use Rattle.papaya_finishes.specs.Machines.{machine_of}
-use Rattle.papaya_finishes.specs.Maps.{with_call}
-use Rattle.papaya_follows.specs.Shows.{Shows}
-use Rattle.papaya_follows.proofs.Steps.{WentTo, went_to, DidSo}
-use Rattle.papaya_hands.specs.Rows.{ReclaimsNone, ShowsRows}
-use Rattle.papaya_hands.proofs.Asking.{which}
+use Rattle.papaya_histories.specs.Given.SeizeWords.Mem.{Mem, word_at}
+use Rattle.papaya_histories.specs.Given.SeizeWords.declared.at.At.{At}
+use Rattle.papaya_histories.specs.Given.SeizeWords.declared.at.At.TheVariants.{Entry}
+use Rattle.papaya_histories.specs.Given.Seize.declared.states.TheConstants.{NEXT, FIRST}
+use Rattle.papaya_histories.specs.Given.Seize.declared.rows.settle.Settling.{Settling}
+use Rattle.papaya_histories.specs.Given.Seize.declared.rows.settle.Settling.TheVariants as at
+use Rattle.papaya_histories.specs.Given.Seize.Sequence.{IsBetween}
+use Rattle.papaya_histories.specs.Given.Seize.World.{World, Row, Rests, Settles, Request, Register', Enter', Leave', LeaveOwned, Refresh, Unregister', Retire, Flush, Defer', Event, Begin, Happens, Runs, Steps'}
+use Rattle.papaya_histories.proofs.Given.SeizeRule.Words.Named.{or_zero, words_of}
+use Rattle.papaya_histories.proofs.Given.SeizeAlone.Histories.Reached.{Reached, happens_reached}
+use Rattle.papaya_histories.proofs.Given.SeizeAlone.Histories.UsersTurn.{users_between}
+use Rattle.papaya_histories.specs.Given.Tables.Nodes.{deferred_word}
+use Rattle.papaya_histories.specs.Given.Tables.declared.node.Node.{Node}
+use Rattle.papaya_histories.specs.Given.Tables.declared.setting.Setting.{Setting}
+use Rattle.papaya_histories.specs.Given.Raw.declared.machines.progress.Progress.{Progress}
+use Rattle.papaya_histories.specs.Given.Rule.InWorld.{AllUsers}
+use Rattle.papaya_histories.specs.Given.Schedules.Moment.{Moment}
+use Rattle.papaya_histories.specs.Given.Callers.Together.{UnderWay, OnKey, ForRoom, Counting, OverAll, HandsOver, IsOneStep}
+use Rattle.papaya_histories.proofs.Given.Callers.Together.Came.{came_reached}
+use Rattle.papaya_histories.specs.Given.Effects.Known.{Known}
+use Rattle.papaya_histories.specs.Given.Executor.IsAt.{Scene, IsAt, slot_of, work_of, call_in}
+use Rattle.papaya_histories.specs.Given.Executor.Rows.{request_of}
+use Rattle.papaya_histories.specs.Given.Executor.Stepping.{StepLeads, scene_after}
+use Rattle.papaya_histories.specs.Given.Executor.declared.executor.Executor.{Executor}
+use Rattle.papaya_histories.specs.Given.Executor.declared.row.SlotRow.{SlotRow}
+use Rattle.papaya_histories.specs.Given.Executor.declared.worker.Work.{Work}
+use Rattle.papaya_histories.specs.Given.Executor.declared.worker.Work.TheVariants.{OnSlot}
+use Rattle.papaya_histories.specs.Given.Finishes.FactsEnds.{Deed, Looks, TakesPair, LeavesTable, JoinsPair, TakesLeft, TakesCounter, WritesRoot, events_of}
+use Rattle.papaya_histories.specs.Given.Finishes.Machines.{machine_of}
+use Rattle.papaya_histories.specs.Given.Finishes.Maps.{with_call}
+use Rattle.papaya_histories.specs.Given.Follows.Shows.{Shows}
+use Rattle.papaya_histories.proofs.Given.Follows.Steps.{WentTo, went_to, DidSo}
+use Rattle.papaya_histories.specs.Given.Hands.Rows.{ReclaimsNone, ShowsRows}
+use Rattle.papaya_histories.proofs.Given.Hands.Asking.{which}
 use Rattle.papaya_settles.specs.Entries.{IsBlank, OneAt, RetiresOne, ShowsEntries, EntriesBegin, CallsKeepEntries, CallsGoOnEntries, RowsBeginEntries, RowsKeepEntries, MakingsKeepEntries, EndingsBeginEntries, EndingsKeepEntries}
 use Rattle.papaya_settles.proofs.EntryUsers.{IsZero, AllZero, event_zeros}
 use Rattle.papaya_settles.proofs.EntryWorlds.{event_one, step_zeros, step_one, begin_zeros, begin_one, HandsOne, begin_own, own_one}

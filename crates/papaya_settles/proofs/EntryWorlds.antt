@@ -1,40 +1,40 @@
 -- What happens in a world leaves entries blank: of what somebody has, and of the one block that a row is to retire.
 use Rattle.std.specs.Prelude.{◌≡◌, ◌≢◌, ℕ, ◌+◌, ◌<◌, Bool, true, false, eqb, Option, length, List, [], ◌∷◌}
 use Rattle.std.proofs.Common.{eqb-true, refl, ap, sym, subst, ◌∙◌, arith, inl, inr}
-use Rattle.seize_words.specs.Mem.{Mem, Can, Took, value_at}
-use Rattle.seize_words.specs.Plan.{May, Steps}
-use Rattle.seize_words.specs.Word.{block_in, link_to}
-use Rattle.seize_words.specs.declared.at.At.TheVariants.{Entry}
-use Rattle.seize.specs.declared.progress.Progress.{Progress}
-use Rattle.seize.specs.declared.progress.Progress.TheVariants as progress
-use Rattle.seize.specs.declared.rows.defer.Defer.{Defer}
-use Rattle.seize.specs.declared.rows.register.Register.{Register}
-use Rattle.seize.specs.declared.rows.settle.Settle.{Settle}
-use Rattle.seize.specs.declared.rows.settle.Settled.{Settled}
-use Rattle.seize.specs.declared.rows.settle.Settled.TheVariants as settled
-use Rattle.seize.specs.declared.rows.settle.Settling.{Settling}
-use Rattle.seize.specs.declared.rows.settle.Settling.TheVariants as at
-use Rattle.seize.specs.declared.states.TheConstants.{NEXT, FIRST, LAST_SLOT}
-use Rattle.seize.specs.Law.{Effect, Taken}
-use Rattle.seize.specs.Sequence.{IsBetween}
-use Rattle.seize.specs.Settle.{settle_plan, plan_at}
-use Rattle.seize.specs.World.{World, Hand, NoBlock, Making, InUse, Parting, Cutting, Handed, LeftTo, Row, Rests, Registers, Enters, Settles, Leaves, Defers, Frees, Request, Register', Enter', Leave', LeaveOwned, Refresh, Unregister', Retire, Flush, Defer', Event, Happens, Begins, Steps', handed_by, with_at, settles_on, registers_on, defers_on}
-use Rattle.seize_moves.proofs.Moves.Tries.{first_pending}
-use Rattle.seize_moves.proofs.State.Ghost.{Life, IsPending, State}
-use Rattle.seize_rule.proofs.Points.Aside.{HandFits}
-use Rattle.seize_rule.proofs.Points.Known.{FitsAt, Rest, FirstsOf, bare}
-use Rattle.seize_rule.proofs.Rows.Known.{FitsRow}
-use Rattle.seize_rule.proofs.Rows.Others.{begins_others, steps_others}
-use Rattle.seize_rule.proofs.Words.Chains.{Chain, waiting}
-use Rattle.seize_rule.proofs.Words.Named.{link, link-block, word_found}
-use Rattle.seize_rule.proofs.Words.Shows.{lives}
-use Rattle.seize_rule.proofs.Words.There.{live_pos}
-use Rattle.seize_rule.proofs.Words.View.{view}
-use Rattle.seize_rule.proofs.World.Kept.{row_may}
-use Rattle.seize_alone.proofs.Histories.NotTaken.{did}
-use Rattle.seize_alone.proofs.Histories.Reached.{Reached}
-use Rattle.papaya_rule.proofs.World.Hands.{at_cases}
-use Rattle.papaya_hands.specs.Rows.{SettlesAside, ReclaimsNone}
+use Rattle.papaya_histories.specs.Given.SeizeWords.Mem.{Mem, Can, Took, value_at}
+use Rattle.papaya_histories.specs.Given.SeizeWords.Plan.{May, Steps}
+use Rattle.papaya_histories.specs.Given.SeizeWords.Word.{block_in, link_to}
+use Rattle.papaya_histories.specs.Given.SeizeWords.declared.at.At.TheVariants.{Entry}
+use Rattle.papaya_histories.specs.Given.Seize.declared.progress.Progress.{Progress}
+use Rattle.papaya_histories.specs.Given.Seize.declared.progress.Progress.TheVariants as progress
+use Rattle.papaya_histories.specs.Given.Seize.declared.rows.defer.Defer.{Defer}
+use Rattle.papaya_histories.specs.Given.Seize.declared.rows.register.Register.{Register}
+use Rattle.papaya_histories.specs.Given.Seize.declared.rows.settle.Settle.{Settle}
+use Rattle.papaya_histories.specs.Given.Seize.declared.rows.settle.Settled.{Settled}
+use Rattle.papaya_histories.specs.Given.Seize.declared.rows.settle.Settled.TheVariants as settled
+use Rattle.papaya_histories.specs.Given.Seize.declared.rows.settle.Settling.{Settling}
+use Rattle.papaya_histories.specs.Given.Seize.declared.rows.settle.Settling.TheVariants as at
+use Rattle.papaya_histories.specs.Given.Seize.declared.states.TheConstants.{NEXT, FIRST, LAST_SLOT}
+use Rattle.papaya_histories.specs.Given.Seize.Law.{Effect, Taken}
+use Rattle.papaya_histories.specs.Given.Seize.Sequence.{IsBetween}
+use Rattle.papaya_histories.specs.Given.Seize.Settle.{settle_plan, plan_at}
+use Rattle.papaya_histories.specs.Given.Seize.World.{World, Hand, NoBlock, Making, InUse, Parting, Cutting, Handed, LeftTo, Row, Rests, Registers, Enters, Settles, Leaves, Defers, Frees, Request, Register', Enter', Leave', LeaveOwned, Refresh, Unregister', Retire, Flush, Defer', Event, Happens, Begins, Steps', handed_by, with_at, settles_on, registers_on, defers_on}
+use Rattle.papaya_histories.proofs.Given.SeizeMoves.Moves.Tries.{first_pending}
+use Rattle.papaya_histories.proofs.Given.SeizeMoves.State.Ghost.{Life, IsPending, State}
+use Rattle.papaya_histories.proofs.Given.SeizeRule.Points.Aside.{HandFits}
+use Rattle.papaya_histories.proofs.Given.SeizeRule.Points.Known.{FitsAt, Rest, FirstsOf, bare}
+use Rattle.papaya_histories.proofs.Given.SeizeRule.Rows.Known.{FitsRow}
+use Rattle.papaya_histories.proofs.Given.SeizeRule.Rows.Others.{begins_others, steps_others}
+use Rattle.papaya_histories.proofs.Given.SeizeRule.Words.Chains.{Chain, waiting}
+use Rattle.papaya_histories.proofs.Given.SeizeRule.Words.Named.{link, link-block, word_found}
+use Rattle.papaya_histories.proofs.Given.SeizeRule.Words.Shows.{lives}
+use Rattle.papaya_histories.proofs.Given.SeizeRule.Words.There.{live_pos}
+use Rattle.papaya_histories.proofs.Given.SeizeRule.Words.View.{view}
+use Rattle.papaya_histories.proofs.Given.SeizeRule.World.Kept.{row_may}
+use Rattle.papaya_histories.proofs.Given.SeizeAlone.Histories.NotTaken.{did}
+use Rattle.papaya_histories.proofs.Given.SeizeAlone.Histories.Reached.{Reached}
+use Rattle.papaya_histories.proofs.Given.Rule.World.Hands.{at_cases}
+use Rattle.papaya_histories.specs.Given.Hands.Rows.{SettlesAside, ReclaimsNone}
 use Rattle.papaya_settles.specs.Entries.{IsSomebodys, OneAt, RetiresOne}
 use Rattle.papaya_settles.proofs.EntryOps.{IsPlanApart, plan_zero}
 use Rattle.papaya_settles.proofs.EntryRows.{IsSpared, named, row_keeps_zero}

@@ -1,64 +1,64 @@
 -- What a step of a call on one key does to what it has to count.
 use Rattle.std.specs.Prelude.{◌≡◌, ◌<◌, ◌+◌, ◌%◌, ◌^◌, ℕ, Bool, true, false, bit_and, List, [], ◌∷◌, flat_map, Some, None, ◌⊎◌}
 use Rattle.std.proofs.Common.{refl, ap, sym, subst, ◌∙◌, inl, inr}
-use Rattle.seize_words.specs.declared.at.At.TheVariants.{Word}
-use Rattle.seize_words.specs.Mem.{Mem}
-use Rattle.seize_words.specs.Op.{Found, Stored as StoredOut, Exchanged, Made, Taken, Roomed}
-use Rattle.seize.specs.World.{World}
-use Rattle.papaya_tables.specs.Chunks.{is_incremental}
-use Rattle.papaya_tables.specs.Counts.{count_change}
-use Rattle.papaya_tables.specs.declared.node.Node.{Node}
-use Rattle.papaya_tables.specs.declared.setting.Setting.{Setting}
-use Rattle.papaya_resize.specs.declared.dispose.Dispose.{Dispose}
-use Rattle.papaya_raw.specs.Call.{call_plan, plan_at}
-use Rattle.papaya_raw.specs.Machine.{called as of_key}
-use Rattle.papaya_raw.specs.Progress.{of_called}
-use Rattle.papaya_raw.specs.declared.machines.answer.Called.{Called}
-use Rattle.papaya_raw.specs.declared.machines.answer.Called.TheVariants as called
-use Rattle.papaya_raw.specs.declared.machines.answer.End.{End}
-use Rattle.papaya_raw.specs.declared.machines.answer.KeyAnswer.{KeyAnswer}
-use Rattle.papaya_raw.specs.declared.machines.call.Calling.{Calling}
-use Rattle.papaya_raw.specs.declared.machines.call.Calling.TheVariants as at
-use Rattle.papaya_raw.specs.declared.machines.call.KeyCall.{KeyCall}
-use Rattle.papaya_raw.specs.declared.machines.machine.Machine.{Machine}
-use Rattle.papaya_raw.specs.declared.machines.machine.Machine.TheVariants as kinds
-use Rattle.papaya_raw.specs.declared.machines.progress.Progress.{Progress}
-use Rattle.papaya_schedules.specs.declared.effect.Effect.{Effect}
-use Rattle.papaya_schedules.specs.declared.effect.Effect.TheVariants as effect
-use Rattle.papaya_schedules.specs.Linearizable.{shift_of}
-use Rattle.papaya_schedules.specs.Moment.{Moment}
-use Rattle.papaya_teller.specs.Tells.{StepsTold}
-use Rattle.papaya_teller.specs.declared.changed.Changed.{Changed}
-use Rattle.papaya_teller.specs.declared.changed.Changed.TheVariants as changed
-use Rattle.papaya_rule.specs.Chart.{Chart}
-use Rattle.papaya_rule.specs.Words.{Blocks}
-use Rattle.papaya_rule.proofs.Laws.{current_is_known}
-use Rattle.papaya_points.specs.FactsCalls.{Change, Unchanged, Seeks, Tells, CallingFacts, Changes}
-use Rattle.papaya_points.specs.Told.{IsRowOfCall}
-use Rattle.papaya_late.specs.LateCalls.{LateCalling}
-use Rattle.papaya_callers.specs.Sights.{seen_by}
-use Rattle.papaya_callers.specs.Together.{CallOnKey, OnKey, Knows, Stands, IsOneStep, StepTold, Fresh, Late, StepsTogether, change_told, next_of, in_slot}
-use Rattle.papaya_effects.specs.Effects.{names_same, in_block, named, effects_of}
-use Rattle.papaya_effects.specs.Known.{Known}
-use Rattle.papaya_effects.specs.declared.acting.Acting.{Acting}
-use Rattle.papaya_effects.specs.declared.acting.Acting.TheVariants as acts
-use Rattle.papaya_effects.specs.declared.role.Role.{Role}
-use Rattle.papaya_executor.specs.IsAt.{Scene, IsAt, slot_of}
-use Rattle.papaya_executor.specs.Stepping.{StepLeads}
-use Rattle.papaya_executor.specs.declared.executor.Executor.{Executor}
-use Rattle.papaya_executor.proofs.Forgotten.{as_step}
-use Rattle.papaya_finishes.specs.Endings.{StepsAmong}
-use Rattle.papaya_finishes.specs.Maps.{Standing}
-use Rattle.papaya_follows.specs.Shows.{Shows}
-use Rattle.papaya_follows.specs.Steps.{TakesNone}
-use Rattle.papaya_follows.proofs.Operations.{LeavesBy, operated_leaves}
-use Rattle.papaya_follows.proofs.RowSteps.{row_done}
-use Rattle.papaya_follows.proofs.Rows.{one_step_leaves}
-use Rattle.papaya_follows.proofs.Steps.{WentTo, went_to, made_so, is_inside, DidSo, OfNoRow}
-use Rattle.papaya_hands.proofs.Done.{stepped, here}
-use Rattle.papaya_others.proofs.Outcomes.{told_in}
-use Rattle.papaya_spots.proofs.Shifts.{Shifts}
-use Rattle.papaya_spots.proofs.Steps.{moved_shifts}
+use Rattle.papaya_histories.specs.Given.SeizeWords.declared.at.At.TheVariants.{Word}
+use Rattle.papaya_histories.specs.Given.SeizeWords.Mem.{Mem}
+use Rattle.papaya_histories.specs.Given.SeizeWords.Op.{Found, Stored as StoredOut, Exchanged, Made, Taken, Roomed}
+use Rattle.papaya_histories.specs.Given.Seize.World.{World}
+use Rattle.papaya_histories.specs.Given.Tables.Chunks.{is_incremental}
+use Rattle.papaya_histories.specs.Given.Tables.Counts.{count_change}
+use Rattle.papaya_histories.specs.Given.Tables.declared.node.Node.{Node}
+use Rattle.papaya_histories.specs.Given.Tables.declared.setting.Setting.{Setting}
+use Rattle.papaya_histories.specs.Given.Resize.declared.dispose.Dispose.{Dispose}
+use Rattle.papaya_histories.specs.Given.Raw.Call.{call_plan, plan_at}
+use Rattle.papaya_histories.specs.Given.Raw.Machine.{called as of_key}
+use Rattle.papaya_histories.specs.Given.Raw.Progress.{of_called}
+use Rattle.papaya_histories.specs.Given.Raw.declared.machines.answer.Called.{Called}
+use Rattle.papaya_histories.specs.Given.Raw.declared.machines.answer.Called.TheVariants as called
+use Rattle.papaya_histories.specs.Given.Raw.declared.machines.answer.End.{End}
+use Rattle.papaya_histories.specs.Given.Raw.declared.machines.answer.KeyAnswer.{KeyAnswer}
+use Rattle.papaya_histories.specs.Given.Raw.declared.machines.call.Calling.{Calling}
+use Rattle.papaya_histories.specs.Given.Raw.declared.machines.call.Calling.TheVariants as at
+use Rattle.papaya_histories.specs.Given.Raw.declared.machines.call.KeyCall.{KeyCall}
+use Rattle.papaya_histories.specs.Given.Raw.declared.machines.machine.Machine.{Machine}
+use Rattle.papaya_histories.specs.Given.Raw.declared.machines.machine.Machine.TheVariants as kinds
+use Rattle.papaya_histories.specs.Given.Raw.declared.machines.progress.Progress.{Progress}
+use Rattle.papaya_histories.specs.Given.Schedules.declared.effect.Effect.{Effect}
+use Rattle.papaya_histories.specs.Given.Schedules.declared.effect.Effect.TheVariants as effect
+use Rattle.papaya_histories.specs.Given.Schedules.Linearizable.{shift_of}
+use Rattle.papaya_histories.specs.Given.Schedules.Moment.{Moment}
+use Rattle.papaya_histories.specs.Given.Teller.Tells.{StepsTold}
+use Rattle.papaya_histories.specs.Given.Teller.declared.changed.Changed.{Changed}
+use Rattle.papaya_histories.specs.Given.Teller.declared.changed.Changed.TheVariants as changed
+use Rattle.papaya_histories.specs.Given.Rule.Chart.{Chart}
+use Rattle.papaya_histories.specs.Given.Rule.Words.{Blocks}
+use Rattle.papaya_histories.proofs.Given.Rule.Laws.{current_is_known}
+use Rattle.papaya_histories.specs.Given.Points.FactsCalls.{Change, Unchanged, Seeks, Tells, CallingFacts, Changes}
+use Rattle.papaya_histories.specs.Given.Points.Told.{IsRowOfCall}
+use Rattle.papaya_histories.specs.Given.Late.LateCalls.{LateCalling}
+use Rattle.papaya_histories.specs.Given.Callers.Sights.{seen_by}
+use Rattle.papaya_histories.specs.Given.Callers.Together.{CallOnKey, OnKey, Knows, Stands, IsOneStep, StepTold, Fresh, Late, StepsTogether, change_told, next_of, in_slot}
+use Rattle.papaya_histories.specs.Given.Effects.Effects.{names_same, in_block, named, effects_of}
+use Rattle.papaya_histories.specs.Given.Effects.Known.{Known}
+use Rattle.papaya_histories.specs.Given.Effects.declared.acting.Acting.{Acting}
+use Rattle.papaya_histories.specs.Given.Effects.declared.acting.Acting.TheVariants as acts
+use Rattle.papaya_histories.specs.Given.Effects.declared.role.Role.{Role}
+use Rattle.papaya_histories.specs.Given.Executor.IsAt.{Scene, IsAt, slot_of}
+use Rattle.papaya_histories.specs.Given.Executor.Stepping.{StepLeads}
+use Rattle.papaya_histories.specs.Given.Executor.declared.executor.Executor.{Executor}
+use Rattle.papaya_histories.proofs.Given.Executor.Forgotten.{as_step}
+use Rattle.papaya_histories.specs.Given.Finishes.Endings.{StepsAmong}
+use Rattle.papaya_histories.specs.Given.Finishes.Maps.{Standing}
+use Rattle.papaya_histories.specs.Given.Follows.Shows.{Shows}
+use Rattle.papaya_histories.specs.Given.Follows.Steps.{TakesNone}
+use Rattle.papaya_histories.proofs.Given.Follows.Operations.{LeavesBy, operated_leaves}
+use Rattle.papaya_histories.proofs.Given.Follows.RowSteps.{row_done}
+use Rattle.papaya_histories.proofs.Given.Follows.Rows.{one_step_leaves}
+use Rattle.papaya_histories.proofs.Given.Follows.Steps.{WentTo, went_to, made_so, is_inside, DidSo, OfNoRow}
+use Rattle.papaya_histories.proofs.Given.Hands.Done.{stepped, here}
+use Rattle.papaya_histories.proofs.Given.Others.Outcomes.{told_in}
+use Rattle.papaya_histories.proofs.Given.Spots.Shifts.{Shifts}
+use Rattle.papaya_histories.proofs.Given.Spots.Steps.{moved_shifts}
 use Rattle.papaya_histories.proofs.Changes.{hands_shift}
 use Rattle.papaya_histories.proofs.Which.{DidOnce, DidNone, DidStore, DidReplace, DidRemove, did_once, none_shifted}
 use Rattle.papaya_settles.specs.Counts.{counts_in_calling, is_to_count, shard_for}

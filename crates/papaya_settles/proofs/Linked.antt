@@ -1,21 +1,21 @@
 -- Where a call on one key that is no copier comes to by its step, it has unlinked no table.
 use Rattle.std.specs.Prelude.{◌≡◌, ℕ, ◌==◌, Bool, true, false, Ok, Err, Option, Some, None}
 use Rattle.std.proofs.Common.{refl}
-use Rattle.seize_words.specs.Mem.{Mem, Took, value_at}
-use Rattle.seize_words.specs.Op.{Out, Found, Stored, Exchanged, Made, Taken, Roomed}
-use Rattle.seize_words.specs.Plan.{Steps}
-use Rattle.papaya_tables.specs.declared.node.Node.{Node}
-use Rattle.papaya_tables.specs.declared.node.Node.TheVariants as node
-use Rattle.papaya_raw.specs.Call.{plan_at}
-use Rattle.papaya_raw.specs.CallFills.{filled, putting_by, fill_by, emptied, fills_with, given_up}
-use Rattle.papaya_raw.specs.Replies.{value_for, as_own}
-use Rattle.papaya_raw.specs.declared.machines.answer.Called.{Called}
-use Rattle.papaya_raw.specs.declared.machines.asking.Asking.{Asking}
-use Rattle.papaya_raw.specs.declared.machines.asking.Asking.TheVariants as asking
-use Rattle.papaya_raw.specs.declared.machines.call.Calling.{Calling}
-use Rattle.papaya_raw.specs.declared.machines.call.Calling.TheVariants as at
-use Rattle.papaya_raw.specs.declared.machines.call.KeyCall.{KeyCall}
-use Rattle.papaya_rule.proofs.Keys.Always.{Always, AlwaysOf, always_steps}
+use Rattle.papaya_histories.specs.Given.SeizeWords.Mem.{Mem, Took, value_at}
+use Rattle.papaya_histories.specs.Given.SeizeWords.Op.{Out, Found, Stored, Exchanged, Made, Taken, Roomed}
+use Rattle.papaya_histories.specs.Given.SeizeWords.Plan.{Steps}
+use Rattle.papaya_histories.specs.Given.Tables.declared.node.Node.{Node}
+use Rattle.papaya_histories.specs.Given.Tables.declared.node.Node.TheVariants as node
+use Rattle.papaya_histories.specs.Given.Raw.Call.{plan_at}
+use Rattle.papaya_histories.specs.Given.Raw.CallFills.{filled, putting_by, fill_by, emptied, fills_with, given_up}
+use Rattle.papaya_histories.specs.Given.Raw.Replies.{value_for, as_own}
+use Rattle.papaya_histories.specs.Given.Raw.declared.machines.answer.Called.{Called}
+use Rattle.papaya_histories.specs.Given.Raw.declared.machines.asking.Asking.{Asking}
+use Rattle.papaya_histories.specs.Given.Raw.declared.machines.asking.Asking.TheVariants as asking
+use Rattle.papaya_histories.specs.Given.Raw.declared.machines.call.Calling.{Calling}
+use Rattle.papaya_histories.specs.Given.Raw.declared.machines.call.Calling.TheVariants as at
+use Rattle.papaya_histories.specs.Given.Raw.declared.machines.call.KeyCall.{KeyCall}
+use Rattle.papaya_histories.proofs.Given.Rule.Keys.Always.{Always, AlwaysOf, always_steps}
 use Rattle.papaya_alone.specs.Handed.{call_has_unlinked}
 use Rattle.papaya_alone.proofs.Handed.Fresh.{IsFreshAt, call_fresh}
 use Rattle.papaya_settles.proofs.Fresh.{IsBefore}

@@ -1,43 +1,43 @@
 -- Which machines are about to count after a step: none but those that have just changed their map.
 use Rattle.std.specs.Prelude.{◌==◌, ◌&&◌, if◌then◌else◌}
 use Rattle.std.proofs.Common.{◌≡◌, ℕ, Bool, true, false, refl, ap}
-use Rattle.seize_words.specs.Mem.{Mem, Took, value_at}
-use Rattle.seize_words.specs.Op.{Out, Found, Stored, Exchanged, Made, Taken, Roomed}
-use Rattle.seize_words.specs.Plan.{Steps}
-use Rattle.seize_words.specs.Word.{block_in}
-use Rattle.seize.specs.declared.rows.settle.Settled.{Settled}
-use Rattle.seize.specs.declared.rows.settle.Settled.TheVariants as settled
-use Rattle.papaya_tables.specs.Chunks.{is_incremental}
-use Rattle.papaya_tables.specs.Marks.{has_mark}
-use Rattle.papaya_tables.specs.declared.marks.TheConstants.{COPYING}
-use Rattle.papaya_tables.specs.declared.node.Node.{Node}
-use Rattle.papaya_tables.specs.declared.table.Table.{Table}
-use Rattle.papaya_resize.specs.Copier.{copier_plan}
-use Rattle.papaya_resize.specs.Dispose.{dispose_plan}
-use Rattle.papaya_resize.specs.declared.copier.Copier.{Copier}
-use Rattle.papaya_resize.specs.declared.dispose.Dispose.{Dispose}
-use Rattle.papaya_resize.specs.declared.outcome.Outcome.{Outcome}
-use Rattle.papaya_resize.specs.declared.outcome.Outcome.TheVariants as outcome
-use Rattle.papaya_sweeps.specs.Sweep as sweeps
-use Rattle.papaya_sweeps.specs.Sweep.{sweep_plan}
-use Rattle.papaya_sweeps.specs.SweepPoints as points
-use Rattle.papaya_sweeps.specs.declared.sweep.Purpose.{Purpose}
-use Rattle.papaya_sweeps.specs.declared.sweep.Purpose.TheVariants.{Walks, Clears, Retains}
-use Rattle.papaya_sweeps.specs.declared.sweep.Sweep.{Sweep}
-use Rattle.papaya_sweeps.specs.declared.sweep.Sweeping.{Sweeping}
-use Rattle.papaya_sweeps.specs.declared.sweep.Sweeping.TheVariants as sweeping
-use Rattle.papaya_sweeps.specs.declared.sweep.Swept.{Swept}
-use Rattle.papaya_raw.specs.Call.{disposed, helped, copied, plan_at, call_plan}
-use Rattle.papaya_raw.specs.CallPoints.{going, over, ending, counted}
-use Rattle.papaya_raw.specs.declared.machines.answer.Called.{Called}
-use Rattle.papaya_raw.specs.declared.machines.answer.End.{End}
-use Rattle.papaya_raw.specs.declared.machines.answer.End.TheVariants as ends
-use Rattle.papaya_raw.specs.declared.machines.answer.KeyAnswer.{KeyAnswer}
-use Rattle.papaya_raw.specs.declared.machines.answer.KeyAnswer.TheVariants as answers
-use Rattle.papaya_raw.specs.declared.machines.call.Calling.{Calling}
-use Rattle.papaya_raw.specs.declared.machines.call.Calling.TheVariants as at
-use Rattle.papaya_raw.specs.declared.machines.call.KeyCall.{KeyCall}
-use Rattle.papaya_rule.proofs.Keys.Always.{Always, AlwaysOf, always_if, always_plan_as, always_steps}
+use Rattle.papaya_histories.specs.Given.SeizeWords.Mem.{Mem, Took, value_at}
+use Rattle.papaya_histories.specs.Given.SeizeWords.Op.{Out, Found, Stored, Exchanged, Made, Taken, Roomed}
+use Rattle.papaya_histories.specs.Given.SeizeWords.Plan.{Steps}
+use Rattle.papaya_histories.specs.Given.SeizeWords.Word.{block_in}
+use Rattle.papaya_histories.specs.Given.Seize.declared.rows.settle.Settled.{Settled}
+use Rattle.papaya_histories.specs.Given.Seize.declared.rows.settle.Settled.TheVariants as settled
+use Rattle.papaya_histories.specs.Given.Tables.Chunks.{is_incremental}
+use Rattle.papaya_histories.specs.Given.Tables.Marks.{has_mark}
+use Rattle.papaya_histories.specs.Given.Tables.declared.marks.TheConstants.{COPYING}
+use Rattle.papaya_histories.specs.Given.Tables.declared.node.Node.{Node}
+use Rattle.papaya_histories.specs.Given.Tables.declared.table.Table.{Table}
+use Rattle.papaya_histories.specs.Given.Resize.Copier.{copier_plan}
+use Rattle.papaya_histories.specs.Given.Resize.Dispose.{dispose_plan}
+use Rattle.papaya_histories.specs.Given.Resize.declared.copier.Copier.{Copier}
+use Rattle.papaya_histories.specs.Given.Resize.declared.dispose.Dispose.{Dispose}
+use Rattle.papaya_histories.specs.Given.Resize.declared.outcome.Outcome.{Outcome}
+use Rattle.papaya_histories.specs.Given.Resize.declared.outcome.Outcome.TheVariants as outcome
+use Rattle.papaya_histories.specs.Given.Sweeps.Sweep as sweeps
+use Rattle.papaya_histories.specs.Given.Sweeps.Sweep.{sweep_plan}
+use Rattle.papaya_histories.specs.Given.Sweeps.SweepPoints as points
+use Rattle.papaya_histories.specs.Given.Sweeps.declared.sweep.Purpose.{Purpose}
+use Rattle.papaya_histories.specs.Given.Sweeps.declared.sweep.Purpose.TheVariants.{Walks, Clears, Retains}
+use Rattle.papaya_histories.specs.Given.Sweeps.declared.sweep.Sweep.{Sweep}
+use Rattle.papaya_histories.specs.Given.Sweeps.declared.sweep.Sweeping.{Sweeping}
+use Rattle.papaya_histories.specs.Given.Sweeps.declared.sweep.Sweeping.TheVariants as sweeping
+use Rattle.papaya_histories.specs.Given.Sweeps.declared.sweep.Swept.{Swept}
+use Rattle.papaya_histories.specs.Given.Raw.Call.{disposed, helped, copied, plan_at, call_plan}
+use Rattle.papaya_histories.specs.Given.Raw.CallPoints.{going, over, ending, counted}
+use Rattle.papaya_histories.specs.Given.Raw.declared.machines.answer.Called.{Called}
+use Rattle.papaya_histories.specs.Given.Raw.declared.machines.answer.End.{End}
+use Rattle.papaya_histories.specs.Given.Raw.declared.machines.answer.End.TheVariants as ends
+use Rattle.papaya_histories.specs.Given.Raw.declared.machines.answer.KeyAnswer.{KeyAnswer}
+use Rattle.papaya_histories.specs.Given.Raw.declared.machines.answer.KeyAnswer.TheVariants as answers
+use Rattle.papaya_histories.specs.Given.Raw.declared.machines.call.Calling.{Calling}
+use Rattle.papaya_histories.specs.Given.Raw.declared.machines.call.Calling.TheVariants as at
+use Rattle.papaya_histories.specs.Given.Raw.declared.machines.call.KeyCall.{KeyCall}
+use Rattle.papaya_histories.proofs.Given.Rule.Keys.Always.{Always, AlwaysOf, always_if, always_plan_as, always_steps}
 use Rattle.papaya_settles.specs.Counts.{counts_in_calling, counts_in_sweeping}
 
 -- by where it stood: it has counted, or is past that, or it copies

@@ -1,77 +1,77 @@
 -- What a step of a reservation, of a counting and of a sweep does to what it has to count.
 use Rattle.std.specs.Prelude.{◌≡◌, ◌<◌, ◌+◌, ◌%◌, ◌^◌, ℕ, Bool, true, false, bit_and, List, [], ◌∷◌, flat_map, Some, None, Ok, Err}
 use Rattle.std.proofs.Common.{refl, ap, sym, subst, ◌∙◌, arith, inl, inr}
-use Rattle.seize_words.specs.declared.at.At.{At}
-use Rattle.seize_words.specs.declared.at.At.TheVariants.{Word}
-use Rattle.seize_words.specs.Mem.{Mem}
-use Rattle.seize_words.specs.Op.{Found, Stored as StoredOut, Exchanged, Made, Taken, Roomed}
-use Rattle.seize_words.specs.Word.{block_in}
-use Rattle.seize.specs.World.{World}
-use Rattle.papaya_tables.specs.Chunks.{is_incremental}
-use Rattle.papaya_tables.specs.Counts.{count_change}
-use Rattle.papaya_tables.specs.TablePlaces.{at_place}
-use Rattle.papaya_tables.specs.declared.marks.TheConstants.{TOMBSTONE}
-use Rattle.papaya_tables.specs.declared.node.Node.{Node}
-use Rattle.papaya_tables.specs.declared.setting.Setting.{Setting}
-use Rattle.papaya_tables.specs.declared.table.Table.{Table}
-use Rattle.papaya_tables.specs.declared.table_words.TheConstants.{PLACES}
-use Rattle.papaya_resize.specs.Sum.{sum_plan}
-use Rattle.papaya_resize.specs.declared.sum.Sum.{Sum}
-use Rattle.papaya_reserves.specs.Reserve.{reserve_plan}
-use Rattle.papaya_sweeps.specs.Sweep.{sweep_plan}
-use Rattle.papaya_sweeps.specs.Sweep as sweeps
-use Rattle.papaya_sweeps.specs.declared.sweep.Sweep.{Sweep}
-use Rattle.papaya_sweeps.specs.declared.sweep.Sweeping.{Sweeping}
-use Rattle.papaya_sweeps.specs.declared.sweep.Sweeping.TheVariants as sweeping
-use Rattle.papaya_sweeps.specs.declared.sweep.Swept.{Swept}
-use Rattle.papaya_sweeps.specs.declared.sweep.Swept.TheVariants as swept
-use Rattle.papaya_raw.specs.Machine.{reserved as of_room, swept as of_sweep, counted as of_sum}
-use Rattle.papaya_raw.specs.Progress.{of_swept}
-use Rattle.papaya_raw.specs.declared.machines.machine.Machine.{Machine}
-use Rattle.papaya_raw.specs.declared.machines.machine.Machine.TheVariants as kinds
-use Rattle.papaya_raw.specs.declared.machines.progress.Progress.{Progress}
-use Rattle.papaya_schedules.specs.declared.effect.Effect.{Effect}
-use Rattle.papaya_schedules.specs.declared.effect.Effect.TheVariants as effect
-use Rattle.papaya_schedules.specs.Linearizable.{shift_of}
-use Rattle.papaya_schedules.specs.Moment.{Moment}
-use Rattle.papaya_teller.specs.Tells.{StepsTold}
-use Rattle.papaya_teller.specs.declared.changed.Changed.{Changed}
-use Rattle.papaya_teller.specs.declared.changed.Changed.TheVariants as changed
-use Rattle.papaya_rule.specs.Chart.{Still, Chart}
-use Rattle.papaya_rule.specs.Words.{Blocks, byte_of}
-use Rattle.papaya_rule.proofs.Laws.{current_is_known, words_name_pairs, bytes_are_few}
-use Rattle.papaya_rule.proofs.Words.WritesWords.{at_place_block}
-use Rattle.papaya_points.specs.FactsCalls.{Unchanged}
-use Rattle.papaya_late.specs.FactsSweeps.{SweepingFacts}
-use Rattle.papaya_late.specs.ToldSweeps.{IsRowOfSweep}
-use Rattle.papaya_callers.specs.OverAll.{CallOverAll}
-use Rattle.papaya_callers.specs.Rooms.{CallForRoom}
-use Rattle.papaya_callers.specs.Sights.{seen_by, IsSight}
-use Rattle.papaya_callers.specs.Together.{UnderWay, ForRoom, Counting, OverAll, IsOneStep, Together, next_over_all, in_slot}
-use Rattle.papaya_effects.specs.Effects.{names_same, in_block, named, effects_of}
-use Rattle.papaya_effects.specs.Known.{Known}
-use Rattle.papaya_effects.specs.declared.acting.Acting.{Acting}
-use Rattle.papaya_effects.specs.declared.acting.Acting.TheVariants as acts
-use Rattle.papaya_effects.specs.declared.role.Role.{Role}
-use Rattle.papaya_effects.specs.declared.role.Role.TheVariants as role
-use Rattle.papaya_executor.specs.IsAt.{Scene, IsAt, slot_of}
-use Rattle.papaya_executor.specs.Stepping.{StepsFrom, StepLeads}
-use Rattle.papaya_executor.specs.declared.executor.Executor.{Executor}
-use Rattle.papaya_executor.proofs.Forgotten.{as_step}
-use Rattle.papaya_finishes.specs.Machines.{machine_of}
-use Rattle.papaya_finishes.specs.Maps.{Standing}
-use Rattle.papaya_finishes.specs.Sweeps.{SweepStepsAmong}
-use Rattle.papaya_follows.specs.Maps.{table_of}
-use Rattle.papaya_follows.specs.Shows.{Shows}
-use Rattle.papaya_follows.specs.Steps.{TakesNone}
-use Rattle.papaya_follows.proofs.Operations.{LeavesBy, operated_leaves}
-use Rattle.papaya_follows.proofs.RowSteps.{row_done}
-use Rattle.papaya_follows.proofs.Rows.{one_step_leaves}
-use Rattle.papaya_follows.proofs.Steps.{WentTo, went_to, made_so, is_inside, DidSo, OfNoRow}
-use Rattle.papaya_follows.proofs.Writes.{nothing_free, place_says}
-use Rattle.papaya_others.proofs.Outcomes.{told_in}
-use Rattle.papaya_spots.proofs.Shifts.{calm_shifts, Shifts}
-use Rattle.papaya_spots.proofs.Steps.{moved_shifts, stayed_calm}
+use Rattle.papaya_histories.specs.Given.SeizeWords.declared.at.At.{At}
+use Rattle.papaya_histories.specs.Given.SeizeWords.declared.at.At.TheVariants.{Word}
+use Rattle.papaya_histories.specs.Given.SeizeWords.Mem.{Mem}
+use Rattle.papaya_histories.specs.Given.SeizeWords.Op.{Found, Stored as StoredOut, Exchanged, Made, Taken, Roomed}
+use Rattle.papaya_histories.specs.Given.SeizeWords.Word.{block_in}
+use Rattle.papaya_histories.specs.Given.Seize.World.{World}
+use Rattle.papaya_histories.specs.Given.Tables.Chunks.{is_incremental}
+use Rattle.papaya_histories.specs.Given.Tables.Counts.{count_change}
+use Rattle.papaya_histories.specs.Given.Tables.TablePlaces.{at_place}
+use Rattle.papaya_histories.specs.Given.Tables.declared.marks.TheConstants.{TOMBSTONE}
+use Rattle.papaya_histories.specs.Given.Tables.declared.node.Node.{Node}
+use Rattle.papaya_histories.specs.Given.Tables.declared.setting.Setting.{Setting}
+use Rattle.papaya_histories.specs.Given.Tables.declared.table.Table.{Table}
+use Rattle.papaya_histories.specs.Given.Tables.declared.table_words.TheConstants.{PLACES}
+use Rattle.papaya_histories.specs.Given.Resize.Sum.{sum_plan}
+use Rattle.papaya_histories.specs.Given.Resize.declared.sum.Sum.{Sum}
+use Rattle.papaya_histories.specs.Given.Reserves.Reserve.{reserve_plan}
+use Rattle.papaya_histories.specs.Given.Sweeps.Sweep.{sweep_plan}
+use Rattle.papaya_histories.specs.Given.Sweeps.Sweep as sweeps
+use Rattle.papaya_histories.specs.Given.Sweeps.declared.sweep.Sweep.{Sweep}
+use Rattle.papaya_histories.specs.Given.Sweeps.declared.sweep.Sweeping.{Sweeping}
+use Rattle.papaya_histories.specs.Given.Sweeps.declared.sweep.Sweeping.TheVariants as sweeping
+use Rattle.papaya_histories.specs.Given.Sweeps.declared.sweep.Swept.{Swept}
+use Rattle.papaya_histories.specs.Given.Sweeps.declared.sweep.Swept.TheVariants as swept
+use Rattle.papaya_histories.specs.Given.Raw.Machine.{reserved as of_room, swept as of_sweep, counted as of_sum}
+use Rattle.papaya_histories.specs.Given.Raw.Progress.{of_swept}
+use Rattle.papaya_histories.specs.Given.Raw.declared.machines.machine.Machine.{Machine}
+use Rattle.papaya_histories.specs.Given.Raw.declared.machines.machine.Machine.TheVariants as kinds
+use Rattle.papaya_histories.specs.Given.Raw.declared.machines.progress.Progress.{Progress}
+use Rattle.papaya_histories.specs.Given.Schedules.declared.effect.Effect.{Effect}
+use Rattle.papaya_histories.specs.Given.Schedules.declared.effect.Effect.TheVariants as effect
+use Rattle.papaya_histories.specs.Given.Schedules.Linearizable.{shift_of}
+use Rattle.papaya_histories.specs.Given.Schedules.Moment.{Moment}
+use Rattle.papaya_histories.specs.Given.Teller.Tells.{StepsTold}
+use Rattle.papaya_histories.specs.Given.Teller.declared.changed.Changed.{Changed}
+use Rattle.papaya_histories.specs.Given.Teller.declared.changed.Changed.TheVariants as changed
+use Rattle.papaya_histories.specs.Given.Rule.Chart.{Still, Chart}
+use Rattle.papaya_histories.specs.Given.Rule.Words.{Blocks, byte_of}
+use Rattle.papaya_histories.proofs.Given.Rule.Laws.{current_is_known, words_name_pairs, bytes_are_few}
+use Rattle.papaya_histories.proofs.Given.Rule.Words.WritesWords.{at_place_block}
+use Rattle.papaya_histories.specs.Given.Points.FactsCalls.{Unchanged}
+use Rattle.papaya_histories.specs.Given.Late.FactsSweeps.{SweepingFacts}
+use Rattle.papaya_histories.specs.Given.Late.ToldSweeps.{IsRowOfSweep}
+use Rattle.papaya_histories.specs.Given.Callers.OverAll.{CallOverAll}
+use Rattle.papaya_histories.specs.Given.Callers.Rooms.{CallForRoom}
+use Rattle.papaya_histories.specs.Given.Callers.Sights.{seen_by, IsSight}
+use Rattle.papaya_histories.specs.Given.Callers.Together.{UnderWay, ForRoom, Counting, OverAll, IsOneStep, Together, next_over_all, in_slot}
+use Rattle.papaya_histories.specs.Given.Effects.Effects.{names_same, in_block, named, effects_of}
+use Rattle.papaya_histories.specs.Given.Effects.Known.{Known}
+use Rattle.papaya_histories.specs.Given.Effects.declared.acting.Acting.{Acting}
+use Rattle.papaya_histories.specs.Given.Effects.declared.acting.Acting.TheVariants as acts
+use Rattle.papaya_histories.specs.Given.Effects.declared.role.Role.{Role}
+use Rattle.papaya_histories.specs.Given.Effects.declared.role.Role.TheVariants as role
+use Rattle.papaya_histories.specs.Given.Executor.IsAt.{Scene, IsAt, slot_of}
+use Rattle.papaya_histories.specs.Given.Executor.Stepping.{StepsFrom, StepLeads}
+use Rattle.papaya_histories.specs.Given.Executor.declared.executor.Executor.{Executor}
+use Rattle.papaya_histories.proofs.Given.Executor.Forgotten.{as_step}
+use Rattle.papaya_histories.specs.Given.Finishes.Machines.{machine_of}
+use Rattle.papaya_histories.specs.Given.Finishes.Maps.{Standing}
+use Rattle.papaya_histories.specs.Given.Finishes.Sweeps.{SweepStepsAmong}
+use Rattle.papaya_histories.specs.Given.Follows.Maps.{table_of}
+use Rattle.papaya_histories.specs.Given.Follows.Shows.{Shows}
+use Rattle.papaya_histories.specs.Given.Follows.Steps.{TakesNone}
+use Rattle.papaya_histories.proofs.Given.Follows.Operations.{LeavesBy, operated_leaves}
+use Rattle.papaya_histories.proofs.Given.Follows.RowSteps.{row_done}
+use Rattle.papaya_histories.proofs.Given.Follows.Rows.{one_step_leaves}
+use Rattle.papaya_histories.proofs.Given.Follows.Steps.{WentTo, went_to, made_so, is_inside, DidSo, OfNoRow}
+use Rattle.papaya_histories.proofs.Given.Follows.Writes.{nothing_free, place_says}
+use Rattle.papaya_histories.proofs.Given.Others.Outcomes.{told_in}
+use Rattle.papaya_histories.proofs.Given.Spots.Shifts.{calm_shifts, Shifts}
+use Rattle.papaya_histories.proofs.Given.Spots.Steps.{moved_shifts, stayed_calm}
 use Rattle.papaya_histories.proofs.Changes.{hands_shift}
 use Rattle.papaya_histories.proofs.Which.{did_once, none_shifted}
 use Rattle.papaya_settles.specs.Counts.{counts_in_sweeping, is_to_count, shard_for}

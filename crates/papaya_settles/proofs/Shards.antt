@@ -2,19 +2,19 @@
 use Rattle.std.specs.Prelude.{◌≡◌, ℕ, ◌+◌, ◌-◌, ◌%◌, ◌^◌, Bool, true, false, nat_le, bit_and, List, [], ◌∷◌, Option, Some, if◌then◌else◌}
 use Rattle.std.proofs.Common.{arith, refl, ap, sym, subst, ◌∙◌}
 use Rattle.std.proofs.lemmas.Nat.{and_mask}
-use Rattle.papaya_tables.specs.Powers.{floor_log2, next_power}
-use Rattle.papaya_runs.specs.Present.{slot_of_guard}
-use Rattle.papaya_schedules.specs.declared.call.Call.{Call}
-use Rattle.papaya_schedules.specs.declared.call.Call.TheVariants as call
-use Rattle.papaya_schedules.specs.declared.effect.Effect.{Effect}
-use Rattle.papaya_schedules.specs.declared.effect.Effect.TheVariants as effect
-use Rattle.papaya_schedules.specs.Effects.{call_by, due_for, with_effect, AtEachEffect}
-use Rattle.papaya_schedules.specs.Entry.{ByCall, acting}
-use Rattle.papaya_schedules.specs.Lives.{CallFinds}
-use Rattle.papaya_schedules.specs.Moment.{UnderWay as CallThere, Moment}
-use Rattle.papaya_schedules.specs.Terms.{shards_of}
-use Rattle.papaya_schedules.specs.Views.{call_of}
-use Rattle.papaya_executor.specs.IsAt.{slot_of}
+use Rattle.papaya_histories.specs.Given.Tables.Powers.{floor_log2, next_power}
+use Rattle.papaya_histories.specs.Given.Runs.Present.{slot_of_guard}
+use Rattle.papaya_histories.specs.Given.Schedules.declared.call.Call.{Call}
+use Rattle.papaya_histories.specs.Given.Schedules.declared.call.Call.TheVariants as call
+use Rattle.papaya_histories.specs.Given.Schedules.declared.effect.Effect.{Effect}
+use Rattle.papaya_histories.specs.Given.Schedules.declared.effect.Effect.TheVariants as effect
+use Rattle.papaya_histories.specs.Given.Schedules.Effects.{call_by, due_for, with_effect, AtEachEffect}
+use Rattle.papaya_histories.specs.Given.Schedules.Entry.{ByCall, acting}
+use Rattle.papaya_histories.specs.Given.Schedules.Lives.{CallFinds}
+use Rattle.papaya_histories.specs.Given.Schedules.Moment.{UnderWay as CallThere, Moment}
+use Rattle.papaya_histories.specs.Given.Schedules.Terms.{shards_of}
+use Rattle.papaya_histories.specs.Given.Schedules.Views.{call_of}
+use Rattle.papaya_histories.specs.Given.Executor.IsAt.{slot_of}
 use Rattle.papaya_histories.proofs.Changes.{acted_on}
 use Rattle.papaya_settles.specs.Counts.{FindsCount, FindCounts, shard_for}
 use Rattle.papaya_settles.specs.Shards.{is_counting, CountsFindShards}

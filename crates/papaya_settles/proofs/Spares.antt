@@ -1,36 +1,36 @@
 -- The steps of reservations and of sweeps write no root that names a table, but the exchange that promotes one.
 use Rattle.std.specs.Prelude.{◌≡◌, ℕ, Bool, false}
 use Rattle.std.proofs.Common.{refl, inl}
-use Rattle.seize_words.specs.Plan.{Plan, Turn, Do, plan_as}
-use Rattle.papaya_tables.specs.declared.node.Node.{Node}
-use Rattle.papaya_tables.specs.declared.setting.Setting.{Setting}
-use Rattle.papaya_resize.specs.Copier.{plan_at as copier_plan_at}
-use Rattle.papaya_resize.specs.Dispose.{dispose_plan}
-use Rattle.papaya_resize.specs.NewTable.{new_table_plan}
-use Rattle.papaya_resize.specs.Sum.{plan_at as sum_plan_at, sum_plan}
-use Rattle.papaya_resize.specs.declared.dispose.Dispose.{Dispose}
-use Rattle.papaya_resize.specs.declared.new_table.NewTable.{NewTable}
-use Rattle.papaya_resize.specs.declared.sum.Sum.{Sum}
-use Rattle.papaya_resize.specs.declared.sum.Summing.{Summing}
-use Rattle.papaya_resize.specs.declared.sum.Summing.TheVariants as sums
-use Rattle.papaya_reserves.specs.Reserve as reserves
-use Rattle.papaya_reserves.specs.declared.reserve.Reserve.{Reserve}
-use Rattle.papaya_reserves.specs.declared.reserve.Reserving.{Reserving}
-use Rattle.papaya_reserves.specs.declared.reserve.Reserving.TheVariants as reserving
-use Rattle.papaya_sweeps.specs.Sweep as sweeps
-use Rattle.papaya_sweeps.specs.declared.sweep.Sweep.{Sweep}
-use Rattle.papaya_sweeps.specs.declared.sweep.Sweeping.{Sweeping}
-use Rattle.papaya_sweeps.specs.declared.sweep.Sweeping.TheVariants as sweeping
-use Rattle.papaya_raw.specs.Call.{first_made, disposed}
-use Rattle.papaya_raw.specs.CallPoints.{getting}
-use Rattle.papaya_raw.specs.declared.machines.answer.KeyAnswer.TheVariants as answers
-use Rattle.papaya_raw.specs.declared.machines.call.KeyCall.{KeyCall}
-use Rattle.papaya_raw.specs.declared.machines.call.Calling.TheVariants as at
-use Rattle.papaya_rule.proofs.World.RootSpared.{PlanSparesRoot, spares_as}
-use Rattle.papaya_points.specs.Told.{IsRowOf}
-use Rattle.papaya_points.proofs.Steps.RootSteps.{is_promoting, spares_copier, spares_call}
-use Rattle.papaya_late.specs.ToldReserves.{IsRowOfReserve}
-use Rattle.papaya_late.specs.ToldSweeps.{IsRowOfSweep}
+use Rattle.papaya_histories.specs.Given.SeizeWords.Plan.{Plan, Turn, Do, plan_as}
+use Rattle.papaya_histories.specs.Given.Tables.declared.node.Node.{Node}
+use Rattle.papaya_histories.specs.Given.Tables.declared.setting.Setting.{Setting}
+use Rattle.papaya_histories.specs.Given.Resize.Copier.{plan_at as copier_plan_at}
+use Rattle.papaya_histories.specs.Given.Resize.Dispose.{dispose_plan}
+use Rattle.papaya_histories.specs.Given.Resize.NewTable.{new_table_plan}
+use Rattle.papaya_histories.specs.Given.Resize.Sum.{plan_at as sum_plan_at, sum_plan}
+use Rattle.papaya_histories.specs.Given.Resize.declared.dispose.Dispose.{Dispose}
+use Rattle.papaya_histories.specs.Given.Resize.declared.new_table.NewTable.{NewTable}
+use Rattle.papaya_histories.specs.Given.Resize.declared.sum.Sum.{Sum}
+use Rattle.papaya_histories.specs.Given.Resize.declared.sum.Summing.{Summing}
+use Rattle.papaya_histories.specs.Given.Resize.declared.sum.Summing.TheVariants as sums
+use Rattle.papaya_histories.specs.Given.Reserves.Reserve as reserves
+use Rattle.papaya_histories.specs.Given.Reserves.declared.reserve.Reserve.{Reserve}
+use Rattle.papaya_histories.specs.Given.Reserves.declared.reserve.Reserving.{Reserving}
+use Rattle.papaya_histories.specs.Given.Reserves.declared.reserve.Reserving.TheVariants as reserving
+use Rattle.papaya_histories.specs.Given.Sweeps.Sweep as sweeps
+use Rattle.papaya_histories.specs.Given.Sweeps.declared.sweep.Sweep.{Sweep}
+use Rattle.papaya_histories.specs.Given.Sweeps.declared.sweep.Sweeping.{Sweeping}
+use Rattle.papaya_histories.specs.Given.Sweeps.declared.sweep.Sweeping.TheVariants as sweeping
+use Rattle.papaya_histories.specs.Given.Raw.Call.{first_made, disposed}
+use Rattle.papaya_histories.specs.Given.Raw.CallPoints.{getting}
+use Rattle.papaya_histories.specs.Given.Raw.declared.machines.answer.KeyAnswer.TheVariants as answers
+use Rattle.papaya_histories.specs.Given.Raw.declared.machines.call.KeyCall.{KeyCall}
+use Rattle.papaya_histories.specs.Given.Raw.declared.machines.call.Calling.TheVariants as at
+use Rattle.papaya_histories.proofs.Given.Rule.World.RootSpared.{PlanSparesRoot, spares_as}
+use Rattle.papaya_histories.specs.Given.Points.Told.{IsRowOf}
+use Rattle.papaya_histories.proofs.Given.Points.Steps.RootSteps.{is_promoting, spares_copier, spares_call}
+use Rattle.papaya_histories.specs.Given.Late.ToldReserves.{IsRowOfReserve}
+use Rattle.papaya_histories.specs.Given.Late.ToldSweeps.{IsRowOfSweep}
 
 -- it is to exchange the root
 abbrev pub room_is_promoting : Reserving → Bool

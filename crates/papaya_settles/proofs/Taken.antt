@@ -1,52 +1,52 @@
 -- A call on one key that has just taken a pair out of its map has that in hand.
 use Rattle.std.specs.Prelude.{◌≡◌, ℕ, ◌<◌, ◌==◌, Bool, true, false, List, [], flat_map, Some, None, if◌then◌else◌}
 use Rattle.std.proofs.Common.{refl, ap, sym, subst, ◌∙◌, inl, inr, eqb-true}
-use Rattle.seize_words.specs.Word.{block_in}
-use Rattle.seize.specs.World.{World}
-use Rattle.seize_rule.proofs.Words.Named.{link-block}
-use Rattle.papaya_tables.specs.Chunks.{is_incremental}
-use Rattle.papaya_tables.specs.Marks.{link_in, has_mark}
-use Rattle.papaya_tables.specs.declared.marks.TheConstants.{BORROWED}
-use Rattle.papaya_tables.specs.declared.node.Node.{Node}
-use Rattle.papaya_tables.specs.declared.resize_mode.ResizeMode.{ResizeMode}
-use Rattle.papaya_tables.specs.declared.resize_mode.ResizeMode.TheVariants.{Incremental, Blocking}
-use Rattle.papaya_tables.specs.declared.setting.Setting.{Setting}
-use Rattle.papaya_tables.specs.declared.table.Table.{Table}
-use Rattle.papaya_resize.specs.Dispose.{start_of}
-use Rattle.papaya_resize.specs.declared.dispose.Dispose.{Dispose}
-use Rattle.papaya_raw.specs.declared.machines.answer.Called.{Called}
-use Rattle.papaya_raw.specs.declared.machines.answer.Called.TheVariants as called
-use Rattle.papaya_raw.specs.declared.machines.answer.KeyAnswer.TheVariants as answers
-use Rattle.papaya_raw.specs.declared.machines.call.Calling.{Calling}
-use Rattle.papaya_raw.specs.declared.machines.call.Calling.TheVariants as at
-use Rattle.papaya_raw.specs.declared.machines.call.KeyCall.{KeyCall}
-use Rattle.papaya_raw.specs.declared.machines.machine.Machine.TheVariants as kinds
-use Rattle.papaya_raw.specs.declared.machines.progress.Progress.{Progress}
-use Rattle.papaya_raw.specs.Progress.{of_called}
-use Rattle.papaya_schedules.specs.declared.effect.Effect.{Effect}
-use Rattle.papaya_schedules.specs.Linearizable.{shift_of}
-use Rattle.papaya_schedules.specs.Moment.{Moment}
-use Rattle.papaya_teller.specs.declared.changed.Changed.{Changed}
-use Rattle.papaya_rule.specs.Chart.{Phase, Still, Holds, Chart}
-use Rattle.papaya_rule.specs.Words.{Blocks, byte_of, place_word}
-use Rattle.papaya_rule.proofs.Laws.{current_is_known, words_name_pairs, bytes_are_few}
-use Rattle.papaya_points.specs.FactsCalls.{Change, Unchanged, Stored, Replaced, Removed, Seeks, Tells, CallingFacts}
-use Rattle.papaya_callers.specs.Rows.{past_row, once_over}
-use Rattle.papaya_callers.specs.Sights.{seen_by}
-use Rattle.papaya_callers.specs.Together.{CallOnKey, OnKey, Stands, change_told, in_slot}
-use Rattle.papaya_effects.specs.Effects.{effects_of}
-use Rattle.papaya_effects.specs.Known.{Known}
-use Rattle.papaya_effects.specs.declared.acting.Acting.TheVariants as acts
-use Rattle.papaya_effects.specs.declared.role.Role.TheVariants as role
-use Rattle.papaya_executor.specs.IsAt.{Scene, IsAt, slot_of}
-use Rattle.papaya_executor.specs.Stepping.{StepLeads}
-use Rattle.papaya_executor.specs.declared.executor.Executor.{Executor}
-use Rattle.papaya_finishes.specs.Endings.{StepsAmong}
-use Rattle.papaya_finishes.specs.Maps.{Standing}
-use Rattle.papaya_follows.specs.Shows.{Shows}
-use Rattle.papaya_follows.proofs.Steps.{WentTo, went_to, DidSo, OfNoRow}
-use Rattle.papaya_follows.proofs.Writes.{nothing_free}
-use Rattle.papaya_hands.proofs.Done.{stepped, here}
+use Rattle.papaya_histories.specs.Given.SeizeWords.Word.{block_in}
+use Rattle.papaya_histories.specs.Given.Seize.World.{World}
+use Rattle.papaya_histories.proofs.Given.SeizeRule.Words.Named.{link-block}
+use Rattle.papaya_histories.specs.Given.Tables.Chunks.{is_incremental}
+use Rattle.papaya_histories.specs.Given.Tables.Marks.{link_in, has_mark}
+use Rattle.papaya_histories.specs.Given.Tables.declared.marks.TheConstants.{BORROWED}
+use Rattle.papaya_histories.specs.Given.Tables.declared.node.Node.{Node}
+use Rattle.papaya_histories.specs.Given.Tables.declared.resize_mode.ResizeMode.{ResizeMode}
+use Rattle.papaya_histories.specs.Given.Tables.declared.resize_mode.ResizeMode.TheVariants.{Incremental, Blocking}
+use Rattle.papaya_histories.specs.Given.Tables.declared.setting.Setting.{Setting}
+use Rattle.papaya_histories.specs.Given.Tables.declared.table.Table.{Table}
+use Rattle.papaya_histories.specs.Given.Resize.Dispose.{start_of}
+use Rattle.papaya_histories.specs.Given.Resize.declared.dispose.Dispose.{Dispose}
+use Rattle.papaya_histories.specs.Given.Raw.declared.machines.answer.Called.{Called}
+use Rattle.papaya_histories.specs.Given.Raw.declared.machines.answer.Called.TheVariants as called
+use Rattle.papaya_histories.specs.Given.Raw.declared.machines.answer.KeyAnswer.TheVariants as answers
+use Rattle.papaya_histories.specs.Given.Raw.declared.machines.call.Calling.{Calling}
+use Rattle.papaya_histories.specs.Given.Raw.declared.machines.call.Calling.TheVariants as at
+use Rattle.papaya_histories.specs.Given.Raw.declared.machines.call.KeyCall.{KeyCall}
+use Rattle.papaya_histories.specs.Given.Raw.declared.machines.machine.Machine.TheVariants as kinds
+use Rattle.papaya_histories.specs.Given.Raw.declared.machines.progress.Progress.{Progress}
+use Rattle.papaya_histories.specs.Given.Raw.Progress.{of_called}
+use Rattle.papaya_histories.specs.Given.Schedules.declared.effect.Effect.{Effect}
+use Rattle.papaya_histories.specs.Given.Schedules.Linearizable.{shift_of}
+use Rattle.papaya_histories.specs.Given.Schedules.Moment.{Moment}
+use Rattle.papaya_histories.specs.Given.Teller.declared.changed.Changed.{Changed}
+use Rattle.papaya_histories.specs.Given.Rule.Chart.{Phase, Still, Holds, Chart}
+use Rattle.papaya_histories.specs.Given.Rule.Words.{Blocks, byte_of, place_word}
+use Rattle.papaya_histories.proofs.Given.Rule.Laws.{current_is_known, words_name_pairs, bytes_are_few}
+use Rattle.papaya_histories.specs.Given.Points.FactsCalls.{Change, Unchanged, Stored, Replaced, Removed, Seeks, Tells, CallingFacts}
+use Rattle.papaya_histories.specs.Given.Callers.Rows.{past_row, once_over}
+use Rattle.papaya_histories.specs.Given.Callers.Sights.{seen_by}
+use Rattle.papaya_histories.specs.Given.Callers.Together.{CallOnKey, OnKey, Stands, change_told, in_slot}
+use Rattle.papaya_histories.specs.Given.Effects.Effects.{effects_of}
+use Rattle.papaya_histories.specs.Given.Effects.Known.{Known}
+use Rattle.papaya_histories.specs.Given.Effects.declared.acting.Acting.TheVariants as acts
+use Rattle.papaya_histories.specs.Given.Effects.declared.role.Role.TheVariants as role
+use Rattle.papaya_histories.specs.Given.Executor.IsAt.{Scene, IsAt, slot_of}
+use Rattle.papaya_histories.specs.Given.Executor.Stepping.{StepLeads}
+use Rattle.papaya_histories.specs.Given.Executor.declared.executor.Executor.{Executor}
+use Rattle.papaya_histories.specs.Given.Finishes.Endings.{StepsAmong}
+use Rattle.papaya_histories.specs.Given.Finishes.Maps.{Standing}
+use Rattle.papaya_histories.specs.Given.Follows.Shows.{Shows}
+use Rattle.papaya_histories.proofs.Given.Follows.Steps.{WentTo, went_to, DidSo, OfNoRow}
+use Rattle.papaya_histories.proofs.Given.Follows.Writes.{nothing_free}
+use Rattle.papaya_histories.proofs.Given.Hands.Done.{stepped, here}
 use Rattle.papaya_histories.proofs.Which.{DidOnce, DidNone, DidStore, DidReplace, DidRemove}
 use Rattle.papaya_settles.specs.InHand.{pair_in_disposing, pair_in_calling, TakesPair, CallsTakeInHand}
 use Rattle.papaya_settles.proofs.Fresh.{IsBefore, IsNewDisposal, IsFreshAt, IsFresh}

@@ -3,45 +3,45 @@ use Rattle.std.specs.Prelude.{◌≡◌, ℕ, ◌+◌, Bool, true, false, ◌||�
 use Rattle.std.specs.List.{list_any}
 use Rattle.std.proofs.Common.{refl, ap, sym, subst, ◌∙◌, inl, inr}
 use Rattle.std.proofs.lemmas.List.{append-nil}
-use Rattle.seize_words.specs.declared.at.At.{At}
-use Rattle.seize_words.specs.Mem.{Mem}
-use Rattle.seize.specs.World.{World, IsInside}
-use Rattle.papaya_tables.specs.declared.node.Node.{Node}
-use Rattle.papaya_tables.specs.declared.setting.Setting.{Setting}
-use Rattle.papaya_raw.specs.declared.machines.progress.Progress.{Progress}
-use Rattle.papaya_schedules.specs.declared.effect.Effect.{Effect}
-use Rattle.papaya_schedules.specs.declared.effect.Effect.TheVariants as effect
-use Rattle.papaya_schedules.specs.declared.effect.Thing.{Thing}
-use Rattle.papaya_schedules.specs.declared.effect.Thing.TheVariants.{APair}
-use Rattle.papaya_schedules.specs.Moment.{Moment}
-use Rattle.papaya_teller.specs.declared.changed.Changed.{Changed}
-use Rattle.papaya_teller.specs.declared.changed.Changed.TheVariants as changed
-use Rattle.papaya_tells.specs.Seen.{Seen, Unseen, Wrote, seen_of}
-use Rattle.papaya_tells.specs.Tells.{IsTold}
-use Rattle.papaya_tells.proofs.Promised.{operations_tell, still_steps_tell}
-use Rattle.papaya_rule.specs.Chart.{Chart}
-use Rattle.papaya_rule.specs.InWorld.{IsMapIn, Moved, Went}
-use Rattle.papaya_rule.specs.Moves.{Move, Links, Stores, Replaces, Removes, Marks, MarksBlocking, Skips, Unmarks, Puts, Covers, PutsLate, Claims, Reclaims, Counts, GivesUp, Aborts, Promotes, Announces}
-use Rattle.papaya_rule.specs.Words.{Blocks}
-use Rattle.papaya_rule.proofs.World.WentTold.{went_as}
-use Rattle.papaya_points.specs.Steps.{AreLawful}
-use Rattle.papaya_callers.specs.Sights.{Sight, seen_by, IsGrown, IsSight}
-use Rattle.papaya_callers.specs.Together.{UnderWay, OnKey, ForRoom, Counting, OverAll, in_slot, Together}
-use Rattle.papaya_callers.proofs.Sights.Seen.{map_seen}
-use Rattle.papaya_callers.proofs.Together.Fits.{map_in_slot}
-use Rattle.papaya_effects.specs.Effects.{effects_of}
-use Rattle.papaya_effects.specs.Known.{Known}
-use Rattle.papaya_effects.specs.declared.acting.Acting.TheVariants.{Call}
-use Rattle.papaya_executor.specs.IsAt.{Scene, IsAt, slot_of}
-use Rattle.papaya_executor.specs.Stepping.{StepLeads}
-use Rattle.papaya_executor.specs.declared.executor.Executor.{Executor}
-use Rattle.papaya_finishes.specs.Maps.{Standing}
-use Rattle.papaya_follows.specs.Shows.{Shows}
-use Rattle.papaya_follows.proofs.Alike.{is_calm, AllCalm}
-use Rattle.papaya_follows.proofs.Operations.{LeavesBy, Operated, operated_leaves, seen_write, told_write}
-use Rattle.papaya_follows.proofs.Steps.{WentTo, went_to, made_so, is_inside, DidSo, OfNoRow}
-use Rattle.papaya_spots.proofs.Done.{DidBy, DidMoved, did_moved}
-use Rattle.papaya_spots.proofs.Steps.{stayed_calm}
+use Rattle.papaya_histories.specs.Given.SeizeWords.declared.at.At.{At}
+use Rattle.papaya_histories.specs.Given.SeizeWords.Mem.{Mem}
+use Rattle.papaya_histories.specs.Given.Seize.World.{World, IsInside}
+use Rattle.papaya_histories.specs.Given.Tables.declared.node.Node.{Node}
+use Rattle.papaya_histories.specs.Given.Tables.declared.setting.Setting.{Setting}
+use Rattle.papaya_histories.specs.Given.Raw.declared.machines.progress.Progress.{Progress}
+use Rattle.papaya_histories.specs.Given.Schedules.declared.effect.Effect.{Effect}
+use Rattle.papaya_histories.specs.Given.Schedules.declared.effect.Effect.TheVariants as effect
+use Rattle.papaya_histories.specs.Given.Schedules.declared.effect.Thing.{Thing}
+use Rattle.papaya_histories.specs.Given.Schedules.declared.effect.Thing.TheVariants.{APair}
+use Rattle.papaya_histories.specs.Given.Schedules.Moment.{Moment}
+use Rattle.papaya_histories.specs.Given.Teller.declared.changed.Changed.{Changed}
+use Rattle.papaya_histories.specs.Given.Teller.declared.changed.Changed.TheVariants as changed
+use Rattle.papaya_histories.specs.Given.Tells.Seen.{Seen, Unseen, Wrote, seen_of}
+use Rattle.papaya_histories.specs.Given.Tells.Tells.{IsTold}
+use Rattle.papaya_histories.proofs.Given.Tells.Promised.{operations_tell, still_steps_tell}
+use Rattle.papaya_histories.specs.Given.Rule.Chart.{Chart}
+use Rattle.papaya_histories.specs.Given.Rule.InWorld.{IsMapIn, Moved, Went}
+use Rattle.papaya_histories.specs.Given.Rule.Moves.{Move, Links, Stores, Replaces, Removes, Marks, MarksBlocking, Skips, Unmarks, Puts, Covers, PutsLate, Claims, Reclaims, Counts, GivesUp, Aborts, Promotes, Announces}
+use Rattle.papaya_histories.specs.Given.Rule.Words.{Blocks}
+use Rattle.papaya_histories.proofs.Given.Rule.World.WentTold.{went_as}
+use Rattle.papaya_histories.specs.Given.Points.Steps.{AreLawful}
+use Rattle.papaya_histories.specs.Given.Callers.Sights.{Sight, seen_by, IsGrown, IsSight}
+use Rattle.papaya_histories.specs.Given.Callers.Together.{UnderWay, OnKey, ForRoom, Counting, OverAll, in_slot, Together}
+use Rattle.papaya_histories.proofs.Given.Callers.Sights.Seen.{map_seen}
+use Rattle.papaya_histories.proofs.Given.Callers.Together.Fits.{map_in_slot}
+use Rattle.papaya_histories.specs.Given.Effects.Effects.{effects_of}
+use Rattle.papaya_histories.specs.Given.Effects.Known.{Known}
+use Rattle.papaya_histories.specs.Given.Effects.declared.acting.Acting.TheVariants.{Call}
+use Rattle.papaya_histories.specs.Given.Executor.IsAt.{Scene, IsAt, slot_of}
+use Rattle.papaya_histories.specs.Given.Executor.Stepping.{StepLeads}
+use Rattle.papaya_histories.specs.Given.Executor.declared.executor.Executor.{Executor}
+use Rattle.papaya_histories.specs.Given.Finishes.Maps.{Standing}
+use Rattle.papaya_histories.specs.Given.Follows.Shows.{Shows}
+use Rattle.papaya_histories.proofs.Given.Follows.Alike.{is_calm, AllCalm}
+use Rattle.papaya_histories.proofs.Given.Follows.Operations.{LeavesBy, Operated, operated_leaves, seen_write, told_write}
+use Rattle.papaya_histories.proofs.Given.Follows.Steps.{WentTo, went_to, made_so, is_inside, DidSo, OfNoRow}
+use Rattle.papaya_histories.proofs.Given.Spots.Done.{DidBy, DidMoved, did_moved}
+use Rattle.papaya_histories.proofs.Given.Spots.Steps.{stayed_calm}
 use Rattle.papaya_settles.specs.Owing.{hands_over, leaves_owed, AllLeave, OwesGo, KeepsOwed, TakesOut, PutsOver, Passes, StepsTakeOut}
 
 -- calm effects leave what is owed, and hand nothing over

@@ -1,48 +1,48 @@
 -- What the row within a call has in hand, and has neither retired nor put behind a table: by where its machine stands.
 use Rattle.std.specs.Prelude.{◌≡◌, ℕ, Bool, List, [], ◌∷◌, Option, Some, None}
-use Rattle.seize_words.specs.Word.{block_in}
-use Rattle.seize_words.specs.declared.at.At.{At}
-use Rattle.seize.specs.Further.{IsWordOf}
-use Rattle.seize.specs.World.{World, Making}
-use Rattle.seize.specs.declared.rows.defer.Defer.{Defer}
-use Rattle.seize.specs.declared.rows.defer.Deferring.{Deferring}
-use Rattle.seize.specs.declared.rows.defer.Deferring.TheVariants as deferring
-use Rattle.seize.specs.declared.rows.settle.Settle.{Settle}
-use Rattle.seize.specs.declared.rows.settle.Settling.{Settling}
-use Rattle.seize.specs.declared.rows.settle.Settling.TheVariants as settling
-use Rattle.papaya_resize.specs.declared.copier.Copying.{Copying}
-use Rattle.papaya_resize.specs.declared.copier.Copying.TheVariants as copying
-use Rattle.papaya_resize.specs.declared.dispose.Disposing.{Disposing}
-use Rattle.papaya_resize.specs.declared.dispose.Disposing.TheVariants as disposing
-use Rattle.papaya_reserves.specs.declared.reserve.Reserving.{Reserving}
-use Rattle.papaya_reserves.specs.declared.reserve.Reserving.TheVariants as reserving
-use Rattle.papaya_sweeps.specs.declared.sweep.Sweeping.{Sweeping}
-use Rattle.papaya_sweeps.specs.declared.sweep.Sweeping.TheVariants as sweeping
-use Rattle.papaya_raw.specs.declared.machines.call.Calling.{Calling}
-use Rattle.papaya_raw.specs.declared.machines.call.Calling.TheVariants as calling
-use Rattle.papaya_raw.specs.declared.machines.machine.Machine.{Machine}
-use Rattle.papaya_raw.specs.declared.machines.machine.Machine.TheVariants as kinds
-use Rattle.papaya_raw.specs.declared.machines.progress.Progress.{Progress}
-use Rattle.papaya_runs.specs.declared.outcome.TableShape.{TableShape}
-use Rattle.papaya_tables.specs.declared.node.Node.{Node}
-use Rattle.papaya_schedules.specs.declared.effect.Effect.{Effect}
-use Rattle.papaya_schedules.specs.declared.effect.Effect.TheVariants as effect
-use Rattle.papaya_schedules.specs.declared.effect.Table.{Table}
-use Rattle.papaya_schedules.specs.declared.effect.Thing.TheVariants.{APair, ATable}
-use Rattle.papaya_schedules.specs.Moment.{Moment}
-use Rattle.papaya_callers.specs.Together.{UnderWay}
-use Rattle.papaya_effects.specs.Effects.{carried, named, effects_of}
-use Rattle.papaya_effects.specs.Known.{Known}
-use Rattle.papaya_effects.specs.declared.acting.Acting.TheVariants.{Call}
-use Rattle.papaya_effects.specs.declared.role.Role.{Role}
-use Rattle.papaya_effects.specs.declared.role.Role.TheVariants as role
-use Rattle.papaya_executor.specs.IsAt.{Scene, IsAt}
-use Rattle.papaya_executor.specs.Stepping.{StepLeads}
-use Rattle.papaya_executor.specs.declared.executor.Executor.{Executor}
-use Rattle.papaya_finishes.specs.Machines.{machine_of}
-use Rattle.papaya_follows.specs.Shows.{Shows}
-use Rattle.papaya_follows.specs.Steps.{IsOfNoRow}
-use Rattle.papaya_hands.specs.Rows.{ShowsRows}
+use Rattle.papaya_histories.specs.Given.SeizeWords.Word.{block_in}
+use Rattle.papaya_histories.specs.Given.SeizeWords.declared.at.At.{At}
+use Rattle.papaya_histories.specs.Given.Seize.Further.{IsWordOf}
+use Rattle.papaya_histories.specs.Given.Seize.World.{World, Making}
+use Rattle.papaya_histories.specs.Given.Seize.declared.rows.defer.Defer.{Defer}
+use Rattle.papaya_histories.specs.Given.Seize.declared.rows.defer.Deferring.{Deferring}
+use Rattle.papaya_histories.specs.Given.Seize.declared.rows.defer.Deferring.TheVariants as deferring
+use Rattle.papaya_histories.specs.Given.Seize.declared.rows.settle.Settle.{Settle}
+use Rattle.papaya_histories.specs.Given.Seize.declared.rows.settle.Settling.{Settling}
+use Rattle.papaya_histories.specs.Given.Seize.declared.rows.settle.Settling.TheVariants as settling
+use Rattle.papaya_histories.specs.Given.Resize.declared.copier.Copying.{Copying}
+use Rattle.papaya_histories.specs.Given.Resize.declared.copier.Copying.TheVariants as copying
+use Rattle.papaya_histories.specs.Given.Resize.declared.dispose.Disposing.{Disposing}
+use Rattle.papaya_histories.specs.Given.Resize.declared.dispose.Disposing.TheVariants as disposing
+use Rattle.papaya_histories.specs.Given.Reserves.declared.reserve.Reserving.{Reserving}
+use Rattle.papaya_histories.specs.Given.Reserves.declared.reserve.Reserving.TheVariants as reserving
+use Rattle.papaya_histories.specs.Given.Sweeps.declared.sweep.Sweeping.{Sweeping}
+use Rattle.papaya_histories.specs.Given.Sweeps.declared.sweep.Sweeping.TheVariants as sweeping
+use Rattle.papaya_histories.specs.Given.Raw.declared.machines.call.Calling.{Calling}
+use Rattle.papaya_histories.specs.Given.Raw.declared.machines.call.Calling.TheVariants as calling
+use Rattle.papaya_histories.specs.Given.Raw.declared.machines.machine.Machine.{Machine}
+use Rattle.papaya_histories.specs.Given.Raw.declared.machines.machine.Machine.TheVariants as kinds
+use Rattle.papaya_histories.specs.Given.Raw.declared.machines.progress.Progress.{Progress}
+use Rattle.papaya_histories.specs.Given.Runs.declared.outcome.TableShape.{TableShape}
+use Rattle.papaya_histories.specs.Given.Tables.declared.node.Node.{Node}
+use Rattle.papaya_histories.specs.Given.Schedules.declared.effect.Effect.{Effect}
+use Rattle.papaya_histories.specs.Given.Schedules.declared.effect.Effect.TheVariants as effect
+use Rattle.papaya_histories.specs.Given.Schedules.declared.effect.Table.{Table}
+use Rattle.papaya_histories.specs.Given.Schedules.declared.effect.Thing.TheVariants.{APair, ATable}
+use Rattle.papaya_histories.specs.Given.Schedules.Moment.{Moment}
+use Rattle.papaya_histories.specs.Given.Callers.Together.{UnderWay}
+use Rattle.papaya_histories.specs.Given.Effects.Effects.{carried, named, effects_of}
+use Rattle.papaya_histories.specs.Given.Effects.Known.{Known}
+use Rattle.papaya_histories.specs.Given.Effects.declared.acting.Acting.TheVariants.{Call}
+use Rattle.papaya_histories.specs.Given.Effects.declared.role.Role.{Role}
+use Rattle.papaya_histories.specs.Given.Effects.declared.role.Role.TheVariants as role
+use Rattle.papaya_histories.specs.Given.Executor.IsAt.{Scene, IsAt}
+use Rattle.papaya_histories.specs.Given.Executor.Stepping.{StepLeads}
+use Rattle.papaya_histories.specs.Given.Executor.declared.executor.Executor.{Executor}
+use Rattle.papaya_histories.specs.Given.Finishes.Machines.{machine_of}
+use Rattle.papaya_histories.specs.Given.Follows.Shows.{Shows}
+use Rattle.papaya_histories.specs.Given.Follows.Steps.{IsOfNoRow}
+use Rattle.papaya_histories.specs.Given.Hands.Rows.{ShowsRows}
 use Rattle.papaya_settles.specs.Entries.{ShowsEntries}
 
 -- the word of a block that a row is to retire, or to put behind another one, which has this word

@@ -1,35 +1,35 @@
 -- What is promised of what calls owe: just what they have in hand, over the steps of calls, of which each hands over what its call owes first.
 use Rattle.std.specs.Prelude.{◌≡◌, ℕ, Bool, true, List, [], Option, Some, None}
-use Rattle.papaya_tables.specs.declared.node.Node.{Node}
-use Rattle.papaya_raw.specs.Machine.{machine_replied, machine_asked}
-use Rattle.papaya_raw.specs.declared.machines.asking.Reply.{Reply as MachineReply}
-use Rattle.papaya_raw.specs.declared.machines.machine.Machine.{Machine}
-use Rattle.papaya_raw.specs.declared.machines.progress.Progress.{Progress}
-use Rattle.papaya_schedules.specs.declared.call.Call.{Call}
-use Rattle.papaya_schedules.specs.declared.call.Reply.{Reply}
-use Rattle.papaya_schedules.specs.declared.effect.Effect.{Effect}
-use Rattle.papaya_schedules.specs.declared.outcome.Outcome.{Outcome}
-use Rattle.papaya_schedules.specs.Beginning.{with_call}
-use Rattle.papaya_schedules.specs.Effects.{AtEachEffect, with_effects}
-use Rattle.papaya_schedules.specs.Entry.{ByCall, acting, ends_call}
-use Rattle.papaya_schedules.specs.Moment.{UnderWay as CallThere, Moment, start}
-use Rattle.papaya_schedules.specs.Views.{call_of}
-use Rattle.papaya_callers.specs.Together.{UnderWay}
-use Rattle.papaya_effects.specs.Effects.{effects_of, known_after}
-use Rattle.papaya_effects.specs.Known.{Known, nothing_known}
-use Rattle.papaya_effects.specs.declared.acting.Acting.TheVariants.{Call as OfCall}
-use Rattle.papaya_executor.specs.IsAt.{Scene, IsAt, at_first}
-use Rattle.papaya_executor.specs.Replying.{AskLeads, StopLeads, scene_with, unless_stopped}
-use Rattle.papaya_executor.specs.Stepping.{StepLeads, scene_after}
-use Rattle.papaya_executor.specs.declared.executor.Executor.{Executor}
-use Rattle.papaya_finishes.specs.Machines.{machine_of}
-use Rattle.papaya_finishes.specs.Maps.{with_call as with_in}
-use Rattle.papaya_follows.specs.Calling.{NoneNamed, told, come_to}
-use Rattle.papaya_follows.specs.Shows.{Shows}
-use Rattle.papaya_follows.specs.Steps.{IsOfNoRow}
-use Rattle.papaya_hands.specs.Rows.{ShowsRows}
-use Rattle.papaya_moments.specs.Whole.{ShowsWhole}
-use Rattle.papaya_others.specs.Walks.{given_up}
+use Rattle.papaya_histories.specs.Given.Tables.declared.node.Node.{Node}
+use Rattle.papaya_histories.specs.Given.Raw.Machine.{machine_replied, machine_asked}
+use Rattle.papaya_histories.specs.Given.Raw.declared.machines.asking.Reply.{Reply as MachineReply}
+use Rattle.papaya_histories.specs.Given.Raw.declared.machines.machine.Machine.{Machine}
+use Rattle.papaya_histories.specs.Given.Raw.declared.machines.progress.Progress.{Progress}
+use Rattle.papaya_histories.specs.Given.Schedules.declared.call.Call.{Call}
+use Rattle.papaya_histories.specs.Given.Schedules.declared.call.Reply.{Reply}
+use Rattle.papaya_histories.specs.Given.Schedules.declared.effect.Effect.{Effect}
+use Rattle.papaya_histories.specs.Given.Schedules.declared.outcome.Outcome.{Outcome}
+use Rattle.papaya_histories.specs.Given.Schedules.Beginning.{with_call}
+use Rattle.papaya_histories.specs.Given.Schedules.Effects.{AtEachEffect, with_effects}
+use Rattle.papaya_histories.specs.Given.Schedules.Entry.{ByCall, acting, ends_call}
+use Rattle.papaya_histories.specs.Given.Schedules.Moment.{UnderWay as CallThere, Moment, start}
+use Rattle.papaya_histories.specs.Given.Schedules.Views.{call_of}
+use Rattle.papaya_histories.specs.Given.Callers.Together.{UnderWay}
+use Rattle.papaya_histories.specs.Given.Effects.Effects.{effects_of, known_after}
+use Rattle.papaya_histories.specs.Given.Effects.Known.{Known, nothing_known}
+use Rattle.papaya_histories.specs.Given.Effects.declared.acting.Acting.TheVariants.{Call as OfCall}
+use Rattle.papaya_histories.specs.Given.Executor.IsAt.{Scene, IsAt, at_first}
+use Rattle.papaya_histories.specs.Given.Executor.Replying.{AskLeads, StopLeads, scene_with, unless_stopped}
+use Rattle.papaya_histories.specs.Given.Executor.Stepping.{StepLeads, scene_after}
+use Rattle.papaya_histories.specs.Given.Executor.declared.executor.Executor.{Executor}
+use Rattle.papaya_histories.specs.Given.Finishes.Machines.{machine_of}
+use Rattle.papaya_histories.specs.Given.Finishes.Maps.{with_call as with_in}
+use Rattle.papaya_histories.specs.Given.Follows.Calling.{NoneNamed, told, come_to}
+use Rattle.papaya_histories.specs.Given.Follows.Shows.{Shows}
+use Rattle.papaya_histories.specs.Given.Follows.Steps.{IsOfNoRow}
+use Rattle.papaya_histories.specs.Given.Hands.Rows.{ShowsRows}
+use Rattle.papaya_histories.specs.Given.Moments.Whole.{ShowsWhole}
+use Rattle.papaya_histories.specs.Given.Others.Walks.{given_up}
 use Rattle.papaya_settles.specs.Due.{OwnAreMade}
 use Rattle.papaya_settles.specs.Entries.{ShowsEntries}
 use Rattle.papaya_settles.specs.Hand.{in_hand, NotesInHand, SameInHand, ShowsOwed}

@@ -1,16 +1,16 @@
 -- What is promised of the shard in which a call counts, in the words of schedules: it is that of the slot of its guard, where a moment shows the guard there.
 use Rattle.std.specs.Prelude.{◌≡◌, ℕ, ◌+◌, Bool, true, false, List, Some}
-use Rattle.papaya_tables.specs.declared.setting.Setting.{Setting}
-use Rattle.papaya_runs.specs.Present.{slot_of_guard}
-use Rattle.papaya_schedules.specs.declared.effect.Effect.{Effect}
-use Rattle.papaya_schedules.specs.declared.effect.Effect.TheVariants.{Counted}
-use Rattle.papaya_schedules.specs.Effects.{AtEachEffect}
-use Rattle.papaya_schedules.specs.Entry.{ByCall, acting}
-use Rattle.papaya_schedules.specs.Lives.{CallFinds}
-use Rattle.papaya_schedules.specs.Moment.{UnderWay as CallThere, Moment}
-use Rattle.papaya_schedules.specs.Terms.{Terms, shards_of}
-use Rattle.papaya_schedules.specs.Views.{call_of}
-use Rattle.papaya_executor.specs.IsAt.{slot_of}
+use Rattle.papaya_histories.specs.Given.Tables.declared.setting.Setting.{Setting}
+use Rattle.papaya_histories.specs.Given.Runs.Present.{slot_of_guard}
+use Rattle.papaya_histories.specs.Given.Schedules.declared.effect.Effect.{Effect}
+use Rattle.papaya_histories.specs.Given.Schedules.declared.effect.Effect.TheVariants.{Counted}
+use Rattle.papaya_histories.specs.Given.Schedules.Effects.{AtEachEffect}
+use Rattle.papaya_histories.specs.Given.Schedules.Entry.{ByCall, acting}
+use Rattle.papaya_histories.specs.Given.Schedules.Lives.{CallFinds}
+use Rattle.papaya_histories.specs.Given.Schedules.Moment.{UnderWay as CallThere, Moment}
+use Rattle.papaya_histories.specs.Given.Schedules.Terms.{Terms, shards_of}
+use Rattle.papaya_histories.specs.Given.Schedules.Views.{call_of}
+use Rattle.papaya_histories.specs.Given.Executor.IsAt.{slot_of}
 use Rattle.papaya_settles.specs.Counts.{shard_for, FindCounts}
 
 -- an effect that counts

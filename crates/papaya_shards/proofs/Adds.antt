@@ -1,24 +1,24 @@
 -- What a step of a call does to the words of counts, and to what it is about to add there.
 use Rattle.std.specs.Prelude.{◌≡◌, ◌==◌, ◌+◌, ◌-◌, ◌%◌, ◌^◌, ℕ, Bool, true, false, cond, List, [], ◌∷◌, length, Option, Some, None, if◌then◌else◌, ◌⊎◌}
 use Rattle.std.proofs.Common.{refl, ap, sym, subst, ◌∙◌, arith, inl, inr}
-use Rattle.seize_words.specs.declared.at.At.TheVariants.{Word}
-use Rattle.papaya_tables.specs.Counts.{count_change}
-use Rattle.papaya_raw.specs.declared.machines.call.Calling.{Calling}
-use Rattle.papaya_raw.specs.declared.machines.call.Calling.TheVariants as calling
-use Rattle.papaya_raw.specs.declared.machines.machine.Machine.{Machine}
-use Rattle.papaya_raw.specs.declared.machines.machine.Machine.TheVariants as kinds
-use Rattle.papaya_schedules.specs.declared.effect.Effect.{Effect}
-use Rattle.papaya_schedules.specs.declared.effect.Effect.TheVariants as effect
-use Rattle.papaya_schedules.specs.declared.effect.Spot.{Spot}
-use Rattle.papaya_schedules.specs.Effects.{gain, word_with, call_by, with_effects}
-use Rattle.papaya_schedules.specs.Moment.{UnderWay as CallThere, Moment}
-use Rattle.papaya_schedules.specs.Views.{call_of}
-use Rattle.papaya_sweeps.specs.declared.sweep.Sweeping.{Sweeping}
-use Rattle.papaya_sweeps.specs.declared.sweep.Sweeping.TheVariants as sweeping
-use Rattle.papaya_teller.specs.declared.changed.Changed.{Changed}
-use Rattle.papaya_teller.specs.declared.changed.Changed.TheVariants as changed
-use Rattle.papaya_effects.specs.Known.{Known}
-use Rattle.papaya_follows.proofs.Steps.{one_of}
+use Rattle.papaya_histories.specs.Given.SeizeWords.declared.at.At.TheVariants.{Word}
+use Rattle.papaya_histories.specs.Given.Tables.Counts.{count_change}
+use Rattle.papaya_histories.specs.Given.Raw.declared.machines.call.Calling.{Calling}
+use Rattle.papaya_histories.specs.Given.Raw.declared.machines.call.Calling.TheVariants as calling
+use Rattle.papaya_histories.specs.Given.Raw.declared.machines.machine.Machine.{Machine}
+use Rattle.papaya_histories.specs.Given.Raw.declared.machines.machine.Machine.TheVariants as kinds
+use Rattle.papaya_histories.specs.Given.Schedules.declared.effect.Effect.{Effect}
+use Rattle.papaya_histories.specs.Given.Schedules.declared.effect.Effect.TheVariants as effect
+use Rattle.papaya_histories.specs.Given.Schedules.declared.effect.Spot.{Spot}
+use Rattle.papaya_histories.specs.Given.Schedules.Effects.{gain, word_with, call_by, with_effects}
+use Rattle.papaya_histories.specs.Given.Schedules.Moment.{UnderWay as CallThere, Moment}
+use Rattle.papaya_histories.specs.Given.Schedules.Views.{call_of}
+use Rattle.papaya_histories.specs.Given.Sweeps.declared.sweep.Sweeping.{Sweeping}
+use Rattle.papaya_histories.specs.Given.Sweeps.declared.sweep.Sweeping.TheVariants as sweeping
+use Rattle.papaya_histories.specs.Given.Teller.declared.changed.Changed.{Changed}
+use Rattle.papaya_histories.specs.Given.Teller.declared.changed.Changed.TheVariants as changed
+use Rattle.papaya_histories.specs.Given.Effects.Known.{Known}
+use Rattle.papaya_histories.proofs.Given.Follows.Steps.{one_of}
 use Rattle.papaya_histories.proofs.Changes.{acted_on}
 use Rattle.papaya_shards.specs.Adds.{adds_in_calling, adds_in_sweeping, adds_of, Adds}
 use Rattle.papaya_settles.specs.Counts.{counts_in_calling, counts_in_sweeping, is_to_count}

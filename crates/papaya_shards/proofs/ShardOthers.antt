@@ -2,39 +2,39 @@
 use Rattle.std.specs.Prelude.{◌≡◌, ℕ, zero, suc, ◌≤◌, Bool, List, Option, Some, None}
 use Rattle.std.proofs.Common.{refl, ap, sym, subst, ◌∙◌, arith, inl, inr}
 use Rattle.std.proofs.lemmas.Bool.{cases_eq}
-use Rattle.seize_words.specs.Mem.{Mem, word_at}
-use Rattle.seize_words.specs.declared.at.At.TheVariants.{Word}
-use Rattle.seize.specs.World.{World, Begin, Step, with_at, times}
-use Rattle.papaya_tables.specs.declared.node.Node.{Node}
-use Rattle.papaya_tables.specs.declared.setting.Setting.{Setting}
-use Rattle.papaya_schedules.specs.declared.effect.Effect.{Effect}
-use Rattle.papaya_schedules.specs.Effects.{with_effects}
-use Rattle.papaya_schedules.specs.Moment.{Moment}
-use Rattle.papaya_teller.specs.declared.changed.Changed.{Changed}
-use Rattle.papaya_teller.specs.declared.teller.Teller.{Teller}
-use Rattle.papaya_callers.proofs.Together.At.{at_other, at_same}
-use Rattle.papaya_effects.specs.Effects.{effects_of}
-use Rattle.papaya_effects.specs.Known.{Known}
-use Rattle.papaya_effects.specs.declared.acting.Acting.TheVariants as acts
-use Rattle.papaya_effects.specs.declared.role.Role.TheVariants as role
-use Rattle.papaya_executor.specs.Ending.{ending_begun}
-use Rattle.papaya_executor.specs.IsAt.{Scene, IsAt, slot_of, work_of}
-use Rattle.papaya_executor.specs.OnSlots.{HappensAt, RowSteps}
-use Rattle.papaya_executor.specs.Rows.{request_of}
-use Rattle.papaya_executor.specs.declared.executor.Executor.{Executor}
-use Rattle.papaya_executor.specs.declared.row.RowTold.{RowTold}
-use Rattle.papaya_executor.specs.declared.row.SlotRow.{SlotRow}
-use Rattle.papaya_executor.specs.declared.worker.Work.TheVariants.{OnSlot}
-use Rattle.papaya_executor.proofs.OnSlots.{row_at, may_taken}
-use Rattle.papaya_finishes.specs.FactsEnds.{Deed, Spares, taken_by}
-use Rattle.papaya_finishes.specs.Makings.{Beginning, HasMade}
-use Rattle.papaya_finishes.specs.Maps.{Standing}
-use Rattle.papaya_follows.proofs.Operations.{Operated}
-use Rattle.papaya_follows.proofs.Steps.{one_of}
-use Rattle.papaya_moments.specs.Whole.{ShowsWhole}
-use Rattle.papaya_others.specs.Endings.{ending_after}
-use Rattle.papaya_others.specs.Rows.{scene_then}
-use Rattle.papaya_others.proofs.RowPlans.{TellsRow, row_tells, row_operated}
+use Rattle.papaya_histories.specs.Given.SeizeWords.Mem.{Mem, word_at}
+use Rattle.papaya_histories.specs.Given.SeizeWords.declared.at.At.TheVariants.{Word}
+use Rattle.papaya_histories.specs.Given.Seize.World.{World, Begin, Step, with_at, times}
+use Rattle.papaya_histories.specs.Given.Tables.declared.node.Node.{Node}
+use Rattle.papaya_histories.specs.Given.Tables.declared.setting.Setting.{Setting}
+use Rattle.papaya_histories.specs.Given.Schedules.declared.effect.Effect.{Effect}
+use Rattle.papaya_histories.specs.Given.Schedules.Effects.{with_effects}
+use Rattle.papaya_histories.specs.Given.Schedules.Moment.{Moment}
+use Rattle.papaya_histories.specs.Given.Teller.declared.changed.Changed.{Changed}
+use Rattle.papaya_histories.specs.Given.Teller.declared.teller.Teller.{Teller}
+use Rattle.papaya_histories.proofs.Given.Callers.Together.At.{at_other, at_same}
+use Rattle.papaya_histories.specs.Given.Effects.Effects.{effects_of}
+use Rattle.papaya_histories.specs.Given.Effects.Known.{Known}
+use Rattle.papaya_histories.specs.Given.Effects.declared.acting.Acting.TheVariants as acts
+use Rattle.papaya_histories.specs.Given.Effects.declared.role.Role.TheVariants as role
+use Rattle.papaya_histories.specs.Given.Executor.Ending.{ending_begun}
+use Rattle.papaya_histories.specs.Given.Executor.IsAt.{Scene, IsAt, slot_of, work_of}
+use Rattle.papaya_histories.specs.Given.Executor.OnSlots.{HappensAt, RowSteps}
+use Rattle.papaya_histories.specs.Given.Executor.Rows.{request_of}
+use Rattle.papaya_histories.specs.Given.Executor.declared.executor.Executor.{Executor}
+use Rattle.papaya_histories.specs.Given.Executor.declared.row.RowTold.{RowTold}
+use Rattle.papaya_histories.specs.Given.Executor.declared.row.SlotRow.{SlotRow}
+use Rattle.papaya_histories.specs.Given.Executor.declared.worker.Work.TheVariants.{OnSlot}
+use Rattle.papaya_histories.proofs.Given.Executor.OnSlots.{row_at, may_taken}
+use Rattle.papaya_histories.specs.Given.Finishes.FactsEnds.{Deed, Spares, taken_by}
+use Rattle.papaya_histories.specs.Given.Finishes.Makings.{Beginning, HasMade}
+use Rattle.papaya_histories.specs.Given.Finishes.Maps.{Standing}
+use Rattle.papaya_histories.proofs.Given.Follows.Operations.{Operated}
+use Rattle.papaya_histories.proofs.Given.Follows.Steps.{one_of}
+use Rattle.papaya_histories.specs.Given.Moments.Whole.{ShowsWhole}
+use Rattle.papaya_histories.specs.Given.Others.Endings.{ending_after}
+use Rattle.papaya_histories.specs.Given.Others.Rows.{scene_then}
+use Rattle.papaya_histories.proofs.Given.Others.RowPlans.{TellsRow, row_tells, row_operated}
 use Rattle.papaya_histories.proofs.Aside.Elsewhere.{ending_at}
 use Rattle.papaya_shards.specs.ShardSteps.{CountersBegin, RowsBeginCounters, RowsKeepCounters, EndingsKeepCounters, MakingsBeginCounters, EndingsBeginCounters}
 use Rattle.papaya_shards.specs.ShardWords.{ShowsShards, IsUncounted, MakesUncounted, ShowsCounters}

@@ -8,13 +8,13 @@ use Rattle.seize.specs.declared.progress.Progress.{Progress}
 use Rattle.seize.specs.declared.progress.Progress.TheVariants as progress
 use Rattle.papaya_tables.specs.declared.node.Node.{Node}
 use Rattle.papaya_tables.specs.declared.setting.Setting.{Setting}
-use Rattle.papaya_sweeps.specs.Sweep.{sweep_plan}
-use Rattle.papaya_sweeps.specs.SweepPoints.{sweeping, after_reply}
-use Rattle.papaya_sweeps.specs.declared.sweep.Purpose.{Purpose}
-use Rattle.papaya_sweeps.specs.declared.sweep.Sweep.{Sweep}
-use Rattle.papaya_sweeps.specs.declared.sweep.Swept.{Swept}
-use Rattle.papaya_sweeps.specs.declared.sweep.Swept.TheVariants as swept
-use Rattle.papaya_callers.specs.Together.{in_slot}
+use Rattle.papaya_owned.specs.Given.Sweeps.Sweep.{sweep_plan}
+use Rattle.papaya_owned.specs.Given.Sweeps.SweepPoints.{sweeping, after_reply}
+use Rattle.papaya_owned.specs.Given.Sweeps.declared.sweep.Purpose.{Purpose}
+use Rattle.papaya_owned.specs.Given.Sweeps.declared.sweep.Sweep.{Sweep}
+use Rattle.papaya_owned.specs.Given.Sweeps.declared.sweep.Swept.{Swept}
+use Rattle.papaya_owned.specs.Given.Sweeps.declared.sweep.Swept.TheVariants as swept
+use Rattle.papaya_owned.specs.Given.Callers.Together.{in_slot}
 use Rattle.papaya_owned.specs.Ending.{RunsTo}
 use Rattle.papaya_owned.specs.Owned.{Holds}
 use Rattle.papaya_sifts.specs.declared.sweeping.OverPairs.{OverPairs}

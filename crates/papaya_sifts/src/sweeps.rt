@@ -1,6 +1,6 @@
 //! Sweeps that remove pairs from one owner's map, run to their ends.
 ghost use Rattle.std.specs.Prelude.{◌≡◌, List, [], IfErr, OnOk, OnErr, length};
-ghost use Rattle.papaya_late.specs.Faults.{IsRoom};
+ghost use Rattle.papaya_owned.specs.Given.Late.Faults.{IsRoom};
 ghost use Rattle.papaya_owned.specs.Owned.{Holds};
 ghost use Rattle.papaya_sifts.specs.Retaining.{KeepsOf};
 ghost use Rattle.papaya_sifts.specs.Sweeping.{HasSwept};

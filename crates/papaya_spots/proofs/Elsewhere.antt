@@ -2,38 +2,38 @@
 use Rattle.std.specs.Prelude.{◌≡◌, ◌≢◌, ℕ, ◌+◌, ◌<◌, ◌≤◌, Bool, true, false, List, [], ◌∷◌, length, Option, Some, None}
 use Rattle.std.proofs.Common.{refl, ap, sym, subst, ◌∙◌, arith, inl, inr}
 use Rattle.std.proofs.lemmas.List.{length-append}
-use Rattle.seize_words.specs.Mem.{Mem}
-use Rattle.seize.specs.World.{World}
-use Rattle.papaya_tables.specs.Chunks.{is_incremental}
-use Rattle.papaya_tables.specs.declared.node.Node.{Node}
-use Rattle.papaya_schedules.specs.declared.effect.Effect.{Effect}
-use Rattle.papaya_schedules.specs.declared.effect.Effect.TheVariants.{Copied, Stored, Replaced}
-use Rattle.papaya_schedules.specs.declared.effect.Spot.{Spot}
-use Rattle.papaya_schedules.specs.declared.effect.Table.{Table}
-use Rattle.papaya_schedules.specs.Effects.{later, new_pair, stored_by, with_effect, with_effects}
-use Rattle.papaya_schedules.specs.Entry.{acting}
-use Rattle.papaya_schedules.specs.Lists.{put}
-use Rattle.papaya_schedules.specs.Moment.{Moment, UnderWay}
-use Rattle.papaya_schedules.specs.Views.{is_in_map}
-use Rattle.papaya_teller.specs.declared.changed.Changed.{Changed}
-use Rattle.papaya_rule.specs.Chart.{Chart}
-use Rattle.papaya_rule.specs.Moves.{Move, Links, Stores, Replaces, Removes, Marks, MarksBlocking, Skips, Unmarks, Puts, Covers, PutsLate, Claims, Reclaims, Counts, GivesUp, Aborts, Promotes, Announces}
-use Rattle.papaya_rule.specs.Words.{Blocks}
-use Rattle.papaya_rule.specs.Maps.{spot_of}
-use Rattle.papaya_rule.specs.InWorld.{IsMapIn, Moved, Went}
-use Rattle.papaya_points.specs.Steps.{AreLawful}
-use Rattle.papaya_callers.specs.Sights.{Sight, seen_by, IsGrown, IsSight}
-use Rattle.papaya_callers.specs.Together.{in_slot}
-use Rattle.papaya_finishes.specs.Maps.{Standing}
-use Rattle.papaya_effects.specs.Effects.{effects_of, known_after}
-use Rattle.papaya_effects.specs.Known.{Known}
-use Rattle.papaya_effects.specs.declared.acting.Acting.TheVariants.{Call}
-use Rattle.papaya_effects.specs.declared.role.Role.TheVariants as role
-use Rattle.papaya_follows.specs.Blocks.{ShowsBlocks}
-use Rattle.papaya_follows.specs.Maps.{table_of, ShowsMap}
-use Rattle.papaya_follows.proofs.Alike.{put_elsewhere}
-use Rattle.papaya_follows.proofs.Onward.{IsLasting, KeepsRoles}
-use Rattle.papaya_follows.proofs.Operations.{LeavesBy}
+use Rattle.papaya_others.specs.Given.SeizeWords.Mem.{Mem}
+use Rattle.papaya_others.specs.Given.Seize.World.{World}
+use Rattle.papaya_others.specs.Given.Tables.Chunks.{is_incremental}
+use Rattle.papaya_others.specs.Given.Tables.declared.node.Node.{Node}
+use Rattle.papaya_others.specs.Given.Schedules.declared.effect.Effect.{Effect}
+use Rattle.papaya_others.specs.Given.Schedules.declared.effect.Effect.TheVariants.{Copied, Stored, Replaced}
+use Rattle.papaya_others.specs.Given.Schedules.declared.effect.Spot.{Spot}
+use Rattle.papaya_others.specs.Given.Schedules.declared.effect.Table.{Table}
+use Rattle.papaya_others.specs.Given.Schedules.Effects.{later, new_pair, stored_by, with_effect, with_effects}
+use Rattle.papaya_others.specs.Given.Schedules.Entry.{acting}
+use Rattle.papaya_others.specs.Given.Schedules.Lists.{put}
+use Rattle.papaya_others.specs.Given.Schedules.Moment.{Moment, UnderWay}
+use Rattle.papaya_others.specs.Given.Schedules.Views.{is_in_map}
+use Rattle.papaya_others.specs.Given.Teller.declared.changed.Changed.{Changed}
+use Rattle.papaya_others.specs.Given.Rule.Chart.{Chart}
+use Rattle.papaya_others.specs.Given.Rule.Moves.{Move, Links, Stores, Replaces, Removes, Marks, MarksBlocking, Skips, Unmarks, Puts, Covers, PutsLate, Claims, Reclaims, Counts, GivesUp, Aborts, Promotes, Announces}
+use Rattle.papaya_others.specs.Given.Rule.Words.{Blocks}
+use Rattle.papaya_others.specs.Given.Rule.Maps.{spot_of}
+use Rattle.papaya_others.specs.Given.Rule.InWorld.{IsMapIn, Moved, Went}
+use Rattle.papaya_others.specs.Given.Points.Steps.{AreLawful}
+use Rattle.papaya_others.specs.Given.Callers.Sights.{Sight, seen_by, IsGrown, IsSight}
+use Rattle.papaya_others.specs.Given.Callers.Together.{in_slot}
+use Rattle.papaya_others.specs.Given.Finishes.Maps.{Standing}
+use Rattle.papaya_others.specs.Given.Effects.Effects.{effects_of, known_after}
+use Rattle.papaya_others.specs.Given.Effects.Known.{Known}
+use Rattle.papaya_others.specs.Given.Effects.declared.acting.Acting.TheVariants.{Call}
+use Rattle.papaya_others.specs.Given.Effects.declared.role.Role.TheVariants as role
+use Rattle.papaya_others.specs.Given.Follows.Blocks.{ShowsBlocks}
+use Rattle.papaya_others.specs.Given.Follows.Maps.{table_of, ShowsMap}
+use Rattle.papaya_others.proofs.Given.Follows.Alike.{put_elsewhere}
+use Rattle.papaya_others.proofs.Given.Follows.Onward.{IsLasting, KeepsRoles}
+use Rattle.papaya_others.proofs.Given.Follows.Operations.{LeavesBy}
 use Rattle.papaya_spots.specs.Spots.{spot_in, LiesAt, IsCopiedTo, IsPairOf, ShowsSpots}
 use Rattle.papaya_spots.proofs.Calm.{IsCalm}
 use Rattle.papaya_spots.proofs.Done.{DidBy, DidMoved}

@@ -3,47 +3,47 @@ use Rattle.std.specs.Prelude.{◌≡◌, ℕ, zero, suc, ◌+◌, ◌<◌, ◌�
 use Rattle.std.specs.List.{list_any}
 use Rattle.std.proofs.Common.{refl, ap, sym, subst, ◌∙◌, arith, inl, inr}
 use Rattle.std.proofs.lemmas.Bool.{eq-eqb, cases_eq, cases_lt}
-use Rattle.seize_words.specs.Mem.{Mem}
-use Rattle.seize.specs.World.{World}
-use Rattle.papaya_tables.specs.Chunks.{is_incremental}
-use Rattle.papaya_tables.specs.declared.node.Node.{Node}
-use Rattle.papaya_tables.specs.declared.table_words.TheConstants.{PLACES}
-use Rattle.papaya_schedules.specs.declared.effect.Effect.{Effect}
-use Rattle.papaya_schedules.specs.declared.effect.Effect.TheVariants.{Asked, Stored, Replaced, Copied}
-use Rattle.papaya_schedules.specs.declared.effect.Growth.TheVariants.{ABucket}
-use Rattle.papaya_schedules.specs.declared.effect.Spot.{Spot}
-use Rattle.papaya_schedules.specs.Lists.{numbers_from}
-use Rattle.papaya_schedules.specs.Lives.{has_pair_at, MayCopy}
-use Rattle.papaya_schedules.specs.declared.effect.Table.{Table}
-use Rattle.papaya_schedules.specs.Moment.{Place, GivenBack, Stage, TableThere, Moment}
-use Rattle.papaya_schedules.specs.Things.{same_table, same_spot}
-use Rattle.papaya_schedules.specs.Views.{is_in_map, is_there, is_linked, is_stage, is_place}
-use Rattle.papaya_teller.specs.declared.changed.Changed.{Changed}
-use Rattle.papaya_teller.specs.declared.changed.Changed.TheVariants as changed
-use Rattle.papaya_rule.specs.Chart.{Still, Copying, Empty, Holds, Chart}
-use Rattle.papaya_rule.specs.Moments.{Moments}
-use Rattle.papaya_rule.specs.Rule.{Rule}
-use Rattle.papaya_rule.specs.Moves.{Move, Links, Stores, Replaces, Removes, Marks, MarksBlocking, Skips, Unmarks, Puts, Covers, PutsLate, Claims, Reclaims, Counts, GivesUp, Aborts, Promotes, Announces, MayChange, Allowed}
-use Rattle.papaya_rule.specs.Words.{Blocks}
-use Rattle.papaya_rule.specs.Maps.{spot_of}
-use Rattle.papaya_rule.specs.InWorld.{IsMapIn, Moved, Went}
-use Rattle.papaya_rule.proofs.Moves.StoodAlone.{alone_there, never_later}
-use Rattle.papaya_points.specs.Steps.{AreLawful}
-use Rattle.papaya_callers.specs.Sights.{Sight, seen_by, IsGrown, IsSight}
-use Rattle.papaya_callers.specs.Together.{in_slot}
-use Rattle.papaya_finishes.specs.Maps.{Standing}
-use Rattle.papaya_effects.specs.Effects.{spot_at, taken_by, effects_of, known_after}
-use Rattle.papaya_effects.specs.Known.{Known}
-use Rattle.papaya_effects.specs.declared.acting.Acting.TheVariants.{Call}
-use Rattle.papaya_effects.specs.declared.role.Role.{Role}
-use Rattle.papaya_effects.specs.declared.role.Role.TheVariants as role
-use Rattle.papaya_follows.specs.Blocks.{ShowsBlocks}
-use Rattle.papaya_follows.specs.Maps.{table_of, shape_at, tables_to, ShowsMap}
-use Rattle.papaya_follows.proofs.Alike.{AllCalm}
-use Rattle.papaya_follows.proofs.Finds.{first_is, chunks_are, same_one, among, may_stand}
-use Rattle.papaya_follows.proofs.Operations.{LeavesBy}
-use Rattle.papaya_follows.proofs.Rows.{HandsOn, IsStill, Puts as PutsBehind, Retires, RowLeaves, row_written}
-use Rattle.papaya_follows.proofs.Stored.{in_map_true, still_current}
+use Rattle.papaya_others.specs.Given.SeizeWords.Mem.{Mem}
+use Rattle.papaya_others.specs.Given.Seize.World.{World}
+use Rattle.papaya_others.specs.Given.Tables.Chunks.{is_incremental}
+use Rattle.papaya_others.specs.Given.Tables.declared.node.Node.{Node}
+use Rattle.papaya_others.specs.Given.Tables.declared.table_words.TheConstants.{PLACES}
+use Rattle.papaya_others.specs.Given.Schedules.declared.effect.Effect.{Effect}
+use Rattle.papaya_others.specs.Given.Schedules.declared.effect.Effect.TheVariants.{Asked, Stored, Replaced, Copied}
+use Rattle.papaya_others.specs.Given.Schedules.declared.effect.Growth.TheVariants.{ABucket}
+use Rattle.papaya_others.specs.Given.Schedules.declared.effect.Spot.{Spot}
+use Rattle.papaya_others.specs.Given.Schedules.Lists.{numbers_from}
+use Rattle.papaya_others.specs.Given.Schedules.Lives.{has_pair_at, MayCopy}
+use Rattle.papaya_others.specs.Given.Schedules.declared.effect.Table.{Table}
+use Rattle.papaya_others.specs.Given.Schedules.Moment.{Place, GivenBack, Stage, TableThere, Moment}
+use Rattle.papaya_others.specs.Given.Schedules.Things.{same_table, same_spot}
+use Rattle.papaya_others.specs.Given.Schedules.Views.{is_in_map, is_there, is_linked, is_stage, is_place}
+use Rattle.papaya_others.specs.Given.Teller.declared.changed.Changed.{Changed}
+use Rattle.papaya_others.specs.Given.Teller.declared.changed.Changed.TheVariants as changed
+use Rattle.papaya_others.specs.Given.Rule.Chart.{Still, Copying, Empty, Holds, Chart}
+use Rattle.papaya_others.specs.Given.Rule.Moments.{Moments}
+use Rattle.papaya_others.specs.Given.Rule.Rule.{Rule}
+use Rattle.papaya_others.specs.Given.Rule.Moves.{Move, Links, Stores, Replaces, Removes, Marks, MarksBlocking, Skips, Unmarks, Puts, Covers, PutsLate, Claims, Reclaims, Counts, GivesUp, Aborts, Promotes, Announces, MayChange, Allowed}
+use Rattle.papaya_others.specs.Given.Rule.Words.{Blocks}
+use Rattle.papaya_others.specs.Given.Rule.Maps.{spot_of}
+use Rattle.papaya_others.specs.Given.Rule.InWorld.{IsMapIn, Moved, Went}
+use Rattle.papaya_others.proofs.Given.Rule.Moves.StoodAlone.{alone_there, never_later}
+use Rattle.papaya_others.specs.Given.Points.Steps.{AreLawful}
+use Rattle.papaya_others.specs.Given.Callers.Sights.{Sight, seen_by, IsGrown, IsSight}
+use Rattle.papaya_others.specs.Given.Callers.Together.{in_slot}
+use Rattle.papaya_others.specs.Given.Finishes.Maps.{Standing}
+use Rattle.papaya_others.specs.Given.Effects.Effects.{spot_at, taken_by, effects_of, known_after}
+use Rattle.papaya_others.specs.Given.Effects.Known.{Known}
+use Rattle.papaya_others.specs.Given.Effects.declared.acting.Acting.TheVariants.{Call}
+use Rattle.papaya_others.specs.Given.Effects.declared.role.Role.{Role}
+use Rattle.papaya_others.specs.Given.Effects.declared.role.Role.TheVariants as role
+use Rattle.papaya_others.specs.Given.Follows.Blocks.{ShowsBlocks}
+use Rattle.papaya_others.specs.Given.Follows.Maps.{table_of, shape_at, tables_to, ShowsMap}
+use Rattle.papaya_others.proofs.Given.Follows.Alike.{AllCalm}
+use Rattle.papaya_others.proofs.Given.Follows.Finds.{first_is, chunks_are, same_one, among, may_stand}
+use Rattle.papaya_others.proofs.Given.Follows.Operations.{LeavesBy}
+use Rattle.papaya_others.proofs.Given.Follows.Rows.{HandsOn, IsStill, Puts as PutsBehind, Retires, RowLeaves, row_written}
+use Rattle.papaya_others.proofs.Given.Follows.Stored.{in_map_true, still_current}
 use Rattle.papaya_spots.specs.Placed.{FindPlaces}
 use Rattle.papaya_spots.specs.Spots.{ThePair, named_by, spot_in, LiesAt, ShowsSpots}
 use Rattle.papaya_spots.specs.Unreclaimed.{is_unreclaimed, ShowsUnreclaimed}

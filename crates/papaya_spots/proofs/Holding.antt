@@ -2,44 +2,44 @@
 use Rattle.std.specs.Prelude.{◌≡◌, ℕ, ◌+◌, nat_lt, ◌&&◌, Bool, true, false, List, [], ◌∷◌, Option, Some, if◌then◌else◌}
 use Rattle.std.specs.List.{list_any}
 use Rattle.std.proofs.Common.{refl, ap, sym, subst, ◌∙◌, arith, inl, inr}
-use Rattle.seize_words.specs.Mem.{Mem}
-use Rattle.seize.specs.World.{World}
-use Rattle.papaya_tables.specs.Chunks.{is_incremental}
-use Rattle.papaya_tables.specs.declared.node.Node.{Node}
-use Rattle.papaya_schedules.specs.declared.effect.Effect.{Effect}
-use Rattle.papaya_schedules.specs.declared.effect.Effect.TheVariants.{Asked, Copied, Stored, Replaced, Removed, Linked, Promoted, Deferred, Retired}
-use Rattle.papaya_schedules.specs.declared.effect.Growth.TheVariants.{ABucket}
-use Rattle.papaya_schedules.specs.declared.effect.Thing.TheVariants.{APair, ATable}
-use Rattle.papaya_schedules.specs.Effects.{with_effect, with_effects}
-use Rattle.papaya_schedules.specs.Moment.{Place, Unborn, InMap, Out, Handed, Behind, Left, GivenBack, Moment}
-use Rattle.papaya_schedules.specs.Things.{same_table}
-use Rattle.papaya_schedules.specs.Views.{is_in_map, is_there}
-use Rattle.papaya_teller.specs.declared.changed.Changed.{Changed}
-use Rattle.papaya_teller.specs.declared.changed.Changed.TheVariants as changed
-use Rattle.papaya_rule.specs.Chart.{Still, Holds, Chart}
-use Rattle.papaya_rule.specs.Moves.{Move, Links, Stores, Replaces, Removes, Marks, MarksBlocking, Skips, Unmarks, Puts, Covers, PutsLate, Claims, Reclaims, Counts, GivesUp, Aborts, Promotes, Announces, MayChange, Allowed}
-use Rattle.papaya_rule.specs.Words.{Blocks}
-use Rattle.papaya_rule.specs.Maps.{spot_of}
-use Rattle.papaya_rule.specs.InWorld.{IsMapIn, Moved, Went}
-use Rattle.papaya_points.specs.Steps.{AreLawful}
-use Rattle.papaya_callers.specs.Sights.{Sight, seen_by, IsGrown, IsSight}
-use Rattle.papaya_callers.specs.Together.{in_slot}
-use Rattle.papaya_finishes.specs.Maps.{Standing}
-use Rattle.papaya_effects.specs.Effects.{effects_of, known_after}
-use Rattle.papaya_effects.specs.Known.{Known}
-use Rattle.papaya_effects.specs.declared.acting.Acting.{Acting}
-use Rattle.papaya_effects.specs.declared.acting.Acting.TheVariants.{Call}
-use Rattle.papaya_effects.specs.declared.role.Role.{Role}
-use Rattle.papaya_effects.specs.declared.role.Role.TheVariants as role
-use Rattle.papaya_follows.specs.Blocks.{ShowsBlocks}
-use Rattle.papaya_follows.specs.Maps.{table_of, ShowsMap}
-use Rattle.papaya_follows.specs.Steps.{TakesNone}
-use Rattle.papaya_follows.proofs.Alike.{AreSame, calm_still, still_all}
-use Rattle.papaya_follows.proofs.Onward.{IsLasting}
-use Rattle.papaya_follows.proofs.Operations.{LeavesBy}
-use Rattle.papaya_follows.proofs.Rows.{HandsOn, IsStill, Puts as PutsBehind, Retires, RowLeaves}
-use Rattle.papaya_follows.proofs.RowSteps.{row_done}
-use Rattle.papaya_follows.proofs.Stored.{still_current}
+use Rattle.papaya_others.specs.Given.SeizeWords.Mem.{Mem}
+use Rattle.papaya_others.specs.Given.Seize.World.{World}
+use Rattle.papaya_others.specs.Given.Tables.Chunks.{is_incremental}
+use Rattle.papaya_others.specs.Given.Tables.declared.node.Node.{Node}
+use Rattle.papaya_others.specs.Given.Schedules.declared.effect.Effect.{Effect}
+use Rattle.papaya_others.specs.Given.Schedules.declared.effect.Effect.TheVariants.{Asked, Copied, Stored, Replaced, Removed, Linked, Promoted, Deferred, Retired}
+use Rattle.papaya_others.specs.Given.Schedules.declared.effect.Growth.TheVariants.{ABucket}
+use Rattle.papaya_others.specs.Given.Schedules.declared.effect.Thing.TheVariants.{APair, ATable}
+use Rattle.papaya_others.specs.Given.Schedules.Effects.{with_effect, with_effects}
+use Rattle.papaya_others.specs.Given.Schedules.Moment.{Place, Unborn, InMap, Out, Handed, Behind, Left, GivenBack, Moment}
+use Rattle.papaya_others.specs.Given.Schedules.Things.{same_table}
+use Rattle.papaya_others.specs.Given.Schedules.Views.{is_in_map, is_there}
+use Rattle.papaya_others.specs.Given.Teller.declared.changed.Changed.{Changed}
+use Rattle.papaya_others.specs.Given.Teller.declared.changed.Changed.TheVariants as changed
+use Rattle.papaya_others.specs.Given.Rule.Chart.{Still, Holds, Chart}
+use Rattle.papaya_others.specs.Given.Rule.Moves.{Move, Links, Stores, Replaces, Removes, Marks, MarksBlocking, Skips, Unmarks, Puts, Covers, PutsLate, Claims, Reclaims, Counts, GivesUp, Aborts, Promotes, Announces, MayChange, Allowed}
+use Rattle.papaya_others.specs.Given.Rule.Words.{Blocks}
+use Rattle.papaya_others.specs.Given.Rule.Maps.{spot_of}
+use Rattle.papaya_others.specs.Given.Rule.InWorld.{IsMapIn, Moved, Went}
+use Rattle.papaya_others.specs.Given.Points.Steps.{AreLawful}
+use Rattle.papaya_others.specs.Given.Callers.Sights.{Sight, seen_by, IsGrown, IsSight}
+use Rattle.papaya_others.specs.Given.Callers.Together.{in_slot}
+use Rattle.papaya_others.specs.Given.Finishes.Maps.{Standing}
+use Rattle.papaya_others.specs.Given.Effects.Effects.{effects_of, known_after}
+use Rattle.papaya_others.specs.Given.Effects.Known.{Known}
+use Rattle.papaya_others.specs.Given.Effects.declared.acting.Acting.{Acting}
+use Rattle.papaya_others.specs.Given.Effects.declared.acting.Acting.TheVariants.{Call}
+use Rattle.papaya_others.specs.Given.Effects.declared.role.Role.{Role}
+use Rattle.papaya_others.specs.Given.Effects.declared.role.Role.TheVariants as role
+use Rattle.papaya_others.specs.Given.Follows.Blocks.{ShowsBlocks}
+use Rattle.papaya_others.specs.Given.Follows.Maps.{table_of, ShowsMap}
+use Rattle.papaya_others.specs.Given.Follows.Steps.{TakesNone}
+use Rattle.papaya_others.proofs.Given.Follows.Alike.{AreSame, calm_still, still_all}
+use Rattle.papaya_others.proofs.Given.Follows.Onward.{IsLasting}
+use Rattle.papaya_others.proofs.Given.Follows.Operations.{LeavesBy}
+use Rattle.papaya_others.proofs.Given.Follows.Rows.{HandsOn, IsStill, Puts as PutsBehind, Retires, RowLeaves}
+use Rattle.papaya_others.proofs.Given.Follows.RowSteps.{row_done}
+use Rattle.papaya_others.proofs.Given.Follows.Stored.{still_current}
 use Rattle.papaya_spots.specs.Spots.{spot_in}
 use Rattle.papaya_spots.specs.Unreclaimed.{is_unreclaimed, ShowsUnreclaimed}
 use Rattle.papaya_spots.proofs.Calm.{IsCalm}

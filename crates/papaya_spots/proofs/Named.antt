@@ -1,22 +1,22 @@
 -- What a step of a call hands over has a block: that of the pair, or of the table.
 use Rattle.std.specs.Prelude.{◌≡◌, ℕ, ◌==◌, Bool, true, false, List, [], ◌∷◌, if◌then◌else◌}
 use Rattle.std.proofs.Common.{refl}
-use Rattle.seize_words.specs.declared.at.At.{At}
-use Rattle.seize_words.specs.declared.at.At.TheVariants.{Root, Used, Slot, Entry, Word}
-use Rattle.seize_words.specs.Word.{block_in}
-use Rattle.seize.specs.declared.states.TheConstants.{FIRST}
-use Rattle.papaya_tables.specs.declared.table_words.TheConstants.{NEXT, DEFERRED}
-use Rattle.papaya_schedules.specs.declared.effect.Effect.{Effect}
-use Rattle.papaya_schedules.specs.declared.effect.Effect.TheVariants.{Deferred, Retired}
-use Rattle.papaya_schedules.specs.declared.effect.Spot.{Spot}
-use Rattle.papaya_schedules.specs.declared.effect.Table.{Table}
-use Rattle.papaya_schedules.specs.declared.effect.Thing.TheVariants.{APair, ATable}
-use Rattle.papaya_effects.specs.Effects.{names_same, followed_by, led_to, carried, placed, spot_at, is_place, in_table, in_block, batched, named, written_by}
-use Rattle.papaya_effects.specs.Known.{Known}
-use Rattle.papaya_effects.specs.declared.acting.Acting.{Acting}
-use Rattle.papaya_effects.specs.declared.acting.Acting.TheVariants.{Call}
-use Rattle.papaya_effects.specs.declared.role.Role.{Role}
-use Rattle.papaya_effects.specs.declared.role.Role.TheVariants as role
+use Rattle.papaya_others.specs.Given.SeizeWords.declared.at.At.{At}
+use Rattle.papaya_others.specs.Given.SeizeWords.declared.at.At.TheVariants.{Root, Used, Slot, Entry, Word}
+use Rattle.papaya_others.specs.Given.SeizeWords.Word.{block_in}
+use Rattle.papaya_others.specs.Given.Seize.declared.states.TheConstants.{FIRST}
+use Rattle.papaya_others.specs.Given.Tables.declared.table_words.TheConstants.{NEXT, DEFERRED}
+use Rattle.papaya_others.specs.Given.Schedules.declared.effect.Effect.{Effect}
+use Rattle.papaya_others.specs.Given.Schedules.declared.effect.Effect.TheVariants.{Deferred, Retired}
+use Rattle.papaya_others.specs.Given.Schedules.declared.effect.Spot.{Spot}
+use Rattle.papaya_others.specs.Given.Schedules.declared.effect.Table.{Table}
+use Rattle.papaya_others.specs.Given.Schedules.declared.effect.Thing.TheVariants.{APair, ATable}
+use Rattle.papaya_others.specs.Given.Effects.Effects.{names_same, followed_by, led_to, carried, placed, spot_at, is_place, in_table, in_block, batched, named, written_by}
+use Rattle.papaya_others.specs.Given.Effects.Known.{Known}
+use Rattle.papaya_others.specs.Given.Effects.declared.acting.Acting.{Acting}
+use Rattle.papaya_others.specs.Given.Effects.declared.acting.Acting.TheVariants.{Call}
+use Rattle.papaya_others.specs.Given.Effects.declared.role.Role.{Role}
+use Rattle.papaya_others.specs.Given.Effects.declared.role.Role.TheVariants as role
 
 module _ (known : Known) where
   -- what is handed over has its block

@@ -2,25 +2,25 @@
 use Rattle.std.specs.Prelude.{◌≡◌, ℕ, nat_lt, ◌&&◌, Bool, true, false, List, [], ◌∷◌, None, if◌then◌else◌}
 use Rattle.std.specs.List.{list_any}
 use Rattle.std.proofs.Common.{refl, ap, sym, subst, ◌∙◌}
-use Rattle.seize_words.specs.declared.at.At.TheVariants.{Root, Used, Slot, Entry, Word}
-use Rattle.papaya_schedules.specs.declared.effect.Effect.{Effect}
-use Rattle.papaya_schedules.specs.declared.effect.Effect.TheVariants.{Asked}
-use Rattle.papaya_schedules.specs.declared.effect.Growth.TheVariants.{ABucket}
-use Rattle.papaya_schedules.specs.Effects.{with_effect, with_effects, AtEachEffect}
-use Rattle.papaya_schedules.specs.Moment.{Place, Handed, IsReclaimed, Moment}
-use Rattle.papaya_schedules.specs.Things.{same_table}
-use Rattle.papaya_schedules.specs.Views.{is_there}
-use Rattle.papaya_teller.specs.declared.changed.Changed.{Changed}
-use Rattle.papaya_teller.specs.declared.changed.Changed.TheVariants as changed
-use Rattle.papaya_effects.specs.Effects.{names_same, taken_by, effects_of, known_after}
-use Rattle.papaya_effects.specs.Known.{Known, with_role}
-use Rattle.papaya_effects.specs.declared.acting.Acting.TheVariants.{Row}
-use Rattle.papaya_effects.specs.declared.role.Role.{Role}
-use Rattle.papaya_effects.specs.declared.role.Role.TheVariants as role
-use Rattle.papaya_executor.specs.IsAt.{Scene}
-use Rattle.papaya_follows.specs.Shows.{Shows}
-use Rattle.papaya_follows.proofs.Onward.{IsOfMap}
-use Rattle.papaya_follows.proofs.Told.{roomed_as_many}
+use Rattle.papaya_others.specs.Given.SeizeWords.declared.at.At.TheVariants.{Root, Used, Slot, Entry, Word}
+use Rattle.papaya_others.specs.Given.Schedules.declared.effect.Effect.{Effect}
+use Rattle.papaya_others.specs.Given.Schedules.declared.effect.Effect.TheVariants.{Asked}
+use Rattle.papaya_others.specs.Given.Schedules.declared.effect.Growth.TheVariants.{ABucket}
+use Rattle.papaya_others.specs.Given.Schedules.Effects.{with_effect, with_effects, AtEachEffect}
+use Rattle.papaya_others.specs.Given.Schedules.Moment.{Place, Handed, IsReclaimed, Moment}
+use Rattle.papaya_others.specs.Given.Schedules.Things.{same_table}
+use Rattle.papaya_others.specs.Given.Schedules.Views.{is_there}
+use Rattle.papaya_others.specs.Given.Teller.declared.changed.Changed.{Changed}
+use Rattle.papaya_others.specs.Given.Teller.declared.changed.Changed.TheVariants as changed
+use Rattle.papaya_others.specs.Given.Effects.Effects.{names_same, taken_by, effects_of, known_after}
+use Rattle.papaya_others.specs.Given.Effects.Known.{Known, with_role}
+use Rattle.papaya_others.specs.Given.Effects.declared.acting.Acting.TheVariants.{Row}
+use Rattle.papaya_others.specs.Given.Effects.declared.role.Role.{Role}
+use Rattle.papaya_others.specs.Given.Effects.declared.role.Role.TheVariants as role
+use Rattle.papaya_others.specs.Given.Executor.IsAt.{Scene}
+use Rattle.papaya_others.specs.Given.Follows.Shows.{Shows}
+use Rattle.papaya_others.proofs.Given.Follows.Onward.{IsOfMap}
+use Rattle.papaya_others.proofs.Given.Follows.Told.{roomed_as_many}
 use Rattle.papaya_others.proofs.RowPlans.{TellsRow, row_tells}
 use Rattle.papaya_spots.specs.Deferred.{FindsNumbers}
 use Rattle.papaya_spots.specs.OnSlots.{WaitUnreclaimed, RowsLeavePlaces, RowsKeepBlocks}

@@ -2,42 +2,42 @@
 use Rattle.std.specs.Prelude.{◌≡◌, ◌≢◌, ℕ, suc, ◌+◌, ◌<◌, ◌≤◌, Bool, true, false, cond, List, [], ◌∷◌, length, Option, Some, if◌then◌else◌}
 use Rattle.std.proofs.Common.{refl, ap, sym, subst, ◌∙◌, arith, inl, inr}
 use Rattle.std.proofs.lemmas.Bool.{eq-eqb, cases_eq, cases_lt}
-use Rattle.seize_words.specs.Mem.{Mem}
-use Rattle.seize.specs.World.{World}
-use Rattle.papaya_tables.specs.Chunks.{is_incremental}
-use Rattle.papaya_tables.specs.declared.node.Node.{Node}
-use Rattle.papaya_tables.specs.declared.status.TheConstants.Status.{ABORTED}
-use Rattle.papaya_schedules.specs.declared.effect.Effect.{Effect}
-use Rattle.papaya_schedules.specs.declared.effect.Effect.TheVariants.{Copied, Stored, Replaced, Promoted}
-use Rattle.papaya_schedules.specs.declared.effect.Spot.{Spot}
-use Rattle.papaya_schedules.specs.declared.effect.Table.{Table}
-use Rattle.papaya_schedules.specs.Effects.{later, is_chunked, spot_by, with_effects}
-use Rattle.papaya_schedules.specs.Lists.{put}
-use Rattle.papaya_schedules.specs.Moment.{Moment}
-use Rattle.papaya_teller.specs.declared.changed.Changed.{Changed}
-use Rattle.papaya_rule.specs.Chart.{Still, Copying, Holds, Chart, put_in}
-use Rattle.papaya_rule.specs.Moments.{Moments}
-use Rattle.papaya_rule.specs.Rule.{Rule}
-use Rattle.papaya_rule.specs.Moves.{Move, Links, Stores, Replaces, Removes, Marks, MarksBlocking, Skips, Unmarks, Puts, Covers, PutsLate, Claims, Reclaims, Counts, GivesUp, Aborts, Promotes, Announces, Allowed, after}
-use Rattle.papaya_rule.specs.Words.{Blocks}
-use Rattle.papaya_rule.specs.Maps.{spot_of}
-use Rattle.papaya_rule.specs.InWorld.{IsMapIn, Moved, Went}
-use Rattle.papaya_points.specs.Steps.{AreLawful}
-use Rattle.papaya_callers.specs.Sights.{Sight, seen_by, IsGrown, IsSight}
-use Rattle.papaya_callers.specs.Together.{in_slot}
-use Rattle.papaya_finishes.specs.Maps.{Standing}
-use Rattle.papaya_effects.specs.Effects.{effects_of, known_after}
-use Rattle.papaya_effects.specs.Known.{Known, with_pair, with_role}
-use Rattle.papaya_effects.specs.declared.acting.Acting.TheVariants.{Call}
-use Rattle.papaya_effects.specs.declared.role.Role.{Role}
-use Rattle.papaya_effects.specs.declared.role.Role.TheVariants as role
-use Rattle.papaya_follows.specs.Blocks.{ShowsBlocks}
-use Rattle.papaya_follows.specs.Maps.{table_of, ShowsMap}
-use Rattle.papaya_follows.proofs.Alike.{put_here, put_elsewhere}
-use Rattle.papaya_follows.proofs.Finds.{chunks_are}
-use Rattle.papaya_follows.proofs.Onward.{IsLasting, KeepsRoles}
-use Rattle.papaya_follows.proofs.Operations.{LeavesBy}
-use Rattle.papaya_follows.proofs.Stored.{in_root, still_home}
+use Rattle.papaya_others.specs.Given.SeizeWords.Mem.{Mem}
+use Rattle.papaya_others.specs.Given.Seize.World.{World}
+use Rattle.papaya_others.specs.Given.Tables.Chunks.{is_incremental}
+use Rattle.papaya_others.specs.Given.Tables.declared.node.Node.{Node}
+use Rattle.papaya_others.specs.Given.Tables.declared.status.TheConstants.Status.{ABORTED}
+use Rattle.papaya_others.specs.Given.Schedules.declared.effect.Effect.{Effect}
+use Rattle.papaya_others.specs.Given.Schedules.declared.effect.Effect.TheVariants.{Copied, Stored, Replaced, Promoted}
+use Rattle.papaya_others.specs.Given.Schedules.declared.effect.Spot.{Spot}
+use Rattle.papaya_others.specs.Given.Schedules.declared.effect.Table.{Table}
+use Rattle.papaya_others.specs.Given.Schedules.Effects.{later, is_chunked, spot_by, with_effects}
+use Rattle.papaya_others.specs.Given.Schedules.Lists.{put}
+use Rattle.papaya_others.specs.Given.Schedules.Moment.{Moment}
+use Rattle.papaya_others.specs.Given.Teller.declared.changed.Changed.{Changed}
+use Rattle.papaya_others.specs.Given.Rule.Chart.{Still, Copying, Holds, Chart, put_in}
+use Rattle.papaya_others.specs.Given.Rule.Moments.{Moments}
+use Rattle.papaya_others.specs.Given.Rule.Rule.{Rule}
+use Rattle.papaya_others.specs.Given.Rule.Moves.{Move, Links, Stores, Replaces, Removes, Marks, MarksBlocking, Skips, Unmarks, Puts, Covers, PutsLate, Claims, Reclaims, Counts, GivesUp, Aborts, Promotes, Announces, Allowed, after}
+use Rattle.papaya_others.specs.Given.Rule.Words.{Blocks}
+use Rattle.papaya_others.specs.Given.Rule.Maps.{spot_of}
+use Rattle.papaya_others.specs.Given.Rule.InWorld.{IsMapIn, Moved, Went}
+use Rattle.papaya_others.specs.Given.Points.Steps.{AreLawful}
+use Rattle.papaya_others.specs.Given.Callers.Sights.{Sight, seen_by, IsGrown, IsSight}
+use Rattle.papaya_others.specs.Given.Callers.Together.{in_slot}
+use Rattle.papaya_others.specs.Given.Finishes.Maps.{Standing}
+use Rattle.papaya_others.specs.Given.Effects.Effects.{effects_of, known_after}
+use Rattle.papaya_others.specs.Given.Effects.Known.{Known, with_pair, with_role}
+use Rattle.papaya_others.specs.Given.Effects.declared.acting.Acting.TheVariants.{Call}
+use Rattle.papaya_others.specs.Given.Effects.declared.role.Role.{Role}
+use Rattle.papaya_others.specs.Given.Effects.declared.role.Role.TheVariants as role
+use Rattle.papaya_others.specs.Given.Follows.Blocks.{ShowsBlocks}
+use Rattle.papaya_others.specs.Given.Follows.Maps.{table_of, ShowsMap}
+use Rattle.papaya_others.proofs.Given.Follows.Alike.{put_here, put_elsewhere}
+use Rattle.papaya_others.proofs.Given.Follows.Finds.{chunks_are}
+use Rattle.papaya_others.proofs.Given.Follows.Onward.{IsLasting, KeepsRoles}
+use Rattle.papaya_others.proofs.Given.Follows.Operations.{LeavesBy}
+use Rattle.papaya_others.proofs.Given.Follows.Stored.{in_root, still_home}
 use Rattle.papaya_spots.specs.Spots.{ThePair, named_by, spot_in, IsPairOf, ShowsSpots}
 use Rattle.papaya_spots.proofs.Born.{born_move, whole_move}
 use Rattle.papaya_spots.proofs.Copies.{alone, new_lies, new_copied}

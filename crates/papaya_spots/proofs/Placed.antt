@@ -2,22 +2,22 @@
 use Rattle.std.specs.Prelude.{◌≡◌, ℕ, ◌+◌, ◌<◌, ◌≤◌, Bool, true, false}
 use Rattle.std.proofs.Common.{refl, ap, sym, ◌∙◌, arith, inl, inr}
 use Rattle.std.proofs.lemmas.Bool.{eq-eqb, cases_lt}
-use Rattle.seize_words.specs.declared.at.At.TheVariants.{Word}
-use Rattle.seize_words.specs.Mem.{Mem, word_at}
-use Rattle.seize_words.specs.Word.{block_in}
-use Rattle.papaya_tables.specs.Chunks.{is_incremental}
-use Rattle.papaya_tables.specs.declared.node.Node.{Node}
-use Rattle.papaya_tables.specs.declared.table_words.TheConstants.{PLACES}
-use Rattle.papaya_schedules.specs.declared.effect.Spot.{Spot}
-use Rattle.papaya_schedules.specs.Views.{is_in_map}
-use Rattle.papaya_rule.specs.Chart.{Phase, Holds, Chart}
-use Rattle.papaya_rule.specs.Maps.{spot_of}
-use Rattle.papaya_rule.specs.Words.{byte_of, place_word}
-use Rattle.papaya_rule.proofs.Laws.{current_is_known, words_name_pairs, bytes_are_few}
-use Rattle.papaya_callers.specs.Together.{Together}
-use Rattle.papaya_effects.specs.declared.role.Role.TheVariants as role
-use Rattle.papaya_executor.specs.IsAt.{slot_of}
-use Rattle.papaya_follows.specs.Maps.{ShowsMap}
+use Rattle.papaya_others.specs.Given.SeizeWords.declared.at.At.TheVariants.{Word}
+use Rattle.papaya_others.specs.Given.SeizeWords.Mem.{Mem, word_at}
+use Rattle.papaya_others.specs.Given.SeizeWords.Word.{block_in}
+use Rattle.papaya_others.specs.Given.Tables.Chunks.{is_incremental}
+use Rattle.papaya_others.specs.Given.Tables.declared.node.Node.{Node}
+use Rattle.papaya_others.specs.Given.Tables.declared.table_words.TheConstants.{PLACES}
+use Rattle.papaya_others.specs.Given.Schedules.declared.effect.Spot.{Spot}
+use Rattle.papaya_others.specs.Given.Schedules.Views.{is_in_map}
+use Rattle.papaya_others.specs.Given.Rule.Chart.{Phase, Holds, Chart}
+use Rattle.papaya_others.specs.Given.Rule.Maps.{spot_of}
+use Rattle.papaya_others.specs.Given.Rule.Words.{byte_of, place_word}
+use Rattle.papaya_others.proofs.Given.Rule.Laws.{current_is_known, words_name_pairs, bytes_are_few}
+use Rattle.papaya_others.specs.Given.Callers.Together.{Together}
+use Rattle.papaya_others.specs.Given.Effects.declared.role.Role.TheVariants as role
+use Rattle.papaya_others.specs.Given.Executor.IsAt.{slot_of}
+use Rattle.papaya_others.specs.Given.Follows.Maps.{ShowsMap}
 use Rattle.papaya_spots.specs.Placed.{PlacesNamePairs}
 use Rattle.papaya_spots.specs.Spots.{ThePair, named_by, LiesAt}
 use Rattle.papaya_spots.proofs.Moves.{named_made}

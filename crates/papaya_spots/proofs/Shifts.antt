@@ -1,34 +1,34 @@
 -- Which pairs come to a map, and leave it, by a step of a call that is none of a row, and what its effects say of that.
 use Rattle.std.specs.Prelude.{◌≡◌, ℕ, ◌+◌, Bool, true, false, List, [], ◌∷◌, ◌++◌, flat_map, Option}
 use Rattle.std.proofs.Common.{refl, ap, ◌∙◌, inl, inr}
-use Rattle.seize_words.specs.Mem.{Mem}
-use Rattle.seize.specs.World.{World}
-use Rattle.papaya_tables.specs.Chunks.{is_incremental}
-use Rattle.papaya_tables.specs.declared.node.Node.{Node}
-use Rattle.papaya_schedules.specs.declared.effect.Effect.{Effect}
-use Rattle.papaya_schedules.specs.declared.effect.Effect.TheVariants.{Stored, Replaced, Removed}
-use Rattle.papaya_schedules.specs.declared.effect.Spot.{Spot}
-use Rattle.papaya_schedules.specs.Linearizable.{shift_of}
-use Rattle.papaya_schedules.specs.Moment.{Moment}
-use Rattle.papaya_schedules.specs.Sequential.{Shift}
-use Rattle.papaya_teller.specs.declared.changed.Changed.{Changed}
-use Rattle.papaya_rule.specs.Chart.{Place, Chart, put}
-use Rattle.papaya_rule.specs.InWorld.{IsMapIn, Moved, Went}
-use Rattle.papaya_rule.specs.Maps.{spot_of}
-use Rattle.papaya_rule.specs.Moves.{Move, Links, Stores, Replaces, Removes, Marks, MarksBlocking, Skips, Unmarks, Puts, Covers, PutsLate, Claims, Reclaims, Counts, GivesUp, Aborts, Promotes, Announces, Allowed, after, without}
-use Rattle.papaya_rule.specs.Words.{Blocks}
-use Rattle.papaya_points.specs.Steps.{AreLawful}
-use Rattle.papaya_callers.specs.Sights.{Sight, seen_by, IsGrown, IsSight}
-use Rattle.papaya_callers.specs.Together.{in_slot}
-use Rattle.papaya_finishes.specs.Maps.{Standing}
-use Rattle.papaya_effects.specs.Effects.{effects_of, known_after}
-use Rattle.papaya_effects.specs.Known.{Known}
-use Rattle.papaya_effects.specs.declared.acting.Acting.TheVariants.{Call}
-use Rattle.papaya_follows.specs.Blocks.{ShowsBlocks}
-use Rattle.papaya_follows.specs.Maps.{ShowsMap}
-use Rattle.papaya_follows.proofs.Alike.{is_calm, AllCalm}
-use Rattle.papaya_follows.proofs.Operations.{LeavesBy}
-use Rattle.papaya_follows.proofs.Stored.{still_current}
+use Rattle.papaya_others.specs.Given.SeizeWords.Mem.{Mem}
+use Rattle.papaya_others.specs.Given.Seize.World.{World}
+use Rattle.papaya_others.specs.Given.Tables.Chunks.{is_incremental}
+use Rattle.papaya_others.specs.Given.Tables.declared.node.Node.{Node}
+use Rattle.papaya_others.specs.Given.Schedules.declared.effect.Effect.{Effect}
+use Rattle.papaya_others.specs.Given.Schedules.declared.effect.Effect.TheVariants.{Stored, Replaced, Removed}
+use Rattle.papaya_others.specs.Given.Schedules.declared.effect.Spot.{Spot}
+use Rattle.papaya_others.specs.Given.Schedules.Linearizable.{shift_of}
+use Rattle.papaya_others.specs.Given.Schedules.Moment.{Moment}
+use Rattle.papaya_others.specs.Given.Schedules.Sequential.{Shift}
+use Rattle.papaya_others.specs.Given.Teller.declared.changed.Changed.{Changed}
+use Rattle.papaya_others.specs.Given.Rule.Chart.{Place, Chart, put}
+use Rattle.papaya_others.specs.Given.Rule.InWorld.{IsMapIn, Moved, Went}
+use Rattle.papaya_others.specs.Given.Rule.Maps.{spot_of}
+use Rattle.papaya_others.specs.Given.Rule.Moves.{Move, Links, Stores, Replaces, Removes, Marks, MarksBlocking, Skips, Unmarks, Puts, Covers, PutsLate, Claims, Reclaims, Counts, GivesUp, Aborts, Promotes, Announces, Allowed, after, without}
+use Rattle.papaya_others.specs.Given.Rule.Words.{Blocks}
+use Rattle.papaya_others.specs.Given.Points.Steps.{AreLawful}
+use Rattle.papaya_others.specs.Given.Callers.Sights.{Sight, seen_by, IsGrown, IsSight}
+use Rattle.papaya_others.specs.Given.Callers.Together.{in_slot}
+use Rattle.papaya_others.specs.Given.Finishes.Maps.{Standing}
+use Rattle.papaya_others.specs.Given.Effects.Effects.{effects_of, known_after}
+use Rattle.papaya_others.specs.Given.Effects.Known.{Known}
+use Rattle.papaya_others.specs.Given.Effects.declared.acting.Acting.TheVariants.{Call}
+use Rattle.papaya_others.specs.Given.Follows.Blocks.{ShowsBlocks}
+use Rattle.papaya_others.specs.Given.Follows.Maps.{ShowsMap}
+use Rattle.papaya_others.proofs.Given.Follows.Alike.{is_calm, AllCalm}
+use Rattle.papaya_others.proofs.Given.Follows.Operations.{LeavesBy}
+use Rattle.papaya_others.proofs.Given.Follows.Stored.{still_current}
 use Rattle.papaya_spots.proofs.Calm.{IsCalm}
 use Rattle.papaya_spots.proofs.Done.{DidBy, DidMoved}
 

@@ -2,54 +2,54 @@
 use Rattle.std.specs.Prelude.{◌≡◌, ◌≢◌, ℕ, ◌<◌, Bool, true, false, List, Option, Some, length}
 use Rattle.std.proofs.Common.{refl, ap, sym, subst, ◌∙◌, arith, inl, inr}
 use Rattle.std.proofs.lemmas.Bool.{ne_eqb, cases_eq}
-use Rattle.seize_words.specs.declared.at.At.{At}
-use Rattle.seize_words.specs.declared.at.At.TheVariants.{Root, Used, Slot, Entry, Word}
-use Rattle.seize_words.specs.Mem.{Mem, word_at}
-use Rattle.seize_words.specs.Word.{block_in}
-use Rattle.seize.specs.World.{World, IsInside, with_at}
-use Rattle.papaya_tables.specs.declared.node.Node.{Node}
-use Rattle.papaya_tables.specs.declared.setting.Setting.{Setting}
-use Rattle.papaya_raw.specs.Machine.{machine_plan}
-use Rattle.papaya_raw.specs.declared.machines.machine.Machine.{Machine}
-use Rattle.papaya_raw.specs.declared.machines.progress.Progress.{Progress}
-use Rattle.papaya_schedules.specs.declared.effect.Effect.{Effect}
-use Rattle.papaya_schedules.specs.Effects.{with_effects, AtEachEffect}
-use Rattle.papaya_schedules.specs.Moment.{Place, Unborn, InMap, Out, Handed, Behind, Left, GivenBack, Moment}
-use Rattle.papaya_schedules.specs.Views.{is_in_map}
-use Rattle.papaya_teller.specs.declared.changed.Changed.{Changed}
-use Rattle.papaya_teller.specs.declared.changed.Changed.TheVariants as changed
-use Rattle.papaya_tells.specs.Seen.{Seen, Unseen, Wrote, seen_of}
-use Rattle.papaya_tells.specs.Tells.{KeepsNames, IsTold}
-use Rattle.papaya_tells.proofs.Promised.{operations_tell, still_steps_tell}
-use Rattle.papaya_rule.specs.Chart.{Chart}
-use Rattle.papaya_rule.specs.Words.{Blocks}
-use Rattle.papaya_rule.specs.InWorld.{IsMapIn, Went}
-use Rattle.papaya_rule.proofs.Laws.{current_is_known}
-use Rattle.papaya_rule.proofs.World.WentTold.{went_as}
-use Rattle.papaya_points.specs.Steps.{AreLawful}
-use Rattle.papaya_callers.specs.Sights.{Sight, seen_by, IsGrown, IsSight}
-use Rattle.papaya_callers.specs.Together.{UnderWay, OnKey, ForRoom, Counting, OverAll, in_slot, IsOneStep, Together}
-use Rattle.papaya_callers.proofs.Sights.Seen.{map_seen}
-use Rattle.papaya_callers.proofs.Together.At.{at_other, at_same}
-use Rattle.papaya_callers.proofs.Together.Fits.{map_in_slot}
-use Rattle.papaya_finishes.specs.Machines.{machine_of, MachineStepsAmong}
-use Rattle.papaya_finishes.specs.Maps.{Standing, IsSameMap}
-use Rattle.papaya_effects.specs.Effects.{effects_of, known_after}
-use Rattle.papaya_effects.specs.Known.{Known}
-use Rattle.papaya_effects.specs.declared.acting.Acting.{Acting}
-use Rattle.papaya_effects.specs.declared.acting.Acting.TheVariants.{Call}
-use Rattle.papaya_executor.specs.IsAt.{Scene, IsAt, slot_of}
-use Rattle.papaya_executor.specs.Stepping.{StepsFrom, StepLeads, scene_after}
-use Rattle.papaya_executor.specs.declared.executor.Executor.{Executor}
-use Rattle.papaya_executor.proofs.Steps.{may_step}
-use Rattle.papaya_follows.specs.Maps.{ShowsMap}
-use Rattle.papaya_follows.specs.Shows.{Shows}
-use Rattle.papaya_follows.specs.Steps.{TakesNone, Did, IsOfNoRow}
-use Rattle.papaya_follows.proofs.Nowhere.{went_nowhere}
-use Rattle.papaya_follows.proofs.Onward.{IsOfMap}
-use Rattle.papaya_follows.proofs.Operations.{LeavesBy, Operated, operated, operated_leaves, seen_write, told_write}
-use Rattle.papaya_follows.proofs.Rows.{one_step_leaves}
-use Rattle.papaya_follows.proofs.Steps.{one_of}
+use Rattle.papaya_others.specs.Given.SeizeWords.declared.at.At.{At}
+use Rattle.papaya_others.specs.Given.SeizeWords.declared.at.At.TheVariants.{Root, Used, Slot, Entry, Word}
+use Rattle.papaya_others.specs.Given.SeizeWords.Mem.{Mem, word_at}
+use Rattle.papaya_others.specs.Given.SeizeWords.Word.{block_in}
+use Rattle.papaya_others.specs.Given.Seize.World.{World, IsInside, with_at}
+use Rattle.papaya_others.specs.Given.Tables.declared.node.Node.{Node}
+use Rattle.papaya_others.specs.Given.Tables.declared.setting.Setting.{Setting}
+use Rattle.papaya_others.specs.Given.Raw.Machine.{machine_plan}
+use Rattle.papaya_others.specs.Given.Raw.declared.machines.machine.Machine.{Machine}
+use Rattle.papaya_others.specs.Given.Raw.declared.machines.progress.Progress.{Progress}
+use Rattle.papaya_others.specs.Given.Schedules.declared.effect.Effect.{Effect}
+use Rattle.papaya_others.specs.Given.Schedules.Effects.{with_effects, AtEachEffect}
+use Rattle.papaya_others.specs.Given.Schedules.Moment.{Place, Unborn, InMap, Out, Handed, Behind, Left, GivenBack, Moment}
+use Rattle.papaya_others.specs.Given.Schedules.Views.{is_in_map}
+use Rattle.papaya_others.specs.Given.Teller.declared.changed.Changed.{Changed}
+use Rattle.papaya_others.specs.Given.Teller.declared.changed.Changed.TheVariants as changed
+use Rattle.papaya_others.specs.Given.Tells.Seen.{Seen, Unseen, Wrote, seen_of}
+use Rattle.papaya_others.specs.Given.Tells.Tells.{KeepsNames, IsTold}
+use Rattle.papaya_others.proofs.Given.Tells.Promised.{operations_tell, still_steps_tell}
+use Rattle.papaya_others.specs.Given.Rule.Chart.{Chart}
+use Rattle.papaya_others.specs.Given.Rule.Words.{Blocks}
+use Rattle.papaya_others.specs.Given.Rule.InWorld.{IsMapIn, Went}
+use Rattle.papaya_others.proofs.Given.Rule.Laws.{current_is_known}
+use Rattle.papaya_others.proofs.Given.Rule.World.WentTold.{went_as}
+use Rattle.papaya_others.specs.Given.Points.Steps.{AreLawful}
+use Rattle.papaya_others.specs.Given.Callers.Sights.{Sight, seen_by, IsGrown, IsSight}
+use Rattle.papaya_others.specs.Given.Callers.Together.{UnderWay, OnKey, ForRoom, Counting, OverAll, in_slot, IsOneStep, Together}
+use Rattle.papaya_others.proofs.Given.Callers.Sights.Seen.{map_seen}
+use Rattle.papaya_others.proofs.Given.Callers.Together.At.{at_other, at_same}
+use Rattle.papaya_others.proofs.Given.Callers.Together.Fits.{map_in_slot}
+use Rattle.papaya_others.specs.Given.Finishes.Machines.{machine_of, MachineStepsAmong}
+use Rattle.papaya_others.specs.Given.Finishes.Maps.{Standing, IsSameMap}
+use Rattle.papaya_others.specs.Given.Effects.Effects.{effects_of, known_after}
+use Rattle.papaya_others.specs.Given.Effects.Known.{Known}
+use Rattle.papaya_others.specs.Given.Effects.declared.acting.Acting.{Acting}
+use Rattle.papaya_others.specs.Given.Effects.declared.acting.Acting.TheVariants.{Call}
+use Rattle.papaya_others.specs.Given.Executor.IsAt.{Scene, IsAt, slot_of}
+use Rattle.papaya_others.specs.Given.Executor.Stepping.{StepsFrom, StepLeads, scene_after}
+use Rattle.papaya_others.specs.Given.Executor.declared.executor.Executor.{Executor}
+use Rattle.papaya_others.proofs.Given.Executor.Steps.{may_step}
+use Rattle.papaya_others.specs.Given.Follows.Maps.{ShowsMap}
+use Rattle.papaya_others.specs.Given.Follows.Shows.{Shows}
+use Rattle.papaya_others.specs.Given.Follows.Steps.{TakesNone, Did, IsOfNoRow}
+use Rattle.papaya_others.proofs.Given.Follows.Nowhere.{went_nowhere}
+use Rattle.papaya_others.proofs.Given.Follows.Onward.{IsOfMap}
+use Rattle.papaya_others.proofs.Given.Follows.Operations.{LeavesBy, Operated, operated, operated_leaves, seen_write, told_write}
+use Rattle.papaya_others.proofs.Given.Follows.Rows.{one_step_leaves}
+use Rattle.papaya_others.proofs.Given.Follows.Steps.{one_of}
 use Rattle.papaya_spots.specs.Deferred.{FindsNumbers, CallsLeaveOutside}
 use Rattle.papaya_spots.specs.Placed.{FindPlaces, CallsFindPlaces}
 use Rattle.papaya_spots.specs.Spots.{ShowsSpots, ShowsPlaces}

@@ -1,7 +1,7 @@
 -- What is not reclaimed is in the memory.
 use Rattle.std.specs.Prelude.{Bool}
 use Rattle.std.proofs.Common.{subst}
-use Rattle.papaya_follows.specs.Blocks.{HasRole}
+use Rattle.papaya_others.specs.Given.Follows.Blocks.{HasRole}
 use Rattle.papaya_spots.specs.Unreclaimed.{UnreclaimedAreThere}
 
 pub unreclaimed_are_there : (K V : Type 0) (same : K → K → Bool) → UnreclaimedAreThere K V same

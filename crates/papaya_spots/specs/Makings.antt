@@ -1,17 +1,17 @@
 -- Where pairs lie, and what waits behind tables, after a step of the making of a map.
 use Rattle.std.specs.Prelude.{◌≡◌, ℕ, Bool, List, Option, Some, None}
-use Rattle.seize.specs.declared.progress.Progress.{Progress}
-use Rattle.papaya_tables.specs.declared.setting.Setting.{Setting}
-use Rattle.papaya_schedules.specs.Effects.{with_effects}
-use Rattle.papaya_schedules.specs.Moment.{Moment}
-use Rattle.papaya_finishes.specs.Makings.{Beginning}
-use Rattle.papaya_effects.specs.Effects.{effects_of, known_after}
-use Rattle.papaya_effects.specs.Known.{Known}
-use Rattle.papaya_effects.specs.declared.acting.Acting.TheVariants.{Making}
-use Rattle.papaya_executor.specs.IsAt.{Scene, IsAt}
-use Rattle.papaya_executor.specs.Making.{MakingLeads}
-use Rattle.papaya_executor.specs.declared.executor.Executor.{Executor}
-use Rattle.papaya_follows.specs.Shows.{Shows}
+use Rattle.papaya_others.specs.Given.Seize.declared.progress.Progress.{Progress}
+use Rattle.papaya_others.specs.Given.Tables.declared.setting.Setting.{Setting}
+use Rattle.papaya_others.specs.Given.Schedules.Effects.{with_effects}
+use Rattle.papaya_others.specs.Given.Schedules.Moment.{Moment}
+use Rattle.papaya_others.specs.Given.Finishes.Makings.{Beginning}
+use Rattle.papaya_others.specs.Given.Effects.Effects.{effects_of, known_after}
+use Rattle.papaya_others.specs.Given.Effects.Known.{Known}
+use Rattle.papaya_others.specs.Given.Effects.declared.acting.Acting.TheVariants.{Making}
+use Rattle.papaya_others.specs.Given.Executor.IsAt.{Scene, IsAt}
+use Rattle.papaya_others.specs.Given.Executor.Making.{MakingLeads}
+use Rattle.papaya_others.specs.Given.Executor.declared.executor.Executor.{Executor}
+use Rattle.papaya_others.specs.Given.Follows.Shows.{Shows}
 use Rattle.papaya_others.specs.Makings.{making_after}
 use Rattle.papaya_spots.specs.Deferred.{WaitOutside}
 use Rattle.papaya_spots.specs.Spots.{ShowsPlaces}

@@ -1,24 +1,24 @@
 -- Where pairs lie, which blocks are unreclaimed, and what waits behind tables, after a step of a row on a slot.
 use Rattle.std.specs.Prelude.{◌≡◌, ℕ, Bool, true, List, Some, None}
-use Rattle.seize.specs.World.{Step}
-use Rattle.papaya_schedules.specs.declared.effect.Effect.{Effect}
-use Rattle.papaya_schedules.specs.declared.effect.Effect.TheVariants.{Reclaimed}
-use Rattle.papaya_schedules.specs.declared.effect.Thing.TheVariants.{ATable}
-use Rattle.papaya_schedules.specs.Effects.{with_effects, AtEachEffect}
-use Rattle.papaya_schedules.specs.Lists.{is_among}
-use Rattle.papaya_schedules.specs.Moment.{Moment}
-use Rattle.papaya_schedules.specs.Views.{behind}
-use Rattle.papaya_tables.specs.declared.node.Node.{Node}
-use Rattle.papaya_effects.specs.Effects.{effects_of, known_after}
-use Rattle.papaya_effects.specs.Known.{Known}
-use Rattle.papaya_effects.specs.declared.acting.Acting.TheVariants.{Row}
-use Rattle.papaya_executor.specs.IsAt.{Scene, work_of}
-use Rattle.papaya_executor.specs.OnSlots.{RowLeads}
-use Rattle.papaya_executor.specs.declared.executor.Executor.{Executor}
-use Rattle.papaya_executor.specs.declared.row.RowTold.{RowTold}
-use Rattle.papaya_executor.specs.declared.row.SlotRow.{SlotRow}
-use Rattle.papaya_executor.specs.declared.worker.Work.TheVariants.{OnSlot}
-use Rattle.papaya_follows.specs.Shows.{Shows}
+use Rattle.papaya_others.specs.Given.Seize.World.{Step}
+use Rattle.papaya_others.specs.Given.Schedules.declared.effect.Effect.{Effect}
+use Rattle.papaya_others.specs.Given.Schedules.declared.effect.Effect.TheVariants.{Reclaimed}
+use Rattle.papaya_others.specs.Given.Schedules.declared.effect.Thing.TheVariants.{ATable}
+use Rattle.papaya_others.specs.Given.Schedules.Effects.{with_effects, AtEachEffect}
+use Rattle.papaya_others.specs.Given.Schedules.Lists.{is_among}
+use Rattle.papaya_others.specs.Given.Schedules.Moment.{Moment}
+use Rattle.papaya_others.specs.Given.Schedules.Views.{behind}
+use Rattle.papaya_others.specs.Given.Tables.declared.node.Node.{Node}
+use Rattle.papaya_others.specs.Given.Effects.Effects.{effects_of, known_after}
+use Rattle.papaya_others.specs.Given.Effects.Known.{Known}
+use Rattle.papaya_others.specs.Given.Effects.declared.acting.Acting.TheVariants.{Row}
+use Rattle.papaya_others.specs.Given.Executor.IsAt.{Scene, work_of}
+use Rattle.papaya_others.specs.Given.Executor.OnSlots.{RowLeads}
+use Rattle.papaya_others.specs.Given.Executor.declared.executor.Executor.{Executor}
+use Rattle.papaya_others.specs.Given.Executor.declared.row.RowTold.{RowTold}
+use Rattle.papaya_others.specs.Given.Executor.declared.row.SlotRow.{SlotRow}
+use Rattle.papaya_others.specs.Given.Executor.declared.worker.Work.TheVariants.{OnSlot}
+use Rattle.papaya_others.specs.Given.Follows.Shows.{Shows}
 use Rattle.papaya_others.specs.Rows.{scene_then}
 use Rattle.papaya_spots.specs.Deferred.{WaitOutside}
 use Rattle.papaya_spots.specs.Spots.{ShowsPlaces}

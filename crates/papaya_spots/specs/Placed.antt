@@ -1,28 +1,28 @@
 -- What the words of tables say of where pairs lie, and what effects find there.
 use Rattle.std.specs.Prelude.{◌≡◌, ℕ, ◌+◌, ◌<◌, Bool, true, false, List, [], ◌∷◌, Some}
-use Rattle.seize_words.specs.Mem.{Mem, word_at}
-use Rattle.seize_words.specs.Word.{block_in}
-use Rattle.seize_words.specs.declared.at.At.TheVariants.{Word}
-use Rattle.papaya_tables.specs.declared.node.Node.{Node}
-use Rattle.papaya_tables.specs.declared.table_words.TheConstants.{PLACES}
-use Rattle.papaya_raw.specs.declared.machines.progress.Progress.{Progress}
-use Rattle.papaya_schedules.specs.declared.effect.Effect.{Effect}
-use Rattle.papaya_schedules.specs.declared.effect.Effect.TheVariants.{Stored, Replaced, Copied}
-use Rattle.papaya_schedules.specs.Lives.{has_pair_at, MayCopy}
-use Rattle.papaya_schedules.specs.Moment.{InMap, Moment}
-use Rattle.papaya_schedules.specs.Things.{same_spot}
-use Rattle.papaya_schedules.specs.Views.{map_at, grows_in_chunks}
-use Rattle.papaya_callers.specs.Together.{UnderWay}
-use Rattle.papaya_finishes.specs.Maps.{Standing}
-use Rattle.papaya_effects.specs.Effects.{effects_of}
-use Rattle.papaya_effects.specs.Known.{Known}
-use Rattle.papaya_effects.specs.declared.acting.Acting.TheVariants.{Call}
-use Rattle.papaya_effects.specs.declared.role.Role.TheVariants as role
-use Rattle.papaya_executor.specs.IsAt.{Scene, IsAt}
-use Rattle.papaya_executor.specs.Stepping.{StepLeads}
-use Rattle.papaya_executor.specs.declared.executor.Executor.{Executor}
-use Rattle.papaya_follows.specs.Maps.{table_of}
-use Rattle.papaya_follows.specs.Shows.{Shows}
+use Rattle.papaya_others.specs.Given.SeizeWords.Mem.{Mem, word_at}
+use Rattle.papaya_others.specs.Given.SeizeWords.Word.{block_in}
+use Rattle.papaya_others.specs.Given.SeizeWords.declared.at.At.TheVariants.{Word}
+use Rattle.papaya_others.specs.Given.Tables.declared.node.Node.{Node}
+use Rattle.papaya_others.specs.Given.Tables.declared.table_words.TheConstants.{PLACES}
+use Rattle.papaya_others.specs.Given.Raw.declared.machines.progress.Progress.{Progress}
+use Rattle.papaya_others.specs.Given.Schedules.declared.effect.Effect.{Effect}
+use Rattle.papaya_others.specs.Given.Schedules.declared.effect.Effect.TheVariants.{Stored, Replaced, Copied}
+use Rattle.papaya_others.specs.Given.Schedules.Lives.{has_pair_at, MayCopy}
+use Rattle.papaya_others.specs.Given.Schedules.Moment.{InMap, Moment}
+use Rattle.papaya_others.specs.Given.Schedules.Things.{same_spot}
+use Rattle.papaya_others.specs.Given.Schedules.Views.{map_at, grows_in_chunks}
+use Rattle.papaya_others.specs.Given.Callers.Together.{UnderWay}
+use Rattle.papaya_others.specs.Given.Finishes.Maps.{Standing}
+use Rattle.papaya_others.specs.Given.Effects.Effects.{effects_of}
+use Rattle.papaya_others.specs.Given.Effects.Known.{Known}
+use Rattle.papaya_others.specs.Given.Effects.declared.acting.Acting.TheVariants.{Call}
+use Rattle.papaya_others.specs.Given.Effects.declared.role.Role.TheVariants as role
+use Rattle.papaya_others.specs.Given.Executor.IsAt.{Scene, IsAt}
+use Rattle.papaya_others.specs.Given.Executor.Stepping.{StepLeads}
+use Rattle.papaya_others.specs.Given.Executor.declared.executor.Executor.{Executor}
+use Rattle.papaya_others.specs.Given.Follows.Maps.{table_of}
+use Rattle.papaya_others.specs.Given.Follows.Shows.{Shows}
 use Rattle.papaya_spots.specs.Spots.{ShowsPlaces}
 use Rattle.papaya_spots.specs.Unreclaimed.{ShowsUnreclaimed}
 

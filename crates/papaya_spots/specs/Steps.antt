@@ -1,19 +1,19 @@
 -- How steps lead on from where the pairs of maps lie.
 use Rattle.std.specs.Prelude.{◌≡◌, ℕ, Bool, List, Option, Some}
-use Rattle.papaya_tables.specs.declared.node.Node.{Node}
-use Rattle.papaya_raw.specs.declared.machines.progress.Progress.{Progress}
-use Rattle.papaya_schedules.specs.Effects.{with_effects}
-use Rattle.papaya_schedules.specs.Moment.{UnderWay as CallThere, Moment, start}
-use Rattle.papaya_callers.specs.Together.{UnderWay}
-use Rattle.papaya_finishes.specs.Maps.{Standing}
-use Rattle.papaya_effects.specs.Effects.{effects_of, known_after}
-use Rattle.papaya_effects.specs.Known.{Known, nothing_known}
-use Rattle.papaya_effects.specs.declared.acting.Acting.TheVariants.{Call}
-use Rattle.papaya_executor.specs.IsAt.{Scene, IsAt, at_first}
-use Rattle.papaya_executor.specs.Stepping.{StepLeads}
-use Rattle.papaya_executor.specs.declared.executor.Executor.{Executor}
-use Rattle.papaya_follows.specs.Shows.{Shows}
-use Rattle.papaya_follows.specs.Steps.{TakesNone, IsOfNoRow}
+use Rattle.papaya_others.specs.Given.Tables.declared.node.Node.{Node}
+use Rattle.papaya_others.specs.Given.Raw.declared.machines.progress.Progress.{Progress}
+use Rattle.papaya_others.specs.Given.Schedules.Effects.{with_effects}
+use Rattle.papaya_others.specs.Given.Schedules.Moment.{UnderWay as CallThere, Moment, start}
+use Rattle.papaya_others.specs.Given.Callers.Together.{UnderWay}
+use Rattle.papaya_others.specs.Given.Finishes.Maps.{Standing}
+use Rattle.papaya_others.specs.Given.Effects.Effects.{effects_of, known_after}
+use Rattle.papaya_others.specs.Given.Effects.Known.{Known, nothing_known}
+use Rattle.papaya_others.specs.Given.Effects.declared.acting.Acting.TheVariants.{Call}
+use Rattle.papaya_others.specs.Given.Executor.IsAt.{Scene, IsAt, at_first}
+use Rattle.papaya_others.specs.Given.Executor.Stepping.{StepLeads}
+use Rattle.papaya_others.specs.Given.Executor.declared.executor.Executor.{Executor}
+use Rattle.papaya_others.specs.Given.Follows.Shows.{Shows}
+use Rattle.papaya_others.specs.Given.Follows.Steps.{TakesNone, IsOfNoRow}
 use Rattle.papaya_spots.specs.Spots.{ShowsPlaces}
 use Rattle.papaya_spots.specs.Unreclaimed.{ShowsUnreclaimed}
 

@@ -1,16 +1,16 @@
 -- Which blocks are not reclaimed at a moment of a run: those of the pairs and the tables that were not given back.
 use Rattle.std.specs.Prelude.{◌≡◌, ℕ, Bool, true, false, List, Some}
-use Rattle.seize_words.specs.Mem.{value_at}
-use Rattle.papaya_tables.specs.declared.node.Node.TheVariants as node
-use Rattle.papaya_runs.specs.Log.{pair_at}
-use Rattle.papaya_schedules.specs.declared.effect.Table.{Table}
-use Rattle.papaya_schedules.specs.Moment.{Place, Unborn, GivenBack, Moment}
-use Rattle.papaya_schedules.specs.Views.{is_there, is_stage}
-use Rattle.papaya_effects.specs.Known.{Known}
-use Rattle.papaya_effects.specs.declared.role.Role.TheVariants as role
-use Rattle.papaya_executor.specs.IsAt.{Scene}
-use Rattle.papaya_follows.specs.Blocks.{WasLinked}
-use Rattle.papaya_follows.specs.Shows.{Shows}
+use Rattle.papaya_others.specs.Given.SeizeWords.Mem.{value_at}
+use Rattle.papaya_others.specs.Given.Tables.declared.node.Node.TheVariants as node
+use Rattle.papaya_others.specs.Given.Runs.Log.{pair_at}
+use Rattle.papaya_others.specs.Given.Schedules.declared.effect.Table.{Table}
+use Rattle.papaya_others.specs.Given.Schedules.Moment.{Place, Unborn, GivenBack, Moment}
+use Rattle.papaya_others.specs.Given.Schedules.Views.{is_there, is_stage}
+use Rattle.papaya_others.specs.Given.Effects.Known.{Known}
+use Rattle.papaya_others.specs.Given.Effects.declared.role.Role.TheVariants as role
+use Rattle.papaya_others.specs.Given.Executor.IsAt.{Scene}
+use Rattle.papaya_others.specs.Given.Follows.Blocks.{WasLinked}
+use Rattle.papaya_others.specs.Given.Follows.Shows.{Shows}
 
 -- the pair was stored, and is not reclaimed
 abbrev pub is_unreclaimed : Place → Bool

@@ -1,6 +1,6 @@
 -- The same waiting sets under other numbers.
 use Rattle.std.specs.Prelude.{◌≡◌, ℕ, map}
-use Rattle.seize.specs.WaitingSets.{Batch, Further, Sets}
+use Rattle.papaya_maps.specs.Given.Seize.WaitingSets.{Batch, Further, Sets}
 
 -- the batch waits for the same slots
 abbrev pub batch_renamed : (ℕ → ℕ) → Batch → Batch

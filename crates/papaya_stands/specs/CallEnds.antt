@@ -1,14 +1,14 @@
 -- How a call that was run alone has ended, for the run: the pair that has left the map, how it is handed over, and the pairs of the map then.
 use Rattle.std.specs.Prelude.{◌≡◌, ℕ, suc, ◌+◌, ◌-◌, Bool, List, [], ◌∷◌, ◌++◌, map, Option, Some}
 use Rattle.seize_words.specs.Mem.{Mem, value_at}
-use Rattle.seize_alone.specs.Alone.{History}
-use Rattle.papaya_tables.specs.declared.node.Node.{Node}
-use Rattle.papaya_tables.specs.declared.node.Node.TheVariants as node
-use Rattle.papaya_tables.specs.declared.resize_mode.ResizeMode.{ResizeMode}
-use Rattle.papaya_tables.specs.declared.setting.Setting.{Setting}
-use Rattle.papaya_rule.specs.Chart.{Chart}
-use Rattle.papaya_points.specs.FactsCalls.{Change, Unchanged, Stored, Replaced, Removed}
-use Rattle.papaya_rule.specs.Words.{Blocks}
+use Rattle.papaya_maps.specs.Given.SeizeAlone.Alone.{History}
+use Rattle.papaya_maps.specs.Given.Tables.declared.node.Node.{Node}
+use Rattle.papaya_maps.specs.Given.Tables.declared.node.Node.TheVariants as node
+use Rattle.papaya_maps.specs.Given.Tables.declared.resize_mode.ResizeMode.{ResizeMode}
+use Rattle.papaya_maps.specs.Given.Tables.declared.setting.Setting.{Setting}
+use Rattle.papaya_maps.specs.Given.Rule.Chart.{Chart}
+use Rattle.papaya_maps.specs.Given.Points.FactsCalls.{Change, Unchanged, Stored, Replaced, Removed}
+use Rattle.papaya_maps.specs.Given.Rule.Words.{Blocks}
 use Rattle.papaya_runs.specs.declared.outcome.Effect.{Effect}
 use Rattle.papaya_runs.specs.declared.record.Pair.{Pair}
 use Rattle.papaya_runs.specs.Effects.{tables_passed, turns_from}

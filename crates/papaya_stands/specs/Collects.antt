@@ -4,19 +4,19 @@ use Rattle.std.specs.Prelude.{◌≡◌, ◌≢◌, ℕ, suc, ◌<◌, ◌≤◌
 use Rattle.std.specs.Int.{IsPowerOfTwo}
 use Rattle.seize_words.specs.declared.at.At.TheVariants.{Root, Used}
 use Rattle.seize_words.specs.Mem.{Mem, value_at, word_at}
-use Rattle.seize.specs.WaitingSets.{Sets, all_changed, at_start}
-use Rattle.seize.specs.World.{Use, Vacant, Outside, Inside, Handed, LeftTo}
-use Rattle.seize_alone.specs.Alone.{History, IsHistory}
-use Rattle.seize.specs.Further.{ListFrom}
-use Rattle.seize_waiting.specs.Held.{Tidy, bare, all_held, Every}
-use Rattle.papaya_tables.specs.Nodes.{deferred_word}
-use Rattle.papaya_tables.specs.Chunks.{is_incremental}
-use Rattle.papaya_tables.specs.declared.node.Node.{Node}
-use Rattle.papaya_tables.specs.declared.node.Node.TheVariants as node
-use Rattle.papaya_rule.specs.Chart.{Chart}
-use Rattle.papaya_rule.specs.Words.{Blocks}
-use Rattle.papaya_alone.specs.Alone.{MapRests}
-use Rattle.papaya_alone.specs.FactsAloneCalls.{RestsAlone}
+use Rattle.papaya_maps.specs.Given.Seize.WaitingSets.{Sets, all_changed, at_start}
+use Rattle.papaya_maps.specs.Given.Seize.World.{Use, Vacant, Outside, Inside, Handed, LeftTo}
+use Rattle.papaya_maps.specs.Given.SeizeAlone.Alone.{History, IsHistory}
+use Rattle.papaya_maps.specs.Given.Seize.Further.{ListFrom}
+use Rattle.papaya_maps.specs.Given.SeizeWaiting.Held.{Tidy, bare, all_held, Every}
+use Rattle.papaya_maps.specs.Given.Tables.Nodes.{deferred_word}
+use Rattle.papaya_maps.specs.Given.Tables.Chunks.{is_incremental}
+use Rattle.papaya_maps.specs.Given.Tables.declared.node.Node.{Node}
+use Rattle.papaya_maps.specs.Given.Tables.declared.node.Node.TheVariants as node
+use Rattle.papaya_maps.specs.Given.Rule.Chart.{Chart}
+use Rattle.papaya_maps.specs.Given.Rule.Words.{Blocks}
+use Rattle.papaya_maps.specs.Given.Alone.Alone.{MapRests}
+use Rattle.papaya_maps.specs.Given.Alone.FactsAloneCalls.{RestsAlone}
 use Rattle.papaya_runs.specs.declared.record.Pair.{Pair}
 use Rattle.papaya_runs.specs.LifeCycle.{times}
 use Rattle.papaya_runs.specs.Pairs.{numbers}

@@ -2,10 +2,10 @@
 use Rattle.std.specs.Prelude.{◌≡◌, ℕ, ◌+◌, ◌<◌, ◌≤◌, ◌^◌, Bool, List, [], ◌∷◌, ◌++◌, length, map, Option, Some}
 use Rattle.seize_words.specs.declared.at.At.TheVariants.{Slot}
 use Rattle.seize_words.specs.Mem.{Mem, word_at}
-use Rattle.seize.specs.declared.states.TheConstants.{HEAD, LAST_SLOT}
-use Rattle.seize.specs.WaitingSets.{After, all_reclaimed}
-use Rattle.seize.specs.World.{Use, Vacant}
-use Rattle.papaya_tables.specs.declared.node.Node.{Node}
+use Rattle.papaya_maps.specs.Given.Seize.declared.states.TheConstants.{HEAD, LAST_SLOT}
+use Rattle.papaya_maps.specs.Given.Seize.WaitingSets.{After, all_reclaimed}
+use Rattle.papaya_maps.specs.Given.Seize.World.{Use, Vacant}
+use Rattle.papaya_maps.specs.Given.Tables.declared.node.Node.{Node}
 use Rattle.papaya_runs.specs.declared.record.Pair.{Pair}
 use Rattle.papaya_runs.specs.Effects.{pairs_among, tables_among, reclaim_of}
 use Rattle.papaya_runs.specs.State.{State, of_number, of_numbers, without_numbers, without_turns}

@@ -3,7 +3,7 @@ ghost use Rattle.std.specs.Prelude.{◌≡◌, ℕ, Bool, Option, OnOk};
 ghost use Rattle.papaya_runs.specs.State.{State};
 ghost use Rattle.papaya_stands.specs.Reclaiming.{AllReclaimed, MayReclaim};
 ghost use Rattle.papaya_calls.specs.declared.map.Map.{Map};
-ghost use Rattle.seize.specs.World.{Use};
+ghost use Rattle.papaya_maps.specs.Given.Seize.World.{Use};
 
 use papaya_calls::giving::Given;
 use papaya_calls::numbered::Kept;

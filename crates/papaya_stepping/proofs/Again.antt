@@ -11,17 +11,17 @@ use Rattle.papaya_schedules.specs.Entry.{ends_call}
 use Rattle.papaya_schedules.specs.Moment.{Asking, IsReady, Stands, UnderWay as CallThere, Moment}
 use Rattle.papaya_schedules.specs.Terms.{Terms}
 use Rattle.papaya_schedules.specs.Views.{call_of}
-use Rattle.papaya_callers.specs.Together.{UnderWay, OnKey}
-use Rattle.papaya_finishes.specs.Maps.{Standing}
-use Rattle.papaya_effects.specs.Known.{known}
-use Rattle.papaya_executor.specs.IsAt.{Scene}
-use Rattle.papaya_executor.proofs.Changed.{standing_is}
-use Rattle.papaya_follows.specs.Calling.{come_to}
-use Rattle.papaya_follows.specs.Calls.{IsCalled}
-use Rattle.papaya_follows.proofs.Calling.{is_same_is}
-use Rattle.papaya_hands.specs.Asked.{AsksThere, IsAskedAs}
-use Rattle.papaya_hands.specs.Calling.{AsksJust}
-use Rattle.papaya_moments.proofs.Calls.{calls_come_to_whole}
+use Rattle.papaya_histories.specs.Given.Callers.Together.{UnderWay, OnKey}
+use Rattle.papaya_histories.specs.Given.Finishes.Maps.{Standing}
+use Rattle.papaya_histories.specs.Given.Effects.Known.{known}
+use Rattle.papaya_histories.specs.Given.Executor.IsAt.{Scene}
+use Rattle.papaya_histories.proofs.Given.Executor.Changed.{standing_is}
+use Rattle.papaya_histories.specs.Given.Follows.Calling.{come_to}
+use Rattle.papaya_histories.specs.Given.Follows.Calls.{IsCalled}
+use Rattle.papaya_histories.proofs.Given.Follows.Calling.{is_same_is}
+use Rattle.papaya_histories.specs.Given.Hands.Asked.{AsksThere, IsAskedAs}
+use Rattle.papaya_histories.specs.Given.Hands.Calling.{AsksJust}
+use Rattle.papaya_histories.proofs.Given.Moments.Calls.{calls_come_to_whole}
 use Rattle.papaya_kept.proofs.Stays.{calls_come_to_kept}
 use Rattle.papaya_scheduler.specs.Played.{StandsFor}
 use Rattle.papaya_scheduler.specs.Seen.{Seen, far_of, is_named, seen, seen_of}

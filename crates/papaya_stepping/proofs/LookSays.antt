@@ -1,14 +1,14 @@
 -- A call that only looks does not wait: a lookup goes on or is over, and so does a counting.
 use Rattle.std.specs.Prelude.{◌≡◌, ℕ, Bool}
 use Rattle.std.proofs.Common.{refl, sym, ap, ◌∙◌}
-use Rattle.seize_words.specs.Mem.{Mem, Took, value_at}
-use Rattle.seize_words.specs.Plan.{Steps, plan_as}
-use Rattle.seize.specs.declared.progress.Progress.{Progress as Counted}
-use Rattle.seize.specs.declared.progress.Progress.TheVariants as counts
-use Rattle.seize_rule.proofs.Rows.Leaving.{steps_back}
-use Rattle.papaya_tables.specs.declared.node.Node.{Node}
-use Rattle.papaya_resize.specs.Sum.{sum_plan}
-use Rattle.papaya_resize.specs.declared.sum.Sum.{Sum}
+use Rattle.papaya_histories.specs.Given.SeizeWords.Mem.{Mem, Took, value_at}
+use Rattle.papaya_histories.specs.Given.SeizeWords.Plan.{Steps, plan_as}
+use Rattle.papaya_histories.specs.Given.Seize.declared.progress.Progress.{Progress as Counted}
+use Rattle.papaya_histories.specs.Given.Seize.declared.progress.Progress.TheVariants as counts
+use Rattle.papaya_histories.proofs.Given.SeizeRule.Rows.Leaving.{steps_back}
+use Rattle.papaya_histories.specs.Given.Tables.declared.node.Node.{Node}
+use Rattle.papaya_histories.specs.Given.Resize.Sum.{sum_plan}
+use Rattle.papaya_histories.specs.Given.Resize.declared.sum.Sum.{Sum}
 use Rattle.papaya_raw.specs.Answers.{ended}
 use Rattle.papaya_raw.specs.Call.{call_plan, plan_at}
 use Rattle.papaya_raw.specs.Machine.{called, counted}
@@ -24,14 +24,14 @@ use Rattle.papaya_raw.specs.declared.machines.machine.Machine.{Machine}
 use Rattle.papaya_raw.specs.declared.machines.machine.Machine.TheVariants as kinds
 use Rattle.papaya_raw.specs.declared.machines.progress.Progress.{Progress}
 use Rattle.papaya_raw.specs.declared.machines.progress.Progress.TheVariants as progress
-use Rattle.papaya_rule.proofs.Keys.Always.{always_steps}
-use Rattle.papaya_late.specs.Kinds.{LooksAt}
-use Rattle.papaya_teller.specs.declared.changed.Changed.TheVariants.{Nothing}
-use Rattle.papaya_waits.proofs.Laws.{lookups_never_wait}
-use Rattle.papaya_waits.proofs.Never.{Advances, sum_goes}
-use Rattle.papaya_executor.specs.Stepping.{StepsFrom}
-use Rattle.papaya_executor.specs.declared.executor.Executor.{Executor}
-use Rattle.papaya_executor.proofs.Forgotten.{as_step}
+use Rattle.papaya_histories.proofs.Given.Rule.Keys.Always.{always_steps}
+use Rattle.papaya_histories.specs.Given.Late.Kinds.{LooksAt}
+use Rattle.papaya_histories.specs.Given.Teller.declared.changed.Changed.TheVariants.{Nothing}
+use Rattle.papaya_owned.proofs.Given.Waits.Laws.{lookups_never_wait}
+use Rattle.papaya_owned.proofs.Given.Waits.Never.{Advances, sum_goes}
+use Rattle.papaya_histories.specs.Given.Executor.Stepping.{StepsFrom}
+use Rattle.papaya_histories.specs.Given.Executor.declared.executor.Executor.{Executor}
+use Rattle.papaya_histories.proofs.Given.Executor.Forgotten.{as_step}
 use Rattle.papaya_owes.specs.Looking.{IsLooking}
 
 abbrev SumOn : Sum × Counted ℕ → Type 0

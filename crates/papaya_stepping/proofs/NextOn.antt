@@ -2,11 +2,11 @@
 use Rattle.std.specs.Prelude.{◌≡◌, ◌<◌, ◌⊎◌, ◌≤◌, ◌+◌, ◌^◌, ℕ, Bool, false, List, [], ◌++◌, map, slice_get, sum_by, Option, Some}
 use Rattle.std.proofs.Common.{refl, sym, ap, subst, ◌∙◌, inl, inr, arith}
 use Rattle.std.proofs.lemmas.List.{append_assoc}
-use Rattle.papaya_tables.specs.declared.node.Node.{Node}
-use Rattle.papaya_tables.specs.declared.table.Table.{Table}
-use Rattle.papaya_sweeps.specs.declared.sweep.Purpose.TheVariants.{Walks}
-use Rattle.papaya_sweeps.specs.declared.sweep.Sweep.{Sweep}
-use Rattle.papaya_sweeps.specs.declared.sweep.Sweeping.TheVariants as at
+use Rattle.papaya_histories.specs.Given.Tables.declared.node.Node.{Node}
+use Rattle.papaya_histories.specs.Given.Tables.declared.table.Table.{Table}
+use Rattle.papaya_histories.specs.Given.Sweeps.declared.sweep.Purpose.TheVariants.{Walks}
+use Rattle.papaya_histories.specs.Given.Sweeps.declared.sweep.Sweep.{Sweep}
+use Rattle.papaya_histories.specs.Given.Sweeps.declared.sweep.Sweeping.TheVariants as at
 use Rattle.papaya_raw.specs.declared.machines.machine.Machine.{Machine}
 use Rattle.papaya_raw.specs.declared.machines.machine.Machine.TheVariants as kinds
 use Rattle.papaya_raw.specs.declared.machines.progress.Progress.{Progress}
@@ -17,21 +17,21 @@ use Rattle.papaya_schedules.specs.Effects.{with_effects}
 use Rattle.papaya_schedules.specs.Steps.{weight}
 use Rattle.papaya_schedules.specs.Moment.{UnderWay as CallThere, Moment}
 use Rattle.papaya_schedules.specs.Terms.{Terms}
-use Rattle.papaya_callers.specs.Together.{UnderWay, OnKey, ForRoom, Counting, OverAll, Together}
-use Rattle.papaya_effects.specs.Known.{known}
-use Rattle.papaya_effects.specs.declared.acting.Acting.TheVariants as acts
-use Rattle.papaya_finishes.specs.Machines.{machine_of}
-use Rattle.papaya_finishes.specs.Maps.{Standing}
-use Rattle.papaya_executor.specs.IsAt.{HasCall, IsAt, Scene, slot_of}
-use Rattle.papaya_executor.specs.Stepping.{StepLeads, StepsFrom, has_ended, scene_after}
-use Rattle.papaya_executor.specs.declared.executor.Executor.{Executor}
-use Rattle.papaya_executor.proofs.Changed.{standing_is}
-use Rattle.papaya_follows.proofs.Calling.{is_same_refl}
-use Rattle.papaya_hands.proofs.Replacing.{calls_after}
+use Rattle.papaya_histories.specs.Given.Callers.Together.{UnderWay, OnKey, ForRoom, Counting, OverAll, Together}
+use Rattle.papaya_histories.specs.Given.Effects.Known.{known}
+use Rattle.papaya_histories.specs.Given.Effects.declared.acting.Acting.TheVariants as acts
+use Rattle.papaya_histories.specs.Given.Finishes.Machines.{machine_of}
+use Rattle.papaya_histories.specs.Given.Finishes.Maps.{Standing}
+use Rattle.papaya_histories.specs.Given.Executor.IsAt.{HasCall, IsAt, Scene, slot_of}
+use Rattle.papaya_histories.specs.Given.Executor.Stepping.{StepLeads, StepsFrom, has_ended, scene_after}
+use Rattle.papaya_histories.specs.Given.Executor.declared.executor.Executor.{Executor}
+use Rattle.papaya_histories.proofs.Given.Executor.Changed.{standing_is}
+use Rattle.papaya_histories.proofs.Given.Follows.Calling.{is_same_refl}
+use Rattle.papaya_histories.proofs.Given.Hands.Replacing.{calls_after}
 use Rattle.papaya_logged.specs.Calling.{CallGoesOn, step_did}
 use Rattle.papaya_logged.specs.Shown.{IsShown}
 use Rattle.papaya_logged.specs.declared.logged.Logged.{Logged}
-use Rattle.papaya_moments.proofs.After.{effects_after}
+use Rattle.papaya_histories.proofs.Given.Moments.After.{effects_after}
 use Rattle.papaya_promises.proofs.Weights.{operations_are_single, parts_add_up}
 use Rattle.papaya_scheduler.specs.Played.{StandsAs}
 use Rattle.papaya_scheduler.specs.Seen.{Seen, seen, seen_of}

@@ -2,9 +2,9 @@
 use Rattle.std.specs.Prelude.{◌≡◌, ◌⊎◌, ◌+◌, ◌&&◌, ℕ, Bool, true, false, List, [], filter, find, map, not, position, slice_get, slice_set, Option, Some, None, if◌then◌else◌}
 use Rattle.std.specs.List.{list_any, remove}
 use Rattle.std.proofs.Common.{refl, sym, ap, subst, ◌∙◌, inl, inr}
-use Rattle.seize_words.specs.declared.fault.Fault.{Fault}
-use Rattle.seize_words.specs.declared.fault.Fault.TheVariants.{Busy, Memory}
-use Rattle.papaya_tables.specs.declared.node.Node.{Node}
+use Rattle.papaya_histories.specs.Given.SeizeWords.declared.fault.Fault.{Fault}
+use Rattle.papaya_histories.specs.Given.SeizeWords.declared.fault.Fault.TheVariants.{Busy, Memory}
+use Rattle.papaya_histories.specs.Given.Tables.declared.node.Node.{Node}
 use Rattle.papaya_raw.specs.declared.machines.machine.Machine.{Machine}
 use Rattle.papaya_raw.specs.declared.machines.progress.Progress.{Progress}
 use Rattle.papaya_raw.specs.declared.machines.progress.Progress.TheVariants as progress
@@ -22,22 +22,22 @@ use Rattle.papaya_schedules.specs.InUse.{may_wait_for}
 use Rattle.papaya_schedules.specs.Moment.{Stands, Going, Asking, Told, IsReady, UnderWay as CallThere, Moment}
 use Rattle.papaya_schedules.specs.Terms.{Terms}
 use Rattle.papaya_schedules.specs.Views.{call_of}
-use Rattle.papaya_callers.specs.Together.{UnderWay}
-use Rattle.papaya_finishes.specs.Machines.{GoesOnAs, machine_of}
-use Rattle.papaya_effects.specs.Known.{Known, known}
-use Rattle.papaya_effects.specs.Effects.{effects_of, known_after}
-use Rattle.papaya_effects.specs.declared.acting.Acting.TheVariants as acts
-use Rattle.papaya_teller.specs.declared.changed.Changed.{Changed}
-use Rattle.papaya_executor.specs.IsAt.{Scene}
-use Rattle.papaya_executor.specs.Stepping.{StepLeads, StepsFrom, has_ended}
-use Rattle.papaya_follows.specs.Calling.{come_to}
-use Rattle.papaya_follows.proofs.Calling.{apart_back}
-use Rattle.papaya_hands.specs.Calling.{AsksJust}
-use Rattle.papaya_hands.proofs.Replacing.{calls_after}
+use Rattle.papaya_histories.specs.Given.Callers.Together.{UnderWay}
+use Rattle.papaya_histories.specs.Given.Finishes.Machines.{GoesOnAs, machine_of}
+use Rattle.papaya_histories.specs.Given.Effects.Known.{Known, known}
+use Rattle.papaya_histories.specs.Given.Effects.Effects.{effects_of, known_after}
+use Rattle.papaya_histories.specs.Given.Effects.declared.acting.Acting.TheVariants as acts
+use Rattle.papaya_histories.specs.Given.Teller.declared.changed.Changed.{Changed}
+use Rattle.papaya_histories.specs.Given.Executor.IsAt.{Scene}
+use Rattle.papaya_histories.specs.Given.Executor.Stepping.{StepLeads, StepsFrom, has_ended}
+use Rattle.papaya_histories.specs.Given.Follows.Calling.{come_to}
+use Rattle.papaya_histories.proofs.Given.Follows.Calling.{apart_back}
+use Rattle.papaya_histories.specs.Given.Hands.Calling.{AsksJust}
+use Rattle.papaya_histories.proofs.Given.Hands.Replacing.{calls_after}
 use Rattle.papaya_logged.specs.Calling.{CallGoesOn, step_did}
 use Rattle.papaya_logged.specs.Shown.{IsShown}
 use Rattle.papaya_logged.specs.declared.logged.Logged.{Logged}
-use Rattle.papaya_moments.proofs.Calls.{calls_come_to_whole}
+use Rattle.papaya_histories.proofs.Given.Moments.Calls.{calls_come_to_whole}
 use Rattle.papaya_kept.proofs.Stays.{calls_come_to_kept}
 use Rattle.papaya_owes.proofs.Grown.Calls.{step_keeps_grown}
 use Rattle.papaya_promises.proofs.Weights.{operations_are_single}

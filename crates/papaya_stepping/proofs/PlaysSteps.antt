@@ -2,7 +2,7 @@
 use Rattle.std.specs.Prelude.{◌≡◌, ◌+◌, ◌≤◌, ◌&&◌, ℕ, Bool, true, false, List, [], is_some, position, sum_by, Option, Some, option_map}
 use Rattle.std.specs.List.{list_any}
 use Rattle.std.proofs.Common.{refl, sym, ap, subst, ◌∙◌}
-use Rattle.seize_words.specs.declared.fault.Fault.TheVariants.{Busy, Memory}
+use Rattle.papaya_histories.specs.Given.SeizeWords.declared.fault.Fault.TheVariants.{Busy, Memory}
 use Rattle.papaya_runs.specs.Present.{Present}
 use Rattle.papaya_runs.specs.Stopped.{most_steps}
 use Rattle.papaya_schedules.specs.declared.call.Call.{Call}
@@ -21,9 +21,9 @@ use Rattle.papaya_schedules.specs.Moment.{Remains, Sheltered, UnderWay as CallTh
 use Rattle.papaya_schedules.specs.Steps.{stands_or, weight}
 use Rattle.papaya_schedules.specs.Terms.{Terms}
 use Rattle.papaya_schedules.specs.Views.{call_of}
-use Rattle.papaya_effects.specs.Known.{known}
-use Rattle.papaya_follows.specs.Calling.{come_to}
-use Rattle.papaya_hands.proofs.Replacing.{IsOn, calls_after}
+use Rattle.papaya_histories.specs.Given.Effects.Known.{known}
+use Rattle.papaya_histories.specs.Given.Follows.Calling.{come_to}
+use Rattle.papaya_histories.proofs.Given.Hands.Replacing.{IsOn, calls_after}
 use Rattle.papaya_scheduler.specs.Played.{IsDue, StandsFor}
 use Rattle.papaya_scheduler.specs.Seen.{Seen, far_of, is_named}
 use Rattle.papaya_stepping.specs.Stepping.{ComesAs, ComesBy, IsInCase, PlaysOn, TakesUpTo, waits_in_case}

@@ -3,24 +3,24 @@ use Rattle.std.specs.Prelude.{◌≡◌, ◌≢◌, ◌⊎◌, ◌≤◌, ◌==�
 use Rattle.std.specs.List.{AllByRecursion, list_any, remove}
 use Rattle.std.proofs.Common.{refl, sym, ap, subst, ◌∙◌, inl, inr, arith, eqb-true}
 use Rattle.std.proofs.lemmas.Bool.{cases_eq, ne_eqb}
-use Rattle.seize.specs.World.{Use}
-use Rattle.papaya_tables.specs.declared.node.Node.{Node}
+use Rattle.papaya_histories.specs.Given.Seize.World.{Use}
+use Rattle.papaya_histories.specs.Given.Tables.declared.node.Node.{Node}
 use Rattle.papaya_raw.specs.declared.machines.machine.Machine.{Machine}
 use Rattle.papaya_raw.specs.declared.machines.progress.Progress.{Progress}
 use Rattle.papaya_runs.specs.Same.{is_same}
 use Rattle.papaya_schedules.specs.Moment.{Moment}
 use Rattle.papaya_schedules.specs.Terms.{Terms}
-use Rattle.papaya_callers.specs.Rows.{IsUsedAlike}
-use Rattle.papaya_callers.specs.Together.{UnderWay}
-use Rattle.papaya_callers.proofs.Together.At.{at_other, at_same}
-use Rattle.papaya_finishes.specs.Machines.{MachineStepsAmong, machine_of}
-use Rattle.papaya_finishes.specs.Maps.{IsSameMap, Standing}
-use Rattle.papaya_executor.specs.IsAt.{IsUsedAs, Scene, slot_of, use_at, work_of}
-use Rattle.papaya_executor.specs.Stepping.{StepLeads, scene_after}
-use Rattle.papaya_executor.specs.declared.row.SlotUse.{SlotUse}
-use Rattle.papaya_executor.specs.declared.row.SlotUse.TheVariants as used
-use Rattle.papaya_follows.specs.Calling.{NoneNamed}
-use Rattle.papaya_follows.proofs.Calling.{apart_back, is_same_refl}
+use Rattle.papaya_histories.specs.Given.Callers.Rows.{IsUsedAlike}
+use Rattle.papaya_histories.specs.Given.Callers.Together.{UnderWay}
+use Rattle.papaya_histories.proofs.Given.Callers.Together.At.{at_other, at_same}
+use Rattle.papaya_histories.specs.Given.Finishes.Machines.{MachineStepsAmong, machine_of}
+use Rattle.papaya_histories.specs.Given.Finishes.Maps.{IsSameMap, Standing}
+use Rattle.papaya_histories.specs.Given.Executor.IsAt.{IsUsedAs, Scene, slot_of, use_at, work_of}
+use Rattle.papaya_histories.specs.Given.Executor.Stepping.{StepLeads, scene_after}
+use Rattle.papaya_histories.specs.Given.Executor.declared.row.SlotUse.{SlotUse}
+use Rattle.papaya_histories.specs.Given.Executor.declared.row.SlotUse.TheVariants as used
+use Rattle.papaya_histories.specs.Given.Follows.Calling.{NoneNamed}
+use Rattle.papaya_histories.proofs.Given.Follows.Calling.{apart_back, is_same_refl}
 use Rattle.papaya_logged.specs.Shown.{IsShown}
 use Rattle.papaya_logged.specs.declared.logged.Logged.{Logged}
 use Rattle.papaya_scheduler.specs.Played.{CallsAs, IsUnderWayAs, StandsAs}

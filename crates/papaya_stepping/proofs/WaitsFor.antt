@@ -2,19 +2,19 @@
 use Rattle.std.specs.Prelude.{List, Option, Some}
 use Rattle.std.specs.List.{list_any}
 use Rattle.std.proofs.Common.{◌≡◌, ℕ, suc, ◌⊎◌, inl, inr, Bool, true, false, refl, ap, sym, subst, ◌∙◌}
-use Rattle.seize_words.specs.Mem.{Mem, Took, value_at}
-use Rattle.seize_words.specs.Plan.{Steps}
-use Rattle.seize.specs.World.{World, Row, Settles, Leaves}
-use Rattle.seize.specs.declared.rows.settle.Settle.{Settle}
-use Rattle.seize_ends.specs.Holders.{has_batch}
-use Rattle.papaya_tables.specs.Chunks.{is_incremental}
-use Rattle.papaya_tables.specs.declared.node.Node.{Node}
-use Rattle.papaya_tables.specs.declared.setting.Setting.{Setting}
-use Rattle.papaya_resize.specs.declared.copier.Copier.{Copier}
-use Rattle.papaya_resize.specs.declared.copier.Copying.{Copying}
-use Rattle.papaya_resize.specs.declared.copier.Copying.TheVariants as copies
-use Rattle.papaya_resize.specs.declared.dispose.Disposing.{Disposing}
-use Rattle.papaya_resize.specs.declared.dispose.Disposing.TheVariants as disposing
+use Rattle.papaya_histories.specs.Given.SeizeWords.Mem.{Mem, Took, value_at}
+use Rattle.papaya_histories.specs.Given.SeizeWords.Plan.{Steps}
+use Rattle.papaya_histories.specs.Given.Seize.World.{World, Row, Settles, Leaves}
+use Rattle.papaya_histories.specs.Given.Seize.declared.rows.settle.Settle.{Settle}
+use Rattle.papaya_histories.specs.Given.SeizeEnds.Holders.{has_batch}
+use Rattle.papaya_histories.specs.Given.Tables.Chunks.{is_incremental}
+use Rattle.papaya_histories.specs.Given.Tables.declared.node.Node.{Node}
+use Rattle.papaya_histories.specs.Given.Tables.declared.setting.Setting.{Setting}
+use Rattle.papaya_histories.specs.Given.Resize.declared.copier.Copier.{Copier}
+use Rattle.papaya_histories.specs.Given.Resize.declared.copier.Copying.{Copying}
+use Rattle.papaya_histories.specs.Given.Resize.declared.copier.Copying.TheVariants as copies
+use Rattle.papaya_histories.specs.Given.Resize.declared.dispose.Disposing.{Disposing}
+use Rattle.papaya_histories.specs.Given.Resize.declared.dispose.Disposing.TheVariants as disposing
 use Rattle.papaya_raw.specs.Call.{call_plan}
 use Rattle.papaya_raw.specs.Call as calls
 use Rattle.papaya_raw.specs.Machine.{called as of_key}
@@ -26,42 +26,42 @@ use Rattle.papaya_raw.specs.declared.machines.call.KeyCall.{KeyCall}
 use Rattle.papaya_raw.specs.declared.machines.machine.Machine.{Machine}
 use Rattle.papaya_raw.specs.declared.machines.progress.Progress.{Progress}
 use Rattle.papaya_raw.specs.declared.machines.progress.Progress.TheVariants as progress
-use Rattle.papaya_rule.specs.Chart.{Claimed}
-use Rattle.papaya_rule.specs.Words.{Blocks}
-use Rattle.papaya_points.specs.FactsCalls.{CallFacts, CallingFacts, IsCopying, Unchanged}
-use Rattle.papaya_points.specs.FactsCopies.{CopyingFacts}
-use Rattle.papaya_points.specs.FactsDisposes.{DisposingFacts}
-use Rattle.papaya_points.specs.Steps.{AreLawful}
-use Rattle.papaya_points.specs.Told.{IsRowOfCall}
-use Rattle.papaya_late.specs.LateCalls.{LateCallFacts}
-use Rattle.papaya_callers.specs.Rows.{IsRowOn, row_of, row_of_copier, row_of_disposal}
-use Rattle.papaya_callers.specs.Sights.{seen_by}
-use Rattle.papaya_callers.specs.Together.{CallOnKey, UnderWay, OnKey, ForRoom, Counting, OverAll, Together, in_slot}
-use Rattle.seize_acts.specs.Waits.{SettlesOn}
-use Rattle.papaya_whole.proofs.Rows.Kinds.{row_decided}
-use Rattle.papaya_waits.specs.Waits.{AnotherHolds, CallAwaits, CopierAwaits, IsBeingCopied}
-use Rattle.papaya_waits.proofs.Claimed.{pairs_are_copied_by_calls}
-use Rattle.papaya_waits.proofs.Laws.{calls_wait_for_a_copying, call_rows_wait_for_a_holder}
-use Rattle.papaya_waits.proofs.Works.{OnlyLooks, not_idle, works}
+use Rattle.papaya_histories.specs.Given.Rule.Chart.{Claimed}
+use Rattle.papaya_histories.specs.Given.Rule.Words.{Blocks}
+use Rattle.papaya_histories.specs.Given.Points.FactsCalls.{CallFacts, CallingFacts, IsCopying, Unchanged}
+use Rattle.papaya_histories.specs.Given.Points.FactsCopies.{CopyingFacts}
+use Rattle.papaya_histories.specs.Given.Points.FactsDisposes.{DisposingFacts}
+use Rattle.papaya_histories.specs.Given.Points.Steps.{AreLawful}
+use Rattle.papaya_histories.specs.Given.Points.Told.{IsRowOfCall}
+use Rattle.papaya_histories.specs.Given.Late.LateCalls.{LateCallFacts}
+use Rattle.papaya_histories.specs.Given.Callers.Rows.{IsRowOn, row_of, row_of_copier, row_of_disposal}
+use Rattle.papaya_histories.specs.Given.Callers.Sights.{seen_by}
+use Rattle.papaya_histories.specs.Given.Callers.Together.{CallOnKey, UnderWay, OnKey, ForRoom, Counting, OverAll, Together, in_slot}
+use Rattle.papaya_owned.specs.Given.SeizeActs.Waits.{SettlesOn}
+use Rattle.papaya_owned.proofs.Given.Whole.Rows.Kinds.{row_decided}
+use Rattle.papaya_owned.specs.Given.Waits.Waits.{AnotherHolds, CallAwaits, CopierAwaits, IsBeingCopied}
+use Rattle.papaya_owned.proofs.Given.Waits.Claimed.{pairs_are_copied_by_calls}
+use Rattle.papaya_owned.proofs.Given.Waits.Laws.{calls_wait_for_a_copying, call_rows_wait_for_a_holder}
+use Rattle.papaya_owned.proofs.Given.Waits.Works.{OnlyLooks, not_idle, works}
 use Rattle.papaya_schedules.specs.InUse.{may_wait_for}
 use Rattle.papaya_schedules.specs.declared.call.Call.{Call}
 use Rattle.papaya_schedules.specs.declared.call.Call.TheVariants.{On}
 use Rattle.papaya_schedules.specs.Moment.{UnderWay as CallThere, Moment}
 use Rattle.papaya_schedules.specs.Terms.{Terms}
 use Rattle.papaya_schedules.specs.Views.{call_of, grows_in_chunks, map_at}
-use Rattle.papaya_effects.specs.Known.{known}
-use Rattle.papaya_teller.specs.declared.changed.Changed.{Changed}
-use Rattle.papaya_teller.specs.declared.changed.Changed.TheVariants as changed
-use Rattle.papaya_finishes.specs.Machines.{machine_of}
-use Rattle.papaya_finishes.specs.Maps.{Standing}
-use Rattle.papaya_executor.specs.IsAt.{slot_of}
-use Rattle.papaya_executor.specs.Stepping.{StepsFrom}
-use Rattle.papaya_executor.specs.declared.executor.Executor.{Executor}
-use Rattle.papaya_executor.proofs.Changed.{standing_is}
-use Rattle.papaya_executor.proofs.Forgotten.{as_step}
-use Rattle.papaya_follows.specs.Calls.{IsCalled}
-use Rattle.papaya_follows.specs.Maps.{ShowsThere}
-use Rattle.papaya_others.proofs.Outcomes.{told_in}
+use Rattle.papaya_histories.specs.Given.Effects.Known.{known}
+use Rattle.papaya_histories.specs.Given.Teller.declared.changed.Changed.{Changed}
+use Rattle.papaya_histories.specs.Given.Teller.declared.changed.Changed.TheVariants as changed
+use Rattle.papaya_histories.specs.Given.Finishes.Machines.{machine_of}
+use Rattle.papaya_histories.specs.Given.Finishes.Maps.{Standing}
+use Rattle.papaya_histories.specs.Given.Executor.IsAt.{slot_of}
+use Rattle.papaya_histories.specs.Given.Executor.Stepping.{StepsFrom}
+use Rattle.papaya_histories.specs.Given.Executor.declared.executor.Executor.{Executor}
+use Rattle.papaya_histories.proofs.Given.Executor.Changed.{standing_is}
+use Rattle.papaya_histories.proofs.Given.Executor.Forgotten.{as_step}
+use Rattle.papaya_histories.specs.Given.Follows.Calls.{IsCalled}
+use Rattle.papaya_histories.specs.Given.Follows.Maps.{ShowsThere}
+use Rattle.papaya_histories.proofs.Given.Others.Outcomes.{told_in}
 use Rattle.papaya_owes.specs.Looking.{IsLooking}
 use Rattle.papaya_owes.proofs.Tables.Hosts.{Step}
 use Rattle.papaya_scheduler.specs.Played.{StandsFor}

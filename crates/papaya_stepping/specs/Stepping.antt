@@ -1,11 +1,11 @@
 -- What a call comes to by its steps, how far it is then, and what is promised of that.
 use Rattle.std.specs.Prelude.{◌≡◌, ◌≤◌, ◌+◌, ◌⊎◌, ◌&&◌, ℕ, zero, suc, Bool, true, false, is_none, is_some, List, [], ◌∷◌, ◌++◌, position, slice_get, slice_set, sum_by, Option, Some, option_map, if◌then◌else◌}
 use Rattle.std.specs.List.{list_any, remove}
-use Rattle.seize_words.specs.declared.fault.Fault.{Fault}
-use Rattle.seize_words.specs.declared.fault.Fault.TheVariants.{Busy, Capacity, Memory, RemoveNothing}
-use Rattle.papaya_tables.specs.declared.node.Node.{Node}
-use Rattle.papaya_sweeps.specs.declared.sweep.Purpose.TheVariants.{Walks}
-use Rattle.papaya_sweeps.specs.declared.sweep.Sweeping.TheVariants as at
+use Rattle.papaya_histories.specs.Given.SeizeWords.declared.fault.Fault.{Fault}
+use Rattle.papaya_histories.specs.Given.SeizeWords.declared.fault.Fault.TheVariants.{Busy, Capacity, Memory, RemoveNothing}
+use Rattle.papaya_histories.specs.Given.Tables.declared.node.Node.{Node}
+use Rattle.papaya_histories.specs.Given.Sweeps.declared.sweep.Purpose.TheVariants.{Walks}
+use Rattle.papaya_histories.specs.Given.Sweeps.declared.sweep.Sweeping.TheVariants as at
 use Rattle.papaya_raw.specs.declared.machines.machine.Machine.{Machine}
 use Rattle.papaya_raw.specs.declared.machines.machine.Machine.TheVariants as kinds
 use Rattle.papaya_raw.specs.declared.machines.progress.Progress.{Progress}
@@ -32,11 +32,11 @@ use Rattle.papaya_schedules.specs.Sequential.{is_lookup}
 use Rattle.papaya_schedules.specs.Steps.{DoesFew, MakesSteps, stands_or, weight}
 use Rattle.papaya_schedules.specs.Terms.{Terms}
 use Rattle.papaya_schedules.specs.Views.{call_of, grows_in_chunks, map_at, map_of}
-use Rattle.papaya_late.specs.Faults.{IsRoom}
-use Rattle.papaya_effects.specs.Known.{Known, known}
-use Rattle.papaya_executor.specs.IsAt.{HasCall, IsAt, Scene}
-use Rattle.papaya_executor.specs.Stepping.{has_ended}
-use Rattle.papaya_follows.specs.Calling.{come_to}
+use Rattle.papaya_histories.specs.Given.Late.Faults.{IsRoom}
+use Rattle.papaya_histories.specs.Given.Effects.Known.{Known, known}
+use Rattle.papaya_histories.specs.Given.Executor.IsAt.{HasCall, IsAt, Scene}
+use Rattle.papaya_histories.specs.Given.Executor.Stepping.{has_ended}
+use Rattle.papaya_histories.specs.Given.Follows.Calling.{come_to}
 use Rattle.papaya_logged.specs.Calling.{CallGoesOn}
 use Rattle.papaya_logged.specs.Shown.{IsShown}
 use Rattle.papaya_scheduler.specs.Played.{AsFar, BeginsSo, IsDue, IsPlayed, Plays, StandsAs, StandsFor, entry_of}

@@ -2,15 +2,15 @@
 use Rattle.std.specs.Prelude.{◌≡◌, ℕ, ◌+◌, ◌-◌, ◌<◌, ◌^◌, Bool, true, ◌++◌}
 use Rattle.seize_words.specs.Mem.{Mem}
 use Rattle.papaya_raw.specs.declared.machines.call.KeyCall.{KeyCall as Machine}
-use Rattle.papaya_tables.specs.declared.node.Node.{Node}
-use Rattle.papaya_tables.specs.declared.setting.Setting.{Setting}
-use Rattle.papaya_rule.specs.Chart.{Chart}
-use Rattle.papaya_rule.specs.Words.{Blocks}
+use Rattle.papaya_maps.specs.Given.Tables.declared.node.Node.{Node}
+use Rattle.papaya_maps.specs.Given.Tables.declared.setting.Setting.{Setting}
+use Rattle.papaya_maps.specs.Given.Rule.Chart.{Chart}
+use Rattle.papaya_maps.specs.Given.Rule.Words.{Blocks}
 use Rattle.papaya_runs.specs.declared.outcome.Outcome.TheVariants as outcome
 use Rattle.papaya_runs.specs.Effects.{tables_passed, turns_from}
 use Rattle.papaya_calls.specs.Answered.{AllNamed, Names, answer_so, effects_so, stored_so}
 use Rattle.papaya_calls.specs.Kinds.{EndFits}
-use Rattle.papaya_late.specs.Kinds.{IsFit, IsLookup}
+use Rattle.papaya_maps.specs.Given.Late.Kinds.{IsFit, IsLookup}
 use Rattle.papaya_calls.specs.Running.{Begun, MayRun, RunsTo}
 use Rattle.papaya_shown.specs.Shown.{Stands}
 use Rattle.papaya_calls.specs.declared.calls.End.{End}

@@ -1,7 +1,7 @@
 //! The calls of a schedule.
 ghost use Rattle.std.specs.Prelude.{◌≡◌, ◌+◌, ◌-◌, ◌<◌, ◌≤◌, ◌^◌, ◌++◌, ℕ, Bool, List, Some, IfOk, OnOk};
-ghost use Rattle.papaya_rule.specs.Chart.{Chart};
-ghost use Rattle.papaya_rule.specs.Words.{Blocks};
+ghost use Rattle.papaya_maps.specs.Given.Rule.Chart.{Chart};
+ghost use Rattle.papaya_maps.specs.Given.Rule.Words.{Blocks};
 ghost use Rattle.papaya_runs.specs.Effects.{tables_passed, turns_from};
 ghost use Rattle.papaya_runs.specs.declared.event.Event.TheVariants as Event;
 ghost use Rattle.papaya_runs.specs.declared.outcome.Outcome.TheVariants.{Goes};

@@ -1,17 +1,17 @@
 -- In incremental mode, where each copying that is not over has who ends it: a call that waits for a copying has another caller's call by it, which goes on with it, or is to end it.
 use Rattle.std.specs.Prelude.{◌≢◌, Option, Some}
 use Rattle.std.proofs.Common.{◌≡◌, ℕ, suc, ◌<◌, ◌⊎◌, inl, inr, Bool, true, refl, ap, sym, subst, ◌∙◌}
-use Rattle.seize.specs.World.{World}
-use Rattle.papaya_tables.specs.Chunks.{is_incremental}
-use Rattle.papaya_tables.specs.declared.node.Node.{Node}
-use Rattle.papaya_tables.specs.declared.setting.Setting.{Setting}
-use Rattle.papaya_tables.specs.declared.table.Table.{Table}
-use Rattle.papaya_resize.specs.declared.copier.Copier.{Copier}
-use Rattle.papaya_resize.specs.declared.copier.Copying.{Copying as Point}
-use Rattle.papaya_resize.specs.declared.copier.Copying.TheVariants as copies
-use Rattle.papaya_rule.specs.Chart.{Claimed, Done, Chart}
-use Rattle.papaya_rule.specs.Words.{Blocks}
-use Rattle.papaya_points.specs.FactsCopies.{CopyingFacts, CopierFacts}
+use Rattle.papaya_callers.specs.Given.Seize.World.{World}
+use Rattle.papaya_callers.specs.Given.Tables.Chunks.{is_incremental}
+use Rattle.papaya_callers.specs.Given.Tables.declared.node.Node.{Node}
+use Rattle.papaya_callers.specs.Given.Tables.declared.setting.Setting.{Setting}
+use Rattle.papaya_callers.specs.Given.Tables.declared.table.Table.{Table}
+use Rattle.papaya_callers.specs.Given.Resize.declared.copier.Copier.{Copier}
+use Rattle.papaya_callers.specs.Given.Resize.declared.copier.Copying.{Copying as Point}
+use Rattle.papaya_callers.specs.Given.Resize.declared.copier.Copying.TheVariants as copies
+use Rattle.papaya_callers.specs.Given.Rule.Chart.{Claimed, Done, Chart}
+use Rattle.papaya_callers.specs.Given.Rule.Words.{Blocks}
+use Rattle.papaya_callers.specs.Given.Points.FactsCopies.{CopyingFacts, CopierFacts}
 use Rattle.papaya_callers.specs.Sights.{Sight}
 use Rattle.papaya_callers.specs.Together.{UnderWay, Together, in_slot}
 use Rattle.papaya_waits.specs.Others.{EndsAt, HaveEnds, copier_of}

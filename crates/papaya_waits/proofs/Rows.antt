@@ -1,33 +1,33 @@
 -- A row of the collector within a call waits only while another row has the batch of its slot in hand.
 use Rattle.std.proofs.Common.{◌≡◌, ℕ, ◌⊎◌, refl, ap, sym, ◌∙◌}
-use Rattle.seize_words.specs.Mem.{Mem, Took, value_at}
-use Rattle.seize_words.specs.Plan.{Steps}
-use Rattle.seize_rule.proofs.Rows.Leaving.{steps_back}
-use Rattle.seize.specs.Defer.{defer_plan}
-use Rattle.seize.specs.Settle.{settle_plan}
-use Rattle.seize.specs.World.{World, Row, Rests, Settles}
-use Rattle.seize.specs.declared.progress.Progress.{Progress}
-use Rattle.seize.specs.declared.progress.Progress.TheVariants as progress
-use Rattle.seize.specs.declared.rows.defer.Defer.{Defer}
-use Rattle.seize.specs.declared.rows.settle.Settle.{Settle}
-use Rattle.seize.specs.declared.rows.settle.Settled.{Settled}
-use Rattle.seize.specs.declared.rows.settle.Settled.TheVariants as settled
+use Rattle.papaya_callers.specs.Given.SeizeWords.Mem.{Mem, Took, value_at}
+use Rattle.papaya_callers.specs.Given.SeizeWords.Plan.{Steps}
+use Rattle.papaya_callers.proofs.Given.SeizeRule.Rows.Leaving.{steps_back}
+use Rattle.papaya_callers.specs.Given.Seize.Defer.{defer_plan}
+use Rattle.papaya_callers.specs.Given.Seize.Settle.{settle_plan}
+use Rattle.papaya_callers.specs.Given.Seize.World.{World, Row, Rests, Settles}
+use Rattle.papaya_callers.specs.Given.Seize.declared.progress.Progress.{Progress}
+use Rattle.papaya_callers.specs.Given.Seize.declared.progress.Progress.TheVariants as progress
+use Rattle.papaya_callers.specs.Given.Seize.declared.rows.defer.Defer.{Defer}
+use Rattle.papaya_callers.specs.Given.Seize.declared.rows.settle.Settle.{Settle}
+use Rattle.papaya_callers.specs.Given.Seize.declared.rows.settle.Settled.{Settled}
+use Rattle.papaya_callers.specs.Given.Seize.declared.rows.settle.Settled.TheVariants as settled
 use Rattle.seize_acts.proofs.Waits.{settling_waits_for_a_holder, deferring_never_waits}
-use Rattle.papaya_tables.specs.Nodes.{deferred_word}
-use Rattle.papaya_tables.specs.declared.node.Node.{Node}
-use Rattle.papaya_tables.specs.declared.table.Table.{Table}
-use Rattle.papaya_resize.specs.Copier.{copier_plan, plan_at as copier_at}
-use Rattle.papaya_resize.specs.CopierPromotes.{retired}
-use Rattle.papaya_resize.specs.Dispose.{dispose_plan, plan_at as dispose_at, settled as settled_on, deferred as deferred_on}
-use Rattle.papaya_resize.specs.declared.copier.Copier.{Copier}
-use Rattle.papaya_resize.specs.declared.copier.Copying.{Copying as Point}
-use Rattle.papaya_resize.specs.declared.copier.Copying.TheVariants as copies
-use Rattle.papaya_resize.specs.declared.dispose.Dispose.{Dispose}
-use Rattle.papaya_resize.specs.declared.dispose.Disposing.{Disposing}
-use Rattle.papaya_resize.specs.declared.dispose.Disposing.TheVariants as disposes
-use Rattle.papaya_resize.specs.declared.outcome.Outcome.{Outcome}
-use Rattle.papaya_resize.specs.declared.outcome.Outcome.TheVariants as outcome
-use Rattle.papaya_points.specs.Told.{IsRowOf, IsRowOfCopier}
+use Rattle.papaya_callers.specs.Given.Tables.Nodes.{deferred_word}
+use Rattle.papaya_callers.specs.Given.Tables.declared.node.Node.{Node}
+use Rattle.papaya_callers.specs.Given.Tables.declared.table.Table.{Table}
+use Rattle.papaya_callers.specs.Given.Resize.Copier.{copier_plan, plan_at as copier_at}
+use Rattle.papaya_callers.specs.Given.Resize.CopierPromotes.{retired}
+use Rattle.papaya_callers.specs.Given.Resize.Dispose.{dispose_plan, plan_at as dispose_at, settled as settled_on, deferred as deferred_on}
+use Rattle.papaya_callers.specs.Given.Resize.declared.copier.Copier.{Copier}
+use Rattle.papaya_callers.specs.Given.Resize.declared.copier.Copying.{Copying as Point}
+use Rattle.papaya_callers.specs.Given.Resize.declared.copier.Copying.TheVariants as copies
+use Rattle.papaya_callers.specs.Given.Resize.declared.dispose.Dispose.{Dispose}
+use Rattle.papaya_callers.specs.Given.Resize.declared.dispose.Disposing.{Disposing}
+use Rattle.papaya_callers.specs.Given.Resize.declared.dispose.Disposing.TheVariants as disposes
+use Rattle.papaya_callers.specs.Given.Resize.declared.outcome.Outcome.{Outcome}
+use Rattle.papaya_callers.specs.Given.Resize.declared.outcome.Outcome.TheVariants as outcome
+use Rattle.papaya_callers.specs.Given.Points.Told.{IsRowOf, IsRowOfCopier}
 use Rattle.papaya_callers.specs.Rows.{row_of_disposal, row_of_copier}
 use Rattle.papaya_callers.specs.Together.{CameAbout}
 use Rattle.papaya_waits.specs.Waits.{AnotherHolds}

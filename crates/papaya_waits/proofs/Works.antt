@@ -1,23 +1,23 @@
 -- In incremental mode, a call whose caller has claimed a place, or has copied one and not counted it, is none that only looks.
 use Rattle.std.specs.Prelude.{Option, Some}
 use Rattle.std.proofs.Common.{◌≡◌, ℕ, suc, ◌<◌, ◌⊎◌, inl, inr, Bool, true, refl, sym, arith}
-use Rattle.seize.specs.World.{World}
-use Rattle.papaya_tables.specs.Chunks.{is_incremental}
-use Rattle.papaya_tables.specs.declared.node.Node.{Node}
-use Rattle.papaya_tables.specs.declared.setting.Setting.{Setting}
-use Rattle.papaya_raw.specs.declared.machines.call.Calling.{Calling}
-use Rattle.papaya_raw.specs.declared.machines.call.Calling.TheVariants as at
-use Rattle.papaya_rule.specs.Chart.{Claimed, Done, Chart}
-use Rattle.papaya_rule.specs.Moves.{is_done_by}
-use Rattle.papaya_rule.specs.Words.{Blocks}
-use Rattle.papaya_rule.proofs.Shares.LastsShares.{total_zero}
-use Rattle.papaya_points.specs.FactsCalls.{CallFacts, IsCopying, Unchanged}
-use Rattle.papaya_points.specs.FactsCopies.{ClaimsNone, HasDone}
-use Rattle.papaya_points.specs.FactsCopiesBlocking.{HasNoShares}
-use Rattle.papaya_points.specs.FactsIdle.{IsIdle}
-use Rattle.papaya_points.specs.Told.{IsRowOfCall}
-use Rattle.papaya_late.specs.Kinds.{LooksAt}
-use Rattle.papaya_late.specs.LateCalls.{LateCallFacts}
+use Rattle.papaya_callers.specs.Given.Seize.World.{World}
+use Rattle.papaya_callers.specs.Given.Tables.Chunks.{is_incremental}
+use Rattle.papaya_callers.specs.Given.Tables.declared.node.Node.{Node}
+use Rattle.papaya_callers.specs.Given.Tables.declared.setting.Setting.{Setting}
+use Rattle.papaya_callers.specs.Given.Raw.declared.machines.call.Calling.{Calling}
+use Rattle.papaya_callers.specs.Given.Raw.declared.machines.call.Calling.TheVariants as at
+use Rattle.papaya_callers.specs.Given.Rule.Chart.{Claimed, Done, Chart}
+use Rattle.papaya_callers.specs.Given.Rule.Moves.{is_done_by}
+use Rattle.papaya_callers.specs.Given.Rule.Words.{Blocks}
+use Rattle.papaya_callers.proofs.Given.Rule.Shares.LastsShares.{total_zero}
+use Rattle.papaya_callers.specs.Given.Points.FactsCalls.{CallFacts, IsCopying, Unchanged}
+use Rattle.papaya_callers.specs.Given.Points.FactsCopies.{ClaimsNone, HasDone}
+use Rattle.papaya_callers.specs.Given.Points.FactsCopiesBlocking.{HasNoShares}
+use Rattle.papaya_callers.specs.Given.Points.FactsIdle.{IsIdle}
+use Rattle.papaya_callers.specs.Given.Points.Told.{IsRowOfCall}
+use Rattle.papaya_callers.specs.Given.Late.Kinds.{LooksAt}
+use Rattle.papaya_callers.specs.Given.Late.LateCalls.{LateCallFacts}
 use Rattle.papaya_callers.specs.Sights.{Sight, seen_by}
 use Rattle.papaya_callers.specs.Together.{UnderWay, OnKey, ForRoom, Counting, OverAll, Together, in_slot}
 use Rattle.papaya_waits.proofs.Askers.{done_one}

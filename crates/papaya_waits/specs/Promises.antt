@@ -1,31 +1,31 @@
 -- What is promised of each step that answers that its call waits.
 use Rattle.std.specs.Prelude.{◌≡◌, ◌≢◌, ℕ, Bool, Option, Some, ◌⊎◌}
-use Rattle.seize_words.specs.Mem.{Mem, Took, value_at}
-use Rattle.seize_words.specs.Plan.{Steps}
-use Rattle.seize.specs.World.{World, Rests}
-use Rattle.papaya_tables.specs.Chunks.{is_incremental}
-use Rattle.papaya_tables.specs.declared.node.Node.{Node}
-use Rattle.papaya_tables.specs.declared.setting.Setting.{Setting}
-use Rattle.papaya_resize.specs.declared.lookup.Lookup.{Lookup}
-use Rattle.papaya_resize.specs.declared.outcome.Outcome.TheVariants as outcome
-use Rattle.papaya_raw.specs.Call.{call_plan}
-use Rattle.papaya_raw.specs.declared.machines.answer.Called.{Called}
-use Rattle.papaya_raw.specs.declared.machines.answer.Called.TheVariants as called
-use Rattle.papaya_raw.specs.declared.machines.call.KeyCall.{KeyCall}
-use Rattle.papaya_raw.specs.declared.machines.call.Calling.TheVariants as at
-use Rattle.papaya_reserves.specs.Reserve.{reserve_plan}
-use Rattle.papaya_reserves.specs.declared.reserve.Reserve.{Reserve}
-use Rattle.papaya_sweeps.specs.Sweep.{sweep_plan}
-use Rattle.papaya_sweeps.specs.declared.sweep.Sweep.{Sweep}
-use Rattle.papaya_sweeps.specs.declared.sweep.Swept.TheVariants as swept
-use Rattle.papaya_rule.specs.Chart.{Chart}
-use Rattle.papaya_rule.specs.Words.{Blocks}
-use Rattle.papaya_rule.specs.InWorld.{IsMapIn}
-use Rattle.papaya_points.specs.Steps.{AreLawful}
-use Rattle.papaya_points.specs.Told.{IsRowOfCall}
-use Rattle.papaya_late.specs.ToldReserves.{IsRowOfReserve}
-use Rattle.papaya_late.specs.FactsSweeps.{SweepFacts}
-use Rattle.papaya_late.specs.ToldSweeps.{IsRowOfSweep}
+use Rattle.papaya_callers.specs.Given.SeizeWords.Mem.{Mem, Took, value_at}
+use Rattle.papaya_callers.specs.Given.SeizeWords.Plan.{Steps}
+use Rattle.papaya_callers.specs.Given.Seize.World.{World, Rests}
+use Rattle.papaya_callers.specs.Given.Tables.Chunks.{is_incremental}
+use Rattle.papaya_callers.specs.Given.Tables.declared.node.Node.{Node}
+use Rattle.papaya_callers.specs.Given.Tables.declared.setting.Setting.{Setting}
+use Rattle.papaya_callers.specs.Given.Resize.declared.lookup.Lookup.{Lookup}
+use Rattle.papaya_callers.specs.Given.Resize.declared.outcome.Outcome.TheVariants as outcome
+use Rattle.papaya_callers.specs.Given.Raw.Call.{call_plan}
+use Rattle.papaya_callers.specs.Given.Raw.declared.machines.answer.Called.{Called}
+use Rattle.papaya_callers.specs.Given.Raw.declared.machines.answer.Called.TheVariants as called
+use Rattle.papaya_callers.specs.Given.Raw.declared.machines.call.KeyCall.{KeyCall}
+use Rattle.papaya_callers.specs.Given.Raw.declared.machines.call.Calling.TheVariants as at
+use Rattle.papaya_callers.specs.Given.Reserves.Reserve.{reserve_plan}
+use Rattle.papaya_callers.specs.Given.Reserves.declared.reserve.Reserve.{Reserve}
+use Rattle.papaya_callers.specs.Given.Sweeps.Sweep.{sweep_plan}
+use Rattle.papaya_callers.specs.Given.Sweeps.declared.sweep.Sweep.{Sweep}
+use Rattle.papaya_callers.specs.Given.Sweeps.declared.sweep.Swept.TheVariants as swept
+use Rattle.papaya_callers.specs.Given.Rule.Chart.{Chart}
+use Rattle.papaya_callers.specs.Given.Rule.Words.{Blocks}
+use Rattle.papaya_callers.specs.Given.Rule.InWorld.{IsMapIn}
+use Rattle.papaya_callers.specs.Given.Points.Steps.{AreLawful}
+use Rattle.papaya_callers.specs.Given.Points.Told.{IsRowOfCall}
+use Rattle.papaya_callers.specs.Given.Late.ToldReserves.{IsRowOfReserve}
+use Rattle.papaya_callers.specs.Given.Late.FactsSweeps.{SweepFacts}
+use Rattle.papaya_callers.specs.Given.Late.ToldSweeps.{IsRowOfSweep}
 use Rattle.papaya_callers.specs.Rooms.{CallForRoom, row_of_room}
 use Rattle.papaya_callers.specs.Rows.{row_of}
 use Rattle.papaya_callers.specs.Sights.{Sight}

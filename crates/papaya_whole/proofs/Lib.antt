@@ -7,3 +7,4 @@ pub mod Sweeps
 pub mod Contents
 mod Samples
 mod SweptSamples
+pub mod Given

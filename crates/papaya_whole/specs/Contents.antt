@@ -1,21 +1,21 @@
 -- The pairs of a map as a list, in the order in which they were stored, and the words on such lists.
 use Rattle.std.specs.Prelude.{◌≡◌, ℕ, zero, suc, ◌<◌, ◌≤◌, Bool, true, cond, List, [], ◌∷◌, ◌++◌, Option, Some, None, if◌then◌else◌}
-use Rattle.seize_words.specs.Mem.{Mem, value_at}
-use Rattle.papaya_tables.specs.declared.node.Node.{Node}
-use Rattle.papaya_tables.specs.declared.node.Node.TheVariants as node
-use Rattle.papaya_raw.specs.declared.machines.answer.KeyAnswer.{KeyAnswer}
-use Rattle.papaya_raw.specs.declared.machines.answer.KeyAnswer.TheVariants as answers
-use Rattle.papaya_rule.specs.Chart.{Phase, Holds, Chart}
-use Rattle.papaya_rule.specs.Words.{Blocks, place_word}
-use Rattle.papaya_rule.specs.Moments.{Moments}
-use Rattle.papaya_tables.specs.Chunks.{is_incremental}
-use Rattle.papaya_callers.specs.Since.{SoSince}
-use Rattle.papaya_rule.specs.InWorld.{IsMapIn}
-use Rattle.papaya_points.specs.FactsCalls.{Change, Unchanged, Stored, Replaced, Removed}
-use Rattle.papaya_points.specs.Steps.{AreLawful}
-use Rattle.papaya_alone.specs.Alone.{HasChanged}
-use Rattle.papaya_tables.specs.declared.setting.Setting.{Setting}
-use Rattle.seize.specs.World.{World}
+use Rattle.papaya_maps.specs.Given.SeizeWords.Mem.{Mem, value_at}
+use Rattle.papaya_maps.specs.Given.Tables.declared.node.Node.{Node}
+use Rattle.papaya_maps.specs.Given.Tables.declared.node.Node.TheVariants as node
+use Rattle.papaya_maps.specs.Given.Raw.declared.machines.answer.KeyAnswer.{KeyAnswer}
+use Rattle.papaya_maps.specs.Given.Raw.declared.machines.answer.KeyAnswer.TheVariants as answers
+use Rattle.papaya_maps.specs.Given.Rule.Chart.{Phase, Holds, Chart}
+use Rattle.papaya_maps.specs.Given.Rule.Words.{Blocks, place_word}
+use Rattle.papaya_maps.specs.Given.Rule.Moments.{Moments}
+use Rattle.papaya_maps.specs.Given.Tables.Chunks.{is_incremental}
+use Rattle.papaya_maps.specs.Given.Callers.Since.{SoSince}
+use Rattle.papaya_maps.specs.Given.Rule.InWorld.{IsMapIn}
+use Rattle.papaya_maps.specs.Given.Points.FactsCalls.{Change, Unchanged, Stored, Replaced, Removed}
+use Rattle.papaya_maps.specs.Given.Points.Steps.{AreLawful}
+use Rattle.papaya_maps.specs.Given.Alone.Alone.{HasChanged}
+use Rattle.papaya_maps.specs.Given.Tables.declared.setting.Setting.{Setting}
+use Rattle.papaya_maps.specs.Given.Seize.World.{World}
 
 module _ {K V : Type 0} (same : K → K → Bool) where
   -- the pair of a key's class

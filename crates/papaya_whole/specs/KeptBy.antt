@@ -1,17 +1,17 @@
 -- A retaining that is told to keep just the pairs that pass a test: what it leaves of the list. And the list of the pairs that a walk has shown.
 use Rattle.std.specs.Prelude.{◌≡◌, ℕ, ◌<◌, Bool, true, cond, List, [], ◌∷◌, filter, IsPermutation, Some}
-use Rattle.seize_words.specs.Mem.{Mem, value_at}
-use Rattle.seize.specs.World.{World}
-use Rattle.papaya_tables.specs.declared.node.Node.{Node}
-use Rattle.papaya_tables.specs.declared.node.Node.TheVariants as node
-use Rattle.papaya_tables.specs.declared.setting.Setting.{Setting}
-use Rattle.papaya_sweeps.specs.declared.sweep.Purpose.TheVariants.{Walks, Retains}
-use Rattle.papaya_sweeps.specs.declared.sweep.Sweeping.TheVariants as at
-use Rattle.papaya_rule.specs.Chart.{Chart}
-use Rattle.papaya_rule.specs.Words.{Blocks}
-use Rattle.papaya_rule.specs.InWorld.{IsMapIn}
-use Rattle.papaya_late.specs.Covers.{times, Came}
-use Rattle.papaya_callers.specs.OverAll.{CallOverAll}
+use Rattle.papaya_maps.specs.Given.SeizeWords.Mem.{Mem, value_at}
+use Rattle.papaya_maps.specs.Given.Seize.World.{World}
+use Rattle.papaya_maps.specs.Given.Tables.declared.node.Node.{Node}
+use Rattle.papaya_maps.specs.Given.Tables.declared.node.Node.TheVariants as node
+use Rattle.papaya_maps.specs.Given.Tables.declared.setting.Setting.{Setting}
+use Rattle.papaya_maps.specs.Given.Sweeps.declared.sweep.Purpose.TheVariants.{Walks, Retains}
+use Rattle.papaya_maps.specs.Given.Sweeps.declared.sweep.Sweeping.TheVariants as at
+use Rattle.papaya_maps.specs.Given.Rule.Chart.{Chart}
+use Rattle.papaya_maps.specs.Given.Rule.Words.{Blocks}
+use Rattle.papaya_maps.specs.Given.Rule.InWorld.{IsMapIn}
+use Rattle.papaya_maps.specs.Given.Late.Covers.{times, Came}
+use Rattle.papaya_maps.specs.Given.Callers.OverAll.{CallOverAll}
 use Rattle.papaya_whole.specs.Contents.{AreContents}
 use Rattle.papaya_whole.specs.LoneSweeps.{goes_once}
 use Rattle.papaya_whole.specs.SweptPairs.{HasSwept, is_done}

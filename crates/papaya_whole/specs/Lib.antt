@@ -7,3 +7,4 @@ pub mod LoneSweeps
 pub mod SweptPairs
 pub mod KeptBy
 pub mod WholeSweeps
+pub mod Given

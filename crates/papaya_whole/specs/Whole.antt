@@ -1,41 +1,41 @@
 -- What is promised of whole calls for one owner: where each begins, where each of its steps leads, and that its steps come to an end.
 use Rattle.std.specs.Prelude.{◌≡◌, ℕ, ◌<◌, ◌≤◌, Bool, Some, true}
 use Rattle.std.specs.Int.{IsPowerOfTwo}
-use Rattle.seize_words.specs.Mem.{Mem, Can, Took, value_at, word_at}
-use Rattle.seize_words.specs.Plan.{May, Steps}
-use Rattle.seize_words.specs.declared.at.At.TheVariants.{Root, Word}
-use Rattle.seize_words.specs.declared.fault.Fault.{Fault}
-use Rattle.seize_words.specs.declared.fault.Fault.TheVariants.{RemoveNothing}
-use Rattle.seize.specs.World.{World, Rests, IsInside}
-use Rattle.papaya_tables.specs.declared.node.Node.{Node}
-use Rattle.papaya_tables.specs.declared.setting.Setting.{Setting}
-use Rattle.papaya_raw.specs.Call.{call_plan}
-use Rattle.papaya_raw.specs.declared.machines.answer.Called.{Called}
-use Rattle.papaya_raw.specs.declared.machines.answer.Called.TheVariants as called
-use Rattle.papaya_raw.specs.declared.machines.asking.Asking.{Asking}
-use Rattle.papaya_raw.specs.declared.machines.call.KeyCall.{KeyCall}
-use Rattle.papaya_raw.specs.declared.machines.call.Calling.TheVariants as at
-use Rattle.papaya_rule.specs.Chart.{Chart}
-use Rattle.papaya_rule.specs.Maps.{spot_of}
-use Rattle.papaya_rule.specs.Rule.{Rule, no_table}
-use Rattle.papaya_rule.specs.InWorld.{IsMapIn}
-use Rattle.papaya_raw.specs.CallAsks.{replied}
-use Rattle.papaya_raw.specs.declared.machines.asking.Reply.{Reply}
-use Rattle.papaya_raw.specs.declared.machines.answer.KeyAnswer.{KeyAnswer}
-use Rattle.papaya_tables.specs.declared.node.Node.TheVariants as node
-use Rattle.papaya_tables.specs.Chunks.{is_incremental}
+use Rattle.papaya_maps.specs.Given.SeizeWords.Mem.{Mem, Can, Took, value_at, word_at}
+use Rattle.papaya_maps.specs.Given.SeizeWords.Plan.{May, Steps}
+use Rattle.papaya_maps.specs.Given.SeizeWords.declared.at.At.TheVariants.{Root, Word}
+use Rattle.papaya_maps.specs.Given.SeizeWords.declared.fault.Fault.{Fault}
+use Rattle.papaya_maps.specs.Given.SeizeWords.declared.fault.Fault.TheVariants.{RemoveNothing}
+use Rattle.papaya_maps.specs.Given.Seize.World.{World, Rests, IsInside}
+use Rattle.papaya_maps.specs.Given.Tables.declared.node.Node.{Node}
+use Rattle.papaya_maps.specs.Given.Tables.declared.setting.Setting.{Setting}
+use Rattle.papaya_maps.specs.Given.Raw.Call.{call_plan}
+use Rattle.papaya_maps.specs.Given.Raw.declared.machines.answer.Called.{Called}
+use Rattle.papaya_maps.specs.Given.Raw.declared.machines.answer.Called.TheVariants as called
+use Rattle.papaya_maps.specs.Given.Raw.declared.machines.asking.Asking.{Asking}
+use Rattle.papaya_maps.specs.Given.Raw.declared.machines.call.KeyCall.{KeyCall}
+use Rattle.papaya_maps.specs.Given.Raw.declared.machines.call.Calling.TheVariants as at
+use Rattle.papaya_maps.specs.Given.Rule.Chart.{Chart}
+use Rattle.papaya_maps.specs.Given.Rule.Maps.{spot_of}
+use Rattle.papaya_maps.specs.Given.Rule.Rule.{Rule, no_table}
+use Rattle.papaya_maps.specs.Given.Rule.InWorld.{IsMapIn}
+use Rattle.papaya_maps.specs.Given.Raw.CallAsks.{replied}
+use Rattle.papaya_maps.specs.Given.Raw.declared.machines.asking.Reply.{Reply}
+use Rattle.papaya_maps.specs.Given.Raw.declared.machines.answer.KeyAnswer.{KeyAnswer}
+use Rattle.papaya_maps.specs.Given.Tables.declared.node.Node.TheVariants as node
+use Rattle.papaya_maps.specs.Given.Tables.Chunks.{is_incremental}
 use Rattle.papaya_whole.specs.Contents.{HasRun}
-use Rattle.papaya_rule.specs.Words.{Blocks}
-use Rattle.papaya_points.specs.FactsCalls.{Change, Unchanged}
-use Rattle.papaya_points.specs.Steps.{AreLawful}
-use Rattle.papaya_alone.specs.Alone.{HasChanged}
-use Rattle.papaya_alone.specs.Counted.{HasAdded, counted_for, counted_at}
-use Rattle.papaya_alone.specs.Counting.{IsCounted}
-use Rattle.papaya_alone.specs.Endings.{RunsEnd}
-use Rattle.papaya_callers.specs.Kept.{IsMaking}
-use Rattle.papaya_callers.specs.Pairs.{Given, HandsBack, RemovesNone}
-use Rattle.papaya_callers.specs.Sights.{Sight, seen_by}
-use Rattle.papaya_callers.specs.Together.{CallOnKey, OnKey, CameAbout, no_blocks, no_sight, in_slot, IsBegun, begun_at, AnswersOnce, IsReclaimed, RepliesTaken}
+use Rattle.papaya_maps.specs.Given.Rule.Words.{Blocks}
+use Rattle.papaya_maps.specs.Given.Points.FactsCalls.{Change, Unchanged}
+use Rattle.papaya_maps.specs.Given.Points.Steps.{AreLawful}
+use Rattle.papaya_maps.specs.Given.Alone.Alone.{HasChanged}
+use Rattle.papaya_maps.specs.Given.Alone.Counted.{HasAdded, counted_for, counted_at}
+use Rattle.papaya_maps.specs.Given.Alone.Counting.{IsCounted}
+use Rattle.papaya_maps.specs.Given.Alone.Endings.{RunsEnd}
+use Rattle.papaya_maps.specs.Given.Callers.Kept.{IsMaking}
+use Rattle.papaya_maps.specs.Given.Callers.Pairs.{Given, HandsBack, RemovesNone}
+use Rattle.papaya_maps.specs.Given.Callers.Sights.{Sight, seen_by}
+use Rattle.papaya_maps.specs.Given.Callers.Together.{CallOnKey, OnKey, CameAbout, no_blocks, no_sight, in_slot, IsBegun, begun_at, AnswersOnce, IsReclaimed, RepliesTaken}
 use Rattle.papaya_whole.specs.Owner.{AtRest, IsAlone}
 
 -- this call on one key, where it goes on, and what it has changed

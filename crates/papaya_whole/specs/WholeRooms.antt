@@ -1,35 +1,35 @@
 -- What is promised of whole reservations and countings for one owner.
 use Rattle.std.specs.Prelude.{◌≡◌, ℕ, Bool, true, List, length}
 use Rattle.std.specs.Int.{IsPowerOfTwo}
-use Rattle.seize_words.specs.Mem.{Mem, Can, Took, value_at}
-use Rattle.seize_words.specs.Plan.{May, Steps}
-use Rattle.seize.specs.World.{World}
-use Rattle.seize.specs.declared.progress.Progress.{Progress}
-use Rattle.seize.specs.declared.progress.Progress.TheVariants as progress
-use Rattle.papaya_tables.specs.declared.node.Node.{Node}
-use Rattle.papaya_tables.specs.declared.setting.Setting.{Setting}
-use Rattle.papaya_resize.specs.Sum.{summing, sum_plan}
-use Rattle.papaya_resize.specs.declared.outcome.Outcome.{Outcome}
-use Rattle.papaya_resize.specs.declared.outcome.Outcome.TheVariants as outcome
-use Rattle.papaya_resize.specs.declared.sum.Sum.{Sum}
-use Rattle.papaya_reserves.specs.Reserve.{reserving, reserve_plan}
-use Rattle.papaya_reserves.specs.declared.reserve.Reserve.{Reserve}
-use Rattle.papaya_rule.specs.Chart.{Chart}
-use Rattle.papaya_rule.specs.Words.{Blocks}
-use Rattle.papaya_rule.specs.Maps.{spot_of}
-use Rattle.papaya_rule.specs.Rule.{Rule}
-use Rattle.papaya_tables.specs.Chunks.{is_incremental}
-use Rattle.papaya_points.specs.FactsCalls.{Unchanged}
-use Rattle.papaya_alone.specs.Counted.{HasAdded}
-use Rattle.papaya_alone.specs.Counting.{IsCounted, count_ahead}
-use Rattle.papaya_rule.specs.InWorld.{IsMapIn}
+use Rattle.papaya_maps.specs.Given.SeizeWords.Mem.{Mem, Can, Took, value_at}
+use Rattle.papaya_maps.specs.Given.SeizeWords.Plan.{May, Steps}
+use Rattle.papaya_maps.specs.Given.Seize.World.{World}
+use Rattle.papaya_maps.specs.Given.Seize.declared.progress.Progress.{Progress}
+use Rattle.papaya_maps.specs.Given.Seize.declared.progress.Progress.TheVariants as progress
+use Rattle.papaya_maps.specs.Given.Tables.declared.node.Node.{Node}
+use Rattle.papaya_maps.specs.Given.Tables.declared.setting.Setting.{Setting}
+use Rattle.papaya_maps.specs.Given.Resize.Sum.{summing, sum_plan}
+use Rattle.papaya_maps.specs.Given.Resize.declared.outcome.Outcome.{Outcome}
+use Rattle.papaya_maps.specs.Given.Resize.declared.outcome.Outcome.TheVariants as outcome
+use Rattle.papaya_maps.specs.Given.Resize.declared.sum.Sum.{Sum}
+use Rattle.papaya_maps.specs.Given.Reserves.Reserve.{reserving, reserve_plan}
+use Rattle.papaya_maps.specs.Given.Reserves.declared.reserve.Reserve.{Reserve}
+use Rattle.papaya_maps.specs.Given.Rule.Chart.{Chart}
+use Rattle.papaya_maps.specs.Given.Rule.Words.{Blocks}
+use Rattle.papaya_maps.specs.Given.Rule.Maps.{spot_of}
+use Rattle.papaya_maps.specs.Given.Rule.Rule.{Rule}
+use Rattle.papaya_maps.specs.Given.Tables.Chunks.{is_incremental}
+use Rattle.papaya_maps.specs.Given.Points.FactsCalls.{Unchanged}
+use Rattle.papaya_maps.specs.Given.Alone.Counted.{HasAdded}
+use Rattle.papaya_maps.specs.Given.Alone.Counting.{IsCounted, count_ahead}
+use Rattle.papaya_maps.specs.Given.Rule.InWorld.{IsMapIn}
 use Rattle.papaya_whole.specs.Contents.{AreContents, HasRun}
-use Rattle.papaya_points.specs.Steps.{AreLawful}
+use Rattle.papaya_maps.specs.Given.Points.Steps.{AreLawful}
 use Rattle.papaya_maps.specs.AloneReserves.{SumsUp, LooksAtRoot, KeepsToRoot}
 use Rattle.papaya_maps.specs.EndingsReserves.{ComesToAnEnd}
-use Rattle.papaya_callers.specs.Rooms.{CallForRoom}
-use Rattle.papaya_callers.specs.Sights.{Sight}
-use Rattle.papaya_callers.specs.Together.{ForRoom, Counting, in_slot, IsReclaimed}
+use Rattle.papaya_maps.specs.Given.Callers.Rooms.{CallForRoom}
+use Rattle.papaya_maps.specs.Given.Callers.Sights.{Sight}
+use Rattle.papaya_maps.specs.Given.Callers.Together.{ForRoom, Counting, in_slot, IsReclaimed}
 use Rattle.papaya_whole.specs.Owner.{AtRest, IsAlone}
 
 -- this reservation, where it goes on

@@ -1,44 +1,44 @@
 -- A step of a call that is none of a row of the collector, alone.
 use Rattle.std.specs.Int.{IsPowerOfTwo}
 use Rattle.std.proofs.Common.{◌≡◌, ℕ, ◌/◌, ◌<◌, Bool, true, List, [], ◌⊎◌, inl, inr, refl, ap, sym, subst, ◌∙◌, Option, Some, ◌≤◌, arith}
-use Rattle.seize_words.specs.Mem.{Mem, Can, Took, value_at}
-use Rattle.seize_words.specs.Plan.{May, Steps}
-use Rattle.seize_words.proofs.OneOwner.Operations.{taken}
-use Rattle.seize.specs.WaitingSets.{Change as Waiting}
-use Rattle.seize.specs.World.{World}
-use Rattle.seize_alone.specs.Alone.{History, IsHistory, at_rest}
-use Rattle.seize_alone.proofs.Histories.Reached.{history_reached}
-use Rattle.seize_alone.proofs.Histories.UsersTurn.{users_turn}
-use Rattle.papaya_tables.specs.Nodes.{deferred_word}
-use Rattle.papaya_tables.specs.Chunks.{is_incremental}
-use Rattle.papaya_raw.specs.Call.{plan_at, call_plan, dropped}
-use Rattle.papaya_tables.specs.declared.node.Node.{Node}
-use Rattle.papaya_tables.specs.declared.setting.Setting.{Setting}
-use Rattle.seize_words.specs.declared.fault.Fault.{Fault}
-use Rattle.papaya_raw.specs.Answers.{ended as ended_as}
-use Rattle.papaya_raw.specs.declared.machines.answer.KeyAnswer.{KeyAnswer}
-use Rattle.papaya_raw.specs.declared.machines.answer.KeyAnswer.TheVariants as answers
-use Rattle.papaya_raw.specs.declared.machines.answer.End.{End}
-use Rattle.papaya_raw.specs.declared.machines.answer.End.TheVariants as ends
-use Rattle.papaya_raw.specs.declared.machines.answer.Called.{Called}
-use Rattle.papaya_raw.specs.declared.machines.answer.Called.TheVariants as called
-use Rattle.papaya_raw.specs.declared.machines.asking.Asking.{Asking}
-use Rattle.papaya_raw.specs.declared.machines.asking.Takes.TheVariants as takes
-use Rattle.papaya_raw.specs.declared.machines.call.KeyCall.{KeyCall}
-use Rattle.papaya_raw.specs.declared.machines.call.Calling.{Calling}
-use Rattle.papaya_raw.specs.declared.machines.call.Calling.TheVariants as at
-use Rattle.papaya_raw.specs.declared.machines.answer.End.{End}
-use Rattle.papaya_rule.specs.Chart.{Chart}
-use Rattle.papaya_rule.specs.Rule.{Rule}
-use Rattle.papaya_rule.specs.Lasts.{Lasts}
-use Rattle.papaya_rule.specs.Words.{Blocks}
-use Rattle.papaya_rule.specs.Maps.{spot_of}
-use Rattle.papaya_rule.specs.InWorld.{SameBlocks, IsMapIn, Went}
-use Rattle.papaya_points.specs.Steps.{AreLawful}
-use Rattle.papaya_points.specs.FactsCalls.{Change, Unchanged, CallingFacts, CallFacts, AnswersOf, Tells, Changes}
-use Rattle.papaya_points.specs.Told.{IsRowOfCall, HasAnswered, CallFactsAfter, CallTold}
-use Rattle.papaya_points.proofs.Calls.StepsTold.{calls_keep_the_map}
-use Rattle.papaya_points.proofs.MovedLasts.{moved_lasts}
+use Rattle.papaya_callers.specs.Given.SeizeWords.Mem.{Mem, Can, Took, value_at}
+use Rattle.papaya_callers.specs.Given.SeizeWords.Plan.{May, Steps}
+use Rattle.papaya_callers.proofs.Given.SeizeWords.OneOwner.Operations.{taken}
+use Rattle.papaya_callers.specs.Given.Seize.WaitingSets.{Change as Waiting}
+use Rattle.papaya_callers.specs.Given.Seize.World.{World}
+use Rattle.papaya_callers.specs.Given.SeizeAlone.Alone.{History, IsHistory, at_rest}
+use Rattle.papaya_callers.proofs.Given.SeizeAlone.Histories.Reached.{history_reached}
+use Rattle.papaya_callers.proofs.Given.SeizeAlone.Histories.UsersTurn.{users_turn}
+use Rattle.papaya_callers.specs.Given.Tables.Nodes.{deferred_word}
+use Rattle.papaya_callers.specs.Given.Tables.Chunks.{is_incremental}
+use Rattle.papaya_callers.specs.Given.Raw.Call.{plan_at, call_plan, dropped}
+use Rattle.papaya_callers.specs.Given.Tables.declared.node.Node.{Node}
+use Rattle.papaya_callers.specs.Given.Tables.declared.setting.Setting.{Setting}
+use Rattle.papaya_callers.specs.Given.SeizeWords.declared.fault.Fault.{Fault}
+use Rattle.papaya_callers.specs.Given.Raw.Answers.{ended as ended_as}
+use Rattle.papaya_callers.specs.Given.Raw.declared.machines.answer.KeyAnswer.{KeyAnswer}
+use Rattle.papaya_callers.specs.Given.Raw.declared.machines.answer.KeyAnswer.TheVariants as answers
+use Rattle.papaya_callers.specs.Given.Raw.declared.machines.answer.End.{End}
+use Rattle.papaya_callers.specs.Given.Raw.declared.machines.answer.End.TheVariants as ends
+use Rattle.papaya_callers.specs.Given.Raw.declared.machines.answer.Called.{Called}
+use Rattle.papaya_callers.specs.Given.Raw.declared.machines.answer.Called.TheVariants as called
+use Rattle.papaya_callers.specs.Given.Raw.declared.machines.asking.Asking.{Asking}
+use Rattle.papaya_callers.specs.Given.Raw.declared.machines.asking.Takes.TheVariants as takes
+use Rattle.papaya_callers.specs.Given.Raw.declared.machines.call.KeyCall.{KeyCall}
+use Rattle.papaya_callers.specs.Given.Raw.declared.machines.call.Calling.{Calling}
+use Rattle.papaya_callers.specs.Given.Raw.declared.machines.call.Calling.TheVariants as at
+use Rattle.papaya_callers.specs.Given.Raw.declared.machines.answer.End.{End}
+use Rattle.papaya_callers.specs.Given.Rule.Chart.{Chart}
+use Rattle.papaya_callers.specs.Given.Rule.Rule.{Rule}
+use Rattle.papaya_callers.specs.Given.Rule.Lasts.{Lasts}
+use Rattle.papaya_callers.specs.Given.Rule.Words.{Blocks}
+use Rattle.papaya_callers.specs.Given.Rule.Maps.{spot_of}
+use Rattle.papaya_callers.specs.Given.Rule.InWorld.{SameBlocks, IsMapIn, Went}
+use Rattle.papaya_callers.specs.Given.Points.Steps.{AreLawful}
+use Rattle.papaya_callers.specs.Given.Points.FactsCalls.{Change, Unchanged, CallingFacts, CallFacts, AnswersOf, Tells, Changes}
+use Rattle.papaya_callers.specs.Given.Points.Told.{IsRowOfCall, HasAnswered, CallFactsAfter, CallTold}
+use Rattle.papaya_callers.proofs.Given.Points.Calls.StepsTold.{calls_keep_the_map}
+use Rattle.papaya_callers.proofs.Given.Points.MovedLasts.{moved_lasts}
 use Rattle.papaya_alone.specs.Counting.{IsCounted}
 use Rattle.papaya_alone.specs.Counted.{HasAdded, counted_end, counted_at, counted_for}
 use Rattle.papaya_alone.specs.Handed.{pairs_handed, all_handed, word_out, HasHandedTables}
@@ -48,23 +48,23 @@ use Rattle.papaya_callers.specs.Kept.{IsWithin}
 use Rattle.papaya_alone.specs.FactsAloneCalls.{IsLone, LeadsLone}
 use Rattle.papaya_alone.specs.LoneCalls.{LeadsTo}
 use Rattle.papaya_alone.proofs.Lone.Stays.{LoneWent, went_call_lone}
-use Rattle.papaya_rule.proofs.World.WentTold.{went_as}
+use Rattle.papaya_callers.proofs.Given.Rule.World.WentTold.{went_as}
 use Rattle.papaya_callers.proofs.Rows.Known.{known_since}
 use Rattle.papaya_callers.proofs.Rows.Users.{all_users, users_within}
 use Rattle.papaya_alone.proofs.Calls.Changes.{changed_on, blocks_on, answers_last}
-use Rattle.papaya_points.proofs.Values.Sought.{IsLook}
+use Rattle.papaya_callers.proofs.Given.Points.Values.Sought.{IsLook}
 use Rattle.papaya_alone.proofs.Values.On.{ComesWith}
 use Rattle.papaya_alone.proofs.Values.Told.{blocks_told}
 use Rattle.papaya_alone.proofs.Shards.Counted.{counted_on}
 use Rattle.papaya_alone.proofs.Shards.PairsChanged.{counted_then, counted_unchanged}
 use Rattle.papaya_alone.proofs.Handed.Lists.{retired_on, retired_all, none_handed}
 use Rattle.papaya_alone.proofs.Handed.Next.{HandsOn, hands_on}
-use Rattle.papaya_rule.proofs.World.CounterSpared.{spares_counter}
+use Rattle.papaya_callers.proofs.Given.Rule.World.CounterSpared.{spares_counter}
 use Rattle.papaya_alone.proofs.Handed.Fresh.{TakesNone, TellsNone}
 use Rattle.papaya_alone.proofs.Handed.RootTurns.{before_made}
-use Rattle.papaya_points.proofs.Values.Never.{never_asks_on}
-use Rattle.papaya_raw.specs.declared.machines.asking.Asking.TheVariants as asking
-use Rattle.papaya_points.proofs.Calls.Holdings.{never_asks}
+use Rattle.papaya_callers.proofs.Given.Points.Values.Never.{never_asks_on}
+use Rattle.papaya_callers.specs.Given.Raw.declared.machines.asking.Asking.TheVariants as asking
+use Rattle.papaya_callers.proofs.Given.Points.Calls.Holdings.{never_asks}
 
 -- one that has answered has counted what its answer tells
 answered_counted : (answer : KeyAnswer) (stands : Calling) → HasAnswered answer stands → counted_at stands ≡ counted_for answer

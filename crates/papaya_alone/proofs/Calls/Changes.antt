@@ -1,21 +1,21 @@
 -- What a call has changed since it was begun, and what it has answered, after one step more.
 use Rattle.std.proofs.Common.{◌≡◌, ◌≢◌, ℕ, suc, ◌+◌, ◌≤◌, ◌<◌, Bool, true, false, cond, eqb, ◌⊎◌, inl, inr, refl, arith, ap, sym, subst, ◌∙◌}
 use Rattle.std.proofs.lemmas.Bool.{cases_lt, eq-eqb, ne_eqb}
-use Rattle.seize_words.specs.Word.{link_word}
-use Rattle.seize.specs.World.{World}
-use Rattle.papaya_tables.specs.Chunks.{is_incremental}
-use Rattle.papaya_tables.specs.declared.node.Node.{Node}
-use Rattle.papaya_tables.specs.declared.setting.Setting.{Setting}
-use Rattle.papaya_raw.specs.declared.machines.answer.KeyAnswer.{KeyAnswer}
-use Rattle.papaya_raw.specs.declared.machines.answer.KeyAnswer.TheVariants as answers
-use Rattle.papaya_rule.specs.Chart.{Chart, put}
-use Rattle.papaya_rule.specs.Rule.{Rule}
-use Rattle.papaya_rule.specs.Lasts.{Lasts}
-use Rattle.papaya_rule.specs.Words.{Blocks, mark_bits, byte_of}
-use Rattle.papaya_rule.specs.Maps.{spot_of, IsAbsent, IsPair}
-use Rattle.papaya_rule.specs.InWorld.{Moved, SameBlocks, IsMapIn}
-use Rattle.papaya_points.specs.FactsCalls.{Change, Unchanged, Stored, Replaced, Removed, AnswersOf, Changes}
-use Rattle.papaya_rule.proofs.World.Hands.{current_known}
+use Rattle.papaya_callers.specs.Given.SeizeWords.Word.{link_word}
+use Rattle.papaya_callers.specs.Given.Seize.World.{World}
+use Rattle.papaya_callers.specs.Given.Tables.Chunks.{is_incremental}
+use Rattle.papaya_callers.specs.Given.Tables.declared.node.Node.{Node}
+use Rattle.papaya_callers.specs.Given.Tables.declared.setting.Setting.{Setting}
+use Rattle.papaya_callers.specs.Given.Raw.declared.machines.answer.KeyAnswer.{KeyAnswer}
+use Rattle.papaya_callers.specs.Given.Raw.declared.machines.answer.KeyAnswer.TheVariants as answers
+use Rattle.papaya_callers.specs.Given.Rule.Chart.{Chart, put}
+use Rattle.papaya_callers.specs.Given.Rule.Rule.{Rule}
+use Rattle.papaya_callers.specs.Given.Rule.Lasts.{Lasts}
+use Rattle.papaya_callers.specs.Given.Rule.Words.{Blocks, mark_bits, byte_of}
+use Rattle.papaya_callers.specs.Given.Rule.Maps.{spot_of, IsAbsent, IsPair}
+use Rattle.papaya_callers.specs.Given.Rule.InWorld.{Moved, SameBlocks, IsMapIn}
+use Rattle.papaya_callers.specs.Given.Points.FactsCalls.{Change, Unchanged, Stored, Replaced, Removed, AnswersOf, Changes}
+use Rattle.papaya_callers.proofs.Given.Rule.World.Hands.{current_known}
 use Rattle.papaya_alone.specs.Alone.{HasChanged, pairs_stored}
 use Rattle.papaya_callers.proofs.Rows.Known.{moved_makes}
 use Rattle.papaya_alone.proofs.Calls.LastsOn.{lasts_on}

@@ -1,7 +1,7 @@
 -- What is promised of whole calls that run alone.
 use Rattle.std.proofs.Common.{refl, ℕ, Bool}
-use Rattle.seize_alone.specs.Alone.{at_rest}
-use Rattle.papaya_tables.specs.Nodes.{deferred_word}
+use Rattle.papaya_callers.specs.Given.SeizeAlone.Alone.{at_rest}
+use Rattle.papaya_callers.specs.Given.Tables.Nodes.{deferred_word}
 use Rattle.papaya_alone.specs.WholeCalls.{CallsBeginAlone, CallsGoOnAlone, CallsEndAtRest}
 use Rattle.papaya_alone.proofs.Calls.Rests.{reached_on, ended_rests, asked_begins, storing_begins}
 use Rattle.papaya_alone.proofs.Calls.Told.{alone_may, alone_told}

@@ -2,34 +2,34 @@
 use Rattle.std.specs.Prelude.{◌-◌, Some, None}
 use Rattle.std.proofs.Common.{◌≡◌, ℕ, ◌<◌, ◌^◌, Bool, true, false, cond, List, [], inl, inr, refl, arith, ap, sym, subst, ◌∙◌, Option}
 use Rattle.std.proofs.lemmas.List.{append-nil}
-use Rattle.seize_words.specs.Mem.{Mem}
-use Rattle.seize.specs.Law.{reachable, holds, is_somewhere}
-use Rattle.seize.specs.WaitingSets.{Change as Waiting}
-use Rattle.seize.specs.World.{World, InUse, IsInside}
-use Rattle.seize_alone.specs.Alone.{History, at_rest}
-use Rattle.seize_moves.proofs.State.Logs.{reached_held}
-use Rattle.seize_alone.proofs.Histories.Uses.{inside_open}
-use Rattle.seize_alone.proofs.Histories.Reached.{Reached, history_reached}
-use Rattle.papaya_tables.specs.Nodes.{deferred_word}
-use Rattle.papaya_tables.specs.Chunks.{is_incremental}
-use Rattle.papaya_raw.specs.CallPoints.{getting, removing, inserting, trying_to_insert}
-use Rattle.papaya_tables.specs.declared.node.Node.{Node}
-use Rattle.papaya_tables.specs.declared.node.Node.TheVariants as node
-use Rattle.papaya_tables.specs.declared.setting.Setting.{Setting}
-use Rattle.papaya_raw.specs.declared.machines.answer.KeyAnswer.{KeyAnswer}
-use Rattle.papaya_raw.specs.declared.machines.call.KeyCall.{KeyCall}
-use Rattle.papaya_rule.specs.Chart.{Chart}
-use Rattle.papaya_rule.specs.Words.{Blocks}
-use Rattle.papaya_rule.specs.Maps.{spot_of, IsClass}
-use Rattle.papaya_rule.specs.InWorld.{IsReached, IsMapIn}
-use Rattle.papaya_points.specs.Steps.{AreLawful}
-use Rattle.papaya_points.specs.FactsCalls.{Change, Unchanged, CallFacts}
-use Rattle.papaya_points.specs.Told.{HasAnswered}
-use Rattle.papaya_rule.proofs.Moves.Lasting.{beside_lasts}
-use Rattle.papaya_points.proofs.Calls.StepsTold.{calls_begin}
+use Rattle.papaya_callers.specs.Given.SeizeWords.Mem.{Mem}
+use Rattle.papaya_callers.specs.Given.Seize.Law.{reachable, holds, is_somewhere}
+use Rattle.papaya_callers.specs.Given.Seize.WaitingSets.{Change as Waiting}
+use Rattle.papaya_callers.specs.Given.Seize.World.{World, InUse, IsInside}
+use Rattle.papaya_callers.specs.Given.SeizeAlone.Alone.{History, at_rest}
+use Rattle.papaya_callers.proofs.Given.SeizeMoves.State.Logs.{reached_held}
+use Rattle.papaya_callers.proofs.Given.SeizeAlone.Histories.Uses.{inside_open}
+use Rattle.papaya_callers.proofs.Given.SeizeAlone.Histories.Reached.{Reached, history_reached}
+use Rattle.papaya_callers.specs.Given.Tables.Nodes.{deferred_word}
+use Rattle.papaya_callers.specs.Given.Tables.Chunks.{is_incremental}
+use Rattle.papaya_callers.specs.Given.Raw.CallPoints.{getting, removing, inserting, trying_to_insert}
+use Rattle.papaya_callers.specs.Given.Tables.declared.node.Node.{Node}
+use Rattle.papaya_callers.specs.Given.Tables.declared.node.Node.TheVariants as node
+use Rattle.papaya_callers.specs.Given.Tables.declared.setting.Setting.{Setting}
+use Rattle.papaya_callers.specs.Given.Raw.declared.machines.answer.KeyAnswer.{KeyAnswer}
+use Rattle.papaya_callers.specs.Given.Raw.declared.machines.call.KeyCall.{KeyCall}
+use Rattle.papaya_callers.specs.Given.Rule.Chart.{Chart}
+use Rattle.papaya_callers.specs.Given.Rule.Words.{Blocks}
+use Rattle.papaya_callers.specs.Given.Rule.Maps.{spot_of, IsClass}
+use Rattle.papaya_callers.specs.Given.Rule.InWorld.{IsReached, IsMapIn}
+use Rattle.papaya_callers.specs.Given.Points.Steps.{AreLawful}
+use Rattle.papaya_callers.specs.Given.Points.FactsCalls.{Change, Unchanged, CallFacts}
+use Rattle.papaya_callers.specs.Given.Points.Told.{HasAnswered}
+use Rattle.papaya_callers.proofs.Given.Rule.Moves.Lasting.{beside_lasts}
+use Rattle.papaya_callers.proofs.Given.Points.Calls.StepsTold.{calls_begin}
 use Rattle.papaya_alone.specs.Counted.{HasAdded, counted_at}
 use Rattle.papaya_alone.specs.Handed.{retirements, call_has_unlinked, IsNextIn, DisposesOf}
-use Rattle.papaya_points.specs.Made.{IsMadeByCall}
+use Rattle.papaya_callers.specs.Given.Points.Made.{IsMadeByCall}
 use Rattle.papaya_alone.specs.Values.{IsMine, PairIs}
 use Rattle.papaya_alone.specs.Alone.{MapRests, IsBetween, HasEnded, IsUnderWay, Between}
 use Rattle.papaya_callers.specs.Kept.{IsWithin}
@@ -37,7 +37,7 @@ use Rattle.papaya_callers.proofs.Rows.Forgotten.{Forgets}
 use Rattle.papaya_callers.proofs.Rows.Defers.{used_stands, standing_stands}
 use Rattle.papaya_alone.proofs.Shards.Sums.{added_none}
 use Rattle.papaya_callers.proofs.Rows.Forgets.{known_from, known_later, known_still, forgotten_in, old_later}
-use Rattle.papaya_raw.specs.declared.machines.asking.Takes.TheVariants as takes
+use Rattle.papaya_callers.specs.Given.Raw.declared.machines.asking.Takes.TheVariants as takes
 
 module _ {K V : Type 0} (w : World (Node K V)) where
   -- the pairs that can be reached

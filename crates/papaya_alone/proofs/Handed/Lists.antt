@@ -3,20 +3,20 @@ use Rattle.std.specs.Prelude.{◌-◌, ◌*◌, ◌^◌}
 use Rattle.std.proofs.Common.{◌≡◌, ℕ, suc, ◌+◌, ◌<◌, ◌≤◌, Bool, true, cond, List, [], ◌∷◌, ◌++◌, ◌⊎◌, inl, inr, refl, arith, ap, sym, ◌∙◌}
 use Rattle.std.proofs.lemmas.Bool.{cases_lt}
 use Rattle.std.proofs.lemmas.List.{append-nil}
-use Rattle.seize.specs.WaitingSets.{Change as Waiting, Retires, Defers}
-use Rattle.seize.specs.World.{World}
-use Rattle.papaya_tables.specs.Marks.{link_in}
-use Rattle.papaya_tables.specs.declared.node.Node.{Node}
-use Rattle.papaya_tables.specs.declared.setting.Setting.{Setting}
-use Rattle.papaya_raw.specs.declared.machines.answer.KeyAnswer.{KeyAnswer}
-use Rattle.papaya_raw.specs.declared.machines.answer.KeyAnswer.TheVariants as answers
-use Rattle.papaya_raw.specs.declared.machines.call.Calling.{Calling}
-use Rattle.papaya_rule.specs.Chart.{Still, Holds, Chart}
-use Rattle.papaya_rule.specs.Words.{Blocks, byte_of, place_word}
-use Rattle.papaya_rule.specs.InWorld.{SameBlocks}
-use Rattle.papaya_points.specs.FactsCalls.{Change, Unchanged, Stored, Replaced, Removed, Tells}
-use Rattle.papaya_rule.proofs.Words.PlaceWords.{pair_link}
-use Rattle.papaya_rule.proofs.Words.PlacesShown.{byte_of-few}
+use Rattle.papaya_callers.specs.Given.Seize.WaitingSets.{Change as Waiting, Retires, Defers}
+use Rattle.papaya_callers.specs.Given.Seize.World.{World}
+use Rattle.papaya_callers.specs.Given.Tables.Marks.{link_in}
+use Rattle.papaya_callers.specs.Given.Tables.declared.node.Node.{Node}
+use Rattle.papaya_callers.specs.Given.Tables.declared.setting.Setting.{Setting}
+use Rattle.papaya_callers.specs.Given.Raw.declared.machines.answer.KeyAnswer.{KeyAnswer}
+use Rattle.papaya_callers.specs.Given.Raw.declared.machines.answer.KeyAnswer.TheVariants as answers
+use Rattle.papaya_callers.specs.Given.Raw.declared.machines.call.Calling.{Calling}
+use Rattle.papaya_callers.specs.Given.Rule.Chart.{Still, Holds, Chart}
+use Rattle.papaya_callers.specs.Given.Rule.Words.{Blocks, byte_of, place_word}
+use Rattle.papaya_callers.specs.Given.Rule.InWorld.{SameBlocks}
+use Rattle.papaya_callers.specs.Given.Points.FactsCalls.{Change, Unchanged, Stored, Replaced, Removed, Tells}
+use Rattle.papaya_callers.proofs.Given.Rule.Words.PlaceWords.{pair_link}
+use Rattle.papaya_callers.proofs.Given.Rule.Words.PlacesShown.{byte_of-few}
 use Rattle.papaya_alone.specs.Handed.{retirements, is_deferred, pair_handed, pairs_handed, all_handed, word_out, IsNext, HasHandedTables}
 use Rattle.papaya_alone.proofs.Handed.Retirements.{retirements_more, retirements_same}
 use Rattle.papaya_alone.proofs.Handed.Fresh.{TakesNone}

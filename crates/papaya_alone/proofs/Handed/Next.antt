@@ -2,58 +2,58 @@
 -- retired next, and whether a pair is to be deferred.
 use Rattle.std.specs.Prelude.{Some}
 use Rattle.std.proofs.Common.{◌≡◌, ℕ, suc, ◌<◌, Bool, false, cond, ◌⊎◌, inl, inr, refl, arith, ap, sym, subst, ◌∙◌}
-use Rattle.seize_words.specs.declared.at.At.TheVariants.{Root}
-use Rattle.seize_words.specs.Mem.{Mem, value_at, word_at, Took}
-use Rattle.seize_words.specs.Plan.{Steps}
-use Rattle.seize.specs.World.{World}
-use Rattle.seize.specs.declared.rows.settle.Settled.{Settled}
-use Rattle.seize_rule.proofs.Rows.Leaving.{steps_back}
-use Rattle.papaya_raw.specs.Answers.{ended}
-use Rattle.papaya_raw.specs.Call.{helped, copied, disposed, plan_at, call_plan}
-use Rattle.papaya_raw.specs.CallPoints.{standing}
-use Rattle.papaya_tables.specs.Chunks.{is_incremental}
-use Rattle.papaya_resize.specs.Copier.{copier_plan, plan_at as copier_plan_at}
-use Rattle.papaya_resize.specs.CopierStates as copying
-use Rattle.papaya_resize.specs.CopierPromotes.{retiring_table}
-use Rattle.papaya_resize.specs.Dispose as dispose
-use Rattle.papaya_tables.specs.declared.node.Node.{Node}
-use Rattle.papaya_resize.specs.declared.outcome.Outcome.{Outcome}
-use Rattle.papaya_resize.specs.declared.outcome.Outcome.TheVariants as outcome
-use Rattle.papaya_tables.specs.declared.setting.Setting.{Setting}
-use Rattle.papaya_tables.specs.declared.table.Table.{Table}
-use Rattle.papaya_raw.specs.declared.machines.answer.KeyAnswer.{KeyAnswer}
-use Rattle.papaya_raw.specs.declared.machines.answer.Called.{Called}
-use Rattle.papaya_raw.specs.declared.machines.answer.Called.TheVariants as called
-use Rattle.papaya_raw.specs.declared.machines.answer.End.{End}
-use Rattle.papaya_raw.specs.declared.machines.call.KeyCall.{KeyCall}
-use Rattle.papaya_raw.specs.declared.machines.call.Calling.{Calling}
-use Rattle.papaya_raw.specs.declared.machines.call.Calling.TheVariants as at
-use Rattle.papaya_resize.specs.declared.copier.Copier.{Copier}
-use Rattle.papaya_resize.specs.declared.copier.Copying.{Copying}
-use Rattle.papaya_resize.specs.declared.copier.Copying.TheVariants as copies
-use Rattle.papaya_resize.specs.declared.dispose.Dispose.{Dispose}
-use Rattle.papaya_resize.specs.declared.dispose.Disposing.{Disposing}
-use Rattle.papaya_resize.specs.declared.dispose.Disposing.TheVariants as disposes
-use Rattle.papaya_rule.specs.Chart.{Chart}
-use Rattle.papaya_rule.specs.Words.{Blocks}
-use Rattle.papaya_rule.specs.Maps.{spot_of}
-use Rattle.papaya_rule.specs.InWorld.{Moved, SameBlocks, IsMapIn}
-use Rattle.papaya_points.specs.FactsDisposes.{DisposeFacts}
-use Rattle.papaya_points.specs.FactsCopies.{CopyingFacts}
-use Rattle.papaya_points.specs.FactsCopiesBlocking.{CopyingFactsBlocking}
-use Rattle.papaya_points.specs.FactsCalls.{Change, CallingFacts, CallFacts}
-use Rattle.papaya_points.specs.Told.{IsRowOf, IsRowOfCopier, IsRowOfCall, CallFactsAfter}
-use Rattle.papaya_points.specs.Unlinked.{has_unlinked}
-use Rattle.papaya_rule.proofs.World.RootSpared.{RootStays}
-use Rattle.papaya_points.proofs.Steps.RootSteps.{is_promoting, call_is_promoting, root_stays}
+use Rattle.papaya_callers.specs.Given.SeizeWords.declared.at.At.TheVariants.{Root}
+use Rattle.papaya_callers.specs.Given.SeizeWords.Mem.{Mem, value_at, word_at, Took}
+use Rattle.papaya_callers.specs.Given.SeizeWords.Plan.{Steps}
+use Rattle.papaya_callers.specs.Given.Seize.World.{World}
+use Rattle.papaya_callers.specs.Given.Seize.declared.rows.settle.Settled.{Settled}
+use Rattle.papaya_callers.proofs.Given.SeizeRule.Rows.Leaving.{steps_back}
+use Rattle.papaya_callers.specs.Given.Raw.Answers.{ended}
+use Rattle.papaya_callers.specs.Given.Raw.Call.{helped, copied, disposed, plan_at, call_plan}
+use Rattle.papaya_callers.specs.Given.Raw.CallPoints.{standing}
+use Rattle.papaya_callers.specs.Given.Tables.Chunks.{is_incremental}
+use Rattle.papaya_callers.specs.Given.Resize.Copier.{copier_plan, plan_at as copier_plan_at}
+use Rattle.papaya_callers.specs.Given.Resize.CopierStates as copying
+use Rattle.papaya_callers.specs.Given.Resize.CopierPromotes.{retiring_table}
+use Rattle.papaya_callers.specs.Given.Resize.Dispose as dispose
+use Rattle.papaya_callers.specs.Given.Tables.declared.node.Node.{Node}
+use Rattle.papaya_callers.specs.Given.Resize.declared.outcome.Outcome.{Outcome}
+use Rattle.papaya_callers.specs.Given.Resize.declared.outcome.Outcome.TheVariants as outcome
+use Rattle.papaya_callers.specs.Given.Tables.declared.setting.Setting.{Setting}
+use Rattle.papaya_callers.specs.Given.Tables.declared.table.Table.{Table}
+use Rattle.papaya_callers.specs.Given.Raw.declared.machines.answer.KeyAnswer.{KeyAnswer}
+use Rattle.papaya_callers.specs.Given.Raw.declared.machines.answer.Called.{Called}
+use Rattle.papaya_callers.specs.Given.Raw.declared.machines.answer.Called.TheVariants as called
+use Rattle.papaya_callers.specs.Given.Raw.declared.machines.answer.End.{End}
+use Rattle.papaya_callers.specs.Given.Raw.declared.machines.call.KeyCall.{KeyCall}
+use Rattle.papaya_callers.specs.Given.Raw.declared.machines.call.Calling.{Calling}
+use Rattle.papaya_callers.specs.Given.Raw.declared.machines.call.Calling.TheVariants as at
+use Rattle.papaya_callers.specs.Given.Resize.declared.copier.Copier.{Copier}
+use Rattle.papaya_callers.specs.Given.Resize.declared.copier.Copying.{Copying}
+use Rattle.papaya_callers.specs.Given.Resize.declared.copier.Copying.TheVariants as copies
+use Rattle.papaya_callers.specs.Given.Resize.declared.dispose.Dispose.{Dispose}
+use Rattle.papaya_callers.specs.Given.Resize.declared.dispose.Disposing.{Disposing}
+use Rattle.papaya_callers.specs.Given.Resize.declared.dispose.Disposing.TheVariants as disposes
+use Rattle.papaya_callers.specs.Given.Rule.Chart.{Chart}
+use Rattle.papaya_callers.specs.Given.Rule.Words.{Blocks}
+use Rattle.papaya_callers.specs.Given.Rule.Maps.{spot_of}
+use Rattle.papaya_callers.specs.Given.Rule.InWorld.{Moved, SameBlocks, IsMapIn}
+use Rattle.papaya_callers.specs.Given.Points.FactsDisposes.{DisposeFacts}
+use Rattle.papaya_callers.specs.Given.Points.FactsCopies.{CopyingFacts}
+use Rattle.papaya_callers.specs.Given.Points.FactsCopiesBlocking.{CopyingFactsBlocking}
+use Rattle.papaya_callers.specs.Given.Points.FactsCalls.{Change, CallingFacts, CallFacts}
+use Rattle.papaya_callers.specs.Given.Points.Told.{IsRowOf, IsRowOfCopier, IsRowOfCall, CallFactsAfter}
+use Rattle.papaya_callers.specs.Given.Points.Unlinked.{has_unlinked}
+use Rattle.papaya_callers.proofs.Given.Rule.World.RootSpared.{RootStays}
+use Rattle.papaya_callers.proofs.Given.Points.Steps.RootSteps.{is_promoting, call_is_promoting, root_stays}
 use Rattle.papaya_alone.specs.Handed.{word_out, call_has_unlinked, IsNextOf, IsNext, IsDecided, DisposesOf}
 use Rattle.papaya_alone.proofs.Handed.Disposes.{GoesDecided, fresh_decided, reads_decides, walks_decides}
 use Rattle.papaya_alone.proofs.Handed.Stands.{IsAt, where_at, next_fresh}
 use Rattle.papaya_alone.proofs.Handed.Unlinks.{promotes_to, announces_to, succeeds_to, announced_next, succeeded_next, promoted_root}
 use Rattle.papaya_alone.proofs.Handed.Fresh.{TellsNone, IsSeeking, IsFreshAt, IsFresh, fresh_helped, fresh_copied, call_fresh}
 use Rattle.papaya_alone.proofs.Handed.RootTurns.{before_made, first_moves, first_kept}
-use Rattle.papaya_raw.specs.declared.machines.asking.Takes.TheVariants as takes
-use Rattle.papaya_points.proofs.Calls.Holdings.{never_asks}
+use Rattle.papaya_callers.specs.Given.Raw.declared.machines.asking.Takes.TheVariants as takes
+use Rattle.papaya_callers.proofs.Given.Points.Calls.Holdings.{never_asks}
 
 module _ {K V Q : Type 0} (same : K → K → Bool) (hash : K → ℕ) (asks : Q → K → Bool) (setting : Setting) (keys : K → Bool)
     (w w2 : World (Node K V)) (c c2 : Chart K) (blocks blocks2 : Blocks) (map : IsMapIn same hash setting w c blocks) (map2 : IsMapIn same hash setting w2 c2 blocks2)

@@ -1,8 +1,8 @@
 -- Tables that are retired one after another: one more at the end, and the same tables where their blocks are the same.
 use Rattle.std.proofs.Common.{◌≡◌, ℕ, zero, suc, ◌+◌, ◌-◌, ◌<◌, ◌≤◌, List, [], ◌∷◌, ◌++◌, refl, arith, ap, ap₂, sym, ◌∙◌}
 use Rattle.std.proofs.lemmas.List.{append_assoc}
-use Rattle.seize.specs.WaitingSets.{Change as Waiting, Retires}
-use Rattle.papaya_rule.specs.Words.{Blocks}
+use Rattle.papaya_callers.specs.Given.Seize.WaitingSets.{Change as Waiting, Retires}
+use Rattle.papaya_callers.specs.Given.Rule.Words.{Blocks}
 use Rattle.papaya_alone.specs.Handed.{retirements}
 
 pub retirements_more : (slot : ℕ) (blocks : Blocks) (t n : ℕ) → retirements slot blocks t (suc n) ≡ retirements slot blocks t n ++ Retires slot (blocks.table (t + n)) ∷ []

@@ -1,15 +1,15 @@
 -- Where a call stands, seen from the tables that it unlinks and retires.
 use Rattle.std.proofs.Common.{◌≡◌, ℕ, suc, ◌<◌, Bool, false, cond, ◌⊎◌, inl, inr, refl, sym, subst}
-use Rattle.papaya_tables.specs.declared.setting.Setting.{Setting}
-use Rattle.papaya_raw.specs.declared.machines.call.KeyCall.{KeyCall}
-use Rattle.papaya_raw.specs.declared.machines.call.Calling.{Calling}
-use Rattle.papaya_raw.specs.declared.machines.call.Calling.TheVariants as at
-use Rattle.papaya_resize.specs.declared.copier.Copying.{Copying}
-use Rattle.papaya_resize.specs.declared.copier.Copying.TheVariants as copies
-use Rattle.papaya_rule.specs.Words.{Blocks}
-use Rattle.papaya_points.specs.Told.{IsRowOfCopier}
-use Rattle.papaya_points.specs.Unlinked.{has_unlinked}
-use Rattle.papaya_points.proofs.Steps.RootSteps.{is_promoting}
+use Rattle.papaya_callers.specs.Given.Tables.declared.setting.Setting.{Setting}
+use Rattle.papaya_callers.specs.Given.Raw.declared.machines.call.KeyCall.{KeyCall}
+use Rattle.papaya_callers.specs.Given.Raw.declared.machines.call.Calling.{Calling}
+use Rattle.papaya_callers.specs.Given.Raw.declared.machines.call.Calling.TheVariants as at
+use Rattle.papaya_callers.specs.Given.Resize.declared.copier.Copying.{Copying}
+use Rattle.papaya_callers.specs.Given.Resize.declared.copier.Copying.TheVariants as copies
+use Rattle.papaya_callers.specs.Given.Rule.Words.{Blocks}
+use Rattle.papaya_callers.specs.Given.Points.Told.{IsRowOfCopier}
+use Rattle.papaya_callers.specs.Given.Points.Unlinked.{has_unlinked}
+use Rattle.papaya_callers.proofs.Given.Points.Steps.RootSteps.{is_promoting}
 use Rattle.papaya_alone.specs.Handed.{IsNextOf, IsNext}
 use Rattle.papaya_alone.proofs.Handed.Fresh.{IsFreshAt}
 

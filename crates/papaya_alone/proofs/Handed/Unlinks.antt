@@ -1,31 +1,31 @@
 -- Which table is to be retired next, over a step of a call that runs alone: the root, unless its copier has unlinked it.
 use Rattle.std.specs.Prelude.{◌*◌, ◌/◌, Some, if◌then◌else◌}
 use Rattle.std.proofs.Common.{◌≡◌, ℕ, ◌<◌, Bool, true, false, ◌⊎◌, inl, inr, refl, arith, ap, sym, subst, ◌∙◌}
-use Rattle.seize_words.specs.declared.at.At.TheVariants.{Root, Word}
-use Rattle.seize_words.specs.Mem.{Mem, value_at, word_at, Took}
-use Rattle.seize_words.specs.Plan.{Steps}
-use Rattle.seize_words.proofs.OneOwner.Operations.{loaded, exchanged}
-use Rattle.seize.specs.World.{World}
-use Rattle.seize.specs.Settle.{retiring}
-use Rattle.papaya_tables.specs.Chunks.{is_incremental}
-use Rattle.papaya_resize.specs.Copier.{plan_at}
-use Rattle.papaya_resize.specs.CopierStates.{standing}
-use Rattle.papaya_resize.specs.CopierPromotes.{promoted, successor_read, also_retired, retiring_table}
-use Rattle.papaya_tables.specs.declared.node.Node.{Node}
-use Rattle.papaya_resize.specs.declared.outcome.Outcome.{Outcome}
-use Rattle.papaya_resize.specs.declared.outcome.Outcome.TheVariants.{Goes}
-use Rattle.papaya_tables.specs.declared.setting.Setting.{Setting}
-use Rattle.papaya_tables.specs.declared.table.Table.{Table}
-use Rattle.papaya_tables.specs.declared.table_words.TheConstants.{NEXT}
-use Rattle.papaya_resize.specs.declared.copier.Copier.{Copier}
-use Rattle.papaya_resize.specs.declared.copier.Copying.TheVariants as at
-use Rattle.papaya_rule.specs.Chart.{Chart}
-use Rattle.papaya_rule.specs.Words.{Blocks}
-use Rattle.papaya_rule.specs.Maps.{IsTable}
-use Rattle.papaya_rule.specs.InWorld.{SameBlocks, IsMapIn}
-use Rattle.papaya_points.specs.Unlinked.{has_unlinked}
-use Rattle.papaya_rule.specs.Links.{IsLinkTo}
-use Rattle.papaya_rule.proofs.Words.LinksSeen.{link_made, root_leads}
+use Rattle.papaya_callers.specs.Given.SeizeWords.declared.at.At.TheVariants.{Root, Word}
+use Rattle.papaya_callers.specs.Given.SeizeWords.Mem.{Mem, value_at, word_at, Took}
+use Rattle.papaya_callers.specs.Given.SeizeWords.Plan.{Steps}
+use Rattle.papaya_callers.proofs.Given.SeizeWords.OneOwner.Operations.{loaded, exchanged}
+use Rattle.papaya_callers.specs.Given.Seize.World.{World}
+use Rattle.papaya_callers.specs.Given.Seize.Settle.{retiring}
+use Rattle.papaya_callers.specs.Given.Tables.Chunks.{is_incremental}
+use Rattle.papaya_callers.specs.Given.Resize.Copier.{plan_at}
+use Rattle.papaya_callers.specs.Given.Resize.CopierStates.{standing}
+use Rattle.papaya_callers.specs.Given.Resize.CopierPromotes.{promoted, successor_read, also_retired, retiring_table}
+use Rattle.papaya_callers.specs.Given.Tables.declared.node.Node.{Node}
+use Rattle.papaya_callers.specs.Given.Resize.declared.outcome.Outcome.{Outcome}
+use Rattle.papaya_callers.specs.Given.Resize.declared.outcome.Outcome.TheVariants.{Goes}
+use Rattle.papaya_callers.specs.Given.Tables.declared.setting.Setting.{Setting}
+use Rattle.papaya_callers.specs.Given.Tables.declared.table.Table.{Table}
+use Rattle.papaya_callers.specs.Given.Tables.declared.table_words.TheConstants.{NEXT}
+use Rattle.papaya_callers.specs.Given.Resize.declared.copier.Copier.{Copier}
+use Rattle.papaya_callers.specs.Given.Resize.declared.copier.Copying.TheVariants as at
+use Rattle.papaya_callers.specs.Given.Rule.Chart.{Chart}
+use Rattle.papaya_callers.specs.Given.Rule.Words.{Blocks}
+use Rattle.papaya_callers.specs.Given.Rule.Maps.{IsTable}
+use Rattle.papaya_callers.specs.Given.Rule.InWorld.{SameBlocks, IsMapIn}
+use Rattle.papaya_callers.specs.Given.Points.Unlinked.{has_unlinked}
+use Rattle.papaya_callers.specs.Given.Rule.Links.{IsLinkTo}
+use Rattle.papaya_callers.proofs.Given.Rule.Words.LinksSeen.{link_made, root_leads}
 use Rattle.papaya_alone.specs.Handed.{IsNextOf}
 
 -- what each of the steps comes to that unlink tables, and find those to be retired

@@ -1,77 +1,77 @@
 -- A call that is alone never waits: no pair of its key is being copied by another, and no machine within it waits.
-use Rattle.papaya_tables.specs.Counts.{count_change}
-use Rattle.papaya_raw.specs.Answers.{ended}
-use Rattle.papaya_raw.specs.Call.{call_plan, copied, disposed, dropped, first_made, have_one_key, helped, looked, looks_for, key_read, made, makes_of, next_found, next_made, pair_read, plan_at, root_found, tried, word_found, word_read}
-use Rattle.papaya_raw.specs.CallPoints.{aim_of, at_last, changed, counted, entering, tableless, told, went_on}
-use Rattle.papaya_tables.specs.Chunks.{is_incremental}
-use Rattle.papaya_resize.specs.Copier.{copier_plan}
-use Rattle.papaya_resize.specs.Dispose.{dispose_plan}
-use Rattle.papaya_tables.specs.Finding.{finding, may_name}
-use Rattle.papaya_resize.specs.Lookup.{lookup_plan, names_pair}
-use Rattle.papaya_resize.specs.NewTable.{new_table_plan}
-use Rattle.papaya_tables.specs.Nodes.{table_seen}
-use Rattle.papaya_tables.specs.TablePlaces.{at_word}
-use Rattle.papaya_tables.specs.Trials.{place_tried}
-use Rattle.papaya_raw.specs.declared.machines.answer.Called.{Called}
-use Rattle.papaya_raw.specs.declared.machines.call.KeyCall.{KeyCall}
-use Rattle.papaya_raw.specs.declared.machines.call.Calling.{Calling}
-use Rattle.papaya_resize.specs.declared.copier.Copier.{Copier}
-use Rattle.papaya_resize.specs.declared.dispose.Dispose.{Dispose}
-use Rattle.papaya_resize.specs.declared.lookup.Lookup.{Lookup}
-use Rattle.papaya_resize.specs.declared.new_table.NewTable.{NewTable}
-use Rattle.papaya_tables.specs.declared.node.Node.{Node}
-use Rattle.papaya_resize.specs.declared.outcome.Outcome.{Outcome}
-use Rattle.papaya_tables.specs.declared.setting.Setting.{Setting}
-use Rattle.papaya_tables.specs.declared.table.Table.{Table}
-use Rattle.papaya_tables.specs.declared.table_words.TheConstants.{NEXT}
-use Rattle.papaya_points.proofs.Calls.CallsOn.{Seeking}
-use Rattle.papaya_points.proofs.Lookups.LooksAsked.{class_asked, lookup_asked}
-use Rattle.papaya_rule.proofs.Words.PlacesShown.{shown_block, shown_byte}
-use Rattle.papaya_points.proofs.Calls.Tries.{found_is}
-use Rattle.papaya_points.proofs.Blocking.Points.{went_copier_blocking_alone}
-use Rattle.papaya_points.proofs.Disposals.Points.{went_dispose_lowers}
-use Rattle.papaya_points.proofs.Making.NewTable.{went_new_table_lowers}
-use Rattle.papaya_rule.proofs.Keys.TriesSeen.{spot_inside}
-use Rattle.papaya_rule.specs.Chart.{Chart, Copying, Holds, is_marked, is_settled}
-use Rattle.papaya_points.specs.FactsAloneBlocking.{LeadsAlone}
-use Rattle.papaya_points.specs.FactsCalls.{CallFacts, CallingFacts, Change, HasIts, IsCopying, Seeks, Unchanged}
-use Rattle.papaya_points.specs.FactsCopies.{ClaimsNone, HasDone}
-use Rattle.papaya_points.specs.FactsCopiesBlocking.{HasNoShares}
-use Rattle.papaya_rule.specs.InWorld.{IsMapIn}
-use Rattle.papaya_rule.specs.Maps.{IsTrial, spot_at, spot_of}
-use Rattle.papaya_points.specs.Measures.{OthersIdle}
-use Rattle.papaya_rule.specs.Rule.{Agrees, IsLawful, Rule}
-use Rattle.papaya_points.specs.Told.{DisposeTold, IsRowOfCall, LookupTold, NewTableTold}
-use Rattle.papaya_rule.specs.Words.{Blocks, byte_of, place_word}
+use Rattle.papaya_callers.specs.Given.Tables.Counts.{count_change}
+use Rattle.papaya_callers.specs.Given.Raw.Answers.{ended}
+use Rattle.papaya_callers.specs.Given.Raw.Call.{call_plan, copied, disposed, dropped, first_made, have_one_key, helped, looked, looks_for, key_read, made, makes_of, next_found, next_made, pair_read, plan_at, root_found, tried, word_found, word_read}
+use Rattle.papaya_callers.specs.Given.Raw.CallPoints.{aim_of, at_last, changed, counted, entering, tableless, told, went_on}
+use Rattle.papaya_callers.specs.Given.Tables.Chunks.{is_incremental}
+use Rattle.papaya_callers.specs.Given.Resize.Copier.{copier_plan}
+use Rattle.papaya_callers.specs.Given.Resize.Dispose.{dispose_plan}
+use Rattle.papaya_callers.specs.Given.Tables.Finding.{finding, may_name}
+use Rattle.papaya_callers.specs.Given.Resize.Lookup.{lookup_plan, names_pair}
+use Rattle.papaya_callers.specs.Given.Resize.NewTable.{new_table_plan}
+use Rattle.papaya_callers.specs.Given.Tables.Nodes.{table_seen}
+use Rattle.papaya_callers.specs.Given.Tables.TablePlaces.{at_word}
+use Rattle.papaya_callers.specs.Given.Tables.Trials.{place_tried}
+use Rattle.papaya_callers.specs.Given.Raw.declared.machines.answer.Called.{Called}
+use Rattle.papaya_callers.specs.Given.Raw.declared.machines.call.KeyCall.{KeyCall}
+use Rattle.papaya_callers.specs.Given.Raw.declared.machines.call.Calling.{Calling}
+use Rattle.papaya_callers.specs.Given.Resize.declared.copier.Copier.{Copier}
+use Rattle.papaya_callers.specs.Given.Resize.declared.dispose.Dispose.{Dispose}
+use Rattle.papaya_callers.specs.Given.Resize.declared.lookup.Lookup.{Lookup}
+use Rattle.papaya_callers.specs.Given.Resize.declared.new_table.NewTable.{NewTable}
+use Rattle.papaya_callers.specs.Given.Tables.declared.node.Node.{Node}
+use Rattle.papaya_callers.specs.Given.Resize.declared.outcome.Outcome.{Outcome}
+use Rattle.papaya_callers.specs.Given.Tables.declared.setting.Setting.{Setting}
+use Rattle.papaya_callers.specs.Given.Tables.declared.table.Table.{Table}
+use Rattle.papaya_callers.specs.Given.Tables.declared.table_words.TheConstants.{NEXT}
+use Rattle.papaya_callers.proofs.Given.Points.Calls.CallsOn.{Seeking}
+use Rattle.papaya_callers.proofs.Given.Points.Lookups.LooksAsked.{class_asked, lookup_asked}
+use Rattle.papaya_callers.proofs.Given.Rule.Words.PlacesShown.{shown_block, shown_byte}
+use Rattle.papaya_callers.proofs.Given.Points.Calls.Tries.{found_is}
+use Rattle.papaya_callers.proofs.Given.Points.Blocking.Points.{went_copier_blocking_alone}
+use Rattle.papaya_callers.proofs.Given.Points.Disposals.Points.{went_dispose_lowers}
+use Rattle.papaya_callers.proofs.Given.Points.Making.NewTable.{went_new_table_lowers}
+use Rattle.papaya_callers.proofs.Given.Rule.Keys.TriesSeen.{spot_inside}
+use Rattle.papaya_callers.specs.Given.Rule.Chart.{Chart, Copying, Holds, is_marked, is_settled}
+use Rattle.papaya_callers.specs.Given.Points.FactsAloneBlocking.{LeadsAlone}
+use Rattle.papaya_callers.specs.Given.Points.FactsCalls.{CallFacts, CallingFacts, Change, HasIts, IsCopying, Seeks, Unchanged}
+use Rattle.papaya_callers.specs.Given.Points.FactsCopies.{ClaimsNone, HasDone}
+use Rattle.papaya_callers.specs.Given.Points.FactsCopiesBlocking.{HasNoShares}
+use Rattle.papaya_callers.specs.Given.Rule.InWorld.{IsMapIn}
+use Rattle.papaya_callers.specs.Given.Rule.Maps.{IsTrial, spot_at, spot_of}
+use Rattle.papaya_callers.specs.Given.Points.Measures.{OthersIdle}
+use Rattle.papaya_callers.specs.Given.Rule.Rule.{Agrees, IsLawful, Rule}
+use Rattle.papaya_callers.specs.Given.Points.Told.{DisposeTold, IsRowOfCall, LookupTold, NewTableTold}
+use Rattle.papaya_callers.specs.Given.Rule.Words.{Blocks, byte_of, place_word}
 use Rattle.papaya_alone.proofs.Lone.Copier.{helper_goes}
 use Rattle.papaya_alone.proofs.Lone.Copies.{settled_or_own}
-use Rattle.papaya_points.proofs.Lookups.Points.{went_lookup}
+use Rattle.papaya_callers.proofs.Given.Points.Lookups.Points.{went_lookup}
 use Rattle.papaya_alone.specs.FactsAloneCalls.{StandsAlone}
-use Rattle.seize_rule.proofs.Rows.Leaving.{steps_back}
-use Rattle.seize.specs.World.{World}
-use Rattle.seize.specs.declared.progress.Progress.{Progress}
-use Rattle.seize.specs.declared.rows.settle.Settled.{Settled}
-use Rattle.seize_words.proofs.OneOwner.Operations.{loaded, exchanged, added, made as made_by_step, taken}
-use Rattle.seize_words.proofs.Plans.{ends_if}
-use Rattle.seize_words.specs.Mem.{Mem, Took, value_at}
-use Rattle.seize_words.specs.Plan.{Ends, Now, Seeing, Steps}
-use Rattle.seize_words.specs.declared.at.At.{At}
-use Rattle.seize_words.specs.declared.at.At.TheVariants.{Root, Word}
+use Rattle.papaya_callers.proofs.Given.SeizeRule.Rows.Leaving.{steps_back}
+use Rattle.papaya_callers.specs.Given.Seize.World.{World}
+use Rattle.papaya_callers.specs.Given.Seize.declared.progress.Progress.{Progress}
+use Rattle.papaya_callers.specs.Given.Seize.declared.rows.settle.Settled.{Settled}
+use Rattle.papaya_callers.proofs.Given.SeizeWords.OneOwner.Operations.{loaded, exchanged, added, made as made_by_step, taken}
+use Rattle.papaya_callers.proofs.Given.SeizeWords.Plans.{ends_if}
+use Rattle.papaya_callers.specs.Given.SeizeWords.Mem.{Mem, Took, value_at}
+use Rattle.papaya_callers.specs.Given.SeizeWords.Plan.{Ends, Now, Seeing, Steps}
+use Rattle.papaya_callers.specs.Given.SeizeWords.declared.at.At.{At}
+use Rattle.papaya_callers.specs.Given.SeizeWords.declared.at.At.TheVariants.{Root, Word}
 use Rattle.std.proofs.Common.{◌≡◌, ◌≢◌, ℕ, suc, ◌/◌, ◌<◌, ◌≤◌, ◌^◌, Bool, true, false, cond, Option, Some, None, ◌⊎◌, inl, inr, refl, ap, sym, subst, ◌∙◌, arith}
 use Rattle.std.proofs.lemmas.Bool.{cases_lt}
 use Rattle.std.specs.Int.{IsPowerOfTwo}
 use Rattle.std.specs.Prelude.{bit_and, ◌==◌, if◌then◌else◌}
-use Rattle.papaya_raw.specs.declared.machines.call.Calling.TheVariants as at
-use Rattle.papaya_raw.specs.declared.machines.answer.End.TheVariants as ends
-use Rattle.papaya_tables.specs.declared.finding.Finding.TheVariants as is
-use Rattle.seize_words.specs.declared.fault.Fault.TheVariants.{Memory}
-use Rattle.papaya_tables.specs.declared.node.Node.TheVariants as nodes
-use Rattle.papaya_resize.specs.declared.outcome.Outcome.TheVariants as outcome
-use Rattle.seize.specs.declared.progress.Progress.TheVariants as progress
-use Rattle.seize.specs.declared.rows.settle.Settled.TheVariants as settled
-use Rattle.papaya_points.specs.FactsIdle.{IsIdle}
+use Rattle.papaya_callers.specs.Given.Raw.declared.machines.call.Calling.TheVariants as at
+use Rattle.papaya_callers.specs.Given.Raw.declared.machines.answer.End.TheVariants as ends
+use Rattle.papaya_callers.specs.Given.Tables.declared.finding.Finding.TheVariants as is
+use Rattle.papaya_callers.specs.Given.SeizeWords.declared.fault.Fault.TheVariants.{Memory}
+use Rattle.papaya_callers.specs.Given.Tables.declared.node.Node.TheVariants as nodes
+use Rattle.papaya_callers.specs.Given.Resize.declared.outcome.Outcome.TheVariants as outcome
+use Rattle.papaya_callers.specs.Given.Seize.declared.progress.Progress.TheVariants as progress
+use Rattle.papaya_callers.specs.Given.Seize.declared.rows.settle.Settled.TheVariants as settled
+use Rattle.papaya_callers.specs.Given.Points.FactsIdle.{IsIdle}
 use Rattle.papaya_alone.proofs.Lone.Awaits.{IsFresh, Proceeds, On, copying_place, ended_on, tableless_on, last_on, following_on, changed_on, counted_on, told_on, looked_on, first_on, next_on, helped_on, copied_on, disposed_on, asks_on}
-use Rattle.papaya_rule.proofs.Keys.Always.{always_steps}
+use Rattle.papaya_callers.proofs.Given.Rule.Keys.Always.{always_steps}
 
 module _ {K V Q : Type 0} (same : K → K → Bool) (hash : K → ℕ) (asks : Q → K → Bool) (lawful : IsLawful same (spot_of hash)) (fits : (k : K) → hash k < 2 ^ 64)
     (setting : Setting) (initial_is : IsPowerOfTwo setting.initial) (w : World (Node K V)) (caller : ℕ) (c : Chart K) (blocks : Blocks) (keys : K → Bool)

@@ -1,43 +1,43 @@
 -- In incremental mode, a copier waits for no place that it need not, and for no status that it need not: a helper never waits, nor does one that is alone.
 use Rattle.std.specs.Int.{IsPowerOfTwo}
 use Rattle.std.proofs.Common.{◌≡◌, ◌≢◌, ℕ, suc, ◌^◌, ◌<◌, Bool, true, false, ◌⊎◌, inl, inr, ap}
-use Rattle.seize_words.specs.Mem.{Mem, value_at, Took}
-use Rattle.seize_words.specs.Plan.{Steps}
-use Rattle.seize_words.proofs.OneOwner.Operations.{exchanged}
-use Rattle.seize.specs.World.{World}
-use Rattle.seize.specs.declared.progress.Progress.{Progress}
-use Rattle.seize.specs.declared.progress.Progress.TheVariants as progress
-use Rattle.papaya_tables.specs.Chunks.{is_incremental}
-use Rattle.papaya_resize.specs.Copier.{plan_at, copier_plan}
-use Rattle.papaya_resize.specs.CopierPlaces.{put_told, copied_word, next_try, pair_put}
-use Rattle.papaya_resize.specs.CopierFurther.{grown}
-use Rattle.papaya_resize.specs.CopierCounts.{refusing}
-use Rattle.papaya_resize.specs.CopierMarks.{probing}
-use Rattle.papaya_resize.specs.CopierStates.{standing}
-use Rattle.papaya_tables.specs.declared.table_words.TheConstants.{NEXT}
-use Rattle.seize_words.specs.declared.at.At.TheVariants.{Word}
-use Rattle.papaya_tables.specs.TablePlaces.{at_place}
-use Rattle.papaya_tables.specs.declared.node.Node.{Node}
-use Rattle.papaya_resize.specs.declared.outcome.Outcome.{Outcome}
-use Rattle.papaya_resize.specs.declared.outcome.Outcome.TheVariants.{Goes, Waits}
-use Rattle.papaya_tables.specs.declared.setting.Setting.{Setting}
-use Rattle.papaya_tables.specs.declared.table.Table.{Table}
-use Rattle.papaya_resize.specs.declared.copier.Copier.{Copier}
-use Rattle.papaya_resize.specs.declared.copier.Copying.{Copying as Point}
-use Rattle.papaya_resize.specs.declared.copier.Copying.TheVariants as at
-use Rattle.papaya_resize.specs.declared.new_table.NewTable.{NewTable}
-use Rattle.papaya_rule.specs.Chart.{Chart}
-use Rattle.papaya_rule.specs.Rule.{IsLawful}
-use Rattle.papaya_rule.specs.Words.{Blocks}
-use Rattle.papaya_rule.specs.Maps.{spot_of}
-use Rattle.papaya_rule.specs.InWorld.{IsMapIn}
-use Rattle.papaya_points.specs.FactsCopies.{CopyingFacts, CopierFacts}
-use Rattle.papaya_points.specs.Told.{NewTableTold, IsRowOfCopier}
-use Rattle.papaya_points.specs.Measures.{OthersIdle}
-use Rattle.papaya_points.proofs.Copiers.Grows.{went_grown}
-use Rattle.papaya_points.proofs.Copiers.Marks.{awaited_whole}
-use Rattle.papaya_points.proofs.Copiers.Passes.{comes_passes}
-use Rattle.papaya_points.proofs.Copiers.Probes.{comes_probes}
+use Rattle.papaya_callers.specs.Given.SeizeWords.Mem.{Mem, value_at, Took}
+use Rattle.papaya_callers.specs.Given.SeizeWords.Plan.{Steps}
+use Rattle.papaya_callers.proofs.Given.SeizeWords.OneOwner.Operations.{exchanged}
+use Rattle.papaya_callers.specs.Given.Seize.World.{World}
+use Rattle.papaya_callers.specs.Given.Seize.declared.progress.Progress.{Progress}
+use Rattle.papaya_callers.specs.Given.Seize.declared.progress.Progress.TheVariants as progress
+use Rattle.papaya_callers.specs.Given.Tables.Chunks.{is_incremental}
+use Rattle.papaya_callers.specs.Given.Resize.Copier.{plan_at, copier_plan}
+use Rattle.papaya_callers.specs.Given.Resize.CopierPlaces.{put_told, copied_word, next_try, pair_put}
+use Rattle.papaya_callers.specs.Given.Resize.CopierFurther.{grown}
+use Rattle.papaya_callers.specs.Given.Resize.CopierCounts.{refusing}
+use Rattle.papaya_callers.specs.Given.Resize.CopierMarks.{probing}
+use Rattle.papaya_callers.specs.Given.Resize.CopierStates.{standing}
+use Rattle.papaya_callers.specs.Given.Tables.declared.table_words.TheConstants.{NEXT}
+use Rattle.papaya_callers.specs.Given.SeizeWords.declared.at.At.TheVariants.{Word}
+use Rattle.papaya_callers.specs.Given.Tables.TablePlaces.{at_place}
+use Rattle.papaya_callers.specs.Given.Tables.declared.node.Node.{Node}
+use Rattle.papaya_callers.specs.Given.Resize.declared.outcome.Outcome.{Outcome}
+use Rattle.papaya_callers.specs.Given.Resize.declared.outcome.Outcome.TheVariants.{Goes, Waits}
+use Rattle.papaya_callers.specs.Given.Tables.declared.setting.Setting.{Setting}
+use Rattle.papaya_callers.specs.Given.Tables.declared.table.Table.{Table}
+use Rattle.papaya_callers.specs.Given.Resize.declared.copier.Copier.{Copier}
+use Rattle.papaya_callers.specs.Given.Resize.declared.copier.Copying.{Copying as Point}
+use Rattle.papaya_callers.specs.Given.Resize.declared.copier.Copying.TheVariants as at
+use Rattle.papaya_callers.specs.Given.Resize.declared.new_table.NewTable.{NewTable}
+use Rattle.papaya_callers.specs.Given.Rule.Chart.{Chart}
+use Rattle.papaya_callers.specs.Given.Rule.Rule.{IsLawful}
+use Rattle.papaya_callers.specs.Given.Rule.Words.{Blocks}
+use Rattle.papaya_callers.specs.Given.Rule.Maps.{spot_of}
+use Rattle.papaya_callers.specs.Given.Rule.InWorld.{IsMapIn}
+use Rattle.papaya_callers.specs.Given.Points.FactsCopies.{CopyingFacts, CopierFacts}
+use Rattle.papaya_callers.specs.Given.Points.Told.{NewTableTold, IsRowOfCopier}
+use Rattle.papaya_callers.specs.Given.Points.Measures.{OthersIdle}
+use Rattle.papaya_callers.proofs.Given.Points.Copiers.Grows.{went_grown}
+use Rattle.papaya_callers.proofs.Given.Points.Copiers.Marks.{awaited_whole}
+use Rattle.papaya_callers.proofs.Given.Points.Copiers.Passes.{comes_passes}
+use Rattle.papaya_callers.proofs.Given.Points.Copiers.Probes.{comes_probes}
 use Rattle.papaya_alone.specs.FactsAlone.{AloneAt, FactsAlone}
 use Rattle.papaya_alone.proofs.Lone.Copies.{awaits_no_place, awaits_no_status}
 use Rattle.papaya_alone.proofs.Lone.CopierSteps.{LeadsOn, WaitsFor, AwaitsPlace, AwaitsStatus, leads_begins, leads_follows, leads_asks, leads_sees, leads_claims, leads_marks, leads_covers, leads_counts, leads_tallies, leads_unmarks, leads_unclaims, leads_promotes, leads_announces, leads_succeeds}

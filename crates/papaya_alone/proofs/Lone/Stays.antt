@@ -2,44 +2,44 @@
 use Rattle.std.specs.Int.{IsPowerOfTwo}
 use Rattle.std.specs.Prelude.{◌==◌, if◌then◌else◌}
 use Rattle.std.proofs.Common.{◌≡◌, ◌≢◌, ℕ, ◌^◌, ◌<◌, Bool, true, false, refl, sym, subst, ◌∙◌, arith}
-use Rattle.seize_words.specs.Mem.{Mem, Took, value_at}
-use Rattle.seize_words.specs.Plan.{Steps}
-use Rattle.seize_rule.proofs.Rows.Leaving.{steps_back}
-use Rattle.seize.specs.World.{World}
-use Rattle.papaya_raw.specs.Call.{helped, helps, copied, copies, plan_at, call_plan}
-use Rattle.papaya_raw.specs.CallPoints.{ending, over, going}
-use Rattle.papaya_tables.specs.Chunks.{is_incremental}
-use Rattle.papaya_resize.specs.Copier.{copier_plan}
-use Rattle.papaya_raw.specs.declared.machines.answer.End.{End}
-use Rattle.papaya_raw.specs.declared.machines.answer.End.TheVariants as ends
-use Rattle.papaya_raw.specs.declared.machines.answer.Called.{Called}
-use Rattle.papaya_raw.specs.declared.machines.call.KeyCall.{KeyCall}
-use Rattle.papaya_raw.specs.declared.machines.call.Calling.{Calling}
-use Rattle.papaya_raw.specs.declared.machines.call.Calling.TheVariants as at
-use Rattle.papaya_resize.specs.declared.copier.Copier.{Copier}
-use Rattle.papaya_tables.specs.declared.node.Node.{Node}
-use Rattle.papaya_resize.specs.declared.outcome.Outcome.{Outcome}
-use Rattle.papaya_resize.specs.declared.outcome.Outcome.TheVariants as outcome
-use Rattle.papaya_tables.specs.declared.setting.Setting.{Setting}
-use Rattle.papaya_tables.specs.declared.table.Table.{Table}
-use Rattle.papaya_raw.specs.declared.machines.answer.Called.TheVariants as called
-use Rattle.papaya_rule.specs.Chart.{Chart}
-use Rattle.papaya_rule.specs.Rule.{IsLawful}
-use Rattle.papaya_rule.specs.Words.{Blocks}
-use Rattle.papaya_rule.specs.Maps.{spot_of}
-use Rattle.papaya_rule.specs.InWorld.{IsMapIn, Went, SparesPairs}
-use Rattle.papaya_points.specs.FactsAloneBlocking.{AloneBlocking, LeadsAlone}
-use Rattle.papaya_points.specs.Measures.{OthersIdle}
-use Rattle.papaya_points.specs.FactsCalls.{Unchanged, Change, IsCopying, Seeks, CallingFacts, CallFacts}
-use Rattle.papaya_points.specs.Told.{CopierTold, IsRowOfCall, CallTold}
-use Rattle.papaya_points.specs.ToldMoves.{MovedAt}
-use Rattle.papaya_points.proofs.Copiers.CopiersWhole.{whole_stays}
-use Rattle.papaya_points.proofs.Copiers.CopierWent.{CopierTells}
-use Rattle.papaya_points.proofs.Calls.Copies.{helped_told, copied_told}
-use Rattle.papaya_points.proofs.Calls.Points.{went_call}
-use Rattle.papaya_points.proofs.Copiers.Points.{went_copier_moved}
-use Rattle.papaya_points.proofs.Blocking.Points.{went_copier_blocking_alone}
-use Rattle.papaya_rule.proofs.World.WentTold.{went_as}
+use Rattle.papaya_callers.specs.Given.SeizeWords.Mem.{Mem, Took, value_at}
+use Rattle.papaya_callers.specs.Given.SeizeWords.Plan.{Steps}
+use Rattle.papaya_callers.proofs.Given.SeizeRule.Rows.Leaving.{steps_back}
+use Rattle.papaya_callers.specs.Given.Seize.World.{World}
+use Rattle.papaya_callers.specs.Given.Raw.Call.{helped, helps, copied, copies, plan_at, call_plan}
+use Rattle.papaya_callers.specs.Given.Raw.CallPoints.{ending, over, going}
+use Rattle.papaya_callers.specs.Given.Tables.Chunks.{is_incremental}
+use Rattle.papaya_callers.specs.Given.Resize.Copier.{copier_plan}
+use Rattle.papaya_callers.specs.Given.Raw.declared.machines.answer.End.{End}
+use Rattle.papaya_callers.specs.Given.Raw.declared.machines.answer.End.TheVariants as ends
+use Rattle.papaya_callers.specs.Given.Raw.declared.machines.answer.Called.{Called}
+use Rattle.papaya_callers.specs.Given.Raw.declared.machines.call.KeyCall.{KeyCall}
+use Rattle.papaya_callers.specs.Given.Raw.declared.machines.call.Calling.{Calling}
+use Rattle.papaya_callers.specs.Given.Raw.declared.machines.call.Calling.TheVariants as at
+use Rattle.papaya_callers.specs.Given.Resize.declared.copier.Copier.{Copier}
+use Rattle.papaya_callers.specs.Given.Tables.declared.node.Node.{Node}
+use Rattle.papaya_callers.specs.Given.Resize.declared.outcome.Outcome.{Outcome}
+use Rattle.papaya_callers.specs.Given.Resize.declared.outcome.Outcome.TheVariants as outcome
+use Rattle.papaya_callers.specs.Given.Tables.declared.setting.Setting.{Setting}
+use Rattle.papaya_callers.specs.Given.Tables.declared.table.Table.{Table}
+use Rattle.papaya_callers.specs.Given.Raw.declared.machines.answer.Called.TheVariants as called
+use Rattle.papaya_callers.specs.Given.Rule.Chart.{Chart}
+use Rattle.papaya_callers.specs.Given.Rule.Rule.{IsLawful}
+use Rattle.papaya_callers.specs.Given.Rule.Words.{Blocks}
+use Rattle.papaya_callers.specs.Given.Rule.Maps.{spot_of}
+use Rattle.papaya_callers.specs.Given.Rule.InWorld.{IsMapIn, Went, SparesPairs}
+use Rattle.papaya_callers.specs.Given.Points.FactsAloneBlocking.{AloneBlocking, LeadsAlone}
+use Rattle.papaya_callers.specs.Given.Points.Measures.{OthersIdle}
+use Rattle.papaya_callers.specs.Given.Points.FactsCalls.{Unchanged, Change, IsCopying, Seeks, CallingFacts, CallFacts}
+use Rattle.papaya_callers.specs.Given.Points.Told.{CopierTold, IsRowOfCall, CallTold}
+use Rattle.papaya_callers.specs.Given.Points.ToldMoves.{MovedAt}
+use Rattle.papaya_callers.proofs.Given.Points.Copiers.CopiersWhole.{whole_stays}
+use Rattle.papaya_callers.proofs.Given.Points.Copiers.CopierWent.{CopierTells}
+use Rattle.papaya_callers.proofs.Given.Points.Calls.Copies.{helped_told, copied_told}
+use Rattle.papaya_callers.proofs.Given.Points.Calls.Points.{went_call}
+use Rattle.papaya_callers.proofs.Given.Points.Copiers.Points.{went_copier_moved}
+use Rattle.papaya_callers.proofs.Given.Points.Blocking.Points.{went_copier_blocking_alone}
+use Rattle.papaya_callers.proofs.Given.Rule.World.WentTold.{went_as}
 use Rattle.papaya_alone.specs.FactsAlone.{FactsAlone}
 use Rattle.papaya_alone.specs.FactsAloneCalls.{TablesAlone, StandsAlone, IsLone, RestsAlone, LeadsLone}
 use Rattle.papaya_alone.proofs.Lone.Copier.{helper_goes}

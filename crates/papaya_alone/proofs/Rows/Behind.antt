@@ -1,39 +1,39 @@
 -- A call that runs alone puts the pair that it has taken out of the map behind an older table, and ends.
 use Rattle.std.specs.Prelude.{◌-◌}
 use Rattle.std.proofs.Common.{◌≡◌, ℕ, ◌*◌, ◌<◌, ◌^◌, Bool, true, List, [], ◌∷◌, ◌++◌, inr, refl, arith, ap, sym, subst, ◌∙◌, Option}
-use Rattle.seize_words.specs.declared.at.At.TheVariants.{Word}
-use Rattle.seize_words.specs.Mem.{Mem, Can, Took, value_at}
-use Rattle.seize_words.specs.Plan.{May, Steps}
-use Rattle.seize_words.proofs.Plans.{as_may}
-use Rattle.seize.specs.declared.progress.Progress.{Progress}
-use Rattle.seize.specs.declared.progress.Progress.TheVariants as progress
-use Rattle.seize.specs.declared.rows.defer.Defer.{Defer}
-use Rattle.seize.specs.Defer.{deferring, defer_plan}
-use Rattle.seize.specs.WaitingSets.{Change as Waiting, Defers as PutsBehind}
-use Rattle.seize_alone.specs.Alone.{History, at_rest}
-use Rattle.seize_alone.proofs.Whole.Defer.{deferred}
-use Rattle.seize_rule.proofs.Rows.Leaving.{steps_back}
-use Rattle.papaya_tables.specs.Nodes.{deferred_word}
-use Rattle.papaya_raw.specs.Call.{call_plan, disposed}
-use Rattle.papaya_raw.specs.CallPoints.{standing}
-use Rattle.papaya_resize.specs.Dispose as dispose
-use Rattle.papaya_tables.specs.declared.node.Node.{Node}
-use Rattle.papaya_tables.specs.declared.setting.Setting.{Setting}
-use Rattle.papaya_tables.specs.declared.table.Table.{Table}
-use Rattle.papaya_tables.specs.declared.table_words.TheConstants.{DEFERRED}
-use Rattle.papaya_raw.specs.declared.machines.answer.KeyAnswer.{KeyAnswer}
-use Rattle.papaya_raw.specs.declared.machines.answer.Called.{Called}
-use Rattle.papaya_raw.specs.declared.machines.call.KeyCall.{KeyCall}
-use Rattle.papaya_raw.specs.declared.machines.call.Calling.TheVariants as at
-use Rattle.papaya_resize.specs.declared.dispose.Dispose.{Dispose}
-use Rattle.papaya_resize.specs.declared.dispose.Disposing.TheVariants as disposes
-use Rattle.papaya_tables.specs.Chunks.{is_incremental}
-use Rattle.papaya_rule.specs.Chart.{Chart}
-use Rattle.papaya_rule.specs.Rule.{Rule}
-use Rattle.papaya_rule.specs.Words.{Blocks}
-use Rattle.papaya_rule.specs.Maps.{spot_of}
-use Rattle.papaya_points.specs.FactsDisposes.{DisposingFacts}
-use Rattle.papaya_points.specs.FactsCalls.{Change, IsCopying, Tells, CallingFacts}
+use Rattle.papaya_callers.specs.Given.SeizeWords.declared.at.At.TheVariants.{Word}
+use Rattle.papaya_callers.specs.Given.SeizeWords.Mem.{Mem, Can, Took, value_at}
+use Rattle.papaya_callers.specs.Given.SeizeWords.Plan.{May, Steps}
+use Rattle.papaya_callers.proofs.Given.SeizeWords.Plans.{as_may}
+use Rattle.papaya_callers.specs.Given.Seize.declared.progress.Progress.{Progress}
+use Rattle.papaya_callers.specs.Given.Seize.declared.progress.Progress.TheVariants as progress
+use Rattle.papaya_callers.specs.Given.Seize.declared.rows.defer.Defer.{Defer}
+use Rattle.papaya_callers.specs.Given.Seize.Defer.{deferring, defer_plan}
+use Rattle.papaya_callers.specs.Given.Seize.WaitingSets.{Change as Waiting, Defers as PutsBehind}
+use Rattle.papaya_callers.specs.Given.SeizeAlone.Alone.{History, at_rest}
+use Rattle.papaya_callers.proofs.Given.SeizeAlone.Whole.Defer.{deferred}
+use Rattle.papaya_callers.proofs.Given.SeizeRule.Rows.Leaving.{steps_back}
+use Rattle.papaya_callers.specs.Given.Tables.Nodes.{deferred_word}
+use Rattle.papaya_callers.specs.Given.Raw.Call.{call_plan, disposed}
+use Rattle.papaya_callers.specs.Given.Raw.CallPoints.{standing}
+use Rattle.papaya_callers.specs.Given.Resize.Dispose as dispose
+use Rattle.papaya_callers.specs.Given.Tables.declared.node.Node.{Node}
+use Rattle.papaya_callers.specs.Given.Tables.declared.setting.Setting.{Setting}
+use Rattle.papaya_callers.specs.Given.Tables.declared.table.Table.{Table}
+use Rattle.papaya_callers.specs.Given.Tables.declared.table_words.TheConstants.{DEFERRED}
+use Rattle.papaya_callers.specs.Given.Raw.declared.machines.answer.KeyAnswer.{KeyAnswer}
+use Rattle.papaya_callers.specs.Given.Raw.declared.machines.answer.Called.{Called}
+use Rattle.papaya_callers.specs.Given.Raw.declared.machines.call.KeyCall.{KeyCall}
+use Rattle.papaya_callers.specs.Given.Raw.declared.machines.call.Calling.TheVariants as at
+use Rattle.papaya_callers.specs.Given.Resize.declared.dispose.Dispose.{Dispose}
+use Rattle.papaya_callers.specs.Given.Resize.declared.dispose.Disposing.TheVariants as disposes
+use Rattle.papaya_callers.specs.Given.Tables.Chunks.{is_incremental}
+use Rattle.papaya_callers.specs.Given.Rule.Chart.{Chart}
+use Rattle.papaya_callers.specs.Given.Rule.Rule.{Rule}
+use Rattle.papaya_callers.specs.Given.Rule.Words.{Blocks}
+use Rattle.papaya_callers.specs.Given.Rule.Maps.{spot_of}
+use Rattle.papaya_callers.specs.Given.Points.FactsDisposes.{DisposingFacts}
+use Rattle.papaya_callers.specs.Given.Points.FactsCalls.{Change, IsCopying, Tells, CallingFacts}
 use Rattle.papaya_alone.specs.Handed.{all_handed, word_out, IsDecided, DisposesOf}
 use Rattle.papaya_alone.specs.Alone.{IsDeferring, IsBetween, DefersPair, ComesTo}
 use Rattle.papaya_alone.specs.FactsAloneCalls.{StandsAlone, IsLone}

@@ -2,45 +2,45 @@
 use Rattle.std.specs.Prelude.{Some}
 use Rattle.std.proofs.Common.{◌≡◌, ℕ, zero, suc, ◌*◌, ◌<◌, Bool, true, false, ◌∷◌, inl, inr, refl, arith, ap, sym, subst, ◌∙◌}
 use Rattle.std.proofs.lemmas.Bool.{cases_lt}
-use Rattle.seize_words.specs.declared.at.At.TheVariants.{Word}
-use Rattle.seize_words.specs.Mem.{Mem, Can, Took, value_at, word_at}
-use Rattle.seize_words.specs.Plan.{May, Steps}
-use Rattle.seize.specs.declared.progress.Progress.{Progress}
-use Rattle.seize.specs.declared.progress.Progress.TheVariants as progress
-use Rattle.seize.specs.declared.rows.defer.Defer.{Defer}
-use Rattle.seize.specs.Law.{Deferred, holds}
-use Rattle.seize.specs.declared.rows.defer.Deferring.{Deferring}
-use Rattle.seize.specs.declared.rows.defer.Deferring.TheVariants as deferring_at
-use Rattle.seize.specs.Defer.{deferring, defer_plan, plan_at as defer_plan_at}
-use Rattle.seize.specs.World.{World, Row, Rests, Defers, Use, Handed, IsInside, Defer', Begins, Steps', with_at, defers_on, one_more, IsNotLeft, Hand, MayCut}
-use Rattle.seize_alone.specs.Alone.{History, IsHistory, TakesSteps, at_rest}
-use Rattle.seize_alone.proofs.Whole.Defer.{deferred, while_deferring, DefersStill, TellsDefer, defer_begins, defer_may, defer_told}
-use Rattle.seize_alone.proofs.Whole.Register.{steps_more}
-use Rattle.seize_alone.proofs.Spared.Users.{IsNoList}
-use Rattle.seize_alone.proofs.Histories.Calls.{with_anew}
-use Rattle.seize_moves.proofs.State.Held.{held_on}
-use Rattle.seize_rule.proofs.Rows.Others.{with_here}
-use Rattle.seize_alone.proofs.Histories.Reached.{Reached, history_reached}
-use Rattle.papaya_tables.proofs.Lists.{table_list}
-use Rattle.papaya_tables.specs.Nodes.{deferred_word}
-use Rattle.papaya_tables.specs.declared.node.Node.{Node}
-use Rattle.papaya_tables.specs.declared.node.Node.TheVariants as node
-use Rattle.papaya_tables.specs.declared.setting.Setting.{Setting}
-use Rattle.papaya_tables.specs.declared.table_words.TheConstants.{DEFERRED}
-use Rattle.papaya_resize.specs.declared.dispose.Dispose.{Dispose}
-use Rattle.papaya_resize.specs.declared.dispose.Disposing.TheVariants as disposes
-use Rattle.papaya_rule.specs.Chart.{Chart}
-use Rattle.papaya_rule.specs.Words.{Blocks}
-use Rattle.papaya_rule.specs.InWorld.{IsMapIn, IsOut}
-use Rattle.papaya_points.specs.FactsDisposes.{DisposingFacts}
-use Rattle.papaya_rule.proofs.World.Hands.{hand_kept, hands_of}
+use Rattle.papaya_callers.specs.Given.SeizeWords.declared.at.At.TheVariants.{Word}
+use Rattle.papaya_callers.specs.Given.SeizeWords.Mem.{Mem, Can, Took, value_at, word_at}
+use Rattle.papaya_callers.specs.Given.SeizeWords.Plan.{May, Steps}
+use Rattle.papaya_callers.specs.Given.Seize.declared.progress.Progress.{Progress}
+use Rattle.papaya_callers.specs.Given.Seize.declared.progress.Progress.TheVariants as progress
+use Rattle.papaya_callers.specs.Given.Seize.declared.rows.defer.Defer.{Defer}
+use Rattle.papaya_callers.specs.Given.Seize.Law.{Deferred, holds}
+use Rattle.papaya_callers.specs.Given.Seize.declared.rows.defer.Deferring.{Deferring}
+use Rattle.papaya_callers.specs.Given.Seize.declared.rows.defer.Deferring.TheVariants as deferring_at
+use Rattle.papaya_callers.specs.Given.Seize.Defer.{deferring, defer_plan, plan_at as defer_plan_at}
+use Rattle.papaya_callers.specs.Given.Seize.World.{World, Row, Rests, Defers, Use, Handed, IsInside, Defer', Begins, Steps', with_at, defers_on, one_more, IsNotLeft, Hand, MayCut}
+use Rattle.papaya_callers.specs.Given.SeizeAlone.Alone.{History, IsHistory, TakesSteps, at_rest}
+use Rattle.papaya_callers.proofs.Given.SeizeAlone.Whole.Defer.{deferred, while_deferring, DefersStill, TellsDefer, defer_begins, defer_may, defer_told}
+use Rattle.papaya_callers.proofs.Given.SeizeAlone.Whole.Register.{steps_more}
+use Rattle.papaya_callers.proofs.Given.SeizeAlone.Spared.Users.{IsNoList}
+use Rattle.papaya_callers.proofs.Given.SeizeAlone.Histories.Calls.{with_anew}
+use Rattle.papaya_callers.proofs.Given.SeizeMoves.State.Held.{held_on}
+use Rattle.papaya_callers.proofs.Given.SeizeRule.Rows.Others.{with_here}
+use Rattle.papaya_callers.proofs.Given.SeizeAlone.Histories.Reached.{Reached, history_reached}
+use Rattle.papaya_callers.proofs.Given.Tables.Lists.{table_list}
+use Rattle.papaya_callers.specs.Given.Tables.Nodes.{deferred_word}
+use Rattle.papaya_callers.specs.Given.Tables.declared.node.Node.{Node}
+use Rattle.papaya_callers.specs.Given.Tables.declared.node.Node.TheVariants as node
+use Rattle.papaya_callers.specs.Given.Tables.declared.setting.Setting.{Setting}
+use Rattle.papaya_callers.specs.Given.Tables.declared.table_words.TheConstants.{DEFERRED}
+use Rattle.papaya_callers.specs.Given.Resize.declared.dispose.Dispose.{Dispose}
+use Rattle.papaya_callers.specs.Given.Resize.declared.dispose.Disposing.TheVariants as disposes
+use Rattle.papaya_callers.specs.Given.Rule.Chart.{Chart}
+use Rattle.papaya_callers.specs.Given.Rule.Words.{Blocks}
+use Rattle.papaya_callers.specs.Given.Rule.InWorld.{IsMapIn, IsOut}
+use Rattle.papaya_callers.specs.Given.Points.FactsDisposes.{DisposingFacts}
+use Rattle.papaya_callers.proofs.Given.Rule.World.Hands.{hand_kept, hands_of}
 use Rattle.papaya_callers.specs.Kept.{IsMaking, IsWithin}
 use Rattle.papaya_alone.specs.Alone.{IsDeferring}
 use Rattle.papaya_callers.proofs.Rows.Begins.{beside_in}
 use Rattle.papaya_callers.proofs.Rows.Defers.{defer_linked_in, defer_old_in}
 use Rattle.papaya_callers.proofs.Rows.Held.{row_keeps_held}
 use Rattle.papaya_callers.proofs.Rows.Retires.{counter_no_pair}
-use Rattle.papaya_points.proofs.Values.Kept.{IsPlainStep, plain_keeps}
+use Rattle.papaya_callers.proofs.Given.Points.Values.Kept.{IsPlainStep, plain_keeps}
 use Rattle.papaya_callers.proofs.Rows.Within.{all_held, row_within, inside_more}
 
 -- a block that is out is left to nobody

@@ -1,12 +1,12 @@
 -- While the section of a slot is open, what the slot retires reclaims nothing.
 use Rattle.std.specs.Prelude.{Option}
 use Rattle.std.proofs.Common.{◌≡◌, ℕ, ◌<◌, ◌^◌, List, [], ◌++◌, ap}
-use Rattle.seize_words.specs.Mem.{Mem}
-use Rattle.seize.specs.WaitingSets.{all_changed, at_start as sets_at_start}
-use Rattle.seize.specs.World.{IsInside, Retire}
-use Rattle.seize_waiting.proofs.Quiet.{retires_quietly}
-use Rattle.seize_alone.specs.Alone.{History, IsHistory, given_back}
-use Rattle.seize_alone.proofs.Histories.Outside.{inside_active}
+use Rattle.papaya_callers.specs.Given.SeizeWords.Mem.{Mem}
+use Rattle.papaya_callers.specs.Given.Seize.WaitingSets.{all_changed, at_start as sets_at_start}
+use Rattle.papaya_callers.specs.Given.Seize.World.{IsInside, Retire}
+use Rattle.papaya_callers.proofs.Given.SeizeWaiting.Quiet.{retires_quietly}
+use Rattle.papaya_callers.specs.Given.SeizeAlone.Alone.{History, IsHistory, given_back}
+use Rattle.papaya_callers.proofs.Given.SeizeAlone.Histories.Outside.{inside_active}
 
 module _ {T : Type 0} (defers : T → Option ℕ) (batch_size roots : ℕ) (m : Mem T) (h : History) (had : IsHistory defers batch_size roots m h) (word : batch_size < 2 ^ 64) where
   pub retires_nothing : (s b : ℕ) → IsInside (h.uses s) → given_back batch_size (Retire s b) h ≡ []

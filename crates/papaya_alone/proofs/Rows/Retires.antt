@@ -3,36 +3,36 @@
 use Rattle.std.specs.Prelude.{Some, map}
 use Rattle.std.proofs.Common.{◌≡◌, ◌≢◌, ℕ, zero, suc, ◌+◌, ◌*◌, ◌<◌, ◌^◌, Bool, true, List, [], ◌∷◌, ◌++◌, refl, ap, sym, subst}
 use Rattle.std.proofs.Math.Path.{fun_ext}
-use Rattle.seize_words.specs.declared.at.At.TheVariants.{Word}
-use Rattle.seize_words.specs.Mem.{Mem, Can, Took, value_at, word_at}
-use Rattle.seize_words.specs.Plan.{May, Steps}
-use Rattle.seize.specs.declared.states.TheConstants.{LAST_SLOT}
-use Rattle.seize.specs.declared.rows.settle.Settle.{Settle}
-use Rattle.seize.specs.declared.rows.settle.Settled.{Settled}
-use Rattle.seize.specs.declared.rows.settle.Settled.TheVariants as settled
-use Rattle.seize.specs.Law.{holds}
-use Rattle.seize.specs.Settle.{retiring, settle_plan}
-use Rattle.seize.specs.WaitingSets.{Retires}
-use Rattle.seize.specs.World.{World, Row, Rests, Settles, Use, Making, Cutting, Handed, IsInside, Retire, Begins, Steps', times, settles_on, with_row, with_use, with_hand, one_more}
-use Rattle.seize.specs.Sequence.{Calls}
-use Rattle.seize_alone.specs.Alone.{History, IsHistory, IsMidway, IsEnded, AreValues, TakesSteps, at_rest}
-use Rattle.seize_alone.specs.declared.calls.WholeCall.TheVariants as call
-use Rattle.seize_alone.proofs.Whole.Begins.{retire_begins}
-use Rattle.seize_alone.proofs.Whole.Steps.{Since, since_begun, since_step, call_may, call_told}
-use Rattle.seize_alone.proofs.Whole.Midway.{Stands}
-use Rattle.seize_alone.proofs.Whole.Register.{steps_more, steps_end}
-use Rattle.seize_alone.proofs.Histories.Calls.{called_history}
-use Rattle.seize_rule.proofs.Rows.Others.{with_here}
-use Rattle.seize_alone.proofs.Histories.Reached.{Reached}
-use Rattle.seize_rule.proofs.World.Rested.{lone_rested}
-use Rattle.papaya_tables.specs.Nodes.{deferred_word}
-use Rattle.papaya_tables.specs.declared.node.Node.{Node}
-use Rattle.papaya_tables.specs.declared.setting.Setting.{Setting}
-use Rattle.papaya_rule.specs.Chart.{Chart}
-use Rattle.papaya_rule.specs.Words.{Blocks}
-use Rattle.papaya_rule.specs.InWorld.{IsMapIn, SparesPairs}
-use Rattle.papaya_rule.proofs.World.Hands.{hand_kept}
-use Rattle.papaya_rule.proofs.World.WentStill.{spares_then}
+use Rattle.papaya_callers.specs.Given.SeizeWords.declared.at.At.TheVariants.{Word}
+use Rattle.papaya_callers.specs.Given.SeizeWords.Mem.{Mem, Can, Took, value_at, word_at}
+use Rattle.papaya_callers.specs.Given.SeizeWords.Plan.{May, Steps}
+use Rattle.papaya_callers.specs.Given.Seize.declared.states.TheConstants.{LAST_SLOT}
+use Rattle.papaya_callers.specs.Given.Seize.declared.rows.settle.Settle.{Settle}
+use Rattle.papaya_callers.specs.Given.Seize.declared.rows.settle.Settled.{Settled}
+use Rattle.papaya_callers.specs.Given.Seize.declared.rows.settle.Settled.TheVariants as settled
+use Rattle.papaya_callers.specs.Given.Seize.Law.{holds}
+use Rattle.papaya_callers.specs.Given.Seize.Settle.{retiring, settle_plan}
+use Rattle.papaya_callers.specs.Given.Seize.WaitingSets.{Retires}
+use Rattle.papaya_callers.specs.Given.Seize.World.{World, Row, Rests, Settles, Use, Making, Cutting, Handed, IsInside, Retire, Begins, Steps', times, settles_on, with_row, with_use, with_hand, one_more}
+use Rattle.papaya_callers.specs.Given.Seize.Sequence.{Calls}
+use Rattle.papaya_callers.specs.Given.SeizeAlone.Alone.{History, IsHistory, IsMidway, IsEnded, AreValues, TakesSteps, at_rest}
+use Rattle.papaya_callers.specs.Given.SeizeAlone.declared.calls.WholeCall.TheVariants as call
+use Rattle.papaya_callers.proofs.Given.SeizeAlone.Whole.Begins.{retire_begins}
+use Rattle.papaya_callers.proofs.Given.SeizeAlone.Whole.Steps.{Since, since_begun, since_step, call_may, call_told}
+use Rattle.papaya_callers.proofs.Given.SeizeAlone.Whole.Midway.{Stands}
+use Rattle.papaya_callers.proofs.Given.SeizeAlone.Whole.Register.{steps_more, steps_end}
+use Rattle.papaya_callers.proofs.Given.SeizeAlone.Histories.Calls.{called_history}
+use Rattle.papaya_callers.proofs.Given.SeizeRule.Rows.Others.{with_here}
+use Rattle.papaya_callers.proofs.Given.SeizeAlone.Histories.Reached.{Reached}
+use Rattle.papaya_callers.proofs.Given.SeizeRule.World.Rested.{lone_rested}
+use Rattle.papaya_callers.specs.Given.Tables.Nodes.{deferred_word}
+use Rattle.papaya_callers.specs.Given.Tables.declared.node.Node.{Node}
+use Rattle.papaya_callers.specs.Given.Tables.declared.setting.Setting.{Setting}
+use Rattle.papaya_callers.specs.Given.Rule.Chart.{Chart}
+use Rattle.papaya_callers.specs.Given.Rule.Words.{Blocks}
+use Rattle.papaya_callers.specs.Given.Rule.InWorld.{IsMapIn, SparesPairs}
+use Rattle.papaya_callers.proofs.Given.Rule.World.Hands.{hand_kept}
+use Rattle.papaya_callers.proofs.Given.Rule.World.WentStill.{spares_then}
 use Rattle.papaya_callers.specs.Kept.{IsMaking, IsWithin}
 use Rattle.papaya_alone.specs.Alone.{IsRetiring}
 use Rattle.papaya_callers.proofs.Rows.Beside.{cutting_stays, row_spares}

@@ -1,25 +1,25 @@
 -- A settling row that runs alone never waits: no other row holds the batch of its slot.
 use Rattle.std.specs.Prelude.{◌==◌, ◌%◌, ◌^◌, ◌+◌, nat_lt, Option, Some, None, Ok, Err}
 use Rattle.std.proofs.Common.{◌≡◌, ◌≢◌, ℕ, List, inl, inr, refl, ap, subst, arith}
-use Rattle.seize_words.specs.declared.at.At.TheVariants.{Slot}
-use Rattle.seize_words.specs.Mem.{Mem, Took, value_at}
-use Rattle.seize_words.specs.Op.{Out, Found, Exchanged, Taken}
-use Rattle.seize_words.specs.Plan.{Now, Steps}
-use Rattle.seize_words.proofs.OneOwner.Operations.{loaded}
-use Rattle.seize_words.proofs.Plans.{ends_if}
-use Rattle.seize.specs.declared.states.TheConstants.{BATCH, HELD, ACTIVE, NEVER}
-use Rattle.seize_alone.specs.declared.calls.WholeCall.TheVariants as call
-use Rattle.seize.specs.declared.rows.settle.Settle.{Settle}
-use Rattle.seize.specs.declared.rows.settle.Settling.{Settling}
-use Rattle.seize.specs.declared.rows.settle.Settling.TheVariants as at
-use Rattle.seize.specs.declared.rows.settle.Settled.{Settled}
-use Rattle.seize.specs.declared.rows.settle.Settled.TheVariants as settled
-use Rattle.seize.specs.Settle as plans
-use Rattle.seize.specs.World.{Settles, Request}
-use Rattle.seize_alone.specs.Alone.{History, IsMidway}
-use Rattle.seize_alone.proofs.Whole.Ends.{call_falls}
-use Rattle.seize_ends.proofs.Batches.Free.{Outcomes, PlanOutcomes, plan_outcome, if_outcome}
-use Rattle.seize_ends.proofs.Settling.Most.{settle_to_go}
+use Rattle.papaya_callers.specs.Given.SeizeWords.declared.at.At.TheVariants.{Slot}
+use Rattle.papaya_callers.specs.Given.SeizeWords.Mem.{Mem, Took, value_at}
+use Rattle.papaya_callers.specs.Given.SeizeWords.Op.{Out, Found, Exchanged, Taken}
+use Rattle.papaya_callers.specs.Given.SeizeWords.Plan.{Now, Steps}
+use Rattle.papaya_callers.proofs.Given.SeizeWords.OneOwner.Operations.{loaded}
+use Rattle.papaya_callers.proofs.Given.SeizeWords.Plans.{ends_if}
+use Rattle.papaya_callers.specs.Given.Seize.declared.states.TheConstants.{BATCH, HELD, ACTIVE, NEVER}
+use Rattle.papaya_callers.specs.Given.SeizeAlone.declared.calls.WholeCall.TheVariants as call
+use Rattle.papaya_callers.specs.Given.Seize.declared.rows.settle.Settle.{Settle}
+use Rattle.papaya_callers.specs.Given.Seize.declared.rows.settle.Settling.{Settling}
+use Rattle.papaya_callers.specs.Given.Seize.declared.rows.settle.Settling.TheVariants as at
+use Rattle.papaya_callers.specs.Given.Seize.declared.rows.settle.Settled.{Settled}
+use Rattle.papaya_callers.specs.Given.Seize.declared.rows.settle.Settled.TheVariants as settled
+use Rattle.papaya_callers.specs.Given.Seize.Settle as plans
+use Rattle.papaya_callers.specs.Given.Seize.World.{Settles, Request}
+use Rattle.papaya_callers.specs.Given.SeizeAlone.Alone.{History, IsMidway}
+use Rattle.papaya_callers.proofs.Given.SeizeAlone.Whole.Ends.{call_falls}
+use Rattle.papaya_callers.proofs.Given.SeizeEnds.Batches.Free.{Outcomes, PlanOutcomes, plan_outcome, if_outcome}
+use Rattle.papaya_callers.proofs.Given.SeizeEnds.Settling.Most.{settle_to_go}
 
 module _ {T : Type 0} (defers : T → Option ℕ) (c : Settle) where
   -- it does not wait

@@ -2,44 +2,44 @@
 use Rattle.std.specs.Prelude.{◌==◌, if◌then◌else◌}
 use Rattle.std.proofs.Common.{◌≡◌, ◌≢◌, ℕ, suc, ◌*◌, ◌<◌, ◌≤◌, Bool, true, false, cond, List, [], ◌∷◌, ◌++◌, ◌⊎◌, inl, inr, refl, arith, ap, sym, subst, ◌∙◌, Option}
 use Rattle.std.proofs.lemmas.Bool.{cases_lt, eq-eqb, ne_eqb}
-use Rattle.seize_words.specs.Mem.{Mem, Can, Took, value_at}
-use Rattle.seize_words.specs.Plan.{May, Steps}
-use Rattle.seize_words.proofs.Plans.{as_may}
-use Rattle.seize.specs.declared.rows.settle.Settle.{Settle}
-use Rattle.seize.specs.declared.rows.settle.Settled.{Settled}
-use Rattle.seize.specs.declared.rows.settle.Settled.TheVariants as settled
-use Rattle.seize.specs.Settle.{retiring, settle_plan}
-use Rattle.seize.specs.WaitingSets.{Change as Waiting, Retires}
-use Rattle.seize.specs.World.{Cutting, Retire}
-use Rattle.seize_alone.specs.Alone.{History, at_rest}
-use Rattle.seize_rule.proofs.Rows.Leaving.{steps_back}
-use Rattle.seize_alone.proofs.Histories.Reached.{history_reached}
-use Rattle.papaya_tables.specs.Nodes.{deferred_word}
-use Rattle.papaya_raw.specs.Call.{call_plan, copied}
-use Rattle.papaya_raw.specs.CallPoints.{standing}
-use Rattle.papaya_resize.specs.Copier.{copier_plan}
-use Rattle.papaya_resize.specs.CopierStates as copying
-use Rattle.papaya_resize.specs.CopierPromotes.{table_retired, retired}
-use Rattle.papaya_tables.specs.declared.node.Node.{Node}
-use Rattle.papaya_tables.specs.declared.setting.Setting.{Setting}
-use Rattle.papaya_raw.specs.declared.machines.answer.Called.{Called}
-use Rattle.papaya_raw.specs.declared.machines.call.KeyCall.{KeyCall}
-use Rattle.papaya_raw.specs.declared.machines.call.Calling.{Calling}
-use Rattle.papaya_raw.specs.declared.machines.call.Calling.TheVariants as at
-use Rattle.papaya_resize.specs.declared.copier.Copier.{Copier}
-use Rattle.papaya_resize.specs.declared.copier.Copying.{Copying}
-use Rattle.papaya_resize.specs.declared.copier.Copying.TheVariants as copies
-use Rattle.papaya_tables.specs.Chunks.{is_incremental}
-use Rattle.papaya_rule.specs.Chart.{Chart}
-use Rattle.papaya_rule.specs.Words.{Blocks}
-use Rattle.papaya_points.specs.FactsCopiesBlocking.{HasUnlinkedFrom, CopyingFactsBlocking, CopierFactsBlocking}
-use Rattle.papaya_points.specs.FactsCalls.{Unchanged, CallingFacts, CallFacts}
-use Rattle.papaya_points.specs.Unlinked.{has_unlinked}
-use Rattle.papaya_points.specs.FactsAloneBlocking.{AloneBlocking}
-use Rattle.papaya_points.proofs.Calls.CallsWithin.{its_last}
+use Rattle.papaya_callers.specs.Given.SeizeWords.Mem.{Mem, Can, Took, value_at}
+use Rattle.papaya_callers.specs.Given.SeizeWords.Plan.{May, Steps}
+use Rattle.papaya_callers.proofs.Given.SeizeWords.Plans.{as_may}
+use Rattle.papaya_callers.specs.Given.Seize.declared.rows.settle.Settle.{Settle}
+use Rattle.papaya_callers.specs.Given.Seize.declared.rows.settle.Settled.{Settled}
+use Rattle.papaya_callers.specs.Given.Seize.declared.rows.settle.Settled.TheVariants as settled
+use Rattle.papaya_callers.specs.Given.Seize.Settle.{retiring, settle_plan}
+use Rattle.papaya_callers.specs.Given.Seize.WaitingSets.{Change as Waiting, Retires}
+use Rattle.papaya_callers.specs.Given.Seize.World.{Cutting, Retire}
+use Rattle.papaya_callers.specs.Given.SeizeAlone.Alone.{History, at_rest}
+use Rattle.papaya_callers.proofs.Given.SeizeRule.Rows.Leaving.{steps_back}
+use Rattle.papaya_callers.proofs.Given.SeizeAlone.Histories.Reached.{history_reached}
+use Rattle.papaya_callers.specs.Given.Tables.Nodes.{deferred_word}
+use Rattle.papaya_callers.specs.Given.Raw.Call.{call_plan, copied}
+use Rattle.papaya_callers.specs.Given.Raw.CallPoints.{standing}
+use Rattle.papaya_callers.specs.Given.Resize.Copier.{copier_plan}
+use Rattle.papaya_callers.specs.Given.Resize.CopierStates as copying
+use Rattle.papaya_callers.specs.Given.Resize.CopierPromotes.{table_retired, retired}
+use Rattle.papaya_callers.specs.Given.Tables.declared.node.Node.{Node}
+use Rattle.papaya_callers.specs.Given.Tables.declared.setting.Setting.{Setting}
+use Rattle.papaya_callers.specs.Given.Raw.declared.machines.answer.Called.{Called}
+use Rattle.papaya_callers.specs.Given.Raw.declared.machines.call.KeyCall.{KeyCall}
+use Rattle.papaya_callers.specs.Given.Raw.declared.machines.call.Calling.{Calling}
+use Rattle.papaya_callers.specs.Given.Raw.declared.machines.call.Calling.TheVariants as at
+use Rattle.papaya_callers.specs.Given.Resize.declared.copier.Copier.{Copier}
+use Rattle.papaya_callers.specs.Given.Resize.declared.copier.Copying.{Copying}
+use Rattle.papaya_callers.specs.Given.Resize.declared.copier.Copying.TheVariants as copies
+use Rattle.papaya_callers.specs.Given.Tables.Chunks.{is_incremental}
+use Rattle.papaya_callers.specs.Given.Rule.Chart.{Chart}
+use Rattle.papaya_callers.specs.Given.Rule.Words.{Blocks}
+use Rattle.papaya_callers.specs.Given.Points.FactsCopiesBlocking.{HasUnlinkedFrom, CopyingFactsBlocking, CopierFactsBlocking}
+use Rattle.papaya_callers.specs.Given.Points.FactsCalls.{Unchanged, CallingFacts, CallFacts}
+use Rattle.papaya_callers.specs.Given.Points.Unlinked.{has_unlinked}
+use Rattle.papaya_callers.specs.Given.Points.FactsAloneBlocking.{AloneBlocking}
+use Rattle.papaya_callers.proofs.Given.Points.Calls.CallsWithin.{its_last}
 use Rattle.papaya_alone.specs.Counted.{counted_at}
 use Rattle.papaya_alone.specs.Handed.{IsNextOf, IsNext}
-use Rattle.papaya_points.specs.Made.{IsMadeByCall, IsMadeByCopier}
+use Rattle.papaya_callers.specs.Given.Points.Made.{IsMadeByCall, IsMadeByCopier}
 use Rattle.papaya_alone.specs.Alone.{IsRetiring, IsBetween, RetiresTables, Between, ComesTo}
 use Rattle.papaya_alone.specs.FactsAloneCalls.{StandsAlone, IsLone}
 use Rattle.papaya_alone.specs.LoneCalls.{LeadsTo}
@@ -48,7 +48,7 @@ use Rattle.papaya_alone.proofs.Rows.Retires.{HasRetired, RetiresTo, retiring_beg
 use Rattle.papaya_alone.proofs.Rows.Tables.{goes_on}
 use Rattle.papaya_alone.proofs.Handed.Lists.{retired_more}
 use Rattle.papaya_alone.proofs.Rows.Settles.{settle_goes}
-use Rattle.papaya_points.proofs.Values.Sought.{IsSought}
+use Rattle.papaya_callers.proofs.Given.Points.Values.Sought.{IsSought}
 use Rattle.papaya_alone.proofs.Values.Rows.{row_between}
 
 module _ {K V Q : Type 0} (same : K → K → Bool) (hash : K → ℕ) (setting : Setting) (roots : ℕ) (asks : Q → K → Bool) (keys : K → Bool) (mem0 : Mem (Node K V)) (pair back : Option (Node K V)) (h0 : History) (c0 : Chart K) (blocks0 : Blocks)

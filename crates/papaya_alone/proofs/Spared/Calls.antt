@@ -3,43 +3,43 @@
 use Rattle.std.specs.Prelude.{◌≡◌, ℕ, suc, ◌==◌, ◌&&◌, ◌+◌, ◌/◌, ◌<◌, Bool, true, false, Some}
 use Rattle.std.proofs.Common.{refl, ap, sym, subst, arith}
 use Rattle.std.proofs.lemmas.Bool.{ne_eqb}
-use Rattle.seize_words.specs.declared.at.At.{At}
-use Rattle.seize_words.specs.declared.at.At.TheVariants.{Root, Used, Slot, Entry, Word}
-use Rattle.seize_words.specs.Mem.{same_at, value_at}
-use Rattle.seize.specs.World.{World, Making}
-use Rattle.papaya_resize.specs.Sum.{sum_plan, plan_at as sum_at}
-use Rattle.papaya_resize.specs.NewTable.{counted, new_table_plan, plan_at as making_at}
-use Rattle.papaya_resize.specs.Copier.{copier_plan, plan_at as copying_at}
-use Rattle.papaya_resize.specs.CopierFurther.{remade}
-use Rattle.papaya_resize.specs.Lookup.{lookup_plan, plan_at as looking_at}
-use Rattle.papaya_tables.specs.TablePlaces.{at_word, at_place}
-use Rattle.papaya_tables.specs.declared.node.Node.{Node}
-use Rattle.papaya_tables.specs.declared.node.Node.TheVariants as node
-use Rattle.papaya_tables.specs.declared.setting.Setting.{Setting}
-use Rattle.papaya_tables.specs.declared.table.Table.{Table}
-use Rattle.papaya_tables.specs.declared.table_words.TheConstants.{NEXT, CLAIM, COPIED, STATUS, PLACES}
-use Rattle.papaya_resize.specs.declared.sum.Sum.{Sum}
-use Rattle.papaya_resize.specs.declared.sum.Summing.{Summing}
-use Rattle.papaya_resize.specs.declared.sum.Summing.TheVariants as sums
-use Rattle.papaya_resize.specs.declared.lookup.Lookup.{Lookup}
-use Rattle.papaya_resize.specs.declared.lookup.Looking.{Looking}
-use Rattle.papaya_resize.specs.declared.lookup.Looking.TheVariants as looks
-use Rattle.papaya_resize.specs.declared.new_table.NewTable.{NewTable}
-use Rattle.papaya_resize.specs.declared.new_table.Making.{Making as Point}
-use Rattle.papaya_resize.specs.declared.new_table.Making.TheVariants as makes
-use Rattle.papaya_resize.specs.declared.copier.Copier.{Copier}
-use Rattle.papaya_resize.specs.declared.copier.Copying.{Copying}
-use Rattle.papaya_resize.specs.declared.copier.Copying.TheVariants as copies
-use Rattle.papaya_rule.specs.Chart.{Chart}
-use Rattle.papaya_rule.specs.Words.{Blocks}
-use Rattle.papaya_rule.specs.Maps.{IsTable}
-use Rattle.papaya_rule.specs.InWorld.{IsMapIn}
-use Rattle.papaya_points.specs.FactsTables.{IsOwnTable, NewTableFacts, MakingFacts}
-use Rattle.papaya_points.specs.FactsCopiesBlocking.{CopyingFactsBlocking}
-use Rattle.papaya_points.specs.Told.{IsRowOfCopier}
-use Rattle.papaya_rule.proofs.Words.TablesSeen.{word_stands, place_stands}
-use Rattle.papaya_rule.proofs.Keys.TriesSeen.{spot_inside}
-use Rattle.papaya_rule.proofs.Spared.{IsFixed, IsBeside, PlanSpares, spares_as}
+use Rattle.papaya_callers.specs.Given.SeizeWords.declared.at.At.{At}
+use Rattle.papaya_callers.specs.Given.SeizeWords.declared.at.At.TheVariants.{Root, Used, Slot, Entry, Word}
+use Rattle.papaya_callers.specs.Given.SeizeWords.Mem.{same_at, value_at}
+use Rattle.papaya_callers.specs.Given.Seize.World.{World, Making}
+use Rattle.papaya_callers.specs.Given.Resize.Sum.{sum_plan, plan_at as sum_at}
+use Rattle.papaya_callers.specs.Given.Resize.NewTable.{counted, new_table_plan, plan_at as making_at}
+use Rattle.papaya_callers.specs.Given.Resize.Copier.{copier_plan, plan_at as copying_at}
+use Rattle.papaya_callers.specs.Given.Resize.CopierFurther.{remade}
+use Rattle.papaya_callers.specs.Given.Resize.Lookup.{lookup_plan, plan_at as looking_at}
+use Rattle.papaya_callers.specs.Given.Tables.TablePlaces.{at_word, at_place}
+use Rattle.papaya_callers.specs.Given.Tables.declared.node.Node.{Node}
+use Rattle.papaya_callers.specs.Given.Tables.declared.node.Node.TheVariants as node
+use Rattle.papaya_callers.specs.Given.Tables.declared.setting.Setting.{Setting}
+use Rattle.papaya_callers.specs.Given.Tables.declared.table.Table.{Table}
+use Rattle.papaya_callers.specs.Given.Tables.declared.table_words.TheConstants.{NEXT, CLAIM, COPIED, STATUS, PLACES}
+use Rattle.papaya_callers.specs.Given.Resize.declared.sum.Sum.{Sum}
+use Rattle.papaya_callers.specs.Given.Resize.declared.sum.Summing.{Summing}
+use Rattle.papaya_callers.specs.Given.Resize.declared.sum.Summing.TheVariants as sums
+use Rattle.papaya_callers.specs.Given.Resize.declared.lookup.Lookup.{Lookup}
+use Rattle.papaya_callers.specs.Given.Resize.declared.lookup.Looking.{Looking}
+use Rattle.papaya_callers.specs.Given.Resize.declared.lookup.Looking.TheVariants as looks
+use Rattle.papaya_callers.specs.Given.Resize.declared.new_table.NewTable.{NewTable}
+use Rattle.papaya_callers.specs.Given.Resize.declared.new_table.Making.{Making as Point}
+use Rattle.papaya_callers.specs.Given.Resize.declared.new_table.Making.TheVariants as makes
+use Rattle.papaya_callers.specs.Given.Resize.declared.copier.Copier.{Copier}
+use Rattle.papaya_callers.specs.Given.Resize.declared.copier.Copying.{Copying}
+use Rattle.papaya_callers.specs.Given.Resize.declared.copier.Copying.TheVariants as copies
+use Rattle.papaya_callers.specs.Given.Rule.Chart.{Chart}
+use Rattle.papaya_callers.specs.Given.Rule.Words.{Blocks}
+use Rattle.papaya_callers.specs.Given.Rule.Maps.{IsTable}
+use Rattle.papaya_callers.specs.Given.Rule.InWorld.{IsMapIn}
+use Rattle.papaya_callers.specs.Given.Points.FactsTables.{IsOwnTable, NewTableFacts, MakingFacts}
+use Rattle.papaya_callers.specs.Given.Points.FactsCopiesBlocking.{CopyingFactsBlocking}
+use Rattle.papaya_callers.specs.Given.Points.Told.{IsRowOfCopier}
+use Rattle.papaya_callers.proofs.Given.Rule.Words.TablesSeen.{word_stands, place_stands}
+use Rattle.papaya_callers.proofs.Given.Rule.Keys.TriesSeen.{spot_inside}
+use Rattle.papaya_callers.proofs.Given.Rule.Spared.{IsFixed, IsBeside, PlanSpares, spares_as}
 
 module _ {K V : Type 0} (same : K → K → Bool) (hash : K → ℕ) (w : World (Node K V)) (caller : ℕ) (setting : Setting) (c : Chart K) (blocks : Blocks) (x : At) where
   -- it is no word of a table but the link to the next one, and none of a block of the caller's own, which is no counter

@@ -1,37 +1,37 @@
 -- A step of a call before it has changed its map leaves the shards of the counter.
 use Rattle.std.specs.Prelude.{◌≡◌, ◌≢◌, ℕ, suc, ◌<◌, ◌==◌, Bool, true, false, Option, Some, None}
 use Rattle.std.proofs.Common.{refl, sym, subst, inl, inr, arith}
-use Rattle.seize_words.specs.declared.at.At.{At}
-use Rattle.seize_words.specs.declared.at.At.TheVariants.{Root, Word}
-use Rattle.seize_words.specs.Mem.{Mem, Can, Took, same_at, value_at}
-use Rattle.seize_words.specs.Plan.{May, Steps}
-use Rattle.seize_words.specs.Word.{block_in}
-use Rattle.seize.specs.World.{World}
-use Rattle.papaya_raw.specs.Call.{call_plan, plan_at, makes_of, looks_for, looked, first_made, next_made, copied, helped}
-use Rattle.papaya_resize.specs.NewTable.{new_table_plan}
-use Rattle.papaya_resize.specs.Lookup.{lookup_plan}
-use Rattle.papaya_resize.specs.Copier.{copier_plan}
-use Rattle.papaya_tables.specs.declared.node.Node.{Node}
-use Rattle.papaya_tables.specs.declared.setting.Setting.{Setting}
-use Rattle.papaya_tables.specs.declared.table_words.TheConstants.{NEXT}
-use Rattle.papaya_raw.specs.CallFills.{putting_by, fill_by, fills_with}
-use Rattle.papaya_raw.specs.Replies.{value_for, as_own}
-use Rattle.papaya_raw.specs.declared.machines.answer.Called.{Called}
-use Rattle.papaya_raw.specs.declared.machines.asking.Asking.{Asking}
-use Rattle.papaya_raw.specs.declared.machines.asking.Asking.TheVariants as asking
-use Rattle.papaya_raw.specs.declared.machines.call.KeyCall.{KeyCall}
-use Rattle.papaya_raw.specs.declared.machines.call.Calling.{Calling}
-use Rattle.papaya_raw.specs.declared.machines.call.Calling.TheVariants as at
-use Rattle.papaya_rule.specs.Chart.{Chart}
-use Rattle.papaya_rule.specs.Words.{Blocks}
-use Rattle.papaya_rule.specs.InWorld.{IsMapIn}
-use Rattle.papaya_points.specs.FactsCalls.{Change, Holding, ByReply, HasOwn, Seeks, CallingFacts, CallFacts}
-use Rattle.papaya_points.specs.Told.{IsRowOfCall}
-use Rattle.papaya_points.proofs.Calls.Probes.{own_block}
-use Rattle.papaya_rule.proofs.Keys.TriesSeen.{spot_inside}
+use Rattle.papaya_callers.specs.Given.SeizeWords.declared.at.At.{At}
+use Rattle.papaya_callers.specs.Given.SeizeWords.declared.at.At.TheVariants.{Root, Word}
+use Rattle.papaya_callers.specs.Given.SeizeWords.Mem.{Mem, Can, Took, same_at, value_at}
+use Rattle.papaya_callers.specs.Given.SeizeWords.Plan.{May, Steps}
+use Rattle.papaya_callers.specs.Given.SeizeWords.Word.{block_in}
+use Rattle.papaya_callers.specs.Given.Seize.World.{World}
+use Rattle.papaya_callers.specs.Given.Raw.Call.{call_plan, plan_at, makes_of, looks_for, looked, first_made, next_made, copied, helped}
+use Rattle.papaya_callers.specs.Given.Resize.NewTable.{new_table_plan}
+use Rattle.papaya_callers.specs.Given.Resize.Lookup.{lookup_plan}
+use Rattle.papaya_callers.specs.Given.Resize.Copier.{copier_plan}
+use Rattle.papaya_callers.specs.Given.Tables.declared.node.Node.{Node}
+use Rattle.papaya_callers.specs.Given.Tables.declared.setting.Setting.{Setting}
+use Rattle.papaya_callers.specs.Given.Tables.declared.table_words.TheConstants.{NEXT}
+use Rattle.papaya_callers.specs.Given.Raw.CallFills.{putting_by, fill_by, fills_with}
+use Rattle.papaya_callers.specs.Given.Raw.Replies.{value_for, as_own}
+use Rattle.papaya_callers.specs.Given.Raw.declared.machines.answer.Called.{Called}
+use Rattle.papaya_callers.specs.Given.Raw.declared.machines.asking.Asking.{Asking}
+use Rattle.papaya_callers.specs.Given.Raw.declared.machines.asking.Asking.TheVariants as asking
+use Rattle.papaya_callers.specs.Given.Raw.declared.machines.call.KeyCall.{KeyCall}
+use Rattle.papaya_callers.specs.Given.Raw.declared.machines.call.Calling.{Calling}
+use Rattle.papaya_callers.specs.Given.Raw.declared.machines.call.Calling.TheVariants as at
+use Rattle.papaya_callers.specs.Given.Rule.Chart.{Chart}
+use Rattle.papaya_callers.specs.Given.Rule.Words.{Blocks}
+use Rattle.papaya_callers.specs.Given.Rule.InWorld.{IsMapIn}
+use Rattle.papaya_callers.specs.Given.Points.FactsCalls.{Change, Holding, ByReply, HasOwn, Seeks, CallingFacts, CallFacts}
+use Rattle.papaya_callers.specs.Given.Points.Told.{IsRowOfCall}
+use Rattle.papaya_callers.proofs.Given.Points.Calls.Probes.{own_block}
+use Rattle.papaya_callers.proofs.Given.Rule.Keys.TriesSeen.{spot_inside}
 use Rattle.papaya_alone.specs.Counting.{shards_sum}
 use Rattle.papaya_alone.proofs.Spared.Shards.{counter_apart, counter_no_next, shards_spared}
-use Rattle.papaya_rule.proofs.Spared.{IsBeside, PlanSpares, spares_as}
+use Rattle.papaya_callers.proofs.Given.Rule.Spared.{IsBeside, PlanSpares, spares_as}
 use Rattle.papaya_alone.proofs.Spared.Calls.{IsApart, in_place, new_table_spares, lookup_spares, copier_spares}
 use Rattle.papaya_alone.proofs.Spared.Helpers.{helper_spares}
 

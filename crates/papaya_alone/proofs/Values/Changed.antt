@@ -1,37 +1,37 @@
 -- What is known of the blocks after a step of a call that makes its own block, stores it, gives it up, or has changed the map.
 use Rattle.std.specs.Prelude.{◌≡◌, ◌≢◌, ℕ, ◌/◌, ◌<◌, ◌≤◌, ◌^◌, Bool, Option, Some, None, Ok, ◌⊎◌}
 use Rattle.std.proofs.Common.{refl, ap, sym, subst, ◌∙◌, inl, inr, arith}
-use Rattle.seize_words.specs.declared.fault.Fault.TheVariants.{Memory}
-use Rattle.seize_words.specs.Mem.{Mem, Took, value_at, with_block, IsFreeNumber, after as mem_after}
-use Rattle.seize_words.specs.Op.{Make, Made}
-use Rattle.seize_words.specs.Plan.{Steps}
-use Rattle.seize_words.proofs.OneOwner.Operations.{made as made_by_step, taken}
-use Rattle.seize.specs.World.{World}
-use Rattle.papaya_raw.specs.Answers.{ended}
-use Rattle.papaya_raw.specs.Call.{makes_of, made, makes, dropped, drops}
-use Rattle.papaya_raw.specs.CallPoints.{word_to}
-use Rattle.papaya_tables.specs.declared.node.Node.{Node}
-use Rattle.papaya_tables.specs.declared.node.Node.TheVariants as node
-use Rattle.papaya_tables.specs.declared.setting.Setting.{Setting}
-use Rattle.papaya_raw.specs.declared.machines.answer.KeyAnswer.{KeyAnswer}
-use Rattle.papaya_raw.specs.declared.machines.answer.Called.{Called}
-use Rattle.papaya_raw.specs.declared.machines.answer.Called.TheVariants as called
-use Rattle.papaya_raw.specs.declared.machines.answer.End.{End}
-use Rattle.papaya_raw.specs.declared.machines.answer.End.TheVariants as ends
-use Rattle.papaya_raw.specs.declared.machines.call.KeyCall.{KeyCall}
-use Rattle.papaya_raw.specs.declared.machines.call.Calling.{Calling}
-use Rattle.papaya_raw.specs.declared.machines.call.Calling.TheVariants as at
-use Rattle.papaya_rule.specs.Chart.{Chart}
-use Rattle.papaya_rule.specs.Words.{Blocks}
-use Rattle.papaya_rule.specs.InWorld.{SameBlocks, IsMapIn}
-use Rattle.papaya_points.specs.FactsCalls.{Change, Unchanged, IsOwnPair, CallingFacts, CallFacts}
-use Rattle.papaya_points.specs.Told.{CallFactsAfter}
-use Rattle.papaya_points.specs.Made.{IsMadeByCall}
+use Rattle.papaya_callers.specs.Given.SeizeWords.declared.fault.Fault.TheVariants.{Memory}
+use Rattle.papaya_callers.specs.Given.SeizeWords.Mem.{Mem, Took, value_at, with_block, IsFreeNumber, after as mem_after}
+use Rattle.papaya_callers.specs.Given.SeizeWords.Op.{Make, Made}
+use Rattle.papaya_callers.specs.Given.SeizeWords.Plan.{Steps}
+use Rattle.papaya_callers.proofs.Given.SeizeWords.OneOwner.Operations.{made as made_by_step, taken}
+use Rattle.papaya_callers.specs.Given.Seize.World.{World}
+use Rattle.papaya_callers.specs.Given.Raw.Answers.{ended}
+use Rattle.papaya_callers.specs.Given.Raw.Call.{makes_of, made, makes, dropped, drops}
+use Rattle.papaya_callers.specs.Given.Raw.CallPoints.{word_to}
+use Rattle.papaya_callers.specs.Given.Tables.declared.node.Node.{Node}
+use Rattle.papaya_callers.specs.Given.Tables.declared.node.Node.TheVariants as node
+use Rattle.papaya_callers.specs.Given.Tables.declared.setting.Setting.{Setting}
+use Rattle.papaya_callers.specs.Given.Raw.declared.machines.answer.KeyAnswer.{KeyAnswer}
+use Rattle.papaya_callers.specs.Given.Raw.declared.machines.answer.Called.{Called}
+use Rattle.papaya_callers.specs.Given.Raw.declared.machines.answer.Called.TheVariants as called
+use Rattle.papaya_callers.specs.Given.Raw.declared.machines.answer.End.{End}
+use Rattle.papaya_callers.specs.Given.Raw.declared.machines.answer.End.TheVariants as ends
+use Rattle.papaya_callers.specs.Given.Raw.declared.machines.call.KeyCall.{KeyCall}
+use Rattle.papaya_callers.specs.Given.Raw.declared.machines.call.Calling.{Calling}
+use Rattle.papaya_callers.specs.Given.Raw.declared.machines.call.Calling.TheVariants as at
+use Rattle.papaya_callers.specs.Given.Rule.Chart.{Chart}
+use Rattle.papaya_callers.specs.Given.Rule.Words.{Blocks}
+use Rattle.papaya_callers.specs.Given.Rule.InWorld.{SameBlocks, IsMapIn}
+use Rattle.papaya_callers.specs.Given.Points.FactsCalls.{Change, Unchanged, IsOwnPair, CallingFacts, CallFacts}
+use Rattle.papaya_callers.specs.Given.Points.Told.{CallFactsAfter}
+use Rattle.papaya_callers.specs.Given.Points.Made.{IsMadeByCall}
 use Rattle.papaya_alone.specs.Values.{IsMine, IsStored, PairEnds, PairIs, BlocksBetween, BlocksAtEnd}
-use Rattle.papaya_points.proofs.Values.Left.{Leaves, leaves_same, leaves_made, made_here, leaves_taken}
-use Rattle.papaya_points.proofs.Values.Sought.{IsLook}
+use Rattle.papaya_callers.proofs.Given.Points.Values.Left.{Leaves, leaves_same, leaves_made, made_here, leaves_taken}
+use Rattle.papaya_callers.proofs.Given.Points.Values.Sought.{IsLook}
 use Rattle.papaya_alone.proofs.Values.On.{Kept, keeps, ComesWith, between, at_end}
-use Rattle.papaya_points.proofs.Values.Seeks.{its_some, look_unchanged}
+use Rattle.papaya_callers.proofs.Given.Points.Values.Seeks.{its_some, look_unchanged}
 
 module _ {K V Q : Type 0} (same : K → K → Bool) (hash : K → ℕ) (setting : Setting) (m0 : Mem (Node K V)) (pair : Option (Node K V)) (c0 : Chart K)
     (w w2 : World (Node K V)) (c c2 : Chart K) (blocks blocks2 : Blocks) (map : IsMapIn same hash setting w c blocks) (map2 : IsMapIn same hash setting w2 c2 blocks2)

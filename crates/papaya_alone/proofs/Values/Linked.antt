@@ -2,23 +2,23 @@
 use Rattle.std.specs.Prelude.{◌≡◌, ℕ, suc, ◌*◌, ◌≤◌, Bool}
 use Rattle.std.proofs.Common.{refl, ap, sym, subst, ◌∙◌, inl, inr, arith}
 use Rattle.std.proofs.lemmas.Bool.{cases_lt}
-use Rattle.seize_words.specs.declared.at.At.{At}
-use Rattle.seize_words.specs.declared.at.At.TheVariants.{Word}
-use Rattle.seize_words.specs.Mem.{word_at}
-use Rattle.seize.specs.World.{World, Hand}
-use Rattle.papaya_tables.specs.declared.node.Node.{Node}
-use Rattle.papaya_tables.specs.declared.setting.Setting.{Setting}
-use Rattle.papaya_tables.specs.declared.table_words.TheConstants.{NEXT}
-use Rattle.papaya_rule.specs.Chart.{Chart}
-use Rattle.papaya_rule.specs.Words.{Blocks}
-use Rattle.papaya_rule.specs.Maps.{IsTable}
-use Rattle.papaya_rule.specs.InWorld.{IsOut, SameBlocks, IsMapIn}
-use Rattle.papaya_points.specs.FactsTables.{IsLinkOf}
-use Rattle.papaya_rule.specs.Links.{IsLinkTo}
-use Rattle.papaya_rule.proofs.Words.LinksSeen.{link_some, root_leads, next_leads}
-use Rattle.papaya_rule.proofs.Words.TablesSeen.{word_stands}
+use Rattle.papaya_callers.specs.Given.SeizeWords.declared.at.At.{At}
+use Rattle.papaya_callers.specs.Given.SeizeWords.declared.at.At.TheVariants.{Word}
+use Rattle.papaya_callers.specs.Given.SeizeWords.Mem.{word_at}
+use Rattle.papaya_callers.specs.Given.Seize.World.{World, Hand}
+use Rattle.papaya_callers.specs.Given.Tables.declared.node.Node.{Node}
+use Rattle.papaya_callers.specs.Given.Tables.declared.setting.Setting.{Setting}
+use Rattle.papaya_callers.specs.Given.Tables.declared.table_words.TheConstants.{NEXT}
+use Rattle.papaya_callers.specs.Given.Rule.Chart.{Chart}
+use Rattle.papaya_callers.specs.Given.Rule.Words.{Blocks}
+use Rattle.papaya_callers.specs.Given.Rule.Maps.{IsTable}
+use Rattle.papaya_callers.specs.Given.Rule.InWorld.{IsOut, SameBlocks, IsMapIn}
+use Rattle.papaya_callers.specs.Given.Points.FactsTables.{IsLinkOf}
+use Rattle.papaya_callers.specs.Given.Rule.Links.{IsLinkTo}
+use Rattle.papaya_callers.proofs.Given.Rule.Words.LinksSeen.{link_some, root_leads, next_leads}
+use Rattle.papaya_callers.proofs.Given.Rule.Words.TablesSeen.{word_stands}
 use Rattle.papaya_alone.specs.Values.{IsLinkedSince}
-use Rattle.papaya_points.proofs.Values.Making.{IsLinkedNow}
+use Rattle.papaya_callers.proofs.Given.Points.Values.Making.{IsLinkedNow}
 
 module _ {K : Type 0} (c0 c c2 : Chart K) (blocks blocks2 : Blocks) (past : c.past ≤ c2.past) (same_blocks : SameBlocks c blocks blocks2) where
   pub linked_on : (b : ℕ) → IsLinkedSince c0 c blocks b → IsLinkedSince c0 c2 blocks2 b

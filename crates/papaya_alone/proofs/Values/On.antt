@@ -1,20 +1,20 @@
 -- What is known of the blocks during a call that runs alone, from one step to the next.
 use Rattle.std.specs.Prelude.{◌≡◌, ℕ, ◌≤◌, Bool, Option, Some, None, ◌⊎◌}
 use Rattle.std.proofs.Common.{sym, subst, ◌∙◌, inl, inr, arith}
-use Rattle.seize_words.specs.Mem.{Mem}
-use Rattle.seize.specs.World.{World}
-use Rattle.papaya_tables.specs.declared.node.Node.{Node}
-use Rattle.papaya_tables.specs.declared.setting.Setting.{Setting}
-use Rattle.papaya_raw.specs.declared.machines.answer.Called.{Called}
-use Rattle.papaya_raw.specs.declared.machines.answer.Called.TheVariants as called
-use Rattle.papaya_raw.specs.declared.machines.call.KeyCall.{KeyCall}
-use Rattle.papaya_rule.specs.Chart.{Chart}
-use Rattle.papaya_rule.specs.Words.{Blocks}
-use Rattle.papaya_rule.specs.InWorld.{SameBlocks, IsMapIn}
-use Rattle.papaya_points.specs.FactsCalls.{Change, Unchanged, Stored, Replaced, Removed}
+use Rattle.papaya_callers.specs.Given.SeizeWords.Mem.{Mem}
+use Rattle.papaya_callers.specs.Given.Seize.World.{World}
+use Rattle.papaya_callers.specs.Given.Tables.declared.node.Node.{Node}
+use Rattle.papaya_callers.specs.Given.Tables.declared.setting.Setting.{Setting}
+use Rattle.papaya_callers.specs.Given.Raw.declared.machines.answer.Called.{Called}
+use Rattle.papaya_callers.specs.Given.Raw.declared.machines.answer.Called.TheVariants as called
+use Rattle.papaya_callers.specs.Given.Raw.declared.machines.call.KeyCall.{KeyCall}
+use Rattle.papaya_callers.specs.Given.Rule.Chart.{Chart}
+use Rattle.papaya_callers.specs.Given.Rule.Words.{Blocks}
+use Rattle.papaya_callers.specs.Given.Rule.InWorld.{SameBlocks, IsMapIn}
+use Rattle.papaya_callers.specs.Given.Points.FactsCalls.{Change, Unchanged, Stored, Replaced, Removed}
 use Rattle.papaya_alone.specs.Values.{IsComing, IsMine, IsLinkedSince, IsBlockOfPair, IsStored, IsThere, PairEnds, PairIs, BlocksBetween, BlocksAtEnd}
 use Rattle.papaya_alone.proofs.Values.Come.{comes_on}
-use Rattle.papaya_points.proofs.Values.Left.{Leaves}
+use Rattle.papaya_callers.proofs.Given.Points.Values.Left.{Leaves}
 use Rattle.papaya_alone.proofs.Values.Linked.{linked_on}
 
 module _ {K V : Type 0} (same : K → K → Bool) (hash : K → ℕ) (setting : Setting) (m0 : Mem (Node K V)) (pair : Option (Node K V)) (c0 : Chart K)

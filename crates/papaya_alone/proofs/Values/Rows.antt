@@ -1,20 +1,20 @@
 -- What is known of the blocks after a row of the collector, within a call that runs alone: all as before.
 use Rattle.std.specs.Prelude.{◌≡◌, ◌≢◌, ℕ, ◌/◌, Option, ◌⊎◌}
 use Rattle.std.proofs.Common.{sym, subst, ◌∙◌, inl, inr}
-use Rattle.seize_words.specs.Mem.{Mem}
-use Rattle.papaya_tables.specs.declared.node.Node.{Node}
-use Rattle.papaya_raw.specs.declared.machines.answer.KeyAnswer.{KeyAnswer}
-use Rattle.papaya_raw.specs.declared.machines.call.KeyCall.{KeyCall}
-use Rattle.papaya_raw.specs.declared.machines.call.Calling.{Calling}
-use Rattle.papaya_raw.specs.declared.machines.call.Calling.TheVariants as at
-use Rattle.papaya_resize.specs.declared.dispose.Dispose.{Dispose}
-use Rattle.papaya_rule.specs.Chart.{Chart}
-use Rattle.papaya_rule.specs.Words.{Blocks}
-use Rattle.papaya_points.specs.FactsCalls.{Change, Unchanged, Stored, Replaced, Removed}
-use Rattle.papaya_points.specs.Made.{IsMadeByCall}
+use Rattle.papaya_callers.specs.Given.SeizeWords.Mem.{Mem}
+use Rattle.papaya_callers.specs.Given.Tables.declared.node.Node.{Node}
+use Rattle.papaya_callers.specs.Given.Raw.declared.machines.answer.KeyAnswer.{KeyAnswer}
+use Rattle.papaya_callers.specs.Given.Raw.declared.machines.call.KeyCall.{KeyCall}
+use Rattle.papaya_callers.specs.Given.Raw.declared.machines.call.Calling.{Calling}
+use Rattle.papaya_callers.specs.Given.Raw.declared.machines.call.Calling.TheVariants as at
+use Rattle.papaya_callers.specs.Given.Resize.declared.dispose.Dispose.{Dispose}
+use Rattle.papaya_callers.specs.Given.Rule.Chart.{Chart}
+use Rattle.papaya_callers.specs.Given.Rule.Words.{Blocks}
+use Rattle.papaya_callers.specs.Given.Points.FactsCalls.{Change, Unchanged, Stored, Replaced, Removed}
+use Rattle.papaya_callers.specs.Given.Points.Made.{IsMadeByCall}
 use Rattle.papaya_alone.specs.Values.{IsMine, IsThere, PairEnds, PairIs, BlocksBetween, BlocksAtEnd}
-use Rattle.papaya_points.proofs.Values.Kept.{SameValues}
-use Rattle.papaya_points.proofs.Values.Sought.{IsSought}
+use Rattle.papaya_callers.proofs.Given.Points.Values.Kept.{SameValues}
+use Rattle.papaya_callers.proofs.Given.Points.Values.Sought.{IsSought}
 use Rattle.papaya_alone.proofs.Values.Seeks.{OwnIs, own_of, own_to}
 
 module _ {K V Q : Type 0} (m0 : Mem (Node K V)) (pair : Option (Node K V)) (c0 c : Chart K) (blocks : Blocks) (change : Change) (back : Option (Node K V)) (m m2 : Mem (Node K V))

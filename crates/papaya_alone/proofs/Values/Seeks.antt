@@ -1,34 +1,34 @@
 -- What is known of the blocks after a step of a call that has changed nothing, and does not change anything now.
 use Rattle.std.specs.Prelude.{◌≡◌, ◌≢◌, ℕ, ◌/◌, ◌<◌, ◌≤◌, ◌^◌, Bool, Option, Some, None, ◌⊎◌}
 use Rattle.std.proofs.Common.{ap, sym, subst, ◌∙◌, inl, inr}
-use Rattle.seize_words.specs.Mem.{Mem, value_at}
-use Rattle.seize.specs.World.{World}
-use Rattle.papaya_tables.specs.declared.node.Node.{Node}
-use Rattle.papaya_tables.specs.declared.node.Node.TheVariants as node
-use Rattle.papaya_tables.specs.declared.setting.Setting.{Setting}
-use Rattle.papaya_raw.specs.declared.machines.answer.Called.{Called}
-use Rattle.papaya_raw.specs.declared.machines.answer.Called.TheVariants as called
-use Rattle.papaya_raw.specs.declared.machines.call.KeyCall.{KeyCall}
-use Rattle.papaya_raw.specs.declared.machines.call.Calling.{Calling}
-use Rattle.papaya_raw.specs.declared.machines.call.Calling.TheVariants as at
-use Rattle.papaya_rule.specs.Chart.{Chart}
-use Rattle.papaya_rule.specs.Words.{Blocks}
-use Rattle.papaya_rule.specs.InWorld.{SameBlocks, IsMapIn}
-use Rattle.papaya_points.specs.FactsCalls.{Change, Unchanged, CallFacts}
-use Rattle.papaya_points.specs.Told.{CallFactsAfter}
-use Rattle.papaya_points.proofs.Calls.Probes.{own_value}
-use Rattle.papaya_points.specs.Made.{IsMadeByCall}
+use Rattle.papaya_callers.specs.Given.SeizeWords.Mem.{Mem, value_at}
+use Rattle.papaya_callers.specs.Given.Seize.World.{World}
+use Rattle.papaya_callers.specs.Given.Tables.declared.node.Node.{Node}
+use Rattle.papaya_callers.specs.Given.Tables.declared.node.Node.TheVariants as node
+use Rattle.papaya_callers.specs.Given.Tables.declared.setting.Setting.{Setting}
+use Rattle.papaya_callers.specs.Given.Raw.declared.machines.answer.Called.{Called}
+use Rattle.papaya_callers.specs.Given.Raw.declared.machines.answer.Called.TheVariants as called
+use Rattle.papaya_callers.specs.Given.Raw.declared.machines.call.KeyCall.{KeyCall}
+use Rattle.papaya_callers.specs.Given.Raw.declared.machines.call.Calling.{Calling}
+use Rattle.papaya_callers.specs.Given.Raw.declared.machines.call.Calling.TheVariants as at
+use Rattle.papaya_callers.specs.Given.Rule.Chart.{Chart}
+use Rattle.papaya_callers.specs.Given.Rule.Words.{Blocks}
+use Rattle.papaya_callers.specs.Given.Rule.InWorld.{SameBlocks, IsMapIn}
+use Rattle.papaya_callers.specs.Given.Points.FactsCalls.{Change, Unchanged, CallFacts}
+use Rattle.papaya_callers.specs.Given.Points.Told.{CallFactsAfter}
+use Rattle.papaya_callers.proofs.Given.Points.Calls.Probes.{own_value}
+use Rattle.papaya_callers.specs.Given.Points.Made.{IsMadeByCall}
 use Rattle.papaya_alone.specs.Values.{IsMine, PairEnds, PairIs, BlocksBetween, BlocksAtEnd}
-use Rattle.papaya_points.proofs.Values.Left.{Leaves}
-use Rattle.papaya_points.proofs.Values.Making.{IsLinkedNow}
-use Rattle.papaya_points.proofs.Values.Sought.{IsSought, GoesSeeking, IsAhead, own_kept, told_kept}
-use Rattle.papaya_points.proofs.Values.Steps.{MadeByCallAfter}
+use Rattle.papaya_callers.proofs.Given.Points.Values.Left.{Leaves}
+use Rattle.papaya_callers.proofs.Given.Points.Values.Making.{IsLinkedNow}
+use Rattle.papaya_callers.proofs.Given.Points.Values.Sought.{IsSought, GoesSeeking, IsAhead, own_kept, told_kept}
+use Rattle.papaya_callers.proofs.Given.Points.Values.Steps.{MadeByCallAfter}
 use Rattle.papaya_alone.proofs.Values.Linked.{now_linked}
 use Rattle.papaya_alone.proofs.Values.On.{keeps, ComesWith, between, at_end}
-use Rattle.papaya_points.proofs.Values.Seeks.{HasNoneOr, look_unchanged, sought_own, sought_unchanged}
-use Rattle.papaya_raw.specs.declared.machines.asking.Takes.TheVariants as takes
-use Rattle.papaya_raw.specs.declared.machines.asking.Replies.{Replies}
-use Rattle.papaya_points.proofs.Values.Never.{never_fills}
+use Rattle.papaya_callers.proofs.Given.Points.Values.Seeks.{HasNoneOr, look_unchanged, sought_own, sought_unchanged}
+use Rattle.papaya_callers.specs.Given.Raw.declared.machines.asking.Takes.TheVariants as takes
+use Rattle.papaya_callers.specs.Given.Raw.declared.machines.asking.Replies.{Replies}
+use Rattle.papaya_callers.proofs.Given.Points.Values.Never.{never_fills}
 
 -- the pair of a call stands in its own block, if it has one, with any
 abbrev pub OwnIs : {N : Type 0} → Mem N → Option N → Option N → ℕ → Type 0

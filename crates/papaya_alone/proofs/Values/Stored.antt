@@ -1,33 +1,33 @@
 -- What is known of the blocks after the step that changes the map.
 use Rattle.std.specs.Prelude.{◌≡◌, ◌≢◌, ℕ, ◌/◌, ◌==◌, ◌<◌, ◌≤◌, ◌^◌, Bool, true, false, Option, None, ◌⊎◌, if◌then◌else◌}
 use Rattle.std.proofs.Common.{refl, ap, sym, subst, ◌∙◌, inl, inr, arith, eqb-true}
-use Rattle.seize_words.specs.Mem.{Mem, value_at}
-use Rattle.seize.specs.World.{World}
-use Rattle.papaya_raw.specs.CallPoints.{going, changed}
-use Rattle.papaya_resize.specs.Dispose.{disposing}
-use Rattle.papaya_tables.specs.declared.marks.TheConstants.{TOMBSTONE}
-use Rattle.papaya_tables.specs.declared.node.Node.{Node}
-use Rattle.papaya_tables.specs.declared.setting.Setting.{Setting}
-use Rattle.papaya_raw.specs.declared.machines.answer.KeyAnswer.TheVariants as answers
-use Rattle.papaya_raw.specs.declared.machines.answer.Called.{Called}
-use Rattle.papaya_raw.specs.declared.machines.answer.Called.TheVariants as called
-use Rattle.papaya_raw.specs.declared.machines.call.KeyCall.{KeyCall}
-use Rattle.papaya_raw.specs.declared.machines.call.Calling.{Calling}
-use Rattle.papaya_raw.specs.declared.machines.call.Calling.TheVariants as at
-use Rattle.papaya_resize.specs.declared.dispose.Dispose.{Dispose}
-use Rattle.papaya_rule.specs.Chart.{Still, Holds, Chart}
-use Rattle.papaya_rule.specs.Words.{Blocks, byte_of, place_word}
-use Rattle.papaya_rule.specs.InWorld.{SameBlocks, IsMapIn}
-use Rattle.papaya_points.specs.FactsCalls.{Change, Unchanged, Stored, Replaced, Removed, MayTry, IsOwnPair, Tells, CallingFacts, CallFacts}
-use Rattle.papaya_rule.proofs.Words.PlaceWords.{pair_block}
-use Rattle.papaya_rule.proofs.Words.PlacesShown.{byte_of-few}
-use Rattle.papaya_points.proofs.Calls.Probes.{own_block}
-use Rattle.papaya_points.specs.Made.{IsMadeByCall}
+use Rattle.papaya_callers.specs.Given.SeizeWords.Mem.{Mem, value_at}
+use Rattle.papaya_callers.specs.Given.Seize.World.{World}
+use Rattle.papaya_callers.specs.Given.Raw.CallPoints.{going, changed}
+use Rattle.papaya_callers.specs.Given.Resize.Dispose.{disposing}
+use Rattle.papaya_callers.specs.Given.Tables.declared.marks.TheConstants.{TOMBSTONE}
+use Rattle.papaya_callers.specs.Given.Tables.declared.node.Node.{Node}
+use Rattle.papaya_callers.specs.Given.Tables.declared.setting.Setting.{Setting}
+use Rattle.papaya_callers.specs.Given.Raw.declared.machines.answer.KeyAnswer.TheVariants as answers
+use Rattle.papaya_callers.specs.Given.Raw.declared.machines.answer.Called.{Called}
+use Rattle.papaya_callers.specs.Given.Raw.declared.machines.answer.Called.TheVariants as called
+use Rattle.papaya_callers.specs.Given.Raw.declared.machines.call.KeyCall.{KeyCall}
+use Rattle.papaya_callers.specs.Given.Raw.declared.machines.call.Calling.{Calling}
+use Rattle.papaya_callers.specs.Given.Raw.declared.machines.call.Calling.TheVariants as at
+use Rattle.papaya_callers.specs.Given.Resize.declared.dispose.Dispose.{Dispose}
+use Rattle.papaya_callers.specs.Given.Rule.Chart.{Still, Holds, Chart}
+use Rattle.papaya_callers.specs.Given.Rule.Words.{Blocks, byte_of, place_word}
+use Rattle.papaya_callers.specs.Given.Rule.InWorld.{SameBlocks, IsMapIn}
+use Rattle.papaya_callers.specs.Given.Points.FactsCalls.{Change, Unchanged, Stored, Replaced, Removed, MayTry, IsOwnPair, Tells, CallingFacts, CallFacts}
+use Rattle.papaya_callers.proofs.Given.Rule.Words.PlaceWords.{pair_block}
+use Rattle.papaya_callers.proofs.Given.Rule.Words.PlacesShown.{byte_of-few}
+use Rattle.papaya_callers.proofs.Given.Points.Calls.Probes.{own_block}
+use Rattle.papaya_callers.specs.Given.Points.Made.{IsMadeByCall}
 use Rattle.papaya_alone.specs.Values.{IsMine, IsBlockOfPair, IsStored, IsItsPair, PairEnds, BlocksBetween}
-use Rattle.papaya_points.proofs.Values.Kept.{SameValues}
-use Rattle.papaya_points.proofs.Values.Left.{Leaves, leaves_same}
-use Rattle.papaya_points.proofs.Values.Sought.{IsSought}
-use Rattle.papaya_points.proofs.Values.Seeks.{sought_unchanged, HasNoneOr, sought_own}
+use Rattle.papaya_callers.proofs.Given.Points.Values.Kept.{SameValues}
+use Rattle.papaya_callers.proofs.Given.Points.Values.Left.{Leaves, leaves_same}
+use Rattle.papaya_callers.proofs.Given.Points.Values.Sought.{IsSought}
+use Rattle.papaya_callers.proofs.Given.Points.Values.Seeks.{sought_unchanged, HasNoneOr, sought_own}
 use Rattle.papaya_alone.proofs.Values.Seeks.{OwnIs}
 use Rattle.papaya_alone.proofs.Values.Changed.{Comes, KeptTo, keeps_to, is_at, knows_at, mine_at}
 use Rattle.papaya_alone.proofs.Values.Past.{IsPast, past_to as past_comes}

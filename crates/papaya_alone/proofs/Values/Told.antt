@@ -1,51 +1,51 @@
 -- What is known of the blocks after each step of a call that runs alone, where it begins no row of the collector.
 use Rattle.std.specs.Prelude.{◌≡◌, ◌≢◌, ℕ, suc, ◌==◌, ◌<◌, ◌≤◌, ◌^◌, Bool, true, false, bit_and, Option, ◌⊎◌, if◌then◌else◌}
 use Rattle.std.proofs.Common.{refl, sym, subst, ◌∙◌, inl, inr}
-use Rattle.seize_words.specs.declared.at.At.TheVariants.{Root, Word}
-use Rattle.seize_words.specs.Mem.{Mem, Can, Took, value_at}
-use Rattle.seize_words.specs.Plan.{Now, May, Steps}
-use Rattle.seize_words.proofs.OneOwner.Operations.{added}
-use Rattle.seize.specs.World.{World}
-use Rattle.seize.specs.declared.rows.settle.Settled.{Settled}
-use Rattle.seize.specs.declared.rows.settle.Settled.TheVariants as settled
-use Rattle.seize_rule.proofs.Rows.Leaving.{steps_back}
-use Rattle.papaya_tables.specs.Counts.{count_change}
-use Rattle.papaya_raw.specs.Call.{plan_at, call_plan, counts, disposed, disposes}
-use Rattle.papaya_raw.specs.CallPoints.{going, over, counted}
-use Rattle.papaya_resize.specs.Dispose.{disposing, dispose_plan, plan_at as dispose_plan_at}
-use Rattle.papaya_tables.specs.declared.node.Node.{Node}
-use Rattle.papaya_tables.specs.declared.setting.Setting.{Setting}
-use Rattle.papaya_tables.specs.declared.table_words.TheConstants.{NEXT}
-use Rattle.papaya_raw.specs.declared.machines.answer.KeyAnswer.{KeyAnswer}
-use Rattle.papaya_raw.specs.declared.machines.answer.KeyAnswer.TheVariants as answers
-use Rattle.papaya_raw.specs.declared.machines.answer.Called.{Called}
-use Rattle.papaya_raw.specs.declared.machines.answer.End.TheVariants as ends
-use Rattle.papaya_raw.specs.declared.machines.call.KeyCall.{KeyCall}
-use Rattle.papaya_raw.specs.declared.machines.call.Calling.{Calling}
-use Rattle.papaya_raw.specs.declared.machines.call.Calling.TheVariants as at
-use Rattle.papaya_resize.specs.declared.dispose.Dispose.{Dispose}
-use Rattle.papaya_resize.specs.declared.dispose.Disposing.{Disposing}
-use Rattle.papaya_resize.specs.declared.dispose.Disposing.TheVariants as disposing_at
-use Rattle.papaya_rule.specs.Chart.{Chart}
-use Rattle.papaya_rule.specs.Words.{Blocks}
-use Rattle.papaya_rule.specs.InWorld.{SameBlocks, IsMapIn}
-use Rattle.papaya_points.specs.FactsCalls.{Change, Unchanged, Seeks, Tells, CallingFacts, CallFacts}
-use Rattle.papaya_points.specs.Told.{IsRowOf, IsRowOfCall, HasAnswered, CallFactsAfter}
-use Rattle.papaya_points.specs.Made.{IsMadeByCall}
+use Rattle.papaya_callers.specs.Given.SeizeWords.declared.at.At.TheVariants.{Root, Word}
+use Rattle.papaya_callers.specs.Given.SeizeWords.Mem.{Mem, Can, Took, value_at}
+use Rattle.papaya_callers.specs.Given.SeizeWords.Plan.{Now, May, Steps}
+use Rattle.papaya_callers.proofs.Given.SeizeWords.OneOwner.Operations.{added}
+use Rattle.papaya_callers.specs.Given.Seize.World.{World}
+use Rattle.papaya_callers.specs.Given.Seize.declared.rows.settle.Settled.{Settled}
+use Rattle.papaya_callers.specs.Given.Seize.declared.rows.settle.Settled.TheVariants as settled
+use Rattle.papaya_callers.proofs.Given.SeizeRule.Rows.Leaving.{steps_back}
+use Rattle.papaya_callers.specs.Given.Tables.Counts.{count_change}
+use Rattle.papaya_callers.specs.Given.Raw.Call.{plan_at, call_plan, counts, disposed, disposes}
+use Rattle.papaya_callers.specs.Given.Raw.CallPoints.{going, over, counted}
+use Rattle.papaya_callers.specs.Given.Resize.Dispose.{disposing, dispose_plan, plan_at as dispose_plan_at}
+use Rattle.papaya_callers.specs.Given.Tables.declared.node.Node.{Node}
+use Rattle.papaya_callers.specs.Given.Tables.declared.setting.Setting.{Setting}
+use Rattle.papaya_callers.specs.Given.Tables.declared.table_words.TheConstants.{NEXT}
+use Rattle.papaya_callers.specs.Given.Raw.declared.machines.answer.KeyAnswer.{KeyAnswer}
+use Rattle.papaya_callers.specs.Given.Raw.declared.machines.answer.KeyAnswer.TheVariants as answers
+use Rattle.papaya_callers.specs.Given.Raw.declared.machines.answer.Called.{Called}
+use Rattle.papaya_callers.specs.Given.Raw.declared.machines.answer.End.TheVariants as ends
+use Rattle.papaya_callers.specs.Given.Raw.declared.machines.call.KeyCall.{KeyCall}
+use Rattle.papaya_callers.specs.Given.Raw.declared.machines.call.Calling.{Calling}
+use Rattle.papaya_callers.specs.Given.Raw.declared.machines.call.Calling.TheVariants as at
+use Rattle.papaya_callers.specs.Given.Resize.declared.dispose.Dispose.{Dispose}
+use Rattle.papaya_callers.specs.Given.Resize.declared.dispose.Disposing.{Disposing}
+use Rattle.papaya_callers.specs.Given.Resize.declared.dispose.Disposing.TheVariants as disposing_at
+use Rattle.papaya_callers.specs.Given.Rule.Chart.{Chart}
+use Rattle.papaya_callers.specs.Given.Rule.Words.{Blocks}
+use Rattle.papaya_callers.specs.Given.Rule.InWorld.{SameBlocks, IsMapIn}
+use Rattle.papaya_callers.specs.Given.Points.FactsCalls.{Change, Unchanged, Seeks, Tells, CallingFacts, CallFacts}
+use Rattle.papaya_callers.specs.Given.Points.Told.{IsRowOf, IsRowOfCall, HasAnswered, CallFactsAfter}
+use Rattle.papaya_callers.specs.Given.Points.Made.{IsMadeByCall}
 use Rattle.papaya_alone.specs.Values.{PairEnds, PairIs, BlocksBetween}
-use Rattle.papaya_points.proofs.Values.Copiers.{makes_table_blocking}
-use Rattle.papaya_points.proofs.Values.Kept.{SameValues, IsPlainStep, plain_as, plain_keeps}
-use Rattle.papaya_points.proofs.Values.Left.{Leaves}
-use Rattle.papaya_points.proofs.Values.Making.{IsLinkedNow}
-use Rattle.papaya_points.proofs.Values.Sought.{IsSought, IsLook}
-use Rattle.papaya_points.proofs.Values.Steps.{MadeByCallAfter, SoughtOn, looks_on, roots_on, probes_on, tries_on, nexts_on, firsts_on, allocs_on, helps_on, copies_on}
+use Rattle.papaya_callers.proofs.Given.Points.Values.Copiers.{makes_table_blocking}
+use Rattle.papaya_callers.proofs.Given.Points.Values.Kept.{SameValues, IsPlainStep, plain_as, plain_keeps}
+use Rattle.papaya_callers.proofs.Given.Points.Values.Left.{Leaves}
+use Rattle.papaya_callers.proofs.Given.Points.Values.Making.{IsLinkedNow}
+use Rattle.papaya_callers.proofs.Given.Points.Values.Sought.{IsSought, IsLook}
+use Rattle.papaya_callers.proofs.Given.Points.Values.Steps.{MadeByCallAfter, SoughtOn, looks_on, roots_on, probes_on, tries_on, nexts_on, firsts_on, allocs_on, helps_on, copies_on}
 use Rattle.papaya_alone.proofs.Values.On.{ComesWith}
 use Rattle.papaya_alone.proofs.Values.Seeks.{sought_comes}
 use Rattle.papaya_alone.proofs.Values.Changed.{makes_comes, drops_comes, over_comes}
 use Rattle.papaya_alone.proofs.Values.Past.{IsPast, settles_on}
 use Rattle.papaya_alone.proofs.Values.Stored.{changed_comes}
-use Rattle.papaya_raw.specs.declared.machines.asking.Takes.TheVariants as takes
-use Rattle.papaya_points.proofs.Calls.Holdings.{never_asks}
+use Rattle.papaya_callers.specs.Given.Raw.declared.machines.asking.Takes.TheVariants as takes
+use Rattle.papaya_callers.proofs.Given.Points.Calls.Holdings.{never_asks}
 
 module _ {K V Q : Type 0} (same : K → K → Bool) (hash : K → ℕ) (setting : Setting) (m0 : Mem (Node K V)) (pair : Option (Node K V)) (c0 : Chart K)
     (w w2 : World (Node K V)) (c c2 : Chart K) (blocks blocks2 : Blocks) (map : IsMapIn same hash setting w c blocks) (map2 : IsMapIn same hash setting w2 c2 blocks2)

@@ -19,19 +19,19 @@ use Rattle.papaya_raw.specs.declared.machines.asking.Takes.{Takes}
 use Rattle.papaya_raw.specs.declared.machines.asking.Takes.TheVariants as takes
 use Rattle.papaya_raw.specs.declared.machines.call.KeyCall.{KeyCall}
 use Rattle.papaya_raw.specs.declared.machines.call.Calling.TheVariants as at
-use Rattle.papaya_rule.specs.Chart.{Chart}
-use Rattle.papaya_rule.specs.Words.{Blocks}
-use Rattle.papaya_alone.specs.Counted.{HasAdded}
-use Rattle.papaya_late.specs.Faults.{IsRoom}
-use Rattle.papaya_late.specs.Kinds.{FaultFits, FitsAt}
-use Rattle.papaya_late.proofs.KindsKept.Laws.{replies_keep_the_kind}
-use Rattle.papaya_callers.specs.Asked.{last_told}
-use Rattle.papaya_callers.specs.Kind.{Kind}
-use Rattle.papaya_callers.specs.Pairs.{Given, IsTold, and_told}
-use Rattle.papaya_callers.specs.Sights.{seen_by}
-use Rattle.papaya_callers.specs.Together.{CallOnKey, AsksAbout, RepliesTaken, OnKey as OnKeyOf}
-use Rattle.papaya_whole.specs.Owner.{IsAlone}
-use Rattle.papaya_whole.proofs.Keys.Replies.{replies_lead_on, replies_count_nothing}
+use Rattle.papaya_owned.specs.Given.Rule.Chart.{Chart}
+use Rattle.papaya_owned.specs.Given.Rule.Words.{Blocks}
+use Rattle.papaya_owned.specs.Given.Alone.Counted.{HasAdded}
+use Rattle.papaya_owned.specs.Given.Late.Faults.{IsRoom}
+use Rattle.papaya_owned.specs.Given.Late.Kinds.{FaultFits, FitsAt}
+use Rattle.papaya_owned.proofs.Given.Late.KindsKept.Laws.{replies_keep_the_kind}
+use Rattle.papaya_owned.specs.Given.Callers.Asked.{last_told}
+use Rattle.papaya_owned.specs.Given.Callers.Kind.{Kind}
+use Rattle.papaya_owned.specs.Given.Callers.Pairs.{Given, IsTold, and_told}
+use Rattle.papaya_owned.specs.Given.Callers.Sights.{seen_by}
+use Rattle.papaya_owned.specs.Given.Callers.Together.{CallOnKey, AsksAbout, RepliesTaken, OnKey as OnKeyOf}
+use Rattle.papaya_owned.specs.Given.Whole.Owner.{IsAlone}
+use Rattle.papaya_owned.proofs.Given.Whole.Keys.Replies.{replies_lead_on, replies_count_nothing}
 use Rattle.papaya_asks.specs.Asking.{IsTaken, AnswersAs, RefusedAs, Pauses, AsksOf, StartsAs, ToldThis, HasKeyBack, HasPairBack}
 use Rattle.papaya_owned.specs.Ending.{Ends, RunsTo}
 use Rattle.papaya_owned.specs.Machines.{on_key_plan}

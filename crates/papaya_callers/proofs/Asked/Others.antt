@@ -1,16 +1,16 @@
 -- What a call that asks keeps of what it was told it keeps over the steps of others.
 use Rattle.std.specs.Prelude.{◌≡◌, ℕ, ◌/◌, ◌<◌, Bool, List, Option}
 use Rattle.std.proofs.Common.{refl, sym, subst, ◌∙◌, inl, inr, arith}
-use Rattle.seize_words.specs.Mem.{value_at}
-use Rattle.seize.specs.World.{World}
-use Rattle.papaya_tables.specs.declared.node.Node.{Node}
-use Rattle.papaya_tables.specs.declared.setting.Setting.{Setting}
-use Rattle.papaya_raw.specs.declared.machines.call.KeyCall.{KeyCall}
-use Rattle.papaya_rule.specs.Chart.{Chart}
-use Rattle.papaya_rule.specs.Words.{Blocks}
-use Rattle.papaya_rule.specs.InWorld.{IsHeldBy}
-use Rattle.papaya_points.specs.FactsCalls.{Change, CallFacts}
-use Rattle.papaya_points.specs.Others.{OthersStep}
+use Rattle.papaya_late.specs.Given.SeizeWords.Mem.{value_at}
+use Rattle.papaya_late.specs.Given.Seize.World.{World}
+use Rattle.papaya_late.specs.Given.Tables.declared.node.Node.{Node}
+use Rattle.papaya_late.specs.Given.Tables.declared.setting.Setting.{Setting}
+use Rattle.papaya_late.specs.Given.Raw.declared.machines.call.KeyCall.{KeyCall}
+use Rattle.papaya_late.specs.Given.Rule.Chart.{Chart}
+use Rattle.papaya_late.specs.Given.Rule.Words.{Blocks}
+use Rattle.papaya_late.specs.Given.Rule.InWorld.{IsHeldBy}
+use Rattle.papaya_late.specs.Given.Points.FactsCalls.{Change, CallFacts}
+use Rattle.papaya_late.specs.Given.Points.Others.{OthersStep}
 use Rattle.papaya_late.specs.LateCalls.{LateCallFacts}
 use Rattle.papaya_callers.specs.Asked.{Asked, KeepsTold}
 use Rattle.papaya_callers.proofs.Asked.Stays.{Stays, keeps_told_on}

@@ -1,20 +1,20 @@
 -- A call's own block, where it has yet to change the map: it is there, and nobody else has it.
 use Rattle.std.specs.Prelude.{◌≡◌, ◌≢◌, ℕ, ◌/◌, ◌<◌, ◌^◌, Bool, Some, ◌⊎◌}
 use Rattle.std.proofs.Common.{ap, ◌∙◌, inl, inr, arith}
-use Rattle.seize_words.specs.Mem.{value_at}
-use Rattle.seize.specs.World.{World, Making}
-use Rattle.papaya_tables.specs.declared.node.Node.{Node}
-use Rattle.papaya_tables.specs.declared.node.Node.TheVariants as node
-use Rattle.papaya_tables.specs.declared.setting.Setting.{Setting}
-use Rattle.papaya_raw.specs.declared.machines.asking.Asking.TheVariants as asking
-use Rattle.papaya_raw.specs.declared.machines.call.KeyCall.{KeyCall}
-use Rattle.papaya_raw.specs.declared.machines.call.Calling.{Calling}
-use Rattle.papaya_raw.specs.declared.machines.call.Calling.TheVariants as at
-use Rattle.papaya_rule.specs.Chart.{Chart}
-use Rattle.papaya_rule.specs.Words.{Blocks}
-use Rattle.papaya_points.specs.FactsCalls.{Change, Unchanged, IsOwnPair, IsVacant, HasIts, IsToFill, CallingFacts}
-use Rattle.papaya_points.proofs.Calls.Probes.{own_block}
-use Rattle.papaya_points.proofs.Values.Seeks.{HasNoneOr, its_or}
+use Rattle.papaya_late.specs.Given.SeizeWords.Mem.{value_at}
+use Rattle.papaya_late.specs.Given.Seize.World.{World, Making}
+use Rattle.papaya_late.specs.Given.Tables.declared.node.Node.{Node}
+use Rattle.papaya_late.specs.Given.Tables.declared.node.Node.TheVariants as node
+use Rattle.papaya_late.specs.Given.Tables.declared.setting.Setting.{Setting}
+use Rattle.papaya_late.specs.Given.Raw.declared.machines.asking.Asking.TheVariants as asking
+use Rattle.papaya_late.specs.Given.Raw.declared.machines.call.KeyCall.{KeyCall}
+use Rattle.papaya_late.specs.Given.Raw.declared.machines.call.Calling.{Calling}
+use Rattle.papaya_late.specs.Given.Raw.declared.machines.call.Calling.TheVariants as at
+use Rattle.papaya_late.specs.Given.Rule.Chart.{Chart}
+use Rattle.papaya_late.specs.Given.Rule.Words.{Blocks}
+use Rattle.papaya_late.specs.Given.Points.FactsCalls.{Change, Unchanged, IsOwnPair, IsVacant, HasIts, IsToFill, CallingFacts}
+use Rattle.papaya_late.proofs.Given.Points.Calls.Probes.{own_block}
+use Rattle.papaya_late.proofs.Given.Points.Values.Seeks.{HasNoneOr, its_or}
 use Rattle.papaya_late.specs.LateCalls.{LateCalling}
 use Rattle.papaya_callers.proofs.Asked.Stays.{HasYet}
 

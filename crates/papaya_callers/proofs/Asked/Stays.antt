@@ -1,24 +1,24 @@
 -- What a call was told, and has done by that, is so in a later state, where what was there is there still.
 use Rattle.std.specs.Prelude.{◌≡◌, ℕ, ◌/◌, ◌<◌, ◌≤◌, Bool, true, List, Option, Some, None}
 use Rattle.std.proofs.Common.{ap, sym, ◌∙◌, inl, inr, arith}
-use Rattle.seize_words.specs.Mem.{Mem, value_at}
-use Rattle.papaya_tables.specs.declared.node.Node.{Node}
-use Rattle.papaya_raw.specs.declared.machines.answer.Called.{Called}
-use Rattle.papaya_raw.specs.declared.machines.answer.Called.TheVariants as called
-use Rattle.papaya_raw.specs.declared.machines.answer.End.{End}
-use Rattle.papaya_raw.specs.declared.machines.answer.End.TheVariants as ends
-use Rattle.papaya_raw.specs.declared.machines.answer.KeyAnswer.TheVariants as answers
-use Rattle.papaya_raw.specs.declared.machines.answer.Missing.{Missing}
-use Rattle.papaya_raw.specs.declared.machines.answer.There.{There}
-use Rattle.papaya_raw.specs.declared.machines.asking.Asking.TheVariants as asking
-use Rattle.papaya_raw.specs.declared.machines.asking.Replies.{Replies}
-use Rattle.papaya_raw.specs.declared.machines.asking.Takes.{Takes}
-use Rattle.papaya_raw.specs.declared.machines.call.KeyCall.{KeyCall}
-use Rattle.papaya_raw.specs.declared.machines.call.Calling.{Calling}
-use Rattle.papaya_raw.specs.declared.machines.call.Calling.TheVariants as at
-use Rattle.papaya_rule.specs.Chart.{Phase, Still, Holds, Chart}
-use Rattle.papaya_rule.specs.Words.{Blocks, byte_of, word_of, place_word}
-use Rattle.papaya_points.specs.FactsCalls.{Change, Unchanged, Stored, Replaced, Removed}
+use Rattle.papaya_late.specs.Given.SeizeWords.Mem.{Mem, value_at}
+use Rattle.papaya_late.specs.Given.Tables.declared.node.Node.{Node}
+use Rattle.papaya_late.specs.Given.Raw.declared.machines.answer.Called.{Called}
+use Rattle.papaya_late.specs.Given.Raw.declared.machines.answer.Called.TheVariants as called
+use Rattle.papaya_late.specs.Given.Raw.declared.machines.answer.End.{End}
+use Rattle.papaya_late.specs.Given.Raw.declared.machines.answer.End.TheVariants as ends
+use Rattle.papaya_late.specs.Given.Raw.declared.machines.answer.KeyAnswer.TheVariants as answers
+use Rattle.papaya_late.specs.Given.Raw.declared.machines.answer.Missing.{Missing}
+use Rattle.papaya_late.specs.Given.Raw.declared.machines.answer.There.{There}
+use Rattle.papaya_late.specs.Given.Raw.declared.machines.asking.Asking.TheVariants as asking
+use Rattle.papaya_late.specs.Given.Raw.declared.machines.asking.Replies.{Replies}
+use Rattle.papaya_late.specs.Given.Raw.declared.machines.asking.Takes.{Takes}
+use Rattle.papaya_late.specs.Given.Raw.declared.machines.call.KeyCall.{KeyCall}
+use Rattle.papaya_late.specs.Given.Raw.declared.machines.call.Calling.{Calling}
+use Rattle.papaya_late.specs.Given.Raw.declared.machines.call.Calling.TheVariants as at
+use Rattle.papaya_late.specs.Given.Rule.Chart.{Phase, Still, Holds, Chart}
+use Rattle.papaya_late.specs.Given.Rule.Words.{Blocks, byte_of, word_of, place_word}
+use Rattle.papaya_late.specs.Given.Points.FactsCalls.{Change, Unchanged, Stored, Replaced, Removed}
 use Rattle.papaya_callers.specs.Asked.{Asked, IsThere, HasTold, ChangesTold, IsWordOf, OwnHasTold, Recalls, IsAsTold, DoesTold, EndsTold, OverTold, KeepsTold}
 
 -- the pairs that could be looked at can be looked at still, with their values

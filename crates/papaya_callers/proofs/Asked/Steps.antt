@@ -1,42 +1,42 @@
 -- A step of a call that asks, in its own table: it goes on by what it was told, and what it changes is what it was told to change.
 use Rattle.std.specs.Prelude.{◌≡◌, ◌≢◌, ℕ, ◌/◌, ◌<◌, ◌^◌, ◌==◌, Bool, true, false, List, Option, if◌then◌else◌}
 use Rattle.std.proofs.Common.{refl, sym, subst, ◌∙◌, inl, inr}
-use Rattle.seize_words.specs.Mem.{Can, Took, value_at}
-use Rattle.seize_words.specs.Plan.{May, Steps}
-use Rattle.seize_words.proofs.OneOwner.Operations.{taken}
-use Rattle.seize.specs.World.{World}
-use Rattle.papaya_tables.specs.declared.marks.TheConstants.{TOMBSTONE}
-use Rattle.papaya_tables.specs.declared.node.Node.{Node}
-use Rattle.papaya_tables.specs.declared.setting.Setting.{Setting}
-use Rattle.papaya_resize.specs.Dispose.{disposing}
-use Rattle.papaya_raw.specs.Answers.{ended}
-use Rattle.papaya_raw.specs.Call.{dropped, call_plan, plan_at}
-use Rattle.papaya_raw.specs.CallPoints.{standing, going, changed}
-use Rattle.papaya_raw.specs.declared.machines.answer.Called.{Called}
-use Rattle.papaya_raw.specs.declared.machines.answer.Called.TheVariants as called
-use Rattle.papaya_raw.specs.declared.machines.answer.End.{End}
-use Rattle.papaya_raw.specs.declared.machines.answer.End.TheVariants as ends
-use Rattle.papaya_raw.specs.declared.machines.answer.KeyAnswer.{KeyAnswer}
-use Rattle.papaya_raw.specs.declared.machines.answer.KeyAnswer.TheVariants as answers
-use Rattle.papaya_raw.specs.declared.machines.answer.There.{There}
-use Rattle.papaya_raw.specs.declared.machines.answer.There.TheVariants as there
-use Rattle.papaya_raw.specs.declared.machines.answer.Missing.{Missing}
-use Rattle.papaya_raw.specs.declared.machines.answer.Missing.TheVariants as missing
-use Rattle.papaya_raw.specs.declared.machines.asking.Asking.TheVariants as asking
-use Rattle.papaya_raw.specs.declared.machines.asking.Takes.{Takes}
-use Rattle.papaya_raw.specs.declared.machines.asking.Takes.TheVariants as takes
-use Rattle.papaya_raw.specs.declared.machines.call.KeyCall.{KeyCall}
-use Rattle.papaya_raw.specs.declared.machines.call.Calling.{Calling}
-use Rattle.papaya_raw.specs.declared.machines.call.Calling.TheVariants as at
-use Rattle.papaya_rule.specs.Chart.{Chart}
-use Rattle.papaya_rule.specs.Words.{Blocks}
-use Rattle.papaya_rule.specs.InWorld.{IsMapIn}
-use Rattle.papaya_points.specs.FactsCalls.{Change, Unchanged, Stored, Replaced, Removed, MayStore, Seeks, Tells, CallingFacts, CallFacts}
-use Rattle.papaya_points.specs.Told.{HasAnswered, IsRowOfCall, CallFactsAfter, CallTold}
-use Rattle.papaya_points.proofs.Values.Kept.{SameValues}
-use Rattle.papaya_points.proofs.Values.Own.{IsDropping, NoneMoved, SeeksOn, seeks_on}
-use Rattle.papaya_points.proofs.Values.Seeks.{look_unchanged}
-use Rattle.papaya_points.proofs.Values.Sought.{IsSought, IsAhead, IsLook, GoesSeeking}
+use Rattle.papaya_late.specs.Given.SeizeWords.Mem.{Can, Took, value_at}
+use Rattle.papaya_late.specs.Given.SeizeWords.Plan.{May, Steps}
+use Rattle.papaya_late.proofs.Given.SeizeWords.OneOwner.Operations.{taken}
+use Rattle.papaya_late.specs.Given.Seize.World.{World}
+use Rattle.papaya_late.specs.Given.Tables.declared.marks.TheConstants.{TOMBSTONE}
+use Rattle.papaya_late.specs.Given.Tables.declared.node.Node.{Node}
+use Rattle.papaya_late.specs.Given.Tables.declared.setting.Setting.{Setting}
+use Rattle.papaya_late.specs.Given.Resize.Dispose.{disposing}
+use Rattle.papaya_late.specs.Given.Raw.Answers.{ended}
+use Rattle.papaya_late.specs.Given.Raw.Call.{dropped, call_plan, plan_at}
+use Rattle.papaya_late.specs.Given.Raw.CallPoints.{standing, going, changed}
+use Rattle.papaya_late.specs.Given.Raw.declared.machines.answer.Called.{Called}
+use Rattle.papaya_late.specs.Given.Raw.declared.machines.answer.Called.TheVariants as called
+use Rattle.papaya_late.specs.Given.Raw.declared.machines.answer.End.{End}
+use Rattle.papaya_late.specs.Given.Raw.declared.machines.answer.End.TheVariants as ends
+use Rattle.papaya_late.specs.Given.Raw.declared.machines.answer.KeyAnswer.{KeyAnswer}
+use Rattle.papaya_late.specs.Given.Raw.declared.machines.answer.KeyAnswer.TheVariants as answers
+use Rattle.papaya_late.specs.Given.Raw.declared.machines.answer.There.{There}
+use Rattle.papaya_late.specs.Given.Raw.declared.machines.answer.There.TheVariants as there
+use Rattle.papaya_late.specs.Given.Raw.declared.machines.answer.Missing.{Missing}
+use Rattle.papaya_late.specs.Given.Raw.declared.machines.answer.Missing.TheVariants as missing
+use Rattle.papaya_late.specs.Given.Raw.declared.machines.asking.Asking.TheVariants as asking
+use Rattle.papaya_late.specs.Given.Raw.declared.machines.asking.Takes.{Takes}
+use Rattle.papaya_late.specs.Given.Raw.declared.machines.asking.Takes.TheVariants as takes
+use Rattle.papaya_late.specs.Given.Raw.declared.machines.call.KeyCall.{KeyCall}
+use Rattle.papaya_late.specs.Given.Raw.declared.machines.call.Calling.{Calling}
+use Rattle.papaya_late.specs.Given.Raw.declared.machines.call.Calling.TheVariants as at
+use Rattle.papaya_late.specs.Given.Rule.Chart.{Chart}
+use Rattle.papaya_late.specs.Given.Rule.Words.{Blocks}
+use Rattle.papaya_late.specs.Given.Rule.InWorld.{IsMapIn}
+use Rattle.papaya_late.specs.Given.Points.FactsCalls.{Change, Unchanged, Stored, Replaced, Removed, MayStore, Seeks, Tells, CallingFacts, CallFacts}
+use Rattle.papaya_late.specs.Given.Points.Told.{HasAnswered, IsRowOfCall, CallFactsAfter, CallTold}
+use Rattle.papaya_late.proofs.Given.Points.Values.Kept.{SameValues}
+use Rattle.papaya_late.proofs.Given.Points.Values.Own.{IsDropping, NoneMoved, SeeksOn, seeks_on}
+use Rattle.papaya_late.proofs.Given.Points.Values.Seeks.{look_unchanged}
+use Rattle.papaya_late.proofs.Given.Points.Values.Sought.{IsSought, IsAhead, IsLook, GoesSeeking}
 use Rattle.papaya_callers.specs.Asked.{Asked, ChangesTold, IsAsTold, DoesTold, EndsTold, OverTold, KeepsTold}
 use Rattle.papaya_callers.proofs.Asked.Stays.{Stays, HasYet, ToldTo, as_told_on, changes_on, ends_on, does_on}
 use Rattle.papaya_callers.proofs.Asked.Own.{IsMine, mine_at}

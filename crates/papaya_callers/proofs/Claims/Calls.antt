@@ -1,54 +1,54 @@
 -- A step of a call comes to the claiming of places only within its copying.
 use Rattle.std.specs.Prelude.{ℕ, ◌==◌, if◌then◌else◌, Bool, true, false, Option, Some, None, Ok, Err}
-use Rattle.seize_words.specs.Mem.{Mem, value_at, Took}
-use Rattle.seize_words.specs.Op.{Out, Found, Exchanged, Made, Taken}
-use Rattle.seize_words.specs.Plan.{Then, Steps}
-use Rattle.seize.specs.declared.progress.Progress.{Progress}
-use Rattle.seize.specs.declared.progress.Progress.TheVariants as progress
-use Rattle.seize.specs.declared.rows.settle.Settled.{Settled}
-use Rattle.seize.specs.declared.rows.settle.Settled.TheVariants as settled
-use Rattle.papaya_tables.specs.Chunks.{is_incremental}
-use Rattle.papaya_tables.specs.Finding.{may_name}
-use Rattle.papaya_tables.specs.Trials.{next_trial, with_met}
-use Rattle.papaya_resize.specs.CopierStates.{copying_all, resting}
-use Rattle.papaya_resize.specs.Dispose.{dispose_plan}
-use Rattle.papaya_resize.specs.Lookup.{lookup_plan}
-use Rattle.papaya_resize.specs.NewTable.{new_table_plan}
-use Rattle.papaya_raw.specs.Call.{made, makes_of, root_found, next_found, dropped, key_read, pair_read, word_read, word_found, tried, looked, looks_for, first_made, next_made, disposed, copied, plan_at, call_plan}
-use Rattle.papaya_raw.specs.CallFills.{filled, putting_by, fill_by, emptied, fills_with, fills, given_up, asks_at}
-use Rattle.papaya_raw.specs.CallPoints.{ending, asking_at, tableless, at_free, at_last, at_pair, told_of, went_on, changed, counted, having_met}
-use Rattle.papaya_tables.specs.declared.finding.Finding.{Finding}
-use Rattle.papaya_tables.specs.declared.finding.Finding.TheVariants as finds
-use Rattle.papaya_tables.specs.declared.marks.TheConstants.{TOMBSTONE}
-use Rattle.papaya_tables.specs.declared.node.Node.{Node}
-use Rattle.papaya_tables.specs.declared.node.Node.TheVariants as node
-use Rattle.papaya_tables.specs.declared.setting.Setting.{Setting}
-use Rattle.papaya_tables.specs.declared.table.Table.{Table}
-use Rattle.papaya_resize.specs.declared.copier.Copier.{Copier}
-use Rattle.papaya_resize.specs.declared.copier.Copying.TheVariants as copies
-use Rattle.papaya_resize.specs.declared.dispose.Dispose.{Dispose}
-use Rattle.papaya_resize.specs.declared.lookup.Lookup.{Lookup}
-use Rattle.papaya_resize.specs.declared.new_table.NewTable.{NewTable}
-use Rattle.papaya_resize.specs.declared.outcome.Outcome.{Outcome}
-use Rattle.papaya_resize.specs.declared.outcome.Outcome.TheVariants as outcome
-use Rattle.papaya_raw.specs.declared.machines.answer.KeyAnswer.{KeyAnswer}
-use Rattle.papaya_raw.specs.declared.machines.answer.End.{End}
-use Rattle.papaya_raw.specs.declared.machines.answer.Called.{Called}
-use Rattle.papaya_raw.specs.declared.machines.answer.Missing.{Missing}
-use Rattle.papaya_raw.specs.declared.machines.answer.Missing.TheVariants as missing
-use Rattle.papaya_raw.specs.declared.machines.answer.There.{There}
-use Rattle.papaya_raw.specs.declared.machines.answer.There.TheVariants as there
-use Rattle.papaya_raw.specs.Replies.{value_for}
-use Rattle.papaya_raw.specs.declared.machines.asking.Asking.{Asking}
-use Rattle.papaya_raw.specs.declared.machines.asking.Asking.TheVariants as asking
-use Rattle.papaya_raw.specs.declared.machines.asking.Gap.{Gap}
-use Rattle.papaya_raw.specs.declared.machines.asking.Gap.TheVariants as gaps
-use Rattle.papaya_raw.specs.declared.machines.call.KeyCall.{KeyCall}
-use Rattle.papaya_raw.specs.declared.machines.call.Calling.{Calling}
-use Rattle.papaya_raw.specs.declared.machines.call.Calling.TheVariants as at
-use Rattle.papaya_rule.proofs.Keys.Always.{Always, AlwaysOf, always_if, always_plan_as, always_steps}
-use Rattle.papaya_points.specs.FactsCalls.{IsCopying}
-use Rattle.papaya_points.proofs.Calls.Asked.{asking_so, asking_of_so, passed_so}
+use Rattle.papaya_late.specs.Given.SeizeWords.Mem.{Mem, value_at, Took}
+use Rattle.papaya_late.specs.Given.SeizeWords.Op.{Out, Found, Exchanged, Made, Taken}
+use Rattle.papaya_late.specs.Given.SeizeWords.Plan.{Then, Steps}
+use Rattle.papaya_late.specs.Given.Seize.declared.progress.Progress.{Progress}
+use Rattle.papaya_late.specs.Given.Seize.declared.progress.Progress.TheVariants as progress
+use Rattle.papaya_late.specs.Given.Seize.declared.rows.settle.Settled.{Settled}
+use Rattle.papaya_late.specs.Given.Seize.declared.rows.settle.Settled.TheVariants as settled
+use Rattle.papaya_late.specs.Given.Tables.Chunks.{is_incremental}
+use Rattle.papaya_late.specs.Given.Tables.Finding.{may_name}
+use Rattle.papaya_late.specs.Given.Tables.Trials.{next_trial, with_met}
+use Rattle.papaya_late.specs.Given.Resize.CopierStates.{copying_all, resting}
+use Rattle.papaya_late.specs.Given.Resize.Dispose.{dispose_plan}
+use Rattle.papaya_late.specs.Given.Resize.Lookup.{lookup_plan}
+use Rattle.papaya_late.specs.Given.Resize.NewTable.{new_table_plan}
+use Rattle.papaya_late.specs.Given.Raw.Call.{made, makes_of, root_found, next_found, dropped, key_read, pair_read, word_read, word_found, tried, looked, looks_for, first_made, next_made, disposed, copied, plan_at, call_plan}
+use Rattle.papaya_late.specs.Given.Raw.CallFills.{filled, putting_by, fill_by, emptied, fills_with, fills, given_up, asks_at}
+use Rattle.papaya_late.specs.Given.Raw.CallPoints.{ending, asking_at, tableless, at_free, at_last, at_pair, told_of, went_on, changed, counted, having_met}
+use Rattle.papaya_late.specs.Given.Tables.declared.finding.Finding.{Finding}
+use Rattle.papaya_late.specs.Given.Tables.declared.finding.Finding.TheVariants as finds
+use Rattle.papaya_late.specs.Given.Tables.declared.marks.TheConstants.{TOMBSTONE}
+use Rattle.papaya_late.specs.Given.Tables.declared.node.Node.{Node}
+use Rattle.papaya_late.specs.Given.Tables.declared.node.Node.TheVariants as node
+use Rattle.papaya_late.specs.Given.Tables.declared.setting.Setting.{Setting}
+use Rattle.papaya_late.specs.Given.Tables.declared.table.Table.{Table}
+use Rattle.papaya_late.specs.Given.Resize.declared.copier.Copier.{Copier}
+use Rattle.papaya_late.specs.Given.Resize.declared.copier.Copying.TheVariants as copies
+use Rattle.papaya_late.specs.Given.Resize.declared.dispose.Dispose.{Dispose}
+use Rattle.papaya_late.specs.Given.Resize.declared.lookup.Lookup.{Lookup}
+use Rattle.papaya_late.specs.Given.Resize.declared.new_table.NewTable.{NewTable}
+use Rattle.papaya_late.specs.Given.Resize.declared.outcome.Outcome.{Outcome}
+use Rattle.papaya_late.specs.Given.Resize.declared.outcome.Outcome.TheVariants as outcome
+use Rattle.papaya_late.specs.Given.Raw.declared.machines.answer.KeyAnswer.{KeyAnswer}
+use Rattle.papaya_late.specs.Given.Raw.declared.machines.answer.End.{End}
+use Rattle.papaya_late.specs.Given.Raw.declared.machines.answer.Called.{Called}
+use Rattle.papaya_late.specs.Given.Raw.declared.machines.answer.Missing.{Missing}
+use Rattle.papaya_late.specs.Given.Raw.declared.machines.answer.Missing.TheVariants as missing
+use Rattle.papaya_late.specs.Given.Raw.declared.machines.answer.There.{There}
+use Rattle.papaya_late.specs.Given.Raw.declared.machines.answer.There.TheVariants as there
+use Rattle.papaya_late.specs.Given.Raw.Replies.{value_for}
+use Rattle.papaya_late.specs.Given.Raw.declared.machines.asking.Asking.{Asking}
+use Rattle.papaya_late.specs.Given.Raw.declared.machines.asking.Asking.TheVariants as asking
+use Rattle.papaya_late.specs.Given.Raw.declared.machines.asking.Gap.{Gap}
+use Rattle.papaya_late.specs.Given.Raw.declared.machines.asking.Gap.TheVariants as gaps
+use Rattle.papaya_late.specs.Given.Raw.declared.machines.call.KeyCall.{KeyCall}
+use Rattle.papaya_late.specs.Given.Raw.declared.machines.call.Calling.{Calling}
+use Rattle.papaya_late.specs.Given.Raw.declared.machines.call.Calling.TheVariants as at
+use Rattle.papaya_late.proofs.Given.Rule.Keys.Always.{Always, AlwaysOf, always_if, always_plan_as, always_steps}
+use Rattle.papaya_late.specs.Given.Points.FactsCalls.{IsCopying}
+use Rattle.papaya_late.proofs.Given.Points.Calls.Asked.{asking_so, asking_of_so, passed_so}
 use Rattle.papaya_callers.proofs.Claims.Copiers.{IsOther}
 
 -- it is not to claim places next

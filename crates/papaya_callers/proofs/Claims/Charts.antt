@@ -2,14 +2,14 @@
 use Rattle.std.specs.Prelude.{◌≢◌, ◌<◌, ◌+◌, cond}
 use Rattle.std.proofs.lemmas.Bool.{ne_eqb}
 use Rattle.std.proofs.Common.{◌≡◌, ℕ, ◌≤◌, Bool, inl, inr, refl, ap, sym, subst, ◌∙◌, arith}
-use Rattle.papaya_tables.specs.Chunks.{is_incremental}
-use Rattle.papaya_tables.specs.declared.resize_mode.ResizeMode.{ResizeMode}
-use Rattle.papaya_rule.specs.Chart.{Chart}
-use Rattle.papaya_rule.specs.Rule.{Rule}
-use Rattle.papaya_rule.specs.Moves.{Move, Links, Stores, Replaces, Removes, Claims, Reclaims, Allowed, after}
-use Rattle.papaya_rule.specs.Maps.{spot_of}
-use Rattle.papaya_rule.specs.InWorld.{Moved}
-use Rattle.papaya_points.specs.Told.{IsBeside, MovedBeside}
+use Rattle.papaya_late.specs.Given.Tables.Chunks.{is_incremental}
+use Rattle.papaya_late.specs.Given.Tables.declared.resize_mode.ResizeMode.{ResizeMode}
+use Rattle.papaya_late.specs.Given.Rule.Chart.{Chart}
+use Rattle.papaya_late.specs.Given.Rule.Rule.{Rule}
+use Rattle.papaya_late.specs.Given.Rule.Moves.{Move, Links, Stores, Replaces, Removes, Claims, Reclaims, Allowed, after}
+use Rattle.papaya_late.specs.Given.Rule.Maps.{spot_of}
+use Rattle.papaya_late.specs.Given.Rule.InWorld.{Moved}
+use Rattle.papaya_late.specs.Given.Points.Told.{IsBeside, MovedBeside}
 
 module _ {K : Type 0} (spot : ℕ → K → ℕ → ℕ) (incremental : Bool) (c : Chart K) where
   past_after : (move : Move K) → c.past ≤ (after spot incremental move c).past

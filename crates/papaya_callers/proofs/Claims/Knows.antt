@@ -1,23 +1,23 @@
 -- What a copier knows of the tables that it works at, whether the root is still the one that it copies or has left it: as much as tells which words it
 -- writes, and which claims it sees.
 use Rattle.std.proofs.Common.{◌≡◌, ℕ, suc, ◌^◌, ◌<◌, Bool, arith}
-use Rattle.seize_words.specs.declared.at.At.TheVariants.{Word}
-use Rattle.seize.specs.World.{World}
-use Rattle.papaya_tables.specs.declared.node.Node.{Node}
-use Rattle.papaya_tables.specs.declared.setting.Setting.{Setting}
-use Rattle.papaya_tables.specs.declared.table.Table.{Table}
-use Rattle.papaya_tables.specs.declared.table_words.TheConstants.{NEXT}
-use Rattle.papaya_resize.specs.declared.copier.Copier.{Copier}
-use Rattle.papaya_resize.specs.declared.copier.Copying.{Copying as Point}
-use Rattle.papaya_resize.specs.declared.copier.Copying.TheVariants as at
-use Rattle.papaya_rule.specs.Chart.{Chart}
-use Rattle.papaya_rule.specs.InWorld.{IsMapIn}
-use Rattle.papaya_rule.specs.Maps.{IsTable, spot_at}
-use Rattle.papaya_rule.specs.Words.{Blocks}
-use Rattle.papaya_rule.proofs.Keys.TriesSeen.{spot_inside}
-use Rattle.papaya_points.specs.FactsTables.{NewTableFacts}
-use Rattle.papaya_points.specs.FactsCopiesBlocking.{CopyingFactsBlocking}
-use Rattle.papaya_points.specs.Told.{IsRowOfCopier}
+use Rattle.papaya_late.specs.Given.SeizeWords.declared.at.At.TheVariants.{Word}
+use Rattle.papaya_late.specs.Given.Seize.World.{World}
+use Rattle.papaya_late.specs.Given.Tables.declared.node.Node.{Node}
+use Rattle.papaya_late.specs.Given.Tables.declared.setting.Setting.{Setting}
+use Rattle.papaya_late.specs.Given.Tables.declared.table.Table.{Table}
+use Rattle.papaya_late.specs.Given.Tables.declared.table_words.TheConstants.{NEXT}
+use Rattle.papaya_late.specs.Given.Resize.declared.copier.Copier.{Copier}
+use Rattle.papaya_late.specs.Given.Resize.declared.copier.Copying.{Copying as Point}
+use Rattle.papaya_late.specs.Given.Resize.declared.copier.Copying.TheVariants as at
+use Rattle.papaya_late.specs.Given.Rule.Chart.{Chart}
+use Rattle.papaya_late.specs.Given.Rule.InWorld.{IsMapIn}
+use Rattle.papaya_late.specs.Given.Rule.Maps.{IsTable, spot_at}
+use Rattle.papaya_late.specs.Given.Rule.Words.{Blocks}
+use Rattle.papaya_late.proofs.Given.Rule.Keys.TriesSeen.{spot_inside}
+use Rattle.papaya_late.specs.Given.Points.FactsTables.{NewTableFacts}
+use Rattle.papaya_late.specs.Given.Points.FactsCopiesBlocking.{CopyingFactsBlocking}
+use Rattle.papaya_late.specs.Given.Points.Told.{IsRowOfCopier}
 use Rattle.papaya_late.specs.LateCopies.{LateCopying}
 
 module _ {K V : Type 0} (w : World (Node K V)) (caller : ℕ) (setting : Setting) (c : Chart K) (blocks : Blocks) where

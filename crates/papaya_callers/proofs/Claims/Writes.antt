@@ -2,35 +2,35 @@
 use Rattle.std.specs.Prelude.{◌==◌, ◌&&◌, ◌%◌}
 use Rattle.std.proofs.Common.{◌≡◌, ◌≢◌, ℕ, suc, ◌+◌, ◌/◌, ◌^◌, ◌<◌, Bool, true, false, refl, ap, sym, subst, ◌∙◌, arith}
 use Rattle.std.proofs.lemmas.Bool.{ne_eqb}
-use Rattle.seize_words.specs.declared.at.At.{At}
-use Rattle.seize_words.specs.declared.at.At.TheVariants.{Word}
-use Rattle.seize_words.specs.Mem.{same_at}
-use Rattle.seize.specs.World.{World}
-use Rattle.papaya_resize.specs.Sum.{sum_plan, plan_at as sum_at}
-use Rattle.papaya_resize.specs.NewTable.{counted, new_table_plan, plan_at as making_at}
-use Rattle.papaya_resize.specs.Copier.{copier_plan, plan_at as copying_at}
-use Rattle.papaya_resize.specs.CopierFurther.{remade}
-use Rattle.papaya_tables.specs.TablePlaces.{at_word}
-use Rattle.papaya_tables.specs.declared.node.Node.{Node}
-use Rattle.papaya_tables.specs.declared.setting.Setting.{Setting}
-use Rattle.papaya_tables.specs.declared.table.Table.{Table}
-use Rattle.papaya_tables.specs.declared.table_words.TheConstants.{NEXT, CLAIM, COPIED, STATUS, PLACES}
-use Rattle.papaya_resize.specs.declared.sum.Sum.{Sum}
-use Rattle.papaya_resize.specs.declared.sum.Summing.{Summing}
-use Rattle.papaya_resize.specs.declared.sum.Summing.TheVariants as sums
-use Rattle.papaya_resize.specs.declared.new_table.NewTable.{NewTable}
-use Rattle.papaya_resize.specs.declared.new_table.Making.{Making}
-use Rattle.papaya_resize.specs.declared.new_table.Making.TheVariants as makes
-use Rattle.papaya_resize.specs.declared.copier.Copier.{Copier}
-use Rattle.papaya_resize.specs.declared.copier.Copying.{Copying as Point}
-use Rattle.papaya_resize.specs.declared.copier.Copying.TheVariants as at
-use Rattle.papaya_rule.specs.Chart.{Chart}
-use Rattle.papaya_rule.specs.InWorld.{IsMapIn, IsOut}
-use Rattle.papaya_rule.specs.Maps.{IsTable}
-use Rattle.papaya_rule.specs.Words.{Blocks}
-use Rattle.papaya_rule.proofs.Words.TablesSeen.{word_stands, turn_is}
-use Rattle.papaya_points.specs.FactsTables.{IsOwnTable, NewTableFacts, MakingFacts}
-use Rattle.papaya_rule.proofs.Spared.{IsBeside, PlanSpares, spares_as}
+use Rattle.papaya_late.specs.Given.SeizeWords.declared.at.At.{At}
+use Rattle.papaya_late.specs.Given.SeizeWords.declared.at.At.TheVariants.{Word}
+use Rattle.papaya_late.specs.Given.SeizeWords.Mem.{same_at}
+use Rattle.papaya_late.specs.Given.Seize.World.{World}
+use Rattle.papaya_late.specs.Given.Resize.Sum.{sum_plan, plan_at as sum_at}
+use Rattle.papaya_late.specs.Given.Resize.NewTable.{counted, new_table_plan, plan_at as making_at}
+use Rattle.papaya_late.specs.Given.Resize.Copier.{copier_plan, plan_at as copying_at}
+use Rattle.papaya_late.specs.Given.Resize.CopierFurther.{remade}
+use Rattle.papaya_late.specs.Given.Tables.TablePlaces.{at_word}
+use Rattle.papaya_late.specs.Given.Tables.declared.node.Node.{Node}
+use Rattle.papaya_late.specs.Given.Tables.declared.setting.Setting.{Setting}
+use Rattle.papaya_late.specs.Given.Tables.declared.table.Table.{Table}
+use Rattle.papaya_late.specs.Given.Tables.declared.table_words.TheConstants.{NEXT, CLAIM, COPIED, STATUS, PLACES}
+use Rattle.papaya_late.specs.Given.Resize.declared.sum.Sum.{Sum}
+use Rattle.papaya_late.specs.Given.Resize.declared.sum.Summing.{Summing}
+use Rattle.papaya_late.specs.Given.Resize.declared.sum.Summing.TheVariants as sums
+use Rattle.papaya_late.specs.Given.Resize.declared.new_table.NewTable.{NewTable}
+use Rattle.papaya_late.specs.Given.Resize.declared.new_table.Making.{Making}
+use Rattle.papaya_late.specs.Given.Resize.declared.new_table.Making.TheVariants as makes
+use Rattle.papaya_late.specs.Given.Resize.declared.copier.Copier.{Copier}
+use Rattle.papaya_late.specs.Given.Resize.declared.copier.Copying.{Copying as Point}
+use Rattle.papaya_late.specs.Given.Resize.declared.copier.Copying.TheVariants as at
+use Rattle.papaya_late.specs.Given.Rule.Chart.{Chart}
+use Rattle.papaya_late.specs.Given.Rule.InWorld.{IsMapIn, IsOut}
+use Rattle.papaya_late.specs.Given.Rule.Maps.{IsTable}
+use Rattle.papaya_late.specs.Given.Rule.Words.{Blocks}
+use Rattle.papaya_late.proofs.Given.Rule.Words.TablesSeen.{word_stands, turn_is}
+use Rattle.papaya_late.specs.Given.Points.FactsTables.{IsOwnTable, NewTableFacts, MakingFacts}
+use Rattle.papaya_late.proofs.Given.Rule.Spared.{IsBeside, PlanSpares, spares_as}
 use Rattle.papaya_callers.proofs.Claims.Knows.{CopierKnows}
 
 -- a claim is no other word of a table

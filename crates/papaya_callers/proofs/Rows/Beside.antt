@@ -1,13 +1,13 @@
 -- What a step of a row, whoever takes it, leaves to callers: the blocks that they have made, those in use, and those that they have unlinked.
 use Rattle.std.proofs.Common.{◌≡◌, ℕ, inl, sym, subst, ◌∙◌}
-use Rattle.seize_words.specs.Mem.{value_at, word_at}
-use Rattle.seize_words.specs.declared.at.At.TheVariants.{Word}
-use Rattle.seize.specs.World.{World, Making, Cutting, Steps', Hand, NoBlock, InUse, Handed, LeftTo, Parting}
+use Rattle.papaya_late.specs.Given.SeizeWords.Mem.{value_at, word_at}
+use Rattle.papaya_late.specs.Given.SeizeWords.declared.at.At.TheVariants.{Word}
+use Rattle.papaya_late.specs.Given.Seize.World.{World, Making, Cutting, Steps', Hand, NoBlock, InUse, Handed, LeftTo, Parting}
 use Rattle.seize_alone.proofs.Histories.NotTaken.{did, not_taken, kept_value, kept_hand}
 use Rattle.seize_alone.proofs.Histories.Reached.{Reached}
-use Rattle.papaya_tables.specs.Nodes.{deferred_word}
-use Rattle.papaya_tables.specs.declared.node.Node.{Node}
-use Rattle.papaya_rule.specs.InWorld.{SparesPairs, IsHeldBy, KeepsBlocks}
+use Rattle.papaya_late.specs.Given.Tables.Nodes.{deferred_word}
+use Rattle.papaya_late.specs.Given.Tables.declared.node.Node.{Node}
+use Rattle.papaya_late.specs.Given.Rule.InWorld.{SparesPairs, IsHeldBy, KeepsBlocks}
 use Rattle.papaya_callers.specs.Kept.{IsUsersOwn, IsMaking}
 use Rattle.papaya_callers.proofs.Rows.Keep.{kept_block}
 

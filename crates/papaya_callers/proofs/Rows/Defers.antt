@@ -2,21 +2,21 @@
 use Rattle.std.specs.Prelude.{Option}
 use Rattle.std.proofs.Common.{◌≡◌, ◌≢◌, ℕ, suc, ◌<◌, ◌≤◌, Bool, true, false, cond, ◌∷◌, inl, inr, refl, arith, ap, sym, subst, ◌∙◌}
 use Rattle.std.proofs.lemmas.Bool.{cases_eq, eq-eqb, ne_eqb}
-use Rattle.seize.specs.Law.{Place, Standing, Nowhere, With, Deferred, where_is, is_standing, is_somewhere, reachable}
-use Rattle.seize.specs.World.{World, Row, Use, Hand, InUse, Parting, Handed, Defer', Begins, with_at}
-use Rattle.seize_moves.proofs.State.Ghost.{place_of}
-use Rattle.seize_rule.proofs.Points.Aside.{HandFits, IsStanding, standing_life}
+use Rattle.papaya_late.specs.Given.Seize.Law.{Place, Standing, Nowhere, With, Deferred, where_is, is_standing, is_somewhere, reachable}
+use Rattle.papaya_late.specs.Given.Seize.World.{World, Row, Use, Hand, InUse, Parting, Handed, Defer', Begins, with_at}
+use Rattle.papaya_late.proofs.Given.SeizeMoves.State.Ghost.{place_of}
+use Rattle.papaya_late.proofs.Given.SeizeRule.Points.Aside.{HandFits, IsStanding, standing_life}
 use Rattle.seize_alone.proofs.Histories.Reached.{Reached}
-use Rattle.papaya_tables.specs.Nodes.{deferred_word}
-use Rattle.papaya_tables.specs.declared.node.Node.{Node}
-use Rattle.papaya_tables.specs.declared.setting.Setting.{Setting}
-use Rattle.papaya_rule.specs.Chart.{Phase, Holds, Chart}
-use Rattle.papaya_rule.specs.Words.{Blocks}
-use Rattle.papaya_rule.specs.InWorld.{IsOut, StandsIn, IsReached, IsMapIn}
-use Rattle.papaya_points.specs.FactsDisposes.{StandsBefore, StandsNowhere}
-use Rattle.papaya_rule.proofs.World.Hands.{Hands, at_cases, hand_kept, standing_kept, current_known, named_known}
-use Rattle.papaya_rule.proofs.Words.TablesSeen.{pair_apart}
-use Rattle.papaya_rule.proofs.World.WentWrote.{map_in, counter_of}
+use Rattle.papaya_late.specs.Given.Tables.Nodes.{deferred_word}
+use Rattle.papaya_late.specs.Given.Tables.declared.node.Node.{Node}
+use Rattle.papaya_late.specs.Given.Tables.declared.setting.Setting.{Setting}
+use Rattle.papaya_late.specs.Given.Rule.Chart.{Phase, Holds, Chart}
+use Rattle.papaya_late.specs.Given.Rule.Words.{Blocks}
+use Rattle.papaya_late.specs.Given.Rule.InWorld.{IsOut, StandsIn, IsReached, IsMapIn}
+use Rattle.papaya_late.specs.Given.Points.FactsDisposes.{StandsBefore, StandsNowhere}
+use Rattle.papaya_late.proofs.Given.Rule.World.Hands.{Hands, at_cases, hand_kept, standing_kept, current_known, named_known}
+use Rattle.papaya_late.proofs.Given.Rule.Words.TablesSeen.{pair_apart}
+use Rattle.papaya_late.proofs.Given.Rule.World.WentWrote.{map_in, counter_of}
 use Rattle.papaya_callers.specs.Kept.{IsUsersOwn, IsKeptBlock}
 
 -- what is in use, or parting, can be reached from a root

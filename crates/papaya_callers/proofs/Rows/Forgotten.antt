@@ -1,9 +1,9 @@
 -- Blocks that nobody looks at any more may be forgotten.
 use Rattle.std.proofs.Common.{◌≡◌, ℕ, ◌<◌, ◌≤◌, Bool, true}
-use Rattle.seize_words.specs.Mem.{Mem}
-use Rattle.papaya_tables.specs.declared.node.Node.{Node}
-use Rattle.papaya_rule.specs.Chart.{Chart, Phase, Holds}
-use Rattle.papaya_rule.specs.Words.{Blocks, ShowsTable, Shows}
+use Rattle.papaya_late.specs.Given.SeizeWords.Mem.{Mem}
+use Rattle.papaya_late.specs.Given.Tables.declared.node.Node.{Node}
+use Rattle.papaya_late.specs.Given.Rule.Chart.{Chart, Phase, Holds}
+use Rattle.papaya_late.specs.Given.Rule.Words.{Blocks, ShowsTable, Shows}
 
 -- what is still known was known, and it is enough
 pub record Forgets {K : Type 0} (c : Chart K) (blocks : Blocks) (table_known pair_known : ℕ → Bool) : Type 0 where

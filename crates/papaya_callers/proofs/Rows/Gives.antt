@@ -2,20 +2,20 @@
 use Rattle.std.specs.Prelude.{Bool, false, Some, None, Option, IsSome, if◌then◌else◌}
 use Rattle.std.proofs.Common.{◌≡◌, ℕ, ◌+◌, List, [], ◌∷◌, ◌++◌, refl, ap, sym, subst, ◌∙◌}
 use Rattle.std.proofs.lemmas.Bool.{eq-eqb}
-use Rattle.seize_words.specs.Mem.{Mem, block_of, value_in, value_at, with_block, Took}
-use Rattle.seize_words.specs.Plan.{Steps}
-use Rattle.seize_words.proofs.OneOwner.AfterWrites.{block_of-with_block}
-use Rattle.seize_rule.proofs.Words.Named.{block_there}
-use Rattle.seize.specs.Law.{Effect, holds, IsSound}
-use Rattle.seize.specs.Sequence.{taken_in}
-use Rattle.seize.specs.Settle.{settle_plan}
-use Rattle.seize.specs.World.{World, Row, Settles, Steps', times, settle_effects, settles_on}
-use Rattle.seize.specs.declared.rows.settle.Settle.{Settle}
-use Rattle.seize.specs.declared.rows.settle.Settling.{Settling}
-use Rattle.seize.specs.declared.rows.settle.Settling.TheVariants as at
-use Rattle.seize.specs.declared.rows.settle.Settled.TheVariants.{Gave}
-use Rattle.seize_rule.proofs.Rows.Effects.{settle_one, taken_hand}
-use Rattle.seize_rule.proofs.Rows.Taken.{settle_tells}
+use Rattle.papaya_late.specs.Given.SeizeWords.Mem.{Mem, block_of, value_in, value_at, with_block, Took}
+use Rattle.papaya_late.specs.Given.SeizeWords.Plan.{Steps}
+use Rattle.papaya_late.proofs.Given.SeizeWords.OneOwner.AfterWrites.{block_of-with_block}
+use Rattle.papaya_late.proofs.Given.SeizeRule.Words.Named.{block_there}
+use Rattle.papaya_late.specs.Given.Seize.Law.{Effect, holds, IsSound}
+use Rattle.papaya_late.specs.Given.Seize.Sequence.{taken_in}
+use Rattle.papaya_late.specs.Given.Seize.Settle.{settle_plan}
+use Rattle.papaya_late.specs.Given.Seize.World.{World, Row, Settles, Steps', times, settle_effects, settles_on}
+use Rattle.papaya_late.specs.Given.Seize.declared.rows.settle.Settle.{Settle}
+use Rattle.papaya_late.specs.Given.Seize.declared.rows.settle.Settling.{Settling}
+use Rattle.papaya_late.specs.Given.Seize.declared.rows.settle.Settling.TheVariants as at
+use Rattle.papaya_late.specs.Given.Seize.declared.rows.settle.Settled.TheVariants.{Gave}
+use Rattle.papaya_late.proofs.Given.SeizeRule.Rows.Effects.{settle_one, taken_hand}
+use Rattle.papaya_late.proofs.Given.SeizeRule.Rows.Taken.{settle_tells}
 use Rattle.seize_alone.proofs.Histories.Reached.{Reached, steps_reached}
 use Rattle.papaya_callers.specs.Together.{IsReclaimed}
 

@@ -1,18 +1,18 @@
 -- Within an open section a map is kept whole: what is retired or deferred meanwhile is held until the section ends.
 use Rattle.std.proofs.Common.{◌≡◌, ◌≢◌, ℕ, Bool, true, List, inl, inr, refl, ap, sym, subst, ◌∙◌}
 use Rattle.std.proofs.lemmas.Bool.{cases_eq}
-use Rattle.seize.specs.Law.{Effect, where_is, is_somewhere, holds}
-use Rattle.seize.specs.World.{World, Row, Use, Vacant, Outside, Inside, Changing, Handed, Retire, Begins, IsInside, Steps', with_at, one_more}
+use Rattle.papaya_late.specs.Given.Seize.Law.{Effect, where_is, is_somewhere, holds}
+use Rattle.papaya_late.specs.Given.Seize.World.{World, Row, Use, Vacant, Outside, Inside, Changing, Handed, Retire, Begins, IsInside, Steps', with_at, one_more}
 use Rattle.seize_alone.proofs.Histories.NotTaken.{IsKept, IsHeld, still_held}
 use Rattle.seize_alone.proofs.Histories.Uses.{inside_kept}
 use Rattle.seize_alone.proofs.Histories.Reached.{Reached}
-use Rattle.papaya_tables.specs.Nodes.{deferred_word}
-use Rattle.papaya_tables.specs.declared.node.Node.{Node}
-use Rattle.papaya_tables.specs.declared.setting.Setting.{Setting}
-use Rattle.papaya_rule.specs.Chart.{Chart}
-use Rattle.papaya_rule.specs.Words.{Blocks}
-use Rattle.papaya_rule.specs.InWorld.{IsMapIn}
-use Rattle.papaya_rule.proofs.World.Hands.{at_cases, hand_kept}
+use Rattle.papaya_late.specs.Given.Tables.Nodes.{deferred_word}
+use Rattle.papaya_late.specs.Given.Tables.declared.node.Node.{Node}
+use Rattle.papaya_late.specs.Given.Tables.declared.setting.Setting.{Setting}
+use Rattle.papaya_late.specs.Given.Rule.Chart.{Chart}
+use Rattle.papaya_late.specs.Given.Rule.Words.{Blocks}
+use Rattle.papaya_late.specs.Given.Rule.InWorld.{IsMapIn}
+use Rattle.papaya_late.proofs.Given.Rule.World.Hands.{at_cases, hand_kept}
 use Rattle.papaya_callers.specs.Kept.{IsUsersOwn, IsKeptBlock, IsHeldBlock, AllHeld}
 use Rattle.papaya_callers.proofs.Rows.Retired.{retire_in}
 use Rattle.papaya_callers.proofs.Rows.Keep.{kept_block, row_keeps_map, row_keeps_block}

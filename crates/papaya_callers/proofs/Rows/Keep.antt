@@ -1,24 +1,24 @@
 -- A step of a row keeps the map that its collector is used for, and all blocks of it that are kept.
 use Rattle.std.specs.Prelude.{slice_get}
 use Rattle.std.proofs.Common.{◌≡◌, ℕ, ◌<◌, Bool, true, List, ap, sym, subst, ◌∙◌, inl, inr}
-use Rattle.seize_words.specs.declared.at.At.TheVariants.{Word}
-use Rattle.seize_words.specs.Mem.{value_at, word_at}
-use Rattle.seize.specs.Law.{With, where_is, is_somewhere}
-use Rattle.seize.specs.World.{World, Hand, NoBlock, Making, InUse, Cutting, Handed, LeftTo, IsOwn, Steps', Parting}
+use Rattle.papaya_late.specs.Given.SeizeWords.declared.at.At.TheVariants.{Word}
+use Rattle.papaya_late.specs.Given.SeizeWords.Mem.{value_at, word_at}
+use Rattle.papaya_late.specs.Given.Seize.Law.{With, where_is, is_somewhere}
+use Rattle.papaya_late.specs.Given.Seize.World.{World, Hand, NoBlock, Making, InUse, Cutting, Handed, LeftTo, IsOwn, Steps', Parting}
 use Rattle.seize_alone.specs.Alone.{IsOfUsers}
 use Rattle.seize_alone.proofs.Histories.NotTaken.{IsKept, CanBeReached, IsHad, did, kept_value, kept_word, kept_hand, still_reached}
 use Rattle.seize_alone.proofs.Histories.Reached.{Reached}
-use Rattle.seize_rule.proofs.Rows.Effects.{place_kept}
-use Rattle.papaya_tables.specs.Nodes.{deferred_word}
-use Rattle.papaya_tables.specs.declared.node.Node.{Node}
-use Rattle.papaya_tables.specs.declared.node.Node.TheVariants as node
-use Rattle.papaya_tables.specs.declared.setting.Setting.{Setting}
-use Rattle.papaya_rule.specs.Chart.{Chart}
-use Rattle.papaya_rule.specs.Words.{Blocks}
-use Rattle.papaya_rule.specs.InWorld.{IsOut, StandsIn, IsReached, IsMapIn}
-use Rattle.papaya_rule.proofs.World.Framed.{Frames, shows_framed}
-use Rattle.papaya_rule.proofs.World.Hands.{Hands}
-use Rattle.papaya_rule.proofs.World.WentWrote.{HasCounter, map_in, own_word}
+use Rattle.papaya_late.proofs.Given.SeizeRule.Rows.Effects.{place_kept}
+use Rattle.papaya_late.specs.Given.Tables.Nodes.{deferred_word}
+use Rattle.papaya_late.specs.Given.Tables.declared.node.Node.{Node}
+use Rattle.papaya_late.specs.Given.Tables.declared.node.Node.TheVariants as node
+use Rattle.papaya_late.specs.Given.Tables.declared.setting.Setting.{Setting}
+use Rattle.papaya_late.specs.Given.Rule.Chart.{Chart}
+use Rattle.papaya_late.specs.Given.Rule.Words.{Blocks}
+use Rattle.papaya_late.specs.Given.Rule.InWorld.{IsOut, StandsIn, IsReached, IsMapIn}
+use Rattle.papaya_late.proofs.Given.Rule.World.Framed.{Frames, shows_framed}
+use Rattle.papaya_late.proofs.Given.Rule.World.Hands.{Hands}
+use Rattle.papaya_late.proofs.Given.Rule.World.WentWrote.{HasCounter, map_in, own_word}
 use Rattle.papaya_callers.specs.Kept.{IsUsersOwn, IsKeptBlock}
 
 module _ {K V : Type 0} (w : World (Node K V)) where

@@ -1,14 +1,14 @@
 -- A step of a row leaves a caller within its section.
 use Rattle.std.proofs.Common.{ℕ, inl, inr, sym, subst}
-use Rattle.seize.specs.World.{World, Use, Vacant, Outside, Inside, Changing, IsTaken, IsInside, Steps', one_more}
+use Rattle.papaya_late.specs.Given.Seize.World.{World, Use, Vacant, Outside, Inside, Changing, IsTaken, IsInside, Steps', one_more}
 use Rattle.seize_alone.proofs.Histories.NotTaken.{still_held}
 use Rattle.seize_alone.proofs.Histories.Reached.{Reached}
 use Rattle.seize_alone.proofs.Histories.Uses.{inside_kept}
-use Rattle.papaya_tables.specs.Nodes.{deferred_word}
-use Rattle.papaya_tables.specs.declared.node.Node.{Node}
-use Rattle.papaya_tables.specs.declared.setting.Setting.{Setting}
-use Rattle.papaya_rule.specs.Chart.{Chart}
-use Rattle.papaya_rule.specs.Words.{Blocks}
+use Rattle.papaya_late.specs.Given.Tables.Nodes.{deferred_word}
+use Rattle.papaya_late.specs.Given.Tables.declared.node.Node.{Node}
+use Rattle.papaya_late.specs.Given.Tables.declared.setting.Setting.{Setting}
+use Rattle.papaya_late.specs.Given.Rule.Chart.{Chart}
+use Rattle.papaya_late.specs.Given.Rule.Words.{Blocks}
 use Rattle.papaya_callers.specs.Kept.{AllHeld, IsMaking, IsWithin}
 use Rattle.papaya_callers.proofs.Rows.Beside.{users_hand, making_own}
 

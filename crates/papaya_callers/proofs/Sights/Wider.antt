@@ -3,24 +3,24 @@ use Rattle.std.specs.Prelude.{◌≡◌, ◌≢◌, ℕ, suc, ◌+◌, ◌*◌, 
 use Rattle.std.proofs.Common.{refl, ap, sym, subst, ◌∙◌, inl, inr, arith}
 use Rattle.std.proofs.lemmas.Bool.{cases_lt}
 use Rattle.std.proofs.lemmas.Bool.Decides.{nat_tests}
-use Rattle.seize_words.specs.declared.at.At.TheVariants.{Root, Word}
-use Rattle.seize_words.specs.Mem.{Mem, value_at, word_at}
-use Rattle.seize.specs.Law.{With, where_is}
-use Rattle.seize.specs.World.{World, Making}
-use Rattle.papaya_tables.specs.Chunks.{is_incremental}
-use Rattle.papaya_tables.specs.declared.node.Node.{Node}
-use Rattle.papaya_tables.specs.declared.node.Node.TheVariants as node
-use Rattle.papaya_tables.specs.declared.setting.Setting.{Setting}
-use Rattle.papaya_tables.specs.declared.table_words.TheConstants.{NEXT, CLAIM, COPIED, STATUS, PLACES}
-use Rattle.papaya_rule.specs.Chart.{Phase, Copying, Place, Empty, Tombstone, Holds, Chart}
-use Rattle.papaya_rule.specs.Moves.{Move, Links, Stores, Replaces, Removes, Marks, MarksBlocking, Skips, Unmarks, Puts, Covers, PutsLate, Claims, Reclaims, Counts, GivesUp, Aborts, Promotes, Announces, after, Allowed}
-use Rattle.papaya_rule.specs.Words.{Blocks, byte_of, word_of, next_word, root_word, place_word, ShowsTable, Shows}
-use Rattle.papaya_rule.specs.Maps.{spot_of}
-use Rattle.papaya_rule.specs.InWorld.{IsOut, StandsIn, IsReached, IsMapIn, InFootprint, Moved, Went}
-use Rattle.papaya_rule.specs.Lasts.{Lasts}
-use Rattle.papaya_rule.specs.Moments.{Moments, Remembers}
-use Rattle.papaya_rule.proofs.Words.BlocksApart.{values_apart}
-use Rattle.papaya_rule.proofs.World.Hands.{current_known}
+use Rattle.papaya_late.specs.Given.SeizeWords.declared.at.At.TheVariants.{Root, Word}
+use Rattle.papaya_late.specs.Given.SeizeWords.Mem.{Mem, value_at, word_at}
+use Rattle.papaya_late.specs.Given.Seize.Law.{With, where_is}
+use Rattle.papaya_late.specs.Given.Seize.World.{World, Making}
+use Rattle.papaya_late.specs.Given.Tables.Chunks.{is_incremental}
+use Rattle.papaya_late.specs.Given.Tables.declared.node.Node.{Node}
+use Rattle.papaya_late.specs.Given.Tables.declared.node.Node.TheVariants as node
+use Rattle.papaya_late.specs.Given.Tables.declared.setting.Setting.{Setting}
+use Rattle.papaya_late.specs.Given.Tables.declared.table_words.TheConstants.{NEXT, CLAIM, COPIED, STATUS, PLACES}
+use Rattle.papaya_late.specs.Given.Rule.Chart.{Phase, Copying, Place, Empty, Tombstone, Holds, Chart}
+use Rattle.papaya_late.specs.Given.Rule.Moves.{Move, Links, Stores, Replaces, Removes, Marks, MarksBlocking, Skips, Unmarks, Puts, Covers, PutsLate, Claims, Reclaims, Counts, GivesUp, Aborts, Promotes, Announces, after, Allowed}
+use Rattle.papaya_late.specs.Given.Rule.Words.{Blocks, byte_of, word_of, next_word, root_word, place_word, ShowsTable, Shows}
+use Rattle.papaya_late.specs.Given.Rule.Maps.{spot_of}
+use Rattle.papaya_late.specs.Given.Rule.InWorld.{IsOut, StandsIn, IsReached, IsMapIn, InFootprint, Moved, Went}
+use Rattle.papaya_late.specs.Given.Rule.Lasts.{Lasts}
+use Rattle.papaya_late.specs.Given.Rule.Moments.{Moments, Remembers}
+use Rattle.papaya_late.proofs.Given.Rule.Words.BlocksApart.{values_apart}
+use Rattle.papaya_late.proofs.Given.Rule.World.Hands.{current_known}
 use Rattle.papaya_callers.proofs.Sights.Closed.{Named, names_before}
 use Rattle.papaya_callers.proofs.Sights.Sources.{below, above, sources_then}
 use Rattle.papaya_callers.specs.Sights.{SeesSources, Sight, IsGrown, IsSight}

@@ -1,48 +1,48 @@
 -- A step of a call keeps track of the pair that it was begun with.
 use Rattle.std.specs.Prelude.{◌==◌, if◌then◌else◌, Option, Some}
 use Rattle.std.proofs.Common.{◌≡◌, ◌≢◌, ℕ, ◌<◌, ◌≤◌, ◌/◌, ◌^◌, Bool, true, false, inl, inr, refl, sym, ap, subst, arith, ◌∙◌}
-use Rattle.seize_words.specs.Mem.{Can, Took, value_at, Mem}
-use Rattle.seize_words.specs.Plan.{May, Steps}
-use Rattle.seize_words.proofs.OneOwner.Operations.{made as made_by_step, taken}
-use Rattle.seize.specs.World.{World}
-use Rattle.papaya_tables.specs.declared.marks.TheConstants.{TOMBSTONE}
-use Rattle.papaya_tables.specs.declared.node.Node.{Node}
-use Rattle.papaya_tables.specs.declared.node.Node.TheVariants as node
-use Rattle.papaya_tables.specs.declared.setting.Setting.{Setting}
-use Rattle.papaya_resize.specs.Dispose.{disposing, dispose_plan}
-use Rattle.papaya_resize.specs.declared.dispose.Dispose.{Dispose}
-use Rattle.seize.specs.declared.rows.settle.Settled.{Settled}
-use Rattle.seize.specs.declared.rows.settle.Settled.TheVariants as settled
-use Rattle.papaya_raw.specs.Call.{call_plan, plan_at, makes_of, made, drops, dropped, disposed}
-use Rattle.papaya_raw.specs.Answers.{ended}
-use Rattle.papaya_raw.specs.CallPoints.{changed, counted, going, over}
-use Rattle.papaya_raw.specs.declared.machines.answer.Called.{Called}
-use Rattle.papaya_raw.specs.declared.machines.answer.Called.TheVariants as called
-use Rattle.papaya_raw.specs.declared.machines.answer.End.{End}
-use Rattle.papaya_raw.specs.declared.machines.answer.End.TheVariants as ends
-use Rattle.papaya_raw.specs.declared.machines.answer.KeyAnswer.{KeyAnswer}
-use Rattle.papaya_raw.specs.declared.machines.answer.KeyAnswer.TheVariants as answers
-use Rattle.papaya_raw.specs.declared.machines.call.KeyCall.{KeyCall}
-use Rattle.papaya_raw.specs.declared.machines.call.Calling.{Calling}
-use Rattle.papaya_raw.specs.declared.machines.call.Calling.TheVariants as at
-use Rattle.papaya_rule.specs.Chart.{Still, Holds, Chart}
-use Rattle.papaya_rule.specs.Words.{Blocks, place_word, byte_of}
-use Rattle.papaya_rule.specs.InWorld.{IsOut, IsMapIn, IsFramed, SameBlocks}
-use Rattle.papaya_rule.proofs.Words.PlaceWords.{pair_block}
-use Rattle.papaya_rule.proofs.Words.PlacesShown.{byte_of-few}
-use Rattle.papaya_points.specs.FactsCalls.{Change, Unchanged, Stored, Replaced, Removed, IsOwnPair, Seeks, Tells, CallingFacts, CallFacts}
-use Rattle.papaya_points.specs.Told.{HasAnswered, IsRowOfCall, CallFactsAfter, CallTold}
-use Rattle.papaya_rule.proofs.Keys.Always.{always_plan_as, always_steps}
-use Rattle.papaya_points.proofs.Calls.Probes.{own_block, own_value}
-use Rattle.papaya_points.proofs.Values.Kept.{SameValues}
-use Rattle.papaya_points.proofs.Values.Left.{made_here}
-use Rattle.papaya_points.proofs.Calls.Holdings.{never_asks}
-use Rattle.papaya_points.proofs.Values.Never.{never_fills}
-use Rattle.papaya_points.proofs.Values.Sought.{IsSought, IsAhead, kept_of, GoesSeeking, IsLook}
-use Rattle.papaya_raw.specs.declared.machines.asking.Replies.{Replies}
-use Rattle.papaya_raw.specs.declared.machines.asking.Takes.TheVariants as takes
-use Rattle.papaya_points.proofs.Values.Seeks.{HasNoneOr, sought_own, look_unchanged}
-use Rattle.papaya_points.proofs.Values.Own.{IsDropping, NoneMoved, SeeksOn, seeks_on}
+use Rattle.papaya_late.specs.Given.SeizeWords.Mem.{Can, Took, value_at, Mem}
+use Rattle.papaya_late.specs.Given.SeizeWords.Plan.{May, Steps}
+use Rattle.papaya_late.proofs.Given.SeizeWords.OneOwner.Operations.{made as made_by_step, taken}
+use Rattle.papaya_late.specs.Given.Seize.World.{World}
+use Rattle.papaya_late.specs.Given.Tables.declared.marks.TheConstants.{TOMBSTONE}
+use Rattle.papaya_late.specs.Given.Tables.declared.node.Node.{Node}
+use Rattle.papaya_late.specs.Given.Tables.declared.node.Node.TheVariants as node
+use Rattle.papaya_late.specs.Given.Tables.declared.setting.Setting.{Setting}
+use Rattle.papaya_late.specs.Given.Resize.Dispose.{disposing, dispose_plan}
+use Rattle.papaya_late.specs.Given.Resize.declared.dispose.Dispose.{Dispose}
+use Rattle.papaya_late.specs.Given.Seize.declared.rows.settle.Settled.{Settled}
+use Rattle.papaya_late.specs.Given.Seize.declared.rows.settle.Settled.TheVariants as settled
+use Rattle.papaya_late.specs.Given.Raw.Call.{call_plan, plan_at, makes_of, made, drops, dropped, disposed}
+use Rattle.papaya_late.specs.Given.Raw.Answers.{ended}
+use Rattle.papaya_late.specs.Given.Raw.CallPoints.{changed, counted, going, over}
+use Rattle.papaya_late.specs.Given.Raw.declared.machines.answer.Called.{Called}
+use Rattle.papaya_late.specs.Given.Raw.declared.machines.answer.Called.TheVariants as called
+use Rattle.papaya_late.specs.Given.Raw.declared.machines.answer.End.{End}
+use Rattle.papaya_late.specs.Given.Raw.declared.machines.answer.End.TheVariants as ends
+use Rattle.papaya_late.specs.Given.Raw.declared.machines.answer.KeyAnswer.{KeyAnswer}
+use Rattle.papaya_late.specs.Given.Raw.declared.machines.answer.KeyAnswer.TheVariants as answers
+use Rattle.papaya_late.specs.Given.Raw.declared.machines.call.KeyCall.{KeyCall}
+use Rattle.papaya_late.specs.Given.Raw.declared.machines.call.Calling.{Calling}
+use Rattle.papaya_late.specs.Given.Raw.declared.machines.call.Calling.TheVariants as at
+use Rattle.papaya_late.specs.Given.Rule.Chart.{Still, Holds, Chart}
+use Rattle.papaya_late.specs.Given.Rule.Words.{Blocks, place_word, byte_of}
+use Rattle.papaya_late.specs.Given.Rule.InWorld.{IsOut, IsMapIn, IsFramed, SameBlocks}
+use Rattle.papaya_late.proofs.Given.Rule.Words.PlaceWords.{pair_block}
+use Rattle.papaya_late.proofs.Given.Rule.Words.PlacesShown.{byte_of-few}
+use Rattle.papaya_late.specs.Given.Points.FactsCalls.{Change, Unchanged, Stored, Replaced, Removed, IsOwnPair, Seeks, Tells, CallingFacts, CallFacts}
+use Rattle.papaya_late.specs.Given.Points.Told.{HasAnswered, IsRowOfCall, CallFactsAfter, CallTold}
+use Rattle.papaya_late.proofs.Given.Rule.Keys.Always.{always_plan_as, always_steps}
+use Rattle.papaya_late.proofs.Given.Points.Calls.Probes.{own_block, own_value}
+use Rattle.papaya_late.proofs.Given.Points.Values.Kept.{SameValues}
+use Rattle.papaya_late.proofs.Given.Points.Values.Left.{made_here}
+use Rattle.papaya_late.proofs.Given.Points.Calls.Holdings.{never_asks}
+use Rattle.papaya_late.proofs.Given.Points.Values.Never.{never_fills}
+use Rattle.papaya_late.proofs.Given.Points.Values.Sought.{IsSought, IsAhead, kept_of, GoesSeeking, IsLook}
+use Rattle.papaya_late.specs.Given.Raw.declared.machines.asking.Replies.{Replies}
+use Rattle.papaya_late.specs.Given.Raw.declared.machines.asking.Takes.TheVariants as takes
+use Rattle.papaya_late.proofs.Given.Points.Values.Seeks.{HasNoneOr, sought_own, look_unchanged}
+use Rattle.papaya_late.proofs.Given.Points.Values.Own.{IsDropping, NoneMoved, SeeksOn, seeks_on}
 use Rattle.papaya_callers.specs.Pairs.{IsItsPair, StoresIt, HasIt, KeepsIt}
 
 -- it hands no pair back

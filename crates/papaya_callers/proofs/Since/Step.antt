@@ -2,25 +2,25 @@
 use Rattle.std.specs.Prelude.{◌≡◌, ◌≢◌, ℕ, suc, ◌<◌, ◌≤◌, Bool, true, false, cond, eqb, ◌⊎◌}
 use Rattle.std.proofs.Common.{refl, ap, sym, subst, ◌∙◌, inl, inr, arith}
 use Rattle.std.proofs.lemmas.Bool.{eq-eqb, ne_eqb}
-use Rattle.seize.specs.World.{World}
-use Rattle.papaya_tables.specs.Chunks.{is_incremental}
-use Rattle.papaya_tables.specs.declared.node.Node.{Node}
-use Rattle.papaya_tables.specs.declared.setting.Setting.{Setting}
-use Rattle.papaya_raw.specs.declared.machines.answer.KeyAnswer.{KeyAnswer}
-use Rattle.papaya_raw.specs.declared.machines.answer.KeyAnswer.TheVariants as answers
-use Rattle.papaya_raw.specs.declared.machines.answer.Called.{Called}
-use Rattle.papaya_raw.specs.declared.machines.answer.Called.TheVariants as called
-use Rattle.papaya_raw.specs.declared.machines.call.KeyCall.{KeyCall}
-use Rattle.papaya_rule.specs.Chart.{Chart, put}
-use Rattle.papaya_rule.specs.Words.{Blocks}
-use Rattle.papaya_rule.specs.Maps.{spot_of, IsAbsent, IsPair}
-use Rattle.papaya_rule.specs.InWorld.{IsMapIn, Moved, SameBlocks}
-use Rattle.papaya_rule.specs.Lasts.{Lasts}
-use Rattle.papaya_rule.specs.Moments.{Moments, Remembers}
-use Rattle.papaya_points.specs.FactsCalls.{Change, Unchanged, Stored, Replaced, Removed, AnswersOf, Tells, Changes}
-use Rattle.papaya_points.specs.Told.{CallFactsAfter, CallTold}
+use Rattle.papaya_late.specs.Given.Seize.World.{World}
+use Rattle.papaya_late.specs.Given.Tables.Chunks.{is_incremental}
+use Rattle.papaya_late.specs.Given.Tables.declared.node.Node.{Node}
+use Rattle.papaya_late.specs.Given.Tables.declared.setting.Setting.{Setting}
+use Rattle.papaya_late.specs.Given.Raw.declared.machines.answer.KeyAnswer.{KeyAnswer}
+use Rattle.papaya_late.specs.Given.Raw.declared.machines.answer.KeyAnswer.TheVariants as answers
+use Rattle.papaya_late.specs.Given.Raw.declared.machines.answer.Called.{Called}
+use Rattle.papaya_late.specs.Given.Raw.declared.machines.answer.Called.TheVariants as called
+use Rattle.papaya_late.specs.Given.Raw.declared.machines.call.KeyCall.{KeyCall}
+use Rattle.papaya_late.specs.Given.Rule.Chart.{Chart, put}
+use Rattle.papaya_late.specs.Given.Rule.Words.{Blocks}
+use Rattle.papaya_late.specs.Given.Rule.Maps.{spot_of, IsAbsent, IsPair}
+use Rattle.papaya_late.specs.Given.Rule.InWorld.{IsMapIn, Moved, SameBlocks}
+use Rattle.papaya_late.specs.Given.Rule.Lasts.{Lasts}
+use Rattle.papaya_late.specs.Given.Rule.Moments.{Moments, Remembers}
+use Rattle.papaya_late.specs.Given.Points.FactsCalls.{Change, Unchanged, Stored, Replaced, Removed, AnswersOf, Tells, Changes}
+use Rattle.papaya_late.specs.Given.Points.Told.{CallFactsAfter, CallTold}
 use Rattle.papaya_callers.specs.Since.{HadPair, HadNone, WasSo, WasChanged, ChangedSince, SoSince, Since}
-use Rattle.papaya_rule.proofs.World.Hands.{current_known}
+use Rattle.papaya_late.proofs.Given.Rule.World.Hands.{current_known}
 use Rattle.papaya_callers.proofs.Since.Began.{has_answered, changed_since_on, so_since_on, moment_moved}
 
 module _ {K V : Type 0} (same : K → K → Bool) (hash : K → ℕ) (setting : Setting) (w w2 : World (Node K V)) (c c2 : Chart K) (blocks blocks2 : Blocks)

@@ -1,5 +1,5 @@
 -- A call that stands at a row of the collector begins it: all calls stand together, and the caller is within the row.
-use Rattle.seize_words.specs.Mem.{Mem}
+use Rattle.papaya_late.specs.Given.SeizeWords.Mem.{Mem}
 use Rattle.papaya_callers.specs.Asked.{Asked, KeepsTold}
 use Rattle.papaya_callers.specs.AskedOnce.{AskedAt}
 use Rattle.papaya_callers.proofs.Once.Stays.{once_as}
@@ -10,30 +10,30 @@ use Rattle.papaya_late.specs.Kinds.{FitsAt}
 use Rattle.papaya_callers.specs.Kind.{Kind}
 use Rattle.std.specs.Prelude.{◌≡◌, ℕ, ◌<◌, ◌==◌, Bool, true, List, Option, Some, if◌then◌else◌}
 use Rattle.std.proofs.Common.{false, refl, sym, subst, inl, inr, arith}
-use Rattle.seize.specs.declared.rows.settle.Settle.{Settle}
-use Rattle.seize.specs.World.{World, Row, Use, Rests, Settles, IsInside}
-use Rattle.papaya_tables.specs.declared.node.Node.{Node}
-use Rattle.papaya_tables.specs.declared.setting.Setting.{Setting}
-use Rattle.papaya_tables.specs.declared.table.Table.{Table}
-use Rattle.papaya_resize.specs.CopierPromotes.{table_retired}
-use Rattle.papaya_resize.specs.Dispose as dispose
-use Rattle.papaya_resize.specs.CopierStates as copiers
-use Rattle.papaya_resize.specs.declared.copier.Copier.{Copier}
-use Rattle.papaya_resize.specs.declared.copier.Copying.{Copying}
-use Rattle.papaya_resize.specs.declared.copier.Copying.TheVariants as copies
-use Rattle.papaya_resize.specs.declared.dispose.Dispose.{Dispose}
-use Rattle.papaya_resize.specs.declared.dispose.Disposing.{Disposing}
-use Rattle.papaya_resize.specs.declared.dispose.Disposing.TheVariants as disposes
-use Rattle.papaya_raw.specs.CallPoints as points
-use Rattle.papaya_raw.specs.declared.machines.answer.KeyAnswer.{KeyAnswer}
-use Rattle.papaya_raw.specs.declared.machines.call.Calling.{Calling}
-use Rattle.papaya_raw.specs.declared.machines.call.Calling.TheVariants as at
-use Rattle.papaya_rule.specs.Chart.{Chart}
-use Rattle.papaya_rule.specs.Words.{Blocks}
-use Rattle.papaya_rule.specs.InWorld.{IsMapIn}
-use Rattle.papaya_points.specs.FactsDisposes.{IsToRetire}
-use Rattle.papaya_points.specs.Told.{IsRowOf, IsRowOfCopier, IsRowOfCall}
-use Rattle.papaya_points.specs.Steps.{AreLawful}
+use Rattle.papaya_late.specs.Given.Seize.declared.rows.settle.Settle.{Settle}
+use Rattle.papaya_late.specs.Given.Seize.World.{World, Row, Use, Rests, Settles, IsInside}
+use Rattle.papaya_late.specs.Given.Tables.declared.node.Node.{Node}
+use Rattle.papaya_late.specs.Given.Tables.declared.setting.Setting.{Setting}
+use Rattle.papaya_late.specs.Given.Tables.declared.table.Table.{Table}
+use Rattle.papaya_late.specs.Given.Resize.CopierPromotes.{table_retired}
+use Rattle.papaya_late.specs.Given.Resize.Dispose as dispose
+use Rattle.papaya_late.specs.Given.Resize.CopierStates as copiers
+use Rattle.papaya_late.specs.Given.Resize.declared.copier.Copier.{Copier}
+use Rattle.papaya_late.specs.Given.Resize.declared.copier.Copying.{Copying}
+use Rattle.papaya_late.specs.Given.Resize.declared.copier.Copying.TheVariants as copies
+use Rattle.papaya_late.specs.Given.Resize.declared.dispose.Dispose.{Dispose}
+use Rattle.papaya_late.specs.Given.Resize.declared.dispose.Disposing.{Disposing}
+use Rattle.papaya_late.specs.Given.Resize.declared.dispose.Disposing.TheVariants as disposes
+use Rattle.papaya_late.specs.Given.Raw.CallPoints as points
+use Rattle.papaya_late.specs.Given.Raw.declared.machines.answer.KeyAnswer.{KeyAnswer}
+use Rattle.papaya_late.specs.Given.Raw.declared.machines.call.Calling.{Calling}
+use Rattle.papaya_late.specs.Given.Raw.declared.machines.call.Calling.TheVariants as at
+use Rattle.papaya_late.specs.Given.Rule.Chart.{Chart}
+use Rattle.papaya_late.specs.Given.Rule.Words.{Blocks}
+use Rattle.papaya_late.specs.Given.Rule.InWorld.{IsMapIn}
+use Rattle.papaya_late.specs.Given.Points.FactsDisposes.{IsToRetire}
+use Rattle.papaya_late.specs.Given.Points.Told.{IsRowOf, IsRowOfCopier, IsRowOfCall}
+use Rattle.papaya_late.specs.Given.Points.Steps.{AreLawful}
 use Rattle.papaya_callers.specs.Rows.{row_of, past_row}
 use Rattle.papaya_callers.specs.Sights.{Sight, seen_by}
 use Rattle.papaya_callers.specs.Together.{OnKey, CallOnKey, UnderWay, in_slot, Knows, Together}

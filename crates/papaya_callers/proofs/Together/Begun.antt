@@ -1,22 +1,22 @@
 -- A caller whose call stands at a row of the collector begins it: all others stand, and the caller is within the row.
-use Rattle.seize_words.specs.Mem.{Mem, value_at}
+use Rattle.papaya_late.specs.Given.SeizeWords.Mem.{Mem, value_at}
 use Rattle.std.specs.Prelude.{◌≡◌, ◌≢◌, ℕ, ◌*◌, ◌<◌, Bool, true, Option, Some, None}
 use Rattle.std.proofs.Common.{false, refl, ap, sym, subst, ◌∙◌, inl, inr}
 use Rattle.std.proofs.lemmas.Bool.{cases_eq}
-use Rattle.seize.specs.declared.rows.settle.Settle.{Settle}
-use Rattle.seize.specs.Law.{holds, owner_of}
-use Rattle.seize.specs.Settle.{retiring}
-use Rattle.seize.specs.World.{World, Row, Use, one_more, Rests, Settles, Cutting, Begin, Request, Retire, Begins, Happens, IsInside, IsOnto, with_at}
-use Rattle.seize_rule.proofs.Rows.Leaving.{with_same}
-use Rattle.seize_rule.proofs.Rows.Others.{with_here, with_other}
-use Rattle.papaya_tables.specs.Nodes.{deferred_word}
-use Rattle.papaya_tables.specs.declared.node.Node.{Node}
-use Rattle.papaya_tables.specs.declared.setting.Setting.{Setting}
-use Rattle.papaya_rule.specs.Chart.{Chart}
-use Rattle.papaya_rule.specs.Words.{Blocks}
-use Rattle.papaya_rule.specs.InWorld.{IsHeldBy}
-use Rattle.papaya_points.specs.FactsDisposes.{IsToRetire}
-use Rattle.papaya_points.specs.Steps.{AreLawful}
+use Rattle.papaya_late.specs.Given.Seize.declared.rows.settle.Settle.{Settle}
+use Rattle.papaya_late.specs.Given.Seize.Law.{holds, owner_of}
+use Rattle.papaya_late.specs.Given.Seize.Settle.{retiring}
+use Rattle.papaya_late.specs.Given.Seize.World.{World, Row, Use, one_more, Rests, Settles, Cutting, Begin, Request, Retire, Begins, Happens, IsInside, IsOnto, with_at}
+use Rattle.papaya_late.proofs.Given.SeizeRule.Rows.Leaving.{with_same}
+use Rattle.papaya_late.proofs.Given.SeizeRule.Rows.Others.{with_here, with_other}
+use Rattle.papaya_late.specs.Given.Tables.Nodes.{deferred_word}
+use Rattle.papaya_late.specs.Given.Tables.declared.node.Node.{Node}
+use Rattle.papaya_late.specs.Given.Tables.declared.setting.Setting.{Setting}
+use Rattle.papaya_late.specs.Given.Rule.Chart.{Chart}
+use Rattle.papaya_late.specs.Given.Rule.Words.{Blocks}
+use Rattle.papaya_late.specs.Given.Rule.InWorld.{IsHeldBy}
+use Rattle.papaya_late.specs.Given.Points.FactsDisposes.{IsToRetire}
+use Rattle.papaya_late.specs.Given.Points.Steps.{AreLawful}
 use Rattle.papaya_callers.specs.Rows.{IsRowOn, IsUsedAlike}
 use Rattle.papaya_callers.specs.Sights.{Sight, seen_by}
 use Rattle.papaya_callers.specs.Together.{ClaimsInto, Ground, UnderWay, HasCall, PutsWithin, in_slot, HandsOver, Together, Stands, IsReclaimed}

@@ -3,34 +3,34 @@ use Rattle.std.specs.Prelude.{length, ◌≡◌, ◌≢◌, ℕ, ◌+◌, ◌<�
 use Rattle.std.specs.List.{All, AllPairs}
 use Rattle.std.proofs.Common.{refl, sym, subst, ◌∙◌, inl, inr}
 use Rattle.std.proofs.lemmas.Bool.{cases_eq}
-use Rattle.seize.specs.World.{with_at}
-use Rattle.papaya_resize.specs.CopierPromotes.{table_retired}
-use Rattle.papaya_resize.specs.CopierStates.{standing}
-use Rattle.papaya_resize.specs.declared.copier.Copier.{Copier}
-use Rattle.papaya_resize.specs.declared.copier.Copying.TheVariants as copies
-use Rattle.papaya_raw.specs.declared.machines.call.Calling.{Calling}
-use Rattle.papaya_raw.specs.declared.machines.call.Calling.TheVariants as at
-use Rattle.papaya_points.specs.Told.{IsRowOfCopier, IsRowOfCall}
-use Rattle.papaya_rule.specs.Chart.{Chart}
-use Rattle.papaya_tables.specs.Chunks.{is_incremental}
-use Rattle.papaya_tables.specs.declared.node.Node.{Node}
-use Rattle.papaya_tables.specs.declared.resize_mode.ResizeMode.{ResizeMode}
-use Rattle.papaya_raw.specs.declared.machines.answer.Called.{Called}
-use Rattle.papaya_raw.specs.declared.machines.answer.Called.TheVariants as called
-use Rattle.papaya_rule.specs.InWorld.{Moved}
-use Rattle.papaya_rule.specs.Maps.{spot_of}
-use Rattle.papaya_rule.specs.Rule.{Rule}
-use Rattle.papaya_resize.specs.declared.outcome.Outcome.{Outcome}
-use Rattle.papaya_resize.specs.declared.outcome.Outcome.TheVariants as outcome
-use Rattle.papaya_reserves.specs.declared.reserve.Reserving.{Reserving}
-use Rattle.papaya_reserves.specs.declared.reserve.Reserving.TheVariants as reserving
+use Rattle.papaya_late.specs.Given.Seize.World.{with_at}
+use Rattle.papaya_late.specs.Given.Resize.CopierPromotes.{table_retired}
+use Rattle.papaya_late.specs.Given.Resize.CopierStates.{standing}
+use Rattle.papaya_late.specs.Given.Resize.declared.copier.Copier.{Copier}
+use Rattle.papaya_late.specs.Given.Resize.declared.copier.Copying.TheVariants as copies
+use Rattle.papaya_late.specs.Given.Raw.declared.machines.call.Calling.{Calling}
+use Rattle.papaya_late.specs.Given.Raw.declared.machines.call.Calling.TheVariants as at
+use Rattle.papaya_late.specs.Given.Points.Told.{IsRowOfCopier, IsRowOfCall}
+use Rattle.papaya_late.specs.Given.Rule.Chart.{Chart}
+use Rattle.papaya_late.specs.Given.Tables.Chunks.{is_incremental}
+use Rattle.papaya_late.specs.Given.Tables.declared.node.Node.{Node}
+use Rattle.papaya_late.specs.Given.Tables.declared.resize_mode.ResizeMode.{ResizeMode}
+use Rattle.papaya_late.specs.Given.Raw.declared.machines.answer.Called.{Called}
+use Rattle.papaya_late.specs.Given.Raw.declared.machines.answer.Called.TheVariants as called
+use Rattle.papaya_late.specs.Given.Rule.InWorld.{Moved}
+use Rattle.papaya_late.specs.Given.Rule.Maps.{spot_of}
+use Rattle.papaya_late.specs.Given.Rule.Rule.{Rule}
+use Rattle.papaya_late.specs.Given.Resize.declared.outcome.Outcome.{Outcome}
+use Rattle.papaya_late.specs.Given.Resize.declared.outcome.Outcome.TheVariants as outcome
+use Rattle.papaya_late.specs.Given.Reserves.declared.reserve.Reserving.{Reserving}
+use Rattle.papaya_late.specs.Given.Reserves.declared.reserve.Reserving.TheVariants as reserving
 use Rattle.papaya_late.specs.ToldReserves.{IsRowOfReserve}
 use Rattle.papaya_callers.specs.Rooms.{CallForRoom, RoomClaims}
 use Rattle.papaya_callers.specs.Claims.{AreFew, IsToClaim, ClaimsFit, ClaimsBy}
-use Rattle.papaya_sweeps.specs.declared.sweep.Sweeping.{Sweeping}
-use Rattle.papaya_sweeps.specs.declared.sweep.Sweeping.TheVariants as sweeping
-use Rattle.papaya_sweeps.specs.declared.sweep.Swept.{Swept}
-use Rattle.papaya_sweeps.specs.declared.sweep.Swept.TheVariants as swept
+use Rattle.papaya_late.specs.Given.Sweeps.declared.sweep.Sweeping.{Sweeping}
+use Rattle.papaya_late.specs.Given.Sweeps.declared.sweep.Sweeping.TheVariants as sweeping
+use Rattle.papaya_late.specs.Given.Sweeps.declared.sweep.Swept.{Swept}
+use Rattle.papaya_late.specs.Given.Sweeps.declared.sweep.Swept.TheVariants as swept
 use Rattle.papaya_late.specs.ToldSweeps.{IsRowOfSweep}
 use Rattle.papaya_late.proofs.Swept.Sweeps.Stands.{IsQuiet}
 use Rattle.papaya_callers.specs.OverAll.{CallOverAll, SweepClaims}

@@ -2,21 +2,21 @@
 use Rattle.std.specs.Prelude.{◌≡◌, ◌≢◌, ℕ, ◌<◌, ◌≤◌, ltb, Bool, true, false, cond, Option, Some, None}
 use Rattle.std.proofs.Common.{refl, ap, sym, subst, ◌∙◌, inl, inr, arith}
 use Rattle.std.proofs.lemmas.Bool.Decides.{nat_tests}
-use Rattle.seize.specs.Law.{is_somewhere, reachable, holds}
-use Rattle.seize.specs.World.{World, Step, Steps', InUse, IsInside}
-use Rattle.seize_moves.proofs.State.Logs.{reached_held}
+use Rattle.papaya_late.specs.Given.Seize.Law.{is_somewhere, reachable, holds}
+use Rattle.papaya_late.specs.Given.Seize.World.{World, Step, Steps', InUse, IsInside}
+use Rattle.papaya_late.proofs.Given.SeizeMoves.State.Logs.{reached_held}
 use Rattle.seize_alone.proofs.Histories.Reached.{Reached}
 use Rattle.seize_alone.proofs.Histories.Uses.{inside_open}
-use Rattle.papaya_tables.specs.Chunks.{is_incremental}
-use Rattle.papaya_tables.specs.Nodes.{deferred_word}
-use Rattle.papaya_tables.specs.declared.node.Node.{Node}
-use Rattle.papaya_tables.specs.declared.setting.Setting.{Setting}
-use Rattle.papaya_rule.specs.Chart.{Phase, Holds, Chart}
-use Rattle.papaya_rule.specs.Words.{Blocks}
-use Rattle.papaya_rule.specs.InWorld.{IsReached, IsMapIn}
-use Rattle.papaya_rule.specs.Maps.{spot_of}
-use Rattle.papaya_rule.specs.Moments.{Moments}
-use Rattle.papaya_points.specs.Steps.{AreLawful}
+use Rattle.papaya_late.specs.Given.Tables.Chunks.{is_incremental}
+use Rattle.papaya_late.specs.Given.Tables.Nodes.{deferred_word}
+use Rattle.papaya_late.specs.Given.Tables.declared.node.Node.{Node}
+use Rattle.papaya_late.specs.Given.Tables.declared.setting.Setting.{Setting}
+use Rattle.papaya_late.specs.Given.Rule.Chart.{Phase, Holds, Chart}
+use Rattle.papaya_late.specs.Given.Rule.Words.{Blocks}
+use Rattle.papaya_late.specs.Given.Rule.InWorld.{IsReached, IsMapIn}
+use Rattle.papaya_late.specs.Given.Rule.Maps.{spot_of}
+use Rattle.papaya_late.specs.Given.Rule.Moments.{Moments}
+use Rattle.papaya_late.specs.Given.Points.Steps.{AreLawful}
 use Rattle.papaya_callers.proofs.Sights.Parts.{part_same}
 use Rattle.papaya_callers.specs.Kept.{IsWithin}
 use Rattle.papaya_callers.specs.Sights.{Sight, seen_by, IsSight}

@@ -2,21 +2,21 @@
 -- to know.
 use Rattle.std.specs.Prelude.{◌≡◌, ℕ, ◌<◌, cond, Bool, true, false}
 use Rattle.std.proofs.Common.{sym, subst, arith, refl}
-use Rattle.seize.specs.declared.rows.settle.Settle.{Settle}
-use Rattle.seize.specs.World.{World, Row, Use}
-use Rattle.papaya_tables.specs.Chunks.{is_incremental}
-use Rattle.papaya_tables.specs.declared.node.Node.{Node}
-use Rattle.papaya_tables.specs.declared.setting.Setting.{Setting}
-use Rattle.papaya_resize.specs.CopierPromotes as retiring
-use Rattle.papaya_resize.specs.CopierStates as copiers
-use Rattle.papaya_resize.specs.declared.copier.Copier.{Copier}
-use Rattle.papaya_resize.specs.declared.copier.Copying.TheVariants as copies
-use Rattle.papaya_rule.specs.Chart.{Chart}
-use Rattle.papaya_rule.specs.Words.{Blocks}
-use Rattle.papaya_rule.specs.InWorld.{IsMapIn}
-use Rattle.papaya_points.specs.FactsCopies.{CopierFacts}
-use Rattle.papaya_points.specs.FactsCopiesBlocking.{CopierFactsBlocking}
-use Rattle.papaya_points.specs.FactsDisposes.{IsToRetire}
+use Rattle.papaya_late.specs.Given.Seize.declared.rows.settle.Settle.{Settle}
+use Rattle.papaya_late.specs.Given.Seize.World.{World, Row, Use}
+use Rattle.papaya_late.specs.Given.Tables.Chunks.{is_incremental}
+use Rattle.papaya_late.specs.Given.Tables.declared.node.Node.{Node}
+use Rattle.papaya_late.specs.Given.Tables.declared.setting.Setting.{Setting}
+use Rattle.papaya_late.specs.Given.Resize.CopierPromotes as retiring
+use Rattle.papaya_late.specs.Given.Resize.CopierStates as copiers
+use Rattle.papaya_late.specs.Given.Resize.declared.copier.Copier.{Copier}
+use Rattle.papaya_late.specs.Given.Resize.declared.copier.Copying.TheVariants as copies
+use Rattle.papaya_late.specs.Given.Rule.Chart.{Chart}
+use Rattle.papaya_late.specs.Given.Rule.Words.{Blocks}
+use Rattle.papaya_late.specs.Given.Rule.InWorld.{IsMapIn}
+use Rattle.papaya_late.specs.Given.Points.FactsCopies.{CopierFacts}
+use Rattle.papaya_late.specs.Given.Points.FactsCopiesBlocking.{CopierFactsBlocking}
+use Rattle.papaya_late.specs.Given.Points.FactsDisposes.{IsToRetire}
 use Rattle.papaya_late.specs.LateCopies.{LateCopierFacts}
 use Rattle.papaya_late.specs.FactsReserves.{IsEnding, CopiesWhole}
 use Rattle.papaya_callers.proofs.Together.RetiresBlocking.{handed_over, copier_past, late_copier_past}

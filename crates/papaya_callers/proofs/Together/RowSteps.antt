@@ -1,41 +1,41 @@
 -- What one step of a retirement or of a deferral comes to among many callers.
 use Rattle.std.specs.Prelude.{◌/◌, ◌+◌, ◌≡◌, ◌≢◌, ℕ, Bool, Option}
 use Rattle.std.proofs.Common.{refl, ap, sym, subst, inl, inr}
-use Rattle.seize_words.specs.Mem.{Mem, Can, Took, value_at}
-use Rattle.seize_words.specs.Plan.{May, Steps}
-use Rattle.seize_words.proofs.OneOwner.Operations.{loaded, stored, exchanged}
-use Rattle.seize_words.specs.declared.fault.Fault.{Fault}
-use Rattle.seize_words.specs.declared.at.At.TheVariants.{Entry}
-use Rattle.seize.specs.declared.states.TheConstants.{LAST_SLOT, NEXT}
-use Rattle.seize.specs.declared.progress.Progress.{Progress}
-use Rattle.seize.specs.declared.progress.Progress.TheVariants as progress
-use Rattle.seize.specs.declared.rows.defer.Defer.{Defer}
-use Rattle.seize.specs.declared.rows.defer.Deferring.{Deferring}
-use Rattle.seize.specs.declared.rows.defer.Deferring.TheVariants as deferring
-use Rattle.seize.specs.declared.rows.settle.Settle.{Settle}
-use Rattle.seize.specs.declared.rows.settle.Settled.{Settled}
-use Rattle.seize.specs.declared.rows.settle.Settled.TheVariants as settled
-use Rattle.seize.specs.Defer as defer
-use Rattle.seize.specs.Settle.{settle_plan}
-use Rattle.seize.specs.World.{World, Row, Rests, Settles, Defers, Use, Vacant, Outside, Inside, Changing, Step, Happens, Steps', IsInside, one_less, with_at, settles_on, defers_on}
-use Rattle.seize_rule.proofs.Rows.Others.{with_here}
-use Rattle.seize_rule.proofs.World.Kept.{row_may}
+use Rattle.papaya_late.specs.Given.SeizeWords.Mem.{Mem, Can, Took, value_at}
+use Rattle.papaya_late.specs.Given.SeizeWords.Plan.{May, Steps}
+use Rattle.papaya_late.proofs.Given.SeizeWords.OneOwner.Operations.{loaded, stored, exchanged}
+use Rattle.papaya_late.specs.Given.SeizeWords.declared.fault.Fault.{Fault}
+use Rattle.papaya_late.specs.Given.SeizeWords.declared.at.At.TheVariants.{Entry}
+use Rattle.papaya_late.specs.Given.Seize.declared.states.TheConstants.{LAST_SLOT, NEXT}
+use Rattle.papaya_late.specs.Given.Seize.declared.progress.Progress.{Progress}
+use Rattle.papaya_late.specs.Given.Seize.declared.progress.Progress.TheVariants as progress
+use Rattle.papaya_late.specs.Given.Seize.declared.rows.defer.Defer.{Defer}
+use Rattle.papaya_late.specs.Given.Seize.declared.rows.defer.Deferring.{Deferring}
+use Rattle.papaya_late.specs.Given.Seize.declared.rows.defer.Deferring.TheVariants as deferring
+use Rattle.papaya_late.specs.Given.Seize.declared.rows.settle.Settle.{Settle}
+use Rattle.papaya_late.specs.Given.Seize.declared.rows.settle.Settled.{Settled}
+use Rattle.papaya_late.specs.Given.Seize.declared.rows.settle.Settled.TheVariants as settled
+use Rattle.papaya_late.specs.Given.Seize.Defer as defer
+use Rattle.papaya_late.specs.Given.Seize.Settle.{settle_plan}
+use Rattle.papaya_late.specs.Given.Seize.World.{World, Row, Rests, Settles, Defers, Use, Vacant, Outside, Inside, Changing, Step, Happens, Steps', IsInside, one_less, with_at, settles_on, defers_on}
+use Rattle.papaya_late.proofs.Given.SeizeRule.Rows.Others.{with_here}
+use Rattle.papaya_late.proofs.Given.SeizeRule.World.Kept.{row_may}
 use Rattle.seize_alone.proofs.Histories.Uses.{inside_kept}
-use Rattle.papaya_tables.specs.Nodes.{deferred_word}
-use Rattle.papaya_tables.specs.declared.node.Node.{Node}
-use Rattle.papaya_tables.specs.declared.setting.Setting.{Setting}
-use Rattle.papaya_raw.specs.declared.machines.call.KeyCall.{KeyCall}
-use Rattle.papaya_rule.specs.Chart.{Chart}
-use Rattle.papaya_rule.specs.Words.{Blocks}
-use Rattle.papaya_points.specs.Steps.{AreLawful}
-use Rattle.papaya_rule.proofs.World.Hands.{at_cases}
+use Rattle.papaya_late.specs.Given.Tables.Nodes.{deferred_word}
+use Rattle.papaya_late.specs.Given.Tables.declared.node.Node.{Node}
+use Rattle.papaya_late.specs.Given.Tables.declared.setting.Setting.{Setting}
+use Rattle.papaya_late.specs.Given.Raw.declared.machines.call.KeyCall.{KeyCall}
+use Rattle.papaya_late.specs.Given.Rule.Chart.{Chart}
+use Rattle.papaya_late.specs.Given.Rule.Words.{Blocks}
+use Rattle.papaya_late.specs.Given.Points.Steps.{AreLawful}
+use Rattle.papaya_late.proofs.Given.Rule.World.Hands.{at_cases}
 use Rattle.papaya_callers.specs.Sights.{Sight, seen_by}
 use Rattle.papaya_callers.specs.Together.{in_slot, CallOnKey, Ground, UnderWay, PutsWithin, IsReclaimed, Knows, Together}
 use Rattle.papaya_callers.proofs.Rows.Gives.{gives}
 use Rattle.papaya_callers.proofs.Together.Came.{came_reached}
 use Rattle.papaya_callers.proofs.Together.Rows.{part2, others_step, ground_row, puts2, knows_row, others_row}
-use Rattle.papaya_points.specs.Others.{OthersStep}
-use Rattle.papaya_rule.specs.InWorld.{IsMapIn}
+use Rattle.papaya_late.specs.Given.Points.Others.{OthersStep}
+use Rattle.papaya_late.specs.Given.Rule.InWorld.{IsMapIn}
 use Rattle.papaya_callers.proofs.Together.Fits.{Fits}
 
 -- the row after a step of a retirement, and of a deferral

@@ -12,44 +12,44 @@ use Rattle.papaya_callers.proofs.Asked.Stays.{Stays}
 use Rattle.papaya_callers.proofs.Once.Stays.{once_to}
 use Rattle.papaya_callers.proofs.Once.Steps.{once_after}
 use Rattle.papaya_callers.proofs.Once.LateSteps.{late_once_after}
-use Rattle.papaya_points.proofs.Values.Sought.{IsLook}
+use Rattle.papaya_late.proofs.Given.Points.Values.Sought.{IsLook}
 use Rattle.papaya_callers.proofs.Asked.Walks.{RoomsAt, rooms_at}
 use Rattle.papaya_callers.proofs.Since.Began.{so_since_on}
 use Rattle.papaya_callers.proofs.Since.Given.{GivenTo, fit_of, given_to}
 use Rattle.papaya_late.proofs.KindsKept.Laws.{calls_keep_their_kind}
 use Rattle.papaya_late.specs.Kinds.{ComesFit}
 use Rattle.papaya_callers.specs.Kind.{Kind}
-use Rattle.papaya_raw.specs.declared.machines.answer.KeyAnswer.TheVariants as answers
-use Rattle.seize_words.specs.declared.fault.Fault.{Fault}
-use Rattle.papaya_points.proofs.Values.Never.{never_asks_on}
+use Rattle.papaya_late.specs.Given.Raw.declared.machines.answer.KeyAnswer.TheVariants as answers
+use Rattle.papaya_late.specs.Given.SeizeWords.declared.fault.Fault.{Fault}
+use Rattle.papaya_late.proofs.Given.Points.Values.Never.{never_asks_on}
 use Rattle.std.specs.Prelude.{suc, ◌≡◌, ℕ, Bool, false, Option, Some}
 use Rattle.std.proofs.Common.{◌∙◌, arith, sym, subst, inl, inr}
-use Rattle.seize_words.specs.Mem.{Mem, Can, Took, value_at}
-use Rattle.seize_words.specs.Plan.{May, Steps}
-use Rattle.seize.specs.World.{World, Rests, IsInside, with_at}
-use Rattle.papaya_raw.specs.Call.{call_plan}
-use Rattle.papaya_rule.specs.InWorld.{IsMapIn, Went, IsFramed}
+use Rattle.papaya_late.specs.Given.SeizeWords.Mem.{Mem, Can, Took, value_at}
+use Rattle.papaya_late.specs.Given.SeizeWords.Plan.{May, Steps}
+use Rattle.papaya_late.specs.Given.Seize.World.{World, Rests, IsInside, with_at}
+use Rattle.papaya_late.specs.Given.Raw.Call.{call_plan}
+use Rattle.papaya_late.specs.Given.Rule.InWorld.{IsMapIn, Went, IsFramed}
 use Rattle.papaya_callers.specs.Together.{UnderWay, CallOnKey, OnKey, ClaimsInto, next_of, in_slot, StayFew, Knows, Stands, Together, StepTold, Fresh, Late, change_told, StepsTogether, CallsStandTogether, AnswersOnce, RefusesOnce}
-use Rattle.papaya_tables.specs.Chunks.{is_incremental}
-use Rattle.papaya_tables.specs.declared.node.Node.{Node}
-use Rattle.papaya_tables.specs.declared.setting.Setting.{Setting}
-use Rattle.papaya_raw.specs.declared.machines.answer.KeyAnswer.{KeyAnswer}
-use Rattle.papaya_raw.specs.declared.machines.answer.Called.{Called}
-use Rattle.papaya_raw.specs.declared.machines.answer.Called.TheVariants as called
-use Rattle.papaya_raw.specs.declared.machines.call.KeyCall.{KeyCall}
-use Rattle.papaya_rule.specs.Chart.{Chart}
-use Rattle.papaya_rule.specs.Words.{Blocks}
-use Rattle.papaya_rule.specs.Moments.{Moments, Remembers}
-use Rattle.papaya_points.specs.FactsCalls.{Change, Unchanged, CallFacts}
-use Rattle.papaya_points.specs.Told.{HasAnswered, CallTold, IsRowOfCall}
-use Rattle.papaya_points.specs.Steps.{AreLawful}
-use Rattle.papaya_rule.specs.Lasts.{Lasts}
-use Rattle.papaya_rule.proofs.World.WentTold.{went_as}
+use Rattle.papaya_late.specs.Given.Tables.Chunks.{is_incremental}
+use Rattle.papaya_late.specs.Given.Tables.declared.node.Node.{Node}
+use Rattle.papaya_late.specs.Given.Tables.declared.setting.Setting.{Setting}
+use Rattle.papaya_late.specs.Given.Raw.declared.machines.answer.KeyAnswer.{KeyAnswer}
+use Rattle.papaya_late.specs.Given.Raw.declared.machines.answer.Called.{Called}
+use Rattle.papaya_late.specs.Given.Raw.declared.machines.answer.Called.TheVariants as called
+use Rattle.papaya_late.specs.Given.Raw.declared.machines.call.KeyCall.{KeyCall}
+use Rattle.papaya_late.specs.Given.Rule.Chart.{Chart}
+use Rattle.papaya_late.specs.Given.Rule.Words.{Blocks}
+use Rattle.papaya_late.specs.Given.Rule.Moments.{Moments, Remembers}
+use Rattle.papaya_late.specs.Given.Points.FactsCalls.{Change, Unchanged, CallFacts}
+use Rattle.papaya_late.specs.Given.Points.Told.{HasAnswered, CallTold, IsRowOfCall}
+use Rattle.papaya_late.specs.Given.Points.Steps.{AreLawful}
+use Rattle.papaya_late.specs.Given.Rule.Lasts.{Lasts}
+use Rattle.papaya_late.proofs.Given.Rule.World.WentTold.{went_as}
 use Rattle.papaya_late.specs.LateCalls.{LateCallFacts}
 use Rattle.papaya_late.specs.LateTold.{LateTold}
 use Rattle.papaya_late.proofs.Calls.Points.{late_calls_keep_the_map}
 use Rattle.papaya_late.proofs.Copiers.Points.{late_copiers_keep_the_map}
-use Rattle.papaya_rule.specs.Maps.{spot_of}
+use Rattle.papaya_late.specs.Given.Rule.Maps.{spot_of}
 use Rattle.papaya_callers.specs.Since.{SoSince, Since}
 use Rattle.papaya_callers.specs.Sights.{Sight, seen_by}
 use Rattle.papaya_late.proofs.Known.Steps.{lasts_went, others_step}
@@ -59,7 +59,7 @@ use Rattle.papaya_callers.proofs.Claims.Promised.{claims_by}
 use Rattle.papaya_callers.proofs.Together.FactsOn.{KnowsOfCall}
 use Rattle.papaya_callers.proofs.Together.Fits.{Fits, fits_some, fits_none, knows_on}
 use Rattle.papaya_callers.proofs.Together.Told.{KnowsAfter, since_told, answers_told, refuses_told, after_told, beside_told}
-use Rattle.papaya_points.proofs.Calls.StepsTold.{calls_keep_the_map}
+use Rattle.papaya_late.proofs.Given.Points.Calls.StepsTold.{calls_keep_the_map}
 
 module _ {K V Q : Type 0} (same : K → K → Bool) (hash : K → ℕ) (asks : Q → K → Bool) (setting : Setting) (slot : ℕ → ℕ) where
   abbrev Stand : World (Node K V) → Chart K → Blocks → (ℕ → Sight) → (ℕ → Option (UnderWay K V Q)) → Type 0

@@ -1,15 +1,15 @@
 -- Calls of many callers stand together, whoever takes the next step of a row within its call.
 use Rattle.std.specs.Prelude.{ℕ, Bool}
 use Rattle.std.proofs.Common.{ap, subst, sym, ◌∙◌, inl, inr}
-use Rattle.seize_words.specs.Mem.{Mem, Can, Took, value_at}
-use Rattle.seize_words.specs.Plan.{May, Steps}
-use Rattle.papaya_tables.specs.Nodes.{deferred_word}
-use Rattle.papaya_tables.specs.declared.node.Node.{Node}
-use Rattle.papaya_tables.specs.declared.setting.Setting.{Setting}
-use Rattle.seize_rule.proofs.Rows.Teams.{shares}
-use Rattle.papaya_raw.specs.Call.{call_plan}
-use Rattle.papaya_raw.specs.declared.machines.answer.Called.{Called}
-use Rattle.papaya_raw.specs.declared.machines.call.KeyCall.{KeyCall}
+use Rattle.papaya_late.specs.Given.SeizeWords.Mem.{Mem, Can, Took, value_at}
+use Rattle.papaya_late.specs.Given.SeizeWords.Plan.{May, Steps}
+use Rattle.papaya_late.specs.Given.Tables.Nodes.{deferred_word}
+use Rattle.papaya_late.specs.Given.Tables.declared.node.Node.{Node}
+use Rattle.papaya_late.specs.Given.Tables.declared.setting.Setting.{Setting}
+use Rattle.papaya_late.proofs.Given.SeizeRule.Rows.Teams.{shares}
+use Rattle.papaya_late.specs.Given.Raw.Call.{call_plan}
+use Rattle.papaya_late.specs.Given.Raw.declared.machines.answer.Called.{Called}
+use Rattle.papaya_late.specs.Given.Raw.declared.machines.call.KeyCall.{KeyCall}
 use Rattle.papaya_callers.specs.Sights.{seen_by}
 use Rattle.papaya_callers.specs.Together.{OnKey, HasCall, Stands, RowStepsTogether, RowsStandTogether}
 use Rattle.papaya_callers.specs.Rows.{row_of}

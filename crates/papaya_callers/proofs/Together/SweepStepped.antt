@@ -1,33 +1,33 @@
 -- A walk, a clearing or a retaining that stands at a row of the collector begins it, and takes each step of it: all stand together.
 use Rattle.std.specs.Prelude.{◌≡◌, ℕ, Bool, Option}
 use Rattle.std.proofs.Common.{ap, sym, subst, ◌∙◌, inl, inr, refl}
-use Rattle.seize_words.specs.Mem.{Mem, Can, Took, value_at}
-use Rattle.seize_words.specs.Plan.{May, Steps}
-use Rattle.seize.specs.World.{World, Settles, Rests, IsInside}
-use Rattle.seize_rule.proofs.Rows.Teams.{shares}
-use Rattle.papaya_tables.specs.Nodes.{deferred_word}
-use Rattle.papaya_tables.specs.declared.node.Node.{Node}
-use Rattle.papaya_tables.specs.declared.setting.Setting.{Setting}
-use Rattle.papaya_resize.specs.CopierPromotes as retiring
-use Rattle.papaya_resize.specs.CopierStates as copiers
-use Rattle.papaya_resize.specs.Dispose as dispose
-use Rattle.papaya_resize.specs.declared.copier.Copier.{Copier}
-use Rattle.papaya_resize.specs.declared.copier.Copying.{Copying}
-use Rattle.papaya_resize.specs.declared.copier.Copying.TheVariants as copies
-use Rattle.papaya_resize.specs.declared.dispose.Dispose.{Dispose}
-use Rattle.papaya_resize.specs.declared.dispose.Disposing.{Disposing}
-use Rattle.papaya_resize.specs.declared.dispose.Disposing.TheVariants as disposes
-use Rattle.seize.specs.declared.rows.settle.Settle.{Settle}
-use Rattle.papaya_sweeps.specs.Sweep.{sweep_plan}
-use Rattle.papaya_sweeps.specs.SweepPoints.{standing}
-use Rattle.papaya_sweeps.specs.declared.sweep.Sweep.{Sweep}
-use Rattle.papaya_sweeps.specs.declared.sweep.Sweeping.{Sweeping}
-use Rattle.papaya_sweeps.specs.declared.sweep.Sweeping.TheVariants as at
-use Rattle.papaya_sweeps.specs.declared.sweep.Swept.{Swept}
-use Rattle.papaya_rule.specs.Chart.{Chart}
-use Rattle.papaya_rule.specs.Words.{Blocks}
-use Rattle.papaya_points.specs.Told.{IsRowOf}
-use Rattle.papaya_points.specs.Steps.{AreLawful}
+use Rattle.papaya_late.specs.Given.SeizeWords.Mem.{Mem, Can, Took, value_at}
+use Rattle.papaya_late.specs.Given.SeizeWords.Plan.{May, Steps}
+use Rattle.papaya_late.specs.Given.Seize.World.{World, Settles, Rests, IsInside}
+use Rattle.papaya_late.proofs.Given.SeizeRule.Rows.Teams.{shares}
+use Rattle.papaya_late.specs.Given.Tables.Nodes.{deferred_word}
+use Rattle.papaya_late.specs.Given.Tables.declared.node.Node.{Node}
+use Rattle.papaya_late.specs.Given.Tables.declared.setting.Setting.{Setting}
+use Rattle.papaya_late.specs.Given.Resize.CopierPromotes as retiring
+use Rattle.papaya_late.specs.Given.Resize.CopierStates as copiers
+use Rattle.papaya_late.specs.Given.Resize.Dispose as dispose
+use Rattle.papaya_late.specs.Given.Resize.declared.copier.Copier.{Copier}
+use Rattle.papaya_late.specs.Given.Resize.declared.copier.Copying.{Copying}
+use Rattle.papaya_late.specs.Given.Resize.declared.copier.Copying.TheVariants as copies
+use Rattle.papaya_late.specs.Given.Resize.declared.dispose.Dispose.{Dispose}
+use Rattle.papaya_late.specs.Given.Resize.declared.dispose.Disposing.{Disposing}
+use Rattle.papaya_late.specs.Given.Resize.declared.dispose.Disposing.TheVariants as disposes
+use Rattle.papaya_late.specs.Given.Seize.declared.rows.settle.Settle.{Settle}
+use Rattle.papaya_late.specs.Given.Sweeps.Sweep.{sweep_plan}
+use Rattle.papaya_late.specs.Given.Sweeps.SweepPoints.{standing}
+use Rattle.papaya_late.specs.Given.Sweeps.declared.sweep.Sweep.{Sweep}
+use Rattle.papaya_late.specs.Given.Sweeps.declared.sweep.Sweeping.{Sweeping}
+use Rattle.papaya_late.specs.Given.Sweeps.declared.sweep.Sweeping.TheVariants as at
+use Rattle.papaya_late.specs.Given.Sweeps.declared.sweep.Swept.{Swept}
+use Rattle.papaya_late.specs.Given.Rule.Chart.{Chart}
+use Rattle.papaya_late.specs.Given.Rule.Words.{Blocks}
+use Rattle.papaya_late.specs.Given.Points.Told.{IsRowOf}
+use Rattle.papaya_late.specs.Given.Points.Steps.{AreLawful}
 use Rattle.papaya_late.specs.FactsSweeps.{CopiesTable}
 use Rattle.papaya_late.specs.ToldSweeps.{IsRowOfSweep}
 use Rattle.papaya_callers.specs.OverAll.{CallOverAll, row_of_sweep, past_sweeping}

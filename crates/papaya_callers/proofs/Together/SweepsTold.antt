@@ -1,19 +1,19 @@
 -- A sweep among the calls on its map is asked for the next pair, or told whether to keep a pair: all stand together.
 use Rattle.std.specs.Prelude.{◌≡◌, ℕ, Bool, true, false, nat_lt, List, ◌∷◌, Option, Some, None, cond, if◌then◌else◌}
 use Rattle.std.proofs.Common.{◌∙◌, ap, refl, sym, subst, inl, inr}
-use Rattle.seize.specs.World.{World, Rests, with_at}
-use Rattle.seize_rule.proofs.Rows.Leaving.{with_same}
-use Rattle.papaya_tables.specs.declared.node.Node.{Node}
-use Rattle.papaya_tables.specs.declared.setting.Setting.{Setting}
-use Rattle.papaya_sweeps.specs.SweepPoints.{next_at, reply_at, standing, further}
-use Rattle.papaya_sweeps.specs.declared.sweep.Purpose.{Purpose}
-use Rattle.papaya_sweeps.specs.declared.sweep.Sweep.{Sweep}
-use Rattle.papaya_sweeps.specs.declared.sweep.Sweeping.{Sweeping}
-use Rattle.papaya_sweeps.specs.declared.sweep.Sweeping.TheVariants as at
-use Rattle.papaya_rule.specs.Chart.{Chart}
-use Rattle.papaya_rule.specs.Words.{Blocks}
-use Rattle.papaya_rule.specs.InWorld.{IsMapIn}
-use Rattle.papaya_points.specs.Steps.{AreLawful}
+use Rattle.papaya_late.specs.Given.Seize.World.{World, Rests, with_at}
+use Rattle.papaya_late.proofs.Given.SeizeRule.Rows.Leaving.{with_same}
+use Rattle.papaya_late.specs.Given.Tables.declared.node.Node.{Node}
+use Rattle.papaya_late.specs.Given.Tables.declared.setting.Setting.{Setting}
+use Rattle.papaya_late.specs.Given.Sweeps.SweepPoints.{next_at, reply_at, standing, further}
+use Rattle.papaya_late.specs.Given.Sweeps.declared.sweep.Purpose.{Purpose}
+use Rattle.papaya_late.specs.Given.Sweeps.declared.sweep.Sweep.{Sweep}
+use Rattle.papaya_late.specs.Given.Sweeps.declared.sweep.Sweeping.{Sweeping}
+use Rattle.papaya_late.specs.Given.Sweeps.declared.sweep.Sweeping.TheVariants as at
+use Rattle.papaya_late.specs.Given.Rule.Chart.{Chart}
+use Rattle.papaya_late.specs.Given.Rule.Words.{Blocks}
+use Rattle.papaya_late.specs.Given.Rule.InWorld.{IsMapIn}
+use Rattle.papaya_late.specs.Given.Points.Steps.{AreLawful}
 use Rattle.papaya_late.specs.Covers.{NamesPair, CoversAt}
 use Rattle.papaya_late.specs.CoversSweeps.{DoneReplied}
 use Rattle.papaya_late.specs.FactsSweeps.{CopiesPairs, SweepFacts}

@@ -1,16 +1,16 @@
 -- What users do leaves rows and slots as they are, and keeps all that is kept.
 use Rattle.std.specs.Prelude.{Some}
 use Rattle.std.proofs.Common.{◌≡◌, ℕ, List, [], ◌∷◌, ap, sym, subst, ◌∙◌, inl, inr}
-use Rattle.seize_words.specs.Mem.{value_at}
-use Rattle.seize.specs.World.{World, Use, Event, Runs, IsInside}
-use Rattle.seize_moves.proofs.State.Logs.{reached_held}
-use Rattle.seize_rule.proofs.Rows.Others.{users_rows}
+use Rattle.papaya_late.specs.Given.SeizeWords.Mem.{value_at}
+use Rattle.papaya_late.specs.Given.Seize.World.{World, Use, Event, Runs, IsInside}
+use Rattle.papaya_late.proofs.Given.SeizeMoves.State.Logs.{reached_held}
+use Rattle.papaya_late.proofs.Given.SeizeRule.Rows.Others.{users_rows}
 use Rattle.seize_alone.proofs.Histories.Reached.{Reached, runs_reached}
 use Rattle.seize_alone.proofs.Histories.Uses.{inside_open}
 use Rattle.seize_alone.proofs.Histories.UsersTurn.{users_between, users_uses}
-use Rattle.papaya_tables.specs.Nodes.{deferred_word}
-use Rattle.papaya_tables.specs.declared.node.Node.{Node}
-use Rattle.papaya_rule.specs.InWorld.{AllUsers}
+use Rattle.papaya_late.specs.Given.Tables.Nodes.{deferred_word}
+use Rattle.papaya_late.specs.Given.Tables.declared.node.Node.{Node}
+use Rattle.papaya_late.specs.Given.Rule.InWorld.{AllUsers}
 use Rattle.papaya_callers.specs.Kept.{IsKeptBy}
 use Rattle.papaya_callers.proofs.Rows.Users.{events_hold, own_not_handed, events_not_handed, own_there}
 

@@ -7,10 +7,10 @@ use Rattle.seize_words.specs.Plan.{May, Steps}
 use Rattle.seize_alone.specs.Alone.{History}
 use Rattle.seize.specs.declared.progress.Progress.{Progress}
 use Rattle.seize.specs.declared.progress.Progress.TheVariants as progress
-use Rattle.papaya_resize.specs.NewMap.{new_map_plan}
-use Rattle.papaya_tables.specs.declared.node.Node.{Node}
-use Rattle.papaya_tables.specs.declared.setting.Setting.{Setting}
-use Rattle.papaya_resize.specs.declared.new_map.NewMap.{NewMap}
+use Rattle.papaya_maps.specs.Given.Resize.NewMap.{new_map_plan}
+use Rattle.papaya_maps.specs.Given.Tables.declared.node.Node.{Node}
+use Rattle.papaya_maps.specs.Given.Tables.declared.setting.Setting.{Setting}
+use Rattle.papaya_maps.specs.Given.Resize.declared.new_map.NewMap.{NewMap}
 use Rattle.papaya_maps.specs.AloneBegins.{IsOpening, OpensTo}
 use Rattle.papaya_maps.specs.MeasuresBegins.{new_map_left}
 use Rattle.papaya_maps.specs.FaultsBegins.{NeedsMemoryAlone, NeedsOn}

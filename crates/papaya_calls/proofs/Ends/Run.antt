@@ -6,7 +6,7 @@ use Rattle.seize_alone.specs.Alone.{History, ended_owner}
 use Rattle.seize.specs.declared.rows.settle.Settled.{Settled}
 use Rattle.seize.specs.declared.rows.settle.Settled.TheVariants as settled
 use Rattle.papaya_raw.specs.EndMap.{end_map_plan}
-use Rattle.papaya_tables.specs.declared.node.Node.{Node}
+use Rattle.papaya_maps.specs.Given.Tables.declared.node.Node.{Node}
 use Rattle.papaya_raw.specs.declared.machines.end_map.EndMap.{EndMap}
 use Rattle.papaya_maps.specs.AloneEnds.{IsEnding, EndsTo}
 use Rattle.papaya_maps.specs.EndingsEnds.{HasMore}

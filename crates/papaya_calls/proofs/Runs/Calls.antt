@@ -4,22 +4,22 @@ use Rattle.std.proofs.Common.{◌≡◌, ◌≤◌, ℕ, Bool, List, [], ◌∷�
 use Rattle.seize_words.specs.Mem.{Mem, Can, Took, value_at}
 use Rattle.seize_words.specs.Plan.{May, Steps}
 use Rattle.papaya_raw.specs.Call.{call_plan}
-use Rattle.papaya_tables.specs.declared.node.Node.{Node}
+use Rattle.papaya_maps.specs.Given.Tables.declared.node.Node.{Node}
 use Rattle.papaya_raw.specs.declared.machines.answer.KeyAnswer.{KeyAnswer}
 use Rattle.papaya_raw.specs.declared.machines.answer.Called.{Called}
 use Rattle.papaya_raw.specs.declared.machines.answer.Called.TheVariants as called
 use Rattle.papaya_raw.specs.declared.machines.call.KeyCall.{KeyCall}
 use Rattle.seize_alone.specs.Alone.{History}
 use Rattle.seize.specs.World.{World}
-use Rattle.papaya_rule.specs.Chart.{Chart}
-use Rattle.papaya_points.specs.FactsCalls.{Change, Unchanged}
-use Rattle.papaya_rule.specs.InWorld.{IsMapIn}
-use Rattle.papaya_rule.specs.Maps.{IsMap}
-use Rattle.papaya_rule.specs.Words.{Blocks}
-use Rattle.papaya_alone.specs.Alone.{HasChanged, HasEnded, IsUnderWay, Between, RetiresPair, DefersPair, RetiresTable, RetiresTables}
-use Rattle.papaya_alone.specs.LoneCalls.{IsUnderWayAlone, LeadsTo}
+use Rattle.papaya_maps.specs.Given.Rule.Chart.{Chart}
+use Rattle.papaya_maps.specs.Given.Points.FactsCalls.{Change, Unchanged}
+use Rattle.papaya_maps.specs.Given.Rule.InWorld.{IsMapIn}
+use Rattle.papaya_maps.specs.Given.Rule.Maps.{IsMap}
+use Rattle.papaya_maps.specs.Given.Rule.Words.{Blocks}
+use Rattle.papaya_maps.specs.Given.Alone.Alone.{HasChanged, HasEnded, IsUnderWay, Between, RetiresPair, DefersPair, RetiresTable, RetiresTables}
+use Rattle.papaya_maps.specs.Given.Alone.LoneCalls.{IsUnderWayAlone, LeadsTo}
 use Rattle.papaya_maps.specs.Spares.{KeepsOthers}
-use Rattle.papaya_alone.proofs.Laws.{calls_go_on, calls_go_on_lone}
+use Rattle.papaya_maps.proofs.Given.Alone.Laws.{calls_go_on, calls_go_on_lone}
 use Rattle.papaya_maps.proofs.Laws.{calls_spare_other_maps}
 use Rattle.papaya_calls.specs.Running.{Begun, MayRun, EndsAs}
 use Rattle.papaya_shown.specs.Shown.{Stands}

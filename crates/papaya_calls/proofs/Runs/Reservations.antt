@@ -6,21 +6,21 @@ use Rattle.seize_words.specs.declared.fault.Fault.{Fault}
 use Rattle.seize_words.specs.Plan.{May, Steps}
 use Rattle.seize_alone.specs.Alone.{History}
 use Rattle.seize.specs.World.{World}
-use Rattle.papaya_reserves.specs.Reserve.{needed, reserve_plan}
-use Rattle.papaya_tables.specs.declared.node.Node.{Node}
-use Rattle.papaya_resize.specs.declared.outcome.Outcome.{Outcome}
-use Rattle.papaya_resize.specs.declared.outcome.Outcome.TheVariants as outcome
-use Rattle.papaya_reserves.specs.declared.reserve.Reserve.{Reserve}
-use Rattle.papaya_rule.specs.InWorld.{IsMapIn}
-use Rattle.papaya_rule.specs.Chart.{Chart}
-use Rattle.papaya_rule.specs.Maps.{IsMap}
-use Rattle.papaya_rule.specs.Words.{Blocks}
+use Rattle.papaya_maps.specs.Given.Reserves.Reserve.{needed, reserve_plan}
+use Rattle.papaya_maps.specs.Given.Tables.declared.node.Node.{Node}
+use Rattle.papaya_maps.specs.Given.Resize.declared.outcome.Outcome.{Outcome}
+use Rattle.papaya_maps.specs.Given.Resize.declared.outcome.Outcome.TheVariants as outcome
+use Rattle.papaya_maps.specs.Given.Reserves.declared.reserve.Reserve.{Reserve}
+use Rattle.papaya_maps.specs.Given.Rule.InWorld.{IsMapIn}
+use Rattle.papaya_maps.specs.Given.Rule.Chart.{Chart}
+use Rattle.papaya_maps.specs.Given.Rule.Maps.{IsMap}
+use Rattle.papaya_maps.specs.Given.Rule.Words.{Blocks}
 use Rattle.papaya_maps.specs.AloneReserves.{HasReserved, IsReserving, Between, RetiresTable}
 use Rattle.papaya_maps.specs.LoneReserves.{IsReservingAlone, LeadsTo}
 use Rattle.papaya_maps.specs.Spares.{KeepsOthers}
 use Rattle.papaya_maps.proofs.Laws.{reservations_go_on, reservations_go_on_lone, reservations_spare_other_maps}
-use Rattle.papaya_late.specs.Faults.{RoomInReserving, RefusesRoom}
-use Rattle.papaya_late.proofs.KindsKept.Laws.{reserves_refuse_room, reserves_ask_on}
+use Rattle.papaya_maps.specs.Given.Late.Faults.{RoomInReserving, RefusesRoom}
+use Rattle.papaya_maps.proofs.Given.Late.KindsKept.Laws.{reserves_refuse_room, reserves_ask_on}
 use Rattle.papaya_calls.specs.RunningReserves.{BegunReserve, MayReserve, RunsReserve}
 use Rattle.papaya_shown.specs.Shown.{Stands}
 use Rattle.papaya_calls.proofs.Runs.Calls.{others_twice}

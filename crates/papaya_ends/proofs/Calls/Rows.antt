@@ -1,42 +1,42 @@
 -- The rows of the collector that a call begins come to their ends, alone, and with them the call does, or it goes on.
 use Rattle.std.proofs.Common.{◌≡◌, ℕ, zero, suc, ◌<◌, ◌^◌, Bool, true, List, [], ◌∷◌, ◌++◌, ◌⊎◌, inl, inr, refl, ap, sym, subst, ◌∙◌, arith}
-use Rattle.seize_words.specs.Mem.{Mem, Took, value_at}
-use Rattle.seize_words.specs.Plan.{Steps}
-use Rattle.seize_alone.specs.declared.calls.WholeCall.TheVariants as row_call
-use Rattle.seize.specs.declared.progress.Progress.{Progress}
-use Rattle.seize.specs.declared.progress.Progress.TheVariants as progress
-use Rattle.seize.specs.declared.rows.defer.Defer.{Defer}
-use Rattle.seize.specs.declared.rows.settle.Settle.{Settle}
-use Rattle.seize.specs.declared.rows.settle.Settled.{Settled}
-use Rattle.seize.specs.declared.rows.settle.Settled.TheVariants as settled
-use Rattle.seize.specs.Defer.{defer_plan}
-use Rattle.seize.specs.Settle.{settle_plan}
-use Rattle.seize.specs.World.{Retire, IsInside}
-use Rattle.seize_alone.specs.Alone.{History}
-use Rattle.seize_alone.proofs.Whole.Ends.{call_falls}
-use Rattle.seize_alone.proofs.Whole.Defer.{defer_told}
-use Rattle.seize_ends.proofs.Rows.Defer.{defer_to_go}
-use Rattle.seize_ends.proofs.Settling.Most.{is_going, settle_to_go}
-use Rattle.seize_rule.proofs.Rows.Leaving.{steps_back}
-use Rattle.papaya_tables.specs.Nodes.{deferred_word}
-use Rattle.papaya_raw.specs.Call.{call_plan, disposed}
-use Rattle.papaya_raw.specs.CallPoints.{standing}
-use Rattle.papaya_resize.specs.Dispose as dispose
-use Rattle.papaya_tables.specs.declared.node.Node.{Node}
-use Rattle.papaya_tables.specs.declared.setting.Setting.{Setting}
-use Rattle.papaya_raw.specs.declared.machines.answer.KeyAnswer.{KeyAnswer}
-use Rattle.papaya_raw.specs.declared.machines.answer.Called.{Called}
-use Rattle.papaya_raw.specs.declared.machines.call.KeyCall.{KeyCall}
-use Rattle.papaya_raw.specs.declared.machines.call.Calling.TheVariants as at
-use Rattle.papaya_resize.specs.declared.dispose.Dispose.{Dispose}
-use Rattle.papaya_resize.specs.declared.dispose.Disposing.TheVariants as disposes
-use Rattle.papaya_rule.specs.Chart.{Chart}
-use Rattle.papaya_rule.specs.Words.{Blocks}
-use Rattle.papaya_alone.specs.Alone.{IsRetiring, IsDeferring}
-use Rattle.papaya_alone.specs.Endings.{runs_end}
+use Rattle.papaya_maps.specs.Given.SeizeWords.Mem.{Mem, Took, value_at}
+use Rattle.papaya_maps.specs.Given.SeizeWords.Plan.{Steps}
+use Rattle.papaya_maps.specs.Given.SeizeAlone.declared.calls.WholeCall.TheVariants as row_call
+use Rattle.papaya_maps.specs.Given.Seize.declared.progress.Progress.{Progress}
+use Rattle.papaya_maps.specs.Given.Seize.declared.progress.Progress.TheVariants as progress
+use Rattle.papaya_maps.specs.Given.Seize.declared.rows.defer.Defer.{Defer}
+use Rattle.papaya_maps.specs.Given.Seize.declared.rows.settle.Settle.{Settle}
+use Rattle.papaya_maps.specs.Given.Seize.declared.rows.settle.Settled.{Settled}
+use Rattle.papaya_maps.specs.Given.Seize.declared.rows.settle.Settled.TheVariants as settled
+use Rattle.papaya_maps.specs.Given.Seize.Defer.{defer_plan}
+use Rattle.papaya_maps.specs.Given.Seize.Settle.{settle_plan}
+use Rattle.papaya_maps.specs.Given.Seize.World.{Retire, IsInside}
+use Rattle.papaya_maps.specs.Given.SeizeAlone.Alone.{History}
+use Rattle.papaya_maps.proofs.Given.SeizeAlone.Whole.Ends.{call_falls}
+use Rattle.papaya_maps.proofs.Given.SeizeAlone.Whole.Defer.{defer_told}
+use Rattle.papaya_maps.proofs.Given.SeizeEnds.Rows.Defer.{defer_to_go}
+use Rattle.papaya_maps.proofs.Given.SeizeEnds.Settling.Most.{is_going, settle_to_go}
+use Rattle.papaya_maps.proofs.Given.SeizeRule.Rows.Leaving.{steps_back}
+use Rattle.papaya_maps.specs.Given.Tables.Nodes.{deferred_word}
+use Rattle.papaya_maps.specs.Given.Raw.Call.{call_plan, disposed}
+use Rattle.papaya_maps.specs.Given.Raw.CallPoints.{standing}
+use Rattle.papaya_maps.specs.Given.Resize.Dispose as dispose
+use Rattle.papaya_maps.specs.Given.Tables.declared.node.Node.{Node}
+use Rattle.papaya_maps.specs.Given.Tables.declared.setting.Setting.{Setting}
+use Rattle.papaya_maps.specs.Given.Raw.declared.machines.answer.KeyAnswer.{KeyAnswer}
+use Rattle.papaya_maps.specs.Given.Raw.declared.machines.answer.Called.{Called}
+use Rattle.papaya_maps.specs.Given.Raw.declared.machines.call.KeyCall.{KeyCall}
+use Rattle.papaya_maps.specs.Given.Raw.declared.machines.call.Calling.TheVariants as at
+use Rattle.papaya_maps.specs.Given.Resize.declared.dispose.Dispose.{Dispose}
+use Rattle.papaya_maps.specs.Given.Resize.declared.dispose.Disposing.TheVariants as disposes
+use Rattle.papaya_maps.specs.Given.Rule.Chart.{Chart}
+use Rattle.papaya_maps.specs.Given.Rule.Words.{Blocks}
+use Rattle.papaya_maps.specs.Given.Alone.Alone.{IsRetiring, IsDeferring}
+use Rattle.papaya_maps.specs.Given.Alone.Endings.{runs_end}
 use Rattle.papaya_ends.specs.EndingsLone.{HasMore, ComesToAnEnd}
-use Rattle.papaya_alone.proofs.Rows.Defers.{deferring_told, here}
-use Rattle.papaya_alone.proofs.Rows.Retires.{RetiresTo, retiring_told}
+use Rattle.papaya_maps.proofs.Given.Alone.Rows.Defers.{deferring_told, here}
+use Rattle.papaya_maps.proofs.Given.Alone.Rows.Retires.{RetiresTo, retiring_told}
 
 module _ {K V Q : Type 0} (same : K → K → Bool) (hash : K → ℕ) (setting : Setting) (roots : ℕ) (asks : Q → K → Bool) (size : setting.batch_size < 2 ^ 64)
     (m : Mem (Node K V)) (h : History) (c : Chart K) (blocks : Blocks) (inside : IsInside (h.uses setting.slot)) where

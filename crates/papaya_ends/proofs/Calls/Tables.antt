@@ -1,45 +1,45 @@
 -- A call that is alone retires a table, and goes on: it comes to its end where a call with a lower number does.
 use Rattle.std.proofs.Common.{◌≡◌, ℕ, ◌*◌, ◌==◌, Bool, true, false, List, [], ◌∷◌, ◌++◌, ◌⊎◌, inl, inr, refl, ap, sym, subst, ◌∙◌, Option}
 use Rattle.std.specs.Prelude.{if◌then◌else◌}
-use Rattle.seize_words.specs.Mem.{Mem, Took, value_at}
-use Rattle.seize_words.specs.Plan.{Steps}
-use Rattle.seize.specs.declared.rows.settle.Settle.{Settle}
-use Rattle.seize.specs.declared.rows.settle.Settled.{Settled}
-use Rattle.seize.specs.declared.rows.settle.Settled.TheVariants as settled
-use Rattle.seize.specs.Settle.{retiring, settle_plan}
-use Rattle.seize.specs.WaitingSets.{Change as Waiting, Retires}
-use Rattle.seize_alone.specs.Alone.{History}
-use Rattle.seize_ends.proofs.Settling.Most.{is_going}
-use Rattle.seize_rule.proofs.Rows.Leaving.{steps_back}
-use Rattle.papaya_tables.specs.Nodes.{deferred_word}
-use Rattle.papaya_raw.specs.Call.{call_plan, helped, copied}
-use Rattle.papaya_raw.specs.CallPoints.{standing}
-use Rattle.papaya_tables.specs.Chunks.{is_incremental}
-use Rattle.papaya_resize.specs.Copier.{copier_plan}
-use Rattle.papaya_resize.specs.CopierPromotes.{table_retired, retired}
-use Rattle.papaya_resize.specs.CopierStates as copying
-use Rattle.papaya_tables.specs.declared.node.Node.{Node}
-use Rattle.papaya_tables.specs.declared.setting.Setting.{Setting}
-use Rattle.papaya_tables.specs.declared.table.Table.{Table}
-use Rattle.papaya_raw.specs.declared.machines.answer.Called.{Called}
-use Rattle.papaya_raw.specs.declared.machines.answer.Called.TheVariants as called
-use Rattle.papaya_raw.specs.declared.machines.call.KeyCall.{KeyCall}
-use Rattle.papaya_raw.specs.declared.machines.call.Calling.{Calling}
-use Rattle.papaya_raw.specs.declared.machines.call.Calling.TheVariants as at
-use Rattle.papaya_resize.specs.declared.copier.Copier.{Copier}
-use Rattle.papaya_resize.specs.declared.copier.Copying.TheVariants as copies
-use Rattle.papaya_rule.specs.Chart.{Chart}
-use Rattle.papaya_rule.specs.Words.{Blocks}
-use Rattle.papaya_points.specs.FactsCalls.{Change, Unchanged}
-use Rattle.papaya_points.specs.Measures.{IsBelow}
-use Rattle.papaya_points.specs.Told.{IsRowOfCopier, IsRowOfCall}
+use Rattle.papaya_maps.specs.Given.SeizeWords.Mem.{Mem, Took, value_at}
+use Rattle.papaya_maps.specs.Given.SeizeWords.Plan.{Steps}
+use Rattle.papaya_maps.specs.Given.Seize.declared.rows.settle.Settle.{Settle}
+use Rattle.papaya_maps.specs.Given.Seize.declared.rows.settle.Settled.{Settled}
+use Rattle.papaya_maps.specs.Given.Seize.declared.rows.settle.Settled.TheVariants as settled
+use Rattle.papaya_maps.specs.Given.Seize.Settle.{retiring, settle_plan}
+use Rattle.papaya_maps.specs.Given.Seize.WaitingSets.{Change as Waiting, Retires}
+use Rattle.papaya_maps.specs.Given.SeizeAlone.Alone.{History}
+use Rattle.papaya_maps.proofs.Given.SeizeEnds.Settling.Most.{is_going}
+use Rattle.papaya_maps.proofs.Given.SeizeRule.Rows.Leaving.{steps_back}
+use Rattle.papaya_maps.specs.Given.Tables.Nodes.{deferred_word}
+use Rattle.papaya_maps.specs.Given.Raw.Call.{call_plan, helped, copied}
+use Rattle.papaya_maps.specs.Given.Raw.CallPoints.{standing}
+use Rattle.papaya_maps.specs.Given.Tables.Chunks.{is_incremental}
+use Rattle.papaya_maps.specs.Given.Resize.Copier.{copier_plan}
+use Rattle.papaya_maps.specs.Given.Resize.CopierPromotes.{table_retired, retired}
+use Rattle.papaya_maps.specs.Given.Resize.CopierStates as copying
+use Rattle.papaya_maps.specs.Given.Tables.declared.node.Node.{Node}
+use Rattle.papaya_maps.specs.Given.Tables.declared.setting.Setting.{Setting}
+use Rattle.papaya_maps.specs.Given.Tables.declared.table.Table.{Table}
+use Rattle.papaya_maps.specs.Given.Raw.declared.machines.answer.Called.{Called}
+use Rattle.papaya_maps.specs.Given.Raw.declared.machines.answer.Called.TheVariants as called
+use Rattle.papaya_maps.specs.Given.Raw.declared.machines.call.KeyCall.{KeyCall}
+use Rattle.papaya_maps.specs.Given.Raw.declared.machines.call.Calling.{Calling}
+use Rattle.papaya_maps.specs.Given.Raw.declared.machines.call.Calling.TheVariants as at
+use Rattle.papaya_maps.specs.Given.Resize.declared.copier.Copier.{Copier}
+use Rattle.papaya_maps.specs.Given.Resize.declared.copier.Copying.TheVariants as copies
+use Rattle.papaya_maps.specs.Given.Rule.Chart.{Chart}
+use Rattle.papaya_maps.specs.Given.Rule.Words.{Blocks}
+use Rattle.papaya_maps.specs.Given.Points.FactsCalls.{Change, Unchanged}
+use Rattle.papaya_maps.specs.Given.Points.Measures.{IsBelow}
+use Rattle.papaya_maps.specs.Given.Points.Told.{IsRowOfCopier, IsRowOfCall}
 use Rattle.papaya_falls.specs.Calls.{number_of_call}
-use Rattle.papaya_alone.specs.FactsAloneCalls.{IsLone}
-use Rattle.papaya_alone.specs.Alone.{IsBetween, IsRetiring}
+use Rattle.papaya_maps.specs.Given.Alone.FactsAloneCalls.{IsLone}
+use Rattle.papaya_maps.specs.Given.Alone.Alone.{IsBetween, IsRetiring}
 use Rattle.papaya_ends.specs.EndingsLone.{ComesToAnEnd}
-use Rattle.papaya_alone.proofs.Rows.Retires.{HasRetired, retiring_told}
-use Rattle.papaya_alone.proofs.Rows.Tables.{ends as table_ended, lone_on}
-use Rattle.papaya_alone.proofs.Rows.TablesBlocking.{ended as tables_ended, lone_on as tables_lone}
+use Rattle.papaya_maps.proofs.Given.Alone.Rows.Retires.{HasRetired, retiring_told}
+use Rattle.papaya_maps.proofs.Given.Alone.Rows.Tables.{ends as table_ended, lone_on}
+use Rattle.papaya_maps.proofs.Given.Alone.Rows.TablesBlocking.{ended as tables_ended, lone_on as tables_lone}
 use Rattle.papaya_falls.proofs.Laws.{rows_fall}
 use Rattle.papaya_ends.proofs.Calls.Rows.{GoesBack, retiring_ends}
 

@@ -1,49 +1,49 @@
 -- A call that is alone comes to its end, whatever row of the collector it begins on the way.
 use Rattle.std.specs.Int.{IsPowerOfTwo}
 use Rattle.std.proofs.Common.{◌≡◌, ℕ, ◌*◌, ◌^◌, ◌<◌, Bool, List, [], length, inl, refl, ap, sym, subst, ◌∙◌, Option, Some, None}
-use Rattle.seize_words.specs.Mem.{Mem, Took, value_at}
-use Rattle.seize_words.specs.Plan.{Steps}
-use Rattle.seize.specs.Settle.{retiring}
-use Rattle.seize.specs.WaitingSets.{Change as Waiting}
-use Rattle.seize_alone.specs.Alone.{History, at_rest}
-use Rattle.papaya_tables.specs.Nodes.{deferred_word}
-use Rattle.papaya_raw.specs.CallPoints.{getting, removing, inserting, trying_to_insert}
-use Rattle.papaya_tables.specs.declared.node.Node.TheVariants as node
-use Rattle.papaya_raw.specs.Call.{call_plan, plan_at}
-use Rattle.papaya_tables.specs.Chunks.{is_incremental}
-use Rattle.papaya_tables.specs.declared.node.Node.{Node}
-use Rattle.papaya_tables.specs.declared.setting.Setting.{Setting}
-use Rattle.papaya_raw.specs.declared.machines.answer.Called.{Called}
-use Rattle.papaya_raw.specs.declared.machines.answer.Called.TheVariants as called
-use Rattle.papaya_raw.specs.declared.machines.answer.End.{End}
-use Rattle.papaya_raw.specs.declared.machines.answer.End.TheVariants as over
-use Rattle.papaya_raw.specs.declared.machines.call.KeyCall.{KeyCall}
-use Rattle.papaya_raw.specs.declared.machines.call.Calling.{Calling}
-use Rattle.papaya_raw.specs.declared.machines.call.Calling.TheVariants as at
-use Rattle.papaya_resize.specs.declared.copier.Copying.TheVariants as copies
-use Rattle.papaya_resize.specs.declared.dispose.Disposing.TheVariants as disposes
-use Rattle.papaya_rule.specs.Chart.{Chart}
-use Rattle.papaya_rule.specs.Rule.{Rule}
-use Rattle.papaya_rule.specs.Words.{Blocks}
-use Rattle.papaya_rule.specs.Maps.{spot_of, IsClass}
-use Rattle.papaya_points.specs.Steps.{AreLawful}
-use Rattle.papaya_points.specs.FactsCalls.{Change, Unchanged}
-use Rattle.papaya_points.specs.Told.{IsRowOfCall}
-use Rattle.papaya_points.specs.Measures.{IsBelow, EndsFrom, ends}
-use Rattle.papaya_points.proofs.Calls.StepsTold.{calls_begin}
+use Rattle.papaya_maps.specs.Given.SeizeWords.Mem.{Mem, Took, value_at}
+use Rattle.papaya_maps.specs.Given.SeizeWords.Plan.{Steps}
+use Rattle.papaya_maps.specs.Given.Seize.Settle.{retiring}
+use Rattle.papaya_maps.specs.Given.Seize.WaitingSets.{Change as Waiting}
+use Rattle.papaya_maps.specs.Given.SeizeAlone.Alone.{History, at_rest}
+use Rattle.papaya_maps.specs.Given.Tables.Nodes.{deferred_word}
+use Rattle.papaya_maps.specs.Given.Raw.CallPoints.{getting, removing, inserting, trying_to_insert}
+use Rattle.papaya_maps.specs.Given.Tables.declared.node.Node.TheVariants as node
+use Rattle.papaya_maps.specs.Given.Raw.Call.{call_plan, plan_at}
+use Rattle.papaya_maps.specs.Given.Tables.Chunks.{is_incremental}
+use Rattle.papaya_maps.specs.Given.Tables.declared.node.Node.{Node}
+use Rattle.papaya_maps.specs.Given.Tables.declared.setting.Setting.{Setting}
+use Rattle.papaya_maps.specs.Given.Raw.declared.machines.answer.Called.{Called}
+use Rattle.papaya_maps.specs.Given.Raw.declared.machines.answer.Called.TheVariants as called
+use Rattle.papaya_maps.specs.Given.Raw.declared.machines.answer.End.{End}
+use Rattle.papaya_maps.specs.Given.Raw.declared.machines.answer.End.TheVariants as over
+use Rattle.papaya_maps.specs.Given.Raw.declared.machines.call.KeyCall.{KeyCall}
+use Rattle.papaya_maps.specs.Given.Raw.declared.machines.call.Calling.{Calling}
+use Rattle.papaya_maps.specs.Given.Raw.declared.machines.call.Calling.TheVariants as at
+use Rattle.papaya_maps.specs.Given.Resize.declared.copier.Copying.TheVariants as copies
+use Rattle.papaya_maps.specs.Given.Resize.declared.dispose.Disposing.TheVariants as disposes
+use Rattle.papaya_maps.specs.Given.Rule.Chart.{Chart}
+use Rattle.papaya_maps.specs.Given.Rule.Rule.{Rule}
+use Rattle.papaya_maps.specs.Given.Rule.Words.{Blocks}
+use Rattle.papaya_maps.specs.Given.Rule.Maps.{spot_of, IsClass}
+use Rattle.papaya_maps.specs.Given.Points.Steps.{AreLawful}
+use Rattle.papaya_maps.specs.Given.Points.FactsCalls.{Change, Unchanged}
+use Rattle.papaya_maps.specs.Given.Points.Told.{IsRowOfCall}
+use Rattle.papaya_maps.specs.Given.Points.Measures.{IsBelow, EndsFrom, ends}
+use Rattle.papaya_maps.proofs.Given.Points.Calls.StepsTold.{calls_begin}
 use Rattle.papaya_falls.specs.Calls.{number_of_call}
-use Rattle.papaya_alone.specs.LoneCalls.{IsLoneCall}
-use Rattle.papaya_alone.specs.Alone.{IsBetween, IsUnderWay, Between, RetiresPair, DefersPair, RetiresTable, RetiresTables}
-use Rattle.papaya_alone.specs.Endings.{runs_end}
+use Rattle.papaya_maps.specs.Given.Alone.LoneCalls.{IsLoneCall}
+use Rattle.papaya_maps.specs.Given.Alone.Alone.{IsBetween, IsUnderWay, Between, RetiresPair, DefersPair, RetiresTable, RetiresTables}
+use Rattle.papaya_maps.specs.Given.Alone.Endings.{runs_end}
 use Rattle.papaya_ends.specs.EndingsLone.{HasMore, ComesToAnEnd, LoneCallsEnd, BegunCallsEnd}
-use Rattle.papaya_alone.proofs.Rows.Behind.{behind_begins}
-use Rattle.papaya_alone.proofs.Calls.Between.{OnTo, between_on}
-use Rattle.papaya_alone.proofs.Rows.Pairs.{pair_begins}
-use Rattle.papaya_alone.proofs.Rows.Tables.{table_begins}
-use Rattle.papaya_alone.proofs.Rows.TablesBlocking.{tables_begin}
-use Rattle.papaya_alone.proofs.Calls.Told.{NextRow, NoRow, OfPair, Behind, OfTable, OfTables, next_row, unchanged, pair_now, table_now, tables_now}
-use Rattle.papaya_alone.proofs.Calls.Rests.{between_first}
-use Rattle.papaya_points.proofs.Descents.{descents_end}
+use Rattle.papaya_maps.proofs.Given.Alone.Rows.Behind.{behind_begins}
+use Rattle.papaya_maps.proofs.Given.Alone.Calls.Between.{OnTo, between_on}
+use Rattle.papaya_maps.proofs.Given.Alone.Rows.Pairs.{pair_begins}
+use Rattle.papaya_maps.proofs.Given.Alone.Rows.Tables.{table_begins}
+use Rattle.papaya_maps.proofs.Given.Alone.Rows.TablesBlocking.{tables_begin}
+use Rattle.papaya_maps.proofs.Given.Alone.Calls.Told.{NextRow, NoRow, OfPair, Behind, OfTable, OfTables, next_row, unchanged, pair_now, table_now, tables_now}
+use Rattle.papaya_maps.proofs.Given.Alone.Calls.Rests.{between_first}
+use Rattle.papaya_maps.proofs.Given.Points.Descents.{descents_end}
 use Rattle.papaya_falls.proofs.Laws.{calls_fall, numbers_are_as_many}
 use Rattle.papaya_ends.proofs.Calls.Tables.{LoneAt, table_ends, tables_end}
 use Rattle.papaya_ends.proofs.Calls.Rows.{pair_ends, behind_ends}

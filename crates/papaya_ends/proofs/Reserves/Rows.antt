@@ -1,38 +1,38 @@
 -- The row by which a reservation retires a table comes to its end, alone, and with it the reservation does, if it does from there on.
 use Rattle.std.proofs.Common.{◌≡◌, ℕ, zero, suc, ◌*◌, ◌<◌, Bool, List, ◌∷◌, ◌++◌, [], refl, ap, sym, subst, ◌∙◌, arith}
-use Rattle.seize_words.specs.Mem.{Mem, Took, value_at}
-use Rattle.seize_words.specs.Plan.{Steps}
-use Rattle.seize_alone.specs.declared.calls.WholeCall.TheVariants as row_call
-use Rattle.seize.specs.declared.rows.settle.Settle.{Settle}
-use Rattle.seize.specs.declared.rows.settle.Settled.{Settled}
-use Rattle.seize.specs.declared.rows.settle.Settled.TheVariants as settled
-use Rattle.seize.specs.Settle.{retiring, settle_plan}
-use Rattle.seize.specs.World.{Retire}
-use Rattle.seize_alone.specs.Alone.{History}
-use Rattle.seize_alone.proofs.Whole.Ends.{call_falls}
-use Rattle.seize_ends.proofs.Settling.Most.{settle_to_go}
-use Rattle.seize_rule.proofs.Rows.Leaving.{steps_back}
-use Rattle.papaya_tables.specs.Nodes.{deferred_word}
-use Rattle.papaya_tables.specs.Chunks.{is_incremental}
-use Rattle.papaya_resize.specs.Copier.{copier_plan}
-use Rattle.papaya_resize.specs.CopierPromotes.{table_retired, retired}
-use Rattle.papaya_resize.specs.CopierStates as copying
-use Rattle.papaya_reserves.specs.Reserve.{standing, copied}
-use Rattle.papaya_tables.specs.declared.node.Node.{Node}
-use Rattle.papaya_resize.specs.declared.outcome.Outcome.{Outcome}
-use Rattle.papaya_tables.specs.declared.setting.Setting.{Setting}
-use Rattle.papaya_resize.specs.declared.copier.Copier.{Copier}
-use Rattle.papaya_resize.specs.declared.copier.Copying.TheVariants as copies
-use Rattle.papaya_reserves.specs.declared.reserve.Reserve.{Reserve}
-use Rattle.papaya_reserves.specs.declared.reserve.Reserving.TheVariants as at
-use Rattle.papaya_rule.specs.Chart.{Chart}
-use Rattle.papaya_rule.specs.Words.{Blocks}
-use Rattle.papaya_alone.specs.Alone.{IsRetiring}
+use Rattle.papaya_maps.specs.Given.SeizeWords.Mem.{Mem, Took, value_at}
+use Rattle.papaya_maps.specs.Given.SeizeWords.Plan.{Steps}
+use Rattle.papaya_maps.specs.Given.SeizeAlone.declared.calls.WholeCall.TheVariants as row_call
+use Rattle.papaya_maps.specs.Given.Seize.declared.rows.settle.Settle.{Settle}
+use Rattle.papaya_maps.specs.Given.Seize.declared.rows.settle.Settled.{Settled}
+use Rattle.papaya_maps.specs.Given.Seize.declared.rows.settle.Settled.TheVariants as settled
+use Rattle.papaya_maps.specs.Given.Seize.Settle.{retiring, settle_plan}
+use Rattle.papaya_maps.specs.Given.Seize.World.{Retire}
+use Rattle.papaya_maps.specs.Given.SeizeAlone.Alone.{History}
+use Rattle.papaya_maps.proofs.Given.SeizeAlone.Whole.Ends.{call_falls}
+use Rattle.papaya_maps.proofs.Given.SeizeEnds.Settling.Most.{settle_to_go}
+use Rattle.papaya_maps.proofs.Given.SeizeRule.Rows.Leaving.{steps_back}
+use Rattle.papaya_maps.specs.Given.Tables.Nodes.{deferred_word}
+use Rattle.papaya_maps.specs.Given.Tables.Chunks.{is_incremental}
+use Rattle.papaya_maps.specs.Given.Resize.Copier.{copier_plan}
+use Rattle.papaya_maps.specs.Given.Resize.CopierPromotes.{table_retired, retired}
+use Rattle.papaya_maps.specs.Given.Resize.CopierStates as copying
+use Rattle.papaya_maps.specs.Given.Reserves.Reserve.{standing, copied}
+use Rattle.papaya_maps.specs.Given.Tables.declared.node.Node.{Node}
+use Rattle.papaya_maps.specs.Given.Resize.declared.outcome.Outcome.{Outcome}
+use Rattle.papaya_maps.specs.Given.Tables.declared.setting.Setting.{Setting}
+use Rattle.papaya_maps.specs.Given.Resize.declared.copier.Copier.{Copier}
+use Rattle.papaya_maps.specs.Given.Resize.declared.copier.Copying.TheVariants as copies
+use Rattle.papaya_maps.specs.Given.Reserves.declared.reserve.Reserve.{Reserve}
+use Rattle.papaya_maps.specs.Given.Reserves.declared.reserve.Reserving.TheVariants as at
+use Rattle.papaya_maps.specs.Given.Rule.Chart.{Chart}
+use Rattle.papaya_maps.specs.Given.Rule.Words.{Blocks}
+use Rattle.papaya_maps.specs.Given.Alone.Alone.{IsRetiring}
 use Rattle.papaya_maps.specs.AloneReserves.{ReservesBetween}
-use Rattle.papaya_alone.specs.Endings.{runs_end}
+use Rattle.papaya_maps.specs.Given.Alone.Endings.{runs_end}
 use Rattle.papaya_maps.specs.EndingsReserves.{ComesToAnEnd}
 use Rattle.papaya_maps.specs.FactsAloneReserves.{IsLoneReserve}
-use Rattle.papaya_alone.proofs.Rows.Retires.{retiring_told}
+use Rattle.papaya_maps.proofs.Given.Alone.Rows.Retires.{retiring_told}
 use Rattle.papaya_maps.proofs.Reserves.Retires.{ends as table_ended, lone_on}
 
 module _ {K V : Type 0} (same : K → K → Bool) (hash : K → ℕ) (setting : Setting) (roots : ℕ) (mem0 : Mem (Node K V)) (h0 : History) (c0 : Chart K) (blocks0 : Blocks)

@@ -1,46 +1,46 @@
 -- A reservation that is alone comes to its end: each of its steps that goes on lowers its numbers, and each row that it begins ends.
 use Rattle.std.specs.Int.{IsPowerOfTwo}
 use Rattle.std.proofs.Common.{◌≡◌, ℕ, suc, ◌*◌, Bool, List, [], length, refl, ap, sym, subst, ◌∙◌}
-use Rattle.seize_words.specs.Mem.{Mem, Took, value_at}
-use Rattle.seize_words.specs.Plan.{Steps}
-use Rattle.seize.specs.Settle.{retiring}
-use Rattle.seize.specs.declared.rows.settle.Settle.{Settle}
-use Rattle.seize_alone.specs.Alone.{History, at_rest}
-use Rattle.papaya_tables.specs.Chunks.{is_incremental}
-use Rattle.papaya_resize.specs.CopierPromotes.{table_retired}
-use Rattle.papaya_resize.specs.CopierStates as copying
-use Rattle.papaya_tables.specs.Nodes.{deferred_word}
-use Rattle.papaya_reserves.specs.Reserve.{reserving, standing, reserve_plan}
-use Rattle.papaya_tables.specs.declared.node.Node.{Node}
-use Rattle.papaya_resize.specs.declared.outcome.Outcome.{Outcome}
-use Rattle.papaya_resize.specs.declared.outcome.Outcome.TheVariants as outcome
-use Rattle.papaya_tables.specs.declared.setting.Setting.{Setting}
-use Rattle.papaya_resize.specs.declared.copier.Copier.{Copier}
-use Rattle.papaya_resize.specs.declared.copier.Copying.TheVariants as copies
-use Rattle.papaya_reserves.specs.declared.reserve.Reserve.{Reserve}
-use Rattle.papaya_reserves.specs.declared.reserve.Reserving.{Reserving}
-use Rattle.papaya_reserves.specs.declared.reserve.Reserving.TheVariants as at
-use Rattle.papaya_rule.specs.Chart.{Chart}
-use Rattle.papaya_rule.specs.InWorld.{SameBlocks}
-use Rattle.papaya_rule.specs.Lasts.{Lasts}
-use Rattle.papaya_rule.specs.Maps.{spot_of}
-use Rattle.papaya_rule.specs.Words.{Blocks}
-use Rattle.papaya_points.specs.Steps.{AreLawful}
-use Rattle.papaya_points.specs.Measures.{IsBelow, EndsFrom, ends}
+use Rattle.papaya_maps.specs.Given.SeizeWords.Mem.{Mem, Took, value_at}
+use Rattle.papaya_maps.specs.Given.SeizeWords.Plan.{Steps}
+use Rattle.papaya_maps.specs.Given.Seize.Settle.{retiring}
+use Rattle.papaya_maps.specs.Given.Seize.declared.rows.settle.Settle.{Settle}
+use Rattle.papaya_maps.specs.Given.SeizeAlone.Alone.{History, at_rest}
+use Rattle.papaya_maps.specs.Given.Tables.Chunks.{is_incremental}
+use Rattle.papaya_maps.specs.Given.Resize.CopierPromotes.{table_retired}
+use Rattle.papaya_maps.specs.Given.Resize.CopierStates as copying
+use Rattle.papaya_maps.specs.Given.Tables.Nodes.{deferred_word}
+use Rattle.papaya_maps.specs.Given.Reserves.Reserve.{reserving, standing, reserve_plan}
+use Rattle.papaya_maps.specs.Given.Tables.declared.node.Node.{Node}
+use Rattle.papaya_maps.specs.Given.Resize.declared.outcome.Outcome.{Outcome}
+use Rattle.papaya_maps.specs.Given.Resize.declared.outcome.Outcome.TheVariants as outcome
+use Rattle.papaya_maps.specs.Given.Tables.declared.setting.Setting.{Setting}
+use Rattle.papaya_maps.specs.Given.Resize.declared.copier.Copier.{Copier}
+use Rattle.papaya_maps.specs.Given.Resize.declared.copier.Copying.TheVariants as copies
+use Rattle.papaya_maps.specs.Given.Reserves.declared.reserve.Reserve.{Reserve}
+use Rattle.papaya_maps.specs.Given.Reserves.declared.reserve.Reserving.{Reserving}
+use Rattle.papaya_maps.specs.Given.Reserves.declared.reserve.Reserving.TheVariants as at
+use Rattle.papaya_maps.specs.Given.Rule.Chart.{Chart}
+use Rattle.papaya_maps.specs.Given.Rule.InWorld.{SameBlocks}
+use Rattle.papaya_maps.specs.Given.Rule.Lasts.{Lasts}
+use Rattle.papaya_maps.specs.Given.Rule.Maps.{spot_of}
+use Rattle.papaya_maps.specs.Given.Rule.Words.{Blocks}
+use Rattle.papaya_maps.specs.Given.Points.Steps.{AreLawful}
+use Rattle.papaya_maps.specs.Given.Points.Measures.{IsBelow, EndsFrom, ends}
 use Rattle.papaya_falls.specs.Reserves.{numbers_at, number_of_reserve}
 use Rattle.papaya_falls.proofs.Laws.{reserve_numbers_are_as_many}
 use Rattle.papaya_falls.proofs.Onward.{Onward}
 use Rattle.papaya_falls.proofs.Reserves.CopiesLower.{retired_lowers}
 use Rattle.papaya_falls.proofs.Reserves.Points.{reserved_on}
 use Rattle.papaya_falls.proofs.Reserves.Stands.{reserve_stands}
-use Rattle.papaya_alone.specs.Alone.{IsRetiring}
+use Rattle.papaya_maps.specs.Given.Alone.Alone.{IsRetiring}
 use Rattle.papaya_maps.specs.AloneReserves.{ReservesBetween, IsReserving, Between, RetiresTable}
 use Rattle.papaya_maps.specs.LoneReserves.{IsLoneReservation}
-use Rattle.papaya_alone.specs.Endings.{runs_end}
+use Rattle.papaya_maps.specs.Given.Alone.Endings.{runs_end}
 use Rattle.papaya_maps.specs.EndingsReserves.{HasMore, ComesToAnEnd, LoneReservesEnd, BegunReservesEnd}
 use Rattle.papaya_maps.specs.FactsAloneReserves.{IsLoneReserve}
-use Rattle.papaya_late.specs.ToldReserves.{IsRowOfReserve}
-use Rattle.papaya_points.proofs.Descents.{descents_end}
+use Rattle.papaya_maps.specs.Given.Late.ToldReserves.{IsRowOfReserve}
+use Rattle.papaya_maps.proofs.Given.Points.Descents.{descents_end}
 use Rattle.papaya_maps.proofs.Reserves.Between.{between_on}
 use Rattle.papaya_maps.proofs.Reserves.Lone.{lone_reserves_begin}
 use Rattle.papaya_maps.proofs.Reserves.Retires.{table_begins}

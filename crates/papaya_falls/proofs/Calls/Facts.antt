@@ -1,22 +1,22 @@
 -- A call knows what is needed for its number.
 use Rattle.std.proofs.Common.{◌≡◌, ℕ, suc, ◌^◌, ◌<◌, Bool, true, false, Some, inl, inr, ap, subst, sym, ◌∙◌, arith}
-use Rattle.seize_words.specs.Word.{block_in}
-use Rattle.seize_words.specs.Mem.{value_at}
-use Rattle.seize_words.specs.declared.at.At.TheVariants.{Root, Word}
-use Rattle.seize.specs.World.{World}
-use Rattle.papaya_tables.specs.Chunks.{is_incremental}
-use Rattle.papaya_tables.specs.declared.node.Node.{Node}
-use Rattle.papaya_tables.specs.declared.node.Node.TheVariants as node
-use Rattle.papaya_tables.specs.declared.setting.Setting.{Setting}
-use Rattle.papaya_tables.specs.declared.table_words.TheConstants.{NEXT}
-use Rattle.papaya_raw.specs.declared.machines.asking.Asking.{Asking}
-use Rattle.papaya_raw.specs.declared.machines.asking.Asking.TheVariants as asking
-use Rattle.papaya_raw.specs.declared.machines.call.KeyCall.{KeyCall}
-use Rattle.papaya_raw.specs.declared.machines.call.Calling.{Calling}
-use Rattle.papaya_raw.specs.declared.machines.call.Calling.TheVariants as at
-use Rattle.papaya_rule.specs.Chart.{Chart}
-use Rattle.papaya_rule.specs.Words.{Blocks}
-use Rattle.papaya_points.specs.FactsCalls.{Change, ByReply, holding, HasOwn, IsToFill, AskingFacts, CallingFacts, CallFacts}
+use Rattle.papaya_late.specs.Given.SeizeWords.Word.{block_in}
+use Rattle.papaya_late.specs.Given.SeizeWords.Mem.{value_at}
+use Rattle.papaya_late.specs.Given.SeizeWords.declared.at.At.TheVariants.{Root, Word}
+use Rattle.papaya_late.specs.Given.Seize.World.{World}
+use Rattle.papaya_late.specs.Given.Tables.Chunks.{is_incremental}
+use Rattle.papaya_late.specs.Given.Tables.declared.node.Node.{Node}
+use Rattle.papaya_late.specs.Given.Tables.declared.node.Node.TheVariants as node
+use Rattle.papaya_late.specs.Given.Tables.declared.setting.Setting.{Setting}
+use Rattle.papaya_late.specs.Given.Tables.declared.table_words.TheConstants.{NEXT}
+use Rattle.papaya_late.specs.Given.Raw.declared.machines.asking.Asking.{Asking}
+use Rattle.papaya_late.specs.Given.Raw.declared.machines.asking.Asking.TheVariants as asking
+use Rattle.papaya_late.specs.Given.Raw.declared.machines.call.KeyCall.{KeyCall}
+use Rattle.papaya_late.specs.Given.Raw.declared.machines.call.Calling.{Calling}
+use Rattle.papaya_late.specs.Given.Raw.declared.machines.call.Calling.TheVariants as at
+use Rattle.papaya_late.specs.Given.Rule.Chart.{Chart}
+use Rattle.papaya_late.specs.Given.Rule.Words.{Blocks}
+use Rattle.papaya_late.specs.Given.Points.FactsCalls.{Change, ByReply, holding, HasOwn, IsToFill, AskingFacts, CallingFacts, CallFacts}
 use Rattle.papaya_falls.proofs.Stands.{HasPairInside, AskingStands, CallingStands, CallStands, LookingStands}
 use Rattle.papaya_falls.proofs.Calls.MachineFacts.{new_table_stands, dispose_stands, looking_stands, copying_stands, copying_stands_blocking}
 

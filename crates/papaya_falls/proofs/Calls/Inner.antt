@@ -1,41 +1,41 @@
 -- A step of a machine within a call that goes on leads the call to lower numbers.
 use Rattle.std.specs.Prelude.{List, ◌∷◌, if◌then◌else◌, Option, Some, None}
 use Rattle.std.proofs.Common.{◌≡◌, ℕ, suc, ◌-◌, ◌<◌, ◌≤◌, Bool, true, false, ◌⊎◌, inl, inr, refl, ap, sym, subst, ◌∙◌, arith}
-use Rattle.seize_words.specs.declared.at.At.{At}
-use Rattle.seize_words.specs.Mem.{Mem}
-use Rattle.seize.specs.declared.progress.Progress.{Progress}
-use Rattle.seize.specs.declared.progress.Progress.TheVariants as progress
-use Rattle.seize.specs.declared.rows.settle.Settled.{Settled}
-use Rattle.seize.specs.declared.rows.settle.Settled.TheVariants as settled
-use Rattle.papaya_tables.specs.Chunks.{is_incremental}
-use Rattle.papaya_tables.specs.declared.node.Node.{Node}
-use Rattle.papaya_tables.specs.declared.resize_mode.ResizeMode.{ResizeMode}
-use Rattle.papaya_tables.specs.declared.resize_mode.ResizeMode.TheVariants.{Incremental, Blocking}
-use Rattle.papaya_tables.specs.declared.setting.Setting.{Setting}
-use Rattle.papaya_tables.specs.declared.table.Table.{Table}
-use Rattle.papaya_raw.specs.Call.{looked, first_made, next_made, disposed, helped, copied}
-use Rattle.papaya_raw.specs.CallPoints.{going, entering, went_on}
-use Rattle.papaya_raw.specs.declared.machines.answer.End.TheVariants as ends
-use Rattle.papaya_raw.specs.declared.machines.answer.KeyAnswer.{KeyAnswer}
-use Rattle.papaya_raw.specs.declared.machines.answer.Called.{Called}
-use Rattle.papaya_raw.specs.declared.machines.answer.Called.TheVariants.{Goes}
-use Rattle.papaya_raw.specs.declared.machines.call.KeyCall.{KeyCall}
-use Rattle.papaya_raw.specs.declared.machines.call.Calling.TheVariants as at
-use Rattle.papaya_resize.specs.CopierStates.{helping, copying_all}
-use Rattle.papaya_resize.specs.declared.outcome.Outcome.{Outcome}
-use Rattle.papaya_resize.specs.declared.outcome.Outcome.TheVariants as outcome
-use Rattle.papaya_resize.specs.declared.copier.Copier.{Copier}
-use Rattle.papaya_resize.specs.declared.copier.Copying.{Copying as Point}
-use Rattle.papaya_resize.specs.declared.copier.Copying.TheVariants as copies
-use Rattle.papaya_resize.specs.declared.dispose.Dispose.{Dispose}
-use Rattle.papaya_resize.specs.declared.lookup.Lookup.{Lookup}
-use Rattle.papaya_resize.specs.declared.new_table.NewTable.{NewTable}
-use Rattle.papaya_rule.specs.Chart.{Chart}
-use Rattle.papaya_rule.specs.Words.{Blocks}
-use Rattle.papaya_points.specs.Measures.{IsBelow}
-use Rattle.papaya_points.specs.MeasuresDisposes.{number_of_dispose}
-use Rattle.papaya_points.specs.MeasuresLooks.{number_of_lookup}
-use Rattle.papaya_points.specs.MeasuresTables.{number_of_new_table}
+use Rattle.papaya_late.specs.Given.SeizeWords.declared.at.At.{At}
+use Rattle.papaya_late.specs.Given.SeizeWords.Mem.{Mem}
+use Rattle.papaya_late.specs.Given.Seize.declared.progress.Progress.{Progress}
+use Rattle.papaya_late.specs.Given.Seize.declared.progress.Progress.TheVariants as progress
+use Rattle.papaya_late.specs.Given.Seize.declared.rows.settle.Settled.{Settled}
+use Rattle.papaya_late.specs.Given.Seize.declared.rows.settle.Settled.TheVariants as settled
+use Rattle.papaya_late.specs.Given.Tables.Chunks.{is_incremental}
+use Rattle.papaya_late.specs.Given.Tables.declared.node.Node.{Node}
+use Rattle.papaya_late.specs.Given.Tables.declared.resize_mode.ResizeMode.{ResizeMode}
+use Rattle.papaya_late.specs.Given.Tables.declared.resize_mode.ResizeMode.TheVariants.{Incremental, Blocking}
+use Rattle.papaya_late.specs.Given.Tables.declared.setting.Setting.{Setting}
+use Rattle.papaya_late.specs.Given.Tables.declared.table.Table.{Table}
+use Rattle.papaya_late.specs.Given.Raw.Call.{looked, first_made, next_made, disposed, helped, copied}
+use Rattle.papaya_late.specs.Given.Raw.CallPoints.{going, entering, went_on}
+use Rattle.papaya_late.specs.Given.Raw.declared.machines.answer.End.TheVariants as ends
+use Rattle.papaya_late.specs.Given.Raw.declared.machines.answer.KeyAnswer.{KeyAnswer}
+use Rattle.papaya_late.specs.Given.Raw.declared.machines.answer.Called.{Called}
+use Rattle.papaya_late.specs.Given.Raw.declared.machines.answer.Called.TheVariants.{Goes}
+use Rattle.papaya_late.specs.Given.Raw.declared.machines.call.KeyCall.{KeyCall}
+use Rattle.papaya_late.specs.Given.Raw.declared.machines.call.Calling.TheVariants as at
+use Rattle.papaya_late.specs.Given.Resize.CopierStates.{helping, copying_all}
+use Rattle.papaya_late.specs.Given.Resize.declared.outcome.Outcome.{Outcome}
+use Rattle.papaya_late.specs.Given.Resize.declared.outcome.Outcome.TheVariants as outcome
+use Rattle.papaya_late.specs.Given.Resize.declared.copier.Copier.{Copier}
+use Rattle.papaya_late.specs.Given.Resize.declared.copier.Copying.{Copying as Point}
+use Rattle.papaya_late.specs.Given.Resize.declared.copier.Copying.TheVariants as copies
+use Rattle.papaya_late.specs.Given.Resize.declared.dispose.Dispose.{Dispose}
+use Rattle.papaya_late.specs.Given.Resize.declared.lookup.Lookup.{Lookup}
+use Rattle.papaya_late.specs.Given.Resize.declared.new_table.NewTable.{NewTable}
+use Rattle.papaya_late.specs.Given.Rule.Chart.{Chart}
+use Rattle.papaya_late.specs.Given.Rule.Words.{Blocks}
+use Rattle.papaya_late.specs.Given.Points.Measures.{IsBelow}
+use Rattle.papaya_late.specs.Given.Points.MeasuresDisposes.{number_of_dispose}
+use Rattle.papaya_late.specs.Given.Points.MeasuresLooks.{number_of_lookup}
+use Rattle.papaya_late.specs.Given.Points.MeasuresTables.{number_of_new_table}
 use Rattle.papaya_falls.specs.Room.{planned, planned_in_copying, tables_to_come}
 use Rattle.papaya_falls.specs.Copies.{number_of_copier, number_at as incremental_at, tables_from_before}
 use Rattle.papaya_falls.specs.CopiesBlocking.{number_of_copier_blocking, number_at as blocking_at, targets}

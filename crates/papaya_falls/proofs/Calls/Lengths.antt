@@ -1,22 +1,22 @@
 -- A call always has as many numbers.
 use Rattle.std.proofs.Common.{◌≡◌, ℕ, suc, ◌+◌, List, [], ◌∷◌, length, refl, ap, ◌∙◌, length-append}
-use Rattle.papaya_raw.specs.declared.machines.asking.Asking.{Asking}
-use Rattle.papaya_raw.specs.declared.machines.asking.Asking.TheVariants as asking
-use Rattle.papaya_raw.specs.declared.machines.call.KeyCall.{KeyCall}
-use Rattle.papaya_raw.specs.declared.machines.call.Calling.{Calling}
-use Rattle.papaya_raw.specs.declared.machines.call.Calling.TheVariants as at
-use Rattle.papaya_resize.specs.declared.copier.Copier.{Copier}
-use Rattle.papaya_resize.specs.declared.copier.Copying.{Copying}
-use Rattle.papaya_resize.specs.declared.copier.Copying.TheVariants as copies
-use Rattle.papaya_resize.specs.declared.dispose.Disposing.{Disposing}
-use Rattle.papaya_resize.specs.declared.dispose.Disposing.TheVariants as disposes
-use Rattle.papaya_resize.specs.declared.lookup.Looking.{Looking}
-use Rattle.papaya_resize.specs.declared.lookup.Looking.TheVariants as looks
-use Rattle.papaya_rule.specs.Chart.{Chart}
-use Rattle.papaya_rule.specs.Words.{Blocks}
-use Rattle.papaya_points.proofs.Making.EndsNewTable.{new_table_numbers}
-use Rattle.papaya_points.specs.MeasuresDisposes.{number_at_disposing}
-use Rattle.papaya_points.specs.MeasuresLooks.{number_at_looking}
+use Rattle.papaya_late.specs.Given.Raw.declared.machines.asking.Asking.{Asking}
+use Rattle.papaya_late.specs.Given.Raw.declared.machines.asking.Asking.TheVariants as asking
+use Rattle.papaya_late.specs.Given.Raw.declared.machines.call.KeyCall.{KeyCall}
+use Rattle.papaya_late.specs.Given.Raw.declared.machines.call.Calling.{Calling}
+use Rattle.papaya_late.specs.Given.Raw.declared.machines.call.Calling.TheVariants as at
+use Rattle.papaya_late.specs.Given.Resize.declared.copier.Copier.{Copier}
+use Rattle.papaya_late.specs.Given.Resize.declared.copier.Copying.{Copying}
+use Rattle.papaya_late.specs.Given.Resize.declared.copier.Copying.TheVariants as copies
+use Rattle.papaya_late.specs.Given.Resize.declared.dispose.Disposing.{Disposing}
+use Rattle.papaya_late.specs.Given.Resize.declared.dispose.Disposing.TheVariants as disposes
+use Rattle.papaya_late.specs.Given.Resize.declared.lookup.Looking.{Looking}
+use Rattle.papaya_late.specs.Given.Resize.declared.lookup.Looking.TheVariants as looks
+use Rattle.papaya_late.specs.Given.Rule.Chart.{Chart}
+use Rattle.papaya_late.specs.Given.Rule.Words.{Blocks}
+use Rattle.papaya_late.proofs.Given.Points.Making.EndsNewTable.{new_table_numbers}
+use Rattle.papaya_late.specs.Given.Points.MeasuresDisposes.{number_at_disposing}
+use Rattle.papaya_late.specs.Given.Points.MeasuresLooks.{number_at_looking}
 use Rattle.papaya_falls.specs.Copies.{number_at as incremental_at}
 use Rattle.papaya_falls.specs.CopiesBlocking.{number_at as blocking_at}
 use Rattle.papaya_falls.specs.Calls.{one_of_eight, two_of_eight, number_at_asking, number_at}

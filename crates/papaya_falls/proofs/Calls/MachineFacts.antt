@@ -1,32 +1,32 @@
 -- The machines within a call know what is needed for their numbers.
 use Rattle.std.proofs.Common.{◌≡◌, ℕ, suc, Bool, inl, inr, ap, ◌∙◌, arith}
-use Rattle.seize_words.specs.declared.at.At.{At}
-use Rattle.seize_words.specs.declared.at.At.TheVariants.{Root, Used, Slot, Entry, Word}
-use Rattle.seize.specs.World.{World}
-use Rattle.papaya_tables.specs.declared.node.Node.{Node}
-use Rattle.papaya_tables.specs.declared.resize_mode.ResizeMode.{ResizeMode}
-use Rattle.papaya_tables.specs.declared.setting.Setting.{Setting}
-use Rattle.papaya_tables.specs.declared.status.TheConstants.Status.{PENDING}
-use Rattle.papaya_tables.specs.declared.table.Table.{Table}
-use Rattle.papaya_tables.specs.declared.table_words.TheConstants.{NEXT}
-use Rattle.papaya_resize.specs.declared.copier.Copier.{Copier}
-use Rattle.papaya_resize.specs.declared.copier.Copying.{Copying}
-use Rattle.papaya_resize.specs.declared.copier.Copying.TheVariants as copies
-use Rattle.papaya_resize.specs.declared.dispose.Dispose.{Dispose}
-use Rattle.papaya_resize.specs.declared.dispose.Disposing.{Disposing}
-use Rattle.papaya_resize.specs.declared.dispose.Disposing.TheVariants as disposes
-use Rattle.papaya_resize.specs.declared.lookup.Looking.{Looking}
-use Rattle.papaya_resize.specs.declared.lookup.Looking.TheVariants as looks
-use Rattle.papaya_resize.specs.declared.new_table.NewTable.{NewTable}
-use Rattle.papaya_resize.specs.declared.new_table.Making.{Making}
-use Rattle.papaya_resize.specs.declared.new_table.Making.TheVariants as makes
-use Rattle.papaya_rule.specs.Chart.{Chart}
-use Rattle.papaya_rule.specs.Words.{Blocks}
-use Rattle.papaya_points.specs.FactsCopies.{CopyingFacts}
-use Rattle.papaya_points.specs.FactsCopiesBlocking.{CopyingFactsBlocking}
-use Rattle.papaya_points.specs.FactsDisposes.{DisposingFacts, DisposeFacts}
-use Rattle.papaya_points.specs.FactsLooks.{LookingFacts}
-use Rattle.papaya_points.specs.FactsTables.{StandsAs, IsLinkOf, MakingFacts, NewTableFacts}
+use Rattle.papaya_late.specs.Given.SeizeWords.declared.at.At.{At}
+use Rattle.papaya_late.specs.Given.SeizeWords.declared.at.At.TheVariants.{Root, Used, Slot, Entry, Word}
+use Rattle.papaya_late.specs.Given.Seize.World.{World}
+use Rattle.papaya_late.specs.Given.Tables.declared.node.Node.{Node}
+use Rattle.papaya_late.specs.Given.Tables.declared.resize_mode.ResizeMode.{ResizeMode}
+use Rattle.papaya_late.specs.Given.Tables.declared.setting.Setting.{Setting}
+use Rattle.papaya_late.specs.Given.Tables.declared.status.TheConstants.Status.{PENDING}
+use Rattle.papaya_late.specs.Given.Tables.declared.table.Table.{Table}
+use Rattle.papaya_late.specs.Given.Tables.declared.table_words.TheConstants.{NEXT}
+use Rattle.papaya_late.specs.Given.Resize.declared.copier.Copier.{Copier}
+use Rattle.papaya_late.specs.Given.Resize.declared.copier.Copying.{Copying}
+use Rattle.papaya_late.specs.Given.Resize.declared.copier.Copying.TheVariants as copies
+use Rattle.papaya_late.specs.Given.Resize.declared.dispose.Dispose.{Dispose}
+use Rattle.papaya_late.specs.Given.Resize.declared.dispose.Disposing.{Disposing}
+use Rattle.papaya_late.specs.Given.Resize.declared.dispose.Disposing.TheVariants as disposes
+use Rattle.papaya_late.specs.Given.Resize.declared.lookup.Looking.{Looking}
+use Rattle.papaya_late.specs.Given.Resize.declared.lookup.Looking.TheVariants as looks
+use Rattle.papaya_late.specs.Given.Resize.declared.new_table.NewTable.{NewTable}
+use Rattle.papaya_late.specs.Given.Resize.declared.new_table.Making.{Making}
+use Rattle.papaya_late.specs.Given.Resize.declared.new_table.Making.TheVariants as makes
+use Rattle.papaya_late.specs.Given.Rule.Chart.{Chart}
+use Rattle.papaya_late.specs.Given.Rule.Words.{Blocks}
+use Rattle.papaya_late.specs.Given.Points.FactsCopies.{CopyingFacts}
+use Rattle.papaya_late.specs.Given.Points.FactsCopiesBlocking.{CopyingFactsBlocking}
+use Rattle.papaya_late.specs.Given.Points.FactsDisposes.{DisposingFacts, DisposeFacts}
+use Rattle.papaya_late.specs.Given.Points.FactsLooks.{LookingFacts}
+use Rattle.papaya_late.specs.Given.Points.FactsTables.{StandsAs, IsLinkOf, MakingFacts, NewTableFacts}
 use Rattle.papaya_falls.proofs.Stands.{IsBehind, IsPlaceOf, MakingStands, NewTableStands, LookingStands, DisposingStands, DisposeStands, CopyingStands, CopyingStandsBlocking}
 
 -- a table that stands behind another one has its turn

@@ -1,6 +1,6 @@
 -- What is promised of the number of a call.
 use Rattle.std.proofs.Common.{ℕ, Bool, refl}
-use Rattle.papaya_raw.specs.declared.machines.answer.Called.TheVariants.{Goes}
+use Rattle.papaya_late.specs.Given.Raw.declared.machines.answer.Called.TheVariants.{Goes}
 use Rattle.papaya_falls.specs.Falls.{CallsFall, LateCallsFall, RowsFall}
 use Rattle.papaya_falls.proofs.Led.{onward}
 use Rattle.papaya_falls.proofs.Calls.Facts.{call_stands}

@@ -1,17 +1,17 @@
 -- Which steps of a copier leave the last table, and the claim of its target, as they were.
 use Rattle.std.specs.Prelude.{◌+◌, ◌/◌, ◌%◌, IsSome, Bool}
 use Rattle.std.proofs.Common.{◌≡◌, ◌≢◌, ℕ, ◌^◌, ◌<◌, Some, ap, sym, ◌∙◌, arith}
-use Rattle.seize_words.specs.declared.at.At.TheVariants.{Root, Word}
-use Rattle.seize_words.specs.Mem.{Mem, word_at, with_word}
-use Rattle.seize_words.proofs.OneOwner.AfterWrites.{word_at-with_word}
-use Rattle.papaya_tables.specs.TablePlaces.{at_place, at_word}
-use Rattle.papaya_tables.specs.declared.node.Node.{Node}
-use Rattle.papaya_tables.specs.declared.setting.Setting.{Setting}
-use Rattle.papaya_tables.specs.declared.table.Table.{Table}
-use Rattle.papaya_tables.specs.declared.table_words.TheConstants.{NEXT, CLAIM, PLACES}
-use Rattle.papaya_rule.specs.Chart.{Chart}
-use Rattle.papaya_rule.specs.Maps.{IsTable}
-use Rattle.papaya_rule.specs.Words.{Blocks}
+use Rattle.papaya_late.specs.Given.SeizeWords.declared.at.At.TheVariants.{Root, Word}
+use Rattle.papaya_late.specs.Given.SeizeWords.Mem.{Mem, word_at, with_word}
+use Rattle.papaya_late.proofs.Given.SeizeWords.OneOwner.AfterWrites.{word_at-with_word}
+use Rattle.papaya_late.specs.Given.Tables.TablePlaces.{at_place, at_word}
+use Rattle.papaya_late.specs.Given.Tables.declared.node.Node.{Node}
+use Rattle.papaya_late.specs.Given.Tables.declared.setting.Setting.{Setting}
+use Rattle.papaya_late.specs.Given.Tables.declared.table.Table.{Table}
+use Rattle.papaya_late.specs.Given.Tables.declared.table_words.TheConstants.{NEXT, CLAIM, PLACES}
+use Rattle.papaya_late.specs.Given.Rule.Chart.{Chart}
+use Rattle.papaya_late.specs.Given.Rule.Maps.{IsTable}
+use Rattle.papaya_late.specs.Given.Rule.Words.{Blocks}
 use Rattle.papaya_falls.proofs.Onward.{Onward, claim_on}
 use Rattle.papaya_falls.proofs.Kept.{other_word}
 use Rattle.papaya_falls.proofs.Copiers.CopierOn.{past_still, past_word, past_place, past_root}

@@ -1,18 +1,18 @@
 -- A copier at an old table: fewer are left once the link to the next one is read.
 use Rattle.std.specs.Prelude.{◌/◌, ◌==◌, if◌then◌else◌}
 use Rattle.std.proofs.Common.{◌≡◌, ℕ, suc, ◌-◌, ◌*◌, ◌<◌, Bool, true, false, cond, Some, refl, ap, sym, ◌∙◌, arith}
-use Rattle.seize_words.specs.declared.at.At.TheVariants.{Word}
-use Rattle.seize_words.specs.Mem.{Mem, word_at}
-use Rattle.papaya_tables.specs.declared.node.Node.{Node}
-use Rattle.papaya_tables.specs.declared.setting.Setting.{Setting}
-use Rattle.papaya_tables.specs.declared.table.Table.{Table}
-use Rattle.papaya_tables.specs.declared.table_words.TheConstants.{NEXT}
-use Rattle.papaya_resize.specs.CopierPromotes.{also_retired}
-use Rattle.papaya_resize.specs.declared.copier.Copier.{Copier}
-use Rattle.papaya_rule.specs.Chart.{Chart}
-use Rattle.papaya_rule.specs.Words.{Blocks}
-use Rattle.papaya_points.proofs.Steps.TurnsFound.{turn_found}
-use Rattle.papaya_points.specs.MeasuresDisposes.{turn_of}
+use Rattle.papaya_late.specs.Given.SeizeWords.declared.at.At.TheVariants.{Word}
+use Rattle.papaya_late.specs.Given.SeizeWords.Mem.{Mem, word_at}
+use Rattle.papaya_late.specs.Given.Tables.declared.node.Node.{Node}
+use Rattle.papaya_late.specs.Given.Tables.declared.setting.Setting.{Setting}
+use Rattle.papaya_late.specs.Given.Tables.declared.table.Table.{Table}
+use Rattle.papaya_late.specs.Given.Tables.declared.table_words.TheConstants.{NEXT}
+use Rattle.papaya_late.specs.Given.Resize.CopierPromotes.{also_retired}
+use Rattle.papaya_late.specs.Given.Resize.declared.copier.Copier.{Copier}
+use Rattle.papaya_late.specs.Given.Rule.Chart.{Chart}
+use Rattle.papaya_late.specs.Given.Rule.Words.{Blocks}
+use Rattle.papaya_late.proofs.Given.Points.Steps.TurnsFound.{turn_found}
+use Rattle.papaya_late.specs.Given.Points.MeasuresDisposes.{turn_of}
 use Rattle.papaya_falls.specs.Copies.{old_tables}
 use Rattle.papaya_falls.proofs.Onward.{Onward, grows, known_on, link_behind}
 use Rattle.papaya_falls.proofs.Stands.{AtOld}

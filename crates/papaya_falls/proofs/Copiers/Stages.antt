@@ -2,19 +2,19 @@
 use Rattle.std.specs.Prelude.{◌+◌, ◌==◌, ◌%◌, nat_lt, if◌then◌else◌, List, ◌∷◌}
 use Rattle.std.proofs.Common.{◌≡◌, ℕ, suc, ◌-◌, ◌^◌, ◌<◌, Bool, true, false, inl, inr, refl, arith}
 use Rattle.std.proofs.lemmas.Bool.{ltb-true}
-use Rattle.seize_words.specs.declared.fault.Fault.{Fault}
-use Rattle.papaya_tables.specs.Chunks.{is_incremental}
-use Rattle.papaya_tables.specs.Probes.{probe_after}
-use Rattle.papaya_tables.specs.declared.probe.Probe.{Probe}
-use Rattle.papaya_tables.specs.declared.table.Table.{Table}
-use Rattle.papaya_resize.specs.CopierStates.{standing, behind, none_left, next_place}
-use Rattle.papaya_resize.specs.CopierCounts.{refusing}
-use Rattle.papaya_resize.specs.CopierPlaces.{next_try}
-use Rattle.papaya_resize.specs.declared.copier.Copier.{Copier}
-use Rattle.papaya_resize.specs.declared.copier.Copying.TheVariants as at
-use Rattle.papaya_rule.specs.Chart.{Chart}
-use Rattle.papaya_rule.specs.Words.{Blocks}
-use Rattle.papaya_points.specs.Measures.{IsBelow}
+use Rattle.papaya_late.specs.Given.SeizeWords.declared.fault.Fault.{Fault}
+use Rattle.papaya_late.specs.Given.Tables.Chunks.{is_incremental}
+use Rattle.papaya_late.specs.Given.Tables.Probes.{probe_after}
+use Rattle.papaya_late.specs.Given.Tables.declared.probe.Probe.{Probe}
+use Rattle.papaya_late.specs.Given.Tables.declared.table.Table.{Table}
+use Rattle.papaya_late.specs.Given.Resize.CopierStates.{standing, behind, none_left, next_place}
+use Rattle.papaya_late.specs.Given.Resize.CopierCounts.{refusing}
+use Rattle.papaya_late.specs.Given.Resize.CopierPlaces.{next_try}
+use Rattle.papaya_late.specs.Given.Resize.declared.copier.Copier.{Copier}
+use Rattle.papaya_late.specs.Given.Resize.declared.copier.Copying.TheVariants as at
+use Rattle.papaya_late.specs.Given.Rule.Chart.{Chart}
+use Rattle.papaya_late.specs.Given.Rule.Words.{Blocks}
+use Rattle.papaya_late.specs.Given.Points.Measures.{IsBelow}
 use Rattle.papaya_falls.specs.Room.{planned_in_copying}
 use Rattle.papaya_falls.specs.Copies.{number_of_copier}
 

@@ -2,17 +2,17 @@
 use Rattle.std.specs.Prelude.{nat_le, nat_lt, if◌then◌else◌, max, Result, Ok, Err}
 use Rattle.std.proofs.Common.{◌≡◌, ℕ, ◌+◌, ◌-◌, ◌^◌, ◌<◌, ◌≤◌, Bool, true, false, refl, sym, subst, arith}
 use Rattle.std.proofs.lemmas.Bool.{ltb-true}
-use Rattle.seize_words.specs.declared.fault.Fault.{Fault}
-use Rattle.seize_words.specs.declared.fault.Fault.TheVariants.{Capacity}
-use Rattle.papaya_tables.specs.Lengths.{next_limit, next_turn, next_len}
-use Rattle.papaya_tables.specs.declared.lengths.Reason.{Reason}
-use Rattle.papaya_tables.specs.declared.lengths.Reason.TheVariants.{NoPlace}
-use Rattle.papaya_tables.specs.declared.setting.Setting.{Setting}
-use Rattle.papaya_tables.specs.declared.table.Table.{Table}
-use Rattle.papaya_resize.specs.NewTable.{planned as with_turn, following, making_of, begun_for, first_table, table_after}
-use Rattle.papaya_resize.specs.declared.new_table.Making.{Making}
-use Rattle.papaya_resize.specs.declared.new_table.Making.TheVariants as at
-use Rattle.papaya_tables.specs.Probes.{limit_of}
+use Rattle.papaya_late.specs.Given.SeizeWords.declared.fault.Fault.{Fault}
+use Rattle.papaya_late.specs.Given.SeizeWords.declared.fault.Fault.TheVariants.{Capacity}
+use Rattle.papaya_late.specs.Given.Tables.Lengths.{next_limit, next_turn, next_len}
+use Rattle.papaya_late.specs.Given.Tables.declared.lengths.Reason.{Reason}
+use Rattle.papaya_late.specs.Given.Tables.declared.lengths.Reason.TheVariants.{NoPlace}
+use Rattle.papaya_late.specs.Given.Tables.declared.setting.Setting.{Setting}
+use Rattle.papaya_late.specs.Given.Tables.declared.table.Table.{Table}
+use Rattle.papaya_late.specs.Given.Resize.NewTable.{planned as with_turn, following, making_of, begun_for, first_table, table_after}
+use Rattle.papaya_late.specs.Given.Resize.declared.new_table.Making.{Making}
+use Rattle.papaya_late.specs.Given.Resize.declared.new_table.Making.TheVariants as at
+use Rattle.papaya_late.specs.Given.Tables.Probes.{limit_of}
 use Rattle.papaya_falls.specs.Room.{last_turn, planned}
 use Rattle.papaya_falls.specs.Copies.{tables_from_before}
 

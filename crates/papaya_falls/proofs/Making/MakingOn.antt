@@ -2,39 +2,39 @@
 use Rattle.std.specs.Prelude.{◌/◌, ◌%◌, ◌&&◌, max}
 use Rattle.std.proofs.Common.{◌≡◌, ℕ, zero, suc, ◌+◌, ◌-◌, ◌*◌, ◌^◌, ◌<◌, ◌≤◌, Bool, true, cond, eqb, Some, ◌⊎◌, inl, inr, refl, ap, sym, subst, ◌∙◌, arith}
 use Rattle.std.proofs.lemmas.Bool.{eq-eqb}
-use Rattle.seize_words.specs.declared.at.At.{At}
-use Rattle.seize_words.specs.declared.at.At.TheVariants.{Root, Used, Slot, Entry, Word}
-use Rattle.seize_words.specs.Mem.{Mem, Took, value_at, word_at, with_word}
-use Rattle.seize_words.specs.Plan.{Now, Steps}
-use Rattle.seize_words.proofs.OneOwner.AfterWrites.{word_at-with_word}
-use Rattle.seize_words.proofs.OneOwner.Operations.{loaded, stored, exchanged, made as make_made, taken}
-use Rattle.seize_rule.proofs.Rows.Leaving.{steps_back}
-use Rattle.seize.specs.declared.progress.Progress.{Progress}
-use Rattle.seize.specs.declared.progress.Progress.TheVariants as progress
-use Rattle.papaya_tables.specs.Lengths.{next_len}
-use Rattle.papaya_tables.specs.Nodes.{table_seen}
-use Rattle.papaya_tables.specs.declared.lengths.Reason.{Reason}
-use Rattle.papaya_tables.specs.declared.node.Node.{Node}
-use Rattle.papaya_tables.specs.declared.node.Node.TheVariants as node
-use Rattle.papaya_tables.specs.declared.setting.Setting.{Setting}
-use Rattle.papaya_tables.specs.declared.status.TheConstants.Status.{PROMOTED}
-use Rattle.papaya_tables.specs.declared.table.Table.{Table}
-use Rattle.papaya_tables.specs.declared.table_words.TheConstants.{NEXT, STATUS, PLACES}
-use Rattle.papaya_resize.specs.NewTable.{goes, counted, after_making, with_block, made, linked, other, plan_at, new_table_plan}
-use Rattle.papaya_resize.specs.Sum.{added, plan_at as sum_at, sum_plan}
-use Rattle.papaya_resize.specs.declared.sum.Sum.{Sum}
-use Rattle.papaya_resize.specs.declared.sum.Summing.{Summing}
-use Rattle.papaya_resize.specs.declared.sum.Summing.TheVariants as sums
-use Rattle.papaya_resize.specs.declared.new_table.NewTable.{NewTable}
-use Rattle.papaya_resize.specs.declared.new_table.Making.{Making}
-use Rattle.papaya_resize.specs.declared.new_table.Making.TheVariants as at
-use Rattle.papaya_rule.specs.Chart.{Chart}
-use Rattle.papaya_rule.specs.Links.{LeadsTo}
-use Rattle.papaya_rule.specs.Words.{Blocks}
-use Rattle.papaya_rule.proofs.Words.LinksRead.{link_table}
-use Rattle.papaya_rule.proofs.Words.LinksSeen.{root_leads}
-use Rattle.papaya_rule.proofs.Words.TablesSeen.{turn_is}
-use Rattle.papaya_rule.proofs.Words.WritesWords.{at_word_block, is_some_of}
+use Rattle.papaya_late.specs.Given.SeizeWords.declared.at.At.{At}
+use Rattle.papaya_late.specs.Given.SeizeWords.declared.at.At.TheVariants.{Root, Used, Slot, Entry, Word}
+use Rattle.papaya_late.specs.Given.SeizeWords.Mem.{Mem, Took, value_at, word_at, with_word}
+use Rattle.papaya_late.specs.Given.SeizeWords.Plan.{Now, Steps}
+use Rattle.papaya_late.proofs.Given.SeizeWords.OneOwner.AfterWrites.{word_at-with_word}
+use Rattle.papaya_late.proofs.Given.SeizeWords.OneOwner.Operations.{loaded, stored, exchanged, made as make_made, taken}
+use Rattle.papaya_late.proofs.Given.SeizeRule.Rows.Leaving.{steps_back}
+use Rattle.papaya_late.specs.Given.Seize.declared.progress.Progress.{Progress}
+use Rattle.papaya_late.specs.Given.Seize.declared.progress.Progress.TheVariants as progress
+use Rattle.papaya_late.specs.Given.Tables.Lengths.{next_len}
+use Rattle.papaya_late.specs.Given.Tables.Nodes.{table_seen}
+use Rattle.papaya_late.specs.Given.Tables.declared.lengths.Reason.{Reason}
+use Rattle.papaya_late.specs.Given.Tables.declared.node.Node.{Node}
+use Rattle.papaya_late.specs.Given.Tables.declared.node.Node.TheVariants as node
+use Rattle.papaya_late.specs.Given.Tables.declared.setting.Setting.{Setting}
+use Rattle.papaya_late.specs.Given.Tables.declared.status.TheConstants.Status.{PROMOTED}
+use Rattle.papaya_late.specs.Given.Tables.declared.table.Table.{Table}
+use Rattle.papaya_late.specs.Given.Tables.declared.table_words.TheConstants.{NEXT, STATUS, PLACES}
+use Rattle.papaya_late.specs.Given.Resize.NewTable.{goes, counted, after_making, with_block, made, linked, other, plan_at, new_table_plan}
+use Rattle.papaya_late.specs.Given.Resize.Sum.{added, plan_at as sum_at, sum_plan}
+use Rattle.papaya_late.specs.Given.Resize.declared.sum.Sum.{Sum}
+use Rattle.papaya_late.specs.Given.Resize.declared.sum.Summing.{Summing}
+use Rattle.papaya_late.specs.Given.Resize.declared.sum.Summing.TheVariants as sums
+use Rattle.papaya_late.specs.Given.Resize.declared.new_table.NewTable.{NewTable}
+use Rattle.papaya_late.specs.Given.Resize.declared.new_table.Making.{Making}
+use Rattle.papaya_late.specs.Given.Resize.declared.new_table.Making.TheVariants as at
+use Rattle.papaya_late.specs.Given.Rule.Chart.{Chart}
+use Rattle.papaya_late.specs.Given.Rule.Links.{LeadsTo}
+use Rattle.papaya_late.specs.Given.Rule.Words.{Blocks}
+use Rattle.papaya_late.proofs.Given.Rule.Words.LinksRead.{link_table}
+use Rattle.papaya_late.proofs.Given.Rule.Words.LinksSeen.{root_leads}
+use Rattle.papaya_late.proofs.Given.Rule.Words.TablesSeen.{turn_is}
+use Rattle.papaya_late.proofs.Given.Rule.Words.WritesWords.{at_word_block, is_some_of}
 use Rattle.papaya_falls.specs.Room.{last_turn, planned}
 use Rattle.papaya_falls.specs.Copies.{tables_from_before}
 use Rattle.papaya_falls.proofs.Onward.{Onward, grows, known_on, past_kept, links_kept, value_before, value_after, behind_none, some_behind}

@@ -1,6 +1,6 @@
 -- What is promised of the number of a reservation.
 use Rattle.std.proofs.Common.{ℕ, Bool, refl}
-use Rattle.papaya_resize.specs.declared.outcome.Outcome.TheVariants.{Goes}
+use Rattle.papaya_late.specs.Given.Resize.declared.outcome.Outcome.TheVariants.{Goes}
 use Rattle.papaya_falls.specs.FallsReserves.{ReservesFall, LateReservesFall}
 use Rattle.papaya_falls.proofs.Led.{onward}
 use Rattle.papaya_falls.proofs.Reserves.Points.{reserved_on}

@@ -1,26 +1,26 @@
 -- A disposal whose row is under way stays in it while it goes on, and its number is zero.
 use Rattle.std.proofs.Common.{◌≡◌, [], ◌∷◌, refl, sym, subst}
-use Rattle.seize_words.specs.Mem.{Mem, Took, value_at}
-use Rattle.seize_words.specs.Plan.{Steps}
-use Rattle.seize_rule.proofs.Rows.Leaving.{steps_back}
-use Rattle.seize.specs.declared.progress.Progress.{Progress}
-use Rattle.seize.specs.declared.progress.Progress.TheVariants as progress
-use Rattle.seize.specs.declared.rows.defer.Defer.{Defer}
-use Rattle.seize.specs.declared.rows.settle.Settle.{Settle}
-use Rattle.seize.specs.declared.rows.settle.Settled.{Settled}
-use Rattle.seize.specs.declared.rows.settle.Settled.TheVariants as settled
-use Rattle.seize.specs.Settle.{settle_plan}
-use Rattle.seize.specs.Defer.{defer_plan}
-use Rattle.papaya_tables.specs.Nodes.{deferred_word}
-use Rattle.papaya_tables.specs.declared.node.Node.{Node}
-use Rattle.papaya_resize.specs.Dispose.{settled as settled_on, deferred as deferred_on, dispose_plan, plan_at}
-use Rattle.papaya_resize.specs.declared.dispose.Dispose.{Dispose}
-use Rattle.papaya_resize.specs.declared.dispose.Disposing.{Disposing}
-use Rattle.papaya_resize.specs.declared.dispose.Disposing.TheVariants as at
-use Rattle.papaya_rule.specs.Chart.{Chart}
-use Rattle.papaya_rule.specs.Words.{Blocks}
-use Rattle.papaya_points.specs.MeasuresDisposes.{number_at_disposing, number_of_dispose}
-use Rattle.papaya_points.specs.Told.{IsRowOf}
+use Rattle.papaya_late.specs.Given.SeizeWords.Mem.{Mem, Took, value_at}
+use Rattle.papaya_late.specs.Given.SeizeWords.Plan.{Steps}
+use Rattle.papaya_late.proofs.Given.SeizeRule.Rows.Leaving.{steps_back}
+use Rattle.papaya_late.specs.Given.Seize.declared.progress.Progress.{Progress}
+use Rattle.papaya_late.specs.Given.Seize.declared.progress.Progress.TheVariants as progress
+use Rattle.papaya_late.specs.Given.Seize.declared.rows.defer.Defer.{Defer}
+use Rattle.papaya_late.specs.Given.Seize.declared.rows.settle.Settle.{Settle}
+use Rattle.papaya_late.specs.Given.Seize.declared.rows.settle.Settled.{Settled}
+use Rattle.papaya_late.specs.Given.Seize.declared.rows.settle.Settled.TheVariants as settled
+use Rattle.papaya_late.specs.Given.Seize.Settle.{settle_plan}
+use Rattle.papaya_late.specs.Given.Seize.Defer.{defer_plan}
+use Rattle.papaya_late.specs.Given.Tables.Nodes.{deferred_word}
+use Rattle.papaya_late.specs.Given.Tables.declared.node.Node.{Node}
+use Rattle.papaya_late.specs.Given.Resize.Dispose.{settled as settled_on, deferred as deferred_on, dispose_plan, plan_at}
+use Rattle.papaya_late.specs.Given.Resize.declared.dispose.Dispose.{Dispose}
+use Rattle.papaya_late.specs.Given.Resize.declared.dispose.Disposing.{Disposing}
+use Rattle.papaya_late.specs.Given.Resize.declared.dispose.Disposing.TheVariants as at
+use Rattle.papaya_late.specs.Given.Rule.Chart.{Chart}
+use Rattle.papaya_late.specs.Given.Rule.Words.{Blocks}
+use Rattle.papaya_late.specs.Given.Points.MeasuresDisposes.{number_at_disposing, number_of_dispose}
+use Rattle.papaya_late.specs.Given.Points.Told.{IsRowOf}
 
 module _ {K V : Type 0} (m m2 : Mem (Node K V)) (d : Dispose) where
   -- where it goes on, it is in the row

@@ -1,38 +1,38 @@
 -- Each step of a lookup writes nothing, and leaves fewer tables, or fewer tries at the same one.
 use Rattle.std.specs.Prelude.{◌/◌, ◌==◌, if◌then◌else◌, Option, None, Some}
 use Rattle.std.proofs.Common.{◌≡◌, ℕ, suc, ◌-◌, Bool, true, false, inl, inr, ap, sym, subst, arith}
-use Rattle.seize_words.specs.declared.at.At.TheVariants.{Root}
-use Rattle.seize_words.specs.Mem.{Mem, Took, value_at}
-use Rattle.seize_words.specs.Plan.{Now, Seeing, Steps}
-use Rattle.seize_words.proofs.OneOwner.Operations.{loaded}
-use Rattle.seize_words.proofs.Plans.{ends_if}
-use Rattle.seize.specs.declared.progress.Progress.{Progress}
-use Rattle.seize.specs.declared.progress.Progress.TheVariants as progress
-use Rattle.papaya_tables.specs.Chunks.{is_incremental}
-use Rattle.papaya_tables.specs.Finding.{finding, may_name}
-use Rattle.papaya_tables.specs.Nodes.{table_seen}
-use Rattle.papaya_tables.specs.TablePlaces.{at_word}
-use Rattle.papaya_tables.specs.Trials.{first_trial, next_trial, place_tried}
-use Rattle.papaya_tables.specs.declared.finding.Aim.TheVariants.{Looks}
-use Rattle.papaya_tables.specs.declared.finding.Finding.{Finding}
-use Rattle.papaya_tables.specs.declared.finding.Finding.TheVariants as is
-use Rattle.papaya_tables.specs.declared.node.Node.{Node}
-use Rattle.papaya_tables.specs.declared.setting.Setting.{Setting}
-use Rattle.papaya_tables.specs.declared.table.Table.{Table}
-use Rattle.papaya_tables.specs.declared.table_words.TheConstants.{NEXT}
-use Rattle.papaya_tables.specs.declared.trial.Trial.{Trial}
-use Rattle.papaya_resize.specs.Lookup.{going, answered, passed, told_of, told, names_pair, link_found, word_found, plan_at, lookup_plan}
-use Rattle.papaya_resize.specs.declared.lookup.Lookup.{Lookup}
-use Rattle.papaya_resize.specs.declared.lookup.Looking.{Looking}
-use Rattle.papaya_resize.specs.declared.lookup.Looking.TheVariants as at
-use Rattle.papaya_rule.specs.Chart.{Chart}
-use Rattle.papaya_rule.specs.Maps.{IsTrial}
-use Rattle.papaya_rule.specs.Words.{Blocks}
-use Rattle.papaya_rule.proofs.Keys.TriesSeen.{IsNext, next_is}
-use Rattle.papaya_rule.proofs.Words.LinksRead.{link_ends}
-use Rattle.papaya_rule.proofs.Words.LinksSeen.{next_leads}
-use Rattle.papaya_points.specs.Measures.{IsBelow}
-use Rattle.papaya_points.specs.MeasuresLooks.{number_at_looking, number_of_lookup}
+use Rattle.papaya_late.specs.Given.SeizeWords.declared.at.At.TheVariants.{Root}
+use Rattle.papaya_late.specs.Given.SeizeWords.Mem.{Mem, Took, value_at}
+use Rattle.papaya_late.specs.Given.SeizeWords.Plan.{Now, Seeing, Steps}
+use Rattle.papaya_late.proofs.Given.SeizeWords.OneOwner.Operations.{loaded}
+use Rattle.papaya_late.proofs.Given.SeizeWords.Plans.{ends_if}
+use Rattle.papaya_late.specs.Given.Seize.declared.progress.Progress.{Progress}
+use Rattle.papaya_late.specs.Given.Seize.declared.progress.Progress.TheVariants as progress
+use Rattle.papaya_late.specs.Given.Tables.Chunks.{is_incremental}
+use Rattle.papaya_late.specs.Given.Tables.Finding.{finding, may_name}
+use Rattle.papaya_late.specs.Given.Tables.Nodes.{table_seen}
+use Rattle.papaya_late.specs.Given.Tables.TablePlaces.{at_word}
+use Rattle.papaya_late.specs.Given.Tables.Trials.{first_trial, next_trial, place_tried}
+use Rattle.papaya_late.specs.Given.Tables.declared.finding.Aim.TheVariants.{Looks}
+use Rattle.papaya_late.specs.Given.Tables.declared.finding.Finding.{Finding}
+use Rattle.papaya_late.specs.Given.Tables.declared.finding.Finding.TheVariants as is
+use Rattle.papaya_late.specs.Given.Tables.declared.node.Node.{Node}
+use Rattle.papaya_late.specs.Given.Tables.declared.setting.Setting.{Setting}
+use Rattle.papaya_late.specs.Given.Tables.declared.table.Table.{Table}
+use Rattle.papaya_late.specs.Given.Tables.declared.table_words.TheConstants.{NEXT}
+use Rattle.papaya_late.specs.Given.Tables.declared.trial.Trial.{Trial}
+use Rattle.papaya_late.specs.Given.Resize.Lookup.{going, answered, passed, told_of, told, names_pair, link_found, word_found, plan_at, lookup_plan}
+use Rattle.papaya_late.specs.Given.Resize.declared.lookup.Lookup.{Lookup}
+use Rattle.papaya_late.specs.Given.Resize.declared.lookup.Looking.{Looking}
+use Rattle.papaya_late.specs.Given.Resize.declared.lookup.Looking.TheVariants as at
+use Rattle.papaya_late.specs.Given.Rule.Chart.{Chart}
+use Rattle.papaya_late.specs.Given.Rule.Maps.{IsTrial}
+use Rattle.papaya_late.specs.Given.Rule.Words.{Blocks}
+use Rattle.papaya_late.proofs.Given.Rule.Keys.TriesSeen.{IsNext, next_is}
+use Rattle.papaya_late.proofs.Given.Rule.Words.LinksRead.{link_ends}
+use Rattle.papaya_late.proofs.Given.Rule.Words.LinksSeen.{next_leads}
+use Rattle.papaya_late.specs.Given.Points.Measures.{IsBelow}
+use Rattle.papaya_late.specs.Given.Points.MeasuresLooks.{number_at_looking, number_of_lookup}
 use Rattle.papaya_falls.proofs.Kept.{keeps_still}
 use Rattle.papaya_falls.proofs.Onward.{Onward, past_kept}
 use Rattle.papaya_falls.proofs.Stands.{LookingStands}

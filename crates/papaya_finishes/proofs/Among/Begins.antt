@@ -2,20 +2,20 @@
 use Rattle.std.specs.Prelude.{◌≢◌, cond, Option, Some, None}
 use Rattle.std.proofs.Common.{◌≡◌, ℕ, suc, ◌<◌, ◌≤◌, Bool, true, false, List, [], ◌⊎◌, inl, inr, refl, arith, ap, sym, subst, ◌∙◌}
 use Rattle.std.proofs.lemmas.Bool.{cases_lt, ne_eqb}
-use Rattle.seize_words.specs.declared.at.At.TheVariants.{Used}
-use Rattle.seize_words.specs.Mem.{word_at}
-use Rattle.seize.specs.Law.{Ended, where_is, is_orphan, is_over, is_standing, owner_of}
-use Rattle.seize.specs.World.{World, IsOnto, Ends, Happens, with_at, with_effect}
-use Rattle.seize_alone.proofs.Histories.Further.{behind_it}
-use Rattle.seize_alone.proofs.Histories.Reached.{Reached}
-use Rattle.papaya_tables.specs.Chunks.{is_incremental}
-use Rattle.papaya_tables.specs.Nodes.{deferred_word}
-use Rattle.papaya_tables.specs.declared.node.Node.{Node}
-use Rattle.papaya_tables.specs.declared.node.Node.TheVariants as node
-use Rattle.papaya_rule.specs.Chart.{Claimed}
-use Rattle.papaya_rule.proofs.Laws.{current_is_known}
-use Rattle.papaya_points.specs.FactsCopies.{HasDone, ClaimsNone}
-use Rattle.papaya_points.specs.FactsCopiesBlocking.{HasNoShares}
+use Rattle.papaya_callers.specs.Given.SeizeWords.declared.at.At.TheVariants.{Used}
+use Rattle.papaya_callers.specs.Given.SeizeWords.Mem.{word_at}
+use Rattle.papaya_callers.specs.Given.Seize.Law.{Ended, where_is, is_orphan, is_over, is_standing, owner_of}
+use Rattle.papaya_callers.specs.Given.Seize.World.{World, IsOnto, Ends, Happens, with_at, with_effect}
+use Rattle.papaya_callers.proofs.Given.SeizeAlone.Histories.Further.{behind_it}
+use Rattle.papaya_callers.proofs.Given.SeizeAlone.Histories.Reached.{Reached}
+use Rattle.papaya_callers.specs.Given.Tables.Chunks.{is_incremental}
+use Rattle.papaya_callers.specs.Given.Tables.Nodes.{deferred_word}
+use Rattle.papaya_callers.specs.Given.Tables.declared.node.Node.{Node}
+use Rattle.papaya_callers.specs.Given.Tables.declared.node.Node.TheVariants as node
+use Rattle.papaya_callers.specs.Given.Rule.Chart.{Claimed}
+use Rattle.papaya_callers.proofs.Given.Rule.Laws.{current_is_known}
+use Rattle.papaya_callers.specs.Given.Points.FactsCopies.{HasDone, ClaimsNone}
+use Rattle.papaya_callers.specs.Given.Points.FactsCopiesBlocking.{HasNoShares}
 use Rattle.papaya_finishes.specs.Makings.{Beginning, HasTaken, HasMade}
 use Rattle.papaya_finishes.specs.Maps.{Standing}
 use Rattle.papaya_callers.specs.Together.{UnderWay, CameAbout, in_slot, Together}
@@ -26,7 +26,7 @@ use Rattle.papaya_callers.proofs.Rows.Defers.{used_stands}
 use Rattle.papaya_callers.proofs.Together.Came.{came_reached, came_next, none_onto_pair}
 use Rattle.papaya_finishes.specs.Endings.{Finishing, HasCounter, AllPairsOnce, FinishingFacts, finishing_of, EndingsTogether, NoEndingsBegin, EndingsBegin}
 use Rattle.papaya_finishes.specs.FactsEnds.{HasBehind, StandsFree, MayEnd}
-use Rattle.papaya_points.specs.Steps.{AreLawful}
+use Rattle.papaya_callers.specs.Given.Points.Steps.{AreLawful}
 use Rattle.papaya_finishes.proofs.Among.LeftAlone.{table_counter, pair_counter, facts_alone}
 use Rattle.papaya_finishes.proofs.Ends.Lasts.{IsLeftAlone}
 use Rattle.papaya_finishes.proofs.Ends.OrdersOn.{before_none}

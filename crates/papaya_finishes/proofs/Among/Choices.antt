@@ -1,12 +1,12 @@
 -- A choice of a free block number leaves each map, each making and each end as it was.
 use Rattle.std.specs.Prelude.{ℕ, Bool, [], ◌∷◌, ◌++◌, Option, Some}
 use Rattle.std.proofs.Common.{◌≡◌, refl, sym, subst}
-use Rattle.seize.specs.World.{World, Chooses}
-use Rattle.papaya_tables.specs.declared.node.Node.{Node}
-use Rattle.papaya_tables.specs.declared.setting.Setting.{Setting}
-use Rattle.papaya_rule.specs.Chart.{Chart}
-use Rattle.papaya_rule.specs.InWorld.{KeepsBlocks}
-use Rattle.papaya_rule.specs.Words.{Blocks}
+use Rattle.papaya_callers.specs.Given.Seize.World.{World, Chooses}
+use Rattle.papaya_callers.specs.Given.Tables.declared.node.Node.{Node}
+use Rattle.papaya_callers.specs.Given.Tables.declared.setting.Setting.{Setting}
+use Rattle.papaya_callers.specs.Given.Rule.Chart.{Chart}
+use Rattle.papaya_callers.specs.Given.Rule.InWorld.{KeepsBlocks}
+use Rattle.papaya_callers.specs.Given.Rule.Words.{Blocks}
 use Rattle.papaya_callers.specs.Together.{UnderWay, CameAbout, Together}
 use Rattle.papaya_callers.proofs.Together.Came.{came_next}
 use Rattle.papaya_finishes.specs.Choices.{ChoicesStandAmong}

@@ -2,19 +2,19 @@
 use Rattle.std.specs.Prelude.{◌≢◌, cond, map, Some}
 use Rattle.std.proofs.Common.{◌≡◌, ℕ, ◌<◌, ◌≤◌, Bool, true, false, List, [], ◌∷◌, inl, inr, refl, arith, ap, sym, subst, ◌∙◌}
 use Rattle.std.proofs.lemmas.Bool.{cases_lt}
-use Rattle.seize_words.specs.Mem.{Mem, value_at, word_at}
-use Rattle.seize_words.specs.declared.at.At.TheVariants.{Root, Used}
-use Rattle.seize.specs.World.{World, times}
-use Rattle.papaya_tables.specs.Chunks.{is_incremental}
-use Rattle.papaya_tables.proofs.Lists.{its_list}
-use Rattle.papaya_tables.specs.Nodes.{deferred_word}
-use Rattle.papaya_tables.specs.declared.node.Node.{Node}
-use Rattle.papaya_tables.specs.declared.table_words.TheConstants.{DEFERRED}
-use Rattle.papaya_raw.specs.declared.machines.end_map.Ending.{Ending}
-use Rattle.papaya_raw.specs.declared.machines.end_map.Ending.TheVariants as at
-use Rattle.papaya_tables.specs.declared.setting.Setting.{Setting}
-use Rattle.papaya_rule.specs.Chart.{Chart}
-use Rattle.papaya_rule.specs.Words.{Blocks, root_word}
+use Rattle.papaya_callers.specs.Given.SeizeWords.Mem.{Mem, value_at, word_at}
+use Rattle.papaya_callers.specs.Given.SeizeWords.declared.at.At.TheVariants.{Root, Used}
+use Rattle.papaya_callers.specs.Given.Seize.World.{World, times}
+use Rattle.papaya_callers.specs.Given.Tables.Chunks.{is_incremental}
+use Rattle.papaya_callers.proofs.Given.Tables.Lists.{its_list}
+use Rattle.papaya_callers.specs.Given.Tables.Nodes.{deferred_word}
+use Rattle.papaya_callers.specs.Given.Tables.declared.node.Node.{Node}
+use Rattle.papaya_callers.specs.Given.Tables.declared.table_words.TheConstants.{DEFERRED}
+use Rattle.papaya_callers.specs.Given.Raw.declared.machines.end_map.Ending.{Ending}
+use Rattle.papaya_callers.specs.Given.Raw.declared.machines.end_map.Ending.TheVariants as at
+use Rattle.papaya_callers.specs.Given.Tables.declared.setting.Setting.{Setting}
+use Rattle.papaya_callers.specs.Given.Rule.Chart.{Chart}
+use Rattle.papaya_callers.specs.Given.Rule.Words.{Blocks, root_word}
 use Rattle.papaya_callers.specs.Kept.{IsMaking, IsPair}
 use Rattle.papaya_callers.specs.Together.{CameAbout}
 use Rattle.papaya_callers.proofs.Rows.Behind.{pair_on}

@@ -1,21 +1,21 @@
 -- A call under way is told something as the machine that it is, or asked for the next pair: all stand together.
 use Rattle.std.specs.Prelude.{◌≡◌, ℕ, Bool, true, false, Option, Some}
 use Rattle.std.proofs.Common.{refl, ap, sym, subst, ◌∙◌, inl, inr}
-use Rattle.seize.specs.World.{World, with_at}
-use Rattle.seize_rule.proofs.Rows.Leaving.{with_same}
-use Rattle.papaya_tables.specs.declared.node.Node.{Node}
-use Rattle.papaya_sweeps.specs.SweepPoints.{after_next}
-use Rattle.papaya_sweeps.specs.declared.sweep.Sweeping.{Sweeping}
-use Rattle.papaya_sweeps.specs.declared.sweep.Sweeping.TheVariants as sweeping
-use Rattle.papaya_raw.specs.CallAsks.{told_at}
-use Rattle.papaya_raw.specs.Machine.{sweep_told, machine_replied}
-use Rattle.papaya_raw.specs.declared.machines.asking.Asking.{Asking}
-use Rattle.papaya_raw.specs.declared.machines.asking.Reply.{Reply}
-use Rattle.papaya_raw.specs.declared.machines.asking.Reply.TheVariants as reply
-use Rattle.papaya_raw.specs.declared.machines.call.Calling.{Calling}
-use Rattle.papaya_raw.specs.declared.machines.call.Calling.TheVariants as at
-use Rattle.papaya_raw.specs.declared.machines.machine.Machine.{Machine}
-use Rattle.papaya_raw.specs.declared.machines.machine.Machine.TheVariants as kinds
+use Rattle.papaya_callers.specs.Given.Seize.World.{World, with_at}
+use Rattle.papaya_callers.proofs.Given.SeizeRule.Rows.Leaving.{with_same}
+use Rattle.papaya_callers.specs.Given.Tables.declared.node.Node.{Node}
+use Rattle.papaya_callers.specs.Given.Sweeps.SweepPoints.{after_next}
+use Rattle.papaya_callers.specs.Given.Sweeps.declared.sweep.Sweeping.{Sweeping}
+use Rattle.papaya_callers.specs.Given.Sweeps.declared.sweep.Sweeping.TheVariants as sweeping
+use Rattle.papaya_callers.specs.Given.Raw.CallAsks.{told_at}
+use Rattle.papaya_callers.specs.Given.Raw.Machine.{sweep_told, machine_replied}
+use Rattle.papaya_callers.specs.Given.Raw.declared.machines.asking.Asking.{Asking}
+use Rattle.papaya_callers.specs.Given.Raw.declared.machines.asking.Reply.{Reply}
+use Rattle.papaya_callers.specs.Given.Raw.declared.machines.asking.Reply.TheVariants as reply
+use Rattle.papaya_callers.specs.Given.Raw.declared.machines.call.Calling.{Calling}
+use Rattle.papaya_callers.specs.Given.Raw.declared.machines.call.Calling.TheVariants as at
+use Rattle.papaya_callers.specs.Given.Raw.declared.machines.machine.Machine.{Machine}
+use Rattle.papaya_callers.specs.Given.Raw.declared.machines.machine.Machine.TheVariants as kinds
 use Rattle.papaya_callers.specs.OverAll.{CallOverAll, gone_on, told_of}
 use Rattle.papaya_callers.specs.Sights.{seen_by}
 use Rattle.papaya_callers.specs.Sweeps.{TakesTold}

@@ -1,14 +1,14 @@
 -- A step of a making spares each end of a map, and takes neither its root nor its counter.
 use Rattle.std.specs.Prelude.{◌≢◌, Option, Some, None}
 use Rattle.std.proofs.Common.{◌≡◌, ℕ, zero, suc, Bool, refl, arith, ap, sym, subst, ◌∙◌, inl, inr}
-use Rattle.seize_words.specs.declared.at.At.TheVariants.{Used}
-use Rattle.seize_words.specs.Mem.{Mem, value_at, word_at}
-use Rattle.seize.specs.World.{World, times, with_at}
-use Rattle.seize.specs.declared.progress.Progress.{Progress}
-use Rattle.seize.specs.declared.progress.Progress.TheVariants as progress
-use Rattle.papaya_tables.specs.declared.node.Node.{Node}
-use Rattle.papaya_tables.specs.declared.setting.Setting.{Setting}
-use Rattle.papaya_resize.specs.declared.new_map.NewMap.{NewMap}
+use Rattle.papaya_callers.specs.Given.SeizeWords.declared.at.At.TheVariants.{Used}
+use Rattle.papaya_callers.specs.Given.SeizeWords.Mem.{Mem, value_at, word_at}
+use Rattle.papaya_callers.specs.Given.Seize.World.{World, times, with_at}
+use Rattle.papaya_callers.specs.Given.Seize.declared.progress.Progress.{Progress}
+use Rattle.papaya_callers.specs.Given.Seize.declared.progress.Progress.TheVariants as progress
+use Rattle.papaya_callers.specs.Given.Tables.declared.node.Node.{Node}
+use Rattle.papaya_callers.specs.Given.Tables.declared.setting.Setting.{Setting}
+use Rattle.papaya_callers.specs.Given.Resize.declared.new_map.NewMap.{NewMap}
 use Rattle.papaya_finishes.specs.Makings.{Beginning, HasTaken, HasMade, MakingsTogether, MakingTold}
 use Rattle.papaya_finishes.specs.Maps.{Standing}
 use Rattle.papaya_callers.specs.Together.{UnderWay}

@@ -1,9 +1,9 @@
 -- A step of a row, within a call or between calls, spares each end of a map.
 use Rattle.std.specs.Prelude.{Option, Some, None}
 use Rattle.std.proofs.Common.{◌≡◌, ℕ, Bool, refl, subst}
-use Rattle.seize.specs.World.{World, Request, Begin, Step, Happens}
-use Rattle.papaya_tables.specs.Nodes.{deferred_word}
-use Rattle.papaya_tables.specs.declared.node.Node.{Node}
+use Rattle.papaya_callers.specs.Given.Seize.World.{World, Request, Begin, Step, Happens}
+use Rattle.papaya_callers.specs.Given.Tables.Nodes.{deferred_word}
+use Rattle.papaya_callers.specs.Given.Tables.declared.node.Node.{Node}
 use Rattle.papaya_finishes.specs.Makings.{Beginning, AllMakingsStand}
 use Rattle.papaya_finishes.specs.Maps.{Standing}
 use Rattle.papaya_callers.specs.Together.{OnKey, UnderWay, IsOfSlots, IsOneStep}

@@ -1,9 +1,9 @@
 -- Walks, clearings and retainings among calls, makings and ends of maps.
 use Rattle.std.specs.Prelude.{Option, Some, None}
 use Rattle.std.proofs.Common.{◌≡◌, ℕ, Bool, ap, sym, ◌∙◌}
-use Rattle.seize.specs.World.{World, with_at}
-use Rattle.papaya_tables.specs.declared.node.Node.{Node}
-use Rattle.papaya_sweeps.specs.SweepPoints.{after_next}
+use Rattle.papaya_callers.specs.Given.Seize.World.{World, with_at}
+use Rattle.papaya_callers.specs.Given.Tables.declared.node.Node.{Node}
+use Rattle.papaya_callers.specs.Given.Sweeps.SweepPoints.{after_next}
 use Rattle.papaya_callers.specs.OverAll.{CallOverAll, come_to, gone_on, told_of}
 use Rattle.papaya_callers.specs.Together.{UnderWay, OverAll, next_over_all, Together}
 use Rattle.papaya_finishes.specs.Makings.{Beginning}

@@ -1,21 +1,21 @@
 -- No block is reclaimed twice as a map ends, nor does one wait that is reclaimed.
 use Rattle.std.specs.Prelude.{◌-◌, ◌==◌, map, if◌then◌else◌, Option, Some, None}
 use Rattle.std.proofs.Common.{◌≡◌, ℕ, zero, suc, ◌+◌, ◌<◌, ◌≤◌, Bool, true, false, cond, List, [], ◌∷◌, ◌++◌, ◌⊎◌, inl, inr, refl, arith, ap, sym, subst, ◌∙◌, eqb-true}
-use Rattle.seize.specs.Law.{With, where_is}
-use Rattle.seize.specs.World.{World, Hand, NoBlock, Making, InUse, Cutting, Handed, LeftTo, times, Parting}
-use Rattle.papaya_tables.specs.Chunks.{is_incremental}
-use Rattle.papaya_tables.specs.declared.node.Node.{Node}
-use Rattle.papaya_tables.specs.declared.node.Node.TheVariants as node
-use Rattle.papaya_tables.specs.declared.setting.Setting.{Setting}
-use Rattle.seize_words.specs.Mem.{value_at}
-use Rattle.papaya_rule.specs.Chart.{Phase, Holds, Chart}
-use Rattle.papaya_rule.specs.Rule.{IsHome}
-use Rattle.papaya_rule.specs.Words.{Blocks}
-use Rattle.papaya_rule.specs.Maps.{spot_of}
-use Rattle.papaya_points.specs.Steps.{AreLawful}
+use Rattle.papaya_callers.specs.Given.Seize.Law.{With, where_is}
+use Rattle.papaya_callers.specs.Given.Seize.World.{World, Hand, NoBlock, Making, InUse, Cutting, Handed, LeftTo, times, Parting}
+use Rattle.papaya_callers.specs.Given.Tables.Chunks.{is_incremental}
+use Rattle.papaya_callers.specs.Given.Tables.declared.node.Node.{Node}
+use Rattle.papaya_callers.specs.Given.Tables.declared.node.Node.TheVariants as node
+use Rattle.papaya_callers.specs.Given.Tables.declared.setting.Setting.{Setting}
+use Rattle.papaya_callers.specs.Given.SeizeWords.Mem.{value_at}
+use Rattle.papaya_callers.specs.Given.Rule.Chart.{Phase, Holds, Chart}
+use Rattle.papaya_callers.specs.Given.Rule.Rule.{IsHome}
+use Rattle.papaya_callers.specs.Given.Rule.Words.{Blocks}
+use Rattle.papaya_callers.specs.Given.Rule.Maps.{spot_of}
+use Rattle.papaya_callers.specs.Given.Points.Steps.{AreLawful}
 use Rattle.papaya_callers.specs.Kept.{IsUsersOwn, IsMaking}
 use Rattle.papaya_finishes.specs.Orders.{given_of, waits_of, pairs_of, tables_in, waits_in}
-use Rattle.papaya_rule.specs.InWorld.{IsMapIn}
+use Rattle.papaya_callers.specs.Given.Rule.InWorld.{IsMapIn}
 use Rattle.papaya_finishes.specs.FactsEnds.{HasBehind, back_of, wait_from}
 use Rattle.papaya_finishes.proofs.Ends.CountedBlocks.{times-append, times_here, some_of_two, some_of_first, some_here}
 use Rattle.std.proofs.lemmas.Bool.{cases_lt}

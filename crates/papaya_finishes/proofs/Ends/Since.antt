@@ -2,15 +2,15 @@
 use Rattle.std.specs.Prelude.{◌≢◌, Some}
 use Rattle.std.proofs.Common.{◌≡◌, ℕ, zero, suc, ◌+◌, ◌<◌, ◌≤◌, Bool, true, false, List, [], ◌∷◌, ◌++◌, inl, inr, refl, arith, ap, sym, subst, ◌∙◌}
 use Rattle.std.proofs.lemmas.Bool.{cases_eq}
-use Rattle.seize_words.specs.Mem.{value_at}
-use Rattle.seize.specs.Law.{With, holds}
-use Rattle.seize.specs.World.{World, Row, Hand, InUse, Handed, LeftTo, IsOnto, times}
-use Rattle.papaya_tables.specs.declared.node.Node.{Node}
-use Rattle.papaya_tables.specs.declared.node.Node.TheVariants as node
-use Rattle.papaya_tables.specs.declared.setting.Setting.{Setting}
-use Rattle.papaya_rule.specs.Chart.{Chart}
-use Rattle.papaya_rule.specs.Words.{Blocks}
-use Rattle.papaya_points.specs.Steps.{AreLawful}
+use Rattle.papaya_callers.specs.Given.SeizeWords.Mem.{value_at}
+use Rattle.papaya_callers.specs.Given.Seize.Law.{With, holds}
+use Rattle.papaya_callers.specs.Given.Seize.World.{World, Row, Hand, InUse, Handed, LeftTo, IsOnto, times}
+use Rattle.papaya_callers.specs.Given.Tables.declared.node.Node.{Node}
+use Rattle.papaya_callers.specs.Given.Tables.declared.node.Node.TheVariants as node
+use Rattle.papaya_callers.specs.Given.Tables.declared.setting.Setting.{Setting}
+use Rattle.papaya_callers.specs.Given.Rule.Chart.{Chart}
+use Rattle.papaya_callers.specs.Given.Rule.Words.{Blocks}
+use Rattle.papaya_callers.specs.Given.Points.Steps.{AreLawful}
 use Rattle.papaya_callers.specs.Kept.{IsMaking}
 use Rattle.papaya_finishes.specs.Orders.{waits_of}
 use Rattle.papaya_finishes.specs.FactsEnds.{Deed, LeavesTable, taken_by, left_by, cut_by, joined_by, Spares, HasBehind, IsTableYet, Since, BeganIn, wait_before}

@@ -1,18 +1,18 @@
 -- What was so since a map began to end is so in another world, where its own blocks and those that wait are as they were.
 use Rattle.std.specs.Prelude.{◌≢◌, Option, Some, None, IsSome}
 use Rattle.std.proofs.Common.{◌≡◌, ℕ, ◌<◌, ◌≤◌, Bool, true, false, List, [], refl, arith, sym, subst, ap, ◌∙◌}
-use Rattle.seize_words.specs.declared.at.At.TheVariants.{Word}
-use Rattle.seize_words.specs.Mem.{value_at, word_at}
-use Rattle.seize.specs.Further.{FurtherFrom}
-use Rattle.seize.specs.Law.{With, holds, is_orphan, is_over, owner_of}
-use Rattle.seize.specs.World.{World, Handed, IsOnto, times}
-use Rattle.seize_alone.proofs.Histories.Reached.{Reached}
-use Rattle.papaya_tables.specs.Nodes.{deferred_word}
-use Rattle.papaya_tables.specs.declared.node.Node.{Node}
-use Rattle.papaya_tables.specs.declared.setting.Setting.{Setting}
-use Rattle.papaya_tables.specs.declared.table_words.TheConstants.{DEFERRED}
-use Rattle.papaya_rule.specs.Chart.{Chart}
-use Rattle.papaya_rule.specs.Words.{Blocks}
+use Rattle.papaya_callers.specs.Given.SeizeWords.declared.at.At.TheVariants.{Word}
+use Rattle.papaya_callers.specs.Given.SeizeWords.Mem.{value_at, word_at}
+use Rattle.papaya_callers.specs.Given.Seize.Further.{FurtherFrom}
+use Rattle.papaya_callers.specs.Given.Seize.Law.{With, holds, is_orphan, is_over, owner_of}
+use Rattle.papaya_callers.specs.Given.Seize.World.{World, Handed, IsOnto, times}
+use Rattle.papaya_callers.proofs.Given.SeizeAlone.Histories.Reached.{Reached}
+use Rattle.papaya_callers.specs.Given.Tables.Nodes.{deferred_word}
+use Rattle.papaya_callers.specs.Given.Tables.declared.node.Node.{Node}
+use Rattle.papaya_callers.specs.Given.Tables.declared.setting.Setting.{Setting}
+use Rattle.papaya_callers.specs.Given.Tables.declared.table_words.TheConstants.{DEFERRED}
+use Rattle.papaya_callers.specs.Given.Rule.Chart.{Chart}
+use Rattle.papaya_callers.specs.Given.Rule.Words.{Blocks}
 use Rattle.papaya_callers.specs.Kept.{IsMaking}
 use Rattle.papaya_callers.proofs.Rows.Behind.{behind_handed, pair_on}
 use Rattle.papaya_finishes.specs.FactsEnds.{Deed, Looks, TakesPair, LeavesTable, JoinsPair, TakesLeft, TakesCounter, WritesRoot, CarryTheirs, IsItsDeed, taken_by, left_by, cut_by, joined_by, Spares, HasBehind, IsOverStill, IsTableYet, Since, wait_before}

@@ -1,26 +1,26 @@
 -- A call that is under way after the last step of an event asks there just what the event asks, if it asks.
 use Rattle.std.specs.Prelude.{◌≡◌, ℕ, Bool, List, Option, Some}
 use Rattle.std.proofs.Common.{sym, subst, ◌∙◌, inl, inr}
-use Rattle.papaya_tables.specs.declared.node.Node.{Node}
-use Rattle.papaya_raw.specs.declared.machines.progress.Answer.TheVariants.{Key}
-use Rattle.papaya_raw.specs.declared.machines.progress.Progress.{Progress}
-use Rattle.papaya_raw.specs.declared.machines.progress.Progress.TheVariants as progress
-use Rattle.papaya_schedules.specs.declared.call.Call.TheVariants.{On}
-use Rattle.papaya_schedules.specs.declared.call.OneKey.{OneKey}
-use Rattle.papaya_schedules.specs.declared.effect.Effect.{Effect}
-use Rattle.papaya_schedules.specs.declared.outcome.Outcome.{Outcome}
-use Rattle.papaya_schedules.specs.declared.outcome.Outcome.TheVariants as outcome
-use Rattle.papaya_schedules.specs.Entry.{Entry}
-use Rattle.papaya_schedules.specs.Moment.{UnderWay as CallThere, Moment}
-use Rattle.papaya_callers.specs.Together.{CallOnKey, UnderWay, OnKey, ForRoom, Counting, OverAll}
-use Rattle.papaya_effects.specs.Effects.{known_after}
-use Rattle.papaya_effects.specs.Known.{Known}
-use Rattle.papaya_effects.specs.declared.acting.Acting.TheVariants as acts
-use Rattle.papaya_executor.specs.IsAt.{Scene, IsAt}
-use Rattle.papaya_executor.specs.Stepping.{StepLeads}
-use Rattle.papaya_executor.specs.declared.executor.Executor.{Executor}
-use Rattle.papaya_follows.proofs.Steps.{one_of}
-use Rattle.papaya_hands.specs.Calling.{AsksJust}
+use Rattle.papaya_moments.specs.Given.Tables.declared.node.Node.{Node}
+use Rattle.papaya_moments.specs.Given.Raw.declared.machines.progress.Answer.TheVariants.{Key}
+use Rattle.papaya_moments.specs.Given.Raw.declared.machines.progress.Progress.{Progress}
+use Rattle.papaya_moments.specs.Given.Raw.declared.machines.progress.Progress.TheVariants as progress
+use Rattle.papaya_moments.specs.Given.Schedules.declared.call.Call.TheVariants.{On}
+use Rattle.papaya_moments.specs.Given.Schedules.declared.call.OneKey.{OneKey}
+use Rattle.papaya_moments.specs.Given.Schedules.declared.effect.Effect.{Effect}
+use Rattle.papaya_moments.specs.Given.Schedules.declared.outcome.Outcome.{Outcome}
+use Rattle.papaya_moments.specs.Given.Schedules.declared.outcome.Outcome.TheVariants as outcome
+use Rattle.papaya_moments.specs.Given.Schedules.Entry.{Entry}
+use Rattle.papaya_moments.specs.Given.Schedules.Moment.{UnderWay as CallThere, Moment}
+use Rattle.papaya_moments.specs.Given.Callers.Together.{CallOnKey, UnderWay, OnKey, ForRoom, Counting, OverAll}
+use Rattle.papaya_moments.specs.Given.Effects.Effects.{known_after}
+use Rattle.papaya_moments.specs.Given.Effects.Known.{Known}
+use Rattle.papaya_moments.specs.Given.Effects.declared.acting.Acting.TheVariants as acts
+use Rattle.papaya_moments.specs.Given.Executor.IsAt.{Scene, IsAt}
+use Rattle.papaya_moments.specs.Given.Executor.Stepping.{StepLeads}
+use Rattle.papaya_moments.specs.Given.Executor.declared.executor.Executor.{Executor}
+use Rattle.papaya_moments.proofs.Given.Follows.Steps.{one_of}
+use Rattle.papaya_moments.specs.Given.Hands.Calling.{AsksJust}
 use Rattle.papaya_histories.specs.AsCalled.{AsksAsCalled}
 use Rattle.papaya_histories.specs.Asking.{IsToldQuestion}
 use Rattle.papaya_histories.specs.Events.{ComesToIt}

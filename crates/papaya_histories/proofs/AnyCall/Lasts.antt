@@ -1,12 +1,12 @@
 -- What an event of a call comes to is what its call comes to; it leaves maps.
 use Rattle.std.specs.Prelude.{◌≡◌, ℕ, List, Option, Some}
 use Rattle.std.proofs.Common.{refl, ap}
-use Rattle.papaya_schedules.specs.declared.event.Event.{Event}
-use Rattle.papaya_schedules.specs.declared.event.Event.TheVariants as event
-use Rattle.papaya_schedules.specs.declared.outcome.Outcome.{Outcome}
-use Rattle.papaya_schedules.specs.After.{stepped, calls_on, maps_on}
-use Rattle.papaya_schedules.specs.Entry.{caller_of}
-use Rattle.papaya_schedules.specs.Moment.{MapThere, UnderWay as CallThere}
+use Rattle.papaya_moments.specs.Given.Schedules.declared.event.Event.{Event}
+use Rattle.papaya_moments.specs.Given.Schedules.declared.event.Event.TheVariants as event
+use Rattle.papaya_moments.specs.Given.Schedules.declared.outcome.Outcome.{Outcome}
+use Rattle.papaya_moments.specs.Given.Schedules.After.{stepped, calls_on, maps_on}
+use Rattle.papaya_moments.specs.Given.Schedules.Entry.{caller_of}
+use Rattle.papaya_moments.specs.Given.Schedules.Moment.{MapThere, UnderWay as CallThere}
 
 module _ {K V : Type 0} where
   pub calls_over : (ev : Event K V) (o : Outcome V) (steps : ℕ) (cs : List (CallThere K V)) (own : List ℕ) → caller_of ev ≡ Some own → calls_on ev o steps cs ≡ stepped (Some own) o steps cs

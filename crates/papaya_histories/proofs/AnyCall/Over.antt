@@ -1,29 +1,29 @@
 -- Once an event of steps of a call is over, the moment after it shows all of the scene, what calls owe, and what those on no key are called for, told and ask.
 use Rattle.std.specs.Prelude.{◌≡◌, ℕ, Bool, true, false, List, ◌∷◌, Option, Some, None}
 use Rattle.std.proofs.Common.{refl, ap, sym, ◌∙◌, inl, inr}
-use Rattle.papaya_tables.specs.declared.node.Node.{Node}
-use Rattle.papaya_runs.specs.Same.{is_same}
-use Rattle.papaya_raw.specs.declared.machines.machine.Machine.{Machine}
-use Rattle.papaya_raw.specs.declared.machines.progress.Progress.{Progress}
-use Rattle.papaya_raw.specs.declared.machines.progress.Progress.TheVariants as progress
-use Rattle.papaya_schedules.specs.declared.effect.Effect.{Effect}
-use Rattle.papaya_schedules.specs.After.{stepped, moment}
-use Rattle.papaya_schedules.specs.Effects.{with_effects, worked}
-use Rattle.papaya_schedules.specs.Entry.{Entry, ends_call, caller_of, acted_on}
-use Rattle.papaya_schedules.specs.Moment.{UnderWay as CallThere, Moment}
-use Rattle.papaya_callers.specs.Together.{UnderWay, OnKey, ForRoom, Counting, OverAll}
-use Rattle.papaya_effects.specs.Effects.{effects_of, known_after}
-use Rattle.papaya_effects.specs.Known.{Known}
-use Rattle.papaya_effects.specs.declared.acting.Acting.TheVariants as acts
-use Rattle.papaya_executor.specs.IsAt.{Scene}
-use Rattle.papaya_executor.specs.Stepping.{StepLeads, has_ended, scene_after}
-use Rattle.papaya_executor.specs.declared.executor.Executor.{Executor}
-use Rattle.papaya_finishes.specs.Machines.{GoesOnAs}
-use Rattle.papaya_follows.specs.Calling.{NoneNamed, come_to}
-use Rattle.papaya_follows.proofs.Calling.{apart_back}
-use Rattle.papaya_hands.specs.Calling.{AsksJust}
-use Rattle.papaya_hands.proofs.Asking.{which}
-use Rattle.papaya_others.specs.Elsewhere.{HasSame}
+use Rattle.papaya_moments.specs.Given.Tables.declared.node.Node.{Node}
+use Rattle.papaya_moments.specs.Given.Runs.Same.{is_same}
+use Rattle.papaya_moments.specs.Given.Raw.declared.machines.machine.Machine.{Machine}
+use Rattle.papaya_moments.specs.Given.Raw.declared.machines.progress.Progress.{Progress}
+use Rattle.papaya_moments.specs.Given.Raw.declared.machines.progress.Progress.TheVariants as progress
+use Rattle.papaya_moments.specs.Given.Schedules.declared.effect.Effect.{Effect}
+use Rattle.papaya_moments.specs.Given.Schedules.After.{stepped, moment}
+use Rattle.papaya_moments.specs.Given.Schedules.Effects.{with_effects, worked}
+use Rattle.papaya_moments.specs.Given.Schedules.Entry.{Entry, ends_call, caller_of, acted_on}
+use Rattle.papaya_moments.specs.Given.Schedules.Moment.{UnderWay as CallThere, Moment}
+use Rattle.papaya_moments.specs.Given.Callers.Together.{UnderWay, OnKey, ForRoom, Counting, OverAll}
+use Rattle.papaya_moments.specs.Given.Effects.Effects.{effects_of, known_after}
+use Rattle.papaya_moments.specs.Given.Effects.Known.{Known}
+use Rattle.papaya_moments.specs.Given.Effects.declared.acting.Acting.TheVariants as acts
+use Rattle.papaya_moments.specs.Given.Executor.IsAt.{Scene}
+use Rattle.papaya_moments.specs.Given.Executor.Stepping.{StepLeads, has_ended, scene_after}
+use Rattle.papaya_moments.specs.Given.Executor.declared.executor.Executor.{Executor}
+use Rattle.papaya_moments.specs.Given.Finishes.Machines.{GoesOnAs}
+use Rattle.papaya_moments.specs.Given.Follows.Calling.{NoneNamed, come_to}
+use Rattle.papaya_moments.proofs.Given.Follows.Calling.{apart_back}
+use Rattle.papaya_moments.specs.Given.Hands.Calling.{AsksJust}
+use Rattle.papaya_moments.proofs.Given.Hands.Asking.{which}
+use Rattle.papaya_moments.specs.Given.Others.Elsewhere.{HasSame}
 use Rattle.papaya_moments.specs.Whole.{ShowsWhole}
 use Rattle.papaya_moments.proofs.After.{effects_after}
 use Rattle.papaya_moments.proofs.Calls.{calls_come_to_whole}

@@ -1,17 +1,17 @@
 -- What a moment shows of all, it shows, too, once other things of it have changed: how many events came, who is there, what is sheltered and what remains.
 use Rattle.std.specs.Prelude.{◌≡◌, ℕ, ◌+◌, Bool, ◌&&◌, List, ◌∷◌, Some}
 use Rattle.std.proofs.Common.{refl, sym, subst}
-use Rattle.papaya_runs.specs.Present.{Present}
-use Rattle.papaya_schedules.specs.After.{there_on, slots_on, sheltered_on, stepped, calls_on, maps_on, remains_on, closed_on, mapped_on, is_alone_on, moment}
-use Rattle.papaya_schedules.specs.Effects.{worked}
-use Rattle.papaya_schedules.specs.Entry.{Entry, caller_of}
-use Rattle.papaya_schedules.specs.Moment.{MapThere, Remains, Sheltered, UnderWay as CallThere, Moment}
-use Rattle.papaya_effects.specs.Known.{Known}
-use Rattle.papaya_executor.specs.IsAt.{Scene}
-use Rattle.papaya_follows.specs.Calling.{come_to}
-use Rattle.papaya_others.specs.After.{ShowsAfter}
-use Rattle.papaya_others.proofs.Elsewhere.{shown_elsewhere}
-use Rattle.papaya_others.proofs.Stays.{same_maps}
+use Rattle.papaya_moments.specs.Given.Runs.Present.{Present}
+use Rattle.papaya_moments.specs.Given.Schedules.After.{there_on, slots_on, sheltered_on, stepped, calls_on, maps_on, remains_on, closed_on, mapped_on, is_alone_on, moment}
+use Rattle.papaya_moments.specs.Given.Schedules.Effects.{worked}
+use Rattle.papaya_moments.specs.Given.Schedules.Entry.{Entry, caller_of}
+use Rattle.papaya_moments.specs.Given.Schedules.Moment.{MapThere, Remains, Sheltered, UnderWay as CallThere, Moment}
+use Rattle.papaya_moments.specs.Given.Effects.Known.{Known}
+use Rattle.papaya_moments.specs.Given.Executor.IsAt.{Scene}
+use Rattle.papaya_moments.specs.Given.Follows.Calling.{come_to}
+use Rattle.papaya_moments.specs.Given.Others.After.{ShowsAfter}
+use Rattle.papaya_moments.proofs.Given.Others.Elsewhere.{shown_elsewhere}
+use Rattle.papaya_moments.proofs.Given.Others.Stays.{same_maps}
 use Rattle.papaya_moments.specs.Whole.{ShowsWhole}
 use Rattle.papaya_moments.proofs.MapsCome.{asked_still}
 use Rattle.papaya_histories.specs.InEvent.{AllStaysShown}

@@ -2,59 +2,59 @@
 use Rattle.std.specs.Prelude.{◌≡◌, ℕ, Bool, true, false, List, Option, Some, None, ◌⊎◌}
 use Rattle.std.proofs.Common.{refl, ap, sym, subst, ◌∙◌, inl, inr}
 use Rattle.std.proofs.lemmas.Bool.{cases_eq}
-use Rattle.seize_words.specs.declared.fault.Fault.TheVariants.{Memory}
-use Rattle.seize.specs.World.{World, Hand, with_at}
-use Rattle.seize.specs.declared.progress.Progress.{Progress}
-use Rattle.seize.specs.declared.progress.Progress.TheVariants as progress
-use Rattle.seize.specs.declared.rows.settle.Settled.{Settled}
-use Rattle.seize.specs.declared.rows.settle.Settled.TheVariants as settled
-use Rattle.papaya_tables.specs.declared.node.Node.{Node}
-use Rattle.papaya_tables.specs.declared.setting.Setting.{Setting}
-use Rattle.papaya_resize.specs.declared.new_map.NewMap.{NewMap}
-use Rattle.papaya_sweeps.specs.SweepPoints.{after_next}
-use Rattle.papaya_sweeps.specs.declared.sweep.Sweeping.{Sweeping}
-use Rattle.papaya_sweeps.specs.declared.sweep.Sweeping.TheVariants as at
-use Rattle.papaya_raw.specs.Machine.{is_ready}
-use Rattle.papaya_raw.specs.declared.machines.end_map.EndMap.{EndMap}
-use Rattle.papaya_schedules.specs.declared.outcome.Outcome.TheVariants.{Refused}
-use Rattle.papaya_schedules.specs.Moment.{Moment}
-use Rattle.papaya_callers.specs.OverAll.{CallOverAll, gone_on}
-use Rattle.papaya_callers.specs.Together.{UnderWay, OverAll}
-use Rattle.papaya_callers.proofs.Together.At.{at_other, at_same}
-use Rattle.papaya_effects.specs.Effects.{effects_of}
-use Rattle.papaya_effects.specs.Known.{Known}
-use Rattle.papaya_effects.specs.declared.acting.Acting.TheVariants.{Row, Ending}
-use Rattle.papaya_executor.specs.Ending.{EndingComesTo, ending_begun}
-use Rattle.papaya_executor.specs.IsAt.{Scene, IsAt}
-use Rattle.papaya_executor.specs.Making.{MakingComesTo}
-use Rattle.papaya_executor.specs.Replying.{scene_with, unless_stopped}
-use Rattle.papaya_executor.specs.declared.executor.Executor.{Executor}
-use Rattle.papaya_finishes.specs.Endings.{Finishing}
-use Rattle.papaya_finishes.specs.FactsEnds.{Deed}
-use Rattle.papaya_finishes.specs.Makings.{Beginning}
-use Rattle.papaya_finishes.specs.Maps.{Standing, with_call}
-use Rattle.papaya_follows.specs.Calling.{NoneNamed, come_to}
-use Rattle.papaya_follows.specs.Calls.{IsCalled}
-use Rattle.papaya_follows.specs.Shows.{Shows}
-use Rattle.papaya_follows.proofs.Steps.{one_of}
-use Rattle.papaya_hands.specs.Hands.{IsInUse}
-use Rattle.papaya_hands.proofs.Asking.{which}
-use Rattle.papaya_others.specs.After.{ShowsAfter}
-use Rattle.papaya_others.specs.Endings.{ending_after, without_map}
-use Rattle.papaya_others.specs.Gone.{WasRetired, EndsWith}
-use Rattle.papaya_others.specs.Makings.{making_after}
-use Rattle.papaya_others.specs.Walks.{given_up}
-use Rattle.papaya_others.proofs.Elsewhere.{shown_elsewhere}
-use Rattle.papaya_others.proofs.EndBegins.{endings_begin_shown, endings_are_over}
-use Rattle.papaya_others.proofs.Ends.{endings_are_shown}
-use Rattle.papaya_others.proofs.MakeBegins.{makings_begin_shown, maps_are_there}
-use Rattle.papaya_others.proofs.Makes.{makings_are_shown}
-use Rattle.papaya_others.proofs.RowBegins.{rows_begin_shown}
-use Rattle.papaya_others.proofs.RowPlans.{row_tells}
-use Rattle.papaya_others.proofs.Rows.{rows_on_slots_are_shown}
-use Rattle.papaya_others.proofs.Stays.{same_maps}
-use Rattle.papaya_others.proofs.Walks.{fewer_calls, with_calls}
-use Rattle.papaya_spots.proofs.OnSlots.{row_beside as finds_numbers}
+use Rattle.papaya_moments.specs.Given.SeizeWords.declared.fault.Fault.TheVariants.{Memory}
+use Rattle.papaya_moments.specs.Given.Seize.World.{World, Hand, with_at}
+use Rattle.papaya_moments.specs.Given.Seize.declared.progress.Progress.{Progress}
+use Rattle.papaya_moments.specs.Given.Seize.declared.progress.Progress.TheVariants as progress
+use Rattle.papaya_moments.specs.Given.Seize.declared.rows.settle.Settled.{Settled}
+use Rattle.papaya_moments.specs.Given.Seize.declared.rows.settle.Settled.TheVariants as settled
+use Rattle.papaya_moments.specs.Given.Tables.declared.node.Node.{Node}
+use Rattle.papaya_moments.specs.Given.Tables.declared.setting.Setting.{Setting}
+use Rattle.papaya_moments.specs.Given.Resize.declared.new_map.NewMap.{NewMap}
+use Rattle.papaya_moments.specs.Given.Sweeps.SweepPoints.{after_next}
+use Rattle.papaya_moments.specs.Given.Sweeps.declared.sweep.Sweeping.{Sweeping}
+use Rattle.papaya_moments.specs.Given.Sweeps.declared.sweep.Sweeping.TheVariants as at
+use Rattle.papaya_moments.specs.Given.Raw.Machine.{is_ready}
+use Rattle.papaya_moments.specs.Given.Raw.declared.machines.end_map.EndMap.{EndMap}
+use Rattle.papaya_moments.specs.Given.Schedules.declared.outcome.Outcome.TheVariants.{Refused}
+use Rattle.papaya_moments.specs.Given.Schedules.Moment.{Moment}
+use Rattle.papaya_moments.specs.Given.Callers.OverAll.{CallOverAll, gone_on}
+use Rattle.papaya_moments.specs.Given.Callers.Together.{UnderWay, OverAll}
+use Rattle.papaya_moments.proofs.Given.Callers.Together.At.{at_other, at_same}
+use Rattle.papaya_moments.specs.Given.Effects.Effects.{effects_of}
+use Rattle.papaya_moments.specs.Given.Effects.Known.{Known}
+use Rattle.papaya_moments.specs.Given.Effects.declared.acting.Acting.TheVariants.{Row, Ending}
+use Rattle.papaya_moments.specs.Given.Executor.Ending.{EndingComesTo, ending_begun}
+use Rattle.papaya_moments.specs.Given.Executor.IsAt.{Scene, IsAt}
+use Rattle.papaya_moments.specs.Given.Executor.Making.{MakingComesTo}
+use Rattle.papaya_moments.specs.Given.Executor.Replying.{scene_with, unless_stopped}
+use Rattle.papaya_moments.specs.Given.Executor.declared.executor.Executor.{Executor}
+use Rattle.papaya_moments.specs.Given.Finishes.Endings.{Finishing}
+use Rattle.papaya_moments.specs.Given.Finishes.FactsEnds.{Deed}
+use Rattle.papaya_moments.specs.Given.Finishes.Makings.{Beginning}
+use Rattle.papaya_moments.specs.Given.Finishes.Maps.{Standing, with_call}
+use Rattle.papaya_moments.specs.Given.Follows.Calling.{NoneNamed, come_to}
+use Rattle.papaya_moments.specs.Given.Follows.Calls.{IsCalled}
+use Rattle.papaya_moments.specs.Given.Follows.Shows.{Shows}
+use Rattle.papaya_moments.proofs.Given.Follows.Steps.{one_of}
+use Rattle.papaya_moments.specs.Given.Hands.Hands.{IsInUse}
+use Rattle.papaya_moments.proofs.Given.Hands.Asking.{which}
+use Rattle.papaya_moments.specs.Given.Others.After.{ShowsAfter}
+use Rattle.papaya_moments.specs.Given.Others.Endings.{ending_after, without_map}
+use Rattle.papaya_moments.specs.Given.Others.Gone.{WasRetired, EndsWith}
+use Rattle.papaya_moments.specs.Given.Others.Makings.{making_after}
+use Rattle.papaya_moments.specs.Given.Others.Walks.{given_up}
+use Rattle.papaya_moments.proofs.Given.Others.Elsewhere.{shown_elsewhere}
+use Rattle.papaya_moments.proofs.Given.Others.EndBegins.{endings_begin_shown, endings_are_over}
+use Rattle.papaya_moments.proofs.Given.Others.Ends.{endings_are_shown}
+use Rattle.papaya_moments.proofs.Given.Others.MakeBegins.{makings_begin_shown, maps_are_there}
+use Rattle.papaya_moments.proofs.Given.Others.Makes.{makings_are_shown}
+use Rattle.papaya_moments.proofs.Given.Others.RowBegins.{rows_begin_shown}
+use Rattle.papaya_moments.proofs.Given.Others.RowPlans.{row_tells}
+use Rattle.papaya_moments.proofs.Given.Others.Rows.{rows_on_slots_are_shown}
+use Rattle.papaya_moments.proofs.Given.Others.Stays.{same_maps}
+use Rattle.papaya_moments.proofs.Given.Others.Walks.{fewer_calls, with_calls}
+use Rattle.papaya_moments.proofs.Given.Spots.OnSlots.{row_beside as finds_numbers}
 use Rattle.papaya_moments.specs.Endings.{IsOfIts}
 use Rattle.papaya_moments.specs.OnSlots.{HadRetired}
 use Rattle.papaya_moments.proofs.Beside.{IsBeside}

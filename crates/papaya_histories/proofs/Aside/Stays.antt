@@ -1,34 +1,34 @@
 -- Histories, what calls owe, and what those on no key are called for, told and ask, stay so where anything else happens than a step of a call.
 use Rattle.std.specs.Prelude.{◌≡◌, ℕ, ◌<◌, Bool, true, List, find, Option, Some, None, ◌⊎◌, IsSome}
 use Rattle.std.proofs.Common.{refl, ap, sym, subst, ◌∙◌, arith, inl, inr}
-use Rattle.seize_words.specs.Mem.{value_at}
-use Rattle.seize_words.specs.Word.{block_in}
-use Rattle.seize_words.specs.declared.fault.Fault.TheVariants.{Memory}
-use Rattle.papaya_tables.specs.declared.node.Node.{Node}
-use Rattle.papaya_runs.specs.Same.{is_same}
-use Rattle.papaya_sweeps.specs.declared.sweep.Sweeping.{Sweeping}
-use Rattle.papaya_sweeps.specs.declared.sweep.Sweeping.TheVariants as at
-use Rattle.papaya_schedules.specs.declared.outcome.Outcome.TheVariants.{Refused}
-use Rattle.papaya_schedules.specs.After.{moments_from}
-use Rattle.papaya_schedules.specs.Entry.{Entry}
-use Rattle.papaya_schedules.specs.Moment.{UnderWay as CallThere, Moment}
-use Rattle.papaya_schedules.specs.Views.{call_of}
-use Rattle.papaya_rule.specs.Chart.{Chart, Holds, Still}
-use Rattle.papaya_rule.specs.Words.{Blocks, place_word}
-use Rattle.papaya_points.specs.Steps.{AreLawful}
-use Rattle.papaya_late.specs.FactsSweeps.{SweepingFacts}
-use Rattle.papaya_late.specs.ToldSweeps.{IsRowOfSweep}
-use Rattle.papaya_callers.specs.OverAll.{CallOverAll}
-use Rattle.papaya_callers.specs.Sights.{seen_by}
-use Rattle.papaya_callers.specs.Together.{UnderWay, OnKey, ForRoom, Counting, OverAll, Together, in_slot}
-use Rattle.papaya_effects.specs.Known.{Known}
-use Rattle.papaya_executor.specs.IsAt.{Scene, IsAt, slot_of}
-use Rattle.papaya_executor.specs.declared.executor.Executor.{Executor}
-use Rattle.papaya_finishes.specs.Maps.{Standing}
-use Rattle.papaya_follows.proofs.Onward.{IsOfMap}
-use Rattle.papaya_hands.specs.Asked.{IsAsked, ShowsAsked}
-use Rattle.papaya_hands.proofs.Replacing.{same_on}
-use Rattle.papaya_others.specs.After.{ShowsAfter}
+use Rattle.papaya_moments.specs.Given.SeizeWords.Mem.{value_at}
+use Rattle.papaya_moments.specs.Given.SeizeWords.Word.{block_in}
+use Rattle.papaya_moments.specs.Given.SeizeWords.declared.fault.Fault.TheVariants.{Memory}
+use Rattle.papaya_moments.specs.Given.Tables.declared.node.Node.{Node}
+use Rattle.papaya_moments.specs.Given.Runs.Same.{is_same}
+use Rattle.papaya_moments.specs.Given.Sweeps.declared.sweep.Sweeping.{Sweeping}
+use Rattle.papaya_moments.specs.Given.Sweeps.declared.sweep.Sweeping.TheVariants as at
+use Rattle.papaya_moments.specs.Given.Schedules.declared.outcome.Outcome.TheVariants.{Refused}
+use Rattle.papaya_moments.specs.Given.Schedules.After.{moments_from}
+use Rattle.papaya_moments.specs.Given.Schedules.Entry.{Entry}
+use Rattle.papaya_moments.specs.Given.Schedules.Moment.{UnderWay as CallThere, Moment}
+use Rattle.papaya_moments.specs.Given.Schedules.Views.{call_of}
+use Rattle.papaya_moments.specs.Given.Rule.Chart.{Chart, Holds, Still}
+use Rattle.papaya_moments.specs.Given.Rule.Words.{Blocks, place_word}
+use Rattle.papaya_moments.specs.Given.Points.Steps.{AreLawful}
+use Rattle.papaya_moments.specs.Given.Late.FactsSweeps.{SweepingFacts}
+use Rattle.papaya_moments.specs.Given.Late.ToldSweeps.{IsRowOfSweep}
+use Rattle.papaya_moments.specs.Given.Callers.OverAll.{CallOverAll}
+use Rattle.papaya_moments.specs.Given.Callers.Sights.{seen_by}
+use Rattle.papaya_moments.specs.Given.Callers.Together.{UnderWay, OnKey, ForRoom, Counting, OverAll, Together, in_slot}
+use Rattle.papaya_moments.specs.Given.Effects.Known.{Known}
+use Rattle.papaya_moments.specs.Given.Executor.IsAt.{Scene, IsAt, slot_of}
+use Rattle.papaya_moments.specs.Given.Executor.declared.executor.Executor.{Executor}
+use Rattle.papaya_moments.specs.Given.Finishes.Maps.{Standing}
+use Rattle.papaya_moments.proofs.Given.Follows.Onward.{IsOfMap}
+use Rattle.papaya_moments.specs.Given.Hands.Asked.{IsAsked, ShowsAsked}
+use Rattle.papaya_moments.proofs.Given.Hands.Replacing.{same_on}
+use Rattle.papaya_moments.specs.Given.Others.After.{ShowsAfter}
 use Rattle.papaya_moments.proofs.Walks.{asks_nothing}
 use Rattle.papaya_moments.proofs.Beside.{IsBeside, StoodSo, StandsNew}
 use Rattle.papaya_histories.specs.AsCalled.{SweepAsks, IsAsCalled, ShowsAsCalled, AsksAsCalled}

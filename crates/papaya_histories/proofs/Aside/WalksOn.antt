@@ -1,27 +1,27 @@
 -- Where a walk that is ready goes on, histories stay within the moments of the run, and so does what calls owe, and what those on no key are called for, told and ask.
 use Rattle.std.specs.Prelude.{◌≡◌, ℕ, Bool, List, Option, Some, ◌⊎◌}
 use Rattle.std.proofs.Common.{refl, ap, sym, subst, ◌∙◌, inl, inr}
-use Rattle.papaya_sweeps.specs.SweepPoints.{next_at, after_next}
-use Rattle.papaya_sweeps.specs.declared.sweep.Sweeping.{Sweeping}
-use Rattle.papaya_sweeps.specs.declared.sweep.Sweeping.TheVariants as at
-use Rattle.papaya_schedules.specs.declared.call.Call.{Call}
-use Rattle.papaya_schedules.specs.declared.call.Call.TheVariants.{On}
-use Rattle.papaya_schedules.specs.declared.call.OneKey.{OneKey}
-use Rattle.papaya_schedules.specs.Entry.{Entry}
-use Rattle.papaya_schedules.specs.Moment.{UnderWay as CallThere, Moment}
-use Rattle.papaya_schedules.specs.Views.{call_of}
-use Rattle.papaya_callers.specs.OverAll.{CallOverAll, gone_on}
-use Rattle.papaya_callers.specs.Together.{CallOnKey, UnderWay, OnKey, OverAll}
-use Rattle.papaya_effects.specs.Known.{Known}
-use Rattle.papaya_executor.specs.IsAt.{Scene}
-use Rattle.papaya_executor.specs.Replying.{scene_with}
-use Rattle.papaya_finishes.specs.Maps.{Standing, with_call}
-use Rattle.papaya_follows.specs.Calls.{IsCalled}
-use Rattle.papaya_follows.specs.Shows.{Shows}
-use Rattle.papaya_follows.proofs.Steps.{one_of}
-use Rattle.papaya_hands.specs.Asked.{IsAsked, ShowsAsked}
-use Rattle.papaya_hands.proofs.Asking.{which}
-use Rattle.papaya_others.proofs.Walks.{fewer_calls}
+use Rattle.papaya_moments.specs.Given.Sweeps.SweepPoints.{next_at, after_next}
+use Rattle.papaya_moments.specs.Given.Sweeps.declared.sweep.Sweeping.{Sweeping}
+use Rattle.papaya_moments.specs.Given.Sweeps.declared.sweep.Sweeping.TheVariants as at
+use Rattle.papaya_moments.specs.Given.Schedules.declared.call.Call.{Call}
+use Rattle.papaya_moments.specs.Given.Schedules.declared.call.Call.TheVariants.{On}
+use Rattle.papaya_moments.specs.Given.Schedules.declared.call.OneKey.{OneKey}
+use Rattle.papaya_moments.specs.Given.Schedules.Entry.{Entry}
+use Rattle.papaya_moments.specs.Given.Schedules.Moment.{UnderWay as CallThere, Moment}
+use Rattle.papaya_moments.specs.Given.Schedules.Views.{call_of}
+use Rattle.papaya_moments.specs.Given.Callers.OverAll.{CallOverAll, gone_on}
+use Rattle.papaya_moments.specs.Given.Callers.Together.{CallOnKey, UnderWay, OnKey, OverAll}
+use Rattle.papaya_moments.specs.Given.Effects.Known.{Known}
+use Rattle.papaya_moments.specs.Given.Executor.IsAt.{Scene}
+use Rattle.papaya_moments.specs.Given.Executor.Replying.{scene_with}
+use Rattle.papaya_moments.specs.Given.Finishes.Maps.{Standing, with_call}
+use Rattle.papaya_moments.specs.Given.Follows.Calls.{IsCalled}
+use Rattle.papaya_moments.specs.Given.Follows.Shows.{Shows}
+use Rattle.papaya_moments.proofs.Given.Follows.Steps.{one_of}
+use Rattle.papaya_moments.specs.Given.Hands.Asked.{IsAsked, ShowsAsked}
+use Rattle.papaya_moments.proofs.Given.Hands.Asking.{which}
+use Rattle.papaya_moments.proofs.Given.Others.Walks.{fewer_calls}
 use Rattle.papaya_histories.specs.AsCalled.{IsSweptAs, IsAsCalled, ShowsAsCalled}
 use Rattle.papaya_histories.specs.Due.{Owes, ShowsDue}
 use Rattle.papaya_histories.specs.Histories.{began_of, ShowsHistory, StaysWithin}

@@ -3,24 +3,24 @@ use Rattle.std.specs.Prelude.{◌≡◌, ◌≢◌, ℕ, ◌==◌, Bool, true, f
 use Rattle.std.proofs.Common.{refl, ap, sym, subst, ◌∙◌, inl, inr}
 use Rattle.std.proofs.Math.Path.{fun_ext}
 use Rattle.std.proofs.lemmas.Bool.{cases_eq}
-use Rattle.seize.specs.World.{with_at}
-use Rattle.papaya_sweeps.specs.SweepPoints.{after_next}
-use Rattle.papaya_raw.specs.Machine.{machine_asked}
-use Rattle.papaya_raw.specs.declared.machines.machine.Machine.TheVariants as kinds
-use Rattle.papaya_callers.specs.OverAll.{CallOverAll, gone_on}
-use Rattle.papaya_callers.specs.Together.{UnderWay, OnKey, ForRoom, Counting, OverAll, Together}
-use Rattle.papaya_callers.proofs.Together.At.{at_other, at_same}
-use Rattle.papaya_callers.proofs.Together.SweepsTold.{sweeps_told_together}
-use Rattle.papaya_finishes.specs.Endings.{EndingsTogether}
-use Rattle.papaya_finishes.specs.Machines.{machine_of}
-use Rattle.papaya_finishes.specs.Maps.{Standing, with_call}
-use Rattle.papaya_finishes.proofs.Among.Calls.{no_ender, endings_with_call}
-use Rattle.papaya_finishes.proofs.Beside.Makings.CallSteps.{no_maker, makings_with_call}
-use Rattle.papaya_finishes.proofs.Beside.Maps.All.{maps_with_call}
-use Rattle.papaya_finishes.proofs.Beside.Maps.Steps.{no_other}
-use Rattle.papaya_executor.specs.IsAt.{Scene, IsAt, slot_of}
-use Rattle.papaya_executor.specs.Replying.{scene_with}
-use Rattle.papaya_executor.specs.declared.executor.Executor.{Executor}
+use Rattle.papaya_moments.specs.Given.Seize.World.{with_at}
+use Rattle.papaya_moments.specs.Given.Sweeps.SweepPoints.{after_next}
+use Rattle.papaya_moments.specs.Given.Raw.Machine.{machine_asked}
+use Rattle.papaya_moments.specs.Given.Raw.declared.machines.machine.Machine.TheVariants as kinds
+use Rattle.papaya_moments.specs.Given.Callers.OverAll.{CallOverAll, gone_on}
+use Rattle.papaya_moments.specs.Given.Callers.Together.{UnderWay, OnKey, ForRoom, Counting, OverAll, Together}
+use Rattle.papaya_moments.proofs.Given.Callers.Together.At.{at_other, at_same}
+use Rattle.papaya_moments.proofs.Given.Callers.Together.SweepsTold.{sweeps_told_together}
+use Rattle.papaya_moments.specs.Given.Finishes.Endings.{EndingsTogether}
+use Rattle.papaya_moments.specs.Given.Finishes.Machines.{machine_of}
+use Rattle.papaya_moments.specs.Given.Finishes.Maps.{Standing, with_call}
+use Rattle.papaya_moments.proofs.Given.Finishes.Among.Calls.{no_ender, endings_with_call}
+use Rattle.papaya_moments.proofs.Given.Finishes.Beside.Makings.CallSteps.{no_maker, makings_with_call}
+use Rattle.papaya_moments.proofs.Given.Finishes.Beside.Maps.All.{maps_with_call}
+use Rattle.papaya_moments.proofs.Given.Finishes.Beside.Maps.Steps.{no_other}
+use Rattle.papaya_moments.specs.Given.Executor.IsAt.{Scene, IsAt, slot_of}
+use Rattle.papaya_moments.specs.Given.Executor.Replying.{scene_with}
+use Rattle.papaya_moments.specs.Given.Executor.declared.executor.Executor.{Executor}
 use Rattle.papaya_histories.specs.Elsewhere.{WalksGoOnThere}
 use Rattle.papaya_histories.proofs.Several.{stands}
 

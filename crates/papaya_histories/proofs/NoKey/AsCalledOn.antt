@@ -2,45 +2,45 @@
 use Rattle.std.specs.Prelude.{◌≡◌, ℕ, ◌+◌, nat_lt, Bool, true, false, ◌&&◌, cond, List, [], ◌∷◌, find, Option, Some, None, Ok, if◌then◌else◌, ◌⊎◌}
 use Rattle.std.proofs.Common.{refl, ap, sym, subst, ◌∙◌, inl, inr}
 use Rattle.std.proofs.lemmas.Bool.{eq-eqb}
-use Rattle.seize_words.specs.Word.{block_in}
-use Rattle.papaya_runs.specs.Same.{is_same}
-use Rattle.papaya_sweeps.specs.SweepPoints.{removes, past, reply_at, after_reply}
-use Rattle.papaya_sweeps.specs.declared.sweep.Sweep.{Sweep}
-use Rattle.papaya_sweeps.specs.declared.sweep.Sweeping.{Sweeping}
-use Rattle.papaya_sweeps.specs.declared.sweep.Sweeping.TheVariants as at
-use Rattle.papaya_raw.specs.Machine.{machine_replied, sweep_told, sweep_replied}
-use Rattle.papaya_raw.specs.declared.machines.asking.Reply.{Reply as MachineReply}
-use Rattle.papaya_raw.specs.declared.machines.asking.Reply.TheVariants as reply
-use Rattle.papaya_schedules.specs.declared.call.Call.{Call}
-use Rattle.papaya_schedules.specs.declared.call.Reply.{Reply}
-use Rattle.papaya_schedules.specs.declared.call.Reply.TheVariants.{Gives, Removes, Aborts, Decides}
-use Rattle.papaya_schedules.specs.declared.outcome.Outcome.{Outcome}
-use Rattle.papaya_schedules.specs.declared.outcome.Outcome.TheVariants as outcome
-use Rattle.papaya_schedules.specs.After.{asks_on, comes_to, replied}
-use Rattle.papaya_schedules.specs.Beginning.{fresh_call, with_call}
-use Rattle.papaya_schedules.specs.Moment.{Stands, Going, Asking, Told, IsReady, UnderWay as CallThere, Moment}
-use Rattle.papaya_schedules.specs.Views.{call_of, reply_to}
-use Rattle.papaya_points.specs.Steps.{AreLawful}
-use Rattle.papaya_late.specs.Covers.{NamesPair as NamesIn}
-use Rattle.papaya_callers.specs.OverAll.{Verdict, CallOverAll, told_of}
-use Rattle.papaya_callers.specs.Sights.{seen_by, IsSight}
-use Rattle.papaya_callers.specs.Together.{UnderWay, OnKey, ForRoom, Counting, OverAll, Together}
-use Rattle.papaya_effects.specs.Known.{Known}
-use Rattle.papaya_effects.specs.declared.role.Role.TheVariants as role
-use Rattle.papaya_executor.specs.IsAt.{Scene, IsAt, slot_of}
-use Rattle.papaya_executor.specs.Replying.{scene_with}
-use Rattle.papaya_executor.specs.declared.executor.Executor.{Executor}
-use Rattle.papaya_finishes.specs.Machines.{machine_of, ToldOfKind}
-use Rattle.papaya_finishes.specs.Maps.{Standing}
-use Rattle.papaya_follows.specs.Calling.{told, come_to}
-use Rattle.papaya_follows.specs.Shows.{Shows}
-use Rattle.papaya_follows.proofs.Calling.{is_same_refl, replied_same, come, begins_with, told_with, come_with}
-use Rattle.papaya_follows.proofs.Calls.{found}
-use Rattle.papaya_follows.proofs.Steps.{one_of}
-use Rattle.papaya_hands.specs.Asked.{as_told}
-use Rattle.papaya_hands.proofs.Asking.{which}
-use Rattle.papaya_hands.proofs.Beginning.{runs_begin_so}
-use Rattle.papaya_hands.proofs.Calling.{caller_is}
+use Rattle.papaya_moments.specs.Given.SeizeWords.Word.{block_in}
+use Rattle.papaya_moments.specs.Given.Runs.Same.{is_same}
+use Rattle.papaya_moments.specs.Given.Sweeps.SweepPoints.{removes, past, reply_at, after_reply}
+use Rattle.papaya_moments.specs.Given.Sweeps.declared.sweep.Sweep.{Sweep}
+use Rattle.papaya_moments.specs.Given.Sweeps.declared.sweep.Sweeping.{Sweeping}
+use Rattle.papaya_moments.specs.Given.Sweeps.declared.sweep.Sweeping.TheVariants as at
+use Rattle.papaya_moments.specs.Given.Raw.Machine.{machine_replied, sweep_told, sweep_replied}
+use Rattle.papaya_moments.specs.Given.Raw.declared.machines.asking.Reply.{Reply as MachineReply}
+use Rattle.papaya_moments.specs.Given.Raw.declared.machines.asking.Reply.TheVariants as reply
+use Rattle.papaya_moments.specs.Given.Schedules.declared.call.Call.{Call}
+use Rattle.papaya_moments.specs.Given.Schedules.declared.call.Reply.{Reply}
+use Rattle.papaya_moments.specs.Given.Schedules.declared.call.Reply.TheVariants.{Gives, Removes, Aborts, Decides}
+use Rattle.papaya_moments.specs.Given.Schedules.declared.outcome.Outcome.{Outcome}
+use Rattle.papaya_moments.specs.Given.Schedules.declared.outcome.Outcome.TheVariants as outcome
+use Rattle.papaya_moments.specs.Given.Schedules.After.{asks_on, comes_to, replied}
+use Rattle.papaya_moments.specs.Given.Schedules.Beginning.{fresh_call, with_call}
+use Rattle.papaya_moments.specs.Given.Schedules.Moment.{Stands, Going, Asking, Told, IsReady, UnderWay as CallThere, Moment}
+use Rattle.papaya_moments.specs.Given.Schedules.Views.{call_of, reply_to}
+use Rattle.papaya_moments.specs.Given.Points.Steps.{AreLawful}
+use Rattle.papaya_moments.specs.Given.Late.Covers.{NamesPair as NamesIn}
+use Rattle.papaya_moments.specs.Given.Callers.OverAll.{Verdict, CallOverAll, told_of}
+use Rattle.papaya_moments.specs.Given.Callers.Sights.{seen_by, IsSight}
+use Rattle.papaya_moments.specs.Given.Callers.Together.{UnderWay, OnKey, ForRoom, Counting, OverAll, Together}
+use Rattle.papaya_moments.specs.Given.Effects.Known.{Known}
+use Rattle.papaya_moments.specs.Given.Effects.declared.role.Role.TheVariants as role
+use Rattle.papaya_moments.specs.Given.Executor.IsAt.{Scene, IsAt, slot_of}
+use Rattle.papaya_moments.specs.Given.Executor.Replying.{scene_with}
+use Rattle.papaya_moments.specs.Given.Executor.declared.executor.Executor.{Executor}
+use Rattle.papaya_moments.specs.Given.Finishes.Machines.{machine_of, ToldOfKind}
+use Rattle.papaya_moments.specs.Given.Finishes.Maps.{Standing}
+use Rattle.papaya_moments.specs.Given.Follows.Calling.{told, come_to}
+use Rattle.papaya_moments.specs.Given.Follows.Shows.{Shows}
+use Rattle.papaya_moments.proofs.Given.Follows.Calling.{is_same_refl, replied_same, come, begins_with, told_with, come_with}
+use Rattle.papaya_moments.proofs.Given.Follows.Calls.{found}
+use Rattle.papaya_moments.proofs.Given.Follows.Steps.{one_of}
+use Rattle.papaya_moments.specs.Given.Hands.Asked.{as_told}
+use Rattle.papaya_moments.proofs.Given.Hands.Asking.{which}
+use Rattle.papaya_moments.proofs.Given.Hands.Beginning.{runs_begin_so}
+use Rattle.papaya_moments.proofs.Given.Hands.Calling.{caller_is}
 use Rattle.papaya_histories.specs.AsCalled.{purpose_of, SweepAsks, IsLastTold, IsSweptAs, IsAsCalled, ShowsAsCalled, IsBegunAs, AsksAsCalled, AsCalledBegins, CallsBeginAsCalled, CallsComeToAsCalled, CallsTakeAsCalled}
 use Rattle.papaya_histories.proofs.Calling.{came_so}
 use Rattle.papaya_histories.proofs.DueOn.{comes_owed}

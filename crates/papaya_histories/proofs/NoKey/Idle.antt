@@ -1,19 +1,19 @@
 -- An event that does nothing, and by which no call has come to an end or asks, is linearizable.
 use Rattle.std.specs.Prelude.{◌≡◌, Bool, List, [], flat_map, Option, Some, None}
 use Rattle.std.proofs.Common.{refl, sym, subst, inl}
-use Rattle.seize_words.specs.declared.fault.Fault.TheVariants.{Busy}
-use Rattle.papaya_schedules.specs.declared.call.Call.{Call}
-use Rattle.papaya_schedules.specs.declared.call.Call.TheVariants as call
-use Rattle.papaya_schedules.specs.declared.effect.Effect.{Effect}
-use Rattle.papaya_schedules.specs.declared.outcome.Outcome.{Outcome}
-use Rattle.papaya_schedules.specs.declared.outcome.Outcome.TheVariants as outcome
-use Rattle.papaya_schedules.specs.After.{moment, moments_from}
-use Rattle.papaya_schedules.specs.Beginning.{at_work}
-use Rattle.papaya_schedules.specs.Effects.{worked}
-use Rattle.papaya_schedules.specs.Entry.{Entry, caller_of, acting}
-use Rattle.papaya_schedules.specs.Linearizable.{shift_of, Changes, Ends, ActsRight, ActsOf}
-use Rattle.papaya_schedules.specs.Moment.{UnderWay as CallThere, Moment}
-use Rattle.papaya_schedules.specs.Sequential.{Shift}
+use Rattle.papaya_moments.specs.Given.SeizeWords.declared.fault.Fault.TheVariants.{Busy}
+use Rattle.papaya_moments.specs.Given.Schedules.declared.call.Call.{Call}
+use Rattle.papaya_moments.specs.Given.Schedules.declared.call.Call.TheVariants as call
+use Rattle.papaya_moments.specs.Given.Schedules.declared.effect.Effect.{Effect}
+use Rattle.papaya_moments.specs.Given.Schedules.declared.outcome.Outcome.{Outcome}
+use Rattle.papaya_moments.specs.Given.Schedules.declared.outcome.Outcome.TheVariants as outcome
+use Rattle.papaya_moments.specs.Given.Schedules.After.{moment, moments_from}
+use Rattle.papaya_moments.specs.Given.Schedules.Beginning.{at_work}
+use Rattle.papaya_moments.specs.Given.Schedules.Effects.{worked}
+use Rattle.papaya_moments.specs.Given.Schedules.Entry.{Entry, caller_of, acting}
+use Rattle.papaya_moments.specs.Given.Schedules.Linearizable.{shift_of, Changes, Ends, ActsRight, ActsOf}
+use Rattle.papaya_moments.specs.Given.Schedules.Moment.{UnderWay as CallThere, Moment}
+use Rattle.papaya_moments.specs.Given.Schedules.Sequential.{Shift}
 use Rattle.papaya_histories.specs.OtherCalls.{IsIdle, IdleAreLinearizable}
 use Rattle.papaya_histories.proofs.OtherCalls.{IsNoQuestion, asks_none}
 

@@ -1,42 +1,42 @@
 -- A sweep keeps its purpose; where it says that it asks about a pair it stands there; and one that asks stays, and says so.
 use Rattle.std.specs.Prelude.{◌≡◌, ℕ, ◌==◌, ◌&&◌, Bool, true, false, Some, Ok, Err, if◌then◌else◌}
 use Rattle.std.proofs.Common.{refl, ap, subst}
-use Rattle.seize_words.specs.Op.{Out, Found, Stored, Exchanged, Made, Taken, Roomed}
-use Rattle.seize_words.specs.Plan.{plan_as}
-use Rattle.seize_words.specs.Word.{block_in}
-use Rattle.seize.specs.declared.rows.settle.Settled.{Settled}
-use Rattle.seize.specs.declared.rows.settle.Settled.TheVariants as settled
-use Rattle.papaya_tables.specs.Chunks.{is_incremental}
-use Rattle.papaya_tables.specs.Marks.{has_mark}
-use Rattle.papaya_tables.specs.Nodes.{table_seen}
-use Rattle.papaya_tables.specs.declared.marks.TheConstants.{COPYING}
-use Rattle.papaya_tables.specs.declared.node.Node.{Node}
-use Rattle.papaya_tables.specs.declared.table.Table.{Table}
-use Rattle.papaya_resize.specs.Copier.{copier_plan}
-use Rattle.papaya_resize.specs.Dispose.{dispose_plan}
-use Rattle.papaya_resize.specs.declared.copier.Copier.{Copier}
-use Rattle.papaya_resize.specs.declared.dispose.Dispose.{Dispose}
-use Rattle.papaya_resize.specs.declared.outcome.Outcome.{Outcome}
-use Rattle.papaya_resize.specs.declared.outcome.Outcome.TheVariants as outcome
-use Rattle.papaya_sweeps.specs.Sweep.{word_found, tried, disposed, root_read, next_read, copied, plan_at}
-use Rattle.papaya_sweeps.specs.SweepPoints.{removes, beginning, tableless, entering, further, told, telling, at_pair, seen}
-use Rattle.papaya_sweeps.specs.declared.sweep.Purpose.{Purpose}
-use Rattle.papaya_sweeps.specs.declared.sweep.Purpose.TheVariants.{Walks, Clears, Retains}
-use Rattle.papaya_sweeps.specs.declared.sweep.Sweep.{Sweep}
-use Rattle.papaya_sweeps.specs.declared.sweep.Sweeping.{Sweeping}
-use Rattle.papaya_sweeps.specs.declared.sweep.Sweeping.TheVariants as at
-use Rattle.papaya_sweeps.specs.declared.sweep.Swept.{Swept}
-use Rattle.papaya_sweeps.specs.declared.sweep.Swept.TheVariants as ends
-use Rattle.papaya_raw.specs.Machine.{swept}
-use Rattle.papaya_raw.specs.declared.machines.machine.Machine.{Machine}
-use Rattle.papaya_raw.specs.declared.machines.machine.Machine.TheVariants as kinds
-use Rattle.papaya_raw.specs.declared.machines.progress.Progress.{Progress}
-use Rattle.papaya_raw.specs.declared.machines.progress.Progress.TheVariants as progress
-use Rattle.papaya_rule.proofs.Keys.Always.{Always, AlwaysOf, always_if, always_plan_as}
-use Rattle.papaya_teller.specs.Tells.{StepsTold}
-use Rattle.papaya_teller.specs.declared.changed.Changed.TheVariants.{Nothing}
-use Rattle.papaya_executor.specs.Stepping.{StepsFrom}
-use Rattle.papaya_executor.specs.declared.executor.Executor.{Executor}
+use Rattle.papaya_moments.specs.Given.SeizeWords.Op.{Out, Found, Stored, Exchanged, Made, Taken, Roomed}
+use Rattle.papaya_moments.specs.Given.SeizeWords.Plan.{plan_as}
+use Rattle.papaya_moments.specs.Given.SeizeWords.Word.{block_in}
+use Rattle.papaya_moments.specs.Given.Seize.declared.rows.settle.Settled.{Settled}
+use Rattle.papaya_moments.specs.Given.Seize.declared.rows.settle.Settled.TheVariants as settled
+use Rattle.papaya_moments.specs.Given.Tables.Chunks.{is_incremental}
+use Rattle.papaya_moments.specs.Given.Tables.Marks.{has_mark}
+use Rattle.papaya_moments.specs.Given.Tables.Nodes.{table_seen}
+use Rattle.papaya_moments.specs.Given.Tables.declared.marks.TheConstants.{COPYING}
+use Rattle.papaya_moments.specs.Given.Tables.declared.node.Node.{Node}
+use Rattle.papaya_moments.specs.Given.Tables.declared.table.Table.{Table}
+use Rattle.papaya_moments.specs.Given.Resize.Copier.{copier_plan}
+use Rattle.papaya_moments.specs.Given.Resize.Dispose.{dispose_plan}
+use Rattle.papaya_moments.specs.Given.Resize.declared.copier.Copier.{Copier}
+use Rattle.papaya_moments.specs.Given.Resize.declared.dispose.Dispose.{Dispose}
+use Rattle.papaya_moments.specs.Given.Resize.declared.outcome.Outcome.{Outcome}
+use Rattle.papaya_moments.specs.Given.Resize.declared.outcome.Outcome.TheVariants as outcome
+use Rattle.papaya_moments.specs.Given.Sweeps.Sweep.{word_found, tried, disposed, root_read, next_read, copied, plan_at}
+use Rattle.papaya_moments.specs.Given.Sweeps.SweepPoints.{removes, beginning, tableless, entering, further, told, telling, at_pair, seen}
+use Rattle.papaya_moments.specs.Given.Sweeps.declared.sweep.Purpose.{Purpose}
+use Rattle.papaya_moments.specs.Given.Sweeps.declared.sweep.Purpose.TheVariants.{Walks, Clears, Retains}
+use Rattle.papaya_moments.specs.Given.Sweeps.declared.sweep.Sweep.{Sweep}
+use Rattle.papaya_moments.specs.Given.Sweeps.declared.sweep.Sweeping.{Sweeping}
+use Rattle.papaya_moments.specs.Given.Sweeps.declared.sweep.Sweeping.TheVariants as at
+use Rattle.papaya_moments.specs.Given.Sweeps.declared.sweep.Swept.{Swept}
+use Rattle.papaya_moments.specs.Given.Sweeps.declared.sweep.Swept.TheVariants as ends
+use Rattle.papaya_moments.specs.Given.Raw.Machine.{swept}
+use Rattle.papaya_moments.specs.Given.Raw.declared.machines.machine.Machine.{Machine}
+use Rattle.papaya_moments.specs.Given.Raw.declared.machines.machine.Machine.TheVariants as kinds
+use Rattle.papaya_moments.specs.Given.Raw.declared.machines.progress.Progress.{Progress}
+use Rattle.papaya_moments.specs.Given.Raw.declared.machines.progress.Progress.TheVariants as progress
+use Rattle.papaya_moments.proofs.Given.Rule.Keys.Always.{Always, AlwaysOf, always_if, always_plan_as}
+use Rattle.papaya_moments.specs.Given.Teller.Tells.{StepsTold}
+use Rattle.papaya_moments.specs.Given.Teller.declared.changed.Changed.TheVariants.{Nothing}
+use Rattle.papaya_moments.specs.Given.Executor.Stepping.{StepsFrom}
+use Rattle.papaya_moments.specs.Given.Executor.declared.executor.Executor.{Executor}
 use Rattle.papaya_histories.proofs.Asking.{always_turned, always_told}
 
 module _ (K V : Type 0) (p : Sweep) where

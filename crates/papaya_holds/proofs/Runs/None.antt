@@ -1,15 +1,15 @@
 -- Runs of machines that put no pair into a block, and what they leave.
 use Rattle.std.specs.Prelude.{[], Result}
-use Rattle.seize_words.specs.Mem.{Mem}
-use Rattle.seize_words.specs.Plan.{Plan}
-use Rattle.seize_words.specs.declared.fault.Fault.{Fault}
-use Rattle.seize.specs.Leave.{leave_plan}
-use Rattle.seize.specs.declared.progress.Progress.{Progress}
-use Rattle.papaya_tables.specs.Nodes.{deferred_word}
-use Rattle.papaya_tables.specs.declared.node.Node.{Node}
-use Rattle.papaya_resize.specs.NewMap.{new_map_plan}
-use Rattle.papaya_reserves.specs.Reserve.{reserve_plan}
-use Rattle.papaya_sweeps.specs.Sweep.{sweep_plan}
+use Rattle.papaya_owned.specs.Given.SeizeWords.Mem.{Mem}
+use Rattle.papaya_owned.specs.Given.SeizeWords.Plan.{Plan}
+use Rattle.papaya_owned.specs.Given.SeizeWords.declared.fault.Fault.{Fault}
+use Rattle.papaya_owned.specs.Given.Seize.Leave.{leave_plan}
+use Rattle.papaya_owned.specs.Given.Seize.declared.progress.Progress.{Progress}
+use Rattle.papaya_owned.specs.Given.Tables.Nodes.{deferred_word}
+use Rattle.papaya_owned.specs.Given.Tables.declared.node.Node.{Node}
+use Rattle.papaya_owned.specs.Given.Resize.NewMap.{new_map_plan}
+use Rattle.papaya_owned.specs.Given.Reserves.Reserve.{reserve_plan}
+use Rattle.papaya_owned.specs.Given.Sweeps.Sweep.{sweep_plan}
 use Rattle.papaya_owned.specs.Ending.{Ends, RunsTo, stops, goes}
 use Rattle.papaya_owned.specs.Machines.{for_room_after, for_room_plan, refreshes_after, refreshes_plan}
 use Rattle.papaya_owned.proofs.Runs.Steps.{may_step, ends_on}

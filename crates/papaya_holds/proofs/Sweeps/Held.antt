@@ -2,31 +2,31 @@
 use Rattle.std.specs.Prelude.{◌≡◌, ℕ, ◌<◌, ◌≤◌, Bool, true, List, Result, Ok, Err}
 use Rattle.std.proofs.Common.{refl, sym, ◌∙◌, ap, subst, arith}
 use denote.Ref.{Bor}
-use Rattle.seize_words.specs.Mem.{Mem, Can, Took, value_at}
-use Rattle.seize_words.specs.Plan.{May, Steps}
-use Rattle.seize_words.specs.declared.fault.Fault.{Fault}
-use Rattle.seize.specs.World.{World}
-use Rattle.seize.specs.declared.progress.Progress.{Progress}
-use Rattle.seize.specs.declared.progress.Progress.TheVariants as progress
-use Rattle.seize_rule.proofs.Rows.Leaving.{steps_back}
-use Rattle.papaya_tables.specs.declared.node.Node.{Node}
-use Rattle.papaya_tables.specs.declared.setting.Setting.{Setting}
-use Rattle.papaya_sweeps.specs.Sweep.{sweep_plan}
-use Rattle.papaya_sweeps.specs.SweepPoints.{sweeping, after_reply}
-use Rattle.papaya_sweeps.specs.declared.sweep.Purpose.{Purpose}
-use Rattle.papaya_sweeps.specs.declared.sweep.Sweep.{Sweep}
-use Rattle.papaya_sweeps.specs.declared.sweep.Sweeping.TheVariants as at
-use Rattle.papaya_sweeps.specs.declared.sweep.Swept.{Swept}
-use Rattle.papaya_sweeps.specs.declared.sweep.Swept.TheVariants as swept
-use Rattle.papaya_rule.specs.Chart.{Chart}
-use Rattle.papaya_rule.specs.Words.{Blocks}
-use Rattle.papaya_callers.specs.OverAll.{CallOverAll, begun_over_all, told_of}
-use Rattle.papaya_callers.specs.Sights.{Sight}
-use Rattle.papaya_callers.specs.Together.{OverAll, in_slot}
-use Rattle.papaya_whole.proofs.Sweeps.Begins.{sweeps_begin_alone}
-use Rattle.papaya_whole.proofs.Sweeps.Leads.{sweeps_go_on_alone}
-use Rattle.papaya_whole.proofs.Sweeps.ToldOn.{sweeps_told_alone}
-use Rattle.papaya_whole.specs.Owner.{IsAlone}
+use Rattle.papaya_owned.specs.Given.SeizeWords.Mem.{Mem, Can, Took, value_at}
+use Rattle.papaya_owned.specs.Given.SeizeWords.Plan.{May, Steps}
+use Rattle.papaya_owned.specs.Given.SeizeWords.declared.fault.Fault.{Fault}
+use Rattle.papaya_owned.specs.Given.Seize.World.{World}
+use Rattle.papaya_owned.specs.Given.Seize.declared.progress.Progress.{Progress}
+use Rattle.papaya_owned.specs.Given.Seize.declared.progress.Progress.TheVariants as progress
+use Rattle.papaya_owned.proofs.Given.SeizeRule.Rows.Leaving.{steps_back}
+use Rattle.papaya_owned.specs.Given.Tables.declared.node.Node.{Node}
+use Rattle.papaya_owned.specs.Given.Tables.declared.setting.Setting.{Setting}
+use Rattle.papaya_owned.specs.Given.Sweeps.Sweep.{sweep_plan}
+use Rattle.papaya_owned.specs.Given.Sweeps.SweepPoints.{sweeping, after_reply}
+use Rattle.papaya_owned.specs.Given.Sweeps.declared.sweep.Purpose.{Purpose}
+use Rattle.papaya_owned.specs.Given.Sweeps.declared.sweep.Sweep.{Sweep}
+use Rattle.papaya_owned.specs.Given.Sweeps.declared.sweep.Sweeping.TheVariants as at
+use Rattle.papaya_owned.specs.Given.Sweeps.declared.sweep.Swept.{Swept}
+use Rattle.papaya_owned.specs.Given.Sweeps.declared.sweep.Swept.TheVariants as swept
+use Rattle.papaya_owned.specs.Given.Rule.Chart.{Chart}
+use Rattle.papaya_owned.specs.Given.Rule.Words.{Blocks}
+use Rattle.papaya_owned.specs.Given.Callers.OverAll.{CallOverAll, begun_over_all, told_of}
+use Rattle.papaya_owned.specs.Given.Callers.Sights.{Sight}
+use Rattle.papaya_owned.specs.Given.Callers.Together.{OverAll, in_slot}
+use Rattle.papaya_owned.proofs.Given.Whole.Sweeps.Begins.{sweeps_begin_alone}
+use Rattle.papaya_owned.proofs.Given.Whole.Sweeps.Leads.{sweeps_go_on_alone}
+use Rattle.papaya_owned.proofs.Given.Whole.Sweeps.ToldOn.{sweeps_told_alone}
+use Rattle.papaya_owned.specs.Given.Whole.Owner.{IsAlone}
 use Rattle.papaya_owned.specs.Ending.{GoesOn, Tells, RunsTo, stops, goes}
 use Rattle.papaya_owned.specs.Owned.{Holds}
 use Rattle.papaya_sifts.specs.Sweeping.{IsSweeping, begun, asked, over_pairs_after, over_pairs_plan, over_pairs_settled}

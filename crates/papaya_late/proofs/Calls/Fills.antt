@@ -1,31 +1,31 @@
 -- A call that asks in a table that the root has left, puts what it was told into its own block, or gives that block up.
 use Rattle.std.specs.Prelude.{◌≡◌, ℕ, Bool, false, Option, Some, None}
 use Rattle.std.proofs.Common.{refl, ap, sym, subst, ◌∙◌, inl, inr}
-use Rattle.seize_words.specs.Mem.{Mem, value_at, Took}
-use Rattle.seize_words.specs.Plan.{Turn, Now, Steps}
-use Rattle.seize.specs.World.{World}
-use Rattle.papaya_raw.specs.CallFills.{fills, gives_up}
-use Rattle.papaya_raw.specs.CallPoints.{standing, going}
-use Rattle.papaya_raw.specs.Replies.{value_for}
-use Rattle.papaya_tables.specs.Chunks.{is_incremental}
-use Rattle.papaya_tables.specs.declared.marks.TheConstants.{TOMBSTONE}
-use Rattle.papaya_tables.specs.declared.node.Node.{Node}
-use Rattle.papaya_tables.specs.declared.setting.Setting.{Setting}
-use Rattle.papaya_raw.specs.declared.machines.answer.End.TheVariants as ends
-use Rattle.papaya_raw.specs.declared.machines.answer.Called.{Called}
-use Rattle.papaya_raw.specs.declared.machines.answer.Called.TheVariants.{Asks, Unstored}
-use Rattle.papaya_raw.specs.declared.machines.asking.Asking.{Asking}
-use Rattle.papaya_raw.specs.declared.machines.asking.Asking.TheVariants as asking
-use Rattle.papaya_raw.specs.declared.machines.asking.Takes.{Takes}
-use Rattle.papaya_raw.specs.declared.machines.asking.Replies.{Replies}
-use Rattle.papaya_raw.specs.declared.machines.call.KeyCall.{KeyCall}
-use Rattle.papaya_raw.specs.declared.machines.call.Calling.TheVariants as at
-use Rattle.seize_words.specs.declared.fault.Fault.TheVariants.{Memory}
-use Rattle.papaya_rule.specs.Chart.{Chart}
-use Rattle.papaya_rule.specs.Words.{Blocks}
-use Rattle.papaya_rule.specs.InWorld.{IsMapIn}
+use Rattle.papaya_points.specs.Given.SeizeWords.Mem.{Mem, value_at, Took}
+use Rattle.papaya_points.specs.Given.SeizeWords.Plan.{Turn, Now, Steps}
+use Rattle.papaya_points.specs.Given.Seize.World.{World}
+use Rattle.papaya_points.specs.Given.Raw.CallFills.{fills, gives_up}
+use Rattle.papaya_points.specs.Given.Raw.CallPoints.{standing, going}
+use Rattle.papaya_points.specs.Given.Raw.Replies.{value_for}
+use Rattle.papaya_points.specs.Given.Tables.Chunks.{is_incremental}
+use Rattle.papaya_points.specs.Given.Tables.declared.marks.TheConstants.{TOMBSTONE}
+use Rattle.papaya_points.specs.Given.Tables.declared.node.Node.{Node}
+use Rattle.papaya_points.specs.Given.Tables.declared.setting.Setting.{Setting}
+use Rattle.papaya_points.specs.Given.Raw.declared.machines.answer.End.TheVariants as ends
+use Rattle.papaya_points.specs.Given.Raw.declared.machines.answer.Called.{Called}
+use Rattle.papaya_points.specs.Given.Raw.declared.machines.answer.Called.TheVariants.{Asks, Unstored}
+use Rattle.papaya_points.specs.Given.Raw.declared.machines.asking.Asking.{Asking}
+use Rattle.papaya_points.specs.Given.Raw.declared.machines.asking.Asking.TheVariants as asking
+use Rattle.papaya_points.specs.Given.Raw.declared.machines.asking.Takes.{Takes}
+use Rattle.papaya_points.specs.Given.Raw.declared.machines.asking.Replies.{Replies}
+use Rattle.papaya_points.specs.Given.Raw.declared.machines.call.KeyCall.{KeyCall}
+use Rattle.papaya_points.specs.Given.Raw.declared.machines.call.Calling.TheVariants as at
+use Rattle.papaya_points.specs.Given.SeizeWords.declared.fault.Fault.TheVariants.{Memory}
+use Rattle.papaya_points.specs.Given.Rule.Chart.{Chart}
+use Rattle.papaya_points.specs.Given.Rule.Words.{Blocks}
+use Rattle.papaya_points.specs.Given.Rule.InWorld.{IsMapIn}
 use Rattle.papaya_points.specs.FactsCalls.{Unchanged, MayStore, RepliesFit, ByReply, holding, IsOwnPair, HasIts, NamesPair, MayReplace, MayTry, IsToFill}
-use Rattle.papaya_rule.proofs.World.WentStill.{went_still}
+use Rattle.papaya_points.proofs.Given.Rule.World.WentStill.{went_still}
 use Rattle.papaya_points.proofs.Calls.CallsOn.{Seeking}
 use Rattle.papaya_points.proofs.Calls.FillSteps as steps
 use Rattle.papaya_points.proofs.MovedLasts.{idle_in}

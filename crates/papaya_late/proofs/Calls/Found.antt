@@ -1,38 +1,38 @@
 -- What a call does by what it finds at its try, in a table that the root has left.
 use Rattle.std.specs.Prelude.{◌≡◌, ℕ, suc, ◌^◌, ◌<◌, Bool, true, false, Option, Some, None, if◌then◌else◌}
 use Rattle.std.proofs.Common.{refl, ap, sym, subst, ◌∙◌, inl, inr}
-use Rattle.seize.specs.World.{World}
-use Rattle.papaya_tables.specs.Chunks.{is_incremental}
-use Rattle.papaya_tables.specs.Finding.{finding}
-use Rattle.papaya_tables.specs.Trials.{next_trial, with_met}
-use Rattle.papaya_tables.specs.declared.marks.TheConstants.{TOMBSTONE}
-use Rattle.papaya_tables.specs.declared.node.Node.{Node}
-use Rattle.papaya_tables.specs.declared.setting.Setting.{Setting}
-use Rattle.papaya_tables.specs.declared.trial.Trial.{Trial}
-use Rattle.papaya_tables.specs.declared.finding.Finding.{Finding}
-use Rattle.papaya_tables.specs.declared.finding.Finding.TheVariants as is
-use Rattle.papaya_raw.specs.CallPoints.{aim_of, going, told, told_of, at_free, at_end, at_pair, beyond, passed}
-use Rattle.papaya_raw.specs.declared.machines.answer.There.{There}
-use Rattle.papaya_raw.specs.declared.machines.answer.There.TheVariants as there
-use Rattle.papaya_raw.specs.declared.machines.answer.Missing.{Missing}
-use Rattle.papaya_raw.specs.declared.machines.answer.Missing.TheVariants as missing
-use Rattle.papaya_raw.specs.declared.machines.answer.KeyAnswer.TheVariants as answers
-use Rattle.papaya_raw.specs.declared.machines.answer.Called.{Called}
-use Rattle.papaya_raw.specs.declared.machines.asking.Gap.TheVariants as gaps
-use Rattle.papaya_raw.specs.declared.machines.call.KeyCall.{KeyCall}
-use Rattle.papaya_raw.specs.declared.machines.call.Calling.TheVariants as at
-use Rattle.papaya_rule.specs.Chart.{Phase, Still, Place, Holds, Chart, is_taken}
-use Rattle.papaya_rule.specs.Rule.{IsLawful, Passed, Rule}
-use Rattle.papaya_rule.specs.Words.{Blocks, byte_of, place_word}
-use Rattle.papaya_rule.specs.Maps.{spot_at, spot_of, IsTrial}
-use Rattle.papaya_rule.specs.InWorld.{IsMapIn}
-use Rattle.papaya_rule.specs.Moments.{Moments}
-use Rattle.papaya_rule.proofs.Words.PlaceWords.{HasBlock}
-use Rattle.papaya_rule.proofs.Words.PlacesShown.{AreStored, are_stored, shown_block, shown_byte, shown_known}
-use Rattle.papaya_rule.proofs.Words.PlacesRead.{place_keyed}
-use Rattle.papaya_rule.proofs.Words.WordsSeen.{HasKey, Tells, Says, SaysFree, SaysPassed, SaysThere, says}
-use Rattle.papaya_rule.proofs.Keys.TriesSeen.{IsNext, next_is, trial_met}
-use Rattle.papaya_rule.proofs.Keys.ClassesSeen.{passed_further}
+use Rattle.papaya_points.specs.Given.Seize.World.{World}
+use Rattle.papaya_points.specs.Given.Tables.Chunks.{is_incremental}
+use Rattle.papaya_points.specs.Given.Tables.Finding.{finding}
+use Rattle.papaya_points.specs.Given.Tables.Trials.{next_trial, with_met}
+use Rattle.papaya_points.specs.Given.Tables.declared.marks.TheConstants.{TOMBSTONE}
+use Rattle.papaya_points.specs.Given.Tables.declared.node.Node.{Node}
+use Rattle.papaya_points.specs.Given.Tables.declared.setting.Setting.{Setting}
+use Rattle.papaya_points.specs.Given.Tables.declared.trial.Trial.{Trial}
+use Rattle.papaya_points.specs.Given.Tables.declared.finding.Finding.{Finding}
+use Rattle.papaya_points.specs.Given.Tables.declared.finding.Finding.TheVariants as is
+use Rattle.papaya_points.specs.Given.Raw.CallPoints.{aim_of, going, told, told_of, at_free, at_end, at_pair, beyond, passed}
+use Rattle.papaya_points.specs.Given.Raw.declared.machines.answer.There.{There}
+use Rattle.papaya_points.specs.Given.Raw.declared.machines.answer.There.TheVariants as there
+use Rattle.papaya_points.specs.Given.Raw.declared.machines.answer.Missing.{Missing}
+use Rattle.papaya_points.specs.Given.Raw.declared.machines.answer.Missing.TheVariants as missing
+use Rattle.papaya_points.specs.Given.Raw.declared.machines.answer.KeyAnswer.TheVariants as answers
+use Rattle.papaya_points.specs.Given.Raw.declared.machines.answer.Called.{Called}
+use Rattle.papaya_points.specs.Given.Raw.declared.machines.asking.Gap.TheVariants as gaps
+use Rattle.papaya_points.specs.Given.Raw.declared.machines.call.KeyCall.{KeyCall}
+use Rattle.papaya_points.specs.Given.Raw.declared.machines.call.Calling.TheVariants as at
+use Rattle.papaya_points.specs.Given.Rule.Chart.{Phase, Still, Place, Holds, Chart, is_taken}
+use Rattle.papaya_points.specs.Given.Rule.Rule.{IsLawful, Passed, Rule}
+use Rattle.papaya_points.specs.Given.Rule.Words.{Blocks, byte_of, place_word}
+use Rattle.papaya_points.specs.Given.Rule.Maps.{spot_at, spot_of, IsTrial}
+use Rattle.papaya_points.specs.Given.Rule.InWorld.{IsMapIn}
+use Rattle.papaya_points.specs.Given.Rule.Moments.{Moments}
+use Rattle.papaya_points.proofs.Given.Rule.Words.PlaceWords.{HasBlock}
+use Rattle.papaya_points.proofs.Given.Rule.Words.PlacesShown.{AreStored, are_stored, shown_block, shown_byte, shown_known}
+use Rattle.papaya_points.proofs.Given.Rule.Words.PlacesRead.{place_keyed}
+use Rattle.papaya_points.proofs.Given.Rule.Words.WordsSeen.{HasKey, Tells, Says, SaysFree, SaysPassed, SaysThere, says}
+use Rattle.papaya_points.proofs.Given.Rule.Keys.TriesSeen.{IsNext, next_is, trial_met}
+use Rattle.papaya_points.proofs.Given.Rule.Keys.ClassesSeen.{passed_further}
 use Rattle.papaya_points.proofs.Calls.CallsOn.{Seeking, seeking_at}
 use Rattle.papaya_points.specs.FactsCalls.{Unchanged, NamesPair}
 use Rattle.papaya_points.proofs.Calls.Holdings.{pair_missing, pair_there, none_removes}

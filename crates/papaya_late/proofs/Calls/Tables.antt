@@ -1,29 +1,29 @@
 -- A call reads the link to the table behind one that the root has left: that table is there.
 use Rattle.std.specs.Prelude.{◌≡◌, ℕ, suc, ◌<◌, Bool, false}
 use Rattle.std.proofs.Common.{refl, arith}
-use Rattle.seize_words.specs.Mem.{Mem, value_at, Can, Took}
-use Rattle.seize_words.specs.Plan.{May, Steps}
-use Rattle.seize_words.proofs.OneOwner.Operations.{may_load, loaded}
-use Rattle.seize.specs.World.{World}
-use Rattle.papaya_tables.specs.Chunks.{is_incremental}
-use Rattle.papaya_tables.specs.TablePlaces.{at_word}
-use Rattle.papaya_tables.specs.declared.node.Node.{Node}
-use Rattle.papaya_tables.specs.declared.setting.Setting.{Setting}
-use Rattle.papaya_tables.specs.declared.table_words.TheConstants.{NEXT}
-use Rattle.papaya_raw.specs.Call.{next_found, nexts}
-use Rattle.papaya_raw.specs.CallPoints.{at_last, went_on}
-use Rattle.papaya_raw.specs.declared.machines.answer.Called.{Called}
-use Rattle.papaya_raw.specs.declared.machines.call.KeyCall.{KeyCall}
-use Rattle.papaya_rule.specs.Chart.{Chart}
-use Rattle.papaya_rule.specs.Rule.{IsLawful}
-use Rattle.papaya_rule.specs.Words.{Blocks}
-use Rattle.papaya_rule.specs.Maps.{spot_of, IsTable}
-use Rattle.papaya_rule.specs.InWorld.{IsMapIn}
-use Rattle.papaya_rule.specs.Moments.{Moments}
-use Rattle.papaya_rule.proofs.Words.LinksRead.{see_link, link_ends}
-use Rattle.papaya_rule.proofs.Words.TablesSeen.{next_there}
-use Rattle.papaya_rule.proofs.Words.LinksSeen.{next_leads}
-use Rattle.papaya_rule.proofs.Words.WritesWords.{is_some_of}
+use Rattle.papaya_points.specs.Given.SeizeWords.Mem.{Mem, value_at, Can, Took}
+use Rattle.papaya_points.specs.Given.SeizeWords.Plan.{May, Steps}
+use Rattle.papaya_points.proofs.Given.SeizeWords.OneOwner.Operations.{may_load, loaded}
+use Rattle.papaya_points.specs.Given.Seize.World.{World}
+use Rattle.papaya_points.specs.Given.Tables.Chunks.{is_incremental}
+use Rattle.papaya_points.specs.Given.Tables.TablePlaces.{at_word}
+use Rattle.papaya_points.specs.Given.Tables.declared.node.Node.{Node}
+use Rattle.papaya_points.specs.Given.Tables.declared.setting.Setting.{Setting}
+use Rattle.papaya_points.specs.Given.Tables.declared.table_words.TheConstants.{NEXT}
+use Rattle.papaya_points.specs.Given.Raw.Call.{next_found, nexts}
+use Rattle.papaya_points.specs.Given.Raw.CallPoints.{at_last, went_on}
+use Rattle.papaya_points.specs.Given.Raw.declared.machines.answer.Called.{Called}
+use Rattle.papaya_points.specs.Given.Raw.declared.machines.call.KeyCall.{KeyCall}
+use Rattle.papaya_points.specs.Given.Rule.Chart.{Chart}
+use Rattle.papaya_points.specs.Given.Rule.Rule.{IsLawful}
+use Rattle.papaya_points.specs.Given.Rule.Words.{Blocks}
+use Rattle.papaya_points.specs.Given.Rule.Maps.{spot_of, IsTable}
+use Rattle.papaya_points.specs.Given.Rule.InWorld.{IsMapIn}
+use Rattle.papaya_points.specs.Given.Rule.Moments.{Moments}
+use Rattle.papaya_points.proofs.Given.Rule.Words.LinksRead.{see_link, link_ends}
+use Rattle.papaya_points.proofs.Given.Rule.Words.TablesSeen.{next_there}
+use Rattle.papaya_points.proofs.Given.Rule.Words.LinksSeen.{next_leads}
+use Rattle.papaya_points.proofs.Given.Rule.Words.WritesWords.{is_some_of}
 use Rattle.papaya_points.proofs.Calls.CallsOn.{Seeking}
 use Rattle.papaya_late.specs.Left.{Left}
 use Rattle.papaya_late.proofs.Calls.LatesOn.{LateComes}

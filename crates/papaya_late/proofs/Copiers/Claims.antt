@@ -2,36 +2,36 @@
 use Rattle.std.specs.Prelude.{Some, nat_lt}
 use Rattle.std.proofs.Common.{◌≡◌, ◌≢◌, ℕ, ◌+◌, ◌%◌, ◌^◌, ◌<◌, ◌≤◌, Bool, true, false, ◌⊎◌, inl, inr, refl, ap, sym, subst, ◌∙◌, arith}
 use Rattle.std.proofs.lemmas.Bool.{ne_eqb, ltb-true}
-use Rattle.seize_words.specs.Mem.{Mem, Took, value_at, word_at, with_word}
-use Rattle.seize_words.specs.Op.{Add, Found}
-use Rattle.seize_words.specs.Plan.{Steps}
-use Rattle.seize_words.proofs.OneOwner.Operations.{added}
-use Rattle.seize_words.proofs.Plans.{ends_if}
-use Rattle.seize.specs.World.{World}
-use Rattle.papaya_tables.specs.Chunks.{is_incremental}
-use Rattle.papaya_tables.specs.TablePlaces.{at_word}
-use Rattle.papaya_tables.specs.declared.node.Node.{Node}
-use Rattle.papaya_tables.specs.declared.setting.Setting.{Setting}
-use Rattle.papaya_tables.specs.declared.status.TheConstants.Status.{ABORTED}
-use Rattle.papaya_tables.specs.declared.table.Table.{Table}
-use Rattle.papaya_tables.specs.declared.table_words.TheConstants.{CLAIM}
-use Rattle.papaya_resize.specs.CopierClaims.{chunk, range_claimed, claims, claimed}
-use Rattle.papaya_resize.specs.CopierStates.{none_left}
-use Rattle.papaya_resize.specs.declared.copier.Copier.{Copier}
-use Rattle.papaya_resize.specs.declared.copier.Copying.TheVariants as at
-use Rattle.papaya_resize.specs.declared.outcome.Outcome.{Outcome}
-use Rattle.papaya_resize.specs.declared.outcome.Outcome.TheVariants.{Goes}
-use Rattle.papaya_rule.specs.Chart.{Chart}
-use Rattle.papaya_rule.specs.InWorld.{IsMapIn}
-use Rattle.papaya_rule.specs.Maps.{spot_of}
-use Rattle.papaya_rule.specs.Moments.{Moments}
-use Rattle.papaya_rule.specs.Moves.{Claims, is_of_caller, after}
-use Rattle.papaya_rule.specs.Rule.{IsLawful}
-use Rattle.papaya_rule.specs.Words.{Blocks, Shows}
-use Rattle.papaya_rule.proofs.Words.OwnWords.{own_at_word}
-use Rattle.papaya_rule.proofs.Words.TablesSeen.{len_is}
-use Rattle.papaya_rule.proofs.Words.WritesWords.{is_some_of}
-use Rattle.papaya_rule.proofs.World.Hands.{Hands}
+use Rattle.papaya_points.specs.Given.SeizeWords.Mem.{Mem, Took, value_at, word_at, with_word}
+use Rattle.papaya_points.specs.Given.SeizeWords.Op.{Add, Found}
+use Rattle.papaya_points.specs.Given.SeizeWords.Plan.{Steps}
+use Rattle.papaya_points.proofs.Given.SeizeWords.OneOwner.Operations.{added}
+use Rattle.papaya_points.proofs.Given.SeizeWords.Plans.{ends_if}
+use Rattle.papaya_points.specs.Given.Seize.World.{World}
+use Rattle.papaya_points.specs.Given.Tables.Chunks.{is_incremental}
+use Rattle.papaya_points.specs.Given.Tables.TablePlaces.{at_word}
+use Rattle.papaya_points.specs.Given.Tables.declared.node.Node.{Node}
+use Rattle.papaya_points.specs.Given.Tables.declared.setting.Setting.{Setting}
+use Rattle.papaya_points.specs.Given.Tables.declared.status.TheConstants.Status.{ABORTED}
+use Rattle.papaya_points.specs.Given.Tables.declared.table.Table.{Table}
+use Rattle.papaya_points.specs.Given.Tables.declared.table_words.TheConstants.{CLAIM}
+use Rattle.papaya_points.specs.Given.Resize.CopierClaims.{chunk, range_claimed, claims, claimed}
+use Rattle.papaya_points.specs.Given.Resize.CopierStates.{none_left}
+use Rattle.papaya_points.specs.Given.Resize.declared.copier.Copier.{Copier}
+use Rattle.papaya_points.specs.Given.Resize.declared.copier.Copying.TheVariants as at
+use Rattle.papaya_points.specs.Given.Resize.declared.outcome.Outcome.{Outcome}
+use Rattle.papaya_points.specs.Given.Resize.declared.outcome.Outcome.TheVariants.{Goes}
+use Rattle.papaya_points.specs.Given.Rule.Chart.{Chart}
+use Rattle.papaya_points.specs.Given.Rule.InWorld.{IsMapIn}
+use Rattle.papaya_points.specs.Given.Rule.Maps.{spot_of}
+use Rattle.papaya_points.specs.Given.Rule.Moments.{Moments}
+use Rattle.papaya_points.specs.Given.Rule.Moves.{Claims, is_of_caller, after}
+use Rattle.papaya_points.specs.Given.Rule.Rule.{IsLawful}
+use Rattle.papaya_points.specs.Given.Rule.Words.{Blocks, Shows}
+use Rattle.papaya_points.proofs.Given.Rule.Words.OwnWords.{own_at_word}
+use Rattle.papaya_points.proofs.Given.Rule.Words.TablesSeen.{len_is}
+use Rattle.papaya_points.proofs.Given.Rule.Words.WritesWords.{is_some_of}
+use Rattle.papaya_points.proofs.Given.Rule.World.Hands.{Hands}
 use Rattle.papaya_points.specs.FactsCopiesBlocking.{HasNoShares}
 use Rattle.papaya_points.proofs.Blocking.Targets.{chunk_few, chunk_some, claim_is, claim_shows}
 use Rattle.papaya_late.specs.Left.{ClaimsAreFew}

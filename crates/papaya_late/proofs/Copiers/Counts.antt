@@ -2,38 +2,38 @@
 use Rattle.std.specs.Prelude.{Some}
 use Rattle.std.proofs.Common.{◌≡◌, ◌≢◌, ℕ, ◌+◌, ◌%◌, ◌^◌, ◌==◌, Bool, true, false, cond, ◌⊎◌, inl, inr, refl, ap, sym, ◌∙◌, arith}
 use Rattle.std.proofs.lemmas.Bool.{ne_eqb, le-ltb}
-use Rattle.seize_words.specs.declared.at.At.{At}
-use Rattle.seize_words.specs.Mem.{Mem, Took, value_at, word_at, with_word}
-use Rattle.seize_words.specs.Op.{Add, Found}
-use Rattle.seize_words.specs.Plan.{Steps}
-use Rattle.seize_words.proofs.OneOwner.Operations.{added, stored}
-use Rattle.seize_words.proofs.Plans.{ends_if}
-use Rattle.seize.specs.World.{World}
-use Rattle.papaya_tables.specs.Chunks.{is_incremental}
-use Rattle.papaya_tables.specs.TablePlaces.{at_word}
-use Rattle.papaya_tables.specs.declared.node.Node.{Node}
-use Rattle.papaya_tables.specs.declared.setting.Setting.{Setting}
-use Rattle.papaya_tables.specs.declared.status.TheConstants.Status.{ABORTED}
-use Rattle.papaya_tables.specs.declared.table.Table.{Table}
-use Rattle.papaya_tables.specs.declared.table_words.TheConstants.{COPIED, STATUS}
-use Rattle.papaya_resize.specs.CopierCounts.{counts, counted}
-use Rattle.papaya_resize.specs.CopierFurther.{aborts, to}
-use Rattle.papaya_resize.specs.CopierStates.{standing, behind}
-use Rattle.papaya_resize.specs.declared.copier.Copier.{Copier}
-use Rattle.papaya_resize.specs.declared.copier.Copying.TheVariants as at
-use Rattle.papaya_resize.specs.declared.outcome.Outcome.{Outcome}
-use Rattle.papaya_resize.specs.declared.outcome.Outcome.TheVariants.{Goes}
-use Rattle.papaya_rule.specs.Chart.{Chart}
-use Rattle.papaya_rule.specs.InWorld.{IsMapIn}
-use Rattle.papaya_rule.specs.Maps.{spot_of}
-use Rattle.papaya_rule.specs.Moves.{counted_to, Counts, is_of_caller, after}
-use Rattle.papaya_rule.specs.Rule.{IsLawful}
-use Rattle.papaya_rule.specs.Words.{Blocks, Shows}
-use Rattle.papaya_rule.proofs.Words.OwnWords.{own_at_word}
-use Rattle.papaya_rule.proofs.Words.TablesSeen.{word_stands}
-use Rattle.papaya_rule.proofs.Words.WritesWords.{is_some_of}
-use Rattle.papaya_rule.proofs.Words.WrittenAgain.{written_again}
-use Rattle.papaya_rule.proofs.World.Hands.{Hands}
+use Rattle.papaya_points.specs.Given.SeizeWords.declared.at.At.{At}
+use Rattle.papaya_points.specs.Given.SeizeWords.Mem.{Mem, Took, value_at, word_at, with_word}
+use Rattle.papaya_points.specs.Given.SeizeWords.Op.{Add, Found}
+use Rattle.papaya_points.specs.Given.SeizeWords.Plan.{Steps}
+use Rattle.papaya_points.proofs.Given.SeizeWords.OneOwner.Operations.{added, stored}
+use Rattle.papaya_points.proofs.Given.SeizeWords.Plans.{ends_if}
+use Rattle.papaya_points.specs.Given.Seize.World.{World}
+use Rattle.papaya_points.specs.Given.Tables.Chunks.{is_incremental}
+use Rattle.papaya_points.specs.Given.Tables.TablePlaces.{at_word}
+use Rattle.papaya_points.specs.Given.Tables.declared.node.Node.{Node}
+use Rattle.papaya_points.specs.Given.Tables.declared.setting.Setting.{Setting}
+use Rattle.papaya_points.specs.Given.Tables.declared.status.TheConstants.Status.{ABORTED}
+use Rattle.papaya_points.specs.Given.Tables.declared.table.Table.{Table}
+use Rattle.papaya_points.specs.Given.Tables.declared.table_words.TheConstants.{COPIED, STATUS}
+use Rattle.papaya_points.specs.Given.Resize.CopierCounts.{counts, counted}
+use Rattle.papaya_points.specs.Given.Resize.CopierFurther.{aborts, to}
+use Rattle.papaya_points.specs.Given.Resize.CopierStates.{standing, behind}
+use Rattle.papaya_points.specs.Given.Resize.declared.copier.Copier.{Copier}
+use Rattle.papaya_points.specs.Given.Resize.declared.copier.Copying.TheVariants as at
+use Rattle.papaya_points.specs.Given.Resize.declared.outcome.Outcome.{Outcome}
+use Rattle.papaya_points.specs.Given.Resize.declared.outcome.Outcome.TheVariants.{Goes}
+use Rattle.papaya_points.specs.Given.Rule.Chart.{Chart}
+use Rattle.papaya_points.specs.Given.Rule.InWorld.{IsMapIn}
+use Rattle.papaya_points.specs.Given.Rule.Maps.{spot_of}
+use Rattle.papaya_points.specs.Given.Rule.Moves.{counted_to, Counts, is_of_caller, after}
+use Rattle.papaya_points.specs.Given.Rule.Rule.{IsLawful}
+use Rattle.papaya_points.specs.Given.Rule.Words.{Blocks, Shows}
+use Rattle.papaya_points.proofs.Given.Rule.Words.OwnWords.{own_at_word}
+use Rattle.papaya_points.proofs.Given.Rule.Words.TablesSeen.{word_stands}
+use Rattle.papaya_points.proofs.Given.Rule.Words.WritesWords.{is_some_of}
+use Rattle.papaya_points.proofs.Given.Rule.Words.WrittenAgain.{written_again}
+use Rattle.papaya_points.proofs.Given.Rule.World.Hands.{Hands}
 use Rattle.papaya_points.specs.FactsCopiesBlocking.{HasNoShares}
 use Rattle.papaya_points.proofs.Blocking.Targets.{copied_is, copied_shows}
 use Rattle.papaya_late.specs.LateCopies.{CopiesLate, CopiesAborted, LateCopying}

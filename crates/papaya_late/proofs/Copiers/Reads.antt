@@ -2,28 +2,28 @@
 use Rattle.std.specs.Prelude.{nat_lt, if◌then◌else◌}
 use Rattle.std.proofs.Common.{◌≡◌, ℕ, ◌<◌, ◌==◌, Bool, true, false, ◌⊎◌, inl, inr, refl, ap, sym, subst, ◌∙◌, arith}
 use Rattle.std.proofs.lemmas.Bool.{cases_lt, eqb-true}
-use Rattle.seize_words.specs.Mem.{Mem, Took, value_at}
-use Rattle.seize_words.specs.Plan.{Now, Steps, Ends}
-use Rattle.seize_words.proofs.OneOwner.Operations.{loaded}
-use Rattle.seize_words.proofs.Plans.{ends_if}
-use Rattle.seize.specs.World.{World}
-use Rattle.papaya_tables.specs.TablePlaces.{at_word}
-use Rattle.papaya_tables.specs.declared.node.Node.{Node}
-use Rattle.papaya_tables.specs.declared.setting.Setting.{Setting}
-use Rattle.papaya_tables.specs.declared.status.TheConstants.Status.{ABORTED, PROMOTED}
-use Rattle.papaya_tables.specs.declared.table.Table.{Table}
-use Rattle.papaya_tables.specs.declared.table_words.TheConstants.{CLAIM, STATUS}
-use Rattle.papaya_resize.specs.CopierClaims.{asks, sees, status_read, claim_read, to}
-use Rattle.papaya_resize.specs.CopierStates.{standing, none_left}
-use Rattle.papaya_resize.specs.declared.copier.Copier.{Copier}
-use Rattle.papaya_resize.specs.declared.copier.Copying.TheVariants as at
-use Rattle.papaya_resize.specs.declared.outcome.Outcome.{Outcome}
-use Rattle.papaya_resize.specs.declared.outcome.Outcome.TheVariants.{Goes, Waits, Done}
-use Rattle.papaya_rule.specs.Chart.{Chart}
-use Rattle.papaya_rule.specs.InWorld.{IsMapIn}
-use Rattle.papaya_rule.specs.Maps.{IsTable}
-use Rattle.papaya_rule.specs.Moments.{Moments}
-use Rattle.papaya_rule.specs.Words.{Blocks}
+use Rattle.papaya_points.specs.Given.SeizeWords.Mem.{Mem, Took, value_at}
+use Rattle.papaya_points.specs.Given.SeizeWords.Plan.{Now, Steps, Ends}
+use Rattle.papaya_points.proofs.Given.SeizeWords.OneOwner.Operations.{loaded}
+use Rattle.papaya_points.proofs.Given.SeizeWords.Plans.{ends_if}
+use Rattle.papaya_points.specs.Given.Seize.World.{World}
+use Rattle.papaya_points.specs.Given.Tables.TablePlaces.{at_word}
+use Rattle.papaya_points.specs.Given.Tables.declared.node.Node.{Node}
+use Rattle.papaya_points.specs.Given.Tables.declared.setting.Setting.{Setting}
+use Rattle.papaya_points.specs.Given.Tables.declared.status.TheConstants.Status.{ABORTED, PROMOTED}
+use Rattle.papaya_points.specs.Given.Tables.declared.table.Table.{Table}
+use Rattle.papaya_points.specs.Given.Tables.declared.table_words.TheConstants.{CLAIM, STATUS}
+use Rattle.papaya_points.specs.Given.Resize.CopierClaims.{asks, sees, status_read, claim_read, to}
+use Rattle.papaya_points.specs.Given.Resize.CopierStates.{standing, none_left}
+use Rattle.papaya_points.specs.Given.Resize.declared.copier.Copier.{Copier}
+use Rattle.papaya_points.specs.Given.Resize.declared.copier.Copying.TheVariants as at
+use Rattle.papaya_points.specs.Given.Resize.declared.outcome.Outcome.{Outcome}
+use Rattle.papaya_points.specs.Given.Resize.declared.outcome.Outcome.TheVariants.{Goes, Waits, Done}
+use Rattle.papaya_points.specs.Given.Rule.Chart.{Chart}
+use Rattle.papaya_points.specs.Given.Rule.InWorld.{IsMapIn}
+use Rattle.papaya_points.specs.Given.Rule.Maps.{IsTable}
+use Rattle.papaya_points.specs.Given.Rule.Moments.{Moments}
+use Rattle.papaya_points.specs.Given.Rule.Words.{Blocks}
 use Rattle.papaya_points.proofs.Blocking.Targets.{status_is}
 use Rattle.papaya_points.specs.FactsCopiesBlocking.{HasNoShares}
 use Rattle.papaya_late.specs.Left.{Left}

@@ -1,35 +1,35 @@
 -- A copier whose source the root has left ends a making of the table behind one that was aborted: another one stands there.
 use Rattle.std.specs.Int.{IsPowerOfTwo}
 use Rattle.std.proofs.Common.{◌≡◌, ℕ, suc, ◌<◌, ◌≤◌, Bool, false, inl, inr, refl, sym, subst, ◌∙◌, arith}
-use Rattle.seize_words.specs.declared.at.At.TheVariants.{Word}
-use Rattle.seize_words.specs.Mem.{Mem, Can, Took, value_at}
-use Rattle.seize_words.specs.Plan.{May, Steps}
-use Rattle.seize_words.proofs.Plans.{as_may}
-use Rattle.seize.specs.World.{World}
-use Rattle.seize.specs.declared.progress.Progress.{Progress}
-use Rattle.seize.specs.declared.progress.Progress.TheVariants as progress
-use Rattle.seize_rule.proofs.Rows.Leaving.{steps_back}
-use Rattle.papaya_tables.specs.Chunks.{is_incremental}
-use Rattle.papaya_tables.specs.declared.node.Node.{Node}
-use Rattle.papaya_tables.specs.declared.setting.Setting.{Setting}
-use Rattle.papaya_tables.specs.declared.table.Table.{Table}
-use Rattle.papaya_tables.specs.declared.table_words.TheConstants.{NEXT}
-use Rattle.papaya_resize.specs.CopierFurther.{anew, remade, remakes}
-use Rattle.papaya_resize.specs.CopierStates.{standing}
-use Rattle.papaya_resize.specs.NewTable.{new_table_plan}
-use Rattle.papaya_resize.specs.declared.copier.Copier.{Copier}
-use Rattle.papaya_resize.specs.declared.copier.Copying.TheVariants as at
-use Rattle.papaya_resize.specs.declared.new_table.NewTable.{NewTable}
-use Rattle.papaya_resize.specs.declared.outcome.Outcome.{Outcome}
-use Rattle.papaya_rule.specs.Chart.{Chart, put}
-use Rattle.papaya_rule.specs.InWorld.{IsMapIn, SameBlocks, SparesPairs}
-use Rattle.papaya_rule.specs.Maps.{spot_of, IsTable}
-use Rattle.papaya_rule.specs.Moments.{Moments}
-use Rattle.papaya_rule.specs.Moves.{Links, after}
-use Rattle.papaya_rule.specs.Rule.{IsLawful}
-use Rattle.papaya_rule.specs.Words.{Blocks}
-use Rattle.papaya_rule.proofs.Moves.Writes.{put_elsewhere}
-use Rattle.papaya_rule.proofs.World.WentTold.{went_as}
+use Rattle.papaya_points.specs.Given.SeizeWords.declared.at.At.TheVariants.{Word}
+use Rattle.papaya_points.specs.Given.SeizeWords.Mem.{Mem, Can, Took, value_at}
+use Rattle.papaya_points.specs.Given.SeizeWords.Plan.{May, Steps}
+use Rattle.papaya_points.proofs.Given.SeizeWords.Plans.{as_may}
+use Rattle.papaya_points.specs.Given.Seize.World.{World}
+use Rattle.papaya_points.specs.Given.Seize.declared.progress.Progress.{Progress}
+use Rattle.papaya_points.specs.Given.Seize.declared.progress.Progress.TheVariants as progress
+use Rattle.papaya_points.proofs.Given.SeizeRule.Rows.Leaving.{steps_back}
+use Rattle.papaya_points.specs.Given.Tables.Chunks.{is_incremental}
+use Rattle.papaya_points.specs.Given.Tables.declared.node.Node.{Node}
+use Rattle.papaya_points.specs.Given.Tables.declared.setting.Setting.{Setting}
+use Rattle.papaya_points.specs.Given.Tables.declared.table.Table.{Table}
+use Rattle.papaya_points.specs.Given.Tables.declared.table_words.TheConstants.{NEXT}
+use Rattle.papaya_points.specs.Given.Resize.CopierFurther.{anew, remade, remakes}
+use Rattle.papaya_points.specs.Given.Resize.CopierStates.{standing}
+use Rattle.papaya_points.specs.Given.Resize.NewTable.{new_table_plan}
+use Rattle.papaya_points.specs.Given.Resize.declared.copier.Copier.{Copier}
+use Rattle.papaya_points.specs.Given.Resize.declared.copier.Copying.TheVariants as at
+use Rattle.papaya_points.specs.Given.Resize.declared.new_table.NewTable.{NewTable}
+use Rattle.papaya_points.specs.Given.Resize.declared.outcome.Outcome.{Outcome}
+use Rattle.papaya_points.specs.Given.Rule.Chart.{Chart, put}
+use Rattle.papaya_points.specs.Given.Rule.InWorld.{IsMapIn, SameBlocks, SparesPairs}
+use Rattle.papaya_points.specs.Given.Rule.Maps.{spot_of, IsTable}
+use Rattle.papaya_points.specs.Given.Rule.Moments.{Moments}
+use Rattle.papaya_points.specs.Given.Rule.Moves.{Links, after}
+use Rattle.papaya_points.specs.Given.Rule.Rule.{IsLawful}
+use Rattle.papaya_points.specs.Given.Rule.Words.{Blocks}
+use Rattle.papaya_points.proofs.Given.Rule.Moves.Writes.{put_elsewhere}
+use Rattle.papaya_points.proofs.Given.Rule.World.WentTold.{went_as}
 use Rattle.papaya_points.specs.FactsTables.{NewTableFacts}
 use Rattle.papaya_points.specs.Told.{NewTableTold, OnlyLinks}
 use Rattle.papaya_points.proofs.Copiers.CopierLinked.{IsLonger, longer_chart, table_longer}

@@ -1,29 +1,29 @@
 -- In incremental mode: what a call on one key knows at its point it knows after steps of others.
 use Rattle.std.specs.Prelude.{◌≡◌, ℕ, suc, ◌<◌, Bool, true, false, cond}
 use Rattle.std.proofs.Common.{refl, sym, subst, inl, inr, arith}
-use Rattle.seize.specs.World.{World}
-use Rattle.seize_words.specs.declared.at.At.TheVariants.{Root}
-use Rattle.papaya_tables.specs.Chunks.{is_incremental}
-use Rattle.papaya_tables.specs.declared.node.Node.{Node}
-use Rattle.papaya_tables.specs.declared.setting.Setting.{Setting}
-use Rattle.papaya_resize.specs.declared.lookup.Lookup.{Lookup}
-use Rattle.papaya_resize.specs.declared.lookup.Looking.{Looking}
-use Rattle.papaya_resize.specs.declared.lookup.Looking.TheVariants as looks
-use Rattle.papaya_resize.specs.declared.dispose.Dispose.{Dispose}
-use Rattle.papaya_raw.specs.declared.machines.asking.Asking.{Asking}
-use Rattle.papaya_raw.specs.declared.machines.asking.Asking.TheVariants as asking
-use Rattle.papaya_raw.specs.declared.machines.asking.Gap.{Gap}
-use Rattle.papaya_raw.specs.declared.machines.asking.Gap.TheVariants as gaps
-use Rattle.papaya_raw.specs.declared.machines.call.KeyCall.{KeyCall}
-use Rattle.papaya_raw.specs.declared.machines.call.Calling.{Calling}
-use Rattle.papaya_raw.specs.declared.machines.call.Calling.TheVariants as at
-use Rattle.papaya_rule.specs.Chart.{Chart}
-use Rattle.papaya_rule.specs.Rule.{IsLawful, Rule, ShutBefore}
-use Rattle.papaya_rule.specs.Words.{Blocks}
-use Rattle.papaya_rule.specs.Maps.{spot_of}
-use Rattle.papaya_rule.specs.InWorld.{IsMapIn}
+use Rattle.papaya_points.specs.Given.Seize.World.{World}
+use Rattle.papaya_points.specs.Given.SeizeWords.declared.at.At.TheVariants.{Root}
+use Rattle.papaya_points.specs.Given.Tables.Chunks.{is_incremental}
+use Rattle.papaya_points.specs.Given.Tables.declared.node.Node.{Node}
+use Rattle.papaya_points.specs.Given.Tables.declared.setting.Setting.{Setting}
+use Rattle.papaya_points.specs.Given.Resize.declared.lookup.Lookup.{Lookup}
+use Rattle.papaya_points.specs.Given.Resize.declared.lookup.Looking.{Looking}
+use Rattle.papaya_points.specs.Given.Resize.declared.lookup.Looking.TheVariants as looks
+use Rattle.papaya_points.specs.Given.Resize.declared.dispose.Dispose.{Dispose}
+use Rattle.papaya_points.specs.Given.Raw.declared.machines.asking.Asking.{Asking}
+use Rattle.papaya_points.specs.Given.Raw.declared.machines.asking.Asking.TheVariants as asking
+use Rattle.papaya_points.specs.Given.Raw.declared.machines.asking.Gap.{Gap}
+use Rattle.papaya_points.specs.Given.Raw.declared.machines.asking.Gap.TheVariants as gaps
+use Rattle.papaya_points.specs.Given.Raw.declared.machines.call.KeyCall.{KeyCall}
+use Rattle.papaya_points.specs.Given.Raw.declared.machines.call.Calling.{Calling}
+use Rattle.papaya_points.specs.Given.Raw.declared.machines.call.Calling.TheVariants as at
+use Rattle.papaya_points.specs.Given.Rule.Chart.{Chart}
+use Rattle.papaya_points.specs.Given.Rule.Rule.{IsLawful, Rule, ShutBefore}
+use Rattle.papaya_points.specs.Given.Rule.Words.{Blocks}
+use Rattle.papaya_points.specs.Given.Rule.Maps.{spot_of}
+use Rattle.papaya_points.specs.Given.Rule.InWorld.{IsMapIn}
 use Rattle.papaya_points.specs.FactsLooks.{LookingFacts, LookupFacts}
-use Rattle.papaya_rule.specs.Leaves.{Leaves}
+use Rattle.papaya_points.specs.Given.Rule.Leaves.{Leaves}
 use Rattle.papaya_points.specs.FactsDisposes.{DisposeFacts}
 use Rattle.papaya_points.specs.FactsCopies.{HasDone, ClaimsNone}
 use Rattle.papaya_points.specs.FactsCopiesBlocking.{HasNoShares}

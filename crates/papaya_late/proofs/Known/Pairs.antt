@@ -1,12 +1,12 @@
 -- What a caller knows of pairs that it can look at, and of those that it took out, lasts over steps of others, in either mode.
 use Rattle.std.specs.Prelude.{◌≡◌, ℕ, ◌<◌, Bool, true}
 use Rattle.std.proofs.Common.{refl, ap, sym, subst, ◌∙◌}
-use Rattle.seize.specs.World.{World, Parting, Cutting}
-use Rattle.papaya_tables.specs.declared.node.Node.{Node}
-use Rattle.papaya_tables.specs.declared.setting.Setting.{Setting}
-use Rattle.papaya_rule.specs.Chart.{Still, Holds, Chart}
-use Rattle.papaya_rule.specs.Words.{Blocks, place_word}
-use Rattle.papaya_rule.specs.InWorld.{IsHeldBy, IsMapIn}
+use Rattle.papaya_points.specs.Given.Seize.World.{World, Parting, Cutting}
+use Rattle.papaya_points.specs.Given.Tables.declared.node.Node.{Node}
+use Rattle.papaya_points.specs.Given.Tables.declared.setting.Setting.{Setting}
+use Rattle.papaya_points.specs.Given.Rule.Chart.{Still, Holds, Chart}
+use Rattle.papaya_points.specs.Given.Rule.Words.{Blocks, place_word}
+use Rattle.papaya_points.specs.Given.Rule.InWorld.{IsHeldBy, IsMapIn}
 use Rattle.papaya_points.specs.FactsDisposes.{HasLeft}
 use Rattle.papaya_points.specs.Others.{OthersStep}
 use Rattle.papaya_late.proofs.Known.Tables.{stored_on, word_on}

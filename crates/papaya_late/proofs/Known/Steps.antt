@@ -1,23 +1,23 @@
 -- A step of one caller is to all others what such a step is to be.
 use Rattle.std.specs.Prelude.{◌≢◌, ℕ, Bool}
 use Rattle.std.proofs.Common.{◌∙◌, ap, inl, inr, subst, sym}
-use Rattle.seize_words.specs.Mem.{Mem, value_at}
-use Rattle.seize.specs.World.{World}
-use Rattle.papaya_tables.specs.Chunks.{is_incremental}
-use Rattle.papaya_tables.specs.declared.node.Node.{Node}
-use Rattle.papaya_tables.specs.declared.setting.Setting.{Setting}
-use Rattle.papaya_rule.specs.Chart.{Chart}
-use Rattle.papaya_rule.specs.Words.{Blocks}
-use Rattle.papaya_rule.specs.Maps.{spot_of}
-use Rattle.papaya_rule.specs.InWorld.{IsMapIn, Moved, Went, IsOut}
-use Rattle.papaya_rule.specs.Lasts.{Lasts}
-use Rattle.papaya_rule.specs.Moments.{Moments, Remembers}
-use Rattle.papaya_rule.specs.Leaves.{Leaves}
+use Rattle.papaya_points.specs.Given.SeizeWords.Mem.{Mem, value_at}
+use Rattle.papaya_points.specs.Given.Seize.World.{World}
+use Rattle.papaya_points.specs.Given.Tables.Chunks.{is_incremental}
+use Rattle.papaya_points.specs.Given.Tables.declared.node.Node.{Node}
+use Rattle.papaya_points.specs.Given.Tables.declared.setting.Setting.{Setting}
+use Rattle.papaya_points.specs.Given.Rule.Chart.{Chart}
+use Rattle.papaya_points.specs.Given.Rule.Words.{Blocks}
+use Rattle.papaya_points.specs.Given.Rule.Maps.{spot_of}
+use Rattle.papaya_points.specs.Given.Rule.InWorld.{IsMapIn, Moved, Went, IsOut}
+use Rattle.papaya_points.specs.Given.Rule.Lasts.{Lasts}
+use Rattle.papaya_points.specs.Given.Rule.Moments.{Moments, Remembers}
+use Rattle.papaya_points.specs.Given.Rule.Leaves.{Leaves}
 use Rattle.papaya_points.specs.Others.{OthersStep}
 use Rattle.papaya_points.specs.Steps.{AreLawful}
-use Rattle.papaya_rule.proofs.History.History.{history_kept}
-use Rattle.papaya_rule.proofs.History.Leaving.{moves_leave}
-use Rattle.papaya_rule.proofs.History.LeavingOn.{leaves_same}
+use Rattle.papaya_points.proofs.Given.Rule.History.History.{history_kept}
+use Rattle.papaya_points.proofs.Given.Rule.History.Leaving.{moves_leave}
+use Rattle.papaya_points.proofs.Given.Rule.History.LeavingOn.{leaves_same}
 use Rattle.papaya_points.proofs.MovedLasts.{moved_lasts}
 
 module _ {K V : Type 0} (same : K → K → Bool) (hash : K → ℕ) (setting : Setting) where

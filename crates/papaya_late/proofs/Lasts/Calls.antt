@@ -1,29 +1,29 @@
 -- In blocking mode: what a call on one key knows lasts over steps of others. Where the root leaves its table, it knows what is to be known then.
 use Rattle.std.proofs.Common.{◌≡◌, ℕ, suc, ◌<◌, ◌≤◌, Bool, true, false, cond, ◌⊎◌, inl, inr, arith, sym, subst}
 use Rattle.std.proofs.lemmas.Bool.{cases_lt}
-use Rattle.seize.specs.World.{World}
-use Rattle.papaya_tables.specs.Chunks.{is_incremental}
-use Rattle.papaya_tables.specs.declared.node.Node.{Node}
-use Rattle.papaya_tables.specs.declared.setting.Setting.{Setting}
-use Rattle.papaya_tables.specs.declared.table.Table.{Table}
-use Rattle.papaya_tables.specs.declared.trial.Trial.{Trial}
-use Rattle.papaya_raw.specs.declared.machines.asking.Asking.{Asking}
-use Rattle.papaya_raw.specs.declared.machines.asking.Asking.TheVariants as asking
-use Rattle.papaya_raw.specs.declared.machines.asking.Gap.{Gap}
-use Rattle.papaya_raw.specs.declared.machines.asking.Gap.TheVariants as gaps
-use Rattle.papaya_resize.specs.declared.lookup.Looking.{Looking}
-use Rattle.papaya_resize.specs.declared.lookup.Looking.TheVariants as looks
-use Rattle.papaya_raw.specs.declared.machines.call.KeyCall.{KeyCall}
-use Rattle.papaya_raw.specs.declared.machines.call.Calling.{Calling}
-use Rattle.papaya_raw.specs.declared.machines.call.Calling.TheVariants as at
-use Rattle.papaya_rule.specs.Chart.{Chart}
-use Rattle.papaya_rule.specs.Rule.{Rule, Passed, ShutBefore}
-use Rattle.papaya_rule.specs.Moves.{MayChange}
-use Rattle.papaya_rule.specs.Words.{Blocks}
-use Rattle.papaya_rule.specs.Maps.{spot_of, IsTable, IsTrial, NoneBefore}
-use Rattle.papaya_rule.specs.Moments.{Moments}
-use Rattle.papaya_rule.specs.Leaves.{Leaves}
-use Rattle.papaya_rule.specs.InWorld.{IsMapIn}
+use Rattle.papaya_points.specs.Given.Seize.World.{World}
+use Rattle.papaya_points.specs.Given.Tables.Chunks.{is_incremental}
+use Rattle.papaya_points.specs.Given.Tables.declared.node.Node.{Node}
+use Rattle.papaya_points.specs.Given.Tables.declared.setting.Setting.{Setting}
+use Rattle.papaya_points.specs.Given.Tables.declared.table.Table.{Table}
+use Rattle.papaya_points.specs.Given.Tables.declared.trial.Trial.{Trial}
+use Rattle.papaya_points.specs.Given.Raw.declared.machines.asking.Asking.{Asking}
+use Rattle.papaya_points.specs.Given.Raw.declared.machines.asking.Asking.TheVariants as asking
+use Rattle.papaya_points.specs.Given.Raw.declared.machines.asking.Gap.{Gap}
+use Rattle.papaya_points.specs.Given.Raw.declared.machines.asking.Gap.TheVariants as gaps
+use Rattle.papaya_points.specs.Given.Resize.declared.lookup.Looking.{Looking}
+use Rattle.papaya_points.specs.Given.Resize.declared.lookup.Looking.TheVariants as looks
+use Rattle.papaya_points.specs.Given.Raw.declared.machines.call.KeyCall.{KeyCall}
+use Rattle.papaya_points.specs.Given.Raw.declared.machines.call.Calling.{Calling}
+use Rattle.papaya_points.specs.Given.Raw.declared.machines.call.Calling.TheVariants as at
+use Rattle.papaya_points.specs.Given.Rule.Chart.{Chart}
+use Rattle.papaya_points.specs.Given.Rule.Rule.{Rule, Passed, ShutBefore}
+use Rattle.papaya_points.specs.Given.Rule.Moves.{MayChange}
+use Rattle.papaya_points.specs.Given.Rule.Words.{Blocks}
+use Rattle.papaya_points.specs.Given.Rule.Maps.{spot_of, IsTable, IsTrial, NoneBefore}
+use Rattle.papaya_points.specs.Given.Rule.Moments.{Moments}
+use Rattle.papaya_points.specs.Given.Rule.Leaves.{Leaves}
+use Rattle.papaya_points.specs.Given.Rule.InWorld.{IsMapIn}
 use Rattle.papaya_points.specs.FactsIdle.{IsIdle}
 use Rattle.papaya_points.specs.FactsCopies.{HasDone, ClaimsNone}
 use Rattle.papaya_points.specs.FactsCopiesBlocking.{HasNoShares}

@@ -1,30 +1,30 @@
 -- A lookup reads the word of a try in a table that the root has left.
 use Rattle.std.specs.Prelude.{if◌then◌else◌}
 use Rattle.std.proofs.Common.{◌≡◌, ℕ, suc, ◌^◌, ◌<◌, Bool, true, false, Option, Some, None, inl, inr, refl, ap, sym, subst, ◌∙◌}
-use Rattle.seize_words.specs.Mem.{Mem, value_at, Took}
-use Rattle.seize_words.specs.Plan.{Steps}
-use Rattle.seize.specs.declared.progress.Progress.{Progress}
-use Rattle.papaya_tables.specs.Chunks.{is_incremental}
-use Rattle.papaya_tables.specs.Finding.{finding}
-use Rattle.papaya_tables.specs.Trials.{next_trial}
-use Rattle.papaya_tables.specs.declared.node.Node.{Node}
-use Rattle.papaya_tables.specs.declared.resize_mode.ResizeMode.{ResizeMode}
-use Rattle.papaya_tables.specs.declared.finding.Aim.TheVariants.{Looks}
-use Rattle.papaya_tables.specs.declared.finding.Finding.{Finding}
-use Rattle.papaya_tables.specs.declared.finding.Finding.TheVariants as is
-use Rattle.papaya_tables.specs.declared.trial.Trial.{Trial}
-use Rattle.papaya_resize.specs.Lookup.{answered, going, beyond, passed, told_of, told, probes}
-use Rattle.papaya_resize.specs.declared.lookup.Lookup.{Lookup}
-use Rattle.papaya_resize.specs.declared.lookup.Looking.TheVariants as at
-use Rattle.papaya_rule.specs.Chart.{Place, Chart, is_taken}
-use Rattle.papaya_rule.specs.Rule.{IsLawful, Passed, Rule}
-use Rattle.papaya_rule.specs.Words.{Blocks, place_word}
-use Rattle.papaya_rule.specs.Maps.{spot_at, spot_of, IsClass, IsMap, IsTrial}
-use Rattle.papaya_rule.specs.Moments.{Moments}
-use Rattle.papaya_rule.proofs.Words.PlacesShown.{AreStored, are_stored, shown_byte, shown_known}
-use Rattle.papaya_rule.proofs.Words.WordsSeen.{Tells, Says, says}
-use Rattle.papaya_rule.proofs.Keys.TriesSeen.{IsNext, next_is, spot_inside}
-use Rattle.papaya_rule.proofs.Keys.ClassesSeen.{passed_further}
+use Rattle.papaya_points.specs.Given.SeizeWords.Mem.{Mem, value_at, Took}
+use Rattle.papaya_points.specs.Given.SeizeWords.Plan.{Steps}
+use Rattle.papaya_points.specs.Given.Seize.declared.progress.Progress.{Progress}
+use Rattle.papaya_points.specs.Given.Tables.Chunks.{is_incremental}
+use Rattle.papaya_points.specs.Given.Tables.Finding.{finding}
+use Rattle.papaya_points.specs.Given.Tables.Trials.{next_trial}
+use Rattle.papaya_points.specs.Given.Tables.declared.node.Node.{Node}
+use Rattle.papaya_points.specs.Given.Tables.declared.resize_mode.ResizeMode.{ResizeMode}
+use Rattle.papaya_points.specs.Given.Tables.declared.finding.Aim.TheVariants.{Looks}
+use Rattle.papaya_points.specs.Given.Tables.declared.finding.Finding.{Finding}
+use Rattle.papaya_points.specs.Given.Tables.declared.finding.Finding.TheVariants as is
+use Rattle.papaya_points.specs.Given.Tables.declared.trial.Trial.{Trial}
+use Rattle.papaya_points.specs.Given.Resize.Lookup.{answered, going, beyond, passed, told_of, told, probes}
+use Rattle.papaya_points.specs.Given.Resize.declared.lookup.Lookup.{Lookup}
+use Rattle.papaya_points.specs.Given.Resize.declared.lookup.Looking.TheVariants as at
+use Rattle.papaya_points.specs.Given.Rule.Chart.{Place, Chart, is_taken}
+use Rattle.papaya_points.specs.Given.Rule.Rule.{IsLawful, Passed, Rule}
+use Rattle.papaya_points.specs.Given.Rule.Words.{Blocks, place_word}
+use Rattle.papaya_points.specs.Given.Rule.Maps.{spot_at, spot_of, IsClass, IsMap, IsTrial}
+use Rattle.papaya_points.specs.Given.Rule.Moments.{Moments}
+use Rattle.papaya_points.proofs.Given.Rule.Words.PlacesShown.{AreStored, are_stored, shown_byte, shown_known}
+use Rattle.papaya_points.proofs.Given.Rule.Words.WordsSeen.{Tells, Says, says}
+use Rattle.papaya_points.proofs.Given.Rule.Keys.TriesSeen.{IsNext, next_is, spot_inside}
+use Rattle.papaya_points.proofs.Given.Rule.Keys.ClassesSeen.{passed_further}
 use Rattle.papaya_points.proofs.Lookups.Reads.{SeesPlace, sees_place, probes_tell}
 use Rattle.papaya_late.specs.Left.{Left}
 use Rattle.papaya_late.specs.LateLooks.{LateLookupFacts}

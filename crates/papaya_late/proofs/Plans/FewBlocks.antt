@@ -3,40 +3,40 @@
 use Rattle.std.specs.Prelude.{◌≡◌, ℕ, zero, suc, ◌+◌, ◌<◌, ◌≤◌, true, false, eqb, [], ◌∷◌, Some, None, Ok, replicate}
 use Rattle.std.proofs.Common.{refl, arith}
 use Rattle.std.proofs.lemmas.Cmp.{nat_eq_equiv}
-use Rattle.seize_words.specs.Mem.{Mem, Took, value_at, word_at, with_word}
-use Rattle.seize_words.specs.Op.{Stored, Exchanged}
-use Rattle.seize_words.specs.Plan.{Steps}
-use Rattle.seize_words.specs.declared.at.At.TheVariants.{Root, Word}
-use Rattle.seize.specs.World.{World, Rests, Vacant, Hand, NoBlock, Making, InUse}
-use Rattle.papaya_tables.specs.declared.node.Node.{Node}
-use Rattle.papaya_tables.specs.declared.node.Node.TheVariants as node
-use Rattle.papaya_tables.specs.declared.resize_mode.ResizeMode.TheVariants.{Incremental}
-use Rattle.papaya_tables.specs.declared.setting.Setting.{Setting}
-use Rattle.papaya_tables.specs.declared.status.TheConstants.Status.{ABORTED}
-use Rattle.papaya_tables.specs.declared.table.Table.{Table}
-use Rattle.papaya_tables.specs.declared.table_words.TheConstants.{STATUS, PLACES}
-use Rattle.papaya_tables.specs.Lengths.{IsTableLen}
-use Rattle.papaya_resize.specs.CopierStates.{standing, resting}
-use Rattle.papaya_resize.specs.declared.copier.Copier.{Copier}
-use Rattle.papaya_resize.specs.declared.copier.Copying.TheVariants as copies
-use Rattle.papaya_raw.specs.CallPoints.{entering, inserting, told_answer}
-use Rattle.papaya_raw.specs.declared.machines.answer.Called.{Called}
-use Rattle.papaya_raw.specs.declared.machines.answer.KeyAnswer.TheVariants as answers
-use Rattle.papaya_raw.specs.declared.machines.answer.Missing.TheVariants as missing
-use Rattle.papaya_raw.specs.declared.machines.answer.There.TheVariants as there
-use Rattle.papaya_raw.specs.declared.machines.asking.Takes.TheVariants as takes
-use Rattle.papaya_raw.specs.declared.machines.call.KeyCall.{KeyCall}
-use Rattle.papaya_rule.specs.Chart.{Chart, Counted}
-use Rattle.papaya_rule.specs.InWorld.{IsOut, IsMapIn, Went}
-use Rattle.papaya_rule.specs.Maps.{IsTable, spot_of}
-use Rattle.papaya_rule.specs.Moments.{Moments}
-use Rattle.papaya_rule.specs.Moves.{Move, Links, Marks, Counts, Promotes, Announces, Allowed, after}
-use Rattle.papaya_rule.specs.Rule.{Rule, no_table}
-use Rattle.papaya_rule.specs.Words.{Blocks, Shows, ShowsTable, place_word}
-use Rattle.papaya_rule.proofs.History.History.{history_begins, history_kept}
-use Rattle.papaya_rule.proofs.Keys.TriesSeen.{spot_inside}
-use Rattle.papaya_rule.proofs.Moves.Promised.{moves_keep}
-use Rattle.papaya_rule.proofs.Moves.RuleBegins.{rule_begins}
+use Rattle.papaya_points.specs.Given.SeizeWords.Mem.{Mem, Took, value_at, word_at, with_word}
+use Rattle.papaya_points.specs.Given.SeizeWords.Op.{Stored, Exchanged}
+use Rattle.papaya_points.specs.Given.SeizeWords.Plan.{Steps}
+use Rattle.papaya_points.specs.Given.SeizeWords.declared.at.At.TheVariants.{Root, Word}
+use Rattle.papaya_points.specs.Given.Seize.World.{World, Rests, Vacant, Hand, NoBlock, Making, InUse}
+use Rattle.papaya_points.specs.Given.Tables.declared.node.Node.{Node}
+use Rattle.papaya_points.specs.Given.Tables.declared.node.Node.TheVariants as node
+use Rattle.papaya_points.specs.Given.Tables.declared.resize_mode.ResizeMode.TheVariants.{Incremental}
+use Rattle.papaya_points.specs.Given.Tables.declared.setting.Setting.{Setting}
+use Rattle.papaya_points.specs.Given.Tables.declared.status.TheConstants.Status.{ABORTED}
+use Rattle.papaya_points.specs.Given.Tables.declared.table.Table.{Table}
+use Rattle.papaya_points.specs.Given.Tables.declared.table_words.TheConstants.{STATUS, PLACES}
+use Rattle.papaya_points.specs.Given.Tables.Lengths.{IsTableLen}
+use Rattle.papaya_points.specs.Given.Resize.CopierStates.{standing, resting}
+use Rattle.papaya_points.specs.Given.Resize.declared.copier.Copier.{Copier}
+use Rattle.papaya_points.specs.Given.Resize.declared.copier.Copying.TheVariants as copies
+use Rattle.papaya_points.specs.Given.Raw.CallPoints.{entering, inserting, told_answer}
+use Rattle.papaya_points.specs.Given.Raw.declared.machines.answer.Called.{Called}
+use Rattle.papaya_points.specs.Given.Raw.declared.machines.answer.KeyAnswer.TheVariants as answers
+use Rattle.papaya_points.specs.Given.Raw.declared.machines.answer.Missing.TheVariants as missing
+use Rattle.papaya_points.specs.Given.Raw.declared.machines.answer.There.TheVariants as there
+use Rattle.papaya_points.specs.Given.Raw.declared.machines.asking.Takes.TheVariants as takes
+use Rattle.papaya_points.specs.Given.Raw.declared.machines.call.KeyCall.{KeyCall}
+use Rattle.papaya_points.specs.Given.Rule.Chart.{Chart, Counted}
+use Rattle.papaya_points.specs.Given.Rule.InWorld.{IsOut, IsMapIn, Went}
+use Rattle.papaya_points.specs.Given.Rule.Maps.{IsTable, spot_of}
+use Rattle.papaya_points.specs.Given.Rule.Moments.{Moments}
+use Rattle.papaya_points.specs.Given.Rule.Moves.{Move, Links, Marks, Counts, Promotes, Announces, Allowed, after}
+use Rattle.papaya_points.specs.Given.Rule.Rule.{Rule, no_table}
+use Rattle.papaya_points.specs.Given.Rule.Words.{Blocks, Shows, ShowsTable, place_word}
+use Rattle.papaya_points.proofs.Given.Rule.History.History.{history_begins, history_kept}
+use Rattle.papaya_points.proofs.Given.Rule.Keys.TriesSeen.{spot_inside}
+use Rattle.papaya_points.proofs.Given.Rule.Moves.Promised.{moves_keep}
+use Rattle.papaya_points.proofs.Given.Rule.Moves.RuleBegins.{rule_begins}
 use Rattle.papaya_late.specs.Kinds.{ComesFit}
 use Rattle.papaya_points.specs.Steps.{AreLawful}
 use Rattle.papaya_late.proofs.Plans.{forgets_its_pair, stores_nothing, lowers, lowers_the_root, gives_up, aborts_a_promoted}

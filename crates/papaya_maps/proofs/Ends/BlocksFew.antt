@@ -2,15 +2,15 @@
 use Rattle.std.specs.Prelude.{Option, Some, None, IsSome, ◌==◌, ◌/◌, ◌-◌, if◌then◌else◌}
 use Rattle.std.proofs.Common.{◌≡◌, ℕ, zero, suc, ◌+◌, ◌*◌, ◌<◌, ◌≤◌, Bool, true, false, List, [], ◌∷◌, length, refl, ap, sym, subst, ◌∙◌, arith}
 use Rattle.std.proofs.lemmas.List.{length-set}
-use Rattle.seize_words.specs.declared.at.At.{At}
-use Rattle.seize_words.specs.declared.at.At.TheVariants.{Root, Used, Slot, Entry, Word}
-use Rattle.seize_words.specs.Mem.{Mem, value_at, word_at, with_block, with_word}
-use Rattle.seize.specs.declared.states.TheConstants.{NEXT}
-use Rattle.seize_alone.specs.Alone.{number_of, blocks_in}
-use Rattle.seize.specs.Further.{ListFrom}
-use Rattle.seize.specs.World.{times}
-use Rattle.seize_alone.proofs.Spared.Fewer.{take_fewer}
-use Rattle.papaya_rule.proofs.Words.TablesSeen.{block_of_link}
+use Rattle.papaya_finishes.specs.Given.SeizeWords.declared.at.At.{At}
+use Rattle.papaya_finishes.specs.Given.SeizeWords.declared.at.At.TheVariants.{Root, Used, Slot, Entry, Word}
+use Rattle.papaya_finishes.specs.Given.SeizeWords.Mem.{Mem, value_at, word_at, with_block, with_word}
+use Rattle.papaya_finishes.specs.Given.Seize.declared.states.TheConstants.{NEXT}
+use Rattle.papaya_finishes.specs.Given.SeizeAlone.Alone.{number_of, blocks_in}
+use Rattle.papaya_finishes.specs.Given.Seize.Further.{ListFrom}
+use Rattle.papaya_finishes.specs.Given.Seize.World.{times}
+use Rattle.papaya_finishes.proofs.Given.SeizeAlone.Spared.Fewer.{take_fewer}
+use Rattle.papaya_finishes.proofs.Given.Rule.Words.TablesSeen.{block_of_link}
 use Rattle.papaya_alone.specs.Counting.{number_in}
 use Rattle.papaya_maps.specs.MeasuresEnds.{list_len, most_blocks}
 use Rattle.papaya_finishes.proofs.Ends.CountedBlocks.{times_here, some_here, some_last}

@@ -4,39 +4,39 @@ use Rattle.std.proofs.Common.{◌≡◌, ℕ, suc, ◌+◌, ◌*◌, ◌/◌, �
 use Rattle.std.proofs.Math.Nat.{mul-le-mul_right}
 use Rattle.std.proofs.lemmas.Bool.{cases_lt}
 use Rattle.std.proofs.lemmas.List.{length-append}
-use Rattle.seize_words.specs.declared.at.At.{At}
-use Rattle.seize_words.specs.declared.at.At.TheVariants.{Root, Used, Entry, Word}
-use Rattle.seize_words.specs.Op.{Found, Taken}
-use Rattle.seize_words.specs.Mem.{Mem, Can, Took, block_of, value_in, entry_in, value_at, word_at, with_word, with_block}
-use Rattle.seize_words.specs.declared.block.Block.{Block}
-use Rattle.seize_words.specs.Plan.{Now, Seeing, May, Steps, Ends}
-use Rattle.seize_words.proofs.OneOwner.Operations.{loaded, stored, taken}
-use Rattle.seize_words.proofs.Plans.{ends_if}
-use Rattle.seize_alone.specs.Alone.{blocks_in}
-use Rattle.seize.specs.declared.rows.settle.Settled.{Settled}
-use Rattle.seize.specs.declared.rows.settle.Settled.TheVariants as settled
-use Rattle.seize.specs.declared.states.TheConstants.{NEXT as LINK}
-use Rattle.seize.specs.Further.{ListFrom}
-use Rattle.seize.specs.World.{World, times}
-use Rattle.seize_alone.proofs.Spared.Fewer.{take_fewer, plan_fewer}
-use Rattle.seize_rule.proofs.Words.Kept.{IsQuietPlan}
-use Rattle.papaya_tables.specs.Nodes.{table_seen}
-use Rattle.papaya_tables.specs.Chunks.{is_incremental}
-use Rattle.papaya_raw.specs.EndMap.{standing, next_place, is_current, root_read, word_read, given_back, next_read, list_read, follower_read, after_read, dropped, plan_at, end_map_plan}
-use Rattle.papaya_tables.specs.declared.node.Node.{Node}
-use Rattle.papaya_tables.specs.declared.node.Node.TheVariants as node
-use Rattle.papaya_tables.specs.declared.setting.Setting.{Setting}
-use Rattle.papaya_tables.specs.declared.table.Table.{Table}
-use Rattle.papaya_tables.specs.declared.table_words.TheConstants.{NEXT, DEFERRED, PLACES}
-use Rattle.papaya_raw.specs.declared.machines.end_map.EndMap.{EndMap}
-use Rattle.papaya_raw.specs.declared.machines.end_map.Ending.{Ending}
-use Rattle.papaya_raw.specs.declared.machines.end_map.Ending.TheVariants as at
-use Rattle.papaya_rule.specs.Chart.{Chart}
-use Rattle.papaya_rule.specs.Words.{Blocks, next_word}
-use Rattle.papaya_points.specs.Steps.{AreLawful}
-use Rattle.papaya_points.specs.Measures.{IsBelow}
-use Rattle.papaya_rule.proofs.Words.TablesSeen.{block_of_link}
-use Rattle.papaya_rule.proofs.Words.WritesWords.{is_some_of}
+use Rattle.papaya_finishes.specs.Given.SeizeWords.declared.at.At.{At}
+use Rattle.papaya_finishes.specs.Given.SeizeWords.declared.at.At.TheVariants.{Root, Used, Entry, Word}
+use Rattle.papaya_finishes.specs.Given.SeizeWords.Op.{Found, Taken}
+use Rattle.papaya_finishes.specs.Given.SeizeWords.Mem.{Mem, Can, Took, block_of, value_in, entry_in, value_at, word_at, with_word, with_block}
+use Rattle.papaya_finishes.specs.Given.SeizeWords.declared.block.Block.{Block}
+use Rattle.papaya_finishes.specs.Given.SeizeWords.Plan.{Now, Seeing, May, Steps, Ends}
+use Rattle.papaya_finishes.proofs.Given.SeizeWords.OneOwner.Operations.{loaded, stored, taken}
+use Rattle.papaya_finishes.proofs.Given.SeizeWords.Plans.{ends_if}
+use Rattle.papaya_finishes.specs.Given.SeizeAlone.Alone.{blocks_in}
+use Rattle.papaya_finishes.specs.Given.Seize.declared.rows.settle.Settled.{Settled}
+use Rattle.papaya_finishes.specs.Given.Seize.declared.rows.settle.Settled.TheVariants as settled
+use Rattle.papaya_finishes.specs.Given.Seize.declared.states.TheConstants.{NEXT as LINK}
+use Rattle.papaya_finishes.specs.Given.Seize.Further.{ListFrom}
+use Rattle.papaya_finishes.specs.Given.Seize.World.{World, times}
+use Rattle.papaya_finishes.proofs.Given.SeizeAlone.Spared.Fewer.{take_fewer, plan_fewer}
+use Rattle.papaya_finishes.proofs.Given.SeizeRule.Words.Kept.{IsQuietPlan}
+use Rattle.papaya_finishes.specs.Given.Tables.Nodes.{table_seen}
+use Rattle.papaya_finishes.specs.Given.Tables.Chunks.{is_incremental}
+use Rattle.papaya_finishes.specs.Given.Raw.EndMap.{standing, next_place, is_current, root_read, word_read, given_back, next_read, list_read, follower_read, after_read, dropped, plan_at, end_map_plan}
+use Rattle.papaya_finishes.specs.Given.Tables.declared.node.Node.{Node}
+use Rattle.papaya_finishes.specs.Given.Tables.declared.node.Node.TheVariants as node
+use Rattle.papaya_finishes.specs.Given.Tables.declared.setting.Setting.{Setting}
+use Rattle.papaya_finishes.specs.Given.Tables.declared.table.Table.{Table}
+use Rattle.papaya_finishes.specs.Given.Tables.declared.table_words.TheConstants.{NEXT, DEFERRED, PLACES}
+use Rattle.papaya_finishes.specs.Given.Raw.declared.machines.end_map.EndMap.{EndMap}
+use Rattle.papaya_finishes.specs.Given.Raw.declared.machines.end_map.Ending.{Ending}
+use Rattle.papaya_finishes.specs.Given.Raw.declared.machines.end_map.Ending.TheVariants as at
+use Rattle.papaya_finishes.specs.Given.Rule.Chart.{Chart}
+use Rattle.papaya_finishes.specs.Given.Rule.Words.{Blocks, next_word}
+use Rattle.papaya_finishes.specs.Given.Points.Steps.{AreLawful}
+use Rattle.papaya_finishes.specs.Given.Points.Measures.{IsBelow}
+use Rattle.papaya_finishes.proofs.Given.Rule.Words.TablesSeen.{block_of_link}
+use Rattle.papaya_finishes.proofs.Given.Rule.Words.WritesWords.{is_some_of}
 use Rattle.papaya_maps.specs.EndingsEnds.{HasMore}
 use Rattle.papaya_finishes.specs.FactsEnds.{Gives, Joins, BeganIn, AtPairs, EndingFacts, EndFacts, RootAt, back_of, from_table, wait_before}
 use Rattle.papaya_finishes.specs.Orders.{pairs_behind}

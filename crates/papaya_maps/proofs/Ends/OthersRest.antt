@@ -1,22 +1,22 @@
 -- Another map of the same collector goes on resting as a map ends.
 use Rattle.std.proofs.Common.{◌≡◌, ◌≢◌, ℕ, Bool, List, inl, inr, ap, sym, subst, ◌∙◌}
-use Rattle.seize_words.specs.Mem.{Mem}
-use Rattle.seize_alone.specs.Alone.{History, IsHistory, at_rest}
-use Rattle.seize.specs.Law.{is_somewhere}
-use Rattle.seize.specs.World.{World, times}
-use Rattle.papaya_tables.specs.Nodes.{deferred_word}
-use Rattle.papaya_tables.specs.declared.node.Node.{Node}
-use Rattle.papaya_tables.specs.declared.setting.Setting.{Setting}
-use Rattle.papaya_rule.specs.Chart.{Chart}
-use Rattle.papaya_rule.specs.InWorld.{IsOut, StandsIn, IsReached, IsMapIn}
-use Rattle.papaya_rule.specs.Words.{Blocks}
-use Rattle.papaya_rule.proofs.World.Framed.{Frames, shows_framed}
-use Rattle.papaya_rule.proofs.World.Hands.{Hands, current_known}
-use Rattle.papaya_rule.proofs.World.WentWrote.{HasCounter, map_in}
+use Rattle.papaya_finishes.specs.Given.SeizeWords.Mem.{Mem}
+use Rattle.papaya_finishes.specs.Given.SeizeAlone.Alone.{History, IsHistory, at_rest}
+use Rattle.papaya_finishes.specs.Given.Seize.Law.{is_somewhere}
+use Rattle.papaya_finishes.specs.Given.Seize.World.{World, times}
+use Rattle.papaya_finishes.specs.Given.Tables.Nodes.{deferred_word}
+use Rattle.papaya_finishes.specs.Given.Tables.declared.node.Node.{Node}
+use Rattle.papaya_finishes.specs.Given.Tables.declared.setting.Setting.{Setting}
+use Rattle.papaya_finishes.specs.Given.Rule.Chart.{Chart}
+use Rattle.papaya_finishes.specs.Given.Rule.InWorld.{IsOut, StandsIn, IsReached, IsMapIn}
+use Rattle.papaya_finishes.specs.Given.Rule.Words.{Blocks}
+use Rattle.papaya_finishes.proofs.Given.Rule.World.Framed.{Frames, shows_framed}
+use Rattle.papaya_finishes.proofs.Given.Rule.World.Hands.{Hands, current_known}
+use Rattle.papaya_finishes.proofs.Given.Rule.World.WentWrote.{HasCounter, map_in}
 use Rattle.papaya_alone.specs.Alone.{MapRests}
 use Rattle.papaya_maps.specs.AloneEnds.{HasEndedAlone, deferred_by, all_given}
 use Rattle.papaya_maps.specs.FactsEnds.{IsUntouched}
-use Rattle.papaya_callers.specs.Kept.{IsMaking}
+use Rattle.papaya_finishes.specs.Given.Callers.Kept.{IsMaking}
 use Rattle.papaya_maps.specs.RestsOn.{IsSpared, RestsOn}
 use Rattle.papaya_maps.specs.WholeEnds.{IsApart, OthersRestOn}
 use Rattle.papaya_alone.proofs.Shards.Sums.{counted_same}

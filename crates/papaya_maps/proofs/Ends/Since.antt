@@ -3,18 +3,18 @@ use Rattle.std.specs.Prelude.{◌-◌, Some, None}
 use Rattle.std.proofs.Common.{◌≡◌, ℕ, zero, suc, ◌<◌, Bool, false, List, [], ◌∷◌, ◌++◌, ◌⊎◌, inl, inr, refl, arith, ap, sym, subst, ◌∙◌}
 use Rattle.std.proofs.lemmas.Bool.{cases_eq}
 use Rattle.std.proofs.lemmas.List.{append-nil, append_assoc}
-use Rattle.seize_words.specs.Mem.{value_at}
-use Rattle.seize.specs.Law.{With, where_is, holds}
-use Rattle.seize.specs.WaitingSets.{Change}
-use Rattle.seize.specs.World.{World, LeftTo, times}
-use Rattle.seize_alone.proofs.Histories.UsersTurn.{AreBetween, all_ended}
-use Rattle.papaya_tables.specs.Nodes.{deferred_word}
-use Rattle.papaya_tables.specs.declared.node.Node.{Node}
-use Rattle.papaya_tables.specs.declared.node.Node.TheVariants as node
-use Rattle.papaya_tables.specs.declared.setting.Setting.{Setting}
-use Rattle.papaya_rule.specs.Chart.{Chart}
-use Rattle.papaya_rule.specs.Words.{Blocks}
-use Rattle.papaya_points.specs.Steps.{AreLawful}
+use Rattle.papaya_finishes.specs.Given.SeizeWords.Mem.{value_at}
+use Rattle.papaya_finishes.specs.Given.Seize.Law.{With, where_is, holds}
+use Rattle.papaya_finishes.specs.Given.Seize.WaitingSets.{Change}
+use Rattle.papaya_finishes.specs.Given.Seize.World.{World, LeftTo, times}
+use Rattle.papaya_finishes.proofs.Given.SeizeAlone.Histories.UsersTurn.{AreBetween, all_ended}
+use Rattle.papaya_finishes.specs.Given.Tables.Nodes.{deferred_word}
+use Rattle.papaya_finishes.specs.Given.Tables.declared.node.Node.{Node}
+use Rattle.papaya_finishes.specs.Given.Tables.declared.node.Node.TheVariants as node
+use Rattle.papaya_finishes.specs.Given.Tables.declared.setting.Setting.{Setting}
+use Rattle.papaya_finishes.specs.Given.Rule.Chart.{Chart}
+use Rattle.papaya_finishes.specs.Given.Rule.Words.{Blocks}
+use Rattle.papaya_finishes.specs.Given.Points.Steps.{AreLawful}
 use Rattle.papaya_finishes.specs.Orders.{IsLeftBefore, change_of}
 use Rattle.papaya_finishes.specs.FactsEnds.{Deed, Looks, TakesPair, LeavesTable, JoinsPair, TakesLeft, TakesCounter, WritesRoot, events_of, taken_by, left_by, cut_by, joined_by, Spares, IsItsDeed, MayEnd, wait_before}
 use Rattle.papaya_finishes.proofs.Ends.CountedBlocks.{times-append}

@@ -1,29 +1,29 @@
 -- The end of a map that runs alone: each of its steps, and what it has reclaimed at its end.
-use Rattle.papaya_callers.proofs.Rows.Defers.{used_stands}
-use Rattle.seize_alone.proofs.Histories.Users.{ended_owner_history}
-use Rattle.seize_alone.proofs.Histories.Owned.{history_owned}
+use Rattle.papaya_finishes.proofs.Given.Callers.Rows.Defers.{used_stands}
+use Rattle.papaya_finishes.proofs.Given.SeizeAlone.Histories.Users.{ended_owner_history}
+use Rattle.papaya_finishes.proofs.Given.SeizeAlone.Histories.Owned.{history_owned}
 use Rattle.std.specs.Prelude.{◌≢◌, Option, Some, None, map}
 use Rattle.std.proofs.Common.{◌≡◌, ℕ, zero, arith, ◌<◌, ◌≤◌, Bool, List, [], ◌∷◌, ◌++◌, refl, ap, sym, subst, ◌∙◌, true, cond, suc, inl, inr}
 use Rattle.std.proofs.lemmas.List.{append-nil, append_assoc}
-use Rattle.seize_words.specs.Mem.{Mem, Can, Took, value_at}
-use Rattle.seize_words.specs.Plan.{May, Steps}
-use Rattle.seize_alone.specs.Alone.{History, IsHistory, at_rest, ended_owner}
-use Rattle.seize.specs.WaitingSets.{Change}
-use Rattle.seize.specs.World.{InUse, World, Event, times}
-use Rattle.seize.specs.declared.rows.settle.Settled.{Settled}
-use Rattle.seize.specs.declared.rows.settle.Settled.TheVariants as settled
-use Rattle.seize_alone.proofs.Histories.Further.{behind_history, none_behind_history}
-use Rattle.seize_alone.proofs.Histories.UsersTurn.{all_ended, ended_since, between_turn}
-use Rattle.seize.specs.Law.{With, where_is}
-use Rattle.papaya_raw.specs.EndMap.{ending, end_map_plan}
-use Rattle.papaya_tables.specs.Nodes.{deferred_word}
-use Rattle.papaya_tables.specs.declared.node.Node.{Node}
-use Rattle.papaya_tables.specs.declared.node.Node.TheVariants as node
-use Rattle.papaya_tables.specs.declared.setting.Setting.{Setting}
-use Rattle.papaya_raw.specs.declared.machines.end_map.EndMap.{EndMap}
-use Rattle.papaya_rule.specs.Chart.{Chart, Claimed}
-use Rattle.papaya_points.specs.Steps.{AreLawful}
-use Rattle.papaya_rule.specs.Words.{Blocks}
+use Rattle.papaya_finishes.specs.Given.SeizeWords.Mem.{Mem, Can, Took, value_at}
+use Rattle.papaya_finishes.specs.Given.SeizeWords.Plan.{May, Steps}
+use Rattle.papaya_finishes.specs.Given.SeizeAlone.Alone.{History, IsHistory, at_rest, ended_owner}
+use Rattle.papaya_finishes.specs.Given.Seize.WaitingSets.{Change}
+use Rattle.papaya_finishes.specs.Given.Seize.World.{InUse, World, Event, times}
+use Rattle.papaya_finishes.specs.Given.Seize.declared.rows.settle.Settled.{Settled}
+use Rattle.papaya_finishes.specs.Given.Seize.declared.rows.settle.Settled.TheVariants as settled
+use Rattle.papaya_finishes.proofs.Given.SeizeAlone.Histories.Further.{behind_history, none_behind_history}
+use Rattle.papaya_finishes.proofs.Given.SeizeAlone.Histories.UsersTurn.{all_ended, ended_since, between_turn}
+use Rattle.papaya_finishes.specs.Given.Seize.Law.{With, where_is}
+use Rattle.papaya_finishes.specs.Given.Raw.EndMap.{ending, end_map_plan}
+use Rattle.papaya_finishes.specs.Given.Tables.Nodes.{deferred_word}
+use Rattle.papaya_finishes.specs.Given.Tables.declared.node.Node.{Node}
+use Rattle.papaya_finishes.specs.Given.Tables.declared.node.Node.TheVariants as node
+use Rattle.papaya_finishes.specs.Given.Tables.declared.setting.Setting.{Setting}
+use Rattle.papaya_finishes.specs.Given.Raw.declared.machines.end_map.EndMap.{EndMap}
+use Rattle.papaya_finishes.specs.Given.Rule.Chart.{Chart, Claimed}
+use Rattle.papaya_finishes.specs.Given.Points.Steps.{AreLawful}
+use Rattle.papaya_finishes.specs.Given.Rule.Words.{Blocks}
 use Rattle.papaya_maps.specs.AloneEnds.{deferred_by, IsEnding, EndsTo}
 use Rattle.papaya_finishes.specs.FactsEnds.{events_of, taken_by, Spares, RootIs, HasBehind, BeganIn, StandsFree, MayEnd, EndTold, EndWent, wait_before}
 use Rattle.papaya_maps.specs.FactsEnds.{SameOthers, Since, change_from}
@@ -33,14 +33,14 @@ use Rattle.papaya_finishes.proofs.Ends.OrdersOn.{change_over}
 use Rattle.papaya_maps.proofs.Ends.Since.{deeds_between, changes_by, since_deed, others_deed}
 use Rattle.papaya_finishes.proofs.Ends.OrdersPairs.{none_copying, each_once}
 use Rattle.papaya_finishes.proofs.Ends.OrdersOnce.{HasOrder, are_with, all_once}
-use Rattle.papaya_tables.specs.Chunks.{is_incremental}
-use Rattle.papaya_points.specs.FactsCopies.{HasDone, ClaimsNone}
-use Rattle.papaya_points.specs.FactsCopiesBlocking.{HasNoShares}
-use Rattle.papaya_rule.specs.Moves.{is_of_caller}
+use Rattle.papaya_finishes.specs.Given.Tables.Chunks.{is_incremental}
+use Rattle.papaya_finishes.specs.Given.Points.FactsCopies.{HasDone, ClaimsNone}
+use Rattle.papaya_finishes.specs.Given.Points.FactsCopiesBlocking.{HasNoShares}
+use Rattle.papaya_finishes.specs.Given.Rule.Moves.{is_of_caller}
 use Rattle.papaya_alone.specs.FactsAloneCalls.{RestsAlone}
 use Rattle.std.proofs.lemmas.Bool.{cases_eq, eq-eqb}
-use Rattle.seize_alone.proofs.Histories.Uses.{none_held}
-use Rattle.seize_alone.proofs.Histories.Reached.{history_reached}
+use Rattle.papaya_finishes.proofs.Given.SeizeAlone.Histories.Uses.{none_held}
+use Rattle.papaya_finishes.proofs.Given.SeizeAlone.Histories.Reached.{history_reached}
 
 map_last : {X Y : Type 0} (g : X → Y) (l : List X) (b : X) → map g (l ++ b ∷ []) ≡ map g l ++ g b ∷ []
 map_last g [] b = refl

@@ -1,45 +1,45 @@
 -- A step of a call that runs alone leaves each slot taken that was ever taken, and the other roots, also one of a row of the collector that it has begun.
 use Rattle.std.specs.Prelude.{Option}
 use Rattle.std.proofs.Common.{◌≡◌, ℕ, zero, suc, ◌+◌, Bool, List, refl, sym, subst}
-use Rattle.seize_words.specs.Mem.{Mem, Took, value_at}
-use Rattle.seize_words.specs.Plan.{Plan, Steps}
-use Rattle.seize.specs.declared.rows.defer.Defer.{Defer}
-use Rattle.seize.specs.declared.rows.settle.Settle.{Settle}
-use Rattle.seize.specs.declared.rows.settle.Settled.{Settled}
-use Rattle.seize.specs.declared.rows.settle.Settled.TheVariants as settled
-use Rattle.seize.specs.Defer.{defer_plan}
-use Rattle.seize.specs.Settle.{settle_plan}
-use Rattle.seize.specs.World.{World, Row, Settles, Defers, Request, Retire, Defer', Begins, Steps', settles_on}
-use Rattle.seize.specs.WaitingSets.{Change as Waiting}
-use Rattle.seize_alone.specs.Alone.{History, IsHistory, TakesSteps, at_rest}
-use Rattle.seize.specs.declared.states.TheConstants.{LAST_SLOT}
-use Rattle.seize_alone.proofs.Whole.Enter.{first_may}
-use Rattle.seize_alone.proofs.Spared.Users.{Frames}
-use Rattle.seize_rule.proofs.Rows.Leaving.{steps_back}
-use Rattle.seize_rule.proofs.World.Rested.{Lone, steps_lone}
-use Rattle.seize_alone.proofs.Spared.Rows.{defer_framed, row_stepped}
-use Rattle.papaya_raw.specs.Call as call
-use Rattle.papaya_raw.specs.CallPoints.{standing}
-use Rattle.papaya_resize.specs.Copier.{copier_plan}
-use Rattle.papaya_resize.specs.CopierPromotes.{retired}
-use Rattle.papaya_resize.specs.CopierStates as copying
-use Rattle.papaya_resize.specs.Dispose as dispose
-use Rattle.papaya_tables.specs.Nodes.{deferred_word}
-use Rattle.papaya_tables.specs.declared.node.Node.{Node}
-use Rattle.papaya_tables.specs.declared.setting.Setting.{Setting}
-use Rattle.papaya_tables.specs.declared.table.Table.{Table}
-use Rattle.papaya_raw.specs.declared.machines.answer.KeyAnswer.{KeyAnswer}
-use Rattle.papaya_raw.specs.declared.machines.answer.Called.{Called}
-use Rattle.papaya_raw.specs.declared.machines.call.KeyCall.{KeyCall}
-use Rattle.papaya_raw.specs.declared.machines.call.Calling.TheVariants as at
-use Rattle.papaya_resize.specs.declared.copier.Copier.{Copier}
-use Rattle.papaya_resize.specs.declared.copier.Copying.TheVariants as copies
-use Rattle.papaya_resize.specs.declared.dispose.Dispose.{Dispose}
-use Rattle.papaya_resize.specs.declared.dispose.Disposing.TheVariants as disposes
-use Rattle.papaya_rule.specs.Chart.{Chart}
-use Rattle.papaya_points.specs.FactsCalls.{Change}
-use Rattle.papaya_points.specs.Told.{IsRowOfCall}
-use Rattle.papaya_rule.specs.Words.{Blocks}
+use Rattle.papaya_finishes.specs.Given.SeizeWords.Mem.{Mem, Took, value_at}
+use Rattle.papaya_finishes.specs.Given.SeizeWords.Plan.{Plan, Steps}
+use Rattle.papaya_finishes.specs.Given.Seize.declared.rows.defer.Defer.{Defer}
+use Rattle.papaya_finishes.specs.Given.Seize.declared.rows.settle.Settle.{Settle}
+use Rattle.papaya_finishes.specs.Given.Seize.declared.rows.settle.Settled.{Settled}
+use Rattle.papaya_finishes.specs.Given.Seize.declared.rows.settle.Settled.TheVariants as settled
+use Rattle.papaya_finishes.specs.Given.Seize.Defer.{defer_plan}
+use Rattle.papaya_finishes.specs.Given.Seize.Settle.{settle_plan}
+use Rattle.papaya_finishes.specs.Given.Seize.World.{World, Row, Settles, Defers, Request, Retire, Defer', Begins, Steps', settles_on}
+use Rattle.papaya_finishes.specs.Given.Seize.WaitingSets.{Change as Waiting}
+use Rattle.papaya_finishes.specs.Given.SeizeAlone.Alone.{History, IsHistory, TakesSteps, at_rest}
+use Rattle.papaya_finishes.specs.Given.Seize.declared.states.TheConstants.{LAST_SLOT}
+use Rattle.papaya_finishes.proofs.Given.SeizeAlone.Whole.Enter.{first_may}
+use Rattle.papaya_finishes.proofs.Given.SeizeAlone.Spared.Users.{Frames}
+use Rattle.papaya_finishes.proofs.Given.SeizeRule.Rows.Leaving.{steps_back}
+use Rattle.papaya_finishes.proofs.Given.SeizeRule.World.Rested.{Lone, steps_lone}
+use Rattle.papaya_finishes.proofs.Given.SeizeAlone.Spared.Rows.{defer_framed, row_stepped}
+use Rattle.papaya_finishes.specs.Given.Raw.Call as call
+use Rattle.papaya_finishes.specs.Given.Raw.CallPoints.{standing}
+use Rattle.papaya_finishes.specs.Given.Resize.Copier.{copier_plan}
+use Rattle.papaya_finishes.specs.Given.Resize.CopierPromotes.{retired}
+use Rattle.papaya_finishes.specs.Given.Resize.CopierStates as copying
+use Rattle.papaya_finishes.specs.Given.Resize.Dispose as dispose
+use Rattle.papaya_finishes.specs.Given.Tables.Nodes.{deferred_word}
+use Rattle.papaya_finishes.specs.Given.Tables.declared.node.Node.{Node}
+use Rattle.papaya_finishes.specs.Given.Tables.declared.setting.Setting.{Setting}
+use Rattle.papaya_finishes.specs.Given.Tables.declared.table.Table.{Table}
+use Rattle.papaya_finishes.specs.Given.Raw.declared.machines.answer.KeyAnswer.{KeyAnswer}
+use Rattle.papaya_finishes.specs.Given.Raw.declared.machines.answer.Called.{Called}
+use Rattle.papaya_finishes.specs.Given.Raw.declared.machines.call.KeyCall.{KeyCall}
+use Rattle.papaya_finishes.specs.Given.Raw.declared.machines.call.Calling.TheVariants as at
+use Rattle.papaya_finishes.specs.Given.Resize.declared.copier.Copier.{Copier}
+use Rattle.papaya_finishes.specs.Given.Resize.declared.copier.Copying.TheVariants as copies
+use Rattle.papaya_finishes.specs.Given.Resize.declared.dispose.Dispose.{Dispose}
+use Rattle.papaya_finishes.specs.Given.Resize.declared.dispose.Disposing.TheVariants as disposes
+use Rattle.papaya_finishes.specs.Given.Rule.Chart.{Chart}
+use Rattle.papaya_finishes.specs.Given.Points.FactsCalls.{Change}
+use Rattle.papaya_finishes.specs.Given.Points.Told.{IsRowOfCall}
+use Rattle.papaya_finishes.specs.Given.Rule.Words.{Blocks}
 use Rattle.papaya_alone.specs.Alone.{IsBetween, IsDeferring, IsRetiring, IsUnderWay, Between, RetiresPair, DefersPair, RetiresTable, RetiresTables}
 use Rattle.papaya_maps.specs.Spares.{KeepsOthers, CallsSpareOthers}
 use Rattle.papaya_alone.proofs.Calls.Told.{IsInItsRow, alone_in_row}

@@ -1,32 +1,32 @@
 -- The map's machines write no root but the map's own, by what they know: each table that they make is linked in a table, or at that root.
 use Rattle.std.proofs.Common.{◌≡◌, ℕ, suc, Bool, true, false, cond, refl, sym, ap, subst}
-use Rattle.seize_words.specs.declared.at.At.{At}
-use Rattle.seize_words.specs.declared.at.At.TheVariants.{Root, Word}
-use Rattle.seize.specs.World.{World}
-use Rattle.papaya_tables.specs.Chunks.{is_incremental}
-use Rattle.papaya_raw.specs.declared.machines.call.KeyCall.{KeyCall}
-use Rattle.papaya_raw.specs.declared.machines.call.Calling.{Calling}
-use Rattle.papaya_raw.specs.declared.machines.call.Calling.TheVariants as at
-use Rattle.papaya_resize.specs.declared.copier.Copier.{Copier}
-use Rattle.papaya_resize.specs.declared.copier.Copying.{Copying}
-use Rattle.papaya_resize.specs.declared.copier.Copying.TheVariants as copies
-use Rattle.papaya_resize.specs.declared.new_table.NewTable.{NewTable}
-use Rattle.papaya_reserves.specs.declared.reserve.Reserve.{Reserve}
-use Rattle.papaya_reserves.specs.declared.reserve.Reserving.{Reserving}
-use Rattle.papaya_reserves.specs.declared.reserve.Reserving.TheVariants as reserves
-use Rattle.papaya_tables.specs.declared.node.Node.{Node}
-use Rattle.papaya_tables.specs.declared.setting.Setting.{Setting}
-use Rattle.papaya_tables.specs.declared.table_words.TheConstants.{NEXT}
-use Rattle.papaya_rule.specs.Chart.{Chart}
-use Rattle.papaya_points.specs.FactsCalls.{Change, CallFacts, CallingFacts}
-use Rattle.papaya_points.specs.FactsCopies.{CopierFacts, CopyingFacts}
-use Rattle.papaya_points.specs.FactsCopiesBlocking.{CopierFactsBlocking, CopyingFactsBlocking}
-use Rattle.papaya_points.specs.FactsTables.{NewTableFacts}
-use Rattle.papaya_rule.specs.Words.{Blocks}
-use Rattle.papaya_late.specs.FactsReserves.{ReserveFacts, ReservingFacts, IsEnding}
+use Rattle.papaya_finishes.specs.Given.SeizeWords.declared.at.At.{At}
+use Rattle.papaya_finishes.specs.Given.SeizeWords.declared.at.At.TheVariants.{Root, Word}
+use Rattle.papaya_finishes.specs.Given.Seize.World.{World}
+use Rattle.papaya_finishes.specs.Given.Tables.Chunks.{is_incremental}
+use Rattle.papaya_finishes.specs.Given.Raw.declared.machines.call.KeyCall.{KeyCall}
+use Rattle.papaya_finishes.specs.Given.Raw.declared.machines.call.Calling.{Calling}
+use Rattle.papaya_finishes.specs.Given.Raw.declared.machines.call.Calling.TheVariants as at
+use Rattle.papaya_finishes.specs.Given.Resize.declared.copier.Copier.{Copier}
+use Rattle.papaya_finishes.specs.Given.Resize.declared.copier.Copying.{Copying}
+use Rattle.papaya_finishes.specs.Given.Resize.declared.copier.Copying.TheVariants as copies
+use Rattle.papaya_finishes.specs.Given.Resize.declared.new_table.NewTable.{NewTable}
+use Rattle.papaya_finishes.specs.Given.Reserves.declared.reserve.Reserve.{Reserve}
+use Rattle.papaya_finishes.specs.Given.Reserves.declared.reserve.Reserving.{Reserving}
+use Rattle.papaya_finishes.specs.Given.Reserves.declared.reserve.Reserving.TheVariants as reserves
+use Rattle.papaya_finishes.specs.Given.Tables.declared.node.Node.{Node}
+use Rattle.papaya_finishes.specs.Given.Tables.declared.setting.Setting.{Setting}
+use Rattle.papaya_finishes.specs.Given.Tables.declared.table_words.TheConstants.{NEXT}
+use Rattle.papaya_finishes.specs.Given.Rule.Chart.{Chart}
+use Rattle.papaya_finishes.specs.Given.Points.FactsCalls.{Change, CallFacts, CallingFacts}
+use Rattle.papaya_finishes.specs.Given.Points.FactsCopies.{CopierFacts, CopyingFacts}
+use Rattle.papaya_finishes.specs.Given.Points.FactsCopiesBlocking.{CopierFactsBlocking, CopyingFactsBlocking}
+use Rattle.papaya_finishes.specs.Given.Points.FactsTables.{NewTableFacts}
+use Rattle.papaya_finishes.specs.Given.Rule.Words.{Blocks}
+use Rattle.papaya_finishes.specs.Given.Late.FactsReserves.{ReserveFacts, ReservingFacts, IsEnding}
 use Rattle.papaya_maps.proofs.OtherMaps.Plans.{IsWritable, LinksOwn, CopiesOwn, CallsOwn}
-use Rattle.papaya_raw.specs.declared.machines.asking.Takes.TheVariants as takes
-use Rattle.papaya_points.proofs.Calls.Holdings.{never_asks}
+use Rattle.papaya_finishes.specs.Given.Raw.declared.machines.asking.Takes.TheVariants as takes
+use Rattle.papaya_finishes.proofs.Given.Points.Calls.Holdings.{never_asks}
 
 -- the table that a reservation makes is linked in a table, or at the map's root
 abbrev pub ReservesOwn : ℕ → Reserving → Type 0

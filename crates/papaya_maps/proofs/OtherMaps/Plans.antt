@@ -1,40 +1,40 @@
 -- Steps of the map's machines, but for those of the collector's rows, write no word of a slot and no root but the map's own, and take none and give none up.
 use Rattle.std.specs.Prelude.{Option, Some, None, Ok, slice_get, slice_set, ◌+◌, ◌%◌, ◌^◌, bit_or}
 use Rattle.std.proofs.Common.{◌≡◌, ◌≢◌, ℕ, zero, suc, Bool, List, [], ◌∷◌, refl, sym, ap, subst, ◌∙◌}
-use Rattle.seize_words.specs.declared.at.At.{At}
-use Rattle.seize_words.specs.declared.at.At.TheVariants.{Root, Used, Slot, Entry, Word}
-use Rattle.seize_words.specs.Mem.{Mem, Took, after, value_at, with_block, with_value, with_word}
-use Rattle.seize_words.specs.Op.{Op, Out, Store, Swap, Add, Or, Exchange, Make, Take, Rewrite, Room, Found, Exchanged, Made}
-use Rattle.seize_words.specs.Plan.{Plan, Turn, Do, Steps, plan_as}
-use Rattle.seize_words.specs.SlotWords.{slot_word}
-use Rattle.seize.specs.declared.states.TheConstants.{HEAD}
-use Rattle.papaya_raw.specs.Call as call
-use Rattle.papaya_resize.specs.Copier as copier
-use Rattle.papaya_resize.specs.CopierFurther.{grown, remade}
-use Rattle.papaya_resize.specs.Dispose as dispose
-use Rattle.papaya_resize.specs.Lookup as lookup
-use Rattle.papaya_resize.specs.NewTable as new
-use Rattle.papaya_resize.specs.Sum as summing
-use Rattle.papaya_raw.specs.declared.machines.call.KeyCall.{KeyCall}
-use Rattle.papaya_raw.specs.declared.machines.call.Calling.{Calling}
-use Rattle.papaya_raw.specs.declared.machines.call.Calling.TheVariants as at
-use Rattle.papaya_resize.specs.declared.copier.Copier.{Copier}
-use Rattle.papaya_resize.specs.declared.copier.Copying.{Copying}
-use Rattle.papaya_resize.specs.declared.copier.Copying.TheVariants as copies
-use Rattle.papaya_resize.specs.declared.dispose.Dispose.{Dispose}
-use Rattle.papaya_resize.specs.declared.dispose.Disposing.{Disposing}
-use Rattle.papaya_resize.specs.declared.dispose.Disposing.TheVariants as disposes
-use Rattle.papaya_resize.specs.declared.lookup.Lookup.{Lookup}
-use Rattle.papaya_resize.specs.declared.lookup.Looking.{Looking}
-use Rattle.papaya_resize.specs.declared.lookup.Looking.TheVariants as looks
-use Rattle.papaya_resize.specs.declared.new_table.NewTable.{NewTable}
-use Rattle.papaya_resize.specs.declared.new_table.Making.{Making}
-use Rattle.papaya_resize.specs.declared.new_table.Making.TheVariants as makes
-use Rattle.papaya_resize.specs.declared.sum.Sum.{Sum}
-use Rattle.papaya_resize.specs.declared.sum.Summing.{Summing}
-use Rattle.papaya_resize.specs.declared.sum.Summing.TheVariants as sums
-use Rattle.papaya_tables.specs.declared.node.Node.{Node}
-use Rattle.papaya_points.specs.Told.{IsRowOf, IsRowOfCopier, IsRowOfCall}
+use Rattle.papaya_finishes.specs.Given.SeizeWords.declared.at.At.{At}
+use Rattle.papaya_finishes.specs.Given.SeizeWords.declared.at.At.TheVariants.{Root, Used, Slot, Entry, Word}
+use Rattle.papaya_finishes.specs.Given.SeizeWords.Mem.{Mem, Took, after, value_at, with_block, with_value, with_word}
+use Rattle.papaya_finishes.specs.Given.SeizeWords.Op.{Op, Out, Store, Swap, Add, Or, Exchange, Make, Take, Rewrite, Room, Found, Exchanged, Made}
+use Rattle.papaya_finishes.specs.Given.SeizeWords.Plan.{Plan, Turn, Do, Steps, plan_as}
+use Rattle.papaya_finishes.specs.Given.SeizeWords.SlotWords.{slot_word}
+use Rattle.papaya_finishes.specs.Given.Seize.declared.states.TheConstants.{HEAD}
+use Rattle.papaya_finishes.specs.Given.Raw.Call as call
+use Rattle.papaya_finishes.specs.Given.Resize.Copier as copier
+use Rattle.papaya_finishes.specs.Given.Resize.CopierFurther.{grown, remade}
+use Rattle.papaya_finishes.specs.Given.Resize.Dispose as dispose
+use Rattle.papaya_finishes.specs.Given.Resize.Lookup as lookup
+use Rattle.papaya_finishes.specs.Given.Resize.NewTable as new
+use Rattle.papaya_finishes.specs.Given.Resize.Sum as summing
+use Rattle.papaya_finishes.specs.Given.Raw.declared.machines.call.KeyCall.{KeyCall}
+use Rattle.papaya_finishes.specs.Given.Raw.declared.machines.call.Calling.{Calling}
+use Rattle.papaya_finishes.specs.Given.Raw.declared.machines.call.Calling.TheVariants as at
+use Rattle.papaya_finishes.specs.Given.Resize.declared.copier.Copier.{Copier}
+use Rattle.papaya_finishes.specs.Given.Resize.declared.copier.Copying.{Copying}
+use Rattle.papaya_finishes.specs.Given.Resize.declared.copier.Copying.TheVariants as copies
+use Rattle.papaya_finishes.specs.Given.Resize.declared.dispose.Dispose.{Dispose}
+use Rattle.papaya_finishes.specs.Given.Resize.declared.dispose.Disposing.{Disposing}
+use Rattle.papaya_finishes.specs.Given.Resize.declared.dispose.Disposing.TheVariants as disposes
+use Rattle.papaya_finishes.specs.Given.Resize.declared.lookup.Lookup.{Lookup}
+use Rattle.papaya_finishes.specs.Given.Resize.declared.lookup.Looking.{Looking}
+use Rattle.papaya_finishes.specs.Given.Resize.declared.lookup.Looking.TheVariants as looks
+use Rattle.papaya_finishes.specs.Given.Resize.declared.new_table.NewTable.{NewTable}
+use Rattle.papaya_finishes.specs.Given.Resize.declared.new_table.Making.{Making}
+use Rattle.papaya_finishes.specs.Given.Resize.declared.new_table.Making.TheVariants as makes
+use Rattle.papaya_finishes.specs.Given.Resize.declared.sum.Sum.{Sum}
+use Rattle.papaya_finishes.specs.Given.Resize.declared.sum.Summing.{Summing}
+use Rattle.papaya_finishes.specs.Given.Resize.declared.sum.Summing.TheVariants as sums
+use Rattle.papaya_finishes.specs.Given.Tables.declared.node.Node.{Node}
+use Rattle.papaya_finishes.specs.Given.Points.Told.{IsRowOf, IsRowOfCopier, IsRowOfCall}
 use Rattle.papaya_maps.specs.Spares.{KeepsRoots, KeepsOthers, SameSlotsAreKept}
 
 -- a word that may be written: none of a slot, and of roots the map's own alone

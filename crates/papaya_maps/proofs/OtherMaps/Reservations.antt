@@ -1,30 +1,30 @@
 -- A step of a reservation that runs alone leaves each slot taken that was ever taken, and the other roots, also one of a row that it has begun.
 use Rattle.std.proofs.Common.{ℕ, Bool, List, subst}
-use Rattle.seize_words.specs.Mem.{Mem, Took, value_at}
-use Rattle.seize_words.specs.Plan.{Steps}
-use Rattle.seize.specs.declared.rows.settle.Settle.{Settle}
-use Rattle.seize.specs.Settle.{settle_plan}
-use Rattle.seize_alone.specs.Alone.{History, at_rest}
-use Rattle.seize_rule.proofs.Rows.Leaving.{steps_back}
-use Rattle.papaya_resize.specs.Copier.{copier_plan}
-use Rattle.papaya_resize.specs.CopierPromotes.{retired}
-use Rattle.papaya_resize.specs.CopierStates as copying
-use Rattle.papaya_resize.specs.NewTable as new
-use Rattle.papaya_tables.specs.Nodes.{deferred_word}
-use Rattle.papaya_reserves.specs.Reserve.{standing, summed, made, grown, copied, plan_at, reserve_plan}
-use Rattle.papaya_resize.specs.Sum as summing
-use Rattle.papaya_tables.specs.declared.node.Node.{Node}
-use Rattle.papaya_resize.specs.declared.outcome.Outcome.{Outcome}
-use Rattle.papaya_tables.specs.declared.setting.Setting.{Setting}
-use Rattle.papaya_resize.specs.declared.copier.Copier.{Copier}
-use Rattle.papaya_resize.specs.declared.copier.Copying.TheVariants as copies
-use Rattle.papaya_reserves.specs.declared.reserve.Reserve.{Reserve}
-use Rattle.papaya_reserves.specs.declared.reserve.Reserving.{Reserving}
-use Rattle.papaya_reserves.specs.declared.reserve.Reserving.TheVariants as at
-use Rattle.papaya_rule.specs.Chart.{Chart}
-use Rattle.papaya_rule.specs.Words.{Blocks}
+use Rattle.papaya_finishes.specs.Given.SeizeWords.Mem.{Mem, Took, value_at}
+use Rattle.papaya_finishes.specs.Given.SeizeWords.Plan.{Steps}
+use Rattle.papaya_finishes.specs.Given.Seize.declared.rows.settle.Settle.{Settle}
+use Rattle.papaya_finishes.specs.Given.Seize.Settle.{settle_plan}
+use Rattle.papaya_finishes.specs.Given.SeizeAlone.Alone.{History, at_rest}
+use Rattle.papaya_finishes.proofs.Given.SeizeRule.Rows.Leaving.{steps_back}
+use Rattle.papaya_finishes.specs.Given.Resize.Copier.{copier_plan}
+use Rattle.papaya_finishes.specs.Given.Resize.CopierPromotes.{retired}
+use Rattle.papaya_finishes.specs.Given.Resize.CopierStates as copying
+use Rattle.papaya_finishes.specs.Given.Resize.NewTable as new
+use Rattle.papaya_finishes.specs.Given.Tables.Nodes.{deferred_word}
+use Rattle.papaya_finishes.specs.Given.Reserves.Reserve.{standing, summed, made, grown, copied, plan_at, reserve_plan}
+use Rattle.papaya_finishes.specs.Given.Resize.Sum as summing
+use Rattle.papaya_finishes.specs.Given.Tables.declared.node.Node.{Node}
+use Rattle.papaya_finishes.specs.Given.Resize.declared.outcome.Outcome.{Outcome}
+use Rattle.papaya_finishes.specs.Given.Tables.declared.setting.Setting.{Setting}
+use Rattle.papaya_finishes.specs.Given.Resize.declared.copier.Copier.{Copier}
+use Rattle.papaya_finishes.specs.Given.Resize.declared.copier.Copying.TheVariants as copies
+use Rattle.papaya_finishes.specs.Given.Reserves.declared.reserve.Reserve.{Reserve}
+use Rattle.papaya_finishes.specs.Given.Reserves.declared.reserve.Reserving.{Reserving}
+use Rattle.papaya_finishes.specs.Given.Reserves.declared.reserve.Reserving.TheVariants as at
+use Rattle.papaya_finishes.specs.Given.Rule.Chart.{Chart}
+use Rattle.papaya_finishes.specs.Given.Rule.Words.{Blocks}
 use Rattle.papaya_maps.specs.AloneReserves.{ReservesBetween, IsReserving, Between, RetiresTable}
-use Rattle.papaya_late.specs.ToldReserves.{IsRowOfReserve}
+use Rattle.papaya_finishes.specs.Given.Late.ToldReserves.{IsRowOfReserve}
 use Rattle.papaya_maps.specs.Spares.{KeepsOthers, ReservationsSpareOthers}
 use Rattle.papaya_maps.proofs.OtherMaps.Calls.{retiring_spares}
 use Rattle.papaya_maps.proofs.OtherMaps.OwnRoot.{ReservesOwn, reserve_links}

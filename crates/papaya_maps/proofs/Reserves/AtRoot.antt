@@ -1,38 +1,38 @@
 -- Each own step of a reservation that is alone, in incremental mode: it keeps to the root, and at its end that has the places.
 use Rattle.std.proofs.Common.{◌≡◌, ℕ, ◌/◌, ◌<◌, ◌≤◌, Bool, true, cond, refl, arith, ap, sym, subst, ◌∙◌}
-use Rattle.seize_words.specs.declared.at.At.TheVariants.{Word}
-use Rattle.seize_words.specs.Mem.{value_at, Took}
-use Rattle.seize_words.specs.Plan.{Steps}
-use Rattle.seize_words.proofs.OneOwner.Operations.{stored, loaded}
-use Rattle.seize_rule.proofs.Rows.Leaving.{steps_back}
-use Rattle.seize.specs.World.{World}
-use Rattle.papaya_tables.specs.Chunks.{is_incremental}
-use Rattle.papaya_tables.specs.TablePlaces.{at_word}
-use Rattle.papaya_tables.specs.declared.node.Node.{Node}
-use Rattle.papaya_tables.specs.declared.setting.Setting.{Setting}
-use Rattle.papaya_tables.specs.declared.status.TheConstants.Status.{PROMOTED}
-use Rattle.papaya_tables.specs.declared.table.Table.{Table}
-use Rattle.papaya_tables.specs.declared.table_words.TheConstants.{NEXT, STATUS}
-use Rattle.papaya_resize.specs.Copier.{copier_plan, plan_at as copier_at}
-use Rattle.papaya_resize.specs.CopierPromotes.{to, successor_read, also_retired, retiring_table}
-use Rattle.papaya_resize.specs.CopierStates.{standing}
-use Rattle.papaya_resize.specs.declared.copier.Copier.{Copier}
-use Rattle.papaya_resize.specs.declared.copier.Copying.{Copying}
-use Rattle.papaya_resize.specs.declared.copier.Copying.TheVariants as copies
-use Rattle.papaya_resize.specs.declared.outcome.Outcome.{Outcome}
-use Rattle.papaya_resize.specs.declared.outcome.Outcome.TheVariants as outcome
-use Rattle.papaya_reserves.specs.Reserve.{copied, needed, plan_at, reserve_plan}
-use Rattle.papaya_reserves.specs.declared.reserve.Reserve.{Reserve}
-use Rattle.papaya_reserves.specs.declared.reserve.Reserving.{Reserving}
-use Rattle.papaya_reserves.specs.declared.reserve.Reserving.TheVariants as at
-use Rattle.papaya_rule.specs.Chart.{Chart}
-use Rattle.papaya_rule.specs.Lasts.{Lasts}
-use Rattle.papaya_rule.specs.Words.{Blocks}
-use Rattle.papaya_rule.specs.Maps.{spot_of}
-use Rattle.papaya_rule.specs.InWorld.{Moved, SameBlocks, IsMapIn}
-use Rattle.papaya_points.specs.Told.{IsRowOfCopier}
-use Rattle.papaya_late.specs.FactsReserves.{CopiesWhole, ReservingFacts, ReserveFacts}
-use Rattle.papaya_late.specs.ToldReserves.{ReserveAfter, IsRowOfReserve}
+use Rattle.papaya_finishes.specs.Given.SeizeWords.declared.at.At.TheVariants.{Word}
+use Rattle.papaya_finishes.specs.Given.SeizeWords.Mem.{value_at, Took}
+use Rattle.papaya_finishes.specs.Given.SeizeWords.Plan.{Steps}
+use Rattle.papaya_finishes.proofs.Given.SeizeWords.OneOwner.Operations.{stored, loaded}
+use Rattle.papaya_finishes.proofs.Given.SeizeRule.Rows.Leaving.{steps_back}
+use Rattle.papaya_finishes.specs.Given.Seize.World.{World}
+use Rattle.papaya_finishes.specs.Given.Tables.Chunks.{is_incremental}
+use Rattle.papaya_finishes.specs.Given.Tables.TablePlaces.{at_word}
+use Rattle.papaya_finishes.specs.Given.Tables.declared.node.Node.{Node}
+use Rattle.papaya_finishes.specs.Given.Tables.declared.setting.Setting.{Setting}
+use Rattle.papaya_finishes.specs.Given.Tables.declared.status.TheConstants.Status.{PROMOTED}
+use Rattle.papaya_finishes.specs.Given.Tables.declared.table.Table.{Table}
+use Rattle.papaya_finishes.specs.Given.Tables.declared.table_words.TheConstants.{NEXT, STATUS}
+use Rattle.papaya_finishes.specs.Given.Resize.Copier.{copier_plan, plan_at as copier_at}
+use Rattle.papaya_finishes.specs.Given.Resize.CopierPromotes.{to, successor_read, also_retired, retiring_table}
+use Rattle.papaya_finishes.specs.Given.Resize.CopierStates.{standing}
+use Rattle.papaya_finishes.specs.Given.Resize.declared.copier.Copier.{Copier}
+use Rattle.papaya_finishes.specs.Given.Resize.declared.copier.Copying.{Copying}
+use Rattle.papaya_finishes.specs.Given.Resize.declared.copier.Copying.TheVariants as copies
+use Rattle.papaya_finishes.specs.Given.Resize.declared.outcome.Outcome.{Outcome}
+use Rattle.papaya_finishes.specs.Given.Resize.declared.outcome.Outcome.TheVariants as outcome
+use Rattle.papaya_finishes.specs.Given.Reserves.Reserve.{copied, needed, plan_at, reserve_plan}
+use Rattle.papaya_finishes.specs.Given.Reserves.declared.reserve.Reserve.{Reserve}
+use Rattle.papaya_finishes.specs.Given.Reserves.declared.reserve.Reserving.{Reserving}
+use Rattle.papaya_finishes.specs.Given.Reserves.declared.reserve.Reserving.TheVariants as at
+use Rattle.papaya_finishes.specs.Given.Rule.Chart.{Chart}
+use Rattle.papaya_finishes.specs.Given.Rule.Lasts.{Lasts}
+use Rattle.papaya_finishes.specs.Given.Rule.Words.{Blocks}
+use Rattle.papaya_finishes.specs.Given.Rule.Maps.{spot_of}
+use Rattle.papaya_finishes.specs.Given.Rule.InWorld.{Moved, SameBlocks, IsMapIn}
+use Rattle.papaya_finishes.specs.Given.Points.Told.{IsRowOfCopier}
+use Rattle.papaya_finishes.specs.Given.Late.FactsReserves.{CopiesWhole, ReservingFacts, ReserveFacts}
+use Rattle.papaya_finishes.specs.Given.Late.ToldReserves.{ReserveAfter, IsRowOfReserve}
 use Rattle.papaya_maps.specs.AloneReserves.{RetiresFrom, IsNear, ReservingAlone, LooksAtRoot, SumsUp, KeepsToRoot}
 use Rattle.papaya_maps.proofs.Reserves.Knows.{knows_tables, copier_setting}
 use Rattle.papaya_maps.proofs.Reserves.Left.{CopiesTo, all_retired, first_kept}

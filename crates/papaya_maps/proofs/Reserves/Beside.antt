@@ -3,37 +3,37 @@
 use Rattle.std.specs.Prelude.{◌^◌, ◌<◌, cond}
 use Rattle.std.specs.Int.{IsPowerOfTwo}
 use Rattle.std.proofs.Common.{◌≡◌, ◌≢◌, ℕ, Bool, true, false, refl, sym, subst}
-use Rattle.seize_words.specs.Mem.{Mem, value_at, Took}
-use Rattle.seize_words.specs.Plan.{Steps}
-use Rattle.seize.specs.World.{World}
-use Rattle.papaya_tables.specs.Chunks.{is_incremental}
-use Rattle.papaya_resize.specs.Copier.{copier_plan}
-use Rattle.papaya_resize.specs.CopierStates.{copying_all}
-use Rattle.papaya_reserves.specs.Reserve.{copied}
-use Rattle.papaya_tables.specs.declared.node.Node.{Node}
-use Rattle.papaya_resize.specs.declared.outcome.Outcome.{Outcome}
-use Rattle.papaya_resize.specs.declared.outcome.Outcome.TheVariants as outcome
-use Rattle.papaya_tables.specs.declared.setting.Setting.{Setting}
-use Rattle.papaya_tables.specs.declared.table.Table.{Table}
-use Rattle.papaya_resize.specs.declared.copier.Copier.{Copier}
-use Rattle.papaya_reserves.specs.declared.reserve.Reserve.{Reserve}
-use Rattle.papaya_reserves.specs.declared.reserve.Reserving.{Reserving}
-use Rattle.papaya_reserves.specs.declared.reserve.Reserving.TheVariants as at
-use Rattle.papaya_rule.specs.Chart.{Chart}
-use Rattle.papaya_rule.specs.Rule.{Rule, IsLawful}
-use Rattle.papaya_rule.specs.Words.{Blocks}
-use Rattle.papaya_rule.specs.Maps.{spot_of}
-use Rattle.papaya_rule.specs.InWorld.{IsMapIn}
-use Rattle.papaya_points.specs.FactsCopies.{CopierFacts}
-use Rattle.papaya_points.specs.FactsCopiesBlocking.{CopierFactsBlocking}
-use Rattle.papaya_points.specs.Measures.{OthersIdle}
-use Rattle.papaya_points.specs.FactsAloneBlocking.{AloneBlocking, LeadsAlone}
-use Rattle.papaya_points.specs.Told.{IsRowOfCopier, CopierTold, CopierToldBlocking, OnlyLinks}
-use Rattle.papaya_points.specs.ToldMoves.{MovedAt}
-use Rattle.papaya_points.proofs.Calls.Making.{links_beside}
-use Rattle.papaya_late.specs.FactsReserves.{CopiesPairs, IsEnding, CopiesWhole, ReservingFacts}
-use Rattle.papaya_late.specs.ToldReserves.{EndsAtRoot, WholeTold, IsRowOfReserve}
-use Rattle.papaya_late.proofs.Rooms.Reserves.Moved.{IsFresh, Proceeds, CopierMoves, ReserveMoves}
+use Rattle.papaya_finishes.specs.Given.SeizeWords.Mem.{Mem, value_at, Took}
+use Rattle.papaya_finishes.specs.Given.SeizeWords.Plan.{Steps}
+use Rattle.papaya_finishes.specs.Given.Seize.World.{World}
+use Rattle.papaya_finishes.specs.Given.Tables.Chunks.{is_incremental}
+use Rattle.papaya_finishes.specs.Given.Resize.Copier.{copier_plan}
+use Rattle.papaya_finishes.specs.Given.Resize.CopierStates.{copying_all}
+use Rattle.papaya_finishes.specs.Given.Reserves.Reserve.{copied}
+use Rattle.papaya_finishes.specs.Given.Tables.declared.node.Node.{Node}
+use Rattle.papaya_finishes.specs.Given.Resize.declared.outcome.Outcome.{Outcome}
+use Rattle.papaya_finishes.specs.Given.Resize.declared.outcome.Outcome.TheVariants as outcome
+use Rattle.papaya_finishes.specs.Given.Tables.declared.setting.Setting.{Setting}
+use Rattle.papaya_finishes.specs.Given.Tables.declared.table.Table.{Table}
+use Rattle.papaya_finishes.specs.Given.Resize.declared.copier.Copier.{Copier}
+use Rattle.papaya_finishes.specs.Given.Reserves.declared.reserve.Reserve.{Reserve}
+use Rattle.papaya_finishes.specs.Given.Reserves.declared.reserve.Reserving.{Reserving}
+use Rattle.papaya_finishes.specs.Given.Reserves.declared.reserve.Reserving.TheVariants as at
+use Rattle.papaya_finishes.specs.Given.Rule.Chart.{Chart}
+use Rattle.papaya_finishes.specs.Given.Rule.Rule.{Rule, IsLawful}
+use Rattle.papaya_finishes.specs.Given.Rule.Words.{Blocks}
+use Rattle.papaya_finishes.specs.Given.Rule.Maps.{spot_of}
+use Rattle.papaya_finishes.specs.Given.Rule.InWorld.{IsMapIn}
+use Rattle.papaya_finishes.specs.Given.Points.FactsCopies.{CopierFacts}
+use Rattle.papaya_finishes.specs.Given.Points.FactsCopiesBlocking.{CopierFactsBlocking}
+use Rattle.papaya_finishes.specs.Given.Points.Measures.{OthersIdle}
+use Rattle.papaya_finishes.specs.Given.Points.FactsAloneBlocking.{AloneBlocking, LeadsAlone}
+use Rattle.papaya_finishes.specs.Given.Points.Told.{IsRowOfCopier, CopierTold, CopierToldBlocking, OnlyLinks}
+use Rattle.papaya_finishes.specs.Given.Points.ToldMoves.{MovedAt}
+use Rattle.papaya_finishes.proofs.Given.Points.Calls.Making.{links_beside}
+use Rattle.papaya_finishes.specs.Given.Late.FactsReserves.{CopiesPairs, IsEnding, CopiesWhole, ReservingFacts}
+use Rattle.papaya_finishes.specs.Given.Late.ToldReserves.{EndsAtRoot, WholeTold, IsRowOfReserve}
+use Rattle.papaya_finishes.proofs.Given.Late.Rooms.Reserves.Moved.{IsFresh, Proceeds, CopierMoves, ReserveMoves}
 use Rattle.papaya_alone.specs.FactsAlone.{FactsAlone}
 use Rattle.papaya_alone.specs.FactsAloneCalls.{TablesAlone, RestsAlone}
 use Rattle.papaya_alone.proofs.Lone.Beside.{alone_begins, beside_idle, beside_tables}

@@ -2,53 +2,53 @@
 use Rattle.std.specs.Int.{IsPowerOfTwo}
 use Rattle.std.proofs.Common.{◌≡◌, ℕ, ◌-◌, ◌+◌, ◌<◌, ◌≤◌, ◌⊎◌, Bool, true, List, [], ◌++◌, inl, inr, refl, arith, ap, sym, subst, ◌∙◌}
 use Rattle.std.proofs.lemmas.Bool.{cases_lt}
-use Rattle.seize_words.specs.Mem.{Mem, Can, Took, value_at}
-use Rattle.seize_words.specs.Plan.{May, Steps}
-use Rattle.seize.specs.WaitingSets.{Change as Waiting}
-use Rattle.seize.specs.World.{World}
-use Rattle.seize_alone.specs.Alone.{History, IsHistory, at_rest}
-use Rattle.seize_alone.proofs.Histories.Reached.{history_reached}
-use Rattle.seize_alone.proofs.Histories.UsersTurn.{users_turn}
-use Rattle.papaya_tables.specs.Nodes.{deferred_word}
-use Rattle.papaya_tables.specs.Chunks.{is_incremental}
-use Rattle.papaya_reserves.specs.Reserve.{reserve_plan}
-use Rattle.papaya_tables.specs.declared.node.Node.{Node}
-use Rattle.papaya_resize.specs.declared.outcome.Outcome.{Outcome}
-use Rattle.papaya_resize.specs.declared.outcome.Outcome.TheVariants as outcome
-use Rattle.papaya_tables.specs.declared.setting.Setting.{Setting}
-use Rattle.papaya_reserves.specs.declared.reserve.Reserve.{Reserve}
-use Rattle.papaya_rule.proofs.World.CounterSpared.{spares_counter}
-use Rattle.papaya_rule.specs.Chart.{Chart}
-use Rattle.papaya_rule.specs.Lasts.{Lasts}
-use Rattle.papaya_rule.specs.Words.{Blocks}
-use Rattle.papaya_rule.specs.Maps.{spot_of}
-use Rattle.papaya_rule.specs.InWorld.{SameBlocks, IsMapIn}
-use Rattle.papaya_points.specs.Steps.{AreLawful}
-use Rattle.papaya_points.proofs.MovedLasts.{moved_lasts}
+use Rattle.papaya_finishes.specs.Given.SeizeWords.Mem.{Mem, Can, Took, value_at}
+use Rattle.papaya_finishes.specs.Given.SeizeWords.Plan.{May, Steps}
+use Rattle.papaya_finishes.specs.Given.Seize.WaitingSets.{Change as Waiting}
+use Rattle.papaya_finishes.specs.Given.Seize.World.{World}
+use Rattle.papaya_finishes.specs.Given.SeizeAlone.Alone.{History, IsHistory, at_rest}
+use Rattle.papaya_finishes.proofs.Given.SeizeAlone.Histories.Reached.{history_reached}
+use Rattle.papaya_finishes.proofs.Given.SeizeAlone.Histories.UsersTurn.{users_turn}
+use Rattle.papaya_finishes.specs.Given.Tables.Nodes.{deferred_word}
+use Rattle.papaya_finishes.specs.Given.Tables.Chunks.{is_incremental}
+use Rattle.papaya_finishes.specs.Given.Reserves.Reserve.{reserve_plan}
+use Rattle.papaya_finishes.specs.Given.Tables.declared.node.Node.{Node}
+use Rattle.papaya_finishes.specs.Given.Resize.declared.outcome.Outcome.{Outcome}
+use Rattle.papaya_finishes.specs.Given.Resize.declared.outcome.Outcome.TheVariants as outcome
+use Rattle.papaya_finishes.specs.Given.Tables.declared.setting.Setting.{Setting}
+use Rattle.papaya_finishes.specs.Given.Reserves.declared.reserve.Reserve.{Reserve}
+use Rattle.papaya_finishes.proofs.Given.Rule.World.CounterSpared.{spares_counter}
+use Rattle.papaya_finishes.specs.Given.Rule.Chart.{Chart}
+use Rattle.papaya_finishes.specs.Given.Rule.Lasts.{Lasts}
+use Rattle.papaya_finishes.specs.Given.Rule.Words.{Blocks}
+use Rattle.papaya_finishes.specs.Given.Rule.Maps.{spot_of}
+use Rattle.papaya_finishes.specs.Given.Rule.InWorld.{SameBlocks, IsMapIn}
+use Rattle.papaya_finishes.specs.Given.Points.Steps.{AreLawful}
+use Rattle.papaya_finishes.proofs.Given.Points.MovedLasts.{moved_lasts}
 use Rattle.papaya_maps.specs.FactsAloneReserves.{IsLoneReserve, LeadsReserve}
 use Rattle.papaya_maps.specs.EndingsReserves.{HasMore}
-use Rattle.papaya_late.specs.FactsReserves.{ReserveFacts}
+use Rattle.papaya_finishes.specs.Given.Late.FactsReserves.{ReserveFacts}
 use Rattle.papaya_maps.specs.LoneReserves.{LeadsTo}
-use Rattle.papaya_late.specs.ToldReserves.{ReserveAfter, IsRowOfReserve}
+use Rattle.papaya_finishes.specs.Given.Late.ToldReserves.{ReserveAfter, IsRowOfReserve}
 use Rattle.papaya_alone.specs.Alone.{IsIdleNow}
-use Rattle.papaya_callers.specs.Kept.{IsWithin}
+use Rattle.papaya_finishes.specs.Given.Callers.Kept.{IsWithin}
 use Rattle.papaya_alone.specs.Values.{IsComing, IsMadeByReserve, IsLinkedSince}
 use Rattle.papaya_alone.specs.Counting.{IsCounted}
 use Rattle.papaya_alone.specs.Counted.{HasAdded}
 use Rattle.papaya_maps.specs.AloneReserves.{HasRoom, SumsUp, ReservingAlone, HasReserved, ReservesBetween, HasReservedAll, Between, ReservesTo}
 use Rattle.papaya_alone.proofs.Calls.Changes.{blocks_on}
-use Rattle.papaya_callers.proofs.Rows.Users.{all_users, users_within}
-use Rattle.papaya_callers.proofs.Rows.Known.{moved_makes, known_since}
+use Rattle.papaya_finishes.proofs.Given.Callers.Rows.Users.{all_users, users_within}
+use Rattle.papaya_finishes.proofs.Given.Callers.Rows.Known.{moved_makes, known_since}
 use Rattle.papaya_alone.proofs.Calls.LastsOn.{lasts_on}
-use Rattle.papaya_late.proofs.Rooms.Reserves.Points.{may_reserve, went_reserve}
+use Rattle.papaya_finishes.proofs.Given.Late.Rooms.Reserves.Points.{may_reserve, went_reserve}
 use Rattle.papaya_maps.proofs.Reserves.Beside.{reserve_leads}
 use Rattle.papaya_maps.proofs.Reserves.Told.{ReservesOnTo, reserves_on}
-use Rattle.papaya_late.proofs.Rooms.Reserves.On.{ReserveWent}
+use Rattle.papaya_finishes.proofs.Given.Late.Rooms.Reserves.On.{ReserveWent}
 use Rattle.papaya_alone.proofs.Handed.Retirements.{retirements_same}
 use Rattle.papaya_alone.proofs.Handed.RootTurns.{before_made}
 use Rattle.papaya_alone.proofs.Values.Come.{has_come, comes_on}
 use Rattle.papaya_alone.proofs.Values.Linked.{linked_on, now_linked}
-use Rattle.papaya_points.proofs.Values.Making.{IsLinkedNow}
+use Rattle.papaya_finishes.proofs.Given.Points.Values.Making.{IsLinkedNow}
 use Rattle.papaya_maps.proofs.Reserves.Values.{MadeByReserveAfter, reserve_leaves}
 use Rattle.papaya_alone.proofs.Shards.PairsChanged.{counted_kept, few_pairs_there}
 use Rattle.papaya_maps.proofs.Reserves.Counted.{reserve_counts_none}

@@ -1,34 +1,34 @@
 -- A step of a reservation that is none of a row of the collector leaves what the shards say.
 use Rattle.std.specs.Prelude.{◌≡◌, ℕ, suc, Bool, true, false, cond}
 use Rattle.std.proofs.Common.{refl}
-use Rattle.seize_words.specs.declared.at.At.TheVariants.{Root, Word}
-use Rattle.seize_words.specs.Mem.{Mem, Can, Took, value_at}
-use Rattle.seize_words.specs.Plan.{May, Steps}
-use Rattle.seize.specs.World.{World}
-use Rattle.papaya_tables.specs.Chunks.{is_incremental}
-use Rattle.papaya_resize.specs.Copier.{copier_plan}
-use Rattle.papaya_resize.specs.NewTable.{new_table_plan}
-use Rattle.papaya_reserves.specs.Reserve.{made, summed, grown, copied, plan_at, reserve_plan}
-use Rattle.papaya_resize.specs.Sum.{sum_plan}
-use Rattle.papaya_tables.specs.declared.node.Node.{Node}
-use Rattle.papaya_resize.specs.declared.outcome.Outcome.{Outcome}
-use Rattle.papaya_tables.specs.declared.setting.Setting.{Setting}
-use Rattle.papaya_tables.specs.declared.table_words.TheConstants.{NEXT}
-use Rattle.papaya_resize.specs.declared.copier.Copier.{Copier}
-use Rattle.papaya_reserves.specs.declared.reserve.Reserve.{Reserve}
-use Rattle.papaya_reserves.specs.declared.reserve.Reserving.{Reserving}
-use Rattle.papaya_reserves.specs.declared.reserve.Reserving.TheVariants as at
-use Rattle.papaya_rule.specs.Chart.{Chart}
-use Rattle.papaya_rule.specs.Words.{Blocks}
-use Rattle.papaya_rule.specs.InWorld.{IsMapIn}
-use Rattle.papaya_points.specs.FactsCopies.{CopierFacts}
-use Rattle.papaya_points.specs.FactsCopiesBlocking.{CopierFactsBlocking}
-use Rattle.papaya_points.specs.Told.{IsRowOfCopier}
+use Rattle.papaya_finishes.specs.Given.SeizeWords.declared.at.At.TheVariants.{Root, Word}
+use Rattle.papaya_finishes.specs.Given.SeizeWords.Mem.{Mem, Can, Took, value_at}
+use Rattle.papaya_finishes.specs.Given.SeizeWords.Plan.{May, Steps}
+use Rattle.papaya_finishes.specs.Given.Seize.World.{World}
+use Rattle.papaya_finishes.specs.Given.Tables.Chunks.{is_incremental}
+use Rattle.papaya_finishes.specs.Given.Resize.Copier.{copier_plan}
+use Rattle.papaya_finishes.specs.Given.Resize.NewTable.{new_table_plan}
+use Rattle.papaya_finishes.specs.Given.Reserves.Reserve.{made, summed, grown, copied, plan_at, reserve_plan}
+use Rattle.papaya_finishes.specs.Given.Resize.Sum.{sum_plan}
+use Rattle.papaya_finishes.specs.Given.Tables.declared.node.Node.{Node}
+use Rattle.papaya_finishes.specs.Given.Resize.declared.outcome.Outcome.{Outcome}
+use Rattle.papaya_finishes.specs.Given.Tables.declared.setting.Setting.{Setting}
+use Rattle.papaya_finishes.specs.Given.Tables.declared.table_words.TheConstants.{NEXT}
+use Rattle.papaya_finishes.specs.Given.Resize.declared.copier.Copier.{Copier}
+use Rattle.papaya_finishes.specs.Given.Reserves.declared.reserve.Reserve.{Reserve}
+use Rattle.papaya_finishes.specs.Given.Reserves.declared.reserve.Reserving.{Reserving}
+use Rattle.papaya_finishes.specs.Given.Reserves.declared.reserve.Reserving.TheVariants as at
+use Rattle.papaya_finishes.specs.Given.Rule.Chart.{Chart}
+use Rattle.papaya_finishes.specs.Given.Rule.Words.{Blocks}
+use Rattle.papaya_finishes.specs.Given.Rule.InWorld.{IsMapIn}
+use Rattle.papaya_finishes.specs.Given.Points.FactsCopies.{CopierFacts}
+use Rattle.papaya_finishes.specs.Given.Points.FactsCopiesBlocking.{CopierFactsBlocking}
+use Rattle.papaya_finishes.specs.Given.Points.Told.{IsRowOfCopier}
 use Rattle.papaya_alone.specs.Counting.{shards_sum}
-use Rattle.papaya_late.specs.FactsReserves.{IsEnding, ReservingFacts, ReserveFacts}
-use Rattle.papaya_late.specs.ToldReserves.{IsRowOfReserve}
+use Rattle.papaya_finishes.specs.Given.Late.FactsReserves.{IsEnding, ReservingFacts, ReserveFacts}
+use Rattle.papaya_finishes.specs.Given.Late.ToldReserves.{IsRowOfReserve}
 use Rattle.papaya_alone.proofs.Spared.Shards.{counter_apart, counter_no_next, shards_spared}
-use Rattle.papaya_rule.proofs.Spared.{PlanSpares, spares_as}
+use Rattle.papaya_finishes.proofs.Given.Rule.Spared.{PlanSpares, spares_as}
 use Rattle.papaya_alone.proofs.Spared.Calls.{IsApart, new_table_spares, sum_spares, copier_spares}
 use Rattle.papaya_alone.proofs.Spared.Helpers.{helper_spares}
 

@@ -2,20 +2,20 @@
 -- and does not wait.
 use Rattle.std.specs.Int.{IsPowerOfTwo}
 use Rattle.std.proofs.Common.{ℕ, ◌*◌, Bool, List, [], refl, sym, subst}
-use Rattle.seize_words.specs.Mem.{Mem, Took, value_at}
-use Rattle.seize_words.specs.Plan.{Steps}
-use Rattle.seize.specs.Settle.{retiring}
-use Rattle.seize_alone.specs.Alone.{History}
-use Rattle.papaya_tables.specs.Chunks.{is_incremental}
-use Rattle.papaya_reserves.specs.Reserve.{reserve_plan}
-use Rattle.papaya_tables.specs.declared.node.Node.{Node}
-use Rattle.papaya_resize.specs.declared.outcome.Outcome.{Outcome}
-use Rattle.papaya_tables.specs.declared.setting.Setting.{Setting}
-use Rattle.papaya_resize.specs.declared.copier.Copying.TheVariants as copies
-use Rattle.papaya_reserves.specs.declared.reserve.Reserve.{Reserve}
-use Rattle.papaya_rule.specs.Chart.{Chart}
-use Rattle.papaya_rule.specs.Words.{Blocks}
-use Rattle.papaya_points.specs.Steps.{AreLawful}
+use Rattle.papaya_finishes.specs.Given.SeizeWords.Mem.{Mem, Took, value_at}
+use Rattle.papaya_finishes.specs.Given.SeizeWords.Plan.{Steps}
+use Rattle.papaya_finishes.specs.Given.Seize.Settle.{retiring}
+use Rattle.papaya_finishes.specs.Given.SeizeAlone.Alone.{History}
+use Rattle.papaya_finishes.specs.Given.Tables.Chunks.{is_incremental}
+use Rattle.papaya_finishes.specs.Given.Reserves.Reserve.{reserve_plan}
+use Rattle.papaya_finishes.specs.Given.Tables.declared.node.Node.{Node}
+use Rattle.papaya_finishes.specs.Given.Resize.declared.outcome.Outcome.{Outcome}
+use Rattle.papaya_finishes.specs.Given.Tables.declared.setting.Setting.{Setting}
+use Rattle.papaya_finishes.specs.Given.Resize.declared.copier.Copying.TheVariants as copies
+use Rattle.papaya_finishes.specs.Given.Reserves.declared.reserve.Reserve.{Reserve}
+use Rattle.papaya_finishes.specs.Given.Rule.Chart.{Chart}
+use Rattle.papaya_finishes.specs.Given.Rule.Words.{Blocks}
+use Rattle.papaya_finishes.specs.Given.Points.Steps.{AreLawful}
 use Rattle.papaya_maps.specs.FactsAloneReserves.{IsLoneReserve}
 use Rattle.papaya_maps.specs.AloneReserves.{ReservesBetween, IsReserving, Between, RetiresTable}
 use Rattle.papaya_maps.specs.LoneReserves.{IsLoneReservation, LeadsTo, LoneReservesBegin, LoneReservesGoOn}

@@ -2,45 +2,45 @@
 use Rattle.std.specs.Prelude.{◌==◌, if◌then◌else◌}
 use Rattle.std.proofs.Common.{◌≡◌, ◌≢◌, ℕ, suc, ◌*◌, ◌<◌, ◌≤◌, Bool, true, false, cond, List, [], ◌∷◌, ◌++◌, ◌⊎◌, inl, inr, refl, arith, ap, sym, subst, ◌∙◌}
 use Rattle.std.proofs.lemmas.Bool.{cases_lt, eq-eqb, ne_eqb}
-use Rattle.seize_words.specs.Mem.{Mem, Can, Took, value_at}
-use Rattle.seize_words.specs.Plan.{May, Steps}
-use Rattle.seize_words.proofs.Plans.{as_may}
-use Rattle.seize.specs.declared.rows.settle.Settle.{Settle}
-use Rattle.seize.specs.declared.rows.settle.Settled.{Settled}
-use Rattle.seize.specs.declared.rows.settle.Settled.TheVariants as settled
-use Rattle.seize.specs.Settle.{retiring, settle_plan}
-use Rattle.seize.specs.WaitingSets.{Retires}
-use Rattle.seize.specs.World.{Cutting, Retire}
-use Rattle.seize_alone.specs.Alone.{History, at_rest}
-use Rattle.seize_rule.proofs.Rows.Leaving.{steps_back}
-use Rattle.seize_alone.proofs.Histories.Reached.{history_reached}
-use Rattle.papaya_tables.specs.Nodes.{deferred_word}
-use Rattle.papaya_tables.specs.Chunks.{is_incremental}
-use Rattle.papaya_resize.specs.Copier.{copier_plan}
-use Rattle.papaya_resize.specs.CopierStates as copying
-use Rattle.papaya_resize.specs.CopierPromotes.{table_retired, retired}
-use Rattle.papaya_reserves.specs.Reserve.{standing, copied, reserve_plan}
-use Rattle.papaya_tables.specs.declared.node.Node.{Node}
-use Rattle.papaya_resize.specs.declared.outcome.Outcome.{Outcome}
-use Rattle.papaya_tables.specs.declared.setting.Setting.{Setting}
-use Rattle.papaya_tables.specs.declared.table.Table.{Table}
-use Rattle.papaya_resize.specs.declared.copier.Copier.{Copier}
-use Rattle.papaya_resize.specs.declared.copier.Copying.{Copying}
-use Rattle.papaya_resize.specs.declared.copier.Copying.TheVariants as copies
-use Rattle.papaya_reserves.specs.declared.reserve.Reserve.{Reserve}
-use Rattle.papaya_reserves.specs.declared.reserve.Reserving.{Reserving}
-use Rattle.papaya_reserves.specs.declared.reserve.Reserving.TheVariants as at
-use Rattle.papaya_rule.specs.Chart.{Chart}
-use Rattle.papaya_rule.specs.Words.{Blocks}
-use Rattle.papaya_rule.specs.Maps.{spot_of}
-use Rattle.papaya_points.specs.FactsCopies.{CopyingFacts, CopierFacts}
-use Rattle.papaya_points.specs.FactsCopiesBlocking.{HasUnlinkedFrom, CopyingFactsBlocking, CopierFactsBlocking}
-use Rattle.papaya_points.specs.FactsAloneBlocking.{AloneBlocking}
+use Rattle.papaya_finishes.specs.Given.SeizeWords.Mem.{Mem, Can, Took, value_at}
+use Rattle.papaya_finishes.specs.Given.SeizeWords.Plan.{May, Steps}
+use Rattle.papaya_finishes.proofs.Given.SeizeWords.Plans.{as_may}
+use Rattle.papaya_finishes.specs.Given.Seize.declared.rows.settle.Settle.{Settle}
+use Rattle.papaya_finishes.specs.Given.Seize.declared.rows.settle.Settled.{Settled}
+use Rattle.papaya_finishes.specs.Given.Seize.declared.rows.settle.Settled.TheVariants as settled
+use Rattle.papaya_finishes.specs.Given.Seize.Settle.{retiring, settle_plan}
+use Rattle.papaya_finishes.specs.Given.Seize.WaitingSets.{Retires}
+use Rattle.papaya_finishes.specs.Given.Seize.World.{Cutting, Retire}
+use Rattle.papaya_finishes.specs.Given.SeizeAlone.Alone.{History, at_rest}
+use Rattle.papaya_finishes.proofs.Given.SeizeRule.Rows.Leaving.{steps_back}
+use Rattle.papaya_finishes.proofs.Given.SeizeAlone.Histories.Reached.{history_reached}
+use Rattle.papaya_finishes.specs.Given.Tables.Nodes.{deferred_word}
+use Rattle.papaya_finishes.specs.Given.Tables.Chunks.{is_incremental}
+use Rattle.papaya_finishes.specs.Given.Resize.Copier.{copier_plan}
+use Rattle.papaya_finishes.specs.Given.Resize.CopierStates as copying
+use Rattle.papaya_finishes.specs.Given.Resize.CopierPromotes.{table_retired, retired}
+use Rattle.papaya_finishes.specs.Given.Reserves.Reserve.{standing, copied, reserve_plan}
+use Rattle.papaya_finishes.specs.Given.Tables.declared.node.Node.{Node}
+use Rattle.papaya_finishes.specs.Given.Resize.declared.outcome.Outcome.{Outcome}
+use Rattle.papaya_finishes.specs.Given.Tables.declared.setting.Setting.{Setting}
+use Rattle.papaya_finishes.specs.Given.Tables.declared.table.Table.{Table}
+use Rattle.papaya_finishes.specs.Given.Resize.declared.copier.Copier.{Copier}
+use Rattle.papaya_finishes.specs.Given.Resize.declared.copier.Copying.{Copying}
+use Rattle.papaya_finishes.specs.Given.Resize.declared.copier.Copying.TheVariants as copies
+use Rattle.papaya_finishes.specs.Given.Reserves.declared.reserve.Reserve.{Reserve}
+use Rattle.papaya_finishes.specs.Given.Reserves.declared.reserve.Reserving.{Reserving}
+use Rattle.papaya_finishes.specs.Given.Reserves.declared.reserve.Reserving.TheVariants as at
+use Rattle.papaya_finishes.specs.Given.Rule.Chart.{Chart}
+use Rattle.papaya_finishes.specs.Given.Rule.Words.{Blocks}
+use Rattle.papaya_finishes.specs.Given.Rule.Maps.{spot_of}
+use Rattle.papaya_finishes.specs.Given.Points.FactsCopies.{CopyingFacts, CopierFacts}
+use Rattle.papaya_finishes.specs.Given.Points.FactsCopiesBlocking.{HasUnlinkedFrom, CopyingFactsBlocking, CopierFactsBlocking}
+use Rattle.papaya_finishes.specs.Given.Points.FactsAloneBlocking.{AloneBlocking}
 use Rattle.papaya_alone.specs.FactsAlone.{AloneAt}
 use Rattle.papaya_maps.specs.FactsAloneReserves.{CopierAlone, ReservesAlone, IsLoneReserve}
-use Rattle.papaya_late.specs.FactsReserves.{IsEnding, CopiesWhole, ReservingFacts}
+use Rattle.papaya_finishes.specs.Given.Late.FactsReserves.{IsEnding, CopiesWhole, ReservingFacts}
 use Rattle.papaya_alone.specs.Alone.{IsRetiring}
-use Rattle.papaya_points.specs.Made.{IsMadeByCopier}
+use Rattle.papaya_finishes.specs.Given.Points.Made.{IsMadeByCopier}
 use Rattle.papaya_alone.specs.Values.{IsMadeByReserve, IsLinkedSince}
 use Rattle.papaya_maps.specs.AloneReserves.{AreLeft, IsNear, RetiresFrom, ReservingAlone, HasReserved, ReservesBetween, Between, RetiresTable, ReservesTo}
 use Rattle.papaya_maps.specs.LoneReserves.{LeadsTo}
@@ -48,7 +48,7 @@ use Rattle.papaya_alone.proofs.Rows.Settles.{settle_goes}
 use Rattle.papaya_alone.proofs.Rows.Retires.{HasRetired, RetiresTo, retiring_begins, retiring_may, retiring_told}
 use Rattle.papaya_alone.proofs.Handed.Retirements.{retired_more}
 use Rattle.papaya_alone.proofs.Handed.RootTurns.{before_made}
-use Rattle.papaya_callers.proofs.Rows.Retires.{counter_no_table}
+use Rattle.papaya_finishes.proofs.Given.Callers.Rows.Retires.{counter_no_table}
 use Rattle.papaya_alone.proofs.Values.Come.{comes_same}
 use Rattle.papaya_alone.proofs.Shards.Sums.{shards_words, added_same}
 

@@ -1,21 +1,21 @@
 -- The steps that write no root: those of a making of a table behind another one, and those of a copier but the promotion.
 use Rattle.std.proofs.Common.{◌≡◌, ℕ, sym, subst}
-use Rattle.seize_words.specs.declared.at.At.TheVariants.{Word}
-use Rattle.papaya_resize.specs.Copier.{plan_at}
-use Rattle.papaya_resize.specs.CopierFurther.{grown, remade}
-use Rattle.papaya_resize.specs.NewTable as new
-use Rattle.papaya_resize.specs.Sum as summing
-use Rattle.papaya_resize.specs.declared.copier.Copier.{Copier}
-use Rattle.papaya_resize.specs.declared.copier.Copying.{Copying}
-use Rattle.papaya_resize.specs.declared.copier.Copying.TheVariants as at
-use Rattle.papaya_resize.specs.declared.new_table.NewTable.{NewTable}
-use Rattle.papaya_resize.specs.declared.new_table.Making.{Making}
-use Rattle.papaya_resize.specs.declared.new_table.Making.TheVariants as makes
-use Rattle.papaya_resize.specs.declared.sum.Sum.{Sum}
-use Rattle.papaya_resize.specs.declared.sum.Summing.{Summing}
-use Rattle.papaya_resize.specs.declared.sum.Summing.TheVariants as sums
-use Rattle.papaya_tables.specs.declared.node.Node.{Node}
-use Rattle.papaya_rule.proofs.World.RootSpared.{IsNoRoot}
+use Rattle.papaya_finishes.specs.Given.SeizeWords.declared.at.At.TheVariants.{Word}
+use Rattle.papaya_finishes.specs.Given.Resize.Copier.{plan_at}
+use Rattle.papaya_finishes.specs.Given.Resize.CopierFurther.{grown, remade}
+use Rattle.papaya_finishes.specs.Given.Resize.NewTable as new
+use Rattle.papaya_finishes.specs.Given.Resize.Sum as summing
+use Rattle.papaya_finishes.specs.Given.Resize.declared.copier.Copier.{Copier}
+use Rattle.papaya_finishes.specs.Given.Resize.declared.copier.Copying.{Copying}
+use Rattle.papaya_finishes.specs.Given.Resize.declared.copier.Copying.TheVariants as at
+use Rattle.papaya_finishes.specs.Given.Resize.declared.new_table.NewTable.{NewTable}
+use Rattle.papaya_finishes.specs.Given.Resize.declared.new_table.Making.{Making}
+use Rattle.papaya_finishes.specs.Given.Resize.declared.new_table.Making.TheVariants as makes
+use Rattle.papaya_finishes.specs.Given.Resize.declared.sum.Sum.{Sum}
+use Rattle.papaya_finishes.specs.Given.Resize.declared.sum.Summing.{Summing}
+use Rattle.papaya_finishes.specs.Given.Resize.declared.sum.Summing.TheVariants as sums
+use Rattle.papaya_finishes.specs.Given.Tables.declared.node.Node.{Node}
+use Rattle.papaya_finishes.proofs.Given.Rule.World.RootSpared.{IsNoRoot}
 use Rattle.papaya_maps.proofs.Reserves.CopiersOn.{PromotesNone}
 use Rattle.papaya_maps.proofs.Reserves.PlansLeave.{WritesNoRoot, no_root_as}
 

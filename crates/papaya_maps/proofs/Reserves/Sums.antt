@@ -2,20 +2,20 @@
 use Rattle.std.specs.Prelude.{◌≡◌, ℕ, suc, ◌+◌, ◌-◌, ◌%◌, ◌^◌, ◌<◌, ◌≤◌, false, nat_lt, Some}
 use Rattle.std.proofs.Common.{refl, ap, sym, subst, ◌∙◌, arith, inl, inr}
 use Rattle.std.proofs.lemmas.Bool.{ltb-true}
-use Rattle.seize_words.specs.declared.at.At.TheVariants.{Word}
-use Rattle.seize_words.specs.Mem.{Mem, Took, word_at, value_at}
-use Rattle.seize_words.specs.Plan.{Steps}
-use Rattle.seize_words.proofs.OneOwner.Operations.{loaded}
-use Rattle.seize_words.proofs.Plans.{ends_if}
-use Rattle.seize.specs.declared.progress.Progress.{Progress}
-use Rattle.seize.specs.declared.progress.Progress.TheVariants as progress
-use Rattle.papaya_tables.specs.Counts.{count_in}
-use Rattle.papaya_resize.specs.Sum.{sum_plan, added, plan_at as sum_at}
-use Rattle.papaya_tables.specs.declared.setting.Setting.{Setting}
-use Rattle.papaya_resize.specs.declared.sum.Sum.{Sum}
-use Rattle.papaya_resize.specs.declared.sum.Summing.{Summing}
-use Rattle.papaya_resize.specs.declared.sum.Summing.TheVariants as sums
-use Rattle.papaya_points.specs.FactsTables.{CountsShards}
+use Rattle.papaya_finishes.specs.Given.SeizeWords.declared.at.At.TheVariants.{Word}
+use Rattle.papaya_finishes.specs.Given.SeizeWords.Mem.{Mem, Took, word_at, value_at}
+use Rattle.papaya_finishes.specs.Given.SeizeWords.Plan.{Steps}
+use Rattle.papaya_finishes.proofs.Given.SeizeWords.OneOwner.Operations.{loaded}
+use Rattle.papaya_finishes.proofs.Given.SeizeWords.Plans.{ends_if}
+use Rattle.papaya_finishes.specs.Given.Seize.declared.progress.Progress.{Progress}
+use Rattle.papaya_finishes.specs.Given.Seize.declared.progress.Progress.TheVariants as progress
+use Rattle.papaya_finishes.specs.Given.Tables.Counts.{count_in}
+use Rattle.papaya_finishes.specs.Given.Resize.Sum.{sum_plan, added, plan_at as sum_at}
+use Rattle.papaya_finishes.specs.Given.Tables.declared.setting.Setting.{Setting}
+use Rattle.papaya_finishes.specs.Given.Resize.declared.sum.Sum.{Sum}
+use Rattle.papaya_finishes.specs.Given.Resize.declared.sum.Summing.{Summing}
+use Rattle.papaya_finishes.specs.Given.Resize.declared.sum.Summing.TheVariants as sums
+use Rattle.papaya_finishes.specs.Given.Points.FactsTables.{CountsShards}
 use Rattle.papaya_alone.specs.Counting.{count_ahead, number_in, shards_sum}
 use Rattle.papaya_alone.proofs.Shards.Sums.{total_more}
 

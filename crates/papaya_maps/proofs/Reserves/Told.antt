@@ -2,50 +2,50 @@
 use Rattle.std.specs.Prelude.{◌^◌, nat_lt, slice_get, List, if◌then◌else◌}
 use Rattle.std.proofs.lemmas.Bool.{eq-eqb}
 use Rattle.std.proofs.Common.{◌≡◌, ◌≢◌, ℕ, zero, suc, ◌*◌, ◌<◌, ◌≤◌, Bool, true, false, cond, Some, inl, inr, refl, arith, ap, sym, subst, ◌∙◌}
-use Rattle.seize_words.specs.declared.fault.Fault.TheVariants.{Capacity}
-use Rattle.seize_words.specs.declared.at.At.TheVariants.{Root}
-use Rattle.seize_words.specs.Mem.{Mem, value_at, word_at, Took}
-use Rattle.seize_words.specs.Plan.{Steps}
-use Rattle.seize_words.proofs.OneOwner.Operations.{loaded, exchanged}
-use Rattle.seize_rule.proofs.Rows.Leaving.{steps_back}
-use Rattle.seize.specs.World.{World}
-use Rattle.seize.specs.declared.progress.Progress.{Progress}
-use Rattle.seize.specs.declared.progress.Progress.TheVariants as progress
-use Rattle.papaya_tables.specs.Chunks.{is_incremental}
-use Rattle.papaya_resize.specs.Copier.{copier_plan}
-use Rattle.papaya_resize.specs.CopierStates.{copying_all, resting}
-use Rattle.papaya_resize.specs.NewTable as new
-use Rattle.papaya_reserves.specs.Reserve.{standing, counting, copying, needed, refusing, summed, made, grown, copied, root_read, next_read, plan_at}
-use Rattle.papaya_resize.specs.Sum.{sum_plan}
-use Rattle.papaya_tables.specs.TablePlaces.{at_word}
-use Rattle.papaya_resize.specs.declared.new_table.Making.{Making}
-use Rattle.papaya_resize.specs.declared.new_table.Making.TheVariants as makes
-use Rattle.papaya_tables.specs.declared.node.Node.{Node}
-use Rattle.papaya_resize.specs.declared.outcome.Outcome.{Outcome}
-use Rattle.papaya_resize.specs.declared.outcome.Outcome.TheVariants as outcome
-use Rattle.papaya_tables.specs.declared.setting.Setting.{Setting}
-use Rattle.papaya_tables.specs.declared.table.Table.{Table}
-use Rattle.papaya_tables.specs.declared.table_words.TheConstants.{NEXT}
-use Rattle.papaya_resize.specs.declared.copier.Copier.{Copier}
-use Rattle.papaya_resize.specs.declared.copier.Copying.TheVariants as copies
-use Rattle.papaya_resize.specs.declared.new_table.NewTable.{NewTable}
-use Rattle.papaya_resize.specs.declared.sum.Sum.{Sum}
-use Rattle.papaya_reserves.specs.declared.reserve.Reserve.{Reserve}
-use Rattle.papaya_reserves.specs.declared.reserve.Reserving.{Reserving}
-use Rattle.papaya_reserves.specs.declared.reserve.Reserving.TheVariants as at
-use Rattle.papaya_rule.specs.Chart.{Chart}
-use Rattle.papaya_rule.specs.Lasts.{Lasts}
-use Rattle.papaya_rule.specs.Words.{Blocks}
-use Rattle.papaya_rule.specs.Maps.{spot_of, IsTable}
-use Rattle.papaya_rule.specs.InWorld.{Moved, SameBlocks, IsMapIn}
-use Rattle.papaya_points.specs.FactsCopies.{CopierFacts}
-use Rattle.papaya_points.specs.FactsCopiesBlocking.{CopierFactsBlocking}
-use Rattle.papaya_rule.proofs.Words.LinksRead.{link_ends}
-use Rattle.papaya_rule.proofs.Words.LinksSeen.{root_leads, next_leads}
-use Rattle.papaya_late.specs.FactsReserves.{IsEnding, CopiesWhole, ReservingFacts, ReserveFacts}
-use Rattle.papaya_late.specs.ToldReserves.{ReserveAfter, IsRowOfReserve}
+use Rattle.papaya_finishes.specs.Given.SeizeWords.declared.fault.Fault.TheVariants.{Capacity}
+use Rattle.papaya_finishes.specs.Given.SeizeWords.declared.at.At.TheVariants.{Root}
+use Rattle.papaya_finishes.specs.Given.SeizeWords.Mem.{Mem, value_at, word_at, Took}
+use Rattle.papaya_finishes.specs.Given.SeizeWords.Plan.{Steps}
+use Rattle.papaya_finishes.proofs.Given.SeizeWords.OneOwner.Operations.{loaded, exchanged}
+use Rattle.papaya_finishes.proofs.Given.SeizeRule.Rows.Leaving.{steps_back}
+use Rattle.papaya_finishes.specs.Given.Seize.World.{World}
+use Rattle.papaya_finishes.specs.Given.Seize.declared.progress.Progress.{Progress}
+use Rattle.papaya_finishes.specs.Given.Seize.declared.progress.Progress.TheVariants as progress
+use Rattle.papaya_finishes.specs.Given.Tables.Chunks.{is_incremental}
+use Rattle.papaya_finishes.specs.Given.Resize.Copier.{copier_plan}
+use Rattle.papaya_finishes.specs.Given.Resize.CopierStates.{copying_all, resting}
+use Rattle.papaya_finishes.specs.Given.Resize.NewTable as new
+use Rattle.papaya_finishes.specs.Given.Reserves.Reserve.{standing, counting, copying, needed, refusing, summed, made, grown, copied, root_read, next_read, plan_at}
+use Rattle.papaya_finishes.specs.Given.Resize.Sum.{sum_plan}
+use Rattle.papaya_finishes.specs.Given.Tables.TablePlaces.{at_word}
+use Rattle.papaya_finishes.specs.Given.Resize.declared.new_table.Making.{Making}
+use Rattle.papaya_finishes.specs.Given.Resize.declared.new_table.Making.TheVariants as makes
+use Rattle.papaya_finishes.specs.Given.Tables.declared.node.Node.{Node}
+use Rattle.papaya_finishes.specs.Given.Resize.declared.outcome.Outcome.{Outcome}
+use Rattle.papaya_finishes.specs.Given.Resize.declared.outcome.Outcome.TheVariants as outcome
+use Rattle.papaya_finishes.specs.Given.Tables.declared.setting.Setting.{Setting}
+use Rattle.papaya_finishes.specs.Given.Tables.declared.table.Table.{Table}
+use Rattle.papaya_finishes.specs.Given.Tables.declared.table_words.TheConstants.{NEXT}
+use Rattle.papaya_finishes.specs.Given.Resize.declared.copier.Copier.{Copier}
+use Rattle.papaya_finishes.specs.Given.Resize.declared.copier.Copying.TheVariants as copies
+use Rattle.papaya_finishes.specs.Given.Resize.declared.new_table.NewTable.{NewTable}
+use Rattle.papaya_finishes.specs.Given.Resize.declared.sum.Sum.{Sum}
+use Rattle.papaya_finishes.specs.Given.Reserves.declared.reserve.Reserve.{Reserve}
+use Rattle.papaya_finishes.specs.Given.Reserves.declared.reserve.Reserving.{Reserving}
+use Rattle.papaya_finishes.specs.Given.Reserves.declared.reserve.Reserving.TheVariants as at
+use Rattle.papaya_finishes.specs.Given.Rule.Chart.{Chart}
+use Rattle.papaya_finishes.specs.Given.Rule.Lasts.{Lasts}
+use Rattle.papaya_finishes.specs.Given.Rule.Words.{Blocks}
+use Rattle.papaya_finishes.specs.Given.Rule.Maps.{spot_of, IsTable}
+use Rattle.papaya_finishes.specs.Given.Rule.InWorld.{Moved, SameBlocks, IsMapIn}
+use Rattle.papaya_finishes.specs.Given.Points.FactsCopies.{CopierFacts}
+use Rattle.papaya_finishes.specs.Given.Points.FactsCopiesBlocking.{CopierFactsBlocking}
+use Rattle.papaya_finishes.proofs.Given.Rule.Words.LinksRead.{link_ends}
+use Rattle.papaya_finishes.proofs.Given.Rule.Words.LinksSeen.{root_leads, next_leads}
+use Rattle.papaya_finishes.specs.Given.Late.FactsReserves.{IsEnding, CopiesWhole, ReservingFacts, ReserveFacts}
+use Rattle.papaya_finishes.specs.Given.Late.ToldReserves.{ReserveAfter, IsRowOfReserve}
 use Rattle.papaya_maps.specs.AloneReserves.{RetiresFrom, IsNear, ReservingAlone}
-use Rattle.papaya_callers.proofs.Rows.Known.{moved_makes}
+use Rattle.papaya_finishes.proofs.Given.Callers.Rows.Known.{moved_makes}
 use Rattle.papaya_maps.proofs.Reserves.PlansLeave.{plan_roots, no_root_as}
 use Rattle.papaya_maps.proofs.Reserves.Knows.{knows_tables, copier_setting}
 use Rattle.papaya_maps.proofs.Reserves.Left.{CopiesTo}

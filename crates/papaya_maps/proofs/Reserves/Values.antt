@@ -1,52 +1,52 @@
 -- What each step of a reservation leaves of the blocks, where it begins no row of the collector.
 use Rattle.std.specs.Prelude.{ℕ, suc, ◌^◌, ◌==◌, Bool, true, false, cond, max, nat_lt, Ok, if◌then◌else◌}
 use Rattle.std.proofs.Common.{◌≡◌, sym, subst}
-use Rattle.seize_words.specs.declared.fault.Fault.TheVariants.{Capacity}
-use Rattle.seize_words.specs.declared.at.At.TheVariants.{Root, Word}
-use Rattle.seize_words.specs.Op.{Found}
-use Rattle.seize_words.specs.Mem.{Mem, Can, Took, value_at}
-use Rattle.seize_words.specs.Plan.{May, Steps}
-use Rattle.seize_words.proofs.OneOwner.Operations.{loaded}
-use Rattle.seize_words.proofs.Plans.{may_as}
-use Rattle.seize.specs.World.{World}
-use Rattle.seize.specs.declared.progress.Progress.{Progress}
-use Rattle.seize.specs.declared.progress.Progress.TheVariants as progress
-use Rattle.seize_rule.proofs.Rows.Leaving.{steps_back}
-use Rattle.papaya_tables.specs.Chunks.{is_incremental}
-use Rattle.papaya_resize.specs.Copier.{copier_plan}
-use Rattle.papaya_resize.specs.CopierStates.{resting, copying_all}
-use Rattle.papaya_resize.specs.NewTable.{new_table_plan}
-use Rattle.papaya_reserves.specs.Reserve.{standing, needed, refusing, summed, made, grown, copied, root_read, next_read, plan_at, reserve_plan}
-use Rattle.papaya_resize.specs.Sum.{sum_plan, plan_at as sum_plan_at}
-use Rattle.papaya_tables.specs.TablePlaces.{at_word}
-use Rattle.papaya_tables.specs.declared.lengths.Reason.TheVariants.{Reserved}
-use Rattle.papaya_tables.specs.declared.node.Node.{Node}
-use Rattle.papaya_resize.specs.declared.outcome.Outcome.{Outcome}
-use Rattle.papaya_resize.specs.declared.outcome.Outcome.TheVariants as outcome
-use Rattle.papaya_tables.specs.declared.setting.Setting.{Setting}
-use Rattle.papaya_tables.specs.declared.table.Table.{Table}
-use Rattle.papaya_tables.specs.declared.table_words.TheConstants.{NEXT}
-use Rattle.papaya_resize.specs.declared.copier.Copier.{Copier}
-use Rattle.papaya_resize.specs.declared.copier.Copying.TheVariants as copies
-use Rattle.papaya_resize.specs.declared.new_table.NewTable.{NewTable}
-use Rattle.papaya_resize.specs.declared.sum.Sum.{Sum}
-use Rattle.papaya_resize.specs.declared.sum.Summing.{Summing}
-use Rattle.papaya_resize.specs.declared.sum.Summing.TheVariants as sums
-use Rattle.papaya_reserves.specs.declared.reserve.Reserve.{Reserve}
-use Rattle.papaya_reserves.specs.declared.reserve.Reserving.{Reserving}
-use Rattle.papaya_reserves.specs.declared.reserve.Reserving.TheVariants as at
-use Rattle.papaya_rule.specs.Chart.{Chart}
-use Rattle.papaya_rule.specs.Words.{Blocks}
-use Rattle.papaya_points.specs.FactsCopies.{CopierFacts}
-use Rattle.papaya_points.specs.FactsCopiesBlocking.{CopierFactsBlocking}
-use Rattle.papaya_late.specs.FactsReserves.{IsEnding, CopiesWhole, ReservingFacts}
-use Rattle.papaya_late.specs.ToldReserves.{IsRowOfReserve}
+use Rattle.papaya_finishes.specs.Given.SeizeWords.declared.fault.Fault.TheVariants.{Capacity}
+use Rattle.papaya_finishes.specs.Given.SeizeWords.declared.at.At.TheVariants.{Root, Word}
+use Rattle.papaya_finishes.specs.Given.SeizeWords.Op.{Found}
+use Rattle.papaya_finishes.specs.Given.SeizeWords.Mem.{Mem, Can, Took, value_at}
+use Rattle.papaya_finishes.specs.Given.SeizeWords.Plan.{May, Steps}
+use Rattle.papaya_finishes.proofs.Given.SeizeWords.OneOwner.Operations.{loaded}
+use Rattle.papaya_finishes.proofs.Given.SeizeWords.Plans.{may_as}
+use Rattle.papaya_finishes.specs.Given.Seize.World.{World}
+use Rattle.papaya_finishes.specs.Given.Seize.declared.progress.Progress.{Progress}
+use Rattle.papaya_finishes.specs.Given.Seize.declared.progress.Progress.TheVariants as progress
+use Rattle.papaya_finishes.proofs.Given.SeizeRule.Rows.Leaving.{steps_back}
+use Rattle.papaya_finishes.specs.Given.Tables.Chunks.{is_incremental}
+use Rattle.papaya_finishes.specs.Given.Resize.Copier.{copier_plan}
+use Rattle.papaya_finishes.specs.Given.Resize.CopierStates.{resting, copying_all}
+use Rattle.papaya_finishes.specs.Given.Resize.NewTable.{new_table_plan}
+use Rattle.papaya_finishes.specs.Given.Reserves.Reserve.{standing, needed, refusing, summed, made, grown, copied, root_read, next_read, plan_at, reserve_plan}
+use Rattle.papaya_finishes.specs.Given.Resize.Sum.{sum_plan, plan_at as sum_plan_at}
+use Rattle.papaya_finishes.specs.Given.Tables.TablePlaces.{at_word}
+use Rattle.papaya_finishes.specs.Given.Tables.declared.lengths.Reason.TheVariants.{Reserved}
+use Rattle.papaya_finishes.specs.Given.Tables.declared.node.Node.{Node}
+use Rattle.papaya_finishes.specs.Given.Resize.declared.outcome.Outcome.{Outcome}
+use Rattle.papaya_finishes.specs.Given.Resize.declared.outcome.Outcome.TheVariants as outcome
+use Rattle.papaya_finishes.specs.Given.Tables.declared.setting.Setting.{Setting}
+use Rattle.papaya_finishes.specs.Given.Tables.declared.table.Table.{Table}
+use Rattle.papaya_finishes.specs.Given.Tables.declared.table_words.TheConstants.{NEXT}
+use Rattle.papaya_finishes.specs.Given.Resize.declared.copier.Copier.{Copier}
+use Rattle.papaya_finishes.specs.Given.Resize.declared.copier.Copying.TheVariants as copies
+use Rattle.papaya_finishes.specs.Given.Resize.declared.new_table.NewTable.{NewTable}
+use Rattle.papaya_finishes.specs.Given.Resize.declared.sum.Sum.{Sum}
+use Rattle.papaya_finishes.specs.Given.Resize.declared.sum.Summing.{Summing}
+use Rattle.papaya_finishes.specs.Given.Resize.declared.sum.Summing.TheVariants as sums
+use Rattle.papaya_finishes.specs.Given.Reserves.declared.reserve.Reserve.{Reserve}
+use Rattle.papaya_finishes.specs.Given.Reserves.declared.reserve.Reserving.{Reserving}
+use Rattle.papaya_finishes.specs.Given.Reserves.declared.reserve.Reserving.TheVariants as at
+use Rattle.papaya_finishes.specs.Given.Rule.Chart.{Chart}
+use Rattle.papaya_finishes.specs.Given.Rule.Words.{Blocks}
+use Rattle.papaya_finishes.specs.Given.Points.FactsCopies.{CopierFacts}
+use Rattle.papaya_finishes.specs.Given.Points.FactsCopiesBlocking.{CopierFactsBlocking}
+use Rattle.papaya_finishes.specs.Given.Late.FactsReserves.{IsEnding, CopiesWhole, ReservingFacts}
+use Rattle.papaya_finishes.specs.Given.Late.ToldReserves.{IsRowOfReserve}
 use Rattle.papaya_alone.specs.Values.{IsMadeByReserve}
-use Rattle.papaya_points.proofs.Values.Kept.{IsPlainStep, plain_as, plain_keeps}
-use Rattle.papaya_points.proofs.Values.Left.{Leaves, leaves_same, leaves_as}
-use Rattle.papaya_points.proofs.Values.Making.{MadeAfter, IsLinkedNow, none_made, first_made_none, next_made_none, making_leaves}
-use Rattle.papaya_points.proofs.Values.Copying.{CopierMadeNone, none_made_by_copier, all_then, all_if}
-use Rattle.papaya_points.proofs.Values.Copiers.{MakesTable, MadeByCopierAfter, copier_leaves, makes_table, makes_table_blocking}
+use Rattle.papaya_finishes.proofs.Given.Points.Values.Kept.{IsPlainStep, plain_as, plain_keeps}
+use Rattle.papaya_finishes.proofs.Given.Points.Values.Left.{Leaves, leaves_same, leaves_as}
+use Rattle.papaya_finishes.proofs.Given.Points.Values.Making.{MadeAfter, IsLinkedNow, none_made, first_made_none, next_made_none, making_leaves}
+use Rattle.papaya_finishes.proofs.Given.Points.Values.Copying.{CopierMadeNone, none_made_by_copier, all_then, all_if}
+use Rattle.papaya_finishes.proofs.Given.Points.Values.Copiers.{MakesTable, MadeByCopierAfter, copier_leaves, makes_table, makes_table_blocking}
 
 -- the block of the table that is left to be linked, after a step
 abbrev pub MadeByReserveAfter : {N : Type 0} → Reserve × Outcome N Unit → ℕ → Type 0

@@ -2,22 +2,22 @@
 use Rattle.std.specs.Prelude.{Option}
 use Rattle.std.proofs.Common.{◌≡◌, ◌≢◌, ℕ, zero, suc, ◌+◌, ◌<◌, ◌^◌, Bool, true, cond, List, [], ◌∷◌, inl, inr, refl, arith, ap, sym, subst, ◌∙◌}
 use Rattle.std.proofs.lemmas.Bool.{eq-eqb, ne_eqb}
-use Rattle.seize_words.specs.Mem.{Mem}
-use Rattle.seize.specs.declared.states.TheConstants.{LAST_SLOT}
-use Rattle.seize.specs.Law.{Effect, Nowhere, With, reachable}
-use Rattle.seize.specs.WaitingSets.{Leaves, Refreshes, Retires, Flushes, Sets, After, then_also, quietly, changed, further_of, all_changed, at_start as sets_at_start}
-use Rattle.seize.specs.World.{Use, Hand, NoBlock, InUse, Cutting, Handed, Request, Register', Enter', Leave', LeaveOwned, Refresh, Unregister', Retire, Flush, Defer', times, Making, Parting, LeftTo}
-use Rattle.seize.specs.Sequence.{taken_in, changes}
-use Rattle.seize_waiting.specs.Held.{count}
-use Rattle.seize_waiting.proofs.Counts.{count-append}
-use Rattle.seize_alone.specs.Alone.{History, IsHistory, MayGive, called, given_back, hand_at}
-use Rattle.seize_moves.proofs.State.Ghost.{Life, IsFree, IsOwned, IsLinked, IsUnlinked, IsDeferring, IsDeferred, IsPending, IsIn, IsDoomed, IsLeft, State, is_deferred, is_linked, place_of}
-use Rattle.seize_rule.proofs.Points.Aside.{HandFits, IsStanding}
-use Rattle.seize_sets.proofs.Turns.All.{changed_then}
-use Rattle.papaya_rule.proofs.World.Hands.{at_cases}
-use Rattle.papaya_callers.specs.Kept.{IsUsersOwn}
+use Rattle.papaya_finishes.specs.Given.SeizeWords.Mem.{Mem}
+use Rattle.papaya_finishes.specs.Given.Seize.declared.states.TheConstants.{LAST_SLOT}
+use Rattle.papaya_finishes.specs.Given.Seize.Law.{Effect, Nowhere, With, reachable}
+use Rattle.papaya_finishes.specs.Given.Seize.WaitingSets.{Leaves, Refreshes, Retires, Flushes, Sets, After, then_also, quietly, changed, further_of, all_changed, at_start as sets_at_start}
+use Rattle.papaya_finishes.specs.Given.Seize.World.{Use, Hand, NoBlock, InUse, Cutting, Handed, Request, Register', Enter', Leave', LeaveOwned, Refresh, Unregister', Retire, Flush, Defer', times, Making, Parting, LeftTo}
+use Rattle.papaya_finishes.specs.Given.Seize.Sequence.{taken_in, changes}
+use Rattle.papaya_finishes.specs.Given.SeizeWaiting.Held.{count}
+use Rattle.papaya_finishes.proofs.Given.SeizeWaiting.Counts.{count-append}
+use Rattle.papaya_finishes.specs.Given.SeizeAlone.Alone.{History, IsHistory, MayGive, called, given_back, hand_at}
+use Rattle.papaya_finishes.proofs.Given.SeizeMoves.State.Ghost.{Life, IsFree, IsOwned, IsLinked, IsUnlinked, IsDeferring, IsDeferred, IsPending, IsIn, IsDoomed, IsLeft, State, is_deferred, is_linked, place_of}
+use Rattle.papaya_finishes.proofs.Given.SeizeRule.Points.Aside.{HandFits, IsStanding}
+use Rattle.papaya_finishes.proofs.Given.SeizeSets.Turns.All.{changed_then}
+use Rattle.papaya_finishes.proofs.Given.Rule.World.Hands.{at_cases}
+use Rattle.papaya_finishes.specs.Given.Callers.Kept.{IsUsersOwn}
 use Rattle.papaya_maps.specs.RestsOn.{IsOther, RetiresCut}
-use Rattle.seize_alone.proofs.Histories.Hands.{times_counted, hand_spared, hand_gone}
+use Rattle.papaya_finishes.proofs.Given.SeizeAlone.Histories.Hands.{times_counted, hand_spared, hand_gone}
 use Rattle.papaya_maps.specs.RestsOn.{StaysPut}
 use Rattle.papaya_maps.proofs.Rests.NeverInSets.{IsApart, StaysApart, stays_counted, stays_left, stays_retired, stays_flushed}
 use Rattle.papaya_maps.proofs.Rests.NotWaiting.{sets, shown, state, users_apart, place_is, reached_is, standing_linked, linked_stands}

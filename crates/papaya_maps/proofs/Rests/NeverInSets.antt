@@ -2,11 +2,11 @@
 -- stays there.
 use Rattle.std.specs.Prelude.{◌==◌}
 use Rattle.std.proofs.Common.{◌≡◌, ℕ, zero, suc, Bool, true, false, cond, List, [], ◌∷◌, ◌++◌, length, refl, arith, ap, ◌∙◌}
-use Rattle.seize.specs.WaitingSets.{Batch, Further, Sets, After, with_open, with_active, with_closed, closing, giving, quietly, without, further_of, further_of_all, is_one_of, is_full, is_enough, is_done, no_more, still_closed, size, retired_all, given, given_all, retired, flushed, counted, left}
-use Rattle.seize_waiting.specs.Held.{count, held_closed}
-use Rattle.seize_waiting.proofs.Bound.{further_kept, set_opened, tried, before_rest}
-use Rattle.seize_waiting.proofs.Counts.{count-append, not_one}
-use Rattle.seize_waiting.proofs.Kept.{held_closed-append}
+use Rattle.papaya_finishes.specs.Given.Seize.WaitingSets.{Batch, Further, Sets, After, with_open, with_active, with_closed, closing, giving, quietly, without, further_of, further_of_all, is_one_of, is_full, is_enough, is_done, no_more, still_closed, size, retired_all, given, given_all, retired, flushed, counted, left}
+use Rattle.papaya_finishes.specs.Given.SeizeWaiting.Held.{count, held_closed}
+use Rattle.papaya_finishes.proofs.Given.SeizeWaiting.Bound.{further_kept, set_opened, tried, before_rest}
+use Rattle.papaya_finishes.proofs.Given.SeizeWaiting.Counts.{count-append, not_one}
+use Rattle.papaya_finishes.proofs.Given.SeizeWaiting.Kept.{held_closed-append}
 
 module _ (t slot : ℕ) (behind : List ℕ) where
   -- The number stands neither in this slot's open batch nor in a closed one, and behind no other. These are behind it.

@@ -3,22 +3,22 @@
 use Rattle.std.specs.Prelude.{Option, map}
 use Rattle.std.proofs.Common.{◌≡◌, ℕ, ◌+◌, ◌<◌, ◌^◌, Bool, true, false, cond, List, [], ◌∷◌, ◌⊎◌, inl, inr, refl, arith, ap, sym, ◌∙◌}
 use Rattle.std.proofs.lemmas.Bool.{cases_lt}
-use Rattle.seize_words.specs.Mem.{Mem}
-use Rattle.seize.specs.declared.states.TheConstants.{LAST_SLOT}
-use Rattle.seize.specs.Law.{Nowhere, With, where_is, is_somewhere, reachable}
-use Rattle.seize.specs.World.{Hand, NoBlock, Making, InUse, Cutting, Handed, LeftTo, at_start, Parting}
-use Rattle.seize.specs.WaitingSets.{Sets, all_changed, at_start as sets_at_start}
-use Rattle.seize_waiting.specs.Held.{count, held_closed}
-use Rattle.seize_alone.specs.Alone.{History, IsHistory, at_rest}
-use Rattle.seize_moves.proofs.State.Ghost.{Debt, Stage, Unused, Open, Closing, Closed, Dead, Life, IsFree, IsOwned, IsLinked, IsUnlinked, IsDeferring, IsDeferred, IsPending, IsIn, IsDoomed, IsLeft, State, is_in, is_deferred, is_linked, place_of}
-use Rattle.seize_moves.proofs.State.Rule.{SameUnlessDead, IsLive}
-use Rattle.seize_moves.proofs.Sets.Shown.{batch_shown, is_shut, shut_in}
-use Rattle.seize_rule.proofs.Points.Aside.{HandFits, is_handed, standing_life, IsStanding}
-use Rattle.seize_rule.proofs.World.Rested.{start_rested}
-use Rattle.seize_sets.proofs.Turns.Begins.{Shown}
-use Rattle.seize_sets.proofs.Turns.All.{turns_shown, start_shown}
-use Rattle.seize_sets.proofs.Reclaims.NeverTaken.{NonePast, turns_past}
-use Rattle.papaya_callers.specs.Kept.{IsUsersOwn}
+use Rattle.papaya_finishes.specs.Given.SeizeWords.Mem.{Mem}
+use Rattle.papaya_finishes.specs.Given.Seize.declared.states.TheConstants.{LAST_SLOT}
+use Rattle.papaya_finishes.specs.Given.Seize.Law.{Nowhere, With, where_is, is_somewhere, reachable}
+use Rattle.papaya_finishes.specs.Given.Seize.World.{Hand, NoBlock, Making, InUse, Cutting, Handed, LeftTo, at_start, Parting}
+use Rattle.papaya_finishes.specs.Given.Seize.WaitingSets.{Sets, all_changed, at_start as sets_at_start}
+use Rattle.papaya_finishes.specs.Given.SeizeWaiting.Held.{count, held_closed}
+use Rattle.papaya_finishes.specs.Given.SeizeAlone.Alone.{History, IsHistory, at_rest}
+use Rattle.papaya_finishes.proofs.Given.SeizeMoves.State.Ghost.{Debt, Stage, Unused, Open, Closing, Closed, Dead, Life, IsFree, IsOwned, IsLinked, IsUnlinked, IsDeferring, IsDeferred, IsPending, IsIn, IsDoomed, IsLeft, State, is_in, is_deferred, is_linked, place_of}
+use Rattle.papaya_finishes.proofs.Given.SeizeMoves.State.Rule.{SameUnlessDead, IsLive}
+use Rattle.papaya_finishes.proofs.Given.SeizeMoves.Sets.Shown.{batch_shown, is_shut, shut_in}
+use Rattle.papaya_finishes.proofs.Given.SeizeRule.Points.Aside.{HandFits, is_handed, standing_life, IsStanding}
+use Rattle.papaya_finishes.proofs.Given.SeizeRule.World.Rested.{start_rested}
+use Rattle.papaya_finishes.proofs.Given.SeizeSets.Turns.Begins.{Shown}
+use Rattle.papaya_finishes.proofs.Given.SeizeSets.Turns.All.{turns_shown, start_shown}
+use Rattle.papaya_finishes.proofs.Given.SeizeSets.Reclaims.NeverTaken.{NonePast, turns_past}
+use Rattle.papaya_finishes.specs.Given.Callers.Kept.{IsUsersOwn}
 use Rattle.papaya_maps.proofs.Rests.NeverInSets.{IsApart}
 
 -- a batch that isn't reclaimed has just the blocks that are in it

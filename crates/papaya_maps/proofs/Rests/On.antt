@@ -1,25 +1,25 @@
 -- A map that rests goes on resting, where what can be reached stays where it is.
 use Rattle.std.specs.Prelude.{slice_get}
 use Rattle.std.proofs.Common.{◌≡◌, ℕ, ◌<◌, Bool, true, List, inl, inr, ap, sym, subst, ◌∙◌}
-use Rattle.seize_words.specs.Mem.{Mem}
-use Rattle.seize.specs.Law.{is_somewhere, reachable}
-use Rattle.seize.specs.World.{World, InUse, times}
-use Rattle.seize_alone.specs.Alone.{History, IsHistory, Spares, at_rest}
-use Rattle.seize_alone.proofs.Histories.Reached.{Reached, history_reached}
-use Rattle.papaya_tables.specs.Nodes.{deferred_word}
-use Rattle.papaya_tables.specs.declared.node.Node.{Node}
-use Rattle.papaya_tables.specs.declared.setting.Setting.{Setting}
-use Rattle.papaya_rule.specs.Chart.{Chart}
-use Rattle.papaya_rule.specs.Words.{Blocks}
-use Rattle.papaya_rule.specs.InWorld.{IsOut, StandsIn, IsReached, IsMapIn}
-use Rattle.papaya_rule.proofs.World.Framed.{Frames, shows_framed}
-use Rattle.papaya_rule.proofs.World.Hands.{Hands, current_known}
-use Rattle.papaya_rule.proofs.World.WentWrote.{HasCounter, map_in}
-use Rattle.papaya_callers.specs.Kept.{IsMaking}
+use Rattle.papaya_finishes.specs.Given.SeizeWords.Mem.{Mem}
+use Rattle.papaya_finishes.specs.Given.Seize.Law.{is_somewhere, reachable}
+use Rattle.papaya_finishes.specs.Given.Seize.World.{World, InUse, times}
+use Rattle.papaya_finishes.specs.Given.SeizeAlone.Alone.{History, IsHistory, Spares, at_rest}
+use Rattle.papaya_finishes.proofs.Given.SeizeAlone.Histories.Reached.{Reached, history_reached}
+use Rattle.papaya_finishes.specs.Given.Tables.Nodes.{deferred_word}
+use Rattle.papaya_finishes.specs.Given.Tables.declared.node.Node.{Node}
+use Rattle.papaya_finishes.specs.Given.Tables.declared.setting.Setting.{Setting}
+use Rattle.papaya_finishes.specs.Given.Rule.Chart.{Chart}
+use Rattle.papaya_finishes.specs.Given.Rule.Words.{Blocks}
+use Rattle.papaya_finishes.specs.Given.Rule.InWorld.{IsOut, StandsIn, IsReached, IsMapIn}
+use Rattle.papaya_finishes.proofs.Given.Rule.World.Framed.{Frames, shows_framed}
+use Rattle.papaya_finishes.proofs.Given.Rule.World.Hands.{Hands, current_known}
+use Rattle.papaya_finishes.proofs.Given.Rule.World.WentWrote.{HasCounter, map_in}
+use Rattle.papaya_finishes.specs.Given.Callers.Kept.{IsMaking}
 use Rattle.papaya_alone.specs.Alone.{MapRests}
 use Rattle.papaya_maps.specs.RestsOn.{IsSpared, RestsOn}
 use Rattle.papaya_maps.specs.RestsOn.{StaysPut}
-use Rattle.papaya_callers.proofs.Rows.Defers.{used_stands, standing_stands}
+use Rattle.papaya_finishes.proofs.Given.Callers.Rows.Defers.{used_stands, standing_stands}
 use Rattle.papaya_alone.proofs.Shards.Sums.{counted_same}
 
 module _ {K V : Type 0} (same : K → K → Bool) (hash : K → ℕ) (setting : Setting) (roots : ℕ) (m m2 : Mem (Node K V)) (h h2 : History) (c : Chart K) (blocks : Blocks)

@@ -1,19 +1,19 @@
 -- What is promised of a map that rests while its collector is used otherwise.
 use Rattle.std.proofs.Common.{◌≡◌, ℕ, Bool, true, false, [], refl}
-use Rattle.seize_words.specs.Mem.{Mem}
-use Rattle.seize.specs.Law.{where_is}
-use Rattle.seize_alone.specs.Alone.{History, IsHistory, Spares, registered}
-use Rattle.seize_alone.proofs.Histories.Users.{chosen_history}
-use Rattle.papaya_tables.specs.Nodes.{deferred_word}
-use Rattle.papaya_tables.specs.declared.node.Node.{Node}
-use Rattle.papaya_tables.specs.declared.setting.Setting.{Setting}
-use Rattle.papaya_rule.specs.Chart.{Chart}
-use Rattle.papaya_rule.specs.Words.{Blocks}
+use Rattle.papaya_finishes.specs.Given.SeizeWords.Mem.{Mem}
+use Rattle.papaya_finishes.specs.Given.Seize.Law.{where_is}
+use Rattle.papaya_finishes.specs.Given.SeizeAlone.Alone.{History, IsHistory, Spares, registered}
+use Rattle.papaya_finishes.proofs.Given.SeizeAlone.Histories.Users.{chosen_history}
+use Rattle.papaya_finishes.specs.Given.Tables.Nodes.{deferred_word}
+use Rattle.papaya_finishes.specs.Given.Tables.declared.node.Node.{Node}
+use Rattle.papaya_finishes.specs.Given.Tables.declared.setting.Setting.{Setting}
+use Rattle.papaya_finishes.specs.Given.Rule.Chart.{Chart}
+use Rattle.papaya_finishes.specs.Given.Rule.Words.{Blocks}
 use Rattle.papaya_alone.specs.Alone.{MapRests}
 use Rattle.papaya_maps.specs.RestsOn.{RestsOn, RestsOnAsSlotsChange, RestsOnThroughCalls, RestsOnAsChosen, RestsAtEachSlot}
 use Rattle.papaya_maps.proofs.Rests.CallsSpare.{users_not_back, users_hand, reached_stays}
 use Rattle.papaya_maps.proofs.Rests.On.{rests_on}
-use Rattle.papaya_callers.proofs.Rows.Beside.{making_own}
+use Rattle.papaya_finishes.proofs.Given.Callers.Rows.Beside.{making_own}
 
 -- a section that begins, or none, moves no block
 same_place : (b s : ℕ) (enters : Bool) (h : History) → where_is b (registered enters s h).log ≡ where_is b h.log

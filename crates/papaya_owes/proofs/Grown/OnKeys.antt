@@ -1,77 +1,77 @@
 -- What a call on one key is to be refused for, by its points: where it goes on from, by what it is told, and by its steps.
 use Rattle.std.specs.Prelude.{◌≡◌, ℕ, ◌==◌, Bool, true, false, Option, Some, None, Ok, Err, if◌then◌else◌}
 use Rattle.std.proofs.Common.{refl, sym, subst}
-use Rattle.seize_words.specs.Mem.{Mem, Gives, value_at}
-use Rattle.seize_words.specs.Op.{Out, Rewrite, Found, Stored, Exchanged, Made, Taken, Roomed}
-use Rattle.seize_words.specs.Word.{block_in}
-use Rattle.seize_words.specs.declared.fault.Fault.{Fault}
-use Rattle.seize_words.specs.declared.fault.Fault.TheVariants.{Capacity, RemoveNothing}
-use Rattle.seize.specs.declared.progress.Progress.{Progress as Counting}
-use Rattle.seize.specs.declared.progress.Progress.TheVariants as progress
-use Rattle.seize.specs.declared.rows.settle.Settled.{Settled}
-use Rattle.seize.specs.declared.rows.settle.Settled.TheVariants as settled
-use Rattle.papaya_tables.specs.Chunks.{is_incremental}
-use Rattle.papaya_tables.specs.Finding.{finding, may_name}
-use Rattle.papaya_tables.specs.Trials.{next_trial, with_met}
-use Rattle.papaya_tables.specs.declared.finding.Finding.{Finding}
-use Rattle.papaya_tables.specs.declared.finding.Finding.TheVariants as finds
-use Rattle.papaya_tables.specs.declared.lengths.Reason.TheVariants.{Full}
-use Rattle.papaya_tables.specs.declared.lengths.TheConstants.{FIRST_LEN}
-use Rattle.papaya_tables.specs.declared.marks.TheConstants.{TOMBSTONE}
-use Rattle.papaya_tables.specs.declared.node.Node.{Node}
-use Rattle.papaya_tables.specs.declared.node.Node.TheVariants as node
-use Rattle.papaya_tables.specs.declared.table.Table.{Table}
-use Rattle.papaya_resize.specs.Copier.{copier_plan}
-use Rattle.papaya_resize.specs.CopierStates.{copying_all}
-use Rattle.papaya_resize.specs.Dispose.{disposing, dispose_plan}
-use Rattle.papaya_resize.specs.Lookup.{lookup_plan}
-use Rattle.papaya_resize.specs.NewTable.{new_table_plan}
-use Rattle.papaya_resize.specs.declared.copier.Copier.{Copier}
-use Rattle.papaya_resize.specs.declared.dispose.Dispose.{Dispose}
-use Rattle.papaya_resize.specs.declared.lookup.Lookup.{Lookup}
-use Rattle.papaya_resize.specs.declared.new_table.NewTable.{NewTable}
-use Rattle.papaya_resize.specs.declared.outcome.Outcome.{Outcome}
-use Rattle.papaya_resize.specs.declared.outcome.Outcome.TheVariants as outcome
-use Rattle.papaya_raw.specs.Call.{call_plan, made, makes_of, root_found, next_found, dropped, key_read, pair_read, word_read, word_found, tried, looked, looks_for, first_made, next_made, disposed, helped, copied}
-use Rattle.papaya_raw.specs.Call as calls
-use Rattle.papaya_raw.specs.CallAsks.{absent_told, present_told, told_at, with_absent, with_present}
-use Rattle.papaya_raw.specs.CallFills.{emptied, fill_by, filled, fills_with, given_up, putting_by}
-use Rattle.papaya_raw.specs.CallPoints.{aim_of, asking_at, asking_of, at_free, at_gap, at_last, at_pair, burying, changed, counted, ending, entering, following_made, gap_by, going, having_met, over, pair_by, standing, storing, tableless, told, told_of, went_on}
-use Rattle.papaya_raw.specs.Replies.{as_own, value_for}
-use Rattle.papaya_raw.specs.declared.machines.answer.Called.{Called}
-use Rattle.papaya_raw.specs.declared.machines.answer.Called.TheVariants as called
-use Rattle.papaya_raw.specs.declared.machines.answer.End.{End}
-use Rattle.papaya_raw.specs.declared.machines.answer.End.TheVariants as ends
-use Rattle.papaya_raw.specs.declared.machines.answer.KeyAnswer.{KeyAnswer}
-use Rattle.papaya_raw.specs.declared.machines.answer.KeyAnswer.TheVariants as answers
-use Rattle.papaya_raw.specs.declared.machines.answer.Missing.{Missing}
-use Rattle.papaya_raw.specs.declared.machines.answer.Missing.TheVariants as missing
-use Rattle.papaya_raw.specs.declared.machines.answer.There.{There}
-use Rattle.papaya_raw.specs.declared.machines.answer.There.TheVariants as there
-use Rattle.papaya_raw.specs.declared.machines.asking.Asking.TheVariants as asking
-use Rattle.papaya_raw.specs.declared.machines.asking.Gap.{Gap}
-use Rattle.papaya_raw.specs.declared.machines.asking.Gap.TheVariants as gaps
-use Rattle.papaya_raw.specs.declared.machines.asking.Reply.{Reply}
-use Rattle.papaya_raw.specs.declared.machines.asking.Reply.TheVariants as reply
-use Rattle.papaya_raw.specs.declared.machines.asking.Takes.{Takes}
-use Rattle.papaya_raw.specs.declared.machines.asking.Takes.TheVariants as takes
-use Rattle.papaya_raw.specs.declared.machines.asking.Told.{Told}
-use Rattle.papaya_raw.specs.declared.machines.asking.Told.TheVariants as tells
-use Rattle.papaya_raw.specs.declared.machines.call.Calling.{Calling}
-use Rattle.papaya_raw.specs.declared.machines.call.Calling.TheVariants as at
-use Rattle.papaya_raw.specs.declared.machines.call.KeyCall.{KeyCall}
-use Rattle.papaya_points.proofs.Calls.Asked.{passed_so}
-use Rattle.papaya_rule.proofs.Keys.Always.{Always, AlwaysOf, always_ends, always_if}
-use Rattle.papaya_late.specs.Faults.{SoInCalling, CallRefusesSo}
-use Rattle.papaya_late.proofs.KindsKept.Calls.Kept.{LooksOn, looks_on}
-use Rattle.papaya_late.proofs.KindsKept.Rooms.Copying.{CopiesFor}
-use Rattle.papaya_late.proofs.KindsKept.Rooms.Making.{MakesFor, first_table_so, table_after_so}
-use Rattle.papaya_late.proofs.KindsKept.Rooms.Reserving.{copying_so}
-use Rattle.papaya_teller.specs.declared.changed.Changed.{Changed}
-use Rattle.papaya_teller.specs.declared.changed.Changed.TheVariants as memory
-use Rattle.papaya_teller.specs.declared.changed.Kind.{Kind}
-use Rattle.papaya_executor.proofs.Forgotten.{as_step}
-use Rattle.papaya_others.proofs.Outcomes.{told_in}
+use Rattle.papaya_moments.specs.Given.SeizeWords.Mem.{Mem, Gives, value_at}
+use Rattle.papaya_moments.specs.Given.SeizeWords.Op.{Out, Rewrite, Found, Stored, Exchanged, Made, Taken, Roomed}
+use Rattle.papaya_moments.specs.Given.SeizeWords.Word.{block_in}
+use Rattle.papaya_moments.specs.Given.SeizeWords.declared.fault.Fault.{Fault}
+use Rattle.papaya_moments.specs.Given.SeizeWords.declared.fault.Fault.TheVariants.{Capacity, RemoveNothing}
+use Rattle.papaya_moments.specs.Given.Seize.declared.progress.Progress.{Progress as Counting}
+use Rattle.papaya_moments.specs.Given.Seize.declared.progress.Progress.TheVariants as progress
+use Rattle.papaya_moments.specs.Given.Seize.declared.rows.settle.Settled.{Settled}
+use Rattle.papaya_moments.specs.Given.Seize.declared.rows.settle.Settled.TheVariants as settled
+use Rattle.papaya_moments.specs.Given.Tables.Chunks.{is_incremental}
+use Rattle.papaya_moments.specs.Given.Tables.Finding.{finding, may_name}
+use Rattle.papaya_moments.specs.Given.Tables.Trials.{next_trial, with_met}
+use Rattle.papaya_moments.specs.Given.Tables.declared.finding.Finding.{Finding}
+use Rattle.papaya_moments.specs.Given.Tables.declared.finding.Finding.TheVariants as finds
+use Rattle.papaya_moments.specs.Given.Tables.declared.lengths.Reason.TheVariants.{Full}
+use Rattle.papaya_moments.specs.Given.Tables.declared.lengths.TheConstants.{FIRST_LEN}
+use Rattle.papaya_moments.specs.Given.Tables.declared.marks.TheConstants.{TOMBSTONE}
+use Rattle.papaya_moments.specs.Given.Tables.declared.node.Node.{Node}
+use Rattle.papaya_moments.specs.Given.Tables.declared.node.Node.TheVariants as node
+use Rattle.papaya_moments.specs.Given.Tables.declared.table.Table.{Table}
+use Rattle.papaya_moments.specs.Given.Resize.Copier.{copier_plan}
+use Rattle.papaya_moments.specs.Given.Resize.CopierStates.{copying_all}
+use Rattle.papaya_moments.specs.Given.Resize.Dispose.{disposing, dispose_plan}
+use Rattle.papaya_moments.specs.Given.Resize.Lookup.{lookup_plan}
+use Rattle.papaya_moments.specs.Given.Resize.NewTable.{new_table_plan}
+use Rattle.papaya_moments.specs.Given.Resize.declared.copier.Copier.{Copier}
+use Rattle.papaya_moments.specs.Given.Resize.declared.dispose.Dispose.{Dispose}
+use Rattle.papaya_moments.specs.Given.Resize.declared.lookup.Lookup.{Lookup}
+use Rattle.papaya_moments.specs.Given.Resize.declared.new_table.NewTable.{NewTable}
+use Rattle.papaya_moments.specs.Given.Resize.declared.outcome.Outcome.{Outcome}
+use Rattle.papaya_moments.specs.Given.Resize.declared.outcome.Outcome.TheVariants as outcome
+use Rattle.papaya_moments.specs.Given.Raw.Call.{call_plan, made, makes_of, root_found, next_found, dropped, key_read, pair_read, word_read, word_found, tried, looked, looks_for, first_made, next_made, disposed, helped, copied}
+use Rattle.papaya_moments.specs.Given.Raw.Call as calls
+use Rattle.papaya_moments.specs.Given.Raw.CallAsks.{absent_told, present_told, told_at, with_absent, with_present}
+use Rattle.papaya_moments.specs.Given.Raw.CallFills.{emptied, fill_by, filled, fills_with, given_up, putting_by}
+use Rattle.papaya_moments.specs.Given.Raw.CallPoints.{aim_of, asking_at, asking_of, at_free, at_gap, at_last, at_pair, burying, changed, counted, ending, entering, following_made, gap_by, going, having_met, over, pair_by, standing, storing, tableless, told, told_of, went_on}
+use Rattle.papaya_moments.specs.Given.Raw.Replies.{as_own, value_for}
+use Rattle.papaya_moments.specs.Given.Raw.declared.machines.answer.Called.{Called}
+use Rattle.papaya_moments.specs.Given.Raw.declared.machines.answer.Called.TheVariants as called
+use Rattle.papaya_moments.specs.Given.Raw.declared.machines.answer.End.{End}
+use Rattle.papaya_moments.specs.Given.Raw.declared.machines.answer.End.TheVariants as ends
+use Rattle.papaya_moments.specs.Given.Raw.declared.machines.answer.KeyAnswer.{KeyAnswer}
+use Rattle.papaya_moments.specs.Given.Raw.declared.machines.answer.KeyAnswer.TheVariants as answers
+use Rattle.papaya_moments.specs.Given.Raw.declared.machines.answer.Missing.{Missing}
+use Rattle.papaya_moments.specs.Given.Raw.declared.machines.answer.Missing.TheVariants as missing
+use Rattle.papaya_moments.specs.Given.Raw.declared.machines.answer.There.{There}
+use Rattle.papaya_moments.specs.Given.Raw.declared.machines.answer.There.TheVariants as there
+use Rattle.papaya_moments.specs.Given.Raw.declared.machines.asking.Asking.TheVariants as asking
+use Rattle.papaya_moments.specs.Given.Raw.declared.machines.asking.Gap.{Gap}
+use Rattle.papaya_moments.specs.Given.Raw.declared.machines.asking.Gap.TheVariants as gaps
+use Rattle.papaya_moments.specs.Given.Raw.declared.machines.asking.Reply.{Reply}
+use Rattle.papaya_moments.specs.Given.Raw.declared.machines.asking.Reply.TheVariants as reply
+use Rattle.papaya_moments.specs.Given.Raw.declared.machines.asking.Takes.{Takes}
+use Rattle.papaya_moments.specs.Given.Raw.declared.machines.asking.Takes.TheVariants as takes
+use Rattle.papaya_moments.specs.Given.Raw.declared.machines.asking.Told.{Told}
+use Rattle.papaya_moments.specs.Given.Raw.declared.machines.asking.Told.TheVariants as tells
+use Rattle.papaya_moments.specs.Given.Raw.declared.machines.call.Calling.{Calling}
+use Rattle.papaya_moments.specs.Given.Raw.declared.machines.call.Calling.TheVariants as at
+use Rattle.papaya_moments.specs.Given.Raw.declared.machines.call.KeyCall.{KeyCall}
+use Rattle.papaya_moments.proofs.Given.Points.Calls.Asked.{passed_so}
+use Rattle.papaya_moments.proofs.Given.Rule.Keys.Always.{Always, AlwaysOf, always_ends, always_if}
+use Rattle.papaya_moments.specs.Given.Late.Faults.{SoInCalling, CallRefusesSo}
+use Rattle.papaya_moments.proofs.Given.Late.KindsKept.Calls.Kept.{LooksOn, looks_on}
+use Rattle.papaya_moments.proofs.Given.Late.KindsKept.Rooms.Copying.{CopiesFor}
+use Rattle.papaya_moments.proofs.Given.Late.KindsKept.Rooms.Making.{MakesFor, first_table_so, table_after_so}
+use Rattle.papaya_moments.proofs.Given.Late.KindsKept.Rooms.Reserving.{copying_so}
+use Rattle.papaya_moments.specs.Given.Teller.declared.changed.Changed.{Changed}
+use Rattle.papaya_moments.specs.Given.Teller.declared.changed.Changed.TheVariants as memory
+use Rattle.papaya_moments.specs.Given.Teller.declared.changed.Kind.{Kind}
+use Rattle.papaya_moments.proofs.Given.Executor.Forgotten.{as_step}
+use Rattle.papaya_moments.proofs.Given.Others.Outcomes.{told_in}
 use Rattle.papaya_owes.proofs.Grown.Within.{copier_so, so_always, table_so, was_made}
 use Rattle.papaya_owes.proofs.Tables.Hosts.{Step}
 

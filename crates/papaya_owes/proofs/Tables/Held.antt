@@ -1,41 +1,41 @@
 -- Wherever a moment shows it, a table that a call or a making has made is in its caller's hands, and noted as one that is not linked.
 use Rattle.std.specs.Prelude.{◌≡◌, ℕ, Bool, List, length, Option, Some, None, ◌⊎◌}
 use Rattle.std.proofs.Common.{refl, ap, subst, ◌∙◌, arith, inl, inr}
-use Rattle.seize_words.specs.Mem.{value_at}
-use Rattle.seize_words.specs.Word.{block_in}
-use Rattle.seize_words.specs.declared.at.At.{At}
-use Rattle.seize_words.specs.declared.at.At.TheVariants.{Root, Word}
-use Rattle.seize.specs.World.{World}
-use Rattle.papaya_tables.specs.declared.node.Node.{Node}
-use Rattle.papaya_tables.specs.declared.node.Node.TheVariants as node
-use Rattle.papaya_tables.specs.declared.table.Table.{Table as Planned}
-use Rattle.papaya_tables.specs.declared.table_words.TheConstants.{NEXT}
-use Rattle.papaya_resize.specs.declared.new_map.NewMap.{NewMap}
-use Rattle.papaya_resize.specs.declared.new_map.Opening.{Opening}
-use Rattle.papaya_resize.specs.declared.new_map.Opening.TheVariants as opening
-use Rattle.papaya_resize.specs.declared.new_table.Making.{Making}
-use Rattle.papaya_resize.specs.declared.new_table.Making.TheVariants as making
-use Rattle.papaya_resize.specs.declared.new_table.NewTable.{NewTable}
-use Rattle.papaya_runs.specs.declared.outcome.TableShape.{TableShape}
-use Rattle.papaya_schedules.specs.declared.effect.Table.{Table}
-use Rattle.papaya_schedules.specs.Moment.{Moment}
-use Rattle.papaya_schedules.specs.Views.{tables_of}
-use Rattle.papaya_rule.specs.Rule.{no_table}
-use Rattle.papaya_rule.proofs.Words.TablesSeen.{block_of_link}
-use Rattle.papaya_callers.specs.Sights.{seen_by, IsSight}
-use Rattle.papaya_callers.specs.Together.{UnderWay, OnKey, ForRoom, Counting, OverAll, Together, no_blocks}
-use Rattle.papaya_effects.specs.Known.{Known}
-use Rattle.papaya_effects.specs.declared.role.Role.TheVariants as role
-use Rattle.papaya_executor.specs.IsAt.{Scene, IsAt, slot_of}
-use Rattle.papaya_executor.specs.declared.executor.Executor.{Executor}
-use Rattle.papaya_executor.proofs.Changed.{standing_is}
-use Rattle.papaya_finishes.specs.Machines.{machine_of}
-use Rattle.papaya_finishes.specs.Makings.{Beginning, OpeningFacts}
-use Rattle.papaya_finishes.specs.Maps.{Standing}
-use Rattle.papaya_follows.specs.Maps.{table_of}
-use Rattle.papaya_follows.specs.Shows.{Shows}
-use Rattle.papaya_follows.proofs.Finds.{tables_many}
-use Rattle.papaya_follows.proofs.Writes.{own_table}
+use Rattle.papaya_moments.specs.Given.SeizeWords.Mem.{value_at}
+use Rattle.papaya_moments.specs.Given.SeizeWords.Word.{block_in}
+use Rattle.papaya_moments.specs.Given.SeizeWords.declared.at.At.{At}
+use Rattle.papaya_moments.specs.Given.SeizeWords.declared.at.At.TheVariants.{Root, Word}
+use Rattle.papaya_moments.specs.Given.Seize.World.{World}
+use Rattle.papaya_moments.specs.Given.Tables.declared.node.Node.{Node}
+use Rattle.papaya_moments.specs.Given.Tables.declared.node.Node.TheVariants as node
+use Rattle.papaya_moments.specs.Given.Tables.declared.table.Table.{Table as Planned}
+use Rattle.papaya_moments.specs.Given.Tables.declared.table_words.TheConstants.{NEXT}
+use Rattle.papaya_moments.specs.Given.Resize.declared.new_map.NewMap.{NewMap}
+use Rattle.papaya_moments.specs.Given.Resize.declared.new_map.Opening.{Opening}
+use Rattle.papaya_moments.specs.Given.Resize.declared.new_map.Opening.TheVariants as opening
+use Rattle.papaya_moments.specs.Given.Resize.declared.new_table.Making.{Making}
+use Rattle.papaya_moments.specs.Given.Resize.declared.new_table.Making.TheVariants as making
+use Rattle.papaya_moments.specs.Given.Resize.declared.new_table.NewTable.{NewTable}
+use Rattle.papaya_moments.specs.Given.Runs.declared.outcome.TableShape.{TableShape}
+use Rattle.papaya_moments.specs.Given.Schedules.declared.effect.Table.{Table}
+use Rattle.papaya_moments.specs.Given.Schedules.Moment.{Moment}
+use Rattle.papaya_moments.specs.Given.Schedules.Views.{tables_of}
+use Rattle.papaya_moments.specs.Given.Rule.Rule.{no_table}
+use Rattle.papaya_moments.proofs.Given.Rule.Words.TablesSeen.{block_of_link}
+use Rattle.papaya_moments.specs.Given.Callers.Sights.{seen_by, IsSight}
+use Rattle.papaya_moments.specs.Given.Callers.Together.{UnderWay, OnKey, ForRoom, Counting, OverAll, Together, no_blocks}
+use Rattle.papaya_moments.specs.Given.Effects.Known.{Known}
+use Rattle.papaya_moments.specs.Given.Effects.declared.role.Role.TheVariants as role
+use Rattle.papaya_moments.specs.Given.Executor.IsAt.{Scene, IsAt, slot_of}
+use Rattle.papaya_moments.specs.Given.Executor.declared.executor.Executor.{Executor}
+use Rattle.papaya_moments.proofs.Given.Executor.Changed.{standing_is}
+use Rattle.papaya_moments.specs.Given.Finishes.Machines.{machine_of}
+use Rattle.papaya_moments.specs.Given.Finishes.Makings.{Beginning, OpeningFacts}
+use Rattle.papaya_moments.specs.Given.Finishes.Maps.{Standing}
+use Rattle.papaya_moments.specs.Given.Follows.Maps.{table_of}
+use Rattle.papaya_moments.specs.Given.Follows.Shows.{Shows}
+use Rattle.papaya_moments.proofs.Given.Follows.Finds.{tables_many}
+use Rattle.papaya_moments.proofs.Given.Follows.Writes.{own_table}
 use Rattle.papaya_owes.specs.Making.{making_of, making_in_opening}
 use Rattle.papaya_owes.specs.Tables.{table_in, table_made, HoldsTable, TablesAreMade}
 use Rattle.papaya_owes.proofs.Held.{IsInHand}

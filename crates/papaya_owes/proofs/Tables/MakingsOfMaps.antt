@@ -1,43 +1,43 @@
 -- A step of the making of a map makes the first table of that map, goes on with it, or links it; and each table that is not linked is somebody's.
 use Rattle.std.specs.Prelude.{◌≡◌, ◌≢◌, ℕ, Bool, false, List, [], ◌∷◌, Option, Some, None}
 use Rattle.std.proofs.Common.{refl, ap, sym, subst, ◌∙◌, arith, inl, inr}
-use Rattle.seize_words.specs.Word.{block_in}
-use Rattle.seize.specs.World.{World}
-use Rattle.seize.specs.declared.progress.Progress.{Progress}
-use Rattle.seize.specs.declared.progress.Progress.TheVariants as progress
-use Rattle.papaya_tables.specs.declared.node.Node.{Node}
-use Rattle.papaya_tables.specs.declared.setting.Setting.{Setting}
-use Rattle.papaya_tables.specs.declared.table.Table.{Table as Planned}
-use Rattle.papaya_tables.specs.declared.node.Node.TheVariants as node
-use Rattle.papaya_resize.specs.declared.new_map.NewMap.{NewMap}
-use Rattle.papaya_resize.specs.declared.new_table.Making.{Making}
-use Rattle.papaya_resize.specs.declared.new_table.NewTable.{NewTable}
-use Rattle.papaya_resize.specs.declared.new_table.Making.TheVariants as makings
-use Rattle.papaya_schedules.specs.declared.effect.Effect.{Effect}
-use Rattle.papaya_schedules.specs.declared.effect.Effect.TheVariants as effect
-use Rattle.papaya_schedules.specs.Effects.{with_effects}
-use Rattle.papaya_schedules.specs.Moment.{Moment}
-use Rattle.papaya_teller.specs.Changed.{kind_of}
-use Rattle.papaya_teller.specs.declared.changed.Changed.{Changed}
-use Rattle.papaya_teller.specs.declared.changed.Changed.TheVariants as changed
-use Rattle.papaya_teller.specs.declared.changed.Kind.TheVariants as kind
-use Rattle.papaya_callers.specs.Together.{UnderWay}
-use Rattle.papaya_callers.proofs.Together.At.{at_other, at_same}
-use Rattle.papaya_effects.specs.Effects.{effects_of, known_after}
-use Rattle.papaya_effects.specs.Known.{Known}
-use Rattle.papaya_effects.specs.declared.acting.Acting.{Acting}
-use Rattle.papaya_effects.specs.declared.acting.Acting.TheVariants as acts
-use Rattle.papaya_executor.specs.IsAt.{Scene, IsAt, slot_of}
-use Rattle.papaya_executor.specs.Making.{MakingStepsFrom, MakingComesTo}
-use Rattle.papaya_executor.specs.declared.executor.Executor.{Executor}
-use Rattle.papaya_finishes.specs.Endings.{MakingStepsAmong}
-use Rattle.papaya_finishes.specs.Makings.{Beginning}
-use Rattle.papaya_follows.specs.Shows.{Shows}
-use Rattle.papaya_follows.proofs.Operations.{LeavesBy}
-use Rattle.papaya_follows.proofs.Steps.{one_of}
-use Rattle.papaya_others.specs.Makings.{making_after}
-use Rattle.papaya_others.proofs.Makes.{left}
-use Rattle.papaya_others.proofs.Quiet.{calls_none}
+use Rattle.papaya_moments.specs.Given.SeizeWords.Word.{block_in}
+use Rattle.papaya_moments.specs.Given.Seize.World.{World}
+use Rattle.papaya_moments.specs.Given.Seize.declared.progress.Progress.{Progress}
+use Rattle.papaya_moments.specs.Given.Seize.declared.progress.Progress.TheVariants as progress
+use Rattle.papaya_moments.specs.Given.Tables.declared.node.Node.{Node}
+use Rattle.papaya_moments.specs.Given.Tables.declared.setting.Setting.{Setting}
+use Rattle.papaya_moments.specs.Given.Tables.declared.table.Table.{Table as Planned}
+use Rattle.papaya_moments.specs.Given.Tables.declared.node.Node.TheVariants as node
+use Rattle.papaya_moments.specs.Given.Resize.declared.new_map.NewMap.{NewMap}
+use Rattle.papaya_moments.specs.Given.Resize.declared.new_table.Making.{Making}
+use Rattle.papaya_moments.specs.Given.Resize.declared.new_table.NewTable.{NewTable}
+use Rattle.papaya_moments.specs.Given.Resize.declared.new_table.Making.TheVariants as makings
+use Rattle.papaya_moments.specs.Given.Schedules.declared.effect.Effect.{Effect}
+use Rattle.papaya_moments.specs.Given.Schedules.declared.effect.Effect.TheVariants as effect
+use Rattle.papaya_moments.specs.Given.Schedules.Effects.{with_effects}
+use Rattle.papaya_moments.specs.Given.Schedules.Moment.{Moment}
+use Rattle.papaya_moments.specs.Given.Teller.Changed.{kind_of}
+use Rattle.papaya_moments.specs.Given.Teller.declared.changed.Changed.{Changed}
+use Rattle.papaya_moments.specs.Given.Teller.declared.changed.Changed.TheVariants as changed
+use Rattle.papaya_moments.specs.Given.Teller.declared.changed.Kind.TheVariants as kind
+use Rattle.papaya_moments.specs.Given.Callers.Together.{UnderWay}
+use Rattle.papaya_moments.proofs.Given.Callers.Together.At.{at_other, at_same}
+use Rattle.papaya_moments.specs.Given.Effects.Effects.{effects_of, known_after}
+use Rattle.papaya_moments.specs.Given.Effects.Known.{Known}
+use Rattle.papaya_moments.specs.Given.Effects.declared.acting.Acting.{Acting}
+use Rattle.papaya_moments.specs.Given.Effects.declared.acting.Acting.TheVariants as acts
+use Rattle.papaya_moments.specs.Given.Executor.IsAt.{Scene, IsAt, slot_of}
+use Rattle.papaya_moments.specs.Given.Executor.Making.{MakingStepsFrom, MakingComesTo}
+use Rattle.papaya_moments.specs.Given.Executor.declared.executor.Executor.{Executor}
+use Rattle.papaya_moments.specs.Given.Finishes.Endings.{MakingStepsAmong}
+use Rattle.papaya_moments.specs.Given.Finishes.Makings.{Beginning}
+use Rattle.papaya_moments.specs.Given.Follows.Shows.{Shows}
+use Rattle.papaya_moments.proofs.Given.Follows.Operations.{LeavesBy}
+use Rattle.papaya_moments.proofs.Given.Follows.Steps.{one_of}
+use Rattle.papaya_moments.specs.Given.Others.Makings.{making_after}
+use Rattle.papaya_moments.proofs.Given.Others.Makes.{left}
+use Rattle.papaya_moments.proofs.Given.Others.Quiet.{calls_none}
 use Rattle.papaya_owes.specs.Making.{making_in_opening}
 use Rattle.papaya_owes.specs.Tables.{table_in, table_made, HoldsTable, ShowsTables}
 use Rattle.papaya_owes.specs.TablesBeside.{MakesFirst, MakingsKeepTables}

@@ -1,30 +1,30 @@
 -- A step of a row on a slot takes no table that is not linked: it takes what was handed to the collector.
 use Rattle.std.specs.Prelude.{◌≡◌, ℕ, Bool, List, Some, None}
 use Rattle.std.proofs.Common.{refl, ap}
-use Rattle.seize_words.specs.declared.at.At.TheVariants.{Root, Used, Slot, Entry, Word}
-use Rattle.seize.specs.World.{Step}
-use Rattle.papaya_tables.specs.declared.node.Node.{Node}
-use Rattle.papaya_runs.specs.declared.outcome.TableShape.{TableShape}
-use Rattle.papaya_schedules.specs.Effects.{with_effects}
-use Rattle.papaya_schedules.specs.Moment.{Moment}
-use Rattle.papaya_teller.specs.declared.changed.Changed.{Changed}
-use Rattle.papaya_teller.specs.declared.changed.Changed.TheVariants as changed
-use Rattle.papaya_effects.specs.Effects.{effects_of, known_after}
-use Rattle.papaya_effects.specs.Known.{Known}
-use Rattle.papaya_effects.specs.declared.acting.Acting.TheVariants.{Row}
-use Rattle.papaya_effects.specs.declared.role.Role.{Role}
-use Rattle.papaya_effects.specs.declared.role.Role.TheVariants as role
-use Rattle.papaya_executor.specs.IsAt.{Scene, IsAt, work_of}
-use Rattle.papaya_executor.specs.OnSlots.{RowSteps, HappensAt}
-use Rattle.papaya_executor.specs.declared.executor.Executor.{Executor}
-use Rattle.papaya_executor.specs.declared.row.RowTold.{RowTold}
-use Rattle.papaya_executor.specs.declared.row.SlotRow.{SlotRow}
-use Rattle.papaya_executor.specs.declared.worker.Work.TheVariants as work
-use Rattle.papaya_follows.specs.Shows.{Shows}
-use Rattle.papaya_follows.proofs.Told.{roomed_as_many}
-use Rattle.papaya_others.specs.Rows.{scene_then}
-use Rattle.papaya_others.proofs.Quiet.{calls_none}
-use Rattle.papaya_others.proofs.RowPlans.{TellsRow, row_tells}
+use Rattle.papaya_moments.specs.Given.SeizeWords.declared.at.At.TheVariants.{Root, Used, Slot, Entry, Word}
+use Rattle.papaya_moments.specs.Given.Seize.World.{Step}
+use Rattle.papaya_moments.specs.Given.Tables.declared.node.Node.{Node}
+use Rattle.papaya_moments.specs.Given.Runs.declared.outcome.TableShape.{TableShape}
+use Rattle.papaya_moments.specs.Given.Schedules.Effects.{with_effects}
+use Rattle.papaya_moments.specs.Given.Schedules.Moment.{Moment}
+use Rattle.papaya_moments.specs.Given.Teller.declared.changed.Changed.{Changed}
+use Rattle.papaya_moments.specs.Given.Teller.declared.changed.Changed.TheVariants as changed
+use Rattle.papaya_moments.specs.Given.Effects.Effects.{effects_of, known_after}
+use Rattle.papaya_moments.specs.Given.Effects.Known.{Known}
+use Rattle.papaya_moments.specs.Given.Effects.declared.acting.Acting.TheVariants.{Row}
+use Rattle.papaya_moments.specs.Given.Effects.declared.role.Role.{Role}
+use Rattle.papaya_moments.specs.Given.Effects.declared.role.Role.TheVariants as role
+use Rattle.papaya_moments.specs.Given.Executor.IsAt.{Scene, IsAt, work_of}
+use Rattle.papaya_moments.specs.Given.Executor.OnSlots.{RowSteps, HappensAt}
+use Rattle.papaya_moments.specs.Given.Executor.declared.executor.Executor.{Executor}
+use Rattle.papaya_moments.specs.Given.Executor.declared.row.RowTold.{RowTold}
+use Rattle.papaya_moments.specs.Given.Executor.declared.row.SlotRow.{SlotRow}
+use Rattle.papaya_moments.specs.Given.Executor.declared.worker.Work.TheVariants as work
+use Rattle.papaya_moments.specs.Given.Follows.Shows.{Shows}
+use Rattle.papaya_moments.proofs.Given.Follows.Told.{roomed_as_many}
+use Rattle.papaya_moments.specs.Given.Others.Rows.{scene_then}
+use Rattle.papaya_moments.proofs.Given.Others.Quiet.{calls_none}
+use Rattle.papaya_moments.proofs.Given.Others.RowPlans.{TellsRow, row_tells}
 use Rattle.papaya_owes.specs.Tables.{ShowsTables}
 use Rattle.papaya_owes.specs.TablesBeside.{RowsKeepTables}
 use Rattle.papaya_owes.proofs.Tables.Aside.{AreTables, tables_still}

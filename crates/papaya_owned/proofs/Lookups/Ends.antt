@@ -20,21 +20,21 @@ use Rattle.seize_words.specs.declared.at.At.TheVariants.{Root}
 use Rattle.papaya_resize.specs.declared.lookup.Lookup.{Lookup}
 use Rattle.papaya_resize.specs.declared.lookup.Looking.{Looking}
 use Rattle.papaya_resize.specs.declared.lookup.Looking.TheVariants as at
-use Rattle.papaya_rule.specs.Chart.{Chart}
-use Rattle.papaya_rule.specs.InWorld.{SameBlocks}
-use Rattle.papaya_rule.specs.Lasts.{Lasts}
-use Rattle.papaya_rule.specs.Maps.{spot_of}
-use Rattle.papaya_rule.specs.Words.{Blocks}
+use Rattle.papaya_whole.specs.Given.Rule.Chart.{Chart}
+use Rattle.papaya_whole.specs.Given.Rule.InWorld.{SameBlocks}
+use Rattle.papaya_whole.specs.Given.Rule.Lasts.{Lasts}
+use Rattle.papaya_whole.specs.Given.Rule.Maps.{spot_of}
+use Rattle.papaya_whole.specs.Given.Rule.Words.{Blocks}
 use Rattle.papaya_tables.specs.Chunks.{is_incremental}
-use Rattle.papaya_points.specs.FactsLooks.{LookingFacts}
-use Rattle.papaya_points.specs.Measures.{IsBelow, EndsFrom, ends}
-use Rattle.papaya_points.specs.MeasuresLooks.{number_of_lookup, number_at_looking}
-use Rattle.papaya_points.specs.Told.{LookupTold}
-use Rattle.papaya_points.proofs.Calls.StepsTold.{lookups_tell}
-use Rattle.papaya_points.proofs.Descents.{descents_end}
-use Rattle.papaya_falls.proofs.Onward.{Onward}
-use Rattle.papaya_falls.proofs.Stands.{LookingStands}
-use Rattle.papaya_falls.proofs.Within.Lookups.{looked_on}
+use Rattle.papaya_whole.specs.Given.Points.FactsLooks.{LookingFacts}
+use Rattle.papaya_whole.specs.Given.Points.Measures.{IsBelow, EndsFrom, ends}
+use Rattle.papaya_whole.specs.Given.Points.MeasuresLooks.{number_of_lookup, number_at_looking}
+use Rattle.papaya_whole.specs.Given.Points.Told.{LookupTold}
+use Rattle.papaya_whole.proofs.Given.Points.Calls.StepsTold.{lookups_tell}
+use Rattle.papaya_whole.proofs.Given.Points.Descents.{descents_end}
+use Rattle.papaya_whole.proofs.Given.Falls.Onward.{Onward}
+use Rattle.papaya_whole.proofs.Given.Falls.Stands.{LookingStands}
+use Rattle.papaya_whole.proofs.Given.Falls.Within.Lookups.{looked_on}
 use Rattle.papaya_owned.specs.Ending.{GoesOn, Ends, all_end}
 use Rattle.papaya_owned.specs.Looking.{LooksIn}
 use Rattle.papaya_owned.specs.Within.{IsLeast, within}

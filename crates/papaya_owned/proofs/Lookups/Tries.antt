@@ -22,9 +22,9 @@ use Rattle.papaya_tables.specs.Probes.{probe_after}
 use Rattle.papaya_resize.specs.Lookup.{lookup_plan, names_pair, told, told_of, passed, beyond, answered, going}
 use Rattle.papaya_resize.specs.declared.lookup.Lookup.{Lookup}
 use Rattle.papaya_resize.specs.declared.lookup.Looking.TheVariants as at
-use Rattle.papaya_rule.specs.Chart.{Chart}
-use Rattle.papaya_rule.specs.Words.{Blocks}
-use Rattle.papaya_points.specs.Measures.{IsBelow}
+use Rattle.papaya_whole.specs.Given.Rule.Chart.{Chart}
+use Rattle.papaya_whole.specs.Given.Rule.Words.{Blocks}
+use Rattle.papaya_whole.specs.Given.Points.Measures.{IsBelow}
 use Rattle.papaya_owned.specs.Looking.{LooksIn, Finds, at_try, at_next}
 use Rattle.papaya_owned.specs.Tries.{Nearer, TriesTo, tried_beyond}
 use Rattle.papaya_owned.specs.Ending.{GoesOn}

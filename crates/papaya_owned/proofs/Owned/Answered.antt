@@ -12,20 +12,20 @@ use Rattle.papaya_raw.specs.declared.machines.answer.KeyAnswer.{KeyAnswer}
 use Rattle.papaya_raw.specs.declared.machines.answer.KeyAnswer.TheVariants as answers
 use Rattle.papaya_raw.specs.declared.machines.asking.Reply.TheVariants as reply
 use Rattle.papaya_raw.specs.declared.machines.call.KeyCall.{KeyCall}
-use Rattle.papaya_rule.specs.Chart.{Chart, Phase, Holds as HoldsPair, Still, put}
-use Rattle.papaya_rule.specs.Words.{Blocks, Shows, place_word}
-use Rattle.papaya_rule.specs.InWorld.{IsMapIn}
-use Rattle.papaya_rule.proofs.Moves.Writes.{put_here, put_elsewhere}
-use Rattle.papaya_rule.proofs.World.Hands.{current_known}
-use Rattle.papaya_points.specs.FactsCalls.{Change, Unchanged, Stored, Replaced, Removed, Tells}
-use Rattle.papaya_alone.specs.Alone.{HasChanged}
-use Rattle.papaya_alone.specs.Counted.{HasAdded, counted_at}
-use Rattle.papaya_late.specs.Kinds.{MayPut}
-use Rattle.papaya_callers.specs.Asked.{last_told, LeavesPair, LeavesNone}
-use Rattle.papaya_callers.specs.Pairs.{Given, Begun, IsTold, kind_of, StoresGiven, LeavesGiven}
-use Rattle.papaya_callers.specs.Since.{SoSince}
-use Rattle.papaya_callers.specs.Together.{IsBegun, in_slot}
-use Rattle.papaya_callers.proofs.Asked.By.{block_of_word}
+use Rattle.papaya_whole.specs.Given.Rule.Chart.{Chart, Phase, Holds as HoldsPair, Still, put}
+use Rattle.papaya_whole.specs.Given.Rule.Words.{Blocks, Shows, place_word}
+use Rattle.papaya_whole.specs.Given.Rule.InWorld.{IsMapIn}
+use Rattle.papaya_whole.proofs.Given.Rule.Moves.Writes.{put_here, put_elsewhere}
+use Rattle.papaya_whole.proofs.Given.Rule.World.Hands.{current_known}
+use Rattle.papaya_whole.specs.Given.Points.FactsCalls.{Change, Unchanged, Stored, Replaced, Removed, Tells}
+use Rattle.papaya_whole.specs.Given.Alone.Alone.{HasChanged}
+use Rattle.papaya_whole.specs.Given.Alone.Counted.{HasAdded, counted_at}
+use Rattle.papaya_whole.specs.Given.Late.Kinds.{MayPut}
+use Rattle.papaya_whole.specs.Given.Callers.Asked.{last_told, LeavesPair, LeavesNone}
+use Rattle.papaya_whole.specs.Given.Callers.Pairs.{Given, Begun, IsTold, kind_of, StoresGiven, LeavesGiven}
+use Rattle.papaya_whole.specs.Given.Callers.Since.{SoSince}
+use Rattle.papaya_whole.specs.Given.Callers.Together.{IsBegun, in_slot}
+use Rattle.papaya_whole.proofs.Given.Callers.Asked.By.{block_of_word}
 use Rattle.papaya_whole.specs.AtEnd.{AnswersSo}
 use Rattle.papaya_whole.specs.Contents.{ContentsBelow, AreContents, HasRun, pair_for, without}
 use Rattle.papaya_whole.proofs.Contents.Answers.{present_below}

@@ -7,11 +7,11 @@ use Rattle.seize_words.specs.Mem.{Mem, word_at}
 use Rattle.seize_words.specs.declared.at.At.TheVariants.{Word}
 use Rattle.papaya_tables.specs.declared.table_words.TheConstants.{NEXT, PLACES}
 use Rattle.papaya_tables.specs.declared.node.Node.{Node}
-use Rattle.papaya_rule.specs.Chart.{Chart, Phase, Place, Empty, Holds}
-use Rattle.papaya_rule.specs.Maps.{spot_of}
-use Rattle.papaya_rule.specs.Rule.{Rule}
-use Rattle.papaya_rule.specs.Words.{Blocks, Shows, place_word}
-use Rattle.papaya_callers.proofs.Asked.By.{block_of_word}
+use Rattle.papaya_whole.specs.Given.Rule.Chart.{Chart, Phase, Place, Empty, Holds}
+use Rattle.papaya_whole.specs.Given.Rule.Maps.{spot_of}
+use Rattle.papaya_whole.specs.Given.Rule.Rule.{Rule}
+use Rattle.papaya_whole.specs.Given.Rule.Words.{Blocks, Shows, place_word}
+use Rattle.papaya_whole.proofs.Given.Callers.Asked.By.{block_of_word}
 
 same_word : (x y : ℕ) → ◌≡◌ {A = Option ℕ} (Some x) (Some y) → x ≡ y
 same_word x y e = cc e

@@ -9,11 +9,11 @@ use Rattle.papaya_tables.specs.declared.setting.Setting.{Setting}
 use Rattle.papaya_raw.specs.declared.machines.answer.KeyAnswer.{KeyAnswer}
 use Rattle.papaya_raw.specs.declared.machines.answer.KeyAnswer.TheVariants as answers
 use Rattle.papaya_raw.specs.declared.machines.call.KeyCall.{KeyCall}
-use Rattle.papaya_alone.specs.Counted.{counted_at}
-use Rattle.papaya_late.specs.Kinds.{MayPut}
-use Rattle.papaya_callers.specs.Pairs.{Begun}
-use Rattle.papaya_callers.specs.Kind.{Kind}
-use Rattle.papaya_callers.specs.Together.{IsBegun}
+use Rattle.papaya_whole.specs.Given.Alone.Counted.{counted_at}
+use Rattle.papaya_whole.specs.Given.Late.Kinds.{MayPut}
+use Rattle.papaya_whole.specs.Given.Callers.Pairs.{Begun}
+use Rattle.papaya_whole.specs.Given.Callers.Kind.{Kind}
+use Rattle.papaya_whole.specs.Given.Callers.Together.{IsBegun}
 use Rattle.papaya_owned.specs.Owned.{Holds, AnswersBy, EndsBy}
 use Rattle.papaya_owned.specs.declared.machines.OnKey.{OnKey}
 use Rattle.papaya_owned.specs.declared.machines.Stop.{Stop}

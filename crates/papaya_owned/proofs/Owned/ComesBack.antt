@@ -20,13 +20,13 @@ use Rattle.papaya_raw.specs.declared.machines.answer.End.TheVariants as ends
 use Rattle.papaya_raw.specs.declared.machines.call.KeyCall.{KeyCall}
 use Rattle.papaya_raw.specs.declared.machines.call.Calling.{Calling}
 use Rattle.papaya_raw.specs.declared.machines.call.Calling.TheVariants as at
-use Rattle.papaya_rule.specs.Chart.{Chart}
-use Rattle.papaya_rule.specs.Maps.{spot_of}
-use Rattle.papaya_rule.specs.Rule.{Rule}
-use Rattle.papaya_rule.specs.Words.{Blocks}
-use Rattle.papaya_points.specs.Steps.{AreLawful}
-use Rattle.papaya_callers.specs.Kind.{Kind}
-use Rattle.papaya_callers.specs.Pairs.{Begun}
+use Rattle.papaya_whole.specs.Given.Rule.Chart.{Chart}
+use Rattle.papaya_whole.specs.Given.Rule.Maps.{spot_of}
+use Rattle.papaya_whole.specs.Given.Rule.Rule.{Rule}
+use Rattle.papaya_whole.specs.Given.Rule.Words.{Blocks}
+use Rattle.papaya_whole.specs.Given.Points.Steps.{AreLawful}
+use Rattle.papaya_whole.specs.Given.Callers.Kind.{Kind}
+use Rattle.papaya_whole.specs.Given.Callers.Pairs.{Begun}
 use Rattle.papaya_owned.specs.Ending.{GoesOn, Tells, RunsTo, stops, goes}
 use Rattle.papaya_owned.specs.Machines.{on_key_settled, on_key_plan}
 use Rattle.papaya_owned.specs.Owned.{PutsIt, ComesBack}

@@ -11,7 +11,7 @@ use Rattle.seize_words.specs.declared.fault.Fault.TheVariants.{RemoveNothing}
 use Rattle.seize.specs.World.{World}
 use Rattle.seize.specs.declared.progress.Progress.{Progress}
 use Rattle.seize.specs.declared.progress.Progress.TheVariants as progress
-use Rattle.seize_rule.proofs.Rows.Leaving.{steps_back}
+use Rattle.papaya_whole.proofs.Given.SeizeRule.Rows.Leaving.{steps_back}
 use Rattle.papaya_tables.specs.Chunks.{is_incremental}
 use Rattle.papaya_tables.specs.declared.node.Node.{Node}
 use Rattle.papaya_tables.specs.declared.setting.Setting.{Setting}
@@ -22,20 +22,20 @@ use Rattle.papaya_raw.specs.declared.machines.answer.KeyAnswer.{KeyAnswer}
 use Rattle.papaya_raw.specs.declared.machines.asking.Asking.{Asking}
 use Rattle.papaya_raw.specs.declared.machines.call.KeyCall.{KeyCall}
 use Rattle.papaya_raw.specs.declared.machines.call.Calling.TheVariants as points
-use Rattle.papaya_rule.specs.Chart.{Chart}
-use Rattle.papaya_rule.specs.Maps.{spot_of}
-use Rattle.papaya_rule.specs.Rule.{Rule}
-use Rattle.papaya_rule.specs.Words.{Blocks}
-use Rattle.papaya_points.specs.FactsCalls.{Change, Unchanged}
-use Rattle.papaya_points.specs.Steps.{AreLawful}
-use Rattle.papaya_alone.specs.Counted.{HasAdded, counted_at, counted_for}
-use Rattle.papaya_alone.specs.Endings.{RunsEnd, runs_end}
-use Rattle.papaya_callers.specs.Pairs.{Given, RemovesNone, kind_of}
-use Rattle.papaya_late.specs.Kinds.{IsFit, ComesFit, FaultFits, TellsFit}
-use Rattle.papaya_late.proofs.KindsKept.Laws.{calls_keep_their_kind}
-use Rattle.papaya_callers.specs.Sights.{Sight}
-use Rattle.papaya_callers.specs.Together.{CallOnKey, OnKey as OnKeyOf, AnswersOnce, in_slot}
-use Rattle.papaya_rule.specs.InWorld.{IsMapIn}
+use Rattle.papaya_whole.specs.Given.Rule.Chart.{Chart}
+use Rattle.papaya_whole.specs.Given.Rule.Maps.{spot_of}
+use Rattle.papaya_whole.specs.Given.Rule.Rule.{Rule}
+use Rattle.papaya_whole.specs.Given.Rule.Words.{Blocks}
+use Rattle.papaya_whole.specs.Given.Points.FactsCalls.{Change, Unchanged}
+use Rattle.papaya_whole.specs.Given.Points.Steps.{AreLawful}
+use Rattle.papaya_whole.specs.Given.Alone.Counted.{HasAdded, counted_at, counted_for}
+use Rattle.papaya_whole.specs.Given.Alone.Endings.{RunsEnd, runs_end}
+use Rattle.papaya_whole.specs.Given.Callers.Pairs.{Given, RemovesNone, kind_of}
+use Rattle.papaya_whole.specs.Given.Late.Kinds.{IsFit, ComesFit, FaultFits, TellsFit}
+use Rattle.papaya_whole.proofs.Given.Late.KindsKept.Laws.{calls_keep_their_kind}
+use Rattle.papaya_whole.specs.Given.Callers.Sights.{Sight}
+use Rattle.papaya_whole.specs.Given.Callers.Together.{CallOnKey, OnKey as OnKeyOf, AnswersOnce, in_slot}
+use Rattle.papaya_whole.specs.Given.Rule.InWorld.{IsMapIn}
 use Rattle.papaya_whole.specs.Contents.{HasRun}
 use Rattle.papaya_whole.specs.Owner.{AtRest, IsAlone}
 use Rattle.papaya_whole.specs.Whole.{GoesOn as CallGoesOn, StepsOn, StepLeads}

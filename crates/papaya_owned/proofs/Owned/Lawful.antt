@@ -4,8 +4,8 @@ use Rattle.std.specs.Prelude.{◌%◌, fold, IsTrue}
 use Rattle.std.proofs.Common.{◌≡◌, ℕ, ◌+◌, ◌<◌, ◌^◌, Bool, true, List, ap, arith, sym}
 use Rattle.std.proofs.Math.Nat.{mod-lt}
 use Rattle.papaya_tables.specs.Probes.{triangular}
-use Rattle.papaya_rule.specs.Maps.{IsClass, spot_at}
-use Rattle.papaya_points.specs.Steps.{AreLawful}
+use Rattle.papaya_whole.specs.Given.Rule.Maps.{IsClass, spot_at}
+use Rattle.papaya_whole.specs.Given.Points.Steps.{AreLawful}
 use Rattle.papaya_owned.specs.Owned.{hashed_by}
 
 module _ {K S H : Type 0} (eq : K → K → Bool) (finish : H → ℕ) (write : H → List ℕ → H) (build : S → H) (input : K → List (List ℕ)) (hasher : S) where

@@ -8,17 +8,17 @@ use Rattle.papaya_tables.specs.declared.node.Node.{Node}
 use Rattle.papaya_tables.specs.declared.node.Node.TheVariants as node
 use Rattle.papaya_tables.specs.declared.setting.Setting.{Setting}
 use Rattle.papaya_resize.specs.Lookup.{looking}
-use Rattle.papaya_rule.specs.Chart.{Chart}
-use Rattle.papaya_rule.specs.Words.{Blocks}
-use Rattle.papaya_rule.specs.Maps.{IsClass, IsAbsent, IsMap}
-use Rattle.papaya_rule.specs.InWorld.{IsMapIn}
-use Rattle.papaya_points.specs.Steps.{AreLawful}
-use Rattle.papaya_points.proofs.Calls.StepsTold.{lookups_begin}
-use Rattle.papaya_callers.proofs.Asked.By.{block_of_word}
+use Rattle.papaya_whole.specs.Given.Rule.Chart.{Chart}
+use Rattle.papaya_whole.specs.Given.Rule.Words.{Blocks}
+use Rattle.papaya_whole.specs.Given.Rule.Maps.{IsClass, IsAbsent, IsMap}
+use Rattle.papaya_whole.specs.Given.Rule.InWorld.{IsMapIn}
+use Rattle.papaya_whole.specs.Given.Points.Steps.{AreLawful}
+use Rattle.papaya_whole.proofs.Given.Points.Calls.StepsTold.{lookups_begin}
+use Rattle.papaya_whole.proofs.Given.Callers.Asked.By.{block_of_word}
 use Rattle.papaya_whole.specs.Contents.{ContentsBelow, pair_for, without}
 use Rattle.papaya_whole.proofs.Contents.Answers.{present_below}
 use Rattle.papaya_whole.proofs.Contents.Below.{decided, ends_with, as_before, has_pair, same_key}
-use Rattle.papaya_rule.proofs.World.Hands.{current_known}
+use Rattle.papaya_whole.proofs.Given.Rule.World.Hands.{current_known}
 use Rattle.papaya_owned.specs.Looking.{LooksIn, Finds}
 use Rattle.papaya_owned.specs.Owned.{Holds, IsWordOf, found_by, left_by}
 

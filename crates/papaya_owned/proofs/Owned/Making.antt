@@ -12,7 +12,7 @@ use Rattle.seize.specs.WaitingSets.{Change}
 use Rattle.seize.specs.World.{World, Event, Begin, Step, Runs, Rests, IsInside, at_start}
 use Rattle.seize.specs.declared.progress.Progress.{Progress}
 use Rattle.seize.specs.declared.progress.Progress.TheVariants as progress
-use Rattle.seize_alone.specs.Alone.{History, IsHistory, at_rest}
+use Rattle.papaya_whole.specs.Given.SeizeAlone.Alone.{History, IsHistory, at_rest}
 use Rattle.papaya_tables.specs.Lengths.{IsTableLen}
 use Rattle.papaya_tables.specs.Nodes.{deferred_word}
 use Rattle.papaya_tables.specs.Chunks.{is_incremental}
@@ -20,28 +20,28 @@ use Rattle.papaya_tables.specs.declared.node.Node.{Node}
 use Rattle.papaya_tables.specs.declared.setting.Setting.{Setting}
 use Rattle.papaya_resize.specs.NewMap.{at_root, with_counter, opening, new_map_plan}
 use Rattle.papaya_resize.specs.declared.new_map.NewMap.{NewMap}
-use Rattle.papaya_rule.specs.Chart.{Chart}
-use Rattle.papaya_rule.specs.Rule.{no_table}
-use Rattle.papaya_rule.proofs.Moves.Totals.{total_none}
-use Rattle.papaya_points.specs.Steps.{AreLawful}
-use Rattle.papaya_points.proofs.Making.NewTable.{links_current}
-use Rattle.papaya_alone.specs.Counting.{IsCounted, one_if, pairs_in}
-use Rattle.papaya_alone.specs.FactsAloneCalls.{RestsAlone}
-use Rattle.papaya_alone.proofs.Lone.Beside.{rests_linked}
-use Rattle.papaya_callers.specs.Together.{CameAbout, Together}
-use Rattle.papaya_callers.specs.Sights.{Sight}
-use Rattle.papaya_rule.specs.Words.{Blocks}
-use Rattle.papaya_points.specs.Told.{OnlyLinks}
+use Rattle.papaya_whole.specs.Given.Rule.Chart.{Chart}
+use Rattle.papaya_whole.specs.Given.Rule.Rule.{no_table}
+use Rattle.papaya_whole.proofs.Given.Rule.Moves.Totals.{total_none}
+use Rattle.papaya_whole.specs.Given.Points.Steps.{AreLawful}
+use Rattle.papaya_whole.proofs.Given.Points.Making.NewTable.{links_current}
+use Rattle.papaya_whole.specs.Given.Alone.Counting.{IsCounted, one_if, pairs_in}
+use Rattle.papaya_whole.specs.Given.Alone.FactsAloneCalls.{RestsAlone}
+use Rattle.papaya_whole.proofs.Given.Alone.Lone.Beside.{rests_linked}
+use Rattle.papaya_whole.specs.Given.Callers.Together.{CameAbout, Together}
+use Rattle.papaya_whole.specs.Given.Callers.Sights.{Sight}
+use Rattle.papaya_whole.specs.Given.Rule.Words.{Blocks}
+use Rattle.papaya_whole.specs.Given.Points.Told.{OnlyLinks}
 use Rattle.papaya_whole.proofs.Contents.Below.{none_last}
-use Rattle.papaya_callers.proofs.Together.Users.{events_uses, events_rows}
-use Rattle.papaya_finishes.specs.Makings.{Beginning, HasRoots, IsNewChart, MakingsTogether, StepsOfMaking}
-use Rattle.papaya_finishes.specs.Maps.{Standing}
-use Rattle.papaya_finishes.proofs.Beside.Makings.Promised.{no_makings_begin, makings_begin, makings_stand}
-use Rattle.papaya_finishes.proofs.Beside.Maps.Comes.{no_maps_begin}
-use Rattle.papaya_maps.specs.AloneBegins.{IsOpening, OpensTo}
-use Rattle.papaya_maps.specs.FaultsBegins.{NeedsMemoryAlone, NeedsOn}
-use Rattle.papaya_maps.specs.MeasuresBegins.{new_map_left}
-use Rattle.papaya_maps.proofs.Laws.{maps_may_begin, maps_go_on, beginnings_come_nearer, free_roots_are_enough, only_memory_is_refused}
+use Rattle.papaya_whole.proofs.Given.Callers.Together.Users.{events_uses, events_rows}
+use Rattle.papaya_whole.specs.Given.Finishes.Makings.{Beginning, HasRoots, IsNewChart, MakingsTogether, StepsOfMaking}
+use Rattle.papaya_whole.specs.Given.Finishes.Maps.{Standing}
+use Rattle.papaya_whole.proofs.Given.Finishes.Beside.Makings.Promised.{no_makings_begin, makings_begin, makings_stand}
+use Rattle.papaya_whole.proofs.Given.Finishes.Beside.Maps.Comes.{no_maps_begin}
+use Rattle.papaya_whole.specs.Given.Maps.AloneBegins.{IsOpening, OpensTo}
+use Rattle.papaya_whole.specs.Given.Maps.FaultsBegins.{NeedsMemoryAlone, NeedsOn}
+use Rattle.papaya_whole.specs.Given.Maps.MeasuresBegins.{new_map_left}
+use Rattle.papaya_whole.proofs.Given.Maps.Laws.{maps_may_begin, maps_go_on, beginnings_come_nearer, free_roots_are_enough, only_memory_is_refused}
 use Rattle.papaya_whole.specs.Contents.{ContentsBelow}
 use Rattle.papaya_whole.specs.Owner.{AtRest}
 use Rattle.papaya_owned.specs.Ending.{GoesOn, Tells, Ends, all_end, RunsTo, stops, goes}

@@ -21,32 +21,32 @@ use Rattle.seize.specs.declared.rows.settle.Settle.{Settle}
 use Rattle.seize.specs.declared.rows.settle.Settled.{Settled}
 use Rattle.seize.specs.declared.rows.settle.Settled.TheVariants as settling
 use Rattle.seize.specs.declared.states.TheConstants.{ACTIVE, HEAD, FREE, LAST_SLOT}
-use Rattle.seize_rule.proofs.Rows.Leaving.{steps_back}
-use Rattle.seize_rule.proofs.Rows.Others.{with_here, with_other}
-use Rattle.seize_rule.proofs.Rows.Teams.{UseFits}
-use Rattle.seize_rule.proofs.Rows.Known.{works_on}
-use Rattle.seize_moves.proofs.State.Ghost.{Head}
-use Rattle.seize_waiting.specs.Held.{count, same as same_number}
-use Rattle.seize_alone.proofs.Histories.Reached.{Reached}
-use Rattle.seize_rule.proofs.World.Start.{start_good}
-use Rattle.seize_alone.proofs.Histories.NotTaken.{kept_value}
-use Rattle.seize_ends.proofs.Batches.Rows.{HeldByRows, start_held, runs_held}
-use Rattle.seize_ends.proofs.Rows.Lone.{leave_to_go, leaves_lower}
-use Rattle.seize_ends.proofs.Settling.Most.{is_going}
+use Rattle.papaya_whole.proofs.Given.SeizeRule.Rows.Leaving.{steps_back}
+use Rattle.papaya_whole.proofs.Given.SeizeRule.Rows.Others.{with_here, with_other}
+use Rattle.papaya_whole.proofs.Given.SeizeRule.Rows.Teams.{UseFits}
+use Rattle.papaya_whole.proofs.Given.SeizeRule.Rows.Known.{works_on}
+use Rattle.papaya_whole.proofs.Given.SeizeMoves.State.Ghost.{Head}
+use Rattle.papaya_whole.specs.Given.SeizeWaiting.Held.{count, same as same_number}
+use Rattle.papaya_whole.proofs.Given.SeizeAlone.Histories.Reached.{Reached}
+use Rattle.papaya_whole.proofs.Given.SeizeRule.World.Start.{start_good}
+use Rattle.papaya_whole.proofs.Given.SeizeAlone.Histories.NotTaken.{kept_value}
+use Rattle.papaya_whole.proofs.Given.SeizeEnds.Batches.Rows.{HeldByRows, start_held, runs_held}
+use Rattle.papaya_whole.proofs.Given.SeizeEnds.Rows.Lone.{leave_to_go, leaves_lower}
+use Rattle.papaya_whole.proofs.Given.SeizeEnds.Settling.Most.{is_going}
 use Rattle.papaya_tables.specs.Nodes.{deferred_word}
 use Rattle.papaya_tables.specs.Chunks.{is_incremental}
 use Rattle.papaya_tables.specs.declared.node.Node.{Node}
 use Rattle.papaya_tables.specs.declared.setting.Setting.{Setting}
-use Rattle.papaya_rule.specs.InWorld.{IsMapIn}
-use Rattle.papaya_rule.specs.Words.{Blocks}
-use Rattle.papaya_alone.specs.Counted.{HasAdded}
-use Rattle.papaya_alone.specs.Counting.{IsCounted}
-use Rattle.papaya_callers.specs.Sights.{Sight}
-use Rattle.papaya_callers.specs.Together.{CameAbout, Together, AllStand}
-use Rattle.papaya_callers.proofs.Rows.Keep.{kept_block, used_kept}
-use Rattle.papaya_callers.proofs.Together.Came.{came_reached}
-use Rattle.papaya_callers.proofs.Together.Guards.{guards_stand_together}
-use Rattle.papaya_callers.proofs.Together.Rows.{map2}
+use Rattle.papaya_whole.specs.Given.Rule.InWorld.{IsMapIn}
+use Rattle.papaya_whole.specs.Given.Rule.Words.{Blocks}
+use Rattle.papaya_whole.specs.Given.Alone.Counted.{HasAdded}
+use Rattle.papaya_whole.specs.Given.Alone.Counting.{IsCounted}
+use Rattle.papaya_whole.specs.Given.Callers.Sights.{Sight}
+use Rattle.papaya_whole.specs.Given.Callers.Together.{CameAbout, Together, AllStand}
+use Rattle.papaya_whole.proofs.Given.Callers.Rows.Keep.{kept_block, used_kept}
+use Rattle.papaya_whole.proofs.Given.Callers.Together.Came.{came_reached}
+use Rattle.papaya_whole.proofs.Given.Callers.Together.Guards.{guards_stand_together}
+use Rattle.papaya_whole.proofs.Given.Callers.Together.Rows.{map2}
 use Rattle.papaya_whole.proofs.Contents.Below.{below_stays}
 use Rattle.papaya_whole.proofs.Rows.Shards.{row_shards}
 use Rattle.papaya_owned.specs.Ending.{GoesOn, Tells, Ends, all_end, RunsTo, stops, goes}

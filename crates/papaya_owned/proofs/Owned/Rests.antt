@@ -6,10 +6,10 @@ use Rattle.seize.specs.World.{World}
 use Rattle.papaya_tables.specs.Chunks.{is_incremental}
 use Rattle.papaya_tables.specs.declared.node.Node.{Node}
 use Rattle.papaya_tables.specs.declared.setting.Setting.{Setting}
-use Rattle.papaya_rule.specs.Chart.{Chart}
-use Rattle.papaya_rule.specs.Words.{Blocks}
-use Rattle.papaya_callers.specs.Sights.{Sight}
-use Rattle.papaya_callers.specs.Together.{Together}
+use Rattle.papaya_whole.specs.Given.Rule.Chart.{Chart}
+use Rattle.papaya_whole.specs.Given.Rule.Words.{Blocks}
+use Rattle.papaya_whole.specs.Given.Callers.Sights.{Sight}
+use Rattle.papaya_whole.specs.Given.Callers.Together.{Together}
 use Rattle.papaya_whole.specs.Owner.{AtRest}
 
 module _ {K V : Type 0} (same : K → K → Bool) (hash : K → ℕ) (setting : Setting) (incremental : is_incremental setting.mode ≡ true) (slot : ℕ → ℕ) {Q1 Q2 : Type 0} (asks1 : Q1 → K → Bool) (asks2 : Q2 → K → Bool)

@@ -11,29 +11,29 @@ use Rattle.seize_words.specs.declared.fault.Fault.{Fault}
 use Rattle.seize.specs.World.{World}
 use Rattle.seize.specs.declared.progress.Progress.{Progress}
 use Rattle.seize.specs.declared.progress.Progress.TheVariants as progress
-use Rattle.seize_rule.proofs.Rows.Leaving.{steps_back}
+use Rattle.papaya_whole.proofs.Given.SeizeRule.Rows.Leaving.{steps_back}
 use Rattle.papaya_tables.specs.Counts.{count_in}
 use Rattle.papaya_tables.specs.declared.node.Node.{Node}
 use Rattle.papaya_tables.specs.declared.node.Node.TheVariants as node
 use Rattle.papaya_tables.specs.declared.setting.Setting.{Setting}
 use Rattle.papaya_resize.specs.declared.outcome.Outcome.{Outcome}
 use Rattle.papaya_resize.specs.declared.outcome.Outcome.TheVariants as outcome
-use Rattle.papaya_reserves.specs.Reserve.{needed, reserving, reserve_plan}
-use Rattle.papaya_reserves.specs.declared.reserve.Reserve.{Reserve}
-use Rattle.papaya_rule.specs.Chart.{Chart}
-use Rattle.papaya_rule.specs.Words.{Blocks}
-use Rattle.papaya_rule.specs.InWorld.{IsMapIn}
-use Rattle.papaya_points.specs.FactsCalls.{Unchanged}
-use Rattle.papaya_alone.specs.Counted.{HasAdded}
-use Rattle.papaya_alone.specs.Counting.{IsCounted, shards_sum}
-use Rattle.papaya_alone.specs.Endings.{RunsEnd, runs_end}
-use Rattle.papaya_late.specs.Faults.{IsRoom, RoomInReserving, RefusesRoom}
-use Rattle.papaya_late.proofs.KindsKept.Laws.{reserves_refuse_room, reserves_ask_on}
-use Rattle.papaya_maps.specs.AloneReserves.{LooksAtRoot, SumsUp, RootHasPlaces}
-use Rattle.papaya_maps.specs.EndingsReserves.{HasMore, StepsOn}
-use Rattle.papaya_callers.specs.Sights.{Sight}
-use Rattle.papaya_callers.specs.Together.{ForRoom as ForRoomOf, in_slot}
-use Rattle.papaya_callers.specs.Rooms.{CallForRoom}
+use Rattle.papaya_whole.specs.Given.Reserves.Reserve.{needed, reserving, reserve_plan}
+use Rattle.papaya_whole.specs.Given.Reserves.declared.reserve.Reserve.{Reserve}
+use Rattle.papaya_whole.specs.Given.Rule.Chart.{Chart}
+use Rattle.papaya_whole.specs.Given.Rule.Words.{Blocks}
+use Rattle.papaya_whole.specs.Given.Rule.InWorld.{IsMapIn}
+use Rattle.papaya_whole.specs.Given.Points.FactsCalls.{Unchanged}
+use Rattle.papaya_whole.specs.Given.Alone.Counted.{HasAdded}
+use Rattle.papaya_whole.specs.Given.Alone.Counting.{IsCounted, shards_sum}
+use Rattle.papaya_whole.specs.Given.Alone.Endings.{RunsEnd, runs_end}
+use Rattle.papaya_whole.specs.Given.Late.Faults.{IsRoom, RoomInReserving, RefusesRoom}
+use Rattle.papaya_whole.proofs.Given.Late.KindsKept.Laws.{reserves_refuse_room, reserves_ask_on}
+use Rattle.papaya_whole.specs.Given.Maps.AloneReserves.{LooksAtRoot, SumsUp, RootHasPlaces}
+use Rattle.papaya_whole.specs.Given.Maps.EndingsReserves.{HasMore, StepsOn}
+use Rattle.papaya_whole.specs.Given.Callers.Sights.{Sight}
+use Rattle.papaya_whole.specs.Given.Callers.Together.{ForRoom as ForRoomOf, in_slot}
+use Rattle.papaya_whole.specs.Given.Callers.Rooms.{CallForRoom}
 use Rattle.papaya_whole.specs.Contents.{AreContents, ContentsBelow, HasRun}
 use Rattle.papaya_whole.specs.Owner.{AtRest, IsAlone}
 use Rattle.papaya_whole.specs.WholeRooms.{RoomStepLeads}

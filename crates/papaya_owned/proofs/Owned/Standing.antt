@@ -6,11 +6,11 @@ use Rattle.seize.specs.World.{times}
 use Rattle.papaya_tables.specs.declared.node.Node.{Node}
 use Rattle.papaya_tables.specs.declared.node.Node.TheVariants as node
 use Rattle.papaya_tables.specs.declared.setting.Setting.{Setting}
-use Rattle.papaya_rule.specs.Chart.{Chart}
-use Rattle.papaya_rule.specs.InWorld.{IsMapIn}
-use Rattle.papaya_rule.specs.Words.{Blocks}
-use Rattle.papaya_rule.proofs.World.Hands.{current_known}
-use Rattle.papaya_finishes.proofs.Ends.CountedBlocks.{times-append, times_here, times_other}
+use Rattle.papaya_whole.specs.Given.Rule.Chart.{Chart}
+use Rattle.papaya_whole.specs.Given.Rule.InWorld.{IsMapIn}
+use Rattle.papaya_whole.specs.Given.Rule.Words.{Blocks}
+use Rattle.papaya_whole.proofs.Given.Rule.World.Hands.{current_known}
+use Rattle.papaya_whole.proofs.Given.Finishes.Ends.CountedBlocks.{times-append, times_here, times_other}
 use Rattle.papaya_whole.specs.Contents.{ContentsBelow}
 use Rattle.papaya_whole.proofs.Contents.Below.{ends_with, as_before, decided}
 use Rattle.papaya_owned.specs.Owned.{Holds}

@@ -1,20 +1,20 @@
 -- An event of a lookup reads briefly.
 use Rattle.std.specs.Prelude.{◌≡◌, ℕ, suc, ◌+◌, ◌≤◌, ◌==◌, Bool, true, false, List, [], ◌∷◌, length, Option, Some, None, MatchBool, if◌then◌else◌}
 use Rattle.std.proofs.Common.{refl, ap, sym, subst, ◌∙◌, arith}
-use Rattle.papaya_tables.specs.Chunks.{is_incremental}
-use Rattle.papaya_schedules.specs.declared.call.Call.{Call}
-use Rattle.papaya_schedules.specs.declared.call.Call.TheVariants as call
-use Rattle.papaya_schedules.specs.After.{moment, moments_from}
-use Rattle.papaya_schedules.specs.Entry.{Entry, IfCall, acting}
-use Rattle.papaya_schedules.specs.Lists.{OneOf}
-use Rattle.papaya_schedules.specs.Moment.{UnderWay as CallThere, Moment, start}
-use Rattle.papaya_schedules.specs.Sequential.{is_lookup}
-use Rattle.papaya_schedules.specs.Steps.{ReadsFew, IsBrief, ReadsBriefly}
-use Rattle.papaya_schedules.specs.Views.{map_at, grows_in_chunks}
-use Rattle.papaya_callers.specs.Together.{UnderWay, OnKey, ForRoom, Counting, OverAll}
-use Rattle.papaya_finishes.specs.Maps.{Standing}
-use Rattle.papaya_effects.specs.Known.{Known}
-use Rattle.papaya_follows.specs.Maps.{ShowsThere, ShowsTables}
+use Rattle.papaya_histories.specs.Given.Tables.Chunks.{is_incremental}
+use Rattle.papaya_histories.specs.Given.Schedules.declared.call.Call.{Call}
+use Rattle.papaya_histories.specs.Given.Schedules.declared.call.Call.TheVariants as call
+use Rattle.papaya_histories.specs.Given.Schedules.After.{moment, moments_from}
+use Rattle.papaya_histories.specs.Given.Schedules.Entry.{Entry, IfCall, acting}
+use Rattle.papaya_histories.specs.Given.Schedules.Lists.{OneOf}
+use Rattle.papaya_histories.specs.Given.Schedules.Moment.{UnderWay as CallThere, Moment, start}
+use Rattle.papaya_histories.specs.Given.Schedules.Sequential.{is_lookup}
+use Rattle.papaya_histories.specs.Given.Schedules.Steps.{ReadsFew, IsBrief, ReadsBriefly}
+use Rattle.papaya_histories.specs.Given.Schedules.Views.{map_at, grows_in_chunks}
+use Rattle.papaya_histories.specs.Given.Callers.Together.{UnderWay, OnKey, ForRoom, Counting, OverAll}
+use Rattle.papaya_histories.specs.Given.Finishes.Maps.{Standing}
+use Rattle.papaya_histories.specs.Given.Effects.Known.{Known}
+use Rattle.papaya_histories.specs.Given.Follows.Maps.{ShowsThere, ShowsTables}
 use Rattle.papaya_histories.proofs.Logs.{moments_grow}
 use Rattle.papaya_promises.specs.Brief.{ReadsSince}
 use Rattle.papaya_promises.specs.Reading.{looks, HasLooked, EventsReadBriefly}

@@ -2,24 +2,24 @@
 use Rattle.std.specs.Prelude.{◌≡◌, ℕ, Bool, Option, Some, None}
 use Rattle.std.proofs.Common.{refl, ap, sym, subst, ◌∙◌, inl, inr}
 use Rattle.std.proofs.lemmas.Bool.{cases_eq}
-use Rattle.seize.specs.World.{World, with_at}
-use Rattle.papaya_tables.specs.declared.node.Node.{Node}
-use Rattle.papaya_raw.specs.declared.machines.progress.Progress.{Progress}
-use Rattle.papaya_rule.specs.Chart.{Chart}
-use Rattle.papaya_rule.specs.InWorld.{IsMapIn, Went}
-use Rattle.papaya_rule.specs.Words.{Blocks}
-use Rattle.papaya_points.proofs.MovedLasts.{moved_lasts}
-use Rattle.papaya_callers.specs.Sights.{Sight, seen_by}
-use Rattle.papaya_callers.specs.Together.{UnderWay, OnKey, ForRoom, Counting, OverAll, Together, in_slot}
-use Rattle.papaya_callers.proofs.Sights.Seen.{map_seen}
-use Rattle.papaya_callers.proofs.Together.At.{at_same}
-use Rattle.papaya_callers.proofs.Together.Fits.{map_in_slot}
-use Rattle.papaya_finishes.specs.Machines.{DidOfKind}
-use Rattle.papaya_finishes.specs.Maps.{Standing, IsSameMap}
-use Rattle.papaya_executor.specs.IsAt.{Scene, IsAt, slot_of}
-use Rattle.papaya_executor.specs.Stepping.{StepLeads}
-use Rattle.papaya_executor.specs.declared.executor.Executor.{Executor}
-use Rattle.papaya_follows.proofs.Steps.{one_of}
+use Rattle.papaya_histories.specs.Given.Seize.World.{World, with_at}
+use Rattle.papaya_histories.specs.Given.Tables.declared.node.Node.{Node}
+use Rattle.papaya_histories.specs.Given.Raw.declared.machines.progress.Progress.{Progress}
+use Rattle.papaya_histories.specs.Given.Rule.Chart.{Chart}
+use Rattle.papaya_histories.specs.Given.Rule.InWorld.{IsMapIn, Went}
+use Rattle.papaya_histories.specs.Given.Rule.Words.{Blocks}
+use Rattle.papaya_histories.proofs.Given.Points.MovedLasts.{moved_lasts}
+use Rattle.papaya_histories.specs.Given.Callers.Sights.{Sight, seen_by}
+use Rattle.papaya_histories.specs.Given.Callers.Together.{UnderWay, OnKey, ForRoom, Counting, OverAll, Together, in_slot}
+use Rattle.papaya_histories.proofs.Given.Callers.Sights.Seen.{map_seen}
+use Rattle.papaya_histories.proofs.Given.Callers.Together.At.{at_same}
+use Rattle.papaya_histories.proofs.Given.Callers.Together.Fits.{map_in_slot}
+use Rattle.papaya_histories.specs.Given.Finishes.Machines.{DidOfKind}
+use Rattle.papaya_histories.specs.Given.Finishes.Maps.{Standing, IsSameMap}
+use Rattle.papaya_histories.specs.Given.Executor.IsAt.{Scene, IsAt, slot_of}
+use Rattle.papaya_histories.specs.Given.Executor.Stepping.{StepLeads}
+use Rattle.papaya_histories.specs.Given.Executor.declared.executor.Executor.{Executor}
+use Rattle.papaya_histories.proofs.Given.Follows.Steps.{one_of}
 use Rattle.papaya_promises.specs.Brief.{TablesLast}
 use Rattle.papaya_promises.specs.Reading.{HasStood, StepsLeaveTables}
 use Rattle.papaya_promises.proofs.Brief.Stays.{same_tables}

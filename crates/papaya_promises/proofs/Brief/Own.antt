@@ -1,51 +1,51 @@
 -- A step of a lookup, as one of many calls: it does nothing, and has read one word more.
 use Rattle.std.specs.Prelude.{◌≡◌, ℕ, suc, Bool, Option, Some, None, ◌⊎◌}
 use Rattle.std.proofs.Common.{ap, sym, subst, ◌∙◌, inl, inr}
-use Rattle.seize_words.specs.Mem.{Mem, Took, value_at}
-use Rattle.seize_words.specs.Plan.{Steps}
-use Rattle.seize_rule.proofs.Rows.Leaving.{steps_back}
-use Rattle.seize.specs.World.{Rests}
-use Rattle.seize.specs.declared.progress.Progress.{Progress as Stepped}
-use Rattle.papaya_tables.specs.Chunks.{is_incremental}
-use Rattle.papaya_tables.specs.declared.node.Node.{Node}
-use Rattle.papaya_resize.specs.Lookup.{lookup_plan}
-use Rattle.papaya_resize.specs.Lookup as lookups
-use Rattle.papaya_resize.specs.declared.lookup.Lookup.{Lookup}
-use Rattle.papaya_resize.specs.declared.lookup.Looking.{Looking}
-use Rattle.papaya_resize.specs.declared.lookup.Looking.TheVariants as looking
-use Rattle.papaya_raw.specs.Call.{call_plan, looked, looks_for, plan_at}
-use Rattle.papaya_raw.specs.Machine.{called, machine_plan}
-use Rattle.papaya_raw.specs.Progress.{of_called}
-use Rattle.papaya_raw.specs.declared.machines.answer.Called.{Called}
-use Rattle.papaya_raw.specs.declared.machines.call.Calling.{Calling}
-use Rattle.papaya_raw.specs.declared.machines.call.Calling.TheVariants as at
-use Rattle.papaya_raw.specs.declared.machines.call.KeyCall.{KeyCall}
-use Rattle.papaya_raw.specs.declared.machines.machine.Machine.{Machine}
-use Rattle.papaya_raw.specs.declared.machines.machine.Machine.TheVariants as kinds
-use Rattle.papaya_raw.specs.declared.machines.progress.Progress.{Progress}
-use Rattle.papaya_rule.specs.Chart.{Chart}
-use Rattle.papaya_rule.specs.InWorld.{IsMapIn}
-use Rattle.papaya_rule.specs.Words.{Blocks}
-use Rattle.papaya_points.specs.FactsCalls.{Unchanged, CallingFacts, CallFacts}
-use Rattle.papaya_points.specs.Steps.{AreLawful}
-use Rattle.papaya_points.specs.Told.{IsRowOfCall}
-use Rattle.papaya_points.proofs.Lookups.LooksAsked.{class_asked, lookup_asked}
-use Rattle.papaya_late.specs.LateCalls.{LateCalling, LateCallFacts}
-use Rattle.papaya_callers.specs.Rows.{row_of, once_over}
-use Rattle.papaya_callers.specs.Sights.{seen_by}
-use Rattle.papaya_callers.specs.Together.{CallOnKey, OnKey, ForRoom, Counting, OverAll, Together, Knows, in_slot}
-use Rattle.papaya_callers.proofs.Sights.Seen.{map_seen}
-use Rattle.papaya_callers.proofs.Together.Fits.{map_in_slot}
-use Rattle.papaya_teller.specs.Tells.{StepsTold}
-use Rattle.papaya_teller.specs.declared.changed.Changed.{Changed}
-use Rattle.papaya_teller.specs.declared.changed.Changed.TheVariants as changed
-use Rattle.papaya_others.proofs.Outcomes.{told_in}
-use Rattle.papaya_effects.specs.Effects.{effects_of}
-use Rattle.papaya_effects.specs.declared.acting.Acting.TheVariants as acts
-use Rattle.papaya_executor.specs.IsAt.{Scene, IsAt, slot_of}
-use Rattle.papaya_executor.specs.Stepping.{StepLeads}
-use Rattle.papaya_executor.specs.declared.executor.Executor.{Executor}
-use Rattle.papaya_executor.proofs.Forgotten.{as_step}
+use Rattle.papaya_histories.specs.Given.SeizeWords.Mem.{Mem, Took, value_at}
+use Rattle.papaya_histories.specs.Given.SeizeWords.Plan.{Steps}
+use Rattle.papaya_histories.proofs.Given.SeizeRule.Rows.Leaving.{steps_back}
+use Rattle.papaya_histories.specs.Given.Seize.World.{Rests}
+use Rattle.papaya_histories.specs.Given.Seize.declared.progress.Progress.{Progress as Stepped}
+use Rattle.papaya_histories.specs.Given.Tables.Chunks.{is_incremental}
+use Rattle.papaya_histories.specs.Given.Tables.declared.node.Node.{Node}
+use Rattle.papaya_histories.specs.Given.Resize.Lookup.{lookup_plan}
+use Rattle.papaya_histories.specs.Given.Resize.Lookup as lookups
+use Rattle.papaya_histories.specs.Given.Resize.declared.lookup.Lookup.{Lookup}
+use Rattle.papaya_histories.specs.Given.Resize.declared.lookup.Looking.{Looking}
+use Rattle.papaya_histories.specs.Given.Resize.declared.lookup.Looking.TheVariants as looking
+use Rattle.papaya_histories.specs.Given.Raw.Call.{call_plan, looked, looks_for, plan_at}
+use Rattle.papaya_histories.specs.Given.Raw.Machine.{called, machine_plan}
+use Rattle.papaya_histories.specs.Given.Raw.Progress.{of_called}
+use Rattle.papaya_histories.specs.Given.Raw.declared.machines.answer.Called.{Called}
+use Rattle.papaya_histories.specs.Given.Raw.declared.machines.call.Calling.{Calling}
+use Rattle.papaya_histories.specs.Given.Raw.declared.machines.call.Calling.TheVariants as at
+use Rattle.papaya_histories.specs.Given.Raw.declared.machines.call.KeyCall.{KeyCall}
+use Rattle.papaya_histories.specs.Given.Raw.declared.machines.machine.Machine.{Machine}
+use Rattle.papaya_histories.specs.Given.Raw.declared.machines.machine.Machine.TheVariants as kinds
+use Rattle.papaya_histories.specs.Given.Raw.declared.machines.progress.Progress.{Progress}
+use Rattle.papaya_histories.specs.Given.Rule.Chart.{Chart}
+use Rattle.papaya_histories.specs.Given.Rule.InWorld.{IsMapIn}
+use Rattle.papaya_histories.specs.Given.Rule.Words.{Blocks}
+use Rattle.papaya_histories.specs.Given.Points.FactsCalls.{Unchanged, CallingFacts, CallFacts}
+use Rattle.papaya_histories.specs.Given.Points.Steps.{AreLawful}
+use Rattle.papaya_histories.specs.Given.Points.Told.{IsRowOfCall}
+use Rattle.papaya_histories.proofs.Given.Points.Lookups.LooksAsked.{class_asked, lookup_asked}
+use Rattle.papaya_histories.specs.Given.Late.LateCalls.{LateCalling, LateCallFacts}
+use Rattle.papaya_histories.specs.Given.Callers.Rows.{row_of, once_over}
+use Rattle.papaya_histories.specs.Given.Callers.Sights.{seen_by}
+use Rattle.papaya_histories.specs.Given.Callers.Together.{CallOnKey, OnKey, ForRoom, Counting, OverAll, Together, Knows, in_slot}
+use Rattle.papaya_histories.proofs.Given.Callers.Sights.Seen.{map_seen}
+use Rattle.papaya_histories.proofs.Given.Callers.Together.Fits.{map_in_slot}
+use Rattle.papaya_histories.specs.Given.Teller.Tells.{StepsTold}
+use Rattle.papaya_histories.specs.Given.Teller.declared.changed.Changed.{Changed}
+use Rattle.papaya_histories.specs.Given.Teller.declared.changed.Changed.TheVariants as changed
+use Rattle.papaya_histories.proofs.Given.Others.Outcomes.{told_in}
+use Rattle.papaya_histories.specs.Given.Effects.Effects.{effects_of}
+use Rattle.papaya_histories.specs.Given.Effects.declared.acting.Acting.TheVariants as acts
+use Rattle.papaya_histories.specs.Given.Executor.IsAt.{Scene, IsAt, slot_of}
+use Rattle.papaya_histories.specs.Given.Executor.Stepping.{StepLeads}
+use Rattle.papaya_histories.specs.Given.Executor.declared.executor.Executor.{Executor}
+use Rattle.papaya_histories.proofs.Given.Executor.Forgotten.{as_step}
 use Rattle.papaya_promises.specs.Brief.{ReadsAt, ReadsOn, IsRootOf}
 use Rattle.papaya_promises.specs.Reading.{LookupsDoNothing}
 use Rattle.papaya_promises.proofs.Brief.Going.{lookups_read_on, late_reads_on}

@@ -1,17 +1,17 @@
 -- Lookups that are under way as they were have read what they had read.
 use Rattle.std.specs.Prelude.{◌≡◌, ℕ, ◌+◌, ◌<◌, ◌≤◌, Bool, true, false, List, ◌∷◌, length}
 use Rattle.std.proofs.Common.{refl, ap, sym, subst, arith, inr}
-use Rattle.papaya_tables.specs.Chunks.{is_incremental}
-use Rattle.papaya_tables.specs.declared.setting.Setting.{Setting}
-use Rattle.papaya_resize.specs.declared.lookup.Looking.{Looking}
-use Rattle.papaya_resize.specs.declared.lookup.Looking.TheVariants as looking
-use Rattle.papaya_rule.specs.Chart.{Chart}
-use Rattle.papaya_schedules.specs.After.{moments_from}
-use Rattle.papaya_schedules.specs.Entry.{Entry}
-use Rattle.papaya_schedules.specs.Lists.{OneOf}
-use Rattle.papaya_schedules.specs.Lives.{IsFrom}
-use Rattle.papaya_schedules.specs.Moment.{Moment}
-use Rattle.papaya_callers.specs.Together.{UnderWay, OnKey, ForRoom, Counting, OverAll}
+use Rattle.papaya_histories.specs.Given.Tables.Chunks.{is_incremental}
+use Rattle.papaya_histories.specs.Given.Tables.declared.setting.Setting.{Setting}
+use Rattle.papaya_histories.specs.Given.Resize.declared.lookup.Looking.{Looking}
+use Rattle.papaya_histories.specs.Given.Resize.declared.lookup.Looking.TheVariants as looking
+use Rattle.papaya_histories.specs.Given.Rule.Chart.{Chart}
+use Rattle.papaya_histories.specs.Given.Schedules.After.{moments_from}
+use Rattle.papaya_histories.specs.Given.Schedules.Entry.{Entry}
+use Rattle.papaya_histories.specs.Given.Schedules.Lists.{OneOf}
+use Rattle.papaya_histories.specs.Given.Schedules.Lives.{IsFrom}
+use Rattle.papaya_histories.specs.Given.Schedules.Moment.{Moment}
+use Rattle.papaya_histories.specs.Given.Callers.Together.{UnderWay, OnKey, ForRoom, Counting, OverAll}
 use Rattle.papaya_histories.proofs.Logs.{moments_grow}
 use Rattle.papaya_promises.specs.Brief.{HasRead, TablesLast, WasRoot, ReadsSince}
 use Rattle.papaya_promises.specs.Reading.{HasLooked, ReadingsStay, EventsKeepReadings}

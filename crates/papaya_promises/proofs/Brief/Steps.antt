@@ -2,33 +2,33 @@
 use Rattle.std.specs.Prelude.{◌≡◌, ℕ, suc, ◌+◌, ◌<◌, ◌≤◌, Bool, true, List, length, Option, Some, None, if◌then◌else◌}
 use Rattle.std.proofs.Common.{refl, ap, sym, subst, ◌∙◌, arith, inl, inr}
 use Rattle.std.proofs.lemmas.Bool.{eq-eqb, ne_eqb}
-use Rattle.seize.specs.declared.progress.Progress.{Progress as Stepped}
-use Rattle.seize.specs.declared.progress.Progress.TheVariants as stepped
-use Rattle.papaya_tables.specs.Chunks.{is_incremental}
-use Rattle.papaya_tables.specs.declared.node.Node.{Node}
-use Rattle.papaya_tables.specs.declared.setting.Setting.{Setting}
-use Rattle.papaya_resize.specs.declared.lookup.Lookup.{Lookup}
-use Rattle.papaya_resize.specs.declared.lookup.Looking.{Looking}
-use Rattle.papaya_resize.specs.declared.lookup.Looking.TheVariants as looking
-use Rattle.papaya_raw.specs.Call.{looked}
-use Rattle.papaya_raw.specs.Progress.{of_called}
-use Rattle.papaya_raw.specs.declared.machines.call.Calling.TheVariants as at
-use Rattle.papaya_raw.specs.declared.machines.call.KeyCall.{KeyCall}
-use Rattle.papaya_raw.specs.declared.machines.machine.Machine.{Machine}
-use Rattle.papaya_raw.specs.declared.machines.machine.Machine.TheVariants as kinds
-use Rattle.papaya_raw.specs.declared.machines.progress.Progress.{Progress}
-use Rattle.papaya_rule.specs.Chart.{Chart}
-use Rattle.papaya_schedules.specs.After.{moment, moments_from}
-use Rattle.papaya_schedules.specs.Lists.{OneOf}
-use Rattle.papaya_schedules.specs.Moment.{UnderWay as CallThere, MapThere, TableThere, Moment}
-use Rattle.papaya_schedules.specs.Views.{call_of}
-use Rattle.papaya_callers.specs.Together.{CallOnKey, UnderWay, OnKey, ForRoom, Counting, OverAll}
-use Rattle.papaya_executor.specs.IsAt.{Scene, IsAt}
-use Rattle.papaya_executor.specs.Stepping.{StepLeads, scene_after}
-use Rattle.papaya_executor.specs.declared.executor.Executor.{Executor}
-use Rattle.papaya_finishes.specs.Machines.{GoesOnAs, machine_of}
-use Rattle.papaya_finishes.specs.Maps.{Standing}
-use Rattle.papaya_hands.proofs.Asking.{which}
+use Rattle.papaya_histories.specs.Given.Seize.declared.progress.Progress.{Progress as Stepped}
+use Rattle.papaya_histories.specs.Given.Seize.declared.progress.Progress.TheVariants as stepped
+use Rattle.papaya_histories.specs.Given.Tables.Chunks.{is_incremental}
+use Rattle.papaya_histories.specs.Given.Tables.declared.node.Node.{Node}
+use Rattle.papaya_histories.specs.Given.Tables.declared.setting.Setting.{Setting}
+use Rattle.papaya_histories.specs.Given.Resize.declared.lookup.Lookup.{Lookup}
+use Rattle.papaya_histories.specs.Given.Resize.declared.lookup.Looking.{Looking}
+use Rattle.papaya_histories.specs.Given.Resize.declared.lookup.Looking.TheVariants as looking
+use Rattle.papaya_histories.specs.Given.Raw.Call.{looked}
+use Rattle.papaya_histories.specs.Given.Raw.Progress.{of_called}
+use Rattle.papaya_histories.specs.Given.Raw.declared.machines.call.Calling.TheVariants as at
+use Rattle.papaya_histories.specs.Given.Raw.declared.machines.call.KeyCall.{KeyCall}
+use Rattle.papaya_histories.specs.Given.Raw.declared.machines.machine.Machine.{Machine}
+use Rattle.papaya_histories.specs.Given.Raw.declared.machines.machine.Machine.TheVariants as kinds
+use Rattle.papaya_histories.specs.Given.Raw.declared.machines.progress.Progress.{Progress}
+use Rattle.papaya_histories.specs.Given.Rule.Chart.{Chart}
+use Rattle.papaya_histories.specs.Given.Schedules.After.{moment, moments_from}
+use Rattle.papaya_histories.specs.Given.Schedules.Lists.{OneOf}
+use Rattle.papaya_histories.specs.Given.Schedules.Moment.{UnderWay as CallThere, MapThere, TableThere, Moment}
+use Rattle.papaya_histories.specs.Given.Schedules.Views.{call_of}
+use Rattle.papaya_histories.specs.Given.Callers.Together.{CallOnKey, UnderWay, OnKey, ForRoom, Counting, OverAll}
+use Rattle.papaya_histories.specs.Given.Executor.IsAt.{Scene, IsAt}
+use Rattle.papaya_histories.specs.Given.Executor.Stepping.{StepLeads, scene_after}
+use Rattle.papaya_histories.specs.Given.Executor.declared.executor.Executor.{Executor}
+use Rattle.papaya_histories.specs.Given.Finishes.Machines.{GoesOnAs, machine_of}
+use Rattle.papaya_histories.specs.Given.Finishes.Maps.{Standing}
+use Rattle.papaya_histories.proofs.Given.Hands.Asking.{which}
 use Rattle.papaya_histories.proofs.Logs.{last_there}
 use Rattle.papaya_promises.specs.Brief.{ReadsAt, ReadsOn, IsRootOf, TablesLast, WasRoot, ReadsSince}
 use Rattle.papaya_promises.specs.Reading.{looks, HasLooked, one_more_of, LookupsKeepReadings}

@@ -1,23 +1,23 @@
 -- Where a row begins on a slot, and where nothing happens to slots and blocks, what is sheltered stays so.
 use Rattle.std.specs.Prelude.{◌≡◌, ℕ, Bool, true, false, List, Option, Some, None}
 use Rattle.std.proofs.Common.{ap, sym, subst}
-use Rattle.seize.specs.Law.{Effect as Happened, holds}
-use Rattle.seize.specs.World.{World, Use, Outside, Changing, IsInside, Begins, with_at}
-use Rattle.papaya_tables.specs.Nodes.{deferred_word}
-use Rattle.papaya_tables.specs.declared.node.Node.{Node}
-use Rattle.papaya_runs.specs.Present.{Present, guard_of}
-use Rattle.papaya_runs.specs.declared.holders.Guard.{Guard}
-use Rattle.papaya_schedules.specs.declared.call.Call.{Call}
-use Rattle.papaya_schedules.specs.Beginning.{with_call}
-use Rattle.papaya_schedules.specs.Moment.{Sheltered, Moment}
-use Rattle.papaya_callers.proofs.Together.At.{at_other}
-use Rattle.papaya_callers.proofs.Together.Handed.{inside_on}
-use Rattle.papaya_effects.specs.Known.{Known}
-use Rattle.papaya_executor.specs.IsAt.{slot_of}
-use Rattle.papaya_executor.specs.Rows.{request_of}
-use Rattle.papaya_executor.specs.declared.row.SlotCall.{SlotCall}
-use Rattle.papaya_executor.specs.declared.row.SlotCall.TheVariants as call
-use Rattle.papaya_others.specs.Walks.{given_up}
+use Rattle.papaya_histories.specs.Given.Seize.Law.{Effect as Happened, holds}
+use Rattle.papaya_histories.specs.Given.Seize.World.{World, Use, Outside, Changing, IsInside, Begins, with_at}
+use Rattle.papaya_histories.specs.Given.Tables.Nodes.{deferred_word}
+use Rattle.papaya_histories.specs.Given.Tables.declared.node.Node.{Node}
+use Rattle.papaya_histories.specs.Given.Runs.Present.{Present, guard_of}
+use Rattle.papaya_histories.specs.Given.Runs.declared.holders.Guard.{Guard}
+use Rattle.papaya_histories.specs.Given.Schedules.declared.call.Call.{Call}
+use Rattle.papaya_histories.specs.Given.Schedules.Beginning.{with_call}
+use Rattle.papaya_histories.specs.Given.Schedules.Moment.{Sheltered, Moment}
+use Rattle.papaya_histories.proofs.Given.Callers.Together.At.{at_other}
+use Rattle.papaya_histories.proofs.Given.Callers.Together.Handed.{inside_on}
+use Rattle.papaya_histories.specs.Given.Effects.Known.{Known}
+use Rattle.papaya_histories.specs.Given.Executor.IsAt.{slot_of}
+use Rattle.papaya_histories.specs.Given.Executor.Rows.{request_of}
+use Rattle.papaya_histories.specs.Given.Executor.declared.row.SlotCall.{SlotCall}
+use Rattle.papaya_histories.specs.Given.Executor.declared.row.SlotCall.TheVariants as call
+use Rattle.papaya_histories.specs.Given.Others.Walks.{given_up}
 use Rattle.papaya_promises.specs.Others.{SparesGuards, NobodyOn, RowsBeginShelter, HoldByCalls, HoldByMaps, SectionsGoOn}
 use Rattle.papaya_promises.specs.Sheltered.{GuardsAreInside, IsSheltered, AreSheltered, SectionsHold}
 use Rattle.papaya_promises.proofs.Lists.{all_of}

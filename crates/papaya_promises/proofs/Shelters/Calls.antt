@@ -3,56 +3,56 @@ use Rattle.std.specs.Prelude.{◌&&◌, ◌≡◌, ℕ, ◌≤◌, nat_lt, Bool,
 use Rattle.std.specs.List.{AllByRecursion}
 use Rattle.std.proofs.Common.{refl, sym, subst, ap, ◌∙◌, arith, inl, inr}
 use Rattle.std.proofs.lemmas.Bool.{eq-eqb}
-use Rattle.seize_words.specs.Mem.{Mem}
-use Rattle.seize.specs.Law.{holds, is_somewhere}
-use Rattle.seize.specs.World.{World, IsInside, InUse}
-use Rattle.seize_moves.proofs.State.Logs.{reached_held}
-use Rattle.seize_alone.proofs.Histories.Reached.{Reached}
-use Rattle.seize_alone.proofs.Histories.Uses.{inside_open}
-use Rattle.papaya_tables.specs.Nodes.{deferred_word}
-use Rattle.papaya_tables.specs.declared.node.Node.{Node}
-use Rattle.papaya_raw.specs.declared.machines.progress.Progress.{Progress}
-use Rattle.papaya_rule.specs.InWorld.{IsMapIn}
-use Rattle.papaya_rule.proofs.Laws.{current_is_known}
-use Rattle.papaya_runs.specs.declared.holders.Guard.{Guard}
-use Rattle.papaya_schedules.specs.declared.effect.Effect.{Effect}
-use Rattle.papaya_schedules.specs.declared.effect.Effect.TheVariants.{Promoted, Replaced, Removed}
-use Rattle.papaya_schedules.specs.declared.effect.Thing.{Thing}
-use Rattle.papaya_schedules.specs.declared.effect.Thing.TheVariants.{APair, ATable}
-use Rattle.papaya_schedules.specs.Effects.{out_by, shelter, with_effect, with_effects, AtEachEffect}
-use Rattle.papaya_schedules.specs.Model.{thing_back}
-use Rattle.papaya_schedules.specs.Moment.{InMap, Moment}
-use Rattle.papaya_schedules.specs.Views.{is_in_map, first_or, first_of}
-use Rattle.papaya_teller.specs.declared.changed.Changed.{Changed}
-use Rattle.papaya_teller.specs.declared.changed.Changed.TheVariants as changed
-use Rattle.papaya_callers.specs.Together.{UnderWay, OnKey, ForRoom, Counting, OverAll, CameAbout, IsOneStep}
-use Rattle.papaya_callers.proofs.Rows.Defers.{used_stands}
-use Rattle.papaya_callers.proofs.Together.Came.{came_reached}
-use Rattle.papaya_effects.specs.Effects.{taken_by, effects_of, known_after}
-use Rattle.papaya_effects.specs.Known.{Known}
-use Rattle.papaya_effects.specs.declared.acting.Acting.TheVariants as acts
-use Rattle.papaya_effects.specs.declared.role.Role.{Role}
-use Rattle.papaya_effects.specs.declared.role.Role.TheVariants as role
-use Rattle.papaya_executor.specs.IsAt.{Scene, IsAt}
-use Rattle.papaya_executor.specs.Stepping.{StepLeads, scene_after}
-use Rattle.papaya_executor.specs.declared.executor.Executor.{Executor}
-use Rattle.papaya_finishes.specs.Maps.{Standing}
-use Rattle.papaya_follows.specs.Blocks.{HasRole}
-use Rattle.papaya_follows.specs.Finds.{FindsMap}
-use Rattle.papaya_follows.specs.Maps.{ShowsPairs}
-use Rattle.papaya_follows.specs.Steps.{TakesNone}
-use Rattle.papaya_follows.proofs.Alike.{put_here}
-use Rattle.papaya_follows.proofs.Going.{ComesToBe}
-use Rattle.papaya_follows.proofs.Onward.{IsLasting, KeepsRoles}
-use Rattle.papaya_follows.proofs.Operations.{LeavesBy, operated_leaves}
-use Rattle.papaya_follows.proofs.Rows.{HandsOn, IsStill, Puts, Retires, RowLeaves, one_step_leaves, row_written}
-use Rattle.papaya_follows.proofs.RowSteps.{row_step_shown}
-use Rattle.papaya_follows.proofs.Steps.{WentTo, went_to, made_so, DidSo, OfNoRow, LeadsThere, step_shown}
-use Rattle.papaya_hands.proofs.RowSteps.{rows_hand_theirs}
-use Rattle.papaya_hands.proofs.Steps.{calls_store_theirs}
-use Rattle.papaya_spots.proofs.Elsewhere.{stored_grows}
-use Rattle.papaya_moments.specs.Whole.{ShowsWhole}
-use Rattle.papaya_moments.proofs.Calls.{of_row}
+use Rattle.papaya_histories.specs.Given.SeizeWords.Mem.{Mem}
+use Rattle.papaya_histories.specs.Given.Seize.Law.{holds, is_somewhere}
+use Rattle.papaya_histories.specs.Given.Seize.World.{World, IsInside, InUse}
+use Rattle.papaya_histories.proofs.Given.SeizeMoves.State.Logs.{reached_held}
+use Rattle.papaya_histories.proofs.Given.SeizeAlone.Histories.Reached.{Reached}
+use Rattle.papaya_histories.proofs.Given.SeizeAlone.Histories.Uses.{inside_open}
+use Rattle.papaya_histories.specs.Given.Tables.Nodes.{deferred_word}
+use Rattle.papaya_histories.specs.Given.Tables.declared.node.Node.{Node}
+use Rattle.papaya_histories.specs.Given.Raw.declared.machines.progress.Progress.{Progress}
+use Rattle.papaya_histories.specs.Given.Rule.InWorld.{IsMapIn}
+use Rattle.papaya_histories.proofs.Given.Rule.Laws.{current_is_known}
+use Rattle.papaya_histories.specs.Given.Runs.declared.holders.Guard.{Guard}
+use Rattle.papaya_histories.specs.Given.Schedules.declared.effect.Effect.{Effect}
+use Rattle.papaya_histories.specs.Given.Schedules.declared.effect.Effect.TheVariants.{Promoted, Replaced, Removed}
+use Rattle.papaya_histories.specs.Given.Schedules.declared.effect.Thing.{Thing}
+use Rattle.papaya_histories.specs.Given.Schedules.declared.effect.Thing.TheVariants.{APair, ATable}
+use Rattle.papaya_histories.specs.Given.Schedules.Effects.{out_by, shelter, with_effect, with_effects, AtEachEffect}
+use Rattle.papaya_histories.specs.Given.Schedules.Model.{thing_back}
+use Rattle.papaya_histories.specs.Given.Schedules.Moment.{InMap, Moment}
+use Rattle.papaya_histories.specs.Given.Schedules.Views.{is_in_map, first_or, first_of}
+use Rattle.papaya_histories.specs.Given.Teller.declared.changed.Changed.{Changed}
+use Rattle.papaya_histories.specs.Given.Teller.declared.changed.Changed.TheVariants as changed
+use Rattle.papaya_histories.specs.Given.Callers.Together.{UnderWay, OnKey, ForRoom, Counting, OverAll, CameAbout, IsOneStep}
+use Rattle.papaya_histories.proofs.Given.Callers.Rows.Defers.{used_stands}
+use Rattle.papaya_histories.proofs.Given.Callers.Together.Came.{came_reached}
+use Rattle.papaya_histories.specs.Given.Effects.Effects.{taken_by, effects_of, known_after}
+use Rattle.papaya_histories.specs.Given.Effects.Known.{Known}
+use Rattle.papaya_histories.specs.Given.Effects.declared.acting.Acting.TheVariants as acts
+use Rattle.papaya_histories.specs.Given.Effects.declared.role.Role.{Role}
+use Rattle.papaya_histories.specs.Given.Effects.declared.role.Role.TheVariants as role
+use Rattle.papaya_histories.specs.Given.Executor.IsAt.{Scene, IsAt}
+use Rattle.papaya_histories.specs.Given.Executor.Stepping.{StepLeads, scene_after}
+use Rattle.papaya_histories.specs.Given.Executor.declared.executor.Executor.{Executor}
+use Rattle.papaya_histories.specs.Given.Finishes.Maps.{Standing}
+use Rattle.papaya_histories.specs.Given.Follows.Blocks.{HasRole}
+use Rattle.papaya_histories.specs.Given.Follows.Finds.{FindsMap}
+use Rattle.papaya_histories.specs.Given.Follows.Maps.{ShowsPairs}
+use Rattle.papaya_histories.specs.Given.Follows.Steps.{TakesNone}
+use Rattle.papaya_histories.proofs.Given.Follows.Alike.{put_here}
+use Rattle.papaya_histories.proofs.Given.Follows.Going.{ComesToBe}
+use Rattle.papaya_histories.proofs.Given.Follows.Onward.{IsLasting, KeepsRoles}
+use Rattle.papaya_histories.proofs.Given.Follows.Operations.{LeavesBy, operated_leaves}
+use Rattle.papaya_histories.proofs.Given.Follows.Rows.{HandsOn, IsStill, Puts, Retires, RowLeaves, one_step_leaves, row_written}
+use Rattle.papaya_histories.proofs.Given.Follows.RowSteps.{row_step_shown}
+use Rattle.papaya_histories.proofs.Given.Follows.Steps.{WentTo, went_to, made_so, DidSo, OfNoRow, LeadsThere, step_shown}
+use Rattle.papaya_histories.proofs.Given.Hands.RowSteps.{rows_hand_theirs}
+use Rattle.papaya_histories.proofs.Given.Hands.Steps.{calls_store_theirs}
+use Rattle.papaya_histories.proofs.Given.Spots.Elsewhere.{stored_grows}
+use Rattle.papaya_histories.specs.Given.Moments.Whole.{ShowsWhole}
+use Rattle.papaya_histories.proofs.Given.Moments.Calls.{of_row}
 use Rattle.papaya_promises.specs.Shelters.{CallsShelter}
 use Rattle.papaya_promises.specs.Sheltered.{IsOfThing, HasCome, GuardsAreInside, IsSheltered, AreSheltered}
 use Rattle.papaya_promises.proofs.Shelters.Lasting.{Lasts, of_map, all_last, guards_last}

@@ -1,34 +1,34 @@
 -- A step of the end of a map leaves sheltered what is so, and reclaims nothing that was retired.
 use Rattle.std.specs.Prelude.{◌≡◌, ℕ, zero, suc, Bool, true, List, [], flat_map, Some, None}
 use Rattle.std.proofs.Common.{refl, ap, sym, subst, ◌∙◌, arith, inl, inr}
-use Rattle.seize_words.specs.Mem.{value_at}
-use Rattle.seize.specs.Law.{holds}
-use Rattle.seize.specs.World.{World, Use, IsInside, times}
-use Rattle.seize.specs.declared.rows.settle.Settled.{Settled}
-use Rattle.papaya_tables.specs.declared.node.Node.{Node}
-use Rattle.papaya_raw.specs.declared.machines.end_map.EndMap.{EndMap}
-use Rattle.papaya_schedules.specs.declared.effect.Effect.{Effect}
-use Rattle.papaya_schedules.specs.Effects.{with_effects}
-use Rattle.papaya_schedules.specs.Model.{thing_back}
-use Rattle.papaya_schedules.specs.Moment.{Moment}
-use Rattle.papaya_teller.specs.declared.changed.Changed.{Changed}
-use Rattle.papaya_effects.specs.Effects.{taken_by, effects_of, known_after}
-use Rattle.papaya_effects.specs.Known.{Known}
-use Rattle.papaya_effects.specs.declared.acting.Acting.{Acting}
-use Rattle.papaya_effects.specs.declared.acting.Acting.TheVariants as acts
-use Rattle.papaya_effects.specs.declared.role.Role.{Role}
-use Rattle.papaya_effects.specs.declared.role.Role.TheVariants as role
-use Rattle.papaya_executor.specs.Ending.{EndingStepsFrom, EndingComesTo}
-use Rattle.papaya_executor.specs.IsAt.{Scene, IsAt, slot_of}
-use Rattle.papaya_executor.specs.declared.executor.Executor.{Executor}
-use Rattle.papaya_finishes.specs.Endings.{Finishing, StepsOfEnding}
-use Rattle.papaya_finishes.specs.FactsEnds.{taken_by as taken_of}
-use Rattle.papaya_follows.specs.Blocks.{HasRole}
-use Rattle.papaya_follows.proofs.Alike.{put_here}
-use Rattle.papaya_follows.proofs.Onward.{IsOfMap}
-use Rattle.papaya_others.proofs.Ends.{left, one_taken}
-use Rattle.papaya_moments.specs.Whole.{ShowsWhole}
-use Rattle.papaya_moments.proofs.Ends.{says, end_keeps}
+use Rattle.papaya_histories.specs.Given.SeizeWords.Mem.{value_at}
+use Rattle.papaya_histories.specs.Given.Seize.Law.{holds}
+use Rattle.papaya_histories.specs.Given.Seize.World.{World, Use, IsInside, times}
+use Rattle.papaya_histories.specs.Given.Seize.declared.rows.settle.Settled.{Settled}
+use Rattle.papaya_histories.specs.Given.Tables.declared.node.Node.{Node}
+use Rattle.papaya_histories.specs.Given.Raw.declared.machines.end_map.EndMap.{EndMap}
+use Rattle.papaya_histories.specs.Given.Schedules.declared.effect.Effect.{Effect}
+use Rattle.papaya_histories.specs.Given.Schedules.Effects.{with_effects}
+use Rattle.papaya_histories.specs.Given.Schedules.Model.{thing_back}
+use Rattle.papaya_histories.specs.Given.Schedules.Moment.{Moment}
+use Rattle.papaya_histories.specs.Given.Teller.declared.changed.Changed.{Changed}
+use Rattle.papaya_histories.specs.Given.Effects.Effects.{taken_by, effects_of, known_after}
+use Rattle.papaya_histories.specs.Given.Effects.Known.{Known}
+use Rattle.papaya_histories.specs.Given.Effects.declared.acting.Acting.{Acting}
+use Rattle.papaya_histories.specs.Given.Effects.declared.acting.Acting.TheVariants as acts
+use Rattle.papaya_histories.specs.Given.Effects.declared.role.Role.{Role}
+use Rattle.papaya_histories.specs.Given.Effects.declared.role.Role.TheVariants as role
+use Rattle.papaya_histories.specs.Given.Executor.Ending.{EndingStepsFrom, EndingComesTo}
+use Rattle.papaya_histories.specs.Given.Executor.IsAt.{Scene, IsAt, slot_of}
+use Rattle.papaya_histories.specs.Given.Executor.declared.executor.Executor.{Executor}
+use Rattle.papaya_histories.specs.Given.Finishes.Endings.{Finishing, StepsOfEnding}
+use Rattle.papaya_histories.specs.Given.Finishes.FactsEnds.{taken_by as taken_of}
+use Rattle.papaya_histories.specs.Given.Follows.Blocks.{HasRole}
+use Rattle.papaya_histories.proofs.Given.Follows.Alike.{put_here}
+use Rattle.papaya_histories.proofs.Given.Follows.Onward.{IsOfMap}
+use Rattle.papaya_histories.proofs.Given.Others.Ends.{left, one_taken}
+use Rattle.papaya_histories.specs.Given.Moments.Whole.{ShowsWhole}
+use Rattle.papaya_histories.proofs.Given.Moments.Ends.{says, end_keeps}
 use Rattle.papaya_promises.specs.Others.{EndingsShelter}
 use Rattle.papaya_promises.specs.Sheltered.{GuardsAreInside, AreSheltered, SectionsHold}
 use Rattle.papaya_promises.proofs.Shelters.Lasting.{Lasts, of_map, all_last, guards_last}

@@ -1,16 +1,16 @@
 -- What is sheltered stays so, where sections go on and hold what they held.
 use Rattle.std.specs.Prelude.{◌≡◌, ℕ, ◌≤◌, true, List, ◌⊎◌}
 use Rattle.std.proofs.Common.{subst, sym, arith, inl, inr}
-use Rattle.seize.specs.Law.{holds}
-use Rattle.seize.specs.World.{World, IsInside}
-use Rattle.papaya_tables.specs.declared.node.Node.{Node}
-use Rattle.papaya_runs.specs.Present.{Present}
-use Rattle.papaya_schedules.specs.declared.effect.Thing.{Thing}
-use Rattle.papaya_schedules.specs.declared.effect.Thing.TheVariants.{APair, ATable}
-use Rattle.papaya_schedules.specs.Moment.{Sheltered}
-use Rattle.papaya_effects.specs.Known.{Known}
-use Rattle.papaya_effects.specs.declared.role.Role.{Role}
-use Rattle.papaya_follows.proofs.Onward.{IsOfMap}
+use Rattle.papaya_histories.specs.Given.Seize.Law.{holds}
+use Rattle.papaya_histories.specs.Given.Seize.World.{World, IsInside}
+use Rattle.papaya_histories.specs.Given.Tables.declared.node.Node.{Node}
+use Rattle.papaya_histories.specs.Given.Runs.Present.{Present}
+use Rattle.papaya_histories.specs.Given.Schedules.declared.effect.Thing.{Thing}
+use Rattle.papaya_histories.specs.Given.Schedules.declared.effect.Thing.TheVariants.{APair, ATable}
+use Rattle.papaya_histories.specs.Given.Schedules.Moment.{Sheltered}
+use Rattle.papaya_histories.specs.Given.Effects.Known.{Known}
+use Rattle.papaya_histories.specs.Given.Effects.declared.role.Role.{Role}
+use Rattle.papaya_histories.proofs.Given.Follows.Onward.{IsOfMap}
 use Rattle.papaya_promises.specs.Sheltered.{IsOfThing, HasCome, GuardsAreInside, IsSheltered, AreSheltered}
 use Rattle.papaya_promises.proofs.Lists.{all_of}
 

@@ -1,45 +1,45 @@
 -- A step of a row on a slot leaves sheltered what is so, and reclaims none of it.
 use Rattle.std.specs.Prelude.{◌≡◌, ◌==◌, ℕ, nat_lt, Bool, true, false, ◌||◌, ◌&&◌, List, [], ◌∷◌, Some, if◌then◌else◌}
 use Rattle.std.proofs.Common.{refl, sym, subst, ap, ◌∙◌, arith, inl}
-use Rattle.seize_words.specs.Mem.{Mem, value_at}
-use Rattle.seize_words.specs.declared.at.At.TheVariants.{Root, Used, Slot, Entry, Word}
-use Rattle.seize.specs.Law.{holds}
-use Rattle.seize.specs.World.{World, Step}
-use Rattle.seize_alone.proofs.Histories.NotTaken.{IsHeld, kept_value, still_held}
-use Rattle.seize_alone.proofs.Histories.Reached.{Reached}
-use Rattle.seize_alone.proofs.Histories.Uses.{inside_kept}
-use Rattle.papaya_tables.specs.Nodes.{deferred_word}
-use Rattle.papaya_tables.specs.declared.node.Node.{Node}
-use Rattle.papaya_runs.specs.Present.{Present}
-use Rattle.papaya_schedules.specs.declared.effect.Effect.TheVariants.{Asked}
-use Rattle.papaya_schedules.specs.declared.effect.Growth.TheVariants.{ABucket}
-use Rattle.papaya_schedules.specs.declared.effect.Table.{Table}
-use Rattle.papaya_schedules.specs.declared.effect.Thing.{Thing}
-use Rattle.papaya_schedules.specs.declared.effect.Thing.TheVariants.{APair, ATable}
-use Rattle.papaya_schedules.specs.Lists.{is_in}
-use Rattle.papaya_schedules.specs.Moment.{Sheltered, Moment}
-use Rattle.papaya_schedules.specs.Things.{same_table, same_thing}
-use Rattle.papaya_teller.specs.declared.changed.Changed.{Changed}
-use Rattle.papaya_teller.specs.declared.changed.Changed.TheVariants as changed
-use Rattle.papaya_callers.proofs.Together.Came.{came_reached}
-use Rattle.papaya_effects.specs.Effects.{names_same, taken_by, effects_of, known_after}
-use Rattle.papaya_effects.specs.Known.{Known}
-use Rattle.papaya_effects.specs.declared.acting.Acting.TheVariants.{Row}
-use Rattle.papaya_effects.specs.declared.role.Role.{Role}
-use Rattle.papaya_effects.specs.declared.role.Role.TheVariants as role
-use Rattle.papaya_executor.specs.IsAt.{Scene, IsAt, slot_of, work_of}
-use Rattle.papaya_executor.specs.OnSlots.{RowSteps, HappensAt}
-use Rattle.papaya_executor.specs.declared.executor.Executor.{Executor}
-use Rattle.papaya_executor.specs.declared.row.RowTold.{RowTold}
-use Rattle.papaya_executor.specs.declared.row.SlotRow.{SlotRow}
-use Rattle.papaya_executor.specs.declared.worker.Work.TheVariants as work
-use Rattle.papaya_executor.proofs.OnSlots.{row_at, may_taken}
-use Rattle.papaya_follows.proofs.Onward.{IsOfMap}
-use Rattle.papaya_follows.proofs.Operations.{LeavesBy, operated_leaves}
-use Rattle.papaya_follows.proofs.Told.{roomed_as_many}
-use Rattle.papaya_others.proofs.RowPlans.{TellsRow, row_tells, row_operated}
-use Rattle.papaya_spots.proofs.Calm.{put_back}
-use Rattle.papaya_moments.proofs.OnSlots.{none_some}
+use Rattle.papaya_histories.specs.Given.SeizeWords.Mem.{Mem, value_at}
+use Rattle.papaya_histories.specs.Given.SeizeWords.declared.at.At.TheVariants.{Root, Used, Slot, Entry, Word}
+use Rattle.papaya_histories.specs.Given.Seize.Law.{holds}
+use Rattle.papaya_histories.specs.Given.Seize.World.{World, Step}
+use Rattle.papaya_histories.proofs.Given.SeizeAlone.Histories.NotTaken.{IsHeld, kept_value, still_held}
+use Rattle.papaya_histories.proofs.Given.SeizeAlone.Histories.Reached.{Reached}
+use Rattle.papaya_histories.proofs.Given.SeizeAlone.Histories.Uses.{inside_kept}
+use Rattle.papaya_histories.specs.Given.Tables.Nodes.{deferred_word}
+use Rattle.papaya_histories.specs.Given.Tables.declared.node.Node.{Node}
+use Rattle.papaya_histories.specs.Given.Runs.Present.{Present}
+use Rattle.papaya_histories.specs.Given.Schedules.declared.effect.Effect.TheVariants.{Asked}
+use Rattle.papaya_histories.specs.Given.Schedules.declared.effect.Growth.TheVariants.{ABucket}
+use Rattle.papaya_histories.specs.Given.Schedules.declared.effect.Table.{Table}
+use Rattle.papaya_histories.specs.Given.Schedules.declared.effect.Thing.{Thing}
+use Rattle.papaya_histories.specs.Given.Schedules.declared.effect.Thing.TheVariants.{APair, ATable}
+use Rattle.papaya_histories.specs.Given.Schedules.Lists.{is_in}
+use Rattle.papaya_histories.specs.Given.Schedules.Moment.{Sheltered, Moment}
+use Rattle.papaya_histories.specs.Given.Schedules.Things.{same_table, same_thing}
+use Rattle.papaya_histories.specs.Given.Teller.declared.changed.Changed.{Changed}
+use Rattle.papaya_histories.specs.Given.Teller.declared.changed.Changed.TheVariants as changed
+use Rattle.papaya_histories.proofs.Given.Callers.Together.Came.{came_reached}
+use Rattle.papaya_histories.specs.Given.Effects.Effects.{names_same, taken_by, effects_of, known_after}
+use Rattle.papaya_histories.specs.Given.Effects.Known.{Known}
+use Rattle.papaya_histories.specs.Given.Effects.declared.acting.Acting.TheVariants.{Row}
+use Rattle.papaya_histories.specs.Given.Effects.declared.role.Role.{Role}
+use Rattle.papaya_histories.specs.Given.Effects.declared.role.Role.TheVariants as role
+use Rattle.papaya_histories.specs.Given.Executor.IsAt.{Scene, IsAt, slot_of, work_of}
+use Rattle.papaya_histories.specs.Given.Executor.OnSlots.{RowSteps, HappensAt}
+use Rattle.papaya_histories.specs.Given.Executor.declared.executor.Executor.{Executor}
+use Rattle.papaya_histories.specs.Given.Executor.declared.row.RowTold.{RowTold}
+use Rattle.papaya_histories.specs.Given.Executor.declared.row.SlotRow.{SlotRow}
+use Rattle.papaya_histories.specs.Given.Executor.declared.worker.Work.TheVariants as work
+use Rattle.papaya_histories.proofs.Given.Executor.OnSlots.{row_at, may_taken}
+use Rattle.papaya_histories.proofs.Given.Follows.Onward.{IsOfMap}
+use Rattle.papaya_histories.proofs.Given.Follows.Operations.{LeavesBy, operated_leaves}
+use Rattle.papaya_histories.proofs.Given.Follows.Told.{roomed_as_many}
+use Rattle.papaya_histories.proofs.Given.Others.RowPlans.{TellsRow, row_tells, row_operated}
+use Rattle.papaya_histories.proofs.Given.Spots.Calm.{put_back}
+use Rattle.papaya_histories.proofs.Given.Moments.OnSlots.{none_some}
 use Rattle.papaya_promises.specs.Shelters.{RowsShelter, NoneIsBack}
 use Rattle.papaya_promises.specs.Sheltered.{IsOfThing, GuardsAreInside, IsSheltered, AreSheltered}
 use Rattle.papaya_promises.proofs.Shelters.Lasting.{Lasts, of_map, all_last, guards_last}

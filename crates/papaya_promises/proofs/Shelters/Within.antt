@@ -1,29 +1,29 @@
 -- Over a step of a call, of a row or none, sections go on, and hold what they held.
 use Rattle.std.specs.Prelude.{◌≡◌, ℕ, Bool, true, List, [], Some}
 use Rattle.std.proofs.Common.{refl, sym, subst, inl, inr}
-use Rattle.seize.specs.Law.{Deferred, holds}
-use Rattle.seize.specs.World.{World, Use, Event, Begin, Happens, Runs, IsInside, Request, Register', Enter', Leave', LeaveOwned, Refresh, Unregister', Retire, Flush, Defer'}
-use Rattle.seize_moves.proofs.State.Held.{held_on}
-use Rattle.seize_alone.proofs.Histories.NotTaken.{still_held}
-use Rattle.seize_alone.proofs.Histories.Reached.{Reached, happens_reached}
-use Rattle.seize_alone.proofs.Histories.Uses.{inside_kept}
-use Rattle.papaya_tables.specs.Nodes.{deferred_word}
-use Rattle.papaya_tables.specs.declared.node.Node.{Node}
-use Rattle.papaya_tables.specs.declared.setting.Setting.{Setting}
-use Rattle.papaya_raw.specs.declared.machines.progress.Progress.{Progress}
-use Rattle.papaya_rule.specs.InWorld.{AllUsers}
-use Rattle.papaya_schedules.specs.Moment.{Moment}
-use Rattle.papaya_callers.specs.Together.{UnderWay, OnKey, ForRoom, Counting, OverAll, CameAbout, HandsOver, IsOneStep}
-use Rattle.papaya_callers.proofs.Rows.Users.{events_hold}
-use Rattle.papaya_callers.proofs.Together.Came.{came_reached}
-use Rattle.papaya_callers.proofs.Together.Handed.{inside_on}
-use Rattle.papaya_callers.proofs.Together.Users.{events_uses}
-use Rattle.papaya_effects.specs.Known.{Known}
-use Rattle.papaya_executor.specs.IsAt.{Scene, IsAt}
-use Rattle.papaya_executor.specs.Stepping.{StepLeads}
-use Rattle.papaya_executor.specs.declared.executor.Executor.{Executor}
-use Rattle.papaya_follows.specs.Shows.{Shows}
-use Rattle.papaya_follows.proofs.Steps.{WentTo, went_to, DidSo}
+use Rattle.papaya_histories.specs.Given.Seize.Law.{Deferred, holds}
+use Rattle.papaya_histories.specs.Given.Seize.World.{World, Use, Event, Begin, Happens, Runs, IsInside, Request, Register', Enter', Leave', LeaveOwned, Refresh, Unregister', Retire, Flush, Defer'}
+use Rattle.papaya_histories.proofs.Given.SeizeMoves.State.Held.{held_on}
+use Rattle.papaya_histories.proofs.Given.SeizeAlone.Histories.NotTaken.{still_held}
+use Rattle.papaya_histories.proofs.Given.SeizeAlone.Histories.Reached.{Reached, happens_reached}
+use Rattle.papaya_histories.proofs.Given.SeizeAlone.Histories.Uses.{inside_kept}
+use Rattle.papaya_histories.specs.Given.Tables.Nodes.{deferred_word}
+use Rattle.papaya_histories.specs.Given.Tables.declared.node.Node.{Node}
+use Rattle.papaya_histories.specs.Given.Tables.declared.setting.Setting.{Setting}
+use Rattle.papaya_histories.specs.Given.Raw.declared.machines.progress.Progress.{Progress}
+use Rattle.papaya_histories.specs.Given.Rule.InWorld.{AllUsers}
+use Rattle.papaya_histories.specs.Given.Schedules.Moment.{Moment}
+use Rattle.papaya_histories.specs.Given.Callers.Together.{UnderWay, OnKey, ForRoom, Counting, OverAll, CameAbout, HandsOver, IsOneStep}
+use Rattle.papaya_histories.proofs.Given.Callers.Rows.Users.{events_hold}
+use Rattle.papaya_histories.proofs.Given.Callers.Together.Came.{came_reached}
+use Rattle.papaya_histories.proofs.Given.Callers.Together.Handed.{inside_on}
+use Rattle.papaya_histories.proofs.Given.Callers.Together.Users.{events_uses}
+use Rattle.papaya_histories.specs.Given.Effects.Known.{Known}
+use Rattle.papaya_histories.specs.Given.Executor.IsAt.{Scene, IsAt}
+use Rattle.papaya_histories.specs.Given.Executor.Stepping.{StepLeads}
+use Rattle.papaya_histories.specs.Given.Executor.declared.executor.Executor.{Executor}
+use Rattle.papaya_histories.specs.Given.Follows.Shows.{Shows}
+use Rattle.papaya_histories.proofs.Given.Follows.Steps.{WentTo, went_to, DidSo}
 
 -- whoever is within a section is so still, and that holds what it held
 pub record GoOn {K V : Type 0} (w w2 : World (Node K V)) : Type 0 where

@@ -2,31 +2,31 @@
 use Rattle.std.specs.Prelude.{◌≢◌, Option, Some, None, IsSome, ◌==◌, if◌then◌else◌, cond}
 use Rattle.std.proofs.Common.{◌≡◌, ℕ, suc, ◌/◌, ◌<◌, ◌^◌, Bool, true, false, List, [], ◌∷◌, ◌⊎◌, inl, inr, refl, arith, ap, sym, subst, ◌∙◌, eqb-true}
 use Rattle.std.proofs.lemmas.Bool.{cases_eq, eqb-false, eq-eqb}
-use Rattle.seize_words.specs.Word.{block_in, link_to}
-use Rattle.seize_words.specs.Op.{Stored, Taken, Take}
-use Rattle.seize_words.specs.declared.at.At.TheVariants.{Root, Used, Entry}
-use Rattle.seize_words.specs.Mem.{Mem, Can, Took, value_at, word_at, with_word, with_block}
-use Rattle.seize_words.specs.Plan.{Do, Now, Ends, May, MaySee, Steps}
-use Rattle.seize_words.proofs.OneOwner.AfterWrites.{word_at-with_word}
-use Rattle.seize_words.proofs.OneOwner.Operations.{may_store, may_take, stored, taken}
-use Rattle.seize_words.proofs.Plans.{ends_if}
-use Rattle.seize.specs.declared.states.TheConstants.{NEXT}
-use Rattle.seize.specs.declared.rows.settle.Settled.{Settled}
-use Rattle.seize.specs.declared.rows.settle.Settled.TheVariants as settled
-use Rattle.seize.specs.declared.rows.reclaim_all.ReclaimAll.{ReclaimAll}
-use Rattle.seize.specs.declared.rows.reclaim_all.Reclaiming.TheVariants as at
-use Rattle.seize.specs.Further.{ListFrom}
-use Rattle.seize.specs.Law.{holds}
-use Rattle.seize.specs.ReclaimAll.{standing, next_root, to, given_back, takes, empties, unuses}
-use Rattle.seize.specs.World.{World, Hand, Use, LeftTo, IsOutside, Runs, times}
-use Rattle.seize_rule.proofs.Words.Named.{link-block}
-use Rattle.seize_alone.proofs.Histories.Uses.{none_held}
-use Rattle.papaya_tables.specs.Nodes.{deferred_word}
-use Rattle.papaya_tables.specs.declared.node.Node.{Node}
-use Rattle.papaya_tables.specs.declared.resize_mode.ResizeMode.TheVariants.{Blocking}
-use Rattle.papaya_tables.specs.declared.setting.Setting.{Setting}
-use Rattle.papaya_callers.specs.Together.{UnderWay, CameAbout}
-use Rattle.papaya_callers.proofs.Together.Came.{came_reached, came_on}
+use Rattle.papaya_finishes.specs.Given.SeizeWords.Word.{block_in, link_to}
+use Rattle.papaya_finishes.specs.Given.SeizeWords.Op.{Stored, Taken, Take}
+use Rattle.papaya_finishes.specs.Given.SeizeWords.declared.at.At.TheVariants.{Root, Used, Entry}
+use Rattle.papaya_finishes.specs.Given.SeizeWords.Mem.{Mem, Can, Took, value_at, word_at, with_word, with_block}
+use Rattle.papaya_finishes.specs.Given.SeizeWords.Plan.{Do, Now, Ends, May, MaySee, Steps}
+use Rattle.papaya_finishes.proofs.Given.SeizeWords.OneOwner.AfterWrites.{word_at-with_word}
+use Rattle.papaya_finishes.proofs.Given.SeizeWords.OneOwner.Operations.{may_store, may_take, stored, taken}
+use Rattle.papaya_finishes.proofs.Given.SeizeWords.Plans.{ends_if}
+use Rattle.papaya_finishes.specs.Given.Seize.declared.states.TheConstants.{NEXT}
+use Rattle.papaya_finishes.specs.Given.Seize.declared.rows.settle.Settled.{Settled}
+use Rattle.papaya_finishes.specs.Given.Seize.declared.rows.settle.Settled.TheVariants as settled
+use Rattle.papaya_finishes.specs.Given.Seize.declared.rows.reclaim_all.ReclaimAll.{ReclaimAll}
+use Rattle.papaya_finishes.specs.Given.Seize.declared.rows.reclaim_all.Reclaiming.TheVariants as at
+use Rattle.papaya_finishes.specs.Given.Seize.Further.{ListFrom}
+use Rattle.papaya_finishes.specs.Given.Seize.Law.{holds}
+use Rattle.papaya_finishes.specs.Given.Seize.ReclaimAll.{standing, next_root, to, given_back, takes, empties, unuses}
+use Rattle.papaya_finishes.specs.Given.Seize.World.{World, Hand, Use, LeftTo, IsOutside, Runs, times}
+use Rattle.papaya_finishes.proofs.Given.SeizeRule.Words.Named.{link-block}
+use Rattle.papaya_finishes.proofs.Given.SeizeAlone.Histories.Uses.{none_held}
+use Rattle.papaya_finishes.specs.Given.Tables.Nodes.{deferred_word}
+use Rattle.papaya_finishes.specs.Given.Tables.declared.node.Node.{Node}
+use Rattle.papaya_finishes.specs.Given.Tables.declared.resize_mode.ResizeMode.TheVariants.{Blocking}
+use Rattle.papaya_finishes.specs.Given.Tables.declared.setting.Setting.{Setting}
+use Rattle.papaya_finishes.specs.Given.Callers.Together.{UnderWay, CameAbout}
+use Rattle.papaya_finishes.proofs.Given.Callers.Together.Came.{came_reached, came_on}
 use Rattle.papaya_finishes.specs.Endings.{Finishing}
 use Rattle.papaya_finishes.specs.FactsEnds.{TakesLeft, WritesRoot, events_of, Spares}
 use Rattle.papaya_finishes.specs.Makings.{Beginning}

@@ -1,16 +1,16 @@
 -- What is put behind the tables of maps that stand, while nobody has a call on one, are pairs of theirs, in resizes that are unfinished.
 use Rattle.std.specs.Prelude.{Option, Some, None}
 use Rattle.std.proofs.Common.{◌≡◌, ℕ, zero, suc, ◌<◌, ◌≤◌, Bool, true, List, refl, arith, sym, subst, ◌∙◌}
-use Rattle.seize_words.specs.declared.at.At.TheVariants.{Word}
-use Rattle.seize_words.specs.Mem.{value_at, word_at}
-use Rattle.seize.specs.Further.{ListFrom, FurtherFrom, FurtherAre}
-use Rattle.seize.specs.WaitingSets.{is_one_of}
-use Rattle.seize.specs.World.{World, times}
+use Rattle.papaya_finishes.specs.Given.SeizeWords.declared.at.At.TheVariants.{Word}
+use Rattle.papaya_finishes.specs.Given.SeizeWords.Mem.{value_at, word_at}
+use Rattle.papaya_finishes.specs.Given.Seize.Further.{ListFrom, FurtherFrom, FurtherAre}
+use Rattle.papaya_finishes.specs.Given.Seize.WaitingSets.{is_one_of}
+use Rattle.papaya_finishes.specs.Given.Seize.World.{World, times}
 use Rattle.seize_acts.specs.Reclaimed.{IsStillHad}
 use Rattle.seize_reclaims.proofs.Roots.Once.{list_once}
-use Rattle.papaya_tables.specs.Nodes.{deferred_word}
-use Rattle.papaya_tables.specs.declared.node.Node.{Node}
-use Rattle.papaya_callers.specs.Together.{UnderWay, Together}
+use Rattle.papaya_finishes.specs.Given.Tables.Nodes.{deferred_word}
+use Rattle.papaya_finishes.specs.Given.Tables.declared.node.Node.{Node}
+use Rattle.papaya_finishes.specs.Given.Callers.Together.{UnderWay, Together}
 use Rattle.papaya_finishes.specs.Endings.{Finishing}
 use Rattle.papaya_finishes.specs.FactsEnds.{HasBehind}
 use Rattle.papaya_finishes.specs.Makings.{Beginning}

@@ -2,10 +2,10 @@
 use Rattle.std.specs.Prelude.{◌≢◌}
 use Rattle.std.proofs.Common.{◌≡◌, ℕ, zero, suc, ◌+◌, ◌<◌, ◌≤◌, List, [], ◌∷◌, ◌++◌, inl, inr, refl, arith, ap, ◌∙◌}
 use Rattle.std.proofs.lemmas.Bool.{cases_eq}
-use Rattle.seize_words.specs.Mem.{Mem}
-use Rattle.seize.specs.Further.{ListFrom}
-use Rattle.seize.specs.World.{times, with_at}
-use Rattle.seize_rule.proofs.Rows.Others.{with_here, with_other}
+use Rattle.papaya_finishes.specs.Given.SeizeWords.Mem.{Mem}
+use Rattle.papaya_finishes.specs.Given.Seize.Further.{ListFrom}
+use Rattle.papaya_finishes.specs.Given.Seize.World.{times, with_at}
+use Rattle.papaya_finishes.proofs.Given.SeizeRule.Rows.Others.{with_here, with_other}
 use Rattle.seize_reclaims.specs.Roots.{all_lists}
 use Rattle.papaya_finishes.proofs.Ends.CountedBlocks.{times-append}
 use Rattle.papaya_reclaims.proofs.Behind.Kept.{in_all}

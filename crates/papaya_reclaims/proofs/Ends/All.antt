@@ -1,32 +1,32 @@
 -- From each point, reclaiming all comes to its end.
 use Rattle.std.specs.Prelude.{Option, nat_lt, ◌==◌}
 use Rattle.std.proofs.Common.{◌≡◌, ℕ, suc, ◌+◌, ◌<◌, ◌≤◌, ◌^◌, Bool, List, ◌⊎◌, ◌∙◌, inl, inr, refl, arith, ap, sym, subst, true, []}
-use Rattle.seize_words.specs.declared.at.At.TheVariants as name
-use Rattle.seize_words.specs.Mem.{Mem, Took, value_at}
-use Rattle.seize_words.specs.Plan.{Steps}
-use Rattle.seize_words.proofs.OneOwner.Operations.{loaded, stored}
-use Rattle.seize.specs.declared.states.TheConstants.{HEAD, NEVER, FREE, IDLE, ACTIVE, LAST_SLOT}
-use Rattle.seize.specs.declared.rows.leave.Leave.{Leave}
-use Rattle.seize.specs.declared.rows.settle.Settle.{Settle}
-use Rattle.seize.specs.declared.rows.settle.Settled.{Settled}
-use Rattle.seize.specs.declared.rows.settle.Settled.TheVariants as settled
-use Rattle.seize.specs.declared.rows.reclaim_all.ReclaimAll.{ReclaimAll}
-use Rattle.seize.specs.declared.rows.reclaim_all.Reclaiming.{Reclaiming}
-use Rattle.seize.specs.declared.rows.reclaim_all.Reclaiming.TheVariants as at
-use Rattle.seize.specs.Leave.{leave_plan}
-use Rattle.seize.specs.ReclaimAll.{standing, next_head, to, within, head_read, plan_at}
-use Rattle.seize.specs.WaitingSets.{Sets, flushed}
-use Rattle.seize.specs.World.{World, Settles, Leaves, Flush, Leave', IsOutside}
-use Rattle.seize_rule.proofs.Rows.Leaving.{steps_back}
-use Rattle.seize_ends.proofs.Settling.Most.{is_going}
-use Rattle.seize_ends.proofs.Rows.Lone.{leave_to_go, leaves_lower}
-use Rattle.seize_waiting.proofs.Flushes.{flushed_frame}
-use Rattle.seize_sets.proofs.Turns.Begins.{Shown}
+use Rattle.papaya_finishes.specs.Given.SeizeWords.declared.at.At.TheVariants as name
+use Rattle.papaya_finishes.specs.Given.SeizeWords.Mem.{Mem, Took, value_at}
+use Rattle.papaya_finishes.specs.Given.SeizeWords.Plan.{Steps}
+use Rattle.papaya_finishes.proofs.Given.SeizeWords.OneOwner.Operations.{loaded, stored}
+use Rattle.papaya_finishes.specs.Given.Seize.declared.states.TheConstants.{HEAD, NEVER, FREE, IDLE, ACTIVE, LAST_SLOT}
+use Rattle.papaya_finishes.specs.Given.Seize.declared.rows.leave.Leave.{Leave}
+use Rattle.papaya_finishes.specs.Given.Seize.declared.rows.settle.Settle.{Settle}
+use Rattle.papaya_finishes.specs.Given.Seize.declared.rows.settle.Settled.{Settled}
+use Rattle.papaya_finishes.specs.Given.Seize.declared.rows.settle.Settled.TheVariants as settled
+use Rattle.papaya_finishes.specs.Given.Seize.declared.rows.reclaim_all.ReclaimAll.{ReclaimAll}
+use Rattle.papaya_finishes.specs.Given.Seize.declared.rows.reclaim_all.Reclaiming.{Reclaiming}
+use Rattle.papaya_finishes.specs.Given.Seize.declared.rows.reclaim_all.Reclaiming.TheVariants as at
+use Rattle.papaya_finishes.specs.Given.Seize.Leave.{leave_plan}
+use Rattle.papaya_finishes.specs.Given.Seize.ReclaimAll.{standing, next_head, to, within, head_read, plan_at}
+use Rattle.papaya_finishes.specs.Given.Seize.WaitingSets.{Sets, flushed}
+use Rattle.papaya_finishes.specs.Given.Seize.World.{World, Settles, Leaves, Flush, Leave', IsOutside}
+use Rattle.papaya_finishes.proofs.Given.SeizeRule.Rows.Leaving.{steps_back}
+use Rattle.papaya_finishes.proofs.Given.SeizeEnds.Settling.Most.{is_going}
+use Rattle.papaya_finishes.proofs.Given.SeizeEnds.Rows.Lone.{leave_to_go, leaves_lower}
+use Rattle.papaya_finishes.proofs.Given.SeizeWaiting.Flushes.{flushed_frame}
+use Rattle.papaya_finishes.proofs.Given.SeizeSets.Turns.Begins.{Shown}
 use Rattle.seize_reclaims.specs.AllReclaimed.{weight_at}
 use Rattle.seize_reclaims.proofs.AllReclaimed.Weights.{weight, at_next_head, head_lower, lower, leave_less, none_to_go, row_to_go}
-use Rattle.papaya_tables.specs.Nodes.{deferred_word, was_left}
-use Rattle.papaya_tables.specs.declared.node.Node.{Node}
-use Rattle.papaya_callers.specs.Together.{UnderWay}
+use Rattle.papaya_finishes.specs.Given.Tables.Nodes.{deferred_word, was_left}
+use Rattle.papaya_finishes.specs.Given.Tables.declared.node.Node.{Node}
+use Rattle.papaya_finishes.specs.Given.Callers.Together.{UnderWay}
 use Rattle.papaya_finishes.specs.Endings.{Finishing}
 use Rattle.papaya_finishes.specs.Makings.{Beginning}
 use Rattle.papaya_finishes.specs.Maps.{Standing}

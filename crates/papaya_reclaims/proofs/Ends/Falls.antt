@@ -1,24 +1,24 @@
 -- Each step of reclaiming all on roots leaves fewer points before it, or fewer blocks.
 use Rattle.std.specs.Prelude.{Option, Some, None, nat_lt, ◌==◌, if◌then◌else◌, IsSome}
 use Rattle.std.proofs.Common.{◌≡◌, ℕ, ◌+◌, ◌-◌, ◌*◌, ◌<◌, ◌≤◌, Bool, true, false, ◌⊎◌, inl, inr, refl, arith, ap, sym, subst}
-use Rattle.seize_words.specs.declared.at.At.TheVariants as name
-use Rattle.seize_words.specs.Mem.{Mem, Took, value_at, with_block}
-use Rattle.seize_words.specs.Plan.{Ends, Steps, Now, Seeing}
-use Rattle.seize_words.specs.Word.{block_in}
-use Rattle.seize_words.proofs.OneOwner.Operations.{loaded, stored, taken}
-use Rattle.seize.specs.declared.states.TheConstants.{NEXT}
-use Rattle.seize.specs.declared.rows.settle.Settled.{Settled}
-use Rattle.seize.specs.declared.rows.settle.Settled.TheVariants as settled
-use Rattle.seize.specs.declared.rows.reclaim_all.ReclaimAll.{ReclaimAll}
-use Rattle.seize.specs.declared.rows.reclaim_all.Reclaiming.{Reclaiming}
-use Rattle.seize.specs.declared.rows.reclaim_all.Reclaiming.TheVariants as at
-use Rattle.seize.specs.ReclaimAll.{standing, next_root, to, left_there, root_read, next_read, given_back, plan_at}
-use Rattle.seize_alone.specs.Alone.{blocks_in}
-use Rattle.seize_alone.proofs.Spared.Fewer.{take_fewer}
+use Rattle.papaya_finishes.specs.Given.SeizeWords.declared.at.At.TheVariants as name
+use Rattle.papaya_finishes.specs.Given.SeizeWords.Mem.{Mem, Took, value_at, with_block}
+use Rattle.papaya_finishes.specs.Given.SeizeWords.Plan.{Ends, Steps, Now, Seeing}
+use Rattle.papaya_finishes.specs.Given.SeizeWords.Word.{block_in}
+use Rattle.papaya_finishes.proofs.Given.SeizeWords.OneOwner.Operations.{loaded, stored, taken}
+use Rattle.papaya_finishes.specs.Given.Seize.declared.states.TheConstants.{NEXT}
+use Rattle.papaya_finishes.specs.Given.Seize.declared.rows.settle.Settled.{Settled}
+use Rattle.papaya_finishes.specs.Given.Seize.declared.rows.settle.Settled.TheVariants as settled
+use Rattle.papaya_finishes.specs.Given.Seize.declared.rows.reclaim_all.ReclaimAll.{ReclaimAll}
+use Rattle.papaya_finishes.specs.Given.Seize.declared.rows.reclaim_all.Reclaiming.{Reclaiming}
+use Rattle.papaya_finishes.specs.Given.Seize.declared.rows.reclaim_all.Reclaiming.TheVariants as at
+use Rattle.papaya_finishes.specs.Given.Seize.ReclaimAll.{standing, next_root, to, left_there, root_read, next_read, given_back, plan_at}
+use Rattle.papaya_finishes.specs.Given.SeizeAlone.Alone.{blocks_in}
+use Rattle.papaya_finishes.proofs.Given.SeizeAlone.Spared.Fewer.{take_fewer}
 use Rattle.seize_reclaims.specs.AllReclaimed.{weight_at}
 use Rattle.seize_reclaims.proofs.AllReclaimed.Weights.{weight}
-use Rattle.papaya_tables.specs.Nodes.{deferred_word, was_left}
-use Rattle.papaya_tables.specs.declared.node.Node.{Node}
+use Rattle.papaya_finishes.specs.Given.Tables.Nodes.{deferred_word, was_left}
+use Rattle.papaya_finishes.specs.Given.Tables.declared.node.Node.{Node}
 
 -- it works on this root, or is over
 abbrev pub IsOnRoots : ℕ → Reclaiming → Type 0

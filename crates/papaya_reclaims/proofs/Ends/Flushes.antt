@@ -1,28 +1,28 @@
 -- A flush within reclaiming all comes to its end, where what lies behind it does.
 use Rattle.std.specs.Prelude.{Option, nat_lt, if◌then◌else◌}
 use Rattle.std.proofs.Common.{◌≡◌, ℕ, ◌+◌, ◌-◌, ◌<◌, ◌≤◌, ◌^◌, Bool, true, false, List, [], ◌∷◌, ◌⊎◌, inl, inr, refl, arith, sym, subst}
-use Rattle.seize_words.specs.Mem.{Mem, Took, value_at}
-use Rattle.seize_words.specs.Plan.{Steps}
-use Rattle.seize.specs.declared.states.TheConstants.{LAST_SLOT}
-use Rattle.seize.specs.declared.rows.settle.Settle.{Settle}
-use Rattle.seize.specs.declared.rows.settle.Settled.{Settled}
-use Rattle.seize.specs.declared.rows.settle.Settled.TheVariants as settled
-use Rattle.seize.specs.declared.rows.reclaim_all.ReclaimAll.{ReclaimAll}
-use Rattle.seize.specs.declared.rows.reclaim_all.Reclaiming.{Reclaiming}
-use Rattle.seize.specs.declared.rows.reclaim_all.Reclaiming.TheVariants as at
-use Rattle.seize.specs.Settle.{settle_plan}
-use Rattle.seize.specs.ReclaimAll.{standing, next_batch, within, plan_at}
-use Rattle.seize.specs.Sequence.{Calls}
-use Rattle.seize.specs.WaitingSets.{Sets, flushed}
-use Rattle.seize.specs.World.{World, Rests, Settles, Flush, Step, Event, Runs, Steps', settles_on}
-use Rattle.seize_rule.proofs.Rows.Leaving.{steps_back}
-use Rattle.seize_rule.proofs.Rows.Others.{with_here}
-use Rattle.seize_sets.proofs.Turns.All.{calls_come}
-use Rattle.seize_sets.proofs.Turns.Begins.{Shown}
+use Rattle.papaya_finishes.specs.Given.SeizeWords.Mem.{Mem, Took, value_at}
+use Rattle.papaya_finishes.specs.Given.SeizeWords.Plan.{Steps}
+use Rattle.papaya_finishes.specs.Given.Seize.declared.states.TheConstants.{LAST_SLOT}
+use Rattle.papaya_finishes.specs.Given.Seize.declared.rows.settle.Settle.{Settle}
+use Rattle.papaya_finishes.specs.Given.Seize.declared.rows.settle.Settled.{Settled}
+use Rattle.papaya_finishes.specs.Given.Seize.declared.rows.settle.Settled.TheVariants as settled
+use Rattle.papaya_finishes.specs.Given.Seize.declared.rows.reclaim_all.ReclaimAll.{ReclaimAll}
+use Rattle.papaya_finishes.specs.Given.Seize.declared.rows.reclaim_all.Reclaiming.{Reclaiming}
+use Rattle.papaya_finishes.specs.Given.Seize.declared.rows.reclaim_all.Reclaiming.TheVariants as at
+use Rattle.papaya_finishes.specs.Given.Seize.Settle.{settle_plan}
+use Rattle.papaya_finishes.specs.Given.Seize.ReclaimAll.{standing, next_batch, within, plan_at}
+use Rattle.papaya_finishes.specs.Given.Seize.Sequence.{Calls}
+use Rattle.papaya_finishes.specs.Given.Seize.WaitingSets.{Sets, flushed}
+use Rattle.papaya_finishes.specs.Given.Seize.World.{World, Rests, Settles, Flush, Step, Event, Runs, Steps', settles_on}
+use Rattle.papaya_finishes.proofs.Given.SeizeRule.Rows.Leaving.{steps_back}
+use Rattle.papaya_finishes.proofs.Given.SeizeRule.Rows.Others.{with_here}
+use Rattle.papaya_finishes.proofs.Given.SeizeSets.Turns.All.{calls_come}
+use Rattle.papaya_finishes.proofs.Given.SeizeSets.Turns.Begins.{Shown}
 use Rattle.seize_acts.proofs.Ends.{to_go, step_less}
-use Rattle.papaya_tables.specs.Nodes.{deferred_word, was_left}
-use Rattle.papaya_tables.specs.declared.node.Node.{Node}
-use Rattle.papaya_callers.specs.Together.{UnderWay, CameAbout}
+use Rattle.papaya_finishes.specs.Given.Tables.Nodes.{deferred_word, was_left}
+use Rattle.papaya_finishes.specs.Given.Tables.declared.node.Node.{Node}
+use Rattle.papaya_finishes.specs.Given.Callers.Together.{UnderWay, CameAbout}
 use Rattle.papaya_finishes.specs.Endings.{Finishing}
 use Rattle.papaya_finishes.specs.Makings.{Beginning}
 use Rattle.papaya_reclaims.specs.Slots.{AreItsRows, Flushing, Within}

@@ -2,25 +2,25 @@
 use Rattle.std.specs.Prelude.{Option, nat_lt, ◌==◌, if◌then◌else◌}
 use Rattle.std.proofs.Common.{◌≡◌, ℕ, ◌+◌, ◌-◌, ◌<◌, ◌≤◌, ◌^◌, Bool, true, false, List, ◌⊎◌, inl, inr, refl, arith, ap, sym, subst}
 use Rattle.std.proofs.lemmas.Bool.{eqb-false}
-use Rattle.seize_words.specs.Mem.{Mem, Took, value_at}
-use Rattle.seize_words.specs.Plan.{Steps}
-use Rattle.seize.specs.declared.progress.Progress.{Progress}
-use Rattle.seize.specs.declared.rows.enter.Unregister.{Unregister}
-use Rattle.seize.specs.declared.rows.settle.Settled.{Settled}
-use Rattle.seize.specs.declared.rows.settle.Settled.TheVariants as settled
-use Rattle.seize.specs.declared.rows.reclaim_all.ReclaimAll.{ReclaimAll}
-use Rattle.seize.specs.declared.rows.reclaim_all.Reclaiming.{Reclaiming}
-use Rattle.seize.specs.declared.rows.reclaim_all.Reclaiming.TheVariants as at
-use Rattle.seize.specs.Enter.{unregister_plan}
-use Rattle.seize.specs.ReclaimAll.{standing, first_root, next_free, reclaim_all_plan, plan_at}
-use Rattle.seize.specs.World.{World}
-use Rattle.seize_alone.specs.Alone.{blocks_in}
-use Rattle.seize_rule.proofs.Rows.Leaving.{steps_back}
+use Rattle.papaya_finishes.specs.Given.SeizeWords.Mem.{Mem, Took, value_at}
+use Rattle.papaya_finishes.specs.Given.SeizeWords.Plan.{Steps}
+use Rattle.papaya_finishes.specs.Given.Seize.declared.progress.Progress.{Progress}
+use Rattle.papaya_finishes.specs.Given.Seize.declared.rows.enter.Unregister.{Unregister}
+use Rattle.papaya_finishes.specs.Given.Seize.declared.rows.settle.Settled.{Settled}
+use Rattle.papaya_finishes.specs.Given.Seize.declared.rows.settle.Settled.TheVariants as settled
+use Rattle.papaya_finishes.specs.Given.Seize.declared.rows.reclaim_all.ReclaimAll.{ReclaimAll}
+use Rattle.papaya_finishes.specs.Given.Seize.declared.rows.reclaim_all.Reclaiming.{Reclaiming}
+use Rattle.papaya_finishes.specs.Given.Seize.declared.rows.reclaim_all.Reclaiming.TheVariants as at
+use Rattle.papaya_finishes.specs.Given.Seize.Enter.{unregister_plan}
+use Rattle.papaya_finishes.specs.Given.Seize.ReclaimAll.{standing, first_root, next_free, reclaim_all_plan, plan_at}
+use Rattle.papaya_finishes.specs.Given.Seize.World.{World}
+use Rattle.papaya_finishes.specs.Given.SeizeAlone.Alone.{blocks_in}
+use Rattle.papaya_finishes.proofs.Given.SeizeRule.Rows.Leaving.{steps_back}
 use Rattle.seize_reclaims.specs.AllReclaimed.{weight_at}
 use Rattle.seize_reclaims.proofs.AllReclaimed.Weights.{weight, at_next_free}
-use Rattle.papaya_tables.specs.Nodes.{deferred_word, was_left}
-use Rattle.papaya_tables.specs.declared.node.Node.{Node}
-use Rattle.papaya_callers.specs.Together.{UnderWay}
+use Rattle.papaya_finishes.specs.Given.Tables.Nodes.{deferred_word, was_left}
+use Rattle.papaya_finishes.specs.Given.Tables.declared.node.Node.{Node}
+use Rattle.papaya_finishes.specs.Given.Callers.Together.{UnderWay}
 use Rattle.papaya_finishes.specs.Endings.{Finishing}
 use Rattle.papaya_finishes.specs.Makings.{Beginning}
 use Rattle.papaya_finishes.specs.Maps.{Standing}

@@ -2,28 +2,28 @@
 use Rattle.std.specs.Prelude.{Option, Some, ◌==◌, if◌then◌else◌}
 use Rattle.std.proofs.Common.{◌≡◌, ℕ, ◌+◌, ◌<◌, ◌≤◌, ◌^◌, Bool, true, false, List, [], ◌∷◌, length, ◌⊎◌, inl, inr, refl, arith, ap, sym, subst, ◌∙◌, eqb-true}
 use Rattle.std.proofs.lemmas.Bool.{eqb-false}
-use Rattle.seize_words.specs.declared.at.At.TheVariants as name
-use Rattle.seize_words.specs.Mem.{Mem, Took, value_at, word_at}
-use Rattle.seize_words.specs.Plan.{Ends, Steps}
-use Rattle.seize_words.proofs.OneOwner.Operations.{loaded}
-use Rattle.seize.specs.declared.states.TheConstants.{BATCH, LAST_SLOT}
-use Rattle.seize.specs.declared.rows.settle.Settled.{Settled}
-use Rattle.seize.specs.declared.rows.reclaim_all.ReclaimAll.{ReclaimAll}
-use Rattle.seize.specs.declared.rows.reclaim_all.Reclaiming.{Reclaiming}
-use Rattle.seize.specs.declared.rows.reclaim_all.Reclaiming.TheVariants as at
-use Rattle.seize.specs.Settle.{flushing}
-use Rattle.seize.specs.ReclaimAll.{standing, next_batch, to, batch_read, plan_at}
-use Rattle.seize.specs.WaitingSets.{Sets, flushed}
-use Rattle.seize.specs.World.{World, Settles, Use, IsTaken, Flush, Begin, one_more, with_row, with_use}
-use Rattle.seize_rule.proofs.Rows.Others.{with_here}
-use Rattle.seize_waiting.proofs.Flushes.{much, flushed_frame}
-use Rattle.seize_sets.proofs.Turns.Begins.{Shown}
+use Rattle.papaya_finishes.specs.Given.SeizeWords.declared.at.At.TheVariants as name
+use Rattle.papaya_finishes.specs.Given.SeizeWords.Mem.{Mem, Took, value_at, word_at}
+use Rattle.papaya_finishes.specs.Given.SeizeWords.Plan.{Ends, Steps}
+use Rattle.papaya_finishes.proofs.Given.SeizeWords.OneOwner.Operations.{loaded}
+use Rattle.papaya_finishes.specs.Given.Seize.declared.states.TheConstants.{BATCH, LAST_SLOT}
+use Rattle.papaya_finishes.specs.Given.Seize.declared.rows.settle.Settled.{Settled}
+use Rattle.papaya_finishes.specs.Given.Seize.declared.rows.reclaim_all.ReclaimAll.{ReclaimAll}
+use Rattle.papaya_finishes.specs.Given.Seize.declared.rows.reclaim_all.Reclaiming.{Reclaiming}
+use Rattle.papaya_finishes.specs.Given.Seize.declared.rows.reclaim_all.Reclaiming.TheVariants as at
+use Rattle.papaya_finishes.specs.Given.Seize.Settle.{flushing}
+use Rattle.papaya_finishes.specs.Given.Seize.ReclaimAll.{standing, next_batch, to, batch_read, plan_at}
+use Rattle.papaya_finishes.specs.Given.Seize.WaitingSets.{Sets, flushed}
+use Rattle.papaya_finishes.specs.Given.Seize.World.{World, Settles, Use, IsTaken, Flush, Begin, one_more, with_row, with_use}
+use Rattle.papaya_finishes.proofs.Given.SeizeRule.Rows.Others.{with_here}
+use Rattle.papaya_finishes.proofs.Given.SeizeWaiting.Flushes.{much, flushed_frame}
+use Rattle.papaya_finishes.proofs.Given.SeizeSets.Turns.Begins.{Shown}
 use Rattle.seize_acts.proofs.Reclaimed.Flushed.{batch_zero, flush_lower}
 use Rattle.seize_reclaims.specs.AllReclaimed.{weight_at}
 use Rattle.seize_reclaims.proofs.AllReclaimed.Weights.{weight, at_next_batch}
-use Rattle.papaya_tables.specs.Nodes.{deferred_word, was_left}
-use Rattle.papaya_tables.specs.declared.node.Node.{Node}
-use Rattle.papaya_callers.specs.Together.{UnderWay, CameAbout}
+use Rattle.papaya_finishes.specs.Given.Tables.Nodes.{deferred_word, was_left}
+use Rattle.papaya_finishes.specs.Given.Tables.declared.node.Node.{Node}
+use Rattle.papaya_finishes.specs.Given.Callers.Together.{UnderWay, CameAbout}
 use Rattle.papaya_finishes.specs.Endings.{Finishing}
 use Rattle.papaya_finishes.specs.Makings.{Beginning}
 use Rattle.papaya_reclaims.specs.Slots.{Flushing, Within}

@@ -1,11 +1,11 @@
 -- What is left over and the roots that are nobody's are as they were: what is behind roots stays.
 use Rattle.std.specs.Prelude.{Option, Some}
 use Rattle.std.proofs.Common.{◌≡◌, ℕ, zero, suc, ◌<◌, List, [], ◌∷◌, ◌⊎◌, inl, inr, refl, arith}
-use Rattle.seize_words.specs.declared.at.At.TheVariants.{Used}
-use Rattle.seize_words.specs.Mem.{word_at}
-use Rattle.seize.specs.World.{World, times}
+use Rattle.papaya_finishes.specs.Given.SeizeWords.declared.at.At.TheVariants.{Used}
+use Rattle.papaya_finishes.specs.Given.SeizeWords.Mem.{word_at}
+use Rattle.papaya_finishes.specs.Given.Seize.World.{World, times}
 use Rattle.seize_reclaims.specs.Roots.{all_lists}
-use Rattle.papaya_tables.specs.declared.node.Node.{Node}
+use Rattle.papaya_finishes.specs.Given.Tables.declared.node.Node.{Node}
 use Rattle.papaya_finishes.specs.Endings.{Finishing}
 use Rattle.papaya_finishes.specs.Makings.{Beginning}
 use Rattle.papaya_finishes.specs.Maps.{Standing}

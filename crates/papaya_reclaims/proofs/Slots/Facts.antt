@@ -2,33 +2,33 @@
 use Rattle.std.specs.Prelude.{Option, Some, None, IsSome}
 use Rattle.std.proofs.Common.{◌≡◌, ℕ, zero, suc, ◌+◌, ◌<◌, ◌≤◌, ◌^◌, true, false, List, [], ◌∷◌, length, inl, inr, refl, arith, ap, sym, subst, ◌∙◌}
 use Rattle.std.proofs.lemmas.Bool.{cases_lt}
-use Rattle.seize_words.specs.declared.at.At.TheVariants as name
-use Rattle.seize_words.specs.Mem.{word_at}
-use Rattle.seize.specs.declared.states.TheConstants.{HEAD, BATCH, LAST_SLOT}
-use Rattle.seize.specs.Law.{is_retired}
-use Rattle.seize.specs.Sequence.{RunsOn, Calls}
-use Rattle.seize.specs.WaitingSets.{Sets}
-use Rattle.seize.specs.World.{World, Use, Vacant, Outside, Request, Event, Begin, Step, Runs, IsOutside, at_start}
-use Rattle.seize_moves.proofs.State.Ghost.{is_never}
-use Rattle.seize_rule.proofs.Rows.Short.{tries_on}
-use Rattle.seize_rule.proofs.Words.Named.{words_of, word_found}
-use Rattle.seize_rule.proofs.Words.Room.{slot_there}
-use Rattle.seize_rule.proofs.World.Rested.{Rested}
-use Rattle.seize_rule.proofs.World.Start.{start_good}
-use Rattle.seize_ends.proofs.Batches.Rows.{HeldByRows, runs_held, start_held}
-use Rattle.seize_alone.specs.Alone.{TakesSteps}
-use Rattle.seize_sets.proofs.Reclaims.Ends.{none_retired}
-use Rattle.seize_sets.proofs.Reclaims.Sets.{open_none}
-use Rattle.seize_sets.proofs.Turns.Begins.{Shown}
-use Rattle.seize_sets.proofs.Turns.Heads.{has_words, has_word, idle_word}
+use Rattle.papaya_finishes.specs.Given.SeizeWords.declared.at.At.TheVariants as name
+use Rattle.papaya_finishes.specs.Given.SeizeWords.Mem.{word_at}
+use Rattle.papaya_finishes.specs.Given.Seize.declared.states.TheConstants.{HEAD, BATCH, LAST_SLOT}
+use Rattle.papaya_finishes.specs.Given.Seize.Law.{is_retired}
+use Rattle.papaya_finishes.specs.Given.Seize.Sequence.{RunsOn, Calls}
+use Rattle.papaya_finishes.specs.Given.Seize.WaitingSets.{Sets}
+use Rattle.papaya_finishes.specs.Given.Seize.World.{World, Use, Vacant, Outside, Request, Event, Begin, Step, Runs, IsOutside, at_start}
+use Rattle.papaya_finishes.proofs.Given.SeizeMoves.State.Ghost.{is_never}
+use Rattle.papaya_finishes.proofs.Given.SeizeRule.Rows.Short.{tries_on}
+use Rattle.papaya_finishes.proofs.Given.SeizeRule.Words.Named.{words_of, word_found}
+use Rattle.papaya_finishes.proofs.Given.SeizeRule.Words.Room.{slot_there}
+use Rattle.papaya_finishes.proofs.Given.SeizeRule.World.Rested.{Rested}
+use Rattle.papaya_finishes.proofs.Given.SeizeRule.World.Start.{start_good}
+use Rattle.papaya_finishes.proofs.Given.SeizeEnds.Batches.Rows.{HeldByRows, runs_held, start_held}
+use Rattle.papaya_finishes.specs.Given.SeizeAlone.Alone.{TakesSteps}
+use Rattle.papaya_finishes.proofs.Given.SeizeSets.Reclaims.Ends.{none_retired}
+use Rattle.papaya_finishes.proofs.Given.SeizeSets.Reclaims.Sets.{open_none}
+use Rattle.papaya_finishes.proofs.Given.SeizeSets.Turns.Begins.{Shown}
+use Rattle.papaya_finishes.proofs.Given.SeizeSets.Turns.Heads.{has_words, has_word, idle_word}
 use Rattle.seize_acts.specs.Reclaimed.{HasNothingLeft}
 use Rattle.seize_acts.proofs.Lost.{behind_others}
 use Rattle.seize_acts.proofs.Reclaimed.Flushed.{batch_zero}
 use Rattle.seize_acts.proofs.Reclaimed.Quiet.{quiet_sets, quiet_shown, opened_below, opened_past}
-use Rattle.papaya_tables.specs.Nodes.{deferred_word}
-use Rattle.papaya_tables.specs.declared.node.Node.{Node}
-use Rattle.papaya_callers.specs.Together.{CameAbout}
-use Rattle.papaya_callers.proofs.Together.Came.{came_reached}
+use Rattle.papaya_finishes.specs.Given.Tables.Nodes.{deferred_word}
+use Rattle.papaya_finishes.specs.Given.Tables.declared.node.Node.{Node}
+use Rattle.papaya_finishes.specs.Given.Callers.Together.{CameAbout}
+use Rattle.papaya_finishes.proofs.Given.Callers.Together.Came.{came_reached}
 use Rattle.papaya_reclaims.specs.Slots.{IsForSlots, AreItsRows, AllRest, HasNoBatch, IsQuiet}
 
 idle_outside : (u : Use) → u ≡ Outside 0 → IsOutside u

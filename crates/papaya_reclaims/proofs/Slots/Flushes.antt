@@ -2,41 +2,41 @@
 use Rattle.std.specs.Prelude.{Some, ◌==◌, if◌then◌else◌}
 use Rattle.std.proofs.Common.{◌≡◌, ℕ, suc, ◌+◌, ◌<◌, ◌≤◌, ◌^◌, Bool, true, false, [], ◌∷◌, inl, inr, refl, arith, subst, sym, ap, ◌∙◌, eqb-true}
 use Rattle.std.proofs.lemmas.Bool.{cases_eq, cases_lt}
-use Rattle.seize_words.specs.declared.at.At.TheVariants as name
-use Rattle.seize_words.specs.Mem.{Mem, Can, Took, value_at, word_at}
-use Rattle.seize_words.specs.Plan.{Ends, May, Steps}
-use Rattle.seize_words.proofs.OneOwner.Operations.{may_load, loaded}
-use Rattle.seize_words.proofs.Plans.{see_if, as_may}
-use Rattle.seize.specs.declared.states.TheConstants.{BATCH, LAST_SLOT}
-use Rattle.seize.specs.declared.progress.Progress.{Progress}
-use Rattle.seize.specs.declared.rows.enter.Unregister.{Unregister}
-use Rattle.seize.specs.declared.rows.settle.Settle.{Settle}
-use Rattle.seize.specs.declared.rows.settle.Settled.{Settled}
-use Rattle.seize.specs.declared.rows.settle.Settled.TheVariants as settled
-use Rattle.seize.specs.declared.rows.reclaim_all.ReclaimAll.{ReclaimAll}
-use Rattle.seize.specs.declared.rows.reclaim_all.Reclaiming.{Reclaiming}
-use Rattle.seize.specs.declared.rows.reclaim_all.Reclaiming.TheVariants as at
-use Rattle.seize.specs.Enter.{unregister_plan}
-use Rattle.seize.specs.Settle.{settle_plan, flushing}
-use Rattle.seize.specs.ReclaimAll.{standing, next_batch, next_free, to, within, batch_read, batches, plan_at}
-use Rattle.seize.specs.Sequence.{Calls}
-use Rattle.seize.specs.WaitingSets.{Sets, flushed}
-use Rattle.seize.specs.World.{World, Row, Rests, Settles, Frees, Use, Vacant, Outside, Changing, IsTaken, Flush, Unregister', Step, Steps', IsOutside, one_more, settle_effects, settles_on, with_row, with_use, after_step}
-use Rattle.seize_rule.proofs.Rows.Effects.{settle_one}
-use Rattle.seize_rule.proofs.Rows.Leaving.{steps_back}
-use Rattle.seize_rule.proofs.Rows.Others.{with_here}
-use Rattle.seize_rule.proofs.Rows.Taken.{settle_tells}
-use Rattle.seize_rule.proofs.World.Kept.{row_may}
-use Rattle.seize_rule.proofs.World.Rested.{calls_rested, begins_lone}
-use Rattle.seize_sets.proofs.Slots.Kept.{flush_outside, flush_vacant, given_up_vacant}
-use Rattle.seize_sets.proofs.Turns.All.{calls_come}
-use Rattle.seize_sets.proofs.Turns.Begins.{Shown}
-use Rattle.seize_waiting.proofs.Flushes.{flushed_frame}
+use Rattle.papaya_finishes.specs.Given.SeizeWords.declared.at.At.TheVariants as name
+use Rattle.papaya_finishes.specs.Given.SeizeWords.Mem.{Mem, Can, Took, value_at, word_at}
+use Rattle.papaya_finishes.specs.Given.SeizeWords.Plan.{Ends, May, Steps}
+use Rattle.papaya_finishes.proofs.Given.SeizeWords.OneOwner.Operations.{may_load, loaded}
+use Rattle.papaya_finishes.proofs.Given.SeizeWords.Plans.{see_if, as_may}
+use Rattle.papaya_finishes.specs.Given.Seize.declared.states.TheConstants.{BATCH, LAST_SLOT}
+use Rattle.papaya_finishes.specs.Given.Seize.declared.progress.Progress.{Progress}
+use Rattle.papaya_finishes.specs.Given.Seize.declared.rows.enter.Unregister.{Unregister}
+use Rattle.papaya_finishes.specs.Given.Seize.declared.rows.settle.Settle.{Settle}
+use Rattle.papaya_finishes.specs.Given.Seize.declared.rows.settle.Settled.{Settled}
+use Rattle.papaya_finishes.specs.Given.Seize.declared.rows.settle.Settled.TheVariants as settled
+use Rattle.papaya_finishes.specs.Given.Seize.declared.rows.reclaim_all.ReclaimAll.{ReclaimAll}
+use Rattle.papaya_finishes.specs.Given.Seize.declared.rows.reclaim_all.Reclaiming.{Reclaiming}
+use Rattle.papaya_finishes.specs.Given.Seize.declared.rows.reclaim_all.Reclaiming.TheVariants as at
+use Rattle.papaya_finishes.specs.Given.Seize.Enter.{unregister_plan}
+use Rattle.papaya_finishes.specs.Given.Seize.Settle.{settle_plan, flushing}
+use Rattle.papaya_finishes.specs.Given.Seize.ReclaimAll.{standing, next_batch, next_free, to, within, batch_read, batches, plan_at}
+use Rattle.papaya_finishes.specs.Given.Seize.Sequence.{Calls}
+use Rattle.papaya_finishes.specs.Given.Seize.WaitingSets.{Sets, flushed}
+use Rattle.papaya_finishes.specs.Given.Seize.World.{World, Row, Rests, Settles, Frees, Use, Vacant, Outside, Changing, IsTaken, Flush, Unregister', Step, Steps', IsOutside, one_more, settle_effects, settles_on, with_row, with_use, after_step}
+use Rattle.papaya_finishes.proofs.Given.SeizeRule.Rows.Effects.{settle_one}
+use Rattle.papaya_finishes.proofs.Given.SeizeRule.Rows.Leaving.{steps_back}
+use Rattle.papaya_finishes.proofs.Given.SeizeRule.Rows.Others.{with_here}
+use Rattle.papaya_finishes.proofs.Given.SeizeRule.Rows.Taken.{settle_tells}
+use Rattle.papaya_finishes.proofs.Given.SeizeRule.World.Kept.{row_may}
+use Rattle.papaya_finishes.proofs.Given.SeizeRule.World.Rested.{calls_rested, begins_lone}
+use Rattle.papaya_finishes.proofs.Given.SeizeSets.Slots.Kept.{flush_outside, flush_vacant, given_up_vacant}
+use Rattle.papaya_finishes.proofs.Given.SeizeSets.Turns.All.{calls_come}
+use Rattle.papaya_finishes.proofs.Given.SeizeSets.Turns.Begins.{Shown}
+use Rattle.papaya_finishes.proofs.Given.SeizeWaiting.Flushes.{flushed_frame}
 use Rattle.seize_acts.proofs.Reclaimed.Flushed.{batch_zero}
-use Rattle.papaya_tables.specs.Nodes.{deferred_word, was_left}
-use Rattle.papaya_tables.specs.declared.node.Node.{Node}
-use Rattle.papaya_callers.specs.Together.{CameAbout}
-use Rattle.papaya_callers.proofs.Together.Came.{came_reached, came_on, came_next}
+use Rattle.papaya_finishes.specs.Given.Tables.Nodes.{deferred_word, was_left}
+use Rattle.papaya_finishes.specs.Given.Tables.declared.node.Node.{Node}
+use Rattle.papaya_finishes.specs.Given.Callers.Together.{CameAbout}
+use Rattle.papaya_finishes.proofs.Given.Callers.Together.Came.{came_reached, came_on, came_next}
 use Rattle.papaya_reclaims.specs.Slots.{AllRest, HasNoBatch, Flushing, Freeing, Within}
 use Rattle.papaya_reclaims.proofs.Slots.Facts.{outside_at, rested_by, held_by, calls_run, word_here, sets_now, shown_now, open_none_now}
 use Rattle.papaya_reclaims.proofs.Slots.Rows.{goes_told, gave_told, lone_in, more_in, ends_in, settle_waits_not}

@@ -2,33 +2,33 @@
 use Rattle.std.specs.Prelude.{Option, Some, IsSome}
 use Rattle.std.proofs.Common.{◌≡◌, ℕ, zero, suc, ◌+◌, true, List, [], ◌∷◌, ◌++◌, refl, ap, sym, subst, ◌∙◌}
 use Rattle.std.proofs.lemmas.List.{append-nil}
-use Rattle.seize_words.specs.Mem.{Mem, Took, value_at}
-use Rattle.seize_words.specs.Plan.{Steps}
-use Rattle.seize.specs.declared.states.TheConstants.{LAST_SLOT}
-use Rattle.seize.specs.declared.rows.leave.Leave.{Leave}
-use Rattle.seize.specs.declared.rows.settle.Settle.{Settle}
-use Rattle.seize.specs.declared.rows.settle.Settled.TheVariants as settled
-use Rattle.seize.specs.Leave.{leave_plan}
-use Rattle.seize.specs.Law.{Effect, Taken, IsSound, is_retired}
-use Rattle.seize.specs.Sequence.{Calls, taken_in}
-use Rattle.seize.specs.Settle.{settle_plan}
-use Rattle.seize.specs.World.{World, Row, Rests, Settles, Leaves, Request, Steps'}
-use Rattle.seize_rule.proofs.Rows.Effects.{IsOneStep}
-use Rattle.seize_rule.proofs.Rows.Taken.{TellsTaken}
-use Rattle.seize_rule.proofs.World.Kept.{row_may}
-use Rattle.seize_rule.proofs.World.Rested.{Lone, begins_lone, steps_lone}
-use Rattle.seize_ends.specs.Holders.{has_batch}
-use Rattle.seize_alone.specs.Alone.{TakesSteps}
-use Rattle.seize_alone.proofs.Whole.Midway.{taken_append}
-use Rattle.seize_alone.proofs.Whole.Register.{steps_more, steps_end}
+use Rattle.papaya_finishes.specs.Given.SeizeWords.Mem.{Mem, Took, value_at}
+use Rattle.papaya_finishes.specs.Given.SeizeWords.Plan.{Steps}
+use Rattle.papaya_finishes.specs.Given.Seize.declared.states.TheConstants.{LAST_SLOT}
+use Rattle.papaya_finishes.specs.Given.Seize.declared.rows.leave.Leave.{Leave}
+use Rattle.papaya_finishes.specs.Given.Seize.declared.rows.settle.Settle.{Settle}
+use Rattle.papaya_finishes.specs.Given.Seize.declared.rows.settle.Settled.TheVariants as settled
+use Rattle.papaya_finishes.specs.Given.Seize.Leave.{leave_plan}
+use Rattle.papaya_finishes.specs.Given.Seize.Law.{Effect, Taken, IsSound, is_retired}
+use Rattle.papaya_finishes.specs.Given.Seize.Sequence.{Calls, taken_in}
+use Rattle.papaya_finishes.specs.Given.Seize.Settle.{settle_plan}
+use Rattle.papaya_finishes.specs.Given.Seize.World.{World, Row, Rests, Settles, Leaves, Request, Steps'}
+use Rattle.papaya_finishes.proofs.Given.SeizeRule.Rows.Effects.{IsOneStep}
+use Rattle.papaya_finishes.proofs.Given.SeizeRule.Rows.Taken.{TellsTaken}
+use Rattle.papaya_finishes.proofs.Given.SeizeRule.World.Kept.{row_may}
+use Rattle.papaya_finishes.proofs.Given.SeizeRule.World.Rested.{Lone, begins_lone, steps_lone}
+use Rattle.papaya_finishes.specs.Given.SeizeEnds.Holders.{has_batch}
+use Rattle.papaya_finishes.specs.Given.SeizeAlone.Alone.{TakesSteps}
+use Rattle.papaya_finishes.proofs.Given.SeizeAlone.Whole.Midway.{taken_append}
+use Rattle.papaya_finishes.proofs.Given.SeizeAlone.Whole.Register.{steps_more, steps_end}
 use Rattle.seize_acts.specs.Answers.{Grant}
 use Rattle.seize_acts.specs.Waits.{Waits}
 use Rattle.seize_acts.proofs.Steps.{steps_so}
 use Rattle.seize_acts.proofs.Waits.{row_waits}
-use Rattle.papaya_tables.specs.Nodes.{deferred_word}
-use Rattle.papaya_tables.specs.declared.node.Node.{Node}
-use Rattle.papaya_callers.specs.Together.{CameAbout}
-use Rattle.papaya_callers.proofs.Together.Came.{came_reached}
+use Rattle.papaya_finishes.specs.Given.Tables.Nodes.{deferred_word}
+use Rattle.papaya_finishes.specs.Given.Tables.declared.node.Node.{Node}
+use Rattle.papaya_finishes.specs.Given.Callers.Together.{CameAbout}
+use Rattle.papaya_finishes.proofs.Given.Callers.Together.Came.{came_reached}
 use Rattle.papaya_finishes.proofs.Ends.Memory.{taken_gone}
 use Rattle.papaya_reclaims.specs.Slots.{AllRest, Within, SlotsTold}
 use Rattle.papaya_reclaims.proofs.Slots.Facts.{rested_by, held_by}

@@ -2,24 +2,24 @@
 use Rattle.std.specs.Prelude.{Option, Some, None, nat_lt, ◌==◌, if◌then◌else◌}
 use Rattle.std.proofs.Common.{◌≡◌, ℕ, suc, ◌+◌, ◌-◌, ◌<◌, ◌≤◌, Bool, true, false, inl, inr, refl, arith, subst, sym, ◌∙◌, eqb-true}
 use Rattle.std.proofs.lemmas.Bool.{cases_lt, eqb-false}
-use Rattle.seize_words.specs.declared.at.At.TheVariants as name
-use Rattle.seize_words.specs.Mem.{word_at}
-use Rattle.seize.specs.declared.states.TheConstants.{HEAD, LAST_SLOT}
-use Rattle.seize.specs.declared.rows.reclaim_all.ReclaimAll.{ReclaimAll}
-use Rattle.seize.specs.declared.rows.reclaim_all.Reclaiming.{Reclaiming}
-use Rattle.seize.specs.declared.rows.reclaim_all.Reclaiming.TheVariants as at
-use Rattle.seize.specs.ReclaimAll.{standing, first_root, first_batch, next_head, next_batch, next_free}
-use Rattle.seize.specs.World.{World, Vacant, SlotsTaken}
-use Rattle.seize_moves.proofs.State.Ghost.{is_never}
-use Rattle.seize_rule.proofs.Words.Named.{words_of, word_found}
-use Rattle.seize_rule.proofs.World.Good.{Good}
-use Rattle.seize_rule.proofs.Words.View.{view}
-use Rattle.seize_sets.proofs.Reclaims.Ends.{untaken_vacant}
-use Rattle.seize_sets.proofs.Turns.Heads.{head_word, vacant_by, none_past, never_behind, taken_so, zero_never}
+use Rattle.papaya_finishes.specs.Given.SeizeWords.declared.at.At.TheVariants as name
+use Rattle.papaya_finishes.specs.Given.SeizeWords.Mem.{word_at}
+use Rattle.papaya_finishes.specs.Given.Seize.declared.states.TheConstants.{HEAD, LAST_SLOT}
+use Rattle.papaya_finishes.specs.Given.Seize.declared.rows.reclaim_all.ReclaimAll.{ReclaimAll}
+use Rattle.papaya_finishes.specs.Given.Seize.declared.rows.reclaim_all.Reclaiming.{Reclaiming}
+use Rattle.papaya_finishes.specs.Given.Seize.declared.rows.reclaim_all.Reclaiming.TheVariants as at
+use Rattle.papaya_finishes.specs.Given.Seize.ReclaimAll.{standing, first_root, first_batch, next_head, next_batch, next_free}
+use Rattle.papaya_finishes.specs.Given.Seize.World.{World, Vacant, SlotsTaken}
+use Rattle.papaya_finishes.proofs.Given.SeizeMoves.State.Ghost.{is_never}
+use Rattle.papaya_finishes.proofs.Given.SeizeRule.Words.Named.{words_of, word_found}
+use Rattle.papaya_finishes.proofs.Given.SeizeRule.World.Good.{Good}
+use Rattle.papaya_finishes.proofs.Given.SeizeRule.Words.View.{view}
+use Rattle.papaya_finishes.proofs.Given.SeizeSets.Reclaims.Ends.{untaken_vacant}
+use Rattle.papaya_finishes.proofs.Given.SeizeSets.Turns.Heads.{head_word, vacant_by, none_past, never_behind, taken_so, zero_never}
 use Rattle.seize_acts.proofs.Slots.{head_none}
-use Rattle.papaya_tables.specs.Nodes.{deferred_word}
-use Rattle.papaya_tables.specs.declared.node.Node.{Node}
-use Rattle.papaya_callers.specs.Together.{CameAbout}
+use Rattle.papaya_finishes.specs.Given.Tables.Nodes.{deferred_word}
+use Rattle.papaya_finishes.specs.Given.Tables.declared.node.Node.{Node}
+use Rattle.papaya_finishes.specs.Given.Callers.Together.{CameAbout}
 use Rattle.papaya_reclaims.specs.Slots.{AllRest, HasNoBatch, IsQuiet, Settling, Flushing, Freeing, OnSlotsAt}
 use Rattle.papaya_reclaims.proofs.Slots.Facts.{outside_at, rested_by, word_behind, never_none}
 

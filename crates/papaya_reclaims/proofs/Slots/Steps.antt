@@ -2,37 +2,37 @@
 use Rattle.std.specs.Prelude.{Option, Some, IsSome, nat_lt, ◌==◌, if◌then◌else◌}
 use Rattle.std.proofs.Common.{◌≡◌, ℕ, suc, ◌+◌, ◌<◌, ◌≤◌, ◌^◌, Bool, true, false, List, [], ◌∷◌, inl, inr, refl, arith, subst, sym, ap, ◌∙◌, eqb-true}
 use Rattle.std.proofs.lemmas.Bool.{cases_eq}
-use Rattle.seize_words.specs.declared.at.At.TheVariants as name
-use Rattle.seize_words.specs.Mem.{Mem, Can, Took, value_at, word_at}
-use Rattle.seize_words.specs.Plan.{Ends, May, Steps}
-use Rattle.seize_words.proofs.OneOwner.AfterWrites.{word_at-with_word}
-use Rattle.seize_words.proofs.OneOwner.Operations.{may_load, may_store, loaded, stored}
-use Rattle.seize_words.proofs.Plans.{see_if, as_may}
-use Rattle.seize.specs.declared.states.TheConstants.{HEAD, NEVER, FREE, IDLE, ACTIVE, LAST_SLOT}
-use Rattle.seize.specs.declared.rows.leave.Leave.{Leave}
-use Rattle.seize.specs.declared.rows.settle.Settled.{Settled}
-use Rattle.seize.specs.declared.rows.settle.Settled.TheVariants as settled
-use Rattle.seize.specs.declared.rows.reclaim_all.ReclaimAll.{ReclaimAll}
-use Rattle.seize.specs.declared.rows.reclaim_all.Reclaiming.{Reclaiming}
-use Rattle.seize.specs.declared.rows.reclaim_all.Reclaiming.TheVariants as at
-use Rattle.seize.specs.Leave.{leave_plan, leaving}
-use Rattle.seize.specs.ReclaimAll.{standing, first_batch, next_head, to, within, head_read, heads, plan_at}
-use Rattle.seize.specs.Sequence.{taken_in}
-use Rattle.seize.specs.World.{World, Row, Rests, Leaves, Outside, Changing, Request, Register', Leave', Event, Begin, Step, Steps', Runs, Begins, leave_effects, leaves_on, with_row, with_use}
-use Rattle.seize_rule.proofs.Rows.Effects.{leave_one}
-use Rattle.seize_rule.proofs.Rows.Leaving.{steps_back}
-use Rattle.seize_rule.proofs.Rows.LeavesTold.{leave_tells}
-use Rattle.seize_rule.proofs.Rows.Others.{with_here}
-use Rattle.seize_rule.proofs.Words.Named.{same_at-refl}
-use Rattle.seize_rule.proofs.World.Kept.{row_may}
-use Rattle.seize_rule.proofs.World.Rested.{calls_rested}
-use Rattle.seize_sets.proofs.Slots.Kept.{leave_idles}
-use Rattle.seize_sets.proofs.Slots.Retaken.{retaken, retaken_idle}
-use Rattle.seize_sets.proofs.Turns.Heads.{word_says, outside_by, inside_by}
-use Rattle.papaya_tables.specs.Nodes.{deferred_word, was_left}
-use Rattle.papaya_tables.specs.declared.node.Node.{Node}
-use Rattle.papaya_callers.specs.Together.{CameAbout}
-use Rattle.papaya_callers.proofs.Together.Came.{came_reached, came_on, came_next}
+use Rattle.papaya_finishes.specs.Given.SeizeWords.declared.at.At.TheVariants as name
+use Rattle.papaya_finishes.specs.Given.SeizeWords.Mem.{Mem, Can, Took, value_at, word_at}
+use Rattle.papaya_finishes.specs.Given.SeizeWords.Plan.{Ends, May, Steps}
+use Rattle.papaya_finishes.proofs.Given.SeizeWords.OneOwner.AfterWrites.{word_at-with_word}
+use Rattle.papaya_finishes.proofs.Given.SeizeWords.OneOwner.Operations.{may_load, may_store, loaded, stored}
+use Rattle.papaya_finishes.proofs.Given.SeizeWords.Plans.{see_if, as_may}
+use Rattle.papaya_finishes.specs.Given.Seize.declared.states.TheConstants.{HEAD, NEVER, FREE, IDLE, ACTIVE, LAST_SLOT}
+use Rattle.papaya_finishes.specs.Given.Seize.declared.rows.leave.Leave.{Leave}
+use Rattle.papaya_finishes.specs.Given.Seize.declared.rows.settle.Settled.{Settled}
+use Rattle.papaya_finishes.specs.Given.Seize.declared.rows.settle.Settled.TheVariants as settled
+use Rattle.papaya_finishes.specs.Given.Seize.declared.rows.reclaim_all.ReclaimAll.{ReclaimAll}
+use Rattle.papaya_finishes.specs.Given.Seize.declared.rows.reclaim_all.Reclaiming.{Reclaiming}
+use Rattle.papaya_finishes.specs.Given.Seize.declared.rows.reclaim_all.Reclaiming.TheVariants as at
+use Rattle.papaya_finishes.specs.Given.Seize.Leave.{leave_plan, leaving}
+use Rattle.papaya_finishes.specs.Given.Seize.ReclaimAll.{standing, first_batch, next_head, to, within, head_read, heads, plan_at}
+use Rattle.papaya_finishes.specs.Given.Seize.Sequence.{taken_in}
+use Rattle.papaya_finishes.specs.Given.Seize.World.{World, Row, Rests, Leaves, Outside, Changing, Request, Register', Leave', Event, Begin, Step, Steps', Runs, Begins, leave_effects, leaves_on, with_row, with_use}
+use Rattle.papaya_finishes.proofs.Given.SeizeRule.Rows.Effects.{leave_one}
+use Rattle.papaya_finishes.proofs.Given.SeizeRule.Rows.Leaving.{steps_back}
+use Rattle.papaya_finishes.proofs.Given.SeizeRule.Rows.LeavesTold.{leave_tells}
+use Rattle.papaya_finishes.proofs.Given.SeizeRule.Rows.Others.{with_here}
+use Rattle.papaya_finishes.proofs.Given.SeizeRule.Words.Named.{same_at-refl}
+use Rattle.papaya_finishes.proofs.Given.SeizeRule.World.Kept.{row_may}
+use Rattle.papaya_finishes.proofs.Given.SeizeRule.World.Rested.{calls_rested}
+use Rattle.papaya_finishes.proofs.Given.SeizeSets.Slots.Kept.{leave_idles}
+use Rattle.papaya_finishes.proofs.Given.SeizeSets.Slots.Retaken.{retaken, retaken_idle}
+use Rattle.papaya_finishes.proofs.Given.SeizeSets.Turns.Heads.{word_says, outside_by, inside_by}
+use Rattle.papaya_finishes.specs.Given.Tables.Nodes.{deferred_word, was_left}
+use Rattle.papaya_finishes.specs.Given.Tables.declared.node.Node.{Node}
+use Rattle.papaya_finishes.specs.Given.Callers.Together.{CameAbout}
+use Rattle.papaya_finishes.proofs.Given.Callers.Together.Came.{came_reached, came_on, came_next}
 use Rattle.papaya_reclaims.specs.Slots.{AreItsRows, Settling, Within, SlotsTold}
 use Rattle.papaya_reclaims.proofs.Slots.Facts.{rested_by, calls_run}
 use Rattle.papaya_reclaims.proofs.Slots.Rows.{goes_told, gave_told, lone_in, more_in, ends_in, leave_waits_not}

@@ -5,8 +5,8 @@ use Rattle.std.proofs.lemmas.Bool.{eq-eqb, ne_eqb, lt-ltb, le-ltb}
 use Rattle.papaya_runs.specs.declared.event.Event.TheVariants as event
 use Rattle.papaya_runs.specs.declared.holders.Guard.{Guard}
 use Rattle.papaya_runs.specs.declared.holders.Registration.{Registration}
-use Rattle.papaya_tables.specs.Nodes.{deferred_word}
-use Rattle.papaya_tables.specs.declared.node.Node.{Node}
+use Rattle.papaya_maps.specs.Given.Tables.Nodes.{deferred_word}
+use Rattle.papaya_maps.specs.Given.Tables.declared.node.Node.{Node}
 use Rattle.papaya_maps.proofs.Laws.{rests_as_slots_change}
 use Rattle.papaya_calls.specs.declared.numbered.Numbered.{Numbered}
 use Rattle.papaya_runs.specs.declared.outcome.Outcome.{Outcome}
@@ -32,10 +32,10 @@ use Rattle.papaya_stands.proofs.Collector.Stays.{stays_collected, taken_spared, 
 use Rattle.papaya_runner.proofs.Holders.Unregisters.{use_by}
 use Rattle.seize_words.specs.Mem.{Mem}
 use Rattle.seize_words.specs.declared.fault.Fault.TheVariants.{Busy, GuardsFull}
-use Rattle.seize.specs.WaitingSets.{Sets, After, Enters, changed, all_changed, at_start, with_slot}
-use Rattle.seize.specs.World.{Use, Inside, Outside, Vacant}
-use Rattle.seize_waiting.specs.Changes.{MayChange}
-use Rattle.seize_waiting.proofs.Laws.{changes_keep}
+use Rattle.papaya_maps.specs.Given.Seize.WaitingSets.{Sets, After, Enters, changed, all_changed, at_start, with_slot}
+use Rattle.papaya_maps.specs.Given.Seize.World.{Use, Inside, Outside, Vacant}
+use Rattle.papaya_maps.specs.Given.SeizeWaiting.Changes.{MayChange}
+use Rattle.papaya_maps.proofs.Given.SeizeWaiting.Laws.{changes_keep}
 use Rattle.seize_alone.specs.Alone.{History, IsHistory, Spares, SameLinks, entered}
 use Rattle.seize_alone.proofs.Laws.{outsides_are_not}
 

@@ -15,8 +15,8 @@ use Rattle.papaya_stands.proofs.Holders.Names.{forgets_named}
 use Rattle.papaya_stands.proofs.Holders.Homes.{forgets_homes}
 use Rattle.papaya_runner.proofs.Standing.Moved.{as_of, stands_so, turns_so, turned, spared_at, still_at, no_effects}
 use Rattle.papaya_stands.proofs.Collector.Stays.{others_collected}
-use Rattle.seize.specs.WaitingSets.{quietly}
-use Rattle.seize.specs.World.{Inside, Outside, Vacant}
+use Rattle.papaya_maps.specs.Given.Seize.WaitingSets.{quietly}
+use Rattle.papaya_maps.specs.Given.Seize.World.{Inside, Outside, Vacant}
 use Rattle.seize_words.specs.declared.fault.Fault.TheVariants.{Busy}
 
 -- a guard that lives has a slot, and no other has one

@@ -3,12 +3,12 @@ use Rattle.std.specs.Prelude.{Some, None, ◌==◌, if◌then◌else◌}
 use Rattle.std.proofs.Common.{◌≡◌, ℕ, Bool, true, false, List, [], ◌∷◌, refl, sym, ap, subst, eqb-true, ◌∙◌, arith}
 use Rattle.seize_words.specs.Mem.{Mem}
 use Rattle.seize_words.specs.declared.fault.Fault.TheVariants.{Busy}
-use Rattle.seize.specs.WaitingSets.{Change, Leaves, Refreshes, Flushes, After, quietly, changed, all_changed}
-use Rattle.seize.specs.World.{Row, Use, Vacant, Inside, Request, Leave', Refresh, Flush, IsTaken, with_at}
-use Rattle.seize_waiting.proofs.Laws.{others_are_left_alone}
+use Rattle.papaya_maps.specs.Given.Seize.WaitingSets.{Change, Leaves, Refreshes, Flushes, After, quietly, changed, all_changed}
+use Rattle.papaya_maps.specs.Given.Seize.World.{Row, Use, Vacant, Inside, Request, Leave', Refresh, Flush, IsTaken, with_at}
+use Rattle.papaya_maps.proofs.Given.SeizeWaiting.Laws.{others_are_left_alone}
 use Rattle.seize_alone.specs.Alone.{IsMidway}
-use Rattle.papaya_tables.specs.Nodes.{deferred_word}
-use Rattle.papaya_tables.specs.declared.node.Node.{Node}
+use Rattle.papaya_maps.specs.Given.Tables.Nodes.{deferred_word}
+use Rattle.papaya_maps.specs.Given.Tables.declared.node.Node.{Node}
 use Rattle.papaya_runs.specs.declared.event.Event.TheVariants as event
 use Rattle.papaya_runs.specs.declared.outcome.Outcome.TheVariants.{Done, Refused}
 use Rattle.papaya_runs.specs.Log.{if_only}

@@ -6,8 +6,8 @@ use Rattle.std.proofs.lemmas.List.{append-nil}
 use Rattle.std.proofs.Math.Nat.{le-max_left, le-max_right, max-le}
 use Rattle.papaya_runs.specs.declared.event.Event.TheVariants as event
 use Rattle.papaya_runs.specs.declared.holders.Registration.{Registration}
-use Rattle.papaya_tables.specs.Nodes.{deferred_word}
-use Rattle.papaya_tables.specs.declared.node.Node.{Node}
+use Rattle.papaya_maps.specs.Given.Tables.Nodes.{deferred_word}
+use Rattle.papaya_maps.specs.Given.Tables.declared.node.Node.{Node}
 use Rattle.papaya_maps.proofs.Laws.{rests_as_slots_change}
 use Rattle.papaya_calls.specs.declared.numbered.Numbered.{Numbered}
 use Rattle.papaya_runs.specs.declared.outcome.Outcome.TheVariants.{Refused, Slot}
@@ -27,10 +27,10 @@ use Rattle.seize_words.specs.Mem.{Mem, word_at}
 use Rattle.seize_words.specs.declared.at.At.TheVariants as word
 use Rattle.seize_words.specs.declared.fault.Fault.{Fault}
 use Rattle.seize_words.specs.declared.fault.Fault.TheVariants.{Busy, Memory, SlotsUsedUp}
-use Rattle.seize.specs.declared.states.TheConstants.{HEAD, NEVER, LAST_SLOT}
-use Rattle.seize.specs.WaitingSets.{quietly}
+use Rattle.papaya_maps.specs.Given.Seize.declared.states.TheConstants.{HEAD, NEVER, LAST_SLOT}
+use Rattle.papaya_maps.specs.Given.Seize.WaitingSets.{quietly}
 use Rattle.papaya_stands.proofs.Collector.Changed.{state_after}
-use Rattle.seize.specs.World.{Outside, Vacant}
+use Rattle.papaya_maps.specs.Given.Seize.World.{Outside, Vacant}
 use Rattle.seize_alone.specs.Alone.{History, Spares, SameLinks, IsRefusal, TellsSlot, registered}
 use Rattle.seize_alone.specs.Laws.{IsFirstVacant}
 use Rattle.seize_alone.proofs.Laws.{new_slot_is_first, no_new_slot_none_vacant, registered_slots_say}

@@ -4,8 +4,8 @@ use Rattle.std.proofs.Common.{◌≡◌, ℕ, ◌≤◌, Bool, true, false, List
 use Rattle.std.proofs.lemmas.Bool.{eq-eqb}
 use Rattle.papaya_runs.specs.declared.event.Event.TheVariants as event
 use Rattle.papaya_runs.specs.declared.holders.Registration.{Registration}
-use Rattle.papaya_tables.specs.Nodes.{deferred_word}
-use Rattle.papaya_tables.specs.declared.node.Node.{Node}
+use Rattle.papaya_maps.specs.Given.Tables.Nodes.{deferred_word}
+use Rattle.papaya_maps.specs.Given.Tables.declared.node.Node.{Node}
 use Rattle.papaya_maps.proofs.Laws.{rests_as_slots_change}
 use Rattle.papaya_calls.specs.declared.numbered.Numbered.{Numbered}
 use Rattle.papaya_runs.specs.declared.outcome.Outcome.TheVariants.{Done, Refused}
@@ -21,9 +21,9 @@ use Rattle.papaya_stands.proofs.Holders.Homes.{unregisters_homes}
 use Rattle.papaya_stands.proofs.Collector.Stays.{stays_collected, taken_spared, had_at}
 use Rattle.seize_words.specs.Mem.{Mem}
 use Rattle.seize_words.specs.declared.fault.Fault.TheVariants.{Busy}
-use Rattle.seize.specs.WaitingSets.{quietly}
+use Rattle.papaya_maps.specs.Given.Seize.WaitingSets.{quietly}
 use Rattle.papaya_stands.proofs.Collector.Changed.{state_after}
-use Rattle.seize.specs.World.{Use, Inside, Outside, Vacant}
+use Rattle.papaya_maps.specs.Given.Seize.World.{Use, Inside, Outside, Vacant}
 use Rattle.seize_alone.specs.Alone.{History, IsHistory, Spares, SameLinks, given_up}
 
 -- the use of a slot by two tests

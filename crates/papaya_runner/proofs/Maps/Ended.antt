@@ -4,10 +4,10 @@ use Rattle.std.proofs.Common.{◌≡◌, ℕ, ◌<◌, ◌^◌, Bool, true, fals
 use Rattle.std.proofs.lemmas.List.{append-nil}
 use Rattle.seize_words.specs.declared.fault.Fault.TheVariants.{Busy}
 use Rattle.seize_words.specs.Mem.{Mem}
-use Rattle.seize.specs.WaitingSets.{After, quietly}
-use Rattle.seize_waiting.proofs.Laws.{ends_leave}
+use Rattle.papaya_maps.specs.Given.Seize.WaitingSets.{After, quietly}
+use Rattle.papaya_maps.proofs.Given.SeizeWaiting.Laws.{ends_leave}
 use Rattle.papaya_raw.specs.EndMap.{ending}
-use Rattle.papaya_tables.specs.declared.node.Node.{Node}
+use Rattle.papaya_maps.specs.Given.Tables.declared.node.Node.{Node}
 use Rattle.papaya_raw.specs.declared.machines.end_map.EndMap.{EndMap}
 use Rattle.papaya_maps.proofs.Laws.{same_slots_are_kept}
 use Rattle.papaya_runs.specs.declared.event.Event.TheVariants as event

@@ -6,15 +6,15 @@ use Rattle.seize_words.specs.SlotWords.{slot_word}
 use Rattle.seize_words.specs.declared.fault.Fault.{Fault}
 use Rattle.seize_words.specs.declared.fault.Fault.TheVariants.{Busy, Memory}
 use Rattle.seize_words.specs.Mem.{Mem}
-use Rattle.seize.specs.declared.states.TheConstants.{HEAD}
+use Rattle.papaya_maps.specs.Given.Seize.declared.states.TheConstants.{HEAD}
 use Rattle.seize_alone.specs.Alone.{IsHistory}
-use Rattle.seize.specs.WaitingSets.{quietly}
-use Rattle.papaya_tables.specs.declared.node.Node.{Node}
-use Rattle.papaya_tables.specs.declared.resize_mode.ResizeMode.{ResizeMode}
-use Rattle.papaya_tables.specs.declared.setting.Setting.{Setting}
-use Rattle.papaya_resize.specs.declared.new_map.NewMap.{NewMap}
-use Rattle.papaya_resize.specs.NewMap.{opening}
-use Rattle.papaya_tables.specs.Nodes.{deferred_word}
+use Rattle.papaya_maps.specs.Given.Seize.WaitingSets.{quietly}
+use Rattle.papaya_maps.specs.Given.Tables.declared.node.Node.{Node}
+use Rattle.papaya_maps.specs.Given.Tables.declared.resize_mode.ResizeMode.{ResizeMode}
+use Rattle.papaya_maps.specs.Given.Tables.declared.setting.Setting.{Setting}
+use Rattle.papaya_maps.specs.Given.Resize.declared.new_map.NewMap.{NewMap}
+use Rattle.papaya_maps.specs.Given.Resize.NewMap.{opening}
+use Rattle.papaya_maps.specs.Given.Tables.Nodes.{deferred_word}
 use Rattle.papaya_maps.specs.FactsBegins.{IsNew}
 use Rattle.papaya_runs.specs.declared.event.Event.{Event}
 use Rattle.papaya_runs.specs.declared.event.Event.TheVariants as event

@@ -2,9 +2,9 @@
 use Rattle.std.specs.Prelude.{is_some, Option, Some, None}
 use Rattle.std.proofs.Common.{◌≡◌, ℕ, Bool, false, [], refl, sym, ap, subst}
 use Rattle.seize_words.specs.Mem.{Mem}
-use Rattle.seize.specs.WaitingSets.{After, all_reclaimed}
-use Rattle.seize.specs.World.{Vacant}
-use Rattle.papaya_tables.specs.declared.node.Node.{Node}
+use Rattle.papaya_maps.specs.Given.Seize.WaitingSets.{After, all_reclaimed}
+use Rattle.papaya_maps.specs.Given.Seize.World.{Vacant}
+use Rattle.papaya_maps.specs.Given.Tables.declared.node.Node.{Node}
 use Rattle.papaya_runs.specs.Present.{Present, nobody}
 use Rattle.papaya_runs.specs.State.{State}
 use Rattle.papaya_runner.specs.AllGiven.{GivesAll, all_given}

@@ -4,8 +4,8 @@ use Rattle.std.proofs.Common.{◌≡◌, ℕ, Bool, true, false, ◌++◌, inl, 
 use Rattle.seize_words.specs.declared.fault.Fault.TheVariants.{Busy}
 use Rattle.seize_words.specs.Mem.{Mem}
 use Rattle.seize_alone.specs.Alone.{History}
-use Rattle.seize.specs.WaitingSets.{After}
-use Rattle.papaya_tables.specs.declared.node.Node.{Node}
+use Rattle.papaya_maps.specs.Given.Seize.WaitingSets.{After}
+use Rattle.papaya_maps.specs.Given.Tables.declared.node.Node.{Node}
 use Rattle.papaya_runs.specs.declared.event.Event.TheVariants as event
 use Rattle.papaya_runs.specs.declared.outcome.Outcome.TheVariants.{Done, Refused}
 use Rattle.papaya_runs.specs.Effects.{reclaim_of}

@@ -3,7 +3,7 @@ use Rattle.std.specs.Prelude.{◌==◌, ◌&&◌, map}
 use Rattle.std.proofs.Common.{◌≡◌, ℕ, ◌+◌, Bool, true, false, List, [], ◌∷◌, ◌++◌, length, refl, sym, ap, subst, arith, eqb-true, ◌∙◌}
 use Rattle.std.proofs.lemmas.List.{append-nil}
 use Rattle.seize_words.specs.declared.fault.Fault.TheVariants.{Busy}
-use Rattle.seize.specs.WaitingSets.{After, ReclaimsAll, all_reclaimed, all_changed}
+use Rattle.papaya_maps.specs.Given.Seize.WaitingSets.{After, ReclaimsAll, all_reclaimed, all_changed}
 use Rattle.papaya_runs.specs.declared.event.Event.TheVariants as event
 use Rattle.papaya_runs.specs.declared.holders.Guard.{Guard}
 use Rattle.papaya_runs.specs.declared.holders.Registration.{Registration}

@@ -2,8 +2,8 @@
 use Rattle.std.proofs.Common.{◌≡◌, ℕ, Bool, [], ◌∷◌, ◌++◌, refl, sym, subst}
 use Rattle.seize_words.specs.Mem.{Mem}
 use Rattle.seize_alone.proofs.Laws.{choices_are_quiet}
-use Rattle.papaya_tables.specs.Nodes.{deferred_word}
-use Rattle.papaya_tables.specs.declared.node.Node.{Node}
+use Rattle.papaya_maps.specs.Given.Tables.Nodes.{deferred_word}
+use Rattle.papaya_maps.specs.Given.Tables.declared.node.Node.{Node}
 use Rattle.papaya_maps.proofs.Laws.{rests_as_chosen}
 use Rattle.papaya_runs.specs.State.{State}
 use Rattle.papaya_stands.specs.Collects.{Collects, use_of}

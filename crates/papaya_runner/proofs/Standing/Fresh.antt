@@ -2,8 +2,8 @@
 use Rattle.std.specs.Prelude.{None}
 use Rattle.std.proofs.Common.{◌≡◌, ℕ, ◌<◌, ◌≤◌, ◌^◌, Bool, false, [], refl, sym, subst, arith}
 use Rattle.seize_words.specs.Mem.{Mem}
-use Rattle.papaya_tables.specs.declared.node.Node.{Node}
-use Rattle.papaya_points.specs.Steps.{AreLawful}
+use Rattle.papaya_maps.specs.Given.Tables.declared.node.Node.{Node}
+use Rattle.papaya_maps.specs.Given.Points.Steps.{AreLawful}
 use Rattle.papaya_runs.specs.Present.{Present, nobody}
 use Rattle.papaya_runs.specs.State.{fresh}
 use Rattle.papaya_runner.specs.Stands.{IsAt}

@@ -2,11 +2,11 @@
 use Rattle.std.specs.Prelude.{map}
 use Rattle.std.proofs.Common.{◌≡◌, ℕ, ◌+◌, ◌<◌, ◌≤◌, ◌^◌, Bool, List, [], ◌++◌, length, sym, ap, arith, ◌∙◌}
 use Rattle.seize_words.specs.Mem.{Mem}
-use Rattle.seize.specs.WaitingSets.{Change, After, changed}
-use Rattle.seize.specs.World.{Row, Vacant, Request}
+use Rattle.papaya_maps.specs.Given.Seize.WaitingSets.{Change, After, changed}
+use Rattle.papaya_maps.specs.Given.Seize.World.{Row, Vacant, Request}
 use Rattle.seize_alone.specs.Alone.{History, IsMidway, given_back, uses_after}
-use Rattle.papaya_tables.specs.Nodes.{deferred_word}
-use Rattle.papaya_tables.specs.declared.node.Node.{Node}
+use Rattle.papaya_maps.specs.Given.Tables.Nodes.{deferred_word}
+use Rattle.papaya_maps.specs.Given.Tables.declared.node.Node.{Node}
 use Rattle.papaya_runs.specs.declared.record.Pair.{Pair}
 use Rattle.papaya_runs.specs.Effects.{pairs_among, tables_among, reclaim_of}
 use Rattle.papaya_runs.specs.Present.{Present, HaveNames, HaveHomes}

@@ -9,7 +9,7 @@ use Rattle.papaya_runs.specs.Log.{is_mapped_on}
 use Rattle.papaya_runs.specs.OwnEffects.{is_more}
 use Rattle.papaya_runs.specs.Runs.{ComesAfter, map_fault}
 use Rattle.papaya_runs.specs.State.{State, Answers, Acts, Hands, after, effects_of}
-use Rattle.seize.specs.WaitingSets.{quietly}
+use Rattle.papaya_maps.specs.Given.Seize.WaitingSets.{quietly}
 use Rattle.seize_words.specs.declared.fault.Fault.{Fault}
 use Rattle.seize_words.specs.declared.fault.Fault.TheVariants.{Busy}
 use Rattle.papaya_runner.specs.Stands.{IsAt, quiet}

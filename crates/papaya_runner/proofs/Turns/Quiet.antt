@@ -1,7 +1,7 @@
 -- Events that do nothing to who is there, nor to the map.
 use Rattle.std.specs.Prelude.{not, ◌&&◌, MatchBool, if◌then◌else◌, Option, Some, None}
 use Rattle.std.proofs.Common.{◌≡◌, ℕ, Bool, true, false, List, [], refl, sym, ap, subst, ◌∙◌}
-use Rattle.seize.specs.WaitingSets.{quietly}
+use Rattle.papaya_maps.specs.Given.Seize.WaitingSets.{quietly}
 use Rattle.seize_words.specs.declared.fault.Fault.TheVariants.{Busy}
 use Rattle.papaya_runs.specs.declared.event.Call.{Call}
 use Rattle.papaya_runs.specs.declared.event.Event.{Event}

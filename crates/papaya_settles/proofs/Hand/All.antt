@@ -1,25 +1,25 @@
 -- What a call has in hand goes with the effects of each of its steps, whichever call it is, and whether the step is one of a row or not.
 use Rattle.std.specs.Prelude.{◌≡◌, ℕ, Bool, List, [], Some, ◌⊎◌}
 use Rattle.std.proofs.Common.{ap, sym, subst, inl, inr}
-use Rattle.papaya_tables.specs.declared.node.Node.{Node}
-use Rattle.papaya_raw.specs.declared.machines.call.Calling.{Calling}
-use Rattle.papaya_raw.specs.declared.machines.call.Calling.TheVariants as at
-use Rattle.papaya_raw.specs.declared.machines.progress.Progress.{Progress}
-use Rattle.papaya_schedules.specs.Moment.{Moment}
-use Rattle.papaya_points.specs.FactsCalls.{IsCopying}
-use Rattle.papaya_points.specs.Told.{IsRowOfCall}
-use Rattle.papaya_late.specs.ToldReserves.{IsRowOfReserve}
-use Rattle.papaya_late.specs.ToldSweeps.{IsRowOfSweep}
-use Rattle.papaya_callers.specs.OverAll.{CallOverAll}
-use Rattle.papaya_callers.specs.Rooms.{CallForRoom}
-use Rattle.papaya_callers.specs.Together.{CallOnKey, UnderWay, OnKey, ForRoom, Counting, OverAll}
-use Rattle.papaya_effects.specs.Known.{Known}
-use Rattle.papaya_executor.specs.IsAt.{Scene, IsAt}
-use Rattle.papaya_executor.specs.Stepping.{StepLeads}
-use Rattle.papaya_executor.specs.declared.executor.Executor.{Executor}
-use Rattle.papaya_follows.specs.Shows.{Shows}
-use Rattle.papaya_follows.proofs.Steps.{went_to, made_so, is_inside, DidSo, OfNoRow}
-use Rattle.papaya_spots.proofs.Steps.{stayed_calm}
+use Rattle.papaya_histories.specs.Given.Tables.declared.node.Node.{Node}
+use Rattle.papaya_histories.specs.Given.Raw.declared.machines.call.Calling.{Calling}
+use Rattle.papaya_histories.specs.Given.Raw.declared.machines.call.Calling.TheVariants as at
+use Rattle.papaya_histories.specs.Given.Raw.declared.machines.progress.Progress.{Progress}
+use Rattle.papaya_histories.specs.Given.Schedules.Moment.{Moment}
+use Rattle.papaya_histories.specs.Given.Points.FactsCalls.{IsCopying}
+use Rattle.papaya_histories.specs.Given.Points.Told.{IsRowOfCall}
+use Rattle.papaya_histories.specs.Given.Late.ToldReserves.{IsRowOfReserve}
+use Rattle.papaya_histories.specs.Given.Late.ToldSweeps.{IsRowOfSweep}
+use Rattle.papaya_histories.specs.Given.Callers.OverAll.{CallOverAll}
+use Rattle.papaya_histories.specs.Given.Callers.Rooms.{CallForRoom}
+use Rattle.papaya_histories.specs.Given.Callers.Together.{CallOnKey, UnderWay, OnKey, ForRoom, Counting, OverAll}
+use Rattle.papaya_histories.specs.Given.Effects.Known.{Known}
+use Rattle.papaya_histories.specs.Given.Executor.IsAt.{Scene, IsAt}
+use Rattle.papaya_histories.specs.Given.Executor.Stepping.{StepLeads}
+use Rattle.papaya_histories.specs.Given.Executor.declared.executor.Executor.{Executor}
+use Rattle.papaya_histories.specs.Given.Follows.Shows.{Shows}
+use Rattle.papaya_histories.proofs.Given.Follows.Steps.{went_to, made_so, is_inside, DidSo, OfNoRow}
+use Rattle.papaya_histories.proofs.Given.Spots.Steps.{stayed_calm}
 use Rattle.papaya_settles.specs.Hand.{in_hand, NotesInHand}
 use Rattle.papaya_settles.specs.Owed.{HandGoes, CallsGoInHand}
 use Rattle.papaya_settles.specs.Owing.{KeepsOwed}

@@ -1,30 +1,30 @@
 -- Between the steps of calls, and as others take steps: each call owes just what it has in hand where one begins, is told a reply, or has come to an outcome.
 use Rattle.std.specs.Prelude.{◌≡◌, ◌+◌, ℕ, Bool, true, false, cond, not, List, find, map, Option, Some, None, if◌then◌else◌}
 use Rattle.std.proofs.Common.{refl, ap, sym, subst, ◌∙◌, inl, inr}
-use Rattle.papaya_runs.specs.Same.{is_same}
-use Rattle.papaya_raw.specs.Machine.{machine_replied, machine_asked}
-use Rattle.papaya_raw.specs.declared.machines.machine.Machine.{Machine}
-use Rattle.papaya_schedules.specs.declared.call.Reply.{Reply}
-use Rattle.papaya_schedules.specs.declared.outcome.Outcome.{Outcome}
-use Rattle.papaya_schedules.specs.declared.outcome.Outcome.TheVariants as outcome
-use Rattle.papaya_schedules.specs.After.{asks_on, comes_to, replied, without_call}
-use Rattle.papaya_schedules.specs.Beginning.{fresh_call, with_call}
-use Rattle.papaya_schedules.specs.Entry.{ends_call}
-use Rattle.papaya_schedules.specs.Moment.{Stands, Going, Asking, Told as WasTold, IsReady, UnderWay as CallThere, Moment}
-use Rattle.papaya_schedules.specs.Views.{call_of}
-use Rattle.papaya_callers.specs.Together.{UnderWay}
-use Rattle.papaya_effects.specs.Known.{Known}
-use Rattle.papaya_executor.specs.IsAt.{Scene}
-use Rattle.papaya_finishes.specs.Machines.{machine_of}
-use Rattle.papaya_finishes.specs.Maps.{with_call as with_in}
-use Rattle.papaya_follows.specs.Calling.{NoneNamed}
-use Rattle.papaya_follows.specs.Calls.{ShowsCalls}
-use Rattle.papaya_follows.proofs.Calling.{is_same_refl, apart_back, found_kept, come, come_of_same, replied_same}
-use Rattle.papaya_follows.proofs.Calls.{IsOfSame, changed, found}
-use Rattle.papaya_follows.proofs.Steps.{one_of}
-use Rattle.papaya_hands.proofs.Asking.{which}
-use Rattle.papaya_hands.proofs.Calling.{caller_is}
-use Rattle.papaya_others.specs.Walks.{given_up}
+use Rattle.papaya_histories.specs.Given.Runs.Same.{is_same}
+use Rattle.papaya_histories.specs.Given.Raw.Machine.{machine_replied, machine_asked}
+use Rattle.papaya_histories.specs.Given.Raw.declared.machines.machine.Machine.{Machine}
+use Rattle.papaya_histories.specs.Given.Schedules.declared.call.Reply.{Reply}
+use Rattle.papaya_histories.specs.Given.Schedules.declared.outcome.Outcome.{Outcome}
+use Rattle.papaya_histories.specs.Given.Schedules.declared.outcome.Outcome.TheVariants as outcome
+use Rattle.papaya_histories.specs.Given.Schedules.After.{asks_on, comes_to, replied, without_call}
+use Rattle.papaya_histories.specs.Given.Schedules.Beginning.{fresh_call, with_call}
+use Rattle.papaya_histories.specs.Given.Schedules.Entry.{ends_call}
+use Rattle.papaya_histories.specs.Given.Schedules.Moment.{Stands, Going, Asking, Told as WasTold, IsReady, UnderWay as CallThere, Moment}
+use Rattle.papaya_histories.specs.Given.Schedules.Views.{call_of}
+use Rattle.papaya_histories.specs.Given.Callers.Together.{UnderWay}
+use Rattle.papaya_histories.specs.Given.Effects.Known.{Known}
+use Rattle.papaya_histories.specs.Given.Executor.IsAt.{Scene}
+use Rattle.papaya_histories.specs.Given.Finishes.Machines.{machine_of}
+use Rattle.papaya_histories.specs.Given.Finishes.Maps.{with_call as with_in}
+use Rattle.papaya_histories.specs.Given.Follows.Calling.{NoneNamed}
+use Rattle.papaya_histories.specs.Given.Follows.Calls.{ShowsCalls}
+use Rattle.papaya_histories.proofs.Given.Follows.Calling.{is_same_refl, apart_back, found_kept, come, come_of_same, replied_same}
+use Rattle.papaya_histories.proofs.Given.Follows.Calls.{IsOfSame, changed, found}
+use Rattle.papaya_histories.proofs.Given.Follows.Steps.{one_of}
+use Rattle.papaya_histories.proofs.Given.Hands.Asking.{which}
+use Rattle.papaya_histories.proofs.Given.Hands.Calling.{caller_is}
+use Rattle.papaya_histories.specs.Given.Others.Walks.{given_up}
 use Rattle.papaya_settles.specs.Hand.{in_hand, NotesInHand, ShowsOwed}
 use Rattle.papaya_settles.specs.Owed.{OwedBegins, StaysOwed, EffectsLeaveOwed, CallsBeginOwed, CallsTakeOwed, CallsComeToOwed, WalksGoOnOwed, WalksStopOwed}
 use Rattle.papaya_settles.proofs.Gains.{none_changed}

@@ -2,63 +2,63 @@
 use Rattle.std.specs.Prelude.{◌≡◌, ◌≢◌, ℕ, suc, ◌<◌, ◌*◌, ◌/◌, Bool, true, false, List, [], ◌∷◌, ◌++◌, Some, Ok, Err, ◌⊎◌, if◌then◌else◌}
 use Rattle.std.proofs.Common.{refl, ap, sym, subst, ◌∙◌, arith, inl, inr}
 use Rattle.std.proofs.lemmas.Bool.{cases_lt}
-use Rattle.seize_words.specs.declared.at.At.TheVariants.{Root, Word}
-use Rattle.seize_words.specs.Mem.{Mem, word_at}
-use Rattle.seize_words.specs.Op.{Found, Stored, Exchanged, Made, Taken, Roomed}
-use Rattle.seize_words.specs.Word.{block_in}
-use Rattle.seize_words.proofs.OneOwner.Operations.{loaded}
-use Rattle.papaya_tables.specs.Chunks.{is_incremental}
-use Rattle.papaya_tables.specs.declared.node.Node.{Node}
-use Rattle.papaya_tables.specs.declared.setting.Setting.{Setting}
-use Rattle.papaya_tables.specs.declared.table.Table.{Table}
-use Rattle.papaya_tables.specs.declared.table_words.TheConstants.{NEXT}
-use Rattle.papaya_resize.specs.Copier.{copier_plan}
-use Rattle.papaya_resize.specs.Copier as copiers
-use Rattle.papaya_resize.specs.CopierPromotes.{successor_read, also_retired, retiring_table}
-use Rattle.papaya_resize.specs.CopierStates.{standing}
-use Rattle.papaya_resize.specs.declared.copier.Copier.{Copier}
-use Rattle.papaya_resize.specs.declared.copier.Copying.{Copying}
-use Rattle.papaya_resize.specs.declared.copier.Copying.TheVariants as copying
-use Rattle.papaya_resize.specs.declared.outcome.Outcome.{Outcome}
-use Rattle.papaya_resize.specs.declared.outcome.Outcome.TheVariants as outcome
-use Rattle.papaya_raw.specs.declared.machines.progress.Progress.{Progress}
-use Rattle.papaya_schedules.specs.declared.effect.Effect.{Effect}
-use Rattle.papaya_schedules.specs.declared.effect.Effect.TheVariants as effect
-use Rattle.papaya_schedules.specs.declared.effect.Thing.{Thing}
-use Rattle.papaya_schedules.specs.Effects.{passed}
-use Rattle.papaya_schedules.specs.Moment.{Moment}
-use Rattle.papaya_schedules.specs.Views.{first_or, first_of}
-use Rattle.papaya_teller.specs.Tells.{StepsTold}
-use Rattle.papaya_teller.specs.declared.changed.Changed.{Changed}
-use Rattle.papaya_teller.specs.declared.changed.Changed.TheVariants as changed
-use Rattle.papaya_rule.specs.Chart.{Chart}
-use Rattle.papaya_rule.specs.InWorld.{IsMapIn}
-use Rattle.papaya_rule.specs.Words.{Blocks}
-use Rattle.papaya_rule.proofs.Words.LinksSeen.{link_made, root_leads}
-use Rattle.papaya_rule.proofs.Words.TablesSeen.{block_of_link}
-use Rattle.papaya_points.specs.Told.{IsRowOfCopier}
-use Rattle.papaya_points.specs.Unlinked.{has_unlinked}
-use Rattle.papaya_points.proofs.Blocking.Successors.{next_read, rest_between, rest_last}
-use Rattle.papaya_points.proofs.Copiers.CopiersWhole.{unlinks_none}
-use Rattle.papaya_points.proofs.Steps.RootSteps.{is_promoting}
-use Rattle.papaya_callers.specs.Sights.{seen_by, IsSight}
-use Rattle.papaya_callers.specs.Together.{UnderWay, Together, in_slot}
-use Rattle.papaya_callers.proofs.Sights.Seen.{map_seen}
-use Rattle.papaya_callers.proofs.Together.Fits.{map_in_slot}
-use Rattle.papaya_effects.specs.Effects.{effects_of}
-use Rattle.papaya_effects.specs.Known.{Known}
-use Rattle.papaya_effects.specs.declared.acting.Acting.{Acting}
-use Rattle.papaya_effects.specs.declared.acting.Acting.TheVariants as acts
-use Rattle.papaya_effects.specs.declared.role.Role.TheVariants as role
-use Rattle.papaya_executor.specs.IsAt.{Scene, IsAt, slot_of}
-use Rattle.papaya_executor.specs.Stepping.{StepLeads}
-use Rattle.papaya_executor.specs.declared.executor.Executor.{Executor}
-use Rattle.papaya_executor.proofs.Forgotten.{as_step}
-use Rattle.papaya_finishes.specs.Maps.{Standing}
-use Rattle.papaya_follows.specs.Maps.{table_of}
-use Rattle.papaya_follows.specs.Shows.{Shows}
-use Rattle.papaya_follows.proofs.Steps.{went_to}
-use Rattle.papaya_follows.proofs.Writes.{root_says}
+use Rattle.papaya_histories.specs.Given.SeizeWords.declared.at.At.TheVariants.{Root, Word}
+use Rattle.papaya_histories.specs.Given.SeizeWords.Mem.{Mem, word_at}
+use Rattle.papaya_histories.specs.Given.SeizeWords.Op.{Found, Stored, Exchanged, Made, Taken, Roomed}
+use Rattle.papaya_histories.specs.Given.SeizeWords.Word.{block_in}
+use Rattle.papaya_histories.proofs.Given.SeizeWords.OneOwner.Operations.{loaded}
+use Rattle.papaya_histories.specs.Given.Tables.Chunks.{is_incremental}
+use Rattle.papaya_histories.specs.Given.Tables.declared.node.Node.{Node}
+use Rattle.papaya_histories.specs.Given.Tables.declared.setting.Setting.{Setting}
+use Rattle.papaya_histories.specs.Given.Tables.declared.table.Table.{Table}
+use Rattle.papaya_histories.specs.Given.Tables.declared.table_words.TheConstants.{NEXT}
+use Rattle.papaya_histories.specs.Given.Resize.Copier.{copier_plan}
+use Rattle.papaya_histories.specs.Given.Resize.Copier as copiers
+use Rattle.papaya_histories.specs.Given.Resize.CopierPromotes.{successor_read, also_retired, retiring_table}
+use Rattle.papaya_histories.specs.Given.Resize.CopierStates.{standing}
+use Rattle.papaya_histories.specs.Given.Resize.declared.copier.Copier.{Copier}
+use Rattle.papaya_histories.specs.Given.Resize.declared.copier.Copying.{Copying}
+use Rattle.papaya_histories.specs.Given.Resize.declared.copier.Copying.TheVariants as copying
+use Rattle.papaya_histories.specs.Given.Resize.declared.outcome.Outcome.{Outcome}
+use Rattle.papaya_histories.specs.Given.Resize.declared.outcome.Outcome.TheVariants as outcome
+use Rattle.papaya_histories.specs.Given.Raw.declared.machines.progress.Progress.{Progress}
+use Rattle.papaya_histories.specs.Given.Schedules.declared.effect.Effect.{Effect}
+use Rattle.papaya_histories.specs.Given.Schedules.declared.effect.Effect.TheVariants as effect
+use Rattle.papaya_histories.specs.Given.Schedules.declared.effect.Thing.{Thing}
+use Rattle.papaya_histories.specs.Given.Schedules.Effects.{passed}
+use Rattle.papaya_histories.specs.Given.Schedules.Moment.{Moment}
+use Rattle.papaya_histories.specs.Given.Schedules.Views.{first_or, first_of}
+use Rattle.papaya_histories.specs.Given.Teller.Tells.{StepsTold}
+use Rattle.papaya_histories.specs.Given.Teller.declared.changed.Changed.{Changed}
+use Rattle.papaya_histories.specs.Given.Teller.declared.changed.Changed.TheVariants as changed
+use Rattle.papaya_histories.specs.Given.Rule.Chart.{Chart}
+use Rattle.papaya_histories.specs.Given.Rule.InWorld.{IsMapIn}
+use Rattle.papaya_histories.specs.Given.Rule.Words.{Blocks}
+use Rattle.papaya_histories.proofs.Given.Rule.Words.LinksSeen.{link_made, root_leads}
+use Rattle.papaya_histories.proofs.Given.Rule.Words.TablesSeen.{block_of_link}
+use Rattle.papaya_histories.specs.Given.Points.Told.{IsRowOfCopier}
+use Rattle.papaya_histories.specs.Given.Points.Unlinked.{has_unlinked}
+use Rattle.papaya_histories.proofs.Given.Points.Blocking.Successors.{next_read, rest_between, rest_last}
+use Rattle.papaya_histories.proofs.Given.Points.Copiers.CopiersWhole.{unlinks_none}
+use Rattle.papaya_histories.proofs.Given.Points.Steps.RootSteps.{is_promoting}
+use Rattle.papaya_histories.specs.Given.Callers.Sights.{seen_by, IsSight}
+use Rattle.papaya_histories.specs.Given.Callers.Together.{UnderWay, Together, in_slot}
+use Rattle.papaya_histories.proofs.Given.Callers.Sights.Seen.{map_seen}
+use Rattle.papaya_histories.proofs.Given.Callers.Together.Fits.{map_in_slot}
+use Rattle.papaya_histories.specs.Given.Effects.Effects.{effects_of}
+use Rattle.papaya_histories.specs.Given.Effects.Known.{Known}
+use Rattle.papaya_histories.specs.Given.Effects.declared.acting.Acting.{Acting}
+use Rattle.papaya_histories.specs.Given.Effects.declared.acting.Acting.TheVariants as acts
+use Rattle.papaya_histories.specs.Given.Effects.declared.role.Role.TheVariants as role
+use Rattle.papaya_histories.specs.Given.Executor.IsAt.{Scene, IsAt, slot_of}
+use Rattle.papaya_histories.specs.Given.Executor.Stepping.{StepLeads}
+use Rattle.papaya_histories.specs.Given.Executor.declared.executor.Executor.{Executor}
+use Rattle.papaya_histories.proofs.Given.Executor.Forgotten.{as_step}
+use Rattle.papaya_histories.specs.Given.Finishes.Maps.{Standing}
+use Rattle.papaya_histories.specs.Given.Follows.Maps.{table_of}
+use Rattle.papaya_histories.specs.Given.Follows.Shows.{Shows}
+use Rattle.papaya_histories.proofs.Given.Follows.Steps.{went_to}
+use Rattle.papaya_histories.proofs.Given.Follows.Writes.{root_says}
 use Rattle.papaya_settles.specs.Hand.{thing_as, things_at, tables_from, tables_in_hand, IsTableRole, NotesTable, NotesTables}
 use Rattle.papaya_settles.specs.Owing.{AllLeave, OwesGo, KeepsOwed, Passes}
 use Rattle.papaya_settles.proofs.CopierTables.{HasEnds, HasCutFrom, SeesTables, KnowsTables}

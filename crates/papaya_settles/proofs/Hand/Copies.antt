@@ -1,50 +1,50 @@
 -- A step of a call that copies pairs, none of a row: what its copier has in hand goes with the effects of the step, and the call has that in hand.
 use Rattle.std.specs.Prelude.{◌≡◌, ℕ, ◌==◌, Bool, true, false, List, [], ◌∷◌, Some, None, if◌then◌else◌}
 use Rattle.std.proofs.Common.{refl, sym, subst, ◌∙◌, inl, inr}
-use Rattle.papaya_tables.specs.declared.node.Node.{Node}
-use Rattle.papaya_tables.specs.declared.table.Table.{Table}
-use Rattle.papaya_resize.specs.Copier.{copier_plan}
-use Rattle.papaya_resize.specs.declared.copier.Copier.{Copier}
-use Rattle.papaya_resize.specs.declared.outcome.Outcome.{Outcome}
-use Rattle.papaya_resize.specs.declared.outcome.Outcome.TheVariants as outcome
-use Rattle.papaya_reserves.specs.Reserve as reserves
-use Rattle.papaya_reserves.specs.declared.reserve.Reserve.{Reserve}
-use Rattle.papaya_sweeps.specs.Sweep as sweeps
-use Rattle.papaya_sweeps.specs.SweepPoints as points
-use Rattle.papaya_sweeps.specs.declared.sweep.Sweep.{Sweep}
-use Rattle.papaya_sweeps.specs.declared.sweep.Sweeping.TheVariants as sweeping
-use Rattle.papaya_sweeps.specs.declared.sweep.Swept.{Swept}
-use Rattle.papaya_raw.specs.Call.{helped, copied}
-use Rattle.papaya_raw.specs.CallPoints.{going, over}
-use Rattle.papaya_raw.specs.Progress.{of_called, of_outcome, of_swept}
-use Rattle.papaya_raw.specs.declared.machines.answer.Called.{Called}
-use Rattle.papaya_raw.specs.declared.machines.answer.End.{End}
-use Rattle.papaya_raw.specs.declared.machines.answer.End.TheVariants as ends
-use Rattle.papaya_raw.specs.declared.machines.call.Calling.TheVariants as at
-use Rattle.papaya_raw.specs.declared.machines.call.KeyCall.{KeyCall}
-use Rattle.papaya_raw.specs.declared.machines.progress.Progress.{Progress}
-use Rattle.papaya_schedules.specs.declared.effect.Effect.{Effect}
-use Rattle.papaya_schedules.specs.declared.effect.Effect.TheVariants as effect
-use Rattle.papaya_schedules.specs.declared.effect.Table.{Table as TableTurn}
-use Rattle.papaya_schedules.specs.declared.effect.Thing.{Thing}
-use Rattle.papaya_schedules.specs.Moment.{Moment}
-use Rattle.papaya_teller.specs.Tells.{StepsTold}
-use Rattle.papaya_teller.specs.declared.changed.Changed.TheVariants as changed
-use Rattle.papaya_tables.specs.Chunks.{is_incremental}
-use Rattle.papaya_points.specs.Told.{IsRowOfCopier}
-use Rattle.papaya_points.proofs.Steps.RootSteps.{is_promoting}
-use Rattle.papaya_callers.specs.Sights.{seen_by}
-use Rattle.papaya_callers.specs.Together.{UnderWay, in_slot}
-use Rattle.papaya_effects.specs.Effects.{effects_of}
-use Rattle.papaya_effects.specs.Known.{Known}
-use Rattle.papaya_effects.specs.declared.acting.Acting.TheVariants as acts
-use Rattle.papaya_executor.specs.IsAt.{Scene, IsAt, slot_of}
-use Rattle.papaya_executor.specs.Stepping.{has_ended, StepLeads}
-use Rattle.papaya_executor.specs.declared.executor.Executor.{Executor}
-use Rattle.papaya_finishes.specs.Machines.{machine_of}
-use Rattle.papaya_finishes.specs.Maps.{Standing}
-use Rattle.papaya_follows.specs.Shows.{Shows}
-use Rattle.papaya_follows.proofs.Steps.{WentTo, went_to, OfNoRow}
+use Rattle.papaya_histories.specs.Given.Tables.declared.node.Node.{Node}
+use Rattle.papaya_histories.specs.Given.Tables.declared.table.Table.{Table}
+use Rattle.papaya_histories.specs.Given.Resize.Copier.{copier_plan}
+use Rattle.papaya_histories.specs.Given.Resize.declared.copier.Copier.{Copier}
+use Rattle.papaya_histories.specs.Given.Resize.declared.outcome.Outcome.{Outcome}
+use Rattle.papaya_histories.specs.Given.Resize.declared.outcome.Outcome.TheVariants as outcome
+use Rattle.papaya_histories.specs.Given.Reserves.Reserve as reserves
+use Rattle.papaya_histories.specs.Given.Reserves.declared.reserve.Reserve.{Reserve}
+use Rattle.papaya_histories.specs.Given.Sweeps.Sweep as sweeps
+use Rattle.papaya_histories.specs.Given.Sweeps.SweepPoints as points
+use Rattle.papaya_histories.specs.Given.Sweeps.declared.sweep.Sweep.{Sweep}
+use Rattle.papaya_histories.specs.Given.Sweeps.declared.sweep.Sweeping.TheVariants as sweeping
+use Rattle.papaya_histories.specs.Given.Sweeps.declared.sweep.Swept.{Swept}
+use Rattle.papaya_histories.specs.Given.Raw.Call.{helped, copied}
+use Rattle.papaya_histories.specs.Given.Raw.CallPoints.{going, over}
+use Rattle.papaya_histories.specs.Given.Raw.Progress.{of_called, of_outcome, of_swept}
+use Rattle.papaya_histories.specs.Given.Raw.declared.machines.answer.Called.{Called}
+use Rattle.papaya_histories.specs.Given.Raw.declared.machines.answer.End.{End}
+use Rattle.papaya_histories.specs.Given.Raw.declared.machines.answer.End.TheVariants as ends
+use Rattle.papaya_histories.specs.Given.Raw.declared.machines.call.Calling.TheVariants as at
+use Rattle.papaya_histories.specs.Given.Raw.declared.machines.call.KeyCall.{KeyCall}
+use Rattle.papaya_histories.specs.Given.Raw.declared.machines.progress.Progress.{Progress}
+use Rattle.papaya_histories.specs.Given.Schedules.declared.effect.Effect.{Effect}
+use Rattle.papaya_histories.specs.Given.Schedules.declared.effect.Effect.TheVariants as effect
+use Rattle.papaya_histories.specs.Given.Schedules.declared.effect.Table.{Table as TableTurn}
+use Rattle.papaya_histories.specs.Given.Schedules.declared.effect.Thing.{Thing}
+use Rattle.papaya_histories.specs.Given.Schedules.Moment.{Moment}
+use Rattle.papaya_histories.specs.Given.Teller.Tells.{StepsTold}
+use Rattle.papaya_histories.specs.Given.Teller.declared.changed.Changed.TheVariants as changed
+use Rattle.papaya_histories.specs.Given.Tables.Chunks.{is_incremental}
+use Rattle.papaya_histories.specs.Given.Points.Told.{IsRowOfCopier}
+use Rattle.papaya_histories.proofs.Given.Points.Steps.RootSteps.{is_promoting}
+use Rattle.papaya_histories.specs.Given.Callers.Sights.{seen_by}
+use Rattle.papaya_histories.specs.Given.Callers.Together.{UnderWay, in_slot}
+use Rattle.papaya_histories.specs.Given.Effects.Effects.{effects_of}
+use Rattle.papaya_histories.specs.Given.Effects.Known.{Known}
+use Rattle.papaya_histories.specs.Given.Effects.declared.acting.Acting.TheVariants as acts
+use Rattle.papaya_histories.specs.Given.Executor.IsAt.{Scene, IsAt, slot_of}
+use Rattle.papaya_histories.specs.Given.Executor.Stepping.{has_ended, StepLeads}
+use Rattle.papaya_histories.specs.Given.Executor.declared.executor.Executor.{Executor}
+use Rattle.papaya_histories.specs.Given.Finishes.Machines.{machine_of}
+use Rattle.papaya_histories.specs.Given.Finishes.Maps.{Standing}
+use Rattle.papaya_histories.specs.Given.Follows.Shows.{Shows}
+use Rattle.papaya_histories.proofs.Given.Follows.Steps.{WentTo, went_to, OfNoRow}
 use Rattle.papaya_settles.specs.Hand.{tables_in_hand, in_hand_of_call, in_hand_of_room, in_hand_of_sweep, in_hand, NotesTables, NotesOfCall, NotesOfRoom, NotesOfSweep, NotesInHand}
 use Rattle.papaya_settles.specs.InHand.{TakesPair, pair_in_calling}
 use Rattle.papaya_settles.specs.Owed.{HandGoes}

@@ -1,43 +1,43 @@
 -- A step of a call on one key that copies pairs, none of a row: what the call has in hand goes with the effects of the step.
 use Rattle.std.specs.Prelude.{◌≡◌, ℕ, Bool, false, List, Some}
 use Rattle.std.proofs.Common.{refl, ap, sym, subst, ◌∙◌, inl, inr}
-use Rattle.papaya_tables.specs.declared.node.Node.{Node}
-use Rattle.papaya_resize.specs.Copier.{copier_plan}
-use Rattle.papaya_resize.specs.declared.copier.Copier.{Copier}
-use Rattle.papaya_resize.specs.declared.outcome.Outcome.{Outcome}
-use Rattle.papaya_tables.specs.declared.table.Table.{Table}
-use Rattle.papaya_raw.specs.Call.{call_plan, plan_at, helped, copied}
-use Rattle.papaya_raw.specs.Machine.{called as of_key}
-use Rattle.papaya_raw.specs.Progress.{of_called}
-use Rattle.papaya_raw.specs.declared.machines.answer.Called.{Called}
-use Rattle.papaya_raw.specs.declared.machines.call.Calling.{Calling}
-use Rattle.papaya_raw.specs.declared.machines.call.Calling.TheVariants as at
-use Rattle.papaya_raw.specs.declared.machines.call.KeyCall.{KeyCall}
-use Rattle.papaya_raw.specs.declared.machines.machine.Machine.{Machine}
-use Rattle.papaya_raw.specs.declared.machines.machine.Machine.TheVariants as kinds
-use Rattle.papaya_raw.specs.declared.machines.progress.Progress.{Progress}
-use Rattle.papaya_schedules.specs.declared.effect.Effect.{Effect}
-use Rattle.papaya_schedules.specs.Moment.{Moment}
-use Rattle.papaya_teller.specs.Tells.{StepsTold}
-use Rattle.papaya_teller.specs.declared.changed.Changed.{Changed}
-use Rattle.papaya_teller.specs.declared.changed.Changed.TheVariants as changed
-use Rattle.papaya_rule.specs.Words.{Blocks}
-use Rattle.papaya_points.specs.FactsCalls.{IsCopying, CallingFacts}
-use Rattle.papaya_points.specs.Told.{IsRowOfCopier, IsRowOfCall}
-use Rattle.papaya_points.proofs.Steps.RootSteps.{is_promoting, call_is_promoting, spares_call}
-use Rattle.papaya_late.specs.LateCalls.{LateCalling}
-use Rattle.papaya_callers.specs.Sights.{seen_by}
-use Rattle.papaya_callers.specs.Together.{CallOnKey, OnKey, in_slot}
-use Rattle.papaya_effects.specs.Effects.{effects_of}
-use Rattle.papaya_effects.specs.Known.{Known}
-use Rattle.papaya_effects.specs.declared.acting.Acting.TheVariants as acts
-use Rattle.papaya_executor.specs.IsAt.{Scene, IsAt, slot_of}
-use Rattle.papaya_executor.specs.Stepping.{has_ended, StepLeads}
-use Rattle.papaya_executor.specs.declared.executor.Executor.{Executor}
-use Rattle.papaya_finishes.specs.Maps.{Standing}
-use Rattle.papaya_follows.specs.Shows.{Shows}
-use Rattle.papaya_follows.proofs.Steps.{WentTo, went_to, OfNoRow}
-use Rattle.papaya_others.proofs.Outcomes.{told_in}
+use Rattle.papaya_histories.specs.Given.Tables.declared.node.Node.{Node}
+use Rattle.papaya_histories.specs.Given.Resize.Copier.{copier_plan}
+use Rattle.papaya_histories.specs.Given.Resize.declared.copier.Copier.{Copier}
+use Rattle.papaya_histories.specs.Given.Resize.declared.outcome.Outcome.{Outcome}
+use Rattle.papaya_histories.specs.Given.Tables.declared.table.Table.{Table}
+use Rattle.papaya_histories.specs.Given.Raw.Call.{call_plan, plan_at, helped, copied}
+use Rattle.papaya_histories.specs.Given.Raw.Machine.{called as of_key}
+use Rattle.papaya_histories.specs.Given.Raw.Progress.{of_called}
+use Rattle.papaya_histories.specs.Given.Raw.declared.machines.answer.Called.{Called}
+use Rattle.papaya_histories.specs.Given.Raw.declared.machines.call.Calling.{Calling}
+use Rattle.papaya_histories.specs.Given.Raw.declared.machines.call.Calling.TheVariants as at
+use Rattle.papaya_histories.specs.Given.Raw.declared.machines.call.KeyCall.{KeyCall}
+use Rattle.papaya_histories.specs.Given.Raw.declared.machines.machine.Machine.{Machine}
+use Rattle.papaya_histories.specs.Given.Raw.declared.machines.machine.Machine.TheVariants as kinds
+use Rattle.papaya_histories.specs.Given.Raw.declared.machines.progress.Progress.{Progress}
+use Rattle.papaya_histories.specs.Given.Schedules.declared.effect.Effect.{Effect}
+use Rattle.papaya_histories.specs.Given.Schedules.Moment.{Moment}
+use Rattle.papaya_histories.specs.Given.Teller.Tells.{StepsTold}
+use Rattle.papaya_histories.specs.Given.Teller.declared.changed.Changed.{Changed}
+use Rattle.papaya_histories.specs.Given.Teller.declared.changed.Changed.TheVariants as changed
+use Rattle.papaya_histories.specs.Given.Rule.Words.{Blocks}
+use Rattle.papaya_histories.specs.Given.Points.FactsCalls.{IsCopying, CallingFacts}
+use Rattle.papaya_histories.specs.Given.Points.Told.{IsRowOfCopier, IsRowOfCall}
+use Rattle.papaya_histories.proofs.Given.Points.Steps.RootSteps.{is_promoting, call_is_promoting, spares_call}
+use Rattle.papaya_histories.specs.Given.Late.LateCalls.{LateCalling}
+use Rattle.papaya_histories.specs.Given.Callers.Sights.{seen_by}
+use Rattle.papaya_histories.specs.Given.Callers.Together.{CallOnKey, OnKey, in_slot}
+use Rattle.papaya_histories.specs.Given.Effects.Effects.{effects_of}
+use Rattle.papaya_histories.specs.Given.Effects.Known.{Known}
+use Rattle.papaya_histories.specs.Given.Effects.declared.acting.Acting.TheVariants as acts
+use Rattle.papaya_histories.specs.Given.Executor.IsAt.{Scene, IsAt, slot_of}
+use Rattle.papaya_histories.specs.Given.Executor.Stepping.{has_ended, StepLeads}
+use Rattle.papaya_histories.specs.Given.Executor.declared.executor.Executor.{Executor}
+use Rattle.papaya_histories.specs.Given.Finishes.Maps.{Standing}
+use Rattle.papaya_histories.specs.Given.Follows.Shows.{Shows}
+use Rattle.papaya_histories.proofs.Given.Follows.Steps.{WentTo, went_to, OfNoRow}
+use Rattle.papaya_histories.proofs.Given.Others.Outcomes.{told_in}
 use Rattle.papaya_settles.specs.Hand.{tables_in_hand, in_hand_of_call, in_hand, NotesTables, NotesOfCall, NotesInHand}
 use Rattle.papaya_settles.specs.InHand.{TakesPair, pair_in_calling}
 use Rattle.papaya_settles.specs.Owed.{HandGoes}

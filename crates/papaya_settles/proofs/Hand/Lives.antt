@@ -2,31 +2,31 @@
 use Rattle.std.specs.Prelude.{◌≡◌, ◌≢◌, ℕ, ◌==◌, Bool, true, false, List, [], ◌∷◌, ◌++◌, Option, Some, IsSome}
 use Rattle.std.proofs.Common.{refl, ap, sym, subst, ◌∙◌, ◌+◌}
 use Rattle.std.proofs.lemmas.Bool.{eqb-true}
-use Rattle.seize_words.specs.Mem.{value_at}
-use Rattle.seize_words.specs.Word.{block_in}
-use Rattle.seize.specs.declared.states.TheConstants.{LAST_SLOT}
-use Rattle.seize.specs.Law.{Effect, Taken, is_retired, IsSound}
-use Rattle.seize.specs.World.{World, Steps', Hand, NoBlock, Making, InUse, Parting, Cutting, Handed, LeftTo, Settles, Defers}
-use Rattle.seize.specs.declared.rows.defer.Defer.{Defer}
-use Rattle.seize.specs.declared.rows.defer.Deferring.{Deferring}
-use Rattle.seize.specs.declared.rows.defer.Deferring.TheVariants as deferring
-use Rattle.seize.specs.declared.rows.settle.Settle.{Settle}
-use Rattle.seize.specs.declared.rows.settle.Settling.{Settling}
-use Rattle.seize.specs.declared.rows.settle.Settling.TheVariants as settling
-use Rattle.seize_alone.proofs.Histories.Reached.{Reached, steps_reached}
-use Rattle.seize_alone.proofs.Spared.Rows.{RowStepped, row_stepped}
-use Rattle.seize_moves.proofs.Moves.Tries.{first_pending}
-use Rattle.seize_moves.proofs.State.Ghost.{State, Life, IsFree, IsDeferring, IsPending, is_given}
-use Rattle.seize_rule.proofs.Points.Aside.{HandFits, is_handed}
-use Rattle.seize_rule.proofs.Points.Known.{FirstsOf, FitsAt, bare}
-use Rattle.seize_rule.proofs.Rows.Effects.{one_not_taken}
-use Rattle.seize_rule.proofs.Rows.Known.{FitsDefer, FitsRow}
-use Rattle.seize_rule.proofs.Words.Chains.{Chain, waiting}
-use Rattle.seize_rule.proofs.Words.Named.{link, link-block}
-use Rattle.seize_rule.proofs.Words.Shows.{lives}
-use Rattle.seize_rule.proofs.Words.There.{value_there}
-use Rattle.seize_rule.proofs.Words.View.{View, view}
-use Rattle.papaya_rule.specs.InWorld.{IsOut}
+use Rattle.papaya_histories.specs.Given.SeizeWords.Mem.{value_at}
+use Rattle.papaya_histories.specs.Given.SeizeWords.Word.{block_in}
+use Rattle.papaya_histories.specs.Given.Seize.declared.states.TheConstants.{LAST_SLOT}
+use Rattle.papaya_histories.specs.Given.Seize.Law.{Effect, Taken, is_retired, IsSound}
+use Rattle.papaya_histories.specs.Given.Seize.World.{World, Steps', Hand, NoBlock, Making, InUse, Parting, Cutting, Handed, LeftTo, Settles, Defers}
+use Rattle.papaya_histories.specs.Given.Seize.declared.rows.defer.Defer.{Defer}
+use Rattle.papaya_histories.specs.Given.Seize.declared.rows.defer.Deferring.{Deferring}
+use Rattle.papaya_histories.specs.Given.Seize.declared.rows.defer.Deferring.TheVariants as deferring
+use Rattle.papaya_histories.specs.Given.Seize.declared.rows.settle.Settle.{Settle}
+use Rattle.papaya_histories.specs.Given.Seize.declared.rows.settle.Settling.{Settling}
+use Rattle.papaya_histories.specs.Given.Seize.declared.rows.settle.Settling.TheVariants as settling
+use Rattle.papaya_histories.proofs.Given.SeizeAlone.Histories.Reached.{Reached, steps_reached}
+use Rattle.papaya_histories.proofs.Given.SeizeAlone.Spared.Rows.{RowStepped, row_stepped}
+use Rattle.papaya_histories.proofs.Given.SeizeMoves.Moves.Tries.{first_pending}
+use Rattle.papaya_histories.proofs.Given.SeizeMoves.State.Ghost.{State, Life, IsFree, IsDeferring, IsPending, is_given}
+use Rattle.papaya_histories.proofs.Given.SeizeRule.Points.Aside.{HandFits, is_handed}
+use Rattle.papaya_histories.proofs.Given.SeizeRule.Points.Known.{FirstsOf, FitsAt, bare}
+use Rattle.papaya_histories.proofs.Given.SeizeRule.Rows.Effects.{one_not_taken}
+use Rattle.papaya_histories.proofs.Given.SeizeRule.Rows.Known.{FitsDefer, FitsRow}
+use Rattle.papaya_histories.proofs.Given.SeizeRule.Words.Chains.{Chain, waiting}
+use Rattle.papaya_histories.proofs.Given.SeizeRule.Words.Named.{link, link-block}
+use Rattle.papaya_histories.proofs.Given.SeizeRule.Words.Shows.{lives}
+use Rattle.papaya_histories.proofs.Given.SeizeRule.Words.There.{value_there}
+use Rattle.papaya_histories.proofs.Given.SeizeRule.Words.View.{View, view}
+use Rattle.papaya_histories.specs.Given.Rule.InWorld.{IsOut}
 use Rattle.papaya_settles.specs.Due.{word_due, due_in_settle, due_in_defer}
 
 -- taken out of what it was in: its caller has it still, or the collector's row

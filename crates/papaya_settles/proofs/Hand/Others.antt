@@ -1,52 +1,52 @@
 -- A step of a row on a slot leaves each call owing what it has in hand: the row takes none of that away.
 use Rattle.std.specs.Prelude.{◌≡◌, ◌≢◌, ℕ, Bool, List, Option, Some, None, IsSome}
 use Rattle.std.proofs.Common.{refl, ap, sym, subst, ◌∙◌, inl, inr}
-use Rattle.seize_words.specs.Mem.{value_at}
-use Rattle.seize.specs.World.{World, Step}
-use Rattle.seize_alone.proofs.Histories.Reached.{Reached, runs_reached}
-use Rattle.papaya_tables.specs.Nodes.{deferred_word}
-use Rattle.papaya_tables.specs.declared.node.Node.{Node}
-use Rattle.papaya_tables.specs.declared.setting.Setting.{Setting}
-use Rattle.papaya_raw.specs.declared.machines.machine.Machine.{Machine}
-use Rattle.papaya_schedules.specs.Effects.{with_effects}
-use Rattle.papaya_schedules.specs.Moment.{Moment}
-use Rattle.seize.specs.declared.progress.Progress.{Progress}
-use Rattle.seize.specs.declared.progress.Progress.TheVariants as progress
-use Rattle.papaya_rule.specs.InWorld.{IsOut}
-use Rattle.papaya_rule.specs.Words.{Blocks}
-use Rattle.papaya_points.specs.Steps.{AreLawful}
-use Rattle.papaya_callers.specs.Sights.{seen_by}
-use Rattle.papaya_callers.specs.OverAll.{past_sweeping, sweep_once_over}
-use Rattle.papaya_callers.specs.Rooms.{CallForRoom, past_room, room_once_over}
-use Rattle.papaya_callers.specs.Rows.{past_row, once_over}
-use Rattle.papaya_callers.specs.Together.{CallOnKey, UnderWay, OnKey, ForRoom, Counting, OverAll, Knows, KnowsRoom, Stands, in_slot}
-use Rattle.papaya_callers.proofs.Together.Came.{came_reached}
-use Rattle.papaya_effects.specs.Effects.{effects_of, known_after}
-use Rattle.papaya_effects.specs.Known.{Known}
-use Rattle.papaya_effects.specs.declared.acting.Acting.TheVariants as acts
-use Rattle.papaya_effects.specs.declared.role.Role.{Role}
-use Rattle.papaya_effects.specs.declared.role.Role.TheVariants as role
-use Rattle.papaya_executor.specs.IsAt.{Scene, IsAt, slot_of, work_of}
-use Rattle.papaya_executor.specs.OnSlots.{HappensAt, RowSteps}
-use Rattle.papaya_executor.specs.declared.executor.Executor.{Executor}
-use Rattle.papaya_executor.specs.declared.row.RowTold.{RowTold}
-use Rattle.papaya_executor.specs.declared.row.SlotRow.{SlotRow}
-use Rattle.papaya_executor.specs.declared.worker.Work.TheVariants as work
-use Rattle.papaya_executor.proofs.Changed.{standing_is}
-use Rattle.papaya_executor.specs.Making.{MakingComesTo, MakingLeads}
-use Rattle.papaya_finishes.specs.Machines.{machine_of}
-use Rattle.papaya_finishes.specs.Makings.{Beginning}
-use Rattle.papaya_finishes.specs.Maps.{Standing}
-use Rattle.papaya_follows.specs.Blocks.{HasRole}
-use Rattle.papaya_follows.specs.Shows.{Shows}
-use Rattle.papaya_follows.proofs.Onward.{IsOfMap}
-use Rattle.papaya_follows.proofs.Writes.{nothing_free}
-use Rattle.papaya_moments.specs.Whole.{ShowsWhole}
-use Rattle.papaya_moments.proofs.Beside.{IsBeside}
-use Rattle.papaya_moments.proofs.MakingSteps.{makings_go_beside}
-use Rattle.papaya_moments.proofs.OnSlots.{row_beside}
-use Rattle.papaya_others.specs.Makings.{WasNew, making_after}
-use Rattle.papaya_others.specs.Rows.{scene_then}
+use Rattle.papaya_histories.specs.Given.SeizeWords.Mem.{value_at}
+use Rattle.papaya_histories.specs.Given.Seize.World.{World, Step}
+use Rattle.papaya_histories.proofs.Given.SeizeAlone.Histories.Reached.{Reached, runs_reached}
+use Rattle.papaya_histories.specs.Given.Tables.Nodes.{deferred_word}
+use Rattle.papaya_histories.specs.Given.Tables.declared.node.Node.{Node}
+use Rattle.papaya_histories.specs.Given.Tables.declared.setting.Setting.{Setting}
+use Rattle.papaya_histories.specs.Given.Raw.declared.machines.machine.Machine.{Machine}
+use Rattle.papaya_histories.specs.Given.Schedules.Effects.{with_effects}
+use Rattle.papaya_histories.specs.Given.Schedules.Moment.{Moment}
+use Rattle.papaya_histories.specs.Given.Seize.declared.progress.Progress.{Progress}
+use Rattle.papaya_histories.specs.Given.Seize.declared.progress.Progress.TheVariants as progress
+use Rattle.papaya_histories.specs.Given.Rule.InWorld.{IsOut}
+use Rattle.papaya_histories.specs.Given.Rule.Words.{Blocks}
+use Rattle.papaya_histories.specs.Given.Points.Steps.{AreLawful}
+use Rattle.papaya_histories.specs.Given.Callers.Sights.{seen_by}
+use Rattle.papaya_histories.specs.Given.Callers.OverAll.{past_sweeping, sweep_once_over}
+use Rattle.papaya_histories.specs.Given.Callers.Rooms.{CallForRoom, past_room, room_once_over}
+use Rattle.papaya_histories.specs.Given.Callers.Rows.{past_row, once_over}
+use Rattle.papaya_histories.specs.Given.Callers.Together.{CallOnKey, UnderWay, OnKey, ForRoom, Counting, OverAll, Knows, KnowsRoom, Stands, in_slot}
+use Rattle.papaya_histories.proofs.Given.Callers.Together.Came.{came_reached}
+use Rattle.papaya_histories.specs.Given.Effects.Effects.{effects_of, known_after}
+use Rattle.papaya_histories.specs.Given.Effects.Known.{Known}
+use Rattle.papaya_histories.specs.Given.Effects.declared.acting.Acting.TheVariants as acts
+use Rattle.papaya_histories.specs.Given.Effects.declared.role.Role.{Role}
+use Rattle.papaya_histories.specs.Given.Effects.declared.role.Role.TheVariants as role
+use Rattle.papaya_histories.specs.Given.Executor.IsAt.{Scene, IsAt, slot_of, work_of}
+use Rattle.papaya_histories.specs.Given.Executor.OnSlots.{HappensAt, RowSteps}
+use Rattle.papaya_histories.specs.Given.Executor.declared.executor.Executor.{Executor}
+use Rattle.papaya_histories.specs.Given.Executor.declared.row.RowTold.{RowTold}
+use Rattle.papaya_histories.specs.Given.Executor.declared.row.SlotRow.{SlotRow}
+use Rattle.papaya_histories.specs.Given.Executor.declared.worker.Work.TheVariants as work
+use Rattle.papaya_histories.proofs.Given.Executor.Changed.{standing_is}
+use Rattle.papaya_histories.specs.Given.Executor.Making.{MakingComesTo, MakingLeads}
+use Rattle.papaya_histories.specs.Given.Finishes.Machines.{machine_of}
+use Rattle.papaya_histories.specs.Given.Finishes.Makings.{Beginning}
+use Rattle.papaya_histories.specs.Given.Finishes.Maps.{Standing}
+use Rattle.papaya_histories.specs.Given.Follows.Blocks.{HasRole}
+use Rattle.papaya_histories.specs.Given.Follows.Shows.{Shows}
+use Rattle.papaya_histories.proofs.Given.Follows.Onward.{IsOfMap}
+use Rattle.papaya_histories.proofs.Given.Follows.Writes.{nothing_free}
+use Rattle.papaya_histories.specs.Given.Moments.Whole.{ShowsWhole}
+use Rattle.papaya_histories.proofs.Given.Moments.Beside.{IsBeside}
+use Rattle.papaya_histories.proofs.Given.Moments.MakingSteps.{makings_go_beside}
+use Rattle.papaya_histories.proofs.Given.Moments.OnSlots.{row_beside}
+use Rattle.papaya_histories.specs.Given.Others.Makings.{WasNew, making_after}
+use Rattle.papaya_histories.specs.Given.Others.Rows.{scene_then}
 use Rattle.papaya_settles.specs.Hand.{HoldsOfCall, HoldsOfRoom, HoldsInHand, IsPairRole, IsTableRole, IsPairAt, IsTableAt, NotesInHand, IsSameRole, SameInHand, ShowsOwed}
 use Rattle.papaya_settles.specs.OwedBeside.{RowsLeaveOwed, MakingsLeaveOwed}
 use Rattle.papaya_settles.proofs.Hand.Between.{effects_leave_owed}

@@ -2,23 +2,23 @@
 use Rattle.std.specs.Prelude.{◌≡◌, ℕ, ◌==◌, Bool, true, false, List, [], ◌++◌, Option, Some, None, if◌then◌else◌}
 use Rattle.std.proofs.Common.{refl, ap, sym, subst, ◌∙◌}
 use Rattle.std.proofs.lemmas.Bool.{eq-eqb}
-use Rattle.seize_words.specs.Word.{block_in}
-use Rattle.papaya_resize.specs.declared.copier.Copier.{Copier}
-use Rattle.papaya_resize.specs.declared.copier.Copying.{Copying}
-use Rattle.papaya_resize.specs.declared.copier.Copying.TheVariants as copying
-use Rattle.papaya_reserves.specs.declared.reserve.Reserving.{Reserving}
-use Rattle.papaya_reserves.specs.declared.reserve.Reserving.TheVariants as reserving
-use Rattle.papaya_sweeps.specs.declared.sweep.Sweeping.{Sweeping}
-use Rattle.papaya_sweeps.specs.declared.sweep.Sweeping.TheVariants as sweeping
-use Rattle.papaya_raw.specs.declared.machines.call.Calling.{Calling}
-use Rattle.papaya_raw.specs.declared.machines.call.Calling.TheVariants as calling
-use Rattle.papaya_raw.specs.declared.machines.machine.Machine.{Machine}
-use Rattle.papaya_raw.specs.declared.machines.machine.Machine.TheVariants as kinds
-use Rattle.papaya_schedules.specs.declared.effect.Thing.{Thing}
-use Rattle.papaya_effects.specs.Known.{Known}
-use Rattle.papaya_effects.specs.declared.role.Role.{Role}
-use Rattle.papaya_effects.specs.declared.role.Role.TheVariants as role
-use Rattle.papaya_follows.proofs.Onward.{IsLasting, KeepsRoles}
+use Rattle.papaya_histories.specs.Given.SeizeWords.Word.{block_in}
+use Rattle.papaya_histories.specs.Given.Resize.declared.copier.Copier.{Copier}
+use Rattle.papaya_histories.specs.Given.Resize.declared.copier.Copying.{Copying}
+use Rattle.papaya_histories.specs.Given.Resize.declared.copier.Copying.TheVariants as copying
+use Rattle.papaya_histories.specs.Given.Reserves.declared.reserve.Reserving.{Reserving}
+use Rattle.papaya_histories.specs.Given.Reserves.declared.reserve.Reserving.TheVariants as reserving
+use Rattle.papaya_histories.specs.Given.Sweeps.declared.sweep.Sweeping.{Sweeping}
+use Rattle.papaya_histories.specs.Given.Sweeps.declared.sweep.Sweeping.TheVariants as sweeping
+use Rattle.papaya_histories.specs.Given.Raw.declared.machines.call.Calling.{Calling}
+use Rattle.papaya_histories.specs.Given.Raw.declared.machines.call.Calling.TheVariants as calling
+use Rattle.papaya_histories.specs.Given.Raw.declared.machines.machine.Machine.{Machine}
+use Rattle.papaya_histories.specs.Given.Raw.declared.machines.machine.Machine.TheVariants as kinds
+use Rattle.papaya_histories.specs.Given.Schedules.declared.effect.Thing.{Thing}
+use Rattle.papaya_histories.specs.Given.Effects.Known.{Known}
+use Rattle.papaya_histories.specs.Given.Effects.declared.role.Role.{Role}
+use Rattle.papaya_histories.specs.Given.Effects.declared.role.Role.TheVariants as role
+use Rattle.papaya_histories.proofs.Given.Follows.Onward.{IsLasting, KeepsRoles}
 use Rattle.papaya_settles.specs.Due.{due_in_settle, word_due}
 use Rattle.papaya_settles.specs.Hand.{thing_as, things_at, tables_up_to, tables_from, tables_in_hand, in_hand_of_call, in_hand_of_room, in_hand_of_sweep, in_hand, IsPairRole, IsTableRole, HoldsAt, HoldsOf, HoldsTables, HoldsOfCall, HoldsOfRoom, HoldsOfSweep, HoldsInHand, IsPairAt, IsTableAt, NotesInHand, IsSameRole, SameInHand}
 use Rattle.papaya_settles.specs.InHand.{pair_in_calling, pair_in_sweeping}

@@ -2,52 +2,52 @@
 use Rattle.std.specs.Prelude.{◌≡◌, ◌≢◌, ℕ, suc, ◌*◌, ◌<◌, ◌≤◌, ◌==◌, Bool, true, false, cond, Option, Some, None, ◌⊎◌, if◌then◌else◌}
 use Rattle.std.proofs.Common.{refl, ap, sym, subst, ◌∙◌, arith, inl, inr}
 use Rattle.std.proofs.lemmas.Bool.{cases_lt, eqb-true, eq-eqb}
-use Rattle.seize_words.specs.Word.{block_in}
-use Rattle.seize.specs.World.{World, Settles, Parting, Cutting}
-use Rattle.seize.specs.declared.rows.defer.Defer.{Defer}
-use Rattle.seize.specs.declared.rows.settle.Settle.{Settle}
-use Rattle.seize_alone.proofs.Histories.Reached.{Reached}
-use Rattle.papaya_tables.specs.Chunks.{is_incremental}
-use Rattle.papaya_tables.specs.Nodes.{deferred_word}
-use Rattle.papaya_tables.specs.declared.node.Node.{Node}
-use Rattle.papaya_tables.specs.declared.setting.Setting.{Setting}
-use Rattle.papaya_tables.specs.declared.table.Table.{Table}
-use Rattle.papaya_resize.specs.CopierPromotes.{table_retired}
-use Rattle.papaya_resize.specs.CopierStates.{standing}
-use Rattle.papaya_resize.specs.declared.copier.Copier.{Copier}
-use Rattle.papaya_resize.specs.declared.copier.Copying.{Copying}
-use Rattle.papaya_resize.specs.declared.copier.Copying.TheVariants as copying
-use Rattle.papaya_resize.specs.declared.dispose.Dispose.{Dispose}
-use Rattle.papaya_resize.specs.declared.dispose.Disposing.{Disposing}
-use Rattle.papaya_resize.specs.declared.dispose.Disposing.TheVariants as disposing
-use Rattle.papaya_reserves.specs.declared.reserve.Reserving.{Reserving}
-use Rattle.papaya_reserves.specs.declared.reserve.Reserving.TheVariants as reserving
-use Rattle.papaya_sweeps.specs.declared.sweep.Sweep.{Sweep}
-use Rattle.papaya_sweeps.specs.declared.sweep.Sweeping.{Sweeping}
-use Rattle.papaya_sweeps.specs.declared.sweep.Sweeping.TheVariants as sweeping
-use Rattle.papaya_raw.specs.declared.machines.call.Calling.{Calling}
-use Rattle.papaya_raw.specs.declared.machines.call.Calling.TheVariants as calling
-use Rattle.papaya_raw.specs.declared.machines.call.KeyCall.{KeyCall}
-use Rattle.papaya_rule.specs.Chart.{Still, Holds, Chart}
-use Rattle.papaya_rule.specs.Words.{Blocks, byte_of, place_word}
-use Rattle.papaya_rule.proofs.Laws.{words_name_pairs, bytes_are_few}
-use Rattle.papaya_rule.proofs.Words.TablesSeen.{block_of_link}
-use Rattle.papaya_points.specs.FactsCalls.{Change, CallingFacts}
-use Rattle.papaya_points.specs.FactsCopies.{CopyingFacts, CopierFacts}
-use Rattle.papaya_points.specs.FactsCopiesBlocking.{CopyingFactsBlocking, CopierFactsBlocking}
-use Rattle.papaya_points.specs.FactsDisposes.{IsToRetire, DisposingFacts}
-use Rattle.papaya_points.specs.Steps.{AreLawful}
-use Rattle.papaya_points.specs.Told.{IsRowOf, IsRowOfCopier, IsRowOfCall}
-use Rattle.papaya_late.specs.FactsReserves.{CopiesWhole, IsEnding, ReservingFacts}
-use Rattle.papaya_late.specs.FactsSweeps.{SweepingFacts}
-use Rattle.papaya_late.specs.LateCalls.{LateCalling}
-use Rattle.papaya_late.specs.LateCopies.{LateCopying}
-use Rattle.papaya_late.specs.LateReserves.{LateReserving}
-use Rattle.papaya_late.specs.ToldReserves.{IsRowOfReserve}
-use Rattle.papaya_late.specs.ToldSweeps.{IsRowOfSweep}
-use Rattle.papaya_callers.specs.OverAll.{row_of_sweep, past_sweeping}
-use Rattle.papaya_callers.specs.Rooms.{row_of_room, past_room}
-use Rattle.papaya_callers.specs.Rows.{past_copying, row_of_disposal, row_of_copier, row_of, past_row}
+use Rattle.papaya_histories.specs.Given.SeizeWords.Word.{block_in}
+use Rattle.papaya_histories.specs.Given.Seize.World.{World, Settles, Parting, Cutting}
+use Rattle.papaya_histories.specs.Given.Seize.declared.rows.defer.Defer.{Defer}
+use Rattle.papaya_histories.specs.Given.Seize.declared.rows.settle.Settle.{Settle}
+use Rattle.papaya_histories.proofs.Given.SeizeAlone.Histories.Reached.{Reached}
+use Rattle.papaya_histories.specs.Given.Tables.Chunks.{is_incremental}
+use Rattle.papaya_histories.specs.Given.Tables.Nodes.{deferred_word}
+use Rattle.papaya_histories.specs.Given.Tables.declared.node.Node.{Node}
+use Rattle.papaya_histories.specs.Given.Tables.declared.setting.Setting.{Setting}
+use Rattle.papaya_histories.specs.Given.Tables.declared.table.Table.{Table}
+use Rattle.papaya_histories.specs.Given.Resize.CopierPromotes.{table_retired}
+use Rattle.papaya_histories.specs.Given.Resize.CopierStates.{standing}
+use Rattle.papaya_histories.specs.Given.Resize.declared.copier.Copier.{Copier}
+use Rattle.papaya_histories.specs.Given.Resize.declared.copier.Copying.{Copying}
+use Rattle.papaya_histories.specs.Given.Resize.declared.copier.Copying.TheVariants as copying
+use Rattle.papaya_histories.specs.Given.Resize.declared.dispose.Dispose.{Dispose}
+use Rattle.papaya_histories.specs.Given.Resize.declared.dispose.Disposing.{Disposing}
+use Rattle.papaya_histories.specs.Given.Resize.declared.dispose.Disposing.TheVariants as disposing
+use Rattle.papaya_histories.specs.Given.Reserves.declared.reserve.Reserving.{Reserving}
+use Rattle.papaya_histories.specs.Given.Reserves.declared.reserve.Reserving.TheVariants as reserving
+use Rattle.papaya_histories.specs.Given.Sweeps.declared.sweep.Sweep.{Sweep}
+use Rattle.papaya_histories.specs.Given.Sweeps.declared.sweep.Sweeping.{Sweeping}
+use Rattle.papaya_histories.specs.Given.Sweeps.declared.sweep.Sweeping.TheVariants as sweeping
+use Rattle.papaya_histories.specs.Given.Raw.declared.machines.call.Calling.{Calling}
+use Rattle.papaya_histories.specs.Given.Raw.declared.machines.call.Calling.TheVariants as calling
+use Rattle.papaya_histories.specs.Given.Raw.declared.machines.call.KeyCall.{KeyCall}
+use Rattle.papaya_histories.specs.Given.Rule.Chart.{Still, Holds, Chart}
+use Rattle.papaya_histories.specs.Given.Rule.Words.{Blocks, byte_of, place_word}
+use Rattle.papaya_histories.proofs.Given.Rule.Laws.{words_name_pairs, bytes_are_few}
+use Rattle.papaya_histories.proofs.Given.Rule.Words.TablesSeen.{block_of_link}
+use Rattle.papaya_histories.specs.Given.Points.FactsCalls.{Change, CallingFacts}
+use Rattle.papaya_histories.specs.Given.Points.FactsCopies.{CopyingFacts, CopierFacts}
+use Rattle.papaya_histories.specs.Given.Points.FactsCopiesBlocking.{CopyingFactsBlocking, CopierFactsBlocking}
+use Rattle.papaya_histories.specs.Given.Points.FactsDisposes.{IsToRetire, DisposingFacts}
+use Rattle.papaya_histories.specs.Given.Points.Steps.{AreLawful}
+use Rattle.papaya_histories.specs.Given.Points.Told.{IsRowOf, IsRowOfCopier, IsRowOfCall}
+use Rattle.papaya_histories.specs.Given.Late.FactsReserves.{CopiesWhole, IsEnding, ReservingFacts}
+use Rattle.papaya_histories.specs.Given.Late.FactsSweeps.{SweepingFacts}
+use Rattle.papaya_histories.specs.Given.Late.LateCalls.{LateCalling}
+use Rattle.papaya_histories.specs.Given.Late.LateCopies.{LateCopying}
+use Rattle.papaya_histories.specs.Given.Late.LateReserves.{LateReserving}
+use Rattle.papaya_histories.specs.Given.Late.ToldReserves.{IsRowOfReserve}
+use Rattle.papaya_histories.specs.Given.Late.ToldSweeps.{IsRowOfSweep}
+use Rattle.papaya_histories.specs.Given.Callers.OverAll.{row_of_sweep, past_sweeping}
+use Rattle.papaya_histories.specs.Given.Callers.Rooms.{row_of_room, past_room}
+use Rattle.papaya_histories.specs.Given.Callers.Rows.{past_copying, row_of_disposal, row_of_copier, row_of, past_row}
 use Rattle.papaya_settles.specs.Due.{word_due, due_in_settle, due_in_defer}
 use Rattle.papaya_settles.specs.Hand.{HoldsAt, HoldsOf, HoldsTables, HoldsOfCall, HoldsOfRoom, HoldsOfSweep}
 use Rattle.papaya_settles.specs.InHand.{pair_in_disposing, pair_in_calling}

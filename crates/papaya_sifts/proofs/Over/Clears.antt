@@ -6,10 +6,10 @@ use Rattle.seize_words.specs.Mem.{Mem}
 use Rattle.seize_words.specs.declared.fault.Fault.{Fault}
 use Rattle.papaya_tables.specs.declared.node.Node.{Node}
 use Rattle.papaya_tables.specs.declared.setting.Setting.{Setting}
-use Rattle.papaya_sweeps.specs.SweepPoints.{sweeping}
-use Rattle.papaya_sweeps.specs.declared.sweep.Purpose.TheVariants.{Walks, Clears}
-use Rattle.papaya_sweeps.specs.declared.sweep.Sweep.{Sweep}
-use Rattle.papaya_late.specs.Faults.{IsRoom, RoomInSweeping}
+use Rattle.papaya_owned.specs.Given.Sweeps.SweepPoints.{sweeping}
+use Rattle.papaya_owned.specs.Given.Sweeps.declared.sweep.Purpose.TheVariants.{Walks, Clears}
+use Rattle.papaya_owned.specs.Given.Sweeps.declared.sweep.Sweep.{Sweep}
+use Rattle.papaya_owned.specs.Given.Late.Faults.{IsRoom, RoomInSweeping}
 use Rattle.papaya_owned.specs.Ending.{Ends, RunsTo}
 use Rattle.papaya_owned.specs.Owned.{Holds}
 use Rattle.papaya_sifts.specs.Sweeping.{ClearedBy, HasSwept, IsSweeping, over_pairs_plan}

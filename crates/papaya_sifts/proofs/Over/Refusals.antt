@@ -6,13 +6,13 @@ use Rattle.seize_words.specs.Plan.{Steps}
 use Rattle.seize_words.specs.declared.fault.Fault.{Fault}
 use Rattle.seize.specs.declared.progress.Progress.{Progress}
 use Rattle.seize.specs.declared.progress.Progress.TheVariants as progress
-use Rattle.seize_rule.proofs.Rows.Leaving.{steps_back}
+use Rattle.papaya_owned.proofs.Given.SeizeRule.Rows.Leaving.{steps_back}
 use Rattle.papaya_tables.specs.declared.node.Node.{Node}
-use Rattle.papaya_sweeps.specs.Sweep.{sweep_plan}
-use Rattle.papaya_sweeps.specs.declared.sweep.Swept.{Swept}
-use Rattle.papaya_sweeps.specs.declared.sweep.Swept.TheVariants as swept
-use Rattle.papaya_late.specs.Faults.{IsRoom, RoomInSweeping, SweepRefusesRoom}
-use Rattle.papaya_late.proofs.KindsKept.Laws.{sweeps_refuse_room}
+use Rattle.papaya_owned.specs.Given.Sweeps.Sweep.{sweep_plan}
+use Rattle.papaya_owned.specs.Given.Sweeps.declared.sweep.Swept.{Swept}
+use Rattle.papaya_owned.specs.Given.Sweeps.declared.sweep.Swept.TheVariants as swept
+use Rattle.papaya_owned.specs.Given.Late.Faults.{IsRoom, RoomInSweeping, SweepRefusesRoom}
+use Rattle.papaya_owned.proofs.Given.Late.KindsKept.Laws.{sweeps_refuse_room}
 use Rattle.papaya_owned.specs.Ending.{Tells, RunsTo, stops, goes}
 use Rattle.papaya_sifts.specs.Sweeping.{over_pairs_plan, over_pairs_after, over_pairs_settled}
 use Rattle.papaya_sifts.specs.declared.sweeping.OverPairs.{OverPairs}

@@ -12,22 +12,22 @@ use Rattle.papaya_tables.specs.Chunks.{is_incremental}
 use Rattle.papaya_tables.specs.declared.node.Node.{Node}
 use Rattle.papaya_tables.specs.declared.node.Node.TheVariants as node
 use Rattle.papaya_tables.specs.declared.setting.Setting.{Setting}
-use Rattle.papaya_sweeps.specs.SweepPoints.{after_reply}
-use Rattle.papaya_sweeps.specs.declared.sweep.Purpose.{Purpose}
-use Rattle.papaya_sweeps.specs.declared.sweep.Purpose.TheVariants.{Walks, Retains}
-use Rattle.papaya_rule.specs.Chart.{Chart}
-use Rattle.papaya_rule.specs.Words.{Blocks}
-use Rattle.papaya_late.specs.Covers.{times}
-use Rattle.papaya_alone.specs.Counting.{pairs_in}
-use Rattle.papaya_callers.specs.OverAll.{CallOverAll, told_of}
-use Rattle.papaya_whole.specs.SweptPairs.{AreNumbered, NumberedBelow, pairs_of, those, is_done, left_by}
-use Rattle.papaya_whole.specs.WholeSweeps.{NamesNew, IsTold}
-use Rattle.papaya_whole.proofs.Contents.Below.{decided}
-use Rattle.papaya_whole.proofs.Contents.KeptBy.{times_here, times_other}
-use Rattle.papaya_whole.proofs.Contents.Numbered.{NumberedLast, numbered_last, numbered_before, numbers_are, numbers_go}
-use Rattle.papaya_whole.proofs.Contents.Swept.{shown, asks_once, sweeps_leave}
-use Rattle.papaya_whole.proofs.Sweeps.Counting.{telling_counts_nothing, telling_keeps_the_purpose}
-use Rattle.papaya_whole.proofs.Sweeps.ToldOn.{sweeps_told_alone}
+use Rattle.papaya_owned.specs.Given.Sweeps.SweepPoints.{after_reply}
+use Rattle.papaya_owned.specs.Given.Sweeps.declared.sweep.Purpose.{Purpose}
+use Rattle.papaya_owned.specs.Given.Sweeps.declared.sweep.Purpose.TheVariants.{Walks, Retains}
+use Rattle.papaya_owned.specs.Given.Rule.Chart.{Chart}
+use Rattle.papaya_owned.specs.Given.Rule.Words.{Blocks}
+use Rattle.papaya_owned.specs.Given.Late.Covers.{times}
+use Rattle.papaya_owned.specs.Given.Alone.Counting.{pairs_in}
+use Rattle.papaya_owned.specs.Given.Callers.OverAll.{CallOverAll, told_of}
+use Rattle.papaya_owned.specs.Given.Whole.SweptPairs.{AreNumbered, NumberedBelow, pairs_of, those, is_done, left_by}
+use Rattle.papaya_owned.specs.Given.Whole.WholeSweeps.{NamesNew, IsTold}
+use Rattle.papaya_owned.proofs.Given.Whole.Contents.Below.{decided}
+use Rattle.papaya_owned.proofs.Given.Whole.Contents.KeptBy.{times_here, times_other}
+use Rattle.papaya_owned.proofs.Given.Whole.Contents.Numbered.{NumberedLast, numbered_last, numbered_before, numbers_are, numbers_go}
+use Rattle.papaya_owned.proofs.Given.Whole.Contents.Swept.{shown, asks_once, sweeps_leave}
+use Rattle.papaya_owned.proofs.Given.Whole.Sweeps.Counting.{telling_counts_nothing, telling_keeps_the_purpose}
+use Rattle.papaya_owned.proofs.Given.Whole.Sweeps.ToldOn.{sweeps_told_alone}
 use Rattle.papaya_owned.specs.Owned.{Holds}
 use Rattle.papaya_sifts.specs.declared.sweeping.OverPairs.{OverPairs}
 use Rattle.papaya_sifts.proofs.Over.Sweeps.{Said, Under, UnderAsking, IsDone, goes_over_one, holds_at}

@@ -11,15 +11,15 @@ use Rattle.seize_words.specs.Mem.{Mem}
 use Rattle.seize_words.specs.declared.fault.Fault.{Fault}
 use Rattle.papaya_tables.specs.declared.node.Node.{Node}
 use Rattle.papaya_tables.specs.declared.setting.Setting.{Setting}
-use Rattle.papaya_sweeps.specs.SweepPoints.{sweeping, after_reply}
-use Rattle.papaya_sweeps.specs.declared.sweep.Purpose.TheVariants.{Retains}
-use Rattle.papaya_sweeps.specs.declared.sweep.Sweep.{Sweep}
-use Rattle.papaya_late.specs.Covers.{times}
-use Rattle.papaya_late.specs.Faults.{IsRoom, RoomInSweeping}
-use Rattle.papaya_late.proofs.KindsKept.Laws.{told_sweeps_refuse_room}
-use Rattle.papaya_whole.specs.SweptPairs.{pairs_of, those, is_done}
-use Rattle.papaya_whole.proofs.Contents.KeptBy.{done_here, done_other, times_here}
-use Rattle.papaya_whole.proofs.Contents.Numbered.{all_those}
+use Rattle.papaya_owned.specs.Given.Sweeps.SweepPoints.{sweeping, after_reply}
+use Rattle.papaya_owned.specs.Given.Sweeps.declared.sweep.Purpose.TheVariants.{Retains}
+use Rattle.papaya_owned.specs.Given.Sweeps.declared.sweep.Sweep.{Sweep}
+use Rattle.papaya_owned.specs.Given.Late.Covers.{times}
+use Rattle.papaya_owned.specs.Given.Late.Faults.{IsRoom, RoomInSweeping}
+use Rattle.papaya_owned.proofs.Given.Late.KindsKept.Laws.{told_sweeps_refuse_room}
+use Rattle.papaya_owned.specs.Given.Whole.SweptPairs.{pairs_of, those, is_done}
+use Rattle.papaya_owned.proofs.Given.Whole.Contents.KeptBy.{done_here, done_other, times_here}
+use Rattle.papaya_owned.proofs.Given.Whole.Contents.Numbered.{all_those}
 use Rattle.papaya_owned.specs.Ending.{Ends, RunsTo}
 use Rattle.papaya_owned.specs.Owned.{Holds, NamesAPair}
 use Rattle.papaya_sifts.specs.Retaining.{AskedAbout, AskedAlong, KeepsOf}

@@ -8,42 +8,42 @@ use Rattle.seize_words.specs.declared.fault.Fault.{Fault}
 use Rattle.seize.specs.World.{World}
 use Rattle.seize.specs.declared.progress.Progress.{Progress}
 use Rattle.seize.specs.declared.progress.Progress.TheVariants as progress
-use Rattle.seize_rule.proofs.Rows.Leaving.{steps_back}
+use Rattle.papaya_owned.proofs.Given.SeizeRule.Rows.Leaving.{steps_back}
 use Rattle.papaya_tables.specs.Chunks.{is_incremental}
 use Rattle.papaya_tables.specs.declared.node.Node.{Node}
 use Rattle.papaya_tables.specs.declared.setting.Setting.{Setting}
-use Rattle.papaya_sweeps.specs.Sweep.{sweep_plan}
-use Rattle.papaya_sweeps.specs.SweepPoints.{sweeping}
-use Rattle.papaya_sweeps.specs.declared.sweep.Purpose.{Purpose}
-use Rattle.papaya_sweeps.specs.declared.sweep.Purpose.TheVariants.{Walks, Clears, Retains}
-use Rattle.papaya_sweeps.specs.declared.sweep.Sweep.{Sweep}
-use Rattle.papaya_sweeps.specs.declared.sweep.Sweeping.{Sweeping}
-use Rattle.papaya_sweeps.specs.declared.sweep.Sweeping.TheVariants as at
-use Rattle.papaya_sweeps.specs.declared.sweep.Swept.{Swept}
-use Rattle.papaya_sweeps.specs.declared.sweep.Swept.TheVariants as swept
-use Rattle.papaya_rule.specs.Chart.{Chart}
-use Rattle.papaya_rule.specs.Words.{Blocks}
-use Rattle.papaya_points.specs.Steps.{AreLawful}
-use Rattle.papaya_alone.specs.Counting.{IsCounted}
-use Rattle.papaya_alone.specs.Endings.{RunsEnd, runs_end}
-use Rattle.papaya_late.specs.Covers.{Came}
-use Rattle.papaya_late.specs.FactsSweeps.{SweepingFacts}
-use Rattle.papaya_late.specs.ToldSweeps.{IsRowOfSweep}
-use Rattle.papaya_callers.specs.OverAll.{CallOverAll, begun_over_all, come_to}
-use Rattle.papaya_callers.specs.Sights.{Sight}
-use Rattle.papaya_callers.specs.Together.{OverAll, in_slot}
-use Rattle.papaya_whole.specs.Contents.{AreContents}
-use Rattle.papaya_whole.specs.LoneSweeps.{goes_once}
-use Rattle.papaya_whole.specs.Owner.{AtRest, IsAlone}
-use Rattle.papaya_whole.specs.SweptPairs.{HasSwept, AreNumbered, pairs_of, left_by}
-use Rattle.papaya_whole.specs.WholeSweeps.{SweepsOn, SweepStepLeads, IsCountedBut, TakesMore}
-use Rattle.papaya_whole.proofs.Contents.Numbered.{numbers_are, numbers_go}
-use Rattle.papaya_whole.proofs.Contents.Swept.{swept_begins, refused, sweeps_leave}
-use Rattle.papaya_whole.proofs.Sweeps.Begins.{sweeps_begin_alone}
-use Rattle.papaya_whole.proofs.Sweeps.Counting.{swept_pairs_counted}
-use Rattle.papaya_whole.proofs.Sweeps.Ends.{sweeps_come_to_an_end}
-use Rattle.papaya_whole.proofs.Sweeps.Leads.{sweeps_go_on_alone}
-use Rattle.papaya_whole.proofs.Sweeps.Own as own
+use Rattle.papaya_owned.specs.Given.Sweeps.Sweep.{sweep_plan}
+use Rattle.papaya_owned.specs.Given.Sweeps.SweepPoints.{sweeping}
+use Rattle.papaya_owned.specs.Given.Sweeps.declared.sweep.Purpose.{Purpose}
+use Rattle.papaya_owned.specs.Given.Sweeps.declared.sweep.Purpose.TheVariants.{Walks, Clears, Retains}
+use Rattle.papaya_owned.specs.Given.Sweeps.declared.sweep.Sweep.{Sweep}
+use Rattle.papaya_owned.specs.Given.Sweeps.declared.sweep.Sweeping.{Sweeping}
+use Rattle.papaya_owned.specs.Given.Sweeps.declared.sweep.Sweeping.TheVariants as at
+use Rattle.papaya_owned.specs.Given.Sweeps.declared.sweep.Swept.{Swept}
+use Rattle.papaya_owned.specs.Given.Sweeps.declared.sweep.Swept.TheVariants as swept
+use Rattle.papaya_owned.specs.Given.Rule.Chart.{Chart}
+use Rattle.papaya_owned.specs.Given.Rule.Words.{Blocks}
+use Rattle.papaya_owned.specs.Given.Points.Steps.{AreLawful}
+use Rattle.papaya_owned.specs.Given.Alone.Counting.{IsCounted}
+use Rattle.papaya_owned.specs.Given.Alone.Endings.{RunsEnd, runs_end}
+use Rattle.papaya_owned.specs.Given.Late.Covers.{Came}
+use Rattle.papaya_owned.specs.Given.Late.FactsSweeps.{SweepingFacts}
+use Rattle.papaya_owned.specs.Given.Late.ToldSweeps.{IsRowOfSweep}
+use Rattle.papaya_owned.specs.Given.Callers.OverAll.{CallOverAll, begun_over_all, come_to}
+use Rattle.papaya_owned.specs.Given.Callers.Sights.{Sight}
+use Rattle.papaya_owned.specs.Given.Callers.Together.{OverAll, in_slot}
+use Rattle.papaya_owned.specs.Given.Whole.Contents.{AreContents}
+use Rattle.papaya_owned.specs.Given.Whole.LoneSweeps.{goes_once}
+use Rattle.papaya_owned.specs.Given.Whole.Owner.{AtRest, IsAlone}
+use Rattle.papaya_owned.specs.Given.Whole.SweptPairs.{HasSwept, AreNumbered, pairs_of, left_by}
+use Rattle.papaya_owned.specs.Given.Whole.WholeSweeps.{SweepsOn, SweepStepLeads, IsCountedBut, TakesMore}
+use Rattle.papaya_owned.proofs.Given.Whole.Contents.Numbered.{numbers_are, numbers_go}
+use Rattle.papaya_owned.proofs.Given.Whole.Contents.Swept.{swept_begins, refused, sweeps_leave}
+use Rattle.papaya_owned.proofs.Given.Whole.Sweeps.Begins.{sweeps_begin_alone}
+use Rattle.papaya_owned.proofs.Given.Whole.Sweeps.Counting.{swept_pairs_counted}
+use Rattle.papaya_owned.proofs.Given.Whole.Sweeps.Ends.{sweeps_come_to_an_end}
+use Rattle.papaya_owned.proofs.Given.Whole.Sweeps.Leads.{sweeps_go_on_alone}
+use Rattle.papaya_owned.proofs.Given.Whole.Sweeps.Own as own
 use Rattle.papaya_owned.specs.Ending.{GoesOn, Tells, Ends, all_end, RunsTo, stops, goes}
 use Rattle.papaya_owned.specs.Owned.{Holds}
 use Rattle.papaya_sifts.specs.Sweeping.{over_pairs_plan, over_pairs_after, over_pairs_settled}

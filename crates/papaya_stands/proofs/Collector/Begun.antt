@@ -4,15 +4,15 @@ use Rattle.std.specs.Int.{IsPowerOfTwo}
 use Rattle.std.proofs.Common.{◌≡◌, ℕ, zero, suc, ◌<◌, ◌≤◌, Bool, true, List, [], ◌∷◌, ◌⊎◌, inl, inr, refl, sym, ap, subst, arith, ◌∙◌}
 use Rattle.std.proofs.lemmas.Bool.{cases_lt, eq-eqb}
 use Rattle.seize_words.specs.Mem.{Mem, value_at}
-use Rattle.seize.specs.WaitingSets.{Change, Further, Sets, all_changed, at_start}
-use Rattle.seize.specs.World.{Use}
-use Rattle.seize_waiting.specs.Held.{same, weight_put, Tidy, Every, all_held, bare}
-use Rattle.seize_alone.specs.Alone.{History, IsHistory}
-use Rattle.papaya_tables.specs.Nodes.{deferred_word}
-use Rattle.papaya_tables.specs.declared.node.Node.{Node}
-use Rattle.papaya_tables.specs.declared.node.Node.TheVariants as node
-use Rattle.papaya_tables.specs.declared.setting.Setting.{Setting}
-use Rattle.papaya_rule.specs.Chart.{Chart}
+use Rattle.papaya_maps.specs.Given.Seize.WaitingSets.{Change, Further, Sets, all_changed, at_start}
+use Rattle.papaya_maps.specs.Given.Seize.World.{Use}
+use Rattle.papaya_maps.specs.Given.SeizeWaiting.Held.{same, weight_put, Tidy, Every, all_held, bare}
+use Rattle.papaya_maps.specs.Given.SeizeAlone.Alone.{History, IsHistory}
+use Rattle.papaya_maps.specs.Given.Tables.Nodes.{deferred_word}
+use Rattle.papaya_maps.specs.Given.Tables.declared.node.Node.{Node}
+use Rattle.papaya_maps.specs.Given.Tables.declared.node.Node.TheVariants as node
+use Rattle.papaya_maps.specs.Given.Tables.declared.setting.Setting.{Setting}
+use Rattle.papaya_maps.specs.Given.Rule.Chart.{Chart}
 use Rattle.papaya_maps.specs.AloneBegins.{HasHandedNone, HasOpened, HasSameRoots, HasSameValues}
 use Rattle.papaya_runs.specs.declared.record.Pair.{Pair}
 use Rattle.papaya_runs.specs.LifeCycle.{times}

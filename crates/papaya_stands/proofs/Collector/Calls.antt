@@ -3,20 +3,20 @@ use Rattle.std.specs.Prelude.{Option, None, map}
 use Rattle.std.proofs.Common.{◌≡◌, ◌≢◌, ℕ, ◌+◌, ◌<◌, ◌^◌, Bool, List, [], ◌∷◌, ◌++◌, length, refl, sym, ap, subst, arith, ◌∙◌}
 use Rattle.std.proofs.lemmas.List.{append-nil}
 use Rattle.seize_words.specs.Mem.{Mem, value_at}
-use Rattle.seize.specs.Sequence.{changes}
-use Rattle.seize.specs.WaitingSets.{Sets, Change, After, changed, all_changed, at_start}
-use Rattle.seize.specs.World.{Use, Row, Request, times as times_in}
-use Rattle.seize_waiting.specs.Held.{count}
-use Rattle.seize_waiting.specs.Changes.{MayChange, numbers_of, active_after, Keeps}
-use Rattle.seize_waiting.proofs.Laws.{changes_keep}
-use Rattle.seize_alone.specs.Alone.{History, Spares, MayGive, IsMidway, called, given_back, hand_at, uses_after}
-use Rattle.seize_alone.proofs.Laws.{counts_agree, nobodys_is_none, reclaimed_is_nobodys, spared_stays_in_hand}
-use Rattle.papaya_tables.specs.Nodes.{deferred_word}
-use Rattle.papaya_tables.specs.declared.node.Node.{Node}
-use Rattle.papaya_tables.specs.declared.setting.Setting.{Setting}
-use Rattle.papaya_rule.specs.Chart.{Chart}
-use Rattle.papaya_rule.specs.Words.{Blocks}
-use Rattle.papaya_alone.specs.Alone.{MapRests}
+use Rattle.papaya_maps.specs.Given.Seize.Sequence.{changes}
+use Rattle.papaya_maps.specs.Given.Seize.WaitingSets.{Sets, Change, After, changed, all_changed, at_start}
+use Rattle.papaya_maps.specs.Given.Seize.World.{Use, Row, Request, times as times_in}
+use Rattle.papaya_maps.specs.Given.SeizeWaiting.Held.{count}
+use Rattle.papaya_maps.specs.Given.SeizeWaiting.Changes.{MayChange, numbers_of, active_after, Keeps}
+use Rattle.papaya_maps.proofs.Given.SeizeWaiting.Laws.{changes_keep}
+use Rattle.papaya_maps.specs.Given.SeizeAlone.Alone.{History, Spares, MayGive, IsMidway, called, given_back, hand_at, uses_after}
+use Rattle.papaya_maps.proofs.Given.SeizeAlone.Laws.{counts_agree, nobodys_is_none, reclaimed_is_nobodys, spared_stays_in_hand}
+use Rattle.papaya_maps.specs.Given.Tables.Nodes.{deferred_word}
+use Rattle.papaya_maps.specs.Given.Tables.declared.node.Node.{Node}
+use Rattle.papaya_maps.specs.Given.Tables.declared.setting.Setting.{Setting}
+use Rattle.papaya_maps.specs.Given.Rule.Chart.{Chart}
+use Rattle.papaya_maps.specs.Given.Rule.Words.{Blocks}
+use Rattle.papaya_maps.specs.Given.Alone.Alone.{MapRests}
 use Rattle.papaya_maps.specs.RestsOn.{IsOther, RestsOn, RetiresCut}
 use Rattle.papaya_maps.proofs.Laws.{rests_through_calls}
 use Rattle.papaya_runs.specs.Effects.{pairs_among, tables_among, reclaim_of}

@@ -2,21 +2,21 @@
 use Rattle.std.specs.Prelude.{Option, None, map}
 use Rattle.std.proofs.Common.{◌≡◌, ◌≢◌, ℕ, zero, suc, ◌+◌, ◌≤◌, Bool, List, [], ◌++◌, length, refl, sym, ap, subst, arith, ◌∙◌}
 use Rattle.seize_words.specs.Mem.{Mem, value_at}
-use Rattle.seize.specs.WaitingSets.{Sets, After}
-use Rattle.seize.specs.World.{Use}
-use Rattle.seize_waiting.specs.Held.{count, Tidy, Every, all_held, bare}
-use Rattle.seize_waiting.specs.Changes.{Keeps}
-use Rattle.seize_waiting.specs.Every.{every_more, every_both, every_after}
-use Rattle.seize_waiting.proofs.Laws.{uncounted_is_not_there, kept_are_behind_others}
-use Rattle.seize_alone.specs.Alone.{History, IsHistory, SameLeft}
-use Rattle.papaya_tables.specs.Nodes.{deferred_word}
-use Rattle.papaya_tables.specs.declared.node.Node.{Node}
-use Rattle.papaya_tables.specs.declared.setting.Setting.{Setting}
-use Rattle.papaya_rule.specs.Chart.{Chart}
-use Rattle.papaya_rule.specs.Words.{Blocks}
-use Rattle.papaya_alone.specs.Alone.{MapRests}
+use Rattle.papaya_maps.specs.Given.Seize.WaitingSets.{Sets, After}
+use Rattle.papaya_maps.specs.Given.Seize.World.{Use}
+use Rattle.papaya_maps.specs.Given.SeizeWaiting.Held.{count, Tidy, Every, all_held, bare}
+use Rattle.papaya_maps.specs.Given.SeizeWaiting.Changes.{Keeps}
+use Rattle.papaya_maps.specs.Given.SeizeWaiting.Every.{every_more, every_both, every_after}
+use Rattle.papaya_maps.proofs.Given.SeizeWaiting.Laws.{uncounted_is_not_there, kept_are_behind_others}
+use Rattle.papaya_maps.specs.Given.SeizeAlone.Alone.{History, IsHistory, SameLeft}
+use Rattle.papaya_maps.specs.Given.Tables.Nodes.{deferred_word}
+use Rattle.papaya_maps.specs.Given.Tables.declared.node.Node.{Node}
+use Rattle.papaya_maps.specs.Given.Tables.declared.setting.Setting.{Setting}
+use Rattle.papaya_maps.specs.Given.Rule.Chart.{Chart}
+use Rattle.papaya_maps.specs.Given.Rule.Words.{Blocks}
+use Rattle.papaya_maps.specs.Given.Alone.Alone.{MapRests}
 use Rattle.papaya_maps.specs.RestsOn.{RestsOn}
-use Rattle.seize_alone.proofs.Laws.{counts_agree}
+use Rattle.papaya_maps.proofs.Given.SeizeAlone.Laws.{counts_agree}
 use Rattle.papaya_runs.specs.Effects.{pair_thing, pairs_among, tables_among}
 use Rattle.papaya_runs.specs.Present.{Present}
 use Rattle.papaya_runs.specs.State.{State, of_number, of_numbers, without_numbers, without_turns}

@@ -2,10 +2,10 @@
 use Rattle.std.specs.Prelude.{None, Some, replicate, slice_get, ◌==◌, if◌then◌else◌}
 use Rattle.std.proofs.Common.{◌≡◌, ℕ, zero, suc, ◌<◌, ◌≤◌, ◌^◌, Bool, true, false, [], inl, refl, arith}
 use Rattle.seize_words.specs.Mem.{Mem, value_at, value_in}
-use Rattle.seize_alone.specs.Alone.{nothing_yet}
-use Rattle.seize_alone.proofs.Laws.{histories_begin}
-use Rattle.papaya_tables.specs.Nodes.{deferred_word}
-use Rattle.papaya_tables.specs.declared.node.Node.{Node}
+use Rattle.papaya_maps.specs.Given.SeizeAlone.Alone.{nothing_yet}
+use Rattle.papaya_maps.proofs.Given.SeizeAlone.Laws.{histories_begin}
+use Rattle.papaya_maps.specs.Given.Tables.Nodes.{deferred_word}
+use Rattle.papaya_maps.specs.Given.Tables.declared.node.Node.{Node}
 use Rattle.papaya_runs.specs.Present.{nobody}
 use Rattle.papaya_runs.specs.State.{fresh}
 use Rattle.papaya_stands.specs.Collects.{Collects, IsEmpty, use_of}

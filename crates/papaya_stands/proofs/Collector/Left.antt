@@ -3,11 +3,11 @@ use Rattle.std.specs.Prelude.{Some, None, slice_get}
 use Rattle.std.proofs.Common.{◌≡◌, ◌≢◌, ℕ, zero, suc, Bool, List, [], ◌∷◌, ◌⊎◌, inl, inr, refl, sym, ap, arith, ◌∙◌}
 use Rattle.seize_words.specs.declared.at.At.TheVariants.{Root, Used}
 use Rattle.seize_words.specs.Mem.{Mem, value_at, word_at}
-use Rattle.seize.specs.Further.{ListFrom}
-use Rattle.seize.specs.WaitingSets.{Sets}
-use Rattle.seize.specs.World.{LeftTo, times as times_in}
-use Rattle.seize_alone.specs.Alone.{History, SameLeft}
-use Rattle.papaya_tables.specs.declared.node.Node.{Node}
+use Rattle.papaya_maps.specs.Given.Seize.Further.{ListFrom}
+use Rattle.papaya_maps.specs.Given.Seize.WaitingSets.{Sets}
+use Rattle.papaya_maps.specs.Given.Seize.World.{LeftTo, times as times_in}
+use Rattle.papaya_maps.specs.Given.SeizeAlone.Alone.{History, SameLeft}
+use Rattle.papaya_maps.specs.Given.Tables.declared.node.Node.{Node}
 use Rattle.papaya_runs.specs.declared.record.Pair.{Pair}
 use Rattle.papaya_runs.specs.Effects.{pair_thing}
 use Rattle.papaya_runs.specs.LifeCycle.{times}

@@ -3,14 +3,14 @@ use Rattle.std.specs.Prelude.{Option, Some, None, slice_get}
 use Rattle.std.proofs.Common.{◌≡◌, ◌≢◌, ℕ, zero, suc, Bool, List, ◌⊎◌, inl, inr, refl, sym, ap, ◌∙◌}
 use Rattle.seize_words.specs.declared.at.At.TheVariants.{Root}
 use Rattle.seize_words.specs.Mem.{Mem, value_at, word_at}
-use Rattle.seize.specs.World.{times}
-use Rattle.seize.specs.WaitingSets.{Sets}
-use Rattle.seize_alone.specs.Alone.{History}
-use Rattle.papaya_tables.specs.declared.node.Node.{Node}
-use Rattle.papaya_tables.specs.declared.setting.Setting.{Setting}
-use Rattle.papaya_rule.specs.Chart.{Chart}
-use Rattle.papaya_rule.specs.Words.{Blocks}
-use Rattle.papaya_alone.specs.Alone.{MapRests}
+use Rattle.papaya_maps.specs.Given.Seize.World.{times}
+use Rattle.papaya_maps.specs.Given.Seize.WaitingSets.{Sets}
+use Rattle.papaya_maps.specs.Given.SeizeAlone.Alone.{History}
+use Rattle.papaya_maps.specs.Given.Tables.declared.node.Node.{Node}
+use Rattle.papaya_maps.specs.Given.Tables.declared.setting.Setting.{Setting}
+use Rattle.papaya_maps.specs.Given.Rule.Chart.{Chart}
+use Rattle.papaya_maps.specs.Given.Rule.Words.{Blocks}
+use Rattle.papaya_maps.specs.Given.Alone.Alone.{MapRests}
 use Rattle.papaya_maps.specs.RestsOn.{RestsOn}
 use Rattle.papaya_runs.specs.declared.record.Pair.{Pair}
 use Rattle.papaya_runs.specs.Present.{Present}

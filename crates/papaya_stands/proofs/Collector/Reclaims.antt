@@ -3,11 +3,11 @@ use Rattle.std.specs.Prelude.{Option}
 use Rattle.std.proofs.Common.{◌≡◌, ℕ, Bool, List, [], ◌++◌, sym, ap, arith, append_assoc, ◌∙◌}
 use Rattle.std.proofs.lemmas.List.{append-nil}
 use Rattle.seize_words.specs.Mem.{Mem}
-use Rattle.seize.specs.WaitingSets.{Sets, After, Change, changed, quietly, then_also}
-use Rattle.seize.specs.World.{Row, Use, Request}
-use Rattle.seize_alone.specs.Alone.{IsMidway}
-use Rattle.papaya_tables.specs.Nodes.{deferred_word}
-use Rattle.papaya_tables.specs.declared.node.Node.{Node}
+use Rattle.papaya_maps.specs.Given.Seize.WaitingSets.{Sets, After, Change, changed, quietly, then_also}
+use Rattle.papaya_maps.specs.Given.Seize.World.{Row, Use, Request}
+use Rattle.papaya_maps.specs.Given.SeizeAlone.Alone.{IsMidway}
+use Rattle.papaya_maps.specs.Given.Tables.Nodes.{deferred_word}
+use Rattle.papaya_maps.specs.Given.Tables.declared.node.Node.{Node}
 use Rattle.papaya_runs.specs.declared.record.Pair.{Pair}
 use Rattle.papaya_runs.specs.Effects.{pairs_among, tables_among}
 use Rattle.papaya_runs.specs.State.{State, of_numbers, without_numbers, without_turns}

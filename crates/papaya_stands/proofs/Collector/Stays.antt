@@ -3,17 +3,17 @@ use Rattle.std.specs.Prelude.{Option, Some}
 use Rattle.std.proofs.Common.{arith, ◌≡◌, ℕ, Bool, List, [], refl, sym, ap, subst, ◌∙◌, ◌<◌}
 use Rattle.seize_words.specs.declared.at.At.TheVariants.{Slot}
 use Rattle.seize_words.specs.Mem.{Mem, value_at, word_at}
-use Rattle.seize.specs.declared.states.TheConstants.{HEAD}
-use Rattle.seize.specs.WaitingSets.{Change, all_changed, at_start, quietly}
-use Rattle.seize.specs.World.{Use}
-use Rattle.seize_waiting.proofs.Laws.{all_changes_keep}
-use Rattle.seize_alone.specs.Alone.{History, IsHistory, Spares, SameLeft}
-use Rattle.papaya_tables.specs.Nodes.{deferred_word}
-use Rattle.papaya_tables.specs.declared.node.Node.{Node}
-use Rattle.papaya_tables.specs.declared.setting.Setting.{Setting}
-use Rattle.papaya_rule.specs.Chart.{Chart}
-use Rattle.papaya_rule.specs.Words.{Blocks}
-use Rattle.papaya_alone.specs.Alone.{MapRests}
+use Rattle.papaya_maps.specs.Given.Seize.declared.states.TheConstants.{HEAD}
+use Rattle.papaya_maps.specs.Given.Seize.WaitingSets.{Change, all_changed, at_start, quietly}
+use Rattle.papaya_maps.specs.Given.Seize.World.{Use}
+use Rattle.papaya_maps.proofs.Given.SeizeWaiting.Laws.{all_changes_keep}
+use Rattle.papaya_maps.specs.Given.SeizeAlone.Alone.{History, IsHistory, Spares, SameLeft}
+use Rattle.papaya_maps.specs.Given.Tables.Nodes.{deferred_word}
+use Rattle.papaya_maps.specs.Given.Tables.declared.node.Node.{Node}
+use Rattle.papaya_maps.specs.Given.Tables.declared.setting.Setting.{Setting}
+use Rattle.papaya_maps.specs.Given.Rule.Chart.{Chart}
+use Rattle.papaya_maps.specs.Given.Rule.Words.{Blocks}
+use Rattle.papaya_maps.specs.Given.Alone.Alone.{MapRests}
 use Rattle.papaya_maps.specs.RestsOn.{RestsOn}
 use Rattle.papaya_maps.proofs.Laws.{rests_as_slots_change}
 use Rattle.papaya_runs.specs.Present.{Present}

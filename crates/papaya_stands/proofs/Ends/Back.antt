@@ -2,10 +2,10 @@
 use Rattle.std.specs.Prelude.{◌==◌, map, filter}
 use Rattle.std.proofs.Common.{◌≡◌, ℕ, zero, suc, ◌+◌, ◌<◌, ◌≤◌, Bool, true, false, cond, List, [], ◌∷◌, ◌++◌, ◌⊎◌, inl, inr, refl, sym, ap, subst, arith, ◌∙◌}
 use Rattle.std.proofs.lemmas.Bool.{cases_eq}
-use Rattle.seize.specs.WaitingSets.{Further, further_of, further_of_all}
-use Rattle.seize.specs.World.{times}
-use Rattle.seize_waiting.specs.Held.{same, count, Every}
-use Rattle.papaya_finishes.specs.Orders.{tables_in}
+use Rattle.papaya_maps.specs.Given.Seize.WaitingSets.{Further, further_of, further_of_all}
+use Rattle.papaya_maps.specs.Given.Seize.World.{times}
+use Rattle.papaya_maps.specs.Given.SeizeWaiting.Held.{same, count, Every}
+use Rattle.papaya_maps.specs.Given.Finishes.Orders.{tables_in}
 use Rattle.papaya_maps.proofs.Laws.{in_one_of_two, first_or_behind}
 use Rattle.papaya_runs.specs.LifeCycle.{times as number_times}
 use Rattle.papaya_runs.specs.MapEnds.{turns_with, if_any}

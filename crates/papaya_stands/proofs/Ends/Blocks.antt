@@ -2,14 +2,14 @@
 use Rattle.std.specs.Prelude.{◌-◌, map, Some}
 use Rattle.std.proofs.Common.{◌≡◌, ℕ, zero, suc, ◌+◌, ◌<◌, ◌≤◌, Bool, true, false, cond, List, [], ◌∷◌, ◌++◌, ◌⊎◌, inl, inr, refl, sym, ap, subst, arith, ◌∙◌}
 use Rattle.seize_words.specs.Mem.{Mem}
-use Rattle.seize.specs.World.{Use, Hand, Handed, times}
-use Rattle.papaya_tables.specs.Chunks.{is_incremental}
-use Rattle.papaya_tables.specs.declared.node.Node.{Node}
-use Rattle.papaya_tables.specs.declared.setting.Setting.{Setting}
-use Rattle.papaya_points.specs.Steps.{AreLawful}
+use Rattle.papaya_maps.specs.Given.Seize.World.{Use, Hand, Handed, times}
+use Rattle.papaya_maps.specs.Given.Tables.Chunks.{is_incremental}
+use Rattle.papaya_maps.specs.Given.Tables.declared.node.Node.{Node}
+use Rattle.papaya_maps.specs.Given.Tables.declared.setting.Setting.{Setting}
+use Rattle.papaya_maps.specs.Given.Points.Steps.{AreLawful}
 use Rattle.papaya_maps.specs.AloneEnds.{all_given}
-use Rattle.papaya_callers.specs.Kept.{IsMaking}
-use Rattle.papaya_finishes.specs.Orders.{pairs_of, tables_in}
+use Rattle.papaya_maps.specs.Given.Callers.Kept.{IsMaking}
+use Rattle.papaya_maps.specs.Given.Finishes.Orders.{pairs_of, tables_in}
 use Rattle.papaya_maps.specs.WholeEnds.{CanEnd}
 use Rattle.papaya_maps.proofs.Laws.{in_one_of_two, first_or_behind, ends_give_each_once}
 use Rattle.papaya_runs.specs.State.{State}

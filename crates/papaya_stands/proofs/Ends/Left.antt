@@ -2,18 +2,18 @@
 use Rattle.std.specs.Prelude.{◌-◌, map, Some, None}
 use Rattle.std.proofs.Common.{◌≡◌, ◌≢◌, ℕ, zero, suc, ◌<◌, Bool, true, false, List, [], ◌∷◌, ◌++◌, ◌⊎◌, inl, inr, refl, sym, ap, subst, arith, ◌∙◌}
 use Rattle.seize_words.specs.Mem.{Mem, value_at}
-use Rattle.seize_alone.specs.Alone.{History}
-use Rattle.seize.specs.WaitingSets.{all_changed}
-use Rattle.seize.specs.World.{Use, LeftTo, times as block_times_in}
-use Rattle.seize_waiting.specs.Held.{count}
-use Rattle.seize_waiting.proofs.Laws.{agree_on_lists}
-use Rattle.papaya_tables.specs.Nodes.{deferred_word}
-use Rattle.papaya_tables.specs.declared.node.Node.{Node}
-use Rattle.papaya_tables.specs.declared.setting.Setting.{Setting}
-use Rattle.papaya_points.specs.Steps.{AreLawful}
+use Rattle.papaya_maps.specs.Given.SeizeAlone.Alone.{History}
+use Rattle.papaya_maps.specs.Given.Seize.WaitingSets.{all_changed}
+use Rattle.papaya_maps.specs.Given.Seize.World.{Use, LeftTo, times as block_times_in}
+use Rattle.papaya_maps.specs.Given.SeizeWaiting.Held.{count}
+use Rattle.papaya_maps.proofs.Given.SeizeWaiting.Laws.{agree_on_lists}
+use Rattle.papaya_maps.specs.Given.Tables.Nodes.{deferred_word}
+use Rattle.papaya_maps.specs.Given.Tables.declared.node.Node.{Node}
+use Rattle.papaya_maps.specs.Given.Tables.declared.setting.Setting.{Setting}
+use Rattle.papaya_maps.specs.Given.Points.Steps.{AreLawful}
 use Rattle.papaya_maps.specs.AloneEnds.{HasEndedAlone}
-use Rattle.papaya_finishes.specs.FactsEnds.{RootIs}
-use Rattle.papaya_finishes.specs.Orders.{IsLeftBefore}
+use Rattle.papaya_maps.specs.Given.Finishes.FactsEnds.{RootIs}
+use Rattle.papaya_maps.specs.Given.Finishes.Orders.{IsLeftBefore}
 use Rattle.papaya_maps.proofs.Laws.{in_one_of_two, waits_behind_tables}
 use Rattle.papaya_runs.specs.declared.record.Pair.{Pair}
 use Rattle.papaya_runs.specs.Effects.{pair_thing, table_thing}
@@ -26,7 +26,7 @@ use Rattle.papaya_calls.specs.Kept.{kept_of, thing_in, thing_at}
 use Rattle.papaya_calls.specs.declared.numbered.Numbered.{Numbered}
 use Rattle.papaya_stands.proofs.Ends.Back.{in_mapped, mapped_in, block_times, block_count, all_behind_so}
 use Rattle.papaya_stands.proofs.Pairs.Lives.{IsOneOf}
-use Rattle.seize_alone.proofs.Laws.{waiting_was_handed}
+use Rattle.papaya_maps.proofs.Given.SeizeAlone.Laws.{waiting_was_handed}
 use Rattle.papaya_stands.proofs.Ends.Blocks.{IsBack, back, back_once, goes_back}
 use Rattle.papaya_stands.proofs.Ends.Sets.{sized, named_so, lists, list_named}
 use Rattle.papaya_stands.proofs.Ends.Waiting.{left, waited, was_left, not_left, left_or_waits, value_then, named_then, carriers_then, alike_then, tidy_then, waits_then, once_then}

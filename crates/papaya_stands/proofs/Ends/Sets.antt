@@ -2,15 +2,15 @@
 use Rattle.std.specs.Prelude.{◌-◌, map, Option, Some, None}
 use Rattle.std.proofs.Common.{◌≡◌, ℕ, ◌+◌, ◌<◌, ◌≤◌, Bool, false, List, [], inl, inr, refl, sym, ap, subst, arith, ◌∙◌}
 use Rattle.seize_words.specs.Mem.{Mem, value_at}
-use Rattle.seize.specs.WaitingSets.{Change, Sets, After, further_of, further_of_all, all_changed}
-use Rattle.seize.specs.World.{Use}
-use Rattle.seize_waiting.specs.Changes.{kept, with_further}
-use Rattle.seize_waiting.specs.Every.{every_both, every_more}
-use Rattle.seize_waiting.proofs.Laws.{ends_leave}
-use Rattle.papaya_tables.specs.declared.node.Node.{Node}
-use Rattle.papaya_tables.specs.declared.setting.Setting.{Setting}
-use Rattle.papaya_rule.specs.Chart.{Chart}
-use Rattle.papaya_rule.specs.Words.{Blocks}
+use Rattle.papaya_maps.specs.Given.Seize.WaitingSets.{Change, Sets, After, further_of, further_of_all, all_changed}
+use Rattle.papaya_maps.specs.Given.Seize.World.{Use}
+use Rattle.papaya_maps.specs.Given.SeizeWaiting.Changes.{kept, with_further}
+use Rattle.papaya_maps.specs.Given.SeizeWaiting.Every.{every_both, every_more}
+use Rattle.papaya_maps.proofs.Given.SeizeWaiting.Laws.{ends_leave}
+use Rattle.papaya_maps.specs.Given.Tables.declared.node.Node.{Node}
+use Rattle.papaya_maps.specs.Given.Tables.declared.setting.Setting.{Setting}
+use Rattle.papaya_maps.specs.Given.Rule.Chart.{Chart}
+use Rattle.papaya_maps.specs.Given.Rule.Words.{Blocks}
 use Rattle.papaya_maps.specs.AloneEnds.{deferred_by, all_changes, all_waiting}
 use Rattle.papaya_runs.specs.Effects.{pair_thing, table_thing}
 use Rattle.papaya_runs.specs.MapEnds.{ending_tables, endings, left_over}

@@ -4,12 +4,12 @@ use Rattle.std.specs.List.Sorted.{IsPermutation}
 use Rattle.std.proofs.Common.{◌≡◌, ℕ, ◌+◌, Bool, true, false, List, [], ◌++◌, sym, ap, subst, arith, ◌∙◌}
 use Rattle.std.proofs.lemmas.List.{append-nil}
 use Rattle.seize_words.specs.Mem.{Mem}
-use Rattle.seize_alone.specs.Alone.{History}
-use Rattle.seize.specs.WaitingSets.{After, Sets}
-use Rattle.seize.specs.World.{Use}
-use Rattle.seize_waiting.proofs.Laws.{ends_leave}
-use Rattle.papaya_tables.specs.declared.node.Node.{Node}
-use Rattle.papaya_points.specs.Steps.{AreLawful}
+use Rattle.papaya_maps.specs.Given.SeizeAlone.Alone.{History}
+use Rattle.papaya_maps.specs.Given.Seize.WaitingSets.{After, Sets}
+use Rattle.papaya_maps.specs.Given.Seize.World.{Use}
+use Rattle.papaya_maps.proofs.Given.SeizeWaiting.Laws.{ends_leave}
+use Rattle.papaya_maps.specs.Given.Tables.declared.node.Node.{Node}
+use Rattle.papaya_maps.specs.Given.Points.Steps.{AreLawful}
 use Rattle.papaya_maps.specs.AloneEnds.{HasEndedAlone}
 use Rattle.papaya_runs.specs.declared.event.Event.{Event}
 use Rattle.papaya_runs.specs.declared.event.Event.TheVariants as event

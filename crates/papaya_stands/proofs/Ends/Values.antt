@@ -2,9 +2,9 @@
 use Rattle.std.specs.Prelude.{map, Option, Some, None}
 use Rattle.std.proofs.Common.{◌≡◌, ◌≢◌, ℕ, suc, List, [], ◌∷◌, ◌++◌, refl, sym, ap, arith, ◌∙◌}
 use Rattle.seize_words.specs.Mem.{Mem, value_at}
-use Rattle.seize.specs.World.{times}
-use Rattle.papaya_tables.specs.declared.node.Node.{Node}
-use Rattle.papaya_tables.specs.declared.node.Node.TheVariants as node
+use Rattle.papaya_maps.specs.Given.Seize.World.{times}
+use Rattle.papaya_maps.specs.Given.Tables.declared.node.Node.{Node}
+use Rattle.papaya_maps.specs.Given.Tables.declared.node.Node.TheVariants as node
 use Rattle.papaya_runs.specs.declared.record.Pair.{Pair}
 use Rattle.papaya_runs.specs.Pairs.{numbers}
 use Rattle.papaya_runs.specs.State.{of_number, of_numbers}

@@ -2,20 +2,20 @@
 use Rattle.std.specs.Prelude.{◌-◌, map, Some, None}
 use Rattle.std.proofs.Common.{◌≡◌, ◌≢◌, ℕ, zero, suc, ◌+◌, ◌≤◌, Bool, false, List, [], ◌∷◌, ◌++◌, ◌⊎◌, inl, inr, refl, sym, ap, subst, arith, ◌∙◌}
 use Rattle.seize_words.specs.Mem.{Mem, value_at}
-use Rattle.seize_alone.specs.Alone.{History}
-use Rattle.seize.specs.WaitingSets.{Change, Further, Sets, After, further_of, all_changed, at_start}
-use Rattle.seize.specs.World.{Use, times}
-use Rattle.seize_waiting.specs.Held.{count, Tidy, Every, all_held, bare}
-use Rattle.seize_waiting.specs.Changes.{kept, with_further}
-use Rattle.seize_waiting.specs.Every.{every_both, every_more, every_kept}
-use Rattle.seize_waiting.proofs.Laws.{each_is_listed, ends_leave, kept_are_behind_others}
-use Rattle.papaya_tables.specs.Nodes.{deferred_word}
-use Rattle.papaya_tables.specs.declared.node.Node.{Node}
-use Rattle.papaya_tables.specs.declared.node.Node.TheVariants as node
-use Rattle.papaya_tables.specs.declared.setting.Setting.{Setting}
-use Rattle.papaya_points.specs.Steps.{AreLawful}
+use Rattle.papaya_maps.specs.Given.SeizeAlone.Alone.{History}
+use Rattle.papaya_maps.specs.Given.Seize.WaitingSets.{Change, Further, Sets, After, further_of, all_changed, at_start}
+use Rattle.papaya_maps.specs.Given.Seize.World.{Use, times}
+use Rattle.papaya_maps.specs.Given.SeizeWaiting.Held.{count, Tidy, Every, all_held, bare}
+use Rattle.papaya_maps.specs.Given.SeizeWaiting.Changes.{kept, with_further}
+use Rattle.papaya_maps.specs.Given.SeizeWaiting.Every.{every_both, every_more, every_kept}
+use Rattle.papaya_maps.proofs.Given.SeizeWaiting.Laws.{each_is_listed, ends_leave, kept_are_behind_others}
+use Rattle.papaya_maps.specs.Given.Tables.Nodes.{deferred_word}
+use Rattle.papaya_maps.specs.Given.Tables.declared.node.Node.{Node}
+use Rattle.papaya_maps.specs.Given.Tables.declared.node.Node.TheVariants as node
+use Rattle.papaya_maps.specs.Given.Tables.declared.setting.Setting.{Setting}
+use Rattle.papaya_maps.specs.Given.Points.Steps.{AreLawful}
 use Rattle.papaya_maps.specs.AloneEnds.{HasEndedAlone}
-use Rattle.papaya_finishes.specs.Orders.{tables_in}
+use Rattle.papaya_maps.specs.Given.Finishes.Orders.{tables_in}
 use Rattle.papaya_maps.proofs.Laws.{lists_add_up}
 use Rattle.papaya_runs.specs.MapEnds.{ending_tables, endings}
 use Rattle.papaya_runs.specs.State.{State}
@@ -25,7 +25,7 @@ use Rattle.papaya_runs.specs.Waits.{AllWait}
 use Rattle.papaya_calls.specs.Kept.{kept_of, thing_in, thing_at}
 use Rattle.papaya_calls.specs.declared.numbered.Numbered.{Numbered}
 use Rattle.papaya_stands.proofs.Ends.Back.{carrying_within, carrying_has}
-use Rattle.seize_alone.proofs.Laws.{carriers_have_lists}
+use Rattle.papaya_maps.proofs.Given.SeizeAlone.Laws.{carriers_have_lists}
 use Rattle.papaya_stands.proofs.Ends.Blocks.{IsBack, back, back_once, ended_pairs, handed_apart, is_back}
 use Rattle.papaya_stands.proofs.Ends.Sets.{sized, named_so, w0, lists, carrying, changes, list, ends_alike, list_is, ends_so}
 use Rattle.papaya_stands.proofs.Collector.Calls.{sets_append}

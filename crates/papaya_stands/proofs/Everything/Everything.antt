@@ -8,25 +8,25 @@ use Rattle.seize_words.specs.declared.at.At.TheVariants.{Slot}
 use Rattle.seize_words.specs.declared.block.Block.{Block}
 use Rattle.seize_words.specs.Mem.{Mem, value_at, value_in, word_in, entry_in, word_at}
 use Rattle.seize_words.specs.SlotWords.{slot_word}
-use Rattle.seize.specs.declared.states.TheConstants.{HEAD, NEXT}
-use Rattle.seize.specs.declared.rows.reclaim_all.ReclaimAll.{ReclaimAll}
-use Rattle.seize.specs.WaitingSets.{Sets, After, ReclaimsAll, all_reclaimed}
-use Rattle.seize.specs.World.{Use, Vacant, Hand, NoBlock, Making, InUse, Cutting, Handed, LeftTo, Parting}
-use Rattle.seize_waiting.specs.Changes.{Keeps}
-use Rattle.seize_waiting.proofs.Laws.{changes_keep}
-use Rattle.seize_alone.specs.Alone.{IsOfUsers, History, IsHistory, Spares}
+use Rattle.papaya_maps.specs.Given.Seize.declared.states.TheConstants.{HEAD, NEXT}
+use Rattle.papaya_maps.specs.Given.Seize.declared.rows.reclaim_all.ReclaimAll.{ReclaimAll}
+use Rattle.papaya_maps.specs.Given.Seize.WaitingSets.{Sets, After, ReclaimsAll, all_reclaimed}
+use Rattle.papaya_maps.specs.Given.Seize.World.{Use, Vacant, Hand, NoBlock, Making, InUse, Cutting, Handed, LeftTo, Parting}
+use Rattle.papaya_maps.specs.Given.SeizeWaiting.Changes.{Keeps}
+use Rattle.papaya_maps.proofs.Given.SeizeWaiting.Laws.{changes_keep}
+use Rattle.papaya_maps.specs.Given.SeizeAlone.Alone.{IsOfUsers, History, IsHistory, Spares}
 use Rattle.seize_reclaims.specs.AllReclaimed.{MayReclaimAll, IsReclaiming, IsAllReclaimed, SlotsReclaimed, sets_in}
 use Rattle.seize_reclaims.specs.Roots.{LeftAt, IsCleared, Frees, all_lists, all_cleared}
-use Rattle.seize_alone.proofs.Laws.{counts_agree}
+use Rattle.papaya_maps.proofs.Given.SeizeAlone.Laws.{counts_agree}
 use Rattle.seize_reclaims.proofs.Laws.{reclaiming_ends, reclaimed_in_order, lists_stay, one_list_a_root}
-use Rattle.papaya_tables.specs.Nodes.{deferred_word, was_left}
-use Rattle.papaya_tables.specs.declared.node.Node.{Node}
-use Rattle.papaya_tables.specs.declared.node.Node.TheVariants as node
-use Rattle.papaya_tables.specs.declared.setting.Setting.{Setting}
-use Rattle.papaya_rule.specs.Chart.{Chart}
-use Rattle.papaya_rule.specs.Words.{Blocks}
-use Rattle.papaya_alone.specs.Alone.{MapRests}
-use Rattle.papaya_callers.specs.Kept.{IsMaking}
+use Rattle.papaya_maps.specs.Given.Tables.Nodes.{deferred_word, was_left}
+use Rattle.papaya_maps.specs.Given.Tables.declared.node.Node.{Node}
+use Rattle.papaya_maps.specs.Given.Tables.declared.node.Node.TheVariants as node
+use Rattle.papaya_maps.specs.Given.Tables.declared.setting.Setting.{Setting}
+use Rattle.papaya_maps.specs.Given.Rule.Chart.{Chart}
+use Rattle.papaya_maps.specs.Given.Rule.Words.{Blocks}
+use Rattle.papaya_maps.specs.Given.Alone.Alone.{MapRests}
+use Rattle.papaya_maps.specs.Given.Callers.Kept.{IsMaking}
 use Rattle.papaya_maps.specs.RestsOn.{RestsOn}
 use Rattle.papaya_maps.proofs.Laws.{rests_as_slots_change, rests_where_spared}
 use Rattle.papaya_runs.specs.declared.outcome.Effect.{Effect}

@@ -4,19 +4,19 @@ use Rattle.std.proofs.Common.{◌≡◌, ◌≢◌, ℕ, suc, ◌+◌, ◌<◌, 
 use Rattle.std.proofs.lemmas.Bool.{ne_eqb}
 use Rattle.std.proofs.lemmas.List.{append-nil}
 use Rattle.seize_words.specs.Mem.{Mem}
-use Rattle.seize_alone.specs.Alone.{History, IsHistory}
-use Rattle.seize.specs.WaitingSets.{Change as Waiting}
-use Rattle.seize.specs.World.{Use}
-use Rattle.papaya_tables.specs.Chunks.{is_incremental}
-use Rattle.papaya_tables.specs.Nodes.{deferred_word}
-use Rattle.papaya_tables.specs.declared.node.Node.{Node}
-use Rattle.papaya_tables.specs.declared.setting.Setting.{Setting}
-use Rattle.papaya_rule.specs.Chart.{Chart}
-use Rattle.papaya_points.specs.FactsCalls.{Change, Unchanged, Stored, Replaced, Removed, Changes}
-use Rattle.papaya_rule.specs.Words.{Blocks}
-use Rattle.papaya_alone.specs.Alone.{HasEnded, HasHanded}
+use Rattle.papaya_maps.specs.Given.SeizeAlone.Alone.{History, IsHistory}
+use Rattle.papaya_maps.specs.Given.Seize.WaitingSets.{Change as Waiting}
+use Rattle.papaya_maps.specs.Given.Seize.World.{Use}
+use Rattle.papaya_maps.specs.Given.Tables.Chunks.{is_incremental}
+use Rattle.papaya_maps.specs.Given.Tables.Nodes.{deferred_word}
+use Rattle.papaya_maps.specs.Given.Tables.declared.node.Node.{Node}
+use Rattle.papaya_maps.specs.Given.Tables.declared.setting.Setting.{Setting}
+use Rattle.papaya_maps.specs.Given.Rule.Chart.{Chart}
+use Rattle.papaya_maps.specs.Given.Points.FactsCalls.{Change, Unchanged, Stored, Replaced, Removed, Changes}
+use Rattle.papaya_maps.specs.Given.Rule.Words.{Blocks}
+use Rattle.papaya_maps.specs.Given.Alone.Alone.{HasEnded, HasHanded}
 use Rattle.papaya_maps.specs.AloneReserves.{HasReservedAll}
-use Rattle.papaya_alone.specs.Handed.{retirements, pair_handed, pairs_handed, all_handed}
+use Rattle.papaya_maps.specs.Given.Alone.Handed.{retirements, pair_handed, pairs_handed, all_handed}
 use Rattle.papaya_runs.specs.declared.record.Pair.{Pair}
 use Rattle.papaya_runs.specs.Effects.{turns_from}
 use Rattle.papaya_runs.specs.LifeCycle.{times}

@@ -3,21 +3,21 @@ use Rattle.std.specs.Prelude.{Option, Some, None, IsSome, map, ◌-◌}
 use Rattle.std.proofs.Common.{◌≡◌, ◌≢◌, ℕ, zero, suc, ◌+◌, ◌<◌, ◌≤◌, Bool, true, List, [], ◌∷◌, ◌++◌, refl, sym, ap, subst, arith, ◌∙◌}
 use Rattle.std.proofs.lemmas.List.{map-append}
 use Rattle.seize_words.specs.Mem.{Mem, value_at}
-use Rattle.seize_alone.specs.Alone.{History, IsHistory}
-use Rattle.seize.specs.WaitingSets.{Sets, Change as Waiting, Further, all_changed, at_start}
-use Rattle.seize.specs.World.{Use, IsInside, Handed}
-use Rattle.seize_waiting.specs.Held.{count, Tidy, Every, all_held, bare}
-use Rattle.seize_waiting.specs.Every.{every_more, every_both}
-use Rattle.seize_waiting.specs.Handed.{put_by, behind_by, WaitsNow}
-use Rattle.seize_waiting.proofs.Laws.{handed_waits, lists_add_up}
-use Rattle.papaya_tables.specs.Nodes.{deferred_word}
-use Rattle.papaya_tables.specs.declared.node.Node.{Node}
-use Rattle.papaya_tables.specs.declared.setting.Setting.{Setting}
-use Rattle.papaya_rule.specs.Chart.{Chart}
-use Rattle.papaya_points.specs.FactsCalls.{Change, Unchanged, Stored, Replaced, Removed}
-use Rattle.papaya_rule.specs.Words.{Blocks}
-use Rattle.papaya_alone.specs.Alone.{HasHanded}
-use Rattle.papaya_alone.specs.Handed.{retirements, pair_handed, pairs_handed, is_deferred}
+use Rattle.papaya_maps.specs.Given.SeizeAlone.Alone.{History, IsHistory}
+use Rattle.papaya_maps.specs.Given.Seize.WaitingSets.{Sets, Change as Waiting, Further, all_changed, at_start}
+use Rattle.papaya_maps.specs.Given.Seize.World.{Use, IsInside, Handed}
+use Rattle.papaya_maps.specs.Given.SeizeWaiting.Held.{count, Tidy, Every, all_held, bare}
+use Rattle.papaya_maps.specs.Given.SeizeWaiting.Every.{every_more, every_both}
+use Rattle.papaya_maps.specs.Given.SeizeWaiting.Handed.{put_by, behind_by, WaitsNow}
+use Rattle.papaya_maps.proofs.Given.SeizeWaiting.Laws.{handed_waits, lists_add_up}
+use Rattle.papaya_maps.specs.Given.Tables.Nodes.{deferred_word}
+use Rattle.papaya_maps.specs.Given.Tables.declared.node.Node.{Node}
+use Rattle.papaya_maps.specs.Given.Tables.declared.setting.Setting.{Setting}
+use Rattle.papaya_maps.specs.Given.Rule.Chart.{Chart}
+use Rattle.papaya_maps.specs.Given.Points.FactsCalls.{Change, Unchanged, Stored, Replaced, Removed}
+use Rattle.papaya_maps.specs.Given.Rule.Words.{Blocks}
+use Rattle.papaya_maps.specs.Given.Alone.Alone.{HasHanded}
+use Rattle.papaya_maps.specs.Given.Alone.Handed.{retirements, pair_handed, pairs_handed, is_deferred}
 use Rattle.papaya_runs.specs.declared.outcome.Effect.{Effect}
 use Rattle.papaya_runs.specs.declared.record.Pair.{Pair}
 use Rattle.papaya_runs.specs.Effects.{table_thing, handings, tables_passed, turns_from}
@@ -31,7 +31,7 @@ use Rattle.papaya_calls.specs.Kept.{kept_of, thing_in, thing_at}
 use Rattle.papaya_calls.specs.declared.map.Map.{Map}
 use Rattle.papaya_calls.specs.declared.numbered.Numbered.{Numbered}
 use Rattle.papaya_stands.proofs.Sets.Alike.{alike_again}
-use Rattle.seize_alone.proofs.Laws.{carriers_are_there, insides_are_active, waiting_was_handed}
+use Rattle.papaya_maps.proofs.Given.SeizeAlone.Laws.{carriers_are_there, insides_are_active, waiting_was_handed}
 use Rattle.papaya_stands.proofs.Handing.Map.{MapLeft}
 use Rattle.papaya_stands.proofs.Handing.Numbers.{AreOnly, renumbered, renumbered_own, renumbered_right, renumbered_here}
 use Rattle.papaya_stands.proofs.Handing.Puts.{deferred_late, rows_of, Leaving, NoneLeaves, OneLeaves, put_is, table_right, all_only, put_once, put_waits, rows_by, table_named, pair_named}

@@ -3,22 +3,22 @@ use Rattle.std.specs.Prelude.{Option, Some}
 use Rattle.std.proofs.Common.{◌≡◌, ℕ, zero, suc, ◌+◌, ◌<◌, ◌≤◌, Bool, true, List, ◌⊎◌, inl, inr, refl, sym, ap, arith, ◌∙◌}
 use Rattle.std.proofs.lemmas.Bool.{cases_lt}
 use Rattle.seize_words.specs.Mem.{Mem, value_at}
-use Rattle.seize_alone.specs.Alone.{History}
-use Rattle.seize.specs.WaitingSets.{Change as Waiting}
-use Rattle.papaya_tables.specs.Chunks.{is_incremental}
-use Rattle.papaya_tables.specs.declared.node.Node.{Node}
-use Rattle.papaya_tables.specs.declared.node.Node.TheVariants as node
-use Rattle.papaya_rule.specs.Chart.{Chart}
-use Rattle.papaya_points.specs.FactsCalls.{Change, Unchanged, Stored, Replaced, Removed}
-use Rattle.papaya_rule.specs.InWorld.{SameBlocks}
-use Rattle.papaya_rule.specs.Lasts.{Lasts}
-use Rattle.papaya_rule.specs.Maps.{IsMap, spot_of}
-use Rattle.papaya_rule.specs.Rule.{Rule}
-use Rattle.papaya_rule.specs.Words.{Blocks}
-use Rattle.papaya_rule.proofs.Laws.{current_is_known}
-use Rattle.papaya_alone.specs.Alone.{HasEnded}
+use Rattle.papaya_maps.specs.Given.SeizeAlone.Alone.{History}
+use Rattle.papaya_maps.specs.Given.Seize.WaitingSets.{Change as Waiting}
+use Rattle.papaya_maps.specs.Given.Tables.Chunks.{is_incremental}
+use Rattle.papaya_maps.specs.Given.Tables.declared.node.Node.{Node}
+use Rattle.papaya_maps.specs.Given.Tables.declared.node.Node.TheVariants as node
+use Rattle.papaya_maps.specs.Given.Rule.Chart.{Chart}
+use Rattle.papaya_maps.specs.Given.Points.FactsCalls.{Change, Unchanged, Stored, Replaced, Removed}
+use Rattle.papaya_maps.specs.Given.Rule.InWorld.{SameBlocks}
+use Rattle.papaya_maps.specs.Given.Rule.Lasts.{Lasts}
+use Rattle.papaya_maps.specs.Given.Rule.Maps.{IsMap, spot_of}
+use Rattle.papaya_maps.specs.Given.Rule.Rule.{Rule}
+use Rattle.papaya_maps.specs.Given.Rule.Words.{Blocks}
+use Rattle.papaya_maps.proofs.Given.Rule.Laws.{current_is_known}
+use Rattle.papaya_maps.specs.Given.Alone.Alone.{HasEnded}
 use Rattle.papaya_maps.specs.AloneReserves.{HasReservedAll}
-use Rattle.papaya_alone.specs.Values.{IsStored, IsLinkedSince, PairEnds}
+use Rattle.papaya_maps.specs.Given.Alone.Values.{IsStored, IsLinkedSince, PairEnds}
 use Rattle.papaya_runs.specs.State.{State}
 use Rattle.papaya_stands.specs.CallEnds.{setting_at, HasNext}
 use Rattle.papaya_stands.specs.Collects.{Lives, Waits}

@@ -2,7 +2,7 @@
 use Rattle.std.specs.Prelude.{◌==◌, if◌then◌else◌}
 use Rattle.std.proofs.Common.{◌≡◌, ◌≢◌, ℕ, ◌+◌, Bool, true, false, cond, eqb, List, [], ◌∷◌, refl, sym, ap, arith, eqb-true, ◌∙◌}
 use Rattle.std.proofs.lemmas.Bool.{eq-eqb, eqb-false}
-use Rattle.seize_waiting.specs.Held.{count}
+use Rattle.papaya_maps.specs.Given.SeizeWaiting.Held.{count}
 
 -- f with v at b; what had v has now what b had
 abbrev pub exchanged : (ℕ → ℕ) → ℕ → ℕ → ℕ → ℕ

@@ -1,12 +1,12 @@
 -- The rows of what a call hands over: which blocks they name.
 use Rattle.std.specs.Prelude.{◌-◌}
 use Rattle.std.proofs.Common.{◌≡◌, ◌≢◌, ℕ, zero, suc, ◌+◌, ◌<◌, ◌≤◌, Bool, true, false, cond, eqb, List, [], ◌∷◌, ◌++◌, refl, sym, ap, subst, arith, eqb-true, ◌∙◌}
-use Rattle.seize.specs.WaitingSets.{Further, Change, Enters, Leaves, Refreshes, Retires, Flushes, Defers, ReclaimsAll, Ends}
-use Rattle.seize_waiting.specs.Held.{same, count, Every}
-use Rattle.seize_waiting.specs.Handed.{put_by, behind_by, further_by, HandsOverBy, HandOverBy}
-use Rattle.papaya_tables.specs.declared.setting.Setting.{Setting}
-use Rattle.papaya_rule.specs.Words.{Blocks}
-use Rattle.papaya_alone.specs.Handed.{retirements, pair_handed, is_deferred}
+use Rattle.papaya_maps.specs.Given.Seize.WaitingSets.{Further, Change, Enters, Leaves, Refreshes, Retires, Flushes, Defers, ReclaimsAll, Ends}
+use Rattle.papaya_maps.specs.Given.SeizeWaiting.Held.{same, count, Every}
+use Rattle.papaya_maps.specs.Given.SeizeWaiting.Handed.{put_by, behind_by, further_by, HandsOverBy, HandOverBy}
+use Rattle.papaya_maps.specs.Given.Tables.declared.setting.Setting.{Setting}
+use Rattle.papaya_maps.specs.Given.Rule.Words.{Blocks}
+use Rattle.papaya_maps.specs.Given.Alone.Handed.{retirements, pair_handed, is_deferred}
 use Rattle.papaya_runs.specs.declared.outcome.Effect.{Effect}
 use Rattle.papaya_runs.specs.declared.outcome.Effect.TheVariants as effect
 use Rattle.papaya_runs.specs.Effects.{handings}

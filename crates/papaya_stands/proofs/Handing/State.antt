@@ -4,17 +4,17 @@ use Rattle.std.proofs.Common.{◌≡◌, ◌≢◌, ℕ, ◌+◌, ◌<◌, ◌�
 use Rattle.std.proofs.lemmas.Bool.{cases_lt}
 use Rattle.std.proofs.lemmas.List.{append-nil}
 use Rattle.seize_words.specs.Mem.{Mem}
-use Rattle.seize_alone.specs.Alone.{History, IsHistory}
-use Rattle.seize.specs.WaitingSets.{Sets, Change, Enters, Leaves, Refreshes, Retires, Flushes, Defers, ReclaimsAll, After, changed, all_changed, Ends}
-use Rattle.seize.specs.World.{Use, Vacant, Inside, Handed}
-use Rattle.seize_waiting.specs.Held.{Tidy, Every, all_held, bare}
-use Rattle.seize_waiting.specs.Handed.{HandOverBy}
-use Rattle.seize_waiting.proofs.Laws.{others_are_left_alone}
-use Rattle.papaya_tables.specs.Nodes.{deferred_word}
-use Rattle.papaya_tables.specs.declared.node.Node.{Node}
-use Rattle.papaya_rule.specs.Chart.{Chart}
-use Rattle.papaya_points.specs.FactsCalls.{Change as Changed}
-use Rattle.papaya_rule.specs.Words.{Blocks}
+use Rattle.papaya_maps.specs.Given.SeizeAlone.Alone.{History, IsHistory}
+use Rattle.papaya_maps.specs.Given.Seize.WaitingSets.{Sets, Change, Enters, Leaves, Refreshes, Retires, Flushes, Defers, ReclaimsAll, After, changed, all_changed, Ends}
+use Rattle.papaya_maps.specs.Given.Seize.World.{Use, Vacant, Inside, Handed}
+use Rattle.papaya_maps.specs.Given.SeizeWaiting.Held.{Tidy, Every, all_held, bare}
+use Rattle.papaya_maps.specs.Given.SeizeWaiting.Handed.{HandOverBy}
+use Rattle.papaya_maps.proofs.Given.SeizeWaiting.Laws.{others_are_left_alone}
+use Rattle.papaya_maps.specs.Given.Tables.Nodes.{deferred_word}
+use Rattle.papaya_maps.specs.Given.Tables.declared.node.Node.{Node}
+use Rattle.papaya_maps.specs.Given.Rule.Chart.{Chart}
+use Rattle.papaya_maps.specs.Given.Points.FactsCalls.{Change as Changed}
+use Rattle.papaya_maps.specs.Given.Rule.Words.{Blocks}
 use Rattle.papaya_runs.specs.declared.event.Event.TheVariants.{OneCall}
 use Rattle.papaya_runs.specs.declared.event.Call.{Call}
 use Rattle.papaya_runs.specs.declared.event.Call.TheVariants.{Get, Insert, TryInsert, Remove, Reserve}

@@ -11,8 +11,8 @@ use Rattle.papaya_runs.specs.Runs.{InTurn}
 use Rattle.papaya_runs.proofs.Laws.{drops_counts}
 use Rattle.papaya_stands.specs.Collects.{use_of}
 use Rattle.papaya_stands.proofs.Holders.Homes.{lives}
-use Rattle.seize.specs.WaitingSets.{Sets, Change, quietly, changed, all_changed}
-use Rattle.seize.specs.World.{Use, Vacant, Outside, Inside, with_at}
+use Rattle.papaya_maps.specs.Given.Seize.WaitingSets.{Sets, Change, quietly, changed, all_changed}
+use Rattle.papaya_maps.specs.Given.Seize.World.{Use, Vacant, Outside, Inside, with_at}
 
 -- a slot on which guards are is inside a section
 pub is_inside : (slot : ℕ) (there : Present) → 0 < guards_on slot there.guards → use_of slot there ≡ Inside 0

@@ -3,23 +3,23 @@ use Rattle.std.specs.Prelude.{option_map}
 use Rattle.std.proofs.Common.{◌≡◌, ℕ, ◌+◌, Bool, List, [], ◌∷◌, ◌++◌, Option, Some, None, ◌⊎◌, refl, sym, ap, subst, arith}
 use Rattle.std.proofs.Math.Logic.{⊎_elim}
 use Rattle.seize_words.specs.Mem.{Mem}
-use Rattle.seize_alone.specs.Alone.{History, at_rest}
-use Rattle.seize.specs.WaitingSets.{Change as Waiting}
-use Rattle.papaya_tables.specs.Nodes.{deferred_word}
-use Rattle.papaya_tables.specs.declared.node.Node.{Node}
-use Rattle.papaya_tables.specs.declared.resize_mode.ResizeMode.{ResizeMode}
-use Rattle.papaya_raw.specs.declared.machines.answer.KeyAnswer.{KeyAnswer as Word}
-use Rattle.papaya_raw.specs.declared.machines.answer.KeyAnswer.TheVariants as word
-use Rattle.papaya_raw.specs.declared.machines.answer.Missing.TheVariants as missing
-use Rattle.papaya_raw.specs.declared.machines.answer.There.TheVariants as there
-use Rattle.papaya_raw.specs.declared.machines.asking.Takes.TheVariants as takes
-use Rattle.papaya_rule.specs.Chart.{Chart}
-use Rattle.papaya_points.specs.FactsCalls.{Change, Unchanged, Stored, Replaced, Removed, AnswersOf, Tells}
-use Rattle.papaya_points.specs.Steps.{AreLawful}
-use Rattle.papaya_rule.specs.Words.{Blocks}
-use Rattle.papaya_alone.specs.Alone.{HasEnded, pairs_stored}
-use Rattle.papaya_alone.specs.Handed.{word_out}
-use Rattle.papaya_alone.specs.Values.{PairEnds}
+use Rattle.papaya_maps.specs.Given.SeizeAlone.Alone.{History, at_rest}
+use Rattle.papaya_maps.specs.Given.Seize.WaitingSets.{Change as Waiting}
+use Rattle.papaya_maps.specs.Given.Tables.Nodes.{deferred_word}
+use Rattle.papaya_maps.specs.Given.Tables.declared.node.Node.{Node}
+use Rattle.papaya_maps.specs.Given.Tables.declared.resize_mode.ResizeMode.{ResizeMode}
+use Rattle.papaya_maps.specs.Given.Raw.declared.machines.answer.KeyAnswer.{KeyAnswer as Word}
+use Rattle.papaya_maps.specs.Given.Raw.declared.machines.answer.KeyAnswer.TheVariants as word
+use Rattle.papaya_maps.specs.Given.Raw.declared.machines.answer.Missing.TheVariants as missing
+use Rattle.papaya_maps.specs.Given.Raw.declared.machines.answer.There.TheVariants as there
+use Rattle.papaya_maps.specs.Given.Raw.declared.machines.asking.Takes.TheVariants as takes
+use Rattle.papaya_maps.specs.Given.Rule.Chart.{Chart}
+use Rattle.papaya_maps.specs.Given.Points.FactsCalls.{Change, Unchanged, Stored, Replaced, Removed, AnswersOf, Tells}
+use Rattle.papaya_maps.specs.Given.Points.Steps.{AreLawful}
+use Rattle.papaya_maps.specs.Given.Rule.Words.{Blocks}
+use Rattle.papaya_maps.specs.Given.Alone.Alone.{HasEnded, pairs_stored}
+use Rattle.papaya_maps.specs.Given.Alone.Handed.{word_out}
+use Rattle.papaya_maps.specs.Given.Alone.Values.{PairEnds}
 use Rattle.papaya_runs.specs.declared.event.Call.{Call}
 use Rattle.papaya_runs.specs.declared.event.Call.TheVariants.{Get, Insert, TryInsert, Remove}
 use Rattle.papaya_runs.specs.declared.outcome.Answer.{Answer}
@@ -34,7 +34,7 @@ use Rattle.papaya_calls.specs.Answered.{IsNamed, Names, answer_so, as_insertion,
 use Rattle.papaya_stands.specs.CallEnds.{LeftBy, handings_of}
 use Rattle.papaya_stands.specs.Collects.{Lives}
 use Rattle.papaya_calls.specs.Kept.{kept_of}
-use Rattle.papaya_late.specs.Kinds.{Fits}
+use Rattle.papaya_maps.specs.Given.Late.Kinds.{Fits}
 use Rattle.papaya_calls.specs.declared.map.Map.{Map}
 use Rattle.papaya_calls.specs.declared.numbered.Numbered.{Numbered}
 use Rattle.papaya_stands.proofs.Pairs.Entries.{EntriesBy}

@@ -1,10 +1,10 @@
 -- Which pairs a map has after a change: those it had, but the one that has left it, and the new one.
 use Rattle.std.proofs.Common.{arith, ◌≡◌, ◌≢◌, ℕ, Bool, true, false, ◌⊎◌, inl, inr, refl, sym, ap, ◌∙◌}
 use Rattle.std.proofs.lemmas.Bool.{cases_eq}
-use Rattle.papaya_rule.specs.Chart.{Chart, put}
-use Rattle.papaya_points.specs.FactsCalls.{Change, Unchanged, Stored, Replaced, Removed, Changes}
-use Rattle.papaya_rule.specs.Words.{Blocks}
-use Rattle.papaya_alone.specs.Values.{IsStored}
+use Rattle.papaya_maps.specs.Given.Rule.Chart.{Chart, put}
+use Rattle.papaya_maps.specs.Given.Points.FactsCalls.{Change, Unchanged, Stored, Replaced, Removed, Changes}
+use Rattle.papaya_maps.specs.Given.Rule.Words.{Blocks}
+use Rattle.papaya_maps.specs.Given.Alone.Values.{IsStored}
 use Rattle.papaya_stands.specs.CallEnds.{HasGone}
 
 -- the change has brought this pair

@@ -1,14 +1,14 @@
 -- Which pair of a run is the one of a key's class: the one that the map has of it, if it has one.
 use Rattle.std.proofs.Common.{◌≡◌, ℕ, suc, ◌<◌, Bool, true, [], ◌∷◌, Option, Some, None, refl, sym, ap, subst, ◌∙◌}
 use Rattle.seize_words.specs.Mem.{Mem, value_at}
-use Rattle.seize_alone.specs.Alone.{History}
-use Rattle.papaya_tables.specs.Chunks.{is_incremental}
-use Rattle.papaya_tables.specs.declared.node.Node.{Node}
-use Rattle.papaya_tables.specs.declared.node.Node.TheVariants as node
-use Rattle.papaya_rule.specs.Maps.{spot_of, IsAbsent, IsPair}
-use Rattle.papaya_rule.specs.Rule.{is_of}
-use Rattle.papaya_points.specs.Steps.{AreLawful}
-use Rattle.papaya_rule.proofs.Laws.{current_is_known}
+use Rattle.papaya_maps.specs.Given.SeizeAlone.Alone.{History}
+use Rattle.papaya_maps.specs.Given.Tables.Chunks.{is_incremental}
+use Rattle.papaya_maps.specs.Given.Tables.declared.node.Node.{Node}
+use Rattle.papaya_maps.specs.Given.Tables.declared.node.Node.TheVariants as node
+use Rattle.papaya_maps.specs.Given.Rule.Maps.{spot_of, IsAbsent, IsPair}
+use Rattle.papaya_maps.specs.Given.Rule.Rule.{is_of}
+use Rattle.papaya_maps.specs.Given.Points.Steps.{AreLawful}
+use Rattle.papaya_maps.proofs.Given.Rule.Laws.{current_is_known}
 use Rattle.papaya_runs.specs.declared.record.Pair.{Pair}
 use Rattle.papaya_runs.specs.Pairs.{first_of}
 use Rattle.papaya_runs.specs.State.{State, of_number}
@@ -18,7 +18,7 @@ use Rattle.papaya_calls.specs.Kept.{kept_of}
 use Rattle.papaya_calls.specs.declared.map.Map.{Map}
 use Rattle.papaya_calls.specs.declared.numbered.Numbered.{Numbered}
 use Rattle.papaya_stands.proofs.Pairs.First.{found_there, found_is, one_found}
-use Rattle.papaya_callers.proofs.Asked.OneCurrent.{one_current}
+use Rattle.papaya_maps.proofs.Given.Callers.Asked.OneCurrent.{one_current}
 
 module _ {K V : Type 0} (eq : K → K → Bool) (hash : K → ℕ) (are : AreLawful eq hash) (roots : ℕ) (living : Map) (s : State K V) (m0 : Mem (Node K (Numbered V))) (h0 : History)
     (lives : Lives eq hash roots m0 h0 living s) where

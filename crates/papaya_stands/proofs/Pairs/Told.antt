@@ -1,20 +1,20 @@
 -- What the answer of a call says of the pairs of a run: which one its key's class had, and which is the next one.
 use Rattle.std.proofs.Common.{◌≡◌, ℕ, suc, ◌+◌, ◌/◌, Bool, true, List, Option, Some, None, ◌⊎◌, inl, inr, refl, sym, ap, ◌∙◌}
 use Rattle.seize_words.specs.Mem.{Mem, value_at}
-use Rattle.seize_alone.specs.Alone.{History, at_rest}
-use Rattle.seize.specs.WaitingSets.{Change as Waiting}
-use Rattle.papaya_tables.specs.Chunks.{is_incremental}
-use Rattle.papaya_tables.specs.Nodes.{deferred_word}
-use Rattle.papaya_tables.specs.declared.node.Node.{Node}
-use Rattle.papaya_raw.specs.declared.machines.answer.KeyAnswer.{KeyAnswer}
-use Rattle.papaya_raw.specs.declared.machines.answer.KeyAnswer.TheVariants as answers
-use Rattle.papaya_rule.specs.Chart.{Phase, Still, Holds, Chart}
-use Rattle.papaya_points.specs.FactsCalls.{Change, Unchanged, Stored, Replaced, Removed, AnswersOf, Tells, Changes}
-use Rattle.papaya_rule.specs.Maps.{IsAbsent, IsPair}
-use Rattle.papaya_points.specs.Steps.{AreLawful}
-use Rattle.papaya_rule.specs.Words.{Blocks, byte_of, place_word}
-use Rattle.papaya_rule.proofs.Laws.{words_name_pairs, bytes_are_few}
-use Rattle.papaya_alone.specs.Alone.{HasEnded, pairs_stored}
+use Rattle.papaya_maps.specs.Given.SeizeAlone.Alone.{History, at_rest}
+use Rattle.papaya_maps.specs.Given.Seize.WaitingSets.{Change as Waiting}
+use Rattle.papaya_maps.specs.Given.Tables.Chunks.{is_incremental}
+use Rattle.papaya_maps.specs.Given.Tables.Nodes.{deferred_word}
+use Rattle.papaya_maps.specs.Given.Tables.declared.node.Node.{Node}
+use Rattle.papaya_maps.specs.Given.Raw.declared.machines.answer.KeyAnswer.{KeyAnswer}
+use Rattle.papaya_maps.specs.Given.Raw.declared.machines.answer.KeyAnswer.TheVariants as answers
+use Rattle.papaya_maps.specs.Given.Rule.Chart.{Phase, Still, Holds, Chart}
+use Rattle.papaya_maps.specs.Given.Points.FactsCalls.{Change, Unchanged, Stored, Replaced, Removed, AnswersOf, Tells, Changes}
+use Rattle.papaya_maps.specs.Given.Rule.Maps.{IsAbsent, IsPair}
+use Rattle.papaya_maps.specs.Given.Points.Steps.{AreLawful}
+use Rattle.papaya_maps.specs.Given.Rule.Words.{Blocks, byte_of, place_word}
+use Rattle.papaya_maps.proofs.Given.Rule.Laws.{words_name_pairs, bytes_are_few}
+use Rattle.papaya_maps.specs.Given.Alone.Alone.{HasEnded, pairs_stored}
 use Rattle.papaya_runs.specs.declared.record.Pair.{Pair}
 use Rattle.papaya_runs.specs.Pairs.{first_of}
 use Rattle.papaya_runs.specs.State.{State}

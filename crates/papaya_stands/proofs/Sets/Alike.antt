@@ -1,9 +1,9 @@
 -- The same waiting sets under numbers that differ for no block that stands in them.
 use Rattle.std.specs.Prelude.{map}
 use Rattle.std.proofs.Common.{◌≡◌, ◌≢◌, ℕ, List, [], ◌∷◌, refl, arith, ◌∙◌}
-use Rattle.seize.specs.WaitingSets.{Batch, Further, Sets}
-use Rattle.seize_waiting.specs.Held.{same, weight_put, Tidy, held_closed, Every, all_held, bare}
-use Rattle.seize_waiting.proofs.Laws.{agree_on_lists, open_is_held}
+use Rattle.papaya_maps.specs.Given.Seize.WaitingSets.{Batch, Further, Sets}
+use Rattle.papaya_maps.specs.Given.SeizeWaiting.Held.{same, weight_put, Tidy, held_closed, Every, all_held, bare}
+use Rattle.papaya_maps.proofs.Given.SeizeWaiting.Laws.{agree_on_lists, open_is_held}
 use Rattle.papaya_stands.specs.Alike.{Alike, batch_renamed, further_renamed}
 
 module _ (f g : ℕ → ℕ) where

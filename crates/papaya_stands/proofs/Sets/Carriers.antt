@@ -2,9 +2,9 @@
 use Rattle.std.specs.Prelude.{◌==◌, map, filter}
 use Rattle.std.proofs.Common.{◌≡◌, ℕ, zero, suc, ◌+◌, ◌<◌, ◌≤◌, Bool, true, false, cond, List, [], ◌∷◌, ◌++◌, refl, ap, subst, arith, ◌∙◌, eqb-true}
 use Rattle.std.proofs.lemmas.Bool.{eqb-false, ne_eqb}
-use Rattle.seize.specs.WaitingSets.{Change, Ends, Further, further_of, further_of_all}
-use Rattle.seize_waiting.specs.Held.{Every}
-use Rattle.papaya_finishes.specs.Orders.{change_of, waits_of, changes_in, waits_in}
+use Rattle.papaya_maps.specs.Given.Seize.WaitingSets.{Change, Ends, Further, further_of, further_of_all}
+use Rattle.papaya_maps.specs.Given.SeizeWaiting.Held.{Every}
+use Rattle.papaya_maps.specs.Given.Finishes.Orders.{change_of, waits_of, changes_in, waits_in}
 use Rattle.papaya_runs.specs.Effects.{table_thing}
 use Rattle.papaya_runs.specs.MapEnds.{endings}
 use Rattle.papaya_runs.specs.MapEnds.{turns_with}

@@ -1,13 +1,13 @@
 -- What a call has handed to the collector by its blocks, and what its effects say, by things: the waiting sets go on alike.
 use Rattle.std.specs.Prelude.{map, nat_lt, ◌-◌}
 use Rattle.std.proofs.Common.{◌≡◌, ℕ, zero, suc, ◌+◌, ◌≤◌, ◌<◌, Bool, true, false, List, [], ◌∷◌, refl, arith}
-use Rattle.seize.specs.WaitingSets.{Sets, Change, all_changed, changed}
-use Rattle.papaya_tables.specs.Chunks.{is_incremental}
-use Rattle.papaya_tables.specs.Marks.{has_mark}
-use Rattle.papaya_tables.specs.declared.marks.TheConstants.{BORROWED}
-use Rattle.papaya_tables.specs.declared.setting.Setting.{Setting}
-use Rattle.papaya_rule.specs.Words.{Blocks}
-use Rattle.papaya_alone.specs.Handed.{retirements, pair_handed, is_deferred}
+use Rattle.papaya_maps.specs.Given.Seize.WaitingSets.{Sets, Change, all_changed, changed}
+use Rattle.papaya_maps.specs.Given.Tables.Chunks.{is_incremental}
+use Rattle.papaya_maps.specs.Given.Tables.Marks.{has_mark}
+use Rattle.papaya_maps.specs.Given.Tables.declared.marks.TheConstants.{BORROWED}
+use Rattle.papaya_maps.specs.Given.Tables.declared.setting.Setting.{Setting}
+use Rattle.papaya_maps.specs.Given.Rule.Words.{Blocks}
+use Rattle.papaya_maps.specs.Given.Alone.Handed.{retirements, pair_handed, is_deferred}
 use Rattle.papaya_runs.specs.Effects.{pair_thing, table_thing, handings, tables_passed, turns_from}
 use Rattle.papaya_stands.specs.Alike.{Alike}
 use Rattle.papaya_calls.specs.Handings.{handing_of}

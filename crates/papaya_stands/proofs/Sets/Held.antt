@@ -3,8 +3,8 @@ use Rattle.std.specs.Prelude.{map}
 use Rattle.std.proofs.Common.{◌≡◌, ◌≢◌, ℕ, zero, suc, ◌+◌, true, false, cond, eqb, List, [], ◌∷◌, ◌⊎◌, inl, inr, refl, sym, ap, subst, arith}
 use Rattle.std.proofs.lemmas.Bool.{eq-eqb}
 use Rattle.std.proofs.lemmas.Bool.Decides.{eqb_tells}
-use Rattle.seize.specs.WaitingSets.{Batch, Further, Sets, opened}
-use Rattle.seize_waiting.specs.Held.{same, count, weight_put, held_closed, all_held}
+use Rattle.papaya_maps.specs.Given.Seize.WaitingSets.{Batch, Further, Sets, opened}
+use Rattle.papaya_maps.specs.Given.SeizeWaiting.Held.{same, count, weight_put, held_closed, all_held}
 use Rattle.papaya_stands.specs.Alike.{Alike, batch_renamed, further_renamed}
 use Rattle.papaya_stands.proofs.Sets.Renamed.{waits_alike}
 

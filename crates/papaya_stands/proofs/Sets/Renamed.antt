@@ -3,8 +3,8 @@ use Rattle.std.specs.Prelude.{if◌then◌else◌, ◌==◌, not, nat_lt, max, m
 use Rattle.std.proofs.Common.{◌≡◌, ℕ, zero, suc, ◌+◌, Bool, true, false, cond, List, [], ◌∷◌, ◌++◌, length, refl, ap, arith, subst, sym, eqb-true, ◌∙◌}
 use Rattle.std.proofs.lemmas.Bool.{eq-eqb, ne_eqb, eqb-false}
 use Rattle.std.proofs.lemmas.List.{map-append, length-map}
-use Rattle.seize.specs.WaitingSets.{Batch, Further, Sets, Change, Enters, Leaves, Refreshes, Retires, Flushes, Defers, ReclaimsAll, After, quietly, then_also, with_open, with_active, with_closed, without, with_slot, further_of, further_of_all, is_one_of, in_closed, opened, size, giving, closing, is_enough, is_done, no_more, still_closed, is_full, retired_all, given, given_all, retired, flushed, counted, left, all_left, emptied, emptied_all, all_reclaimed, changed, at_start, ended, Ends}
-use Rattle.seize_waiting.specs.Changes.{kept}
+use Rattle.papaya_maps.specs.Given.Seize.WaitingSets.{Batch, Further, Sets, Change, Enters, Leaves, Refreshes, Retires, Flushes, Defers, ReclaimsAll, After, quietly, then_also, with_open, with_active, with_closed, without, with_slot, further_of, further_of_all, is_one_of, in_closed, opened, size, giving, closing, is_enough, is_done, no_more, still_closed, is_full, retired_all, given, given_all, retired, flushed, counted, left, all_left, emptied, emptied_all, all_reclaimed, changed, at_start, ended, Ends}
+use Rattle.papaya_maps.specs.Given.SeizeWaiting.Changes.{kept}
 use Rattle.papaya_stands.specs.Alike.{Alike, batch_renamed, further_renamed}
 
 -- and what was reclaimed

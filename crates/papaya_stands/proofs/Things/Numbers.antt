@@ -4,7 +4,7 @@ use Rattle.std.proofs.Common.{◌≡◌, ℕ, Bool, true, false, cond, List, [],
 use Rattle.std.proofs.lemmas.Bool.{eq-eqb, ne_eqb, eqb-false}
 use Rattle.papaya_runs.specs.declared.outcome.Effect.TheVariants.{Reclaimed, TableReclaimed}
 use Rattle.papaya_runs.specs.Effects.{pair_thing, table_thing, pairs_among, tables_among, reclaim_of}
-use Rattle.seize.specs.WaitingSets.{is_one_of}
+use Rattle.papaya_maps.specs.Given.Seize.WaitingSets.{is_one_of}
 
 pair_even : (n : ℕ) → (pair_thing n % 2 == 0) ≡ true
 pair_even n = eq-eqb (pair_thing n % 2) 0 (omega arith)

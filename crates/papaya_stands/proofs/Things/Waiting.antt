@@ -2,11 +2,11 @@
 use Rattle.std.specs.Prelude.{◌==◌, ◌||◌, not, map}
 use Rattle.std.proofs.Common.{◌≡◌, ℕ, ◌+◌, ◌≤◌, Bool, true, false, cond, List, [], ◌∷◌, inl, inr, length, refl, sym, ap, subst, arith, eqb-true, ◌∙◌}
 use Rattle.std.proofs.lemmas.Bool.{eq-eqb, ne_eqb, eqb-false}
-use Rattle.seize.specs.WaitingSets.{is_one_of}
+use Rattle.papaya_maps.specs.Given.Seize.WaitingSets.{is_one_of}
 use Rattle.seize_words.specs.Mem.{Mem, value_at}
-use Rattle.seize_waiting.specs.Held.{same, count}
-use Rattle.seize_waiting.proofs.Laws.{uncounted_is_not_there}
-use Rattle.papaya_tables.specs.declared.node.Node.{Node}
+use Rattle.papaya_maps.specs.Given.SeizeWaiting.Held.{same, count}
+use Rattle.papaya_maps.proofs.Given.SeizeWaiting.Laws.{uncounted_is_not_there}
+use Rattle.papaya_maps.specs.Given.Tables.declared.node.Node.{Node}
 use Rattle.papaya_runs.specs.declared.record.Pair.{Pair}
 use Rattle.papaya_runs.specs.Effects.{pairs_among, tables_among}
 use Rattle.papaya_runs.specs.LifeCycle.{times}

@@ -1,11 +1,11 @@
 -- The map of a run at its end: its pairs have the numbers that are told, and none is on its way.
 use Rattle.std.proofs.Common.{ℕ, Bool, sym, ◌∙◌}
 use Rattle.seize_words.specs.Mem.{Mem}
-use Rattle.seize_alone.specs.Alone.{History}
-use Rattle.papaya_tables.specs.Chunks.{is_incremental}
-use Rattle.papaya_tables.specs.declared.node.Node.{Node}
+use Rattle.papaya_maps.specs.Given.SeizeAlone.Alone.{History}
+use Rattle.papaya_maps.specs.Given.Tables.Chunks.{is_incremental}
+use Rattle.papaya_maps.specs.Given.Tables.declared.node.Node.{Node}
 use Rattle.papaya_runs.specs.State.{State}
-use Rattle.papaya_points.specs.Steps.{AreLawful}
+use Rattle.papaya_maps.specs.Given.Points.Steps.{AreLawful}
 use Rattle.papaya_stands.specs.Collects.{Lives}
 use Rattle.papaya_shown.specs.Shown.{NoneMoves}
 use Rattle.papaya_calls.specs.Endings.{AreNumbered}

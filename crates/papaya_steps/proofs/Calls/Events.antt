@@ -1,7 +1,7 @@
 -- What serving a call comes to, told as the event that it is.
 use Rattle.std.specs.Prelude.{not, ◌&&◌, if◌then◌else◌, MatchBool, Option, Some, None, Result, Ok, Err, IfOk}
 use Rattle.std.proofs.Common.{◌≡◌, ℕ, ◌<◌, ◌≤◌, Bool, true, false, List, ◌⊎◌, inl, inr, refl, sym, ap, subst, ◌∙◌}
-use Rattle.papaya_tables.specs.declared.setting.Setting.{Setting}
+use Rattle.papaya_maps.specs.Given.Tables.declared.setting.Setting.{Setting}
 use Rattle.papaya_runs.specs.declared.event.Call.{Call}
 use Rattle.papaya_runs.specs.declared.event.Call.TheVariants.{Get, Insert, TryInsert, Remove, Reserve}
 use Rattle.papaya_runs.specs.declared.event.Event.{Event}

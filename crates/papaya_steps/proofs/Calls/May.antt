@@ -1,16 +1,16 @@
 -- On a runner that stands for a state each call on one key may be run, where a guard is on the slot.
 use Rattle.std.specs.Prelude.{Option, Some, None}
 use Rattle.std.proofs.Common.{◌≡◌, ℕ, ◌<◌, ◌^◌, Bool, true, refl, sym, subst, ◌∙◌, arith}
-use Rattle.seize.specs.World.{IsInside}
+use Rattle.papaya_maps.specs.Given.Seize.World.{IsInside}
 use Rattle.papaya_raw.specs.CallPoints.{getting, removing, inserting, trying_to_insert}
-use Rattle.papaya_tables.specs.declared.node.Node.{Node}
-use Rattle.papaya_tables.specs.declared.node.Node.TheVariants as node
-use Rattle.papaya_tables.specs.declared.setting.Setting.{Setting}
+use Rattle.papaya_maps.specs.Given.Tables.declared.node.Node.{Node}
+use Rattle.papaya_maps.specs.Given.Tables.declared.node.Node.TheVariants as node
+use Rattle.papaya_maps.specs.Given.Tables.declared.setting.Setting.{Setting}
 use Rattle.papaya_raw.specs.declared.machines.call.KeyCall.{KeyCall as Machine}
-use Rattle.papaya_rule.specs.Maps.{IsClass}
-use Rattle.papaya_points.specs.Steps.{AreLawful}
-use Rattle.papaya_alone.specs.Alone.{MapRests}
-use Rattle.papaya_alone.proofs.Laws.{calls_begin_lone}
+use Rattle.papaya_maps.specs.Given.Rule.Maps.{IsClass}
+use Rattle.papaya_maps.specs.Given.Points.Steps.{AreLawful}
+use Rattle.papaya_maps.specs.Given.Alone.Alone.{MapRests}
+use Rattle.papaya_maps.proofs.Given.Alone.Laws.{calls_begin_lone}
 use Rattle.papaya_maps.proofs.Laws.{rests_at_any_slot}
 use Rattle.papaya_runs.specs.Present.{Present, guards_on}
 use Rattle.papaya_runs.specs.State.{State}

@@ -5,22 +5,22 @@ use Rattle.std.proofs.lemmas.Bool.{ltb-true}
 use Rattle.std.proofs.lemmas.List.{append-nil}
 use Rattle.seize_words.specs.declared.fault.Fault.{Fault}
 use Rattle.seize_words.specs.Mem.{Mem}
-use Rattle.seize_alone.specs.Alone.{History, at_rest}
-use Rattle.seize.specs.WaitingSets.{Change as Waiting}
-use Rattle.papaya_tables.specs.Chunks.{is_incremental}
-use Rattle.papaya_tables.specs.Marks.{has_mark}
-use Rattle.papaya_tables.specs.Nodes.{deferred_word}
-use Rattle.papaya_tables.specs.declared.marks.TheConstants.{BORROWED}
-use Rattle.papaya_tables.specs.declared.node.Node.{Node}
-use Rattle.papaya_tables.specs.declared.resize_mode.ResizeMode.{ResizeMode}
-use Rattle.papaya_tables.specs.declared.setting.Setting.{Setting}
+use Rattle.papaya_maps.specs.Given.SeizeAlone.Alone.{History, at_rest}
+use Rattle.papaya_maps.specs.Given.Seize.WaitingSets.{Change as Waiting}
+use Rattle.papaya_maps.specs.Given.Tables.Chunks.{is_incremental}
+use Rattle.papaya_maps.specs.Given.Tables.Marks.{has_mark}
+use Rattle.papaya_maps.specs.Given.Tables.Nodes.{deferred_word}
+use Rattle.papaya_maps.specs.Given.Tables.declared.marks.TheConstants.{BORROWED}
+use Rattle.papaya_maps.specs.Given.Tables.declared.node.Node.{Node}
+use Rattle.papaya_maps.specs.Given.Tables.declared.resize_mode.ResizeMode.{ResizeMode}
+use Rattle.papaya_maps.specs.Given.Tables.declared.setting.Setting.{Setting}
 use Rattle.papaya_raw.specs.declared.machines.answer.KeyAnswer.{KeyAnswer as Word}
-use Rattle.papaya_rule.specs.Chart.{Chart}
-use Rattle.papaya_points.specs.FactsCalls.{Change, Unchanged}
-use Rattle.papaya_rule.specs.InWorld.{IsMapIn}
-use Rattle.papaya_rule.specs.Words.{Blocks}
-use Rattle.papaya_alone.specs.Alone.{pairs_stored}
-use Rattle.papaya_alone.specs.Handed.{all_handed, pairs_handed, word_out}
+use Rattle.papaya_maps.specs.Given.Rule.Chart.{Chart}
+use Rattle.papaya_maps.specs.Given.Points.FactsCalls.{Change, Unchanged}
+use Rattle.papaya_maps.specs.Given.Rule.InWorld.{IsMapIn}
+use Rattle.papaya_maps.specs.Given.Rule.Words.{Blocks}
+use Rattle.papaya_maps.specs.Given.Alone.Alone.{pairs_stored}
+use Rattle.papaya_maps.specs.Given.Alone.Handed.{all_handed, pairs_handed, word_out}
 use Rattle.papaya_runs.specs.declared.event.Event.{Event}
 use Rattle.papaya_runs.specs.declared.event.Event.TheVariants.{OneCall}
 use Rattle.papaya_runs.specs.declared.event.Call.{Call}

@@ -11,10 +11,10 @@ use Rattle.papaya_runs.specs.Runs.{IsRunOf, NoneGoes, TellsEnd}
 use Rattle.papaya_runs.specs.State.{State, Tells, fresh}
 use Rattle.papaya_runs.specs.Turns.{CameTo, StoppedIn, nothing_yet}
 use Rattle.papaya_runs.proofs.Laws.{turns_make_a_run, stops_make_a_run, stops_are_told, states_hold_what_waits}
-use Rattle.papaya_points.specs.Steps.{AreLawful}
-use Rattle.seize_alone.specs.Alone.{History}
+use Rattle.papaya_maps.specs.Given.Points.Steps.{AreLawful}
+use Rattle.papaya_maps.specs.Given.SeizeAlone.Alone.{History}
 use Rattle.seize_words.specs.Mem.{Mem}
-use Rattle.papaya_tables.specs.declared.node.Node.{Node}
+use Rattle.papaya_maps.specs.Given.Tables.declared.node.Node.{Node}
 use Rattle.papaya_steps.specs.Applied.{SoFar}
 use Rattle.papaya_stands.specs.Collects.{HasMap}
 use Rattle.papaya_calls.specs.Endings.{MapStands}

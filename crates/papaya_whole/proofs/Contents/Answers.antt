@@ -2,19 +2,19 @@
 use Rattle.std.specs.Prelude.{◌≡◌, ℕ, zero, suc, ◌<◌, Bool, true, List, [], ◌∷◌, Some, None, if◌then◌else◌}
 use Rattle.std.proofs.Common.{refl, ap, sym, subst, ◌∙◌, inl, inr, arith}
 use Rattle.std.proofs.lemmas.Bool.{cases_eq}
-use Rattle.seize_words.specs.Mem.{Mem, value_at}
-use Rattle.seize.specs.World.{World}
-use Rattle.papaya_tables.specs.declared.node.Node.{Node}
-use Rattle.papaya_tables.specs.declared.node.Node.TheVariants as node
-use Rattle.papaya_tables.specs.declared.setting.Setting.{Setting}
-use Rattle.papaya_raw.specs.declared.machines.answer.KeyAnswer.{KeyAnswer}
-use Rattle.papaya_raw.specs.declared.machines.answer.KeyAnswer.TheVariants as answers
-use Rattle.papaya_rule.specs.Chart.{Chart}
-use Rattle.papaya_rule.specs.Words.{Blocks}
-use Rattle.papaya_rule.specs.InWorld.{IsMapIn}
-use Rattle.papaya_points.specs.FactsCalls.{Unchanged}
-use Rattle.papaya_points.specs.Steps.{AreLawful}
-use Rattle.papaya_callers.specs.Since.{SoSince}
+use Rattle.papaya_maps.specs.Given.SeizeWords.Mem.{Mem, value_at}
+use Rattle.papaya_maps.specs.Given.Seize.World.{World}
+use Rattle.papaya_maps.specs.Given.Tables.declared.node.Node.{Node}
+use Rattle.papaya_maps.specs.Given.Tables.declared.node.Node.TheVariants as node
+use Rattle.papaya_maps.specs.Given.Tables.declared.setting.Setting.{Setting}
+use Rattle.papaya_maps.specs.Given.Raw.declared.machines.answer.KeyAnswer.{KeyAnswer}
+use Rattle.papaya_maps.specs.Given.Raw.declared.machines.answer.KeyAnswer.TheVariants as answers
+use Rattle.papaya_maps.specs.Given.Rule.Chart.{Chart}
+use Rattle.papaya_maps.specs.Given.Rule.Words.{Blocks}
+use Rattle.papaya_maps.specs.Given.Rule.InWorld.{IsMapIn}
+use Rattle.papaya_maps.specs.Given.Points.FactsCalls.{Unchanged}
+use Rattle.papaya_maps.specs.Given.Points.Steps.{AreLawful}
+use Rattle.papaya_maps.specs.Given.Callers.Since.{SoSince}
 use Rattle.papaya_whole.specs.Contents.{pair_for, ContentsBelow, AreContents, HasRun, IsOfPairs, AnswersOfPairs}
 use Rattle.papaya_whole.proofs.Contents.Lists.{pair_for-append, pair_for-first}
 use Rattle.papaya_whole.proofs.Contents.Below.{EndsWith, ends_with, as_before, decided, has_pair, same_key, absent_below, pairs_apart}

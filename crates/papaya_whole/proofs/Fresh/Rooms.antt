@@ -1,21 +1,21 @@
 -- No reservation knows both what its point says in the root's table, and what is to be known in one that the root has left.
 use Rattle.std.specs.Prelude.{◌≡◌, ℕ, ◌≤◌, Bool, true, false, cond}
 use Rattle.std.proofs.Common.{subst}
-use Rattle.seize.specs.World.{World}
-use Rattle.papaya_tables.specs.Chunks.{is_incremental}
-use Rattle.papaya_tables.specs.declared.node.Node.{Node}
-use Rattle.papaya_tables.specs.declared.setting.Setting.{Setting}
-use Rattle.papaya_resize.specs.declared.copier.Copier.{Copier}
-use Rattle.papaya_reserves.specs.declared.reserve.Reserve.{Reserve}
-use Rattle.papaya_reserves.specs.declared.reserve.Reserving.{Reserving}
-use Rattle.papaya_reserves.specs.declared.reserve.Reserving.TheVariants as at
-use Rattle.papaya_rule.specs.Chart.{Chart}
-use Rattle.papaya_rule.specs.Words.{Blocks}
-use Rattle.papaya_rule.specs.InWorld.{IsMapIn}
-use Rattle.papaya_points.specs.FactsCopies.{CopierFacts}
-use Rattle.papaya_points.specs.FactsCopiesBlocking.{CopierFactsBlocking}
-use Rattle.papaya_late.specs.FactsReserves.{IsRoot, IsEnding, CopiesWhole, ReservingFacts, ReserveFacts}
-use Rattle.papaya_late.specs.LateReserves.{LateReserving, LateReserveFacts}
+use Rattle.papaya_maps.specs.Given.Seize.World.{World}
+use Rattle.papaya_maps.specs.Given.Tables.Chunks.{is_incremental}
+use Rattle.papaya_maps.specs.Given.Tables.declared.node.Node.{Node}
+use Rattle.papaya_maps.specs.Given.Tables.declared.setting.Setting.{Setting}
+use Rattle.papaya_maps.specs.Given.Resize.declared.copier.Copier.{Copier}
+use Rattle.papaya_maps.specs.Given.Reserves.declared.reserve.Reserve.{Reserve}
+use Rattle.papaya_maps.specs.Given.Reserves.declared.reserve.Reserving.{Reserving}
+use Rattle.papaya_maps.specs.Given.Reserves.declared.reserve.Reserving.TheVariants as at
+use Rattle.papaya_maps.specs.Given.Rule.Chart.{Chart}
+use Rattle.papaya_maps.specs.Given.Rule.Words.{Blocks}
+use Rattle.papaya_maps.specs.Given.Rule.InWorld.{IsMapIn}
+use Rattle.papaya_maps.specs.Given.Points.FactsCopies.{CopierFacts}
+use Rattle.papaya_maps.specs.Given.Points.FactsCopiesBlocking.{CopierFactsBlocking}
+use Rattle.papaya_maps.specs.Given.Late.FactsReserves.{IsRoot, IsEnding, CopiesWhole, ReservingFacts, ReserveFacts}
+use Rattle.papaya_maps.specs.Given.Late.LateReserves.{LateReserving, LateReserveFacts}
 use Rattle.papaya_whole.proofs.Fresh.Calls.{table_none, copying_none, making_none}
 
 module _ {K V : Type 0} (same : K → K → Bool) (hash : K → ℕ) (setting : Setting) (w : World (Node K V)) (caller : ℕ) (c : Chart K) (blocks : Blocks) where

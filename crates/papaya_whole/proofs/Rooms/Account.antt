@@ -1,42 +1,42 @@
 -- What a step of a row is to the reservation that it is within, and that it is of the root's table once the row is over.
 use Rattle.std.specs.Prelude.{◌==◌, if◌then◌else◌}
 use Rattle.std.proofs.Common.{◌≡◌, ℕ, ◌≤◌, Bool, true, false, refl, arith, ap, sym, subst, ◌∙◌}
-use Rattle.seize_words.specs.Mem.{Mem, Took, value_at}
-use Rattle.seize_words.specs.Plan.{Steps, plan_as}
-use Rattle.seize.specs.declared.rows.settle.Settle.{Settle}
-use Rattle.seize.specs.declared.rows.settle.Settled.{Settled}
-use Rattle.seize.specs.declared.rows.settle.Settled.TheVariants as settled
-use Rattle.seize.specs.Settle.{settle_plan}
-use Rattle.seize.specs.World.{World, Rests, Settles}
-use Rattle.seize_ends.proofs.Settling.Most.{is_going}
-use Rattle.seize_rule.proofs.Rows.Leaving.{steps_back}
-use Rattle.papaya_tables.specs.Chunks.{is_incremental}
-use Rattle.papaya_tables.specs.Nodes.{deferred_word}
-use Rattle.papaya_tables.specs.declared.node.Node.{Node}
-use Rattle.papaya_tables.specs.declared.setting.Setting.{Setting}
-use Rattle.papaya_resize.specs.CopierPromotes as retiring
-use Rattle.papaya_resize.specs.Copier as copier
-use Rattle.papaya_resize.specs.CopierStates as copiers
-use Rattle.papaya_resize.specs.declared.copier.Copier.{Copier}
-use Rattle.papaya_resize.specs.declared.copier.Copying.{Copying}
-use Rattle.papaya_resize.specs.declared.copier.Copying.TheVariants as copies
-use Rattle.papaya_resize.specs.declared.outcome.Outcome.{Outcome}
-use Rattle.papaya_resize.specs.declared.outcome.Outcome.TheVariants as outcome
-use Rattle.papaya_reserves.specs.Reserve.{standing, copied, reserve_plan, plan_at}
-use Rattle.papaya_reserves.specs.declared.reserve.Reserve.{Reserve}
-use Rattle.papaya_reserves.specs.declared.reserve.Reserving.{Reserving}
-use Rattle.papaya_reserves.specs.declared.reserve.Reserving.TheVariants as at
-use Rattle.papaya_rule.specs.Chart.{Chart}
-use Rattle.papaya_rule.specs.Words.{Blocks}
-use Rattle.papaya_points.specs.Told.{IsRowOfCopier}
-use Rattle.papaya_late.specs.FactsReserves.{ReservingFacts}
-use Rattle.papaya_late.specs.LateReserves.{LateReserving}
-use Rattle.papaya_late.specs.ToldReserves.{IsRowOfReserve}
+use Rattle.papaya_maps.specs.Given.SeizeWords.Mem.{Mem, Took, value_at}
+use Rattle.papaya_maps.specs.Given.SeizeWords.Plan.{Steps, plan_as}
+use Rattle.papaya_maps.specs.Given.Seize.declared.rows.settle.Settle.{Settle}
+use Rattle.papaya_maps.specs.Given.Seize.declared.rows.settle.Settled.{Settled}
+use Rattle.papaya_maps.specs.Given.Seize.declared.rows.settle.Settled.TheVariants as settled
+use Rattle.papaya_maps.specs.Given.Seize.Settle.{settle_plan}
+use Rattle.papaya_maps.specs.Given.Seize.World.{World, Rests, Settles}
+use Rattle.papaya_maps.proofs.Given.SeizeEnds.Settling.Most.{is_going}
+use Rattle.papaya_maps.proofs.Given.SeizeRule.Rows.Leaving.{steps_back}
+use Rattle.papaya_maps.specs.Given.Tables.Chunks.{is_incremental}
+use Rattle.papaya_maps.specs.Given.Tables.Nodes.{deferred_word}
+use Rattle.papaya_maps.specs.Given.Tables.declared.node.Node.{Node}
+use Rattle.papaya_maps.specs.Given.Tables.declared.setting.Setting.{Setting}
+use Rattle.papaya_maps.specs.Given.Resize.CopierPromotes as retiring
+use Rattle.papaya_maps.specs.Given.Resize.Copier as copier
+use Rattle.papaya_maps.specs.Given.Resize.CopierStates as copiers
+use Rattle.papaya_maps.specs.Given.Resize.declared.copier.Copier.{Copier}
+use Rattle.papaya_maps.specs.Given.Resize.declared.copier.Copying.{Copying}
+use Rattle.papaya_maps.specs.Given.Resize.declared.copier.Copying.TheVariants as copies
+use Rattle.papaya_maps.specs.Given.Resize.declared.outcome.Outcome.{Outcome}
+use Rattle.papaya_maps.specs.Given.Resize.declared.outcome.Outcome.TheVariants as outcome
+use Rattle.papaya_maps.specs.Given.Reserves.Reserve.{standing, copied, reserve_plan, plan_at}
+use Rattle.papaya_maps.specs.Given.Reserves.declared.reserve.Reserve.{Reserve}
+use Rattle.papaya_maps.specs.Given.Reserves.declared.reserve.Reserving.{Reserving}
+use Rattle.papaya_maps.specs.Given.Reserves.declared.reserve.Reserving.TheVariants as at
+use Rattle.papaya_maps.specs.Given.Rule.Chart.{Chart}
+use Rattle.papaya_maps.specs.Given.Rule.Words.{Blocks}
+use Rattle.papaya_maps.specs.Given.Points.Told.{IsRowOfCopier}
+use Rattle.papaya_maps.specs.Given.Late.FactsReserves.{ReservingFacts}
+use Rattle.papaya_maps.specs.Given.Late.LateReserves.{LateReserving}
+use Rattle.papaya_maps.specs.Given.Late.ToldReserves.{IsRowOfReserve}
 use Rattle.papaya_maps.specs.AloneReserves.{LooksAtRoot, SumsUp}
 use Rattle.papaya_maps.specs.FactsAloneReserves.{CopierAlone, ReservesAlone}
-use Rattle.papaya_callers.specs.Rows.{row_of_copier, past_copying}
-use Rattle.papaya_callers.specs.Rooms.{row_of_room, past_room, room_once_over}
-use Rattle.papaya_callers.proofs.Together.RowsOfCopiers.{at_retirement}
+use Rattle.papaya_maps.specs.Given.Callers.Rows.{row_of_copier, past_copying}
+use Rattle.papaya_maps.specs.Given.Callers.Rooms.{row_of_room, past_room, room_once_over}
+use Rattle.papaya_maps.proofs.Given.Callers.Together.RowsOfCopiers.{at_retirement}
 use Rattle.papaya_falls.specs.Reserves.{number_of_reserve}
 use Rattle.papaya_whole.proofs.Fresh.Rooms.{whole_blocking}
 use Rattle.papaya_whole.proofs.Rows.Standing.{copier_row, target_here, target_over, late_now, late_over}

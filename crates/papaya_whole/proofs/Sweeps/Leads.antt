@@ -2,34 +2,34 @@
 use Rattle.std.specs.Prelude.{◌≡◌, ℕ, suc, ◌+◌, ◌%◌, ◌^◌, ◌<◌, ◌⊎◌, Bool, true, List, None}
 use Rattle.std.specs.Int.{IsPowerOfTwo}
 use Rattle.std.proofs.Common.{inl, inr, refl, sym, subst, ◌∙◌, arith}
-use Rattle.seize_words.specs.Mem.{Mem, Can, Took, value_at}
-use Rattle.seize_words.specs.Plan.{May, Steps}
-use Rattle.seize.specs.World.{World}
-use Rattle.papaya_tables.specs.Chunks.{is_incremental}
-use Rattle.papaya_tables.specs.declared.node.Node.{Node}
-use Rattle.papaya_tables.specs.declared.setting.Setting.{Setting}
-use Rattle.papaya_sweeps.specs.Sweep.{sweep_plan}
-use Rattle.papaya_sweeps.specs.declared.sweep.Purpose.{Purpose}
-use Rattle.papaya_sweeps.specs.declared.sweep.Sweep.{Sweep}
-use Rattle.papaya_sweeps.specs.declared.sweep.Sweeping.{Sweeping}
-use Rattle.papaya_sweeps.specs.declared.sweep.Sweeping.TheVariants as at
-use Rattle.papaya_sweeps.specs.declared.sweep.Swept.{Swept}
-use Rattle.papaya_sweeps.specs.declared.sweep.Swept.TheVariants as swept
-use Rattle.papaya_rule.specs.Chart.{Chart}
-use Rattle.papaya_rule.specs.Words.{Blocks}
-use Rattle.papaya_rule.proofs.World.Hands.{current_known}
-use Rattle.papaya_points.specs.Steps.{AreLawful}
-use Rattle.papaya_points.proofs.MovedLasts.{moved_lasts}
-use Rattle.papaya_alone.specs.Counting.{pairs_in, shards_sum}
-use Rattle.papaya_alone.specs.Counted.{HasAdded}
-use Rattle.papaya_alone.proofs.Calls.Changes.{none_stored}
-use Rattle.papaya_alone.proofs.Shards.Sums.{added_none}
-use Rattle.papaya_late.specs.Covers.{Came}
-use Rattle.papaya_late.specs.ToldSweeps.{word_told, IsRowOfSweep}
-use Rattle.papaya_callers.specs.OverAll.{CallOverAll}
-use Rattle.papaya_callers.specs.Sights.{Sight}
-use Rattle.papaya_callers.specs.Together.{OverAll}
-use Rattle.papaya_callers.proofs.Sights.Sources.{below}
+use Rattle.papaya_maps.specs.Given.SeizeWords.Mem.{Mem, Can, Took, value_at}
+use Rattle.papaya_maps.specs.Given.SeizeWords.Plan.{May, Steps}
+use Rattle.papaya_maps.specs.Given.Seize.World.{World}
+use Rattle.papaya_maps.specs.Given.Tables.Chunks.{is_incremental}
+use Rattle.papaya_maps.specs.Given.Tables.declared.node.Node.{Node}
+use Rattle.papaya_maps.specs.Given.Tables.declared.setting.Setting.{Setting}
+use Rattle.papaya_maps.specs.Given.Sweeps.Sweep.{sweep_plan}
+use Rattle.papaya_maps.specs.Given.Sweeps.declared.sweep.Purpose.{Purpose}
+use Rattle.papaya_maps.specs.Given.Sweeps.declared.sweep.Sweep.{Sweep}
+use Rattle.papaya_maps.specs.Given.Sweeps.declared.sweep.Sweeping.{Sweeping}
+use Rattle.papaya_maps.specs.Given.Sweeps.declared.sweep.Sweeping.TheVariants as at
+use Rattle.papaya_maps.specs.Given.Sweeps.declared.sweep.Swept.{Swept}
+use Rattle.papaya_maps.specs.Given.Sweeps.declared.sweep.Swept.TheVariants as swept
+use Rattle.papaya_maps.specs.Given.Rule.Chart.{Chart}
+use Rattle.papaya_maps.specs.Given.Rule.Words.{Blocks}
+use Rattle.papaya_maps.proofs.Given.Rule.World.Hands.{current_known}
+use Rattle.papaya_maps.specs.Given.Points.Steps.{AreLawful}
+use Rattle.papaya_maps.proofs.Given.Points.MovedLasts.{moved_lasts}
+use Rattle.papaya_maps.specs.Given.Alone.Counting.{pairs_in, shards_sum}
+use Rattle.papaya_maps.specs.Given.Alone.Counted.{HasAdded}
+use Rattle.papaya_maps.proofs.Given.Alone.Calls.Changes.{none_stored}
+use Rattle.papaya_maps.proofs.Given.Alone.Shards.Sums.{added_none}
+use Rattle.papaya_maps.specs.Given.Late.Covers.{Came}
+use Rattle.papaya_maps.specs.Given.Late.ToldSweeps.{word_told, IsRowOfSweep}
+use Rattle.papaya_maps.specs.Given.Callers.OverAll.{CallOverAll}
+use Rattle.papaya_maps.specs.Given.Callers.Sights.{Sight}
+use Rattle.papaya_maps.specs.Given.Callers.Together.{OverAll}
+use Rattle.papaya_maps.proofs.Given.Callers.Sights.Sources.{below}
 use Rattle.papaya_whole.specs.Contents.{KeepsPairs}
 use Rattle.papaya_whole.specs.LoneSweeps.{goes_once}
 use Rattle.papaya_whole.specs.Owner.{IsAlone}

@@ -1,21 +1,21 @@
 -- Where a sweep that is alone goes on: beside its copying it leaves all to itself, and then it may begin to copy; and where its copying leads.
 use Rattle.std.specs.Prelude.{◌≡◌, ℕ, Bool, true, false, ◌==◌, ◌&&◌, if◌then◌else◌}
 use Rattle.std.proofs.Common.{refl}
-use Rattle.seize_words.specs.Word.{block_in}
-use Rattle.papaya_tables.specs.Marks.{has_mark}
-use Rattle.papaya_tables.specs.declared.marks.TheConstants.{COPYING}
-use Rattle.papaya_sweeps.specs.SweepPoints.{removes, further, told, telling, at_pair, seen}
-use Rattle.papaya_sweeps.specs.declared.sweep.Purpose.{Purpose}
-use Rattle.papaya_sweeps.specs.declared.sweep.Purpose.TheVariants.{Walks, Clears, Retains}
-use Rattle.papaya_sweeps.specs.declared.sweep.Sweep.{Sweep}
-use Rattle.papaya_sweeps.specs.declared.sweep.Sweeping.{Sweeping}
-use Rattle.papaya_sweeps.specs.declared.sweep.Sweeping.TheVariants as at
-use Rattle.papaya_sweeps.specs.declared.sweep.Swept.{Swept}
-use Rattle.papaya_sweeps.specs.declared.sweep.Swept.TheVariants as swept
-use Rattle.papaya_rule.specs.Chart.{Chart}
-use Rattle.papaya_alone.specs.FactsAloneCalls.{TablesAlone, RestsAlone}
-use Rattle.papaya_late.specs.FactsSweeps.{CopiesPairs}
-use Rattle.papaya_late.proofs.Swept.Sweeps.Stands.{IsQuiet, quiet_further}
+use Rattle.papaya_maps.specs.Given.SeizeWords.Word.{block_in}
+use Rattle.papaya_maps.specs.Given.Tables.Marks.{has_mark}
+use Rattle.papaya_maps.specs.Given.Tables.declared.marks.TheConstants.{COPYING}
+use Rattle.papaya_maps.specs.Given.Sweeps.SweepPoints.{removes, further, told, telling, at_pair, seen}
+use Rattle.papaya_maps.specs.Given.Sweeps.declared.sweep.Purpose.{Purpose}
+use Rattle.papaya_maps.specs.Given.Sweeps.declared.sweep.Purpose.TheVariants.{Walks, Clears, Retains}
+use Rattle.papaya_maps.specs.Given.Sweeps.declared.sweep.Sweep.{Sweep}
+use Rattle.papaya_maps.specs.Given.Sweeps.declared.sweep.Sweeping.{Sweeping}
+use Rattle.papaya_maps.specs.Given.Sweeps.declared.sweep.Sweeping.TheVariants as at
+use Rattle.papaya_maps.specs.Given.Sweeps.declared.sweep.Swept.{Swept}
+use Rattle.papaya_maps.specs.Given.Sweeps.declared.sweep.Swept.TheVariants as swept
+use Rattle.papaya_maps.specs.Given.Rule.Chart.{Chart}
+use Rattle.papaya_maps.specs.Given.Alone.FactsAloneCalls.{TablesAlone, RestsAlone}
+use Rattle.papaya_maps.specs.Given.Late.FactsSweeps.{CopiesPairs}
+use Rattle.papaya_maps.proofs.Given.Late.Swept.Sweeps.Stands.{IsQuiet, quiet_further}
 use Rattle.papaya_whole.specs.LoneSweeps.{SweepsAlone, IsLoneSweep}
 
 -- where it is quiet it copies nothing

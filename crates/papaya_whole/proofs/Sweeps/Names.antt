@@ -1,19 +1,19 @@
 -- The words of the pairs of a map: a word for a pair that the map has names that pair, with the key and the value of its block.
 use Rattle.std.specs.Prelude.{◌≡◌, ℕ, ◌<◌, Bool, true}
 use Rattle.std.proofs.Common.{ap, ◌∙◌}
-use Rattle.seize_words.specs.Word.{block_in}
-use Rattle.seize.specs.World.{World}
-use Rattle.papaya_tables.specs.declared.node.Node.{Node}
-use Rattle.papaya_tables.specs.declared.setting.Setting.{Setting}
-use Rattle.papaya_rule.specs.Chart.{Phase, Holds, Chart}
-use Rattle.papaya_rule.specs.Words.{Blocks, byte_of, place_word}
-use Rattle.papaya_rule.specs.InWorld.{IsMapIn}
-use Rattle.papaya_rule.proofs.Words.PlaceWords.{pair_block}
-use Rattle.papaya_rule.proofs.Words.PlacesShown.{byte_of-few}
-use Rattle.papaya_rule.proofs.World.Hands.{current_known}
-use Rattle.papaya_points.specs.Steps.{AreLawful}
-use Rattle.papaya_late.specs.Covers.{NamesPair}
-use Rattle.papaya_late.proofs.Swept.Covers.Shows.{names_one}
+use Rattle.papaya_maps.specs.Given.SeizeWords.Word.{block_in}
+use Rattle.papaya_maps.specs.Given.Seize.World.{World}
+use Rattle.papaya_maps.specs.Given.Tables.declared.node.Node.{Node}
+use Rattle.papaya_maps.specs.Given.Tables.declared.setting.Setting.{Setting}
+use Rattle.papaya_maps.specs.Given.Rule.Chart.{Phase, Holds, Chart}
+use Rattle.papaya_maps.specs.Given.Rule.Words.{Blocks, byte_of, place_word}
+use Rattle.papaya_maps.specs.Given.Rule.InWorld.{IsMapIn}
+use Rattle.papaya_maps.proofs.Given.Rule.Words.PlaceWords.{pair_block}
+use Rattle.papaya_maps.proofs.Given.Rule.Words.PlacesShown.{byte_of-few}
+use Rattle.papaya_maps.proofs.Given.Rule.World.Hands.{current_known}
+use Rattle.papaya_maps.specs.Given.Points.Steps.{AreLawful}
+use Rattle.papaya_maps.specs.Given.Late.Covers.{NamesPair}
+use Rattle.papaya_maps.proofs.Given.Late.Swept.Covers.Shows.{names_one}
 use Rattle.papaya_whole.specs.WholeSweeps.{NamesPairOf}
 use Rattle.papaya_whole.proofs.Contents.Below.{has_pair}
 

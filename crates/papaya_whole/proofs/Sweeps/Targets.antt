@@ -1,23 +1,23 @@
 -- Within a row of the collector, a sweep copies the root, and so it is not late; and it goes on so once the row is over.
 use Rattle.std.specs.Prelude.{◌≡◌, ℕ, Bool, false}
 use Rattle.std.proofs.Common.{inl, inr}
-use Rattle.seize.specs.World.{World}
-use Rattle.papaya_tables.specs.Chunks.{is_incremental}
-use Rattle.papaya_tables.specs.declared.node.Node.{Node}
-use Rattle.papaya_tables.specs.declared.setting.Setting.{Setting}
-use Rattle.papaya_resize.specs.declared.copier.Copier.{Copier}
-use Rattle.papaya_sweeps.specs.declared.sweep.Sweep.{Sweep}
-use Rattle.papaya_sweeps.specs.declared.sweep.Sweeping.{Sweeping}
-use Rattle.papaya_sweeps.specs.declared.sweep.Sweeping.TheVariants as at
-use Rattle.papaya_rule.specs.Chart.{Chart}
-use Rattle.papaya_rule.specs.Words.{Blocks}
-use Rattle.papaya_points.specs.Told.{IsRowOfCopier}
-use Rattle.papaya_late.specs.FactsSweeps.{CopiesPairs, CopiesTable, SweepingFacts}
-use Rattle.papaya_late.specs.ToldSweeps.{IsRowOfSweep}
-use Rattle.papaya_callers.specs.OverAll.{past_sweeping}
-use Rattle.papaya_callers.specs.Rows.{past_copying}
-use Rattle.papaya_callers.specs.Together.{in_slot}
-use Rattle.papaya_callers.proofs.Together.SweepRows.{at_row}
+use Rattle.papaya_maps.specs.Given.Seize.World.{World}
+use Rattle.papaya_maps.specs.Given.Tables.Chunks.{is_incremental}
+use Rattle.papaya_maps.specs.Given.Tables.declared.node.Node.{Node}
+use Rattle.papaya_maps.specs.Given.Tables.declared.setting.Setting.{Setting}
+use Rattle.papaya_maps.specs.Given.Resize.declared.copier.Copier.{Copier}
+use Rattle.papaya_maps.specs.Given.Sweeps.declared.sweep.Sweep.{Sweep}
+use Rattle.papaya_maps.specs.Given.Sweeps.declared.sweep.Sweeping.{Sweeping}
+use Rattle.papaya_maps.specs.Given.Sweeps.declared.sweep.Sweeping.TheVariants as at
+use Rattle.papaya_maps.specs.Given.Rule.Chart.{Chart}
+use Rattle.papaya_maps.specs.Given.Rule.Words.{Blocks}
+use Rattle.papaya_maps.specs.Given.Points.Told.{IsRowOfCopier}
+use Rattle.papaya_maps.specs.Given.Late.FactsSweeps.{CopiesPairs, CopiesTable, SweepingFacts}
+use Rattle.papaya_maps.specs.Given.Late.ToldSweeps.{IsRowOfSweep}
+use Rattle.papaya_maps.specs.Given.Callers.OverAll.{past_sweeping}
+use Rattle.papaya_maps.specs.Given.Callers.Rows.{past_copying}
+use Rattle.papaya_maps.specs.Given.Callers.Together.{in_slot}
+use Rattle.papaya_maps.proofs.Given.Callers.Together.SweepRows.{at_row}
 use Rattle.papaya_whole.specs.Owner.{IsFirst, CopiesOfRoot}
 use Rattle.papaya_whole.proofs.Fresh.Rooms.{whole_blocking}
 use Rattle.papaya_whole.proofs.Fresh.Sweeps.{CopiesRoot}

@@ -3,7 +3,7 @@ use Rattle.std.specs.Fn.{FnOnceReturnsAt}
 use Rattle.std.specs.Prelude.{Some, None}
 use Rattle.std.proofs.Common.{◌≡◌, ◌∙◌, ap, refl, inl, subst}
 use Rattle.papaya_raw.specs.declared.machines.asking.Reply.TheVariants as reply
-use Rattle.papaya_callers.specs.Kind.{updates_or_inserts}
+use Rattle.papaya_owned.specs.Given.Callers.Kind.{updates_or_inserts}
 use Rattle.papaya_asks.specs.Closures.{ComesTo, UpdatingOrStoring}
 use Rattle.papaya_asks.specs.declared.refused.RefusedKey.{RefusedKey}
 use Rattle.papaya_owned.specs.Calling.{HasStopped, stop_by}

@@ -3,7 +3,7 @@ use Rattle.papaya_maps.specs.Spares.{KeepsOthers}
 use Rattle.papaya_calls.specs.Running.{RunsTo, EndsAs}
 use Rattle.papaya_calls.specs.declared.calls.End.{End}
 use Rattle.papaya_calls.specs.Kinds.{EndFits}
-use Rattle.papaya_late.proofs.KindsKept.Laws.{calls_keep_their_kind, lookups_leave_the_memory}
+use Rattle.papaya_maps.proofs.Given.Late.KindsKept.Laws.{calls_keep_their_kind, lookups_leave_the_memory}
 use Rattle.papaya_calls.proofs.Runs.Calls.{from_same, takes_step, goes_on, hands_back, answers, refuses, stops}
 use Rattle.papaya_calls.proofs.calls.run_call.Goals as goal
 use Rattle.papaya_calls.proofs.calls.run_call.Goals.{in-Done, in-Refused}

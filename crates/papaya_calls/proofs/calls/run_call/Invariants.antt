@@ -1,6 +1,6 @@
 use Rattle.std.proofs.Common.{◌≡◌}
-use Rattle.papaya_late.specs.Kinds.{IsLookup}
-use Rattle.papaya_late.specs.Kinds.{IsFit}
+use Rattle.papaya_maps.specs.Given.Late.Kinds.{IsLookup}
+use Rattle.papaya_maps.specs.Given.Late.Kinds.{IsFit}
 use Rattle.papaya_calls.specs.Running.{Begun, MayRun}
 use Rattle.papaya_calls.proofs.Runs.Calls.{Goes}
 use Rattle.papaya_calls.proofs.calls.run_call.Given as goal

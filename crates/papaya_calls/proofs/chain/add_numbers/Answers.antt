@@ -1,7 +1,7 @@
 use Rattle.std.specs.Prelude.{◌≡◌, ◌++◌, ◌+◌}
 use Rattle.std.proofs.Common.{arith, ap, sym, ◌∙◌}
 use Rattle.std.proofs.lemmas.List.{append-nil}
-use Rattle.papaya_tables.specs.Chunks.{is_incremental}
+use Rattle.papaya_maps.specs.Given.Tables.Chunks.{is_incremental}
 use Rattle.papaya_shown.specs.Shown.{numbers_there}
 use Rattle.papaya_calls.proofs.Shown.Numbers.{none_added, one_added}
 use Rattle.papaya_calls.proofs.chain.add_numbers.Goals as goal

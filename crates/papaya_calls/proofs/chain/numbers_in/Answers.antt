@@ -1,8 +1,8 @@
 use Rattle.std.specs.Prelude.{ℕ, suc, ◌≡◌, ◌-◌, ◌++◌}
 use Rattle.std.proofs.Common.{rules, arith, ap, sym, subst, ◌∙◌, List, [], ◌∷◌, true, false}
-use Rattle.papaya_tables.specs.Chunks.{is_incremental}
-use Rattle.papaya_tables.specs.declared.table.Table.{Table}
-use Rattle.papaya_rule.specs.Maps.{spot_of}
+use Rattle.papaya_maps.specs.Given.Tables.Chunks.{is_incremental}
+use Rattle.papaya_maps.specs.Given.Tables.declared.table.Table.{Table}
+use Rattle.papaya_maps.specs.Given.Rule.Maps.{spot_of}
 use Rattle.papaya_calls.specs.Endings.{ListsCurrent}
 use Rattle.papaya_shown.specs.Shown.{numbers_there, numbers_from}
 use Rattle.papaya_shown.proofs.Current.{lists_all, lists_root, lists_no_root}

@@ -1,7 +1,7 @@
 use Rattle.std.specs.List.{AllByRecursion}
 use Rattle.std.proofs.Common.{rules, arith, subst, sym, ◌∷◌, ◌≡◌, ◌++◌, ap, ◌∙◌, List}
 use Rattle.std.specs.Prelude.{map}
-use Rattle.papaya_tables.specs.declared.table.Table.{Table}
+use Rattle.papaya_maps.specs.Given.Tables.declared.table.Table.{Table}
 use Rattle.papaya_runs.specs.declared.outcome.TableShape.{TableShape}
 use Rattle.papaya_runs.specs.Runs.{IsTableShape}
 use Rattle.papaya_calls.specs.Tables.{shape_of}

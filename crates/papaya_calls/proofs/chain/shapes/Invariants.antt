@@ -1,8 +1,8 @@
 use Rattle.std.specs.List.{AllByRecursion}
 use Rattle.std.specs.Prelude.{map}
 use Rattle.std.proofs.Common.{◌≡◌, ℕ, Bool, ◌++◌, ◌-◌}
-use Rattle.papaya_rule.specs.Chart.{Chart}
-use Rattle.papaya_rule.specs.Words.{Blocks}
+use Rattle.papaya_maps.specs.Given.Rule.Chart.{Chart}
+use Rattle.papaya_maps.specs.Given.Rule.Words.{Blocks}
 use Rattle.papaya_runs.specs.Runs.{IsTableShape}
 use Rattle.papaya_shown.specs.Shown.{Stands, tables_on}
 use Rattle.papaya_calls.specs.Tables.{shape_of}

@@ -1,6 +1,6 @@
 use Rattle.std.specs.Prelude.{◌-◌, ◌^◌}
 use Rattle.std.proofs.Common.{arith, ap, length, length-append, ◌≡◌, ◌+◌, ◌∙◌, ◌<◌, List, subst, sym}
-use Rattle.papaya_tables.specs.declared.table.Table.{Table}
+use Rattle.papaya_maps.specs.Given.Tables.declared.table.Table.{Table}
 use Rattle.papaya_shown.proofs.Chain.{walk_begins, walk_linked, walk_goes, walk_ends, Walked}
 use Rattle.papaya_calls.proofs.chain.tables_in.Goals as goal
 

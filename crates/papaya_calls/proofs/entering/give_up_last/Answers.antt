@@ -1,7 +1,7 @@
 use Rattle.std.specs.Prelude.{if◌then◌else◌}
 use Rattle.std.proofs.Common.{Bool, sym, subst}
 use Rattle.std.proofs.lemmas.Bool.{eq-eqb}
-use Rattle.papaya_tables.specs.Nodes.{deferred_word}
+use Rattle.papaya_maps.specs.Given.Tables.Nodes.{deferred_word}
 use Rattle.seize_alone.specs.Alone.{IsHistory, given_up}
 use Rattle.papaya_calls.proofs.entering.give_up_last.Goals as goal
 

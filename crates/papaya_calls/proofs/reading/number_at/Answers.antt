@@ -1,11 +1,11 @@
 use Rattle.std.specs.Prelude.{◌+◌}
 use Rattle.std.proofs.Common.{◌≡◌, ℕ, ◌/◌, true, false, ◌⊎◌, ap, inl, inr, sym, ◌∙◌}
 use Rattle.seize_words.specs.declared.at.At.TheVariants.{Word}
-use Rattle.papaya_tables.specs.Chunks.{is_incremental}
-use Rattle.papaya_tables.specs.Marks.{has_mark}
-use Rattle.papaya_tables.specs.declared.marks.TheConstants.{COPYING}
-use Rattle.papaya_tables.specs.declared.table_words.TheConstants.{PLACES}
-use Rattle.papaya_rule.specs.Words.{place_word}
+use Rattle.papaya_maps.specs.Given.Tables.Chunks.{is_incremental}
+use Rattle.papaya_maps.specs.Given.Tables.Marks.{has_mark}
+use Rattle.papaya_maps.specs.Given.Tables.declared.marks.TheConstants.{COPYING}
+use Rattle.papaya_maps.specs.Given.Tables.declared.table_words.TheConstants.{PLACES}
+use Rattle.papaya_maps.specs.Given.Rule.Words.{place_word}
 use Rattle.papaya_shown.proofs.Links.{seen_as, read_as, is_word, place_shown}
 use Rattle.papaya_calls.proofs.Shown.Pairs.{no_number, has_pair, has_number}
 use Rattle.papaya_calls.proofs.reading.number_at.Goals as goal

@@ -1,5 +1,5 @@
 use Rattle.std.proofs.Common.{ℕ, Bool, List}
-use Rattle.papaya_tables.specs.declared.node.Node.{Node}
+use Rattle.papaya_maps.specs.Given.Tables.declared.node.Node.{Node}
 use Rattle.papaya_maps.specs.MeasuresEnds.{end_map_left}
 use Rattle.papaya_calls.specs.Unmaking.{Unmaking, AddsEnded, MayUnmake}
 use Rattle.papaya_calls.specs.declared.numbered.Numbered.{Numbered}

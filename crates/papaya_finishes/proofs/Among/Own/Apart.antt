@@ -1,16 +1,16 @@
 -- What the deed of an end is done to is its map's, or left over to its caller: each block that is apart from these is as it was.
 use Rattle.std.specs.Prelude.{◌≢◌, Some}
 use Rattle.std.proofs.Common.{◌≡◌, ℕ, zero, suc, ◌<◌, ◌≤◌, Bool, true, false, List, [], ◌∷◌, ◌⊎◌, inl, inr, refl, arith, ap, sym, subst, ◌∙◌}
-use Rattle.seize_words.specs.declared.at.At.TheVariants.{Entry, Word}
-use Rattle.seize_words.specs.Mem.{value_at, word_at}
-use Rattle.seize.specs.declared.states.TheConstants.{NEXT}
-use Rattle.seize.specs.Law.{With, where_is, holds, owner_of}
-use Rattle.seize.specs.World.{World, InUse, Handed, LeftTo, times}
-use Rattle.seize_alone.proofs.Histories.Further.{none_behind}
-use Rattle.papaya_tables.specs.Nodes.{deferred_word}
-use Rattle.papaya_tables.specs.declared.node.Node.{Node}
-use Rattle.papaya_tables.specs.declared.node.Node.TheVariants as node
-use Rattle.papaya_rule.specs.InWorld.{IsHeldBy, KeepsBlocks}
+use Rattle.papaya_callers.specs.Given.SeizeWords.declared.at.At.TheVariants.{Entry, Word}
+use Rattle.papaya_callers.specs.Given.SeizeWords.Mem.{value_at, word_at}
+use Rattle.papaya_callers.specs.Given.Seize.declared.states.TheConstants.{NEXT}
+use Rattle.papaya_callers.specs.Given.Seize.Law.{With, where_is, holds, owner_of}
+use Rattle.papaya_callers.specs.Given.Seize.World.{World, InUse, Handed, LeftTo, times}
+use Rattle.papaya_callers.proofs.Given.SeizeAlone.Histories.Further.{none_behind}
+use Rattle.papaya_callers.specs.Given.Tables.Nodes.{deferred_word}
+use Rattle.papaya_callers.specs.Given.Tables.declared.node.Node.{Node}
+use Rattle.papaya_callers.specs.Given.Tables.declared.node.Node.TheVariants as node
+use Rattle.papaya_callers.specs.Given.Rule.InWorld.{IsHeldBy, KeepsBlocks}
 use Rattle.papaya_callers.specs.Kept.{IsMaking}
 use Rattle.papaya_callers.specs.Together.{CameAbout}
 use Rattle.papaya_callers.proofs.Rows.Behind.{behind_handed}

@@ -2,11 +2,11 @@
 use Rattle.std.specs.Prelude.{◌≢◌, Option, Some}
 use Rattle.std.proofs.Common.{◌≡◌, ℕ, Bool, refl, inl, inr, sym, subst, ◌∙◌}
 use Rattle.std.proofs.lemmas.Bool.{cases_eq}
-use Rattle.seize_words.specs.declared.at.At.TheVariants.{Root, Used}
-use Rattle.seize_words.specs.Mem.{word_at}
-use Rattle.seize.specs.World.{World}
-use Rattle.papaya_tables.specs.declared.node.Node.{Node}
-use Rattle.papaya_rule.specs.InWorld.{IsHeldBy}
+use Rattle.papaya_callers.specs.Given.SeizeWords.declared.at.At.TheVariants.{Root, Used}
+use Rattle.papaya_callers.specs.Given.SeizeWords.Mem.{word_at}
+use Rattle.papaya_callers.specs.Given.Seize.World.{World}
+use Rattle.papaya_callers.specs.Given.Tables.declared.node.Node.{Node}
+use Rattle.papaya_callers.specs.Given.Rule.InWorld.{IsHeldBy}
 use Rattle.papaya_finishes.specs.Makings.{Beginning, HasTaken, HasMade, HasRoots, HasOwnCounter, MakingsTogether}
 use Rattle.papaya_finishes.specs.Maps.{Standing, MapsTogether}
 use Rattle.papaya_callers.specs.Together.{UnderWay}

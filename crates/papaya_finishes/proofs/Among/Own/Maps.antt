@@ -1,14 +1,14 @@
 -- A step of the end of a map leaves each map that stands as it is.
 use Rattle.std.specs.Prelude.{◌≢◌, Option}
 use Rattle.std.proofs.Common.{◌≡◌, ℕ, Bool, inl, inr, ap, sym, subst, ◌∙◌}
-use Rattle.seize.specs.Law.{is_somewhere}
-use Rattle.seize.specs.World.{World, Row, Use, IsInside, IsOnto}
-use Rattle.papaya_tables.specs.declared.node.Node.{Node}
-use Rattle.papaya_tables.specs.declared.setting.Setting.{Setting}
-use Rattle.papaya_rule.specs.Chart.{Chart}
-use Rattle.papaya_rule.specs.Words.{Blocks}
-use Rattle.papaya_rule.specs.InWorld.{IsOut, IsKnownBlock}
-use Rattle.papaya_points.specs.Steps.{AreLawful}
+use Rattle.papaya_callers.specs.Given.Seize.Law.{is_somewhere}
+use Rattle.papaya_callers.specs.Given.Seize.World.{World, Row, Use, IsInside, IsOnto}
+use Rattle.papaya_callers.specs.Given.Tables.declared.node.Node.{Node}
+use Rattle.papaya_callers.specs.Given.Tables.declared.setting.Setting.{Setting}
+use Rattle.papaya_callers.specs.Given.Rule.Chart.{Chart}
+use Rattle.papaya_callers.specs.Given.Rule.Words.{Blocks}
+use Rattle.papaya_callers.specs.Given.Rule.InWorld.{IsOut, IsKnownBlock}
+use Rattle.papaya_callers.specs.Given.Points.Steps.{AreLawful}
 use Rattle.papaya_callers.specs.Kept.{IsUsersOwn, IsKeptBy}
 use Rattle.papaya_callers.specs.Sights.{Sight}
 use Rattle.papaya_callers.specs.Together.{UnderWay, CameAbout, Together}

@@ -2,18 +2,18 @@
 use Rattle.std.specs.Prelude.{Option, Some, None, map}
 use Rattle.std.proofs.Common.{◌≡◌, ℕ, ◌<◌, ◌≤◌, ◌⊎◌, Bool, false, List, [], ◌∷◌, ◌++◌, refl, arith, ap, sym, subst, ◌∙◌, inl, inr}
 use Rattle.std.proofs.lemmas.List.{append-nil}
-use Rattle.seize_words.specs.declared.at.At.TheVariants.{Used}
-use Rattle.seize_words.specs.Mem.{Mem, word_at}
-use Rattle.seize.specs.Law.{With}
-use Rattle.seize.specs.World.{World, Runs, Hand, InUse, IsNotLeft, times, with_at}
-use Rattle.seize.specs.declared.rows.settle.Settled.{Settled}
-use Rattle.seize.specs.declared.rows.settle.Settled.TheVariants as settled
-use Rattle.papaya_tables.specs.Chunks.{is_incremental}
-use Rattle.papaya_tables.specs.Nodes.{deferred_word}
-use Rattle.papaya_tables.specs.declared.node.Node.{Node}
-use Rattle.papaya_raw.specs.declared.machines.end_map.EndMap.{EndMap}
-use Rattle.papaya_raw.specs.declared.machines.end_map.Ending.{Ending}
-use Rattle.papaya_raw.specs.declared.machines.end_map.Ending.TheVariants as at
+use Rattle.papaya_callers.specs.Given.SeizeWords.declared.at.At.TheVariants.{Used}
+use Rattle.papaya_callers.specs.Given.SeizeWords.Mem.{Mem, word_at}
+use Rattle.papaya_callers.specs.Given.Seize.Law.{With}
+use Rattle.papaya_callers.specs.Given.Seize.World.{World, Runs, Hand, InUse, IsNotLeft, times, with_at}
+use Rattle.papaya_callers.specs.Given.Seize.declared.rows.settle.Settled.{Settled}
+use Rattle.papaya_callers.specs.Given.Seize.declared.rows.settle.Settled.TheVariants as settled
+use Rattle.papaya_callers.specs.Given.Tables.Chunks.{is_incremental}
+use Rattle.papaya_callers.specs.Given.Tables.Nodes.{deferred_word}
+use Rattle.papaya_callers.specs.Given.Tables.declared.node.Node.{Node}
+use Rattle.papaya_callers.specs.Given.Raw.declared.machines.end_map.EndMap.{EndMap}
+use Rattle.papaya_callers.specs.Given.Raw.declared.machines.end_map.Ending.{Ending}
+use Rattle.papaya_callers.specs.Given.Raw.declared.machines.end_map.Ending.TheVariants as at
 use Rattle.papaya_callers.specs.Kept.{IsPair}
 use Rattle.papaya_finishes.specs.Makings.{Beginning}
 use Rattle.papaya_finishes.specs.Maps.{Standing}

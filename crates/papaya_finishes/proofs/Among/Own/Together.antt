@@ -1,9 +1,9 @@
 -- After a step of the end of a map all stand together: the maps, the makings, the other ends, and this one, if it goes on.
 use Rattle.std.specs.Prelude.{◌≢◌, Option, Some, None}
 use Rattle.std.proofs.Common.{◌≡◌, ℕ, Bool, ap, sym, ◌∙◌}
-use Rattle.seize.specs.World.{World, with_at}
-use Rattle.papaya_tables.specs.declared.node.Node.{Node}
-use Rattle.papaya_tables.specs.declared.setting.Setting.{Setting}
+use Rattle.papaya_callers.specs.Given.Seize.World.{World, with_at}
+use Rattle.papaya_callers.specs.Given.Tables.declared.node.Node.{Node}
+use Rattle.papaya_callers.specs.Given.Tables.declared.setting.Setting.{Setting}
 use Rattle.papaya_finishes.specs.Makings.{Beginning}
 use Rattle.papaya_finishes.specs.Maps.{Standing}
 use Rattle.papaya_callers.specs.Together.{UnderWay}

@@ -1,22 +1,22 @@
 -- A step of a call on another map spares a map that ends.
 use Rattle.std.specs.Prelude.{◌≡◌, ◌≢◌, ℕ, Bool, Some}
 use Rattle.std.proofs.Common.{refl, ap, sym, subst, ◌∙◌, inl, inr}
-use Rattle.seize_words.specs.declared.at.At.{At}
-use Rattle.seize_words.specs.declared.at.At.TheVariants.{Root, Used, Entry, Word}
-use Rattle.seize_words.specs.Mem.{Mem, value_at, word_at}
-use Rattle.seize.specs.declared.states.TheConstants.{NEXT}
-use Rattle.seize.specs.Law.{owner_of}
-use Rattle.seize.specs.World.{World, Row, Hand, NoBlock, Making, InUse, Parting, Cutting, Handed, LeftTo, IsOnto}
-use Rattle.papaya_tables.specs.Nodes.{deferred_word}
-use Rattle.papaya_tables.specs.declared.node.Node.{Node}
-use Rattle.papaya_tables.specs.declared.node.Node.TheVariants as node
-use Rattle.papaya_tables.specs.declared.setting.Setting.{Setting}
-use Rattle.papaya_rule.specs.Beside.{KeptBeside}
-use Rattle.papaya_rule.specs.Chart.{Chart}
-use Rattle.papaya_rule.specs.Words.{Blocks}
-use Rattle.papaya_rule.specs.InWorld.{IsOut, IsKnownBlock, IsIts, InFootprint, Went}
-use Rattle.papaya_rule.proofs.World.BesideKept.{steps_spare_others}
-use Rattle.papaya_rule.proofs.World.WentTold.{went_as}
+use Rattle.papaya_callers.specs.Given.SeizeWords.declared.at.At.{At}
+use Rattle.papaya_callers.specs.Given.SeizeWords.declared.at.At.TheVariants.{Root, Used, Entry, Word}
+use Rattle.papaya_callers.specs.Given.SeizeWords.Mem.{Mem, value_at, word_at}
+use Rattle.papaya_callers.specs.Given.Seize.declared.states.TheConstants.{NEXT}
+use Rattle.papaya_callers.specs.Given.Seize.Law.{owner_of}
+use Rattle.papaya_callers.specs.Given.Seize.World.{World, Row, Hand, NoBlock, Making, InUse, Parting, Cutting, Handed, LeftTo, IsOnto}
+use Rattle.papaya_callers.specs.Given.Tables.Nodes.{deferred_word}
+use Rattle.papaya_callers.specs.Given.Tables.declared.node.Node.{Node}
+use Rattle.papaya_callers.specs.Given.Tables.declared.node.Node.TheVariants as node
+use Rattle.papaya_callers.specs.Given.Tables.declared.setting.Setting.{Setting}
+use Rattle.papaya_callers.specs.Given.Rule.Beside.{KeptBeside}
+use Rattle.papaya_callers.specs.Given.Rule.Chart.{Chart}
+use Rattle.papaya_callers.specs.Given.Rule.Words.{Blocks}
+use Rattle.papaya_callers.specs.Given.Rule.InWorld.{IsOut, IsKnownBlock, IsIts, InFootprint, Went}
+use Rattle.papaya_callers.proofs.Given.Rule.World.BesideKept.{steps_spare_others}
+use Rattle.papaya_callers.proofs.Given.Rule.World.WentTold.{went_as}
 use Rattle.papaya_callers.specs.Kept.{IsMaking}
 use Rattle.papaya_callers.specs.Together.{CameAbout}
 use Rattle.papaya_finishes.proofs.Beside.Endings.Spares.{IsOfEnd, IsSpared, SparesEnd, end_not_made, end_there}

@@ -1,12 +1,12 @@
 -- A step of a making spares a map that ends.
 use Rattle.std.specs.Prelude.{◌≡◌, ◌≢◌, ℕ, Some}
 use Rattle.std.proofs.Common.{subst, inl, inr}
-use Rattle.seize_words.specs.Mem.{value_at}
-use Rattle.seize.specs.World.{World, IsOnto}
-use Rattle.papaya_tables.specs.Nodes.{deferred_word}
-use Rattle.papaya_tables.specs.declared.node.Node.{Node}
-use Rattle.papaya_tables.specs.declared.node.Node.TheVariants as node
-use Rattle.papaya_resize.specs.declared.new_map.NewMap.{NewMap}
+use Rattle.papaya_callers.specs.Given.SeizeWords.Mem.{value_at}
+use Rattle.papaya_callers.specs.Given.Seize.World.{World, IsOnto}
+use Rattle.papaya_callers.specs.Given.Tables.Nodes.{deferred_word}
+use Rattle.papaya_callers.specs.Given.Tables.declared.node.Node.{Node}
+use Rattle.papaya_callers.specs.Given.Tables.declared.node.Node.TheVariants as node
+use Rattle.papaya_callers.specs.Given.Resize.declared.new_map.NewMap.{NewMap}
 use Rattle.papaya_finishes.specs.Makings.{HasMade}
 use Rattle.papaya_callers.specs.Together.{CameAbout}
 use Rattle.papaya_finishes.proofs.Beside.Endings.Spares.{IsOfEnd, IsSpared, SparesEnd, end_not_made, end_there}

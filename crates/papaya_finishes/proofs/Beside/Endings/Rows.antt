@@ -2,19 +2,19 @@
 use Rattle.std.specs.Prelude.{◌≡◌, ◌≢◌, ℕ, Bool, cond, eqb, List, ◌∷◌, slice_get}
 use Rattle.std.proofs.Common.{refl, ap, sym, subst, ◌∙◌, inl, inr}
 use Rattle.std.proofs.lemmas.Bool.{cases_eq, eq-eqb, ne_eqb}
-use Rattle.seize_words.specs.Mem.{value_at}
-use Rattle.seize.specs.Law.{Effect, With, Nowhere, Deferred, where_is, is_standing, owner_of, is_orphan, is_over}
-use Rattle.seize.specs.World.{World, Row, Use, Handed, Request, Register', Enter', Leave', LeaveOwned, Refresh, Unregister', Retire, Flush, Defer', Begin, Step, Happens, IsOnto, with_at}
-use Rattle.seize_rule.proofs.Rows.Effects.{owner_kept}
-use Rattle.seize_alone.proofs.Histories.LeftTo.{still_orphan, still_over, still_linked}
-use Rattle.seize_alone.proofs.Histories.NotTaken.{IsKept, did, not_taken, kept_value, kept_hand}
-use Rattle.seize_alone.proofs.Histories.Onto.{steps_onto}
-use Rattle.seize_alone.proofs.Histories.Reached.{Reached}
-use Rattle.papaya_tables.specs.Nodes.{deferred_word}
-use Rattle.papaya_tables.specs.declared.node.Node.{Node}
-use Rattle.papaya_tables.specs.declared.setting.Setting.{Setting}
-use Rattle.papaya_rule.specs.InWorld.{IsHeldBy}
-use Rattle.papaya_rule.proofs.World.Hands.{at_cases, hand_kept}
+use Rattle.papaya_callers.specs.Given.SeizeWords.Mem.{value_at}
+use Rattle.papaya_callers.specs.Given.Seize.Law.{Effect, With, Nowhere, Deferred, where_is, is_standing, owner_of, is_orphan, is_over}
+use Rattle.papaya_callers.specs.Given.Seize.World.{World, Row, Use, Handed, Request, Register', Enter', Leave', LeaveOwned, Refresh, Unregister', Retire, Flush, Defer', Begin, Step, Happens, IsOnto, with_at}
+use Rattle.papaya_callers.proofs.Given.SeizeRule.Rows.Effects.{owner_kept}
+use Rattle.papaya_callers.proofs.Given.SeizeAlone.Histories.LeftTo.{still_orphan, still_over, still_linked}
+use Rattle.papaya_callers.proofs.Given.SeizeAlone.Histories.NotTaken.{IsKept, did, not_taken, kept_value, kept_hand}
+use Rattle.papaya_callers.proofs.Given.SeizeAlone.Histories.Onto.{steps_onto}
+use Rattle.papaya_callers.proofs.Given.SeizeAlone.Histories.Reached.{Reached}
+use Rattle.papaya_callers.specs.Given.Tables.Nodes.{deferred_word}
+use Rattle.papaya_callers.specs.Given.Tables.declared.node.Node.{Node}
+use Rattle.papaya_callers.specs.Given.Tables.declared.setting.Setting.{Setting}
+use Rattle.papaya_callers.specs.Given.Rule.InWorld.{IsHeldBy}
+use Rattle.papaya_callers.proofs.Given.Rule.World.Hands.{at_cases, hand_kept}
 use Rattle.papaya_callers.specs.Kept.{IsMaking}
 use Rattle.papaya_callers.specs.Together.{CameAbout, HandsOver, IsOfSlots, IsOneStep}
 use Rattle.papaya_finishes.proofs.Beside.Endings.Spares.{IsUsedOf, IsOfEnd, IsSpared, SparesEnd, end_own, end_not_held, spares_then}

@@ -1,17 +1,17 @@
 -- What others leave of a map that ends while they take their steps: its blocks, what is left over, its root, and what lies behind its tables.
 use Rattle.std.specs.Prelude.{◌≡◌, ℕ, Option, Some, None, IsSome, ◌⊎◌}
 use Rattle.std.proofs.Common.{refl, sym, subst, ◌∙◌, inl, inr}
-use Rattle.seize_words.specs.declared.at.At.TheVariants.{Root, Used, Entry, Word}
-use Rattle.seize_words.specs.Mem.{value_at, word_at}
-use Rattle.seize.specs.declared.states.TheConstants.{NEXT}
-use Rattle.seize.specs.Law.{owner_of, is_orphan, is_over}
-use Rattle.seize.specs.World.{World, Making, InUse, LeftTo, IsOnto}
-use Rattle.seize_alone.proofs.Histories.NotTaken.{kept_there}
-use Rattle.seize_alone.proofs.Spared.Users.{IsNoList}
-use Rattle.papaya_tables.specs.Nodes.{deferred_word}
-use Rattle.papaya_tables.specs.declared.node.Node.{Node}
-use Rattle.papaya_tables.specs.declared.node.Node.TheVariants as node
-use Rattle.papaya_rule.specs.InWorld.{IsHeldBy}
+use Rattle.papaya_callers.specs.Given.SeizeWords.declared.at.At.TheVariants.{Root, Used, Entry, Word}
+use Rattle.papaya_callers.specs.Given.SeizeWords.Mem.{value_at, word_at}
+use Rattle.papaya_callers.specs.Given.Seize.declared.states.TheConstants.{NEXT}
+use Rattle.papaya_callers.specs.Given.Seize.Law.{owner_of, is_orphan, is_over}
+use Rattle.papaya_callers.specs.Given.Seize.World.{World, Making, InUse, LeftTo, IsOnto}
+use Rattle.papaya_callers.proofs.Given.SeizeAlone.Histories.NotTaken.{kept_there}
+use Rattle.papaya_callers.proofs.Given.SeizeAlone.Spared.Users.{IsNoList}
+use Rattle.papaya_callers.specs.Given.Tables.Nodes.{deferred_word}
+use Rattle.papaya_callers.specs.Given.Tables.declared.node.Node.{Node}
+use Rattle.papaya_callers.specs.Given.Tables.declared.node.Node.TheVariants as node
+use Rattle.papaya_callers.specs.Given.Rule.InWorld.{IsHeldBy}
 use Rattle.papaya_callers.specs.Kept.{IsUsersOwn, IsMaking}
 use Rattle.papaya_callers.specs.Together.{CameAbout}
 use Rattle.papaya_callers.proofs.Rows.Behind.{LaySo, lay_then}

@@ -1,12 +1,12 @@
 -- Makings go on, as they were, where somebody else has taken a step, of a call or of a row, that leaves them what they have.
 use Rattle.std.specs.Prelude.{◌≡◌, ℕ, Bool, Option, Some, None}
 use Rattle.std.proofs.Common.{ap, sym, subst, ◌∙◌}
-use Rattle.seize_words.specs.declared.at.At.TheVariants.{Root, Used}
-use Rattle.seize_words.specs.Mem.{word_at}
-use Rattle.seize.specs.World.{World}
-use Rattle.papaya_tables.specs.declared.node.Node.{Node}
-use Rattle.papaya_tables.specs.declared.setting.Setting.{Setting}
-use Rattle.papaya_rule.specs.InWorld.{KeepsBlocks}
+use Rattle.papaya_callers.specs.Given.SeizeWords.declared.at.At.TheVariants.{Root, Used}
+use Rattle.papaya_callers.specs.Given.SeizeWords.Mem.{word_at}
+use Rattle.papaya_callers.specs.Given.Seize.World.{World}
+use Rattle.papaya_callers.specs.Given.Tables.declared.node.Node.{Node}
+use Rattle.papaya_callers.specs.Given.Tables.declared.setting.Setting.{Setting}
+use Rattle.papaya_callers.specs.Given.Rule.InWorld.{KeepsBlocks}
 use Rattle.papaya_finishes.specs.Makings.{Beginning, HasTaken, HasMade, HasRoots, HasOwnCounter, MakingsTogether}
 use Rattle.papaya_finishes.specs.Maps.{Standing, MapsTogether}
 use Rattle.papaya_callers.specs.Together.{UnderWay}

@@ -1,19 +1,19 @@
 -- A step of a call on a map that stands, or a reply to one, leaves each making what it has.
 use Rattle.std.specs.Prelude.{◌≡◌, ◌≢◌, ℕ, Bool, Option, Some, None}
 use Rattle.std.proofs.Common.{refl, ap, sym, subst, ◌∙◌, inl, inr}
-use Rattle.seize_words.specs.declared.at.At.{At}
-use Rattle.seize_words.specs.declared.at.At.TheVariants.{Root, Used, Word}
-use Rattle.seize_words.specs.Mem.{Mem, word_at}
-use Rattle.seize.specs.World.{World, with_at}
-use Rattle.papaya_tables.specs.declared.node.Node.{Node}
-use Rattle.papaya_tables.specs.declared.node.Node.TheVariants as node
-use Rattle.papaya_tables.specs.declared.setting.Setting.{Setting}
-use Rattle.papaya_rule.specs.Beside.{KeptBeside}
-use Rattle.papaya_rule.specs.Chart.{Chart}
-use Rattle.papaya_rule.specs.Words.{Blocks}
-use Rattle.papaya_rule.specs.InWorld.{IsOut, IsKnownBlock, IsIts, InFootprint, Went}
-use Rattle.papaya_rule.proofs.World.BesideKept.{steps_spare_others}
-use Rattle.papaya_rule.proofs.World.WentTold.{went_as}
+use Rattle.papaya_callers.specs.Given.SeizeWords.declared.at.At.{At}
+use Rattle.papaya_callers.specs.Given.SeizeWords.declared.at.At.TheVariants.{Root, Used, Word}
+use Rattle.papaya_callers.specs.Given.SeizeWords.Mem.{Mem, word_at}
+use Rattle.papaya_callers.specs.Given.Seize.World.{World, with_at}
+use Rattle.papaya_callers.specs.Given.Tables.declared.node.Node.{Node}
+use Rattle.papaya_callers.specs.Given.Tables.declared.node.Node.TheVariants as node
+use Rattle.papaya_callers.specs.Given.Tables.declared.setting.Setting.{Setting}
+use Rattle.papaya_callers.specs.Given.Rule.Beside.{KeptBeside}
+use Rattle.papaya_callers.specs.Given.Rule.Chart.{Chart}
+use Rattle.papaya_callers.specs.Given.Rule.Words.{Blocks}
+use Rattle.papaya_callers.specs.Given.Rule.InWorld.{IsOut, IsKnownBlock, IsIts, InFootprint, Went}
+use Rattle.papaya_callers.proofs.Given.Rule.World.BesideKept.{steps_spare_others}
+use Rattle.papaya_callers.proofs.Given.Rule.World.WentTold.{went_as}
 use Rattle.papaya_finishes.specs.Makings.{Beginning, HasMade, HasOwnCounter, MakingsTogether, CallsStandBeside, RepliesStandBeside, CallsBeginBeside}
 use Rattle.papaya_finishes.specs.Maps.{Standing, with_call, MapsTogether}
 use Rattle.papaya_callers.specs.Sights.{Sight, seen_by}

@@ -2,38 +2,38 @@
 use Rattle.std.specs.Prelude.{◌≡◌, ◌≢◌, ℕ, ◌+◌, ◌%◌, ◌^◌, ◌<◌, ◌≤◌, ◌==◌, Bool, true, false, cond, [], ◌∷◌, Some, None, Ok, IsSome, if◌then◌else◌}
 use Rattle.std.proofs.Common.{refl, ap, sym, subst, ◌∙◌, inl, inr, arith}
 use Rattle.std.proofs.lemmas.Bool.{eq-eqb, eqb-true, ne_eqb}
-use Rattle.seize_words.specs.declared.fault.Fault.{Fault}
-use Rattle.seize_words.specs.declared.fault.Fault.TheVariants.{Memory}
-use Rattle.seize_words.specs.Op.{Make, Made, Taken}
-use Rattle.seize.specs.declared.states.TheConstants.{NEXT}
-use Rattle.seize_words.specs.Mem.{Mem, block_of, value_in, word_in, entry_in, value_at, with_block, IsFreeNumber, fresh, Can, Took, after as mem_after}
-use Rattle.seize_words.specs.Plan.{Now, May, Steps}
-use Rattle.seize_words.proofs.OneOwner.AfterWrites.{block_of-made, block_of-with_block}
-use Rattle.seize_words.proofs.OneOwner.Operations.{may_make, made as make_made, may_take, taken}
-use Rattle.seize_rule.proofs.Words.Named.{block_there}
-use Rattle.seize.specs.Law.{Nowhere, Dropped, where_is}
-use Rattle.seize.specs.World.{World, Hand, NoBlock, Making, Makes, Drops, with_at, with_hand, with_effect, made_by}
-use Rattle.seize.specs.declared.progress.Progress.{Progress}
-use Rattle.papaya_tables.specs.Nodes.{deferred_word}
-use Rattle.papaya_tables.specs.declared.node.Node.{Node}
-use Rattle.papaya_tables.specs.declared.node.Node.TheVariants as node
-use Rattle.papaya_tables.specs.declared.setting.Setting.{Setting}
-use Rattle.papaya_resize.specs.NewMap.{with_counter, at_root, goes, done, with_shards, made, shards, unmakes}
-use Rattle.papaya_resize.specs.NewTable.{first_table}
-use Rattle.papaya_resize.specs.declared.new_map.NewMap.{NewMap}
-use Rattle.papaya_resize.specs.declared.new_map.Opening.TheVariants as at
-use Rattle.papaya_rule.proofs.Words.BlocksApart.{new_apart}
-use Rattle.papaya_rule.proofs.Words.WritesWords.{is_some_of}
-use Rattle.papaya_rule.proofs.World.Hands.{at_cases, hand_kept}
-use Rattle.papaya_rule.proofs.World.OthersSpared.{keeps_made, keeps_dropped}
-use Rattle.papaya_rule.specs.InWorld.{IsOut}
-use Rattle.papaya_rule.specs.Rule.{no_table}
-use Rattle.papaya_points.proofs.Making.OwnTables.{zero_at}
+use Rattle.papaya_callers.specs.Given.SeizeWords.declared.fault.Fault.{Fault}
+use Rattle.papaya_callers.specs.Given.SeizeWords.declared.fault.Fault.TheVariants.{Memory}
+use Rattle.papaya_callers.specs.Given.SeizeWords.Op.{Make, Made, Taken}
+use Rattle.papaya_callers.specs.Given.Seize.declared.states.TheConstants.{NEXT}
+use Rattle.papaya_callers.specs.Given.SeizeWords.Mem.{Mem, block_of, value_in, word_in, entry_in, value_at, with_block, IsFreeNumber, fresh, Can, Took, after as mem_after}
+use Rattle.papaya_callers.specs.Given.SeizeWords.Plan.{Now, May, Steps}
+use Rattle.papaya_callers.proofs.Given.SeizeWords.OneOwner.AfterWrites.{block_of-made, block_of-with_block}
+use Rattle.papaya_callers.proofs.Given.SeizeWords.OneOwner.Operations.{may_make, made as make_made, may_take, taken}
+use Rattle.papaya_callers.proofs.Given.SeizeRule.Words.Named.{block_there}
+use Rattle.papaya_callers.specs.Given.Seize.Law.{Nowhere, Dropped, where_is}
+use Rattle.papaya_callers.specs.Given.Seize.World.{World, Hand, NoBlock, Making, Makes, Drops, with_at, with_hand, with_effect, made_by}
+use Rattle.papaya_callers.specs.Given.Seize.declared.progress.Progress.{Progress}
+use Rattle.papaya_callers.specs.Given.Tables.Nodes.{deferred_word}
+use Rattle.papaya_callers.specs.Given.Tables.declared.node.Node.{Node}
+use Rattle.papaya_callers.specs.Given.Tables.declared.node.Node.TheVariants as node
+use Rattle.papaya_callers.specs.Given.Tables.declared.setting.Setting.{Setting}
+use Rattle.papaya_callers.specs.Given.Resize.NewMap.{with_counter, at_root, goes, done, with_shards, made, shards, unmakes}
+use Rattle.papaya_callers.specs.Given.Resize.NewTable.{first_table}
+use Rattle.papaya_callers.specs.Given.Resize.declared.new_map.NewMap.{NewMap}
+use Rattle.papaya_callers.specs.Given.Resize.declared.new_map.Opening.TheVariants as at
+use Rattle.papaya_callers.proofs.Given.Rule.Words.BlocksApart.{new_apart}
+use Rattle.papaya_callers.proofs.Given.Rule.Words.WritesWords.{is_some_of}
+use Rattle.papaya_callers.proofs.Given.Rule.World.Hands.{at_cases, hand_kept}
+use Rattle.papaya_callers.proofs.Given.Rule.World.OthersSpared.{keeps_made, keeps_dropped}
+use Rattle.papaya_callers.specs.Given.Rule.InWorld.{IsOut}
+use Rattle.papaya_callers.specs.Given.Rule.Rule.{no_table}
+use Rattle.papaya_callers.proofs.Given.Points.Making.OwnTables.{zero_at}
 use Rattle.papaya_callers.specs.Kept.{IsMaking}
 use Rattle.papaya_finishes.specs.Makings.{Beginning, HasTaken, HasMade, HasRoots, HasOwnCounter, OpeningFacts, MakingFacts, KeepsIts}
 use Rattle.papaya_finishes.specs.Maps.{new_map}
 use Rattle.papaya_callers.specs.Together.{CameAbout, no_blocks}
-use Rattle.papaya_late.proofs.Rooms.Making.FirstBegins.{first_table_begins}
+use Rattle.papaya_callers.proofs.Given.Late.Rooms.Making.FirstBegins.{first_table_begins}
 use Rattle.papaya_finishes.proofs.Beside.Makings.FirstLengths.{first_len}
 use Rattle.papaya_finishes.proofs.Beside.Makings.Leaves.{IsItsBlock, IsAsItWas, LeavesOthers, came_then}
 use Rattle.papaya_finishes.proofs.Beside.Makings.Went.{GoesTo, MakingWent, facts_at, still}

@@ -2,26 +2,26 @@
 use Rattle.std.specs.Prelude.{length, ◌≡◌, ℕ, suc, ◌<◌, ◌≤◌, Bool, true, false, cond, List, [], ◌∷◌, Option, None}
 use Rattle.std.specs.List.{All}
 use Rattle.std.proofs.Common.{refl, ap, sym, subst, inl, arith}
-use Rattle.seize.specs.Law.{With, where_is, is_somewhere, holds, owner_of}
-use Rattle.seize.specs.World.{World, InUse, IsInside, IsOnto}
-use Rattle.seize_moves.proofs.State.Logs.{reached_held}
-use Rattle.seize_alone.proofs.Histories.Reached.{Reached}
-use Rattle.seize_alone.proofs.Histories.Uses.{inside_open}
-use Rattle.papaya_tables.specs.Chunks.{is_incremental}
-use Rattle.papaya_tables.specs.Nodes.{deferred_word}
-use Rattle.papaya_tables.specs.declared.node.Node.{Node}
-use Rattle.papaya_tables.specs.declared.setting.Setting.{Setting}
-use Rattle.papaya_tables.specs.declared.status.TheConstants.Status.{ABORTED}
-use Rattle.papaya_rule.specs.Chart.{Free, Chart}
-use Rattle.papaya_rule.specs.InWorld.{IsMapIn}
-use Rattle.papaya_rule.specs.Maps.{spot_of}
-use Rattle.papaya_rule.specs.Moments.{Moments}
-use Rattle.papaya_rule.specs.Moves.{Links, after, is_done_by}
-use Rattle.papaya_rule.specs.Rule.{no_table}
-use Rattle.papaya_rule.specs.Words.{Blocks}
-use Rattle.papaya_rule.proofs.Moves.Totals.{total_none}
-use Rattle.papaya_points.specs.FactsCopies.{HasDone, ClaimsNone}
-use Rattle.papaya_points.specs.FactsCopiesBlocking.{HasNoShares}
+use Rattle.papaya_callers.specs.Given.Seize.Law.{With, where_is, is_somewhere, holds, owner_of}
+use Rattle.papaya_callers.specs.Given.Seize.World.{World, InUse, IsInside, IsOnto}
+use Rattle.papaya_callers.proofs.Given.SeizeMoves.State.Logs.{reached_held}
+use Rattle.papaya_callers.proofs.Given.SeizeAlone.Histories.Reached.{Reached}
+use Rattle.papaya_callers.proofs.Given.SeizeAlone.Histories.Uses.{inside_open}
+use Rattle.papaya_callers.specs.Given.Tables.Chunks.{is_incremental}
+use Rattle.papaya_callers.specs.Given.Tables.Nodes.{deferred_word}
+use Rattle.papaya_callers.specs.Given.Tables.declared.node.Node.{Node}
+use Rattle.papaya_callers.specs.Given.Tables.declared.setting.Setting.{Setting}
+use Rattle.papaya_callers.specs.Given.Tables.declared.status.TheConstants.Status.{ABORTED}
+use Rattle.papaya_callers.specs.Given.Rule.Chart.{Free, Chart}
+use Rattle.papaya_callers.specs.Given.Rule.InWorld.{IsMapIn}
+use Rattle.papaya_callers.specs.Given.Rule.Maps.{spot_of}
+use Rattle.papaya_callers.specs.Given.Rule.Moments.{Moments}
+use Rattle.papaya_callers.specs.Given.Rule.Moves.{Links, after, is_done_by}
+use Rattle.papaya_callers.specs.Given.Rule.Rule.{no_table}
+use Rattle.papaya_callers.specs.Given.Rule.Words.{Blocks}
+use Rattle.papaya_callers.proofs.Given.Rule.Moves.Totals.{total_none}
+use Rattle.papaya_callers.specs.Given.Points.FactsCopies.{HasDone, ClaimsNone}
+use Rattle.papaya_callers.specs.Given.Points.FactsCopiesBlocking.{HasNoShares}
 use Rattle.papaya_callers.specs.Claims.{AreFew, ClaimsFit}
 use Rattle.papaya_callers.specs.Kept.{IsUsersOwn, IsMaking, IsKeptBy, IsWithin}
 use Rattle.papaya_callers.specs.Sights.{SeesSources, Sight, IsSight}

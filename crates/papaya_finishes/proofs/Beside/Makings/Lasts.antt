@@ -1,25 +1,25 @@
 -- What a making knows lasts while others take steps that leave it what it has.
 use Rattle.std.specs.Prelude.{◌≡◌, ℕ, Bool, Some}
 use Rattle.std.proofs.Common.{refl, sym, subst, ◌∙◌, inl, arith}
-use Rattle.seize_words.specs.declared.at.At.TheVariants.{Root, Used, Word}
-use Rattle.seize_words.specs.Mem.{value_at, word_at}
-use Rattle.seize.specs.World.{World}
-use Rattle.papaya_tables.specs.Chunks.{is_incremental}
-use Rattle.papaya_tables.specs.declared.node.Node.{Node}
-use Rattle.papaya_tables.specs.declared.setting.Setting.{Setting}
-use Rattle.papaya_resize.specs.declared.new_map.NewMap.{NewMap}
-use Rattle.papaya_resize.specs.declared.new_map.Opening.{Opening}
-use Rattle.papaya_resize.specs.declared.new_map.Opening.TheVariants as at
-use Rattle.papaya_resize.specs.declared.new_table.NewTable.{NewTable}
-use Rattle.papaya_resize.specs.declared.new_table.Making.{Making as Point}
-use Rattle.papaya_resize.specs.declared.new_table.Making.TheVariants as makes
-use Rattle.papaya_rule.specs.InWorld.{KeepsBlocks}
-use Rattle.papaya_rule.specs.Maps.{spot_of}
-use Rattle.papaya_rule.specs.Rule.{no_table}
-use Rattle.papaya_rule.proofs.History.LeavingOn.{leaves_same}
-use Rattle.papaya_points.specs.FactsTables.{MakingFacts as TableFacts, NewTableFacts}
-use Rattle.papaya_points.specs.Others.{OthersStep}
-use Rattle.papaya_late.proofs.Known.Tables.{own_table_on}
+use Rattle.papaya_callers.specs.Given.SeizeWords.declared.at.At.TheVariants.{Root, Used, Word}
+use Rattle.papaya_callers.specs.Given.SeizeWords.Mem.{value_at, word_at}
+use Rattle.papaya_callers.specs.Given.Seize.World.{World}
+use Rattle.papaya_callers.specs.Given.Tables.Chunks.{is_incremental}
+use Rattle.papaya_callers.specs.Given.Tables.declared.node.Node.{Node}
+use Rattle.papaya_callers.specs.Given.Tables.declared.setting.Setting.{Setting}
+use Rattle.papaya_callers.specs.Given.Resize.declared.new_map.NewMap.{NewMap}
+use Rattle.papaya_callers.specs.Given.Resize.declared.new_map.Opening.{Opening}
+use Rattle.papaya_callers.specs.Given.Resize.declared.new_map.Opening.TheVariants as at
+use Rattle.papaya_callers.specs.Given.Resize.declared.new_table.NewTable.{NewTable}
+use Rattle.papaya_callers.specs.Given.Resize.declared.new_table.Making.{Making as Point}
+use Rattle.papaya_callers.specs.Given.Resize.declared.new_table.Making.TheVariants as makes
+use Rattle.papaya_callers.specs.Given.Rule.InWorld.{KeepsBlocks}
+use Rattle.papaya_callers.specs.Given.Rule.Maps.{spot_of}
+use Rattle.papaya_callers.specs.Given.Rule.Rule.{no_table}
+use Rattle.papaya_callers.proofs.Given.Rule.History.LeavingOn.{leaves_same}
+use Rattle.papaya_callers.specs.Given.Points.FactsTables.{MakingFacts as TableFacts, NewTableFacts}
+use Rattle.papaya_callers.specs.Given.Points.Others.{OthersStep}
+use Rattle.papaya_callers.proofs.Given.Late.Known.Tables.{own_table_on}
 use Rattle.papaya_finishes.specs.Makings.{Beginning, HasTaken, HasMade, IsTakenRoot, HasOwnCounter, OpeningFacts, MakingFacts}
 use Rattle.papaya_callers.specs.Together.{no_blocks}
 

@@ -1,17 +1,17 @@
 -- What a step of a making leaves as it is: all blocks, roots and words but those that the making has.
 use Rattle.std.specs.Prelude.{◌≡◌, ◌≢◌, ℕ, true, List, Some, ◌⊎◌}
 use Rattle.std.proofs.Common.{ap, sym, subst, ◌∙◌, inl, inr}
-use Rattle.seize_words.specs.declared.at.At.TheVariants.{Root, Used, Entry, Word}
-use Rattle.seize_words.specs.Mem.{value_at, word_at}
-use Rattle.seize.specs.declared.states.TheConstants.{NEXT}
-use Rattle.seize.specs.Law.{where_is, is_somewhere, holds, owner_of, is_orphan, is_over}
-use Rattle.seize.specs.World.{World, Row, Use, Making, Event, Runs, IsInside}
-use Rattle.seize_alone.proofs.Histories.Reached.{Reached}
-use Rattle.papaya_tables.specs.Nodes.{deferred_word}
-use Rattle.papaya_tables.specs.declared.node.Node.{Node}
-use Rattle.papaya_tables.specs.declared.node.Node.TheVariants as node
-use Rattle.papaya_resize.specs.declared.new_map.NewMap.{NewMap}
-use Rattle.papaya_rule.specs.InWorld.{AllUsers, KeepsBlocks}
+use Rattle.papaya_callers.specs.Given.SeizeWords.declared.at.At.TheVariants.{Root, Used, Entry, Word}
+use Rattle.papaya_callers.specs.Given.SeizeWords.Mem.{value_at, word_at}
+use Rattle.papaya_callers.specs.Given.Seize.declared.states.TheConstants.{NEXT}
+use Rattle.papaya_callers.specs.Given.Seize.Law.{where_is, is_somewhere, holds, owner_of, is_orphan, is_over}
+use Rattle.papaya_callers.specs.Given.Seize.World.{World, Row, Use, Making, Event, Runs, IsInside}
+use Rattle.papaya_callers.proofs.Given.SeizeAlone.Histories.Reached.{Reached}
+use Rattle.papaya_callers.specs.Given.Tables.Nodes.{deferred_word}
+use Rattle.papaya_callers.specs.Given.Tables.declared.node.Node.{Node}
+use Rattle.papaya_callers.specs.Given.Tables.declared.node.Node.TheVariants as node
+use Rattle.papaya_callers.specs.Given.Resize.declared.new_map.NewMap.{NewMap}
+use Rattle.papaya_callers.specs.Given.Rule.InWorld.{AllUsers, KeepsBlocks}
 use Rattle.papaya_callers.specs.Kept.{IsUsersOwn, IsKeptBy}
 use Rattle.papaya_finishes.specs.Makings.{HasTaken, HasMade, HasRoots}
 use Rattle.papaya_callers.specs.Together.{CameAbout}

@@ -1,17 +1,17 @@
 -- A row, whoever takes its steps, leaves each making what it has.
 use Rattle.std.specs.Prelude.{◌≡◌, ◌≢◌, ℕ, Bool, Option, Some, None, slice_get}
 use Rattle.std.proofs.Common.{refl, ap, sym, subst, ◌∙◌, inl, inr}
-use Rattle.seize_words.specs.declared.at.At.TheVariants.{Root, Used, Word}
-use Rattle.seize_words.specs.Mem.{Mem, value_at, word_at}
-use Rattle.seize.specs.World.{World, Hand, Making, Handed, Request, Register', Enter', Leave', LeaveOwned, Refresh, Unregister', Retire, Flush, Defer', Begin, Step, Happens, with_at}
-use Rattle.seize_alone.proofs.Histories.NotTaken.{did}
-use Rattle.seize_alone.proofs.Histories.Reached.{Reached}
-use Rattle.papaya_tables.specs.Nodes.{deferred_word}
-use Rattle.papaya_tables.specs.declared.node.Node.{Node}
-use Rattle.papaya_tables.specs.declared.setting.Setting.{Setting}
-use Rattle.papaya_rule.specs.InWorld.{IsHeldBy, KeepsBlocks}
-use Rattle.papaya_rule.proofs.World.Hands.{hand_kept}
-use Rattle.papaya_rule.proofs.World.OthersSpared.{held_once, keeps_same, keeps_then, keeps_handed}
+use Rattle.papaya_callers.specs.Given.SeizeWords.declared.at.At.TheVariants.{Root, Used, Word}
+use Rattle.papaya_callers.specs.Given.SeizeWords.Mem.{Mem, value_at, word_at}
+use Rattle.papaya_callers.specs.Given.Seize.World.{World, Hand, Making, Handed, Request, Register', Enter', Leave', LeaveOwned, Refresh, Unregister', Retire, Flush, Defer', Begin, Step, Happens, with_at}
+use Rattle.papaya_callers.proofs.Given.SeizeAlone.Histories.NotTaken.{did}
+use Rattle.papaya_callers.proofs.Given.SeizeAlone.Histories.Reached.{Reached}
+use Rattle.papaya_callers.specs.Given.Tables.Nodes.{deferred_word}
+use Rattle.papaya_callers.specs.Given.Tables.declared.node.Node.{Node}
+use Rattle.papaya_callers.specs.Given.Tables.declared.setting.Setting.{Setting}
+use Rattle.papaya_callers.specs.Given.Rule.InWorld.{IsHeldBy, KeepsBlocks}
+use Rattle.papaya_callers.proofs.Given.Rule.World.Hands.{hand_kept}
+use Rattle.papaya_callers.proofs.Given.Rule.World.OthersSpared.{held_once, keeps_same, keeps_then, keeps_handed}
 use Rattle.papaya_callers.specs.Kept.{IsUsersOwn}
 use Rattle.papaya_finishes.specs.Makings.{Beginning, HasOwnCounter, MakingsTogether, AllMakingsStand, RowsStandBeside, GuardsStandBeside}
 use Rattle.papaya_finishes.specs.Maps.{Standing, IsSameMap, AllMapsStand}

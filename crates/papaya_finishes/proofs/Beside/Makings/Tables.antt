@@ -2,45 +2,45 @@
 use Rattle.std.specs.Prelude.{◌≡◌, ◌≢◌, ℕ, ◌*◌, ◌<◌, Bool, max, Some, ◌⊎◌}
 use Rattle.std.specs.Int.{IsPowerOfTwo}
 use Rattle.std.proofs.Common.{refl, ap, sym, subst, ◌∙◌, inl, inr, arith}
-use Rattle.seize_words.specs.declared.at.At.{At}
-use Rattle.seize_words.specs.declared.at.At.TheVariants.{Root, Used, Entry, Word}
-use Rattle.seize_words.specs.Mem.{Mem, value_at, word_at, Can, Took}
-use Rattle.seize_words.specs.Plan.{May, Steps, plan_as}
-use Rattle.seize_words.proofs.Plans.{as_may}
-use Rattle.seize_rule.proofs.Rows.Leaving.{steps_back}
-use Rattle.seize.specs.Law.{Place, Nowhere, Standing, With, where_is, owner_of}
-use Rattle.seize.specs.World.{World, Row, Making, Runs, IsOnto}
-use Rattle.seize.specs.declared.progress.Progress.{Progress}
-use Rattle.seize.specs.declared.states.TheConstants.{NEXT}
-use Rattle.seize.specs.declared.progress.Progress.TheVariants as progress
-use Rattle.papaya_tables.specs.Chunks.{is_incremental}
-use Rattle.papaya_tables.specs.Nodes.{deferred_word}
-use Rattle.papaya_tables.specs.declared.node.Node.{Node}
-use Rattle.papaya_tables.specs.declared.setting.Setting.{Setting}
-use Rattle.papaya_tables.specs.declared.table.Table.{Table}
-use Rattle.papaya_resize.specs.NewMap.{opened}
-use Rattle.papaya_resize.specs.NewTable.{new_table_plan}
-use Rattle.papaya_resize.specs.declared.new_map.NewMap.{NewMap}
-use Rattle.papaya_resize.specs.declared.new_map.Opening.TheVariants as at
-use Rattle.papaya_resize.specs.declared.new_table.NewTable.{NewTable}
-use Rattle.papaya_resize.specs.declared.new_table.Making.{Making as Point}
-use Rattle.papaya_resize.specs.declared.new_table.Making.TheVariants as makes
-use Rattle.papaya_rule.specs.Beside.{KeptBeside, IsBeside}
-use Rattle.papaya_rule.specs.Chart.{Chart}
-use Rattle.papaya_rule.specs.InWorld.{IsOut, IsIts, IsKnownBlock, InFootprint, IsMapIn, Went}
-use Rattle.papaya_rule.specs.Maps.{spot_of}
-use Rattle.papaya_rule.specs.Moments.{Moments}
-use Rattle.papaya_rule.specs.Moves.{Links, after}
-use Rattle.papaya_rule.specs.Rule.{no_table}
-use Rattle.papaya_rule.specs.Words.{Blocks}
-use Rattle.papaya_rule.proofs.History.History.{history_begins}
-use Rattle.papaya_rule.proofs.World.BesideKept.{steps_spare_others}
-use Rattle.papaya_rule.proofs.World.CounterSpared.{spares_counter}
-use Rattle.papaya_rule.proofs.World.WentTold.{went_as}
-use Rattle.papaya_points.specs.FactsTables.{MakingFacts as TableFacts, NewTableFacts}
-use Rattle.papaya_points.specs.Told.{NewTableTold, LinksLast}
-use Rattle.papaya_late.proofs.Known.Steps.{moments_on}
-use Rattle.papaya_points.proofs.Making.NewTable.{may_new_table, went_new_table_lowers}
+use Rattle.papaya_callers.specs.Given.SeizeWords.declared.at.At.{At}
+use Rattle.papaya_callers.specs.Given.SeizeWords.declared.at.At.TheVariants.{Root, Used, Entry, Word}
+use Rattle.papaya_callers.specs.Given.SeizeWords.Mem.{Mem, value_at, word_at, Can, Took}
+use Rattle.papaya_callers.specs.Given.SeizeWords.Plan.{May, Steps, plan_as}
+use Rattle.papaya_callers.proofs.Given.SeizeWords.Plans.{as_may}
+use Rattle.papaya_callers.proofs.Given.SeizeRule.Rows.Leaving.{steps_back}
+use Rattle.papaya_callers.specs.Given.Seize.Law.{Place, Nowhere, Standing, With, where_is, owner_of}
+use Rattle.papaya_callers.specs.Given.Seize.World.{World, Row, Making, Runs, IsOnto}
+use Rattle.papaya_callers.specs.Given.Seize.declared.progress.Progress.{Progress}
+use Rattle.papaya_callers.specs.Given.Seize.declared.states.TheConstants.{NEXT}
+use Rattle.papaya_callers.specs.Given.Seize.declared.progress.Progress.TheVariants as progress
+use Rattle.papaya_callers.specs.Given.Tables.Chunks.{is_incremental}
+use Rattle.papaya_callers.specs.Given.Tables.Nodes.{deferred_word}
+use Rattle.papaya_callers.specs.Given.Tables.declared.node.Node.{Node}
+use Rattle.papaya_callers.specs.Given.Tables.declared.setting.Setting.{Setting}
+use Rattle.papaya_callers.specs.Given.Tables.declared.table.Table.{Table}
+use Rattle.papaya_callers.specs.Given.Resize.NewMap.{opened}
+use Rattle.papaya_callers.specs.Given.Resize.NewTable.{new_table_plan}
+use Rattle.papaya_callers.specs.Given.Resize.declared.new_map.NewMap.{NewMap}
+use Rattle.papaya_callers.specs.Given.Resize.declared.new_map.Opening.TheVariants as at
+use Rattle.papaya_callers.specs.Given.Resize.declared.new_table.NewTable.{NewTable}
+use Rattle.papaya_callers.specs.Given.Resize.declared.new_table.Making.{Making as Point}
+use Rattle.papaya_callers.specs.Given.Resize.declared.new_table.Making.TheVariants as makes
+use Rattle.papaya_callers.specs.Given.Rule.Beside.{KeptBeside, IsBeside}
+use Rattle.papaya_callers.specs.Given.Rule.Chart.{Chart}
+use Rattle.papaya_callers.specs.Given.Rule.InWorld.{IsOut, IsIts, IsKnownBlock, InFootprint, IsMapIn, Went}
+use Rattle.papaya_callers.specs.Given.Rule.Maps.{spot_of}
+use Rattle.papaya_callers.specs.Given.Rule.Moments.{Moments}
+use Rattle.papaya_callers.specs.Given.Rule.Moves.{Links, after}
+use Rattle.papaya_callers.specs.Given.Rule.Rule.{no_table}
+use Rattle.papaya_callers.specs.Given.Rule.Words.{Blocks}
+use Rattle.papaya_callers.proofs.Given.Rule.History.History.{history_begins}
+use Rattle.papaya_callers.proofs.Given.Rule.World.BesideKept.{steps_spare_others}
+use Rattle.papaya_callers.proofs.Given.Rule.World.CounterSpared.{spares_counter}
+use Rattle.papaya_callers.proofs.Given.Rule.World.WentTold.{went_as}
+use Rattle.papaya_callers.specs.Given.Points.FactsTables.{MakingFacts as TableFacts, NewTableFacts}
+use Rattle.papaya_callers.specs.Given.Points.Told.{NewTableTold, LinksLast}
+use Rattle.papaya_callers.proofs.Given.Late.Known.Steps.{moments_on}
+use Rattle.papaya_callers.proofs.Given.Points.Making.NewTable.{may_new_table, went_new_table_lowers}
 use Rattle.papaya_callers.specs.Kept.{IsMaking}
 use Rattle.papaya_finishes.specs.Makings.{Beginning, HasTaken, HasMade, HasRoots, IsTakenRoot, HasOwnCounter, OpeningFacts, MakingFacts, IsFirstTable, KeepsIts}
 use Rattle.papaya_callers.specs.Together.{CameAbout, no_blocks}

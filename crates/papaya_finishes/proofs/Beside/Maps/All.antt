@@ -3,10 +3,10 @@ use Rattle.std.specs.Prelude.{◌≡◌, ◌≢◌, ℕ, Bool, Option, Some, Non
 use Rattle.std.specs.Int.{IsPowerOfTwo}
 use Rattle.std.proofs.Common.{refl, ap, sym, subst, ◌∙◌, inl, inr, ◌⊎◌}
 use Rattle.std.proofs.lemmas.Bool.{cases_eq}
-use Rattle.seize.specs.World.{World, with_at}
-use Rattle.papaya_tables.specs.declared.node.Node.{Node}
-use Rattle.papaya_rule.specs.Words.{Blocks}
-use Rattle.papaya_points.specs.Steps.{AreLawful}
+use Rattle.papaya_callers.specs.Given.Seize.World.{World, with_at}
+use Rattle.papaya_callers.specs.Given.Tables.declared.node.Node.{Node}
+use Rattle.papaya_callers.specs.Given.Rule.Words.{Blocks}
+use Rattle.papaya_callers.specs.Given.Points.Steps.{AreLawful}
 use Rattle.papaya_finishes.specs.Maps.{Standing, IsSameMap, with_call, MapsTogether, AllMapsStand}
 use Rattle.papaya_callers.specs.Sights.{Sight, IsPartOf}
 use Rattle.papaya_callers.specs.Together.{UnderWay, HasCall, CameAbout, Together}

@@ -3,8 +3,8 @@ use Rattle.std.specs.Prelude.{◌≡◌, ◌≢◌, ℕ, Bool, Option, Some, Non
 use Rattle.std.proofs.Common.{refl, sym, subst, ◌∙◌, inl, inr}
 use Rattle.std.proofs.lemmas.Bool.{cases_eq}
 use Rattle.std.specs.Int.{IsPowerOfTwo}
-use Rattle.seize.specs.World.{with_at}
-use Rattle.papaya_points.specs.Steps.{AreLawful}
+use Rattle.papaya_callers.specs.Given.Seize.World.{with_at}
+use Rattle.papaya_callers.specs.Given.Points.Steps.{AreLawful}
 use Rattle.papaya_finishes.specs.Maps.{Standing, new_map, NoMapsBegin, MapsCome, CallsBeginInMaps}
 use Rattle.papaya_callers.specs.Together.{CameAbout}
 use Rattle.papaya_finishes.proofs.Beside.Maps.All.{one_of, StandsSo, maps_with_call}

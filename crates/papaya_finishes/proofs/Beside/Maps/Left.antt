@@ -1,19 +1,19 @@
 -- What a step of another caller leaves of a map as it is, block by block and word by word: with it the map stands on.
 use Rattle.std.specs.Prelude.{◌≡◌, ◌<◌, ◌≤◌, ℕ, Bool, true, Option, Some}
 use Rattle.std.proofs.Common.{refl, sym, subst, ◌∙◌, inl, inr, arith}
-use Rattle.seize_words.specs.declared.at.At.TheVariants.{Root, Word}
-use Rattle.seize_words.specs.Mem.{value_at, word_at}
-use Rattle.seize.specs.Law.{With, holds, owner_of, where_is}
-use Rattle.seize.specs.World.{World, Hand, InUse, Handed, IsInside, IsOnto}
-use Rattle.papaya_tables.specs.declared.node.Node.{Node}
-use Rattle.papaya_tables.specs.declared.setting.Setting.{Setting}
-use Rattle.papaya_rule.specs.Chart.{Chart}
-use Rattle.papaya_rule.specs.Words.{Blocks}
-use Rattle.papaya_rule.specs.InWorld.{IsOut, StandsIn, IsReached, IsKnownBlock, KeepsBlocks, IsMapIn}
-use Rattle.papaya_rule.proofs.Laws.{current_is_known}
-use Rattle.papaya_rule.proofs.World.Framed.{Keeps, shows_kept}
-use Rattle.papaya_rule.proofs.World.Hands.{Hands}
-use Rattle.papaya_rule.proofs.World.WentWrote.{HasCounter, map_in}
+use Rattle.papaya_callers.specs.Given.SeizeWords.declared.at.At.TheVariants.{Root, Word}
+use Rattle.papaya_callers.specs.Given.SeizeWords.Mem.{value_at, word_at}
+use Rattle.papaya_callers.specs.Given.Seize.Law.{With, holds, owner_of, where_is}
+use Rattle.papaya_callers.specs.Given.Seize.World.{World, Hand, InUse, Handed, IsInside, IsOnto}
+use Rattle.papaya_callers.specs.Given.Tables.declared.node.Node.{Node}
+use Rattle.papaya_callers.specs.Given.Tables.declared.setting.Setting.{Setting}
+use Rattle.papaya_callers.specs.Given.Rule.Chart.{Chart}
+use Rattle.papaya_callers.specs.Given.Rule.Words.{Blocks}
+use Rattle.papaya_callers.specs.Given.Rule.InWorld.{IsOut, StandsIn, IsReached, IsKnownBlock, KeepsBlocks, IsMapIn}
+use Rattle.papaya_callers.proofs.Given.Rule.Laws.{current_is_known}
+use Rattle.papaya_callers.proofs.Given.Rule.World.Framed.{Keeps, shows_kept}
+use Rattle.papaya_callers.proofs.Given.Rule.World.Hands.{Hands}
+use Rattle.papaya_callers.proofs.Given.Rule.World.WentWrote.{HasCounter, map_in}
 use Rattle.papaya_callers.specs.Kept.{IsMaking, IsKeptBy}
 use Rattle.papaya_callers.specs.Sights.{Sight}
 use Rattle.papaya_callers.specs.Together.{UnderWay, CameAbout, Together}

@@ -2,21 +2,21 @@
 use Rattle.std.specs.Prelude.{◌≡◌, ◌≢◌, ◌<◌, ◌≤◌, ℕ, Bool, true, cond, eqb, List, ◌∷◌, Option, Some, None}
 use Rattle.std.proofs.Common.{refl, ap, sym, subst, ◌∙◌, inl, inr}
 use Rattle.std.proofs.lemmas.Bool.{cases_eq, eq-eqb, ne_eqb}
-use Rattle.seize_words.specs.Mem.{value_at}
-use Rattle.seize.specs.Law.{Effect, With, Nowhere, Deferred, where_is, is_standing, is_somewhere, is_open, holds, owner_of}
-use Rattle.seize.specs.World.{World, Row, Hand, NoBlock, Making, InUse, Parting, Cutting, Handed, LeftTo, Request, Register', Enter', Leave', LeaveOwned, Refresh, Unregister', Retire, Flush, Defer', Begin, Happens, IsOnto, MayCut, one_more, with_at}
-use Rattle.seize_rule.proofs.Rows.Others.{with_other}
-use Rattle.papaya_tables.specs.Nodes.{deferred_word}
-use Rattle.papaya_tables.specs.declared.node.Node.{Node}
-use Rattle.papaya_tables.specs.declared.setting.Setting.{Setting}
-use Rattle.papaya_rule.specs.Chart.{Chart}
-use Rattle.papaya_rule.specs.Words.{Blocks}
-use Rattle.papaya_rule.specs.InWorld.{IsOut, IsHeldBy, IsReached, IsKnownBlock, IsMapIn}
-use Rattle.papaya_rule.proofs.Laws.{current_is_known}
-use Rattle.papaya_rule.proofs.World.Hands.{Hands, at_cases, hand_kept, standing_kept}
-use Rattle.papaya_rule.proofs.World.OthersSpared.{held_once, keeps_handed}
-use Rattle.papaya_rule.proofs.World.WentWrote.{counter_of, map_in}
-use Rattle.papaya_points.specs.Steps.{AreLawful}
+use Rattle.papaya_callers.specs.Given.SeizeWords.Mem.{value_at}
+use Rattle.papaya_callers.specs.Given.Seize.Law.{Effect, With, Nowhere, Deferred, where_is, is_standing, is_somewhere, is_open, holds, owner_of}
+use Rattle.papaya_callers.specs.Given.Seize.World.{World, Row, Hand, NoBlock, Making, InUse, Parting, Cutting, Handed, LeftTo, Request, Register', Enter', Leave', LeaveOwned, Refresh, Unregister', Retire, Flush, Defer', Begin, Happens, IsOnto, MayCut, one_more, with_at}
+use Rattle.papaya_callers.proofs.Given.SeizeRule.Rows.Others.{with_other}
+use Rattle.papaya_callers.specs.Given.Tables.Nodes.{deferred_word}
+use Rattle.papaya_callers.specs.Given.Tables.declared.node.Node.{Node}
+use Rattle.papaya_callers.specs.Given.Tables.declared.setting.Setting.{Setting}
+use Rattle.papaya_callers.specs.Given.Rule.Chart.{Chart}
+use Rattle.papaya_callers.specs.Given.Rule.Words.{Blocks}
+use Rattle.papaya_callers.specs.Given.Rule.InWorld.{IsOut, IsHeldBy, IsReached, IsKnownBlock, IsMapIn}
+use Rattle.papaya_callers.proofs.Given.Rule.Laws.{current_is_known}
+use Rattle.papaya_callers.proofs.Given.Rule.World.Hands.{Hands, at_cases, hand_kept, standing_kept}
+use Rattle.papaya_callers.proofs.Given.Rule.World.OthersSpared.{held_once, keeps_handed}
+use Rattle.papaya_callers.proofs.Given.Rule.World.WentWrote.{counter_of, map_in}
+use Rattle.papaya_callers.specs.Given.Points.Steps.{AreLawful}
 use Rattle.papaya_callers.specs.Kept.{IsUsersOwn, IsMaking, IsKeptBy}
 use Rattle.papaya_callers.specs.Sights.{Sight}
 use Rattle.papaya_callers.specs.Together.{UnderWay, CameAbout, HandsOver, Together}

@@ -1,21 +1,21 @@
 -- A step of a call on one map leaves each other map as it is.
 use Rattle.std.specs.Prelude.{◌≡◌, ◌≢◌, ℕ, Bool, Option, Some, None}
 use Rattle.std.proofs.Common.{ap, sym, subst, ◌∙◌, inl, inr}
-use Rattle.seize_words.specs.declared.at.At.{At}
-use Rattle.seize_words.specs.declared.at.At.TheVariants.{Root, Word}
-use Rattle.seize_words.specs.Mem.{Mem, value_at, word_at}
-use Rattle.seize.specs.Law.{With, owner_of}
-use Rattle.seize.specs.World.{World, Row, Hand, NoBlock, Making, InUse, Parting, Cutting, Handed, LeftTo, Runs, IsInside, IsOnto}
-use Rattle.seize_alone.proofs.Histories.Reached.{Reached}
-use Rattle.papaya_tables.specs.Nodes.{deferred_word}
-use Rattle.papaya_tables.specs.declared.node.Node.{Node}
-use Rattle.papaya_tables.specs.declared.node.Node.TheVariants as node
-use Rattle.papaya_tables.specs.declared.setting.Setting.{Setting}
-use Rattle.papaya_rule.specs.Beside.{KeptBeside}
-use Rattle.papaya_rule.specs.Chart.{Chart}
-use Rattle.papaya_rule.specs.Words.{Blocks}
-use Rattle.papaya_rule.specs.InWorld.{IsOut, IsKnownBlock, IsIts, InFootprint, Went}
-use Rattle.papaya_rule.proofs.World.BesideKept.{steps_spare_others}
+use Rattle.papaya_callers.specs.Given.SeizeWords.declared.at.At.{At}
+use Rattle.papaya_callers.specs.Given.SeizeWords.declared.at.At.TheVariants.{Root, Word}
+use Rattle.papaya_callers.specs.Given.SeizeWords.Mem.{Mem, value_at, word_at}
+use Rattle.papaya_callers.specs.Given.Seize.Law.{With, owner_of}
+use Rattle.papaya_callers.specs.Given.Seize.World.{World, Row, Hand, NoBlock, Making, InUse, Parting, Cutting, Handed, LeftTo, Runs, IsInside, IsOnto}
+use Rattle.papaya_callers.proofs.Given.SeizeAlone.Histories.Reached.{Reached}
+use Rattle.papaya_callers.specs.Given.Tables.Nodes.{deferred_word}
+use Rattle.papaya_callers.specs.Given.Tables.declared.node.Node.{Node}
+use Rattle.papaya_callers.specs.Given.Tables.declared.node.Node.TheVariants as node
+use Rattle.papaya_callers.specs.Given.Tables.declared.setting.Setting.{Setting}
+use Rattle.papaya_callers.specs.Given.Rule.Beside.{KeptBeside}
+use Rattle.papaya_callers.specs.Given.Rule.Chart.{Chart}
+use Rattle.papaya_callers.specs.Given.Rule.Words.{Blocks}
+use Rattle.papaya_callers.specs.Given.Rule.InWorld.{IsOut, IsKnownBlock, IsIts, InFootprint, Went}
+use Rattle.papaya_callers.proofs.Given.Rule.World.BesideKept.{steps_spare_others}
 use Rattle.papaya_callers.specs.Kept.{IsMaking, IsKeptBy}
 use Rattle.papaya_callers.specs.Sights.{Sight}
 use Rattle.papaya_callers.specs.Together.{UnderWay, Together}

@@ -2,11 +2,11 @@
 use Rattle.std.specs.Prelude.{◌≡◌, ◌≢◌, ℕ, ◌+◌, Bool, Option, Some, None}
 use Rattle.std.proofs.Common.{refl, ap, sym, subst, ◌∙◌, inl, inr}
 use Rattle.std.proofs.lemmas.Bool.{cases_eq}
-use Rattle.seize.specs.declared.states.TheConstants.{LAST_SLOT}
-use Rattle.seize.specs.World.{World, Begin, Step, Happens, with_at}
-use Rattle.seize_rule.proofs.World.Kept.{row_may}
-use Rattle.papaya_tables.specs.Nodes.{deferred_word}
-use Rattle.papaya_tables.specs.declared.node.Node.{Node}
+use Rattle.papaya_callers.specs.Given.Seize.declared.states.TheConstants.{LAST_SLOT}
+use Rattle.papaya_callers.specs.Given.Seize.World.{World, Begin, Step, Happens, with_at}
+use Rattle.papaya_callers.proofs.Given.SeizeRule.World.Kept.{row_may}
+use Rattle.papaya_callers.specs.Given.Tables.Nodes.{deferred_word}
+use Rattle.papaya_callers.specs.Given.Tables.declared.node.Node.{Node}
 use Rattle.papaya_finishes.specs.Maps.{AllMapsStand, Standing, with_call, MapsTogether, RowsStandInMaps, GuardsStandInMaps}
 use Rattle.papaya_callers.specs.Together.{OnKey, UnderWay, CameAbout, IsOneStep, Together, GuardsOf}
 use Rattle.papaya_finishes.proofs.Beside.Maps.All.{one_of, not_none, StandsSo, StandsSomehow, all_stand, calls_only, calls_once, its_calls, others_calls}

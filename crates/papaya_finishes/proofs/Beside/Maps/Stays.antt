@@ -1,19 +1,19 @@
 -- A map stands on, with the calls on it, where somebody else has taken a step that leaves it as it is.
 use Rattle.std.specs.Prelude.{◌≡◌, ◌<◌, ◌≤◌, ℕ, Bool, true, Option, Some}
 use Rattle.std.proofs.Common.{refl, inl, inr, ◌∙◌}
-use Rattle.seize_words.specs.Mem.{value_at}
-use Rattle.seize.specs.Law.{holds, owner_of}
-use Rattle.seize.specs.World.{World, IsInside, IsOnto}
-use Rattle.papaya_tables.specs.Chunks.{is_incremental}
-use Rattle.papaya_tables.specs.declared.node.Node.{Node}
-use Rattle.papaya_tables.specs.declared.setting.Setting.{Setting}
-use Rattle.papaya_rule.specs.Chart.{Chart}
-use Rattle.papaya_rule.specs.Words.{Blocks}
-use Rattle.papaya_rule.specs.Maps.{spot_of}
-use Rattle.papaya_rule.specs.InWorld.{KeepsBlocks, IsKnownBlock, IsMapIn}
-use Rattle.papaya_rule.proofs.History.LeavingOn.{leaves_same}
-use Rattle.papaya_points.specs.Others.{OthersStep}
-use Rattle.papaya_points.specs.Steps.{AreLawful}
+use Rattle.papaya_callers.specs.Given.SeizeWords.Mem.{value_at}
+use Rattle.papaya_callers.specs.Given.Seize.Law.{holds, owner_of}
+use Rattle.papaya_callers.specs.Given.Seize.World.{World, IsInside, IsOnto}
+use Rattle.papaya_callers.specs.Given.Tables.Chunks.{is_incremental}
+use Rattle.papaya_callers.specs.Given.Tables.declared.node.Node.{Node}
+use Rattle.papaya_callers.specs.Given.Tables.declared.setting.Setting.{Setting}
+use Rattle.papaya_callers.specs.Given.Rule.Chart.{Chart}
+use Rattle.papaya_callers.specs.Given.Rule.Words.{Blocks}
+use Rattle.papaya_callers.specs.Given.Rule.Maps.{spot_of}
+use Rattle.papaya_callers.specs.Given.Rule.InWorld.{KeepsBlocks, IsKnownBlock, IsMapIn}
+use Rattle.papaya_callers.proofs.Given.Rule.History.LeavingOn.{leaves_same}
+use Rattle.papaya_callers.specs.Given.Points.Others.{OthersStep}
+use Rattle.papaya_callers.specs.Given.Points.Steps.{AreLawful}
 use Rattle.papaya_callers.specs.Kept.{IsMaking, IsKeptBy, IsWithin}
 use Rattle.papaya_callers.specs.Sights.{Sight, seen_by}
 use Rattle.papaya_callers.specs.Together.{UnderWay, in_slot, CameAbout, Ground, Stands, Together}

@@ -2,16 +2,16 @@
 use Rattle.std.specs.Prelude.{◌≡◌, ◌≢◌, ℕ, Bool, Option, Some, None}
 use Rattle.std.specs.Int.{IsPowerOfTwo}
 use Rattle.std.proofs.Common.{refl, sym, subst, ◌∙◌, inl, inr}
-use Rattle.seize_words.specs.Mem.{Mem}
-use Rattle.seize.specs.World.{World, IsInside, with_at}
-use Rattle.papaya_tables.specs.declared.node.Node.{Node}
-use Rattle.papaya_raw.specs.declared.machines.answer.Called.{Called}
-use Rattle.papaya_raw.specs.declared.machines.call.KeyCall.{KeyCall}
-use Rattle.papaya_rule.specs.Chart.{Chart}
-use Rattle.papaya_rule.specs.Words.{Blocks}
-use Rattle.papaya_rule.specs.InWorld.{IsKnownBlock, Went}
-use Rattle.papaya_rule.proofs.World.WentTold.{went_as}
-use Rattle.papaya_points.specs.Steps.{AreLawful}
+use Rattle.papaya_callers.specs.Given.SeizeWords.Mem.{Mem}
+use Rattle.papaya_callers.specs.Given.Seize.World.{World, IsInside, with_at}
+use Rattle.papaya_callers.specs.Given.Tables.declared.node.Node.{Node}
+use Rattle.papaya_callers.specs.Given.Raw.declared.machines.answer.Called.{Called}
+use Rattle.papaya_callers.specs.Given.Raw.declared.machines.call.KeyCall.{KeyCall}
+use Rattle.papaya_callers.specs.Given.Rule.Chart.{Chart}
+use Rattle.papaya_callers.specs.Given.Rule.Words.{Blocks}
+use Rattle.papaya_callers.specs.Given.Rule.InWorld.{IsKnownBlock, Went}
+use Rattle.papaya_callers.proofs.Given.Rule.World.WentTold.{went_as}
+use Rattle.papaya_callers.specs.Given.Points.Steps.{AreLawful}
 use Rattle.papaya_finishes.specs.Maps.{Standing, with_call, MapsTogether, StepsInMaps, CallsStandInMaps, RepliesStandInMaps}
 use Rattle.papaya_callers.specs.Sights.{Sight, seen_by}
 use Rattle.papaya_callers.specs.Together.{OnKey, CallOnKey, UnderWay, CameAbout, in_slot, next_of, change_told, StepsTogether}

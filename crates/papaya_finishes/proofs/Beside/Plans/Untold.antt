@@ -1,33 +1,33 @@
 -- A call that computes goes against what it was told: it leaves what it was told to store, or removes what it was told to leave. The laws refuse each.
 use Rattle.std.specs.Prelude.{◌≡◌, ℕ, Bool, List, Option, Some, None}
 use Rattle.std.proofs.Common.{refl, ap, sym, subst, inl, inr}
-use Rattle.seize_words.specs.declared.fault.Fault.TheVariants.{RemoveNothing}
-use Rattle.seize_words.specs.Mem.{Mem, Took, value_at}
-use Rattle.seize_words.specs.Op.{Exchange}
-use Rattle.seize_words.specs.Plan.{Plan, Turn, Do, Now, Steps}
-use Rattle.seize_words.proofs.OneOwner.Operations.{exchanged}
-use Rattle.seize.specs.World.{World}
-use Rattle.papaya_tables.specs.Chunks.{is_incremental}
-use Rattle.papaya_tables.specs.Trials.{place_tried}
-use Rattle.papaya_tables.specs.declared.marks.TheConstants.{TOMBSTONE}
-use Rattle.papaya_tables.specs.declared.node.Node.{Node}
-use Rattle.papaya_tables.specs.declared.setting.Setting.{Setting}
-use Rattle.papaya_raw.specs.CallPoints.{over, told_answer}
-use Rattle.papaya_raw.specs.declared.machines.answer.Called.{Called}
-use Rattle.papaya_raw.specs.declared.machines.answer.End.TheVariants as ends
-use Rattle.papaya_raw.specs.declared.machines.answer.KeyAnswer.{KeyAnswer}
-use Rattle.papaya_raw.specs.declared.machines.answer.KeyAnswer.TheVariants as answers
-use Rattle.papaya_raw.specs.declared.machines.asking.Reply.{Reply}
-use Rattle.papaya_raw.specs.declared.machines.asking.Reply.TheVariants as reply
-use Rattle.papaya_raw.specs.declared.machines.call.KeyCall.{KeyCall}
-use Rattle.papaya_rule.specs.Chart.{Still, Chart}
-use Rattle.papaya_rule.specs.InWorld.{IsFramed, IsMapIn}
-use Rattle.papaya_rule.specs.Moments.{Moments}
-use Rattle.papaya_rule.specs.Words.{Blocks}
-use Rattle.papaya_points.specs.FactsCalls.{Change, Unchanged, Stored, Replaced, Removed, Tells}
-use Rattle.papaya_points.specs.Steps.{AreLawful}
-use Rattle.papaya_late.proofs.Known.Steps.{lasts_went}
-use Rattle.papaya_points.proofs.Values.Sought.{IsLook}
+use Rattle.papaya_callers.specs.Given.SeizeWords.declared.fault.Fault.TheVariants.{RemoveNothing}
+use Rattle.papaya_callers.specs.Given.SeizeWords.Mem.{Mem, Took, value_at}
+use Rattle.papaya_callers.specs.Given.SeizeWords.Op.{Exchange}
+use Rattle.papaya_callers.specs.Given.SeizeWords.Plan.{Plan, Turn, Do, Now, Steps}
+use Rattle.papaya_callers.proofs.Given.SeizeWords.OneOwner.Operations.{exchanged}
+use Rattle.papaya_callers.specs.Given.Seize.World.{World}
+use Rattle.papaya_callers.specs.Given.Tables.Chunks.{is_incremental}
+use Rattle.papaya_callers.specs.Given.Tables.Trials.{place_tried}
+use Rattle.papaya_callers.specs.Given.Tables.declared.marks.TheConstants.{TOMBSTONE}
+use Rattle.papaya_callers.specs.Given.Tables.declared.node.Node.{Node}
+use Rattle.papaya_callers.specs.Given.Tables.declared.setting.Setting.{Setting}
+use Rattle.papaya_callers.specs.Given.Raw.CallPoints.{over, told_answer}
+use Rattle.papaya_callers.specs.Given.Raw.declared.machines.answer.Called.{Called}
+use Rattle.papaya_callers.specs.Given.Raw.declared.machines.answer.End.TheVariants as ends
+use Rattle.papaya_callers.specs.Given.Raw.declared.machines.answer.KeyAnswer.{KeyAnswer}
+use Rattle.papaya_callers.specs.Given.Raw.declared.machines.answer.KeyAnswer.TheVariants as answers
+use Rattle.papaya_callers.specs.Given.Raw.declared.machines.asking.Reply.{Reply}
+use Rattle.papaya_callers.specs.Given.Raw.declared.machines.asking.Reply.TheVariants as reply
+use Rattle.papaya_callers.specs.Given.Raw.declared.machines.call.KeyCall.{KeyCall}
+use Rattle.papaya_callers.specs.Given.Rule.Chart.{Still, Chart}
+use Rattle.papaya_callers.specs.Given.Rule.InWorld.{IsFramed, IsMapIn}
+use Rattle.papaya_callers.specs.Given.Rule.Moments.{Moments}
+use Rattle.papaya_callers.specs.Given.Rule.Words.{Blocks}
+use Rattle.papaya_callers.specs.Given.Points.FactsCalls.{Change, Unchanged, Stored, Replaced, Removed, Tells}
+use Rattle.papaya_callers.specs.Given.Points.Steps.{AreLawful}
+use Rattle.papaya_callers.proofs.Given.Late.Known.Steps.{lasts_went}
+use Rattle.papaya_callers.proofs.Given.Points.Values.Sought.{IsLook}
 use Rattle.papaya_callers.specs.Asked.{Asked, last_told, IsToRemove, IsWordOf}
 use Rattle.papaya_callers.specs.Kind.{computes}
 use Rattle.papaya_callers.specs.Pairs.{Given, IsTold, RemovesNone, StoresGiven, LeavesGiven}

@@ -1,42 +1,42 @@
 -- A copying is refused for what the making of a table is refused for: for memory, or for the length of a table.
 use Rattle.std.specs.Prelude.{ℕ, ◌+◌, ◌-◌, ◌%◌, ◌/◌, ◌^◌, ◌==◌, nat_lt, if◌then◌else◌, Bool, true, false, Ok, Err}
 use Rattle.std.proofs.Common.{inr, refl, sym, subst}
-use Rattle.seize_words.specs.declared.fault.Fault.{Fault}
-use Rattle.seize_words.specs.declared.fault.Fault.TheVariants.{Capacity}
-use Rattle.seize_words.specs.Mem.{Mem, value_at, Took}
-use Rattle.seize_words.specs.Op.{Out, Found, Stored, Exchanged, Made, Taken, Roomed}
-use Rattle.seize_words.specs.Plan.{Steps}
-use Rattle.seize_rule.proofs.Rows.Leaving.{steps_back}
-use Rattle.seize.specs.declared.progress.Progress.{Progress}
-use Rattle.seize.specs.declared.progress.Progress.TheVariants as progress
-use Rattle.seize.specs.declared.rows.settle.Settle.{Settle}
-use Rattle.seize.specs.declared.rows.settle.Settled.{Settled}
-use Rattle.seize.specs.declared.rows.settle.Settled.TheVariants as settled
-use Rattle.seize.specs.Settle.{settle_plan}
-use Rattle.papaya_tables.specs.Chunks.{is_incremental}
-use Rattle.papaya_resize.specs.Copier.{plan_at, copier_plan}
-use Rattle.papaya_resize.specs.CopierClaims.{root_read, next_read, status_read, claim_read, claimed}
-use Rattle.papaya_resize.specs.CopierCounts.{refusing, counted}
-use Rattle.papaya_resize.specs.CopierFurther.{further_read, replacement_read, grown, remade}
-use Rattle.papaya_resize.specs.CopierMarks.{is_mine, is_awaited, marked}
-use Rattle.papaya_resize.specs.CopierPlaces.{next_try, pair_put, place_read, put_told}
-use Rattle.papaya_resize.specs.CopierPromotes.{table_retired, promoted, successor_read, retired}
-use Rattle.papaya_resize.specs.CopierStates.{standing, behind, none_left, next_place, place_done}
-use Rattle.papaya_resize.specs.NewTable.{new_table_plan}
-use Rattle.papaya_tables.specs.Nodes.{deferred_word}
-use Rattle.papaya_tables.specs.Probes.{probe_after}
-use Rattle.papaya_tables.specs.declared.lengths.Reason.TheVariants.{NoPlace}
-use Rattle.papaya_tables.specs.declared.node.Node.{Node}
-use Rattle.papaya_resize.specs.declared.outcome.Outcome.{Outcome}
-use Rattle.papaya_resize.specs.declared.outcome.Outcome.TheVariants as outcome
-use Rattle.papaya_tables.specs.declared.probe.Probe.{Probe}
-use Rattle.papaya_tables.specs.declared.status.TheConstants.Status.{PROMOTED, ABORTED}
-use Rattle.papaya_tables.specs.declared.table.Table.{Table}
-use Rattle.papaya_resize.specs.declared.copier.Copier.{Copier}
-use Rattle.papaya_resize.specs.declared.copier.Copying.{Copying}
-use Rattle.papaya_resize.specs.declared.copier.Copying.TheVariants as at
-use Rattle.papaya_resize.specs.declared.new_table.NewTable.{NewTable}
-use Rattle.papaya_rule.proofs.Keys.Always.{Always, AlwaysOf, always_if, always_steps}
+use Rattle.papaya_points.specs.Given.SeizeWords.declared.fault.Fault.{Fault}
+use Rattle.papaya_points.specs.Given.SeizeWords.declared.fault.Fault.TheVariants.{Capacity}
+use Rattle.papaya_points.specs.Given.SeizeWords.Mem.{Mem, value_at, Took}
+use Rattle.papaya_points.specs.Given.SeizeWords.Op.{Out, Found, Stored, Exchanged, Made, Taken, Roomed}
+use Rattle.papaya_points.specs.Given.SeizeWords.Plan.{Steps}
+use Rattle.papaya_points.proofs.Given.SeizeRule.Rows.Leaving.{steps_back}
+use Rattle.papaya_points.specs.Given.Seize.declared.progress.Progress.{Progress}
+use Rattle.papaya_points.specs.Given.Seize.declared.progress.Progress.TheVariants as progress
+use Rattle.papaya_points.specs.Given.Seize.declared.rows.settle.Settle.{Settle}
+use Rattle.papaya_points.specs.Given.Seize.declared.rows.settle.Settled.{Settled}
+use Rattle.papaya_points.specs.Given.Seize.declared.rows.settle.Settled.TheVariants as settled
+use Rattle.papaya_points.specs.Given.Seize.Settle.{settle_plan}
+use Rattle.papaya_points.specs.Given.Tables.Chunks.{is_incremental}
+use Rattle.papaya_points.specs.Given.Resize.Copier.{plan_at, copier_plan}
+use Rattle.papaya_points.specs.Given.Resize.CopierClaims.{root_read, next_read, status_read, claim_read, claimed}
+use Rattle.papaya_points.specs.Given.Resize.CopierCounts.{refusing, counted}
+use Rattle.papaya_points.specs.Given.Resize.CopierFurther.{further_read, replacement_read, grown, remade}
+use Rattle.papaya_points.specs.Given.Resize.CopierMarks.{is_mine, is_awaited, marked}
+use Rattle.papaya_points.specs.Given.Resize.CopierPlaces.{next_try, pair_put, place_read, put_told}
+use Rattle.papaya_points.specs.Given.Resize.CopierPromotes.{table_retired, promoted, successor_read, retired}
+use Rattle.papaya_points.specs.Given.Resize.CopierStates.{standing, behind, none_left, next_place, place_done}
+use Rattle.papaya_points.specs.Given.Resize.NewTable.{new_table_plan}
+use Rattle.papaya_points.specs.Given.Tables.Nodes.{deferred_word}
+use Rattle.papaya_points.specs.Given.Tables.Probes.{probe_after}
+use Rattle.papaya_points.specs.Given.Tables.declared.lengths.Reason.TheVariants.{NoPlace}
+use Rattle.papaya_points.specs.Given.Tables.declared.node.Node.{Node}
+use Rattle.papaya_points.specs.Given.Resize.declared.outcome.Outcome.{Outcome}
+use Rattle.papaya_points.specs.Given.Resize.declared.outcome.Outcome.TheVariants as outcome
+use Rattle.papaya_points.specs.Given.Tables.declared.probe.Probe.{Probe}
+use Rattle.papaya_points.specs.Given.Tables.declared.status.TheConstants.Status.{PROMOTED, ABORTED}
+use Rattle.papaya_points.specs.Given.Tables.declared.table.Table.{Table}
+use Rattle.papaya_points.specs.Given.Resize.declared.copier.Copier.{Copier}
+use Rattle.papaya_points.specs.Given.Resize.declared.copier.Copying.{Copying}
+use Rattle.papaya_points.specs.Given.Resize.declared.copier.Copying.TheVariants as at
+use Rattle.papaya_points.specs.Given.Resize.declared.new_table.NewTable.{NewTable}
+use Rattle.papaya_points.proofs.Given.Rule.Keys.Always.{Always, AlwaysOf, always_if, always_steps}
 use Rattle.papaya_late.specs.Faults.{IsRoom, RoomInCopying, RefusesSo, SoInCopying}
 use Rattle.papaya_late.proofs.KindsKept.Rooms.Making.{MakesFor, new_table_rooms, table_after_so}
 

@@ -1,33 +1,33 @@
 -- The making of a table is refused for the length of the table, or for memory, where its block is refused.
 use Rattle.std.specs.Prelude.{◌≡◌, ℕ, ◌+◌, ◌^◌, max, nat_lt, nat_le, if◌then◌else◌, Bool, true, false, Result, Ok, Err}
 use Rattle.std.proofs.Common.{inl, inr, refl, sym, subst}
-use Rattle.seize_words.specs.declared.at.At.{At}
-use Rattle.seize_words.specs.declared.at.At.TheVariants as name
-use Rattle.seize_words.specs.declared.fault.Fault.{Fault}
-use Rattle.seize_words.specs.declared.fault.Fault.TheVariants.{Capacity, Memory}
-use Rattle.seize_words.specs.Mem.{Mem, value_at, Took}
-use Rattle.seize_words.specs.Op.{Out, Found, Stored, Exchanged, Made, Taken, Roomed}
-use Rattle.seize_words.specs.Plan.{Steps}
-use Rattle.seize.specs.declared.progress.Progress.{Progress}
-use Rattle.seize.specs.declared.progress.Progress.TheVariants as progress
-use Rattle.papaya_tables.specs.Lengths.{if_few, next_len, next_limit, next_turn}
-use Rattle.papaya_tables.specs.Probes.{limit_of}
-use Rattle.papaya_resize.specs.NewTable.{planned, making_first, following, making_of, begun_for, first_table, table_after, table_reserved, counted, made, linked, after_making, with_block, plan_at, new_table_plan}
-use Rattle.papaya_resize.specs.Sum as counts
-use Rattle.papaya_resize.specs.Sum.{added, sum_plan}
-use Rattle.papaya_tables.specs.declared.lengths.Reason.{Reason}
-use Rattle.papaya_tables.specs.declared.lengths.Reason.TheVariants as reason
-use Rattle.papaya_resize.specs.declared.new_table.NewTable.{NewTable}
-use Rattle.papaya_resize.specs.declared.new_table.Making.{Making}
-use Rattle.papaya_resize.specs.declared.new_table.Making.TheVariants as makes
-use Rattle.papaya_resize.specs.declared.sum.Sum.{Sum}
-use Rattle.papaya_resize.specs.declared.sum.Summing.{Summing}
-use Rattle.papaya_resize.specs.declared.sum.Summing.TheVariants as sums
-use Rattle.papaya_tables.specs.declared.node.Node.{Node}
-use Rattle.papaya_tables.specs.declared.setting.Setting.{Setting}
-use Rattle.papaya_tables.specs.declared.table.Table.{Table}
-use Rattle.seize_rule.proofs.Rows.Leaving.{steps_back}
-use Rattle.papaya_rule.proofs.Keys.Always.{Always, AlwaysOf, always_if, always_steps}
+use Rattle.papaya_points.specs.Given.SeizeWords.declared.at.At.{At}
+use Rattle.papaya_points.specs.Given.SeizeWords.declared.at.At.TheVariants as name
+use Rattle.papaya_points.specs.Given.SeizeWords.declared.fault.Fault.{Fault}
+use Rattle.papaya_points.specs.Given.SeizeWords.declared.fault.Fault.TheVariants.{Capacity, Memory}
+use Rattle.papaya_points.specs.Given.SeizeWords.Mem.{Mem, value_at, Took}
+use Rattle.papaya_points.specs.Given.SeizeWords.Op.{Out, Found, Stored, Exchanged, Made, Taken, Roomed}
+use Rattle.papaya_points.specs.Given.SeizeWords.Plan.{Steps}
+use Rattle.papaya_points.specs.Given.Seize.declared.progress.Progress.{Progress}
+use Rattle.papaya_points.specs.Given.Seize.declared.progress.Progress.TheVariants as progress
+use Rattle.papaya_points.specs.Given.Tables.Lengths.{if_few, next_len, next_limit, next_turn}
+use Rattle.papaya_points.specs.Given.Tables.Probes.{limit_of}
+use Rattle.papaya_points.specs.Given.Resize.NewTable.{planned, making_first, following, making_of, begun_for, first_table, table_after, table_reserved, counted, made, linked, after_making, with_block, plan_at, new_table_plan}
+use Rattle.papaya_points.specs.Given.Resize.Sum as counts
+use Rattle.papaya_points.specs.Given.Resize.Sum.{added, sum_plan}
+use Rattle.papaya_points.specs.Given.Tables.declared.lengths.Reason.{Reason}
+use Rattle.papaya_points.specs.Given.Tables.declared.lengths.Reason.TheVariants as reason
+use Rattle.papaya_points.specs.Given.Resize.declared.new_table.NewTable.{NewTable}
+use Rattle.papaya_points.specs.Given.Resize.declared.new_table.Making.{Making}
+use Rattle.papaya_points.specs.Given.Resize.declared.new_table.Making.TheVariants as makes
+use Rattle.papaya_points.specs.Given.Resize.declared.sum.Sum.{Sum}
+use Rattle.papaya_points.specs.Given.Resize.declared.sum.Summing.{Summing}
+use Rattle.papaya_points.specs.Given.Resize.declared.sum.Summing.TheVariants as sums
+use Rattle.papaya_points.specs.Given.Tables.declared.node.Node.{Node}
+use Rattle.papaya_points.specs.Given.Tables.declared.setting.Setting.{Setting}
+use Rattle.papaya_points.specs.Given.Tables.declared.table.Table.{Table}
+use Rattle.papaya_points.proofs.Given.SeizeRule.Rows.Leaving.{steps_back}
+use Rattle.papaya_points.proofs.Given.Rule.Keys.Always.{Always, AlwaysOf, always_if, always_steps}
 use Rattle.papaya_late.specs.Faults.{IsRoom, RoomInMaking, SoInMaking}
 
 -- a length that can't be had is too long

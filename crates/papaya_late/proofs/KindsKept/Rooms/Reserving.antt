@@ -1,33 +1,33 @@
 -- A reservation is refused for memory, or for the length of a table.
 use Rattle.std.specs.Prelude.{ℕ, ◌^◌, ◌==◌, nat_lt, if◌then◌else◌, Bool, true, false}
 use Rattle.std.proofs.Common.{inr, refl, sym, subst}
-use Rattle.seize_words.specs.declared.fault.Fault.{Fault}
-use Rattle.seize_words.specs.declared.fault.Fault.TheVariants.{Capacity}
-use Rattle.seize_words.specs.Mem.{Mem, value_at, Took}
-use Rattle.seize_words.specs.Op.{Out, Found, Stored, Exchanged, Made, Taken, Roomed}
-use Rattle.seize_words.specs.Plan.{Steps}
-use Rattle.seize_rule.proofs.Rows.Leaving.{steps_back}
-use Rattle.seize.specs.declared.progress.Progress.{Progress}
-use Rattle.seize.specs.declared.progress.Progress.TheVariants as progress
-use Rattle.papaya_tables.specs.Chunks.{is_incremental}
-use Rattle.papaya_resize.specs.Copier.{copier_plan}
-use Rattle.papaya_resize.specs.CopierStates.{copying_all, resting}
-use Rattle.papaya_resize.specs.NewTable.{new_table_plan}
-use Rattle.papaya_reserves.specs.Reserve.{standing, needed, refusing, enough, summed, made, grown, copied, root_read, next_read, plan_at, reserve_plan}
-use Rattle.papaya_resize.specs.Sum.{sum_plan}
-use Rattle.papaya_tables.specs.declared.node.Node.{Node}
-use Rattle.papaya_resize.specs.declared.outcome.Outcome.{Outcome}
-use Rattle.papaya_resize.specs.declared.outcome.Outcome.TheVariants as outcome
-use Rattle.papaya_tables.specs.declared.setting.Setting.{Setting}
-use Rattle.papaya_tables.specs.declared.table.Table.{Table}
-use Rattle.papaya_resize.specs.declared.copier.Copier.{Copier}
-use Rattle.papaya_resize.specs.declared.copier.Copying.TheVariants as copies
-use Rattle.papaya_resize.specs.declared.new_table.NewTable.{NewTable}
-use Rattle.papaya_reserves.specs.declared.reserve.Reserve.{Reserve}
-use Rattle.papaya_reserves.specs.declared.reserve.Reserving.{Reserving}
-use Rattle.papaya_reserves.specs.declared.reserve.Reserving.TheVariants as at
-use Rattle.papaya_resize.specs.declared.sum.Sum.{Sum}
-use Rattle.papaya_rule.proofs.Keys.Always.{Always, AlwaysOf, always_if, always_steps}
+use Rattle.papaya_points.specs.Given.SeizeWords.declared.fault.Fault.{Fault}
+use Rattle.papaya_points.specs.Given.SeizeWords.declared.fault.Fault.TheVariants.{Capacity}
+use Rattle.papaya_points.specs.Given.SeizeWords.Mem.{Mem, value_at, Took}
+use Rattle.papaya_points.specs.Given.SeizeWords.Op.{Out, Found, Stored, Exchanged, Made, Taken, Roomed}
+use Rattle.papaya_points.specs.Given.SeizeWords.Plan.{Steps}
+use Rattle.papaya_points.proofs.Given.SeizeRule.Rows.Leaving.{steps_back}
+use Rattle.papaya_points.specs.Given.Seize.declared.progress.Progress.{Progress}
+use Rattle.papaya_points.specs.Given.Seize.declared.progress.Progress.TheVariants as progress
+use Rattle.papaya_points.specs.Given.Tables.Chunks.{is_incremental}
+use Rattle.papaya_points.specs.Given.Resize.Copier.{copier_plan}
+use Rattle.papaya_points.specs.Given.Resize.CopierStates.{copying_all, resting}
+use Rattle.papaya_points.specs.Given.Resize.NewTable.{new_table_plan}
+use Rattle.papaya_points.specs.Given.Reserves.Reserve.{standing, needed, refusing, enough, summed, made, grown, copied, root_read, next_read, plan_at, reserve_plan}
+use Rattle.papaya_points.specs.Given.Resize.Sum.{sum_plan}
+use Rattle.papaya_points.specs.Given.Tables.declared.node.Node.{Node}
+use Rattle.papaya_points.specs.Given.Resize.declared.outcome.Outcome.{Outcome}
+use Rattle.papaya_points.specs.Given.Resize.declared.outcome.Outcome.TheVariants as outcome
+use Rattle.papaya_points.specs.Given.Tables.declared.setting.Setting.{Setting}
+use Rattle.papaya_points.specs.Given.Tables.declared.table.Table.{Table}
+use Rattle.papaya_points.specs.Given.Resize.declared.copier.Copier.{Copier}
+use Rattle.papaya_points.specs.Given.Resize.declared.copier.Copying.TheVariants as copies
+use Rattle.papaya_points.specs.Given.Resize.declared.new_table.NewTable.{NewTable}
+use Rattle.papaya_points.specs.Given.Reserves.declared.reserve.Reserve.{Reserve}
+use Rattle.papaya_points.specs.Given.Reserves.declared.reserve.Reserving.{Reserving}
+use Rattle.papaya_points.specs.Given.Reserves.declared.reserve.Reserving.TheVariants as at
+use Rattle.papaya_points.specs.Given.Resize.declared.sum.Sum.{Sum}
+use Rattle.papaya_points.proofs.Given.Rule.Keys.Always.{Always, AlwaysOf, always_if, always_steps}
 use Rattle.papaya_late.specs.Faults.{IsRoom, RoomInReserving, RefusesSo, SoInCopying, SoInReserving}
 use Rattle.papaya_late.proofs.KindsKept.Rooms.Copying.{CopiesFor, copier_rooms}
 use Rattle.papaya_late.proofs.KindsKept.Rooms.Making.{CountsOn, sum_counts, MakesFor, new_table_rooms, first_table_so, table_reserved_so}

@@ -1,35 +1,35 @@
 -- A sweep is refused for memory, or for the length of a table.
 use Rattle.std.specs.Prelude.{ℕ, ◌==◌, ◌&&◌, nat_lt, if◌then◌else◌, Bool, true, false, Ok, Err}
 use Rattle.std.proofs.Common.{sym, subst}
-use Rattle.seize_words.specs.declared.fault.Fault.{Fault}
-use Rattle.seize_words.specs.Mem.{Mem, value_at, Took}
-use Rattle.seize_words.specs.Op.{Out, Found, Stored, Exchanged, Made, Taken, Roomed}
-use Rattle.seize_words.specs.Plan.{Steps}
-use Rattle.seize_words.specs.Word.{block_in}
-use Rattle.seize_rule.proofs.Rows.Leaving.{steps_back}
-use Rattle.seize.specs.declared.rows.settle.Settled.{Settled}
-use Rattle.seize.specs.declared.rows.settle.Settled.TheVariants as settled
-use Rattle.papaya_tables.specs.Chunks.{is_incremental}
-use Rattle.papaya_tables.specs.Marks.{has_mark}
-use Rattle.papaya_tables.specs.declared.marks.TheConstants.{COPYING}
-use Rattle.papaya_tables.specs.declared.node.Node.{Node}
-use Rattle.papaya_tables.specs.declared.table.Table.{Table}
-use Rattle.papaya_resize.specs.Copier.{copier_plan}
-use Rattle.papaya_resize.specs.Dispose.{dispose_plan}
-use Rattle.papaya_resize.specs.declared.copier.Copier.{Copier}
-use Rattle.papaya_resize.specs.declared.dispose.Dispose.{Dispose}
-use Rattle.papaya_resize.specs.declared.outcome.Outcome.{Outcome}
-use Rattle.papaya_resize.specs.declared.outcome.Outcome.TheVariants as outcome
-use Rattle.papaya_sweeps.specs.Sweep.{word_found, tried, disposed, root_read, next_read, copied, plan_at, sweep_plan}
-use Rattle.papaya_sweeps.specs.SweepPoints.{removes, beginning, tableless, entering, past, at_end, further, next_at, after_next, reply_at, after_reply, told, telling, at_pair, seen}
-use Rattle.papaya_sweeps.specs.declared.sweep.Purpose.{Purpose}
-use Rattle.papaya_sweeps.specs.declared.sweep.Purpose.TheVariants.{Walks, Clears, Retains}
-use Rattle.papaya_sweeps.specs.declared.sweep.Sweep.{Sweep}
-use Rattle.papaya_sweeps.specs.declared.sweep.Sweeping.{Sweeping}
-use Rattle.papaya_sweeps.specs.declared.sweep.Sweeping.TheVariants as at
-use Rattle.papaya_sweeps.specs.declared.sweep.Swept.{Swept}
-use Rattle.papaya_sweeps.specs.declared.sweep.Swept.TheVariants.{Goes}
-use Rattle.papaya_rule.proofs.Keys.Always.{Always, AlwaysOf, always_if, always_steps}
+use Rattle.papaya_points.specs.Given.SeizeWords.declared.fault.Fault.{Fault}
+use Rattle.papaya_points.specs.Given.SeizeWords.Mem.{Mem, value_at, Took}
+use Rattle.papaya_points.specs.Given.SeizeWords.Op.{Out, Found, Stored, Exchanged, Made, Taken, Roomed}
+use Rattle.papaya_points.specs.Given.SeizeWords.Plan.{Steps}
+use Rattle.papaya_points.specs.Given.SeizeWords.Word.{block_in}
+use Rattle.papaya_points.proofs.Given.SeizeRule.Rows.Leaving.{steps_back}
+use Rattle.papaya_points.specs.Given.Seize.declared.rows.settle.Settled.{Settled}
+use Rattle.papaya_points.specs.Given.Seize.declared.rows.settle.Settled.TheVariants as settled
+use Rattle.papaya_points.specs.Given.Tables.Chunks.{is_incremental}
+use Rattle.papaya_points.specs.Given.Tables.Marks.{has_mark}
+use Rattle.papaya_points.specs.Given.Tables.declared.marks.TheConstants.{COPYING}
+use Rattle.papaya_points.specs.Given.Tables.declared.node.Node.{Node}
+use Rattle.papaya_points.specs.Given.Tables.declared.table.Table.{Table}
+use Rattle.papaya_points.specs.Given.Resize.Copier.{copier_plan}
+use Rattle.papaya_points.specs.Given.Resize.Dispose.{dispose_plan}
+use Rattle.papaya_points.specs.Given.Resize.declared.copier.Copier.{Copier}
+use Rattle.papaya_points.specs.Given.Resize.declared.dispose.Dispose.{Dispose}
+use Rattle.papaya_points.specs.Given.Resize.declared.outcome.Outcome.{Outcome}
+use Rattle.papaya_points.specs.Given.Resize.declared.outcome.Outcome.TheVariants as outcome
+use Rattle.papaya_points.specs.Given.Sweeps.Sweep.{word_found, tried, disposed, root_read, next_read, copied, plan_at, sweep_plan}
+use Rattle.papaya_points.specs.Given.Sweeps.SweepPoints.{removes, beginning, tableless, entering, past, at_end, further, next_at, after_next, reply_at, after_reply, told, telling, at_pair, seen}
+use Rattle.papaya_points.specs.Given.Sweeps.declared.sweep.Purpose.{Purpose}
+use Rattle.papaya_points.specs.Given.Sweeps.declared.sweep.Purpose.TheVariants.{Walks, Clears, Retains}
+use Rattle.papaya_points.specs.Given.Sweeps.declared.sweep.Sweep.{Sweep}
+use Rattle.papaya_points.specs.Given.Sweeps.declared.sweep.Sweeping.{Sweeping}
+use Rattle.papaya_points.specs.Given.Sweeps.declared.sweep.Sweeping.TheVariants as at
+use Rattle.papaya_points.specs.Given.Sweeps.declared.sweep.Swept.{Swept}
+use Rattle.papaya_points.specs.Given.Sweeps.declared.sweep.Swept.TheVariants.{Goes}
+use Rattle.papaya_points.proofs.Given.Rule.Keys.Always.{Always, AlwaysOf, always_if, always_steps}
 use Rattle.papaya_late.specs.Faults.{IsRoom, RoomInSweeping, SoInSweeping, SweepRefusesSo}
 use Rattle.papaya_late.proofs.KindsKept.Rooms.Copying.{CopiesFor, copier_rooms}
 use Rattle.papaya_late.proofs.KindsKept.Rooms.Reserving.{copying_so}

@@ -2,22 +2,22 @@
 use Rattle.std.specs.Prelude.{◌≡◌, ℕ, Bool, false}
 use Rattle.std.specs.Int.{IsPowerOfTwo}
 use Rattle.std.proofs.Common.{subst}
-use Rattle.seize_words.specs.Mem.{Mem, value_at, Can, Took}
-use Rattle.seize_words.specs.Plan.{May, Steps}
-use Rattle.seize.specs.World.{World}
-use Rattle.papaya_tables.specs.Chunks.{is_incremental}
-use Rattle.papaya_tables.specs.declared.node.Node.{Node}
-use Rattle.papaya_tables.specs.declared.setting.Setting.{Setting}
-use Rattle.papaya_resize.specs.declared.outcome.Outcome.{Outcome}
-use Rattle.papaya_reserves.specs.Reserve.{plan_at, reserve_plan}
-use Rattle.papaya_reserves.specs.declared.reserve.Reserve.{Reserve}
-use Rattle.papaya_reserves.specs.declared.reserve.Reserving.{Reserving}
-use Rattle.papaya_reserves.specs.declared.reserve.Reserving.TheVariants as at
-use Rattle.papaya_rule.specs.Chart.{Chart}
-use Rattle.papaya_rule.specs.Words.{Blocks}
-use Rattle.papaya_rule.specs.Moments.{Moments}
-use Rattle.papaya_rule.specs.InWorld.{IsMapIn, SparesPairs}
-use Rattle.papaya_rule.proofs.World.WentTold.{went_as}
+use Rattle.papaya_points.specs.Given.SeizeWords.Mem.{Mem, value_at, Can, Took}
+use Rattle.papaya_points.specs.Given.SeizeWords.Plan.{May, Steps}
+use Rattle.papaya_points.specs.Given.Seize.World.{World}
+use Rattle.papaya_points.specs.Given.Tables.Chunks.{is_incremental}
+use Rattle.papaya_points.specs.Given.Tables.declared.node.Node.{Node}
+use Rattle.papaya_points.specs.Given.Tables.declared.setting.Setting.{Setting}
+use Rattle.papaya_points.specs.Given.Resize.declared.outcome.Outcome.{Outcome}
+use Rattle.papaya_points.specs.Given.Reserves.Reserve.{plan_at, reserve_plan}
+use Rattle.papaya_points.specs.Given.Reserves.declared.reserve.Reserve.{Reserve}
+use Rattle.papaya_points.specs.Given.Reserves.declared.reserve.Reserving.{Reserving}
+use Rattle.papaya_points.specs.Given.Reserves.declared.reserve.Reserving.TheVariants as at
+use Rattle.papaya_points.specs.Given.Rule.Chart.{Chart}
+use Rattle.papaya_points.specs.Given.Rule.Words.{Blocks}
+use Rattle.papaya_points.specs.Given.Rule.Moments.{Moments}
+use Rattle.papaya_points.specs.Given.Rule.InWorld.{IsMapIn, SparesPairs}
+use Rattle.papaya_points.proofs.Given.Rule.World.WentTold.{went_as}
 use Rattle.papaya_points.specs.Steps.{AreLawful}
 use Rattle.papaya_late.specs.Left.{ClaimsAreFew}
 use Rattle.papaya_late.specs.LateReserves.{LateReserving, LateReserveFacts}

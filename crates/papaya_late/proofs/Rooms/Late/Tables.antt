@@ -2,40 +2,40 @@
 use Rattle.std.specs.Prelude.{◌≡◌, ℕ, suc, ◌<◌, Bool, false}
 use Rattle.std.specs.Int.{IsPowerOfTwo}
 use Rattle.std.proofs.Common.{inl, inr, refl, ap, sym, subst, ◌∙◌, arith}
-use Rattle.seize_words.specs.declared.at.At.TheVariants.{Word}
-use Rattle.seize_words.specs.Mem.{Mem, value_at, Can, Took}
-use Rattle.seize_words.specs.Plan.{May, Steps}
-use Rattle.seize_words.proofs.OneOwner.Operations.{loaded}
-use Rattle.seize_words.proofs.Plans.{as_may}
-use Rattle.seize_rule.proofs.Rows.Leaving.{steps_back}
-use Rattle.seize.specs.World.{World}
-use Rattle.seize.specs.declared.progress.Progress.{Progress}
-use Rattle.seize.specs.declared.progress.Progress.TheVariants as progress
-use Rattle.papaya_tables.specs.Chunks.{is_incremental}
-use Rattle.papaya_tables.specs.TablePlaces.{at_word}
-use Rattle.papaya_tables.specs.declared.node.Node.{Node}
-use Rattle.papaya_tables.specs.declared.setting.Setting.{Setting}
-use Rattle.papaya_tables.specs.declared.table.Table.{Table}
-use Rattle.papaya_tables.specs.declared.table_words.TheConstants.{NEXT}
-use Rattle.papaya_resize.specs.NewTable.{new_table_plan}
-use Rattle.papaya_resize.specs.Sum.{sum_plan}
-use Rattle.papaya_resize.specs.declared.new_table.NewTable.{NewTable}
-use Rattle.papaya_resize.specs.declared.outcome.Outcome.{Outcome}
-use Rattle.papaya_resize.specs.declared.sum.Sum.{Sum}
-use Rattle.papaya_reserves.specs.Reserve.{made, summed, grown, next_read, plan_at}
-use Rattle.papaya_reserves.specs.declared.reserve.Reserve.{Reserve}
-use Rattle.papaya_reserves.specs.declared.reserve.Reserving.TheVariants as at
-use Rattle.papaya_rule.specs.Chart.{Chart}
-use Rattle.papaya_rule.specs.Rule.{IsLawful}
-use Rattle.papaya_rule.specs.Words.{Blocks}
-use Rattle.papaya_rule.specs.Maps.{spot_of, IsTable}
-use Rattle.papaya_rule.specs.Moments.{Moments}
-use Rattle.papaya_rule.specs.InWorld.{IsMapIn, SparesPairs}
-use Rattle.papaya_rule.proofs.Keys.TriesLast.{table_lasts}
-use Rattle.papaya_rule.proofs.Words.LinksRead.{link_ends}
-use Rattle.papaya_rule.proofs.Words.LinksSeen.{next_leads}
-use Rattle.papaya_rule.proofs.World.WentTold.{went_as}
-use Rattle.papaya_rule.proofs.World.WentWrote.{counter_of}
+use Rattle.papaya_points.specs.Given.SeizeWords.declared.at.At.TheVariants.{Word}
+use Rattle.papaya_points.specs.Given.SeizeWords.Mem.{Mem, value_at, Can, Took}
+use Rattle.papaya_points.specs.Given.SeizeWords.Plan.{May, Steps}
+use Rattle.papaya_points.proofs.Given.SeizeWords.OneOwner.Operations.{loaded}
+use Rattle.papaya_points.proofs.Given.SeizeWords.Plans.{as_may}
+use Rattle.papaya_points.proofs.Given.SeizeRule.Rows.Leaving.{steps_back}
+use Rattle.papaya_points.specs.Given.Seize.World.{World}
+use Rattle.papaya_points.specs.Given.Seize.declared.progress.Progress.{Progress}
+use Rattle.papaya_points.specs.Given.Seize.declared.progress.Progress.TheVariants as progress
+use Rattle.papaya_points.specs.Given.Tables.Chunks.{is_incremental}
+use Rattle.papaya_points.specs.Given.Tables.TablePlaces.{at_word}
+use Rattle.papaya_points.specs.Given.Tables.declared.node.Node.{Node}
+use Rattle.papaya_points.specs.Given.Tables.declared.setting.Setting.{Setting}
+use Rattle.papaya_points.specs.Given.Tables.declared.table.Table.{Table}
+use Rattle.papaya_points.specs.Given.Tables.declared.table_words.TheConstants.{NEXT}
+use Rattle.papaya_points.specs.Given.Resize.NewTable.{new_table_plan}
+use Rattle.papaya_points.specs.Given.Resize.Sum.{sum_plan}
+use Rattle.papaya_points.specs.Given.Resize.declared.new_table.NewTable.{NewTable}
+use Rattle.papaya_points.specs.Given.Resize.declared.outcome.Outcome.{Outcome}
+use Rattle.papaya_points.specs.Given.Resize.declared.sum.Sum.{Sum}
+use Rattle.papaya_points.specs.Given.Reserves.Reserve.{made, summed, grown, next_read, plan_at}
+use Rattle.papaya_points.specs.Given.Reserves.declared.reserve.Reserve.{Reserve}
+use Rattle.papaya_points.specs.Given.Reserves.declared.reserve.Reserving.TheVariants as at
+use Rattle.papaya_points.specs.Given.Rule.Chart.{Chart}
+use Rattle.papaya_points.specs.Given.Rule.Rule.{IsLawful}
+use Rattle.papaya_points.specs.Given.Rule.Words.{Blocks}
+use Rattle.papaya_points.specs.Given.Rule.Maps.{spot_of, IsTable}
+use Rattle.papaya_points.specs.Given.Rule.Moments.{Moments}
+use Rattle.papaya_points.specs.Given.Rule.InWorld.{IsMapIn, SparesPairs}
+use Rattle.papaya_points.proofs.Given.Rule.Keys.TriesLast.{table_lasts}
+use Rattle.papaya_points.proofs.Given.Rule.Words.LinksRead.{link_ends}
+use Rattle.papaya_points.proofs.Given.Rule.Words.LinksSeen.{next_leads}
+use Rattle.papaya_points.proofs.Given.Rule.World.WentTold.{went_as}
+use Rattle.papaya_points.proofs.Given.Rule.World.WentWrote.{counter_of}
 use Rattle.papaya_points.specs.FactsCopiesBlocking.{HasNoShares}
 use Rattle.papaya_points.specs.FactsTables.{SumFacts, NewTableFacts}
 use Rattle.papaya_points.specs.Told.{SumTold, NewTableTold, OnlyLinks}

@@ -2,35 +2,35 @@
 use Rattle.std.specs.Prelude.{◌≡◌, ℕ, suc, Bool}
 use Rattle.std.specs.Int.{IsPowerOfTwo}
 use Rattle.std.proofs.Common.{ap, sym, ◌∙◌}
-use Rattle.seize_words.specs.declared.at.At.TheVariants.{Root, Word}
-use Rattle.seize_words.specs.Mem.{value_at, word_at, Can, Took}
-use Rattle.seize_words.specs.Plan.{May}
-use Rattle.seize_words.proofs.OneOwner.Operations.{may_load}
-use Rattle.seize_words.proofs.Plans.{as_may}
-use Rattle.seize.specs.World.{World}
-use Rattle.papaya_resize.specs.NewTable.{first_table, table_reserved, new_table_plan}
-use Rattle.papaya_resize.specs.Sum.{sum_plan}
-use Rattle.papaya_resize.specs.declared.new_table.NewTable.{NewTable}
-use Rattle.papaya_resize.specs.declared.outcome.Outcome.{Outcome}
-use Rattle.papaya_resize.specs.declared.outcome.Outcome.TheVariants as outcome
-use Rattle.papaya_resize.specs.declared.sum.Sum.{Sum}
-use Rattle.papaya_tables.specs.TablePlaces.{at_word}
-use Rattle.papaya_tables.specs.declared.node.Node.{Node}
-use Rattle.papaya_tables.specs.declared.setting.Setting.{Setting}
-use Rattle.papaya_tables.specs.declared.table.Table.{Table}
-use Rattle.papaya_tables.specs.declared.table_words.TheConstants.{NEXT}
-use Rattle.papaya_reserves.specs.Reserve.{standing, counting, copying, needed, made, summed, grown, root_read, reads, next_read, follows, plan_at}
-use Rattle.papaya_reserves.specs.declared.reserve.Reserve.{Reserve}
-use Rattle.papaya_reserves.specs.declared.reserve.Reserving.TheVariants as at
-use Rattle.papaya_rule.specs.Chart.{Chart}
-use Rattle.papaya_rule.specs.Words.{Blocks}
-use Rattle.papaya_rule.specs.Maps.{IsTable}
-use Rattle.papaya_rule.specs.InWorld.{IsMapIn}
-use Rattle.papaya_rule.proofs.Words.LinksRead.{see_link}
-use Rattle.papaya_rule.proofs.Words.LinksSeen.{root_leads, next_leads}
-use Rattle.papaya_rule.proofs.Words.TablesSeen.{next_there}
-use Rattle.papaya_rule.proofs.Words.WritesWords.{is_some_of}
-use Rattle.papaya_rule.proofs.World.WentWrote.{counter_of}
+use Rattle.papaya_points.specs.Given.SeizeWords.declared.at.At.TheVariants.{Root, Word}
+use Rattle.papaya_points.specs.Given.SeizeWords.Mem.{value_at, word_at, Can, Took}
+use Rattle.papaya_points.specs.Given.SeizeWords.Plan.{May}
+use Rattle.papaya_points.proofs.Given.SeizeWords.OneOwner.Operations.{may_load}
+use Rattle.papaya_points.proofs.Given.SeizeWords.Plans.{as_may}
+use Rattle.papaya_points.specs.Given.Seize.World.{World}
+use Rattle.papaya_points.specs.Given.Resize.NewTable.{first_table, table_reserved, new_table_plan}
+use Rattle.papaya_points.specs.Given.Resize.Sum.{sum_plan}
+use Rattle.papaya_points.specs.Given.Resize.declared.new_table.NewTable.{NewTable}
+use Rattle.papaya_points.specs.Given.Resize.declared.outcome.Outcome.{Outcome}
+use Rattle.papaya_points.specs.Given.Resize.declared.outcome.Outcome.TheVariants as outcome
+use Rattle.papaya_points.specs.Given.Resize.declared.sum.Sum.{Sum}
+use Rattle.papaya_points.specs.Given.Tables.TablePlaces.{at_word}
+use Rattle.papaya_points.specs.Given.Tables.declared.node.Node.{Node}
+use Rattle.papaya_points.specs.Given.Tables.declared.setting.Setting.{Setting}
+use Rattle.papaya_points.specs.Given.Tables.declared.table.Table.{Table}
+use Rattle.papaya_points.specs.Given.Tables.declared.table_words.TheConstants.{NEXT}
+use Rattle.papaya_points.specs.Given.Reserves.Reserve.{standing, counting, copying, needed, made, summed, grown, root_read, reads, next_read, follows, plan_at}
+use Rattle.papaya_points.specs.Given.Reserves.declared.reserve.Reserve.{Reserve}
+use Rattle.papaya_points.specs.Given.Reserves.declared.reserve.Reserving.TheVariants as at
+use Rattle.papaya_points.specs.Given.Rule.Chart.{Chart}
+use Rattle.papaya_points.specs.Given.Rule.Words.{Blocks}
+use Rattle.papaya_points.specs.Given.Rule.Maps.{IsTable}
+use Rattle.papaya_points.specs.Given.Rule.InWorld.{IsMapIn}
+use Rattle.papaya_points.proofs.Given.Rule.Words.LinksRead.{see_link}
+use Rattle.papaya_points.proofs.Given.Rule.Words.LinksSeen.{root_leads, next_leads}
+use Rattle.papaya_points.proofs.Given.Rule.Words.TablesSeen.{next_there}
+use Rattle.papaya_points.proofs.Given.Rule.Words.WritesWords.{is_some_of}
+use Rattle.papaya_points.proofs.Given.Rule.World.WentWrote.{counter_of}
 use Rattle.papaya_points.specs.FactsTables.{SumFacts, NewTableFacts}
 use Rattle.papaya_points.proofs.Making.NewTable.{may_new_table}
 use Rattle.papaya_points.proofs.Making.Sum.{may_sum}

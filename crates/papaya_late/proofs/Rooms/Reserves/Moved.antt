@@ -1,23 +1,23 @@
 -- How a step of a reservation moves its map, beside what it tells.
 use Rattle.std.specs.Prelude.{◌≡◌, ℕ, Bool, cond}
-use Rattle.seize_words.specs.Mem.{Mem, value_at, Took}
-use Rattle.seize_words.specs.Plan.{Steps}
-use Rattle.seize.specs.World.{World}
-use Rattle.papaya_tables.specs.Chunks.{is_incremental}
-use Rattle.papaya_tables.specs.declared.node.Node.{Node}
-use Rattle.papaya_tables.specs.declared.setting.Setting.{Setting}
-use Rattle.papaya_tables.specs.declared.table.Table.{Table}
-use Rattle.papaya_resize.specs.Copier.{copier_plan}
-use Rattle.papaya_resize.specs.CopierStates.{copying_all}
-use Rattle.papaya_resize.specs.declared.outcome.Outcome.{Outcome}
-use Rattle.papaya_resize.specs.declared.outcome.Outcome.TheVariants as outcome
-use Rattle.papaya_resize.specs.declared.copier.Copier.{Copier}
-use Rattle.papaya_reserves.specs.Reserve.{copied}
-use Rattle.papaya_reserves.specs.declared.reserve.Reserve.{Reserve}
-use Rattle.papaya_reserves.specs.declared.reserve.Reserving.{Reserving}
-use Rattle.papaya_reserves.specs.declared.reserve.Reserving.TheVariants as at
-use Rattle.papaya_rule.specs.Chart.{Chart}
-use Rattle.papaya_rule.specs.Words.{Blocks}
+use Rattle.papaya_points.specs.Given.SeizeWords.Mem.{Mem, value_at, Took}
+use Rattle.papaya_points.specs.Given.SeizeWords.Plan.{Steps}
+use Rattle.papaya_points.specs.Given.Seize.World.{World}
+use Rattle.papaya_points.specs.Given.Tables.Chunks.{is_incremental}
+use Rattle.papaya_points.specs.Given.Tables.declared.node.Node.{Node}
+use Rattle.papaya_points.specs.Given.Tables.declared.setting.Setting.{Setting}
+use Rattle.papaya_points.specs.Given.Tables.declared.table.Table.{Table}
+use Rattle.papaya_points.specs.Given.Resize.Copier.{copier_plan}
+use Rattle.papaya_points.specs.Given.Resize.CopierStates.{copying_all}
+use Rattle.papaya_points.specs.Given.Resize.declared.outcome.Outcome.{Outcome}
+use Rattle.papaya_points.specs.Given.Resize.declared.outcome.Outcome.TheVariants as outcome
+use Rattle.papaya_points.specs.Given.Resize.declared.copier.Copier.{Copier}
+use Rattle.papaya_points.specs.Given.Reserves.Reserve.{copied}
+use Rattle.papaya_points.specs.Given.Reserves.declared.reserve.Reserve.{Reserve}
+use Rattle.papaya_points.specs.Given.Reserves.declared.reserve.Reserving.{Reserving}
+use Rattle.papaya_points.specs.Given.Reserves.declared.reserve.Reserving.TheVariants as at
+use Rattle.papaya_points.specs.Given.Rule.Chart.{Chart}
+use Rattle.papaya_points.specs.Given.Rule.Words.{Blocks}
 use Rattle.papaya_points.specs.FactsAloneBlocking.{AloneBlocking, LeadsAlone}
 use Rattle.papaya_points.specs.Measures.{OthersIdle}
 use Rattle.papaya_points.specs.Told.{OnlyLinks}

@@ -2,27 +2,27 @@
 use Rattle.std.specs.Prelude.{◌≡◌, ◌≢◌, ℕ, suc, ◌+◌, ◌%◌, ◌^◌, ◌<◌, ◌==◌, ◌&&◌, Bool, true, false, nat_lt, if◌then◌else◌}
 use Rattle.std.proofs.Common.{refl, ap, inr, ◌∙◌, arith}
 use Rattle.std.proofs.lemmas.Bool.{ltb-true, eqb-false}
-use Rattle.seize_words.specs.Word.{block_in}
-use Rattle.seize.specs.World.{World}
-use Rattle.papaya_tables.specs.Chunks.{is_incremental}
-use Rattle.papaya_tables.specs.Marks.{has_mark}
-use Rattle.papaya_tables.specs.declared.marks.TheConstants.{COPYING}
-use Rattle.papaya_tables.specs.declared.node.Node.{Node}
-use Rattle.papaya_tables.specs.declared.setting.Setting.{Setting}
-use Rattle.papaya_tables.specs.declared.table.Table.{Table}
-use Rattle.papaya_sweeps.specs.SweepPoints.{removes, standing, beginning, entering, further, told, telling, at_pair, seen}
-use Rattle.papaya_sweeps.specs.declared.sweep.Purpose.{Purpose}
-use Rattle.papaya_sweeps.specs.declared.sweep.Purpose.TheVariants.{Walks, Clears, Retains}
-use Rattle.papaya_sweeps.specs.declared.sweep.Sweep.{Sweep}
-use Rattle.papaya_sweeps.specs.declared.sweep.Sweeping.{Sweeping}
-use Rattle.papaya_sweeps.specs.declared.sweep.Sweeping.TheVariants as at
-use Rattle.papaya_sweeps.specs.declared.sweep.Swept.{Swept}
-use Rattle.papaya_rule.specs.Chart.{Phase, Still, Copying, Copied, Holds, Chart, is_marked}
-use Rattle.papaya_rule.specs.Words.{Blocks, byte_of, place_word}
-use Rattle.papaya_rule.specs.Maps.{IsTable}
-use Rattle.papaya_rule.specs.InWorld.{IsMapIn}
-use Rattle.papaya_rule.proofs.Words.PlaceWordsMarks.{has_copying}
-use Rattle.papaya_rule.proofs.Words.PlaceWordsRead.{word-pair}
+use Rattle.papaya_points.specs.Given.SeizeWords.Word.{block_in}
+use Rattle.papaya_points.specs.Given.Seize.World.{World}
+use Rattle.papaya_points.specs.Given.Tables.Chunks.{is_incremental}
+use Rattle.papaya_points.specs.Given.Tables.Marks.{has_mark}
+use Rattle.papaya_points.specs.Given.Tables.declared.marks.TheConstants.{COPYING}
+use Rattle.papaya_points.specs.Given.Tables.declared.node.Node.{Node}
+use Rattle.papaya_points.specs.Given.Tables.declared.setting.Setting.{Setting}
+use Rattle.papaya_points.specs.Given.Tables.declared.table.Table.{Table}
+use Rattle.papaya_points.specs.Given.Sweeps.SweepPoints.{removes, standing, beginning, entering, further, told, telling, at_pair, seen}
+use Rattle.papaya_points.specs.Given.Sweeps.declared.sweep.Purpose.{Purpose}
+use Rattle.papaya_points.specs.Given.Sweeps.declared.sweep.Purpose.TheVariants.{Walks, Clears, Retains}
+use Rattle.papaya_points.specs.Given.Sweeps.declared.sweep.Sweep.{Sweep}
+use Rattle.papaya_points.specs.Given.Sweeps.declared.sweep.Sweeping.{Sweeping}
+use Rattle.papaya_points.specs.Given.Sweeps.declared.sweep.Sweeping.TheVariants as at
+use Rattle.papaya_points.specs.Given.Sweeps.declared.sweep.Swept.{Swept}
+use Rattle.papaya_points.specs.Given.Rule.Chart.{Phase, Still, Copying, Copied, Holds, Chart, is_marked}
+use Rattle.papaya_points.specs.Given.Rule.Words.{Blocks, byte_of, place_word}
+use Rattle.papaya_points.specs.Given.Rule.Maps.{IsTable}
+use Rattle.papaya_points.specs.Given.Rule.InWorld.{IsMapIn}
+use Rattle.papaya_points.proofs.Given.Rule.Words.PlaceWordsMarks.{has_copying}
+use Rattle.papaya_points.proofs.Given.Rule.Words.PlaceWordsRead.{word-pair}
 use Rattle.papaya_points.specs.FactsIdle.{IsIdle}
 use Rattle.papaya_late.specs.FactsSweeps.{WasRoot, GoesOver, NamesStill, SweepingFacts, SweepFacts}
 use Rattle.papaya_late.specs.ToldSweeps.{SweepAfter}

@@ -1,38 +1,38 @@
 -- The steps of a sweep that remove a pair, count it, and dispose of it.
 use Rattle.std.specs.Prelude.{◌≡◌, ℕ, ◌+◌, ◌*◌, ◌^◌, ◌<◌, Bool, true, Some, bit_and}
 use Rattle.std.proofs.Common.{refl, ap, inl, inr, sym, subst, ◌∙◌}
-use Rattle.seize_words.specs.declared.at.At.TheVariants.{Word}
-use Rattle.seize_words.specs.Mem.{Mem, value_at, word_at, with_word, Can, Took}
-use Rattle.seize_words.specs.Plan.{Now, May, Steps}
-use Rattle.seize_words.proofs.OneOwner.Operations.{may_exchange, exchanged, may_add, added}
-use Rattle.seize_words.proofs.Plans.{as_may}
-use Rattle.seize_rule.proofs.Rows.Leaving.{steps_back}
-use Rattle.seize.specs.World.{World}
-use Rattle.seize.specs.declared.rows.settle.Settled.{Settled}
-use Rattle.seize.specs.declared.rows.settle.Settled.TheVariants as settled
-use Rattle.papaya_tables.specs.Chunks.{is_incremental}
-use Rattle.papaya_tables.specs.Counts.{count_change}
-use Rattle.papaya_tables.specs.TablePlaces.{at_place}
-use Rattle.papaya_tables.specs.declared.marks.TheConstants.{TOMBSTONE}
-use Rattle.papaya_tables.specs.declared.node.Node.{Node}
-use Rattle.papaya_tables.specs.declared.setting.Setting.{Setting}
-use Rattle.papaya_tables.specs.declared.table_words.TheConstants.{PLACES}
-use Rattle.papaya_resize.specs.Dispose.{disposing, dispose_plan}
-use Rattle.papaya_resize.specs.declared.dispose.Dispose.{Dispose}
-use Rattle.papaya_sweeps.specs.Sweep.{tries, tried, counts, disposed, plan_at}
-use Rattle.papaya_sweeps.specs.SweepPoints.{removes, further, going}
-use Rattle.papaya_sweeps.specs.declared.sweep.Sweep.{Sweep}
-use Rattle.papaya_sweeps.specs.declared.sweep.Sweeping.TheVariants as at
-use Rattle.papaya_sweeps.specs.declared.sweep.Swept.{Swept}
-use Rattle.papaya_rule.specs.Chart.{Still, Holds, Chart}
-use Rattle.papaya_rule.specs.Rule.{IsLawful, is_of}
-use Rattle.papaya_rule.specs.Moves.{Removes, MayChange, after}
-use Rattle.papaya_rule.specs.Words.{Blocks}
-use Rattle.papaya_rule.specs.Maps.{spot_of}
-use Rattle.papaya_rule.specs.InWorld.{IsMapIn, SameBlocks}
-use Rattle.papaya_rule.proofs.Words.TablesSeen.{place_stands}
-use Rattle.papaya_rule.proofs.World.WentStill.{went_still}
-use Rattle.papaya_rule.proofs.World.WentTold.{went_as}
+use Rattle.papaya_points.specs.Given.SeizeWords.declared.at.At.TheVariants.{Word}
+use Rattle.papaya_points.specs.Given.SeizeWords.Mem.{Mem, value_at, word_at, with_word, Can, Took}
+use Rattle.papaya_points.specs.Given.SeizeWords.Plan.{Now, May, Steps}
+use Rattle.papaya_points.proofs.Given.SeizeWords.OneOwner.Operations.{may_exchange, exchanged, may_add, added}
+use Rattle.papaya_points.proofs.Given.SeizeWords.Plans.{as_may}
+use Rattle.papaya_points.proofs.Given.SeizeRule.Rows.Leaving.{steps_back}
+use Rattle.papaya_points.specs.Given.Seize.World.{World}
+use Rattle.papaya_points.specs.Given.Seize.declared.rows.settle.Settled.{Settled}
+use Rattle.papaya_points.specs.Given.Seize.declared.rows.settle.Settled.TheVariants as settled
+use Rattle.papaya_points.specs.Given.Tables.Chunks.{is_incremental}
+use Rattle.papaya_points.specs.Given.Tables.Counts.{count_change}
+use Rattle.papaya_points.specs.Given.Tables.TablePlaces.{at_place}
+use Rattle.papaya_points.specs.Given.Tables.declared.marks.TheConstants.{TOMBSTONE}
+use Rattle.papaya_points.specs.Given.Tables.declared.node.Node.{Node}
+use Rattle.papaya_points.specs.Given.Tables.declared.setting.Setting.{Setting}
+use Rattle.papaya_points.specs.Given.Tables.declared.table_words.TheConstants.{PLACES}
+use Rattle.papaya_points.specs.Given.Resize.Dispose.{disposing, dispose_plan}
+use Rattle.papaya_points.specs.Given.Resize.declared.dispose.Dispose.{Dispose}
+use Rattle.papaya_points.specs.Given.Sweeps.Sweep.{tries, tried, counts, disposed, plan_at}
+use Rattle.papaya_points.specs.Given.Sweeps.SweepPoints.{removes, further, going}
+use Rattle.papaya_points.specs.Given.Sweeps.declared.sweep.Sweep.{Sweep}
+use Rattle.papaya_points.specs.Given.Sweeps.declared.sweep.Sweeping.TheVariants as at
+use Rattle.papaya_points.specs.Given.Sweeps.declared.sweep.Swept.{Swept}
+use Rattle.papaya_points.specs.Given.Rule.Chart.{Still, Holds, Chart}
+use Rattle.papaya_points.specs.Given.Rule.Rule.{IsLawful, is_of}
+use Rattle.papaya_points.specs.Given.Rule.Moves.{Removes, MayChange, after}
+use Rattle.papaya_points.specs.Given.Rule.Words.{Blocks}
+use Rattle.papaya_points.specs.Given.Rule.Maps.{spot_of}
+use Rattle.papaya_points.specs.Given.Rule.InWorld.{IsMapIn, SameBlocks}
+use Rattle.papaya_points.proofs.Given.Rule.Words.TablesSeen.{place_stands}
+use Rattle.papaya_points.proofs.Given.Rule.World.WentStill.{went_still}
+use Rattle.papaya_points.proofs.Given.Rule.World.WentTold.{went_as}
 use Rattle.papaya_points.specs.FactsDisposes.{DisposeFacts}
 use Rattle.papaya_points.specs.FactsIdle.{IsIdle}
 use Rattle.papaya_points.specs.Told.{IsRowOf, DisposeTold}

@@ -2,21 +2,21 @@
 use Rattle.std.specs.Prelude.{◌≡◌, ◌≢◌, ℕ, suc, ◌^◌, ◌<◌, ◌≤◌, Bool, true, false, cond, ◌⊎◌}
 use Rattle.std.proofs.Common.{refl, ap, ◌∙◌, inl, inr, sym, subst, arith}
 use Rattle.std.proofs.lemmas.Bool.{cases_lt}
-use Rattle.seize_words.specs.Word.{block_in}
-use Rattle.seize.specs.World.{World}
-use Rattle.papaya_tables.specs.Chunks.{is_incremental}
-use Rattle.papaya_tables.specs.declared.node.Node.{Node}
-use Rattle.papaya_tables.specs.declared.setting.Setting.{Setting}
-use Rattle.papaya_tables.specs.declared.status.TheConstants.Status.{ABORTED}
-use Rattle.papaya_rule.specs.Chart.{Phase, Still, Share, Free, Holds, Chart, is_marked}
-use Rattle.papaya_rule.specs.Rule.{IsLawful, Rule, Agrees}
-use Rattle.papaya_rule.specs.Moves.{Removes, after, MayChange}
-use Rattle.papaya_rule.specs.Words.{Blocks, byte_of, place_word}
-use Rattle.papaya_rule.specs.Maps.{spot_of}
-use Rattle.papaya_rule.specs.InWorld.{IsMapIn}
-use Rattle.papaya_rule.proofs.Moves.Shuts.{past_shut}
-use Rattle.papaya_rule.proofs.Words.PlaceWords.{pair_block}
-use Rattle.papaya_rule.proofs.Words.PlacesShown.{byte_of-few}
+use Rattle.papaya_points.specs.Given.SeizeWords.Word.{block_in}
+use Rattle.papaya_points.specs.Given.Seize.World.{World}
+use Rattle.papaya_points.specs.Given.Tables.Chunks.{is_incremental}
+use Rattle.papaya_points.specs.Given.Tables.declared.node.Node.{Node}
+use Rattle.papaya_points.specs.Given.Tables.declared.setting.Setting.{Setting}
+use Rattle.papaya_points.specs.Given.Tables.declared.status.TheConstants.Status.{ABORTED}
+use Rattle.papaya_points.specs.Given.Rule.Chart.{Phase, Still, Share, Free, Holds, Chart, is_marked}
+use Rattle.papaya_points.specs.Given.Rule.Rule.{IsLawful, Rule, Agrees}
+use Rattle.papaya_points.specs.Given.Rule.Moves.{Removes, after, MayChange}
+use Rattle.papaya_points.specs.Given.Rule.Words.{Blocks, byte_of, place_word}
+use Rattle.papaya_points.specs.Given.Rule.Maps.{spot_of}
+use Rattle.papaya_points.specs.Given.Rule.InWorld.{IsMapIn}
+use Rattle.papaya_points.proofs.Given.Rule.Moves.Shuts.{past_shut}
+use Rattle.papaya_points.proofs.Given.Rule.Words.PlaceWords.{pair_block}
+use Rattle.papaya_points.proofs.Given.Rule.Words.PlacesShown.{byte_of-few}
 use Rattle.papaya_late.specs.Left.{Entered}
 use Rattle.papaya_late.specs.FactsSweeps.{WasRoot}
 

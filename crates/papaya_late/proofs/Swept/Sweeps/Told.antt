@@ -2,34 +2,34 @@
 use Rattle.std.specs.Prelude.{◌≡◌, ◌≢◌, ℕ, Bool, true, false, Some, ◌==◌, ◌&&◌, if◌then◌else◌}
 use Rattle.std.proofs.Common.{refl, ap, inl, inr, sym, subst, ◌∙◌, arith}
 use Rattle.std.proofs.lemmas.Bool.{eqb-false}
-use Rattle.seize_words.specs.Word.{block_in}
-use Rattle.seize.specs.World.{World}
-use Rattle.seize.specs.declared.rows.settle.Settled.{Settled}
-use Rattle.seize.specs.declared.rows.settle.Settled.TheVariants as settled
-use Rattle.papaya_tables.specs.Chunks.{is_incremental}
-use Rattle.papaya_tables.specs.Marks.{has_mark}
-use Rattle.papaya_tables.specs.declared.marks.TheConstants.{COPYING}
-use Rattle.papaya_tables.specs.declared.node.Node.{Node}
-use Rattle.papaya_tables.specs.declared.setting.Setting.{Setting}
-use Rattle.papaya_tables.specs.declared.table.Table.{Table}
-use Rattle.papaya_resize.specs.declared.copier.Copier.{Copier}
-use Rattle.papaya_resize.specs.declared.dispose.Dispose.{Dispose}
-use Rattle.papaya_resize.specs.declared.outcome.Outcome.{Outcome}
-use Rattle.papaya_resize.specs.declared.outcome.Outcome.TheVariants as outcome
-use Rattle.papaya_sweeps.specs.Sweep.{copied, disposed}
-use Rattle.papaya_sweeps.specs.SweepPoints.{removes, tableless, beginning, entering, further, told, telling, at_pair, seen}
-use Rattle.papaya_sweeps.specs.declared.sweep.Purpose.{Purpose}
-use Rattle.papaya_sweeps.specs.declared.sweep.Purpose.TheVariants.{Walks, Clears, Retains}
-use Rattle.papaya_sweeps.specs.declared.sweep.Sweep.{Sweep}
-use Rattle.papaya_sweeps.specs.declared.sweep.Sweeping.{Sweeping}
-use Rattle.papaya_sweeps.specs.declared.sweep.Sweeping.TheVariants as at
-use Rattle.papaya_sweeps.specs.declared.sweep.Swept.{Swept}
-use Rattle.papaya_rule.specs.Chart.{Phase, Place, Holds, Chart}
-use Rattle.papaya_rule.specs.Moves.{without}
-use Rattle.papaya_rule.specs.Words.{Blocks, byte_of, place_word}
-use Rattle.papaya_rule.specs.Maps.{spot_of}
-use Rattle.papaya_rule.specs.InWorld.{IsMapIn}
-use Rattle.papaya_rule.proofs.Words.PlaceWordsRead.{word-pair}
+use Rattle.papaya_points.specs.Given.SeizeWords.Word.{block_in}
+use Rattle.papaya_points.specs.Given.Seize.World.{World}
+use Rattle.papaya_points.specs.Given.Seize.declared.rows.settle.Settled.{Settled}
+use Rattle.papaya_points.specs.Given.Seize.declared.rows.settle.Settled.TheVariants as settled
+use Rattle.papaya_points.specs.Given.Tables.Chunks.{is_incremental}
+use Rattle.papaya_points.specs.Given.Tables.Marks.{has_mark}
+use Rattle.papaya_points.specs.Given.Tables.declared.marks.TheConstants.{COPYING}
+use Rattle.papaya_points.specs.Given.Tables.declared.node.Node.{Node}
+use Rattle.papaya_points.specs.Given.Tables.declared.setting.Setting.{Setting}
+use Rattle.papaya_points.specs.Given.Tables.declared.table.Table.{Table}
+use Rattle.papaya_points.specs.Given.Resize.declared.copier.Copier.{Copier}
+use Rattle.papaya_points.specs.Given.Resize.declared.dispose.Dispose.{Dispose}
+use Rattle.papaya_points.specs.Given.Resize.declared.outcome.Outcome.{Outcome}
+use Rattle.papaya_points.specs.Given.Resize.declared.outcome.Outcome.TheVariants as outcome
+use Rattle.papaya_points.specs.Given.Sweeps.Sweep.{copied, disposed}
+use Rattle.papaya_points.specs.Given.Sweeps.SweepPoints.{removes, tableless, beginning, entering, further, told, telling, at_pair, seen}
+use Rattle.papaya_points.specs.Given.Sweeps.declared.sweep.Purpose.{Purpose}
+use Rattle.papaya_points.specs.Given.Sweeps.declared.sweep.Purpose.TheVariants.{Walks, Clears, Retains}
+use Rattle.papaya_points.specs.Given.Sweeps.declared.sweep.Sweep.{Sweep}
+use Rattle.papaya_points.specs.Given.Sweeps.declared.sweep.Sweeping.{Sweeping}
+use Rattle.papaya_points.specs.Given.Sweeps.declared.sweep.Sweeping.TheVariants as at
+use Rattle.papaya_points.specs.Given.Sweeps.declared.sweep.Swept.{Swept}
+use Rattle.papaya_points.specs.Given.Rule.Chart.{Phase, Place, Holds, Chart}
+use Rattle.papaya_points.specs.Given.Rule.Moves.{without}
+use Rattle.papaya_points.specs.Given.Rule.Words.{Blocks, byte_of, place_word}
+use Rattle.papaya_points.specs.Given.Rule.Maps.{spot_of}
+use Rattle.papaya_points.specs.Given.Rule.InWorld.{IsMapIn}
+use Rattle.papaya_points.proofs.Given.Rule.Words.PlaceWordsRead.{word-pair}
 use Rattle.papaya_late.specs.FactsSweeps.{CopiesPairs}
 use Rattle.papaya_late.specs.ToldSweeps.{word_told, NamesThere, StandsThen, SweepTold}
 use Rattle.papaya_late.proofs.Swept.Sweeps.Moved.{Sees, SweepTells}

@@ -2,8 +2,8 @@
 use Rattle.std.proofs.Common.{◌≡◌, ◌≤◌, ◌-◌, ℕ, true}
 use Rattle.papaya_resize.specs.Lookup.{lookup_plan}
 use Rattle.papaya_resize.specs.declared.lookup.Lookup.{Lookup}
-use Rattle.papaya_rule.specs.Chart.{Chart}
-use Rattle.papaya_rule.specs.Words.{Blocks}
+use Rattle.papaya_whole.specs.Given.Rule.Chart.{Chart}
+use Rattle.papaya_whole.specs.Given.Rule.Words.{Blocks}
 use Rattle.papaya_owned.specs.Looking.{LooksIn, at_try}
 use Rattle.papaya_owned.specs.Within.{within}
 use Rattle.papaya_owned.proofs.tries.tries.Given as goal

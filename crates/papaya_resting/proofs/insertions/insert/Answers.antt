@@ -2,8 +2,8 @@
 use Rattle.std.specs.Prelude.{Some}
 use Rattle.std.proofs.Common.{◌∙◌, refl, subst, sym}
 use Rattle.papaya_tables.specs.declared.node.Node.TheVariants as node
-use Rattle.papaya_callers.specs.Kind.{inserts}
-use Rattle.papaya_late.specs.Faults.{IsRoom}
+use Rattle.papaya_owned.specs.Given.Callers.Kind.{inserts}
+use Rattle.papaya_owned.specs.Given.Late.Faults.{IsRoom}
 use Rattle.papaya_owned.specs.Owned.{hashed_by}
 use Rattle.papaya_resting.proofs.Removals.{room_of}
 use Rattle.papaya_resting.proofs.Stores.{stored_so, refused_so, back_so, inserts_this, same_pair}

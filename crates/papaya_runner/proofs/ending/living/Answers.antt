@@ -1,7 +1,7 @@
 use Rattle.std.specs.Prelude.{◌≡◌, ◌++◌, List, [], ◌∷◌}
 use Rattle.std.proofs.Common.{ap, subst, ◌∙◌}
-use Rattle.papaya_tables.specs.Chunks.{is_incremental}
-use Rattle.papaya_tables.specs.declared.setting.Setting.{Setting}
+use Rattle.papaya_maps.specs.Given.Tables.Chunks.{is_incremental}
+use Rattle.papaya_maps.specs.Given.Tables.declared.setting.Setting.{Setting}
 use Rattle.papaya_runs.specs.declared.record.Living.{Living}
 use Rattle.papaya_shown.specs.Shown.{NoneMoves}
 use Rattle.papaya_calls.specs.Endings.{ListsCurrent}

@@ -3,7 +3,7 @@ use Rattle.std.specs.List.Sorted.{IsPermutation, IsBinarySearchResult}
 use Rattle.std.specs.Ordering.{nat_cmp}
 use Rattle.std.proofs.Common.{ap, sym, ◌∙◌, subst}
 use Rattle.std.proofs.lemmas.List.Sorted.{searched, IsNonDecreasingBy-from_sort}
-use Rattle.seize.specs.WaitingSets.{is_one_of}
+use Rattle.papaya_maps.specs.Given.Seize.WaitingSets.{is_one_of}
 use Rattle.papaya_calls.specs.Endings.{numbers_but}
 use Rattle.papaya_stands.proofs.Told.OtherNumbers.{same_one, not_found, was_found, search_tells, but_added, but_passed, but_ends}
 use Rattle.papaya_runner.proofs.ending.numbers_without.Goals as goal

@@ -4,17 +4,17 @@ use Rattle.std.proofs.Common.{◌≡◌, ◌≢◌, ◌⊎◌, ℕ, zero, suc, �
 use Rattle.std.proofs.lemmas.Bool.{eq-eqb}
 use Rattle.seize_words.specs.declared.at.At.TheVariants.{Root, Used}
 use Rattle.seize_words.specs.Mem.{Mem, value_at, value_in, word_at}
-use Rattle.seize_alone.specs.Alone.{History}
+use Rattle.papaya_maps.specs.Given.SeizeAlone.Alone.{History}
 use Rattle.seize_reclaims.specs.Roots.{IsCleared, all_cleared, all_lists, freed}
-use Rattle.seize.specs.WaitingSets.{Change, Further, Sets, all_changed, at_start, further_of, is_one_of}
-use Rattle.seize.specs.World.{Use, times as times_in}
-use Rattle.seize_waiting.specs.Held.{Tidy, Every, all_held, bare}
-use Rattle.seize_waiting.specs.Every.{every_more}
-use Rattle.seize_waiting.proofs.Laws.{uncounted_is_not_there}
-use Rattle.seize_alone.proofs.Laws.{counts_agree, no_list_no_waiting}
+use Rattle.papaya_maps.specs.Given.Seize.WaitingSets.{Change, Further, Sets, all_changed, at_start, further_of, is_one_of}
+use Rattle.papaya_maps.specs.Given.Seize.World.{Use, times as times_in}
+use Rattle.papaya_maps.specs.Given.SeizeWaiting.Held.{Tidy, Every, all_held, bare}
+use Rattle.papaya_maps.specs.Given.SeizeWaiting.Every.{every_more}
+use Rattle.papaya_maps.proofs.Given.SeizeWaiting.Laws.{uncounted_is_not_there}
+use Rattle.papaya_maps.proofs.Given.SeizeAlone.Laws.{counts_agree, no_list_no_waiting}
 use Rattle.seize_reclaims.proofs.Laws.{clearing_is_quiet}
-use Rattle.papaya_tables.specs.Nodes.{deferred_word, was_left}
-use Rattle.papaya_tables.specs.declared.node.Node.{Node}
+use Rattle.papaya_maps.specs.Given.Tables.Nodes.{deferred_word, was_left}
+use Rattle.papaya_maps.specs.Given.Tables.declared.node.Node.{Node}
 use Rattle.papaya_runs.specs.Effects.{pairs_among, tables_among}
 use Rattle.papaya_runs.specs.LifeCycle.{times}
 use Rattle.papaya_runs.specs.State.{State, without_numbers, without_turns}

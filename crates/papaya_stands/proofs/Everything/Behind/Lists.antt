@@ -5,13 +5,13 @@ use Rattle.std.proofs.lemmas.Bool.{cases_eq, ne_eqb, eqb-false, eq-eqb}
 use Rattle.std.proofs.lemmas.List.{append-nil}
 use Rattle.seize_words.specs.declared.at.At.TheVariants.{Root, Used}
 use Rattle.seize_words.specs.Mem.{Mem, value_at, word_at}
-use Rattle.seize_alone.specs.Alone.{History}
+use Rattle.papaya_maps.specs.Given.SeizeAlone.Alone.{History}
 use Rattle.seize_reclaims.specs.Roots.{LeadsTo, LeftAt, all_lists}
-use Rattle.seize.specs.World.{times as times_in}
-use Rattle.seize_waiting.specs.Held.{count}
-use Rattle.seize_alone.proofs.Laws.{counts_agree}
-use Rattle.papaya_tables.specs.Nodes.{was_left}
-use Rattle.papaya_tables.specs.declared.node.Node.{Node}
+use Rattle.papaya_maps.specs.Given.Seize.World.{times as times_in}
+use Rattle.papaya_maps.specs.Given.SeizeWaiting.Held.{count}
+use Rattle.papaya_maps.proofs.Given.SeizeAlone.Laws.{counts_agree}
+use Rattle.papaya_maps.specs.Given.Tables.Nodes.{was_left}
+use Rattle.papaya_maps.specs.Given.Tables.declared.node.Node.{Node}
 use Rattle.papaya_runs.specs.declared.record.Pair.{Pair}
 use Rattle.papaya_runs.specs.LifeCycle.{times}
 use Rattle.papaya_runs.specs.State.{State, of_number}

@@ -5,16 +5,16 @@ use Rattle.std.proofs.lemmas.Bool.{cases_eq, eqb-false}
 use Rattle.seize_words.specs.Word.{block_in}
 use Rattle.seize_words.specs.declared.at.At.TheVariants.{Root, Used}
 use Rattle.seize_words.specs.Mem.{Mem, value_at, word_at}
-use Rattle.seize.specs.World.{Hand, InUse, times as times_in}
-use Rattle.seize_waiting.specs.Held.{count}
-use Rattle.seize_alone.specs.Alone.{IsOfUsers, History}
+use Rattle.papaya_maps.specs.Given.Seize.World.{Hand, InUse, times as times_in}
+use Rattle.papaya_maps.specs.Given.SeizeWaiting.Held.{count}
+use Rattle.papaya_maps.specs.Given.SeizeAlone.Alone.{IsOfUsers, History}
 use Rattle.seize_reclaims.specs.AllReclaimed.{IsKnown}
 use Rattle.seize_reclaims.specs.Roots.{LeadsTo}
-use Rattle.papaya_tables.specs.Nodes.{was_left}
-use Rattle.papaya_tables.specs.declared.node.Node.{Node}
-use Rattle.papaya_tables.specs.declared.node.Node.TheVariants as node
-use Rattle.papaya_rule.specs.Chart.{Chart}
-use Rattle.papaya_rule.specs.Words.{Blocks}
+use Rattle.papaya_maps.specs.Given.Tables.Nodes.{was_left}
+use Rattle.papaya_maps.specs.Given.Tables.declared.node.Node.{Node}
+use Rattle.papaya_maps.specs.Given.Tables.declared.node.Node.TheVariants as node
+use Rattle.papaya_maps.specs.Given.Rule.Chart.{Chart}
+use Rattle.papaya_maps.specs.Given.Rule.Words.{Blocks}
 use Rattle.papaya_runs.specs.LifeCycle.{times}
 use Rattle.papaya_runs.specs.State.{State}
 use Rattle.papaya_stands.specs.Collects.{HasLeft, HasMap, Lives, RootLeads}

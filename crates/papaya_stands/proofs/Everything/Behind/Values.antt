@@ -2,10 +2,10 @@
 use Rattle.std.specs.Prelude.{map, Some}
 use Rattle.std.proofs.Common.{◌≡◌, ◌≢◌, ℕ, List, [], ◌∷◌, inl, length, refl, sym, ap, subst, arith, ◌∙◌}
 use Rattle.seize_words.specs.Mem.{Mem, value_at}
-use Rattle.seize_waiting.specs.Held.{same, count}
-use Rattle.seize_alone.specs.Alone.{History}
+use Rattle.papaya_maps.specs.Given.SeizeWaiting.Held.{same, count}
+use Rattle.papaya_maps.specs.Given.SeizeAlone.Alone.{History}
 use Rattle.seize_reclaims.specs.Roots.{all_lists}
-use Rattle.papaya_tables.specs.declared.node.Node.{Node}
+use Rattle.papaya_maps.specs.Given.Tables.declared.node.Node.{Node}
 use Rattle.papaya_runs.specs.declared.record.Pair.{Pair}
 use Rattle.papaya_runs.specs.Effects.{pairs_among, tables_among}
 use Rattle.papaya_runs.specs.State.{State, of_number}

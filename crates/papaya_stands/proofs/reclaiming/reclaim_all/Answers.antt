@@ -2,10 +2,10 @@ use Rattle.std.specs.Prelude.{IsSome}
 use Rattle.std.proofs.Common.{[], ◌∷◌, ◌++◌, ◌<◌, arith, subst, sym}
 use Rattle.seize_words.specs.declared.at.At.TheVariants.{Slot}
 use Rattle.seize_words.specs.Mem.{word_at}
-use Rattle.seize.specs.declared.states.TheConstants.{HEAD}
+use Rattle.papaya_maps.specs.Given.Seize.declared.states.TheConstants.{HEAD}
 use Rattle.seize_reclaims.specs.AllReclaimed.{IsReclaiming}
 use Rattle.seize_reclaims.specs.declared.reclaiming.ReclaimingAll.{ReclaimingAll}
-use Rattle.papaya_tables.specs.Nodes.{deferred_word, was_left}
+use Rattle.papaya_maps.specs.Given.Tables.Nodes.{deferred_word, was_left}
 use Rattle.papaya_calls.proofs.Laws.{nothing_is_added, one_is_added}
 use Rattle.papaya_stands.proofs.Everything.Everything.{h, lists, begins, begun_with, slot_there, all_vacant, none_open, next_value, all_ended}
 use Rattle.papaya_stands.proofs.reclaiming.reclaim_all.Goals as goal

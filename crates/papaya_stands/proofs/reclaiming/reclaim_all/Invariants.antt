@@ -1,15 +1,15 @@
 use Rattle.std.specs.Prelude.{Option}
 use Rattle.std.proofs.Common.{◌≡◌, ℕ, Bool, List}
-use Rattle.papaya_tables.specs.Nodes.{deferred_word, was_left}
-use Rattle.papaya_tables.specs.declared.node.Node.{Node}
+use Rattle.papaya_maps.specs.Given.Tables.Nodes.{deferred_word, was_left}
+use Rattle.papaya_maps.specs.Given.Tables.declared.node.Node.{Node}
 use Rattle.papaya_runs.specs.State.{State}
 use Rattle.papaya_calls.specs.Giving.{Adds}
 use Rattle.papaya_stands.specs.Reclaiming.{MayReclaim}
 use Rattle.papaya_calls.specs.declared.map.Map.{Map}
 use Rattle.papaya_calls.specs.declared.numbered.Numbered.{Numbered}
-use Rattle.seize_alone.specs.Alone.{blocks_in}
+use Rattle.papaya_maps.specs.Given.SeizeAlone.Alone.{blocks_in}
 use Rattle.seize_reclaims.specs.AllReclaimed.{IsReclaiming}
-use Rattle.seize.specs.World.{Use}
+use Rattle.papaya_maps.specs.Given.Seize.World.{Use}
 use Rattle.papaya_stands.proofs.Everything.Everything.{h, lists}
 use Rattle.papaya_stands.proofs.reclaiming.reclaim_all.Given as goal
 

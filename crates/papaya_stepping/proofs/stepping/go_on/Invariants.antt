@@ -1,6 +1,6 @@
 -- The call goes on, after the steps that it has taken.
 use Rattle.std.specs.Prelude.{◌≡◌, ◌+◌, ℕ, List}
-use Rattle.papaya_executor.specs.IsAt.{KeepsGiven}
+use Rattle.papaya_histories.specs.Given.Executor.IsAt.{KeepsGiven}
 use Rattle.papaya_schedules.specs.Moment.{Moment}
 use Rattle.papaya_schedules.specs.Terms.{Terms}
 use Rattle.papaya_scheduler.specs.Played.{StandsFor}

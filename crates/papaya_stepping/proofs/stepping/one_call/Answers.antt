@@ -1,7 +1,7 @@
 -- A call without a name begins, and goes on, or does not begin.
 use Rattle.std.proofs.Common.{rules, ◌≡◌, Bool, true, false, refl, sym, subst, arith}
 use Rattle.std.proofs.lemmas.Result.{IfOk-weaker}
-use Rattle.seize_words.specs.declared.fault.Fault.TheVariants.{Busy}
+use Rattle.papaya_histories.specs.Given.SeizeWords.declared.fault.Fault.TheVariants.{Busy}
 use Rattle.papaya_runs.specs.Stopped.{most_steps}
 use Rattle.papaya_schedules.specs.After.{moment}
 use Rattle.papaya_schedules.specs.Entry.{nameless}

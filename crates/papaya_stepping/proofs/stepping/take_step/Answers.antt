@@ -1,7 +1,7 @@
 -- A call takes one step.
 use Rattle.std.proofs.Common.{◌≡◌, sym, ap, subst}
-use Rattle.papaya_effects.specs.Known.{known}
-use Rattle.papaya_executor.specs.IsAt.{HasCall}
+use Rattle.papaya_histories.specs.Given.Effects.Known.{known}
+use Rattle.papaya_histories.specs.Given.Executor.IsAt.{HasCall}
 use Rattle.papaya_logged.specs.Calling.{CallGoesOn}
 use Rattle.papaya_rows.proofs.Lists.{got_within}
 use Rattle.papaya_scheduler.proofs.KeptGiven.{given_as}

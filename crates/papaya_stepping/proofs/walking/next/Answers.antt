@@ -1,10 +1,10 @@
 -- The next pair of a walk is shown, or that there is none.
 use Rattle.std.proofs.Common.{[], refl, sym, subst, ◌∙◌}
-use Rattle.seize_words.specs.declared.fault.Fault.TheVariants.{Busy}
+use Rattle.papaya_histories.specs.Given.SeizeWords.declared.fault.Fault.TheVariants.{Busy}
 use Rattle.papaya_schedules.specs.After.{moment}
 use Rattle.papaya_schedules.specs.declared.event.Event.TheVariants.{Next}
 use Rattle.papaya_schedules.specs.declared.outcome.Outcome.TheVariants.{Refused}
-use Rattle.papaya_executor.specs.IsAt.{HasCall}
+use Rattle.papaya_histories.specs.Given.Executor.IsAt.{HasCall}
 use Rattle.papaya_logged.proofs.KeptGiven.{given_on}
 use Rattle.papaya_scheduler.proofs.KeptGiven.{given_as}
 use Rattle.papaya_logged.specs.Calling.{WalkGoesOn}

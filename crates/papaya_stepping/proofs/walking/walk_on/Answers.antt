@@ -2,7 +2,7 @@
 use Rattle.std.specs.Prelude.{slice_get}
 use Rattle.std.proofs.Common.{◌+◌, refl, sym, ap, subst, ◌∙◌, arith}
 use Rattle.std.proofs.lemmas.List.{append-nil}
-use Rattle.papaya_executor.specs.IsAt.{HasCall, IsAt}
+use Rattle.papaya_histories.specs.Given.Executor.IsAt.{HasCall, IsAt}
 use Rattle.papaya_logged.proofs.KeptGiven.{given_on}
 use Rattle.papaya_logged.specs.Calling.{CallGoesOn}
 use Rattle.papaya_logged.specs.Shown.{IsShown}

@@ -1,6 +1,6 @@
 use Rattle.std.specs.Prelude.{◌-◌}
 use Rattle.std.proofs.Common.{◌<◌, ◌^◌, ◌+◌, ◌++◌, ℕ, List, sym, ap, subst, ◌∙◌}
-use Rattle.papaya_tables.specs.declared.setting.Setting.{Setting}
+use Rattle.papaya_maps.specs.Given.Tables.declared.setting.Setting.{Setting}
 use Rattle.papaya_runs.specs.declared.outcome.Effect.{Effect}
 use Rattle.papaya_runs.specs.Effects.{tables_passed, turns_from}
 use Rattle.papaya_calls.specs.Answered.{Names}

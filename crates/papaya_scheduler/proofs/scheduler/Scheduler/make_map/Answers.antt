@@ -1,7 +1,7 @@
 -- A map is made.
 use Rattle.std.proofs.Common.{◌≡◌, [], length, sym, refl, subst, ◌∙◌, arith, rules}
 use Rattle.seize.specs.declared.progress.Progress.{Progress}
-use Rattle.papaya_tables.specs.declared.setting.Setting.{Setting}
+use Rattle.papaya_histories.specs.Given.Tables.declared.setting.Setting.{Setting}
 use Rattle.papaya_logged.specs.Makings.{MakingRan}
 use Rattle.papaya_logged.specs.Roots.{MakingFinds}
 use Rattle.papaya_logged.proofs.KeptGiven.{stays_on}

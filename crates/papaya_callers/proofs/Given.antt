@@ -1,0 +1,12 @@
+-- What is so by the crates below, given on to the crates above: these list this crate in place of those.
+pub use Rattle.papaya_late.proofs.Given.SeizeWords
+pub use Rattle.papaya_late.proofs.Given.SeizeWaiting
+pub use Rattle.papaya_late.proofs.Given.SeizeMoves
+pub use Rattle.papaya_late.proofs.Given.SeizeRule
+pub use Rattle.seize_sets.proofs as SeizeSets
+pub use Rattle.seize_ends.proofs as SeizeEnds
+pub use Rattle.seize_alone.proofs as SeizeAlone
+pub use Rattle.papaya_late.proofs.Given.Tables
+pub use Rattle.papaya_late.proofs.Given.Rule
+pub use Rattle.papaya_late.proofs.Given.Points
+pub use Rattle.papaya_late.proofs as Late

@@ -1,0 +1,15 @@
+-- The words of the crates below, given on to the crates above: these list this crate in place of those.
+pub use Rattle.papaya_late.specs.Given.SeizeWords
+pub use Rattle.papaya_late.specs.Given.Seize
+pub use Rattle.papaya_late.specs.Given.SeizeWaiting
+pub use Rattle.seize_sets.specs as SeizeSets
+pub use Rattle.seize_ends.specs as SeizeEnds
+pub use Rattle.seize_alone.specs as SeizeAlone
+pub use Rattle.papaya_late.specs.Given.Tables
+pub use Rattle.papaya_late.specs.Given.Resize
+pub use Rattle.papaya_late.specs.Given.Sweeps
+pub use Rattle.papaya_late.specs.Given.Reserves
+pub use Rattle.papaya_late.specs.Given.Raw
+pub use Rattle.papaya_late.specs.Given.Rule
+pub use Rattle.papaya_late.specs.Given.Points
+pub use Rattle.papaya_late.specs as Late

@@ -1,0 +1,16 @@
+-- The words of the crates below, given on to the crates above: these list this crate in place of those.
+pub use Rattle.papaya_finishes.specs.Given.SeizeWords
+pub use Rattle.papaya_finishes.specs.Given.Seize
+pub use Rattle.papaya_finishes.specs.Given.SeizeWaiting
+pub use Rattle.papaya_finishes.specs.Given.SeizeAlone
+pub use Rattle.papaya_finishes.specs.Given.Tables
+pub use Rattle.papaya_finishes.specs.Given.Resize
+pub use Rattle.papaya_finishes.specs.Given.Sweeps
+pub use Rattle.papaya_finishes.specs.Given.Reserves
+pub use Rattle.papaya_finishes.specs.Given.Raw
+pub use Rattle.papaya_finishes.specs.Given.Rule
+pub use Rattle.papaya_finishes.specs.Given.Points
+pub use Rattle.papaya_finishes.specs.Given.Late
+pub use Rattle.papaya_finishes.specs.Given.Callers
+pub use Rattle.papaya_finishes.specs as Finishes
+pub use Rattle.papaya_alone.specs as Alone
