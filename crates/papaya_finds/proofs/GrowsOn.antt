@@ -135,7 +135,7 @@ module _ {K V : Type 0} (many : ℕ) where
     -- where the key is missing
 
     following_so : HasForNone p → GrowsSo (following_made p)
-    following_so has = (has, next_begun p.setting p.trial.table)
+    following_so has = (has, next_begun p.setting p.trial.table p.trial.met)
 
     gap_so : HasForNone p → (gap : Gap) → GrowsSo (at_gap gap p)
     gap_so has gaps.NoTable = (has, first_begun p.setting)

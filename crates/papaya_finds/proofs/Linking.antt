@@ -151,13 +151,13 @@ module _ {K V : Type 0} (same : K → K → Bool) (terms : Terms) (moments : Lis
     (apart : (n o : ℕ) → n < stored → o < stored → number n ≡ number o → n ≡ o) (known : Known) (has : HasGivenForNone u.pair) where
   -- it has a value, and stores where its key is missing
 
-  may_make : (its : Call K V) → IsCalled same (OnKey u) its → IsAskedAs number stored known u its c → (count : ℕ) → MayMakeFor terms c moments its count Full
-  may_make (call.On one) is asked count = called_valued same number stored known u c (call.On one) is asked has
-  may_make (call.Reserve more) is asked count = absurd is
-  may_make call.Clear is asked count = absurd is
-  may_make call.Retain is asked count = absurd is
-  may_make call.Len is asked count = absurd is
-  may_make call.Walk is asked count = absurd is
+  may_make : (its : Call K V) → IsCalled same (OnKey u) its → IsAskedAs number stored known u its c → (count met : ℕ) → MayMakeFor terms c moments its count (Full met)
+  may_make (call.On one) is asked count met = called_valued same number stored known u c (call.On one) is asked has
+  may_make (call.Reserve more) is asked count met = absurd is
+  may_make call.Clear is asked count met = absurd is
+  may_make call.Retain is asked count met = absurd is
+  may_make call.Len is asked count met = absurd is
+  may_make call.Walk is asked count met = absurd is
 
   first_follows : (p : Planned) → IsFirstTable p → (its : Call K V) → IsCalled same (OnKey u) its → IsAskedAs number stored known u its c → IsFirstOf terms its c (shape_of p)
   first_follows p so (call.On one) is asked = (given_stores number stored apart c.replies u.pair has one asked.asked asked.replies asked.given, so)
@@ -169,7 +169,7 @@ module _ {K V : Type 0} (same : K → K → Bool) (terms : Terms) (moments : Lis
 
   module _ (its_call : IsCalled same (OnKey u) c.call) (asked : IsAskedAs number stored known u c.call c) (capacity : ℕ) (setting : Setting) (made_for : Has (entries_of capacity) setting.initial) where
     next_follows : (before p : Planned) → IsNextTable setting before p → IsNextShape terms c moments capacity before.len (shape_of p)
-    next_follows before p next = (Full, next.0, setting.initial, made_for, may_make c.call its_call asked next.0, next.1, next.2)
+    next_follows before p next = (Full next.1, next.0, setting.initial, made_for, may_make c.call its_call asked next.0 next.1, next.2, next.3)
 
     follows_first : (p : Planned) → IsFirstTable p → (tables : List TableThere) → length tables ≡ 0 → Follows terms c moments capacity (shape_of p) tables
     follows_first p so [] e = first_follows p so c.call its_call asked
@@ -279,7 +279,7 @@ module _ {K V S : Type 0} (same : K → K → Bool) (hash : K → ℕ) (name : �
           follow_first p (made_so (λ before reason. ⊥) IsFirstTable k.stands p grows.1 (subst (λ (y : NewTable). table_in y.stands ≡ Some p) one made)) (tables_of map m) (sym turn_is ∙ turn)
       by_point (at_point.Allocs k) n is made other grows after =
           let one : n ≡ k = (let back : k ≡ n = cc is in sym back) in
-          let next = made_so (λ b reason. (b ≡ u.call.trial.table) × (reason ≡ Full)) (IsNextTable u.call.setting u.call.trial.table) k.stands p grows.1.1
+          let next = made_so (λ b reason. (b ≡ u.call.trial.table) × (met : ℕ) × (reason ≡ Full met)) (IsNextTable u.call.setting u.call.trial.table) k.stands p grows.1.1
           (subst (λ (y : NewTable). table_in y.stands ≡ Some p) one made) in
           follow_next u.call.trial.table p (next_as u.call.trial.table next) (tables_of map m) (λ none. (let turn = after.2 in omega (arith, turn_is, none, turn))) (newest after.0 after.1 after.2)
       by_point (at_point.Helps copier goal) n is made other grows turn = absurd (other tt)

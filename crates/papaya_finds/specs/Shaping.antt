@@ -30,7 +30,7 @@ IsFirstMaking n = ShapedAt (λ before reason. ⊥) IsFirstTable n.stands
 -- a further one follows a table that is full
 abbrev pub IsNextTable : Setting → Table → Table → Type 0
 IsNextTable setting before table =
-    (count : ℕ) × Has (next_len Full before.len count setting.initial) table.len × (table.limit ≡ next_limit Full before.len table.len)
+    (count met : ℕ) × Has (next_len (Full met) before.len count setting.initial) table.len × (table.limit ≡ next_limit (Full met) before.len table.len)
 
 abbrev pub IsNextMaking : Setting → Table → NewTable → Type 0
-IsNextMaking setting before n = (n.setting ≡ setting) × ShapedAt (λ b reason. (b ≡ before) × (reason ≡ Full)) (IsNextTable setting before) n.stands
+IsNextMaking setting before n = (n.setting ≡ setting) × ShapedAt (λ b reason. (b ≡ before) × (met : ℕ) × (reason ≡ Full met)) (IsNextTable setting before) n.stands
