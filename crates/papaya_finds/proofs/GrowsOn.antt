@@ -14,7 +14,7 @@ use Rattle.papaya_histories.specs.Given.Tables.Chunks.{is_incremental}
 use Rattle.papaya_histories.specs.Given.Tables.Finding.{may_name, finding}
 use Rattle.papaya_histories.specs.Given.Tables.Nodes.{table_seen}
 use Rattle.papaya_histories.specs.Given.Tables.TablePlaces.{at_word}
-use Rattle.papaya_histories.specs.Given.Tables.Trials.{next_trial, place_tried}
+use Rattle.papaya_histories.specs.Given.Tables.Trials.{next_trial, with_met, place_tried}
 use Rattle.papaya_histories.specs.Given.Tables.declared.finding.Finding.{Finding}
 use Rattle.papaya_histories.specs.Given.Tables.declared.finding.Finding.TheVariants as is
 use Rattle.papaya_histories.specs.Given.Tables.declared.marks.TheConstants.{TOMBSTONE}
@@ -37,7 +37,7 @@ use Rattle.papaya_histories.specs.Given.Resize.declared.outcome.Outcome.TheVaria
 use Rattle.papaya_histories.specs.Given.Raw.Call.{have_one_key, made, makes_of, root_found, next_read, next_found, dropped, key_read, pair_read, word_read, word_found, tried, looked, looks_for, first_made, next_made, disposed, helped, copied, plan_at}
 use Rattle.papaya_histories.specs.Given.Raw.CallAsks.{with_absent, with_present, absent_told, present_told, told_at, replied}
 use Rattle.papaya_histories.specs.Given.Raw.CallFills.{filled, putting_by, fill_by, emptied, fills_with, given_up}
-use Rattle.papaya_histories.specs.Given.Raw.CallPoints.{aim_of, standing, going, over, ending, following_made, storing, burying, at_gap, gap_by, asking_at, pair_by, tableless, at_free, at_end, at_last, at_pair, passed, told_of, told, entering, went_on, changed, counted}
+use Rattle.papaya_histories.specs.Given.Raw.CallPoints.{aim_of, standing, going, over, ending, following_made, storing, burying, at_gap, gap_by, asking_at, pair_by, tableless, at_free, at_end, at_last, at_pair, passed, told_of, told, entering, went_on, changed, counted, having_met}
 use Rattle.papaya_histories.specs.Given.Raw.Replies.{value_for, as_own}
 use Rattle.papaya_histories.specs.Given.Raw.declared.machines.answer.Called.{Called}
 use Rattle.papaya_histories.specs.Given.Raw.declared.machines.answer.Called.TheVariants as called
@@ -194,12 +194,14 @@ module _ {K V : Type 0} (many : ℕ) where
     passed_so (Some trial) = tt
     passed_so None = by_test (is_incremental p.setting.mode) (going p at.Nexts) (at_end p.missing p) (λ chunked alone. absurd (cc (chunked, alone))) (λ alone. end_so p.missing refl)
 
+  -- so it is of a call at a try, which counts the word of a try that it passes
+  module _ (p : KeyCall K V K) where
     told_so : (loaded : Bool) (word : ℕ) (found : Finding) → (found ≡ is.Moved → is_incremental p.setting.mode ≡ false → suc p.trial.table.turn < many) → GrowsSo (told_of loaded p word found)
-    told_so loaded word is.Free next = free_so p.missing refl
-    told_so loaded word is.Passed next = passed_so (next_trial p.trial)
+    told_so loaded word is.Free next = free_so p p.missing refl
+    told_so loaded word is.Passed next = passed_so (having_met p word) (next_trial (with_met p.trial word))
     told_so loaded word is.Moved next = λ alone. inr (next refl alone)
     told_so loaded word is.Copying next = by_test loaded (standing p at.Probes, called.Waits) (going p at.Probes) (λ e. tt) (λ e. tt)
-    told_so loaded word is.There next = there_so p.there word
+    told_so loaded word is.There next = there_so p p.there word
 
     on_so : (table : Table) → GrowsSo (went_on p table)
     on_so table =
@@ -229,13 +231,13 @@ module _ {K V : Type 0} (many : ℕ) where
     first_so has n (making, progress.Goes) so = (has, so.1)
     first_so has n (making, progress.Waits) so = (has, so.1)
     first_so has n (making, progress.Done table) so = tt
-    first_so has n (making, progress.Refused fault) so = ending_so (ends.Refused fault)
+    first_so has n (making, progress.Refused fault) so = ending_so p (ends.Refused fault)
 
     next_so : HasForNone p → (n : NewTable) → n.setting ≡ p.setting → (e : NewTable × Progress Table) → NextGoes p.setting p.trial.table n e → GrowsSo (next_made p e)
     next_so has n setting_is (making, progress.Goes) so = (has, (so.0 ∙ setting_is, so.1))
     next_so has n setting_is (making, progress.Waits) so = (has, (so.0 ∙ setting_is, so.1))
     next_so has n setting_is (making, progress.Done table) so = on_so table
-    next_so has n setting_is (making, progress.Refused fault) so = ending_so (ends.Refused fault)
+    next_so has n setting_is (making, progress.Refused fault) so = ending_so p (ends.Refused fault)
 
     disposed_so : (answer : KeyAnswer) (e : Dispose × Settled (Node K V)) → GrowsSo (disposed p answer e)
     disposed_so answer (dispose, settling.Goes) = tt
@@ -248,19 +250,19 @@ module _ {K V : Type 0} (many : ℕ) where
     helped_so goal (copier, outcome.Waits) = tt
     helped_so goal (copier, outcome.Gave value) = tt
     helped_so goal (copier, outcome.Done table) = tt
-    helped_so goal (copier, outcome.Refused fault) = ending_so (ends.Refused fault)
+    helped_so goal (copier, outcome.Refused fault) = ending_so p (ends.Refused fault)
 
     copied_so : (e : Copier × Outcome (Node K V) Table) → GrowsSo (copied p e)
     copied_so (copier, outcome.Goes) = tt
     copied_so (copier, outcome.Waits) = tt
     copied_so (copier, outcome.Gave value) = tt
     copied_so (copier, outcome.Done table) = tt
-    copied_so (copier, outcome.Refused fault) = ending_so (ends.Refused fault)
+    copied_so (copier, outcome.Refused fault) = ending_so p (ends.Refused fault)
 
     -- by the answer of its operation: one that it makes not, it stays where it stands
 
     root_so : (out : Out (Node K V)) → GrowsSo (p, called.Goes) → Always GrowsSo (root_found p out)
-    root_so (Found link) stays = always_if GrowsSo (link == 0) (Now (tableless p.missing p)) (Seeing (block_in link) (λ (value : Node K V). Now (entering p (table_seen link value)))) (tableless_so p.missing refl) (λ value. tt)
+    root_so (Found link) stays = always_if GrowsSo (link == 0) (Now (tableless p.missing p)) (Seeing (block_in link) (λ (value : Node K V). Now (entering p (table_seen link value)))) (tableless_so p p.missing refl) (λ value. tt)
     root_so _ stays = stays
 
     made_so : (out : Out (Node K V)) → GrowsSo (p, called.Goes) → Always GrowsSo (made p out)
