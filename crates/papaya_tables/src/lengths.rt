@@ -1,7 +1,7 @@
 //! How long the tables of a map are.
 ghost use Rattle.std.specs.Prelude.{◌≡◌, ◌*◌, ◌≤◌, ◌^◌, max, IfOk};
 ghost use Rattle.std.specs.Int.{IsNextPowerOfTwo};
-ghost use Rattle.papaya_tables.specs.Lengths.{if_few, places_for, entries_of, len_of, next_len, next_limit, next_turn, HaveTableLens};
+ghost use Rattle.papaya_tables.specs.Lengths.{if_few, places_for, entries_of, len_of, next_len, next_limit, next_turn, HaveTableLens, OnlyTheLastEnds};
 
 use crate::probe::limit;
 use seize_words::Fault;
@@ -90,6 +90,12 @@ pub fn turn_after(turn: u64) -> Result<u64, Fault>
 /// Every table's length is a power of two from 8 to 2^48, if it is made for some pairs or after such a table.
 pub fn lengths_are_powers_of_two()
     ensures { HaveTableLens }
+{}
+
+/// Where no table can be made after one that is full, or in which a copied pair finds no place, that one has more than half as many places as a table
+/// can have, or the last turn.
+pub fn only_the_last_tables_end_a_chain()
+    ensures { OnlyTheLastEnds }
 {}
 
 /// Twice the length. The fault is Capacity.
