@@ -26,24 +26,24 @@ use Rattle.papaya_points.specs.Given.Raw.declared.machines.call.Calling.TheVaria
 use Rattle.papaya_points.specs.Given.Sweeps.declared.sweep.Sweeping.{Sweeping}
 use Rattle.papaya_points.specs.Given.Sweeps.declared.sweep.Sweeping.TheVariants as sweeps
 
-module _ (Is : Fault → Type 0) (At : Table → Reason → Type 0) where
+module _ (Is : Fault → Type 0) (Last : Table → Reason → Type 0) where
   -- where none can be made after one of these tables, the fault is such a one
   abbrev pub EndsSo : Setting → Type 0
-  EndsSo setting = (before : Table) (reason : Reason) (count : ℕ) → At before reason → NoneFollows reason before.len before.turn count setting.initial → Is Capacity
+  EndsSo setting = (before : Table) (reason : Reason) (count : ℕ) → Last before reason → NoneFollows reason before.len before.turn count setting.initial → Is Capacity
 
   -- for this reason or that, a table is of these
-  abbrev pub IsAt : Table → Type 0
-  IsAt table = (reason : Reason) → GoesByTable reason → At table reason
+  abbrev pub IsLastFor : Table → Type 0
+  IsLastFor table = (reason : Reason) → GoesByTable reason → Last table reason
 
   module _ {T : Type 0} (m : Mem T) where
     -- and so it is where no table is linked behind it
-    abbrev pub IsAtWhereLast : Table → Type 0
-    IsAtWhereLast table = word_at m (at_word table NEXT) ≡ Some 0 → IsAt table
+    abbrev pub IsLastWhereNone : Table → Type 0
+    IsLastWhereNone table = word_at m (at_word table NEXT) ≡ Some 0 → IsLastFor table
 
     abbrev pub EndsInCopying : Copier → Copying → Type 0
-    EndsInCopying p (copies.Passes word code table) = EndsSo p.setting × IsAtWhereLast table
+    EndsInCopying p (copies.Passes word code table) = EndsSo p.setting × IsLastWhereNone table
     EndsInCopying p (copies.Grows word code making) = EndsSo making.setting
-    EndsInCopying p copies.Replaces = EndsSo p.setting × IsAtWhereLast p.target
+    EndsInCopying p copies.Replaces = EndsSo p.setting × IsLastWhereNone p.target
     EndsInCopying p (copies.Remakes making) = EndsSo making.setting
     EndsInCopying p _ = Unit {0}
 
@@ -65,7 +65,7 @@ module _ (Is : Fault → Type 0) (At : Table → Reason → Type 0) where
 
     -- a call in this table
     abbrev pub EndsInCalling : Table → Calling → Type 0
-    EndsInCalling table calls.Nexts = IsAtWhereLast table
+    EndsInCalling table calls.Nexts = IsLastWhereNone table
     EndsInCalling table (calls.Firsts making) = EndsSo making.setting
     EndsInCalling table (calls.Allocs making) = EndsSo making.setting
     EndsInCalling table (calls.Helps copier goal) = EndsInCopying copier copier.stands

@@ -38,9 +38,9 @@ IsRoom fault = (fault ≡ Memory) ⊎ (fault ≡ Capacity)
 
 -- Each fault that a machine has to tell, at whichever of its points, is such a one, and each table behind which it is to put another one once the pairs are
 -- counted is of these. A reservation is to need no more places than a table can have.
-module _ (Is : Fault → Type 0) (At : Table → Reason → Type 0) where
+module _ (Is : Fault → Type 0) (Last : Table → Reason → Type 0) where
   abbrev pub StandsInMaking : Making → Type 0
-  StandsInMaking (makes.Sums before reason sum) = At before reason
+  StandsInMaking (makes.Sums before reason sum) = Last before reason
   StandsInMaking (makes.Refused fault) = Is fault
   StandsInMaking _ = Unit {0}
 
@@ -72,7 +72,7 @@ module _ (Is : Fault → Type 0) (At : Table → Reason → Type 0) where
   StandsInCalling table (calls.Allocs making) = StandsInMaking making.stands
   StandsInCalling table (calls.Helps copier goal) = StandsInCopying copier.stands
   StandsInCalling table (calls.Copies copier) = StandsInCopying copier.stands
-  StandsInCalling table (calls.Asks (asking.Absent gaps.Last)) = (reason : Reason) → GoesByTable reason → At table reason
+  StandsInCalling table (calls.Asks (asking.Absent gaps.Last)) = (reason : Reason) → GoesByTable reason → Last table reason
   StandsInCalling table (calls.Drops (ends.Refused fault)) = Is fault
   StandsInCalling table (calls.Over (ends.Refused fault)) = Is fault
   StandsInCalling table _ = Unit {0}
