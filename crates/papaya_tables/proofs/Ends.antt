@@ -7,7 +7,7 @@ use Rattle.seize_words.specs.declared.fault.Fault.TheVariants.{Capacity}
 use Rattle.papaya_tables.specs.declared.lengths.Reason.{Reason}
 use Rattle.papaya_tables.specs.declared.lengths.Reason.TheVariants.{Full, Reserved, NoPlace}
 use Rattle.papaya_tables.specs.Powers.{next_power}
-use Rattle.papaya_tables.specs.Lengths.{if_few, places_for, by_count, next_len, CannotBeFollowed, NoneFollows, GoesByTable, OnlyTheLastEnds}
+use Rattle.papaya_tables.specs.Lengths.{if_few, places_for, by_count, next_len, GoesByTable, OnlyTheLastEnds}
 use Rattle.papaya_tables.proofs.TableLens.{if_few-holds, next-power-most}
 
 -- a length that is answered can be had

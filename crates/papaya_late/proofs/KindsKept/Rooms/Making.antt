@@ -117,6 +117,9 @@ module _ (Is : Fault → Type 0) (Last : Table → Reason → Type 0) where
   pub table_after_as : (setting : Setting) (before : Table) (r : Reason) → Last before r → EndsSo Is Last setting → StandsInMaking Is Last (table_after setting before r).stands
   table_after_as setting before r last ends = begun_as setting before r last ends
 
+  pub table_full_as : (setting : Setting) (before : Table) → Last before reason.Full → StandsInMaking Is Last (table_after setting before reason.Full).stands
+  table_full_as setting before last = last
+
   pub table_reserved_as : (setting : Setting) (before : Table) (len : ℕ) → (2 ^ 48 < len → Is Capacity) → (2 ^ 63 ≤ before.turn → Is Capacity)
       → StandsInMaking Is Last (table_reserved setting before len).stands
   table_reserved_as setting before len long late = making_as (reason.Reserved 0) before (Ok len) tt long (λ none. absurd (cc none)) late
