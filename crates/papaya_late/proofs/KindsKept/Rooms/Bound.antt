@@ -1,6 +1,5 @@
 -- Where a machine has a fault to tell, or is to put a table behind another one: what is so of these is so still where it goes on being so of each.
 use Rattle.papaya_points.specs.Given.SeizeWords.declared.fault.Fault.{Fault}
-use Rattle.papaya_points.specs.Given.Tables.Lengths.{GoesByTable}
 use Rattle.papaya_points.specs.Given.Tables.declared.lengths.Reason.{Reason}
 use Rattle.papaya_points.specs.Given.Tables.declared.table.Table.{Table}
 use Rattle.papaya_points.specs.Given.Resize.declared.copier.Copying.{Copying}
