@@ -1,17 +1,15 @@
 -- A step of a call on one key that is alone, in incremental mode: where it has to tell that a table would be too long, or is to put one behind the last one, that
 -- one is the last still; and the length is refused only where that one cannot be followed.
-use Rattle.std.specs.Prelude.{◌≡◌, ℕ, suc, ◌^◌, ◌<◌, ◌≤◌, Bool, true, Some}
-use Rattle.std.proofs.Common.{ap, sym, subst, ◌∙◌, inl, inr, arith}
-use Rattle.papaya_maps.specs.Given.SeizeWords.Mem.{Mem, Can, Took, value_at, word_at}
+use Rattle.std.specs.Prelude.{◌≡◌, ℕ, suc, ◌^◌, ◌≤◌, Bool, true}
+use Rattle.std.proofs.Common.{ap, sym, subst, ◌∙◌, arith}
+use Rattle.papaya_maps.specs.Given.SeizeWords.Mem.{Mem, Can, Took, value_at}
 use Rattle.papaya_maps.specs.Given.SeizeWords.Plan.{May, Steps}
 use Rattle.papaya_maps.specs.Given.SeizeWords.Word.{block_in}
 use Rattle.papaya_maps.specs.Given.SeizeWords.declared.at.At.TheVariants.{Word}
-use Rattle.papaya_maps.specs.Given.SeizeWords.declared.fault.Fault.{Fault}
 use Rattle.papaya_maps.specs.Given.SeizeWords.declared.fault.Fault.TheVariants.{Memory}
 use Rattle.papaya_maps.specs.Given.Seize.World.{World}
 use Rattle.papaya_maps.specs.Given.Tables.Chunks.{is_incremental}
 use Rattle.papaya_maps.specs.Given.Tables.Lengths.{CannotBeFollowed}
-use Rattle.papaya_maps.specs.Given.Tables.declared.lengths.Reason.{Reason}
 use Rattle.papaya_maps.specs.Given.Tables.declared.node.Node.{Node}
 use Rattle.papaya_maps.specs.Given.Tables.declared.setting.Setting.{Setting}
 use Rattle.papaya_maps.specs.Given.Tables.declared.table.Table.{Table}
@@ -21,7 +19,7 @@ use Rattle.papaya_maps.specs.Given.Resize.NewTable.{new_table_plan}
 use Rattle.papaya_maps.specs.Given.Resize.declared.copier.Copier.{Copier}
 use Rattle.papaya_maps.specs.Given.Resize.declared.copier.Copying.{Copying}
 use Rattle.papaya_maps.specs.Given.Resize.declared.copier.Copying.TheVariants as copies
-use Rattle.papaya_maps.specs.Given.Raw.Call.{call_plan, copied, first_made, helped, next_made, plan_at}
+use Rattle.papaya_maps.specs.Given.Raw.Call.{call_plan, first_made, helped, next_made, plan_at}
 use Rattle.papaya_maps.specs.Given.Raw.declared.machines.answer.Called.{Called}
 use Rattle.papaya_maps.specs.Given.Raw.declared.machines.answer.End.TheVariants as ends
 use Rattle.papaya_maps.specs.Given.Raw.declared.machines.asking.Asking.TheVariants as asking
@@ -36,6 +34,7 @@ use Rattle.papaya_maps.specs.Given.Rule.Maps.{spot_of, IsTable}
 use Rattle.papaya_maps.specs.Given.Rule.InWorld.{IsMapIn, SameBlocks}
 use Rattle.papaya_maps.specs.Given.Points.FactsCalls.{Change, IsOwnPair, CallingFacts, CallFacts}
 use Rattle.papaya_maps.specs.Given.Points.FactsCopies.{CopyingFacts}
+use Rattle.papaya_maps.specs.Given.Points.Told.{IsRowOfCall, IsRowOfCopier}
 use Rattle.papaya_maps.specs.Given.Late.Ends.{EndsSo, EndsInCopying, EndsInCalling}
 use Rattle.papaya_maps.specs.Given.Late.Faults.{CallRefusesSo, StandsInCalling}
 use Rattle.papaya_maps.proofs.Given.Callers.Given.Tables.Ends.{only_the_last_ends}
@@ -139,14 +138,14 @@ module _ {K V Q : Type 0} (same : K → K → Bool) (hash : K → ℕ) (asks : Q
   bounds : (stands : Calling) → (Reads stands → Reads p.stands) → Facts stands → EndsInCalling (IsForTheLast c2) (IsTheLast c2) w.memory p.trial.table stands
   bounds at.Nexts here f = λ none reason by_table. (by_table, read_last (here tt) p.trial.table f.1 f.2 (is_last same hash setting w c blocks map p.trial.table f.1 f.2 none))
   bounds (at.Firsts making) here f = ends_so c2 making.setting (subst (λ (x : Setting). x.initial ≤ 2 ^ 48) (sym f.2.setting_is) fits)
-  bounds (at.Allocs making) here f = ends_so c2 making.setting (subst (λ (x : Setting). x.initial ≤ 2 ^ 48) (sym f.4.setting_is) fits)
+  bounds (at.Allocs making) here f = ends_so c2 making.setting (subst (λ (x : Setting). x.initial ≤ 2 ^ 48) (sym f.3.setting_is) fits)
   bounds (at.Helps copier goal) here f = copier_bounds copier f.6.setting_is here copier.stands (λ h. h) f.6.point
   bounds (at.Copies copier) here f = absurd (let blocking = f.1 in cc (blocking, bits))
   bounds _ here f = tt
 
-  -- a map that has a table has a last one, and one that has none goes on so
-  stays : BoundCalling p.stands → StandsInCalling (IsForTheLast c) (IsTheLast c) p.trial.table p.stands → Keeps (IsForTheLast c) (IsForTheLast c2) (IsTheLast c) (IsTheLast c2)
-  stays bound so = (
+  -- what is so of the last table is so then
+  stays : BoundCalling p.stands → Keeps (IsForTheLast c) (IsForTheLast c2) (IsTheLast c) (IsTheLast c2)
+  stays bound = (
     (λ fault is e. (let d = is e in (keeps_on same hash (is_incremental setting.mode) c c2 lasts (same_then d.0 d.1 reads)).0 fault is e)),
     (λ before reason is. (keeps_on same hash (is_incremental setting.mode) c c2 lasts (same_then before.turn is.1 reads)).1 before reason is),
   )
@@ -157,6 +156,7 @@ module _ {K V Q : Type 0} (same : K → K → Bool) (hash : K → ℕ) (asks : Q
           of_copier : (stage : Copying) → BoundCopying stage → ReadsLast stage
           of_copier (copies.Passes word code table) b = tt
           of_copier stage b = b
+      reads_of at.Nexts b = tt
       reads_of stands b = b
 
       reads : Reads p.stands
@@ -167,5 +167,22 @@ module _ {K V Q : Type 0} (same : K → K → Bool) (hash : K → ℕ) (asks : Q
       → StandsInCalling (IsForTheLast c2) (IsTheLast c2) end.0.trial.table end.0.stands × CallRefusesSo (IsForTheLast c2) end.1
   call_ends so =
       key_as (IsForTheLast c2) (IsTheLast c2) (memory_is_other c2) asks same hash p
-      (calling_on (IsForTheLast c) (IsForTheLast c2) (IsTheLast c) (IsTheLast c2) p.trial.table p.stands (λ bound. stays bound so) so)
+      (calling_on (IsForTheLast c) (IsForTheLast c2) (IsTheLast c) (IsTheLast c2) p.trial.table p.stands stays so)
       w.memory w2.memory end (bounds p.stands (λ h. h) facts.point) s
+
+-- and so it is after a step of a row of the collector
+module _ {K V Q : Type 0} (same : K → K → Bool) (hash : K → ℕ) (asks : Q → K → Bool) (c : Chart K) (p : KeyCall K V Q) (is_row : IsRowOfCall p.stands) where
+  row_copier : {T : Type 0} (m : Mem T) (copier : Copier) (stage : Copying) → IsRowOfCopier stage → EndsInCopying (IsForTheLast c) (IsTheLast c) m copier stage
+  row_copier m copier (copies.Retires settle rest) row = tt
+  row_copier m copier _ row = absurd row
+
+  row_bounds : {T : Type 0} (m : Mem T) (stands : Calling) → IsRowOfCall stands → EndsInCalling (IsForTheLast c) (IsTheLast c) m p.trial.table stands
+  row_bounds m (at.Disposes dispose answer) row = tt
+  row_bounds m (at.Helps copier goal) row = row_copier m copier copier.stands row
+  row_bounds m (at.Copies copier) row = row_copier m copier copier.stands row
+  row_bounds m _ row = absurd row
+
+  pub row_call_ends : (m m2 : Mem (Node K V)) (end : KeyCall K V Q × Called (Node K V)) → Steps Took value_at m (call_plan asks same hash p) m2 end
+      → StandsInCalling (IsForTheLast c) (IsTheLast c) p.trial.table p.stands
+      → StandsInCalling (IsForTheLast c) (IsTheLast c) end.0.trial.table end.0.stands × CallRefusesSo (IsForTheLast c) end.1
+  row_call_ends m m2 end s so = key_as (IsForTheLast c) (IsTheLast c) (memory_is_other c) asks same hash p so m m2 end (row_bounds m p.stands is_row) s
