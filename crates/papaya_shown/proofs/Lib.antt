@@ -9,3 +9,4 @@ pub mod Current
 pub mod Permuted
 pub mod Below
 pub mod Chains
+pub mod Shapes
