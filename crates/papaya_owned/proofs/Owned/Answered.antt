@@ -4,29 +4,39 @@ use Rattle.std.proofs.Common.{refl, sym, ◌∙◌, ap, subst, arith, inl, inr}
 use denote.Ref.{Bor}
 use Rattle.seize_words.specs.Mem.{Mem, value_at}
 use Rattle.seize_words.specs.Word.{block_in}
+use Rattle.seize_words.specs.declared.fault.Fault.{Fault}
+use Rattle.seize_words.specs.declared.fault.Fault.TheVariants.{Capacity}
 use Rattle.seize.specs.World.{World}
+use Rattle.papaya_tables.specs.declared.lengths.Reason.{Reason}
 use Rattle.papaya_tables.specs.declared.node.Node.{Node}
 use Rattle.papaya_tables.specs.declared.node.Node.TheVariants as node
 use Rattle.papaya_tables.specs.declared.setting.Setting.{Setting}
+use Rattle.papaya_tables.specs.declared.table.Table.{Table}
+use Rattle.papaya_shown.specs.Chain.{CannotGrowIn}
+use Rattle.papaya_shown.specs.Shown.{Stands}
+use Rattle.papaya_shown.proofs.Shapes.{grows_no_more}
 use Rattle.papaya_raw.specs.declared.machines.answer.KeyAnswer.{KeyAnswer}
 use Rattle.papaya_raw.specs.declared.machines.answer.KeyAnswer.TheVariants as answers
 use Rattle.papaya_raw.specs.declared.machines.asking.Reply.TheVariants as reply
 use Rattle.papaya_raw.specs.declared.machines.call.KeyCall.{KeyCall}
 use Rattle.papaya_whole.specs.Given.Rule.Chart.{Chart, Phase, Holds as HoldsPair, Still, put}
-use Rattle.papaya_whole.specs.Given.Rule.Words.{Blocks, Shows, place_word}
+use Rattle.papaya_whole.specs.Given.Rule.Words.{Blocks, Shows, place_word, root_word}
+use Rattle.papaya_whole.specs.Given.Rule.Maps.{IsMap}
 use Rattle.papaya_whole.specs.Given.Rule.InWorld.{IsMapIn}
 use Rattle.papaya_whole.proofs.Given.Rule.Moves.Writes.{put_here, put_elsewhere}
 use Rattle.papaya_whole.proofs.Given.Rule.World.Hands.{current_known}
 use Rattle.papaya_whole.specs.Given.Points.FactsCalls.{Change, Unchanged, Stored, Replaced, Removed, Tells}
 use Rattle.papaya_whole.specs.Given.Alone.Alone.{HasChanged}
 use Rattle.papaya_whole.specs.Given.Alone.Counted.{HasAdded, counted_at}
+use Rattle.papaya_whole.specs.Given.Late.Faults.{StandsInCalling}
 use Rattle.papaya_whole.specs.Given.Late.Kinds.{MayPut}
 use Rattle.papaya_whole.specs.Given.Callers.Asked.{last_told, LeavesPair, LeavesNone}
 use Rattle.papaya_whole.specs.Given.Callers.Pairs.{Given, Begun, IsTold, kind_of, StoresGiven, LeavesGiven}
 use Rattle.papaya_whole.specs.Given.Callers.Since.{SoSince}
-use Rattle.papaya_whole.specs.Given.Callers.Together.{IsBegun, in_slot}
+use Rattle.papaya_whole.specs.Given.Callers.Together.{IsBegun, Gets, Removes, Inserts, TriesToInsert, Computes, Updates, UpdatesOrInserts, TriesToInsertWith, RemovesIf, in_slot}
 use Rattle.papaya_whole.proofs.Given.Callers.Asked.By.{block_of_word}
 use Rattle.papaya_whole.specs.AtEnd.{AnswersSo}
+use Rattle.papaya_whole.specs.Limits.{IsForTheLast, IsTheLast}
 use Rattle.papaya_whole.specs.Contents.{ContentsBelow, AreContents, HasRun, pair_for, without}
 use Rattle.papaya_whole.proofs.Contents.Answers.{present_below}
 use Rattle.papaya_whole.proofs.Contents.AtEnd.{answers_tell_the_pairs}
@@ -74,11 +84,24 @@ module _ {K V Q S : Type 0} (same : K → K → Bool) (asks : Q → K → Bool) 
   abbrev pub AnsweredIt : Mem (Node K V) → KeyAnswer → Type 0
   AnsweredIt = Answered {Q = Q} same asks hashes b setting h.lawful h.initial h.world.memory h.chart h.blocks map0.map.rule keys given
 
-  abbrev pub RefusedIt : Mem (Node K V) → Type 0
+  abbrev pub RefusedIt : Mem (Node K V) → Fault → Type 0
   RefusedIt = IsRefused {Q = Q} same asks hashes b setting h.lawful h.initial h.world.memory h.chart h.blocks map0.map.rule keys given
 
   nothing_added : (s : ℕ) → s % 2 ^ 64 ≡ (s + 0) % 2 ^ 64
   nothing_added s = ap (λ x. x % 2 ^ 64) (omega arith)
+
+  -- one that begins has nothing to tell
+  begun_so : (Is : Fault → Type 0) (Last : Table → Reason → Type 0) (others : K → Bool) (of : Given K V) (call : KeyCall K V Q) → IsBegun V same hash asks setting slot_of 0 others of call
+      → StandsInCalling Is Last call.trial.table call.stands
+  begun_so Is Last others of call (Gets q code few class) = tt
+  begun_so Is Last others of call (Removes q code few class) = tt
+  begun_so Is Last others of call (Inserts key value) = tt
+  begun_so Is Last others of call (TriesToInsert key value) = tt
+  begun_so Is Last others of call (Computes key) = tt
+  begun_so Is Last others of call (Updates key) = tt
+  begun_so Is Last others of call (UpdatesOrInserts key absent) = tt
+  begun_so Is Last others of call (TriesToInsertWith key) = tt
+  begun_so Is Last others of call (RemovesIf q code few class) = tt
 
   -- a call begins
   pub begins_it : (call : KeyCall K V Q) → IsBegun V same hash asks setting slot_of 0 keys given call → counted_at call.stands ≡ 0
@@ -100,6 +123,7 @@ module _ {K V Q S : Type 0} (same : K → K → Bool) (asks : Q → K → Bool) 
       counts = subst (λ x. HasAdded setting h.world.memory x h.world.memory) (sym none) (nothing_added _);
       fit = fit;
       looks = λ o low known. (known, refl, refl);
+      ends = λ bits few. begun_so (IsForTheLast h.chart) (IsTheLast h.chart) keys given call begun;
     };
   }
 
@@ -114,10 +138,11 @@ module _ {K V Q S : Type 0} (same : K → K → Bool) (asks : Q → K → Bool) 
       (below_stays same h.world.memory m h.chart c h.blocks blocks h.chart.stored xs (λ o low. ap (λ (f : ℕ → Bool). f o) run.changed.changes) run.keeps.values h.are)
 
   -- it was refused
-  pub refused_it : (m : Mem (Node K V)) → RefusedIt m → Holds same hash setting m xs
-  refused_it m r = record {
+  pub refused_it : (m : Mem (Node K V)) (fault : Fault) → RefusedIt m fault → Holds same hash setting m xs
+  refused_it m fault r = record {
     lawful = h.lawful;
     initial = h.initial;
+    few = h.few;
     one_shard = h.one_shard;
     incremental = h.incremental;
     size = h.size;
@@ -130,6 +155,17 @@ module _ {K V Q S : Type 0} (same : K → K → Bool) (asks : Q → K → Bool) 
     counted = counts_where_unchanged V same hash setting r.w r.c r.blocks r.rests.together.ground.map h.world.memory h.chart map0.map.rule keys r.runs.changed r.counts h.counted;
     are = same_pairs r.w.memory r.c r.blocks r.runs;
   }
+
+  -- and for the length of a table only where none can follow the last one
+  pub refused_ends : (m : Mem (Node K V)) (fault : Fault) → RefusedIt m fault → fault ≡ Capacity → CannotGrowIn m setting
+  refused_ends m fault r e =
+      let last = r.ends h.incremental h.few e in
+      let stands : Stands same hash m setting r.c r.blocks = record {
+        map = subst (λ (x : Mem (Node K V)). IsMap same hash setting.mode setting.root x r.c r.blocks) r.memory r.rests.together.ground.map.map;
+        classes = h.lawful.lawful.classes;
+        fits = h.lawful.fits;
+      } in
+      grows_no_more same hash m setting r.c r.blocks stands last.0 last.1 last.2 (root_word hash r.c r.blocks) stands.map.shows.root_there
 
   -- by its answer: the pairs that the map had, and has, and what that is by
   module _ (m : Mem (Node K V)) where
@@ -191,6 +227,7 @@ module _ {K V Q S : Type 0} (same : K → K → Bool) (asks : Q → K → Bool) 
       holds_at ys are = record {
         lawful = h.lawful;
         initial = h.initial;
+        few = h.few;
         one_shard = h.one_shard;
         incremental = h.incremental;
         size = h.size;

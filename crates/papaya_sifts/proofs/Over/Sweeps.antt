@@ -375,6 +375,7 @@ module _ {K V S : Type 0} (same : K → K → Bool) (hashes : S → K → ℕ) (
     holds_at ys are = record {
       lawful = h.lawful;
       initial = h.initial;
+      few = h.few;
       one_shard = h.one_shard;
       incremental = h.incremental;
       size = h.size;
