@@ -1,6 +1,6 @@
 -- By what the insertion comes to, after the refresh.
 use Rattle.std.specs.Prelude.{Some}
-use Rattle.std.proofs.Common.{refl, subst, sym}
+use Rattle.std.proofs.Common.{◌∙◌, refl, subst, sym}
 use Rattle.papaya_tables.specs.declared.node.Node.TheVariants as node
 use Rattle.papaya_owned.specs.Given.Callers.Kind.{tries_to_insert}
 use Rattle.papaya_owned.specs.Given.Late.Faults.{IsRoom}
