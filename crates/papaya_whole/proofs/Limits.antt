@@ -3,3 +3,4 @@ pub mod Past
 pub mod Spares
 pub mod Copiers
 pub mod Keys
+pub mod Sweeps
