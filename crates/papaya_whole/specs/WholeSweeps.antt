@@ -1,5 +1,5 @@
 -- What is promised of whole sweeps for one owner: walks, clearings and retainings.
-use Rattle.std.specs.Prelude.{◌≡◌, ◌⊎◌, ℕ, ◌<◌, ◌%◌, ◌^◌, ◌+◌, suc, Bool, true, List, ◌∷◌, Some}
+use Rattle.std.specs.Prelude.{◌≡◌, ◌⊎◌, ℕ, ◌<◌, ◌≤◌, ◌%◌, ◌^◌, ◌+◌, suc, Bool, true, List, ◌∷◌, Some}
 use Rattle.std.specs.Int.{IsPowerOfTwo}
 use Rattle.papaya_maps.specs.Given.SeizeWords.Mem.{Mem, Can, Took, value_at}
 use Rattle.papaya_maps.specs.Given.SeizeWords.Plan.{May, Steps}
