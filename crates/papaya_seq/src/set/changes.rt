@@ -36,13 +36,14 @@ impl<K: Eq + Hash + Drop, S: BuildHasher> HashSet<K, S> {
     }
 
     /// Removes the element that this asks for, and answers whether it was there; `taken` shows it until the next change. The faults are
-    /// `Fault::Capacity` and `Fault::Memory`; then no element has changed.
+    /// `Fault::Capacity`, where no table can follow the set's last one, and `Fault::Memory`; then no element has changed.
     pub fn remove<Q: Equivalent<K>>(&mut self, asked: &Q) -> Result<bool, Fault>
         ensures some { IfOk result (λ was. was ≡ is_some (find (Q.Equivalent.equivalent asked.now) self.old.elements)) }
         ensures removed { OnOk result (IsPermutation self.new.elements (left_in (Q.Equivalent.equivalent asked.now) self.old.elements)) }
         ensures refused { OnErr result (IsPermutation self.new.elements self.old.elements) }
         ensures last { MatchResult result (λ _. LastTookOut self.new (find (Q.Equivalent.equivalent asked.now) self.old.elements) None) (λ _. LastTookOut self.new None None) }
         ensures fault { IfErr result IsRoom }
+        ensures capacity { IfErr result (λ fault. fault ≡ Capacity → CannotGrow self.new.tables) }
         ensures hasher { self.new.hasher ≡ self.old.hasher }
         ensures keeps { KeepsIn [] self.old self.new }
     {
