@@ -13,15 +13,12 @@ use Rattle.papaya_tables.specs.declared.node.Node.TheVariants as node
 use Rattle.papaya_tables.specs.declared.setting.Setting.{Setting}
 use Rattle.papaya_tables.specs.declared.table.Table.{Table}
 use Rattle.papaya_shown.specs.Chain.{CannotGrowIn}
-use Rattle.papaya_shown.specs.Shown.{Stands}
-use Rattle.papaya_shown.proofs.Shapes.{grows_no_more}
 use Rattle.papaya_raw.specs.declared.machines.answer.KeyAnswer.{KeyAnswer}
 use Rattle.papaya_raw.specs.declared.machines.answer.KeyAnswer.TheVariants as answers
 use Rattle.papaya_raw.specs.declared.machines.asking.Reply.TheVariants as reply
 use Rattle.papaya_raw.specs.declared.machines.call.KeyCall.{KeyCall}
 use Rattle.papaya_whole.specs.Given.Rule.Chart.{Chart, Phase, Holds as HoldsPair, Still, put}
-use Rattle.papaya_whole.specs.Given.Rule.Words.{Blocks, Shows, place_word, root_word}
-use Rattle.papaya_whole.specs.Given.Rule.Maps.{IsMap}
+use Rattle.papaya_whole.specs.Given.Rule.Words.{Blocks, Shows, place_word}
 use Rattle.papaya_whole.specs.Given.Rule.InWorld.{IsMapIn}
 use Rattle.papaya_whole.proofs.Given.Rule.Moves.Writes.{put_here, put_elsewhere}
 use Rattle.papaya_whole.proofs.Given.Rule.World.Hands.{current_known}
@@ -48,6 +45,7 @@ use Rattle.papaya_owned.specs.Owned.{Holds, IsPairAt, found_by, left_by}
 use Rattle.papaya_owned.specs.Standing.{Standing, Waits}
 use Rattle.papaya_owned.specs.declared.machines.OnKey.{OnKey}
 use Rattle.papaya_owned.proofs.Owned.Keys.{Under, OfKind, Answered, IsRefused}
+use Rattle.papaya_owned.proofs.Owned.Lasts.{last_shown}
 use Rattle.papaya_owned.proofs.Owned.Lookups.{found_is, left_is, none_below}
 use Rattle.papaya_owned.proofs.Owned.Rests.{rests_as}
 use Rattle.papaya_owned.proofs.Owned.Standing.{blocks_below, none_there, standing_below}
@@ -158,14 +156,7 @@ module _ {K V Q S : Type 0} (same : K → K → Bool) (asks : Q → K → Bool) 
 
   -- and for the length of a table only where none can follow the last one
   pub refused_ends : (m : Mem (Node K V)) (fault : Fault) → RefusedIt m fault → fault ≡ Capacity → CannotGrowIn m setting
-  refused_ends m fault r e =
-      let last = r.ends h.incremental h.few e in
-      let stands : Stands same hash m setting r.c r.blocks = record {
-        map = subst (λ (x : Mem (Node K V)). IsMap same hash setting.mode setting.root x r.c r.blocks) r.memory r.rests.together.ground.map.map;
-        classes = h.lawful.lawful.classes;
-        fits = h.lawful.fits;
-      } in
-      grows_no_more same hash m setting r.c r.blocks stands last.0 last.1 last.2 (root_word hash r.c r.blocks) stands.map.shows.root_there
+  refused_ends m fault r e = last_shown same hash h.lawful setting r.w r.c r.blocks r.rests.together.ground.map m r.memory (r.ends h.incremental h.few e)
 
   -- by its answer: the pairs that the map had, and has, and what that is by
   module _ (m : Mem (Node K V)) where
