@@ -298,7 +298,11 @@ module _ {K V Q S : Type 0} (asks : Q → K → Bool) (same : K → K → Bool) 
   told_so z m2 (Ok (stop.Asks again)) runs = never_again z m2 again runs
   told_so z m2 (Err fault) runs =
       let s2 = stopped2 z m2 (Err fault) runs in
-      (refused_by fault asked about started.2 alike s2.1.0 s2.1.1, by.refused_it same asks hashes x.hasher setting p.before xs h keys given2 m2 fault s2.0)
+      (
+        refused_by fault asked about started.2 alike s2.1.0 s2.1.1,
+        by.refused_it same asks hashes x.hasher setting p.before xs h keys given2 m2 fault s2.0,
+        by.refused_ends same asks hashes x.hasher setting p.before xs h keys given2 m2 fault s2.0,
+      )
 
   -- what comes back where it is refused
   pub told_back : (z : OnKey K V Q S) (m2 : Mem (Node K V)) (fault : Fault) → RunsTo (on_key_plan asks same hashes) told_call m z m2 (Err fault) → (k : K) → its ≡ Some k → HasKeyBack z k
