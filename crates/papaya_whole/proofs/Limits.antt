@@ -3,4 +3,5 @@ pub mod Past
 pub mod Spares
 pub mod Copiers
 pub mod Keys
+pub mod Rooms
 pub mod Sweeps
