@@ -1,9 +1,9 @@
 -- What the words of a map that rests show: its tables can be counted, and their pairs are those of the map, in some order.
-use Rattle.std.specs.Prelude.{is_some, IsTrue, IfOk, IfErr, OnOk, OnErr, None}
+use Rattle.std.specs.Prelude.{◌⊎◌, is_some, IsTrue, IfOk, IfErr, OnOk, OnErr, None}
 use Rattle.std.specs.List.{IsDistinct}
 use Rattle.std.specs.List.Sorted.{IsPermutation}
 use Rattle.std.specs.Map.{keys_of}
-use Rattle.std.proofs.Common.{◌≡◌, ℕ, Bool, List, [], ◌++◌, Option, Some, Result, Ok, Err, length, filter, ap, sym, subst, ◌∙◌}
+use Rattle.std.proofs.Common.{◌≡◌, ℕ, Bool, List, [], ◌++◌, Option, Some, Result, Ok, Err, length, filter, ap, sym, subst, ◌∙◌, inl, inr}
 use Rattle.std.proofs.lemmas.List.Sorted.{IsPermutation-refl, IsPermutation-sym, IsPermutation-trans, IsPermutation-append_left, IsPermutation-append_right, length_permutation}
 use Rattle.seize_words.specs.declared.at.At.TheVariants.{Root}
 use Rattle.seize_words.specs.Mem.{Mem, word_at}
@@ -13,6 +13,7 @@ use Rattle.papaya_tables.specs.declared.node.Node.{Node}
 use Rattle.papaya_tables.specs.declared.setting.Setting.{Setting}
 use Rattle.papaya_tables.specs.Chunks.{is_incremental}
 use Rattle.papaya_owned.specs.Given.Rule.Words.{root_word}
+use Rattle.papaya_owned.specs.Rooms.{CannotMakeRoom, NeedTooMany}
 use Rattle.papaya_resting.proofs.Given.{one_each_below, keeps_by_test, holds_stands, holds_moves_none, holds_pairs}
 use Rattle.papaya_shown.specs.Chain.{CannotGrow, CannotGrowIn, CountsTables, HasTables, one_count, pairs_from_root, pairs_on, root_link, shapes_on, word_or_none}
 use Rattle.papaya_shown.specs.Shown.{NoneMoves, Stands, pairs_stored}
@@ -110,6 +111,17 @@ pub cannot_grow : {K V : Type 0} (m : Mem (Node K V)) (setting : Setting) (table
 unfolding tables_shown
 cannot_grow m setting tables (counted, cannot) =
     subst (λ (n : ℕ). CannotGrow (shapes_on m n (root_link m setting))) (one_count m counted.0 tables.0 (root_link m setting) counted.1 tables.1) cannot
+
+-- and so a reservation is refused
+pub room_shown : {K V T : Type 0} (m : Mem (Node K V)) (setting : Setting) (tables : CountsTables m (root_link m setting)) (additional count count2 : ℕ) → count ≡ count2 → (r : Result T Fault)
+    → IfErr r (λ (fault : Fault). fault ≡ Capacity → CannotMakeRoom setting m additional count)
+    → IfErr r (λ (fault : Fault). fault ≡ Capacity → CannotGrow (tables_shown m setting tables) ⊎ NeedTooMany additional count2)
+room_shown m setting tables additional count count2 same (Ok x) so = tt
+room_shown m setting tables additional count count2 same (Err fault) so = λ long. by (so long)
+  where
+    by : CannotMakeRoom setting m additional count → CannotGrow (tables_shown m setting tables) ⊎ NeedTooMany additional count2
+    by (inl cannot) = inl (cannot_grow m setting tables cannot)
+    by (inr many) = inr (subst (λ (n : ℕ). NeedTooMany additional n) same many)
 
 -- for that a change is refused for the length of a table
 pub capacity_shown : {K V T E : Type 0} (m : Mem (Node K V)) (setting : Setting) (tables : CountsTables m (root_link m setting)) (fault_of : E → Fault) (r : Result T E)
