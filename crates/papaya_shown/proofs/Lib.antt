@@ -10,3 +10,4 @@ pub mod Permuted
 pub mod Below
 pub mod Chains
 pub mod Shapes
+mod Samples
