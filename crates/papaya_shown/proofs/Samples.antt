@@ -1,5 +1,5 @@
 -- By hand: where no table can follow the last one.
-use Rattle.std.specs.Prelude.{ℕ, ◌^◌, [], ◌∷◌}
+use Rattle.std.specs.Prelude.{◌^◌, [], ◌∷◌}
 use Rattle.std.proofs.Common.{inl, inr, arith}
 use Rattle.papaya_shown.specs.Chain.{CannotGrow}
 
