@@ -1,5 +1,5 @@
 -- Room for pairs in the map of one owner.
-use Rattle.std.specs.Prelude.{◌≡◌, ℕ, ◌<◌, ◌≤◌, ◌^◌, ◌⊎◌, Bool, List, length, Result, Ok, Err, Some}
+use Rattle.std.specs.Prelude.{◌≡◌, ◌≢◌, ℕ, ◌<◌, ◌≤◌, ◌^◌, ◌⊎◌, Bool, List, length, Result, Ok, Err, Some}
 use Rattle.seize_words.specs.Mem.{Mem, value_at, word_at}
 use Rattle.seize_words.specs.Word.{block_in}
 use Rattle.seize_words.specs.declared.at.At.TheVariants.{Root}
@@ -34,6 +34,7 @@ IsUnmade pairs fault = ((fault ≡ Capacity) × AreTooMany pairs) ⊎ ((fault �
 pub record HasRoomFor {K V : Type 0} (setting : Setting) (m : Mem (Node K V)) (additional count : ℕ) : Type 0 where
   pub root : ℕ
   pub root_is : word_at m (Root setting.root) ≡ Some root
+  pub there : root ≢ 0
   pub len : ℕ
   pub limit : ℕ
   pub turn : ℕ

@@ -1,21 +1,23 @@
 -- What the words of a map that rests show: its tables can be counted, and their pairs are those of the map, in some order.
-use Rattle.std.specs.Prelude.{◌⊎◌, is_some, IsTrue, IfOk, IfErr, OnOk, OnErr, None}
+use Rattle.std.specs.Prelude.{◌⊎◌, ◌≤◌, zero, suc, is_some, IsTrue, IfOk, IfErr, OnOk, OnErr, None}
 use Rattle.std.specs.List.{IsDistinct}
 use Rattle.std.specs.List.Sorted.{IsPermutation}
 use Rattle.std.specs.Map.{keys_of}
 use Rattle.std.proofs.Common.{◌≡◌, ℕ, Bool, List, [], ◌++◌, Option, Some, Result, Ok, Err, length, filter, ap, sym, subst, ◌∙◌, inl, inr}
 use Rattle.std.proofs.lemmas.List.Sorted.{IsPermutation-refl, IsPermutation-sym, IsPermutation-trans, IsPermutation-append_left, IsPermutation-append_right, length_permutation}
 use Rattle.seize_words.specs.declared.at.At.TheVariants.{Root}
-use Rattle.seize_words.specs.Mem.{Mem, word_at}
+use Rattle.seize_words.specs.Mem.{Mem, value_at, word_at}
+use Rattle.seize_words.specs.Word.{block_in}
 use Rattle.seize_words.specs.declared.fault.Fault.{Fault}
 use Rattle.seize_words.specs.declared.fault.Fault.TheVariants.{Capacity}
 use Rattle.papaya_tables.specs.declared.node.Node.{Node}
 use Rattle.papaya_tables.specs.declared.setting.Setting.{Setting}
 use Rattle.papaya_tables.specs.Chunks.{is_incremental}
 use Rattle.papaya_owned.specs.Given.Rule.Words.{root_word}
-use Rattle.papaya_owned.specs.Rooms.{CannotMakeRoom, NeedTooMany}
+use Rattle.papaya_owned.specs.Rooms.{CannotMakeRoom, HasRoomFor, NeedTooMany}
+use Rattle.papaya_owned.specs.Given.Reserves.Reserve.{needed}
 use Rattle.papaya_resting.proofs.Given.{one_each_below, keeps_by_test, holds_stands, holds_moves_none, holds_pairs}
-use Rattle.papaya_shown.specs.Chain.{CannotGrow, CannotGrowIn, CountsTables, HasTables, one_count, pairs_from_root, pairs_on, root_link, shapes_on, word_or_none}
+use Rattle.papaya_shown.specs.Chain.{CannotGrow, CannotGrowIn, CountsTables, FirstHas, HasTables, one_count, pairs_from_root, pairs_on, root_link, shape_of, shapes_on, word_or_none}
 use Rattle.papaya_shown.specs.Shown.{NoneMoves, Stands, pairs_stored}
 use Rattle.papaya_shown.proofs.Chains.{root_counts, all_shown}
 use denote.Ref.{Bor}
@@ -111,6 +113,16 @@ pub cannot_grow : {K V : Type 0} (m : Mem (Node K V)) (setting : Setting) (table
 unfolding tables_shown
 cannot_grow m setting tables (counted, cannot) =
     subst (λ (n : ℕ). CannotGrow (shapes_on m n (root_link m setting))) (one_count m counted.0 tables.0 (root_link m setting) counted.1 tables.1) cannot
+
+-- where the root has so many places, the words show that
+pub first_has : {K V : Type 0} (m : Mem (Node K V)) (setting : Setting) (tables : CountsTables m (root_link m setting)) (additional count count2 : ℕ) → count ≡ count2 → HasRoomFor setting m additional count
+    → FirstHas (needed additional count2) (tables_shown m setting tables)
+unfolding tables_shown
+first_has m setting (zero, none) additional count count2 same room = absurd (room.there (sym (ap word_or_none room.root_is) ∙ none))
+first_has m setting (suc n, has) additional count count2 same room =
+    let at_root = ap (λ (link : ℕ). value_at m (block_in link)) (ap word_or_none room.root_is) ∙ room.table in
+    subst (λ (k : ℕ). needed additional k ≤ (shape_of (value_at m (block_in (root_link m setting)))).0) same
+    (subst (λ (len : ℕ). needed additional count ≤ len) (sym (ap (λ (shape : ℕ × ℕ). shape.0) (ap shape_of at_root))) room.places)
 
 -- and so a reservation is refused
 pub room_shown : {K V T : Type 0} (m : Mem (Node K V)) (setting : Setting) (tables : CountsTables m (root_link m setting)) (additional count count2 : ℕ) → count ≡ count2 → (r : Result T Fault)

@@ -1,5 +1,5 @@
 -- The pairs that the memory of a map shows, table by table, place by place.
-use Rattle.std.specs.Prelude.{◌≡◌, ◌≢◌, ℕ, zero, suc, ◌+◌, ◌-◌, ◌^◌, ◌<◌, IsSome, ◌==◌, ◌&&◌, Bool, List, [], ◌∷◌, ◌++◌, Option, Some, None, if◌then◌else◌}
+use Rattle.std.specs.Prelude.{◌≡◌, ◌≢◌, ℕ, zero, suc, ◌+◌, ◌-◌, ◌^◌, ◌<◌, ◌≤◌, IsSome, ◌==◌, ◌&&◌, Bool, List, [], ◌∷◌, ◌++◌, Option, Some, None, if◌then◌else◌}
 use Rattle.std.proofs.Common.{refl, ap}
 use Rattle.std.specs.Coded.{Coded-set, coded_ℕ, ×_prop, Π_prop}
 use mathlib.Core.HLevel.{Σ_prop_path}
@@ -23,6 +23,11 @@ abbrev pub CannotGrow : List (ℕ × ℕ) → Type 0
 CannotGrow [] = ⊥
 CannotGrow (shape ∷ []) = CannotBeFollowed shape.0 shape.1
 CannotGrow (shape ∷ (next ∷ more)) = CannotGrow (next ∷ more)
+
+-- the first one has so many places, or more
+abbrev pub FirstHas : ℕ → List (ℕ × ℕ) → Type 0
+FirstHas need [] = ⊥
+FirstHas need (shape ∷ more) = need ≤ shape.0
 
 -- the word, or 0 where there is none
 abbrev pub word_or_none : Option ℕ → ℕ

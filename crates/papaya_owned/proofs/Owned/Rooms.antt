@@ -372,6 +372,9 @@ module _ {K V S : Type 0} (same : K → K → Bool) (hashes : S → K → ℕ) (
       root = e.blocks.table e.c.first * 2048;
       root_is = subst (λ (x : Mem (Node K V)). word_at x (Root setting.root) ≡ Some (e.blocks.table e.c.first * 2048)) e.memory
           (map_then.map.shows.root_there ∙ ap (λ (x : Bool). Some (cond x 0 (e.blocks.table e.c.first * 2048))) (ne_eqb e.c.past 0 (λ z. let l = places.1 in omega (arith, z, l))));
+      there = λ zero.
+          (let number = map_then.map.shows.table_numbers e.c.first places.1 (map_then.map.shows.linked e.c.first (omega arith) places.1) in
+          let positive = number.0 in omega (arith, zero, positive));
       len = e.c.len e.c.first;
       limit = e.c.limit e.c.first;
       turn = e.c.first;
