@@ -1,13 +1,15 @@
 -- Where no table can be made after another one, and how long one is that can.
 use Rattle.std.specs.Prelude.{◌≡◌, ℕ, ◌+◌, ◌*◌, ◌/◌, ◌^◌, ◌<◌, ◌≤◌, nat_le, if◌then◌else◌, max, Bool, true, false, Result, Ok, Err, IfOk}
-use Rattle.std.proofs.Common.{inl, inr, arith}
+use Rattle.std.proofs.Common.{ap, sym, subst, ◌∙◌, inl, inr, arith}
+use Rattle.std.proofs.lemmas.Bool.{cases_lt}
 use Rattle.std.proofs.lemmas.Bool.Decides.{leb_tells}
+use Rattle.std.proofs.lemmas.Nat.{pow_below}
 use Rattle.seize_words.specs.declared.fault.Fault.{Fault}
 use Rattle.seize_words.specs.declared.fault.Fault.TheVariants.{Capacity}
 use Rattle.papaya_tables.specs.declared.lengths.Reason.{Reason}
 use Rattle.papaya_tables.specs.declared.lengths.Reason.TheVariants.{Full, Reserved, NoPlace}
 use Rattle.papaya_tables.specs.Powers.{next_power}
-use Rattle.papaya_tables.specs.Lengths.{if_few, places_for, by_count, next_len, GoesByTable, OnlyTheLastEnds}
+use Rattle.papaya_tables.specs.Lengths.{if_few, places_for, by_count, next_len, GoesByTable, IsTableLen, OnlyTheLastEnds}
 use Rattle.papaya_tables.proofs.TableLens.{if_few-holds, next-power-most}
 
 -- a length that is answered can be had
@@ -53,3 +55,22 @@ long_then NoPlace len count initial by_table fits long = let more = more_at (max
 pub only_the_last_ends : OnlyTheLastEnds
 only_the_last_ends reason len turn count initial by_table fits (inl long) = inl (long_then reason len count initial by_table fits long)
 only_the_last_ends reason len turn count initial by_table fits (inr late) = inr late
+
+-- A table that can have none of twice its places behind it has the most there can be.
+pub longest : (len : ℕ) → IsTableLen len → 2 ^ 48 < len * 2 → 2 ^ 48 ≤ len
+longest len sized long = by sized.power.0 sized.power.1
+  where
+    short : (bits : ℕ) → len ≡ 2 ^ bits → bits < 48 → 2 ^ 48 ≤ len
+    short bits is low = elim (cases_lt bits 47) as (λ _. 2 ^ 48 ≤ len) [
+      | inl below ↦ absurd (let less : len < 2 ^ 47 = subst (λ (n : ℕ). n < 2 ^ 47) (sym is) (pow_below bits 47 below) in omega (arith, less, long))
+      | inr same ↦ absurd (let half : len ≡ 2 ^ 47 = is ∙ ap (λ (k : ℕ). 2 ^ k) (let k : bits ≡ 47 = omega (arith, low, same) in k) in omega (arith, half, long))
+    ]
+
+    by : (bits : ℕ) → len ≡ 2 ^ bits → 2 ^ 48 ≤ len
+    by bits is = elim (cases_lt bits 48) as (λ _. 2 ^ 48 ≤ len) [
+      | inl low ↦ short bits is low
+      | inr high ↦ elim (cases_lt 48 bits) as (λ _. 2 ^ 48 ≤ len) [
+        | inl above ↦ (let more : 2 ^ 48 < len = subst (λ (n : ℕ). 2 ^ 48 < n) (sym is) (pow_below 48 bits above) in omega (arith, more))
+        | inr same ↦ (let whole : len ≡ 2 ^ 48 = is ∙ ap (λ (k : ℕ). 2 ^ k) (let k : bits ≡ 48 = omega (arith, high, same) in k) in omega (arith, whole))
+      ]
+    ]
