@@ -4,7 +4,7 @@ use denote.Ref.{Bor}
 use Rattle.seize_words.specs.Mem.{Mem}
 use Rattle.seize_words.specs.Word.{block_in}
 use Rattle.seize_words.specs.declared.fault.Fault.{Fault}
-use Rattle.seize_words.specs.declared.fault.Fault.TheVariants.{RemoveNothing}
+use Rattle.seize_words.specs.declared.fault.Fault.TheVariants.{Capacity, RemoveNothing}
 use Rattle.papaya_tables.specs.declared.node.Node.{Node}
 use Rattle.papaya_tables.specs.declared.node.Node.TheVariants as node
 use Rattle.papaya_tables.specs.declared.setting.Setting.{Setting}
@@ -23,6 +23,7 @@ use Rattle.papaya_owned.specs.Given.Callers.Kind.{Kind}
 use Rattle.papaya_owned.specs.Given.Callers.Pairs.{IsTold}
 use Rattle.papaya_owned.specs.Given.Callers.Together.{IsBegun}
 use Rattle.papaya_owned.specs.Given.Late.Faults.{IsRoom}
+use Rattle.papaya_owned.specs.Given.Shown.Chain.{CannotGrowIn}
 use Rattle.papaya_asks.specs.declared.lent.Lent.{Lent}
 use Rattle.papaya_owned.specs.Ending.{RunsTo}
 use Rattle.papaya_owned.specs.Machines.{on_key_plan}
@@ -63,9 +64,10 @@ module _ {K V : Type 0} (same : K → K → Bool) (hash : K → ℕ) (setting : 
   AnswersAs (answers.Removed word) =
       (x : K × V) × Told (Some x) reply.Remove × (found_by keys xs ≡ Some x) × IsPairAt m word x × Holds same hash setting m (left_by keys xs) × Waits m (block_in word) x (left_by keys xs)
 
-  -- It is refused for room, or the removal of what is not there, which it was told. No pair has changed.
+  -- It is refused for room, for the length of a table only where none can follow the last one, or the removal of what is not there, which it was told. No
+  -- pair has changed.
   abbrev pub RefusedAs : Fault → Type 0
-  RefusedAs fault = (IsRoom fault ⊎ ((fault ≡ RemoveNothing) × Told None reply.Remove × (found_by keys xs ≡ None))) × Holds same hash setting m xs
+  RefusedAs fault = (IsRoom fault ⊎ ((fault ≡ RemoveNothing) × Told None reply.Remove × (found_by keys xs ≡ None))) × Holds same hash setting m xs × (fault ≡ Capacity → CannotGrowIn m setting)
 
   abbrev pub EndsAs : Result KeyAnswer Fault → Type 0
   EndsAs (Ok answer) = AnswersAs answer
@@ -116,7 +118,8 @@ module _ {K V Q S : Type 0} where
 abbrev pub StartsAs : {K V Q S : Type 0} → (Q → K → Bool) → (K → K → Bool) → (S → K → ℕ) → Setting → Kind → Option K → (K → Bool) → List (K × V) → Bor S → OnKey K V Q S → Mem (Node K V) → Result Stop Fault → Type 0
 StartsAs asks same hashes setting kind its keys xs b x m (Ok (stop.Answered answer)) = AnswersAs same (hashes b.now) setting m keys xs its (Unasked kind) answer
 StartsAs asks same hashes setting kind its keys xs b x m (Ok (stop.Asks asked)) = Pauses asks same hashes setting kind its keys xs x m asked × (x.hasher ≡ b) × IsWordOf keys m xs asked × AsksOf kind asked
-StartsAs {K} asks same hashes setting kind its keys xs b x m (Err fault) = IsRoom fault × Holds same (hashes b.now) setting m xs × ((k : K) → its ≡ Some k → HasKeyBack x k)
+StartsAs {K} asks same hashes setting kind its keys xs b x m (Err fault) =
+    IsRoom fault × Holds same (hashes b.now) setting m xs × ((k : K) → its ≡ Some k → HasKeyBack x k) × (fault ≡ Capacity → CannotGrowIn m setting)
 
 -- what stands for keys, lent, passes the keys that it passes by itself
 abbrev pub by_lent : {K Q : Type 0} → (Q → K → Bool) → Lent K Q → K → Bool

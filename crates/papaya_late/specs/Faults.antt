@@ -1,10 +1,13 @@
 -- For what a call of the map can be refused: memory, or the length of a table. So it is at each point of the machines that has a fault to tell.
-use Rattle.std.specs.Prelude.{◌≡◌, ℕ, Bool, ◌⊎◌}
+use Rattle.std.specs.Prelude.{◌≡◌, ℕ, ◌^◌, ◌≤◌, Bool, ◌⊎◌}
 use Rattle.papaya_points.specs.Given.SeizeWords.declared.fault.Fault.{Fault}
 use Rattle.papaya_points.specs.Given.SeizeWords.declared.fault.Fault.TheVariants.{Memory, Capacity}
 use Rattle.papaya_points.specs.Given.SeizeWords.Mem.{Mem, value_at, Took}
 use Rattle.papaya_points.specs.Given.SeizeWords.Plan.{Steps}
+use Rattle.papaya_points.specs.Given.Tables.Lengths.{GoesByTable}
+use Rattle.papaya_points.specs.Given.Tables.declared.lengths.Reason.{Reason}
 use Rattle.papaya_points.specs.Given.Tables.declared.node.Node.{Node}
+use Rattle.papaya_points.specs.Given.Tables.declared.table.Table.{Table}
 use Rattle.papaya_points.specs.Given.Reserves.Reserve.{reserve_plan}
 use Rattle.papaya_points.specs.Given.Reserves.declared.reserve.Reserve.{Reserve}
 use Rattle.papaya_points.specs.Given.Resize.declared.outcome.Outcome.{Outcome}
@@ -18,6 +21,8 @@ use Rattle.papaya_points.specs.Given.Reserves.declared.reserve.Reserving.TheVari
 use Rattle.papaya_points.specs.Given.Raw.declared.machines.answer.Called.{Called}
 use Rattle.papaya_points.specs.Given.Raw.declared.machines.answer.Called.TheVariants as called
 use Rattle.papaya_points.specs.Given.Raw.declared.machines.answer.End.TheVariants as ends
+use Rattle.papaya_points.specs.Given.Raw.declared.machines.asking.Asking.TheVariants as asking
+use Rattle.papaya_points.specs.Given.Raw.declared.machines.asking.Gap.TheVariants as gaps
 use Rattle.papaya_points.specs.Given.Raw.declared.machines.call.Calling.{Calling}
 use Rattle.papaya_points.specs.Given.Raw.declared.machines.call.Calling.TheVariants as calls
 use Rattle.papaya_points.specs.Given.Sweeps.Sweep.{sweep_plan}
@@ -31,32 +36,64 @@ use Rattle.papaya_points.specs.Given.Sweeps.declared.sweep.Swept.TheVariants as 
 abbrev pub IsRoom : Fault → Type 0
 IsRoom fault = (fault ≡ Memory) ⊎ (fault ≡ Capacity)
 
+-- Each fault that a machine has to tell, at whichever of its points, is such a one, and each table behind which it is to put another one once the pairs are
+-- counted is of these. A reservation is to need no more places than a table can have.
+module _ (Is : Fault → Type 0) (Last : Table → Reason → Type 0) where
+  abbrev pub StandsInMaking : Making → Type 0
+  StandsInMaking (makes.Sums before reason sum) = Last before reason
+  StandsInMaking (makes.Refused fault) = Is fault
+  StandsInMaking _ = Unit {0}
+
+  abbrev pub StandsInCopying : Copying → Type 0
+  StandsInCopying (copies.Grows word code making) = StandsInMaking making.stands
+  StandsInCopying (copies.Remakes making) = StandsInMaking making.stands
+  StandsInCopying (copies.Tallies word fault) = Is fault
+  StandsInCopying (copies.Unmarks word fault) = Is fault
+  StandsInCopying (copies.Unclaims fault) = Is fault
+  StandsInCopying (copies.Refused fault) = Is fault
+  StandsInCopying _ = Unit {0}
+
+  abbrev pub StandsInReserving : Reserving → Type 0
+  StandsInReserving (reserves.Makes making) = StandsInMaking making.stands
+  StandsInReserving (reserves.Follows table need) = need ≤ 2 ^ 48
+  StandsInReserving (reserves.Grows table making) = StandsInMaking making.stands
+  StandsInReserving (reserves.Copies copier) = StandsInCopying copier.stands
+  StandsInReserving (reserves.Refused fault) = Is fault
+  StandsInReserving _ = Unit {0}
+
+  abbrev pub StandsInSweeping : Sweeping → Type 0
+  StandsInSweeping (sweeps.Copies copier) = StandsInCopying copier.stands
+  StandsInSweeping (sweeps.Refused fault) = Is fault
+  StandsInSweeping _ = Unit {0}
+
+  -- of a call in this table: at its end it is of these, too, where a pair is asked for that is to be stored behind it
+  abbrev pub StandsInCalling : Table → Calling → Type 0
+  StandsInCalling table (calls.Firsts making) = StandsInMaking making.stands
+  StandsInCalling table (calls.Allocs making) = StandsInMaking making.stands
+  StandsInCalling table (calls.Helps copier goal) = StandsInCopying copier.stands
+  StandsInCalling table (calls.Copies copier) = StandsInCopying copier.stands
+  StandsInCalling table (calls.Asks (asking.Absent gaps.Last)) = (reason : Reason) → GoesByTable reason → Last table reason
+  StandsInCalling table (calls.Drops (ends.Refused fault)) = Is fault
+  StandsInCalling table (calls.Over (ends.Refused fault)) = Is fault
+  StandsInCalling table _ = Unit {0}
+
+-- any table
+abbrev pub AnyTable : Table → Reason → Type 0
+AnyTable before reason = Unit {0}
+
 -- Each fault that a machine has to tell, at whichever of its points, is such a one;
 module _ (Is : Fault → Type 0) where
   abbrev pub SoInMaking : Making → Type 0
-  SoInMaking (makes.Refused fault) = Is fault
-  SoInMaking _ = Unit {0}
+  SoInMaking stands = StandsInMaking Is AnyTable stands
 
   abbrev pub SoInCopying : Copying → Type 0
-  SoInCopying (copies.Grows word code making) = SoInMaking making.stands
-  SoInCopying (copies.Remakes making) = SoInMaking making.stands
-  SoInCopying (copies.Tallies word fault) = Is fault
-  SoInCopying (copies.Unmarks word fault) = Is fault
-  SoInCopying (copies.Unclaims fault) = Is fault
-  SoInCopying (copies.Refused fault) = Is fault
-  SoInCopying _ = Unit {0}
+  SoInCopying stands = StandsInCopying Is AnyTable stands
 
   abbrev pub SoInReserving : Reserving → Type 0
-  SoInReserving (reserves.Makes making) = SoInMaking making.stands
-  SoInReserving (reserves.Grows table making) = SoInMaking making.stands
-  SoInReserving (reserves.Copies copier) = SoInCopying copier.stands
-  SoInReserving (reserves.Refused fault) = Is fault
-  SoInReserving _ = Unit {0}
+  SoInReserving stands = StandsInReserving Is AnyTable stands
 
   abbrev pub SoInSweeping : Sweeping → Type 0
-  SoInSweeping (sweeps.Copies copier) = SoInCopying copier.stands
-  SoInSweeping (sweeps.Refused fault) = Is fault
-  SoInSweeping _ = Unit {0}
+  SoInSweeping stands = StandsInSweeping Is AnyTable stands
 
   abbrev pub SoInCalling : Calling → Type 0
   SoInCalling (calls.Firsts making) = SoInMaking making.stands

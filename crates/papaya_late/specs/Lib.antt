@@ -13,6 +13,7 @@ pub mod LateReserves
 pub mod LateToldReserves
 pub mod LastsReserves
 pub mod Faults
+pub mod Ends
 pub mod Kinds
 pub mod FactsSweeps
 pub mod ToldSweeps

@@ -5,6 +5,7 @@ pub mod Calls
 pub mod ComesBack
 pub mod HandsBack
 pub mod Keys
+pub mod Lasts
 pub mod Lawful
 pub mod Lookups
 pub mod Making

@@ -1,5 +1,5 @@
 -- The map that one owner has in a memory of its own, between its calls, and its pairs as a list.
-use Rattle.std.specs.Prelude.{◌≡◌, ℕ, ◌%◌, ◌^◌, ◌<◌, Bool, true, List, [], ◌∷◌, ◌++◌, Result, Ok, Err, Option, Some, None, fold, if◌then◌else◌, ◌⊎◌}
+use Rattle.std.specs.Prelude.{◌≡◌, ℕ, ◌%◌, ◌^◌, ◌<◌, ◌≤◌, Bool, true, List, [], ◌∷◌, ◌++◌, Result, Ok, Err, Option, Some, None, fold, if◌then◌else◌, ◌⊎◌}
 use Rattle.std.specs.Int.{IsPowerOfTwo}
 use Rattle.seize_words.specs.Mem.{Mem, value_at}
 use Rattle.seize_words.specs.Word.{block_in}
@@ -24,6 +24,8 @@ use Rattle.papaya_owned.specs.Standing.{Standing, Waits}
 use Rattle.papaya_owned.specs.declared.machines.Stop.{Stop}
 use Rattle.papaya_owned.specs.declared.machines.Stop.TheVariants as stop
 use Rattle.seize_words.specs.declared.fault.Fault.{Fault}
+use Rattle.seize_words.specs.declared.fault.Fault.TheVariants.{Capacity}
+use Rattle.papaya_shown.specs.Chain.{CannotGrowIn}
 
 -- the hash that a hasher gives to what a key writes
 abbrev pub hashed_by : {K S H : Type 0} → (H → ℕ) → (H → List ℕ → H) → (S → H) → (K → List (List ℕ)) → S → K → ℕ
@@ -45,6 +47,7 @@ module _ {K V : Type 0} (same : K → K → Bool) (hash : K → ℕ) (setting : 
   pub record Holds (m : Mem (Node K V)) (xs : List (K × V)) : Type 0 where
     pub lawful : AreLawful same hash
     pub initial : IsPowerOfTwo setting.initial
+    pub few : setting.initial ≤ 2 ^ 48
     pub one_shard : setting.mask ≡ 0
     pub incremental : is_incremental setting.mode ≡ true
     pub size : setting.batch_size < 2 ^ 64
@@ -85,10 +88,11 @@ module _ {K V : Type 0} (same : K → K → Bool) (hash : K → ℕ) (setting : 
   AnswersBy (answers.Removed word) =
       (x : K × V) × (found_by keys xs ≡ Some x) × IsPairAt m word x × Holds same hash setting m (left_by keys xs) × Waits m (block_in word) x (left_by keys xs)
 
+  -- Where it is refused, no pair has changed, and where that is for the length of a table, none can follow the last one.
   abbrev pub EndsBy : Result Stop Fault → Type 0
   EndsBy (Ok (stop.Answered answer)) = Fits kind.present kind.absent kind.takes answer × AnswersBy answer
   EndsBy (Ok (stop.Asks asked)) = TellsFit kind.present kind.absent kind.takes {T = Node K V} (called.Asks asked)
-  EndsBy (Err fault) = FaultFits kind.present kind.absent kind.takes fault × Holds same hash setting m xs
+  EndsBy (Err fault) = FaultFits kind.present kind.absent kind.takes fault × Holds same hash setting m xs × (fault ≡ Capacity → CannotGrowIn m setting)
 
 -- an answer with which the call's own pair is in the map
 abbrev pub PutsIt : KeyAnswer → Type 0

@@ -1,5 +1,5 @@
 -- Room for pairs in the map of one owner.
-use Rattle.std.specs.Prelude.{◌≡◌, ℕ, ◌<◌, ◌≤◌, ◌^◌, ◌⊎◌, Bool, List, length, Result, Ok, Err, Some}
+use Rattle.std.specs.Prelude.{◌≡◌, ◌≢◌, ℕ, ◌<◌, ◌≤◌, ◌^◌, ◌⊎◌, Bool, List, length, Result, Ok, Err, Some}
 use Rattle.seize_words.specs.Mem.{Mem, value_at, word_at}
 use Rattle.seize_words.specs.Word.{block_in}
 use Rattle.seize_words.specs.declared.at.At.TheVariants.{Root}
@@ -9,6 +9,7 @@ use Rattle.papaya_tables.specs.Lengths.{places_for}
 use Rattle.papaya_tables.specs.declared.node.Node.{Node}
 use Rattle.papaya_tables.specs.declared.node.Node.TheVariants as node
 use Rattle.papaya_tables.specs.declared.setting.Setting.{Setting}
+use Rattle.papaya_shown.specs.Chain.{CannotGrowIn}
 use Rattle.papaya_whole.specs.Given.Reserves.Reserve.{needed}
 use Rattle.papaya_whole.specs.Given.Late.Faults.{IsRoom}
 use Rattle.papaya_owned.specs.Owned.{Holds}
@@ -16,6 +17,14 @@ use Rattle.papaya_owned.specs.Owned.{Holds}
 -- for so many pairs no table is long enough
 abbrev pub AreTooMany : ℕ → Type 0
 AreTooMany pairs = 2 ^ 48 < places_for pairs
+
+-- so many further pairs need more places than a table can have, by themselves, or beside so many
+abbrev pub NeedTooMany : ℕ → ℕ → Type 0
+NeedTooMany additional count = (2 ^ 48 < needed additional 0) ⊎ (2 ^ 48 < needed additional count)
+
+-- why no table can be made for them: none can follow the last one of the map, or they need too many places
+abbrev pub CannotMakeRoom : {K V : Type 0} → Setting → Mem (Node K V) → ℕ → ℕ → Type 0
+CannotMakeRoom setting m additional count = CannotGrowIn m setting ⊎ NeedTooMany additional count
 
 -- Why there is no map with room for so many pairs: they are too many; or they are not, and memory was refused.
 abbrev pub IsUnmade : ℕ → Fault → Type 0
@@ -25,6 +34,7 @@ IsUnmade pairs fault = ((fault ≡ Capacity) × AreTooMany pairs) ⊎ ((fault �
 pub record HasRoomFor {K V : Type 0} (setting : Setting) (m : Mem (Node K V)) (additional count : ℕ) : Type 0 where
   pub root : ℕ
   pub root_is : word_at m (Root setting.root) ≡ Some root
+  pub there : root ≢ 0
   pub len : ℕ
   pub limit : ℕ
   pub turn : ℕ
@@ -34,4 +44,4 @@ pub record HasRoomFor {K V : Type 0} (setting : Setting) (m : Mem (Node K V)) (a
 -- What a reservation has come to: no pair has changed, and there is room; or it was refused for want of it.
 abbrev pub RoomBy : {K V : Type 0} → (K → K → Bool) → (K → ℕ) → Setting → ℕ → Mem (Node K V) → List (K × V) → Result Unit Fault → Type 0
 RoomBy same hash setting additional m xs (Ok done) = Holds same hash setting m xs × HasRoomFor setting m additional (length xs)
-RoomBy same hash setting additional m xs (Err fault) = Holds same hash setting m xs × IsRoom fault
+RoomBy same hash setting additional m xs (Err fault) = Holds same hash setting m xs × IsRoom fault × (fault ≡ Capacity → CannotMakeRoom setting m additional (length xs))

@@ -3,6 +3,7 @@ use Rattle.std.specs.Prelude.{◌≡◌, ℕ, Bool, List, Result, Ok, Err, Optio
 use Rattle.std.proofs.Common.{sym, subst, inl, inr}
 use Rattle.seize_words.specs.Mem.{Mem}
 use Rattle.seize_words.specs.declared.fault.Fault.{Fault}
+use Rattle.seize_words.specs.declared.fault.Fault.TheVariants.{Capacity}
 use Rattle.papaya_tables.specs.declared.node.Node.{Node}
 use Rattle.papaya_tables.specs.declared.setting.Setting.{Setting}
 use Rattle.papaya_raw.specs.declared.machines.answer.KeyAnswer.{KeyAnswer}
@@ -16,6 +17,7 @@ use Rattle.papaya_asks.specs.declared.computing.Computed.TheVariants as computed
 use Rattle.papaya_asks.specs.declared.computing.Operation.{Operation}
 use Rattle.papaya_asks.specs.declared.refused.RefusedKey.{RefusedKey}
 use Rattle.papaya_asks.specs.declared.refused.Refused.{Refused}
+use Rattle.papaya_owned.specs.Given.Shown.Chain.{CannotGrowIn}
 use Rattle.papaya_owned.specs.Owned.{found_by}
 use Rattle.papaya_resting.specs.Asking.{HasDone, IsRefusedFor, ComesToIt, ComputesToIt, changed_by, ended_by, computing_ended_by}
 use Rattle.papaya_resting.specs.Lasts.{RestsWith, no_words, words_of, words_of_computing, words_of_end}
@@ -34,12 +36,17 @@ module _ {K V : Type 0} (same : K → K → Bool) (hash : K → ℕ) (setting : 
     done_so (answers.Removed word) a = (a.0, a.2, a.1, record { holds = a.4; taken_is = a.3; met_is = tt })
 
     pub refused_for : (fault : Fault) → RefusedAs same hash setting m keys xs its Told fault → IsRefusedFor keys Told xs fault × RestsWith same hash setting m no_words xs None None
-    refused_for fault (inl room, holds) = (inl room, record { holds = holds; taken_is = tt; met_is = tt })
-    refused_for fault (inr why, holds) = (inr (why.0, why.2, why.1), record { holds = holds; taken_is = tt; met_is = tt })
+    refused_for fault (inl room, holds, ends) = (inl room, record { holds = holds; taken_is = tt; met_is = tt })
+    refused_for fault (inr why, holds, ends) = (inr (why.0, why.2, why.1), record { holds = holds; taken_is = tt; met_is = tt })
 
     ends_so : (r : Result KeyAnswer Fault) → EndsAs same hash setting m keys xs its Told r → ComesToIt keys its Told xs (RestsWith same hash setting m (words_of_end r)) (λ fault. fault) (ended_by r)
     ends_so (Ok answer) e = done_so answer e
     ends_so (Err fault) e = refused_for fault e
+
+    -- for the length of a table only where none can follow the last one
+    end_long : (r : Result KeyAnswer Fault) → EndsAs same hash setting m keys xs its Told r → IfErr (ended_by r) (λ (fault : Fault). fault ≡ Capacity → CannotGrowIn m setting)
+    end_long (Ok answer) e = tt
+    end_long (Err fault) e = e.2
 
   -- told to change nothing, it has found what was there
   pub aborted_so : (answer : KeyAnswer) → AnswersAs same hash setting m keys xs its (λ about said. said ≡ reply.Abort) answer → RestsWith same hash setting m (words_of answer) xs None (found_by keys xs)
@@ -61,6 +68,9 @@ module _ {K V : Type 0} (same : K → K → Bool) (hash : K → ℕ) (setting : 
     pub ends_as : (last : Last) → last ≡ words_of_end r → (d : Result Change Fault) → d ≡ ended_by r → ComesToIt keys its Told xs (RestsWith same hash setting m last) (λ fault. fault) d
     ends_as = kept_as Told (λ fault. fault) r (ends_so Told r e)
 
+    pub end_capacity : (d : Result Change Fault) → d ≡ ended_by r → IfErr d (λ (fault : Fault). fault ≡ Capacity → CannotGrowIn m setting)
+    end_capacity d is = subst (λ x. IfErr x (λ (fault : Fault). fault ≡ Capacity → CannotGrowIn m setting)) (sym is) (end_long Told r e)
+
 module _ {K V : Type 0} (same : K → K → Bool) (hash : K → ℕ) (setting : Setting) (m : Mem (Node K V)) (key : K) (xs : List (K × V)) where
   module _ (Told : Option (K × V) → Reply V → Type 0) where
     comes_so : (r : Result KeyAnswer (RefusedKey K)) → ComesTo same hash setting m key xs Told r
@@ -72,6 +82,10 @@ module _ {K V : Type 0} (same : K → K → Bool) (hash : K → ℕ) (setting : 
     key_back (Ok answer) e = tt
     key_back (Err r) e = e.1
 
+    key_long : (r : Result KeyAnswer (RefusedKey K)) → ComesTo same hash setting m key xs Told r → IfErr (ended_by r) (λ (e : RefusedKey K). e.fault ≡ Capacity → CannotGrowIn m setting)
+    key_long (Ok answer) e = tt
+    key_long (Err r) e = e.0.2
+
     module _ (r : Result KeyAnswer (RefusedKey K)) (e : ComesTo same hash setting m key xs Told r) where
       pub comes_as : (last : Last) → last ≡ words_of_end r → (d : Result Change (RefusedKey K)) → d ≡ ended_by r
           → ComesToIt (same key) (Some key) Told xs (RestsWith same hash setting m last) (λ (e : RefusedKey K). e.fault) d
@@ -79,6 +93,9 @@ module _ {K V : Type 0} (same : K → K → Bool) (hash : K → ℕ) (setting : 
 
       pub key_comes_back : (d : Result Change (RefusedKey K)) → d ≡ ended_by r → IfErr d (λ e. e.key ≡ key)
       key_comes_back d is = subst (λ x. IfErr x (λ (e : RefusedKey K). e.key ≡ key)) (sym is) (key_back r e)
+
+      pub key_capacity : (d : Result Change (RefusedKey K)) → d ≡ ended_by r → IfErr d (λ (e : RefusedKey K). e.fault ≡ Capacity → CannotGrowIn m setting)
+      key_capacity d is = subst (λ x. IfErr x (λ (e : RefusedKey K). e.fault ≡ Capacity → CannotGrowIn m setting)) (sym is) (key_long r e)
 
     with_so : (value : V) (r : Result KeyAnswer (Refused K V)) → ComesToWith same hash setting m key xs value Told r
         → ComesToIt (same key) (Some key) Told xs (RestsWith same hash setting m (words_of_end r)) (λ (e : Refused K V). e.fault) (ended_by r)
@@ -89,6 +106,10 @@ module _ {K V : Type 0} (same : K → K → Bool) (hash : K → ℕ) (setting : 
     pair_back value (Ok answer) e = tt
     pair_back value (Err r) e = (e.1, e.2)
 
+    pair_long : (value : V) (r : Result KeyAnswer (Refused K V)) → ComesToWith same hash setting m key xs value Told r → IfErr (ended_by r) (λ (e : Refused K V). e.fault ≡ Capacity → CannotGrowIn m setting)
+    pair_long value (Ok answer) e = tt
+    pair_long value (Err r) e = e.0.2
+
     module _ (value : V) (r : Result KeyAnswer (Refused K V)) (e : ComesToWith same hash setting m key xs value Told r) where
       pub with_as : (last : Last) → last ≡ words_of_end r → (d : Result Change (Refused K V)) → d ≡ ended_by r
           → ComesToIt (same key) (Some key) Told xs (RestsWith same hash setting m last) (λ (e : Refused K V). e.fault) d
@@ -96,6 +117,9 @@ module _ {K V : Type 0} (same : K → K → Bool) (hash : K → ℕ) (setting : 
 
       pub pair_comes_back : (d : Result Change (Refused K V)) → d ≡ ended_by r → IfErr d (λ e. (e.key ≡ key) × (e.value ≡ value))
       pair_comes_back d is = subst (λ x. IfErr x (λ (e : Refused K V). (e.key ≡ key) × (e.value ≡ value))) (sym is) (pair_back value r e)
+
+      pub pair_capacity : (d : Result Change (Refused K V)) → d ≡ ended_by r → IfErr d (λ (e : Refused K V). e.fault ≡ Capacity → CannotGrowIn m setting)
+      pair_capacity d is = subst (λ x. IfErr x (λ (e : Refused K V). e.fault ≡ Capacity → CannotGrowIn m setting)) (sym is) (pair_long value r e)
 
   module _ {T : Type 0} (Gives : Option (K × V) → Operation V T → Type 0) where
     abbrev ComputesWith : Last → Result (Compute T) (RefusedKey K) → Type 0
@@ -111,6 +135,11 @@ module _ {K V : Type 0} (same : K → K → Bool) (hash : K → ℕ) (setting : 
     computing_key_back (Ok (computed.Aborted end answer)) e = tt
     computing_key_back (Err r) e = e.1
 
+    computing_long : (r : Result (Computed T) (RefusedKey K)) → ComputesTo same hash setting m key xs Gives r → IfErr (computing_ended_by r) (λ (e : RefusedKey K). e.fault ≡ Capacity → CannotGrowIn m setting)
+    computing_long (Ok (computed.Changed answer)) e = tt
+    computing_long (Ok (computed.Aborted end answer)) e = tt
+    computing_long (Err r) e = e.0.2
+
     module _ (r : Result (Computed T) (RefusedKey K)) (e : ComputesTo same hash setting m key xs Gives r) where
       pub computes_as : (last : Last) → last ≡ words_of_computing r → (d : Result (Compute T) (RefusedKey K)) → d ≡ computing_ended_by r
           → ComputesToIt (same key) (Some key) Gives xs (RestsWith same hash setting m last) (λ (e : RefusedKey K). e.fault) d
@@ -118,3 +147,6 @@ module _ {K V : Type 0} (same : K → K → Bool) (hash : K → ℕ) (setting : 
 
       pub key_of_computing : (d : Result (Compute T) (RefusedKey K)) → d ≡ computing_ended_by r → IfErr d (λ e. e.key ≡ key)
       key_of_computing d is = subst (λ x. IfErr x (λ (e : RefusedKey K). e.key ≡ key)) (sym is) (computing_key_back r e)
+
+      pub computing_capacity : (d : Result (Compute T) (RefusedKey K)) → d ≡ computing_ended_by r → IfErr d (λ (e : RefusedKey K). e.fault ≡ Capacity → CannotGrowIn m setting)
+      computing_capacity d is = subst (λ x. IfErr x (λ (e : RefusedKey K). e.fault ≡ Capacity → CannotGrowIn m setting)) (sym is) (computing_long r e)

@@ -1,5 +1,5 @@
 -- A map is made.
-use Rattle.std.specs.Prelude.{◌≡◌, ℕ, ◌<◌, ◌^◌, max, nat_le, if◌then◌else◌, Bool, true, false, [], ◌∷◌, ◌==◌, None, Some, Result, Ok, Err, IfOk, IfErr}
+use Rattle.std.specs.Prelude.{◌≡◌, ℕ, ◌<◌, ◌≤◌, ◌^◌, max, nat_le, if◌then◌else◌, Bool, true, false, [], ◌∷◌, ◌==◌, None, Some, Result, Ok, Err, IfOk, IfErr}
 use Rattle.std.specs.Int.{IsPowerOfTwo}
 use Rattle.std.proofs.Common.{refl, sym, ◌∙◌, ap, subst, arith}
 use Rattle.std.proofs.lemmas.Bool.{leb-true, leb-false}
@@ -33,13 +33,16 @@ module _ {K V : Type 0} (same : K → K → Bool) (hash : K → ℕ) (lawful : A
   abbrev power_of : IsPowerOfTwo setting.initial
   power_of = subst IsPowerOfTwo (sym is) power
 
+  few_of : setting.initial ≤ 2 ^ 48
+  few_of = let most = table.most in omega (arith, is, most)
+
   first : Opens same hash lawful setting power_of (omega arith) places m h (opening setting 1 places) m
   first = opens_first same hash lawful setting power_of (omega arith) places m h had inside root used (λ few. table)
 
   pub begins_ends : (n : NewMap) → n ≡ opening setting 1 places → Ends (new_map_plan {K = K} {V = V}) n m
   begins_ends n e = subst (λ (x : NewMap). Ends (new_map_plan {K = K} {V = V}) x m) (sym e) (opens_end same hash lawful setting power_of (omega arith) places m h (opening setting 1 places) m first)
 
-  made_ok : (m2 : Mem (Node K V)) (result : Result Setting Fault) → Made same hash lawful setting power_of (omega arith) places m h refl (omega arith) refl m2 result → IfOk result (λ s. Holds same hash s m2 [])
+  made_ok : (m2 : Mem (Node K V)) (result : Result Setting Fault) → Made same hash lawful setting power_of (omega arith) places m h refl (omega arith) refl few_of m2 result → IfOk result (λ s. Holds same hash s m2 [])
   made_ok m2 (Ok s) made = made
   made_ok m2 (Err fault) made = tt
 
@@ -47,7 +50,7 @@ module _ {K V : Type 0} (same : K → K → Bool) (hash : K → ℕ) (lawful : A
       → IfOk result (λ s. Holds same hash s m2 [])
   begins_holds n e n2 m2 result runs =
       made_ok m2 result
-      (runs_made same hash lawful setting power_of (omega arith) places m h refl (omega arith) refl (opening setting 1 places) m n2 m2 result
+      (runs_made same hash lawful setting power_of (omega arith) places m h refl (omega arith) refl few_of (opening setting 1 places) m n2 m2 result
       (subst (λ (x : NewMap). RunsTo (new_map_plan {K = K} {V = V}) x m n2 m2 result) e runs) first)
 
   pub begins_refused : (n : NewMap) → n ≡ opening setting 1 places → (n2 : NewMap) (m2 : Mem (Node K V)) (result : Result Setting Fault) → RunsTo (new_map_plan {K = K} {V = V}) n m n2 m2 result

@@ -1,12 +1,13 @@
 -- What a reservation has come to.
-use Rattle.std.specs.Prelude.{ℕ, Bool, List, length, Result, Ok, Err, IfErr, OnOk}
+use Rattle.std.specs.Prelude.{◌≡◌, ℕ, Bool, List, length, Result, Ok, Err, IfErr, OnOk}
 use Rattle.seize_words.specs.Mem.{Mem}
 use Rattle.seize_words.specs.declared.fault.Fault.{Fault}
+use Rattle.seize_words.specs.declared.fault.Fault.TheVariants.{Capacity}
 use Rattle.papaya_tables.specs.declared.node.Node.{Node}
 use Rattle.papaya_tables.specs.declared.setting.Setting.{Setting}
 use Rattle.papaya_owned.specs.Given.Late.Faults.{IsRoom}
 use Rattle.papaya_owned.specs.Owned.{Holds}
-use Rattle.papaya_owned.specs.Rooms.{HasRoomFor, RoomBy}
+use Rattle.papaya_owned.specs.Rooms.{CannotMakeRoom, HasRoomFor, RoomBy}
 
 module _ {K V : Type 0} (same : K → K → Bool) (hash : K → ℕ) (setting : Setting) (additional : ℕ) (m : Mem (Node K V)) (xs : List (K × V)) where
   pub room_holds : (r : Result (Unit {0}) Fault) → RoomBy same hash setting additional m xs r → Holds same hash setting m xs
@@ -20,3 +21,8 @@ module _ {K V : Type 0} (same : K → K → Bool) (hash : K → ℕ) (setting : 
   pub room_fault : (r : Result (Unit {0}) Fault) → RoomBy same hash setting additional m xs r → IfErr r IsRoom
   room_fault (Ok done) so = tt
   room_fault (Err fault) so = so.1
+
+  -- for the length of a table only where none can follow the last one, or too many places are needed
+  pub room_capacity : (r : Result (Unit {0}) Fault) → RoomBy same hash setting additional m xs r → IfErr r (λ (fault : Fault). fault ≡ Capacity → CannotMakeRoom setting m additional (length xs))
+  room_capacity (Ok done) so = tt
+  room_capacity (Err fault) so = so.2

@@ -5,6 +5,8 @@ use denote.Ref.{Bor}
 use Rattle.seize_words.specs.Mem.{Mem, value_at}
 use Rattle.seize_words.specs.Word.{block_in}
 use Rattle.seize_words.specs.declared.fault.Fault.{Fault}
+use Rattle.seize_words.specs.declared.fault.Fault.TheVariants.{Capacity}
+use Rattle.papaya_owned.specs.Given.Shown.Chain.{CannotGrowIn}
 use Rattle.papaya_tables.specs.declared.node.Node.{Node}
 use Rattle.papaya_tables.specs.declared.node.Node.TheVariants as node
 use Rattle.papaya_tables.specs.declared.setting.Setting.{Setting}
@@ -168,7 +170,7 @@ module _ {K V : Type 0} (same : K → K → Bool) (hash : K → ℕ) (setting : 
   stored_so result e s is last words = subst (λ (l : Last). Inserted l s) (sym words) (inserts_by s (subst (EndsBy same hash setting m inserts given keys xs) is e))
 
   pub refused_so : (kind : Kind) (result : Result Stop Fault) → EndsBy same hash setting m kind given keys xs result → (fault : Fault) → result ≡ Err fault
-      → FaultFits kind.present kind.absent kind.takes fault × Holds same hash setting m xs
+      → FaultFits kind.present kind.absent kind.takes fault × Holds same hash setting m xs × (fault ≡ Capacity → CannotGrowIn m setting)
   refused_so kind result e fault is = subst (EndsBy same hash setting m kind given keys xs) is e
 
 -- the pair comes back with a fault

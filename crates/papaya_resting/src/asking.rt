@@ -4,10 +4,12 @@ ghost use Rattle.std.specs.Fn.{FnOnceReturns, FnOnceReturnsAt, FnOnceTakesAt};
 ghost use Rattle.std.specs.Option.{ForNone, ForSome};
 ghost use Rattle.papaya_asks.specs.Closures.{Updating, UpdatingOrStoring, Storing};
 ghost use Rattle.papaya_holds.specs.Held.{HoldsOn, held_in};
+ghost use Rattle.papaya_owned.specs.Given.Shown.Chain.{CannotGrowIn};
 ghost use Rattle.papaya_owned.specs.Owned.{Holds, found_by, hashed_by};
 ghost use Rattle.papaya_resting.specs.Asking.{ComesToIt};
 ghost use Rattle.papaya_resting.specs.Held.{stored_in};
 ghost use Rattle.papaya_resting.specs.Lasts.{RestsWith, pair_in};
+ghost use Rattle.seize_words.specs.declared.fault.Fault.TheVariants.{Capacity};
 
 use crate::change::{Change, ended};
 use crate::changes::refresh;
@@ -31,6 +33,7 @@ pub fn update<K: Eq + Hash + Drop, V: Drop, S: BuildHasher, F: FnOnce(&V) -> V>(
     ensures comes { (xs : List (K × V)) → Holds K.eq (hashed_by S.Hasher.finish S.Hasher.write S.build_hasher K.hash_input hasher.now) setting memory.old xs
         → ComesToIt (K.eq key) (Some key) (Updating (FnOnceReturnsAt F.FnOnce make)) xs (RestsWith K.eq (hashed_by S.Hasher.finish S.Hasher.write S.build_hasher K.hash_input hasher.now) setting memory.new last.new) (λ r. r.fault) result }
     ensures back { IfErr result (λ r. r.key ≡ key) }
+    ensures capacity { (xs : List (K × V)) → Holds K.eq (hashed_by S.Hasher.finish S.Hasher.write S.build_hasher K.hash_input hasher.now) setting memory.old xs → IfErr result (λ r. r.fault ≡ Capacity → CannotGrowIn memory.new setting) }
     ensures keeps { (xs : List (K × V)) → Holds K.eq (hashed_by S.Hasher.finish S.Hasher.write S.build_hasher K.hash_input hasher.now) setting memory.old xs
         → HoldsOn (stored_in result (pair_in memory.new last.new.met)) xs (held_in memory.old) (held_in memory.new) }
 {
@@ -62,6 +65,7 @@ pub fn update_or_insert_with<
     ensures comes { (xs : List (K × V)) → Holds K.eq (hashed_by S.Hasher.finish S.Hasher.write S.build_hasher K.hash_input hasher.now) setting memory.old xs
         → ComesToIt (K.eq key) (Some key) (UpdatingOrStoring (FnOnceReturnsAt F.FnOnce make) (λ value. FnOnceReturns B.FnOnce begin tt value)) xs (RestsWith K.eq (hashed_by S.Hasher.finish S.Hasher.write S.build_hasher K.hash_input hasher.now) setting memory.new last.new) (λ r. r.fault) result }
     ensures back { IfErr result (λ r. r.key ≡ key) }
+    ensures capacity { (xs : List (K × V)) → Holds K.eq (hashed_by S.Hasher.finish S.Hasher.write S.build_hasher K.hash_input hasher.now) setting memory.old xs → IfErr result (λ r. r.fault ≡ Capacity → CannotGrowIn memory.new setting) }
     ensures keeps { (xs : List (K × V)) → Holds K.eq (hashed_by S.Hasher.finish S.Hasher.write S.build_hasher K.hash_input hasher.now) setting memory.old xs
         → HoldsOn (stored_in result (pair_in memory.new last.new.met)) xs (held_in memory.old) (held_in memory.new) }
 {
@@ -86,6 +90,7 @@ pub fn try_insert_with<K: Eq + Hash + Drop, V: Drop, S: BuildHasher, B: FnOnce()
     ensures comes { (xs : List (K × V)) → Holds K.eq (hashed_by S.Hasher.finish S.Hasher.write S.build_hasher K.hash_input hasher.now) setting memory.old xs
         → ComesToIt (K.eq key) (Some key) (Storing (λ value. FnOnceReturns B.FnOnce begin tt value)) xs (RestsWith K.eq (hashed_by S.Hasher.finish S.Hasher.write S.build_hasher K.hash_input hasher.now) setting memory.new last.new) (λ r. r.fault) result }
     ensures back { IfErr result (λ r. r.key ≡ key) }
+    ensures capacity { (xs : List (K × V)) → Holds K.eq (hashed_by S.Hasher.finish S.Hasher.write S.build_hasher K.hash_input hasher.now) setting memory.old xs → IfErr result (λ r. r.fault ≡ Capacity → CannotGrowIn memory.new setting) }
     ensures keeps { (xs : List (K × V)) → Holds K.eq (hashed_by S.Hasher.finish S.Hasher.write S.build_hasher K.hash_input hasher.now) setting memory.old xs
         → HoldsOn (stored_in result (pair_in memory.new last.new.met)) xs (held_in memory.old) (held_in memory.new) }
 {
@@ -111,6 +116,7 @@ pub fn update_or_insert<K: Eq + Hash + Drop, V: Drop, S: BuildHasher, F: FnOnce(
     ensures comes { (xs : List (K × V)) → Holds K.eq (hashed_by S.Hasher.finish S.Hasher.write S.build_hasher K.hash_input hasher.now) setting memory.old xs
         → ComesToIt (K.eq key) (Some key) (UpdatingOrStoring (FnOnceReturnsAt F.FnOnce make) (λ new. new ≡ value)) xs (RestsWith K.eq (hashed_by S.Hasher.finish S.Hasher.write S.build_hasher K.hash_input hasher.now) setting memory.new last.new) (λ r. r.fault) result }
     ensures back { IfErr result (λ r. (r.key ≡ key) × (r.value ≡ value)) }
+    ensures capacity { (xs : List (K × V)) → Holds K.eq (hashed_by S.Hasher.finish S.Hasher.write S.build_hasher K.hash_input hasher.now) setting memory.old xs → IfErr result (λ r. r.fault ≡ Capacity → CannotGrowIn memory.new setting) }
     ensures keeps { (xs : List (K × V)) → Holds K.eq (hashed_by S.Hasher.finish S.Hasher.write S.build_hasher K.hash_input hasher.now) setting memory.old xs
         → HoldsOn (stored_in result (pair_in memory.new last.new.met)) xs (held_in memory.old) (held_in memory.new) }
 {

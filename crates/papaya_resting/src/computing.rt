@@ -2,10 +2,12 @@
 ghost use Rattle.std.specs.Prelude.{◌≡◌, List, Some, IfErr};
 ghost use Rattle.papaya_asks.specs.Closures.{ComputesAs, ComputingTakes};
 ghost use Rattle.papaya_holds.specs.Held.{HoldsOn, held_in};
+ghost use Rattle.papaya_owned.specs.Given.Shown.Chain.{CannotGrowIn};
 ghost use Rattle.papaya_owned.specs.Owned.{Holds, found_by, hashed_by};
 ghost use Rattle.papaya_resting.specs.Asking.{ComputesToIt};
 ghost use Rattle.papaya_resting.specs.Held.{stored_computing};
 ghost use Rattle.papaya_resting.specs.Lasts.{RestsWith, pair_in};
+ghost use Rattle.seize_words.specs.declared.fault.Fault.TheVariants.{Capacity};
 
 use crate::change::{Compute, computed};
 use crate::changes::refresh;
@@ -35,6 +37,7 @@ pub fn compute<
     ensures comes { (xs : List (K × V)) → Holds K.eq (hashed_by S.Hasher.finish S.Hasher.write S.build_hasher K.hash_input hasher.now) setting memory.old xs
         → ComputesToIt (K.eq key) (Some key) (ComputesAs F.FnOnce decide) xs (RestsWith K.eq (hashed_by S.Hasher.finish S.Hasher.write S.build_hasher K.hash_input hasher.now) setting memory.new last.new) (λ r. r.fault) result }
     ensures back { IfErr result (λ r. r.key ≡ key) }
+    ensures capacity { (xs : List (K × V)) → Holds K.eq (hashed_by S.Hasher.finish S.Hasher.write S.build_hasher K.hash_input hasher.now) setting memory.old xs → IfErr result (λ r. r.fault ≡ Capacity → CannotGrowIn memory.new setting) }
     ensures keeps { (xs : List (K × V)) → Holds K.eq (hashed_by S.Hasher.finish S.Hasher.write S.build_hasher K.hash_input hasher.now) setting memory.old xs
         → HoldsOn (stored_computing result (pair_in memory.new last.new.met)) xs (held_in memory.old) (held_in memory.new) }
 {

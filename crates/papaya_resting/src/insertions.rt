@@ -2,6 +2,8 @@
 ghost use Rattle.std.specs.Prelude.{◌≡◌, true, false, List, [], ◌∷◌, ◌++◌, None, Some, is_some, IsTrue, IfOk, IfErr, OnOk, OnErr};
 ghost use Rattle.papaya_owned.specs.Given.Callers.Kind.{Kind};
 ghost use Rattle.papaya_owned.specs.Given.Late.Faults.{IsRoom};
+ghost use Rattle.papaya_owned.specs.Given.Shown.Chain.{CannotGrowIn};
+ghost use Rattle.seize_words.specs.declared.fault.Fault.TheVariants.{Capacity};
 ghost use Rattle.papaya_tables.specs.declared.node.Node.TheVariants as node;
 ghost use Rattle.papaya_holds.specs.Held.{HoldsOn, held_in};
 ghost use Rattle.papaya_owned.specs.Calling.{HasStopped};
@@ -101,6 +103,7 @@ pub fn insert<K: Eq + Hash + Drop, V: Drop, S: BuildHasher>(
         → OnErr result (RestsWith K.eq (hashed_by S.Hasher.finish S.Hasher.write S.build_hasher K.hash_input hasher.now) setting memory.new last.new xs None None) }
     ensures back { IfErr result (λ r. (r.key ≡ key) × (r.value ≡ value)) }
     ensures fault { IfErr result (λ r. IsRoom r.fault) }
+    ensures capacity { (xs : List (K × V)) → Holds K.eq (hashed_by S.Hasher.finish S.Hasher.write S.build_hasher K.hash_input hasher.now) setting memory.old xs → IfErr result (λ r. r.fault ≡ Capacity → CannotGrowIn memory.new setting) }
     ensures keeps { (xs : List (K × V)) → Holds K.eq (hashed_by S.Hasher.finish S.Hasher.write S.build_hasher K.hash_input hasher.now) setting memory.old xs
         → HoldsOn (if_stored result (key, value)) xs (held_in memory.old) (held_in memory.new) }
 {
@@ -135,6 +138,7 @@ pub fn try_insert<K: Eq + Hash + Drop, V: Drop, S: BuildHasher>(
         → OnErr result (RestsWith K.eq (hashed_by S.Hasher.finish S.Hasher.write S.build_hasher K.hash_input hasher.now) setting memory.new last.new xs None None) }
     ensures back { IfErr result (λ r. (r.key ≡ key) × (r.value ≡ value)) }
     ensures fault { IfErr result (λ r. IsRoom r.fault) }
+    ensures capacity { (xs : List (K × V)) → Holds K.eq (hashed_by S.Hasher.finish S.Hasher.write S.build_hasher K.hash_input hasher.now) setting memory.old xs → IfErr result (λ r. r.fault ≡ Capacity → CannotGrowIn memory.new setting) }
     ensures keeps { (xs : List (K × V)) → Holds K.eq (hashed_by S.Hasher.finish S.Hasher.write S.build_hasher K.hash_input hasher.now) setting memory.old xs
         → HoldsOn (if_tried result (key, value)) xs (held_in memory.old) (held_in memory.new) }
 {

@@ -1,9 +1,10 @@
 //! Room for further pairs, after a refresh.
-ghost use Rattle.std.specs.Prelude.{List, [], length, IfErr, OnOk};
+ghost use Rattle.std.specs.Prelude.{◌≡◌, List, [], length, IfErr, OnOk};
 ghost use Rattle.papaya_owned.specs.Given.Late.Faults.{IsRoom};
 ghost use Rattle.papaya_holds.specs.Held.{HoldsOn, held_in};
 ghost use Rattle.papaya_owned.specs.Owned.{Holds, hashed_by};
-ghost use Rattle.papaya_owned.specs.Rooms.{HasRoomFor};
+ghost use Rattle.papaya_owned.specs.Rooms.{CannotMakeRoom, HasRoomFor};
+ghost use Rattle.seize_words.specs.declared.fault.Fault.TheVariants.{Capacity};
 
 use crate::changes::refresh;
 use papaya_owned::make_room;
@@ -24,6 +25,8 @@ pub fn reserve<K: Eq + Hash + Drop, V: Drop, S: BuildHasher>(
     ensures room { (xs : List (K × V)) → Holds K.eq (hashed_by S.Hasher.finish S.Hasher.write S.build_hasher K.hash_input hasher.now) setting memory.old xs
         → OnOk result (HasRoomFor setting memory.new additional (length xs)) }
     ensures fault { IfErr result IsRoom }
+    ensures capacity { (xs : List (K × V)) → Holds K.eq (hashed_by S.Hasher.finish S.Hasher.write S.build_hasher K.hash_input hasher.now) setting memory.old xs
+        → IfErr result (λ fault. fault ≡ Capacity → CannotMakeRoom setting memory.new additional (length xs)) }
     ensures keeps { (xs : List (K × V)) → Holds K.eq (hashed_by S.Hasher.finish S.Hasher.write S.build_hasher K.hash_input hasher.now) setting memory.old xs
         → HoldsOn [] xs (held_in memory.old) (held_in memory.new) }
 {

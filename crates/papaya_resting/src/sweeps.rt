@@ -1,9 +1,11 @@
 //! What goes over all pairs, and removes them, each after a refresh.
-ghost use Rattle.std.specs.Prelude.{List, [], IfErr, OnOk, OnErr};
+ghost use Rattle.std.specs.Prelude.{◌≡◌, List, [], IfErr, OnOk, OnErr};
 ghost use Rattle.papaya_owned.specs.Given.Late.Faults.{IsRoom};
+ghost use Rattle.papaya_owned.specs.Given.Shown.Chain.{CannotGrowIn};
 ghost use Rattle.papaya_holds.specs.Held.{HoldsOn, held_in};
 ghost use Rattle.papaya_owned.specs.Owned.{Holds, hashed_by};
 ghost use Rattle.papaya_sifts.specs.Retaining.{KeepsOf};
+ghost use Rattle.seize_words.specs.declared.fault.Fault.TheVariants.{Capacity};
 
 use crate::changes::refresh;
 use crate::counting::count;
@@ -12,7 +14,7 @@ use papaya_tables::{Node, Setting};
 use seize_words::{Fault, Plain};
 use std::hash::{BuildHasher, Hash};
 
-/// Removes all pairs, after a refresh. The faults are `Fault::Capacity` and `Fault::Memory`.
+/// Removes all pairs, after a refresh. The faults are `Fault::Capacity`, where no table can follow the map's last one, and `Fault::Memory`.
 pub fn clear<K: Eq + Hash + Drop, V: Drop, S: BuildHasher>(
     memory: &mut Plain<Node<K, V>>,
     setting: Setting,
@@ -24,6 +26,7 @@ pub fn clear<K: Eq + Hash + Drop, V: Drop, S: BuildHasher>(
     ensures refused { (xs : List (K × V)) → Holds K.eq (hashed_by S.Hasher.finish S.Hasher.write S.build_hasher K.hash_input hasher.now) setting memory.old xs
         → OnErr result (Holds K.eq (hashed_by S.Hasher.finish S.Hasher.write S.build_hasher K.hash_input hasher.now) setting memory.new xs) }
     ensures fault { IfErr result IsRoom }
+    ensures capacity { (xs : List (K × V)) → Holds K.eq (hashed_by S.Hasher.finish S.Hasher.write S.build_hasher K.hash_input hasher.now) setting memory.old xs → IfErr result (λ fault. fault ≡ Capacity → CannotGrowIn memory.new setting) }
     ensures keeps { (xs : List (K × V)) → Holds K.eq (hashed_by S.Hasher.finish S.Hasher.write S.build_hasher K.hash_input hasher.now) setting memory.old xs
         → HoldsOn [] xs (held_in memory.old) (held_in memory.new) }
 {
@@ -31,7 +34,8 @@ pub fn clear<K: Eq + Hash + Drop, V: Drop, S: BuildHasher>(
     empty(memory, setting, hasher)
 }
 
-/// Keeps just the pairs for which the closure answers `true`, after a refresh. The faults are `Fault::Capacity` and `Fault::Memory`.
+/// Keeps just the pairs for which the closure answers `true`, after a refresh. The faults are `Fault::Capacity`, where no table can follow the map's
+/// last one, and `Fault::Memory`.
 pub fn retain<K: Eq + Hash + Drop, V: Drop, S: BuildHasher, F: FnMut(&K, &V) -> bool>(
     memory: &mut Plain<Node<K, V>>,
     setting: Setting,
@@ -45,6 +49,7 @@ pub fn retain<K: Eq + Hash + Drop, V: Drop, S: BuildHasher, F: FnMut(&K, &V) -> 
     ensures refused { (xs : List (K × V)) → Holds K.eq (hashed_by S.Hasher.finish S.Hasher.write S.build_hasher K.hash_input hasher.now) setting memory.old xs
         → OnErr result (Holds K.eq (hashed_by S.Hasher.finish S.Hasher.write S.build_hasher K.hash_input hasher.now) setting memory.new xs) }
     ensures fault { IfErr result IsRoom }
+    ensures capacity { (xs : List (K × V)) → Holds K.eq (hashed_by S.Hasher.finish S.Hasher.write S.build_hasher K.hash_input hasher.now) setting memory.old xs → IfErr result (λ fault. fault ≡ Capacity → CannotGrowIn memory.new setting) }
     ensures keeps { (xs : List (K × V)) → Holds K.eq (hashed_by S.Hasher.finish S.Hasher.write S.build_hasher K.hash_input hasher.now) setting memory.old xs
         → HoldsOn [] xs (held_in memory.old) (held_in memory.new) }
 {

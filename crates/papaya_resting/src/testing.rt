@@ -1,11 +1,13 @@
 //! Removals that a test decides, each after a refresh.
-ghost use Rattle.std.specs.Prelude.{List, [], None};
+ghost use Rattle.std.specs.Prelude.{◌≡◌, List, [], None, IfErr};
 ghost use Rattle.std.specs.Option.{ForSome};
 ghost use Rattle.papaya_asks.specs.Closures.{Removing, TestsAs, TestTakes};
 ghost use Rattle.papaya_holds.specs.Held.{HoldsOn, held_in};
+ghost use Rattle.papaya_owned.specs.Given.Shown.Chain.{CannotGrowIn};
 ghost use Rattle.papaya_owned.specs.Owned.{Holds, found_by, hashed_by};
 ghost use Rattle.papaya_resting.specs.Asking.{ComesToIt};
 ghost use Rattle.papaya_resting.specs.Lasts.{RestsWith};
+ghost use Rattle.seize_words.specs.declared.fault.Fault.TheVariants.{Capacity};
 
 use crate::change::{Change, ended};
 use crate::changes::refresh;
@@ -33,6 +35,7 @@ pub fn remove_if<
         × ForSome (found_by (Q.Equivalent.equivalent asked.now) xs) (TestTakes F.FnOnce test) }
     ensures comes { (xs : List (K × V)) → Holds K.eq (hashed_by S.Hasher.finish S.Hasher.write S.build_hasher K.hash_input hasher.now) setting memory.old xs
         → ComesToIt (Q.Equivalent.equivalent asked.now) None (Removing (TestsAs F.FnOnce test)) xs (RestsWith K.eq (hashed_by S.Hasher.finish S.Hasher.write S.build_hasher K.hash_input hasher.now) setting memory.new last.new) (λ fault. fault) result }
+    ensures capacity { (xs : List (K × V)) → Holds K.eq (hashed_by S.Hasher.finish S.Hasher.write S.build_hasher K.hash_input hasher.now) setting memory.old xs → IfErr result (λ fault. fault ≡ Capacity → CannotGrowIn memory.new setting) }
     ensures keeps { (xs : List (K × V)) → Holds K.eq (hashed_by S.Hasher.finish S.Hasher.write S.build_hasher K.hash_input hasher.now) setting memory.old xs
         → HoldsOn [] xs (held_in memory.old) (held_in memory.new) }
 {

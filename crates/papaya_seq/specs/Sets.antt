@@ -1,6 +1,6 @@
 -- A set for one owner, as its callers see it, and its elements, once some were put into it.
 use denote.Ref.{Bor}
-use Rattle.std.specs.Prelude.{◌≡◌, Bool, List, [], ◌∷◌, ◌++◌, Option, filter, find, map, option_map}
+use Rattle.std.specs.Prelude.{◌≡◌, ℕ, Bool, List, [], ◌∷◌, ◌++◌, Option, filter, find, map, option_map}
 use Rattle.std.specs.Fn.{Called, CalledAt, Mut}
 use Rattle.std.specs.List.{FoldsTo}
 use Rattle.std.specs.List.Sorted.{IsPermutation}
@@ -19,10 +19,12 @@ pub record Set (K S : Type 0) : Type 0 where
   pub met : Option K
   -- all elements that its memory has: those of the set, and those that left it and were not given back
   pub held : List K
+  -- how many places its tables have, from the first one on, each with its turn
+  pub tables : List (ℕ × ℕ)
 
 -- the set of a map's keys
 abbrev pub set_of : {K V S : Type 0} → Map K V S → Set K S
-set_of m = record { elements = keys_of m.pairs; hasher = m.hasher; taken = option_map (λ x. x.0) m.taken; met = option_map (λ x. x.0) m.met; held = keys_of m.held }
+set_of m = record { elements = keys_of m.pairs; hasher = m.hasher; taken = option_map (λ x. x.0) m.taken; met = option_map (λ x. x.0) m.met; held = keys_of m.held; tables = m.tables }
 
 -- the last change took this element out of the set, or none, and put this one in, or none
 abbrev pub LastTookOut : {K S : Type 0} → Set K S → Option K → Option K → Type 0

@@ -1,24 +1,29 @@
 -- What the words of a map that rests show: its tables can be counted, and their pairs are those of the map, in some order.
-use Rattle.std.specs.Prelude.{is_some, IsTrue, IfOk, OnOk, OnErr, None}
+use Rattle.std.specs.Prelude.{◌⊎◌, ◌≤◌, zero, suc, is_some, IsTrue, IfOk, IfErr, OnOk, OnErr, None}
 use Rattle.std.specs.List.{IsDistinct}
 use Rattle.std.specs.List.Sorted.{IsPermutation}
 use Rattle.std.specs.Map.{keys_of}
-use Rattle.std.proofs.Common.{◌≡◌, ℕ, Bool, List, [], ◌++◌, Option, Some, Result, Ok, Err, length, filter, ap, sym, subst, ◌∙◌}
+use Rattle.std.proofs.Common.{◌≡◌, ℕ, Bool, List, [], ◌++◌, Option, Some, Result, Ok, Err, length, filter, ap, sym, subst, ◌∙◌, inl, inr}
 use Rattle.std.proofs.lemmas.List.Sorted.{IsPermutation-refl, IsPermutation-sym, IsPermutation-trans, IsPermutation-append_left, IsPermutation-append_right, length_permutation}
 use Rattle.seize_words.specs.declared.at.At.TheVariants.{Root}
-use Rattle.seize_words.specs.Mem.{Mem, word_at}
+use Rattle.seize_words.specs.Mem.{Mem, value_at, word_at}
+use Rattle.seize_words.specs.Word.{block_in}
+use Rattle.seize_words.specs.declared.fault.Fault.{Fault}
+use Rattle.seize_words.specs.declared.fault.Fault.TheVariants.{Capacity}
 use Rattle.papaya_tables.specs.declared.node.Node.{Node}
 use Rattle.papaya_tables.specs.declared.setting.Setting.{Setting}
 use Rattle.papaya_tables.specs.Chunks.{is_incremental}
 use Rattle.papaya_owned.specs.Given.Rule.Words.{root_word}
+use Rattle.papaya_owned.specs.Rooms.{CannotMakeRoom, HasRoomFor, NeedTooMany}
+use Rattle.papaya_owned.specs.Given.Reserves.Reserve.{needed}
 use Rattle.papaya_resting.proofs.Given.{one_each_below, keeps_by_test, holds_stands, holds_moves_none, holds_pairs}
-use Rattle.papaya_shown.specs.Chain.{CountsTables, HasTables, pairs_from_root, pairs_on, root_link, word_or_none}
+use Rattle.papaya_shown.specs.Chain.{CannotGrow, CannotGrowIn, CountsTables, FirstHas, HasTables, one_count, pairs_from_root, pairs_on, root_link, shape_of, shapes_on, word_or_none}
 use Rattle.papaya_shown.specs.Shown.{NoneMoves, Stands, pairs_stored}
 use Rattle.papaya_shown.proofs.Chains.{root_counts, all_shown}
 use denote.Ref.{Bor}
 use Rattle.std.specs.Fn.{Mut}
 use Rattle.papaya_resting.specs.Given.{HoldsOn, Holds, found_by, AnswersByTest, KeepsOf}
-use Rattle.papaya_seq_map.specs.Maps.{Map, pairs_shown}
+use Rattle.papaya_seq_map.specs.Maps.{Map, pairs_shown, tables_shown}
 use Rattle.papaya_pairs.specs.Orders.{IsOneClass}
 use Rattle.papaya_pairs.proofs.Orders.{apart_same, found_same, kept_in_any_order, none_left}
 use Rattle.papaya_seq_map.proofs.Ordered.{apart_each, keeps_same}
@@ -56,7 +61,7 @@ module _ {K V : Type 0} (same : K → K → Bool) (hash : K → ℕ) (setting : 
     shown_as ys order = IsPermutation-trans pairs xs ys shown order
 
     -- as a caller sees it
-    module _ {S : Type 0} {held : List (K × V)} (hasher : S) (taken met : Option (K × V)) (map : Map K V S) (is : ◌≡◌ {A = Map K V S} (record { pairs = pairs; hasher = hasher; taken = taken; met = met; held = held }) map) where
+    module _ {S : Type 0} {held : List (K × V)} {shapes : List (ℕ × ℕ)} (hasher : S) (taken met : Option (K × V)) (map : Map K V S) (is : ◌≡◌ {A = Map K V S} (record { pairs = pairs; hasher = hasher; taken = taken; met = met; held = held; tables = shapes }) map) where
       its_pairs : pairs ≡ map.pairs
       its_pairs = ap (λ (x : Map K V S). x.pairs) is
 
@@ -102,6 +107,39 @@ pub all_shown_as : {K V : Type 0} (m : Mem (Node K V)) (setting : Setting) (tabl
     → xs ≡ pairs_shown m setting tables
 unfolding pairs_shown
 all_shown_as m setting tables xs is = is
+
+-- where no table can follow the last one, the words show that
+pub cannot_grow : {K V : Type 0} (m : Mem (Node K V)) (setting : Setting) (tables : CountsTables m (root_link m setting)) → CannotGrowIn m setting → CannotGrow (tables_shown m setting tables)
+unfolding tables_shown
+cannot_grow m setting tables (counted, cannot) =
+    subst (λ (n : ℕ). CannotGrow (shapes_on m n (root_link m setting))) (one_count m counted.0 tables.0 (root_link m setting) counted.1 tables.1) cannot
+
+-- where the root has so many places, the words show that
+pub first_has : {K V : Type 0} (m : Mem (Node K V)) (setting : Setting) (tables : CountsTables m (root_link m setting)) (additional count count2 : ℕ) → count ≡ count2 → HasRoomFor setting m additional count
+    → FirstHas (needed additional count2) (tables_shown m setting tables)
+unfolding tables_shown
+first_has m setting (zero, none) additional count count2 same room = absurd (room.there (sym (ap word_or_none room.root_is) ∙ none))
+first_has m setting (suc n, has) additional count count2 same room =
+    let at_root = ap (λ (link : ℕ). value_at m (block_in link)) (ap word_or_none room.root_is) ∙ room.table in
+    subst (λ (k : ℕ). needed additional k ≤ (shape_of (value_at m (block_in (root_link m setting)))).0) same
+    (subst (λ (len : ℕ). needed additional count ≤ len) (sym (ap (λ (shape : ℕ × ℕ). shape.0) (ap shape_of at_root))) room.places)
+
+-- and so a reservation is refused
+pub room_shown : {K V T : Type 0} (m : Mem (Node K V)) (setting : Setting) (tables : CountsTables m (root_link m setting)) (additional count count2 : ℕ) → count ≡ count2 → (r : Result T Fault)
+    → IfErr r (λ (fault : Fault). fault ≡ Capacity → CannotMakeRoom setting m additional count)
+    → IfErr r (λ (fault : Fault). fault ≡ Capacity → CannotGrow (tables_shown m setting tables) ⊎ NeedTooMany additional count2)
+room_shown m setting tables additional count count2 same (Ok x) so = tt
+room_shown m setting tables additional count count2 same (Err fault) so = λ long. by (so long)
+  where
+    by : CannotMakeRoom setting m additional count → CannotGrow (tables_shown m setting tables) ⊎ NeedTooMany additional count2
+    by (inl cannot) = inl (cannot_grow m setting tables cannot)
+    by (inr many) = inr (subst (λ (n : ℕ). NeedTooMany additional n) same many)
+
+-- for that a change is refused for the length of a table
+pub capacity_shown : {K V T E : Type 0} (m : Mem (Node K V)) (setting : Setting) (tables : CountsTables m (root_link m setting)) (fault_of : E → Fault) (r : Result T E)
+    → IfErr r (λ e. fault_of e ≡ Capacity → CannotGrowIn m setting) → IfErr r (λ e. fault_of e ≡ Capacity → CannotGrow (tables_shown m setting tables))
+capacity_shown m setting tables fault_of (Ok x) so = tt
+capacity_shown m setting tables fault_of (Err e) so = λ long. cannot_grow m setting tables (so long)
 
 -- after a change
 module _ {K V : Type 0} (same : K → K → Bool) (hash : K → ℕ) (setting : Setting) (m : Mem (Node K V)) where

@@ -4,6 +4,8 @@ ghost use Rattle.std.specs.Fn.{FnOnceReturns, FnOnceReturnsAt, FnOnceTakesAt};
 ghost use Rattle.std.specs.Option.{ForNone, ForSome};
 ghost use Rattle.papaya_asks.specs.Closures.{Updating, UpdatingOrStoring, Storing};
 ghost use Rattle.papaya_owned.specs.Given.Late.Faults.{IsRoom};
+ghost use Rattle.papaya_shown.specs.Chain.{CannotGrow};
+ghost use Rattle.seize_words.specs.declared.fault.Fault.TheVariants.{Capacity};
 ghost use Rattle.papaya_resting.specs.Given.{found_by};
 ghost use Rattle.papaya_resting.specs.Asking.{HasDone};
 ghost use Rattle.papaya_resting.specs.Held.{stored_in};
@@ -16,12 +18,14 @@ use std::hash::{BuildHasher, Hash};
 
 impl<K: Eq + Hash + Drop, V: Drop, S: BuildHasher> HashMap<K, V, S> {
     /// Replaces the value of a key by one that is made of it, if the key is there. The closure is called where it is, and else not at all. It answers
-    /// `Replaced` or `Missing`. The faults are `Fault::Capacity` and `Fault::Memory`; then no pair has changed, and the key comes back.
+    /// `Replaced` or `Missing`. The faults are `Fault::Capacity`, where no table can follow the map's last one, and `Fault::Memory`; then no pair has changed,
+    /// and the key comes back.
     pub fn update<F: FnOnce(&V) -> V>(&mut self, key: K, make: F) -> Result<Change, RefusedKey<K>>
         requires callable { ForSome (found_by (K.eq key) self.old.pairs) (λ x. FnOnceTakesAt F.FnOnce make x.1) }
         ensures done { IfOk result (λ done. HasDone (K.eq key) (Some key) (Updating (FnOnceReturnsAt F.FnOnce make)) self.old.pairs (HasNow self.new) done) }
         ensures refused { OnErr result (HasNow self.new self.old.pairs None None) }
         ensures fault { IfErr result (λ r. IsRoom r.fault) }
+        ensures capacity { IfErr result (λ r. r.fault ≡ Capacity → CannotGrow self.new.tables) }
         ensures back { IfErr result (λ r. r.key ≡ key) }
         ensures hasher { self.new.hasher ≡ self.old.hasher }
         ensures keeps { Keeps (stored_in result self.new.met) self.old self.new }
@@ -37,7 +41,8 @@ impl<K: Eq + Hash + Drop, V: Drop, S: BuildHasher> HashMap<K, V, S> {
     }
 
     /// Replaces the value of a key by one that is made of it, if the key is there, and else stores one that is begun. The closure that is called is the
-    /// one of the two. It answers `Replaced` or `Stored`. The faults are `Fault::Capacity` and `Fault::Memory`; then no pair has changed, and the key comes back.
+    /// one of the two. It answers `Replaced` or `Stored`. The faults are `Fault::Capacity`, where no table can follow the map's last one, and `Fault::Memory`;
+    /// then no pair has changed, and the key comes back.
     pub fn update_or_insert_with<B: FnOnce() -> V, F: FnOnce(&V) -> V>(
         &mut self,
         key: K,
@@ -49,6 +54,7 @@ impl<K: Eq + Hash + Drop, V: Drop, S: BuildHasher> HashMap<K, V, S> {
         ensures done { IfOk result (λ done. HasDone (K.eq key) (Some key) (UpdatingOrStoring (FnOnceReturnsAt F.FnOnce make) (λ value. FnOnceReturns B.FnOnce begin tt value)) self.old.pairs (HasNow self.new) done) }
         ensures refused { OnErr result (HasNow self.new self.old.pairs None None) }
         ensures fault { IfErr result (λ r. IsRoom r.fault) }
+        ensures capacity { IfErr result (λ r. r.fault ≡ Capacity → CannotGrow self.new.tables) }
         ensures back { IfErr result (λ r. r.key ≡ key) }
         ensures hasher { self.new.hasher ≡ self.old.hasher }
         ensures keeps { Keeps (stored_in result self.new.met) self.old self.new }
@@ -65,7 +71,8 @@ impl<K: Eq + Hash + Drop, V: Drop, S: BuildHasher> HashMap<K, V, S> {
     }
 
     /// Stores a value that is begun, if its key is not there yet. The closure is called where it is not, and else not at all. It answers `Stored` or
-    /// `Kept`. The faults are `Fault::Capacity` and `Fault::Memory`; then no pair has changed, and the key comes back.
+    /// `Kept`. The faults are `Fault::Capacity`, where no table can follow the map's last one, and `Fault::Memory`; then no pair has changed, and the key
+    /// comes back.
     pub fn try_insert_with<B: FnOnce() -> V>(
         &mut self,
         key: K,
@@ -75,6 +82,7 @@ impl<K: Eq + Hash + Drop, V: Drop, S: BuildHasher> HashMap<K, V, S> {
         ensures done { IfOk result (λ done. HasDone (K.eq key) (Some key) (Storing (λ value. FnOnceReturns B.FnOnce begin tt value)) self.old.pairs (HasNow self.new) done) }
         ensures refused { OnErr result (HasNow self.new self.old.pairs None None) }
         ensures fault { IfErr result (λ r. IsRoom r.fault) }
+        ensures capacity { IfErr result (λ r. r.fault ≡ Capacity → CannotGrow self.new.tables) }
         ensures back { IfErr result (λ r. r.key ≡ key) }
         ensures hasher { self.new.hasher ≡ self.old.hasher }
         ensures keeps { Keeps (stored_in result self.new.met) self.old self.new }
@@ -90,8 +98,8 @@ impl<K: Eq + Hash + Drop, V: Drop, S: BuildHasher> HashMap<K, V, S> {
     }
 
     /// Replaces the value of a key by one that is made of it, if the key is there, and else stores this one. The closure is called where the key is there,
-    /// and else not at all. It answers `Replaced` or `Stored`. The faults are `Fault::Capacity` and `Fault::Memory`; then no pair has changed, and the key and
-    /// this value come back.
+    /// and else not at all. It answers `Replaced` or `Stored`. The faults are `Fault::Capacity`, where no table can follow the map's last one, and `Fault::Memory`;
+    /// then no pair has changed, and the key and this value come back.
     pub fn update_or_insert<F: FnOnce(&V) -> V>(
         &mut self,
         key: K,
@@ -102,6 +110,7 @@ impl<K: Eq + Hash + Drop, V: Drop, S: BuildHasher> HashMap<K, V, S> {
         ensures done { IfOk result (λ done. HasDone (K.eq key) (Some key) (UpdatingOrStoring (FnOnceReturnsAt F.FnOnce make) (λ new. new ≡ value)) self.old.pairs (HasNow self.new) done) }
         ensures refused { OnErr result (HasNow self.new self.old.pairs None None) }
         ensures fault { IfErr result (λ r. IsRoom r.fault) }
+        ensures capacity { IfErr result (λ r. r.fault ≡ Capacity → CannotGrow self.new.tables) }
         ensures back { IfErr result (λ r. (r.key ≡ key) × (r.value ≡ value)) }
         ensures hasher { self.new.hasher ≡ self.old.hasher }
         ensures keeps { Keeps (stored_in result self.new.met) self.old self.new }

@@ -4,6 +4,8 @@ ghost use Rattle.std.specs.Borrow.{sem};
 ghost use Rattle.std.specs.List.Sorted.{IsPermutation};
 ghost use Rattle.std.specs.Option.{option_copied};
 ghost use Rattle.papaya_owned.specs.Given.Late.Faults.{IsRoom};
+ghost use Rattle.papaya_shown.specs.Chain.{CannotGrow};
+ghost use Rattle.seize_words.specs.declared.fault.Fault.TheVariants.{Capacity};
 ghost use Rattle.papaya_resting.specs.Given.{found_by, left_by};
 ghost use Rattle.papaya_seq_map.specs.Maps.{HasNow, Keeps, LastTook};
 
@@ -12,8 +14,8 @@ use papaya_tables::Equivalent;
 use seize_words::Fault;
 use std::hash::{BuildHasher, Hash};
 
-/// Removes the pair of a key, and answers whether there was one, which `taken` shows until the next change. The faults are `Fault::Capacity` and
-/// `Fault::Memory`; then no pair has changed.
+/// Removes the pair of a key, and answers whether there was one, which `taken` shows until the next change. The faults are `Fault::Capacity`, where no
+/// table can follow the map's last one, and `Fault::Memory`; then no pair has changed.
 pub fn take<K: Eq + Hash + Drop, V: Drop, S: BuildHasher, Q: Equivalent<K>>(
     map: &mut HashMap<K, V, S>,
     asked: &Q,
@@ -23,6 +25,7 @@ pub fn take<K: Eq + Hash + Drop, V: Drop, S: BuildHasher, Q: Equivalent<K>>(
     ensures refused { OnErr result (IsPermutation map.new.pairs map.old.pairs) }
     ensures last { MatchResult result (λ _. LastTook map.new (found_by (Q.Equivalent.equivalent asked.now) map.old.pairs) None) (λ _. LastTook map.new None None) }
     ensures fault { IfErr result IsRoom }
+    ensures capacity { IfErr result (λ fault. fault ≡ Capacity → CannotGrow map.new.tables) }
     ensures hasher { map.new.hasher ≡ map.old.hasher }
     ensures keeps { Keeps [] map.old map.new }
 {
@@ -39,9 +42,9 @@ impl<K: Eq + Hash + Drop, V: Drop, S: BuildHasher> HashMap<K, V, S> {
     ghost use Rattle.papaya_seq_map.specs.Lent.{EndsSo};
 
     /// Removes the pair of a key, and answers its value, which can be looked at until the next change, if the key was in the map. The faults are
-    /// `Fault::Capacity` and `Fault::Memory`; then no pair has changed.
+    /// `Fault::Capacity`, where no table can follow the map's last one, and `Fault::Memory`; then no pair has changed.
     pub fn remove<Q: Equivalent<K>>(&mut self, asked: &Q) -> Result<Option<&V>, Fault>
-        ensures* after { sem 𝓛 (EndsSo K.row V.row S.row S.Hasher.row K.Hash S.BuildHasher S.Hasher.Hasher self.entry (λ map. MatchResult result (λ _. HasNow map (left_by (Q.Equivalent.equivalent asked.now) self.old.pairs) (found_by (Q.Equivalent.equivalent asked.now) self.old.pairs) None) (λ _. HasNow map self.old.pairs None None) × (map.hasher ≡ self.old.hasher) × Keeps [] self.old map)) }
+        ensures* after { sem 𝓛 (EndsSo K.row V.row S.row S.Hasher.row K.Hash S.BuildHasher S.Hasher.Hasher self.entry (λ map. MatchResult result (λ _. HasNow map (left_by (Q.Equivalent.equivalent asked.now) self.old.pairs) (found_by (Q.Equivalent.equivalent asked.now) self.old.pairs) None) (λ fault. HasNow map self.old.pairs None None × (fault ≡ Capacity → CannotGrow map.tables)) × (map.hasher ≡ self.old.hasher) × Keeps [] self.old map)) }
         ensures value { IfOk result (λ was. option_copied was ≡ option_map (λ x. x.1) (found_by (Q.Equivalent.equivalent asked.now) self.old.pairs)) }
         ensures fault { IfErr result IsRoom }
     {
@@ -55,9 +58,9 @@ impl<K: Eq + Hash + Drop, V: Drop, S: BuildHasher> HashMap<K, V, S> {
     }
 
     /// Removes the pair of a key, and answers it, to be looked at until the next change, if the key was in the map. The faults are
-    /// `Fault::Capacity` and `Fault::Memory`; then no pair has changed.
+    /// `Fault::Capacity`, where no table can follow the map's last one, and `Fault::Memory`; then no pair has changed.
     pub fn remove_entry<Q: Equivalent<K>>(&mut self, asked: &Q) -> Result<Option<(&K, &V)>, Fault>
-        ensures* after { sem 𝓛 (EndsSo K.row V.row S.row S.Hasher.row K.Hash S.BuildHasher S.Hasher.Hasher self.entry (λ map. MatchResult result (λ _. HasNow map (left_by (Q.Equivalent.equivalent asked.now) self.old.pairs) (found_by (Q.Equivalent.equivalent asked.now) self.old.pairs) None) (λ _. HasNow map self.old.pairs None None) × (map.hasher ≡ self.old.hasher) × Keeps [] self.old map)) }
+        ensures* after { sem 𝓛 (EndsSo K.row V.row S.row S.Hasher.row K.Hash S.BuildHasher S.Hasher.Hasher self.entry (λ map. MatchResult result (λ _. HasNow map (left_by (Q.Equivalent.equivalent asked.now) self.old.pairs) (found_by (Q.Equivalent.equivalent asked.now) self.old.pairs) None) (λ fault. HasNow map self.old.pairs None None × (fault ≡ Capacity → CannotGrow map.tables)) × (map.hasher ≡ self.old.hasher) × Keeps [] self.old map)) }
         ensures pair { IfOk result (λ was. option_map (λ x. (x.0.now, x.1.now)) was ≡ found_by (Q.Equivalent.equivalent asked.now) self.old.pairs) }
         ensures fault { IfErr result IsRoom }
     {

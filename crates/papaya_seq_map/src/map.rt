@@ -27,8 +27,8 @@ pub(crate) struct Resting<K, V> {
 /// the map may be given back then, once enough of it waits, and no earlier. So the pair that the last change took out of the map can be looked
 /// at until the next one, by `taken`, and the one that it met at its key or put there, by `met`.
 ///
-/// A contract sees its pairs, its hasher, these two pairs, and what the memory holds: the pairs that were stored and not given back. The pairs are in
-/// the order in which a walk shows them; a change may put them in any other order.
+/// A contract sees its pairs, its hasher, these two pairs, what the memory holds, the pairs that were stored and not given back, and how many places its
+/// tables have. The pairs are in the order in which a walk shows them; a change may put them in any other order.
 #[derive(Drop)]
 pub struct HashMap<K: Eq + Hash, V, S: BuildHasher> {
     pub(crate) resting: Resting<K, V>,
@@ -39,11 +39,11 @@ impl<K: Eq + Hash, V, S: BuildHasher> Model for HashMap<K, V, S> {
     ghost use Rattle.std.specs.Prelude.{List};
     ghost use Rattle.papaya_resting.specs.Given.{held_in, Holds, hashed_by};
     ghost use Rattle.papaya_resting.specs.Lasts.{pair_in};
-    ghost use Rattle.papaya_seq_map.specs.Maps.{Map, pairs_shown};
+    ghost use Rattle.papaya_seq_map.specs.Maps.{Map, pairs_shown, tables_shown};
 
     ghost Value = { Map K V S };
 
-    ghost view = { λ m. record { pairs = pairs_shown m.resting.memory m.resting.setting m.resting.tables; hasher = m.hasher; taken = pair_in m.resting.memory m.resting.last.taken; met = pair_in m.resting.memory m.resting.last.met; held = held_in m.resting.memory } };
+    ghost view = { λ m. record { pairs = pairs_shown m.resting.memory m.resting.setting m.resting.tables; hasher = m.hasher; taken = pair_in m.resting.memory m.resting.last.taken; met = pair_in m.resting.memory m.resting.last.met; held = held_in m.resting.memory; tables = tables_shown m.resting.memory m.resting.setting m.resting.tables } };
 
     ghost invariant = { λ m. (xs : List (K × V)) × Holds K.eq (hashed_by S.Hasher.finish S.Hasher.write S.build_hasher K.hash_input m.hasher) m.resting.setting m.resting.memory xs };
 }

@@ -2,6 +2,8 @@
 ghost use Rattle.std.specs.Prelude.{◌≡◌, None, Bool, List, [], IfErr, OnOk, OnErr, filter};
 ghost use Rattle.std.specs.List.Sorted.{IsPermutation};
 ghost use Rattle.papaya_owned.specs.Given.Late.Faults.{IsRoom};
+ghost use Rattle.papaya_shown.specs.Chain.{CannotGrow};
+ghost use Rattle.seize_words.specs.declared.fault.Fault.TheVariants.{Capacity};
 ghost use Rattle.papaya_resting.specs.Given.{AnswersByTest, KeepsOf};
 ghost use Rattle.papaya_seq_map.specs.Maps.{Keeps, LastTook};
 
@@ -11,13 +13,14 @@ use seize_words::Fault;
 use std::hash::{BuildHasher, Hash};
 
 impl<K: Eq + Hash + Drop, V: Drop, S: BuildHasher> HashMap<K, V, S> {
-    /// Removes all pairs. The faults are `Fault::Capacity` and `Fault::Memory`, where a growth that was under way could not be seen through; then
-    /// no pair has changed.
+    /// Removes all pairs. The faults are `Fault::Capacity`, where no table can follow the map's last one, and `Fault::Memory`: a growth that was under
+    /// way could not be seen through. Then no pair has changed.
     pub fn clear(&mut self) -> Result<(), Fault>
         ensures done { OnOk result (self.new.pairs ≡ []) }
         ensures refused { OnErr result (IsPermutation self.new.pairs self.old.pairs) }
         ensures last { LastTook self.new None None }
         ensures fault { IfErr result IsRoom }
+        ensures capacity { IfErr result (λ fault. fault ≡ Capacity → CannotGrow self.new.tables) }
         ensures hasher { self.new.hasher ≡ self.old.hasher }
         ensures keeps { Keeps [] self.old self.new }
     {
@@ -26,7 +29,8 @@ impl<K: Eq + Hash + Drop, V: Drop, S: BuildHasher> HashMap<K, V, S> {
     }
 
     /// Keeps just the pairs for which the closure answers `true`. It is called with each pair once, in which order is not said. The faults are
-    /// `Fault::Capacity` and `Fault::Memory`, where a growth that was under way could not be seen through; then no pair has changed.
+    /// `Fault::Capacity`, where no table can follow the map's last one, and `Fault::Memory`: a growth that was under way could not be seen through.
+    /// Then no pair has changed.
     pub fn retain<F: FnMut(&K, &V) -> bool>(&mut self, keep: F) -> Result<(), Fault>
         requires callable { F.IsAlwaysCallable keep }
         ensures done { OnOk result ((kept : List (K × V)) × KeepsOf F.FnMut keep self.old.pairs kept × IsPermutation self.new.pairs kept) }
@@ -34,6 +38,7 @@ impl<K: Eq + Hash + Drop, V: Drop, S: BuildHasher> HashMap<K, V, S> {
         ensures refused { OnErr result (IsPermutation self.new.pairs self.old.pairs) }
         ensures last { LastTook self.new None None }
         ensures fault { IfErr result IsRoom }
+        ensures capacity { IfErr result (λ fault. fault ≡ Capacity → CannotGrow self.new.tables) }
         ensures hasher { self.new.hasher ≡ self.old.hasher }
         ensures keeps { Keeps [] self.old self.new }
     {

@@ -9,3 +9,5 @@ pub mod Current
 pub mod Permuted
 pub mod Below
 pub mod Chains
+pub mod Shapes
+mod Samples

@@ -1,5 +1,5 @@
 -- The pairs that the memory of a map shows, table by table, place by place.
-use Rattle.std.specs.Prelude.{◌≡◌, ◌≢◌, ℕ, zero, suc, ◌+◌, ◌-◌, ◌^◌, ◌<◌, IsSome, ◌==◌, ◌&&◌, Bool, List, [], ◌∷◌, ◌++◌, Option, Some, None, if◌then◌else◌}
+use Rattle.std.specs.Prelude.{◌≡◌, ◌≢◌, ℕ, zero, suc, ◌+◌, ◌-◌, ◌^◌, ◌<◌, ◌≤◌, IsSome, ◌==◌, ◌&&◌, Bool, List, [], ◌∷◌, ◌++◌, Option, Some, None, if◌then◌else◌}
 use Rattle.std.proofs.Common.{refl, ap}
 use Rattle.std.specs.Coded.{Coded-set, coded_ℕ, ×_prop, Π_prop}
 use mathlib.Core.HLevel.{Σ_prop_path}
@@ -7,6 +7,7 @@ use Rattle.seize_words.specs.Word.{block_in}
 use Rattle.seize_words.specs.declared.at.At.TheVariants.{Root, Word}
 use Rattle.seize_words.specs.Mem.{Mem, value_at, word_at}
 use Rattle.papaya_tables.specs.Chunks.{is_incremental}
+use Rattle.papaya_tables.specs.Lengths.{CannotBeFollowed}
 use Rattle.papaya_tables.specs.Marks.{has_mark}
 use Rattle.papaya_tables.specs.declared.marks.TheConstants.{COPYING}
 use Rattle.papaya_tables.specs.declared.node.Node.{Node}
@@ -16,6 +17,17 @@ use Rattle.papaya_tables.specs.declared.table_words.TheConstants.{NEXT, PLACES}
 
 absurd_prop : IsProp ⊥
 absurd_prop x y = absurd x
+
+-- of tables by their places and turns: the last one cannot be followed
+abbrev pub CannotGrow : List (ℕ × ℕ) → Type 0
+CannotGrow [] = ⊥
+CannotGrow (shape ∷ []) = CannotBeFollowed shape.0 shape.1
+CannotGrow (shape ∷ (next ∷ more)) = CannotGrow (next ∷ more)
+
+-- the first one has so many places, or more
+abbrev pub FirstHas : ℕ → List (ℕ × ℕ) → Type 0
+FirstHas need [] = ⊥
+FirstHas need (shape ∷ more) = need ≤ shape.0
 
 -- the word, or 0 where there is none
 abbrev pub word_or_none : Option ℕ → ℕ
@@ -32,6 +44,11 @@ module _ {K V : Type 0} where
   abbrev pub places_of : Option (Node K V) → ℕ
   places_of (Some (node.Table len limit turn)) = len
   places_of _ = 0
+
+  -- how many places a table has, and its turn
+  abbrev pub shape_of : Option (Node K V) → ℕ × ℕ
+  shape_of (Some (node.Table len limit turn)) = (len, turn)
+  shape_of _ = (0, 0)
 
   module _ (m : Mem (Node K V)) where
     -- the link to the table behind
@@ -75,9 +92,18 @@ module _ {K V : Type 0} where
       pairs_on zero link = []
       pairs_on (suc tables) link = pairs_at link 0 (places_of (value_at m (block_in link))) ++ pairs_on tables (behind link)
 
+    -- how many places so many tables have, from the one at this link on, each with its turn
+    abbrev pub shapes_on : ℕ → ℕ → List (ℕ × ℕ)
+    shapes_on zero link = []
+    shapes_on (suc tables) link = shape_of (value_at m (block_in link)) ∷ shapes_on tables (behind link)
+
     -- the link to the first table of a map
     abbrev pub root_link : Setting → ℕ
     root_link setting = word_or_none (word_at m (Root setting.root))
+
+    -- no table can follow the last one of a map
+    abbrev pub CannotGrowIn : Setting → Type 0
+    CannotGrowIn setting = (tables : CountsTables (root_link setting)) × CannotGrow (shapes_on tables.0 (root_link setting))
 
     -- the pairs in so many tables of a map, from the first one on
     abbrev pub pairs_from_root : Setting → ℕ → List (K × V)

@@ -1,9 +1,10 @@
 -- What a step of a sweep's machine does, and what a whole sweep comes to.
-use Rattle.std.specs.Prelude.{ℕ, Bool, List, [], Result, Ok, Err}
+use Rattle.std.specs.Prelude.{◌≡◌, ℕ, Bool, List, [], Result, Ok, Err}
 use denote.Ref.{Bor}
 use Rattle.seize_words.specs.Mem.{Mem}
 use Rattle.seize_words.specs.Plan.{Plan, plan_as}
 use Rattle.seize_words.specs.declared.fault.Fault.{Fault}
+use Rattle.seize_words.specs.declared.fault.Fault.TheVariants.{Capacity}
 use Rattle.seize.specs.declared.progress.Progress.{Progress}
 use Rattle.seize.specs.declared.progress.Progress.TheVariants as progress
 use Rattle.papaya_tables.specs.declared.node.Node.{Node}
@@ -15,6 +16,7 @@ use Rattle.papaya_owned.specs.Given.Sweeps.declared.sweep.Sweep.{Sweep}
 use Rattle.papaya_owned.specs.Given.Sweeps.declared.sweep.Swept.{Swept}
 use Rattle.papaya_owned.specs.Given.Sweeps.declared.sweep.Swept.TheVariants as swept
 use Rattle.papaya_owned.specs.Given.Callers.Together.{in_slot}
+use Rattle.papaya_owned.specs.Given.Shown.Chain.{CannotGrowIn}
 use Rattle.papaya_owned.specs.Ending.{RunsTo}
 use Rattle.papaya_owned.specs.Owned.{Holds}
 use Rattle.papaya_sifts.specs.declared.sweeping.OverPairs.{OverPairs}
@@ -50,8 +52,8 @@ HasSwept {K} {V} {S} hashes b setting m0 m =
     (purpose : Purpose) × (x : OverPairs S) × (n : Mem (Node K V)) × IsSweeping hashes b setting purpose m0 x n × (y : OverPairs S) × (result : Result Pause Fault)
     × RunsTo (over_pairs_plan {K = K} {V = V} hashes) x n y m result
 
--- What a clearing has come to: the map has no pair, or it was refused, and has the same pairs.
+-- What a clearing has come to: the map has no pair, or it was refused, and has the same pairs, for the length of a table only where none can follow the last one.
 abbrev pub ClearedBy : {K V : Type 0} → (K → K → Bool) → (K → ℕ) → Setting → Mem (Node K V) → List (K × V) → Result Pause Fault → Type 0
 ClearedBy same hash setting m xs (Ok pause.Ended) = Holds same hash setting m []
 ClearedBy same hash setting m xs (Ok _) = ⊥
-ClearedBy same hash setting m xs (Err fault) = Holds same hash setting m xs
+ClearedBy same hash setting m xs (Err fault) = Holds same hash setting m xs × (fault ≡ Capacity → CannotGrowIn m setting)

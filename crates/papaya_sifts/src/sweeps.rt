@@ -1,9 +1,11 @@
 //! Sweeps that remove pairs from one owner's map, run to their ends.
 ghost use Rattle.std.specs.Prelude.{◌≡◌, List, [], IfErr, OnOk, OnErr, length};
 ghost use Rattle.papaya_owned.specs.Given.Late.Faults.{IsRoom};
+ghost use Rattle.papaya_owned.specs.Given.Shown.Chain.{CannotGrowIn};
 ghost use Rattle.papaya_owned.specs.Owned.{Holds};
 ghost use Rattle.papaya_sifts.specs.Retaining.{KeepsOf};
 ghost use Rattle.papaya_sifts.specs.Sweeping.{HasSwept};
+ghost use Rattle.seize_words.specs.declared.fault.Fault.TheVariants.{Capacity};
 
 use crate::sweeping::{OverPairs, Pause};
 use papaya_owned::{pair_at, run};
@@ -12,8 +14,8 @@ use papaya_tables::{Hashes, Node, Setting};
 use seize_words::{Fault, Plain};
 use std::hash::Hash;
 
-/// Removes all pairs. The faults are `Fault::Capacity` and `Fault::Memory`, where a growth that was under way could not be seen through; then
-/// no pair has changed.
+/// Removes all pairs. The faults are `Fault::Capacity`, where no table can follow the map's last one, and `Fault::Memory`: a growth that was under way
+/// could not be seen through. Then no pair has changed.
 pub fn empty<K: Eq + Hash + Drop, V: Drop, S: Hashes<K>>(
     memory: &mut Plain<Node<K, V>>,
     setting: Setting,
@@ -23,6 +25,7 @@ pub fn empty<K: Eq + Hash + Drop, V: Drop, S: Hashes<K>>(
     ensures done { (xs : List (K × V)) → Holds K.eq (S.hash hasher.now) setting memory.old xs → OnOk result (Holds K.eq (S.hash hasher.now) setting memory.new []) }
     ensures refused { (xs : List (K × V)) → Holds K.eq (S.hash hasher.now) setting memory.old xs → OnErr result (Holds K.eq (S.hash hasher.now) setting memory.new xs) }
     ensures fault { IfErr result IsRoom }
+    ensures capacity { (xs : List (K × V)) → Holds K.eq (S.hash hasher.now) setting memory.old xs → IfErr result (λ fault. fault ≡ Capacity → CannotGrowIn memory.new setting) }
     ensures ran { HasSwept S.hash hasher.entry setting memory.old memory.new }
 {
     let sweep = Sweep::clear(setting);
@@ -34,7 +37,8 @@ pub fn empty<K: Eq + Hash + Drop, V: Drop, S: Hashes<K>>(
 }
 
 /// Keeps just the pairs about which the closure answers `true`. It is asked about each of the map's pairs once, of which there are so many.
-/// The faults are `Fault::Capacity` and `Fault::Memory`, where a growth that was under way could not be seen through; then no pair has changed.
+/// The faults are `Fault::Capacity`, where no table can follow the map's last one, and `Fault::Memory`: a growth that was under way could not be seen
+/// through. Then no pair has changed.
 pub fn sift<K: Eq + Hash + Drop, V: Drop, S: Hashes<K>, F: FnMut(&K, &V) -> bool>(
     memory: &mut Plain<Node<K, V>>,
     setting: Setting,
@@ -49,6 +53,7 @@ pub fn sift<K: Eq + Hash + Drop, V: Drop, S: Hashes<K>, F: FnMut(&K, &V) -> bool
         → OnOk result ((kept : List (K × V)) × KeepsOf F.FnMut keep xs kept × Holds K.eq (S.hash hasher.now) setting memory.new kept) }
     ensures refused { (xs : List (K × V)) → Holds K.eq (S.hash hasher.now) setting memory.old xs → OnErr result (Holds K.eq (S.hash hasher.now) setting memory.new xs) }
     ensures fault { IfErr result IsRoom }
+    ensures capacity { (xs : List (K × V)) → Holds K.eq (S.hash hasher.now) setting memory.old xs → IfErr result (λ fault. fault ≡ Capacity → CannotGrowIn memory.new setting) }
     ensures ran { HasSwept S.hash hasher.entry setting memory.old memory.new }
 {
     let sweep = Sweep::retain(setting);

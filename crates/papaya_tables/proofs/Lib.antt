@@ -1,4 +1,5 @@
 pub mod AllPlaces
+pub mod Ends
 pub mod Lists
 mod Logarithms
 pub mod Places

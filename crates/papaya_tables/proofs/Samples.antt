@@ -1,6 +1,6 @@
 -- The formulas by rows that were worked by hand.
 use Rattle.std.specs.Prelude.{ℕ, ◌+◌, ◌-◌, ◌*◌, ◌^◌, ◌%◌, ◌≡◌, List, [], ◌∷◌, Option, Some, None, Ok, Err, map, sum, bit_and}
-use Rattle.std.proofs.Common.{refl}
+use Rattle.std.proofs.Common.{refl, inl, inr, arith}
 use Rattle.seize_words.specs.Word.{link_to}
 use Rattle.seize_words.specs.declared.at.At.TheVariants.{Word}
 use Rattle.seize_words.specs.declared.fault.Fault.TheVariants.{Capacity}
@@ -8,7 +8,7 @@ use Rattle.papaya_tables.specs.declared.lengths.Reason.TheVariants.{Full, Reserv
 use Rattle.papaya_tables.specs.declared.resize_mode.ResizeMode.TheVariants.{Incremental, Blocking}
 use Rattle.papaya_tables.specs.declared.table.Table.{Table}
 use Rattle.papaya_tables.specs.declared.trial.Trial.{Trial}
-use Rattle.papaya_tables.specs.Lengths.{entries_of, len_of, next_len, next_limit, next_turn}
+use Rattle.papaya_tables.specs.Lengths.{entries_of, len_of, next_len, next_limit, next_turn, CannotBeFollowed}
 use Rattle.papaya_tables.specs.Probes.{place_at, probe_from, probe_after, limit_of}
 use Rattle.papaya_tables.specs.Counts.{count_in}
 use Rattle.papaya_tables.specs.Chunks.{chunk_of}
@@ -105,6 +105,18 @@ shards = refl
 
 sums : map (λ (words : List ℕ). count_in (sum words % 2 ^ 64)) ([] ∷ (3 ∷ (2 ^ 64 - 1) ∷ []) ∷ (1 ∷ (2 ^ 64 - 2) ∷ []) ∷ []) ≡ 0 ∷ 2 ∷ 0 ∷ []
 sums = refl
+
+-- a first table can be followed, one of the most places or with the last turn cannot
+
+first_followed : CannotBeFollowed 32 0 → ⊥
+first_followed (inl long) = absurd (omega (arith, long))
+first_followed (inr late) = absurd (omega (arith, late))
+
+longest_ends : CannotBeFollowed (2 ^ 48) 0
+longest_ends = inl (omega arith)
+
+latest_ends : CannotBeFollowed 8 (2 ^ 63)
+latest_ends = inr (omega arith)
 
 -- a chunk is cut at the length
 

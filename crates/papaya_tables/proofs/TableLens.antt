@@ -13,7 +13,7 @@ use Rattle.papaya_tables.specs.Powers.{floor_log2, next_power}
 use Rattle.papaya_tables.specs.Lengths.{if_few, places_for, len_of, by_count, next_len, IsTableLen, HaveTableLens, GoByTheCounter}
 
 -- what holds of a number that is answered
-if_few-holds : (places number : ℕ) (Holds : ℕ → Type 0) → (places ≤ 2 ^ 48 → Holds number) → IfOk (if_few places number) Holds
+pub if_few-holds : (places number : ℕ) (Holds : ℕ → Type 0) → (places ≤ 2 ^ 48 → Holds number) → IfOk (if_few places number) Holds
 if_few-holds places number Holds holds =
     elim (leb_tells places (2 ^ 48)) as (λ _. IfOk (if_few places number) Holds) [
       | inl few ↦ rw few.0 (holds few.1)
@@ -60,7 +60,7 @@ log-below number some few =
       | inr long ↦ (let more : 2 ^ 48 ≤ 2 ^ top.0 = pow_mono long in absurd (omega (arith, more, least)))
     ]
 
-next-power-most : (number : ℕ) → number ≤ 2 ^ 48 → next_power number ≤ 2 ^ 48
+pub next-power-most : (number : ℕ) → number ≤ 2 ^ 48 → next_power number ≤ 2 ^ 48
 next-power-most number few =
     elim (leb_tells number 1) as (λ _. next_power number ≤ 2 ^ 48) [
       | inl small ↦ rw small.0 (omega arith)

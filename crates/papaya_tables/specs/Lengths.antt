@@ -1,5 +1,5 @@
 -- How long the tables of a map are, and where they are too long.
-use Rattle.std.specs.Prelude.{◌≡◌, ℕ, ◌+◌, ◌-◌, ◌*◌, ◌/◌, ◌^◌, ◌≤◌, ◌==◌, nat_le, nat_lt, if◌then◌else◌, max, Result, Ok, Err, IfOk}
+use Rattle.std.specs.Prelude.{◌≡◌, ℕ, ◌+◌, ◌-◌, ◌*◌, ◌/◌, ◌^◌, ◌<◌, ◌≤◌, ◌⊎◌, ◌==◌, nat_le, nat_lt, if◌then◌else◌, max, Result, Ok, Err, IfOk}
 use Rattle.std.specs.Int.{IsPowerOfTwo}
 use Rattle.seize_words.specs.declared.fault.Fault.{Fault}
 use Rattle.seize_words.specs.declared.fault.Fault.TheVariants.{Capacity}
@@ -48,6 +48,19 @@ next_limit NoPlace before len = len - 1
 abbrev pub next_turn : ℕ → Result ℕ Fault
 next_turn turn = if nat_lt turn (2 ^ 63) then Ok (turn + 1) else Err Capacity
 
+-- A table that none can follow: twice as many places as it has are too many, or it has the last turn.
+abbrev pub CannotBeFollowed : ℕ → ℕ → Type 0
+CannotBeFollowed len turn = (2 ^ 48 < len * 2) ⊎ (2 ^ 63 ≤ turn)
+
+-- no table can be made for this reason after one of this length and turn
+abbrev pub NoneFollows : Reason → ℕ → ℕ → ℕ → ℕ → Type 0
+NoneFollows reason len turn count initial = (next_len reason len count initial ≡ Err Capacity) ⊎ (2 ^ 63 ≤ turn)
+
+-- it is made as the one before is full, or as a copied pair finds no place in that
+abbrev pub GoesByTable : Reason → Type 0
+GoesByTable (Reserved additional) = ⊥
+GoesByTable _ = Unit {0}
+
 -- what each table's length is
 pub record IsTableLen (len : ℕ) : Type 0 where
   pub power : IsPowerOfTwo len
@@ -62,3 +75,8 @@ pub record HaveTableLens : Type 0 where
 -- where a probe met no more pairs than the counter says, the length is that by the counter alone
 abbrev pub GoByTheCounter : Type 0
 GoByTheCounter = (met len count initial : ℕ) → met ≤ count → next_len (Full met) len count initial ≡ next_len (Full 0) len count initial
+
+-- Where none can be made for such a reason, whatever the count, the one before cannot be followed.
+abbrev pub OnlyTheLastEnds : Type 0
+OnlyTheLastEnds =
+    (reason : Reason) (len turn count initial : ℕ) → GoesByTable reason → initial ≤ 2 ^ 48 → NoneFollows reason len turn count initial → CannotBeFollowed len turn

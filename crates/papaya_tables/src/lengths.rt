@@ -1,7 +1,7 @@
 //! How long the tables of a map are.
 ghost use Rattle.std.specs.Prelude.{◌≡◌, ◌*◌, ◌≤◌, ◌^◌, max, IfOk};
 ghost use Rattle.std.specs.Int.{IsNextPowerOfTwo};
-ghost use Rattle.papaya_tables.specs.Lengths.{if_few, places_for, entries_of, len_of, by_count, next_len, next_limit, next_turn, HaveTableLens, GoByTheCounter};
+ghost use Rattle.papaya_tables.specs.Lengths.{if_few, places_for, entries_of, len_of, by_count, next_len, next_limit, next_turn, HaveTableLens, GoByTheCounter, OnlyTheLastEnds};
 
 use crate::probe::limit;
 use seize_words::Fault;
@@ -107,6 +107,12 @@ fn len_by(len: u64, pairs: u64, initial: u64) -> Result<u64, Fault>
         at_least(len)
     }
 }
+
+/// Where no table can be made after one that is full, or in which a copied pair finds no place, that one has more than half as many places as a table
+/// can have, or the last turn.
+pub fn only_the_last_tables_end_a_chain()
+    ensures { OnlyTheLastEnds }
+{}
 
 /// Twice the length. The fault is Capacity.
 fn double(len: u64) -> Result<u64, Fault>

@@ -1,5 +1,6 @@
 mod Joined
 mod Fresh
+pub mod Limits
 pub mod Rows
 pub mod Keys
 pub mod Rooms

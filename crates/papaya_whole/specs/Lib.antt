@@ -1,4 +1,5 @@
 pub mod Owner
+pub mod Limits
 pub mod Whole
 pub mod WholeRooms
 pub mod Contents

@@ -1,5 +1,5 @@
 -- What is promised of whole calls for one owner: where each begins, where each of its steps leads, and that its steps come to an end.
-use Rattle.std.specs.Prelude.{◌≡◌, ℕ, ◌<◌, ◌≤◌, Bool, Some, true}
+use Rattle.std.specs.Prelude.{◌≡◌, ℕ, ◌^◌, ◌<◌, ◌≤◌, Bool, Some, true}
 use Rattle.std.specs.Int.{IsPowerOfTwo}
 use Rattle.papaya_maps.specs.Given.SeizeWords.Mem.{Mem, Can, Took, value_at, word_at}
 use Rattle.papaya_maps.specs.Given.SeizeWords.Plan.{May, Steps}
@@ -36,6 +36,8 @@ use Rattle.papaya_maps.specs.Given.Callers.Kept.{IsMaking}
 use Rattle.papaya_maps.specs.Given.Callers.Pairs.{Given, HandsBack, RemovesNone}
 use Rattle.papaya_maps.specs.Given.Callers.Sights.{Sight, seen_by}
 use Rattle.papaya_maps.specs.Given.Callers.Together.{CallOnKey, OnKey, CameAbout, no_blocks, no_sight, in_slot, IsBegun, begun_at, AnswersOnce, IsReclaimed, RepliesTaken}
+use Rattle.papaya_maps.specs.Given.Late.Faults.{CallRefusesSo, StandsInCalling}
+use Rattle.papaya_whole.specs.Limits.{IsForTheLast, IsTheLast}
 use Rattle.papaya_whole.specs.Owner.{AtRest, IsAlone}
 
 -- this call on one key, where it goes on, and what it has changed
@@ -92,6 +94,9 @@ module _ {K V Q : Type 0} (same : K → K → Bool) (hash : K → ℕ) (asks : Q
     pub hands : (value : Node K V) → progress ≡ called.Unstored value → HandsBack u.pair value
     -- it is refused the removal of what is not there where it was told to remove that
     pub removes : (fault : Fault) → progress ≡ called.Refused fault → fault ≡ RemoveNothing → RemovesNone u.pair
+    -- in incremental mode it is refused for the length of a table only where the last table of the map cannot be followed, as it is then
+    pub ends : is_incremental setting.mode ≡ true → setting.initial ≤ 2 ^ 48 → StandsInCalling (IsForTheLast c) (IsTheLast c) u.call.trial.table u.call.stands
+        → StandsInCalling (IsForTheLast c2) (IsTheLast c2) p2.trial.table p2.stands × CallRefusesSo (IsForTheLast c2) progress
     -- the pairs that could be looked at can be still, in the same blocks, with the same values
     pub looks : (o : ℕ) → o < c.stored → blocks.pair_known o ≡ true
         → (blocks2.pair_known o ≡ true) × (blocks2.pair o ≡ blocks.pair o) × (value_at w2.memory (blocks.pair o) ≡ value_at w.memory (blocks.pair o))

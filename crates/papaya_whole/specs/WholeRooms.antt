@@ -1,5 +1,5 @@
 -- What is promised of whole reservations and countings for one owner.
-use Rattle.std.specs.Prelude.{◌≡◌, ℕ, Bool, true, List, length}
+use Rattle.std.specs.Prelude.{◌≡◌, ℕ, suc, ◌%◌, ◌^◌, ◌≤◌, Bool, true, List, length}
 use Rattle.std.specs.Int.{IsPowerOfTwo}
 use Rattle.papaya_maps.specs.Given.SeizeWords.Mem.{Mem, Can, Took, value_at}
 use Rattle.papaya_maps.specs.Given.SeizeWords.Plan.{May, Steps}
@@ -19,9 +19,10 @@ use Rattle.papaya_maps.specs.Given.Rule.Words.{Blocks}
 use Rattle.papaya_maps.specs.Given.Rule.Maps.{spot_of}
 use Rattle.papaya_maps.specs.Given.Rule.Rule.{Rule}
 use Rattle.papaya_maps.specs.Given.Tables.Chunks.{is_incremental}
+use Rattle.papaya_maps.specs.Given.Tables.Counts.{count_in}
 use Rattle.papaya_maps.specs.Given.Points.FactsCalls.{Unchanged}
 use Rattle.papaya_maps.specs.Given.Alone.Counted.{HasAdded}
-use Rattle.papaya_maps.specs.Given.Alone.Counting.{IsCounted, count_ahead}
+use Rattle.papaya_maps.specs.Given.Alone.Counting.{IsCounted, count_ahead, shards_sum}
 use Rattle.papaya_maps.specs.Given.Rule.InWorld.{IsMapIn}
 use Rattle.papaya_whole.specs.Contents.{AreContents, HasRun}
 use Rattle.papaya_maps.specs.Given.Points.Steps.{AreLawful}
@@ -30,6 +31,8 @@ use Rattle.papaya_maps.specs.EndingsReserves.{ComesToAnEnd}
 use Rattle.papaya_maps.specs.Given.Callers.Rooms.{CallForRoom}
 use Rattle.papaya_maps.specs.Given.Callers.Sights.{Sight}
 use Rattle.papaya_maps.specs.Given.Callers.Together.{ForRoom, Counting, in_slot, IsReclaimed}
+use Rattle.papaya_maps.specs.Given.Late.Faults.{RefusesSo, StandsInReserving}
+use Rattle.papaya_whole.specs.Limits.{IsForRoom, IsTheLast}
 use Rattle.papaya_whole.specs.Owner.{AtRest, IsAlone}
 
 -- this reservation, where it goes on
@@ -60,6 +63,12 @@ module _ {K V Q : Type 0} (same : K → K → Bool) (hash : K → ℕ) (asks : Q
     pub counts : (m0 : Mem (Node K V)) (more : ℕ) → HasAdded setting m0 more w.memory → HasAdded setting m0 more w2.memory
     -- in incremental mode, it keeps to the root, and at its end that has the places for the pairs that the shards say, and for the further ones
     pub places : is_incremental setting.mode ≡ true → LooksAtRoot c r.reserve.stands → SumsUp setting w.memory r.reserve.stands → KeepsToRoot setting w2.memory c2 (p2, end)
+    -- and it is refused for the length of a table only where the last table of the map cannot be followed, as it is then, or so many further pairs need too many
+    -- places, by themselves, or beside those that the shards say
+    pub ends : is_incremental setting.mode ≡ true → setting.initial ≤ 2 ^ 48 → SumsUp setting w.memory r.reserve.stands
+        → (count : ℕ) → count_in (shards_sum w.memory setting.counter (suc setting.mask) % 2 ^ 64) ≡ count
+        → StandsInReserving (IsForRoom c r.reserve.additional count) (IsTheLast c) r.reserve.stands
+        → StandsInReserving (IsForRoom c2 r.reserve.additional count) (IsTheLast c2) p2.stands × RefusesSo (IsForRoom c2 r.reserve.additional count) end
 
   -- After a step of a counting, it is alone still, or has ended, and the owner rests.
   abbrev pub CountLeads : World (Node K V) → Chart K → Blocks → (ℕ → Sight) → Sum → Progress ℕ → Type 0

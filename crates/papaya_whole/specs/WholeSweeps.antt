@@ -1,5 +1,5 @@
 -- What is promised of whole sweeps for one owner: walks, clearings and retainings.
-use Rattle.std.specs.Prelude.{◌≡◌, ◌⊎◌, ℕ, ◌<◌, ◌%◌, ◌^◌, ◌+◌, suc, Bool, true, List, ◌∷◌, Some}
+use Rattle.std.specs.Prelude.{◌≡◌, ◌⊎◌, ℕ, ◌<◌, ◌≤◌, ◌%◌, ◌^◌, ◌+◌, suc, Bool, true, List, ◌∷◌, Some}
 use Rattle.std.specs.Int.{IsPowerOfTwo}
 use Rattle.papaya_maps.specs.Given.SeizeWords.Mem.{Mem, Can, Took, value_at}
 use Rattle.papaya_maps.specs.Given.SeizeWords.Plan.{May, Steps}
@@ -28,6 +28,8 @@ use Rattle.papaya_passes.specs.FallsSweeps.{ComesOn}
 use Rattle.papaya_maps.specs.Given.Callers.OverAll.{CallOverAll, begun_over_all, gone_on, come_to, told_of, RemovesTold}
 use Rattle.papaya_maps.specs.Given.Callers.Sights.{Sight}
 use Rattle.papaya_maps.specs.Given.Callers.Together.{OverAll, in_slot, IsReclaimed}
+use Rattle.papaya_maps.specs.Given.Late.Faults.{StandsInSweeping, SweepRefusesSo}
+use Rattle.papaya_whole.specs.Limits.{IsForTheLast, IsTheLast}
 use Rattle.papaya_whole.specs.LoneSweeps.{goes_once}
 use Rattle.papaya_whole.specs.Owner.{AtRest, IsAlone}
 use Rattle.papaya_whole.specs.SweptPairs.{HasSwept}
@@ -128,6 +130,9 @@ module _ {K V Q : Type 0} (same : K → K → Bool) (hash : K → ℕ) (asks : Q
     pub runs : (m0 : Mem (Node K V)) (c0 : Chart K) (blocks0 : Blocks) (asked : List ℕ) → RunsTo m0 c0 blocks0 asked o w.memory c blocks
         → RunsTo m0 c0 blocks0 asked (come_to o entered2 done2 p2) w2.memory c2 blocks2
     pub counts : IsCountedBut setting w.memory c o.sweep.stands → IsCountedBut setting w2.memory c2 p2.stands
+    -- in incremental mode it is refused for the length of a table only where the last table of the map cannot be followed, as it is then
+    pub ends : is_incremental setting.mode ≡ true → setting.initial ≤ 2 ^ 48 → StandsInSweeping (IsForTheLast c) (IsTheLast c) o.sweep.stands
+        → StandsInSweeping (IsForTheLast c2) (IsTheLast c2) p2.stands × SweepRefusesSo (IsForTheLast c2) end
 
 module _ {K Q : Type 0} (V : Type 0) (same : K → K → Bool) (hash : K → ℕ) (asks : Q → K → Bool) (setting : Setting) (slot : ℕ → ℕ) where
   abbrev pub Alone : World (Node K V) → Chart K → Blocks → (ℕ → Sight) → CallOverAll → Type 0

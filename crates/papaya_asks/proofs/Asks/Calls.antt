@@ -27,8 +27,8 @@ module _ {K V : Type 0} (same : K → K → Bool) (hash : K → ℕ) (setting : 
   answers_as (answers.Removed word) a = (a.0, turn (Some a.0) reply.Remove a.1, a.2, a.3, a.4, a.5)
 
   pub refused_as : (fault : Fault) → RefusedAs same hash setting m keys xs its Told fault → RefusedAs same hash setting m keys xs its Meant fault
-  refused_as fault (inl room, holds) = (inl room, holds)
-  refused_as fault (inr (is, said, none), holds) = (inr (is, turn None reply.Remove said, none), holds)
+  refused_as fault (inl room, holds, ends) = (inl room, holds, ends)
+  refused_as fault (inr (is, said, none), holds, ends) = (inr (is, turn None reply.Remove said, none), holds, ends)
 
 module _ {K V : Type 0} (Meant : Option (K × V) → Reply V → Type 0) where
   -- where it does not ask

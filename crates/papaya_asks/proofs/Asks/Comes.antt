@@ -4,6 +4,7 @@ use Rattle.std.proofs.Common.{◌∙◌, ap, subst, inl, inr}
 use denote.Ref.{Bor}
 use Rattle.seize_words.specs.Mem.{Mem}
 use Rattle.seize_words.specs.declared.fault.Fault.{Fault}
+use Rattle.seize_words.specs.declared.fault.Fault.TheVariants.{Capacity}
 use Rattle.papaya_tables.specs.declared.node.Node.{Node}
 use Rattle.papaya_tables.specs.declared.setting.Setting.{Setting}
 use Rattle.papaya_raw.specs.declared.machines.answer.KeyAnswer.{KeyAnswer}
@@ -14,6 +15,7 @@ use Rattle.papaya_raw.specs.declared.machines.asking.Reply.{Reply}
 use Rattle.papaya_raw.specs.declared.machines.asking.Reply.TheVariants as reply
 use Rattle.papaya_owned.specs.Given.Callers.Kind.{Kind}
 use Rattle.papaya_owned.specs.Given.Late.Faults.{IsRoom}
+use Rattle.papaya_owned.specs.Given.Shown.Chain.{CannotGrowIn}
 use Rattle.papaya_asks.specs.Asking.{meant, AnswersAs, RefusedAs, EndsAs, Pauses, AsksOf, StartsAs, ToldThis, HasKeyBack}
 use Rattle.papaya_asks.specs.Closures.{ComesTo, ComesToWith}
 use Rattle.papaya_owned.specs.Owned.{Holds, IsWordOf, found_by}
@@ -39,7 +41,7 @@ module _ {K V Q S : Type 0} (asks : Q → K → Bool) (same : K → K → Bool) 
   comes_asking s a asked e f g = subst (StartsAs asks same hashes setting kind its keys xs b x m) (e ∙ ap (λ (t : Stop). Ok t) (f ∙ ap stop.Asks g)) h
 
   -- it was refused
-  pub comes_refused : (fault : Fault) → result ≡ Err fault → IsRoom fault × Holds same (hashes b.now) setting m xs × ((k : K) → its ≡ Some k → HasKeyBack x k)
+  pub comes_refused : (fault : Fault) → result ≡ Err fault → IsRoom fault × Holds same (hashes b.now) setting m xs × ((k : K) → its ≡ Some k → HasKeyBack x k) × (fault ≡ Capacity → CannotGrowIn m setting)
   comes_refused fault e = subst (StartsAs asks same hashes setting kind its keys xs b x m) e h
 
 -- it was told this, and has come to its end
@@ -97,5 +99,5 @@ module _ {K V S : Type 0} (same : K → K → Bool) (hashes : S → K → ℕ) (
       (refused_as same (hashes b.now) setting m (same key) xs (Some key) (λ about said. ⊥) Meant (λ about said never. absurd never) r.fault (by r.fault f.0), f.1)
     where
       by : (fault : Fault) → RefusedAs same (hashes b.now) setting m (same key) xs (Some key) (ToldThis (same key) xs reply.Abort) fault → RefusedAs same (hashes b.now) setting m (same key) xs (Some key) (λ about said. ⊥) fault
-      by fault (inl room, holds) = (inl room, holds)
-      by fault (inr (nothing, told, none), holds) = absurd (let g = told.1 in cc g)
+      by fault (inl room, holds, ends) = (inl room, holds, ends)
+      by fault (inr (nothing, told, none), holds, ends) = absurd (let g = told.1 in cc g)

@@ -25,11 +25,13 @@ use Rattle.papaya_owned.specs.Given.Alone.Counted.{HasAdded}
 use Rattle.papaya_owned.specs.Given.Late.Faults.{IsRoom}
 use Rattle.papaya_owned.specs.Given.Late.Kinds.{FaultFits, FitsAt}
 use Rattle.papaya_owned.proofs.Given.Late.KindsKept.Laws.{replies_keep_the_kind}
+use Rattle.papaya_owned.proofs.Given.Late.KindsKept.Rooms.Calling.{key_told_as}
 use Rattle.papaya_owned.specs.Given.Callers.Asked.{last_told}
 use Rattle.papaya_owned.specs.Given.Callers.Kind.{Kind}
 use Rattle.papaya_owned.specs.Given.Callers.Pairs.{Given, IsTold, and_told}
 use Rattle.papaya_owned.specs.Given.Callers.Sights.{seen_by}
 use Rattle.papaya_owned.specs.Given.Callers.Together.{CallOnKey, AsksAbout, RepliesTaken, OnKey as OnKeyOf}
+use Rattle.papaya_owned.specs.Given.Whole.Limits.{IsForTheLast, IsTheLast}
 use Rattle.papaya_owned.specs.Given.Whole.Owner.{IsAlone}
 use Rattle.papaya_owned.proofs.Given.Whole.Keys.Replies.{replies_lead_on, replies_count_nothing}
 use Rattle.papaya_asks.specs.Asking.{IsTaken, AnswersAs, RefusedAs, Pauses, AsksOf, StartsAs, ToldThis, HasKeyBack, HasPairBack}
@@ -194,6 +196,7 @@ module _ {K V Q S : Type 0} (asks : Q → K → Bool) (same : K → K → Bool) 
       counts = subst (λ (n : ℕ). HasAdded setting h.world.memory n s.under.course.w.memory) (sym (replies_count_nothing same hash asks setting slot_of q s.asks_at s.stands said)) s.under.course.counts;
       fit = replies_keep_the_kind kind.present kind.absent kind.takes q s.under.course.fit said;
       looks = s.under.course.looks;
+      ends = λ bits few. key_told_as (IsForTheLast s.under.course.c) (IsTheLast s.under.course.c) (λ e. absurd (cc e)) q (s.under.course.ends bits few) said;
     };
   }
 
@@ -295,7 +298,11 @@ module _ {K V Q S : Type 0} (asks : Q → K → Bool) (same : K → K → Bool) 
   told_so z m2 (Ok (stop.Asks again)) runs = never_again z m2 again runs
   told_so z m2 (Err fault) runs =
       let s2 = stopped2 z m2 (Err fault) runs in
-      (refused_by fault asked about started.2 alike s2.1.0 s2.1.1, by.refused_it same asks hashes x.hasher setting p.before xs h keys given2 m2 s2.0)
+      (
+        refused_by fault asked about started.2 alike s2.1.0 s2.1.1,
+        by.refused_it same asks hashes x.hasher setting p.before xs h keys given2 m2 fault s2.0,
+        by.refused_ends same asks hashes x.hasher setting p.before xs h keys given2 m2 fault s2.0,
+      )
 
   -- what comes back where it is refused
   pub told_back : (z : OnKey K V Q S) (m2 : Mem (Node K V)) (fault : Fault) → RunsTo (on_key_plan asks same hashes) told_call m z m2 (Err fault) → (k : K) → its ≡ Some k → HasKeyBack z k

@@ -42,7 +42,7 @@ module _ (K V : Type 0) where
   pub calls_take_grown : CallsTakeGrown K V
   calls_take_grown same name m known s whole grown of i u here reply next goes is_told =
       take_marked grown_mark Other as_grown name m s grown same whole.all.shown.calls of i u here next
-      (λ so. subst Other (sym goes) (replied_so IsOther long_other nothing_other (machine_of u) reply so)) is_told
+      (λ so. subst Other (sym goes) (replied_so IsOther nothing_other (machine_of u) reply so)) is_told
 
   pub calls_come_to_grown : CallsComeToGrown K V
   calls_come_to_grown same name m known s whole grown own o steps ended = come_marked grown_mark Other as_grown name m s grown same whole.all.shown.calls own o steps ended

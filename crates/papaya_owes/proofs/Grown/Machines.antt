@@ -108,11 +108,11 @@ module _ (Is : Fault → Type 0) {K V : Type 0} where
   asked_so (kinds.Count sum) so = so
 
   -- and one that is told what it asks
-  pub replied_so : Is Capacity → Is RemoveNothing → (y : Machine K V K) (told : MachineReply V) → SoInMachine Is y → SoInMachine Is (machine_replied y told).0
-  replied_so long nothing (kinds.Key p) told so = key_told_so Is long nothing p so told
-  replied_so long nothing (kinds.Sweep c) told so = sweep_told_so Is c.stands c told so
-  replied_so long nothing (kinds.Reserve r) told so = so
-  replied_so long nothing (kinds.Count sum) told so = so
+  pub replied_so : Is RemoveNothing → (y : Machine K V K) (told : MachineReply V) → SoInMachine Is y → SoInMachine Is (machine_replied y told).0
+  replied_so nothing (kinds.Key p) told so = key_told_so Is nothing p so told
+  replied_so nothing (kinds.Sweep c) told so = sweep_told_so Is c.stands c told so
+  replied_so nothing (kinds.Reserve r) told so = so
+  replied_so nothing (kinds.Count sum) told so = so
 
   -- one that begins has nothing to tell
   key_begins : (same : K → K → Bool) (hash : K → ℕ) (setting : Setting) (slot : ℕ → ℕ) (i : ℕ) (keys : K → Bool) (given : Given K V) (call : KeyCall K V K)

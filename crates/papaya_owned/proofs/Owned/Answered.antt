@@ -4,10 +4,15 @@ use Rattle.std.proofs.Common.{refl, sym, ◌∙◌, ap, subst, arith, inl, inr}
 use denote.Ref.{Bor}
 use Rattle.seize_words.specs.Mem.{Mem, value_at}
 use Rattle.seize_words.specs.Word.{block_in}
+use Rattle.seize_words.specs.declared.fault.Fault.{Fault}
+use Rattle.seize_words.specs.declared.fault.Fault.TheVariants.{Capacity}
 use Rattle.seize.specs.World.{World}
+use Rattle.papaya_tables.specs.declared.lengths.Reason.{Reason}
 use Rattle.papaya_tables.specs.declared.node.Node.{Node}
 use Rattle.papaya_tables.specs.declared.node.Node.TheVariants as node
 use Rattle.papaya_tables.specs.declared.setting.Setting.{Setting}
+use Rattle.papaya_tables.specs.declared.table.Table.{Table}
+use Rattle.papaya_shown.specs.Chain.{CannotGrowIn}
 use Rattle.papaya_raw.specs.declared.machines.answer.KeyAnswer.{KeyAnswer}
 use Rattle.papaya_raw.specs.declared.machines.answer.KeyAnswer.TheVariants as answers
 use Rattle.papaya_raw.specs.declared.machines.asking.Reply.TheVariants as reply
@@ -20,13 +25,15 @@ use Rattle.papaya_whole.proofs.Given.Rule.World.Hands.{current_known}
 use Rattle.papaya_whole.specs.Given.Points.FactsCalls.{Change, Unchanged, Stored, Replaced, Removed, Tells}
 use Rattle.papaya_whole.specs.Given.Alone.Alone.{HasChanged}
 use Rattle.papaya_whole.specs.Given.Alone.Counted.{HasAdded, counted_at}
+use Rattle.papaya_whole.specs.Given.Late.Faults.{StandsInCalling}
 use Rattle.papaya_whole.specs.Given.Late.Kinds.{MayPut}
 use Rattle.papaya_whole.specs.Given.Callers.Asked.{last_told, LeavesPair, LeavesNone}
 use Rattle.papaya_whole.specs.Given.Callers.Pairs.{Given, Begun, IsTold, kind_of, StoresGiven, LeavesGiven}
 use Rattle.papaya_whole.specs.Given.Callers.Since.{SoSince}
-use Rattle.papaya_whole.specs.Given.Callers.Together.{IsBegun, in_slot}
+use Rattle.papaya_whole.specs.Given.Callers.Together.{IsBegun, Gets, Removes, Inserts, TriesToInsert, Computes, Updates, UpdatesOrInserts, TriesToInsertWith, RemovesIf, in_slot}
 use Rattle.papaya_whole.proofs.Given.Callers.Asked.By.{block_of_word}
 use Rattle.papaya_whole.specs.AtEnd.{AnswersSo}
+use Rattle.papaya_whole.specs.Limits.{IsForTheLast, IsTheLast}
 use Rattle.papaya_whole.specs.Contents.{ContentsBelow, AreContents, HasRun, pair_for, without}
 use Rattle.papaya_whole.proofs.Contents.Answers.{present_below}
 use Rattle.papaya_whole.proofs.Contents.AtEnd.{answers_tell_the_pairs}
@@ -38,6 +45,7 @@ use Rattle.papaya_owned.specs.Owned.{Holds, IsPairAt, found_by, left_by}
 use Rattle.papaya_owned.specs.Standing.{Standing, Waits}
 use Rattle.papaya_owned.specs.declared.machines.OnKey.{OnKey}
 use Rattle.papaya_owned.proofs.Owned.Keys.{Under, OfKind, Answered, IsRefused}
+use Rattle.papaya_owned.proofs.Owned.Lasts.{last_shown}
 use Rattle.papaya_owned.proofs.Owned.Lookups.{found_is, left_is, none_below}
 use Rattle.papaya_owned.proofs.Owned.Rests.{rests_as}
 use Rattle.papaya_owned.proofs.Owned.Standing.{blocks_below, none_there, standing_below}
@@ -74,11 +82,24 @@ module _ {K V Q S : Type 0} (same : K → K → Bool) (asks : Q → K → Bool) 
   abbrev pub AnsweredIt : Mem (Node K V) → KeyAnswer → Type 0
   AnsweredIt = Answered {Q = Q} same asks hashes b setting h.lawful h.initial h.world.memory h.chart h.blocks map0.map.rule keys given
 
-  abbrev pub RefusedIt : Mem (Node K V) → Type 0
+  abbrev pub RefusedIt : Mem (Node K V) → Fault → Type 0
   RefusedIt = IsRefused {Q = Q} same asks hashes b setting h.lawful h.initial h.world.memory h.chart h.blocks map0.map.rule keys given
 
   nothing_added : (s : ℕ) → s % 2 ^ 64 ≡ (s + 0) % 2 ^ 64
   nothing_added s = ap (λ x. x % 2 ^ 64) (omega arith)
+
+  -- one that begins has nothing to tell
+  begun_so : (Is : Fault → Type 0) (Last : Table → Reason → Type 0) (others : K → Bool) (of : Given K V) (call : KeyCall K V Q) → IsBegun V same hash asks setting slot_of 0 others of call
+      → StandsInCalling Is Last call.trial.table call.stands
+  begun_so Is Last others of call (Gets q code few class) = tt
+  begun_so Is Last others of call (Removes q code few class) = tt
+  begun_so Is Last others of call (Inserts key value) = tt
+  begun_so Is Last others of call (TriesToInsert key value) = tt
+  begun_so Is Last others of call (Computes key) = tt
+  begun_so Is Last others of call (Updates key) = tt
+  begun_so Is Last others of call (UpdatesOrInserts key absent) = tt
+  begun_so Is Last others of call (TriesToInsertWith key) = tt
+  begun_so Is Last others of call (RemovesIf q code few class) = tt
 
   -- a call begins
   pub begins_it : (call : KeyCall K V Q) → IsBegun V same hash asks setting slot_of 0 keys given call → counted_at call.stands ≡ 0
@@ -100,6 +121,7 @@ module _ {K V Q S : Type 0} (same : K → K → Bool) (asks : Q → K → Bool) 
       counts = subst (λ x. HasAdded setting h.world.memory x h.world.memory) (sym none) (nothing_added _);
       fit = fit;
       looks = λ o low known. (known, refl, refl);
+      ends = λ bits few. begun_so (IsForTheLast h.chart) (IsTheLast h.chart) keys given call begun;
     };
   }
 
@@ -114,10 +136,11 @@ module _ {K V Q S : Type 0} (same : K → K → Bool) (asks : Q → K → Bool) 
       (below_stays same h.world.memory m h.chart c h.blocks blocks h.chart.stored xs (λ o low. ap (λ (f : ℕ → Bool). f o) run.changed.changes) run.keeps.values h.are)
 
   -- it was refused
-  pub refused_it : (m : Mem (Node K V)) → RefusedIt m → Holds same hash setting m xs
-  refused_it m r = record {
+  pub refused_it : (m : Mem (Node K V)) (fault : Fault) → RefusedIt m fault → Holds same hash setting m xs
+  refused_it m fault r = record {
     lawful = h.lawful;
     initial = h.initial;
+    few = h.few;
     one_shard = h.one_shard;
     incremental = h.incremental;
     size = h.size;
@@ -130,6 +153,10 @@ module _ {K V Q S : Type 0} (same : K → K → Bool) (asks : Q → K → Bool) 
     counted = counts_where_unchanged V same hash setting r.w r.c r.blocks r.rests.together.ground.map h.world.memory h.chart map0.map.rule keys r.runs.changed r.counts h.counted;
     are = same_pairs r.w.memory r.c r.blocks r.runs;
   }
+
+  -- and for the length of a table only where none can follow the last one
+  pub refused_ends : (m : Mem (Node K V)) (fault : Fault) → RefusedIt m fault → fault ≡ Capacity → CannotGrowIn m setting
+  refused_ends m fault r e = last_shown same hash h.lawful setting r.w r.c r.blocks r.rests.together.ground.map m r.memory (r.ends h.incremental h.few e)
 
   -- by its answer: the pairs that the map had, and has, and what that is by
   module _ (m : Mem (Node K V)) where
@@ -191,6 +218,7 @@ module _ {K V Q S : Type 0} (same : K → K → Bool) (asks : Q → K → Bool) 
       holds_at ys are = record {
         lawful = h.lawful;
         initial = h.initial;
+        few = h.few;
         one_shard = h.one_shard;
         incremental = h.incremental;
         size = h.size;

@@ -38,7 +38,11 @@ module _ {K V Q S : Type 0} (same : K → K → Bool) (asks : Q → K → Bool) 
       → EndsBy same (hashes b.now) setting m kind pair keys xs result
   ends_by_keys m (Ok (stop.Answered answer)) a = (a.answers.0, by_answer m answer (by.answered_it same asks hashes b setting m0 xs h keys (Begun kind pair) one named m answer a))
   ends_by_keys m (Ok (stop.Asks asked)) t = t
-  ends_by_keys m (Err fault) r = (r.1, by.refused_it same asks hashes b setting m0 xs h keys (Begun kind pair) m r.0)
+  ends_by_keys m (Err fault) r = (
+    r.1,
+    by.refused_it same asks hashes b setting m0 xs h keys (Begun kind pair) m fault r.0,
+    by.refused_ends same asks hashes b setting m0 xs h keys (Begun kind pair) m fault r.0,
+  )
 
 -- asked with a key
 module _ {K V S : Type 0} (same : K → K → Bool) (hashes : S → K → ℕ) (b : Bor S) (setting : Setting) (m0 : Mem (Node K V)) (xs : List (K × V)) (h : Holds same (hashes b.now) setting m0 xs)

@@ -1,5 +1,5 @@
 -- A call on one key of one owner's map, run to its end.
-use Rattle.std.specs.Prelude.{◌≡◌, ℕ, ◌<◌, Bool, true, Option, Some, Result, Ok, Err}
+use Rattle.std.specs.Prelude.{◌≡◌, ℕ, ◌^◌, ◌<◌, ◌≤◌, Bool, true, Option, Some, Result, Ok, Err}
 use Rattle.std.specs.Int.{IsPowerOfTwo}
 use Rattle.std.proofs.Common.{refl, sym, ◌∙◌, ap, subst, arith}
 use denote.Ref.{Bor}
@@ -31,12 +31,14 @@ use Rattle.papaya_whole.specs.Given.Points.Steps.{AreLawful}
 use Rattle.papaya_whole.specs.Given.Alone.Counted.{HasAdded, counted_at, counted_for}
 use Rattle.papaya_whole.specs.Given.Alone.Endings.{RunsEnd, runs_end}
 use Rattle.papaya_whole.specs.Given.Callers.Pairs.{Given, RemovesNone, kind_of}
+use Rattle.papaya_whole.specs.Given.Late.Faults.{StandsInCalling}
 use Rattle.papaya_whole.specs.Given.Late.Kinds.{IsFit, ComesFit, FaultFits, TellsFit}
 use Rattle.papaya_whole.proofs.Given.Late.KindsKept.Laws.{calls_keep_their_kind}
 use Rattle.papaya_whole.specs.Given.Callers.Sights.{Sight}
 use Rattle.papaya_whole.specs.Given.Callers.Together.{CallOnKey, OnKey as OnKeyOf, AnswersOnce, in_slot}
 use Rattle.papaya_whole.specs.Given.Rule.InWorld.{IsMapIn}
 use Rattle.papaya_whole.specs.Contents.{HasRun}
+use Rattle.papaya_whole.specs.Limits.{IsForTheLast, IsTheLast}
 use Rattle.papaya_whole.specs.Owner.{AtRest, IsAlone}
 use Rattle.papaya_whole.specs.Whole.{GoesOn as CallGoesOn, StepsOn, StepLeads}
 use Rattle.papaya_whole.proofs.Keys.Whole.{calls_go_on_alone}
@@ -81,6 +83,10 @@ module _ {K V Q S : Type 0} (same : K → K → Bool) (asks : Q → K → Bool) 
   StillLooked m blocks =
       (o : ℕ) → o < c0.stored → blocks0.pair_known o ≡ true → (blocks.pair_known o ≡ true) × (blocks.pair o ≡ blocks0.pair o) × (value_at m (blocks0.pair o) ≡ value_at m0 (blocks0.pair o))
 
+  -- where it has to tell that a table would be too long, none can follow the last one
+  abbrev pub EndsAtLast : Chart K → KeyCall K V Q → Type 0
+  EndsAtLast c p = is_incremental setting.mode ≡ true → setting.initial ≤ 2 ^ 48 → StandsInCalling (IsForTheLast c) (IsTheLast c) p.trial.table p.stands
+
   -- it is under way, and alone, since the map rested
   pub record Course (p : KeyCall K V Q) (m : Mem (Node K V)) : Type 0 where
     pub w : World (Node K V)
@@ -94,6 +100,7 @@ module _ {K V Q S : Type 0} (same : K → K → Bool) (asks : Q → K → Bool) 
     pub counts : HasAdded setting m0 (counted_at p.stands) w.memory
     pub fit : OfKind p
     pub looks : StillLooked w.memory blocks
+    pub ends : EndsAtLast c p
 
   -- it has answered, and the map rests
   pub record Answered (m : Mem (Node K V)) (answer : KeyAnswer) : Type 0 where
@@ -113,8 +120,8 @@ module _ {K V Q S : Type 0} (same : K → K → Bool) (asks : Q → K → Bool) 
     pub runs : HasRun same hash setting keys m0 c0 blocks0 change w.memory c blocks
     pub counts : HasAdded setting m0 (counted_for answer) w.memory
 
-  -- it was refused, and has changed nothing
-  pub record IsRefused (m : Mem (Node K V)) : Type 0 where
+  -- it was refused for this, and has changed nothing
+  pub record IsRefused (m : Mem (Node K V)) (fault : Fault) : Type 0 where
     pub w : World (Node K V)
     pub c : Chart K
     pub blocks : Blocks
@@ -123,6 +130,7 @@ module _ {K V Q S : Type 0} (same : K → K → Bool) (asks : Q → K → Bool) 
     pub memory : w.memory ≡ m
     pub runs : HasRun same hash setting keys m0 c0 blocks0 Unchanged w.memory c blocks
     pub counts : HasAdded setting m0 0 w.memory
+    pub ends : is_incremental setting.mode ≡ true → setting.initial ≤ 2 ^ 48 → IsForTheLast c fault
 
   -- for what it may be refused: the removal of what is not there, where it was told to remove that
   abbrev pub RefusalFits : Fault → Type 0
@@ -134,7 +142,7 @@ module _ {K V Q S : Type 0} (same : K → K → Bool) (asks : Q → K → Bool) 
   CourseTo p m (called.Asks asked) =
       Course p m × TellsFit (kind_of given).present (kind_of given).absent (kind_of given).takes {T = Node K V} (called.Asks asked) × (asks_at : Asking) × (p.stands ≡ points.Asks asks_at)
   CourseTo p m (called.Done answer) = Answered m answer
-  CourseTo p m (called.Refused fault) = IsRefused m × RefusalFits fault
+  CourseTo p m (called.Refused fault) = IsRefused m fault × RefusalFits fault
   CourseTo p m _ = Course p m
 
   module _ (p : KeyCall K V Q) (m : Mem (Node K V)) (at : Course p m) where
@@ -174,6 +182,7 @@ module _ {K V Q S : Type 0} (same : K → K → Bool) (asks : Q → K → Bool) 
       counts = l.counts m0 at.counts;
       fit = fit;
       looks = looks_on m2 p2 told l;
+      ends = λ bits few. (l.ends bits few (at.ends bits few)).0;
     }
 
     course_by : (m2 : Mem (Node K V)) (p2 : KeyCall K V Q) (told : Called (Node K V)) → Leading m2 p2 told → ComesFit (kind_of given).present (kind_of given).absent (kind_of given).takes (p2, told) → CourseTo p2 m2 told
@@ -209,6 +218,7 @@ module _ {K V Q S : Type 0} (same : K → K → Bool) (asks : Q → K → Bool) 
         memory = l.memory;
         runs = subst (λ x. HasRun same hash setting keys m0 c0 blocks0 x l.w2.memory l.c2 l.blocks2) l.leads.1 (l.runs m0 c0 blocks0 rule0 at.runs);
         counts = l.refused fault refl m0 at.counts;
+        ends = λ bits few. (l.ends bits few (at.ends bits few)).1;
       },
       (f.1, l.removes fault refl),
     )
@@ -241,7 +251,7 @@ module _ {K V Q S : Type 0} (same : K → K → Bool) (asks : Q → K → Bool) 
   Next x m progress.Waits = ⊥
   Next x m (progress.Done (stop.Answered answer)) = Answered m answer
   Next x m (progress.Done (stop.Asks asked)) = AsksAt x m asked
-  Next x m (progress.Refused fault) = IsRefused m × RefusalFits fault
+  Next x m (progress.Refused fault) = IsRefused m fault × RefusalFits fault
 
   next_by : (p : KeyCall K V Q) (o : Option (Node K V)) (m : Mem (Node K V)) (told : Called (Node K V)) → CourseTo p m told → Next (on_key_settled (it p o) told).0 m (on_key_settled (it p o) told).1
   next_by p o m called.Goes c = record { p = p; unstored = o; is = refl; course = c }
@@ -302,12 +312,12 @@ module _ {K V Q S : Type 0} (same : K → K → Bool) (asks : Q → K → Bool) 
   abbrev pub StopsAt : OnKey K V Q S → Mem (Node K V) → Result Stop Fault → Type 0
   StopsAt x m (Ok (stop.Answered answer)) = Answered m answer
   StopsAt x m (Ok (stop.Asks asked)) = AsksAt x m asked
-  StopsAt x m (Err fault) = IsRefused m × RefusalFits fault
+  StopsAt x m (Err fault) = IsRefused m fault × RefusalFits fault
 
   abbrev pub ComesTo : Mem (Node K V) → Result Stop Fault → Type 0
   ComesTo m (Ok (stop.Answered answer)) = Answered m answer
   ComesTo m (Ok (stop.Asks asked)) = TellsFit (kind_of given).present (kind_of given).absent (kind_of given).takes {T = Node K V} (called.Asks asked)
-  ComesTo m (Err fault) = IsRefused m × FaultFits (kind_of given).present (kind_of given).absent (kind_of given).takes fault
+  ComesTo m (Err fault) = IsRefused m fault × FaultFits (kind_of given).present (kind_of given).absent (kind_of given).takes fault
 
   stopped : (x2 : OnKey K V Q S) (m2 : Mem (Node K V)) (told : Progress Stop) (result : Result Stop Fault) → Next x2 m2 told → Tells told result → StopsAt x2 m2 result
   stopped x2 m2 (progress.Done a) (Ok b) next tells = subst (λ z. StopsAt x2 m2 (Ok z)) (sym tells) (done a next)

@@ -159,7 +159,7 @@ module _ {K V : Type 0} (same : K → K → Bool) (hash : K → ℕ) (lawful : A
       runs_refused n1 m1 n2 m2 result runs (opens_on n m o m1 n1 told on s).0 (needs_on n n1 m m1 o told on s (only_memory_is_refused K V m m1 n (n1, told) needs s).1)
 
   -- what it comes to
-  module _ (one : setting.mask ≡ 0) (size : setting.batch_size < 2 ^ 64) (incremental : is_incremental setting.mode ≡ true) where
+  module _ (one : setting.mask ≡ 0) (size : setting.batch_size < 2 ^ 64) (incremental : is_incremental setting.mode ≡ true) (few : setting.initial ≤ 2 ^ 48) where
     no_contents : (m : Mem (Node K V)) (c : Chart K) (blocks : Blocks) → ((n : ℕ) → c.current n ≡ false) → (n : ℕ) → ContentsBelow m c blocks n []
     no_contents m c blocks empty zero = refl
     no_contents m c blocks empty (suc n) = none_last m c blocks n [] (empty n) (no_contents m c blocks empty n)
@@ -190,6 +190,7 @@ module _ {K V : Type 0} (same : K → K → Bool) (hash : K → ℕ) (lawful : A
       made_holds = record {
         lawful = lawful;
         initial = subst IsPowerOfTwo (sym (ap (λ (x : Setting). x.initial) answer_is)) initial;
+        few = subst (λ (x : ℕ). x ≤ 2 ^ 48) (sym (ap (λ (x : Setting). x.initial) answer_is)) few;
         one_shard = ap (λ (x : Setting). x.mask) answer_is ∙ one;
         incremental = ap (λ (x : Setting). is_incremental x.mode) answer_is ∙ incremental;
         size = subst (λ x. x < 2 ^ 64) (sym (ap (λ (x : Setting). x.batch_size) answer_is)) size;

@@ -211,6 +211,7 @@ module _ {K V : Type 0} (same : K → K → Bool) (hash : K → ℕ) (setting : 
     has_ended m2 d s = record {
       lawful = h.lawful;
       initial = h.initial;
+      few = h.few;
       one_shard = h.one_shard;
       incremental = h.incremental;
       size = h.size;

@@ -1,6 +1,6 @@
 -- A reservation of one owner's map, run to its end: the map has the same pairs, and room for further ones.
-use Rattle.std.specs.Prelude.{◌≡◌, ℕ, suc, ◌+◌, ◌-◌, ◌*◌, ◌%◌, ◌^◌, ◌≤◌, Bool, false, cond, List, length, Some, Result, Ok, Err}
-use Rattle.std.proofs.Common.{refl, sym, ◌∙◌, ap, subst, arith}
+use Rattle.std.specs.Prelude.{◌≡◌, ℕ, suc, ◌+◌, ◌-◌, ◌*◌, ◌%◌, ◌^◌, ◌≤◌, ◌⊎◌, Bool, false, cond, List, length, Some, Result, Ok, Err}
+use Rattle.std.proofs.Common.{refl, sym, ◌∙◌, ap, subst, arith, inl, inr}
 use Rattle.std.proofs.lemmas.Bool.{ne_eqb}
 use denote.Ref.{Bor}
 use Rattle.seize_words.specs.Mem.{Mem, Can, Took, value_at, word_at}
@@ -27,7 +27,7 @@ use Rattle.papaya_whole.specs.Given.Points.FactsCalls.{Unchanged}
 use Rattle.papaya_whole.specs.Given.Alone.Counted.{HasAdded}
 use Rattle.papaya_whole.specs.Given.Alone.Counting.{IsCounted, shards_sum}
 use Rattle.papaya_whole.specs.Given.Alone.Endings.{RunsEnd, runs_end}
-use Rattle.papaya_whole.specs.Given.Late.Faults.{IsRoom, RoomInReserving, RefusesRoom}
+use Rattle.papaya_whole.specs.Given.Late.Faults.{IsRoom, RoomInReserving, RefusesRoom, RefusesSo, StandsInReserving}
 use Rattle.papaya_whole.proofs.Given.Late.KindsKept.Laws.{reserves_refuse_room, reserves_ask_on}
 use Rattle.papaya_whole.specs.Given.Maps.AloneReserves.{LooksAtRoot, SumsUp, RootHasPlaces}
 use Rattle.papaya_whole.specs.Given.Maps.EndingsReserves.{HasMore, StepsOn}
@@ -35,6 +35,7 @@ use Rattle.papaya_whole.specs.Given.Callers.Sights.{Sight}
 use Rattle.papaya_whole.specs.Given.Callers.Together.{ForRoom as ForRoomOf, in_slot}
 use Rattle.papaya_whole.specs.Given.Callers.Rooms.{CallForRoom}
 use Rattle.papaya_whole.specs.Contents.{AreContents, ContentsBelow, HasRun}
+use Rattle.papaya_whole.specs.Limits.{LastEnds, IsForRoom, IsTheLast}
 use Rattle.papaya_whole.specs.Owner.{AtRest, IsAlone}
 use Rattle.papaya_whole.specs.WholeRooms.{RoomStepLeads}
 use Rattle.papaya_whole.proofs.Contents.Below.{below_stays}
@@ -45,9 +46,10 @@ use Rattle.papaya_whole.proofs.Rooms.Whole.{rooms_begin_alone, rooms_go_on_alone
 use Rattle.papaya_owned.specs.Ending.{GoesOn, Tells, Ends, all_end, RunsTo, stops, goes}
 use Rattle.papaya_owned.specs.Machines.{for_room_settled, for_room_after, for_room_plan}
 use Rattle.papaya_owned.specs.Owned.{Holds}
-use Rattle.papaya_owned.specs.Rooms.{HasRoomFor, RoomBy}
+use Rattle.papaya_owned.specs.Rooms.{CannotMakeRoom, HasRoomFor, NeedTooMany, RoomBy}
 use Rattle.papaya_owned.specs.declared.machines.ForRoom.{ForRoom}
 use Rattle.papaya_owned.proofs.Owned.Keys.{may_turned}
+use Rattle.papaya_owned.proofs.Owned.Lasts.{last_shown}
 
 -- from what the map held
 module _ {K V S : Type 0} (same : K → K → Bool) (hashes : S → K → ℕ) (b : Bor S) (setting : Setting) (m0 : Mem (Node K V)) (xs : List (K × V)) (h : Holds same (hashes b.now) setting m0 xs) (additional : ℕ) where
@@ -67,6 +69,25 @@ module _ {K V S : Type 0} (same : K → K → Bool) (hashes : S → K → ℕ) (
   abbrev since : ℕ → Reserve → CallForRoom
   since began p = record { began = began; reserve = p }
 
+  -- what the shards of a memory say
+  abbrev said_in : Mem (Node K V) → ℕ
+  said_in m = count_in (shards_sum m setting.counter (suc setting.mask) % 2 ^ 64)
+
+  all_of : (s : ℕ) → s ≡ 0 + (s - 0)
+  all_of s = omega arith
+
+  no_more : (s : ℕ) → s + 0 ≡ s
+  no_more s = omega arith
+
+  said_first : said_in h.world.memory ≡ length xs
+  said_first =
+      ap (λ (x : ℕ). count_in (x % 2 ^ 64)) (all_of (shards_sum h.world.memory setting.counter (suc setting.mask)))
+      ∙ countings_come_to same hash setting h.world h.chart h.blocks h.rests.together.ground.map h.counted xs h.are
+
+  -- where none was added, they say the same
+  said_still : (m : Mem (Node K V)) → HasAdded setting h.world.memory 0 m → said_in m ≡ length xs
+  said_still m none = ap count_in none ∙ ap (λ (x : ℕ). count_in (x % 2 ^ 64)) (no_more (shards_sum h.world.memory setting.counter (suc setting.mask))) ∙ said_first
+
   abbrev RunsIt : Mem (Node K V) → Chart K → Blocks → Type 0
   RunsIt m c blocks = HasRun same hash setting no_keys h.world.memory h.chart h.blocks Unchanged m c blocks
 
@@ -85,6 +106,7 @@ module _ {K V S : Type 0} (same : K → K → Bool) (hashes : S → K → ℕ) (
     pub sums : SumsUp setting w.memory p.stands
     pub room : RoomInReserving p.stands
     pub more : p.additional ≡ additional
+    pub ends : StandsInReserving (IsForRoom c additional (length xs)) (IsTheLast c) p.stands
 
   -- it has ended, and the map rests
   pub record HasEnded (m : Mem (Node K V)) : Type 0 where
@@ -101,13 +123,17 @@ module _ {K V S : Type 0} (same : K → K → Bool) (hashes : S → K → ℕ) (
   abbrev pub HasMadeRoom : Mem (Node K V) → Type 0
   HasMadeRoom m = (e : HasEnded m) × RootHasPlaces setting e.w.memory e.c additional
 
+  -- or it was refused for this
+  abbrev pub IsRefused : Mem (Node K V) → Fault → Type 0
+  IsRefused m fault = (e : HasEnded m) × IsRoom fault × IsForRoom e.c additional (length xs) fault
+
   -- where a step leads, by its outcome
   abbrev pub CourseTo : Reserve → Mem (Node K V) → Outcome (Node K V) Unit → Type 0
   CourseTo p m outcome.Goes = Course p m
   CourseTo p m outcome.Waits = ⊥
   CourseTo p m (outcome.Gave value) = Course p m
   CourseTo p m (outcome.Done end) = HasMadeRoom m
-  CourseTo p m (outcome.Refused fault) = HasEnded m × IsRoom fault
+  CourseTo p m (outcome.Refused fault) = IsRefused m fault
 
   module _ (p : Reserve) (m : Mem (Node K V)) (here : Course p m) where
     abbrev Leading : Mem (Node K V) → Reserve → Outcome (Node K V) Unit → Type 0
@@ -130,6 +156,13 @@ module _ {K V S : Type 0} (same : K → K → Bool) (hashes : S → K → ℕ) (
       more_then : p2.additional ≡ additional
       more_then = reserves_ask_on {K = K} {V = V} hash p m m2 (p2, told) s ∙ here.more
 
+      ends_of : (l : Leading m2 p2 told)
+          → StandsInReserving (IsForRoom l.c2 additional (length xs)) (IsTheLast l.c2) p2.stands × RefusesSo (IsForRoom l.c2 additional (length xs)) told
+      ends_of l =
+          subst (λ (a : ℕ). StandsInReserving (IsForRoom l.c2 a (length xs)) (IsTheLast l.c2) p2.stands × RefusesSo (IsForRoom l.c2 a (length xs)) told) here.more
+          (l.ends h.incremental h.few here.sums (length xs) (said_still here.w.memory here.counts)
+          (subst (λ (a : ℕ). StandsInReserving (IsForRoom here.c a (length xs)) (IsTheLast here.c) p.stands) (sym here.more) here.ends))
+
       course_of : (l : Leading m2 p2 told) → IsAlone {Q = K} same hash same setting slot_of l.w2 l.c2 l.blocks2 l.sights2 (ForRoomOf (since here.began p2)) → LooksAtRoot l.c2 p2.stands × SumsUp setting l.w2.memory p2.stands
           → Course p2 m2
       course_of l alone root = record {
@@ -146,6 +179,7 @@ module _ {K V S : Type 0} (same : K → K → Bool) (hashes : S → K → ℕ) (
         sums = root.1;
         room = faults.0;
         more = more_then;
+        ends = (ends_of l).0;
       }
 
       ended_of : (l : Leading m2 p2 told) → AtRest {K = K} {V = V} {Q = K} same hash same setting slot_of l.w2 l.c2 l.blocks2 l.sights2 → HasEnded m2
@@ -171,7 +205,11 @@ module _ {K V S : Type 0} (same : K → K → Bool) (hashes : S → K → ℕ) (
         let l = leading m2 p2 (outcome.Done end) s in
         (ended_of m2 p2 (outcome.Done end) s l l.leads, subst (RootHasPlaces setting l.w2.memory l.c2) (more_then m2 p2 (outcome.Done end) s) (l.places h.incremental here.root here.sums))
     course_step m2 p2 (outcome.Refused fault) s =
-        let l = leading m2 p2 (outcome.Refused fault) s in (ended_of m2 p2 (outcome.Refused fault) s l l.leads, (faults m2 p2 (outcome.Refused fault) s).1)
+        let l = leading m2 p2 (outcome.Refused fault) s in (
+          ended_of m2 p2 (outcome.Refused fault) s l l.leads,
+          (faults m2 p2 (outcome.Refused fault) s).1,
+          (ends_of m2 p2 (outcome.Refused fault) s l).1,
+        )
 
     pub course_ends : RunsEnd (Reserve × Mem (Node K V)) (StepsOn hash) (p, m)
     course_ends =
@@ -189,7 +227,7 @@ module _ {K V S : Type 0} (same : K → K → Bool) (hashes : S → K → ℕ) (
   Next x m progress.Goes = Under x m
   Next x m progress.Waits = ⊥
   Next x m (progress.Done end) = HasMadeRoom m
-  Next x m (progress.Refused fault) = HasEnded m × IsRoom fault
+  Next x m (progress.Refused fault) = IsRefused m fault
 
   next_by : (p : Reserve) (m : Mem (Node K V)) (told : Outcome (Node K V) Unit) → CourseTo p m told → Next (for_room_settled (it p) told).0 m (for_room_settled (it p) told).1
   next_by p m outcome.Goes c = record { p = p; is = refl; course = c }
@@ -245,11 +283,11 @@ module _ {K V S : Type 0} (same : K → K → Bool) (hashes : S → K → ℕ) (
   -- what it comes to
   abbrev pub ComesTo : Mem (Node K V) → Result Unit Fault → Type 0
   ComesTo m (Ok end) = HasMadeRoom m
-  ComesTo m (Err fault) = HasEnded m × IsRoom fault
+  ComesTo m (Err fault) = IsRefused m fault
 
   stopped : (x2 : ForRoom S) (m2 : Mem (Node K V)) (told : Progress Unit) (result : Result Unit Fault) → Next x2 m2 told → Tells told result → ComesTo m2 result
   stopped x2 m2 (progress.Done a) (Ok d) next tells = next
-  stopped x2 m2 (progress.Refused f) (Err g) next tells = subst (λ (z : Fault). HasEnded m2 × IsRoom z) (sym tells) next
+  stopped x2 m2 (progress.Refused f) (Err g) next tells = subst (λ (z : Fault). IsRefused m2 z) (sym tells) next
   stopped x2 m2 (progress.Refused f) (Ok d) next tells = absurd tells
   stopped x2 m2 (progress.Done a) (Err g) next tells = absurd tells
   stopped x2 m2 progress.Goes (Ok d) next tells = absurd tells
@@ -288,6 +326,7 @@ module _ {K V S : Type 0} (same : K → K → Bool) (hashes : S → K → ℕ) (
       sums = tt;
       room = tt;
       more = refl;
+      ends = tt;
     };
   }
 
@@ -308,6 +347,7 @@ module _ {K V S : Type 0} (same : K → K → Bool) (hashes : S → K → ℕ) (
     holds_then = record {
       lawful = h.lawful;
       initial = h.initial;
+      few = h.few;
       one_shard = h.one_shard;
       incremental = h.incremental;
       size = h.size;
@@ -326,15 +366,15 @@ module _ {K V S : Type 0} (same : K → K → Bool) (hashes : S → K → ℕ) (
     said =
         ap (λ (x : ℕ). count_in (x % 2 ^ 64)) (all_of (shards_sum e.w.memory setting.counter (suc setting.mask)))
         ∙ countings_come_to same hash setting e.w e.c e.blocks map_then counted_then xs contents_then
-      where
-        all_of : (s : ℕ) → s ≡ 0 + (s - 0)
-        all_of s = omega arith
 
     room_then : RootHasPlaces setting e.w.memory e.c additional → HasRoomFor setting m additional (length xs)
     room_then places = record {
       root = e.blocks.table e.c.first * 2048;
       root_is = subst (λ (x : Mem (Node K V)). word_at x (Root setting.root) ≡ Some (e.blocks.table e.c.first * 2048)) e.memory
           (map_then.map.shows.root_there ∙ ap (λ (x : Bool). Some (cond x 0 (e.blocks.table e.c.first * 2048))) (ne_eqb e.c.past 0 (λ z. let l = places.1 in omega (arith, z, l))));
+      there = λ zero.
+          (let number = map_then.map.shows.table_numbers e.c.first places.1 (map_then.map.shows.linked e.c.first (omega arith) places.1) in
+          let positive = number.0 in omega (arith, zero, positive));
       len = e.c.len e.c.first;
       limit = e.c.limit e.c.first;
       turn = e.c.first;
@@ -346,9 +386,13 @@ module _ {K V S : Type 0} (same : K → K → Bool) (hashes : S → K → ℕ) (
         its_block : (n : ℕ) → block_in (n * 2048) ≡ n
         its_block n = omega arith
 
+  why_not : (m : Mem (Node K V)) (e : HasEnded m) → LastEnds e.c ⊎ NeedTooMany additional (length xs) → CannotMakeRoom setting m additional (length xs)
+  why_not m e (inl last) = inl (last_shown same hash h.lawful setting e.w e.c e.blocks e.rests.together.ground.map m e.memory last)
+  why_not m e (inr many) = inr many
+
   by_result : (m : Mem (Node K V)) (result : Result Unit Fault) → ComesTo m result → RoomBy same hash setting additional m xs result
   by_result m (Ok end) c = (holds_then m c.0, room_then m c.0 c.1)
-  by_result m (Err fault) c = (holds_then m c.0, c.1)
+  by_result m (Err fault) c = (holds_then m c.0, c.1, λ long. why_not m c.0 (c.2 long))
 
   module _ (p : Reserve) (is : p ≡ reserving setting additional) where
     begun : Under (it p) m0

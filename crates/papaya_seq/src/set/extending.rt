@@ -1,7 +1,8 @@
 //! What an iterator gives is put into a set for one owner.
 ghost use Rattle.std.specs.Prelude.{◌≡◌, IfOk, IfErr};
 ghost use Rattle.std.specs.Iterator.{IsFiniteIterable};
-ghost use Rattle.papaya_seq_map.specs.Given.{IsRoom};
+ghost use Rattle.papaya_seq_map.specs.Given.{CannotGrow, IsRoom};
+ghost use Rattle.seize_words.specs.declared.fault.Fault.TheVariants.{Capacity};
 ghost use Rattle.papaya_seq.specs.Stored.{CollectsSet, ExtendsSet};
 
 use super::HashSet;
@@ -13,11 +14,12 @@ use std::hash::{BuildHasher, Hash};
 impl<K: Eq + Hash + Drop, S: BuildHasher> HashSet<K, S> {
     /// Stores what an iterator gives, one element after another, each also in the place of one that equals it. Where one is refused, it is handed
     /// back, those that came before stay, and no further one is asked for. `taken` and `met` show then what they show after the last one, or, where one
-    /// was refused, nothing. The faults are `Fault::Capacity` and `Fault::Memory`.
+    /// was refused, nothing. The faults are `Fault::Capacity`, where no table can follow the set's last one, and `Fault::Memory`.
     pub fn extend<I: IntoIterator<Item = K>>(&mut self, items: I) -> Result<(), RefusedKey<K>>
         requires { IsFiniteIterable I.into_iter_gives I.IntoIter.can_next I.IntoIter.remaining items }
         ensures put { ExtendsSet K.eq I.into_iter_gives I.IntoIter.next_gives items self.old self.new result }
         ensures fault { IfErr result (λ r. IsRoom r.fault) }
+        ensures capacity { IfErr result (λ r. r.fault ≡ Capacity → CannotGrow self.new.tables) }
         ensures hasher { self.new.hasher ≡ self.old.hasher }
     {
         for element in items {

@@ -1,21 +1,23 @@
 //! What goes over all elements of a set for one owner, and removes them.
 ghost use Rattle.std.specs.Prelude.{◌≡◌, None, Bool, List, [], IfErr, OnOk, OnErr, filter};
 ghost use Rattle.std.specs.List.Sorted.{IsPermutation};
-ghost use Rattle.papaya_seq_map.specs.Given.{IsRoom};
+ghost use Rattle.papaya_seq_map.specs.Given.{CannotGrow, IsRoom};
 ghost use Rattle.papaya_seq.specs.Sets.{AnswersByTestOf, KeepsElements, KeepsIn, LastTookOut};
+ghost use Rattle.seize_words.specs.declared.fault.Fault.TheVariants.{Capacity};
 
 use super::HashSet;
 use seize_words::Fault;
 use std::hash::{BuildHasher, Hash};
 
 impl<K: Eq + Hash + Drop, S: BuildHasher> HashSet<K, S> {
-    /// Removes all elements. The faults are `Fault::Capacity` and `Fault::Memory`, where a growth that was under way could not be seen through;
-    /// then no element has changed.
+    /// Removes all elements. The faults are `Fault::Capacity`, where no table can follow the set's last one, and `Fault::Memory`: a growth that was under
+    /// way could not be seen through. Then no element has changed.
     pub fn clear(&mut self) -> Result<(), Fault>
         ensures done { OnOk result (self.new.elements ≡ []) }
         ensures refused { OnErr result (IsPermutation self.new.elements self.old.elements) }
         ensures last { LastTookOut self.new None None }
         ensures fault { IfErr result IsRoom }
+        ensures capacity { IfErr result (λ fault. fault ≡ Capacity → CannotGrow self.new.tables) }
         ensures hasher { self.new.hasher ≡ self.old.hasher }
         ensures keeps { KeepsIn [] self.old self.new }
     {
@@ -23,7 +25,8 @@ impl<K: Eq + Hash + Drop, S: BuildHasher> HashSet<K, S> {
     }
 
     /// Keeps just the elements for which the closure answers `true`. It is called with each once, in which order is not said. The faults are
-    /// `Fault::Capacity` and `Fault::Memory`, where a growth that was under way could not be seen through; then no element has changed.
+    /// `Fault::Capacity`, where no table can follow the set's last one, and `Fault::Memory`: a growth that was under way could not be seen through.
+    /// Then no element has changed.
     pub fn retain<F: FnMut(&K) -> bool>(&mut self, mut keep: F) -> Result<(), Fault>
         requires callable { F.IsAlwaysCallable keep }
         ensures done { OnOk result ((kept : List K) × KeepsElements F.FnMut keep self.old.elements kept × IsPermutation self.new.elements kept) }
@@ -31,6 +34,7 @@ impl<K: Eq + Hash + Drop, S: BuildHasher> HashSet<K, S> {
         ensures refused { OnErr result (IsPermutation self.new.elements self.old.elements) }
         ensures last { LastTookOut self.new None None }
         ensures fault { IfErr result IsRoom }
+        ensures capacity { IfErr result (λ fault. fault ≡ Capacity → CannotGrow self.new.tables) }
         ensures hasher { self.new.hasher ≡ self.old.hasher }
         ensures keeps { KeepsIn [] self.old self.new }
     {

@@ -4,12 +4,14 @@ use Rattle.std.proofs.Common.{sym, subst, refl}
 use denote.Ref.{Bor}
 use Rattle.seize_words.specs.Mem.{Mem}
 use Rattle.seize_words.specs.declared.fault.Fault.{Fault}
+use Rattle.seize_words.specs.declared.fault.Fault.TheVariants.{Capacity}
 use Rattle.papaya_tables.specs.declared.node.Node.{Node}
 use Rattle.papaya_tables.specs.declared.setting.Setting.{Setting}
 use Rattle.papaya_owned.specs.Given.Sweeps.SweepPoints.{sweeping}
 use Rattle.papaya_owned.specs.Given.Sweeps.declared.sweep.Purpose.TheVariants.{Walks, Clears}
 use Rattle.papaya_owned.specs.Given.Sweeps.declared.sweep.Sweep.{Sweep}
 use Rattle.papaya_owned.specs.Given.Late.Faults.{IsRoom, RoomInSweeping}
+use Rattle.papaya_owned.specs.Given.Shown.Chain.{CannotGrowIn}
 use Rattle.papaya_owned.specs.Ending.{Ends, RunsTo}
 use Rattle.papaya_owned.specs.Owned.{Holds}
 use Rattle.papaya_sifts.specs.Sweeping.{ClearedBy, HasSwept, IsSweeping, over_pairs_plan}
@@ -18,7 +20,7 @@ use Rattle.papaya_sifts.specs.declared.sweeping.OverPairs.{OverPairs}
 use Rattle.papaya_sifts.specs.declared.sweeping.Pause.{Pause}
 use Rattle.papaya_sifts.specs.declared.sweeping.Pause.TheVariants as pause
 use Rattle.papaya_sifts.proofs.Over.Refusals.{runs_room}
-use Rattle.papaya_sifts.proofs.Over.Sweeps.{nothing, ComesTo, Under, begins_under, under_ends, comes_to, refused_holds, cleared_holds, never_asks}
+use Rattle.papaya_sifts.proofs.Over.Sweeps.{nothing, ComesTo, Under, begins_under, under_ends, comes_to, refused_holds, refused_ends, cleared_holds, never_asks}
 
 clears_not_walks : Clears ≡ Walks → ⊥
 clears_not_walks e = cc e
@@ -38,7 +40,10 @@ module _ {K V S : Type 0} (same : K → K → Bool) (hashes : S → K → ℕ) (
   cleared x m (Ok (pause.Asks word)) c = never_asks same hashes b setting m0 xs h Clears clears_not_walks refl nothing x m word c
   cleared x m (Ok pause.Ready) c = c
   cleared x m (Ok (pause.Shows word)) c = c
-  cleared x m (Err fault) c = refused_holds same hashes b setting m0 xs h Clears clears_not_walks nothing c.0 m c.1
+  cleared x m (Err fault) c = (
+    refused_holds same hashes b setting m0 xs h Clears clears_not_walks nothing c.0 m fault c.1,
+    refused_ends same hashes b setting m0 xs h Clears clears_not_walks nothing c.0 m fault c.1,
+  )
 
   pub clearing_by : (x : OverPairs S) (m : Mem (Node K V)) (result : Result Pause Fault) → RunsTo (over_pairs_plan {V = V} hashes) (record { sweep = p; hasher = b }) m0 x m result → ClearedBy same (hashes b.now) setting m xs result
   clearing_by x m result runs = cleared x m result (comes_to same hashes b setting m0 xs h Clears clears_not_walks nothing _ m0 x m result runs begun)
@@ -54,7 +59,11 @@ module _ {K V S : Type 0} (same : K → K → Bool) (hashes : S → K → ℕ) (
   clearing_done x m end runs = done_by m end (clearing_by x m (Ok end) runs)
 
   pub clearing_refused : (x : OverPairs S) (m : Mem (Node K V)) (fault : Fault) → RunsTo (over_pairs_plan {V = V} hashes) (record { sweep = p; hasher = b }) m0 x m (Err fault) → Holds same (hashes b.now) setting m xs
-  clearing_refused x m fault runs = clearing_by x m (Err fault) runs
+  clearing_refused x m fault runs = (clearing_by x m (Err fault) runs).0
+
+  -- for the length of a table only where none can follow the last one
+  pub clearing_ends_at : (x : OverPairs S) (m : Mem (Node K V)) (fault : Fault) → RunsTo (over_pairs_plan {V = V} hashes) (record { sweep = p; hasher = b }) m0 x m (Err fault) → fault ≡ Capacity → CannotGrowIn m setting
+  clearing_ends_at x m fault runs = (clearing_by x m (Err fault) runs).1
 
   -- and it is for room
   pub clearing_faults : (x : OverPairs S) (m : Mem (Node K V)) (fault : Fault) → RunsTo (over_pairs_plan {V = V} hashes) (record { sweep = p; hasher = b }) m0 x m (Err fault) → IsRoom fault

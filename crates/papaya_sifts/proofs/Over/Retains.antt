@@ -20,8 +20,10 @@ use Rattle.papaya_owned.specs.Given.Rule.Words.{Blocks}
 use Rattle.papaya_owned.specs.Given.Late.Covers.{times}
 use Rattle.papaya_owned.specs.Given.Alone.Counting.{pairs_in}
 use Rattle.papaya_owned.specs.Given.Callers.OverAll.{CallOverAll, told_of}
+use Rattle.papaya_owned.specs.Given.Whole.Limits.{IsForTheLast, IsTheLast}
 use Rattle.papaya_owned.specs.Given.Whole.SweptPairs.{AreNumbered, NumberedBelow, pairs_of, those, is_done, left_by}
 use Rattle.papaya_owned.specs.Given.Whole.WholeSweeps.{NamesNew, IsTold}
+use Rattle.papaya_owned.proofs.Given.Late.KindsKept.Rooms.Sweeping.{told_as_on}
 use Rattle.papaya_owned.proofs.Given.Whole.Contents.Below.{decided}
 use Rattle.papaya_owned.proofs.Given.Whole.Contents.KeptBy.{times_here, times_other}
 use Rattle.papaya_owned.proofs.Given.Whole.Contents.Numbered.{NumberedLast, numbered_last, numbered_before, numbers_are, numbers_go}
@@ -230,6 +232,7 @@ module _ {K V S : Type 0} (same : K → K → Bool) (hashes : S → K → ℕ) (
             done_is = ap (λ (l : List ℕ). cond keeps (about.0 ∷ l) l) c.done_is;
             counts = c.counts ∙ ap (λ k. pairs_in c.c + k) (sym ((telling_counts_nothing u.o.sweep).1 keeps));
             purpose_is = (telling_keeps_the_purpose u.o.sweep).1 keeps ∙ c.purpose_is;
+            ends = (told_as_on (IsForTheLast c.c) (IsTheLast c.c) u.o.sweep c.ends).1 keeps;
           };
         }
 

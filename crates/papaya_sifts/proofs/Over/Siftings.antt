@@ -9,6 +9,7 @@ use denote.Ref.{Bor}
 use Rattle.std.specs.Fn.{Mut}
 use Rattle.seize_words.specs.Mem.{Mem}
 use Rattle.seize_words.specs.declared.fault.Fault.{Fault}
+use Rattle.seize_words.specs.declared.fault.Fault.TheVariants.{Capacity}
 use Rattle.papaya_tables.specs.declared.node.Node.{Node}
 use Rattle.papaya_tables.specs.declared.setting.Setting.{Setting}
 use Rattle.papaya_owned.specs.Given.Sweeps.SweepPoints.{sweeping, after_reply}
@@ -17,6 +18,7 @@ use Rattle.papaya_owned.specs.Given.Sweeps.declared.sweep.Sweep.{Sweep}
 use Rattle.papaya_owned.specs.Given.Late.Covers.{times}
 use Rattle.papaya_owned.specs.Given.Late.Faults.{IsRoom, RoomInSweeping}
 use Rattle.papaya_owned.proofs.Given.Late.KindsKept.Laws.{told_sweeps_refuse_room}
+use Rattle.papaya_owned.specs.Given.Shown.Chain.{CannotGrowIn}
 use Rattle.papaya_owned.specs.Given.Whole.SweptPairs.{pairs_of, those, is_done}
 use Rattle.papaya_owned.proofs.Given.Whole.Contents.KeptBy.{done_here, done_other, times_here}
 use Rattle.papaya_owned.proofs.Given.Whole.Contents.Numbered.{all_those}
@@ -31,7 +33,7 @@ use Rattle.papaya_sifts.specs.declared.sweeping.Pause.TheVariants as pause
 use Rattle.papaya_sifts.proofs.Over.Questions.{answered_by, same_answers, pairs_answered, pairs_kept}
 use Rattle.papaya_sifts.proofs.Over.Refusals.{runs_room}
 use Rattle.papaya_sifts.proofs.Over.Retains.{Question, UnderIt, AsksIt, numbered, question, retained, retains_not_walks, said_of, told, not_yet, unasked}
-use Rattle.papaya_sifts.proofs.Over.Sweeps.{Said, nothing, ComesTo, begins_under, under_ends, comes_to, refused_holds}
+use Rattle.papaya_sifts.proofs.Over.Sweeps.{Said, nothing, ComesTo, begins_under, under_ends, comes_to, refused_holds, refused_ends}
 
 module _ {F K V S : Type 0} (g : Mut F (Bor K × (Bor V × Unit {0})) Bool) (f0 : F) (same : K → K → Bool) (hashes : S → K → ℕ) (b : Bor S) (setting : Setting) (m0 : Mem (Node K V)) (xs : List (K × V))
     (h : Holds same (hashes b.now) setting m0 xs) where
@@ -175,7 +177,11 @@ module _ {F K V S : Type 0} (g : Mut F (Bor K × (Bor V × Unit {0})) Bool) (f0 
     never_shows x2 m2 word end is runs = ran x2 m2 end (pause.Shows word) is runs
 
     pub sifting_refused : (x2 : OverPairs S) (m2 : Mem (Node K V)) (fault : Fault) → RunsTo (over_pairs_plan {V = V} hashes) x m x2 m2 (Err fault) → Holds same (hashes b.now) setting m2 xs
-    sifting_refused x2 m2 fault runs = let r = came x2 m2 (Err fault) runs in refused_holds same hashes b setting m0 xs h Retains retains_not_walks s.said r.0 m2 r.1
+    sifting_refused x2 m2 fault runs = let r = came x2 m2 (Err fault) runs in refused_holds same hashes b setting m0 xs h Retains retains_not_walks s.said r.0 m2 fault r.1
+
+    -- for the length of a table only where none can follow the last one
+    pub sifting_ends_at : (x2 : OverPairs S) (m2 : Mem (Node K V)) (fault : Fault) → RunsTo (over_pairs_plan {V = V} hashes) x m x2 m2 (Err fault) → fault ≡ Capacity → CannotGrowIn m2 setting
+    sifting_ends_at x2 m2 fault runs = let r = came x2 m2 (Err fault) runs in refused_ends same hashes b setting m0 xs h Retains retains_not_walks s.said r.0 m2 fault r.1
 
     pub sifting_faults : (x2 : OverPairs S) (m2 : Mem (Node K V)) (fault : Fault) → RunsTo (over_pairs_plan {V = V} hashes) x m x2 m2 (Err fault) → IsRoom fault
     sifting_faults x2 m2 fault runs = (runs_room hashes x m x2 m2 (Err fault) runs s.room).1

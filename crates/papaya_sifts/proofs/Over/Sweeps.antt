@@ -5,6 +5,7 @@ use denote.Ref.{Bor}
 use Rattle.seize_words.specs.Mem.{Mem, Can, Took, value_at}
 use Rattle.seize_words.specs.Plan.{Plan, May, Steps}
 use Rattle.seize_words.specs.declared.fault.Fault.{Fault}
+use Rattle.seize_words.specs.declared.fault.Fault.TheVariants.{Capacity}
 use Rattle.seize.specs.World.{World}
 use Rattle.seize.specs.declared.progress.Progress.{Progress}
 use Rattle.seize.specs.declared.progress.Progress.TheVariants as progress
@@ -28,11 +29,14 @@ use Rattle.papaya_owned.specs.Given.Alone.Counting.{IsCounted}
 use Rattle.papaya_owned.specs.Given.Alone.Endings.{RunsEnd, runs_end}
 use Rattle.papaya_owned.specs.Given.Late.Covers.{Came}
 use Rattle.papaya_owned.specs.Given.Late.FactsSweeps.{SweepingFacts}
+use Rattle.papaya_owned.specs.Given.Late.Faults.{StandsInSweeping}
 use Rattle.papaya_owned.specs.Given.Late.ToldSweeps.{IsRowOfSweep}
 use Rattle.papaya_owned.specs.Given.Callers.OverAll.{CallOverAll, begun_over_all, come_to}
 use Rattle.papaya_owned.specs.Given.Callers.Sights.{Sight}
 use Rattle.papaya_owned.specs.Given.Callers.Together.{OverAll, in_slot}
+use Rattle.papaya_owned.specs.Given.Shown.Chain.{CannotGrowIn}
 use Rattle.papaya_owned.specs.Given.Whole.Contents.{AreContents}
+use Rattle.papaya_owned.specs.Given.Whole.Limits.{IsForTheLast, IsTheLast}
 use Rattle.papaya_owned.specs.Given.Whole.LoneSweeps.{goes_once}
 use Rattle.papaya_owned.specs.Given.Whole.Owner.{AtRest, IsAlone}
 use Rattle.papaya_owned.specs.Given.Whole.SweptPairs.{HasSwept, AreNumbered, pairs_of, left_by}
@@ -51,6 +55,7 @@ use Rattle.papaya_sifts.specs.declared.sweeping.OverPairs.{OverPairs}
 use Rattle.papaya_sifts.specs.declared.sweeping.Pause.{Pause}
 use Rattle.papaya_sifts.specs.declared.sweeping.Pause.TheVariants as pause
 use Rattle.papaya_owned.proofs.Owned.Keys.{may_turned}
+use Rattle.papaya_owned.proofs.Owned.Lasts.{last_shown}
 
 -- only a walk is ready for the next pair, and only a retaining asks
 module _ {K V Q : Type 0} (same : K → K → Bool) (hash : K → ℕ) (asks : Q → K → Bool) (setting : Setting) (slot : ℕ → ℕ) (lawful : AreLawful same hash)
@@ -109,6 +114,7 @@ module _ {K V S : Type 0} (same : K → K → Bool) (hashes : S → K → ℕ) (
     pub done_is : o.done ≡ said.done
     pub counts : IsCountedBut setting w.memory c o.sweep.stands
     pub purpose_is : o.sweep.purpose ≡ purpose
+    pub ends : StandsInSweeping (IsForTheLast c) (IsTheLast c) o.sweep.stands
 
   -- it has ended, and the map rests
   pub record HasEnded (said : Said) (o : CallOverAll) (m : Mem (Node K V)) : Type 0 where
@@ -129,11 +135,11 @@ module _ {K V S : Type 0} (same : K → K → Bool) (hashes : S → K → ℕ) (
     pub over : o.sweep.stands ≡ at.Over
     pub came : Came ended.c o.entered o.sweep.purpose o.done
 
-  -- it was refused
-  pub record IsRefused (said : Said) (o : CallOverAll) (m : Mem (Node K V)) : Type 0 where
+  -- it was refused for this
+  pub record IsRefused (said : Said) (o : CallOverAll) (m : Mem (Node K V)) (fault : Fault) : Type 0 where
     pub ended : HasEnded said o m
-    pub fault : Fault
     pub refused : o.sweep.stands ≡ at.Refused fault
+    pub ends : IsForTheLast ended.c fault
 
   -- it asks about the pair of this word
   pub record IsAsking (said : Said) (o : CallOverAll) (m : Mem (Node K V)) (word : ℕ) : Type 0 where
@@ -146,7 +152,7 @@ module _ {K V S : Type 0} (same : K → K → Bool) (hashes : S → K → ℕ) (
   CourseTo said o m (swept.Gave value) = Course said o m
   CourseTo said o m (swept.Asks word) = IsAsking said o m word
   CourseTo said o m swept.Done = IsDone said o m
-  CourseTo said o m (swept.Refused fault) = IsRefused said o m
+  CourseTo said o m (swept.Refused fault) = IsRefused said o m fault
   CourseTo said o m _ = ⊥
 
   -- it goes over one table alone
@@ -188,6 +194,7 @@ module _ {K V S : Type 0} (same : K → K → Bool) (hashes : S → K → ℕ) (
         done_is = kept ∙ here.done_is;
         counts = l.counts here.counts;
         purpose_is = l.purpose ∙ here.purpose_is;
+        ends = (l.ends h.incremental h.few here.ends).0;
       }
 
       ended_of : RestsIn l.w2 l.c2 l.blocks2 l.sights2 → IsCounted setting l.w2.memory l.c2 → l.done2 ≡ o.done → HasEnded said o2 m2
@@ -225,8 +232,8 @@ module _ {K V S : Type 0} (same : K → K → Bool) (hashes : S → K → ℕ) (
     }
     course_by m2 p2 (swept.Refused fault) l = record {
       ended = ended_of m2 p2 (swept.Refused fault) l l.leads.0 ((swept_pairs_counted setting l.w2.memory l.c2).2 fault (counts_at m2 p2 (swept.Refused fault) l (at.Refused fault) l.leads.1)) (l.tells once_here);
-      fault = fault;
       refused = l.leads.1;
+      ends = (l.ends h.incremental h.few here.ends).1;
     }
 
     pub course_step : (m2 : Mem (Node K V)) (p2 : Sweep) (told : Swept (Node K V)) → Steps Took value_at m (sweep_plan hash o.sweep) m2 (p2, told)
@@ -255,7 +262,7 @@ module _ {K V S : Type 0} (same : K → K → Bool) (hashes : S → K → ℕ) (
   Next said x m progress.Goes = Under said x m
   Next said x m (progress.Done pause.Ended) = (o : CallOverAll) × IsDone said o m
   Next said x m (progress.Done (pause.Asks word)) = UnderAsking said x m word
-  Next said x m (progress.Refused fault) = (o : CallOverAll) × IsRefused said o m
+  Next said x m (progress.Refused fault) = (o : CallOverAll) × IsRefused said o m fault
   Next said x m _ = ⊥
 
   next_by : (said : Said) (o : CallOverAll) (m : Mem (Node K V)) (told : Swept (Node K V)) → CourseTo said o m told → Next said (over_pairs_settled (it o.sweep) told).0 m (over_pairs_settled (it o.sweep) told).1
@@ -323,7 +330,7 @@ module _ {K V S : Type 0} (same : K → K → Bool) (hashes : S → K → ℕ) (
   ComesTo said x m (Ok pause.Ended) = (o : CallOverAll) × IsDone said o m
   ComesTo said x m (Ok (pause.Asks word)) = UnderAsking said x m word
   ComesTo said x m (Ok _) = ⊥
-  ComesTo said x m (Err fault) = (o : CallOverAll) × IsRefused said o m
+  ComesTo said x m (Err fault) = (o : CallOverAll) × IsRefused said o m fault
 
   stopped : (said : Said) (x2 : OverPairs S) (m2 : Mem (Node K V)) (told : Progress Pause) (result : Result Pause Fault) → Next said x2 m2 told → Tells told result → ComesTo said x2 m2 result
   stopped said x2 m2 (progress.Done a) (Ok d) next tells = subst (λ z. ComesTo said x2 m2 (Ok z)) (sym tells) (done a next)
@@ -333,7 +340,7 @@ module _ {K V S : Type 0} (same : K → K → Bool) (hashes : S → K → ℕ) (
       done (pause.Asks word) next = next
       done pause.Ready next = next
       done (pause.Shows word) next = next
-  stopped said x2 m2 (progress.Refused f) (Err g) next tells = next
+  stopped said x2 m2 (progress.Refused f) (Err g) next tells = subst (λ z. ComesTo said x2 m2 (Err z)) (sym tells) next
   stopped said x2 m2 (progress.Refused f) (Ok d) next tells = absurd tells
   stopped said x2 m2 (progress.Done a) (Err g) next tells = absurd tells
   stopped said x2 m2 progress.Goes (Ok d) next tells = absurd tells
@@ -366,6 +373,7 @@ module _ {K V S : Type 0} (same : K → K → Bool) (hashes : S → K → ℕ) (
       runs = swept_begins (is_incremental setting.mode) h.world.memory h.chart h.blocks h.rests.together.ground.moments (in_slot setting setting.slot) purpose;
       counts = (swept_pairs_counted setting h.world.memory h.chart).0 (in_slot setting setting.slot) purpose h.counted;
       purpose_is = refl;
+      ends = tt;
     };
   }
 
@@ -375,6 +383,7 @@ module _ {K V S : Type 0} (same : K → K → Bool) (hashes : S → K → ℕ) (
     holds_at ys are = record {
       lawful = h.lawful;
       initial = h.initial;
+      few = h.few;
       one_shard = h.one_shard;
       incremental = h.incremental;
       size = h.size;
@@ -395,11 +404,15 @@ module _ {K V S : Type 0} (same : K → K → Bool) (hashes : S → K → ℕ) (
   numbered = numbers_are h.world.memory h.chart h.blocks xs h.are
 
   -- refused, it has left all pairs
-  pub refused_holds : (said : Said) (o : CallOverAll) (m : Mem (Node K V)) → IsRefused said o m → Holds same hash setting m xs
-  refused_holds said o m r =
+  pub refused_holds : (said : Said) (o : CallOverAll) (m : Mem (Node K V)) (fault : Fault) → IsRefused said o m fault → Holds same hash setting m xs
+  refused_holds said o m fault r =
       let e = r.ended in let n = numbered in
       holds_at said o m e xs (subst (AreContents e.w.memory e.c e.blocks) n.2 (numbers_go e.w.memory e.c e.blocks n.0
-      (refused (is_incremental setting.mode) h.world.memory e.w.memory h.chart e.c h.blocks e.blocks said.asked o e.runs (once said o m e) r.fault r.refused n.0 n.1)))
+      (refused (is_incremental setting.mode) h.world.memory e.w.memory h.chart e.c h.blocks e.blocks said.asked o e.runs (once said o m e) fault r.refused n.0 n.1)))
+
+  -- and for the length of a table only where none can follow the last one
+  pub refused_ends : (said : Said) (o : CallOverAll) (m : Mem (Node K V)) (fault : Fault) → IsRefused said o m fault → fault ≡ Capacity → CannotGrowIn m setting
+  refused_ends said o m fault r is = let e = r.ended in last_shown same hash h.lawful setting e.w e.c e.blocks e.rests.together.ground.map m e.memory (r.ends is)
 
   -- done, a clearing has left none
   pub cleared_holds : purpose ≡ Clears → (said : Said) (o : CallOverAll) (m : Mem (Node K V)) → IsDone said o m → Holds same hash setting m []

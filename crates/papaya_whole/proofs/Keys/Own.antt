@@ -45,6 +45,7 @@ use Rattle.papaya_maps.specs.Given.Alone.Counted.{HasAdded, counted_at}
 use Rattle.papaya_maps.proofs.Given.Alone.Shards.Counted.{counted_on}
 use Rattle.papaya_whole.proofs.Fresh.Calls.{never_both}
 use Rattle.papaya_whole.proofs.Keys.Counted.{answered_counted}
+use Rattle.papaya_whole.proofs.Limits.Keys.{call_ends}
 use Rattle.papaya_whole.proofs.Rows.Standing.{no_row_rests}
 
 module _ {K V Q : Type 0} (same : K → K → Bool) (hash : K → ℕ) (asks : Q → K → Bool) (setting : Setting) (slot : ℕ → ℕ) (lawful : AreLawful same hash)
@@ -199,6 +200,9 @@ module _ {K V Q : Type 0} (same : K → K → Bool) (hash : K → ℕ) (asks : Q
           counts = λ m0 had. subst (HasAdded setting m0 (counted_at p2.stands)) (sym lone.memory) (counting m0 had).0;
           hands = stepped.hands;
           removes = λ fault is nothing. ((stepped.refuses fault is).2 nothing).0;
+          ends = λ bits few so. call_ends same hash asks here bits few w lone.w2 c lone.c2 seen lone.blocks2 map lone.map
+              (moved_lasts same hash here lawful.lawful w c lone.c2 seen map lone.moved) lone.blocks_same u.keys u.change u.call knows_here.2 own_may (p2, progress)
+              (subst (λ (m : Mem (Node K V)). Steps Took value_at w.memory (call_plan asks same hash u.call) m (p2, progress)) (sym lone.memory) steps) so;
           looks = λ o low known. (
             below o c.stored (blocks.pair_known o) (lone.blocks2.pair_known o) low ∙ known,
             below o c.stored (blocks.pair o) (lone.blocks2.pair o) low,

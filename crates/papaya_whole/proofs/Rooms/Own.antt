@@ -55,6 +55,7 @@ use Rattle.papaya_whole.specs.Owner.{IsFirst, IsOfRoot, AtRest, IsAlone}
 use Rattle.papaya_whole.specs.WholeRooms.{room_so, RoomLeads, RoomStepLeads}
 use Rattle.papaya_whole.proofs.Joined.{same_joined, links_joined}
 use Rattle.papaya_whole.proofs.Fresh.Rooms.{never_both_rooms}
+use Rattle.papaya_whole.proofs.Limits.Rooms.{reserve_ends}
 use Rattle.papaya_whole.proofs.Rooms.Account.{no_room_row_rests}
 
 module _ {K V Q : Type 0} (same : K → K → Bool) (hash : K → ℕ) (asks : Q → K → Bool) (setting : Setting) (slot : ℕ → ℕ) (lawful : AreLawful same hash)
@@ -223,6 +224,10 @@ module _ {K V Q : Type 0} (same : K → K → Bool) (hash : K → ℕ) (asks : Q
               keeps_to_root same hash here incremental w went.w2 c went.c2 seen went.blocks2 map went.map (moved_lasts same hash here lawful.lawful w c went.c2 seen map went.moved) went.blocks_same went.moved
               r.reserve knows_here.2 none (p2, end) went.told.2
               (subst (λ (m : Mem (Node K V)). Steps Took value_at w.memory (reserve_plan hash r.reserve) m (p2, end)) (sym went.memory) steps) root sums;
+          ends = λ bits fits sums count said so.
+              reserve_ends same hash here bits fits w went.w2 c went.c2 seen went.blocks2 map went.map (moved_lasts same hash here lawful.lawful w c went.c2 seen map went.moved) went.blocks_same
+              r.reserve knows_here.2 own_may count said sums (p2, end)
+              (subst (λ (m : Mem (Node K V)). Steps Took value_at w.memory (reserve_plan hash r.reserve) m (p2, end)) (sym went.memory) steps) so;
           runs = λ keys m0 c0 blocks0 rule0. run_on same hash setting keys m0 c0 blocks0 w.memory went.w2.memory c went.c2 blocks stepped.blocks2 Unchanged Unchanged
               (λ changed. changed_on same hash setting keys c0 c went.c2 rule0 map.map.rule went.map.map.rule went.moved
               (moved_lasts same hash here lawful.lawful w c went.c2 seen map went.moved) Unchanged Unchanged changed (inl (refl, went.told.1)))

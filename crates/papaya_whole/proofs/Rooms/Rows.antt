@@ -45,6 +45,7 @@ use Rattle.papaya_whole.proofs.Contents.Runs.{row_keeps, run_on}
 use Rattle.papaya_whole.specs.Owner.{IsFirst, IsOfRoot, IsAlone}
 use Rattle.papaya_whole.specs.WholeRooms.{room_so, RoomLeads, RoomStepLeads}
 use Rattle.papaya_whole.proofs.Keys.Falls.{row_left, lower_more, lower_last}
+use Rattle.papaya_whole.proofs.Limits.Rooms.{row_reserve_ends}
 use Rattle.papaya_whole.proofs.Rooms.Account.{room_told_by, RoomTargetIs, no_room_row_rests, still_looks, over_looks, row_sums, over_sums, StillRoom, RoomAccount, RoomSettling, RoomOver, room_account, room_target_at, room_target_past, room_never_late_at, room_never_late_past}
 use Rattle.papaya_whole.proofs.Rows.Settles.{never_waits, settling_lowers}
 
@@ -253,6 +254,7 @@ module _ {K V Q : Type 0} (same : K → K → Bool) (hash : K → ℕ) (asks : Q
       same_pairs = refl;
       counts = row_counts;
       places = λ incremental root sums. root_by root (p2, end) refl (room_account hash r.reserve now.v.memory m2 is_row (p2, end) steps_now);
+      ends = λ bits fits sums count said so. row_reserve_ends hash c r.reserve is_row count w.memory m2 (p2, end) steps so;
       runs = λ keys m0 c0 blocks0 rule0. run_on same hash setting keys m0 c0 blocks0 w.memory led.w2.memory c c blocks blocks Unchanged Unchanged (λ h. h) row_kept (λ h. h);
       leads = by_account (p2, end) refl (room_account hash r.reserve now.v.memory m2 is_row (p2, end) steps_now);
     }

@@ -53,6 +53,7 @@ use Rattle.papaya_whole.specs.Contents.{KeepsPairs}
 use Rattle.papaya_whole.proofs.Contents.Runs.{row_keeps, run_on}
 use Rattle.papaya_whole.specs.Owner.{IsFirst, IsOfRoot, AtRest, IsAlone}
 use Rattle.papaya_whole.specs.Whole.{then_so, Leads, StepLeads}
+use Rattle.papaya_whole.proofs.Limits.Keys.{row_call_ends}
 use Rattle.papaya_whole.proofs.Rows.Account.{told_by, Still, Account, Settling, Deferring, Over, Ends, account}
 use Rattle.papaya_whole.proofs.Rows.Settles.{never_waits, deferring_lowers}
 use Rattle.papaya_whole.proofs.Rows.Standing.{never_late_at, never_late_past}
@@ -302,6 +303,7 @@ module _ {K V Q : Type 0} (same : K → K → Bool) (hash : K → ℕ) (asks : Q
       refused = row_refused;
       hands = led.hands;
       removes = λ fault is nothing. ((led.refuses fault is).2 nothing).0;
+      ends = λ bits few so. row_call_ends same hash asks c u.call is_row w.memory m2 (p2, progress) steps so;
       looks = λ o low known. (known, refl, row_looks o low known);
       leads = by_account (p2, progress) refl (account same hash asks (slot 0) u.call now.v.memory m2 is_row (p2, progress) steps_now);
     }

@@ -35,6 +35,7 @@ use Rattle.papaya_whole.specs.LoneSweeps.{goes_once}
 use Rattle.papaya_whole.specs.Owner.{IsAlone}
 use Rattle.papaya_whole.specs.WholeSweeps.{uncounted, IsCountedBut, TellsNew, SweepStepLeads, SweepsGoOnAlone}
 use Rattle.papaya_whole.proofs.Contents.Runs.{went_keeps, row_keeps}
+use Rattle.papaya_whole.proofs.Limits.Sweeps.{row_sweep_ends, sweep_ends}
 use Rattle.papaya_whole.proofs.Rows.Kinds.{copier_decided, disposal_decided}
 use Rattle.papaya_whole.proofs.Rows.Shards.{row_shards}
 use Rattle.papaya_whole.proofs.Sweeps.Counting.{own_counts}
@@ -121,6 +122,8 @@ module _ {K V Q : Type 0} (same : K → K → Bool) (hash : K → ℕ) (asks : Q
               went.told.moves went.moved stepped.remembers together2.ground.moments stepped.removes stepped.entered2 stepped.done2 stepped.from stepped.done tells kept asked keeps stored);
           counts = λ was. subst (λ (m : Mem (Node K V)). IsCountedBut setting m went.c2 p2.stands) (sym went.memory)
               (own_counts same hash lawful here o.began w c seen map o.sweep k.knows.facts k.whole none may m2 p2 end steps went.w2 went.c2 went.blocks2 went.told.moves stored was);
+          ends = λ bits fits so. sweep_ends same hash here bits fits w went.w2 c went.c2 seen went.blocks2 map went.map (moved_lasts same hash here lawful.lawful w c went.c2 seen map went.moved) went.blocks_same
+              o.sweep k.whole may (p2, end) (subst (λ (m : Mem (Node K V)). Steps Took value_at w.memory (sweep_plan hash o.sweep) m (p2, end)) (sym went.memory) steps) so;
         }
 
   -- by a step of a row
@@ -152,6 +155,7 @@ module _ {K V Q : Type 0} (same : K → K → Bool) (hash : K → ℕ) (asks : Q
               (λ n. about_none p2.stands goes.tries o.told n ∙ sym (about_none o.sweep.stands (λ word e. subst IsRowOfSweep e is_row) o.told n)));
           counts = λ was. row_sum (shards_sum led.w2.memory setting.counter (suc setting.mask)) (shards_sum w.memory setting.counter (suc setting.mask)) (pairs_in c) (uncounted p2.stands) (uncounted o.sweep.stands)
               added goes.counted was;
+          ends = λ bits fits so. row_sweep_ends hash c o.sweep is_row w.memory m2 (p2, end) steps so;
         }
 
 module _ {K V Q : Type 0} (same : K → K → Bool) (hash : K → ℕ) (asks : Q → K → Bool) (setting : Setting) (slot : ℕ → ℕ) where

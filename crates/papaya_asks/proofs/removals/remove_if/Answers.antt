@@ -90,7 +90,7 @@ returns-in-Err-clause-comes g c = λ xs has.
     (removes_if_so g.K.PartialEq.eq ((hashed_by g.S.Hasher.Hasher.finish g.S.Hasher.Hasher.write g.S.BuildHasher.build_hasher g.K.Hash.hash_input) c.args.hasher.now) (λ x key. g.Q.Equivalent.equivalent x.asked.now key) c.args.setting _ _ c.hash_of-hash.type_inv (subst (λ x. IsClass g.K.PartialEq.eq ((hashed_by g.S.Hasher.Hasher.finish g.S.Hasher.Hasher.write g.S.BuildHasher.build_hasher g.K.Hash.hash_input) c.args.hasher.now) (g.Q.Equivalent.equivalent c.args.asked.now) x) (sym c.hash_of-hash.ensures)
     (is_class g.K.PartialEq.eq g.S.Hasher.Hasher.finish g.S.Hasher.Hasher.write g.S.BuildHasher.build_hasher g.K.Hash.hash_input c.args.hasher.now g.Q.Equivalent.equivalent g.Q.Hash.hash_input
     g.met.Q.Equivalent.respects_hash g.met.Q.Equivalent.respects_eq c.args.asked.now)) _ c.remove_if-call.ensures) in
-    let r = comes_refused (λ x key. g.Q.Equivalent.equivalent x.asked.now key) g.K.PartialEq.eq (hashed_by g.S.Hasher.Hasher.finish g.S.Hasher.Hasher.write g.S.BuildHasher.build_hasher g.K.Hash.hash_input) c.args.hasher c.args.setting removes_if None (g.Q.Equivalent.equivalent c.args.asked.now) xs c.start.new.machine c.start.new.memory c.start.result h _ c.in-Err.is in (inl r.0, r.1)
+    let r = comes_refused (λ x key. g.Q.Equivalent.equivalent x.asked.now key) g.K.PartialEq.eq (hashed_by g.S.Hasher.Hasher.finish g.S.Hasher.Hasher.write g.S.BuildHasher.build_hasher g.K.Hash.hash_input) c.args.hasher c.args.setting removes_if None (g.Q.Equivalent.equivalent c.args.asked.now) xs c.start.new.machine c.start.new.memory c.start.result h _ c.in-Err.is in (inl r.0, r.1, r.3)
 
 pub returns-in-Ok-Answered-clause-ran : goal.returns-in-Ok-Answered-clause-ran
 returns-in-Ok-Answered-clause-ran g c = stopped_answered (λ x key. g.Q.Equivalent.equivalent x.asked.now key) g.K.PartialEq.eq (hashed_by g.S.Hasher.Hasher.finish g.S.Hasher.Hasher.write g.S.BuildHasher.build_hasher g.K.Hash.hash_input) c.args.hasher c.args.setting _ _ _ _ (removes_if_so g.K.PartialEq.eq ((hashed_by g.S.Hasher.Hasher.finish g.S.Hasher.Hasher.write g.S.BuildHasher.build_hasher g.K.Hash.hash_input) c.args.hasher.now) (λ x key. g.Q.Equivalent.equivalent x.asked.now key) c.args.setting _ _ c.hash_of-hash.type_inv (subst (λ x. IsClass g.K.PartialEq.eq ((hashed_by g.S.Hasher.Hasher.finish g.S.Hasher.Hasher.write g.S.BuildHasher.build_hasher g.K.Hash.hash_input) c.args.hasher.now) (g.Q.Equivalent.equivalent c.args.asked.now) x) (sym c.hash_of-hash.ensures) (is_class g.K.PartialEq.eq g.S.Hasher.Hasher.finish g.S.Hasher.Hasher.write g.S.BuildHasher.build_hasher g.K.Hash.hash_input c.args.hasher.now g.Q.Equivalent.equivalent g.Q.Hash.hash_input g.met.Q.Equivalent.respects_hash g.met.Q.Equivalent.respects_eq c.args.asked.now)) _ c.remove_if-call.ensures) _ _ _ c.start.ensures.ran _ _ c.in-Ok-Answered.is c.in-Ok-Answered.field-0-is

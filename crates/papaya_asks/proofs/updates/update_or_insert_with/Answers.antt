@@ -76,7 +76,7 @@ returns-in-Ok-Asks-None-clause-comes g c = λ xs has.
 pub returns-in-Err-clause-comes : goal.returns-in-Err-clause-comes
 returns-in-Err-clause-comes g c = λ xs has.
     let h = c.start.ensures.starts xs updates_or_inserts (Some c.args.key) (g.K.PartialEq.eq c.args.key) has (updates_or_inserts_so g.K.PartialEq.eq ((hashed_by g.S.Hasher.Hasher.finish g.S.Hasher.Hasher.write g.S.BuildHasher.build_hasher g.K.Hash.hash_input) c.args.hasher.now) c.args.setting c.args.key _ c.hash_of-hash.ensures _ c.update_or_insert_with-call.ensures) in
-    let r = comes_refused g.K.PartialEq.eq g.K.PartialEq.eq (hashed_by g.S.Hasher.Hasher.finish g.S.Hasher.Hasher.write g.S.BuildHasher.build_hasher g.K.Hash.hash_input) c.args.hasher c.args.setting updates_or_inserts (Some c.args.key) (g.K.PartialEq.eq c.args.key) xs c.start.new.machine c.start.new.memory c.start.result h _ c.in-Err.is in ((inl r.0, r.1), c.key_of-key.ensures c.args.key (r.2 c.args.key refl))
+    let r = comes_refused g.K.PartialEq.eq g.K.PartialEq.eq (hashed_by g.S.Hasher.Hasher.finish g.S.Hasher.Hasher.write g.S.BuildHasher.build_hasher g.K.Hash.hash_input) c.args.hasher c.args.setting updates_or_inserts (Some c.args.key) (g.K.PartialEq.eq c.args.key) xs c.start.new.machine c.start.new.memory c.start.result h _ c.in-Err.is in ((inl r.0, r.1, r.3), c.key_of-key.ensures c.args.key (r.2 c.args.key refl))
 
 pub returns-in-Ok-Answered-clause-ran : goal.returns-in-Ok-Answered-clause-ran
 returns-in-Ok-Answered-clause-ran g c = stopped_answered g.K.PartialEq.eq g.K.PartialEq.eq (hashed_by g.S.Hasher.Hasher.finish g.S.Hasher.Hasher.write g.S.BuildHasher.build_hasher g.K.Hash.hash_input) c.args.hasher c.args.setting _ _ _ _ (updates_or_inserts_so g.K.PartialEq.eq ((hashed_by g.S.Hasher.Hasher.finish g.S.Hasher.Hasher.write g.S.BuildHasher.build_hasher g.K.Hash.hash_input) c.args.hasher.now) c.args.setting c.args.key _ c.hash_of-hash.ensures _ c.update_or_insert_with-call.ensures) _ _ _ c.start.ensures.ran _ _ c.in-Ok-Answered.is c.in-Ok-Answered.field-0-is

@@ -1,16 +1,18 @@
 -- The making of a table is refused for the length of the table, or for memory, where its block is refused.
-use Rattle.std.specs.Prelude.{◌≡◌, ℕ, ◌+◌, ◌^◌, max, nat_lt, nat_le, if◌then◌else◌, Bool, true, false, Result, Ok, Err}
-use Rattle.std.proofs.Common.{inl, inr, refl, sym, subst}
+use Rattle.std.specs.Prelude.{◌≡◌, ℕ, ◌+◌, ◌^◌, ◌<◌, ◌≤◌, max, nat_lt, nat_le, if◌then◌else◌, Bool, true, false, Result, Ok, Err, IfOk}
+use Rattle.std.proofs.Common.{inl, inr, refl, sym, subst, ap, arith}
+use Rattle.std.proofs.lemmas.Bool.{cases_lt, lt-ltb}
+use Rattle.std.proofs.lemmas.Bool.Decides.{leb_tells}
 use Rattle.papaya_points.specs.Given.SeizeWords.declared.at.At.{At}
 use Rattle.papaya_points.specs.Given.SeizeWords.declared.at.At.TheVariants as name
 use Rattle.papaya_points.specs.Given.SeizeWords.declared.fault.Fault.{Fault}
 use Rattle.papaya_points.specs.Given.SeizeWords.declared.fault.Fault.TheVariants.{Capacity, Memory}
 use Rattle.papaya_points.specs.Given.SeizeWords.Mem.{Mem, value_at, Took}
 use Rattle.papaya_points.specs.Given.SeizeWords.Op.{Out, Found, Stored, Exchanged, Made, Taken, Roomed}
-use Rattle.papaya_points.specs.Given.SeizeWords.Plan.{Steps}
+use Rattle.papaya_points.specs.Given.SeizeWords.Plan.{Then, Steps}
 use Rattle.papaya_points.specs.Given.Seize.declared.progress.Progress.{Progress}
 use Rattle.papaya_points.specs.Given.Seize.declared.progress.Progress.TheVariants as progress
-use Rattle.papaya_points.specs.Given.Tables.Lengths.{if_few, next_len, next_limit, next_turn}
+use Rattle.papaya_points.specs.Given.Tables.Lengths.{if_few, next_len, next_limit, next_turn, NoneFollows}
 use Rattle.papaya_points.specs.Given.Tables.Probes.{limit_of}
 use Rattle.papaya_points.specs.Given.Resize.NewTable.{planned, making_first, following, making_of, begun_for, first_table, table_after, table_reserved, counted, made, linked, after_making, with_block, plan_at, new_table_plan}
 use Rattle.papaya_points.specs.Given.Resize.Sum as counts
@@ -27,8 +29,10 @@ use Rattle.papaya_points.specs.Given.Tables.declared.node.Node.{Node}
 use Rattle.papaya_points.specs.Given.Tables.declared.setting.Setting.{Setting}
 use Rattle.papaya_points.specs.Given.Tables.declared.table.Table.{Table}
 use Rattle.papaya_points.proofs.Given.SeizeRule.Rows.Leaving.{steps_back}
+use Rattle.papaya_points.proofs.Given.Tables.Ends.{next_few}
 use Rattle.papaya_points.proofs.Given.Rule.Keys.Always.{Always, AlwaysOf, always_if, always_steps}
-use Rattle.papaya_late.specs.Faults.{IsRoom, RoomInMaking, SoInMaking}
+use Rattle.papaya_late.specs.Ends.{EndsSo}
+use Rattle.papaya_late.specs.Faults.{AnyTable, IsRoom, RoomInMaking, SoInMaking, StandsInMaking}
 
 -- a length that can't be had is too long
 abbrev IsLong : {T : Type 0} → Result T Fault → Type 0
@@ -47,56 +51,95 @@ len_long (reason.Full met) len count initial = few_long _ _
 len_long (reason.Reserved additional) len count initial = few_long _ _
 len_long reason.NoPlace len count initial = few_long _ _
 
-turn_long : (turn : ℕ) → IsLong (next_turn turn)
-turn_long turn = by (nat_lt turn (2 ^ 63))
-  where
-    by : (b : Bool) → IsLong (if b then Ok (turn + 1) else Err Capacity)
-    by true = tt
-    by false = refl
+-- a number is more than another one where it is not at most that
+pub above : (a b : ℕ) → nat_le a b ≡ false → b < a
+above a b e =
+    elim (leb_tells a b) as (λ _. b < a) [
+      | inl few ↦ absurd (let most = few.0 in cc (most, e))
+      | inr many ↦ many.1
+    ]
 
--- what is begun
+-- and at least that where it is not less
+pub at_least : (a b : ℕ) → nat_lt a b ≡ false → b ≤ a
+at_least a b e =
+    elim (cases_lt a b) as (λ _. b ≤ a) [
+      | inl below ↦ absurd (let less = lt-ltb a b below in cc (less, e))
+      | inr least ↦ least
+    ]
+
+-- what is so of both outcomes of a test is so of this one
+module _ {T R : Type 0} (P : R → Type 0) where
+  pub always_where : (b : Bool) (x y : Then T R) → (b ≡ true → Always P x) → Always P y → Always P (if b then x else y)
+  always_where true x y f g = f refl
+  always_where false x y f g = g
+
+-- What is begun: where a length is too long, or the table before has the last turn, the fault is such a one.
+module _ (Is : Fault → Type 0) (Last : Table → Reason → Type 0) where
+  chosen : (b : Bool) (x y : Making) → StandsInMaking Is Last x → (b ≡ false → StandsInMaking Is Last y) → StandsInMaking Is Last (if b then x else y)
+  chosen true x y f g = f
+  chosen false x y f g = g refl
+
+  first_as : (len : ℕ) → (2 ^ 48 < len → Is Capacity) → StandsInMaking Is Last (making_first len)
+  first_as len long = chosen (nat_le len (2 ^ 48)) (makes.Makes (planned len (limit_of len) 0)) (makes.Refused Capacity) tt (λ many. long (above len (2 ^ 48) many))
+
+  following_as : (r : Reason) (before : Table) (len : ℕ) → (2 ^ 48 < len → Is Capacity) → (2 ^ 63 ≤ before.turn → Is Capacity) → StandsInMaking Is Last (following r before len (next_turn before.turn))
+  following_as r before len long late = by (nat_lt before.turn (2 ^ 63)) refl
+    where
+      by : (b : Bool) → nat_lt before.turn (2 ^ 63) ≡ b → StandsInMaking Is Last (following r before len (if b then Ok (before.turn + 1) else Err Capacity))
+      by true e =
+          chosen (nat_le len (2 ^ 48)) (makes.Makes (planned len (next_limit r before.len len) (before.turn + 1))) (makes.Refused Capacity) tt (λ many. long (above len (2 ^ 48) many))
+      by false e = late (at_least before.turn (2 ^ 63) e)
+
+  making_as : (r : Reason) (before : Table) (len : Result ℕ Fault) → IsLong len → IfOk len (λ x. 2 ^ 48 < x → Is Capacity) → (len ≡ Err Capacity → Is Capacity) → (2 ^ 63 ≤ before.turn → Is Capacity)
+      → StandsInMaking Is Last (making_of r before len)
+  making_as r before (Ok len) fails long none late = following_as r before (max len 8) (λ more. long (omega (arith, more))) late
+  making_as r before (Err fault) fails long none late = subst Is (sym fails) (none (ap (λ (x : Fault). Err x) fails))
+
+  fitting : (len : Result ℕ Fault) → IfOk len (λ x. x ≤ 2 ^ 48) → IfOk len (λ x. 2 ^ 48 < x → Is Capacity)
+  fitting (Ok len) few = λ more. absurd (omega (arith, few, more))
+  fitting (Err fault) few = tt
+
+  -- the table after another one, by a count
+  after_as : (r : Reason) (before : Table) (count initial : ℕ) → (NoneFollows r before.len before.turn count initial → Is Capacity)
+      → StandsInMaking Is Last (making_of r before (next_len r before.len count initial))
+  after_as r before count initial ends =
+      making_as r before (next_len r before.len count initial) (len_long r before.len count initial) (fitting (next_len r before.len count initial) (next_few r before.len count initial))
+      (λ none. ends (inl none)) (λ late. ends (inr late))
+
+  begun_as : (setting : Setting) (before : Table) (r : Reason) → Last before r → EndsSo Is Last setting → StandsInMaking Is Last (begun_for setting before r)
+  begun_as setting before reason.NoPlace last ends = after_as reason.NoPlace before 0 setting.initial (ends before reason.NoPlace 0 last)
+  begun_as setting before (reason.Reserved additional) last ends = last
+  begun_as setting before (reason.Full met) last ends = last
+
+  pub first_table_as : (setting : Setting) (len : ℕ) → (2 ^ 48 < len → Is Capacity) → StandsInMaking Is Last (first_table setting len).stands
+  first_table_as setting len long = first_as (max len 8) (λ more. long (omega (arith, more)))
+
+  pub table_after_as : (setting : Setting) (before : Table) (r : Reason) → Last before r → EndsSo Is Last setting → StandsInMaking Is Last (table_after setting before r).stands
+  table_after_as setting before r last ends = begun_as setting before r last ends
+
+  pub table_full_as : (setting : Setting) (before : Table) (met : ℕ) → Last before (reason.Full met) → StandsInMaking Is Last (table_after setting before (reason.Full met)).stands
+  table_full_as setting before met last = last
+
+  pub table_reserved_as : (setting : Setting) (before : Table) (len : ℕ) → (2 ^ 48 < len → Is Capacity) → (2 ^ 63 ≤ before.turn → Is Capacity)
+      → StandsInMaking Is Last (table_reserved setting before len).stands
+  table_reserved_as setting before len long late = making_as (reason.Reserved 0) before (Ok len) tt long (λ none. absurd (cc none)) late
+
+-- where the fault is such a one in any case
 module _ (Is : Fault → Type 0) (long : Is Capacity) where
-  first_so : (len : ℕ) → SoInMaking Is (making_first len)
-  first_so len = by (nat_le len (2 ^ 48))
-    where
-      by : (b : Bool) → SoInMaking Is (if b then makes.Makes (planned len (limit_of len) 0) else makes.Refused Capacity)
-      by true = tt
-      by false = long
-
-  following_so : (r : Reason) (before : Table) (len : ℕ) (turn : Result ℕ Fault) → IsLong turn → SoInMaking Is (following r before len turn)
-  following_so r before len (Ok turn) fails = by (nat_le len (2 ^ 48))
-    where
-      by : (b : Bool) → SoInMaking Is (if b then makes.Makes (planned len (next_limit r before.len len) turn) else makes.Refused Capacity)
-      by true = tt
-      by false = long
-  following_so r before len (Err fault) fails = subst Is (sym fails) long
-
-  making_so : (r : Reason) (before : Table) (len : Result ℕ Fault) → IsLong len → SoInMaking Is (making_of r before len)
-  making_so r before (Ok len) fails = following_so r before (max len 8) (next_turn before.turn) (turn_long before.turn)
-  making_so r before (Err fault) fails = subst Is (sym fails) long
-
-  begun_so : (setting : Setting) (before : Table) (r : Reason) → SoInMaking Is (begun_for setting before r)
-  begun_so setting before (reason.Full met) = tt
-  begun_so setting before (reason.Reserved additional) = tt
-  begun_so setting before reason.NoPlace = making_so reason.NoPlace before (next_len reason.NoPlace before.len 0 setting.initial) (len_long reason.NoPlace before.len 0 setting.initial)
+  pub always_long : (setting : Setting) → EndsSo Is AnyTable setting
+  always_long setting before r count last none = long
 
   pub first_table_so : (setting : Setting) (len : ℕ) → SoInMaking Is (first_table setting len).stands
-  first_table_so setting len = first_so (max len 8)
+  first_table_so setting len = first_table_as Is AnyTable setting len (λ more. long)
 
   pub table_after_so : (setting : Setting) (before : Table) (r : Reason) → SoInMaking Is (table_after setting before r).stands
-  table_after_so setting before r = begun_so setting before r
-
-  pub table_reserved_so : (setting : Setting) (before : Table) (len : ℕ) → SoInMaking Is (table_reserved setting before len).stands
-  table_reserved_so setting before len = making_so (reason.Reserved 0) before (Ok len) tt
+  table_after_so setting before r = table_after_as Is AnyTable setting before r tt (always_long setting)
 
 pub first_table_room : (setting : Setting) (len : ℕ) → RoomInMaking (first_table setting len).stands
 first_table_room setting len = first_table_so IsRoom (inr refl) setting len
 
 pub table_after_room : (setting : Setting) (before : Table) (r : Reason) → RoomInMaking (table_after setting before r).stands
 table_after_room setting before r = table_after_so IsRoom (inr refl) setting before r
-
-pub table_reserved_room : (setting : Setting) (before : Table) (len : ℕ) → RoomInMaking (table_reserved setting before len).stands
-table_reserved_room setting before len = table_reserved_so IsRoom (inr refl) setting before len
 
 -- a counting is never refused
 abbrev pub CountsOn : Sum × Progress ℕ → Type 0
@@ -125,71 +168,96 @@ IsPlain (makes.Sums before r sum) = ⊥
 IsPlain (makes.Makes table) = ⊥
 IsPlain _ = Unit {0}
 
-module _ (Is : Fault → Type 0) where
+module _ (Is : Fault → Type 0) (Last : Table → Reason → Type 0) where
   -- each step leads to a point that is so, and a refusal is so
-  abbrev pub MakesFor : NewTable × Progress Table → Type 0
-  MakesFor (n, progress.Refused fault) = SoInMaking Is n.stands × Is fault
-  MakesFor (n, _) = SoInMaking Is n.stands
+  abbrev pub MakesAs : NewTable × Progress Table → Type 0
+  MakesAs (n, progress.Refused fault) = StandsInMaking Is Last n.stands × Is fault
+  MakesAs (n, _) = StandsInMaking Is Last n.stands
 
-  module _ (long : Is Capacity) (n : NewTable) where
-    pub counted_so : (before : Table) (r : Reason) (end : Sum × Progress ℕ) → CountsOn end → MakesFor (counted n before r end)
-    counted_so before r (sum, progress.Goes) on = tt
-    counted_so before r (sum, progress.Waits) on = tt
-    counted_so before r (sum, progress.Done count) on = making_so Is long r before (next_len r before.len count n.setting.initial) (len_long r before.len count n.setting.initial)
-    counted_so before r (sum, progress.Refused fault) on = absurd on
+  module _ (n : NewTable) where
+    pub counted_as : EndsSo Is Last n.setting → (before : Table) (r : Reason) → Last before r → (end : Sum × Progress ℕ) → CountsOn end → MakesAs (counted n before r end)
+    counted_as ends before r last (sum, progress.Goes) on = last
+    counted_as ends before r last (sum, progress.Waits) on = last
+    counted_as ends before r last (sum, progress.Done count) on = after_as Is Last r before count n.setting.initial (ends before r count last)
+    counted_as ends before r last (sum, progress.Refused fault) on = absurd on
 
-    module _ {K V : Type 0} (here : SoInMaking Is n.stands) where
+    module _ {K V : Type 0} (here : StandsInMaking Is Last n.stands) where
       -- it is refused for memory where its block is
-      pub made_so : (table : Table) (out : Out (Node K V)) → ((value : Node K V) → out ≡ Made (Err value) → Is Memory) → Always MakesFor (made n table out)
-      made_so table (Made (Ok block)) short = by n.link
+      pub made_as : (table : Table) (out : Out (Node K V)) → ((value : Node K V) → out ≡ Made (Err value) → Is Memory) → Always MakesAs (made n table out)
+      made_as table (Made (Ok block)) short = by n.link
         where
-          by : (link : At) → SoInMaking Is (after_making link (with_block table block))
+          by : (link : At) → StandsInMaking Is Last (after_making link (with_block table block))
           by (name.Root r) = tt
           by (name.Used r) = tt
           by (name.Slot s i) = tt
           by (name.Entry b i) = tt
           by (name.Word b i) = tt
-      made_so table (Made (Err value)) short = (short value refl, short value refl)
-      made_so table (Found word) short = here
-      made_so table Stored short = here
-      made_so table (Exchanged r) short = here
-      made_so table (Taken value) short = here
-      made_so table (Roomed r) short = here
+      made_as table (Made (Err value)) short = (short value refl, short value refl)
+      made_as table (Found word) short = here
+      made_as table Stored short = here
+      made_as table (Exchanged r) short = here
+      made_as table (Taken value) short = here
+      made_as table (Roomed r) short = here
 
-      linked_so : (table : Table) (out : Out (Node K V)) → Always MakesFor (linked n table out)
-      linked_so table (Exchanged (Ok empty)) = tt
-      linked_so table (Exchanged (Err found)) = tt
-      linked_so table (Found word) = here
-      linked_so table Stored = here
-      linked_so table (Made r) = here
-      linked_so table (Taken value) = here
-      linked_so table (Roomed r) = here
+      linked_as : (table : Table) (out : Out (Node K V)) → Always MakesAs (linked n table out)
+      linked_as table (Exchanged (Ok empty)) = tt
+      linked_as table (Exchanged (Err found)) = tt
+      linked_as table (Found word) = here
+      linked_as table Stored = here
+      linked_as table (Made r) = here
+      linked_as table (Taken value) = here
+      linked_as table (Roomed r) = here
 
     -- each step of its own leads to a point that is so, and a refusal is so
+    module _ (K V : Type 0) (here : StandsInMaking Is Last n.stands) where
+      pub plain_as : (stage : Making) → IsPlain stage → StandsInMaking Is Last stage → AlwaysOf MakesAs (plan_at {K = K} {V = V} n stage)
+      plain_as (makes.Sums before r sum) plain so = absurd plain
+      plain_as (makes.Makes table) plain so = absurd plain
+      plain_as (makes.Promotes table) plain so = λ out. tt
+      plain_as (makes.Links table) plain so = linked_as here table
+      plain_as (makes.Drops table found) plain so = λ out value. tt
+      plain_as (makes.Over table) plain so = here
+      plain_as (makes.Refused fault) plain so = (here, so)
+
+-- The promise: each step leads to a point that is so, and a refusal is so, for memory where its block is refused.
+module _ (Is : Fault → Type 0) (Last : Table → Reason → Type 0) (short : Is Memory) {K V : Type 0} (n : NewTable) (ends : EndsSo Is Last n.setting) (here : StandsInMaking Is Last n.stands) where
+  pub new_table_as : (m m2 : Mem (Node K V)) (end : NewTable × Progress Table) → Steps Took value_at m (new_table_plan n) m2 end → MakesAs Is Last end
+  new_table_as m m2 end s = by n.stands here s
+    where
+      told : (stage : Making) → AlwaysOf (MakesAs Is Last) (plan_at n stage) → Steps Took value_at m (plan_at n stage) m2 end → MakesAs Is Last end
+      told stage always s = always_steps (MakesAs Is Last) m m2 (plan_at n stage) end always s
+
+      by : (stage : Making) → StandsInMaking Is Last stage → Steps Took value_at m (plan_at n stage) m2 end → MakesAs Is Last end
+      by (makes.Sums before r sum) so s =
+          let d = steps_back (counted n before r) m m2 (sum_plan sum) end s in
+          subst (MakesAs Is Last) (sym d.2) (counted_as Is Last n ends before r so d.0 (always_steps CountsOn m m2 (sum_plan sum) d.0 (sum_counts (Node K V) sum) d.1))
+      by (makes.Makes table) so s = told (makes.Makes table) (λ out. made_as Is Last n here table out (λ value is. short)) s
+      by (makes.Promotes table) so s = told (makes.Promotes table) (plain_as Is Last n K V here (makes.Promotes table) tt so) s
+      by (makes.Links table) so s = told (makes.Links table) (plain_as Is Last n K V here (makes.Links table) tt so) s
+      by (makes.Drops table found) so s = told (makes.Drops table found) (plain_as Is Last n K V here (makes.Drops table found) tt so) s
+      by (makes.Over table) so s = told (makes.Over table) (plain_as Is Last n K V here (makes.Over table) tt so) s
+      by (makes.Refused fault) so s = told (makes.Refused fault) (plain_as Is Last n K V here (makes.Refused fault) tt so) s
+
+-- where the fault is such a one in any case
+module _ (Is : Fault → Type 0) where
+  abbrev pub MakesFor : NewTable × Progress Table → Type 0
+  MakesFor end = MakesAs Is AnyTable end
+
+  module _ (long : Is Capacity) (n : NewTable) where
+    pub counted_so : (before : Table) (r : Reason) (end : Sum × Progress ℕ) → CountsOn end → MakesFor (counted n before r end)
+    counted_so before r end on = counted_as Is AnyTable n (always_long Is long n.setting) before r tt end on
+
+    module _ {K V : Type 0} (here : SoInMaking Is n.stands) where
+      pub made_so : (table : Table) (out : Out (Node K V)) → ((value : Node K V) → out ≡ Made (Err value) → Is Memory) → Always MakesFor (made n table out)
+      made_so table out short = made_as Is AnyTable n here table out short
+
     module _ (K V : Type 0) (here : SoInMaking Is n.stands) where
       pub plain_so : (stage : Making) → IsPlain stage → SoInMaking Is stage → AlwaysOf MakesFor (plan_at {K = K} {V = V} n stage)
-      plain_so (makes.Sums before r sum) plain so = absurd plain
-      plain_so (makes.Makes table) plain so = absurd plain
-      plain_so (makes.Promotes table) plain so = λ out. tt
-      plain_so (makes.Links table) plain so = linked_so here table
-      plain_so (makes.Drops table found) plain so = λ out value. tt
-      plain_so (makes.Over table) plain so = here
-      plain_so (makes.Refused fault) plain so = (here, so)
+      plain_so stage plain so = plain_as Is AnyTable n K V here stage plain so
 
+-- so for room
 abbrev pub MakesRoom : NewTable × Progress Table → Type 0
 MakesRoom end = MakesFor IsRoom end
 
-module _ {K V : Type 0} (n : NewTable) (here : RoomInMaking n.stands) where
-  pub new_table_rooms : (m m2 : Mem (Node K V)) (end : NewTable × Progress Table) → Steps Took value_at m (new_table_plan n) m2 end → MakesRoom end
-  new_table_rooms m m2 end s = by n.stands here s
-    where
-      by : (stage : Making) → RoomInMaking stage → Steps Took value_at m (plan_at n stage) m2 end → MakesRoom end
-      by (makes.Sums before r sum) room s =
-          let d = steps_back (counted n before r) m m2 (sum_plan sum) end s in
-          subst MakesRoom (sym d.2) (counted_so IsRoom (inr refl) n before r d.0 (always_steps CountsOn m m2 (sum_plan sum) d.0 (sum_counts (Node K V) sum) d.1))
-      by (makes.Makes table) room s = always_steps MakesRoom m m2 (plan_at n (makes.Makes table)) end (λ out. made_so IsRoom (inr refl) n here table out (λ value is. inl refl)) s
-      by (makes.Promotes table) room s = always_steps MakesRoom m m2 (plan_at n (makes.Promotes table)) end (plain_so IsRoom (inr refl) n K V here (makes.Promotes table) tt room) s
-      by (makes.Links table) room s = always_steps MakesRoom m m2 (plan_at n (makes.Links table)) end (plain_so IsRoom (inr refl) n K V here (makes.Links table) tt room) s
-      by (makes.Drops table found) room s = always_steps MakesRoom m m2 (plan_at n (makes.Drops table found)) end (plain_so IsRoom (inr refl) n K V here (makes.Drops table found) tt room) s
-      by (makes.Over table) room s = always_steps MakesRoom m m2 (plan_at n (makes.Over table)) end (plain_so IsRoom (inr refl) n K V here (makes.Over table) tt room) s
-      by (makes.Refused fault) room s = always_steps MakesRoom m m2 (plan_at n (makes.Refused fault)) end (plain_so IsRoom (inr refl) n K V here (makes.Refused fault) tt room) s
+pub new_table_rooms : {K V : Type 0} (n : NewTable) → RoomInMaking n.stands → (m m2 : Mem (Node K V)) (end : NewTable × Progress Table) → Steps Took value_at m (new_table_plan n) m2 end → MakesRoom end
+new_table_rooms n here m m2 end s = new_table_as IsRoom AnyTable (inl refl) n (always_long IsRoom (inr refl) n.setting) here m m2 end s

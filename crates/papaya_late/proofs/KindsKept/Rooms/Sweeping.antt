@@ -1,7 +1,8 @@
 -- A sweep is refused for memory, or for the length of a table.
 use Rattle.std.specs.Prelude.{ℕ, ◌==◌, ◌&&◌, nat_lt, if◌then◌else◌, Bool, true, false, Ok, Err}
-use Rattle.std.proofs.Common.{sym, subst}
+use Rattle.std.proofs.Common.{inl, inr, refl, sym, subst}
 use Rattle.papaya_points.specs.Given.SeizeWords.declared.fault.Fault.{Fault}
+use Rattle.papaya_points.specs.Given.SeizeWords.declared.fault.Fault.TheVariants.{Capacity, Memory}
 use Rattle.papaya_points.specs.Given.SeizeWords.Mem.{Mem, value_at, Took}
 use Rattle.papaya_points.specs.Given.SeizeWords.Op.{Out, Found, Stored, Exchanged, Made, Taken, Roomed}
 use Rattle.papaya_points.specs.Given.SeizeWords.Plan.{Steps}
@@ -11,6 +12,7 @@ use Rattle.papaya_points.specs.Given.Seize.declared.rows.settle.Settled.{Settled
 use Rattle.papaya_points.specs.Given.Seize.declared.rows.settle.Settled.TheVariants as settled
 use Rattle.papaya_points.specs.Given.Tables.Chunks.{is_incremental}
 use Rattle.papaya_points.specs.Given.Tables.Marks.{has_mark}
+use Rattle.papaya_points.specs.Given.Tables.declared.lengths.Reason.{Reason}
 use Rattle.papaya_points.specs.Given.Tables.declared.marks.TheConstants.{COPYING}
 use Rattle.papaya_points.specs.Given.Tables.declared.node.Node.{Node}
 use Rattle.papaya_points.specs.Given.Tables.declared.table.Table.{Table}
@@ -30,51 +32,58 @@ use Rattle.papaya_points.specs.Given.Sweeps.declared.sweep.Sweeping.TheVariants 
 use Rattle.papaya_points.specs.Given.Sweeps.declared.sweep.Swept.{Swept}
 use Rattle.papaya_points.specs.Given.Sweeps.declared.sweep.Swept.TheVariants.{Goes}
 use Rattle.papaya_points.proofs.Given.Rule.Keys.Always.{Always, AlwaysOf, always_if, always_steps}
-use Rattle.papaya_late.specs.Faults.{IsRoom, RoomInSweeping, SoInSweeping, SweepRefusesSo}
-use Rattle.papaya_late.proofs.KindsKept.Rooms.Copying.{CopiesFor, copier_rooms}
-use Rattle.papaya_late.proofs.KindsKept.Rooms.Reserving.{copying_so}
+use Rattle.papaya_late.specs.Ends.{EndsInSweeping}
+use Rattle.papaya_late.specs.Faults.{AnyTable, IsRoom, RoomInSweeping, SoInSweeping, StandsInSweeping, SweepRefusesSo}
+use Rattle.papaya_late.proofs.KindsKept.Rooms.Copying.{CopiesAs, CopiesFor, copier_as, copying_ends}
+use Rattle.papaya_late.proofs.KindsKept.Rooms.Reserving.{copying_as}
+
+-- it goes on with no machine within it
+abbrev pub IsOwn : Sweeping → Type 0
+IsOwn (at.Copies copier) = ⊥
+IsOwn (at.Disposes dispose) = ⊥
+IsOwn _ = Unit {0}
 
 -- a fault that it has to tell is such a one, and a refusal is one for it
-module _ (Is : Fault → Type 0) where
-  abbrev pub SweepsFor : {T : Type 0} → Sweep × Swept T → Type 0
-  SweepsFor (c, told) = SoInSweeping Is c.stands × SweepRefusesSo Is told
+module _ (Is : Fault → Type 0) (Last : Table → Reason → Type 0) where
+  abbrev pub SweepsAs : {T : Type 0} → Sweep × Swept T → Type 0
+  SweepsAs (c, told) = StandsInSweeping Is Last c.stands × SweepRefusesSo Is told
 
   -- one of two points
-  if_so : (b : Bool) (x y : Sweeping) → SoInSweeping Is x → SoInSweeping Is y → SoInSweeping Is (if b then x else y)
+  if_so : (b : Bool) (x y : Sweeping) → StandsInSweeping Is Last x → StandsInSweeping Is Last y → StandsInSweeping Is Last (if b then x else y)
   if_so true x y p q = p
   if_so false x y p q = q
 
-  further_so : (c : Sweep) → SoInSweeping Is (further c).stands
+  further_so : (c : Sweep) → StandsInSweeping Is Last (further c).stands
   further_so c = if_so (nat_lt (past c).place c.table.len) at.Words (at_end c) tt (if_so (removes c.purpose && c.met) at.Follows at.Over tt tt)
 
-  next_so : (c : Sweep) → SoInSweeping Is c.stands → (stands : Sweeping) → SoInSweeping Is (next_at stands c).stands
+  next_so : (c : Sweep) → StandsInSweeping Is Last c.stands → (stands : Sweeping) → StandsInSweeping Is Last (next_at stands c).stands
   next_so c room at.Ready = if_so (nat_lt c.place c.table.len) at.Words at.Over tt tt
   next_so c room _ = room
 
-  reply_so : (c : Sweep) → SoInSweeping Is c.stands → (keeps : Bool) (stands : Sweeping) → SoInSweeping Is (reply_at stands c keeps).stands
+  reply_so : (c : Sweep) → StandsInSweeping Is Last c.stands → (keeps : Bool) (stands : Sweeping) → StandsInSweeping Is Last (reply_at stands c keeps).stands
   reply_so c room true (at.Asks word) = further_so c
   reply_so c room false (at.Asks word) = tt
   reply_so c room keeps _ = room
 
   -- Asked for the next pair, or told whether to keep one, it goes on so.
-  pub told_so_on : (c : Sweep) → SoInSweeping Is c.stands → SoInSweeping Is (after_next c).stands × ((keeps : Bool) → SoInSweeping Is (after_reply c keeps).stands)
-  told_so_on c room = (next_so c room c.stands, λ keeps. reply_so c room keeps c.stands)
+  pub told_as_on : (c : Sweep) → StandsInSweeping Is Last c.stands → StandsInSweeping Is Last (after_next c).stands × ((keeps : Bool) → StandsInSweeping Is Last (after_reply c keeps).stands)
+  told_as_on c room = (next_so c room c.stands, λ keeps. reply_so c room keeps c.stands)
 
   module _ (K V : Type 0) (hash : K → ℕ) (c : Sweep) where
     abbrev Rooms : Sweep × Swept (Node K V) → Type 0
-    Rooms end = SweepsFor end
+    Rooms end = SweepsAs end
 
-    told_so : (stands : Sweeping) → SoInSweeping Is stands → SweepRefusesSo Is (told {T = Node K V} stands)
+    told_so : (stands : Sweeping) → StandsInSweeping Is Last stands → SweepRefusesSo Is (told {T = Node K V} stands)
     told_so (at.Refused fault) room = room
     told_so _ room = tt
 
-    telling_so : (p : Sweep) → SoInSweeping Is p.stands → Rooms (telling p)
+    telling_so : (p : Sweep) → StandsInSweeping Is Last p.stands → Rooms (telling p)
     telling_so p room = (room, told_so p.stands room)
 
-    entering_so : (table : Table) → SoInSweeping Is (entering c table).stands
+    entering_so : (table : Table) → StandsInSweeping Is Last (entering c table).stands
     entering_so table = by (is_incremental c.setting.mode) (removes c.purpose)
       where
-        by : (b r : Bool) → SoInSweeping Is (if b then record c { table = table; stands = at.Follows } else record c { table = table; place = 0; met = false; stands = if r then at.Words else at.Ready }).stands
+        by : (b r : Bool) → StandsInSweeping Is Last (if b then record c { table = table; stands = at.Follows } else record c { table = table; place = 0; met = false; stands = if r then at.Words else at.Ready }).stands
         by true r = tt
         by false true = tt
         by false false = tt
@@ -92,20 +101,20 @@ module _ (Is : Fault → Type 0) where
         by false true = telling_so (further c) (further_so c)
         by false false = pair_so c.purpose word
 
-    pub copied_so : (end : Copier × Outcome (Node K V) Table) → CopiesFor Is end → Rooms (copied c end)
-    copied_so (copier, outcome.Goes) room = (room.0, tt)
-    copied_so (copier, outcome.Waits) room = (room.0, tt)
-    copied_so (copier, outcome.Gave value) room = (room.0, tt)
-    copied_so (copier, outcome.Done table) room = telling_so (entering c table) (entering_so table)
-    copied_so (copier, outcome.Refused fault) room = (room.1, room.1)
+    pub copied_as : (end : Copier × Outcome (Node K V) Table) → CopiesAs Is Last end → Rooms (copied c end)
+    copied_as (copier, outcome.Goes) room = (room.0, tt)
+    copied_as (copier, outcome.Waits) room = (room.0, tt)
+    copied_as (copier, outcome.Gave value) room = (room.0, tt)
+    copied_as (copier, outcome.Done table) room = telling_so (entering c table) (entering_so table)
+    copied_as (copier, outcome.Refused fault) room = (room.1, room.1)
 
-    pub disposed_so : (end : Dispose × Settled (Node K V)) → Rooms (disposed c end)
-    disposed_so (dispose, settled.Goes) = (tt, tt)
-    disposed_so (dispose, settled.Waits) = (tt, tt)
-    disposed_so (dispose, settled.Gave value) = (tt, tt)
-    disposed_so (dispose, settled.Done) = telling_so (further c) (further_so c)
+    pub disposed_as : (end : Dispose × Settled (Node K V)) → Rooms (disposed c end)
+    disposed_as (dispose, settled.Goes) = (tt, tt)
+    disposed_as (dispose, settled.Waits) = (tt, tt)
+    disposed_as (dispose, settled.Gave value) = (tt, tt)
+    disposed_as (dispose, settled.Done) = telling_so (further c) (further_so c)
 
-    module _ (here : SoInSweeping Is c.stands) where
+    module _ (here : StandsInSweeping Is Last c.stands) where
       stays : Rooms (c, Goes)
       stays = (here, tt)
 
@@ -120,7 +129,7 @@ module _ (Is : Fault → Type 0) where
 
       follows_so : (out : Out (Node K V)) → Always Rooms (next_read c out)
       follows_so (Found link) =
-          always_if Rooms (link == 0) _ _ (telling_so (beginning c) (if_so (removes c.purpose) at.Words at.Ready tt tt)) (λ value. (copying_so Is c.setting c.table _, tt))
+          always_if Rooms (link == 0) _ _ (telling_so (beginning c) (if_so (removes c.purpose) at.Words at.Ready tt tt)) (λ value. (copying_as Is Last c.setting c.table _, tt))
       follows_so Stored = stays
       follows_so (Exchanged r) = stays
       follows_so (Made r) = stays
@@ -144,25 +153,60 @@ module _ (Is : Fault → Type 0) where
       tried_so word (Taken value) = stays
       tried_so word (Roomed r) = stays
 
-      -- it goes on with no machine within it
-      abbrev pub IsOwn : Sweeping → Type 0
-      IsOwn (at.Copies copier) = ⊥
-      IsOwn (at.Disposes dispose) = ⊥
-      IsOwn _ = Unit {0}
-
       -- each step leads to a point that is so, and a refusal is so
-      pub own_so : (stage : Sweeping) → IsOwn stage → SoInSweeping Is stage → AlwaysOf Rooms (plan_at hash c stage)
-      own_so at.Reads own room = root_so
-      own_so at.Follows own room = follows_so
-      own_so (at.Copies copier) own room = absurd own
-      own_so at.Words own room = word_so
-      own_so (at.Tries word) own room = tried_so word
-      own_so (at.Counts removed) own room = λ out. (tt, tt)
-      own_so (at.Disposes dispose) own room = absurd own
-      own_so at.Ready own room = (here, tt)
-      own_so (at.Asks word) own room = (here, tt)
-      own_so at.Over own room = (here, tt)
-      own_so (at.Refused fault) own room = (here, room)
+      pub own_as : (stage : Sweeping) → IsOwn stage → StandsInSweeping Is Last stage → AlwaysOf Rooms (plan_at hash c stage)
+      own_as at.Reads own room = root_so
+      own_as at.Follows own room = follows_so
+      own_as (at.Copies copier) own room = absurd own
+      own_as at.Words own room = word_so
+      own_as (at.Tries word) own room = tried_so word
+      own_as (at.Counts removed) own room = λ out. (tt, tt)
+      own_as (at.Disposes dispose) own room = absurd own
+      own_as at.Ready own room = (here, tt)
+      own_as (at.Asks word) own room = (here, tt)
+      own_as at.Over own room = (here, tt)
+      own_as (at.Refused fault) own room = (here, room)
+
+-- The promise: each step leads to a point that is so, and a refusal is so.
+module _ (Is : Fault → Type 0) (Last : Table → Reason → Type 0) (short : Is Memory) (K V : Type 0) (hash : K → ℕ) (c : Sweep) (here : StandsInSweeping Is Last c.stands) where
+  abbrev SweepsHere : Sweep × Swept (Node K V) → Type 0
+  SweepsHere end = SweepsAs Is Last end
+
+  pub sweep_as : (m m2 : Mem (Node K V)) (end : Sweep × Swept (Node K V)) → EndsInSweeping Is Last m c.stands → Steps Took value_at m (sweep_plan hash c) m2 end → SweepsAs Is Last end
+  sweep_as m m2 end ends s = by c.stands here ends s
+    where
+      by : (stage : Sweeping) → StandsInSweeping Is Last stage → EndsInSweeping Is Last m stage → Steps Took value_at m (plan_at hash c stage) m2 end → SweepsHere end
+      by (at.Copies copier) so ends s =
+          let d = steps_back (copied c) m m2 (copier_plan hash copier) end s in
+          subst SweepsHere (sym d.2) (copied_as Is Last K V hash c d.0 (copier_as Is Last short K V hash copier so m m2 d.0 ends d.1))
+      by (at.Disposes dispose) so ends s = let d = steps_back (disposed c) m m2 (dispose_plan dispose) end s in subst SweepsHere (sym d.2) (disposed_as Is Last K V hash c d.0)
+      by stage so ends s = always_steps SweepsHere m m2 (plan_at hash c stage) end (own_as Is Last K V hash c here stage tt so) s
+
+-- the fault is such a one in any case
+pub sweeping_ends : (Is : Fault → Type 0) → Is Capacity → {T : Type 0} (m : Mem T) (stage : Sweeping) → EndsInSweeping Is AnyTable m stage
+sweeping_ends Is long m (at.Copies copier) = copying_ends Is long m copier copier.stands
+sweeping_ends Is long m _ = tt
+
+module _ (Is : Fault → Type 0) where
+  abbrev pub SweepsFor : {T : Type 0} → Sweep × Swept T → Type 0
+  SweepsFor end = SweepsAs Is AnyTable end
+
+  pub told_so_on : (c : Sweep) → SoInSweeping Is c.stands → SoInSweeping Is (after_next c).stands × ((keeps : Bool) → SoInSweeping Is (after_reply c keeps).stands)
+  told_so_on c room = told_as_on Is AnyTable c room
+
+  module _ (K V : Type 0) (hash : K → ℕ) (c : Sweep) where
+    abbrev RoomsFor : Sweep × Swept (Node K V) → Type 0
+    RoomsFor end = SweepsFor end
+
+    pub copied_so : (end : Copier × Outcome (Node K V) Table) → CopiesFor Is end → RoomsFor (copied c end)
+    copied_so end room = copied_as Is AnyTable K V hash c end room
+
+    pub disposed_so : (end : Dispose × Settled (Node K V)) → RoomsFor (disposed c end)
+    disposed_so end = disposed_as Is AnyTable K V hash c end
+
+    module _ (here : SoInSweeping Is c.stands) where
+      pub own_so : (stage : Sweeping) → IsOwn stage → SoInSweeping Is stage → AlwaysOf RoomsFor (plan_at hash c stage)
+      own_so stage own room = own_as Is AnyTable K V hash c here stage own room
 
 -- so for room
 pub told_rooms : (c : Sweep) → RoomInSweeping c.stands → RoomInSweeping (after_next c).stands × ((keeps : Bool) → RoomInSweeping (after_reply c keeps).stands)
@@ -171,16 +215,6 @@ told_rooms c room = told_so_on IsRoom c room
 abbrev pub SweepsRoom : {T : Type 0} → Sweep × Swept T → Type 0
 SweepsRoom end = SweepsFor IsRoom end
 
-module _ (K V : Type 0) (hash : K → ℕ) (c : Sweep) (here : RoomInSweeping c.stands) where
-  abbrev RoomsHere : Sweep × Swept (Node K V) → Type 0
-  RoomsHere end = SweepsFor IsRoom end
-
-  -- The promise: each step leads to a point that is so, and a refusal is one for room.
-  pub sweep_rooms : (m m2 : Mem (Node K V)) (end : Sweep × Swept (Node K V)) → Steps Took value_at m (sweep_plan hash c) m2 end → SweepsRoom end
-  sweep_rooms m m2 end s = by c.stands here s
-    where
-      by : (stage : Sweeping) → RoomInSweeping stage → Steps Took value_at m (plan_at hash c stage) m2 end → RoomsHere end
-      by (at.Copies copier) room s =
-          let d = steps_back (copied c) m m2 (copier_plan hash copier) end s in subst RoomsHere (sym d.2) (copied_so IsRoom K V hash c d.0 (copier_rooms K V hash copier room m m2 d.0 d.1))
-      by (at.Disposes dispose) room s = let d = steps_back (disposed c) m m2 (dispose_plan dispose) end s in subst RoomsHere (sym d.2) (disposed_so IsRoom K V hash c d.0)
-      by stage room s = always_steps RoomsHere m m2 (plan_at hash c stage) end (own_so IsRoom K V hash c here stage tt room) s
+pub sweep_rooms : (K V : Type 0) (hash : K → ℕ) (c : Sweep) → RoomInSweeping c.stands → (m m2 : Mem (Node K V)) (end : Sweep × Swept (Node K V))
+    → Steps Took value_at m (sweep_plan hash c) m2 end → SweepsRoom end
+sweep_rooms K V hash c here m m2 end s = sweep_as IsRoom AnyTable (inl refl) K V hash c here m m2 end (sweeping_ends IsRoom (inr refl) m c.stands) s

@@ -3,7 +3,7 @@ use Rattle.std.specs.Prelude.{◌≡◌}
 use Rattle.std.specs.Fn.{FnOnceReturnsAt}
 use Rattle.papaya_asks.specs.Closures.{UpdatingOrStoring}
 use Rattle.papaya_owned.specs.Owned.{hashed_by}
-use Rattle.papaya_resting.proofs.Done.{with_as, pair_comes_back}
+use Rattle.papaya_resting.proofs.Done.{with_as, pair_comes_back, pair_capacity}
 use Rattle.papaya_asks.specs.declared.refused.Refused.{Refused}
 use Rattle.papaya_resting.proofs.Keeps.{change_holds_on}
 use Rattle.papaya_resting.proofs.asking.update_or_insert.Goals as goal
@@ -24,6 +24,11 @@ returns-clause-back g c =
     let r = c.requires in
     pair_comes_back g.K.PartialEq.eq (hashed_by g.S.Hasher.Hasher.finish g.S.Hasher.Hasher.write g.S.BuildHasher.build_hasher g.K.Hash.hash_input c.args.hasher.now) c.args.setting c.update_or_insert.new.memory c.args.key r.holds.0
     (UpdatingOrStoring (FnOnceReturnsAt g.F.FnOnce c.args.make) (λ new. new ≡ c.args.value)) c.args.value c.update_or_insert.result (c.update_or_insert.ensures.comes r.holds.0 (c.refresh.ensures.holds r.holds.0 r.holds.1)) c.ended.result c.ended.ensures.done
+
+pub returns-clause-capacity : goal.returns-clause-capacity
+returns-clause-capacity g c = λ xs has.
+    pair_capacity g.K.PartialEq.eq (hashed_by g.S.Hasher.Hasher.finish g.S.Hasher.Hasher.write g.S.BuildHasher.build_hasher g.K.Hash.hash_input c.args.hasher.now) c.args.setting c.update_or_insert.new.memory c.args.key xs
+    (UpdatingOrStoring (FnOnceReturnsAt g.F.FnOnce c.args.make) (λ new. new ≡ c.args.value)) c.args.value c.update_or_insert.result (c.update_or_insert.ensures.comes xs (c.refresh.ensures.holds xs has)) c.ended.result c.ended.ensures.done
 
 pub returns-clause-keeps : goal.returns-clause-keeps
 returns-clause-keeps g c = λ xs has.

@@ -2,7 +2,7 @@
 use Rattle.std.specs.Fn.{FnOnceReturns, FnOnceReturnsAt}
 use Rattle.papaya_asks.specs.Closures.{UpdatingOrStoring}
 use Rattle.papaya_owned.specs.Owned.{hashed_by}
-use Rattle.papaya_resting.proofs.Done.{comes_as, key_comes_back}
+use Rattle.papaya_resting.proofs.Done.{comes_as, key_comes_back, key_capacity}
 use Rattle.papaya_asks.specs.declared.refused.RefusedKey.{RefusedKey}
 use Rattle.papaya_resting.proofs.Keeps.{change_holds_on}
 use Rattle.papaya_resting.proofs.asking.update_or_insert_with.Goals as goal
@@ -23,6 +23,11 @@ returns-clause-back g c =
     let r = c.requires in
     key_comes_back g.K.PartialEq.eq (hashed_by g.S.Hasher.Hasher.finish g.S.Hasher.Hasher.write g.S.BuildHasher.build_hasher g.K.Hash.hash_input c.args.hasher.now) c.args.setting c.update_or_insert_with.new.memory c.args.key r.holds.0
     (UpdatingOrStoring (FnOnceReturnsAt g.F.FnOnce c.args.make) (λ value. FnOnceReturns g.B.FnOnce c.args.begin tt value)) c.update_or_insert_with.result (c.update_or_insert_with.ensures.comes r.holds.0 (c.refresh.ensures.holds r.holds.0 r.holds.1)) c.ended.result c.ended.ensures.done
+
+pub returns-clause-capacity : goal.returns-clause-capacity
+returns-clause-capacity g c = λ xs has.
+    key_capacity g.K.PartialEq.eq (hashed_by g.S.Hasher.Hasher.finish g.S.Hasher.Hasher.write g.S.BuildHasher.build_hasher g.K.Hash.hash_input c.args.hasher.now) c.args.setting c.update_or_insert_with.new.memory c.args.key xs
+    (UpdatingOrStoring (FnOnceReturnsAt g.F.FnOnce c.args.make) (λ value. FnOnceReturns g.B.FnOnce c.args.begin tt value)) c.update_or_insert_with.result (c.update_or_insert_with.ensures.comes xs (c.refresh.ensures.holds xs has)) c.ended.result c.ended.ensures.done
 
 pub returns-clause-keeps : goal.returns-clause-keeps
 returns-clause-keeps g c = λ xs has.

@@ -23,6 +23,9 @@ returns-in-Err-clause-refused g c = λ xs has. record { holds = (c.in-Err.ensure
 pub returns-in-Err-clause-fault : goal.returns-in-Err-clause-fault
 returns-in-Err-clause-fault g c = let r = c.requires in room_of removes _ refl (c.in-Err.ensures.comes r.0 (c.refresh.ensures.holds r.0 r.1)).0
 
+pub returns-in-Err-clause-capacity : goal.returns-in-Err-clause-capacity
+returns-in-Err-clause-capacity g c = λ xs has. (c.in-Err.ensures.comes xs (c.refresh.ensures.holds xs has)).2
+
 pub returns-in-Ok-clause-keeps : goal.returns-in-Ok-clause-keeps
 returns-in-Ok-clause-keeps g c = λ xs has.
     removal_holds_on _ _ c.refresh.ensures.none g.K.PartialEq.eq (hashed_by g.S.Hasher.Hasher.finish g.S.Hasher.Hasher.write g.S.BuildHasher.build_hasher g.K.Hash.hash_input) c.args.hasher c.args.setting xs (c.refresh.ensures.holds xs has) _ _ (g.Q.Equivalent.equivalent c.args.asked.now) c.in-Ok.stop (c.in-Ok.ensures.comes xs (c.refresh.ensures.holds xs has)) c.in-Ok.ensures.ran

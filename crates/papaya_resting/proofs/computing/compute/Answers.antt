@@ -1,7 +1,7 @@
 -- By what the call comes to, after the refresh.
 use Rattle.papaya_asks.specs.Closures.{ComputesAs}
 use Rattle.papaya_owned.specs.Owned.{hashed_by}
-use Rattle.papaya_resting.proofs.Done.{computes_as, key_of_computing}
+use Rattle.papaya_resting.proofs.Done.{computes_as, computing_capacity, key_of_computing}
 use Rattle.papaya_resting.proofs.Keeps.{computing_holds_on}
 use Rattle.papaya_resting.proofs.computing.compute.Goals as goal
 
@@ -21,6 +21,11 @@ returns-clause-back g c =
     let r = c.requires in
     key_of_computing g.K.PartialEq.eq (hashed_by g.S.Hasher.Hasher.finish g.S.Hasher.Hasher.write g.S.BuildHasher.build_hasher g.K.Hash.hash_input c.args.hasher.now) c.args.setting c.compute.new.memory c.args.key r.holds.0
     (ComputesAs g.F.FnOnce c.args.decide) c.compute.result (c.compute.ensures.comes r.holds.0 (c.refresh.ensures.holds r.holds.0 r.holds.1)) c.computed.result c.computed.ensures.done
+
+pub returns-clause-capacity : goal.returns-clause-capacity
+returns-clause-capacity g c = λ xs has.
+    computing_capacity g.K.PartialEq.eq (hashed_by g.S.Hasher.Hasher.finish g.S.Hasher.Hasher.write g.S.BuildHasher.build_hasher g.K.Hash.hash_input c.args.hasher.now) c.args.setting c.compute.new.memory c.args.key xs
+    (ComputesAs g.F.FnOnce c.args.decide) c.compute.result (c.compute.ensures.comes xs (c.refresh.ensures.holds xs has)) c.computed.result c.computed.ensures.done
 
 pub returns-clause-keeps : goal.returns-clause-keeps
 returns-clause-keeps g c = λ xs has.

@@ -32,6 +32,12 @@ returns-in-Err-default-clause-refused g c = λ xs has. record {
   met_is = tt;
 }
 
+pub returns-in-Err-default-clause-capacity : goal.returns-in-Err-default-clause-capacity
+returns-in-Err-default-clause-capacity g c = λ xs has long.
+    (refused_so g.K.PartialEq.eq (hashed_by g.S.Hasher.Hasher.finish g.S.Hasher.Hasher.write g.S.BuildHasher.build_hasher g.K.Hash.hash_input c.args.hasher.now) c.args.setting c.store.new.memory (g.K.PartialEq.eq c.args.key)
+    xs c.args.key c.args.value inserts c.store.result.0 (c.store.ensures.ends xs inserts c.args.key c.args.value (c.refresh.ensures.holds xs has)
+    (inserts_this (hashed_by g.S.Hasher.Hasher.finish g.S.Hasher.Hasher.write g.S.BuildHasher.build_hasher g.K.Hash.hash_input c.args.hasher.now) c.args.setting c.args.key c.args.value _ _ c.hash_of-hash.ensures refl)) c.in-Err-default.fault c.in-Err-default.is-0).2 (sym c.refused.ensures.fault ∙ long)
+
 pub returns-in-Err-default-clause-fault : goal.returns-in-Err-default-clause-fault
 returns-in-Err-default-clause-fault g c =
     let r = c.requires in

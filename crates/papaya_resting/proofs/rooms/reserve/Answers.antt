@@ -1,6 +1,6 @@
 -- By what the reservation comes to, after the refresh.
 use Rattle.papaya_owned.specs.Owned.{hashed_by}
-use Rattle.papaya_resting.proofs.Reservations.{room_holds, room_there, room_fault}
+use Rattle.papaya_resting.proofs.Reservations.{room_holds, room_there, room_fault, room_capacity}
 use Rattle.papaya_holds.proofs.Changes.{room_holds_on}
 use Rattle.papaya_resting.proofs.rooms.reserve.Goals as goal
 
@@ -12,6 +12,9 @@ returns-clause-room g c = λ xs has. room_there _ _ _ _ _ xs _ (c.make_room.ensu
 
 pub returns-clause-fault : goal.returns-clause-fault
 returns-clause-fault g c = let r = c.requires in room_fault _ _ _ _ _ r.0 _ (c.make_room.ensures.room r.0 (c.refresh.ensures.holds r.0 r.1))
+
+pub returns-clause-capacity : goal.returns-clause-capacity
+returns-clause-capacity g c = λ xs has. room_capacity _ _ _ _ _ xs _ (c.make_room.ensures.room xs (c.refresh.ensures.holds xs has))
 
 pub returns-clause-keeps : goal.returns-clause-keeps
 returns-clause-keeps g c = λ xs has.

@@ -9,6 +9,9 @@ returns-clause-done g c = λ xs has. c.sift.ensures.done xs (c.refresh.ensures.h
 pub returns-clause-refused : goal.returns-clause-refused
 returns-clause-refused g c = λ xs has. c.sift.ensures.refused xs (c.refresh.ensures.holds xs has)
 
+pub returns-clause-capacity : goal.returns-clause-capacity
+returns-clause-capacity g c = λ xs has. c.sift.ensures.capacity xs (c.refresh.ensures.holds xs has)
+
 pub returns-clause-keeps : goal.returns-clause-keeps
 returns-clause-keeps g c = λ xs has.
     sweep_holds_on _ _ c.refresh.ensures.none g.K.PartialEq.eq (hashed_by g.S.Hasher.Hasher.finish g.S.Hasher.Hasher.write g.S.BuildHasher.build_hasher g.K.Hash.hash_input) c.args.hasher c.args.setting xs (c.refresh.ensures.holds xs has) _ c.sift.ensures.ran

@@ -2,7 +2,7 @@
 use Rattle.std.specs.Prelude.{None}
 use Rattle.papaya_asks.specs.Closures.{Removing, TestsAs}
 use Rattle.papaya_owned.specs.Owned.{hashed_by}
-use Rattle.papaya_resting.proofs.Done.{ends_as}
+use Rattle.papaya_resting.proofs.Done.{ends_as, end_capacity}
 use Rattle.papaya_resting.proofs.Keeps.{chosen_holds_on}
 use Rattle.papaya_resting.proofs.testing.remove_if.Goals as goal
 
@@ -16,6 +16,11 @@ pub returns-clause-comes : goal.returns-clause-comes
 returns-clause-comes g c = λ xs has.
     ends_as g.K.PartialEq.eq (hashed_by g.S.Hasher.Hasher.finish g.S.Hasher.Hasher.write g.S.BuildHasher.build_hasher g.K.Hash.hash_input c.args.hasher.now) c.args.setting c.remove_if.new.memory (g.Q.Equivalent.equivalent c.args.asked.now) None xs
     (Removing (TestsAs g.F.FnOnce c.args.test)) c.remove_if.result (c.remove_if.ensures.comes xs (c.refresh.ensures.holds xs has)) c.ended.new.last c.ended.ensures.words c.ended.result c.ended.ensures.done
+
+pub returns-clause-capacity : goal.returns-clause-capacity
+returns-clause-capacity g c = λ xs has.
+    end_capacity g.K.PartialEq.eq (hashed_by g.S.Hasher.Hasher.finish g.S.Hasher.Hasher.write g.S.BuildHasher.build_hasher g.K.Hash.hash_input c.args.hasher.now) c.args.setting c.remove_if.new.memory (g.Q.Equivalent.equivalent c.args.asked.now) None xs
+    (Removing (TestsAs g.F.FnOnce c.args.test)) c.remove_if.result (c.remove_if.ensures.comes xs (c.refresh.ensures.holds xs has)) c.ended.result c.ended.ensures.done
 
 pub returns-clause-keeps : goal.returns-clause-keeps
 returns-clause-keeps g c = λ xs has.

@@ -2,7 +2,7 @@
 use Rattle.std.specs.Prelude.{[]}
 use Rattle.papaya_pairs.proofs.Orders.{left_same}
 use Rattle.papaya_seq_map.proofs.Kept.{either_rested, either_shown, holds_err, holds_ok}
-use Rattle.papaya_seq_map.proofs.Shows.{counts, seen_first, seen_held, seen_keeps, shows_done, shows_refused, told_same}
+use Rattle.papaya_seq_map.proofs.Shows.{capacity_shown, counts, seen_first, seen_held, seen_keeps, shows_done, shows_refused, told_same}
 use Rattle.papaya_seq_map.proofs.changes.take.Goals as goal
 
 pub remove-requires : goal.remove-requires
@@ -44,3 +44,7 @@ returns-clause-last g c =
 pub returns-clause-keeps : goal.returns-clause-keeps
 returns-clause-keeps g c =
     let held = c.map.invariant in seen_keeps _ _ _ _ held.0 held.1 c.map.inside.resting.tables _ _ _ _ c.map.view_is [] _ (c.remove.ensures.keeps held.0 held.1)
+
+pub returns-clause-capacity : goal.returns-clause-capacity
+returns-clause-capacity g c =
+    let held = c.map.invariant in capacity_shown _ _ _ (λ r. r) c.remove.result (c.remove.ensures.capacity held.0 held.1)

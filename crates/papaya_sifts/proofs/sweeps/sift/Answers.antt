@@ -1,6 +1,6 @@
 -- It is under way from question to question, and what it comes to.
 use Rattle.std.proofs.Common.{of_calls, refl, arith}
-use Rattle.papaya_sifts.proofs.Over.Siftings.{sifting_begins, sifting_ends, sifting_asks, sifting_done, sifting_ran, sifting_refused, sifting_faults, never_ready, never_shows, asking_names, asking_left, asking_told, asked_about}
+use Rattle.papaya_sifts.proofs.Over.Siftings.{sifting_begins, sifting_ends, sifting_asks, sifting_done, sifting_ran, sifting_refused, sifting_faults, sifting_ends_at, never_ready, never_shows, asking_names, asking_left, asking_told, asked_about}
 use Rattle.papaya_sifts.proofs.sweeps.sift.Goals as goal
 
 pub loop-word-init : goal.loop-word-init
@@ -49,6 +49,7 @@ returns-in-Ok-Ended g c = record {
   done = λ xs has. sifting_done _ _ _ _ _ _ _ xs has _ _ _ _ (c.loop-word.invariant.sifting xs has (c.requires.pairs xs has)) _ _ _ c.in-Ok-Ended.field-0-is c.in-Ok-Ended.ensures;
   refused = λ xs has. tt;
   fault = tt;
+  capacity = λ xs has. tt;
   ran = (let r = c.requires in sifting_ran _ _ _ _ _ _ _ r.holds.0 r.holds.1 _ _ _ _ (c.loop-word.invariant.sifting r.holds.0 r.holds.1 (r.pairs r.holds.0 r.holds.1)) _ _ _ c.in-Ok-Ended.ensures);
 }
 
@@ -59,6 +60,9 @@ pub returns-in-Err-clause-fault : goal.returns-in-Err-clause-fault
 returns-in-Err-clause-fault g c =
     let r = c.requires in
     sifting_faults _ _ _ _ _ _ _ r.holds.0 r.holds.1 _ _ _ _ (c.loop-word.invariant.sifting r.holds.0 r.holds.1 (r.pairs r.holds.0 r.holds.1)) _ _ _ c.in-Err.ensures
+
+pub returns-in-Err-clause-capacity : goal.returns-in-Err-clause-capacity
+returns-in-Err-clause-capacity g c = λ xs has. sifting_ends_at _ _ _ _ _ _ _ xs has _ _ _ _ (c.loop-word.invariant.sifting xs has (c.requires.pairs xs has)) _ _ _ c.in-Err.ensures
 
 pub returns-in-Err-clause-ran : goal.returns-in-Err-clause-ran
 returns-in-Err-clause-ran g c =

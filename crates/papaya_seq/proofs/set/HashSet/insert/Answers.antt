@@ -1,9 +1,10 @@
 -- By the map's keys.
-use Rattle.std.specs.Prelude.{◌≡◌, [], ◌∷◌, None, Some, find, is_none, is_some, option_map, IfOk, OnOk, OnErr, MatchResult}
+use Rattle.std.specs.Prelude.{◌≡◌, [], ◌∷◌, None, Some, find, is_none, is_some, option_map, IfErr, IfOk, OnOk, OnErr, MatchResult}
 use Rattle.std.specs.List.Sorted.{IsPermutation}
 use Rattle.std.specs.Map.{keys_of}
 use Rattle.std.proofs.Common.{◌∙◌, ap, sym, subst}
-use Rattle.papaya_seq_map.specs.Given.{if_stored, put}
+use Rattle.seize_words.specs.declared.fault.Fault.TheVariants.{Capacity}
+use Rattle.papaya_seq_map.specs.Given.{CannotGrow, RefusedKey, if_stored, put}
 use Rattle.papaya_seq.specs.Sets.{KeepsIn, Set, put_in, set_of}
 use Rattle.papaya_seq.proofs.Sets.{key_found, key_found_in_order, keys_are_found, keys_held, keys_in_order, keys_put, new_so}
 use Rattle.papaya_seq.proofs.set.HashSet.insert.Goals.{in-Ok, in-Err}
@@ -78,4 +79,11 @@ returns-clause-keeps g c =
       | in-Err w ↦
           subst (λ r. KeepsIn (if_stored r x) c.args.self.now (set_of new)) (sym w.result-is)
           (subst (λ (s : Set g.row.K.Denot g.row.S.Denot). KeepsIn [] s (set_of new)) c.self.view_is (keys_held [] old new w.in-Err.ensures.keeps))
+    ]
+
+pub returns-clause-capacity : goal.returns-clause-capacity
+returns-clause-capacity g c =
+    elim c.match-insert.branch [
+      | in-Ok w ↦ subst (λ r. IfErr r (λ (e : RefusedKey g.row.K.Denot). e.fault ≡ Capacity → CannotGrow c.insert.new.self.tables)) (sym w.result-is) tt
+      | in-Err w ↦ subst (λ r. IfErr r (λ (e : RefusedKey g.row.K.Denot). e.fault ≡ Capacity → CannotGrow c.insert.new.self.tables)) (sym w.result-is) w.in-Err.ensures.capacity
     ]

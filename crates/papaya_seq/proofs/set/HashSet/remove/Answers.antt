@@ -40,3 +40,6 @@ returns-clause-last g c =
 pub returns-clause-keeps : goal.returns-clause-keeps
 returns-clause-keeps g c =
     subst (λ (x : Set g.row.K.Denot g.row.S.Denot). KeepsIn [] x (set_of c.take.new.map)) c.self.view_is (keys_held [] c.self.inside.map c.take.new.map c.take.ensures.keeps)
+
+pub returns-clause-capacity : goal.returns-clause-capacity
+returns-clause-capacity g c = c.take.ensures.capacity

@@ -40,6 +40,9 @@ pub returns-clause-last : goal.returns-clause-last
 returns-clause-last g c =
     let key = option_map (λ (x : g.row.K.Denot × Unit {0}). x.0) in (ap key c.retain.ensures.last.0, ap key c.retain.ensures.last.1)
 
+pub returns-clause-capacity : goal.returns-clause-capacity
+returns-clause-capacity g c = c.retain.ensures.capacity
+
 pub returns-clause-keeps : goal.returns-clause-keeps
 returns-clause-keeps g c =
     subst (λ (x : Set g.row.K.Denot g.row.S.Denot). KeepsIn [] x (set_of c.retain.new.self)) c.self.view_is (keys_held [] c.self.inside.map c.retain.new.self c.retain.ensures.keeps)

@@ -1,7 +1,7 @@
 -- By what the clearing comes to.
 use Rattle.std.specs.Prelude.{[]}
 use Rattle.papaya_resting.proofs.Lasts.{none_in, none_named}
-use Rattle.papaya_seq_map.proofs.Shows.{counts, either_rests, seen_held, seen_keeps, shows_none, shows_refused}
+use Rattle.papaya_seq_map.proofs.Shows.{capacity_shown, counts, either_rests, seen_held, seen_keeps, shows_none, shows_refused}
 use Rattle.papaya_seq_map.proofs.map.HashMap.clear.Goals as goal
 
 pub clear-requires : goal.clear-requires
@@ -33,6 +33,10 @@ returns-clause-refused g c =
 
 pub returns-clause-last : goal.returns-clause-last
 returns-clause-last g c = (none_in _, none_in _)
+
+pub returns-clause-capacity : goal.returns-clause-capacity
+returns-clause-capacity g c =
+    let held = c.self.invariant in capacity_shown _ _ _ (λ r. r) c.clear.result (c.clear.ensures.capacity held.0 held.1)
 
 pub returns-clause-keeps : goal.returns-clause-keeps
 returns-clause-keeps g c =

@@ -5,7 +5,7 @@ use Rattle.papaya_asks.specs.Closures.{ComputesAs}
 use Rattle.papaya_asks.specs.declared.refused.RefusedKey.{RefusedKey}
 use Rattle.papaya_resting.specs.Given.{hashed_by}
 use Rattle.papaya_seq_map.proofs.Done.{computes_rests, shows_computed, shows_uncomputed, shows_why}
-use Rattle.papaya_seq_map.proofs.Shows.{counts, seen_first, seen_held, seen_keeps}
+use Rattle.papaya_seq_map.proofs.Shows.{capacity_shown, counts, seen_first, seen_held, seen_keeps}
 use Rattle.papaya_seq_map.proofs.map.HashMap.compute.Goals as goal
 
 pub compute-requires : goal.compute-requires
@@ -50,6 +50,10 @@ returns-clause-fault g c =
     shows_why g.K.PartialEq.eq (hashed_by g.S.Hasher.Hasher.finish g.S.Hasher.Hasher.write g.S.BuildHasher.build_hasher g.K.Hash.hash_input c.self.inside.hasher) c.self.inside.resting.setting c.compute.new.memory c.compute.new.last (g.K.PartialEq.eq c.args.key) (Some c.args.key) held.0 _
     (seen_first _ _ _ _ held.0 held.1 c.self.inside.resting.tables _ _ _ _ c.self.view_is (g.K.PartialEq.eq c.args.key) (g.met.K.Eq.laws.congr c.args.key))
     (ComputesAs g.F.FnOnce c.args.decide) (λ (e : RefusedKey _). e.fault) c.compute.result (c.compute.ensures.comes held.0 held.1)
+
+pub returns-clause-capacity : goal.returns-clause-capacity
+returns-clause-capacity g c =
+    let held = c.self.invariant in capacity_shown _ _ _ (λ (e : RefusedKey _). e.fault) c.compute.result (c.compute.ensures.capacity held.0 held.1)
 
 pub returns-clause-keeps : goal.returns-clause-keeps
 returns-clause-keeps g c =

@@ -30,6 +30,9 @@ returns-clause-put g c =
       last = so.last;
     }
 
+pub returns-in-Err-clause-capacity : goal.returns-in-Err-clause-capacity
+returns-in-Err-clause-capacity g c = c.in-Err.ensures.capacity
+
 pub returns-in-Err-clause-put : goal.returns-in-Err-clause-put
 returns-in-Err-clause-put g c =
     let it = c.into_iter-key-iterator in

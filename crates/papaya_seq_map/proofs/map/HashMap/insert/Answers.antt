@@ -1,6 +1,6 @@
 -- By what the insertion comes to in the order in which its pairs were stored.
 use Rattle.papaya_seq_map.proofs.Kept.{either_rested, either_shown, holds_err, holds_ok, ok_taken}
-use Rattle.papaya_seq_map.proofs.Shows.{counts, seen_first, seen_found, seen_held, seen_keeps, shows_done, shows_refused, told_same}
+use Rattle.papaya_seq_map.proofs.Shows.{capacity_shown, counts, seen_first, seen_found, seen_held, seen_keeps, shows_done, shows_refused, told_same}
 use Rattle.papaya_seq_map.proofs.map.HashMap.insert.Goals as goal
 use Rattle.papaya_pairs.proofs.Orders.{left_and}
 
@@ -49,3 +49,7 @@ returns-clause-in_any_order g c = λ xs order.
 pub returns-clause-keeps : goal.returns-clause-keeps
 returns-clause-keeps g c =
     let held = c.self.invariant in seen_keeps _ _ _ _ held.0 held.1 c.self.inside.resting.tables _ _ _ _ c.self.view_is _ _ (c.insert.ensures.keeps held.0 held.1)
+
+pub returns-clause-capacity : goal.returns-clause-capacity
+returns-clause-capacity g c =
+    let held = c.self.invariant in capacity_shown _ _ _ (λ r. r.fault) c.insert.result (c.insert.ensures.capacity held.0 held.1)

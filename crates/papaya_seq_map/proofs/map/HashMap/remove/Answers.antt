@@ -14,4 +14,4 @@ returns-in-None g c =
     ((refl, λ _. tt, ((e.removed, e.last), e.hasher, e.keeps)), record { after = tt; value = ap (option_map (λ x. x.1)) (c.in-None.ensures ∙ e.last.0); fault = tt })
 
 pub returns-in-Err : goal.returns-in-Err
-returns-in-Err g c = let e = c.in-Err.ensures in ((refl, λ _. tt, ((e.refused, e.last), e.hasher, e.keeps)), record { after = tt; value = tt; fault = e.fault })
+returns-in-Err g c = let e = c.in-Err.ensures in ((refl, λ _. tt, (((e.refused, e.last), e.capacity), e.hasher, e.keeps)), record { after = tt; value = tt; fault = e.fault })

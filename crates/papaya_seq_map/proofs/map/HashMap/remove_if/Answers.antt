@@ -5,7 +5,7 @@ use Rattle.papaya_asks.specs.Closures.{Removing, TestsAs}
 use Rattle.seize_words.specs.declared.fault.Fault.{Fault}
 use Rattle.papaya_resting.specs.Given.{hashed_by}
 use Rattle.papaya_seq_map.proofs.Done.{comes_rests, room_alone, shows_changed, shows_unchanged}
-use Rattle.papaya_seq_map.proofs.Shows.{counts, seen_first, seen_held, seen_keeps}
+use Rattle.papaya_seq_map.proofs.Shows.{capacity_shown, counts, seen_first, seen_held, seen_keeps}
 use Rattle.papaya_seq_map.proofs.map.HashMap.remove_if.Goals as goal
 
 pub remove_if-requires : goal.remove_if-requires
@@ -49,6 +49,10 @@ returns-clause-fault g c =
     let held = c.self.invariant in
     room_alone g.K.PartialEq.eq (hashed_by g.S.Hasher.Hasher.finish g.S.Hasher.Hasher.write g.S.BuildHasher.build_hasher g.K.Hash.hash_input c.self.inside.hasher) c.self.inside.resting.setting c.remove_if.new.memory c.remove_if.new.last (g.Q.Equivalent.equivalent c.args.asked.now) None held.0
     (Removing (TestsAs g.F.FnOnce c.args.test)) (λ (e : Fault). e) c.remove_if.result (c.remove_if.ensures.comes held.0 held.1) (λ x. x)
+
+pub returns-clause-capacity : goal.returns-clause-capacity
+returns-clause-capacity g c =
+    let held = c.self.invariant in capacity_shown _ _ _ (λ r. r) c.remove_if.result (c.remove_if.ensures.capacity held.0 held.1)
 
 pub returns-clause-keeps : goal.returns-clause-keeps
 returns-clause-keeps g c =

@@ -2,7 +2,7 @@
 use Rattle.std.specs.Prelude.{[]}
 use Rattle.papaya_resting.specs.Given.{KeepsOf}
 use Rattle.papaya_resting.proofs.Lasts.{none_in, none_named}
-use Rattle.papaya_seq_map.proofs.Shows.{counts, seen_held, seen_keeps, shows_kept, shows_passing, shows_refused, some_rest}
+use Rattle.papaya_seq_map.proofs.Shows.{capacity_shown, counts, seen_held, seen_keeps, shows_kept, shows_passing, shows_refused, some_rest}
 use Rattle.papaya_seq_map.proofs.map.HashMap.retain.Goals as goal
 
 pub retain-requires-clause-holds : goal.retain-requires-clause-holds
@@ -39,6 +39,10 @@ returns-clause-refused g c =
 
 pub returns-clause-last : goal.returns-clause-last
 returns-clause-last g c = (none_in _, none_in _)
+
+pub returns-clause-capacity : goal.returns-clause-capacity
+returns-clause-capacity g c =
+    let held = c.self.invariant in capacity_shown _ _ _ (λ r. r) c.retain.result (c.retain.ensures.capacity held.0 held.1)
 
 pub returns-clause-keeps : goal.returns-clause-keeps
 returns-clause-keeps g c =

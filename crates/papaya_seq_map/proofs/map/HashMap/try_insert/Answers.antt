@@ -1,6 +1,6 @@
 -- By what the insertion comes to in the order in which its pairs were stored.
 use Rattle.papaya_seq_map.proofs.Kept.{each_rested, each_shown, holds_err, holds_found, holds_stored}
-use Rattle.papaya_seq_map.proofs.Shows.{counts, seen_first, seen_held, seen_keeps, shows_found, shows_refused, shows_stored}
+use Rattle.papaya_seq_map.proofs.Shows.{capacity_shown, counts, seen_first, seen_held, seen_keeps, shows_found, shows_refused, shows_stored}
 use Rattle.papaya_seq_map.proofs.map.HashMap.try_insert.Goals as goal
 
 pub try_insert-requires : goal.try_insert-requires
@@ -42,3 +42,7 @@ returns-clause-last g c =
 pub returns-clause-keeps : goal.returns-clause-keeps
 returns-clause-keeps g c =
     let held = c.self.invariant in seen_keeps _ _ _ _ held.0 held.1 c.self.inside.resting.tables _ _ _ _ c.self.view_is _ _ (c.try_insert.ensures.keeps held.0 held.1)
+
+pub returns-clause-capacity : goal.returns-clause-capacity
+returns-clause-capacity g c =
+    let held = c.self.invariant in capacity_shown _ _ _ (λ r. r.fault) c.try_insert.result (c.try_insert.ensures.capacity held.0 held.1)

@@ -6,7 +6,7 @@ use Rattle.papaya_asks.specs.Closures.{Updating}
 use Rattle.papaya_asks.specs.declared.refused.RefusedKey.{RefusedKey}
 use Rattle.papaya_resting.specs.Given.{hashed_by}
 use Rattle.papaya_seq_map.proofs.Done.{comes_rests, room_alone, shows_changed, shows_unchanged}
-use Rattle.papaya_seq_map.proofs.Shows.{counts, seen_first, seen_held, seen_keeps}
+use Rattle.papaya_seq_map.proofs.Shows.{capacity_shown, counts, seen_first, seen_held, seen_keeps}
 use Rattle.papaya_seq_map.proofs.map.HashMap.update.Goals as goal
 
 pub update-requires : goal.update-requires
@@ -50,6 +50,10 @@ returns-clause-fault g c =
     let held = c.self.invariant in
     room_alone g.K.PartialEq.eq (hashed_by g.S.Hasher.Hasher.finish g.S.Hasher.Hasher.write g.S.BuildHasher.build_hasher g.K.Hash.hash_input c.self.inside.hasher) c.self.inside.resting.setting c.update.new.memory c.update.new.last (g.K.PartialEq.eq c.args.key) (Some c.args.key) held.0
     (Updating (FnOnceReturnsAt g.F.FnOnce c.args.make)) (λ (e : RefusedKey _). e.fault) c.update.result (c.update.ensures.comes held.0 held.1) (λ x. x)
+
+pub returns-clause-capacity : goal.returns-clause-capacity
+returns-clause-capacity g c =
+    let held = c.self.invariant in capacity_shown _ _ _ (λ (e : RefusedKey _). e.fault) c.update.result (c.update.ensures.capacity held.0 held.1)
 
 pub returns-clause-keeps : goal.returns-clause-keeps
 returns-clause-keeps g c =

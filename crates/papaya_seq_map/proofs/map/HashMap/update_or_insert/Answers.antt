@@ -6,7 +6,7 @@ use Rattle.papaya_asks.specs.Closures.{UpdatingOrStoring}
 use Rattle.papaya_asks.specs.declared.refused.Refused.{Refused}
 use Rattle.papaya_resting.specs.Given.{hashed_by}
 use Rattle.papaya_seq_map.proofs.Done.{comes_rests, room_alone, shows_changed, shows_unchanged}
-use Rattle.papaya_seq_map.proofs.Shows.{counts, seen_first, seen_held, seen_keeps}
+use Rattle.papaya_seq_map.proofs.Shows.{capacity_shown, counts, seen_first, seen_held, seen_keeps}
 use Rattle.papaya_seq_map.proofs.map.HashMap.update_or_insert.Goals as goal
 
 pub update_or_insert-requires : goal.update_or_insert-requires
@@ -50,6 +50,10 @@ returns-clause-fault g c =
     let held = c.self.invariant in
     room_alone g.K.PartialEq.eq (hashed_by g.S.Hasher.Hasher.finish g.S.Hasher.Hasher.write g.S.BuildHasher.build_hasher g.K.Hash.hash_input c.self.inside.hasher) c.self.inside.resting.setting c.update_or_insert.new.memory c.update_or_insert.new.last (g.K.PartialEq.eq c.args.key) (Some c.args.key) held.0
     (UpdatingOrStoring (FnOnceReturnsAt g.F.FnOnce c.args.make) (λ new. new ≡ c.args.value)) (λ (e : Refused _ _). e.fault) c.update_or_insert.result (c.update_or_insert.ensures.comes held.0 held.1) (λ x. x)
+
+pub returns-clause-capacity : goal.returns-clause-capacity
+returns-clause-capacity g c =
+    let held = c.self.invariant in capacity_shown _ _ _ (λ (e : Refused _ _). e.fault) c.update_or_insert.result (c.update_or_insert.ensures.capacity held.0 held.1)
 
 pub returns-clause-keeps : goal.returns-clause-keeps
 returns-clause-keeps g c =

@@ -1,0 +1,73 @@
+-- Where a machine may find that no table can be made: what is to be so there, for what it finds in its memory.
+use Rattle.std.specs.Prelude.{◌≡◌, ℕ, ◌^◌, ◌<◌, ◌≤◌, Some}
+use Rattle.papaya_points.specs.Given.SeizeWords.declared.at.At.TheVariants.{Root}
+use Rattle.papaya_points.specs.Given.SeizeWords.declared.fault.Fault.{Fault}
+use Rattle.papaya_points.specs.Given.SeizeWords.declared.fault.Fault.TheVariants.{Capacity}
+use Rattle.papaya_points.specs.Given.SeizeWords.Mem.{Mem, value_at, word_at, Took}
+use Rattle.papaya_points.specs.Given.SeizeWords.Plan.{Steps}
+use Rattle.papaya_points.specs.Given.Seize.declared.progress.Progress.TheVariants as progress
+use Rattle.papaya_points.specs.Given.Tables.Lengths.{GoesByTable, NoneFollows}
+use Rattle.papaya_points.specs.Given.Tables.TablePlaces.{at_word}
+use Rattle.papaya_points.specs.Given.Tables.declared.lengths.Reason.{Reason}
+use Rattle.papaya_points.specs.Given.Tables.declared.setting.Setting.{Setting}
+use Rattle.papaya_points.specs.Given.Tables.declared.table.Table.{Table}
+use Rattle.papaya_points.specs.Given.Tables.declared.table_words.TheConstants.{NEXT}
+use Rattle.papaya_points.specs.Given.Resize.Sum.{sum_plan}
+use Rattle.papaya_points.specs.Given.Resize.declared.copier.Copier.{Copier}
+use Rattle.papaya_points.specs.Given.Resize.declared.copier.Copying.{Copying}
+use Rattle.papaya_points.specs.Given.Resize.declared.copier.Copying.TheVariants as copies
+use Rattle.papaya_points.specs.Given.Resize.declared.sum.Sum.{Sum}
+use Rattle.papaya_points.specs.Given.Reserves.Reserve.{needed}
+use Rattle.papaya_points.specs.Given.Reserves.declared.reserve.Reserve.{Reserve}
+use Rattle.papaya_points.specs.Given.Reserves.declared.reserve.Reserving.{Reserving}
+use Rattle.papaya_points.specs.Given.Reserves.declared.reserve.Reserving.TheVariants as reserves
+use Rattle.papaya_points.specs.Given.Raw.declared.machines.call.Calling.{Calling}
+use Rattle.papaya_points.specs.Given.Raw.declared.machines.call.Calling.TheVariants as calls
+use Rattle.papaya_points.specs.Given.Sweeps.declared.sweep.Sweeping.{Sweeping}
+use Rattle.papaya_points.specs.Given.Sweeps.declared.sweep.Sweeping.TheVariants as sweeps
+
+module _ (Is : Fault → Type 0) (Last : Table → Reason → Type 0) where
+  -- where none can be made after one of these tables, the fault is such a one
+  abbrev pub EndsSo : Setting → Type 0
+  EndsSo setting = (before : Table) (reason : Reason) (count : ℕ) → Last before reason → NoneFollows reason before.len before.turn count setting.initial → Is Capacity
+
+  -- for this reason or that, a table is of these
+  abbrev pub IsLastFor : Table → Type 0
+  IsLastFor table = (reason : Reason) → GoesByTable reason → Last table reason
+
+  module _ {T : Type 0} (m : Mem T) where
+    -- and so it is where no table is linked behind it
+    abbrev pub IsLastWhereNone : Table → Type 0
+    IsLastWhereNone table = word_at m (at_word table NEXT) ≡ Some 0 → IsLastFor table
+
+    abbrev pub EndsInCopying : Copier → Copying → Type 0
+    EndsInCopying p (copies.Passes word code table) = EndsSo p.setting × IsLastWhereNone table
+    EndsInCopying p (copies.Grows word code making) = EndsSo making.setting
+    EndsInCopying p copies.Replaces = EndsSo p.setting × IsLastWhereNone p.target
+    EndsInCopying p (copies.Remakes making) = EndsSo making.setting
+    EndsInCopying p _ = Unit {0}
+
+    -- A reservation: where the places that it needs are more than a table can have, by the count that its step has come to; where the map has no table,
+    -- none are counted. Or where no table is linked behind one with the last turn.
+    abbrev pub EndsInReserving : Mem T → Reserve → Reserving → Type 0
+    EndsInReserving m2 p reserves.Reads = word_at m (Root p.setting.root) ≡ Some 0 → 2 ^ 48 < needed p.additional 0 → Is Capacity
+    EndsInReserving m2 p (reserves.Makes making) = EndsSo making.setting
+    EndsInReserving m2 p (reserves.Sums table sum) =
+        (after : Sum) (count : ℕ) → Steps Took value_at m (sum_plan {T = T} sum) m2 (after, progress.Done count) → 2 ^ 48 < needed p.additional count → Is Capacity
+    EndsInReserving m2 p (reserves.Follows table need) = word_at m (at_word table NEXT) ≡ Some 0 → 2 ^ 63 ≤ table.turn → Is Capacity
+    EndsInReserving m2 p (reserves.Grows table making) = EndsSo making.setting
+    EndsInReserving m2 p (reserves.Copies copier) = EndsInCopying copier copier.stands
+    EndsInReserving m2 p _ = Unit {0}
+
+    abbrev pub EndsInSweeping : Sweeping → Type 0
+    EndsInSweeping (sweeps.Copies copier) = EndsInCopying copier copier.stands
+    EndsInSweeping _ = Unit {0}
+
+    -- a call in this table
+    abbrev pub EndsInCalling : Table → Calling → Type 0
+    EndsInCalling table calls.Nexts = IsLastWhereNone table
+    EndsInCalling table (calls.Firsts making) = EndsSo making.setting
+    EndsInCalling table (calls.Allocs making) = EndsSo making.setting
+    EndsInCalling table (calls.Helps copier goal) = EndsInCopying copier copier.stands
+    EndsInCalling table (calls.Copies copier) = EndsInCopying copier copier.stands
+    EndsInCalling table _ = Unit {0}
