@@ -29,7 +29,7 @@ use Rattle.papaya_running.proofs.Left.{hold_pairs, lists_left, stored_left}
 use Rattle.papaya_tally.proofs.Numbers.{ascending, lists_waiting}
 use Rattle.papaya_tally.proofs.Found.{back_told, pairs_found}
 use Rattle.papaya_tally.specs.Told.{AreBack}
-use Rattle.papaya_running.proofs.MapsTold.{maps_shown, tables_told}
+use Rattle.papaya_running.proofs.Turns.{maps_shown, tables_told}
 
 module _ {K V S : Type 0} (same : K → K → Bool) (hash : K → ℕ) (terms : Terms) (events : List (Event K V)) (rec : Record V) (tally : Tally) (p : Scheduler K V S)
     (so : SoFar same hash terms events rec tally p) where

@@ -1,8 +1,10 @@
+mod Beginning
 mod Ended
 mod Forms
 mod Happened
 mod Gives
 pub mod Mays
+mod LawfulKeys
 mod Left
-mod MapsTold
-mod Singles
+mod Logs
+mod Turns

@@ -1,5 +1,5 @@
--- What so many events of a schedule have come to, and what their run tells at its end.
-use Rattle.std.specs.Prelude.{◌≡◌, ◌||◌, ℕ, Bool, List, [], length, filter, map, IsSorted}
+-- What so many events of a schedule have come to, and what is promised of the run of a schedule.
+use Rattle.std.specs.Prelude.{◌≡◌, ◌^◌, ◌||◌, ℕ, min, Bool, List, [], length, filter, map, IsSorted}
 use Rattle.std.specs.List.{AllByRecursion}
 use Rattle.std.specs.Ordering.{nat_cmp}
 use Rattle.papaya_runs.specs.Pairs.{numbers}
@@ -11,15 +11,21 @@ use Rattle.papaya_schedules.specs.Beginning.{at_work}
 use Rattle.papaya_schedules.specs.Entry.{Entry, acting, caller_of}
 use Rattle.papaya_schedules.specs.InTurn.{ComesRight}
 use Rattle.papaya_schedules.specs.Moment.{Moment}
-use Rattle.papaya_schedules.specs.Runs.{Lists, ShowsMaps, log_on, trace_of}
+use Rattle.papaya_schedules.specs.Runs.{Lists, ShowsMaps, log_of, log_on, trace_of}
 use Rattle.papaya_schedules.specs.Steps.{DoesFew, MakesSteps, stands_or}
 use Rattle.papaya_schedules.specs.Terms.{Terms}
 use Rattle.papaya_schedules.specs.Views.{is_in_a_map, is_retired, is_waiting}
+use Rattle.papaya_scheduler.specs.declared.scheduler.Given.{Given}
 use Rattle.papaya_scheduler.specs.declared.scheduler.Scheduler.{Scheduler}
 use Rattle.papaya_running.specs.Asked.{FindsRight, Holds}
+use Rattle.papaya_running.specs.Back.{ReclaimsRight, TellsBack}
 use Rattle.papaya_tally.specs.Tally.{TellsMoment}
 use Rattle.papaya_running.specs.declared.record.Record.{Record}
 use Rattle.papaya_tally.specs.declared.tally.Tally.{Tally}
+
+-- more processors than these count as so many
+abbrev pub bounded : Given → Given
+bounded given = record given { setup = record given.setup { processors = min given.setup.processors (2 ^ 63) } }
 
 module _ {K V : Type 0} where
   -- the log of these events, by what they came to
@@ -41,6 +47,16 @@ module _ {K V : Type 0} where
     pub tables : run.tables ≡ length (filter (λ u. is_retired u.stage) m.tables)
     pub kept : Lists (numbers run.kept) (λ place. is_in_a_map place || is_waiting place) m
     pub as_stored : AllByRecursion (IsStored m.stored) run.kept
+
+  -- The run is one of this schedule, as far as that.
+  pub record IsRightRun (terms : Terms) (schedule : List (Event K V)) (run : Run K V) : Type 0 where
+    pub outcomes : length run.outcomes.items ≡ length schedule
+    pub steps : length run.steps.items ≡ length schedule
+    pub effects : length run.effects.items ≡ length schedule
+    pub trace : run.trace.items ≡ trace_of (log_of schedule run)
+    pub goes : AtEachEvent (GoesRight terms) (log_of schedule run)
+    pub tells : TellsMost (moment (log_of schedule run)) run
+    pub back : AtEachEvent ReclaimsRight (log_of schedule run) → TellsBack (moment (log_of schedule run)) run
 
 module _ {K V S : Type 0} (same : K → K → Bool) (hash : K → ℕ) where
   -- These events have happened so far: the scheduler stands for the moment after them, and what events ask of it is so; and the tally tells where pairs and tables are then.

@@ -6,7 +6,7 @@ use Rattle.papaya_runs.specs.declared.outcome.Single.TheVariants as single
 use Rattle.papaya_running.specs.Acting.{singles_as}
 use Rattle.papaya_running.specs.declared.acting.Traced.{Traced}
 use Rattle.papaya_running.specs.declared.acting.Traced.TheVariants.{Whole}
-use Rattle.papaya_running.proofs.Singles.{by_turn}
+use Rattle.papaya_running.proofs.Logs.{by_turn}
 use Rattle.papaya_running.proofs.record.Record.add.Goals as goal
 use Rattle.papaya_running.proofs.record.Record.add.Goals.{then-is_busy, else-is_busy}
 

@@ -1,0 +1,104 @@
+-- Before all events a scheduler is as events ask of it, whatever was chosen of numbers of blocks.
+use Rattle.std.specs.Prelude.{◌≡◌, ◌<◌, ◌≤◌, ◌^◌, ℕ, Bool, List, [], length, None, Some, min, slice_get}
+use Rattle.std.proofs.Common.{refl, sym, ap, subst, ◌∙◌, inr, arith}
+use Rattle.seize_words.specs.Mem.{Mem, word_at}
+use Rattle.seize_words.specs.SlotWords.{slot_word}
+use Rattle.seize_words.specs.declared.at.At.TheVariants.{Root, Used}
+use Rattle.papaya_histories.specs.Given.Seize.declared.states.TheConstants.{HEAD}
+use Rattle.papaya_histories.specs.Given.Tables.declared.node.Node.{Node}
+use Rattle.papaya_histories.specs.Given.Points.Steps.{AreLawful}
+use Rattle.papaya_histories.proofs.Given.Points.Making.OwnTables.{zero_at}
+use Rattle.papaya_histories.proofs.Given.Moments.NewMaps.{pairs_begin}
+use Rattle.papaya_histories.proofs.Given.Moments.Numbers.{numbers_begin}
+use Rattle.papaya_schedules.specs.Moment.{start}
+use Rattle.papaya_schedules.specs.Terms.{Terms}
+use Rattle.papaya_effects.specs.Known.{Known}
+use Rattle.papaya_logged.specs.Choosing.{logged_chosen}
+use Rattle.papaya_logged.specs.declared.logged.Logged.{Logged}
+use Rattle.papaya_reclaims.proofs.Left.Stays.{left_is_left_behind, nothing_is_left}
+use Rattle.papaya_scheduler.specs.First.{HasJustBegun}
+use Rattle.papaya_scheduler.specs.Mapping.{CountsMaps}
+use Rattle.papaya_scheduler.specs.Played.{IsPlayed, StandsFor, terms_given}
+use Rattle.papaya_scheduler.specs.Reclaiming.{MayGiveAll}
+use Rattle.papaya_scheduler.specs.declared.scheduler.Given.{Given}
+use Rattle.papaya_scheduler.specs.declared.scheduler.Scheduler.{Scheduler}
+use Rattle.papaya_scheduler.proofs.Chosen.{stands_chosen}
+use Rattle.papaya_running.specs.Asked.{Holds}
+use Rattle.papaya_running.specs.Run.{bounded}
+
+-- Nothing has happened, whatever keys and hashes are.
+pub record Begins {K V S : Type 0} (given : Given) (p : Scheduler K V S) : Type 0 where
+  pub played : (same : K → K → Bool) (hash : K → ℕ) → IsPlayed same hash (terms_given given) [] p
+  pub begun : HasJustBegun given p
+
+-- So it is after a choice of a block's number, too.
+pub still_begins : {K V S : Type 0} (given : Given) (p : Scheduler K V S) → Begins given p → (choice : ℕ) (logged : Logged K V S) → logged ≡ logged_chosen choice p.logged
+    → Begins given (record p { logged = logged })
+still_begins {K} {V} {S} given p begins choice logged is =
+    let b = begins.begun in
+    subst (λ (l : Logged K V S). Begins given (record p { logged = l })) (sym is) (record {
+      played = λ same hash. stands_chosen same hash (terms_given given) start p (begins.played same hash) choice;
+      begun = record { maps = b.maps; known_is = b.known_is; many = b.many; free = b.free; nowhere = b.nowhere; slots = b.slots };
+    })
+
+module _ {K V S : Type 0} (same : K → K → Bool) (hash : K → ℕ) (given : Given) (p : Scheduler K V S) (begins : Begins given p) where
+  abbrev memory : Mem (Node K V)
+  memory = p.logged.executor.memory.memory
+
+  abbrev roots : ℕ
+  roots = p.logged.executor.roots
+
+  abbrev stands : StandsFor same hash (terms_given given) start p
+  stands = begins.played same hash
+
+  below : (r : ℕ) → r < roots → r < given.setup.roots
+  below r l = subst (λ (n : ℕ). r < n) begins.begun.many l
+
+  -- each root is free, and leads nowhere
+  free : (r : ℕ) → r < roots → word_at memory (Used r) ≡ Some 0
+  free r l = ap (λ (l : List ℕ). slice_get l r) begins.begun.free ∙ zero_at given.setup.roots r (below r l)
+
+  nowhere : (r : ℕ) → r < roots → word_at memory (Root r) ≡ Some 0
+  nowhere r l = ap (λ (l : List ℕ). slice_get l r) begins.begun.nowhere ∙ zero_at given.setup.roots r (below r l)
+
+  -- the run is made with what was given
+  many : roots ≡ p.given.setup.roots
+  many = begins.begun.many ∙ sym (ap (λ (t : Terms). t.roots) stands.given)
+
+  counts : given.setup.processors ≤ 2 ^ 63 → CountsMaps start p
+  counts few = record {
+    apart = record { numbers = numbers_begin K V; names = λ own. omega arith };
+    pairs = pairs_begin K V;
+    next = ap length begins.begun.maps;
+    taken = free;
+    once = λ r. omega arith;
+    below = λ r is. absurd (cc is);
+    roots = many;
+    processors = subst (λ (n : ℕ). n ≤ 2 ^ 63) (sym (ap (λ (t : Terms). t.processors) stands.given)) few;
+  }
+
+  gives : MayGiveAll p stands.scene
+  gives =
+      let same_memory = stands.shown.is_at.memory in
+      record {
+        lists = λ r. [];
+        left =
+            (left_is_left_behind K V roots stands.scene.world stands.scene.maps (λ i. None) (λ i. None) (λ r. []) (λ j. refl) (λ j. refl)).0
+            (nothing_is_left K V roots stands.scene.world stands.scene.maps (λ i. None) (λ i. None)
+            (λ r l. inr (ap (λ (m : Mem (Node K V)). word_at m (Used r)) same_memory ∙ free r l, ap (λ (m : Mem (Node K V)). word_at m (Root r)) same_memory ∙ nowhere r l)));
+        slots = record {
+          some = λ more. absurd (let none = ap (λ (k : Known). k.buckets) begins.begun.known_is in omega (arith, more, none));
+          none = λ none. ap (λ (l : List (List ℕ)). slot_word l 0 HEAD) begins.begun.slots;
+        };
+      }
+
+  -- all that events ask of it, where keys have lawful hashes, and processors are not too many
+  pub first_holds : AreLawful same hash → given.setup.processors ≤ 2 ^ 63 → Holds same hash (terms_given given) start p
+  first_holds lawful few = record { stands = stands; lawful = lawful; counts = counts few; gives = gives }
+
+-- as many as a run is made with are not
+pub are_few : (given : Given) → (bounded given).setup.processors ≤ 2 ^ 63
+are_few given = at_most given.setup.processors (2 ^ 63)
+  where
+    at_most : (n most : ℕ) → min n most ≤ most
+    at_most n most = omega arith
