@@ -95,6 +95,7 @@ module _ {K V : Type 0} (choice : ℕ) (name : ℕ → List ℕ) (m : Moment K V
         each_on (λ n t. (m.place n ≡ Behind) × LiesBehind noted s.world n t) (λ n t. (m.place n ≡ Behind) × LiesBehind noted (then_in choice s.world) n t) (λ n t p. (p.0, lies_then n t p.1)) m.deferred
         kept.waiting;
     once = kept.once;
+    lying = kept.lying;
     retired = record { tables = kept.retired.tables; lengths = kept.retired.lengths };
     left = left_as noted noted s (scene_chosen choice s) refl kept.left (λ b len x is. is) (λ b j left. left);
   }
