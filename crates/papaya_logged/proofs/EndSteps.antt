@@ -103,9 +103,9 @@ module _ {K V S : Type 0} (same : K → K → Bool) (hash : K → ℕ) where
         }
 
   pub end_is_begun : (old new : Logged K V S) (map i : ℕ) → ((s : Scene K V) → IsAt same hash old.executor s → EndingBegins same hash map i s old.executor new.executor)
-      → ((s : Scene K V) → IsAt same hash old.executor s → s.enders i ≡ None) → new.notes ≡ old.notes
+      → ((s : Scene K V) → IsAt same hash old.executor s → s.enders i ≡ None) → new.notes ≡ old.notes → KeepsGiven old.executor new.executor
       → (name : ℕ → List ℕ) (m : Moment K V) (s : Scene K V) → IsShown same hash name m old s → EndIsBegun same hash name m s map i old new
-  end_is_begun old new map i begins yet noted name m s shown nobody =
+  end_is_begun old new map i begins yet noted given name m s shown nobody =
       let to = begins s shown.is_at nobody in (
         to.0,
         to.1,
@@ -121,7 +121,13 @@ module _ {K V S : Type 0} (same : K → K → Bool) (hash : K → ℕ) where
               (endings_begin_whole K V S same hash name m (known old.notes) s new.executor shown.shows map i to.0 to.1 to.4);
           kept = subst (λ (n : Notes). ShowsKept {K = K} {V = V} name m (known n) (ending_begun map i to.0 s)) (sym noted)
               (endings_begin_kept K V S same hash name m (known old.notes) s old.executor new.executor shown.is_at shown.kept map i to.0 (yet s shown.is_at) to.4);
+          counted = counted_end_begins same hash name old new given noted m s shown.is_at shown.shows.all.shown shown.counted map i to.0 to.1 (yet s shown.is_at) to.4;
         },
+        λ nobody_ends.
+            (let t = waits_begin same name old.executor.batch_size map to.0.chart m (known old.notes) s shown.shows shown.kept.waiting shown.is_at.together.makings.standing.came
+            (none_is_left K V (known old.notes) s shown.kept.left nobody_ends) in
+            subst (λ (n : Notes). TellsWaiting {K = K} {V = V} map to.0.chart m m (known n) (ending_begun map i to.0 s).world false) (sym noted)
+            (record { left = t.left; waited = t.waited; still = t.still; fewer = t.fewer })),
       )
 
   -- the executor is there after each step
@@ -255,7 +261,12 @@ module _ {K V S : Type 0} (same : K → K → Bool) (hash : K → ℕ) where
           kept = subst (λ (k : Known). ShowsKept {K = K} {V = V} name (with_effects None (Some map) effects m) k (ending_after same hash s stepped i f to.0 to.2.w2 to.2.deed said to.3)) (sym noted)
               (endings_keep_kept K V S same hash name m (known old.notes) s old.executor stepped shown.is_at shown.shows shown.kept i said leads f here map not_there
               (end_there old.executor stepped s i said leads f here));
+          counted = counted_end_steps same hash old stepped notes i map said given noted m s shown.is_at shown.counted leads f here first_of_all;
         },
+        λ began before.
+            subst (λ (k : Known). TellsWaiting {K = K} {V = V} map f.chart began (with_effects None (Some map) effects m) k to.2.w2 (if is_done said then has_some f.waits else has_some (f.waits ++ waiting_by to.2.deed)))
+            (sym noted)
+            (waits_said same hash name m (known old.notes) s old.executor stepped shown.is_at shown.shows shown.kept i f here to.0 said to.1 to.2 map not_there to.3 number first its still began before),
       )
 
 -- The executor has taken the step, and then its memory was noted: the executor stayed as it was.

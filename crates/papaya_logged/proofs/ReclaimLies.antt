@@ -1,6 +1,6 @@
 -- A step by which all is reclaimed leaves what lies behind tables there: it puts nothing behind a block, and what lies behind one that stands is not reclaimed.
 use Rattle.std.specs.Prelude.{◌≡◌, ◌≢◌, ◌⊎◌, ℕ, eqb, Bool, true, false, cond, List, [], ◌∷◌, None, Some, if◌then◌else◌}
-use Rattle.std.proofs.Common.{refl, ap, sym, subst, ◌∙◌, inl, inr}
+use Rattle.std.proofs.Common.{ap, sym, subst, ◌∙◌, inl, inr}
 use Rattle.std.proofs.lemmas.Bool.{cases_eq, ne_eqb}
 use Rattle.papaya_histories.specs.Given.SeizeWords.declared.at.At.{At}
 use Rattle.papaya_histories.specs.Given.SeizeWords.declared.at.At.TheVariants.{Root, Used}
@@ -10,7 +10,7 @@ use Rattle.seize.specs.declared.rows.reclaim_all.ReclaimAll.{ReclaimAll}
 use Rattle.seize.specs.declared.rows.reclaim_all.Reclaiming.{Reclaiming}
 use Rattle.seize.specs.declared.rows.reclaim_all.Reclaiming.TheVariants as points
 use Rattle.seize.specs.declared.rows.settle.Settled.{Settled}
-use Rattle.seize.specs.World.{World, Row, Rests, Request, Register', Leave', Flush, Unregister', Event, Begin, Step, Begins, Runs, with_at}
+use Rattle.seize.specs.World.{World, Row, Rests, Settles, Leaves, Request, Register', Leave', Flush, Unregister', Event, Begin, Step, Begins, Runs, with_at}
 use Rattle.papaya_histories.proofs.Given.SeizeAlone.Histories.NotTaken.{CanBeReached, did, kept_there}
 use Rattle.papaya_histories.proofs.Given.SeizeAlone.Histories.Reached.{Reached, happens_reached, runs_reached}
 use Rattle.papaya_histories.specs.Given.Tables.Nodes.{deferred_word}
@@ -137,9 +137,9 @@ module _ {K V S : Type 0} (same : K → K → Bool) (hash : K → ℕ) (name : �
       by points.Over facts = is_none Rests (λ z. z) (facts.0.rests i)
       by (points.Heads t) (sized, left, (again, le, settling, some)) = is_none Rests (λ z. z) (settling.rests i)
       by (points.Retakes t) (sized, left, (again, le, settling, free)) = is_none Rests (λ z. z) (settling.rests i)
-      by (points.Leaves t leave) (sized, left, (again, le, within)) = is_none _ (λ z. z) within.row_is
+      by (points.Leaves t leave) (sized, left, (again, le, within)) = is_none (Leaves leave) (λ z. z) within.row_is
       by (points.Batches t) (sized, left, (lt, flushing)) = is_none Rests (λ z. z) (flushing.rests i)
-      by (points.Flushes t settle) (sized, left, (lt, within)) = is_none _ (λ z. z) within.row_is
+      by (points.Flushes t settle) (sized, left, (lt, within)) = is_none (Settles settle) (λ z. z) within.row_is
       by (points.Frees t) (sized, left, (lt, freeing)) = is_none Rests (λ z. z) (freeing.rests i)
 
   still_put : (j b c : ℕ) → IsPutting b c (w.row j) → IsPutting b c (w2.row j)
