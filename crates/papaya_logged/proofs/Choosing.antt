@@ -100,7 +100,43 @@ module _ {K V : Type 0} (choice : ℕ) (name : ℕ → List ℕ) (m : Moment K V
     left = left_as noted noted s (scene_chosen choice s) refl kept.left (λ b len x is. is) (λ b j left. left);
   }
 
+module _ {K V : Type 0} (choice roots : ℕ) (w : World (Node K V)) where
+  -- what is behind roots is so still
+  list_then : (word : ℕ) (l : List ℕ) → ListFrom w.memory word l → ListFrom (then_in choice w).memory word l
+  list_then word [] is = is
+  list_then word (b ∷ l) (next, some, is, entry, rest) = (next, some, is, entry, list_then next l rest)
+
+  leads_then : (r : ℕ) (l : List ℕ) → RootLeads w r l → RootLeads (then_in choice w) r l
+  leads_then r [] leads = leads
+  leads_then r (b ∷ l) (value, (word, there, list), used) = (value, (word, there, list_then word (b ∷ l) list), used)
+
+  left_then : (maps : ℕ → Option (Standing K)) (makers : ℕ → Option (Beginning K)) (enders : ℕ → Option (Finishing K V)) (lists : ℕ → List ℕ) → LeftAmong roots w maps makers enders lists
+      → LeftAmong roots (then_in choice w) maps makers enders lists
+  left_then maps makers enders lists left = record {
+    root = λ r lt. elim (left.root r lt) as (λ _. IsSomebodys maps makers enders r ⊎ RootLeads (then_in choice w) r (lists r)) [
+      | inl its ↦ inl its
+      | inr leads ↦ inr (leads_then r (lists r) leads)
+    ];
+    none = left.none;
+    left = left.left;
+    once = left.once;
+    apart = left.apart;
+  }
+
 module _ {K V S : Type 0} (choice : ℕ) (old : Logged K V S) where
+  counted_then : (m : Moment K V) (s : Scene K V) → IsCounted m old s → IsCounted m (logged_chosen choice old) (scene_chosen choice s)
+  counted_then m s c = record {
+    numbered = record { numbers = c.numbered.numbers; slots = (let slots = c.numbered.slots in record { some = slots.some; none = slots.none }) };
+    remains = (let r = c.remains in record {
+      lists = r.lists;
+      left = left_then choice old.executor.roots s.world s.maps s.makers s.enders r.lists r.left;
+      told = r.told;
+      once = r.once;
+      below = r.below;
+      ending = r.ending;
+    });
+  }
+
   at_then : (same : K → K → Bool) (hash : K → ℕ) (s : Scene K V) → IsAt same hash old.executor s → IsAt same hash (logged_chosen choice old).executor (scene_chosen choice s)
   at_then same hash s at = record {
     memory = ap (memory_chosen choice) at.memory;
@@ -120,7 +156,7 @@ module _ {K V S : Type 0} (choice : ℕ) (old : Logged K V S) where
   }
 
   pub choice_shown : ChoiceIsShown choice old (logged_chosen choice old)
-  choice_shown same hash name m s shown = record { is_at = at_then same hash s shown.is_at; shows = whole_then choice same name m (known old.notes) s shown.shows; kept = kept_then choice name m (known old.notes) s shown.kept }
+  choice_shown same hash name m s shown = record { is_at = at_then same hash s shown.is_at; shows = whole_then choice same name m (known old.notes) s shown.shows; kept = kept_then choice name m (known old.notes) s shown.kept; counted = counted_then m s shown.counted }
 
   -- so it is by what the memory is then
   abbrev pub with_memory : Mem (Node K V) → Logged K V S

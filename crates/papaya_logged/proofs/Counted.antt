@@ -1,5 +1,5 @@
 -- Each step keeps numbers of maps below the executor's count, slots noted, and what ended maps have left over behind the roots that the moment tells.
-use Rattle.std.specs.Prelude.{◌≡◌, ◌<◌, ◌≤◌, ◌==◌, ℕ, Bool, false, List, [], ◌∷◌, ◌++◌, length, map, filter, find, Option, Some, None}
+use Rattle.std.specs.Prelude.{◌≡◌, ◌<◌, ◌≤◌, ◌==◌, ℕ, Bool, false, ◌+◌, List, [], ◌∷◌, length, map, filter, find, Option, Some, None}
 use Rattle.std.specs.List.{All}
 use Rattle.std.proofs.Common.{refl, ap, sym, subst, ◌∙◌, arith}
 use Rattle.papaya_histories.specs.Given.SeizeWords.Mem.{Mem}
@@ -16,7 +16,7 @@ use Rattle.papaya_schedules.specs.After.{if_any}
 use Rattle.papaya_schedules.specs.Beginning.{used_roots, with_map}
 use Rattle.papaya_schedules.specs.Effects.{with_effects}
 use Rattle.papaya_schedules.specs.Lists.{is_among}
-use Rattle.papaya_schedules.specs.Moment.{MapThere, Remains, TableThere, Moment, start}
+use Rattle.papaya_schedules.specs.Moment.{MapThere, TableThere, Moment, start}
 use Rattle.papaya_schedules.specs.Views.{map_of}
 use Rattle.papaya_histories.specs.Given.Callers.Together.{UnderWay}
 use Rattle.papaya_effects.specs.Effects.{taken_by, effects_of, known_after}
@@ -43,9 +43,10 @@ use Rattle.papaya_histories.specs.Given.Others.Endings.{ending_after, without_ma
 use Rattle.papaya_histories.specs.Given.Others.Makings.{making_after}
 use Rattle.papaya_histories.specs.Given.Others.Rows.{scene_then}
 use Rattle.papaya_histories.proofs.Given.Moments.After.{effects_after}
-use Rattle.papaya_histories.proofs.Given.Moments.Numbers.{maps_come_by_number}
+use Rattle.papaya_histories.proofs.Given.Moments.Numbers.{maps_go}
+use Rattle.papaya_histories.specs.Given.Moments.Numbers.{NumbersMaps}
 use Rattle.papaya_remains.specs.Numbered.{NumbersUpTo}
-use Rattle.papaya_remains.specs.Remains.{ShowsRemains, has_some, map_roots}
+use Rattle.papaya_remains.specs.Remains.{ShowsRemains, has_some}
 use Rattle.papaya_remains.specs.Slots.{SlotsNoted}
 use Rattle.papaya_remains.proofs.Endings.{endings_begin_remain, endings_keep_remains}
 use Rattle.papaya_remains.proofs.Makings.{makings_begin_remain, makings_keep_remains}
@@ -55,7 +56,7 @@ use Rattle.papaya_remains.proofs.Slots.{calls_note_slots, endings_note_slots, ma
 use Rattle.papaya_remains.proofs.Stays.{begins_remain, stays_remain}
 use Rattle.papaya_remains.proofs.Steps.{calls_keep_remains, rows_begin_remain, rows_keep_remains}
 use Rattle.papaya_logged.specs.Ends.{ended_as}
-use Rattle.papaya_logged.specs.Shown.{AreNumbered, IsCounted}
+use Rattle.papaya_logged.specs.Shown.{IsCounted}
 use Rattle.papaya_logged.specs.declared.logged.Logged.{Logged}
 
 -- numbers are those of the same maps and tables
@@ -64,6 +65,14 @@ numbers_as count m v maps tables n = record {
   found = subst (λ (ms : List MapThere). All (λ there. find (λ f. f.number == there.number) ms ≡ Some there) ms) (sym maps) n.found;
   below = subst (λ (ms : List MapThere). All (λ there. there.number < count) ms) (sym maps) n.below;
   tables = subst (λ (ts : List TableThere). All (λ t. t.table.map < count) ts) (sym tables) n.tables;
+}
+
+-- numbers below the next one are below each count that is not less
+pub numbers_within : {K V : Type 0} (count : ℕ) (m : Moment K V) → NumbersMaps m → m.made ≤ count → NumbersUpTo count m
+numbers_within count m n le = record {
+  found = n.found;
+  below = λ k d l. (let b = n.below k d l in omega (arith, b, le));
+  tables = λ k d l. (let b = n.tables k d l in omega (arith, b, le));
 }
 
 -- what ends with a map leaves numbers below the count
@@ -209,8 +218,11 @@ module _ {K V S : Type 0} (l : Logged K V S) where
   -- and where one is there no more
   pub counted_goes : (m : Moment K V) (s : Scene K V) (c : IsCounted m l s) (own : List ℕ) (f : MapThere) → map_of own m ≡ Some f → length (filter (λ g. is_same g.name own) m.maps) ≤ 1
       → ((j : ℕ) → s.enders j ≡ None) → (pairs : List ℕ) → has_some (c.remains.lists f.root) ≡ has_some pairs
-      → NumbersUpTo (length l.executor.maps.items) (without_map own (if_any f.root pairs m.remains) m) → IsCounted (without_map own (if_any f.root pairs m.remains) m) l s
-  counted_goes m s c own f is alone nobody pairs some numbers = record {
-    numbered = record { numbers = numbers; slots = c.numbered.slots };
+      → IsCounted (without_map own (if_any f.root pairs m.remains) m) l s
+  counted_goes m s c own f is alone nobody pairs some = record {
+    numbered = record {
+      numbers = (let n = maps_go K V (record m { made = length l.executor.maps.items }) c.numbered.numbers own (if_any f.root pairs m.remains) in record { found = n.found; below = n.below; tables = n.tables });
+      slots = c.numbered.slots;
+    };
     remains = maps_go_remain K V l.executor.roots m s c.remains own f is alone nobody pairs some;
   }
