@@ -1,7 +1,8 @@
 -- Where a choice of a block number comes, the executor is there as before, and the moment shows it as before.
-use Rattle.std.specs.Prelude.{ℕ, Bool, List}
-use Rattle.std.proofs.Common.{◌≡◌, refl, ap}
+use Rattle.std.specs.Prelude.{◌⊎◌, ℕ, Bool, List, [], ◌∷◌, Option}
+use Rattle.std.proofs.Common.{◌≡◌, refl, ap, inl, inr}
 use Rattle.papaya_histories.specs.Given.SeizeWords.Mem.{Mem}
+use Rattle.seize.specs.Further.{ListFrom}
 use Rattle.seize.specs.World.{World}
 use Rattle.papaya_histories.specs.Given.Tables.declared.node.Node.{Node}
 use Rattle.papaya_schedules.specs.declared.effect.Table.{Table}
@@ -10,7 +11,12 @@ use Rattle.papaya_effects.specs.Known.{Known, known}
 use Rattle.papaya_effects.specs.declared.role.Role.{Role}
 use Rattle.papaya_effects.specs.declared.role.Role.TheVariants as role
 use Rattle.papaya_executor.specs.IsAt.{Scene, IsAt, slot_of}
+use Rattle.papaya_histories.specs.Given.Finishes.Endings.{Finishing}
+use Rattle.papaya_histories.specs.Given.Finishes.Makings.{Beginning}
+use Rattle.papaya_histories.specs.Given.Finishes.Maps.{Standing}
 use Rattle.papaya_histories.proofs.Given.Finishes.Among.Choices.{choices_stand_among}
+use Rattle.papaya_reclaims.specs.Left.{IsSomebodys, LeftAmong}
+use Rattle.papaya_reclaims.specs.Reclaims.{RootLeads}
 use Rattle.papaya_histories.specs.Given.Follows.Blocks.{HasRole}
 use Rattle.papaya_histories.specs.Given.Hands.Rows.{HoldsOne}
 use Rattle.papaya_histories.proofs.Given.Hands.SettlingRows.{one_kept}
@@ -22,6 +28,7 @@ use Rattle.papaya_lives.proofs.Each.{each_on}
 use Rattle.papaya_lives.proofs.LeftTables.{left_as}
 use Rattle.papaya_kept.specs.Kept.{ShowsKept}
 use Rattle.papaya_logged.specs.Choosing.{ChoiceIsShown, logged_chosen, memory_chosen, scene_chosen}
+use Rattle.papaya_logged.specs.Shown.{IsCounted}
 use Rattle.papaya_logged.specs.declared.logged.Logged.{Logged}
 
 module _ {K V : Type 0} (choice : ℕ) (w : World (Node K V)) where

@@ -104,6 +104,13 @@ module _ {K V S : Type 0} (old new : Logged K V S) (given : KeepsGiven old.execu
         (stays_remain K V old.executor.roots m v s t c.remains (ap (λ (ms : List MapThere). map (λ f. f.root) ms) maps) remains world same_maps makers enders)
         (numbers_as (length old.executor.maps.items) m v maps tables c.numbered.numbers) (same_slots memory c.numbered.slots)
 
+-- where nothing of it has changed, as where a call comes to an outcome
+pub counted_calls : {K V S : Type 0} (l : Logged K V S) (m v : Moment K V) (s : Scene K V) → IsCounted m l s → v.maps ≡ m.maps → v.tables ≡ m.tables → v.remains ≡ m.remains → IsCounted v l s
+counted_calls {K} {V} l m v s c maps tables remains = record {
+  numbered = record { numbers = numbers_as (length l.executor.maps.items) m v maps tables c.numbered.numbers; slots = c.numbered.slots };
+  remains = stays_remain K V l.executor.roots m v s s c.remains (ap (λ (ms : List MapThere). map (λ f. f.root) ms) maps) remains refl refl refl refl;
+}
+
 -- the executor's memory is that of the world
 pub same_memory : {K V S : Type 0} (same : K → K → Bool) (hash : K → ℕ) (old new : Executor K V S) (s t : Scene K V) → IsAt same hash old s → IsAt same hash new t → t.world.memory ≡ s.world.memory
     → new.memory.memory ≡ old.memory.memory
