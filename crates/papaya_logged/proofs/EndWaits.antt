@@ -74,11 +74,11 @@ use Rattle.papaya_logged.specs.Ends.{is_done, NotesMap, NotedStill}
 use Rattle.papaya_logged.specs.Waits.{TellsWaiting}
 
 -- something is in two lists just where it is in one of them
-has_more : (xs ys : List ℕ) → has_some xs ≡ true → has_some (xs ++ ys) ≡ true
+pub has_more : (xs ys : List ℕ) → has_some xs ≡ true → has_some (xs ++ ys) ≡ true
 has_more [] ys e = absurd (cc e)
 has_more (x ∷ xs) ys e = refl
 
-has_last : (xs ys : List ℕ) → has_some ys ≡ true → has_some (xs ++ ys) ≡ true
+pub has_last : (xs ys : List ℕ) → has_some ys ≡ true → has_some (xs ++ ys) ≡ true
 has_last [] ys e = e
 has_last (x ∷ xs) ys e = refl
 
@@ -87,7 +87,7 @@ has_either [] ys e = inr e
 has_either (x ∷ xs) ys e = inl refl
 
 -- of those that wait behind a table fewer do so still
-fewer_behind : (n : ℕ) (t : Table) (f : Deferral → Bool) (ds : List Deferral) → is_among n (behind t (filter f ds)) ≡ true → is_among n (behind t ds) ≡ true
+pub fewer_behind : (n : ℕ) (t : Table) (f : Deferral → Bool) (ds : List Deferral) → is_among n (behind t (filter f ds)) ≡ true → is_among n (behind t ds) ≡ true
 fewer_behind n t f [] among = among
 fewer_behind n t f (d ∷ ds) among = by (f d) (same_table d.behind t) refl among (fewer_behind n t f ds)
   where

@@ -5,11 +5,8 @@ use Rattle.std.proofs.Common.{refl, ap, sym, subst, ◌∙◌, arith, eqb-true}
 use Rattle.std.proofs.lemmas.Bool.{ne_eqb}
 use Rattle.seize.specs.World.{Rests}
 use Rattle.seize.specs.declared.states.TheConstants.{HEAD}
-use Rattle.papaya_owned.specs.Given.SeizeActs.Reclaimed.{HasNothingLeft}
 use Rattle.seize_words.specs.Mem.{word_at}
 use Rattle.seize_words.specs.declared.at.At.TheVariants.{Slot}
-use Rattle.papaya_histories.specs.Given.Tables.Nodes.{deferred_word}
-use Rattle.papaya_reclaims.specs.Deferred.{TablesCarryPairs}
 use Rattle.seize_words.specs.declared.fault.Fault.TheVariants.{Busy}
 use Rattle.papaya_runs.specs.Present.{Present, all_forgotten, nobody}
 use Rattle.papaya_schedules.specs.declared.effect.Effect.{Effect}
@@ -33,13 +30,13 @@ use Rattle.papaya_histories.specs.Given.Finishes.Maps.{Standing}
 use Rattle.papaya_histories.proofs.Given.Others.Quiet.{calls_none}
 use Rattle.papaya_reclaims.proofs.Slots.Stages.{never_taken}
 use Rattle.papaya_reclaiming.specs.Reclaiming.{MayReclaim, NobodyHas}
+use Rattle.papaya_reclaims.specs.Reclaims.{AllIsReclaimed}
 use Rattle.papaya_remains.specs.Remains.{ShowsRemains}
 use Rattle.papaya_remains.proofs.Maps.{reclaimed_remain}
 use Rattle.papaya_remains.proofs.Stays.{roots_stay}
 use Rattle.papaya_logged.specs.Reclaims.{AllIsShown, ReclaimRetired, ReclaimingCame, ReclaimingRan}
-use Rattle.papaya_logged.specs.Shown.{IsShown}
 use Rattle.papaya_logged.specs.declared.logged.Logged.{Logged}
-use Rattle.papaya_rows.proofs.Elsewhere.{elsewhere, kept_elsewhere, shown_elsewhere}
+use Rattle.papaya_rows.proofs.Elsewhere.{elsewhere, kept_elsewhere, shown_elsewhere, numbered_elsewhere}
 use Rattle.papaya_rows.proofs.Facts.{no_ending_of, no_making_of, no_work_at, row_rests, used_once}
 use Rattle.papaya_rows.proofs.Lists.{all_so}
 use Rattle.papaya_rows.proofs.Names.{nobody_named}

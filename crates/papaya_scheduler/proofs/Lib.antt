@@ -33,6 +33,7 @@ pub mod Registers
 pub mod Owns
 pub mod MapLists
 pub mod Mapped
+pub mod EndsLeave
 pub mod MapsEnded
 pub mod RootsUsed
 pub mod MapsMade

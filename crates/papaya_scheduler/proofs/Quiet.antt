@@ -1,5 +1,6 @@
 -- A scheduler stands as before for a moment in which nothing has changed that is seen of it.
 use Rattle.std.specs.Prelude.{ℕ, Bool, List}
+use Rattle.std.proofs.Common.{refl}
 use Rattle.papaya_schedules.specs.Moment.{Sheltered, Moment}
 use Rattle.papaya_schedules.specs.Terms.{Terms}
 use Rattle.papaya_effects.specs.Known.{known}
