@@ -27,7 +27,7 @@ use Rattle.papaya_effects.specs.Known.{known}
 use Rattle.papaya_executor.specs.Ending.{NoCallOn, ending_begun}
 use Rattle.papaya_executor.specs.IsAt.{Scene, IsAt, IsEnding, ending_in}
 use Rattle.papaya_executor.specs.declared.worker.Work.{Work}
-use Rattle.papaya_raw.specs.declared.machines.end_map.EndMap.{EndMap}
+use Rattle.papaya_raw.specs.declared.machines.end_map.EndMap.{EndMap as EndMachine}
 use Rattle.papaya_histories.specs.Given.Finishes.Makings.{Beginning}
 use Rattle.papaya_histories.specs.Given.Finishes.Endings.{Finishing, finishing_of}
 use Rattle.papaya_histories.specs.Given.Finishes.Machines.{machine_of}
@@ -263,7 +263,7 @@ module _ {K V S : Type 0} (same : K → K → Bool) (hash : K → ℕ) (terms : 
               by None e = e
               by (Some g) e =
                   let idle = stands.rests j (stands.shown.is_at.together.alone j g e).0 in
-                  absurd (let one : ◌≡◌ {A = Option EndMap} (Some g.machine) None =
+                  absurd (let one : ◌≡◌ {A = Option EndMachine} (Some g.machine) None =
                   sym (ap (option_map (λ (x : Finishing K V). x.machine)) e) ∙ stands.shown.is_at.enders j ∙ ap (λ (o : Option (Work K V)). ending_in o) idle in cc one)
 
           nobody_then : (j : ℕ) → s2.enders j ≡ None
