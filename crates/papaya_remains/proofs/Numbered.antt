@@ -34,7 +34,7 @@ module _ {K V : Type 0} (caller : Option (List ℕ)) (acted : Option ℕ) where
   alike_then [] x y maps tables = (maps, tables)
   alike_then (f ∷ effects) x y maps tables = alike_then effects (with_effect caller acted f x) (with_effect caller acted f y) (ap (maps_by f) maps) (ap (tables_by f) tables)
 
-  made_stays : (effects : List Effect) (x : Moment K V) → (with_effects caller acted effects x).made ≡ x.made
+  pub made_stays : (effects : List Effect) (x : Moment K V) → (with_effects caller acted effects x).made ≡ x.made
   made_stays [] x = refl
   made_stays (f ∷ effects) x = made_stays effects (with_effect caller acted f x)
 
@@ -51,7 +51,7 @@ module _ {K V : Type 0} (caller : Option (List ℕ)) (acted : Option ℕ) where
 
 -- a map that stands has a number
 module _ {K V S : Type 0} (same : K → K → Bool) (hash : K → ℕ) (e : Executor K V S) (s : Scene K V) (at : IsAt same hash e s) where
-  standing_below : (n : ℕ) (st : Standing K) → s.maps n ≡ Some st → n < length e.maps.items
+  pub standing_below : (n : ℕ) (st : Standing K) → s.maps n ≡ Some st → n < length e.maps.items
   standing_below n st here = by (cases_lt n (length e.maps.items))
     where
       by : (n < length e.maps.items) ⊎ (length e.maps.items ≤ n) → n < length e.maps.items
