@@ -1,5 +1,5 @@
 -- How many maps have a number after an event, and that names of maps stay apart: an event that makes one adds it, where none of its name was there.
-use Rattle.std.specs.Prelude.{◌≡◌, ◌≤◌, ◌<◌, ◌+◌, ◌&&◌, ℕ, Bool, true, false, not, List, [], ◌∷◌, ◌++◌, length, filter, find, map, is_none, is_some, nat_lt, MatchBool, MatchOption, Option, Some, None, if◌then◌else◌}
+use Rattle.std.specs.Prelude.{◌≡◌, ◌≤◌, ◌<◌, ◌+◌, ◌&&◌, ℕ, Bool, true, false, not, List, [], ◌∷◌, ◌++◌, length, filter, find, map, is_none, is_some, nat_lt, MatchBool, MatchOption, Option, Some, None, Result, Ok, Err, IfOk, if◌then◌else◌}
 use Rattle.std.proofs.Common.{refl, ap, sym, subst, ◌∙◌, arith}
 use Rattle.std.proofs.lemmas.List.{length-map}
 use Rattle.seize_words.specs.declared.fault.Fault.{Fault}
@@ -22,8 +22,9 @@ use Rattle.papaya_schedules.specs.Terms.{Terms}
 use Rattle.papaya_schedules.specs.Views.{map_of, number_of}
 use Rattle.papaya_rows.proofs.Lists.{is_found, none_kept}
 use Rattle.papaya_scheduler.specs.Seen.{named}
+use Rattle.papaya_scheduler.specs.declared.played.Played.{Played}
 use Rattle.papaya_scheduler.proofs.MapLists.{kept_map}
-use Rattle.papaya_running.specs.Asked.{FindsBy, numbers_on}
+use Rattle.papaya_running.specs.Asked.{FindsBy, is_of_calls, is_of_maps, numbers_on}
 
 -- names are apart
 abbrev pub NamesApart : List MapThere → Type 0
@@ -266,3 +267,24 @@ module _ {K V : Type 0} where
         by false (Some k) = apart
     begun_apart (Next c) o right = apart
     begun_apart (Stop c) o right = apart
+
+  -- events of calls make no map, nor do those of slots
+  pub calls_make_none : (event : Event K V) → is_of_calls event ≡ true → (n : List ℕ) (mode : ResizeMode) (c : ℕ) → event ≡ MakeMap n mode c → ⊥
+  calls_make_none event calls n mode c is = (let no : ◌≡◌ {A = Bool} false true = sym (ap is_of_calls is) ∙ calls in cc no)
+
+  pub slots_make_none : (event : Event K V) → is_of_maps event ≡ false → (n : List ℕ) (mode : ResizeMode) (c : ℕ) → event ≡ MakeMap n mode c → ⊥
+  slots_make_none event maps n mode c is = (let no : ◌≡◌ {A = Bool} true false = sym (ap is_of_maps is) ∙ maps in cc no)
+
+  module _ {X : Type 0} (event : Event K V) (result : Result (Played V) X) (old new : ℕ) where
+    abbrev pub CountsOn : Event K V → Type 0
+    CountsOn form = IfOk result (λ played. new ≡ numbers_on form played.outcome old)
+
+    pub counts_as : (form : Event K V) → event ≡ form → CountsOn form → CountsOn event
+    counts_as form is so = subst CountsOn (sym is) so
+
+    pub counts_still : ((n : List ℕ) (mode : ResizeMode) (c : ℕ) → event ≡ MakeMap n mode c → ⊥) → new ≡ old → CountsOn event
+    counts_still no is = by result
+      where
+        by : (r : Result (Played V) X) → IfOk r (λ played. new ≡ numbers_on event played.outcome old)
+        by (Ok played) = is ∙ sym (still_counts event played.outcome old no)
+        by (Err x) = tt

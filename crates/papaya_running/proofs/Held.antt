@@ -1,5 +1,5 @@
 -- After an event the scheduler is again as events ask of it.
-use Rattle.std.specs.Prelude.{◌≡◌, ◌≤◌, ◌<◌, ◌^◌, ◌==◌, ℕ, Bool, true, false, List, [], ◌∷◌, length, find, map, Option, Some, None, option_map, Result, Ok, Err, IfOk, if◌then◌else◌}
+use Rattle.std.specs.Prelude.{◌≡◌, ◌≤◌, ◌<◌, ◌^◌, ℕ, Bool, true, false, List, [], ◌∷◌, length, find, Option, Some, None, option_map, Result, Ok, Err, IfOk, if◌then◌else◌}
 use Rattle.std.specs.List.{All, AllByRecursion}
 use Rattle.std.proofs.Common.{refl, ap, sym, subst, ◌∙◌, arith}
 use Rattle.seize_words.specs.SlotWords.{slot_word}
@@ -21,11 +21,11 @@ use Rattle.papaya_schedules.specs.After.{moment}
 use Rattle.papaya_schedules.specs.Beginning.{at_work, begun, fresh_call, with_call}
 use Rattle.papaya_schedules.specs.Entry.{Entry, acted_on, caller_of, is_busy, nameless}
 use Rattle.papaya_schedules.specs.Effects.{worked}
-use Rattle.papaya_schedules.specs.Moment.{InMap, MapThere, Moment, Place, TableThere}
+use Rattle.papaya_schedules.specs.Moment.{MapThere, Moment, Place, TableThere}
 use Rattle.papaya_schedules.specs.Terms.{Terms}
 use Rattle.papaya_schedules.specs.Views.{call_of, map_of, number_of}
 use Rattle.papaya_effects.specs.Known.{known}
-use Rattle.papaya_executor.specs.IsAt.{Scene, IsAt, StaysGiven}
+use Rattle.papaya_histories.specs.Given.Executor.IsAt.{Scene, StaysGiven}
 use Rattle.papaya_remains.specs.Remains.{AllStand, RootsAreTaken}
 use Rattle.papaya_remains.proofs.Numbered.{made_stays, standing_below}
 use Rattle.papaya_remains.proofs.Rests.{rests_remain}
@@ -253,10 +253,14 @@ module _ {K V S : Type 0} (same : K → K → Bool) (hash : K → ℕ) (terms : 
 
 -- So it is of what an event comes to.
 module _ {K V S : Type 0} (same : K → K → Bool) (hash : K → ℕ) (event : Event K V) (is_first : Bool) (old new : Scheduler K V S) (given : StaysGiven old.logged.executor new.logged.executor) where
+  pub holds_so : (played : Played V) → HappensAt same hash is_first event played old new
+      → length new.logged.executor.maps.items ≡ numbers_on event played.outcome (length old.logged.executor.maps.items) → HoldsThen same hash is_first event played old new
+  holds_so played happens count = λ terms log first holds.
+      let it = happens terms log first holds in
+      holds_then same hash terms log old holds (entry_of event played) new it.played it.plays given count
+
   pub holds_if : {X : Type 0} (result : Result (Played V) X) → IfOk result (λ played. HappensAt same hash is_first event played old new)
       → IfOk result (λ played. length new.logged.executor.maps.items ≡ numbers_on event played.outcome (length old.logged.executor.maps.items))
       → IfOk result (λ played. HoldsThen same hash is_first event played old new)
-  holds_if (Ok played) happens count = λ terms log first holds.
-      let it = happens terms log first holds in
-      holds_then same hash terms log old holds (entry_of event played) new it.played it.plays given count
+  holds_if (Ok played) happens count = holds_so played happens count
   holds_if (Err x) happens count = tt

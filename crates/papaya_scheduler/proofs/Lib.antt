@@ -36,5 +36,6 @@ pub mod Mapped
 pub mod EndsLeave
 pub mod MapsEnded
 pub mod RootsUsed
+pub mod MapNumbers
 pub mod MapsMade
 mod AllGiven
