@@ -12,7 +12,6 @@ use Rattle.papaya_runs.specs.Runs.{IsStored}
 use Rattle.papaya_schedules.specs.declared.event.Event.{Event}
 use Rattle.papaya_schedules.specs.declared.record.Run.{Run}
 use Rattle.papaya_schedules.specs.After.{AtEachEvent, moment}
-use Rattle.papaya_schedules.specs.Entry.{Entry}
 use Rattle.papaya_schedules.specs.Moment.{Moment}
 use Rattle.papaya_schedules.specs.Runs.{Lists}
 use Rattle.papaya_schedules.specs.Terms.{Terms}
