@@ -23,7 +23,7 @@ use Rattle.papaya_histories.specs.Given.Moments.WholeEnds.{all_ended, tables_end
 use Rattle.papaya_reclaims.specs.Reclaims.{RootLeads}
 use Rattle.papaya_remains.specs.Remains.{has_some}
 use Rattle.papaya_logged.specs.Waits.{TellsWaiting}
-use Rattle.papaya_logged.proofs.EndWaits.{fewer_behind, has_last}
+use Rattle.papaya_logged.proofs.SomeBehind.{fewer_behind, has_last}
 
 -- the table is taken by one of these effects
 abbrev pub IsTakenIn : Table → List Effect → Type 0
