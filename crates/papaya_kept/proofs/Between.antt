@@ -48,6 +48,7 @@ use Rattle.papaya_settles.proofs.Handing.{calls_begin_handing, calls_take_handin
 use Rattle.papaya_lives.specs.Behind.{WaitsOnce}
 use Rattle.papaya_lives.specs.Retired.{CallsStay}
 use Rattle.papaya_lives.proofs.LeftTables.{others_keep_left}
+use Rattle.papaya_lives.proofs.Lying.{others_leave_lying}
 use Rattle.papaya_lives.proofs.Reclaimed.{others_leave_retired}
 use Rattle.papaya_lives.proofs.Waiting.{others_leave_waiting}
 use Rattle.papaya_kept.specs.Steps.{CallsBeginKept, CallsTakeKept, WalksGoOnKept, WalksStopKept}
@@ -180,6 +181,7 @@ module _ (K V S : Type 0) (same : K → K → Bool) (hash : K → ℕ) where
     handing = calls_begin_handing K V name m s kept.handing map i u call guard none rests;
     waiting = others_leave_waiting K V m v known s.world kept.waiting refl refl;
     once = kept.once;
+    lying = others_leave_lying K V m v known s.world kept.lying refl;
     retired = others_leave_retired K V m v known s (scene_with map i u s) kept.retired refl refl (calls_stay s map i (Some u) (λ is. absurd (cc is)));
     left = others_keep_left K V known s (scene_with map i u s) kept.left refl refl;
   }
@@ -200,6 +202,7 @@ module _ (K V S : Type 0) (same : K → K → Bool) (hash : K → ℕ) where
     handing = calls_take_handing K V same name m s whole.all.shown.calls kept.handing map i u here next is_told;
     waiting = others_leave_waiting K V m v known s.world kept.waiting refl refl;
     once = kept.once;
+    lying = others_leave_lying K V m v known s.world kept.lying refl;
     retired = others_leave_retired K V m v known s (scene_with map i next s) kept.retired refl refl (calls_stay s map i (Some next) (λ is. absurd (cc is)));
     left = others_keep_left K V known s (scene_with map i next s) kept.left refl refl;
   }
@@ -222,6 +225,7 @@ module _ (K V S : Type 0) (same : K → K → Bool) (hash : K → ℕ) where
         handing = walks_go_on_handing K V S same hash name m s old new kept.handing i leads map u here;
         waiting = kept.waiting;
         once = kept.once;
+        lying = kept.lying;
         retired = others_leave_retired K V m m known s (scene_with map i next s) kept.retired refl refl (calls_stay s map i (Some next) (λ is. absurd (cc is)));
         left = others_keep_left K V known s (scene_with map i next s) kept.left refl refl;
       }
@@ -239,6 +243,7 @@ module _ (K V S : Type 0) (same : K → K → Bool) (hash : K → ℕ) where
     handing = walks_stop_handing K V S same hash name m s old new whole.all.shown.calls kept.handing i stopped leads map u here none;
     waiting = others_leave_waiting K V m v known s.world kept.waiting (given_deferred (name i) m stopped) (given_place (name i) m stopped);
     once = subst WaitsOnce (sym (given_deferred (name i) m stopped)) kept.once;
+    lying = others_leave_lying K V m v known s.world kept.lying (given_deferred (name i) m stopped);
     retired = others_leave_retired K V m v known s (record s { calls = with_in s.calls map i (unless_stopped stopped u) }) kept.retired (given_tables (name i) m stopped) refl
         (calls_stay s map i (unless_stopped stopped u) (rests stopped refl));
     left = others_keep_left K V known s (record s { calls = with_in s.calls map i (unless_stopped stopped u) }) kept.left refl refl;

@@ -27,7 +27,9 @@ use Rattle.papaya_settles.proofs.Hand.Between.{owed_begins, stays_owed, calls_co
 use Rattle.papaya_settles.proofs.Hand.Roles.{hand_kept}
 use Rattle.papaya_settles.proofs.Handing.{handing_begins, calls_come_to_handing}
 use Rattle.papaya_lives.specs.Behind.{ShowsWaiting, WaitsOnce}
+use Rattle.papaya_lives.specs.Lying.{ShowsLying}
 use Rattle.papaya_lives.proofs.LeftTables.{left_begins, others_keep_left}
+use Rattle.papaya_lives.proofs.Lying.{lying_begins, others_leave_lying}
 use Rattle.papaya_lives.proofs.Reclaimed.{retired_begins, others_leave_retired}
 use Rattle.papaya_lives.proofs.Waiting.{waiting_begins, others_leave_waiting}
 use Rattle.papaya_kept.specs.Steps.{BeginsKept, StaysKept, RenamedKept, CallsComeToKept, MakingsBeginKept}
@@ -45,6 +47,7 @@ begins_kept K V roots name = record {
   handing = handing_begins K V roots name;
   waiting = waiting_begins K V roots;
   once = tt;
+  lying = lying_begins K V roots;
   retired = retired_begins K V roots;
   left = left_begins K V roots;
 }
@@ -85,6 +88,7 @@ stays_kept K V name m v known s t kept listed tables deferred place world calls 
   handing = handing_stays name m v s t kept.handing listed world calls;
   waiting = subst (ShowsWaiting v known) (sym world) (others_leave_waiting K V m v known s.world kept.waiting deferred place);
   once = subst WaitsOnce (sym deferred) kept.once;
+  lying = subst (ShowsLying v known) (sym world) (others_leave_lying K V m v known s.world kept.lying deferred);
   retired = others_leave_retired K V m v known s t kept.retired tables world (λ j has. inl (calls_same s t calls j has));
   left = others_keep_left K V known s t kept.left world enders;
 }
@@ -102,6 +106,7 @@ renamed_kept K V name name2 m known s agree kept = record {
   handing = λ map i u is busy c c_is. kept.handing map i u is busy c (as_named map i u is c c_is);
   waiting = kept.waiting;
   once = kept.once;
+  lying = kept.lying;
   retired = kept.retired;
   left = kept.left;
 }
@@ -122,6 +127,7 @@ calls_come_to_kept K V same name m known s whole kept own outcome steps none = r
   handing = calls_come_to_handing K V same name m s whole.all.shown.calls kept.handing own outcome steps none;
   waiting = others_leave_waiting K V m (come_to own outcome steps m) known s.world kept.waiting refl refl;
   once = kept.once;
+  lying = others_leave_lying K V m (come_to own outcome steps m) known s.world kept.lying refl;
   retired = others_leave_retired K V m (come_to own outcome steps m) known s s kept.retired refl refl (λ j has. inl has);
   left = kept.left;
 }
@@ -139,6 +145,7 @@ makings_begin_kept K V name m known s kept i b none = record {
   handing = kept.handing;
   waiting = kept.waiting;
   once = kept.once;
+  lying = kept.lying;
   retired = others_leave_retired K V m m known s t kept.retired refl refl (λ j has. inl has);
   left = others_keep_left K V known s t kept.left refl refl;
 }

@@ -3,7 +3,7 @@ ghost use Rattle.std.specs.Prelude.{ℕ, Bool};
 ghost use Rattle.papaya_kept.specs.Steps.{BeginsKept, StaysKept, RenamedKept, CallsComeToKept, MakingsBeginKept, CallsBeginKept, CallsKeepKept, CallsTakeKept, WalksGoOnKept, WalksStopKept, RowsBeginKept, RowsKeepKept, RowsFindKept, MakingsKeepKept, EndingsBeginKept, EndingsKeepKept, EndingsFindKept};
 
 /// At each moment of a run that shows the executor, what somebody has is blank, each call has made what the moment says and owes what it has in hand, what waits behind a
-/// table does so in the memory, and behind no other table, the tables that the collector has are retired, or about to be, and those that are left over are of maps whose ends
+/// table does so in the memory, and behind no other table, what can be reached through a table alone waits behind it, or is being put there, the tables that the collector has are retired, or about to be, and those that are left over are of maps whose ends
 /// are under way. So it is before all events; where a call begins, takes a reply, is a walk
 /// that goes on or is given up, and comes to an outcome; after each step of a call, whoever's; where a row begins on a slot, and after each step of it; where the making and
 /// the end of a map begin, and after each step of these; and as long as nothing of it has changed. So a table that a row on a slot reclaims was retired, and what waits

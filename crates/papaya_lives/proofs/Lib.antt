@@ -23,3 +23,7 @@ pub mod WaitingEnds
 pub mod RetiredEnds
 pub mod LeftTables
 pub mod LeftEnds
+pub mod Lying
+pub mod LyingRows
+pub mod LyingCalls
+pub mod LyingEnds

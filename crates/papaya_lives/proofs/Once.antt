@@ -32,7 +32,7 @@ abbrev Listed : List Deferral → ℕ → Table → Type 0
 Listed ds n t = (u : Table) → same_table t u ≡ true → is_among n (behind u ds) ≡ true
 
 -- what is listed is so with one more
-more : (n : ℕ) (u : Table) (d : Deferral) (ds : List Deferral) → is_among n (behind u ds) ≡ true → is_among n (behind u (d ∷ ds)) ≡ true
+pub more : (n : ℕ) (u : Table) (d : Deferral) (ds : List Deferral) → is_among n (behind u ds) ≡ true → is_among n (behind u (d ∷ ds)) ≡ true
 more n u d ds among = by (same_table d.behind u)
   where
     by : (q : Bool) → is_among n (map (λ x. x.pair) (if q then d ∷ filter (λ x. same_table x.behind u) ds else filter (λ x. same_table x.behind u) ds)) ≡ true

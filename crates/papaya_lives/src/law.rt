@@ -2,6 +2,7 @@
 ghost use Rattle.std.specs.Prelude.{Option, ℕ, Bool};
 ghost use Rattle.papaya_lives.specs.Behind.{WaitingIsThere};
 ghost use Rattle.papaya_lives.specs.LeftTables.{LeftBegins, OthersKeepLeft, EndingsBeginLeft, NoneIsLeftTo, NoneIsLeft, WhereNoneIsLeft, RowsBeginLeft, RowsKeepLeft, MakingsKeepLeft, CallsKeepLeft, EndingsKeepLeft};
+ghost use Rattle.papaya_lives.specs.Lying.{LyingBegins, OthersLeaveLying, EndingsBeginLying, RowsBeginLying, RowsKeepLying, MakingsKeepLying, CallsKeepLying, EndingsKeepLying};
 ghost use Rattle.papaya_lives.specs.Retired.{RetiredBegins, OthersLeaveRetired, EndingsBeginRetired, RowsBeginRetired, RowsKeepRetired, RowsFindRetired, MakingsKeepRetired, CallsKeepRetired, EndingsKeepRetired};
 ghost use Rattle.papaya_lives.specs.Steps.{WaitingBegins, OthersLeaveWaiting, EndingsBeginWaiting, EffectsFindWaiting, UsersKeepWaiting, RowsBeginWaiting, RowsKeepWaiting, RowsFindWaiting, MakingsKeepWaiting, CallsKeepWaiting, CallRowsKeepWaiting, EndingsFindWaiting, EndingsKeepWaiting};
 ghost use Rattle.papaya_lives.specs.Waiting.{WaitUnretired, PutsWait};
@@ -65,4 +66,18 @@ pub fn left_tables_are_to_be_reclaimed<K, V, S>()
     ensures makings { (same : K → K → Bool) (hash : K → ℕ) → MakingsKeepLeft K V S same hash }
     ensures calls { (same : K → K → Bool) (hash : K → ℕ) → CallsKeepLeft K V S same hash }
     ensures endings { (same : K → K → Bool) (hash : K → ℕ) → EndingsKeepLeft K V S same hash }
+{}
+
+/// Each block that can be reached through a table alone is that of a pair that is told to wait behind that table, or somebody's row is putting it there: so it is before
+/// all events, where the same pairs wait, where the end of a map begins, where a row begins on a slot, and after each step of one, of the making of a map, of a call,
+/// whoever's row it is, and of the end of a map.
+pub fn what_lies_behind_tables_waits<K, V, S>()
+    ensures begins { LyingBegins K V }
+    ensures others { OthersLeaveLying K V }
+    ensures endings_begin { EndingsBeginLying K V }
+    ensures rows_begin { (same : K → K → Bool) (hash : K → ℕ) → RowsBeginLying K V S same hash }
+    ensures rows { (same : K → K → Bool) (hash : K → ℕ) → RowsKeepLying K V S same hash }
+    ensures makings { (same : K → K → Bool) (hash : K → ℕ) → MakingsKeepLying K V S same hash }
+    ensures calls { (same : K → K → Bool) (hash : K → ℕ) → CallsKeepLying K V S same hash }
+    ensures endings { (same : K → K → Bool) (hash : K → ℕ) → EndingsKeepLying K V S same hash }
 {}

@@ -1,7 +1,8 @@
 -- Where a choice of a block number comes, the executor is there as before, and the moment shows it as before.
-use Rattle.std.specs.Prelude.{ℕ, Bool, List}
-use Rattle.std.proofs.Common.{◌≡◌, refl, ap}
+use Rattle.std.specs.Prelude.{◌⊎◌, ℕ, Bool, List, [], ◌∷◌, Option}
+use Rattle.std.proofs.Common.{◌≡◌, refl, ap, inl, inr}
 use Rattle.papaya_histories.specs.Given.SeizeWords.Mem.{Mem}
+use Rattle.seize.specs.Further.{ListFrom}
 use Rattle.seize.specs.World.{World}
 use Rattle.papaya_histories.specs.Given.Tables.declared.node.Node.{Node}
 use Rattle.papaya_schedules.specs.declared.effect.Table.{Table}
@@ -10,7 +11,12 @@ use Rattle.papaya_effects.specs.Known.{Known, known}
 use Rattle.papaya_effects.specs.declared.role.Role.{Role}
 use Rattle.papaya_effects.specs.declared.role.Role.TheVariants as role
 use Rattle.papaya_executor.specs.IsAt.{Scene, IsAt, slot_of}
+use Rattle.papaya_histories.specs.Given.Finishes.Endings.{Finishing}
+use Rattle.papaya_histories.specs.Given.Finishes.Makings.{Beginning}
+use Rattle.papaya_histories.specs.Given.Finishes.Maps.{Standing}
 use Rattle.papaya_histories.proofs.Given.Finishes.Among.Choices.{choices_stand_among}
+use Rattle.papaya_reclaims.specs.Left.{IsSomebodys, LeftAmong}
+use Rattle.papaya_reclaims.specs.Reclaims.{RootLeads}
 use Rattle.papaya_histories.specs.Given.Follows.Blocks.{HasRole}
 use Rattle.papaya_histories.specs.Given.Hands.Rows.{HoldsOne}
 use Rattle.papaya_histories.proofs.Given.Hands.SettlingRows.{one_kept}
@@ -22,6 +28,7 @@ use Rattle.papaya_lives.proofs.Each.{each_on}
 use Rattle.papaya_lives.proofs.LeftTables.{left_as}
 use Rattle.papaya_kept.specs.Kept.{ShowsKept}
 use Rattle.papaya_logged.specs.Choosing.{ChoiceIsShown, logged_chosen, memory_chosen, scene_chosen}
+use Rattle.papaya_logged.specs.Shown.{IsCounted}
 use Rattle.papaya_logged.specs.declared.logged.Logged.{Logged}
 
 module _ {K V : Type 0} (choice : ℕ) (w : World (Node K V)) where
@@ -95,11 +102,48 @@ module _ {K V : Type 0} (choice : ℕ) (name : ℕ → List ℕ) (m : Moment K V
         each_on (λ n t. (m.place n ≡ Behind) × LiesBehind noted s.world n t) (λ n t. (m.place n ≡ Behind) × LiesBehind noted (then_in choice s.world) n t) (λ n t p. (p.0, lies_then n t p.1)) m.deferred
         kept.waiting;
     once = kept.once;
+    lying = kept.lying;
     retired = record { tables = kept.retired.tables; lengths = kept.retired.lengths };
     left = left_as noted noted s (scene_chosen choice s) refl kept.left (λ b len x is. is) (λ b j left. left);
   }
 
+module _ {K V : Type 0} (choice roots : ℕ) (w : World (Node K V)) where
+  -- what is behind roots is so still
+  list_then : (word : ℕ) (l : List ℕ) → ListFrom w.memory word l → ListFrom (then_in choice w).memory word l
+  list_then word [] is = is
+  list_then word (b ∷ l) (next, some, is, entry, rest) = (next, some, is, entry, list_then next l rest)
+
+  leads_then : (r : ℕ) (l : List ℕ) → RootLeads w r l → RootLeads (then_in choice w) r l
+  leads_then r [] leads = leads
+  leads_then r (b ∷ l) (value, (word, there, list), used) = (value, (word, there, list_then word (b ∷ l) list), used)
+
+  left_then : (maps : ℕ → Option (Standing K)) (makers : ℕ → Option (Beginning K)) (enders : ℕ → Option (Finishing K V)) (lists : ℕ → List ℕ) → LeftAmong roots w maps makers enders lists
+      → LeftAmong roots (then_in choice w) maps makers enders lists
+  left_then maps makers enders lists left = record {
+    root = λ r lt. elim (left.root r lt) as (λ _. IsSomebodys maps makers enders r ⊎ RootLeads (then_in choice w) r (lists r)) [
+      | inl its ↦ inl its
+      | inr leads ↦ inr (leads_then r (lists r) leads)
+    ];
+    none = left.none;
+    left = left.left;
+    once = left.once;
+    apart = left.apart;
+  }
+
 module _ {K V S : Type 0} (choice : ℕ) (old : Logged K V S) where
+  counted_then : (m : Moment K V) (s : Scene K V) → IsCounted m old s → IsCounted m (logged_chosen choice old) (scene_chosen choice s)
+  counted_then m s c = record {
+    numbered = record { numbers = c.numbered.numbers; slots = (let slots = c.numbered.slots in record { some = slots.some; none = slots.none }) };
+    remains = (let r = c.remains in record {
+      lists = r.lists;
+      left = left_then choice old.executor.roots s.world s.maps s.makers s.enders r.lists r.left;
+      told = r.told;
+      once = r.once;
+      below = r.below;
+      ending = r.ending;
+    });
+  }
+
   at_then : (same : K → K → Bool) (hash : K → ℕ) (s : Scene K V) → IsAt same hash old.executor s → IsAt same hash (logged_chosen choice old).executor (scene_chosen choice s)
   at_then same hash s at = record {
     memory = ap (memory_chosen choice) at.memory;
@@ -119,7 +163,7 @@ module _ {K V S : Type 0} (choice : ℕ) (old : Logged K V S) where
   }
 
   pub choice_shown : ChoiceIsShown choice old (logged_chosen choice old)
-  choice_shown same hash name m s shown = record { is_at = at_then same hash s shown.is_at; shows = whole_then choice same name m (known old.notes) s shown.shows; kept = kept_then choice name m (known old.notes) s shown.kept }
+  choice_shown same hash name m s shown = record { is_at = at_then same hash s shown.is_at; shows = whole_then choice same name m (known old.notes) s shown.shows; kept = kept_then choice name m (known old.notes) s shown.kept; counted = counted_then m s shown.counted }
 
   -- so it is by what the memory is then
   abbrev pub with_memory : Mem (Node K V) → Logged K V S

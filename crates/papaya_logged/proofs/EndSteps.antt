@@ -1,5 +1,5 @@
 -- The beginning of the end of a map is written down, and a step of it.
-use Rattle.std.specs.Prelude.{◌≡◌, ◌≢◌, ◌<◌, ℕ, Bool, false, List, [], ◌∷◌, ◌++◌, Some, None, ◌⊎◌}
+use Rattle.std.specs.Prelude.{◌≡◌, ◌≢◌, ◌<◌, ℕ, Bool, false, List, [], ◌∷◌, ◌++◌, Some, None, ◌⊎◌, if◌then◌else◌}
 use Rattle.std.proofs.Common.{refl, ap, subst, sym, ◌∙◌, arith, inl, inr}
 use Rattle.std.proofs.lemmas.List.{append-nil, append_assoc}
 use Rattle.seize.specs.World.{times}
@@ -10,6 +10,7 @@ use Rattle.papaya_histories.specs.Given.Tables.declared.node.Node.{Node}
 use Rattle.papaya_raw.specs.declared.machines.end_map.EndMap.{EndMap}
 use Rattle.papaya_histories.proofs.Given.Rule.Laws.{current_is_known}
 use Rattle.papaya_schedules.specs.declared.effect.Effect.{Effect}
+use Rattle.papaya_schedules.specs.After.{if_any}
 use Rattle.papaya_schedules.specs.Effects.{with_effects, AtEachEffect}
 use Rattle.papaya_schedules.specs.Handing.{in_order}
 use Rattle.papaya_schedules.specs.Moment.{Moment}
@@ -29,7 +30,7 @@ use Rattle.papaya_histories.proofs.Given.Finishes.Ends.CountedBlocks.{times-appe
 use Rattle.papaya_histories.proofs.Given.Finishes.Ends.OrdersOn.{back_same}
 use Rattle.papaya_histories.proofs.Given.Finishes.Ends.OrdersOnce.{HasOrder, plain_order}
 use Rattle.papaya_executor.specs.Ending.{EndingBegins, EndingLeads, EndingStepsFrom, EndingComesTo, ending_begun}
-use Rattle.papaya_executor.specs.IsAt.{Scene, IsAt, slot_of}
+use Rattle.papaya_executor.specs.IsAt.{Scene, IsAt, KeepsGiven, slot_of}
 use Rattle.papaya_executor.specs.declared.executor.Executor.{Executor}
 use Rattle.papaya_histories.specs.Given.Follows.Steps.{TakesNone}
 use Rattle.papaya_histories.proofs.Given.Follows.Alike.{AllCalm, put_elsewhere}
@@ -41,14 +42,19 @@ use Rattle.papaya_histories.proofs.Given.Moments.Over.{endings_are_over_whole}
 use Rattle.papaya_histories.proofs.Given.Moments.WholeEnds.{whole_ends_take_all}
 use Rattle.papaya_histories.specs.Given.Moments.WholeEnds.{all_ended}
 use Rattle.papaya_histories.specs.Given.Moments.Whole.{ShowsWhole}
-use Rattle.papaya_logged.specs.Ends.{ended_as, AllEnds, NotesMap, NotedStill, EndIsBegun, EndGoesOn, EndSteps, EndIsOver}
+use Rattle.papaya_lives.proofs.LeftTables.{none_is_left}
+use Rattle.papaya_remains.specs.Remains.{has_some}
+use Rattle.papaya_logged.specs.Ends.{is_done, ended_as, AllEnds, NotesMap, NotedStill, EndIsBegun, EndGoesOn, EndSteps, EndIsOver}
 use Rattle.papaya_kept.specs.Kept.{ShowsKept}
 use Rattle.papaya_kept.proofs.Others.{endings_begin_kept, endings_keep_kept, endings_find_kept}
 use Rattle.papaya_kept.proofs.Stays.{stays_kept}
 use Rattle.papaya_logged.specs.Shown.{IsShown}
+use Rattle.papaya_logged.specs.Waits.{TellsWaiting}
 use Rattle.papaya_logged.specs.declared.logged.Logged.{Logged}
+use Rattle.papaya_logged.proofs.Counted.{counted_end_begins, counted_end_steps, counted_goes}
 use Rattle.papaya_logged.proofs.EndOrder.{all_told, pairs_ordered}
 use Rattle.papaya_logged.proofs.EndLists.{back_first, IsOneOf, once, one_of}
+use Rattle.papaya_logged.proofs.EndWaits.{waits_begin, waits_said}
 use Rattle.papaya_logged.proofs.EndTells.{end_tells, nothing_done}
 
 -- another block than the one of a list of one
@@ -103,9 +109,9 @@ module _ {K V S : Type 0} (same : K → K → Bool) (hash : K → ℕ) where
         }
 
   pub end_is_begun : (old new : Logged K V S) (map i : ℕ) → ((s : Scene K V) → IsAt same hash old.executor s → EndingBegins same hash map i s old.executor new.executor)
-      → ((s : Scene K V) → IsAt same hash old.executor s → s.enders i ≡ None) → new.notes ≡ old.notes
+      → ((s : Scene K V) → IsAt same hash old.executor s → s.enders i ≡ None) → new.notes ≡ old.notes → KeepsGiven old.executor new.executor
       → (name : ℕ → List ℕ) (m : Moment K V) (s : Scene K V) → IsShown same hash name m old s → EndIsBegun same hash name m s map i old new
-  end_is_begun old new map i begins yet noted name m s shown nobody =
+  end_is_begun old new map i begins yet noted given name m s shown nobody =
       let to = begins s shown.is_at nobody in (
         to.0,
         to.1,
@@ -121,7 +127,13 @@ module _ {K V S : Type 0} (same : K → K → Bool) (hash : K → ℕ) where
               (endings_begin_whole K V S same hash name m (known old.notes) s new.executor shown.shows map i to.0 to.1 to.4);
           kept = subst (λ (n : Notes). ShowsKept {K = K} {V = V} name m (known n) (ending_begun map i to.0 s)) (sym noted)
               (endings_begin_kept K V S same hash name m (known old.notes) s old.executor new.executor shown.is_at shown.kept map i to.0 (yet s shown.is_at) to.4);
+          counted = counted_end_begins same hash name old new given noted m s shown.is_at shown.shows.all.shown shown.counted map i to.0 to.1 (yet s shown.is_at) to.4;
         },
+        λ nobody_ends.
+            (let t = waits_begin same name old.executor.batch_size map to.0.chart m (known old.notes) s shown.shows shown.kept.waiting shown.is_at.together.makings.standing.came
+            (none_is_left K V (known old.notes) s shown.kept.left nobody_ends) in
+            subst (λ (n : Notes). TellsWaiting {K = K} {V = V} map to.0.chart m m (known n) (ending_begun map i to.0 s).world false) (sym noted)
+            (record { left = t.left; waited = t.waited; still = t.still; fewer = t.fewer })),
       )
 
   -- the executor is there after each step
@@ -235,10 +247,10 @@ module _ {K V S : Type 0} (same : K → K → Bool) (hash : K → ℕ) where
 
   end_so : (old : Logged K V S) (stepped : Executor K V S) (notes : Notes) (i map : ℕ) (said : Settled (Node K V))
       → ((s : Scene K V) → IsAt same hash old.executor s → EndingLeads same hash i said s old.executor stepped)
-      → known notes ≡ known_after (Ending map) stepped.memory.changed (known old.notes)
+      → known notes ≡ known_after (Ending map) stepped.memory.changed (known old.notes) → KeepsGiven old.executor stepped
       → (name : ℕ → List ℕ) (m : Moment K V) (s : Scene K V) → IsShown same hash name m old s
       → EndGoesOn same hash name m s i map said (effects_of (Ending map) (known old.notes) stepped.memory.changed) old (record { executor = stepped; notes = notes })
-  end_so old stepped notes i map said stepping noted name m s shown f here not_there number first its still =
+  end_so old stepped notes i map said stepping noted given name m s shown f here not_there number first its still =
       let leads = stepping s shown.is_at in
       let to = leads f here in
       let effects = effects_of (Ending map) (known old.notes) stepped.memory.changed in (
@@ -255,7 +267,13 @@ module _ {K V S : Type 0} (same : K → K → Bool) (hash : K → ℕ) where
           kept = subst (λ (k : Known). ShowsKept {K = K} {V = V} name (with_effects None (Some map) effects m) k (ending_after same hash s stepped i f to.0 to.2.w2 to.2.deed said to.3)) (sym noted)
               (endings_keep_kept K V S same hash name m (known old.notes) s old.executor stepped shown.is_at shown.shows shown.kept i said leads f here map not_there
               (end_there old.executor stepped s i said leads f here));
+          counted = counted_end_steps same hash old stepped notes given m s shown.is_at shown.counted i map said leads f here noted first (taken_of to.2.deed)
+              (did_end name m (known old.notes) s old.executor stepped shown.is_at shown.shows i f here to.0 said to.1 to.2 map not_there to.3 number first its still);
         },
+        λ began before.
+            subst (λ (k : Known). TellsWaiting {K = K} {V = V} map f.chart began (with_effects None (Some map) effects m) k to.2.w2 (if is_done said then has_some f.waits else has_some (f.waits ++ waiting_by to.2.deed)))
+            (sym noted)
+            (waits_said same hash name m (known old.notes) s old.executor stepped shown.is_at shown.shows shown.kept i f here to.0 said to.1 to.2 map not_there to.3 number first its still began before),
       )
 
 -- The executor has taken the step, and then its memory was noted: the executor stayed as it was.
@@ -263,20 +281,21 @@ pub end_steps : {K V S : Type 0} (old new : Logged K V S) (stepped : Executor K 
     → ((same : K → K → Bool) (hash : K → ℕ) (s : Scene K V) → IsAt same hash old.executor s → EndingLeads same hash i said s old.executor stepped)
     → after ≡ before ++ effects_of (Ending map) (known old.notes) stepped.memory.changed
     → known new.notes ≡ known_after (Ending map) stepped.memory.changed (known old.notes)
-    → new.executor ≡ stepped → EndSteps i map said before after old new
-end_steps {K} {V} {S} old new stepped i map said before after stepping did noted executor =
+    → new.executor ≡ stepped → KeepsGiven old.executor stepped → EndSteps i map said before after old new
+end_steps {K} {V} {S} old new stepped i map said before after stepping did noted executor given =
     let effects = effects_of (Ending map) (known old.notes) stepped.memory.changed in (
       effects,
       did,
       λ same hash name m s shown. subst (λ (e : Executor K V S). EndGoesOn same hash name m s i map said effects old (record { executor = e; notes = new.notes })) (sym executor)
-          (end_so same hash old stepped new.notes i map said (stepping same hash) noted name m s shown),
+          (end_so same hash old stepped new.notes i map said (stepping same hash) noted given name m s shown),
     )
 
 -- Without the map it is shown, too.
 pub end_is_over : {K V S : Type 0} (l : Logged K V S) → EndIsOver l
-end_is_over {K} {V} l same hash name m s shown own remains found others =
+end_is_over {K} {V} l same hash name m s shown own f is alone nobody pairs some found others =
     record {
       is_at = shown.is_at;
-      shows = endings_are_over_whole K V same name m (known l.notes) s shown.shows own remains found others;
-      kept = stays_kept K V name m (without_map own remains m) (known l.notes) s s shown.kept refl refl refl refl refl refl refl refl;
+      shows = endings_are_over_whole K V same name m (known l.notes) s shown.shows own (if_any f.root pairs m.remains) found others;
+      kept = stays_kept K V name m (without_map own (if_any f.root pairs m.remains) m) (known l.notes) s s shown.kept refl refl refl refl refl refl refl refl;
+      counted = counted_goes l m s shown.counted own f is alone nobody pairs some;
     }

@@ -16,7 +16,7 @@ use Rattle.papaya_schedules.specs.Effects.{with_effects}
 use Rattle.papaya_schedules.specs.Moment.{Moment}
 use Rattle.papaya_teller.specs.declared.changed.Changed.TheVariants.{Nothing}
 use Rattle.papaya_effects.specs.Effects.{taken_by}
-use Rattle.papaya_effects.specs.Known.{known}
+use Rattle.papaya_effects.specs.Known.{Known, known}
 use Rattle.papaya_effects.specs.declared.acting.Acting.TheVariants.{Ending}
 use Rattle.papaya_histories.proofs.Given.Callers.Together.At.{at_other, at_same}
 use Rattle.papaya_histories.specs.Given.Finishes.Endings.{Finishing, FinishingFacts, waiting_by}
@@ -34,8 +34,10 @@ use Rattle.papaya_executor.specs.declared.worker.Work.TheVariants as work
 use Rattle.papaya_executor.proofs.Forgotten.{as_step}
 use Rattle.papaya_histories.specs.Given.Others.Endings.{ending_after}
 use Rattle.papaya_histories.proofs.Given.Moments.After.{effects_after}
-use Rattle.papaya_logged.specs.Ends.{is_done, ended_as, NotedStill, EndCame, EndSteps, EndIsAt, EndIsShown, EndRan}
+use Rattle.papaya_logged.specs.Ends.{is_done, ended_as, left_so, NotedStill, EndCame, EndSteps, EndIsAt, EndIsShown, EndRan}
+use Rattle.papaya_remains.specs.Remains.{has_some}
 use Rattle.papaya_logged.specs.Shown.{IsShown}
+use Rattle.papaya_logged.specs.Waits.{TellsWaiting}
 use Rattle.papaya_logged.specs.declared.logged.Logged.{Logged}
 use Rattle.papaya_logged.proofs.EndAll.{all_end}
 use Rattle.papaya_logged.proofs.EndSteps.{end_there}
@@ -128,6 +130,19 @@ module _ {K V : Type 0} (s : Scene K V) (i : ℕ) (f : Finishing K V) where
           uses = to.2.spares.uses ∙ came.uses;
         }
 
+    -- what it has left over by then
+    abbrev waits_by : (said : Settled (Node K V)) → EndingLeads same hash i said s1 mid new → Bool
+    waits_by said leads = if is_done said then has_some came.ender.1 else has_some (came.ender.1 ++ waiting_by (leads f1 here1).2.deed)
+
+    pub waits_on : (of : ℕ) (began x : Moment K V) (noted : Known) (said : Settled (Node K V)) (leads : EndingLeads same hash i said s1 mid new)
+        → TellsWaiting of f.chart began x noted (leads f1 here1).2.w2 (waits_by said leads)
+        → (let s2 = ending_after same hash s1 new i f1 (leads f1 here1).0 (leads f1 here1).2.w2 (leads f1 here1).2.deed said (leads f1 here1).3 in
+        TellsWaiting of f.chart began x noted s2.world (has_some (left_so s s2 i f (gone ++ taken_of (leads f1 here1).2.deed) (is_done said) (came_on said leads).ender)))
+    waits_on of began x noted settled.Goes leads tells = tells
+    waits_on of began x noted settled.Waits leads tells = absurd (leads f1 here1).3
+    waits_on of began x noted (settled.Gave value) leads tells = tells
+    waits_on of began x noted settled.Done leads tells = tells
+
     -- it was under way, and it is still, with less to do
     pub was_under : IsAt same hash mid s1 → work_of mid i ≡ Some (work.Ending came.ender.0)
     was_under at = ending_of (work_of mid i) came.ender.0 (sym (at.enders i) ∙ ap (option_map (λ (x : Finishing K V). x.machine)) here1)
@@ -191,7 +206,7 @@ module _ {K V S : Type 0} (i map : ℕ) where
     [],
     sym (append-nil xs),
     λ same hash s at f here. (s, [], came_first s i f here, at),
-    λ same hash name m s shown f here not_there number first notes still. (s, [], came_first s i f here, refl, subst (NotedStill first (known l.notes)) (sym (append-nil f.back)) still, shown, λ over none. absurd (cc over)),
+    λ same hash name m s shown f here not_there number first notes still. (s, [], came_first s i f here, refl, subst (NotedStill first (known l.notes)) (sym (append-nil f.back)) still, shown, λ over none. absurd (cc over), λ began before. before),
   )
 
   -- and one step more
@@ -232,6 +247,10 @@ module _ {K V S : Type 0} (i map : ℕ) where
                 (let ender = (subst (λ (q : Bool). EndCame s s2 i f (u.1 ++ taken) q) over came).ender in
                 let all = ap (λ (l : List ℕ). l ++ (u.1 ++ taken)) (sym none) ∙ ender.1 in
                 did_so ∙ ap (ended_as map first) all ∙ all_end map number first f.setting f.chart f.blocks notes (shown.is_at.together.facts i f here).each),
+            λ began before.
+                waits_on s i f same hash mid.executor new.executor u.0 u.1 u.2 map began (with_effects None (Some map) (ran.0 ++ step.0) m) (known new.notes) said leads
+                (subst (λ (x : Moment K V). TellsWaiting map f.chart began x (known new.notes) its.2.w2 (if is_done said then has_some u.2.ender.1 else has_some (u.2.ender.1 ++ waiting_by its.2.deed)))
+                (sym (effects_after None (Some map) ran.0 step.0 m)) (to.4 began (u.7 began before))),
           )
 
     pub ends_on : EndRan i map (is_done said) xs zs old new

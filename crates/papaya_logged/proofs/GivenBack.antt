@@ -1,13 +1,19 @@
 -- The number of a making that was refused is given back: the executor is there as it was.
-use Rattle.std.specs.Prelude.{◌≡◌, ◌≢◌, ◌<◌, ◌≤◌, ◌+◌, ◌==◌, ◌⊎◌, ℕ, Bool, true, false, List, length, take, Option, Some, None, option_map, slice_index_or, if◌then◌else◌}
+use Rattle.std.specs.Prelude.{◌≡◌, ◌≢◌, ◌<◌, ◌≤◌, ◌+◌, ◌==◌, ◌⊎◌, ℕ, Bool, true, false, List, [], ◌∷◌, length, take, Option, Some, None, option_map, slice_index_or, if◌then◌else◌}
+use Rattle.std.specs.List.{list_all}
 use Rattle.std.proofs.Common.{refl, sym, ap, subst, ◌∙◌, inl, inr, arith}
 use Rattle.std.proofs.lemmas.Bool.{cases_eq, cases_lt, eqb-true}
 use Rattle.std.proofs.lemmas.List.{get_or-take, get_or_past, length-take-le}
 use Rattle.seize.specs.declared.progress.Progress.{Progress}
 use Rattle.seize.specs.declared.progress.Progress.TheVariants as progress
+use Rattle.papaya_histories.specs.Given.SeizeWords.Mem.{Mem}
+use Rattle.papaya_histories.specs.Given.Tables.declared.node.Node.{Node}
 use Rattle.papaya_histories.specs.Given.Tables.declared.setting.Setting.{Setting}
 use Rattle.papaya_schedules.specs.declared.effect.Effect.{Effect}
-use Rattle.papaya_schedules.specs.Effects.{with_effects}
+use Rattle.papaya_schedules.specs.declared.effect.Effect.TheVariants.{Asked}
+use Rattle.papaya_schedules.specs.Effects.{with_effect, with_effects}
+use Rattle.papaya_schedules.specs.InTurn.{is_growth}
+use Rattle.papaya_schedules.specs.Moment.{Moment}
 use Rattle.papaya_effects.specs.Known.{known}
 use Rattle.papaya_effects.specs.declared.notes.Notes.{Notes}
 use Rattle.papaya_histories.specs.Given.Finishes.Makings.{Beginning}
@@ -16,8 +22,13 @@ use Rattle.papaya_executor.specs.IsAt.{Scene, IsAt}
 use Rattle.papaya_executor.specs.declared.executor.Executor.{Executor}
 use Rattle.papaya_histories.specs.Given.Moments.Whole.{ShowsWhole}
 use Rattle.papaya_kept.specs.Kept.{ShowsKept}
-use Rattle.papaya_logged.specs.Makings.{given_back, numbers_then, MakingCame, MakingRan}
+use Rattle.papaya_logged.specs.Makings.{given_back, numbers_then, MakingCame, MakingRan, BelowIfRefused, CameBare, JustAsks}
+use Rattle.papaya_remains.specs.Numbered.{NumbersUpTo}
+use Rattle.papaya_remains.specs.Remains.{ShowsRemains}
+use Rattle.papaya_remains.specs.Slots.{SlotsNoted}
+use Rattle.papaya_logged.specs.Shown.{IsCounted}
 use Rattle.papaya_logged.specs.declared.logged.Logged.{Logged}
+use Rattle.papaya_logged.proofs.Counted.{numbers_as}
 
 -- without its last place a list reads the same, if there was none
 module _ {X : Type 0} (items : List (Option X)) (map : ℕ) (long : length items ≡ map + 1) (none : slice_index_or items map None ≡ None) where
@@ -93,6 +104,61 @@ module _ {K V S : Type 0} (same : K → K → Bool) (hash : K → ℕ) where
     at_given (progress.Done setting) came items = kept items
     at_given (progress.Refused fault) came items = dropped came.maker came.makers came.maps (length e.maps.items == map + 1) refl items
 
+-- where a number is given back there are so many
+pub numbers_given : (map : ℕ) (told : Progress Setting) (items : List (Option Setting)) → length (given_back map told items) ≡ numbers_then map told (length items)
+numbers_given map progress.Goes items = refl
+numbers_given map progress.Waits items = refl
+numbers_given map (progress.Done setting) items = refl
+numbers_given map (progress.Refused fault) items = by (length items == map + 1) refl
+  where
+    by : (q : Bool) → (length items == map + 1) ≡ q → length (if q then take map items else items) ≡ (if q then map else length items)
+    by true f = (let long = eqb-true (length items) (map + 1) f in length-take-le map items (omega (arith, long)))
+    by false f = refl
+
+-- it was refused
+abbrev IsRefused : Progress Setting → Type 0
+IsRefused (progress.Refused fault) = Unit {0}
+IsRefused _ = ⊥
+
+-- effects that just ask for growths leave maps and tables
+asks_leave : {K V : Type 0} (of : Option ℕ) (fs : List Effect) (m : Moment K V) → list_all is_growth fs ≡ true
+    → ((with_effects None of fs m).maps ≡ m.maps) × ((with_effects None of fs m).tables ≡ m.tables)
+asks_leave of [] m all = (refl, refl)
+asks_leave of (Asked growth ∷ fs) m all = asks_leave of fs (with_effect None of (Asked growth) m) all
+asks_leave of (_ ∷ fs) m all = absurd (cc all)
+
+-- so numbers are below the count still, with the number given back
+numbers_left : {K V : Type 0} (map count : ℕ) (of : Option ℕ) (fs : List Effect) (m : Moment K V) (told : Progress Setting) → NumbersUpTo count (with_effects None of fs m) → BelowIfRefused map told m
+    → (IsRefused told → list_all is_growth fs ≡ true) → NumbersUpTo (numbers_then map told count) (with_effects None of fs m)
+numbers_left map count of fs m progress.Goes numbers below asks = numbers
+numbers_left map count of fs m progress.Waits numbers below asks = numbers
+numbers_left map count of fs m (progress.Done setting) numbers below asks = numbers
+numbers_left {K} {V} map count of fs m (progress.Refused fault) numbers below asks = by (count == map + 1)
+  where
+    by : (q : Bool) → NumbersUpTo (if q then map else count) (with_effects None of fs m)
+    by true = (let left = asks_leave of fs m (asks tt) in numbers_as map m (with_effects None of fs m) left.0 left.1 below)
+    by false = numbers
+
+module _ {K V S : Type 0} (i map : ℕ) (told : Progress Setting) (mid new : Logged K V S) (notes : new.notes ≡ mid.notes) (is : new.executor ≡ record mid.executor { maps = new.executor.maps })
+    (items : new.executor.maps.items ≡ given_back map told mid.executor.maps.items) (of : Option ℕ) (fs : List Effect) (m : Moment K V) where
+  counted_given : (s s2 : Scene K V) (b : Beginning K) (came : MakingCame s s2 i b told) → BelowIfRefused map told m → (CameBare s s2 i b told came.maker → JustAsks b fs)
+      → IsCounted (with_effects None of fs m) mid s2 → IsCounted (with_effects None of fs m) new s2
+  counted_given s s2 b came below asks c = record {
+    numbered = record {
+      numbers = subst (λ (n : ℕ). NumbersUpTo n (with_effects None of fs m)) (sym (ap length items ∙ numbers_given map told mid.executor.maps.items))
+          (numbers_left map (length mid.executor.maps.items) of fs m told c.numbered.numbers below (just told came asks));
+      slots = subst (λ (n : Notes). SlotsNoted (known n) new.executor.memory.memory) (sym notes)
+          (subst (λ (x : Mem (Node K V)). SlotsNoted (known mid.notes) x) (sym (ap (λ (e : Executor K V S). e.memory.memory) is)) c.numbered.slots);
+    };
+    remains = subst (λ (r : ℕ). ShowsRemains r (with_effects None of fs m) s2) (sym (ap (λ (e : Executor K V S). e.roots) is)) c.remains;
+  }
+    where
+      just : (t : Progress Setting) (came : MakingCame s s2 i b t) → (CameBare s s2 i b t came.maker → JustAsks b fs) → IsRefused t → list_all is_growth fs ≡ true
+      just progress.Goes came asks refused = absurd refused
+      just progress.Waits came asks refused = absurd refused
+      just (progress.Done setting) came asks refused = absurd refused
+      just (progress.Refused fault) came asks refused = (asks tt).1
+
 -- what has run has so with the number given back
 pub ran_given : {K V S : Type 0} (i map : ℕ) (told : Progress Setting) (xs ys : List Effect) (old mid new : Logged K V S) → MakingRan i map told xs ys old mid → new.notes ≡ mid.notes
     → new.executor ≡ record mid.executor { maps = new.executor.maps } → new.executor.maps.items ≡ given_back map told mid.executor.maps.items → MakingRan i map told xs ys old new
@@ -105,31 +171,21 @@ ran_given {K} {V} {S} i map told xs ys old mid new ran notes is items = (
   λ same hash name m s shown b here of_map of.
       (let r = ran.3 same hash name m s shown b here of_map of in (
         r.0,
-        λ was_new.
-            (let u = r.1 was_new in (
+        λ was_new below.
+            (let u = r.1 was_new below in (
               u.0,
               u.1,
               record {
                 is_at = at_given same hash map i s u.0 old.executor shown.is_at b here of_map mid.executor new.executor is u.2.is_at told u.1 items;
                 shows = subst (λ (n : Notes). ShowsWhole {K = K} {V = V} same name (with_effects None of ran.0 m) (known n) u.0) (sym notes) u.2.shows;
                 kept = subst (λ (n : Notes). ShowsKept {K = K} {V = V} name (with_effects None of ran.0 m) (known n) u.0) (sym notes) u.2.kept;
+                counted = counted_given i map told mid new notes is items of ran.0 m s u.0 b u.1 below u.3 u.2.counted;
               },
               u.3,
               u.4,
             )),
       )),
 )
-
--- and there are so many numbers then
-pub numbers_given : (map : ℕ) (told : Progress Setting) (items : List (Option Setting)) → length (given_back map told items) ≡ numbers_then map told (length items)
-numbers_given map progress.Goes items = refl
-numbers_given map progress.Waits items = refl
-numbers_given map (progress.Done setting) items = refl
-numbers_given map (progress.Refused fault) items = by (length items == map + 1) refl
-  where
-    by : (q : Bool) → (length items == map + 1) ≡ q → length (if q then take map items else items) ≡ (if q then map else length items)
-    by true f = (let long = eqb-true (length items) (map + 1) f in length-take-le map items (omega (arith, long)))
-    by false f = refl
 
 -- the making's number has its place among so many
 pub has_place : {K V S : Type 0} (same : K → K → Bool) (hash : K → ℕ) (s : Scene K V) (i map : ℕ) {old : Executor K V S} → IsAt same hash old s → (b : Beginning K) → s.makers i ≡ Some b → b.map ≡ map

@@ -1,6 +1,6 @@
 -- The beginning of the making of a map is written down, and a step of it.
-use Rattle.std.specs.Prelude.{◌≡◌, ℕ, Bool, List, ◌++◌, Option, Some, None}
-use Rattle.std.proofs.Common.{refl, ap, subst, sym, ◌∙◌}
+use Rattle.std.specs.Prelude.{◌≡◌, ◌+◌, ℕ, Bool, List, ◌++◌, length, Option, Some, None}
+use Rattle.std.proofs.Common.{refl, ap, subst, sym, ◌∙◌, arith}
 use Rattle.seize.specs.World.{with_at}
 use Rattle.seize.specs.declared.progress.Progress.{Progress}
 use Rattle.seize.specs.declared.progress.Progress.TheVariants as progress
@@ -15,7 +15,7 @@ use Rattle.papaya_effects.specs.declared.notes.Notes.{Notes}
 use Rattle.papaya_effects.specs.declared.acting.Acting.TheVariants as acts
 use Rattle.papaya_effects.specs.declared.role.Role.TheVariants as role
 use Rattle.papaya_histories.specs.Given.Finishes.Makings.{Beginning}
-use Rattle.papaya_executor.specs.IsAt.{Scene, IsAt}
+use Rattle.papaya_executor.specs.IsAt.{Scene, IsAt, KeepsGiven}
 use Rattle.papaya_executor.specs.Making.{MakingLeads}
 use Rattle.papaya_executor.specs.MakingBegins.{MakingBegins, next_making}
 use Rattle.papaya_executor.specs.declared.executor.Executor.{Executor}
@@ -29,17 +29,18 @@ use Rattle.papaya_kept.specs.Kept.{ShowsKept}
 use Rattle.papaya_kept.proofs.Others.{makings_keep_kept}
 use Rattle.papaya_kept.proofs.Stays.{makings_begin_kept, stays_kept}
 use Rattle.papaya_logged.specs.Makings.{MakingIsBegun, MakingGoesOn, MakingSteps, MapIsThere, StaysNew}
-use Rattle.papaya_logged.specs.Shown.{IsShown}
+use Rattle.papaya_logged.specs.Shown.{IsCounted, IsShown}
 use Rattle.papaya_logged.specs.declared.logged.Logged.{Logged}
+use Rattle.papaya_logged.proofs.Counted.{counted_comes, counted_making_begins, counted_making_steps, numbers_within, same_memory}
 use Rattle.papaya_logged.proofs.MakingAsks.{making_asks}
 
 module _ {K V S : Type 0} (same : K → K → Bool) (hash : K → ℕ) where
   pub making_is_begun : (old new : Logged K V S) (given : Setting) (places i : ℕ)
       → ((s : Scene K V) → IsAt same hash old.executor s → MakingBegins same hash given places i s old.executor new.executor)
       → ((s : Scene K V) → IsAt same hash old.executor s → s.makers i ≡ None)
-      → new.notes ≡ old.notes
+      → new.notes ≡ old.notes → new.executor.roots ≡ old.executor.roots → length new.executor.maps.items ≡ length old.executor.maps.items + 1
       → (name : ℕ → List ℕ) (m : Moment K V) (s : Scene K V) → IsShown same hash name m old s → MakingIsBegun same hash name m s given places i old new
-  making_is_begun old new given places i begins fresh noted name m s shown lawful initial batches mask some sized =
+  making_is_begun old new given places i begins fresh noted roots count name m s shown lawful initial batches mask some sized =
       let b = next_making hash given places old.executor in
       record {
         is_at = (begins s shown.is_at lawful initial batches mask some sized).1;
@@ -47,6 +48,9 @@ module _ {K V S : Type 0} (same : K → K → Bool) (hash : K → ℕ) where
             (makings_begin_whole K V same name m (known old.notes) s shown.shows i b (λ none. none));
         kept = subst (λ (n : Notes). ShowsKept {K = K} {V = V} name m (known n) (record s { makers = with_at s.makers i (Some b) })) (sym noted)
             (makings_begin_kept K V name m (known old.notes) s shown.kept i b (fresh s shown.is_at));
+        counted = counted_making_begins same hash old new roots count noted
+            (same_memory same hash old.executor new.executor s (record s { makers = with_at s.makers i (Some b) }) shown.is_at (begins s shown.is_at lawful initial batches mask some sized).1 refl)
+            m s shown.counted i b (fresh s shown.is_at) (λ none. none);
       }
 
   -- the executor is there after each step
@@ -72,10 +76,18 @@ module _ {K V S : Type 0} (same : K → K → Bool) (hash : K → ℕ) where
     abbrev Then : (told : Progress Setting) → MakingLeads same hash i told s old.executor stepped → (b : Beginning K) → s.makers i ≡ Some b → Scene K V
     Then told leads b here = making_after same hash s old.executor stepped i b (leads b here).0 (leads b here).2.step.w2 told (leads b here).3
 
+    counted_of : (told : Progress Setting) (stepping : (s : Scene K V) → IsAt same hash old.executor s → MakingLeads same hash i told s old.executor stepped)
+        → known notes ≡ known_after (acts.Making map) stepped.memory.changed (known old.notes) → KeepsGiven old.executor stepped → (b : Beginning K) (here : s.makers i ≡ Some b) → b.map ≡ map → (of : Option ℕ)
+        → IsCounted (with_effects None of (effects_of (acts.Making map) (known old.notes) stepped.memory.changed) m) then_logged (Then told (stepping s shown.is_at) b here)
+    counted_of told stepping noted keeps b here of_map of =
+        subst (λ (n : ℕ). IsCounted (with_effects None of (effects_of (acts.Making n) (known old.notes) stepped.memory.changed) m) then_logged (Then told (stepping s shown.is_at) b here)) of_map
+        (counted_making_steps same hash old stepped notes keeps m s shown.is_at shown.counted i told (stepping s shown.is_at) b here of
+        (noted ∙ ap (λ (n : ℕ). known_after (acts.Making n) stepped.memory.changed (known old.notes)) (sym of_map)))
+
     making_so : (told : Progress Setting) → ((s : Scene K V) → IsAt same hash old.executor s → MakingLeads same hash i told s old.executor stepped)
-        → known notes ≡ known_after (acts.Making map) stepped.memory.changed (known old.notes)
+        → known notes ≡ known_after (acts.Making map) stepped.memory.changed (known old.notes) → KeepsGiven old.executor stepped
         → MakingGoesOn same hash name m s i map told (effects_of (acts.Making map) (known old.notes) stepped.memory.changed) old then_logged
-    making_so told stepping noted b here of_map =
+    making_so told stepping noted keeps b here of_map =
         let leads = stepping s shown.is_at in (
           leads,
           λ bare. making_asks map (known old.notes) old.executor.memory.memory stepped.memory.memory stepped.memory.changed b.machine told (leads b here).0 (leads b here).1
@@ -94,6 +106,7 @@ module _ {K V S : Type 0} (same : K → K → Bool) (hash : K → ℕ) where
                   (λ new. makings_keep_kept K V S same hash name m (known old.notes) s old.executor stepped shown.is_at shown.shows shown.kept i told leads b here of new
                   (is_there old.executor stepped s i told leads b here)
                   (makings_keep_whole K V S same hash name m (known old.notes) s old.executor stepped shown.is_at shown.shows i told leads b here of new).all.shown) was_new);
+              counted = counted_of told stepping noted keeps b here of_map of;
             },
           ),
         )
@@ -103,20 +116,22 @@ pub making_steps : {K V S : Type 0} (old new : Logged K V S) (stepped : Executor
     → ((same : K → K → Bool) (hash : K → ℕ) (s : Scene K V) → IsAt same hash old.executor s → MakingLeads same hash i told s old.executor stepped)
     → after ≡ before ++ effects_of (acts.Making map) (known old.notes) stepped.memory.changed
     → known new.notes ≡ known_after (acts.Making map) stepped.memory.changed (known old.notes)
-    → new.executor ≡ stepped → MakingSteps i map told before after old new
-making_steps {K} {V} {S} old new stepped i map told before after stepping did noted executor =
+    → new.executor ≡ stepped → KeepsGiven old.executor stepped → MakingSteps i map told before after old new
+making_steps {K} {V} {S} old new stepped i map told before after stepping did noted executor keeps =
     let effects = effects_of (acts.Making map) (known old.notes) stepped.memory.changed in (
       effects,
       did,
       λ same hash name m s shown. subst (λ (e : Executor K V S). MakingGoesOn same hash name m s i map told effects old (record { executor = e; notes = new.notes })) (sym executor)
-          (making_so same hash old stepped new.notes i map name m s shown told (stepping same hash) noted),
+          (making_so same hash old stepped new.notes i map name m s shown told (stepping same hash) noted keeps),
     )
 
 -- Where its map comes by the next number, all is shown as before.
 pub map_is_there : {K V S : Type 0} (l : Logged K V S) → MapIsThere l
-map_is_there {K} {V} l same hash name m s shown numbers there next =
+map_is_there {K} {V} l same hash name m s shown numbers there next below free root =
     record {
       is_at = shown.is_at;
       shows = maps_come_whole K V same name m (known l.notes) s shown.shows there (maps_come_by_number K V m numbers there next).1;
       kept = stays_kept K V name m (with_map there m) (known l.notes) s s shown.kept refl refl refl refl refl refl refl refl;
+      counted = counted_comes l m s shown.counted there
+          (numbers_within (length l.executor.maps.items) (with_map there m) (maps_come_by_number K V m numbers there next).0 (omega (arith, below))) free root;
     }

@@ -32,7 +32,7 @@ use Rattle.papaya_executor.specs.declared.worker.Work.TheVariants as work
 use Rattle.papaya_executor.proofs.Forgotten.{as_step}
 use Rattle.papaya_histories.specs.Given.Others.Makings.{WasNew, making_after}
 use Rattle.papaya_histories.proofs.Given.Moments.After.{effects_after}
-use Rattle.papaya_logged.specs.Makings.{is_over, HasTable, IsBare, JustAsks, StaysNew, CameBare, MakingCame, MakingSteps, MakingIsAt, MakingRan}
+use Rattle.papaya_logged.specs.Makings.{BelowIfRefused, is_over, HasTable, IsBare, JustAsks, StaysNew, CameBare, MakingCame, MakingSteps, MakingIsAt, MakingRan}
 use Rattle.papaya_logged.specs.Shown.{IsShown}
 use Rattle.papaya_logged.specs.declared.logged.Logged.{Logged}
 use Rattle.papaya_logged.proofs.MakingSteps.{is_there}
@@ -202,7 +202,7 @@ module _ {K V S : Type 0} (i map : ℕ) where
     [],
     sym (append-nil xs),
     λ same hash s at b here of_map. (s, came_first s i b here, at),
-    λ same hash name m s shown b here of_map of. (λ setting is_new. is_new, λ was_new. (s, came_first s i b here, shown, λ bare. (bare, refl), tt)),
+    λ same hash name m s shown b here of_map of. (λ setting is_new. is_new, λ was_new below. (s, came_first s i b here, shown, λ bare. (bare, refl), tt)),
   )
 
   -- and one step more
@@ -224,25 +224,25 @@ module _ {K V S : Type 0} (i map : ℕ) where
       v = with_effects None of ran.0 m
 
       was : StaysNew map progress.Goes m v
-          × (Unit {0} → (s1 : Scene K V) × (came : MakingCame s s1 i b progress.Goes) × IsShown same hash name v mid s1 × (CameBare s s1 i b progress.Goes came.maker → JustAsks b ran.0) × HasTable progress.Goes b v)
+          × (Unit {0} → Unit {0} → (s1 : Scene K V) × (came : MakingCame s s1 i b progress.Goes) × IsShown same hash name v mid s1 × (CameBare s s1 i b progress.Goes came.maker → JustAsks b ran.0) × HasTable progress.Goes b v)
       was = ran.3 same hash name m s shown b here of_map of
 
       after_it : with_effects None of (ran.0 ++ step.0) m ≡ with_effects None of step.0 v
       after_it = effects_after None of ran.0 step.0 m
 
       shown_on : StaysNew map told m (with_effects None of (ran.0 ++ step.0) m)
-          × (WasNew map told m
+          × (WasNew map told m → BelowIfRefused map told m
           → (s2 : Scene K V) × (came : MakingCame s s2 i b told) × IsShown same hash name (with_effects None of (ran.0 ++ step.0) m) new s2
           × (CameBare s s2 i b told came.maker → JustAsks b (ran.0 ++ step.0)) × HasTable told b (with_effects None of (ran.0 ++ step.0) m))
       shown_on =
-          let u = was.1 tt in
+          let u = was.1 tt tt in
           let b1 : Beginning K = record b { machine = u.1.maker.0 } in
           let to = step.2 same hash name v u.0 u.2 b1 u.1.maker.1 of_map in
           let leads = to.0 in
           let goes = to.2 of in
           let s2 : Scene K V = making_after same hash u.0 mid.executor new.executor i b1 (leads b1 u.1.maker.1).0 (leads b1 u.1.maker.1).2.step.w2 told (leads b1 u.1.maker.1).3 in (
             stays_on map m v was.0 told (with_effects None of (ran.0 ++ step.0) m) (subst (λ (x : Moment K V). StaysNew map told v x) (sym after_it) goes.0),
-            λ was_new. (
+            λ was_new below. (
                 let came : MakingCame s s2 i b told = came_on s i b same hash mid.executor new.executor u.0 u.1 told leads in
                 let there : IsShown same hash name (with_effects None of (ran.0 ++ step.0) m) new s2 =
                 subst (λ (x : Moment K V). IsShown same hash name x new s2) (sym after_it) (goes.1 (new_there map m v was.0 told was_new)) in (

@@ -10,7 +10,7 @@ use Rattle.papaya_effects.specs.Effects.{effects_of, known_after}
 use Rattle.papaya_effects.specs.Known.{Known, known}
 use Rattle.papaya_effects.specs.declared.notes.Notes.{Notes}
 use Rattle.papaya_effects.specs.declared.acting.Acting.TheVariants as acts
-use Rattle.papaya_executor.specs.IsAt.{Scene, IsAt, slot_of}
+use Rattle.papaya_executor.specs.IsAt.{Scene, IsAt, KeepsGiven, slot_of}
 use Rattle.papaya_executor.specs.OnSlots.{RowBegins, RowLeads}
 use Rattle.papaya_executor.specs.Rows.{request_of}
 use Rattle.papaya_executor.specs.declared.executor.Executor.{Executor}
@@ -24,13 +24,14 @@ use Rattle.papaya_kept.proofs.Others.{rows_begin_kept, rows_keep_kept, rows_find
 use Rattle.papaya_logged.specs.OnSlots.{OnSlotBegins, OnSlotGoesOn, OnSlotSteps}
 use Rattle.papaya_logged.specs.Shown.{IsShown}
 use Rattle.papaya_logged.specs.declared.logged.Logged.{Logged}
+use Rattle.papaya_logged.proofs.Counted.{counted_row_begins, counted_row_steps}
 
 module _ {K V S : Type 0} (same : K → K → Bool) (hash : K → ℕ) where
   pub on_slot_begins : (old new : Logged K V S) (called : SlotCall) (i : ℕ)
       → ((s : Scene K V) → IsAt same hash old.executor s → RowBegins same hash called i s old.executor new.executor)
-      → new.notes ≡ old.notes
+      → new.notes ≡ old.notes → KeepsGiven old.executor new.executor
       → (name : ℕ → List ℕ) (m : Moment K V) (s : Scene K V) → IsShown same hash name m old s → OnSlotBegins same hash name m s called i old new
-  on_slot_begins old new called i begins noted name m s shown may =
+  on_slot_begins old new called i begins noted given name m s shown may =
       let leads = begins s shown.is_at in
       let event : Event (Node K V) = Begin i (request_of (slot_of i) called) in (
         leads,
@@ -40,15 +41,16 @@ module _ {K V S : Type 0} (same : K → K → Bool) (hash : K → ℕ) where
               (rows_begin_whole K V S same hash name m (known old.notes) s old.executor new.executor shown.is_at shown.shows called i may leads);
           kept = subst (λ (n : Notes). ShowsKept {K = K} {V = V} name m (known n) (scene_then same hash event s old.executor new.executor (leads may).3)) (sym noted)
               (rows_begin_kept K V S same hash name m (known old.notes) s old.executor new.executor shown.is_at shown.kept called i may leads);
+          counted = counted_row_begins same hash old new given noted m s shown.is_at shown.counted called i may leads;
         },
       )
 
   on_slot_so : (old : Logged K V S) (stepped : Executor K V S) (notes : Notes) (i : ℕ) (told : RowTold (Node K V))
       → ((s : Scene K V) → IsAt same hash old.executor s → RowLeads same hash i told s old.executor stepped)
-      → known notes ≡ known_after acts.Row stepped.memory.changed (known old.notes)
+      → known notes ≡ known_after acts.Row stepped.memory.changed (known old.notes) → KeepsGiven old.executor stepped
       → (name : ℕ → List ℕ) (m : Moment K V) (s : Scene K V) → IsShown same hash name m old s
       → OnSlotGoesOn same hash name m s i told (effects_of acts.Row (known old.notes) stepped.memory.changed) old (record { executor = stepped; notes = notes })
-  on_slot_so old stepped notes i told stepping noted name m s shown row here =
+  on_slot_so old stepped notes i told stepping noted given name m s shown row here =
       let leads = stepping s shown.is_at in
       let effects = effects_of acts.Row (known old.notes) stepped.memory.changed in
       let finds = rows_find_kept K V S same hash name m (known old.notes) s old.executor stepped shown.is_at shown.shows shown.kept i told leads row here in (
@@ -59,6 +61,7 @@ module _ {K V S : Type 0} (same : K → K → Bool) (hash : K → ℕ) where
               (rows_keep_whole K V S same hash name m (known old.notes) s old.executor stepped shown.is_at shown.shows i told leads row here finds.0 finds.1);
           kept = subst (λ (k : Known). ShowsKept {K = K} {V = V} name (with_effects None None effects m) k (scene_then same hash (Step i) s old.executor stepped (leads row here).4)) (sym noted)
               (rows_keep_kept K V S same hash name m (known old.notes) s old.executor stepped shown.is_at shown.shows shown.kept i told leads row here);
+          counted = counted_row_steps same hash old stepped notes given m s shown.is_at shown.counted i told leads row here noted;
         },
       )
 
@@ -67,11 +70,11 @@ pub on_slot_steps : {K V S : Type 0} (old new : Logged K V S) (stepped : Executo
     → ((same : K → K → Bool) (hash : K → ℕ) (s : Scene K V) → IsAt same hash old.executor s → RowLeads same hash i told s old.executor stepped)
     → after ≡ before ++ effects_of acts.Row (known old.notes) stepped.memory.changed
     → known new.notes ≡ known_after acts.Row stepped.memory.changed (known old.notes)
-    → new.executor ≡ stepped → OnSlotSteps i told before after old new
-on_slot_steps {K} {V} {S} old new stepped i told before after stepping did noted executor =
+    → new.executor ≡ stepped → KeepsGiven old.executor stepped → OnSlotSteps i told before after old new
+on_slot_steps {K} {V} {S} old new stepped i told before after stepping did noted executor given =
     let effects = effects_of acts.Row (known old.notes) stepped.memory.changed in (
       effects,
       did,
       λ same hash name m s shown. subst (λ (e : Executor K V S). OnSlotGoesOn same hash name m s i told effects old (record { executor = e; notes = new.notes })) (sym executor)
-          (on_slot_so same hash old stepped new.notes i told (stepping same hash) noted name m s shown),
+          (on_slot_so same hash old stepped new.notes i told (stepping same hash) noted given name m s shown),
     )

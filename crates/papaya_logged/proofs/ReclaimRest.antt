@@ -135,7 +135,7 @@ module _ {K V S : Type 0} (same : K → K → Bool) (hash : K → ℕ) (name : �
 
   pub reclaiming_keeps : ShowsKept name (with_effects None None effects m) (known_after Row new.memory.changed known) s2
   reclaiming_keeps =
-      let comes = reclaiming_comes same hash name m known s whole kept.waiting kept.once kept.retired no_table old new i lists before after told at leads in
+      let comes = reclaiming_comes same hash name m known s whole kept.waiting kept.once kept.retired kept.lying no_table old new i lists before after told at leads in
       record {
         entries = record { blank = λ b its. as_blank leads.1.w2.memory b (zeros_then b its); one = λ map j u is. none_under_way map j u is };
         made = record {
@@ -155,6 +155,7 @@ module _ {K V S : Type 0} (same : K → K → Bool) (hash : K → ℕ) (name : �
         handing = λ map j u is busy c c_is. none_under_way map j u is;
         waiting = comes.waits;
         once = comes.alone;
+        lying = comes.lies;
         retired = comes.had;
         left = where_none_is_left K V (known_after Row new.memory.changed known) s2 comes.none_left;
       }

@@ -12,14 +12,15 @@ use Rattle.papaya_effects.specs.Effects.{effects_of, known_after}
 use Rattle.papaya_effects.specs.Known.{Known, known}
 use Rattle.papaya_effects.specs.declared.acting.Acting.TheVariants.{Row}
 use Rattle.papaya_effects.specs.declared.notes.Notes.{Notes}
-use Rattle.papaya_executor.specs.IsAt.{Scene}
+use Rattle.papaya_executor.specs.IsAt.{Scene, KeepsGiven}
 use Rattle.papaya_executor.specs.declared.executor.Executor.{Executor}
 use Rattle.papaya_reclaiming.specs.Reclaiming.{IsReclaiming, ReclaimingLeads, ReclaimingComesTo}
 use Rattle.papaya_histories.specs.Given.Moments.Whole.{ShowsWhole}
 use Rattle.papaya_kept.specs.Kept.{ShowsKept}
 use Rattle.papaya_logged.specs.Reclaims.{ReclaimingIsShown, ReclaimingThen, ReclaimingGoesOn, ReclaimingSteps}
-use Rattle.papaya_logged.specs.Shown.{IsShown}
+use Rattle.papaya_logged.specs.Shown.{AreNumbered, IsShown}
 use Rattle.papaya_logged.specs.declared.logged.Logged.{Logged}
+use Rattle.papaya_logged.proofs.ReclaimNumbered.{reclaiming_numbered}
 use Rattle.papaya_logged.proofs.ReclaimRest.{reclaiming_found, reclaiming_keeps}
 use Rattle.papaya_logged.proofs.ReclaimSteps.{reclaiming_whole}
 
@@ -27,7 +28,7 @@ module _ {K V S : Type 0} (same : K → K → Bool) (hash : K → ℕ) where
   -- it begins where the executor is shown
   pub reclaiming_begins : (l : Logged K V S) (name : ℕ → List ℕ) (m : Moment K V) (s : Scene K V) (i : ℕ) (lists : ℕ → List ℕ) (all : ReclaimAll) → IsShown same hash name m l s
       → IsReclaiming same hash l.executor s i lists all → ReclaimingIsShown same hash name m l s i lists all
-  reclaiming_begins l name m s i lists all shown at = record { under_way = at; shows = shown.shows; kept = shown.kept }
+  reclaiming_begins l name m s i lists all shown at = record { under_way = at; shows = shown.shows; kept = shown.kept; numbered = shown.counted.numbered }
 
   module _ (old : Logged K V S) (stepped : Executor K V S) (notes : Notes) (name : ℕ → List ℕ) (m : Moment K V) (s : Scene K V) (i : ℕ) (lists : ℕ → List ℕ) (before after : ReclaimAll) where
     abbrev moment_then : Moment K V
@@ -37,18 +38,18 @@ module _ {K V S : Type 0} (same : K → K → Bool) (hash : K → ℕ) where
     then_logged = record { executor = stepped; notes = notes }
 
     then_so : (to : Scene K V) (lists2 : ℕ → List ℕ) (told : Settled (Node K V)) → ReclaimingComesTo same hash s i lists old.executor stepped to lists2 after told
-        → ShowsWhole same name moment_then (known notes) to → ShowsKept name moment_then (known notes) to
+        → ShowsWhole same name moment_then (known notes) to → ShowsKept name moment_then (known notes) to → AreNumbered moment_then then_logged
         → ReclaimingThen same hash name moment_then s i lists to lists2 after old then_logged told
-    then_so to lists2 settled.Goes comes shows kept = record { under_way = comes; shows = shows; kept = kept }
-    then_so to lists2 settled.Waits comes shows kept = record { under_way = comes; shows = shows; kept = kept }
-    then_so to lists2 (settled.Gave value) comes shows kept = record { under_way = comes; shows = shows; kept = kept }
-    then_so to lists2 settled.Done comes shows kept = (comes.0, record { is_at = comes.1; shows = shows; kept = kept })
+    then_so to lists2 settled.Goes comes shows kept numbered = record { under_way = comes; shows = shows; kept = kept; numbered = numbered }
+    then_so to lists2 settled.Waits comes shows kept numbered = record { under_way = comes; shows = shows; kept = kept; numbered = numbered }
+    then_so to lists2 (settled.Gave value) comes shows kept numbered = record { under_way = comes; shows = shows; kept = kept; numbered = numbered }
+    then_so to lists2 settled.Done comes shows kept numbered = (comes.0, record { is_at = comes.1; shows = shows; kept = kept; numbered = numbered })
 
     reclaiming_so : (told : Settled (Node K V))
         → ((s : Scene K V) (i : ℕ) (lists : ℕ → List ℕ) → IsReclaiming same hash old.executor s i lists before → ReclaimingLeads same hash s i lists old.executor stepped before after told)
-        → known notes ≡ known_after Row stepped.memory.changed (known old.notes) → ReclaimingIsShown same hash name m old s i lists before
+        → known notes ≡ known_after Row stepped.memory.changed (known old.notes) → KeepsGiven old.executor stepped → ReclaimingIsShown same hash name m old s i lists before
         → ReclaimingGoesOn same hash name m s i lists before after told (effects_of Row (known old.notes) stepped.memory.changed) old then_logged
-    reclaiming_so told stepping noted shown =
+    reclaiming_so told stepping noted given shown =
         let leads = stepping s i lists shown.under_way in
         let to : Scene K V = record s { world = leads.1.w2; maps = leads.1.maps2 } in
         let found = reclaiming_found same hash name m (known old.notes) s shown.shows shown.kept old.executor stepped i lists before after told shown.under_way leads in (
@@ -58,7 +59,8 @@ module _ {K V S : Type 0} (same : K → K → Bool) (hash : K → ℕ) where
               (subst (λ (k : Known). ShowsWhole {K = K} {V = V} same name moment_then k to) (sym noted)
               (reclaiming_whole same hash name m (known old.notes) s shown.shows old.executor stepped i lists before after told shown.under_way leads found.0 found.1))
               (subst (λ (k : Known). ShowsKept {K = K} {V = V} name moment_then k to) (sym noted)
-              (reclaiming_keeps same hash name m (known old.notes) s shown.shows shown.kept old.executor stepped i lists before after told shown.under_way leads)),
+              (reclaiming_keeps same hash name m (known old.notes) s shown.shows shown.kept old.executor stepped i lists before after told shown.under_way leads))
+              (reclaiming_numbered same hash name m (known old.notes) s shown.shows old.executor stepped notes i lists before after told shown.under_way leads given noted shown.numbered.numbers shown.numbered.slots),
         )
 
 -- The step was taken, and then the memory was noted: the executor stayed as it was.
@@ -67,12 +69,12 @@ pub reclaiming_steps : {K V S : Type 0} (old new : Logged K V S) (stepped : Exec
     → ReclaimingLeads same hash s i lists old.executor stepped before after told)
     → has ≡ had ++ effects_of Row (known old.notes) stepped.memory.changed
     → known new.notes ≡ known_after Row stepped.memory.changed (known old.notes)
-    → new.executor ≡ stepped → ReclaimingSteps before after told had has old new
-reclaiming_steps {K} {V} {S} old new stepped before after told had has stepping did noted executor =
+    → new.executor ≡ stepped → KeepsGiven old.executor stepped → ReclaimingSteps before after told had has old new
+reclaiming_steps {K} {V} {S} old new stepped before after told had has stepping did noted executor given =
     let effects = effects_of Row (known old.notes) stepped.memory.changed in (
       effects,
       did,
       λ same hash name m s i lists shown.
           subst (λ (e : Executor K V S). ReclaimingGoesOn same hash name m s i lists before after told effects old (record { executor = e; notes = new.notes })) (sym executor)
-          (reclaiming_so same hash old stepped new.notes name m s i lists before after told (stepping same hash) noted shown),
+          (reclaiming_so same hash old stepped new.notes name m s i lists before after told (stepping same hash) noted given shown),
     )

@@ -11,6 +11,7 @@ use Rattle.papaya_schedules.specs.Effects.{with_effect, with_effects, AtEachEffe
 use Rattle.papaya_schedules.specs.Moment.{Moment}
 use Rattle.papaya_executor.specs.IsAt.{Scene}
 use Rattle.papaya_histories.specs.Given.Finishes.Maps.{IsSameMap, Standing}
+use Rattle.papaya_reclaims.specs.Reclaims.{AllIsReclaimed}
 use Rattle.papaya_reclaiming.specs.Reclaiming.{IsReclaiming, MayReclaim, NobodyHas, ReclaimingComesTo, ReclaimingLeads}
 use Rattle.papaya_histories.specs.Given.Spots.OnSlots.{WaitUnreclaimed}
 use Rattle.papaya_histories.proofs.Given.Moments.After.{effects_after}
@@ -120,11 +121,11 @@ module _ {K V S : Type 0} where
   pub reclaims_last : (taken : Bool) (first now next : ReclaimAll) (old mid new : Logged K V S) (xs ys zs : List Effect)
       → ((same : K → K → Bool) (hash : K → ℕ) (name : ℕ → List ℕ) (m : Moment K V) (s : Scene K V) (i : ℕ) (lists : ℕ → List ℕ) → IsShown same hash name m old s
       → NobodyHas old.executor → MayReclaim old.executor s lists taken → ReclaimingIsShown same hash name m old s i lists first)
-      → ReclaimingSoFar first now xs ys old mid → (told : Settled (Node K V)) → is_done told ≡ true → ReclaimingSteps now next told ys zs mid new
+      → mid.executor.roots ≡ old.executor.roots → ReclaimingSoFar first now xs ys old mid → (told : Settled (Node K V)) → is_done told ≡ true → ReclaimingSteps now next told ys zs mid new
       → ((same : K → K → Bool) (hash : K → ℕ) (s : Scene K V) (i : ℕ) (lists : ℕ → List ℕ) → IsReclaiming same hash mid.executor s i lists now
       → ReclaimingLeads same hash s i lists mid.executor new.executor now next told)
       → ReclaimingRan taken xs zs old new
-  reclaims_last taken first now next old mid new xs ys zs begins so settled.Done over step stepping = (
+  reclaims_last taken first now next old mid new xs ys zs begins roots so settled.Done over step stepping = (
     so.0 ++ step.0,
     did_so first now next old mid new xs ys zs so settled.Done step stepping,
     λ same hash name m s lists shown nobody may.
@@ -132,12 +133,12 @@ module _ {K V S : Type 0} where
         let to = shown_then first now next old mid new xs ys zs so settled.Done step stepping same hash name m s 0 lists there in (
           s2 first now next old mid new xs ys zs so settled.Done step stepping same hash name m s 0 lists there,
           came_then first now next old mid new xs ys zs so settled.Done step stepping same hash name m s 0 lists there,
-          to.0.nothing,
-          to.0.carry,
+          subst (λ (r : ℕ). AllIsReclaimed r (s2 first now next old mid new xs ys zs so settled.Done step stepping same hash name m s 0 lists there).world
+          (s2 first now next old mid new xs ys zs so settled.Done step stepping same hash name m s 0 lists there).maps) roots to.0,
           to.1,
           retired_then first now next old mid new xs ys zs so settled.Done step stepping same hash name m s 0 lists there,
         )),
   )
-  reclaims_last taken first now next old mid new xs ys zs begins so settled.Goes over step stepping = absurd (cc over)
-  reclaims_last taken first now next old mid new xs ys zs begins so settled.Waits over step stepping = absurd (cc over)
-  reclaims_last taken first now next old mid new xs ys zs begins so (settled.Gave value) over step stepping = absurd (cc over)
+  reclaims_last taken first now next old mid new xs ys zs begins roots so settled.Goes over step stepping = absurd (cc over)
+  reclaims_last taken first now next old mid new xs ys zs begins roots so settled.Waits over step stepping = absurd (cc over)
+  reclaims_last taken first now next old mid new xs ys zs begins roots so (settled.Gave value) over step stepping = absurd (cc over)

@@ -10,7 +10,7 @@ use Rattle.papaya_effects.specs.Effects.{effects_of, known_after}
 use Rattle.papaya_effects.specs.Known.{Known, known}
 use Rattle.papaya_effects.specs.declared.notes.Notes.{Notes}
 use Rattle.papaya_effects.specs.declared.acting.Acting.TheVariants as acts
-use Rattle.papaya_executor.specs.IsAt.{Scene, IsAt}
+use Rattle.papaya_executor.specs.IsAt.{Scene, IsAt, KeepsGiven}
 use Rattle.papaya_executor.specs.Stepping.{StepLeads, scene_after}
 use Rattle.papaya_executor.specs.declared.executor.Executor.{Executor}
 use Rattle.papaya_histories.proofs.Given.Moments.Calls.{calls_keep_whole}
@@ -20,15 +20,16 @@ use Rattle.papaya_kept.proofs.Calls.{calls_keep_kept}
 use Rattle.papaya_logged.specs.Calling.{CallGoesOn}
 use Rattle.papaya_logged.specs.Shown.{IsShown}
 use Rattle.papaya_logged.specs.declared.logged.Logged.{Logged}
+use Rattle.papaya_logged.proofs.Counted.{counted_call_steps}
 
 module _ {K V S : Type 0} (same : K → K → Bool) (hash : K → ℕ) where
   goes_so : (old : Logged K V S) (stepped : Executor K V S) (notes : Notes) (i map : ℕ) (told : Progress (Node K V)) (before after : List Effect)
       → ((s : Scene K V) → IsAt same hash old.executor s → StepLeads same hash i told s old.executor stepped)
       → after ≡ before ++ effects_of (acts.Call i map) (known old.notes) stepped.memory.changed
-      → known notes ≡ known_after (acts.Call i map) stepped.memory.changed (known old.notes)
+      → known notes ≡ known_after (acts.Call i map) stepped.memory.changed (known old.notes) → KeepsGiven old.executor stepped
       → (name : ℕ → List ℕ) (m : Moment K V) (s : Scene K V) → IsShown same hash name m old s
       → CallGoesOn same hash name m s i map told before after old (record { executor = stepped; notes = notes })
-  goes_so old stepped notes i map told before after stepping did noted name m s shown u here =
+  goes_so old stepped notes i map told before after stepping did noted given name m s shown u here =
       let leads = stepping s shown.is_at in
       let to = leads map u here in
       let effects = effects_of (acts.Call i map) (known old.notes) stepped.memory.changed in (
@@ -41,6 +42,7 @@ module _ {K V S : Type 0} (same : K → K → Bool) (hash : K → ℕ) where
               (calls_keep_whole K V S same hash name m (known old.notes) s old.executor stepped shown.is_at shown.shows map i u here told leads);
           kept = subst (λ (k : Known). ShowsKept {K = K} {V = V} name (with_effects (Some (name i)) (Some map) effects m) k (scene_after same hash s old.executor stepped map i to.0 u to.1 told to.4)) (sym noted)
               (calls_keep_kept K V S same hash name m (known old.notes) s old.executor stepped shown.is_at shown.shows shown.kept map i u here told leads);
+          counted = counted_call_steps same hash old stepped notes given m s shown.is_at shown.counted map i u here told leads (name i) noted;
         },
       )
 
@@ -49,8 +51,8 @@ module _ {K V S : Type 0} (same : K → K → Bool) (hash : K → ℕ) where
       → ((s : Scene K V) → IsAt same hash old.executor s → StepLeads same hash i told s old.executor stepped)
       → after ≡ before ++ effects_of (acts.Call i map) (known old.notes) stepped.memory.changed
       → known new.notes ≡ known_after (acts.Call i map) stepped.memory.changed (known old.notes)
-      → new.executor ≡ stepped
+      → new.executor ≡ stepped → KeepsGiven old.executor stepped
       → (name : ℕ → List ℕ) (m : Moment K V) (s : Scene K V) → IsShown same hash name m old s → CallGoesOn same hash name m s i map told before after old new
-  goes_on old new stepped i map told before after stepping did noted executor name m s shown =
+  goes_on old new stepped i map told before after stepping did noted executor given name m s shown =
       subst (λ (e : Executor K V S). CallGoesOn same hash name m s i map told before after old (record { executor = e; notes = new.notes })) (sym executor)
-      (goes_so old stepped new.notes i map told before after stepping did noted name m s shown)
+      (goes_so old stepped new.notes i map told before after stepping did noted given name m s shown)

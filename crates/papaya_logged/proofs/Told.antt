@@ -6,7 +6,7 @@ use Rattle.papaya_raw.specs.declared.machines.asking.Reply.{Reply as MachineRepl
 use Rattle.papaya_schedules.specs.Moment.{Moment}
 use Rattle.papaya_effects.specs.Known.{known}
 use Rattle.papaya_effects.specs.declared.notes.Notes.{Notes}
-use Rattle.papaya_executor.specs.IsAt.{Scene, IsAt, slot_of}
+use Rattle.papaya_executor.specs.IsAt.{Scene, IsAt, KeepsGiven, slot_of}
 use Rattle.papaya_executor.specs.Replying.{ReplyLeads, AskLeads, StopLeads, scene_with, unless_stopped}
 use Rattle.papaya_histories.specs.Given.Finishes.Machines.{machine_of, ToldOfKind}
 use Rattle.papaya_histories.specs.Given.Finishes.Maps.{with_call}
@@ -21,8 +21,23 @@ use Rattle.papaya_histories.specs.Given.Others.Walks.{given_up}
 use Rattle.papaya_logged.specs.Calling.{CallTakes, WalkGoesOn, WalkStops}
 use Rattle.papaya_logged.specs.Shown.{IsShown}
 use Rattle.papaya_logged.specs.declared.logged.Logged.{Logged}
+use Rattle.papaya_logged.proofs.Counted.{counted_stays, same_memory}
 
-module _ {K V S : Type 0} (same : K → K → Bool) (hash : K → ℕ) (old new : Logged K V S) (noted : new.notes ≡ old.notes) (i : ℕ) where
+-- where a walk is given up, maps and what they have left over are as they were
+module _ {K V : Type 0} (own : List ℕ) (m : Moment K V) where
+  given_maps : (stopped : Bool) → (given_up own stopped m).maps ≡ m.maps
+  given_maps true = refl
+  given_maps false = refl
+
+  given_tables : (stopped : Bool) → (given_up own stopped m).tables ≡ m.tables
+  given_tables true = refl
+  given_tables false = refl
+
+  given_remains : (stopped : Bool) → (given_up own stopped m).remains ≡ m.remains
+  given_remains true = refl
+  given_remains false = refl
+
+module _ {K V S : Type 0} (same : K → K → Bool) (hash : K → ℕ) (old new : Logged K V S) (noted : new.notes ≡ old.notes) (given : KeepsGiven old.executor new.executor) (i : ℕ) where
   -- with the same notes
   noted_so : (name : ℕ → List ℕ) (m : Moment K V) (s : Scene K V) → ShowsWhole same name m (known old.notes) s → ShowsWhole same name m (known new.notes) s
   noted_so name m s shows = subst (λ (n : Notes). ShowsWhole {K = K} {V = V} same name m (known n) s) (sym noted) shows
@@ -45,6 +60,8 @@ module _ {K V S : Type 0} (same : K → K → Bool) (hash : K → ℕ) (old new 
           shows = noted_so name (told_so (name i) is_told m) (scene_with map i to.1 s) whole;
           kept = kept_so name (told_so (name i) is_told m) (scene_with map i to.1 s)
               (calls_take_kept K V S same hash name m (known old.notes) s old.executor new.executor shown.is_at shown.shows shown.kept map i u here (as_told is_told) to.1 next_is is_told to.7 whole.all.shown);
+          counted = counted_stays old new given noted m (told_so (name i) is_told m) s (scene_with map i to.1 s) shown.counted (same_memory same hash old.executor new.executor s (scene_with map i to.1 s) shown.is_at to.7 refl)
+              refl refl refl refl refl refl refl;
         },
       )
 
@@ -61,6 +78,8 @@ module _ {K V S : Type 0} (same : K → K → Bool) (hash : K → ℕ) (old new 
             is_at = to.4;
             shows = noted_so name m (scene_with map i to.0 s) (walks_go_on_whole K V S same hash name m (known old.notes) s old.executor new.executor shown.shows i asked map u here);
             kept = kept_so name m (scene_with map i to.0 s) (walks_go_on_kept K V S same hash name m (known old.notes) s old.executor new.executor shown.shows shown.kept i asked map u here);
+            counted = counted_stays old new given noted m m s (scene_with map i to.0 s) shown.counted (same_memory same hash old.executor new.executor s (scene_with map i to.0 s) shown.is_at to.4 refl)
+                refl refl refl refl refl refl refl;
           },
         ),
   )
@@ -77,5 +96,7 @@ module _ {K V S : Type 0} (same : K → K → Bool) (hash : K → ℕ) (old new 
           shows = noted_so name (given_up (name i) stopped m) after (walks_stop_whole K V S same hash name m (known old.notes) s old.executor new.executor shown.shows i stopped asked map u here none);
           kept = kept_so name (given_up (name i) stopped m) after
               (walks_stop_kept K V S same hash name m (known old.notes) s old.executor new.executor shown.is_at shown.shows shown.kept i stopped asked map u here none);
+          counted = counted_stays old new given noted m (given_up (name i) stopped m) s after shown.counted (same_memory same hash old.executor new.executor s after shown.is_at to.2 refl)
+              (given_maps (name i) m stopped) (given_tables (name i) m stopped) (given_remains (name i) m stopped) refl refl refl refl;
         },
       )

@@ -1,5 +1,5 @@
 -- Where the beginning of the end of a map leads, a step of it, and its run to the end; and what they do.
-use Rattle.std.specs.Prelude.{◌≡◌, ◌≢◌, ◌<◌, ◌≤◌, ℕ, Bool, true, false, List, [], ◌++◌, flat_map, Some, None}
+use Rattle.std.specs.Prelude.{◌≡◌, ◌≢◌, ◌<◌, ◌≤◌, ℕ, Bool, true, false, List, [], ◌++◌, length, filter, flat_map, Some, None, if◌then◌else◌}
 use Rattle.seize.specs.World.{times}
 use Rattle.seize.specs.declared.rows.settle.Settled.{Settled}
 use Rattle.seize.specs.declared.rows.settle.Settled.TheVariants as settled
@@ -11,15 +11,16 @@ use Rattle.papaya_raw.specs.declared.machines.end_map.EndMap.{EndMap}
 use Rattle.papaya_histories.specs.Given.Rule.Chart.{Chart}
 use Rattle.papaya_histories.specs.Given.Rule.Words.{Blocks}
 use Rattle.papaya_schedules.specs.declared.effect.Effect.{Effect}
+use Rattle.papaya_schedules.specs.After.{if_any}
 use Rattle.papaya_schedules.specs.Effects.{with_effects}
 use Rattle.papaya_schedules.specs.Handing.{EndsMap}
-use Rattle.papaya_schedules.specs.Moment.{MapThere, Remains, Moment}
-use Rattle.papaya_schedules.specs.Views.{map_at}
+use Rattle.papaya_schedules.specs.Moment.{MapThere, Moment}
+use Rattle.papaya_schedules.specs.Views.{map_at, map_of}
 use Rattle.papaya_effects.specs.Effects.{taken_by}
 use Rattle.papaya_effects.specs.Known.{Known, known}
 use Rattle.papaya_effects.specs.declared.acting.Acting.TheVariants.{Ending}
 use Rattle.papaya_effects.specs.declared.role.Role.TheVariants as role
-use Rattle.papaya_histories.specs.Given.Finishes.Endings.{Finishing, AllPairsOnce}
+use Rattle.papaya_histories.specs.Given.Finishes.Endings.{Finishing, AllPairsOnce, waiting_by}
 use Rattle.papaya_histories.specs.Given.Finishes.FactsEnds.{RootIs, back_of, taken_by as taken_of}
 use Rattle.papaya_histories.specs.Given.Finishes.Maps.{Standing}
 use Rattle.papaya_executor.specs.Ending.{EndingLeads, NoCallOn, ending_begun}
@@ -28,7 +29,9 @@ use Rattle.papaya_histories.specs.Given.Follows.Maps.{table_of}
 use Rattle.papaya_histories.specs.Given.Others.Endings.{ending_after, without_map}
 use Rattle.papaya_histories.specs.Given.Moments.Numbers.{AreFound}
 use Rattle.papaya_histories.specs.Given.Moments.WholeEnds.{all_ended}
+use Rattle.papaya_remains.specs.Remains.{has_some}
 use Rattle.papaya_logged.specs.Shown.{IsShown}
+use Rattle.papaya_logged.specs.Waits.{TellsWaiting}
 use Rattle.papaya_logged.specs.declared.logged.Logged.{Logged}
 
 -- an end is over
@@ -56,16 +59,17 @@ NotedStill first now back = (b : ℕ) → times b back ≡ 0 → now.roles b ≡
 
 module _ {K V S : Type 0} (same : K → K → Bool) (hash : K → ℕ) (name : ℕ → List ℕ) (m : Moment K V) (s : Scene K V) where
   -- The end of a map that stands, and on which nobody has a call, is under way, and the moment shows that, as it is. Its pairs are to be reclaimed, each once; and if all of
-  -- it ended at this moment, that would be a whole end of it.
+  -- it ended at this moment, that would be a whole end of it. If nobody ended a map, it has left nothing over so far.
   abbrev pub EndIsBegun : (map i : ℕ) → (old new : Logged K V S) → Type 0
   EndIsBegun map i old new =
       NoCallOn old.executor map
       → (standing : Standing K) × (s.maps map ≡ Some standing) × AllPairsOnce (is_incremental standing.setting.mode) standing.chart
       × ((number : ℕ → ℕ) × NotesMap map number (known new.notes) standing.setting standing.chart standing.blocks × AllEnds map (all_ended (is_incremental standing.setting.mode) map number standing.chart) m)
       × IsShown same hash name m new (ending_begun map i standing s)
+      × (((j : ℕ) → s.enders j ≡ None) → TellsWaiting map standing.chart m m (known new.notes) (ending_begun map i standing s).world false)
 
   -- A step of a caller's end of the map of this number, of which this was noted as it began. The pair, or the table, that it reclaims ends with the map, and it does
-  -- nothing else. The moment after it shows where the step has led.
+  -- nothing else. The moment after it shows where the step has led, and what it has left over tells what waited as before.
   abbrev pub EndGoesOn : (i map : ℕ) → Settled (Node K V) → List Effect → (old new : Logged K V S) → Type 0
   EndGoesOn i map said did old new =
       (f : Finishing K V) (here : s.enders i ≡ Some f) → s.maps map ≡ None
@@ -74,6 +78,9 @@ module _ {K V S : Type 0} (same : K → K → Bool) (hash : K → ℕ) (name : �
       × (did ≡ ended_as map first (taken_of (leads f here).2.deed))
       × NotedStill first (known new.notes) (f.back ++ taken_of (leads f here).2.deed)
       × IsShown same hash name (with_effects None (Some map) did m) new (ending_after same hash s new.executor i f (leads f here).0 (leads f here).2.w2 (leads f here).2.deed said (leads f here).3)
+      × ((began : Moment K V) → TellsWaiting map f.chart began m (known old.notes) s.world (has_some f.waits)
+      → TellsWaiting map f.chart began (with_effects None (Some map) did m) (known new.notes) (leads f here).2.w2
+      (if is_done said then has_some f.waits else has_some (f.waits ++ waiting_by (leads f here).2.deed)))
 
 -- Where an end has come that was there so, and has reclaimed these further blocks: it goes on, as another machine; or it is over, has reclaimed all that it was to, and what
 -- it left over waits behind its root, which is free without that. All else that is under way is so as before, and so are the maps that stand, and the uses of slots.
@@ -82,6 +89,11 @@ module _ {K V : Type 0} (s s2 : Scene K V) (i : ℕ) (f : Finishing K V) (gone :
   EnderIs false = (machine : EndMap) × (waits : List ℕ) × (s2.enders i ≡ Some (record f { machine = machine; back = f.back ++ gone; waits = waits }))
   EnderIs true =
       (s2.enders i ≡ None) × (f.back ++ gone ≡ back_of f.setting f.chart f.blocks (λ t. []) false) × ((waits : List ℕ) × RootIs {K = K} f.setting s2.world.memory waits)
+
+  -- what it has left over
+  abbrev pub left_so : (over : Bool) → EnderIs over → List ℕ
+  left_so false ender = ender.1
+  left_so true ender = ender.2.0
 
   pub record EndCame (over : Bool) : Type 0 where
     pub ender : EnderIs over
@@ -105,14 +117,16 @@ module _ {K V S : Type 0} where
     EndIsAt = (f : Finishing K V) → s.enders i ≡ Some f → (s2 : Scene K V) × (gone : List ℕ) × EndCame s s2 i f gone over × IsAt same hash new.executor s2
 
     -- and so it is shown. What it did is that these blocks end with the map; the whole end of a map is that all of
-    -- it ends.
+    -- it ends. What it has left over tells what waited as it began.
     abbrev pub EndIsShown : (ℕ → List ℕ) → (map : ℕ) → (old : Logged K V S) → List Effect → Moment K V → Type 0
     EndIsShown name map old did m =
         (f : Finishing K V) → s.enders i ≡ Some f → s.maps map ≡ None
         → (number : ℕ → ℕ) (first : Known) → NotesMap map number first f.setting f.chart f.blocks → NotedStill first (known old.notes) f.back
-        → (s2 : Scene K V) × (gone : List ℕ) × EndCame s s2 i f gone over × (did ≡ ended_as map first gone) × NotedStill first (known new.notes) (f.back ++ gone)
+        → (s2 : Scene K V) × (gone : List ℕ) × (came : EndCame s s2 i f gone over) × (did ≡ ended_as map first gone) × NotedStill first (known new.notes) (f.back ++ gone)
         × IsShown same hash name (with_effects None (Some map) did m) new s2
         × (over ≡ true → f.back ≡ [] → did ≡ all_ended (is_incremental f.setting.mode) map number f.chart)
+        × ((began : Moment K V) → TellsWaiting map f.chart began m (known old.notes) s.world (has_some f.waits)
+        → TellsWaiting map f.chart began (with_effects None (Some map) did m) (known new.notes) s2.world (has_some (left_so s s2 i f gone over came.ender)))
 
   -- So it is of several steps.
   abbrev pub EndRan : (i map : ℕ) → Bool → (before after : List Effect) → (old new : Logged K V S) → Type 0
@@ -121,10 +135,12 @@ module _ {K V S : Type 0} where
       × ((same : K → K → Bool) (hash : K → ℕ) (s : Scene K V) → IsAt same hash old.executor s → EndIsAt same hash s i over new)
       × ((same : K → K → Bool) (hash : K → ℕ) (name : ℕ → List ℕ) (m : Moment K V) (s : Scene K V) → IsShown same hash name m old s → EndIsShown same hash s i over new name map old did m)
 
-  -- and once it is over, a moment shows it without the map, too, whatever that has left over: no map that stands has its name, and each one is found by its number.
+  -- And once it is over, and nobody ends a map, a moment shows it without the map, too, with these pairs as what it has left over, if something is behind its root just where there are some: no map
+  -- that stands has its name, no other one there has it, and each one is found by its number.
   abbrev pub EndIsOver : Logged K V S → Type 0
   EndIsOver new =
-      (same : K → K → Bool) (hash : K → ℕ) (name : ℕ → List ℕ) (m : Moment K V) (s : Scene K V) → IsShown same hash name m new s
-      → (own : List ℕ) (remains : List Remains) → AreFound m
+      (same : K → K → Bool) (hash : K → ℕ) (name : ℕ → List ℕ) (m : Moment K V) (s : Scene K V) (shown : IsShown same hash name m new s)
+      → (own : List ℕ) (f : MapThere) → map_of own m ≡ Some f → length (filter (λ g. is_same g.name own) m.maps) ≤ 1 → ((j : ℕ) → s.enders j ≡ None)
+      → (pairs : List ℕ) → has_some (shown.counted.remains.lists f.root) ≡ has_some pairs → AreFound m
       → ((map : ℕ) (standing : Standing K) (there : MapThere) → s.maps map ≡ Some standing → map_at map m ≡ Some there → is_same there.name own ≡ false)
-      → IsShown same hash name (without_map own remains m) new s
+      → IsShown same hash name (without_map own (if_any f.root pairs m.remains) m) new s

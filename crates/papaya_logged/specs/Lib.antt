@@ -4,6 +4,7 @@ pub mod OnSlots
 pub mod Ended
 pub mod Makings
 pub mod Roots
+pub mod Waits
 pub mod Ends
 pub mod Reclaims
 pub mod Back

@@ -13,9 +13,10 @@ use Rattle.papaya_histories.specs.Given.Resize.declared.new_map.Opening.TheVaria
 use Rattle.papaya_histories.specs.Given.Resize.declared.new_table.Making.{Making}
 use Rattle.papaya_histories.specs.Given.Resize.declared.new_table.Making.TheVariants as makes
 use Rattle.papaya_schedules.specs.declared.effect.Effect.{Effect}
-use Rattle.papaya_schedules.specs.Beginning.{with_map}
+use Rattle.papaya_schedules.specs.Beginning.{used_roots, with_map}
 use Rattle.papaya_schedules.specs.Effects.{with_effects}
 use Rattle.papaya_schedules.specs.InTurn.{is_growth}
+use Rattle.papaya_schedules.specs.Lists.{is_among}
 use Rattle.papaya_schedules.specs.Moment.{MapThere, Moment}
 use Rattle.papaya_schedules.specs.Views.{tables_of}
 use Rattle.papaya_histories.specs.Given.Points.Steps.{AreLawful}
@@ -26,6 +27,7 @@ use Rattle.papaya_executor.specs.Making.{MakingLeads}
 use Rattle.papaya_executor.specs.MakingBegins.{next_making}
 use Rattle.papaya_histories.specs.Given.Others.Makings.{IsNew, WasNew, making_after}
 use Rattle.papaya_histories.specs.Given.Moments.Numbers.{NumbersMaps}
+use Rattle.papaya_remains.specs.Numbered.{NumbersUpTo}
 use Rattle.papaya_logged.specs.Shown.{IsShown}
 use Rattle.papaya_logged.specs.declared.logged.Logged.{Logged}
 
@@ -43,6 +45,11 @@ given_back map _ maps = maps
 abbrev pub numbers_then : ℕ → Progress Setting → ℕ → ℕ
 numbers_then map (progress.Refused fault) count = if count == map + 1 then map else count
 numbers_then map _ count = count
+
+-- where its number is given back, each number that is used is below it
+abbrev pub BelowIfRefused : {K V : Type 0} → ℕ → Progress Setting → Moment K V → Type 0
+BelowIfRefused map (progress.Refused fault) m = NumbersUpTo map m
+BelowIfRefused map _ m = Unit {0}
 
 -- a map that is there as a new one stays so while its making goes on
 abbrev pub StaysNew : {K V : Type 0} → ℕ → Progress Setting → Moment K V → Moment K V → Type 0
@@ -150,7 +157,7 @@ module _ {K V S : Type 0} where
     MakingIsShown name m =
         (b : Beginning K) → s.makers i ≡ Some b → b.map ≡ map → (of : Option ℕ)
         → StaysNew map told m (with_effects None of did m)
-        × (WasNew map told m
+        × (WasNew map told m → BelowIfRefused map told m
         → (s2 : Scene K V) × (came : MakingCame s s2 i b told) × IsShown same hash name (with_effects None of did m) new s2 × (CameBare s s2 i b told came.maker → JustAsks b did)
         × HasTable told b (with_effects None of did m))
 
@@ -161,8 +168,9 @@ module _ {K V S : Type 0} where
       × ((same : K → K → Bool) (hash : K → ℕ) (s : Scene K V) → IsAt same hash old.executor s → MakingIsAt same hash s i map told did old new)
       × ((same : K → K → Bool) (hash : K → ℕ) (name : ℕ → List ℕ) (m : Moment K V) (s : Scene K V) → IsShown same hash name m old s → MakingIsShown same hash s i map told did old new name m)
 
-  -- Where the map comes by the next number, the moment shows the executor as before.
+  -- Where the map comes by the next number, which the executor has given, with a root that is not used, the moment shows the executor as before.
   abbrev pub MapIsThere : Logged K V S → Type 0
   MapIsThere l =
       (same : K → K → Bool) (hash : K → ℕ) (name : ℕ → List ℕ) (m : Moment K V) (s : Scene K V) → IsShown same hash name m l s
-      → NumbersMaps m → (there : MapThere) → there.number ≡ m.made → IsShown same hash name (with_map there m) l s
+      → NumbersMaps m → (there : MapThere) → there.number ≡ m.made → m.made < length l.executor.maps.items
+      → is_among there.root (used_roots m) ≡ false → there.root < l.executor.roots → IsShown same hash name (with_map there m) l s

@@ -3,22 +3,19 @@ use Rattle.std.specs.Prelude.{◌≡◌, ℕ, Bool, List, ◌++◌, None, option
 use Rattle.seize.specs.declared.rows.reclaim_all.ReclaimAll.{ReclaimAll}
 use Rattle.seize.specs.declared.rows.settle.Settled.{Settled}
 use Rattle.seize.specs.declared.rows.settle.Settled.TheVariants as settled
-use Rattle.papaya_owned.specs.Given.SeizeActs.Reclaimed.{HasNothingLeft}
-use Rattle.papaya_histories.specs.Given.Tables.Nodes.{deferred_word}
 use Rattle.papaya_histories.specs.Given.Tables.declared.node.Node.{Node}
 use Rattle.papaya_schedules.specs.declared.effect.Effect.{Effect}
 use Rattle.papaya_schedules.specs.Effects.{with_effects, AtEachEffect}
 use Rattle.papaya_schedules.specs.Moment.{Moment}
 use Rattle.papaya_effects.specs.Known.{known}
-use Rattle.papaya_reclaims.specs.Deferred.{TablesCarryPairs}
 use Rattle.papaya_reclaims.specs.Reclaims.{AllIsReclaimed}
-use Rattle.papaya_executor.specs.IsAt.{Scene}
+use Rattle.papaya_executor.specs.IsAt.{Scene, IsAt}
 use Rattle.papaya_reclaiming.specs.Reclaiming.{IsReclaiming, MayReclaim, NobodyHas, ReclaimingLeads}
 use Rattle.papaya_histories.specs.Given.Spots.OnSlots.{WaitUnreclaimed}
 use Rattle.papaya_histories.specs.Given.Moments.OnSlots.{HadRetired}
 use Rattle.papaya_histories.specs.Given.Moments.Whole.{ShowsWhole}
 use Rattle.papaya_kept.specs.Kept.{ShowsKept}
-use Rattle.papaya_logged.specs.Shown.{IsShown}
+use Rattle.papaya_logged.specs.Shown.{AreNumbered, IsShown}
 use Rattle.papaya_logged.specs.declared.logged.Logged.{Logged}
 
 module _ {K V S : Type 0} (same : K → K → Bool) (hash : K → ℕ) (name : ℕ → List ℕ) where
@@ -27,11 +24,19 @@ module _ {K V S : Type 0} (same : K → K → Bool) (hash : K → ℕ) (name : �
     pub under_way : IsReclaiming same hash l.executor s i lists all
     pub shows : ShowsWhole same name m (known l.notes) s
     pub kept : ShowsKept name m (known l.notes) s
+    pub numbered : AreNumbered m l
+
+  -- So it is once all is reclaimed, when nothing is left over, whatever the moment tells of that.
+  pub record AllIsShown (m : Moment K V) (l : Logged K V S) (s : Scene K V) : Type 0 where
+    pub is_at : IsAt same hash l.executor s
+    pub shows : ShowsWhole same name m (known l.notes) s
+    pub kept : ShowsKept name m (known l.notes) s
+    pub numbered : AreNumbered m l
 
   module _ (m : Moment K V) (s : Scene K V) (i : ℕ) (lists : ℕ → List ℕ) where
     -- what is shown after a step: it goes on; or it is over, all is reclaimed, and the moment shows the executor
     abbrev pub ReclaimingThen : Scene K V → (ℕ → List ℕ) → ReclaimAll → (old new : Logged K V S) → Settled (Node K V) → Type 0
-    ReclaimingThen s2 lists2 after old new settled.Done = AllIsReclaimed old.executor.roots s2.world s2.maps × IsShown same hash name m new s2
+    ReclaimingThen s2 lists2 after old new settled.Done = AllIsReclaimed old.executor.roots s2.world s2.maps × AllIsShown m new s2
     ReclaimingThen s2 lists2 after old new _ = ReclaimingIsShown m new s2 i lists2 after
 
 -- each table that is reclaimed was retired, and what waits behind that is not reclaimed
@@ -72,12 +77,11 @@ module _ {K V S : Type 0} where
       × ((same : K → K → Bool) (hash : K → ℕ) (name : ℕ → List ℕ) (m : Moment K V) (s : Scene K V) (i : ℕ) (lists : ℕ → List ℕ) → ReclaimingIsShown same hash name m old s i lists first
       → (s2 : Scene K V) × (lists2 : ℕ → List ℕ) × ReclaimingCame s s2 × ReclaimingIsShown same hash name (with_effects None None did m) mid s2 i lists2 now × ReclaimRetired did m)
 
-  -- It has run to its end: nothing is left of what was retired, no slot is in use, and a moment shows the executor; each table that was reclaimed was retired, and what waited
+  -- It has run to its end: all is reclaimed, and a moment shows the executor so; each table that was reclaimed was retired, and what waited
   -- behind that was not reclaimed.
   abbrev pub ReclaimingRan : Bool → (before after : List Effect) → (old new : Logged K V S) → Type 0
   ReclaimingRan taken before after old new =
       (did : List Effect) × (after ≡ before ++ did)
       × ((same : K → K → Bool) (hash : K → ℕ) (name : ℕ → List ℕ) (m : Moment K V) (s : Scene K V) (lists : ℕ → List ℕ) → IsShown same hash name m old s
       → NobodyHas old.executor → MayReclaim old.executor s lists taken
-      → (s2 : Scene K V) × ReclaimingCame s s2 × HasNothingLeft deferred_word s2.world × TablesCarryPairs s2.world s2.maps
-      × IsShown same hash name (with_effects None None did m) new s2 × ReclaimRetired did m)
+      → (s2 : Scene K V) × ReclaimingCame s s2 × AllIsReclaimed old.executor.roots s2.world s2.maps × AllIsShown same hash name (with_effects None None did m) new s2 × ReclaimRetired did m)

@@ -1,22 +1,28 @@
 -- Each step leaves numbers of maps below the next one that the executor gives.
-use Rattle.std.specs.Prelude.{◌⊎◌, ◌≤◌, ◌<◌, ◌==◌, find, List, [], ◌∷◌, length, Option, Some, None, option_map}
+use Rattle.std.specs.Prelude.{◌⊎◌, ◌≤◌, ◌<◌, ◌==◌, find, List, [], ◌∷◌, length, Option, Some, None, option_map, nat_lt, ◌&&◌, if◌then◌else◌}
 use Rattle.std.specs.List.{All}
-use Rattle.std.proofs.Common.{◌≡◌, ℕ, zero, suc, Bool, inl, inr, refl, ap, sym, subst, ◌∙◌, arith}
+use Rattle.std.proofs.Common.{◌≡◌, ℕ, zero, suc, Bool, true, false, inl, inr, refl, ap, sym, subst, ◌∙◌, arith}
 use Rattle.std.proofs.lemmas.Bool.{cases_lt}
 use Rattle.std.proofs.lemmas.List.{get_or_past, length-map}
+use Rattle.papaya_moments.specs.Given.SeizeWords.declared.at.At.TheVariants.{Root, Used, Slot, Entry, Word}
+use Rattle.papaya_moments.specs.Given.Teller.declared.changed.Changed.{Changed}
+use Rattle.papaya_moments.specs.Given.Teller.declared.changed.Changed.TheVariants as changed
 use Rattle.papaya_moments.specs.Given.Teller.declared.changed.Changed.TheVariants.{Took}
 use Rattle.papaya_moments.specs.Given.Schedules.declared.effect.Effect.{Effect}
-use Rattle.papaya_moments.specs.Given.Schedules.declared.effect.Effect.TheVariants.{Taken}
+use Rattle.papaya_moments.specs.Given.Schedules.declared.effect.Effect.TheVariants.{Asked, Taken}
+use Rattle.papaya_moments.specs.Given.Schedules.declared.effect.Growth.TheVariants.{ABucket}
 use Rattle.papaya_moments.specs.Given.Schedules.declared.effect.Table.{Table}
 use Rattle.papaya_moments.specs.Given.Schedules.Effects.{at_stage, maps_by, tables_by, with_effect, with_effects}
-use Rattle.papaya_moments.specs.Given.Schedules.Moment.{IsTaken, MapThere, Moment, TableThere}
-use Rattle.papaya_moments.specs.Given.Effects.Effects.{effects_of}
+use Rattle.papaya_moments.specs.Given.Schedules.Moment.{IsReclaimed, IsTaken, MapThere, Moment, TableThere}
+use Rattle.papaya_moments.specs.Given.Effects.Effects.{names_same, taken_by, effects_of}
 use Rattle.papaya_moments.specs.Given.Effects.Known.{Known}
 use Rattle.papaya_moments.specs.Given.Effects.declared.acting.Acting.TheVariants as acts
+use Rattle.papaya_moments.specs.Given.Effects.declared.role.Role.{Role}
 use Rattle.papaya_moments.specs.Given.Effects.declared.role.Role.TheVariants as role
 use Rattle.papaya_moments.specs.Given.Executor.IsAt.{Scene, IsAt}
 use Rattle.papaya_moments.specs.Given.Executor.declared.executor.Executor.{Executor}
 use Rattle.papaya_moments.specs.Given.Finishes.Maps.{Standing}
+use Rattle.papaya_moments.proofs.Given.Others.RowPlans.{TellsRow}
 use Rattle.papaya_moments.specs.Numbers.{NumbersMaps}
 use Rattle.papaya_moments.proofs.Numbers.{rows_keep_numbers, steps_keep_numbers}
 use Rattle.papaya_remains.specs.Numbered.{CallsKeepCount, EndsKeepCount, MakingsKeepCount, MoreAreCounted, NumbersUpTo, RowsKeepCount}
@@ -28,7 +34,7 @@ module _ {K V : Type 0} (caller : Option (List ℕ)) (acted : Option ℕ) where
   alike_then [] x y maps tables = (maps, tables)
   alike_then (f ∷ effects) x y maps tables = alike_then effects (with_effect caller acted f x) (with_effect caller acted f y) (ap (maps_by f) maps) (ap (tables_by f) tables)
 
-  made_stays : (effects : List Effect) (x : Moment K V) → (with_effects caller acted effects x).made ≡ x.made
+  pub made_stays : (effects : List Effect) (x : Moment K V) → (with_effects caller acted effects x).made ≡ x.made
   made_stays [] x = refl
   made_stays (f ∷ effects) x = made_stays effects (with_effect caller acted f x)
 
@@ -45,7 +51,7 @@ module _ {K V : Type 0} (caller : Option (List ℕ)) (acted : Option ℕ) where
 
 -- a map that stands has a number
 module _ {K V S : Type 0} (same : K → K → Bool) (hash : K → ℕ) (e : Executor K V S) (s : Scene K V) (at : IsAt same hash e s) where
-  standing_below : (n : ℕ) (st : Standing K) → s.maps n ≡ Some st → n < length e.maps.items
+  pub standing_below : (n : ℕ) (st : Standing K) → s.maps n ≡ Some st → n < length e.maps.items
   standing_below n st here = by (cases_lt n (length e.maps.items))
     where
       by : (n < length e.maps.items) ⊎ (length e.maps.items ≤ n) → n < length e.maps.items
@@ -69,6 +75,46 @@ module _ (K V S : Type 0) (same : K → K → Bool) (hash : K → ℕ) where
   makings_keep_count m known s old new at numbers i b here caller acted =
       to_count caller acted (effects_of (acts.Making b.map) known new.memory.changed) m (length old.maps.items)
       (steps_keep_numbers K V (record m { made = length old.maps.items }) numbers caller acted (acts.Making b.map) known new.memory.changed (at.numbers i b here))
+
+-- where all numbers are below none there is no table
+module _ {K V : Type 0} (m : Moment K V) (known : Known) (numbers : NumbersUpTo 0 m) where
+  zero_taken : (r : Role) → NumbersUpTo 0 (with_effects None None (taken_by acts.Row r) m)
+  zero_taken role.Free = numbers
+  zero_taken (role.OwnPair i) = record { found = numbers.found; below = numbers.below; tables = numbers.tables }
+  zero_taken (role.OwnTable turn shape) = record { found = numbers.found; below = numbers.below; tables = numbers.tables }
+  zero_taken (role.Counter n) = numbers
+  zero_taken (role.Pair n) = record { found = numbers.found; below = numbers.below; tables = numbers.tables }
+  zero_taken (role.Table t len) = record {
+    found = numbers.found;
+    below = numbers.below;
+    tables = λ k d l. absurd (let long = length-map m.tables (at_stage t IsReclaimed) in let b = numbers.tables k d (omega (arith, l, long)) in omega (arith, b));
+  }
+
+  zero_nothing : (q : Bool) → NumbersUpTo 0 (with_effects None None (if q then [] else []) m)
+  zero_nothing true = numbers
+  zero_nothing false = numbers
+
+  zero_roomed : (q : Bool) → NumbersUpTo 0 (with_effects None None (if q then [] else Asked ABucket ∷ []) m)
+  zero_roomed true = numbers
+  zero_roomed false = record { found = numbers.found; below = numbers.below; tables = numbers.tables }
+
+  zero_told : (told : Changed) → TellsRow told → NumbersUpTo 0 (with_effects None None (effects_of acts.Row known told) m)
+  zero_told changed.Nothing is = numbers
+  zero_told (changed.Wrote (Slot t field) before after) is = numbers
+  zero_told (changed.Wrote (Entry x field) before after) is = zero_nothing (names_same before after)
+  zero_told (changed.Wrote (Root r) before after) is = absurd is
+  zero_told (changed.Wrote (Used r) before after) is = absurd is
+  zero_told (changed.Wrote (Word x field) before after) is = absurd is
+  zero_told (changed.Made kind x) is = absurd is
+  zero_told (changed.Unmade kind) is = absurd is
+  zero_told (changed.Took x) is = zero_taken (known.roles x)
+  zero_told (changed.Roomed bucket had) is = zero_roomed (had && nat_lt bucket known.buckets)
+
+-- what a row tells leaves numbers below the count
+pub told_keeps_count : {K V : Type 0} (m : Moment K V) (known : Known) (count : ℕ) → NumbersUpTo count m → (told : Changed) → TellsRow told → NumbersUpTo count (with_effects None None (effects_of acts.Row known told) m)
+told_keeps_count m known zero numbers told tells = zero_told m known numbers told tells
+told_keeps_count {K} {V} m known (suc n) numbers told tells =
+    to_count None None (effects_of acts.Row known told) m (suc n) (steps_keep_numbers K V (record m { made = suc n }) numbers None None acts.Row known told (omega arith))
 
 pub more_are_counted : (K V : Type 0) → MoreAreCounted K V
 more_are_counted K V m count more numbers = record {

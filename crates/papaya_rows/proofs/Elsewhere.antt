@@ -1,5 +1,5 @@
 -- What is nothing to what is shown: of a moment all but its pairs, maps, tables and calls.
-use Rattle.std.specs.Prelude.{ℕ, Bool, List}
+use Rattle.std.specs.Prelude.{◌≡◌, ℕ, Bool, List}
 use Rattle.std.proofs.Common.{refl}
 use Rattle.papaya_histories.specs.Given.Runs.Present.{Present}
 use Rattle.papaya_histories.specs.Given.Schedules.Moment.{Remains, Sheltered, Moment}
@@ -10,6 +10,9 @@ use Rattle.papaya_histories.specs.Given.Follows.Maps.{ShowsMap}
 use Rattle.papaya_histories.specs.Given.Moments.Whole.{ShowsWhole}
 use Rattle.papaya_kept.specs.Kept.{ShowsKept}
 use Rattle.papaya_kept.proofs.Stays.{stays_kept}
+use Rattle.papaya_remains.proofs.Stays.{stays_remain}
+use Rattle.papaya_logged.specs.Shown.{AreNumbered, IsCounted}
+use Rattle.papaya_logged.specs.declared.logged.Logged.{Logged}
 
 -- the moment with other events so far, guards and sections, and with other remains of maps
 abbrev pub elsewhere : {K V : Type 0} → ℕ → Bool → Bool → Bool → Present → ℕ → List Sheltered → List Remains → Moment K V → Moment K V
@@ -54,6 +57,17 @@ module _ {K V : Type 0} (m : Moment K V) (known : Known) (events : ℕ) (is_mapp
         counters = whole.counters;
       }
 
+  -- numbers are so
+  pub numbered_elsewhere : {S : Type 0} (l : Logged K V S) → AreNumbered m l → AreNumbered v l
+  numbered_elsewhere l n = record { numbers = (let x = n.numbers in record { found = x.found; below = x.below; tables = x.tables }); slots = n.slots }
+
   -- and what every step keeps is so then
   pub kept_elsewhere : (name : ℕ → List ℕ) (s : Scene K V) → ShowsKept name m known s → ShowsKept name v known s
   kept_elsewhere name s kept = stays_kept K V name m v known s s kept refl refl refl refl refl refl refl refl
+
+  -- so are numbers, and what ended maps have left over, where the moment tells the same remains
+  pub counted_elsewhere : {S : Type 0} (l : Logged K V S) (s : Scene K V) → remains ≡ m.remains → IsCounted m l s → IsCounted v l s
+  counted_elsewhere l s alike c = record {
+    numbered = numbered_elsewhere l c.numbered;
+    remains = stays_remain K V l.executor.roots m v s s c.remains refl alike refl refl refl refl;
+  }

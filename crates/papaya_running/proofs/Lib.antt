@@ -8,3 +8,5 @@ mod LawfulKeys
 mod Left
 mod Logs
 mod Turns
+mod Counts
+mod Held

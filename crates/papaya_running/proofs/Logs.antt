@@ -147,7 +147,7 @@ found_last p f x is (y ∷ xs) = by (p y) (found_last p f x is xs)
     by false ih = ih
 
 module _ {K V S : Type 0} (same : K → K → Bool) (hash : K → ℕ) (terms : Terms) (m : Moment K V) (p : Scheduler K V S) (stands : StandsFor same hash terms m p) (next : length p.logged.executor.maps.items ≡ m.made) where
-  called_so : (own : List ℕ) → option_map (λ c. c.map) (call_of own m) ≡ called_map own p
+  pub called_so : (own : List ℕ) → option_map (λ c. c.map) (call_of own m) ≡ called_map own p
   called_so own =
       sym (seen_map (call_of own m)) ∙ ap (option_map (λ (z : Seen). z.map)) (found_alike seen seen_of m.calls p.calls.items.items stands.calls.listed (λ z. is_same z.name own))
       ∙ seen_map_of (find (is_named own) p.calls.items.items)

@@ -3,6 +3,7 @@ use Rattle.std.specs.Prelude.{◌≡◌, ◌==◌, ℕ, Bool, true, false, List,
 use Rattle.papaya_histories.specs.Given.Points.Steps.{AreLawful}
 use Rattle.papaya_schedules.specs.declared.event.Event.{Event}
 use Rattle.papaya_schedules.specs.declared.event.Event.TheVariants.{ReclaimAll, Close, MakeMap, EndMap, ShowShape, Begin, Step, Go, Replied, OneCall, Next, Stop}
+use Rattle.papaya_schedules.specs.declared.outcome.Outcome.{Outcome}
 use Rattle.papaya_schedules.specs.After.{moment}
 use Rattle.papaya_schedules.specs.Beginning.{at_work}
 use Rattle.papaya_schedules.specs.Entry.{Entry, acting, caller_of}
@@ -10,7 +11,7 @@ use Rattle.papaya_schedules.specs.InTurn.{is_kept_out}
 use Rattle.papaya_schedules.specs.Moment.{Moment}
 use Rattle.papaya_schedules.specs.Steps.{DoesFew, MakesSteps, stands_or}
 use Rattle.papaya_schedules.specs.Terms.{Terms}
-use Rattle.papaya_scheduler.specs.Mapping.{CountsMaps}
+use Rattle.papaya_scheduler.specs.Mapping.{CountsMaps, numbers_made}
 use Rattle.papaya_scheduler.specs.Played.{Plays, StandsFor, entry_of, IsPlayed}
 use Rattle.papaya_scheduler.specs.Reclaiming.{MayGiveAll}
 use Rattle.papaya_scheduler.specs.declared.played.Played.{Played}
@@ -57,6 +58,11 @@ module _ {K V : Type 0} where
   takes_steps (Next caller) = true
   takes_steps _ = false
 
+  -- so many maps have a number after an event, of so many before: one that is made has the next one
+  abbrev pub numbers_on : Event K V → Outcome V → ℕ → ℕ
+  numbers_on (MakeMap name mode capacity) outcome count = numbers_made outcome count
+  numbers_on _ outcome count = count
+
 module _ {K V S : Type 0} (same : K → K → Bool) (hash : K → ℕ) where
   -- The scheduler stands for the moment, and what events ask of it is so: keys have lawful hashes; numbers, roots and names of maps are those that the moment says; and what ended maps
   -- left over is behind their roots.
@@ -89,3 +95,8 @@ module _ {K V S : Type 0} (same : K → K → Bool) (hash : K → ℕ) where
   HappensDue is_first event played old new =
       (terms : Terms) (log : List (Entry K V)) → is_first ≡ ((moment log).events == 0) → Holds terms (moment log) old → is_kept_out terms event (moment log) ≡ false
       → Happens terms log (entry_of event played) new
+
+  -- and after it the scheduler is as the next one asks
+  abbrev pub HoldsThen : Bool → Event K V → Played V → (old new : Scheduler K V S) → Type 0
+  HoldsThen is_first event played old new =
+      (terms : Terms) (log : List (Entry K V)) → is_first ≡ ((moment log).events == 0) → Holds terms (moment log) old → Holds terms (moment (entry_of event played ∷ log)) new

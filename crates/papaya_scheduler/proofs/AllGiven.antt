@@ -5,11 +5,8 @@ use Rattle.std.proofs.Common.{refl, ap, sym, subst, ◌∙◌, arith, eqb-true}
 use Rattle.std.proofs.lemmas.Bool.{ne_eqb}
 use Rattle.seize.specs.World.{Rests}
 use Rattle.seize.specs.declared.states.TheConstants.{HEAD}
-use Rattle.papaya_owned.specs.Given.SeizeActs.Reclaimed.{HasNothingLeft}
 use Rattle.seize_words.specs.Mem.{word_at}
 use Rattle.seize_words.specs.declared.at.At.TheVariants.{Slot}
-use Rattle.papaya_histories.specs.Given.Tables.Nodes.{deferred_word}
-use Rattle.papaya_reclaims.specs.Deferred.{TablesCarryPairs}
 use Rattle.seize_words.specs.declared.fault.Fault.TheVariants.{Busy}
 use Rattle.papaya_runs.specs.Present.{Present, all_forgotten, nobody}
 use Rattle.papaya_schedules.specs.declared.effect.Effect.{Effect}
@@ -33,10 +30,13 @@ use Rattle.papaya_histories.specs.Given.Finishes.Maps.{Standing}
 use Rattle.papaya_histories.proofs.Given.Others.Quiet.{calls_none}
 use Rattle.papaya_reclaims.proofs.Slots.Stages.{never_taken}
 use Rattle.papaya_reclaiming.specs.Reclaiming.{MayReclaim, NobodyHas}
-use Rattle.papaya_logged.specs.Reclaims.{ReclaimRetired, ReclaimingCame, ReclaimingRan}
-use Rattle.papaya_logged.specs.Shown.{IsShown}
+use Rattle.papaya_reclaims.specs.Reclaims.{AllIsReclaimed}
+use Rattle.papaya_remains.specs.Remains.{ShowsRemains}
+use Rattle.papaya_remains.proofs.Maps.{reclaimed_remain}
+use Rattle.papaya_remains.proofs.Stays.{roots_stay}
+use Rattle.papaya_logged.specs.Reclaims.{AllIsShown, ReclaimRetired, ReclaimingCame, ReclaimingRan}
 use Rattle.papaya_logged.specs.declared.logged.Logged.{Logged}
-use Rattle.papaya_rows.proofs.Elsewhere.{elsewhere, kept_elsewhere, shown_elsewhere}
+use Rattle.papaya_rows.proofs.Elsewhere.{elsewhere, kept_elsewhere, shown_elsewhere, numbered_elsewhere}
 use Rattle.papaya_rows.proofs.Facts.{no_ending_of, no_making_of, no_work_at, row_rests, used_once}
 use Rattle.papaya_rows.proofs.Lists.{all_so}
 use Rattle.papaya_rows.proofs.Names.{nobody_named}
@@ -109,14 +109,14 @@ module _ {K V S : Type 0} (same : K → K → Bool) (hash : K → ℕ) (terms : 
         )
 
     module _ (lists : ℕ → List ℕ) (taken : Bool) (may : MayReclaim p.logged.executor s lists taken) (new : Logged K V S) (before after : List Effect) (empty : before ≡ [])
-        (ran : ReclaimingRan taken before after p.logged new) where
+        (ran : ReclaimingRan taken before after p.logged new) (roots : new.executor.roots ≡ p.logged.executor.roots) where
       did_is : after ≡ ran.0
       did_is = ran.1 ∙ ap (λ (xs : List Effect). xs ++ ran.0) empty
 
       abbrev w : Moment K V
       w = with_effects None None ran.0 m
 
-      abbrev u : (s2 : Scene K V) × ReclaimingCame s s2 × HasNothingLeft deferred_word s2.world × TablesCarryPairs s2.world s2.maps × IsShown same hash stands.name w new s2 × ReclaimRetired ran.0 m
+      abbrev u : (s2 : Scene K V) × ReclaimingCame s s2 × AllIsReclaimed p.logged.executor.roots s2.world s2.maps × AllIsShown same hash stands.name w new s2 × ReclaimRetired ran.0 m
       u = ran.2 same hash stands.name m s lists stands.shown nobody_has may
 
       abbrev s2 : Scene K V
@@ -139,9 +139,16 @@ module _ {K V S : Type 0} (same : K → K → Bool) (hash : K → ℕ) (terms : 
             name = stands.name;
             scene = s2;
             shown = record {
-              is_at = u.4.is_at;
-              shows = shown_elsewhere w (known new.notes) events m.is_mapped closed alone nobody m.slots [] [] same stands.name s2 u.4.shows;
-              kept = kept_elsewhere w (known new.notes) events m.is_mapped closed alone nobody m.slots [] [] stands.name s2 u.4.kept;
+              is_at = u.3.is_at;
+              shows = shown_elsewhere w (known new.notes) events m.is_mapped closed alone nobody m.slots [] [] same stands.name s2 u.3.shows;
+              kept = kept_elsewhere w (known new.notes) events m.is_mapped closed alone nobody m.slots [] [] stands.name s2 u.3.kept;
+              counted = record {
+                numbered = numbered_elsewhere w (known new.notes) events m.is_mapped closed alone nobody m.slots [] [] new u.3.numbered;
+                remains = subst (λ (r : ℕ). ShowsRemains r (elsewhere events m.is_mapped closed alone nobody m.slots [] [] w) s2) (sym roots)
+                    (reclaimed_remain K V p.logged.executor.roots m (elsewhere events m.is_mapped closed alone nobody m.slots [] [] w) s s2 stands.shown.counted.remains (roots_stay None None ran.0 m) refl
+                    (λ j. ap (λ (f : ℕ → Option (Beginning K)). f j) u.1.makers ∙ no_making_of same hash p.logged.executor s stands.shown.is_at j (nobody_has j))
+                    (λ j. ap (λ (f : ℕ → Option (Finishing K V)). f j) u.1.enders ∙ no_ending_of same hash p.logged.executor s stands.shown.is_at j (nobody_has j)) u.2);
+              };
             };
             given = stands.given;
             there = refl;
@@ -157,11 +164,11 @@ module _ {K V S : Type 0} (same : K → K → Bool) (hash : K → ℕ) (terms : 
               listed = maps_named None None ran.0 m ∙ stands.maps.listed;
               stand = all_so (λ t. (standing : Standing K) × (s.maps t.number ≡ Some standing)) (λ t. (standing : Standing K) × (s2.maps t.number ≡ Some standing)) stands_still p.maps.items stands.maps.stand;
             };
-            slots = λ t. used_once (use_at new.executor t) used.Vacant (s2.world.uses t) (u.4.is_at.uses t) (u.2.2 t);
+            slots = λ t. used_once (use_at new.executor t) used.Vacant (s2.world.uses t) (u.3.is_at.uses t) (u.2.nothing.2 t);
             rests = λ j none.
                 (let at = stands.shown.is_at in
-                no_work_at same hash new.executor s2 u.4.is_at j none (ap (λ (f : ℕ → Option (Beginning K)). f j) u.1.makers ∙ no_making_of same hash p.logged.executor s at j (nobody_has j))
-                (ap (λ (f : ℕ → Option (Finishing K V)). f j) u.1.enders ∙ no_ending_of same hash p.logged.executor s at j (nobody_has j)) (u.2.0 j));
+                no_work_at same hash new.executor s2 u.3.is_at j none (ap (λ (f : ℕ → Option (Beginning K)). f j) u.1.makers ∙ no_making_of same hash p.logged.executor s at j (nobody_has j))
+                (ap (λ (f : ℕ → Option (Finishing K V)). f j) u.1.enders ∙ no_ending_of same hash p.logged.executor s at j (nobody_has j)) (u.2.nothing.0 j));
             names = nobody_named;
           }))
 
@@ -177,12 +184,12 @@ module _ {K V S : Type 0} (same : K → K → Bool) (hash : K → ℕ) (terms : 
         (stands_on same hash terms now p due.played (now.events + 1) (now.is_alone && is_alone_on e now) now.slots now.sheltered)
 
     module _ (gone : are_gone p.there p.calls.items.items ≡ true) (may : MayGiveAll p due.played.scene) (new : Logged K V S) (before after : List Effect) (empty : before ≡ [])
-        (ran : ReclaimingRan (nat_lt 0 (known p.logged.notes).buckets) before after p.logged new) where
+        (ran : ReclaimingRan (nat_lt 0 (known p.logged.notes).buckets) before after p.logged new) (roots : new.executor.roots ≡ p.logged.executor.roots) where
       pub all_reclaimed : (p2 : Scheduler K V S) → p2 ≡ record p { logged = new; there = nobody } → Plays same hash terms log (entry ReclaimAll Done 0 after) p2
       all_reclaimed p2 is =
           let e = entry ReclaimAll Done 0 after in
           plays same hash terms log ReclaimAll p2 due e refl (in_turn IsDone (is_left now) Done (gone_is same hash terms now p due.played ∙ gone) refl)
-          (stands_then same hash terms now p due.played gone may.lists (nat_lt 0 (known p.logged.notes).buckets) (may_reclaim same hash terms now p due.played gone may) new before after empty ran
+          (stands_then same hash terms now p due.played gone may.lists (nat_lt 0 (known p.logged.notes).buckets) (may_reclaim same hash terms now p due.played gone may) new before after empty ran roots
           (now.events + 1) now.is_closed (now.is_alone && is_alone_on e now) p2 (is ∙ ap (λ (b : Bool). record p { logged = new; there = nobody; is_closed = b }) (sym (ap (λ (x : Scheduler K V S). x.is_closed) is)))
           (due.played.closed ∙ sym (ap (λ (x : Scheduler K V S). x.is_closed) is)))
 
@@ -200,11 +207,11 @@ module _ {K V S : Type 0} (same : K → K → Bool) (hash : K → ℕ) (terms : 
         (stands_on same hash terms now p due.played (now.events + 1) (now.is_alone && is_alone_on e now) now.slots now.sheltered)
 
     module _ (gone : are_gone p.there p.calls.items.items ≡ true) (none : (length p.maps.items == 0) ≡ true) (may : MayGiveAll p due.played.scene) (new : Logged K V S) (before after : List Effect)
-        (empty : before ≡ []) (ran : ReclaimingRan (nat_lt 0 (known p.logged.notes).buckets) before after p.logged new) where
+        (empty : before ≡ []) (ran : ReclaimingRan (nat_lt 0 (known p.logged.notes).buckets) before after p.logged new) (roots : new.executor.roots ≡ p.logged.executor.roots) where
       pub has_closed : (p2 : Scheduler K V S) → p2 ≡ record p { logged = new; there = nobody; is_closed = true } → Plays same hash terms log (entry Close Done 0 after) p2
       has_closed p2 is =
           let e = entry Close Done 0 after in
           plays same hash terms log Close p2 due e refl (in_turn IsDone turn Done (turn_is ∙ ap (λ (q : Bool). q && (length p.maps.items == 0)) gone ∙ none) refl)
-          (stands_then same hash terms now p due.played gone may.lists (nat_lt 0 (known p.logged.notes).buckets) (may_reclaim same hash terms now p due.played gone may) new before after empty ran
+          (stands_then same hash terms now p due.played gone may.lists (nat_lt 0 (known p.logged.notes).buckets) (may_reclaim same hash terms now p due.played gone may) new before after empty ran roots
           (now.events + 1) true (now.is_alone && is_alone_on e now) p2 (is ∙ ap (λ (b : Bool). record p { logged = new; there = nobody; is_closed = b }) (sym (ap (λ (x : Scheduler K V S). x.is_closed) is)))
           (sym (ap (λ (x : Scheduler K V S). x.is_closed) is)))

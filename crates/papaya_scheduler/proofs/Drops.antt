@@ -163,7 +163,7 @@ module _ {K V S : Type 0} (same : K → K → Bool) (hash : K → ℕ) (terms : 
             (led_alone same hash stands.name m stands.scene p.logged logged stands.shown slot how said before after ran may_leave settles alone)
             (over_alone same hash stands.name m stands.scene p.logged logged stands.shown slot how said before after ran may_leave settles alone) less each_now use_now
             (drops_named guard p.there stands.names) (drops guard w.there) (ap (drops guard) (there_stays None None ran.did m ∙ stands.there))
-            (m.events + 1) (m.is_alone && is_alone_on e m) m.slots (unsheltered guard w.sheltered) m.remains))
+            (m.events + 1) (m.is_alone && is_alone_on e m) m.slots (unsheltered guard w.sheltered) m.remains refl))
 
 -- so it is, by what the code does
 module _ {K V S : Type 0} (same : K → K → Bool) (hash : K → ℕ) (terms : Terms) (log : List (Entry K V)) (p : Scheduler K V S) (guard : List ℕ)

@@ -215,7 +215,7 @@ module _ {K V S : Type 0} (same : K → K → Bool) (hash : K → ℕ) (terms : 
             (led_once same hash stands.name m stands.scene p.logged logged stands.shown slot call.Enter said before after ran may_enter tt)
             (over_once same hash stands.name m stands.scene p.logged logged stands.shown slot call.Enter said before after ran may_enter tt) there2 each_now use_now
             (enters_named guard slot p.there (none_is (guard_of guard p.there.guards) none) stands.names) (there_on {K = K} {V = V} (Enter guard registration) Done w.there)
-            (there_now w.there (there_stays None None ran.did m ∙ stands.there)) (m.events + 1) (m.is_alone && is_alone_on e m) m.slots w.sheltered m.remains))
+            (there_now w.there (there_stays None None ran.did m ∙ stands.there)) (m.events + 1) (m.is_alone && is_alone_on e m) m.slots w.sheltered m.remains refl))
 
 -- so it is, by what the code does
 module _ {K V S : Type 0} (same : K → K → Bool) (hash : K → ℕ) (terms : Terms) (log : List (Entry K V)) (p : Scheduler K V S) (guard registration : List ℕ)

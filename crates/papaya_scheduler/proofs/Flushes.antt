@@ -135,7 +135,7 @@ module _ {K V S : Type 0} (same : K → K → Bool) (hash : K → ℕ) (terms : 
             (stands_ran same hash terms m p stands slot call.Flush said before after logged ran may_flush
             (led_alone same hash stands.name m stands.scene p.logged logged stands.shown slot call.Flush said before after ran may_flush tt alone)
             (over_alone same hash stands.name m stands.scene p.logged logged stands.shown slot call.Flush said before after ran may_flush tt alone) p.there stands.calls.each use_now
-            stands.names w.there (there_stays None None ran.did m ∙ stands.there) (m.events + 1) (m.is_alone && is_alone_on e m) m.slots w.sheltered m.remains)
+            stands.names w.there (there_stays None None ran.did m ∙ stands.there) (m.events + 1) (m.is_alone && is_alone_on e m) m.slots w.sheltered m.remains refl)
 
       -- so it is, by what the code does
       pub has_run : (before after : List Effect) → before ≡ [] → (q : Scheduler K V S) → q ≡ record p { logged = q.logged } → RowRanOn slot call.Flush before after p.logged q.logged

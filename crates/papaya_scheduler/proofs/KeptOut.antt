@@ -26,7 +26,8 @@ use Rattle.papaya_scheduler.specs.Played.{IsPlayed, Plays, StandsFor}
 use Rattle.papaya_scheduler.specs.Seen.{Seen, seen, seen_of}
 use Rattle.papaya_scheduler.specs.Turns.{is_that, keeps_out}
 use Rattle.papaya_scheduler.specs.declared.scheduler.Scheduler.{Scheduler}
-use Rattle.papaya_rows.proofs.Elsewhere.{elsewhere, shown_elsewhere, kept_elsewhere}
+use Rattle.papaya_logged.proofs.Counted.{counted_calls}
+use Rattle.papaya_rows.proofs.Elsewhere.{elsewhere, shown_elsewhere, kept_elsewhere, counted_elsewhere}
 use Rattle.papaya_rows.proofs.Lists.{all_alike, all_same, unseen}
 use Rattle.papaya_scheduler.proofs.Quiet.{stands_on}
 use Rattle.papaya_scheduler.proofs.Rights.{quiet}
@@ -67,6 +68,7 @@ module _ {K V S : Type 0} (same : K → K → Bool) (hash : K → ℕ) (terms : 
       is_at = stands.shown.is_at;
       shows = calls_come_to_whole K V same stands.name m (known p.logged.notes) stands.scene stands.shown.shows own (Refused Busy) 0 (λ e. absurd (cc e)) (λ n i u here named. asks_nothing (known p.logged.notes) u);
       kept = calls_come_to_kept K V same stands.name m (known p.logged.notes) stands.scene stands.shown.shows stands.shown.kept own (Refused Busy) 0 (λ e. absurd (cc e));
+      counted = counted_calls p.logged m (come_to own (Refused Busy) 0 m) stands.scene stands.shown.counted refl refl refl;
     };
     given = stands.given;
     there = stands.there;
@@ -91,6 +93,7 @@ module _ {K V S : Type 0} (same : K → K → Bool) (hash : K → ℕ) (terms : 
       is_at = stands.shown.is_at;
       shows = shown_elsewhere m (known p.logged.notes) m.events is_mapped m.is_closed m.is_alone m.there m.slots m.sheltered m.remains same stands.name stands.scene stands.shown.shows;
       kept = kept_elsewhere m (known p.logged.notes) m.events is_mapped m.is_closed m.is_alone m.there m.slots m.sheltered m.remains stands.name stands.scene stands.shown.kept;
+      counted = counted_elsewhere m (known p.logged.notes) m.events is_mapped m.is_closed m.is_alone m.there m.slots m.sheltered m.remains p.logged stands.scene refl stands.shown.counted;
     };
     given = stands.given;
     there = stands.there;

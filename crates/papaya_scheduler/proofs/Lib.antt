@@ -33,7 +33,9 @@ pub mod Registers
 pub mod Owns
 pub mod MapLists
 pub mod Mapped
+pub mod EndsLeave
 pub mod MapsEnded
 pub mod RootsUsed
+pub mod MapNumbers
 pub mod MapsMade
 mod AllGiven

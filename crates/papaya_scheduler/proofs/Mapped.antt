@@ -12,7 +12,7 @@ use Rattle.papaya_executor.specs.IsAt.{Scene}
 use Rattle.papaya_histories.specs.Given.Finishes.Maps.{Standing}
 use Rattle.papaya_logged.specs.Shown.{IsShown}
 use Rattle.papaya_logged.specs.declared.logged.Logged.{Logged}
-use Rattle.papaya_rows.proofs.Elsewhere.{elsewhere, shown_elsewhere, kept_elsewhere}
+use Rattle.papaya_rows.proofs.Elsewhere.{elsewhere, shown_elsewhere, kept_elsewhere, counted_elsewhere}
 use Rattle.papaya_rows.proofs.Facts.{no_ending_of, no_making_of, no_work_at, row_rests, used_still}
 use Rattle.papaya_rows.proofs.Lists.{all_so}
 use Rattle.papaya_scheduler.specs.Played.{IsUnderWay, StandsFor}
@@ -32,9 +32,9 @@ module _ {K V S : Type 0} (same : K → K → Bool) (hash : K → ℕ) (terms : 
 
   module _ (p2 : Scheduler K V S) (is : p2 ≡ record p { logged = new; maps = p2.maps; is_mapped = p2.is_mapped }) where
     pub stands_mapped : (is_mapped : Bool) → is_mapped ≡ p2.is_mapped → map named w.maps ≡ map named_of p2.maps.items → AllByRecursion Stands p2.maps.items → (there : Present) → there ≡ p.there
-        → (events : ℕ) (is_alone : Bool) (slots : ℕ) (sheltered : List Sheltered) (remains : List Remains)
+        → (events : ℕ) (is_alone : Bool) (slots : ℕ) (sheltered : List Sheltered) (remains : List Remains) → remains ≡ w.remains
         → StandsFor same hash terms (elsewhere events is_mapped m.is_closed is_alone there slots sheltered remains w) p2
-    stands_mapped is_mapped mapped listed stand there same_there events is_alone slots sheltered remains =
+    stands_mapped is_mapped mapped listed stand there same_there events is_alone slots sheltered remains alike =
         subst (StandsFor same hash terms (elsewhere events is_mapped m.is_closed is_alone there slots sheltered remains w)) (sym is) (record {
           name = stands.name;
           scene = s2;
@@ -42,6 +42,7 @@ module _ {K V S : Type 0} (same : K → K → Bool) (hash : K → ℕ) (terms : 
             is_at = shown.is_at;
             shows = shown_elsewhere w (known new.notes) events is_mapped m.is_closed is_alone there slots sheltered remains same stands.name s2 shown.shows;
             kept = kept_elsewhere w (known new.notes) events is_mapped m.is_closed is_alone there slots sheltered remains stands.name s2 shown.kept;
+            counted = counted_elsewhere w (known new.notes) events is_mapped m.is_closed is_alone there slots sheltered remains new s2 alike shown.counted;
           };
           given = stands.given;
           there = same_there;

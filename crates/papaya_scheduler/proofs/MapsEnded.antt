@@ -1,5 +1,5 @@
 -- A map ends: where it is not there, or some call is on it, and where its end has run.
-use Rattle.std.specs.Prelude.{◌≡◌, ◌≢◌, ◌+◌, ◌-◌, ◌==◌, ◌&&◌, ◌⊎◌, ℕ, zero, suc, Bool, true, false, not, List, [], ◌∷◌, ◌++◌, filter, find, map, is_some, Option, Some, None, option_map}
+use Rattle.std.specs.Prelude.{◌≡◌, ◌≢◌, ◌+◌, ◌-◌, ◌==◌, ◌≤◌, ◌&&◌, ◌||◌, ◌⊎◌, ℕ, zero, suc, Bool, true, false, not, List, [], ◌∷◌, ◌++◌, length, filter, find, map, is_some, Option, Some, None, option_map}
 use Rattle.std.specs.List.{All, AllByRecursion, list_any}
 use Rattle.std.proofs.Common.{refl, ap, sym, subst, ◌∙◌, inl, inr, eqb-true}
 use Rattle.std.proofs.lemmas.Bool.{cases_eq}
@@ -12,10 +12,12 @@ use Rattle.papaya_schedules.specs.declared.effect.Effect.{Effect}
 use Rattle.papaya_schedules.specs.declared.effect.Effect.TheVariants.{Ended}
 use Rattle.papaya_schedules.specs.declared.event.Event.TheVariants.{EndMap}
 use Rattle.papaya_schedules.specs.declared.outcome.Outcome.TheVariants.{Done, Refused}
-use Rattle.papaya_schedules.specs.After.{is_alone_on, moment, remains_on}
+use Rattle.papaya_schedules.specs.After.{if_any, is_alone_on, moment, remains_on, root_or}
+use Rattle.papaya_schedules.specs.Beginning.{used_roots}
 use Rattle.papaya_schedules.specs.Effects.{with_effect, with_effects}
 use Rattle.papaya_schedules.specs.Entry.{Entry, acted_on}
 use Rattle.papaya_schedules.specs.InTurn.{IsDone, is_called}
+use Rattle.papaya_schedules.specs.Lists.{is_among}
 use Rattle.papaya_schedules.specs.Moment.{MapThere, Remains, Moment}
 use Rattle.papaya_schedules.specs.Terms.{Terms}
 use Rattle.papaya_schedules.specs.Views.{map_at, map_of, number_of}
@@ -23,7 +25,9 @@ use Rattle.papaya_histories.proofs.Given.Callers.Together.At.{at_other, at_same}
 use Rattle.papaya_histories.specs.Given.Callers.Together.{UnderWay}
 use Rattle.papaya_effects.specs.Known.{known}
 use Rattle.papaya_executor.specs.Ending.{NoCallOn, ending_begun}
-use Rattle.papaya_executor.specs.IsAt.{Scene, IsAt, IsEnding}
+use Rattle.papaya_executor.specs.IsAt.{Scene, IsAt, IsEnding, ending_in}
+use Rattle.papaya_executor.specs.declared.worker.Work.{Work}
+use Rattle.papaya_raw.specs.declared.machines.end_map.EndMap.{EndMap as EndMachine}
 use Rattle.papaya_histories.specs.Given.Finishes.Makings.{Beginning}
 use Rattle.papaya_histories.specs.Given.Finishes.Endings.{Finishing, finishing_of}
 use Rattle.papaya_histories.specs.Given.Finishes.Machines.{machine_of}
@@ -36,8 +40,14 @@ use Rattle.papaya_histories.specs.Given.Moments.Numbers.{AreFound}
 use Rattle.papaya_histories.specs.Given.Moments.WholeEnds.{all_ended, tables_ended}
 use Rattle.papaya_histories.specs.Given.Finishes.Orders.{pairs_of}
 use Rattle.papaya_logged.specs.Back.{ComesBack, EndBringsBack}
-use Rattle.papaya_logged.specs.Ends.{EndCame, EndIsBegun, EndIsOver, EndRan, NotedStill, ended_as}
+use Rattle.papaya_reclaims.specs.Left.{IsSomebodys}
+use Rattle.papaya_reclaims.specs.Reclaims.{RootLeads}
+use Rattle.papaya_remains.specs.Remains.{has_some, left_roots, map_roots}
+use Rattle.papaya_remains.proofs.Lists.{among_append, found_among}
+use Rattle.papaya_remains.proofs.Stays.{remains_stay, roots_stay, used_then}
+use Rattle.papaya_logged.specs.Ends.{EndCame, EndIsBegun, EndIsOver, EndRan, NotedStill, ended_as, left_so}
 use Rattle.papaya_logged.specs.Shown.{IsShown}
+use Rattle.papaya_logged.specs.Waits.{TellsWaiting}
 use Rattle.papaya_logged.specs.declared.logged.Logged.{Logged}
 use Rattle.papaya_rows.proofs.Elsewhere.{elsewhere}
 use Rattle.papaya_rows.proofs.Lists.{all_but, all_so, any_alike, found_passes, one_of}
@@ -46,6 +56,7 @@ use Rattle.papaya_scheduler.specs.Played.{IsDue, IsUnderWay, Plays, StandsFor}
 use Rattle.papaya_scheduler.specs.Seen.{named, named_of, number_named, seen, seen_of}
 use Rattle.papaya_scheduler.specs.declared.scheduler.NamedMap.{NamedMap}
 use Rattle.papaya_scheduler.specs.declared.scheduler.Scheduler.{Scheduler}
+use Rattle.papaya_scheduler.proofs.EndsLeave.{left_tells, pairs_behind, same_behind}
 use Rattle.papaya_scheduler.proofs.MapLists.{all_back, all_seen, by_recursion, found_same, kept_map, kept_of}
 use Rattle.papaya_scheduler.proofs.Mapped.{stands_mapped}
 use Rattle.papaya_scheduler.proofs.Maps.{map_some, number_is}
@@ -161,8 +172,10 @@ module _ {K V S : Type 0} (same : K → K → Bool) (hash : K → ℕ) (terms : 
           abbrev number_by : ℕ → ℕ
           number_by = (begun no_call).3.0
 
-          abbrev u : (t : Scene K V) × (gone : List ℕ) × EndCame s1 t i f gone true × (ran.0 ≡ ended_as number (known mid.notes) gone) × NotedStill (known mid.notes) (known new.notes) (f.back ++ gone)
+          abbrev u : (t : Scene K V) × (gone : List ℕ) × (came : EndCame s1 t i f gone true) × (ran.0 ≡ ended_as number (known mid.notes) gone) × NotedStill (known mid.notes) (known new.notes) (f.back ++ gone)
               × IsShown same hash stands.name v new t × (true ≡ true → f.back ≡ [] → ran.0 ≡ all_ended (is_incremental f.setting.mode) number number_by f.chart)
+              × ((began : Moment K V) → TellsWaiting number f.chart began m (known mid.notes) s1.world (has_some f.waits)
+              → TellsWaiting number f.chart began v (known new.notes) t.world (has_some (left_so s1 t i f gone true came.ender)))
           u = ran.3 same hash stands.name m s1 shown_mid f here (at_same s.maps number None number refl) number_by (known mid.notes) (begun no_call).3.1 (λ b t. refl)
 
           abbrev s2 : Scene K V
@@ -232,9 +245,6 @@ module _ {K V S : Type 0} (same : K → K → Bool) (hash : K → ℕ) (terms : 
           abbrev w : Moment K V
           w = without_map own left v
 
-          shown_then : IsShown same hash stands.name w new s2
-          shown_then = over same hash stands.name v s2 u.5 own left found_then no_other
-
           abbrev keeps : (List ℕ × ℕ) → Bool
           keeps z = not (is_same z.0 own)
 
@@ -244,6 +254,76 @@ module _ {K V S : Type 0} (same : K → K → Bool) (hash : K → ℕ) (terms : 
               by : (j ≡ i) ⊎ (j ≢ i) → s2.enders j ≡ None
               by (inl e) = ap s2.enders e ∙ u.2.ender.0
               by (inr ne) = u.2.enders j ne ∙ at_other s.enders i (Some f) j ne ∙ none_there
+
+          -- nobody ended a map, and nobody does then
+          nobody_ends : (j : ℕ) → s.enders j ≡ None
+          nobody_ends j = by (s.enders j) refl
+            where
+              by : (o : Option (Finishing K V)) → s.enders j ≡ o → s.enders j ≡ None
+              by None e = e
+              by (Some g) e =
+                  let idle = stands.rests j (stands.shown.is_at.together.alone j g e).0 in
+                  absurd (let one : ◌≡◌ {A = Option EndMachine} (Some g.machine) None =
+                  sym (ap (option_map (λ (x : Finishing K V). x.machine)) e) ∙ stands.shown.is_at.enders j ∙ ap (λ (o : Option (Work K V)). ending_in o) idle in cc one)
+
+          nobody_then : (j : ℕ) → s2.enders j ≡ None
+          nobody_then j = enders_then j (nobody_ends j)
+
+          -- its root is nobody's then, so what its end has left over is behind that
+          abbrev pairs : List ℕ
+          pairs = pairs_behind m.deferred after
+
+          its_root : its.0.root ≡ f.setting.root
+          its_root =
+              let t = (stands.shown.shows.all.shown.maps number standing (begun no_call).1).there in
+              let both : Some its.0 ≡ Some t.there = sym found_its ∙ ap (λ (n : ℕ). map_at n m) its.2 ∙ t.is in
+              let one : its.0 ≡ t.there = cc both in
+              ap (λ (x : MapThere). x.root) one ∙ t.root
+
+          is_used : is_among its.0.root (used_roots v) ≡ true
+          is_used =
+              ap (is_among its.0.root) (used_then m v (roots_stay None (Some number) ran.0 m) (remains_stay None (Some number) ran.0 m))
+              ∙ among_append its.0.root (map_roots m) (left_roots m)
+              ∙ ap (λ (q : Bool). q || is_among its.0.root (left_roots m)) (found_among (λ f. is_same f.name own) (λ f. f.root) m.maps its.0 its.1)
+
+          abbrev lists : ℕ → List ℕ
+          lists = u.5.counted.remains.lists
+
+          leads : RootLeads s2.world its.0.root (lists its.0.root)
+          leads = elim (u.5.counted.remains.left.root its.0.root (u.5.counted.remains.below its.0.root is_used)) as (λ _. RootLeads s2.world its.0.root (lists its.0.root)) [
+            | inl somebody ↦ absurd (nobodys somebody)
+            | inr it ↦ it
+          ]
+            where
+              nobodys : IsSomebodys s2.maps s2.makers s2.enders its.0.root → ⊥
+              nobodys (inl (n, st, stands_there, is)) =
+                  shown_mid.is_at.together.roots_apart i n f st here (sym (ap (λ (g : ℕ → Option (Standing K)). g n) u.2.maps) ∙ stands_there) (sym its_root ∙ sym is)
+              nobodys (inr (inl (j, b, makes, taken, is))) =
+                  shown_mid.is_at.together.makings_roots i j f b here (sym (ap (λ (g : ℕ → Option (Beginning K)). g j) u.2.makers) ∙ makes) taken (sym its_root ∙ sym is)
+              nobodys (inr (inr (j, g, ends, is))) = (let none = nobody_then j in cc (none, ends))
+
+          tells : TellsWaiting number f.chart m (with_effects None (Some number) (all_ended (is_incremental f.setting.mode) number number_by f.chart) m) (known new.notes) s2.world (has_some u.2.ender.2.0)
+          tells =
+              subst (λ (xs : List Effect). TellsWaiting number f.chart m (with_effects None (Some number) xs m) (known new.notes) s2.world (has_some u.2.ender.2.0)) (u.6 refl refl)
+              (u.7 m ((begun no_call).5 nobody_ends))
+
+          some_is : has_some (lists its.0.root) ≡ has_some pairs
+          some_is =
+              same_behind f.setting s2.world u.2.ender.2.0 (lists its.0.root) u.2.ender.2.1 (subst (λ (r : ℕ). RootLeads s2.world r (lists its.0.root)) its_root leads)
+              ∙ left_tells (is_incremental f.setting.mode) number number_by f.chart m (known new.notes) s2.world (has_some u.2.ender.2.0) tells
+              ∙ ap (λ (xs : List Effect). has_some (pairs_behind m.deferred xs)) (sym (did_is ∙ u.6 refl refl))
+
+          named_then : map_of own v ≡ Some its.0
+          named_then = ap (λ (ms : List MapThere). find (λ f. is_same f.name own) ms) same_maps ∙ its.1
+
+          left_is : if_any its.0.root pairs v.remains ≡ left
+          left_is = ap (if_any its.0.root pairs) (remains_stay None (Some number) ran.0 m) ∙ ap (λ (o : Option MapThere). if_any (root_or o) pairs m.remains) (sym its.1)
+
+          shown_then : IsShown same hash stands.name w new s2
+          shown_then =
+              subst (λ (xs : List Remains). IsShown same hash stands.name (without_map own xs v) new s2) left_is
+              (over same hash stands.name v s2 u.5 own its.0 named_then (subst (λ (ms : List MapThere). length (filter (λ f. is_same f.name own) ms) ≤ 1) (sym same_maps) (are.names own)) nobody_then pairs some_is
+              found_then no_other)
 
           abbrev e : Entry K V
           e = entry (EndMap own) Done 0 after
@@ -267,7 +347,7 @@ module _ {K V S : Type 0} (same : K → K → Bool) (hash : K → ℕ) (terms : 
               (subst (AllByRecursion (λ t. (standing : Standing K) × (s2.maps t.number ≡ Some standing))) (sym kept)
               (kept_of (λ t. (standing : Standing K) × (s.maps t.number ≡ Some standing)) (λ t. IsApart (named_of t)) (λ t. (standing : Standing K) × (s2.maps t.number ≡ Some standing))
               (λ t. not (is_same t.name own)) stands_still p.maps.items stands.maps.stand all_apart))
-              v.there (there_stays None (Some number) ran.0 m ∙ stands.there) (m.events + 1) (m.is_alone && is_alone_on e m) m.slots v.sheltered left)))
+              v.there (there_stays None (Some number) ran.0 m ∙ stands.there) (m.events + 1) (m.is_alone && is_alone_on e m) m.slots v.sheltered left refl)))
             where
               stands_still : (t : NamedMap) → not (is_same t.name own) ≡ true → ((standing : Standing K) × (s.maps t.number ≡ Some standing)) → IsApart (named_of t)
                   → (standing : Standing K) × (s2.maps t.number ≡ Some standing)

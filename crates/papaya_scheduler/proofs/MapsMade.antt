@@ -38,6 +38,8 @@ use Rattle.papaya_histories.specs.Given.Finishes.Maps.{Standing}
 use Rattle.papaya_histories.proofs.Given.Others.Quiet.{calls_none}
 use Rattle.papaya_histories.specs.Given.Others.Makings.{IsNew}
 use Rattle.papaya_histories.proofs.Given.Moments.NewMaps.{maps_come_as_new}
+use Rattle.papaya_remains.specs.Numbered.{NumbersUpTo}
+use Rattle.papaya_remains.proofs.Stays.{remains_stay}
 use Rattle.papaya_logged.specs.Makings.{HasTable, JustAsks, CameBare, MakingCame, MakingIsBegun, MakingRan, MapIsThere}
 use Rattle.papaya_logged.specs.Roots.{AreTaken, FindsRoot, IsFirstFree, MakingFinds}
 use Rattle.papaya_logged.specs.Shown.{IsShown}
@@ -197,7 +199,7 @@ module _ {K V S : Type 0} (same : K → K → Bool) (hash : K → ℕ) (terms : 
 
             abbrev went : (t : Scene K V) × (came : MakingCame s1 t i b no_map) × IsShown same hash stands.name (with_effects None (number_of own m) ran.0 m) new t
                 × (CameBare s1 t i b no_map came.maker → JustAsks b ran.0) × HasTable no_map b (with_effects None (number_of own m) ran.0 m)
-            went = (ran.3 same hash stands.name m s1 shown_mid b here (sym is_number) (number_of own m)).1 tt
+            went = (ran.3 same hash stands.name m s1 shown_mid b here (sym is_number) (number_of own m)).1 tt (subst (λ (n : ℕ). NumbersUpTo n m) (sym is_number) stands.shown.counted.numbered.numbers)
 
             abbrev refusal : Entry K V
             refusal = entry event (Refused fault) 0 after
@@ -219,7 +221,7 @@ module _ {K V S : Type 0} (same : K → K → Bool) (hash : K → ℕ) (terms : 
                 (all_so (λ t. (standing : Standing K) × (s.maps t.number ≡ Some standing)) (λ t. (standing : Standing K) × (went.0.maps t.number ≡ Some standing))
                 (λ t st. (st.0, ap (λ (g : ℕ → Option (Standing K)). g t.number) went.1.maps ∙ st.1)) p.maps.items stands.maps.stand))
                 (with_effects None (number_of own m) ran.0 m).there (there_stays None (number_of own m) ran.0 m ∙ stands.there) (m.events + 1) (m.is_alone && is_alone_on refusal m) m.slots
-                (with_effects None (number_of own m) ran.0 m).sheltered m.remains))
+                (with_effects None (number_of own m) ran.0 m).sheltered m.remains (sym (remains_stay None (number_of own m) ran.0 m))))
 
           -- it was made
           module _ (setting : Setting) (new : Logged K V S) (before after : List Effect) (empty : before ≡ []) (comes : MapIsThere mid) (ran : MakingRan i number (progress.Done setting) before after mid new)
@@ -251,7 +253,10 @@ module _ {K V S : Type 0} (same : K → K → Bool) (hash : K → ℕ) (terms : 
             new_one = subst (λ (n : ℕ). IsNew n setting bm) (sym is_next) (maps_come_as_new K V m counts.apart.numbers counts.pairs there refl refl setting root_is mode_is)
 
             shown_there : IsShown same hash stands.name bm mid s1
-            shown_there = comes same hash stands.name m s1 shown_mid counts.apart.numbers there refl
+            shown_there =
+                comes same hash stands.name m s1 shown_mid counts.apart.numbers there refl (subst (λ (n : ℕ). n < length mid.executor.maps.items) counts.next (shown_mid.is_at.numbers i b here))
+                (ap (λ (r : ℕ). is_among r used) root_is ∙ its_root.0.1)
+                (subst (λ (r : ℕ). r < mid.executor.roots) (sym root_is) (subst (λ (n : ℕ). setting.root < n) (as_many told new before after empty ran finds) its_root.0.0))
 
             abbrev of : Option ℕ
             of = number_of own bm
@@ -260,7 +265,7 @@ module _ {K V S : Type 0} (same : K → K → Bool) (hash : K → ℕ) (terms : 
             v = with_effects None of ran.0 bm
 
             abbrev u : (t : Scene K V) × (came : MakingCame s1 t i b told) × IsShown same hash stands.name v new t × (CameBare s1 t i b told came.maker → JustAsks b ran.0) × HasTable told b v
-            u = (ran.3 same hash stands.name bm s1 shown_there b here (sym is_number) of).1 new_one
+            u = (ran.3 same hash stands.name bm s1 shown_there b here (sym is_number) of).1 new_one tt
 
             abbrev e : Entry K V
             e = entry event Done 0 after
@@ -288,4 +293,4 @@ module _ {K V S : Type 0} (same : K → K → Bool) (hash : K → ℕ) (terms : 
                 (all_push (λ t. (standing : Standing K) × (u.0.maps t.number ≡ Some standing)) p.maps.items (record { name = own; number = number })
                 (all_so (λ t. (standing : Standing K) × (s.maps t.number ≡ Some standing)) (λ t. (standing : Standing K) × (u.0.maps t.number ≡ Some standing)) stood p.maps.items stands.maps.stand)
                 (u.1.maps.standing, ap u.0.maps is_number ∙ u.1.maps.there)))
-                v.there (there_stays None of ran.0 bm ∙ stands.there) (m.events + 1) (m.is_alone && is_alone_on e m) m.slots v.sheltered m.remains))
+                v.there (there_stays None of ran.0 bm ∙ stands.there) (m.events + 1) (m.is_alone && is_alone_on e m) m.slots v.sheltered m.remains (sym (remains_stay None of ran.0 bm))))

@@ -76,7 +76,7 @@ module _ {K V S : Type 0} (same : K → K → Bool) (hash : K → ℕ) (terms : 
         (in_turn (wanted ran.did) turn (Refused fault) (turn_is false found) (gets_none same hash terms m p stands true said before after logged ran fault is nothing))
         (stands_ran same hash terms m p stands 0 (call.Register true) said before after logged ran tt (led_taking same hash terms m p stands true said before after logged ran)
         (over_taking same hash terms m p stands true said before after logged ran) p.there stands.calls.each (use_still same hash terms m p stands true said before after logged ran fault is) stands.names
-        (there_on {K = K} {V = V} (Own guard) (Refused fault) w.there) (there_stays None None ran.did m ∙ stands.there) (m.events + 1) (m.is_alone && is_alone_on e m) m.slots w.sheltered m.remains)
+        (there_on {K = K} {V = V} (Own guard) (Refused fault) w.there) (there_stays None None ran.did m ∙ stands.there) (m.events + 1) (m.is_alone && is_alone_on e m) m.slots w.sheltered m.remains refl)
 
     -- or has a slot
     module _ (slot : ℕ) (is : said ≡ told.Registered slot) where
@@ -116,7 +116,7 @@ module _ {K V S : Type 0} (same : K → K → Bool) (hash : K → ℕ) (terms : 
           (over_taking same hash terms m p stands true said before after logged ran) there2 each
           (use_then same hash terms m p stands true said before after logged ran slot is there2 inside others)
           (enters_named guard slot p.there names stands.names) (there_on {K = K} {V = V} (Own guard) (Slot slot) w.there)
-          (ap (enters_slot guard slot) (there_stays None None ran.did m ∙ stands.there)) (m.events + 1) (m.is_alone && is_alone_on e m) (max m.slots (slot + 1)) w.sheltered m.remains))
+          (ap (enters_slot guard slot) (there_stays None None ran.did m ∙ stands.there)) (m.events + 1) (m.is_alone && is_alone_on e m) (max m.slots (slot + 1)) w.sheltered m.remains refl))
 
 -- so it is, by what the code does
 module _ {K V S : Type 0} (same : K → K → Bool) (hash : K → ℕ) (terms : Terms) (log : List (Entry K V)) (p : Scheduler K V S) (guard : List ℕ)

@@ -1,11 +1,12 @@
 -- A scheduler stands as before for a moment in which nothing has changed that is seen of it.
 use Rattle.std.specs.Prelude.{ℕ, Bool, List}
+use Rattle.std.proofs.Common.{refl}
 use Rattle.papaya_schedules.specs.Moment.{Sheltered, Moment}
 use Rattle.papaya_schedules.specs.Terms.{Terms}
 use Rattle.papaya_effects.specs.Known.{known}
 use Rattle.papaya_scheduler.specs.Played.{StandsFor}
 use Rattle.papaya_scheduler.specs.declared.scheduler.Scheduler.{Scheduler}
-use Rattle.papaya_rows.proofs.Elsewhere.{elsewhere, shown_elsewhere, kept_elsewhere}
+use Rattle.papaya_rows.proofs.Elsewhere.{elsewhere, shown_elsewhere, kept_elsewhere, counted_elsewhere}
 
 module _ {K V S : Type 0} (same : K → K → Bool) (hash : K → ℕ) (terms : Terms) (m : Moment K V) (p : Scheduler K V S) (stands : StandsFor same hash terms m p) where
   pub stands_on : (events : ℕ) (is_alone : Bool) (slots : ℕ) (sheltered : List Sheltered) → StandsFor same hash terms (elsewhere events m.is_mapped m.is_closed is_alone m.there slots sheltered m.remains m) p
@@ -16,6 +17,7 @@ module _ {K V S : Type 0} (same : K → K → Bool) (hash : K → ℕ) (terms : 
       is_at = stands.shown.is_at;
       shows = shown_elsewhere m (known p.logged.notes) events m.is_mapped m.is_closed is_alone m.there slots sheltered m.remains same stands.name stands.scene stands.shown.shows;
       kept = kept_elsewhere m (known p.logged.notes) events m.is_mapped m.is_closed is_alone m.there slots sheltered m.remains stands.name stands.scene stands.shown.kept;
+      counted = counted_elsewhere m (known p.logged.notes) events m.is_mapped m.is_closed is_alone m.there slots sheltered m.remains p.logged stands.scene refl stands.shown.counted;
     };
     given = stands.given;
     there = stands.there;

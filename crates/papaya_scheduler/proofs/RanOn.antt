@@ -28,7 +28,8 @@ use Rattle.papaya_rows.specs.Rows.{RowRan, used_as}
 use Rattle.papaya_scheduler.specs.Seen.{named, seen}
 use Rattle.papaya_scheduler.specs.declared.scheduler.NamedMap.{NamedMap}
 use Rattle.papaya_scheduler.specs.declared.scheduler.Scheduler.{Scheduler}
-use Rattle.papaya_rows.proofs.Elsewhere.{elsewhere, shown_elsewhere, kept_elsewhere}
+use Rattle.papaya_remains.proofs.Stays.{remains_stay}
+use Rattle.papaya_rows.proofs.Elsewhere.{elsewhere, shown_elsewhere, kept_elsewhere, counted_elsewhere}
 use Rattle.papaya_rows.proofs.Facts.{no_ending_of, no_making_of, no_work_at, row_rests}
 use Rattle.papaya_rows.proofs.Lists.{all_so, one_of, unseen}
 use Rattle.papaya_rows.proofs.Ran.{Led}
@@ -110,15 +111,16 @@ module _ {K V S : Type 0} (same : K → K → Bool) (hash : K → ℕ) (terms : 
             (no_ending_of same hash p.logged.executor stands.scene at j idle) (led.rows j ne ∙ row_rests same hash p.logged.executor stands.scene at j idle)
 
     pub stands_ran : (there2 : Present) → AllByRecursion (IsUnderWay stands.name stands.scene there2) p.calls.items.items → ((t : ℕ) → use_at new.executor t ≡ used_as t there2) → HaveNames there2
-        → (there : Present) → there ≡ there2 → (events : ℕ) (is_alone : Bool) (slots : ℕ) (sheltered : List Sheltered) (remains : List Remains)
+        → (there : Present) → there ≡ there2 → (events : ℕ) (is_alone : Bool) (slots : ℕ) (sheltered : List Sheltered) (remains : List Remains) → remains ≡ m.remains
         → StandsFor same hash terms (elsewhere events m.is_mapped m.is_closed is_alone there slots sheltered remains w) (record p { logged = new; there = there2 })
-    stands_ran there2 each used names there is events is_alone slots sheltered remains = record {
+    stands_ran there2 each used names there is events is_alone slots sheltered remains alike = record {
       name = stands.name;
       scene = then_at;
       shown = record {
         is_at = to.2.is_at;
         shows = shown_elsewhere w (known new.notes) events m.is_mapped m.is_closed is_alone there slots sheltered remains same stands.name then_at to.2.shows;
         kept = kept_elsewhere w (known new.notes) events m.is_mapped m.is_closed is_alone there slots sheltered remains stands.name then_at to.2.kept;
+        counted = counted_elsewhere w (known new.notes) events m.is_mapped m.is_closed is_alone there slots sheltered remains new then_at (alike ∙ sym (remains_stay None None ran.did m)) to.2.counted;
       };
       given = stands.given;
       there = is;

@@ -107,7 +107,7 @@ module _ {K V S : Type 0} (same : K → K → Bool) (hash : K → ℕ) (terms : 
             (stands_ran same hash terms m p stands slot call.Refresh said before after logged ran may_refresh
             (led_alone same hash stands.name m stands.scene p.logged logged stands.shown slot call.Refresh said before after ran may_refresh tt alone)
             (over_alone same hash stands.name m stands.scene p.logged logged stands.shown slot call.Refresh said before after ran may_refresh tt alone) p.there stands.calls.each use_now
-            stands.names w.there (there_stays None None ran.did m ∙ stands.there) (m.events + 1) (m.is_alone && is_alone_on e m) m.slots (unsheltered guard w.sheltered) m.remains)
+            stands.names w.there (there_stays None None ran.did m ∙ stands.there) (m.events + 1) (m.is_alone && is_alone_on e m) m.slots (unsheltered guard w.sheltered) m.remains refl)
 
 -- so it is, by what the code does
 module _ {K V S : Type 0} (same : K → K → Bool) (hash : K → ℕ) (terms : Terms) (log : List (Entry K V)) (p : Scheduler K V S) (guard : List ℕ)

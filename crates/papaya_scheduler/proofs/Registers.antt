@@ -74,7 +74,7 @@ module _ {K V S : Type 0} (same : K → K → Bool) (hash : K → ℕ) (terms : 
         (in_turn (wanted ran.did) turn (Refused fault) (turn_is false found) (gets_none same hash terms m p stands false said before after logged ran fault is nothing))
         (stands_ran same hash terms m p stands 0 (call.Register false) said before after logged ran tt (led_taking same hash terms m p stands false said before after logged ran)
         (over_taking same hash terms m p stands false said before after logged ran) p.there stands.calls.each (use_still same hash terms m p stands false said before after logged ran fault is) stands.names
-        (there_on {K = K} {V = V} (Register registration) (Refused fault) w.there) (there_stays None None ran.did m ∙ stands.there) (m.events + 1) (m.is_alone && is_alone_on e m) m.slots w.sheltered m.remains)
+        (there_on {K = K} {V = V} (Register registration) (Refused fault) w.there) (there_stays None None ran.did m ∙ stands.there) (m.events + 1) (m.is_alone && is_alone_on e m) m.slots w.sheltered m.remains refl)
 
     -- or has a slot
     module _ (slot : ℕ) (is : said ≡ told.Registered slot) where
@@ -101,7 +101,7 @@ module _ {K V S : Type 0} (same : K → K → Bool) (hash : K → ℕ) (terms : 
           (λ t ne. used_alike t p.there there2 refl
           (has_more registration slot p.there t ∙ ap (λ (b : Bool). if b then true else has_registration t p.there.registrations) (ne_eqb slot t (λ e. ne (sym e))))))
           (registers_named registration slot p.there stands.names names free) (there_on {K = K} {V = V} (Register registration) (Slot slot) w.there)
-          (ap (registers registration slot) (there_stays None None ran.did m ∙ stands.there)) (m.events + 1) (m.is_alone && is_alone_on e m) (max m.slots (slot + 1)) w.sheltered m.remains))
+          (ap (registers registration slot) (there_stays None None ran.did m ∙ stands.there)) (m.events + 1) (m.is_alone && is_alone_on e m) (max m.slots (slot + 1)) w.sheltered m.remains refl))
 
 -- so it is, by what the code does
 module _ {K V S : Type 0} (same : K → K → Bool) (hash : K → ℕ) (terms : Terms) (log : List (Entry K V)) (p : Scheduler K V S) (registration : List ℕ)

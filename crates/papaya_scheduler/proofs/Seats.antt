@@ -18,7 +18,7 @@ use Rattle.papaya_rows.specs.Rows.{used_as}
 use Rattle.papaya_scheduler.specs.Played.{IsDue, IsUnderWay, Plays, StandsFor}
 use Rattle.papaya_scheduler.specs.Seen.{Seen, free_slot, seen, seen_of}
 use Rattle.papaya_scheduler.specs.declared.scheduler.Scheduler.{Scheduler}
-use Rattle.papaya_rows.proofs.Elsewhere.{elsewhere, shown_elsewhere, kept_elsewhere}
+use Rattle.papaya_rows.proofs.Elsewhere.{elsewhere, shown_elsewhere, kept_elsewhere, counted_elsewhere}
 use Rattle.papaya_rows.proofs.Lists.{all_but, any_alike}
 use Rattle.papaya_rows.proofs.Names.{forgets_named}
 use Rattle.papaya_scheduler.proofs.Quiet.{stands_on}
@@ -37,6 +37,7 @@ module _ {K V S : Type 0} (same : K → K → Bool) (hash : K → ℕ) (terms : 
       is_at = stands.shown.is_at;
       shows = shown_elsewhere m (known p.logged.notes) events m.is_mapped m.is_closed is_alone there slots sheltered m.remains same stands.name stands.scene stands.shown.shows;
       kept = kept_elsewhere m (known p.logged.notes) events m.is_mapped m.is_closed is_alone there slots sheltered m.remains stands.name stands.scene stands.shown.kept;
+      counted = counted_elsewhere m (known p.logged.notes) events m.is_mapped m.is_closed is_alone there slots sheltered m.remains p.logged stands.scene refl stands.shown.counted;
     };
     given = stands.given;
     there = is;

@@ -147,7 +147,7 @@ module _ {K V S : Type 0} (same : K → K → Bool) (hash : K → ℕ) (terms : 
               (led_once same hash stands.name m stands.scene p.logged logged stands.shown slot call.Unregister said before after ran may_free tt)
               (over_once same hash stands.name m stands.scene p.logged logged stands.shown slot call.Unregister said before after ran may_free tt) there2 stands.calls.each use_now
               (unregisters_named registration p.there stands.names) (unregisters registration w.there) (ap (unregisters registration) (there_stays None None ran.did m ∙ stands.there))
-              (m.events + 1) (m.is_alone && is_alone_on e m) m.slots w.sheltered m.remains))
+              (m.events + 1) (m.is_alone && is_alone_on e m) m.slots w.sheltered m.remains refl))
 
 -- so it is, by what the code does
 module _ {K V S : Type 0} (same : K → K → Bool) (hash : K → ℕ) (terms : Terms) (log : List (Entry K V)) (p : Scheduler K V S) (registration : List ℕ)

@@ -7,6 +7,8 @@ use Rattle.papaya_histories.specs.Given.Points.Steps.{AreLawful}
 use Rattle.papaya_runs.specs.LifeCycle.{times}
 use Rattle.papaya_runs.specs.Same.{is_same}
 use Rattle.papaya_schedules.specs.declared.event.Event.{Event}
+use Rattle.papaya_schedules.specs.declared.outcome.Outcome.{Outcome}
+use Rattle.papaya_schedules.specs.declared.outcome.Outcome.TheVariants.{Done}
 use Rattle.papaya_schedules.specs.After.{moment}
 use Rattle.papaya_schedules.specs.Beginning.{used_roots}
 use Rattle.papaya_schedules.specs.Entry.{Entry}
@@ -24,6 +26,11 @@ use Rattle.papaya_scheduler.specs.declared.scheduler.Scheduler.{Scheduler}
 -- a map of this name can be made: none has it, and there may be one more
 abbrev pub may_make_of : List ℕ → Bool → ℕ → List NamedMap → Bool
 may_make_of own is_one_map made maps = is_none (number_named own maps) && not (is_one_map && nat_lt 0 made)
+
+-- so many maps have a number, of so many before, once the making of one came to this
+abbrev pub numbers_made : {V : Type 0} → Outcome V → ℕ → ℕ
+numbers_made Done count = count + 1
+numbers_made _ count = count
 
 -- with this a map begins that is to have so many places at first
 pub record IsGivenFor {K V S : Type 0} (mode : ResizeMode) (places : ℕ) (p : Scheduler K V S) (given : Setting) : Type 0 where

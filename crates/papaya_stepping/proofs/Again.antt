@@ -23,6 +23,7 @@ use Rattle.papaya_histories.specs.Given.Hands.Asked.{AsksThere, IsAskedAs}
 use Rattle.papaya_histories.specs.Given.Hands.Calling.{AsksJust}
 use Rattle.papaya_histories.proofs.Given.Moments.Calls.{calls_come_to_whole}
 use Rattle.papaya_kept.proofs.Stays.{calls_come_to_kept}
+use Rattle.papaya_logged.proofs.Counted.{counted_calls}
 use Rattle.papaya_scheduler.specs.Played.{StandsFor}
 use Rattle.papaya_scheduler.specs.Seen.{Seen, far_of, is_named, seen, seen_of}
 use Rattle.papaya_scheduler.specs.declared.caller.Caller.{Caller}
@@ -73,6 +74,7 @@ module _ {K V S : Type 0} (same : K → K → Bool) (hash : K → ℕ) (terms : 
         is_at = stands.shown.is_at;
         shows = calls_come_to_whole K V same stands.name m (known p.logged.notes) s stands.shown.shows own outcome counted (λ e. absurd (let a = goes_on in cc (a, e))) just;
         kept = calls_come_to_kept K V same stands.name m (known p.logged.notes) s stands.shown.shows stands.shown.kept own outcome counted (λ e. absurd (let a = goes_on in cc (a, e)));
+        counted = counted_calls p.logged m (come_to own outcome counted m) s stands.shown.counted refl refl refl;
       };
       given = stands.given;
       there = stands.there;

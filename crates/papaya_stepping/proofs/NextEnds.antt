@@ -37,6 +37,8 @@ use Rattle.papaya_logged.specs.Shown.{IsShown}
 use Rattle.papaya_logged.specs.declared.logged.Logged.{Logged}
 use Rattle.papaya_kept.proofs.Stays.{calls_come_to_kept}
 use Rattle.papaya_histories.proofs.Given.Moments.Calls.{calls_come_to_whole}
+use Rattle.papaya_remains.proofs.Stays.{remains_stay}
+use Rattle.papaya_logged.proofs.Counted.{counted_calls}
 use Rattle.papaya_scheduler.specs.Machines.{IsFor}
 use Rattle.papaya_scheduler.specs.Played.{AsFar, IsDue, StandsAs, StandsFor}
 use Rattle.papaya_scheduler.specs.Seen.{Seen, is_named, is_ready as is_ready_there, ready_place, seen, seen_of}
@@ -135,6 +137,7 @@ module _ {K V S : Type 0} (same : K → K → Bool) (hash : K → ℕ) (terms : 
                   (Shows (number_by by word)) counted (λ e. absurd (cc e)) (λ a j x is named_so. asks_nothing (known new.notes) x (Shows (number_by by word)) (λ q e. cc e));
               kept = calls_come_to_kept K V same stands.name w2 (known new.notes) (then_at same hash terms own n w p stands place at_place (progress.Pair word) new before after leads_so) shown_so.shows shown_so.kept own
                   (Shows (number_by by word)) counted (λ e. absurd (cc e));
+              counted = counted_calls new w2 (come_to own (Shows (number_by by word)) counted w2) (then_at same hash terms own n w p stands place at_place (progress.Pair word) new before after leads_so) shown_so.counted refl refl refl;
             }
 
     -- it has shown all, and is under way no more
@@ -169,6 +172,7 @@ module _ {K V S : Type 0} (same : K → K → Bool) (hash : K → ℕ) (terms : 
               kept = calls_come_to_kept K V same stands.name w2 (known new.notes) (then_at same hash terms own n w p stands place at_place (progress.Done answers.Swept) new before after leads_so) shown_so.shows shown_so.kept own
                   answer counted
                   (λ e. none_named (WalksFar own n) AsFar own others same hash terms w p stands place its (progress.Done answers.Swept) new (leads_so its.way.0 its.way.1).0 over);
+              counted = counted_calls new w2 (come_to own answer counted w2) (then_at same hash terms own n w p stands place at_place (progress.Done answers.Swept) new before after leads_so) shown_so.counted refl refl refl;
             }
 
     -- what it comes to
@@ -205,7 +209,7 @@ module _ {K V S : Type 0} (same : K → K → Bool) (hash : K → ℕ) (terms : 
       let e = quiet (Next own) (Refused Busy) in record {
         plays = plays same hash terms log (Next own) old due e refl (out_of_turn IsNext (shows_now (call_of own m)) (Refused Busy) (shows_by same hash terms log old own due.played None none) refl)
             (stands_elsewhere same hash terms (come_to own (Refused Busy) 0 m) old (busy_stands same hash terms log own false old due.played) (m.events + 1) m.is_mapped m.is_closed
-            (m.is_alone && is_alone_on e m) m.there m.slots m.sheltered m.remains refl refl refl);
+            (m.is_alone && is_alone_on e m) m.there m.slots m.sheltered m.remains refl refl refl refl);
         makes = refl;
         does = omega arith;
       }
@@ -302,7 +306,8 @@ module _ {K V S : Type 0} (same : K → K → Bool) (hash : K → ℕ) (terms : 
           let e = entry (Next own) outcome steps effects in record {
             plays = plays same hash terms log (Next own) then_new due e refl (in_turn IsNext (shows_now (call_of own m)) outcome (shows_by same hash terms log old own due.played (Some place) ready) is_next)
                 (stands_elsewhere same hash terms (come_to own outcome steps w) then_new stands_told (m.events + 1) m.is_mapped m.is_closed (m.is_alone && is_alone_on e m) w.there (slots_on outcome m.slots)
-                w.sheltered m.remains (sym (mapped_stays (Some own) (option_map (λ x. x.map) (call_of own m)) effects m)) (sym (closed_stays (Some own) (option_map (λ x. x.map) (call_of own m)) effects m)) refl);
+                w.sheltered m.remains (sym (mapped_stays (Some own) (option_map (λ x. x.map) (call_of own m)) effects m)) (sym (closed_stays (Some own) (option_map (λ x. x.map) (call_of own m)) effects m)) refl
+                (sym (remains_stay (Some own) (option_map (λ x. x.map) (call_of own m)) effects m)));
             makes = makes_next K V own (stands_or (call_of own m)) steps outcome is_next;
             does = subst (λ (k : ℕ). sum_by weight effects ≤ k) (sym comes.2)
                 (subst (λ (l : List Effect). sum_by weight l ≤ n + 1) (sym (follows_all same hash terms own place m n [] mid effects p walked midst said step))

@@ -39,6 +39,7 @@ use Rattle.papaya_logged.specs.Shown.{IsShown}
 use Rattle.papaya_logged.specs.declared.logged.Logged.{Logged}
 use Rattle.papaya_histories.proofs.Given.Moments.Calls.{calls_come_to_whole}
 use Rattle.papaya_kept.proofs.Stays.{calls_come_to_kept}
+use Rattle.papaya_logged.proofs.Counted.{counted_calls}
 use Rattle.papaya_owes.proofs.Grown.Calls.{step_keeps_grown}
 use Rattle.papaya_promises.proofs.Weights.{operations_are_single}
 use Rattle.papaya_scheduler.specs.Machines.{IsAsFar}
@@ -276,6 +277,7 @@ module _ {K V S : Type 0} (same : K → K → Bool) (hash : K → ℕ) (terms : 
               (λ e. none_named AsFar AsFar own (λ x apart machine is. is) same hash terms m p stands place here said new leads (over_next (leads d.map here.way.0 here.way.1).1 said then_next (leads d.map here.way.0 here.way.1).4.goes_on (ended e))) just;
           kept = calls_come_to_kept K V same stands.name w (known new.notes) then_at shown.shows shown.kept own outcome counted
               (λ e. none_named AsFar AsFar own (λ x apart machine is. is) same hash terms m p stands place here said new leads (over_next (leads d.map here.way.0 here.way.1).1 said then_next (leads d.map here.way.0 here.way.1).4.goes_on (ended e)));
+          counted = counted_calls new w (come_to own outcome counted w) then_at shown.counted refl refl refl;
         }
           where
             -- no other call has its name

@@ -53,9 +53,9 @@ module _ {K V S : Type 0} (same : K → K → Bool) (hash : K → ℕ) (terms : 
   pub step_busy : (due : IsDue same hash terms log (Step own refuse) p) → position (is_named own) p.calls.items.items ≡ None → PlaysOn same hash terms log (quiet (Step own refuse) (Refused Busy)) p
   step_busy due none =
       let e = quiet (Step own refuse) (Refused Busy) in record {
-        played = stands_elsewhere same hash terms (come_to own (Refused Busy) 0 m) p (busy_stands due.played) (m.events + 1) m.is_mapped m.is_closed (m.is_alone && is_alone_on e m) m.there m.slots m.sheltered m.remains refl refl refl;
+        played = stands_elsewhere same hash terms (come_to own (Refused Busy) 0 m) p (busy_stands due.played) (m.events + 1) m.is_mapped m.is_closed (m.is_alone && is_alone_on e m) m.there m.slots m.sheltered m.remains refl refl refl refl;
         plays = λ within. plays same hash terms log (Step own refuse) p due e refl (out_of_turn (λ o. GoesOn terms log e) (is_some (call_of own m)) (Refused Busy) (no_call due.played none) refl)
-            (stands_elsewhere same hash terms (come_to own (Refused Busy) 0 m) p (busy_stands due.played) (m.events + 1) m.is_mapped m.is_closed (m.is_alone && is_alone_on e m) m.there m.slots m.sheltered m.remains refl refl refl);
+            (stands_elsewhere same hash terms (come_to own (Refused Busy) 0 m) p (busy_stands due.played) (m.events + 1) m.is_mapped m.is_closed (m.is_alone && is_alone_on e m) m.there m.slots m.sheltered m.remains refl refl refl refl);
         makes = refl;
         does = omega arith;
       }
@@ -63,9 +63,9 @@ module _ {K V S : Type 0} (same : K → K → Bool) (hash : K → ℕ) (terms : 
   pub go_busy : (due : IsDue same hash terms log (Go own refuse) p) → position (is_named own) p.calls.items.items ≡ None → PlaysOn same hash terms log (quiet (Go own refuse) (Refused Busy)) p
   go_busy due none =
       let e = quiet (Go own refuse) (Refused Busy) in record {
-        played = stands_elsewhere same hash terms (come_to own (Refused Busy) 0 m) p (busy_stands due.played) (m.events + 1) m.is_mapped m.is_closed (m.is_alone && is_alone_on e m) m.there m.slots m.sheltered m.remains refl refl refl;
+        played = stands_elsewhere same hash terms (come_to own (Refused Busy) 0 m) p (busy_stands due.played) (m.events + 1) m.is_mapped m.is_closed (m.is_alone && is_alone_on e m) m.there m.slots m.sheltered m.remains refl refl refl refl;
         plays = λ within. plays same hash terms log (Go own refuse) p due e refl (out_of_turn (λ o. GoesOn terms log e) (is_some (call_of own m)) (Refused Busy) (no_call due.played none) refl)
-            (stands_elsewhere same hash terms (come_to own (Refused Busy) 0 m) p (busy_stands due.played) (m.events + 1) m.is_mapped m.is_closed (m.is_alone && is_alone_on e m) m.there m.slots m.sheltered m.remains refl refl refl);
+            (stands_elsewhere same hash terms (come_to own (Refused Busy) 0 m) p (busy_stands due.played) (m.events + 1) m.is_mapped m.is_closed (m.is_alone && is_alone_on e m) m.there m.slots m.sheltered m.remains refl refl refl refl);
         makes = refl;
         does = omega arith;
       }

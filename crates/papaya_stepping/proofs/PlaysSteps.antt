@@ -30,22 +30,24 @@ use Rattle.papaya_stepping.specs.Stepping.{ComesAs, ComesBy, IsInCase, PlaysOn, 
 use Rattle.papaya_scheduler.specs.declared.caller.Stands.TheVariants as far
 use Rattle.papaya_scheduler.specs.declared.scheduler.Scheduler.{Scheduler}
 use Rattle.papaya_stepping.proofs.AfterEffects.{closed_stays, mapped_stays}
-use Rattle.papaya_rows.proofs.Elsewhere.{elsewhere, shown_elsewhere, kept_elsewhere}
+use Rattle.papaya_remains.proofs.Stays.{remains_stay}
+use Rattle.papaya_rows.proofs.Elsewhere.{elsewhere, shown_elsewhere, kept_elsewhere, counted_elsewhere}
 use Rattle.papaya_scheduler.proofs.Here.{Here, here_at}
 use Rattle.papaya_stepping.proofs.RightSteps.{makes_many, makes_one, may_come, not_busy, progresses}
 use Rattle.papaya_scheduler.proofs.Rights.{entry, in_turn, plays}
 
 -- it stands for a moment that is elsewhere as it says
 pub stands_elsewhere : {K V S : Type 0} (same : K → K → Bool) (hash : K → ℕ) (terms : Terms) (m : Moment K V) (p : Scheduler K V S) → StandsFor same hash terms m p
-    → (events : ℕ) (is_mapped is_closed is_alone : Bool) (there : Present) (slots : ℕ) (sheltered : List Sheltered) (remains : List Remains) → is_mapped ≡ m.is_mapped → is_closed ≡ m.is_closed → there ≡ m.there
+    → (events : ℕ) (is_mapped is_closed is_alone : Bool) (there : Present) (slots : ℕ) (sheltered : List Sheltered) (remains : List Remains) → is_mapped ≡ m.is_mapped → is_closed ≡ m.is_closed → there ≡ m.there → remains ≡ m.remains
     → StandsFor same hash terms (elsewhere events is_mapped is_closed is_alone there slots sheltered remains m) p
-stands_elsewhere same hash terms m p stands events is_mapped is_closed is_alone there slots sheltered remains mapped closed there_is = record {
+stands_elsewhere same hash terms m p stands events is_mapped is_closed is_alone there slots sheltered remains mapped closed there_is alike = record {
   name = stands.name;
   scene = stands.scene;
   shown = record {
     is_at = stands.shown.is_at;
     shows = shown_elsewhere m (known p.logged.notes) events is_mapped is_closed is_alone there slots sheltered remains same stands.name stands.scene stands.shown.shows;
     kept = kept_elsewhere m (known p.logged.notes) events is_mapped is_closed is_alone there slots sheltered remains stands.name stands.scene stands.shown.kept;
+    counted = counted_elsewhere m (known p.logged.notes) events is_mapped is_closed is_alone there slots sheltered remains p.logged stands.scene alike stands.shown.counted;
   };
   given = stands.given;
   there = there_is ∙ stands.there;
@@ -108,12 +110,12 @@ module _ {K V S : Type 0} (same : K → K → Bool) (hash : K → ℕ) (terms : 
   never_busy = not_busy d.call outcome d_comes
 
   -- where it stands then
-  pub stands_then : (events : ℕ) (is_mapped is_closed is_alone : Bool) (slots : ℕ) (remains : List Remains) → is_mapped ≡ m.is_mapped → is_closed ≡ m.is_closed
+  pub stands_then : (events : ℕ) (is_mapped is_closed is_alone : Bool) (slots : ℕ) (remains : List Remains) → is_mapped ≡ m.is_mapped → is_closed ≡ m.is_closed → remains ≡ m.remains
       → StandsFor same hash terms (elsewhere events is_mapped is_closed is_alone w.there slots w.sheltered remains (come_to own outcome steps w)) new
-  stands_then events is_mapped is_closed is_alone slots remains mapped closed =
+  stands_then events is_mapped is_closed is_alone slots remains mapped closed alike =
       stands_elsewhere same hash terms (come_to own outcome steps w) new (subst (λ (x : Moment K V). StandsFor same hash terms (come_to own outcome steps x) new) worked_is (comes.stands never_busy steps))
       events is_mapped is_closed is_alone w.there slots w.sheltered remains (mapped ∙ sym (mapped_stays (Some own) (option_map (λ x. x.map) (call_of own m)) effects m))
-      (closed ∙ sym (closed_stays (Some own) (option_map (λ x. x.map) (call_of own m)) effects m)) refl
+      (closed ∙ sym (closed_stays (Some own) (option_map (λ x. x.map) (call_of own m)) effects m)) refl (alike ∙ sym (remains_stay (Some own) (option_map (λ x. x.map) (call_of own m)) effects m))
 
   module _ (within : IfCall (λ x. IsInCase terms x (moments_from x.begun log) w outcome) (call_of own w)) where
     case_of : IsInCase terms d (moments_from d.begun log) w outcome
@@ -143,9 +145,9 @@ module _ {K V S : Type 0} (same : K → K → Bool) (hash : K → ℕ) (terms : 
   pub plays_step : (refuse : Bool) → IsDue same hash terms log (Step own refuse) old → steps ≡ 1 → PlaysOn same hash terms log (entry (Step own refuse) outcome steps effects) new
   plays_step refuse due one =
       let e = entry (Step own refuse) outcome steps effects in record {
-        played = stands_then same hash terms log m own old stands place placed goes steps outcome effects new comes (m.events + 1) m.is_mapped m.is_closed (m.is_alone && is_alone_on e m) (slots_on outcome m.slots) m.remains refl refl;
+        played = stands_then same hash terms log m own old stands place placed goes steps outcome effects new comes (m.events + 1) m.is_mapped m.is_closed (m.is_alone && is_alone_on e m) (slots_on outcome m.slots) m.remains refl refl refl;
         plays = λ within. plays same hash terms log (Step own refuse) new due e refl (in_turn (λ o. GoesOn terms log e) (is_some (call_of own m)) outcome (in_place same hash terms log m own old stands place placed goes steps outcome effects new comes) (goes_right same hash terms log m own old stands place placed goes steps outcome effects new comes within))
-            (stands_then same hash terms log m own old stands place placed goes steps outcome effects new comes (m.events + 1) m.is_mapped m.is_closed (m.is_alone && is_alone_on e m) (slots_on outcome m.slots) m.remains refl refl);
+            (stands_then same hash terms log m own old stands place placed goes steps outcome effects new comes (m.events + 1) m.is_mapped m.is_closed (m.is_alone && is_alone_on e m) (slots_on outcome m.slots) m.remains refl refl refl);
         makes = makes_one K V own refuse (stands_or (call_of own m)) (stand_is same hash terms log m own old stands place placed goes steps outcome effects new comes) steps one outcome (never_busy same hash terms log m own old stands place placed goes steps outcome effects new comes);
         does = few_steps same hash terms log m own old stands place placed goes steps outcome effects new comes;
       }
@@ -154,9 +156,9 @@ module _ {K V S : Type 0} (same : K → K → Bool) (hash : K → ℕ) (terms : 
   pub plays_go : (refuse : Bool) → IsDue same hash terms log (Go own refuse) old → TakesUpTo most_steps steps outcome → PlaysOn same hash terms log (entry (Go own refuse) outcome steps effects) new
   plays_go refuse due takes =
       let e = entry (Go own refuse) outcome steps effects in record {
-        played = stands_then same hash terms log m own old stands place placed goes steps outcome effects new comes (m.events + 1) m.is_mapped m.is_closed (m.is_alone && is_alone_on e m) (slots_on outcome m.slots) m.remains refl refl;
+        played = stands_then same hash terms log m own old stands place placed goes steps outcome effects new comes (m.events + 1) m.is_mapped m.is_closed (m.is_alone && is_alone_on e m) (slots_on outcome m.slots) m.remains refl refl refl;
         plays = λ within. plays same hash terms log (Go own refuse) new due e refl (in_turn (λ o. GoesOn terms log e) (is_some (call_of own m)) outcome (in_place same hash terms log m own old stands place placed goes steps outcome effects new comes) (goes_right same hash terms log m own old stands place placed goes steps outcome effects new comes within))
-            (stands_then same hash terms log m own old stands place placed goes steps outcome effects new comes (m.events + 1) m.is_mapped m.is_closed (m.is_alone && is_alone_on e m) (slots_on outcome m.slots) m.remains refl refl);
+            (stands_then same hash terms log m own old stands place placed goes steps outcome effects new comes (m.events + 1) m.is_mapped m.is_closed (m.is_alone && is_alone_on e m) (slots_on outcome m.slots) m.remains refl refl refl);
         makes = makes_many K V own refuse (stands_or (call_of own m)) (stand_is same hash terms log m own old stands place placed goes steps outcome effects new comes) steps outcome takes (never_busy same hash terms log m own old stands place placed goes steps outcome effects new comes);
         does = few_steps same hash terms log m own old stands place placed goes steps outcome effects new comes;
       }

@@ -57,10 +57,10 @@ module _ {K V S : Type 0} (same : K → K → Bool) (hash : K → ℕ) (terms : 
       let e = quiet (OneCall guard name call) (Refused Busy) in
       subst (λ (x : Scheduler K V S). PlaysOn same hash terms log e x) (sym (begins.none refl)) (record {
         played = stands_elsewhere same hash terms (come_to nameless (Refused Busy) 0 m) old (busy_stands same hash terms log nameless false old due.played) (m.events + 1) m.is_mapped m.is_closed
-            (m.is_alone && is_alone_on e m) m.there m.slots m.sheltered m.remains refl refl refl;
+            (m.is_alone && is_alone_on e m) m.there m.slots m.sheltered m.remains refl refl refl refl;
         plays = λ within. plays same hash terms log (OneCall guard name call) old due e refl (out_of_turn (λ o. GoesOn terms log e) (may_begin guard name m) (Refused Busy) (sym begins.so) refl)
             (stands_elsewhere same hash terms (come_to nameless (Refused Busy) 0 m) old (busy_stands same hash terms log nameless false old due.played) (m.events + 1) m.is_mapped m.is_closed
-            (m.is_alone && is_alone_on e m) m.there m.slots m.sheltered m.remains refl refl refl);
+            (m.is_alone && is_alone_on e m) m.there m.slots m.sheltered m.remains refl refl refl refl);
         makes = refl;
         does = omega arith;
       })
@@ -94,6 +94,10 @@ module _ {K V S : Type 0} (same : K → K → Bool) (hash : K → ℕ) (terms : 
     mapped_with None = refl
     mapped_with (Some n) = refl
 
+    remains_with : (o : Option ℕ) → m.remains ≡ (with_call nameless guard call o m).remains
+    remains_with None = refl
+    remains_with (Some n) = refl
+
     closed_with : (o : Option ℕ) → m.is_closed ≡ (with_call nameless guard call o m).is_closed
     closed_with None = refl
     closed_with (Some n) = refl
@@ -105,7 +109,7 @@ module _ {K V S : Type 0} (same : K → K → Bool) (hash : K → ℕ) (terms : 
     plays_whole = record {
       played = subst (λ (x : Moment K V). StandsFor same hash terms (After x) new) b_is
           (stands_then same hash terms log m1 nameless mid (begins.stands refl) 0 placed goes steps outcome effects new comes (m.events + 1) m.is_mapped m.is_closed (m.is_alone && is_alone_on e m)
-          (slots_on outcome m.slots) m.remains (mapped_with (number_of name m)) (closed_with (number_of name m)));
+          (slots_on outcome m.slots) m.remains (mapped_with (number_of name m)) (closed_with (number_of name m)) (remains_with (number_of name m)));
       plays = λ within.
           let at_m1 = subst InCase (sym b_is) within in
           plays same hash terms log (OneCall guard name call) new due e refl
@@ -113,7 +117,7 @@ module _ {K V S : Type 0} (same : K → K → Bool) (hash : K → ℕ) (terms : 
           (subst Right b_is (goes_right same hash terms log m1 nameless mid (begins.stands refl) 0 placed goes steps outcome effects new comes at_m1)))
           (subst (λ (x : Moment K V). StandsFor same hash terms (After x) new) b_is
           (stands_then same hash terms log m1 nameless mid (begins.stands refl) 0 placed goes steps outcome effects new comes (m.events + 1) m.is_mapped m.is_closed (m.is_alone && is_alone_on e m)
-          (slots_on outcome m.slots) m.remains (mapped_with (number_of name m)) (closed_with (number_of name m))));
+          (slots_on outcome m.slots) m.remains (mapped_with (number_of name m)) (closed_with (number_of name m)) (remains_with (number_of name m))));
       makes = makes_whole guard name call (stands_or (call_of nameless b)) steps outcome takes never;
       does = few_steps same hash terms log m1 nameless mid (begins.stands refl) 0 placed goes steps outcome effects new comes;
     }

@@ -1,18 +1,30 @@
 -- An event is kept out, or happens by its kind.
-use Rattle.std.proofs.Common.{refl, sym, ap, ◌∙◌}
+use Rattle.std.proofs.Common.{length, refl, sym, ap, ◌∙◌}
+use Rattle.papaya_histories.specs.Given.Executor.IsAt.{StaysGiven}
+use Rattle.papaya_running.specs.Asked.{HappensAt}
+use Rattle.papaya_running.proofs.Counts.{calls_make_none, counts_still, out_counts, slots_make_none}
 use Rattle.papaya_running.proofs.Gives.{calls_reclaim_none, gave_in_turn, gave_none_if, gave_out}
 use Rattle.papaya_running.proofs.Happened.{in_turn_if, out_so, stays_out}
+use Rattle.papaya_running.proofs.Held.{holds_if, holds_so}
 use Rattle.papaya_running.proofs.happening.happen.Goals as goal
 
 pub returns-then-keeps_out : goal.returns-then-keeps_out
-returns-then-keeps_out g c = record {
-  happens =
-      stays_out g.K.PartialEq.eq (g.S.Hashes.hash c.args.scheduler.now.logged.executor.hasher) c.args.event c.args.scheduler.now c.args.is_first c.refuse.new.self c.refuse.result
-      c.refuse.ensures.outcome c.refuse.ensures.steps c.refuse.ensures.effects
-      (c.refuse.ensures.plays g.K.PartialEq.eq (g.S.Hashes.hash c.args.scheduler.now.logged.executor.hasher)) (sym c.keeps_out.ensures ∙ c.if-keeps_out.true);
-  back = gave_out g.K.PartialEq.eq (g.S.Hashes.hash c.args.scheduler.now.logged.executor.hasher) c.args.event c.args.scheduler.now c.refuse.result c.args.back.now.items c.refuse.ensures.effects;
-  given = (ap (λ p. p.logged.executor.hasher) c.refuse.ensures.mapped, ap (λ p. p.logged.executor.batch_size) c.refuse.ensures.mapped, ap (λ p. p.logged.executor.roots) c.refuse.ensures.mapped);
-}
+returns-then-keeps_out g c =
+    let given : StaysGiven c.args.scheduler.now.logged.executor c.refuse.new.self.logged.executor =
+    (ap (λ p. p.logged.executor.hasher) c.refuse.ensures.mapped, ap (λ p. p.logged.executor.batch_size) c.refuse.ensures.mapped, ap (λ p. p.logged.executor.roots) c.refuse.ensures.mapped) in
+    let happens : HappensAt g.K.PartialEq.eq (g.S.Hashes.hash c.args.scheduler.now.logged.executor.hasher) c.args.is_first c.args.event c.refuse.result c.args.scheduler.now c.refuse.new.self =
+    stays_out g.K.PartialEq.eq (g.S.Hashes.hash c.args.scheduler.now.logged.executor.hasher) c.args.event c.args.scheduler.now c.args.is_first c.refuse.new.self c.refuse.result
+    c.refuse.ensures.outcome c.refuse.ensures.steps c.refuse.ensures.effects
+    (c.refuse.ensures.plays g.K.PartialEq.eq (g.S.Hashes.hash c.args.scheduler.now.logged.executor.hasher)) (sym c.keeps_out.ensures ∙ c.if-keeps_out.true) in
+    record {
+      happens = happens;
+      holds =
+          holds_so g.K.PartialEq.eq (g.S.Hashes.hash c.args.scheduler.now.logged.executor.hasher) c.args.event c.args.is_first c.args.scheduler.now c.refuse.new.self given c.refuse.result happens
+          (ap (λ p. length p.logged.executor.maps.items) c.refuse.ensures.mapped
+          ∙ sym (out_counts c.args.event c.refuse.result.outcome (length c.args.scheduler.now.logged.executor.maps.items) c.refuse.ensures.outcome));
+      back = gave_out g.K.PartialEq.eq (g.S.Hashes.hash c.args.scheduler.now.logged.executor.hasher) c.args.event c.args.scheduler.now c.refuse.result c.args.back.now.items c.refuse.ensures.effects;
+      given = given;
+    }
 
 pub of_calls-requires : goal.of_calls-requires
 of_calls-requires g c =
@@ -26,6 +38,11 @@ returns-then-is_of_calls g c = record {
   happens =
       in_turn_if g.K.PartialEq.eq (g.S.Hashes.hash c.args.scheduler.now.logged.executor.hasher) c.args.event c.args.scheduler.now c.args.is_first c.of_calls.new.scheduler c.of_calls.result
       c.of_calls.ensures.happens (sym c.keeps_out.ensures ∙ c.if-keeps_out.false);
+  holds =
+      holds_if g.K.PartialEq.eq (g.S.Hashes.hash c.args.scheduler.now.logged.executor.hasher) c.args.event c.args.is_first c.args.scheduler.now c.of_calls.new.scheduler (c.of_calls.ensures.given.0, c.of_calls.ensures.given.1, c.of_calls.ensures.given.2) c.of_calls.result
+      (in_turn_if g.K.PartialEq.eq (g.S.Hashes.hash c.args.scheduler.now.logged.executor.hasher) c.args.event c.args.scheduler.now c.args.is_first c.of_calls.new.scheduler c.of_calls.result
+      c.of_calls.ensures.happens (sym c.keeps_out.ensures ∙ c.if-keeps_out.false))
+      (counts_still c.args.event c.of_calls.result (length c.args.scheduler.now.logged.executor.maps.items) (length c.of_calls.new.scheduler.logged.executor.maps.items) (calls_make_none c.args.event (sym c.is_of_calls.ensures ∙ c.if-is_of_calls.true)) c.of_calls.ensures.given.3);
   back =
       gave_in_turn g.K.PartialEq.eq (g.S.Hashes.hash c.args.scheduler.now.logged.executor.hasher) c.args.event c.args.scheduler.now c.of_calls.result c.args.back.now.items c.args.back.now.items
       (gave_none_if g.K.PartialEq.eq (g.S.Hashes.hash c.args.scheduler.now.logged.executor.hasher) c.args.event c.args.event refl c.args.scheduler.now
@@ -45,6 +62,11 @@ returns-then-is_of_maps g c = record {
   happens =
       in_turn_if g.K.PartialEq.eq (g.S.Hashes.hash c.args.scheduler.now.logged.executor.hasher) c.args.event c.args.scheduler.now c.args.is_first c.of_maps.new.scheduler c.of_maps.result
       c.of_maps.ensures.happens (sym c.keeps_out.ensures ∙ c.if-keeps_out.false);
+  holds =
+      holds_if g.K.PartialEq.eq (g.S.Hashes.hash c.args.scheduler.now.logged.executor.hasher) c.args.event c.args.is_first c.args.scheduler.now c.of_maps.new.scheduler c.of_maps.ensures.given c.of_maps.result
+      (in_turn_if g.K.PartialEq.eq (g.S.Hashes.hash c.args.scheduler.now.logged.executor.hasher) c.args.event c.args.scheduler.now c.args.is_first c.of_maps.new.scheduler c.of_maps.result
+      c.of_maps.ensures.happens (sym c.keeps_out.ensures ∙ c.if-keeps_out.false))
+      c.of_maps.ensures.count;
   back =
       gave_in_turn g.K.PartialEq.eq (g.S.Hashes.hash c.args.scheduler.now.logged.executor.hasher) c.args.event c.args.scheduler.now c.of_maps.result c.args.back.now.items c.of_maps.new.back.items c.of_maps.ensures.back
       (sym c.keeps_out.ensures ∙ c.if-keeps_out.false);
@@ -64,6 +86,11 @@ returns g c = record {
   happens =
       in_turn_if g.K.PartialEq.eq (g.S.Hashes.hash c.args.scheduler.now.logged.executor.hasher) c.args.event c.args.scheduler.now c.args.is_first c.of_slots.new.scheduler c.of_slots.result
       c.of_slots.ensures.happens (sym c.keeps_out.ensures ∙ c.if-keeps_out.false);
+  holds =
+      holds_if g.K.PartialEq.eq (g.S.Hashes.hash c.args.scheduler.now.logged.executor.hasher) c.args.event c.args.is_first c.args.scheduler.now c.of_slots.new.scheduler (c.of_slots.ensures.given.0, c.of_slots.ensures.given.1, c.of_slots.ensures.given.2) c.of_slots.result
+      (in_turn_if g.K.PartialEq.eq (g.S.Hashes.hash c.args.scheduler.now.logged.executor.hasher) c.args.event c.args.scheduler.now c.args.is_first c.of_slots.new.scheduler c.of_slots.result
+      c.of_slots.ensures.happens (sym c.keeps_out.ensures ∙ c.if-keeps_out.false))
+      (counts_still c.args.event c.of_slots.result (length c.args.scheduler.now.logged.executor.maps.items) (length c.of_slots.new.scheduler.logged.executor.maps.items) (slots_make_none c.args.event (sym c.is_of_maps.ensures ∙ c.if-is_of_maps.false)) c.of_slots.ensures.given.3);
   back =
       gave_in_turn g.K.PartialEq.eq (g.S.Hashes.hash c.args.scheduler.now.logged.executor.hasher) c.args.event c.args.scheduler.now c.of_slots.result c.args.back.now.items c.of_slots.new.back.items c.of_slots.ensures.back
       (sym c.keeps_out.ensures ∙ c.if-keeps_out.false);

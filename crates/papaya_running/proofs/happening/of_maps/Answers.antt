@@ -1,6 +1,7 @@
 -- An event of maps, or one that reclaims everything.
-use Rattle.std.proofs.Common.{refl}
+use Rattle.std.proofs.Common.{length, refl, sym, ◌∙◌}
 use Rattle.std.proofs.lemmas.Result.{IfOk-weaker}
+use Rattle.papaya_running.proofs.Counts.{counts_as, counts_still}
 use Rattle.papaya_running.proofs.Forms.{some_map}
 use Rattle.papaya_running.proofs.Gives.{gave, gave_all, gave_none_if}
 use Rattle.papaya_running.proofs.Happened.{due_so, may_give, may_map, may_play, still_if}
@@ -65,3 +66,18 @@ returns-in-ReclaimAll-clause-back g c = gave_all g.K.PartialEq.eq (g.S.Hashes.ha
 
 pub returns-in-Close-clause-back : goal.returns-in-Close-clause-back
 returns-in-Close-clause-back g c = gave_all g.K.PartialEq.eq (g.S.Hashes.hash c.args.scheduler.now.logged.executor.hasher) c.args.event _ c.in-Close.is c.args.scheduler.now c.close.result c.args.back.now.items c.close.new.back.items c.close.ensures.back
+
+pub returns-in-MakeMap-clause-count : goal.returns-in-MakeMap-clause-count
+returns-in-MakeMap-clause-count g c = counts_as c.args.event c.make_map.result (length c.args.scheduler.now.logged.executor.maps.items) (length c.make_map.new.self.logged.executor.maps.items) _ c.in-MakeMap.is c.make_map.ensures.numbers
+
+pub returns-in-EndMap-clause-count : goal.returns-in-EndMap-clause-count
+returns-in-EndMap-clause-count g c = counts_still c.args.event c.end_map.result (length c.args.scheduler.now.logged.executor.maps.items) (length c.end_map.new.self.logged.executor.maps.items) (λ n mode k made. (let two = sym c.in-EndMap.is ∙ made in cc two)) c.end_map.ensures.given.3
+
+pub returns-in-ShowShape-clause-count : goal.returns-in-ShowShape-clause-count
+returns-in-ShowShape-clause-count g c = counts_still c.args.event c.show_shape.result (length c.args.scheduler.now.logged.executor.maps.items) (length c.args.scheduler.now.logged.executor.maps.items) (λ n mode k made. (let two = sym c.in-ShowShape.is ∙ made in cc two)) refl
+
+pub returns-in-ReclaimAll-clause-count : goal.returns-in-ReclaimAll-clause-count
+returns-in-ReclaimAll-clause-count g c = counts_still c.args.event c.reclaim_all.result (length c.args.scheduler.now.logged.executor.maps.items) (length c.reclaim_all.new.self.logged.executor.maps.items) (λ n mode k made. (let two = sym c.in-ReclaimAll.is ∙ made in cc two)) c.reclaim_all.ensures.given.3
+
+pub returns-in-Close-clause-count : goal.returns-in-Close-clause-count
+returns-in-Close-clause-count g c = counts_still c.args.event c.close.result (length c.args.scheduler.now.logged.executor.maps.items) (length c.close.new.self.logged.executor.maps.items) (λ n mode k made. (let two = sym c.in-Close.is ∙ made in cc two)) c.close.ensures.given.3

@@ -40,7 +40,7 @@ returns g c =
           (subst (λ t. c.add.new.self.trace.items ≡ rec.trace.items ++ (if is_busy played.outcome then single.Whole (length rec.outcomes.items) ∷ [] else singles_as (length rec.outcomes.items) t played.steps))
           c.traced_as-traced.ensures trace)
           (goes_so eq hash terms log _ c.happen.new.scheduler (c.in_ok-played.ensures.happens terms log first so.holds))
-          (c.in_ok-played.ensures.holds terms log so.holds)));
+          (c.in_ok-played.ensures.holds terms log first so.holds)));
       back =
           ok_four c.add.result _ _ _ _ _ c.add.ensures.outcomes c.add.ensures.steps c.add.ensures.effects c.add.ensures.trace
           (λ outcomes steps effects trace. λ terms events so before.

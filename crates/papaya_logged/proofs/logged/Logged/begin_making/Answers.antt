@@ -9,7 +9,7 @@ pub returns-clause-leads : goal.returns-clause-leads
 returns-clause-leads g c = λ same hash name m s shown.
     making_is_begun same hash c.args.self.now (record { executor = c.begin_making.new.self; notes = c.args.self.now.notes }) c.args.given c.args.places _
     (λ v at. c.in_ok-caller.ensures.leads same hash v at)
-    (λ v at. subst (λ (i : ℕ). v.makers i ≡ None) (sym c.in_ok-caller.ensures.number) (no_making_yet same hash c.args.self.now.executor v at c.args.slot c.requires)) refl name m s shown
+    (λ v at. subst (λ (i : ℕ). v.makers i ≡ None) (sym c.in_ok-caller.ensures.number) (no_making_yet same hash c.args.self.now.executor v at c.args.slot c.requires)) refl c.begin_making.ensures.given.2 c.in_ok-caller.ensures.numbers name m s shown
 
 pub returns-clause-there : goal.returns-clause-there
 returns-clause-there g c = map_is_there _

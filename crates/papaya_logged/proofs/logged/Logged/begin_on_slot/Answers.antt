@@ -6,4 +6,4 @@ use Rattle.papaya_logged.proofs.logged.Logged.begin_on_slot.Goals as goal
 pub returns-clause-leads : goal.returns-clause-leads
 returns-clause-leads g c = λ same hash name m s shown.
     on_slot_begins same hash c.args.self.now (record { executor = c.begin_on_slot.new.self; notes = c.args.self.now.notes }) c.args.called _
-    (λ v at. c.in_ok-caller.ensures.leads same hash v at) refl name m s shown
+    (λ v at. c.in_ok-caller.ensures.leads same hash v at) refl c.begin_on_slot.ensures.given name m s shown

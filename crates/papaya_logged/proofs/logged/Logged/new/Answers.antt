@@ -3,7 +3,7 @@ use Rattle.papaya_logged.proofs.Begins.{first_shown}
 use Rattle.papaya_logged.proofs.logged.Logged.new.Goals as goal
 
 pub returns-clause-shown : goal.returns-clause-shown
-returns-clause-shown g c = λ same hash name. first_shown same hash name _ _ (c.in_ok-executor.ensures.stands same hash) c.nothing-notes.ensures
+returns-clause-shown g c = λ same hash name. first_shown same hash name _ _ (c.in_ok-executor.ensures.stands same hash) c.in_ok-executor.ensures.given.2 c.nothing-notes.ensures
 
 pub returns-clause-maps : goal.returns-clause-maps
 returns-clause-maps g c = c.in_ok-executor.ensures.maps

@@ -6,6 +6,6 @@ use Rattle.papaya_logged.proofs.logged.Logged.next.Goals as goal
 pub returns : goal.returns
 returns g c = record {
   leads = λ same hash name m s shown.
-      walk_goes_on same hash c.args.self.now (record { executor = c.next.new.self; notes = c.args.self.now.notes }) refl c.args.caller c.next.result (λ v at. c.next.ensures.leads same hash v at) name m s shown;
+      walk_goes_on same hash c.args.self.now (record { executor = c.next.new.self; notes = c.args.self.now.notes }) refl c.next.ensures.given c.args.caller c.next.result (λ v at. c.next.ensures.leads same hash v at) name m s shown;
   given = c.next.ensures.given;
 }

@@ -30,7 +30,7 @@ loop-left-preserved g c =
 pub returns-then-is_done-clause-ran : goal.returns-then-is_done-clause-ran
 returns-then-is_done-clause-ran g c =
     reclaims_last c.args.taken _ _ _ c.args.self.now c.loop-left.self c.step_reclaiming.new.self _ _ _
-    (λ same hash name m s i lists shown nobody may. c.begin_reclaiming-reclaiming.ensures same hash name m s i lists shown nobody may) c.loop-left.invariant.so_far c.in_ok-told.told (sym c.is_done.ensures ∙ c.if-is_done.true)
+    (λ same hash name m s i lists shown nobody may. c.begin_reclaiming-reclaiming.ensures same hash name m s i lists shown nobody may) c.loop-left.invariant.given.2 c.loop-left.invariant.so_far c.in_ok-told.told (sym c.is_done.ensures ∙ c.if-is_done.true)
     c.in_ok-told.ensures.leads c.in_ok-told.ensures.steps
 
 pub returns-then-is_done-clause-back : goal.returns-then-is_done-clause-back

@@ -12,7 +12,7 @@ use Rattle.papaya_logged.proofs.logged.Logged.step_end.Goals as goal
 pub returns-clause-leads : goal.returns-clause-leads
 returns-clause-leads g c =
     end_steps c.args.self.now c.note.new.self c.step_ending-told.new.self c.args.caller c.args.map c.step_ending-told.result c.args.effects.now.items c.note.new.effects.items
-    (λ same hash v at. c.step_ending-told.ensures.leads same hash v at) c.in_ok-note.ensures.did c.in_ok-note.ensures.known c.note.ensures.executor
+    (λ same hash v at. c.step_ending-told.ensures.leads same hash v at) c.in_ok-note.ensures.did c.in_ok-note.ensures.known c.note.ensures.executor c.step_ending-told.ensures.given
 
 pub returns-clause-steps : goal.returns-clause-steps
 returns-clause-steps g c = λ same hash s at.

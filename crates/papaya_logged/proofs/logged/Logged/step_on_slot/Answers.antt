@@ -12,7 +12,7 @@ use Rattle.papaya_logged.proofs.logged.Logged.step_on_slot.Goals as goal
 pub returns-clause-leads : goal.returns-clause-leads
 returns-clause-leads g c =
     on_slot_steps c.args.self.now c.note.new.self c.step_on_slot-told.new.self c.args.caller c.step_on_slot-told.result c.args.effects.now.items c.note.new.effects.items
-    (λ same hash v at. c.step_on_slot-told.ensures.leads same hash v at) c.in_ok-note.ensures.did c.in_ok-note.ensures.known c.note.ensures.executor
+    (λ same hash v at. c.step_on_slot-told.ensures.leads same hash v at) c.in_ok-note.ensures.did c.in_ok-note.ensures.known c.note.ensures.executor c.step_on_slot-told.ensures.given
 
 pub returns-clause-steps : goal.returns-clause-steps
 returns-clause-steps g c = λ same hash s at.

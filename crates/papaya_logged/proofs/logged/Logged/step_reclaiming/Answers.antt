@@ -12,7 +12,7 @@ use Rattle.papaya_logged.proofs.logged.Logged.step_reclaiming.Goals as goal
 pub returns-clause-leads : goal.returns-clause-leads
 returns-clause-leads g c =
     reclaiming_steps c.args.self.now c.note.new.self c.step-told.new.executor c.args.reclaiming.now.all c.step-told.new.self.all c.step-told.result c.args.effects.now.items c.note.new.effects.items
-    (λ same hash s i lists at. c.step-told.ensures.leads same hash s i lists at) c.in_ok-note.ensures.did c.in_ok-note.ensures.known c.note.ensures.executor
+    (λ same hash s i lists at. c.step-told.ensures.leads same hash s i lists at) c.in_ok-note.ensures.did c.in_ok-note.ensures.known c.note.ensures.executor c.step-told.ensures.given
 
 pub returns-clause-steps : goal.returns-clause-steps
 returns-clause-steps g c = λ same hash s i lists at.

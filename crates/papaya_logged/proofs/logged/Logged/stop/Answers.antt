@@ -6,6 +6,6 @@ use Rattle.papaya_logged.proofs.logged.Logged.stop.Goals as goal
 pub returns : goal.returns
 returns g c = record {
   leads = λ same hash name m s shown.
-      walk_stops same hash c.args.self.now (record { executor = c.stop.new.self; notes = c.args.self.now.notes }) refl c.args.caller c.stop.result (λ v at. c.stop.ensures.leads same hash v at) name m s shown;
+      walk_stops same hash c.args.self.now (record { executor = c.stop.new.self; notes = c.args.self.now.notes }) refl c.stop.ensures.given c.args.caller c.stop.result (λ v at. c.stop.ensures.leads same hash v at) name m s shown;
   given = c.stop.ensures.given;
 }

@@ -45,7 +45,7 @@ returns-clause-plays g c =
     λ same hash terms log due may.
     let none : (length c.args.self.now.maps.items == 0) ≡ true = search (rules, c.is_empty.ensures, c.if-not-is_empty.false) in
     has_closed same hash terms log c.args.self.now due (sym c.are_gone.ensures ∙ c.if-not-are_gone.false) none may c.give_all_back.new.self.logged c.no_effects-effects.result.items
-    c.give_all_back.new.effects.items c.no_effects-effects.ensures c.in_ok-give_all_back.ensures.ran _ (ap {A = Scheduler _ _ _} {B = Scheduler _ _ _} (λ (x : Scheduler _ _ _). record x { is_closed = true }) c.in_ok-give_all_back.ensures.rest)
+    c.give_all_back.new.effects.items c.no_effects-effects.ensures c.in_ok-give_all_back.ensures.ran c.give_all_back.ensures.given.2 _ (ap {A = Scheduler _ _ _} {B = Scheduler _ _ _} (λ (x : Scheduler _ _ _). record x { is_closed = true }) c.in_ok-give_all_back.ensures.rest)
 
 pub returns-then-not-are_gone-clause-back : goal.returns-then-not-are_gone-clause-back
 returns-then-not-are_gone-clause-back g c = λ same hash terms log due may. none_came _ c.busy.result.effects.items c.args.back.now.items c.busy.ensures.effects

@@ -1,14 +1,17 @@
 -- A map is made.
-use Rattle.std.proofs.Common.{◌≡◌, [], length, sym, refl, subst, ◌∙◌, arith, rules}
+use Rattle.std.proofs.Common.{◌≡◌, [], length, ap, sym, refl, subst, ◌∙◌, arith, rules}
 use Rattle.seize.specs.declared.progress.Progress.{Progress}
 use Rattle.papaya_histories.specs.Given.Tables.declared.setting.Setting.{Setting}
-use Rattle.papaya_logged.specs.Makings.{MakingRan}
+use Rattle.papaya_logged.specs.Makings.{MakingRan, numbers_then}
 use Rattle.papaya_logged.specs.Roots.{MakingFinds}
 use Rattle.papaya_logged.proofs.KeptGiven.{stays_on}
 use Rattle.seize_words.specs.declared.fault.Fault.TheVariants.{Busy, RootsUsedUp}
 use Rattle.papaya_schedules.specs.After.{moment}
 use Rattle.papaya_schedules.specs.declared.event.Event.TheVariants.{MakeMap}
+use Rattle.papaya_schedules.specs.declared.outcome.Outcome.{Outcome}
 use Rattle.papaya_schedules.specs.declared.outcome.Outcome.TheVariants.{Refused}
+use Rattle.papaya_scheduler.specs.Mapping.{numbers_made}
+use Rattle.papaya_scheduler.proofs.MapNumbers.{given_up}
 use Rattle.papaya_scheduler.proofs.MapsMade.{has_fault, not_now, no_roots, may_run, not_made, made}
 use Rattle.papaya_scheduler.proofs.Rights.{so_played}
 use Rattle.papaya_scheduler.proofs.scheduler.Scheduler.make_map.Goals as goal
@@ -78,3 +81,22 @@ returns-in_err-push-in-Done-clause-given g c = stays_on c.args.self.now.logged.e
 
 pub returns-in_ok-push-in-Done-clause-given : goal.returns-in_ok-push-in-Done-clause-given
 returns-in_ok-push-in-Done-clause-given g c = stays_on c.args.self.now.logged.executor c.begin_making.new.self.executor c.run_making.new.self.executor c.begin_making.ensures.given c.run_making.ensures.given
+
+pub returns-in-Err-clause-numbers : goal.returns-in-Err-clause-numbers
+returns-in-Err-clause-numbers g c = ap (λ (o : Outcome g.V). numbers_made o (length c.args.self.now.logged.executor.maps.items)) (sym c.quietly.ensures.outcome)
+
+pub returns-then-not-may_make-clause-numbers : goal.returns-then-not-may_make-clause-numbers
+returns-then-not-may_make-clause-numbers g c = ap (λ (o : Outcome g.V). numbers_made o (length c.args.self.now.logged.executor.maps.items)) (sym c.busy.ensures.outcome)
+
+pub returns-then-self-eq0-clause-numbers : goal.returns-then-self-eq0-clause-numbers
+returns-then-self-eq0-clause-numbers g c = ap (λ (o : Outcome g.V). numbers_made o (length c.args.self.now.logged.executor.maps.items)) (sym c.quietly-then-self-eq0.ensures.outcome)
+
+pub returns-in-Refused-clause-numbers : goal.returns-in-Refused-clause-numbers
+returns-in-Refused-clause-numbers g c =
+    let count : c.len-number.result ≡ length c.args.self.now.logged.executor.maps.items = search (rules, c.len-number.ensures) in
+    c.in_ok-told.ensures.numbers ∙ ap (λ (t : Progress Setting). numbers_then c.len-number.result t (length c.begin_making.new.self.executor.maps.items)) c.in-Refused.is
+    ∙ given_up c.len-number.result (length c.begin_making.new.self.executor.maps.items) (length c.args.self.now.logged.executor.maps.items) count c.in_ok-caller.ensures.numbers
+
+pub returns-in_ok-push-in-Done-clause-numbers : goal.returns-in_ok-push-in-Done-clause-numbers
+returns-in_ok-push-in-Done-clause-numbers g c =
+    c.in_ok-told.ensures.numbers ∙ ap (λ (t : Progress Setting). numbers_then c.len-number.result t (length c.begin_making.new.self.executor.maps.items)) c.in-Done.is ∙ c.in_ok-caller.ensures.numbers

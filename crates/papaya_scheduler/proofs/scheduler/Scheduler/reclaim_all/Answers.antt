@@ -34,7 +34,7 @@ pub returns-clause-plays : goal.returns-clause-plays
 returns-clause-plays g c =
     λ same hash terms log due may.
     all_reclaimed same hash terms log c.args.self.now due (sym c.are_gone.ensures ∙ c.if-not-are_gone.false) may c.give_all_back.new.self.logged c.no_effects-effects.result.items c.give_all_back.new.effects.items
-    c.no_effects-effects.ensures c.in_ok-give_all_back.ensures.ran _ c.in_ok-give_all_back.ensures.rest
+    c.no_effects-effects.ensures c.in_ok-give_all_back.ensures.ran c.give_all_back.ensures.given.2 _ c.in_ok-give_all_back.ensures.rest
 
 pub returns-then-not-are_gone-clause-back : goal.returns-then-not-are_gone-clause-back
 returns-then-not-are_gone-clause-back g c = λ same hash terms log due may. none_came _ c.busy.result.effects.items c.args.back.now.items c.busy.ensures.effects
