@@ -107,8 +107,8 @@ module _ {K V : Type 0} (same : K → K → Bool) (hash : K → ℕ) (setting : 
       inr (inr (subst (λ (x : ℕ). 2 ^ 48 < needed p.additional x) (sum_ahead setting w.memory sum f.1.0 f.1.1 w2.memory (after, progress.Done n) counts ∙ had ∙ said) many))
   bounds (at.Follows table need) is f had = λ none late e.
       (let last = is_last same hash setting w c blocks map table f.0.0 f.0.1 none in
-      let then = last_then same hash setting w c c2 blocks map lasts (at_point (at.Follows table need) is f.0.0 last tt) table f.0.0 f.0.1 last in
-      inl (table.turn, then.0, inr late))
+      let still = last_then same hash setting w c c2 blocks map lasts (at_point (at.Follows table need) is f.0.0 last tt) table f.0.0 f.0.1 last in
+      inl (table.turn, still.0, inr late))
   bounds (at.Grows table making) is f had = ends_room c2 p.additional count making.setting (ends_so c2 making.setting (few making.setting f.3.setting_is))
   bounds (at.Copies copier) is f had =
       copying_room c2 p.additional count w.memory copier copier.stands (copier_bounds same hash setting w c c2 blocks map lasts fits copier (facts_of copier f) (copier_spared copier is))
