@@ -219,7 +219,7 @@ module _ {K V : Type 0} (eq : K → K → Bool) (hash : K → ℕ) (m : Mem (Nod
     root_shown : HasTables m (c.past - c.first) link × (pairs_on m incremental (c.past - c.first) link ≡ all_of one (numbers_on incremental c c.first (c.past - c.first)))
     root_shown = chain_shown (c.past - c.first) c.first link (omega arith) ends leads
 
-    abbrev pub root_counts : CountsTables m link
+    pub root_counts : CountsTables m link
     root_counts = (c.past - c.first, root_shown.0)
 
     pub root_read : (tables : ℕ) → HasTables m tables link → CanBeRead m tables link
