@@ -57,10 +57,14 @@ module _ {K V : Type 0} (same : K → K → Bool) (hash : K → ℕ) (setting : 
 
   at_root : IsNewChart hash setting places h.chart → AreAt m (root_word hash h.chart h.blocks) (tables_with places)
   at_root (inl none) =
-      subst (AreAt m (root_word hash h.chart h.blocks)) (sym (ap by_places (eq-eqb places 0 none.0)))
-      ((zero, ends_at same hash m setting h.chart h.blocks stands (root_word hash h.chart h.blocks) h.chart.first leads
-          (let past = ap (λ (c : Chart K). c.past) none.1 in omega (arith, past))),
-      refl)
+      subst (AreAt m (root_word hash h.chart h.blocks)) (sym (ap by_places (eq-eqb places 0 none.0))) (
+        (
+          zero,
+          ends_at same hash m setting h.chart h.blocks stands (root_word hash h.chart h.blocks) h.chart.first leads
+              (let past = ap (λ (c : Chart K). c.past) none.1 in omega (arith, past)),
+        ),
+        refl,
+      )
   at_root (inr some) =
       subst (AreAt m (root_word hash h.chart h.blocks)) (sym (ap by_places (ne_eqb places 0 some.0)))
       (one_at same hash m setting h.chart h.blocks stands (root_word hash h.chart h.blocks) (max places 8) leads
