@@ -1,5 +1,5 @@
 -- What is refused as busy did nothing: whatever did nothing is so, and who gets no slot is refused for something else.
-use Rattle.std.specs.Prelude.{◌≡◌, ◌⊎◌, ℕ, Bool, true, false, nat_lt, List, [], MatchBool}
+use Rattle.std.specs.Prelude.{◌≡◌, ◌⊎◌, Bool, true, false, nat_lt, List, [], MatchBool}
 use Rattle.std.proofs.Common.{sym, subst, inl, inr}
 use Rattle.seize_words.specs.declared.fault.Fault.{Fault}
 use Rattle.seize_words.specs.declared.fault.Fault.TheVariants.{Busy, SlotsUsedUp}
