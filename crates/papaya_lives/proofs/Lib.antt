@@ -13,6 +13,7 @@ pub mod Taken
 pub mod OnSlots
 pub mod Waiting
 pub mod Ends
+pub mod Listed
 pub mod Reclaimed
 pub mod RetiredCalls
 pub mod Once

@@ -27,7 +27,7 @@ on_way (at.Links head) ne = tt
 on_way (at.Pushes head) ne = tt
 on_way at.Over ne = absurd (ne refl)
 
-not_over : (p : Deferring) → IsOnWay p → p ≢ at.Over
+pub not_over : (p : Deferring) → IsOnWay p → p ≢ at.Over
 not_over p on e = subst IsOnWay e on
 
 pub puts_onto : (b t : ℕ) (row : Row) → IsPutting b t row → IsOnto t row
