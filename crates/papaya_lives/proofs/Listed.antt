@@ -1,6 +1,6 @@
 -- In each world that came about from the start, what is on the list of a block waits behind that by the log. So what the collector has, and what waits behind nothing, was
 -- retired if no row is under way; and nothing waits behind what is left over.
-use Rattle.std.specs.Prelude.{◌⊎◌, ◌++◌, zero, suc, Option, Some, None, if◌then◌else◌}
+use Rattle.std.specs.Prelude.{◌⊎◌, zero, suc, Option, Some, None, if◌then◌else◌}
 use Rattle.std.proofs.Common.{◌≡◌, ◌<◌, ℕ, ◌+◌, Bool, true, false, cond, eqb, List, [], ◌∷◌, length, refl, arith, ap, sym, subst, ◌∙◌, inl, inr, eqb-true}
 use Rattle.std.proofs.lemmas.Bool.{cases_eq, eq-eqb, ne_eqb}
 use Rattle.papaya_histories.specs.Given.Seize.Further.{IsWordOf}
@@ -12,7 +12,7 @@ use Rattle.papaya_histories.specs.Given.Seize.World.{World, Row, Rests, Hand, No
 use Rattle.papaya_histories.specs.Given.SeizeWaiting.Held.{count}
 use Rattle.papaya_histories.proofs.Given.SeizeMoves.Moves.Takes.{first_doomed}
 use Rattle.papaya_histories.proofs.Given.SeizeMoves.Sets.Unmoved.{Unmoved}
-use Rattle.papaya_histories.proofs.Given.SeizeMoves.State.Ghost.{Entry, Life, IsFree, IsDeferring, IsDeferred, IsPending, IsIn, IsDoomed, State, can_carry, is_deferred, is_given, is_pending, lies_with, start}
+use Rattle.papaya_histories.proofs.Given.SeizeMoves.State.Ghost.{Entry, Life, IsFree, IsDeferring, IsDeferred, IsPending, IsIn, IsDoomed, State, can_carry, is_deferred, is_given, is_pending, lies_with}
 use Rattle.papaya_histories.proofs.Given.SeizeMoves.State.Moves
 use Rattle.papaya_histories.proofs.Given.SeizeRule.Points.Aside.{HandFits, is_handed}
 use Rattle.papaya_histories.proofs.Given.SeizeRule.Points.Passed.{passed_rest}

@@ -77,7 +77,7 @@ use Rattle.papaya_lives.proofs.Retires.{HandedBy, Retires, PutsBehind, HadIt, be
 use Rattle.papaya_lives.proofs.Stages.{EndsIt, NoneEnds, now_retired, still_retired, WasTable, role_back}
 
 -- where users do something, the collector had the block of a table that it has
-users_handed : {K V : Type 0} (size b : ℕ) (events : List (Event (Node K V))) (w v : World (Node K V)) → Reached deferred_word size w → (value : Node K V) → value_at w.memory b ≡ Some value
+pub users_handed : {K V : Type 0} (size b : ℕ) (events : List (Event (Node K V))) (w v : World (Node K V)) → Reached deferred_word size w → (value : Node K V) → value_at w.memory b ≡ Some value
     → AllUsers events → Runs deferred_word size events w v → v.hand b ≡ Handed → w.hand b ≡ Handed
 users_handed {K} {V} size b events w v r value there users runs handed = by (w.hand b) refl
   where

@@ -3,3 +3,4 @@ pub mod Behind
 pub mod Steps
 pub mod Retired
 pub mod LeftTables
+pub mod Handed
