@@ -7,7 +7,7 @@ use Rattle.papaya_histories.specs.Given.SeizeWords.Mem.{Mem, value_at, value_in,
 use Rattle.papaya_histories.specs.Given.SeizeWords.Op.{Out, Make, Store, Found, Stored, Exchanged, Made, Taken, Roomed}
 use Rattle.papaya_histories.specs.Given.Seize.Sequence.{IsUsers, taken_in}
 use Rattle.papaya_histories.specs.Given.Seize.declared.states.TheConstants.{LAST_SLOT}
-use Rattle.papaya_histories.specs.Given.Seize.World.{World, Hand, NoBlock, Making, InUse, Parting, Cutting, Handed, LeftTo, MayCut, Request, Register', Enter', Leave', LeaveOwned, Refresh, Unregister', Retire, Flush, Defer', Begins, Event, Begin, Step, Makes, Drops, Links, Parts, Unlinks, Rewrites, Operates, Ends, LeavesOver, Relinks, Clears, Chooses, Happens, Runs, with_at, made_by, times}
+use Rattle.papaya_histories.specs.Given.Seize.World.{World, Hand, NoBlock, Making, InUse, Parting, Cutting, Handed, MayCut, Request, Register', Enter', Leave', LeaveOwned, Refresh, Unregister', Retire, Flush, Defer', Begins, Event, Begin, Step, Makes, Drops, Links, Parts, Unlinks, Rewrites, Operates, Ends, LeavesOver, Relinks, Clears, Chooses, Happens, Runs, with_at, made_by, times}
 use Rattle.papaya_histories.specs.Given.SeizeWaiting.Held.{count}
 use Rattle.papaya_histories.proofs.Given.SeizeRule.Points.Aside.{HandFits}
 use Rattle.papaya_histories.proofs.Given.SeizeRule.Rows.Effects.{hand_kept}

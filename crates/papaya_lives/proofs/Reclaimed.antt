@@ -201,7 +201,7 @@ module _ {K V S : Type 0} (same : K → K → Bool) (hash : K → ℕ) (name : �
   }
 
 -- a row that begins leaves the rows of others as they are
-begun_rows : {K V : Type 0} (size slot i : ℕ) (w v : World (Node K V)) (called : SlotCall) → Begins deferred_word size i (request_of slot called) w v → (j : ℕ) → (j ≡ i → ⊥) → v.row j ≡ w.row j
+pub begun_rows : {K V : Type 0} (size slot i : ℕ) (w v : World (Node K V)) (called : SlotCall) → Begins deferred_word size i (request_of slot called) w v → (j : ℕ) → (j ≡ i → ⊥) → v.row j ≡ w.row j
 begun_rows size slot i w v called h j ne = by called h
   where
     other : (row : Under) → with_at w.row i row j ≡ w.row j

@@ -118,7 +118,7 @@ pub effects_find_waiting : (K V : Type 0) → EffectsFindWaiting K V
 effects_find_waiting K V m known s waiting f = (unreclaimed m known s.world waiting f, waits_on m known s.world waiting f)
 
 -- a row that begins on a slot tells nothing
-begun_log : {K V : Type 0} (size slot i : ℕ) (w v : World (Node K V)) (called : SlotCall) → Begins deferred_word size i (request_of slot called) w v → v.log ≡ w.log
+pub begun_log : {K V : Type 0} (size slot i : ℕ) (w v : World (Node K V)) (called : SlotCall) → Begins deferred_word size i (request_of slot called) w v → v.log ≡ w.log
 begun_log size slot i w v (call.Register enters) h = ap (λ (x : World (Node _ _)). x.log) h
 begun_log size slot i w v call.Enter h = ap (λ (x : World (Node _ _)). x.log) h.1
 begun_log size slot i w v call.Leave h = ap (λ (x : World (Node _ _)). x.log) h.1
