@@ -1,16 +1,13 @@
 -- What is handed over, where rows begin and step on slots, and where nothing happens: a pair that a row reclaims was handed over, and what waits behind a table that it reclaims is so
 -- then; while no row is under way, all that is handed over was retired.
-use Rattle.std.specs.Prelude.{◌≡◌, ◌⊎◌, ℕ, nat_lt, ◌&&◌, Bool, true, false, not, List, [], ◌∷◌, filter, length, Option, Some, None, if◌then◌else◌}
+use Rattle.std.specs.Prelude.{◌≡◌, ◌⊎◌, ℕ, nat_lt, ◌&&◌, Bool, true, false, not, List, [], ◌∷◌, filter, Option, Some, None, if◌then◌else◌}
 use Rattle.std.proofs.Common.{refl, ap, sym, subst, ◌∙◌, inl, inr}
 use Rattle.papaya_histories.specs.Given.SeizeWords.declared.at.At.TheVariants.{Root, Used, Slot, Entry, Word}
 use Rattle.papaya_histories.specs.Given.Seize.Law.{is_retired as was_retired}
 use Rattle.papaya_histories.specs.Given.Seize.Sequence.{taken_in}
-use Rattle.papaya_histories.specs.Given.Seize.declared.states.TheConstants.{LAST_SLOT}
-use Rattle.papaya_histories.specs.Given.Seize.World.{World, Row as Under, Rests, Registers, Enters, Settles, Leaves, Defers, Frees, Hand, Handed, times}
+use Rattle.papaya_histories.specs.Given.Seize.World.{World, Hand, Handed, times}
 use Rattle.papaya_histories.proofs.Given.SeizeMoves.State.Ghost.{is_given}
 use Rattle.papaya_histories.proofs.Given.SeizeRule.Rows.Effects.{hand_kept}
-use Rattle.papaya_histories.proofs.Given.SeizeRule.Rows.Known.{FitsRow}
-use Rattle.papaya_histories.proofs.Given.SeizeRule.Words.View.{view}
 use Rattle.papaya_histories.proofs.Given.SeizeAlone.Histories.Reached.{Reached}
 use Rattle.papaya_histories.proofs.Given.SeizeAlone.Spared.Rows.{RowStepped}
 use Rattle.papaya_histories.specs.Given.Tables.Nodes.{deferred_word}
@@ -49,39 +46,18 @@ use Rattle.papaya_histories.specs.Given.Moments.Whole.{ShowsWhole}
 use Rattle.papaya_histories.proofs.Given.Moments.OnSlots.{begun_hands}
 use Rattle.papaya_lives.specs.Behind.{IsLeft, LiesBehind, ShowsWaiting}
 use Rattle.papaya_lives.specs.Handed.{IsToHand, IsHandedOver, HasGone, is_deferred, ShowsHanded, HadHanded, HandedBegins, OthersLeaveHanded, EndingsBeginHanded, HandedAtRest, RowsBeginHanded, RowsKeepHanded, RowsFindHanded}
-use Rattle.papaya_lives.specs.Retired.{IsToRetire}
 use Rattle.papaya_lives.specs.Waiting.{waits_behind}
 use Rattle.papaya_lives.proofs.Each.{WaitsAt, found}
 use Rattle.papaya_lives.proofs.HandedEffects.{deferred_at, deferred_split, handed_back, reclaimed_back, reclaimed_not}
+use Rattle.papaya_lives.proofs.HandedMeant.{none_to_hand}
 use Rattle.papaya_lives.proofs.HandedOver.{came_listed, steps_over}
 use Rattle.papaya_lives.proofs.Listed.{retired_at_rest}
 use Rattle.papaya_lives.proofs.Logs.{waits_no_more}
-use Rattle.papaya_lives.proofs.Putting.{on_way}
-use Rattle.papaya_lives.proofs.Reclaimed.{begun_rows, no_call, none_to_retire}
+use Rattle.papaya_lives.proofs.Reclaimed.{begun_rows, no_call}
 use Rattle.papaya_lives.proofs.Retires.{given_hand, handed_before}
-use Rattle.papaya_lives.proofs.Rows.{on_the_way, same_link}
 use Rattle.papaya_lives.proofs.Taken.{kept, it, left_unretired, not_taken, there_still, told_retired, told_taken}
 use Rattle.papaya_lives.proofs.Waiting.{begun_log, left, reached}
 use Rattle.papaya_lives.proofs.Worlds.{Kept, unretired, has_it}
-
--- what was retired no row is to retire, nor is one putting it behind another block
-none_to_hand : {T : Type 0} (defers : T → Option ℕ) (size : ℕ) (w : World T) (k : Kept defers size w) (j b : ℕ) → was_retired b w.log ≡ true → IsToHand b (w.row j) → ⊥
-none_to_hand defers size w k j b retired due = by (w.row j) refl due
-  where
-    by : (row : Under) → w.row j ≡ row → IsToHand b row → ⊥
-    by (Settles c) is to_hand = none_to_retire defers size w k j b retired (subst (IsToRetire b) (sym is) to_hand)
-    by (Defers s c) is to_hand =
-        let fits = subst (λ (r : Under). FitsRow (LAST_SLOT + 1) j (view defers w.memory) k.good.state k.good.extra (length w.memory.slots) r) is (k.good.rows j) in
-        let way = on_the_way (LAST_SLOT + 1) j (view defers w.memory) k.good.state k.good.extra s c.block c.table_word c.stands (on_way c.stands to_hand.0) fits in
-        let one : way.b ≡ b = same_link way.b b (sym way.block_is ∙ to_hand.1) in
-        let not_given : is_given (k.good.state.life b) ≡ false = ap is_given (ap k.good.state.life (sym one) ∙ way.life) in
-        let given : is_given (k.good.state.life b) ≡ true = sym (k.good.inv.logged.given b) ∙ ap (was_retired b) k.good.logged ∙ retired in
-        cc (given, not_given)
-    by Rests is to_hand = to_hand
-    by (Registers c) is to_hand = to_hand
-    by (Enters c) is to_hand = to_hand
-    by (Leaves c) is to_hand = to_hand
-    by (Frees c) is to_hand = to_hand
 
 module _ {K V S : Type 0} (same : K → K → Bool) (hash : K → ℕ) (name : ℕ → List ℕ) (m : Moment K V) (known : Known) (s : Scene K V) (old new : Executor K V S) (at : IsAt same hash old s)
     (whole : ShowsWhole same name m known s) (waiting : ShowsWaiting m known s.world) (shows : ShowsHanded m known s) (i : ℕ) (said : RowTold (Node K V)) (leads : RowLeads same hash i said s old new)

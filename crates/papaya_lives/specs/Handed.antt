@@ -1,10 +1,9 @@
 -- What the collector has at a moment of a run, pair by pair: one that it has was handed over, or waits behind a table, or the row of a call has it in hand still; and what is told to
 -- be handed over it has, and that waits behind nothing. So it is with tables that are told to be retired.
-use Rattle.std.specs.Prelude.{◌≡◌, ◌≢◌, ◌⊎◌, ℕ, Bool, true, List, map, Option, Some, None}
-use Rattle.papaya_histories.specs.Given.SeizeWords.Word.{link_to}
+use Rattle.std.specs.Prelude.{◌≡◌, ◌⊎◌, ℕ, Bool, true, List, map, Option, Some, None}
+use Rattle.papaya_histories.specs.Given.SeizeWords.Word.{block_in}
 use Rattle.papaya_histories.specs.Given.Seize.Law.{is_retired as was_retired}
 use Rattle.papaya_histories.specs.Given.Seize.declared.progress.Progress.{Progress}
-use Rattle.papaya_histories.specs.Given.Seize.declared.rows.defer.Deferring.TheVariants as deferring
 use Rattle.papaya_histories.specs.Given.Seize.declared.rows.settle.Settled.{Settled}
 use Rattle.papaya_histories.specs.Given.Seize.World.{World, Row, Rests, Settles, Defers, Handed, Begin, Step}
 use Rattle.papaya_histories.specs.Given.Tables.declared.node.Node.{Node}
@@ -42,16 +41,22 @@ use Rattle.papaya_histories.specs.Given.Others.Endings.{ending_after}
 use Rattle.papaya_histories.specs.Given.Others.Makings.{WasNew}
 use Rattle.papaya_histories.specs.Given.Others.Rows.{scene_then}
 use Rattle.papaya_histories.specs.Given.Moments.Whole.{ShowsWhole}
-use Rattle.papaya_settles.specs.Due.{due_in_settle, OwnAreMade}
+use Rattle.papaya_settles.specs.Due.{Due, ToRetire, ToPut, due_in_settle, due_in_defer, OwnAreMade}
 use Rattle.papaya_settles.specs.Entries.{ShowsEntries}
 use Rattle.papaya_lives.specs.Behind.{ShowsWaiting}
-use Rattle.papaya_lives.specs.Retired.{IsDue, CallsStay}
+use Rattle.papaya_lives.specs.Retired.{CallsStay}
 use Rattle.papaya_lives.specs.Waiting.{waits_behind}
+
+-- the block is the one to be retired, or to be put behind another one
+abbrev pub IsMeant : ℕ → Option Due → Type 0
+IsMeant b (Some (ToRetire word)) = block_in word ≡ b
+IsMeant b (Some (ToPut word place)) = block_in word ≡ b
+IsMeant b None = ⊥
 
 -- the row is to retire this block, or is putting it behind another one
 abbrev pub IsToHand : ℕ → Row → Type 0
-IsToHand b (Settles c) = IsDue b (due_in_settle c c.stands)
-IsToHand b (Defers s c) = (c.stands ≢ deferring.Over) × (c.block ≡ link_to b)
+IsToHand b (Settles c) = IsMeant b (due_in_settle c c.stands)
+IsToHand b (Defers s c) = IsMeant b (due_in_defer c c.stands)
 IsToHand b _ = ⊥
 
 -- the collector has the block, and it waits behind no other one
