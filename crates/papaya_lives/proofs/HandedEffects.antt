@@ -9,7 +9,7 @@ use Rattle.papaya_histories.specs.Given.Schedules.declared.effect.Table.{Table}
 use Rattle.papaya_histories.specs.Given.Schedules.declared.effect.Thing.TheVariants.{APair, ATable}
 use Rattle.papaya_histories.specs.Given.Schedules.Effects.{at_stage, in_map, place_by, with_effect, with_effects, AtEachEffect}
 use Rattle.papaya_histories.specs.Given.Schedules.Lists.{is_among, put}
-use Rattle.papaya_histories.specs.Given.Schedules.Moment.{Place, Out, Behind, Left, GivenBack, Stage, IsLinked, IsReclaimed, IsTaken, TableThere, Deferral, Moment}
+use Rattle.papaya_histories.specs.Given.Schedules.Moment.{Place, Out, Behind, Left, GivenBack, Stage, IsLinked, IsRetired, IsReclaimed, IsTaken, TableThere, Deferral, Moment}
 use Rattle.papaya_histories.specs.Given.Schedules.Reclaims.{is_handed}
 use Rattle.papaya_histories.specs.Given.Schedules.Things.{same_table}
 use Rattle.papaya_histories.specs.Given.Schedules.Views.{behind, is_stage, is_retired}
@@ -17,7 +17,7 @@ use Rattle.papaya_histories.specs.Given.Follows.Finds.{FindsMap}
 use Rattle.papaya_histories.proofs.Given.Follows.Alike.{put_here, put_elsewhere}
 use Rattle.papaya_histories.proofs.Given.Spots.Elsewhere.{stored_grows}
 use Rattle.papaya_histories.proofs.Given.Spots.Handing.{HandsNothing, AllHandNothing}
-use Rattle.papaya_histories.proofs.Given.Spots.Unreclaimed.{and_both, any_either, or_right, same_itself}
+use Rattle.papaya_histories.proofs.Given.Spots.Unreclaimed.{and_both, any_either, or_right, same_itself, table_is}
 use Rattle.papaya_lives.specs.Handed.{is_deferred}
 
 -- the effect hands something over: it retires a pair or a table, or what waits behind a table as it reclaims that
@@ -88,6 +88,18 @@ module _ {K V : Type 0} (caller : Option (List ℕ)) (acted : Option ℕ) where
     -- also where one is reclaimed
     pub reclaimed_back : (u : Table) (m : Moment K V) → is_stage is_retired t (with_effects caller acted (Reclaimed (ATable u) ∷ []) m) ≡ true → is_stage is_retired t m ≡ true
     reclaimed_back u m is = stage_back u IsReclaimed refl m.tables is
+
+    -- or where another one is retired
+    pub retired_other : (u : Table) → same_table u t ≡ false → (m : Moment K V) → is_stage is_retired t (with_effects caller acted (Retired (ATable u) ∷ []) m) ≡ true → is_stage is_retired t m ≡ true
+    retired_other u apart m is = any_back Test Test (at_stage u IsRetired) turn m.tables is
+      where
+        turn : (x : TableThere) → Test (at_stage u IsRetired x) ≡ true → Test x ≡ true
+        turn x k = by (same_table x.table u) refl k
+          where
+            by : (z : Bool) → same_table x.table u ≡ z → Test (if z then record x { stage = IsRetired } else x) ≡ true → Test x ≡ true
+            by true here e =
+                absurd (let both : same_table u t ≡ true = ap (λ (y : Table). same_table y t) (sym (table_is x.table u here)) ∙ (and_both (same_table x.table t) true e).0 in cc (both, apart))
+            by false here e = e
 
     -- and that one is retired no more
     pub reclaimed_not : (m : Moment K V) → is_stage is_retired t (with_effects caller acted (Reclaimed (ATable t) ∷ []) m) ≡ true → ⊥

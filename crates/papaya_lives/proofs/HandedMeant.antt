@@ -1,6 +1,6 @@
 -- What a row is to retire, or is putting behind another block: it has it as its call's machine says; what was retired no row has so; and a row begins with it.
-use Rattle.std.specs.Prelude.{◌≡◌, ◌⊎◌, ℕ, Bool, true, false, List, length, Option, Some, if◌then◌else◌}
-use Rattle.std.proofs.Common.{refl, ap, sym, subst, ◌∙◌, inl, inr}
+use Rattle.std.specs.Prelude.{◌≡◌, ℕ, Bool, true, false, length, Option, if◌then◌else◌}
+use Rattle.std.proofs.Common.{◌+◌, refl, ap, sym, subst, ◌∙◌, inl, inr}
 use Rattle.std.proofs.lemmas.Bool.{eq-eqb}
 use Rattle.papaya_histories.specs.Given.SeizeWords.Op.{Found, Stored, Exchanged, Made, Taken, Roomed}
 use Rattle.papaya_histories.specs.Given.SeizeWords.Word.{block_in, link_to}
@@ -14,13 +14,14 @@ use Rattle.papaya_histories.specs.Given.Seize.declared.rows.settle.Settle.{Settl
 use Rattle.papaya_histories.specs.Given.Seize.declared.rows.settle.Settling.{Settling}
 use Rattle.papaya_histories.specs.Given.Seize.declared.rows.settle.Settling.TheVariants as settling
 use Rattle.papaya_histories.specs.Given.Seize.declared.states.TheConstants.{LAST_SLOT}
-use Rattle.papaya_histories.specs.Given.Seize.World.{World, Row, Rests, Registers, Enters, Settles, Leaves, Defers, Frees, Request, Defer', Begins, Steps', defers_on, with_at}
+use Rattle.papaya_histories.specs.Given.Seize.World.{World, Row, Rests, Registers, Enters, Settles, Leaves, Defers, Frees, Defer', Begins, Steps', defers_on, with_at}
 use Rattle.papaya_histories.proofs.Given.SeizeMoves.State.Ghost.{State, is_given}
 use Rattle.papaya_histories.proofs.Given.SeizeRule.Rows.Known.{FitsRow, FitsDefer}
-use Rattle.papaya_histories.proofs.Given.SeizeRule.Rows.Told.{IsOnWay}
+use Rattle.papaya_histories.proofs.Given.SeizeRule.Rows.Told.{IsOnWay, RowTold, SettleGoes, SettleEnds, LeaveSwaps, LeaveGoes, LeaveSettled, LeaveEnds, RegisterLooks, RegisterRefused, RegisterTakes, RegisterEnters, EntersSlot, FreesSlot, DeferGoes, DeferPushes, DeferEnds}
 use Rattle.papaya_histories.proofs.Given.SeizeRule.Words.Named.{link-block}
-use Rattle.papaya_histories.proofs.Given.SeizeRule.Words.Shows.{Extra}
-use Rattle.papaya_histories.proofs.Given.SeizeRule.Words.View.{View, view}
+use Rattle.papaya_histories.proofs.Given.SeizeRule.Words.View.{view}
+use Rattle.papaya_histories.proofs.Given.SeizeRule.World.Kept.{steps_next}
+use Rattle.papaya_histories.proofs.Given.SeizeAlone.Histories.Reached.{Reached}
 use Rattle.papaya_histories.specs.Given.Tables.declared.node.Node.{Node}
 use Rattle.papaya_histories.specs.Given.Tables.declared.setting.Setting.{Setting}
 use Rattle.papaya_histories.specs.Given.Resize.declared.copier.Copying.{Copying}
@@ -185,3 +186,41 @@ module _ {T : Type 0} (defers : T → Option ℕ) (size i : ℕ) (w v w2 : World
       by (m2, end, (Made r, took, ends), is) = absurd took.0
       by (m2, end, (Taken r, took, ends), is) = absurd took.0
       by (m2, end, (Roomed r, took, ends), is) = absurd took.0
+
+-- what a row is to retire it is to hand over
+pub retire_meant : (b : ℕ) (row : Row) → IsToRetire b row → IsToHand b row
+retire_meant b (Settles c) due = by c.stands due
+  where
+    by : (p : Settling) → IsDue b (due_in_settle c p) → IsMeant b (due_in_settle c p)
+    by settling.Sees due = due
+    by settling.Holds due = due
+    by settling.Pops due = due
+    by (settling.Firsts block) due = due
+    by (settling.Batches block) due = due
+    by _ due = absurd due
+retire_meant b _ due = absurd due
+
+-- a row that has something in hand still is not over with its step
+module _ {T : Type 0} (defers : T → Option ℕ) (size : ℕ) (w w2 : World T) (r : Reached defers size w) (i : ℕ) (steps : Steps' defers i (w.row i) w w2) (b : ℕ) (meant : IsToHand b (w.row i)) where
+  its : (row : Row) → w.row i ≡ row → IsToHand b row
+  its row is = subst (IsToHand b) is meant
+
+  pub not_over : w2.row i ≡ Rests → ⊥
+  not_over over = by (steps_next defers (LAST_SLOT + 1) size refl w w2 r.good r.sized i (w.row i) refl steps).told
+    where
+      by : {m2 : State} → RowTold (LAST_SLOT + 1) i (w.row i) r.good.state w.uses (w2.row i) m2 w2.uses → ⊥
+      by (SettleGoes c c2 is is2 slot goes) = (let both : Settles c2 ≡ Rests = sym is2 ∙ over in cc both)
+      by (SettleEnds c is is2 stands e) = subst (λ (p : Settling). IsMeant b (due_in_settle c p)) stands (its (Settles c) is)
+      by (LeaveSwaps c again es p is is2 stands lt becomes head e behind) = its (Leaves c) is
+      by (LeaveGoes c settle settle2 is is2 stands slot goes) = its (Leaves c) is
+      by (LeaveSettled c settle is stands over settled e) = its (Leaves c) is
+      by (LeaveEnds c is settled settled2 u) = its (Leaves c) is
+      by (RegisterLooks c c2 is is2 looks looks2 enters uses e) = its (Registers c) is
+      by (RegisterRefused c is is2 looks uses e) = its (Registers c) is
+      by (RegisterTakes c is looks vacant takes u) = its (Registers c) is
+      by (RegisterEnters c is is2 stands lt head e uses) = its (Registers c) is
+      by (EntersSlot c is is2 lt head e) = its (Enters c) is
+      by (FreesSlot c is is2 u) = its (Frees c) is
+      by (DeferGoes s c p is is2 on on2 e) = (let both : Defers s (record c { stands = p }) ≡ Rests = sym is2 ∙ over in cc both)
+      by (DeferPushes s d u field c is is2 on block names e) = (let both : Defers s (record c { stands = puts.Over }) ≡ Rests = sym is2 ∙ over in cc both)
+      by (DeferEnds s c is is2 stands u) = subst (λ (p : Deferring). IsMeant b (due_in_defer c p)) stands (its (Defers s c) is)

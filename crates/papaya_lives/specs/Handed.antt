@@ -44,7 +44,7 @@ use Rattle.papaya_histories.specs.Given.Moments.Whole.{ShowsWhole}
 use Rattle.papaya_settles.specs.Due.{Due, ToRetire, ToPut, due_in_settle, due_in_defer, OwnAreMade}
 use Rattle.papaya_settles.specs.Entries.{ShowsEntries}
 use Rattle.papaya_lives.specs.Behind.{ShowsWaiting}
-use Rattle.papaya_lives.specs.Retired.{CallsStay}
+use Rattle.papaya_lives.specs.Retired.{ShowsRetired, CallsStay}
 use Rattle.papaya_lives.specs.Waiting.{waits_behind}
 
 -- the block is the one to be retired, or to be put behind another one
@@ -139,7 +139,7 @@ module _ (K V S : Type 0) (same : K → K → Bool) (hash : K → ℕ) where
   abbrev pub CallsKeepHanded : Type 0
   CallsKeepHanded =
       (name : ℕ → List ℕ) (m : Moment K V) (known : Known) (s : Scene K V) (old new : Executor K V S) → IsAt same hash old s → ShowsWhole same name m known s
-      → ShowsEntries s → OwnAreMade known s.world → ShowsHanded m known s
+      → ShowsEntries s → OwnAreMade known s.world → ShowsWaiting m known s.world → ShowsRetired m known s → ShowsHanded m known s
       → (map i : ℕ) (u : UnderWay K V K) (here : s.calls map i ≡ Some u) (told : CallTold (Node K V)) (leads : StepLeads same hash i told s old new)
       → (let to = leads map u here in
       ShowsHanded (with_effects (Some (name i)) (Some map) (effects_of (Call i map) known new.memory.changed) m) (known_after (Call i map) new.memory.changed known)
