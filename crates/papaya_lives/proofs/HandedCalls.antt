@@ -1,13 +1,12 @@
 -- What is handed over after a step of a call, whoever's row it is: what the row retires is so then, and what it puts behind a table waits there.
-use Rattle.std.specs.Prelude.{◌≡◌, ◌⊎◌, ℕ, ◌+◌, ◌==◌, ◌≤◌, zero, suc, Bool, true, false, ◌&&◌, ◌||◌, is_some, List, [], ◌∷◌, length, map, Option, Some, None, if◌then◌else◌}
-use Rattle.std.specs.List.{list_any}
+use Rattle.std.specs.Prelude.{◌≡◌, ◌⊎◌, ℕ, ◌+◌, ◌==◌, ◌≤◌, zero, suc, Bool, true, false, ◌||◌, is_some, List, [], ◌∷◌, length, map, Option, Some, None, if◌then◌else◌}
 use Rattle.std.proofs.Common.{refl, ap, sym, subst, ◌∙◌, inl, inr, arith}
 use Rattle.std.proofs.lemmas.Bool.{cases_eq, eq-eqb}
 use Rattle.papaya_histories.specs.Given.SeizeWords.Mem.{value_at}
 use Rattle.papaya_histories.specs.Given.SeizeWords.Word.{block_in}
 use Rattle.papaya_histories.specs.Given.Seize.Sequence.{taken_in}
 use Rattle.papaya_histories.specs.Given.Seize.declared.states.TheConstants.{LAST_SLOT}
-use Rattle.papaya_histories.specs.Given.Seize.World.{World, Row, Rests, Hand, Handed, Request, Register', Enter', Leave', LeaveOwned, Refresh, Unregister', Retire, Flush, Defer', Begins, Event, Begin, Step, Happens, Runs, Steps', times}
+use Rattle.papaya_histories.specs.Given.Seize.World.{World, Row, Rests, Hand, Handed, Request, Register', Enter', Leave', LeaveOwned, Refresh, Unregister', Retire, Flush, Defer', Begins, Event, Begin, Runs, Steps', times}
 use Rattle.papaya_histories.proofs.Given.SeizeMoves.Sets.Unmoved.{is_in_wait}
 use Rattle.papaya_histories.proofs.Given.SeizeMoves.State.Ghost.{IsPending}
 use Rattle.papaya_histories.proofs.Given.SeizeRule.Words.There.{live_pos}
@@ -58,7 +57,7 @@ use Rattle.papaya_histories.proofs.Given.Spots.Steps.{hands_nothing, stayed_calm
 use Rattle.papaya_histories.proofs.Given.Spots.Unreclaimed.{or_right, table_is}
 use Rattle.papaya_histories.specs.Given.Moments.Whole.{ShowsWhole}
 use Rattle.papaya_histories.proofs.Given.Moments.Calls.{calls_keep_whole}
-use Rattle.papaya_settles.specs.Due.{ToRetire, ToPut, due_in_row, told_retired, RowTells, TellsNone, TellsRetired, TellsDeferred, OwnAreMade}
+use Rattle.papaya_settles.specs.Due.{due_in_row, told_retired, RowTells, TellsNone, TellsRetired, TellsDeferred, OwnAreMade}
 use Rattle.papaya_settles.specs.Entries.{ShowsEntries}
 use Rattle.papaya_settles.proofs.DueCalls.{rows_tell_due}
 use Rattle.papaya_lives.specs.Behind.{ShowsWaiting}
@@ -67,7 +66,7 @@ use Rattle.papaya_lives.specs.Retired.{IsDue, IsToRetire, ShowsRetired}
 use Rattle.papaya_lives.specs.Waiting.{waits_behind}
 use Rattle.papaya_lives.proofs.CallRows.{looked, row_takes_none}
 use Rattle.papaya_lives.proofs.Calls.{calls_keep_list}
-use Rattle.papaya_lives.proofs.HandedEffects.{NoneHands, handed_back, hands_none, retired_back, retired_other, still_handed}
+use Rattle.papaya_lives.proofs.HandedEffects.{Away, NoneHands, handed_back, hands_none, list_put, list_retired, put_away, retired_away, retired_back, retired_other, still_handed}
 use Rattle.papaya_lives.proofs.HandedMeant.{begun_put, meant_of, not_over, retire_meant, to_hand}
 use Rattle.papaya_lives.proofs.HandedOver.{begins_over, came_listed, steps_over, users_over}
 use Rattle.papaya_lives.proofs.HandedRoles.{pair_was}
@@ -199,68 +198,26 @@ module _ {K V S : Type 0} (same : K → K → Bool) (hash : K → ℕ) (name : �
         let theirs = rows_hand_theirs K V S same hash name m known s old new at whole.all map i u here said leads other in
         (row_step_shown same hash name m known s old new at whole.all.shown map i u here said leads other theirs.1 theirs.0).keeps
 
-    -- what was handed over is so, or waits; and what waited does so
-    abbrev Away : ℕ → List Effect → Type 0
-    Away n fs = (is_handed ((then_m fs).place n) ≡ true) ⊎ (is_deferred n (then_m fs).deferred ≡ true)
-
-    put_away : (n : ℕ) (t : Table) (r : Role) → is_handed (m.place n) ≡ true → Away n (carried t r)
-    put_away n t (role.Pair k) so = elim (cases_eq n k) as (λ _. Away n (Deferred k t ∷ [])) [
-      | inl e ↦ inr (ap (λ (z : Bool). z || is_deferred n m.deferred) (eq-eqb n k e))
-      | inr ne ↦ inl (ap is_handed (put_elsewhere k Behind m.place n ne) ∙ so)
-    ]
-    put_away n t role.Free so = inl so
-    put_away n t (role.OwnPair j) so = inl so
-    put_away n t (role.OwnTable turn shape) so = inl so
-    put_away n t (role.Table x len) so = inl so
-    put_away n t (role.Counter of) so = inl so
-
-    retired_away : (n : ℕ) (r : Role) → is_handed (m.place n) ≡ true → Away n (told_retired r)
-    retired_away n (role.Pair k) so = elim (cases_eq n k) as (λ _. Away n (Retired (APair k) ∷ [])) [
-      | inl e ↦ inl (ap is_handed (put_here k IsHanded m.place n e))
-      | inr ne ↦ inl (ap is_handed (put_elsewhere k IsHanded m.place n ne) ∙ so)
-    ]
-    retired_away n (role.Table x len) so = inl so
-    retired_away n role.Free so = inl so
-    retired_away n (role.OwnPair j) so = inl so
-    retired_away n (role.OwnTable turn shape) so = inl so
-    retired_away n (role.Counter of) so = inl so
-
-    handed_away : (n : ℕ) → is_handed (m.place n) ≡ true → Away n effects
+    handed_away : (n : ℕ) → is_handed (m.place n) ≡ true → Away (Some (name i)) (Some map) m n effects
     handed_away n so = by tells
       where
-        by : RowTells i map known effects (due_in_row (machine_of u)) (due_in_row to.1) → Away n effects
-        by (TellsNone none alike) = subst (Away n) (sym none) (inl so)
-        by (TellsRetired word was gone are) = subst (Away n) (sym are) (retired_away n (known.roles (block_in word)) so)
-        by (TellsDeferred word block place t len was its gone noted are) = subst (Away n) (sym are) (put_away n t (named known word) so)
-
-    list_put : (n : ℕ) (t : Table) (r : Role) → is_deferred n m.deferred ≡ true → is_deferred n (then_m (carried t r)).deferred ≡ true
-    list_put n t (role.Pair k) so = or_right (n == k) (is_deferred n m.deferred) so
-    list_put n t role.Free so = so
-    list_put n t (role.OwnPair j) so = so
-    list_put n t (role.OwnTable turn shape) so = so
-    list_put n t (role.Table x len) so = so
-    list_put n t (role.Counter of) so = so
-
-    list_retired : (n : ℕ) (r : Role) → is_deferred n m.deferred ≡ true → is_deferred n (then_m (told_retired r)).deferred ≡ true
-    list_retired n (role.Pair k) so = so
-    list_retired n (role.Table x len) so = so
-    list_retired n role.Free so = so
-    list_retired n (role.OwnPair j) so = so
-    list_retired n (role.OwnTable turn shape) so = so
-    list_retired n (role.Counter of) so = so
+        by : RowTells i map known effects (due_in_row (machine_of u)) (due_in_row to.1) → Away (Some (name i)) (Some map) m n effects
+        by (TellsNone none alike) = subst (Away (Some (name i)) (Some map) m n) (sym none) (inl so)
+        by (TellsRetired word was gone are) = subst (Away (Some (name i)) (Some map) m n) (sym are) (retired_away (Some (name i)) (Some map) m n (known.roles (block_in word)) so)
+        by (TellsDeferred word block place t len was its gone noted are) = subst (Away (Some (name i)) (Some map) m n) (sym are) (put_away (Some (name i)) (Some map) m n t (named known word) so)
 
     waits_on : (n : ℕ) → is_deferred n m.deferred ≡ true → is_deferred n v.deferred ≡ true
     waits_on n so = by tells
       where
-        abbrev_then : List Effect → Type 0
-        abbrev_then fs = is_deferred n (then_m fs).deferred ≡ true
+        IsOn : List Effect → Type 0
+        IsOn fs = is_deferred n (then_m fs).deferred ≡ true
 
         by : RowTells i map known effects (due_in_row (machine_of u)) (due_in_row to.1) → is_deferred n v.deferred ≡ true
-        by (TellsNone none alike) = subst abbrev_then (sym none) so
-        by (TellsRetired word was gone are) = subst abbrev_then (sym are) (list_retired n (known.roles (block_in word)) so)
-        by (TellsDeferred word block place t len was its gone noted are) = subst abbrev_then (sym are) (list_put n t (named known word) so)
+        by (TellsNone none alike) = subst IsOn (sym none) so
+        by (TellsRetired word was gone are) = subst IsOn (sym are) (list_retired (Some (name i)) (Some map) m n (known.roles (block_in word)) so)
+        by (TellsDeferred word block place t len was its gone noted are) = subst IsOn (sym are) (list_put (Some (name i)) (Some map) m n t (named known word) so)
 
-    away : (b n : ℕ) → Away n effects → HasGone v s2 b n
+    away : (b n : ℕ) → Away (Some (name i)) (Some map) m n effects → HasGone v s2 b n
     away b n (inl so) = inl so
     away b n (inr so) = inr (inl so)
 
@@ -398,13 +355,13 @@ module _ {K V S : Type 0} (same : K → K → Bool) (hash : K → ℕ) (name : �
       pair_over : IsOneStep to.0.setting i w w3 → (n : ℕ) → is_handed (v.place n) ≡ true → PairOver n
       pair_over step n so = by tells
         where
-          abbrev_at : List Effect → Type 0
-          abbrev_at fs = is_handed ((then_m fs).place n) ≡ true
+          IsAfter : List Effect → Type 0
+          IsAfter fs = is_handed ((then_m fs).place n) ≡ true
 
           by : RowTells i map known effects (due_in_row (machine_of u)) (due_in_row to.1) → PairOver n
-          by (TellsNone none alike) = pairs_had step n (subst abbrev_at none so)
-          by (TellsRetired word was gone are) = pair_retired step n word (known.roles (block_in word)) refl (subst (IsDue (block_in word)) (sym was) refl) are (subst abbrev_at are so)
-          by (TellsDeferred word block place t len was its gone noted are) = pair_put step n t (named known word) (subst abbrev_at are so)
+          by (TellsNone none alike) = pairs_had step n (subst IsAfter none so)
+          by (TellsRetired word was gone are) = pair_retired step n word (known.roles (block_in word)) refl (subst (IsDue (block_in word)) (sym was) refl) are (subst IsAfter are so)
+          by (TellsDeferred word block place t len was its gone noted are) = pair_put step n t (named known word) (subst IsAfter are so)
 
       -- and a table
       table_retired : IsOneStep to.0.setting i w w3 → (t : Table) (word : ℕ) (r : Role) → known.roles (block_in word) ≡ r → IsDue (block_in word) (due_in_row (machine_of u)) → effects ≡ told_retired r
@@ -434,13 +391,13 @@ module _ {K V S : Type 0} (same : K → K → Bool) (hash : K → ℕ) (name : �
       table_over : IsOneStep to.0.setting i w w3 → (t : Table) → is_stage is_retired t v ≡ true → TableOver t
       table_over step t so = by tells
         where
-          abbrev_at : List Effect → Type 0
-          abbrev_at fs = is_stage is_retired t (then_m fs) ≡ true
+          IsAfter : List Effect → Type 0
+          IsAfter fs = is_stage is_retired t (then_m fs) ≡ true
 
           by : RowTells i map known effects (due_in_row (machine_of u)) (due_in_row to.1) → TableOver t
-          by (TellsNone none alike) = tables_had step t (subst abbrev_at none so)
-          by (TellsRetired word was gone are) = table_retired step t word (known.roles (block_in word)) refl (subst (IsDue (block_in word)) (sym was) refl) are (subst abbrev_at are so)
-          by (TellsDeferred word block place u2 len was its gone noted are) = table_put step t u2 (named known word) (subst abbrev_at are so)
+          by (TellsNone none alike) = tables_had step t (subst IsAfter none so)
+          by (TellsRetired word was gone are) = table_retired step t word (known.roles (block_in word)) refl (subst (IsDue (block_in word)) (sym was) refl) are (subst IsAfter are so)
+          by (TellsDeferred word block place u2 len was its gone noted are) = table_put step t u2 (named known word) (subst IsAfter are so)
 
       in_w3 : (b : ℕ) → s2.world.hand b ≡ Handed → w3.hand b ≡ Handed
       in_w3 b handed = sym (ap (λ (z : World (Node K V)). z.hand b) is) ∙ handed

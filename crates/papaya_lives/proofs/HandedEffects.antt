@@ -2,22 +2,26 @@
 use Rattle.std.specs.Prelude.{◌≡◌, ◌⊎◌, ℕ, ◌≤◌, ◌==◌, Bool, true, false, not, ◌&&◌, ◌||◌, List, [], ◌∷◌, length, filter, map, Option, Some, if◌then◌else◌}
 use Rattle.std.specs.List.{list_any}
 use Rattle.std.proofs.Common.{refl, ap, sym, ◌∙◌, inl, inr, arith}
-use Rattle.std.proofs.lemmas.Bool.{cases_eq}
+use Rattle.std.proofs.lemmas.Bool.{cases_eq, eq-eqb}
 use Rattle.papaya_histories.specs.Given.Schedules.declared.effect.Effect.{Effect}
 use Rattle.papaya_histories.specs.Given.Schedules.declared.effect.Effect.TheVariants.{Asked, PairMade, PairGivenUp, TableMade, TableGivenUp, Linked, Promoted, Copied, Stored, Replaced, Removed, Counted, Deferred, Retired, Reclaimed, Ended, Taken}
 use Rattle.papaya_histories.specs.Given.Schedules.declared.effect.Table.{Table}
 use Rattle.papaya_histories.specs.Given.Schedules.declared.effect.Thing.TheVariants.{APair, ATable}
 use Rattle.papaya_histories.specs.Given.Schedules.Effects.{at_stage, in_map, place_by, with_effect, with_effects, AtEachEffect}
 use Rattle.papaya_histories.specs.Given.Schedules.Lists.{is_among, put}
-use Rattle.papaya_histories.specs.Given.Schedules.Moment.{Place, Out, Behind, Left, GivenBack, Stage, IsLinked, IsRetired, IsReclaimed, IsTaken, TableThere, Deferral, Moment}
+use Rattle.papaya_histories.specs.Given.Schedules.Moment.{Place, Out, Handed as IsHanded, Behind, Left, GivenBack, Stage, IsLinked, IsRetired, IsReclaimed, IsTaken, TableThere, Deferral, Moment}
 use Rattle.papaya_histories.specs.Given.Schedules.Reclaims.{is_handed}
 use Rattle.papaya_histories.specs.Given.Schedules.Things.{same_table}
 use Rattle.papaya_histories.specs.Given.Schedules.Views.{behind, is_stage, is_retired}
+use Rattle.papaya_histories.specs.Given.Effects.Effects.{carried}
+use Rattle.papaya_histories.specs.Given.Effects.declared.role.Role.{Role}
+use Rattle.papaya_histories.specs.Given.Effects.declared.role.Role.TheVariants as role
 use Rattle.papaya_histories.specs.Given.Follows.Finds.{FindsMap}
 use Rattle.papaya_histories.proofs.Given.Follows.Alike.{put_here, put_elsewhere}
 use Rattle.papaya_histories.proofs.Given.Spots.Elsewhere.{stored_grows}
 use Rattle.papaya_histories.proofs.Given.Spots.Handing.{HandsNothing, AllHandNothing}
 use Rattle.papaya_histories.proofs.Given.Spots.Unreclaimed.{and_both, any_either, or_right, same_itself, table_is}
+use Rattle.papaya_settles.specs.Due.{told_retired}
 use Rattle.papaya_lives.specs.Handed.{is_deferred}
 
 -- the effect hands something over: it retires a pair or a table, or what waits behind a table as it reclaims that
@@ -244,3 +248,48 @@ deferred_at n (d ∷ ds) e = by (n == d.pair) refl e (deferred_at n ds)
     by : (r : Bool) → (n == d.pair) ≡ r → (r || is_deferred n ds) ≡ true → (is_deferred n ds ≡ true → (t : Table) × (is_among n (behind t ds) ≡ true)) → Found
     by true is k rest = (d.behind, here is (same_table d.behind d.behind) refl (same_itself d.behind))
     by false is k rest = (let found = rest k in (found.0, further found.0 found.1))
+
+-- as the row of a call retires a block, or puts one behind a table
+module _ {K V : Type 0} (caller : Option (List ℕ)) (acted : Option ℕ) (m : Moment K V) (n : ℕ) where
+  -- it is handed over, or waits behind a table
+  abbrev pub Away : List Effect → Type 0
+  Away fs = (is_handed ((with_effects caller acted fs m).place n) ≡ true) ⊎ (is_deferred n (with_effects caller acted fs m).deferred ≡ true)
+
+  pub put_away : (t : Table) (r : Role) → is_handed (m.place n) ≡ true → Away (carried t r)
+  put_away t (role.Pair k) so = elim (cases_eq n k) as (λ _. Away (Deferred k t ∷ [])) [
+    | inl e ↦ inr (ap (λ (z : Bool). z || is_deferred n m.deferred) (eq-eqb n k e))
+    | inr ne ↦ inl (ap is_handed (put_elsewhere k Behind m.place n ne) ∙ so)
+  ]
+  put_away t role.Free so = inl so
+  put_away t (role.OwnPair j) so = inl so
+  put_away t (role.OwnTable turn shape) so = inl so
+  put_away t (role.Table x len) so = inl so
+  put_away t (role.Counter of) so = inl so
+
+  pub retired_away : (r : Role) → is_handed (m.place n) ≡ true → Away (told_retired r)
+  retired_away (role.Pair k) so = elim (cases_eq n k) as (λ _. Away (Retired (APair k) ∷ [])) [
+    | inl e ↦ inl (ap is_handed (put_here k IsHanded m.place n e))
+    | inr ne ↦ inl (ap is_handed (put_elsewhere k IsHanded m.place n ne) ∙ so)
+  ]
+  retired_away (role.Table x len) so = inl so
+  retired_away role.Free so = inl so
+  retired_away (role.OwnPair j) so = inl so
+  retired_away (role.OwnTable turn shape) so = inl so
+  retired_away (role.Counter of) so = inl so
+
+  -- and what waited does so
+  pub list_put : (t : Table) (r : Role) → is_deferred n m.deferred ≡ true → is_deferred n (with_effects caller acted (carried t r) m).deferred ≡ true
+  list_put t (role.Pair k) so = or_right (n == k) (is_deferred n m.deferred) so
+  list_put t role.Free so = so
+  list_put t (role.OwnPair j) so = so
+  list_put t (role.OwnTable turn shape) so = so
+  list_put t (role.Table x len) so = so
+  list_put t (role.Counter of) so = so
+
+  pub list_retired : (r : Role) → is_deferred n m.deferred ≡ true → is_deferred n (with_effects caller acted (told_retired r) m).deferred ≡ true
+  list_retired (role.Pair k) so = so
+  list_retired (role.Table x len) so = so
+  list_retired role.Free so = so
+  list_retired (role.OwnPair j) so = so
+  list_retired (role.OwnTable turn shape) so = so
+  list_retired (role.Counter of) so = so

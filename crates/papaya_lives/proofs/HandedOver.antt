@@ -19,14 +19,17 @@ use Rattle.papaya_histories.specs.Given.Tables.declared.node.Node.{Node}
 use Rattle.papaya_histories.specs.Given.Rule.InWorld.{AllUsers}
 use Rattle.papaya_histories.proofs.Given.Rule.World.Hands.{at_cases}
 use Rattle.papaya_histories.specs.Given.Callers.Together.{CameAbout}
-use Rattle.papaya_histories.specs.Given.Finishes.FactsEnds.{Deed, Looks, TakesPair, LeavesTable, JoinsPair, TakesLeft, TakesCounter, WritesRoot, events_of, left_by}
+use Rattle.papaya_histories.specs.Given.Finishes.FactsEnds.{Deed, Looks, TakesPair, LeavesTable, JoinsPair, TakesLeft, TakesCounter, WritesRoot, events_of, taken_by, left_by}
+use Rattle.papaya_histories.proofs.Given.Finishes.Ends.Frames.{that_one}
+use Rattle.papaya_lives.specs.Behind.{IsLeft}
 use Rattle.papaya_lives.specs.Handed.{IsHandedOver}
 use Rattle.papaya_lives.specs.Waiting.{waits_behind, unless_it}
-use Rattle.papaya_lives.proofs.Listed.{Listing, happens_listed, runs_listed, start_listed}
+use Rattle.papaya_lives.proofs.LeftOver.{over}
+use Rattle.papaya_lives.proofs.Listed.{Listing, happens_listed, runs_listed, start_listed, left_has_none, own_has_none}
 use Rattle.papaya_lives.proofs.Logs.{waits_not}
 use Rattle.papaya_lives.proofs.RetiredEnds.{handed_lives}
 use Rattle.papaya_lives.proofs.Users.{users_aside}
-use Rattle.papaya_lives.proofs.Worlds.{log_back}
+use Rattle.papaya_lives.proofs.Worlds.{log_back, happens_kept}
 
 module _ {T : Type 0} (defers : T → Option ℕ) (size i : ℕ) (w v : World T) (b : ℕ) (its : IsHandedOver w b) where
   -- the beginning of a row
@@ -170,3 +173,22 @@ module _ {T : Type 0} (defers : T → Option ℕ) (size i : ℕ) (w w2 : World T
   deed_alone (TakesLeft c) runs = ap (λ (z : World T). waits_behind b z.log) runs.2 ∙ sym (log_back defers size w runs.0 (Clears i c) tt runs.1 b) ∙ its.1
   deed_alone (TakesCounter c) runs = ap (λ (z : World T). waits_behind b z.log) runs.2 ∙ sym (log_back defers size w runs.0 (Drops i c) tt runs.1 b) ∙ its.1
   deed_alone (WritesRoot at word) runs = ap (λ (z : World T). waits_behind b z.log) runs.2 ∙ sym (log_back defers size w runs.0 (Operates (Store at word)) tt runs.1 b) ∙ its.1
+
+-- what waits behind a block that is taken as a map ends the collector has no more
+module _ {T : Type 0} (defers : T → Option ℕ) (size i : ℕ) (w w2 : World T) (k : Listing defers size w) (b x : ℕ) (waits : waits_behind b w.log ≡ Some x) where
+  pub deed_frees : (deed : Deed) → Runs defers size (events_of i deed) w w2 → 0 < times x (taken_by deed) → w2.hand b ≡ Handed → ⊥
+  deed_frees Looks runs some handed = omega (arith, some)
+  deed_frees (LeavesTable c further) runs some handed = omega (arith, some)
+  deed_frees (JoinsPair c word) runs some handed = omega (arith, some)
+  deed_frees (WritesRoot at word) runs some handed = omega (arith, some)
+  deed_frees (TakesLeft c) runs some handed = left_has_none defers size w k b x waits (subst IsLeft (sym (ap w.hand (that_one x c some) ∙ runs.1.2.1)) tt)
+  deed_frees (TakesCounter c) runs some handed = own_has_none defers size w k b x _ waits (ap w.hand (that_one x c some) ∙ runs.1.2.1)
+  deed_frees (TakesPair c) runs some handed =
+      at_cases (λ (h : Hand). h ≡ Handed → ⊥) runs.2.0.hand c NoBlock b (λ e z. cc z) (λ ne z. subst IsLeft z left)
+      (sym (ap (λ (y : World T). y.hand b) runs.2.2.1.4) ∙ sym (ap (λ (y : World T). y.hand b) runs.2.2.2) ∙ handed)
+    where
+      cut : waits_behind b runs.0.log ≡ Some c
+      cut = sym (log_back defers size w runs.0 (Unlinks i c) tt runs.1 b) ∙ waits ∙ ap (λ (y : ℕ). Some y) (that_one x c some)
+
+      left : IsLeft (runs.2.0.hand b)
+      left = over defers size runs.0 (happens_kept defers size w runs.0 k.kept (Unlinks i c) runs.1) runs.2.0 i c [] runs.2.1 b cut

@@ -12,7 +12,7 @@ use Rattle.papaya_histories.specs.Given.Seize.World.{World, Row, Rests, Hand, No
 use Rattle.papaya_histories.specs.Given.SeizeWaiting.Held.{count}
 use Rattle.papaya_histories.proofs.Given.SeizeMoves.Moves.Takes.{first_doomed}
 use Rattle.papaya_histories.proofs.Given.SeizeMoves.Sets.Unmoved.{Unmoved}
-use Rattle.papaya_histories.proofs.Given.SeizeMoves.State.Ghost.{Entry, Life, IsFree, IsDeferring, IsDeferred, IsPending, IsIn, IsDoomed, State, can_carry, is_deferred, is_given, is_pending, lies_with}
+use Rattle.papaya_histories.proofs.Given.SeizeMoves.State.Ghost.{Entry, Life, IsFree, IsOwned, IsDeferring, IsDeferred, IsPending, IsIn, IsDoomed, State, can_carry, is_deferred, is_given, is_pending, lies_with}
 use Rattle.papaya_histories.proofs.Given.SeizeMoves.State.Moves
 use Rattle.papaya_histories.proofs.Given.SeizeRule.Points.Aside.{HandFits, is_handed}
 use Rattle.papaya_histories.proofs.Given.SeizeRule.Points.Passed.{passed_rest}
@@ -288,20 +288,26 @@ module _ {T : Type 0} (defers : T → Option ℕ) (size : ℕ) where
   }
 
   module _ (w : World T) (k : Listing defers size w) where
-    -- nothing waits behind what is left over
-    pub left_has_none : (b t : ℕ) → waits_behind b w.log ≡ Some t → IsLeft (w.hand t) → ⊥
-    left_has_none b t waits left = (let none = left_carries_not (w.hand t) (s.life t) left (k.kept.good.hands t) in let some = by (k.kept.waits b t waits) in cc (none, some))
+    -- a block behind which another one waits may have a list; so nothing waits behind what is left over, or was never linked
+    pub carries_some : (b t : ℕ) → waits_behind b w.log ≡ Some t → can_carry (k.kept.good.state.life t) ≡ true
+    carries_some b t waits = by (k.kept.waits b t waits)
       where
-        s : State
-        s = k.kept.good.state
-
-        lies : (l : Life) → s.life b ≡ l → lies_with t l ≡ true → can_carry (s.life t) ≡ true
+        lies : (l : Life) → k.kept.good.state.life b ≡ l → lies_with t l ≡ true → can_carry (k.kept.good.state.life t) ≡ true
         lies l is lying = (k.kept.good.inv.places.carries b t (ap (lies_with t) is ∙ lying)).2
 
         by : WaitsIn k.kept.good.state b t → can_carry (k.kept.good.state.life t) ≡ true
         by (OnWay i slot is) = lies (IsDeferring i slot t) is (eq-eqb t t refl)
         by (OnList is) = lies (IsDeferred t) is (eq-eqb t t refl)
         by (TakenOver j bs is first) = ap can_carry (first_doomed (LAST_SLOT + 1) j k.kept.good.state t bs k.kept.good.inv first)
+
+    pub left_has_none : (b t : ℕ) → waits_behind b w.log ≡ Some t → IsLeft (w.hand t) → ⊥
+    left_has_none b t waits left =
+        (let none = left_carries_not (w.hand t) (k.kept.good.state.life t) left (k.kept.good.hands t) in let some = carries_some b t waits in cc (none, some))
+
+    pub own_has_none : (b t i : ℕ) → waits_behind b w.log ≡ Some t → w.hand t ≡ Making i → ⊥
+    own_has_none b t i waits own =
+        let owned : k.kept.good.state.life t ≡ IsOwned i = subst (λ (h : Hand). HandFits h (k.kept.good.state.life t)) own (k.kept.good.hands t) in
+        (let none = ap can_carry owned in let some = carries_some b t waits in cc (none, some))
 
     -- what the collector has, and what waits behind nothing, was retired, if no row is under way
     pub retired_at_rest : ((i : ℕ) → w.row i ≡ Rests) → (b : ℕ) → w.hand b ≡ Handed → waits_behind b w.log ≡ None → is_retired b w.log ≡ true

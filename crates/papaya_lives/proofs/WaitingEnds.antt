@@ -59,7 +59,7 @@ calm_one (Reclaimed (APair n)) ds e = refl
 calm_one (Taken t) ds e = absurd (cc e)
 calm_one _ ds e = refl
 
-calm_deferred : {K V : Type 0} (acted : Option ℕ) (effects : List Effect) (m : Moment K V) → AllCalm effects → (with_effects None acted effects m).deferred ≡ m.deferred
+pub calm_deferred : {K V : Type 0} (acted : Option ℕ) (effects : List Effect) (m : Moment K V) → AllCalm effects → (with_effects None acted effects m).deferred ≡ m.deferred
 calm_deferred acted [] m all = refl
 calm_deferred acted (f ∷ effects) m all = calm_deferred acted effects (with_effect None acted f m) all.1 ∙ calm_one f m.deferred all.0
 
