@@ -1,5 +1,5 @@
 -- What is handed over after a step of a call, whoever's row it is: what the row retires is so then, and what it puts behind a table waits there.
-use Rattle.std.specs.Prelude.{◌≡◌, ◌⊎◌, ℕ, ◌+◌, ◌==◌, ◌≤◌, zero, suc, Bool, true, false, ◌||◌, is_some, List, [], ◌∷◌, length, map, Option, Some, None, if◌then◌else◌}
+use Rattle.std.specs.Prelude.{◌≡◌, ℕ, ◌+◌, ◌==◌, ◌≤◌, zero, suc, Bool, true, false, ◌||◌, is_some, List, [], ◌∷◌, length, map, Option, Some, None, if◌then◌else◌}
 use Rattle.std.proofs.Common.{refl, ap, sym, subst, ◌∙◌, inl, inr, arith}
 use Rattle.std.proofs.lemmas.Bool.{cases_eq, eq-eqb}
 use Rattle.papaya_histories.specs.Given.SeizeWords.Mem.{value_at}
@@ -23,7 +23,7 @@ use Rattle.papaya_histories.specs.Given.Schedules.declared.effect.Table.{Table}
 use Rattle.papaya_histories.specs.Given.Schedules.declared.effect.Thing.{Thing}
 use Rattle.papaya_histories.specs.Given.Schedules.declared.effect.Thing.TheVariants.{APair, ATable}
 use Rattle.papaya_histories.specs.Given.Schedules.Effects.{with_effects, AtEachEffect}
-use Rattle.papaya_histories.specs.Given.Schedules.Moment.{Behind, Handed as IsHanded, Moment}
+use Rattle.papaya_histories.specs.Given.Schedules.Moment.{Handed as IsHanded, Moment}
 use Rattle.papaya_histories.specs.Given.Schedules.Reclaims.{is_handed}
 use Rattle.papaya_histories.specs.Given.Schedules.Things.{same_table}
 use Rattle.papaya_histories.specs.Given.Schedules.Views.{is_stage, is_retired}
@@ -54,7 +54,7 @@ use Rattle.papaya_histories.specs.Given.Hands.Hands.{IsInUse}
 use Rattle.papaya_histories.proofs.Given.Hands.RowSteps.{rows_hand_theirs}
 use Rattle.papaya_histories.proofs.Given.Hands.Steps.{calls_store_theirs}
 use Rattle.papaya_histories.proofs.Given.Spots.Steps.{hands_nothing, stayed_calm}
-use Rattle.papaya_histories.proofs.Given.Spots.Unreclaimed.{or_right, table_is}
+use Rattle.papaya_histories.proofs.Given.Spots.Unreclaimed.{table_is}
 use Rattle.papaya_histories.specs.Given.Moments.Whole.{ShowsWhole}
 use Rattle.papaya_histories.proofs.Given.Moments.Calls.{calls_keep_whole}
 use Rattle.papaya_settles.specs.Due.{due_in_row, told_retired, RowTells, TellsNone, TellsRetired, TellsDeferred, OwnAreMade}

@@ -24,3 +24,11 @@ pub mod WaitingEnds
 pub mod RetiredEnds
 pub mod LeftTables
 pub mod LeftEnds
+pub mod HandedOver
+pub mod HandedEffects
+pub mod HandedRoles
+pub mod HandedMeant
+pub mod HandedRows
+pub mod HandedCalls
+pub mod HandedMakings
+pub mod HandedEnds

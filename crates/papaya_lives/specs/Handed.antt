@@ -149,7 +149,7 @@ module _ (K V S : Type 0) (same : K → K → Bool) (hash : K → ℕ) where
   abbrev pub EndingsKeepHanded : Type 0
   EndingsKeepHanded =
       (name : ℕ → List ℕ) (m : Moment K V) (known : Known) (s : Scene K V) (old new : Executor K V S) → IsAt same hash old s → ShowsWhole same name m known s → ShowsWaiting m known s.world
-      → ShowsHanded m known s
+      → ShowsRetired m known s → ShowsHanded m known s
       → (i : ℕ) (told : Settled (Node K V)) (leads : EndingLeads same hash i told s old new) (f : Finishing K V) (here : s.enders i ≡ Some f) (map : ℕ) → s.maps map ≡ None
       → (let to = leads f here in
       ShowsHanded (with_effects None (Some map) (effects_of (Ending map) known new.memory.changed) m) (known_after (Ending map) new.memory.changed known)
