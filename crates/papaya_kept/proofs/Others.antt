@@ -45,6 +45,9 @@ use Rattle.papaya_settles.proofs.EntryScenes.{rows_begin_entries, rows_keep_entr
 use Rattle.papaya_settles.proofs.Hand.Between.{stays_owed, effects_leave_owed}
 use Rattle.papaya_settles.proofs.Handing.{others_leave_handing}
 use Rattle.papaya_lives.specs.Behind.{ShowsWaiting, WaitsOnce}
+use Rattle.papaya_lives.proofs.HandedEnds.{endings_keep_handed}
+use Rattle.papaya_lives.proofs.HandedMakings.{makings_keep_handed}
+use Rattle.papaya_lives.proofs.HandedRows.{endings_begin_handed, others_leave_handed, rows_begin_handed, rows_keep_handed}
 use Rattle.papaya_lives.proofs.Ends.{endings_find_waiting}
 use Rattle.papaya_lives.proofs.LeftEnds.{endings_keep_left}
 use Rattle.papaya_lives.proofs.LeftTables.{others_keep_left, endings_begin_left, rows_begin_left, rows_keep_left, makings_keep_left}
@@ -106,6 +109,7 @@ module _ (K V S : Type 0) (same : K → K → Bool) (hash : K → ℕ) where
     once = kept.once;
     retired = rows_begin_retired K V S same hash m known s old new at kept.retired called i may leads;
     left = rows_begin_left K V S same hash known s old new kept.left called i may leads;
+    handed = rows_begin_handed K V S same hash m known s old new at kept.handed called i may leads;
   }
     where
       t : Scene K V
@@ -128,6 +132,7 @@ module _ (K V S : Type 0) (same : K → K → Bool) (hash : K → ℕ) where
         (row_fewer known m new.memory.changed (row_tells old.memory.memory new.memory.memory new.memory.changed ((leads row here).0, said) row (leads row here).1)) kept.once;
     retired = rows_keep_retired K V S same hash name m known s old new at whole kept.retired i said leads row here;
     left = rows_keep_left K V S same hash name m known s old new at whole kept.left i said leads row here;
+    handed = rows_keep_handed K V S same hash name m known s old new at whole kept.waiting kept.handed i said leads row here;
   }
     where
       effects : List Effect
@@ -161,6 +166,8 @@ module _ (K V S : Type 0) (same : K → K → Bool) (hash : K → ℕ) where
     once = subst WaitsOnce (sym (apart same hash name m known s old new at whole i said leads b here of was_new).0) kept.once;
     retired = others_leave_retired K V v v known2 stepped led
         (makings_keep_retired K V S same hash name m known s old new at whole (own_made K V S same hash name m known s old at whole kept) kept.retired i said leads b here of was_new) refl world
+        (λ j has. inl (calls_same stepped led calls j has));
+    handed = others_leave_handed K V v v known2 stepped led (makings_keep_handed K V S same hash name m known s old new at whole kept.handed i said leads b here of was_new) refl refl refl world
         (λ j has. inl (calls_same stepped led calls j has));
     left = others_keep_left K V known2 stepped led
         (makings_keep_left K V S same hash known s old new (own_made K V S same hash name m known s old at whole kept) kept.left i said leads b here) world
@@ -203,6 +210,7 @@ module _ (K V S : Type 0) (same : K → K → Bool) (hash : K → ℕ) where
     once = kept.once;
     retired = endings_begin_retired K V m known s kept.retired map i standing;
     left = endings_begin_left K V known s kept.left map i standing nobody;
+    handed = endings_begin_handed K V m known s kept.handed map i standing;
   }
     where
       t : Scene K V
@@ -224,6 +232,7 @@ module _ (K V S : Type 0) (same : K → K → Bool) (hash : K → ℕ) where
     once = once_then same hash name m known s old new at whole kept.once kept.waiting i f here (leads f here).0 said (leads f here).1 (leads f here).2 map not_there (leads f here).3;
     retired = endings_keep_retired K V S same hash name m known s old new at whole kept.retired i said leads f here map not_there;
     left = endings_keep_left K V S same hash name m known s old new at whole kept.left i said leads f here map not_there;
+    handed = endings_keep_handed K V S same hash name m known s old new at whole kept.waiting kept.retired kept.handed i said leads f here map not_there;
   }
     where
       effects : List Effect

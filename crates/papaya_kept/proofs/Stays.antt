@@ -27,6 +27,7 @@ use Rattle.papaya_settles.proofs.Hand.Between.{owed_begins, stays_owed, calls_co
 use Rattle.papaya_settles.proofs.Hand.Roles.{hand_kept}
 use Rattle.papaya_settles.proofs.Handing.{handing_begins, calls_come_to_handing}
 use Rattle.papaya_lives.specs.Behind.{ShowsWaiting, WaitsOnce}
+use Rattle.papaya_lives.proofs.HandedRows.{handed_begins, others_leave_handed}
 use Rattle.papaya_lives.proofs.LeftTables.{left_begins, others_keep_left}
 use Rattle.papaya_lives.proofs.Reclaimed.{retired_begins, others_leave_retired}
 use Rattle.papaya_lives.proofs.Waiting.{waiting_begins, others_leave_waiting}
@@ -47,6 +48,7 @@ begins_kept K V roots name = record {
   once = tt;
   retired = retired_begins K V roots;
   left = left_begins K V roots;
+  handed = handed_begins K V roots;
 }
 
 module _ {K V : Type 0} where
@@ -87,6 +89,7 @@ stays_kept K V name m v known s t kept listed tables deferred place world calls 
   once = subst WaitsOnce (sym deferred) kept.once;
   retired = others_leave_retired K V m v known s t kept.retired tables world (λ j has. inl (calls_same s t calls j has));
   left = others_keep_left K V known s t kept.left world enders;
+  handed = others_leave_handed K V m v known s t kept.handed place deferred tables world (λ j has. inl (calls_same s t calls j has));
 }
 
 pub renamed_kept : (K V : Type 0) → RenamedKept K V
@@ -104,6 +107,7 @@ renamed_kept K V name name2 m known s agree kept = record {
   once = kept.once;
   retired = kept.retired;
   left = kept.left;
+  handed = kept.handed;
 }
   where
     as_named : (map i : ℕ) (u : UnderWay K V K) → s.calls map i ≡ Some u → (c : CallThere K V) → call_of (name2 i) m ≡ Some c → call_of (name i) m ≡ Some c
@@ -124,6 +128,7 @@ calls_come_to_kept K V same name m known s whole kept own outcome steps none = r
   once = kept.once;
   retired = others_leave_retired K V m (come_to own outcome steps m) known s s kept.retired refl refl (λ j has. inl has);
   left = kept.left;
+  handed = others_leave_handed K V m (come_to own outcome steps m) known s s kept.handed refl refl refl refl (λ j has. inl has);
 }
 
 pub makings_begin_kept : (K V : Type 0) → MakingsBeginKept K V
@@ -141,6 +146,7 @@ makings_begin_kept K V name m known s kept i b none = record {
   once = kept.once;
   retired = others_leave_retired K V m m known s t kept.retired refl refl (λ j has. inl has);
   left = others_keep_left K V known s t kept.left refl refl;
+  handed = others_leave_handed K V m m known s t kept.handed refl refl refl refl (λ j has. inl has);
 }
   where
     t : Scene K V
