@@ -28,6 +28,7 @@ pub mod HandedOver
 pub mod HandedEffects
 pub mod HandedRoles
 pub mod HandedMeant
+pub mod HandedTaken
 pub mod HandedRows
 pub mod HandedCalls
 pub mod HandedMakings
