@@ -12,7 +12,7 @@ use Rattle.papaya_histories.specs.Given.Seize.World.{World, Row, Rests, Hand, No
 use Rattle.papaya_histories.specs.Given.SeizeWaiting.Held.{count}
 use Rattle.papaya_histories.proofs.Given.SeizeMoves.Moves.Takes.{first_doomed}
 use Rattle.papaya_histories.proofs.Given.SeizeMoves.Sets.Unmoved.{Unmoved}
-use Rattle.papaya_histories.proofs.Given.SeizeMoves.State.Ghost.{Entry, Life, IsFree, IsOwned, IsDeferring, IsDeferred, IsPending, IsIn, IsDoomed, State, can_carry, is_deferred, is_given, is_pending, lies_with}
+use Rattle.papaya_histories.proofs.Given.SeizeMoves.State.Ghost.{Entry, Life, IsFree, IsOwned, IsLinked, IsUnlinked, IsDeferring, IsDeferred, IsPending, IsIn, IsDoomed, State, can_carry, is_deferred, is_given, is_pending, lies_with}
 use Rattle.papaya_histories.proofs.Given.SeizeMoves.State.Moves
 use Rattle.papaya_histories.proofs.Given.SeizeRule.Points.Aside.{HandFits, is_handed}
 use Rattle.papaya_histories.proofs.Given.SeizeRule.Points.Passed.{passed_rest}
@@ -21,6 +21,7 @@ use Rattle.papaya_histories.proofs.Given.SeizeRule.Rows.Effects.{IsOneStep}
 use Rattle.papaya_histories.proofs.Given.SeizeRule.Rows.Known.{FitsRow}
 use Rattle.papaya_histories.proofs.Given.SeizeRule.Rows.Told.{list_off, RowTold, SettleGoes, SettleEnds, LeaveSwaps, LeaveGoes, LeaveSettled, LeaveEnds, RegisterLooks, RegisterRefused, RegisterTakes, RegisterEnters, EntersSlot, FreesSlot, DeferGoes, DeferPushes, DeferEnds, BeginTold}
 use Rattle.papaya_histories.proofs.Given.SeizeRule.Words.Named.{link}
+use Rattle.papaya_histories.proofs.Given.SeizeRule.Words.Shows.{lives}
 use Rattle.papaya_histories.proofs.Given.SeizeRule.Words.View.{view}
 use Rattle.papaya_histories.proofs.Given.SeizeRule.World.Begins.{begins_next}
 use Rattle.papaya_histories.proofs.Given.SeizeRule.World.Events.{leaves_over_good}
@@ -152,6 +153,15 @@ listed_with t (IsDeferred u) some = by (eqb t u) some
     by true more = refl
     by false more = absurd (omega (arith, more))
 listed_with t _ some = absurd (omega (arith, some))
+
+-- what may have a list lives
+pub carries_lives : (l : Life) → can_carry l ≡ true → lives l ≡ true
+carries_lives IsLinked e = refl
+carries_lives (IsUnlinked i) e = refl
+carries_lives (IsPending i) e = refl
+carries_lives (IsIn x) e = refl
+carries_lives (IsDoomed i) e = refl
+carries_lives _ e = absurd (cc e)
 
 -- the world is good, and all that is on lists waits by the log
 pub record Listing {T : Type 0} (defers : T → Option ℕ) (size : ℕ) (w : World T) : Type 0 where

@@ -59,7 +59,7 @@ use Rattle.papaya_logged.proofs.ReclaimSteps.{reached}
 
 module _ {K V : Type 0} (size : ℕ) where
   -- such a row tells nothing as it begins
-  begun_log : (i : ℕ) (request : Request) (w v : World (Node K V)) → IsForSlots request → Begins deferred_word size i request w v → v.log ≡ w.log
+  pub begun_log : (i : ℕ) (request : Request) (w v : World (Node K V)) → IsForSlots request → Begins deferred_word size i request w v → v.log ≡ w.log
   begun_log i (Register' enters) w v its is = ap (λ (x : World (Node K V)). x.log) is
   begun_log i (Leave' s) w v its is = ap (λ (x : World (Node K V)). x.log) is.1
   begun_log i (Flush s) w v its is = ap (λ (x : World (Node K V)). x.log) is.1
