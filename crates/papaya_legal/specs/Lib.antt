@@ -7,3 +7,4 @@ pub mod MapEvents
 pub mod Over
 pub mod Chains
 pub mod Promises
+pub mod Found
