@@ -1,14 +1,14 @@
 -- A row on a slot finds what it must: what it reclaims was handed over. And while no row is under way what is told to be handed over was retired.
 use Rattle.std.specs.Prelude.{◌≡◌, ℕ, Bool, true, false, ◌&&◌, ◌||◌, List, [], ◌∷◌, None}
-use Rattle.std.specs.List.{AllByRecursion, list_any}
-use Rattle.std.proofs.Common.{refl, ap, ◌∙◌}
-use Rattle.papaya_histories.specs.Given.Seize.World.{Rests}
+use Rattle.std.specs.List.{AllByRecursion, list_all, list_any}
+use Rattle.std.proofs.Common.{refl, ap}
 use Rattle.papaya_histories.specs.Given.Schedules.declared.effect.Effect.{Effect}
 use Rattle.papaya_histories.specs.Given.Schedules.declared.effect.Effect.TheVariants.{Asked, Reclaimed}
 use Rattle.papaya_histories.specs.Given.Schedules.declared.effect.Growth.TheVariants.{ABlock, ABucket}
 use Rattle.papaya_histories.specs.Given.Schedules.declared.effect.Table.{Table}
 use Rattle.papaya_histories.specs.Given.Schedules.declared.effect.Thing.TheVariants.{APair, ATable}
 use Rattle.papaya_histories.specs.Given.Schedules.Effects.{with_effect, AtEachEffect}
+use Rattle.papaya_histories.specs.Given.Schedules.Handing.{asks_for_bucket, is_reclaiming}
 use Rattle.papaya_histories.specs.Given.Schedules.Lives.{Finds, MayReclaim}
 use Rattle.papaya_histories.specs.Given.Schedules.Moment.{Place, Handed, TableThere, Moment}
 use Rattle.papaya_histories.specs.Given.Schedules.Reclaims.{is_handed}
@@ -16,16 +16,13 @@ use Rattle.papaya_histories.specs.Given.Schedules.Terms.{Terms}
 use Rattle.papaya_histories.specs.Given.Schedules.Things.{same_table}
 use Rattle.papaya_histories.specs.Given.Schedules.Views.{is_stage, is_retired}
 use Rattle.papaya_histories.specs.Given.Effects.Effects.{effects_of}
-use Rattle.papaya_histories.specs.Given.Effects.Known.{Known}
 use Rattle.papaya_histories.specs.Given.Effects.declared.acting.Acting.TheVariants as acts
-use Rattle.papaya_histories.specs.Given.Executor.IsAt.{Scene}
 use Rattle.papaya_histories.specs.Given.Moments.OnSlots.{HadRetired}
-use Rattle.papaya_histories.proofs.Given.Spots.Unreclaimed.{or_right, same_itself}
+use Rattle.papaya_histories.proofs.Given.Spots.Unreclaimed.{and_both, or_right, same_itself}
 use Rattle.papaya_finds.specs.Bounded.{HasRetiredTable}
 use Rattle.papaya_lives.specs.Handed.{HadHanded}
 use Rattle.papaya_lives.proofs.HandedRows.{handed_at_rest, rows_find_handed}
 use Rattle.papaya_lives.proofs.Reclaimed.{rows_find_retired}
-use Rattle.papaya_models.specs.Numbers.{AreOfRow, IsOfRow}
 use Rattle.papaya_legal.specs.Found.{AsksInNeed, RowsFindTheirs, RestShowsRetired}
 
 -- what was handed over may be reclaimed
@@ -34,18 +31,19 @@ may_reclaim everything Handed e = tt
 may_reclaim everything _ e = absurd (cc e)
 
 module _ {K V : Type 0} (terms : Terms) where
-  found_one : (f : Effect) (m : Moment K V) → IsOfRow f → AsksInNeed m f → HadRetired m f → HadHanded m f → Finds terms None None false [] m f
+  found_one : (f : Effect) (m : Moment K V) → (is_reclaiming f || asks_for_bucket f) ≡ true → AsksInNeed m f → HadRetired m f → HadHanded m f → Finds terms None None false [] m f
   found_one (Asked ABucket) m of_row needs retired handed = needs
   found_one (Asked ABlock) m of_row needs retired handed = tt
   found_one (Reclaimed (APair n)) m of_row needs retired handed = may_reclaim false (m.place n) handed
   found_one (Reclaimed (ATable t)) m of_row needs retired handed = retired
-  found_one _ m of_row needs retired handed = absurd of_row
+  found_one _ m of_row needs retired handed = absurd (cc of_row)
 
-  found : (effects : List Effect) (m : Moment K V) → AreOfRow effects → AtEachEffect AsksInNeed None None effects m → AtEachEffect HadRetired None None effects m
+  found : (effects : List Effect) (m : Moment K V) → list_all (λ f. is_reclaiming f || asks_for_bucket f) effects ≡ true → AtEachEffect AsksInNeed None None effects m → AtEachEffect HadRetired None None effects m
       → AtEachEffect HadHanded None None effects m → AtEachEffect (Finds terms None None false []) None None effects m
   found [] m of_row needs retired handed = tt
   found (f ∷ effects) m of_row needs retired handed =
-      (found_one f m of_row.0 needs.0 retired.0 handed.0, found effects (with_effect None None f m) of_row.1 needs.1 retired.1 handed.1)
+      let both = and_both (is_reclaiming f || asks_for_bucket f) (list_all (λ g. is_reclaiming g || asks_for_bucket g) effects) of_row in
+      (found_one f m both.0 needs.0 retired.0 handed.0, found effects (with_effect None None f m) both.1 needs.1 retired.1 handed.1)
 
 -- of each table of a list this is so, if it is of each that is retired among all
 module _ {K V : Type 0} (m : Moment K V) (Q : TableThere → Type 0) (has : (u : TableThere) → is_stage is_retired u.table m ≡ true → Q u) where
