@@ -46,6 +46,9 @@ use Rattle.papaya_settles.proofs.Hand.Between.{stays_owed, effects_leave_owed}
 use Rattle.papaya_settles.proofs.Handing.{others_leave_handing}
 use Rattle.papaya_lives.specs.Behind.{ShowsWaiting, WaitsOnce}
 use Rattle.papaya_lives.specs.Lying.{ShowsLying}
+use Rattle.papaya_lives.proofs.HandedEnds.{endings_keep_handed}
+use Rattle.papaya_lives.proofs.HandedMakings.{makings_keep_handed}
+use Rattle.papaya_lives.proofs.HandedRows.{endings_begin_handed, others_leave_handed, rows_begin_handed, rows_keep_handed}
 use Rattle.papaya_lives.proofs.Ends.{endings_find_waiting}
 use Rattle.papaya_lives.proofs.LeftEnds.{endings_keep_left}
 use Rattle.papaya_lives.proofs.LeftTables.{others_keep_left, endings_begin_left, rows_begin_left, rows_keep_left, makings_keep_left}
@@ -110,6 +113,7 @@ module _ (K V S : Type 0) (same : K → K → Bool) (hash : K → ℕ) where
     lying = rows_begin_lying K V S same hash m known s old new kept.lying called i may leads;
     retired = rows_begin_retired K V S same hash m known s old new at kept.retired called i may leads;
     left = rows_begin_left K V S same hash known s old new kept.left called i may leads;
+    handed = rows_begin_handed K V S same hash m known s old new at kept.handed called i may leads;
   }
     where
       t : Scene K V
@@ -133,6 +137,7 @@ module _ (K V S : Type 0) (same : K → K → Bool) (hash : K → ℕ) where
     lying = rows_keep_lying K V S same hash name m known s old new at whole kept.lying i said leads row here;
     retired = rows_keep_retired K V S same hash name m known s old new at whole kept.retired i said leads row here;
     left = rows_keep_left K V S same hash name m known s old new at whole kept.left i said leads row here;
+    handed = rows_keep_handed K V S same hash name m known s old new at whole kept.waiting kept.handed i said leads row here;
   }
     where
       effects : List Effect
@@ -168,6 +173,8 @@ module _ (K V S : Type 0) (same : K → K → Bool) (hash : K → ℕ) where
         (makings_keep_lying K V S same hash name m known s old new at whole (own_made K V S same hash name m known s old at whole kept) kept.lying i said leads b here of was_new);
     retired = others_leave_retired K V v v known2 stepped led
         (makings_keep_retired K V S same hash name m known s old new at whole (own_made K V S same hash name m known s old at whole kept) kept.retired i said leads b here of was_new) refl world
+        (λ j has. inl (calls_same stepped led calls j has));
+    handed = others_leave_handed K V v v known2 stepped led (makings_keep_handed K V S same hash name m known s old new at whole kept.handed i said leads b here of was_new) refl refl refl world
         (λ j has. inl (calls_same stepped led calls j has));
     left = others_keep_left K V known2 stepped led
         (makings_keep_left K V S same hash known s old new (own_made K V S same hash name m known s old at whole kept) kept.left i said leads b here) world
@@ -211,6 +218,7 @@ module _ (K V S : Type 0) (same : K → K → Bool) (hash : K → ℕ) where
     lying = endings_begin_lying K V m known s kept.lying map i standing;
     retired = endings_begin_retired K V m known s kept.retired map i standing;
     left = endings_begin_left K V known s kept.left map i standing nobody;
+    handed = endings_begin_handed K V m known s kept.handed map i standing;
   }
     where
       t : Scene K V
@@ -233,6 +241,7 @@ module _ (K V S : Type 0) (same : K → K → Bool) (hash : K → ℕ) where
     lying = endings_keep_lying K V S same hash name m known s old new at whole kept.lying i said leads f here map not_there;
     retired = endings_keep_retired K V S same hash name m known s old new at whole kept.retired i said leads f here map not_there;
     left = endings_keep_left K V S same hash name m known s old new at whole kept.left i said leads f here map not_there;
+    handed = endings_keep_handed K V S same hash name m known s old new at whole kept.waiting kept.retired kept.handed i said leads f here map not_there;
   }
     where
       effects : List Effect

@@ -28,6 +28,7 @@ use Rattle.papaya_settles.proofs.Hand.Roles.{hand_kept}
 use Rattle.papaya_settles.proofs.Handing.{handing_begins, calls_come_to_handing}
 use Rattle.papaya_lives.specs.Behind.{ShowsWaiting, WaitsOnce}
 use Rattle.papaya_lives.specs.Lying.{ShowsLying}
+use Rattle.papaya_lives.proofs.HandedRows.{handed_begins, others_leave_handed}
 use Rattle.papaya_lives.proofs.LeftTables.{left_begins, others_keep_left}
 use Rattle.papaya_lives.proofs.Lying.{lying_begins, others_leave_lying}
 use Rattle.papaya_lives.proofs.Reclaimed.{retired_begins, others_leave_retired}
@@ -50,6 +51,7 @@ begins_kept K V roots name = record {
   lying = lying_begins K V roots;
   retired = retired_begins K V roots;
   left = left_begins K V roots;
+  handed = handed_begins K V roots;
 }
 
 module _ {K V : Type 0} where
@@ -91,6 +93,7 @@ stays_kept K V name m v known s t kept listed tables deferred place world calls 
   lying = subst (ShowsLying v known) (sym world) (others_leave_lying K V m v known s.world kept.lying deferred);
   retired = others_leave_retired K V m v known s t kept.retired tables world (λ j has. inl (calls_same s t calls j has));
   left = others_keep_left K V known s t kept.left world enders;
+  handed = others_leave_handed K V m v known s t kept.handed place deferred tables world (λ j has. inl (calls_same s t calls j has));
 }
 
 pub renamed_kept : (K V : Type 0) → RenamedKept K V
@@ -109,6 +112,7 @@ renamed_kept K V name name2 m known s agree kept = record {
   lying = kept.lying;
   retired = kept.retired;
   left = kept.left;
+  handed = kept.handed;
 }
   where
     as_named : (map i : ℕ) (u : UnderWay K V K) → s.calls map i ≡ Some u → (c : CallThere K V) → call_of (name2 i) m ≡ Some c → call_of (name i) m ≡ Some c
@@ -130,6 +134,7 @@ calls_come_to_kept K V same name m known s whole kept own outcome steps none = r
   lying = others_leave_lying K V m (come_to own outcome steps m) known s.world kept.lying refl;
   retired = others_leave_retired K V m (come_to own outcome steps m) known s s kept.retired refl refl (λ j has. inl has);
   left = kept.left;
+  handed = others_leave_handed K V m (come_to own outcome steps m) known s s kept.handed refl refl refl refl (λ j has. inl has);
 }
 
 pub makings_begin_kept : (K V : Type 0) → MakingsBeginKept K V
@@ -148,6 +153,7 @@ makings_begin_kept K V name m known s kept i b none = record {
   lying = kept.lying;
   retired = others_leave_retired K V m m known s t kept.retired refl refl (λ j has. inl has);
   left = others_keep_left K V known s t kept.left refl refl;
+  handed = others_leave_handed K V m m known s t kept.handed refl refl refl refl (λ j has. inl has);
 }
   where
     t : Scene K V

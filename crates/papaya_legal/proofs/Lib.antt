@@ -25,3 +25,4 @@ pub mod Begun
 pub mod MapsOver
 pub mod Chains
 pub mod Legal
+pub mod Found

@@ -8,3 +8,4 @@ pub mod MapEvents
 pub mod Over
 pub mod Chains
 pub mod Promises
+pub mod Found

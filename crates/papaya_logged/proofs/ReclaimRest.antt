@@ -41,6 +41,7 @@ use Rattle.papaya_lives.proofs.LeftTables.{none_is_left, where_none_is_left}
 use Rattle.papaya_kept.specs.Kept.{ShowsKept}
 use Rattle.papaya_logged.specs.Reclaims.{ReclaimRetired}
 use Rattle.papaya_logged.proofs.ReclaimFinds.{reclaiming_finds}
+use Rattle.papaya_logged.proofs.ReclaimHanded.{reclaiming_handed}
 use Rattle.papaya_logged.proofs.ReclaimKept.{reclaiming_comes}
 use Rattle.papaya_logged.proofs.ReclaimRows.{EmptiesRoot, reclaiming_tells}
 use Rattle.papaya_logged.proofs.ReclaimSteps.{reached, no_call, root_none, nothing_there}
@@ -158,4 +159,5 @@ module _ {K V S : Type 0} (same : K → K → Bool) (hash : K → ℕ) (name : �
         lying = comes.lies;
         retired = comes.had;
         left = where_none_is_left K V (known_after Row new.memory.changed known) s2 comes.none_left;
+        handed = reclaiming_handed same hash name m known s whole kept.waiting kept.handed no_table old new i lists before after told at leads;
       }

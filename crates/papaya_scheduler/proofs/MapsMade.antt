@@ -49,6 +49,7 @@ use Rattle.papaya_rows.proofs.Least.{least_is}
 use Rattle.papaya_rows.proofs.Lists.{all_so}
 use Rattle.papaya_scheduler.specs.Mapping.{CountsMaps, IsGivenFor, MayMap, may_make_of}
 use Rattle.papaya_scheduler.specs.Played.{Plays, StandsFor}
+use Rattle.papaya_scheduler.specs.Quiet.{IsQuiet}
 use Rattle.papaya_scheduler.specs.Seen.{named, named_of}
 use Rattle.papaya_scheduler.specs.declared.scheduler.NamedMap.{NamedMap}
 use Rattle.papaya_scheduler.specs.declared.scheduler.Scheduler.{Scheduler}
@@ -200,6 +201,15 @@ module _ {K V S : Type 0} (same : K → K → Bool) (hash : K → ℕ) (terms : 
             abbrev went : (t : Scene K V) × (came : MakingCame s1 t i b no_map) × IsShown same hash stands.name (with_effects None (number_of own m) ran.0 m) new t
                 × (CameBare s1 t i b no_map came.maker → JustAsks b ran.0) × HasTable no_map b (with_effects None (number_of own m) ran.0 m)
             went = (ran.3 same hash stands.name m s1 shown_mid b here (sym is_number) (number_of own m)).1 tt (subst (λ (n : ℕ). NumbersUpTo n m) (sym is_number) stands.shown.counted.numbered.numbers)
+
+            -- it was not refused as busy
+            quiet_by : (x : Fault) → FindsRoot p.logged.executor.roots (λ q. is_among q used) after new.executor.memory.memory (progress.Refused x) → IsQuiet {V = V} (Refused x) after
+            quiet_by RootsUsedUp so = tt
+            quiet_by Memory so = tt
+            quiet_by _ so = absurd so
+
+            pub refused_quiet : IsQuiet {V = V} (Refused fault) after
+            refused_quiet = quiet_by fault (found no_map new before after empty ran finds)
 
             abbrev refusal : Entry K V
             refusal = entry event (Refused fault) 0 after

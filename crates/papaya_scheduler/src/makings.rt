@@ -5,6 +5,7 @@ ghost use Rattle.papaya_schedules.specs.Terms.{Terms};
 ghost use Rattle.papaya_schedules.specs.declared.event.Event.TheVariants as event;
 ghost use Rattle.papaya_executor.specs.IsAt.{StaysGiven};
 ghost use Rattle.papaya_scheduler.specs.Mapping.{MayMap, PlaysMaking, IsGivenFor, may_make_of, numbers_made};
+ghost use Rattle.papaya_scheduler.specs.Quiet.{IsQuiet};
 
 use crate::played::Played;
 use crate::scheduler::{NamedMap, Scheduler};
@@ -53,6 +54,7 @@ impl<K: Drop, V: Drop, S> Scheduler<K, V, S> {
     ) -> Result<Played<V>, AllocError>
         requires { (same : K → K → Bool) × (hash : K → ℕ) × (terms : Terms) × (log : List (Entry K V)) × MayMap same hash terms log (event.MakeMap map mode capacity) self.old }
         ensures steps { IfOk result (λ played. played.steps ≡ 0) }
+        ensures quiet { IfOk result (λ played. IsQuiet played.outcome played.effects.items) }
         ensures plays { IfOk result (λ played. (same : K → K → Bool) (hash : K → ℕ) → PlaysMaking same hash (event.MakeMap map mode capacity) played self.old self.new) }
         ensures numbers { IfOk result (λ played. length self.new.logged.executor.maps.items ≡ numbers_made played.outcome (length self.old.logged.executor.maps.items)) }
         ensures given { StaysGiven self.old.logged.executor self.new.logged.executor }

@@ -11,6 +11,7 @@ ghost use Rattle.papaya_reclaiming.specs.Reclaiming.{MayReclaim, NobodyHas};
 ghost use Rattle.papaya_effects.specs.Known.{known};
 ghost use Rattle.papaya_scheduler.specs.Back.{GivesAllBack};
 ghost use Rattle.papaya_scheduler.specs.Reclaiming.{MayReclaimAll, PlaysGiving, are_gone};
+ghost use Rattle.papaya_scheduler.specs.Quiet.{IsQuiet};
 
 use crate::played::Played;
 use crate::scheduler::Scheduler;
@@ -51,6 +52,7 @@ impl<K: Drop, V: Drop, S> Scheduler<K, V, S> {
     pub fn reclaim_all(&mut self, back: &mut Vec<Pair<K, V>>) -> Result<Played<V>, AllocError>
         requires { (same : K → K → Bool) × (hash : K → ℕ) × MayReclaimAll same hash event.ReclaimAll self.old }
         ensures steps { IfOk result (λ played. played.steps ≡ 0) }
+        ensures quiet { IfOk result (λ played. IsQuiet played.outcome played.effects.items) }
         ensures plays { IfOk result (λ played. (same : K → K → Bool) (hash : K → ℕ) → PlaysGiving same hash event.ReclaimAll played self.old self.new) }
         ensures back { IfOk result (λ played. (same : K → K → Bool) (hash : K → ℕ) → GivesAllBack same hash event.ReclaimAll played self.old back.old.items back.new.items) }
         ensures given { KeepsGiven self.old.logged.executor self.new.logged.executor }
@@ -71,6 +73,7 @@ impl<K: Drop, V: Drop, S> Scheduler<K, V, S> {
     pub fn close(&mut self, back: &mut Vec<Pair<K, V>>) -> Result<Played<V>, AllocError>
         requires { (same : K → K → Bool) × (hash : K → ℕ) × MayReclaimAll same hash event.Close self.old }
         ensures steps { IfOk result (λ played. played.steps ≡ 0) }
+        ensures quiet { IfOk result (λ played. IsQuiet played.outcome played.effects.items) }
         ensures plays { IfOk result (λ played. (same : K → K → Bool) (hash : K → ℕ) → PlaysGiving same hash event.Close played self.old self.new) }
         ensures back { IfOk result (λ played. (same : K → K → Bool) (hash : K → ℕ) → GivesAllBack same hash event.Close played self.old back.old.items back.new.items) }
         ensures given { KeepsGiven self.old.logged.executor self.new.logged.executor }

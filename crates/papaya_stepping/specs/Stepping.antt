@@ -40,6 +40,7 @@ use Rattle.papaya_histories.specs.Given.Follows.Calling.{come_to}
 use Rattle.papaya_logged.specs.Calling.{CallGoesOn}
 use Rattle.papaya_logged.specs.Shown.{IsShown}
 use Rattle.papaya_scheduler.specs.Played.{AsFar, BeginsSo, IsDue, IsPlayed, Plays, StandsAs, StandsFor, entry_of}
+use Rattle.papaya_scheduler.specs.Quiet.{IsQuiet}
 use Rattle.papaya_scheduler.specs.Seen.{is_named}
 use Rattle.papaya_scheduler.specs.Telling.{answer_of, goes_on, number_by, kept}
 use Rattle.papaya_scheduler.specs.declared.caller.Caller.{Caller}
@@ -267,12 +268,13 @@ module _ {K V S : Type 0} (same : K → K → Bool) (hash : K → ℕ) where
       → (begun : Bool) × (mid : Scheduler K V S) × BeginsSo same hash terms m nameless guard name call begun old mid × (begun ≡ true → TakenAs 0 most_steps played mid new)
 
   -- What is promised of an event by which a call goes on: the scheduler has played the log with it; it comes to what is right, where it does so in its case; it makes as many steps as it may, and
-  -- does not more.
+  -- does not more; and what is refused as busy did nothing.
   pub record PlaysOn (terms : Terms) (log : List (Entry K V)) (e : Entry K V) (p : Scheduler K V S) : Type 0 where
     pub played : IsPlayed same hash terms (e ∷ log) p
     pub plays : ComesInCase terms log e → Plays same hash terms log e p
     pub makes : MakesSteps e.event (stands_or (acting (caller_of e.event) (at_work e (moment log)))) e.steps e.outcome
     pub does : DoesFew (caller_of e.event) e.steps e.effects
+    pub is_quiet : IsQuiet e.outcome e.effects
 
   abbrev pub PlaysOnAt : Event K V → Played V → (old new : Scheduler K V S) → Type 0
   PlaysOnAt event played old new = (terms : Terms) (log : List (Entry K V)) → IsDue same hash terms log event old → PlaysOn terms log (entry_of event played) new
@@ -282,6 +284,7 @@ module _ {K V S : Type 0} (same : K → K → Bool) (hash : K → ℕ) where
     pub plays : Plays same hash terms log e p
     pub makes : MakesSteps e.event (stands_or (acting (caller_of e.event) (at_work e (moment log)))) e.steps e.outcome
     pub does : DoesFew (caller_of e.event) e.steps e.effects
+    pub is_quiet : IsQuiet e.outcome e.effects
 
   abbrev pub PlaysNextAt : List ℕ → Played V → (old new : Scheduler K V S) → Type 0
   PlaysNextAt own played old new =

@@ -11,7 +11,7 @@ begin-requires g c = may_play g.K.PartialEq.eq (g.S.Hashes.hash c.args.scheduler
 pub returns-in-Begin-clause-happens : goal.returns-in-Begin-clause-happens
 returns-in-Begin-clause-happens g c =
     still_if g.K.PartialEq.eq (g.S.Hashes.hash c.args.scheduler.now.logged.executor.hasher) c.args.event _ c.in-Begin.is c.args.scheduler.now c.args.is_first c.begin.new.self refl c.begin.result
-    c.begin.ensures.steps
+    c.begin.ensures.steps c.begin.ensures.quiet
     (IfOk-weaker c.begin.result _ _ (λ played plays. λ terms log first holds out. plays terms log (due_so g.K.PartialEq.eq (g.S.Hashes.hash c.args.scheduler.now.logged.executor.hasher) c.args.event _ c.in-Begin.is c.args.scheduler.now terms log holds out)) c.begin.ensures.plays)
 
 pub step-requires : goal.step-requires
@@ -51,7 +51,7 @@ replied-requires g c = (g.K.PartialEq.eq, g.S.Hashes.hash c.args.scheduler.now.l
 pub returns-in-Replied-clause-happens : goal.returns-in-Replied-clause-happens
 returns-in-Replied-clause-happens g c =
     let plays = c.replied.ensures.plays g.K.PartialEq.eq (g.S.Hashes.hash c.args.scheduler.now.logged.executor.hasher) in
-    still g.K.PartialEq.eq (g.S.Hashes.hash c.args.scheduler.now.logged.executor.hasher) c.args.event _ c.in-Replied.is c.args.scheduler.now c.args.is_first c.replied.new.self refl c.replied.result c.replied.ensures.steps
+    still g.K.PartialEq.eq (g.S.Hashes.hash c.args.scheduler.now.logged.executor.hasher) c.args.event _ c.in-Replied.is c.args.scheduler.now c.args.is_first c.replied.new.self refl c.replied.result c.replied.ensures.steps c.replied.ensures.quiet
     (λ terms log first holds out. plays terms log (due_so g.K.PartialEq.eq (g.S.Hashes.hash c.args.scheduler.now.logged.executor.hasher) c.args.event _ c.in-Replied.is c.args.scheduler.now terms log holds out))
 
 pub stop-requires : goal.stop-requires
@@ -60,7 +60,7 @@ stop-requires g c = (g.K.PartialEq.eq, g.S.Hashes.hash c.args.scheduler.now.logg
 pub returns-in-Stop-clause-happens : goal.returns-in-Stop-clause-happens
 returns-in-Stop-clause-happens g c =
     let plays = c.stop.ensures.plays g.K.PartialEq.eq (g.S.Hashes.hash c.args.scheduler.now.logged.executor.hasher) in
-    still g.K.PartialEq.eq (g.S.Hashes.hash c.args.scheduler.now.logged.executor.hasher) c.args.event _ c.in-Stop.is c.args.scheduler.now c.args.is_first c.stop.new.self refl c.stop.result c.stop.ensures.steps
+    still g.K.PartialEq.eq (g.S.Hashes.hash c.args.scheduler.now.logged.executor.hasher) c.args.event _ c.in-Stop.is c.args.scheduler.now c.args.is_first c.stop.new.self refl c.stop.result c.stop.ensures.steps c.stop.ensures.quiet
     (λ terms log first holds out. plays terms log (due_so g.K.PartialEq.eq (g.S.Hashes.hash c.args.scheduler.now.logged.executor.hasher) c.args.event _ c.in-Stop.is c.args.scheduler.now terms log holds out))
 
 pub unreachable-requires : goal.unreachable-requires

@@ -14,7 +14,7 @@ make_map-requires g c =
 
 pub returns-in-MakeMap-clause-happens : goal.returns-in-MakeMap-clause-happens
 returns-in-MakeMap-clause-happens g c =
-    still_if g.K.PartialEq.eq (g.S.Hashes.hash c.args.scheduler.now.logged.executor.hasher) c.args.event _ c.in-MakeMap.is c.args.scheduler.now c.args.is_first c.make_map.new.self refl c.make_map.result c.make_map.ensures.steps
+    still_if g.K.PartialEq.eq (g.S.Hashes.hash c.args.scheduler.now.logged.executor.hasher) c.args.event _ c.in-MakeMap.is c.args.scheduler.now c.args.is_first c.make_map.new.self refl c.make_map.result c.make_map.ensures.steps c.make_map.ensures.quiet
     (IfOk-weaker c.make_map.result _ _ (λ played all. let plays = all g.K.PartialEq.eq (g.S.Hashes.hash c.args.scheduler.now.logged.executor.hasher) in λ terms log first holds out. plays terms log (may_map g.K.PartialEq.eq (g.S.Hashes.hash c.args.scheduler.now.logged.executor.hasher) c.args.event _ c.in-MakeMap.is c.args.scheduler.now terms log holds out)) c.make_map.ensures.plays)
 
 pub end_map-requires : goal.end_map-requires
@@ -22,7 +22,7 @@ end_map-requires g c = (g.K.PartialEq.eq, g.S.Hashes.hash c.args.scheduler.now.l
 
 pub returns-in-EndMap-clause-happens : goal.returns-in-EndMap-clause-happens
 returns-in-EndMap-clause-happens g c =
-    still_if g.K.PartialEq.eq (g.S.Hashes.hash c.args.scheduler.now.logged.executor.hasher) c.args.event _ c.in-EndMap.is c.args.scheduler.now c.args.is_first c.end_map.new.self refl c.end_map.result c.end_map.ensures.steps
+    still_if g.K.PartialEq.eq (g.S.Hashes.hash c.args.scheduler.now.logged.executor.hasher) c.args.event _ c.in-EndMap.is c.args.scheduler.now c.args.is_first c.end_map.new.self refl c.end_map.result c.end_map.ensures.steps c.end_map.ensures.quiet
     (IfOk-weaker c.end_map.result _ _ (λ played all. let plays = all g.K.PartialEq.eq (g.S.Hashes.hash c.args.scheduler.now.logged.executor.hasher) in λ terms log first holds out. plays terms log (due_so g.K.PartialEq.eq (g.S.Hashes.hash c.args.scheduler.now.logged.executor.hasher) c.args.event _ c.in-EndMap.is c.args.scheduler.now terms log holds out) holds.counts.apart) c.end_map.ensures.plays)
 
 pub show_shape-requires : goal.show_shape-requires
@@ -30,7 +30,7 @@ show_shape-requires g c = (g.K.PartialEq.eq, g.S.Hashes.hash c.args.scheduler.no
 
 pub returns-in-ShowShape-clause-happens : goal.returns-in-ShowShape-clause-happens
 returns-in-ShowShape-clause-happens g c =
-    still_if g.K.PartialEq.eq (g.S.Hashes.hash c.args.scheduler.now.logged.executor.hasher) c.args.event _ c.in-ShowShape.is c.args.scheduler.now c.args.is_first c.args.scheduler.now refl c.show_shape.result c.show_shape.ensures.steps
+    still_if g.K.PartialEq.eq (g.S.Hashes.hash c.args.scheduler.now.logged.executor.hasher) c.args.event _ c.in-ShowShape.is c.args.scheduler.now c.args.is_first c.args.scheduler.now refl c.show_shape.result c.show_shape.ensures.steps c.show_shape.ensures.quiet
     (IfOk-weaker c.show_shape.result _ _ (λ played all. let plays = all g.K.PartialEq.eq (g.S.Hashes.hash c.args.scheduler.now.logged.executor.hasher) in λ terms log first holds out. plays terms log (due_so g.K.PartialEq.eq (g.S.Hashes.hash c.args.scheduler.now.logged.executor.hasher) c.args.event _ c.in-ShowShape.is c.args.scheduler.now terms log holds out)) c.show_shape.ensures.plays)
 
 pub reclaim_all-requires : goal.reclaim_all-requires
@@ -38,7 +38,7 @@ reclaim_all-requires g c = (g.K.PartialEq.eq, g.S.Hashes.hash c.args.scheduler.n
 
 pub returns-in-ReclaimAll-clause-happens : goal.returns-in-ReclaimAll-clause-happens
 returns-in-ReclaimAll-clause-happens g c =
-    still_if g.K.PartialEq.eq (g.S.Hashes.hash c.args.scheduler.now.logged.executor.hasher) c.args.event _ c.in-ReclaimAll.is c.args.scheduler.now c.args.is_first c.reclaim_all.new.self refl c.reclaim_all.result c.reclaim_all.ensures.steps
+    still_if g.K.PartialEq.eq (g.S.Hashes.hash c.args.scheduler.now.logged.executor.hasher) c.args.event _ c.in-ReclaimAll.is c.args.scheduler.now c.args.is_first c.reclaim_all.new.self refl c.reclaim_all.result c.reclaim_all.ensures.steps c.reclaim_all.ensures.quiet
     (IfOk-weaker c.reclaim_all.result _ _ (λ played all. let plays = all g.K.PartialEq.eq (g.S.Hashes.hash c.args.scheduler.now.logged.executor.hasher) in λ terms log first holds out. plays terms log (due_so g.K.PartialEq.eq (g.S.Hashes.hash c.args.scheduler.now.logged.executor.hasher) c.args.event _ c.in-ReclaimAll.is c.args.scheduler.now terms log holds out) holds.gives) c.reclaim_all.ensures.plays)
 
 pub close-requires : goal.close-requires
@@ -46,7 +46,7 @@ close-requires g c = (g.K.PartialEq.eq, g.S.Hashes.hash c.args.scheduler.now.log
 
 pub returns-in-Close-clause-happens : goal.returns-in-Close-clause-happens
 returns-in-Close-clause-happens g c =
-    still_if g.K.PartialEq.eq (g.S.Hashes.hash c.args.scheduler.now.logged.executor.hasher) c.args.event _ c.in-Close.is c.args.scheduler.now c.args.is_first c.close.new.self refl c.close.result c.close.ensures.steps
+    still_if g.K.PartialEq.eq (g.S.Hashes.hash c.args.scheduler.now.logged.executor.hasher) c.args.event _ c.in-Close.is c.args.scheduler.now c.args.is_first c.close.new.self refl c.close.result c.close.ensures.steps c.close.ensures.quiet
     (IfOk-weaker c.close.result _ _ (λ played all. let plays = all g.K.PartialEq.eq (g.S.Hashes.hash c.args.scheduler.now.logged.executor.hasher) in λ terms log first holds out. plays terms log (due_so g.K.PartialEq.eq (g.S.Hashes.hash c.args.scheduler.now.logged.executor.hasher) c.args.event _ c.in-Close.is c.args.scheduler.now terms log holds out) holds.gives) c.close.ensures.plays)
 
 pub unreachable-requires : goal.unreachable-requires

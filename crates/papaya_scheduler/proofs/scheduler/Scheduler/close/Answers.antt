@@ -5,6 +5,7 @@ use Rattle.seize_words.specs.declared.fault.Fault.TheVariants.{Busy}
 use Rattle.papaya_schedules.specs.After.{moment}
 use Rattle.papaya_schedules.specs.declared.event.Event.TheVariants.{Close}
 use Rattle.papaya_schedules.specs.declared.outcome.Outcome.TheVariants.{Refused}
+use Rattle.papaya_scheduler.proofs.Busy.{none_quiet}
 use Rattle.papaya_scheduler.specs.declared.scheduler.Scheduler.{Scheduler}
 use Rattle.papaya_scheduler.proofs.Backs.{all_came, none_came}
 use Rattle.papaya_scheduler.proofs.AllGiven.{has_closed, may_reclaim, nobody_has, not_closed}
@@ -59,3 +60,12 @@ returns-clause-back g c = λ same hash terms log due may.
     all_came same hash terms log Close c.args.self.now due c.args.back.now.items _ (nobody_has same hash terms (moment log) c.args.self.now due.played gone)
     may.lists (may_reclaim same hash terms (moment log) c.args.self.now due.played gone may) c.no_effects-effects.result.items c.give_all_back.new.effects.items c.no_effects-effects.ensures
     c.give_all_back.new.back.items c.in_ok-give_all_back.ensures.back
+
+pub returns-then-not-are_gone-clause-quiet : goal.returns-then-not-are_gone-clause-quiet
+returns-then-not-are_gone-clause-quiet g c = none_quiet c.busy.result.outcome c.busy.result.effects.items c.busy.ensures.effects
+
+pub returns-then-not-is_empty-clause-quiet : goal.returns-then-not-is_empty-clause-quiet
+returns-then-not-is_empty-clause-quiet g c = none_quiet c.busy-then-not-is_empty.result.outcome c.busy-then-not-is_empty.result.effects.items c.busy-then-not-is_empty.ensures.effects
+
+pub returns-clause-quiet : goal.returns-clause-quiet
+returns-clause-quiet g c = tt

@@ -5,6 +5,7 @@ use Rattle.papaya_schedules.specs.declared.event.Event.TheVariants.{DropGuard}
 use Rattle.papaya_schedules.specs.declared.outcome.Outcome.TheVariants.{Refused}
 use Rattle.papaya_executor.specs.OnSlots.{MayBegin}
 use Rattle.papaya_executor.specs.declared.row.SlotCall.{SlotCall}
+use Rattle.papaya_scheduler.proofs.Busy.{none_quiet}
 use Rattle.papaya_scheduler.proofs.Backs.{came_as, none_came, stayed_as}
 use Rattle.papaya_scheduler.proofs.Drops.{not_free, may_leave, its_fits, joined, joined_alone}
 use Rattle.papaya_scheduler.proofs.KeptGiven.{given_as, given_still}
@@ -64,3 +65,9 @@ returns-clause-back g c =
       | else-guards_on-eq1 w ↦
           stayed_as _ c.if-guards_on-eq1.effects.items c.args.back.now.items c.if-guards_on-eq1.back.items (ap (λ v. v.items) w.effects-is ∙ c.no_effects-effects.ensures) (ap (λ v. v.items) w.back-is)
     ]
+
+pub returns-in_default-clause-quiet : goal.returns-in_default-clause-quiet
+returns-in_default-clause-quiet g c = none_quiet c.busy.result.outcome c.busy.result.effects.items c.busy.ensures.effects
+
+pub returns-clause-quiet : goal.returns-clause-quiet
+returns-clause-quiet g c = tt

@@ -5,6 +5,7 @@ use Rattle.papaya_schedules.specs.After.{moment}
 use Rattle.papaya_schedules.specs.declared.event.Event.TheVariants.{EndMap}
 use Rattle.papaya_schedules.specs.declared.outcome.Outcome.TheVariants.{Refused}
 use Rattle.papaya_logged.proofs.KeptGiven.{given_on}
+use Rattle.papaya_scheduler.proofs.Busy.{none_quiet}
 use Rattle.papaya_scheduler.proofs.Backs.{none_came}
 use Rattle.papaya_scheduler.proofs.Maps.{stands_by}
 use Rattle.papaya_scheduler.proofs.MapsEnded.{not_there, has_calls, may_run, end_came, ended}
@@ -60,3 +61,12 @@ returns-clause-back g c = λ same hash terms log due.
     end_came same hash terms log c.args.self.now c.args.map.now due c.in-Some.number (sym c.number_of.ensures ∙ c.in-Some.is) (sym c.are_on.ensures ∙ c.if-are_on.false) c.begin_end.new.self c.in_ok-caller.caller
     (c.in_ok-caller.ensures.leads same hash due.played.name (moment log) due.played.scene due.played.shown) c.no_effects-effects.result.items c.run_end.new.effects.items c.no_effects-effects.ensures
     c.args.back.now.items c.run_end.new.back.items c.in_ok-run_end.ensures.back
+
+pub returns-in_default-clause-quiet : goal.returns-in_default-clause-quiet
+returns-in_default-clause-quiet g c = none_quiet c.busy.result.outcome c.busy.result.effects.items c.busy.ensures.effects
+
+pub returns-then-are_on-clause-quiet : goal.returns-then-are_on-clause-quiet
+returns-then-are_on-clause-quiet g c = none_quiet c.busy-then-are_on.result.outcome c.busy-then-are_on.result.effects.items c.busy-then-are_on.ensures.effects
+
+pub returns-clause-quiet : goal.returns-clause-quiet
+returns-clause-quiet g c = tt

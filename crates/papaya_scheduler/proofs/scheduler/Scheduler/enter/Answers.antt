@@ -4,6 +4,7 @@ use Rattle.std.proofs.lemmas.Bool.{lt-ltb}
 use Rattle.seize_words.specs.declared.fault.Fault.TheVariants.{Busy, GuardsFull}
 use Rattle.papaya_schedules.specs.declared.event.Event.TheVariants.{Enter}
 use Rattle.papaya_schedules.specs.declared.outcome.Outcome.TheVariants.{Refused}
+use Rattle.papaya_scheduler.proofs.Busy.{none_quiet}
 use Rattle.papaya_scheduler.proofs.Backs.{came_as, none_came, stayed_as}
 use Rattle.papaya_scheduler.proofs.Enters.{guard_there, no_registration, full, may_enter, fits, joined, joined_first}
 use Rattle.papaya_scheduler.proofs.KeptGiven.{given_as, given_still}
@@ -93,3 +94,15 @@ returns-clause-back g c =
       | else-guards-eq0 w ↦
           stayed_as _ c.if-guards-eq0.effects.items c.args.back.now.items c.if-guards-eq0.back.items (ap (λ v. v.items) w.effects-is ∙ c.no_effects-effects.ensures) (ap (λ v. v.items) w.back-is)
     ]
+
+pub returns-then-has_guard-clause-quiet : goal.returns-then-has_guard-clause-quiet
+returns-then-has_guard-clause-quiet g c = none_quiet c.busy.result.outcome c.busy.result.effects.items c.busy.ensures.effects
+
+pub returns-in_default-clause-quiet : goal.returns-in_default-clause-quiet
+returns-in_default-clause-quiet g c = none_quiet c.busy-in_default.result.outcome c.busy-in_default.result.effects.items c.busy-in_default.ensures.effects
+
+pub returns-then-guards-ge-MOST_GUARDS-clause-quiet : goal.returns-then-guards-ge-MOST_GUARDS-clause-quiet
+returns-then-guards-ge-MOST_GUARDS-clause-quiet g c = none_quiet c.quietly.result.outcome c.quietly.result.effects.items c.quietly.ensures.effects
+
+pub returns-clause-quiet : goal.returns-clause-quiet
+returns-clause-quiet g c = tt

@@ -4,6 +4,7 @@ use Rattle.seize_words.specs.declared.fault.Fault.TheVariants.{Busy}
 use Rattle.papaya_schedules.specs.declared.event.Event.TheVariants.{Flush}
 use Rattle.papaya_schedules.specs.After.{moment}
 use Rattle.papaya_schedules.specs.declared.outcome.Outcome.TheVariants.{Refused}
+use Rattle.papaya_scheduler.proofs.Busy.{none_quiet}
 use Rattle.papaya_scheduler.proofs.Backs.{came, none_came}
 use Rattle.papaya_scheduler.proofs.Flushes.{not_living, its_word, is_held_now, may_flush, its_fits, has_run}
 use Rattle.papaya_scheduler.proofs.HeldTold.{held_is_told}
@@ -54,3 +55,12 @@ returns-then-is_held-clause-back g c = λ same hash terms log due. none_came _ c
 pub returns-clause-back : goal.returns-clause-back
 returns-clause-back g c = λ same hash terms log due.
     came same hash terms log (Flush c.args.guard.now) c.args.self.now due c.args.back.now.items c.no_effects-effects.result.items c.do_row.new.effects.items c.no_effects-effects.ensures c.do_row.new.back.items c.in_ok-do_row.ensures.back
+
+pub returns-in_default-clause-quiet : goal.returns-in_default-clause-quiet
+returns-in_default-clause-quiet g c = none_quiet c.busy.result.outcome c.busy.result.effects.items c.busy.ensures.effects
+
+pub returns-then-is_held-clause-quiet : goal.returns-then-is_held-clause-quiet
+returns-then-is_held-clause-quiet g c = none_quiet c.busy-then-is_held.result.outcome c.busy-then-is_held.result.effects.items c.busy-then-is_held.ensures.effects
+
+pub returns-clause-quiet : goal.returns-clause-quiet
+returns-clause-quiet g c = tt

@@ -12,7 +12,8 @@ use Rattle.papaya_schedules.specs.declared.outcome.Outcome.{Outcome}
 use Rattle.papaya_schedules.specs.declared.outcome.Outcome.TheVariants.{Refused}
 use Rattle.papaya_scheduler.specs.Mapping.{numbers_made}
 use Rattle.papaya_scheduler.proofs.MapNumbers.{given_up}
-use Rattle.papaya_scheduler.proofs.MapsMade.{has_fault, not_now, no_roots, may_run, not_made, made}
+use Rattle.papaya_scheduler.proofs.Busy.{none_quiet}
+use Rattle.papaya_scheduler.proofs.MapsMade.{has_fault, not_now, no_roots, may_run, not_made, made, refused_quiet}
 use Rattle.papaya_scheduler.proofs.Rights.{so_played}
 use Rattle.papaya_scheduler.proofs.scheduler.Scheduler.make_map.Goals as goal
 
@@ -100,3 +101,25 @@ returns-in-Refused-clause-numbers g c =
 pub returns-in_ok-push-in-Done-clause-numbers : goal.returns-in_ok-push-in-Done-clause-numbers
 returns-in_ok-push-in-Done-clause-numbers g c =
     c.in_ok-told.ensures.numbers ∙ ap (λ (t : Progress Setting). numbers_then c.len-number.result t (length c.begin_making.new.self.executor.maps.items)) c.in-Done.is ∙ c.in_ok-caller.ensures.numbers
+
+pub returns-in-Err-clause-quiet : goal.returns-in-Err-clause-quiet
+returns-in-Err-clause-quiet g c = none_quiet c.quietly.result.outcome c.quietly.result.effects.items c.quietly.ensures.effects
+
+pub returns-then-not-may_make-clause-quiet : goal.returns-then-not-may_make-clause-quiet
+returns-then-not-may_make-clause-quiet g c = none_quiet c.busy.result.outcome c.busy.result.effects.items c.busy.ensures.effects
+
+pub returns-then-self-eq0-clause-quiet : goal.returns-then-self-eq0-clause-quiet
+returns-then-self-eq0-clause-quiet g c = none_quiet c.quietly-then-self-eq0.result.outcome c.quietly-then-self-eq0.result.effects.items c.quietly-then-self-eq0.ensures.effects
+
+pub returns-in_ok-push-in-Done-clause-quiet : goal.returns-in_ok-push-in-Done-clause-quiet
+returns-in_ok-push-in-Done-clause-quiet g c = tt
+
+pub returns-in-Refused-clause-quiet : goal.returns-in-Refused-clause-quiet
+returns-in-Refused-clause-quiet g c =
+    let r = c.requires in
+    let count : c.len-number.result ≡ length c.args.self.now.logged.executor.maps.items = search (rules, c.len-number.ensures) in
+    refused_quiet r.0 r.1 r.2 r.3 c.args.self.now c.args.map c.args.mode c.args.capacity r.4 c.in-Ok.ensures.none (sym c.may_make.ensures ∙ c.if-not-may_make.false)
+    (let ne = c.if-self-eq0.false in omega (arith, ne)) c.in-Ok.places c.in-Ok.ensures.first c.setting_for-given.result c.setting_for-given.ensures c.in_ok-caller.caller c.begin_making.new.self
+    (c.in_ok-caller.ensures.leads r.0 r.1 r.4.due.played.name (moment r.3) r.4.due.played.scene r.4.due.played.shown) c.len-number.result count c.in-Refused.fault c.run_making.new.self
+    c.no_effects-effects.result.items c.run_making.new.effects.items c.no_effects-effects.ensures (subst (λ (x : Progress Setting). MakingRan c.in_ok-caller.caller c.len-number.result x c.no_effects-effects.result.items c.run_making.new.effects.items c.begin_making.new.self c.run_making.new.self) c.in-Refused.is c.in_ok-told.ensures.ran)
+    (subst (λ (x : Progress Setting). MakingFinds c.in_ok-caller.caller c.len-number.result x c.no_effects-effects.result.items c.run_making.new.effects.items c.begin_making.new.self c.run_making.new.self) c.in-Refused.is c.in_ok-told.ensures.finds)
