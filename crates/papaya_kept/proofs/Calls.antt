@@ -28,6 +28,7 @@ use Rattle.papaya_lives.proofs.Calls.{calls_keep_waiting, calls_keep_list}
 use Rattle.papaya_lives.proofs.LeftTables.{calls_keep_left}
 use Rattle.papaya_lives.proofs.RetiredCalls.{calls_keep_retired}
 use Rattle.papaya_kept.specs.Kept.{ShowsKept}
+use Rattle.papaya_kept.proofs.EndCalls.{calls_keep_all_ends}
 use Rattle.papaya_kept.specs.Steps.{CallsKeepKept}
 
 module _ (K V S : Type 0) (same : K → K → Bool) (hash : K → ℕ) where
@@ -52,6 +53,7 @@ module _ (K V S : Type 0) (same : K → K → Bool) (hash : K → ℕ) where
         once = (waits owned).1;
         retired = calls_keep_retired K V S same hash name m known s old new at whole kept.entries owned kept.retired map i u here said leads;
         left = calls_keep_left K V S same hash name m known s old new at whole owned kept.left map i u here said leads;
+        ends = calls_keep_all_ends same hash name m known s old new at whole.all.shown kept.ends map i said leads u here;
       }
     where
       v : Moment K V

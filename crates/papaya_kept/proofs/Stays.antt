@@ -30,6 +30,7 @@ use Rattle.papaya_lives.specs.Behind.{ShowsWaiting, WaitsOnce}
 use Rattle.papaya_lives.proofs.LeftTables.{left_begins, others_keep_left}
 use Rattle.papaya_lives.proofs.Reclaimed.{retired_begins, others_leave_retired}
 use Rattle.papaya_lives.proofs.Waiting.{waiting_begins, others_leave_waiting}
+use Rattle.papaya_kept.proofs.Ends.{ends_begin, ends_stay}
 use Rattle.papaya_kept.specs.Steps.{BeginsKept, StaysKept, RenamedKept, CallsComeToKept, MakingsBeginKept}
 
 pub begins_kept : (K V : Type 0) → BeginsKept K V
@@ -47,6 +48,7 @@ begins_kept K V roots name = record {
   once = tt;
   retired = retired_begins K V roots;
   left = left_begins K V roots;
+  ends = ends_begin K V roots;
 }
 
 module _ {K V : Type 0} where
@@ -73,7 +75,7 @@ module _ {K V : Type 0} where
       (ap (λ (l : List (CallThere K V)). find (λ y. is_same y.caller (name i)) l) (sym listed) ∙ c_is)
 
 pub stays_kept : (K V : Type 0) → StaysKept K V
-stays_kept K V name m v known s t kept listed tables deferred place world calls makers enders = record {
+stays_kept K V name m v known s t kept listed tables deferred place world calls makers enders maps = record {
   entries = entries_stay s t kept.entries world calls;
   made = stays_made K V name m v known s t kept.made listed calls;
   tables = stays_tables K V name m v known s t kept.tables listed calls makers;
@@ -87,6 +89,7 @@ stays_kept K V name m v known s t kept listed tables deferred place world calls 
   once = subst WaitsOnce (sym deferred) kept.once;
   retired = others_leave_retired K V m v known s t kept.retired tables world (λ j has. inl (calls_same s t calls j has));
   left = others_keep_left K V known s t kept.left world enders;
+  ends = ends_stay s kept.ends t maps calls;
 }
 
 pub renamed_kept : (K V : Type 0) → RenamedKept K V
@@ -104,6 +107,7 @@ renamed_kept K V name name2 m known s agree kept = record {
   once = kept.once;
   retired = kept.retired;
   left = kept.left;
+  ends = kept.ends;
 }
   where
     as_named : (map i : ℕ) (u : UnderWay K V K) → s.calls map i ≡ Some u → (c : CallThere K V) → call_of (name2 i) m ≡ Some c → call_of (name i) m ≡ Some c
@@ -124,6 +128,7 @@ calls_come_to_kept K V same name m known s whole kept own outcome steps none = r
   once = kept.once;
   retired = others_leave_retired K V m (come_to own outcome steps m) known s s kept.retired refl refl (λ j has. inl has);
   left = kept.left;
+  ends = kept.ends;
 }
 
 pub makings_begin_kept : (K V : Type 0) → MakingsBeginKept K V
@@ -141,6 +146,7 @@ makings_begin_kept K V name m known s kept i b none = record {
   once = kept.once;
   retired = others_leave_retired K V m m known s t kept.retired refl refl (λ j has. inl has);
   left = others_keep_left K V known s t kept.left refl refl;
+  ends = kept.ends;
 }
   where
     t : Scene K V

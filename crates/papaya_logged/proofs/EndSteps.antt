@@ -278,5 +278,5 @@ end_is_over {K} {V} l same hash name m s shown own remains found others =
     record {
       is_at = shown.is_at;
       shows = endings_are_over_whole K V same name m (known l.notes) s shown.shows own remains found others;
-      kept = stays_kept K V name m (without_map own remains m) (known l.notes) s s shown.kept refl refl refl refl refl refl refl refl;
+      kept = stays_kept K V name m (without_map own remains m) (known l.notes) s s shown.kept refl refl refl refl refl refl refl refl refl;
     }

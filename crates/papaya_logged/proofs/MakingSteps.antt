@@ -118,5 +118,5 @@ map_is_there {K} {V} l same hash name m s shown numbers there next =
     record {
       is_at = shown.is_at;
       shows = maps_come_whole K V same name m (known l.notes) s shown.shows there (maps_come_by_number K V m numbers there next).1;
-      kept = stays_kept K V name m (with_map there m) (known l.notes) s s shown.kept refl refl refl refl refl refl refl refl;
+      kept = stays_kept K V name m (with_map there m) (known l.notes) s s shown.kept refl refl refl refl refl refl refl refl refl;
     }
