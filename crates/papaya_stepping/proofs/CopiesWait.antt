@@ -1,11 +1,10 @@
 -- What a call knows of the copier within which it stands, on a map that grows in chunks; and that it may wait for another caller's call that copies, or ends a copying.
-use Rattle.std.specs.Prelude.{List, Option, Some, None, ◌∷◌}
+use Rattle.std.specs.Prelude.{◌*◌, ◌∷◌, is_some, Option, Some, None}
 use Rattle.std.specs.List.{list_any}
-use Rattle.std.proofs.Common.{◌≡◌, ◌≢◌, ℕ, suc, ◌*◌, ◌≤◌, ◌<◌, ◌⊎◌, inl, inr, Bool, true, refl, ap, sym, subst, ◌∙◌, arith}
+use Rattle.std.proofs.Common.{◌≡◌, ◌≢◌, ℕ, suc, ◌<◌, ◌⊎◌, inl, inr, Bool, true, refl, ap, sym, subst, ◌∙◌, arith}
 use Rattle.papaya_histories.specs.Given.SeizeWords.Word.{block_in}
-use Rattle.papaya_histories.specs.Given.Seize.World.{World, Row, Rests}
+use Rattle.papaya_histories.specs.Given.Seize.World.{World}
 use Rattle.papaya_histories.proofs.Given.SeizeRule.Words.There.{live_pos}
-use Rattle.std.specs.Prelude.{is_some}
 use Rattle.papaya_histories.specs.Given.Tables.Chunks.{is_incremental}
 use Rattle.papaya_histories.specs.Given.Tables.declared.node.Node.{Node}
 use Rattle.papaya_histories.specs.Given.Tables.declared.setting.Setting.{Setting}
@@ -17,6 +16,7 @@ use Rattle.papaya_raw.specs.declared.machines.call.Calling.{Calling}
 use Rattle.papaya_raw.specs.declared.machines.call.Calling.TheVariants as at
 use Rattle.papaya_histories.specs.Given.Reserves.declared.reserve.Reserving.{Reserving}
 use Rattle.papaya_histories.specs.Given.Reserves.declared.reserve.Reserving.TheVariants as reserves
+use Rattle.papaya_histories.specs.Given.Sweeps.declared.sweep.Sweep.{Sweep}
 use Rattle.papaya_histories.specs.Given.Sweeps.declared.sweep.Sweeping.{Sweeping}
 use Rattle.papaya_histories.specs.Given.Sweeps.declared.sweep.Sweeping.TheVariants as sweeps
 use Rattle.papaya_histories.specs.Given.Rule.Maps.{IsTable}
@@ -26,11 +26,10 @@ use Rattle.papaya_histories.specs.Given.Points.FactsCopies.{CopierFacts, Copying
 use Rattle.papaya_histories.specs.Given.Points.FactsCopiesBlocking.{CopierFactsBlocking}
 use Rattle.papaya_histories.specs.Given.Points.Steps.{AreLawful}
 use Rattle.papaya_histories.specs.Given.Points.Told.{IsRowOfCall, IsRowOfCopier}
-use Rattle.papaya_histories.specs.Given.Late.FactsReserves.{CopiesWhole, IsEnding, ReserveFacts, ReservingFacts}
+use Rattle.papaya_histories.specs.Given.Late.FactsReserves.{CopiesWhole, IsEnding, ReservingFacts}
 use Rattle.papaya_histories.specs.Given.Late.FactsSweeps.{SweepingFacts}
 use Rattle.papaya_histories.specs.Given.Late.Kinds.{LooksAt}
 use Rattle.papaya_histories.specs.Given.Late.LateCalls.{LateCallFacts}
-use Rattle.papaya_histories.specs.Given.Late.LateReserves.{LateReserveFacts}
 use Rattle.papaya_histories.specs.Given.Late.ToldReserves.{IsRowOfReserve}
 use Rattle.papaya_histories.specs.Given.Late.ToldSweeps.{IsRowOfSweep}
 use Rattle.papaya_histories.specs.Given.Callers.Sights.{IsSight, seen_by}
@@ -38,9 +37,7 @@ use Rattle.papaya_histories.specs.Given.Callers.Together.{CallOnKey, UnderWay, O
 use Rattle.papaya_waits.specs.Others.{EndsAt, copier_in, copier_in_room, copier_in_sweep, copier_of}
 use Rattle.papaya_owned.proofs.Given.Waits.Awaited.{HasOther}
 use Rattle.papaya_owned.proofs.Given.Waits.Claimed.{chosen}
-use Rattle.papaya_schedules.specs.declared.call.Call.{Call}
-use Rattle.papaya_schedules.specs.declared.effect.Thing.{Thing}
-use Rattle.papaya_schedules.specs.InUse.{is_handing, may_wait_for}
+use Rattle.papaya_schedules.specs.InUse.{may_wait_for}
 use Rattle.papaya_schedules.specs.Moment.{UnderWay as CallThere, Moment}
 use Rattle.papaya_schedules.specs.Terms.{Terms}
 use Rattle.papaya_schedules.specs.Views.{call_of}
@@ -160,7 +157,7 @@ module _ {K V S : Type 0} (same : K → K → Bool) (hash : K → ℕ) (terms : 
 
     module _ (mode : is_incremental st.setting.mode ≡ true) where
       -- what a copier of a whole table knows
-      whole_knows : (copier : Copier) → CopiesWhole same hash w i its_setting st.chart seen copier → CopierFacts same hash w i its_setting st.chart seen copier
+      pub whole_knows : (copier : Copier) → CopiesWhole same hash w i its_setting st.chart seen copier → CopierFacts same hash w i its_setting st.chart seen copier
       whole_knows copier whole =
           (chosen ((copier.whole ≡ true) × CopierFacts same hash w i its_setting st.chart seen copier × IsEnding same hash w i its_setting st.chart seen copier copier.stands)
           (CopierFactsBlocking same hash w i its_setting st.chart seen copier) (is_incremental its_setting.mode) mode whole).1
@@ -185,7 +182,7 @@ module _ {K V S : Type 0} (same : K → K → Bool) (hash : K → ℕ) (terms : 
         room_knows (reserves.Copies copier) e f = subst (λ (y : Copier). CopierFacts same hash w i its_setting st.chart seen y) (the copier q e) (whole_knows copier f)
         room_knows _ e f = absurd (cc e)
 
-        sweep_knows : (began : ℕ) (o : _) (point : Sweeping) → copier_in_sweep point ≡ Some q → SweepingFacts same hash w i its_setting st.chart seen began o point → Knows
+        sweep_knows : (began : ℕ) (o : Sweep) (point : Sweeping) → copier_in_sweep point ≡ Some q → SweepingFacts same hash w i its_setting st.chart seen began o point → Knows
         sweep_knows began o (sweeps.Copies copier) e (inl whole) = subst (λ (y : Copier). CopierFacts same hash w i its_setting st.chart seen y) (the copier q e) (whole_knows copier whole)
         sweep_knows began o (sweeps.Copies copier) e (inr (blocking, late)) = absurd (cc (mode, blocking))
         sweep_knows began o _ e f = absurd (cc e)

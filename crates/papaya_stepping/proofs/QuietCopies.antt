@@ -1,6 +1,6 @@
 -- A step by which a reservation or a sweep waits: it was a load, or it has marked a place of a table, whose word names the same then. So it has no effect.
 use Rattle.std.specs.Prelude.{◌%◌, ◌+◌, ◌^◌, bit_or, []}
-use Rattle.std.proofs.Common.{◌≡◌, ℕ, ◌⊎◌, inl, inr, Bool, refl, sym, ap, subst, ◌∙◌, arith}
+use Rattle.std.proofs.Common.{◌≡◌, ℕ, ◌⊎◌, inl, inr, Bool, true, refl, sym, ap, subst, ◌∙◌, arith}
 use Rattle.std.proofs.lemmas.Bool.{eq-eqb}
 use Rattle.papaya_histories.specs.Given.SeizeWords.declared.at.At.TheVariants.{Word}
 use Rattle.papaya_histories.specs.Given.SeizeWords.Mem.{Mem}
@@ -58,20 +58,24 @@ same_block word = omega (arith, or_copying word)
 abbrev pub Marked : Changed → ℕ → Type 0
 Marked told b = (field : ℕ) × (old : ℕ) × (told ≡ changed.Wrote (Word b field) old (bit_or old COPYING))
 
--- a step that only reads, or marks a word of this block
-abbrev pub IsQuiet : Changed → ℕ → Type 0
-IsQuiet told b = (told ≡ changed.Nothing) ⊎ Marked told b
+-- a step that only reads, or, in incremental mode, marks a word of this block
+abbrev pub IsQuiet : Bool → Changed → ℕ → Type 0
+IsQuiet incremental told b = (told ≡ changed.Nothing) ⊎ ((incremental ≡ true) × Marked told b)
 
--- in a block that is a table of a map it has no effect
-pub quiet_does : (acting : Acting) (known : Known) (told : Changed) (b : ℕ) (t : Numbered) (len : ℕ) → known.roles b ≡ role.Table t len → IsQuiet told b → effects_of acting known told ≡ []
-quiet_does acting known told b t len role_is (inl nothing) = ap (λ (x : Changed). effects_of acting known x) nothing
-quiet_does acting known told b t len role_is (inr (field, old, is)) =
-    ap (λ (x : Changed). effects_of acting known x) is
-    ∙ ap (λ (r : Role). in_block acting r field known.stored (names_same old new) (named known old) (named known new)) role_is
-    ∙ ap (λ (q : Bool). in_block acting (role.Table t len) field known.stored q (named known old) (named known new)) (eq-eqb (block_in old) (block_in new) (sym (same_block old)))
+-- it has no effect, if that block is a table of a map
+pub quiet_does : (acting : Acting) (known : Known) (incremental : Bool) (told : Changed) (b : ℕ)
+    → (incremental ≡ true → (t : Numbered) × (len : ℕ) × (known.roles b ≡ role.Table t len)) → IsQuiet incremental told b → effects_of acting known told ≡ []
+quiet_does acting known incremental told b table (inl nothing) = ap (λ (x : Changed). effects_of acting known x) nothing
+quiet_does acting known incremental told b table (inr (mode, (field, old, is))) = by (table mode)
   where
     new : ℕ
     new = bit_or old COPYING
+
+    by : (t : Numbered) × (len : ℕ) × (known.roles b ≡ role.Table t len) → effects_of acting known told ≡ []
+    by (t, len, role_is) =
+        ap (λ (x : Changed). effects_of acting known x) is
+        ∙ ap (λ (r : Role). in_block acting r field known.stored (names_same old new) (named known old) (named known new)) role_is
+        ∙ ap (λ (q : Bool). in_block acting (role.Table t len) field known.stored q (named known old) (named known new)) (eq-eqb (block_in old) (block_in new) (sym (same_block old)))
 
 module _ {K V : Type 0} (m m2 : Mem (Node K V)) (told : Changed) (hash : K → ℕ) where
   -- within a copier
@@ -80,12 +84,12 @@ module _ {K V : Type 0} (m m2 : Mem (Node K V)) (told : Changed) (hash : K → �
   marks_told p end (_, (took, is), ends) = absurd took.0
 
   pub copier_told : (c : Chart K) (incremental : Bool) (p : Copier) (stands : Copying) → p.stands ≡ stands → CopierAwaits c incremental p stands
-      → (end : Copier × Outcome (Node K V) Table) → Step m m2 told (copier_plan hash p) end → IsQuiet told (block_in p.source.link)
+      → (end : Copier × Outcome (Node K V) Table) → Step m m2 told (copier_plan hash p) end → IsQuiet incremental told (block_in p.source.link)
   copier_told c incremental p copies.Asks here awaits end s = inl (read (subst (λ (q : Copying). Step m m2 told (copiers.plan_at hash p q) end) here s))
     where
       read : Step m m2 told (copiers.plan_at hash p copies.Asks) end → told ≡ changed.Nothing
       read t = t.1.1
-  copier_told c incremental p copies.Marks here awaits end s = inr (marks_told p end (subst (λ (q : Copying). Step m m2 told (copiers.plan_at hash p q) end) here s))
+  copier_told c incremental p copies.Marks here awaits end s = inr (awaits.0, marks_told p end (subst (λ (q : Copying). Step m m2 told (copiers.plan_at hash p q) end) here s))
   copier_told c incremental p _ here none end s = absurd none
 
   -- a reservation
@@ -105,7 +109,7 @@ module _ {K V : Type 0} (m m2 : Mem (Node K V)) (told : Changed) (hash : K → �
     room_row_quiet _ row to s e = absurd row
 
     pub room_copier_told : (c : Chart K) (incremental : Bool) (copier : Copier) → CopierAwaits c incremental copier copier.stands → (to : Reserve × Outcome (Node K V) Unit)
-        → Step m m2 told (rooms.plan_at hash r (reserves.Copies copier)) to → IsQuiet told (block_in copier.source.link)
+        → Step m m2 told (rooms.plan_at hash r (reserves.Copies copier)) to → IsQuiet incremental told (block_in copier.source.link)
     room_copier_told c incremental copier awaits to s =
         let it = told_in m m2 told (rooms.copied r) (copier_plan hash copier) to s in copier_told c incremental copier copier.stands refl awaits it.0 it.2
 
@@ -137,6 +141,6 @@ module _ {K V : Type 0} (m m2 : Mem (Node K V)) (told : Changed) (hash : K → �
     sweep_row_quiet _ row to s e = absurd row
 
     pub sweep_copier_told : (c : Chart K) (incremental : Bool) (copier : Copier) → CopierAwaits c incremental copier copier.stands → (to : Sweep × Swept (Node K V))
-        → Step m m2 told (plans.plan_at hash o (sweeps.Copies copier)) to → IsQuiet told (block_in copier.source.link)
+        → Step m m2 told (plans.plan_at hash o (sweeps.Copies copier)) to → IsQuiet incremental told (block_in copier.source.link)
     sweep_copier_told c incremental copier awaits to s =
         let it = told_in m m2 told (plans.copied o) (copier_plan hash copier) to s in copier_told c incremental copier copier.stands refl awaits it.0 it.2
