@@ -10,7 +10,6 @@ use Rattle.papaya_callers.specs.Given.Tables.declared.table.Table.{Table}
 use Rattle.papaya_callers.specs.Given.Resize.declared.copier.Copier.{Copier}
 use Rattle.papaya_callers.specs.Given.Resize.declared.copier.Copying.{Copying as Point}
 use Rattle.papaya_callers.specs.Given.Resize.declared.copier.Copying.TheVariants as copies
-use Rattle.papaya_callers.specs.Given.Raw.declared.machines.call.Calling.{Calling}
 use Rattle.papaya_callers.specs.Given.Rule.Chart.{Chart, Share, Free, Claimed, Done, Counted, Lost}
 use Rattle.papaya_callers.specs.Given.Rule.Maps.{IsTable, spot_of}
 use Rattle.papaya_callers.specs.Given.Rule.Moves.{is_of_caller}
@@ -93,7 +92,7 @@ module _ {K Q : Type 0} (V : Type 0) (same : K → K → Bool) (hash : K → ℕ
     -- each place is claimed
     claimed : c.first < t → (j : ℕ) → j < c.len c.first → is_free (c.share t j) ≡ false
     claimed behind j l =
-        let all = ends.spent i x call p within stands spent (subst (λ (n : ℕ). c.first < n) (sym turn) behind) in
+        let all = ends.spent i x call p within stands spent (subst (λ (n : ℕ). c.first < n) (sym turn) behind) (subst (λ (n : ℕ). n < c.past) (sym turn) target.made) in
         let full = subst (λ (n : ℕ). c.len c.first ≤ c.claim n) turn all in
         rule.in_mode.claims t j behind target.made l ∙ lt-leb (c.claim t) j (omega (arith, l, full))
 
@@ -105,7 +104,7 @@ module _ {K Q : Type 0} (V : Type 0) (same : K → K → Bool) (hash : K → ℕ
         by (Done k) is = by_share behind k j (done_own k (c.share t j) is)
         by Counted is = absurd (uncounted is)
         by Lost is = by_abort (ends.lost t j behind target.made unfinished l is)
-        by Free is = absurd (let no : is_free Free ≡ false = sym (ap is_free is) ∙ claimed behind j l in cc no)
+        by Free is = absurd (let no : true ≡ false = sym (ap is_free is) ∙ claimed behind j l in cc no)
 
     another : Another
     another = by (ends.ends t (omega (arith, order)) target.made unfinished)

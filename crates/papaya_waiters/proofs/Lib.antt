@@ -1,1 +1,2 @@
 pub mod Askers
+pub mod Moves

@@ -38,7 +38,7 @@ module _ {K : Type 0} (c : Chart K) where
       pub ends : (t : ℕ) → 0 < t → t < c.past → IsUnfinished c t → IsUncounted t ⊎ SomeCopier (λ p. EndsAt c p p.stands t)
       pub lost : (t j : ℕ) → c.first < t → t < c.past → IsUnfinished c t → j < c.len c.first → c.share t j ≡ Lost → SomeCopier (λ p. AbortsAt p p.stands t)
       pub spent : (i : ℕ) (x : UnderWay K V Q) → calls i ≡ Some x → (p : Copier) → copier_of x ≡ Some p → p.stands ≡ copies.Asks → p.spent ≡ true → c.first < p.target.turn
-          → c.len c.first ≤ c.claim p.target.turn
+          → p.target.turn < c.past → c.len c.first ≤ c.claim p.target.turn
 
 -- The promise: if the copier within which a call stands has found each place claimed, and asks how the copying stands, which is not over, then another caller has a call: it is to
 -- copy a place for that table, or has and has not counted it; or it is to end the copying, or to give it up.
