@@ -1,2 +1,3 @@
 pub mod Askers
+pub mod Awaited
 pub mod Moves
