@@ -1,3 +1,4 @@
 pub mod Askers
 pub mod Awaited
 pub mod Moves
+pub mod Writes
