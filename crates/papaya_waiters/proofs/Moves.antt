@@ -3,9 +3,10 @@ use Rattle.std.specs.Prelude.{cond, eqb, leb, ltb, ◌&&◌, ◌+◌}
 use Rattle.std.proofs.Common.{◌≡◌, ◌≢◌, ℕ, ◌<◌, ◌≤◌, ◌⊎◌, inl, inr, Bool, true, false, refl, ap, sym, subst, ◌∙◌, arith, eqb-true}
 use Rattle.std.proofs.lemmas.Bool.{cases_lt, eq-eqb, ne_eqb}
 use Rattle.papaya_callers.specs.Given.Tables.declared.status.TheConstants.Status.{PENDING, PROMOTED, ABORTED}
-use Rattle.papaya_callers.specs.Given.Rule.Chart.{Chart, Share, Free, Claimed, Done, Counted, Lost, put_in}
+use Rattle.papaya_callers.specs.Given.Rule.Chart.{Chart, Share, Free, Claimed, Done, Counted, Lost, put, put_in}
 use Rattle.papaya_callers.specs.Given.Rule.Maps.{spot_of}
 use Rattle.papaya_callers.specs.Given.Rule.Moves.{Move, Links, Stores, Replaces, Removes, Marks, MarksBlocking, Skips, Unmarks, Puts, Covers, PutsLate, Claims, Reclaims, Counts, GivesUp, Aborts, Promotes, Announces, Allowed, after, with_counted, with_lost, is_of_caller}
+use Rattle.papaya_callers.specs.Given.Rule.Lasts.{IsBy}
 use Rattle.papaya_callers.specs.Given.Rule.Rule.{Rule}
 use Rattle.papaya_waits.specs.Waits.{IsUnfinished}
 use Rattle.papaya_waits.proofs.Endings.{OthersEnd}
@@ -47,6 +48,14 @@ lost_uncounted i share old = by (is_of_caller i share)
     by true e = cc e
     by false e = old e
 
+-- by a caller that has none, no share is counted, or given up
+uncounted_after : (i : ℕ) (share : Share) → is_of_caller i share ≡ false → share ≢ Counted → with_counted i share ≢ Counted
+uncounted_after i (Done k) none old = subst (λ (b : Bool). cond b Counted (Done k) ≢ Counted) (sym none) old
+uncounted_after i _ none old = old
+
+lost_before : (i : ℕ) (share : Share) → is_of_caller i share ≡ false → with_lost i share ≡ Lost → share ≡ Lost
+lost_before i share none e = sym (ap (λ (b : Bool). cond b Lost share) none) ∙ e
+
 -- Others are to make a table the root, to say that they have, or that it is given up.
 module _ {K : Type 0} (P A G : ℕ → Type 0) where
   -- each copying that is not over has a place that is not counted, or others that end it, or this
@@ -65,13 +74,14 @@ module _ {K : Type 0} (P A G : ℕ → Type 0) where
     next move = after (spot_of hash) false move c
 
     module _ (End Lose : ℕ → Type 0) where
-      -- where shares that are not counted are so on, and none is given up, and all else is as it was
-      still : (d : Chart K) → d.first ≡ c.first → d.past ≡ c.past → d.status ≡ c.status → d.len ≡ c.len
-          → ((t j : ℕ) → c.share t j ≢ Counted → d.share t j ≢ Counted) → ((t j : ℕ) → d.share t j ≡ Lost → c.share t j ≡ Lost) → AllKept c End Lose → AllKept d End Lose
+      -- where shares behind the root that are not counted are so on, and none is given up, and all else is as it was
+      pub still : (d : Chart K) → d.first ≡ c.first → d.past ≡ c.past → d.status ≡ c.status → d.len ≡ c.len
+          → ((t j : ℕ) → c.first < t → c.share t j ≢ Counted → d.share t j ≢ Counted) → ((t j : ℕ) → c.first < t → d.share t j ≡ Lost → c.share t j ≡ Lost) → AllKept c End Lose → AllKept d End Lose
       still d first past status len uncounted lost (ends, given) = (
         λ t some made unfinished. on t (ends t some (made_before t made) (open_before t unfinished)),
         λ t j behind made unfinished l is.
-            given t j (subst (λ (n : ℕ). n < t) first behind) (made_before t made) (open_before t unfinished) (inside j l) (lost t j is),
+            given t j (subst (λ (n : ℕ). n < t) first behind) (made_before t made) (open_before t unfinished) (inside j l)
+            (lost t j (subst (λ (n : ℕ). n < t) first behind) is),
       )
         where
           made_before : (t : ℕ) → t < d.past → t < c.past
@@ -88,7 +98,7 @@ module _ {K : Type 0} (P A G : ℕ → Type 0) where
             subst (λ (n : ℕ). n < t) (sym first) behind,
             j,
             subst (λ (n : ℕ). j < d.len n) (sym first) (subst (λ (g : ℕ → ℕ). j < g c.first) (sym len) l),
-            uncounted t j is,
+            uncounted t j behind is,
           )
           on t (inr (inl (inl (behind, who)))) = inr (inl (inl (subst (λ (n : ℕ). n < t) (sym first) behind, who)))
           on t (inr (inl (inr (upto, who)))) = inr (inl (inr (subst (λ (n : ℕ). t ≤ n) (sym first) upto, who)))
@@ -144,16 +154,16 @@ module _ {K : Type 0} (P A G : ℕ → Type 0) where
 
       pub plain : (move : Move K) → Allowed same (spot_of hash) false move c → IsPlain move → AllKept c End Lose → AllKept (next move) End Lose
       plain (Links len limit) allowed its all = linked len limit all
-      plain (Stores t k j) allowed its all = still (next (Stores t k j)) refl refl refl refl (λ u n is. is) (λ u n is. is) all
-      plain (Replaces t place k) allowed its all = still (next (Replaces t place k)) refl refl refl refl (λ u n is. is) (λ u n is. is) all
-      plain (Removes t place) allowed its all = still (next (Removes t place)) refl refl refl refl (λ u n is. is) (λ u n is. is) all
-      plain (MarksBlocking place) allowed its all = still (next (MarksBlocking place)) refl refl refl refl (λ u n is. is) (λ u n is. is) all
+      plain (Stores t k j) allowed its all = still (next (Stores t k j)) refl refl refl refl (λ u n behind is. is) (λ u n behind is. is) all
+      plain (Replaces t place k) allowed its all = still (next (Replaces t place k)) refl refl refl refl (λ u n behind is. is) (λ u n behind is. is) all
+      plain (Removes t place) allowed its all = still (next (Removes t place)) refl refl refl refl (λ u n behind is. is) (λ u n behind is. is) all
+      plain (MarksBlocking place) allowed its all = still (next (MarksBlocking place)) refl refl refl refl (λ u n behind is. is) (λ u n behind is. is) all
       plain (Skips i t place) allowed its all =
-          still (next (Skips i t place)) refl refl refl refl (put_uncounted c.share t place (Done i) (λ e. cc e)) (put_lost c.share t place (Done i) (λ e. cc e)) all
+          still (next (Skips i t place)) refl refl refl refl (λ u j behind. put_uncounted c.share t place (Done i) (λ e. cc e) u j) (λ u j behind. put_lost c.share t place (Done i) (λ e. cc e) u j) all
       plain (Puts i place t k j) allowed its all =
-          still (next (Puts i place t k j)) refl refl refl refl (put_uncounted c.share t place (Done i) (λ e. cc e)) (put_lost c.share t place (Done i) (λ e. cc e)) all
-      plain (PutsLate t place n) allowed its all = still (next (PutsLate t place n)) refl refl refl refl (λ u j is. is) (λ u j is. is) all
-      plain (Claims i t chunk) allowed its all = still (next (Claims i t chunk)) refl refl refl refl uncounted lost all
+          still (next (Puts i place t k j)) refl refl refl refl (λ u j behind. put_uncounted c.share t place (Done i) (λ e. cc e) u j) (λ u j behind. put_lost c.share t place (Done i) (λ e. cc e) u j) all
+      plain (PutsLate t place n) allowed its all = still (next (PutsLate t place n)) refl refl refl refl (λ u j behind is. is) (λ u j behind is. is) all
+      plain (Claims i t chunk) allowed its all = still (next (Claims i t chunk)) refl refl refl refl (λ u j behind. uncounted u j) (λ u j behind. lost u j) all
         where
           uncounted : (u j : ℕ) → c.share u j ≢ Counted → (next (Claims i t chunk)).share u j ≢ Counted
           uncounted u j old = by (eqb u t && ltb c.first t) (leb (c.claim t) j && ltb j (c.claim t + chunk) && ltb j (c.len c.first))
@@ -242,39 +252,82 @@ module _ {K : Type 0} (P A G : ℕ → Type 0) where
               by (inl others) = inl others
               by (inr none) = absurd none
 
-    -- the table is said to be given up, or to be the root
-    pub aborted : (t : ℕ) (End Lose : ℕ → Type 0) → ((u : ℕ) → u ≢ t → Lose u → ⊥) → AllKept c End Lose → AllKept (next (Aborts t)) End (λ u. ⊥)
-    aborted t End Lose none (ends, given) = (
-      λ u some made unfinished. ends u some made (open_on u (eqb u t) refl unfinished),
-      λ u j behind made unfinished l is. by u unfinished (given u j behind made (open_on u (eqb u t) refl unfinished) l is),
+    -- One caller's step: the root is the table that it was, and the caller has no part in the copying into any table behind it.
+    module _ (i : ℕ) (d : Chart K) (first : d.first ≡ c.first) (none : (u j : ℕ) → c.first < u → is_of_caller i (c.share u j) ≡ false) (End Lose : ℕ → Type 0) (all : AllKept c End Lose) where
+      -- what is not over then was not over
+      still_open : (t : ℕ) (said : ℕ) → ((said ≡ PROMOTED) ⊎ (said ≡ ABORTED)) → (u : ℕ) → (b : Bool) → eqb u t ≡ b → (cond b said (c.status u) ≢ PROMOTED) × (cond b said (c.status u) ≢ ABORTED) → IsUnfinished c u
+      still_open t said over u false e unfinished = unfinished
+      still_open t said (inl is) u true e unfinished = absurd (unfinished.0 is)
+      still_open t said (inr is) u true e unfinished = absurd (unfinished.1 is)
+
+      told_over : (t : ℕ) (said : ℕ) → ((said ≡ PROMOTED) ⊎ (said ≡ ABORTED)) → (x : Chart K) → x ≡ record c { status = put c.status t said } → AllKept x End Lose
+      told_over t said over x is = subst (λ (y : Chart K). AllKept y End Lose) (sym is) (
+        λ u some made unfinished. all.0 u some made (still_open t said over u (eqb u t) refl unfinished),
+        λ u j behind made unfinished l lost. all.1 u j behind made (still_open t said over u (eqb u t) refl unfinished) l lost,
+      )
+
+      by_move : (move : Move K) → Allowed same (spot_of hash) false move c → d ≡ next move → ((k : ℕ) → IsBy k move → k ≡ i) → AllKept d End Lose
+      by_move (Counts k t number) allowed is own =
+          let mine : k ≡ i = own k refl in
+          subst (λ (x : Chart K). AllKept x End Lose) (sym is)
+          (still End Lose (next (Counts k t number)) refl refl refl refl (λ u j behind old. uncounted u j behind (eqb u t) mine old) (λ u j behind lost. before u j (eqb u t) lost) all)
+        where
+          uncounted : (u j : ℕ) → c.first < u → (b : Bool) → k ≡ i → c.share u j ≢ Counted → cond b (with_counted k (c.share u j)) (c.share u j) ≢ Counted
+          uncounted u j behind true mine old = uncounted_after k (c.share u j) (ap (λ (x : ℕ). is_of_caller x (c.share u j)) mine ∙ none u j behind) old
+          uncounted u j behind false mine old = old
+
+          before : (u j : ℕ) (b : Bool) → cond b (with_counted k (c.share u j)) (c.share u j) ≡ Lost → c.share u j ≡ Lost
+          before u j true lost = counted_lost k (c.share u j) lost
+          before u j false lost = lost
+      by_move (GivesUp k t) allowed is own =
+          let mine : k ≡ i = own k refl in
+          subst (λ (x : Chart K). AllKept x End Lose) (sym is)
+          (still End Lose (next (GivesUp k t)) refl refl refl refl (λ u j behind old. uncounted u j (eqb u t) old) (λ u j behind lost. before u j behind (eqb u t) mine lost) all)
+        where
+          uncounted : (u j : ℕ) → (b : Bool) → c.share u j ≢ Counted → cond b (with_lost k (c.share u j)) (c.share u j) ≢ Counted
+          uncounted u j true old = lost_uncounted k (c.share u j) old
+          uncounted u j false old = old
+
+          before : (u j : ℕ) → c.first < u → (b : Bool) → k ≡ i → cond b (with_lost k (c.share u j)) (c.share u j) ≡ Lost → c.share u j ≡ Lost
+          before u j behind true mine lost = lost_before k (c.share u j) (ap (λ (x : ℕ). is_of_caller x (c.share u j)) mine ∙ none u j behind) lost
+          before u j behind false mine lost = lost
+      by_move (Aborts t) allowed is own = told_over t ABORTED (inr refl) d is
+      by_move (Announces t) allowed is own = told_over t PROMOTED (inl refl) d is
+      by_move (Promotes t) allowed is own =
+          absurd (let there : d.first ≡ t = ap (λ (x : Chart K). x.first) is in let behind = allowed.0 in omega (arith, first, there, behind))
+      by_move (Links len limit) allowed is own = subst (λ (x : Chart K). AllKept x End Lose) (sym is) (plain End Lose (Links len limit) allowed tt all)
+      by_move (Stores t k j) allowed is own = subst (λ (x : Chart K). AllKept x End Lose) (sym is) (plain End Lose (Stores t k j) allowed tt all)
+      by_move (Replaces t place k) allowed is own = subst (λ (x : Chart K). AllKept x End Lose) (sym is) (plain End Lose (Replaces t place k) allowed tt all)
+      by_move (Removes t place) allowed is own = subst (λ (x : Chart K). AllKept x End Lose) (sym is) (plain End Lose (Removes t place) allowed tt all)
+      by_move (Marks k place) allowed is own = subst (λ (x : Chart K). AllKept x End Lose) (sym is) (plain End Lose (Marks k place) allowed tt all)
+      by_move (MarksBlocking place) allowed is own = subst (λ (x : Chart K). AllKept x End Lose) (sym is) (plain End Lose (MarksBlocking place) allowed tt all)
+      by_move (Skips k t place) allowed is own = subst (λ (x : Chart K). AllKept x End Lose) (sym is) (plain End Lose (Skips k t place) allowed tt all)
+      by_move (Unmarks k place) allowed is own = subst (λ (x : Chart K). AllKept x End Lose) (sym is) (plain End Lose (Unmarks k place) allowed tt all)
+      by_move (Puts k place t key try) allowed is own = subst (λ (x : Chart K). AllKept x End Lose) (sym is) (plain End Lose (Puts k place t key try) allowed tt all)
+      by_move (Covers k place) allowed is own = subst (λ (x : Chart K). AllKept x End Lose) (sym is) (plain End Lose (Covers k place) allowed tt all)
+      by_move (PutsLate t place n) allowed is own = subst (λ (x : Chart K). AllKept x End Lose) (sym is) (plain End Lose (PutsLate t place n) allowed tt all)
+      by_move (Claims k t chunk) allowed is own = subst (λ (x : Chart K). AllKept x End Lose) (sym is) (plain End Lose (Claims k t chunk) allowed tt all)
+      by_move (Reclaims t claim) allowed is own = subst (λ (x : Chart K). AllKept x End Lose) (sym is) (plain End Lose (Reclaims t claim) allowed tt all)
+
+      pub aside : (d ≡ c) ⊎ ((move : Move K) × Allowed same (spot_of hash) false move c × (d ≡ next move) × ((k : ℕ) → IsBy k move → k ≡ i)) → AllKept d End Lose
+      aside (inl is) = subst (λ (x : Chart K). AllKept x End Lose) (sym is) all
+      aside (inr (move, allowed, is, own)) = by_move move allowed is own
+
+    -- who was to end a copying, or to give it up, is so no more where that is over
+    pub discharged : (d : Chart K) (End Lose : ℕ → Type 0) → ((u : ℕ) → End u → IsUnfinished d u → ⊥) → ((u : ℕ) → Lose u → IsUnfinished d u → ⊥) → AllKept d End Lose → AllKept d (λ u. ⊥) (λ u. ⊥)
+    discharged d End Lose no_end no_lose (ends, given) = (
+      λ u some made unfinished. by u unfinished (ends u some made unfinished),
+      λ u j behind made unfinished l is. given_so u unfinished (given u j behind made unfinished l is),
     )
       where
-        open_on : (u : ℕ) (b : Bool) → eqb u t ≡ b → IsUnfinished (next (Aborts t)) u → IsUnfinished c u
-        open_on u true e unfinished = absurd (unfinished.1 (ap (λ (b : Bool). cond b ABORTED (c.status u)) e))
-        open_on u false e unfinished =
-            let status : (next (Aborts t)).status u ≡ c.status u = ap (λ (b : Bool). cond b ABORTED (c.status u)) e in
-            ((λ is. unfinished.0 (status ∙ is)), (λ is. unfinished.1 (status ∙ is)))
-
-        by : (u : ℕ) → IsUnfinished (next (Aborts t)) u → G u ⊎ Lose u → G u ⊎ ⊥
-        by u unfinished (inl others) = inl others
-        by u unfinished (inr own) = absurd (none u (λ e. unfinished.1 (ap (λ (b : Bool). cond b ABORTED (c.status u)) (eq-eqb u t e))) own)
-
-    pub announced : (t : ℕ) (End Lose : ℕ → Type 0) → ((u : ℕ) → u ≢ t → End u → ⊥) → AllKept c End Lose → AllKept (next (Announces t)) (λ u. ⊥) Lose
-    announced t End Lose none (ends, given) = (
-      λ u some made unfinished. by u unfinished (ends u some made (open_on u (eqb u t) refl unfinished)),
-      λ u j behind made unfinished l is. given u j behind made (open_on u (eqb u t) refl unfinished) l is,
-    )
-      where
-        open_on : (u : ℕ) (b : Bool) → eqb u t ≡ b → IsUnfinished (next (Announces t)) u → IsUnfinished c u
-        open_on u true e unfinished = absurd (unfinished.0 (ap (λ (b : Bool). cond b PROMOTED (c.status u)) e))
-        open_on u false e unfinished =
-            let status : (next (Announces t)).status u ≡ c.status u = ap (λ (b : Bool). cond b PROMOTED (c.status u)) e in
-            ((λ is. unfinished.0 (status ∙ is)), (λ is. unfinished.1 (status ∙ is)))
-
-        by : (u : ℕ) → IsUnfinished (next (Announces t)) u → IsUncounted c u ⊎ (OthersEnd P A c u ⊎ End u) → IsUncounted (next (Announces t)) u ⊎ (OthersEnd P A (next (Announces t)) u ⊎ ⊥)
+        by : (u : ℕ) → IsUnfinished d u → IsUncounted d u ⊎ (OthersEnd P A d u ⊎ End u) → IsUncounted d u ⊎ (OthersEnd P A d u ⊎ ⊥)
         by u unfinished (inl uncounted) = inl uncounted
         by u unfinished (inr (inl others)) = inr (inl others)
-        by u unfinished (inr (inr own)) = absurd (none u (λ e. unfinished.0 (ap (λ (b : Bool). cond b PROMOTED (c.status u)) (eq-eqb u t e))) own)
+        by u unfinished (inr (inr own)) = absurd (no_end u own unfinished)
+
+        given_so : (u : ℕ) → IsUnfinished d u → G u ⊎ Lose u → G u ⊎ ⊥
+        given_so u unfinished (inl others) = inl others
+        given_so u unfinished (inr own) = absurd (no_lose u own unfinished)
 
     -- a table is made the root: each one between was given up, none stands behind, and who has made it is to say so
     pub promoted : (t : ℕ) → Allowed same (spot_of hash) false (Promotes t) c → (End Lose Own : ℕ → Type 0) → ((u : ℕ) → u ≤ c.first → End u → Own u) → Own t → AllKept c End Lose
