@@ -3,3 +3,4 @@ pub mod Awaited
 pub mod Moves
 pub mod Reached
 pub mod Writes
+pub mod Copiers

@@ -1,7 +1,7 @@
 -- In blocking mode, a step of a caller that has no part in a copying leaves each with who goes on with it, who ends it, or who gives it up, as long as the root is as it was; and where the
 -- caller has said that its own is over, or was given up, it is not to do so any more.
 use Rattle.std.specs.Prelude.{◌*◌, cond, Some}
-use Rattle.std.proofs.Common.{◌≡◌, ◌≢◌, ℕ, ◌<◌, ◌≤◌, ◌⊎◌, inl, inr, Bool, true, false, ap, sym, subst, ◌∙◌, arith}
+use Rattle.std.proofs.Common.{◌≡◌, ◌≢◌, ℕ, suc, ◌<◌, ◌≤◌, ◌⊎◌, inl, inr, Bool, true, false, ap, sym, subst, ◌∙◌, arith}
 use Rattle.std.proofs.lemmas.Bool.{ne_eqb}
 use Rattle.papaya_callers.specs.Given.SeizeWords.declared.at.At.TheVariants.{Root, Word}
 use Rattle.papaya_callers.specs.Given.SeizeWords.Mem.{Mem, word_at}
@@ -17,7 +17,7 @@ use Rattle.papaya_callers.specs.Given.Rule.Chart.{Chart}
 use Rattle.papaya_callers.specs.Given.Rule.InWorld.{IsMapIn, Moved, SameBlocks, SparesTables}
 use Rattle.papaya_callers.specs.Given.Rule.Lasts.{IsBy}
 use Rattle.papaya_callers.specs.Given.Rule.Maps.{spot_of}
-use Rattle.papaya_callers.specs.Given.Rule.Moves.{Move, Promotes, Allowed, after, is_of_caller}
+use Rattle.papaya_callers.specs.Given.Rule.Moves.{Move, Links, Promotes, Allowed, after, is_of_caller}
 use Rattle.papaya_callers.specs.Given.Rule.Rule.{Rule}
 use Rattle.papaya_callers.specs.Given.Rule.Words.{Blocks, Shows, ShowsTable}
 use Rattle.papaya_waits.specs.Others.{EndsAt}
@@ -76,6 +76,18 @@ module _ {K V : Type 0} (same : K → K → Bool) (hash : K → ℕ) (setting : 
         by : MovedSo false → d.first ≡ c.first
         by (inl is) = ap (λ (x : Chart K). x.first) is
         by (inr (move, allowed, is, own)) = by_move move allowed is
+
+    -- tables that were there are there
+    pub past_on : (t : ℕ) → t < c.past → t < d.past
+    past_on t l = by moved
+      where
+        by_move : (move : Move K) → d ≡ after (spot_of hash) false move c → t < d.past
+        by_move (Links len limit) is = let past : d.past ≡ suc c.past = ap (λ (x : Chart K). x.past) is in omega (arith, l, past)
+        by_move _ is = subst (λ (n : ℕ). t < n) (sym (ap (λ (x : Chart K). x.past) is)) l
+
+        by : MovedSo false → t < d.past
+        by (inl is) = subst (λ (n : ℕ). t < n) (sym (ap (λ (x : Chart K). x.past) is)) l
+        by (inr (move, allowed, is, own)) = by_move move is
 
     -- the status of a table is what its word says
     pub status_now : (t : ℕ) → t < c.past → t < d.past → blocks.table_known t ≡ true → (said : ℕ) → word_at m2 (Word (blocks.table t) STATUS) ≡ Some said → d.status t ≡ said
