@@ -4,3 +4,4 @@ pub mod Moves
 pub mod Reached
 pub mod Writes
 pub mod Copiers
+pub mod Promotes

@@ -39,17 +39,17 @@ module _ {K V : Type 0} (same : K → K → Bool) (hash : K → ℕ) (setting : 
   rule = subst (λ (b : Bool). Rule same (spot_of hash) b c) mode map.map.rule
 
   module _ (r : Reached) where
-    shows : Shows hash m2 d blocks2 setting.root
+    pub shows : Shows hash m2 d blocks2 setting.root
     shows = subst (λ (m : Mem (Node K V)). Shows hash m d blocks2 setting.root) r.1 r.2.map.shows
 
     moved : MovedSo false
     moved = subst MovedSo mode r.5
 
     -- the word of the root is that of its table
-    root_now : 0 < d.past → word_at m2 (Root setting.root) ≡ Some (blocks2.table d.first * 2048)
+    pub root_now : 0 < d.past → word_at m2 (Root setting.root) ≡ Some (blocks2.table d.first * 2048)
     root_now some = shows.root_there ∙ ap (λ (q : Bool). Some (cond q 0 (blocks2.table d.first * 2048))) (ne_eqb d.past 0 (λ e. omega (arith, e, some)))
 
-    root_before : 0 < c.past → word_at w.memory (Root setting.root) ≡ Some (blocks.table c.first * 2048)
+    pub root_before : 0 < c.past → word_at w.memory (Root setting.root) ≡ Some (blocks.table c.first * 2048)
     root_before some = map.map.shows.root_there ∙ ap (λ (q : Bool). Some (cond q 0 (blocks.table c.first * 2048))) (ne_eqb c.past 0 (λ e. omega (arith, e, some)))
 
     -- so the root is as it was where its word is
