@@ -75,7 +75,7 @@ module _ {K V : Type 0} (same : K → K → Bool) (hash : K → ℕ) (fits : (k 
     (steps : Steps Took value_at w.memory (copier_plan hash p) m2 end) (d : Chart K) (blocks2 : Blocks) (r : Reached same hash setting mode w caller c blocks map m2 d blocks2)
     (P A G : ℕ → Type 0) where
   -- the root is as it was, but where it makes its target the root
-  first_as_before : (IsRowOfCopier p.stands → ⊥) → (p.stands ≡ at.Promotes → ⊥) → d.first ≡ c.first
+  pub first_as_before : (IsRowOfCopier p.stands → ⊥) → (p.stands ≡ at.Promotes → ⊥) → d.first ≡ c.first
   first_as_before row other =
       first_stays same hash setting mode w caller c blocks map m2 d blocks2 r
       (step_spares (root_word same hash w caller setting c blocks map) tt w.memory _ map.map.shows.root_there (copier_plan hash p) m2 end

@@ -5,3 +5,4 @@ pub mod Reached
 pub mod Writes
 pub mod Copiers
 pub mod Promotes
+pub mod Counts

@@ -32,17 +32,17 @@ module _ {K V : Type 0} (same : K → K → Bool) (hash : K → ℕ) (setting : 
       (w2 : World (Node K V)) × (w2.memory ≡ m2) × IsMapIn same hash setting w2 d blocks2 × SameBlocks c blocks blocks2 × SparesTables c blocks d × Moved same hash setting.mode caller c d
 
   -- a move, in blocking mode
-  abbrev MovedSo : Bool → Type 0
+  abbrev pub MovedSo : Bool → Type 0
   MovedSo b = (d ≡ c) ⊎ ((move : Move K) × Allowed same (spot_of hash) b move c × (d ≡ after (spot_of hash) b move c) × ((i : ℕ) → IsBy i move → i ≡ caller))
 
-  rule : Rule same (spot_of hash) false c
+  pub rule : Rule same (spot_of hash) false c
   rule = subst (λ (b : Bool). Rule same (spot_of hash) b c) mode map.map.rule
 
   module _ (r : Reached) where
     pub shows : Shows hash m2 d blocks2 setting.root
     shows = subst (λ (m : Mem (Node K V)). Shows hash m d blocks2 setting.root) r.1 r.2.map.shows
 
-    moved : MovedSo false
+    pub moved : MovedSo false
     moved = subst MovedSo mode r.5
 
     -- the word of the root is that of its table
