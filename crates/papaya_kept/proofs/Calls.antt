@@ -30,6 +30,7 @@ use Rattle.papaya_lives.proofs.LeftTables.{calls_keep_left}
 use Rattle.papaya_lives.proofs.LyingCalls.{calls_keep_lying}
 use Rattle.papaya_lives.proofs.RetiredCalls.{calls_keep_retired}
 use Rattle.papaya_kept.specs.Kept.{ShowsKept}
+use Rattle.papaya_kept.proofs.EndCalls.{calls_keep_all_ends}
 use Rattle.papaya_kept.specs.Steps.{CallsKeepKept}
 
 module _ (K V S : Type 0) (same : K → K → Bool) (hash : K → ℕ) where
@@ -56,6 +57,7 @@ module _ (K V S : Type 0) (same : K → K → Bool) (hash : K → ℕ) where
         retired = calls_keep_retired K V S same hash name m known s old new at whole kept.entries owned kept.retired map i u here said leads;
         left = calls_keep_left K V S same hash name m known s old new at whole owned kept.left map i u here said leads;
         handed = calls_keep_handed K V S same hash name m known s old new at whole kept.entries owned kept.waiting kept.retired kept.handed map i u here said leads;
+        ends = calls_keep_all_ends same hash name m known s old new at whole.all.shown kept.ends map i said leads u here;
       }
     where
       v : Moment K V

@@ -63,6 +63,7 @@ use Rattle.papaya_lives.proofs.Waiting.{endings_begin_waiting, rows_begin_waitin
 use Rattle.papaya_lives.proofs.WaitingEnds.{endings_keep_waiting, once_then}
 use Rattle.papaya_kept.specs.Steps.{RowsBeginKept, RowsKeepKept, RowsFindKept, MakingsKeepKept, EndingsBeginKept, EndingsKeepKept, EndingsFindKept}
 use Rattle.papaya_kept.proofs.Calls.{own_made}
+use Rattle.papaya_kept.proofs.Ends.{endings_begin_ends, endings_keep_ends, makings_keep_ends, rows_leave_ends}
 use Rattle.papaya_kept.proofs.InHand.{rows_leave_in_hand, makings_leave_in_hand, endings_leave_in_hand}
 use Rattle.papaya_kept.proofs.Stays.{calls_same, entries_stay, same_in_hand}
 
@@ -114,6 +115,7 @@ module _ (K V S : Type 0) (same : K → K → Bool) (hash : K → ℕ) where
     retired = rows_begin_retired K V S same hash m known s old new at kept.retired called i may leads;
     left = rows_begin_left K V S same hash known s old new kept.left called i may leads;
     handed = rows_begin_handed K V S same hash m known s old new at kept.handed called i may leads;
+    ends = rows_leave_ends same hash s kept.ends old new (Begin i (request_of (slot_of i) called)) (leads may).3;
   }
     where
       t : Scene K V
@@ -138,6 +140,7 @@ module _ (K V S : Type 0) (same : K → K → Bool) (hash : K → ℕ) where
     retired = rows_keep_retired K V S same hash name m known s old new at whole kept.retired i said leads row here;
     left = rows_keep_left K V S same hash name m known s old new at whole kept.left i said leads row here;
     handed = rows_keep_handed K V S same hash name m known s old new at whole kept.waiting kept.handed i said leads row here;
+    ends = rows_leave_ends same hash s kept.ends old new (Step i) (leads row here).4;
   }
     where
       effects : List Effect
@@ -179,6 +182,7 @@ module _ (K V S : Type 0) (same : K → K → Bool) (hash : K → ℕ) where
     left = others_keep_left K V known2 stepped led
         (makings_keep_left K V S same hash known s old new (own_made K V S same hash name m known s old at whole kept) kept.left i said leads b here) world
         (making_enders same hash s old new i b (leads b here).0 (leads b here).2.step.w2 said (leads b here).3);
+    ends = makings_keep_ends same hash s kept.ends old new i b (leads b here).0 (leads b here).2.step.w2 said (leads b here).3;
   }
     where
       effects : List Effect
@@ -219,6 +223,7 @@ module _ (K V S : Type 0) (same : K → K → Bool) (hash : K → ℕ) where
     retired = endings_begin_retired K V m known s kept.retired map i standing;
     left = endings_begin_left K V known s kept.left map i standing nobody;
     handed = endings_begin_handed K V m known s kept.handed map i standing;
+    ends = endings_begin_ends s kept.ends map i standing;
   }
     where
       t : Scene K V
@@ -242,6 +247,7 @@ module _ (K V S : Type 0) (same : K → K → Bool) (hash : K → ℕ) where
     retired = endings_keep_retired K V S same hash name m known s old new at whole kept.retired i said leads f here map not_there;
     left = endings_keep_left K V S same hash name m known s old new at whole kept.left i said leads f here map not_there;
     handed = endings_keep_handed K V S same hash name m known s old new at whole kept.waiting kept.retired kept.handed i said leads f here map not_there;
+    ends = endings_keep_ends same hash s kept.ends old new i f (leads f here).0 (leads f here).2.w2 (leads f here).2.deed said (leads f here).3;
   }
     where
       effects : List Effect

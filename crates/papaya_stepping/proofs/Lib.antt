@@ -1,7 +1,9 @@
 mod AfterEffects
 mod Again
 mod AnySays
+mod AnyWaits
 mod ComesOn
+mod CopiesWait
 mod KeySays
 mod LookSays
 mod NextBegins
@@ -12,9 +14,11 @@ mod OneStep
 mod PlaysAgain
 mod PlaysSteps
 mod PlaysWhole
+mod QuietCopies
 mod QuietWaits
 mod RightSteps
 mod RoomSays
+mod RoomsWait
 mod StepSays
 mod SteppedTo
 mod StepsOn

@@ -98,16 +98,11 @@ module _ {K V : Type 0} where
   ComesAs call (Refused fault) = IsRoom fault
   ComesAs call _ = ⊥
 
-  -- a call on one key
-  abbrev pub is_on_key : Call K V → Bool
-  is_on_key (On one) = true
-  is_on_key _ = false
-
-  -- one on a map that grows in chunks, which waits only for a call that it may wait for
+  -- a call on a map that grows in chunks, which waits only for a call that it may wait for
   abbrev pub waits_in_case : CallThere K V → Moment K V → Bool
-  waits_in_case c now = is_on_key c.call && grows_in_chunks (map_at c.map now)
+  waits_in_case c now = grows_in_chunks (map_at c.map now)
 
-  -- That says: any other call waits only for one that it may wait for, and a call is refused for the length of a table only where it finds none: it needs more places than a table can have,
+  -- That says: on any other map a call waits only for one that it may wait for, and a call is refused for the length of a table only where it finds none: it needs more places than a table can have,
   -- or a table after the longest or the last one.
   abbrev pub IsInCase : Terms → CallThere K V → List (Moment K V) → Moment K V → Outcome V → Type 0
   IsInCase terms c moments now Waits = waits_in_case c now ≡ false → list_any (may_wait_for c now) now.calls ≡ true
@@ -153,7 +148,7 @@ module _ {K V S : Type 0} (same : K → K → Bool) (hash : K → ℕ) (terms : 
     pub follows : after ≡ before ++ did
     pub few : sum_by weight did ≤ steps
     pub comes : ComesAs call.call outcome
-    -- one that waits does more than look, and waits for one that it may wait for, if it is on one key, on a map that grows in chunks; one that is refused for want of memory has asked for
+    -- one that waits does more than look, and waits for one that it may wait for, if it is on a map that grows in chunks; one that is refused for want of memory has asked for
     -- a growth, and nothing was made since
     pub works : outcome ≡ Waits → only_looks call.call ≡ false
     pub waits : outcome ≡ Waits → (let w = with_effects (Some own) (Some call.map) did m in
