@@ -1,4 +1,4 @@
-mod AfterEffects
+pub mod AfterEffects
 mod Again
 mod AnySays
 mod ComesOn
@@ -8,7 +8,7 @@ mod NextBegins
 mod NextEnds
 mod NextOn
 mod NextSays
-mod OneStep
+pub mod OneStep
 mod PlaysAgain
 mod PlaysSteps
 mod PlaysWhole
