@@ -1,5 +1,5 @@
 -- A walk takes steps to its next pair.
-use Rattle.std.specs.Prelude.{slice_get}
+use Rattle.std.specs.Prelude.{suc, slice_get}
 use Rattle.std.proofs.Common.{◌+◌, refl, sym, ap, subst, ◌∙◌, arith}
 use Rattle.std.proofs.lemmas.List.{append-nil}
 use Rattle.papaya_histories.specs.Given.Executor.IsAt.{HasCall, IsAt}
