@@ -11,9 +11,9 @@ mod NextSays
 pub mod OneStep
 mod PlaysAgain
 mod PlaysSteps
-mod PlaysWhole
+pub mod PlaysWhole
 mod QuietWaits
-mod RightSteps
+pub mod RightSteps
 mod RoomSays
 mod StepSays
 mod SteppedTo

@@ -17,9 +17,10 @@ use Rattle.papaya_histories.specs.Given.Schedules.declared.call.Reply.{Reply}
 use Rattle.papaya_histories.specs.Given.Schedules.declared.call.Reply.TheVariants.{Gives, Removes, Aborts, Decides}
 use Rattle.papaya_histories.specs.Given.Schedules.declared.outcome.Outcome.{Outcome}
 use Rattle.papaya_histories.specs.Given.Schedules.declared.outcome.Outcome.TheVariants as outcome
-use Rattle.papaya_histories.specs.Given.Schedules.Sequential.{Answers, Leaves, Puts, Takes, computes, computes_none, means, puts_reply, removes_if}
+use Rattle.papaya_histories.specs.Given.Schedules.Sequential.{Answers, Leaves, Puts, Takes, means, puts_reply}
 use Rattle.papaya_histories.specs.Given.Schedules.Views.{reply_to}
 use Rattle.papaya_histories.specs.Given.Effects.Known.{Known}
+use Rattle.papaya_histories.specs.Given.Effects.declared.role.Role.TheVariants as role
 use Rattle.papaya_histories.specs.Answers.{IsToldAs, IsToldDone, NamesPair}
 use Rattle.papaya_histories.specs.Asking.{IsToldQuestion}
 use Rattle.papaya_histories.specs.Events.{ComesToIt}
@@ -28,7 +29,7 @@ use Rattle.papaya_histories.specs.OtherMidsts.{AsksAsSaid}
 use Rattle.papaya_histories.proofs.AnyCall.InEvent.{events_have_words}
 use Rattle.papaya_scheduler.specs.Seen.{kind_of, kind_on}
 use Rattle.papaya_scheduler.specs.Telling.{aborted_with, answer_on, number_by, number_in, occupied_by}
-use Rattle.papaya_stepping.specs.Stepping.{ComesAs, outcome_of}
+use Rattle.papaya_stepping.specs.Stepping.{outcome_of}
 use Rattle.papaya_running.specs.OfCalls.{LastStepsTell, TellsValue}
 use Rattle.papaya_running.proofs.OfCalls.Words.{tells_of}
 
