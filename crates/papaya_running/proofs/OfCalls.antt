@@ -7,3 +7,7 @@ pub mod Steps
 pub mod Found
 pub mod Ends
 pub mod Taken
+pub mod Quiet
+pub mod Begun
+pub mod Whole
+pub mod Events

@@ -246,8 +246,8 @@ module _ {K V S : Type 0} (same : K → K → Bool) (hash : K → ℕ) (terms : 
           names = stands.names;
         }
 
-        pub begun : (calls2 : Callers V) → calls2.items.items ≡ caller ∷ calls → BeginsSo same hash terms m own guard name call true p (record p { logged = new; calls = calls2 })
-        begun calls2 items = record {
+        pub begun : (calls2 : Callers V) → calls2.items.items ≡ caller ∷ calls → new.notes ≡ p.logged.notes → BeginsSo same hash terms m own guard name call true p (record p { logged = new; calls = calls2 })
+        begun calls2 items kept = record {
           so = sym may_begin;
           none = λ e. absurd (cc e);
           stands = λ e. subst (λ (o : Option ℕ). StandsFor same hash terms (with_call own guard call o m) (record p { logged = new; calls = calls2 })) (sym its.0) (stands_then calls2 items);
@@ -264,5 +264,6 @@ module _ {K V S : Type 0} (same : K → K → Bool) (hash : K → ℕ) (terms : 
             numbered = numbered;
             items = items;
             rest = refl;
+            notes = kept;
           };
         }

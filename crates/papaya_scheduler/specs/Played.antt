@@ -139,6 +139,7 @@ module _ {K V S : Type 0} (same : K → K → Bool) (hash : K → ℕ) where
     pub numbered : caller.number ≡ length old.logged.executor.workers.items * SLOTS + slot
     pub items : new.calls.items.items ≡ caller ∷ old.calls.items.items
     pub rest : new ≡ record old { logged = new.logged; calls = new.calls }
+    pub notes : new.logged.notes ≡ old.logged.notes
 
   -- A call begins if its name is free, its guard lives, and its map is there; then the scheduler stands for the moment at which it has begun.
   pub record BeginsSo (terms : Terms) (m : Moment K V) (own guard map : List ℕ) (call : Call K V) (begun : Bool) (old new : Scheduler K V S) : Type 0 where

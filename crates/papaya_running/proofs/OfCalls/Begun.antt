@@ -20,7 +20,7 @@ use Rattle.papaya_histories.specs.Given.Schedules.Views.{number_of}
 use Rattle.papaya_histories.specs.Given.Callers.Together.{UnderWay}
 use Rattle.papaya_histories.specs.Given.Effects.Known.{Known, known}
 use Rattle.papaya_histories.specs.Given.Executor.Beginning.{Begins}
-use Rattle.papaya_histories.specs.Given.Executor.IsAt.{Scene, IsAt, HasCall}
+use Rattle.papaya_histories.specs.Given.Executor.IsAt.{Scene, HasCall, slot_of}
 use Rattle.papaya_histories.specs.Given.Executor.Replying.{scene_with}
 use Rattle.papaya_histories.specs.Given.Finishes.Maps.{Standing}
 use Rattle.papaya_histories.specs.Given.Follows.Calling.{NoneNamed}
@@ -47,7 +47,7 @@ use Rattle.papaya_running.proofs.OfCalls.Scenes.{AreNamed, its_named, stands_in}
 
 -- what is under way then is a call as it was called
 module _ {K V : Type 0} (same : K → K → Bool) (st : Standing K) (i : ℕ) where
-  begun_as : (call : Call K V) → IsBegunAs K V same (begun_call same st i call) call
+  begun_as : (call : Call K V) → IsBegunAs (begun_call same st i call) call
   begun_as (On one) = tt
   begun_as (Reserve more) = tt
   begun_as Clear = (refl, refl)
@@ -55,7 +55,7 @@ module _ {K V : Type 0} (same : K → K → Bool) (st : Standing K) (i : ℕ) wh
   begun_as Len = tt
   begun_as Walk = (refl, refl)
 
-  begun_for : (call : Call K V) → IsFor K V same (begun_call same st i call) call
+  begun_for : (call : Call K V) → IsFor (begun_call same st i call) call
   begun_for (On one) = tt
   begun_for (Reserve more) = refl
   begun_for Clear = refl
@@ -124,6 +124,12 @@ module _ {K V S : Type 0} (same : K → K → Bool) (hash : K → ℕ) (terms : 
   pub name_here : names i ≡ own
   name_here = beginning.name_here same hash terms m old runs.stands own guard on call led.free led.slot led.lives led.number led.setting led.found new.logged led.leads led.caller led.is led.numbered
 
+  pub under_here : then_at.calls led.number i ≡ Some u
+  under_here = beginning.here_then same hash terms m old runs.stands own guard on call led.free led.slot led.lives led.number led.setting led.found new.logged led.leads led.caller led.is led.numbered
+
+  pub at_slot : slot_of i ≡ led.slot
+  at_slot = beginning.at_slot same hash terms m old runs.stands own guard on call led.free led.slot led.lives led.number led.setting led.found
+
   name_there : (j : ℕ) → HasCall runs.stands.scene j → names j ≡ runs.stands.name j
   name_there j (n, x, here) =
       beginning.name_then same hash terms m old runs.stands own guard on call led.free led.slot led.lives led.number led.setting led.found new.logged led.leads led.caller led.is led.numbered j
@@ -156,8 +162,11 @@ module _ {K V S : Type 0} (same : K → K → Bool) (hash : K → ℕ) (terms : 
       others [] all = tt
       others (d ∷ ds) all = (name_there d.number (d.map, all.0.0, all.0.1) ∙ all.0.2, others ds all.1)
 
-  -- what was noted is so still, and so are sizes and maps
-  module _ (on_notes : known new.logged.notes ≡ known old.logged.notes) (on_size : new.logged.executor.batch_size ≡ old.logged.executor.batch_size) where
+  pub notes_here : known new.logged.notes ≡ known old.logged.notes
+  notes_here = ap known led.notes
+
+  -- maps are as they were, and so is the size of batches
+  module _ (on_size : new.logged.executor.batch_size ≡ old.logged.executor.batch_size) where
     pub shards_here : HaveShards terms new.logged.executor
     shards_here n setting is = runs.shards n setting (sym (runs.stands.shown.is_at.maps n) ∙ shown_begun.is_at.maps n ∙ is)
 
@@ -173,7 +182,7 @@ module _ {K V S : Type 0} (same : K → K → Bool) (hash : K → ℕ) (terms : 
           guard begins_here right_here free_named row_here shown_begun.is_at on its.0 0 (subst (λ (x : List ℕ). ComesRight terms log (e x)) (sym name_here) right))
 
       run_then : ShowsRun same names terms (e own ∷ log) (known new.logged.notes) then_at
-      run_then = subst (λ (k : Known). ShowsRun same names terms (e own ∷ log) k then_at) (sym on_notes) goes_on.1
+      run_then = subst (λ (k : Known). ShowsRun same names terms (e own ∷ log) k then_at) (sym notes_here) goes_on.1
 
       pub begun_on : RunsOn same hash terms log (e own) new
       begun_on = record {
