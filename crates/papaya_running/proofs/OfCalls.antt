@@ -11,3 +11,4 @@ pub mod Quiet
 pub mod Begun
 pub mod Whole
 pub mod Events
+pub mod Happens

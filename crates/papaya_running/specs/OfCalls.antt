@@ -4,7 +4,7 @@ use Rattle.std.specs.List.{list_any}
 use Rattle.papaya_histories.specs.Given.SeizeWaiting.Held.{count}
 use Rattle.papaya_histories.specs.Given.SeizeWords.declared.fault.Fault.TheVariants.{Busy}
 use Rattle.papaya_histories.specs.Given.Seize.WaitingSets.{Sets}
-use Rattle.papaya_histories.specs.Given.Seize.World.{World, IsInside, Request, Begin, Step as StepsOn, Happens}
+use Rattle.papaya_histories.specs.Given.Seize.World.{World, IsInside, Request, Begin, Step, Happens}
 use Rattle.papaya_histories.specs.Given.Tables.Nodes.{deferred_word}
 use Rattle.papaya_histories.specs.Given.Tables.declared.node.Node.{Node}
 use Rattle.papaya_histories.specs.Given.Tables.declared.setting.Setting.{Setting}
@@ -17,9 +17,9 @@ use Rattle.papaya_histories.specs.Given.Schedules.declared.call.Reply.{Reply}
 use Rattle.papaya_histories.specs.Given.Schedules.declared.call.Reply.TheVariants.{Aborts}
 use Rattle.papaya_histories.specs.Given.Schedules.declared.effect.Effect.{Effect}
 use Rattle.papaya_histories.specs.Given.Schedules.declared.event.Event.{Event}
-use Rattle.papaya_histories.specs.Given.Schedules.declared.event.Event.TheVariants.{Go, OneCall, Step}
+use Rattle.papaya_histories.specs.Given.Schedules.declared.event.Event.TheVariants as event
 use Rattle.papaya_histories.specs.Given.Schedules.declared.outcome.Outcome.{Outcome}
-use Rattle.papaya_histories.specs.Given.Schedules.declared.outcome.Outcome.TheVariants.{Answered, Refused}
+use Rattle.papaya_histories.specs.Given.Schedules.declared.outcome.Outcome.TheVariants.{Answered, Goes, Refused}
 use Rattle.papaya_histories.specs.Given.Schedules.After.{moment, moments_from}
 use Rattle.papaya_histories.specs.Given.Schedules.Beginning.{at_work}
 use Rattle.papaya_histories.specs.Given.Schedules.Entry.{Entry, IfCall, acting, caller_of}
@@ -98,7 +98,7 @@ module _ (K V S : Type 0) (same : K → K → Bool) (hash : K → ℕ) where
       → (old new : Executor K V S) → IsAt same hash old s → (said : Progress (Node K V)) (leads : StepLeads same hash i said s old new)
       → (let to = leads map u (here_of same name log beginning map i c done m known s u midst.event_so) in
       (request : Request) (begun : World (Node K V)) → HandsOver to.0.setting i s.world request → Happens deferred_word old.batch_size (Begin i request) s.world begun
-      → Happens deferred_word old.batch_size (StepsOn i) begun to.4.w2 → IsNoted (things_then (things_in log) done) known (slot_of i) request)
+      → Happens deferred_word old.batch_size (Step i) begun to.4.w2 → IsNoted (things_then (things_in log) done) known (slot_of i) request)
 
   -- what the last step of an event says is told so, if a value that is told back is the one that was given, and it is told as such a call may be
   abbrev pub LastStepsTell : Type 0
@@ -121,22 +121,23 @@ abbrev pub TookOrBusy : {V : Type 0} → Played V → Type 0
 TookOrBusy played = (1 ≤ played.steps) ⊎ (played.outcome ≡ Refused Busy)
 
 module _ {K V : Type 0} where
-  -- an event by which a call goes on that is no walk asked for its next pair
-  abbrev pub is_of_steps : Event K V → Bool
-  is_of_steps (Step caller refuse) = true
-  is_of_steps (Go caller refuse) = true
-  is_of_steps (OneCall guard name call) = true
-  is_of_steps _ = false
+  -- Of which events this is said: of one by which a call goes on that is no walk asked for its next pair, if it has taken steps, or was out of turn; and of one by which a call has begun.
+  abbrev pub IsSaid : Event K V → Played V → Type 0
+  IsSaid (event.Step caller refuse) played = TookOrBusy played
+  IsSaid (event.Go caller refuse) played = TookOrBusy played
+  IsSaid (event.OneCall guard name call) played = TookOrBusy played
+  IsSaid (event.Begin caller guard name call) played = played.outcome ≡ Goes
+  IsSaid _ played = ⊥
 
 module _ {K V S : Type 0} (same : K → K → Bool) (hash : K → ℕ) where
-  -- What is promised of an event of a call that is in turn, with what is left.
+  -- What is promised of such an event that is in turn, with what is left: it keeps its promises, and the run goes on.
   abbrev pub KeepsDue : Event K V → Played V → (old new : Scheduler K V S) → Type 0
   KeepsDue event played old new =
-      is_of_steps event ≡ true → Wanted K V S same hash → (terms : Terms) (log : List (Entry K V)) → Runs same hash terms log old → is_kept_out terms event (moment log) ≡ false
-      → TookOrBusy played → IsLeft terms log (entry_of event played) → RunsOn same hash terms log (entry_of event played) new
+      IsSaid event played → Wanted K V S same hash → (terms : Terms) (log : List (Entry K V)) → Runs same hash terms log old → is_kept_out terms event (moment log) ≡ false
+      → IsLeft terms log (entry_of event played) → RunsOn same hash terms log (entry_of event played) new
 
   -- and so of one that is kept out
   abbrev pub KeepsAt : Event K V → Played V → (old new : Scheduler K V S) → Type 0
   KeepsAt event played old new =
-      is_of_steps event ≡ true → Wanted K V S same hash → (terms : Terms) (log : List (Entry K V)) → Runs same hash terms log old → TookOrBusy played
-      → IsLeft terms log (entry_of event played) → RunsOn same hash terms log (entry_of event played) new
+      IsSaid event played → Wanted K V S same hash → (terms : Terms) (log : List (Entry K V)) → Runs same hash terms log old → IsLeft terms log (entry_of event played)
+      → RunsOn same hash terms log (entry_of event played) new

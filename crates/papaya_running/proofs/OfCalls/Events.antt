@@ -124,7 +124,7 @@ module _ {K V S : Type 0} (same : K → K → Bool) (hash : K → ℕ) (old new 
             × (begun ≡ true → TakenAs same hash 0 most_steps played mid new) × (begun ≡ false → SaysAgain same hash (Refused Busy) played mid new)
         took_it = took terms (moment log) runs.stands
 
-        abbrev mid : Scheduler K V S
+        mid : Scheduler K V S
         mid = took_it.1
 
         begun_so : (q : Bool) → took_it.0 ≡ q → BeginsSo same hash terms (moment log) nameless guard on call q old mid
@@ -135,7 +135,9 @@ module _ {K V S : Type 0} (same : K → K → Bool) (hash : K → ℕ) (old new 
             let says = took_it.5 is in
             let was = (begun_so false is).none refl in
             whole_out terms log runs says.0 says.1 says.2 (logged_as mid says.3 was) (calls_as mid says.3 was) guard on call left.right plays
-        by true is = goes (far_of.1) far_of.2
+        by true is =
+            whole_on same hash wanted terms log old runs guard on call mid led took_it.3 stands_mid played new
+            (subst (λ (how : HowFar). TakenBy same hash 0 most_steps how played mid new) first.3 (took_it.4 is first.1 first.2)) first left plays
           where
             begins : BeginsSo same hash terms (moment log) nameless guard on call true old mid
             begins = begun_so true is
@@ -149,14 +151,6 @@ module _ {K V S : Type 0} (same : K → K → Bool) (hash : K → ℕ) (old new 
             stands_mid : StandsFor same hash terms (with_call nameless guard call (Some led.number) (moment log)) mid
             stands_mid = subst (λ (o : Option ℕ). StandsFor same hash terms (with_call nameless guard call o (moment log)) mid) (its same hash terms log old runs nameless guard on call mid led).0
                 (begins.stands refl)
-
-            far_of : (how : HowFar) × (first.1.stands ≡ how) × TakenBy same hash 0 most_steps how played mid new
-            far_of = (first.1.stands, refl, took_it.4 is first.1 first.2)
-
-            goes : first.1.stands ≡ far_of.0 → TakenBy same hash 0 most_steps far_of.0 played mid new → RunsOn same hash terms log (entry_of (OneCall guard on call) played) new
-            goes e taken =
-                whole_on same hash wanted terms log old runs guard on call mid led took_it.3 stands_mid played new
-                (subst (λ (how : HowFar). TakenBy same hash 0 most_steps how played mid new) first.3 taken) first left plays
 
   -- and one by which a call just begins
   module _ (terms : Terms) (log : List (Entry K V)) (runs : Runs same hash terms log old) (own guard on : List ℕ) (call : Call K V) (steps : played.steps ≡ 0)

@@ -3,7 +3,7 @@ use Rattle.std.specs.Prelude.{◌≡◌, ◌≢◌, ◌⊎◌, ◌+◌, ℕ, zer
 use Rattle.std.specs.List.{remove}
 use Rattle.std.proofs.Common.{refl, ap, sym, subst, ◌∙◌, inl, inr, arith}
 use Rattle.std.proofs.lemmas.Bool.{cases_eq}
-use Rattle.papaya_histories.specs.Given.Seize.World.{World, Request, Begin, Step as StepsOn, Happens}
+use Rattle.papaya_histories.specs.Given.Seize.World.{World, Request, Begin, Step, Happens}
 use Rattle.papaya_histories.specs.Given.Tables.Nodes.{deferred_word}
 use Rattle.papaya_histories.specs.Given.Tables.declared.node.Node.{Node}
 use Rattle.papaya_histories.specs.Given.Tables.declared.setting.Setting.{Setting}
@@ -138,7 +138,7 @@ module _ {K V S : Type 0} (same : K → K → Bool) (hash : K → ℕ) (wanted :
     -- what a row hands over that begins with the step is noted
     pub noted_so : (request : Request) (begun : World (Node K V)) → HandsOver (leads map come.under its_here).0.setting i come.scene.world request
         → Happens deferred_word p.logged.executor.batch_size (Begin i request) come.scene.world begun
-        → Happens deferred_word p.logged.executor.batch_size (StepsOn i) begun (leads map come.under its_here).4.w2 → IsNoted (things_then (things_in log) mid) (known p.logged.notes) (slot_of i) request
+        → Happens deferred_word p.logged.executor.batch_size (Step i) begun (leads map come.under its_here).4.w2 → IsNoted (things_then (things_in log) mid) (known p.logged.notes) (slot_of i) request
     noted_so = wanted.noted name terms log event beginning map i c n mid come.now (known p.logged.notes) come.scene come.under come.midst p.logged.executor new.logged.executor come.shown.is_at step.said leads
 
     -- the guard of its call is where it was
