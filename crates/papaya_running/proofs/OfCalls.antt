@@ -9,6 +9,7 @@ pub mod Ends
 pub mod Taken
 pub mod Quiet
 pub mod Begun
+pub mod Told
 pub mod Whole
 pub mod Events
 pub mod Happens

@@ -25,12 +25,13 @@ use Rattle.papaya_histories.specs.Given.Schedules.Beginning.{at_work}
 use Rattle.papaya_histories.specs.Given.Schedules.Entry.{Entry, IfCall, acting, caller_of}
 use Rattle.papaya_histories.specs.Given.Schedules.Handing.{is_made, refuses as refuses_growth}
 use Rattle.papaya_histories.specs.Given.Schedules.InTurn.{ComesRight, is_kept_out}
-use Rattle.papaya_histories.specs.Given.Schedules.Model.{Thing, things_in}
+use Rattle.papaya_histories.specs.Given.Schedules.declared.effect.Thing.{Thing}
+use Rattle.papaya_histories.specs.Given.Schedules.Model.{things_in}
 use Rattle.papaya_histories.specs.Given.Schedules.Moment.{UnderWay as CallThere, Moment}
 use Rattle.papaya_histories.specs.Given.Schedules.Terms.{Terms, shards_of}
 use Rattle.papaya_histories.specs.Given.Schedules.Views.{reply_to}
 use Rattle.papaya_histories.specs.Given.Callers.Together.{UnderWay, HandsOver}
-use Rattle.papaya_histories.specs.Given.Effects.Effects.{effects_of, known_after}
+use Rattle.papaya_histories.specs.Given.Effects.Effects.{known_after}
 use Rattle.papaya_histories.specs.Given.Effects.Known.{Known, known}
 use Rattle.papaya_histories.specs.Given.Effects.declared.acting.Acting.TheVariants as acts
 use Rattle.papaya_histories.specs.Given.Executor.IsAt.{Scene, IsAt, slot_of}

@@ -6,7 +6,7 @@ ghost use Rattle.papaya_schedules.specs.Terms.{Terms};
 ghost use Rattle.papaya_histories.specs.Given.Hands.Asked.{as_told};
 ghost use Rattle.papaya_executor.specs.IsAt.{KeepsGiven};
 ghost use Rattle.papaya_scheduler.specs.Machines.{aborted_by};
-ghost use Rattle.papaya_scheduler.specs.Played.{Began, BeginsSo, MayPlay, PlaysAt, StandsFor};
+ghost use Rattle.papaya_scheduler.specs.Played.{Began, BeginsSo, MayPlay, PlaysAt, Replies, StandsFor, Stops};
 ghost use Rattle.papaya_scheduler.specs.Seen.{ready_place};
 
 use crate::caller::{Caller, Stands};
@@ -102,6 +102,7 @@ impl<K: Drop, V: Drop, S> Scheduler<K, V, S> {
         requires { (same : K → K → Bool) × (hash : K → ℕ) × MayPlay same hash (event.Replied caller.now reply) self.old }
         ensures steps { result.steps ≡ 0 }
         ensures plays { (same : K → K → Bool) (hash : K → ℕ) → PlaysAt same hash (event.Replied caller.now reply) result self.old self.new }
+        ensures told { (same : K → K → Bool) (hash : K → ℕ) → Replies same hash caller.now reply result self.old self.new }
         ensures given { KeepsGiven self.old.logged.executor self.new.logged.executor }
     {
         let Some(place) = self.calls.place_of(caller) else {
@@ -134,6 +135,7 @@ impl<K: Drop, V: Drop, S> Scheduler<K, V, S> {
         requires { (same : K → K → Bool) × (hash : K → ℕ) × MayPlay same hash (event.Stop caller.now) self.old }
         ensures steps { result.steps ≡ 0 }
         ensures plays { (same : K → K → Bool) (hash : K → ℕ) → PlaysAt same hash (event.Stop caller.now) result self.old self.new }
+        ensures stopped { (same : K → K → Bool) (hash : K → ℕ) → Stops same hash caller.now result self.old self.new }
         ensures given { KeepsGiven self.old.logged.executor self.new.logged.executor }
     {
         let Some(place) = self.place_of_ready(caller) else {

@@ -1,5 +1,5 @@
 -- A call begins: the event that begins it is legal, and the run goes on with it; and an event that goes on with it, too, is in its midst then.
-use Rattle.std.specs.Prelude.{◌≡◌, ◌≢◌, ℕ, Bool, true, false, List, [], ◌∷◌, Option, Some, None}
+use Rattle.std.specs.Prelude.{◌≡◌, ℕ, Bool, List, [], ◌∷◌, Some, None}
 use Rattle.std.specs.List.{AllByRecursion}
 use Rattle.std.proofs.Common.{refl, ap, sym, subst, ◌∙◌}
 use Rattle.papaya_histories.specs.Given.Seize.World.{Rests}
@@ -37,13 +37,12 @@ use Rattle.papaya_rows.proofs.Facts.{row_rests}
 use Rattle.papaya_scheduler.specs.Played.{HasBegun, IsPlayed, IsUnderWay}
 use Rattle.papaya_scheduler.specs.Seen.{Seen}
 use Rattle.papaya_scheduler.specs.declared.caller.Caller.{Caller}
-use Rattle.papaya_scheduler.specs.declared.caller.Callers.{Callers}
 use Rattle.papaya_scheduler.specs.declared.scheduler.Scheduler.{Scheduler}
 use Rattle.papaya_scheduler.proofs.Begins as beginning
 use Rattle.papaya_scheduler.proofs.Called.{begins_so, begun_call, is_begun_for, is_called}
 use Rattle.papaya_scheduler.proofs.Rights.{quiet}
 use Rattle.papaya_running.specs.OfCalls.{HaveShards, Runs, RunsOn}
-use Rattle.papaya_running.proofs.OfCalls.Scenes.{AreNamed, its_named, stands_in}
+use Rattle.papaya_running.proofs.OfCalls.Scenes.{AreNamed, stands_in}
 
 -- what is under way then is a call as it was called
 module _ {K V : Type 0} (same : K → K → Bool) (st : Standing K) (i : ℕ) where

@@ -1,15 +1,12 @@
 -- The effects of the steps of a call find what they must, if what is left of that is so of all of them.
-use Rattle.std.specs.Prelude.{◌≡◌, ◌+◌, ℕ, zero, suc, List, [], ◌++◌, Option, Some, option_map}
+use Rattle.std.specs.Prelude.{◌≡◌, ◌+◌, ℕ, Bool, zero, suc, List, [], ◌++◌, Option, Some, option_map}
 use Rattle.std.proofs.Common.{ap, sym, subst, ◌∙◌}
-use Rattle.papaya_histories.specs.Given.Tables.declared.setting.Setting.{Setting}
 use Rattle.papaya_histories.specs.Given.Schedules.declared.effect.Effect.{Effect}
 use Rattle.papaya_histories.specs.Given.Schedules.declared.event.Event.{Event}
 use Rattle.papaya_histories.specs.Given.Schedules.declared.outcome.Outcome.{Outcome}
-use Rattle.papaya_histories.specs.Given.Schedules.Effects.{with_effects}
 use Rattle.papaya_histories.specs.Given.Schedules.Entry.{ByCall, Entry, acting}
 use Rattle.papaya_histories.specs.Given.Schedules.Moment.{UnderWay as CallThere, Moment}
 use Rattle.papaya_histories.specs.Given.Schedules.Terms.{Terms, shards_of}
-use Rattle.papaya_histories.specs.Given.Schedules.Views.{call_of}
 use Rattle.papaya_histories.specs.Given.Effects.Known.{known}
 use Rattle.papaya_histories.specs.Given.Finishes.Maps.{Standing}
 use Rattle.papaya_histories.proofs.Given.Moments.After.{each_parts}
@@ -43,7 +40,7 @@ module _ {K V S : Type 0} (same : K → K → Bool) (hash : K → ℕ) (wanted :
     after_is = follows same hash wanted name terms log event beginning map i c place n mid after p new outcome come step
 
     -- the map of the call has as many shards as the terms say
-    mask_is : (standing : Standing K) → come.scene.maps map ≡ Some standing → standing.setting.mask + 1 ≡ shards_of terms
+    pub mask_is : (standing : Standing K) → come.scene.maps map ≡ Some standing → standing.setting.mask + 1 ≡ shards_of terms
     mask_is standing there =
         come.shards map standing.setting (sym (come.shown.is_at.maps map) ∙ ap (λ (o : Option (Standing K)). option_map (λ (x : Standing K). x.setting) o) there)
 

@@ -1,5 +1,5 @@
 -- An event of a call that is out of turn, or kept out, does nothing: it keeps its promises, and the run goes on with it.
-use Rattle.std.specs.Prelude.{◌≡◌, ◌+◌, ℕ, Bool, true, false, is_some, List, [], ◌∷◌, position, Option, Some, None}
+use Rattle.std.specs.Prelude.{◌≡◌, ◌+◌, ℕ, Bool, false, is_some, List, [], ◌∷◌, position, Option, Some, None}
 use Rattle.std.proofs.Common.{refl, ap, sym, subst, ◌∙◌, arith}
 use Rattle.papaya_histories.specs.Given.SeizeWords.declared.fault.Fault.TheVariants.{Busy}
 use Rattle.papaya_histories.specs.Given.Schedules.declared.event.Event.{Event}

@@ -15,11 +15,11 @@ use Rattle.papaya_histories.specs.Given.Callers.Together.{UnderWay}
 use Rattle.papaya_histories.specs.Given.Effects.Known.{known}
 use Rattle.papaya_histories.specs.Given.Executor.IsAt.{slot_of}
 use Rattle.papaya_finds.specs.Doing.{takes_steps}
-use Rattle.papaya_finds.specs.Parts.{FindAll, FindRest}
+use Rattle.papaya_finds.specs.Parts.{FindRest}
 use Rattle.papaya_legal.specs.Carried.{ComesAlone}
 use Rattle.papaya_legal.proofs.Calls.{call_events_begin_so}
 use Rattle.papaya_scheduler.specs.Played.{IsPlayed, entry_of}
-use Rattle.papaya_scheduler.specs.Seen.{Seen, is_named, kind_of}
+use Rattle.papaya_scheduler.specs.Seen.{Seen, is_named}
 use Rattle.papaya_scheduler.specs.declared.caller.Stands.TheVariants as far
 use Rattle.papaya_scheduler.specs.declared.played.Played.{Played}
 use Rattle.papaya_scheduler.specs.declared.scheduler.Scheduler.{Scheduler}
