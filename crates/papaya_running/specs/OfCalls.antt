@@ -19,7 +19,7 @@ use Rattle.papaya_histories.specs.Given.Schedules.declared.effect.Effect.{Effect
 use Rattle.papaya_histories.specs.Given.Schedules.declared.event.Event.{Event}
 use Rattle.papaya_histories.specs.Given.Schedules.declared.event.Event.TheVariants as event
 use Rattle.papaya_histories.specs.Given.Schedules.declared.outcome.Outcome.{Outcome}
-use Rattle.papaya_histories.specs.Given.Schedules.declared.outcome.Outcome.TheVariants.{Answered, Goes, Refused}
+use Rattle.papaya_histories.specs.Given.Schedules.declared.outcome.Outcome.TheVariants.{Answered, Done, Goes, Refused}
 use Rattle.papaya_histories.specs.Given.Schedules.After.{moment, moments_from}
 use Rattle.papaya_histories.specs.Given.Schedules.Beginning.{at_work}
 use Rattle.papaya_histories.specs.Given.Schedules.Entry.{Entry, IfCall, acting, caller_of}
@@ -122,12 +122,15 @@ abbrev pub TookOrBusy : {V : Type 0} → Played V → Type 0
 TookOrBusy played = (1 ≤ played.steps) ⊎ (played.outcome ≡ Refused Busy)
 
 module _ {K V : Type 0} where
-  -- Of which events this is said: of one by which a call goes on that is no walk asked for its next pair, if it has taken steps, or was out of turn; and of one by which a call has begun.
+  -- Of which events this is said: of one by which a call goes on that is no walk asked for its next pair, if it has taken steps, or was out of turn; and of one by which a call has
+  -- begun, has got a reply, or was given up.
   abbrev pub IsSaid : Event K V → Played V → Type 0
   IsSaid (event.Step caller refuse) played = TookOrBusy played
   IsSaid (event.Go caller refuse) played = TookOrBusy played
   IsSaid (event.OneCall guard name call) played = TookOrBusy played
   IsSaid (event.Begin caller guard name call) played = played.outcome ≡ Goes
+  IsSaid (event.Replied caller reply) played = played.outcome ≡ Goes
+  IsSaid (event.Stop caller) played = played.outcome ≡ Done
   IsSaid _ played = ⊥
 
 module _ {K V S : Type 0} (same : K → K → Bool) (hash : K → ℕ) where

@@ -1,23 +1,28 @@
 -- An event that is in turn, or kept out, keeps its promises, where this is said of it.
-use Rattle.std.specs.Prelude.{◌≡◌, ℕ, Bool, true, false, List, [], Result, Ok, Err, IfOk}
+use Rattle.std.specs.Prelude.{◌≡◌, ℕ, Bool, true, false, List, [], ◌∷◌, Result, Ok, Err, IfOk}
 use Rattle.std.proofs.Common.{refl, ap, sym, subst, ◌∙◌}
 use Rattle.papaya_histories.specs.Given.Executor.IsAt.{KeepsGiven}
 use Rattle.papaya_runs.specs.Stopped.{most_steps}
 use Rattle.papaya_schedules.specs.declared.call.Call.{Call}
+use Rattle.papaya_schedules.specs.declared.call.Reply.{Reply}
 use Rattle.papaya_schedules.specs.declared.event.Event.{Event}
 use Rattle.papaya_schedules.specs.declared.event.Event.TheVariants as event
+use Rattle.papaya_schedules.specs.declared.outcome.Outcome.TheVariants.{Done, Goes}
 use Rattle.papaya_schedules.specs.After.{moment}
-use Rattle.papaya_schedules.specs.InTurn.{IsKeptOut}
+use Rattle.papaya_schedules.specs.Entry.{Entry}
+use Rattle.papaya_schedules.specs.InTurn.{ComesRight, IsKeptOut}
 use Rattle.papaya_scheduler.specs.KeptOut.{PlaysKeptOut}
-use Rattle.papaya_scheduler.specs.Played.{Began, PlaysAt}
+use Rattle.papaya_scheduler.specs.Played.{Began, IsPlayed, PlaysAt, Replies, Stops}
 use Rattle.papaya_scheduler.specs.Turns.{keeps_out}
 use Rattle.papaya_scheduler.specs.declared.played.Played.{Played}
 use Rattle.papaya_scheduler.specs.declared.scheduler.Scheduler.{Scheduler}
 use Rattle.papaya_scheduler.proofs.KeptOut.{kept_out_is}
+use Rattle.papaya_scheduler.proofs.Rights.{entry_is}
 use Rattle.papaya_stepping.specs.Stepping.{PlaysOnAt, TookSteps, TookWhole}
 use Rattle.papaya_running.specs.Asked.{is_of_calls}
-use Rattle.papaya_running.specs.OfCalls.{IsSaid, KeepsAt, KeepsDue}
+use Rattle.papaya_running.specs.OfCalls.{IsSaid, KeepsAt, KeepsDue, RunsOn}
 use Rattle.papaya_running.proofs.OfCalls.Events.{begin_on, go_on, go_out, step_on, step_out, whole_goes_on, whole_out}
+use Rattle.papaya_running.proofs.OfCalls.Told.{stopped_on, told_on}
 
 -- it is said of events of calls alone
 pub said_of_calls : {K V : Type 0} (event : Event K V) (played : Played V) → IsSaid event played → is_of_calls event ≡ true
@@ -25,6 +30,8 @@ said_of_calls (event.Step caller refuse) played said = refl
 said_of_calls (event.Go caller refuse) played said = refl
 said_of_calls (event.OneCall guard name call) played said = refl
 said_of_calls (event.Begin caller guard name call) played said = refl
+said_of_calls (event.Replied caller reply) played said = refl
+said_of_calls (event.Stop caller) played said = refl
 said_of_calls _ played said = absurd said
 
 module _ {K V S : Type 0} (same : K → K → Bool) (hash : K → ℕ) (old new : Scheduler K V S) (happens : Event K V) where
@@ -54,8 +61,28 @@ module _ {K V S : Type 0} (same : K → K → Bool) (hash : K → ℕ) (old new 
       begin_on same hash old new played terms log runs own guard on call steps began given.1 left.right (plays terms log (record { played = runs.stands; in_turn = out })).played said)
   begin_if own guard on call is (Err x) steps plays began given = tt
 
+  pub told_keeps : (own : List ℕ) (reply : Reply V) → happens ≡ event.Replied own reply → (played : Played V) → played.steps ≡ 0 → PlaysAt same hash (event.Replied own reply) played old new
+      → Replies same hash own reply played old new → KeepsGiven old.logged.executor new.logged.executor → KeepsDue same hash happens played old new
+  told_keeps own reply is played steps plays told given = subst (λ (x : Event K V). KeepsDue same hash x played old new) (sym is) (λ said wanted terms log runs out left.
+      let it = told said in
+      let so = entry_is (event.Replied own reply) played Goes 0 [] said steps it.1 in
+      let on = plays terms log (record { played = runs.stands; in_turn = out }) in
+      subst (λ (e : Entry K V). RunsOn same hash terms log e new) (sym so)
+      (told_on same hash terms log old runs own new reply it.0 given.1 (subst (λ (e : Entry K V). ComesRight terms log e) so left.right)
+      (subst (λ (e : Entry K V). IsPlayed same hash terms (e ∷ log) new) so on.played)))
+
+  pub stop_keeps : (own : List ℕ) → happens ≡ event.Stop own → (played : Played V) → played.steps ≡ 0 → PlaysAt same hash (event.Stop own) played old new → Stops same hash own played old new
+      → KeepsGiven old.logged.executor new.logged.executor → KeepsDue same hash happens played old new
+  stop_keeps own is played steps plays stopped given = subst (λ (x : Event K V). KeepsDue same hash x played old new) (sym is) (λ said wanted terms log runs out left.
+      let it = stopped said in
+      let so = entry_is (event.Stop own) played Done 0 [] said steps it.1 in
+      let on = plays terms log (record { played = runs.stands; in_turn = out }) in
+      subst (λ (e : Entry K V). RunsOn same hash terms log e new) (sym so)
+      (stopped_on same hash terms log old runs own new it.0 given.1 (subst (λ (e : Entry K V). ComesRight terms log e) so left.right)
+      (subst (λ (e : Entry K V). IsPlayed same hash terms (e ∷ log) new) so on.played)))
+
   -- of any other event of a call nothing is said
-  pub unsaid : (played : Played V) (form : Event K V) → happens ≡ form → (IsSaid form played → ⊥) → KeepsDue same hash happens played old new
+  unsaid : (played : Played V) (form : Event K V) → happens ≡ form → (IsSaid form played → ⊥) → KeepsDue same hash happens played old new
   unsaid played form is never = λ said. absurd (never (subst (λ (x : Event K V). IsSaid x played) is said))
 
   pub unsaid_if : {X : Type 0} (form : Event K V) → happens ≡ form → ((played : Played V) → IsSaid form played → ⊥) → (result : Result (Played V) X) → IfOk result (λ played. KeepsDue same hash happens played old new)
@@ -82,6 +109,8 @@ module _ {K V S : Type 0} (same : K → K → Bool) (hash : K → ℕ) (happens 
       by (event.OneCall guard on call) busy so kept_so = λ said wanted terms log runs left.
           whole_out same hash old new played terms log runs busy none nothing logged_is calls_are guard on call left.right (so terms log runs.stands kept_so).played
       by (event.Begin own guard on call) busy so kept_so = λ said. absurd (cc (said, busy))
+      by (event.Replied own reply) busy so kept_so = λ said. absurd (cc (said, busy))
+      by (event.Stop own) busy so kept_so = λ said. absurd (cc (said, busy))
       by _ busy so kept_so = λ said. absurd said
 
   pub turn_keeps : {X : Type 0} (result : Result (Played V) X) → IfOk result (λ played. KeepsDue same hash happens played old new) → keeps_out happens old ≡ false

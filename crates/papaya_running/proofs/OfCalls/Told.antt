@@ -33,7 +33,7 @@ use Rattle.papaya_legal.specs.Carried.{ShowsRun}
 use Rattle.papaya_legal.proofs.Begun.{stopped_events_end, told_events_end}
 use Rattle.papaya_scheduler.specs.Machines.{IsAsFar}
 use Rattle.papaya_scheduler.specs.Played.{HasReplied, HasStopped, IsPlayed}
-use Rattle.papaya_scheduler.specs.Seen.{Seen, asks, fits, is_named, kind_of, kind_on, takes}
+use Rattle.papaya_scheduler.specs.Seen.{Seen, asks, fits, is_named, is_ready as is_ready_there, kind_of, kind_on, takes}
 use Rattle.papaya_scheduler.specs.declared.caller.Caller.{Caller}
 use Rattle.papaya_scheduler.specs.declared.caller.Stands.{Stands as HowFar}
 use Rattle.papaya_scheduler.specs.declared.caller.Stands.TheVariants as far
@@ -42,7 +42,7 @@ use Rattle.papaya_scheduler.specs.declared.scheduler.Scheduler.{Scheduler}
 use Rattle.papaya_scheduler.proofs.Here.{Here, here_at, read_here}
 use Rattle.papaya_scheduler.proofs.Replied.{asks_what, far_asks}
 use Rattle.papaya_scheduler.proofs.Rights.{quiet}
-use Rattle.papaya_scheduler.proofs.Stopped.{asked_ready, is_ready_there, ready_parts, shows_is}
+use Rattle.papaya_scheduler.proofs.Stopped.{asked_ready, ready_parts, shows_is}
 use Rattle.papaya_running.specs.OfCalls.{HaveShards, Runs, RunsOn}
 use Rattle.papaya_running.proofs.OfCalls.Scenes.{AreNamed, its_named, named_left, named_set, stands_in}
 
@@ -83,7 +83,7 @@ module _ {K V S : Type 0} (same : K → K → Bool) (hash : K → ℕ) (terms : 
     run_then : ShowsRun same name terms (e ∷ log) (known new.logged.notes) t
     run_then = subst (λ (k : Known). ShowsRun same name terms (e ∷ log) k t) (sym (ap known notes)) run
 
-    then_on : RunsOn same hash terms log e new
+    pub then_on : RunsOn same hash terms log e new
     then_on = record {
       legal = legal;
       runs = record {
