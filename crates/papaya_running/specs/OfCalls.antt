@@ -113,10 +113,9 @@ module _ (K V S : Type 0) (same : K → K → Bool) (hash : K → ℕ) where
       let told = outcome_of known2 (kind_of c.call) value said in
       ComesAs c.call told → TellsValue c.call c.replies told → ComesSo known2 c.call c.replies said told × TellsOf same log m map known2 said told c.call)
 
-  -- What is asked here of rows that begin within calls, and of those under way, and is had of no law yet.
+  -- What is asked here of rows that begin within calls, and is had of no law yet.
   pub record Wanted : Type 0 where
     pub noted : RowsHandNoted
-    pub insides : InsidesFollowInRows K V
 
 -- an event by which a call goes on has taken steps, or was out of turn: a call that asks, or is ready, and says so again, takes none
 abbrev pub TookOrBusy : {V : Type 0} → Played V → Type 0

@@ -1,11 +1,11 @@
 -- A slot that is within its section while a row of a call is under way was so as the row began: so it is active in the sets of the model, which such a row leaves active.
-use Rattle.std.specs.Prelude.{◌≡◌, ◌≢◌, ◌⊎◌, ◌≤◌, ℕ, zero, suc, List, [], ◌∷◌, Option}
+use Rattle.std.specs.Prelude.{◌≡◌, ◌≤◌, ℕ, zero, suc, List, [], ◌∷◌, Option}
 use Rattle.std.proofs.Common.{refl, ap, sym, subst, ◌∙◌, inl, inr}
 use Rattle.std.proofs.lemmas.Bool.{cases_eq}
 use Rattle.papaya_histories.specs.Given.SeizeWaiting.Held.{count}
 use Rattle.papaya_histories.specs.Given.SeizeWords.Mem.{Mem}
 use Rattle.papaya_histories.specs.Given.Seize.WaitingSets.{Change, Retires, Defers as PutsBehind, Sets, all_changed, size}
-use Rattle.papaya_histories.specs.Given.Seize.World.{World, Row, Rests, Registers, Enters, Settles, Leaves, Defers, Frees, Use, Vacant, Outside, Inside, Changing, IsInside, Request, Retire, Defer', Begins, Steps', one_less, one_more, with_at, settles_on, defers_on}
+use Rattle.papaya_histories.specs.Given.Seize.World.{World, Row, Rests, Settles, Defers, Use, Vacant, Outside, Inside, Changing, IsInside, Request, Retire, Defer', Begins, Steps', one_less, one_more, with_at, settles_on, defers_on}
 use Rattle.papaya_histories.specs.Given.Seize.declared.rows.settle.Settle.{Settle}
 use Rattle.papaya_histories.specs.Given.Seize.declared.rows.settle.Settled.{Settled}
 use Rattle.papaya_histories.specs.Given.Seize.declared.rows.settle.Settled.TheVariants as settled
