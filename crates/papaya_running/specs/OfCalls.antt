@@ -17,7 +17,7 @@ use Rattle.papaya_histories.specs.Given.Schedules.declared.call.Reply.{Reply}
 use Rattle.papaya_histories.specs.Given.Schedules.declared.call.Reply.TheVariants.{Aborts}
 use Rattle.papaya_histories.specs.Given.Schedules.declared.effect.Effect.{Effect}
 use Rattle.papaya_histories.specs.Given.Schedules.declared.event.Event.{Event}
-use Rattle.papaya_histories.specs.Given.Schedules.declared.event.Event.TheVariants as event
+use Rattle.papaya_histories.specs.Given.Schedules.declared.event.Event.TheVariants as events
 use Rattle.papaya_histories.specs.Given.Schedules.declared.outcome.Outcome.{Outcome}
 use Rattle.papaya_histories.specs.Given.Schedules.declared.outcome.Outcome.TheVariants.{Answered, Done, Goes, Refused}
 use Rattle.papaya_histories.specs.Given.Schedules.After.{moment, moments_from}
@@ -125,12 +125,12 @@ module _ {K V : Type 0} where
   -- Of which events in turn this is said: of one by which a call goes on that is no walk asked for its next pair, if it has taken steps, or was out of turn; of one that is to begin a call; and of
   -- one by which a call has got a reply, or a walk was given up.
   abbrev pub IsSaid : Event K V → Played V → Type 0
-  IsSaid (event.Step caller refuse) played = TookOrBusy played
-  IsSaid (event.Go caller refuse) played = TookOrBusy played
-  IsSaid (event.OneCall guard name call) played = TookOrBusy played
-  IsSaid (event.Begin caller guard name call) played = Unit {0}
-  IsSaid (event.Replied caller reply) played = played.outcome ≡ Goes
-  IsSaid (event.Stop caller) played = played.outcome ≡ Done
+  IsSaid (events.Step caller refuse) played = TookOrBusy played
+  IsSaid (events.Go caller refuse) played = TookOrBusy played
+  IsSaid (events.OneCall guard name call) played = TookOrBusy played
+  IsSaid (events.Begin caller guard name call) played = Unit {0}
+  IsSaid (events.Replied caller reply) played = played.outcome ≡ Goes
+  IsSaid (events.Stop caller) played = played.outcome ≡ Done
   IsSaid _ played = ⊥
 
 module _ {K V S : Type 0} (same : K → K → Bool) (hash : K → ℕ) where
