@@ -1,4 +1,6 @@
 mod Beginning
+mod Remaining
+pub mod OfCalls
 mod Ended
 mod Forms
 mod Happened

@@ -1,4 +1,4 @@
-mod AfterEffects
+pub mod AfterEffects
 mod Again
 mod AnySays
 mod AnyWaits
@@ -10,13 +10,13 @@ mod NextBegins
 mod NextEnds
 mod NextOn
 mod NextSays
-mod OneStep
+pub mod OneStep
 mod PlaysAgain
 mod PlaysSteps
-mod PlaysWhole
+pub mod PlaysWhole
 mod QuietCopies
 mod QuietWaits
-mod RightSteps
+pub mod RightSteps
 mod RoomSays
 mod RoomsWait
 mod StepSays

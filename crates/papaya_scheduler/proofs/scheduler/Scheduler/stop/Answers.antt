@@ -47,3 +47,21 @@ returns-in_default-clause-quiet g c = none_quiet c.busy.result.outcome c.busy.re
 
 pub returns-clause-quiet : goal.returns-clause-quiet
 returns-clause-quiet g c = none_quiet c.quietly.result.outcome c.quietly.result.effects.items c.quietly.ensures.effects
+
+pub returns-in_default-clause-stopped : goal.returns-in_default-clause-stopped
+returns-in_default-clause-stopped g c = λ same hash is. absurd (let busy = sym is ∙ c.busy.ensures.outcome in cc busy)
+
+pub returns-clause-stopped : goal.returns-clause-stopped
+returns-clause-stopped g c = λ same hash is. (
+  record {
+    place = c.in-Some.place;
+    ready = sym c.in-Some.is ∙ c.place_of_ready.ensures;
+    whose = c.index.result.now;
+    reads = c.index.ensures;
+    stopped = c.stop.result;
+    leads = λ s at. c.stop.ensures.stopped same hash s at;
+    calls = c.remove.ensures.items;
+    notes = c.stop.ensures.notes;
+  },
+  c.quietly.ensures.effects,
+)
