@@ -1,20 +1,25 @@
 -- Steps that ran lead on by one more.
-use Rattle.std.specs.Prelude.{◌≡◌, ℕ, suc, Bool, List, ◌++◌}
+use Rattle.std.specs.Prelude.{◌≡◌, ℕ, suc, Bool, false, List, ◌++◌, Some}
 use Rattle.std.proofs.Common.{refl}
 use Rattle.seize.specs.declared.progress.Progress.{Progress}
 use Rattle.seize.specs.declared.rows.reclaim_all.ReclaimAll.{ReclaimAll}
 use Rattle.seize.specs.declared.rows.settle.Settled.{Settled}
 use Rattle.papaya_histories.specs.Given.Tables.declared.node.Node.{Node}
 use Rattle.papaya_histories.specs.Given.Tables.declared.setting.Setting.{Setting}
+use Rattle.papaya_histories.specs.Given.Resize.declared.new_map.NewMap.{NewMap}
+use Rattle.papaya_raw.specs.declared.machines.end_map.EndMap.{EndMap}
 use Rattle.papaya_schedules.specs.declared.effect.Effect.{Effect}
 use Rattle.papaya_effects.specs.Effects.{effects_of, known_after}
 use Rattle.papaya_effects.specs.Known.{known}
 use Rattle.papaya_effects.specs.declared.acting.Acting.{Acting}
 use Rattle.papaya_effects.specs.declared.acting.Acting.TheVariants as acts
-use Rattle.papaya_executor.specs.IsAt.{Scene, KeepsGiven}
+use Rattle.papaya_executor.specs.IsAt.{Scene, KeepsGiven, ending_in, making_in, work_of}
 use Rattle.papaya_executor.specs.declared.row.RowTold.{RowTold}
+use Rattle.papaya_executor.specs.declared.row.SlotRow.{SlotRow}
+use Rattle.papaya_executor.specs.declared.worker.Work.TheVariants.{OnSlot}
 use Rattle.papaya_reclaiming.specs.Reclaiming.{IsReclaiming, ReclaimingLeads}
-use Rattle.papaya_logged.specs.Goes.{EndGoes, GoesTo, IsNotedAs, MakingGoes, ReclaimingGoes, RowGoes, StepsEnd, StepsMaking, far}
+use Rattle.papaya_logged.specs.Goes.{EndGoes, GoesTo, IsNotedAs, MakingGoes, ReclaimingGoes, ReclaimingOn, RowGoes, StepsEnd, StepsMaking, far}
+use Rattle.papaya_logged.specs.Ends.{is_done}
 use Rattle.papaya_logged.specs.OnSlots.{StepsOn}
 use Rattle.papaya_logged.specs.declared.logged.Logged.{Logged}
 
@@ -31,32 +36,39 @@ module _ {X : Type 0} (Goes : X → X → Type 0) where
 module _ {K V S : Type 0} (first old new : Logged K V S) (xs ys zs : List Effect) where
   module _ (acting : Acting) (did : zs ≡ ys ++ effects_of acting (known old.notes) new.executor.memory.changed)
       (noted : known new.notes ≡ known_after acting new.executor.memory.changed (known old.notes)) (given : KeepsGiven old.executor new.executor) where
-    noted_as : IsNotedAs acting (far ys old) (far zs new)
+    pub noted_as : IsNotedAs acting (far ys old) (far zs new)
     noted_as = record { did = did; noted = noted; given = given }
 
-  pub row_more : (i : ℕ) (said : RowTold (Node K V)) → GoesTo (RowGoes i) (far xs first) (far ys old) → zs ≡ ys ++ effects_of acts.Row (known old.notes) new.executor.memory.changed
+  pub row_more : (i : ℕ) (said : RowTold (Node K V)) → ((row : SlotRow) × (work_of old.executor i ≡ Some (OnSlot row))) → GoesTo (RowGoes i) (far xs first) (far ys old) → zs ≡ ys ++ effects_of acts.Row (known old.notes) new.executor.memory.changed
       → known new.notes ≡ known_after acts.Row new.executor.memory.changed (known old.notes) → KeepsGiven old.executor new.executor → StepsOn i said old.executor new.executor
       → GoesTo (RowGoes i) (far xs first) (far zs new)
-  row_more i said gone did noted given leads =
-      goes_more (RowGoes i) (far xs first) (far ys old) (far zs new) gone (record { is_noted = noted_as acts.Row did noted given; said = said; leads = leads })
+  row_more i said under gone did noted given leads =
+      goes_more (RowGoes i) (far xs first) (far ys old) (far zs new) gone (record { under = under; is_noted = noted_as acts.Row did noted given; said = said; leads = leads })
 
-  pub making_more : (i map : ℕ) (said : Progress Setting) → GoesTo (MakingGoes i map) (far xs first) (far ys old)
+  pub making_more : (i map : ℕ) (said : Progress Setting) → ((opening : NewMap) × (making_in (work_of old.executor i) ≡ Some (map, opening))) → GoesTo (MakingGoes i map) (far xs first) (far ys old)
       → zs ≡ ys ++ effects_of (acts.Making map) (known old.notes) new.executor.memory.changed → known new.notes ≡ known_after (acts.Making map) new.executor.memory.changed (known old.notes)
       → KeepsGiven old.executor new.executor → StepsMaking i said old.executor new.executor → GoesTo (MakingGoes i map) (far xs first) (far zs new)
-  making_more i map said gone did noted given leads =
-      goes_more (MakingGoes i map) (far xs first) (far ys old) (far zs new) gone (record { is_noted = noted_as (acts.Making map) did noted given; said = said; leads = leads })
+  making_more i map said under gone did noted given leads =
+      goes_more (MakingGoes i map) (far xs first) (far ys old) (far zs new) gone (record { under = under; is_noted = noted_as (acts.Making map) did noted given; said = said; leads = leads })
 
-  pub end_more : (i map : ℕ) (said : Settled (Node K V)) → GoesTo (EndGoes i map) (far xs first) (far ys old)
+  pub end_more : (i map : ℕ) (said : Settled (Node K V)) → ((ending : EndMap) × (ending_in (work_of old.executor i) ≡ Some ending)) → GoesTo (EndGoes i map) (far xs first) (far ys old)
       → zs ≡ ys ++ effects_of (acts.Ending map) (known old.notes) new.executor.memory.changed → known new.notes ≡ known_after (acts.Ending map) new.executor.memory.changed (known old.notes)
       → KeepsGiven old.executor new.executor → StepsEnd i said old.executor new.executor → GoesTo (EndGoes i map) (far xs first) (far zs new)
-  end_more i map said gone did noted given leads =
-      goes_more (EndGoes i map) (far xs first) (far ys old) (far zs new) gone (record { is_noted = noted_as (acts.Ending map) did noted given; said = said; leads = leads })
+  end_more i map said under gone did noted given leads =
+      goes_more (EndGoes i map) (far xs first) (far ys old) (far zs new) gone (record { under = under; is_noted = noted_as (acts.Ending map) did noted given; said = said; leads = leads })
 
-  pub all_more : (begun before after : ReclaimAll) (said : Settled (Node K V)) → GoesTo ReclaimingGoes (far xs first, begun) (far ys old, before)
+  pub all_more : (begun before after : ReclaimAll) (said : Settled (Node K V)) → is_done said ≡ false → GoesTo ReclaimingOn (far xs first, begun) (far ys old, before)
       → zs ≡ ys ++ effects_of acts.Row (known old.notes) new.executor.memory.changed → known new.notes ≡ known_after acts.Row new.executor.memory.changed (known old.notes)
       → KeepsGiven old.executor new.executor
       → ((same : K → K → Bool) (hash : K → ℕ) (s : Scene K V) (i : ℕ) (lists : ℕ → List ℕ) → IsReclaiming same hash old.executor s i lists before
       → ReclaimingLeads same hash s i lists old.executor new.executor before after said)
-      → GoesTo ReclaimingGoes (far xs first, begun) (far zs new, after)
-  all_more begun before after said gone did noted given leads =
-      goes_more ReclaimingGoes (far xs first, begun) (far ys old, before) (far zs new, after) gone (noted_as acts.Row did noted given, said, leads)
+      → GoesTo ReclaimingOn (far xs first, begun) (far zs new, after)
+  all_more begun before after said on gone did noted given leads =
+      goes_more ReclaimingOn (far xs first, begun) (far ys old, before) (far zs new, after) gone ((noted_as acts.Row did noted given, said, leads), on)
+
+  pub all_last : (before after : ReclaimAll) (said : Settled (Node K V)) → zs ≡ ys ++ effects_of acts.Row (known old.notes) new.executor.memory.changed
+      → known new.notes ≡ known_after acts.Row new.executor.memory.changed (known old.notes) → KeepsGiven old.executor new.executor
+      → ((same : K → K → Bool) (hash : K → ℕ) (s : Scene K V) (i : ℕ) (lists : ℕ → List ℕ) → IsReclaiming same hash old.executor s i lists before
+      → ReclaimingLeads same hash s i lists old.executor new.executor before after said)
+      → ReclaimingGoes (far ys old, before) (far zs new, after)
+  all_last before after said did noted given leads = (noted_as acts.Row did noted given, said, leads)

@@ -14,6 +14,7 @@ use Rattle.papaya_executor.specs.declared.row.SlotCall.{SlotCall}
 use Rattle.papaya_logged.specs.Ends.{EndRan}
 use Rattle.papaya_logged.specs.Goes.{EndGoes, GoesTo, MakingGone, far}
 use Rattle.papaya_logged.specs.Makings.{MakingRan}
+use Rattle.papaya_logged.specs.Roots.{MakingFinds}
 use Rattle.papaya_logged.specs.declared.logged.Logged.{Logged}
 use Rattle.papaya_rows.specs.Rows.{RowRan, RowRanOn}
 use Rattle.papaya_scheduler.specs.Works.{ComesBy, HasNoRow, IsAbout, IsItsRow, WorksOnSlot}
@@ -55,6 +56,9 @@ module _ {K V S : Type 0} (i map number : ℕ) (is : map ≡ number) (said : Pro
 
   pub run_as : MakingRan i map said before after began new → MakingRan i number (progress.Done setting) [] after began new
   run_as = so (λ n x xs. MakingRan i n x xs after began new)
+
+  pub finds_as : MakingFinds i map said before after began new → MakingFinds i number (progress.Done setting) [] after began new
+  finds_as = so (λ n x xs. MakingFinds i n x xs after began new)
 
   pub gone_as : MakingGone i map said before after began new → MakingGone i number (progress.Done setting) [] after began new
   gone_as = so (λ n x xs. MakingGone i n x xs after began new)

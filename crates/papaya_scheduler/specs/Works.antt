@@ -1,5 +1,5 @@
 -- What an event has done by a row on a slot, by the making of a map, or by the end of one: which steps ran.
-use Rattle.std.specs.Prelude.{◌≡◌, ◌≢◌, ◌⊎◌, ℕ, Bool, true, false, ◌==◌, List, [], length, is_some, option_map, Some}
+use Rattle.std.specs.Prelude.{◌≡◌, ◌≢◌, ◌<◌, ◌⊎◌, ℕ, Bool, true, false, ◌==◌, List, [], length, is_some, option_map, Some}
 use Rattle.std.specs.List.{list_any}
 use Rattle.seize.specs.declared.progress.Progress.TheVariants as progress
 use Rattle.seize_words.specs.declared.fault.Fault.{Fault}
@@ -7,12 +7,12 @@ use Rattle.papaya_histories.specs.Given.Tables.declared.node.Node.{Node}
 use Rattle.papaya_histories.specs.Given.Tables.declared.resize_mode.ResizeMode.{ResizeMode}
 use Rattle.papaya_histories.specs.Given.Tables.declared.setting.Setting.{Setting}
 use Rattle.papaya_runs.specs.Present.{Present, guard_of, guards_on, living_on, living_slot, registration_of}
-use Rattle.papaya_schedules.specs.declared.effect.Effect.{Effect}
 use Rattle.papaya_schedules.specs.declared.event.Event.{Event}
 use Rattle.papaya_schedules.specs.declared.event.Event.TheVariants.{Register, Unregister, Enter, Own, Refresh, Flush, DropGuard}
 use Rattle.papaya_schedules.specs.declared.outcome.Outcome.{Outcome}
 use Rattle.papaya_schedules.specs.declared.outcome.Outcome.TheVariants.{Done, Slot, Refused}
 use Rattle.papaya_schedules.specs.Moment.{Moment}
+use Rattle.papaya_calls.specs.Beginning.{IsFirstLen}
 use Rattle.papaya_executor.specs.IsAt.{Scene}
 use Rattle.papaya_executor.specs.declared.row.RowTold.{RowTold}
 use Rattle.papaya_executor.specs.declared.row.RowTold.TheVariants as told
@@ -21,6 +21,7 @@ use Rattle.papaya_executor.specs.declared.row.SlotCall.TheVariants as call
 use Rattle.papaya_logged.specs.Ends.{EndIsBegun, EndIsOver, EndRan}
 use Rattle.papaya_logged.specs.Goes.{EndGoes, GoesTo, MakingGone, far}
 use Rattle.papaya_logged.specs.Makings.{MakingIsBegun, MakingRan, MapIsThere}
+use Rattle.papaya_logged.specs.Roots.{MakingFinds}
 use Rattle.papaya_logged.specs.Shown.{IsShown}
 use Rattle.papaya_logged.specs.declared.logged.Logged.{Logged}
 use Rattle.papaya_rows.specs.Rows.{RowRan, left_as}
@@ -89,12 +90,14 @@ module _ {K V S : Type 0} (played : Played V) (old new : Scheduler K V S) where
       ⊎ ((called : SlotCall) × IsItsRow event old.there slot called × (said : RowTold (Node K V)) × ComesBy event said played.outcome
       × RowRan slot called said [] played.effects.items old.logged new.logged))))
 
-  -- The map of this number has been made, by such steps, with what it was to begin with.
+  -- A map has been made by the next number, by such steps, from what it was to begin with.
   pub record HasMadeMap (mode : ResizeMode) (capacity : ℕ) : Type 0 where
     pub caller : ℕ
     pub places : ℕ
     pub given : Setting
-    pub is_given : IsGivenFor mode places old given
+    pub first : IsFirstLen places
+    pub is_given : IsGivenFor mode places (record old { is_mapped = true }) given
+    pub some : 0 < old.logged.executor.roots
     pub setting : Setting
     pub began : Logged K V S
     pub begins : (same : K → K → Bool) (hash : K → ℕ) (name : ℕ → List ℕ) (m : Moment K V) (s : Scene K V) → IsShown same hash name m old.logged s
@@ -102,6 +105,7 @@ module _ {K V S : Type 0} (played : Played V) (old new : Scheduler K V S) where
     pub noted : began.notes ≡ old.logged.notes
     pub there : MapIsThere began
     pub ran : MakingRan caller (length old.logged.executor.maps.items) (progress.Done setting) [] played.effects.items began new.logged
+    pub finds : MakingFinds caller (length old.logged.executor.maps.items) (progress.Done setting) [] played.effects.items began new.logged
     pub gone : MakingGone caller (length old.logged.executor.maps.items) (progress.Done setting) [] played.effects.items began new.logged
 
   -- It was refused, and has done nothing; or its making was refused; or it was made. Callers are as they were.

@@ -42,7 +42,7 @@ pub returns-then-has_come-clause-goes : goal.returns-then-has_come-clause-goes
 returns-then-has_come-clause-goes g c =
     let e = c.in_ok-told.ensures in
     row_more c.args.self.now c.loop-self.self c.step_on_slot.new.self c.args.effects.now.items c.loop-self.effects.items c.step_on_slot.new.effects.items c.args.caller c.in_ok-told.told
-    c.loop-self.invariant.gone e.did e.noted c.step_on_slot.ensures.given e.steps
+    c.loop-self.invariant.under c.loop-self.invariant.gone e.did e.noted c.step_on_slot.ensures.given e.steps
 
 pub returns-then-has_come-clause-used : goal.returns-then-has_come-clause-used
 returns-then-has_come-clause-used g c =
@@ -91,7 +91,7 @@ loop-self-preserved g c =
       ran = on.ran;
       goes = (suc i.goes.0, (c.loop-self.self.executor, c.in_ok-told.told, i.goes.1, sym c.has_come.ensures ∙ c.if-has_come.false, e.steps));
       gone = row_more c.args.self.now c.loop-self.self c.step_on_slot.new.self c.args.effects.now.items c.loop-self.effects.items c.step_on_slot.new.effects.items c.args.caller c.in_ok-told.told
-          i.gone e.did e.noted c.step_on_slot.ensures.given e.steps;
+          i.under i.gone e.did e.noted c.step_on_slot.ensures.given e.steps;
       used = on.used;
       under = on.under;
       given = given_on c.args.self.now.executor c.loop-self.self.executor c.step_on_slot.new.self.executor c.loop-self.invariant.given c.step_on_slot.ensures.given;

@@ -11,7 +11,7 @@ use Rattle.papaya_schedules.specs.declared.event.Event.TheVariants.{MakeMap}
 use Rattle.papaya_schedules.specs.declared.outcome.Outcome.TheVariants.{Refused}
 use Rattle.papaya_scheduler.proofs.MapsMade.{has_fault, not_now, no_roots, may_run, not_made, made}
 use Rattle.papaya_scheduler.proofs.Rights.{so_played}
-use Rattle.papaya_scheduler.proofs.Works.{gone_as, run_as}
+use Rattle.papaya_scheduler.proofs.Works.{finds_as, gone_as, run_as}
 use Rattle.papaya_scheduler.proofs.scheduler.Scheduler.make_map.Goals as goal
 
 pub returns-in-Err-clause-plays : goal.returns-in-Err-clause-plays
@@ -100,7 +100,9 @@ returns-in_ok-push-in-Done-clause-works g c =
         caller = c.in_ok-caller.caller;
         places = c.in-Ok.places;
         given = c.setting_for-given.result;
+        first = c.in-Ok.ensures.first;
         is_given = c.setting_for-given.ensures;
+        some = (let ne = c.if-self-eq0.false in omega (arith, ne));
         setting = c.in-Done.field-0;
         began = c.begin_making.new.self;
         begins = λ same hash name m s shown. c.in_ok-caller.ensures.leads same hash name m s shown;
@@ -108,6 +110,8 @@ returns-in_ok-push-in-Done-clause-works g c =
         there = c.in_ok-caller.ensures.there;
         ran = run_as c.in_ok-caller.caller c.len-number.result _ count c.in_ok-told.told c.in-Done.field-0 c.in-Done.is c.no_effects-effects.result.items c.run_making.new.effects.items c.no_effects-effects.ensures
             c.begin_making.new.self c.run_making.new.self c.in_ok-told.ensures.ran;
+        finds = finds_as c.in_ok-caller.caller c.len-number.result _ count c.in_ok-told.told c.in-Done.field-0 c.in-Done.is c.no_effects-effects.result.items c.run_making.new.effects.items
+            c.no_effects-effects.ensures c.begin_making.new.self c.run_making.new.self c.in_ok-told.ensures.finds;
         gone = gone_as c.in_ok-caller.caller c.len-number.result _ count c.in_ok-told.told c.in-Done.field-0 c.in-Done.is c.no_effects-effects.result.items c.run_making.new.effects.items c.no_effects-effects.ensures
             c.begin_making.new.self c.run_making.new.self c.in_ok-told.ensures.gone;
       })),

@@ -1,5 +1,5 @@
 -- A guard that owns its slot.
-use Rattle.std.proofs.Common.{[], refl, sym, ap, ◌∙◌}
+use Rattle.std.proofs.Common.{true, [], refl, sym, ap, ◌∙◌}
 use Rattle.seize_words.specs.declared.fault.Fault.TheVariants.{Busy}
 use Rattle.papaya_schedules.specs.declared.event.Event.TheVariants.{Own}
 use Rattle.papaya_schedules.specs.declared.outcome.Outcome.TheVariants.{Refused}

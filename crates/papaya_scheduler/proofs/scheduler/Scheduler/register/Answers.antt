@@ -1,6 +1,6 @@
 -- A new registration.
 use Rattle.std.specs.Prelude.{[], is_some}
-use Rattle.std.proofs.Common.{refl, sym, ap, ◌∙◌}
+use Rattle.std.proofs.Common.{false, refl, sym, ap, ◌∙◌}
 use Rattle.seize_words.specs.declared.fault.Fault.TheVariants.{Busy}
 use Rattle.papaya_schedules.specs.declared.event.Event.TheVariants.{Register}
 use Rattle.papaya_schedules.specs.declared.outcome.Outcome.TheVariants.{Refused}
