@@ -32,7 +32,7 @@ module _ {K V S : Type 0} (event : Event K V) (old : Scheduler K V S) (played : 
     did_none done no_row none still = (calls, inr (slot, about, inl (done, no_row, none, still)))
 
     -- or its row has run there
-    module _ (called : SlotCall) (its : IsItsRow event old.there slot called) (before after : List Effect) (nothing : before ≡ []) (effects : played.effects.items ≡ after) (q : Logged K V S) (is : new.logged ≡ q) where
+    module _ (called : SlotCall) (its : IsItsRow event old slot called) (before after : List Effect) (nothing : before ≡ []) (effects : played.effects.items ≡ after) (q : Logged K V S) (is : new.logged ≡ q) where
       pub did_told : (said : RowTold (Node K V)) → ComesBy event said played.outcome → RowRan slot called said before after old.logged q → WorksOnSlot played old new event
       did_told said comes ran =
           (calls, inr (slot, about, inr (called, its, said, comes,

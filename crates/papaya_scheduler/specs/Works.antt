@@ -2,6 +2,9 @@
 use Rattle.std.specs.Prelude.{◌≡◌, ◌≢◌, ◌<◌, ◌⊎◌, ℕ, Bool, true, false, ◌==◌, List, [], length, is_some, option_map, Some}
 use Rattle.std.specs.List.{list_any}
 use Rattle.seize.specs.declared.progress.Progress.TheVariants as progress
+use Rattle.seize.specs.declared.states.TheConstants.{BATCH, HELD}
+use Rattle.seize_words.specs.Mem.{word_at}
+use Rattle.seize_words.specs.declared.at.At.TheVariants as at
 use Rattle.seize_words.specs.declared.fault.Fault.{Fault}
 use Rattle.papaya_histories.specs.Given.Tables.declared.node.Node.{Node}
 use Rattle.papaya_histories.specs.Given.Tables.declared.resize_mode.ResizeMode.{ResizeMode}
@@ -44,18 +47,19 @@ module _ {K V S : Type 0} where
   IsAbout (Flush guard) p slot = living_slot (guard_of guard p.there.guards) ≡ Some slot
   IsAbout _ p slot = ⊥
 
--- Which row is its work there: the first guard on a slot enters it, and the only one refreshes and leaves it.
-module _ {K V : Type 0} where
-  abbrev pub IsItsRow : Event K V → Present → ℕ → SlotCall → Type 0
-  IsItsRow (Register registration) there slot called = called ≡ call.Register false
-  IsItsRow (Own guard) there slot called = called ≡ call.Register true
-  IsItsRow (Unregister registration) there slot called = (called ≡ call.Unregister) × (guards_on slot there.guards ≡ 0)
-  IsItsRow (Enter guard registration) there slot called = (called ≡ call.Enter) × (guards_on slot there.guards ≡ 0)
-  IsItsRow (Refresh guard) there slot called = (called ≡ call.Refresh) × (guards_on slot there.guards ≡ 1)
-  IsItsRow (DropGuard guard) there slot called = (called ≡ left_as slot there) × (guards_on slot there.guards ≡ 1)
-  IsItsRow (Flush guard) there slot called = called ≡ call.Flush
-  IsItsRow _ there slot called = ⊥
+  -- Which row is its work there: the first guard on a slot enters it, and the only one refreshes and leaves it; a batch that is flushed is held by none.
+  abbrev pub IsItsRow : Event K V → Scheduler K V S → ℕ → SlotCall → Type 0
+  IsItsRow (Register registration) p slot called = called ≡ call.Register false
+  IsItsRow (Own guard) p slot called = called ≡ call.Register true
+  IsItsRow (Unregister registration) p slot called = (called ≡ call.Unregister) × (guards_on slot p.there.guards ≡ 0)
+  IsItsRow (Enter guard registration) p slot called = (called ≡ call.Enter) × (guards_on slot p.there.guards ≡ 0)
+  IsItsRow (Refresh guard) p slot called = (called ≡ call.Refresh) × (guards_on slot p.there.guards ≡ 1)
+  IsItsRow (DropGuard guard) p slot called = (called ≡ left_as slot p.there) × (guards_on slot p.there.guards ≡ 1)
+  IsItsRow (Flush guard) p slot called =
+      (called ≡ call.Flush) × ((word : ℕ) → word_at p.logged.executor.memory.memory (at.Slot slot BATCH) ≡ Some word → false ≡ (word == HELD))
+  IsItsRow _ p slot called = ⊥
 
+module _ {K V : Type 0} where
   -- and where others are on the slot there is none
   abbrev pub HasNoRow : Event K V → Present → ℕ → Type 0
   HasNoRow (Unregister registration) there slot = guards_on slot there.guards ≢ 0
@@ -87,7 +91,7 @@ module _ {K V S : Type 0} (played : Played V) (old new : Scheduler K V S) where
       × (((fault : Fault) × (played.outcome ≡ Refused fault) × DidNothing)
       ⊎ ((slot : ℕ) × IsAbout event old slot
       × (((played.outcome ≡ Done) × HasNoRow event old.there slot × DidNothing)
-      ⊎ ((called : SlotCall) × IsItsRow event old.there slot called × (said : RowTold (Node K V)) × ComesBy event said played.outcome
+      ⊎ ((called : SlotCall) × IsItsRow event old slot called × (said : RowTold (Node K V)) × ComesBy event said played.outcome
       × RowRan slot called said [] played.effects.items old.logged new.logged))))
 
   -- A map has been made by the next number, by such steps, from what it was to begin with.

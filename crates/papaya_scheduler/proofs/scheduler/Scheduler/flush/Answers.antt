@@ -65,5 +65,6 @@ returns-then-is_held-clause-works g c = did_refuse (Flush c.args.guard.now) c.ar
 
 pub returns-clause-works : goal.returns-clause-works
 returns-clause-works g c =
-    did_row (Flush c.args.guard.now) c.args.self.now _ c.in-Some.slot (sym c.slot_of_living.ensures ∙ c.in-Some.is) c.do_row.new.self (ap (λ p. p.calls) c.do_row.ensures.rest) call.Flush refl
+    did_row (Flush c.args.guard.now) c.args.self.now _ c.in-Some.slot (sym c.slot_of_living.ensures ∙ c.in-Some.is) c.do_row.new.self (ap (λ p. p.calls) c.do_row.ensures.rest) call.Flush
+    (refl, λ word is. sym c.if-is_held.false ∙ c.is_held.ensures word is)
     c.no_effects-effects.result.items c.do_row.new.effects.items c.no_effects-effects.ensures refl c.do_row.new.self.logged refl (λ said. refl) c.in_ok-do_row.ensures.ran
