@@ -6,7 +6,7 @@ use Rattle.papaya_histories.specs.Given.Runs.Present.{Present, guards_on, has_re
 use Rattle.papaya_histories.specs.Given.Schedules.declared.effect.Effect.{Effect}
 use Rattle.papaya_histories.specs.Given.Schedules.Effects.{with_effects}
 use Rattle.papaya_histories.specs.Given.Schedules.Moment.{Moment}
-use Rattle.papaya_histories.specs.Given.Executor.IsAt.{Scene, slot_of}
+use Rattle.papaya_histories.specs.Given.Executor.IsAt.{KeepsGiven, Scene, slot_of}
 use Rattle.papaya_histories.specs.Given.Executor.OnSlots.{MayBegin}
 use Rattle.papaya_histories.specs.Given.Executor.Rows.{begun_row, uses_begun}
 use Rattle.papaya_histories.specs.Given.Executor.declared.row.RowTold.{RowTold}
@@ -29,6 +29,7 @@ pub record RowRan {K V S : Type 0} (slot : ℕ) (called : SlotCall) (said : RowT
   pub began : Logged K V S
   pub begins : (same : K → K → Bool) (hash : K → ℕ) (name : ℕ → List ℕ) (m : Moment K V) (s : Scene K V) → IsShown same hash name m old s → OnSlotBegins same hash name m s called caller old began
   pub noted : began.notes ≡ old.notes
+  pub given : KeepsGiven old.executor began.executor
   pub goes : GoesTo (RowGoes caller) (far before began) (far after new)
   pub last : OnSlotLast caller said began.executor new.executor
   pub come : has_come said ≡ true

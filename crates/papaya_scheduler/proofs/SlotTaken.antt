@@ -89,6 +89,15 @@ module _ {K V S : Type 0} (same : K → K → Bool) (hash : K → ℕ) (terms : 
       by (inl (fault, is, why, asked)) = no_fault fault is
       by (inr (slot, is, first)) = no_slot slot is
 
+  -- and which fault it may be
+  pub which : ((slot : ℕ) × (said ≡ told.Registered slot)) ⊎ ((fault : Fault) × (said ≡ told.Refused fault) × ((fault ≡ Memory) ⊎ (fault ≡ SlotsUsedUp)))
+  which = by all.1
+    where
+      by : Ended said → ((slot : ℕ) × (said ≡ told.Registered slot)) ⊎ ((fault : Fault) × (said ≡ told.Refused fault) × ((fault ≡ Memory) ⊎ (fault ≡ SlotsUsedUp)))
+      by (inl (fault, is, inl (memory, room), asked)) = inr (fault, is, inl memory)
+      by (inl (fault, is, inr (used_up, none), asked)) = inr (fault, is, inr used_up)
+      by (inr (slot, is, first)) = inl (slot, is)
+
   abbrev begun : Register
   begun = record { slot = 0; enters = enters; stands = at.Begin }
 
