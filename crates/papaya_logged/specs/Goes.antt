@@ -22,7 +22,7 @@ use Rattle.papaya_executor.specs.declared.row.SlotRow.{SlotRow}
 use Rattle.papaya_executor.specs.declared.worker.Work.TheVariants.{OnSlot}
 use Rattle.papaya_reclaiming.specs.Reclaiming.{IsReclaiming, MayReclaim, NobodyHas, ReclaimingLeads}
 use Rattle.papaya_logged.specs.Ends.{is_done}
-use Rattle.papaya_logged.specs.Makings.{given_back}
+use Rattle.papaya_logged.specs.Makings.{given_back, is_over}
 use Rattle.papaya_logged.specs.OnSlots.{StepsOn}
 use Rattle.papaya_logged.specs.Shown.{IsShown}
 use Rattle.papaya_logged.specs.declared.logged.Logged.{Logged}
@@ -77,6 +77,13 @@ module _ {K V S : Type 0} where
     pub said : Settled (Node K V)
     pub leads : StepsEnd i said from.logged.executor to.logged.executor
 
+  -- after which they go on,
+  abbrev pub MakingOn : (i map : ℕ) → (from to : Far K V S) → Type 0
+  MakingOn i map from to = (step : MakingGoes i map from to) × (is_over step.said ≡ false)
+
+  abbrev pub EndOn : (i map : ℕ) → (from to : Far K V S) → Type 0
+  EndOn i map from to = (step : EndGoes i map from to) × (is_done step.said ≡ false)
+
   -- and one of reclaiming all, which is so far.
   abbrev pub ReclaimingGoes : (from to : Far K V S × ReclaimAll) → Type 0
   ReclaimingGoes from to =
@@ -95,8 +102,13 @@ module _ {K V S : Type 0} where
   -- A making has run by its steps, which told this at last; then its number was given back, if it was refused.
   abbrev pub MakingGone : (i map : ℕ) → Progress Setting → (before after : List Effect) → (old new : Logged K V S) → Type 0
   MakingGone i map told before after old new =
-      (mid : Logged K V S) × GoesTo (MakingGoes i map) (far before old) (far after mid) × (new.notes ≡ mid.notes) × (new.executor ≡ record mid.executor { maps = new.executor.maps })
+      (prev : Far K V S) × GoesTo (MakingOn i map) (far before old) prev × (mid : Logged K V S) × (step : MakingGoes i map prev (far after mid)) × (step.said ≡ told) × (new.notes ≡ mid.notes)
+      × (new.executor ≡ record mid.executor { maps = new.executor.maps })
       × (new.executor.maps.items ≡ given_back map told mid.executor.maps.items)
+
+  -- An end has run by its steps, of which the last one ended it.
+  abbrev pub EndGone : (i map : ℕ) → (before after : List Effect) → (old new : Logged K V S) → Type 0
+  EndGone i map before after old new = (prev : Far K V S) × GoesTo (EndOn i map) (far before old) prev × (step : EndGoes i map prev (far after new)) × (is_done step.said ≡ true)
 
   -- Reclaiming all has run by its steps, of which the last one ended it, from where it begins in whatever scene the executor is shown, and nobody has anything under way.
   abbrev pub ReclaimingGone : Bool → (before after : List Effect) → (old new : Logged K V S) → Type 0

@@ -11,7 +11,7 @@ ghost use Rattle.papaya_executor.specs.IsAt.{Scene, IsAt, IsEnding, KeepsGiven};
 ghost use Rattle.papaya_executor.specs.declared.worker.TheConstants.{SLOTS};
 ghost use Rattle.papaya_logged.specs.Back.{EndBringsBack};
 ghost use Rattle.papaya_logged.specs.Ends.{EndIsBegun, EndSteps, EndRan, EndIsOver, is_done};
-ghost use Rattle.papaya_logged.specs.Goes.{EndGoes, GoesTo, far};
+ghost use Rattle.papaya_logged.specs.Goes.{EndGone};
 ghost use Rattle.papaya_logged.specs.Shown.{IsShown};
 
 use crate::back::keep_settled;
@@ -84,7 +84,7 @@ impl<K: Drop, V: Drop, S> Logged<K, V, S> {
         requires { (same : K → K → Bool) × (hash : K → ℕ) × (s : Scene K V) × IsAt same hash self.old.executor s × IsEnding s caller }
         ensures ran { IfOk result (λ done. EndRan caller map true effects.old.items effects.new.items self.old self.new) }
         ensures over { IfOk result (λ done. EndIsOver self.new) }
-        ensures goes { IfOk result (λ done. GoesTo (EndGoes caller map) (far effects.old.items self.old) (far effects.new.items self.new)) }
+        ensures gone { IfOk result (λ done. EndGone caller map effects.old.items effects.new.items self.old self.new) }
         ensures back { IfOk result (λ done. EndBringsBack caller map effects.old.items effects.new.items self.old back.old.items back.new.items) }
         ensures given { KeepsGiven self.old.executor self.new.executor }
     {

@@ -12,7 +12,7 @@ use Rattle.papaya_schedules.specs.declared.outcome.Outcome.TheVariants.{Done, Re
 use Rattle.papaya_executor.specs.declared.row.RowTold.{RowTold}
 use Rattle.papaya_executor.specs.declared.row.SlotCall.{SlotCall}
 use Rattle.papaya_logged.specs.Ends.{EndRan}
-use Rattle.papaya_logged.specs.Goes.{EndGoes, GoesTo, MakingGone, far}
+use Rattle.papaya_logged.specs.Goes.{EndGone, MakingGone}
 use Rattle.papaya_logged.specs.Makings.{MakingRan}
 use Rattle.papaya_logged.specs.Roots.{MakingFinds}
 use Rattle.papaya_logged.specs.declared.logged.Logged.{Logged}
@@ -67,5 +67,5 @@ module _ {K V S : Type 0} (i number : ℕ) (before after : List Effect) (nothing
   pub end_ran_as : EndRan i number true before after began new → EndRan i number true [] after began new
   end_ran_as = subst (λ (xs : List Effect). EndRan i number true xs after began new) nothing
 
-  pub end_goes_as : GoesTo (EndGoes i number) (far before began) (far after new) → GoesTo (EndGoes i number) (far [] began) (far after new)
-  end_goes_as = subst (λ (xs : List Effect). GoesTo (EndGoes i number) (far xs began) (far after new)) nothing
+  pub end_gone_as : EndGone i number before after began new → EndGone i number [] after began new
+  end_gone_as = subst (λ (xs : List Effect). EndGone i number xs after began new) nothing

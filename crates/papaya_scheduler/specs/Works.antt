@@ -1,5 +1,5 @@
 -- What an event has done by a row on a slot, by the making of a map, or by the end of one: which steps ran.
-use Rattle.std.specs.Prelude.{◌≡◌, ◌≢◌, ◌<◌, ◌⊎◌, ℕ, Bool, true, false, ◌==◌, List, [], length, is_some, option_map, Some}
+use Rattle.std.specs.Prelude.{◌≡◌, ◌≢◌, ◌<◌, ◌⊎◌, ℕ, Bool, true, false, ◌==◌, List, [], length, is_some, option_map, Some, None, ◌+◌, ◌*◌}
 use Rattle.std.specs.List.{list_any}
 use Rattle.seize.specs.declared.progress.Progress.TheVariants as progress
 use Rattle.seize.specs.declared.states.TheConstants.{BATCH, HELD}
@@ -9,6 +9,7 @@ use Rattle.seize_words.specs.declared.fault.Fault.{Fault}
 use Rattle.papaya_histories.specs.Given.Tables.declared.node.Node.{Node}
 use Rattle.papaya_histories.specs.Given.Tables.declared.resize_mode.ResizeMode.{ResizeMode}
 use Rattle.papaya_histories.specs.Given.Tables.declared.setting.Setting.{Setting}
+use Rattle.papaya_runs.specs.Runs.{map_fault}
 use Rattle.papaya_runs.specs.Present.{Present, guard_of, guards_on, living_on, living_slot, registration_of}
 use Rattle.papaya_schedules.specs.declared.event.Event.{Event}
 use Rattle.papaya_schedules.specs.declared.event.Event.TheVariants.{Register, Unregister, Enter, Own, Refresh, Flush, DropGuard}
@@ -16,19 +17,20 @@ use Rattle.papaya_schedules.specs.declared.outcome.Outcome.{Outcome}
 use Rattle.papaya_schedules.specs.declared.outcome.Outcome.TheVariants.{Done, Slot, Refused}
 use Rattle.papaya_schedules.specs.Moment.{Moment}
 use Rattle.papaya_calls.specs.Beginning.{IsFirstLen}
-use Rattle.papaya_executor.specs.IsAt.{Scene}
+use Rattle.papaya_executor.specs.IsAt.{KeepsGiven, Scene, StaysGiven}
 use Rattle.papaya_executor.specs.declared.row.RowTold.{RowTold}
 use Rattle.papaya_executor.specs.declared.row.RowTold.TheVariants as told
 use Rattle.papaya_executor.specs.declared.row.SlotCall.{SlotCall}
+use Rattle.papaya_executor.specs.declared.worker.TheConstants.{SLOTS}
 use Rattle.papaya_executor.specs.declared.row.SlotCall.TheVariants as call
 use Rattle.papaya_logged.specs.Ends.{EndIsBegun, EndIsOver, EndRan}
-use Rattle.papaya_logged.specs.Goes.{EndGoes, GoesTo, MakingGone, far}
+use Rattle.papaya_logged.specs.Goes.{EndGone, MakingGone}
 use Rattle.papaya_logged.specs.Makings.{MakingIsBegun, MakingRan, MapIsThere}
 use Rattle.papaya_logged.specs.Roots.{MakingFinds}
 use Rattle.papaya_logged.specs.Shown.{IsShown}
 use Rattle.papaya_logged.specs.declared.logged.Logged.{Logged}
 use Rattle.papaya_rows.specs.Rows.{RowRan, left_as}
-use Rattle.papaya_scheduler.specs.Mapping.{IsGivenFor}
+use Rattle.papaya_scheduler.specs.Mapping.{IsGivenFor, may_make_of}
 use Rattle.papaya_scheduler.specs.Seen.{free_slot, number_named}
 use Rattle.papaya_scheduler.specs.declared.played.Played.{Played}
 use Rattle.papaya_scheduler.specs.declared.scheduler.Scheduler.{Scheduler}
@@ -95,8 +97,11 @@ module _ {K V S : Type 0} (played : Played V) (old new : Scheduler K V S) where
       × RowRan slot called said [] played.effects.items old.logged new.logged))))
 
   -- A map has been made by the next number, by such steps, from what it was to begin with.
-  pub record HasMadeMap (mode : ResizeMode) (capacity : ℕ) : Type 0 where
+  pub record HasMadeMap (own : List ℕ) (mode : ResizeMode) (capacity : ℕ) : Type 0 where
     pub caller : ℕ
+    pub fresh : caller ≡ length old.logged.executor.workers.items * SLOTS + 0
+    pub faultless : map_fault mode capacity ≡ None
+    pub free : may_make_of own old.given.is_one_map (length old.logged.executor.maps.items) old.maps.items ≡ true
     pub places : ℕ
     pub given : Setting
     pub first : IsFirstLen places
@@ -107,19 +112,21 @@ module _ {K V S : Type 0} (played : Played V) (old new : Scheduler K V S) where
     pub begins : (same : K → K → Bool) (hash : K → ℕ) (name : ℕ → List ℕ) (m : Moment K V) (s : Scene K V) → IsShown same hash name m old.logged s
         → MakingIsBegun same hash name m s given places caller old.logged began
     pub noted : began.notes ≡ old.logged.notes
+    pub stays : StaysGiven old.logged.executor began.executor
     pub there : MapIsThere began
     pub ran : MakingRan caller (length old.logged.executor.maps.items) (progress.Done setting) [] played.effects.items began new.logged
     pub finds : MakingFinds caller (length old.logged.executor.maps.items) (progress.Done setting) [] played.effects.items began new.logged
     pub gone : MakingGone caller (length old.logged.executor.maps.items) (progress.Done setting) [] played.effects.items began new.logged
 
   -- It was refused, and has done nothing; or its making was refused; or it was made. Callers are as they were.
-  abbrev pub WorksOnMap : ResizeMode → ℕ → Type 0
-  WorksOnMap mode capacity =
-      (new.calls ≡ old.calls) × (((fault : Fault) × (played.outcome ≡ Refused fault) × DidNothing) ⊎ (((fault : Fault) × (played.outcome ≡ Refused fault)) ⊎ ((played.outcome ≡ Done) × HasMadeMap mode capacity)))
+  abbrev pub WorksOnMap : List ℕ → ResizeMode → ℕ → Type 0
+  WorksOnMap own mode capacity =
+      (new.calls ≡ old.calls) × (((fault : Fault) × (played.outcome ≡ Refused fault) × DidNothing) ⊎ (((fault : Fault) × (played.outcome ≡ Refused fault)) ⊎ ((played.outcome ≡ Done) × HasMadeMap own mode capacity)))
 
   -- The map of this name has ended, by such steps: no call was on it.
   pub record HasEndedMap (own : List ℕ) : Type 0 where
     pub caller : ℕ
+    pub fresh : caller ≡ length old.logged.executor.workers.items * SLOTS + 0
     pub number : ℕ
     pub found : number_named own old.maps.items ≡ Some number
     pub free : list_any (λ d. d.map == number) old.calls.items.items ≡ false
@@ -127,9 +134,10 @@ module _ {K V S : Type 0} (played : Played V) (old new : Scheduler K V S) where
     pub begins : (same : K → K → Bool) (hash : K → ℕ) (name : ℕ → List ℕ) (m : Moment K V) (s : Scene K V) → IsShown same hash name m old.logged s
         → EndIsBegun same hash name m s number caller old.logged began
     pub noted : began.notes ≡ old.logged.notes
+    pub stays : KeepsGiven old.logged.executor began.executor
     pub ran : EndRan caller number true [] played.effects.items began new.logged
     pub over : EndIsOver new.logged
-    pub goes : GoesTo (EndGoes caller number) (far [] began) (far played.effects.items new.logged)
+    pub gone : EndGone caller number [] played.effects.items began new.logged
 
   -- or it was refused, and has done nothing
   abbrev pub WorksOnEnd : List ℕ → Type 0

@@ -9,7 +9,7 @@ use Rattle.papaya_scheduler.proofs.Backs.{none_came}
 use Rattle.papaya_scheduler.proofs.Maps.{stands_by}
 use Rattle.papaya_scheduler.proofs.MapsEnded.{not_there, has_calls, may_run, end_came, ended}
 use Rattle.papaya_scheduler.proofs.Rights.{so_played}
-use Rattle.papaya_scheduler.proofs.Works.{end_goes_as, end_ran_as}
+use Rattle.papaya_scheduler.proofs.Works.{end_gone_as, end_ran_as}
 use Rattle.papaya_scheduler.proofs.scheduler.Scheduler.end_map.Goals as goal
 
 pub returns-in_default-clause-plays : goal.returns-in_default-clause-plays
@@ -73,16 +73,18 @@ returns-clause-works g c = (
   refl,
   inr (refl, record {
     caller = c.in_ok-caller.caller;
+    fresh = c.in_ok-caller.ensures.number;
     number = c.in-Some.number;
     found = sym c.number_of.ensures ∙ c.in-Some.is;
     free = sym c.are_on.ensures ∙ c.if-are_on.false;
     began = c.begin_end.new.self;
     begins = λ same hash name m s shown. c.in_ok-caller.ensures.leads same hash name m s shown;
     noted = c.in_ok-caller.ensures.notes;
+    stays = c.begin_end.ensures.given;
     ran = end_ran_as c.in_ok-caller.caller c.in-Some.number c.no_effects-effects.result.items c.run_end.new.effects.items c.no_effects-effects.ensures c.begin_end.new.self c.run_end.new.self
         c.in_ok-run_end.ensures.ran;
     over = c.in_ok-run_end.ensures.over;
-    goes = end_goes_as c.in_ok-caller.caller c.in-Some.number c.no_effects-effects.result.items c.run_end.new.effects.items c.no_effects-effects.ensures c.begin_end.new.self c.run_end.new.self
-        c.in_ok-run_end.ensures.goes;
+    gone = end_gone_as c.in_ok-caller.caller c.in-Some.number c.no_effects-effects.result.items c.run_end.new.effects.items c.no_effects-effects.ensures c.begin_end.new.self c.run_end.new.self
+        c.in_ok-run_end.ensures.gone;
   }),
 )

@@ -98,6 +98,9 @@ returns-in_ok-push-in-Done-clause-works g c =
       refl,
       inr (inr (refl, record {
         caller = c.in_ok-caller.caller;
+        fresh = c.in_ok-caller.ensures.number;
+        faultless = c.in-Ok.ensures.none;
+        free = sym c.may_make.ensures ∙ c.if-not-may_make.false;
         places = c.in-Ok.places;
         given = c.setting_for-given.result;
         first = c.in-Ok.ensures.first;
@@ -107,6 +110,7 @@ returns-in_ok-push-in-Done-clause-works g c =
         began = c.begin_making.new.self;
         begins = λ same hash name m s shown. c.in_ok-caller.ensures.leads same hash name m s shown;
         noted = c.in_ok-caller.ensures.notes;
+        stays = c.begin_making.ensures.given;
         there = c.in_ok-caller.ensures.there;
         ran = run_as c.in_ok-caller.caller c.len-number.result _ count c.in_ok-told.told c.in-Done.field-0 c.in-Done.is c.no_effects-effects.result.items c.run_making.new.effects.items c.no_effects-effects.ensures
             c.begin_making.new.self c.run_making.new.self c.in_ok-told.ensures.ran;
