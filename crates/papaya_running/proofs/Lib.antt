@@ -7,3 +7,4 @@ mod Left
 mod MapsTold
 mod Singles
 pub mod OfRows
+pub mod OfEnds

@@ -149,10 +149,10 @@ module _ {K V S : Type 0} (same : K → K → Bool) (hash : K → ℕ) (terms : 
             (it.2 same hash stands.name m s1 shown_mid f here (at_same s.maps number None number refl) (begun no_call).3.0 (known mid.notes) (begun no_call).3.1 (λ b t. refl))
 
         module _ (new : Logged K V S) (before after : List Effect) (empty : before ≡ []) (ran : EndRan i number true before after mid new) (over : EndIsOver new) (are : AreApart m) where
-          pub did_is : after ≡ ran.0
+          did_is : after ≡ ran.0
           did_is = ran.1 ∙ ap (λ (xs : List Effect). xs ++ ran.0) empty
 
-          pub acts_on : acted_on {K = K} {V = V} (EndMap own) m ≡ Some number
+          acts_on : acted_on {K = K} {V = V} (EndMap own) m ≡ Some number
           acts_on = number_is same hash terms m p stands own ∙ found
 
           abbrev v : Moment K V

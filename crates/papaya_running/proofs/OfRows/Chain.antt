@@ -1,9 +1,9 @@
 -- The steps that a row took are a chain of steps from the scene in which it began.
-use Rattle.std.specs.Prelude.{◌≡◌, ℕ, zero, suc, Bool, List, ◌++◌, None}
+use Rattle.std.specs.Prelude.{◌≡◌, ℕ, zero, suc, Bool, List, [], ◌∷◌, ◌++◌, Option, None}
 use Rattle.std.proofs.Common.{refl, subst, ◌∙◌}
 use Rattle.papaya_histories.specs.Given.Seize.World.{Step}
 use Rattle.papaya_schedules.specs.declared.effect.Effect.{Effect}
-use Rattle.papaya_schedules.specs.Effects.{with_effects}
+use Rattle.papaya_schedules.specs.Effects.{with_effect, with_effects}
 use Rattle.papaya_schedules.specs.Moment.{Moment}
 use Rattle.papaya_schedules.specs.Terms.{Terms}
 use Rattle.papaya_effects.specs.Effects.{effects_of, known_after}
@@ -14,6 +14,11 @@ use Rattle.papaya_histories.specs.Given.Executor.declared.executor.Executor.{Exe
 use Rattle.papaya_histories.specs.Given.Others.Rows.{scene_then}
 use Rattle.papaya_logged.specs.Goes.{Far, GoesFor, RowGoes}
 use Rattle.papaya_legal.specs.Chains.{Chain, Come, RowSteps}
+
+-- no effect makes a map
+pub made_stays : {K V : Type 0} (caller : Option (List ℕ)) (acted : Option ℕ) (effects : List Effect) (m : Moment K V) → (with_effects caller acted effects m).made ≡ m.made
+made_stays caller acted [] m = refl
+made_stays caller acted (f ∷ effects) m = made_stays caller acted effects (with_effect caller acted f m)
 
 module _ {K V S : Type 0} where
   -- how far an event has come that has run so far, at this moment, in this scene
