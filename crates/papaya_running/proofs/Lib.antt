@@ -8,3 +8,4 @@ mod MapsTold
 mod Singles
 pub mod OfRows
 pub mod OfEnds
+pub mod OfMakings

@@ -3,13 +3,11 @@ use Rattle.std.specs.Prelude.{◌≡◌, ◌≢◌, ◌⊎◌, ◌<◌, ◌+◌,
 use Rattle.std.proofs.Common.{refl, sym, ap, subst, inl, inr, ◌∙◌, arith}
 use Rattle.std.proofs.lemmas.Bool.{cases_eq}
 use Rattle.std.proofs.lemmas.List.{append-nil}
-use Rattle.papaya_histories.specs.Given.Seize.World.{with_at}
 use Rattle.papaya_histories.specs.Given.Seize.declared.rows.settle.Settled.{Settled}
 use Rattle.papaya_histories.specs.Given.Seize.declared.rows.settle.Settled.TheVariants as settled
 use Rattle.papaya_histories.specs.Given.Runs.Same.{is_same}
 use Rattle.papaya_histories.specs.Given.Tables.Chunks.{is_incremental}
 use Rattle.papaya_histories.specs.Given.Tables.declared.node.Node.{Node}
-use Rattle.papaya_histories.specs.Given.Tables.declared.setting.Setting.{Setting}
 use Rattle.papaya_histories.proofs.Given.Callers.Together.At.{at_other, at_same}
 use Rattle.papaya_schedules.specs.declared.effect.Effect.{Effect}
 use Rattle.papaya_schedules.specs.declared.event.Event.{Event}
@@ -374,5 +372,5 @@ module _ {K V S : Type 0} (same : K → K → Bool) (hash : K → ℕ) (terms : 
 module _ {K V S : Type 0} (same : K → K → Bool) (hash : K → ℕ) (event : Event K V) (own : List ℕ) (is : event ≡ EndMap own) (old new : Scheduler K V S) where
   pub ends_keep : {X : Type 0} → (result : Result (Played V) X) → IfOk result (λ played. WorksOnEnd played old new own) → IfOk result (λ played. KeepsRun same hash event played old new)
   ends_keep (Ok played) works =
-      subst (λ (x : Event K V). KeepsRun same hash x played old new) (sym is) (λ of terms log holds run turn after left. map_end_keeps same hash terms log own played old new holds run turn after left works)
+      subst (λ (x : Event K V). KeepsRun same hash x played old new) (sym is) (λ of terms log holds run turn after left begun. map_end_keeps same hash terms log own played old new holds run turn after left works)
   ends_keep (Err x) works = tt
