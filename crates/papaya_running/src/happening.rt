@@ -3,6 +3,7 @@ ghost use Rattle.std.specs.Prelude.{◌≡◌, true, false, IfOk};
 ghost use Rattle.papaya_histories.specs.Given.Executor.IsAt.{StaysGiven, KeepsGiven};
 ghost use Rattle.papaya_running.specs.Asked.{HappensAt, HappensDue, MayHappen, MayHappenDue, is_of_calls, is_of_maps};
 ghost use Rattle.papaya_running.specs.Back.{GivesAt, GivesDue};
+ghost use Rattle.papaya_running.specs.OfCalls.{KeepsAt, KeepsDue};
 
 use papaya_raw::Hashes;
 use papaya_runs::record::Pair;
@@ -83,6 +84,7 @@ fn of_calls<K: Eq + Hash + Drop, V: Drop, S: Hashes<K>>(
     requires due { MayHappenDue K.eq (S.hash scheduler.old.logged.executor.hasher) event scheduler.old }
     requires calls { is_of_calls event ≡ true }
     ensures happens { IfOk result (λ played. HappensDue K.eq (S.hash scheduler.old.logged.executor.hasher) is_first event played scheduler.old scheduler.new) }
+    ensures keeps { IfOk result (λ played. KeepsDue K.eq (S.hash scheduler.old.logged.executor.hasher) event played scheduler.old scheduler.new) }
     ensures given { KeepsGiven scheduler.old.logged.executor scheduler.new.logged.executor }
 {
     match event {
@@ -143,6 +145,7 @@ pub fn happen<K: Eq + Hash + Drop, V: Drop, S: Hashes<K>>(
     requires { MayHappen K.eq (S.hash scheduler.old.logged.executor.hasher) scheduler.old }
     ensures happens { IfOk result (λ played. HappensAt K.eq (S.hash scheduler.old.logged.executor.hasher) is_first event played scheduler.old scheduler.new) }
     ensures back { IfOk result (λ played. GivesAt K.eq (S.hash scheduler.old.logged.executor.hasher) event played scheduler.old back.old.items back.new.items) }
+    ensures keeps { IfOk result (λ played. KeepsAt K.eq (S.hash scheduler.old.logged.executor.hasher) event played scheduler.old scheduler.new) }
     ensures given { StaysGiven scheduler.old.logged.executor scheduler.new.logged.executor }
 {
     if scheduler.keeps_out(&event) {

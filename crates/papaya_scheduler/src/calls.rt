@@ -6,7 +6,7 @@ ghost use Rattle.papaya_schedules.specs.Terms.{Terms};
 ghost use Rattle.papaya_histories.specs.Given.Hands.Asked.{as_told};
 ghost use Rattle.papaya_executor.specs.IsAt.{KeepsGiven};
 ghost use Rattle.papaya_scheduler.specs.Machines.{aborted_by};
-ghost use Rattle.papaya_scheduler.specs.Played.{BeginsSo, MayPlay, PlaysAt, StandsFor};
+ghost use Rattle.papaya_scheduler.specs.Played.{Began, BeginsSo, MayPlay, PlaysAt, Replies, StandsFor, Stops};
 ghost use Rattle.papaya_scheduler.specs.Seen.{ready_place};
 
 use crate::caller::{Caller, Stands};
@@ -85,6 +85,7 @@ impl<K: Eq + Hash + Drop, V: Drop, S: Hashes<K>> Scheduler<K, V, S> {
         requires { MayPlay K.eq (S.hash self.old.logged.executor.hasher) (event.Begin caller guard map.now call) self.old }
         ensures steps { IfOk result (λ played. played.steps ≡ 0) }
         ensures plays { IfOk result (λ played. PlaysAt K.eq (S.hash self.old.logged.executor.hasher) (event.Begin caller guard map.now call) played self.old self.new) }
+        ensures began { IfOk result (λ played. Began K.eq (S.hash self.old.logged.executor.hasher) caller guard map.now call played self.old self.new) }
         ensures given { KeepsGiven self.old.logged.executor self.new.logged.executor }
     {
         if self.begins(caller, guard, map, call)? {
@@ -101,6 +102,7 @@ impl<K: Drop, V: Drop, S> Scheduler<K, V, S> {
         requires { (same : K → K → Bool) × (hash : K → ℕ) × MayPlay same hash (event.Replied caller.now reply) self.old }
         ensures steps { result.steps ≡ 0 }
         ensures plays { (same : K → K → Bool) (hash : K → ℕ) → PlaysAt same hash (event.Replied caller.now reply) result self.old self.new }
+        ensures told { (same : K → K → Bool) (hash : K → ℕ) → Replies same hash caller.now reply result self.old self.new }
         ensures given { KeepsGiven self.old.logged.executor self.new.logged.executor }
     {
         let Some(place) = self.calls.place_of(caller) else {
@@ -133,6 +135,7 @@ impl<K: Drop, V: Drop, S> Scheduler<K, V, S> {
         requires { (same : K → K → Bool) × (hash : K → ℕ) × MayPlay same hash (event.Stop caller.now) self.old }
         ensures steps { result.steps ≡ 0 }
         ensures plays { (same : K → K → Bool) (hash : K → ℕ) → PlaysAt same hash (event.Stop caller.now) result self.old self.new }
+        ensures stopped { (same : K → K → Bool) (hash : K → ℕ) → Stops same hash caller.now result self.old self.new }
         ensures given { KeepsGiven self.old.logged.executor self.new.logged.executor }
     {
         let Some(place) = self.place_of_ready(caller) else {

@@ -1,5 +1,5 @@
 -- What a call comes to by its steps, how far it is then, and what is promised of that.
-use Rattle.std.specs.Prelude.{◌≡◌, ◌≤◌, ◌+◌, ◌⊎◌, ◌&&◌, ℕ, zero, suc, Bool, true, false, is_none, is_some, List, [], ◌∷◌, ◌++◌, position, slice_get, slice_set, sum_by, Option, Some, option_map, if◌then◌else◌}
+use Rattle.std.specs.Prelude.{◌≡◌, ◌≤◌, ◌+◌, ◌⊎◌, ◌&&◌, ℕ, zero, suc, Bool, true, false, is_none, is_some, List, [], ◌∷◌, ◌++◌, position, slice_get, slice_set, sum_by, Option, Some, None, option_map, if◌then◌else◌}
 use Rattle.std.specs.List.{list_any, remove}
 use Rattle.papaya_histories.specs.Given.SeizeWords.declared.fault.Fault.{Fault}
 use Rattle.papaya_histories.specs.Given.SeizeWords.declared.fault.Fault.TheVariants.{Busy, Capacity, Memory, RemoveNothing}
@@ -34,7 +34,7 @@ use Rattle.papaya_schedules.specs.Terms.{Terms}
 use Rattle.papaya_schedules.specs.Views.{call_of, grows_in_chunks, map_at, map_of}
 use Rattle.papaya_histories.specs.Given.Late.Faults.{IsRoom}
 use Rattle.papaya_histories.specs.Given.Effects.Known.{Known, known}
-use Rattle.papaya_histories.specs.Given.Executor.IsAt.{HasCall, IsAt, Scene}
+use Rattle.papaya_histories.specs.Given.Executor.IsAt.{HasCall, IsAt, KeepsGiven, Scene}
 use Rattle.papaya_histories.specs.Given.Executor.Stepping.{has_ended}
 use Rattle.papaya_histories.specs.Given.Follows.Calling.{come_to}
 use Rattle.papaya_logged.specs.Calling.{CallGoesOn}
@@ -200,6 +200,7 @@ module _ {K V S : Type 0} (same : K → K → Bool) (hash : K → ℕ) where
     pub outcome_is : outcome ≡ outcome_of (known new.logged.notes) caller.kind caller.value said
     pub calls : new.calls.items.items ≡ callers_then (known new.logged.notes) place caller said old.calls.items.items
     pub rest : new ≡ record old { logged = new.logged; calls = new.calls }
+    pub given : KeepsGiven old.logged.executor new.logged.executor
 
   -- So many steps were taken at this place, each of which let the call go on,
   abbrev pub GoneFor : (place steps : ℕ) → (before after : List Effect) → (old new : Scheduler K V S) → Type 0
@@ -230,6 +231,12 @@ module _ {K V S : Type 0} (same : K → K → Bool) (hash : K → ℕ) where
     pub leads : (name : ℕ → List ℕ) (m : Moment K V) (s : Scene K V) → IsShown same hash name m old.logged s
         → CallGoesOn same hash name m s caller.number caller.map said before after old.logged new.logged
     pub rest : new ≡ record old { logged = new.logged }
+    pub given : KeepsGiven old.logged.executor new.logged.executor
+
+  -- So many steps of the walk at this place were taken, each of which just went on.
+  abbrev pub WalkedFor : (place steps : ℕ) → (before after : List Effect) → (old new : Scheduler K V S) → Type 0
+  WalkedFor place zero before after old new = (before ≡ after) × (old ≡ new)
+  WalkedFor place (suc n) before after old new = (mid : List Effect) × (p : Scheduler K V S) × WalkedFor place n before mid old p × IsStepOf place progress.Goes mid after p new
 
   -- What a scheduler is asked at whose place a walk was asked for its next pair,
   abbrev pub MayWalk : ℕ → Scheduler K V S → Type 0
@@ -241,6 +248,7 @@ module _ {K V S : Type 0} (same : K → K → Bool) (hash : K → ℕ) where
       (said ≡ progress.Goes → ⊥)
       × (n : ℕ) × (steps ≡ n + 1) × (mid : List Effect) × (p : Scheduler K V S) × IsStepOf place said mid after p new
       × ((terms : Terms) (m : Moment K V) (own : List ℕ) → StandsAs (WalksFar own 0) same hash terms m old → ReadyAt own place old → IsMidWalk same hash terms own place m n before mid p)
+      × (k : ℕ) × (steps ≡ k + 1) × WalkedFor place k before mid old p
 
   -- A call stands at this place, however far it is: one that asks, or is ready, says so again, and one that goes on takes steps.
   abbrev pub StandsAt : ℕ → Scheduler K V S → Type 0
@@ -257,14 +265,17 @@ module _ {K V S : Type 0} (same : K → K → Bool) (hash : K → ℕ) where
   abbrev pub TakenAs : (place most : ℕ) → Played V → (old new : Scheduler K V S) → Type 0
   TakenAs place most played old new = (d : Caller V) → slice_get old.calls.items.items place ≡ Some d → TakenBy place most d.stands played old new
 
-  -- The call of this name, if it is there, has taken steps so; and so has one without a name that has begun.
+  -- The call of this name, if it is there, has taken steps so; and so has one without a name that has begun. Else nothing has happened.
   abbrev pub TookSteps : (most : ℕ) → List ℕ → Played V → (old new : Scheduler K V S) → Type 0
-  TookSteps most own played old new = (place : ℕ) → Some place ≡ position (is_named own) old.calls.items.items → TakenAs place most played old new
+  TookSteps most own played old new =
+      ((place : ℕ) → Some place ≡ position (is_named own) old.calls.items.items → TakenAs place most played old new)
+      × (position (is_named own) old.calls.items.items ≡ None → SaysAgain (Refused Busy) played old new)
 
   abbrev pub TookWhole : (guard name : List ℕ) → Call K V → Played V → (old new : Scheduler K V S) → Type 0
   TookWhole guard name call played old new =
       (terms : Terms) (m : Moment K V) → StandsFor same hash terms m old
-      → (begun : Bool) × (mid : Scheduler K V S) × BeginsSo same hash terms m nameless guard name call begun old mid × (begun ≡ true → TakenAs 0 most_steps played mid new)
+      → (begun : Bool) × (mid : Scheduler K V S) × BeginsSo same hash terms m nameless guard name call begun old mid
+      × (mid.logged.executor.batch_size ≡ old.logged.executor.batch_size) × (begun ≡ true → TakenAs 0 most_steps played mid new) × (begun ≡ false → SaysAgain (Refused Busy) played mid new)
 
   -- What is promised of an event by which a call goes on: the scheduler has played the log with it; it comes to what is right, where it does so in its case; it makes as many steps as it may, and
   -- does not more.

@@ -2,6 +2,7 @@
 use Rattle.std.proofs.Common.{refl, sym, ap, ◌∙◌}
 use Rattle.papaya_running.proofs.Gives.{calls_reclaim_none, gave_in_turn, gave_none_if, gave_out}
 use Rattle.papaya_running.proofs.Happened.{in_turn_if, out_so, stays_out}
+use Rattle.papaya_running.proofs.OfCalls.Happens.{other_keeps, out_keeps, turn_keeps}
 use Rattle.papaya_running.proofs.happening.happen.Goals as goal
 
 pub returns-then-keeps_out : goal.returns-then-keeps_out
@@ -11,6 +12,9 @@ returns-then-keeps_out g c = record {
       c.refuse.ensures.outcome c.refuse.ensures.steps c.refuse.ensures.effects
       (c.refuse.ensures.plays g.K.PartialEq.eq (g.S.Hashes.hash c.args.scheduler.now.logged.executor.hasher)) (sym c.keeps_out.ensures ∙ c.if-keeps_out.true);
   back = gave_out g.K.PartialEq.eq (g.S.Hashes.hash c.args.scheduler.now.logged.executor.hasher) c.args.event c.args.scheduler.now c.refuse.result c.args.back.now.items c.refuse.ensures.effects;
+  keeps =
+      out_keeps g.K.PartialEq.eq (g.S.Hashes.hash c.args.scheduler.now.logged.executor.hasher) c.args.event c.args.scheduler.now c.refuse.new.self _ c.refuse.ensures.mapped c.refuse.result c.refuse.ensures.outcome c.refuse.ensures.steps
+      c.refuse.ensures.effects (c.refuse.ensures.plays g.K.PartialEq.eq (g.S.Hashes.hash c.args.scheduler.now.logged.executor.hasher)) (sym c.keeps_out.ensures ∙ c.if-keeps_out.true);
   given = (ap (λ p. p.logged.executor.hasher) c.refuse.ensures.mapped, ap (λ p. p.logged.executor.batch_size) c.refuse.ensures.mapped, ap (λ p. p.logged.executor.roots) c.refuse.ensures.mapped);
 }
 
@@ -30,6 +34,8 @@ returns-then-is_of_calls g c = record {
       gave_in_turn g.K.PartialEq.eq (g.S.Hashes.hash c.args.scheduler.now.logged.executor.hasher) c.args.event c.args.scheduler.now c.of_calls.result c.args.back.now.items c.args.back.now.items
       (gave_none_if g.K.PartialEq.eq (g.S.Hashes.hash c.args.scheduler.now.logged.executor.hasher) c.args.event c.args.event refl c.args.scheduler.now
       (calls_reclaim_none c.args.event (sym c.is_of_calls.ensures ∙ c.if-is_of_calls.true)) c.of_calls.result c.args.back.now.items) (sym c.keeps_out.ensures ∙ c.if-keeps_out.false);
+  keeps = turn_keeps g.K.PartialEq.eq (g.S.Hashes.hash c.args.scheduler.now.logged.executor.hasher) c.args.event c.args.scheduler.now c.of_calls.new.scheduler c.of_calls.result c.of_calls.ensures.keeps
+      (sym c.keeps_out.ensures ∙ c.if-keeps_out.false);
   given = (c.of_calls.ensures.given.0, c.of_calls.ensures.given.1, c.of_calls.ensures.given.2);
 }
 
@@ -48,6 +54,7 @@ returns-then-is_of_maps g c = record {
   back =
       gave_in_turn g.K.PartialEq.eq (g.S.Hashes.hash c.args.scheduler.now.logged.executor.hasher) c.args.event c.args.scheduler.now c.of_maps.result c.args.back.now.items c.of_maps.new.back.items c.of_maps.ensures.back
       (sym c.keeps_out.ensures ∙ c.if-keeps_out.false);
+  keeps = other_keeps g.K.PartialEq.eq (g.S.Hashes.hash c.args.scheduler.now.logged.executor.hasher) c.args.event c.args.scheduler.now c.of_maps.new.scheduler (sym c.is_of_calls.ensures ∙ c.if-is_of_calls.false) c.of_maps.result;
   given = c.of_maps.ensures.given;
 }
 
@@ -67,5 +74,6 @@ returns g c = record {
   back =
       gave_in_turn g.K.PartialEq.eq (g.S.Hashes.hash c.args.scheduler.now.logged.executor.hasher) c.args.event c.args.scheduler.now c.of_slots.result c.args.back.now.items c.of_slots.new.back.items c.of_slots.ensures.back
       (sym c.keeps_out.ensures ∙ c.if-keeps_out.false);
+  keeps = other_keeps g.K.PartialEq.eq (g.S.Hashes.hash c.args.scheduler.now.logged.executor.hasher) c.args.event c.args.scheduler.now c.of_slots.new.scheduler (sym c.is_of_calls.ensures ∙ c.if-is_of_calls.false) c.of_slots.result;
   given = (c.of_slots.ensures.given.0, c.of_slots.ensures.given.1, c.of_slots.ensures.given.2);
 }

@@ -40,3 +40,21 @@ returns-clause-plays g c =
     (subst (λ (n : ℕ). WalkStops same hash due.played.name (moment log) due.played.scene n c.stop.result c.args.self.now.logged c.stop.new.self) numbered
     (c.stop.ensures.leads same hash due.played.name (moment log) due.played.scene due.played.shown))
     (record { items = c.remove.new.self }) c.remove.ensures.items)
+
+pub returns-in_default-clause-stopped : goal.returns-in_default-clause-stopped
+returns-in_default-clause-stopped g c = λ same hash is. absurd (let busy = sym is ∙ c.busy.ensures.outcome in cc busy)
+
+pub returns-clause-stopped : goal.returns-clause-stopped
+returns-clause-stopped g c = λ same hash is. (
+  record {
+    place = c.in-Some.place;
+    ready = sym c.in-Some.is ∙ c.place_of_ready.ensures;
+    whose = c.index.result.now;
+    reads = c.index.ensures;
+    stopped = c.stop.result;
+    leads = λ s at. c.stop.ensures.stopped same hash s at;
+    calls = c.remove.ensures.items;
+    notes = c.stop.ensures.notes;
+  },
+  c.quietly.ensures.effects,
+)
