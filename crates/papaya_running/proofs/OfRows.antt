@@ -53,6 +53,7 @@ use Rattle.papaya_running.proofs.OfRows.Quiet.{none_still, refused_still, still_
 pub mod Chain
 pub mod Facts
 pub mod Quiet
+pub mod Kept
 pub mod Lone
 
 module _ {K V : Type 0} where
