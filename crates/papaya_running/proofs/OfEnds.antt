@@ -1,5 +1,6 @@
 -- An event that ends a map keeps its promises, and a run goes on with it.
-use Rattle.std.specs.Prelude.{◌≡◌, ◌≢◌, ◌⊎◌, ◌<◌, ◌+◌, ◌^◌, ◌++◌, ℕ, zero, suc, Bool, true, false, List, [], ◌∷◌, Option, Some, None, option_map, Result, Ok, Err, IfOk}
+use Rattle.std.specs.Prelude.{◌≡◌, ◌≢◌, ◌⊎◌, ◌<◌, ◌+◌, ◌-◌, ◌^◌, ◌++◌, ℕ, zero, suc, Bool, true, false, List, [], ◌∷◌, map as each, Option, Some, None, option_map, Result, Ok, Err, IfOk}
+use Rattle.std.specs.List.{list_all}
 use Rattle.std.proofs.Common.{refl, sym, ap, subst, inl, inr, ◌∙◌, arith}
 use Rattle.std.proofs.lemmas.Bool.{cases_eq}
 use Rattle.std.proofs.lemmas.List.{append-nil}
@@ -10,13 +11,14 @@ use Rattle.papaya_histories.specs.Given.Tables.Chunks.{is_incremental}
 use Rattle.papaya_histories.specs.Given.Tables.declared.node.Node.{Node}
 use Rattle.papaya_histories.proofs.Given.Callers.Together.At.{at_other, at_same}
 use Rattle.papaya_schedules.specs.declared.effect.Effect.{Effect}
+use Rattle.papaya_schedules.specs.declared.effect.Effect.TheVariants.{Ended}
 use Rattle.papaya_schedules.specs.declared.event.Event.{Event}
 use Rattle.papaya_schedules.specs.declared.event.Event.TheVariants.{EndMap}
 use Rattle.papaya_schedules.specs.declared.outcome.Outcome.TheVariants.{Done, Refused}
 use Rattle.papaya_schedules.specs.After.{moment}
 use Rattle.papaya_schedules.specs.Effects.{AtEachEffect, with_effects, worked}
 use Rattle.papaya_schedules.specs.Entry.{Entry}
-use Rattle.papaya_schedules.specs.Handing.{EndsMap, EndsNamed, IsWhole}
+use Rattle.papaya_schedules.specs.Handing.{EndsMap, EndsNamed, IsWhole, may_do}
 use Rattle.papaya_schedules.specs.InTurn.{ComesRight, is_kept_out}
 use Rattle.papaya_schedules.specs.Lives.{Finds}
 use Rattle.papaya_schedules.specs.Moment.{MapThere, Moment}
@@ -31,8 +33,10 @@ use Rattle.papaya_histories.specs.Given.Executor.declared.executor.Executor.{Exe
 use Rattle.papaya_histories.specs.Given.Finishes.Endings.{Finishing, finishing_of}
 use Rattle.papaya_histories.specs.Given.Finishes.FactsEnds.{taken_by as taken_of}
 use Rattle.papaya_histories.specs.Given.Finishes.Maps.{Standing}
+use Rattle.papaya_histories.specs.Given.Finishes.Orders.{pairs_of}
+use Rattle.papaya_histories.specs.Given.Rule.Chart.{Chart}
 use Rattle.papaya_histories.specs.Given.Moments.Endings.{IsOfIts}
-use Rattle.papaya_histories.specs.Given.Moments.WholeEnds.{all_ended}
+use Rattle.papaya_histories.specs.Given.Moments.WholeEnds.{all_ended, tables_ended}
 use Rattle.papaya_histories.specs.Given.Others.Endings.{ending_after}
 use Rattle.papaya_executor.proofs.Fresh.{no_ending_yet}
 use Rattle.papaya_legal.specs.CallEvents.{IsLegalBut}
@@ -63,6 +67,19 @@ use Rattle.papaya_running.proofs.OfCalls.Scenes.{AreNamed, its_named, stands_in}
 use Rattle.papaya_running.proofs.OfRows.Chain.{come_as, come_by, made_stays}
 use Rattle.papaya_running.proofs.OfRows.Lone.{alone_follows}
 use Rattle.papaya_running.proofs.OfRows.Quiet.{refused_still, still_keeps}
+
+-- What an end does it may do: pairs end with their map, and then its tables.
+module _ {K V : Type 0} (own : List ℕ) (m : Moment K V) where
+  tables_may : (of t more : ℕ) → list_all (may_do (EndMap own) m) (tables_ended of t more) ≡ true
+  tables_may of t zero = refl
+  tables_may of t (suc more) = tables_may of (suc t) more
+
+  pairs_may : (number : ℕ → ℕ) (ps : List ℕ) (rest : List Effect) → list_all (may_do (EndMap own) m) rest ≡ true → list_all (may_do (EndMap own) m) (each (λ n. Ended (number n)) ps ++ rest) ≡ true
+  pairs_may number [] rest so = so
+  pairs_may number (n ∷ ps) rest so = pairs_may number ps rest so
+
+  all_may : (incremental : Bool) (of : ℕ) (number : ℕ → ℕ) (c : Chart K) → list_all (may_do (EndMap own) m) (all_ended incremental of number c) ≡ true
+  all_may incremental of number c = pairs_may number (pairs_of incremental c) (tables_ended of c.first (c.past - c.first)) (tables_may of c.first (c.past - c.first))
 
 -- By what a step of an end told: which maps stand then, and what goes on.
 module _ {K V S : Type 0} (same : K → K → Bool) (hash : K → ℕ) (s : Scene K V) (old new : Executor K V S) (i : ℕ) (f : Finishing K V) (here : s.enders i ≡ Some f) where
@@ -322,6 +339,11 @@ module _ {K V S : Type 0} (same : K → K → Bool) (hash : K → ℕ) (terms : 
         subst (λ (o : Option ℕ). EndsNamed o effects m (with_effects None o effects m)) (sym acts_so)
         (subst (λ (fs : List Effect). EndsMap map fs m (with_effects None (Some map) fs m)) (sym (did_all ∙ u.6 refl refl)) (begun none_on).3.2)
 
+    may_end : list_all (may_do (EndMap own) m) effects ≡ true
+    may_end =
+        subst (λ (fs : List Effect). list_all (may_do (EndMap own) m) fs ≡ true) (sym (did_all ∙ u.6 refl refl))
+        (all_may own m (is_incremental standing.setting.mode) map number standing.chart)
+
     finds : AtEachEffect (Finds terms None (Some map) false []) None (Some map) effects m
     finds =
         subst (λ (o : Option ℕ). AtEachEffect (Finds terms None o false []) None o effects m) acts_so left.finds
@@ -329,7 +351,7 @@ module _ {K V S : Type 0} (same : K → K → Bool) (hash : K → ℕ) (terms : 
     it : ComesRight terms log e → IsLegalBut same terms log e × ShowsRun same name terms (e ∷ log) (known new.logged.notes) y.scene
     it right =
         ends_run_to_their_ends K V S same hash name terms log (known old.logged.notes) s old.logged.executor d.began.executor run.stands.shown.is_at run.shows small own map i standing (begun none_on).1 yet at1
-        (alone_follows same hash terms log old run (EndMap own) refl) (suc d.gone.1.0) (come_by (far effects new.logged) y.now y.scene) chain y.is_at played.steps effects refl acts_so over others left.may
+        (alone_follows same hash terms log old run (EndMap own) refl) (suc d.gone.1.0) (come_by (far effects new.logged) y.now y.scene) chain y.is_at played.steps effects refl acts_so over others may_end
         finds whole right
 
     named : AreNamed name new.calls.items.items

@@ -1,5 +1,6 @@
 -- Events whose work is a row on a slot keep their promises, and a run goes on with them.
 use Rattle.std.specs.Prelude.{◌≡◌, ◌<◌, ◌^◌, ℕ, Bool, true, false, List, [], ◌∷◌, Option, None, Result, Ok, Err, IfOk}
+use Rattle.std.specs.List.{list_all}
 use Rattle.std.proofs.Common.{refl, sym, subst, inl, inr, ◌∙◌}
 use Rattle.papaya_histories.specs.Given.Seize.World.{Begin, Rests}
 use Rattle.papaya_histories.specs.Given.Tables.declared.node.Node.{Node}
@@ -11,7 +12,7 @@ use Rattle.papaya_schedules.specs.After.{moment}
 use Rattle.papaya_schedules.specs.Beginning.{begun}
 use Rattle.papaya_schedules.specs.Effects.{AtEachEffect}
 use Rattle.papaya_schedules.specs.Entry.{Entry, acted_on, speaker}
-use Rattle.papaya_schedules.specs.Handing.{gives_all}
+use Rattle.papaya_schedules.specs.Handing.{gives_all, may_do}
 use Rattle.papaya_schedules.specs.InTurn.{ComesRight, is_kept_out}
 use Rattle.papaya_schedules.specs.Lives.{Finds}
 use Rattle.papaya_schedules.specs.Moment.{Moment}
@@ -43,7 +44,7 @@ use Rattle.papaya_scheduler.specs.declared.played.Played.{Played}
 use Rattle.papaya_scheduler.specs.declared.scheduler.Scheduler.{Scheduler}
 use Rattle.papaya_scheduler.proofs.Rights.{entry, entry_is}
 use Rattle.papaya_running.specs.OfCalls.{HaveShards, Runs, RunsOn}
-use Rattle.papaya_running.specs.OfRows.{IsLeftOfRows, KeepsRun, is_of_rows}
+use Rattle.papaya_running.specs.OfRows.{IsLeftOfRows, KeepsRun, MaysDo, is_of_rows}
 use Rattle.papaya_running.proofs.OfCalls.Scenes.{AreNamed, its_named, stands_in}
 use Rattle.papaya_running.proofs.OfRows.Chain.{RowComes, come_by, rows_come}
 use Rattle.papaya_running.proofs.OfRows.Facts.{RowFacts, facts}
@@ -78,6 +79,17 @@ module _ {K V : Type 0} where
   on_no_map (Flush guard) outcome m of on = (refl, refl)
   on_no_map (DropGuard guard) outcome m of on = (refl, refl)
   on_no_map _ outcome m of on = absurd (cc (of, on))
+
+  -- what it does it may do
+  may_of : (log : List (Entry K V)) (e : Entry K V) (event : Event K V) → is_of_rows event ≡ true → is_of_slots event ≡ true → MaysDo log e event → list_all (may_do e.event (moment log)) e.effects ≡ true
+  may_of log e (Register registration) of on may = may
+  may_of log e (Unregister registration) of on may = may
+  may_of log e (Enter guard registration) of on may = may
+  may_of log e (Own guard) of on may = may
+  may_of log e (Refresh guard) of on may = may
+  may_of log e (Flush guard) of on may = may
+  may_of log e (DropGuard guard) of on may = may
+  may_of log e _ of on may = absurd (cc (of, on))
 
   reclaims_none : (log : List (Entry K V)) (e : Entry K V) → is_of_rows e.event ≡ true → is_of_slots e.event ≡ true → ReclaimsAll log e
   reclaims_none log e of on = by e.event of on
@@ -156,7 +168,7 @@ module _ {K V S : Type 0} (same : K → K → Bool) (hash : K → ℕ) (terms : 
     it =
         rows_run_to_their_ends K V S same hash name terms log (known old.logged.notes) s old.logged.executor ran.began.executor run.stands.shown.is_at run.size small run.shows e on ran.caller called may
         leads spares (alone_follows same hash terms log old run event (all_facts_of event of on).0) ran.goes.0 (come_by (far played.effects.items new.logged) y.now y.scene) chain refl rests
-        (f.inside y.scene.world y.is_at.uses played.outcome comes) (f.not_busy played.outcome comes) left.may finds (λ alone. is_row) left.right (reclaims_none log e of on)
+        (f.inside y.scene.world y.is_at.uses played.outcome comes) (f.not_busy played.outcome comes) (may_of log e event of on left.may) finds (λ alone. is_row) left.right (reclaims_none log e of on)
 
     shown : IsShown same hash name (moment (e ∷ log)) new.logged y.scene
     shown = record { is_at = y.is_at; shows = it.1.calls.whole; kept = it.1.calls.kept }

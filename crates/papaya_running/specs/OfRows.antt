@@ -45,10 +45,15 @@ module _ {K V : Type 0} where
   MakesWhole log e (MakeMap name mode capacity) = IsWhole e.event e.outcome e.effects (moment log) (worked e (moment log))
   MakesWhole log e _ = Unit {0}
 
+  -- it may do what it does: of an end that is had
+  abbrev pub MaysDo : List (Entry K V) → Entry K V → Event K V → Type 0
+  MaysDo log e (EndMap name) = Unit {0}
+  MaysDo log e _ = list_all (may_do e.event (moment log)) e.effects ≡ true
+
   -- What is still asked of such an event, by name: it comes to what is right, what it does it may do, and finds what it must, and a map that is made has its table.
   pub record IsLeftOfRows (terms : Terms) (log : List (Entry K V)) (e : Entry K V) : Type 0 where
     pub right : ComesRight terms log e
-    pub may : list_all (may_do e.event (moment log)) e.effects ≡ true
+    pub may : MaysDo log e e.event
     pub finds : (let b = at_work e (moment log) in AtEachEffect (Finds terms None (acted_on e.event b) false []) None (acted_on e.event b) e.effects b)
     pub whole : MakesWhole log e e.event
 
