@@ -57,12 +57,13 @@ module _ {K V : Type 0} where
     pub finds : (let b = at_work e (moment log) in AtEachEffect (Finds terms None (acted_on e.event b) false []) None (acted_on e.event b) e.effects b)
     pub whole : MakesWhole log e e.event
 
-module _ {K V S : Type 0} (same : K → K → Bool) (hash : K → ℕ) where
+module _ {K V S : Type 0} where
   -- Of a making that was refused once it had begun nothing is said.
   abbrev pub HasNotBegun : Event K V → Outcome V → List Effect → (old new : Scheduler K V S) → Type 0
   HasNotBegun (MakeMap name mode capacity) (Refused fault) effects old new = (effects ≡ []) × (new.logged ≡ old.logged)
   HasNotBegun _ outcome effects old new = Unit {0}
 
+module _ {K V S : Type 0} (same : K → K → Bool) (hash : K → ℕ) where
   -- What is promised of one that is in turn, with what is left: it keeps its promises, and the run goes on.
   abbrev pub KeepsRun : Event K V → Played V → (old new : Scheduler K V S) → Type 0
   KeepsRun event played old new =
