@@ -1,5 +1,6 @@
 -- Events of calls keep their promises, and a run goes on with them.
 pub mod Scenes
+pub mod InRows
 pub mod Alone
 pub mod Words
 pub mod Answers

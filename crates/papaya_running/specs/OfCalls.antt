@@ -17,7 +17,7 @@ use Rattle.papaya_histories.specs.Given.Schedules.declared.call.Reply.{Reply}
 use Rattle.papaya_histories.specs.Given.Schedules.declared.call.Reply.TheVariants.{Aborts}
 use Rattle.papaya_histories.specs.Given.Schedules.declared.effect.Effect.{Effect}
 use Rattle.papaya_histories.specs.Given.Schedules.declared.event.Event.{Event}
-use Rattle.papaya_histories.specs.Given.Schedules.declared.event.Event.TheVariants as event
+use Rattle.papaya_histories.specs.Given.Schedules.declared.event.Event.TheVariants as events
 use Rattle.papaya_histories.specs.Given.Schedules.declared.outcome.Outcome.{Outcome}
 use Rattle.papaya_histories.specs.Given.Schedules.declared.outcome.Outcome.TheVariants.{Answered, Done, Goes, Refused}
 use Rattle.papaya_histories.specs.Given.Schedules.After.{moment, moments_from}
@@ -48,6 +48,7 @@ use Rattle.papaya_scheduler.specs.Seen.{kind_of}
 use Rattle.papaya_scheduler.specs.declared.played.Played.{Played}
 use Rattle.papaya_scheduler.specs.declared.scheduler.Scheduler.{Scheduler}
 use Rattle.papaya_stepping.specs.Stepping.{ComesAs, outcome_of}
+use Rattle.papaya_running.specs.Asked.{is_of_calls}
 
 -- each map has as many shards as the terms say
 abbrev pub HaveShards : {K V S : Type 0} → Terms → Executor K V S → Type 0
@@ -112,25 +113,24 @@ module _ (K V S : Type 0) (same : K → K → Bool) (hash : K → ℕ) where
       let told = outcome_of known2 (kind_of c.call) value said in
       ComesAs c.call told → TellsValue c.call c.replies told → ComesSo known2 c.call c.replies said told × TellsOf same log m map known2 said told c.call)
 
-  -- What is asked here of rows that begin within calls, and of those under way, and is had of no law yet.
+  -- What is asked here of rows that begin within calls, and is had of no law yet.
   pub record Wanted : Type 0 where
     pub noted : RowsHandNoted
-    pub insides : InsidesFollowInRows K V
 
 -- an event by which a call goes on has taken steps, or was out of turn: a call that asks, or is ready, and says so again, takes none
 abbrev pub TookOrBusy : {V : Type 0} → Played V → Type 0
 TookOrBusy played = (1 ≤ played.steps) ⊎ (played.outcome ≡ Refused Busy)
 
 module _ {K V : Type 0} where
-  -- Of which events this is said: of one by which a call goes on that is no walk asked for its next pair, if it has taken steps, or was out of turn; and of one by which a call has
-  -- begun, has got a reply, or was given up.
+  -- Of which events in turn this is said: of one by which a call goes on that is no walk asked for its next pair, if it has taken steps, or was out of turn; of one that is to begin a call; and of
+  -- one by which a call has got a reply, or a walk was given up.
   abbrev pub IsSaid : Event K V → Played V → Type 0
-  IsSaid (event.Step caller refuse) played = TookOrBusy played
-  IsSaid (event.Go caller refuse) played = TookOrBusy played
-  IsSaid (event.OneCall guard name call) played = TookOrBusy played
-  IsSaid (event.Begin caller guard name call) played = played.outcome ≡ Goes
-  IsSaid (event.Replied caller reply) played = played.outcome ≡ Goes
-  IsSaid (event.Stop caller) played = played.outcome ≡ Done
+  IsSaid (events.Step caller refuse) played = TookOrBusy played
+  IsSaid (events.Go caller refuse) played = TookOrBusy played
+  IsSaid (events.OneCall guard name call) played = TookOrBusy played
+  IsSaid (events.Begin caller guard name call) played = Unit {0}
+  IsSaid (events.Replied caller reply) played = played.outcome ≡ Goes
+  IsSaid (events.Stop caller) played = played.outcome ≡ Done
   IsSaid _ played = ⊥
 
 module _ {K V S : Type 0} (same : K → K → Bool) (hash : K → ℕ) where
@@ -140,8 +140,8 @@ module _ {K V S : Type 0} (same : K → K → Bool) (hash : K → ℕ) where
       IsSaid event played → Wanted K V S same hash → (terms : Terms) (log : List (Entry K V)) → Runs same hash terms log old → is_kept_out terms event (moment log) ≡ false
       → IsLeft terms log (entry_of event played) → RunsOn same hash terms log (entry_of event played) new
 
-  -- and so of one that is kept out
+  -- And so it is of an event of a call that is kept out, whichever it is.
   abbrev pub KeepsAt : Event K V → Played V → (old new : Scheduler K V S) → Type 0
   KeepsAt event played old new =
-      IsSaid event played → Wanted K V S same hash → (terms : Terms) (log : List (Entry K V)) → Runs same hash terms log old → IsLeft terms log (entry_of event played)
-      → RunsOn same hash terms log (entry_of event played) new
+      is_of_calls event ≡ true → Wanted K V S same hash → (terms : Terms) (log : List (Entry K V)) → Runs same hash terms log old → (is_kept_out terms event (moment log) ≡ false → IsSaid event played)
+      → IsLeft terms log (entry_of event played) → RunsOn same hash terms log (entry_of event played) new

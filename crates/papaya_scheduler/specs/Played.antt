@@ -1,6 +1,7 @@
 -- That a scheduler has played a log, and what is promised of an event that happens then.
-use Rattle.std.specs.Prelude.{◌≡◌, ◌≤◌, ℕ, ◌==◌, ◌+◌, ◌*◌, Bool, true, false, ◌&&◌, List, [], ◌∷◌, length, filter, map, is_some, is_none, is_err, position, slice_get, slice_index_or, slice_set, Option, Some, None, Result, if◌then◌else◌}
+use Rattle.std.specs.Prelude.{◌≡◌, ◌≤◌, ℕ, ◌==◌, ◌+◌, ◌*◌, Bool, true, false, ◌&&◌, List, [], ◌∷◌, length, filter, map, is_some, is_none, position, slice_get, slice_index_or, slice_set, Option, Some, None, Result, if◌then◌else◌}
 use Rattle.std.specs.List.{AllByRecursion, list_any, remove}
+use Rattle.std.specs.Result.{is_err}
 use Rattle.papaya_histories.specs.Given.SeizeWords.declared.fault.Fault.TheVariants.{Busy}
 use Rattle.papaya_histories.specs.Given.Tables.declared.setting.Setting.{Setting}
 use Rattle.papaya_raw.specs.declared.machines.asking.Reply.{Reply as MachineReply}

@@ -26,7 +26,7 @@ use Rattle.papaya_scheduler.specs.Played.{IsPlayed, IsUnderWay}
 use Rattle.papaya_scheduler.specs.Seen.{Seen, is_named, seen, seen_of}
 use Rattle.papaya_scheduler.specs.declared.caller.Caller.{Caller}
 use Rattle.papaya_scheduler.specs.declared.scheduler.Scheduler.{Scheduler}
-use Rattle.papaya_running.specs.OfCalls.{InsidesFollowInRows}
+use Rattle.papaya_running.proofs.OfCalls.InRows.{insides_follow_in_rows}
 
 both : (a b : Bool) → (a && b) ≡ true → (a ≡ true) × (b ≡ true)
 both true b is = (refl, is)
@@ -112,13 +112,13 @@ module _ {K V S : Type 0} (same : K → K → Bool) (hash : K → ℕ) (terms : 
       subst (λ (x : Use). IsInside x) (sym is.1) tt
 
   -- so it is active in the sets of the model
-  pub active_of : InsidesFollowInRows K V → p.logged.executor.batch_size ≡ terms.batch_size → (slot : ℕ) → IsInside (stands.scene.world.uses slot)
+  pub active_of : p.logged.executor.batch_size ≡ terms.batch_size → (slot : ℕ) → IsInside (stands.scene.world.uses slot)
       → FollowsOrRows terms log (known p.logged.notes) stands.scene.world → 1 ≤ count slot (sets_in terms.batch_size log).active
-  active_of in_rows size slot inside = by
+  active_of size slot inside = by
     where
       small : terms.batch_size < 2 ^ 64
       small = subst (λ (n : ℕ). n < 2 ^ 64) size stands.shown.is_at.small
 
       by : FollowsOrRows terms log (known p.logged.notes) stands.scene.world → 1 ≤ count slot (sets_in terms.batch_size log).active
       by (inl follows) = insides_follow K V terms.batch_size terms.roots _ (sets_in terms.batch_size log) (known p.logged.notes) stands.scene.world small follows slot inside
-      by (inr (i, row)) = in_rows terms.batch_size terms.roots _ (sets_in terms.batch_size log) (known p.logged.notes) stands.scene.world small (slot_of i) slot i row inside
+      by (inr (i, row)) = insides_follow_in_rows K V terms.batch_size terms.roots _ (sets_in terms.batch_size log) (known p.logged.notes) stands.scene.world small (slot_of i) slot i row inside

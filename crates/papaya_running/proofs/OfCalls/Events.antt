@@ -4,8 +4,9 @@ use Rattle.std.proofs.Common.{refl, ap, sym, subst, ◌∙◌, inl, inr, arith}
 use Rattle.papaya_histories.specs.Given.SeizeWords.declared.fault.Fault.TheVariants.{Busy}
 use Rattle.papaya_runs.specs.Stopped.{most_steps}
 use Rattle.papaya_schedules.specs.declared.call.Call.{Call}
+use Rattle.papaya_schedules.specs.declared.call.Reply.{Reply}
 use Rattle.papaya_schedules.specs.declared.event.Event.{Event}
-use Rattle.papaya_schedules.specs.declared.event.Event.TheVariants.{Begin, Go, Next, OneCall, Step}
+use Rattle.papaya_schedules.specs.declared.event.Event.TheVariants.{Begin, Go, Next, OneCall, Replied, Step, Stop}
 use Rattle.papaya_schedules.specs.declared.outcome.Outcome.{Outcome}
 use Rattle.papaya_schedules.specs.declared.outcome.Outcome.TheVariants.{Goes, Refused}
 use Rattle.papaya_schedules.specs.After.{moment}
@@ -26,7 +27,7 @@ use Rattle.papaya_stepping.specs.Stepping.{GoesAt, SaysAgain, StepsCome, TakenAs
 use Rattle.papaya_stepping.proofs.PlaysWhole.{goes_first, map_there}
 use Rattle.papaya_running.specs.OfCalls.{IsLeft, Runs, RunsOn, TookOrBusy, Wanted}
 use Rattle.papaya_running.proofs.OfCalls.Begun.{begun_on, its}
-use Rattle.papaya_running.proofs.OfCalls.Quiet.{quiet_on}
+use Rattle.papaya_running.proofs.OfCalls.Quiet.{quiet_on, reads_of}
 use Rattle.papaya_running.proofs.OfCalls.Taken.{taken_on}
 use Rattle.papaya_running.proofs.OfCalls.Whole.{whole_on}
 
@@ -56,17 +57,28 @@ module _ {K V S : Type 0} (same : K → K → Bool) (hash : K → ℕ) (old new 
           (so (subst (λ (e : Entry K V). ComesRight terms log e) is right) (subst (λ (e : Entry K V). IsPlayed same hash terms (e ∷ log) new) is plays))
 
       pub step_out : (own : List ℕ) (refuse : Bool) → ComesRight terms log (entry_of (Step own refuse) played) → IsPlayed same hash terms (entry_of (Step own refuse) played ∷ log) new → As (Step own refuse)
-      step_out own refuse = by_quiet (Step own refuse) (quiet_on same hash terms log old new runs logged_is calls_are (Step own refuse) own refl tt refl tt refl tt (refl, refl))
+      step_out own refuse = by_quiet (Step own refuse) (quiet_on same hash terms log old new runs logged_is calls_are (Step own refuse) (reads_of same hash terms log old new runs logged_is calls_are (Step own refuse) own refl) tt refl tt refl tt (refl, refl))
 
       pub go_out : (own : List ℕ) (refuse : Bool) → ComesRight terms log (entry_of (Go own refuse) played) → IsPlayed same hash terms (entry_of (Go own refuse) played ∷ log) new → As (Go own refuse)
-      go_out own refuse = by_quiet (Go own refuse) (quiet_on same hash terms log old new runs logged_is calls_are (Go own refuse) own refl tt refl tt refl tt (refl, refl))
+      go_out own refuse = by_quiet (Go own refuse) (quiet_on same hash terms log old new runs logged_is calls_are (Go own refuse) (reads_of same hash terms log old new runs logged_is calls_are (Go own refuse) own refl) tt refl tt refl tt (refl, refl))
 
       pub next_out : (own : List ℕ) → ComesRight terms log (entry_of (Next own) played) → IsPlayed same hash terms (entry_of (Next own) played ∷ log) new → As (Next own)
-      next_out own = by_quiet (Next own) (quiet_on same hash terms log old new runs logged_is calls_are (Next own) own refl tt refl tt refl tt (refl, refl))
+      next_out own = by_quiet (Next own) (quiet_on same hash terms log old new runs logged_is calls_are (Next own) (reads_of same hash terms log old new runs logged_is calls_are (Next own) own refl) tt refl tt refl tt (refl, refl))
 
       pub whole_out : (guard on : List ℕ) (call : Call K V) → ComesRight terms log (entry_of (OneCall guard on call) played) → IsPlayed same hash terms (entry_of (OneCall guard on call) played ∷ log) new
           → As (OneCall guard on call)
-      whole_out guard on call = by_quiet (OneCall guard on call) (quiet_on same hash terms log old new runs logged_is calls_are (OneCall guard on call) nameless refl tt refl tt refl tt (refl, refl))
+      whole_out guard on call = by_quiet (OneCall guard on call) (quiet_on same hash terms log old new runs logged_is calls_are (OneCall guard on call) (reads_of same hash terms log old new runs logged_is calls_are (OneCall guard on call) nameless refl) tt refl tt refl tt (refl, refl))
+
+      -- those of no call that goes on
+      pub begin_out : (own guard on : List ℕ) (call : Call K V) → ComesRight terms log (entry_of (Begin own guard on call) played) → IsPlayed same hash terms (entry_of (Begin own guard on call) played ∷ log) new
+          → As (Begin own guard on call)
+      begin_out own guard on call = by_quiet (Begin own guard on call) (quiet_on same hash terms log old new runs logged_is calls_are (Begin own guard on call) tt tt refl tt refl tt tt)
+
+      pub reply_out : (own : List ℕ) (reply : Reply V) → ComesRight terms log (entry_of (Replied own reply) played) → IsPlayed same hash terms (entry_of (Replied own reply) played ∷ log) new → As (Replied own reply)
+      reply_out own reply = by_quiet (Replied own reply) (quiet_on same hash terms log old new runs logged_is calls_are (Replied own reply) tt tt refl tt refl tt tt)
+
+      pub stop_out : (own : List ℕ) → ComesRight terms log (entry_of (Stop own) played) → IsPlayed same hash terms (entry_of (Stop own) played ∷ log) new → As (Stop own)
+      stop_out own = by_quiet (Stop own) (quiet_on same hash terms log old new runs logged_is calls_are (Stop own) tt tt refl tt refl tt tt)
 
   -- one that says again what it has said has neither taken steps, nor was it out of turn
   never_again : (o : Outcome V) → TookOrBusy played → SaysAgain same hash o played old new → (o ≡ Refused Busy → ⊥) → ⊥
@@ -155,18 +167,26 @@ module _ {K V S : Type 0} (same : K → K → Bool) (hash : K → ℕ) (old new 
   module _ (terms : Terms) (log : List (Entry K V)) (runs : Runs same hash terms log old) (own guard on : List ℕ) (call : Call K V) (steps : played.steps ≡ 0)
       (began : Began same hash own guard on call played old new) (on_size : new.logged.executor.batch_size ≡ old.logged.executor.batch_size)
       (right : ComesRight terms log (entry_of (Begin own guard on call) played)) (plays : IsPlayed same hash terms (entry_of (Begin own guard on call) played ∷ log) new) where
-    pub begin_on : played.outcome ≡ Goes → RunsOn same hash terms log (entry_of (Begin own guard on call) played) new
-    begin_on goes = by it.0 refl
+    begun_or : (begun : Bool) × BeginsSo same hash terms (moment log) own guard on call begun old new × (played.effects.items ≡ []) × (played.outcome ≡ (if begun then Goes else Refused Busy))
+    begun_or = began terms (moment log) runs.stands
+
+    begun_as : (q : Bool) → begun_or.0 ≡ q → BeginsSo same hash terms (moment log) own guard on call q old new × (played.outcome ≡ (if q then Goes else Refused Busy))
+    begun_as q is = (
+      subst (λ (b : Bool). BeginsSo same hash terms (moment log) own guard on call b old new) is begun_or.1,
+      begun_or.3 ∙ ap (λ (b : Bool). if b then Goes else Refused Busy) is,
+    )
+
+    pub begin_on : RunsOn same hash terms log (entry_of (Begin own guard on call) played) new
+    begin_on = by begun_or.0 refl
       where
-        it : (begun : Bool) × BeginsSo same hash terms (moment log) own guard on call begun old new × (played.effects.items ≡ []) × (played.outcome ≡ (if begun then Goes else Refused Busy))
-        it = began terms (moment log) runs.stands
-
-        entry_as : entry_of (Begin own guard on call) played ≡ quiet (Begin own guard on call) Goes
-        entry_as = entry_is (Begin own guard on call) played Goes 0 [] goes steps it.2
-
-        by : (q : Bool) → it.0 ≡ q → RunsOn same hash terms log (entry_of (Begin own guard on call) played) new
-        by false is = absurd (let busy = sym goes ∙ it.3 ∙ ap (λ (b : Bool). if b then Goes else Refused Busy) is in cc busy)
+        by : (q : Bool) → begun_or.0 ≡ q → RunsOn same hash terms log (entry_of (Begin own guard on call) played) new
+        by false is =
+            let it = begun_as false is in
+            let was = it.0.none refl in
+            begin_out terms log runs it.1 steps begun_or.2 (logged_as old was refl) (calls_as old was refl) own guard on call right plays
         by true is =
+            let it = begun_as true is in
+            let entry_as = entry_is (Begin own guard on call) played Goes 0 [] it.1 steps begun_or.2 in
             subst (λ (e : Entry K V). RunsOn same hash terms log e new) (sym entry_as)
-            (begun_on same hash terms log old runs own guard on call new ((subst (λ (b : Bool). BeginsSo same hash terms (moment log) own guard on call b old new) is it.1).led refl) on_size
-            (subst (λ (e : Entry K V). ComesRight terms log e) entry_as right) (subst (λ (e : Entry K V). IsPlayed same hash terms (e ∷ log) new) entry_as plays))
+            (begun_on same hash terms log old runs own guard on call new (it.0.led refl) on_size (subst (λ (e : Entry K V). ComesRight terms log e) entry_as right)
+            (subst (λ (e : Entry K V). IsPlayed same hash terms (e ∷ log) new) entry_as plays))

@@ -1,6 +1,6 @@
 -- An event that is in turn, or kept out, keeps its promises, where this is said of it.
 use Rattle.std.specs.Prelude.{◌≡◌, ℕ, Bool, true, false, List, [], ◌∷◌, Result, Ok, Err, IfOk}
-use Rattle.std.proofs.Common.{refl, ap, sym, subst, ◌∙◌}
+use Rattle.std.proofs.Common.{ap, sym, subst, ◌∙◌}
 use Rattle.papaya_histories.specs.Given.Executor.IsAt.{KeepsGiven}
 use Rattle.papaya_runs.specs.Stopped.{most_steps}
 use Rattle.papaya_schedules.specs.declared.call.Call.{Call}
@@ -21,18 +21,8 @@ use Rattle.papaya_scheduler.proofs.Rights.{entry_is}
 use Rattle.papaya_stepping.specs.Stepping.{PlaysOnAt, TookSteps, TookWhole}
 use Rattle.papaya_running.specs.Asked.{is_of_calls}
 use Rattle.papaya_running.specs.OfCalls.{IsSaid, KeepsAt, KeepsDue, RunsOn}
-use Rattle.papaya_running.proofs.OfCalls.Events.{begin_on, go_on, go_out, step_on, step_out, whole_goes_on, whole_out}
+use Rattle.papaya_running.proofs.OfCalls.Events.{begin_on, begin_out, go_on, go_out, next_out, reply_out, step_on, step_out, stop_out, whole_goes_on, whole_out}
 use Rattle.papaya_running.proofs.OfCalls.Told.{stopped_on, told_on}
-
--- it is said of events of calls alone
-pub said_of_calls : {K V : Type 0} (event : Event K V) (played : Played V) → IsSaid event played → is_of_calls event ≡ true
-said_of_calls (event.Step caller refuse) played said = refl
-said_of_calls (event.Go caller refuse) played said = refl
-said_of_calls (event.OneCall guard name call) played said = refl
-said_of_calls (event.Begin caller guard name call) played said = refl
-said_of_calls (event.Replied caller reply) played said = refl
-said_of_calls (event.Stop caller) played said = refl
-said_of_calls _ played said = absurd said
 
 module _ {K V S : Type 0} (same : K → K → Bool) (hash : K → ℕ) (old new : Scheduler K V S) (happens : Event K V) where
   pub step_if : {X : Type 0} (own : List ℕ) (refuse : Bool) → happens ≡ event.Step own refuse → (result : Result (Played V) X) → IfOk result (λ played. PlaysOnAt same hash (event.Step own refuse) played old new)
@@ -58,7 +48,7 @@ module _ {K V S : Type 0} (same : K → K → Bool) (hash : K → ℕ) (old new 
       → IfOk result (λ played. PlaysAt same hash (event.Begin own guard on call) played old new) → IfOk result (λ played. Began same hash own guard on call played old new)
       → KeepsGiven old.logged.executor new.logged.executor → IfOk result (λ played. KeepsDue same hash happens played old new)
   begin_if own guard on call is (Ok played) steps plays began given = subst (λ (x : Event K V). KeepsDue same hash x played old new) (sym is) (λ said wanted terms log runs out left.
-      begin_on same hash old new played terms log runs own guard on call steps began given.1 left.right (plays terms log (record { played = runs.stands; in_turn = out })).played said)
+      begin_on same hash old new played terms log runs own guard on call steps began given.1 left.right (plays terms log (record { played = runs.stands; in_turn = out })).played)
   begin_if own guard on call is (Err x) steps plays began given = tt
 
   pub told_keeps : (own : List ℕ) (reply : Reply V) → happens ≡ event.Replied own reply → (played : Played V) → played.steps ≡ 0 → PlaysAt same hash (event.Replied own reply) played old new
@@ -102,22 +92,29 @@ module _ {K V S : Type 0} (same : K → K → Bool) (hash : K → ℕ) (happens 
       calls_are = ap (λ (x : Scheduler K V S). x.calls) is
 
       by : (x : Event K V) → IsKeptOut x played.outcome → PlaysKeptOut same hash x played old new → keeps_out x old ≡ true → KeepsAt same hash x played old new
-      by (event.Step own refuse) busy so kept_so = λ said wanted terms log runs left.
+      by (event.Step own refuse) busy so kept_so = λ calls wanted terms log runs said left.
           step_out same hash old new played terms log runs busy none nothing logged_is calls_are own refuse left.right (so terms log runs.stands kept_so).played
-      by (event.Go own refuse) busy so kept_so = λ said wanted terms log runs left.
+      by (event.Go own refuse) busy so kept_so = λ calls wanted terms log runs said left.
           go_out same hash old new played terms log runs busy none nothing logged_is calls_are own refuse left.right (so terms log runs.stands kept_so).played
-      by (event.OneCall guard on call) busy so kept_so = λ said wanted terms log runs left.
+      by (event.OneCall guard on call) busy so kept_so = λ calls wanted terms log runs said left.
           whole_out same hash old new played terms log runs busy none nothing logged_is calls_are guard on call left.right (so terms log runs.stands kept_so).played
-      by (event.Begin own guard on call) busy so kept_so = λ said. absurd (cc (said, busy))
-      by (event.Replied own reply) busy so kept_so = λ said. absurd (cc (said, busy))
-      by (event.Stop own) busy so kept_so = λ said. absurd (cc (said, busy))
-      by _ busy so kept_so = λ said. absurd said
+      by (event.Next own) busy so kept_so = λ calls wanted terms log runs said left.
+          next_out same hash old new played terms log runs busy none nothing logged_is calls_are own left.right (so terms log runs.stands kept_so).played
+      by (event.Begin own guard on call) busy so kept_so = λ calls wanted terms log runs said left.
+          begin_out same hash old new played terms log runs busy none nothing logged_is calls_are own guard on call left.right (so terms log runs.stands kept_so).played
+      by (event.Replied own reply) busy so kept_so = λ calls wanted terms log runs said left.
+          reply_out same hash old new played terms log runs busy none nothing logged_is calls_are own reply left.right (so terms log runs.stands kept_so).played
+      by (event.Stop own) busy so kept_so = λ calls wanted terms log runs said left.
+          stop_out same hash old new played terms log runs busy none nothing logged_is calls_are own left.right (so terms log runs.stands kept_so).played
+      by _ busy so kept_so = λ calls. absurd (cc calls)
 
   pub turn_keeps : {X : Type 0} (result : Result (Played V) X) → IfOk result (λ played. KeepsDue same hash happens played old new) → keeps_out happens old ≡ false
       → IfOk result (λ played. KeepsAt same hash happens played old new)
-  turn_keeps (Ok played) due out = λ said wanted terms log runs left. due said wanted terms log runs (kept_out_is same hash terms (moment log) old runs.stands happens ∙ out) left
+  turn_keeps (Ok played) due out = λ calls wanted terms log runs said left.
+      let in_turn = kept_out_is same hash terms (moment log) old runs.stands happens ∙ out in
+      due (said in_turn) wanted terms log runs in_turn left
   turn_keeps (Err x) due out = tt
 
   pub other_keeps : {X : Type 0} → is_of_calls happens ≡ false → (result : Result (Played V) X) → IfOk result (λ played. KeepsAt same hash happens played old new)
-  other_keeps none (Ok played) = λ said. absurd (let some = said_of_calls happens played said in cc (some, none))
+  other_keeps none (Ok played) = λ calls. absurd (cc (calls, none))
   other_keeps none (Err x) = tt

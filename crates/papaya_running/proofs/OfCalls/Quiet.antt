@@ -47,7 +47,7 @@ none_of None is = refl
 none_of (Some x) is = absurd (cc is)
 
 module _ {K V S : Type 0} (same : K → K → Bool) (hash : K → ℕ) (terms : Terms) (log : List (Entry K V)) (old new : Scheduler K V S) (runs : Runs same hash terms log old) (logged_is : new.logged ≡ old.logged)
-    (calls_are : new.calls ≡ old.calls) (event : Event K V) (own : List ℕ) (of_call : caller_of event ≡ Some own) where
+    (calls_are : new.calls ≡ old.calls) (event : Event K V) where
   abbrev pub e : Entry K V
   e = quiet event (Refused Busy)
 
@@ -55,8 +55,8 @@ module _ {K V S : Type 0} (same : K → K → Bool) (hash : K → ℕ) (terms : 
   m = moment log
 
   -- a call that is there has read no more
-  reads : ReadsBriefly log e m
-  reads = by (position (is_named own) old.calls.items.items) refl
+  pub reads_of : (own : List ℕ) → caller_of event ≡ Some own → ReadsBriefly log e m
+  reads_of own of_call = by (position (is_named own) old.calls.items.items) refl
     where
       none_there : call_of own m ≡ None → ReadsBriefly log e m
       none_there none =
@@ -70,7 +70,7 @@ module _ {K V S : Type 0} (same : K → K → Bool) (hash : K → ℕ) (terms : 
           events_read_briefly K V S same hash runs.stands.name log (λ j. 0) m (known old.logged.notes) runs.stands.scene old.logged.executor runs.stands.shown.is_at runs.stands.shown.shows runs.shows.reading
           here.caller.map here.caller.number here.way.0 here.way.1 e (of_call ∙ ap Some (sym (here.way.2 ∙ here.named))) (omega arith)
 
-  module _ (no_slot : IsOfNoSlot event) (stays : worked e m ≡ m) (enters : EntersInside runs.stands.scene.world event (Refused Busy) m.there)
+  module _ (reads : ReadsBriefly log e m) (no_slot : IsOfNoSlot event) (stays : worked e m ≡ m) (enters : EntersInside runs.stands.scene.world event (Refused Busy) m.there)
       (whole : IsWhole event (Refused Busy) [] m (worked e m)) (reclaims : ReclaimsAll log e) (leaves : LeavesAll event (Refused Busy) 0) (right : ComesRight terms log e)
       (plays : IsPlayed same hash terms (e ∷ log) new) where
     legal : IsLegalBut same terms log e × SectionsHold (moment (e ∷ log)) (known old.logged.notes) runs.stands.scene.world

@@ -102,7 +102,7 @@ module _ {K V S : Type 0} (same : K → K → Bool) (hash : K → ℕ) (wanted :
   -- its slot is active, where calls came one after another
   active : ComesAlone event log → 1 ≤ count (slot_of i) (sets_in terms.batch_size log).active
   active alone =
-      active_of same hash terms log old runs.stands wanted.insides runs.size (slot_of i) (inside_of same hash terms log old runs.stands here.caller.guard (slot_of i) here.way.3)
+      active_of same hash terms log old runs.stands runs.size (slot_of i) (inside_of same hash terms log old runs.stands here.caller.guard (slot_of i) here.way.3)
       (runs.shows.follows (first_of m.is_alone _ alone))
     where
       first_of : (a b : Bool) → (a && b) ≡ true → a ≡ true

@@ -1,10 +1,10 @@
 -- An event that tells a reply to a call that takes it, or gives up a walk that is ready: it is legal, and the run goes on with it.
-use Rattle.std.specs.Prelude.{◌≡◌, ◌⊎◌, ◌&&◌, ℕ, Bool, true, false, is_err, List, ◌∷◌, position, slice_get, Option, Some, None, option_map, Result, Ok, Err}
+use Rattle.std.specs.Prelude.{◌≡◌, ◌&&◌, ℕ, Bool, true, false, List, ◌∷◌, position, slice_get, Option, Some, None, option_map, Result, Ok, Err}
+use Rattle.std.specs.Result.{is_err}
 use Rattle.std.proofs.Common.{refl, ap, sym, subst, ◌∙◌, inl, inr}
 use Rattle.papaya_histories.specs.Given.Runs.Same.{is_same}
-use Rattle.papaya_histories.specs.Given.Raw.Machine.{machine_asked, machine_replied}
+use Rattle.papaya_histories.specs.Given.Raw.Machine.{machine_replied}
 use Rattle.papaya_histories.specs.Given.Raw.declared.machines.asking.Reply.{Reply as MachineReply}
-use Rattle.papaya_histories.specs.Given.Raw.declared.machines.machine.Machine.{Machine}
 use Rattle.papaya_histories.specs.Given.Schedules.declared.call.Call.TheVariants.{On}
 use Rattle.papaya_histories.specs.Given.Schedules.declared.call.OneKey.{OneKey}
 use Rattle.papaya_histories.specs.Given.Schedules.declared.call.OneKey.TheVariants.{Compute, RemoveIf}
@@ -15,7 +15,7 @@ use Rattle.papaya_histories.specs.Given.Schedules.declared.outcome.Outcome.TheVa
 use Rattle.papaya_histories.specs.Given.Schedules.After.{moment}
 use Rattle.papaya_histories.specs.Given.Schedules.Entry.{Entry}
 use Rattle.papaya_histories.specs.Given.Schedules.InTurn.{ComesRight}
-use Rattle.papaya_histories.specs.Given.Schedules.Moment.{Asking, UnderWay as CallThere, Moment}
+use Rattle.papaya_histories.specs.Given.Schedules.Moment.{Asking, Moment}
 use Rattle.papaya_histories.specs.Given.Schedules.Terms.{Terms}
 use Rattle.papaya_histories.specs.Given.Schedules.Views.{call_of}
 use Rattle.papaya_histories.specs.Given.Callers.Together.{UnderWay}
@@ -43,7 +43,7 @@ use Rattle.papaya_scheduler.proofs.Here.{Here, here_at, read_here}
 use Rattle.papaya_scheduler.proofs.Replied.{asks_what, far_asks}
 use Rattle.papaya_scheduler.proofs.Rights.{quiet}
 use Rattle.papaya_scheduler.proofs.Stopped.{asked_ready, ready_parts, shows_is}
-use Rattle.papaya_running.specs.OfCalls.{HaveShards, Runs, RunsOn}
+use Rattle.papaya_running.specs.OfCalls.{Runs, RunsOn}
 use Rattle.papaya_running.proofs.OfCalls.Scenes.{AreNamed, its_named, named_left, named_set, stands_in}
 
 -- a call takes a reply of its kind

@@ -131,7 +131,7 @@ module _ {K V S : Type 0} (same : K → K → Bool) (hash : K → ℕ) (wanted :
 
   active : ComesAlone event log → 1 ≤ count (slot_of i) (sets_in terms.batch_size log).active
   active alone =
-      active_of same hash terms log old runs.stands wanted.insides runs.size (slot_of i)
+      active_of same hash terms log old runs.stands runs.size (slot_of i)
       (inside_of same hash terms log old runs.stands guard (slot_of i) (led.lives ∙ ap Some (sym (begun.at_slot same hash terms log old runs nameless guard on call mid led))))
       (runs.shows.follows (first_of m.is_alone _ alone))
     where
