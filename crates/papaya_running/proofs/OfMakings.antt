@@ -1,8 +1,9 @@
 -- An event that makes a map keeps its promises, and a run goes on with it.
-use Rattle.std.specs.Prelude.{◌≡◌, ◌≢◌, ◌⊎◌, ◌&&◌, ◌<◌, ◌+◌, ◌^◌, ◌++◌, ℕ, zero, suc, Bool, true, false, List, [], ◌∷◌, find, is_none, length, not, nat_lt, cond, Option, Some, None, option_map, slice_index_or, Result, Ok, Err, IfOk}
+use Rattle.std.specs.Prelude.{◌≡◌, ◌≢◌, ◌⊎◌, ◌==◌, ◌&&◌, ◌<◌, ◌+◌, ◌-◌, ◌^◌, ◌++◌, if◌then◌else◌, nat_le, ℕ, zero, suc, Bool, true, false, List, [], ◌∷◌, find, is_none, length, not, nat_lt, cond, Option, Some, None, option_map, slice_index_or, Result, Ok, Err, IfOk}
 use Rattle.std.specs.Int.{IsPowerOfTwo}
 use Rattle.std.proofs.Common.{refl, sym, ap, subst, inl, inr, ◌∙◌, arith}
-use Rattle.std.proofs.lemmas.Bool.{cases_eq}
+use Rattle.std.proofs.lemmas.Bool.{cases_eq, ne_eqb}
+use Rattle.std.proofs.lemmas.Nat.{pow_pos}
 use Rattle.papaya_histories.specs.Given.Seize.declared.progress.Progress.{Progress}
 use Rattle.papaya_histories.specs.Given.Seize.declared.progress.Progress.TheVariants as progress
 use Rattle.seize_words.specs.declared.fault.Fault.{Fault}
@@ -10,6 +11,8 @@ use Rattle.papaya_histories.specs.Given.Seize.World.{with_at}
 use Rattle.papaya_histories.specs.Given.Runs.Same.{is_same}
 use Rattle.papaya_histories.specs.Given.Resize.declared.new_map.NewMap.{NewMap}
 use Rattle.papaya_histories.specs.Given.Tables.declared.resize_mode.ResizeMode.{ResizeMode}
+use Rattle.papaya_histories.specs.Given.Tables.Lengths.{places_for}
+use Rattle.papaya_histories.specs.Given.Tables.Powers.{floor_log2, next_power}
 use Rattle.papaya_histories.specs.Given.Tables.declared.setting.Setting.{Setting}
 use Rattle.papaya_histories.proofs.Given.Callers.Together.At.{at_other, at_same}
 use Rattle.papaya_runs.proofs.Sames.{same_refl}
@@ -20,14 +23,15 @@ use Rattle.papaya_schedules.specs.declared.outcome.Outcome.{Outcome}
 use Rattle.papaya_schedules.specs.declared.outcome.Outcome.TheVariants.{Done, Refused}
 use Rattle.papaya_schedules.specs.After.{moment}
 use Rattle.papaya_schedules.specs.Beginning.{used_roots, with_map}
-use Rattle.papaya_schedules.specs.Effects.{AtEachEffect, with_effects}
+use Rattle.papaya_schedules.specs.Effects.{AtEachEffect, with_effects, worked}
 use Rattle.papaya_schedules.specs.Entry.{Entry}
+use Rattle.papaya_schedules.specs.Handing.{IsWhole, tables_named}
 use Rattle.papaya_schedules.specs.InTurn.{is_kept_out}
 use Rattle.papaya_schedules.specs.Lists.{least_free}
 use Rattle.papaya_schedules.specs.Lives.{Finds}
 use Rattle.papaya_schedules.specs.Moment.{MapThere, Moment}
 use Rattle.papaya_schedules.specs.Terms.{Terms, shards_of}
-use Rattle.papaya_schedules.specs.Views.{map_of, number_of}
+use Rattle.papaya_schedules.specs.Views.{map_of, number_of, tables_of}
 use Rattle.papaya_effects.specs.Effects.{effects_of, known_after}
 use Rattle.papaya_effects.specs.Known.{Known, known}
 use Rattle.papaya_effects.specs.declared.acting.Acting.TheVariants as acts
@@ -51,17 +55,21 @@ use Rattle.papaya_legal.proofs.Chains.{makings_chain, makings_run_to_their_ends}
 use Rattle.papaya_legal.proofs.MapsOver.{making_events_begin_so}
 use Rattle.papaya_logged.specs.Goes.{Far, GoesFor, MakingGoes, MakingOn, far}
 use Rattle.papaya_logged.specs.Makings.{MakingIsBegun, is_over}
+use Rattle.papaya_logged.specs.Shown.{IsShown}
 use Rattle.papaya_logged.specs.declared.logged.Logged.{Logged}
 use Rattle.papaya_logged.proofs.GivenBack.{with_maps}
+use Rattle.papaya_rows.proofs.Lists.{found_alike}
+use Rattle.papaya_calls.specs.Beginning.{first_places}
 use Rattle.papaya_scheduler.specs.Mapping.{MayMap, may_make_of}
 use Rattle.papaya_scheduler.specs.Played.{IsPlayed, entry_of}
-use Rattle.papaya_scheduler.specs.Seen.{number_named}
+use Rattle.papaya_scheduler.specs.Seen.{named as named_of_map, number_named}
 use Rattle.papaya_scheduler.specs.Works.{HasMadeMap, WorksOnMap}
 use Rattle.papaya_scheduler.specs.declared.caller.Callers.{Callers}
 use Rattle.papaya_scheduler.specs.declared.played.Played.{Played}
 use Rattle.papaya_scheduler.specs.declared.scheduler.Scheduler.{Scheduler}
 use Rattle.papaya_scheduler.proofs.MapsMade.{new_one}
 use Rattle.papaya_scheduler.proofs.Maps.{number_is}
+use Rattle.papaya_scheduler.proofs.RanOn.{maps_named}
 use Rattle.papaya_scheduler.proofs.Rights.{entry, entry_is}
 use Rattle.papaya_running.specs.Asked.{Holds}
 use Rattle.papaya_running.specs.OfCalls.{HaveShards, Runs, RunsOn}
@@ -79,6 +87,18 @@ found_last p (z ∷ xs) x none so = by (p z) none (λ rest. found_last p xs x re
     by : (b : Bool) → cond b (Some z) (find p xs) ≡ None → (find p xs ≡ None → find p (xs ++ x ∷ []) ≡ Some x) → cond b (Some z) (find p (xs ++ x ∷ [])) ≡ Some x
     by true none rest = absurd (cc none)
     by false none rest = rest none
+
+-- a map that is to have places has some, and else none
+some_places : (capacity : ℕ) → (if first_places capacity == 0 then 0 else 1) ≡ (if capacity == 0 then 0 else 1)
+some_places capacity = by (capacity == 0)
+  where
+    by : (q : Bool) → (if (if q then 0 else next_power (places_for capacity)) == 0 then 0 else 1) ≡ (if q then 0 else 1)
+    by true = refl
+    by false = ap (λ (b : Bool). if b then 0 else 1) (ne_eqb (next_power (places_for capacity)) 0 (λ none. (let some = power_some (nat_le (places_for capacity) 1) in absurd (omega (arith, some, none)))))
+      where
+        power_some : (b : Bool) → 0 < (if b then 1 else 2 ^ (floor_log2 (places_for capacity - 1) + 1))
+        power_some true = omega arith
+        power_some false = pow_pos (floor_log2 (places_for capacity - 1) + 1)
 
 -- By what a step of a making told: it goes on as another machine, of the same map.
 module _ {K V S : Type 0} (same : K → K → Bool) (hash : K → ℕ) (s : Scene K V) (old new : Executor K V S) (i : ℕ) (b : Beginning K) (here : s.makers i ≡ Some b) where
@@ -357,11 +377,40 @@ module _ {K V S : Type 0} (same : K → K → Bool) (hash : K → ℕ) (terms : 
             let none = none_by (number_named own old.maps.items) refl in
             cc (some, none))
 
+    -- it has its table
+    shown_there : IsShown same hash name bm d.began s1
+    shown_there =
+        d.there same hash name m s1 (begins holds.lawful (subst IsPowerOfTwo (sym d.is_given.initial) d.first.0) d.is_given.batches small_mask d.some (λ l. d.first.1)) holds.counts.apart.numbers there refl
+
+    abbrev bw : Moment K V
+    bw = with_effects None (Some b.map) effects bm
+
+    has_table : length (tables_of b.map bw) ≡ (if d.places == 0 then 0 else 1)
+    has_table =
+        subst (λ (fs : List Effect). length (tables_of b.map (with_effects None (Some b.map) fs bm)) ≡ (if d.places == 0 then 0 else 1)) (sym d.ran.1)
+        ((d.ran.3 same hash name bm s1 shown_there b (at_same s.makers i (Some b) i refl) refl (Some b.map)).1 is_new).4
+
+    named_number : (o : Option MapThere) → option_map (λ (z : List ℕ × ℕ). z.1) (option_map named_of_map o) ≡ option_map (λ (f : MapThere). f.number) o
+    named_number None = refl
+    named_number (Some f) = refl
+
+    number_still : number_of own bw ≡ Some b.map
+    number_still =
+        sym (named_number (map_of own bw)) ∙ ap (option_map (λ (z : List ℕ × ℕ). z.1))
+        (found_alike named_of_map named_of_map bw.maps bm.maps (maps_named None (Some b.map) effects bm) (λ (z : List ℕ × ℕ). is_same z.0 own))
+        ∙ named_number (map_of own bm) ∙ named_so
+
+    whole : IsWhole event Done effects m (worked e m)
+    whole =
+        subst (λ (o : Option ℕ). tables_named (number_of own (with_effects None o effects bm)) (with_effects None o effects bm) ≡ (if capacity == 0 then 0 else 1)) (sym named_so)
+        (subst (λ (o : Option ℕ). tables_named o bw ≡ (if capacity == 0 then 0 else 1)) (sym number_still)
+        (has_table ∙ ap (λ (n : ℕ). if n == 0 then 0 else 1) d.places_are ∙ some_places capacity))
+
     it : IsLeftOfRows terms log e → IsLegalBut same terms log e × ShowsRun same name terms (e ∷ log) (known mid.notes) y.scene
     it left =
         makings_run_to_their_ends K V S same hash name terms log (known old.logged.notes) s old.logged.executor d.began.executor run.stands.shown.is_at run.shows own mode capacity there refl i b idle map_is
         (λ made. absurd made) lone at1 (suc d.gone.1.0) (come_by (far effects mid) y.now y.scene) chain played.steps effects refl refl named_so left.may
-        (subst (λ (o : Option ℕ). AtEachEffect (Finds terms None o false []) None o effects bm) named_so left.finds) left.whole left.right
+        (subst (λ (o : Option ℕ). AtEachEffect (Finds terms None o false []) None o effects bm) named_so left.finds) whole left.right
 
     shows : IsLeftOfRows terms log e → ShowsRun same name terms (e ∷ log) (known new.logged.notes) y.scene
     shows left = subst (λ (n : Notes). ShowsRun same name terms (e ∷ log) (known n) y.scene) (sym d.gone.5) (it left).1

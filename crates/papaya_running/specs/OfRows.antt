@@ -10,9 +10,9 @@ use Rattle.papaya_schedules.specs.declared.outcome.Outcome.{Outcome}
 use Rattle.papaya_schedules.specs.declared.outcome.Outcome.TheVariants.{Refused}
 use Rattle.papaya_schedules.specs.After.{moment}
 use Rattle.papaya_schedules.specs.Beginning.{at_work}
-use Rattle.papaya_schedules.specs.Effects.{AtEachEffect, worked}
+use Rattle.papaya_schedules.specs.Effects.{AtEachEffect}
 use Rattle.papaya_schedules.specs.Entry.{Entry, acted_on}
-use Rattle.papaya_schedules.specs.Handing.{IsWhole, may_do}
+use Rattle.papaya_schedules.specs.Handing.{may_do}
 use Rattle.papaya_schedules.specs.InTurn.{ComesRight, is_kept_out}
 use Rattle.papaya_schedules.specs.Lives.{Finds}
 use Rattle.papaya_schedules.specs.Terms.{Terms}
@@ -40,22 +40,16 @@ module _ {K V : Type 0} where
   is_of_rows (EndMap name) = true
   is_of_rows _ = false
 
-  -- a map that is made has a table where it is to have one
-  abbrev pub MakesWhole : List (Entry K V) → Entry K V → Event K V → Type 0
-  MakesWhole log e (MakeMap name mode capacity) = IsWhole e.event e.outcome e.effects (moment log) (worked e (moment log))
-  MakesWhole log e _ = Unit {0}
-
   -- it may do what it does: of an end that is had
   abbrev pub MaysDo : List (Entry K V) → Entry K V → Event K V → Type 0
   MaysDo log e (EndMap name) = Unit {0}
   MaysDo log e _ = list_all (may_do e.event (moment log)) e.effects ≡ true
 
-  -- What is still asked of such an event, by name: it comes to what is right, what it does it may do, and finds what it must, and a map that is made has its table.
+  -- What is still asked of such an event, by name: it comes to what is right, and what it does it may do, and finds what it must.
   pub record IsLeftOfRows (terms : Terms) (log : List (Entry K V)) (e : Entry K V) : Type 0 where
     pub right : ComesRight terms log e
     pub may : MaysDo log e e.event
     pub finds : (let b = at_work e (moment log) in AtEachEffect (Finds terms None (acted_on e.event b) false []) None (acted_on e.event b) e.effects b)
-    pub whole : MakesWhole log e e.event
 
 module _ {K V S : Type 0} where
   -- Of a making that was refused once it had begun nothing is said.

@@ -16,7 +16,7 @@ use Rattle.papaya_schedules.specs.declared.event.Event.TheVariants.{Register, Un
 use Rattle.papaya_schedules.specs.declared.outcome.Outcome.{Outcome}
 use Rattle.papaya_schedules.specs.declared.outcome.Outcome.TheVariants.{Done, Slot, Refused}
 use Rattle.papaya_schedules.specs.Moment.{Moment}
-use Rattle.papaya_calls.specs.Beginning.{IsFirstLen}
+use Rattle.papaya_calls.specs.Beginning.{IsFirstLen, first_places}
 use Rattle.papaya_executor.specs.IsAt.{KeepsGiven, Scene, StaysGiven}
 use Rattle.papaya_executor.specs.declared.row.RowTold.{RowTold}
 use Rattle.papaya_executor.specs.declared.row.RowTold.TheVariants as told
@@ -104,6 +104,7 @@ module _ {K V S : Type 0} (played : Played V) (old new : Scheduler K V S) where
     pub free : may_make_of own old.given.is_one_map (length old.logged.executor.maps.items) old.maps.items ≡ true
     pub places : ℕ
     pub given : Setting
+    pub places_are : places ≡ first_places capacity
     pub first : IsFirstLen places
     pub is_given : IsGivenFor mode places (record old { is_mapped = true }) given
     pub some : 0 < old.logged.executor.roots

@@ -103,6 +103,7 @@ returns-in_ok-push-in-Done-clause-works g c =
         free = sym c.may_make.ensures ∙ c.if-not-may_make.false;
         places = c.in-Ok.places;
         given = c.setting_for-given.result;
+        places_are = c.in-Ok.ensures.places;
         first = c.in-Ok.ensures.first;
         is_given = c.setting_for-given.ensures;
         some = (let ne = c.if-self-eq0.false in omega (arith, ne));
