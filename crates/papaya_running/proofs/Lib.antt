@@ -12,3 +12,6 @@ mod Logs
 mod Turns
 mod Counts
 mod Held
+pub mod OfRows
+pub mod OfEnds
+pub mod OfMakings

@@ -1,127 +1,148 @@
--- After an event that makes no map, ends none, and does not reclaim all, the roots of maps are those before it, and so is what ended maps have left over: what is behind roots in the midst of it is
--- so after it.
-use Rattle.std.specs.Prelude.{◌≡◌, ℕ, Bool, true, false, List, ◌∷◌, map, Option, Some, None, if◌then◌else◌}
-use Rattle.std.proofs.Common.{refl, ap, sym, ◌∙◌}
-use Rattle.papaya_histories.specs.Given.Executor.IsAt.{Scene}
-use Rattle.papaya_schedules.specs.declared.call.Call.{Call}
-use Rattle.papaya_schedules.specs.declared.effect.Effect.{Effect}
-use Rattle.papaya_schedules.specs.declared.event.Event.{Event}
-use Rattle.papaya_schedules.specs.declared.event.Event.TheVariants.{Collector, Hash, Choose, Register, Unregister, Enter, Own, Refresh, Flush, DropGuard, Forget, ReclaimAll, Close, MakeMap, EndMap, ShowShape, Begin, Step, Go, Replied, OneCall, Next, Stop}
-use Rattle.papaya_schedules.specs.declared.outcome.Outcome.{Outcome}
-use Rattle.papaya_schedules.specs.declared.outcome.Outcome.TheVariants.{Goes}
-use Rattle.papaya_schedules.specs.After.{after, maps_on, moment, remains_on}
-use Rattle.papaya_schedules.specs.Beginning.{at_work, begun, with_call}
-use Rattle.papaya_schedules.specs.Effects.{worked}
-use Rattle.papaya_schedules.specs.Entry.{Entry, acted_on, caller_of, is_busy, nameless}
-use Rattle.papaya_schedules.specs.Moment.{MapThere, Moment}
+-- In whichever scene a scheduler stands for a moment, what ended maps have left over is behind the roots that the moment says: whether something is behind a root the memory says. So what holds of a
+-- scheduler holds in each such scene.
+use Rattle.std.specs.Prelude.{◌≡◌, ◌⊎◌, ◌<◌, ℕ, Bool, List, [], ◌∷◌, Option, Some, None}
+use Rattle.std.specs.List.{AllByRecursion}
+use Rattle.std.proofs.Common.{refl, ap, sym, subst, ◌∙◌, inl, inr}
+use Rattle.seize_words.specs.SlotWords.{slot_word}
+use Rattle.seize_words.specs.declared.at.At.TheVariants.{Used}
+use Rattle.papaya_histories.specs.Given.SeizeWords.Mem.{Mem, word_at}
+use Rattle.papaya_histories.specs.Given.Seize.World.{World}
+use Rattle.papaya_histories.specs.Given.Seize.declared.states.TheConstants.{HEAD}
+use Rattle.papaya_histories.specs.Given.Tables.declared.node.Node.{Node}
+use Rattle.papaya_histories.specs.Given.Tables.declared.setting.Setting.{Setting}
+use Rattle.papaya_histories.specs.Given.Raw.declared.machines.end_map.EndMap.{EndMap}
+use Rattle.papaya_histories.specs.Given.Resize.declared.new_map.NewMap.{NewMap}
+use Rattle.papaya_histories.specs.Given.Executor.IsAt.{Scene, IsAt}
+use Rattle.papaya_histories.specs.Given.Finishes.Endings.{Finishing}
+use Rattle.papaya_histories.specs.Given.Finishes.Makings.{Beginning}
+use Rattle.papaya_histories.specs.Given.Finishes.Maps.{Standing}
+use Rattle.papaya_histories.specs.Given.Moments.Numbers.{AreFound}
+use Rattle.papaya_schedules.specs.Moment.{Moment}
+use Rattle.papaya_effects.specs.Known.{known}
 use Rattle.papaya_schedules.specs.Terms.{Terms}
-use Rattle.papaya_schedules.specs.Views.{number_of}
-use Rattle.papaya_finds.specs.Doing.{takes_steps}
-use Rattle.papaya_remains.specs.Remains.{ShowsRemains, map_roots}
-use Rattle.papaya_remains.proofs.Stays.{roots_stay, stays_remain}
+use Rattle.papaya_reclaims.specs.Left.{IsSomebodys, LeftAmong}
+use Rattle.papaya_reclaims.specs.Reclaims.{IsRootOf, LeftBehind, RootLeads}
+use Rattle.papaya_remains.specs.Remains.{AllStand, RootsAreTaken, ShowsRemains, has_some}
+use Rattle.papaya_remains.proofs.Rests.{rests_remain}
 use Rattle.papaya_logged.specs.Shown.{IsCounted}
-use Rattle.papaya_scheduler.specs.Played.{IsPlayed}
+use Rattle.papaya_rows.proofs.Facts.{no_ending_of, no_making_of}
+use Rattle.papaya_rows.proofs.Lists.{both_none, both_some}
+use Rattle.papaya_scheduler.specs.Played.{StandsFor}
+use Rattle.papaya_scheduler.specs.Reclaiming.{MayGiveAll}
+use Rattle.papaya_scheduler.specs.Seen.{named, named_of}
 use Rattle.papaya_scheduler.specs.declared.scheduler.Scheduler.{Scheduler}
-use Rattle.papaya_running.specs.Asked.{is_of_maps}
+use Rattle.papaya_scheduler.proofs.MapLists.{all_back, all_seen}
+use Rattle.papaya_running.specs.Asked.{Holds}
 
-module _ {K V : Type 0} where
-  -- what an event begins leaves maps and what is left over, if it makes no map,
-  abbrev Same : (b m : Moment K V) → Type 0
-  Same b m = (b.maps ≡ m.maps) × (b.remains ≡ m.remains)
+-- two lists that are behind one root of one memory have something, or neither has
+both_lead : {K V : Type 0} (w w2 : World (Node K V)) → w2.memory ≡ w.memory → (r : ℕ) (xs ys : List ℕ) → RootLeads w r xs → RootLeads w2 r ys → has_some xs ≡ has_some ys
+both_lead w w2 same r [] [] a b = refl
+both_lead {K} {V} w w2 same r [] (y ∷ ys) a b =
+    absurd (let free = a.0 in let used = b.2 in let one = ap (λ (x : Mem (Node K V)). word_at x (Used r)) same in cc (free, used, one))
+both_lead {K} {V} w w2 same r (x ∷ xs) [] a b =
+    absurd (let used = a.2 in let free = b.0 in let one = ap (λ (z : Mem (Node K V)). word_at z (Used r)) same in cc (used, free, one))
+both_lead w w2 same r (x ∷ xs) (y ∷ ys) a b = refl
 
-  called_same : (caller guard : List ℕ) (call : Call K V) (number : Option ℕ) (m : Moment K V) → Same (with_call caller guard call number m) m
-  called_same caller guard call None m = (refl, refl)
-  called_same caller guard call (Some n) m = (refl, refl)
+-- a root that a standing map has in one scene of an executor it has in any
+root_in : {K V S : Type 0} (same : K → K → Bool) (hash : K → ℕ) (p : Scheduler K V S) (s t : Scene K V) → IsAt same hash p.logged.executor s → IsAt same hash p.logged.executor t → (r : ℕ)
+    → IsRootOf s.maps r → IsRootOf t.maps r
+root_in {K} same hash p s t at_s at_t r (n, st, stands, its) =
+    let setting : Standing K → Setting = λ x. x.setting in
+    let x = both_some setting setting (t.maps n) (s.maps n) (at_t.maps n ∙ sym (at_s.maps n)) st stands in
+    (n, x.0, x.1, ap (λ (z : Setting). z.root) x.2 ∙ its)
 
-  pub begun_maps : (e : Event K V) (o : Outcome V) (m : Moment K V) → is_of_maps e ≡ false → Same (begun e o m) m
-  begun_maps (Collector setup) o m none = (refl, refl)
-  begun_maps (Hash by) o m none = (refl, refl)
-  begun_maps (Choose choice) o m none = (refl, refl)
-  begun_maps (Register r) o m none = (refl, refl)
-  begun_maps (Unregister r) o m none = (refl, refl)
-  begun_maps (Enter g r) o m none = (refl, refl)
-  begun_maps (Own g) o m none = (refl, refl)
-  begun_maps (Refresh g) o m none = (refl, refl)
-  begun_maps (Flush g) o m none = (refl, refl)
-  begun_maps (DropGuard g) o m none = (refl, refl)
-  begun_maps (Forget g) o m none = (refl, refl)
-  begun_maps ReclaimAll o m none = absurd (cc none)
-  begun_maps Close o m none = absurd (cc none)
-  begun_maps (MakeMap n mode c) o m none = absurd (cc none)
-  begun_maps (EndMap n) o m none = absurd (cc none)
-  begun_maps (ShowShape n) o m none = absurd (cc none)
-  begun_maps (Begin c g n call) Goes m none = called_same c g call (number_of n m) m
-  begun_maps (Begin c g n call) o m none = (refl, refl)
-  begun_maps (Step c refuse) o m none = (refl, refl)
-  begun_maps (Go c refuse) o m none = (refl, refl)
-  begun_maps (Replied c reply) o m none = (refl, refl)
-  begun_maps (OneCall g n call) o m none = by (is_busy o)
+module _ {K V S : Type 0} (same : K → K → Bool) (hash : K → ℕ) (terms : Terms) (m : Moment K V) (p : Scheduler K V S) (plays : StandsFor same hash terms m p) where
+  abbrev t : Scene K V
+  t = plays.scene
+
+  abbrev c : ShowsRemains p.logged.executor.roots m t
+  c = plays.shown.counted.remains
+
+  -- nobody makes a map, or ends one
+  pub nobody_makes : (j : ℕ) → t.makers j ≡ None
+  nobody_makes j = by (t.makers j) refl
     where
-      by : (b : Bool) → Same (if b then m else with_call nameless g call (number_of n m) m) m
-      by true = (refl, refl)
-      by false = called_same nameless g call (number_of n m) m
-  begun_maps (Next c) o m none = (refl, refl)
-  begun_maps (Stop c) o m none = (refl, refl)
+      by : (o : Option (Beginning K)) → t.makers j ≡ o → t.makers j ≡ None
+      by None is = is
+      by (Some d) is = no_making_of same hash p.logged.executor t plays.shown.is_at j (plays.rests j (plays.shown.is_at.together.makings.alone j d is))
 
-  -- and so does what it comes to
-  ended_maps : (e : Event K V) (o : Outcome V) (effects : List Effect) (m : Moment K V) (maps : List MapThere) → is_of_maps e ≡ false → (maps_on e o maps ≡ maps) × (remains_on e o effects m ≡ m.remains)
-  ended_maps (Collector setup) o effects m maps none = (refl, refl)
-  ended_maps (Hash by) o effects m maps none = (refl, refl)
-  ended_maps (Choose choice) o effects m maps none = (refl, refl)
-  ended_maps (Register r) o effects m maps none = (refl, refl)
-  ended_maps (Unregister r) o effects m maps none = (refl, refl)
-  ended_maps (Enter g r) o effects m maps none = (refl, refl)
-  ended_maps (Own g) o effects m maps none = (refl, refl)
-  ended_maps (Refresh g) o effects m maps none = (refl, refl)
-  ended_maps (Flush g) o effects m maps none = (refl, refl)
-  ended_maps (DropGuard g) o effects m maps none = (refl, refl)
-  ended_maps (Forget g) o effects m maps none = (refl, refl)
-  ended_maps ReclaimAll o effects m maps none = absurd (cc none)
-  ended_maps Close o effects m maps none = absurd (cc none)
-  ended_maps (MakeMap n mode c) o effects m maps none = absurd (cc none)
-  ended_maps (EndMap n) o effects m maps none = absurd (cc none)
-  ended_maps (ShowShape n) o effects m maps none = absurd (cc none)
-  ended_maps (Begin c g n call) o effects m maps none = (refl, refl)
-  ended_maps (Step c refuse) o effects m maps none = (refl, refl)
-  ended_maps (Go c refuse) o effects m maps none = (refl, refl)
-  ended_maps (Replied c reply) o effects m maps none = (refl, refl)
-  ended_maps (OneCall g n call) o effects m maps none = (refl, refl)
-  ended_maps (Next c) o effects m maps none = (refl, refl)
-  ended_maps (Stop c) o effects m maps none = (refl, refl)
+  pub nobody_ends : (j : ℕ) → t.enders j ≡ None
+  nobody_ends j = by (t.enders j) refl
+    where
+      by : (o : Option (Finishing K V)) → t.enders j ≡ o → t.enders j ≡ None
+      by None is = is
+      by (Some f) is = no_ending_of same hash p.logged.executor t plays.shown.is_at j (plays.rests j (plays.shown.is_at.together.alone j f is).0)
 
-  roots_of : (b m : Moment K V) → b.maps ≡ m.maps → map_roots b ≡ map_roots m
-  roots_of b m maps = ap (λ (ms : List MapThere). map (λ f. f.root) ms) maps
+  abbrev StandsNamed : (List ℕ × ℕ) → Type 0
+  StandsNamed z = (standing : Standing K) × (t.maps z.1 ≡ Some standing)
 
-  module _ (e : Entry K V) (m : Moment K V) (none : is_of_maps e.event ≡ false) where
-    -- so the roots of maps are those at which it began
-    pub roots_begun : map_roots (at_work e m) ≡ map_roots m
-    roots_begun = roots_of (at_work e m) m (begun_maps e.event e.outcome m none).0
+  all_stand : AllStand m t
+  all_stand = all_back named StandsNamed m.maps (subst (AllByRecursion StandsNamed) (sym plays.maps.listed) (all_seen named_of StandsNamed p.maps.items plays.maps.stand))
 
-    pub remains_begun : (at_work e m).remains ≡ m.remains
-    remains_begun = (begun_maps e.event e.outcome m none).1
+  -- so roots are taken as the moment says, and what is behind them may all be reclaimed, where each map is found by its number
+  module _ (found : AreFound m) where
+    pub rested : RootsAreTaken p.logged.executor.roots m p.logged.executor.memory.memory × LeftBehind p.logged.executor.roots t.world t.maps c.lists
+    rested = rests_remain K V S same hash plays.name m (known p.logged.notes) t p.logged.executor plays.shown.is_at plays.shown.shows.all.shown c found all_stand nobody_makes nobody_ends
 
-    pub roots_after : map_roots (after e m) ≡ map_roots (at_work e m)
-    roots_after =
-        ap (λ (ms : List MapThere). map (λ f. f.root) ms) (ended_maps e.event e.outcome e.effects m (worked e m).maps none).0
-        ∙ roots_stay (caller_of e.event) (acted_on e.event (at_work e m)) e.effects (at_work e m)
+    pub gives_all : MayGiveAll p t
+    gives_all =
+        let slots = plays.shown.counted.numbered.slots in
+        record {
+          lists = c.lists;
+          left = rested.1;
+          slots = record { some = slots.some; none = λ none. ap (λ (l : List (List ℕ)). slot_word l 0 HEAD) (slots.none none) };
+        }
 
-    pub remains_after : (after e m).remains ≡ m.remains
-    remains_after = (ended_maps e.event e.outcome e.effects m (worked e m).maps none).1
+  module _ (s : Scene K V) (at : IsAt same hash p.logged.executor s) where
+    makers_here : (j : ℕ) → s.makers j ≡ None
+    makers_here j =
+        let to : Beginning K → ℕ × NewMap = λ b. (b.map, b.machine) in
+        both_none to to (s.makers j) (t.makers j) (at.makers j ∙ sym (plays.shown.is_at.makers j)) (nobody_makes j)
 
--- an event by which a call takes steps is none of maps
-pub steps_no_maps : {K V : Type 0} (e : Event K V) → takes_steps e ≡ true → is_of_maps e ≡ false
-steps_no_maps (Step c refuse) takes = refl
-steps_no_maps (Go c refuse) takes = refl
-steps_no_maps (OneCall g n call) takes = refl
-steps_no_maps _ takes = absurd (cc takes)
+    enders_here : (j : ℕ) → s.enders j ≡ None
+    enders_here j =
+        let to : Finishing K V → EndMap = λ f. f.machine in
+        both_none to to (s.enders j) (t.enders j) (at.enders j ∙ sym (plays.shown.is_at.enders j)) (nobody_ends j)
 
--- What is behind roots at some moment in the midst of an event is so after it, in a scene that differs in no map and in no block.
-module _ {K V S : Type 0} (same : K → K → Bool) (hash : K → ℕ) (terms : Terms) (log : List (Entry K V)) (e : Entry K V) (none : is_of_maps e.event ≡ false) (new : Scheduler K V S)
-    (plays : IsPlayed same hash terms (e ∷ log) new) (v : Moment K V) (roots : map_roots v ≡ map_roots (at_work e (moment log))) (remains : v.remains ≡ (at_work e (moment log)).remains) (s t : Scene K V)
-    (shows : ShowsRemains new.logged.executor.roots v s) where
-  pub counted_then : t.world ≡ s.world → t.maps ≡ s.maps → t.makers ≡ s.makers → t.enders ≡ s.enders → IsCounted (moment (e ∷ log)) new.logged t
-  counted_then world maps makers enders = record {
-    numbered = plays.shown.counted.numbered;
-    remains = stays_remain K V new.logged.executor.roots v (moment (e ∷ log)) s t shows (roots_after e (moment log) none ∙ sym roots)
-        (remains_after e (moment log) none ∙ sym (remains_begun e (moment log) none) ∙ sym remains) world maps makers enders;
-  }
+    -- so a root that is somebody's in one scene is that of a map that stands in both
+    here_is : (r : ℕ) → IsSomebodys t.maps t.makers t.enders r → IsSomebodys s.maps s.makers s.enders r
+    here_is r (inl root) = inl (root_in same hash p t s plays.shown.is_at at r root)
+    here_is r (inr (inl (j, b, makes, taken, is))) = absurd (let none = nobody_makes j in cc (none, makes))
+    here_is r (inr (inr (j, f, ends, is))) = absurd (let none = nobody_ends j in cc (none, ends))
+
+    there_is : (r : ℕ) → IsSomebodys s.maps s.makers s.enders r → IsSomebodys t.maps t.makers t.enders r
+    there_is r (inl root) = inl (root_in same hash p s t at plays.shown.is_at r root)
+    there_is r (inr (inl (j, b, makes, taken, is))) = absurd (let none = makers_here j in cc (none, makes))
+    there_is r (inr (inr (j, f, ends, is))) = absurd (let none = enders_here j in cc (none, ends))
+
+    module _ (lists : ℕ → List ℕ) (left : LeftAmong p.logged.executor.roots s.world s.maps s.makers s.enders lists) where
+      none_behind : (r : ℕ) → r < p.logged.executor.roots → IsSomebodys t.maps t.makers t.enders r → IsSomebodys s.maps s.makers s.enders r → has_some (c.lists r) ≡ has_some (lists r)
+      none_behind r l there here = ap has_some (c.left.none r l there) ∙ sym (ap has_some (left.none r l here))
+
+      some_so : (r : ℕ) → r < p.logged.executor.roots → has_some (c.lists r) ≡ has_some (lists r)
+      some_so r l = by (c.left.root r l) (left.root r l)
+        where
+          by : IsSomebodys t.maps t.makers t.enders r ⊎ RootLeads t.world r (c.lists r) → IsSomebodys s.maps s.makers s.enders r ⊎ RootLeads s.world r (lists r) → has_some (c.lists r) ≡ has_some (lists r)
+          by (inl there) here = none_behind r l there (here_is r there)
+          by (inr leads) (inl here) = none_behind r l (there_is r here) here
+          by (inr leads) (inr leads_here) = both_lead t.world s.world (at.memory ∙ sym plays.shown.is_at.memory) r (c.lists r) (lists r) leads leads_here
+
+      -- numbers, slots and roots are so there
+      pub counted_in : IsCounted m p.logged s
+      counted_in = record {
+        numbered = plays.shown.counted.numbered;
+        remains = record {
+          lists = lists;
+          left = left;
+          told = λ r l none. c.told r l none ∙ some_so r l;
+          once = c.once;
+          below = c.below;
+          ending = λ j f is. absurd (let none = enders_here j in cc (none, is));
+        };
+      }
+
+-- What holds of a scheduler holds in whichever scene it stands for the moment.
+pub holds_in : {K V S : Type 0} (same : K → K → Bool) (hash : K → ℕ) (terms : Terms) (m : Moment K V) (p : Scheduler K V S) → Holds same hash terms m p → (plays : StandsFor same hash terms m p)
+    → (there : Holds same hash terms m p) × (there.stands ≡ plays)
+holds_in same hash terms m p holds plays =
+    (record { stands = plays; lawful = holds.lawful; counts = holds.counts; gives = gives_all same hash terms m p plays holds.counts.apart.numbers.found }, refl)

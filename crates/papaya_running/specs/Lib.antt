@@ -4,3 +4,4 @@ pub mod Ending
 pub mod Acting
 pub mod Run
 pub mod OfCalls
+pub mod OfRows

@@ -256,13 +256,13 @@ module _ {K V S : Type 0} (same : K → K → Bool) (hash : K → ℕ) (terms : 
                 sym is_given.mode_is
                 ∙ sym (ap (λ (x : Setting). x.mode) (ran.2 same hash s1 shown_mid.is_at b here (sym is_number)).1.maps.answer_is)
 
-            is_next : number ≡ m.made
+            pub is_next : number ≡ m.made
             is_next = is_number ∙ counts.next
 
-            new_one : IsNew number setting bm
+            pub new_one : IsNew number setting bm
             new_one = subst (λ (n : ℕ). IsNew n setting bm) (sym is_next) (maps_come_as_new K V m counts.apart.numbers counts.pairs there refl refl setting root_is mode_is)
 
-            shown_there : IsShown same hash stands.name bm mid s1
+            pub shown_there : IsShown same hash stands.name bm mid s1
             shown_there =
                 comes same hash stands.name m s1 shown_mid counts.apart.numbers there refl (subst (λ (n : ℕ). n < length mid.executor.maps.items) counts.next (shown_mid.is_at.numbers i b here))
                 (ap (λ (r : ℕ). is_among r used) root_is ∙ its_root.0.1)

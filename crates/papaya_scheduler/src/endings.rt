@@ -8,6 +8,7 @@ ghost use Rattle.papaya_scheduler.specs.Back.{GivesBack};
 ghost use Rattle.papaya_scheduler.specs.Mapping.{PlaysEnding};
 ghost use Rattle.papaya_scheduler.specs.Played.{MayPlay};
 ghost use Rattle.papaya_scheduler.specs.Quiet.{IsQuiet};
+ghost use Rattle.papaya_scheduler.specs.Works.{WorksOnEnd};
 
 use crate::caller::Callers;
 use crate::played::Played;
@@ -45,6 +46,7 @@ impl<K: Drop, V: Drop, S> Scheduler<K, V, S> {
         ensures steps { IfOk result (λ played. played.steps ≡ 0) }
         ensures quiet { IfOk result (λ played. IsQuiet played.outcome played.effects.items) }
         ensures plays { IfOk result (λ played. (same : K → K → Bool) (hash : K → ℕ) → PlaysEnding same hash (event.EndMap map.now) played self.old self.new) }
+        ensures works { IfOk result (λ played. WorksOnEnd played self.old self.new map.now) }
         ensures back { IfOk result (λ played. (same : K → K → Bool) (hash : K → ℕ) → GivesBack same hash (event.EndMap map.now) played self.old back.old.items back.new.items) }
         ensures given { KeepsGiven self.old.logged.executor self.new.logged.executor }
     {

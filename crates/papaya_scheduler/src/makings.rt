@@ -6,6 +6,7 @@ ghost use Rattle.papaya_schedules.specs.declared.event.Event.TheVariants as even
 ghost use Rattle.papaya_executor.specs.IsAt.{StaysGiven};
 ghost use Rattle.papaya_scheduler.specs.Mapping.{MayMap, PlaysMaking, IsGivenFor, may_make_of, numbers_made};
 ghost use Rattle.papaya_scheduler.specs.Quiet.{IsQuiet};
+ghost use Rattle.papaya_scheduler.specs.Works.{WorksOnMap};
 
 use crate::played::Played;
 use crate::scheduler::{NamedMap, Scheduler};
@@ -57,6 +58,7 @@ impl<K: Drop, V: Drop, S> Scheduler<K, V, S> {
         ensures quiet { IfOk result (λ played. IsQuiet played.outcome played.effects.items) }
         ensures plays { IfOk result (λ played. (same : K → K → Bool) (hash : K → ℕ) → PlaysMaking same hash (event.MakeMap map mode capacity) played self.old self.new) }
         ensures numbers { IfOk result (λ played. length self.new.logged.executor.maps.items ≡ numbers_made played.outcome (length self.old.logged.executor.maps.items)) }
+        ensures works { IfOk result (λ played. WorksOnMap played self.old self.new map mode capacity) }
         ensures given { StaysGiven self.old.logged.executor self.new.logged.executor }
     {
         self.is_mapped = true;

@@ -9,6 +9,7 @@ ghost use Rattle.papaya_scheduler.specs.Back.{GivesBack};
 ghost use Rattle.papaya_scheduler.specs.Played.{MayPlay, PlaysAt, StandsFor};
 ghost use Rattle.papaya_scheduler.specs.Quiet.{IsQuiet};
 ghost use Rattle.papaya_rows.specs.Taking.{SlotTaken};
+ghost use Rattle.papaya_scheduler.specs.Works.{WorksOnSlot};
 
 use crate::played::Played;
 use crate::scheduler::Scheduler;
@@ -52,6 +53,7 @@ impl<K: Drop, V: Drop, S> Scheduler<K, V, S> {
         ensures steps { IfOk result (λ played. played.steps ≡ 0) }
         ensures quiet { IfOk result (λ played. IsQuiet played.outcome played.effects.items) }
         ensures plays { IfOk result (λ played. (same : K → K → Bool) (hash : K → ℕ) → PlaysAt same hash (event.Register registration) played self.old self.new) }
+        ensures works { IfOk result (λ played. WorksOnSlot played self.old self.new (event.Register registration)) }
         ensures back { IfOk result (λ played. (same : K → K → Bool) (hash : K → ℕ) → GivesBack same hash (event.Register registration) played self.old back.old.items back.new.items) }
         ensures given { KeepsGiven self.old.logged.executor self.new.logged.executor }
     {
@@ -83,6 +85,7 @@ impl<K: Drop, V: Drop, S> Scheduler<K, V, S> {
         ensures steps { IfOk result (λ played. played.steps ≡ 0) }
         ensures quiet { IfOk result (λ played. IsQuiet played.outcome played.effects.items) }
         ensures plays { IfOk result (λ played. (same : K → K → Bool) (hash : K → ℕ) → PlaysAt same hash (event.Own guard) played self.old self.new) }
+        ensures works { IfOk result (λ played. WorksOnSlot played self.old self.new (event.Own guard)) }
         ensures back { IfOk result (λ played. (same : K → K → Bool) (hash : K → ℕ) → GivesBack same hash (event.Own guard) played self.old back.old.items back.new.items) }
         ensures given { KeepsGiven self.old.logged.executor self.new.logged.executor }
     {
@@ -118,6 +121,7 @@ impl<K: Drop, V: Drop, S> Scheduler<K, V, S> {
         ensures steps { IfOk result (λ played. played.steps ≡ 0) }
         ensures quiet { IfOk result (λ played. IsQuiet played.outcome played.effects.items) }
         ensures plays { IfOk result (λ played. (same : K → K → Bool) (hash : K → ℕ) → PlaysAt same hash (event.Unregister registration.now) played self.old self.new) }
+        ensures works { IfOk result (λ played. WorksOnSlot played self.old self.new (event.Unregister registration.now)) }
         ensures back { IfOk result (λ played. (same : K → K → Bool) (hash : K → ℕ) → GivesBack same hash (event.Unregister registration.now) played self.old back.old.items back.new.items) }
         ensures given { KeepsGiven self.old.logged.executor self.new.logged.executor }
     {

@@ -43,7 +43,7 @@ use Rattle.papaya_scheduler.proofs.Called.{begins_so, begun_call, is_begun_for, 
 use Rattle.papaya_scheduler.proofs.Rights.{quiet}
 use Rattle.papaya_running.specs.OfCalls.{HaveShards, Runs, RunsOn}
 use Rattle.papaya_running.proofs.OfCalls.Scenes.{AreNamed, stands_in}
-use Rattle.papaya_running.proofs.Remaining.{counted_then, remains_begun, roots_begun}
+use Rattle.papaya_running.proofs.Remaining.{counted_in}
 
 -- what is under way then is a call as it was called
 module _ {K V : Type 0} (same : K → K → Bool) (st : Standing K) (i : ℕ) where
@@ -186,8 +186,7 @@ module _ {K V S : Type 0} (same : K → K → Bool) (hash : K → ℕ) (terms : 
 
       counted_here : IsCounted (moment (e own ∷ log)) new.logged then_at
       counted_here =
-          counted_then same hash terms log (e own) refl new plays (with_call own guard call (Some led.number) m) (sym (roots_begun (e own) m refl)) (sym (remains_begun (e own) m refl)) then_at then_at
-          shown_begun.counted.remains refl refl refl refl
+          counted_in same hash terms (moment (e own ∷ log)) new plays then_at shown_begun.is_at shown_begun.counted.remains.lists shown_begun.counted.remains.left
 
       pub begun_on : RunsOn same hash terms log (e own) new
       begun_on = record {

@@ -1,7 +1,7 @@
 -- The last step of an event of a call: the event is legal but for what it comes to, and the run goes on with it.
 use Rattle.std.specs.Prelude.{◌≡◌, ◌≤◌, ◌+◌, ℕ, suc, Bool, true, List, ◌∷◌, not, ◌||◌, Option, Some}
 use Rattle.std.specs.List.{list_any}
-use Rattle.std.proofs.Common.{refl, ap, sym, subst, ◌∙◌, inl, arith}
+use Rattle.std.proofs.Common.{ap, sym, subst, ◌∙◌, inl, arith}
 use Rattle.papaya_histories.specs.Given.SeizeWaiting.Held.{count}
 use Rattle.papaya_histories.specs.Given.SeizeWords.declared.fault.Fault.TheVariants.{Busy}
 use Rattle.papaya_histories.specs.Given.Schedules.declared.effect.Effect.{Effect}
@@ -31,7 +31,7 @@ use Rattle.papaya_legal.specs.CallSwept.{TellsOf}
 use Rattle.papaya_legal.specs.Carried.{ComesAlone, ShowsRun}
 use Rattle.papaya_legal.proofs.CallRuns.{call_events_run}
 use Rattle.papaya_legal.proofs.CallSwept.{calls_are_swept}
-use Rattle.papaya_remains.specs.Remains.{map_roots}
+use Rattle.papaya_remains.specs.Remains.{ShowsRemains}
 use Rattle.papaya_logged.specs.Shown.{IsShown}
 use Rattle.papaya_scheduler.specs.Played.{IsPlayed, entry_of}
 use Rattle.papaya_scheduler.specs.Seen.{kind_of}
@@ -44,9 +44,9 @@ use Rattle.papaya_running.specs.OfCalls.{RunsOn, TellsValue, Wanted}
 use Rattle.papaya_running.proofs.OfCalls.Answers.{last_steps_tell}
 use Rattle.papaya_running.proofs.OfCalls.Found.{mask_is}
 use Rattle.papaya_running.proofs.OfCalls.Scenes.{stands_in}
-use Rattle.papaya_running.proofs.OfCalls.Steps.{HasCome, caller_is, follows, leads, named_then, noted_so, noted_then, remains_then, roots_then, shards_then, shown_then, size_then, then_known, then_now, then_scene}
+use Rattle.papaya_running.proofs.OfCalls.Steps.{HasCome, caller_is, follows, leads, named_then, noted_so, noted_then, shards_then, shown_then, size_then, then_known, then_now, then_scene}
 use Rattle.papaya_running.proofs.OfCalls.Words.{not_busy, shows_as_told, tells_end}
-use Rattle.papaya_running.proofs.Remaining.{counted_then, steps_no_maps}
+use Rattle.papaya_running.proofs.Remaining.{counted_in}
 
 module _ {K V S : Type 0} (same : K → K → Bool) (hash : K → ℕ) (wanted : Wanted K V S same hash) (name : ℕ → List ℕ) (terms : Terms) (log : List (Entry K V)) (event : Event K V) (beginning : Moment K V)
     (map i : ℕ) (c : CallThere K V) (place : ℕ) (c_is : call_of (name i) beginning ≡ Some c) (first : Known) (before : Scene K V) (run : ShowsRun same name terms log first before)
@@ -118,16 +118,16 @@ module _ {K V S : Type 0} (same : K → K → Bool) (hash : K → ℕ) (wanted :
     after_run : ShowsRun same name terms (e ∷ log) (known new.logged.notes) at_end
     after_run = subst (λ (k : Known). ShowsRun same name terms (e ∷ log) k at_end) (sym noted) goes_on.1
 
+    abbrev its_left : ShowsRemains new.logged.executor.roots (then_now same hash wanted name terms log event beginning map i c place n mid played.effects.items p new played.outcome come step) at_end
+    its_left = (shown_then same hash wanted name terms log event beginning map i c place n mid played.effects.items p new played.outcome come step).counted.remains
+
     shown : IsShown same hash name (moment (e ∷ log)) new.logged at_end
     shown = record {
       is_at = (shown_then same hash wanted name terms log event beginning map i c place n mid played.effects.items p new played.outcome come step).is_at;
       shows = after_run.calls.whole;
       kept = after_run.calls.kept;
-      counted = counted_then same hash terms log e (steps_no_maps event takes) new plays
-          (then_now same hash wanted name terms log event beginning map i c place n mid played.effects.items p new played.outcome come step)
-          (roots_then same hash wanted name terms log event beginning map i c place n mid played.effects.items p new played.outcome come step ∙ ap map_roots (sym begins))
-          (remains_then same hash wanted name terms log event beginning map i c place n mid played.effects.items p new played.outcome come step ∙ ap (λ (b : Moment K V). b.remains) (sym begins))
-          at_end at_end (shown_then same hash wanted name terms log event beginning map i c place n mid played.effects.items p new played.outcome come step).counted.remains refl refl refl refl;
+      counted = counted_in same hash terms (moment (e ∷ log)) new plays at_end
+          (shown_then same hash wanted name terms log event beginning map i c place n mid played.effects.items p new played.outcome come step).is_at its_left.lists its_left.left;
     }
 
     pub runs_on : RunsOn same hash terms log e new

@@ -57,28 +57,28 @@ module _ {K V S : Type 0} (same : K → K → Bool) (hash : K → ℕ) (old new 
           (so (subst (λ (e : Entry K V). ComesRight terms log e) is right) (subst (λ (e : Entry K V). IsPlayed same hash terms (e ∷ log) new) is plays))
 
       pub step_out : (own : List ℕ) (refuse : Bool) → ComesRight terms log (entry_of (Step own refuse) played) → IsPlayed same hash terms (entry_of (Step own refuse) played ∷ log) new → As (Step own refuse)
-      step_out own refuse = by_quiet (Step own refuse) (quiet_on same hash terms log old new runs logged_is calls_are (Step own refuse) (reads_of same hash terms log old new runs logged_is calls_are (Step own refuse) own refl) tt refl tt refl tt (refl, refl) refl)
+      step_out own refuse = by_quiet (Step own refuse) (quiet_on same hash terms log old new runs logged_is calls_are (Step own refuse) (reads_of same hash terms log old new runs logged_is calls_are (Step own refuse) own refl) tt refl tt refl tt (refl, refl))
 
       pub go_out : (own : List ℕ) (refuse : Bool) → ComesRight terms log (entry_of (Go own refuse) played) → IsPlayed same hash terms (entry_of (Go own refuse) played ∷ log) new → As (Go own refuse)
-      go_out own refuse = by_quiet (Go own refuse) (quiet_on same hash terms log old new runs logged_is calls_are (Go own refuse) (reads_of same hash terms log old new runs logged_is calls_are (Go own refuse) own refl) tt refl tt refl tt (refl, refl) refl)
+      go_out own refuse = by_quiet (Go own refuse) (quiet_on same hash terms log old new runs logged_is calls_are (Go own refuse) (reads_of same hash terms log old new runs logged_is calls_are (Go own refuse) own refl) tt refl tt refl tt (refl, refl))
 
       pub next_out : (own : List ℕ) → ComesRight terms log (entry_of (Next own) played) → IsPlayed same hash terms (entry_of (Next own) played ∷ log) new → As (Next own)
-      next_out own = by_quiet (Next own) (quiet_on same hash terms log old new runs logged_is calls_are (Next own) (reads_of same hash terms log old new runs logged_is calls_are (Next own) own refl) tt refl tt refl tt (refl, refl) refl)
+      next_out own = by_quiet (Next own) (quiet_on same hash terms log old new runs logged_is calls_are (Next own) (reads_of same hash terms log old new runs logged_is calls_are (Next own) own refl) tt refl tt refl tt (refl, refl))
 
       pub whole_out : (guard on : List ℕ) (call : Call K V) → ComesRight terms log (entry_of (OneCall guard on call) played) → IsPlayed same hash terms (entry_of (OneCall guard on call) played ∷ log) new
           → As (OneCall guard on call)
-      whole_out guard on call = by_quiet (OneCall guard on call) (quiet_on same hash terms log old new runs logged_is calls_are (OneCall guard on call) (reads_of same hash terms log old new runs logged_is calls_are (OneCall guard on call) nameless refl) tt refl tt refl tt (refl, refl) refl)
+      whole_out guard on call = by_quiet (OneCall guard on call) (quiet_on same hash terms log old new runs logged_is calls_are (OneCall guard on call) (reads_of same hash terms log old new runs logged_is calls_are (OneCall guard on call) nameless refl) tt refl tt refl tt (refl, refl))
 
       -- those of no call that goes on
       pub begin_out : (own guard on : List ℕ) (call : Call K V) → ComesRight terms log (entry_of (Begin own guard on call) played) → IsPlayed same hash terms (entry_of (Begin own guard on call) played ∷ log) new
           → As (Begin own guard on call)
-      begin_out own guard on call = by_quiet (Begin own guard on call) (quiet_on same hash terms log old new runs logged_is calls_are (Begin own guard on call) tt tt refl tt refl tt tt refl)
+      begin_out own guard on call = by_quiet (Begin own guard on call) (quiet_on same hash terms log old new runs logged_is calls_are (Begin own guard on call) tt tt refl tt refl tt tt)
 
       pub reply_out : (own : List ℕ) (reply : Reply V) → ComesRight terms log (entry_of (Replied own reply) played) → IsPlayed same hash terms (entry_of (Replied own reply) played ∷ log) new → As (Replied own reply)
-      reply_out own reply = by_quiet (Replied own reply) (quiet_on same hash terms log old new runs logged_is calls_are (Replied own reply) tt tt refl tt refl tt tt refl)
+      reply_out own reply = by_quiet (Replied own reply) (quiet_on same hash terms log old new runs logged_is calls_are (Replied own reply) tt tt refl tt refl tt tt)
 
       pub stop_out : (own : List ℕ) → ComesRight terms log (entry_of (Stop own) played) → IsPlayed same hash terms (entry_of (Stop own) played ∷ log) new → As (Stop own)
-      stop_out own = by_quiet (Stop own) (quiet_on same hash terms log old new runs logged_is calls_are (Stop own) tt tt refl tt refl tt tt refl)
+      stop_out own = by_quiet (Stop own) (quiet_on same hash terms log old new runs logged_is calls_are (Stop own) tt tt refl tt refl tt tt)
 
   -- one that says again what it has said has neither taken steps, nor was it out of turn
   never_again : (o : Outcome V) → TookOrBusy played → SaysAgain same hash o played old new → (o ≡ Refused Busy → ⊥) → ⊥

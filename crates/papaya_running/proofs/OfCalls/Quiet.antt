@@ -29,7 +29,7 @@ use Rattle.papaya_legal.proofs.Idle.{idle_events_are_legal}
 use Rattle.papaya_legal.proofs.Over.{idle_events_end}
 use Rattle.papaya_histories.specs.Given.Moments.Whole.{ShowsWhole}
 use Rattle.papaya_kept.specs.Kept.{ShowsKept}
-use Rattle.papaya_remains.specs.Remains.{ShowsRemains}
+use Rattle.papaya_reclaims.specs.Left.{LeftAmong}
 use Rattle.papaya_logged.specs.Shown.{IsCounted, IsShown}
 use Rattle.papaya_logged.specs.declared.logged.Logged.{Logged}
 use Rattle.papaya_scheduler.specs.Played.{IsPlayed}
@@ -38,10 +38,9 @@ use Rattle.papaya_scheduler.specs.declared.caller.Callers.{Callers}
 use Rattle.papaya_scheduler.specs.declared.scheduler.Scheduler.{Scheduler}
 use Rattle.papaya_scheduler.proofs.Here.{here_at, there_is}
 use Rattle.papaya_scheduler.proofs.Rights.{quiet}
-use Rattle.papaya_running.specs.Asked.{is_of_maps}
 use Rattle.papaya_running.specs.OfCalls.{HaveShards, Runs, RunsOn}
 use Rattle.papaya_running.proofs.OfCalls.Scenes.{AreNamed, its_named, stands_in}
-use Rattle.papaya_running.proofs.Remaining.{counted_then, remains_begun, roots_begun}
+use Rattle.papaya_running.proofs.Remaining.{counted_in}
 
 -- whatever call there is, nothing is asked of it
 nothing_asked : {K V : Type 0} (o : Option (CallThere K V)) → IfCall (λ (c : CallThere K V). Unit {0}) o
@@ -77,7 +76,7 @@ module _ {K V S : Type 0} (same : K → K → Bool) (hash : K → ℕ) (terms : 
           here.caller.map here.caller.number here.way.0 here.way.1 e (of_call ∙ ap Some (sym (here.way.2 ∙ here.named))) (omega arith)
 
   module _ (reads : ReadsBriefly log e m) (no_slot : IsOfNoSlot event) (stays : worked e m ≡ m) (enters : EntersInside runs.stands.scene.world event (Refused Busy) m.there)
-      (whole : IsWhole event (Refused Busy) [] m (worked e m)) (reclaims : ReclaimsAll log e) (leaves : LeavesAll event (Refused Busy) 0) (no_maps : is_of_maps event ≡ false) (right : ComesRight terms log e)
+      (whole : IsWhole event (Refused Busy) [] m (worked e m)) (reclaims : ReclaimsAll log e) (leaves : LeavesAll event (Refused Busy) 0) (right : ComesRight terms log e)
       (plays : IsPlayed same hash terms (e ∷ log) new) where
     legal : IsLegalBut same terms log e × SectionsHold (moment (e ∷ log)) (known old.logged.notes) runs.stands.scene.world
     legal =
@@ -90,14 +89,18 @@ module _ {K V S : Type 0} (same : K → K → Bool) (hash : K → ℕ) (terms : 
         idle_events_end K V same runs.stands.name terms log (known old.logged.notes) runs.stands.scene runs.shows e right legal.0.life refl (others_hand_over K V log e no_slot).0
         (others_hand_over K V log e no_slot).1 reclaims leaves legal.1
 
+    is_at : IsAt same hash new.logged.executor runs.stands.scene
+    is_at = subst (λ (l : Logged K V S). IsAt same hash l.executor runs.stands.scene) (sym logged_is) runs.stands.shown.is_at
+
     counted : IsCounted (moment (e ∷ log)) new.logged runs.stands.scene
     counted =
-        counted_then same hash terms log e no_maps new plays m (sym (roots_begun e m no_maps)) (sym (remains_begun e m no_maps)) runs.stands.scene runs.stands.scene
-        (subst (λ (l : Logged K V S). ShowsRemains l.executor.roots m runs.stands.scene) (sym logged_is) runs.stands.shown.counted.remains) refl refl refl refl
+        counted_in same hash terms (moment (e ∷ log)) new plays runs.stands.scene is_at runs.stands.shown.counted.remains.lists
+        (subst (λ (l : Logged K V S). LeftAmong l.executor.roots runs.stands.scene.world runs.stands.scene.maps runs.stands.scene.makers runs.stands.scene.enders runs.stands.shown.counted.remains.lists)
+        (sym logged_is) runs.stands.shown.counted.remains.left)
 
     shown : IsShown same hash runs.stands.name (moment (e ∷ log)) new.logged runs.stands.scene
     shown = record {
-      is_at = subst (λ (l : Logged K V S). IsAt same hash l.executor runs.stands.scene) (sym logged_is) runs.stands.shown.is_at;
+      is_at = is_at;
       shows = subst (λ (l : Logged K V S). ShowsWhole same runs.stands.name (moment (e ∷ log)) (known l.notes) runs.stands.scene) (sym logged_is) run.calls.whole;
       kept = subst (λ (l : Logged K V S). ShowsKept runs.stands.name (moment (e ∷ log)) (known l.notes) runs.stands.scene) (sym logged_is) run.calls.kept;
       counted = counted;

@@ -30,8 +30,6 @@ use Rattle.papaya_models.specs.CallEvents.{IsNoted, things_then}
 use Rattle.papaya_legal.specs.CallEvents.{InCallEvent}
 use Rattle.papaya_legal.proofs.Calls.{call_events_go_on_so}
 use Rattle.papaya_logged.specs.Calling.{CallGoesOn}
-use Rattle.papaya_remains.specs.Remains.{map_roots}
-use Rattle.papaya_remains.proofs.Stays.{remains_stay, roots_stay}
 use Rattle.papaya_logged.specs.Shown.{IsShown}
 use Rattle.papaya_rows.proofs.Lists.{both_some, found_alike, set_get}
 use Rattle.papaya_scheduler.specs.Seen.{Seen, kind_of, seen}
@@ -69,8 +67,6 @@ module _ {K V S : Type 0} (same : K → K → Bool) (hash : K → ℕ) (wanted :
     pub shown : IsShown same hash name now p.logged scene
     pub slot : (d : CallThere K V) → call_of (name i) now ≡ Some d → slot_of_guard d.guard now.there ≡ slot_of i
     pub midst : InCallEvent same name terms log event beginning map i c steps did now (known p.logged.notes) scene under
-    pub roots : map_roots now ≡ map_roots beginning
-    pub remains : now.remains ≡ beginning.remains
 
   -- a step from there
   module _ (n : ℕ) (mid after : List Effect) (p new : Scheduler K V S) (outcome : Outcome V) (come : HasCome n mid p) (step : IsStepped same hash place outcome mid after p new) where
@@ -145,13 +141,6 @@ module _ {K V S : Type 0} (same : K → K → Bool) (hash : K → ℕ) (wanted :
         → Happens deferred_word p.logged.executor.batch_size (Step i) begun (leads map come.under its_here).4.w2 → IsNoted (things_then (things_in log) mid) (known p.logged.notes) (slot_of i) request
     noted_so = wanted.noted name terms log event beginning map i c n mid come.now (known p.logged.notes) come.scene come.under come.midst p.logged.executor new.logged.executor come.shown.is_at step.said leads
 
-    -- roots of maps, and what is left over, are as they were
-    pub roots_then : map_roots then_now ≡ map_roots beginning
-    roots_then = roots_stay (Some (name i)) (Some map) did come.now ∙ come.roots
-
-    pub remains_then : then_now.remains ≡ beginning.remains
-    remains_then = remains_stay (Some (name i)) (Some map) did come.now ∙ come.remains
-
     -- the guard of its call is where it was
     slot_then : (d : CallThere K V) → call_of (name i) then_now ≡ Some d → slot_of_guard d.guard then_now.there ≡ slot_of i
     slot_then d is =
@@ -220,8 +209,6 @@ module _ {K V S : Type 0} (same : K → K → Bool) (hash : K → ℕ) (wanted :
         midst = subst (λ (k : Known). InCallEvent same name terms log event beginning map i c (n + 1) (mid ++ did) then_now k then_scene next.0) (sym noted_then)
             (call_events_go_on_so K V S same hash name terms log event beginning map i c n mid come.now (known p.logged.notes) come.scene come.under come.midst p.logged.executor new.logged.executor
             come.shown.is_at come.size step.said leads (shows_none (known new.logged.notes) step.caller.kind step.caller.value step.said said_on) noted_so next.0 next.1);
-        roots = roots_then;
-        remains = remains_then;
       })
 
   -- so it has come wherever its steps have led

@@ -31,7 +31,7 @@ use Rattle.papaya_histories.specs.Changes.{IsTaken}
 use Rattle.papaya_legal.specs.CallEvents.{IsLegalBut}
 use Rattle.papaya_legal.specs.Carried.{ShowsRun}
 use Rattle.papaya_legal.proofs.Begun.{stopped_events_end, told_events_end}
-use Rattle.papaya_remains.specs.Remains.{ShowsRemains}
+use Rattle.papaya_reclaims.specs.Left.{LeftAmong}
 use Rattle.papaya_logged.specs.Shown.{IsCounted}
 use Rattle.papaya_scheduler.specs.Machines.{IsAsFar}
 use Rattle.papaya_scheduler.specs.Played.{HasReplied, HasStopped, IsPlayed}
@@ -45,10 +45,9 @@ use Rattle.papaya_scheduler.proofs.Here.{Here, here_at, read_here}
 use Rattle.papaya_scheduler.proofs.Replied.{asks_what, far_asks}
 use Rattle.papaya_scheduler.proofs.Rights.{quiet}
 use Rattle.papaya_scheduler.proofs.Stopped.{asked_ready, ready_parts, shows_is}
-use Rattle.papaya_running.specs.Asked.{is_of_maps}
 use Rattle.papaya_running.specs.OfCalls.{Runs, RunsOn}
 use Rattle.papaya_running.proofs.OfCalls.Scenes.{AreNamed, its_named, named_left, named_set, stands_in}
-use Rattle.papaya_running.proofs.Remaining.{counted_then, remains_begun, roots_begun}
+use Rattle.papaya_running.proofs.Remaining.{counted_in}
 
 -- a call takes a reply of its kind
 taken_by : {K V : Type 0} (one : OneKey K V) (reply : Reply V) → fits (kind_on one) reply ≡ true → IsTaken one reply
@@ -82,10 +81,13 @@ module _ {K V S : Type 0} (same : K → K → Bool) (hash : K → ℕ) (terms : 
 
   -- the run goes on in a scene with the same maps
   module _ (e : Entry K V) (t : Scene K V) (run : ShowsRun same name terms (e ∷ log) (known old.logged.notes) t) (legal : IsLegalBut same terms log e) (is_at : IsAt same hash new.logged.executor t) (maps : t.maps ≡ s.maps)
-      (counted : IsCounted (moment (e ∷ log)) new.logged t) (notes : new.logged.notes ≡ old.logged.notes) (on_size : new.logged.executor.batch_size ≡ old.logged.executor.batch_size) (named : AreNamed name new.calls.items.items)
+      (left : LeftAmong new.logged.executor.roots t.world t.maps t.makers t.enders runs.stands.shown.counted.remains.lists) (notes : new.logged.notes ≡ old.logged.notes) (on_size : new.logged.executor.batch_size ≡ old.logged.executor.batch_size) (named : AreNamed name new.calls.items.items)
       (plays : IsPlayed same hash terms (e ∷ log) new) where
     run_then : ShowsRun same name terms (e ∷ log) (known new.logged.notes) t
     run_then = subst (λ (k : Known). ShowsRun same name terms (e ∷ log) k t) (sym (ap known notes)) run
+
+    counted : IsCounted (moment (e ∷ log)) new.logged t
+    counted = counted_in same hash terms (moment (e ∷ log)) new plays t is_at runs.stands.shown.counted.remains.lists left
 
     pub then_on : RunsOn same hash terms log e new
     then_on = record {
@@ -98,12 +100,11 @@ module _ {K V S : Type 0} (same : K → K → Bool) (hash : K → ℕ) (terms : 
       };
     }
 
-  -- what is behind roots is so after an event that begins nothing of its own, in a scene that differs in calls alone
-  behind : (e : Entry K V) → is_of_maps e.event ≡ false → KeepsGiven old.logged.executor new.logged.executor → IsPlayed same hash terms (e ∷ log) new → (t : Scene K V) → t.world ≡ s.world → t.maps ≡ s.maps
-      → t.makers ≡ s.makers → t.enders ≡ s.enders → IsCounted (moment (e ∷ log)) new.logged t
-  behind e none given plays t =
-      counted_then same hash terms log e none new plays m (sym (roots_begun e m none)) (sym (remains_begun e m none)) s t
-      (subst (λ (r : ℕ). ShowsRemains r m s) (sym given.2) runs.stands.shown.counted.remains)
+  -- what is behind roots stays there, in a scene that differs in calls alone
+  behind : KeepsGiven old.logged.executor new.logged.executor
+      → LeftAmong new.logged.executor.roots s.world s.maps s.makers s.enders runs.stands.shown.counted.remains.lists
+  behind given =
+      subst (λ (r : ℕ). LeftAmong r s.world s.maps s.makers s.enders runs.stands.shown.counted.remains.lists) (sym given.2) runs.stands.shown.counted.remains.left
 
   -- a reply was told
   module _ (reply : Reply V) (has : HasReplied same hash own reply old new) (given : KeepsGiven old.logged.executor new.logged.executor) where
@@ -156,7 +157,7 @@ module _ {K V S : Type 0} (same : K → K → Bool) (hash : K → ℕ) (terms : 
         (told_events_end K V S same hash name terms log (known old.logged.notes) s old.logged.executor new.logged.executor runs.stands.shown.is_at runs.shows d.map d.number u here.way.1 here.call
         (ap (λ (x : List ℕ). call_of x m) name_is ∙ here.call_is) question.0 asking led.0 led.2 reply led.1 led.3 takes_ok led.5 taken led.7 0
         (subst (λ (x : List ℕ). ComesRight terms log (e x)) (sym name_is) right)) in
-        then_on (e own) t on.1 on.0 led.7 refl (behind (e own) refl given plays t refl refl refl refl) has.notes given.1
+        then_on (e own) t on.1 on.0 led.7 refl (behind given) has.notes given.1
         (subst (AreNamed name) (sym (has.calls d here.at)) (named_set name old.calls.items.items has.place (record d { stands = far.Goes; value = has.value }) here.way.2 (its_named same hash terms m old runs.stands))) plays
 
   -- a walk was given up
@@ -209,5 +210,5 @@ module _ {K V S : Type 0} (same : K → K → Bool) (hash : K → ℕ) (terms : 
         let on = subst (λ (x : List ℕ). IsLegalBut same terms log (f x) × ShowsRun same name terms (f x ∷ log) (known old.logged.notes) after) named_so
         (stopped_events_end K V S same hash name terms log (known old.logged.notes) s old.logged.executor new.logged.executor runs.stands.shown.is_at runs.shows its.number led_so its.map there.way.0
         there.way.1 0 none_named (subst (λ (x : List ℕ). ComesRight terms log (f x)) (sym named_so) right)) in
-        then_on (f own) after on.1 on.0 (led_so its.map there.way.0 there.way.1).2 refl (behind (f own) refl given plays after refl refl refl refl) has.notes given.1
+        then_on (f own) after on.1 on.0 (led_so its.map there.way.0 there.way.1).2 refl (behind given) has.notes given.1
         (subst (AreNamed name) (sym has.calls) (named_left name old.calls.items.items has.place (its_named same hash terms m old runs.stands))) plays

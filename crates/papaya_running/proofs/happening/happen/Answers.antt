@@ -7,6 +7,7 @@ use Rattle.papaya_running.proofs.Gives.{calls_reclaim_none, gave_in_turn, gave_n
 use Rattle.papaya_running.proofs.Happened.{in_turn_if, out_so, stays_out}
 use Rattle.papaya_running.proofs.Held.{holds_if, holds_so}
 use Rattle.papaya_running.proofs.OfCalls.Happens.{other_keeps, out_keeps, turn_keeps}
+use Rattle.papaya_running.proofs.OfRows.Kept.{calls_keep, kept_in_turn, kept_out}
 use Rattle.papaya_running.proofs.happening.happen.Goals as goal
 
 pub returns-then-keeps_out : goal.returns-then-keeps_out
@@ -28,6 +29,8 @@ returns-then-keeps_out g c =
           out_keeps g.K.PartialEq.eq (g.S.Hashes.hash c.args.scheduler.now.logged.executor.hasher) c.args.event c.args.scheduler.now c.refuse.new.self _ c.refuse.ensures.mapped c.refuse.result c.refuse.ensures.outcome c.refuse.ensures.steps
           c.refuse.ensures.effects (c.refuse.ensures.plays g.K.PartialEq.eq (g.S.Hashes.hash c.args.scheduler.now.logged.executor.hasher)) (sym c.keeps_out.ensures ∙ c.if-keeps_out.true);
       given = given;
+      rows =
+          kept_out g.K.PartialEq.eq (g.S.Hashes.hash c.args.scheduler.now.logged.executor.hasher) c.args.event c.args.scheduler.now c.refuse.new.self c.refuse.result c.refuse.ensures.outcome c.refuse.ensures.effects c.refuse.ensures.mapped;
     }
 
 pub of_calls-requires : goal.of_calls-requires
@@ -39,6 +42,10 @@ of_calls-requires g c =
 
 pub returns-then-is_of_calls : goal.returns-then-is_of_calls
 returns-then-is_of_calls g c = record {
+  rows =
+      kept_in_turn g.K.PartialEq.eq (g.S.Hashes.hash c.args.scheduler.now.logged.executor.hasher) c.args.event c.args.scheduler.now c.of_calls.new.scheduler c.of_calls.result
+      (calls_keep g.K.PartialEq.eq (g.S.Hashes.hash c.args.scheduler.now.logged.executor.hasher) c.args.event (sym c.is_of_calls.ensures ∙ c.if-is_of_calls.true) c.args.scheduler.now c.of_calls.new.scheduler c.of_calls.result)
+      (sym c.keeps_out.ensures ∙ c.if-keeps_out.false);
   happens =
       in_turn_if g.K.PartialEq.eq (g.S.Hashes.hash c.args.scheduler.now.logged.executor.hasher) c.args.event c.args.scheduler.now c.args.is_first c.of_calls.new.scheduler c.of_calls.result
       c.of_calls.ensures.happens (sym c.keeps_out.ensures ∙ c.if-keeps_out.false);
@@ -65,6 +72,8 @@ of_maps-requires g c =
 
 pub returns-then-is_of_maps : goal.returns-then-is_of_maps
 returns-then-is_of_maps g c = record {
+  rows = kept_in_turn g.K.PartialEq.eq (g.S.Hashes.hash c.args.scheduler.now.logged.executor.hasher) c.args.event c.args.scheduler.now c.of_maps.new.scheduler c.of_maps.result c.of_maps.ensures.rows
+      (sym c.keeps_out.ensures ∙ c.if-keeps_out.false);
   happens =
       in_turn_if g.K.PartialEq.eq (g.S.Hashes.hash c.args.scheduler.now.logged.executor.hasher) c.args.event c.args.scheduler.now c.args.is_first c.of_maps.new.scheduler c.of_maps.result
       c.of_maps.ensures.happens (sym c.keeps_out.ensures ∙ c.if-keeps_out.false);
@@ -90,6 +99,8 @@ of_slots-requires g c =
 
 pub returns : goal.returns
 returns g c = record {
+  rows = kept_in_turn g.K.PartialEq.eq (g.S.Hashes.hash c.args.scheduler.now.logged.executor.hasher) c.args.event c.args.scheduler.now c.of_slots.new.scheduler c.of_slots.result c.of_slots.ensures.rows
+      (sym c.keeps_out.ensures ∙ c.if-keeps_out.false);
   happens =
       in_turn_if g.K.PartialEq.eq (g.S.Hashes.hash c.args.scheduler.now.logged.executor.hasher) c.args.event c.args.scheduler.now c.args.is_first c.of_slots.new.scheduler c.of_slots.result
       c.of_slots.ensures.happens (sym c.keeps_out.ensures ∙ c.if-keeps_out.false);

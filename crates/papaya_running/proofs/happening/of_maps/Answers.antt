@@ -5,6 +5,9 @@ use Rattle.papaya_running.proofs.Counts.{counts_as, counts_still}
 use Rattle.papaya_running.proofs.Forms.{some_map}
 use Rattle.papaya_running.proofs.Gives.{gave, gave_all, gave_none_if}
 use Rattle.papaya_running.proofs.Happened.{due_so, may_give, may_map, may_play, still_if}
+use Rattle.papaya_running.proofs.OfEnds.{ends_keep}
+use Rattle.papaya_running.proofs.OfMakings.{makings_keep}
+use Rattle.papaya_running.proofs.OfRows.{others_keep_if}
 use Rattle.papaya_running.proofs.happening.of_maps.Goals as goal
 
 pub make_map-requires : goal.make_map-requires
@@ -81,3 +84,17 @@ returns-in-ReclaimAll-clause-count g c = counts_still c.args.event c.reclaim_all
 
 pub returns-in-Close-clause-count : goal.returns-in-Close-clause-count
 returns-in-Close-clause-count g c = counts_still c.args.event c.close.result (length c.args.scheduler.now.logged.executor.maps.items) (length c.close.new.self.logged.executor.maps.items) (λ n mode k made. (let two = sym c.in-Close.is ∙ made in cc two)) c.close.ensures.given.3
+pub returns-in-MakeMap-clause-rows : goal.returns-in-MakeMap-clause-rows
+returns-in-MakeMap-clause-rows g c = makings_keep g.K.PartialEq.eq (g.S.Hashes.hash c.args.scheduler.now.logged.executor.hasher) c.args.event _ _ _ c.in-MakeMap.is c.args.scheduler.now c.make_map.new.self c.make_map.result c.make_map.ensures.works
+
+pub returns-in-EndMap-clause-rows : goal.returns-in-EndMap-clause-rows
+returns-in-EndMap-clause-rows g c = ends_keep g.K.PartialEq.eq (g.S.Hashes.hash c.args.scheduler.now.logged.executor.hasher) c.args.event _ c.in-EndMap.is c.args.scheduler.now c.end_map.new.self c.end_map.result c.end_map.ensures.works
+
+pub returns-in-ShowShape-clause-rows : goal.returns-in-ShowShape-clause-rows
+returns-in-ShowShape-clause-rows g c = others_keep_if g.K.PartialEq.eq (g.S.Hashes.hash c.args.scheduler.now.logged.executor.hasher) c.args.event _ c.in-ShowShape.is c.args.scheduler.now c.args.scheduler.now refl c.show_shape.result
+
+pub returns-in-ReclaimAll-clause-rows : goal.returns-in-ReclaimAll-clause-rows
+returns-in-ReclaimAll-clause-rows g c = others_keep_if g.K.PartialEq.eq (g.S.Hashes.hash c.args.scheduler.now.logged.executor.hasher) c.args.event _ c.in-ReclaimAll.is c.args.scheduler.now c.reclaim_all.new.self refl c.reclaim_all.result
+
+pub returns-in-Close-clause-rows : goal.returns-in-Close-clause-rows
+returns-in-Close-clause-rows g c = others_keep_if g.K.PartialEq.eq (g.S.Hashes.hash c.args.scheduler.now.logged.executor.hasher) c.args.event _ c.in-Close.is c.args.scheduler.now c.close.new.self refl c.close.result

@@ -4,6 +4,7 @@ use Rattle.std.proofs.lemmas.Result.{IfOk-weaker}
 use Rattle.papaya_running.proofs.Forms.{some_slot}
 use Rattle.papaya_running.proofs.Gives.{gave, gave_none, gave_none_if}
 use Rattle.papaya_running.proofs.Happened.{due_so, may_play, still, still_if}
+use Rattle.papaya_running.proofs.OfRows.{others_keep, others_keep_if, rows_keep}
 use Rattle.papaya_running.proofs.happening.of_slots.Goals as goal
 
 pub collector-requires : goal.collector-requires
@@ -134,3 +135,36 @@ returns-in-DropGuard-clause-back g c = gave g.K.PartialEq.eq (g.S.Hashes.hash c.
 
 pub returns-in-Forget-clause-back : goal.returns-in-Forget-clause-back
 returns-in-Forget-clause-back g c = gave_none g.K.PartialEq.eq (g.S.Hashes.hash c.args.scheduler.now.logged.executor.hasher) c.args.event _ c.in-Forget.is c.args.scheduler.now (λ did none. none) c.forget.result c.args.back.now.items
+
+pub returns-in-Register-clause-rows : goal.returns-in-Register-clause-rows
+returns-in-Register-clause-rows g c = rows_keep g.K.PartialEq.eq (g.S.Hashes.hash c.args.scheduler.now.logged.executor.hasher) c.args.event _ c.in-Register.is c.args.scheduler.now c.register.new.self refl c.register.result c.register.ensures.works
+
+pub returns-in-Unregister-clause-rows : goal.returns-in-Unregister-clause-rows
+returns-in-Unregister-clause-rows g c = rows_keep g.K.PartialEq.eq (g.S.Hashes.hash c.args.scheduler.now.logged.executor.hasher) c.args.event _ c.in-Unregister.is c.args.scheduler.now c.unregister.new.self refl c.unregister.result c.unregister.ensures.works
+
+pub returns-in-Enter-clause-rows : goal.returns-in-Enter-clause-rows
+returns-in-Enter-clause-rows g c = rows_keep g.K.PartialEq.eq (g.S.Hashes.hash c.args.scheduler.now.logged.executor.hasher) c.args.event _ c.in-Enter.is c.args.scheduler.now c.enter.new.self refl c.enter.result c.enter.ensures.works
+
+pub returns-in-Own-clause-rows : goal.returns-in-Own-clause-rows
+returns-in-Own-clause-rows g c = rows_keep g.K.PartialEq.eq (g.S.Hashes.hash c.args.scheduler.now.logged.executor.hasher) c.args.event _ c.in-Own.is c.args.scheduler.now c.own.new.self refl c.own.result c.own.ensures.works
+
+pub returns-in-Refresh-clause-rows : goal.returns-in-Refresh-clause-rows
+returns-in-Refresh-clause-rows g c = rows_keep g.K.PartialEq.eq (g.S.Hashes.hash c.args.scheduler.now.logged.executor.hasher) c.args.event _ c.in-Refresh.is c.args.scheduler.now c.refresh.new.self refl c.refresh.result c.refresh.ensures.works
+
+pub returns-in-Flush-clause-rows : goal.returns-in-Flush-clause-rows
+returns-in-Flush-clause-rows g c = rows_keep g.K.PartialEq.eq (g.S.Hashes.hash c.args.scheduler.now.logged.executor.hasher) c.args.event _ c.in-Flush.is c.args.scheduler.now c.flush.new.self refl c.flush.result c.flush.ensures.works
+
+pub returns-in-DropGuard-clause-rows : goal.returns-in-DropGuard-clause-rows
+returns-in-DropGuard-clause-rows g c = rows_keep g.K.PartialEq.eq (g.S.Hashes.hash c.args.scheduler.now.logged.executor.hasher) c.args.event _ c.in-DropGuard.is c.args.scheduler.now c.drop_guard.new.self refl c.drop_guard.result c.drop_guard.ensures.works
+
+pub returns-in-Collector-clause-rows : goal.returns-in-Collector-clause-rows
+returns-in-Collector-clause-rows g c = others_keep g.K.PartialEq.eq (g.S.Hashes.hash c.args.scheduler.now.logged.executor.hasher) c.args.event _ c.in-Collector.is c.args.scheduler.now c.args.scheduler.now refl c.collector.result
+
+pub returns-in-Hash-clause-rows : goal.returns-in-Hash-clause-rows
+returns-in-Hash-clause-rows g c = others_keep g.K.PartialEq.eq (g.S.Hashes.hash c.args.scheduler.now.logged.executor.hasher) c.args.event _ c.in-Hash.is c.args.scheduler.now c.args.scheduler.now refl c.hash.result
+
+pub returns-in-Choose-clause-rows : goal.returns-in-Choose-clause-rows
+returns-in-Choose-clause-rows g c = others_keep_if g.K.PartialEq.eq (g.S.Hashes.hash c.args.scheduler.now.logged.executor.hasher) c.args.event _ c.in-Choose.is c.args.scheduler.now c.choose.new.self refl c.choose.result
+
+pub returns-in-Forget-clause-rows : goal.returns-in-Forget-clause-rows
+returns-in-Forget-clause-rows g c = others_keep g.K.PartialEq.eq (g.S.Hashes.hash c.args.scheduler.now.logged.executor.hasher) c.args.event _ c.in-Forget.is c.args.scheduler.now c.forget.new.self refl c.forget.result

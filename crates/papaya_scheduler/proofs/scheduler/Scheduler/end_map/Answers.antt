@@ -1,5 +1,5 @@
 -- A map ends.
-use Rattle.std.proofs.Common.{[], sym, refl, ◌∙◌, arith}
+use Rattle.std.proofs.Common.{[], inl, inr, sym, refl, ◌∙◌, arith}
 use Rattle.seize_words.specs.declared.fault.Fault.TheVariants.{Busy}
 use Rattle.papaya_schedules.specs.After.{moment}
 use Rattle.papaya_schedules.specs.declared.event.Event.TheVariants.{EndMap}
@@ -10,6 +10,7 @@ use Rattle.papaya_scheduler.proofs.Backs.{none_came}
 use Rattle.papaya_scheduler.proofs.Maps.{stands_by}
 use Rattle.papaya_scheduler.proofs.MapsEnded.{not_there, has_calls, may_run, end_came, ended}
 use Rattle.papaya_scheduler.proofs.Rights.{so_played}
+use Rattle.papaya_scheduler.proofs.Works.{end_gone_as, end_ran_as}
 use Rattle.papaya_scheduler.proofs.scheduler.Scheduler.end_map.Goals as goal
 
 pub returns-in_default-clause-plays : goal.returns-in_default-clause-plays
@@ -70,3 +71,30 @@ returns-then-are_on-clause-quiet g c = none_quiet c.busy-then-are_on.result.outc
 
 pub returns-clause-quiet : goal.returns-clause-quiet
 returns-clause-quiet g c = tt
+
+pub returns-in_default-clause-works : goal.returns-in_default-clause-works
+returns-in_default-clause-works g c = (refl, inl (Busy, c.busy.ensures.outcome, c.busy.ensures.effects, refl))
+
+pub returns-then-are_on-clause-works : goal.returns-then-are_on-clause-works
+returns-then-are_on-clause-works g c = (refl, inl (Busy, c.busy-then-are_on.ensures.outcome, c.busy-then-are_on.ensures.effects, refl))
+
+pub returns-clause-works : goal.returns-clause-works
+returns-clause-works g c = (
+  refl,
+  inr (refl, record {
+    caller = c.in_ok-caller.caller;
+    fresh = c.in_ok-caller.ensures.number;
+    number = c.in-Some.number;
+    found = sym c.number_of.ensures ∙ c.in-Some.is;
+    free = sym c.are_on.ensures ∙ c.if-are_on.false;
+    began = c.begin_end.new.self;
+    begins = λ same hash name m s shown. c.in_ok-caller.ensures.leads same hash name m s shown;
+    noted = c.in_ok-caller.ensures.notes;
+    stays = c.begin_end.ensures.given;
+    ran = end_ran_as c.in_ok-caller.caller c.in-Some.number c.no_effects-effects.result.items c.run_end.new.effects.items c.no_effects-effects.ensures c.begin_end.new.self c.run_end.new.self
+        c.in_ok-run_end.ensures.ran;
+    over = c.in_ok-run_end.ensures.over;
+    gone = end_gone_as c.in_ok-caller.caller c.in-Some.number c.no_effects-effects.result.items c.run_end.new.effects.items c.no_effects-effects.ensures c.begin_end.new.self c.run_end.new.self
+        c.in_ok-run_end.ensures.gone;
+  }),
+)
