@@ -1,0 +1,8 @@
+-- Events that reclaim all, from their beginning on.
+pub mod Tells
+pub mod Points
+pub mod Turns
+pub mod Stays
+pub mod Steps
+pub mod Model
+pub mod Ends
