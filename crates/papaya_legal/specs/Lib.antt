@@ -7,4 +7,5 @@ pub mod SlotEvents
 pub mod MapEvents
 pub mod Over
 pub mod Chains
+pub mod AllEvents
 pub mod Promises

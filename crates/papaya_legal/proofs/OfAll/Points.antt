@@ -1,5 +1,5 @@
 -- Where reclaiming all stands: once it is on roots it stays there, where nothing is retired; it takes the first block behind them; and where it is over nothing is behind them.
-use Rattle.std.specs.Prelude.{◌≡◌, ◌⊎◌, ◌<◌, ◌≤◌, ◌^◌, ◌+◌, ◌-◌, ◌==◌, ℕ, zero, suc, nat_lt, Bool, true, false, List, [], ◌∷◌, ◌++◌, Option, Some, None, if◌then◌else◌}
+use Rattle.std.specs.Prelude.{◌≡◌, ◌⊎◌, ◌<◌, ◌+◌, ◌-◌, ◌==◌, ℕ, zero, suc, nat_lt, Bool, true, false, List, [], ◌∷◌, ◌++◌, Option, Some, if◌then◌else◌}
 use Rattle.std.proofs.Common.{refl, ap, sym, subst, ◌∙◌, arith, inl, inr}
 use Rattle.std.proofs.lemmas.Bool.{cases_eq, cases_lt}
 use Rattle.papaya_histories.specs.Given.SeizeWords.Mem.{Mem, value_at, word_at}
@@ -26,7 +26,7 @@ use Rattle.papaya_histories.specs.Given.Finishes.Makings.{IsFreeRoot}
 use Rattle.papaya_histories.specs.Given.Finishes.Maps.{IsSameMap, Standing}
 use Rattle.papaya_histories.specs.Given.Follows.Steps.{TakesNone}
 use Rattle.seize_reclaims.specs.Roots.{all_lists}
-use Rattle.papaya_reclaims.specs.Reclaims.{AllIsReclaimed, IsRootOf, LeftBehind, Opened, ReclaimingAt, RootLeads}
+use Rattle.papaya_reclaims.specs.Reclaims.{IsRootOf, LeftBehind, Opened, ReclaimingAt, RootLeads}
 use Rattle.papaya_reclaims.specs.Slots.{IsQuiet}
 use Rattle.papaya_shards.proofs.ShardKept.{same_setting}
 

@@ -1,5 +1,5 @@
 -- In which order a step reclaims by which all is reclaimed; and that what is left over is behind a root still.
-use Rattle.std.specs.Prelude.{◌≡◌, ◌≢◌, ◌⊎◌, ◌<◌, ◌+◌, ◌==◌, ℕ, Bool, true, false, List, [], ◌∷◌, ◌++◌, length, map, flat_map, Some, None, if◌then◌else◌}
+use Rattle.std.specs.Prelude.{◌≡◌, ◌≢◌, ◌⊎◌, ◌<◌, ◌+◌, ◌==◌, ℕ, Bool, true, false, List, [], ◌∷◌, ◌++◌, length, map, flat_map, None, if◌then◌else◌}
 use Rattle.std.proofs.Common.{refl, ap, sym, subst, append_assoc, ◌∙◌, arith, inl, inr}
 use Rattle.std.proofs.lemmas.Bool.{eq-eqb, ne_eqb}
 use Rattle.std.proofs.lemmas.Grind.{flat_map-append}
@@ -19,7 +19,7 @@ use Rattle.papaya_histories.specs.Given.Schedules.declared.effect.Thing.{Thing}
 use Rattle.papaya_histories.specs.Given.Schedules.Effects.{with_effects}
 use Rattle.papaya_histories.specs.Given.Schedules.Lists.{is_among}
 use Rattle.papaya_histories.specs.Given.Schedules.Model.{thing_back}
-use Rattle.papaya_histories.specs.Given.Schedules.Moment.{Place, GivenBack, Handed, Moment}
+use Rattle.papaya_histories.specs.Given.Schedules.Moment.{GivenBack, Handed, Moment}
 use Rattle.papaya_histories.specs.Given.Schedules.Views.{behind as behind_table}
 use Rattle.papaya_histories.specs.Given.Teller.declared.changed.Changed.{Changed}
 use Rattle.papaya_histories.specs.Given.Teller.declared.changed.Changed.TheVariants as changed
