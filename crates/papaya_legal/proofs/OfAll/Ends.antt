@@ -12,7 +12,6 @@ use Rattle.papaya_histories.specs.Given.Schedules.declared.effect.Effect.TheVari
 use Rattle.papaya_histories.specs.Given.Schedules.declared.effect.Thing.TheVariants.{APair, ATable}
 use Rattle.papaya_histories.specs.Given.Schedules.declared.event.Event.{Event}
 use Rattle.papaya_histories.specs.Given.Schedules.declared.event.Event.TheVariants as event
-use Rattle.papaya_histories.specs.Given.Schedules.declared.outcome.Outcome.{Outcome}
 use Rattle.papaya_histories.specs.Given.Schedules.declared.outcome.Outcome.TheVariants.{Done}
 use Rattle.papaya_histories.specs.Given.Schedules.After.{after, moment}
 use Rattle.papaya_histories.specs.Given.Schedules.Beginning.{at_work}
@@ -24,7 +23,7 @@ use Rattle.papaya_histories.specs.Given.Schedules.InUse.{is_left}
 use Rattle.papaya_histories.specs.Given.Schedules.Lists.{is_empty}
 use Rattle.papaya_histories.specs.Given.Schedules.Lives.{Finds}
 use Rattle.papaya_histories.specs.Given.Schedules.Model.{IsByModel, back_by_model, number_in, thing_back, things_in}
-use Rattle.papaya_histories.specs.Given.Schedules.Moment.{UnderWay as CallThere, Moment}
+use Rattle.papaya_histories.specs.Given.Schedules.Moment.{Moment}
 use Rattle.papaya_histories.specs.Given.Schedules.Reclaims.{IsProtected}
 use Rattle.papaya_histories.specs.Given.Schedules.Terms.{Terms}
 use Rattle.papaya_histories.specs.Given.Effects.Known.{Known}
@@ -178,7 +177,7 @@ module _ (K V S : Type 0) (same : K → K → Bool) (hash : K → ℕ) where
           by : (q : Bool) → is_left_over (over.come.now.place k) ≡ q → is_left_over (over.come.now.place k) ≡ false
           by true is =
               let held = at_over.left k is in
-              let among : 0 < times held.0 [] = subst (λ (xs : List ℕ). 0 < times held.0 xs) nothing held.2 in
+              let among : 0 < 0 = subst (λ (xs : List ℕ). 0 < times held.0 xs) nothing held.2 in
               absurd (omega (arith, among))
           by false is = is
 

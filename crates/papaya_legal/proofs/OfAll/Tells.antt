@@ -187,8 +187,8 @@ module _ {K V S : Type 0} (same : K → K → Bool) (hash : K → ℕ) (name : �
   no_own b = by (known.roles b) refl
     where
       held : (j : ℕ) → HoldsTable s j b → ⊥
-      held j (inl (map, u, here, rest)) = none_under_way map j u here
-      held j (inr (d, here, rest)) = (let none = under_way.under_way.stand.no_makers j in cc (none, here))
+      held j (inl its) = none_under_way its.0 j its.1 its.2
+      held j (inr its) = (let none = under_way.under_way.stand.no_makers j in let here = its.1 in cc (none, here))
 
       by : (r : Role) → known.roles b ≡ r → IsNoOwn r
       by role.Free is = tt
@@ -198,10 +198,7 @@ module _ {K V S : Type 0} (same : K → K → Bool) (hash : K → ℕ) (name : �
       by (role.Table t len) is = tt
       by (role.Counter of) is = tt
 
-  abbrev emptied : (root was now : ℕ) → now ≡ 0 → Type 0
-  emptied root was now empty = (effects_of Row known (changed.Wrote (Root root) was now) ≡ []) × (known_after Row (changed.Wrote (Root root) was now) known ≡ known)
-
-  root_emptied : (root was now : ℕ) (empty : now ≡ 0) → emptied root was now empty
+  root_emptied : (root was now : ℕ) → now ≡ 0 → (effects_of Row known (changed.Wrote (Root root) was now) ≡ []) × (known_after Row (changed.Wrote (Root root) was now) known ≡ known)
   root_emptied root was now empty =
       root_none same hash name m known s whole old new i lists before after told under_way leads (names_same was now) (named known was) (named known now) (block_in now)
       (nothing_there same hash name m known s whole old new i lists before after told under_way leads now empty)
