@@ -3,6 +3,7 @@ pub mod Calling
 pub mod OnSlots
 pub mod Ended
 pub mod Makings
+pub mod Goes
 pub mod Roots
 pub mod Ends
 pub mod Reclaims

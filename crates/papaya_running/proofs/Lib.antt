@@ -6,3 +6,4 @@ pub mod Mays
 mod Left
 mod MapsTold
 mod Singles
+pub mod OfRows

@@ -1,5 +1,6 @@
 pub mod KeptGiven
 pub mod Backs
+pub mod Works
 pub mod Rights
 pub mod Quiet
 pub mod Simple

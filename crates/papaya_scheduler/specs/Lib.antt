@@ -9,3 +9,4 @@ pub mod KeptOut
 pub mod Mapping
 pub mod Reclaiming
 pub mod Back
+pub mod Works

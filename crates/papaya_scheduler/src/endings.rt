@@ -7,6 +7,7 @@ ghost use Rattle.papaya_executor.specs.IsAt.{KeepsGiven};
 ghost use Rattle.papaya_scheduler.specs.Back.{GivesBack};
 ghost use Rattle.papaya_scheduler.specs.Mapping.{PlaysEnding};
 ghost use Rattle.papaya_scheduler.specs.Played.{MayPlay};
+ghost use Rattle.papaya_scheduler.specs.Works.{WorksOnEnd};
 
 use crate::caller::Callers;
 use crate::played::Played;
@@ -43,6 +44,7 @@ impl<K: Drop, V: Drop, S> Scheduler<K, V, S> {
         requires { (same : K → K → Bool) × (hash : K → ℕ) × MayPlay same hash (event.EndMap map.now) self.old }
         ensures steps { IfOk result (λ played. played.steps ≡ 0) }
         ensures plays { IfOk result (λ played. (same : K → K → Bool) (hash : K → ℕ) → PlaysEnding same hash (event.EndMap map.now) played self.old self.new) }
+        ensures works { IfOk result (λ played. WorksOnEnd played self.old self.new map.now) }
         ensures back { IfOk result (λ played. (same : K → K → Bool) (hash : K → ℕ) → GivesBack same hash (event.EndMap map.now) played self.old back.old.items back.new.items) }
         ensures given { KeepsGiven self.old.logged.executor self.new.logged.executor }
     {

@@ -5,6 +5,7 @@ ghost use Rattle.papaya_schedules.specs.Terms.{Terms};
 ghost use Rattle.papaya_schedules.specs.declared.event.Event.TheVariants as event;
 ghost use Rattle.papaya_executor.specs.IsAt.{StaysGiven};
 ghost use Rattle.papaya_scheduler.specs.Mapping.{MayMap, PlaysMaking, IsGivenFor, may_make_of};
+ghost use Rattle.papaya_scheduler.specs.Works.{WorksOnMap};
 
 use crate::played::Played;
 use crate::scheduler::{NamedMap, Scheduler};
@@ -54,6 +55,7 @@ impl<K: Drop, V: Drop, S> Scheduler<K, V, S> {
         requires { (same : K → K → Bool) × (hash : K → ℕ) × (terms : Terms) × (log : List (Entry K V)) × MayMap same hash terms log (event.MakeMap map mode capacity) self.old }
         ensures steps { IfOk result (λ played. played.steps ≡ 0) }
         ensures plays { IfOk result (λ played. (same : K → K → Bool) (hash : K → ℕ) → PlaysMaking same hash (event.MakeMap map mode capacity) played self.old self.new) }
+        ensures works { IfOk result (λ played. WorksOnMap played self.old self.new mode capacity) }
         ensures given { StaysGiven self.old.logged.executor self.new.logged.executor }
     {
         self.is_mapped = true;

@@ -1,5 +1,5 @@
 -- A map is made.
-use Rattle.std.proofs.Common.{◌≡◌, [], length, sym, refl, subst, ◌∙◌, arith, rules}
+use Rattle.std.proofs.Common.{◌≡◌, [], length, inl, inr, sym, refl, subst, ◌∙◌, arith, rules}
 use Rattle.seize.specs.declared.progress.Progress.{Progress}
 use Rattle.papaya_histories.specs.Given.Tables.declared.setting.Setting.{Setting}
 use Rattle.papaya_logged.specs.Makings.{MakingRan}
@@ -11,6 +11,7 @@ use Rattle.papaya_schedules.specs.declared.event.Event.TheVariants.{MakeMap}
 use Rattle.papaya_schedules.specs.declared.outcome.Outcome.TheVariants.{Refused}
 use Rattle.papaya_scheduler.proofs.MapsMade.{has_fault, not_now, no_roots, may_run, not_made, made}
 use Rattle.papaya_scheduler.proofs.Rights.{so_played}
+use Rattle.papaya_scheduler.proofs.Works.{finds_as, gone_as, run_as}
 use Rattle.papaya_scheduler.proofs.scheduler.Scheduler.make_map.Goals as goal
 
 pub returns-in-Err-clause-plays : goal.returns-in-Err-clause-plays
@@ -78,3 +79,40 @@ returns-in_err-push-in-Done-clause-given g c = stays_on c.args.self.now.logged.e
 
 pub returns-in_ok-push-in-Done-clause-given : goal.returns-in_ok-push-in-Done-clause-given
 returns-in_ok-push-in-Done-clause-given g c = stays_on c.args.self.now.logged.executor c.begin_making.new.self.executor c.run_making.new.self.executor c.begin_making.ensures.given c.run_making.ensures.given
+
+pub returns-in-Err-clause-works : goal.returns-in-Err-clause-works
+returns-in-Err-clause-works g c = (refl, inl (c.in-Err.fault, c.quietly.ensures.outcome, c.quietly.ensures.effects, refl))
+
+pub returns-then-not-may_make-clause-works : goal.returns-then-not-may_make-clause-works
+returns-then-not-may_make-clause-works g c = (refl, inl (Busy, c.busy.ensures.outcome, c.busy.ensures.effects, refl))
+
+pub returns-then-self-eq0-clause-works : goal.returns-then-self-eq0-clause-works
+returns-then-self-eq0-clause-works g c = (refl, inl (RootsUsedUp, c.quietly-then-self-eq0.ensures.outcome, c.quietly-then-self-eq0.ensures.effects, refl))
+
+pub returns-in-Refused-clause-works : goal.returns-in-Refused-clause-works
+returns-in-Refused-clause-works g c = (refl, inr (inl (c.in-Refused.fault, refl)))
+
+pub returns-in_ok-push-in-Done-clause-works : goal.returns-in_ok-push-in-Done-clause-works
+returns-in_ok-push-in-Done-clause-works g c =
+    let count : c.len-number.result ≡ length c.args.self.now.logged.executor.maps.items = search (rules, c.len-number.ensures) in (
+      refl,
+      inr (inr (refl, record {
+        caller = c.in_ok-caller.caller;
+        places = c.in-Ok.places;
+        given = c.setting_for-given.result;
+        first = c.in-Ok.ensures.first;
+        is_given = c.setting_for-given.ensures;
+        some = (let ne = c.if-self-eq0.false in omega (arith, ne));
+        setting = c.in-Done.field-0;
+        began = c.begin_making.new.self;
+        begins = λ same hash name m s shown. c.in_ok-caller.ensures.leads same hash name m s shown;
+        noted = c.in_ok-caller.ensures.notes;
+        there = c.in_ok-caller.ensures.there;
+        ran = run_as c.in_ok-caller.caller c.len-number.result _ count c.in_ok-told.told c.in-Done.field-0 c.in-Done.is c.no_effects-effects.result.items c.run_making.new.effects.items c.no_effects-effects.ensures
+            c.begin_making.new.self c.run_making.new.self c.in_ok-told.ensures.ran;
+        finds = finds_as c.in_ok-caller.caller c.len-number.result _ count c.in_ok-told.told c.in-Done.field-0 c.in-Done.is c.no_effects-effects.result.items c.run_making.new.effects.items
+            c.no_effects-effects.ensures c.begin_making.new.self c.run_making.new.self c.in_ok-told.ensures.finds;
+        gone = gone_as c.in_ok-caller.caller c.len-number.result _ count c.in_ok-told.told c.in-Done.field-0 c.in-Done.is c.no_effects-effects.result.items c.run_making.new.effects.items c.no_effects-effects.ensures
+            c.begin_making.new.self c.run_making.new.self c.in_ok-told.ensures.gone;
+      })),
+    )
