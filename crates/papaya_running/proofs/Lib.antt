@@ -1,3 +1,4 @@
+pub mod OfCalls
 mod Ended
 mod Forms
 mod Happened

@@ -3,4 +3,5 @@ pub mod Back
 pub mod Ending
 pub mod Acting
 pub mod Run
+pub mod OfCalls
 pub mod OfRows

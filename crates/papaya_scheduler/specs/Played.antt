@@ -1,10 +1,13 @@
 -- That a scheduler has played a log, and what is promised of an event that happens then.
-use Rattle.std.specs.Prelude.{◌≡◌, ◌≤◌, ℕ, ◌==◌, Bool, true, false, ◌&&◌, List, ◌∷◌, length, filter, map, is_some, is_none, Some, None}
+use Rattle.std.specs.Prelude.{◌≡◌, ◌≤◌, ℕ, ◌==◌, ◌+◌, ◌*◌, Bool, true, false, ◌&&◌, List, [], ◌∷◌, length, filter, map, is_some, is_none, Some, None, if◌then◌else◌}
 use Rattle.std.specs.List.{AllByRecursion, list_any}
+use Rattle.papaya_histories.specs.Given.SeizeWords.declared.fault.Fault.TheVariants.{Busy}
+use Rattle.papaya_histories.specs.Given.Tables.declared.setting.Setting.{Setting}
 use Rattle.papaya_raw.specs.declared.machines.machine.Machine.{Machine}
 use Rattle.papaya_runs.specs.Present.{Present, HaveNames, guard_of, living_slot}
 use Rattle.papaya_schedules.specs.declared.call.Call.{Call}
 use Rattle.papaya_schedules.specs.declared.event.Event.{Event}
+use Rattle.papaya_schedules.specs.declared.outcome.Outcome.TheVariants.{Goes, Refused}
 use Rattle.papaya_schedules.specs.After.{moment}
 use Rattle.papaya_schedules.specs.Beginning.{with_call}
 use Rattle.papaya_schedules.specs.Entry.{Entry}
@@ -15,13 +18,16 @@ use Rattle.papaya_schedules.specs.Terms.{Terms}
 use Rattle.papaya_schedules.specs.Views.{call_of, map_of, number_of}
 use Rattle.papaya_histories.specs.Given.Callers.Together.{UnderWay}
 use Rattle.papaya_executor.specs.IsAt.{Scene, slot_of, use_at, work_of}
+use Rattle.papaya_executor.specs.declared.worker.TheConstants.{SLOTS}
 use Rattle.papaya_histories.specs.Given.Finishes.Machines.{machine_of}
 use Rattle.papaya_histories.specs.Given.Finishes.Maps.{Standing}
+use Rattle.papaya_logged.specs.Calling.{CallBegins}
 use Rattle.papaya_logged.specs.Shown.{IsShown}
-use Rattle.papaya_scheduler.specs.Machines.{IsAsFar, RefusedForRoom}
+use Rattle.papaya_scheduler.specs.Machines.{IsAsFar, RefusedForRoom, machine_for}
 use Rattle.papaya_rows.specs.Rows.{used_as}
-use Rattle.papaya_scheduler.specs.Seen.{is_named, named, named_of, seen, seen_of}
+use Rattle.papaya_scheduler.specs.Seen.{is_named, kind_of, named, named_of, seen, seen_of, setting_named}
 use Rattle.papaya_scheduler.specs.declared.caller.Caller.{Caller}
+use Rattle.papaya_scheduler.specs.declared.caller.Stands.TheVariants as far
 use Rattle.papaya_scheduler.specs.declared.played.Played.{Played}
 use Rattle.papaya_scheduler.specs.declared.scheduler.Given.{Given}
 use Rattle.papaya_scheduler.specs.declared.scheduler.NamedMap.{NamedMap}
@@ -118,8 +124,31 @@ module _ {K V S : Type 0} (same : K → K → Bool) (hash : K → ℕ) where
   PlaysFirst is_first event played old new =
       (terms : Terms) (log : List (Entry K V)) → is_first ≡ ((moment log).events == 0) → IsDue terms log event old → Plays terms log (entry_of event played) new
 
+  -- How a call has begun: its caller is the first of all, by a name that no call has, under a guard that lives, on a map that is there; and the executor has begun it in the slot of the guard.
+  pub record HasBegun (own guard name : List ℕ) (call : Call K V) (old new : Scheduler K V S) : Type 0 where
+    pub free : list_any (is_named own) old.calls.items.items ≡ false
+    pub slot : ℕ
+    pub lives : living_slot (guard_of guard old.there.guards) ≡ Some slot
+    pub number : ℕ
+    pub setting : Setting
+    pub found : setting_named name old.maps.items old.logged.executor.maps.items ≡ Some (number, setting)
+    pub leads : (names : ℕ → List ℕ) (v : Moment K V) (t : Scene K V) → IsShown same hash names v old.logged t
+        → CallBegins same hash names v t (length old.logged.executor.workers.items * SLOTS + slot) number (machine_for (record setting { slot = slot }) hash call) old.logged new.logged
+    pub caller : Caller V
+    pub is : seen_of caller ≡ record { name = own; guard = guard; map = number; kind = kind_of call; far = far.Goes }
+    pub numbered : caller.number ≡ length old.logged.executor.workers.items * SLOTS + slot
+    pub items : new.calls.items.items ≡ caller ∷ old.calls.items.items
+    pub rest : new ≡ record old { logged = new.logged; calls = new.calls }
+
   -- A call begins if its name is free, its guard lives, and its map is there; then the scheduler stands for the moment at which it has begun.
   pub record BeginsSo (terms : Terms) (m : Moment K V) (own guard map : List ℕ) (call : Call K V) (begun : Bool) (old new : Scheduler K V S) : Type 0 where
     pub so : begun ≡ (is_none (call_of own m) && is_living guard m.there && is_some (map_of map m))
     pub none : begun ≡ false → new ≡ old
     pub stands : begun ≡ true → StandsFor same hash terms (with_call own guard call (number_of map m) m) new
+    pub led : begun ≡ true → HasBegun own guard map call old new
+
+  -- So an event has begun one, or is out of turn.
+  abbrev pub Began : (own guard map : List ℕ) → Call K V → Played V → (old new : Scheduler K V S) → Type 0
+  Began own guard map call played old new =
+      (terms : Terms) (m : Moment K V) → StandsFor same hash terms m old
+      → (begun : Bool) × BeginsSo terms m own guard map call begun old new × (played.effects.items ≡ []) × (played.outcome ≡ (if begun then Goes else Refused Busy))

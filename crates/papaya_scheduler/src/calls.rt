@@ -6,7 +6,7 @@ ghost use Rattle.papaya_schedules.specs.Terms.{Terms};
 ghost use Rattle.papaya_histories.specs.Given.Hands.Asked.{as_told};
 ghost use Rattle.papaya_executor.specs.IsAt.{KeepsGiven};
 ghost use Rattle.papaya_scheduler.specs.Machines.{aborted_by};
-ghost use Rattle.papaya_scheduler.specs.Played.{BeginsSo, MayPlay, PlaysAt, StandsFor};
+ghost use Rattle.papaya_scheduler.specs.Played.{Began, BeginsSo, MayPlay, PlaysAt, StandsFor};
 ghost use Rattle.papaya_scheduler.specs.Seen.{ready_place};
 
 use crate::caller::{Caller, Stands};
@@ -85,6 +85,7 @@ impl<K: Eq + Hash + Drop, V: Drop, S: Hashes<K>> Scheduler<K, V, S> {
         requires { MayPlay K.eq (S.hash self.old.logged.executor.hasher) (event.Begin caller guard map.now call) self.old }
         ensures steps { IfOk result (λ played. played.steps ≡ 0) }
         ensures plays { IfOk result (λ played. PlaysAt K.eq (S.hash self.old.logged.executor.hasher) (event.Begin caller guard map.now call) played self.old self.new) }
+        ensures began { IfOk result (λ played. Began K.eq (S.hash self.old.logged.executor.hasher) caller guard map.now call played self.old self.new) }
         ensures given { KeepsGiven self.old.logged.executor self.new.logged.executor }
     {
         if self.begins(caller, guard, map, call)? {

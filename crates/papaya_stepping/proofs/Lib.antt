@@ -1,4 +1,4 @@
-mod AfterEffects
+pub mod AfterEffects
 mod Again
 mod AnySays
 mod ComesOn
@@ -8,12 +8,12 @@ mod NextBegins
 mod NextEnds
 mod NextOn
 mod NextSays
-mod OneStep
+pub mod OneStep
 mod PlaysAgain
 mod PlaysSteps
-mod PlaysWhole
+pub mod PlaysWhole
 mod QuietWaits
-mod RightSteps
+pub mod RightSteps
 mod RoomSays
 mod StepSays
 mod SteppedTo

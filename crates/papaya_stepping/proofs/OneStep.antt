@@ -80,7 +80,7 @@ module _ {K V : Type 0} (by : Known) (its : Kind) (value : Option V) where
   far_goes (progress.Done said) e = refl
   far_goes (progress.Refused fault) e = refl
 
-  going_not_ended : (said : Progress (Node K V)) → goes_on (outcome_of by its value said) ≡ true → has_ended said ≡ false
+  pub going_not_ended : (said : Progress (Node K V)) → goes_on (outcome_of by its value said) ≡ true → has_ended said ≡ false
   going_not_ended progress.Goes e = refl
   going_not_ended (progress.Gave node) e = refl
   going_not_ended (progress.Unstored node) e = refl
@@ -92,7 +92,7 @@ module _ {K V : Type 0} (by : Known) (its : Kind) (value : Option V) where
   going_not_ended (progress.Refused fault) e = absurd (cc e)
 
   -- the moment has the call ended just where the machine has
-  ends_as : (said : Progress (Node K V)) → (outcome_of by its value said ≡ Refused Busy → ⊥) → ends_call (outcome_of by its value said) ≡ has_ended said
+  pub ends_as : (said : Progress (Node K V)) → (outcome_of by its value said ≡ Refused Busy → ⊥) → ends_call (outcome_of by its value said) ≡ has_ended said
   ends_as progress.Goes never = refl
   ends_as (progress.Gave node) never = refl
   ends_as (progress.Unstored node) never = refl
@@ -150,7 +150,7 @@ module _ {K V : Type 0} (by : Known) (its : Kind) (value : Option V) where
 
 module _ {K V : Type 0} where
   -- the caller then, by what it keeps and how far it is
-  caller_as : (by : Known) (d : Caller V) (said : Progress (Node K V)) → caller_then by d said ≡ record d { stands = far_then by said; value = value_then by d.kind d.value said }
+  pub caller_as : (by : Known) (d : Caller V) (said : Progress (Node K V)) → caller_then by d said ≡ record d { stands = far_then by said; value = value_then by d.kind d.value said }
   caller_as by d (progress.Unstored node) = refl
   caller_as by d _ = refl
 

@@ -34,7 +34,7 @@ use Rattle.papaya_schedules.specs.Terms.{Terms}
 use Rattle.papaya_schedules.specs.Views.{call_of, grows_in_chunks, map_at, map_of}
 use Rattle.papaya_histories.specs.Given.Late.Faults.{IsRoom}
 use Rattle.papaya_histories.specs.Given.Effects.Known.{Known, known}
-use Rattle.papaya_histories.specs.Given.Executor.IsAt.{HasCall, IsAt, Scene}
+use Rattle.papaya_histories.specs.Given.Executor.IsAt.{HasCall, IsAt, KeepsGiven, Scene}
 use Rattle.papaya_histories.specs.Given.Executor.Stepping.{has_ended}
 use Rattle.papaya_histories.specs.Given.Follows.Calling.{come_to}
 use Rattle.papaya_logged.specs.Calling.{CallGoesOn}
@@ -200,6 +200,7 @@ module _ {K V S : Type 0} (same : K → K → Bool) (hash : K → ℕ) where
     pub outcome_is : outcome ≡ outcome_of (known new.logged.notes) caller.kind caller.value said
     pub calls : new.calls.items.items ≡ callers_then (known new.logged.notes) place caller said old.calls.items.items
     pub rest : new ≡ record old { logged = new.logged; calls = new.calls }
+    pub given : KeepsGiven old.logged.executor new.logged.executor
 
   -- So many steps were taken at this place, each of which let the call go on,
   abbrev pub GoneFor : (place steps : ℕ) → (before after : List Effect) → (old new : Scheduler K V S) → Type 0
@@ -230,6 +231,12 @@ module _ {K V S : Type 0} (same : K → K → Bool) (hash : K → ℕ) where
     pub leads : (name : ℕ → List ℕ) (m : Moment K V) (s : Scene K V) → IsShown same hash name m old.logged s
         → CallGoesOn same hash name m s caller.number caller.map said before after old.logged new.logged
     pub rest : new ≡ record old { logged = new.logged }
+    pub given : KeepsGiven old.logged.executor new.logged.executor
+
+  -- So many steps of the walk at this place were taken, each of which just went on.
+  abbrev pub WalkedFor : (place steps : ℕ) → (before after : List Effect) → (old new : Scheduler K V S) → Type 0
+  WalkedFor place zero before after old new = (before ≡ after) × (old ≡ new)
+  WalkedFor place (suc n) before after old new = (mid : List Effect) × (p : Scheduler K V S) × WalkedFor place n before mid old p × IsStepOf place progress.Goes mid after p new
 
   -- What a scheduler is asked at whose place a walk was asked for its next pair,
   abbrev pub MayWalk : ℕ → Scheduler K V S → Type 0
@@ -241,6 +248,7 @@ module _ {K V S : Type 0} (same : K → K → Bool) (hash : K → ℕ) where
       (said ≡ progress.Goes → ⊥)
       × (n : ℕ) × (steps ≡ n + 1) × (mid : List Effect) × (p : Scheduler K V S) × IsStepOf place said mid after p new
       × ((terms : Terms) (m : Moment K V) (own : List ℕ) → StandsAs (WalksFar own 0) same hash terms m old → ReadyAt own place old → IsMidWalk same hash terms own place m n before mid p)
+      × (k : ℕ) × (steps ≡ k + 1) × WalkedFor place k before mid old p
 
   -- A call stands at this place, however far it is: one that asks, or is ready, says so again, and one that goes on takes steps.
   abbrev pub StandsAt : ℕ → Scheduler K V S → Type 0

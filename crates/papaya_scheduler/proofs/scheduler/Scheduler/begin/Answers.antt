@@ -1,4 +1,5 @@
 -- A call begins under a guard.
+use Rattle.std.specs.Prelude.{true, false}
 use Rattle.std.proofs.Common.{[], Bool, subst}
 use Rattle.seize_words.specs.declared.fault.Fault.TheVariants.{Busy}
 use Rattle.papaya_schedules.specs.After.{moment}
@@ -36,3 +37,23 @@ returns-else-branch-clause-plays g c =
     (begins_none g.K.PartialEq.eq hash terms log own guard map c.args.call c.args.self.now c.begins.new.self due
     (subst (λ (b : Bool). BeginsSo g.K.PartialEq.eq hash terms (moment log) own guard map c.args.call b c.args.self.now c.begins.new.self) c.if-branch.false
     (c.in_ok-begins.ensures.begins terms (moment log) due.played)))
+
+pub returns-then-branch-clause-began : goal.returns-then-branch-clause-began
+returns-then-branch-clause-began g c =
+    λ terms m stands. (
+    true,
+    subst (λ (b : Bool). BeginsSo g.K.PartialEq.eq (g.S.Hashes.hash c.args.self.now.logged.executor.hasher) terms m c.args.caller c.args.guard c.args.map.now c.args.call b c.args.self.now c.begins.new.self)
+    c.if-branch.true (c.in_ok-begins.ensures.begins terms m stands),
+    c.quietly.ensures.effects,
+    c.quietly.ensures.outcome,
+    )
+
+pub returns-else-branch-clause-began : goal.returns-else-branch-clause-began
+returns-else-branch-clause-began g c =
+    λ terms m stands. (
+    false,
+    subst (λ (b : Bool). BeginsSo g.K.PartialEq.eq (g.S.Hashes.hash c.args.self.now.logged.executor.hasher) terms m c.args.caller c.args.guard c.args.map.now c.args.call b c.args.self.now c.begins.new.self)
+    c.if-branch.false (c.in_ok-begins.ensures.begins terms m stands),
+    c.busy.ensures.effects,
+    c.busy.ensures.outcome,
+    )
