@@ -1,6 +1,7 @@
 pub mod KeptGiven
 pub mod Backs
 pub mod Works
+pub mod AllWorks
 pub mod Rights
 pub mod Quiet
 pub mod Simple
@@ -37,4 +38,4 @@ pub mod Mapped
 pub mod MapsEnded
 pub mod RootsUsed
 pub mod MapsMade
-mod AllGiven
+pub mod AllGiven

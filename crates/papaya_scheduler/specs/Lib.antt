@@ -10,3 +10,4 @@ pub mod Mapping
 pub mod Reclaiming
 pub mod Back
 pub mod Works
+pub mod AllWorks
