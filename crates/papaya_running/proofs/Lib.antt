@@ -8,3 +8,4 @@ mod Left
 mod MapsTold
 mod Singles
 pub mod OfRows
+pub mod OfAll
