@@ -1,5 +1,5 @@
 -- Events that reclaim all keep their promises, and a run goes on with them.
-use Rattle.std.specs.Prelude.{◌≡◌, ◌<◌, ◌^◌, nat_lt, ℕ, Bool, true, List, [], ◌∷◌, Option, None, Some, Result, Ok, Err, IfOk, option_map, slice_index_or}
+use Rattle.std.specs.Prelude.{◌≡◌, ◌<◌, ◌^◌, nat_lt, ℕ, Bool, true, List, [], ◌∷◌, None, Result, Ok, Err, IfOk, slice_index_or}
 use Rattle.std.proofs.Common.{refl, sym, subst, inl, inr, ◌∙◌}
 use Rattle.seize_words.specs.declared.fault.Fault.TheVariants.{Busy}
 use Rattle.papaya_histories.specs.Given.Seize.World.{World}
@@ -7,9 +7,8 @@ use Rattle.papaya_histories.specs.Given.Seize.declared.rows.reclaim_all.ReclaimA
 use Rattle.papaya_histories.specs.Given.Seize.declared.rows.settle.Settled.TheVariants as settled
 use Rattle.papaya_histories.specs.Given.Tables.declared.node.Node.{Node}
 use Rattle.papaya_histories.specs.Given.Executor.IsAt.{Scene, IsAt}
-use Rattle.papaya_histories.specs.Given.Finishes.Maps.{Standing}
 use Rattle.papaya_schedules.specs.declared.event.Event.{Event}
-use Rattle.papaya_schedules.specs.declared.event.Event.TheVariants.{Close, ReclaimAll as ReclaimsIt}
+use Rattle.papaya_schedules.specs.declared.event.Event.TheVariants as events
 use Rattle.papaya_schedules.specs.declared.outcome.Outcome.TheVariants.{Done, Refused}
 use Rattle.papaya_schedules.specs.After.{moment}
 use Rattle.papaya_schedules.specs.Entry.{Entry, speaker}
@@ -36,7 +35,7 @@ use Rattle.papaya_scheduler.specs.declared.scheduler.Scheduler.{Scheduler}
 use Rattle.papaya_scheduler.proofs.AllGiven.{may_reclaim, nobody_has}
 use Rattle.papaya_scheduler.proofs.Rights.{entry, entry_is}
 use Rattle.papaya_running.specs.OfAll.{HasRunAll, IsLeftOfAll, KeepsAll, SlotsLeaveRoots}
-use Rattle.papaya_running.specs.OfCalls.{HaveShards, Runs, RunsOn}
+use Rattle.papaya_running.specs.OfCalls.{Runs, RunsOn}
 use Rattle.papaya_running.proofs.OfAll.Chain.{AllComes, all_come, all_comes, is_over, leads, over_there, step_so, then_now, then_scene}
 use Rattle.papaya_running.proofs.OfCalls.Scenes.{AreNamed, its_named, stands_in}
 use Rattle.papaya_running.proofs.OfRows.Lone.{alone_follows}
@@ -47,14 +46,14 @@ pub mod Chain
 module _ {K V : Type 0} where
   -- such an event speaks of no call
   speaks_of_none : (event : Event K V) → gives_all event ≡ true → speaker event ≡ None
-  speaks_of_none ReclaimsIt of_all = refl
-  speaks_of_none Close of_all = refl
+  speaks_of_none events.ReclaimAll of_all = refl
+  speaks_of_none events.Close of_all = refl
   speaks_of_none _ of_all = absurd (cc of_all)
 
   -- out of turn it changes nothing
   busy_still : (log : List (Entry K V)) (w : World (Node K V)) (event : Event K V) → gives_all event ≡ true → (steps : ℕ) → IsStill log w (entry event (Refused Busy) steps [])
-  busy_still log w ReclaimsIt of_all steps = record { caller = refl; changes = refl; left = refl; enters = tt; whole = refl; leaves = tt; reclaims = tt }
-  busy_still log w Close of_all steps = record { caller = refl; changes = refl; left = refl; enters = tt; whole = refl; leaves = tt; reclaims = tt }
+  busy_still log w events.ReclaimAll of_all steps = record { caller = refl; changes = refl; left = refl; enters = tt; whole = refl; leaves = tt; reclaims = tt }
+  busy_still log w events.Close of_all steps = record { caller = refl; changes = refl; left = refl; enters = tt; whole = refl; leaves = tt; reclaims = tt }
   busy_still log w _ of_all steps = absurd (cc of_all)
 
 module _ {K V S : Type 0} (same : K → K → Bool) (hash : K → ℕ) (stay : SlotsLeaveRoots K V S same hash) (terms : Terms) (log : List (Entry K V)) (event : Event K V) (of_all : gives_all event ≡ true)
