@@ -1,6 +1,7 @@
 -- Events that reclaim all, from their beginning on.
 pub mod Tells
 pub mod Points
+pub mod Roots
 pub mod Turns
 pub mod Stays
 pub mod Steps

@@ -95,13 +95,12 @@ module _ {K V : Type 0} (same : K → K → Bool) (name : ℕ → List ℕ) (ter
     pub left : LeftIsBehind terms.roots m known lists
 
 module _ {K V S : Type 0} (same : K → K → Bool) (hash : K → ℕ) (roots i : ℕ) where
-  -- A step by which all is reclaimed, of an executor with so many roots, as if by caller i; as long as it is on slots, what is behind the roots stays there.
+  -- A step by which all is reclaimed, of an executor with so many roots, as if by caller i.
   pub record AllSteps (from to : AllCome K V S) : Type 0 where
     pub under_way : IsReclaiming same hash from.come.executor from.come.scene i from.lists from.all
     pub roots_are : from.come.executor.roots ≡ roots
     pub said : Settled (Node K V)
     pub leads : ReclaimingLeads same hash from.come.scene i from.lists from.come.executor to.come.executor from.all to.all said
-    pub on_slots : is_on_slots from.all.stands ≡ true → leads.1.lists2 ≡ from.lists
     pub comes : to ≡ record {
       come = record {
         executor = to.come.executor;
@@ -119,7 +118,13 @@ abbrev pub all_begun : {K V S : Type 0} → List (Entry K V) → Known → Scene
 all_begun log known s e all lists = record { come = record { executor = e; did = []; now = moment log; notes = known; scene = s }; all = all; lists = lists }
 
 module _ (K V S : Type 0) (same : K → K → Bool) (hash : K → ℕ) where
-  -- The promises: so it is where all begins to be reclaimed, if what is left over is behind the roots;
+  -- The promises: as long as reclaiming all is on slots, what is behind the roots stays there.
+  abbrev pub SlotsLeaveRoots : Type 0
+  SlotsLeaveRoots =
+      (s : Scene K V) (i : ℕ) (lists : ℕ → List ℕ) (old new : Executor K V S) (before after : ReclaimAll) (said : Settled (Node K V)) → IsReclaiming same hash old s i lists before
+      → (leads : ReclaimingLeads same hash s i lists old new before after said) → is_on_slots before.stands ≡ true → leads.1.lists2 ≡ lists
+
+  -- An event is in its midst where all begins to be reclaimed, if what is left over is behind the roots;
   abbrev pub AllEventsBegin : Type 0
   AllEventsBegin =
       (name : ℕ → List ℕ) (terms : Terms) (log : List (Entry K V)) (known : Known) (s : Scene K V) → ShowsRun same name terms log known s

@@ -34,7 +34,7 @@ use Rattle.papaya_scheduler.specs.declared.played.Played.{Played}
 use Rattle.papaya_scheduler.specs.declared.scheduler.Scheduler.{Scheduler}
 use Rattle.papaya_scheduler.proofs.AllGiven.{may_reclaim, nobody_has}
 use Rattle.papaya_scheduler.proofs.Rights.{entry, entry_is}
-use Rattle.papaya_running.specs.OfAll.{HasRunAll, IsLeftOfAll, KeepsAll, SlotsLeaveRoots}
+use Rattle.papaya_running.specs.OfAll.{HasRunAll, IsLeftOfAll, KeepsAll}
 use Rattle.papaya_running.specs.OfCalls.{Runs, RunsOn}
 use Rattle.papaya_running.proofs.OfAll.Chain.{AllComes, all_come, all_comes, is_over, leads, over_there, step_so, then_now, then_scene}
 use Rattle.papaya_running.proofs.OfCalls.Scenes.{AreNamed, its_named, stands_in}
@@ -56,7 +56,7 @@ module _ {K V : Type 0} where
   busy_still log w events.Close of_all steps = record { caller = refl; changes = refl; left = refl; enters = tt; whole = refl; leaves = tt; reclaims = tt }
   busy_still log w _ of_all steps = absurd (cc of_all)
 
-module _ {K V S : Type 0} (same : K → K → Bool) (hash : K → ℕ) (stay : SlotsLeaveRoots K V S same hash) (terms : Terms) (log : List (Entry K V)) (event : Event K V) (of_all : gives_all event ≡ true)
+module _ {K V S : Type 0} (same : K → K → Bool) (hash : K → ℕ) (terms : Terms) (log : List (Entry K V)) (event : Event K V) (of_all : gives_all event ≡ true)
     (played : Played V) (old new : Scheduler K V S) (run : Runs same hash terms log old) (after : IsPlayed same hash terms (entry_of event played ∷ log) new)
     (left : IsLeftOfAll same hash terms log old (entry_of event played) run) where
   abbrev m : Moment K V
@@ -104,21 +104,21 @@ module _ {K V S : Type 0} (same : K → K → Bool) (hash : K → ℕ) (stay : S
     abbrev end : Far K V S × ReclaimAll
     end = (far played.effects.items new.logged, ran.4)
 
-    y : AllComes same hash terms 0 stay s ran.3.0 (all_come (far [] old.logged, first) m s left.gives.lists) mid
-    y = all_comes same hash terms 0 stay s ran.3.0 (far [] old.logged, first) mid m s left.gives.lists under left.roots run.size (λ k. refl) ran.3.1
+    y : AllComes same hash terms 0 s ran.3.0 (all_come (far [] old.logged, first) m s left.gives.lists) mid
+    y = all_comes same hash terms 0 s ran.3.0 (far [] old.logged, first) mid m s left.gives.lists under left.roots run.size (λ k. refl) ran.3.1
 
     abbrev to : AllCome K V S
     to = all_come mid y.now y.scene y.lists
 
     abbrev last_scene : Scene K V
-    last_scene = then_scene same hash terms 0 stay mid end y.now y.scene y.lists y.under_way y.roots ran.5
+    last_scene = then_scene same hash terms 0 mid end y.now y.scene y.lists y.under_way y.roots ran.5
 
     abbrev over : AllCome K V S
-    over = all_come end (then_now same hash terms 0 stay mid end y.now y.scene y.lists y.under_way y.roots ran.5) last_scene
-        (leads same hash terms 0 stay mid end y.now y.scene y.lists y.under_way y.roots ran.5).1.lists2
+    over = all_come end (then_now same hash terms 0 mid end y.now y.scene y.lists y.under_way y.roots ran.5) last_scene
+        (leads same hash terms 0 mid end y.now y.scene y.lists y.under_way y.roots ran.5).1.lists2
 
     last : AllSteps same hash terms.roots 0 to over
-    last = step_so same hash terms 0 stay mid end y.now y.scene y.lists y.under_way y.roots ran.5
+    last = step_so same hash terms 0 mid end y.now y.scene y.lists y.under_way y.roots ran.5
 
     done : ran.5.1 ≡ settled.Done
     done = is_over ran.5.1 ran.6
@@ -133,7 +133,7 @@ module _ {K V S : Type 0} (same : K → K → Bool) (hash : K → ℕ) (stay : S
         left.pairs (left.retired over has_run) (left.sets over has_run) right
 
     there : IsAt same hash new.logged.executor last_scene
-    there = over_there same hash terms 0 stay mid end y.now y.scene y.lists y.under_way y.roots ran.5 done
+    there = over_there same hash terms 0 mid end y.now y.scene y.lists y.under_way y.roots ran.5 done
 
     named : AreNamed name new.calls.items.items
     named = subst (λ (c : Callers V). AreNamed name c.items.items) (sym calls) (its_named same hash terms m old run.stands)
@@ -141,8 +141,8 @@ module _ {K V S : Type 0} (same : K → K → Bool) (hash : K → ℕ) (stay : S
     -- each map stands as it stood
     stood : (k : ℕ) → slice_index_or new.logged.executor.maps.items k None ≡ slice_index_or old.logged.executor.maps.items k None
     stood k =
-        sym (there.maps k) ∙ (same_setting (y.scene.maps k) ((leads same hash terms 0 stay mid end y.now y.scene y.lists y.under_way y.roots ran.5).1.maps2 k)
-        ((leads same hash terms 0 stay mid end y.now y.scene y.lists y.under_way y.roots ran.5).1.as_they_were k) ∙ y.settings k) ∙ run.stands.shown.is_at.maps k
+        sym (there.maps k) ∙ (same_setting (y.scene.maps k) ((leads same hash terms 0 mid end y.now y.scene y.lists y.under_way y.roots ran.5).1.maps2 k)
+        ((leads same hash terms 0 mid end y.now y.scene y.lists y.under_way y.roots ran.5).1.as_they_were k) ∙ y.settings k) ∙ run.stands.shown.is_at.maps k
 
     all_keeps : KeepsAs e
     all_keeps so right =
@@ -174,5 +174,5 @@ module _ {K V S : Type 0} (same : K → K → Bool) (hash : K → ℕ) (stay : S
 module _ {K V S : Type 0} (same : K → K → Bool) (hash : K → ℕ) (event form : Event K V) (is : event ≡ form) (old new : Scheduler K V S) where
   pub all_keep : {X : Type 0} → (result : Result (Played V) X) → IfOk result (λ played. WorksOnAll played old new) → IfOk result (λ played. KeepsAll same hash event played old new)
   all_keep (Ok played) works =
-      subst (λ (x : Event K V). KeepsAll same hash x played old new) (sym is) (λ of_all stay terms log run after left. works_keep same hash stay terms log form of_all played old new run after left works)
+      subst (λ (x : Event K V). KeepsAll same hash x played old new) (sym is) (λ of_all terms log run after left. works_keep same hash terms log form of_all played old new run after left works)
   all_keep (Err x) works = tt

@@ -2,13 +2,9 @@
 use Rattle.std.specs.Prelude.{◌≡◌, ℕ, Bool, true, List, ◌∷◌, None}
 use Rattle.papaya_histories.specs.Given.Seize.WaitingSets.{Change}
 use Rattle.papaya_histories.specs.Given.Seize.declared.rows.reclaim_all.ReclaimAll.{ReclaimAll}
-use Rattle.papaya_histories.specs.Given.Seize.declared.rows.settle.Settled.{Settled}
 use Rattle.papaya_histories.specs.Given.Seize.declared.rows.settle.Settled.TheVariants as settled
-use Rattle.papaya_histories.specs.Given.SeizeSets.Reclaims.{is_on_slots}
 use Rattle.papaya_histories.specs.Given.Tables.Nodes.{deferred_word}
-use Rattle.papaya_histories.specs.Given.Tables.declared.node.Node.{Node}
 use Rattle.papaya_histories.specs.Given.Executor.IsAt.{Scene}
-use Rattle.papaya_histories.specs.Given.Executor.declared.executor.Executor.{Executor}
 use Rattle.papaya_schedules.specs.declared.event.Event.{Event}
 use Rattle.papaya_schedules.specs.After.{moment}
 use Rattle.papaya_schedules.specs.Effects.{AtEachEffect}
@@ -17,7 +13,6 @@ use Rattle.papaya_schedules.specs.Handing.{gives_all}
 use Rattle.papaya_schedules.specs.InTurn.{ComesRight}
 use Rattle.papaya_schedules.specs.Terms.{Terms}
 use Rattle.papaya_effects.specs.Known.{known}
-use Rattle.papaya_reclaiming.specs.Reclaiming.{IsReclaiming, ReclaimingLeads}
 use Rattle.papaya_models.specs.Reclaims.{HasReclaimed}
 use Rattle.papaya_models.specs.Turns.{CameByTurns}
 use Rattle.papaya_finds.specs.Bounded.{ShowsRetired}
@@ -29,13 +24,6 @@ use Rattle.papaya_scheduler.specs.Reclaiming.{MayGiveAll}
 use Rattle.papaya_scheduler.specs.declared.played.Played.{Played}
 use Rattle.papaya_scheduler.specs.declared.scheduler.Scheduler.{Scheduler}
 use Rattle.papaya_running.specs.OfCalls.{Runs, RunsOn}
-
-module _ (K V S : Type 0) (same : K → K → Bool) (hash : K → ℕ) where
-  -- what is wanted of each step by which all is reclaimed, and is had of no law yet: as long as it is on slots, what is behind the roots stays there
-  abbrev pub SlotsLeaveRoots : Type 0
-  SlotsLeaveRoots =
-      (s : Scene K V) (i : ℕ) (lists : ℕ → List ℕ) (old new : Executor K V S) (before after : ReclaimAll) (said : Settled (Node K V)) → IsReclaiming same hash old s i lists before
-      → (leads : ReclaimingLeads same hash s i lists old new before after said) → is_on_slots before.stands ≡ true → leads.1.lists2 ≡ lists
 
 module _ {K V S : Type 0} (same : K → K → Bool) (hash : K → ℕ) (terms : Terms) (log : List (Entry K V)) (p : Scheduler K V S) where
   -- All has been reclaimed from that scene on, with these lists behind the roots as it began, and here its steps have come to their end.
@@ -67,6 +55,6 @@ module _ {K V S : Type 0} (same : K → K → Bool) (hash : K → ℕ) where
   -- What is promised of one, with what is left: it keeps its promises, all is back, and the run goes on.
   abbrev pub KeepsAll : Event K V → Played V → (old new : Scheduler K V S) → Type 0
   KeepsAll event played old new =
-      gives_all event ≡ true → SlotsLeaveRoots K V S same hash → (terms : Terms) (log : List (Entry K V)) (run : Runs same hash terms log old)
+      gives_all event ≡ true → (terms : Terms) (log : List (Entry K V)) (run : Runs same hash terms log old)
       → IsPlayed same hash terms (entry_of event played ∷ log) new → IsLeftOfAll same hash terms log old (entry_of event played) run
       → RunsOn same hash terms log (entry_of event played) new × ReclaimsAll log (entry_of event played)

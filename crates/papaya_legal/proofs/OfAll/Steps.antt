@@ -32,6 +32,7 @@ use Rattle.papaya_promises.proofs.Weights.{grants_add_up, operations_are_single}
 use Rattle.papaya_models.proofs.MapEvents.{moments_note_once}
 use Rattle.papaya_legal.specs.AllEvents.{AllChain, AllCome, AllEventsBegin, AllSteps, InAllEvent, scene_in}
 use Rattle.papaya_legal.proofs.Chains.{chains_keep}
+use Rattle.papaya_legal.proofs.OfAll.Roots.{slots_leave_roots}
 use Rattle.papaya_legal.proofs.OfAll.Stays.{calls_then, reading_then}
 use Rattle.papaya_legal.proofs.OfAll.Tells.{gone_by, it_reclaims}
 use Rattle.papaya_legal.proofs.OfAll.Turns.{left_stays, takes_in_turn}
@@ -50,12 +51,15 @@ things_reclaim (y ∷ ys) = things_reclaim ys
 module _ {K V S : Type 0} (same : K → K → Bool) (hash : K → ℕ) (name : ℕ → List ℕ) (terms : Terms) (log : List (Entry K V)) (first : Known) (began : World (Node K V)) (behind : ℕ → List ℕ)
     (done : List Effect) (m : Moment K V) (known : Known) (s : Scene K V) (before after : ReclaimAll) (lists : ℕ → List ℕ) (midst : InAllEvent same name terms log first began behind done m known s before lists)
     (old new : Executor K V S) (i : ℕ) (told : Settled (Node K V)) (under_way : IsReclaiming same hash old s i lists before) (roots_are : old.roots ≡ terms.roots)
-    (leads : ReclaimingLeads same hash s i lists old new before after told) (on_slots : is_on_slots before.stands ≡ true → leads.1.lists2 ≡ lists) where
+    (leads : ReclaimingLeads same hash s i lists old new before after told) where
   abbrev effects : List Effect
   effects = effects_of Row known new.memory.changed
 
   had_retired : AtEachEffect HadRetired None None effects m
   had_retired = (reclaiming_found same hash name m known s midst.calls.whole midst.calls.kept old new i lists before after told under_way leads).0
+
+  on_slots : is_on_slots before.stands ≡ true → leads.1.lists2 ≡ lists
+  on_slots = slots_leave_roots K V S same hash s i lists old new before after told under_way leads
 
   -- so it is after a step
   goes_on : InAllEvent same name terms log first began behind (done ++ effects) (with_effects None None effects m) (known_after Row new.memory.changed known) (scene_in s leads.1.w2 leads.1.maps2) after
@@ -102,7 +106,7 @@ module _ (K V S : Type 0) (same : K → K → Bool) (hash : K → ℕ) where
       → InAllEvent same name terms log first began behind y.come.did y.come.now y.come.notes y.come.scene y.all y.lists
   all_goes_on name terms log first began behind i x y step midst = subst Midst (sym step.comes)
       (goes_on same hash name terms log first began behind x.come.did x.come.now x.come.notes x.come.scene x.all y.all x.lists midst x.come.executor y.come.executor i step.said step.under_way
-      step.roots_are step.leads step.on_slots)
+      step.roots_are step.leads)
     where
       Midst : AllCome K V S → Type 0
       Midst z = InAllEvent same name terms log first began behind z.come.did z.come.now z.come.notes z.come.scene z.all z.lists

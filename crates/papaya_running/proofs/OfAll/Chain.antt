@@ -19,7 +19,6 @@ use Rattle.papaya_logged.specs.Goes.{Far, GoesFor, ReclaimingGoes, ReclaimingOn}
 use Rattle.papaya_logged.proofs.ReclaimsRun.{same_setting}
 use Rattle.papaya_legal.specs.AllEvents.{AllCome, AllSteps, scene_in}
 use Rattle.papaya_legal.specs.Chains.{Chain, Come}
-use Rattle.papaya_running.specs.OfAll.{SlotsLeaveRoots}
 use Rattle.papaya_running.proofs.OfRows.Chain.{come_as, come_by}
 
 module _ {K V S : Type 0} where
@@ -33,7 +32,7 @@ is_over settled.Waits over = absurd (cc over)
 is_over (settled.Gave value) over = absurd (cc over)
 is_over settled.Done over = refl
 
-module _ {K V S : Type 0} (same : K → K → Bool) (hash : K → ℕ) (terms : Terms) (i : ℕ) (stay : SlotsLeaveRoots K V S same hash) where
+module _ {K V S : Type 0} (same : K → K → Bool) (hash : K → ℕ) (terms : Terms) (i : ℕ) where
   -- a step that was noted is one of the chain
   module _ (from to : Far K V S × ReclaimAll) (now : Moment K V) (s : Scene K V) (lists : ℕ → List ℕ) (under : IsReclaiming same hash from.0.logged.executor s i lists from.1)
       (roots : from.0.logged.executor.roots ≡ terms.roots) (step : ReclaimingGoes from to) where
@@ -55,7 +54,6 @@ module _ {K V S : Type 0} (same : K → K → Bool) (hash : K → ℕ) (terms : 
       roots_are = roots;
       said = step.1;
       leads = leads;
-      on_slots = λ on. stay s i lists from.0.logged.executor to.0.logged.executor from.1 to.1 step.1 under leads on;
       comes = ap (λ (c : Come K V S). record { come = c; all = to.1; lists = leads.1.lists2 })
           (come_as to.0.logged.executor then_now then_scene to.0.effects (from.0.effects ++ effects) (known to.0.logged.notes)
           (known_after acts.Row to.0.logged.executor.memory.changed (known from.0.logged.notes)) step.0.did step.0.noted);
