@@ -197,12 +197,15 @@ module _ (lists : ℕ → List ℕ) (root b : ℕ) (rest : List ℕ) (first : (r
   elsewhere r l = at_other lists root rest r (λ e. omega (arith, l, e)) ∙ first r l
 
   -- the first of them is taken away
-  pub first_taken : (n : ℕ) → root < n → all_lists lists n ≡ b ∷ all_lists lists2 n
-  first_taken zero l = absurd (omega (arith, l))
-  first_taken (suc n) l = elim (cases_eq n root) as (λ _. all_lists lists (suc n) ≡ b ∷ all_lists lists2 (suc n)) [
+  one_more : (n : ℕ) → root < suc n → (root < n → all_lists lists n ≡ b ∷ all_lists lists2 n) → all_lists lists (suc n) ≡ b ∷ all_lists lists2 (suc n)
+  one_more n l before = elim (cases_eq n root) as (λ _. all_lists lists (suc n) ≡ b ∷ all_lists lists2 (suc n)) [
     | inl e ↦
         ap (λ (xs : List ℕ). xs ++ lists n) (none_listed lists n (λ r k. first r (omega (arith, k, e)))) ∙ (ap lists e ∙ here)
         ∙ sym (ap (λ (xs : List ℕ). b ∷ (xs ++ lists2 n)) (none_listed lists2 n (λ r k. elsewhere r (omega (arith, k, e)))) ∙ ap (λ (xs : List ℕ). b ∷ xs) (at_same lists root rest n e))
     | inr ne ↦
-        ap (λ (xs : List ℕ). xs ++ lists n) (first_taken n (omega (arith, l, ne))) ∙ ap (λ (xs : List ℕ). b ∷ (all_lists lists2 n ++ xs)) (sym (at_other lists root rest n ne))
+        ap (λ (xs : List ℕ). xs ++ lists n) (before (omega (arith, l, ne))) ∙ ap (λ (xs : List ℕ). b ∷ (all_lists lists2 n ++ xs)) (sym (at_other lists root rest n ne))
   ]
+
+  pub first_taken : (n : ℕ) → root < n → all_lists lists n ≡ b ∷ all_lists lists2 n
+  first_taken zero l = absurd (omega (arith, l))
+  first_taken (suc n) l = one_more n l (λ k. first_taken n k)

@@ -62,6 +62,31 @@ module _ {K V : Type 0} (size : ℕ) where
     pub taken : taken_in w2.log ≡ taken_in w.log ++ more
     pub gone : (x : ℕ) → IsSome (value_at w.memory x) → value_at w2.memory x ≡ None → 0 < times x more
 
+  -- with a step of the row before
+  step_takes : (j : ℕ) (w v w2 : World (Node K V)) (r : Reached deferred_word size w) → Steps' deferred_word j (w.row j) w v → TakesMore v w2 → TakesMore w w2
+  step_takes j w v w2 r step later = record {
+    more = taken_in it.effects ++ later.more;
+    taken =
+        later.taken ∙ ap (λ (l : List ℕ). l ++ later.more) (ap taken_in it.logged ∙ taken_append it.effects w.log)
+        ∙ append_assoc (taken_in w.log) (taken_in it.effects) later.more;
+    gone = λ x some none. by x some none (value_at v.memory x) refl;
+  }
+    where
+      it : RowStepped deferred_word j w v
+      it = did deferred_word size w r j v step
+
+      counted : (x : ℕ) → IsSome (value_at w.memory x) → value_at v.memory x ≡ None → (n : ℕ) → times x (taken_in it.effects) ≡ n → 0 < times x (taken_in it.effects ++ later.more)
+      counted x some is zero e = absurd (none_some (value_at w.memory x) some (sym (it.frames.values x e) ∙ is))
+      counted x some is (suc n) e = (let both = times-append x (taken_in it.effects) later.more in omega (arith, e, both))
+
+      by : (x : ℕ) → IsSome (value_at w.memory x) → value_at w2.memory x ≡ None → (o : Option (Node K V)) → value_at v.memory x ≡ o → 0 < times x (taken_in it.effects ++ later.more)
+      by x some none (Some value) is =
+          let there : IsSome (value_at v.memory x) = subst (λ (q : Option (Node K V)). IsSome q) (sym is) refl in
+          let among = later.gone x there none in
+          let both = times-append x (taken_in it.effects) later.more in
+          omega (arith, among, both)
+      by x some none None is = counted x some is (times x (taken_in it.effects)) refl
+
   rows_take : (i : ℕ) (events : List (Event (Node K V))) → AreItsRows i events → (w w2 : World (Node K V)) → Reached deferred_word size w → Runs deferred_word size events w w2 → TakesMore w w2
   rows_take i [] its w w2 r runs = record {
     more = [];
@@ -76,31 +101,8 @@ module _ {K V : Type 0} (size : ℕ) where
         taken = later.taken ∙ ap (λ l. taken_in l ++ later.more) (begun_logged j request w v its.1 happens.1);
         gone = λ x some none. later.gone x (subst (λ (z : Mem (Node K V)). IsSome (value_at z x)) (sym first.0) some) none;
       }
-  rows_take i (Step j ∷ events) its w w2 r (v, happens, runs) = record {
-    more = taken_in it.effects ++ later.more;
-    taken =
-        later.taken ∙ ap (λ (l : List ℕ). l ++ later.more) (ap taken_in it.logged ∙ taken_append it.effects w.log)
-        ∙ append_assoc (taken_in w.log) (taken_in it.effects) later.more;
-    gone = λ x some none. by x some none (value_at v.memory x) refl;
-  }
-    where
-      it : RowStepped deferred_word j w v
-      it = did deferred_word size w r j v happens
-
-      later : TakesMore v w2
-      later = rows_take i events its.1 v w2 (happens_reached deferred_word size (Step j) w v r happens) runs
-
-      by : (x : ℕ) → IsSome (value_at w.memory x) → value_at w2.memory x ≡ None → (o : Option (Node K V)) → value_at v.memory x ≡ o → 0 < times x (taken_in it.effects ++ later.more)
-      by x some none (Some value) is =
-          let there : IsSome (value_at v.memory x) = subst (λ (q : Option (Node K V)). IsSome q) (sym is) refl in
-          let among = later.gone x there none in
-          let both = times-append x (taken_in it.effects) later.more in
-          omega (arith, among, both)
-      by x some none None is = counted (times x (taken_in it.effects)) refl
-        where
-          counted : (n : ℕ) → times x (taken_in it.effects) ≡ n → 0 < times x (taken_in it.effects ++ later.more)
-          counted zero e = absurd (none_some (value_at w.memory x) some (sym (it.frames.values x e) ∙ is))
-          counted (suc n) e = (let both = times-append x (taken_in it.effects) later.more in omega (arith, e, both))
+  rows_take i (Step j ∷ events) its w w2 r (v, happens, runs) =
+      step_takes j w v w2 r happens (rows_take i events its.1 v w2 (happens_reached deferred_word size (Step j) w v r happens) runs)
   rows_take i (_ ∷ events) its w w2 r runs = absurd its
 
 -- What the row of a caller takes away by its next step the collector had.
