@@ -5,5 +5,6 @@ pub mod Roots
 pub mod Turns
 pub mod Stays
 pub mod Steps
+pub mod Pairs
 pub mod Model
 pub mod Ends

@@ -22,7 +22,7 @@ use Rattle.papaya_histories.specs.Given.Schedules.Handing.{gives_all, is_granted
 use Rattle.papaya_histories.specs.Given.Schedules.InTurn.{ComesRight}
 use Rattle.papaya_histories.specs.Given.Schedules.Lives.{MayReclaim}
 use Rattle.papaya_histories.specs.Given.Schedules.Model.{all_left, thing_back}
-use Rattle.papaya_histories.specs.Given.Schedules.Moment.{Moment}
+use Rattle.papaya_histories.specs.Given.Schedules.Moment.{Left, Moment}
 use Rattle.papaya_histories.specs.Given.Schedules.Terms.{Terms}
 use Rattle.papaya_histories.specs.Given.Effects.Effects.{effects_of, known_after}
 use Rattle.papaya_histories.specs.Given.Effects.Known.{Known}
@@ -68,6 +68,10 @@ LeftIsBehind roots m known lists = (n : ℕ) → is_left_over (m.place n) ≡ tr
 -- what is behind the roots is what the moment says that ended maps have left over, in that order
 abbrev pub BehindIsLeft : {K V : Type 0} → ℕ → Moment K V → Known → (ℕ → List ℕ) → Type 0
 BehindIsLeft roots m known lists = flat_map (λ (b : ℕ). things_of (known.roles b)) (all_lists lists roots) ≡ all_left m
+
+-- each pair in a block behind a root is left over
+abbrev pub BehindAreLeft : {K V : Type 0} → ℕ → Moment K V → Known → (ℕ → List ℕ) → Type 0
+BehindAreLeft roots m known lists = (b n : ℕ) → 0 < times b (all_lists lists roots) → known.roles b ≡ role.Pair n → m.place n ≡ Left
 
 module _ {K V : Type 0} (roots : ℕ) (first : Known) (began : World (Node K V)) (behind : ℕ → List ℕ) where
   -- What it has reclaimed so far, as it was noted at first, since it began in that world with these lists behind the roots: blocks that were retired, and after all of these those that are behind
@@ -137,6 +141,13 @@ module _ (K V S : Type 0) (same : K → K → Bool) (hash : K → ℕ) where
       (name : ℕ → List ℕ) (terms : Terms) (log : List (Entry K V)) (first : Known) (began : World (Node K V)) (behind : ℕ → List ℕ) (i n : ℕ) (from to : AllCome K V S)
       → Chain (AllSteps same hash terms.roots i) n from to → InAllEvent same name terms log first began behind from.come.did from.come.now from.come.notes from.come.scene from.all from.lists
       → InAllEvent same name terms log first began behind to.come.did to.come.now to.come.notes to.come.scene to.all to.lists
+
+  -- there each pair that it has reclaimed was handed over, or left over, if no call was under way as it began, and what was behind the roots was left over;
+  abbrev pub AllFindPairs : Type 0
+  AllFindPairs =
+      (name : ℕ → List ℕ) (terms : Terms) (log : List (Entry K V)) (known : Known) (s : Scene K V) (old : Executor K V S) → ShowsRun same name terms log known s → (moment log).calls ≡ []
+      → (i : ℕ) (all : ReclaimAll) (lists : ℕ → List ℕ) → LeftIsBehind terms.roots (moment log) known lists → BehindAreLeft terms.roots (moment log) known lists
+      → (n : ℕ) (to : AllCome K V S) → Chain (AllSteps same hash terms.roots i) n (all_begun log known s old all lists) to → AtEachEffect FindsPair None None to.come.did (moment log)
 
   -- and where its last step has said that all is reclaimed, all is back, and what ended maps had left over came last; the event is legal but for what it comes to, and a run goes on with it: if what was
   -- behind the roots is what the moment said, each pair that is reclaimed was handed over or left over, what the moment after it calls retired is so in the memory, and its work on slots, in

@@ -1,5 +1,5 @@
 -- Events that reclaim all keep their promises, and a run goes on with them.
-use Rattle.std.specs.Prelude.{◌≡◌, ◌<◌, ◌^◌, nat_lt, ℕ, Bool, true, List, [], ◌∷◌, None, Result, Ok, Err, IfOk, slice_index_or}
+use Rattle.std.specs.Prelude.{◌≡◌, ◌<◌, ◌^◌, nat_lt, ℕ, suc, Bool, true, List, [], ◌∷◌, None, Result, Ok, Err, IfOk, slice_index_or}
 use Rattle.std.proofs.Common.{refl, sym, subst, inl, inr, ◌∙◌}
 use Rattle.seize_words.specs.declared.fault.Fault.TheVariants.{Busy}
 use Rattle.papaya_histories.specs.Given.Seize.World.{World}
@@ -11,6 +11,7 @@ use Rattle.papaya_schedules.specs.declared.event.Event.{Event}
 use Rattle.papaya_schedules.specs.declared.event.Event.TheVariants as events
 use Rattle.papaya_schedules.specs.declared.outcome.Outcome.TheVariants.{Done, Refused}
 use Rattle.papaya_schedules.specs.After.{moment}
+use Rattle.papaya_schedules.specs.Effects.{AtEachEffect}
 use Rattle.papaya_schedules.specs.Entry.{Entry, speaker}
 use Rattle.papaya_schedules.specs.Handing.{gives_all}
 use Rattle.papaya_schedules.specs.InTurn.{ComesRight}
@@ -19,10 +20,11 @@ use Rattle.papaya_schedules.specs.Terms.{Terms}
 use Rattle.papaya_effects.specs.Known.{known}
 use Rattle.papaya_reclaiming.specs.Reclaiming.{IsReclaiming, MayReclaim, NobodyHas}
 use Rattle.papaya_finds.specs.Little.{ReclaimsAll}
-use Rattle.papaya_legal.specs.AllEvents.{AllCome, AllSteps}
+use Rattle.papaya_legal.specs.AllEvents.{AllCome, AllSteps, FindsPair}
 use Rattle.papaya_legal.specs.CallEvents.{IsLegalBut}
 use Rattle.papaya_legal.specs.Carried.{ShowsRun}
-use Rattle.papaya_legal.proofs.OfAll.Ends.{all_runs_to_its_end}
+use Rattle.papaya_legal.proofs.OfAll.Ends.{all_runs_to_its_end, none_called}
+use Rattle.papaya_legal.proofs.OfAll.Pairs.{all_find_pairs}
 use Rattle.papaya_logged.specs.Goes.{Far, ReclaimingGone, far}
 use Rattle.papaya_logged.specs.Shown.{IsShown}
 use Rattle.papaya_logged.proofs.ReclaimsRun.{same_setting}
@@ -126,11 +128,16 @@ module _ {K V S : Type 0} (same : K → K → Bool) (hash : K → ℕ) (terms : 
     has_run : HasRunAll same hash terms log old s left.gives.lists over
     has_run = record { caller = 0; all = first; steps = ran.3.0; to = to; chain = y.chain; last = last; done = done }
 
+    pairs : ComesRight terms log e → AtEachEffect FindsPair None None played.effects.items m
+    pairs right =
+        all_find_pairs K V S same hash name terms log (known old.logged.notes) s old.logged.executor run.shows (none_called terms log played.steps played.effects.items event of_all right) 0 first
+        left.gives.lists left.behind left.left_there (suc ran.3.0) over (to, y.chain, last)
+
     it : ComesRight terms log e → IsLegalBut same terms log e × ReclaimsAll log e × ShowsRun same name terms (e ∷ log) (known new.logged.notes) last_scene
     it right =
         all_runs_to_its_end K V S same hash name terms log (known old.logged.notes) s old.logged.executor small run.shows event of_all
         (alone_follows same hash terms log old run event (speaks_of_none event of_all)) 0 first left.gives.lists left.behind left.order ran.3.0 to over y.chain last done played.steps played.effects.items refl
-        left.pairs (left.retired over has_run) (left.sets over has_run) right
+        (pairs right) (left.retired over has_run) (left.sets over has_run) right
 
     there : IsAt same hash new.logged.executor last_scene
     there = over_there same hash terms 0 mid end y.now y.scene y.lists y.under_way y.roots ran.5 done

@@ -1,5 +1,5 @@
 -- What is had of an event that reclaims all: all is back, it keeps its promises, and the run goes on with it.
-use Rattle.std.specs.Prelude.{◌≡◌, ℕ, Bool, true, List, ◌∷◌, None}
+use Rattle.std.specs.Prelude.{◌≡◌, ℕ, Bool, true, List, ◌∷◌}
 use Rattle.papaya_histories.specs.Given.Seize.WaitingSets.{Change}
 use Rattle.papaya_histories.specs.Given.Seize.declared.rows.reclaim_all.ReclaimAll.{ReclaimAll}
 use Rattle.papaya_histories.specs.Given.Seize.declared.rows.settle.Settled.TheVariants as settled
@@ -7,7 +7,6 @@ use Rattle.papaya_histories.specs.Given.Tables.Nodes.{deferred_word}
 use Rattle.papaya_histories.specs.Given.Executor.IsAt.{Scene}
 use Rattle.papaya_schedules.specs.declared.event.Event.{Event}
 use Rattle.papaya_schedules.specs.After.{moment}
-use Rattle.papaya_schedules.specs.Effects.{AtEachEffect}
 use Rattle.papaya_schedules.specs.Entry.{Entry}
 use Rattle.papaya_schedules.specs.Handing.{gives_all}
 use Rattle.papaya_schedules.specs.InTurn.{ComesRight}
@@ -17,7 +16,7 @@ use Rattle.papaya_models.specs.Reclaims.{HasReclaimed}
 use Rattle.papaya_models.specs.Turns.{CameByTurns}
 use Rattle.papaya_finds.specs.Bounded.{ShowsRetired}
 use Rattle.papaya_finds.specs.Little.{ReclaimsAll}
-use Rattle.papaya_legal.specs.AllEvents.{AllCome, AllSteps, BehindIsLeft, FindsPair, LeftIsBehind, all_begun}
+use Rattle.papaya_legal.specs.AllEvents.{AllCome, AllSteps, BehindAreLeft, BehindIsLeft, LeftIsBehind, all_begun}
 use Rattle.papaya_legal.specs.Chains.{Chain}
 use Rattle.papaya_scheduler.specs.Played.{IsPlayed, entry_of}
 use Rattle.papaya_scheduler.specs.Reclaiming.{MayGiveAll}
@@ -36,16 +35,16 @@ module _ {K V S : Type 0} (same : K → K → Bool) (hash : K → ℕ) (terms : 
     pub last : AllSteps same hash terms.roots caller to over
     pub done : last.said ≡ settled.Done
 
-  -- What is still asked of such an event, by name: it comes to what is right; each pair that it reclaims was handed over, or left over; the executor has the roots that the terms say, and what is behind
-  -- them is what the moment says is left over, in that order; and, wherever its steps have come to their end, what the moment then calls retired is so in the memory, and the waiting sets of blocks
+  -- What is still asked of such an event, by name: it comes to what is right; the executor has the roots that the terms say, and what is behind them is what the moment says is left over, in that order;
+  -- and, wherever its steps have come to their end, what the moment then calls retired is so in the memory, and the waiting sets of blocks
   -- have been reclaimed as they say.
   pub record IsLeftOfAll (e : Entry K V) (run : Runs same hash terms log p) : Type 0 where
     pub right : ComesRight terms log e
-    pub pairs : AtEachEffect FindsPair None None e.effects (moment log)
     pub roots : p.logged.executor.roots ≡ terms.roots
     pub gives : MayGiveAll p run.stands.scene
     pub behind : LeftIsBehind terms.roots (moment log) (known p.logged.notes) gives.lists
     pub order : BehindIsLeft terms.roots (moment log) (known p.logged.notes) gives.lists
+    pub left_there : BehindAreLeft terms.roots (moment log) (known p.logged.notes) gives.lists
     pub retired : (over : AllCome K V S) → HasRunAll run.stands.scene gives.lists over → ShowsRetired over.come.now over.come.notes over.come.scene.world
     pub sets : (over : AllCome K V S) → HasRunAll run.stands.scene gives.lists over → (before : List Change)
         → CameByTurns deferred_word terms.batch_size terms.roots run.stands.scene.world before

@@ -117,7 +117,7 @@ module _ {K V : Type 0} (terms : Terms) (log : List (Entry K V)) (steps : ℕ) (
   nobody_calls is = none_there m.calls (last_of_three (is_empty m.there.registrations) (all_forgotten m.there.guards) (is_empty m.calls) is)
 
   -- no call was under way
-  none_called : (its : Event K V) → gives_all its ≡ true → ComesRight terms log (entry its) → m.calls ≡ []
+  pub none_called : (its : Event K V) → gives_all its ≡ true → ComesRight terms log (entry its) → m.calls ≡ []
   none_called event.ReclaimAll of_all right =
       nobody_calls (in_turn terms log (entry event.ReclaimAll) (is_left m) _ (was_done V)
       (not_kept_out terms log (entry event.ReclaimAll) (is_kept_out terms event.ReclaimAll m) (IsKeptOut event.ReclaimAll (was_done V)) _ (was_done V) (λ out. out) right refl) refl)

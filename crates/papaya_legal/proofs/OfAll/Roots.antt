@@ -156,7 +156,7 @@ module _ {K V S : Type 0} (same : K → K → Bool) (hash : K → ℕ) (s : Scen
     quiet none = subst TakesNone took none
 
     -- the collector had it
-    handed : (p : Reclaiming) → is_on_slots p ≡ true → StepsTold K V (ReclaimAll × Settled (Node K V)) old.memory.memory changed.Nothing (all.plan_at deferred_word was_left before p) new.memory.memory x (after, told)
+    pub handed : (p : Reclaiming) → is_on_slots p ≡ true → StepsTold K V (ReclaimAll × Settled (Node K V)) old.memory.memory changed.Nothing (all.plan_at deferred_word was_left before p) new.memory.memory x (after, told)
         → ReclaimingAt old.batch_size old.roots i before w s.maps lists p → w.hand b ≡ Handed
     handed (at.Leaves slot it) on_it st point =
         let inner = told_in old.memory.memory new.memory.memory x (all.within (λ (l : Leave). all.standing before (at.Leaves slot l)) (all.next_head before slot)) (leave.leave_plan deferred_word it) (after, told) st in

@@ -111,20 +111,20 @@ module _ {K V S : Type 0} (same : K → K → Bool) (hash : K → ℕ) (name : �
   off_then off = stays_off old.memory.memory new.memory.memory x before (after, told) off before.stands off leads.0
 
   -- it takes none; or, on slots, one that was retired; or, on roots, the first one behind them
-  abbrev TakesFromSlots : ℕ → Type 0
-  TakesFromSlots b = (is_on_slots before.stands ≡ true) × (taken_in w2.log ≡ taken_in w.log ++ b ∷ []) × (lists2 ≡ lists)
+  abbrev pub TakesFromSlots : ℕ → Type 0
+  TakesFromSlots b = (is_on_slots before.stands ≡ true) × (taken_in w2.log ≡ taken_in w.log ++ b ∷ []) × (lists2 ≡ lists) × (is_retired b w.log ≡ true)
 
-  abbrev TakesFromRoots : ℕ → Type 0
+  abbrev pub TakesFromRoots : ℕ → Type 0
   TakesFromRoots b = (is_on_slots before.stands ≡ false) × (taken_in w2.log ≡ taken_in w.log) × (all_lists lists roots ≡ b ∷ all_lists lists2 roots)
 
-  abbrev HasTurned : Type 0
+  abbrev pub HasTurned : Type 0
   HasTurned = (TakesNone x × (lists2 ≡ lists) × (taken_in w2.log ≡ taken_in w.log)) ⊎ ((b : ℕ) × (x ≡ changed.Took b) × (TakesFromSlots b ⊎ TakesFromRoots b))
 
-  has_turned : HasTurned
+  pub has_turned : HasTurned
   has_turned = by (has_done same hash name m known s whole kept old new i lists before after told under_way leads)
     where
       retired : (b : ℕ) → x ≡ changed.Took b → is_retired b w.log ≡ true → taken_in w2.log ≡ taken_in w.log ++ b ∷ [] → lists2 ≡ lists → (q : Bool) → is_on_slots before.stands ≡ q → HasTurned
-      retired b took is taken same_lists true on = inr (b, took, inl (on, taken, same_lists))
+      retired b took is taken same_lists true on = inr (b, took, inl (on, taken, same_lists, is))
       retired b took is taken same_lists false off = absurd (none_retired off b is)
 
       behind_root : (b : ℕ) → x ≡ changed.Took b → (root : ℕ) (rest : List ℕ) → ((r : ℕ) → r < root → lists r ≡ []) → lists root ≡ b ∷ rest → lists2 ≡ with_at lists root rest
@@ -193,7 +193,7 @@ module _ {K V S : Type 0} (same : K → K → Bool) (hash : K → ℕ) (name : �
     }
 
     slot_taken : (b : ℕ) → x ≡ changed.Took b → TakesFromSlots b → Turned
-    slot_taken b took (on, taken, same_lists) =
+    slot_taken b took (on, taken, same_lists, is) =
         let none : turn.gone ≡ [] = turn.slots_first on in
         let was : flat_map thing_back done ≡ flat_map things turn.back =
         turn.reclaimed ∙ ap (λ (ys : List ℕ). flat_map things (turn.back ++ ys)) none ∙ ap (flat_map things) (append-nil turn.back) in
@@ -258,6 +258,6 @@ module _ {K V S : Type 0} (same : K → K → Bool) (hash : K → ℕ) (name : �
             noted_still same hash name m known s whole kept old new i lists before after told under_way leads none had.0 ∙ had.1,
             subst (λ (ls : ℕ → List ℕ). 0 < times had.0 (all_lists ls roots)) (sym same_lists) had.2,
           )
-      by (inr (b, took, inl (on, taken, same_lists))) = elsewhere b took (λ d ne l. subst (λ (ls : ℕ → List ℕ). 0 < times d (all_lists ls roots)) (sym same_lists) l)
+      by (inr (b, took, inl (on, taken, same_lists, is))) = elsewhere b took (λ d ne l. subst (λ (ls : ℕ → List ℕ). 0 < times d (all_lists ls roots)) (sym same_lists) l)
       by (inr (b, took, inr (off, taken, listed))) =
           elsewhere b took (λ d ne l. among_rest d b (all_lists lists2 roots) ne (subst (λ (xs : List ℕ). 0 < times d xs) listed l))
