@@ -1,5 +1,6 @@
 //! What is promised of each event of a run, whatever calls are under way.
 ghost use Rattle.std.specs.Prelude.{ℕ, Bool};
+ghost use Rattle.papaya_legal.specs.AllEvents.{AllChain, AllEventsBegin, AllFindPairs, AllRunsToItsEnd, SlotsLeaveRoots};
 ghost use Rattle.papaya_legal.specs.Between.{CallsBegin, CallsTake, EndsBegin, LikesShow, LogsGrow, MakingsBegin, MapsCome, MapsGo, NamesChange, WalksGoOn, WalksStop};
 ghost use Rattle.papaya_legal.specs.Carried.{RunsBegin};
 ghost use Rattle.papaya_legal.specs.CallEvents.{CallEventsAreLegal, CallEventsBegin, CallEventsEnd, CallEventsFollow, CallEventsGoOn, NextsBegin, WholeCallsBegin};
@@ -68,6 +69,18 @@ pub fn slot_events<K, V, S>()
     ensures goes_on { (same : K → K → Bool) (hash : K → ℕ) → SlotEventsGoOn K V S same hash }
     ensures legal { (same : K → K → Bool) → SlotEventsAreLegal K V same }
     ensures ends { (same : K → K → Bool) → SlotEventsEnd K V same }
+{}
+
+/// As long as reclaiming all is on slots, what is behind the roots stays there. An event that reclaims all is in its midst where that begins, if what is left over is behind the roots, and wherever a
+/// chain of its steps has led; each pair that it has reclaimed there was handed over, or left over, if no call was under way, and what was behind the roots was left over. Once its last step has said that all is reclaimed, all is back, and what ended maps had left over came last; the event is legal but for what it comes to, and a run goes on with
+/// it: if what was behind the roots is what the moment said, each pair that is reclaimed was handed over or left over, what the moment after it calls retired is so in the memory, and the work on
+/// slots has reclaimed what the waiting sets of blocks say.
+pub fn reclaiming_all<K, V, S>()
+    ensures slots { (same : K → K → Bool) (hash : K → ℕ) → SlotsLeaveRoots K V S same hash }
+    ensures begins { (same : K → K → Bool) (hash : K → ℕ) → AllEventsBegin K V S same hash }
+    ensures chain { (same : K → K → Bool) (hash : K → ℕ) → AllChain K V S same hash }
+    ensures pairs { (same : K → K → Bool) (hash : K → ℕ) → AllFindPairs K V S same hash }
+    ensures ends { (same : K → K → Bool) (hash : K → ℕ) → AllRunsToItsEnd K V S same hash }
 {}
 
 /// An event that makes a map, or ends one, is in its midst where that begins, and still after each step, an end if it takes tables of its map alone.

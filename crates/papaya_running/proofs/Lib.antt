@@ -15,3 +15,4 @@ mod Held
 pub mod OfRows
 pub mod OfEnds
 pub mod OfMakings
+pub mod OfAll

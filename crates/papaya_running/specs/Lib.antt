@@ -5,3 +5,4 @@ pub mod Acting
 pub mod Run
 pub mod OfCalls
 pub mod OfRows
+pub mod OfAll

@@ -1,6 +1,7 @@
 pub mod KeptGiven
 pub mod Backs
 pub mod Works
+pub mod AllWorks
 pub mod Rights
 pub mod Busy
 pub mod Quiet
@@ -40,4 +41,4 @@ pub mod MapsEnded
 pub mod RootsUsed
 pub mod MapNumbers
 pub mod MapsMade
-mod AllGiven
+pub mod AllGiven

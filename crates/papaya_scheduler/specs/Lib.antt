@@ -11,3 +11,4 @@ pub mod Reclaiming
 pub mod Back
 pub mod Quiet
 pub mod Works
+pub mod AllWorks

@@ -5,10 +5,12 @@ ghost use Rattle.papaya_schedules.specs.Moment.{Moment};
 ghost use Rattle.papaya_schedules.specs.declared.event.Event.TheVariants as event;
 ghost use Rattle.papaya_executor.specs.IsAt.{Scene, KeepsGiven};
 ghost use Rattle.papaya_logged.specs.Back.{AllBringsBack};
+ghost use Rattle.papaya_logged.specs.Goes.{ReclaimingGone};
 ghost use Rattle.papaya_logged.specs.Reclaims.{ReclaimingRan};
 ghost use Rattle.papaya_logged.specs.Shown.{IsShown};
 ghost use Rattle.papaya_reclaiming.specs.Reclaiming.{MayReclaim, NobodyHas};
 ghost use Rattle.papaya_effects.specs.Known.{known};
+ghost use Rattle.papaya_scheduler.specs.AllWorks.{WorksOnAll};
 ghost use Rattle.papaya_scheduler.specs.Back.{GivesAllBack};
 ghost use Rattle.papaya_scheduler.specs.Reclaiming.{MayReclaimAll, PlaysGiving, are_gone};
 ghost use Rattle.papaya_scheduler.specs.Quiet.{IsQuiet};
@@ -37,6 +39,7 @@ impl<K: Drop, V: Drop, S> Scheduler<K, V, S> {
         requires { (same : K → K → Bool) × (hash : K → ℕ) × (name : ℕ → List ℕ) × (m : Moment K V) × (s : Scene K V) × (lists : ℕ → List ℕ) × IsShown same hash name m self.old.logged s
             × NobodyHas self.old.logged.executor × MayReclaim self.old.logged.executor s lists (nat_lt 0 (known self.old.logged.notes).buckets) }
         ensures ran { OnOk result (ReclaimingRan (nat_lt 0 (known self.old.logged.notes).buckets) effects.old.items effects.new.items self.old.logged self.new.logged) }
+        ensures gone { OnOk result (ReclaimingGone (nat_lt 0 (known self.old.logged.notes).buckets) effects.old.items effects.new.items self.old.logged self.new.logged) }
         ensures back { OnOk result (AllBringsBack (nat_lt 0 (known self.old.logged.notes).buckets) effects.old.items effects.new.items self.old.logged back.old.items back.new.items) }
         ensures rest { OnOk result (self.new ≡ record self.old { logged = self.new.logged; there = nobody }) }
         ensures given { KeepsGiven self.old.logged.executor self.new.logged.executor }
@@ -54,6 +57,7 @@ impl<K: Drop, V: Drop, S> Scheduler<K, V, S> {
         ensures steps { IfOk result (λ played. played.steps ≡ 0) }
         ensures quiet { IfOk result (λ played. IsQuiet played.outcome played.effects.items) }
         ensures plays { IfOk result (λ played. (same : K → K → Bool) (hash : K → ℕ) → PlaysGiving same hash event.ReclaimAll played self.old self.new) }
+        ensures works { IfOk result (λ played. WorksOnAll played self.old self.new) }
         ensures back { IfOk result (λ played. (same : K → K → Bool) (hash : K → ℕ) → GivesAllBack same hash event.ReclaimAll played self.old back.old.items back.new.items) }
         ensures given { KeepsGiven self.old.logged.executor self.new.logged.executor }
     {
@@ -75,6 +79,7 @@ impl<K: Drop, V: Drop, S> Scheduler<K, V, S> {
         ensures steps { IfOk result (λ played. played.steps ≡ 0) }
         ensures quiet { IfOk result (λ played. IsQuiet played.outcome played.effects.items) }
         ensures plays { IfOk result (λ played. (same : K → K → Bool) (hash : K → ℕ) → PlaysGiving same hash event.Close played self.old self.new) }
+        ensures works { IfOk result (λ played. WorksOnAll played self.old self.new) }
         ensures back { IfOk result (λ played. (same : K → K → Bool) (hash : K → ℕ) → GivesAllBack same hash event.Close played self.old back.old.items back.new.items) }
         ensures given { KeepsGiven self.old.logged.executor self.new.logged.executor }
     {

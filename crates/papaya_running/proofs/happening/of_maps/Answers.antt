@@ -5,6 +5,7 @@ use Rattle.papaya_running.proofs.Counts.{counts_as, counts_still}
 use Rattle.papaya_running.proofs.Forms.{some_map}
 use Rattle.papaya_running.proofs.Gives.{gave, gave_all, gave_none_if}
 use Rattle.papaya_running.proofs.Happened.{due_so, may_give, may_map, may_play, still_if}
+use Rattle.papaya_running.proofs.OfAll.{all_keep, others_none}
 use Rattle.papaya_running.proofs.OfEnds.{ends_keep}
 use Rattle.papaya_running.proofs.OfMakings.{makings_keep}
 use Rattle.papaya_running.proofs.OfRows.{others_keep_if}
@@ -98,3 +99,18 @@ returns-in-ReclaimAll-clause-rows g c = others_keep_if g.K.PartialEq.eq (g.S.Has
 
 pub returns-in-Close-clause-rows : goal.returns-in-Close-clause-rows
 returns-in-Close-clause-rows g c = others_keep_if g.K.PartialEq.eq (g.S.Hashes.hash c.args.scheduler.now.logged.executor.hasher) c.args.event _ c.in-Close.is c.args.scheduler.now c.close.new.self refl c.close.result
+
+pub returns-in-MakeMap-clause-all : goal.returns-in-MakeMap-clause-all
+returns-in-MakeMap-clause-all g c = others_none g.K.PartialEq.eq (g.S.Hashes.hash c.args.scheduler.now.logged.executor.hasher) c.args.event _ c.in-MakeMap.is c.args.scheduler.now c.make_map.new.self refl c.make_map.result
+
+pub returns-in-EndMap-clause-all : goal.returns-in-EndMap-clause-all
+returns-in-EndMap-clause-all g c = others_none g.K.PartialEq.eq (g.S.Hashes.hash c.args.scheduler.now.logged.executor.hasher) c.args.event _ c.in-EndMap.is c.args.scheduler.now c.end_map.new.self refl c.end_map.result
+
+pub returns-in-ShowShape-clause-all : goal.returns-in-ShowShape-clause-all
+returns-in-ShowShape-clause-all g c = others_none g.K.PartialEq.eq (g.S.Hashes.hash c.args.scheduler.now.logged.executor.hasher) c.args.event _ c.in-ShowShape.is c.args.scheduler.now c.args.scheduler.now refl c.show_shape.result
+
+pub returns-in-ReclaimAll-clause-all : goal.returns-in-ReclaimAll-clause-all
+returns-in-ReclaimAll-clause-all g c = all_keep g.K.PartialEq.eq (g.S.Hashes.hash c.args.scheduler.now.logged.executor.hasher) c.args.event _ c.in-ReclaimAll.is c.args.scheduler.now c.reclaim_all.new.self c.reclaim_all.result c.reclaim_all.ensures.works
+
+pub returns-in-Close-clause-all : goal.returns-in-Close-clause-all
+returns-in-Close-clause-all g c = all_keep g.K.PartialEq.eq (g.S.Hashes.hash c.args.scheduler.now.logged.executor.hasher) c.args.event _ c.in-Close.is c.args.scheduler.now c.close.new.self c.close.result c.close.ensures.works
