@@ -57,11 +57,11 @@ use Rattle.papaya_rows.proofs.Lists.{found_has}
 use Rattle.papaya_scheduler.specs.Mapping.{AreApart}
 use Rattle.papaya_scheduler.specs.Played.{IsDue, IsPlayed, entry_of}
 use Rattle.papaya_scheduler.specs.Works.{HasEndedMap, WorksOnEnd}
-use Rattle.papaya_scheduler.specs.declared.caller.Callers.{Callers}
+use Rattle.papaya_named.specs.declared.caller.Callers.{Callers}
 use Rattle.papaya_scheduler.specs.declared.played.Played.{Played}
 use Rattle.papaya_scheduler.specs.declared.scheduler.Scheduler.{Scheduler}
-use Rattle.papaya_scheduler.proofs.MapsEnded.{no_call, no_other}
-use Rattle.papaya_scheduler.proofs.MapLists.{by_recursion}
+use Rattle.papaya_mapping.proofs.MapsEnded.{no_call, no_other}
+use Rattle.papaya_mapping.proofs.MapLists.{by_recursion}
 use Rattle.papaya_scheduler.proofs.Maps.{number_is}
 use Rattle.papaya_scheduler.proofs.Rights.{entry, entry_is}
 use Rattle.papaya_running.specs.Asked.{Holds}

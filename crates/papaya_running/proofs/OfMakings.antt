@@ -62,15 +62,15 @@ use Rattle.papaya_logged.specs.declared.logged.Logged.{Logged}
 use Rattle.papaya_logged.proofs.Counted.{counted_making_steps}
 use Rattle.papaya_logged.proofs.GivenBack.{with_maps}
 use Rattle.papaya_rows.proofs.Lists.{found_alike}
-use Rattle.papaya_calls.specs.Beginning.{first_places}
+use Rattle.papaya_named.specs.Places.{first_places}
 use Rattle.papaya_scheduler.specs.Mapping.{MayMap, may_make_of}
 use Rattle.papaya_scheduler.specs.Played.{IsPlayed, entry_of}
-use Rattle.papaya_scheduler.specs.Seen.{named as named_of_map, number_named}
+use Rattle.papaya_named.specs.Seen.{named as named_of_map, number_named}
 use Rattle.papaya_scheduler.specs.Works.{HasMadeMap, WorksOnMap}
-use Rattle.papaya_scheduler.specs.declared.caller.Callers.{Callers}
+use Rattle.papaya_named.specs.declared.caller.Callers.{Callers}
 use Rattle.papaya_scheduler.specs.declared.played.Played.{Played}
 use Rattle.papaya_scheduler.specs.declared.scheduler.Scheduler.{Scheduler}
-use Rattle.papaya_scheduler.proofs.MapsMade.{new_one, shown_there as shown_by}
+use Rattle.papaya_mapping.proofs.MapsMade.{new_one, shown_there as shown_by}
 use Rattle.papaya_scheduler.proofs.Maps.{number_is}
 use Rattle.papaya_scheduler.proofs.RanOn.{maps_named}
 use Rattle.papaya_scheduler.proofs.Rights.{entry, entry_is}

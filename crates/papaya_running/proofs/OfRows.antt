@@ -39,7 +39,7 @@ use Rattle.papaya_rows.specs.Rows.{RowRan}
 use Rattle.papaya_rows.proofs.Facts.{row_rests}
 use Rattle.papaya_scheduler.specs.Played.{IsPlayed, entry_of}
 use Rattle.papaya_scheduler.specs.Works.{ComesBy, IsAbout, IsItsRow, WorksOnSlot}
-use Rattle.papaya_scheduler.specs.declared.caller.Callers.{Callers}
+use Rattle.papaya_named.specs.declared.caller.Callers.{Callers}
 use Rattle.papaya_scheduler.specs.declared.played.Played.{Played}
 use Rattle.papaya_scheduler.specs.declared.scheduler.Scheduler.{Scheduler}
 use Rattle.papaya_scheduler.proofs.Rights.{entry, entry_is}

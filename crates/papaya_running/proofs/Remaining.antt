@@ -29,9 +29,9 @@ use Rattle.papaya_rows.proofs.Facts.{no_ending_of, no_making_of}
 use Rattle.papaya_rows.proofs.Lists.{both_none, both_some}
 use Rattle.papaya_scheduler.specs.Played.{StandsFor}
 use Rattle.papaya_scheduler.specs.Reclaiming.{MayGiveAll}
-use Rattle.papaya_scheduler.specs.Seen.{named, named_of}
+use Rattle.papaya_named.specs.Seen.{named, named_of}
 use Rattle.papaya_scheduler.specs.declared.scheduler.Scheduler.{Scheduler}
-use Rattle.papaya_scheduler.proofs.MapLists.{all_back, all_seen}
+use Rattle.papaya_mapping.proofs.MapLists.{all_back, all_seen}
 use Rattle.papaya_running.specs.Asked.{Holds}
 
 -- two lists that are behind one root of one memory have something, or neither has

@@ -44,7 +44,7 @@ use Rattle.papaya_legal.specs.CallEvents.{InCallEvent, IsLegalBut}
 use Rattle.papaya_legal.specs.CallSwept.{TellsOf}
 use Rattle.papaya_legal.specs.Carried.{ShowsRun}
 use Rattle.papaya_scheduler.specs.Played.{IsPlayed, entry_of}
-use Rattle.papaya_scheduler.specs.Seen.{kind_of}
+use Rattle.papaya_named.specs.Seen.{kind_of}
 use Rattle.papaya_scheduler.specs.declared.played.Played.{Played}
 use Rattle.papaya_scheduler.specs.declared.scheduler.Scheduler.{Scheduler}
 use Rattle.papaya_stepping.specs.Stepping.{ComesAs, outcome_of}

@@ -1,7 +1,6 @@
 pub mod KeptGiven
 pub mod Backs
 pub mod Works
-pub mod AllWorks
 pub mod Rights
 pub mod Busy
 pub mod Quiet
@@ -11,12 +10,10 @@ pub mod KeptOut
 pub mod Refused
 pub mod Seats
 pub mod Maps
-pub mod Called
 pub mod Begins
 pub mod ShapesHere
 pub mod RanOn
 pub mod Enters
-pub mod Takes
 pub mod Here
 pub mod Replied
 pub mod Stopped
@@ -34,11 +31,3 @@ pub mod Vacancies
 pub mod SlotTaken
 pub mod Registers
 pub mod Owns
-pub mod MapLists
-pub mod Mapped
-pub mod EndsLeave
-pub mod MapsEnded
-pub mod RootsUsed
-pub mod MapNumbers
-pub mod MapsMade
-pub mod AllGiven

@@ -28,14 +28,14 @@ use Rattle.papaya_histories.specs.Given.Finishes.Maps.{Standing}
 use Rattle.papaya_histories.specs.Given.Hands.Asked.{as_told}
 use Rattle.papaya_logged.specs.Calling.{CallBegins}
 use Rattle.papaya_logged.specs.Shown.{IsShown}
-use Rattle.papaya_scheduler.specs.Machines.{IsAsFar, RefusedForRoom, machine_for}
+use Rattle.papaya_named.specs.Machines.{IsAsFar, RefusedForRoom, machine_for}
 use Rattle.papaya_rows.specs.Rows.{used_as}
-use Rattle.papaya_scheduler.specs.Seen.{is_named, kind_of, named, named_of, ready_place, seen, seen_of, setting_named, takes}
-use Rattle.papaya_scheduler.specs.declared.caller.Caller.{Caller}
-use Rattle.papaya_scheduler.specs.declared.caller.Stands.TheVariants as far
+use Rattle.papaya_named.specs.Seen.{is_named, kind_of, named, named_of, ready_place, seen, seen_of, setting_named, takes}
+use Rattle.papaya_named.specs.declared.caller.Caller.{Caller}
+use Rattle.papaya_named.specs.declared.caller.Stands.TheVariants as far
 use Rattle.papaya_scheduler.specs.declared.played.Played.{Played}
 use Rattle.papaya_scheduler.specs.declared.scheduler.Given.{Given}
-use Rattle.papaya_scheduler.specs.declared.scheduler.NamedMap.{NamedMap}
+use Rattle.papaya_named.specs.declared.named_map.NamedMap.{NamedMap}
 use Rattle.papaya_scheduler.specs.declared.scheduler.Scheduler.{Scheduler}
 
 -- what the run is made with

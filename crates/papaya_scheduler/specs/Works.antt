@@ -16,7 +16,7 @@ use Rattle.papaya_schedules.specs.declared.event.Event.TheVariants.{Register, Un
 use Rattle.papaya_schedules.specs.declared.outcome.Outcome.{Outcome}
 use Rattle.papaya_schedules.specs.declared.outcome.Outcome.TheVariants.{Done, Slot, Refused}
 use Rattle.papaya_schedules.specs.Moment.{Moment}
-use Rattle.papaya_calls.specs.Beginning.{IsFirstLen, first_places}
+use Rattle.papaya_named.specs.Places.{IsFirstLen, first_places}
 use Rattle.papaya_executor.specs.IsAt.{KeepsGiven, Scene, StaysGiven}
 use Rattle.papaya_executor.specs.declared.row.RowTold.{RowTold}
 use Rattle.papaya_executor.specs.declared.row.RowTold.TheVariants as told
@@ -31,7 +31,7 @@ use Rattle.papaya_logged.specs.Shown.{IsShown}
 use Rattle.papaya_logged.specs.declared.logged.Logged.{Logged}
 use Rattle.papaya_rows.specs.Rows.{RowRan, left_as}
 use Rattle.papaya_scheduler.specs.Mapping.{IsGivenFor, may_make_of}
-use Rattle.papaya_scheduler.specs.Seen.{free_slot, number_named}
+use Rattle.papaya_named.specs.Seen.{free_slot, number_named}
 use Rattle.papaya_scheduler.specs.declared.played.Played.{Played}
 use Rattle.papaya_scheduler.specs.declared.scheduler.Scheduler.{Scheduler}
 

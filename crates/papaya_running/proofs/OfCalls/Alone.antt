@@ -23,8 +23,8 @@ use Rattle.papaya_rows.proofs.Facts.{row_rests}
 use Rattle.papaya_rows.proofs.Lists.{all_alike, one_of}
 use Rattle.papaya_rows.proofs.There.{is_inside, on_its_slot}
 use Rattle.papaya_scheduler.specs.Played.{IsPlayed, IsUnderWay}
-use Rattle.papaya_scheduler.specs.Seen.{Seen, is_named, seen, seen_of}
-use Rattle.papaya_scheduler.specs.declared.caller.Caller.{Caller}
+use Rattle.papaya_named.specs.Seen.{Seen, is_named, seen, seen_of}
+use Rattle.papaya_named.specs.declared.caller.Caller.{Caller}
 use Rattle.papaya_scheduler.specs.declared.scheduler.Scheduler.{Scheduler}
 use Rattle.papaya_running.proofs.OfCalls.InRows.{insides_follow_in_rows}
 

@@ -27,8 +27,8 @@ use Rattle.papaya_histories.specs.Events.{ComesToIt}
 use Rattle.papaya_histories.specs.InEvent.{ComesSo}
 use Rattle.papaya_histories.specs.OtherMidsts.{AsksAsSaid}
 use Rattle.papaya_histories.proofs.AnyCall.InEvent.{events_have_words}
-use Rattle.papaya_scheduler.specs.Seen.{kind_of, kind_on}
-use Rattle.papaya_scheduler.specs.Telling.{aborted_with, answer_on, number_by, number_in, occupied_by}
+use Rattle.papaya_named.specs.Seen.{kind_of, kind_on}
+use Rattle.papaya_named.specs.Telling.{aborted_with, answer_on, number_by, number_in, occupied_by}
 use Rattle.papaya_stepping.specs.Stepping.{outcome_of}
 use Rattle.papaya_running.specs.OfCalls.{LastStepsTell, TellsValue}
 use Rattle.papaya_running.proofs.OfCalls.Words.{tells_of}

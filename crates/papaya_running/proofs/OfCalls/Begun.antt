@@ -35,11 +35,11 @@ use Rattle.papaya_legal.proofs.Over.{runs_by_other_names}
 use Rattle.papaya_logged.specs.Shown.{IsCounted, IsShown}
 use Rattle.papaya_rows.proofs.Facts.{row_rests}
 use Rattle.papaya_scheduler.specs.Played.{HasBegun, IsPlayed, IsUnderWay}
-use Rattle.papaya_scheduler.specs.Seen.{Seen}
-use Rattle.papaya_scheduler.specs.declared.caller.Caller.{Caller}
+use Rattle.papaya_named.specs.Seen.{Seen}
+use Rattle.papaya_named.specs.declared.caller.Caller.{Caller}
 use Rattle.papaya_scheduler.specs.declared.scheduler.Scheduler.{Scheduler}
 use Rattle.papaya_scheduler.proofs.Begins as beginning
-use Rattle.papaya_scheduler.proofs.Called.{begins_so, begun_call, is_begun_for, is_called}
+use Rattle.papaya_named.proofs.Called.{begins_so, begun_call, is_begun_for, is_called}
 use Rattle.papaya_scheduler.proofs.Rights.{quiet}
 use Rattle.papaya_running.specs.OfCalls.{HaveShards, Runs, RunsOn}
 use Rattle.papaya_running.proofs.OfCalls.Scenes.{AreNamed, stands_in}

@@ -33,8 +33,8 @@ use Rattle.papaya_reclaims.specs.Left.{LeftAmong}
 use Rattle.papaya_logged.specs.Shown.{IsCounted, IsShown}
 use Rattle.papaya_logged.specs.declared.logged.Logged.{Logged}
 use Rattle.papaya_scheduler.specs.Played.{IsPlayed}
-use Rattle.papaya_scheduler.specs.Seen.{is_named}
-use Rattle.papaya_scheduler.specs.declared.caller.Callers.{Callers}
+use Rattle.papaya_named.specs.Seen.{is_named}
+use Rattle.papaya_named.specs.declared.caller.Callers.{Callers}
 use Rattle.papaya_scheduler.specs.declared.scheduler.Scheduler.{Scheduler}
 use Rattle.papaya_scheduler.proofs.Here.{here_at, there_is}
 use Rattle.papaya_scheduler.proofs.Rights.{quiet}

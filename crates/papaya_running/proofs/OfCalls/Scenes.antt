@@ -12,8 +12,8 @@ use Rattle.papaya_histories.specs.Given.Finishes.Maps.{Standing}
 use Rattle.papaya_logged.specs.Shown.{IsShown}
 use Rattle.papaya_rows.proofs.Lists.{all_so, both_none, both_some}
 use Rattle.papaya_scheduler.specs.Played.{AsFar, IsUnderWay, StandsFor}
-use Rattle.papaya_scheduler.specs.declared.caller.Caller.{Caller}
-use Rattle.papaya_scheduler.specs.declared.scheduler.NamedMap.{NamedMap}
+use Rattle.papaya_named.specs.declared.caller.Caller.{Caller}
+use Rattle.papaya_named.specs.declared.named_map.NamedMap.{NamedMap}
 use Rattle.papaya_scheduler.specs.declared.scheduler.Scheduler.{Scheduler}
 
 -- callers have these names

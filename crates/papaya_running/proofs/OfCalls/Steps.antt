@@ -32,9 +32,9 @@ use Rattle.papaya_legal.proofs.Calls.{call_events_go_on_so}
 use Rattle.papaya_logged.specs.Calling.{CallGoesOn}
 use Rattle.papaya_logged.specs.Shown.{IsShown}
 use Rattle.papaya_rows.proofs.Lists.{both_some, found_alike, set_get}
-use Rattle.papaya_scheduler.specs.Seen.{Seen, kind_of, seen}
-use Rattle.papaya_scheduler.specs.Telling.{goes_on}
-use Rattle.papaya_scheduler.specs.declared.caller.Caller.{Caller}
+use Rattle.papaya_named.specs.Seen.{Seen, kind_of, seen}
+use Rattle.papaya_named.specs.Telling.{goes_on}
+use Rattle.papaya_named.specs.declared.caller.Caller.{Caller}
 use Rattle.papaya_scheduler.specs.declared.scheduler.Scheduler.{Scheduler}
 use Rattle.papaya_scheduler.proofs.RanOn.{there_stays}
 use Rattle.papaya_stepping.specs.Stepping.{GoneFor, IsStepped, caller_then, far_then, outcome_of}

@@ -19,8 +19,8 @@ use Rattle.papaya_finds.specs.Parts.{FindRest}
 use Rattle.papaya_legal.specs.Carried.{ComesAlone}
 use Rattle.papaya_legal.proofs.Calls.{call_events_begin_so}
 use Rattle.papaya_scheduler.specs.Played.{IsPlayed, entry_of}
-use Rattle.papaya_scheduler.specs.Seen.{Seen, is_named}
-use Rattle.papaya_scheduler.specs.declared.caller.Stands.TheVariants as far
+use Rattle.papaya_named.specs.Seen.{Seen, is_named}
+use Rattle.papaya_named.specs.declared.caller.Stands.TheVariants as far
 use Rattle.papaya_scheduler.specs.declared.played.Played.{Played}
 use Rattle.papaya_scheduler.specs.declared.scheduler.Scheduler.{Scheduler}
 use Rattle.papaya_scheduler.proofs.HeldTold.{its_guard}

@@ -25,8 +25,8 @@ use Rattle.papaya_legal.specs.Carried.{ComesAlone}
 use Rattle.papaya_legal.proofs.CallBegins.{whole_calls_begin}
 use Rattle.papaya_logged.specs.Shown.{IsShown}
 use Rattle.papaya_scheduler.specs.Played.{HasBegun, IsPlayed, StandsFor, entry_of}
-use Rattle.papaya_scheduler.specs.Seen.{Seen}
-use Rattle.papaya_scheduler.specs.declared.caller.Caller.{Caller}
+use Rattle.papaya_named.specs.Seen.{Seen}
+use Rattle.papaya_named.specs.declared.caller.Caller.{Caller}
 use Rattle.papaya_scheduler.specs.declared.played.Played.{Played}
 use Rattle.papaya_scheduler.specs.declared.scheduler.Scheduler.{Scheduler}
 use Rattle.papaya_scheduler.proofs.HeldTold.{its_guard}

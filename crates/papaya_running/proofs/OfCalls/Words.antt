@@ -17,9 +17,9 @@ use Rattle.papaya_histories.specs.Given.Effects.Known.{Known}
 use Rattle.papaya_purposes.specs.Kept.{ShowsNone}
 use Rattle.papaya_legal.specs.CallRuns.{ShowsAsTold, TellsEnd}
 use Rattle.papaya_legal.specs.CallSwept.{TellsOf}
-use Rattle.papaya_scheduler.specs.Seen.{kind_of}
-use Rattle.papaya_scheduler.specs.Telling.{goes_on}
-use Rattle.papaya_scheduler.specs.declared.kind.Kind.{Kind}
+use Rattle.papaya_named.specs.Seen.{kind_of}
+use Rattle.papaya_named.specs.Telling.{goes_on}
+use Rattle.papaya_named.specs.declared.kind.Kind.{Kind}
 use Rattle.papaya_stepping.specs.Stepping.{ComesAs, outcome_of}
 use Rattle.papaya_stepping.proofs.OneStep.{ends_as}
 

@@ -10,8 +10,8 @@ use Rattle.papaya_schedules.specs.Terms.{Terms}
 use Rattle.papaya_effects.specs.Known.{known}
 use Rattle.papaya_models.specs.Follows.{FollowsModel}
 use Rattle.papaya_legal.specs.Carried.{ComesAlone, FollowsOrRows}
-use Rattle.papaya_scheduler.specs.Seen.{seen, seen_of}
-use Rattle.papaya_scheduler.specs.declared.caller.Caller.{Caller}
+use Rattle.papaya_named.specs.Seen.{seen, seen_of}
+use Rattle.papaya_named.specs.declared.caller.Caller.{Caller}
 use Rattle.papaya_scheduler.specs.declared.scheduler.Scheduler.{Scheduler}
 use Rattle.papaya_running.specs.OfCalls.{Runs}
 use Rattle.papaya_running.proofs.OfCalls.Alone.{row_of_caller}

@@ -46,7 +46,7 @@ use Rattle.papaya_logged.specs.declared.logged.Logged.{Logged}
 use Rattle.papaya_rows.proofs.There.{is_inside}
 use Rattle.papaya_scheduler.specs.Played.{IsDue, IsPlayed, StandsFor}
 use Rattle.papaya_scheduler.specs.Works.{HasNoRow, IsAbout}
-use Rattle.papaya_scheduler.specs.declared.caller.Callers.{Callers}
+use Rattle.papaya_named.specs.declared.caller.Callers.{Callers}
 use Rattle.papaya_scheduler.specs.declared.scheduler.Scheduler.{Scheduler}
 use Rattle.papaya_scheduler.proofs.Dropped.{free_lives}
 use Rattle.papaya_scheduler.proofs.Enters as enters_so
