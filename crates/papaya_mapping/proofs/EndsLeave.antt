@@ -23,7 +23,7 @@ use Rattle.papaya_histories.specs.Given.Moments.WholeEnds.{all_ended, tables_end
 use Rattle.papaya_reclaims.specs.Reclaims.{RootLeads}
 use Rattle.papaya_remains.specs.Remains.{has_some}
 use Rattle.papaya_logged.specs.Waits.{TellsWaiting}
-use Rattle.papaya_logged.proofs.SomeBehind.{fewer_behind, has_last}
+use Rattle.papaya_logged.proofs.SomeBehind.{fewer_behind, has_last, has_more}
 
 -- the table is taken by one of these effects
 abbrev pub IsTakenIn : Table → List Effect → Type 0
@@ -48,10 +48,6 @@ pairs_behind ds fs = flat_map (λ t. behind t ds) (flat_map tables_taken fs)
 some_among : (n : ℕ) (xs : List ℕ) → is_among n xs ≡ true → has_some xs ≡ true
 some_among n [] e = absurd (cc e)
 some_among n (x ∷ xs) e = refl
-
-has_first : (xs ys : List ℕ) → has_some xs ≡ true → has_some (xs ++ ys) ≡ true
-has_first [] ys e = absurd (cc e)
-has_first (x ∷ xs) ys e = refl
 
 module _ (ds : List Deferral) where
   abbrev Behind : List Table → List ℕ
@@ -79,7 +75,7 @@ module _ (ds : List Deferral) where
   pub pairs_some : (fs : List Effect) (t : Table) (n : ℕ) → IsTakenIn t fs → is_among n (behind t ds) ≡ true → has_some (pairs_behind ds fs) ≡ true
   pairs_some [] t n taken among = absurd taken
   pairs_some (f ∷ fs) t n (inl is) among =
-      subst (λ (x : Effect). has_some (Behind (tables_taken x ++ flat_map tables_taken fs)) ≡ true) (sym is) (has_first (behind t ds) (pairs_behind ds fs) (some_among n (behind t ds) among))
+      subst (λ (x : Effect). has_some (Behind (tables_taken x ++ flat_map tables_taken fs)) ≡ true) (sym is) (has_more (behind t ds) (pairs_behind ds fs) (some_among n (behind t ds) among))
   pairs_some (f ∷ fs) t n (inr taken) among = by f (pairs_some fs t n taken among)
     where
       by : (x : Effect) → has_some (pairs_behind ds fs) ≡ true → has_some (Behind (tables_taken x ++ flat_map tables_taken fs)) ≡ true
