@@ -1,7 +1,9 @@
 -- A row on a slot finds what it must: what it reclaims was handed over. And while no row is under way what is told to be handed over was retired.
-use Rattle.std.specs.Prelude.{◌≡◌, ℕ, Bool, true, false, ◌&&◌, ◌||◌, List, [], ◌∷◌, None}
+use Rattle.std.specs.Prelude.{◌≡◌, ℕ, Bool, true, false, not, ◌&&◌, ◌||◌, List, [], ◌∷◌, None}
 use Rattle.std.specs.List.{AllByRecursion, list_all, list_any}
-use Rattle.std.proofs.Common.{refl, ap}
+use Rattle.std.proofs.Common.{refl, ap, ◌∙◌}
+use Rattle.papaya_histories.specs.Given.Seize.Law.{is_retired as was_retired}
+use Rattle.papaya_histories.specs.Given.Seize.World.{Rests}
 use Rattle.papaya_histories.specs.Given.Schedules.declared.effect.Effect.{Effect}
 use Rattle.papaya_histories.specs.Given.Schedules.declared.effect.Effect.TheVariants.{Asked, Reclaimed}
 use Rattle.papaya_histories.specs.Given.Schedules.declared.effect.Growth.TheVariants.{ABlock, ABucket}
@@ -16,10 +18,15 @@ use Rattle.papaya_histories.specs.Given.Schedules.Terms.{Terms}
 use Rattle.papaya_histories.specs.Given.Schedules.Things.{same_table}
 use Rattle.papaya_histories.specs.Given.Schedules.Views.{is_stage, is_retired}
 use Rattle.papaya_histories.specs.Given.Effects.Effects.{effects_of}
+use Rattle.papaya_histories.specs.Given.Effects.Known.{Known}
 use Rattle.papaya_histories.specs.Given.Effects.declared.acting.Acting.TheVariants as acts
+use Rattle.papaya_histories.specs.Given.Executor.IsAt.{Scene, IsAt}
+use Rattle.papaya_histories.specs.Given.Executor.declared.executor.Executor.{Executor}
 use Rattle.papaya_histories.specs.Given.Moments.OnSlots.{HadRetired}
 use Rattle.papaya_histories.proofs.Given.Spots.Unreclaimed.{and_both, or_right, same_itself}
 use Rattle.papaya_finds.specs.Bounded.{HasRetiredTable}
+use Rattle.papaya_finds.specs.Orderly.{NothingIsRetired, is_left_over}
+use Rattle.papaya_kept.specs.Kept.{ShowsKept}
 use Rattle.papaya_lives.specs.Handed.{HadHanded}
 use Rattle.papaya_lives.proofs.HandedRows.{handed_at_rest, rows_find_handed}
 use Rattle.papaya_lives.proofs.Reclaimed.{rows_find_retired}
@@ -62,6 +69,15 @@ module _ {K V : Type 0} (m : Moment K V) (Q : TableThere → Type 0) (has : (u :
       its true false x y = absurd (cc y)
       its false b x y = absurd (cc x)
 
+-- tables of which none is retired
+none_among : (xs : List TableThere) → AllByRecursion (λ u. is_retired u.stage ≡ true → ⊥) xs → list_all (λ u. not (is_retired u.stage)) xs ≡ true
+none_among [] all = refl
+none_among (u ∷ xs) all = by (is_retired u.stage) refl (none_among xs all.1)
+  where
+    by : (q : Bool) → is_retired u.stage ≡ q → list_all (λ v. not (is_retired v.stage)) xs ≡ true → (not (is_retired u.stage) && list_all (λ v. not (is_retired v.stage)) xs) ≡ true
+    by true is rest = absurd (all.0 is)
+    by false is rest = ap (λ (q : Bool). not q && list_all (λ v. not (is_retired v.stage)) xs) is ∙ rest
+
 module _ (K V S : Type 0) (same : K → K → Bool) (hash : K → ℕ) where
   pub rows_find_theirs : RowsFindTheirs K V S same hash
   rows_find_theirs name m known s old new at whole kept i told leads row here terms of_row needs =
@@ -77,3 +93,19 @@ module _ (K V S : Type 0) (same : K → K → Bool) (hash : K → ℕ) where
         apart = apart;
         slots = slots;
       }
+
+  -- So where nothing is retired in the memory, and nothing is left over, nothing is so at the moment.
+  pub none_at_rest : (name : ℕ → List ℕ) (m : Moment K V) (known : Known) (s : Scene K V) (e : Executor K V S) → IsAt same hash e s → ShowsKept name m known s → ((i : ℕ) → s.world.row i ≡ Rests)
+      → ((b : ℕ) → was_retired b s.world.log ≡ false) → ((n : ℕ) → is_left_over (m.place n) ≡ false) → NothingIsRetired m
+  none_at_rest name m known s e at kept rests none left =
+      let all = handed_at_rest K V e.batch_size m known s at.together.makings.standing.came kept.handed rests in
+      record {
+        pairs = λ n. pair (is_handed (m.place n)) (λ is. (let it = all.0 n is in let was = it.2 in let no = none it.0 in cc (was, no)));
+        tables = none_among m.tables
+            (each_table m (λ u. ⊥) (λ u is. (let it = all.1 u.table is in let was = it.3 in let no = none it.0 in cc (was, no))) m.tables (λ t is. is));
+        left = left;
+      }
+    where
+      pair : (q : Bool) → (q ≡ true → ⊥) → q ≡ false
+      pair true no = absurd (no refl)
+      pair false no = refl

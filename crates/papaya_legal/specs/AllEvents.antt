@@ -39,7 +39,6 @@ use Rattle.papaya_models.specs.Follows.{FollowsModel}
 use Rattle.papaya_models.specs.Numbers.{EachIsOnce, things_of}
 use Rattle.papaya_models.specs.Reclaims.{HasReclaimed}
 use Rattle.papaya_models.specs.Turns.{CameByTurns}
-use Rattle.papaya_finds.specs.Bounded.{ShowsRetired}
 use Rattle.papaya_finds.specs.Little.{ReclaimsAll}
 use Rattle.papaya_finds.specs.Orderly.{is_left_over}
 use Rattle.papaya_legal.specs.CallEvents.{IsLegalBut}
@@ -150,7 +149,7 @@ module _ (K V S : Type 0) (same : K → K → Bool) (hash : K → ℕ) where
       → (n : ℕ) (to : AllCome K V S) → Chain (AllSteps same hash terms.roots i) n (all_begun log known s old all lists) to → AtEachEffect FindsPair None None to.come.did (moment log)
 
   -- and where its last step has said that all is reclaimed, all is back, and what ended maps had left over came last; the event is legal but for what it comes to, and a run goes on with it: if what was
-  -- behind the roots is what the moment said, each pair that is reclaimed was handed over or left over, what the moment after it calls retired is so in the memory, and its work on slots, in
+  -- behind the roots is what the moment said, each pair that is reclaimed was handed over or left over, and its work on slots, in
   -- the world of the scene, has reclaimed what the waiting sets of blocks say, and left the sets so.
   abbrev pub AllRunsToItsEnd : Type 0
   AllRunsToItsEnd =
@@ -160,7 +159,6 @@ module _ (K V S : Type 0) (same : K → K → Bool) (hash : K → ℕ) where
       → (n : ℕ) (to over : AllCome K V S) → Chain (AllSteps same hash terms.roots i) n (all_begun log known s old all lists) to
       → (last : AllSteps same hash terms.roots i to over) → last.said ≡ settled.Done
       → (steps : ℕ) (effects : List Effect) → over.come.did ≡ effects → AtEachEffect FindsPair None None effects (moment log)
-      → ShowsRetired over.come.now over.come.notes over.come.scene.world
       → ((before : List Change) → CameByTurns deferred_word terms.batch_size terms.roots s.world before
       → HasReclaimed deferred_word terms.batch_size terms.roots s.world before over.come.scene.world)
       → (let e : Entry K V = record { event = event; outcome = Done; steps = steps; effects = effects } in

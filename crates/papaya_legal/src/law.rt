@@ -73,7 +73,7 @@ pub fn slot_events<K, V, S>()
 
 /// As long as reclaiming all is on slots, what is behind the roots stays there. An event that reclaims all is in its midst where that begins, if what is left over is behind the roots, and wherever a
 /// chain of its steps has led; each pair that it has reclaimed there was handed over, or left over, if no call was under way, and what was behind the roots was left over. Once its last step has said that all is reclaimed, all is back, and what ended maps had left over came last; the event is legal but for what it comes to, and a run goes on with
-/// it: if what was behind the roots is what the moment said, each pair that is reclaimed was handed over or left over, what the moment after it calls retired is so in the memory, and the work on
+/// it: if what was behind the roots is what the moment said, each pair that is reclaimed was handed over or left over, and the work on
 /// slots has reclaimed what the waiting sets of blocks say.
 pub fn reclaiming_all<K, V, S>()
     ensures slots { (same : K → K → Bool) (hash : K → ℕ) → SlotsLeaveRoots K V S same hash }

@@ -172,7 +172,7 @@ module _ {K V S : Type 0} (same : K → K → Bool) (hash : K → ℕ) (terms : 
     it right =
         all_runs_to_its_end K V S same hash name terms log (known old.logged.notes) s old.logged.executor small run.shows event of_all
         (alone_follows same hash terms log old run event (speaks_of_none event of_all)) 0 first behind left.behind left.order ran.3.0 to over y.chain last done played.steps played.effects.items refl
-        (pairs right) (left.retired over has_run) (left.sets over has_run) right
+        (pairs right) (left.sets over has_run) right
 
     there : IsAt same hash new.logged.executor last_scene
     there = over_there same hash terms 0 mid end y.now y.scene y.lists y.under_way y.roots ran.5 done

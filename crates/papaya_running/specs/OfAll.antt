@@ -14,7 +14,6 @@ use Rattle.papaya_schedules.specs.Terms.{Terms}
 use Rattle.papaya_effects.specs.Known.{known}
 use Rattle.papaya_models.specs.Reclaims.{HasReclaimed}
 use Rattle.papaya_models.specs.Turns.{CameByTurns}
-use Rattle.papaya_finds.specs.Bounded.{ShowsRetired}
 use Rattle.papaya_finds.specs.Little.{ReclaimsAll}
 use Rattle.papaya_legal.specs.AllEvents.{AllCome, AllSteps, BehindAreLeft, BehindIsLeft, LeftIsBehind, all_begun}
 use Rattle.papaya_legal.specs.Chains.{Chain}
@@ -36,14 +35,12 @@ module _ {K V S : Type 0} (same : K → K → Bool) (hash : K → ℕ) (terms : 
     pub done : last.said ≡ settled.Done
 
   -- What is still asked of such an event, by name: it comes to what is right; what is behind the roots is what the moment says is left over, in that order;
-  -- and, wherever its steps have come to their end, what the moment then calls retired is so in the memory, and the waiting sets of blocks
-  -- have been reclaimed as they say.
+  -- and, wherever its steps have come to their end, the waiting sets of blocks have been reclaimed as they say.
   pub record IsLeftOfAll (e : Entry K V) (run : Runs same hash terms log p) : Type 0 where
     pub right : ComesRight terms log e
     pub behind : LeftIsBehind terms.roots (moment log) (known p.logged.notes) run.stands.shown.counted.remains.lists
     pub order : BehindIsLeft terms.roots (moment log) (known p.logged.notes) run.stands.shown.counted.remains.lists
     pub left_there : BehindAreLeft terms.roots (moment log) (known p.logged.notes) run.stands.shown.counted.remains.lists
-    pub retired : (over : AllCome K V S) → HasRunAll run.stands.scene run.stands.shown.counted.remains.lists over → ShowsRetired over.come.now over.come.notes over.come.scene.world
     pub sets : (over : AllCome K V S) → HasRunAll run.stands.scene run.stands.shown.counted.remains.lists over → (before : List Change)
         → CameByTurns deferred_word terms.batch_size terms.roots run.stands.scene.world before
         → HasReclaimed deferred_word terms.batch_size terms.roots run.stands.scene.world before over.come.scene.world

@@ -3,7 +3,7 @@ use Rattle.std.specs.Prelude.{◌≡◌, ◌⊎◌, ◌<◌, ℕ, Bool, true, fa
 use Rattle.std.specs.List.{list_all}
 use Rattle.std.proofs.Common.{refl, ap, sym, subst, ◌∙◌, arith, inl}
 use Rattle.papaya_histories.specs.Given.Seize.Law.{is_retired}
-use Rattle.papaya_histories.specs.Given.Seize.World.{World, times}
+use Rattle.papaya_histories.specs.Given.Seize.World.{World, Rests, times}
 use Rattle.papaya_histories.specs.Given.Seize.declared.rows.settle.Settled.{Settled}
 use Rattle.papaya_histories.specs.Given.Tables.declared.node.Node.{Node}
 use Rattle.papaya_histories.specs.Given.Runs.Present.{all_forgotten}
@@ -27,11 +27,13 @@ use Rattle.papaya_histories.specs.Given.Schedules.Moment.{Moment}
 use Rattle.papaya_histories.specs.Given.Schedules.Reclaims.{IsProtected}
 use Rattle.papaya_histories.specs.Given.Schedules.Terms.{Terms}
 use Rattle.papaya_histories.specs.Given.Effects.Known.{Known}
+use Rattle.papaya_histories.specs.Given.Executor.IsAt.{IsAt}
 use Rattle.papaya_histories.specs.Given.Finishes.Makings.{IsFreeRoot}
 use Rattle.papaya_histories.specs.Given.Moments.OnSlots.{HadRetired}
 use Rattle.papaya_histories.proofs.Given.Spots.Unreclaimed.{and_both}
 use Rattle.seize_reclaims.specs.Roots.{all_lists}
 use Rattle.papaya_reclaims.specs.Reclaims.{AllIsReclaimed, IsRootOf, ReclaimingTold}
+use Rattle.papaya_reclaiming.specs.Reclaiming.{ReclaimingComesTo}
 use Rattle.papaya_promises.specs.Protected.{EndsInside, InMidst, is_of_slots}
 use Rattle.papaya_promises.specs.Sheltered.{SectionsHold}
 use Rattle.papaya_promises.proofs.Protected.{all_is_ended_protected, slot_events_end_protected}
@@ -39,13 +41,13 @@ use Rattle.papaya_models.specs.Follows.{IsFollowed}
 use Rattle.papaya_finds.specs.Little.{ReclaimsAll, WhereAll}
 use Rattle.papaya_finds.specs.Orderly.{NothingIsRetired, is_left_over}
 use Rattle.papaya_finds.proofs.Begun.{in_turn, not_kept_out, was_done}
-use Rattle.papaya_finds.proofs.Bounded.{nothing_retired_once_reclaimed}
 use Rattle.papaya_finds.proofs.Closed.{none_there}
-use Rattle.papaya_legal.specs.AllEvents.{AllCome, AllRunsToItsEnd, FindsPair, InAllEvent, all_begun}
+use Rattle.papaya_legal.specs.AllEvents.{AllCome, AllRunsToItsEnd, FindsPair, InAllEvent, all_begun, scene_in}
 use Rattle.papaya_legal.specs.Between.{IsLike}
 use Rattle.papaya_legal.specs.CallEvents.{IsLegalBut}
 use Rattle.papaya_legal.specs.Carried.{ComesAlone, ShowsRun}
 use Rattle.papaya_legal.proofs.Between.{likes_show}
+use Rattle.papaya_legal.proofs.Found.{none_at_rest}
 use Rattle.papaya_legal.proofs.OfAll.Model.{all_is_followed, comes_last}
 use Rattle.papaya_legal.proofs.OfAll.Points.{none_listed, nothing_behind}
 use Rattle.papaya_legal.proofs.OfAll.Steps.{all_chain, all_events_begin, all_goes_on}
@@ -138,7 +140,7 @@ module _ {K V : Type 0} (terms : Terms) (log : List (Entry K V)) (steps : ℕ) (
 
 module _ (K V S : Type 0) (same : K → K → Bool) (hash : K → ℕ) where
   pub all_runs_to_its_end : AllRunsToItsEnd K V S same hash
-  all_runs_to_its_end name terms log known s old small run its of_all before i all lists left behind n to over chain last done steps effects did pairs retired has right = (but, reclaims, ran)
+  all_runs_to_its_end name terms log known s old small run its of_all before i all lists left behind n to over chain last done steps effects did pairs has right = (but, reclaims, ran)
     where
       e : Entry K V
       e = record { event = its; outcome = Done; steps = steps; effects = effects }
@@ -168,6 +170,15 @@ module _ (K V S : Type 0) (same : K → K → Bool) (hash : K → ℕ) where
       nothing : all_lists over.lists terms.roots ≡ []
       nothing = ap (λ (ls : ℕ → List ℕ). all_lists ls terms.roots) (ap (λ (z : AllCome K V S). z.lists) last.comes ∙ told.0) ∙ none_listed to.lists terms.roots none_behind
 
+      all_rest : (j : ℕ) → over.come.scene.world.row j ≡ Rests
+      all_rest j = subst (λ (z : AllCome K V S). z.come.scene.world.row j ≡ Rests) (sym last.comes) (reclaimed.nothing.0 j)
+
+      -- the executor is there
+      there : IsAt same hash over.come.executor over.come.scene
+      there = subst (λ (z : AllCome K V S). IsAt same hash over.come.executor z.come.scene) (sym last.comes)
+          (subst (λ (t : Settled (Node K V)). ReclaimingComesTo same hash to.come.scene i to.lists to.come.executor over.come.executor (scene_in to.come.scene last.leads.1.w2 last.leads.1.maps2)
+          last.leads.1.lists2 over.all t) done last.leads.2).1
+
       none_retired : (b : ℕ) → is_retired b over.come.scene.world.log ≡ false
       none_retired b = subst (λ (z : AllCome K V S). is_retired b z.come.scene.world.log ≡ false) (sym last.comes) (reclaimed.nothing.1 b)
 
@@ -183,7 +194,7 @@ module _ (K V S : Type 0) (same : K → K → Bool) (hash : K → ℕ) where
 
       back : NothingIsRetired (with_effects None None effects (moment log))
       back = subst (λ (z : Moment K V). NothingIsRetired z) at_over.worked
-          (nothing_retired_once_reclaimed K V over.come.now over.come.notes over.come.scene.world retired none_retired none_left)
+          (none_at_rest K V S same hash name over.come.now over.come.notes over.come.scene over.come.executor there at_over.calls.kept all_rest none_retired none_left)
 
       reclaims : ReclaimsAll log e
       reclaims =
