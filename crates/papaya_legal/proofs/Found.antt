@@ -1,7 +1,8 @@
 -- A row on a slot finds what it must: what it reclaims was handed over. And while no row is under way what is told to be handed over was retired.
-use Rattle.std.specs.Prelude.{◌≡◌, ℕ, Bool, true, false, not, ◌&&◌, ◌||◌, List, [], ◌∷◌, None}
+use Rattle.std.specs.Prelude.{◌≡◌, ℕ, Bool, true, false, not, ◌&&◌, ◌||◌, List, [], ◌∷◌, ◌++◌, None}
 use Rattle.std.specs.List.{AllByRecursion, list_all, list_any}
-use Rattle.std.proofs.Common.{refl, ap, ◌∙◌}
+use Rattle.std.proofs.Common.{refl, ap, sym, subst, ◌∙◌}
+use Rattle.std.proofs.lemmas.List.Folds.{list_all-append}
 use Rattle.papaya_histories.specs.Given.Seize.Law.{is_retired as was_retired}
 use Rattle.papaya_histories.specs.Given.Seize.World.{Rests}
 use Rattle.papaya_histories.specs.Given.Schedules.declared.effect.Effect.{Effect}
@@ -9,6 +10,7 @@ use Rattle.papaya_histories.specs.Given.Schedules.declared.effect.Effect.TheVari
 use Rattle.papaya_histories.specs.Given.Schedules.declared.effect.Growth.TheVariants.{ABlock, ABucket}
 use Rattle.papaya_histories.specs.Given.Schedules.declared.effect.Table.{Table}
 use Rattle.papaya_histories.specs.Given.Schedules.declared.effect.Thing.TheVariants.{APair, ATable}
+use Rattle.papaya_histories.specs.Given.Schedules.After.{moment}
 use Rattle.papaya_histories.specs.Given.Schedules.Effects.{with_effect, AtEachEffect}
 use Rattle.papaya_histories.specs.Given.Schedules.Handing.{asks_for_bucket, is_reclaiming}
 use Rattle.papaya_histories.specs.Given.Schedules.Lives.{Finds, MayReclaim}
@@ -23,6 +25,7 @@ use Rattle.papaya_histories.specs.Given.Effects.declared.acting.Acting.TheVarian
 use Rattle.papaya_histories.specs.Given.Executor.IsAt.{Scene, IsAt}
 use Rattle.papaya_histories.specs.Given.Executor.declared.executor.Executor.{Executor}
 use Rattle.papaya_histories.specs.Given.Moments.OnSlots.{HadRetired}
+use Rattle.papaya_histories.proofs.Given.Moments.After.{each_parts}
 use Rattle.papaya_histories.proofs.Given.Spots.Unreclaimed.{and_both, or_right, same_itself}
 use Rattle.papaya_finds.specs.Bounded.{HasRetiredTable}
 use Rattle.papaya_finds.specs.Orderly.{NothingIsRetired, is_left_over}
@@ -30,7 +33,11 @@ use Rattle.papaya_kept.specs.Kept.{ShowsKept}
 use Rattle.papaya_lives.specs.Handed.{HadHanded}
 use Rattle.papaya_lives.proofs.HandedRows.{handed_at_rest, rows_find_handed}
 use Rattle.papaya_lives.proofs.Reclaimed.{rows_find_retired}
-use Rattle.papaya_legal.specs.Found.{AsksInNeed, RowsFindTheirs, RestShowsRetired}
+use Rattle.papaya_legal.specs.Chains.{Come, RowSteps}
+use Rattle.papaya_legal.specs.Found.{AsksInNeed, RestShowsRetired, RowChainsFind, RowsFindTheirs}
+use Rattle.papaya_legal.specs.SlotEvents.{InSlotEvent}
+use Rattle.papaya_legal.proofs.Chains.{chains_keep}
+use Rattle.papaya_legal.proofs.Slots.{each_join, slot_events_go_on_so}
 
 -- what was handed over may be reclaimed
 may_reclaim : (everything : Bool) (p : Place) → is_handed p ≡ true → MayReclaim everything p
@@ -83,6 +90,37 @@ module _ (K V S : Type 0) (same : K → K → Bool) (hash : K → ℕ) where
   rows_find_theirs name m known s old new at whole kept i told leads row here terms of_row needs =
       found terms (effects_of acts.Row known new.memory.changed) m of_row needs (rows_find_retired K V S same hash name m known s old new at whole kept.retired i told leads row here)
       (rows_find_handed K V S same hash name m known s old new at whole kept.waiting kept.handed i told leads row here)
+
+  pub row_chains_find : RowChainsFind K V S same hash
+  row_chains_find name terms log event i called first began n from to chain midst none of_row needs =
+      (chains_keep Both (RowSteps same hash terms i) keeps n from to chain (midst, λ of all. subst (λ (fs : List Effect). AtEachEffect (Finds terms None None false []) None None fs (moment log)) (sym none) tt)).1
+      of_row needs
+    where
+      Both : Come K V S → Type 0
+      Both x = InSlotEvent same name terms log event i called first began x.did x.now x.notes x.scene
+          × (list_all (λ f. is_reclaiming f || asks_for_bucket f) x.did ≡ true → AtEachEffect AsksInNeed None None x.did (moment log)
+          → AtEachEffect (Finds terms None None false []) None None x.did (moment log))
+
+      abbrev did_by : (x y : Come K V S) → List Effect
+      did_by x y = effects_of acts.Row x.notes y.executor.memory.changed
+
+      then_find : (x y : Come K V S) → RowSteps same hash terms i x y → Both x → list_all (λ f. is_reclaiming f || asks_for_bucket f) (x.did ++ did_by x y) ≡ true
+          → AtEachEffect AsksInNeed None None (x.did ++ did_by x y) (moment log) → AtEachEffect (Finds terms None None false []) None None (x.did ++ did_by x y) (moment log)
+      then_find x y step both of all =
+          let each = and_both (list_all (λ f. is_reclaiming f || asks_for_bucket f) x.did) (list_all (λ f. is_reclaiming f || asks_for_bucket f) (did_by x y))
+          (sym (list_all-append (λ f. is_reclaiming f || asks_for_bucket f) x.did (did_by x y)) ∙ of) in
+          let parts = each_parts None None AsksInNeed x.did (did_by x y) (moment log) all in
+          let here : AtEachEffect (Finds terms None None false []) None None (did_by x y) x.now =
+          rows_find_theirs name x.now x.notes x.scene x.executor y.executor step.is_at both.0.calls.whole both.0.calls.kept i step.said step.leads step.row step.here terms each.1
+          (subst (λ (z : Moment K V). AtEachEffect AsksInNeed None None (did_by x y) z) (sym both.0.worked) parts.1) in
+          each_join (Finds terms None None false []) None None x.did (did_by x y) (moment log) (both.1 each.0 parts.0)
+          (subst (λ (z : Moment K V). AtEachEffect (Finds terms None None false []) None None (did_by x y) z) both.0.worked here)
+
+      keeps : (x y : Come K V S) → RowSteps same hash terms i x y → Both x → Both y
+      keeps x y step both = subst Both (sym step.comes) (
+        slot_events_go_on_so K V S same hash name terms log event i called first began x.did x.now x.notes x.scene both.0 x.executor y.executor step.is_at step.size step.said step.leads step.row step.here,
+        then_find x y step both,
+      )
 
   pub rest_shows_retired : RestShowsRetired K V S same hash
   rest_shows_retired name m known s e at kept rests apart slots =

@@ -8,7 +8,7 @@ ghost use Rattle.papaya_legal.specs.CallRuns.{CallEventsRun, CallsLeaveNothing, 
 ghost use Rattle.papaya_legal.specs.CallSwept.{CallsAreSwept};
 ghost use Rattle.papaya_legal.specs.SlotEvents.{SlotEventsBegin, SlotEventsGoOn, SlotEventsAreLegal, SlotEventsEnd};
 ghost use Rattle.papaya_legal.specs.MapEvents.{MakingEventsGoOn, EndEventsGoOn, MapEventsAreLegal, IdleEventsAreLegal};
-ghost use Rattle.papaya_legal.specs.Found.{RestShowsRetired, RowsFindTheirs};
+ghost use Rattle.papaya_legal.specs.Found.{RestShowsRetired, RowChainsFind, RowsFindTheirs};
 ghost use Rattle.papaya_legal.specs.Over.{BegunEventsEnd, EndEventsBegin, EndEventsEnd, EndEventsFollow, IdleEventsEnd, MakingEventsBegin, MakingEventsEnd, MakingEventsFollow, QuietEventsEnd, RunsByOtherNames, RunsGoOn, StoppedEventsEnd, ToldEventsEnd};
 ghost use Rattle.papaya_legal.specs.Chains.{CallsChain, EndsChain, MakingsChain, RowsChain, RowsRunToTheirEnds, MakingsRunToTheirEnds, EndsRunToTheirEnds};
 ghost use Rattle.papaya_legal.specs.Promises.{EventsAreLegal};
@@ -128,9 +128,10 @@ pub fn events_are_legal<K, V>()
     ensures legal { EventsAreLegal K V }
 {}
 
-/// What a row on a slot reclaims was handed over, and so it finds what it must, if it asks for a bucket of slots in need. While no row is under way the moment shows what is retired, if no
+/// What a row on a slot reclaims was handed over, and so it finds what it must, if it asks for a bucket of slots in need: each step of it, and all of them. While no row is under way the moment shows what is retired, if no
 /// table is there twice, and as many slots were taken as it says.
 pub fn rows_find_theirs<K, V, S>()
     ensures found { (same : K → K → Bool) (hash : K → ℕ) → RowsFindTheirs K V S same hash }
+    ensures chain { (same : K → K → Bool) (hash : K → ℕ) → RowChainsFind K V S same hash }
     ensures retired { (same : K → K → Bool) (hash : K → ℕ) → RestShowsRetired K V S same hash }
 {}

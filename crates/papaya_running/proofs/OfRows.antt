@@ -1,9 +1,10 @@
 -- Events whose work is a row on a slot keep their promises, and a run goes on with them.
-use Rattle.std.specs.Prelude.{◌≡◌, ◌<◌, ◌^◌, ℕ, Bool, true, false, List, [], ◌∷◌, Option, None, Result, Ok, Err, IfOk}
+use Rattle.std.specs.Prelude.{◌≡◌, ◌&&◌, ◌||◌, ◌<◌, ◌^◌, ℕ, Bool, true, false, List, [], ◌∷◌, None, Result, Ok, Err, IfOk}
 use Rattle.std.specs.List.{list_all}
-use Rattle.std.proofs.Common.{refl, sym, subst, inl, inr, ◌∙◌}
+use Rattle.std.proofs.Common.{refl, ap, sym, subst, inl, inr, ◌∙◌}
 use Rattle.papaya_histories.specs.Given.Seize.World.{Begin, Rests}
 use Rattle.papaya_histories.specs.Given.Tables.declared.node.Node.{Node}
+use Rattle.papaya_schedules.specs.declared.effect.Effect.{Effect}
 use Rattle.papaya_schedules.specs.declared.event.Event.{Event}
 use Rattle.papaya_schedules.specs.declared.event.Event.TheVariants.{DropGuard, Enter, Flush, Own, Refresh, Register, Unregister}
 use Rattle.papaya_schedules.specs.declared.outcome.Outcome.{Outcome}
@@ -12,7 +13,7 @@ use Rattle.papaya_schedules.specs.After.{moment}
 use Rattle.papaya_schedules.specs.Beginning.{begun}
 use Rattle.papaya_schedules.specs.Effects.{AtEachEffect}
 use Rattle.papaya_schedules.specs.Entry.{Entry, acted_on, speaker}
-use Rattle.papaya_schedules.specs.Handing.{gives_all, may_do}
+use Rattle.papaya_schedules.specs.Handing.{asks_for_bucket, gives_all, is_only, is_reclaiming, may_do}
 use Rattle.papaya_schedules.specs.InTurn.{ComesRight, is_kept_out}
 use Rattle.papaya_schedules.specs.Lives.{Finds}
 use Rattle.papaya_schedules.specs.Moment.{Moment}
@@ -25,6 +26,7 @@ use Rattle.papaya_histories.specs.Given.Executor.Rows.{request_of}
 use Rattle.papaya_histories.specs.Given.Executor.declared.row.RowTold.{RowTold}
 use Rattle.papaya_histories.specs.Given.Executor.declared.row.SlotCall.{SlotCall}
 use Rattle.papaya_histories.specs.Given.Others.Rows.{scene_then}
+use Rattle.papaya_histories.proofs.Given.Spots.Unreclaimed.{and_both, or_right}
 use Rattle.papaya_promises.specs.Others.{SparesGuards}
 use Rattle.papaya_promises.specs.Protected.{is_of_slots, there_in}
 use Rattle.papaya_models.specs.OnSlots.{IsRowFor}
@@ -32,7 +34,11 @@ use Rattle.papaya_finds.specs.Little.{ReclaimsAll}
 use Rattle.papaya_legal.specs.CallEvents.{IsLegalBut}
 use Rattle.papaya_legal.specs.Carried.{ShowsRun}
 use Rattle.papaya_legal.specs.Chains.{Chain, RowSteps}
+use Rattle.papaya_legal.specs.Found.{AsksInNeed}
+use Rattle.papaya_legal.specs.SlotEvents.{InSlotEvent}
 use Rattle.papaya_legal.proofs.Chains.{rows_run_to_their_ends}
+use Rattle.papaya_legal.proofs.Found.{row_chains_find}
+use Rattle.papaya_legal.proofs.Slots.{slot_events_begin_so}
 use Rattle.papaya_logged.specs.Goes.{far}
 use Rattle.papaya_logged.specs.Shown.{IsShown}
 use Rattle.papaya_rows.specs.Rows.{RowRan}
@@ -44,7 +50,7 @@ use Rattle.papaya_scheduler.specs.declared.played.Played.{Played}
 use Rattle.papaya_scheduler.specs.declared.scheduler.Scheduler.{Scheduler}
 use Rattle.papaya_scheduler.proofs.Rights.{entry, entry_is}
 use Rattle.papaya_running.specs.OfCalls.{HaveShards, Runs, RunsOn}
-use Rattle.papaya_running.specs.OfRows.{IsLeftOfRows, KeepsRun, MaysDo, is_of_rows}
+use Rattle.papaya_running.specs.OfRows.{FindsStill, IsLeftOfRows, KeepsRun, MaysDo, is_of_rows}
 use Rattle.papaya_running.proofs.OfCalls.Scenes.{AreNamed, its_named, stands_in}
 use Rattle.papaya_running.proofs.OfRows.Chain.{RowComes, come_by, rows_come}
 use Rattle.papaya_running.proofs.OfRows.Facts.{RowFacts, facts}
@@ -92,6 +98,35 @@ module _ {K V : Type 0} where
   may_of log e (DropGuard guard) of on may = may
   may_of log e _ of on may = absurd (cc (of, on))
 
+  -- and it finds what it must, if it asks for buckets in need
+  needs_of : (terms : Terms) (log : List (Entry K V)) (e : Entry K V) (event : Event K V) → is_of_rows event ≡ true → is_of_slots event ≡ true → FindsStill terms log e event → AtEachEffect AsksInNeed None None e.effects (moment log)
+  needs_of terms log e (Register registration) of on needs = needs
+  needs_of terms log e (Unregister registration) of on needs = needs
+  needs_of terms log e (Enter guard registration) of on needs = needs
+  needs_of terms log e (Own guard) of on needs = needs
+  needs_of terms log e (Refresh guard) of on needs = needs
+  needs_of terms log e (Flush guard) of on needs = needs
+  needs_of terms log e (DropGuard guard) of on needs = needs
+  needs_of terms log e _ of on needs = absurd (cc (of, on))
+
+  -- what it may do is to reclaim, or to ask for a bucket
+  one_of_row : (event : Event K V) → is_of_rows event ≡ true → is_of_slots event ≡ true → (m : Moment K V) (f : Effect) → may_do event m f ≡ true → (is_reclaiming f || asks_for_bucket f) ≡ true
+  one_of_row (Register registration) of on m f may = or_right (is_reclaiming f) (asks_for_bucket f) may
+  one_of_row (Unregister registration) of on m f may = absurd (cc may)
+  one_of_row (Enter guard registration) of on m f may = absurd (cc may)
+  one_of_row (Own guard) of on m f may = or_right (is_reclaiming f) (asks_for_bucket f) may
+  one_of_row (Refresh guard) of on m f may = ap (λ (q : Bool). q || asks_for_bucket f) (and_both (is_only guard m) (is_reclaiming f) may).1
+  one_of_row (Flush guard) of on m f may = absurd (cc may)
+  one_of_row (DropGuard guard) of on m f may = ap (λ (q : Bool). q || asks_for_bucket f) (and_both (is_only guard m) (is_reclaiming f) may).1
+  one_of_row _ of on m f may = absurd (cc (of, on))
+
+  all_of_row : (event : Event K V) → is_of_rows event ≡ true → is_of_slots event ≡ true → (m : Moment K V) (fs : List Effect) → list_all (may_do event m) fs ≡ true
+      → list_all (λ f. is_reclaiming f || asks_for_bucket f) fs ≡ true
+  all_of_row event of on m [] may = refl
+  all_of_row event of on m (f ∷ fs) may =
+      let each = and_both (may_do event m f) (list_all (may_do event m) fs) may in
+      ap (λ (q : Bool). q && list_all (λ g. is_reclaiming g || asks_for_bucket g) fs) (one_of_row event of on m f each.0) ∙ all_of_row event of on m fs each.1
+
   reclaims_none : (log : List (Entry K V)) (e : Entry K V) → is_of_rows e.event ≡ true → is_of_slots e.event ≡ true → ReclaimsAll log e
   reclaims_none log e of on = by e.event of on
     where
@@ -122,13 +157,6 @@ module _ {K V S : Type 0} (same : K → K → Bool) (hash : K → ℕ) (terms : 
 
   small : terms.batch_size < 2 ^ 64
   small = subst (λ (n : ℕ). n < 2 ^ 64) run.size run.stands.shown.is_at.small
-
-  finds : AtEachEffect (Finds terms None None (gives_all event) []) None None played.effects.items m
-  finds =
-      let at = on_no_map event played.outcome m of on in
-      subst (λ (q : Bool). AtEachEffect (Finds terms None None q []) None None played.effects.items m) (sym (all_facts_of event of on).1)
-      (subst (λ (o : Option ℕ). AtEachEffect (Finds terms None o false []) None o played.effects.items m) at.1
-      (subst (λ (b : Moment K V). AtEachEffect (Finds terms None (acted_on event b) false []) None (acted_on event b) played.effects.items b) at.0 left.finds))
 
   -- its row has run to its end
   module _ (calls : new.calls ≡ old.calls) (slot : ℕ) (about : IsAbout event old slot) (called : SlotCall) (its : IsItsRow event old slot called) (said : RowTold (Node K V)) (comes : ComesBy event said played.outcome)
@@ -165,6 +193,19 @@ module _ {K V S : Type 0} (same : K → K → Bool) (hash : K → ℕ) (terms : 
     is_row =
         subst (λ (x : ℕ). IsRowFor (request_of x called) s.world.uses y.scene.world.uses event played.outcome (begun event played.outcome m)) (sym ran.in_slot)
         (f.is_row y.scene.world y.is_at.uses played.outcome comes)
+
+    -- as it begins the event is in its midst; and what all of it did finds what it must
+    begun_so : InSlotEvent same name terms log event ran.caller called (known old.logged.notes) s.world [] m (known old.logged.notes) s1
+    begun_so =
+        slot_events_begin_so K V S same hash name terms log (known old.logged.notes) s old.logged.executor ran.began.executor run.stands.shown.is_at run.size run.shows event on ran.caller called may leads spares
+        (alone_follows same hash terms log old run event (all_facts_of event of on).0)
+
+    finds : AtEachEffect (Finds terms None None (gives_all event) []) None None played.effects.items m
+    finds =
+        subst (λ (q : Bool). AtEachEffect (Finds terms None None q []) None None played.effects.items m) (sym (all_facts_of event of on).1)
+        (row_chains_find K V S same hash name terms log event ran.caller called (known old.logged.notes) s.world ran.goes.0
+        (record { executor = ran.began.executor; did = []; now = m; notes = known old.logged.notes; scene = s1 }) (come_by (far played.effects.items new.logged) y.now y.scene) chain begun_so refl
+        (all_of_row event of on m played.effects.items (may_of log e event of on left.may)) (needs_of terms log e event of on left.finds))
 
     it : IsLegalBut same terms log e × ShowsRun same name terms (e ∷ log) (known new.logged.notes) y.scene
     it =

@@ -16,6 +16,7 @@ use Rattle.papaya_schedules.specs.Handing.{may_do}
 use Rattle.papaya_schedules.specs.InTurn.{ComesRight, is_kept_out}
 use Rattle.papaya_schedules.specs.Lives.{Finds}
 use Rattle.papaya_schedules.specs.Terms.{Terms}
+use Rattle.papaya_legal.specs.Found.{AsksInNeed}
 use Rattle.papaya_scheduler.specs.Played.{IsPlayed, entry_of}
 use Rattle.papaya_scheduler.specs.declared.played.Played.{Played}
 use Rattle.papaya_scheduler.specs.declared.scheduler.Scheduler.{Scheduler}
@@ -45,11 +46,17 @@ module _ {K V : Type 0} where
   MaysDo log e (EndMap name) = Unit {0}
   MaysDo log e _ = list_all (may_do e.event (moment log)) e.effects ≡ true
 
+  -- It finds what it must: a row on a slot does, if it asks for buckets of slots in need.
+  abbrev pub FindsStill : Terms → List (Entry K V) → Entry K V → Event K V → Type 0
+  FindsStill terms log e (MakeMap name mode capacity) = (let b = at_work e (moment log) in AtEachEffect (Finds terms None (acted_on e.event b) false []) None (acted_on e.event b) e.effects b)
+  FindsStill terms log e (EndMap name) = (let b = at_work e (moment log) in AtEachEffect (Finds terms None (acted_on e.event b) false []) None (acted_on e.event b) e.effects b)
+  FindsStill terms log e _ = AtEachEffect AsksInNeed None None e.effects (moment log)
+
   -- What is still asked of such an event, by name: it comes to what is right, and what it does it may do, and finds what it must.
   pub record IsLeftOfRows (terms : Terms) (log : List (Entry K V)) (e : Entry K V) : Type 0 where
     pub right : ComesRight terms log e
     pub may : MaysDo log e e.event
-    pub finds : (let b = at_work e (moment log) in AtEachEffect (Finds terms None (acted_on e.event b) false []) None (acted_on e.event b) e.effects b)
+    pub finds : FindsStill terms log e e.event
 
 module _ {K V S : Type 0} where
   -- Of a making that was refused once it had begun nothing is said.
