@@ -1,6 +1,6 @@
 -- What is handed over after a step of a call, whoever's row it is: what the row retires is so then, and what it puts behind a table waits there.
 use Rattle.std.specs.Prelude.{◌≡◌, ℕ, ◌+◌, ◌==◌, ◌≤◌, zero, suc, Bool, true, false, ◌||◌, is_some, List, [], ◌∷◌, length, map, Option, Some, None, if◌then◌else◌}
-use Rattle.std.proofs.Common.{refl, ap, sym, subst, ◌∙◌, inl, inr, arith}
+use Rattle.std.proofs.Common.{refl, ap, sym, subst, ◌∙◌, inl, inr, arith, eqb-true}
 use Rattle.std.proofs.lemmas.Bool.{cases_eq, eq-eqb}
 use Rattle.papaya_histories.specs.Given.SeizeWords.Mem.{value_at}
 use Rattle.papaya_histories.specs.Given.SeizeWords.Word.{block_in}
@@ -254,10 +254,10 @@ module _ {K V S : Type 0} (same : K → K → Bool) (hash : K → ℕ) (name : �
               absurd (let gone = taken_gone deferred_word size x r i w3 step b (λ z. omega (arith, e, z)) in
               let still = sym (ap (λ (z : World (Node K V)). value_at z.memory b) is) ∙ there in cc (gone, still))
 
-      over_then : IsOneStep to.0.setting i w w3 → (b : ℕ) (value : Node K V) → value_at to.4.w2.memory b ≡ Some value → IsHandedOver w b → IsHandedOver s2.world b
-      over_then (inl step) b value there over =
+      row_over : IsOneStep to.0.setting i w w3 → (b : ℕ) (value : Node K V) → value_at to.4.w2.memory b ≡ Some value → IsHandedOver w b → IsHandedOver s2.world b
+      row_over (inl step) b value there over =
           subst (λ (z : World (Node K V)). IsHandedOver z b) (sym is) (steps_over deferred_word size i w w3 b over (did deferred_word size w reached i w3 step) (untaken w reached step b value there))
-      over_then (inr (request, begun, hands_over, begin, step)) b value there over =
+      row_over (inr (request, begun, hands_over, begin, step)) b value there over =
           let r = happens_reached deferred_word size (Begin i request) w begun reached begin in
           subst (λ (z : World (Node K V)). IsHandedOver z b) (sym is)
           (steps_over deferred_word size i begun w3 b (begins_over deferred_word size i w begun b over request begin.1) (did deferred_word size begun r i w3 step) (untaken begun r step b value there))
@@ -307,14 +307,14 @@ module _ {K V S : Type 0} (same : K → K → Bool) (hash : K → ℕ) (name : �
       pair_then b n pair step over =
           let noted = kept_role keeps b (role.Pair n) pair tt in
           let has = subst (HasRole s2.world v.stored b) noted (whole2.all.shown.blocks.roles b) in
-          (b, noted, over_then step b _ has.3 over)
+          (b, noted, row_over step b _ has.3 over)
 
       table_then : (b len : ℕ) (t : Table) → known.roles b ≡ role.Table t len → IsOneStep to.0.setting i w w3 → IsHandedOver w b
           → (x : ℕ) × (n : ℕ) × (known2.roles x ≡ role.Table t n) × IsHandedOver s2.world x
       table_then b len t table step over =
           let noted = kept_role keeps b (role.Table t len) table tt in
           let has = subst (HasRole s2.world v.stored b) noted (whole2.all.shown.blocks.roles b) in
-          (b, len, noted, over_then step b _ has.1 over)
+          (b, len, noted, row_over step b _ has.1 over)
 
       abbrev PairOver : ℕ → Type 0
       PairOver n = (x : ℕ) × (known2.roles x ≡ role.Pair n) × IsHandedOver s2.world x
@@ -435,14 +435,14 @@ module _ {K V S : Type 0} (same : K → K → Bool) (hash : K → ℕ) (name : �
         where
           by : (q : Bool) → (b == c) ≡ q → (if q then Handed else w.hand b) ≡ Handed → HasGone v s2 b n
           by true e own =
-              let one : b ≡ c = grind (arith, e) in
+              let one : b ≡ c = eqb-true b c e in
               new_hand b n (retire_meant b (w3.row i) (begun_due deferred_word size i w begun w3 slot b (subst (λ (k : ℕ). Begins deferred_word size i (Retire slot k) w begun) (sym one) h) step))
           by false e before = had_begun rests b n (shows.pairs b n pair before)
       begun_gone (Defer' slot c d) begun hands_over rests h step b n pair handed = by (b == c) refl (sym (ap (λ (z : World (Node K V)). z.hand b) h.7) ∙ handed)
         where
           by : (q : Bool) → (b == c) ≡ q → (if q then Handed else w.hand b) ≡ Handed → HasGone v s2 b n
           by true e own =
-              let one : b ≡ c = grind (arith, e) in
+              let one : b ≡ c = eqb-true b c e in
               new_hand b n (begun_put deferred_word size i w begun w3 slot b d (subst (λ (k : ℕ). Begins deferred_word size i (Defer' slot k d) w begun) (sym one) h) step)
           by false e before = had_begun rests b n (shows.pairs b n pair before)
       begun_gone (Register' enters) begun hands_over rests h step b n pair handed = absurd hands_over

@@ -43,34 +43,46 @@ any_back p q f turn (x ∷ xs) e = by (p (f x)) refl e (any_back p q f turn xs)
     by true is k rest = ap (λ (z : Bool). z || list_any q xs) (turn x is)
     by false is k rest = or_right (q x) (list_any q xs) (rest k)
 
+-- the table is this one, and is retired
+abbrev Test : Table → TableThere → Bool
+Test t x = same_table x.table t && is_retired x.stage
+
+stage_back : (t u : Table) (to : Stage) → is_retired to ≡ false → (xs : List TableThere) → list_any (Test t) (map (at_stage u to) xs) ≡ true → list_any (Test t) xs ≡ true
+stage_back t u to none xs e = any_back (Test t) (Test t) (at_stage u to) turn xs e
+  where
+    turn : (x : TableThere) → Test t (at_stage u to x) ≡ true → Test t x ≡ true
+    turn x is = by (same_table x.table u) is
+      where
+        by : (z : Bool) → Test t (if z then record x { stage = to } else x) ≡ true → Test t x ≡ true
+        by true k = absurd (let both = (and_both (same_table x.table t) (is_retired to) k).1 in cc (both, none))
+        by false k = k
+
+linked_back : (t : Table) (new : TableThere) (xs : List TableThere) → (Test t new ≡ true → ⊥) → (list_any (Test t) xs ≡ true) ⊎ (Test t new ≡ true) → list_any (Test t) xs ≡ true
+linked_back t new xs none (inl is) = is
+linked_back t new xs none (inr is) = absurd (none is)
+
+-- a pair that is handed over then was so before
+put_back : (n k : ℕ) (to : Place) (place : ℕ → Place) → is_handed to ≡ false → is_handed (put k to place n) ≡ true → is_handed (place n) ≡ true
+put_back n k to place none is = elim (cases_eq n k) as (λ _. is_handed (place n) ≡ true) [
+  | inl e ↦ absurd (let its = ap is_handed (put_here k to place n e) in cc (its, is, none))
+  | inr ne ↦ sym (ap is_handed (put_elsewhere k to place n ne)) ∙ is
+]
+
+in_map_not : (o : Option ℕ) → is_handed (in_map o) ≡ false
+in_map_not (Some k) = refl
+in_map_not _ = refl
+
 module _ {K V : Type 0} (caller : Option (List ℕ)) (acted : Option ℕ) where
   -- a table that is retired then was so before
   module _ (t : Table) where
-    abbrev Test : TableThere → Bool
-    Test x = same_table x.table t && is_retired x.stage
-
-    stage_back : (u : Table) (to : Stage) → is_retired to ≡ false → (xs : List TableThere) → list_any Test (map (at_stage u to) xs) ≡ true → list_any Test xs ≡ true
-    stage_back u to none xs e = any_back Test Test (at_stage u to) turn xs e
-      where
-        turn : (x : TableThere) → Test (at_stage u to x) ≡ true → Test x ≡ true
-        turn x is = by (same_table x.table u) is
-          where
-            by : (z : Bool) → Test (if z then record x { stage = to } else x) ≡ true → Test x ≡ true
-            by true k = absurd (let both = (and_both (same_table x.table t) (is_retired to) k).1 in cc (both, none))
-            by false k = k
-
-    linked_back : (new : TableThere) (xs : List TableThere) → (Test new ≡ true → ⊥) → (list_any Test xs ≡ true) ⊎ (Test new ≡ true) → list_any Test xs ≡ true
-    linked_back new xs none (inl is) = is
-    linked_back new xs none (inr is) = absurd (none is)
-
     retired_one : (f : Effect) (m : Moment K V) → (IsHanding f → ⊥) → is_stage is_retired t (with_effect caller acted f m) ≡ true → is_stage is_retired t m ≡ true
     retired_one (Linked u shape) m none is =
         let new : TableThere = record { table = u; shape = shape; stage = IsLinked } in
-        linked_back new m.tables (λ e. let both = (and_both (same_table u t) false e).1 in cc both) (any_either Test m.tables new is)
+        linked_back t new m.tables (λ e. let both = (and_both (same_table u t) false e).1 in cc both) (any_either (Test t) m.tables new is)
     retired_one (Retired x) m none is = absurd (none tt)
     retired_one (Reclaimed (ATable u)) m none is = absurd (none tt)
     retired_one (Reclaimed (APair n)) m none is = is
-    retired_one (Taken u) m none is = stage_back u IsTaken refl m.tables is
+    retired_one (Taken u) m none is = stage_back t u IsTaken refl m.tables is
     retired_one (Asked growth) m none is = is
     retired_one PairMade m none is = is
     retired_one PairGivenUp m none is = is
@@ -91,56 +103,46 @@ module _ {K V : Type 0} (caller : Option (List ℕ)) (acted : Option ℕ) where
 
     -- also where one is reclaimed
     pub reclaimed_back : (u : Table) (m : Moment K V) → is_stage is_retired t (with_effects caller acted (Reclaimed (ATable u) ∷ []) m) ≡ true → is_stage is_retired t m ≡ true
-    reclaimed_back u m is = stage_back u IsReclaimed refl m.tables is
+    reclaimed_back u m is = stage_back t u IsReclaimed refl m.tables is
 
     -- or where another one is retired
     pub retired_other : (u : Table) → same_table u t ≡ false → (m : Moment K V) → is_stage is_retired t (with_effects caller acted (Retired (ATable u) ∷ []) m) ≡ true → is_stage is_retired t m ≡ true
-    retired_other u apart m is = any_back Test Test (at_stage u IsRetired) turn m.tables is
+    retired_other u apart m is = any_back (Test t) (Test t) (at_stage u IsRetired) turn m.tables is
       where
-        turn : (x : TableThere) → Test (at_stage u IsRetired x) ≡ true → Test x ≡ true
+        turn : (x : TableThere) → Test t (at_stage u IsRetired x) ≡ true → Test t x ≡ true
         turn x k = by (same_table x.table u) refl k
           where
-            by : (z : Bool) → same_table x.table u ≡ z → Test (if z then record x { stage = IsRetired } else x) ≡ true → Test x ≡ true
+            by : (z : Bool) → same_table x.table u ≡ z → Test t (if z then record x { stage = IsRetired } else x) ≡ true → Test t x ≡ true
             by true here e =
                 absurd (let both : same_table u t ≡ true = ap (λ (y : Table). same_table y t) (sym (table_is x.table u here)) ∙ (and_both (same_table x.table t) true e).0 in cc (both, apart))
             by false here e = e
 
     -- and that one is retired no more
     pub reclaimed_not : (m : Moment K V) → is_stage is_retired t (with_effects caller acted (Reclaimed (ATable t) ∷ []) m) ≡ true → ⊥
-    reclaimed_not m is = none_any m.tables (any_back Test (λ x. false) (at_stage t IsReclaimed) turn m.tables is)
+    reclaimed_not m is = none_any m.tables (any_back (Test t) (λ x. false) (at_stage t IsReclaimed) turn m.tables is)
       where
         none_any : (xs : List TableThere) → list_any (λ x. false) xs ≡ true → ⊥
         none_any [] e = cc e
         none_any (x ∷ xs) e = none_any xs e
 
-        turn : (x : TableThere) → Test (at_stage t IsReclaimed x) ≡ true → false ≡ true
+        turn : (x : TableThere) → Test t (at_stage t IsReclaimed x) ≡ true → false ≡ true
         turn x k = by (same_table x.table t) refl k
           where
-            by : (z : Bool) → same_table x.table t ≡ z → Test (if z then record x { stage = IsReclaimed } else x) ≡ true → false ≡ true
+            by : (z : Bool) → same_table x.table t ≡ z → Test t (if z then record x { stage = IsReclaimed } else x) ≡ true → false ≡ true
             by true here e = absurd (let both = (and_both (same_table x.table t) false e).1 in cc both)
             by false here e = absurd (let both = (and_both (same_table x.table t) (is_retired x.stage) e).0 in cc (both, here))
 
   -- a pair that is handed over then was so before
   module _ (n : ℕ) where
-    put_back : (k : ℕ) (to : Place) (place : ℕ → Place) → is_handed to ≡ false → is_handed (put k to place n) ≡ true → is_handed (place n) ≡ true
-    put_back k to place none is = elim (cases_eq n k) as (λ _. is_handed (place n) ≡ true) [
-      | inl e ↦ absurd (let its = ap is_handed (put_here k to place n e) in cc (its, is, none))
-      | inr ne ↦ sym (ap is_handed (put_elsewhere k to place n ne)) ∙ is
-    ]
-
-    in_map_not : (o : Option ℕ) → is_handed (in_map o) ≡ false
-    in_map_not (Some k) = refl
-    in_map_not _ = refl
-
     handed_one : (f : Effect) (m : Moment K V) → (IsHanding f → ⊥) → is_handed (place_by acted m.deferred f m.place n) ≡ true → is_handed (m.place n) ≡ true
-    handed_one (Stored k s) m none is = put_back k (in_map acted) m.place (in_map_not acted) is
-    handed_one (Replaced k) m none is = put_back k Out m.place refl is
-    handed_one (Removed k) m none is = put_back k Out m.place refl is
-    handed_one (Deferred k t) m none is = put_back k Behind m.place refl is
+    handed_one (Stored k s) m none is = put_back n k (in_map acted) m.place (in_map_not acted) is
+    handed_one (Replaced k) m none is = put_back n k Out m.place refl is
+    handed_one (Removed k) m none is = put_back n k Out m.place refl is
+    handed_one (Deferred k t) m none is = put_back n k Behind m.place refl is
     handed_one (Retired x) m none is = absurd (none tt)
-    handed_one (Reclaimed (APair k)) m none is = put_back k GivenBack m.place refl is
+    handed_one (Reclaimed (APair k)) m none is = put_back n k GivenBack m.place refl is
     handed_one (Reclaimed (ATable t)) m none is = absurd (none tt)
-    handed_one (Ended k) m none is = put_back k GivenBack m.place refl is
+    handed_one (Ended k) m none is = put_back n k GivenBack m.place refl is
     handed_one (Taken t) m none is = by (is_among n (behind t m.deferred)) is
       where
         by : (q : Bool) → is_handed (if q then Left else m.place n) ≡ true → is_handed (m.place n) ≡ true
@@ -242,8 +244,8 @@ deferred_at n (d ∷ ds) e = by (n == d.pair) refl e (deferred_at n ds)
 
     here : (n == d.pair) ≡ true → (q : Bool) → same_table d.behind d.behind ≡ q → q ≡ true
         → is_among n (map (λ x. x.pair) (if q then d ∷ filter (λ x. same_table x.behind d.behind) ds else filter (λ x. same_table x.behind d.behind) ds)) ≡ true
-    here is true same yes = ap (λ (z : Bool). z || is_among n (behind d.behind ds)) is
-    here is false same yes = absurd (cc yes)
+    here is true same so = ap (λ (z : Bool). z || is_among n (behind d.behind ds)) is
+    here is false same so = absurd (cc so)
 
     by : (r : Bool) → (n == d.pair) ≡ r → (r || is_deferred n ds) ≡ true → (is_deferred n ds ≡ true → (t : Table) × (is_among n (behind t ds) ≡ true)) → Found
     by true is k rest = (d.behind, here is (same_table d.behind d.behind) refl (same_itself d.behind))

@@ -1,7 +1,7 @@
 -- A block that the collector has, and that waits behind no other one, stays so until a row takes it: as rows begin and step,
 -- whatever users do, and as a map ends.
 use Rattle.std.specs.Prelude.{zero, suc, Option, Some, None, Ok, Err, IsSome, if◌then◌else◌}
-use Rattle.std.proofs.Common.{◌≡◌, ◌<◌, ℕ, ◌+◌, Bool, true, false, List, [], ◌∷◌, refl, arith, ap, sym, subst, ◌∙◌}
+use Rattle.std.proofs.Common.{◌≡◌, ◌==◌, ◌<◌, ℕ, ◌+◌, Bool, true, false, List, [], ◌∷◌, refl, arith, ap, sym, subst, ◌∙◌}
 use Rattle.std.proofs.lemmas.Bool.{ne_eqb}
 use Rattle.papaya_histories.specs.Given.SeizeWords.Mem.{Mem, value_at, value_in, Took}
 use Rattle.papaya_histories.specs.Given.SeizeWords.Op.{Out, Make, Store, Found, Stored, Exchanged, Made, Taken, Roomed}
@@ -156,7 +156,7 @@ module _ {T : Type 0} (defers : T → Option ℕ) (size i : ℕ) (w w2 : World T
 
       by : (q : Bool) → (b == c) ≡ q → (n : ℕ) → times b further ≡ n → times b (c ∷ further) ≡ 0
       by true is n e = absurd (let same : b ≡ c = grind (arith, is) in subst (MayCut i) (ap w.hand (sym same) ∙ its.0) runs.1.0)
-      by false is zero e = ap (λ (q : Bool). (if q then 1 else 0) + times b further) is ∙ e
+      by false is zero e = (let count : times b (c ∷ further) ≡ 0 + times b further = ap (λ (q : Bool). (if q then 1 else 0) + times b further) is in omega (arith, count, e))
       by false is (suc n) e = absurd (listed (omega (arith, e)))
 
   -- nor does it wait then
@@ -185,7 +185,7 @@ module _ {T : Type 0} (defers : T → Option ℕ) (size i : ℕ) (w w2 : World T
   deed_frees (TakesCounter c) runs some handed = own_has_none defers size w k b x _ waits (ap w.hand (that_one x c some) ∙ runs.1.2.1)
   deed_frees (TakesPair c) runs some handed =
       at_cases (λ (h : Hand). h ≡ Handed → ⊥) runs.2.0.hand c NoBlock b (λ e z. cc z) (λ ne z. subst IsLeft z left)
-      (sym (ap (λ (y : World T). y.hand b) runs.2.2.1.4) ∙ sym (ap (λ (y : World T). y.hand b) runs.2.2.2) ∙ handed)
+      (sym (ap (λ (y : World T). y.hand b) runs.2.2.1.5) ∙ sym (ap (λ (y : World T). y.hand b) runs.2.2.2) ∙ handed)
     where
       cut : waits_behind b runs.0.log ≡ Some c
       cut = sym (log_back defers size w runs.0 (Unlinks i c) tt runs.1 b) ∙ waits ∙ ap (λ (y : ℕ). Some y) (that_one x c some)

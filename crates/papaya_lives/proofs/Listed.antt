@@ -68,14 +68,14 @@ module _ (n i : ℕ) (m : State) (t : ℕ) where
   told_list c c2 p m2 (Pushes y u d es rest stage todo head e q r) = same_list m2 _ e refl
   told_list c c2 p m2 (Misses y u rest stage todo active e q r) = same_list m2 _ e refl
   told_list c c2 p m2 (Sums y stage todo some e q r none) = same_list m2 _ e refl
-  told_list c c2 p m2 (SumsLast y stage todo zero e q r none) = same_list m2 _ e refl
+  told_list c c2 p m2 (SumsLast y stage todo last e q r none) = same_list m2 _ e refl
   told_list c c2 p m2 (Drains d ds left e q r) = drained_list m2 d e
   told_list c c2 p m2 (DrainsNone d ds left none e q r) = same_list m2 _ e refl
   told_list c c2 p m2 (Takes d ds left none e q r) = same_list m2 _ e refl
   told_list c c2 p m2 (TakesLast d left none e q r) = same_list m2 _ e refl
   told_list c c2 p m2 (Joins left e q r) = same_list m2 _ e refl
   told_list c c2 p m2 (Counts entry es loose debt some e q r none pending closing) = same_list m2 _ e refl
-  told_list c c2 p m2 (CountsLast entry es loose debt zero e q r none pending closing) = same_list m2 _ e refl
+  told_list c c2 p m2 (CountsLast entry es loose debt last e q r none pending closing) = same_list m2 _ e refl
 
   off_list : (again : Bool) (s : ℕ) (m2 : State) → (es : List Entry) → m2 ≡ list_off again m i s es → Fewer m2
   off_list true s m2 es e = same_list m2 _ e refl
