@@ -45,9 +45,10 @@ module _ {K V : Type 0} (eq : K → K → Bool) (hash : K → ℕ) (m : Mem (Nod
   -- where the root leads
   pub grows_no_more : (root : ℕ) → word_at m (Root setting.root) ≡ Some root → CannotGrowIn m setting
   grows_no_more root read =
-      subst (λ (link : ℕ). (tables : CountsTables m link) × CannotGrow (shapes_on m tables.0 link)) (sym (ap word_or_none read))
-      ((c.past - c.first, (chain_shown eq hash m setting c blocks stands (c.past - c.first) c.first root (omega arith) all_linked.1 leads).0),
-      chain_ends (c.past - c.first) c.first root (omega arith) all_linked.1 (let first = all_linked.0 in omega (arith, first, is_last)) leads)
+      subst (λ (link : ℕ). (tables : CountsTables m link) × CannotGrow (shapes_on m tables.0 link)) (sym (ap word_or_none read)) (
+        (c.past - c.first, (chain_shown eq hash m setting c blocks stands (c.past - c.first) c.first root (omega arith) all_linked.1 leads).0),
+        chain_ends (c.past - c.first) c.first root (omega arith) all_linked.1 (let first = all_linked.0 in omega (arith, first, is_last)) leads,
+      )
     where
       leads : LeadsTo c blocks root c.first
       leads = links.root_leads_on eq hash m setting c blocks stands root read
