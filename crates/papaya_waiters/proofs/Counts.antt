@@ -158,5 +158,8 @@ module _ {K V : Type 0} (same : K → K → Bool) (hash : K → ℕ) (caller : �
       by count is wrote (inl (full, ends)) =
           inl (ends, goes (λ u. EndsAt d p at.Promotes u) (count_then count is wrote) (inl (target_turn, (let ahead = into.1 in omega (arith, first, ahead)))) all)
       by count is wrote (inr (short, ends)) =
-          inr (ends, goes (λ u. ⊥) (count_then count is wrote)
-          (inr (left (λ e. (let other = eqb-false ((count + p.done) % 2 ^ 64) p.source.len short in let low = fits in let long = length in other (omega (arith, is, low, long, e)))))) all)
+          inr (
+            ends,
+            goes (λ u. ⊥) (count_then count is wrote)
+                (inr (left (λ e. (let other = eqb-false ((count + p.done) % 2 ^ 64) p.source.len short in let low = fits in let long = length in other (omega (arith, is, low, long, e)))))) all,
+          )
