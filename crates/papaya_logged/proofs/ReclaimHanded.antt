@@ -171,12 +171,12 @@ module _ {K V S : Type 0} (same : K → K → Bool) (hash : K → ℕ) (name : �
         elim (log_free b t waits) as (λ _. waits_behind b w2.log ≡ None) [
           | inl alone ↦ alone
           | inr still ↦ absurd (
-            let gone : LeavesBy w.memory w2.memory (changed.Took t) = subst (LeavesBy w.memory w2.memory) is l in
-            let good = after_it.kept.good in
-            let there = value_there deferred_word (LAST_SLOT + 1) w2.memory good.state good.extra t good.shows
-            (carries_lives (good.state.life t) (carries_some deferred_word old.batch_size w2 after_it b t still)) in
-            let it : IsSome {T = Node K V} None = subst (λ (q : Option (Node K V)). IsSome q) gone.1 there in cc it
-            )
+              let gone : LeavesBy w.memory w2.memory (changed.Took t) = subst (LeavesBy w.memory w2.memory) is l in
+              let good = after_it.kept.good in
+              let there = value_there deferred_word (LAST_SLOT + 1) w2.memory good.state good.extra t good.shows
+              (carries_lives (good.state.life t) (carries_some deferred_word old.batch_size w2 after_it b t still)) in
+              let it : IsSome {T = Node K V} None = subst (λ (q : Option (Node K V)). IsSome q) gone.1 there in cc it
+              )
         ],
       )
 
