@@ -1,7 +1,7 @@
 -- A step of a call on one key: which pair it has in hand then, by where it stood.
 use Rattle.std.specs.Prelude.{◌≡◌, ℕ, ◌==◌, Bool, true, false, Option, Some, None, Ok, Err, ◌≤◌, if◌then◌else◌}
 use Rattle.std.proofs.Common.{refl, ap, sym, subst, ◌∙◌}
-use Rattle.seize_words.specs.Mem.{Mem, Gives, value_at, word_at}
+use Rattle.seize_words.specs.Mem.{Mem, value_at, word_at}
 use Rattle.seize_words.specs.Op.{Out, Exchange, Found, Exchanged, Made, Taken}
 use Rattle.seize_words.specs.Plan.{Now, Seeing, Ends}
 use Rattle.seize_words.specs.Word.{block_in}

@@ -1,5 +1,5 @@
 -- A step of a sweep: which pair it has in hand then, by where it stood.
-use Rattle.std.specs.Prelude.{◌≡◌, ℕ, ◌==◌, nat_lt, ◌&&◌, ◌≤◌, Bool, true, false, Option, Some, None, Ok, Err, if◌then◌else◌}
+use Rattle.std.specs.Prelude.{◌≡◌, ℕ, ◌==◌, nat_lt, ◌&&◌, ◌≤◌, Bool, true, false, Some, None, Ok, Err, if◌then◌else◌}
 use Rattle.std.proofs.Common.{refl, ap, sym, subst, ◌∙◌}
 use Rattle.seize_words.specs.Mem.{Mem, value_at, word_at}
 use Rattle.seize_words.specs.Op.{Out, Exchange, Found, Exchanged}
@@ -29,7 +29,7 @@ use Rattle.papaya_sweeps.specs.declared.sweep.Sweep.{Sweep}
 use Rattle.papaya_sweeps.specs.declared.sweep.Sweeping.{Sweeping}
 use Rattle.papaya_sweeps.specs.declared.sweep.Sweeping.TheVariants as at
 use Rattle.papaya_sweeps.specs.declared.sweep.Swept.{Swept}
-use Rattle.papaya_rule.proofs.Keys.Always.{Always, AlwaysOf, always_if, always_ends, always_plan_as, always_steps}
+use Rattle.papaya_rule.proofs.Keys.Always.{Always, AlwaysOf, always_if, always_plan_as, always_steps}
 use Rattle.papaya_teller.specs.Tells.{StepsTold, ToldAs}
 use Rattle.papaya_teller.specs.declared.changed.Changed.{Changed}
 use Rattle.papaya_teller.specs.declared.changed.Changed.TheVariants as changes
