@@ -40,7 +40,7 @@ module _ {K V : Type 0} (d : Dispose) (m m2 : Mem (Node K V)) (told : Changed) w
     WaitsAlike : Holding → waits_of e ≡ waits_of d → WaitsGo e
     WaitsOver : pair_in_disposing e e.stands ≡ None → WaitsGo e
     -- the root that was read is none before its table
-    WaitsPast : (root : ℕ) (value : Node K V) → told ≡ changed.Nothing → d.stands ≡ at.Reads → waits_of e ≡ None → word_at m (Root d.setting.root) ≡ Some root → value_at m2 (block_in root) ≡ Some value
+    WaitsPast : (root : ℕ) (value : Node K V) → told ≡ changed.Nothing → d.stands ≡ at.Reads → waits_of e ≡ None → word_at m (Root d.setting.root) ≡ Some root → value_at m (block_in root) ≡ Some value
         → d.table.turn ≤ (table_seen root value).turn → WaitsGo e
 
   abbrev Goes : Dispose × Settled (Node K V) → Type 0
@@ -77,7 +77,7 @@ module _ {K V : Type 0} (d : Dispose) (m m2 : Mem (Node K V)) (told : Changed) w
   walked_goes table is _ = WaitsAlike (has_it (at.Walks table) is refl) refl
 
   -- the root is compared
-  compared_goes : (root : ℕ) (value : Node K V) → d.stands ≡ at.Reads → told ≡ changed.Nothing → word_at m (Root d.setting.root) ≡ Some root → value_at m2 (block_in root) ≡ Some value
+  compared_goes : (root : ℕ) (value : Node K V) → d.stands ≡ at.Reads → told ≡ changed.Nothing → word_at m (Root d.setting.root) ≡ Some root → value_at m (block_in root) ≡ Some value
       → (e : Dispose × Settled (Node K V)) → Ends (value_at m2) (disposes.compared d root (table_seen root value)) e → Goes e
   compared_goes root value is nothing read seen e ends =
       elim (ends_if (value_at m2) (nat_lt (table_seen root value).turn d.table.turn) (disposes.goes d (at.Walks root)) (disposes.goes d (disposes.retires d.setting d.pair)) e ends) as (λ _. Goes e) [
@@ -87,7 +87,7 @@ module _ {K V : Type 0} (d : Dispose) (m m2 : Mem (Node K V)) (told : Changed) w
 
   reads_goes : d.stands ≡ at.Reads → (out : Out (Node K V)) → ToldAs K V (Dispose × Settled (Node K V)) m (Load (Root d.setting.root)) out m2 told
       → (e : Dispose × Settled (Node K V)) → Ends (value_at m2) (disposes.root_read d out) e → Goes e
-  reads_goes is (Found root) tells e ends = compared_goes root ends.0 is tells.1 tells.0.0 ends.1 e ends.2
+  reads_goes is (Found root) tells e ends = compared_goes root ends.0 is tells.1 tells.0.0 (ap (λ (x : Mem (Node K V)). value_at x (block_in root)) (sym tells.0.1) ∙ ends.1) e ends.2
   reads_goes is _ tells e ends = absurd tells.0.0
 
   as_always : (p : Disposing) (e : Dispose × Settled (Node K V)) → AlwaysOf Goes (disposes.plan_at d p) → StepOf p e → Goes e

@@ -28,6 +28,7 @@ use Rattle.papaya_resize.specs.Lookup.{names_pair, lookup_plan}
 use Rattle.papaya_resize.specs.NewTable.{new_table_plan}
 use Rattle.papaya_resize.specs.declared.copier.Copier.{Copier}
 use Rattle.papaya_resize.specs.declared.dispose.Dispose.{Dispose}
+use Rattle.papaya_resize.specs.declared.dispose.Disposing.TheVariants as disposal
 use Rattle.papaya_resize.specs.declared.lookup.Lookup.{Lookup}
 use Rattle.papaya_resize.specs.declared.new_table.NewTable.{NewTable}
 use Rattle.papaya_resize.specs.declared.outcome.Outcome.{Outcome}
@@ -276,7 +277,7 @@ module _ {K V : Type 0} (asks same : K → K → Bool) (hash : K → ℕ) (p : K
     HandNone : pair_in_calling y.stands ≡ None → KeyWaits y
     HandAlike : (IsCopying p.stands → ⊥) → Pair → waits_in_calling y y.stands ≡ waits_in_calling p p.stands → KeyWaits y
     HandPast : (d : Dispose) (root : ℕ) (value : Node K V) → (IsCopying p.stands → ⊥) → Pair → waits_in_calling p p.stands ≡ Some d.table.turn → waits_in_calling y y.stands ≡ None
-        → (answer : KeyAnswer) → p.stands ≡ at.Disposes d answer → told_by ≡ changes.Nothing → word_at m (Root d.setting.root) ≡ Some root → value_at m2 (block_in root) ≡ Some value
+        → (answer : KeyAnswer) → p.stands ≡ at.Disposes d answer → d.stands ≡ disposal.Reads → told_by ≡ changes.Nothing → word_at m (Root d.setting.root) ≡ Some root → value_at m (block_in root) ≡ Some value
         → d.table.turn ≤ (table_seen root value).turn → KeyWaits y
     HandNew : (word new : ℕ) → p.stands ≡ at.Tries word new → told_by ≡ changes.Wrote (place_tried p.trial) word new → waits_in_calling y y.stands ≡ waits_of (disposing p.setting word p.trial.table) → KeyWaits y
 
@@ -329,7 +330,7 @@ module _ {K V : Type 0} (asks same : K → K → Bool) (hash : K → ℕ) (p : K
     goes_to next (WaitsAlike holds e) = HandAlike (apart (at.Disposes d answer) is (λ c. c)) (held holds) (e ∙ sym waits_were)
     goes_to next (WaitsOver e) = HandNone e
     goes_to next (WaitsPast root value nothing reads none read seen before) =
-        HandPast d root value (apart (at.Disposes d answer) is (λ c. c)) (held (λ no. (d.pair, ap (pair_in_disposing d) reads))) (waits_were ∙ ap (waits_in_disposing d) reads) none answer is nothing read seen before
+        HandPast d root value (apart (at.Disposes d answer) is (λ c. c)) (held (λ no. (d.pair, ap (pair_in_disposing d) reads))) (waits_were ∙ ap (waits_in_disposing d) reads) none answer is reads nothing read seen before
 
     disposed_hands : (r : Dispose × Settled (Node K V)) → WaitsGo d m m2 told_by r.0 → Hands (disposed p answer r)
     disposed_hands (next, settling.Goes) goes = goes_to next goes

@@ -19,6 +19,7 @@ use Rattle.papaya_resize.specs.Copier.{copier_plan}
 use Rattle.papaya_resize.specs.Dispose.{disposing, dispose_plan}
 use Rattle.papaya_resize.specs.declared.copier.Copier.{Copier}
 use Rattle.papaya_resize.specs.declared.dispose.Dispose.{Dispose}
+use Rattle.papaya_resize.specs.declared.dispose.Disposing.TheVariants as disposal
 use Rattle.papaya_resize.specs.declared.outcome.Outcome.{Outcome}
 use Rattle.papaya_resize.specs.declared.outcome.Outcome.TheVariants as outcome
 use Rattle.papaya_sweeps.specs.Sweep as sweeps
@@ -115,7 +116,7 @@ module _ {K V : Type 0} (hash : K → ℕ) (c : Sweep) (m m2 : Mem (Node K V)) (
     SweptNone : pair_in_sweeping y.stands ≡ None → SweepWaits y
     SweptAlike : IsNoCopy c.stands → Pair → waits_in_sweeping y y.stands ≡ waits_in_sweeping c c.stands → SweepWaits y
     SweptPast : (d : Dispose) (root : ℕ) (value : Node K V) → IsNoCopy c.stands → Pair → waits_in_sweeping c c.stands ≡ Some d.table.turn → waits_in_sweeping y y.stands ≡ None
-        → c.stands ≡ at.Disposes d → told_by ≡ changes.Nothing → word_at m (Root d.setting.root) ≡ Some root → value_at m2 (block_in root) ≡ Some value
+        → c.stands ≡ at.Disposes d → d.stands ≡ disposal.Reads → told_by ≡ changes.Nothing → word_at m (Root d.setting.root) ≡ Some root → value_at m (block_in root) ≡ Some value
         → d.table.turn ≤ (table_seen root value).turn → SweepWaits y
     SweptNew : (word : ℕ) → c.stands ≡ at.Tries word → told_by ≡ changes.Wrote (at_place c.table c.place) word TOMBSTONE → waits_in_sweeping y y.stands ≡ waits_of (disposing c.setting word c.table) → SweepWaits y
 
@@ -153,7 +154,7 @@ module _ {K V : Type 0} (hash : K → ℕ) (c : Sweep) (m m2 : Mem (Node K V)) (
     goes_to next (WaitsAlike holds e) = SweptAlike no_copy (held holds) (e ∙ sym waits_were)
     goes_to next (WaitsOver e) = SweptNone e
     goes_to next (WaitsPast root value nothing reads none read seen before) =
-        SweptPast d root value no_copy (held (λ no. (d.pair, ap (pair_in_disposing d) reads))) (waits_were ∙ ap (waits_in_disposing d) reads) none is nothing read seen before
+        SweptPast d root value no_copy (held (λ no. (d.pair, ap (pair_in_disposing d) reads))) (waits_were ∙ ap (waits_in_disposing d) reads) none is reads nothing read seen before
 
     disposed_hands : (r : Dispose × Settled (Node K V)) → WaitsGo d m m2 told_by r.0 → Hands (sweeps.disposed c r)
     disposed_hands (next, settling.Goes) goes = goes_to next goes

@@ -1,5 +1,5 @@
 -- Where a pair lies that a step of a call which is none of a row takes out of its map: at the place whose word the step has written, which said whether the pair was borrowed there.
-use Rattle.std.specs.Prelude.{◌≡◌, ℕ, ◌+◌, ◌<◌, ◌≤◌, Bool, true, false, List, [], ◌∷◌, length, Some}
+use Rattle.std.specs.Prelude.{◌≡◌, ℕ, ◌<◌, ◌≤◌, Bool, true, false, List, [], ◌∷◌, length, Some}
 use Rattle.std.proofs.Common.{refl, ap, sym, subst, ◌∙◌, inl, inr, arith}
 use Rattle.std.proofs.lemmas.Bool.{cases_lt}
 use Rattle.seize_words.specs.Mem.{Mem}
@@ -39,10 +39,10 @@ use Rattle.papaya_executor.specs.declared.executor.Executor.{Executor}
 use Rattle.papaya_finishes.specs.Maps.{Standing}
 use Rattle.papaya_follows.specs.Maps.{ShowsMap}
 use Rattle.papaya_follows.specs.Shows.{Shows}
-use Rattle.papaya_follows.proofs.Alike.{is_calm, AllCalm}
+use Rattle.papaya_follows.proofs.Alike.{AllCalm}
 use Rattle.papaya_follows.proofs.Operations.{LeavesBy, Operated, operated_leaves, seen_write, told_write}
 use Rattle.papaya_follows.proofs.Stored.{inside, still_current, still_home}
-use Rattle.papaya_histories.specs.Given.Spots.Spots.{ThePair, named_by, spot_in, LiesAt, ShowsPlaces}
+use Rattle.papaya_histories.specs.Given.Spots.Spots.{named_by, spot_in, LiesAt, ShowsPlaces}
 use Rattle.papaya_histories.proofs.Given.Spots.Done.{DidBy, DidMoved, did_moved}
 use Rattle.papaya_histories.proofs.Given.Spots.Names.{holds_is}
 use Rattle.papaya_settles.specs.InHand.{TakesPair}
@@ -112,16 +112,16 @@ module _ {K V S : Type 0} (same : K → K → Bool) (hash : K → ℕ) (m : Mome
   -- it lay at this place, whose word was written
   pub record TookPair : Type 0 where
     pub t : ℕ
-    pub i : ℕ
+    pub place : ℕ
     pub n : ℕ
     pub borrowed : Bool
     pub word : ℕ
-    pub held : c.place t i ≡ Holds n Still borrowed
-    pub wrote : told ≡ changed.Wrote (place_at seen t i) (place_word standing.hash c seen (Holds n Still borrowed)) word
-    pub made : t < c.past
+    pub held : c.place t place ≡ Holds n Still borrowed
+    pub wrote : told ≡ changed.Wrote (place_at seen t place) (place_word standing.hash c seen (Holds n Still borrowed)) word
+    pub within : t < c.past
     pub table_seen : sight.tables t ≡ true
     pub lies : LiesAt c q n (m.spot k) (m.born k).turn
-    pub spot : m.spot k ≡ spot_in t i
+    pub spot : m.spot k ≡ spot_in t place
     pub stored : k ≤ length m.stored
 
   here : Together V same standing.hash same standing.setting slot_of w standing.chart standing.blocks standing.sights (s.calls map)
@@ -162,13 +162,13 @@ module _ {K V S : Type 0} (same : K → K → Bool) (hash : K → ℕ) (m : Mome
       let home = still_home same (spot_of standing.hash) c t j n borrowed key held q rule may in
       record {
         t = t;
-        i = j;
+        place = j;
         n = n;
         borrowed = borrowed;
         word = word;
         held = held;
         wrote = wrote;
-        made = there_it.0;
+        within = there_it.0;
         table_seen = is_sight.linked t home there_it.0;
         lies = its;
         spot = lies_there same standing.hash c t j n borrowed key held lawful q rule may (m.spot k) (m.born k).turn its;
