@@ -16,9 +16,11 @@ use Rattle.papaya_schedules.specs.Effects.{passed}
 use Rattle.papaya_schedules.specs.Moment.{Moment}
 use Rattle.papaya_schedules.specs.Views.{first_of}
 use Rattle.papaya_points.specs.FactsCalls.{IsCopying}
+use Rattle.papaya_effects.specs.Effects.{carried}
 use Rattle.papaya_effects.specs.Known.{Known}
 use Rattle.papaya_effects.specs.declared.role.Role.{Role}
 use Rattle.papaya_effects.specs.declared.role.Role.TheVariants as role
+use Rattle.papaya_settles.specs.Due.{Due, RowTells, TellsNone, TellsRetired, TellsDeferred, told_retired}
 use Rattle.papaya_settles.specs.Hand.{thing_as, things_at, in_hand_of_call, in_hand_of_sweep}
 use Rattle.papaya_settles.specs.InHand.{pair_in_calling, pair_in_sweeping, TakesPair}
 use Rattle.papaya_settles.specs.Owing.{OwesGo, KeepsOwed, TakesOut, PutsOver, Passes, HandsFirst}
@@ -88,3 +90,41 @@ module _ (known : Known) where
   pub sweep_some : (q : Sweeping) → ((copier : Copier) → q ≡ sweeping.Copies copier → ⊥) → (k : ℕ) → in_hand_of_sweep known q ≡ APair k ∷ [] → (word : ℕ) × (pair_in_sweeping q ≡ Some word)
   sweep_some (sweeping.Copies copier) none k e = absurd (none copier refl)
   sweep_some q none k e = things_some (pair_in_sweeping q) k e
+
+-- a row takes no pair out of its map
+pub row_takes : (caller map : ℕ) (known : Known) (effects : List Effect) (before after : Option Due) (k : ℕ) → RowTells caller map known effects before after → TakesPair effects k → ⊥
+row_takes caller map known effects before after k (TellsNone none same) takes = nothing takes
+  where
+    nothing : TakesPair effects k → ⊥
+    nothing (inl is) = (let both = sym is ∙ none in cc both)
+    nothing (inr (n, s, is)) = (let both = sym is ∙ none in cc both)
+row_takes caller map known effects before after k (TellsRetired word was gone are) takes = by (known.roles (block_in word)) are takes
+  where
+    by : (r : Role) → effects ≡ told_retired r → TakesPair effects k → ⊥
+    by (role.Pair n) e (inl is) = (let both = sym is ∙ e in cc both)
+    by (role.Pair n) e (inr (x, s, is)) = (let both = sym is ∙ e in cc both)
+    by (role.Table t len) e (inl is) = (let both = sym is ∙ e in cc both)
+    by (role.Table t len) e (inr (x, s, is)) = (let both = sym is ∙ e in cc both)
+    by role.Free e (inl is) = (let both = sym is ∙ e in cc both)
+    by role.Free e (inr (x, s, is)) = (let both = sym is ∙ e in cc both)
+    by (role.OwnPair j) e (inl is) = (let both = sym is ∙ e in cc both)
+    by (role.OwnPair j) e (inr (x, s, is)) = (let both = sym is ∙ e in cc both)
+    by (role.OwnTable turn shape) e (inl is) = (let both = sym is ∙ e in cc both)
+    by (role.OwnTable turn shape) e (inr (x, s, is)) = (let both = sym is ∙ e in cc both)
+    by (role.Counter of) e (inl is) = (let both = sym is ∙ e in cc both)
+    by (role.Counter of) e (inr (x, s, is)) = (let both = sym is ∙ e in cc both)
+row_takes caller map known effects before after k (TellsDeferred word block place t len was its gone table are) takes = by (known.roles (block_in word)) are takes
+  where
+    by : (r : Role) → effects ≡ carried t r → TakesPair effects k → ⊥
+    by (role.Pair n) e (inl is) = (let both = sym is ∙ e in cc both)
+    by (role.Pair n) e (inr (x, s, is)) = (let both = sym is ∙ e in cc both)
+    by (role.Table u l) e (inl is) = (let both = sym is ∙ e in cc both)
+    by (role.Table u l) e (inr (x, s, is)) = (let both = sym is ∙ e in cc both)
+    by role.Free e (inl is) = (let both = sym is ∙ e in cc both)
+    by role.Free e (inr (x, s, is)) = (let both = sym is ∙ e in cc both)
+    by (role.OwnPair j) e (inl is) = (let both = sym is ∙ e in cc both)
+    by (role.OwnPair j) e (inr (x, s, is)) = (let both = sym is ∙ e in cc both)
+    by (role.OwnTable turn shape) e (inl is) = (let both = sym is ∙ e in cc both)
+    by (role.OwnTable turn shape) e (inr (x, s, is)) = (let both = sym is ∙ e in cc both)
+    by (role.Counter of) e (inl is) = (let both = sym is ∙ e in cc both)
+    by (role.Counter of) e (inr (x, s, is)) = (let both = sym is ∙ e in cc both)
