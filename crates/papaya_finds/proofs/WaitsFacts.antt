@@ -1,6 +1,6 @@
 -- What a call knows of the table where it changes its map, and, as its disposal reads the root, of that.
 use Rattle.std.specs.Prelude.{◌≡◌, ℕ, Bool, Some}
-use Rattle.std.proofs.Common.{ap, subst, ◌∙◌, inl, inr, arith}
+use Rattle.std.proofs.Common.{ap, subst, inl, inr, arith}
 use Rattle.seize_words.specs.Mem.{word_at, value_at}
 use Rattle.seize_words.specs.Word.{block_in}
 use Rattle.seize_words.specs.declared.at.At.TheVariants.{Root}

@@ -21,7 +21,7 @@ use Rattle.papaya_effects.specs.Known.{Known}
 use Rattle.papaya_effects.specs.declared.role.Role.{Role}
 use Rattle.papaya_effects.specs.declared.role.Role.TheVariants as role
 use Rattle.papaya_settles.specs.Due.{Due, RowTells, TellsNone, TellsRetired, TellsDeferred, told_retired}
-use Rattle.papaya_settles.specs.Hand.{thing_as, things_at, in_hand_of_call, in_hand_of_sweep}
+use Rattle.papaya_settles.specs.Hand.{thing_as, things_at, in_hand_of_call, in_hand_of_sweep, IsPairRole, NotesPair, NotesOfSweep}
 use Rattle.papaya_settles.specs.InHand.{pair_in_calling, pair_in_sweeping, TakesPair}
 use Rattle.papaya_settles.specs.Owing.{OwesGo, KeepsOwed, TakesOut, PutsOver, Passes, HandsFirst}
 use Rattle.papaya_finds.specs.Waiting.{once_if, owed_in}
@@ -90,6 +90,22 @@ module _ (known : Known) where
   pub sweep_some : (q : Sweeping) → ((copier : Copier) → q ≡ sweeping.Copies copier → ⊥) → (k : ℕ) → in_hand_of_sweep known q ≡ APair k ∷ [] → (word : ℕ) × (pair_in_sweeping q ≡ Some word)
   sweep_some (sweeping.Copies copier) none k e = absurd (none copier refl)
   sweep_some q none k e = things_some (pair_in_sweeping q) k e
+
+  -- a pair in hand is noted as one
+  things_none : (word : ℕ) → IsPairRole (known.roles (block_in word)) → things_at known (Some word) ≡ [] → ⊥
+  things_none word pair e = by (known.roles (block_in word)) pair e
+    where
+      by : (r : Role) → IsPairRole r → thing_as r ≡ [] → ⊥
+      by (role.Pair n) is none = cc none
+      by (role.Table t len) is none = is
+      by role.Free is none = is
+      by (role.OwnPair j) is none = is
+      by (role.OwnTable turn shape) is none = is
+      by (role.Counter map) is none = is
+
+  pub sweep_noted : (q : Sweeping) → ((copier : Copier) → q ≡ sweeping.Copies copier → ⊥) → NotesOfSweep known q → (word : ℕ) → pair_in_sweeping q ≡ Some word → in_hand_of_sweep known q ≡ [] → ⊥
+  sweep_noted (sweeping.Copies copier) none notes word some e = none copier refl
+  sweep_noted q none notes word some e = things_none word (subst (NotesPair known) some notes) (ap (things_at known) (sym some) ∙ e)
 
 -- a row takes no pair out of its map
 pub row_takes : (caller map : ℕ) (known : Known) (effects : List Effect) (before after : Option Due) (k : ℕ) → RowTells caller map known effects before after → TakesPair effects k → ⊥
