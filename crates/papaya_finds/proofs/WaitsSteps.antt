@@ -24,7 +24,7 @@ use Rattle.papaya_settles.specs.Due.{OwnAreMade}
 use Rattle.papaya_settles.specs.Entries.{ShowsEntries}
 use Rattle.papaya_settles.specs.Hand.{in_hand, ShowsOwed}
 use Rattle.papaya_finds.specs.Waits.{waits_in, pair_in, IsHeldPast, ShowsWaits, CallsKeepWaits}
-use Rattle.papaya_finds.proofs.WaitsCalls.{its, follows, leaves}
+use Rattle.papaya_finds.proofs.WaitsCalls.{follows, leaves}
 use Rattle.papaya_runs.specs.Same.{is_same}
 use Rattle.papaya_raw.specs.Machine.{reserved as of_room, counted as of_sum}
 use Rattle.papaya_reserves.specs.Reserve.{reserve_plan}

@@ -21,3 +21,4 @@ pub mod Linking
 pub mod Rest
 pub mod Capacities
 pub mod Firsts
+pub mod Waits
