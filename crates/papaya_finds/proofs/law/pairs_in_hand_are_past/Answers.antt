@@ -1,8 +1,8 @@
 -- Pairs in hand are past the root, or wait by a table.
-use Rattle.papaya_finds.proofs.WaitsBetween.{waits_begin, waits_stay, calls_begin_waits, waits_go_on}
-use Rattle.papaya_finds.proofs.WaitsHanded.{past_is_handed, calls_hand_past}
-use Rattle.papaya_finds.proofs.WaitsHeld.{effects_leave_held}
-use Rattle.papaya_finds.proofs.WaitsSteps.{calls_keep_waits}
+use Rattle.papaya_finds.proofs.Waits.Between.{waits_begin, waits_stay, calls_begin_waits, waits_go_on}
+use Rattle.papaya_finds.proofs.Waits.Handed.{past_is_handed, calls_hand_past}
+use Rattle.papaya_finds.proofs.Waits.Held.{effects_leave_held}
+use Rattle.papaya_finds.proofs.Waits.Steps.{calls_keep_waits}
 use Rattle.papaya_finds.proofs.law.pairs_in_hand_are_past.Goals as goal
 
 pub returns : goal.returns

@@ -1,12 +1,10 @@
 -- Between the steps of calls, and as others take steps, each pair that a call has in hand lies as it lay.
-use Rattle.std.specs.Prelude.{◌≡◌, ℕ, Bool, cond, List, [], ◌∷◌, find, Some, None}
+use Rattle.std.specs.Prelude.{◌≡◌, false, cond, find, Some, None}
 use Rattle.std.proofs.Common.{ap, sym, subst, ◌∙◌, inl, inr}
 use Rattle.papaya_runs.specs.Same.{is_same}
 use Rattle.papaya_raw.specs.declared.machines.machine.Machine.{Machine}
-use Rattle.papaya_schedules.specs.declared.effect.Thing.{Thing}
-use Rattle.papaya_schedules.specs.declared.effect.Thing.TheVariants.{APair}
 use Rattle.papaya_schedules.specs.Beginning.{fresh_call, with_call}
-use Rattle.papaya_schedules.specs.Moment.{UnderWay as CallThere, Moment}
+use Rattle.papaya_schedules.specs.Moment.{UnderWay as CallThere}
 use Rattle.papaya_schedules.specs.Views.{call_of}
 use Rattle.papaya_callers.specs.Together.{UnderWay}
 use Rattle.papaya_finishes.specs.Machines.{machine_of}

@@ -9,7 +9,6 @@ use Rattle.papaya_raw.specs.declared.machines.progress.Progress.{Progress}
 use Rattle.papaya_schedules.specs.declared.effect.Effect.{Effect}
 use Rattle.papaya_schedules.specs.declared.effect.Effect.TheVariants as effect
 use Rattle.papaya_schedules.specs.declared.effect.Table.{Table}
-use Rattle.papaya_schedules.specs.declared.effect.Thing.{Thing}
 use Rattle.papaya_schedules.specs.declared.effect.Thing.TheVariants.{APair, ATable}
 use Rattle.papaya_schedules.specs.Effects.{call_by, with_effect}
 use Rattle.papaya_schedules.specs.Entry.{ByCall, acting}
@@ -27,12 +26,12 @@ use Rattle.papaya_executor.specs.Stepping.{StepLeads}
 use Rattle.papaya_executor.specs.declared.executor.Executor.{Executor}
 use Rattle.papaya_finishes.specs.Machines.{machine_of}
 use Rattle.papaya_follows.specs.Calls.{IsCalled}
-use Rattle.papaya_follows.proofs.Steps.{WentTo, went_to, OfNoRow}
+use Rattle.papaya_follows.proofs.Steps.{WentTo, went_to}
 use Rattle.papaya_moments.specs.Whole.{ShowsWhole}
 use Rattle.papaya_owes.proofs.Fields.{its_effect}
 use Rattle.papaya_settles.specs.Due.{Due, ToRetire, ToPut, RowTells, TellsNone, TellsRetired, TellsDeferred, told_retired, due_in_row, OwnAreMade}
 use Rattle.papaya_settles.specs.Entries.{ShowsEntries}
-use Rattle.papaya_settles.specs.Hand.{thing_as, in_hand, ShowsOwed}
+use Rattle.papaya_settles.specs.Hand.{thing_as, ShowsOwed}
 use Rattle.papaya_settles.specs.Owing.{hands_over}
 use Rattle.papaya_settles.proofs.DueCalls.{rows_tell_due}
 use Rattle.papaya_settles.proofs.Hand.All.{own_or_row}
@@ -40,7 +39,7 @@ use Rattle.papaya_settles.proofs.Takings.{steps_take_out}
 use Rattle.papaya_finds.specs.Rest.{FindsHanded, FindHanded}
 use Rattle.papaya_finds.specs.Waits.{waits_in, IsHeldPast, ShowsWaits, FindsPast, FindPast, FindsBehind, FindBehind, PastIsHanded, CallsHandPast}
 use Rattle.papaya_finds.proofs.Quiet.{neither}
-use Rattle.papaya_finds.proofs.WaitsDue.{word_of, DueHas, row_due}
+use Rattle.papaya_finds.proofs.Waits.Due.{word_of, DueHas, row_due}
 
 module _ {K V : Type 0} where
   -- the parts, by the kind of effect

@@ -26,7 +26,6 @@ use Rattle.papaya_raw.specs.declared.machines.call.KeyCall.{KeyCall}
 use Rattle.papaya_raw.specs.declared.machines.machine.Machine.{Machine}
 use Rattle.papaya_raw.specs.declared.machines.machine.Machine.TheVariants as kinds
 use Rattle.papaya_effects.specs.Known.{Known}
-use Rattle.papaya_effects.specs.declared.role.Role.{Role}
 use Rattle.papaya_effects.specs.declared.role.Role.TheVariants as role
 use Rattle.papaya_settles.specs.Due.{Due, ToRetire, ToPut, word_due, due_in_settle, due_in_defer, due_in_disposing, due_in_copying, due_in_calling, due_in_reserving, due_in_sweeping, due_in_row}
 use Rattle.papaya_settles.specs.Hand.{things_at, in_hand_of_call, in_hand_of_sweep, in_hand, IsTableRole, HoldsAt, IsTableAt, NotesTables, NotesOfCall, NotesOfRoom, NotesOfSweep, NotesInHand}

@@ -24,7 +24,7 @@ use Rattle.papaya_settles.specs.Due.{OwnAreMade}
 use Rattle.papaya_settles.specs.Entries.{ShowsEntries}
 use Rattle.papaya_settles.specs.Hand.{in_hand, ShowsOwed}
 use Rattle.papaya_finds.specs.Waits.{waits_in, pair_in, IsHeldPast, ShowsWaits, CallsKeepWaits}
-use Rattle.papaya_finds.proofs.WaitsCalls.{follows, leaves}
+use Rattle.papaya_finds.proofs.Waits.Calls.{follows, leaves}
 use Rattle.papaya_runs.specs.Same.{is_same}
 use Rattle.papaya_raw.specs.Machine.{reserved as of_room, counted as of_sum}
 use Rattle.papaya_reserves.specs.Reserve.{reserve_plan}
@@ -35,8 +35,8 @@ use Rattle.papaya_hands.proofs.Asking.{which}
 use Rattle.papaya_hands.proofs.Calling.{caller_is}
 use Rattle.papaya_settles.proofs.Calls.{goes_as_one}
 use Rattle.papaya_settles.proofs.Gains.{others_stay}
-use Rattle.papaya_finds.proofs.WaitsOnKeys.{held_then as key_held}
-use Rattle.papaya_finds.proofs.WaitsOnSweeps.{held_then as sweep_held}
+use Rattle.papaya_finds.proofs.Waits.OnKeys.{held_then as key_held}
+use Rattle.papaya_finds.proofs.Waits.OnSweeps.{held_then as sweep_held}
 
 module _ {K V S : Type 0} (same : K → K → Bool) (hash : K → ℕ) (name : ℕ → List ℕ) (m : Moment K V) (known : Known) (s : Scene K V) (old new : Executor K V S) (at_old : IsAt same hash old s)
     (whole : ShowsWhole same name m known s) (entries : ShowsEntries s) (owning : OwnAreMade known s.world) (owes : ShowsOwed name m known s) (waits : ShowsWaits name m s)

@@ -37,11 +37,11 @@ use Rattle.papaya_settles.specs.Hand.{in_hand, in_hand_of_sweep, ShowsOwed}
 use Rattle.papaya_settles.specs.InHand.{pair_in_sweeping, TakesPair}
 use Rattle.papaya_settles.proofs.Hand.All.{own_or_row, sweep_rests}
 use Rattle.papaya_finds.specs.Waits.{waits_in_sweeping, waits_in, pair_in, IsHeldPast, ShowsWaits}
-use Rattle.papaya_finds.proofs.WaitsFacts.{sweep_tries, sweep_reads}
-use Rattle.papaya_finds.proofs.WaitsOwes.{OwedBefore, OwedIt, OwedNone, OwedMore, sweep_one, sweep_some, sweep_noted}
-use Rattle.papaya_finds.proofs.WaitsSweeps.{SweepWaits, SweptNone, SweptAlike, SweptPast, SweptNew, step_hands as sweep_step}
-use Rattle.papaya_finds.proofs.WaitsTaken.{TookPair, took_pair}
-use Rattle.papaya_finds.proofs.WaitsCalls.{before, lay, lies_then, past_then, took_then, row_takes_none}
+use Rattle.papaya_finds.proofs.Waits.Facts.{sweep_tries, sweep_reads}
+use Rattle.papaya_finds.proofs.Waits.Owes.{OwedBefore, OwedIt, OwedNone, OwedMore, sweep_one, sweep_some, sweep_noted}
+use Rattle.papaya_finds.proofs.Waits.Sweeps.{SweepWaits, SweptNone, SweptAlike, SweptPast, SweptNew, step_hands as sweep_step}
+use Rattle.papaya_finds.proofs.Waits.Taken.{TookPair, took_pair}
+use Rattle.papaya_finds.proofs.Waits.Calls.{before, lay, lies_then, past_then, took_then, row_takes_none}
 use Rattle.papaya_late.specs.ToldSweeps.{IsRowOfSweep}
 use Rattle.papaya_callers.specs.Together.{Stands}
 use Rattle.papaya_sweeps.specs.declared.sweep.Sweeping.TheVariants as sweeping

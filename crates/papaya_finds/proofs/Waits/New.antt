@@ -36,7 +36,7 @@ use Rattle.papaya_follows.proofs.Finds.{first_is}
 use Rattle.papaya_follows.proofs.Operations.{Operated}
 use Rattle.papaya_histories.specs.Given.Spots.Spots.{ThePair, named_by, LiesAt, ShowsPlaces}
 use Rattle.papaya_finds.specs.Waits.{waits_in_disposing, waits_of, LiesFor}
-use Rattle.papaya_finds.proofs.WaitsTaken.{TookPair, is_map}
+use Rattle.papaya_finds.proofs.Waits.Taken.{TookPair, is_map}
 
 module _ {K V S : Type 0} (same : K → K → Bool) (hash : K → ℕ) (m : Moment K V) (known : Known) (s : Scene K V) (old new : Executor K V S) (at_old : IsAt same hash old s)
     (name : ℕ → List ℕ) (shown : Shows same name m known s) (lying : ShowsPlaces m known s.maps) (map i : ℕ) (standing : Standing K) (there : s.maps map ≡ Some standing)

@@ -65,7 +65,7 @@ use Rattle.papaya_points.specs.Told.{IsRowOfCall}
 use Rattle.papaya_others.proofs.Outcomes.{told_in}
 use Rattle.papaya_settles.specs.InHand.{pair_in_disposing, pair_in_calling}
 use Rattle.papaya_finds.specs.Waits.{waits_in_disposing, waits_of, waits_in_calling}
-use Rattle.papaya_finds.proofs.WaitsDispose.{Holding, WaitsGo, WaitsAlike, WaitsOver, WaitsPast, dispose_goes}
+use Rattle.papaya_finds.proofs.Waits.Dispose.{Holding, WaitsGo, WaitsAlike, WaitsOver, WaitsPast, dispose_goes}
 
 -- It has no pair in hand where it has come.
 module _ {K V : Type 0} where
