@@ -77,9 +77,9 @@ pair_in (kinds.Sweep c) = pair_in_sweeping c.stands
 pair_in _ = None
 
 module _ {K V : Type 0} where
-  -- it lies in the table with this turn, and was stored in an earlier one; or it is past the root
+  -- it lies in the table with this turn, and was stored in an earlier one, in a map that grows in chunks; or it is past the root
   abbrev pub LiesFor : ℕ → Moment K V → ℕ → Option ℕ → Type 0
-  LiesFor map m k (Some turn) = ((m.spot k).turn ≡ turn) × ((m.born k).turn < turn)
+  LiesFor map m k (Some turn) = ((m.spot k).turn ≡ turn) × ((m.born k).turn < turn) × (grows_in_chunks (map_at map m) ≡ true)
   LiesFor map m k None = IsPastRoot map m k
 
   abbrev pub IsHeldPast : ℕ → Moment K V → ℕ → Option ℕ → Type 0
@@ -91,9 +91,16 @@ module _ {K V : Type 0} where
       (map i : ℕ) (u : UnderWay K V K) → s.calls map i ≡ Some u → (word : ℕ) → pair_in (machine_of u) ≡ Some word
       → (c : CallThere K V) → call_of (name i) m ≡ Some c → (k : ℕ) → c.owes ≡ APair k ∷ [] → IsHeldPast map m k (waits_in (machine_of u))
 
-  -- pairs that have left their maps lie at the other moment where they lay, and no root has gone back
+  -- pairs that have left their maps lie at the other moment where they lay, and this map's root has not gone back
+  abbrev pub LeavesHeldOf : ℕ → Moment K V → Moment K V → Type 0
+  LeavesHeldOf map m v = (k : ℕ) (waits : Option ℕ) → IsHeldPast map m k waits → IsHeldPast map v k waits
+
   abbrev pub LeavesHeld : Moment K V → Moment K V → Type 0
-  LeavesHeld m v = (map k : ℕ) (waits : Option ℕ) → IsHeldPast map m k waits → IsHeldPast map v k waits
+  LeavesHeld m v = (map : ℕ) → LeavesHeldOf map m v
+
+  -- so it is of each map on which a call is under way
+  abbrev pub LeavesInHand : Scene K V → Moment K V → Moment K V → Type 0
+  LeavesInHand t m v = (map i : ℕ) (u : UnderWay K V K) → t.calls map i ≡ Some u → LeavesHeldOf map m v
 
   -- each call that has a pair in hand then had it before, as the same machine
   abbrev pub KeepsHands : (ℕ → List ℕ) → Moment K V → Scene K V → Moment K V → Scene K V → Type 0
@@ -101,19 +108,19 @@ module _ {K V : Type 0} where
       (map i : ℕ) (u : UnderWay K V K) → t.calls map i ≡ Some u → (word : ℕ) → pair_in (machine_of u) ≡ Some word → (d : CallThere K V) → call_of (name i) v ≡ Some d
       → (x : UnderWay K V K) × (s.calls map i ≡ Some x) × (machine_of x ≡ machine_of u) × (c : CallThere K V) × (call_of (name i) m ≡ Some c) × (c.owes ≡ d.owes)
 
-  -- a pair that is retired is past the root, and one that is put behind a table was copied past an older one
+  -- a pair that is retired is past the root; and one that is put behind a table, which is there, was copied past an older one, in a map that grows in chunks
   abbrev pub FindsPast : Moment K V → Effect → CallThere K V → Type 0
-  FindsPast m (Deferred n t) c = (m.born n).turn < (m.spot n).turn
+  FindsPast m (Deferred n t) c = ((m.born n).turn < (m.spot n).turn) × (is_stage is_there t m ≡ true) × (grows_in_chunks (map_at c.map m) ≡ true)
   FindsPast m (Retired (APair n)) c = IsPast (m.born n).turn (m.spot n).turn (first_of c.map m)
   FindsPast m _ c = Unit {0}
 
   abbrev pub FindPast : List ℕ → ℕ → List Effect → Moment K V → Type 0
   FindPast own map effects m = AtEachEffect (λ v f. ByCall (FindsPast v f) (acting (Some own) v)) (Some own) (Some map) effects m
 
-  -- What is left of one that is put behind a table: that comes just before the one in which the pair lies, is there, in a map that grows in chunks, and has room.
+  -- What is left of one that is put behind a table: that comes just before the one in which the pair lies, and has room.
   abbrev pub FindsBehind : Moment K V → Effect → CallThere K V → Type 0
   FindsBehind m (Deferred n t) c =
-      (t.map ≡ c.map) × ((m.spot n).turn ≡ t.turn + 1) × (is_stage is_there t m ≡ true) × (grows_in_chunks (map_at c.map m) ≡ true)
+      (t.map ≡ c.map) × ((m.spot n).turn ≡ t.turn + 1)
       × (length (behind t m.deferred) < sum_by (λ u. u.shape.len) (filter (λ u. nat_le u.table.turn t.turn) (tables_of c.map m)))
   FindsBehind m _ c = Unit {0}
 
@@ -125,10 +132,10 @@ module _ (K V : Type 0) where
   abbrev pub WaitsBegin : Type 0
   WaitsBegin = (name : ℕ → List ℕ) (roots : ℕ) → ShowsWaits {K = K} {V = V} name start (at_first roots)
 
-  -- where calls have in hand what they had, and pairs that have left their maps lie where they lay, it is so still, as where others take steps;
+  -- where calls have in hand what they had, and such pairs lie where they lay, it is so still, as where others take steps, or an event is over;
   abbrev pub WaitsStay : Type 0
   WaitsStay =
-      (name : ℕ → List ℕ) (m v : Moment K V) (s t : Scene K V) → ShowsWaits name m s → LeavesHeld m v → KeepsHands name m s v t → ShowsWaits name v t
+      (name : ℕ → List ℕ) (m v : Moment K V) (s t : Scene K V) → ShowsWaits name m s → LeavesInHand t m v → KeepsHands name m s v t → ShowsWaits name v t
 
   -- and such pairs do, after any effects, whoever makes them, that find the number of the pair that is stored next, copy what is in a map, and bring no root back.
   abbrev pub EffectsLeaveHeld : Type 0

@@ -139,8 +139,8 @@ pub fn calls_grow_for_values<K, V, S>()
 
 /// A pair that a call, on one key or a sweep, has taken out of its map and has in hand lies no further on than the root of the map; or it may have to wait, and lies in the table by which its disposal
 /// goes, copied there from an older one. So it is as a run begins; where a call begins, or goes on, that has no pair in hand; after each step of a call, whoever's; and as long as calls have in hand what they
-/// had, as after any effects that copy no pair which has left its map, and bring no root back. So a pair that a call retires is past the root, and one that it puts behind a table was copied past an older one.
-/// With where it may wait that is all that must be found where a pair is handed over.
+/// had, as after any effects that copy no pair which has left its map, and bring no root back. So a pair that a call retires is past the root; and one that it puts behind a table, which is there,
+/// was copied past an older one, in a map that grows in chunks. With that this table comes just before the pair's, and has room, that is all that must be found where a pair is handed over.
 pub fn pairs_in_hand_are_past<K, V, S>()
     ensures begins { WaitsBegin K V }
     ensures stays { WaitsStay K V }

@@ -20,7 +20,7 @@ waits_stay K V name m v s t waits leaves keeps map i u is word some d d_is k owe
     let was = keeps map i u is word some d d_is in
     let had : pair_in (machine_of was.0) ≡ Some word = ap (λ (z : Machine K V K). pair_in z) was.2 ∙ some in
     let held = waits map i was.0 was.1 word had was.3 was.4 k (was.5 ∙ owed) in
-    leaves map k (waits_in (machine_of u)) (subst (λ (z : Machine K V K). IsHeldPast map m k (waits_in z)) was.2 held)
+    leaves map i u is k (waits_in (machine_of u)) (subst (λ (z : Machine K V K). IsHeldPast map m k (waits_in z)) was.2 held)
 
 pub calls_begin_waits : (K V : Type 0) → CallsBeginWaits K V
 calls_begin_waits K V name m s waits of i u call guard apart none n j x is word some c c_is k owed = elim (which s.calls of i (Some u) n j x is) as (λ _. IsHeldPast n m k (waits_in (machine_of x))) [

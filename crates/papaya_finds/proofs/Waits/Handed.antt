@@ -14,7 +14,7 @@ use Rattle.papaya_schedules.specs.Effects.{call_by, with_effect}
 use Rattle.papaya_schedules.specs.Entry.{ByCall, acting}
 use Rattle.papaya_schedules.specs.Lives.{IsPast}
 use Rattle.papaya_schedules.specs.Moment.{UnderWay as CallThere, Moment}
-use Rattle.papaya_schedules.specs.Views.{call_of, first_of}
+use Rattle.papaya_schedules.specs.Views.{call_of, first_of, is_stage, is_there, map_at, grows_in_chunks}
 use Rattle.papaya_callers.specs.Together.{UnderWay}
 use Rattle.papaya_effects.specs.Effects.{carried, effects_of}
 use Rattle.papaya_effects.specs.Known.{Known}
@@ -44,7 +44,7 @@ use Rattle.papaya_finds.proofs.Waits.Due.{word_of, DueHas, row_due}
 module _ {K V : Type 0} where
   -- the parts, by the kind of effect
   by_kind : (m : Moment K V) (f : Effect) (c : CallThere K V) → FindsPast m f c → FindsBehind m f c → FindsHanded m f c
-  by_kind m (effect.Deferred n t) c past behind = (behind.0, behind.1, past, behind.2, behind.3, behind.4)
+  by_kind m (effect.Deferred n t) c past behind = (behind.0, behind.1, past.0, past.1, past.2, behind.2)
   by_kind m (effect.Retired (APair n)) c past behind = past
   by_kind m (effect.Retired (ATable t)) c past behind = tt
   by_kind m _ c past behind = tt
@@ -111,23 +111,23 @@ module _ {K V S : Type 0} (same : K → K → Bool) (hash : K → ℕ) (name : �
   retired word due (role.OwnTable turn shape) is = tt
   retired word due (role.Counter of) is = tt
 
-  deferred : (word : ℕ) (place : At) (t : Table) → due_in_row (machine_of u) ≡ Some (ToPut word place) → (r : Role) → known.roles (block_in word) ≡ r → Finds (carried t r)
-  deferred word place t due (role.Pair n) is =
+  deferred : (word : ℕ) (place : At) (t : Table) → is_stage is_there t m ≡ true → due_in_row (machine_of u) ≡ Some (ToPut word place) → (r : Role) → known.roles (block_in word) ≡ r → Finds (carried t r)
+  deferred word place t there due (role.Pair n) is =
       let has = row_due known (ToPut word place) n is (machine_of u) (owes.noted map i u here) due in
       let lies = (subst (IsHeldPast map m n) has.2.1 (held (ToPut word place) n is has)).1 in
       let turn = lies.0 in
       let stored = lies.1 in
-      one (effect.Deferred n t) (omega (arith, turn, stored))
-  deferred word place t due (role.Table u2 len) is = tt
-  deferred word place t due role.Free is = tt
-  deferred word place t due (role.OwnPair j) is = tt
-  deferred word place t due (role.OwnTable turn shape) is = tt
-  deferred word place t due (role.Counter of) is = tt
+      one (effect.Deferred n t) (omega (arith, turn, stored), there, subst (λ (x : ℕ). grows_in_chunks (map_at x m) ≡ true) (sym its.2) lies.2)
+  deferred word place t there due (role.Table u2 len) is = tt
+  deferred word place t there due role.Free is = tt
+  deferred word place t there due (role.OwnPair j) is = tt
+  deferred word place t there due (role.OwnTable turn shape) is = tt
+  deferred word place t there due (role.Counter of) is = tt
 
   row_past : RowTells i map known effects (due_in_row (machine_of u)) (due_in_row to.1) → Finds effects
   row_past (TellsNone none same) = subst Finds (sym none) tt
   row_past (TellsRetired word was gone are) = subst Finds (sym are) (retired word was (known.roles (block_in word)) refl)
-  row_past (TellsDeferred word block place t len was its_word gone table are) = subst Finds (sym are) (deferred word place t was (known.roles (block_in word)) refl)
+  row_past (TellsDeferred word block place t len was its_word gone table are) = subst Finds (sym are) (deferred word place t (whole.blocks.tables block len t table) was (known.roles (block_in word)) refl)
 
   pub hands_past : Finds effects
   hands_past = elim (own_or_row same hash name m known s old new at_old whole.all.shown map i u here said leads u to.4.did) as (λ _. Finds effects) [

@@ -9,7 +9,7 @@ use Rattle.papaya_schedules.specs.declared.effect.Table.{Table}
 use Rattle.papaya_schedules.specs.Effects.{with_effect, with_effects, AtEachEffect}
 use Rattle.papaya_schedules.specs.Lives.{IsPast}
 use Rattle.papaya_schedules.specs.Moment.{Behind, Out, Moment}
-use Rattle.papaya_schedules.specs.Views.{is_in_a_map, first_of}
+use Rattle.papaya_schedules.specs.Views.{is_in_a_map, first_of, map_at, grows_in_chunks}
 use Rattle.papaya_follows.specs.Finds.{FindsMap}
 use Rattle.papaya_follows.proofs.Alike.{put_here, put_elsewhere}
 use Rattle.papaya_histories.specs.Given.Spots.Deferred.{FindsNumbers}
@@ -18,22 +18,25 @@ use Rattle.papaya_histories.proofs.Given.Spots.Elsewhere.{stored_grows}
 use Rattle.papaya_settles.specs.InHand.{TakesPair}
 use Rattle.papaya_finds.specs.Past.{HasLeftMaps, FindsOnward}
 use Rattle.papaya_finds.specs.Waits.{LiesFor, IsHeldPast, LeavesHeld, EffectsLeaveHeld}
+use Rattle.papaya_finds.proofs.Capacities.{effect_leaves}
 use Rattle.papaya_finds.proofs.Past.{past_on, kept, goes_on, left_still}
 
 module _ {K V : Type 0} (map : ℕ) (m v : Moment K V) (k : ℕ) where
   -- a pair that was stored, and lies, where it did, before a root that has not gone back
-  pub lies_same : (waits : Option ℕ) → v.born k ≡ m.born k → v.spot k ≡ m.spot k → first_of map m ≤ first_of map v → LiesFor map m k waits → LiesFor map v k waits
-  lies_same None born spot later lies =
+  pub lies_same : (waits : Option ℕ) → v.born k ≡ m.born k → v.spot k ≡ m.spot k → first_of map m ≤ first_of map v → grows_in_chunks (map_at map v) ≡ grows_in_chunks (map_at map m)
+      → LiesFor map m k waits → LiesFor map v k waits
+  lies_same None born spot later chunks lies =
       subst (λ (s : Spot). IsPast (v.born k).turn s.turn (first_of map v)) (sym spot)
       (subst (λ (b : Table). IsPast b.turn (m.spot k).turn (first_of map v)) (sym born) (past_on (m.born k).turn (m.spot k).turn (first_of map m) (first_of map v) later lies))
-  lies_same (Some turn) born spot later lies = (ap (λ (s : Spot). s.turn) spot ∙ lies.0, subst (λ (b : Table). b.turn < turn) (sym born) lies.1)
+  lies_same (Some turn) born spot later chunks lies = (ap (λ (s : Spot). s.turn) spot ∙ lies.0, subst (λ (b : Table). b.turn < turn) (sym born) lies.1, chunks ∙ lies.2)
 
 module _ {K V : Type 0} (who : Option (List ℕ)) (acted : Option ℕ) where
   -- by one effect
   one_held : (f : Effect) (m : Moment K V) → FindsNumbers m f → FindsOnward acted m f → (map k : ℕ) (waits : Option ℕ) → IsHeldPast map m k waits → IsHeldPast map (with_effect who acted f m) k waits
   one_held f m finds on map k waits held =
       let same = kept who acted f m finds on k held.0 in
-      (left_still who acted f m finds k held.0, lies_same map m (with_effect who acted f m) k waits same.0 same.1 (goes_on who acted f m on map) held.1)
+      (left_still who acted f m finds k held.0, lies_same map m (with_effect who acted f m) k waits same.0 same.1 (goes_on who acted f m on map)
+      (effect_leaves grows_in_chunks (λ g n. refl) who acted f m map) held.1)
 
 pub effects_leave_held : (K V : Type 0) → EffectsLeaveHeld K V
 effects_leave_held K V who acted [] m finds on map k waits held = held
@@ -51,7 +54,7 @@ module _ {K V : Type 0} (own : List ℕ) (acts_on : ℕ) where
   -- an effect that stores and copies none, and leaves the root, leaves spots
   aside_held : (f : Effect) (m : Moment K V) (map k : ℕ) (waits : Option ℕ) → HasLeftMaps (Then f m) k → (Then f m).born k ≡ m.born k → (Then f m).spot k ≡ m.spot k
       → first_of map m ≤ first_of map (Then f m) → LiesFor map m k waits → IsHeldPast map (Then f m) k waits
-  aside_held f m map k waits left born spot later lies = (left, lies_same map m (Then f m) k waits born spot later lies)
+  aside_held f m map k waits left born spot later lies = (left, lies_same map m (Then f m) k waits born spot later (effect_leaves grows_in_chunks (λ g n. refl) (Some own) (Some acts_on) f m map) lies)
 
   put_behind : (n : ℕ) (t : Table) (m : Moment K V) (map k : ℕ) (waits : Option ℕ) → IsHeldPast map m k waits → IsHeldPast map (Then (Deferred n t) m) k waits
   put_behind n t m map k waits held =

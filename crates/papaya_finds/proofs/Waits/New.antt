@@ -17,7 +17,7 @@ use Rattle.papaya_resize.specs.declared.dispose.Dispose.{Dispose}
 use Rattle.papaya_resize.specs.declared.dispose.Disposing.TheVariants as at
 use Rattle.papaya_schedules.specs.declared.effect.Spot.{Spot}
 use Rattle.papaya_schedules.specs.Moment.{Moment}
-use Rattle.papaya_schedules.specs.Views.{first_of}
+use Rattle.papaya_schedules.specs.Views.{first_of, map_at, grows_in_chunks}
 use Rattle.papaya_teller.specs.declared.changed.Changed.{Changed}
 use Rattle.papaya_teller.specs.declared.changed.Changed.TheVariants as changed
 use Rattle.papaya_histories.specs.Given.Tells.Tells.{place_at}
@@ -32,7 +32,7 @@ use Rattle.papaya_executor.specs.IsAt.{Scene, IsAt, slot_of}
 use Rattle.papaya_executor.specs.declared.executor.Executor.{Executor}
 use Rattle.papaya_finishes.specs.Maps.{Standing}
 use Rattle.papaya_follows.specs.Shows.{Shows}
-use Rattle.papaya_follows.proofs.Finds.{first_is}
+use Rattle.papaya_follows.proofs.Finds.{first_is, chunks_are}
 use Rattle.papaya_follows.proofs.Operations.{Operated}
 use Rattle.papaya_histories.specs.Given.Spots.Spots.{ThePair, named_by, LiesAt, ShowsPlaces}
 use Rattle.papaya_finds.specs.Waits.{waits_in_disposing, waits_of, LiesFor}
@@ -59,6 +59,9 @@ module _ {K V S : Type 0} (same : K → K → Bool) (hash : K → ℕ) (m : Mome
 
   root_is : first_of map m ≡ c.first
   root_is = first_is map (shown.number map) standing m known (shown.maps map standing there)
+
+  chunks : grows_in_chunks (map_at map m) ≡ is_incremental standing.setting.mode
+  chunks = chunks_are map (shown.number map) standing m known (shown.maps map standing there)
 
   -- of a call that has written this word of its table's
   module _ (table : Table) (u : ℕ) (is_table : IsTable c seen table u) (own : Setting) (own_mode : own.mode ≡ standing.setting.mode) (field word new_word : ℕ)
@@ -97,16 +100,16 @@ module _ {K V S : Type 0} (same : K → K → Bool) (hash : K → ℕ) (m : Mome
     past_so true e here = subst (λ (x : Bool). MatchBool x (lies ≤ first_of map m) (Unit {0})) (sym e) (here refl)
     past_so false e here = subst (λ (x : Bool). MatchBool x (lies ≤ first_of map m) (Unit {0})) (sym e) tt
 
-    starts : (mode : ResizeMode) → LiesAt c (is_incremental mode) took.n (m.spot k) born → LiesFor map m k (waits_in_disposing its (start_of own mode word))
-    starts (Incremental chunk) at_place = by (has_mark word BORROWED) refl
+    starts : (mode : ResizeMode) → is_incremental mode ≡ is_incremental standing.setting.mode → LiesAt c (is_incremental mode) took.n (m.spot k) born → LiesFor map m k (waits_in_disposing its (start_of own mode word))
+    starts (Incremental chunk) mode_is at_place = by (has_mark word BORROWED) refl
       where
         is_borrowed : (b : Bool) → has_mark word BORROWED ≡ b → nat_lt born lies ≡ b
         is_borrowed b e = sym (borrowed_as (nat_lt born lies) at_place.1) ∙ sym mark_is ∙ e
 
         by : (b : Bool) → has_mark word BORROWED ≡ b → LiesFor map m k (waits_in_disposing its (if b then at.Reads else retires own (link_in word)))
-        by true e = (lies_in, (let l = ltb-true born lies (is_borrowed true e) in let own_turn = lies_in in omega (arith, l, own_turn)))
+        by true e = (lies_in, (let l = ltb-true born lies (is_borrowed true e) in let own_turn = lies_in in omega (arith, l, own_turn)), chunks ∙ sym mode_is)
         by false e = past_so false (is_borrowed false e) (λ no. absurd (cc no))
-    starts Blocking at_place = past_so (nat_lt born lies) refl (λ e. (let turn = at_place.0 in let root = root_is in omega (arith, turn, root)))
+    starts Blocking mode_is at_place = past_so (nat_lt born lies) refl (λ e. (let turn = at_place.0 in let root = root_is in omega (arith, turn, root)))
 
     pub new_lies : LiesFor map m k (waits_of (disposing own word table))
-    new_lies = starts own.mode (subst (λ (mode : ResizeMode). LiesAt c (is_incremental mode) took.n (m.spot k) born) (sym own_mode) took.lies)
+    new_lies = starts own.mode (ap is_incremental own_mode) (subst (λ (mode : ResizeMode). LiesAt c (is_incremental mode) took.n (m.spot k) born) (sym own_mode) took.lies)
