@@ -35,11 +35,12 @@ use Rattle.papaya_executor.specs.Stepping.{StepLeads, scene_after}
 use Rattle.papaya_executor.specs.declared.executor.Executor.{Executor}
 use Rattle.papaya_finishes.specs.Machines.{machine_of}
 use Rattle.papaya_follows.specs.Calling.{NoneNamed}
+use Rattle.papaya_follows.specs.Calls.{ShowsCalls}
 use Rattle.papaya_histories.specs.Given.Spots.Deferred.{FindsNumbers}
 use Rattle.papaya_moments.specs.Whole.{ShowsWhole}
 use Rattle.papaya_settles.specs.Due.{OwnAreMade}
 use Rattle.papaya_settles.specs.Entries.{ShowsEntries}
-use Rattle.papaya_settles.specs.Hand.{ShowsOwed}
+use Rattle.papaya_settles.specs.Hand.{SameInHand, ShowsOwed}
 use Rattle.papaya_settles.specs.InHand.{pair_in_calling, pair_in_sweeping}
 use Rattle.papaya_finds.specs.Past.{HasLeftMaps, IsPastRoot, FindsOnward}
 use Rattle.papaya_finds.specs.Rest.{FindHanded}
@@ -136,6 +137,16 @@ module _ (K V : Type 0) where
   abbrev pub WaitsStay : Type 0
   WaitsStay =
       (name : ℕ → List ℕ) (m v : Moment K V) (s t : Scene K V) → ShowsWaits name m s → LeavesInHand t m v → KeepsHands name m s v t → ShowsWaits name v t
+
+  -- so where each call owes what it has in hand, before and after, which is noted as it was, each that has a pair in hand then was there before, as the same machine:
+  -- where one is told a reply, comes to an outcome, or is given up, and where others than calls take steps;
+  abbrev pub WaitsFollowOwed : Type 0
+  WaitsFollowOwed =
+      (same : K → K → Bool) (name : ℕ → List ℕ) (m v : Moment K V) (known known2 : Known) (s t : Scene K V) → ShowsCalls same name m s.calls → ShowsOwed name m known s → ShowsOwed name v known2 t
+      → ShowsWaits name m s → LeavesInHand t m v
+      → ((map i : ℕ) (u : UnderWay K V K) → t.calls map i ≡ Some u → (word : ℕ) → pair_in (machine_of u) ≡ Some word
+      → (x : UnderWay K V K) × (s.calls map i ≡ Some x) × (machine_of x ≡ machine_of u) × SameInHand known known2 (machine_of x))
+      → ShowsWaits name v t
 
   -- and such pairs do, after any effects, whoever makes them, that find the number of the pair that is stored next, copy what is in a map, and bring no root back.
   abbrev pub EffectsLeaveHeld : Type 0

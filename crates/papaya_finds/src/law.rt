@@ -6,7 +6,7 @@ ghost use Rattle.papaya_finds.specs.Firsts.{OpeningsBegin, OpeningsStay, Makings
 ghost use Rattle.papaya_finds.specs.Doing.{SeveralDoTheirs, EventsMayDo};
 ghost use Rattle.papaya_finds.specs.Past.{EffectsLeavePast, CallsFindOnward};
 ghost use Rattle.papaya_finds.specs.Quiet.{FoundLeaveNothing, OthersOweNothing, SeveralStoreOne, ValuedMayAsk};
-ghost use Rattle.papaya_finds.specs.Waits.{WaitsBegin, WaitsStay, EffectsLeaveHeld, CallsBeginWaits, WaitsGoOn, PastIsHanded, CallsKeepWaits, CallsHandPast};
+ghost use Rattle.papaya_finds.specs.Waits.{WaitsBegin, WaitsStay, WaitsFollowOwed, EffectsLeaveHeld, CallsBeginWaits, WaitsGoOn, PastIsHanded, CallsKeepWaits, CallsHandPast};
 ghost use Rattle.papaya_finds.specs.Rest.{RestIsAll, OthersHandNone};
 ghost use Rattle.papaya_finds.specs.Steps.{StepsDoTheirs, StepsFindPlaces, StepsStoreOne, StepsFindParts};
 ghost use Rattle.papaya_finds.specs.Bounded.{LittleWaits, NothingRetiredOnceReclaimed};
@@ -144,6 +144,7 @@ pub fn calls_grow_for_values<K, V, S>()
 pub fn pairs_in_hand_are_past<K, V, S>()
     ensures begins { WaitsBegin K V }
     ensures stays { WaitsStay K V }
+    ensures owed { WaitsFollowOwed K V }
     ensures effects { EffectsLeaveHeld K V }
     ensures begun { CallsBeginWaits K V }
     ensures goes_on { WaitsGoOn K V }

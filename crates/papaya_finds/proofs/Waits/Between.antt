@@ -10,7 +10,9 @@ use Rattle.papaya_callers.specs.Together.{UnderWay}
 use Rattle.papaya_finishes.specs.Machines.{machine_of}
 use Rattle.papaya_follows.proofs.Steps.{one_of}
 use Rattle.papaya_hands.proofs.Asking.{which}
-use Rattle.papaya_finds.specs.Waits.{waits_in, pair_in, IsHeldPast, WaitsBegin, WaitsStay, CallsBeginWaits, WaitsGoOn}
+use Rattle.papaya_settles.specs.Hand.{in_hand}
+use Rattle.papaya_settles.proofs.Hand.Roles.{hand_same}
+use Rattle.papaya_finds.specs.Waits.{waits_in, pair_in, IsHeldPast, KeepsHands, WaitsBegin, WaitsStay, WaitsFollowOwed, CallsBeginWaits, WaitsGoOn}
 
 pub waits_begin : (K V : Type 0) → WaitsBegin K V
 waits_begin K V name roots map i u is = absurd (cc is)
@@ -40,3 +42,13 @@ waits_go_on K V name m s waits of i next none n j x is word some c c_is k owed =
   | inl it ↦ absurd (let one : next ≡ x = one_of next x it.2 in let nothing : pair_in (machine_of x) ≡ None = ap (λ (z : UnderWay K V K). pair_in (machine_of z)) (sym one) ∙ none in cc (nothing, some))
   | inr was ↦ waits n j x was.1 word some c c_is k owed
 ]
+
+-- what a call owes is what it has in hand, before and after
+pub waits_follow_owed : (K V : Type 0) → WaitsFollowOwed K V
+waits_follow_owed K V same name m v known known2 s t calls owes owes2 waits leaves keeps = waits_stay K V name m v s t waits leaves kept
+  where
+    kept : KeepsHands name m s v t
+    kept map i u is word some d d_is =
+        let was = keeps map i u is word some in
+        let c = calls map i was.0 was.1 in
+        (was.0, was.1, was.2, c.0, c.1, owes.owed map i was.0 was.1 c.0 c.1 ∙ sym (hand_same known known2 (machine_of was.0) was.3) ∙ ap (in_hand known2) was.2 ∙ sym (owes2.owed map i u is d d_is))

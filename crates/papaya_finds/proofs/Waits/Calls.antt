@@ -25,7 +25,7 @@ use Rattle.papaya_rule.specs.Maps.{IsTable}
 use Rattle.papaya_rule.specs.Words.{Blocks}
 use Rattle.papaya_points.specs.FactsDisposes.{DisposeFacts}
 use Rattle.papaya_callers.specs.Sights.{seen_by}
-use Rattle.papaya_callers.specs.Together.{UnderWay, in_slot, Together}
+use Rattle.papaya_callers.specs.Together.{UnderWay, in_slot}
 use Rattle.papaya_effects.specs.Effects.{effects_of}
 use Rattle.papaya_effects.specs.Known.{Known}
 use Rattle.papaya_effects.specs.declared.acting.Acting.TheVariants as acts
@@ -75,34 +75,31 @@ module _ {K V S : Type 0} (same : K → K → Bool) (hash : K → ℕ) (name : �
   abbrev shown : Shows same name m known s
   shown = whole.all.shown
 
-  abbrev pub to : WentTo same hash name m known s old new at_old shown map i u here said leads
+  abbrev to : WentTo same hash name m known s old new at_old shown map i u here said leads
   to = went_to same hash name m known s old new at_old shown map i u here said leads
 
-  abbrev pub st : Standing K
+  abbrev st : Standing K
   st = to.0
 
-  abbrev pub told : Changed
+  abbrev told : Changed
   told = new.memory.changed
 
-  abbrev pub effects : List Effect
+  abbrev effects : List Effect
   effects = effects_of (acts.Call i map) known told
 
-  abbrev pub v : Moment K V
+  abbrev v : Moment K V
   v = with_effects (Some (name i)) (Some map) effects m
 
-  abbrev pub seen : Blocks
+  abbrev seen : Blocks
   seen = seen_by st.blocks (st.sights (slot_of i))
-
-  abbrev pub together : Together V same st.hash same st.setting slot_of s.world st.chart st.blocks st.sights (s.calls map)
-  together = at_old.together.makings.standing.each map st to.2
 
   goes : HandGoes K V S same hash m known s old new map i u said here leads
   goes = calls_go_in_hand K V S same hash name m known s old new at_old shown whole.all.rows entries owning map i u here said leads (owes.noted map i u here)
 
-  pub its : (c : CallThere K V) × (call_of (name i) m ≡ Some c) × (c.map ≡ map) × IsCalled same u c.call
+  its : (c : CallThere K V) × (call_of (name i) m ≡ Some c) × (c.map ≡ map) × IsCalled same u c.call
   its = shown.calls map i u here
 
-  pub its_owes : its.0.owes ≡ in_hand known (machine_of u)
+  its_owes : its.0.owes ≡ in_hand known (machine_of u)
   its_owes = owes.owed map i u here its.0 its.1
 
   -- it owes what it has in hand then
@@ -110,13 +107,13 @@ module _ {K V S : Type 0} (same : K → K → Bool) (hash : K → ℕ) (name : �
   follows =
       let it = owes_follow K V (name i) map effects m its.0 its.1 (in_hand known to.1) (subst (λ (l : List Thing). OwesGo m effects l (in_hand known to.1)) (sym its_owes) goes.0) in (it.1, it.2, it.3)
 
-  pub finds : AtEachEffect (FindsMap map) (Some (name i)) (Some map) effects m
+  finds : AtEachEffect (FindsMap map) (Some (name i)) (Some map) effects m
   finds = (steps_find_places K V S same hash name m known s old new at_old whole map i u here said leads).0
 
   places : FindPlacesOf (name i) map effects m
   places = (steps_find_places K V S same hash name m known s old new at_old whole map i u here said leads).1
 
-  pub onward : AtEachEffect (FindsOnward (Some map)) (Some (name i)) (Some map) effects m
+  onward : AtEachEffect (FindsOnward (Some map)) (Some (name i)) (Some map) effects m
   onward = calls_find_onward K V (name i) map effects m its.0 its.1 finds places
 
   pub leaves : LeavesHeld m v
@@ -135,10 +132,10 @@ module _ {K V S : Type 0} (same : K → K → Bool) (hash : K → ℕ) (name : �
   first_now : first_of map m ≡ st.chart.first
   first_now = first_is map (shown.number map) st m known (shown.maps map st to.2)
 
-  made_it : Operated s.world.memory new.memory.memory new.memory.changed
+  abbrev made_it : Operated s.world.memory new.memory.memory new.memory.changed
   made_it = made_so same hash name m known s old new at_old shown map i u here said leads
 
-  inside_it : IsInside (s.world.uses (slot_of i))
+  abbrev inside_it : IsInside (s.world.uses (slot_of i))
   inside_it = is_inside same hash name m known s old new at_old shown map i u here said leads
 
   -- a root that is none before its table is past where it lies
