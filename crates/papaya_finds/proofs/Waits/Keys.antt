@@ -220,8 +220,8 @@ module _ {K V : Type 0} where
 
       gives_none : (word : ℕ) (out : Out (Node K V)) → Always NoneSo (given_up p word out)
       gives_none word (Taken (nodes.Pair key value)) = refl
-      gives_none word (Taken (nodes.Table len limit turn)) = stays
-      gives_none word (Taken nodes.Shards) = stays
+      gives_none word (Taken (nodes.Table len limit turn)) = refl
+      gives_none word (Taken nodes.Shards) = refl
       gives_none word _ = stays
 
       dropped_none : (end : End) (out : Out (Node K V)) → Always NoneSo (dropped p end out)
