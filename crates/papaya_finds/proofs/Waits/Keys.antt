@@ -262,7 +262,7 @@ module _ {K V : Type 0} where
 
   fill_none : (q : KeyCall K V K) → NoneSo (q, called.Goes) → (value : Option V) (word : ℕ) (key : K) → AlwaysOf NoneSo (fill_by value q word key)
   fill_none q stays (Some value) word key = puts_none (record q { replies = record q.replies { key = None } }) stays (q.own == 0) word key value
-  fill_none q stays None word key = stays
+  fill_none q stays None word key = refl
 
   fills_none : (p : KeyCall K V K) (word : ℕ) → NoneSo (p, called.Goes) → (key : Option K) → AlwaysOf NoneSo (fills_with key p word)
   fills_none p word stays (Some key) = fill_none (record p { replies = as_own p.replies word }) stays (value_for p.replies word) word key
