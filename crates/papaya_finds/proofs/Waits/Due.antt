@@ -42,7 +42,7 @@ WaitsBy (ToRetire word) waits = waits ≡ None
 WaitsBy (ToPut word place) waits = (turn : ℕ) × (waits ≡ Some turn)
 
 -- a row of either kind hands over in its way
-never_put : (c : Settle) (p : Settling) (word : ℕ) (place : At) → due_in_settle c p ≡ Some (ToPut word place) → ⊥
+pub never_put : (c : Settle) (p : Settling) (word : ℕ) (place : At) → due_in_settle c p ≡ Some (ToPut word place) → ⊥
 never_put c settling.Sees word place e = cc e
 never_put c settling.Holds word place e = cc e
 never_put c settling.Pops word place e = cc e
@@ -54,7 +54,7 @@ never_retired : (c : Defer) (p : Deferring) (word : ℕ) → due_in_defer c p �
 never_retired c deferring.Over word e = cc e
 never_retired c _ word e = cc e
 
-dispose_due : (d : Dispose) (q : Disposing) (due : Due) → due_in_disposing q ≡ Some due → (pair_in_disposing d q ≡ Some (word_of due)) × WaitsBy due (waits_in_disposing d q)
+pub dispose_due : (d : Dispose) (q : Disposing) (due : Due) → due_in_disposing q ≡ Some due → (pair_in_disposing d q ≡ Some (word_of due)) × WaitsBy due (waits_in_disposing d q)
 dispose_due d (disposing.Settles settle) (ToRetire word) e = (ap word_due e, refl)
 dispose_due d (disposing.Settles settle) (ToPut word place) e = absurd (never_put settle settle.stands word place e)
 dispose_due d (disposing.Defers defer) (ToRetire word) e = absurd (never_retired defer defer.stands word e)
