@@ -17,6 +17,8 @@ use Rattle.papaya_resize.specs.declared.copier.Copying.TheVariants as copying
 use Rattle.papaya_resize.specs.declared.dispose.Dispose.{Dispose}
 use Rattle.papaya_resize.specs.declared.dispose.Disposing.{Disposing}
 use Rattle.papaya_resize.specs.declared.dispose.Disposing.TheVariants as disposing
+use Rattle.papaya_reserves.specs.declared.reserve.Reserving.{Reserving}
+use Rattle.papaya_reserves.specs.declared.reserve.Reserving.TheVariants as reserving
 use Rattle.papaya_sweeps.specs.declared.sweep.Sweep.{Sweep}
 use Rattle.papaya_sweeps.specs.declared.sweep.Sweeping.{Sweeping}
 use Rattle.papaya_sweeps.specs.declared.sweep.Sweeping.TheVariants as sweeping
@@ -32,7 +34,7 @@ use Rattle.papaya_late.specs.LateCalls.{LateCalling}
 use Rattle.papaya_callers.specs.OverAll.{CallOverAll, row_of_sweep}
 use Rattle.papaya_callers.specs.Rows.{row_of_disposal, row_of}
 use Rattle.papaya_callers.specs.Together.{CallOnKey, OnKey, OverAll, Stands, in_slot}
-use Rattle.papaya_settles.specs.Due.{ToPut, due_in_defer, due_in_disposing, due_in_copying, due_in_calling, due_in_sweeping}
+use Rattle.papaya_settles.specs.Due.{ToPut, due_in_defer, due_in_disposing, due_in_copying, due_in_calling, due_in_reserving, due_in_sweeping}
 use Rattle.papaya_settles.specs.InHand.{pair_in_calling, pair_in_sweeping}
 use Rattle.papaya_finds.specs.Waits.{waits_in_disposing, waits_in_calling, waits_in_sweeping}
 use Rattle.papaya_finds.proofs.Waits.Due.{never_put, dispose_due}
@@ -61,6 +63,10 @@ module _ (word : ℕ) (place : At) where
   copy_never (copying.Retires settle rest) e = never_put settle settle.stands word place e
   copy_never _ e = cc e
 
+  pub room_never : (q : Reserving) → due_in_reserving q ≡ Some (ToPut word place) → ⊥
+  room_never (reserving.Copies copier) e = copy_never copier.stands e
+  room_never _ e = cc e
+
   -- the pair in hand is that, and has a table to go by
   module _ {K V Q : Type 0} where
     pub call_put : (p : KeyCall K V Q) (q : Calling) → p.stands ≡ q → due_in_calling q ≡ Some (ToPut word place)
@@ -87,7 +93,8 @@ module _ (word : ℕ) (place : At) where
         let its_word : ◌≡◌ {A = At} (Word (blocks.table p.2) DEFERRED) place = sym (ap (λ (x : Defer). x.table_word) p.5) ∙ put_place defer defer.stands e in
         let made = f.table.made in
         let next = p.3 in
-        (p.2, omega (arith, made, next), p.4, subst (IsWordOf (blocks.table p.2)) its_word refl, ap Some (omega (arith, turn, next)))
+        let by_one : d.table.turn ≡ p.2 + 1 = omega (arith, turn, next) in
+        (p.2, omega (arith, made, next), p.4, subst (IsWordOf (blocks.table p.2)) its_word refl, ap Some by_one)
     dispose_behind caller setting d f (disposing.Settles settle) is e = absurd (never_put settle settle.stands word place e)
     dispose_behind caller setting d f disposing.Reads is e = absurd (cc e)
     dispose_behind caller setting d f (disposing.Walks table) is e = absurd (cc e)
