@@ -14,3 +14,6 @@ pub mod Steps
 pub mod Due
 pub mod Handed
 pub mod Between
+pub mod Behind
+pub mod Puts
+pub mod Next

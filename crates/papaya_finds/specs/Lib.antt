@@ -22,3 +22,4 @@ pub mod Rest
 pub mod Capacities
 pub mod Firsts
 pub mod Waits
+pub mod Puts

@@ -5,7 +5,7 @@ use Rattle.seize.specs.Further.{IsWordOf}
 use Rattle.papaya_tables.specs.declared.node.Node.{Node}
 use Rattle.papaya_raw.specs.declared.machines.progress.Progress.{Progress}
 use Rattle.papaya_callers.specs.Together.{UnderWay}
-use Rattle.papaya_effects.specs.Effects.{known_after}
+use Rattle.papaya_effects.specs.Effects.{effects_of, known_after}
 use Rattle.papaya_effects.specs.Known.{Known, nothing_known}
 use Rattle.papaya_effects.specs.declared.acting.Acting.TheVariants as acts
 use Rattle.papaya_effects.specs.declared.role.Role.TheVariants as role
@@ -17,7 +17,8 @@ use Rattle.papaya_moments.specs.Whole.{ShowsWhole}
 use Rattle.papaya_schedules.specs.Moment.{Moment}
 use Rattle.papaya_settles.specs.Due.{ToPut, due_in_row, OwnAreMade}
 use Rattle.papaya_settles.specs.Entries.{ShowsEntries}
-use Rattle.papaya_finds.specs.Waits.{waits_in}
+use Rattle.papaya_settles.specs.Hand.{ShowsOwed}
+use Rattle.papaya_finds.specs.Waits.{waits_in, ShowsWaits, FindBehind}
 
 -- the place is in the block that is noted as the table of the map with the turn before this one
 abbrev pub IsBehindNext : Known → ℕ → At → Option ℕ → Type 0
@@ -51,3 +52,11 @@ module _ (K V S : Type 0) (same : K → K → Bool) (hash : K → ℕ) where
       → (map i : ℕ) (u : UnderWay K V K) (here : s.calls map i ≡ Some u) (said : Progress (Node K V)) (leads : StepLeads same hash i said s old new)
       → (let to = leads map u here in
       ShowsPuts (known_after (acts.Call i map) new.memory.changed known) (scene_after same hash s old new map i to.0 u to.1 said to.4))
+
+  -- So a pair that it puts behind a table is put behind that of the map just before its own.
+  abbrev pub CallsPutBehind : Type 0
+  CallsPutBehind =
+      (name : ℕ → List ℕ) (m : Moment K V) (known : Known) (s : Scene K V) (old new : Executor K V S)
+      → IsAt same hash old s → ShowsWhole same name m known s → ShowsEntries s → OwnAreMade known s.world → ShowsOwed name m known s → ShowsWaits name m s → ShowsPuts known s
+      → (map i : ℕ) (u : UnderWay K V K) (here : s.calls map i ≡ Some u) (said : Progress (Node K V)) (leads : StepLeads same hash i said s old new)
+      → FindBehind (name i) map (effects_of (acts.Call i map) known new.memory.changed) m

@@ -118,15 +118,22 @@ module _ {K V : Type 0} where
   abbrev pub FindPast : List ℕ → ℕ → List Effect → Moment K V → Type 0
   FindPast own map effects m = AtEachEffect (λ v f. ByCall (FindsPast v f) (acting (Some own) v)) (Some own) (Some map) effects m
 
-  -- What is left of one that is put behind a table: that comes just before the one in which the pair lies, and has room.
+  -- The table behind which a pair is put is that of the map just before the one in which the pair lies.
   abbrev pub FindsBehind : Moment K V → Effect → CallThere K V → Type 0
   FindsBehind m (Deferred n t) c =
       (t.map ≡ c.map) × ((m.spot n).turn ≡ t.turn + 1)
-      × (length (behind t m.deferred) < sum_by (λ u. u.shape.len) (filter (λ u. nat_le u.table.turn t.turn) (tables_of c.map m)))
   FindsBehind m _ c = Unit {0}
 
   abbrev pub FindBehind : List ℕ → ℕ → List Effect → Moment K V → Type 0
   FindBehind own map effects m = AtEachEffect (λ v f. ByCall (FindsBehind v f) (acting (Some own) v)) (Some own) (Some map) effects m
+
+  -- What is left of it: it has room.
+  abbrev pub FindsSpace : Moment K V → Effect → CallThere K V → Type 0
+  FindsSpace m (Deferred n t) c = length (behind t m.deferred) < sum_by (λ u. u.shape.len) (filter (λ u. nat_le u.table.turn t.turn) (tables_of c.map m))
+  FindsSpace m _ c = Unit {0}
+
+  abbrev pub FindSpace : List ℕ → ℕ → List Effect → Moment K V → Type 0
+  FindSpace own map effects m = AtEachEffect (λ v f. ByCall (FindsSpace v f) (acting (Some own) v)) (Some own) (Some map) effects m
 
 module _ (K V : Type 0) where
   -- The promises: nobody has a pair in hand as a run begins;
@@ -170,7 +177,8 @@ module _ (K V : Type 0) where
   -- These parts make up all that effects must find that hand a pair over.
   abbrev pub PastIsHanded : Type 0
   PastIsHanded =
-      (own : List ℕ) (map : ℕ) (effects : List Effect) (m : Moment K V) → FindPast own map effects m → FindBehind own map effects m → FindHanded own map effects m
+      (own : List ℕ) (map : ℕ) (effects : List Effect) (m : Moment K V) → FindPast own map effects m → FindBehind own map effects m → FindSpace own map effects m
+      → FindHanded own map effects m
 
 module _ (K V S : Type 0) (same : K → K → Bool) (hash : K → ℕ) where
   -- The promises, of a step of a call, whichever it is, and whether of a row or none: it is so after it,

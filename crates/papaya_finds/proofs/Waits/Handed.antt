@@ -37,25 +37,25 @@ use Rattle.papaya_settles.proofs.DueCalls.{rows_tell_due}
 use Rattle.papaya_settles.proofs.Hand.All.{own_or_row}
 use Rattle.papaya_settles.proofs.Takings.{steps_take_out}
 use Rattle.papaya_finds.specs.Rest.{FindsHanded, FindHanded}
-use Rattle.papaya_finds.specs.Waits.{waits_in, IsHeldPast, ShowsWaits, FindsPast, FindPast, FindsBehind, FindBehind, PastIsHanded, CallsHandPast}
+use Rattle.papaya_finds.specs.Waits.{waits_in, IsHeldPast, ShowsWaits, FindsPast, FindPast, FindsBehind, FindBehind, FindsSpace, FindSpace, PastIsHanded, CallsHandPast}
 use Rattle.papaya_finds.proofs.Quiet.{neither}
 use Rattle.papaya_finds.proofs.Waits.Due.{word_of, DueHas, row_due}
 
 module _ {K V : Type 0} where
   -- the parts, by the kind of effect
-  by_kind : (m : Moment K V) (f : Effect) (c : CallThere K V) → FindsPast m f c → FindsBehind m f c → FindsHanded m f c
-  by_kind m (effect.Deferred n t) c past behind = (behind.0, behind.1, past.0, past.1, past.2, behind.2)
-  by_kind m (effect.Retired (APair n)) c past behind = past
-  by_kind m (effect.Retired (ATable t)) c past behind = tt
-  by_kind m _ c past behind = tt
+  by_kind : (m : Moment K V) (f : Effect) (c : CallThere K V) → FindsPast m f c → FindsBehind m f c → FindsSpace m f c → FindsHanded m f c
+  by_kind m (effect.Deferred n t) c past behind space = (behind.0, behind.1, past.0, past.1, past.2, space)
+  by_kind m (effect.Retired (APair n)) c past behind space = past
+  by_kind m (effect.Retired (ATable t)) c past behind space = tt
+  by_kind m _ c past behind space = tt
 
-  by_call : (m : Moment K V) (f : Effect) (o : Option (CallThere K V)) → ByCall (FindsPast m f) o → ByCall (FindsBehind m f) o → ByCall (FindsHanded m f) o
-  by_call m f None past behind = past
-  by_call m f (Some c) past behind = by_kind m f c past behind
+  by_call : (m : Moment K V) (f : Effect) (o : Option (CallThere K V)) → ByCall (FindsPast m f) o → ByCall (FindsBehind m f) o → ByCall (FindsSpace m f) o → ByCall (FindsHanded m f) o
+  by_call m f None past behind space = past
+  by_call m f (Some c) past behind space = by_kind m f c past behind space
 
-  all_joined : (own : List ℕ) (map : ℕ) (effects : List Effect) (m : Moment K V) → FindPast own map effects m → FindBehind own map effects m → FindHanded own map effects m
-  all_joined own map [] m past behind = tt
-  all_joined own map (f ∷ fs) m past behind = (by_call m f (acting (Some own) m) past.0 behind.0, all_joined own map fs (with_effect (Some own) (Some map) f m) past.1 behind.1)
+  all_joined : (own : List ℕ) (map : ℕ) (effects : List Effect) (m : Moment K V) → FindPast own map effects m → FindBehind own map effects m → FindSpace own map effects m → FindHanded own map effects m
+  all_joined own map [] m past behind space = tt
+  all_joined own map (f ∷ fs) m past behind space = (by_call m f (acting (Some own) m) past.0 behind.0 space.0, all_joined own map fs (with_effect (Some own) (Some map) f m) past.1 behind.1 space.1)
 
   -- one that hands nothing over
   past_none : (m : Moment K V) (f : Effect) (c : CallThere K V) → hands_over f ≡ false → FindsPast m f c
@@ -73,7 +73,7 @@ module _ {K V : Type 0} where
       )
 
 pub past_is_handed : (K V : Type 0) → PastIsHanded K V
-past_is_handed K V own map effects m past behind = all_joined own map effects m past behind
+past_is_handed K V own map effects m past behind space = all_joined own map effects m past behind space
 
 module _ {K V S : Type 0} (same : K → K → Bool) (hash : K → ℕ) (name : ℕ → List ℕ) (m : Moment K V) (known : Known) (s : Scene K V) (old new : Executor K V S) (at_old : IsAt same hash old s)
     (whole : ShowsWhole same name m known s) (entries : ShowsEntries s) (owning : OwnAreMade known s.world) (owes : ShowsOwed name m known s) (waits : ShowsWaits name m s)
