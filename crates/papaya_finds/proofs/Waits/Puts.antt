@@ -35,7 +35,6 @@ use Rattle.papaya_settles.proofs.Hand.All.{own_or_row}
 use Rattle.papaya_finds.specs.Waits.{waits_in_calling, waits_in_sweeping, waits_in}
 use Rattle.papaya_finds.proofs.Waits.Keys.{KeyWaits, HandNone, HandAlike, HandPast, HandNew, step_hands}
 use Rattle.papaya_finds.proofs.Waits.Sweeps.{SweepWaits, SweptNone, SweptAlike, SweptPast, SweptNew, step_hands as sweep_step}
-use Rattle.papaya_finds.proofs.Waits.Calls.{before, its}
 use Rattle.papaya_reserves.specs.Reserve.{reserve_plan}
 use Rattle.papaya_resize.specs.Sum.{sum_plan}
 use Rattle.papaya_resize.specs.declared.sum.Sum.{Sum}
@@ -155,10 +154,10 @@ module _ {K V S : Type 0} (same : K → K → Bool) (hash : K → ℕ) (name : �
   key_rested (p2, end, machine_is, told_is, inl (step, moved)) own =
       ap (λ (w : World (Node K V)). w.row i) moved.0
       ∙ ap (λ (r : ℕ → Row). r i) (events_rows _ step.step.went.events s.world step.step.went.w2 step.step.went.users step.step.went.runs)
-      ∙ elim ((at_old.together.makings.standing.each map key_to.0 key_to.2).stand i (OnKey x) here) as (λ _. s.world.row i ≡ Rests) [
+      ∙ (elim ((at_old.together.makings.standing.each map key_to.0 key_to.2).stand i (OnKey x) here) as (λ _. s.world.row i ≡ Rests) [
         | inl k ↦ k.0
         | inr k ↦ absurd (step.no_row k.1)
-      ]
+      ])
   key_rested (p2, end, machine_is, told_is, inr row) own = absurd own
 
   key_alike : (y : KeyCall K V K) → KeyWaits same same hash x.call old.memory.memory new.memory.memory new.memory.changed y → (word : ℕ) (place : At) → due_in_calling x.call.stands ≡ Some (ToPut word place)
@@ -198,10 +197,10 @@ module _ {K V S : Type 0} (same : K → K → Bool) (hash : K → ℕ) (name : �
   sweep_rested (p2, end, machine_is, told_is, inl (step, moved)) own =
       ap (λ (w : World (Node K V)). w.row i) moved.0
       ∙ ap (λ (r : ℕ → Row). r i) (events_rows _ step.step.went.events s.world step.step.went.w2 step.step.went.users step.step.went.runs)
-      ∙ elim ((at_old.together.makings.standing.each map sweep_to.0 sweep_to.2).stand i (OverAll x) here) as (λ _. s.world.row i ≡ Rests) [
+      ∙ (elim ((at_old.together.makings.standing.each map sweep_to.0 sweep_to.2).stand i (OverAll x) here) as (λ _. s.world.row i ≡ Rests) [
         | inl k ↦ k.0
         | inr k ↦ absurd (step.no_row k.1)
-      ]
+      ])
   sweep_rested (p2, end, machine_is, told_is, inr row) own = absurd own
 
   sweep_alike : (y : Sweep) → SweepWaits hash x.sweep old.memory.memory new.memory.memory new.memory.changed y → (word : ℕ) (place : At) → due_in_sweeping x.sweep.stands ≡ Some (ToPut word place)
