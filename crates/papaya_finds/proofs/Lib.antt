@@ -46,3 +46,4 @@ pub mod Rest
 pub mod Capacities
 pub mod Firsts
 pub mod Waits
+pub mod Reserving

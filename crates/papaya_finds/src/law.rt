@@ -8,6 +8,7 @@ ghost use Rattle.papaya_finds.specs.Past.{EffectsLeavePast, CallsFindOnward};
 ghost use Rattle.papaya_finds.specs.Quiet.{FoundLeaveNothing, OthersOweNothing, SeveralStoreOne, ValuedMayAsk};
 ghost use Rattle.papaya_finds.specs.Puts.{PutsBegin, PutsStay, CallsKeepPuts, CallsPutBehind};
 ghost use Rattle.papaya_finds.specs.Waits.{WaitsBegin, WaitsStay, WaitsFollowOwed, EffectsLeaveHeld, CallsBeginWaits, WaitsGoOn, PastIsHanded, CallsKeepWaits, CallsHandPast};
+ghost use Rattle.papaya_finds.specs.Reserving.{RoomsKeepCount, RoomsCountOn, RoomsMayAsk};
 ghost use Rattle.papaya_finds.specs.Rest.{RestIsAll, OthersHandNone};
 ghost use Rattle.papaya_finds.specs.Steps.{StepsDoTheirs, StepsFindPlaces, StepsStoreOne, StepsFindParts};
 ghost use Rattle.papaya_finds.specs.Bounded.{LittleWaits, NothingRetiredOnceReclaimed};
@@ -162,6 +163,14 @@ pub fn pairs_wait_just_before<K, V, S>()
     ensures stays { PutsStay K V }
     ensures steps { (same : K → K → Bool) (hash : K → ℕ) → CallsKeepPuts K V S same hash }
     ensures behind { (same : K → K → Bool) (hash : K → ℕ) → CallsPutBehind K V S same hash }
+{}
+
+/// A reservation that goes on from its counting to a table behind the root knows that count, and that a table can be had with so many further pairs, until it counts anew: after each step of it, if one that is done
+/// with counting has counted so many, and with further moments. So it may ask for each block that it makes, but for those of the first table of its map.
+pub fn reservations_fit_their_count<K, V, S>()
+    ensures steps { RoomsKeepCount K V }
+    ensures on { RoomsCountOn K V }
+    ensures asked { (same : K → K → Bool) (hash : K → ℕ) → RoomsMayAsk K V S same hash }
 {}
 
 /// Where a copier makes a further table its map has a second one, into which the root's is copied; or, in blocking mode, the root has left a table at the moment of the map at which the call
