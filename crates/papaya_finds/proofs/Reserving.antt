@@ -112,12 +112,6 @@ module _ {K V : Type 0} (of : ℕ) (moments : List (Moment K V)) (p : Reserve) w
       by false e true = (count, counts, few_enough p.additional count e)
       by false e false = tt
 
-  summed_so : (table : Table) (e : Sum × Progress ℕ) → ((count : ℕ) → e.1 ≡ progress.Done count → Counts (suc p.setting.mask) of moments count) → So (reserves.summed p table e)
-  summed_so table (sum, progress.Goes) counts = tt
-  summed_so table (sum, progress.Waits) counts = tt
-  summed_so table (sum, progress.Done count) counts = enough_so table count (counts count refl)
-  summed_so table (sum, progress.Refused fault) counts = tt
-
   made_so : (e : NewTable × Progress Table) → So (reserves.made p e)
   made_so (making, progress.Goes) = tt
   made_so (making, progress.Waits) = tt
@@ -153,13 +147,18 @@ module _ {K V : Type 0} (of : ℕ) (moments : List (Moment K V)) (p : Reserve) w
       always : (q : Reserving) → AlwaysOf So (reserves.plan_at hash p q) → StepAt q → So end
       always q all s = always_steps So m m2 (reserves.plan_at hash p q) end all (as_step m changed.Nothing (reserves.plan_at hash p q) m2 told end s)
 
+      summed_so : (table : Table) (sum : Sum) → p.stands ≡ at.Sums table sum → (e : Sum × Progress ℕ) → StepsTold K V (Sum × Progress ℕ) m changed.Nothing (sum_plan sum) m2 told e → So (reserves.summed p table e)
+      summed_so table sum is (sum2, progress.Goes) s = tt
+      summed_so table sum is (sum2, progress.Waits) s = tt
+      summed_so table sum is (sum2, progress.Done count) s = enough_so table count (sums table sum sum2 count is s)
+      summed_so table sum is (sum2, progress.Refused fault) s = tt
+
       by_point : (q : Reserving) → p.stands ≡ q → ReservesAt of moments p q → StepAt q → So end
       by_point at.Reads is so s = always at.Reads (λ out. root_so out) s
       by_point (at.Makes making) is so s = always (at.Makes making) (always_plan_as So (reserves.made p) made_so (new_table_plan making)) s
       by_point (at.Sums table sum) is so s =
           let it = told_in m m2 told (reserves.summed p table) (sum_plan sum) end s in
-          subst So (sym it.1) (summed_so table it.0 (λ count done. sums table sum it.0.0 count is
-          (subst (λ (z : Progress ℕ). StepsTold K V (Sum × Progress ℕ) m changed.Nothing (sum_plan sum) m2 told (it.0.0, z)) done it.2)))
+          subst So (sym it.1) (summed_so table sum is it.0 it.2)
       by_point (at.Follows table need) is so s = always (at.Follows table need) (λ out. next_so so table need out) s
       by_point (at.Grows table making) is so s = always (at.Grows table making) (always_plan_as So (reserves.grown p table) (grown_so so table) (new_table_plan making)) s
       by_point (at.Copies copier) is so s = always (at.Copies copier) (always_plan_as So (reserves.copied p) (copied_so so) (copier_plan hash copier)) s

@@ -169,7 +169,7 @@ pub fn pairs_wait_just_before<K, V, S>()
 /// with counting has counted so many, and with further moments. So it may ask for each block that it makes, but for those of the first table of its map.
 pub fn reservations_fit_their_count<K, V, S>()
     ensures steps { RoomsKeepCount K V }
-    ensures on { RoomsCountOn K V }
+    ensures moments { RoomsCountOn K V }
     ensures asked { (same : K → K → Bool) (hash : K → ℕ) → RoomsMayAsk K V S same hash }
 {}
 

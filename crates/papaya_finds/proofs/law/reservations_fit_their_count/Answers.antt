@@ -5,6 +5,6 @@ use Rattle.papaya_finds.proofs.law.reservations_fit_their_count.Goals as goal
 pub returns : goal.returns
 returns c d = record {
   steps = rooms_keep_count c.row.K.Denot c.row.V.Denot;
-  on = rooms_count_on _ _;
+  moments = rooms_count_on _ _;
   asked = rooms_may_ask _ _ _;
 }
