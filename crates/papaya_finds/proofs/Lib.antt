@@ -45,3 +45,5 @@ pub mod CopiersAsk
 pub mod Rest
 pub mod Capacities
 pub mod Firsts
+pub mod Waits
+pub mod Reserving
