@@ -1,36 +1,36 @@
 -- What a call knows of the table where it changes its map, and, as its disposal reads the root, of that.
 use Rattle.std.specs.Prelude.{◌≡◌, ℕ, Bool, Some}
 use Rattle.std.proofs.Common.{ap, subst, inl, inr, arith}
-use Rattle.seize_words.specs.Mem.{word_at, value_at}
-use Rattle.seize_words.specs.Word.{block_in}
-use Rattle.seize_words.specs.declared.at.At.TheVariants.{Root}
-use Rattle.seize.specs.World.{World}
-use Rattle.papaya_tables.specs.Nodes.{table_seen}
-use Rattle.papaya_tables.specs.declared.node.Node.{Node}
-use Rattle.papaya_tables.specs.declared.setting.Setting.{Setting}
-use Rattle.papaya_tables.specs.declared.table.Table.{Table}
-use Rattle.papaya_resize.specs.declared.dispose.Dispose.{Dispose}
-use Rattle.papaya_resize.specs.declared.dispose.Disposing.TheVariants as disposal
-use Rattle.papaya_sweeps.specs.declared.sweep.Sweeping.{Sweeping}
-use Rattle.papaya_sweeps.specs.declared.sweep.Sweeping.TheVariants as sweeping
-use Rattle.papaya_raw.specs.declared.machines.answer.KeyAnswer.{KeyAnswer}
-use Rattle.papaya_raw.specs.declared.machines.call.Calling.{Calling}
-use Rattle.papaya_raw.specs.declared.machines.call.Calling.TheVariants as calling
-use Rattle.papaya_rule.specs.Chart.{Chart}
-use Rattle.papaya_rule.specs.InWorld.{IsMapIn}
-use Rattle.papaya_rule.specs.Links.{IsLinkTo}
-use Rattle.papaya_rule.specs.Maps.{IsTable}
-use Rattle.papaya_rule.specs.Words.{Blocks}
-use Rattle.papaya_rule.proofs.Words.LinksRead.{link_table}
-use Rattle.papaya_rule.proofs.Words.LinksSeen.{link_made, root_leads}
-use Rattle.papaya_points.specs.FactsCalls.{CallingFacts}
-use Rattle.papaya_points.specs.FactsDisposes.{DisposeFacts}
-use Rattle.papaya_points.specs.Told.{IsRowOf, IsRowOfCall}
-use Rattle.papaya_late.specs.FactsSweeps.{SweepingFacts}
-use Rattle.papaya_late.specs.LateCalls.{LateCalling}
-use Rattle.papaya_late.specs.ToldSweeps.{IsRowOfSweep}
-use Rattle.papaya_callers.specs.OverAll.{CallOverAll}
-use Rattle.papaya_callers.specs.Together.{CallOnKey, OnKey, OverAll, Stands, in_slot}
+use Rattle.papaya_histories.specs.Given.SeizeWords.Mem.{word_at, value_at}
+use Rattle.papaya_histories.specs.Given.SeizeWords.Word.{block_in}
+use Rattle.papaya_histories.specs.Given.SeizeWords.declared.at.At.TheVariants.{Root}
+use Rattle.papaya_histories.specs.Given.Seize.World.{World}
+use Rattle.papaya_histories.specs.Given.Tables.Nodes.{table_seen}
+use Rattle.papaya_histories.specs.Given.Tables.declared.node.Node.{Node}
+use Rattle.papaya_histories.specs.Given.Tables.declared.setting.Setting.{Setting}
+use Rattle.papaya_histories.specs.Given.Tables.declared.table.Table.{Table}
+use Rattle.papaya_histories.specs.Given.Resize.declared.dispose.Dispose.{Dispose}
+use Rattle.papaya_histories.specs.Given.Resize.declared.dispose.Disposing.TheVariants as disposal
+use Rattle.papaya_histories.specs.Given.Sweeps.declared.sweep.Sweeping.{Sweeping}
+use Rattle.papaya_histories.specs.Given.Sweeps.declared.sweep.Sweeping.TheVariants as sweeping
+use Rattle.papaya_histories.specs.Given.Raw.declared.machines.answer.KeyAnswer.{KeyAnswer}
+use Rattle.papaya_histories.specs.Given.Raw.declared.machines.call.Calling.{Calling}
+use Rattle.papaya_histories.specs.Given.Raw.declared.machines.call.Calling.TheVariants as calling
+use Rattle.papaya_histories.specs.Given.Rule.Chart.{Chart}
+use Rattle.papaya_histories.specs.Given.Rule.InWorld.{IsMapIn}
+use Rattle.papaya_histories.specs.Given.Rule.Links.{IsLinkTo}
+use Rattle.papaya_histories.specs.Given.Rule.Maps.{IsTable}
+use Rattle.papaya_histories.specs.Given.Rule.Words.{Blocks}
+use Rattle.papaya_histories.proofs.Given.Rule.Words.LinksRead.{link_table}
+use Rattle.papaya_histories.proofs.Given.Rule.Words.LinksSeen.{link_made, root_leads}
+use Rattle.papaya_histories.specs.Given.Points.FactsCalls.{CallingFacts}
+use Rattle.papaya_histories.specs.Given.Points.FactsDisposes.{DisposeFacts}
+use Rattle.papaya_histories.specs.Given.Points.Told.{IsRowOf, IsRowOfCall}
+use Rattle.papaya_histories.specs.Given.Late.FactsSweeps.{SweepingFacts}
+use Rattle.papaya_histories.specs.Given.Late.LateCalls.{LateCalling}
+use Rattle.papaya_histories.specs.Given.Late.ToldSweeps.{IsRowOfSweep}
+use Rattle.papaya_histories.specs.Given.Callers.OverAll.{CallOverAll}
+use Rattle.papaya_histories.specs.Given.Callers.Together.{CallOnKey, OnKey, OverAll, Stands, in_slot}
 
 -- the root that a disposal reads is the first table of its map
 pub root_turn : {K V : Type 0} (same : K → K → Bool) (hash : K → ℕ) (setting : Setting) (w : World (Node K V)) (caller : ℕ) (c : Chart K) (blocks : Blocks) → IsMapIn same hash setting w c blocks
