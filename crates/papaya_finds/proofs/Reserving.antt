@@ -40,7 +40,7 @@ use Rattle.papaya_histories.proofs.Given.Others.Outcomes.{told_in}
 use Rattle.papaya_owes.specs.Making.{making_in_reserving}
 use Rattle.papaya_owes.proofs.Walks.{reserve_makes}
 use Rattle.papaya_finds.specs.Reserving.{FitsAt, ReservesAt, SumTells, MakesFirst, RoomsKeepCount, RoomsCountOn, RoomsMayAsk}
-use Rattle.papaya_finds.proofs.GrowsAsked.{Asks, made_of, may_ask}
+use Rattle.papaya_finds.proofs.Grows.Asked.{Asks, made_of, may_ask}
 
 -- what is so at one of some moments is so at one of more
 module _ {X : Type 0} where
