@@ -13,7 +13,7 @@ use Rattle.papaya_histories.specs.Given.Seize.declared.rows.settle.Settled.TheVa
 use Rattle.papaya_histories.specs.Given.Tables.Chunks.{is_incremental}
 use Rattle.papaya_histories.specs.Given.Tables.Finding.{may_name, finding}
 use Rattle.papaya_histories.specs.Given.Tables.Nodes.{table_seen}
-use Rattle.papaya_histories.specs.Given.Tables.Trials.{next_trial, place_tried}
+use Rattle.papaya_histories.specs.Given.Tables.Trials.{next_trial, place_tried, with_met}
 use Rattle.papaya_histories.specs.Given.Tables.declared.finding.Finding.{Finding}
 use Rattle.papaya_histories.specs.Given.Tables.declared.finding.Finding.TheVariants as is
 use Rattle.papaya_histories.specs.Given.Tables.declared.marks.TheConstants.{TOMBSTONE}
@@ -35,7 +35,7 @@ use Rattle.papaya_histories.specs.Given.Resize.declared.outcome.Outcome.{Outcome
 use Rattle.papaya_histories.specs.Given.Resize.declared.outcome.Outcome.TheVariants as outcome
 use Rattle.papaya_histories.specs.Given.Raw.Call.{have_one_key, made, makes_of, root_found, next_found, dropped, key_read, pair_read, word_read, word_found, tried, looked, looks_for, first_made, next_made, disposed, helped, copied, plan_at}
 use Rattle.papaya_histories.specs.Given.Raw.CallFills.{filled, putting_by, fill_by, emptied, fills_with, given_up}
-use Rattle.papaya_histories.specs.Given.Raw.CallPoints.{aim_of, standing, going, over, ending, following_made, storing, burying, at_gap, gap_by, asking_at, pair_by, tableless, at_free, at_end, at_last, at_pair, passed, told_of, told, entering, went_on, changed, counted}
+use Rattle.papaya_histories.specs.Given.Raw.CallPoints.{aim_of, standing, going, having_met, over, ending, following_made, storing, burying, at_gap, gap_by, asking_at, pair_by, tableless, at_free, at_end, at_last, at_pair, passed, told_of, told, entering, went_on, changed, counted}
 use Rattle.papaya_histories.specs.Given.Raw.Replies.{value_for, as_own}
 use Rattle.papaya_histories.specs.Given.Raw.declared.machines.answer.Called.{Called}
 use Rattle.papaya_histories.specs.Given.Raw.declared.machines.answer.Called.TheVariants as called
@@ -144,12 +144,14 @@ module _ {K V : Type 0} where
     passed_none (Some trial) = refl
     passed_none None = by_test (is_incremental p.setting.mode) (going p at.Nexts) (at_end p.missing p) refl (end_none p.missing)
 
+  -- so it is of a call at a try, which counts the word of a try that it passes
+  module _ (p : KeyCall K V K) where
     told_none : (loaded : Bool) (word : ℕ) (found : Finding) → NoneSo (told_of loaded p word found)
-    told_none loaded word is.Free = free_none p.missing
-    told_none loaded word is.Passed = passed_none (next_trial p.trial)
+    told_none loaded word is.Free = free_none p p.missing
+    told_none loaded word is.Passed = passed_none (having_met p word) (next_trial (with_met p.trial word))
     told_none loaded word is.Moved = refl
     told_none loaded word is.Copying = by_test loaded (standing p at.Probes, called.Waits) (going p at.Probes) refl refl
-    told_none loaded word is.There = there_none p.there word
+    told_none loaded word is.There = there_none p p.there word
 
     on_none : (table : Table) → NoneSo (went_on p table)
     on_none table =
@@ -170,37 +172,37 @@ module _ {K V : Type 0} where
     first_none (making, progress.Goes) = refl
     first_none (making, progress.Waits) = refl
     first_none (making, progress.Done table) = refl
-    first_none (making, progress.Refused fault) = ending_none (ends.Refused fault)
+    first_none (making, progress.Refused fault) = ending_none p (ends.Refused fault)
 
     next_none : (e : NewTable × Progress Table) → NoneSo (next_made p e)
     next_none (making, progress.Goes) = refl
     next_none (making, progress.Waits) = refl
     next_none (making, progress.Done table) = on_none table
-    next_none (making, progress.Refused fault) = ending_none (ends.Refused fault)
+    next_none (making, progress.Refused fault) = ending_none p (ends.Refused fault)
 
     helped_none : (goal : Table) (e : Copier × Outcome (Node K V) Table) → NoneSo (helped p goal e)
     helped_none goal (copier, outcome.Goes) = refl
     helped_none goal (copier, outcome.Waits) = refl
     helped_none goal (copier, outcome.Gave value) = refl
     helped_none goal (copier, outcome.Done table) = refl
-    helped_none goal (copier, outcome.Refused fault) = ending_none (ends.Refused fault)
+    helped_none goal (copier, outcome.Refused fault) = ending_none p (ends.Refused fault)
 
     copied_none : (e : Copier × Outcome (Node K V) Table) → NoneSo (copied p e)
     copied_none (copier, outcome.Goes) = refl
     copied_none (copier, outcome.Waits) = refl
     copied_none (copier, outcome.Gave value) = refl
     copied_none (copier, outcome.Done table) = refl
-    copied_none (copier, outcome.Refused fault) = ending_none (ends.Refused fault)
+    copied_none (copier, outcome.Refused fault) = ending_none p (ends.Refused fault)
 
     -- by the answer of its operation: one that it makes not, it stays where it stands
     module _ (stays : NoneSo (p, called.Goes)) where
       root_none : (out : Out (Node K V)) → Always NoneSo (root_found p out)
-      root_none (Found link) = always_if NoneSo (link == 0) (Now (tableless p.missing p)) (Seeing (block_in link) (λ (value : Node K V). Now (entering p (table_seen link value)))) (tableless_none p.missing) (λ value. refl)
+      root_none (Found link) = always_if NoneSo (link == 0) (Now (tableless p.missing p)) (Seeing (block_in link) (λ (value : Node K V). Now (entering p (table_seen link value)))) (tableless_none p p.missing) (λ value. refl)
       root_none _ = stays
 
       next_found_none : (out : Out (Node K V)) → Always NoneSo (next_found p out)
       next_found_none (Found link) =
-          always_if NoneSo (link == 0) (Now (at_last p.missing p)) (Seeing (block_in link) (λ (value : Node K V). Now (went_on p (table_seen link value)))) (last_none p.missing) (λ value. on_none (table_seen link value))
+          always_if NoneSo (link == 0) (Now (at_last p.missing p)) (Seeing (block_in link) (λ (value : Node K V). Now (went_on p (table_seen link value)))) (last_none p p.missing) (λ value. on_none (table_seen link value))
       next_found_none _ = stays
 
       made_none : (out : Out (Node K V)) → Always NoneSo (made p out)
