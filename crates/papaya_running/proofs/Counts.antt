@@ -21,9 +21,9 @@ use Rattle.papaya_schedules.specs.Moment.{MapThere, Moment}
 use Rattle.papaya_schedules.specs.Terms.{Terms}
 use Rattle.papaya_schedules.specs.Views.{map_of, number_of}
 use Rattle.papaya_rows.proofs.Lists.{is_found, none_kept}
-use Rattle.papaya_scheduler.specs.Seen.{named}
+use Rattle.papaya_named.specs.Seen.{named}
 use Rattle.papaya_scheduler.specs.declared.played.Played.{Played}
-use Rattle.papaya_scheduler.proofs.MapLists.{kept_map}
+use Rattle.papaya_mapping.proofs.MapLists.{kept_map}
 use Rattle.papaya_running.specs.Asked.{FindsBy, is_of_calls, is_of_maps, numbers_on}
 
 -- names are apart

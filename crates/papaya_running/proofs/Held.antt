@@ -36,11 +36,11 @@ use Rattle.papaya_rows.proofs.Lists.{found_has}
 use Rattle.papaya_scheduler.specs.Mapping.{CountsMaps}
 use Rattle.papaya_scheduler.specs.Played.{IsPlayed, IsUnderWay, Plays, entry_of, terms_given}
 use Rattle.papaya_scheduler.specs.Reclaiming.{MayGiveAll}
-use Rattle.papaya_scheduler.specs.Seen.{is_named, named, named_of}
-use Rattle.papaya_scheduler.specs.declared.caller.Caller.{Caller}
+use Rattle.papaya_named.specs.Seen.{is_named, named, named_of}
+use Rattle.papaya_named.specs.declared.caller.Caller.{Caller}
 use Rattle.papaya_scheduler.specs.declared.played.Played.{Played}
 use Rattle.papaya_scheduler.specs.declared.scheduler.Scheduler.{Scheduler}
-use Rattle.papaya_scheduler.proofs.MapLists.{all_back, all_seen}
+use Rattle.papaya_mapping.proofs.MapLists.{all_back, all_seen}
 use Rattle.papaya_scheduler.proofs.RanOn.{maps_named}
 use Rattle.papaya_running.specs.Asked.{FindsRight, HappensAt, Holds, HoldsThen, numbers_on}
 use Rattle.papaya_running.proofs.Counts.{NamesApart, begun_apart, gone_apart, made_begun, named_apart}
