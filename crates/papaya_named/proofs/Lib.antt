@@ -1,3 +1,3 @@
 pub mod Called
 pub mod Takes
-pub mod Places
+pub mod FirstLens

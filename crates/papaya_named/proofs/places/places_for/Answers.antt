@@ -1,5 +1,5 @@
 -- A map begins with none, or with a power of two.
-use Rattle.papaya_named.proofs.Places.{power_is_first, none_is_first}
+use Rattle.papaya_named.proofs.FirstLens.{power_is_first, none_is_first}
 use Rattle.papaya_named.proofs.places.places_for.Goals as goal
 
 pub returns-then-capacity-eq0-clause-first : goal.returns-then-capacity-eq0-clause-first
