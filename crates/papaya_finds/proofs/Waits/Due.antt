@@ -77,6 +77,10 @@ module _ (known : Known) (due : Due) (n : ℕ) (is_pair : known.roles (block_in 
   copy_due p (copying.Retires settle rest) notes e = noted_table due is_pair (subst (λ (o : Option Due). HoldsAt (IsTableAt known) (word_due o)) e notes.0)
   copy_due p _ notes e = cc e
 
+  room_due : (q : Reserving) → NotesOfRoom known q → due_in_reserving q ≡ Some due → ⊥
+  room_due (reserving.Copies copier) notes e = copy_due copier copier.stands notes e
+  room_due _ notes e = cc e
+
   module _ {K V Q : Type 0} where
     call_due : (p : KeyCall K V Q) (q : Calling) → p.stands ≡ q → NotesOfCall known q → due_in_calling q ≡ Some due → DueHas known due (kinds.Key p)
     call_due p (calling.Disposes dispose answer) is notes e =
@@ -90,10 +94,7 @@ module _ (known : Known) (due : Due) (n : ℕ) (is_pair : known.roles (block_in 
     call_due p (calling.Copies copier) is notes e = absurd (copy_due copier copier.stands notes e)
     call_due p _ is notes e = absurd (cc e)
 
-    room_due : (q : Reserving) → NotesOfRoom known q → due_in_reserving q ≡ Some due → ⊥
-    room_due (reserving.Copies copier) notes e = copy_due copier copier.stands notes e
-    room_due _ notes e = cc e
-
+  module _ (K V Q : Type 0) where
     sweep_due : (c : Sweep) (q : Sweeping) → c.stands ≡ q → NotesOfSweep known q → due_in_sweeping q ≡ Some due → DueHas {K = K} {V = V} {Q = Q} known due (kinds.Sweep c)
     sweep_due c (sweeping.Disposes dispose) is notes e =
         let it = dispose_due dispose dispose.stands due e in
@@ -105,8 +106,9 @@ module _ (known : Known) (due : Due) (n : ℕ) (is_pair : known.roles (block_in 
     sweep_due c (sweeping.Copies copier) is notes e = absurd (copy_due copier copier.stands notes e)
     sweep_due c _ is notes e = absurd (cc e)
 
+  module _ {K V Q : Type 0} where
     pub row_due : (machine : Machine K V Q) → NotesInHand known machine → due_in_row machine ≡ Some due → DueHas known due machine
     row_due (kinds.Key p) notes e = call_due p p.stands refl notes e
     row_due (kinds.Reserve r) notes e = absurd (room_due r.stands notes e)
-    row_due (kinds.Sweep c) notes e = sweep_due c c.stands refl notes e
+    row_due (kinds.Sweep c) notes e = sweep_due K V Q c c.stands refl notes e
     row_due (kinds.Count sum) notes e = absurd (cc e)

@@ -210,7 +210,8 @@ module _ {K V S : Type 0} (same : K → K → Bool) (hash : K → ℕ) (name : �
   sweep_alike y (SweptPast d root value no_copy pair were none is reads nothing read sees before_root) word place before now = absurd (let some = (sweep_put word place y y.stands refl now).2 in cc (none, some))
   sweep_alike y (SweptNew word2 is wrote alike) word place before now = absurd (let none = sym before ∙ ap due_in_sweeping is in cc none)
 
-  sweep_waits : (word : ℕ) (place : At) → due_in_row (machine_of (OverAll x)) ≡ Some (ToPut word place) → due_in_row sweep_to.1 ≡ Some (ToPut word place) → waits_in sweep_to.1 ≡ waits_in (machine_of (OverAll x))
+  sweep_waits : (word : ℕ) (place : At) → due_in_row {K = K} {V = V} {Q = K} (machine_of (OverAll x)) ≡ Some (ToPut word place) → due_in_row sweep_to.1 ≡ Some (ToPut word place)
+      → waits_in sweep_to.1 ≡ waits_in {K = K} {V = V} {Q = K} (machine_of (OverAll x))
   sweep_waits word place before now =
       let it = told_in old.memory.memory new.memory.memory new.memory.changed of_sweep (sweep_plan hash x.sweep) (sweep_to.1, said) sweep_to.3 in
       let machine : ◌≡◌ {A = Machine K V K} sweep_to.1 (kinds.Sweep it.0.0) = ap (λ (z : Machine K V K × Progress (Node K V)). z.0) it.1 in
@@ -256,7 +257,7 @@ pub puts_begin : (K V : Type 0) → PutsBegin K V
 puts_begin K V roots map i u is = absurd (cc is)
 
 pub puts_stay : (K V : Type 0) → PutsStay K V
-puts_stay K V known known2 s t puts keeps map i u is word place due =
+puts_stay K V earlier later s t puts keeps map i u is word place due =
     let was = keeps map i u is word place due in
     let before : due_in_row (machine_of was.0) ≡ Some (ToPut word place) = ap (λ (z : Machine K V K). due_in_row z) was.2 ∙ due in
     let it = puts map i was.0 was.1 word place before in

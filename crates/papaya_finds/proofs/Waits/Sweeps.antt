@@ -64,7 +64,7 @@ entering_none : (c : Sweep) (table : Table) → NoneOf (points.entering c table)
 entering_none c table =
     either_sweep (is_incremental c.setting.mode) (record c { table = table; stands = at.Follows }) (points.beginning (record c { table = table })) refl (beginning_none (record c { table = table }))
 
-module _ {K V : Type 0} where
+module _ (K V : Type 0) where
   abbrev NoneSo : Sweep × Swept (Node K V) → Type 0
   NoneSo e = NoneOf e.0
 
@@ -126,8 +126,8 @@ module _ {K V : Type 0} (hash : K → ℕ) (c : Sweep) (m m2 : Mem (Node K V)) (
   abbrev pub StepAt : Sweeping → Sweep × Swept (Node K V) → Type 0
   StepAt q e = StepsTold K V (Sweep × Swept (Node K V)) m changes.Nothing (sweeps.plan_at hash c q) m2 told_by e
 
-  none_hands : (q : Sweeping) (e : Sweep × Swept (Node K V)) → AlwaysOf NoneSo (sweeps.plan_at hash c q) → StepAt q e → Hands e
-  none_hands q e all s = SweptNone (always_steps NoneSo m m2 (sweeps.plan_at hash c q) e all (as_step m changes.Nothing (sweeps.plan_at hash c q) m2 told_by e s))
+  none_hands : (q : Sweeping) (e : Sweep × Swept (Node K V)) → AlwaysOf (NoneSo K V) (sweeps.plan_at hash c q) → StepAt q e → Hands e
+  none_hands q e all s = SweptNone (always_steps (NoneSo K V) m m2 (sweeps.plan_at hash c q) e all (as_step m changes.Nothing (sweeps.plan_at hash c q) m2 told_by e s))
 
   counted_hands : (removed : ℕ) → c.stands ≡ at.Counts removed → Hands (points.going c (at.Disposes (disposing c.setting removed c.table)))
   counted_hands removed is = SweptAlike (λ copier e. (let both = sym is ∙ e in cc both)) (λ no_row. (removed, ap pair_in_sweeping is)) (sym (ap (waits_in_sweeping c) is))
@@ -136,7 +136,7 @@ module _ {K V : Type 0} (hash : K → ℕ) (c : Sweep) (m m2 : Mem (Node K V)) (
       → (e : Sweep × Swept (Node K V)) → Ends (value_at m2) (sweeps.tried c word out) e → Hands e
   exchanged_hands word is (Exchanged (Ok found)) tells e end =
       subst Hands (sym end) (SweptNew word is (tells.1 ∙ ap (λ (x : ℕ). changes.Wrote (at_place c.table c.place) x TOMBSTONE) tells.0.0.1) refl)
-  exchanged_hands word is (Exchanged (Err found)) tells e end = SweptNone (subst NoneSo (sym end) (seen_none c found))
+  exchanged_hands word is (Exchanged (Err found)) tells e end = SweptNone (subst (NoneSo K V) (sym end) (seen_none K V c found))
   exchanged_hands word is _ tells e end = absurd tells.0.0
 
   -- a disposal goes on
@@ -164,10 +164,10 @@ module _ {K V : Type 0} (hash : K → ℕ) (c : Sweep) (m m2 : Mem (Node K V)) (
 
   -- So it is whatever the point.
   by_point : (q : Sweeping) → c.stands ≡ q → (e : Sweep × Swept (Node K V)) → StepAt q e → Hands e
-  by_point at.Reads is e s = none_hands at.Reads e (λ out. root_none c (ap pair_in_sweeping is) out) s
-  by_point at.Follows is e s = none_hands at.Follows e (λ out. next_none c (ap pair_in_sweeping is) out) s
-  by_point (at.Copies copier) is e s = none_hands (at.Copies copier) e (always_plan_as NoneSo (sweeps.copied c) (copied_none c) (copier_plan hash copier)) s
-  by_point at.Words is e s = none_hands at.Words e (λ out. word_none c (ap pair_in_sweeping is) out) s
+  by_point at.Reads is e s = none_hands at.Reads e (λ out. root_none K V c (ap pair_in_sweeping is) out) s
+  by_point at.Follows is e s = none_hands at.Follows e (λ out. next_none K V c (ap pair_in_sweeping is) out) s
+  by_point (at.Copies copier) is e s = none_hands (at.Copies copier) e (always_plan_as (NoneSo K V) (sweeps.copied c) (copied_none K V c) (copier_plan hash copier)) s
+  by_point at.Words is e s = none_hands at.Words e (λ out. word_none K V c (ap pair_in_sweeping is) out) s
   by_point (at.Tries word) is e s = exchanged_hands word is s.0 s.1 e s.2
   by_point (at.Counts removed) is e s =
       always_steps Hands m m2 (sweeps.plan_at hash c (at.Counts removed)) e (λ out. counted_hands removed is) (as_step m changes.Nothing (sweeps.plan_at hash c (at.Counts removed)) m2 told_by e s)

@@ -48,7 +48,7 @@ use Rattle.papaya_histories.proofs.Given.Spots.Names.{holds_is}
 use Rattle.papaya_settles.specs.InHand.{TakesPair}
 
 -- one that takes a pair out by itself
-is_removal : Effect → Bool
+abbrev is_removal : Effect → Bool
 is_removal (effect.Removed n) = true
 is_removal _ = false
 
