@@ -34,9 +34,11 @@ module _ {K V : Type 0} (who : Option (List ℕ)) (acted : Option ℕ) where
   -- by one effect
   one_held : (f : Effect) (m : Moment K V) → FindsNumbers m f → FindsOnward acted m f → (map k : ℕ) (waits : Option ℕ) → IsHeldPast map m k waits → IsHeldPast map (with_effect who acted f m) k waits
   one_held f m finds on map k waits held =
-      let same = kept who acted f m finds on k held.0 in
-      (left_still who acted f m finds k held.0, lies_same map m (with_effect who acted f m) k waits same.0 same.1 (goes_on who acted f m on map)
-      (effect_leaves grows_in_chunks (λ g n. refl) who acted f m map) held.1)
+      let same = kept who acted f m finds on k held.0 in (
+        left_still who acted f m finds k held.0,
+        lies_same map m (with_effect who acted f m) k waits same.0 same.1 (goes_on who acted f m on map)
+            (effect_leaves grows_in_chunks (λ g n. refl) who acted f m map) held.1,
+      )
 
 pub effects_leave_held : (K V : Type 0) → EffectsLeaveHeld K V
 effects_leave_held K V who acted [] m finds on map k waits held = held
