@@ -9,7 +9,6 @@ use Rattle.papaya_histories.specs.Given.Resize.declared.copier.Copier.{Copier}
 use Rattle.papaya_histories.specs.Given.Raw.declared.machines.call.Calling.{Calling}
 use Rattle.papaya_histories.specs.Given.Raw.declared.machines.call.Calling.TheVariants as calling
 use Rattle.papaya_histories.specs.Given.Schedules.declared.effect.Effect.{Effect}
-use Rattle.papaya_histories.specs.Given.Schedules.declared.effect.Table.{Table}
 use Rattle.papaya_histories.specs.Given.Schedules.declared.effect.Thing.{Thing}
 use Rattle.papaya_histories.specs.Given.Schedules.declared.effect.Thing.TheVariants.{APair}
 use Rattle.papaya_histories.specs.Given.Schedules.Effects.{passed}
