@@ -125,6 +125,20 @@ module _ {K V : Type 0} (s : Scene K V) (ends : ShowsEnds s) where
       call_goes (record s { calls = with_in s.calls map i next }) map i next refl (λ n st ne is. (st, is, refl, refl))
       (λ st is mode. like_keeps st.chart (s.calls map) i next (ends map st is mode) like)
 
+-- so it is of a sweep that is told something, or asked for its next pair
+sweep_like : {V : Type 0} (c : Sweep) (reply : Reply V) (stands : Sweeping) → c.stands ≡ stands → IsLike (copier_in_sweep (sweep_told stands c reply).0.stands) (copier_in_sweep stands)
+sweep_like c reply (sweeping.Asks word) here = inr tt
+sweep_like c reply _ here = inl (ap copier_in_sweep here)
+
+next_like : (c : Sweep) (stands : Sweeping) → c.stands ≡ stands → IsLike (copier_in_sweep (next_at stands c).stands) (copier_in_sweep stands)
+next_like c sweeping.Ready here = inr tt
+next_like c _ here = inl (ap copier_in_sweep here)
+
+-- a walk that is ready stands within no copier
+none_ready : (p : Sweeping) → true ≡ is_ready p → copier_in_sweep p ≡ None
+none_ready sweeping.Ready e = refl
+none_ready _ e = absurd (cc e)
+
 -- the copier within which a machine stands
 module _ {K V : Type 0} where
   abbrev copier_at : Machine K V K → Option Copier
@@ -143,14 +157,6 @@ module _ {K V : Type 0} where
   key_like c reply (at.Asks about) here = inr tt
   key_like c reply _ here = inl (ap copier_in here)
 
-  sweep_like : (c : Sweep) (reply : Reply V) (stands : Sweeping) → c.stands ≡ stands → IsLike (copier_in_sweep (sweep_told stands c reply).0.stands) (copier_in_sweep stands)
-  sweep_like c reply (sweeping.Asks word) here = inr tt
-  sweep_like c reply _ here = inl (ap copier_in_sweep here)
-
-  next_like : (c : Sweep) (stands : Sweeping) → c.stands ≡ stands → IsLike (copier_in_sweep (next_at stands c).stands) (copier_in_sweep stands)
-  next_like c sweeping.Ready here = inr tt
-  next_like c _ here = inl (ap copier_in_sweep here)
-
   replied_like : (machine : Machine K V K) (reply : Reply V) → IsLike (copier_at (machine_replied machine reply).0) (copier_at machine)
   replied_like (kinds.Key c) reply = key_like c reply c.stands refl
   replied_like (kinds.Reserve c) reply = inl refl
@@ -168,11 +174,6 @@ module _ {K V : Type 0} where
       → IsLike (copier_at machine) (copier_at (machine_of u)) → IsLike (copier_of next) (copier_then o)
   goes_like u next o here machine is (inl e) = inl (copier_is next ∙ ap copier_at is ∙ e ∙ sym (copier_is u) ∙ sym (ap copier_then here))
   goes_like u next o here machine is (inr none) = inr (subst IsNoEnd (sym (ap copier_then here ∙ copier_is u)) none)
-
-  -- a walk that is ready stands within no copier
-  none_ready : (p : Sweeping) → true ≡ is_ready p → copier_in_sweep p ≡ None
-  none_ready sweeping.Ready e = refl
-  none_ready _ e = absurd (cc e)
 
   ready_none : (u : UnderWay K V K) → true ≡ (machine_asked (machine_of u)).1 → copier_of u ≡ None
   ready_none (OverAll o) e = none_ready o.sweep.stands e
