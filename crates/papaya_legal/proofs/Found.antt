@@ -101,7 +101,7 @@ module _ (K V S : Type 0) (same : K → K → Bool) (hash : K → ℕ) where
           × (list_all (λ f. is_reclaiming f || asks_for_bucket f) x.did ≡ true → AtEachEffect AsksInNeed None None x.did (moment log)
           → AtEachEffect (Finds terms None None false []) None None x.did (moment log))
 
-      abbrev did_by : (x y : Come K V S) → List Effect
+      did_by : (x y : Come K V S) → List Effect
       did_by x y = effects_of acts.Row x.notes y.executor.memory.changed
 
       then_find : (x y : Come K V S) → RowSteps same hash terms i x y → Both x → list_all (λ f. is_reclaiming f || asks_for_bucket f) (x.did ++ did_by x y) ≡ true

@@ -43,20 +43,23 @@ use Rattle.papaya_waiters.proofs.Reached.{MovedSo, Reached, moved, past_on, rule
 -- where not all shares are counted, one is not
 some_uncounted : (d : ℕ → Share) (n : ℕ) → total is_counted d n ≢ n → (j : ℕ) × (j < n) × (d j ≢ Counted)
 some_uncounted d zero few = absurd (few refl)
-some_uncounted d (suc n) few = by (d n) refl
+some_uncounted d (suc n) few = by (d n) refl (λ less. some_uncounted d n less)
   where
     here : (share : Share) → d n ≡ share → share ≢ Counted → (j : ℕ) × (j < suc n) × (d j ≢ Counted)
     here share is other = (n, omega arith, λ e. other (sym is ∙ e))
 
-    below : is_counted (d n) ≡ 1 → (j : ℕ) × (j < suc n) × (d j ≢ Counted)
-    below one = let before = some_uncounted d n (λ e. few (omega (arith, e, one))) in (before.0, (let l = before.1 in omega (arith, l)), before.2)
+    Earlier : Type 0
+    Earlier = total is_counted d n ≢ n → (j : ℕ) × (j < n) × (d j ≢ Counted)
 
-    by : (share : Share) → d n ≡ share → (j : ℕ) × (j < suc n) × (d j ≢ Counted)
-    by Counted is = below (ap is_counted is)
-    by Free is = here Free is (λ e. cc e)
-    by (Claimed k) is = here (Claimed k) is (λ e. cc e)
-    by (Done k) is = here (Done k) is (λ e. cc e)
-    by Lost is = here Lost is (λ e. cc e)
+    below : is_counted (d n) ≡ 1 → Earlier → (j : ℕ) × (j < suc n) × (d j ≢ Counted)
+    below one earlier = let before = earlier (λ e. few (omega (arith, e, one))) in (before.0, (let l = before.1 in omega (arith, l)), before.2)
+
+    by : (share : Share) → d n ≡ share → Earlier → (j : ℕ) × (j < suc n) × (d j ≢ Counted)
+    by Counted is earlier = below (ap is_counted is) earlier
+    by Free is earlier = here Free is (λ e. cc e)
+    by (Claimed k) is earlier = here (Claimed k) is (λ e. cc e)
+    by (Done k) is earlier = here (Done k) is (λ e. cc e)
+    by Lost is earlier = here Lost is (λ e. cc e)
 
 module _ {K V : Type 0} (same : K → K → Bool) (hash : K → ℕ) (caller : ℕ) (setting : Setting) (mode : is_incremental setting.mode ≡ false) (w : World (Node K V)) (c : Chart K) (blocks : Blocks)
     (map : IsMapIn same hash setting w c blocks) (p : Copier) (m2 : Mem (Node K V)) (end : Copier × Outcome (Node K V) Table)
