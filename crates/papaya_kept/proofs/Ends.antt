@@ -125,7 +125,7 @@ module _ {K V : Type 0} (s : Scene K V) (ends : ShowsEnds s) where
       call_goes (record s { calls = with_in s.calls map i next }) map i next refl (λ n st ne is. (st, is, refl, refl))
       (λ st is mode. like_keeps st.chart (s.calls map) i next (ends map st is mode) like)
 
--- so it is of a sweep that is told something, or asked for its next pair
+-- what a sweep is told, or asked for, leads out of no copier
 sweep_like : {V : Type 0} (c : Sweep) (reply : Reply V) (stands : Sweeping) → c.stands ≡ stands → IsLike (copier_in_sweep (sweep_told stands c reply).0.stands) (copier_in_sweep stands)
 sweep_like c reply (sweeping.Asks word) here = inr tt
 sweep_like c reply _ here = inl (ap copier_in_sweep here)

@@ -292,9 +292,9 @@ module _ {T : Type 0} (defers : T → Option ℕ) (size : ℕ) where
     kept = start_kept defers size roots;
     good = start_good defers (LAST_SLOT + 1) size roots;
     lists = λ b t some. absurd (
-    let none : count b ((start_good defers (LAST_SLOT + 1) size roots).state.deferred t) ≡ 0 = ap (λ (x : State). count b (x.deferred t)) (start_state defers (LAST_SLOT + 1) size roots) in
-    omega (arith, none, some)
-    );
+        let none : count b ((start_good defers (LAST_SLOT + 1) size roots).state.deferred t) ≡ 0 = ap (λ (x : State). count b (x.deferred t)) (start_state defers (LAST_SLOT + 1) size roots) in
+        omega (arith, none, some)
+        );
   }
 
   module _ (w : World T) (k : Listing defers size w) where

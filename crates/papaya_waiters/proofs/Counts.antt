@@ -43,23 +43,20 @@ use Rattle.papaya_waiters.proofs.Reached.{MovedSo, Reached, moved, past_on, rule
 -- where not all shares are counted, one is not
 some_uncounted : (d : ℕ → Share) (n : ℕ) → total is_counted d n ≢ n → (j : ℕ) × (j < n) × (d j ≢ Counted)
 some_uncounted d zero few = absurd (few refl)
-some_uncounted d (suc n) few = by (d n) refl (λ less. some_uncounted d n less)
+some_uncounted d (suc n) few = by (some_uncounted d n) (d n) refl
   where
     here : (share : Share) → d n ≡ share → share ≢ Counted → (j : ℕ) × (j < suc n) × (d j ≢ Counted)
     here share is other = (n, omega arith, λ e. other (sym is ∙ e))
 
-    Earlier : Type 0
-    Earlier = total is_counted d n ≢ n → (j : ℕ) × (j < n) × (d j ≢ Counted)
+    below : (total is_counted d n ≢ n → (j : ℕ) × (j < n) × (d j ≢ Counted)) → is_counted (d n) ≡ 1 → (j : ℕ) × (j < suc n) × (d j ≢ Counted)
+    below before one = let found = before (λ e. few (omega (arith, e, one))) in (found.0, (let l = found.1 in omega (arith, l)), found.2)
 
-    below : is_counted (d n) ≡ 1 → Earlier → (j : ℕ) × (j < suc n) × (d j ≢ Counted)
-    below one earlier = let before = earlier (λ e. few (omega (arith, e, one))) in (before.0, (let l = before.1 in omega (arith, l)), before.2)
-
-    by : (share : Share) → d n ≡ share → Earlier → (j : ℕ) × (j < suc n) × (d j ≢ Counted)
-    by Counted is earlier = below (ap is_counted is) earlier
-    by Free is earlier = here Free is (λ e. cc e)
-    by (Claimed k) is earlier = here (Claimed k) is (λ e. cc e)
-    by (Done k) is earlier = here (Done k) is (λ e. cc e)
-    by Lost is earlier = here Lost is (λ e. cc e)
+    by : (total is_counted d n ≢ n → (j : ℕ) × (j < n) × (d j ≢ Counted)) → (share : Share) → d n ≡ share → (j : ℕ) × (j < suc n) × (d j ≢ Counted)
+    by before Counted is = below before (ap is_counted is)
+    by before Free is = here Free is (λ e. cc e)
+    by before (Claimed k) is = here (Claimed k) is (λ e. cc e)
+    by before (Done k) is = here (Done k) is (λ e. cc e)
+    by before Lost is = here Lost is (λ e. cc e)
 
 module _ {K V : Type 0} (same : K → K → Bool) (hash : K → ℕ) (caller : ℕ) (setting : Setting) (mode : is_incremental setting.mode ≡ false) (w : World (Node K V)) (c : Chart K) (blocks : Blocks)
     (map : IsMapIn same hash setting w c blocks) (p : Copier) (m2 : Mem (Node K V)) (end : Copier × Outcome (Node K V) Table)
@@ -161,5 +158,8 @@ module _ {K V : Type 0} (same : K → K → Bool) (hash : K → ℕ) (caller : �
       by count is wrote (inl (full, ends)) =
           inl (ends, goes (λ u. EndsAt d p at.Promotes u) (count_then count is wrote) (inl (target_turn, (let ahead = into.1 in omega (arith, first, ahead)))) all)
       by count is wrote (inr (short, ends)) =
-          inr (ends, goes (λ u. ⊥) (count_then count is wrote)
-          (inr (left (λ e. (let other = eqb-false ((count + p.done) % 2 ^ 64) p.source.len short in let low = fits in let long = length in other (omega (arith, is, low, long, e)))))) all)
+          inr (
+            ends,
+            goes (λ u. ⊥) (count_then count is wrote)
+                (inr (left (λ e. (let other = eqb-false ((count + p.done) % 2 ^ 64) p.source.len short in let low = fits in let long = length in other (omega (arith, is, low, long, e)))))) all,
+          )

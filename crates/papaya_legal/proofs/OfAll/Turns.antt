@@ -252,8 +252,7 @@ module _ {K V S : Type 0} (same : K → K → Bool) (hash : K → ℕ) (name : �
 
       by : HasTurned → IsBehind
       by (inl (none, same_lists, taken)) =
-          let had = left n (over_by [] (none_gone known x none)) in
-          (
+          let had = left n (over_by [] (none_gone known x none)) in (
             had.0,
             noted_still same hash name m known s whole kept old new i lists before after told under_way leads none had.0 ∙ had.1,
             subst (λ (ls : ℕ → List ℕ). 0 < times had.0 (all_lists ls roots)) (sym same_lists) had.2,

@@ -38,7 +38,7 @@ returns-then-is_done-clause-gone g c =
       far c.loop-self.effects.items c.loop-self.self,
       c.loop-self.invariant.gone,
       end_step c.args.self.now c.loop-self.self c.step_end.new.self c.args.effects.now.items c.loop-self.effects.items c.step_end.new.effects.items c.args.caller c.args.map c.in_ok-told.told
-      (ending_under c.args.caller c.args.map r.0 r.1 r.2 _ _ _ _ r.3 r.4 c.loop-self.invariant.ran) e.did e.noted c.step_end.ensures.given e.steps,
+          (ending_under c.args.caller c.args.map r.0 r.1 r.2 _ _ _ _ r.3 r.4 c.loop-self.invariant.ran) e.did e.noted c.step_end.ensures.given e.steps,
       sym c.is_done.ensures ∙ c.if-is_done.true,
     )
 
@@ -67,9 +67,11 @@ loop-self-preserved g c =
     let e = c.in_ok-told.ensures in
     record {
       ran = ran_goes c.args.caller c.args.map r.0 r.1 r.2 _ _ _ _ _ _ c.in_ok-told.told r.3 r.4 c.loop-self.invariant.ran e.leads e.steps (sym c.is_done.ensures ∙ c.if-is_done.false);
-      gone = goes_more (EndOn c.args.caller c.args.map) _ (far c.loop-self.effects.items c.loop-self.self) (far c.step_end.new.effects.items c.step_end.new.self) c.loop-self.invariant.gone
-          (end_step c.args.self.now c.loop-self.self c.step_end.new.self c.args.effects.now.items c.loop-self.effects.items c.step_end.new.effects.items c.args.caller c.args.map c.in_ok-told.told
-          (ending_under c.args.caller c.args.map r.0 r.1 r.2 _ _ _ _ r.3 r.4 c.loop-self.invariant.ran) e.did e.noted c.step_end.ensures.given e.steps, sym c.is_done.ensures ∙ c.if-is_done.false);
+      gone = goes_more (EndOn c.args.caller c.args.map) _ (far c.loop-self.effects.items c.loop-self.self) (far c.step_end.new.effects.items c.step_end.new.self) c.loop-self.invariant.gone (
+        end_step c.args.self.now c.loop-self.self c.step_end.new.self c.args.effects.now.items c.loop-self.effects.items c.step_end.new.effects.items c.args.caller c.args.map c.in_ok-told.told
+            (ending_under c.args.caller c.args.map r.0 r.1 r.2 _ _ _ _ r.3 r.4 c.loop-self.invariant.ran) e.did e.noted c.step_end.ensures.given e.steps,
+        sym c.is_done.ensures ∙ c.if-is_done.false,
+      );
       given = given_on c.args.self.now.executor c.loop-self.self.executor c.step_end.new.self.executor c.loop-self.invariant.given c.step_end.ensures.given;
       back = brings_end c.args.caller c.args.map c.args.self.now c.loop-self.self c.step_end.new.self _ _ _ c.in_ok-told.told c.loop-self.invariant.ran e.leads e.did _ _ _ c.loop-self.invariant.back
           (c.keep_settled.ensures ∙ ap (λ l. l ++ settled_back c.in_ok-told.told c.as_slice.result.now) c.reserve.ensures.items

@@ -51,7 +51,7 @@ returns-then-is_over-clause-gone g c =
       c.loop-told.invariant.gone,
       c.step_making.new.self,
       making_step c.args.self.now c.loop-told.self c.step_making.new.self c.args.effects.now.items c.loop-told.effects.items c.step_making.new.effects.items c.args.caller c.args.map c.in_ok-told.told
-      (still_under c.args.caller c.args.map r.0 r.1 r.2 _ _ _ _ r.3 r.4 r.5 r.6 c.loop-told.invariant.ran) e.did e.noted c.step_making.ensures.given e.steps,
+          (still_under c.args.caller c.args.map r.0 r.1 r.2 _ _ _ _ r.3 r.4 r.5 r.6 c.loop-told.invariant.ran) e.did e.noted c.step_making.ensures.given e.steps,
       refl,
       refl,
       refl,
@@ -79,9 +79,11 @@ loop-told-preserved g c =
     record {
       ran = ran_goes c.args.caller c.args.map r.0 r.1 r.2 _ _ _ _ _ _ c.in_ok-told.told r.3 r.4 r.5 r.6 c.loop-told.invariant.ran e.leads e.steps (sym c.is_over.ensures ∙ c.if-is_over.false);
       finds = goes_found c.args.caller c.args.map r.0 r.1 r.2 c.args.self.now c.loop-told.self c.step_making.new.self _ _ _ c.in_ok-told.told r.3 r.4 r.5 r.6 c.loop-told.invariant.ran c.loop-told.invariant.finds e.steps e.did (sym c.is_over.ensures ∙ c.if-is_over.false);
-      gone = goes_more (MakingOn c.args.caller c.args.map) _ (far c.loop-told.effects.items c.loop-told.self) (far c.step_making.new.effects.items c.step_making.new.self) c.loop-told.invariant.gone
-          (making_step c.args.self.now c.loop-told.self c.step_making.new.self c.args.effects.now.items c.loop-told.effects.items c.step_making.new.effects.items c.args.caller c.args.map c.in_ok-told.told
-          (still_under c.args.caller c.args.map r.0 r.1 r.2 _ _ _ _ r.3 r.4 r.5 r.6 c.loop-told.invariant.ran) e.did e.noted c.step_making.ensures.given e.steps, sym c.is_over.ensures ∙ c.if-is_over.false);
+      gone = goes_more (MakingOn c.args.caller c.args.map) _ (far c.loop-told.effects.items c.loop-told.self) (far c.step_making.new.effects.items c.step_making.new.self) c.loop-told.invariant.gone (
+        making_step c.args.self.now c.loop-told.self c.step_making.new.self c.args.effects.now.items c.loop-told.effects.items c.step_making.new.effects.items c.args.caller c.args.map c.in_ok-told.told
+            (still_under c.args.caller c.args.map r.0 r.1 r.2 _ _ _ _ r.3 r.4 r.5 r.6 c.loop-told.invariant.ran) e.did e.noted c.step_making.ensures.given e.steps,
+        sym c.is_over.ensures ∙ c.if-is_over.false,
+      );
       numbers = e.numbers ∙ c.loop-told.invariant.numbers;
       given = given_on c.args.self.now.executor c.loop-told.self.executor c.step_making.new.self.executor c.loop-told.invariant.given c.step_making.ensures.given;
     }

@@ -50,7 +50,7 @@ returns-then-is_done-clause-gone g c = (
   c.loop-left.invariant.gone,
   _,
   all_last c.loop-left.self c.loop-left.self c.step_reclaiming.new.self c.loop-left.effects.items c.loop-left.effects.items c.step_reclaiming.new.effects.items _ _ c.in_ok-told.told
-  c.in_ok-told.ensures.did c.in_ok-told.ensures.noted c.step_reclaiming.ensures.given c.in_ok-told.ensures.steps,
+      c.in_ok-told.ensures.did c.in_ok-told.ensures.noted c.step_reclaiming.ensures.given c.in_ok-told.ensures.steps,
   sym c.is_done.ensures ∙ c.if-is_done.true,
 )
 
