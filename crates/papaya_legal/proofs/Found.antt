@@ -85,6 +85,10 @@ none_among (u ∷ xs) all = by (is_retired u.stage) refl (none_among xs all.1)
     by true is rest = absurd (all.0 is)
     by false is rest = ap (λ (q : Bool). not q && list_all (λ v. not (is_retired v.stage)) xs) is ∙ rest
 
+-- what a step did by which an executor came from one place to another
+abbrev did_by : {K V S : Type 0} → (x y : Come K V S) → List Effect
+did_by x y = effects_of acts.Row x.notes y.executor.memory.changed
+
 module _ (K V S : Type 0) (same : K → K → Bool) (hash : K → ℕ) where
   pub rows_find_theirs : RowsFindTheirs K V S same hash
   rows_find_theirs name m known s old new at whole kept i told leads row here terms of_row needs =
@@ -100,9 +104,6 @@ module _ (K V S : Type 0) (same : K → K → Bool) (hash : K → ℕ) where
       Both x = InSlotEvent same name terms log event i called first began x.did x.now x.notes x.scene
           × (list_all (λ f. is_reclaiming f || asks_for_bucket f) x.did ≡ true → AtEachEffect AsksInNeed None None x.did (moment log)
           → AtEachEffect (Finds terms None None false []) None None x.did (moment log))
-
-      did_by : (x y : Come K V S) → List Effect
-      did_by x y = effects_of acts.Row x.notes y.executor.memory.changed
 
       then_find : (x y : Come K V S) → RowSteps same hash terms i x y → Both x → list_all (λ f. is_reclaiming f || asks_for_bucket f) (x.did ++ did_by x y) ≡ true
           → AtEachEffect AsksInNeed None None (x.did ++ did_by x y) (moment log) → AtEachEffect (Finds terms None None false []) None None (x.did ++ did_by x y) (moment log)
