@@ -139,12 +139,12 @@ module _ (K V S : Type 0) (same : K → K → Bool) (hash : K → ℕ) where
   none_at_rest name m known s e at kept rests none left =
       let all = handed_at_rest K V e.batch_size m known s at.together.makings.standing.came kept.handed rests in
       record {
-        pairs = λ n. pair (is_handed (m.place n)) (λ is. (let it = all.0 n is in let was = it.2 in let no = none it.0 in cc (was, no)));
+        pairs = λ n. neither (is_handed (m.place n)) (λ is. (let it = all.0 n is in let was = it.2 in let no = none it.0 in cc (was, no)));
         tables = none_among m.tables
             (each_table m (λ u. ⊥) (λ u is. (let it = all.1 u.table is in let was = it.3 in let no = none it.0 in cc (was, no))) m.tables (λ t is. is));
         left = left;
       }
     where
-      pair : (q : Bool) → (q ≡ true → ⊥) → q ≡ false
-      pair true no = absurd (no refl)
-      pair false no = refl
+      neither : (q : Bool) → (q ≡ true → ⊥) → q ≡ false
+      neither true never = absurd (never refl)
+      neither false never = refl
