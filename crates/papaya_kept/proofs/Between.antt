@@ -47,10 +47,12 @@ use Rattle.papaya_settles.proofs.Hand.Between.{calls_begin_owed, calls_take_owed
 use Rattle.papaya_settles.proofs.Handing.{calls_begin_handing, calls_take_handing, walks_go_on_handing, walks_stop_handing}
 use Rattle.papaya_lives.specs.Behind.{WaitsOnce}
 use Rattle.papaya_lives.specs.Retired.{CallsStay}
+use Rattle.papaya_lives.proofs.HandedRows.{others_leave_handed}
 use Rattle.papaya_lives.proofs.LeftTables.{others_keep_left}
 use Rattle.papaya_lives.proofs.Lying.{others_leave_lying}
 use Rattle.papaya_lives.proofs.Reclaimed.{others_leave_retired}
 use Rattle.papaya_lives.proofs.Waiting.{others_leave_waiting}
+use Rattle.papaya_kept.proofs.Ends.{calls_begin_ends, calls_take_ends, walks_go_on_ends, walks_stop_ends}
 use Rattle.papaya_kept.specs.Steps.{CallsBeginKept, CallsTakeKept, WalksGoOnKept, WalksStopKept}
 
 -- a call that begins has nothing in hand
@@ -184,6 +186,8 @@ module _ (K V S : Type 0) (same : K → K → Bool) (hash : K → ℕ) where
     lying = others_leave_lying K V m v known s.world kept.lying refl;
     retired = others_leave_retired K V m v known s (scene_with map i u s) kept.retired refl refl (calls_stay s map i (Some u) (λ is. absurd (cc is)));
     left = others_keep_left K V known s (scene_with map i u s) kept.left refl refl;
+    handed = others_leave_handed K V m v known s (scene_with map i u s) kept.handed refl refl refl refl (calls_stay s map i (Some u) (λ is. absurd (cc is)));
+    ends = calls_begin_ends s kept.ends map i name none u;
   }
     where
       v : Moment K V
@@ -205,6 +209,8 @@ module _ (K V S : Type 0) (same : K → K → Bool) (hash : K → ℕ) where
     lying = others_leave_lying K V m v known s.world kept.lying refl;
     retired = others_leave_retired K V m v known s (scene_with map i next s) kept.retired refl refl (calls_stay s map i (Some next) (λ is. absurd (cc is)));
     left = others_keep_left K V known s (scene_with map i next s) kept.left refl refl;
+    handed = others_leave_handed K V m v known s (scene_with map i next s) kept.handed refl refl refl refl (calls_stay s map i (Some next) (λ is. absurd (cc is)));
+    ends = calls_take_ends s kept.ends map i u here reply next next_is;
   }
     where
       v : Moment K V
@@ -228,6 +234,8 @@ module _ (K V S : Type 0) (same : K → K → Bool) (hash : K → ℕ) where
         lying = kept.lying;
         retired = others_leave_retired K V m m known s (scene_with map i next s) kept.retired refl refl (calls_stay s map i (Some next) (λ is. absurd (cc is)));
         left = others_keep_left K V known s (scene_with map i next s) kept.left refl refl;
+        handed = others_leave_handed K V m m known s (scene_with map i next s) kept.handed refl refl refl refl (calls_stay s map i (Some next) (λ is. absurd (cc is)));
+        ends = walks_go_on_ends s kept.ends map i u here next (leads map u here).1;
       }
 
   pub walks_stop_kept : WalksStopKept K V S same hash
@@ -247,6 +255,9 @@ module _ (K V S : Type 0) (same : K → K → Bool) (hash : K → ℕ) where
     retired = others_leave_retired K V m v known s (record s { calls = with_in s.calls map i (unless_stopped stopped u) }) kept.retired (given_tables (name i) m stopped) refl
         (calls_stay s map i (unless_stopped stopped u) (rests stopped refl));
     left = others_keep_left K V known s (record s { calls = with_in s.calls map i (unless_stopped stopped u) }) kept.left refl refl;
+    handed = others_leave_handed K V m v known s (record s { calls = with_in s.calls map i (unless_stopped stopped u) }) kept.handed (given_place (name i) m stopped) (given_deferred (name i) m stopped)
+        (given_tables (name i) m stopped) refl (calls_stay s map i (unless_stopped stopped u) (rests stopped refl));
+    ends = walks_stop_ends s kept.ends map i u here stopped (leads map u here).0;
   }
     where
       v : Moment K V

@@ -25,10 +25,12 @@ use Rattle.papaya_settles.proofs.Handing.{calls_keep_handing}
 use Rattle.papaya_lives.specs.Behind.{ShowsWaiting, WaitsOnce}
 use Rattle.papaya_lives.proofs.CallRows.{row_waits_on}
 use Rattle.papaya_lives.proofs.Calls.{calls_keep_waiting, calls_keep_list}
+use Rattle.papaya_lives.proofs.HandedCalls.{calls_keep_handed}
 use Rattle.papaya_lives.proofs.LeftTables.{calls_keep_left}
 use Rattle.papaya_lives.proofs.LyingCalls.{calls_keep_lying}
 use Rattle.papaya_lives.proofs.RetiredCalls.{calls_keep_retired}
 use Rattle.papaya_kept.specs.Kept.{ShowsKept}
+use Rattle.papaya_kept.proofs.EndCalls.{calls_keep_all_ends}
 use Rattle.papaya_kept.specs.Steps.{CallsKeepKept}
 
 module _ (K V S : Type 0) (same : K → K → Bool) (hash : K → ℕ) where
@@ -54,6 +56,8 @@ module _ (K V S : Type 0) (same : K → K → Bool) (hash : K → ℕ) where
         lying = calls_keep_lying K V S same hash name m known s old new at whole kept.entries owned kept.owed kept.lying map i u here said leads;
         retired = calls_keep_retired K V S same hash name m known s old new at whole kept.entries owned kept.retired map i u here said leads;
         left = calls_keep_left K V S same hash name m known s old new at whole owned kept.left map i u here said leads;
+        handed = calls_keep_handed K V S same hash name m known s old new at whole kept.entries owned kept.waiting kept.retired kept.handed map i u here said leads;
+        ends = calls_keep_all_ends same hash name m known s old new at whole.all.shown kept.ends map i said leads u here;
       }
     where
       v : Moment K V

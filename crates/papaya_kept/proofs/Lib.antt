@@ -1,4 +1,6 @@
 -- Each kind of step keeps what is kept.
+pub mod Ends
+pub mod EndCalls
 pub mod Stays
 pub mod Renamed
 pub mod InHand

@@ -46,6 +46,9 @@ use Rattle.papaya_settles.proofs.Hand.Between.{stays_owed, effects_leave_owed}
 use Rattle.papaya_settles.proofs.Handing.{others_leave_handing}
 use Rattle.papaya_lives.specs.Behind.{ShowsWaiting, WaitsOnce}
 use Rattle.papaya_lives.specs.Lying.{ShowsLying}
+use Rattle.papaya_lives.proofs.HandedEnds.{endings_keep_handed}
+use Rattle.papaya_lives.proofs.HandedMakings.{makings_keep_handed}
+use Rattle.papaya_lives.proofs.HandedRows.{endings_begin_handed, others_leave_handed, rows_begin_handed, rows_keep_handed}
 use Rattle.papaya_lives.proofs.Ends.{endings_find_waiting}
 use Rattle.papaya_lives.proofs.LeftEnds.{endings_keep_left}
 use Rattle.papaya_lives.proofs.LeftTables.{others_keep_left, endings_begin_left, rows_begin_left, rows_keep_left, makings_keep_left}
@@ -60,6 +63,7 @@ use Rattle.papaya_lives.proofs.Waiting.{endings_begin_waiting, rows_begin_waitin
 use Rattle.papaya_lives.proofs.WaitingEnds.{endings_keep_waiting, once_then}
 use Rattle.papaya_kept.specs.Steps.{RowsBeginKept, RowsKeepKept, RowsFindKept, MakingsKeepKept, EndingsBeginKept, EndingsKeepKept, EndingsFindKept}
 use Rattle.papaya_kept.proofs.Calls.{own_made}
+use Rattle.papaya_kept.proofs.Ends.{endings_begin_ends, endings_keep_ends, makings_keep_ends, rows_leave_ends}
 use Rattle.papaya_kept.proofs.InHand.{rows_leave_in_hand, makings_leave_in_hand, endings_leave_in_hand}
 use Rattle.papaya_kept.proofs.Stays.{calls_same, entries_stay, same_in_hand}
 
@@ -110,6 +114,8 @@ module _ (K V S : Type 0) (same : K → K → Bool) (hash : K → ℕ) where
     lying = rows_begin_lying K V S same hash m known s old new kept.lying called i may leads;
     retired = rows_begin_retired K V S same hash m known s old new at kept.retired called i may leads;
     left = rows_begin_left K V S same hash known s old new kept.left called i may leads;
+    handed = rows_begin_handed K V S same hash m known s old new at kept.handed called i may leads;
+    ends = rows_leave_ends same hash s kept.ends old new (Begin i (request_of (slot_of i) called)) (leads may).3;
   }
     where
       t : Scene K V
@@ -133,6 +139,8 @@ module _ (K V S : Type 0) (same : K → K → Bool) (hash : K → ℕ) where
     lying = rows_keep_lying K V S same hash name m known s old new at whole kept.lying i said leads row here;
     retired = rows_keep_retired K V S same hash name m known s old new at whole kept.retired i said leads row here;
     left = rows_keep_left K V S same hash name m known s old new at whole kept.left i said leads row here;
+    handed = rows_keep_handed K V S same hash name m known s old new at whole kept.waiting kept.handed i said leads row here;
+    ends = rows_leave_ends same hash s kept.ends old new (Step i) (leads row here).4;
   }
     where
       effects : List Effect
@@ -169,9 +177,12 @@ module _ (K V S : Type 0) (same : K → K → Bool) (hash : K → ℕ) where
     retired = others_leave_retired K V v v known2 stepped led
         (makings_keep_retired K V S same hash name m known s old new at whole (own_made K V S same hash name m known s old at whole kept) kept.retired i said leads b here of was_new) refl world
         (λ j has. inl (calls_same stepped led calls j has));
+    handed = others_leave_handed K V v v known2 stepped led (makings_keep_handed K V S same hash name m known s old new at whole kept.handed i said leads b here of was_new) refl refl refl world
+        (λ j has. inl (calls_same stepped led calls j has));
     left = others_keep_left K V known2 stepped led
         (makings_keep_left K V S same hash known s old new (own_made K V S same hash name m known s old at whole kept) kept.left i said leads b here) world
         (making_enders same hash s old new i b (leads b here).0 (leads b here).2.step.w2 said (leads b here).3);
+    ends = makings_keep_ends same hash s kept.ends old new i b (leads b here).0 (leads b here).2.step.w2 said (leads b here).3;
   }
     where
       effects : List Effect
@@ -211,6 +222,8 @@ module _ (K V S : Type 0) (same : K → K → Bool) (hash : K → ℕ) where
     lying = endings_begin_lying K V m known s kept.lying map i standing;
     retired = endings_begin_retired K V m known s kept.retired map i standing;
     left = endings_begin_left K V known s kept.left map i standing nobody;
+    handed = endings_begin_handed K V m known s kept.handed map i standing;
+    ends = endings_begin_ends s kept.ends map i standing;
   }
     where
       t : Scene K V
@@ -233,6 +246,8 @@ module _ (K V S : Type 0) (same : K → K → Bool) (hash : K → ℕ) where
     lying = endings_keep_lying K V S same hash name m known s old new at whole kept.lying i said leads f here map not_there;
     retired = endings_keep_retired K V S same hash name m known s old new at whole kept.retired i said leads f here map not_there;
     left = endings_keep_left K V S same hash name m known s old new at whole kept.left i said leads f here map not_there;
+    handed = endings_keep_handed K V S same hash name m known s old new at whole kept.waiting kept.retired kept.handed i said leads f here map not_there;
+    ends = endings_keep_ends same hash s kept.ends old new i f (leads f here).0 (leads f here).2.w2 (leads f here).2.deed said (leads f here).3;
   }
     where
       effects : List Effect

@@ -28,10 +28,12 @@ use Rattle.papaya_settles.proofs.Hand.Roles.{hand_kept}
 use Rattle.papaya_settles.proofs.Handing.{handing_begins, calls_come_to_handing}
 use Rattle.papaya_lives.specs.Behind.{ShowsWaiting, WaitsOnce}
 use Rattle.papaya_lives.specs.Lying.{ShowsLying}
+use Rattle.papaya_lives.proofs.HandedRows.{handed_begins, others_leave_handed}
 use Rattle.papaya_lives.proofs.LeftTables.{left_begins, others_keep_left}
 use Rattle.papaya_lives.proofs.Lying.{lying_begins, others_leave_lying}
 use Rattle.papaya_lives.proofs.Reclaimed.{retired_begins, others_leave_retired}
 use Rattle.papaya_lives.proofs.Waiting.{waiting_begins, others_leave_waiting}
+use Rattle.papaya_kept.proofs.Ends.{ends_begin, ends_stay}
 use Rattle.papaya_kept.specs.Steps.{BeginsKept, StaysKept, RenamedKept, CallsComeToKept, MakingsBeginKept}
 
 pub begins_kept : (K V : Type 0) → BeginsKept K V
@@ -50,6 +52,8 @@ begins_kept K V roots name = record {
   lying = lying_begins K V roots;
   retired = retired_begins K V roots;
   left = left_begins K V roots;
+  handed = handed_begins K V roots;
+  ends = ends_begin K V roots;
 }
 
 module _ {K V : Type 0} where
@@ -76,7 +80,7 @@ module _ {K V : Type 0} where
       (ap (λ (l : List (CallThere K V)). find (λ y. is_same y.caller (name i)) l) (sym listed) ∙ c_is)
 
 pub stays_kept : (K V : Type 0) → StaysKept K V
-stays_kept K V name m v known s t kept listed tables deferred place world calls makers enders = record {
+stays_kept K V name m v known s t kept listed tables deferred place world calls makers enders maps = record {
   entries = entries_stay s t kept.entries world calls;
   made = stays_made K V name m v known s t kept.made listed calls;
   tables = stays_tables K V name m v known s t kept.tables listed calls makers;
@@ -91,6 +95,8 @@ stays_kept K V name m v known s t kept listed tables deferred place world calls 
   lying = subst (ShowsLying v known) (sym world) (others_leave_lying K V m v known s.world kept.lying deferred);
   retired = others_leave_retired K V m v known s t kept.retired tables world (λ j has. inl (calls_same s t calls j has));
   left = others_keep_left K V known s t kept.left world enders;
+  handed = others_leave_handed K V m v known s t kept.handed place deferred tables world (λ j has. inl (calls_same s t calls j has));
+  ends = ends_stay s kept.ends t maps calls;
 }
 
 pub renamed_kept : (K V : Type 0) → RenamedKept K V
@@ -109,6 +115,8 @@ renamed_kept K V name name2 m known s agree kept = record {
   lying = kept.lying;
   retired = kept.retired;
   left = kept.left;
+  handed = kept.handed;
+  ends = kept.ends;
 }
   where
     as_named : (map i : ℕ) (u : UnderWay K V K) → s.calls map i ≡ Some u → (c : CallThere K V) → call_of (name2 i) m ≡ Some c → call_of (name i) m ≡ Some c
@@ -130,6 +138,8 @@ calls_come_to_kept K V same name m known s whole kept own outcome steps none = r
   lying = others_leave_lying K V m (come_to own outcome steps m) known s.world kept.lying refl;
   retired = others_leave_retired K V m (come_to own outcome steps m) known s s kept.retired refl refl (λ j has. inl has);
   left = kept.left;
+  handed = others_leave_handed K V m (come_to own outcome steps m) known s s kept.handed refl refl refl refl (λ j has. inl has);
+  ends = kept.ends;
 }
 
 pub makings_begin_kept : (K V : Type 0) → MakingsBeginKept K V
@@ -148,6 +158,8 @@ makings_begin_kept K V name m known s kept i b none = record {
   lying = kept.lying;
   retired = others_leave_retired K V m m known s t kept.retired refl refl (λ j has. inl has);
   left = others_keep_left K V known s t kept.left refl refl;
+  handed = others_leave_handed K V m m known s t kept.handed refl refl refl refl (λ j has. inl has);
+  ends = kept.ends;
 }
   where
     t : Scene K V

@@ -60,7 +60,7 @@ module _ (K V : Type 0) where
   StaysKept =
       (name : ℕ → List ℕ) (m v : Moment K V) (known : Known) (s t : Scene K V) → ShowsKept name m known s
       → v.calls ≡ m.calls → v.tables ≡ m.tables → v.deferred ≡ m.deferred → v.place ≡ m.place → t.world ≡ s.world → t.calls ≡ s.calls → t.makers ≡ s.makers → t.enders ≡ s.enders
-      → ShowsKept name v known t
+      → t.maps ≡ s.maps → ShowsKept name v known t
 
   -- by other names of callers that have no call,
   abbrev pub RenamedKept : Type 0

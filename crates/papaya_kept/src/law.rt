@@ -4,7 +4,8 @@ ghost use Rattle.papaya_kept.specs.Steps.{BeginsKept, StaysKept, RenamedKept, Ca
 
 /// At each moment of a run that shows the executor, what somebody has is blank, each call has made what the moment says and owes what it has in hand, what waits behind a
 /// table does so in the memory, and behind no other table, what can be reached through a table alone waits behind it, or is being put there, the tables that the collector has are retired, or about to be, and those that are left over are of maps whose ends
-/// are under way. So it is before all events; where a call begins, takes a reply, is a walk
+/// are under way; each pair that the collector has was handed over, or waits, or is in hand still. On a map that grows in chunks, each copying that is not over has a place that is not counted, or a call that is to end it.
+/// So it is before all events; where a call begins, takes a reply, is a walk
 /// that goes on or is given up, and comes to an outcome; after each step of a call, whoever's; where a row begins on a slot, and after each step of it; where the making and
 /// the end of a map begin, and after each step of these; and as long as nothing of it has changed. So a table that a row on a slot reclaims was retired, and what waits
 /// behind it, or behind one that ends with its map, is not reclaimed.

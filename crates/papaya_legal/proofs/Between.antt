@@ -67,7 +67,7 @@ pub likes_show : (K V : Type 0) (same : K → K → Bool) → LikesShow K V same
 likes_show K V same name log m v known s all like = subst (λ (x : Moment K V). ShowsCalls same name log x known s) (sym like) (record {
   whole = all_stays_shown K V same name m known s all.whole v.events v.is_mapped v.is_closed v.is_alone v.there v.slots v.sheltered v.remains;
   numbers = (record { found = all.numbers.0.found; below = all.numbers.0.below; tables = all.numbers.0.tables }, all.numbers.1);
-  kept = stays_kept K V name m other known s s all.kept refl refl refl refl refl refl refl refl;
+  kept = stays_kept K V name m other known s s all.kept refl refl refl refl refl refl refl refl refl;
   counters = counters_stay K V name m other s s all.counters refl refl refl refl refl (λ of j x is removed adds. (x, is, adds));
   uncounted = all.uncounted;
   dues = (dues_stay K V (Unit {0}) same (λ k. 0) name log).alike m other known s all.dues alike;
@@ -316,7 +316,7 @@ module _ (K V S : Type 0) (same : K → K → Bool) (hash : K → ℕ) where
         record {
           whole = maps_come_whole K V same name m known s all.whole there come.1;
           numbers = (come.0, pairs_stay_as_maps_come K V m all.numbers.1 there);
-          kept = stays_kept K V name m (with_map there m) known s s all.kept refl refl refl refl refl refl refl refl;
+          kept = stays_kept K V name m (with_map there m) known s s all.kept refl refl refl refl refl refl refl refl refl;
           counters = counters_stay K V name m (with_map there m) s s all.counters refl refl refl refl refl (λ of j x is removed adds. (x, is, adds));
           uncounted = λ of low. (let l : m.made ≤ of = omega (arith, low) in all.uncounted of l);
           dues = (dues_stay K V S same hash name log).maps_come m known s e e at all.whole all.dues there come.1;
@@ -357,7 +357,7 @@ module _ (K V S : Type 0) (same : K → K → Bool) (hash : K → ℕ) where
   maps_gone name log m known s e at all own remains apart = record {
     whole = endings_are_over_whole K V same name m known s all.whole own remains all.numbers.0.found apart;
     numbers = (maps_go K V m all.numbers.0 own remains, pairs_stay_as_maps_go K V m all.numbers.1 own remains);
-    kept = stays_kept K V name m (without_map own remains m) known s s all.kept refl refl refl refl refl refl refl refl;
+    kept = stays_kept K V name m (without_map own remains m) known s s all.kept refl refl refl refl refl refl refl refl refl;
     counters = counters_stay K V name m (without_map own remains m) s s all.counters refl refl refl refl refl (λ of j x is removed adds. (x, is, adds));
     uncounted = all.uncounted;
     dues = (dues_stay K V S same hash name log).endings_over m known s e e at all.whole all.dues own remains apart;

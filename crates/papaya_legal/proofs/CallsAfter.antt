@@ -76,7 +76,7 @@ call_events_end_so K V S same hash name terms log beginning map i c first before
     numbers = numbers_over log (name i) e.outcome e.steps e.effects e.event midst.of_call (subst (λ (x : Moment K V). NumbersMaps x × PairsAreBelow x) (sym worked_is) numbers);
     kept = stays_kept K V name come last then_known s2 s2
         (calls_come_to_kept K V same name v then_known s2 all.0 (calls_keep_kept K V S same hash name m known s old new at whole midst.calls.kept map i u here said leads) (name i) e.outcome e.steps none)
-        alike.calls alike.tables (ap (λ (x : Moment K V). x.deferred) worked_is) alike.place refl refl refl refl;
+        alike.calls alike.tables (ap (λ (x : Moment K V). x.deferred) worked_is) alike.place refl refl refl refl refl;
     counters = counters_stay K V name come last s2 s2
         (calls_come_to_counters K V same name v then_known s2 all.0 (calls_keep_counters K V S same hash name m known s old new at whole midst.calls.kept.counts midst.calls.counters map i u here said leads) (name i) e.outcome
         e.steps none)

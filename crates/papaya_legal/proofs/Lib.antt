@@ -24,4 +24,6 @@ pub mod Idle
 pub mod Begun
 pub mod MapsOver
 pub mod Chains
+pub mod OfAll
 pub mod Legal
+pub mod Found

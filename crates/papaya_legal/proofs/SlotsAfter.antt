@@ -45,7 +45,7 @@ module _ {K V : Type 0} where
   stores_none Close m f on may who v = reclaiming_stores f may who v
   stores_none _ m f on may who v = absurd (cc on)
 
-  each_stores : (event : Event K V) (m : Moment K V) → is_of_slots event ≡ true → (who : Option (List ℕ)) (acted : Option ℕ) (effects : List Effect) (v : Moment K V)
+  pub each_stores : (event : Event K V) (m : Moment K V) → is_of_slots event ≡ true → (who : Option (List ℕ)) (acted : Option ℕ) (effects : List Effect) (v : Moment K V)
       → list_all (may_do event m) effects ≡ true → AtEachEffect (StoresOne who) who acted effects v
   each_stores event m on who acted [] v may = tt
   each_stores event m on who acted (f ∷ effects) v may =
@@ -61,7 +61,7 @@ module _ {K V : Type 0} (log : List (Entry K V)) (outcome : Outcome V) (steps : 
   abbrev at_end : Event K V → Moment K V
   at_end event = after (record { event = event; outcome = outcome; steps = steps; effects = effects }) (moment log)
 
-  like : (event : Event K V) → is_of_slots event ≡ true → IsLike done (at_end event)
+  pub like : (event : Event K V) → is_of_slots event ≡ true → IsLike done (at_end event)
   like (Register registration) on = refl
   like (Unregister registration) on = refl
   like (Enter guard registration) on = refl

@@ -14,7 +14,7 @@ use Rattle.papaya_histories.specs.Given.Schedules.After.{after, is_by, moment, m
 use Rattle.papaya_histories.specs.Given.Schedules.Beginning.{begun}
 use Rattle.papaya_histories.specs.Given.Schedules.Effects.{AtEachEffect, worked}
 use Rattle.papaya_histories.specs.Given.Schedules.Entry.{Entry, IfCall, acting, caller_of, is_busy, speaker}
-use Rattle.papaya_histories.specs.Given.Schedules.Handing.{AllFind, IsWhole, LeavesOf, asks_for_bucket, comes_clear, gives_all, is_made, is_only, is_reclaiming, may_do, refuses}
+use Rattle.papaya_histories.specs.Given.Schedules.Handing.{AllFind, IsWhole, LeavesOf, asks_for_bucket, comes_clear, gives_all, is_granted, is_made, is_only, is_reclaiming, may_do, refuses}
 use Rattle.papaya_histories.specs.Given.Schedules.Linearizable.{shift_of}
 use Rattle.papaya_histories.specs.Given.Schedules.Lives.{Finds}
 use Rattle.papaya_histories.specs.Given.Schedules.Model.{IsByModel, back_by_model, number_in, thing_back, things_in}
@@ -33,6 +33,7 @@ use Rattle.papaya_promises.specs.Sheltered.{SectionsHold}
 use Rattle.papaya_promises.proofs.Protected.{slot_events_end_protected}
 use Rattle.papaya_purposes.proofs.Nothing.{no_calls_are_swept}
 use Rattle.papaya_histories.proofs.Given.Spots.Unreclaimed.{and_both}
+use Rattle.papaya_legal.specs.CallEvents.{IsLegalBut}
 use Rattle.papaya_legal.specs.Carried.{ComesAlone}
 use Rattle.papaya_legal.specs.SlotEvents.{SlotEventsAreLegal}
 
@@ -126,30 +127,36 @@ module _ {K V : Type 0} (effects : List Effect) (m w : Moment K V) where
   whole_so Close _ on busy = tt
   whole_so _ outcome on busy = absurd (cc on)
 
+-- So it is legal but for what it comes to, if what it did it may do, and finds what it must, and if it is protected, and by the model.
+pub slots_are_legal_but : (K V : Type 0) (same : K → K → Bool) (terms : Terms) (log : List (Entry K V)) (e : Entry K V) → is_of_slots e.event ≡ true
+    → list_all (may_do e.event (moment log)) e.effects ≡ true → AtEachEffect (Finds terms None None (gives_all e.event) []) None None e.effects (moment log) → is_granted false e.effects ≡ true
+    → is_busy e.outcome ≡ false → IsProtected log e → IsByModel terms log e → IsLegalBut same terms log e
+slots_are_legal_but K V same terms log e on may finds granted busy protected by_model = record {
+  brief = subst (λ (o : Option (List ℕ)). IfCall (λ (c : CallThere K V). IsBrief c.call c (moments_from c.begun log) (worked e (moment log)) (c.steps + e.steps)) (acting o (worked e (moment log)))) (sym none) tt;
+  linearizable = no_calls_are_linearizable K V same log e none (all_shift_none e.event (moment log) e.effects on may);
+  swept = no_calls_are_swept K V same terms log e none;
+  life = record {
+    finds = finds_so terms log e.effects e.event e.outcome e.steps on finds;
+    may = may;
+    granted = granted;
+    refuses = ap (λ (q : Bool). not q || not (list_any is_made e.effects)) (never_refuses e.event on);
+    whole = whole_so e.effects (moment log) (worked e (moment log)) e.event e.outcome on busy;
+    leaves = subst (λ (o : Option (List ℕ)). IfCall (LeavesOf (comes_clear e.outcome) e.outcome) (acting o (worked e (moment log)))) (sym none) tt;
+  };
+  protected = protected;
+  by_model = by_model;
+}
+  where
+    none : caller_of e.event ≡ None
+    none = no_caller e.event on
+
 pub slot_events_are_legal : (K V : Type 0) (same : K → K → Bool) → SlotEventsAreLegal K V same
 slot_events_are_legal K V same name terms log i called first began m known s e midst may finds small rests ends busy is_row = (
-  record {
-    brief = subst (λ (o : Option (List ℕ)). IfCall (λ (c : CallThere K V). IsBrief c.call c (moments_from c.begun log) (worked e (moment log)) (c.steps + e.steps)) (acting o (worked e (moment log)))) (sym none) tt;
-    linearizable = no_calls_are_linearizable K V same log e none (all_shift_none e.event (moment log) e.effects midst.of_slots may);
-    swept = no_calls_are_swept K V same terms log e none;
-    life = record {
-      finds = finds_so terms log e.effects e.event e.outcome e.steps midst.of_slots finds;
-      may = may;
-      granted = midst.granted;
-      refuses = ap (λ (q : Bool). not q || not (list_any is_made e.effects)) (never_refuses e.event midst.of_slots);
-      whole = whole_so e.effects (moment log) (worked e (moment log)) e.event e.outcome midst.of_slots busy;
-      leaves = subst (λ (o : Option (List ℕ)). IfCall (LeavesOf (comes_clear e.outcome) e.outcome) (acting o (worked e (moment log)))) (sym none) tt;
-    };
-    protected = safe.0;
-    by_model = by (after e (moment log)).is_alone refl;
-  },
+  slots_are_legal_but K V same terms log e midst.of_slots may finds midst.granted busy safe.0 (by (after e (moment log)).is_alone refl),
   safe.1,
   λ alone. (followed (before alone)).1,
 )
   where
-    none : caller_of e.event ≡ None
-    none = no_caller e.event midst.of_slots
-
     safe : IsProtected log e × SectionsHold (after e (moment log)) known s.world
     safe = slot_events_end_protected K V log e m known s.world midst.of_slots midst.worked midst.protects ends
 

@@ -7,4 +7,6 @@ pub mod SlotEvents
 pub mod MapEvents
 pub mod Over
 pub mod Chains
+pub mod AllEvents
 pub mod Promises
+pub mod Found

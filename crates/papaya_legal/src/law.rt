@@ -1,5 +1,6 @@
 //! What is promised of each event of a run, whatever calls are under way.
 ghost use Rattle.std.specs.Prelude.{ℕ, Bool};
+ghost use Rattle.papaya_legal.specs.AllEvents.{AllChain, AllEventsBegin, AllFindPairs, AllRunsToItsEnd, SlotsLeaveRoots};
 ghost use Rattle.papaya_legal.specs.Between.{CallsBegin, CallsTake, EndsBegin, LikesShow, LogsGrow, MakingsBegin, MapsCome, MapsGo, NamesChange, WalksGoOn, WalksStop};
 ghost use Rattle.papaya_legal.specs.Carried.{RunsBegin};
 ghost use Rattle.papaya_legal.specs.CallEvents.{CallEventsAreLegal, CallEventsBegin, CallEventsEnd, CallEventsFollow, CallEventsGoOn, NextsBegin, WholeCallsBegin};
@@ -7,6 +8,7 @@ ghost use Rattle.papaya_legal.specs.CallRuns.{CallEventsRun, CallsLeaveNothing, 
 ghost use Rattle.papaya_legal.specs.CallSwept.{CallsAreSwept};
 ghost use Rattle.papaya_legal.specs.SlotEvents.{SlotEventsBegin, SlotEventsGoOn, SlotEventsAreLegal, SlotEventsEnd};
 ghost use Rattle.papaya_legal.specs.MapEvents.{MakingEventsGoOn, EndEventsGoOn, MapEventsAreLegal, IdleEventsAreLegal};
+ghost use Rattle.papaya_legal.specs.Found.{RestShowsRetired, RowChainsFind, RowsFindTheirs};
 ghost use Rattle.papaya_legal.specs.Over.{BegunEventsEnd, EndEventsBegin, EndEventsEnd, EndEventsFollow, IdleEventsEnd, MakingEventsBegin, MakingEventsEnd, MakingEventsFollow, QuietEventsEnd, RunsByOtherNames, RunsGoOn, StoppedEventsEnd, ToldEventsEnd};
 ghost use Rattle.papaya_legal.specs.Chains.{CallsChain, EndsChain, MakingsChain, RowsChain, RowsRunToTheirEnds, MakingsRunToTheirEnds, EndsRunToTheirEnds};
 ghost use Rattle.papaya_legal.specs.Promises.{EventsAreLegal};
@@ -69,6 +71,18 @@ pub fn slot_events<K, V, S>()
     ensures ends { (same : K → K → Bool) → SlotEventsEnd K V same }
 {}
 
+/// As long as reclaiming all is on slots, what is behind the roots stays there. An event that reclaims all is in its midst where that begins, if what is left over is behind the roots, and wherever a
+/// chain of its steps has led; each pair that it has reclaimed there was handed over, or left over, if no call was under way, and what was behind the roots was left over. Once its last step has said that all is reclaimed, all is back, and what ended maps had left over came last; the event is legal but for what it comes to, and a run goes on with
+/// it: if what was behind the roots is what the moment said, each pair that is reclaimed was handed over or left over, and the work on
+/// slots has reclaimed what the waiting sets of blocks say.
+pub fn reclaiming_all<K, V, S>()
+    ensures slots { (same : K → K → Bool) (hash : K → ℕ) → SlotsLeaveRoots K V S same hash }
+    ensures begins { (same : K → K → Bool) (hash : K → ℕ) → AllEventsBegin K V S same hash }
+    ensures chain { (same : K → K → Bool) (hash : K → ℕ) → AllChain K V S same hash }
+    ensures pairs { (same : K → K → Bool) (hash : K → ℕ) → AllFindPairs K V S same hash }
+    ensures ends { (same : K → K → Bool) (hash : K → ℕ) → AllRunsToItsEnd K V S same hash }
+{}
+
 /// An event that makes a map, or ends one, is in its midst where that begins, and still after each step, an end if it takes tables of its map alone.
 /// Once its work is done it keeps its promises, if what it did it may do, and finds what it must, if it is whole, and by the model; which it is if it was not kept out, and its end is over. The moment after it shows all that the next event
 /// needs, where no map that stands has the name of one that has ended.
@@ -112,4 +126,12 @@ pub fn steps_chain<K, V, S>()
 /// An event that comes to what is right, makes the steps that it may, and keeps the promises that need what is under way, is legal: little waits after it.
 pub fn events_are_legal<K, V>()
     ensures legal { EventsAreLegal K V }
+{}
+
+/// What a row on a slot reclaims was handed over, and so it finds what it must, if it asks for a bucket of slots in need: each step of it, and all of them. While no row is under way the moment shows what is retired, if no
+/// table is there twice, and as many slots were taken as it says.
+pub fn rows_find_theirs<K, V, S>()
+    ensures found { (same : K → K → Bool) (hash : K → ℕ) → RowsFindTheirs K V S same hash }
+    ensures chain { (same : K → K → Bool) (hash : K → ℕ) → RowChainsFind K V S same hash }
+    ensures retired { (same : K → K → Bool) (hash : K → ℕ) → RestShowsRetired K V S same hash }
 {}

@@ -274,7 +274,7 @@ module _ {K V S : Type 0} (same : K → K → Bool) (hash : K → ℕ) (name : �
     }
 
     -- it only looked, as it began
-    looked : (request : Request) (begun : World (Node K V)) → HandsOver to.0.setting i w request → Begins deferred_word size i request w begun → Steps' deferred_word i (begun.row i) begun w3 → w3.memory ≡ w.memory
+    pub looked : (request : Request) (begun : World (Node K V)) → HandsOver to.0.setting i w request → Begins deferred_word size i request w begun → Steps' deferred_word i (begun.row i) begun w3 → w3.memory ≡ w.memory
     looked (Retire slot c) begun over h step = retire_looks deferred_word size i w begun w3 slot c h step
     looked (Defer' slot c d) begun over h step = defer_looks deferred_word size i w begun w3 slot c d h step
     looked (Register' enters) begun over h step = absurd over

@@ -13,6 +13,7 @@ pub mod Taken
 pub mod OnSlots
 pub mod Waiting
 pub mod Ends
+pub mod Listed
 pub mod Reclaimed
 pub mod RetiredCalls
 pub mod Once
@@ -27,3 +28,12 @@ pub mod Lying
 pub mod LyingRows
 pub mod LyingCalls
 pub mod LyingEnds
+pub mod HandedOver
+pub mod HandedEffects
+pub mod HandedRoles
+pub mod HandedMeant
+pub mod HandedTaken
+pub mod HandedRows
+pub mod HandedCalls
+pub mod HandedMakings
+pub mod HandedEnds

@@ -51,3 +51,27 @@ waits_on b t (Retired c ∷ []) log one e none = e
 waits_on b t (Taken c ∷ []) log one e none = unless_other c (waits_behind b log) t e (λ same. let once : times t (c ∷ []) ≡ 1 = ap (λ (q : Bool). (if q then 1 else 0) + 0) (eq-eqb t c same) in absurd (omega (arith, once, none)))
 waits_on b t (_ ∷ []) log one e none = absurd one
 waits_on b t (e ∷ f ∷ effects) log one k none = absurd one
+
+-- nor does anything wait that did not
+pub waits_not : (b : ℕ) (effects log : List Effect) → IsOneStep effects → waits_behind b log ≡ None → waits_behind b (effects ++ log) ≡ None
+waits_not b [] log one e = e
+waits_not b (Entered s ∷ []) log one e = e
+waits_not b (Left s ∷ []) log one e = e
+waits_not b (Retired c ∷ []) log one e = e
+waits_not b (Taken c ∷ []) log one e = ap (unless_it c) e
+waits_not b (_ ∷ []) log one e = absurd one
+waits_not b (e ∷ f ∷ effects) log one k = absurd one
+
+-- and what waited behind a block does not once that is taken
+pub waits_no_more : (b t : ℕ) (effects log : List Effect) → IsOneStep effects → (times t (taken_in effects) ≡ 0 → ⊥) → waits_behind b log ≡ Some t → waits_behind b (effects ++ log) ≡ None
+waits_no_more b t [] log one some e = absurd (some refl)
+waits_no_more b t (Entered s ∷ []) log one some e = absurd (some refl)
+waits_no_more b t (Left s ∷ []) log one some e = absurd (some refl)
+waits_no_more b t (Retired c ∷ []) log one some e = absurd (some refl)
+waits_no_more b t (Taken c ∷ []) log one some e = ap (unless_it c) e ∙ by (t == c) refl
+  where
+    by : (q : Bool) → (t == c) ≡ q → ◌≡◌ {A = Option ℕ} (if q then None else Some t) None
+    by true is = refl
+    by false is = absurd (some (one_apart t c (λ same. let yes : (t == c) ≡ true = eq-eqb t c same in cc (is, yes))))
+waits_no_more b t (_ ∷ []) log one some e = absurd one
+waits_no_more b t (e ∷ f ∷ effects) log one some k = absurd one

@@ -21,7 +21,7 @@ use Rattle.papaya_lives.specs.Waiting.{IsPutting}
 use Rattle.papaya_lives.proofs.Logs.{one_apart}
 use Rattle.papaya_lives.proofs.Rows.{its_life, on_the_way}
 
-on_way : (p : Deferring) → p ≢ at.Over → IsOnWay p
+pub on_way : (p : Deferring) → p ≢ at.Over → IsOnWay p
 on_way at.Reads ne = tt
 on_way (at.Links head) ne = tt
 on_way (at.Pushes head) ne = tt

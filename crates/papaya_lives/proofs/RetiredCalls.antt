@@ -77,7 +77,7 @@ use Rattle.papaya_lives.proofs.Retires.{HandedBy, Retires, PutsBehind, HadIt, be
 use Rattle.papaya_lives.proofs.Stages.{EndsIt, NoneEnds, now_retired, still_retired, WasTable, role_back}
 
 -- where users do something, the collector had the block of a table that it has
-users_handed : {K V : Type 0} (size b : ℕ) (events : List (Event (Node K V))) (w v : World (Node K V)) → Reached deferred_word size w → (value : Node K V) → value_at w.memory b ≡ Some value
+pub users_handed : {K V : Type 0} (size b : ℕ) (events : List (Event (Node K V))) (w v : World (Node K V)) → Reached deferred_word size w → (value : Node K V) → value_at w.memory b ≡ Some value
     → AllUsers events → Runs deferred_word size events w v → v.hand b ≡ Handed → w.hand b ≡ Handed
 users_handed {K} {V} size b events w v r value there users runs handed = by (w.hand b) refl
   where
@@ -288,11 +288,11 @@ module _ {K V S : Type 0} (same : K → K → Bool) (hash : K → ℕ) (name : �
     | inr other ↦ ap (λ (f : ℕ → Option (UnderWay K V K)). f j) (at_other s.calls map (with_at (s.calls map) i to.4.next) n other)
   ]
 
-  its_call : (u2 : UnderWay K V K) → to.4.next ≡ Some u2 → s2.calls map i ≡ Some u2
+  pub its_call : (u2 : UnderWay K V K) → to.4.next ≡ Some u2 → s2.calls map i ≡ Some u2
   its_call u2 e =
       ap (λ (f : ℕ → Option (UnderWay K V K)). f i) (at_same s.calls map (with_at (s.calls map) i to.4.next) map refl) ∙ at_same (s.calls map) i to.4.next i refl ∙ e
 
-  stay : CallsStay s s2
+  pub stay : CallsStay s s2
   stay j (n, x, is) = elim (cases_eq j i) as (λ _. HasCall s2 j ⊎ (s2.world.row j ≡ Rests)) [
     | inl e ↦ subst (λ (k : ℕ). HasCall s2 k ⊎ (s2.world.row k ≡ Rests)) (sym e) (by to.4.next refl)
     | inr ne ↦ inl (n, x, other_calls n j ne ∙ is)
@@ -303,7 +303,7 @@ module _ {K V S : Type 0} (same : K → K → Bool) (hash : K → ℕ) (name : �
       by (Some u2) e = inl (map, u2, its_call u2 e)
 
   -- it goes on where its row does
-  goes_on : (to.4.w2.row i ≡ Rests → ⊥) → (u2 : UnderWay K V K) × (to.4.next ≡ Some u2) × (machine_of u2 ≡ to.1)
+  pub goes_on : (to.4.w2.row i ≡ Rests → ⊥) → (u2 : UnderWay K V K) × (to.4.next ≡ Some u2) × (machine_of u2 ≡ to.1)
   goes_on on = by said to.4.goes_on
     where
       by : (x : CallTold (Node K V)) → GoesOnAs to.1 x to.4.next → (u2 : UnderWay K V K) × (to.4.next ≡ Some u2) × (machine_of u2 ≡ to.1)

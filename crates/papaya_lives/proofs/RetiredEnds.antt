@@ -55,11 +55,11 @@ handed_lives (IsDoomed i) handed = refl
 handed_lives _ handed = absurd (cc handed)
 
 -- what is done as a map ends is none of a row's
-abbrev AllBetween : {T : Type 0} → List (Event T) → Type 0
+abbrev pub AllBetween : {T : Type 0} → List (Event T) → Type 0
 AllBetween [] = Unit {0}
 AllBetween (e ∷ events) = IsBetween e × AllBetween events
 
-deed_between : (T : Type 0) (i : ℕ) (deed : Deed) → AllBetween (events_of {T = T} i deed)
+pub deed_between : (T : Type 0) (i : ℕ) (deed : Deed) → AllBetween (events_of {T = T} i deed)
 deed_between T i Looks = tt
 deed_between T i (TakesPair b) = (tt, (tt, (tt, tt)))
 deed_between T i (LeavesTable b further) = (tt, (tt, tt))
@@ -68,7 +68,7 @@ deed_between T i (TakesLeft b) = (tt, tt)
 deed_between T i (TakesCounter b) = (tt, tt)
 deed_between T i (WritesRoot at word) = (tt, tt)
 
-between_rows : {T : Type 0} (defers : T → Option ℕ) (size : ℕ) (events : List (Event T)) (w v : World T) → AllBetween events → Runs defers size events w v → v.row ≡ w.row
+pub between_rows : {T : Type 0} (defers : T → Option ℕ) (size : ℕ) (events : List (Event T)) (w v : World T) → AllBetween events → Runs defers size events w v → v.row ≡ w.row
 between_rows defers size [] w v all runs = ap (λ (z : World _). z.row) runs
 between_rows defers size (e ∷ events) w v all runs = between_rows defers size events runs.0 v all.1 runs.2 ∙ users_rows defers size w runs.0 e all.0 runs.1
 
@@ -100,7 +100,7 @@ module _ {K V S : Type 0} (same : K → K → Bool) (hash : K → ℕ) (name : �
   after = runs_reached deferred_word old.batch_size (events_of i did.deed) s.world did.w2 (came_reached old.batch_size s.world at.together.makings.standing.came) did.runs
 
   -- the collector had what it has
-  handed_before : (b : ℕ) → did.w2.hand b ≡ Handed → s.world.hand b ≡ Handed
+  pub handed_before : (b : ℕ) → did.w2.hand b ≡ Handed → s.world.hand b ≡ Handed
   handed_before b handed = by (times b (taken_of did.deed)) refl
     where
       there : IsSome (value_at did.w2.memory b)

@@ -80,11 +80,15 @@ module _ {K V : Type 0} (size : ℕ) (w : World (Node K V)) (came : CameAbout si
   left_unretired x its =
       ap (is_retired x) (sym kept.good.logged) ∙ kept.good.inv.logged.given x ∙ left_not_given (w.hand x) (kept.good.state.life x) its (kept.good.hands x)
 
-  -- one that is told to be taken was retired
-  pub told_retired : (told : Changed) → LeavesBy w.memory w2.memory told → (x : ℕ) → told ≡ changed.Took x → is_retired x w.log ≡ true
-  told_retired told left x is =
+  -- one that is told to be taken is taken,
+  pub told_taken : (told : Changed) → LeavesBy w.memory w2.memory told → (x : ℕ) → told ≡ changed.Took x → times x (taken_in it.effects) ≡ 0 → ⊥
+  told_taken told left x is none =
       let l : LeavesBy w.memory w2.memory (changed.Took x) = subst (LeavesBy w.memory w2.memory) is left in
-      taken_retired x it.effects w.log it.one sound (λ none. no_value (value_at w.memory x) l.0 (sym (it.frames.values x none) ∙ l.1))
+      no_value (value_at w.memory x) l.0 (sym (it.frames.values x none) ∙ l.1)
     where
       no_value : (o : Option (Node K V)) → IsSome o → o ≡ None → ⊥
-      no_value o some none = (let it_is : IsSome {T = Node K V} None = subst (λ (q : Option (Node K V)). IsSome q) none some in cc it_is)
+      no_value o some gone = (let it_is : IsSome {T = Node K V} None = subst (λ (q : Option (Node K V)). IsSome q) gone some in cc it_is)
+
+  -- and was retired
+  pub told_retired : (told : Changed) → LeavesBy w.memory w2.memory told → (x : ℕ) → told ≡ changed.Took x → is_retired x w.log ≡ true
+  told_retired told left x is = taken_retired x it.effects w.log it.one sound (told_taken told left x is)

@@ -39,7 +39,7 @@ left_lives (Cutting i) l left fits = absurd left
 left_lives Handed l left fits = absurd left
 left_lives (LeftTo i) l left fits = ap lives fits
 
-users_aside : {T : Type 0} (e : Event T) → IsUsers e → IsAside e
+pub users_aside : {T : Type 0} (e : Event T) → IsUsers e → IsAside e
 users_aside (Begin i request) u = absurd u
 users_aside (Step i) u = absurd u
 users_aside (LeavesOver i c further) u = absurd u

@@ -4,3 +4,4 @@ pub mod Steps
 pub mod Retired
 pub mod LeftTables
 pub mod Lying
+pub mod Handed

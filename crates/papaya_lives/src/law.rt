@@ -1,6 +1,7 @@
 //! What is promised of what waits behind a table, and of its blocks.
 ghost use Rattle.std.specs.Prelude.{Option, ℕ, Bool};
 ghost use Rattle.papaya_lives.specs.Behind.{WaitingIsThere};
+ghost use Rattle.papaya_lives.specs.Handed.{HandedBegins, OthersLeaveHanded, EndingsBeginHanded, HandedAtRest, RowsBeginHanded, RowsKeepHanded, RowsFindHanded, MakingsKeepHanded, CallsKeepHanded, EndingsKeepHanded};
 ghost use Rattle.papaya_lives.specs.LeftTables.{LeftBegins, OthersKeepLeft, EndingsBeginLeft, NoneIsLeftTo, NoneIsLeft, WhereNoneIsLeft, RowsBeginLeft, RowsKeepLeft, MakingsKeepLeft, CallsKeepLeft, EndingsKeepLeft};
 ghost use Rattle.papaya_lives.specs.Lying.{LyingBegins, OthersLeaveLying, EndingsBeginLying, RowsBeginLying, RowsKeepLying, MakingsKeepLying, CallsKeepLying, EndingsKeepLying};
 ghost use Rattle.papaya_lives.specs.Retired.{RetiredBegins, OthersLeaveRetired, EndingsBeginRetired, RowsBeginRetired, RowsKeepRetired, RowsFindRetired, MakingsKeepRetired, CallsKeepRetired, EndingsKeepRetired};
@@ -80,4 +81,21 @@ pub fn what_lies_behind_tables_waits<K, V, S>()
     ensures makings { (same : K → K → Bool) (hash : K → ℕ) → MakingsKeepLying K V S same hash }
     ensures calls { (same : K → K → Bool) (hash : K → ℕ) → CallsKeepLying K V S same hash }
     ensures endings { (same : K → K → Bool) (hash : K → ℕ) → EndingsKeepLying K V S same hash }
+{}
+
+/// Each pair whose block the collector has is told to be handed over, or waits behind a table, or the row of a call has it in hand; and the collector has each pair that is told to be
+/// handed over, and each table that is told to be retired, and none of these waits: so it is before all events, where no pair, no table and no block changes, where the end of a map
+/// begins, where rows begin on slots, and after each step of a row on a slot, of the making of a map, of a call, whoever's row it is, and of the end of a map. So a pair that a row on a
+/// slot reclaims was handed over; and while no row is under way, what is told to be handed over was retired.
+pub fn collected_pairs_are_handed_over<K, V, S>()
+    ensures begins { HandedBegins K V }
+    ensures others { OthersLeaveHanded K V }
+    ensures endings_begin { EndingsBeginHanded K V }
+    ensures at_rest { HandedAtRest K V }
+    ensures rows_begin { (same : K → K → Bool) (hash : K → ℕ) → RowsBeginHanded K V S same hash }
+    ensures rows { (same : K → K → Bool) (hash : K → ℕ) → RowsKeepHanded K V S same hash }
+    ensures rows_find { (same : K → K → Bool) (hash : K → ℕ) → RowsFindHanded K V S same hash }
+    ensures makings { (same : K → K → Bool) (hash : K → ℕ) → MakingsKeepHanded K V S same hash }
+    ensures calls { (same : K → K → Bool) (hash : K → ℕ) → CallsKeepHanded K V S same hash }
+    ensures endings { (same : K → K → Bool) (hash : K → ℕ) → EndingsKeepHanded K V S same hash }
 {}

@@ -104,6 +104,8 @@ module _ {K V : Type 0} (choice : ℕ) (name : ℕ → List ℕ) (m : Moment K V
     once = kept.once;
     lying = kept.lying;
     retired = record { tables = kept.retired.tables; lengths = kept.retired.lengths };
+    handed = record { pairs = kept.handed.pairs; handed = kept.handed.handed; tables = kept.handed.tables };
+    ends = kept.ends;
     left = left_as noted noted s (scene_chosen choice s) refl kept.left (λ b len x is. is) (λ b j left. left);
   }
 

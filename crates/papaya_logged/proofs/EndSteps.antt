@@ -296,6 +296,6 @@ end_is_over {K} {V} l same hash name m s shown own f is alone nobody pairs some 
     record {
       is_at = shown.is_at;
       shows = endings_are_over_whole K V same name m (known l.notes) s shown.shows own (if_any f.root pairs m.remains) found others;
-      kept = stays_kept K V name m (without_map own (if_any f.root pairs m.remains) m) (known l.notes) s s shown.kept refl refl refl refl refl refl refl refl;
+      kept = stays_kept K V name m (without_map own (if_any f.root pairs m.remains) m) (known l.notes) s s shown.kept refl refl refl refl refl refl refl refl refl;
       counted = counted_goes l m s shown.counted own f is alone nobody pairs some;
     }

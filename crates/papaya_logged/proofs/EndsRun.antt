@@ -273,6 +273,13 @@ module _ {K V S : Type 0} (i map : ℕ) where
   still_ending same hash s old mid xs ys at it ran =
       let u = ran.2 same hash s at it.0 it.1 in (u.0, u.3, (record it.0 { machine = u.2.ender.0; back = it.0.back ++ u.1; waits = u.2.ender.1 }, u.2.ender.2))
 
+  -- as it is noted of the caller
+  pub ending_under : (same : K → K → Bool) (hash : K → ℕ) (s : Scene K V) (old mid : Logged K V S) (xs ys : List Effect) → IsAt same hash old.executor s → IsEnding s i
+      → EndRan i map false xs ys old mid → (ending : EndMap) × (ending_in (work_of mid.executor i) ≡ Some ending)
+  ending_under same hash s old mid xs ys at it ran =
+      let t = still_ending same hash s old mid xs ys at it ran in
+      (t.2.0.machine, sym (t.1.enders i) ∙ ap (option_map (λ (f : Finishing K V). f.machine)) t.2.1)
+
   -- so it runs on, with less to do
   module _ (same : K → K → Bool) (hash : K → ℕ) (s : Scene K V) (old mid new : Logged K V S) (xs ys zs : List Effect) (said : Settled (Node K V)) (at : IsAt same hash old.executor s) (it : IsEnding s i)
       (ran : EndRan i map false xs ys old mid) (step : EndSteps i map said ys zs mid new)

@@ -47,7 +47,7 @@ module _ {X : Type 0} (items : List (Option X)) (map : ℕ) (long : length items
 
 module _ {K V S : Type 0} (same : K → K → Bool) (hash : K → ℕ) where
   -- an executor with other settings, that read the same, is there where each number of a making is still that of a place
-  with_maps : (e e2 : Executor K V S) (s : Scene K V) → IsAt same hash e s → e2 ≡ record e { maps = e2.maps } → ((m : ℕ) → slice_index_or e2.maps.items m None ≡ slice_index_or e.maps.items m None)
+  pub with_maps : (e e2 : Executor K V S) (s : Scene K V) → IsAt same hash e s → e2 ≡ record e { maps = e2.maps } → ((m : ℕ) → slice_index_or e2.maps.items m None ≡ slice_index_or e.maps.items m None)
       → ((j : ℕ) (d : Beginning K) → s.makers j ≡ Some d → d.map < length e2.maps.items) → IsAt same hash e2 s
   with_maps e e2 s at is reads numbers = subst (λ (x : Executor K V S). IsAt same hash x s) (sym is) (record {
     memory = at.memory;

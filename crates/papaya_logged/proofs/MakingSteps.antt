@@ -131,7 +131,7 @@ map_is_there {K} {V} l same hash name m s shown numbers there next below free ro
     record {
       is_at = shown.is_at;
       shows = maps_come_whole K V same name m (known l.notes) s shown.shows there (maps_come_by_number K V m numbers there next).1;
-      kept = stays_kept K V name m (with_map there m) (known l.notes) s s shown.kept refl refl refl refl refl refl refl refl;
+      kept = stays_kept K V name m (with_map there m) (known l.notes) s s shown.kept refl refl refl refl refl refl refl refl refl;
       counted = counted_comes l m s shown.counted there
           (numbers_within (length l.executor.maps.items) (with_map there m) (maps_come_by_number K V m numbers there next).0 (omega (arith, below))) free root;
     }

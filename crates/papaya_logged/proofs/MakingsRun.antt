@@ -268,6 +268,15 @@ module _ {K V S : Type 0} (i map : ℕ) where
   still_making same hash s old mid xs ys at b here of_map ran =
       let u = ran.2 same hash s at b here of_map in (u.0, u.2, (record b { machine = u.1.maker.0 }, u.1.maker.1))
 
+  -- as it is noted of the caller
+  pub still_under : (same : K → K → Bool) (hash : K → ℕ) (s : Scene K V) (old mid : Logged K V S) (xs ys : List Effect) → IsAt same hash old.executor s → (b : Beginning K) → s.makers i ≡ Some b → b.map ≡ map
+      → MakingRan i map progress.Goes xs ys old mid → (opening : NewMap) × (making_in (work_of mid.executor i) ≡ Some (map, opening))
+  still_under same hash s old mid xs ys at b here of_map ran =
+      let u = ran.2 same hash s at b here of_map in (
+        u.1.maker.0,
+        sym (u.2.makers i) ∙ ap (option_map (λ (d : Beginning K). (d.map, d.machine))) u.1.maker.1 ∙ ap (λ (n : ℕ). Some (n, u.1.maker.0)) of_map,
+      )
+
   -- a step that is not the last one goes on
   only_goes : (same : K → K → Bool) (hash : K → ℕ) (s : Scene K V) (mid new : Executor K V S) (b : Beginning K) (here : s.makers i ≡ Some b) (told : Progress Setting)
       → MakingLeads same hash i told s mid new → is_over told ≡ false → told ≡ progress.Goes

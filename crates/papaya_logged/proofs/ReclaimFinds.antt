@@ -55,7 +55,7 @@ use Rattle.papaya_logged.proofs.ReclaimSteps.{left, reached}
 
 module _ {K V : Type 0} (size : ℕ) where
   -- what a step of a row takes away the collector had,
-  step_handed : (j : ℕ) (w v : World (Node K V)) (r : Reached deferred_word size w) → Steps' deferred_word j (w.row j) w v → (x : ℕ) → IsSome (value_at w.memory x) → value_at v.memory x ≡ None → w.hand x ≡ Handed
+  pub step_handed : (j : ℕ) (w v : World (Node K V)) (r : Reached deferred_word size w) → Steps' deferred_word j (w.row j) w v → (x : ℕ) → IsSome (value_at w.memory x) → value_at v.memory x ≡ None → w.hand x ≡ Handed
   step_handed j w v r step x some none = given_hand (w.hand x) (r.good.state.life x) given (r.good.hands x)
     where
       it : RowStepped deferred_word j w v
@@ -90,7 +90,7 @@ module _ {K V : Type 0} (size : ℕ) where
   rows_handed i (_ ∷ events) its w w2 r runs x some none = absurd its
 
   -- one that is taken away as it was left over is so before,
-  left_before : (i b : ℕ) (w w2 : World (Node K V)) → Runs deferred_word size (events_of i (TakesLeft b)) w w2 → (x : ℕ) → IsSome (value_at w.memory x) → value_at w2.memory x ≡ None → IsLeft (w.hand x)
+  pub left_before : (i b : ℕ) (w w2 : World (Node K V)) → Runs deferred_word size (events_of i (TakesLeft b)) w w2 → (x : ℕ) → IsSome (value_at w.memory x) → value_at w2.memory x ≡ None → IsLeft (w.hand x)
   left_before i b w w2 (v, (out, m, was_left, may, took, is), runs) x some none = elim (cases_eq x b) as (λ _. IsLeft (w.hand x)) [
     | inl e ↦ subst IsLeft (sym (ap w.hand e ∙ was_left.1)) tt
     | inr ne ↦ absurd (none_some (value_at w.memory x) some
@@ -98,7 +98,7 @@ module _ {K V : Type 0} (size : ℕ) where
   ]
 
   -- and none is where a word of a root is written
-  root_value : (i : ℕ) (place : At) (word : ℕ) (w w2 : World (Node K V)) → Runs deferred_word size (events_of i (WritesRoot place word)) w w2 → (x : ℕ) → value_at w2.memory x ≡ value_at w.memory x
+  pub root_value : (i : ℕ) (place : At) (word : ℕ) (w w2 : World (Node K V)) → Runs deferred_word size (events_of i (WritesRoot place word)) w w2 → (x : ℕ) → value_at w2.memory x ≡ value_at w.memory x
   root_value i place word w w2 (v, (out, m, own, took, is), runs) x =
       ap (λ (u : World (Node K V)). value_at u.memory x) (runs ∙ is) ∙ ap (λ (z : Mem (Node K V)). value_at z x) took.1 ∙ own_op_value deferred_word w.memory x (Store place word) out own
 

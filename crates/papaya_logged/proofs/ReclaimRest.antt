@@ -1,7 +1,7 @@
 -- After a step by which all is reclaimed all is so that every step keeps: nobody has a call, a making or an end under way, so no table is left over, and what is in somebody's
 -- hands is blank still.
 use Rattle.std.specs.Prelude.{◌≡◌, ◌⊎◌, ℕ, Bool, List, [], ◌∷◌, Some, None}
-use Rattle.std.proofs.Common.{ap, sym, subst, ◌∙◌, inl, inr}
+use Rattle.std.proofs.Common.{refl, ap, sym, subst, ◌∙◌, inl, inr}
 use Rattle.std.proofs.lemmas.Bool.{cases_eq}
 use Rattle.papaya_histories.specs.Given.SeizeWords.declared.at.At.{At}
 use Rattle.papaya_histories.specs.Given.SeizeWords.declared.at.At.TheVariants.{Root, Used, Slot, Entry, Word}
@@ -39,8 +39,10 @@ use Rattle.papaya_settles.proofs.EntryWorlds.{step_zeros, begin_zeros}
 use Rattle.papaya_lives.specs.Behind.{NoTableLeft}
 use Rattle.papaya_lives.proofs.LeftTables.{none_is_left, where_none_is_left}
 use Rattle.papaya_kept.specs.Kept.{ShowsKept}
+use Rattle.papaya_kept.proofs.Ends.{maps_stay, stood_so}
 use Rattle.papaya_logged.specs.Reclaims.{ReclaimRetired}
 use Rattle.papaya_logged.proofs.ReclaimFinds.{reclaiming_finds}
+use Rattle.papaya_logged.proofs.ReclaimHanded.{reclaiming_handed}
 use Rattle.papaya_logged.proofs.ReclaimKept.{reclaiming_comes}
 use Rattle.papaya_logged.proofs.ReclaimRows.{EmptiesRoot, reclaiming_tells}
 use Rattle.papaya_logged.proofs.ReclaimSteps.{reached, no_call, root_none, nothing_there}
@@ -158,4 +160,6 @@ module _ {K V S : Type 0} (same : K → K → Bool) (hash : K → ℕ) (name : �
         lying = comes.lies;
         retired = comes.had;
         left = where_none_is_left K V (known_after Row new.memory.changed known) s2 comes.none_left;
+        handed = reclaiming_handed same hash name m known s whole kept.waiting kept.handed no_table old new i lists before after told at leads;
+        ends = maps_stay s kept.ends s2 (λ n st is. stood_so (s.maps n) (leads.1.maps2 n) (leads.1.as_they_were n) st is) refl;
       }

@@ -22,7 +22,7 @@ use Rattle.papaya_logged.specs.Shown.{IsShown}
 use Rattle.papaya_logged.specs.declared.logged.Logged.{Logged}
 
 -- a map that is the same has its setting
-same_setting : {K : Type 0} (o o2 : Option (Standing K)) → IsSameMap o o2 → option_map (λ standing. standing.setting) o2 ≡ option_map (λ standing. standing.setting) o
+pub same_setting : {K : Type 0} (o o2 : Option (Standing K)) → IsSameMap o o2 → option_map (λ standing. standing.setting) o2 ≡ option_map (λ standing. standing.setting) o
 same_setting None o2 is = ap (option_map (λ standing. standing.setting)) is
 same_setting (Some s) o2 is = ap (option_map (λ standing. standing.setting)) is.2
 

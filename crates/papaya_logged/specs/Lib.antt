@@ -3,6 +3,7 @@ pub mod Calling
 pub mod OnSlots
 pub mod Ended
 pub mod Makings
+pub mod Goes
 pub mod Roots
 pub mod Waits
 pub mod Ends

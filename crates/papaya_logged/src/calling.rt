@@ -3,7 +3,7 @@ ghost use Rattle.std.specs.Prelude.{◌≡◌, ◌<◌, ◌+◌, ◌*◌, ℕ, B
 ghost use Rattle.papaya_schedules.specs.Moment.{Moment};
 ghost use Rattle.papaya_executor.specs.Beginning.{IsRefused};
 ghost use Rattle.papaya_executor.specs.IsAt.{Scene, IsAt, HasCall, KeepsGiven};
-ghost use Rattle.papaya_executor.specs.Replying.{ReplyLeads};
+ghost use Rattle.papaya_executor.specs.Replying.{AskLeads, ReplyLeads, StopLeads};
 ghost use Rattle.papaya_executor.specs.declared.worker.TheConstants.{SLOTS};
 ghost use Rattle.papaya_logged.specs.Calling.{CallBegins, CallGoesOn, CallTakes, WalkGoesOn, WalkStops};
 ghost use Rattle.papaya_logged.specs.Shown.{IsShown};
@@ -26,6 +26,7 @@ impl<K: Drop, V: Drop, S> Logged<K, V, S> {
         ensures leads { IfOk result (λ caller. (same : K → K → Bool) (hash : K → ℕ) (name : ℕ → List ℕ) (m : Moment K V) (s : Scene K V) → IsShown same hash name m self.old s
             → CallBegins same hash name m s caller map machine self.old self.new) }
         ensures given { KeepsGiven self.old.executor self.new.executor }
+        ensures notes { self.new.notes ≡ self.old.notes }
         ensures refused { IfErr result (λ error. IsRefused self.old.executor self.new.executor × (self.new.notes ≡ self.old.notes)) }
     {
         let caller = self.executor.begin(slot, map, machine)?;
@@ -40,6 +41,7 @@ impl<K: Drop, V: Drop, S> Logged<K, V, S> {
         ensures taken { (same : K → K → Bool) (hash : K → ℕ) (s : Scene K V) → IsAt same hash self.old.executor s
             → ReplyLeads same hash caller reply result s self.old.executor self.new.executor }
         ensures given { KeepsGiven self.old.executor self.new.executor }
+        ensures notes { self.new.notes ≡ self.old.notes }
     {
         self.executor.reply(caller, reply)
     }
@@ -49,7 +51,10 @@ impl<K: Drop, V: Drop, S> Logged<K, V, S> {
         requires { (same : K → K → Bool) × (hash : K → ℕ) × (s : Scene K V) × IsAt same hash self.old.executor s × HasCall s caller }
         ensures leads { (same : K → K → Bool) (hash : K → ℕ) (name : ℕ → List ℕ) (m : Moment K V) (s : Scene K V) → IsShown same hash name m self.old s
             → WalkGoesOn same hash name m s caller result self.old self.new }
+        ensures asked { (same : K → K → Bool) (hash : K → ℕ) (s : Scene K V) → IsAt same hash self.old.executor s
+            → AskLeads same hash caller result s self.old.executor self.new.executor }
         ensures given { KeepsGiven self.old.executor self.new.executor }
+        ensures notes { self.new.notes ≡ self.old.notes }
     {
         self.executor.next(caller)
     }
@@ -59,7 +64,10 @@ impl<K: Drop, V: Drop, S> Logged<K, V, S> {
         requires { (same : K → K → Bool) × (hash : K → ℕ) × (s : Scene K V) × IsAt same hash self.old.executor s × HasCall s caller }
         ensures leads { (same : K → K → Bool) (hash : K → ℕ) (name : ℕ → List ℕ) (m : Moment K V) (s : Scene K V) → IsShown same hash name m self.old s
             → WalkStops same hash name m s caller result self.old self.new }
+        ensures stopped { (same : K → K → Bool) (hash : K → ℕ) (s : Scene K V) → IsAt same hash self.old.executor s
+            → StopLeads same hash caller result s self.old.executor self.new.executor }
         ensures given { KeepsGiven self.old.executor self.new.executor }
+        ensures notes { self.new.notes ≡ self.old.notes }
     {
         self.executor.stop(caller)
     }

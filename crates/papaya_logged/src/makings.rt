@@ -1,6 +1,6 @@
 //! Makings of maps begin, take steps, and run to their ends.
 ghost use Rattle.std.specs.Prelude.{◌≡◌, ◌<◌, ◌+◌, ◌*◌, ◌++◌, ℕ, Bool, true, List, length, Some, IfOk, IfErr};
-ghost use Rattle.papaya_effects.specs.Effects.{effects_of};
+ghost use Rattle.papaya_effects.specs.Effects.{effects_of, known_after};
 ghost use Rattle.papaya_effects.specs.Known.{known};
 ghost use Rattle.papaya_effects.specs.declared.acting.Acting.TheVariants.{Making};
 ghost use Rattle.papaya_histories.specs.Given.Finishes.Makings.{Beginning};
@@ -9,6 +9,7 @@ ghost use Rattle.papaya_executor.specs.Beginning.{IsRefused};
 ghost use Rattle.papaya_executor.specs.IsAt.{Scene, IsAt, IsMaking, StaysGiven, KeepsGiven};
 ghost use Rattle.papaya_executor.specs.Making.{MakingLeads};
 ghost use Rattle.papaya_executor.specs.declared.worker.TheConstants.{SLOTS};
+ghost use Rattle.papaya_logged.specs.Goes.{MakingGone};
 ghost use Rattle.papaya_logged.specs.Makings.{MakingIsBegun, MakingSteps, MakingRan, MapIsThere, given_back, is_over, numbers_then};
 ghost use Rattle.papaya_logged.specs.Roots.{MakingFinds};
 ghost use Rattle.papaya_logged.specs.Shown.{IsShown};
@@ -57,6 +58,7 @@ impl<K: Drop, V: Drop, S> Logged<K, V, S> {
         ensures leads { IfOk result (λ caller. (same : K → K → Bool) (hash : K → ℕ) (name : ℕ → List ℕ) (m : Moment K V) (s : Scene K V) → IsShown same hash name m self.old s
             → MakingIsBegun same hash name m s given places caller self.old self.new) }
         ensures there { IfOk result (λ caller. MapIsThere self.new) }
+        ensures notes { IfOk result (λ caller. self.new.notes ≡ self.old.notes) }
         ensures numbers { IfOk result (λ caller. length self.new.executor.maps.items ≡ length self.old.executor.maps.items + 1) }
         ensures given { StaysGiven self.old.executor self.new.executor }
         ensures refused { IfErr result (λ error. IsRefused self.old.executor self.new.executor × (self.new.notes ≡ self.old.notes)) }
@@ -79,6 +81,7 @@ impl<K: Drop, V: Drop, S> Logged<K, V, S> {
             → MakingLeads same hash caller told s self.old.executor self.new.executor) }
         ensures numbers { IfOk result (λ told. length self.new.executor.maps.items ≡ length self.old.executor.maps.items) }
         ensures did { IfOk result (λ told. effects.new.items ≡ effects.old.items ++ effects_of (Making map) (known self.old.notes) self.new.executor.memory.changed) }
+        ensures noted { IfOk result (λ told. known self.new.notes ≡ known_after (Making map) self.new.executor.memory.changed (known self.old.notes)) }
         ensures given { KeepsGiven self.old.executor self.new.executor }
     {
         let told = self.executor.step_making(caller);
@@ -99,6 +102,7 @@ impl<K: Drop, V: Drop, S> Logged<K, V, S> {
         ensures numbers { IfOk result (λ told. length self.new.executor.maps.items ≡ numbers_then map told (length self.old.executor.maps.items)) }
         ensures ran { IfOk result (λ told. MakingRan caller map told effects.old.items effects.new.items self.old self.new) }
         ensures finds { IfOk result (λ told. MakingFinds caller map told effects.old.items effects.new.items self.old self.new) }
+        ensures gone { IfOk result (λ told. MakingGone caller map told effects.old.items effects.new.items self.old self.new) }
         ensures given { StaysGiven self.old.executor self.new.executor }
     {
         loop {

@@ -1,7 +1,7 @@
 //! Rows on slots begin, and take steps.
 ghost use Rattle.std.specs.Prelude.{◌≡◌, ◌<◌, ◌+◌, ◌*◌, ◌++◌, ℕ, Bool, true, List, length, Some, IfOk, IfErr};
 ghost use Rattle.papaya_schedules.specs.Moment.{Moment};
-ghost use Rattle.papaya_effects.specs.Effects.{effects_of};
+ghost use Rattle.papaya_effects.specs.Effects.{effects_of, known_after};
 ghost use Rattle.papaya_effects.specs.Known.{known};
 ghost use Rattle.papaya_effects.specs.declared.acting.Acting.TheVariants.{Row};
 ghost use Rattle.papaya_executor.specs.Beginning.{IsRefused};
@@ -12,6 +12,7 @@ ghost use Rattle.papaya_executor.specs.declared.worker.TheConstants.{SLOTS};
 ghost use Rattle.papaya_executor.specs.declared.worker.Work.TheVariants.{OnSlot};
 ghost use Rattle.papaya_logged.specs.Back.{BringsBack};
 ghost use Rattle.papaya_logged.specs.Ended.{has_ended, uses_ended};
+ghost use Rattle.papaya_logged.specs.Goes.{GoesTo, RowGoes, far};
 ghost use Rattle.papaya_logged.specs.OnSlots.{EndsTelling, OnSlotBegins, OnSlotSteps, OnSlotRan, OnSlotComes, OnSlotLast, has_come};
 ghost use Rattle.papaya_logged.specs.Shown.{IsShown};
 
@@ -43,6 +44,7 @@ impl<K: Drop, V: Drop, S> Logged<K, V, S> {
         ensures number { IfOk result (λ caller. caller ≡ length self.old.executor.workers.items * SLOTS + slot) }
         ensures leads { IfOk result (λ caller. (same : K → K → Bool) (hash : K → ℕ) (name : ℕ → List ℕ) (m : Moment K V) (s : Scene K V) → IsShown same hash name m self.old s
             → OnSlotBegins same hash name m s called caller self.old self.new) }
+        ensures notes { IfOk result (λ caller. self.new.notes ≡ self.old.notes) }
         ensures given { KeepsGiven self.old.executor self.new.executor }
         ensures refused { IfErr result (λ error. IsRefused self.old.executor self.new.executor × (self.new.notes ≡ self.old.notes)) }
     {
@@ -62,6 +64,7 @@ impl<K: Drop, V: Drop, S> Logged<K, V, S> {
         ensures steps { IfOk result (λ told. (same : K → K → Bool) (hash : K → ℕ) (s : Scene K V) → IsAt same hash self.old.executor s
             → RowLeads same hash caller told s self.old.executor self.new.executor) }
         ensures did { IfOk result (λ told. effects.new.items ≡ effects.old.items ++ effects_of Row (known self.old.notes) self.new.executor.memory.changed) }
+        ensures noted { IfOk result (λ told. known self.new.notes ≡ known_after Row self.new.executor.memory.changed (known self.old.notes)) }
         ensures given { KeepsGiven self.old.executor self.new.executor }
     {
         let told = self.executor.step_on_slot(caller);
@@ -81,6 +84,7 @@ impl<K: Drop, V: Drop, S> Logged<K, V, S> {
         requires { (same : K → K → Bool) × (hash : K → ℕ) × (s : Scene K V) × IsAt same hash self.old.executor s × (row : SlotRow) × (work_of self.old.executor caller ≡ Some (OnSlot row)) }
         ensures comes { IfOk result (λ told. OnSlotComes caller told self.new) }
         ensures last { IfOk result (λ told. OnSlotLast caller told self.old.executor self.new.executor) }
+        ensures goes { IfOk result (λ told. GoesTo (RowGoes caller) (far effects.old.items self.old) (far effects.new.items self.new)) }
         ensures used { IfOk result (λ told. (row : SlotRow) → work_of self.old.executor caller ≡ Some (OnSlot row) → has_ended told ≡ true
             → self.new.executor.slots.items ≡ uses_ended row told self.old.executor.slots.items) }
         ensures ran { IfOk result (λ told. OnSlotRan effects.old.items effects.new.items self.old self.new) }

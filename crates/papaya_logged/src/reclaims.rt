@@ -1,12 +1,13 @@
 //! All is reclaimed, step by step, while nobody has anything under way.
 ghost use Rattle.std.specs.Prelude.{◌≡◌, ◌++◌, ℕ, Bool, List, IfOk, OnOk};
-ghost use Rattle.papaya_effects.specs.Effects.{effects_of};
+ghost use Rattle.papaya_effects.specs.Effects.{effects_of, known_after};
 ghost use Rattle.papaya_effects.specs.Known.{known};
 ghost use Rattle.papaya_effects.specs.declared.acting.Acting.TheVariants.{Row};
 ghost use Rattle.papaya_schedules.specs.Moment.{Moment};
 ghost use Rattle.papaya_executor.specs.IsAt.{Scene, KeepsGiven};
 ghost use Rattle.papaya_reclaiming.specs.Reclaiming.{NobodyHas, MayReclaim, IsReclaiming, ReclaimingLeads};
 ghost use Rattle.papaya_logged.specs.Back.{AllBringsBack};
+ghost use Rattle.papaya_logged.specs.Goes.{ReclaimingGone};
 ghost use Rattle.papaya_logged.specs.Reclaims.{ReclaimingIsShown, ReclaimingRan, ReclaimingSteps};
 ghost use Rattle.papaya_logged.specs.Shown.{IsShown};
 
@@ -42,6 +43,7 @@ impl<K: Drop, V: Drop, S> Logged<K, V, S> {
         ensures steps { IfOk result (λ told. (same : K → K → Bool) (hash : K → ℕ) (s : Scene K V) (i : ℕ) (lists : ℕ → List ℕ) → IsReclaiming same hash self.old.executor s i lists reclaiming.old.all
             → ReclaimingLeads same hash s i lists self.old.executor self.new.executor reclaiming.old.all reclaiming.new.all told) }
         ensures did { IfOk result (λ told. effects.new.items ≡ effects.old.items ++ effects_of Row (known self.old.notes) self.new.executor.memory.changed) }
+        ensures noted { IfOk result (λ told. known self.new.notes ≡ known_after Row self.new.executor.memory.changed (known self.old.notes)) }
         ensures given { KeepsGiven self.old.executor self.new.executor }
     {
         let told = reclaiming.step(&mut self.executor);
@@ -60,6 +62,7 @@ impl<K: Drop, V: Drop, S> Logged<K, V, S> {
         requires { (same : K → K → Bool) × (hash : K → ℕ) × (name : ℕ → List ℕ) × (m : Moment K V) × (s : Scene K V) × (lists : ℕ → List ℕ) × IsShown same hash name m self.old s
             × NobodyHas self.old.executor × MayReclaim self.old.executor s lists taken }
         ensures ran { OnOk result (ReclaimingRan taken effects.old.items effects.new.items self.old self.new) }
+        ensures gone { OnOk result (ReclaimingGone taken effects.old.items effects.new.items self.old self.new) }
         ensures back { OnOk result (AllBringsBack taken effects.old.items effects.new.items self.old back.old.items back.new.items) }
         ensures given { KeepsGiven self.old.executor self.new.executor }
     {

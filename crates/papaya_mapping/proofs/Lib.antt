@@ -5,4 +5,5 @@ pub mod MapsEnded
 pub mod RootsUsed
 pub mod MapNumbers
 pub mod MapsMade
-mod AllGiven
+pub mod AllGiven
+mod AllWorks

@@ -222,7 +222,7 @@ module _ {K V S : Type 0} (same : K → K → Bool) (hash : K → ℕ) (terms : 
           others_stand n o ne e = ap (λ (g : ℕ → Option (Standing K)). g n) u.2.maps ∙ at_other s.maps number None n ne ∙ e
 
           -- none that stands has the name
-          no_other : (n : ℕ) (st : Standing K) (there : MapThere) → s2.maps n ≡ Some st → map_at n v ≡ Some there → is_same there.name own ≡ false
+          pub no_other : (n : ℕ) (st : Standing K) (there : MapThere) → s2.maps n ≡ Some st → map_at n v ≡ Some there → is_same there.name own ≡ false
           no_other n st there stands_there is = by (is_same there.name own) refl
             where
               is_m : map_at n m ≡ Some there

@@ -49,6 +49,7 @@ use Rattle.papaya_rows.proofs.Least.{least_is}
 use Rattle.papaya_rows.proofs.Lists.{all_so}
 use Rattle.papaya_scheduler.specs.Mapping.{CountsMaps, IsGivenFor, MayMap, may_make_of}
 use Rattle.papaya_scheduler.specs.Played.{Plays, StandsFor}
+use Rattle.papaya_scheduler.specs.Quiet.{IsQuiet}
 use Rattle.papaya_named.specs.Seen.{named, named_of}
 use Rattle.papaya_named.specs.declared.named_map.NamedMap.{NamedMap}
 use Rattle.papaya_scheduler.specs.declared.scheduler.Scheduler.{Scheduler}
@@ -201,6 +202,15 @@ module _ {K V S : Type 0} (same : K → K → Bool) (hash : K → ℕ) (terms : 
                 × (CameBare s1 t i b no_map came.maker → JustAsks b ran.0) × HasTable no_map b (with_effects None (number_of own m) ran.0 m)
             went = (ran.3 same hash stands.name m s1 shown_mid b here (sym is_number) (number_of own m)).1 tt (subst (λ (n : ℕ). NumbersUpTo n m) (sym is_number) stands.shown.counted.numbered.numbers)
 
+            -- it was not refused as busy
+            quiet_by : (x : Fault) → FindsRoot p.logged.executor.roots (λ q. is_among q used) after new.executor.memory.memory (progress.Refused x) → IsQuiet {V = V} (Refused x) after
+            quiet_by RootsUsedUp so = tt
+            quiet_by Memory so = tt
+            quiet_by _ so = absurd so
+
+            pub refused_quiet : IsQuiet {V = V} (Refused fault) after
+            refused_quiet = quiet_by fault (found no_map new before after empty ran finds)
+
             abbrev refusal : Entry K V
             refusal = entry event (Refused fault) 0 after
 
@@ -246,13 +256,13 @@ module _ {K V S : Type 0} (same : K → K → Bool) (hash : K → ℕ) (terms : 
                 sym is_given.mode_is
                 ∙ sym (ap (λ (x : Setting). x.mode) (ran.2 same hash s1 shown_mid.is_at b here (sym is_number)).1.maps.answer_is)
 
-            is_next : number ≡ m.made
+            pub is_next : number ≡ m.made
             is_next = is_number ∙ counts.next
 
-            new_one : IsNew number setting bm
+            pub new_one : IsNew number setting bm
             new_one = subst (λ (n : ℕ). IsNew n setting bm) (sym is_next) (maps_come_as_new K V m counts.apart.numbers counts.pairs there refl refl setting root_is mode_is)
 
-            shown_there : IsShown same hash stands.name bm mid s1
+            pub shown_there : IsShown same hash stands.name bm mid s1
             shown_there =
                 comes same hash stands.name m s1 shown_mid counts.apart.numbers there refl (subst (λ (n : ℕ). n < length mid.executor.maps.items) counts.next (shown_mid.is_at.numbers i b here))
                 (ap (λ (r : ℕ). is_among r used) root_is ∙ its_root.0.1)

@@ -6,6 +6,8 @@ ghost use Rattle.papaya_executor.specs.IsAt.{KeepsGiven};
 ghost use Rattle.papaya_scheduler.specs.Back.{GivesBack};
 ghost use Rattle.papaya_scheduler.specs.Mapping.{PlaysEnding};
 ghost use Rattle.papaya_scheduler.specs.Played.{MayPlay};
+ghost use Rattle.papaya_scheduler.specs.Quiet.{IsQuiet};
+ghost use Rattle.papaya_scheduler.specs.Works.{WorksOnEnd};
 
 use papaya_named::named_map::NamedMap;
 use papaya_runs::record::Pair;
@@ -31,7 +33,9 @@ pub fn end_map<K: Drop, V: Drop, S>(
 ) -> Result<Played<V>, AllocError>
     requires { (same : K → K → Bool) × (hash : K → ℕ) × MayPlay same hash (event.EndMap map.now) scheduler.old }
     ensures steps { IfOk result (λ played. played.steps ≡ 0) }
+    ensures quiet { IfOk result (λ played. IsQuiet played.outcome played.effects.items) }
     ensures plays { IfOk result (λ played. (same : K → K → Bool) (hash : K → ℕ) → PlaysEnding same hash (event.EndMap map.now) played scheduler.old scheduler.new) }
+    ensures works { IfOk result (λ played. WorksOnEnd played scheduler.old scheduler.new map.now) }
     ensures back { IfOk result (λ played. (same : K → K → Bool) (hash : K → ℕ) → GivesBack same hash (event.EndMap map.now) played scheduler.old back.old.items back.new.items) }
     ensures given { KeepsGiven scheduler.old.logged.executor scheduler.new.logged.executor }
 {

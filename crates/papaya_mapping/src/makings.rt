@@ -5,6 +5,8 @@ ghost use Rattle.papaya_schedules.specs.Terms.{Terms};
 ghost use Rattle.papaya_schedules.specs.declared.event.Event.TheVariants as event;
 ghost use Rattle.papaya_executor.specs.IsAt.{StaysGiven};
 ghost use Rattle.papaya_scheduler.specs.Mapping.{MayMap, PlaysMaking, IsGivenFor, may_make_of, numbers_made};
+ghost use Rattle.papaya_scheduler.specs.Quiet.{IsQuiet};
+ghost use Rattle.papaya_scheduler.specs.Works.{WorksOnMap};
 
 use papaya_named::named_map::NamedMap;
 use papaya_named::places::places_for;
@@ -57,8 +59,10 @@ pub fn make_map<K: Drop, V: Drop, S>(
 ) -> Result<Played<V>, AllocError>
     requires { (same : K → K → Bool) × (hash : K → ℕ) × (terms : Terms) × (log : List (Entry K V)) × MayMap same hash terms log (event.MakeMap map mode capacity) scheduler.old }
     ensures steps { IfOk result (λ played. played.steps ≡ 0) }
+    ensures quiet { IfOk result (λ played. IsQuiet played.outcome played.effects.items) }
     ensures plays { IfOk result (λ played. (same : K → K → Bool) (hash : K → ℕ) → PlaysMaking same hash (event.MakeMap map mode capacity) played scheduler.old scheduler.new) }
     ensures numbers { IfOk result (λ played. length scheduler.new.logged.executor.maps.items ≡ numbers_made played.outcome (length scheduler.old.logged.executor.maps.items)) }
+    ensures works { IfOk result (λ played. WorksOnMap played scheduler.old scheduler.new map mode capacity) }
     ensures given { StaysGiven scheduler.old.logged.executor scheduler.new.logged.executor }
 {
     scheduler.is_mapped = true;

@@ -5,12 +5,15 @@ ghost use Rattle.papaya_schedules.specs.Moment.{Moment};
 ghost use Rattle.papaya_schedules.specs.declared.event.Event.TheVariants as event;
 ghost use Rattle.papaya_executor.specs.IsAt.{Scene, KeepsGiven};
 ghost use Rattle.papaya_logged.specs.Back.{AllBringsBack};
+ghost use Rattle.papaya_logged.specs.Goes.{ReclaimingGone};
 ghost use Rattle.papaya_logged.specs.Reclaims.{ReclaimingRan};
 ghost use Rattle.papaya_logged.specs.Shown.{IsShown};
 ghost use Rattle.papaya_reclaiming.specs.Reclaiming.{MayReclaim, NobodyHas};
 ghost use Rattle.papaya_effects.specs.Known.{known};
+ghost use Rattle.papaya_scheduler.specs.AllWorks.{WorksOnAll};
 ghost use Rattle.papaya_scheduler.specs.Back.{GivesAllBack};
 ghost use Rattle.papaya_scheduler.specs.Reclaiming.{MayReclaimAll, PlaysGiving, are_gone};
+ghost use Rattle.papaya_scheduler.specs.Quiet.{IsQuiet};
 
 use papaya_runs::record::Pair;
 use papaya_scheduler::played::Played;
@@ -35,6 +38,7 @@ fn give_all_back<K: Drop, V: Drop, S>(
     requires { (same : K → K → Bool) × (hash : K → ℕ) × (name : ℕ → List ℕ) × (m : Moment K V) × (s : Scene K V) × (lists : ℕ → List ℕ) × IsShown same hash name m scheduler.old.logged s
         × NobodyHas scheduler.old.logged.executor × MayReclaim scheduler.old.logged.executor s lists (nat_lt 0 (known scheduler.old.logged.notes).buckets) }
     ensures ran { OnOk result (ReclaimingRan (nat_lt 0 (known scheduler.old.logged.notes).buckets) effects.old.items effects.new.items scheduler.old.logged scheduler.new.logged) }
+    ensures gone { OnOk result (ReclaimingGone (nat_lt 0 (known scheduler.old.logged.notes).buckets) effects.old.items effects.new.items scheduler.old.logged scheduler.new.logged) }
     ensures back { OnOk result (AllBringsBack (nat_lt 0 (known scheduler.old.logged.notes).buckets) effects.old.items effects.new.items scheduler.old.logged back.old.items back.new.items) }
     ensures rest { OnOk result (scheduler.new ≡ record scheduler.old { logged = scheduler.new.logged; there = nobody }) }
     ensures given { KeepsGiven scheduler.old.logged.executor scheduler.new.logged.executor }
@@ -53,7 +57,9 @@ pub fn reclaim_all<K: Drop, V: Drop, S>(
 ) -> Result<Played<V>, AllocError>
     requires { (same : K → K → Bool) × (hash : K → ℕ) × MayReclaimAll same hash event.ReclaimAll scheduler.old }
     ensures steps { IfOk result (λ played. played.steps ≡ 0) }
+    ensures quiet { IfOk result (λ played. IsQuiet played.outcome played.effects.items) }
     ensures plays { IfOk result (λ played. (same : K → K → Bool) (hash : K → ℕ) → PlaysGiving same hash event.ReclaimAll played scheduler.old scheduler.new) }
+    ensures works { IfOk result (λ played. WorksOnAll played scheduler.old scheduler.new) }
     ensures back { IfOk result (λ played. (same : K → K → Bool) (hash : K → ℕ) → GivesAllBack same hash event.ReclaimAll played scheduler.old back.old.items back.new.items) }
     ensures given { KeepsGiven scheduler.old.logged.executor scheduler.new.logged.executor }
 {
@@ -76,7 +82,9 @@ pub fn close<K: Drop, V: Drop, S>(
 ) -> Result<Played<V>, AllocError>
     requires { (same : K → K → Bool) × (hash : K → ℕ) × MayReclaimAll same hash event.Close scheduler.old }
     ensures steps { IfOk result (λ played. played.steps ≡ 0) }
+    ensures quiet { IfOk result (λ played. IsQuiet played.outcome played.effects.items) }
     ensures plays { IfOk result (λ played. (same : K → K → Bool) (hash : K → ℕ) → PlaysGiving same hash event.Close played scheduler.old scheduler.new) }
+    ensures works { IfOk result (λ played. WorksOnAll played scheduler.old scheduler.new) }
     ensures back { IfOk result (λ played. (same : K → K → Bool) (hash : K → ℕ) → GivesAllBack same hash event.Close played scheduler.old back.old.items back.new.items) }
     ensures given { KeepsGiven scheduler.old.logged.executor scheduler.new.logged.executor }
 {

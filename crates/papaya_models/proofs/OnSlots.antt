@@ -228,7 +228,7 @@ module _ {K V : Type 0} where
   none_left request before after _ _ m v is = refl
 
 -- the numbers of the things in blocks are those that stand for these
-numbers_back : (known : Known) (things : List Thing) (blocks numbers : List ℕ) → AreAlike (HasNumber known things) blocks numbers
+pub numbers_back : (known : Known) (things : List Thing) (blocks numbers : List ℕ) → AreAlike (HasNumber known things) blocks numbers
     → map (number_in things) (flat_map (λ b. things_of (known.roles b)) blocks) ≡ numbers
 numbers_back known things [] [] h = refl
 numbers_back known things [] (n ∷ numbers) h = absurd h

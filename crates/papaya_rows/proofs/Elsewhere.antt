@@ -63,7 +63,7 @@ module _ {K V : Type 0} (m : Moment K V) (known : Known) (events : ℕ) (is_mapp
 
   -- and what every step keeps is so then
   pub kept_elsewhere : (name : ℕ → List ℕ) (s : Scene K V) → ShowsKept name m known s → ShowsKept name v known s
-  kept_elsewhere name s kept = stays_kept K V name m v known s s kept refl refl refl refl refl refl refl refl
+  kept_elsewhere name s kept = stays_kept K V name m v known s s kept refl refl refl refl refl refl refl refl refl
 
   -- so are numbers, and what ended maps have left over, where the moment tells the same remains
   pub counted_elsewhere : {S : Type 0} (l : Logged K V S) (s : Scene K V) → remains ≡ m.remains → IsCounted m l s → IsCounted v l s

@@ -4,7 +4,7 @@ use Rattle.std.proofs.Common.{◌<◌, ◌+◌, ◌*◌, sym, ap, subst, ◌∙�
 use Rattle.papaya_histories.specs.Given.Tables.declared.node.Node.{Node}
 use Rattle.papaya_histories.specs.Given.Schedules.declared.effect.Effect.{Effect}
 use Rattle.papaya_histories.specs.Given.Schedules.Moment.{Moment}
-use Rattle.papaya_histories.specs.Given.Executor.IsAt.{Scene, IsAt, slot_of, work_of}
+use Rattle.papaya_histories.specs.Given.Executor.IsAt.{KeepsGiven, Scene, IsAt, slot_of, work_of}
 use Rattle.papaya_histories.specs.Given.Executor.OnSlots.{MayBegin, RowBegins}
 use Rattle.papaya_histories.specs.Given.Executor.Rows.{begun_row, uses_begun}
 use Rattle.papaya_histories.specs.Given.Executor.declared.row.RowTold.{RowTold}
@@ -14,6 +14,7 @@ use Rattle.papaya_histories.specs.Given.Executor.declared.row.SlotUse.{SlotUse}
 use Rattle.papaya_histories.specs.Given.Executor.declared.worker.TheConstants.{SLOTS}
 use Rattle.papaya_histories.specs.Given.Executor.declared.worker.Work.TheVariants.{OnSlot}
 use Rattle.papaya_logged.specs.Ended.{has_ended, uses_ended}
+use Rattle.papaya_logged.specs.Goes.{GoesTo, RowGoes, far}
 use Rattle.papaya_logged.specs.OnSlots.{EndsTelling, OnSlotBegins, OnSlotComes, OnSlotLast, OnSlotRan}
 use Rattle.papaya_logged.specs.Shown.{IsShown}
 use Rattle.papaya_logged.specs.declared.logged.Logged.{Logged}
@@ -42,14 +43,18 @@ module _ {K V S : Type 0} (slot : ℕ) (called : SlotCall) (caller : ℕ) (old b
     begun_there = (same, hash, record s { world = (leads may_there).3.0; maps = (leads may_there).3.2 }, (leads may_there).3.4, begun_row slot old.executor.batch_size called, row_is)
 
     -- and has run
-    pub has_run : (said : RowTold (Node K V)) (before after : List Effect) → OnSlotComes caller said new → OnSlotLast caller said began.executor new.executor
+    pub has_run : (said : RowTold (Node K V)) (before after : List Effect) → began.notes ≡ old.notes → KeepsGiven old.executor began.executor
+        → GoesTo (RowGoes caller) (far before began) (far after new) → OnSlotComes caller said new → OnSlotLast caller said began.executor new.executor
         → ((row : SlotRow) → work_of began.executor caller ≡ Some (OnSlot row) → has_ended said ≡ true → new.executor.slots.items ≡ uses_ended row said began.executor.slots.items)
         → OnSlotRan before after began new → EndsTelling after new.executor → RowRan slot called said before after old new
-    has_run said before after comes last used ran tells = record {
+    has_run said before after noted given goes comes last used ran tells = record {
       caller = caller;
       in_slot = in_slot;
       began = began;
       begins = begins;
+      noted = noted;
+      given = given;
+      goes = goes;
       last = last;
       come = comes.0;
       used = λ ended. used (begun_row slot old.executor.batch_size called) row_is ended

@@ -6,7 +6,7 @@ use Rattle.papaya_histories.specs.Given.Runs.Present.{Present, guards_on, has_re
 use Rattle.papaya_histories.specs.Given.Schedules.declared.effect.Effect.{Effect}
 use Rattle.papaya_histories.specs.Given.Schedules.Effects.{with_effects}
 use Rattle.papaya_histories.specs.Given.Schedules.Moment.{Moment}
-use Rattle.papaya_histories.specs.Given.Executor.IsAt.{Scene, slot_of}
+use Rattle.papaya_histories.specs.Given.Executor.IsAt.{KeepsGiven, Scene, slot_of}
 use Rattle.papaya_histories.specs.Given.Executor.OnSlots.{MayBegin}
 use Rattle.papaya_histories.specs.Given.Executor.Rows.{begun_row, uses_begun}
 use Rattle.papaya_histories.specs.Given.Executor.declared.row.RowTold.{RowTold}
@@ -16,17 +16,21 @@ use Rattle.papaya_histories.specs.Given.Executor.declared.row.SlotUse.{SlotUse}
 use Rattle.papaya_histories.specs.Given.Executor.declared.row.SlotUse.TheVariants as used
 use Rattle.papaya_histories.specs.Given.Finishes.Maps.{Standing}
 use Rattle.papaya_logged.specs.Ended.{has_ended, uses_ended}
+use Rattle.papaya_logged.specs.Goes.{GoesTo, RowGoes, far}
 use Rattle.papaya_logged.specs.OnSlots.{EndsTelling, OnSlotBegins, OnSlotLast, has_come}
 use Rattle.papaya_logged.specs.Shown.{IsShown}
 use Rattle.papaya_logged.specs.declared.logged.Logged.{Logged}
 
--- A row has begun in this slot, and has run until it ended, or waits: which steps it took, what they did, the last one's at the end, and how slots are used then. The moment after all that
--- shows the executor.
+-- A row has begun in this slot, and has run until it ended, or waits: which steps it took, each as it was noted, what they did, the last one's at the end, and how slots are
+-- used then. The moment after all that shows the executor.
 pub record RowRan {K V S : Type 0} (slot : ℕ) (called : SlotCall) (said : RowTold (Node K V)) (before after : List Effect) (old new : Logged K V S) : Type 0 where
   pub caller : ℕ
   pub in_slot : slot_of caller ≡ slot
   pub began : Logged K V S
   pub begins : (same : K → K → Bool) (hash : K → ℕ) (name : ℕ → List ℕ) (m : Moment K V) (s : Scene K V) → IsShown same hash name m old s → OnSlotBegins same hash name m s called caller old began
+  pub noted : began.notes ≡ old.notes
+  pub given : KeepsGiven old.executor began.executor
+  pub goes : GoesTo (RowGoes caller) (far before began) (far after new)
   pub last : OnSlotLast caller said began.executor new.executor
   pub come : has_come said ≡ true
   pub used : has_ended said ≡ true → new.executor.slots.items ≡ uses_ended (begun_row slot old.executor.batch_size called) said (uses_begun slot called old.executor.slots.items)

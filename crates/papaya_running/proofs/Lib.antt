@@ -1,4 +1,6 @@
 mod Beginning
+mod Remaining
+pub mod OfCalls
 mod Ended
 mod Forms
 mod Happened
@@ -10,3 +12,7 @@ mod Logs
 mod Turns
 mod Counts
 mod Held
+pub mod OfRows
+pub mod OfEnds
+pub mod OfMakings
+pub mod OfAll

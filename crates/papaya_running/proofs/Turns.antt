@@ -114,7 +114,7 @@ module _ {K V S : Type 0} (same : K → K → Bool) (hash : K → ℕ) (terms : 
 -- what is promised of an event, as a run tells it
 pub goes_so : {K V S : Type 0} (same : K → K → Bool) (hash : K → ℕ) (terms : Terms) (log : List (Entry K V)) (e : Entry K V) (p : Scheduler K V S)
     → Happens same hash terms log e p → GoesRight terms log e
-goes_so same hash terms _ e p happens = record { right = λ finds. (happens.plays finds).right; makes = happens.makes; does = happens.does }
+goes_so same hash terms _ e p happens = record { right = λ finds. (happens.plays finds).right; makes = happens.makes; does = happens.does; is_quiet = happens.is_quiet }
 
 -- before all events
 pub start_so : {K V S : Type 0} (same : K → K → Bool) (hash : K → ℕ) (terms : Terms) (rec : Record V) (tally : Tally) (p : Scheduler K V S) → rec.outcomes.items ≡ [] → rec.steps.items ≡ [] → rec.effects.items ≡ []

@@ -71,7 +71,7 @@ module _ {K V S : Type 0} (same : K → K → Bool) (hash : K → ℕ) (terms : 
   module _ (own guard name : List ℕ) (call : Call K V) where
     -- it does not begin
     pub not_begun : (is_none (call_of own m) && is_living guard m.there && is_some (map_of name m)) ≡ false → BeginsSo same hash terms m own guard name call false p p
-    not_begun fails = record { so = sym fails; none = λ e. refl; stands = λ e. absurd (cc e) }
+    not_begun fails = record { so = sym fails; none = λ e. refl; stands = λ e. absurd (cc e); led = λ e. absurd (cc e) }
 
     module _ (free : list_any (is_named own) calls ≡ false) (slot : ℕ) (lives : living_slot (guard_of guard p.there.guards) ≡ Some slot) (number : ℕ) (setting : Setting)
         (found : setting_named name p.maps.items p.logged.executor.maps.items ≡ Some (number, setting)) where
@@ -94,28 +94,28 @@ module _ {K V S : Type 0} (same : K → K → Bool) (hash : K → ℕ) (terms : 
       pub fits : slot < SLOTS
       fits = slot_fits same hash p.logged.executor s stands.shown.is_at slot (λ e. let h = sym entered ∙ e in absurd (cc h))
 
-      abbrev i : ℕ
+      abbrev pub i : ℕ
       i = caller_in p.logged.executor slot
 
-      at_slot : slot_of i ≡ slot
+      pub at_slot : slot_of i ≡ slot
       at_slot = slot_is p.logged.executor slot fits
 
-      abbrev its : (number_of name m ≡ Some number) × (standing : Standing K) × (s.maps number ≡ Some standing) × (standing.setting ≡ setting)
+      abbrev pub its : (number_of name m ≡ Some number) × (standing : Standing K) × (s.maps number ≡ Some standing) × (standing.setting ≡ setting)
       its = setting_of_it same hash terms m p stands name number setting found
 
-      abbrev st : Standing K
+      abbrev pub st : Standing K
       st = its.1
 
-      abbrev u : UnderWay K V K
+      abbrev pub u : UnderWay K V K
       u = begun_call same st i call
 
       module _ (new : Logged K V S) (leads : (names : ℕ → List ℕ) (v : Moment K V) (t : Scene K V) → IsShown same hash names v p.logged t
           → CallBegins same hash names v t i number (machine_for (record setting { slot = slot }) hash call) p.logged new) (caller : Caller V)
           (is : seen_of caller ≡ record { name = own; guard = guard; map = number; kind = kind_of call; far = far.Goes }) (numbered : caller.number ≡ i) where
-        abbrev names : ℕ → List ℕ
+        abbrev pub names : ℕ → List ℕ
         names = put i own stands.name
 
-        abbrev then_at : Scene K V
+        abbrev pub then_at : Scene K V
         then_at = scene_with number i u s
 
         machine_is : machine_of u ≡ machine_for (record setting { slot = slot }) hash call
@@ -123,16 +123,16 @@ module _ {K V S : Type 0} (same : K → K → Bool) (hash : K → ℕ) (terms : 
             its_machine same st i call ∙ ap (λ (x : Setting). machine_for (in_slot x (slot_of i)) st.hash call) its.3
             ∙ ap (λ (x : ℕ). machine_for (in_slot setting x) st.hash call) at_slot ∙ ap (λ (h : K → ℕ). machine_for (in_slot setting slot) h call) (stands.shown.is_at.hashes number st its.2)
 
-        shown : IsShown same hash names (with_call own guard call (Some number) m) new then_at
+        pub shown : IsShown same hash names (with_call own guard call (Some number) m) new then_at
         shown =
             leads stands.name m s stands.shown st its.2 (ap (use_at p.logged.executor) at_slot ∙ entered) u machine_is
             (begins_so same st i (stands.shown.is_at.together.makings.standing.fit number st its.2).0 call) own guard call (is_called same st i call) (is_begun_for same st i call) (none_named own free)
 
-        none_yet : (n : ℕ) → s.calls n i ≡ None
+        pub none_yet : (n : ℕ) → s.calls n i ≡ None
         none_yet = no_calls_yet same hash p.logged.executor s stands.shown.is_at slot fits
 
         -- its own call is there then, and so are those that were
-        here_then : then_at.calls number i ≡ Some u
+        pub here_then : then_at.calls number i ≡ Some u
         here_then = ap (λ (f : ℕ → Option (UnderWay K V K)). f i) (at_same s.calls number _ number refl) ∙ at_same (s.calls number) i (Some u) i refl
 
         there_then : (n j : ℕ) → j ≢ i → then_at.calls n j ≡ s.calls n j
@@ -142,13 +142,13 @@ module _ {K V S : Type 0} (same : K → K → Bool) (hash : K → ℕ) (terms : 
             by (inl e) = ap (λ (f : ℕ → Option (UnderWay K V K)). f j) (at_same s.calls number _ n e) ∙ at_other (s.calls number) i (Some u) j ne ∙ ap (λ (x : ℕ). s.calls x j) (sym e)
             by (inr other) = ap (λ (f : ℕ → Option (UnderWay K V K)). f j) (at_other s.calls number _ n other)
 
-        not_it : (n j : ℕ) (x : UnderWay K V K) → s.calls n j ≡ Some x → j ≢ i
+        pub not_it : (n j : ℕ) (x : UnderWay K V K) → s.calls n j ≡ Some x → j ≢ i
         not_it n j x here e = let a = subst (λ (y : ℕ). s.calls n y ≡ Some x) e here in let b = none_yet n in cc (a, b)
 
-        name_then : (j : ℕ) → j ≢ i → names j ≡ stands.name j
+        pub name_then : (j : ℕ) → j ≢ i → names j ≡ stands.name j
         name_then j ne = ap (λ (b : Bool). if b then own else stands.name j) (ne_eqb j i ne)
 
-        name_here : names i ≡ own
+        pub name_here : names i ≡ own
         name_here = ap (λ (b : Bool). if b then own else stands.name i) (eq-eqb i i refl)
 
         still : (d : Caller V) → IsUnderWay stands.name s p.there d → IsUnderWay names then_at p.there d
@@ -246,9 +246,24 @@ module _ {K V S : Type 0} (same : K → K → Bool) (hash : K → ℕ) (terms : 
           names = stands.names;
         }
 
-        pub begun : (calls2 : Callers V) → calls2.items.items ≡ caller ∷ calls → BeginsSo same hash terms m own guard name call true p (record p { logged = new; calls = calls2 })
-        begun calls2 items = record {
+        pub begun : (calls2 : Callers V) → calls2.items.items ≡ caller ∷ calls → new.notes ≡ p.logged.notes → BeginsSo same hash terms m own guard name call true p (record p { logged = new; calls = calls2 })
+        begun calls2 items kept = record {
           so = sym may_begin;
           none = λ e. absurd (cc e);
           stands = λ e. subst (λ (o : Option ℕ). StandsFor same hash terms (with_call own guard call o m) (record p { logged = new; calls = calls2 })) (sym its.0) (stands_then calls2 items);
+          led = λ e. record {
+            free = free;
+            slot = slot;
+            lives = lives;
+            number = number;
+            setting = setting;
+            found = found;
+            leads = leads;
+            caller = caller;
+            is = is;
+            numbered = numbered;
+            items = items;
+            rest = refl;
+            notes = kept;
+          };
         }

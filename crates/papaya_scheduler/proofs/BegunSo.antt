@@ -76,11 +76,11 @@ module _ {K V S : Type 0} (same : K → K → Bool) (hash : K → ℕ) (terms : 
       → (machine : Machine K V K) → machine ≡ machine_for (record setting { slot = slot }) hash call → (kind : Kind) → kind ≡ kind_of call → (new : Logged K V S)
       → ((names : ℕ → List ℕ) (v : Moment K V) (t : Scene K V) → IsShown same hash names v p.logged t → CallBegins same hash names v t i number machine p.logged new)
       → (calls2 : Callers V) → calls2.items.items ≡ record { name = own; guard = guard; map = number; number = i; kind = kind; stands = far.Goes; value = None } ∷ calls
-      → BeginsSo same hash terms m own guard name call true p (record p { logged = new; calls = calls2 })
-  has_begun free slot lives number setting found i is_i machine is_machine kind is_kind new leads calls2 items =
+      → new.notes ≡ p.logged.notes → BeginsSo same hash terms m own guard name call true p (record p { logged = new; calls = calls2 })
+  has_begun free slot lives number setting found i is_i machine is_machine kind is_kind new leads calls2 items kept =
       begun same hash terms m p stands own guard name call free slot lives number setting found new
       (λ names v t shown.
       (subst (λ (n : ℕ). CallBegins same hash names v t n number (machine_for (record setting { slot = slot }) hash call) p.logged new) is_i
       (subst (λ (x : Machine K V K). CallBegins same hash names v t i number x p.logged new) is_machine (leads names v t shown))))
       (record { name = own; guard = guard; map = number; number = i; kind = kind; stands = far.Goes; value = None })
-      (ap {B = Seen} (λ (k : Kind). record { name = own; guard = guard; map = number; kind = k; far = far.Goes }) is_kind) is_i calls2 items
+      (ap {B = Seen} (λ (k : Kind). record { name = own; guard = guard; map = number; kind = k; far = far.Goes }) is_kind) is_i calls2 items kept

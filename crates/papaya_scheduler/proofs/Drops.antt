@@ -111,10 +111,10 @@ module _ {K V S : Type 0} (same : K → K → Bool) (hash : K → ℕ) (terms : 
       pub its_fits : slot < SLOTS
       its_fits = fits same hash terms m p stands guard slot its_lives
 
-      alone : (j : ℕ) → has_batch slot (stands.scene.world.row j) ≡ true → ⊥
+      pub alone : (j : ℕ) → has_batch slot (stands.scene.world.row j) ≡ true → ⊥
       alone = none_has same hash p.logged.executor stands.scene stands.shown.is_at slot nobody
 
-      settles : IsSettling (begun_row slot p.logged.executor.batch_size how)
+      pub settles : IsSettling (begun_row slot p.logged.executor.batch_size how)
       settles = by (has_registration slot p.there.registrations)
         where
           by : (b : Bool) → IsSettling (begun_row slot p.logged.executor.batch_size (if b then call.Leave else call.LeaveOwned))

@@ -130,7 +130,7 @@ module _ {K V S : Type 0} (same : K → K → Bool) (hash : K → ℕ) (terms : 
         ap (λ (b : Bool). not b && is_registered registration m.there) (ap (is_guard guard) stands.there ∙ guard_is guard p.there ∙ none)
         ∙ ap (is_registered registration) stands.there ∙ registered_is registration p.there ∙ sym (slot_some (registration_of registration p.there.registrations)) ∙ ap is_some found
 
-    its_slot : slot_of_registration registration m.there ≡ slot
+    pub its_slot : slot_of_registration registration m.there ≡ slot
     its_slot = ap (slot_of_registration registration) stands.there ∙ slot_is registration p.there slot found
 
     -- what it comes to, by how many guards there are
@@ -203,6 +203,10 @@ module _ {K V S : Type 0} (same : K → K → Bool) (hash : K → ℕ) (terms : 
             by (inr (ne, alike)) =
                 ap (λ (xs : List SlotUse). slice_index_or xs t used.Vacant) slots_now ∙ get_or-set_other (slice_set p.logged.executor.slots.items slot used.Changing) slot t used.Inside used.Vacant ne
                 ∙ get_or-set_other p.logged.executor.slots.items slot t used.Changing used.Vacant ne ∙ stands.slots t ∙ sym alike
+
+        -- it is within a section
+        pub is_within : use_at logged.executor slot ≡ used.Inside
+        is_within = use_now slot ∙ is_inside slot there2 (on_it guard slot p.there)
 
         pub entered_first : nat_lt (guards_on slot p.there.guards) MOST_GUARDS ≡ true → (there : Present) → there ≡ there2
             → Plays same hash terms log (entry (Enter guard registration) Done 0 ran.did) (record p { logged = logged; there = there })

@@ -72,7 +72,7 @@ module _ {K V S : Type 0} (same : K → K → Bool) (hash : K → ℕ) (terms : 
     is_turn : is_living guard m.there ≡ true
     is_turn = lives_there ∙ ap is_some lives
 
-    its_slot : slot_of_guard guard m.there ≡ slot
+    pub its_slot : slot_of_guard guard m.there ≡ slot
     its_slot =
         let g = lives_on (guard_of guard p.there.guards) slot lives in
         ap (slot_of_guard guard) stands.there ∙ ap guards_slot_or g.1 ∙ g.2
@@ -108,7 +108,7 @@ module _ {K V S : Type 0} (same : K → K → Bool) (hash : K → ℕ) (terms : 
 
     -- and else nobody has it, and the row of the flush runs, and ends
     module _ (held : Bool) (reads : IsRead held) (no : held ≡ false) where
-      alone : (j : ℕ) → has_batch slot (stands.scene.world.row j) ≡ true → ⊥
+      pub alone : (j : ℕ) → has_batch slot (stands.scene.world.row j) ≡ true → ⊥
       alone j has =
           let at = stands.shown.is_at in
           let says = word_says same hash p.logged.executor stands.scene at j slot its_fits has in

@@ -1,6 +1,8 @@
 pub mod KeptGiven
 pub mod Backs
+pub mod Works
 pub mod Rights
+pub mod Busy
 pub mod Quiet
 pub mod Simple
 pub mod Chosen

@@ -26,7 +26,9 @@ use Rattle.papaya_logged.specs.declared.logged.Logged.{Logged}
 use Rattle.papaya_scheduler.specs.Played.{IsDue, IsUnderWay, Plays, StandsFor}
 use Rattle.papaya_rows.specs.Rows.{RowRan, used_as}
 use Rattle.papaya_rows.specs.Taking.{SlotTaken, told_as}
+use Rattle.papaya_scheduler.specs.Quiet.{IsQuiet}
 use Rattle.papaya_scheduler.specs.declared.scheduler.Scheduler.{Scheduler}
+use Rattle.papaya_scheduler.proofs.Busy.{slot_quiet}
 use Rattle.papaya_scheduler.proofs.Enters.{found_more, none_is, used_now}
 use Rattle.papaya_rows.proofs.Lists.{all_so}
 use Rattle.papaya_rows.proofs.Names.{enters_named}
@@ -139,3 +141,8 @@ module _ {K V S : Type 0} (same : K → K → Bool) (hash : K → ℕ) (terms : 
       (subst (λ (xs : List Effect). Plays same hash terms log (entry (Own guard) (Slot n) 0 xs) (record p { logged = q.logged; there = there })) (sym did)
       (entered same hash terms log p guard due found (told_as slot) before after q.logged ran n (ap (λ (x : Result ℕ Fault). told_as {T = Node K V} x) is) there
       (there_is ∙ ap (λ (x : Scheduler K V S). enters_slot guard n x.there) same_p)))
+
+  -- it was not refused as busy
+  pub refused_quiet : (fault : Fault) → slot ≡ Err fault → IsQuiet {V = V} (Refused fault) after
+  refused_quiet fault is = slot_quiet (moment log).there ran.did after fault
+      (gets_none same hash terms (moment log) p due.played true (told_as slot) before after q.logged ran fault (ap (λ (x : Result ℕ Fault). told_as {T = Node K V} x) is) nothing)

@@ -72,7 +72,7 @@ module _ {K V S : Type 0} (same : K → K → Bool) (hash : K → ℕ) (terms : 
       pub its_fits : slot < SLOTS
       its_fits = fits same hash terms m p stands guard slot (free_lives same hash terms m p stands guard slot free)
 
-      alone : (j : ℕ) → has_batch slot (stands.scene.world.row j) ≡ true → ⊥
+      pub alone : (j : ℕ) → has_batch slot (stands.scene.world.row j) ≡ true → ⊥
       alone = none_has same hash p.logged.executor stands.scene stands.shown.is_at slot may_refresh.1
 
       module _ (said : RowTold (Node K V)) (before after : List Effect) (logged : Logged K V S) (ran : RowRan slot call.Refresh said before after p.logged logged) where
@@ -98,6 +98,10 @@ module _ {K V S : Type 0} (same : K → K → Bool) (hash : K → ℕ) (terms : 
                 ap (λ (xs : List SlotUse). slice_index_or xs t used.Vacant) slots_now
                 ∙ get_or-set_other (slice_set p.logged.executor.slots.items slot used.Changing) slot t used.Inside used.Vacant ne
                 ∙ get_or-set_other p.logged.executor.slots.items slot t used.Changing used.Vacant ne ∙ stands.slots t
+
+        -- it is within a section anew
+        pub is_within : use_at logged.executor slot ≡ used.Inside
+        is_within = use_now slot ∙ sym (stands.slots slot) ∙ is_inside
 
         pub refreshed : Plays same hash terms log (entry (Refresh guard) Done 0 ran.did) (record p { logged = logged })
         refreshed =

@@ -24,7 +24,9 @@ use Rattle.papaya_logged.specs.declared.logged.Logged.{Logged}
 use Rattle.papaya_scheduler.specs.Played.{IsDue, Plays, StandsFor}
 use Rattle.papaya_rows.specs.Rows.{RowRan}
 use Rattle.papaya_rows.specs.Taking.{SlotTaken, told_as}
+use Rattle.papaya_scheduler.specs.Quiet.{IsQuiet}
 use Rattle.papaya_scheduler.specs.declared.scheduler.Scheduler.{Scheduler}
+use Rattle.papaya_scheduler.proofs.Busy.{slot_quiet}
 use Rattle.papaya_scheduler.proofs.Enters.{none_is}
 use Rattle.papaya_scheduler.proofs.Quiet.{stands_on}
 use Rattle.papaya_scheduler.proofs.RanOn.{stands_ran, there_stays}
@@ -124,3 +126,8 @@ module _ {K V S : Type 0} (same : K → K → Bool) (hash : K → ℕ) (terms : 
       (subst (λ (xs : List Effect). Plays same hash terms log (entry (Register registration) (Slot n) 0 xs) (record p { logged = q.logged; there = there })) (sym did)
       (registered same hash terms log p registration due found (told_as slot) before after q.logged ran n (ap (λ (x : Result ℕ Fault). told_as {T = Node K V} x) is) there
       (there_is ∙ ap (λ (x : Scheduler K V S). registers registration n x.there) same_p)))
+
+  -- it was not refused as busy
+  pub refused_quiet : (fault : Fault) → slot ≡ Err fault → IsQuiet {V = V} (Refused fault) after
+  refused_quiet fault is = slot_quiet (moment log).there ran.did after fault
+      (gets_none same hash terms (moment log) p due.played false (told_as slot) before after q.logged ran fault (ap (λ (x : Result ℕ Fault). told_as {T = Node K V} x) is) nothing)

@@ -116,7 +116,7 @@ asks_seen Told = refl
 asks_seen IsReady = refl
 
 -- one that asks, asks something
-asks_what : (how : HowFar) → asks how ≡ true → (question : Option ℕ) × (how ≡ far.Asks question)
+pub asks_what : (how : HowFar) → asks how ≡ true → (question : Option ℕ) × (how ≡ far.Asks question)
 asks_what (far.Asks question) e = (question, refl)
 asks_what far.Goes e = absurd (cc e)
 asks_what far.Ready e = absurd (cc e)

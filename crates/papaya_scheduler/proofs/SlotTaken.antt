@@ -1,5 +1,5 @@
 -- A registering that has run has taken the least slot that is not in use, or is refused as it must be; how slots are used then.
-use Rattle.std.specs.Prelude.{◌≢◌, ◌||◌, nat_lt, slice_index_or, slice_set, None, MatchBool, if◌then◌else◌}
+use Rattle.std.specs.Prelude.{◌≢◌, ◌||◌, nat_lt, slice_index_or, slice_set, Some, None, MatchBool, if◌then◌else◌}
 use Rattle.std.proofs.Common.{◌≡◌, ℕ, ◌<◌, Bool, true, false, List, [], ◌∷◌, ◌++◌, length, ◌⊎◌, inl, inr, refl, sym, ap, subst, ◌∙◌, arith}
 use Rattle.std.proofs.lemmas.Bool.{cases_eq, le-ltb, lt-ltb}
 use Rattle.std.proofs.lemmas.List.{get_or-set_other, get_or-set_same}
@@ -8,6 +8,7 @@ use Rattle.seize_words.specs.declared.fault.Fault.TheVariants.{Memory, SlotsUsed
 use Rattle.seize.specs.declared.rows.register.Register.{Register}
 use Rattle.seize.specs.declared.rows.register.Registering.TheVariants as at
 use Rattle.papaya_histories.proofs.Given.SeizeSets.Slots.Registers.{NoneOnVacant, WhyRefused}
+use Rattle.papaya_histories.specs.Given.Seize.Sequence.{new_slot}
 use Rattle.papaya_histories.specs.Given.Tables.declared.node.Node.{Node}
 use Rattle.papaya_histories.specs.Given.Teller.declared.changed.Changed.{Changed}
 use Rattle.papaya_histories.specs.Given.Teller.declared.changed.Changed.TheVariants as changed
@@ -88,6 +89,15 @@ module _ {K V S : Type 0} (same : K → K → Bool) (hash : K → ℕ) (terms : 
       by (inl (fault, is, why, asked)) = no_fault fault is
       by (inr (slot, is, first)) = no_slot slot is
 
+  -- and which fault it may be
+  pub which : ((slot : ℕ) × (said ≡ told.Registered slot)) ⊎ ((fault : Fault) × (said ≡ told.Refused fault) × ((fault ≡ Memory) ⊎ (fault ≡ SlotsUsedUp)))
+  which = by all.1
+    where
+      by : Ended said → ((slot : ℕ) × (said ≡ told.Registered slot)) ⊎ ((fault : Fault) × (said ≡ told.Refused fault) × ((fault ≡ Memory) ⊎ (fault ≡ SlotsUsedUp)))
+      by (inl (fault, is, inl (memory, room), asked)) = inr (fault, is, inl memory)
+      by (inl (fault, is, inr (used_up, none), asked)) = inr (fault, is, inr used_up)
+      by (inr (slot, is, first)) = inl (slot, is)
+
   abbrev begun : Register
   begun = record { slot = 0; enters = enters; stands = at.Begin }
 
@@ -115,6 +125,22 @@ module _ {K V S : Type 0} (same : K → K → Bool) (hash : K → ℕ) (terms : 
 
     pub below_slots : slot < SLOTS
     below_slots = let l = first.below in omega (arith, l)
+
+    -- it was the first vacant one,
+    pub first_vacant : new_slot stands.scene.world.uses ≡ Some slot
+    first_vacant = by all.1
+      where
+        by : Ended said → new_slot stands.scene.world.uses ≡ Some slot
+        by (inl (fault, refused, why, asked)) = absurd (cc (is, refused))
+        by (inr (other, found, new_is)) =
+            let alike : other ≡ slot = let both : ◌≡◌ {A = RowTold (Node K V)} (told.Registered other) (told.Registered slot) = sym found ∙ is in cc both in
+            subst (λ (x : ℕ). new_slot stands.scene.world.uses ≡ Some x) alike new_is
+
+    -- and is used so from then on
+    pub used_so : use_at new.executor slot ≡ use_with enters
+    used_so =
+        ap (λ (xs : List SlotUse). slice_index_or xs slot used.Vacant) (ends_as (told.Registered slot) is refl)
+        ∙ get_or-set_same p.logged.executor.slots.items slot (use_with enters) used.Vacant (let n = stands.shown.is_at.slots in let l = below_slots in omega (arith, n, l))
 
     -- it is used by this registration or guard, and the others as before
     pub use_then : (there2 : Present) → used_as slot there2 ≡ use_with enters → ((t : ℕ) → t ≢ slot → used_as t there2 ≡ used_as t p.there) → (t : ℕ) → use_at new.executor t ≡ used_as t there2

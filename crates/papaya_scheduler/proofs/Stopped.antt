@@ -62,7 +62,7 @@ shows_is far.Goes e = absurd (cc e)
 shows_is (far.Asks question) e = absurd (cc e)
 
 -- a machine that shows pairs may be given up
-asked_ready : {K V : Type 0} (kind : Kind) (machine : Machine K V K) → IsAsFar kind far.Ready machine → (machine_asked machine).1 ≡ true
+pub asked_ready : {K V : Type 0} (kind : Kind) (machine : Machine K V K) → IsAsFar kind far.Ready machine → (machine_asked machine).1 ≡ true
 asked_ready kind (kinds.Sweep c) is = ap (λ (x : Sweeping). sweep_is_ready x) is.1
 asked_ready kind (kinds.Key call) is = absurd is
 asked_ready kind (kinds.Reserve c) is = absurd is

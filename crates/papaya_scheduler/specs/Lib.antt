@@ -6,3 +6,6 @@ pub mod KeptOut
 pub mod Mapping
 pub mod Reclaiming
 pub mod Back
+pub mod Quiet
+pub mod Works
+pub mod AllWorks

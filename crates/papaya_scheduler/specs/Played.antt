@@ -1,10 +1,16 @@
 -- That a scheduler has played a log, and what is promised of an event that happens then.
-use Rattle.std.specs.Prelude.{◌≡◌, ◌≤◌, ℕ, ◌==◌, Bool, true, false, ◌&&◌, List, ◌∷◌, length, filter, map, is_some, is_none, Some, None}
-use Rattle.std.specs.List.{AllByRecursion, list_any}
+use Rattle.std.specs.Prelude.{◌≡◌, ◌≤◌, ℕ, ◌==◌, ◌+◌, ◌*◌, Bool, true, false, ◌&&◌, List, [], ◌∷◌, length, filter, map, is_some, is_none, position, slice_get, slice_index_or, slice_set, Option, Some, None, Result, if◌then◌else◌}
+use Rattle.std.specs.List.{AllByRecursion, list_any, remove}
+use Rattle.std.specs.Result.{is_err}
+use Rattle.papaya_histories.specs.Given.SeizeWords.declared.fault.Fault.TheVariants.{Busy}
+use Rattle.papaya_histories.specs.Given.Tables.declared.setting.Setting.{Setting}
+use Rattle.papaya_raw.specs.declared.machines.asking.Reply.{Reply as MachineReply}
 use Rattle.papaya_raw.specs.declared.machines.machine.Machine.{Machine}
 use Rattle.papaya_runs.specs.Present.{Present, HaveNames, guard_of, living_slot}
 use Rattle.papaya_schedules.specs.declared.call.Call.{Call}
+use Rattle.papaya_schedules.specs.declared.call.Reply.{Reply}
 use Rattle.papaya_schedules.specs.declared.event.Event.{Event}
+use Rattle.papaya_schedules.specs.declared.outcome.Outcome.TheVariants.{Done, Goes, Refused}
 use Rattle.papaya_schedules.specs.After.{moment}
 use Rattle.papaya_schedules.specs.Beginning.{with_call}
 use Rattle.papaya_schedules.specs.Entry.{Entry}
@@ -14,14 +20,19 @@ use Rattle.papaya_schedules.specs.Moment.{Moment}
 use Rattle.papaya_schedules.specs.Terms.{Terms}
 use Rattle.papaya_schedules.specs.Views.{call_of, map_of, number_of}
 use Rattle.papaya_histories.specs.Given.Callers.Together.{UnderWay}
-use Rattle.papaya_executor.specs.IsAt.{Scene, slot_of, use_at, work_of}
+use Rattle.papaya_executor.specs.IsAt.{Scene, IsAt, slot_of, use_at, work_of}
+use Rattle.papaya_executor.specs.Replying.{ReplyLeads, StopLeads}
+use Rattle.papaya_executor.specs.declared.worker.TheConstants.{SLOTS}
 use Rattle.papaya_histories.specs.Given.Finishes.Machines.{machine_of}
 use Rattle.papaya_histories.specs.Given.Finishes.Maps.{Standing}
+use Rattle.papaya_histories.specs.Given.Hands.Asked.{as_told}
+use Rattle.papaya_logged.specs.Calling.{CallBegins}
 use Rattle.papaya_logged.specs.Shown.{IsShown}
-use Rattle.papaya_named.specs.Machines.{IsAsFar, RefusedForRoom}
+use Rattle.papaya_named.specs.Machines.{IsAsFar, RefusedForRoom, machine_for}
 use Rattle.papaya_rows.specs.Rows.{used_as}
-use Rattle.papaya_named.specs.Seen.{is_named, named, named_of, seen, seen_of}
+use Rattle.papaya_named.specs.Seen.{is_named, kind_of, named, named_of, ready_place, seen, seen_of, setting_named, takes}
 use Rattle.papaya_named.specs.declared.caller.Caller.{Caller}
+use Rattle.papaya_named.specs.declared.caller.Stands.TheVariants as far
 use Rattle.papaya_scheduler.specs.declared.played.Played.{Played}
 use Rattle.papaya_scheduler.specs.declared.scheduler.Given.{Given}
 use Rattle.papaya_named.specs.declared.named_map.NamedMap.{NamedMap}
@@ -118,8 +129,68 @@ module _ {K V S : Type 0} (same : K → K → Bool) (hash : K → ℕ) where
   PlaysFirst is_first event played old new =
       (terms : Terms) (log : List (Entry K V)) → is_first ≡ ((moment log).events == 0) → IsDue terms log event old → Plays terms log (entry_of event played) new
 
+  -- How a call has begun: its caller is the first of all, by a name that no call has, under a guard that lives, on a map that is there; and the executor has begun it in the slot of the guard.
+  pub record HasBegun (own guard name : List ℕ) (call : Call K V) (old new : Scheduler K V S) : Type 0 where
+    pub free : list_any (is_named own) old.calls.items.items ≡ false
+    pub slot : ℕ
+    pub lives : living_slot (guard_of guard old.there.guards) ≡ Some slot
+    pub number : ℕ
+    pub setting : Setting
+    pub found : setting_named name old.maps.items old.logged.executor.maps.items ≡ Some (number, setting)
+    pub leads : (names : ℕ → List ℕ) (v : Moment K V) (t : Scene K V) → IsShown same hash names v old.logged t
+        → CallBegins same hash names v t (length old.logged.executor.workers.items * SLOTS + slot) number (machine_for (record setting { slot = slot }) hash call) old.logged new.logged
+    pub caller : Caller V
+    pub is : seen_of caller ≡ record { name = own; guard = guard; map = number; kind = kind_of call; far = far.Goes }
+    pub numbered : caller.number ≡ length old.logged.executor.workers.items * SLOTS + slot
+    pub items : new.calls.items.items ≡ caller ∷ old.calls.items.items
+    pub rest : new ≡ record old { logged = new.logged; calls = new.calls }
+    pub notes : new.logged.notes ≡ old.logged.notes
+
   -- A call begins if its name is free, its guard lives, and its map is there; then the scheduler stands for the moment at which it has begun.
   pub record BeginsSo (terms : Terms) (m : Moment K V) (own guard map : List ℕ) (call : Call K V) (begun : Bool) (old new : Scheduler K V S) : Type 0 where
     pub so : begun ≡ (is_none (call_of own m) && is_living guard m.there && is_some (map_of map m))
     pub none : begun ≡ false → new ≡ old
     pub stands : begun ≡ true → StandsFor same hash terms (with_call own guard call (number_of map m) m) new
+    pub led : begun ≡ true → HasBegun own guard map call old new
+
+  -- So an event has begun one, or is out of turn.
+  abbrev pub Began : (own guard map : List ℕ) → Call K V → Played V → (old new : Scheduler K V S) → Type 0
+  Began own guard map call played old new =
+      (terms : Terms) (m : Moment K V) → StandsFor same hash terms m old
+      → (begun : Bool) × BeginsSo terms m own guard map call begun old new × (played.effects.items ≡ []) × (played.outcome ≡ (if begun then Goes else Refused Busy))
+
+  -- How a reply was told: to the call of this name, which takes it, at its place; the executor has gone on by it.
+  pub record HasReplied (own : List ℕ) (reply : Reply V) (old new : Scheduler K V S) : Type 0 where
+    pub place : ℕ
+    pub placed : Some place ≡ position (is_named own) old.calls.items.items
+    pub asked : Caller V
+    pub reads : asked ≡ slice_index_or old.calls.items.items place asked
+    pub taken : takes asked reply ≡ true
+    pub whose : Caller V
+    pub reads_whose : whose ≡ slice_index_or old.calls.items.items place whose
+    pub as_it : MachineReply V
+    pub is_told : as_it ≡ as_told reply
+    pub result : Result Unit (MachineReply V)
+    pub plain : is_err result ≡ false
+    pub leads : (s : Scene K V) → IsAt same hash old.logged.executor s → ReplyLeads same hash whose.number as_it result s old.logged.executor new.logged.executor
+    pub value : Option V
+    pub calls : (d : Caller V) → slice_get old.calls.items.items place ≡ Some d
+        → new.calls.items.items ≡ slice_set old.calls.items.items place (record d { stands = far.Goes; value = value })
+    pub notes : new.logged.notes ≡ old.logged.notes
+
+  abbrev pub Replies : List ℕ → Reply V → Played V → (old new : Scheduler K V S) → Type 0
+  Replies own reply played old new = played.outcome ≡ Goes → HasReplied own reply old new × (played.effects.items ≡ [])
+
+  -- How a walk was given up that was ready: its caller is there no more, and the executor has given it up.
+  pub record HasStopped (own : List ℕ) (old new : Scheduler K V S) : Type 0 where
+    pub place : ℕ
+    pub ready : Some place ≡ ready_place own old.calls.items.items
+    pub whose : Caller V
+    pub reads : whose ≡ slice_index_or old.calls.items.items place whose
+    pub stopped : Bool
+    pub leads : (s : Scene K V) → IsAt same hash old.logged.executor s → StopLeads same hash whose.number stopped s old.logged.executor new.logged.executor
+    pub calls : new.calls.items.items ≡ remove old.calls.items.items place
+    pub notes : new.logged.notes ≡ old.logged.notes
+
+  abbrev pub Stops : List ℕ → Played V → (old new : Scheduler K V S) → Type 0
+  Stops own played old new = played.outcome ≡ Done → HasStopped own old new × (played.effects.items ≡ [])

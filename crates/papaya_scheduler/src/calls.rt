@@ -6,7 +6,8 @@ ghost use Rattle.papaya_schedules.specs.Terms.{Terms};
 ghost use Rattle.papaya_histories.specs.Given.Hands.Asked.{as_told};
 ghost use Rattle.papaya_executor.specs.IsAt.{KeepsGiven};
 ghost use Rattle.papaya_named.specs.Machines.{aborted_by};
-ghost use Rattle.papaya_scheduler.specs.Played.{BeginsSo, MayPlay, PlaysAt, StandsFor};
+ghost use Rattle.papaya_scheduler.specs.Played.{Began, BeginsSo, MayPlay, PlaysAt, Replies, StandsFor, Stops};
+ghost use Rattle.papaya_scheduler.specs.Quiet.{IsQuiet};
 ghost use Rattle.papaya_named.specs.Seen.{ready_place};
 
 use crate::played::Played;
@@ -84,7 +85,9 @@ impl<K: Eq + Hash + Drop, V: Drop, S: Hashes<K>> Scheduler<K, V, S> {
     ) -> Result<Played<V>, AllocError>
         requires { MayPlay K.eq (S.hash self.old.logged.executor.hasher) (event.Begin caller guard map.now call) self.old }
         ensures steps { IfOk result (λ played. played.steps ≡ 0) }
+        ensures quiet { IfOk result (λ played. IsQuiet played.outcome played.effects.items) }
         ensures plays { IfOk result (λ played. PlaysAt K.eq (S.hash self.old.logged.executor.hasher) (event.Begin caller guard map.now call) played self.old self.new) }
+        ensures began { IfOk result (λ played. Began K.eq (S.hash self.old.logged.executor.hasher) caller guard map.now call played self.old self.new) }
         ensures given { KeepsGiven self.old.logged.executor self.new.logged.executor }
     {
         if self.begins(caller, guard, map, call)? {
@@ -100,7 +103,9 @@ impl<K: Drop, V: Drop, S> Scheduler<K, V, S> {
     pub fn replied(&mut self, caller: &Token, reply: Reply<V>) -> Played<V>
         requires { (same : K → K → Bool) × (hash : K → ℕ) × MayPlay same hash (event.Replied caller.now reply) self.old }
         ensures steps { result.steps ≡ 0 }
+        ensures quiet { IsQuiet result.outcome result.effects.items }
         ensures plays { (same : K → K → Bool) (hash : K → ℕ) → PlaysAt same hash (event.Replied caller.now reply) result self.old self.new }
+        ensures told { (same : K → K → Bool) (hash : K → ℕ) → Replies same hash caller.now reply result self.old self.new }
         ensures given { KeepsGiven self.old.logged.executor self.new.logged.executor }
     {
         let Some(place) = self.calls.place_of(caller) else {
@@ -132,7 +137,9 @@ impl<K: Drop, V: Drop, S> Scheduler<K, V, S> {
     pub fn stop(&mut self, caller: &Token) -> Played<V>
         requires { (same : K → K → Bool) × (hash : K → ℕ) × MayPlay same hash (event.Stop caller.now) self.old }
         ensures steps { result.steps ≡ 0 }
+        ensures quiet { IsQuiet result.outcome result.effects.items }
         ensures plays { (same : K → K → Bool) (hash : K → ℕ) → PlaysAt same hash (event.Stop caller.now) result self.old self.new }
+        ensures stopped { (same : K → K → Bool) (hash : K → ℕ) → Stops same hash caller.now result self.old self.new }
         ensures given { KeepsGiven self.old.logged.executor self.new.logged.executor }
     {
         let Some(place) = self.place_of_ready(caller) else {

@@ -7,7 +7,9 @@ ghost use Rattle.papaya_schedules.specs.declared.event.Event.TheVariants as even
 ghost use Rattle.papaya_executor.specs.IsAt.{KeepsGiven};
 ghost use Rattle.papaya_scheduler.specs.Back.{GivesBack};
 ghost use Rattle.papaya_scheduler.specs.Played.{MayPlay, PlaysAt};
+ghost use Rattle.papaya_scheduler.specs.Quiet.{IsQuiet};
 ghost use Rattle.papaya_rows.specs.Rows.{left_as};
+ghost use Rattle.papaya_scheduler.specs.Works.{WorksOnSlot};
 
 use crate::played::Played;
 use crate::scheduler::Scheduler;
@@ -32,7 +34,9 @@ impl<K: Drop, V: Drop, S> Scheduler<K, V, S> {
     ) -> Result<Played<V>, AllocError>
         requires { (same : K → K → Bool) × (hash : K → ℕ) × MayPlay same hash (event.Enter guard registration.now) self.old }
         ensures steps { IfOk result (λ played. played.steps ≡ 0) }
+        ensures quiet { IfOk result (λ played. IsQuiet played.outcome played.effects.items) }
         ensures plays { IfOk result (λ played. (same : K → K → Bool) (hash : K → ℕ) → PlaysAt same hash (event.Enter guard registration.now) played self.old self.new) }
+        ensures works { IfOk result (λ played. WorksOnSlot played self.old self.new (event.Enter guard registration.now)) }
         ensures back { IfOk result (λ played. (same : K → K → Bool) (hash : K → ℕ) → GivesBack same hash (event.Enter guard registration.now) played self.old back.old.items back.new.items) }
         ensures given { KeepsGiven self.old.logged.executor self.new.logged.executor }
     {
@@ -66,7 +70,9 @@ impl<K: Drop, V: Drop, S> Scheduler<K, V, S> {
     ) -> Result<Played<V>, AllocError>
         requires { (same : K → K → Bool) × (hash : K → ℕ) × MayPlay same hash (event.Refresh guard.now) self.old }
         ensures steps { IfOk result (λ played. played.steps ≡ 0) }
+        ensures quiet { IfOk result (λ played. IsQuiet played.outcome played.effects.items) }
         ensures plays { IfOk result (λ played. (same : K → K → Bool) (hash : K → ℕ) → PlaysAt same hash (event.Refresh guard.now) played self.old self.new) }
+        ensures works { IfOk result (λ played. WorksOnSlot played self.old self.new (event.Refresh guard.now)) }
         ensures back { IfOk result (λ played. (same : K → K → Bool) (hash : K → ℕ) → GivesBack same hash (event.Refresh guard.now) played self.old back.old.items back.new.items) }
         ensures given { KeepsGiven self.old.logged.executor self.new.logged.executor }
     {
@@ -92,7 +98,9 @@ impl<K: Drop, V: Drop, S> Scheduler<K, V, S> {
     ) -> Result<Played<V>, AllocError>
         requires { (same : K → K → Bool) × (hash : K → ℕ) × MayPlay same hash (event.Flush guard.now) self.old }
         ensures steps { IfOk result (λ played. played.steps ≡ 0) }
+        ensures quiet { IfOk result (λ played. IsQuiet played.outcome played.effects.items) }
         ensures plays { IfOk result (λ played. (same : K → K → Bool) (hash : K → ℕ) → PlaysAt same hash (event.Flush guard.now) played self.old self.new) }
+        ensures works { IfOk result (λ played. WorksOnSlot played self.old self.new (event.Flush guard.now)) }
         ensures back { IfOk result (λ played. (same : K → K → Bool) (hash : K → ℕ) → GivesBack same hash (event.Flush guard.now) played self.old back.old.items back.new.items) }
         ensures given { KeepsGiven self.old.logged.executor self.new.logged.executor }
     {
@@ -139,7 +147,9 @@ impl<K: Drop, V: Drop, S> Scheduler<K, V, S> {
     ) -> Result<Played<V>, AllocError>
         requires { (same : K → K → Bool) × (hash : K → ℕ) × MayPlay same hash (event.DropGuard guard.now) self.old }
         ensures steps { IfOk result (λ played. played.steps ≡ 0) }
+        ensures quiet { IfOk result (λ played. IsQuiet played.outcome played.effects.items) }
         ensures plays { IfOk result (λ played. (same : K → K → Bool) (hash : K → ℕ) → PlaysAt same hash (event.DropGuard guard.now) played self.old self.new) }
+        ensures works { IfOk result (λ played. WorksOnSlot played self.old self.new (event.DropGuard guard.now)) }
         ensures back { IfOk result (λ played. (same : K → K → Bool) (hash : K → ℕ) → GivesBack same hash (event.DropGuard guard.now) played self.old back.old.items back.new.items) }
         ensures given { KeepsGiven self.old.logged.executor self.new.logged.executor }
     {
@@ -163,6 +173,7 @@ impl<K: Drop, V: Drop, S> Scheduler<K, V, S> {
     pub fn forget(&mut self, guard: &Token) -> Played<V>
         requires { (same : K → K → Bool) × (hash : K → ℕ) × MayPlay same hash (event.Forget guard.now) self.old }
         ensures steps { result.steps ≡ 0 }
+        ensures quiet { IsQuiet result.outcome result.effects.items }
         ensures plays { (same : K → K → Bool) (hash : K → ℕ) → PlaysAt same hash (event.Forget guard.now) result self.old self.new }
         ensures given { KeepsGiven self.old.logged.executor self.new.logged.executor }
     {

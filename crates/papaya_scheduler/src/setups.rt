@@ -4,6 +4,7 @@ ghost use Rattle.papaya_schedules.specs.declared.event.Event.TheVariants as even
 ghost use Rattle.seize_words.specs.declared.fault.Fault.TheVariants.{Busy};
 ghost use Rattle.papaya_executor.specs.IsAt.{KeepsGiven};
 ghost use Rattle.papaya_scheduler.specs.Played.{MayPlay, PlaysAt, PlaysFirst};
+ghost use Rattle.papaya_scheduler.specs.Quiet.{IsQuiet};
 
 use crate::played::Played;
 use crate::scheduler::Scheduler;
@@ -30,6 +31,7 @@ impl<K: Drop, V: Drop, S> Scheduler<K, V, S> {
     pub fn collector(&self, setup: Setup, is_first: bool) -> Played<V>
         requires { (same : K → K → Bool) × (hash : K → ℕ) × MayPlay same hash (event.Collector setup) self.now }
         ensures steps { result.steps ≡ 0 }
+        ensures quiet { IsQuiet result.outcome result.effects.items }
         ensures plays { (same : K → K → Bool) (hash : K → ℕ) → PlaysFirst same hash is_first (event.Collector setup) result self.now self.now }
     {
         self.if_so(is_first)
@@ -39,6 +41,7 @@ impl<K: Drop, V: Drop, S> Scheduler<K, V, S> {
     pub fn hash(&self, by: KeyHash) -> Played<V>
         requires { (same : K → K → Bool) × (hash : K → ℕ) × MayPlay same hash (event.Hash by) self.now }
         ensures steps { result.steps ≡ 0 }
+        ensures quiet { IsQuiet result.outcome result.effects.items }
         ensures plays { (same : K → K → Bool) (hash : K → ℕ) → PlaysAt same hash (event.Hash by) result self.now self.now }
     {
         self.if_so(!self.is_mapped)
@@ -48,6 +51,7 @@ impl<K: Drop, V: Drop, S> Scheduler<K, V, S> {
     pub fn choose(&mut self, choice: u64) -> Result<Played<V>, AllocError>
         requires { (same : K → K → Bool) × (hash : K → ℕ) × MayPlay same hash (event.Choose choice) self.old }
         ensures steps { IfOk result (λ played. played.steps ≡ 0) }
+        ensures quiet { IfOk result (λ played. IsQuiet played.outcome played.effects.items) }
         ensures plays { IfOk result (λ played. (same : K → K → Bool) (hash : K → ℕ) → PlaysAt same hash (event.Choose choice) played self.old self.new) }
         ensures given { KeepsGiven self.old.logged.executor self.new.logged.executor }
     {

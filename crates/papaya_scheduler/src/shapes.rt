@@ -6,6 +6,7 @@ ghost use Rattle.papaya_histories.specs.Given.Rule.Words.{Blocks};
 ghost use Rattle.papaya_shown.specs.Shown.{Stands, tables_on};
 ghost use Rattle.papaya_scheduler.specs.Played.{MayPlay, PlaysAt};
 ghost use Rattle.papaya_scheduler.specs.Shapes.{shape_of};
+ghost use Rattle.papaya_scheduler.specs.Quiet.{IsQuiet};
 
 use crate::played::Played;
 use crate::scheduler::Scheduler;
@@ -50,6 +51,7 @@ impl<K: Drop, V: Drop, S> Scheduler<K, V, S> {
     pub fn show_shape(&self, map: &Token) -> Result<Played<V>, AllocError>
         requires { (same : K → K → Bool) × (hash : K → ℕ) × MayPlay same hash (event.ShowShape map.now) self.now }
         ensures steps { IfOk result (λ played. played.steps ≡ 0) }
+        ensures quiet { IfOk result (λ played. IsQuiet played.outcome played.effects.items) }
         ensures plays { IfOk result (λ played. (same : K → K → Bool) (hash : K → ℕ) → PlaysAt same hash (event.ShowShape map.now) played self.now self.now) }
     {
         match self.setting_of(map) {

@@ -1,20 +1,24 @@
-mod AfterEffects
+pub mod AfterEffects
 mod Again
 mod AnySays
+mod AnyWaits
 mod ComesOn
+mod CopiesWait
 mod KeySays
 mod LookSays
 mod NextBegins
 mod NextEnds
 mod NextOn
 mod NextSays
-mod OneStep
+pub mod OneStep
 mod PlaysAgain
 mod PlaysSteps
-mod PlaysWhole
+pub mod PlaysWhole
+mod QuietCopies
 mod QuietWaits
-mod RightSteps
+pub mod RightSteps
 mod RoomSays
+mod RoomsWait
 mod StepSays
 mod SteppedTo
 mod StepsOn

@@ -42,6 +42,7 @@ use Rattle.papaya_logged.proofs.Counted.{counted_calls}
 use Rattle.papaya_named.specs.Machines.{IsFor}
 use Rattle.papaya_scheduler.specs.Played.{AsFar, IsDue, StandsAs, StandsFor}
 use Rattle.papaya_named.specs.Seen.{Seen, is_named, is_ready as is_ready_there, ready_place, seen, seen_of}
+use Rattle.papaya_scheduler.specs.Quiet.{IsQuiet}
 use Rattle.papaya_stepping.specs.Stepping.{IsMidWalk, IsStepOf, PlaysNext, ReadyAt, WalkComes, WalksFar, callers_then, outcome_of}
 use Rattle.papaya_named.specs.Telling.{answer_of, number_by, swept}
 use Rattle.papaya_named.specs.declared.caller.Caller.{Caller}
@@ -200,6 +201,11 @@ module _ (K V : Type 0) where
   makes_next own stand steps (Answered Absent) is = tt
   makes_next own stand steps _ is = absurd is
 
+  next_quiet : (effects : List Effect) (o : Outcome V) → IsNext o → IsQuiet o effects
+  next_quiet effects (Shows pair) is = tt
+  next_quiet effects (Answered Absent) is = tt
+  next_quiet effects _ is = absurd is
+
 module _ {K V S : Type 0} (same : K → K → Bool) (hash : K → ℕ) (terms : Terms) (log : List (Entry K V)) (own : List ℕ) (old : Scheduler K V S) (due : IsDue same hash terms log (Next own) old) where
   abbrev m : Moment K V
   m = moment log
@@ -212,6 +218,7 @@ module _ {K V S : Type 0} (same : K → K → Bool) (hash : K → ℕ) (terms : 
             (m.is_alone && is_alone_on e m) m.there m.slots m.sheltered m.remains refl refl refl refl);
         makes = refl;
         does = omega arith;
+        is_quiet = refl;
       }
 
   -- the walk is asked for its next pair
@@ -312,4 +319,5 @@ module _ {K V S : Type 0} (same : K → K → Bool) (hash : K → ℕ) (terms : 
             does = subst (λ (k : ℕ). sum_by weight effects ≤ k) (sym comes.2)
                 (subst (λ (l : List Effect). sum_by weight l ≤ n + 1) (sym (follows_all same hash terms own place m n [] mid effects p walked midst said step))
                 (few_all same hash terms own place m n [] mid effects p walked midst said step));
+            is_quiet = next_quiet K V effects outcome is_next;
           }

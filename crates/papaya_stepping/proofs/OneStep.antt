@@ -1,5 +1,5 @@
 -- What one step of a call that goes on comes to.
-use Rattle.std.specs.Prelude.{◌≡◌, ◌⊎◌, ◌+◌, ◌&&◌, ℕ, Bool, true, false, List, [], filter, find, map, not, position, slice_get, slice_set, Option, Some, None, if◌then◌else◌}
+use Rattle.std.specs.Prelude.{◌≡◌, ◌⊎◌, ◌+◌, ℕ, Bool, true, false, List, [], filter, find, map, not, position, slice_get, slice_set, Option, Some, None, if◌then◌else◌}
 use Rattle.std.specs.List.{list_any, remove}
 use Rattle.std.proofs.Common.{refl, sym, ap, subst, ◌∙◌, inl, inr}
 use Rattle.papaya_histories.specs.Given.SeizeWords.declared.fault.Fault.{Fault}
@@ -25,15 +25,13 @@ use Rattle.papaya_schedules.specs.Views.{call_of}
 use Rattle.papaya_histories.specs.Given.Callers.Together.{UnderWay}
 use Rattle.papaya_histories.specs.Given.Finishes.Machines.{GoesOnAs, machine_of}
 use Rattle.papaya_histories.specs.Given.Effects.Known.{Known, known}
-use Rattle.papaya_histories.specs.Given.Effects.Effects.{effects_of, known_after}
+use Rattle.papaya_histories.specs.Given.Effects.Effects.{known_after}
 use Rattle.papaya_histories.specs.Given.Effects.declared.acting.Acting.TheVariants as acts
-use Rattle.papaya_histories.specs.Given.Teller.declared.changed.Changed.{Changed}
 use Rattle.papaya_histories.specs.Given.Executor.IsAt.{Scene}
 use Rattle.papaya_histories.specs.Given.Executor.Stepping.{StepLeads, StepsFrom, has_ended}
 use Rattle.papaya_histories.specs.Given.Follows.Calling.{come_to}
 use Rattle.papaya_histories.proofs.Given.Follows.Calling.{apart_back}
 use Rattle.papaya_histories.specs.Given.Hands.Calling.{AsksJust}
-use Rattle.papaya_histories.proofs.Given.Hands.Replacing.{calls_after}
 use Rattle.papaya_logged.specs.Calling.{CallGoesOn, step_did}
 use Rattle.papaya_logged.specs.Shown.{IsShown}
 use Rattle.papaya_logged.specs.declared.logged.Logged.{Logged}
@@ -45,7 +43,7 @@ use Rattle.papaya_promises.proofs.Weights.{operations_are_single}
 use Rattle.papaya_named.specs.Machines.{IsAsFar}
 use Rattle.papaya_scheduler.specs.Played.{AsFar, StandsFor}
 use Rattle.papaya_named.specs.Seen.{Seen, far_of, is_named, seen, seen_of}
-use Rattle.papaya_stepping.specs.Stepping.{ComesAs, ComesBy, GoesAt, IsStepped, caller_then, callers_then, far_then, is_on_key, outcome_of, waits_in_case}
+use Rattle.papaya_stepping.specs.Stepping.{ComesAs, ComesBy, GoesAt, IsStepped, caller_then, callers_then, far_then, outcome_of, waits_in_case}
 use Rattle.papaya_named.specs.Telling.{goes_on, kept}
 use Rattle.papaya_named.specs.declared.caller.Caller.{Caller}
 use Rattle.papaya_named.specs.declared.caller.Callers.{Callers}
@@ -61,7 +59,7 @@ use Rattle.papaya_rows.proofs.Lists.{changed_at, removed_at, set_get, set_positi
 use Rattle.papaya_scheduler.proofs.RanOn.{maps_named, there_stays}
 use Rattle.papaya_stepping.proofs.StepSays.{Says, the}
 use Rattle.papaya_stepping.proofs.SteppedTo.{going_on, has_gone, here_then, name_is, next, none_named, s2}
-use Rattle.papaya_stepping.proofs.WaitsFor.{key_quiet, key_waits_for}
+use Rattle.papaya_stepping.proofs.AnyWaits.{any_quiet, any_waits_for}
 
 module _ {K V : Type 0} (by : Known) (its : Kind) (value : Option V) where
   -- what a caller keeps
@@ -81,7 +79,7 @@ module _ {K V : Type 0} (by : Known) (its : Kind) (value : Option V) where
   far_goes (progress.Done said) e = refl
   far_goes (progress.Refused fault) e = refl
 
-  going_not_ended : (said : Progress (Node K V)) → goes_on (outcome_of by its value said) ≡ true → has_ended said ≡ false
+  pub going_not_ended : (said : Progress (Node K V)) → goes_on (outcome_of by its value said) ≡ true → has_ended said ≡ false
   going_not_ended progress.Goes e = refl
   going_not_ended (progress.Gave node) e = refl
   going_not_ended (progress.Unstored node) e = refl
@@ -93,7 +91,7 @@ module _ {K V : Type 0} (by : Known) (its : Kind) (value : Option V) where
   going_not_ended (progress.Refused fault) e = absurd (cc e)
 
   -- the moment has the call ended just where the machine has
-  ends_as : (said : Progress (Node K V)) → (outcome_of by its value said ≡ Refused Busy → ⊥) → ends_call (outcome_of by its value said) ≡ has_ended said
+  pub ends_as : (said : Progress (Node K V)) → (outcome_of by its value said ≡ Refused Busy → ⊥) → ends_call (outcome_of by its value said) ≡ has_ended said
   ends_as progress.Goes never = refl
   ends_as (progress.Gave node) never = refl
   ends_as (progress.Unstored node) never = refl
@@ -151,7 +149,7 @@ module _ {K V : Type 0} (by : Known) (its : Kind) (value : Option V) where
 
 module _ {K V : Type 0} where
   -- the caller then, by what it keeps and how far it is
-  caller_as : (by : Known) (d : Caller V) (said : Progress (Node K V)) → caller_then by d said ≡ record d { stands = far_then by said; value = value_then by d.kind d.value said }
+  pub caller_as : (by : Known) (d : Caller V) (said : Progress (Node K V)) → caller_then by d said ≡ record d { stands = far_then by said; value = value_then by d.kind d.value said }
   caller_as by d (progress.Unstored node) = refl
   caller_as by d _ = refl
 
@@ -368,7 +366,7 @@ module _ {K V S : Type 0} (same : K → K → Bool) (hash : K → ℕ) (terms : 
           by_looking true e waits = absurd (never_waits same hash p.logged.executor new.executor (leads d.map here.way.0 here.way.1).1 said (machine_of here.way.0)
               (stands.shown.kept.looking d.map d.number here.way.0 here.way.1 c its_call e) (leads d.map here.way.0 here.way.1).3 (said_waits by d.kind d.value said waits))
 
-          -- one on one key that waits has done nothing, and waits for one that it may wait for
+          -- one that waits has done nothing, and waits for one that it may wait for
           by_waits : said ≡ progress.Waits → (x : CallThere K V) → call_of own (with_effects (Some own) (Some c.map) did m) ≡ Some x → waits_in_case x (with_effects (Some own) (Some c.map) did m) ≡ true
               → list_any (may_wait_for x (with_effects (Some own) (Some c.map) did m)) (with_effects (Some own) (Some c.map) did m).calls ≡ true
           by_waits waits x x_is sure = subst Right (sym nothing) right x x_is sure
@@ -378,30 +376,14 @@ module _ {K V S : Type 0} (same : K → K → Bool) (hash : K → ℕ) (terms : 
                   (y : CallThere K V) → call_of own (with_effects (Some own) (Some c.map) l m) ≡ Some y → waits_in_case y (with_effects (Some own) (Some c.map) l m) ≡ true
                   → list_any (may_wait_for y (with_effects (Some own) (Some c.map) l m)) (with_effects (Some own) (Some c.map) l m).calls ≡ true
 
-              first_of : (a b : Bool) → (a && b) ≡ true → a ≡ true
-              first_of true b e = refl
-              first_of false b e = absurd (cc e)
-
-              second_of : (a b : Bool) → (a && b) ≡ true → b ≡ true
-              second_of true b e = e
-              second_of false b e = absurd (cc e)
-
-              on_key : is_on_key c.call ≡ true
-              on_key =
-                  let on = calls_after own c.map own did m c here.call_is in
-                  ap is_on_key (sym on.2.0.call) ∙ ap (λ (y : CallThere K V). is_on_key y.call) (the on.0 x (sym on.1 ∙ x_is)) ∙ first_of (is_on_key x.call) _ sure
-
               its_step : StepsFrom same hash (machine_of here.way.0) p.logged.executor new.executor (leads d.map here.way.0 here.way.1).1 progress.Waits
               its_step = subst (λ (y : Progress (Node K V)). StepsFrom same hash (machine_of here.way.0) p.logged.executor new.executor (leads d.map here.way.0 here.way.1).1 y) waits (leads d.map here.way.0 here.way.1).3
 
               nothing : did ≡ []
-              nothing = ap (λ (k : Changed). effects_of (acts.Call d.number d.map) (known p.logged.notes) k)
-                  (key_quiet same hash terms m p stands own d.map d.number here.way.0 here.way.1 its_name new.executor (leads d.map here.way.0 here.way.1).1 its_step c here.call_is on_key)
+              nothing = any_quiet same hash terms m p stands own d.map d.number here.way.0 here.way.1 its_name new.executor (leads d.map here.way.0 here.way.1).1 its_step c here.call_is
 
               right : Right []
-              right y y_is y_sure =
-                  key_waits_for same hash terms m p stands own d.map d.number here.way.0 here.way.1 its_name new.executor (leads d.map here.way.0 here.way.1).1 its_step y y_is
-                  (first_of (is_on_key y.call) _ y_sure) (second_of (is_on_key y.call) _ y_sure)
+              right y y_is y_sure = any_waits_for same hash terms m p stands own d.map d.number here.way.0 here.way.1 its_name new.executor (leads d.map here.way.0 here.way.1).1 its_step y y_is y_sure
 
 module _ {K V S : Type 0} (same : K → K → Bool) (hash : K → ℕ) (terms : Terms) (m : Moment K V) (p new : Scheduler K V S) (stands : StandsFor same hash terms m p) (own : List ℕ) (place : ℕ)
     (at : GoesAt own place p) (outcome : Outcome V) (before after : List Effect) (step : IsStepped same hash place outcome before after p new) where

@@ -58,6 +58,7 @@ module _ {K V S : Type 0} (same : K → K → Bool) (hash : K → ℕ) (terms : 
             (stands_elsewhere same hash terms (come_to own (Refused Busy) 0 m) p (busy_stands due.played) (m.events + 1) m.is_mapped m.is_closed (m.is_alone && is_alone_on e m) m.there m.slots m.sheltered m.remains refl refl refl refl);
         makes = refl;
         does = omega arith;
+        is_quiet = refl;
       }
 
   pub go_busy : (due : IsDue same hash terms log (Go own refuse) p) → position (is_named own) p.calls.items.items ≡ None → PlaysOn same hash terms log (quiet (Go own refuse) (Refused Busy)) p
@@ -68,6 +69,7 @@ module _ {K V S : Type 0} (same : K → K → Bool) (hash : K → ℕ) (terms : 
             (stands_elsewhere same hash terms (come_to own (Refused Busy) 0 m) p (busy_stands due.played) (m.events + 1) m.is_mapped m.is_closed (m.is_alone && is_alone_on e m) m.there m.slots m.sheltered m.remains refl refl refl refl);
         makes = refl;
         does = omega arith;
+        is_quiet = refl;
       }
 
   -- the call at its place
@@ -98,6 +100,7 @@ module _ {K V S : Type 0} (same : K → K → Bool) (hash : K → ℕ) (terms : 
                 (stands_on same hash terms (come_to own (Asks question) 0 m) p (asks_again same hash terms m p stands own place here 0 question is) (m.events + 1) (m.is_alone && is_alone_on e m) m.slots m.sheltered);
             makes = subst (λ (x : Stands). MakesSteps {K = K} {V = V} (Step own refuse) x 0 (Asks question)) (sym stands_or_is) refl;
             does = omega arith;
+            is_quiet = tt;
           }
 
       pub go_asks : (due : IsDue same hash terms log (Go own refuse) p) → PlaysOn same hash terms log (quiet (Go own refuse) (Asks question)) p
@@ -108,6 +111,7 @@ module _ {K V S : Type 0} (same : K → K → Bool) (hash : K → ℕ) (terms : 
                 (stands_on same hash terms (come_to own (Asks question) 0 m) p (asks_again same hash terms m p stands own place here 0 question is) (m.events + 1) (m.is_alone && is_alone_on e m) m.slots m.sheltered);
             makes = subst (λ (x : Stands). MakesSteps {K = K} {V = V} (Go own refuse) x 0 (Asks question)) (sym stands_or_is) refl;
             does = omega arith;
+            is_quiet = tt;
           }
 
     -- or that it is ready
@@ -130,6 +134,7 @@ module _ {K V S : Type 0} (same : K → K → Bool) (hash : K → ℕ) (terms : 
                 (stands_on same hash terms (come_to own Ready 0 m) p (ready_again same hash terms m p stands own place here 0 is) (m.events + 1) (m.is_alone && is_alone_on e m) m.slots m.sheltered);
             makes = subst (λ (x : Stands). MakesSteps {K = K} {V = V} (Step own refuse) x 0 Ready) (sym stands_or_ready) refl;
             does = omega arith;
+            is_quiet = tt;
           }
 
       pub go_ready : (due : IsDue same hash terms log (Go own refuse) p) → PlaysOn same hash terms log (quiet (Go own refuse) Ready) p
@@ -140,4 +145,5 @@ module _ {K V S : Type 0} (same : K → K → Bool) (hash : K → ℕ) (terms : 
                 (stands_on same hash terms (come_to own Ready 0 m) p (ready_again same hash terms m p stands own place here 0 is) (m.events + 1) (m.is_alone && is_alone_on e m) m.slots m.sheltered);
             makes = subst (λ (x : Stands). MakesSteps {K = K} {V = V} (Go own refuse) x 0 Ready) (sym stands_or_ready) refl;
             does = omega arith;
+            is_quiet = tt;
           }

@@ -33,7 +33,7 @@ use Rattle.papaya_stepping.proofs.AfterEffects.{closed_stays, mapped_stays}
 use Rattle.papaya_remains.proofs.Stays.{remains_stay}
 use Rattle.papaya_rows.proofs.Elsewhere.{elsewhere, shown_elsewhere, kept_elsewhere, counted_elsewhere}
 use Rattle.papaya_scheduler.proofs.Here.{Here, here_at}
-use Rattle.papaya_stepping.proofs.RightSteps.{makes_many, makes_one, may_come, not_busy, progresses}
+use Rattle.papaya_stepping.proofs.RightSteps.{makes_many, makes_one, may_come, never_quiet, not_busy, progresses}
 use Rattle.papaya_scheduler.proofs.Rights.{entry, in_turn, plays}
 
 -- it stands for a moment that is elsewhere as it says
@@ -150,6 +150,7 @@ module _ {K V S : Type 0} (same : K → K → Bool) (hash : K → ℕ) (terms : 
             (stands_then same hash terms log m own old stands place placed goes steps outcome effects new comes (m.events + 1) m.is_mapped m.is_closed (m.is_alone && is_alone_on e m) (slots_on outcome m.slots) m.remains refl refl refl);
         makes = makes_one K V own refuse (stands_or (call_of own m)) (stand_is same hash terms log m own old stands place placed goes steps outcome effects new comes) steps one outcome (never_busy same hash terms log m own old stands place placed goes steps outcome effects new comes);
         does = few_steps same hash terms log m own old stands place placed goes steps outcome effects new comes;
+        is_quiet = never_quiet outcome effects (never_busy same hash terms log m own old stands place placed goes steps outcome effects new comes);
       }
 
   -- as many as it may take
@@ -161,4 +162,5 @@ module _ {K V S : Type 0} (same : K → K → Bool) (hash : K → ℕ) (terms : 
             (stands_then same hash terms log m own old stands place placed goes steps outcome effects new comes (m.events + 1) m.is_mapped m.is_closed (m.is_alone && is_alone_on e m) (slots_on outcome m.slots) m.remains refl refl refl);
         makes = makes_many K V own refuse (stands_or (call_of own m)) (stand_is same hash terms log m own old stands place placed goes steps outcome effects new comes) steps outcome takes (never_busy same hash terms log m own old stands place placed goes steps outcome effects new comes);
         does = few_steps same hash terms log m own old stands place placed goes steps outcome effects new comes;
+        is_quiet = never_quiet outcome effects (never_busy same hash terms log m own old stands place placed goes steps outcome effects new comes);
       }

@@ -35,7 +35,7 @@ use Rattle.papaya_scheduler.proofs.Here.{Here, here_at}
 use Rattle.papaya_rows.proofs.Lists.{first_position}
 use Rattle.papaya_stepping.proofs.PlaysAgain.{busy_stands}
 use Rattle.papaya_stepping.proofs.PlaysSteps.{few_steps, goes_right, never_busy, stands_elsewhere, stands_then}
-use Rattle.papaya_stepping.proofs.RightSteps.{makes_whole}
+use Rattle.papaya_stepping.proofs.RightSteps.{makes_whole, never_quiet}
 use Rattle.papaya_scheduler.proofs.Rights.{entry, in_turn, out_of_turn, plays, quiet}
 use Rattle.papaya_stepping.proofs.StepSays.{the}
 
@@ -63,6 +63,7 @@ module _ {K V S : Type 0} (same : K → K → Bool) (hash : K → ℕ) (terms : 
             (m.is_alone && is_alone_on e m) m.there m.slots m.sheltered m.remains refl refl refl refl);
         makes = refl;
         does = omega arith;
+        is_quiet = refl;
       })
 
   -- it begins, and takes steps
@@ -120,6 +121,7 @@ module _ {K V S : Type 0} (same : K → K → Bool) (hash : K → ℕ) (terms : 
           (slots_on outcome m.slots) m.remains (mapped_with (number_of name m)) (closed_with (number_of name m)) (remains_with (number_of name m))));
       makes = makes_whole guard name call (stands_or (call_of nameless b)) steps outcome takes never;
       does = few_steps same hash terms log m1 nameless mid (begins.stands refl) 0 placed goes steps outcome effects new comes;
+      is_quiet = never_quiet outcome effects never;
     }
 
 -- the newest call is the first of the callers

@@ -76,7 +76,7 @@ module _ {K V : Type 0} (m m2 : Mem (Node K V)) (told : Changed) where
     by_defer defer (next, counts.Done end) s e = absurd (cc e)
     by_defer defer (next, counts.Refused fault) s e = absurd (cc e)
 
-    dispose_quiet : (stands : Disposing) → IsRowOf stands → (to : Dispose × Settled (Node K V)) → Step m m2 told (disposes.plan_at d stands) to → to.1 ≡ settled.Waits → told ≡ changed.Nothing
+    pub dispose_quiet : (stands : Disposing) → IsRowOf stands → (to : Dispose × Settled (Node K V)) → Step m m2 told (disposes.plan_at d stands) to → to.1 ≡ settled.Waits → told ≡ changed.Nothing
     dispose_quiet (disposing.Settles settle) row to s e =
         let it = told_in m m2 told (disposes.settled d) (settle_plan deferred_word settle) to s in
         by_settle settle it.0 it.2 (ap (λ (x : Dispose × Settled (Node K V)). x.1) (sym it.1) ∙ e)
@@ -93,7 +93,7 @@ module _ {K V : Type 0} (m m2 : Mem (Node K V)) (told : Changed) where
     by_retired settle rest (next, settled.Gave value) s e = absurd (cc e)
     by_retired settle rest (next, settled.Done) s e = absurd (cc e)
 
-    copier_quiet : (stands : Copying) → IsRowOfCopier stands → (to : Copier × Outcome (Node K V) Table) → Step m m2 told (copiers.plan_at hash p stands) to → to.1 ≡ outcome.Waits → told ≡ changed.Nothing
+    pub copier_quiet : (stands : Copying) → IsRowOfCopier stands → (to : Copier × Outcome (Node K V) Table) → Step m m2 told (copiers.plan_at hash p stands) to → to.1 ≡ outcome.Waits → told ≡ changed.Nothing
     copier_quiet (copies.Retires settle rest) row to s e =
         let it = told_in m m2 told (retired p rest) (settle_plan deferred_word settle) to s in
         by_retired settle rest it.0 it.2 (ap (λ (x : Copier × Outcome (Node K V) Table). x.1) (sym it.1) ∙ e)

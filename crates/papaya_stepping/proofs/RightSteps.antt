@@ -7,6 +7,7 @@ use Rattle.papaya_histories.specs.Given.SeizeWords.declared.fault.Fault.TheVaria
 use Rattle.papaya_runs.specs.Stopped.{most_steps}
 use Rattle.papaya_schedules.specs.declared.call.Call.{Call}
 use Rattle.papaya_schedules.specs.declared.call.Call.TheVariants.{On, Reserve, Clear, Retain, Len, Walk}
+use Rattle.papaya_schedules.specs.declared.effect.Effect.{Effect}
 use Rattle.papaya_schedules.specs.declared.event.Event.TheVariants.{Go, OneCall, Step}
 use Rattle.papaya_schedules.specs.declared.outcome.Outcome.{Outcome}
 use Rattle.papaya_schedules.specs.declared.outcome.Outcome.TheVariants.{Answered, Asks, Goes, Ready, Refused, Waits}
@@ -16,6 +17,7 @@ use Rattle.papaya_schedules.specs.InUse.{may_wait_for}
 use Rattle.papaya_schedules.specs.Moment.{Stands, Going, Asking, Told, IsReady, UnderWay as CallThere, Moment}
 use Rattle.papaya_schedules.specs.Steps.{MakesSteps}
 use Rattle.papaya_schedules.specs.Terms.{Terms}
+use Rattle.papaya_scheduler.specs.Quiet.{IsQuiet}
 use Rattle.papaya_named.specs.Seen.{far_of}
 use Rattle.papaya_stepping.specs.Stepping.{ComesAs, IsInCase, TakesUpTo, waits_in_case}
 use Rattle.papaya_named.specs.declared.caller.Stands.TheVariants as far
@@ -112,3 +114,8 @@ module _ (K V : Type 0) (own : List ℕ) (refuse : Bool) where
   makes_many Told is steps Goes takes never = takes.2 refl
   makes_many Going is steps o takes never = takes.1
   makes_many Told is steps o takes never = takes.1
+
+-- what is never refused as busy
+pub never_quiet : {V : Type 0} (o : Outcome V) (effects : List Effect) → (o ≡ Refused Busy → ⊥) → IsQuiet o effects
+never_quiet (Refused Busy) effects never = absurd (never refl)
+never_quiet _ effects never = tt

@@ -1,5 +1,5 @@
 -- Which call another one may wait for, by the moment that shows them: one that copies on its map, or that has the batch of its slot in hand.
-use Rattle.std.specs.Prelude.{◌-◌, ◌==◌, ◌&&◌, ◌||◌, nat_le, nat_lt, not, length, filter, map, Some}
+use Rattle.std.specs.Prelude.{◌∷◌, ◌-◌, ◌==◌, ◌&&◌, ◌||◌, nat_le, nat_lt, not, length, filter, map, Some}
 use Rattle.std.specs.List.{list_any}
 use Rattle.std.proofs.Common.{◌≡◌, ℕ, zero, suc, ◌≤◌, ◌<◌, Bool, true, false, List, refl, sym, ap, ◌∙◌, inl, inr, arith}
 use Rattle.std.proofs.lemmas.Bool.{eq-eqb}
@@ -13,8 +13,10 @@ use Rattle.papaya_histories.specs.Given.Rule.Words.{Blocks}
 use Rattle.papaya_owned.specs.Given.Shown.Shown.{tables_on}
 use Rattle.papaya_runs.specs.Present.{slot_of_guard}
 use Rattle.papaya_runs.specs.Same.{is_same}
+use Rattle.papaya_schedules.specs.declared.effect.Thing.{Thing}
 use Rattle.papaya_schedules.specs.Growing.{only_looks}
 use Rattle.papaya_schedules.specs.InUse.{is_handing, may_wait_for}
+use Rattle.papaya_schedules.specs.Lists.{is_empty}
 use Rattle.papaya_schedules.specs.Moment.{TableThere, UnderWay as CallThere, Moment}
 use Rattle.papaya_schedules.specs.Terms.{Terms}
 use Rattle.papaya_schedules.specs.Views.{call_of, chain_of, first_of, first_or, tables_of}
@@ -127,6 +129,15 @@ module _ {K V S : Type 0} (same : K → K → Bool) (hash : K → ℕ) (terms : 
         (or_left _ _
         (ap (λ (b : Bool). b && nat_lt 1 (length (chain_of its.0.map m))) (eq-eqb one.0.map its.0.map (one.2 ∙ on ∙ sym its.2))
         ∙ ap (λ (k : ℕ). nat_lt 1 (length (chain_of k m))) its.2 ∙ chain_longer of st is more))
+
+    -- one on its map that hands something over
+    pub waits_for_handing : n ≡ of → (IsLooking (machine_of x) → ⊥) → is_handing one.0 ≡ true → list_any (may_wait_for its.0 m) m.calls ≡ true
+    waits_for_handing on never handing =
+        passes (works never) (or_right _ _ (both_true _ _ handing (or_left _ _ (eq-eqb one.0.map its.0.map (one.2 ∙ on ∙ sym its.2)))))
+
+    -- as one does that owes something
+    pub owing_hands : (thing : Thing) (rest : List Thing) → one.0.owes ≡ thing ∷ rest → is_handing one.0 ≡ true
+    owing_hands thing rest owes = or_left _ _ (ap (λ (l : List Thing). not (is_empty l)) owes)
 
   -- one that only looks has no row under way
   looks_rest : (n j : ℕ) (x : UnderWay K V K) → stands.scene.calls n j ≡ Some x → IsLooking (machine_of x) → stands.scene.world.row j ≡ Rests

@@ -1,5 +1,5 @@
 -- A call on one key that waits, on a map that grows in chunks, waits for a call that the moment tells, for which it may wait; and its step has changed nothing.
-use Rattle.std.specs.Prelude.{List, Option, Some}
+use Rattle.std.specs.Prelude.{Option, Some}
 use Rattle.std.specs.List.{list_any}
 use Rattle.std.proofs.Common.{◌≡◌, ℕ, suc, ◌⊎◌, inl, inr, Bool, true, false, refl, ap, sym, subst, ◌∙◌}
 use Rattle.papaya_histories.specs.Given.SeizeWords.Mem.{Mem, Took, value_at}
@@ -17,15 +17,10 @@ use Rattle.papaya_histories.specs.Given.Resize.declared.dispose.Disposing.{Dispo
 use Rattle.papaya_histories.specs.Given.Resize.declared.dispose.Disposing.TheVariants as disposing
 use Rattle.papaya_raw.specs.Call.{call_plan}
 use Rattle.papaya_raw.specs.Call as calls
-use Rattle.papaya_raw.specs.Machine.{called as of_key}
-use Rattle.papaya_raw.specs.declared.machines.answer.Called.{Called}
 use Rattle.papaya_raw.specs.declared.machines.answer.Called.TheVariants as says
 use Rattle.papaya_raw.specs.declared.machines.call.Calling.{Calling}
 use Rattle.papaya_raw.specs.declared.machines.call.Calling.TheVariants as at
 use Rattle.papaya_raw.specs.declared.machines.call.KeyCall.{KeyCall}
-use Rattle.papaya_raw.specs.declared.machines.machine.Machine.{Machine}
-use Rattle.papaya_raw.specs.declared.machines.progress.Progress.{Progress}
-use Rattle.papaya_raw.specs.declared.machines.progress.Progress.TheVariants as progress
 use Rattle.papaya_histories.specs.Given.Rule.Chart.{Claimed}
 use Rattle.papaya_histories.specs.Given.Rule.Words.{Blocks}
 use Rattle.papaya_histories.specs.Given.Points.FactsCalls.{CallFacts, CallingFacts, IsCopying, Unchanged}
@@ -44,42 +39,29 @@ use Rattle.papaya_owned.proofs.Given.Waits.Claimed.{pairs_are_copied_by_calls}
 use Rattle.papaya_owned.proofs.Given.Waits.Laws.{calls_wait_for_a_copying, call_rows_wait_for_a_holder}
 use Rattle.papaya_owned.proofs.Given.Waits.Works.{OnlyLooks, not_idle, works}
 use Rattle.papaya_schedules.specs.InUse.{may_wait_for}
-use Rattle.papaya_schedules.specs.declared.call.Call.{Call}
-use Rattle.papaya_schedules.specs.declared.call.Call.TheVariants.{On}
-use Rattle.papaya_schedules.specs.Moment.{UnderWay as CallThere, Moment}
+use Rattle.papaya_schedules.specs.Moment.{Moment}
 use Rattle.papaya_schedules.specs.Terms.{Terms}
-use Rattle.papaya_schedules.specs.Views.{call_of, grows_in_chunks, map_at}
-use Rattle.papaya_histories.specs.Given.Effects.Known.{known}
 use Rattle.papaya_histories.specs.Given.Teller.declared.changed.Changed.{Changed}
 use Rattle.papaya_histories.specs.Given.Teller.declared.changed.Changed.TheVariants as changed
 use Rattle.papaya_histories.specs.Given.Finishes.Machines.{machine_of}
 use Rattle.papaya_histories.specs.Given.Finishes.Maps.{Standing}
 use Rattle.papaya_histories.specs.Given.Executor.IsAt.{slot_of}
-use Rattle.papaya_histories.specs.Given.Executor.Stepping.{StepsFrom}
-use Rattle.papaya_histories.specs.Given.Executor.declared.executor.Executor.{Executor}
-use Rattle.papaya_histories.proofs.Given.Executor.Changed.{standing_is}
 use Rattle.papaya_histories.proofs.Given.Executor.Forgotten.{as_step}
-use Rattle.papaya_histories.specs.Given.Follows.Calls.{IsCalled}
-use Rattle.papaya_histories.specs.Given.Follows.Maps.{ShowsThere}
-use Rattle.papaya_histories.proofs.Given.Others.Outcomes.{told_in}
 use Rattle.papaya_owes.specs.Looking.{IsLooking}
 use Rattle.papaya_owes.proofs.Tables.Hosts.{Step}
 use Rattle.papaya_scheduler.specs.Played.{StandsFor}
 use Rattle.papaya_scheduler.specs.declared.scheduler.Scheduler.{Scheduler}
-use Rattle.papaya_stepping.specs.Stepping.{is_on_key}
-use Rattle.papaya_stepping.proofs.LookSays.{key_waits}
 use Rattle.papaya_stepping.proofs.QuietWaits.{asked_quiet, row_quiet, try_quiet}
-use Rattle.papaya_stepping.proofs.StepSays.{the}
 use Rattle.papaya_stepping.proofs.Waiting.{waits_for_copier, waits_for_holder}
 
 -- a row that works on one slot settles on that
-on_slot : (slot s : ℕ) (row : Row) → IsRowOn slot row → SettlesOn s row → s ≡ slot
+pub on_slot : (slot s : ℕ) (row : Row) → IsRowOn slot row → SettlesOn s row → s ≡ slot
 on_slot slot s (Settles c) is on = sym on ∙ is
 on_slot slot s (Leaves c) is on = sym on ∙ is
 on_slot slot s _ is on = absurd on
 
 -- one whose machine looks only looks
-only_looks_by : {K V : Type 0} (x : UnderWay K V K) → IsLooking (machine_of x) → OnlyLooks x
+pub only_looks_by : {K V : Type 0} (x : UnderWay K V K) → IsLooking (machine_of x) → OnlyLooks x
 only_looks_by (OnKey u) looks = looks.1
 only_looks_by (Counting sum) looks = tt
 only_looks_by (ForRoom r) looks = looks
@@ -201,70 +183,3 @@ module _ {K V S : Type 0} (same : K → K → Bool) (hash : K → ℕ) (terms : 
           by at.Probes here (incremental, being) = by_copier mode here u.call.trial.table.turn u.call.trial.probe.i being
           by (at.Copies copier) here (blocking, awaits) = absurd (cc (mode, blocking))
           by _ here none = absurd none
-
--- what was called on one key is a call on one
-as_key : {K V : Type 0} (same : K → K → Bool) (x : UnderWay K V K) (call : Call K V) → IsCalled same x call → is_on_key call ≡ true → (u : CallOnKey K V K) × (x ≡ OnKey u)
-as_key same (OnKey u) (On one) called key = (u, refl)
-as_key same (ForRoom r) (On one) called key = absurd called
-as_key same (Counting sum) (On one) called key = absurd called
-as_key same (OverAll o) (On one) called key = absurd called
-as_key same x _ called key = absurd (cc key)
-
--- so it is of the call of this name, whose machine has taken a step that waits
-module _ {K V S : Type 0} (same : K → K → Bool) (hash : K → ℕ) (terms : Terms) (m : Moment K V) (p : Scheduler K V S) (stands : StandsFor same hash terms m p) (own : List ℕ) (of i : ℕ)
-    (x : UnderWay K V K) (under : stands.scene.calls of i ≡ Some x) (named : stands.name i ≡ own) (new : Executor K V S) (next : Machine K V K)
-    (step : StepsFrom same hash (machine_of x) p.logged.executor new next progress.Waits) (c : CallThere K V) (c_is : call_of own m ≡ Some c) (key : is_on_key c.call ≡ true) where
-  abbrev its : (d : CallThere K V) × (call_of (stands.name i) m ≡ Some d) × (d.map ≡ of) × IsCalled same x d.call
-  its = stands.shown.shows.all.shown.calls of i x under
-
-  same_call : (d : CallThere K V) → call_of (stands.name i) m ≡ Some d → d ≡ c
-  same_call d d_is = the d c (sym d_is ∙ ap (λ (l : List ℕ). call_of l m) named ∙ c_is)
-
-  as_one : (u : CallOnKey K V K) × (x ≡ OnKey u)
-  as_one = as_key same x its.0.call its.3 (ap (λ (d : CallThere K V). is_on_key d.call) (same_call its.0 its.1) ∙ key)
-
-  abbrev u : CallOnKey K V K
-  u = as_one.0
-
-  there : stands.scene.calls of i ≡ Some (OnKey u)
-  there = under ∙ ap (λ (y : UnderWay K V K). Some y) as_one.1
-
-  abbrev st : Standing K
-  st = (standing_is same hash p.logged.executor stands.scene stands.shown.is_at of i x under).0
-
-  st_is : stands.scene.maps of ≡ Some st
-  st_is = (standing_is same hash p.logged.executor stands.scene stands.shown.is_at of i x under).1
-
-  abbrev before : Mem (Node K V)
-  before = p.logged.executor.memory.memory
-
-  abbrev Told : Type 0
-  Told = (p2 : KeyCall K V K) × Step before new.memory.memory new.memory.changed (call_plan same same hash u.call) (p2, says.Waits)
-
-  -- its own step, within that of its machine
-  own_step : Told
-  own_step =
-      let it = told_in before new.memory.memory new.memory.changed of_key (call_plan same same hash u.call) (next, progress.Waits)
-      (subst (λ (y : UnderWay K V K). StepsFrom same hash (machine_of y) p.logged.executor new next progress.Waits) as_one.1 step) in
-      by it.0 (key_waits it.0.1 (ap (λ (y : Machine K V K × Progress (Node K V)). y.1) (sym it.1))) it.2
-    where
-      by : (end : KeyCall K V K × Called (Node K V)) → end.1 ≡ says.Waits → Step before new.memory.memory new.memory.changed (call_plan same same hash u.call) end → Told
-      by (p2, says.Waits) e s = (p2, s)
-      by (p2, _) e s = absurd (cc e)
-
-  pub key_quiet : new.memory.changed ≡ changed.Nothing
-  key_quiet = quiet same hash terms m p stands of i u there st st_is new.memory.memory new.memory.changed own_step.0 own_step.1
-
-  pub key_waits_for : grows_in_chunks (map_at c.map m) ≡ true → list_any (may_wait_for c m) m.calls ≡ true
-  key_waits_for chunks =
-      subst (λ (d : CallThere K V). list_any (may_wait_for d m) m.calls ≡ true)
-      (same_call (stands.shown.shows.all.shown.calls of i (OnKey u) there).0 (stands.shown.shows.all.shown.calls of i (OnKey u) there).1)
-      (waits_so same hash terms m p stands of i u there st st_is new.memory.memory new.memory.changed own_step.0 own_step.1 mode)
-    where
-      shows : ShowsThere of st m (known p.logged.notes)
-      shows = (stands.shown.shows.all.shown.maps of st st_is).there
-
-      mode : is_incremental st.setting.mode ≡ true
-      mode =
-          ap is_incremental (sym shows.mode) ∙ ap grows_in_chunks (sym shows.is)
-          ∙ ap (λ (n : ℕ). grows_in_chunks (map_at n m)) (sym (ap (λ (d : CallThere K V). d.map) (sym (same_call its.0 its.1)) ∙ its.2)) ∙ chunks

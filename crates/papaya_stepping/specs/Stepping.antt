@@ -1,5 +1,5 @@
 -- What a call comes to by its steps, how far it is then, and what is promised of that.
-use Rattle.std.specs.Prelude.{◌≡◌, ◌≤◌, ◌+◌, ◌⊎◌, ◌&&◌, ℕ, zero, suc, Bool, true, false, is_none, is_some, List, [], ◌∷◌, ◌++◌, position, slice_get, slice_set, sum_by, Option, Some, option_map, if◌then◌else◌}
+use Rattle.std.specs.Prelude.{◌≡◌, ◌≤◌, ◌+◌, ◌⊎◌, ◌&&◌, ℕ, zero, suc, Bool, true, false, is_none, is_some, List, [], ◌∷◌, ◌++◌, position, slice_get, slice_set, sum_by, Option, Some, None, option_map, if◌then◌else◌}
 use Rattle.std.specs.List.{list_any, remove}
 use Rattle.papaya_histories.specs.Given.SeizeWords.declared.fault.Fault.{Fault}
 use Rattle.papaya_histories.specs.Given.SeizeWords.declared.fault.Fault.TheVariants.{Busy, Capacity, Memory, RemoveNothing}
@@ -34,12 +34,13 @@ use Rattle.papaya_schedules.specs.Terms.{Terms}
 use Rattle.papaya_schedules.specs.Views.{call_of, grows_in_chunks, map_at, map_of}
 use Rattle.papaya_histories.specs.Given.Late.Faults.{IsRoom}
 use Rattle.papaya_histories.specs.Given.Effects.Known.{Known, known}
-use Rattle.papaya_histories.specs.Given.Executor.IsAt.{HasCall, IsAt, Scene}
+use Rattle.papaya_histories.specs.Given.Executor.IsAt.{HasCall, IsAt, KeepsGiven, Scene}
 use Rattle.papaya_histories.specs.Given.Executor.Stepping.{has_ended}
 use Rattle.papaya_histories.specs.Given.Follows.Calling.{come_to}
 use Rattle.papaya_logged.specs.Calling.{CallGoesOn}
 use Rattle.papaya_logged.specs.Shown.{IsShown}
 use Rattle.papaya_scheduler.specs.Played.{AsFar, BeginsSo, IsDue, IsPlayed, Plays, StandsAs, StandsFor, entry_of}
+use Rattle.papaya_scheduler.specs.Quiet.{IsQuiet}
 use Rattle.papaya_named.specs.Seen.{is_named}
 use Rattle.papaya_named.specs.Telling.{answer_of, goes_on, number_by, kept}
 use Rattle.papaya_named.specs.declared.caller.Caller.{Caller}
@@ -97,16 +98,11 @@ module _ {K V : Type 0} where
   ComesAs call (Refused fault) = IsRoom fault
   ComesAs call _ = ⊥
 
-  -- a call on one key
-  abbrev pub is_on_key : Call K V → Bool
-  is_on_key (On one) = true
-  is_on_key _ = false
-
-  -- one on a map that grows in chunks, which waits only for a call that it may wait for
+  -- a call on a map that grows in chunks, which waits only for a call that it may wait for
   abbrev pub waits_in_case : CallThere K V → Moment K V → Bool
-  waits_in_case c now = is_on_key c.call && grows_in_chunks (map_at c.map now)
+  waits_in_case c now = grows_in_chunks (map_at c.map now)
 
-  -- That says: any other call waits only for one that it may wait for, and a call is refused for the length of a table only where it finds none: it needs more places than a table can have,
+  -- That says: on any other map a call waits only for one that it may wait for, and a call is refused for the length of a table only where it finds none: it needs more places than a table can have,
   -- or a table after the longest or the last one.
   abbrev pub IsInCase : Terms → CallThere K V → List (Moment K V) → Moment K V → Outcome V → Type 0
   IsInCase terms c moments now Waits = waits_in_case c now ≡ false → list_any (may_wait_for c now) now.calls ≡ true
@@ -152,7 +148,7 @@ module _ {K V S : Type 0} (same : K → K → Bool) (hash : K → ℕ) (terms : 
     pub follows : after ≡ before ++ did
     pub few : sum_by weight did ≤ steps
     pub comes : ComesAs call.call outcome
-    -- one that waits does more than look, and waits for one that it may wait for, if it is on one key, on a map that grows in chunks; one that is refused for want of memory has asked for
+    -- one that waits does more than look, and waits for one that it may wait for, if it is on a map that grows in chunks; one that is refused for want of memory has asked for
     -- a growth, and nothing was made since
     pub works : outcome ≡ Waits → only_looks call.call ≡ false
     pub waits : outcome ≡ Waits → (let w = with_effects (Some own) (Some call.map) did m in
@@ -200,6 +196,7 @@ module _ {K V S : Type 0} (same : K → K → Bool) (hash : K → ℕ) where
     pub outcome_is : outcome ≡ outcome_of (known new.logged.notes) caller.kind caller.value said
     pub calls : new.calls.items.items ≡ callers_then (known new.logged.notes) place caller said old.calls.items.items
     pub rest : new ≡ record old { logged = new.logged; calls = new.calls }
+    pub given : KeepsGiven old.logged.executor new.logged.executor
 
   -- So many steps were taken at this place, each of which let the call go on,
   abbrev pub GoneFor : (place steps : ℕ) → (before after : List Effect) → (old new : Scheduler K V S) → Type 0
@@ -230,6 +227,12 @@ module _ {K V S : Type 0} (same : K → K → Bool) (hash : K → ℕ) where
     pub leads : (name : ℕ → List ℕ) (m : Moment K V) (s : Scene K V) → IsShown same hash name m old.logged s
         → CallGoesOn same hash name m s caller.number caller.map said before after old.logged new.logged
     pub rest : new ≡ record old { logged = new.logged }
+    pub given : KeepsGiven old.logged.executor new.logged.executor
+
+  -- So many steps of the walk at this place were taken, each of which just went on.
+  abbrev pub WalkedFor : (place steps : ℕ) → (before after : List Effect) → (old new : Scheduler K V S) → Type 0
+  WalkedFor place zero before after old new = (before ≡ after) × (old ≡ new)
+  WalkedFor place (suc n) before after old new = (mid : List Effect) × (p : Scheduler K V S) × WalkedFor place n before mid old p × IsStepOf place progress.Goes mid after p new
 
   -- What a scheduler is asked at whose place a walk was asked for its next pair,
   abbrev pub MayWalk : ℕ → Scheduler K V S → Type 0
@@ -241,6 +244,7 @@ module _ {K V S : Type 0} (same : K → K → Bool) (hash : K → ℕ) where
       (said ≡ progress.Goes → ⊥)
       × (n : ℕ) × (steps ≡ n + 1) × (mid : List Effect) × (p : Scheduler K V S) × IsStepOf place said mid after p new
       × ((terms : Terms) (m : Moment K V) (own : List ℕ) → StandsAs (WalksFar own 0) same hash terms m old → ReadyAt own place old → IsMidWalk same hash terms own place m n before mid p)
+      × (k : ℕ) × (steps ≡ k + 1) × WalkedFor place k before mid old p
 
   -- A call stands at this place, however far it is: one that asks, or is ready, says so again, and one that goes on takes steps.
   abbrev pub StandsAt : ℕ → Scheduler K V S → Type 0
@@ -257,22 +261,26 @@ module _ {K V S : Type 0} (same : K → K → Bool) (hash : K → ℕ) where
   abbrev pub TakenAs : (place most : ℕ) → Played V → (old new : Scheduler K V S) → Type 0
   TakenAs place most played old new = (d : Caller V) → slice_get old.calls.items.items place ≡ Some d → TakenBy place most d.stands played old new
 
-  -- The call of this name, if it is there, has taken steps so; and so has one without a name that has begun.
+  -- The call of this name, if it is there, has taken steps so; and so has one without a name that has begun. Else nothing has happened.
   abbrev pub TookSteps : (most : ℕ) → List ℕ → Played V → (old new : Scheduler K V S) → Type 0
-  TookSteps most own played old new = (place : ℕ) → Some place ≡ position (is_named own) old.calls.items.items → TakenAs place most played old new
+  TookSteps most own played old new =
+      ((place : ℕ) → Some place ≡ position (is_named own) old.calls.items.items → TakenAs place most played old new)
+      × (position (is_named own) old.calls.items.items ≡ None → SaysAgain (Refused Busy) played old new)
 
   abbrev pub TookWhole : (guard name : List ℕ) → Call K V → Played V → (old new : Scheduler K V S) → Type 0
   TookWhole guard name call played old new =
       (terms : Terms) (m : Moment K V) → StandsFor same hash terms m old
-      → (begun : Bool) × (mid : Scheduler K V S) × BeginsSo same hash terms m nameless guard name call begun old mid × (begun ≡ true → TakenAs 0 most_steps played mid new)
+      → (begun : Bool) × (mid : Scheduler K V S) × BeginsSo same hash terms m nameless guard name call begun old mid
+      × (mid.logged.executor.batch_size ≡ old.logged.executor.batch_size) × (begun ≡ true → TakenAs 0 most_steps played mid new) × (begun ≡ false → SaysAgain (Refused Busy) played mid new)
 
   -- What is promised of an event by which a call goes on: the scheduler has played the log with it; it comes to what is right, where it does so in its case; it makes as many steps as it may, and
-  -- does not more.
+  -- does not more; and what is refused as busy did nothing.
   pub record PlaysOn (terms : Terms) (log : List (Entry K V)) (e : Entry K V) (p : Scheduler K V S) : Type 0 where
     pub played : IsPlayed same hash terms (e ∷ log) p
     pub plays : ComesInCase terms log e → Plays same hash terms log e p
     pub makes : MakesSteps e.event (stands_or (acting (caller_of e.event) (at_work e (moment log)))) e.steps e.outcome
     pub does : DoesFew (caller_of e.event) e.steps e.effects
+    pub is_quiet : IsQuiet e.outcome e.effects
 
   abbrev pub PlaysOnAt : Event K V → Played V → (old new : Scheduler K V S) → Type 0
   PlaysOnAt event played old new = (terms : Terms) (log : List (Entry K V)) → IsDue same hash terms log event old → PlaysOn terms log (entry_of event played) new
@@ -282,6 +290,7 @@ module _ {K V S : Type 0} (same : K → K → Bool) (hash : K → ℕ) where
     pub plays : Plays same hash terms log e p
     pub makes : MakesSteps e.event (stands_or (acting (caller_of e.event) (at_work e (moment log)))) e.steps e.outcome
     pub does : DoesFew (caller_of e.event) e.steps e.effects
+    pub is_quiet : IsQuiet e.outcome e.effects
 
   abbrev pub PlaysNextAt : List ℕ → Played V → (old new : Scheduler K V S) → Type 0
   PlaysNextAt own played old new =

@@ -1,14 +1,16 @@
 -- A map ends.
-use Rattle.std.proofs.Common.{[], sym, refl, ◌∙◌, arith}
+use Rattle.std.proofs.Common.{[], inl, inr, sym, refl, ◌∙◌, arith}
 use Rattle.seize_words.specs.declared.fault.Fault.TheVariants.{Busy}
 use Rattle.papaya_schedules.specs.After.{moment}
 use Rattle.papaya_schedules.specs.declared.event.Event.TheVariants.{EndMap}
 use Rattle.papaya_schedules.specs.declared.outcome.Outcome.TheVariants.{Refused}
 use Rattle.papaya_logged.proofs.KeptGiven.{given_on}
+use Rattle.papaya_scheduler.proofs.Busy.{none_quiet}
 use Rattle.papaya_scheduler.proofs.Backs.{none_came}
 use Rattle.papaya_scheduler.proofs.Maps.{stands_by}
 use Rattle.papaya_mapping.proofs.MapsEnded.{not_there, has_calls, may_run, end_came, ended}
 use Rattle.papaya_scheduler.proofs.Rights.{so_played}
+use Rattle.papaya_scheduler.proofs.Works.{end_gone_as, end_ran_as}
 use Rattle.papaya_mapping.proofs.endings.end_map.Goals as goal
 
 pub returns-in_default-clause-plays : goal.returns-in_default-clause-plays
@@ -60,3 +62,42 @@ returns-clause-back g c = λ same hash terms log due.
     end_came same hash terms log c.args.scheduler.now c.args.map.now due c.in-Some.number (sym c.number_of.ensures ∙ c.in-Some.is) (sym c.are_on.ensures ∙ c.if-are_on.false) c.begin_end.new.self c.in_ok-caller.caller
     (c.in_ok-caller.ensures.leads same hash due.played.name (moment log) due.played.scene due.played.shown) c.no_effects-effects.result.items c.run_end.new.effects.items c.no_effects-effects.ensures
     c.args.back.now.items c.run_end.new.back.items c.in_ok-run_end.ensures.back
+
+pub returns-in_default-clause-quiet : goal.returns-in_default-clause-quiet
+returns-in_default-clause-quiet g c = none_quiet c.busy.result.outcome c.busy.result.effects.items c.busy.ensures.effects
+
+pub returns-then-are_on-clause-quiet : goal.returns-then-are_on-clause-quiet
+returns-then-are_on-clause-quiet g c = none_quiet c.busy-then-are_on.result.outcome c.busy-then-are_on.result.effects.items c.busy-then-are_on.ensures.effects
+
+pub returns-clause-quiet : goal.returns-clause-quiet
+returns-clause-quiet g c = tt
+
+pub returns-in_default-clause-works : goal.returns-in_default-clause-works
+returns-in_default-clause-works g c = (refl, inl (Busy, c.busy.ensures.outcome, c.busy.ensures.effects, refl))
+
+pub returns-then-are_on-clause-works : goal.returns-then-are_on-clause-works
+returns-then-are_on-clause-works g c = (refl, inl (Busy, c.busy-then-are_on.ensures.outcome, c.busy-then-are_on.ensures.effects, refl))
+
+pub returns-clause-works : goal.returns-clause-works
+returns-clause-works g c = (
+  refl,
+  inr (
+    refl,
+    record {
+      caller = c.in_ok-caller.caller;
+      fresh = c.in_ok-caller.ensures.number;
+      number = c.in-Some.number;
+      found = sym c.number_of.ensures ∙ c.in-Some.is;
+      free = sym c.are_on.ensures ∙ c.if-are_on.false;
+      began = c.begin_end.new.self;
+      begins = λ same hash name m s shown. c.in_ok-caller.ensures.leads same hash name m s shown;
+      noted = c.in_ok-caller.ensures.notes;
+      stays = c.begin_end.ensures.given;
+      ran = end_ran_as c.in_ok-caller.caller c.in-Some.number c.no_effects-effects.result.items c.run_end.new.effects.items c.no_effects-effects.ensures c.begin_end.new.self c.run_end.new.self
+          c.in_ok-run_end.ensures.ran;
+      over = c.in_ok-run_end.ensures.over;
+      gone = end_gone_as c.in_ok-caller.caller c.in-Some.number c.no_effects-effects.result.items c.run_end.new.effects.items c.no_effects-effects.ensures c.begin_end.new.self c.run_end.new.self
+          c.in_ok-run_end.ensures.gone;
+    },
+  ),
+)

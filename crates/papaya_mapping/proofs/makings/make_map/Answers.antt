@@ -1,5 +1,5 @@
 -- A map is made.
-use Rattle.std.proofs.Common.{◌≡◌, [], length, ap, sym, refl, subst, ◌∙◌, arith, rules}
+use Rattle.std.proofs.Common.{◌≡◌, [], length, ap, inl, inr, sym, refl, subst, ◌∙◌, arith, rules}
 use Rattle.seize.specs.declared.progress.Progress.{Progress}
 use Rattle.papaya_histories.specs.Given.Tables.declared.setting.Setting.{Setting}
 use Rattle.papaya_logged.specs.Makings.{MakingRan, numbers_then}
@@ -12,8 +12,10 @@ use Rattle.papaya_schedules.specs.declared.outcome.Outcome.{Outcome}
 use Rattle.papaya_schedules.specs.declared.outcome.Outcome.TheVariants.{Refused}
 use Rattle.papaya_scheduler.specs.Mapping.{numbers_made}
 use Rattle.papaya_mapping.proofs.MapNumbers.{given_up}
-use Rattle.papaya_mapping.proofs.MapsMade.{has_fault, not_now, no_roots, may_run, not_made, made}
+use Rattle.papaya_scheduler.proofs.Busy.{none_quiet}
+use Rattle.papaya_mapping.proofs.MapsMade.{has_fault, not_now, no_roots, may_run, not_made, made, refused_quiet}
 use Rattle.papaya_scheduler.proofs.Rights.{so_played}
+use Rattle.papaya_scheduler.proofs.Works.{finds_as, gone_as, run_as}
 use Rattle.papaya_mapping.proofs.makings.make_map.Goals as goal
 
 pub returns-in-Err-clause-plays : goal.returns-in-Err-clause-plays
@@ -100,3 +102,70 @@ returns-in-Refused-clause-numbers g c =
 pub returns-in_ok-push-in-Done-clause-numbers : goal.returns-in_ok-push-in-Done-clause-numbers
 returns-in_ok-push-in-Done-clause-numbers g c =
     c.in_ok-told.ensures.numbers ∙ ap (λ (t : Progress Setting). numbers_then c.len-number.result t (length c.begin_making.new.self.executor.maps.items)) c.in-Done.is ∙ c.in_ok-caller.ensures.numbers
+
+pub returns-in-Err-clause-quiet : goal.returns-in-Err-clause-quiet
+returns-in-Err-clause-quiet g c = none_quiet c.quietly.result.outcome c.quietly.result.effects.items c.quietly.ensures.effects
+
+pub returns-then-not-may_make-clause-quiet : goal.returns-then-not-may_make-clause-quiet
+returns-then-not-may_make-clause-quiet g c = none_quiet c.busy.result.outcome c.busy.result.effects.items c.busy.ensures.effects
+
+pub returns-then-scheduler-eq0-clause-quiet : goal.returns-then-scheduler-eq0-clause-quiet
+returns-then-scheduler-eq0-clause-quiet g c = none_quiet c.quietly-then-scheduler-eq0.result.outcome c.quietly-then-scheduler-eq0.result.effects.items c.quietly-then-scheduler-eq0.ensures.effects
+
+pub returns-in_ok-push-in-Done-clause-quiet : goal.returns-in_ok-push-in-Done-clause-quiet
+returns-in_ok-push-in-Done-clause-quiet g c = tt
+
+pub returns-in-Refused-clause-quiet : goal.returns-in-Refused-clause-quiet
+returns-in-Refused-clause-quiet g c =
+    let r = c.requires in
+    let count : c.len-number.result ≡ length c.args.scheduler.now.logged.executor.maps.items = search (rules, c.len-number.ensures) in
+    refused_quiet r.0 r.1 r.2 r.3 c.args.scheduler.now c.args.map c.args.mode c.args.capacity r.4 c.in-Ok.ensures.none (sym c.may_make.ensures ∙ c.if-not-may_make.false)
+    (let ne = c.if-scheduler-eq0.false in omega (arith, ne)) c.in-Ok.places c.in-Ok.ensures.first c.setting_for-given.result c.setting_for-given.ensures c.in_ok-caller.caller c.begin_making.new.self
+    (c.in_ok-caller.ensures.leads r.0 r.1 r.4.due.played.name (moment r.3) r.4.due.played.scene r.4.due.played.shown) c.len-number.result count c.in-Refused.fault c.run_making.new.self
+    c.no_effects-effects.result.items c.run_making.new.effects.items c.no_effects-effects.ensures (subst (λ (x : Progress Setting). MakingRan c.in_ok-caller.caller c.len-number.result x c.no_effects-effects.result.items c.run_making.new.effects.items c.begin_making.new.self c.run_making.new.self) c.in-Refused.is c.in_ok-told.ensures.ran)
+    (subst (λ (x : Progress Setting). MakingFinds c.in_ok-caller.caller c.len-number.result x c.no_effects-effects.result.items c.run_making.new.effects.items c.begin_making.new.self c.run_making.new.self) c.in-Refused.is c.in_ok-told.ensures.finds)
+
+pub returns-in-Err-clause-works : goal.returns-in-Err-clause-works
+returns-in-Err-clause-works g c = (refl, inl (c.in-Err.fault, c.quietly.ensures.outcome, c.quietly.ensures.effects, refl))
+
+pub returns-then-not-may_make-clause-works : goal.returns-then-not-may_make-clause-works
+returns-then-not-may_make-clause-works g c = (refl, inl (Busy, c.busy.ensures.outcome, c.busy.ensures.effects, refl))
+
+pub returns-then-scheduler-eq0-clause-works : goal.returns-then-scheduler-eq0-clause-works
+returns-then-scheduler-eq0-clause-works g c = (refl, inl (RootsUsedUp, c.quietly-then-scheduler-eq0.ensures.outcome, c.quietly-then-scheduler-eq0.ensures.effects, refl))
+
+pub returns-in-Refused-clause-works : goal.returns-in-Refused-clause-works
+returns-in-Refused-clause-works g c = (refl, inr (inl (c.in-Refused.fault, refl)))
+
+pub returns-in_ok-push-in-Done-clause-works : goal.returns-in_ok-push-in-Done-clause-works
+returns-in_ok-push-in-Done-clause-works g c =
+    let count : c.len-number.result ≡ length c.args.scheduler.now.logged.executor.maps.items = search (rules, c.len-number.ensures) in (
+      refl,
+      inr (inr (
+        refl,
+        record {
+          caller = c.in_ok-caller.caller;
+          fresh = c.in_ok-caller.ensures.number;
+          faultless = c.in-Ok.ensures.none;
+          free = sym c.may_make.ensures ∙ c.if-not-may_make.false;
+          places = c.in-Ok.places;
+          given = c.setting_for-given.result;
+          places_are = c.in-Ok.ensures.places;
+          first = c.in-Ok.ensures.first;
+          is_given = c.setting_for-given.ensures;
+          some = (let ne = c.if-scheduler-eq0.false in omega (arith, ne));
+          setting = c.in-Done.field-0;
+          began = c.begin_making.new.self;
+          begins = λ same hash name m s shown. c.in_ok-caller.ensures.leads same hash name m s shown;
+          noted = c.in_ok-caller.ensures.notes;
+          stays = c.begin_making.ensures.given;
+          there = c.in_ok-caller.ensures.there;
+          ran = run_as c.in_ok-caller.caller c.len-number.result _ count c.in_ok-told.told c.in-Done.field-0 c.in-Done.is c.no_effects-effects.result.items c.run_making.new.effects.items c.no_effects-effects.ensures
+              c.begin_making.new.self c.run_making.new.self c.in_ok-told.ensures.ran;
+          finds = finds_as c.in_ok-caller.caller c.len-number.result _ count c.in_ok-told.told c.in-Done.field-0 c.in-Done.is c.no_effects-effects.result.items c.run_making.new.effects.items
+              c.no_effects-effects.ensures c.begin_making.new.self c.run_making.new.self c.in_ok-told.ensures.finds;
+          gone = gone_as c.in_ok-caller.caller c.len-number.result _ count c.in_ok-told.told c.in-Done.field-0 c.in-Done.is c.no_effects-effects.result.items c.run_making.new.effects.items c.no_effects-effects.ensures
+              c.begin_making.new.self c.run_making.new.self c.in_ok-told.ensures.gone;
+        },
+      )),
+    )

@@ -1,9 +1,11 @@
 -- Everything is reclaimed.
-use Rattle.std.proofs.Common.{[], sym, ◌∙◌}
+use Rattle.std.proofs.Common.{[], refl, ap, sym, ◌∙◌}
 use Rattle.seize_words.specs.declared.fault.Fault.TheVariants.{Busy}
 use Rattle.papaya_schedules.specs.After.{moment}
 use Rattle.papaya_schedules.specs.declared.event.Event.TheVariants.{ReclaimAll}
 use Rattle.papaya_schedules.specs.declared.outcome.Outcome.TheVariants.{Refused}
+use Rattle.papaya_scheduler.proofs.Busy.{none_quiet}
+use Rattle.papaya_mapping.proofs.AllWorks.{did_all, did_wait}
 use Rattle.papaya_scheduler.proofs.Backs.{all_came, none_came}
 use Rattle.papaya_mapping.proofs.AllGiven.{all_reclaimed, may_reclaim, nobody_has, not_left}
 use Rattle.papaya_scheduler.proofs.Rights.{so_played}
@@ -45,3 +47,17 @@ returns-clause-back g c = λ same hash terms log due may.
     all_came same hash terms log ReclaimAll c.args.scheduler.now due c.args.back.now.items _ (nobody_has same hash terms (moment log) c.args.scheduler.now due.played gone)
     may.lists (may_reclaim same hash terms (moment log) c.args.scheduler.now due.played gone may) c.no_effects-effects.result.items c.give_all_back.new.effects.items c.no_effects-effects.ensures
     c.give_all_back.new.back.items c.in_ok-give_all_back.ensures.back
+
+pub returns-then-not-are_gone-clause-quiet : goal.returns-then-not-are_gone-clause-quiet
+returns-then-not-are_gone-clause-quiet g c = none_quiet c.busy.result.outcome c.busy.result.effects.items c.busy.ensures.effects
+
+pub returns-clause-quiet : goal.returns-clause-quiet
+returns-clause-quiet g c = tt
+
+pub returns-then-not-are_gone-clause-works : goal.returns-then-not-are_gone-clause-works
+returns-then-not-are_gone-clause-works g c = did_wait c.args.scheduler.now c.busy.result c.busy.ensures.outcome c.busy.ensures.effects
+
+pub returns-clause-works : goal.returns-clause-works
+returns-clause-works g c =
+    did_all c.args.scheduler.now _ c.give_all_back.new.scheduler (ap (λ p. p.calls) c.in_ok-give_all_back.ensures.rest) refl (sym c.are_gone.ensures ∙ c.if-not-are_gone.false) c.no_effects-effects.result.items
+    c.give_all_back.new.effects.items c.no_effects-effects.ensures refl c.give_all_back.new.scheduler.logged refl c.in_ok-give_all_back.ensures.gone

@@ -35,7 +35,7 @@ returns-else-branch g c = record {
       let so = subst (λ (b : Bool). BeginsSo g.K.PartialEq.eq hash terms m nameless c.args.guard c.args.map.now c.args.call b c.args.scheduler.now c.begins.new.self) c.if-branch.false
       (subst (λ own. BeginsSo g.K.PartialEq.eq hash terms m own c.args.guard c.args.map.now c.args.call c.in_ok-begins.field-0 c.args.scheduler.now c.begins.new.self) named
       (c.in_ok-begins.ensures.begins terms m stands)) in
-      (false, c.begins.new.self, so, λ begun. absurd (cc begun));
+      (false, c.begins.new.self, so, c.begins.ensures.given.1, λ begun. absurd (cc begun), λ none. (c.busy.ensures.outcome, c.busy.ensures.steps, c.busy.ensures.effects, refl));
   given = c.begins.ensures.given;
 }
 
@@ -72,7 +72,9 @@ returns-then-branch g c =
             true,
             c.begins.new.self,
             begun,
+            c.begins.ensures.given.1,
             λ so. subst (λ h. TakenAs g.K.PartialEq.eq (g.S.Hashes.hash h) 0 most_steps played c.begins.new.self c.take_steps.new.scheduler) c.begins.ensures.given.0 taken,
+            λ none. absurd (cc none),
           )) c.take_steps.ensures.taken;
       given = given_on c.args.scheduler.now.logged.executor c.begins.new.self.logged.executor c.take_steps.new.scheduler.logged.executor c.begins.ensures.given c.take_steps.ensures.given;
     }

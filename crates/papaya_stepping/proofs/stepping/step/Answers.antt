@@ -22,9 +22,12 @@ returns-in-Some g c = record {
   plays = IfOk-weaker c.take_steps.result _ _ (λ played taken. λ terms log due.
       plays_taken g.K.PartialEq.eq (g.S.Hashes.hash c.args.scheduler.now.logged.executor.hasher) terms log c.args.caller.now c.args.refuse c.args.scheduler.now c.take_steps.new.scheduler c.in-Some.place
       (sym c.in-Some.is ∙ c.place_of.ensures) played due taken) c.take_steps.ensures.taken;
-  took = IfOk-weaker c.take_steps.result _ _ (λ played taken. λ place is.
-      subst (λ k. TakenAs g.K.PartialEq.eq (g.S.Hashes.hash c.args.scheduler.now.logged.executor.hasher) k 1 played c.args.scheduler.now c.take_steps.new.scheduler)
-      (the c.in-Some.place place (sym c.in-Some.is ∙ c.place_of.ensures ∙ sym is)) taken) c.take_steps.ensures.taken;
+  took = IfOk-weaker c.take_steps.result _ _ (λ played taken. (
+    λ place is.
+        subst (λ k. TakenAs g.K.PartialEq.eq (g.S.Hashes.hash c.args.scheduler.now.logged.executor.hasher) k 1 played c.args.scheduler.now c.take_steps.new.scheduler)
+        (the c.in-Some.place place (sym c.in-Some.is ∙ c.place_of.ensures ∙ sym is)) taken,
+    λ none. absurd (let some = sym c.in-Some.is ∙ c.place_of.ensures ∙ none in cc some),
+  )) c.take_steps.ensures.taken;
   given = c.take_steps.ensures.given;
 }
 
@@ -35,6 +38,9 @@ returns-in-None g c = record {
       subst (λ e. PlaysOn g.K.PartialEq.eq hash terms log e c.args.scheduler.now)
       (sym (entry_is (Step c.args.caller.now c.args.refuse) c.busy.result (Refused Busy) 0 _ c.busy.ensures.outcome c.busy.ensures.steps c.busy.ensures.effects))
       (step_busy g.K.PartialEq.eq hash terms log c.args.caller.now c.args.refuse c.args.scheduler.now due (sym c.place_of.ensures ∙ c.in-None.is));
-  took = λ place is. absurd (let some = is ∙ sym c.place_of.ensures ∙ c.in-None.is in cc some);
+  took = (
+    λ place is. absurd (let some = is ∙ sym c.place_of.ensures ∙ c.in-None.is in cc some),
+    λ none. (c.busy.ensures.outcome, c.busy.ensures.steps, c.busy.ensures.effects, refl),
+  );
   given = (refl, refl, refl, refl);
 }

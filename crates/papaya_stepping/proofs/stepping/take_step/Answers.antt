@@ -36,6 +36,8 @@ returns-clause-stepped g c =
       calls = subst (λ l. c.come_to.new.scheduler.calls.items.items ≡ callers_then (known l.notes) c.args.place c.requires.0 c.in_ok-progress.progress c.args.scheduler.now.calls.items.items) (sym logged_is)
           (c.come_to.ensures.calls c.requires.0 c.requires.1);
       rest = subst (λ l. c.come_to.new.scheduler ≡ record c.args.scheduler.now { logged = l; calls = c.come_to.new.scheduler.calls }) (sym logged_is) c.come_to.ensures.rest;
+      given = given_as c.args.scheduler.now (record c.args.scheduler.now { logged = c.step.new.self; calls = c.come_to.new.scheduler.calls }) c.come_to.new.scheduler c.step.ensures.given
+          c.come_to.ensures.rest;
     }
 
 pub returns-clause-given : goal.returns-clause-given

@@ -1,5 +1,5 @@
 -- A walk takes steps to its next pair.
-use Rattle.std.specs.Prelude.{slice_get}
+use Rattle.std.specs.Prelude.{suc, slice_get}
 use Rattle.std.proofs.Common.{◌+◌, refl, sym, ap, subst, ◌∙◌, arith}
 use Rattle.std.proofs.lemmas.List.{append-nil}
 use Rattle.papaya_histories.specs.Given.Executor.IsAt.{HasCall, IsAt}
@@ -21,6 +21,9 @@ loop-steps-init g c = (
   (refl, refl, refl, refl),
   λ terms m own stands at. mid_first g.K.PartialEq.eq (g.S.Hashes.hash c.args.scheduler.now.logged.executor.hasher) terms own c.args.place m c.args.scheduler.now stands at c.args.effects.now.items
       (sym (append-nil c.args.effects.now.items)),
+  0,
+  refl,
+  (refl, refl),
 )
 
 pub step-requires : goal.step-requires
@@ -52,8 +55,12 @@ returns-then-not-just_goes-clause-comes g c =
             (subst (λ h. CallGoesOn g.K.PartialEq.eq (g.S.Hashes.hash h) name m s c.way_of-number.result.0 c.way_of-number.result.1 c.in_ok-progress.progress c.loop-steps.effects.items c.step.new.effects.items
             c.loop-steps.scheduler.logged c.step.new.self) i.3.0 (c.in_ok-progress.ensures.leads name m s (subst (λ h. IsShown g.K.PartialEq.eq (g.S.Hashes.hash h) name m c.loop-steps.scheduler.logged s) (sym i.3.0) shown)));
         rest = refl;
+        given = c.step.ensures.given;
       },
       i.4,
+      i.5,
+      i.6,
+      i.7,
     )
 
 pub loop-steps-preserved : goal.loop-steps-preserved
@@ -79,7 +86,28 @@ loop-steps-preserved g c =
                 (subst (λ h. CallGoesOn g.K.PartialEq.eq (g.S.Hashes.hash h) name m2 s c.way_of-number.result.0 c.way_of-number.result.1 c.in_ok-progress.progress c.loop-steps.effects.items c.step.new.effects.items
                 c.loop-steps.scheduler.logged c.step.new.self) i.3.0 (c.in_ok-progress.ensures.leads name m2 s (subst (λ h. IsShown g.K.PartialEq.eq (g.S.Hashes.hash h) name m2 c.loop-steps.scheduler.logged s) (sym i.3.0) shown))));
             rest = refl;
+            given = c.step.ensures.given;
           }),
+      suc i.5,
+      (let is = i.6 in omega (arith, is)),
+      (
+        c.loop-steps.effects.items,
+        c.loop-steps.scheduler,
+        i.7,
+        record {
+          caller = r.4.1;
+          at = there;
+          leads = λ name m s shown.
+              subst (λ said. CallGoesOn g.K.PartialEq.eq (g.S.Hashes.hash c.args.scheduler.now.logged.executor.hasher) name m s r.4.1.number r.4.1.map said c.loop-steps.effects.items c.step.new.effects.items
+              c.loop-steps.scheduler.logged c.step.new.self) goes
+              (subst (λ x. CallGoesOn g.K.PartialEq.eq (g.S.Hashes.hash c.args.scheduler.now.logged.executor.hasher) name m s x.0 x.1 c.in_ok-progress.progress c.loop-steps.effects.items c.step.new.effects.items
+              c.loop-steps.scheduler.logged c.step.new.self) read
+              (subst (λ h. CallGoesOn g.K.PartialEq.eq (g.S.Hashes.hash h) name m s c.way_of-number.result.0 c.way_of-number.result.1 c.in_ok-progress.progress c.loop-steps.effects.items c.step.new.effects.items
+              c.loop-steps.scheduler.logged c.step.new.self) i.3.0 (c.in_ok-progress.ensures.leads name m s (subst (λ h. IsShown g.K.PartialEq.eq (g.S.Hashes.hash h) name m c.loop-steps.scheduler.logged s) (sym i.3.0) shown))));
+          rest = refl;
+          given = c.step.ensures.given;
+        },
+      ),
     )
 
 pub unreachable-requires : goal.unreachable-requires

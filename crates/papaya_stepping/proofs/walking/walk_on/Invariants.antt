@@ -1,10 +1,10 @@
--- The walk goes over places, as many at least as it has taken steps.
+-- The walk goes over places, as many at least as it has taken steps, each of which just went on.
 use Rattle.std.specs.Prelude.{◌≡◌, ◌+◌, ℕ, List}
 use Rattle.papaya_histories.specs.Given.Executor.IsAt.{KeepsGiven}
 use Rattle.papaya_schedules.specs.Moment.{Moment}
 use Rattle.papaya_schedules.specs.Terms.{Terms}
 use Rattle.papaya_scheduler.specs.Played.{StandsAs}
-use Rattle.papaya_stepping.specs.Stepping.{IsMidWalk, ReadyAt, WalksFar}
+use Rattle.papaya_stepping.specs.Stepping.{IsMidWalk, ReadyAt, WalkedFor, WalksFar}
 use Rattle.papaya_stepping.proofs.walking.walk_on.Given as goal
 
 abbrev pub invariant-loop-steps : goal.invariant-loop-steps
@@ -13,3 +13,4 @@ invariant-loop-steps g l =
     × ((terms : Terms) (m : Moment g.row.K.Denot g.row.V.Denot) (own : List ℕ)
     → StandsAs (WalksFar own 0) g.K.PartialEq.eq (g.S.Hashes.hash l.fn.scheduler.logged.executor.hasher) terms m l.fn.scheduler → ReadyAt own l.fn.place l.fn.scheduler
     → IsMidWalk g.K.PartialEq.eq (g.S.Hashes.hash l.fn.scheduler.logged.executor.hasher) terms own l.fn.place m n l.fn.effects.items l.effects.items l.scheduler)
+    × (k : ℕ) × (l.steps ≡ k + 1) × WalkedFor g.K.PartialEq.eq (g.S.Hashes.hash l.fn.scheduler.logged.executor.hasher) l.fn.place k l.fn.effects.items l.effects.items l.fn.scheduler l.scheduler

@@ -9,4 +9,5 @@ returns g c = record {
       call_takes same hash c.args.self.now (record { executor = c.reply.new.self; notes = c.args.self.now.notes }) refl c.reply.ensures.given c.args.caller c.args.reply c.reply.result (λ v at. c.reply.ensures.leads same hash v at) name m s shown;
   taken = λ same hash s at. c.reply.ensures.leads same hash s at;
   given = c.reply.ensures.given;
+  notes = refl;
 }

@@ -1,15 +1,18 @@
 -- Each step may be taken, leads on, and leaves less to do, until the end is over.
 use Rattle.std.proofs.Common.{◌++◌, sym, ap, ◌∙◌}
 use Rattle.papaya_logged.specs.Back.{settled_back}
+use Rattle.papaya_logged.specs.Goes.{EndOn, far}
 use Rattle.papaya_logged.proofs.BroughtBack.{brings_end, end_brings_none, end_comes}
 use Rattle.papaya_logged.proofs.EndSteps.{end_is_over}
-use Rattle.papaya_logged.proofs.EndsRun.{ends_none, ends_last, still_ending, ran_goes, ending_less}
+use Rattle.papaya_logged.proofs.EndsRun.{ends_none, ends_last, ending_under, still_ending, ran_goes, ending_less}
+use Rattle.papaya_logged.proofs.Goes.{end_step, goes_more, goes_none}
 use Rattle.papaya_logged.proofs.KeptGiven.{given_none, given_on}
 use Rattle.papaya_logged.proofs.logged.Logged.run_end.Goals as goal
 
 pub loop-self-init : goal.loop-self-init
 loop-self-init g c = record {
   ran = ends_none c.args.caller c.args.map c.args.self.now c.args.effects.now.items;
+  gone = goes_none (EndOn c.args.caller c.args.map) (far c.args.effects.now.items c.args.self.now);
   given = given_none c.args.self.now.executor;
   back = end_brings_none c.args.caller c.args.map c.args.self.now c.args.effects.now.items c.args.back.now.items;
 }
@@ -27,6 +30,17 @@ returns-then-is_done-clause-ran g c =
 
 pub returns-then-is_done-clause-over : goal.returns-then-is_done-clause-over
 returns-then-is_done-clause-over g c = end_is_over _
+
+pub returns-then-is_done-clause-gone : goal.returns-then-is_done-clause-gone
+returns-then-is_done-clause-gone g c =
+    let r = c.requires in
+    let e = c.in_ok-told.ensures in (
+      far c.loop-self.effects.items c.loop-self.self,
+      c.loop-self.invariant.gone,
+      end_step c.args.self.now c.loop-self.self c.step_end.new.self c.args.effects.now.items c.loop-self.effects.items c.step_end.new.effects.items c.args.caller c.args.map c.in_ok-told.told
+          (ending_under c.args.caller c.args.map r.0 r.1 r.2 _ _ _ _ r.3 r.4 c.loop-self.invariant.ran) e.did e.noted c.step_end.ensures.given e.steps,
+      sym c.is_done.ensures ∙ c.if-is_done.true,
+    )
 
 pub returns-then-is_done-clause-given : goal.returns-then-is_done-clause-given
 returns-then-is_done-clause-given g c = given_on c.args.self.now.executor c.loop-self.self.executor c.step_end.new.self.executor c.loop-self.invariant.given c.step_end.ensures.given
@@ -53,6 +67,11 @@ loop-self-preserved g c =
     let e = c.in_ok-told.ensures in
     record {
       ran = ran_goes c.args.caller c.args.map r.0 r.1 r.2 _ _ _ _ _ _ c.in_ok-told.told r.3 r.4 c.loop-self.invariant.ran e.leads e.steps (sym c.is_done.ensures ∙ c.if-is_done.false);
+      gone = goes_more (EndOn c.args.caller c.args.map) _ (far c.loop-self.effects.items c.loop-self.self) (far c.step_end.new.effects.items c.step_end.new.self) c.loop-self.invariant.gone (
+        end_step c.args.self.now c.loop-self.self c.step_end.new.self c.args.effects.now.items c.loop-self.effects.items c.step_end.new.effects.items c.args.caller c.args.map c.in_ok-told.told
+            (ending_under c.args.caller c.args.map r.0 r.1 r.2 _ _ _ _ r.3 r.4 c.loop-self.invariant.ran) e.did e.noted c.step_end.ensures.given e.steps,
+        sym c.is_done.ensures ∙ c.if-is_done.false,
+      );
       given = given_on c.args.self.now.executor c.loop-self.self.executor c.step_end.new.self.executor c.loop-self.invariant.given c.step_end.ensures.given;
       back = brings_end c.args.caller c.args.map c.args.self.now c.loop-self.self c.step_end.new.self _ _ _ c.in_ok-told.told c.loop-self.invariant.ran e.leads e.did _ _ _ c.loop-self.invariant.back
           (c.keep_settled.ensures ∙ ap (λ l. l ++ settled_back c.in_ok-told.told c.as_slice.result.now) c.reserve.ensures.items

@@ -3,13 +3,15 @@ use Rattle.std.specs.Prelude.{false}
 use Rattle.papaya_executor.specs.IsAt.{KeepsGiven, work_of}
 use Rattle.papaya_logged.specs.Back.{EndBringsBack}
 use Rattle.papaya_logged.specs.Ends.{EndRan}
+use Rattle.papaya_logged.specs.Goes.{EndOn, GoesTo, far}
 use Rattle.papaya_logged.proofs.EndsRun.{end_left_of}
 use Rattle.papaya_logged.proofs.logged.Logged.run_end.Given as goal
 
--- the end goes on, what it did stands in the list, what that reclaims has come back, and what the executor was given stays
+-- the end goes on by the steps that ran, what it did stands in the list, what that reclaims has come back, and what the executor was given stays
 abbrev pub invariant-loop-self : goal.invariant-loop-self
 invariant-loop-self g l = record {
   ran : EndRan l.fn.caller l.fn.map false l.fn.effects.items l.effects.items l.fn.self l.self;
+  gone : GoesTo (EndOn l.fn.caller l.fn.map) (far l.fn.effects.items l.fn.self) (far l.effects.items l.self);
   given : KeepsGiven l.fn.self.executor l.self.executor;
   back : EndBringsBack l.fn.caller l.fn.map l.fn.effects.items l.effects.items l.fn.self l.fn.back.items l.back.items;
 }

@@ -1,9 +1,11 @@
 -- Each step may be taken, leads on, and leaves less to do, until the making is over.
 use Rattle.std.proofs.Common.{length, refl, ap, sym, ◌∙◌}
+use Rattle.papaya_logged.specs.Goes.{MakingOn, far}
 use Rattle.papaya_logged.specs.Makings.{numbers_then}
 use Rattle.papaya_logged.proofs.GivenBack.{has_place, numbers_given, ran_given}
+use Rattle.papaya_logged.proofs.Goes.{goes_more, goes_none, making_step}
 use Rattle.papaya_logged.proofs.KeptGiven.{given_none, given_on, stays_so}
-use Rattle.papaya_logged.proofs.MakingsRun.{makes_none, makes_on, still_making, ran_goes, making_less}
+use Rattle.papaya_logged.proofs.MakingsRun.{makes_none, makes_on, still_making, still_under, ran_goes, making_less}
 use Rattle.papaya_logged.proofs.RootsFound.{none_found, goes_found, last_found}
 use Rattle.papaya_logged.proofs.logged.Logged.run_making.Goals as goal
 
@@ -11,6 +13,7 @@ pub loop-told-init : goal.loop-told-init
 loop-told-init g c = record {
   ran = makes_none c.args.caller c.args.map c.args.self.now c.args.effects.now.items;
   finds = none_found c.args.caller c.args.map c.args.self.now c.args.effects.now.items;
+  gone = goes_none (MakingOn c.args.caller c.args.map) (far c.args.effects.now.items c.args.self.now);
   numbers = refl;
   given = given_none c.args.self.now.executor;
 }
@@ -40,6 +43,21 @@ returns-then-is_over-clause-finds g c =
     let e = c.in_ok-told.ensures in
     last_found c.args.caller c.args.map c.args.self.now c.loop-told.self c.step_making.new.self _ _ _ c.in_ok-told.told c.loop-told.invariant.ran c.loop-told.invariant.finds e.steps e.did (sym c.is_over.ensures ∙ c.if-is_over.true)
 
+pub returns-then-is_over-clause-gone : goal.returns-then-is_over-clause-gone
+returns-then-is_over-clause-gone g c =
+    let r = c.requires in
+    let e = c.in_ok-told.ensures in (
+      far c.loop-told.effects.items c.loop-told.self,
+      c.loop-told.invariant.gone,
+      c.step_making.new.self,
+      making_step c.args.self.now c.loop-told.self c.step_making.new.self c.args.effects.now.items c.loop-told.effects.items c.step_making.new.effects.items c.args.caller c.args.map c.in_ok-told.told
+          (still_under c.args.caller c.args.map r.0 r.1 r.2 _ _ _ _ r.3 r.4 r.5 r.6 c.loop-told.invariant.ran) e.did e.noted c.step_making.ensures.given e.steps,
+      refl,
+      refl,
+      refl,
+      c.give_back.ensures,
+    )
+
 pub returns-then-is_over-clause-given : goal.returns-then-is_over-clause-given
 returns-then-is_over-clause-given g c = stays_so c.args.self.now.executor c.step_making.new.self.executor
     (given_on c.args.self.now.executor c.loop-told.self.executor c.step_making.new.self.executor c.loop-told.invariant.given c.step_making.ensures.given)
@@ -61,6 +79,11 @@ loop-told-preserved g c =
     record {
       ran = ran_goes c.args.caller c.args.map r.0 r.1 r.2 _ _ _ _ _ _ c.in_ok-told.told r.3 r.4 r.5 r.6 c.loop-told.invariant.ran e.leads e.steps (sym c.is_over.ensures ∙ c.if-is_over.false);
       finds = goes_found c.args.caller c.args.map r.0 r.1 r.2 c.args.self.now c.loop-told.self c.step_making.new.self _ _ _ c.in_ok-told.told r.3 r.4 r.5 r.6 c.loop-told.invariant.ran c.loop-told.invariant.finds e.steps e.did (sym c.is_over.ensures ∙ c.if-is_over.false);
+      gone = goes_more (MakingOn c.args.caller c.args.map) _ (far c.loop-told.effects.items c.loop-told.self) (far c.step_making.new.effects.items c.step_making.new.self) c.loop-told.invariant.gone (
+        making_step c.args.self.now c.loop-told.self c.step_making.new.self c.args.effects.now.items c.loop-told.effects.items c.step_making.new.effects.items c.args.caller c.args.map c.in_ok-told.told
+            (still_under c.args.caller c.args.map r.0 r.1 r.2 _ _ _ _ r.3 r.4 r.5 r.6 c.loop-told.invariant.ran) e.did e.noted c.step_making.ensures.given e.steps,
+        sym c.is_over.ensures ∙ c.if-is_over.false,
+      );
       numbers = e.numbers ∙ c.loop-told.invariant.numbers;
       given = given_on c.args.self.now.executor c.loop-told.self.executor c.step_making.new.self.executor c.loop-told.invariant.given c.step_making.ensures.given;
     }

@@ -2,16 +2,18 @@
 use Rattle.std.specs.Prelude.{◌≡◌, length}
 use Rattle.seize.specs.declared.progress.Progress.TheVariants as progress
 use Rattle.papaya_executor.specs.IsAt.{KeepsGiven, work_of}
+use Rattle.papaya_logged.specs.Goes.{GoesTo, MakingOn, far}
 use Rattle.papaya_logged.specs.Makings.{MakingRan}
 use Rattle.papaya_logged.proofs.MakingsRun.{making_left_of}
 use Rattle.papaya_logged.proofs.RootsFound.{MakingFindsSoFar}
 use Rattle.papaya_logged.proofs.logged.Logged.run_making.Given as goal
 
--- the making goes on, what it did stands in the list, there are as many numbers, and what the executor was given stays
+-- the making goes on by the steps that ran, what it did stands in the list, there are as many numbers, and what the executor was given stays
 abbrev pub invariant-loop-told : goal.invariant-loop-told
 invariant-loop-told g l = record {
   ran : MakingRan l.fn.caller l.fn.map progress.Goes l.fn.effects.items l.effects.items l.fn.self l.self;
   finds : MakingFindsSoFar l.fn.caller l.fn.map l.fn.effects.items l.effects.items l.fn.self l.self;
+  gone : GoesTo (MakingOn l.fn.caller l.fn.map) (far l.fn.effects.items l.fn.self) (far l.effects.items l.self);
   numbers : length l.self.executor.maps.items ≡ length l.fn.self.executor.maps.items;
   given : KeepsGiven l.fn.self.executor l.self.executor;
 }

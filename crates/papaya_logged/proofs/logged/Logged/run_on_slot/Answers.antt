@@ -2,7 +2,9 @@
 use Rattle.std.proofs.Common.{◌++◌, refl, suc, sym, ap, ◌∙◌}
 use Rattle.papaya_effects.specs.Known.{known}
 use Rattle.papaya_logged.specs.Back.{row_back}
+use Rattle.papaya_logged.specs.Goes.{RowGoes, far}
 use Rattle.papaya_logged.proofs.BroughtBack.{brings_none, brings_row, row_comes}
+use Rattle.papaya_logged.proofs.Goes.{goes_none, row_more}
 use Rattle.papaya_logged.proofs.KeptGiven.{given_none, given_on}
 use Rattle.papaya_logged.proofs.Runs.{ends_at_first, ends_now, ran_none, ran_on, run_goes, still_there}
 use Rattle.papaya_logged.proofs.logged.Logged.run_on_slot.Goals as goal
@@ -11,6 +13,7 @@ pub loop-self-init : goal.loop-self-init
 loop-self-init g c = record {
   ran = ran_none c.args.self.now c.args.effects.now.items;
   goes = (0, refl);
+  gone = goes_none (RowGoes c.args.caller) (far c.args.effects.now.items c.args.self.now);
   used = ends_at_first c.args.caller c.args.self.now;
   under = (c.requires.4, c.requires.5);
   given = given_none c.args.self.now.executor;
@@ -34,6 +37,12 @@ returns-then-has_come-clause-comes g c =
 
 pub returns-then-has_come-clause-last : goal.returns-then-has_come-clause-last
 returns-then-has_come-clause-last g c = (c.loop-self.self.executor, c.loop-self.invariant.goes.0, c.loop-self.invariant.goes.1, c.in_ok-told.ensures.steps)
+
+pub returns-then-has_come-clause-goes : goal.returns-then-has_come-clause-goes
+returns-then-has_come-clause-goes g c =
+    let e = c.in_ok-told.ensures in
+    row_more c.args.self.now c.loop-self.self c.step_on_slot.new.self c.args.effects.now.items c.loop-self.effects.items c.step_on_slot.new.effects.items c.args.caller c.in_ok-told.told
+    c.loop-self.invariant.under c.loop-self.invariant.gone e.did e.noted c.step_on_slot.ensures.given e.steps
 
 pub returns-then-has_come-clause-used : goal.returns-then-has_come-clause-used
 returns-then-has_come-clause-used g c =
@@ -81,6 +90,8 @@ loop-self-preserved g c =
     record {
       ran = on.ran;
       goes = (suc i.goes.0, (c.loop-self.self.executor, c.in_ok-told.told, i.goes.1, sym c.has_come.ensures ∙ c.if-has_come.false, e.steps));
+      gone = row_more c.args.self.now c.loop-self.self c.step_on_slot.new.self c.args.effects.now.items c.loop-self.effects.items c.step_on_slot.new.effects.items c.args.caller c.in_ok-told.told
+          i.under i.gone e.did e.noted c.step_on_slot.ensures.given e.steps;
       used = on.used;
       under = on.under;
       given = given_on c.args.self.now.executor c.loop-self.self.executor c.step_on_slot.new.self.executor c.loop-self.invariant.given c.step_on_slot.ensures.given;

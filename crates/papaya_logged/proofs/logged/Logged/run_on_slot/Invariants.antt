@@ -4,16 +4,18 @@ use Rattle.papaya_executor.specs.IsAt.{KeepsGiven, work_of}
 use Rattle.papaya_executor.specs.declared.row.SlotRow.{SlotRow}
 use Rattle.papaya_executor.specs.declared.worker.Work.TheVariants.{OnSlot}
 use Rattle.papaya_logged.specs.Back.{BringsBack}
+use Rattle.papaya_logged.specs.Goes.{GoesTo, RowGoes, far}
 use Rattle.papaya_logged.specs.OnSlots.{GoesOnFor, OnSlotRan}
 use Rattle.papaya_logged.proofs.RowsFall.{steps_left_of}
 use Rattle.papaya_logged.proofs.Runs.{EndsAs}
 use Rattle.papaya_logged.proofs.logged.Logged.run_on_slot.Given as goal
 
--- the row is under way, what it did stands in the list, what that reclaims has come back, and what the executor was given stays
+-- the row is under way by the steps that ran, what it did stands in the list, what that reclaims has come back, and what the executor was given stays
 abbrev pub invariant-loop-self : goal.invariant-loop-self
 invariant-loop-self g l = record {
   ran : OnSlotRan l.fn.effects.items l.effects.items l.fn.self l.self;
   goes : (n : ℕ) × GoesOnFor l.fn.caller n l.fn.self.executor l.self.executor;
+  gone : GoesTo (RowGoes l.fn.caller) (far l.fn.effects.items l.fn.self) (far l.effects.items l.self);
   used : EndsAs l.fn.self l.self l.fn.caller;
   under : (row : SlotRow) × (work_of l.self.executor l.fn.caller ≡ Some (OnSlot row));
   given : KeepsGiven l.fn.self.executor l.self.executor;

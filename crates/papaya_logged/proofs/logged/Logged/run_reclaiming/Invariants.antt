@@ -1,13 +1,15 @@
 -- What a run keeps from step to step, and that the steps are counted.
 use Rattle.papaya_executor.specs.IsAt.{KeepsGiven}
+use Rattle.papaya_logged.specs.Goes.{GoesTo, ReclaimingOn, far}
 use Rattle.papaya_logged.specs.Reclaims.{ReclaimingSoFar}
 use Rattle.papaya_logged.proofs.ReclaimBack.{BroughtSoFar}
 use Rattle.papaya_logged.proofs.logged.Logged.run_reclaiming.Given as goal
 
--- it goes on, what it did stands in the list, what that reclaims has come back, and what the executor was given stays
+-- it goes on by the steps that ran, what it did stands in the list, what that reclaims has come back, and what the executor was given stays
 abbrev pub invariant-loop-left : goal.invariant-loop-left
 invariant-loop-left g l = record {
   so_far : ReclaimingSoFar l.initial.reclaiming.all l.reclaiming.all l.fn.effects.items l.effects.items l.fn.self l.self;
+  gone : GoesTo ReclaimingOn (far l.fn.effects.items l.fn.self, l.initial.reclaiming.all) (far l.effects.items l.self, l.reclaiming.all);
   given : KeepsGiven l.fn.self.executor l.self.executor;
   back : BroughtSoFar l.initial.reclaiming.all l.fn.effects.items l.effects.items l.fn.self l.fn.back.items l.back.items;
 }

@@ -1,6 +1,6 @@
 -- A step of a row on a slot.
 use Rattle.std.proofs.Common.{◌++◌, sym, ap, subst, ◌∙◌}
-use Rattle.papaya_effects.specs.Effects.{effects_of}
+use Rattle.papaya_effects.specs.Effects.{effects_of, known_after}
 use Rattle.papaya_effects.specs.Known.{known}
 use Rattle.papaya_effects.specs.declared.acting.Acting.TheVariants.{Row}
 use Rattle.papaya_executor.specs.OnSlots.{RowLeads}
@@ -23,6 +23,11 @@ pub returns-clause-did : goal.returns-clause-did
 returns-clause-did g c =
     c.in_ok-note.ensures.did
     ∙ ap (λ (e : Executor _ _ _). c.args.effects.now.items ++ effects_of Row (known c.args.self.now.notes) e.memory.changed) (sym c.note.ensures.executor)
+
+pub returns-clause-noted : goal.returns-clause-noted
+returns-clause-noted g c =
+    c.in_ok-note.ensures.known
+    ∙ ap (λ (e : Executor _ _ _). known_after Row e.memory.changed (known c.args.self.now.notes)) (sym c.note.ensures.executor)
 
 pub returns-in_err-note-clause-given : goal.returns-in_err-note-clause-given
 returns-in_err-note-clause-given g c = given_noted c.args.self.now.executor c.step_on_slot-told.new.self c.note.new.self.executor c.step_on_slot-told.ensures.given c.note.ensures.executor

@@ -2,6 +2,7 @@
 use Rattle.std.proofs.Common.{[]}
 use Rattle.papaya_schedules.specs.declared.event.Event.TheVariants.{Choose}
 use Rattle.papaya_schedules.specs.declared.outcome.Outcome.TheVariants.{Done}
+use Rattle.papaya_scheduler.proofs.Busy.{none_quiet}
 use Rattle.papaya_scheduler.proofs.Chosen.{choice_plays}
 use Rattle.papaya_scheduler.proofs.Rights.{so_played}
 use Rattle.papaya_scheduler.proofs.scheduler.Scheduler.choose.Goals as goal
@@ -11,3 +12,6 @@ returns-clause-plays g c =
     λ same hash terms log due.
     so_played same hash terms log (record c.args.self.now { logged = c.choose.new.self }) (Choose c.args.choice) c.quietly.result Done 0 [] c.quietly.ensures.outcome c.quietly.ensures.steps
     c.quietly.ensures.effects (choice_plays same hash terms log c.args.self.now c.args.choice due c.choose.new.self c.in_ok-choose.ensures.chosen)
+
+pub returns-clause-quiet : goal.returns-clause-quiet
+returns-clause-quiet g c = none_quiet c.quietly.result.outcome c.quietly.result.effects.items c.quietly.ensures.effects

@@ -1,14 +1,16 @@
 -- A guard ends.
-use Rattle.std.proofs.Common.{[], sym, ap, subst, ◌∙◌}
+use Rattle.std.proofs.Common.{[], refl, sym, ap, subst, ◌∙◌}
 use Rattle.seize_words.specs.declared.fault.Fault.TheVariants.{Busy}
 use Rattle.papaya_schedules.specs.declared.event.Event.TheVariants.{DropGuard}
 use Rattle.papaya_schedules.specs.declared.outcome.Outcome.TheVariants.{Refused}
 use Rattle.papaya_executor.specs.OnSlots.{MayBegin}
 use Rattle.papaya_executor.specs.declared.row.SlotCall.{SlotCall}
+use Rattle.papaya_scheduler.proofs.Busy.{none_quiet}
 use Rattle.papaya_scheduler.proofs.Backs.{came_as, none_came, stayed_as}
 use Rattle.papaya_scheduler.proofs.Drops.{not_free, may_leave, its_fits, joined, joined_alone}
 use Rattle.papaya_scheduler.proofs.KeptGiven.{given_as, given_still}
 use Rattle.papaya_scheduler.proofs.Rights.{so_played}
+use Rattle.papaya_scheduler.proofs.Works.{did_none, did_refuse, did_row}
 use Rattle.papaya_scheduler.proofs.scheduler.Scheduler.drop_guard.Goals as goal
 use Rattle.papaya_scheduler.proofs.scheduler.Scheduler.drop_guard.Goals.{then-guards_on-eq1+in_ok-do_row, else-guards_on-eq1}
 
@@ -63,4 +65,26 @@ returns-clause-back g c =
           c.no_effects-effects.ensures w.do_row.new.back.items c.if-guards_on-eq1.back.items (ap (λ v. v.items) w.back-is) w.in_ok-do_row.ensures.back
       | else-guards_on-eq1 w ↦
           stayed_as _ c.if-guards_on-eq1.effects.items c.args.back.now.items c.if-guards_on-eq1.back.items (ap (λ v. v.items) w.effects-is ∙ c.no_effects-effects.ensures) (ap (λ v. v.items) w.back-is)
+    ]
+
+pub returns-in_default-clause-quiet : goal.returns-in_default-clause-quiet
+returns-in_default-clause-quiet g c = none_quiet c.busy.result.outcome c.busy.result.effects.items c.busy.ensures.effects
+
+pub returns-clause-quiet : goal.returns-clause-quiet
+returns-clause-quiet g c = tt
+
+pub returns-in_default-clause-works : goal.returns-in_default-clause-works
+returns-in_default-clause-works g c = did_refuse (DropGuard c.args.guard.now) c.args.self.now c.busy.result Busy c.busy.ensures.outcome c.busy.ensures.effects
+
+pub returns-clause-works : goal.returns-clause-works
+returns-clause-works g c =
+    let free = sym c.slot_of_free.ensures ∙ c.in-Some.is in
+    elim c.if-guards_on-eq1.branch [
+      | then-guards_on-eq1+in_ok-do_row w ↦
+          did_row (DropGuard c.args.guard.now) c.args.self.now _ c.in-Some.slot free _ (ap (λ p. p.calls) (w.self-is ∙ w.do_row.ensures.rest)) w.leaves_as-called.result
+          (w.leaves_as-called.ensures, sym c.guards_on.ensures ∙ w.if-guards_on-eq1.true) c.no_effects-effects.result.items w.do_row.new.effects.items c.no_effects-effects.ensures
+          (ap (λ v. v.items) w.effects-is) w.do_row.new.self.logged (ap (λ p. p.logged) w.self-is) (λ said. refl) w.in_ok-do_row.ensures.ran
+      | else-guards_on-eq1 w ↦
+          did_none (DropGuard c.args.guard.now) c.args.self.now _ c.in-Some.slot free _ (ap (λ p. p.calls) w.self-is) refl (λ z. w.if-guards_on-eq1.false (c.guards_on.ensures ∙ z))
+          (ap (λ v. v.items) w.effects-is ∙ c.no_effects-effects.ensures) (ap (λ p. p.logged) w.self-is)
     ]

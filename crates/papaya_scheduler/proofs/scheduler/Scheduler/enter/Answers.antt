@@ -1,13 +1,16 @@
 -- A guard enters.
-use Rattle.std.proofs.Common.{[], sym, ap, ◌∙◌, arith}
+use Rattle.std.proofs.Common.{[], refl, sym, ap, ◌∙◌, arith}
 use Rattle.std.proofs.lemmas.Bool.{lt-ltb}
 use Rattle.seize_words.specs.declared.fault.Fault.TheVariants.{Busy, GuardsFull}
 use Rattle.papaya_schedules.specs.declared.event.Event.TheVariants.{Enter}
 use Rattle.papaya_schedules.specs.declared.outcome.Outcome.TheVariants.{Refused}
+use Rattle.papaya_scheduler.proofs.Busy.{none_quiet}
 use Rattle.papaya_scheduler.proofs.Backs.{came_as, none_came, stayed_as}
 use Rattle.papaya_scheduler.proofs.Enters.{guard_there, no_registration, full, may_enter, fits, joined, joined_first}
 use Rattle.papaya_scheduler.proofs.KeptGiven.{given_as, given_still}
 use Rattle.papaya_scheduler.proofs.Rights.{so_played}
+use Rattle.papaya_executor.specs.declared.row.SlotCall.TheVariants as call
+use Rattle.papaya_scheduler.proofs.Works.{did_none, did_refuse, did_row}
 use Rattle.papaya_scheduler.proofs.scheduler.Scheduler.enter.Goals.{then-guards-eq0+in_ok-do_row, else-guards-eq0}
 use Rattle.papaya_scheduler.proofs.scheduler.Scheduler.enter.Goals as goal
 
@@ -92,4 +95,38 @@ returns-clause-back g c =
           c.no_effects-effects.ensures w.do_row.new.back.items c.if-guards-eq0.back.items (ap (λ v. v.items) w.back-is) w.in_ok-do_row.ensures.back
       | else-guards-eq0 w ↦
           stayed_as _ c.if-guards-eq0.effects.items c.args.back.now.items c.if-guards-eq0.back.items (ap (λ v. v.items) w.effects-is ∙ c.no_effects-effects.ensures) (ap (λ v. v.items) w.back-is)
+    ]
+
+pub returns-then-has_guard-clause-quiet : goal.returns-then-has_guard-clause-quiet
+returns-then-has_guard-clause-quiet g c = none_quiet c.busy.result.outcome c.busy.result.effects.items c.busy.ensures.effects
+
+pub returns-in_default-clause-quiet : goal.returns-in_default-clause-quiet
+returns-in_default-clause-quiet g c = none_quiet c.busy-in_default.result.outcome c.busy-in_default.result.effects.items c.busy-in_default.ensures.effects
+
+pub returns-then-guards-ge-MOST_GUARDS-clause-quiet : goal.returns-then-guards-ge-MOST_GUARDS-clause-quiet
+returns-then-guards-ge-MOST_GUARDS-clause-quiet g c = none_quiet c.quietly.result.outcome c.quietly.result.effects.items c.quietly.ensures.effects
+
+pub returns-clause-quiet : goal.returns-clause-quiet
+returns-clause-quiet g c = tt
+
+pub returns-then-has_guard-clause-works : goal.returns-then-has_guard-clause-works
+returns-then-has_guard-clause-works g c = did_refuse (Enter c.args.guard c.args.registration.now) c.args.self.now c.busy.result Busy c.busy.ensures.outcome c.busy.ensures.effects
+
+pub returns-in_default-clause-works : goal.returns-in_default-clause-works
+returns-in_default-clause-works g c = did_refuse (Enter c.args.guard c.args.registration.now) c.args.self.now c.busy-in_default.result Busy c.busy-in_default.ensures.outcome c.busy-in_default.ensures.effects
+
+pub returns-then-guards-ge-MOST_GUARDS-clause-works : goal.returns-then-guards-ge-MOST_GUARDS-clause-works
+returns-then-guards-ge-MOST_GUARDS-clause-works g c = did_refuse (Enter c.args.guard c.args.registration.now) c.args.self.now c.quietly.result GuardsFull c.quietly.ensures.outcome c.quietly.ensures.effects
+
+pub returns-clause-works : goal.returns-clause-works
+returns-clause-works g c =
+    let about = (sym c.has_guard.ensures ∙ c.if-has_guard.false, sym c.slot_of_registration.ensures ∙ c.in-Some.is) in
+    elim c.if-guards-eq0.branch [
+      | then-guards-eq0+in_ok-do_row w ↦
+          did_row (Enter c.args.guard c.args.registration.now) c.args.self.now _ c.in-Some.slot about _ (ap (λ p. p.calls) (w.self-is ∙ w.do_row.ensures.rest)) call.Enter
+          (refl, sym c.guards_on-guards.ensures ∙ w.if-guards-eq0.true) c.no_effects-effects.result.items w.do_row.new.effects.items c.no_effects-effects.ensures (ap (λ v. v.items) w.effects-is)
+          w.do_row.new.self.logged (ap (λ p. p.logged) w.self-is) (λ said. refl) w.in_ok-do_row.ensures.ran
+      | else-guards-eq0 w ↦
+          did_none (Enter c.args.guard c.args.registration.now) c.args.self.now _ c.in-Some.slot about _ (ap (λ p. p.calls) w.self-is) refl (λ z. w.if-guards-eq0.false (c.guards_on-guards.ensures ∙ z))
+          (ap (λ v. v.items) w.effects-is ∙ c.no_effects-effects.ensures) (ap (λ p. p.logged) w.self-is)
     ]

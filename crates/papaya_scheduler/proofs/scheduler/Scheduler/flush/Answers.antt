@@ -1,13 +1,16 @@
 -- The batch of a guard's slot is tried.
-use Rattle.std.proofs.Common.{[], sym, ◌∙◌}
+use Rattle.std.proofs.Common.{[], refl, sym, ap, ◌∙◌}
 use Rattle.seize_words.specs.declared.fault.Fault.TheVariants.{Busy}
 use Rattle.papaya_schedules.specs.declared.event.Event.TheVariants.{Flush}
 use Rattle.papaya_schedules.specs.After.{moment}
 use Rattle.papaya_schedules.specs.declared.outcome.Outcome.TheVariants.{Refused}
+use Rattle.papaya_scheduler.proofs.Busy.{none_quiet}
 use Rattle.papaya_scheduler.proofs.Backs.{came, none_came}
 use Rattle.papaya_scheduler.proofs.Flushes.{not_living, its_word, is_held_now, may_flush, its_fits, has_run}
 use Rattle.papaya_scheduler.proofs.HeldTold.{held_is_told}
 use Rattle.papaya_scheduler.proofs.Rights.{so_played}
+use Rattle.papaya_executor.specs.declared.row.SlotCall.TheVariants as call
+use Rattle.papaya_scheduler.proofs.Works.{did_refuse, did_row}
 use Rattle.papaya_scheduler.proofs.scheduler.Scheduler.flush.Goals as goal
 
 pub returns-in_default-clause-plays : goal.returns-in_default-clause-plays
@@ -54,3 +57,24 @@ returns-then-is_held-clause-back g c = λ same hash terms log due. none_came _ c
 pub returns-clause-back : goal.returns-clause-back
 returns-clause-back g c = λ same hash terms log due.
     came same hash terms log (Flush c.args.guard.now) c.args.self.now due c.args.back.now.items c.no_effects-effects.result.items c.do_row.new.effects.items c.no_effects-effects.ensures c.do_row.new.back.items c.in_ok-do_row.ensures.back
+
+pub returns-in_default-clause-quiet : goal.returns-in_default-clause-quiet
+returns-in_default-clause-quiet g c = none_quiet c.busy.result.outcome c.busy.result.effects.items c.busy.ensures.effects
+
+pub returns-then-is_held-clause-quiet : goal.returns-then-is_held-clause-quiet
+returns-then-is_held-clause-quiet g c = none_quiet c.busy-then-is_held.result.outcome c.busy-then-is_held.result.effects.items c.busy-then-is_held.ensures.effects
+
+pub returns-clause-quiet : goal.returns-clause-quiet
+returns-clause-quiet g c = tt
+
+pub returns-in_default-clause-works : goal.returns-in_default-clause-works
+returns-in_default-clause-works g c = did_refuse (Flush c.args.guard.now) c.args.self.now c.busy.result Busy c.busy.ensures.outcome c.busy.ensures.effects
+
+pub returns-then-is_held-clause-works : goal.returns-then-is_held-clause-works
+returns-then-is_held-clause-works g c = did_refuse (Flush c.args.guard.now) c.args.self.now c.busy-then-is_held.result Busy c.busy-then-is_held.ensures.outcome c.busy-then-is_held.ensures.effects
+
+pub returns-clause-works : goal.returns-clause-works
+returns-clause-works g c =
+    did_row (Flush c.args.guard.now) c.args.self.now _ c.in-Some.slot (sym c.slot_of_living.ensures ∙ c.in-Some.is) c.do_row.new.self (ap (λ p. p.calls) c.do_row.ensures.rest) call.Flush
+    (refl, λ word is. sym c.if-is_held.false ∙ c.is_held.ensures word is)
+    c.no_effects-effects.result.items c.do_row.new.effects.items c.no_effects-effects.ensures refl c.do_row.new.self.logged refl (λ said. refl) c.in_ok-do_row.ensures.ran

@@ -4,6 +4,7 @@ use Rattle.std.proofs.Common.{sym, ap, ◌∙◌}
 use Rattle.seize_words.specs.declared.fault.Fault.TheVariants.{Busy}
 use Rattle.papaya_schedules.specs.declared.event.Event.TheVariants.{Forget}
 use Rattle.papaya_schedules.specs.declared.outcome.Outcome.TheVariants.{Done, Refused}
+use Rattle.papaya_scheduler.proofs.Busy.{none_quiet}
 use Rattle.papaya_scheduler.proofs.Seats.{not_forgotten, forgotten}
 use Rattle.papaya_scheduler.proofs.Rights.{so_played}
 use Rattle.papaya_scheduler.proofs.scheduler.Scheduler.forget.Goals as goal
@@ -19,3 +20,9 @@ returns-clause-plays g c =
     λ same hash terms log due.
     so_played same hash terms log (record c.args.self.now { there = c.forget.new.self }) (Forget c.args.guard.now) c.quietly.result Done 0 [] c.quietly.ensures.outcome c.quietly.ensures.steps c.quietly.ensures.effects
     (forgotten same hash terms log c.args.self.now c.args.guard.now due (sym (ap is_some c.slot_of_free.ensures) ∙ c.if-is_none.ensures) c.forget.new.self c.forget.ensures)
+
+pub returns-then-is_none-clause-quiet : goal.returns-then-is_none-clause-quiet
+returns-then-is_none-clause-quiet g c = none_quiet c.busy.result.outcome c.busy.result.effects.items c.busy.ensures.effects
+
+pub returns-clause-quiet : goal.returns-clause-quiet
+returns-clause-quiet g c = none_quiet c.quietly.result.outcome c.quietly.result.effects.items c.quietly.ensures.effects

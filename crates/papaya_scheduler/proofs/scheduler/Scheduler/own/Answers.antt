@@ -1,11 +1,16 @@
 -- A guard that owns its slot.
-use Rattle.std.proofs.Common.{[], sym, ◌∙◌}
+use Rattle.std.proofs.Common.{true, [], refl, sym, ap, ◌∙◌}
 use Rattle.seize_words.specs.declared.fault.Fault.TheVariants.{Busy}
 use Rattle.papaya_schedules.specs.declared.event.Event.TheVariants.{Own}
 use Rattle.papaya_schedules.specs.declared.outcome.Outcome.TheVariants.{Refused}
+use Rattle.papaya_scheduler.proofs.Busy.{none_quiet}
 use Rattle.papaya_scheduler.proofs.Backs.{came, none_came}
-use Rattle.papaya_scheduler.proofs.Owns.{joined_refused, joined_slot, name_taken}
+use Rattle.papaya_scheduler.proofs.Owns.{joined_refused, joined_slot, name_taken, refused_quiet}
 use Rattle.papaya_scheduler.proofs.Rights.{so_played}
+use Rattle.papaya_executor.specs.declared.row.SlotCall.TheVariants as call
+use Rattle.papaya_rows.specs.Taking.{told_as}
+use Rattle.papaya_scheduler.specs.Works.{told_so}
+use Rattle.papaya_scheduler.proofs.Works.{did_refuse, did_told}
 use Rattle.papaya_scheduler.proofs.scheduler.Scheduler.own.Goals as goal
 
 pub returns-then-has_guard-clause-plays : goal.returns-then-has_guard-clause-plays
@@ -40,3 +45,30 @@ returns-in-Err-clause-back g c = λ same hash terms log due.
 pub returns-in_ok-enter-in-Ok-clause-back : goal.returns-in_ok-enter-in-Ok-clause-back
 returns-in_ok-enter-in-Ok-clause-back g c = λ same hash terms log due.
     came same hash terms log (Own c.args.guard) c.args.self.now due c.args.back.now.items c.no_effects-effects.result.items c.take_slot.new.effects.items c.no_effects-effects.ensures c.take_slot.new.back.items c.in_ok-taken.ensures.back
+
+pub returns-then-has_guard-clause-quiet : goal.returns-then-has_guard-clause-quiet
+returns-then-has_guard-clause-quiet g c = none_quiet c.busy.result.outcome c.busy.result.effects.items c.busy.ensures.effects
+
+pub returns-in_ok-enter-in-Ok-clause-quiet : goal.returns-in_ok-enter-in-Ok-clause-quiet
+returns-in_ok-enter-in-Ok-clause-quiet g c = tt
+
+pub returns-in-Err-clause-quiet : goal.returns-in-Err-clause-quiet
+returns-in-Err-clause-quiet g c =
+    let r = c.requires in
+    refused_quiet r.0 r.1 r.2.0 r.2.1 c.args.self.now c.args.guard r.2.2 (sym c.has_guard.ensures ∙ c.if-has_guard.false) c.take_slot.new.self c.take_slot.ensures.rest
+    c.no_effects-effects.result.items c.take_slot.new.effects.items c.no_effects-effects.ensures c.in_ok-taken.taken c.in_ok-taken.ensures.taken c.in-Err.fault c.in-Err.is
+
+pub returns-then-has_guard-clause-works : goal.returns-then-has_guard-clause-works
+returns-then-has_guard-clause-works g c = did_refuse (Own c.args.guard) c.args.self.now c.busy.result Busy c.busy.ensures.outcome c.busy.ensures.effects
+
+pub returns-in-Err-clause-works : goal.returns-in-Err-clause-works
+returns-in-Err-clause-works g c =
+    did_told (Own c.args.guard) c.args.self.now _ 0 (refl, sym c.has_guard.ensures ∙ c.if-has_guard.false) c.take_slot.new.self (ap (λ p. p.calls) c.take_slot.ensures.rest) (call.Register true) refl
+    c.no_effects-effects.result.items c.take_slot.new.effects.items c.no_effects-effects.ensures refl c.take_slot.new.self.logged refl (told_as c.in_ok-taken.taken)
+    (sym (ap (λ r. told_so (told_as r)) c.in-Err.is)) c.in_ok-taken.ensures.taken
+
+pub returns-in_ok-enter-in-Ok-clause-works : goal.returns-in_ok-enter-in-Ok-clause-works
+returns-in_ok-enter-in-Ok-clause-works g c =
+    did_told (Own c.args.guard) c.args.self.now _ 0 (refl, sym c.has_guard.ensures ∙ c.if-has_guard.false) _ (ap (λ p. p.calls) c.take_slot.ensures.rest) (call.Register true) refl
+    c.no_effects-effects.result.items c.take_slot.new.effects.items c.no_effects-effects.ensures refl c.take_slot.new.self.logged refl (told_as c.in_ok-taken.taken)
+    (sym (ap (λ r. told_so (told_as r)) c.in-Ok.is)) c.in_ok-taken.ensures.taken

@@ -4,6 +4,7 @@ use Rattle.seize_words.specs.declared.fault.Fault.TheVariants.{Busy}
 use Rattle.papaya_schedules.specs.After.{moment}
 use Rattle.papaya_schedules.specs.declared.event.Event.TheVariants.{Replied}
 use Rattle.papaya_schedules.specs.declared.outcome.Outcome.TheVariants.{Goes, Refused}
+use Rattle.papaya_scheduler.proofs.Busy.{none_quiet}
 use Rattle.papaya_scheduler.proofs.Here.{here_at, read_here}
 use Rattle.papaya_scheduler.proofs.Replied.{nobody, takes_none}
 use Rattle.papaya_scheduler.proofs.RepliedSo.{call_there, is_taken, goes_on}
@@ -56,3 +57,46 @@ returns-clause-plays g c =
     (sym c.takes.ensures ∙ c.if-not-takes.false) c.index-2.result.now c.index-2.ensures c.told_by-told.result.0 (ap (λ t. t.0) c.told_by-told.ensures) c.reply.result c.reply.new.self
     (c.reply.ensures.taken same hash due.played.scene due.played.shown.is_at) (c.reply.ensures.leads same hash due.played.name (moment log) due.played.scene due.played.shown)
     c.told_by-told.result.1 c.resume.new.self (λ d at. c.resume.ensures d at))
+
+pub returns-in_default-clause-quiet : goal.returns-in_default-clause-quiet
+returns-in_default-clause-quiet g c = none_quiet c.busy.result.outcome c.busy.result.effects.items c.busy.ensures.effects
+
+pub returns-then-not-takes-clause-quiet : goal.returns-then-not-takes-clause-quiet
+returns-then-not-takes-clause-quiet g c = none_quiet c.busy-then-not-takes.result.outcome c.busy-then-not-takes.result.effects.items c.busy-then-not-takes.ensures.effects
+
+pub returns-then-is_err-clause-quiet : goal.returns-then-is_err-clause-quiet
+returns-then-is_err-clause-quiet g c = none_quiet c.busy-then-is_err.result.outcome c.busy-then-is_err.result.effects.items c.busy-then-is_err.ensures.effects
+
+pub returns-clause-quiet : goal.returns-clause-quiet
+returns-clause-quiet g c = none_quiet c.quietly.result.outcome c.quietly.result.effects.items c.quietly.ensures.effects
+
+pub returns-in_default-clause-told : goal.returns-in_default-clause-told
+returns-in_default-clause-told g c = λ same hash is. absurd (let busy = sym is ∙ c.busy.ensures.outcome in cc busy)
+
+pub returns-then-not-takes-clause-told : goal.returns-then-not-takes-clause-told
+returns-then-not-takes-clause-told g c = λ same hash is. absurd (let busy = sym is ∙ c.busy-then-not-takes.ensures.outcome in cc busy)
+
+pub returns-then-is_err-clause-told : goal.returns-then-is_err-clause-told
+returns-then-is_err-clause-told g c = λ same hash is. absurd (let busy = sym is ∙ c.busy-then-is_err.ensures.outcome in cc busy)
+
+pub returns-clause-told : goal.returns-clause-told
+returns-clause-told g c = λ same hash is. (
+  record {
+    place = c.in-Some.place;
+    placed = sym c.in-Some.is ∙ c.place_of.ensures;
+    asked = c.index.result.now;
+    reads = c.index.ensures;
+    taken = sym c.takes.ensures ∙ c.if-not-takes.false;
+    whose = c.index-2.result.now;
+    reads_whose = c.index-2.ensures;
+    as_it = c.told_by-told.result.0;
+    is_told = ap (λ t. t.0) c.told_by-told.ensures;
+    result = c.reply.result;
+    plain = sym c.is_err.ensures.value ∙ c.if-is_err.false;
+    leads = λ s at. c.reply.ensures.taken same hash s at;
+    value = c.told_by-told.result.1;
+    calls = λ d at. c.resume.ensures d at;
+    notes = c.reply.ensures.notes;
+  },
+  c.quietly.ensures.effects,
+)

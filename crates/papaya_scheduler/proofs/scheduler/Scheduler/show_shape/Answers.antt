@@ -3,6 +3,7 @@ use Rattle.std.proofs.Common.{[], sym, ◌∙◌}
 use Rattle.seize_words.specs.declared.fault.Fault.TheVariants.{Busy}
 use Rattle.papaya_schedules.specs.declared.event.Event.TheVariants.{ShowShape}
 use Rattle.papaya_schedules.specs.declared.outcome.Outcome.TheVariants.{Refused, Shape}
+use Rattle.papaya_scheduler.proofs.Busy.{none_quiet}
 use Rattle.papaya_scheduler.proofs.ShapesHere.{not_there, shapes_are, shown, stands_there}
 use Rattle.papaya_scheduler.proofs.Rights.{so_played}
 use Rattle.papaya_scheduler.proofs.scheduler.Scheduler.show_shape.Goals as goal
@@ -28,3 +29,9 @@ returns-in_ok-shapes-in-Some-clause-plays g c =
     ∙ sym (shapes_are same hash terms log c.args.self.now own due.played _ c.in-Some.setting is) in
     so_played same hash terms log c.args.self.now (ShowShape own) c.quietly.result (Shape c.in_ok-shapes-in-Some.shapes) 0 [] c.quietly.ensures.outcome c.quietly.ensures.steps c.quietly.ensures.effects
     (shown same hash terms log c.args.self.now own due _ c.in-Some.setting is (Shape c.in_ok-shapes-in-Some.shapes) shaped)
+
+pub returns-in-None-clause-quiet : goal.returns-in-None-clause-quiet
+returns-in-None-clause-quiet g c = none_quiet c.busy.result.outcome c.busy.result.effects.items c.busy.ensures.effects
+
+pub returns-in_ok-shapes-in-Some-clause-quiet : goal.returns-in_ok-shapes-in-Some-clause-quiet
+returns-in_ok-shapes-in-Some-clause-quiet g c = none_quiet c.quietly.result.outcome c.quietly.result.effects.items c.quietly.ensures.effects

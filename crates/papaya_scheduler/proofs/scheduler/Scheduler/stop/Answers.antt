@@ -6,6 +6,7 @@ use Rattle.papaya_schedules.specs.declared.outcome.Outcome.TheVariants.{Done, Re
 use Rattle.papaya_executor.specs.IsAt.{HasCall}
 use Rattle.papaya_logged.specs.Calling.{WalkStops}
 use Rattle.papaya_schedules.specs.After.{moment}
+use Rattle.papaya_scheduler.proofs.Busy.{none_quiet}
 use Rattle.papaya_scheduler.proofs.Here.{here_at, read_here}
 use Rattle.papaya_scheduler.proofs.Stopped.{not_ready, ready_parts, has_call, done}
 use Rattle.papaya_scheduler.proofs.Rights.{so_played}
@@ -40,3 +41,27 @@ returns-clause-plays g c =
     (subst (λ (n : ℕ). WalkStops same hash due.played.name (moment log) due.played.scene n c.stop.result c.args.self.now.logged c.stop.new.self) numbered
     (c.stop.ensures.leads same hash due.played.name (moment log) due.played.scene due.played.shown))
     (record { items = c.remove.new.self }) c.remove.ensures.items)
+
+pub returns-in_default-clause-quiet : goal.returns-in_default-clause-quiet
+returns-in_default-clause-quiet g c = none_quiet c.busy.result.outcome c.busy.result.effects.items c.busy.ensures.effects
+
+pub returns-clause-quiet : goal.returns-clause-quiet
+returns-clause-quiet g c = none_quiet c.quietly.result.outcome c.quietly.result.effects.items c.quietly.ensures.effects
+
+pub returns-in_default-clause-stopped : goal.returns-in_default-clause-stopped
+returns-in_default-clause-stopped g c = λ same hash is. absurd (let busy = sym is ∙ c.busy.ensures.outcome in cc busy)
+
+pub returns-clause-stopped : goal.returns-clause-stopped
+returns-clause-stopped g c = λ same hash is. (
+  record {
+    place = c.in-Some.place;
+    ready = sym c.in-Some.is ∙ c.place_of_ready.ensures;
+    whose = c.index.result.now;
+    reads = c.index.ensures;
+    stopped = c.stop.result;
+    leads = λ s at. c.stop.ensures.stopped same hash s at;
+    calls = c.remove.ensures.items;
+    notes = c.stop.ensures.notes;
+  },
+  c.quietly.ensures.effects,
+)

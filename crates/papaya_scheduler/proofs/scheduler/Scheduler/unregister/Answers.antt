@@ -1,12 +1,15 @@
 -- A registration ends.
-use Rattle.std.proofs.Common.{[], sym, ap, ◌∙◌}
+use Rattle.std.proofs.Common.{[], refl, sym, ap, ◌∙◌}
 use Rattle.seize_words.specs.declared.fault.Fault.TheVariants.{Busy}
 use Rattle.papaya_schedules.specs.declared.event.Event.TheVariants.{Unregister}
 use Rattle.papaya_schedules.specs.declared.outcome.Outcome.TheVariants.{Refused}
+use Rattle.papaya_scheduler.proofs.Busy.{none_quiet}
 use Rattle.papaya_scheduler.proofs.Backs.{came_as, none_came, stayed_as}
 use Rattle.papaya_scheduler.proofs.Unregisters.{not_registered, guards_live, may_free, fits, joined, joined_last}
 use Rattle.papaya_scheduler.proofs.KeptGiven.{given_as, given_still}
 use Rattle.papaya_scheduler.proofs.Rights.{so_played}
+use Rattle.papaya_executor.specs.declared.row.SlotCall.TheVariants as call
+use Rattle.papaya_scheduler.proofs.Works.{did_none, did_refuse, did_row}
 use Rattle.papaya_scheduler.proofs.scheduler.Scheduler.unregister.Goals as goal
 use Rattle.papaya_scheduler.proofs.scheduler.Scheduler.unregister.Goals.{in_default-via-in-Some+else-living_on-eq0, in_default-via-in_default, then-guards_on-eq0+in_ok-do_row, else-guards_on-eq0}
 use Rattle.std.proofs.lemmas.Bool.{eq-eqb, ne_eqb}
@@ -69,4 +72,26 @@ returns-clause-back g c =
           c.no_effects-effects.ensures w.do_row.new.back.items c.if-guards_on-eq0.back.items (ap (λ v. v.items) w.back-is) w.in_ok-do_row.ensures.back
       | else-guards_on-eq0 w ↦
           stayed_as _ c.if-guards_on-eq0.effects.items c.args.back.now.items c.if-guards_on-eq0.back.items (ap (λ v. v.items) w.effects-is ∙ c.no_effects-effects.ensures) (ap (λ v. v.items) w.back-is)
+    ]
+
+pub returns-in_default-clause-quiet : goal.returns-in_default-clause-quiet
+returns-in_default-clause-quiet g c = none_quiet c.busy.result.outcome c.busy.result.effects.items c.busy.ensures.effects
+
+pub returns-clause-quiet : goal.returns-clause-quiet
+returns-clause-quiet g c = tt
+
+pub returns-in_default-clause-works : goal.returns-in_default-clause-works
+returns-in_default-clause-works g c = did_refuse (Unregister c.args.registration.now) c.args.self.now c.busy.result Busy c.busy.ensures.outcome c.busy.ensures.effects
+
+pub returns-clause-works : goal.returns-clause-works
+returns-clause-works g c =
+    let about = (sym c.slot_of_registration.ensures ∙ c.in-Some.is, eq-eqb _ _ (sym c.living_on.ensures ∙ c.if-living_on-eq0.true)) in
+    elim c.if-guards_on-eq0.branch [
+      | then-guards_on-eq0+in_ok-do_row w ↦
+          did_row (Unregister c.args.registration.now) c.args.self.now _ c.in-Some.slot about _ (ap (λ p. p.calls) (w.self-is ∙ w.do_row.ensures.rest)) call.Unregister
+          (refl, sym c.guards_on.ensures ∙ w.if-guards_on-eq0.true) c.no_effects-effects.result.items w.do_row.new.effects.items c.no_effects-effects.ensures (ap (λ v. v.items) w.effects-is)
+          w.do_row.new.self.logged (ap (λ p. p.logged) w.self-is) (λ said. refl) w.in_ok-do_row.ensures.ran
+      | else-guards_on-eq0 w ↦
+          did_none (Unregister c.args.registration.now) c.args.self.now _ c.in-Some.slot about _ (ap (λ p. p.calls) w.self-is) refl (λ z. w.if-guards_on-eq0.false (c.guards_on.ensures ∙ z))
+          (ap (λ v. v.items) w.effects-is ∙ c.no_effects-effects.ensures) (ap (λ p. p.logged) w.self-is)
     ]

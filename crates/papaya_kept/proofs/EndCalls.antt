@@ -1,0 +1,217 @@
+-- That each copying that is not over has who ends it, after each step of a call, of its row, too.
+use Rattle.std.specs.Prelude.{Bool, true, List, Option, Some}
+use Rattle.std.specs.Int.{IsPowerOfTwo}
+use Rattle.std.proofs.Common.{◌≡◌, ℕ, inl, inr, refl, ap, sym, subst, ◌∙◌}
+use Rattle.papaya_histories.specs.Given.SeizeWords.Mem.{Mem, Took, value_at}
+use Rattle.papaya_histories.specs.Given.SeizeWords.Plan.{Steps}
+use Rattle.papaya_histories.specs.Given.Seize.World.{with_at}
+use Rattle.papaya_histories.specs.Given.Tables.Chunks.{is_incremental}
+use Rattle.papaya_histories.specs.Given.Tables.declared.node.Node.{Node}
+use Rattle.papaya_histories.specs.Given.Resize.declared.copier.Copying.{Copying as Point}
+use Rattle.papaya_histories.specs.Given.Resize.declared.copier.Copying.TheVariants as copies
+use Rattle.papaya_histories.specs.Given.Resize.declared.outcome.Outcome.{Outcome}
+use Rattle.papaya_histories.specs.Given.Resize.declared.outcome.Outcome.TheVariants as outcome
+use Rattle.papaya_histories.specs.Given.Resize.declared.sum.Sum.{Sum}
+use Rattle.papaya_histories.specs.Given.Raw.Call.{call_plan}
+use Rattle.papaya_histories.specs.Given.Raw.Machine.{reserved as of_room}
+use Rattle.papaya_histories.specs.Given.Raw.Progress.{of_called, of_outcome, of_swept}
+use Rattle.papaya_histories.specs.Given.Raw.declared.machines.answer.Called.{Called}
+use Rattle.papaya_histories.specs.Given.Raw.declared.machines.call.Calling.{Calling}
+use Rattle.papaya_histories.specs.Given.Raw.declared.machines.call.Calling.TheVariants as at
+use Rattle.papaya_histories.specs.Given.Raw.declared.machines.call.KeyCall.{KeyCall}
+use Rattle.papaya_histories.specs.Given.Raw.declared.machines.machine.Machine.{Machine}
+use Rattle.papaya_histories.specs.Given.Raw.declared.machines.machine.Machine.TheVariants as kinds
+use Rattle.papaya_histories.specs.Given.Raw.declared.machines.progress.Progress.{Progress}
+use Rattle.papaya_histories.specs.Given.Reserves.Reserve.{reserve_plan}
+use Rattle.papaya_histories.specs.Given.Reserves.declared.reserve.Reserve.{Reserve}
+use Rattle.papaya_histories.specs.Given.Reserves.declared.reserve.Reserving.{Reserving}
+use Rattle.papaya_histories.specs.Given.Reserves.declared.reserve.Reserving.TheVariants as reserves
+use Rattle.papaya_histories.specs.Given.Sweeps.Sweep.{sweep_plan}
+use Rattle.papaya_histories.specs.Given.Sweeps.declared.sweep.Sweep.{Sweep}
+use Rattle.papaya_histories.specs.Given.Sweeps.declared.sweep.Swept.{Swept}
+use Rattle.papaya_histories.specs.Given.Sweeps.declared.sweep.Sweeping.{Sweeping}
+use Rattle.papaya_histories.specs.Given.Sweeps.declared.sweep.Sweeping.TheVariants as sweeps
+use Rattle.papaya_histories.specs.Given.Rule.Chart.{Chart}
+use Rattle.papaya_histories.specs.Given.Rule.Words.{Blocks}
+use Rattle.papaya_histories.specs.Given.Points.Steps.{AreLawful}
+use Rattle.papaya_histories.specs.Given.Points.Told.{IsRowOfCall, IsRowOfCopier}
+use Rattle.papaya_histories.specs.Given.Late.ToldReserves.{IsRowOfReserve}
+use Rattle.papaya_histories.specs.Given.Late.ToldSweeps.{IsRowOfSweep}
+use Rattle.papaya_histories.specs.Given.Teller.Tells.{StepsTold}
+use Rattle.papaya_histories.specs.Given.Teller.declared.changed.Changed.TheVariants as changed
+use Rattle.papaya_histories.specs.Given.Callers.OverAll.{CallOverAll}
+use Rattle.papaya_histories.specs.Given.Callers.Rooms.{CallForRoom}
+use Rattle.papaya_histories.specs.Given.Callers.Sights.{Sight}
+use Rattle.papaya_histories.specs.Given.Callers.Together.{CallOnKey, UnderWay, OnKey, ForRoom, Counting, OverAll, Together}
+use Rattle.papaya_histories.proofs.Given.Callers.Together.At.{at_same, at_other}
+use Rattle.papaya_histories.specs.Given.Effects.Known.{Known}
+use Rattle.papaya_histories.specs.Given.Executor.IsAt.{Scene, IsAt, slot_of}
+use Rattle.papaya_histories.specs.Given.Executor.Stepping.{StepLeads, scene_after}
+use Rattle.papaya_histories.specs.Given.Executor.declared.executor.Executor.{Executor}
+use Rattle.papaya_histories.proofs.Given.Executor.Forgotten.{as_step}
+use Rattle.papaya_histories.specs.Given.Finishes.Maps.{Standing, IsSameMap}
+use Rattle.papaya_histories.specs.Given.Follows.Shows.{Shows}
+use Rattle.papaya_histories.proofs.Given.Follows.Steps.{WentTo, went_to, DidSo, one_of}
+use Rattle.papaya_histories.proofs.Given.Others.Outcomes.{told_in}
+use Rattle.papaya_histories.specs.Given.Schedules.Moment.{Moment}
+use Rattle.papaya_settles.proofs.Keys.{steps as key_told}
+use Rattle.papaya_settles.proofs.Rest.{steps as sweep_told}
+use Rattle.papaya_waits.specs.Others.{HaveEnds, copier_in, copier_in_room, copier_in_sweep}
+use Rattle.papaya_waits.proofs.CallsEnd.{calls_keep_ends}
+use Rattle.papaya_waits.proofs.EndingCalls.{copier_then}
+use Rattle.papaya_waits.proofs.RoomsEnd.{rooms_keep_ends, sweeps_keep_ends}
+use Rattle.papaya_kept.specs.Ends.{ShowsEnds}
+use Rattle.papaya_kept.proofs.Ends.{IsLike, IsNoEnd, IsNoEndAt, StoodSo, call_goes, like_keeps, stood_ends, stood_so}
+
+-- at a row no call is to end a copying
+row_point : (stands : Point) → IsRowOfCopier stands → IsNoEndAt stands
+row_point (copies.Retires settle rest) row = tt
+row_point _ row = absurd row
+
+row_of_call : (stands : Calling) → IsRowOfCall stands → IsNoEnd (copier_in stands)
+row_of_call (at.Disposes dispose answer) row = tt
+row_of_call (at.Helps copier goal) row = row_point copier.stands row
+row_of_call (at.Copies copier) row = row_point copier.stands row
+row_of_call _ row = absurd row
+
+row_of_room : (stands : Reserving) → IsRowOfReserve stands → IsNoEnd (copier_in_room stands)
+row_of_room (reserves.Copies copier) row = row_point copier.stands row
+row_of_room _ row = absurd row
+
+row_of_sweep : (stands : Sweeping) → IsRowOfSweep stands → IsNoEnd (copier_in_sweep stands)
+row_of_sweep (sweeps.Copies copier) row = row_point copier.stands row
+row_of_sweep (sweeps.Disposes dispose) row = tt
+row_of_sweep _ row = absurd row
+
+-- what a reservation says of how far it is, it says in one way
+same_outcome : {T : Type 0} (a b : Outcome T Unit) → of_outcome a ≡ of_outcome b → a ≡ b
+same_outcome outcome.Goes outcome.Goes e = refl
+same_outcome outcome.Waits outcome.Waits e = refl
+same_outcome (outcome.Done v) (outcome.Done w) e = refl
+same_outcome (outcome.Gave v) (outcome.Gave w) e = let one : v ≡ w = cc e in ap outcome.Gave one
+same_outcome (outcome.Refused v) (outcome.Refused w) e = let one : v ≡ w = cc e in ap outcome.Refused one
+same_outcome _ _ e = absurd (cc e)
+
+module _ {K V S : Type 0} (same : K → K → Bool) (hash : K → ℕ) (name : ℕ → List ℕ) (m : Moment K V) (known : Known) (s : Scene K V) (old new : Executor K V S) (at_old : IsAt same hash old s)
+    (shown : Shows same name m known s) (ends : ShowsEnds s) (map i : ℕ) (said : Progress (Node K V)) (leads : StepLeads same hash i said s old new) where
+  module _ (u : UnderWay K V K) (here : s.calls map i ≡ Some u) where
+    abbrev to : WentTo same hash name m known s old new at_old shown map i u here said leads
+    to = went_to same hash name m known s old new at_old shown map i u here said leads
+
+    abbrev led : Scene K V
+    led = scene_after same hash s old new map i to.0 u to.1 said to.4
+
+    together : Together V same to.0.hash same to.0.setting slot_of s.world to.0.chart to.0.blocks to.0.sights (s.calls map)
+    together = at_old.together.makings.standing.each map to.0 to.2
+
+    lawful : AreLawful same to.0.hash
+    lawful = (at_old.together.makings.standing.fit map to.0 to.2).0
+
+    power : IsPowerOfTwo to.0.setting.initial
+    power = (at_old.together.makings.standing.fit map to.0 to.2).1
+
+    -- its map has moved on, and each other one is as it was
+    moved : (chart : Chart K) (blocks : Blocks) (sights : ℕ → Sight) (it : Option (UnderWay K V K))
+        → to.4.maps2 ≡ with_at s.maps map (Some (record to.0 { chart = chart; blocks = blocks; sights = sights })) → to.4.next ≡ it
+        → (is_incremental to.0.setting.mode ≡ true → HaveEnds chart (with_at (s.calls map) i it)) → ShowsEnds led
+    moved chart blocks sights it maps next own = call_goes s ends led map i to.4.next refl others its
+      where
+        after : Standing K
+        after = record to.0 { chart = chart; blocks = blocks; sights = sights }
+
+        others : (n : ℕ) (st : Standing K) → (n ≡ map → ⊥) → to.4.maps2 n ≡ Some st → StoodSo (s.maps n) st
+        others n st ne is = (st, sym (at_other s.maps map (Some after) n ne) ∙ sym (ap (λ (f : ℕ → Option (Standing K)). f n) maps) ∙ is, refl, refl)
+
+        its : (st : Standing K) → to.4.maps2 map ≡ Some st → is_incremental st.setting.mode ≡ true → HaveEnds st.chart (with_at (s.calls map) i to.4.next)
+        its st is mode =
+            let one : st ≡ after = one_of st after (sym is ∙ ap (λ (f : ℕ → Option (Standing K)). f map) maps ∙ at_same s.maps map (Some after) map refl) in
+            subst (λ (o : Option (UnderWay K V K)). HaveEnds st.chart (with_at (s.calls map) i o)) (sym next)
+            (subst (λ (x : Standing K). HaveEnds x.chart (with_at (s.calls map) i it)) (sym one) (own (sym (ap (λ (x : Standing K). is_incremental x.setting.mode) one) ∙ mode)))
+
+    -- each map is as it was
+    stayed : (it : Option (UnderWay K V K)) → ((n : ℕ) → IsSameMap (s.maps n) (to.4.maps2 n)) → to.4.next ≡ it → IsNoEnd (copier_then (Some u)) → ShowsEnds led
+    stayed it same_maps next none = call_goes s ends led map i to.4.next refl (λ n st ne is. stood_so (s.maps n) (to.4.maps2 n) (same_maps n) st is) its
+      where
+        like : IsLike (copier_then to.4.next) (copier_then (s.calls map i))
+        like = inr (subst (λ (o : Option (UnderWay K V K)). IsNoEnd (copier_then o)) (sym here) none)
+
+        its : (st : Standing K) → to.4.maps2 map ≡ Some st → is_incremental st.setting.mode ≡ true → HaveEnds st.chart (with_at (s.calls map) i to.4.next)
+        its st is mode =
+            like_keeps st.chart (s.calls map) i to.4.next (stood_ends s ends map st (stood_so (s.maps map) (to.4.maps2 map) (same_maps map) st is) mode) like
+
+  -- a call on one key
+  module _ (x : CallOnKey K V K) (here : s.calls map i ≡ Some (OnKey x)) where
+    key_steps : (p2 : KeyCall K V K) (end : Called (Node K V)) → (to (OnKey x) here).1 ≡ kinds.Key p2 → said ≡ of_called end
+        → Steps Took value_at s.world.memory (call_plan same same (to (OnKey x) here).0.hash x.call) new.memory.memory (p2, end)
+    key_steps p2 end machine_is told_is =
+        subst (λ (h : K → ℕ). Steps Took value_at s.world.memory (call_plan same same h x.call) new.memory.memory (p2, end)) (sym (at_old.hashes map (to (OnKey x) here).0 (to (OnKey x) here).2))
+        (subst (λ (k : Mem (Node K V)). Steps Took value_at k (call_plan same same hash x.call) new.memory.memory (p2, end)) (sym at_old.memory)
+        (as_step old.memory.memory changed.Nothing (call_plan same same hash x.call) new.memory.memory new.memory.changed (p2, end)
+        (key_told same hash name m known s old new at_old shown map i x here said leads p2 end machine_is told_is)))
+
+    key_ends : DidSo same hash name m known s old new at_old shown map i (OnKey x) here said leads (OnKey x) → ShowsEnds (led (OnKey x) here)
+    key_ends (p2, end, machine_is, told_is, inl (step, went)) =
+        let st : Standing K = (to (OnKey x) here).0 in
+        moved (OnKey x) here step.step.went.c2 step.step.blocks2 step.step.sights2 _ went.1 went.2
+        (λ mode. calls_keep_ends V same st.hash same st.setting slot_of (lawful (OnKey x) here) (power (OnKey x) here) mode s.world st.chart st.blocks st.sights (s.calls map)
+        (together (OnKey x) here) (ends map st (to (OnKey x) here).2 mode) i x here step.no_row new.memory.memory p2 end (key_steps p2 end machine_is told_is) step.step)
+    key_ends (p2, end, machine_is, told_is, inr (row, still)) = stayed (OnKey x) here _ still.1 still.2 (row_of_call x.call.stands row.is_row)
+
+  -- a reservation
+  module _ (x : CallForRoom) (here : s.calls map i ≡ Some (ForRoom x)) where
+    room_steps : (p2 : Reserve) (end : Outcome (Node K V) Unit) → (to (ForRoom x) here).1 ≡ kinds.Reserve p2 → said ≡ of_outcome end
+        → Steps Took value_at s.world.memory (reserve_plan (to (ForRoom x) here).0.hash x.reserve) new.memory.memory (p2, end)
+    room_steps p2 end machine_is told_is =
+        subst (λ (h : K → ℕ). Steps Took value_at s.world.memory (reserve_plan h x.reserve) new.memory.memory (p2, end)) (sym (at_old.hashes map (to (ForRoom x) here).0 (to (ForRoom x) here).2))
+        (subst (λ (k : Mem (Node K V)). Steps Took value_at k (reserve_plan hash x.reserve) new.memory.memory (p2, end)) (sym at_old.memory)
+        (as_step old.memory.memory changed.Nothing (reserve_plan hash x.reserve) new.memory.memory new.memory.changed (p2, end) (by inner.0 inner.1 inner.2)))
+      where
+        Stepped : Reserve × Outcome (Node K V) Unit → Type 0
+        Stepped e = StepsTold K V (Reserve × Outcome (Node K V) Unit) old.memory.memory changed.Nothing (reserve_plan hash x.reserve) new.memory.memory new.memory.changed e
+
+        inner : (r : Reserve × Outcome (Node K V) Unit) × (◌≡◌ {A = Machine K V K × Progress (Node K V)} ((to (ForRoom x) here).1, said) (of_room r)) × Stepped r
+        inner = told_in old.memory.memory new.memory.memory new.memory.changed of_room (reserve_plan hash x.reserve) ((to (ForRoom x) here).1, said) (to (ForRoom x) here).3
+
+        by : (r : Reserve × Outcome (Node K V) Unit) → ◌≡◌ {A = Machine K V K × Progress (Node K V)} ((to (ForRoom x) here).1, said) (of_room r) → Stepped r → Stepped (p2, end)
+        by (q, said_so) is told =
+            let machines : kinds.Reserve q ≡ kinds.Reserve p2 = sym (ap (λ (z : Machine K V K × Progress (Node K V)). z.0) is) ∙ machine_is in
+            let says : of_outcome said_so ≡ of_outcome end = sym (ap (λ (z : Machine K V K × Progress (Node K V)). z.1) is) ∙ told_is in
+            let one : q ≡ p2 = cc machines in
+            subst (λ (z : Outcome (Node K V) Unit). Stepped (p2, z)) (same_outcome said_so end says) (subst (λ (z : Reserve). Stepped (z, said_so)) one told)
+
+    room_ends : DidSo same hash name m known s old new at_old shown map i (ForRoom x) here said leads (ForRoom x) → ShowsEnds (led (ForRoom x) here)
+    room_ends (p2, end, machine_is, told_is, inl (step, went)) =
+        let st : Standing K = (to (ForRoom x) here).0 in
+        moved (ForRoom x) here step.step.went.c2 step.step.blocks2 step.step.sights2 _ went.1 went.2
+        (λ mode. rooms_keep_ends V same st.hash same st.setting slot_of (lawful (ForRoom x) here) (power (ForRoom x) here) mode s.world st.chart st.blocks st.sights (s.calls map)
+        (together (ForRoom x) here) (ends map st (to (ForRoom x) here).2 mode) i x here step.no_row new.memory.memory p2 end (room_steps p2 end machine_is told_is) step.step)
+    room_ends (p2, end, machine_is, told_is, inr (row, still)) = stayed (ForRoom x) here _ still.1 still.2 (row_of_room x.reserve.stands row.is_row)
+
+  -- a sweep
+  module _ (x : CallOverAll) (here : s.calls map i ≡ Some (OverAll x)) where
+    sweep_steps : (p2 : Sweep) (end : Swept (Node K V)) → (to (OverAll x) here).1 ≡ kinds.Sweep p2 → said ≡ of_swept end
+        → Steps Took value_at s.world.memory (sweep_plan (to (OverAll x) here).0.hash x.sweep) new.memory.memory (p2, end)
+    sweep_steps p2 end machine_is told_is =
+        subst (λ (h : K → ℕ). Steps Took value_at s.world.memory (sweep_plan h x.sweep) new.memory.memory (p2, end)) (sym (at_old.hashes map (to (OverAll x) here).0 (to (OverAll x) here).2))
+        (subst (λ (k : Mem (Node K V)). Steps Took value_at k (sweep_plan hash x.sweep) new.memory.memory (p2, end)) (sym at_old.memory)
+        (as_step old.memory.memory changed.Nothing (sweep_plan hash x.sweep) new.memory.memory new.memory.changed (p2, end)
+        (sweep_told same hash name m known s old new at_old shown map i (OverAll x) here said leads x refl p2 end machine_is told_is)))
+
+    sweep_ends : DidSo same hash name m known s old new at_old shown map i (OverAll x) here said leads (OverAll x) → ShowsEnds (led (OverAll x) here)
+    sweep_ends (p2, end, machine_is, told_is, inl (step, went)) =
+        let st : Standing K = (to (OverAll x) here).0 in
+        moved (OverAll x) here step.step.went.c2 step.step.blocks2 step.step.sights2 _ went.1 went.2
+        (λ mode. sweeps_keep_ends V same st.hash same st.setting slot_of (lawful (OverAll x) here) (power (OverAll x) here) mode s.world st.chart st.blocks st.sights (s.calls map)
+        (together (OverAll x) here) (ends map st (to (OverAll x) here).2 mode) i x here step.no_row new.memory.memory p2 end (sweep_steps p2 end machine_is told_is) step.step)
+    sweep_ends (p2, end, machine_is, told_is, inr (row, still)) = stayed (OverAll x) here _ still.1 still.2 (row_of_sweep x.sweep.stands row.is_row)
+
+  -- a counting
+  count_ends : (x : Sum) (here : s.calls map i ≡ Some (Counting x)) → DidSo same hash name m known s old new at_old shown map i (Counting x) here said leads (Counting x)
+      → ShowsEnds (led (Counting x) here)
+  count_ends x here (sum2, end, machine_is, told_is, memory, still) = stayed (Counting x) here _ still.1 still.2 tt
+
+  pub calls_keep_all_ends : (u : UnderWay K V K) (here : s.calls map i ≡ Some u) → ShowsEnds (led u here)
+  calls_keep_all_ends (OnKey x) here = key_ends x here (to (OnKey x) here).4.did
+  calls_keep_all_ends (ForRoom x) here = room_ends x here (to (ForRoom x) here).4.did
+  calls_keep_all_ends (Counting x) here = count_ends x here (to (Counting x) here).4.did
+  calls_keep_all_ends (OverAll x) here = sweep_ends x here (to (OverAll x) here).4.did

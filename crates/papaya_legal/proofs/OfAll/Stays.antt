@@ -1,0 +1,158 @@
+-- What a moment shows of calls it shows, too, after a step by which all is reclaimed: no call is under way.
+use Rattle.std.specs.Prelude.{◌≡◌, ◌⊎◌, ◌<◌, ◌≤◌, ℕ, Bool, true, false, List, [], ◌∷◌, map, Some, None, get_or, if◌then◌else◌}
+use Rattle.std.specs.List.{All}
+use Rattle.std.proofs.Common.{refl, ap, sym, subst, ◌∙◌, inl, inr}
+use Rattle.std.proofs.lemmas.List.Elements.{All-map}
+use Rattle.papaya_histories.specs.Given.SeizeWords.Mem.{Mem, word_at}
+use Rattle.papaya_histories.specs.Given.SeizeWords.declared.at.At.TheVariants.{Word}
+use Rattle.papaya_histories.specs.Given.Seize.ReclaimAll.{reclaim_all_plan}
+use Rattle.papaya_histories.specs.Given.Seize.declared.rows.reclaim_all.ReclaimAll.{ReclaimAll}
+use Rattle.papaya_histories.specs.Given.Seize.declared.rows.settle.Settled.{Settled}
+use Rattle.papaya_histories.specs.Given.Tables.Nodes.{deferred_word, was_left}
+use Rattle.papaya_histories.specs.Given.Tables.declared.node.Node.{Node}
+use Rattle.papaya_histories.specs.Given.Tables.declared.setting.Setting.{Setting}
+use Rattle.papaya_histories.specs.Given.Schedules.declared.effect.Effect.{Effect}
+use Rattle.papaya_histories.specs.Given.Schedules.declared.effect.Effect.TheVariants.{Reclaimed}
+use Rattle.papaya_histories.specs.Given.Schedules.declared.effect.Table.{Table}
+use Rattle.papaya_histories.specs.Given.Schedules.declared.effect.Thing.{Thing}
+use Rattle.papaya_histories.specs.Given.Schedules.declared.effect.Thing.TheVariants.{APair, ATable}
+use Rattle.papaya_histories.specs.Given.Schedules.Effects.{at_stage, with_effect, with_effects}
+use Rattle.papaya_histories.specs.Given.Schedules.Entry.{Entry}
+use Rattle.papaya_histories.specs.Given.Schedules.Moment.{IsReclaimed, Moment, TableThere}
+use Rattle.papaya_histories.specs.Given.Schedules.Things.{same_table}
+use Rattle.papaya_histories.specs.Given.Teller.declared.changed.Changed.{Changed}
+use Rattle.papaya_histories.specs.Given.Callers.Together.{UnderWay, OnKey}
+use Rattle.papaya_histories.specs.Given.Effects.Effects.{effects_of, known_after}
+use Rattle.papaya_histories.specs.Given.Effects.Known.{Known}
+use Rattle.papaya_histories.specs.Given.Effects.declared.acting.Acting.TheVariants.{Row}
+use Rattle.papaya_histories.specs.Given.Executor.IsAt.{Scene}
+use Rattle.papaya_histories.specs.Given.Executor.declared.executor.Executor.{Executor}
+use Rattle.papaya_histories.proofs.Given.Follows.Operations.{Operated, operated}
+use Rattle.papaya_histories.specs.Given.Moments.Numbers.{NumbersMaps}
+use Rattle.papaya_histories.specs.Given.Moments.Whole.{ShowsWhole}
+use Rattle.papaya_histories.proofs.Given.Moments.NewMaps.{effects_keep_pairs}
+use Rattle.papaya_histories.proofs.Given.Others.RowPlans.{TellsRow}
+use Rattle.papaya_histories.proofs.Questions.{effects_keep_questions}
+use Rattle.papaya_reclaiming.specs.Reclaiming.{IsReclaiming, ReclaimingLeads}
+use Rattle.papaya_reclaiming.proofs.Reclaims.{may_step}
+use Rattle.papaya_logged.proofs.ReclaimRest.{reclaiming_found, reclaiming_keeps}
+use Rattle.papaya_logged.proofs.ReclaimRows.{EmptiesRoot, reclaiming_tells}
+use Rattle.papaya_logged.proofs.ReclaimSteps.{reclaiming_whole}
+use Rattle.papaya_promises.specs.Reading.{ShowsReading}
+use Rattle.papaya_settles.proofs.Uncounted.{CountsNowhere}
+use Rattle.papaya_shards.specs.ShardWords.{ShowsCounters, ShowsShards}
+use Rattle.papaya_shards.proofs.ShardKept.{none_shards, same_setting, word_kept}
+use Rattle.papaya_legal.specs.AllEvents.{scene_in}
+use Rattle.papaya_legal.specs.Carried.{ShowsCalls}
+use Rattle.papaya_legal.proofs.OfAll.Tells.{gone_by, it_reclaims, none_under_way}
+use Rattle.papaya_legal.proofs.Uncounted.{none_counted}
+
+-- Maps have their numbers still once something is reclaimed.
+
+stage_table : (t : Table) (u : TableThere) → (at_stage t IsReclaimed u).table ≡ u.table
+stage_table t u = by (same_table u.table t)
+  where
+    by : (q : Bool) → (if q then record u { stage = IsReclaimed } else u).table ≡ u.table
+    by true = refl
+    by false = refl
+
+staged_below : (t : Table) (made : ℕ) (tables : List TableThere) → All (λ (u : TableThere). u.table.map < made) tables → All (λ (u : TableThere). u.table.map < made) (map (at_stage t IsReclaimed) tables)
+staged_below t made tables below =
+    All-map (λ (u : TableThere). u.table.map < made) (at_stage t IsReclaimed) tables (λ k d l. subst (λ (v : Table). v.map < made) (sym (stage_table t (get_or tables k d))) (below k d l))
+
+module _ {K V : Type 0} where
+  one_numbers : (y : Thing) (m : Moment K V) → NumbersMaps m → NumbersMaps (with_effect None None (Reclaimed y) m)
+  one_numbers (APair n) m numbers = record { found = numbers.found; below = numbers.below; tables = numbers.tables }
+  one_numbers (ATable t) m numbers = record { found = numbers.found; below = numbers.below; tables = staged_below t m.made m.tables numbers.tables }
+
+  numbers_stay : (ys : List Thing) (m : Moment K V) → NumbersMaps m → NumbersMaps (with_effects None None (map Reclaimed ys) m)
+  numbers_stay [] m numbers = numbers
+  numbers_stay (y ∷ ys) m numbers = numbers_stay ys (with_effect None None (Reclaimed y) m) (one_numbers y m numbers)
+
+-- what is told is no word of a count
+nowhere : (known : Known) (x : Changed) → TellsRow x ⊎ EmptiesRoot x → CountsNowhere known x
+nowhere known x (inl tells) b field old new of is counter = absurd (subst TellsRow is tells)
+nowhere known x (inr empties) b field old new of is counter = absurd (subst EmptiesRoot is empties)
+
+module _ {K V S : Type 0} (same : K → K → Bool) (hash : K → ℕ) (name : ℕ → List ℕ) (log : List (Entry K V)) (m : Moment K V) (known : Known) (s : Scene K V) (calls : ShowsCalls same name log m known s)
+    (old new : Executor K V S) (i : ℕ) (lists : ℕ → List ℕ) (before after : ReclaimAll) (told : Settled (Node K V)) (under_way : IsReclaiming same hash old s i lists before)
+    (leads : ReclaimingLeads same hash s i lists old new before after told) where
+  abbrev x : Changed
+  x = new.memory.changed
+
+  abbrev effects : List Effect
+  effects = effects_of Row known x
+
+  abbrev v : Moment K V
+  v = with_effects None None effects m
+
+  abbrev t : Scene K V
+  t = scene_in s leads.1.w2 leads.1.maps2
+
+  none : {X : Type 0} (map j : ℕ) (u : UnderWay K V K) → s.calls map j ≡ Some u → X
+  none map j u here = none_under_way same hash name m known s calls.whole calls.kept old new i lists before after told under_way leads map j u here
+
+  whole_then : ShowsWhole same name v (known_after Row x known) t
+  whole_then =
+      let found = reclaiming_found same hash name m known s calls.whole calls.kept old new i lists before after told under_way leads in
+      reclaiming_whole same hash name m known s calls.whole old new i lists before after told under_way leads found.0 found.1
+
+  -- shards are what they were
+  made : Operated s.world.memory leads.1.w2.memory x
+  made =
+      subst (λ (n : Mem (Node K V)). Operated s.world.memory n x) (sym leads.1.memory)
+      (subst (λ (n : Mem (Node K V)). Operated n new.memory.memory x) (sym under_way.memory)
+      (operated old.memory.memory new.memory.memory x (reclaim_all_plan deferred_word was_left before) (after, told) (may_step same hash old s i lists before under_way) leads.0))
+
+  shards_then : ShowsShards v t
+  shards_then n st is shard few =
+      let was = same_setting (s.maps n) (leads.1.maps2 n) (leads.1.as_they_were n) st is in
+      let counter = (calls.whole.all.shown.maps n was.0 was.1).counter in
+      let held = calls.counters.shards n was.0 was.1 shard (subst (λ (z : Setting). shard ≤ z.mask) was.2 few) in
+      let now = (leads.1.next.stand.together.makings.standing.each n st is).ground.map.shards shard few in
+      let one = word_kept known s.world.memory leads.1.w2.memory x made
+      (nowhere known x (reclaiming_tells old.memory.memory new.memory.memory x before before.stands (after, told) leads.0))
+      st.setting.counter shard (m.shards n shard) now.0 n (ap (λ (z : Setting). known.roles z.counter) was.2 ∙ counter)
+      (ap (λ (z : Setting). word_at s.world.memory (Word z.counter shard)) was.2 ∙ held) now.1 in
+      now.1 ∙ ap Some one ∙ ap (λ (f : ℕ → ℕ → ℕ). Some (f n shard)) (sym (none_shards None effects m))
+
+  counters_then : ShowsCounters name v t
+  counters_then = record {
+    shards = shards_then;
+    makes = λ j b is. absurd (let idle = under_way.under_way.stand.no_makers j in cc (idle, is));
+    adds = λ of j u is removed to_add c found. none of j u is;
+  }
+
+  pub calls_then : ShowsCalls same name log v (known_after Row x known) t
+  calls_then = record {
+    whole = whole_then;
+    numbers = (
+      subst (λ (fs : List Effect). NumbersMaps (with_effects None None fs m)) (sym (it_reclaims same hash name m known s calls.whole calls.kept old new i lists before after told under_way leads))
+          (numbers_stay (gone_by known x) m calls.numbers.0),
+      effects_keep_pairs K V m calls.numbers.1 None None effects (λ n is. absurd (cc is)),
+    );
+    kept = reclaiming_keeps same hash name m known s calls.whole calls.kept old new i lists before after told under_way leads;
+    counters = counters_then;
+    uncounted = none_counted None None effects m calls.uncounted (none_shards None effects m);
+    dues = record {
+      history = record {
+        shown = whole_then.all.shown;
+        asked = record { apart = λ n j k l y z is is2 names. none n j y is; each = λ n j u is st there c found. none n j u is };
+        begun = λ n j u is c found. none n j u is;
+        within = λ n j u is st there c found began began_is. none n j u is;
+      };
+      owes = λ n j u is st there c found one one_is. none n j (OnKey u) is;
+      taken = λ n j u is c found one one_is. none n j u is;
+    };
+    as_called = record { shown = whole_then.all.shown; each = λ n j u is st there c found. none n j u is };
+    questions = effects_keep_questions K V None None effects m calls.questions;
+    purposes = record {
+      shown = whole_then.all.shown;
+      begun = λ n j u is c found. none n j u is;
+      is_for = λ n j u is c found. none n j u is;
+      come = λ n j u is st there c found. none n j u is;
+    };
+  }
+
+  pub reading_then : ShowsReading name log (λ j. 0) v t
+  reading_then = record { begun = λ n j u is c found looks. none n j u is; reads = λ n j u is c found looks st there. none n j u is }

@@ -1,0 +1,165 @@
+-- Events that reclaim all: in the midst of one, wherever a chain of its steps has led, and at its end.
+use Rattle.std.specs.Prelude.{◌≡◌, ◌⊎◌, ◌<◌, ◌^◌, ◌+◌, ℕ, Bool, true, false, List, [], ◌∷◌, ◌++◌, Option, None, flat_map}
+use Rattle.std.specs.List.{list_all}
+use Rattle.papaya_histories.specs.Given.Seize.Sequence.{taken_in}
+use Rattle.papaya_histories.specs.Given.Seize.WaitingSets.{Change}
+use Rattle.papaya_histories.specs.Given.Seize.World.{World, times}
+use Rattle.papaya_histories.specs.Given.Seize.declared.rows.reclaim_all.ReclaimAll.{ReclaimAll}
+use Rattle.papaya_histories.specs.Given.Seize.declared.rows.settle.Settled.{Settled}
+use Rattle.papaya_histories.specs.Given.Seize.declared.rows.settle.Settled.TheVariants as settled
+use Rattle.papaya_histories.specs.Given.SeizeSets.Reclaims.{is_on_slots}
+use Rattle.papaya_histories.specs.Given.Tables.Nodes.{deferred_word}
+use Rattle.papaya_histories.specs.Given.Tables.declared.node.Node.{Node}
+use Rattle.papaya_histories.specs.Given.Schedules.declared.effect.Effect.{Effect}
+use Rattle.papaya_histories.specs.Given.Schedules.declared.effect.Effect.TheVariants.{Reclaimed}
+use Rattle.papaya_histories.specs.Given.Schedules.declared.effect.Thing.TheVariants.{APair}
+use Rattle.papaya_histories.specs.Given.Schedules.declared.event.Event.{Event}
+use Rattle.papaya_histories.specs.Given.Schedules.declared.outcome.Outcome.TheVariants.{Done}
+use Rattle.papaya_histories.specs.Given.Schedules.After.{moment}
+use Rattle.papaya_histories.specs.Given.Schedules.Effects.{with_effects, AtEachEffect}
+use Rattle.papaya_histories.specs.Given.Schedules.Entry.{Entry}
+use Rattle.papaya_histories.specs.Given.Schedules.Handing.{gives_all, is_granted, is_reclaiming}
+use Rattle.papaya_histories.specs.Given.Schedules.InTurn.{ComesRight}
+use Rattle.papaya_histories.specs.Given.Schedules.Lives.{MayReclaim}
+use Rattle.papaya_histories.specs.Given.Schedules.Model.{all_left, thing_back}
+use Rattle.papaya_histories.specs.Given.Schedules.Moment.{Left, Moment}
+use Rattle.papaya_histories.specs.Given.Schedules.Terms.{Terms}
+use Rattle.papaya_histories.specs.Given.Effects.Effects.{effects_of, known_after}
+use Rattle.papaya_histories.specs.Given.Effects.Known.{Known}
+use Rattle.papaya_histories.specs.Given.Effects.declared.acting.Acting.TheVariants as acts
+use Rattle.papaya_histories.specs.Given.Effects.declared.role.Role.TheVariants as role
+use Rattle.papaya_histories.specs.Given.Executor.IsAt.{Scene}
+use Rattle.papaya_histories.specs.Given.Executor.declared.executor.Executor.{Executor}
+use Rattle.papaya_histories.specs.Given.Finishes.Maps.{Standing}
+use Rattle.papaya_histories.specs.Given.Moments.OnSlots.{HadRetired}
+use Rattle.seize_reclaims.specs.Roots.{all_lists}
+use Rattle.papaya_reclaiming.specs.Reclaiming.{IsReclaiming, ReclaimingLeads}
+use Rattle.papaya_promises.specs.Reading.{ShowsReading}
+use Rattle.papaya_models.specs.Follows.{FollowsModel}
+use Rattle.papaya_models.specs.Numbers.{EachIsOnce, things_of}
+use Rattle.papaya_models.specs.Reclaims.{HasReclaimed}
+use Rattle.papaya_models.specs.Turns.{CameByTurns}
+use Rattle.papaya_finds.specs.Little.{ReclaimsAll}
+use Rattle.papaya_finds.specs.Orderly.{is_left_over}
+use Rattle.papaya_legal.specs.CallEvents.{IsLegalBut}
+use Rattle.papaya_legal.specs.Carried.{ComesAlone, ShowsCalls, ShowsRun}
+use Rattle.papaya_legal.specs.Chains.{Chain, Come}
+
+-- How far an event has come that reclaims all: as events do, with its machine, and with these lists behind the roots still.
+pub record AllCome (K V S : Type 0) : Type 0 where
+  pub come : Come K V S
+  pub all : ReclaimAll
+  pub lists : ℕ → List ℕ
+
+-- the scene with this world, and with maps that stand so
+abbrev pub scene_in : {K V : Type 0} → Scene K V → World (Node K V) → (ℕ → Option (Standing K)) → Scene K V
+scene_in s w maps = record s { world = w; maps = maps }
+
+-- a pair that is reclaimed was handed over, or left over
+abbrev pub FindsPair : {K V : Type 0} → Moment K V → Effect → Type 0
+FindsPair m (Reclaimed (APair n)) = MayReclaim true (m.place n)
+FindsPair m _ = Unit {0}
+
+-- each pair that is left over is in a block behind a root
+abbrev pub LeftIsBehind : {K V : Type 0} → ℕ → Moment K V → Known → (ℕ → List ℕ) → Type 0
+LeftIsBehind roots m known lists = (n : ℕ) → is_left_over (m.place n) ≡ true → (b : ℕ) × (known.roles b ≡ role.Pair n) × (0 < times b (all_lists lists roots))
+
+-- what is behind the roots is what the moment says that ended maps have left over, in that order
+abbrev pub BehindIsLeft : {K V : Type 0} → ℕ → Moment K V → Known → (ℕ → List ℕ) → Type 0
+BehindIsLeft roots m known lists = flat_map (λ (b : ℕ). things_of (known.roles b)) (all_lists lists roots) ≡ all_left m
+
+-- each pair in a block behind a root is left over
+abbrev pub BehindAreLeft : {K V : Type 0} → ℕ → Moment K V → Known → (ℕ → List ℕ) → Type 0
+BehindAreLeft roots m known lists = (b n : ℕ) → 0 < times b (all_lists lists roots) → known.roles b ≡ role.Pair n → m.place n ≡ Left
+
+module _ {K V : Type 0} (roots : ℕ) (first : Known) (began : World (Node K V)) (behind : ℕ → List ℕ) where
+  -- What it has reclaimed so far, as it was noted at first, since it began in that world with these lists behind the roots: blocks that were retired, and after all of these those that are behind
+  -- no root any more, in the order of the roots. Nothing else is noted otherwise.
+  pub record TakesInTurn (done : List Effect) (known : Known) (w : World (Node K V)) (all : ReclaimAll) (lists : ℕ → List ℕ) : Type 0 where
+    pub back : List ℕ
+    pub gone : List ℕ
+    pub taken : taken_in w.log ≡ taken_in began.log ++ back
+    pub order : all_lists behind roots ≡ gone ++ all_lists lists roots
+    pub reclaimed : flat_map thing_back done ≡ flat_map (λ (b : ℕ). things_of (first.roles b)) (back ++ gone)
+    pub slots_first : is_on_slots all.stands ≡ true → gone ≡ []
+    pub noted : (b : ℕ) → (known.roles b ≡ first.roles b) ⊎ (known.roles b ≡ role.Free)
+
+module _ {K V : Type 0} (same : K → K → Bool) (name : ℕ → List ℕ) (terms : Terms) (log : List (Entry K V)) (first : Known) (began : World (Node K V)) (behind : ℕ → List ℕ) where
+  -- In the midst of an event that reclaims all, which began so, and has done this: it reclaims alone, each table as one that was retired; and each pair that is left over is behind a root still.
+  pub record InAllEvent (done : List Effect) (m : Moment K V) (known : Known) (s : Scene K V) (all : ReclaimAll) (lists : ℕ → List ℕ) : Type 0 where
+    pub once : EachIsOnce first
+    pub calls : ShowsCalls same name log m known s
+    pub reading : ShowsReading name log (λ j. 0) m s
+    pub worked : m ≡ with_effects None None done (moment log)
+    pub granted : is_granted false done ≡ true
+    pub may : list_all is_reclaiming done ≡ true
+    pub had : AtEachEffect HadRetired None None done (moment log)
+    pub turn : TakesInTurn terms.roots first began behind done known s.world all lists
+    pub left : LeftIsBehind terms.roots m known lists
+
+module _ {K V S : Type 0} (same : K → K → Bool) (hash : K → ℕ) (roots i : ℕ) where
+  -- A step by which all is reclaimed, of an executor with so many roots, as if by caller i.
+  pub record AllSteps (from to : AllCome K V S) : Type 0 where
+    pub under_way : IsReclaiming same hash from.come.executor from.come.scene i from.lists from.all
+    pub roots_are : from.come.executor.roots ≡ roots
+    pub said : Settled (Node K V)
+    pub leads : ReclaimingLeads same hash from.come.scene i from.lists from.come.executor to.come.executor from.all to.all said
+    pub comes : to ≡ record {
+      come = record {
+        executor = to.come.executor;
+        did = from.come.did ++ effects_of acts.Row from.come.notes to.come.executor.memory.changed;
+        now = with_effects None None (effects_of acts.Row from.come.notes to.come.executor.memory.changed) from.come.now;
+        notes = known_after acts.Row to.come.executor.memory.changed from.come.notes;
+        scene = scene_in from.come.scene leads.1.w2 leads.1.maps2;
+      };
+      all = to.all;
+      lists = leads.1.lists2;
+    }
+
+-- where it begins, with this machine, and these lists behind the roots
+abbrev pub all_begun : {K V S : Type 0} → List (Entry K V) → Known → Scene K V → Executor K V S → ReclaimAll → (ℕ → List ℕ) → AllCome K V S
+all_begun log known s e all lists = record { come = record { executor = e; did = []; now = moment log; notes = known; scene = s }; all = all; lists = lists }
+
+module _ (K V S : Type 0) (same : K → K → Bool) (hash : K → ℕ) where
+  -- The promises: as long as reclaiming all is on slots, what is behind the roots stays there.
+  abbrev pub SlotsLeaveRoots : Type 0
+  SlotsLeaveRoots =
+      (s : Scene K V) (i : ℕ) (lists : ℕ → List ℕ) (old new : Executor K V S) (before after : ReclaimAll) (said : Settled (Node K V)) → IsReclaiming same hash old s i lists before
+      → (leads : ReclaimingLeads same hash s i lists old new before after said) → is_on_slots before.stands ≡ true → leads.1.lists2 ≡ lists
+
+  -- An event is in its midst where all begins to be reclaimed, if what is left over is behind the roots;
+  abbrev pub AllEventsBegin : Type 0
+  AllEventsBegin =
+      (name : ℕ → List ℕ) (terms : Terms) (log : List (Entry K V)) (known : Known) (s : Scene K V) → ShowsRun same name terms log known s
+      → (all : ReclaimAll) (lists : ℕ → List ℕ) → LeftIsBehind terms.roots (moment log) known lists
+      → InAllEvent same name terms log known s.world lists [] (moment log) known s all lists
+
+  -- wherever a chain of its steps has led;
+  abbrev pub AllChain : Type 0
+  AllChain =
+      (name : ℕ → List ℕ) (terms : Terms) (log : List (Entry K V)) (first : Known) (began : World (Node K V)) (behind : ℕ → List ℕ) (i n : ℕ) (from to : AllCome K V S)
+      → Chain (AllSteps same hash terms.roots i) n from to → InAllEvent same name terms log first began behind from.come.did from.come.now from.come.notes from.come.scene from.all from.lists
+      → InAllEvent same name terms log first began behind to.come.did to.come.now to.come.notes to.come.scene to.all to.lists
+
+  -- there each pair that it has reclaimed was handed over, or left over, if no call was under way as it began, and what was behind the roots was left over;
+  abbrev pub AllFindPairs : Type 0
+  AllFindPairs =
+      (name : ℕ → List ℕ) (terms : Terms) (log : List (Entry K V)) (known : Known) (s : Scene K V) (old : Executor K V S) → ShowsRun same name terms log known s → (moment log).calls ≡ []
+      → (i : ℕ) (all : ReclaimAll) (lists : ℕ → List ℕ) → LeftIsBehind terms.roots (moment log) known lists → BehindAreLeft terms.roots (moment log) known lists
+      → (n : ℕ) (to : AllCome K V S) → Chain (AllSteps same hash terms.roots i) n (all_begun log known s old all lists) to → AtEachEffect FindsPair None None to.come.did (moment log)
+
+  -- and where its last step has said that all is reclaimed, all is back, and what ended maps had left over came last; the event is legal but for what it comes to, and a run goes on with it: if what was
+  -- behind the roots is what the moment said, each pair that is reclaimed was handed over or left over, and its work on slots, in
+  -- the world of the scene, has reclaimed what the waiting sets of blocks say, and left the sets so.
+  abbrev pub AllRunsToItsEnd : Type 0
+  AllRunsToItsEnd =
+      (name : ℕ → List ℕ) (terms : Terms) (log : List (Entry K V)) (known : Known) (s : Scene K V) (old : Executor K V S) → terms.batch_size < 2 ^ 64 → ShowsRun same name terms log known s
+      → (event : Event K V) → gives_all event ≡ true → (ComesAlone event log → FollowsModel terms.batch_size terms.roots log known s.world)
+      → (i : ℕ) (all : ReclaimAll) (lists : ℕ → List ℕ) → LeftIsBehind terms.roots (moment log) known lists → BehindIsLeft terms.roots (moment log) known lists
+      → (n : ℕ) (to over : AllCome K V S) → Chain (AllSteps same hash terms.roots i) n (all_begun log known s old all lists) to
+      → (last : AllSteps same hash terms.roots i to over) → last.said ≡ settled.Done
+      → (steps : ℕ) (effects : List Effect) → over.come.did ≡ effects → AtEachEffect FindsPair None None effects (moment log)
+      → ((before : List Change) → CameByTurns deferred_word terms.batch_size terms.roots s.world before
+      → HasReclaimed deferred_word terms.batch_size terms.roots s.world before over.come.scene.world)
+      → (let e : Entry K V = record { event = event; outcome = Done; steps = steps; effects = effects } in
+      ComesRight terms log e → IsLegalBut same terms log e × ReclaimsAll log e × ShowsRun same name terms (e ∷ log) over.come.notes over.come.scene)

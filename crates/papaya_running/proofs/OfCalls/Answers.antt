@@ -1,0 +1,274 @@
+-- What a step of a call on one key answers is told as the call means, if a value that it tells back is the one that was given; and what it asks, by the number of the pair about which it asks.
+use Rattle.std.specs.Prelude.{◌≡◌, ◌⊎◌, ℕ, Bool, true, false, List, Option, Some, None, option_map}
+use Rattle.std.proofs.Common.{refl, ap, sym, subst, ◌∙◌, inl, inr}
+use Rattle.papaya_histories.specs.Given.Tables.declared.node.Node.{Node}
+use Rattle.papaya_histories.specs.Given.Raw.declared.machines.answer.KeyAnswer.{KeyAnswer}
+use Rattle.papaya_histories.specs.Given.Raw.declared.machines.answer.KeyAnswer.TheVariants as says
+use Rattle.papaya_histories.specs.Given.Raw.declared.machines.progress.Answer.TheVariants as answers
+use Rattle.papaya_histories.specs.Given.Raw.declared.machines.progress.Progress.{Progress}
+use Rattle.papaya_histories.specs.Given.Raw.declared.machines.progress.Progress.TheVariants as progress
+use Rattle.papaya_histories.specs.Given.Schedules.declared.call.Answer.{Answer}
+use Rattle.papaya_histories.specs.Given.Schedules.declared.call.Answer.TheVariants as answer
+use Rattle.papaya_histories.specs.Given.Schedules.declared.call.Call.{Call}
+use Rattle.papaya_histories.specs.Given.Schedules.declared.call.Call.TheVariants.{Clear, Len, On, Reserve, Retain, Walk}
+use Rattle.papaya_histories.specs.Given.Schedules.declared.call.OneKey.{OneKey}
+use Rattle.papaya_histories.specs.Given.Schedules.declared.call.OneKey.TheVariants.{Get, GetKeyValue, ContainsKey, Insert, TryInsert, TryInsertWith, GetOrInsert, GetOrInsertWith, Update, UpdateOrInsert, UpdateOrInsertWith, Compute, Remove, RemoveEntry, RemoveIf}
+use Rattle.papaya_histories.specs.Given.Schedules.declared.call.Reply.{Reply}
+use Rattle.papaya_histories.specs.Given.Schedules.declared.call.Reply.TheVariants.{Gives, Removes, Aborts, Decides}
+use Rattle.papaya_histories.specs.Given.Schedules.declared.outcome.Outcome.{Outcome}
+use Rattle.papaya_histories.specs.Given.Schedules.declared.outcome.Outcome.TheVariants as outcome
+use Rattle.papaya_histories.specs.Given.Schedules.Sequential.{Answers, Leaves, Puts, Takes, means, puts_reply}
+use Rattle.papaya_histories.specs.Given.Schedules.Views.{reply_to}
+use Rattle.papaya_histories.specs.Given.Effects.Known.{Known}
+use Rattle.papaya_histories.specs.Given.Effects.declared.role.Role.TheVariants as role
+use Rattle.papaya_histories.specs.Answers.{IsToldAs, IsToldDone, NamesPair}
+use Rattle.papaya_histories.specs.Asking.{IsToldQuestion}
+use Rattle.papaya_histories.specs.Events.{ComesToIt}
+use Rattle.papaya_histories.specs.InEvent.{ComesSo}
+use Rattle.papaya_histories.specs.OtherMidsts.{AsksAsSaid}
+use Rattle.papaya_histories.proofs.AnyCall.InEvent.{events_have_words}
+use Rattle.papaya_named.specs.Seen.{kind_of, kind_on}
+use Rattle.papaya_named.specs.Telling.{aborted_with, answer_on, number_by, number_in, occupied_by}
+use Rattle.papaya_stepping.specs.Stepping.{outcome_of}
+use Rattle.papaya_running.specs.OfCalls.{LastStepsTell, TellsValue}
+use Rattle.papaya_running.proofs.OfCalls.Words.{tells_of}
+
+-- what is stored is the reply's value, and else nothing is meant
+module _ {V : Type 0} where
+  puts_is : (reply : Option (Reply V)) (b a : Answer V) (v : V) → puts_reply reply b ≡ Answers a (Puts v) → a ≡ b
+  puts_is None b a v e = absurd (cc e)
+  puts_is (Some (Gives w)) b a v e = cc e
+  puts_is (Some Removes) b a v e = absurd (cc e)
+  puts_is (Some (Aborts w)) b a v e = absurd (cc e)
+  puts_is (Some (Decides q)) b a v e = absurd (cc e)
+
+  never_leaves : (reply : Option (Reply V)) (b a : Answer V) → puts_reply reply b ≡ Answers a Leaves → ⊥
+  never_leaves None b a e = cc e
+  never_leaves (Some (Gives w)) b a e = cc e
+  never_leaves (Some Removes) b a e = cc e
+  never_leaves (Some (Aborts w)) b a e = cc e
+  never_leaves (Some (Decides q)) b a e = cc e
+
+  never_takes : (reply : Option (Reply V)) (b a : Answer V) → puts_reply reply b ≡ Answers a Takes → ⊥
+  never_takes None b a e = cc e
+  never_takes (Some (Gives w)) b a e = cc e
+  never_takes (Some Removes) b a e = cc e
+  never_takes (Some (Aborts w)) b a e = cc e
+  never_takes (Some (Decides q)) b a e = cc e
+
+module _ {K V : Type 0} (by : Known) (value : Option V) (replies : List (Option ℕ × Reply V)) where
+  -- what is told of an answer of a call on one key
+  abbrev told : OneKey K V → KeyAnswer → Answer V
+  told one a = answer_on by (kind_on one) value a
+
+  -- a value that it tells back is the one that was given
+  abbrev Tells : OneKey K V → KeyAnswer → Type 0
+  Tells one a = TellsValue (On one) replies (outcome.Answered (told one a))
+
+  -- the number of a pair by its word
+  number_is : (word n : ℕ) → NamesPair by word n → number_by by word ≡ n
+  number_is word n names = ap number_in names
+
+  aborts : (about : Option ℕ) (w : V) (a : Answer V) (k : K) (x : Option V) → reply_to about replies ≡ Some (Aborts w) → answer.Aborted w ≡ a
+      → TellsValue (On (Compute k)) replies (outcome.Answered (aborted_with x)) → a ≡ aborted_with x
+  aborts about w a k None replied is tells = absurd tells
+  aborts about w a k (Some x) replied is tells = sym is ∙ ap answer.Aborted (sym (tells about w replied))
+
+  occupied : (number : ℕ) (v : V) (a : Answer V) (k : K) (x : Option V) → answer.Occupied number v ≡ a → TellsValue (On (TryInsert k v)) replies (outcome.Answered (occupied_by number x)) → a ≡ occupied_by number x
+  occupied number v a k None is tells = absurd tells
+  occupied number v a k (Some x) is tells = sym is ∙ ap (answer.Occupied number) (sym tells)
+
+  module _ (word n : ℕ) (names : NamesPair by word n) (a : Answer V) where
+    found_it : answer.Found n ≡ a → a ≡ answer.Found (number_by by word)
+    found_it is = sym is ∙ ap answer.Found (sym (number_is word n names))
+
+    kept_it : answer.Kept n ≡ a → a ≡ answer.Kept (number_by by word)
+    kept_it is = sym is ∙ ap answer.Kept (sym (number_is word n names))
+
+    stored_it : answer.Stored n ≡ a → a ≡ answer.Stored (number_by by word)
+    stored_it is = sym is ∙ ap answer.Stored (sym (number_is word n names))
+
+    found_by : (reply : Option (Reply V)) → reply_to (Some n) replies ≡ reply → (one : OneKey K V) → means one reply (Some n) 0 ≡ Answers a Leaves → Tells one (says.Found word) → a ≡ told one (says.Found word)
+    found_by reply is (Get k) e tells = found_it (cc e)
+    found_by reply is (GetKeyValue k) e tells = found_it (cc e)
+    found_by reply is (ContainsKey k) e tells = found_it (cc e)
+    found_by reply is (Insert k v) e tells = absurd (cc e)
+    found_by reply is (TryInsert k v) e tells =
+        occupied (number_by by word) v a k value (ap (λ (x : ℕ). answer.Occupied x v) (number_is word n names) ∙ (let f : answer.Occupied n v ≡ a = cc e in f)) tells
+    found_by reply is (TryInsertWith k) e tells = kept_it (cc e)
+    found_by reply is (GetOrInsert k v) e tells = found_it (cc e)
+    found_by reply is (GetOrInsertWith k) e tells = found_it (cc e)
+    found_by reply is (Update k) e tells = absurd (never_leaves reply (answer.Stored 0) a e)
+    found_by reply is (UpdateOrInsert k v) e tells = absurd (never_leaves reply (answer.Stored 0) a e)
+    found_by reply is (UpdateOrInsertWith k) e tells = absurd (never_leaves reply (answer.Stored 0) a e)
+    found_by (Some (Aborts w)) is (Compute k) e tells = aborts (Some n) w a k value is (cc e) tells
+    found_by (Some (Gives w)) is (Compute k) e tells = absurd (cc e)
+    found_by (Some Removes) is (Compute k) e tells = absurd (cc e)
+    found_by (Some (Decides q)) is (Compute k) e tells = absurd (cc e)
+    found_by None is (Compute k) e tells = absurd (cc e)
+    found_by reply is (Remove k) e tells = absurd (cc e)
+    found_by reply is (RemoveEntry k) e tells = absurd (cc e)
+    found_by (Some (Decides false)) is (RemoveIf k) e tells = kept_it (cc e)
+    found_by (Some (Decides true)) is (RemoveIf k) e tells = absurd (cc e)
+    found_by (Some (Gives w)) is (RemoveIf k) e tells = absurd (cc e)
+    found_by (Some Removes) is (RemoveIf k) e tells = absurd (cc e)
+    found_by (Some (Aborts w)) is (RemoveIf k) e tells = absurd (cc e)
+    found_by None is (RemoveIf k) e tells = absurd (cc e)
+
+    stored_by : (v : V) (reply : Option (Reply V)) (one : OneKey K V) → means one reply None n ≡ Answers a (Puts v) → a ≡ told one (says.Stored word)
+    stored_by v reply (Get k) e = absurd (cc e)
+    stored_by v reply (GetKeyValue k) e = absurd (cc e)
+    stored_by v reply (ContainsKey k) e = absurd (cc e)
+    stored_by v reply (Insert k w) e = let f : answer.Absent ≡ a = cc e in sym f
+    stored_by v reply (TryInsert k w) e = stored_it (cc e)
+    stored_by v reply (TryInsertWith k) e = stored_it (sym (puts_is reply (answer.Stored n) a v e))
+    stored_by v reply (GetOrInsert k w) e = stored_it (cc e)
+    stored_by v reply (GetOrInsertWith k) e = stored_it (sym (puts_is reply (answer.Stored n) a v e))
+    stored_by v reply (Update k) e = absurd (cc e)
+    stored_by v reply (UpdateOrInsert k w) e = stored_it (cc e)
+    stored_by v reply (UpdateOrInsertWith k) e = stored_it (sym (puts_is reply (answer.Stored n) a v e))
+    stored_by v (Some (Gives w)) (Compute k) e = let f : answer.Inserted n ≡ a = cc e in sym f ∙ ap answer.Inserted (sym (number_is word n names))
+    stored_by v (Some Removes) (Compute k) e = absurd (cc e)
+    stored_by v (Some (Aborts w)) (Compute k) e = absurd (cc e)
+    stored_by v (Some (Decides q)) (Compute k) e = absurd (cc e)
+    stored_by v None (Compute k) e = absurd (cc e)
+    stored_by v reply (Remove k) e = absurd (cc e)
+    stored_by v reply (RemoveEntry k) e = absurd (cc e)
+    stored_by v reply (RemoveIf k) e = absurd (cc e)
+
+    removed_by : (reply : Option (Reply V)) (one : OneKey K V) → means one reply (Some n) 0 ≡ Answers a Takes → a ≡ told one (says.Removed word)
+    removed_by reply (Get k) e = absurd (cc e)
+    removed_by reply (GetKeyValue k) e = absurd (cc e)
+    removed_by reply (ContainsKey k) e = absurd (cc e)
+    removed_by reply (Insert k v) e = absurd (cc e)
+    removed_by reply (TryInsert k v) e = absurd (cc e)
+    removed_by reply (TryInsertWith k) e = absurd (cc e)
+    removed_by reply (GetOrInsert k v) e = absurd (cc e)
+    removed_by reply (GetOrInsertWith k) e = absurd (cc e)
+    removed_by reply (Update k) e = absurd (never_takes reply (answer.Stored 0) a e)
+    removed_by reply (UpdateOrInsert k v) e = absurd (never_takes reply (answer.Stored 0) a e)
+    removed_by reply (UpdateOrInsertWith k) e = absurd (never_takes reply (answer.Stored 0) a e)
+    removed_by (Some Removes) (Compute k) e = let f : answer.Removed n ≡ a = cc e in sym f ∙ ap answer.Removed (sym (number_is word n names))
+    removed_by (Some (Gives w)) (Compute k) e = absurd (cc e)
+    removed_by (Some (Aborts w)) (Compute k) e = absurd (cc e)
+    removed_by (Some (Decides q)) (Compute k) e = absurd (cc e)
+    removed_by None (Compute k) e = absurd (cc e)
+    removed_by reply (Remove k) e = found_it (cc e)
+    removed_by reply (RemoveEntry k) e = found_it (cc e)
+    removed_by (Some (Decides true)) (RemoveIf k) e = found_it (cc e)
+    removed_by (Some (Decides false)) (RemoveIf k) e = absurd (cc e)
+    removed_by (Some (Gives w)) (RemoveIf k) e = absurd (cc e)
+    removed_by (Some Removes) (RemoveIf k) e = absurd (cc e)
+    removed_by (Some (Aborts w)) (RemoveIf k) e = absurd (cc e)
+    removed_by None (RemoveIf k) e = absurd (cc e)
+
+  absent_by : (a : Answer V) (reply : Option (Reply V)) → reply_to None replies ≡ reply → (one : OneKey K V) → means one reply None 0 ≡ Answers a Leaves → Tells one says.Absent → a ≡ told one says.Absent
+  absent_by a reply is (Get k) e tells = let f : answer.Absent ≡ a = cc e in sym f
+  absent_by a reply is (GetKeyValue k) e tells = let f : answer.Absent ≡ a = cc e in sym f
+  absent_by a reply is (ContainsKey k) e tells = let f : answer.Absent ≡ a = cc e in sym f
+  absent_by a reply is (Insert k v) e tells = absurd (cc e)
+  absent_by a reply is (TryInsert k v) e tells = absurd (cc e)
+  absent_by a reply is (TryInsertWith k) e tells = absurd (never_leaves reply (answer.Stored 0) a e)
+  absent_by a reply is (GetOrInsert k v) e tells = absurd (cc e)
+  absent_by a reply is (GetOrInsertWith k) e tells = absurd (never_leaves reply (answer.Stored 0) a e)
+  absent_by a reply is (Update k) e tells = let f : answer.Absent ≡ a = cc e in sym f
+  absent_by a reply is (UpdateOrInsert k v) e tells = absurd (cc e)
+  absent_by a reply is (UpdateOrInsertWith k) e tells = absurd (never_leaves reply (answer.Stored 0) a e)
+  absent_by a (Some (Aborts w)) is (Compute k) e tells = aborts None w a k value is (cc e) tells
+  absent_by a (Some (Gives w)) is (Compute k) e tells = absurd (cc e)
+  absent_by a (Some Removes) is (Compute k) e tells = absurd (cc e)
+  absent_by a (Some (Decides q)) is (Compute k) e tells = absurd (cc e)
+  absent_by a None is (Compute k) e tells = absurd (cc e)
+  absent_by a reply is (Remove k) e tells = let f : answer.Absent ≡ a = cc e in sym f
+  absent_by a reply is (RemoveEntry k) e tells = let f : answer.Absent ≡ a = cc e in sym f
+  absent_by a reply is (RemoveIf k) e tells = let f : answer.Absent ≡ a = cc e in sym f
+
+  module _ (old new o n : ℕ) (was : NamesPair by old o) (comes : NamesPair by new n) (a : Answer V) (v : V) where
+    new_it : answer.Stored n ≡ a → a ≡ answer.Stored (number_by by new)
+    new_it is = sym is ∙ ap answer.Stored (sym (number_is new n comes))
+
+    replaced_by : (reply : Option (Reply V)) (one : OneKey K V) → means one reply (Some o) n ≡ Answers a (Puts v) → a ≡ told one (says.Replaced old new)
+    replaced_by reply (Get k) e = absurd (cc e)
+    replaced_by reply (GetKeyValue k) e = absurd (cc e)
+    replaced_by reply (ContainsKey k) e = absurd (cc e)
+    replaced_by reply (Insert k w) e = found_it old o was a (cc e)
+    replaced_by reply (TryInsert k w) e = absurd (cc e)
+    replaced_by reply (TryInsertWith k) e = absurd (cc e)
+    replaced_by reply (GetOrInsert k w) e = absurd (cc e)
+    replaced_by reply (GetOrInsertWith k) e = absurd (cc e)
+    replaced_by reply (Update k) e = new_it (sym (puts_is reply (answer.Stored n) a v e))
+    replaced_by reply (UpdateOrInsert k w) e = new_it (sym (puts_is reply (answer.Stored n) a v e))
+    replaced_by reply (UpdateOrInsertWith k) e = new_it (sym (puts_is reply (answer.Stored n) a v e))
+    replaced_by (Some (Gives w)) (Compute k) e =
+        let f : answer.Updated o n ≡ a = cc e in
+        sym f ∙ ap (λ (x : ℕ). answer.Updated x n) (sym (number_is old o was)) ∙ ap (answer.Updated (number_by by old)) (sym (number_is new n comes))
+    replaced_by (Some Removes) (Compute k) e = absurd (cc e)
+    replaced_by (Some (Aborts w)) (Compute k) e = absurd (cc e)
+    replaced_by (Some (Decides q)) (Compute k) e = absurd (cc e)
+    replaced_by None (Compute k) e = absurd (cc e)
+    replaced_by reply (Remove k) e = absurd (cc e)
+    replaced_by reply (RemoveEntry k) e = absurd (cc e)
+    replaced_by (Some (Decides true)) (RemoveIf k) e = absurd (cc e)
+    replaced_by (Some (Decides false)) (RemoveIf k) e = absurd (cc e)
+    replaced_by (Some (Gives w)) (RemoveIf k) e = absurd (cc e)
+    replaced_by (Some Removes) (RemoveIf k) e = absurd (cc e)
+    replaced_by (Some (Aborts w)) (RemoveIf k) e = absurd (cc e)
+    replaced_by None (RemoveIf k) e = absurd (cc e)
+
+  -- so what the call means is what is told
+  means_it : (one : OneKey K V) (it : KeyAnswer) (a : Answer V) → IsToldAs by one replies it a ⊎ IsToldDone by one replies it a → Tells one it → a ≡ told one it
+  means_it one (says.Found word) a (inl (n, names, so)) tells = found_by word n names a (reply_to (Some n) replies) refl one (so 0) tells
+  means_it one (says.Found word) a (inr done) tells = absurd done
+  means_it one says.Absent a (inl so) tells = absent_by a (reply_to None replies) refl one (so 0) tells
+  means_it one says.Absent a (inr done) tells = absurd done
+  means_it one (says.Stored word) a (inl so) tells = absurd so
+  means_it one (says.Stored word) a (inr (n, names, v, is)) tells = stored_by word n names a v (reply_to None replies) one is
+  means_it one (says.Replaced old new) a (inl so) tells = absurd so
+  means_it one (says.Replaced old new) a (inr (o, n, was, comes, v, is)) tells = replaced_by old new o n was comes a v (reply_to (Some o) replies) one is
+  means_it one (says.Removed word) a (inl so) tells = absurd so
+  means_it one (says.Removed word) a (inr (o, names, so)) tells = removed_by word o names a (reply_to (Some o) replies) one (so 0)
+
+  -- what it asks is told by the number of the pair
+  question_is : (about question : Option ℕ) → IsToldQuestion by about question → IsToldQuestion by about (option_map (number_by by) about)
+  question_is None None so = tt
+  question_is None (Some n) so = absurd so
+  question_is (Some word) None so = absurd so
+  question_is (Some word) (Some n) so = so ∙ ap role.Pair (sym (number_is word n so))
+
+  key_comes : (one : OneKey K V) (said : Progress (Node K V)) (o : Outcome V) → ComesToIt by one replies said o → TellsValue (On one) replies (outcome_of by (kind_on one) value said)
+      → ComesToIt by one replies said (outcome_of by (kind_on one) value said)
+  key_comes one (progress.Done (answers.Key it)) (outcome.Answered a) so tells =
+      subst (λ (x : Answer V). IsToldAs by one replies it x ⊎ IsToldDone by one replies it x) (means_it one it a so tells) so
+  key_comes one (progress.Asks about) (outcome.Asks question) so tells = question_is about question so
+  key_comes one progress.Goes o so tells = tt
+  key_comes one progress.Waits o so tells = tt
+  key_comes one (progress.Gave node) o so tells = tt
+  key_comes one (progress.Unstored node) o so tells = tt
+  key_comes one (progress.Refused fault) o so tells = refl
+  key_comes one _ _ so tells = absurd so
+
+  other_comes : (call : Call K V) (said : Progress (Node K V)) (o : Outcome V) → AsksAsSaid by said o → AsksAsSaid by said (outcome_of by (kind_of call) value said)
+  other_comes call (progress.Asks about) (outcome.Asks question) so = question_is about question so
+  other_comes call progress.Goes o so = tt
+  other_comes call progress.Waits o so = tt
+  other_comes call (progress.Gave node) o so = tt
+  other_comes call (progress.Unstored node) o so = tt
+  other_comes call progress.Ready o so = tt
+  other_comes call (progress.Pair word) o so = tt
+  other_comes call (progress.Done it) o so = tt
+  other_comes call (progress.Refused fault) o so = tt
+  other_comes call (progress.Asks about) _ so = absurd so
+
+  pub comes_so : (call : Call K V) (said : Progress (Node K V)) (o : Outcome V) → ComesSo by call replies said o → TellsValue call replies (outcome_of by (kind_of call) value said)
+      → ComesSo by call replies said (outcome_of by (kind_of call) value said)
+  comes_so (On one) said o so tells = key_comes one said o so tells
+  comes_so (Reserve more) said o so tells = other_comes (Reserve more) said o so
+  comes_so Clear said o so tells = other_comes Clear said o so
+  comes_so Retain said o so tells = other_comes Retain said o so
+  comes_so Len said o so tells = other_comes Len said o so
+  comes_so Walk said o so tells = other_comes Walk said o so
+
+pub last_steps_tell : (K V S : Type 0) (same : K → K → Bool) (hash : K → ℕ) → LastStepsTell K V S same hash
+last_steps_tell K V S same hash name terms log event beginning map i c steps done m known s u midst old new at said leads value comes tells =
+    let words = events_have_words K V S same hash name log beginning map i c done m known s u midst.event_so old new at said leads in
+    (comes_so _ value c.replies c.call said words.0 words.1 tells, tells_of same log m map _ value c.call said comes)

@@ -1,0 +1,200 @@
+-- A call begins: the event that begins it is legal, and the run goes on with it; and an event that goes on with it, too, is in its midst then.
+use Rattle.std.specs.Prelude.{◌≡◌, ℕ, Bool, List, [], ◌∷◌, Some, None}
+use Rattle.std.specs.List.{AllByRecursion}
+use Rattle.std.proofs.Common.{refl, ap, sym, subst, ◌∙◌}
+use Rattle.papaya_histories.specs.Given.Seize.World.{Rests}
+use Rattle.papaya_histories.specs.Given.Runs.Same.{is_same}
+use Rattle.papaya_histories.specs.Given.Schedules.declared.call.Call.{Call}
+use Rattle.papaya_histories.specs.Given.Schedules.declared.call.Call.TheVariants.{Clear, Len, On, Reserve, Retain, Walk}
+use Rattle.papaya_histories.specs.Given.Schedules.declared.call.OneKey.{OneKey}
+use Rattle.papaya_histories.specs.Given.Schedules.declared.call.OneKey.TheVariants.{Get, GetKeyValue, ContainsKey, Insert, TryInsert, TryInsertWith, GetOrInsert, GetOrInsertWith, Update, UpdateOrInsert, UpdateOrInsertWith, Compute, Remove, RemoveEntry, RemoveIf}
+use Rattle.papaya_histories.specs.Given.Schedules.declared.event.Event.TheVariants.{Begin}
+use Rattle.papaya_histories.specs.Given.Schedules.declared.outcome.Outcome.TheVariants.{Goes}
+use Rattle.papaya_histories.specs.Given.Schedules.After.{moment}
+use Rattle.papaya_histories.specs.Given.Schedules.Beginning.{with_call}
+use Rattle.papaya_histories.specs.Given.Schedules.Entry.{Entry}
+use Rattle.papaya_histories.specs.Given.Schedules.InTurn.{ComesRight}
+use Rattle.papaya_histories.specs.Given.Schedules.Moment.{Moment}
+use Rattle.papaya_histories.specs.Given.Schedules.Terms.{Terms}
+use Rattle.papaya_histories.specs.Given.Schedules.Views.{number_of}
+use Rattle.papaya_histories.specs.Given.Callers.Together.{UnderWay}
+use Rattle.papaya_histories.specs.Given.Effects.Known.{Known, known}
+use Rattle.papaya_histories.specs.Given.Executor.Beginning.{Begins}
+use Rattle.papaya_histories.specs.Given.Executor.IsAt.{Scene, HasCall, slot_of}
+use Rattle.papaya_histories.specs.Given.Executor.Replying.{scene_with}
+use Rattle.papaya_histories.specs.Given.Finishes.Maps.{Standing}
+use Rattle.papaya_histories.specs.Given.Follows.Calling.{NoneNamed}
+use Rattle.papaya_histories.specs.AsCalled.{IsBegunAs}
+use Rattle.papaya_promises.specs.Meanwhile.{BeginsToLook}
+use Rattle.papaya_purposes.specs.Purposes.{IsFor}
+use Rattle.papaya_legal.specs.Between.{IsBegunRight}
+use Rattle.papaya_legal.specs.CallEvents.{IsLegalBut}
+use Rattle.papaya_legal.specs.Carried.{ShowsRun}
+use Rattle.papaya_legal.proofs.Begun.{begun_events_end}
+use Rattle.papaya_legal.proofs.Over.{runs_by_other_names}
+use Rattle.papaya_logged.specs.Shown.{IsCounted, IsShown}
+use Rattle.papaya_rows.proofs.Facts.{row_rests}
+use Rattle.papaya_scheduler.specs.Played.{HasBegun, IsPlayed, IsUnderWay}
+use Rattle.papaya_named.specs.Seen.{Seen}
+use Rattle.papaya_named.specs.declared.caller.Caller.{Caller}
+use Rattle.papaya_scheduler.specs.declared.scheduler.Scheduler.{Scheduler}
+use Rattle.papaya_scheduler.proofs.Begins as beginning
+use Rattle.papaya_named.proofs.Called.{begins_so, begun_call, is_begun_for, is_called}
+use Rattle.papaya_scheduler.proofs.Rights.{quiet}
+use Rattle.papaya_running.specs.OfCalls.{HaveShards, Runs, RunsOn}
+use Rattle.papaya_running.proofs.OfCalls.Scenes.{AreNamed, stands_in}
+use Rattle.papaya_running.proofs.Remaining.{counted_in}
+
+-- what is under way then is a call as it was called
+module _ {K V : Type 0} (same : K → K → Bool) (st : Standing K) (i : ℕ) where
+  begun_as : (call : Call K V) → IsBegunAs (begun_call same st i call) call
+  begun_as (On one) = tt
+  begun_as (Reserve more) = tt
+  begun_as Clear = (refl, refl)
+  begun_as Retain = (refl, refl)
+  begun_as Len = tt
+  begun_as Walk = (refl, refl)
+
+  begun_for : (call : Call K V) → IsFor (begun_call same st i call) call
+  begun_for (On one) = tt
+  begun_for (Reserve more) = refl
+  begun_for Clear = refl
+  begun_for Retain = refl
+  begun_for Len = tt
+  begun_for Walk = refl
+
+  key_looks : (one : OneKey K V) → BeginsToLook K V same (begun_call same st i (On one)) (On one)
+  key_looks (Get k) looks = (_, _, refl, refl, refl)
+  key_looks (GetKeyValue k) looks = (_, _, refl, refl, refl)
+  key_looks (ContainsKey k) looks = (_, _, refl, refl, refl)
+  key_looks (Insert k v) looks = absurd (cc looks)
+  key_looks (TryInsert k v) looks = absurd (cc looks)
+  key_looks (TryInsertWith k) looks = absurd (cc looks)
+  key_looks (GetOrInsert k v) looks = absurd (cc looks)
+  key_looks (GetOrInsertWith k) looks = absurd (cc looks)
+  key_looks (Update k) looks = absurd (cc looks)
+  key_looks (UpdateOrInsert k v) looks = absurd (cc looks)
+  key_looks (UpdateOrInsertWith k) looks = absurd (cc looks)
+  key_looks (Compute k) looks = absurd (cc looks)
+  key_looks (Remove k) looks = absurd (cc looks)
+  key_looks (RemoveEntry k) looks = absurd (cc looks)
+  key_looks (RemoveIf k) looks = absurd (cc looks)
+
+  begun_to_look : (call : Call K V) → BeginsToLook K V same (begun_call same st i call) call
+  begun_to_look (On one) looks = key_looks one looks
+  begun_to_look (Reserve more) looks = absurd (cc looks)
+  begun_to_look Clear looks = absurd (cc looks)
+  begun_to_look Retain looks = absurd (cc looks)
+  begun_to_look Len looks = absurd (cc looks)
+  begun_to_look Walk looks = absurd (cc looks)
+
+  begun_right : (call : Call K V) → IsBegunRight same (begun_call same st i call) call
+  begun_right call = record { called = is_called same st i call; given = is_begun_for same st i call; swept = begun_as call; aim = begun_for call; looks = begun_to_look call }
+
+module _ {K V S : Type 0} (same : K → K → Bool) (hash : K → ℕ) (terms : Terms) (log : List (Entry K V)) (old : Scheduler K V S) (runs : Runs same hash terms log old) (own guard on : List ℕ) (call : Call K V)
+    (new : Scheduler K V S) (led : HasBegun same hash own guard on call old new) where
+  abbrev m : Moment K V
+  m = moment log
+
+  abbrev pub i : ℕ
+  i = beginning.i same hash terms m old runs.stands own guard on call led.free led.slot led.lives led.number led.setting led.found
+
+  abbrev pub its : (number_of on m ≡ Some led.number) × (standing : Standing K) × (runs.stands.scene.maps led.number ≡ Some standing) × (standing.setting ≡ led.setting)
+  its = beginning.its same hash terms m old runs.stands own guard on call led.free led.slot led.lives led.number led.setting led.found
+
+  abbrev pub st : Standing K
+  st = its.1
+
+  abbrev pub u : UnderWay K V K
+  u = begun_call same st i call
+
+  abbrev pub names : ℕ → List ℕ
+  names = beginning.names same hash terms m old runs.stands own guard on call led.free led.slot led.lives led.number led.setting led.found new.logged led.leads led.caller led.is led.numbered
+
+  abbrev pub then_at : Scene K V
+  then_at = scene_with led.number i u runs.stands.scene
+
+  -- it is shown as it begins, by the name that its caller has then
+  pub shown_begun : IsShown same hash names (with_call own guard call (Some led.number) m) new.logged then_at
+  shown_begun = beginning.shown same hash terms m old runs.stands own guard on call led.free led.slot led.lives led.number led.setting led.found new.logged led.leads led.caller led.is led.numbered
+
+  none_yet : (n : ℕ) → runs.stands.scene.calls n i ≡ None
+  none_yet = beginning.none_yet same hash terms m old runs.stands own guard on call led.free led.slot led.lives led.number led.setting led.found new.logged led.leads led.caller led.is led.numbered
+
+  pub name_here : names i ≡ own
+  name_here = beginning.name_here same hash terms m old runs.stands own guard on call led.free led.slot led.lives led.number led.setting led.found new.logged led.leads led.caller led.is led.numbered
+
+  pub under_here : then_at.calls led.number i ≡ Some u
+  under_here = beginning.here_then same hash terms m old runs.stands own guard on call led.free led.slot led.lives led.number led.setting led.found new.logged led.leads led.caller led.is led.numbered
+
+  pub at_slot : slot_of i ≡ led.slot
+  at_slot = beginning.at_slot same hash terms m old runs.stands own guard on call led.free led.slot led.lives led.number led.setting led.found
+
+  name_there : (j : ℕ) → HasCall runs.stands.scene j → names j ≡ runs.stands.name j
+  name_there j (n, x, here) =
+      beginning.name_then same hash terms m old runs.stands own guard on call led.free led.slot led.lives led.number led.setting led.found new.logged led.leads led.caller led.is led.numbered j
+      (beginning.not_it same hash terms m old runs.stands own guard on call led.free led.slot led.lives led.number led.setting led.found new.logged led.leads led.caller led.is led.numbered n j x here)
+
+  -- the run goes on by those names
+  pub run_named : ShowsRun same names terms log (known old.logged.notes) runs.stands.scene
+  run_named = runs_by_other_names K V same runs.stands.name names terms log (known old.logged.notes) runs.stands.scene name_there runs.shows
+
+  pub free_named : NoneNamed names (names i) runs.stands.scene
+  free_named n j x here =
+      ap (λ (l : List ℕ). is_same l (names i)) (name_there j (n, x, here)) ∙ ap (λ (l : List ℕ). is_same (runs.stands.name j) l) name_here
+      ∙ beginning.none_named same hash terms m old runs.stands own led.free n j x here
+
+  pub row_here : runs.stands.scene.world.row i ≡ Rests
+  row_here = row_rests same hash old.logged.executor runs.stands.scene runs.stands.shown.is_at i (runs.stands.rests i none_yet)
+
+  pub begins_here : Begins same st i u
+  begins_here = begins_so same st i (runs.stands.shown.is_at.together.makings.standing.fit led.number st its.2).0 call
+
+  pub right_here : IsBegunRight same u call
+  right_here = begun_right same st i call
+
+  -- each caller has its name
+  pub named_here : AreNamed names new.calls.items.items
+  named_here = subst (AreNamed names) (sym led.items)
+      (ap names led.numbered ∙ name_here ∙ sym (ap (λ (x : Seen). x.name) led.is), others old.calls.items.items runs.stands.calls.each)
+    where
+      others : (ds : List (Caller V)) → AllByRecursion (IsUnderWay runs.stands.name runs.stands.scene old.there) ds → AreNamed names ds
+      others [] all = tt
+      others (d ∷ ds) all = (name_there d.number (d.map, all.0.0, all.0.1) ∙ all.0.2, others ds all.1)
+
+  pub notes_here : known new.logged.notes ≡ known old.logged.notes
+  notes_here = ap known led.notes
+
+  -- maps are as they were, and so is the size of batches
+  module _ (on_size : new.logged.executor.batch_size ≡ old.logged.executor.batch_size) where
+    pub shards_here : HaveShards terms new.logged.executor
+    shards_here n setting is = runs.shards n setting (sym (runs.stands.shown.is_at.maps n) ∙ shown_begun.is_at.maps n ∙ is)
+
+    -- the event by which it just begins
+    module _ (right : ComesRight terms log (quiet (Begin own guard on call) Goes)) (plays : IsPlayed same hash terms (quiet (Begin own guard on call) Goes ∷ log) new) where
+      abbrev e : List ℕ → Entry K V
+      e x = quiet (Begin x guard on call) Goes
+
+      goes_on : IsLegalBut same terms log (e own) × ShowsRun same names terms (e own ∷ log) (known old.logged.notes) then_at
+      goes_on =
+          subst (λ (x : List ℕ). IsLegalBut same terms log (e x) × ShowsRun same names terms (e x ∷ log) (known old.logged.notes) then_at) name_here
+          (begun_events_end K V S same hash names terms log (known old.logged.notes) runs.stands.scene old.logged.executor new.logged.executor runs.stands.shown.is_at run_named led.number i st its.2 u call
+          guard begins_here right_here free_named row_here shown_begun.is_at on its.0 0 (subst (λ (x : List ℕ). ComesRight terms log (e x)) (sym name_here) right))
+
+      run_then : ShowsRun same names terms (e own ∷ log) (known new.logged.notes) then_at
+      run_then = subst (λ (k : Known). ShowsRun same names terms (e own ∷ log) k then_at) (sym notes_here) goes_on.1
+
+      counted_here : IsCounted (moment (e own ∷ log)) new.logged then_at
+      counted_here =
+          counted_in same hash terms (moment (e own ∷ log)) new plays then_at shown_begun.is_at shown_begun.counted.remains.lists shown_begun.counted.remains.left
+
+      pub begun_on : RunsOn same hash terms log (e own) new
+      begun_on = record {
+        legal = goes_on.0;
+        runs = record {
+          stands = stands_in same hash terms (moment (e own ∷ log)) new plays names then_at (record { is_at = shown_begun.is_at; shows = run_then.calls.whole; kept = run_then.calls.kept; counted = counted_here }) named_here;
+          shows = run_then;
+          size = on_size ∙ runs.size;
+          shards = shards_here;
+        };
+      }

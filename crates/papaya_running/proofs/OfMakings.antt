@@ -1,0 +1,487 @@
+-- An event that makes a map keeps its promises, and a run goes on with it.
+use Rattle.std.specs.Prelude.{◌≡◌, ◌≢◌, ◌⊎◌, ◌==◌, ◌&&◌, ◌<◌, ◌+◌, ◌-◌, ◌^◌, ◌++◌, if◌then◌else◌, nat_le, ℕ, zero, suc, Bool, true, false, List, [], ◌∷◌, find, is_none, length, not, nat_lt, cond, Option, Some, None, option_map, slice_index_or, Result, Ok, Err, IfOk}
+use Rattle.std.specs.Int.{IsPowerOfTwo}
+use Rattle.std.proofs.Common.{refl, sym, ap, subst, inl, inr, ◌∙◌, arith}
+use Rattle.std.proofs.lemmas.Bool.{cases_eq, ne_eqb}
+use Rattle.std.proofs.lemmas.Nat.{pow_pos}
+use Rattle.papaya_histories.specs.Given.Seize.declared.progress.Progress.{Progress}
+use Rattle.papaya_histories.specs.Given.Seize.declared.progress.Progress.TheVariants as progress
+use Rattle.seize_words.specs.declared.fault.Fault.{Fault}
+use Rattle.papaya_histories.specs.Given.Seize.World.{with_at}
+use Rattle.papaya_histories.specs.Given.Runs.Same.{is_same}
+use Rattle.papaya_histories.specs.Given.Resize.declared.new_map.NewMap.{NewMap}
+use Rattle.papaya_histories.specs.Given.Tables.declared.resize_mode.ResizeMode.{ResizeMode}
+use Rattle.papaya_histories.specs.Given.Tables.Lengths.{places_for}
+use Rattle.papaya_histories.specs.Given.Tables.Powers.{floor_log2, next_power}
+use Rattle.papaya_histories.specs.Given.Tables.declared.setting.Setting.{Setting}
+use Rattle.papaya_histories.proofs.Given.Callers.Together.At.{at_other, at_same}
+use Rattle.papaya_runs.proofs.Sames.{same_refl}
+use Rattle.papaya_schedules.specs.declared.effect.Effect.{Effect}
+use Rattle.papaya_schedules.specs.declared.event.Event.{Event}
+use Rattle.papaya_schedules.specs.declared.event.Event.TheVariants.{MakeMap}
+use Rattle.papaya_schedules.specs.declared.outcome.Outcome.{Outcome}
+use Rattle.papaya_schedules.specs.declared.outcome.Outcome.TheVariants.{Done, Refused}
+use Rattle.papaya_schedules.specs.After.{moment}
+use Rattle.papaya_schedules.specs.Beginning.{used_roots, with_map}
+use Rattle.papaya_schedules.specs.Effects.{AtEachEffect, with_effects, worked}
+use Rattle.papaya_schedules.specs.Entry.{Entry}
+use Rattle.papaya_schedules.specs.Handing.{IsWhole, tables_named}
+use Rattle.papaya_schedules.specs.InTurn.{is_kept_out}
+use Rattle.papaya_schedules.specs.Lists.{least_free}
+use Rattle.papaya_schedules.specs.Lives.{Finds}
+use Rattle.papaya_schedules.specs.Moment.{MapThere, Moment}
+use Rattle.papaya_schedules.specs.Terms.{Terms, shards_of}
+use Rattle.papaya_schedules.specs.Views.{map_of, number_of, tables_of}
+use Rattle.papaya_effects.specs.Effects.{effects_of, known_after}
+use Rattle.papaya_effects.specs.Known.{Known, known}
+use Rattle.papaya_effects.specs.declared.acting.Acting.TheVariants as acts
+use Rattle.papaya_effects.specs.declared.notes.Notes.{Notes}
+use Rattle.papaya_histories.specs.Given.Executor.IsAt.{Scene, IsAt, slot_of}
+use Rattle.papaya_histories.specs.Given.Executor.Making.{MakingLeads}
+use Rattle.papaya_histories.specs.Given.Executor.declared.executor.Executor.{Executor}
+use Rattle.papaya_histories.specs.Given.Finishes.Makings.{Beginning, IsMade}
+use Rattle.papaya_histories.specs.Given.Finishes.Maps.{Standing}
+use Rattle.papaya_histories.specs.Given.Follows.Shows.{Shows}
+use Rattle.papaya_histories.specs.Given.Others.Makings.{IsNew, WasNew, making_after}
+use Rattle.papaya_others.proofs.MakingGoes.{new_maps_stay}
+use Rattle.papaya_executor.specs.MakingBegins.{next_making}
+use Rattle.papaya_executor.proofs.Fresh.{no_making_yet}
+use Rattle.papaya_legal.specs.CallEvents.{IsLegalBut}
+use Rattle.papaya_models.specs.Follows.{FollowsModel}
+use Rattle.papaya_legal.specs.Carried.{ComesAlone, ShowsRun}
+use Rattle.papaya_legal.specs.Chains.{Chain, Come, MakingSteps}
+use Rattle.papaya_legal.specs.MapEvents.{InMakingEvent}
+use Rattle.papaya_legal.proofs.Chains.{makings_chain, makings_run_to_their_ends}
+use Rattle.papaya_legal.proofs.MapsOver.{making_events_begin_so}
+use Rattle.papaya_reclaims.specs.Left.{LeftAmong}
+use Rattle.papaya_remains.proofs.Numbered.{made_stays}
+use Rattle.papaya_logged.specs.Goes.{Far, GoesFor, MakingGoes, MakingOn, far}
+use Rattle.papaya_logged.specs.Makings.{MakingIsBegun, is_over}
+use Rattle.papaya_logged.specs.Shown.{IsCounted, IsShown}
+use Rattle.papaya_logged.specs.declared.logged.Logged.{Logged}
+use Rattle.papaya_logged.proofs.Counted.{counted_making_steps}
+use Rattle.papaya_logged.proofs.GivenBack.{with_maps}
+use Rattle.papaya_rows.proofs.Lists.{found_alike}
+use Rattle.papaya_named.specs.Places.{first_places}
+use Rattle.papaya_scheduler.specs.Mapping.{MayMap, may_make_of}
+use Rattle.papaya_scheduler.specs.Played.{IsPlayed, entry_of}
+use Rattle.papaya_named.specs.Seen.{named as named_of_map, number_named}
+use Rattle.papaya_scheduler.specs.Works.{HasMadeMap, WorksOnMap}
+use Rattle.papaya_named.specs.declared.caller.Callers.{Callers}
+use Rattle.papaya_scheduler.specs.declared.played.Played.{Played}
+use Rattle.papaya_scheduler.specs.declared.scheduler.Scheduler.{Scheduler}
+use Rattle.papaya_mapping.proofs.MapsMade.{new_one, shown_there as shown_by}
+use Rattle.papaya_scheduler.proofs.Maps.{number_is}
+use Rattle.papaya_scheduler.proofs.RanOn.{maps_named}
+use Rattle.papaya_scheduler.proofs.Rights.{entry, entry_is}
+use Rattle.papaya_running.specs.Asked.{Holds}
+use Rattle.papaya_running.specs.OfCalls.{HaveShards, Runs, RunsOn}
+use Rattle.papaya_running.specs.OfRows.{HasNotBegun, IsLeftOfRows, KeepsRun, PowersAreOne}
+use Rattle.papaya_running.proofs.OfCalls.Scenes.{AreNamed, its_named, stands_in}
+use Rattle.papaya_running.proofs.OfRows.Chain.{come_as, come_by}
+use Rattle.papaya_running.proofs.OfRows.Lone.{alone_follows}
+use Rattle.papaya_running.proofs.OfRows.Quiet.{refused_still, still_keeps}
+use Rattle.papaya_running.proofs.Remaining.{counted_in}
+
+-- one that is put behind those of which none is it is the one that is found
+found_last : {X : Type 0} (p : X → Bool) (xs : List X) (x : X) → find p xs ≡ None → p x ≡ true → find p (xs ++ x ∷ []) ≡ Some x
+found_last p [] x none so = ap (λ (b : Bool). cond b (Some x) None) so
+found_last p (z ∷ xs) x none so = by (p z) none (λ rest. found_last p xs x rest so)
+  where
+    by : (b : Bool) → cond b (Some z) (find p xs) ≡ None → (find p xs ≡ None → find p (xs ++ x ∷ []) ≡ Some x) → cond b (Some z) (find p (xs ++ x ∷ [])) ≡ Some x
+    by true none rest = absurd (cc none)
+    by false none rest = rest none
+
+-- a map that is to have places has some, and else none
+some_places : (capacity : ℕ) → (if first_places capacity == 0 then 0 else 1) ≡ (if capacity == 0 then 0 else 1)
+some_places capacity = by (capacity == 0)
+  where
+    by : (q : Bool) → (if (if q then 0 else next_power (places_for capacity)) == 0 then 0 else 1) ≡ (if q then 0 else 1)
+    by true = refl
+    by false = ap (λ (b : Bool). if b then 0 else 1) (ne_eqb (next_power (places_for capacity)) 0 (λ none. (let some = power_some (nat_le (places_for capacity) 1) in absurd (omega (arith, some, none)))))
+      where
+        power_some : (b : Bool) → 0 < (if b then 1 else 2 ^ (floor_log2 (places_for capacity - 1) + 1))
+        power_some true = omega arith
+        power_some false = pow_pos (floor_log2 (places_for capacity - 1) + 1)
+
+-- By what a step of a making told: it goes on as another machine, of the same map.
+module _ {K V S : Type 0} (same : K → K → Bool) (hash : K → ℕ) (s : Scene K V) (old new : Executor K V S) (i : ℕ) (b : Beginning K) (here : s.makers i ≡ Some b) where
+  abbrev Leads : Progress Setting → Type 0
+  Leads said = MakingLeads same hash i said s old new
+
+  abbrev next_scene : (said : Progress Setting) → Leads said → Scene K V
+  next_scene said leads = making_after same hash s old new i b (leads b here).0 (leads b here).2.step.w2 said (leads b here).3
+
+  -- the executor is there,
+  is_there : (said : Progress Setting) (leads : Leads said) → IsAt same hash new (next_scene said leads)
+  is_there progress.Goes leads = (leads b here).3
+  is_there progress.Waits leads = absurd (leads b here).3
+  is_there (progress.Done setting) leads = (leads b here).3.2
+  is_there (progress.Refused fault) leads = (leads b here).3
+
+  -- and until the last step the making is under way, and the map is as new
+  making_on : (said : Progress Setting) (leads : Leads said) → is_over said ≡ false → (next_scene said leads).makers i ≡ Some (record b { machine = (leads b here).0 })
+  making_on progress.Goes leads more = at_same s.makers i (Some (record b { machine = (leads b here).0 })) i refl
+  making_on progress.Waits leads more = absurd (leads b here).3
+  making_on (progress.Done setting) leads more = absurd (cc more)
+  making_on (progress.Refused fault) leads more = absurd (cc more)
+
+  maps_still : (said : Progress Setting) (leads : Leads said) → is_over said ≡ false → (next_scene said leads).maps ≡ s.maps
+  maps_still progress.Goes leads more = refl
+  maps_still progress.Waits leads more = absurd (leads b here).3
+  maps_still (progress.Done setting) leads more = absurd (cc more)
+  maps_still (progress.Refused fault) leads more = absurd (cc more)
+
+  new_still : (name : ℕ → List ℕ) (m : Moment K V) (k : Known) → IsAt same hash old s → Shows same name m k s → (of : Option ℕ) (setting : Setting) (said : Progress Setting) → Leads said → is_over said ≡ false
+      → IsNew b.map setting m → IsNew b.map setting (with_effects None of (effects_of (acts.Making b.map) k new.memory.changed) m)
+  new_still name m k at shows of setting progress.Goes leads more is_new = new_maps_stay K V S same hash name m k s old new at shows i leads b here of setting is_new
+  new_still name m k at shows of setting progress.Waits leads more is_new = absurd (leads b here).3
+  new_still name m k at shows of setting (progress.Done answer) leads more is_new = absurd (cc more)
+  new_still name m k at shows of setting (progress.Refused fault) leads more is_new = absurd (cc more)
+
+  -- maps that stand then: those that stood, and that which was made, as it was to be
+  made_maps : (said : Progress Setting) (leads : Leads said) (setting : Setting) → said ≡ progress.Done setting → (n : ℕ)
+      → ((n ≢ b.map) × ((next_scene said leads).maps n ≡ s.maps n)) ⊎ ((standing : Standing K) × ((next_scene said leads).maps n ≡ Some standing) × (standing.setting.mask ≡ b.given.mask))
+  made_maps progress.Goes leads setting is n = absurd (cc is)
+  made_maps progress.Waits leads setting is n = absurd (leads b here).3
+  made_maps (progress.Refused fault) leads setting is n = absurd (cc is)
+  made_maps (progress.Done answer) leads setting is n = by (cases_eq n b.map)
+    where
+      abbrev c : (standing : Standing K) × IsMade V same same old.batch_size old.roots slot_of b answer standing
+          × IsAt same hash new (record s { world = (leads b here).2.step.w2; maps = with_at s.maps b.map (Some standing); makers = with_at s.makers i None })
+      c = (leads b here).3
+
+      by : (n ≡ b.map) ⊎ (n ≢ b.map) → ((n ≢ b.map) × ((next_scene (progress.Done answer) leads).maps n ≡ s.maps n))
+          ⊎ ((standing : Standing K) × ((next_scene (progress.Done answer) leads).maps n ≡ Some standing) × (standing.setting.mask ≡ b.given.mask))
+      by (inl one) = inr (c.0, at_same s.maps b.map (Some c.0) n one, ap (λ (x : Setting). x.mask) (c.1.setting_is ∙ c.1.answer_is))
+      by (inr ne) = inl (ne, at_other s.maps b.map (Some c.0) n ne)
+
+-- what is told until the last step needs no new map
+none_new : {K V : Type 0} (map : ℕ) (said : Progress Setting) (m : Moment K V) → is_over said ≡ false → WasNew map said m
+none_new map progress.Goes m more = tt
+none_new map progress.Waits m more = tt
+none_new map (progress.Done setting) m more = absurd (cc more)
+none_new map (progress.Refused fault) m more = absurd (cc more)
+
+module _ {K V S : Type 0} (same : K → K → Bool) (hash : K → ℕ) (terms : Terms) (name : ℕ → List ℕ) (log : List (Entry K V)) (own : List ℕ) (mode : ResizeMode) (capacity i : ℕ) (b : Beginning K)
+    (began : Moment K V) (below : b.map < began.made) (setting : Setting) (stood : ℕ → Option (Standing K)) where
+  -- So many steps of the making have led to where the run is: the executor is there in the scene, and the event is in its midst.
+  pub record MakingComes (n : ℕ) (x : Come K V S) (f : Far K V S) : Type 0 where
+    pub now : Moment K V
+    pub scene : Scene K V
+    pub chain : Chain (MakingSteps same hash terms i b.map) n x (come_by f now scene)
+    pub is_at : IsAt same hash f.logged.executor scene
+    pub size : f.logged.executor.batch_size ≡ terms.batch_size
+    pub midst : InMakingEvent same name terms log (MakeMap own mode capacity) b.map began f.effects now (known f.logged.notes) scene
+    pub made : now.made ≡ began.made
+    pub counted : IsCounted now f.logged scene
+
+  -- and it is under way, the map is as new, and the others stand as they stood
+  abbrev pub IsUnder : Moment K V → Scene K V → Type 0
+  IsUnder m s = (z : NewMap) × (s.makers i ≡ Some (record b { machine = z })) × IsNew b.map setting m × (s.maps ≡ stood)
+
+  module _ (n : ℕ) (x : Come K V S) (mid to : Far K V S) (y : MakingComes n x mid) (it : IsUnder y.now y.scene) (step : MakingGoes i b.map mid to) (was_new : WasNew b.map step.said y.now) where
+    abbrev d : Beginning K
+    d = record b { machine = it.0 }
+
+    leads : MakingLeads same hash i step.said y.scene mid.logged.executor to.logged.executor
+    leads = step.leads same hash y.scene y.is_at
+
+    effects : List Effect
+    effects = effects_of (acts.Making b.map) (known mid.logged.notes) to.logged.executor.memory.changed
+
+    pub next : Scene K V
+    next = next_scene same hash y.scene mid.logged.executor to.logged.executor i d it.1 step.said leads
+
+    w : Moment K V
+    w = with_effects None (Some b.map) effects y.now
+
+    one : MakingSteps same hash terms i b.map (come_by mid y.now y.scene) (come_by to w next)
+    one = record {
+      is_at = y.is_at;
+      size = y.size;
+      said = step.said;
+      leads = leads;
+      making = d;
+      here = it.1;
+      map_is = refl;
+      below = subst (λ (q : ℕ). b.map < q) (sym y.made) below;
+      was_new = was_new;
+      comes = come_as to.logged.executor w next to.effects (mid.effects ++ effects) (known to.logged.notes) (known_after (acts.Making b.map) to.logged.executor.memory.changed (known mid.logged.notes))
+          step.is_noted.did step.is_noted.noted;
+    }
+
+    pub making_comes_on : MakingComes (suc n) x to
+    making_comes_on = record {
+      now = w;
+      scene = next;
+      chain = (come_by mid y.now y.scene, y.chain, one);
+      is_at = is_there same hash y.scene mid.logged.executor to.logged.executor i d it.1 step.said leads;
+      size = step.is_noted.given.1 ∙ y.size;
+      midst = makings_chain K V S same hash name terms log (MakeMap own mode capacity) i b.map began 1 (come_by mid y.now y.scene) (come_by to w next) (come_by mid y.now y.scene, refl, one) y.midst;
+      made = made_stays None (Some b.map) effects y.now ∙ y.made;
+      counted = counted_making_steps same hash mid.logged to.logged.executor to.logged.notes step.is_noted.given y.now y.scene y.is_at y.counted i step.said leads d it.1 (Some b.map) step.is_noted.noted;
+    }
+
+    pub making_under : is_over step.said ≡ false → IsUnder w next
+    making_under more = (
+      (leads d it.1).0,
+      making_on same hash y.scene mid.logged.executor to.logged.executor i d it.1 step.said leads more,
+      new_still same hash y.scene mid.logged.executor to.logged.executor i d it.1 name y.now (known mid.logged.notes) y.is_at y.midst.0.calls.whole.all.shown (Some b.map) setting step.said leads more it.2,
+      maps_still same hash y.scene mid.logged.executor to.logged.executor i d it.1 step.said leads more ∙ it.3,
+    )
+
+    -- of each map that stands once it was made the count falls into as many shards as before, and of the new one as it was to begin
+    pub masks : step.said ≡ progress.Done setting → (n2 : ℕ) → (next.maps n2 ≡ stood n2) ⊎ ((standing : Standing K) × (next.maps n2 ≡ Some standing) × (standing.setting.mask ≡ b.given.mask))
+    masks is n2 = by (made_maps same hash y.scene mid.logged.executor to.logged.executor i d it.1 step.said leads setting is n2)
+      where
+        by : ((n2 ≢ b.map) × (next.maps n2 ≡ y.scene.maps n2)) ⊎ ((standing : Standing K) × (next.maps n2 ≡ Some standing) × (standing.setting.mask ≡ b.given.mask))
+            → (next.maps n2 ≡ stood n2) ⊎ ((standing : Standing K) × (next.maps n2 ≡ Some standing) × (standing.setting.mask ≡ b.given.mask))
+        by (inl (ne, same_one)) = inl (same_one ∙ ap (λ (g : ℕ → Option (Standing K)). g n2) it.3)
+        by (inr made) = inr made
+
+  abbrev pub Midway : ℕ → Come K V S → Far K V S → Type 0
+  Midway n x f = (y : MakingComes n x f) × IsUnder y.now y.scene
+
+  pub makings_come : (n : ℕ) (x : Come K V S) (from to : Far K V S) → GoesFor (MakingOn i b.map) n from to → Midway 0 x from → Midway n x to
+  makings_come zero x from to is at = subst (Midway 0 x) is at
+  makings_come (suc n) x from to (mid, went, on) at =
+      let z = makings_come n x from mid went at in
+      let was = none_new b.map on.0.said z.0.now on.1 in
+      (making_comes_on n x mid to z.0 z.1 on.0 was, making_under n x mid to z.0 z.1 on.0 was on.1)
+
+module _ {K V S : Type 0} (same : K → K → Bool) (hash : K → ℕ) (terms : Terms) (log : List (Entry K V)) (own : List ℕ) (mode : ResizeMode) (capacity : ℕ) (played : Played V) (old new : Scheduler K V S)
+    (holds : Holds same hash terms (moment log) old) (run : Runs same hash terms log old) (turn : is_kept_out terms (MakeMap own mode capacity) (moment log) ≡ false) (powers : PowersAreOne) where
+  abbrev event : Event K V
+  event = MakeMap own mode capacity
+
+  abbrev m : Moment K V
+  m = moment log
+
+  abbrev name : ℕ → List ℕ
+  name = run.stands.name
+
+  abbrev s : Scene K V
+  s = run.stands.scene
+
+  -- it may happen
+  may : MayMap same hash terms log event old
+  may = record { due = record { played = run.stands; in_turn = turn }; lawful = holds.lawful; counts = holds.counts }
+
+  abbrev KeepsAs : Entry K V → Type 0
+  KeepsAs x = IsPlayed same hash terms (x ∷ log) new → IsLeftOfRows terms log x → RunsOn same hash terms log x new
+
+  -- the map was made
+  module _ (calls : new.calls ≡ old.calls) (d : HasMadeMap played old new own mode capacity) where
+    abbrev i : ℕ
+    i = d.caller
+
+    abbrev effects : List Effect
+    effects = played.effects.items
+
+    abbrev e : Entry K V
+    e = entry event Done played.steps effects
+
+    abbrev b : Beginning K
+    b = next_making hash d.given d.places old.logged.executor
+
+    abbrev there : MapThere
+    there = record { name = own; number = m.made; root = least_free (used_roots m); mode = mode; capacity = capacity; first = 0 }
+
+    abbrev bm : Moment K V
+    bm = with_map there m
+
+    s1 : Scene K V
+    s1 = record s { makers = with_at s.makers i (Some b) }
+
+    begins : MakingIsBegun same hash name m s d.given d.places i old.logged d.began
+    begins = d.begins same hash name m s run.stands.shown
+
+    small_mask : d.given.mask + 1 < 2 ^ 64
+    small_mask = let few = holds.counts.processors in let half = d.is_given.mask.2 in omega (arith, few, half)
+
+    at1 : IsAt same hash d.began.executor s1
+    at1 = (begins holds.lawful (subst IsPowerOfTwo (sym d.is_given.initial) d.first.0) d.is_given.batches small_mask d.some (λ l. d.first.1)).is_at
+
+    idle : s.makers i ≡ None
+    idle = subst (λ (n : ℕ). s.makers n ≡ None) (sym d.fresh) (no_making_yet same hash old.logged.executor s run.stands.shown.is_at 0 (omega arith))
+
+    map_is : b.map ≡ m.made
+    map_is = holds.counts.next
+
+    begins_so : known d.began.notes ≡ known old.logged.notes
+    begins_so = ap known d.noted
+
+    lone : ComesAlone event log → FollowsModel terms.batch_size terms.roots log (known old.logged.notes) s.world
+    lone = alone_follows same hash terms log old run event refl
+
+    midst : InMakingEvent same name terms log event b.map bm [] bm (known d.began.notes) s1
+    midst =
+        subst (λ (k : Known). InMakingEvent same name terms log event b.map bm [] bm k s1) (sym begins_so)
+        (making_events_begin_so K V S same hash name terms log (known old.logged.notes) s old.logged.executor d.began.executor run.stands.shown.is_at run.shows own mode capacity there refl i b idle map_is
+        (λ made. absurd made) lone at1)
+
+    below : b.map < bm.made
+    below = let is = map_is in omega (arith, is)
+
+    -- it is there as a new one
+    is_new : IsNew b.map d.setting bm
+    is_new =
+        new_one same hash terms log old own mode capacity may d.faultless d.free d.some d.places d.first d.given d.is_given i d.began begins (length old.logged.executor.maps.items) refl d.setting new.logged []
+        effects refl d.there d.ran d.finds
+
+    shown_there : IsShown same hash name bm d.began s1
+    shown_there =
+        shown_by same hash terms log old own mode capacity may d.faultless d.free d.some d.places d.first d.given d.is_given i d.began begins (length old.logged.executor.maps.items) refl d.setting new.logged []
+        effects refl d.there d.ran d.finds
+
+    abbrev x : Come K V S
+    x = come_by (far [] d.began) bm s1
+
+    first : Midway same hash terms name log own mode capacity i b bm below d.setting s.maps 0 x (far [] d.began)
+    first = (
+      record { now = bm; scene = s1; chain = refl; is_at = at1; size = d.stays.1 ∙ run.size; midst = midst; made = refl; counted = shown_there.counted },
+      (b.machine, at_same s.makers i (Some b) i refl, is_new, refl),
+    )
+
+    prev : Midway same hash terms name log own mode capacity i b bm below d.setting s.maps d.gone.1.0 x d.gone.0
+    prev = makings_come same hash terms name log own mode capacity i b bm below d.setting s.maps d.gone.1.0 x (far [] d.began) d.gone.0 d.gone.1.1 first
+
+    abbrev mid : Logged K V S
+    mid = d.gone.2
+
+    was : WasNew b.map d.gone.3.said prev.0.now
+    was = subst (λ (t : Progress Setting). WasNew b.map t prev.0.now) (sym d.gone.4) prev.1.2
+
+    y : MakingComes same hash terms name log own mode capacity i b bm below d.setting s.maps (suc d.gone.1.0) x (far effects mid)
+    y = making_comes_on same hash terms name log own mode capacity i b bm below d.setting s.maps d.gone.1.0 x d.gone.0 (far effects mid) prev.0 prev.1 d.gone.3 was
+
+    chain : Chain (MakingSteps same hash terms i b.map) (suc d.gone.1.0) (record { executor = d.began.executor; did = []; now = bm; notes = known old.logged.notes; scene = s1 })
+        (come_by (far effects mid) y.now y.scene)
+    chain =
+        subst (λ (k : Known). Chain (MakingSteps same hash terms i b.map) (suc d.gone.1.0) (record { executor = d.began.executor; did = []; now = bm; notes = k; scene = s1 })
+        (come_by (far effects mid) y.now y.scene)) begins_so y.chain
+
+    -- the executor has the settings that it had then
+    at_end : IsAt same hash new.logged.executor y.scene
+    at_end =
+        with_maps same hash mid.executor new.logged.executor y.scene y.is_at d.gone.6 (λ n. ap (λ (xs : List (Option Setting)). slice_index_or xs n None) d.gone.7)
+        (λ j c makes. subst (λ (n : ℕ). c.map < n) (sym (ap length d.gone.7)) (y.is_at.numbers j c makes))
+
+    -- it is found by its name
+    named_so : number_of own bm ≡ Some b.map
+    named_so =
+        ap (option_map (λ (f : MapThere). f.number)) (found_last (λ (f : MapThere). is_same f.name own) m.maps there (none_named (map_of own m) refl) (same_refl own)) ∙ ap Some (sym map_is)
+      where
+        none_had : (o : Option ℕ) → number_named own old.maps.items ≡ o → may_make_of own old.given.is_one_map (length old.logged.executor.maps.items) old.maps.items ≡ true
+            → (is_none o && not (old.given.is_one_map && nat_lt 0 (length old.logged.executor.maps.items))) ≡ true
+        none_had o is free = ap (λ (q : Option ℕ). is_none q && not (old.given.is_one_map && nat_lt 0 (length old.logged.executor.maps.items))) (sym is) ∙ free
+
+        none_by : (o : Option ℕ) → number_named own old.maps.items ≡ o → o ≡ None
+        none_by None is = refl
+        none_by (Some n) is = absurd (let had = none_had (Some n) is d.free in cc had)
+
+        none_named : (o : Option MapThere) → map_of own m ≡ o → map_of own m ≡ None
+        none_named None is = is
+        none_named (Some f) is = absurd (
+            let some = sym (number_is same hash terms m old run.stands own) ∙ ap (option_map (λ (g : MapThere). g.number)) is in
+            let none = none_by (number_named own old.maps.items) refl in
+            cc (some, none))
+
+    -- it has its table
+    abbrev bw : Moment K V
+    bw = with_effects None (Some b.map) effects bm
+
+    has_table : length (tables_of b.map bw) ≡ (if d.places == 0 then 0 else 1)
+    has_table =
+        subst (λ (fs : List Effect). length (tables_of b.map (with_effects None (Some b.map) fs bm)) ≡ (if d.places == 0 then 0 else 1)) (sym d.ran.1)
+        ((d.ran.3 same hash name bm s1 shown_there b (at_same s.makers i (Some b) i refl) refl (Some b.map)).1 is_new tt).4
+
+    named_number : (o : Option MapThere) → option_map (λ (z : List ℕ × ℕ). z.1) (option_map named_of_map o) ≡ option_map (λ (f : MapThere). f.number) o
+    named_number None = refl
+    named_number (Some f) = refl
+
+    number_still : number_of own bw ≡ Some b.map
+    number_still =
+        sym (named_number (map_of own bw)) ∙ ap (option_map (λ (z : List ℕ × ℕ). z.1))
+        (found_alike named_of_map named_of_map bw.maps bm.maps (maps_named None (Some b.map) effects bm) (λ (z : List ℕ × ℕ). is_same z.0 own))
+        ∙ named_number (map_of own bm) ∙ named_so
+
+    whole : IsWhole event Done effects m (worked e m)
+    whole =
+        subst (λ (o : Option ℕ). tables_named (number_of own (with_effects None o effects bm)) (with_effects None o effects bm) ≡ (if capacity == 0 then 0 else 1)) (sym named_so)
+        (subst (λ (o : Option ℕ). tables_named o bw ≡ (if capacity == 0 then 0 else 1)) (sym number_still)
+        (has_table ∙ ap (λ (n : ℕ). if n == 0 then 0 else 1) d.places_are ∙ some_places capacity))
+
+    it : IsLeftOfRows terms log e → IsLegalBut same terms log e × ShowsRun same name terms (e ∷ log) (known mid.notes) y.scene
+    it left =
+        makings_run_to_their_ends K V S same hash name terms log (known old.logged.notes) s old.logged.executor d.began.executor run.stands.shown.is_at run.shows own mode capacity there refl i b idle map_is
+        (λ made. absurd made) lone at1 (suc d.gone.1.0) (come_by (far effects mid) y.now y.scene) chain played.steps effects refl refl named_so left.may
+        (subst (λ (o : Option ℕ). AtEachEffect (Finds terms None o false []) None o effects bm) named_so left.finds) whole left.right
+
+    shows : IsLeftOfRows terms log e → ShowsRun same name terms (e ∷ log) (known new.logged.notes) y.scene
+    shows left = subst (λ (n : Notes). ShowsRun same name terms (e ∷ log) (known n) y.scene) (sym d.gone.5) (it left).1
+
+    named : AreNamed name new.calls.items.items
+    named = subst (λ (c : Callers V). AreNamed name c.items.items) (sym calls) (its_named same hash terms m old run.stands)
+
+    mask_is : d.given.mask + 1 ≡ shards_of terms
+    mask_is =
+        powers old.given.setup.processors (d.given.mask + 1) holds.counts.processors d.is_given.mask
+        ∙ ap (λ (t : Terms). shards_of t) run.stands.given
+
+    shards : HaveShards terms new.logged.executor
+    shards n setting is = by (masks same hash terms name log own mode capacity i b bm below d.setting s.maps d.gone.1.0 x d.gone.0 (far effects mid) prev.0 prev.1 d.gone.3 was d.gone.4 n)
+      where
+        now_is : option_map (λ (st : Standing K). st.setting) (y.scene.maps n) ≡ Some setting
+        now_is = at_end.maps n ∙ is
+
+        by : (y.scene.maps n ≡ s.maps n) ⊎ ((standing : Standing K) × (y.scene.maps n ≡ Some standing) × (standing.setting.mask ≡ d.given.mask)) → setting.mask + 1 ≡ shards_of terms
+        by (inl as_before) = run.shards n setting (sym (run.stands.shown.is_at.maps n) ∙ sym (ap (option_map (λ (st : Standing K). st.setting)) as_before) ∙ now_is)
+        by (inr (st, stands, mask)) =
+            let one : Some st.setting ≡ Some setting = sym (ap (option_map (λ (x : Standing K). x.setting)) stands) ∙ now_is in
+            let its : st.setting ≡ setting = cc one in
+            ap (λ (x : Setting). x.mask + 1) (sym its) ∙ ap (λ (q : ℕ). q + 1) mask ∙ mask_is
+
+    -- what ended maps left over is where it was
+    left_behind : LeftAmong new.logged.executor.roots y.scene.world y.scene.maps y.scene.makers y.scene.enders y.counted.remains.lists
+    left_behind =
+        subst (λ (r : ℕ). LeftAmong r y.scene.world y.scene.maps y.scene.makers y.scene.enders y.counted.remains.lists) (sym (ap (λ (x : Executor K V S). x.roots) d.gone.6)) y.counted.remains.left
+
+    keeps_made : KeepsAs e
+    keeps_made so left = record {
+      legal = (it left).0;
+      runs = record {
+        stands = stands_in same hash terms (moment (e ∷ log)) new so name y.scene (record {
+          is_at = at_end;
+          shows = (shows left).calls.whole;
+          kept = (shows left).calls.kept;
+          counted = counted_in same hash terms (moment (e ∷ log)) new so y.scene at_end y.counted.remains.lists left_behind;
+        }) named;
+        shows = shows left;
+        size = ap (λ (x : Executor K V S). x.batch_size) d.gone.6 ∙ y.size;
+        shards = shards;
+      };
+    }
+
+  refused_keeps : (fault : Fault) → played.outcome ≡ Refused fault → played.effects.items ≡ [] → new.logged ≡ old.logged → new.calls ≡ old.calls → KeepsAs (entry_of event played)
+  refused_keeps fault is none still calls =
+      subst KeepsAs (sym (entry_is event played (Refused fault) played.steps [] is refl none))
+      (λ so rest. still_keeps same hash terms log old run (entry event (Refused fault) played.steps []) new refl (refused_still log s.world event refl fault played.steps) still calls so rest.right)
+
+  -- it was refused, and nothing was done; or it was made; nothing is said of one that was refused once it had begun
+  pub map_made_keeps : WorksOnMap played old new own mode capacity → IsPlayed same hash terms (entry_of event played ∷ log) new → IsLeftOfRows terms log (entry_of event played)
+      → HasNotBegun event played.outcome played.effects.items old new → RunsOn same hash terms log (entry_of event played) new
+  map_made_keeps (calls, inl (fault, is, none, still)) after left begun = refused_keeps fault is none still calls after left
+  map_made_keeps (calls, inr (inl (fault, is))) after left begun =
+      let so : (played.effects.items ≡ []) × (new.logged ≡ old.logged) = subst (λ (o : Outcome V). HasNotBegun event o played.effects.items old new) is begun in
+      refused_keeps fault is so.0 so.1 calls after left
+  map_made_keeps (calls, inr (inr (done, d))) after left begun = subst KeepsAs (sym (entry_is event played Done played.steps played.effects.items done refl refl)) (keeps_made calls d) after left
+
+-- So it is by what its function says.
+module _ {K V S : Type 0} (same : K → K → Bool) (hash : K → ℕ) (event : Event K V) (own : List ℕ) (mode : ResizeMode) (capacity : ℕ) (is : event ≡ MakeMap own mode capacity) (old new : Scheduler K V S) where
+  pub makings_keep : {X : Type 0} → (result : Result (Played V) X) → IfOk result (λ played. WorksOnMap played old new own mode capacity) → IfOk result (λ played. KeepsRun same hash event played old new)
+  makings_keep (Ok played) works =
+      subst (λ (x : Event K V). KeepsRun same hash x played old new) (sym is)
+      (λ of terms log holds run turn after left begun powers. map_made_keeps same hash terms log own mode capacity played old new holds run turn powers works after left begun)
+  makings_keep (Err x) works = tt

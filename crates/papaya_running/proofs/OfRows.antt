@@ -1,0 +1,262 @@
+-- Events whose work is a row on a slot keep their promises, and a run goes on with them.
+use Rattle.std.specs.Prelude.{◌≡◌, ◌&&◌, ◌||◌, ◌<◌, ◌^◌, ℕ, Bool, true, false, List, [], ◌∷◌, None, Result, Ok, Err, IfOk}
+use Rattle.std.specs.List.{list_all}
+use Rattle.std.proofs.Common.{refl, ap, sym, subst, inl, inr, ◌∙◌}
+use Rattle.papaya_histories.specs.Given.Seize.World.{Begin, Rests}
+use Rattle.papaya_histories.specs.Given.Tables.declared.node.Node.{Node}
+use Rattle.papaya_schedules.specs.declared.effect.Effect.{Effect}
+use Rattle.papaya_schedules.specs.declared.event.Event.{Event}
+use Rattle.papaya_schedules.specs.declared.event.Event.TheVariants.{DropGuard, Enter, Flush, Own, Refresh, Register, Unregister}
+use Rattle.papaya_schedules.specs.declared.outcome.Outcome.{Outcome}
+use Rattle.papaya_schedules.specs.declared.outcome.Outcome.TheVariants.{Done, Refused}
+use Rattle.papaya_schedules.specs.After.{moment}
+use Rattle.papaya_schedules.specs.Beginning.{begun}
+use Rattle.papaya_schedules.specs.Effects.{AtEachEffect}
+use Rattle.papaya_schedules.specs.Entry.{Entry, acted_on, speaker}
+use Rattle.papaya_schedules.specs.Handing.{asks_for_bucket, gives_all, is_only, is_reclaiming, may_do}
+use Rattle.papaya_schedules.specs.InTurn.{ComesRight, is_kept_out}
+use Rattle.papaya_schedules.specs.Lives.{Finds}
+use Rattle.papaya_schedules.specs.Moment.{Moment}
+use Rattle.papaya_schedules.specs.Terms.{Terms}
+use Rattle.papaya_effects.specs.Known.{known}
+use Rattle.papaya_effects.specs.declared.notes.Notes.{Notes}
+use Rattle.papaya_histories.specs.Given.Executor.IsAt.{Scene, slot_of}
+use Rattle.papaya_histories.specs.Given.Executor.OnSlots.{MayBegin, RowBegins}
+use Rattle.papaya_histories.specs.Given.Executor.Rows.{request_of}
+use Rattle.papaya_histories.specs.Given.Executor.declared.row.RowTold.{RowTold}
+use Rattle.papaya_histories.specs.Given.Executor.declared.row.SlotCall.{SlotCall}
+use Rattle.papaya_histories.specs.Given.Others.Rows.{scene_then}
+use Rattle.papaya_histories.proofs.Given.Spots.Unreclaimed.{and_both, or_right}
+use Rattle.papaya_promises.specs.Others.{SparesGuards}
+use Rattle.papaya_promises.specs.Protected.{is_of_slots, there_in}
+use Rattle.papaya_models.specs.OnSlots.{IsRowFor}
+use Rattle.papaya_finds.specs.Little.{ReclaimsAll}
+use Rattle.papaya_legal.specs.CallEvents.{IsLegalBut}
+use Rattle.papaya_legal.specs.Carried.{ShowsRun}
+use Rattle.papaya_legal.specs.Chains.{Chain, RowSteps}
+use Rattle.papaya_legal.specs.Found.{AsksInNeed}
+use Rattle.papaya_legal.specs.SlotEvents.{InSlotEvent}
+use Rattle.papaya_legal.proofs.Chains.{rows_run_to_their_ends}
+use Rattle.papaya_legal.proofs.Found.{row_chains_find}
+use Rattle.papaya_legal.proofs.Slots.{slot_events_begin_so}
+use Rattle.papaya_logged.specs.Goes.{far}
+use Rattle.papaya_logged.specs.Shown.{IsShown}
+use Rattle.papaya_rows.specs.Rows.{RowRan}
+use Rattle.papaya_rows.proofs.Facts.{row_rests}
+use Rattle.papaya_scheduler.specs.Played.{IsPlayed, entry_of}
+use Rattle.papaya_scheduler.specs.Works.{ComesBy, IsAbout, IsItsRow, WorksOnSlot}
+use Rattle.papaya_named.specs.declared.caller.Callers.{Callers}
+use Rattle.papaya_scheduler.specs.declared.played.Played.{Played}
+use Rattle.papaya_scheduler.specs.declared.scheduler.Scheduler.{Scheduler}
+use Rattle.papaya_scheduler.proofs.Rights.{entry, entry_is}
+use Rattle.papaya_running.specs.OfCalls.{HaveShards, Runs, RunsOn}
+use Rattle.papaya_running.specs.OfRows.{FindsStill, IsLeftOfRows, KeepsRun, MaysDo, is_of_rows}
+use Rattle.papaya_running.proofs.OfCalls.Scenes.{AreNamed, its_named, stands_in}
+use Rattle.papaya_running.proofs.OfRows.Chain.{RowComes, come_by, rows_come}
+use Rattle.papaya_running.proofs.OfRows.Facts.{RowFacts, facts}
+use Rattle.papaya_running.proofs.OfRows.Lone.{alone_follows}
+use Rattle.papaya_running.proofs.OfRows.Quiet.{none_still, refused_still, still_keeps}
+use Rattle.papaya_running.proofs.Remaining.{counted_in}
+pub mod Chain
+pub mod Facts
+pub mod Quiet
+pub mod Kept
+pub mod Lone
+
+module _ {K V : Type 0} where
+  -- such an event works on slots, speaks of no call, and does not reclaim everything
+  all_facts_of : (event : Event K V) → is_of_rows event ≡ true → is_of_slots event ≡ true → (speaker event ≡ None) × (gives_all event ≡ false)
+  all_facts_of (Register registration) of on = (refl, refl)
+  all_facts_of (Unregister registration) of on = (refl, refl)
+  all_facts_of (Enter guard registration) of on = (refl, refl)
+  all_facts_of (Own guard) of on = (refl, refl)
+  all_facts_of (Refresh guard) of on = (refl, refl)
+  all_facts_of (Flush guard) of on = (refl, refl)
+  all_facts_of (DropGuard guard) of on = (refl, refl)
+  all_facts_of _ of on = absurd (cc (of, on))
+
+  -- it begins nothing, acts on no map, and leaves what it is asked when everything is reclaimed
+  on_no_map : (event : Event K V) (outcome : Outcome V) (m : Moment K V) → is_of_rows event ≡ true → is_of_slots event ≡ true → (begun event outcome m ≡ m) × (acted_on event m ≡ None)
+  on_no_map (Register registration) outcome m of on = (refl, refl)
+  on_no_map (Unregister registration) outcome m of on = (refl, refl)
+  on_no_map (Enter guard registration) outcome m of on = (refl, refl)
+  on_no_map (Own guard) outcome m of on = (refl, refl)
+  on_no_map (Refresh guard) outcome m of on = (refl, refl)
+  on_no_map (Flush guard) outcome m of on = (refl, refl)
+  on_no_map (DropGuard guard) outcome m of on = (refl, refl)
+  on_no_map _ outcome m of on = absurd (cc (of, on))
+
+  -- what it does it may do
+  may_of : (log : List (Entry K V)) (e : Entry K V) (event : Event K V) → is_of_rows event ≡ true → is_of_slots event ≡ true → MaysDo log e event → list_all (may_do e.event (moment log)) e.effects ≡ true
+  may_of log e (Register registration) of on may = may
+  may_of log e (Unregister registration) of on may = may
+  may_of log e (Enter guard registration) of on may = may
+  may_of log e (Own guard) of on may = may
+  may_of log e (Refresh guard) of on may = may
+  may_of log e (Flush guard) of on may = may
+  may_of log e (DropGuard guard) of on may = may
+  may_of log e _ of on may = absurd (cc (of, on))
+
+  -- and it finds what it must, if it asks for buckets in need
+  needs_of : (terms : Terms) (log : List (Entry K V)) (e : Entry K V) (event : Event K V) → is_of_rows event ≡ true → is_of_slots event ≡ true → FindsStill terms log e event → AtEachEffect AsksInNeed None None e.effects (moment log)
+  needs_of terms log e (Register registration) of on needs = needs
+  needs_of terms log e (Unregister registration) of on needs = needs
+  needs_of terms log e (Enter guard registration) of on needs = needs
+  needs_of terms log e (Own guard) of on needs = needs
+  needs_of terms log e (Refresh guard) of on needs = needs
+  needs_of terms log e (Flush guard) of on needs = needs
+  needs_of terms log e (DropGuard guard) of on needs = needs
+  needs_of terms log e _ of on needs = absurd (cc (of, on))
+
+  -- what it may do is to reclaim, or to ask for a bucket
+  one_of_row : (event : Event K V) → is_of_rows event ≡ true → is_of_slots event ≡ true → (m : Moment K V) (f : Effect) → may_do event m f ≡ true → (is_reclaiming f || asks_for_bucket f) ≡ true
+  one_of_row (Register registration) of on m f may = or_right (is_reclaiming f) (asks_for_bucket f) may
+  one_of_row (Unregister registration) of on m f may = absurd (cc may)
+  one_of_row (Enter guard registration) of on m f may = absurd (cc may)
+  one_of_row (Own guard) of on m f may = or_right (is_reclaiming f) (asks_for_bucket f) may
+  one_of_row (Refresh guard) of on m f may = ap (λ (q : Bool). q || asks_for_bucket f) (and_both (is_only guard m) (is_reclaiming f) may).1
+  one_of_row (Flush guard) of on m f may = absurd (cc may)
+  one_of_row (DropGuard guard) of on m f may = ap (λ (q : Bool). q || asks_for_bucket f) (and_both (is_only guard m) (is_reclaiming f) may).1
+  one_of_row _ of on m f may = absurd (cc (of, on))
+
+  all_of_row : (event : Event K V) → is_of_rows event ≡ true → is_of_slots event ≡ true → (m : Moment K V) (fs : List Effect) → list_all (may_do event m) fs ≡ true
+      → list_all (λ f. is_reclaiming f || asks_for_bucket f) fs ≡ true
+  all_of_row event of on m [] may = refl
+  all_of_row event of on m (f ∷ fs) may =
+      let each = and_both (may_do event m f) (list_all (may_do event m) fs) may in
+      ap (λ (q : Bool). q && list_all (λ g. is_reclaiming g || asks_for_bucket g) fs) (one_of_row event of on m f each.0) ∙ all_of_row event of on m fs each.1
+
+  reclaims_none : (log : List (Entry K V)) (e : Entry K V) → is_of_rows e.event ≡ true → is_of_slots e.event ≡ true → ReclaimsAll log e
+  reclaims_none log e of on = by e.event of on
+    where
+      by : (event : Event K V) → is_of_rows event ≡ true → is_of_slots event ≡ true → ReclaimsAll log (record e { event = event })
+      by (Register registration) of on = tt
+      by (Unregister registration) of on = tt
+      by (Enter guard registration) of on = tt
+      by (Own guard) of on = tt
+      by (Refresh guard) of on = tt
+      by (Flush guard) of on = tt
+      by (DropGuard guard) of on = tt
+      by _ of on = absurd (cc (of, on))
+
+module _ {K V S : Type 0} (same : K → K → Bool) (hash : K → ℕ) (terms : Terms) (log : List (Entry K V)) (event : Event K V) (played : Played V) (old new : Scheduler K V S)
+    (of : is_of_rows event ≡ true) (on : is_of_slots event ≡ true) (run : Runs same hash terms log old) (turn : is_kept_out terms event (moment log) ≡ false)
+    (after : IsPlayed same hash terms (entry_of event played ∷ log) new) (left : IsLeftOfRows terms log (entry_of event played)) where
+  abbrev e : Entry K V
+  e = entry_of event played
+
+  abbrev m : Moment K V
+  m = moment log
+
+  abbrev name : ℕ → List ℕ
+  name = run.stands.name
+
+  abbrev s : Scene K V
+  s = run.stands.scene
+
+  small : terms.batch_size < 2 ^ 64
+  small = subst (λ (n : ℕ). n < 2 ^ 64) run.size run.stands.shown.is_at.small
+
+  -- its row has run to its end
+  module _ (calls : new.calls ≡ old.calls) (slot : ℕ) (about : IsAbout event old slot) (called : SlotCall) (its : IsItsRow event old slot called) (said : RowTold (Node K V)) (comes : ComesBy event said played.outcome)
+      (ran : RowRan slot called said [] played.effects.items old.logged new.logged) where
+    f : RowFacts same hash terms log old run.stands said played.effects.items new.logged event slot called ran
+    f = facts same hash terms log old run.stands said played.effects.items new.logged event turn slot about called its ran
+
+    may : MayBegin old.logged.executor (slot_of ran.caller) called
+    may = subst (λ (x : ℕ). MayBegin old.logged.executor x called) (sym ran.in_slot) f.may
+
+    leads : RowBegins same hash called ran.caller s old.logged.executor ran.began.executor
+    leads = (ran.begins same hash name m s run.stands.shown may).0
+
+    s1 : Scene K V
+    s1 = scene_then same hash (Begin ran.caller (request_of (slot_of ran.caller) called)) s old.logged.executor ran.began.executor (leads may).3
+
+    y : RowComes same hash terms ran.caller ran.goes.0 (come_by (far [] ran.began) m s1) (far played.effects.items new.logged)
+    y = rows_come same hash terms ran.caller ran.goes.0 (far [] ran.began) (far played.effects.items new.logged) m s1 (leads may).3.4 (ran.given.1 ∙ run.size)
+        (ran.begins same hash name m s run.stands.shown may).1.counted ran.goes.1
+
+    chain : Chain (RowSteps same hash terms ran.caller) ran.goes.0 (record { executor = ran.began.executor; did = []; now = m; notes = known old.logged.notes; scene = s1 })
+        (come_by (far played.effects.items new.logged) y.now y.scene)
+    chain =
+        subst (λ (n : Notes). Chain (RowSteps same hash terms ran.caller) ran.goes.0 (record { executor = ran.began.executor; did = []; now = m; notes = known n; scene = s1 })
+        (come_by (far played.effects.items new.logged) y.now y.scene)) ran.noted y.chain
+
+    rests : y.scene.world.row ran.caller ≡ Rests
+    rests = row_rests same hash new.logged.executor y.scene y.is_at ran.caller f.over
+
+    spares : SparesGuards called (slot_of ran.caller) (there_in event m.there)
+    spares = subst (λ (x : ℕ). SparesGuards called x (there_in event m.there)) (sym ran.in_slot) f.spares
+
+    is_row : IsRowFor (request_of (slot_of ran.caller) called) s.world.uses y.scene.world.uses event played.outcome (begun event played.outcome m)
+    is_row =
+        subst (λ (x : ℕ). IsRowFor (request_of x called) s.world.uses y.scene.world.uses event played.outcome (begun event played.outcome m)) (sym ran.in_slot)
+        (f.is_row y.scene.world y.is_at.uses played.outcome comes)
+
+    -- as it begins the event is in its midst; and what all of it did finds what it must
+    begun_so : InSlotEvent same name terms log event ran.caller called (known old.logged.notes) s.world [] m (known old.logged.notes) s1
+    begun_so =
+        slot_events_begin_so K V S same hash name terms log (known old.logged.notes) s old.logged.executor ran.began.executor run.stands.shown.is_at run.size run.shows event on ran.caller called may leads spares
+        (alone_follows same hash terms log old run event (all_facts_of event of on).0)
+
+    finds : AtEachEffect (Finds terms None None (gives_all event) []) None None played.effects.items m
+    finds =
+        subst (λ (q : Bool). AtEachEffect (Finds terms None None q []) None None played.effects.items m) (sym (all_facts_of event of on).1)
+        (row_chains_find K V S same hash name terms log event ran.caller called (known old.logged.notes) s.world ran.goes.0
+        (record { executor = ran.began.executor; did = []; now = m; notes = known old.logged.notes; scene = s1 }) (come_by (far played.effects.items new.logged) y.now y.scene) chain begun_so refl
+        (all_of_row event of on m played.effects.items (may_of log e event of on left.may)) (needs_of terms log e event of on left.finds))
+
+    it : IsLegalBut same terms log e × ShowsRun same name terms (e ∷ log) (known new.logged.notes) y.scene
+    it =
+        rows_run_to_their_ends K V S same hash name terms log (known old.logged.notes) s old.logged.executor ran.began.executor run.stands.shown.is_at run.size small run.shows e on ran.caller called may
+        leads spares (alone_follows same hash terms log old run event (all_facts_of event of on).0) ran.goes.0 (come_by (far played.effects.items new.logged) y.now y.scene) chain refl rests
+        (f.inside y.scene.world y.is_at.uses played.outcome comes) (f.not_busy played.outcome comes) (may_of log e event of on left.may) finds (λ alone. is_row) left.right (reclaims_none log e of on)
+
+    shown : IsShown same hash name (moment (e ∷ log)) new.logged y.scene
+    shown = record {
+      is_at = y.is_at;
+      shows = it.1.calls.whole;
+      kept = it.1.calls.kept;
+      counted = counted_in same hash terms (moment (e ∷ log)) new after y.scene y.is_at y.counted.remains.lists y.counted.remains.left;
+    }
+
+    named : AreNamed name new.calls.items.items
+    named = subst (λ (c : Callers V). AreNamed name c.items.items) (sym calls) (its_named same hash terms m old run.stands)
+
+    shards : HaveShards terms new.logged.executor
+    shards n setting is = run.shards n setting (sym (run.stands.shown.is_at.maps n) ∙ sym (f.led.settings n) ∙ f.led.at.maps n ∙ is)
+
+    row_keeps : RunsOn same hash terms log e new
+    row_keeps = record {
+      legal = it.0;
+      runs = record { stands = stands_in same hash terms (moment (e ∷ log)) new after name y.scene shown named; shows = it.1; size = y.size; shards = shards };
+    }
+
+  -- and so it is of one that has done nothing
+  abbrev KeepsAs : Entry K V → Type 0
+  KeepsAs x = IsPlayed same hash terms (x ∷ log) new → ComesRight terms log x → RunsOn same hash terms log x new
+
+  pub slot_keeps : WorksOnSlot played old new event → RunsOn same hash terms log e new
+  slot_keeps (calls, inl (fault, is, none, still)) =
+      subst KeepsAs (sym (entry_is event played (Refused fault) played.steps [] is refl none))
+      (λ so right. still_keeps same hash terms log old run (entry event (Refused fault) played.steps []) new refl (refused_still log s.world event of fault played.steps) still calls so right) after left.right
+  slot_keeps (calls, inr (slot, about, inl (done, no_row, none, still))) =
+      subst KeepsAs (sym (entry_is event played Done played.steps [] done refl none))
+      (λ so right. still_keeps same hash terms log old run (entry event Done played.steps []) new refl
+      (none_still same hash terms log old run.stands event turn played.steps slot about no_row) still calls so right) after left.right
+  slot_keeps (calls, inr (slot, about, inr (called, its, said, comes, ran))) = row_keeps calls slot about called its said comes ran
+
+-- So it is by what a function says of an event in this form.
+module _ {K V S : Type 0} (same : K → K → Bool) (hash : K → ℕ) (event form : Event K V) (is : event ≡ form) (old new : Scheduler K V S) where
+  pub rows_keep : {X : Type 0} → is_of_slots form ≡ true → (result : Result (Played V) X) → IfOk result (λ played. WorksOnSlot played old new form) → IfOk result (λ played. KeepsRun same hash event played old new)
+  rows_keep on (Ok played) works =
+      subst (λ (x : Event K V). KeepsRun same hash x played old new) (sym is) (λ of terms log holds run turn after left begun powers. slot_keeps same hash terms log form played old new of on run turn after left works)
+  rows_keep on (Err x) works = tt
+
+  -- of others nothing is said
+  pub others_keep : is_of_rows form ≡ false → (played : Played V) → KeepsRun same hash event played old new
+  others_keep none played = subst (λ (x : Event K V). KeepsRun same hash x played old new) (sym is) (λ of terms log holds run turn after left begun powers. absurd (cc (of, none)))
+
+  pub others_keep_if : {X : Type 0} → is_of_rows form ≡ false → (result : Result (Played V) X) → IfOk result (λ played. KeepsRun same hash event played old new)
+  others_keep_if none (Ok played) = others_keep none played
+  others_keep_if none (Err x) = tt

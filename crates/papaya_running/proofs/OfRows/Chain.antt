@@ -1,0 +1,72 @@
+-- The steps that a row took are a chain of steps from the scene in which it began.
+use Rattle.std.specs.Prelude.{◌≡◌, ℕ, zero, suc, Bool, List, ◌++◌, None}
+use Rattle.std.proofs.Common.{refl, subst, ◌∙◌}
+use Rattle.papaya_histories.specs.Given.Seize.World.{Step}
+use Rattle.papaya_schedules.specs.declared.effect.Effect.{Effect}
+use Rattle.papaya_schedules.specs.Effects.{with_effects}
+use Rattle.papaya_schedules.specs.Moment.{Moment}
+use Rattle.papaya_schedules.specs.Terms.{Terms}
+use Rattle.papaya_effects.specs.Effects.{effects_of, known_after}
+use Rattle.papaya_effects.specs.Known.{Known, known}
+use Rattle.papaya_effects.specs.declared.acting.Acting.TheVariants as acts
+use Rattle.papaya_histories.specs.Given.Executor.IsAt.{Scene, IsAt}
+use Rattle.papaya_histories.specs.Given.Executor.declared.executor.Executor.{Executor}
+use Rattle.papaya_histories.specs.Given.Others.Rows.{scene_then}
+use Rattle.papaya_logged.specs.Goes.{Far, GoesFor, RowGoes}
+use Rattle.papaya_logged.specs.Shown.{IsCounted}
+use Rattle.papaya_logged.proofs.Counted.{counted_row_steps}
+use Rattle.papaya_legal.specs.Chains.{Chain, Come, RowSteps}
+
+module _ {K V S : Type 0} where
+  -- how far an event has come that has run so far, at this moment, in this scene
+  abbrev pub come_by : Far K V S → Moment K V → Scene K V → Come K V S
+  come_by f now s = record { executor = f.logged.executor; did = f.effects; now = now; notes = known f.logged.notes; scene = s }
+
+  -- so it is by what it did, and by what is known then
+  pub come_as : (e : Executor K V S) (now : Moment K V) (s : Scene K V) (a b : List Effect) (c d : Known) → a ≡ b → c ≡ d
+      → ◌≡◌ {A = Come K V S} (record { executor = e; did = a; now = now; notes = c; scene = s }) (record { executor = e; did = b; now = now; notes = d; scene = s })
+  come_as e now s a b c d did noted = λ j. record { executor = e; did = did j; now = now; notes = noted j; scene = s }
+
+module _ {K V S : Type 0} (same : K → K → Bool) (hash : K → ℕ) (terms : Terms) (i : ℕ) where
+  -- So many steps have led to where the run is: the executor is there in the scene, and calls are under way as they were.
+  pub record RowComes (n : ℕ) (x : Come K V S) (f : Far K V S) : Type 0 where
+    pub now : Moment K V
+    pub scene : Scene K V
+    pub chain : Chain (RowSteps same hash terms i) n x (come_by f now scene)
+    pub is_at : IsAt same hash f.logged.executor scene
+    pub size : f.logged.executor.batch_size ≡ terms.batch_size
+    pub counted : IsCounted now f.logged scene
+
+  pub rows_come : (n : ℕ) (from to : Far K V S) (now : Moment K V) (s : Scene K V) → IsAt same hash from.logged.executor s → from.logged.executor.batch_size ≡ terms.batch_size
+      → IsCounted now from.logged s → GoesFor (RowGoes i) n from to → RowComes n (come_by from now s) to
+  rows_come zero from to now s at size counted is =
+      subst (λ (f : Far K V S). RowComes 0 (come_by from now s) f) is (record { now = now; scene = s; chain = refl; is_at = at; size = size; counted = counted })
+  rows_come (suc n) from to now s at size counted (mid, gone, step) =
+      let y = rows_come n from mid now s at size counted gone in
+      let leads = step.leads same hash y.scene y.is_at in
+      let row = step.under.0 in
+      let here = step.under.1 in
+      let effects = effects_of acts.Row (known mid.logged.notes) to.logged.executor.memory.changed in
+      let next = scene_then same hash (Step i) y.scene mid.logged.executor to.logged.executor (leads row here).4 in
+      let w = with_effects None None effects y.now in
+      record {
+        now = w;
+        scene = next;
+        chain = (
+          come_by mid y.now y.scene,
+          y.chain,
+          record {
+            is_at = y.is_at;
+            size = y.size;
+            said = step.said;
+            leads = leads;
+            row = row;
+            here = here;
+            comes = come_as to.logged.executor w next to.effects (mid.effects ++ effects) (known to.logged.notes) (known_after acts.Row to.logged.executor.memory.changed (known mid.logged.notes))
+                step.is_noted.did step.is_noted.noted;
+          },
+        );
+        is_at = (leads row here).4.4;
+        size = step.is_noted.given.1 ∙ y.size;
+        counted = counted_row_steps same hash mid.logged to.logged.executor to.logged.notes step.is_noted.given y.now y.scene y.is_at y.counted i step.said leads row here step.is_noted.noted;
+      }

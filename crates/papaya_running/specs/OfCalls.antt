@@ -1,0 +1,147 @@
+-- What is so after each event of a run, of the scheduler and of the scene for which it stands; and what is promised of an event of a call: it keeps its promises, and the run goes on.
+use Rattle.std.specs.Prelude.{◌≡◌, ◌⊎◌, ◌<◌, ◌≤◌, ◌^◌, ◌+◌, ◌||◌, ℕ, Bool, true, false, List, ◌∷◌, not, slice_index_or, Option, Some, None}
+use Rattle.std.specs.List.{list_any}
+use Rattle.papaya_histories.specs.Given.SeizeWaiting.Held.{count}
+use Rattle.papaya_histories.specs.Given.SeizeWords.declared.fault.Fault.TheVariants.{Busy}
+use Rattle.papaya_histories.specs.Given.Seize.WaitingSets.{Sets}
+use Rattle.papaya_histories.specs.Given.Seize.World.{World, IsInside, Request, Begin, Step, Happens}
+use Rattle.papaya_histories.specs.Given.Tables.Nodes.{deferred_word}
+use Rattle.papaya_histories.specs.Given.Tables.declared.node.Node.{Node}
+use Rattle.papaya_histories.specs.Given.Tables.declared.setting.Setting.{Setting}
+use Rattle.papaya_histories.specs.Given.Raw.declared.machines.progress.Progress.{Progress}
+use Rattle.papaya_histories.specs.Given.Schedules.declared.call.Answer.TheVariants as answer
+use Rattle.papaya_histories.specs.Given.Schedules.declared.call.Call.{Call}
+use Rattle.papaya_histories.specs.Given.Schedules.declared.call.Call.TheVariants.{On}
+use Rattle.papaya_histories.specs.Given.Schedules.declared.call.OneKey.TheVariants.{Compute, TryInsert}
+use Rattle.papaya_histories.specs.Given.Schedules.declared.call.Reply.{Reply}
+use Rattle.papaya_histories.specs.Given.Schedules.declared.call.Reply.TheVariants.{Aborts}
+use Rattle.papaya_histories.specs.Given.Schedules.declared.effect.Effect.{Effect}
+use Rattle.papaya_histories.specs.Given.Schedules.declared.event.Event.{Event}
+use Rattle.papaya_histories.specs.Given.Schedules.declared.event.Event.TheVariants as events
+use Rattle.papaya_histories.specs.Given.Schedules.declared.outcome.Outcome.{Outcome}
+use Rattle.papaya_histories.specs.Given.Schedules.declared.outcome.Outcome.TheVariants.{Answered, Done, Goes, Refused}
+use Rattle.papaya_histories.specs.Given.Schedules.After.{moment, moments_from}
+use Rattle.papaya_histories.specs.Given.Schedules.Beginning.{at_work}
+use Rattle.papaya_histories.specs.Given.Schedules.Entry.{Entry, IfCall, acting, caller_of}
+use Rattle.papaya_histories.specs.Given.Schedules.Handing.{is_made, refuses as refuses_growth}
+use Rattle.papaya_histories.specs.Given.Schedules.InTurn.{ComesRight, is_kept_out}
+use Rattle.papaya_histories.specs.Given.Schedules.declared.effect.Thing.{Thing}
+use Rattle.papaya_histories.specs.Given.Schedules.Model.{things_in}
+use Rattle.papaya_histories.specs.Given.Schedules.Moment.{UnderWay as CallThere, Moment}
+use Rattle.papaya_histories.specs.Given.Schedules.Terms.{Terms, shards_of}
+use Rattle.papaya_histories.specs.Given.Schedules.Views.{reply_to}
+use Rattle.papaya_histories.specs.Given.Callers.Together.{UnderWay, HandsOver}
+use Rattle.papaya_histories.specs.Given.Effects.Effects.{known_after}
+use Rattle.papaya_histories.specs.Given.Effects.Known.{Known, known}
+use Rattle.papaya_histories.specs.Given.Effects.declared.acting.Acting.TheVariants as acts
+use Rattle.papaya_histories.specs.Given.Executor.IsAt.{Scene, IsAt, slot_of}
+use Rattle.papaya_histories.specs.Given.Executor.Stepping.{StepLeads}
+use Rattle.papaya_histories.specs.Given.Executor.declared.executor.Executor.{Executor}
+use Rattle.papaya_histories.specs.InEvent.{ComesSo, here_of}
+use Rattle.papaya_models.specs.CallEvents.{IsInItsRow, IsNoted, things_then}
+use Rattle.papaya_finds.specs.Parts.{FindRest}
+use Rattle.papaya_legal.specs.CallEvents.{InCallEvent, IsLegalBut}
+use Rattle.papaya_legal.specs.CallSwept.{TellsOf}
+use Rattle.papaya_legal.specs.Carried.{ShowsRun}
+use Rattle.papaya_scheduler.specs.Played.{IsPlayed, entry_of}
+use Rattle.papaya_named.specs.Seen.{kind_of}
+use Rattle.papaya_scheduler.specs.declared.played.Played.{Played}
+use Rattle.papaya_scheduler.specs.declared.scheduler.Scheduler.{Scheduler}
+use Rattle.papaya_stepping.specs.Stepping.{ComesAs, outcome_of}
+use Rattle.papaya_running.specs.Asked.{is_of_calls}
+
+-- each map has as many shards as the terms say
+abbrev pub HaveShards : {K V S : Type 0} → Terms → Executor K V S → Type 0
+HaveShards terms e = (n : ℕ) (setting : Setting) → slice_index_or e.maps.items n None ≡ Some setting → setting.mask + 1 ≡ shards_of terms
+
+module _ {K V S : Type 0} (same : K → K → Bool) (hash : K → ℕ) where
+  -- The scheduler has played the log, and in the scene for which it stands all is so by which the next event keeps its promises; its executor has the size of batches that the terms say, and maps
+  -- with as many shards as they say.
+  pub record Runs (terms : Terms) (log : List (Entry K V)) (p : Scheduler K V S) : Type 0 where
+    pub stands : IsPlayed same hash terms log p
+    pub shows : ShowsRun same stands.name terms log (known p.logged.notes) stands.scene
+    pub size : p.logged.executor.batch_size ≡ terms.batch_size
+    pub shards : HaveShards terms p.logged.executor
+
+  -- What is promised of an event: it is legal but for what it comes to, and a run goes on with it.
+  pub record RunsOn (terms : Terms) (log : List (Entry K V)) (e : Entry K V) (p : Scheduler K V S) : Type 0 where
+    pub legal : IsLegalBut same terms log e
+    pub runs : Runs terms (e ∷ log) p
+
+module _ {K V : Type 0} where
+  -- A value that is told back is the one that was given: by `try_insert` its own, and by `compute` the one with which it was told to abort.
+  abbrev pub TellsValue : Call K V → List (Option ℕ × Reply V) → Outcome V → Type 0
+  TellsValue (On (TryInsert k v)) replies (Answered (answer.Occupied there value)) = value ≡ v
+  TellsValue (On (TryInsert k v)) replies (Answered (answer.Found there)) = ⊥
+  TellsValue (On (Compute k)) replies (Answered (answer.Aborted value)) = (about : Option ℕ) (v : V) → reply_to about replies ≡ Some (Aborts v) → value ≡ v
+  TellsValue (On (Compute k)) replies (Answered answer.Absent) = ⊥
+  TellsValue call replies told = Unit {0}
+
+  -- What is still asked of an event of a call, by name: it comes to what is right; it is refused a growth that is to be refused; of its effects it is known why a block is asked for, which table is
+  -- linked, and that what is handed over may be; and a value that it tells back is the one that was given.
+  pub record IsLeft (terms : Terms) (log : List (Entry K V)) (e : Entry K V) : Type 0 where
+    pub right : ComesRight terms log e
+    pub refuses : (not (refuses_growth e.event) || not (list_any is_made e.effects)) ≡ true
+    pub rest : (let b = at_work e (moment log) in IfCall (λ (c : CallThere K V). FindRest terms (moments_from c.begun log) c.caller c.map e.effects b) (acting (caller_of e.event) b))
+    pub values : (let b = at_work e (moment log) in IfCall (λ (c : CallThere K V). TellsValue c.call c.replies e.outcome) (acting (caller_of e.event) b))
+
+-- a slot is active in the sets of the model while a row of a call is under way
+abbrev pub InsidesFollowInRows : Type 0 → Type 0 → Type 0
+InsidesFollowInRows K V =
+    (batch_size roots : ℕ) (things : List Thing) (sets : Sets) (known : Known) (w : World (Node K V)) → batch_size < 2 ^ 64
+    → (row_slot slot i : ℕ) → IsInItsRow batch_size roots things sets row_slot i known w → IsInside (w.uses slot) → 1 ≤ count slot sets.active
+
+module _ (K V S : Type 0) (same : K → K → Bool) (hash : K → ℕ) where
+  -- what a row hands over that begins with a step of a call is noted, as what came into a map, and it does so under the slot of its caller
+  abbrev pub RowsHandNoted : Type 0
+  RowsHandNoted =
+      (name : ℕ → List ℕ) (terms : Terms) (log : List (Entry K V)) (event : Event K V) (beginning : Moment K V) (map i : ℕ) (c : CallThere K V) (steps : ℕ) (done : List Effect) (m : Moment K V) (known : Known)
+      (s : Scene K V) (u : UnderWay K V K) (midst : InCallEvent same name terms log event beginning map i c steps done m known s u)
+      → (old new : Executor K V S) → IsAt same hash old s → (said : Progress (Node K V)) (leads : StepLeads same hash i said s old new)
+      → (let to = leads map u (here_of same name log beginning map i c done m known s u midst.event_so) in
+      (request : Request) (begun : World (Node K V)) → HandsOver to.0.setting i s.world request → Happens deferred_word old.batch_size (Begin i request) s.world begun
+      → Happens deferred_word old.batch_size (Step i) begun to.4.w2 → IsNoted (things_then (things_in log) done) known (slot_of i) request)
+
+  -- what the last step of an event says is told so, if a value that is told back is the one that was given, and it is told as such a call may be
+  abbrev pub LastStepsTell : Type 0
+  LastStepsTell =
+      (name : ℕ → List ℕ) (terms : Terms) (log : List (Entry K V)) (event : Event K V) (beginning : Moment K V) (map i : ℕ) (c : CallThere K V) (steps : ℕ) (done : List Effect) (m : Moment K V) (known : Known)
+      (s : Scene K V) (u : UnderWay K V K) → InCallEvent same name terms log event beginning map i c steps done m known s u
+      → (old new : Executor K V S) → IsAt same hash old s → (said : Progress (Node K V)) → StepLeads same hash i said s old new
+      → (value : Option V)
+      → (let known2 = known_after (acts.Call i map) new.memory.changed known in
+      let told = outcome_of known2 (kind_of c.call) value said in
+      ComesAs c.call told → TellsValue c.call c.replies told → ComesSo known2 c.call c.replies said told × TellsOf same log m map known2 said told c.call)
+
+  -- What is asked here of rows that begin within calls, and is had of no law yet.
+  pub record Wanted : Type 0 where
+    pub noted : RowsHandNoted
+
+-- an event by which a call goes on has taken steps, or was out of turn: a call that asks, or is ready, and says so again, takes none
+abbrev pub TookOrBusy : {V : Type 0} → Played V → Type 0
+TookOrBusy played = (1 ≤ played.steps) ⊎ (played.outcome ≡ Refused Busy)
+
+module _ {K V : Type 0} where
+  -- Of which events in turn this is said: of one by which a call goes on that is no walk asked for its next pair, if it has taken steps, or was out of turn; of one that is to begin a call; and of
+  -- one by which a call has got a reply, or a walk was given up.
+  abbrev pub IsSaid : Event K V → Played V → Type 0
+  IsSaid (events.Step caller refuse) played = TookOrBusy played
+  IsSaid (events.Go caller refuse) played = TookOrBusy played
+  IsSaid (events.OneCall guard name call) played = TookOrBusy played
+  IsSaid (events.Begin caller guard name call) played = Unit {0}
+  IsSaid (events.Replied caller reply) played = played.outcome ≡ Goes
+  IsSaid (events.Stop caller) played = played.outcome ≡ Done
+  IsSaid _ played = ⊥
+
+module _ {K V S : Type 0} (same : K → K → Bool) (hash : K → ℕ) where
+  -- What is promised of such an event that is in turn, with what is left: it keeps its promises, and the run goes on.
+  abbrev pub KeepsDue : Event K V → Played V → (old new : Scheduler K V S) → Type 0
+  KeepsDue event played old new =
+      IsSaid event played → Wanted K V S same hash → (terms : Terms) (log : List (Entry K V)) → Runs same hash terms log old → is_kept_out terms event (moment log) ≡ false
+      → IsLeft terms log (entry_of event played) → RunsOn same hash terms log (entry_of event played) new
+
+  -- And so it is of an event of a call that is kept out, whichever it is.
+  abbrev pub KeepsAt : Event K V → Played V → (old new : Scheduler K V S) → Type 0
+  KeepsAt event played old new =
+      is_of_calls event ≡ true → Wanted K V S same hash → (terms : Terms) (log : List (Entry K V)) → Runs same hash terms log old → (is_kept_out terms event (moment log) ≡ false → IsSaid event played)
+      → IsLeft terms log (entry_of event played) → RunsOn same hash terms log (entry_of event played) new

@@ -1,0 +1,275 @@
+-- A reservation or a sweep that waits: its step has no effect, and on a map that grows in chunks it waits for a call that it may wait for.
+use Rattle.std.specs.Prelude.{Option, Some, []}
+use Rattle.std.specs.List.{list_any}
+use Rattle.std.proofs.Common.{◌≡◌, ℕ, ◌⊎◌, inl, inr, Bool, true, refl, ap, sym, subst, ◌∙◌}
+use Rattle.papaya_histories.specs.Given.SeizeWords.Mem.{Mem, Took, value_at}
+use Rattle.papaya_histories.specs.Given.SeizeWords.Plan.{Plan, Steps}
+use Rattle.papaya_histories.specs.Given.SeizeWords.Word.{block_in}
+use Rattle.papaya_histories.specs.Given.Seize.World.{World, Row, Rests}
+use Rattle.papaya_histories.specs.Given.Seize.declared.rows.settle.Settle.{Settle}
+use Rattle.papaya_histories.specs.Given.SeizeEnds.Holders.{has_batch}
+use Rattle.papaya_histories.specs.Given.Tables.Chunks.{is_incremental}
+use Rattle.papaya_histories.specs.Given.Tables.declared.node.Node.{Node}
+use Rattle.papaya_histories.specs.Given.Tables.declared.setting.Setting.{Setting}
+use Rattle.papaya_histories.specs.Given.Resize.declared.copier.Copier.{Copier}
+use Rattle.papaya_histories.specs.Given.Resize.declared.copier.Copying.{Copying}
+use Rattle.papaya_histories.specs.Given.Resize.declared.copier.Copying.TheVariants as copies
+use Rattle.papaya_histories.specs.Given.Resize.declared.dispose.Dispose.{Dispose}
+use Rattle.papaya_histories.specs.Given.Resize.declared.dispose.Disposing.{Disposing}
+use Rattle.papaya_histories.specs.Given.Resize.declared.dispose.Disposing.TheVariants as disposing
+use Rattle.papaya_histories.specs.Given.Resize.declared.outcome.Outcome.TheVariants as outcome
+use Rattle.papaya_histories.specs.Given.Reserves.Reserve as rooms
+use Rattle.papaya_histories.specs.Given.Reserves.declared.reserve.Reserve.{Reserve}
+use Rattle.papaya_histories.specs.Given.Reserves.declared.reserve.Reserving.{Reserving}
+use Rattle.papaya_histories.specs.Given.Reserves.declared.reserve.Reserving.TheVariants as reserves
+use Rattle.papaya_histories.specs.Given.Sweeps.Sweep as plans
+use Rattle.papaya_histories.specs.Given.Sweeps.declared.sweep.Sweep.{Sweep}
+use Rattle.papaya_histories.specs.Given.Sweeps.declared.sweep.Swept.TheVariants as swept
+use Rattle.papaya_histories.specs.Given.Sweeps.declared.sweep.Sweeping.{Sweeping}
+use Rattle.papaya_histories.specs.Given.Sweeps.declared.sweep.Sweeping.TheVariants as sweeps
+use Rattle.papaya_histories.specs.Given.Rule.Maps.{IsTable}
+use Rattle.papaya_histories.specs.Given.Rule.Words.{Blocks}
+use Rattle.papaya_histories.specs.Given.Points.FactsCopies.{CopierFacts, CopyingFacts}
+use Rattle.papaya_histories.specs.Given.Points.FactsDisposes.{DisposeFacts, DisposingFacts}
+use Rattle.papaya_histories.specs.Given.Points.Told.{IsRowOfCopier}
+use Rattle.papaya_histories.specs.Given.Late.FactsReserves.{ReserveFacts, ReservingFacts}
+use Rattle.papaya_histories.specs.Given.Late.FactsSweeps.{SweepFacts, SweepingFacts}
+use Rattle.papaya_histories.specs.Given.Late.LateReserves.{LateReserveFacts}
+use Rattle.papaya_histories.specs.Given.Late.ToldReserves.{IsRowOfReserve}
+use Rattle.papaya_histories.specs.Given.Late.ToldSweeps.{IsRowOfSweep}
+use Rattle.papaya_histories.specs.Given.Callers.OverAll.{CallOverAll, row_of_sweep as swept_row}
+use Rattle.papaya_histories.specs.Given.Callers.Rooms.{CallForRoom, row_of_room}
+use Rattle.papaya_histories.specs.Given.Callers.Rows.{IsRowOn, row_of_copier, row_of_disposal}
+use Rattle.papaya_histories.specs.Given.Callers.Sights.{seen_by}
+use Rattle.papaya_histories.specs.Given.Callers.Together.{UnderWay, ForRoom, OverAll, Together, in_slot}
+use Rattle.papaya_owned.proofs.Given.Whole.Rows.Kinds.{copier_decided}
+use Rattle.papaya_owned.proofs.Given.Whole.Sweeps.Leads.{sweep_decided}
+use Rattle.papaya_waits.specs.Waits.{AnotherHolds, CopierAwaits, RoomAwaits, SweepAwaits, row_of_sweep}
+use Rattle.papaya_waits.specs.Others.{copier_in_room, copier_in_sweep, copier_of}
+use Rattle.papaya_owned.proofs.Given.Waits.Awaited.{by_copier}
+use Rattle.papaya_owned.proofs.Given.Waits.Laws.{rooms_wait_for_a_copying, room_rows_wait_for_a_holder, sweeps_wait_for_a_copying, sweep_rows_wait_for_a_holder}
+use Rattle.papaya_owned.proofs.Given.Waits.Promised.{map_of}
+use Rattle.papaya_schedules.specs.declared.effect.Table.{Table as Numbered}
+use Rattle.papaya_schedules.specs.InUse.{may_wait_for}
+use Rattle.papaya_schedules.specs.Moment.{Moment}
+use Rattle.papaya_schedules.specs.Terms.{Terms}
+use Rattle.papaya_histories.specs.Given.Effects.Effects.{effects_of}
+use Rattle.papaya_histories.specs.Given.Effects.Known.{known}
+use Rattle.papaya_histories.specs.Given.Effects.declared.acting.Acting.TheVariants as acts
+use Rattle.papaya_histories.specs.Given.Effects.declared.role.Role.TheVariants as role
+use Rattle.papaya_histories.specs.Given.Teller.declared.changed.Changed.{Changed}
+use Rattle.papaya_histories.specs.Given.Teller.declared.changed.Changed.TheVariants as changed
+use Rattle.papaya_histories.specs.Given.Finishes.Maps.{Standing}
+use Rattle.papaya_histories.specs.Given.Executor.IsAt.{slot_of}
+use Rattle.papaya_histories.specs.Given.Follows.Maps.{table_of}
+use Rattle.papaya_histories.proofs.Given.Executor.Forgotten.{as_step}
+use Rattle.papaya_owes.proofs.Tables.Hosts.{Step}
+use Rattle.papaya_scheduler.specs.Played.{StandsFor}
+use Rattle.papaya_scheduler.specs.declared.scheduler.Scheduler.{Scheduler}
+use Rattle.papaya_stepping.proofs.CopiesWait.{all_together, copier_knows, is_lawful, noted_table, other_waits, whole_knows}
+use Rattle.papaya_stepping.proofs.QuietCopies.{IsQuiet, quiet_does, room_copier_told, room_row_quiet, sweep_copier_told, sweep_row_quiet}
+use Rattle.papaya_stepping.proofs.Waiting.{waits_for_holder}
+use Rattle.papaya_stepping.proofs.WaitsFor.{on_slot}
+
+room_decided : (x : Reserving) → IsRowOfReserve x ⊎ (IsRowOfReserve x → ⊥)
+room_decided (reserves.Copies copier) = copier_decided copier.stands
+room_decided reserves.Reads = inr (λ row. row)
+room_decided (reserves.Makes making) = inr (λ row. row)
+room_decided (reserves.Sums table sum) = inr (λ row. row)
+room_decided (reserves.Follows table need) = inr (λ row. row)
+room_decided (reserves.Grows table making) = inr (λ row. row)
+room_decided reserves.Over = inr (λ row. row)
+room_decided (reserves.Refused fault) = inr (λ row. row)
+
+-- the row that a sweep stands at is told in one way
+same_row : (slot : ℕ) (stands : Sweeping) → swept_row slot stands ≡ row_of_sweep slot stands
+same_row slot (sweeps.Copies copier) = refl
+same_row slot (sweeps.Disposes dispose) = refl
+same_row slot _ = refl
+
+module _ {K V S : Type 0} (same : K → K → Bool) (hash : K → ℕ) (terms : Terms) (m : Moment K V) (p : Scheduler K V S) (stands : StandsFor same hash terms m p) (of : ℕ)
+    (st : Standing K) (is : stands.scene.maps of ≡ Some st) where
+  abbrev w : World (Node K V)
+  w = stands.scene.world
+
+  abbrev before : Mem (Node K V)
+  before = p.logged.executor.memory.memory
+
+  abbrev calls_on : ℕ → Option (UnderWay K V K)
+  calls_on = stands.scene.calls of
+
+  together : Together V same hash same st.setting slot_of w st.chart st.blocks st.sights calls_on
+  together = all_together same hash terms m p stands of st is
+
+  -- of one call
+  module _ (i : ℕ) (x : UnderWay K V K) (under : stands.scene.calls of i ≡ Some x) where
+    abbrev seen : Blocks
+    seen = seen_by st.blocks (st.sights (slot_of i))
+
+    abbrev its_setting : Setting
+    its_setting = in_slot st.setting (slot_of i)
+
+    abbrev Waits : Type 0
+    Waits = list_any (may_wait_for (stands.shown.shows.all.shown.calls of i x under).0 m) m.calls ≡ true
+
+    abbrev Nothing : Changed → Type 0
+    Nothing told = effects_of (acts.Call i of) (known p.logged.notes) told ≡ []
+
+    as_taken : {R : Type 0} (plan : Plan (Node K V) R) (m2 : Mem (Node K V)) (told : Changed) (end : R) → Step before m2 told plan end → Steps Took value_at w.memory plan m2 end
+    as_taken plan m2 told end s = subst (λ (k : Mem (Node K V)). Steps Took value_at k plan m2 end) (sym stands.shown.is_at.memory) (as_step before changed.Nothing plan m2 told end s)
+
+    -- the row that it stands at works on its slot: it is its copier's, or its disposal's
+    copier_on : (copier : Copier) → CopierFacts same hash w i its_setting st.chart seen copier → IsRowOn (slot_of i) (row_of_copier copier.stands)
+    copier_on copier facts = by copier.stands facts.point
+      where
+        by : (q : Copying) → CopyingFacts same hash w i its_setting st.chart seen copier q → IsRowOn (slot_of i) (row_of_copier q)
+        by (copies.Retires settle rest) g = ap (λ (y : Settle). y.slot) g.2.0
+        by _ g = tt
+
+    dispose_on : (dispose : Dispose) → DisposeFacts w i its_setting st.chart seen dispose → IsRowOn (slot_of i) (row_of_disposal (slot_of i) dispose.stands)
+    dispose_on dispose facts = by dispose.stands facts.point
+      where
+        by : (q : Disposing) → DisposingFacts w i its_setting st.chart seen facts.n facts.t q → IsRowOn (slot_of i) (row_of_disposal (slot_of i) q)
+        by (disposing.Settles settle) g = ap (λ (y : Settle). y.slot) g.0.0
+        by (disposing.Defers defer) g = refl
+        by _ g = tt
+
+    -- another row has the batch of its slot
+    by_holder : (row : Row) → IsRowOn (slot_of i) row → AnotherHolds w i row → Waits
+    by_holder row on (s, settles, (j, has, other, only)) =
+        waits_for_holder same hash terms m p stands of i j x under
+        (subst (λ (n : ℕ). has_batch n (w.row j) ≡ true) (on_slot (slot_of i) s row on settles) has) other
+
+    -- within a copier
+    module _ (copier : Copier) (within : copier_of x ≡ Some copier) (awaits : CopierAwaits st.chart (is_incremental st.setting.mode) copier copier.stands) where
+      abbrev Noted : Type 0
+      Noted = (t : Numbered) × (len : ℕ) × ((known p.logged.notes).roles (block_in copier.source.link) ≡ role.Table t len)
+
+      none : IsRowOfCopier copier.stands → ⊥
+      none row = by copier.stands awaits row
+        where
+          by : (q : Copying) → CopierAwaits st.chart (is_incremental st.setting.mode) copier q → IsRowOfCopier q → ⊥
+          by (copies.Retires settle rest) awaits_so row_so = awaits_so
+          by _ awaits_so row_so = row_so
+
+      -- in incremental mode its source is noted as a table of the map
+      noted : is_incremental st.setting.mode ≡ true → Noted
+      noted mode = by copier.stands awaits (copier_knows same hash terms m p stands of st is i x under mode copier none within).point
+        where
+          source : (t : ℕ) → IsTable st.chart seen copier.source t → Noted
+          source t it = (table_of of t, st.chart.len t, noted_table same hash terms m p stands of st is i x under t copier.source it)
+
+          by : (q : Copying) → CopierAwaits st.chart (is_incremental st.setting.mode) copier q → CopyingFacts same hash w i its_setting st.chart seen copier q → Noted
+          by copies.Marks awaits_so facts = source facts.0 facts.1.0
+          by copies.Asks awaits_so facts = source facts.0 facts.1.0
+          by _ awaits_so facts = absurd awaits_so
+
+      does_nothing : (told : Changed) → IsQuiet (is_incremental st.setting.mode) told (block_in copier.source.link) → Nothing told
+      does_nothing told quiet = quiet_does (acts.Call i of) (known p.logged.notes) (is_incremental st.setting.mode) told (block_in copier.source.link) noted quiet
+
+      copier_waits : is_incremental st.setting.mode ≡ true → Waits
+      copier_waits mode =
+          other_waits same hash terms m p stands of st is mode i x under
+          (by_copier V same hash same st.setting slot_of w st.chart st.blocks st.sights calls_on together mode (stands.shown.kept.ends of st is mode) i x under copier within seen
+          (copier_knows same hash terms m p stands of st is i x under mode copier none within)
+          (subst (λ (b : Bool). CopierAwaits st.chart b copier copier.stands) mode awaits))
+
+    -- what is said of it: its step does nothing, and on a map that grows in chunks it waits for one that it may wait for
+    abbrev pub SaysWaits : Changed → Type 0
+    SaysWaits told = Nothing told × (is_incremental st.setting.mode ≡ true → Waits)
+
+    at_row : (told : Changed) → told ≡ changed.Nothing → (row : Row) → (is_incremental st.setting.mode ≡ true → IsRowOn (slot_of i) row) → AnotherHolds w i row → SaysWaits told
+    at_row told nothing row on holds = (ap (λ (y : Changed). effects_of (acts.Call i of) (known p.logged.notes) y) nothing, λ mode. by_holder row (on mode) holds)
+
+  -- a reservation
+  module _ (i : ℕ) (r : CallForRoom) (under : stands.scene.calls of i ≡ Some (ForRoom r)) where
+    room_on : is_incremental st.setting.mode ≡ true → IsRowOn (slot_of i) (row_of_room r.reserve.stands)
+    room_on mode = elim (together.stand i (ForRoom r) under) as (λ _. IsRowOn (slot_of i) (row_of_room r.reserve.stands)) [
+      | inl rests ↦ facts rests.1.facts
+      | inr within ↦ subst (λ (row : Row). IsRowOn (slot_of i) row) within.0 (stands.shown.is_at.on_slots i)
+    ]
+      where
+        begins : (q : Reserving) → ReservingFacts same hash w i (its_setting i (ForRoom r) under) st.chart (seen i (ForRoom r) under) q → IsRowOn (slot_of i) (row_of_room q)
+        begins (reserves.Copies copier) f = copier_on i (ForRoom r) under copier (whole_knows same hash terms m p stands of st is i (ForRoom r) under mode copier f)
+        begins _ f = tt
+
+        facts : ReserveFacts same hash w i (its_setting i (ForRoom r) under) st.chart (seen i (ForRoom r) under) r.reserve
+            ⊎ LateReserveFacts same hash w i (its_setting i (ForRoom r) under) st.chart (seen i (ForRoom r) under) r.began r.reserve → IsRowOn (slot_of i) (row_of_room r.reserve.stands)
+        facts (inl fresh) = begins r.reserve.stands fresh.point
+        facts (inr late) = absurd (let blocking = late.blocking in cc (mode, blocking))
+
+    pub room_says : (m2 : Mem (Node K V)) (told : Changed) (p2 : Reserve) → Step before m2 told (rooms.reserve_plan hash r.reserve) (p2, outcome.Waits) → SaysWaits i (ForRoom r) under told
+    room_says m2 told p2 s = elim (room_decided r.reserve.stands) as (λ _. SaysWaits i (ForRoom r) under told) [
+      | inl row ↦
+          at_row i (ForRoom r) under told (room_row_quiet before m2 told hash r.reserve r.reserve.stands row (p2, outcome.Waits) s refl) (row_of_room r.reserve.stands) room_on
+          (room_rows_wait_for_a_holder V same hash same st.setting slot_of w st.chart st.blocks st.sights calls_on together i r under row m2 p2 steps)
+      | inr none ↦
+          by r.reserve.stands refl
+          (rooms_wait_for_a_copying V same hash same st.setting slot_of (is_lawful same hash terms m p stands of st is) w st.chart st.blocks st.sights calls_on together i r under none m2 p2 steps).1 s
+    ]
+      where
+        steps : Steps Took value_at w.memory (rooms.reserve_plan hash r.reserve) m2 (p2, outcome.Waits)
+        steps = as_taken i (ForRoom r) under (rooms.reserve_plan hash r.reserve) m2 told (p2, outcome.Waits) s
+
+        by : (q : Reserving) → r.reserve.stands ≡ q → RoomAwaits st.chart (is_incremental st.setting.mode) q → Step before m2 told (rooms.plan_at hash r.reserve q) (p2, outcome.Waits)
+            → SaysWaits i (ForRoom r) under told
+        by (reserves.Copies copier) here awaits t = (
+          does_nothing i (ForRoom r) under copier (ap copier_in_room here) awaits told
+              (room_copier_told before m2 told hash r.reserve st.chart (is_incremental st.setting.mode) copier awaits (p2, outcome.Waits) t),
+          copier_waits i (ForRoom r) under copier (ap copier_in_room here) awaits,
+        )
+        by _ here none t = absurd none
+
+  -- a sweep
+  module _ (i : ℕ) (o : CallOverAll) (under : stands.scene.calls of i ≡ Some (OverAll o)) where
+    abbrev SweepKnows : Type 0
+    SweepKnows = SweepFacts same hash w i (its_setting i (OverAll o) under) st.chart (seen i (OverAll o) under) o.began o.sweep
+
+    sweep_on : is_incremental st.setting.mode ≡ true → IsRowOn (slot_of i) (row_of_sweep (slot_of i) o.sweep.stands)
+    sweep_on mode = elim (together.stand i (OverAll o) under) as (λ _. IsRowOn (slot_of i) (row_of_sweep (slot_of i) o.sweep.stands)) [
+      | inl rests ↦ begins o.sweep.stands rests.1.facts.point
+      | inr within ↦ subst (λ (row : Row). IsRowOn (slot_of i) row) (within.0 ∙ same_row (slot_of i) o.sweep.stands) (stands.shown.is_at.on_slots i)
+    ]
+      where
+        begins : (q : Sweeping) → SweepingFacts same hash w i (its_setting i (OverAll o) under) st.chart (seen i (OverAll o) under) o.began o.sweep q
+            → IsRowOn (slot_of i) (row_of_sweep (slot_of i) q)
+        begins (sweeps.Copies copier) (inl whole) = copier_on i (OverAll o) under copier (whole_knows same hash terms m p stands of st is i (OverAll o) under mode copier whole)
+        begins (sweeps.Copies copier) (inr (blocking, late)) = absurd (cc (mode, blocking))
+        begins (sweeps.Disposes dispose) f = dispose_on i (OverAll o) under dispose f.3
+        begins _ f = tt
+
+    -- its row is under way, or not begun
+    its_row : (w.row i ≡ Rests) ⊎ (w.row i ≡ row_of_sweep (slot_of i) o.sweep.stands)
+    its_row = elim (together.stand i (OverAll o) under) as (λ _. (w.row i ≡ Rests) ⊎ (w.row i ≡ row_of_sweep (slot_of i) o.sweep.stands)) [
+      | inl rests ↦ inl rests.0
+      | inr within ↦ inr (within.0 ∙ same_row (slot_of i) o.sweep.stands)
+    ]
+
+    its_facts : (IsRowOfSweep o.sweep.stands → ⊥) → SweepKnows
+    its_facts none = elim (together.stand i (OverAll o) under) as (λ _. SweepKnows) [
+      | inl rests ↦ rests.1.facts
+      | inr within ↦ absurd (none within.1)
+    ]
+
+    pub sweep_says : (m2 : Mem (Node K V)) (told : Changed) (p2 : Sweep) → Step before m2 told (plans.sweep_plan hash o.sweep) (p2, swept.Waits) → SaysWaits i (OverAll o) under told
+    sweep_says m2 told p2 s = elim (sweep_decided o.sweep.stands) as (λ _. SaysWaits i (OverAll o) under told) [
+      | inl row ↦
+          at_row i (OverAll o) under told (sweep_row_quiet before m2 told hash o.sweep o.sweep.stands row (p2, swept.Waits) s refl) (row_of_sweep (slot_of i) o.sweep.stands) sweep_on
+          (sweep_rows_wait_for_a_holder V same hash slot_of st.setting.batch_size w together.ground.came i o.sweep row its_row m2 p2 steps)
+      | inr none ↦
+          by o.sweep.stands refl
+          (sweeps_wait_for_a_copying V same hash (is_lawful same hash terms m p stands of st is) (its_setting i (OverAll o) under) w i st.chart (seen i (OverAll o) under) o.began o.sweep
+          (map_of V same hash same st.setting slot_of w st.chart st.blocks st.sights calls_on together i (OverAll o) under) (its_facts none) none m2 p2 steps).1 s
+    ]
+      where
+        steps : Steps Took value_at w.memory (plans.sweep_plan hash o.sweep) m2 (p2, swept.Waits)
+        steps = as_taken i (OverAll o) under (plans.sweep_plan hash o.sweep) m2 told (p2, swept.Waits) s
+
+        by : (q : Sweeping) → o.sweep.stands ≡ q → SweepAwaits st.chart (is_incremental st.setting.mode) q → Step before m2 told (plans.plan_at hash o.sweep q) (p2, swept.Waits)
+            → SaysWaits i (OverAll o) under told
+        by (sweeps.Copies copier) here awaits t = (
+          does_nothing i (OverAll o) under copier (ap copier_in_sweep here) awaits told
+              (sweep_copier_told before m2 told hash o.sweep st.chart (is_incremental st.setting.mode) copier awaits (p2, swept.Waits) t),
+          copier_waits i (OverAll o) under copier (ap copier_in_sweep here) awaits,
+        )
+        by _ here none t = absurd none

@@ -1,0 +1,4 @@
+//! Which call another one waits for where all pairs are copied at once.
+#![tactic(auto)]
+
+pub mod law;
