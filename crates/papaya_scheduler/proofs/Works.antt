@@ -24,12 +24,12 @@ use Rattle.papaya_scheduler.specs.declared.scheduler.Scheduler.{Scheduler}
 module _ {K V S : Type 0} (event : Event K V) (old : Scheduler K V S) (played : Played V) where
   -- it was refused, and did nothing;
   pub did_refuse : (fault : Fault) → played.outcome ≡ Refused fault → played.effects.items ≡ [] → WorksOnSlot played old old event
-  did_refuse fault is none = (refl, inl (fault, is, none, refl))
+  did_refuse fault is none = (refl, inl (fault, is, (none, refl)))
 
   module _ (slot : ℕ) (about : IsAbout event old slot) (new : Scheduler K V S) (calls : new.calls ≡ old.calls) where
     -- there was nothing to be done on its slot;
     pub did_none : played.outcome ≡ Done → HasNoRow event old.there slot → played.effects.items ≡ [] → new.logged ≡ old.logged → WorksOnSlot played old new event
-    did_none done no_row none still = (calls, inr (slot, about, inl (done, no_row, none, still)))
+    did_none done no_row none still = (calls, inr (slot, about, inl (done, no_row, (none, still))))
 
     -- or its row has run there
     module _ (called : SlotCall) (its : IsItsRow event old slot called) (before after : List Effect) (nothing : before ≡ []) (effects : played.effects.items ≡ after) (q : Logged K V S) (is : new.logged ≡ q) where

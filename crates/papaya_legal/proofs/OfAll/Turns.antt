@@ -60,7 +60,7 @@ all_back (y ∷ ys) = flat_map-cons thing_back (Reclaimed y) (map Reclaimed ys) 
 
 -- a block that is not the first one is among the others
 among_rest : (d b : ℕ) (xs : List ℕ) → d ≢ b → 0 < times d (b ∷ xs) → 0 < times d xs
-among_rest d b xs ne l = subst (λ (q : Bool). 0 < (if q then 1 else 0) + times d xs) (ne_eqb d b ne) l
+among_rest d b xs ne l = (let more : 0 < 0 + times d xs = subst (λ (q : Bool). 0 < (if q then 1 else 0) + times d xs) (ne_eqb d b ne) l in omega (arith, more))
 
 module _ {K V : Type 0} (v : Moment K V) (n : ℕ) where
   abbrev IsLeftAfter : Role → Type 0
