@@ -146,5 +146,5 @@ module _ (K V S : Type 0) (same : K → K → Bool) (hash : K → ℕ) where
       }
     where
       neither : (q : Bool) → (q ≡ true → ⊥) → q ≡ false
-      neither true no = absurd (no refl)
-      neither false no = refl
+      neither true never = absurd (never refl)
+      neither false never = refl

@@ -126,13 +126,13 @@ returns-in-Refused-clause-quiet g c =
     (subst (λ (x : Progress Setting). MakingFinds c.in_ok-caller.caller c.len-number.result x c.no_effects-effects.result.items c.run_making.new.effects.items c.begin_making.new.self c.run_making.new.self) c.in-Refused.is c.in_ok-told.ensures.finds)
 
 pub returns-in-Err-clause-works : goal.returns-in-Err-clause-works
-returns-in-Err-clause-works g c = (refl, inl (c.in-Err.fault, c.quietly.ensures.outcome, c.quietly.ensures.effects, refl))
+returns-in-Err-clause-works g c = (refl, inl (c.in-Err.fault, c.quietly.ensures.outcome, (c.quietly.ensures.effects, refl)))
 
 pub returns-then-not-may_make-clause-works : goal.returns-then-not-may_make-clause-works
-returns-then-not-may_make-clause-works g c = (refl, inl (Busy, c.busy.ensures.outcome, c.busy.ensures.effects, refl))
+returns-then-not-may_make-clause-works g c = (refl, inl (Busy, c.busy.ensures.outcome, (c.busy.ensures.effects, refl)))
 
 pub returns-then-scheduler-eq0-clause-works : goal.returns-then-scheduler-eq0-clause-works
-returns-then-scheduler-eq0-clause-works g c = (refl, inl (RootsUsedUp, c.quietly-then-scheduler-eq0.ensures.outcome, c.quietly-then-scheduler-eq0.ensures.effects, refl))
+returns-then-scheduler-eq0-clause-works g c = (refl, inl (RootsUsedUp, c.quietly-then-scheduler-eq0.ensures.outcome, (c.quietly-then-scheduler-eq0.ensures.effects, refl)))
 
 pub returns-in-Refused-clause-works : goal.returns-in-Refused-clause-works
 returns-in-Refused-clause-works g c = (refl, inr (inl (c.in-Refused.fault, refl)))
