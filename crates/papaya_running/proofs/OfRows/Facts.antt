@@ -55,13 +55,13 @@ use Rattle.papaya_scheduler.proofs.Vacancies.{first_is}
 
 -- by how a slot is used it is within a section, or not
 pub inside_by : (kind : SlotUse) (v : Use) → IsUsedAs kind v → kind ≡ used.Inside → IsInside v
-inside_by kind v as is = let so = subst (λ (x : SlotUse). IsUsedAs x v) is as in subst (λ (x : Use). IsInside x) (sym so.1) tt
+inside_by kind v fits is = let so = subst (λ (x : SlotUse). IsUsedAs x v) is fits in subst (λ (x : Use). IsInside x) (sym so.1) tt
 
 outside_by : (kind : SlotUse) (v : Use) → IsUsedAs kind v → kind ≡ used.Outside → IsInside v → ⊥
-outside_by kind v as is inside = let so = subst (λ (x : SlotUse). IsUsedAs x v) is as in subst (λ (x : Use). IsInside x) so.1 inside
+outside_by kind v fits is inside = let so = subst (λ (x : SlotUse). IsUsedAs x v) is fits in subst (λ (x : Use). IsInside x) so.1 inside
 
 vacant_by : (kind : SlotUse) (v : Use) → IsUsedAs kind v → kind ≡ used.Vacant → IsInside v → ⊥
-vacant_by kind v as is inside = let so = subst (λ (x : SlotUse). IsUsedAs x v) is as in subst (λ (x : Use). IsInside x) so inside
+vacant_by kind v fits is inside = let so = subst (λ (x : SlotUse). IsUsedAs x v) is fits in subst (λ (x : Use). IsInside x) so inside
 
 module _ {K V S : Type 0} (same : K → K → Bool) (hash : K → ℕ) (terms : Terms) (log : List (Entry K V)) (p : Scheduler K V S) (stands : StandsFor same hash terms (moment log) p) where
   -- A guard that lives is there, on its slot
