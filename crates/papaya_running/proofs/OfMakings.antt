@@ -147,17 +147,14 @@ module _ {K V S : Type 0} (same : K → K → Bool) (hash : K → ℕ) (s : Scen
   made_maps (progress.Refused fault) leads setting is n = absurd (cc is)
   made_maps (progress.Done answer) leads setting is n = by (cases_eq n b.map)
     where
-<<<<<<< HEAD
-=======
       c : (standing : Standing K) × IsMade V same same old.batch_size old.roots slot_of b answer standing
           × IsAt same hash new (record s { world = (leads b here).2.step.w2; maps = with_at s.maps b.map (Some standing); makers = with_at s.makers i None })
       c = (leads b here).3
 
->>>>>>> join31
       by : (n ≡ b.map) ⊎ (n ≢ b.map) → ((n ≢ b.map) × ((next_scene (progress.Done answer) leads).maps n ≡ s.maps n))
           ⊎ ((standing : Standing K) × ((next_scene (progress.Done answer) leads).maps n ≡ Some standing) × (standing.setting.mask ≡ b.given.mask))
-      by (inl one) = let c = (leads b here).3 in inr (c.0, at_same s.maps b.map (Some c.0) n one, ap (λ (x : Setting). x.mask) (c.1.setting_is ∙ c.1.answer_is))
-      by (inr ne) = let c = (leads b here).3 in inl (ne, at_other s.maps b.map (Some c.0) n ne)
+      by (inl one) = inr (c.0, at_same s.maps b.map (Some c.0) n one, ap (λ (x : Setting). x.mask) (c.1.setting_is ∙ c.1.answer_is))
+      by (inr ne) = inl (ne, at_other s.maps b.map (Some c.0) n ne)
 
 -- what is told until the last step needs no new map
 none_new : {K V : Type 0} (map : ℕ) (said : Progress Setting) (m : Moment K V) → is_over said ≡ false → WasNew map said m
