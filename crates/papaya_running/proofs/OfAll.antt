@@ -101,7 +101,7 @@ module _ {K V S : Type 0} (same : K → K → Bool) (hash : K → ℕ) (terms : 
   behind = run.stands.shown.counted.remains.lists
 
   -- all of it may be reclaimed in that scene, and there are as many roots as the terms say
-  gives : MayGiveAll old s
+  abbrev gives : MayGiveAll old s
   gives = gives_all_in same hash terms m old run.stands holds.counts.apart.numbers.found
 
   roots_are : old.logged.executor.roots ≡ terms.roots

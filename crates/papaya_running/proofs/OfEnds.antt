@@ -138,19 +138,19 @@ module _ {K V S : Type 0} (same : K → K → Bool) (hash : K → ℕ) (terms : 
   IsUnder f s = (d : Finishing K V) × (s.enders i ≡ Some d) × NotesMap map number first d.setting d.chart d.blocks × NotedStill first (known f.logged.notes) d.back
 
   module _ (n : ℕ) (x : Come K V S) (mid to : Far K V S) (y : EndComes n x mid) (it : IsUnder mid y.scene) (step : EndGoes i map mid to) where
-    leads : EndingLeads same hash i step.said y.scene mid.logged.executor to.logged.executor
+    abbrev leads : EndingLeads same hash i step.said y.scene mid.logged.executor to.logged.executor
     leads = step.leads same hash y.scene y.is_at
 
-    effects : List Effect
+    abbrev effects : List Effect
     effects = effects_of (acts.Ending map) (known mid.logged.notes) to.logged.executor.memory.changed
 
     no_map : y.scene.maps map ≡ None
     no_map = ap (λ (g : ℕ → Option (Standing K)). g map) y.maps ∙ gone
 
-    next : Scene K V
+    abbrev next : Scene K V
     next = next_scene same hash y.scene mid.logged.executor to.logged.executor i it.0 it.1 step.said leads
 
-    w : Moment K V
+    abbrev w : Moment K V
     w = with_effects None (Some map) effects y.now
 
     its : AtEachEffect (IsOfIts map) None (Some map) effects y.now
@@ -180,7 +180,7 @@ module _ {K V S : Type 0} (same : K → K → Bool) (hash : K → ℕ) (terms : 
           step.is_noted.did step.is_noted.noted;
     }
 
-    pub end_comes_on : EndComes (suc n) x to
+    abbrev pub end_comes_on : EndComes (suc n) x to
     end_comes_on = record {
       now = w;
       scene = next;
@@ -226,7 +226,7 @@ module _ {K V S : Type 0} (same : K → K → Bool) (hash : K → ℕ) (terms : 
   abbrev s : Scene K V
   s = run.stands.scene
 
-  due : IsDue same hash terms log (EndMap own) old
+  abbrev due : IsDue same hash terms log (EndMap own) old
   due = record { played = run.stands; in_turn = turn }
 
   small : terms.batch_size < 2 ^ 64
@@ -249,16 +249,16 @@ module _ {K V S : Type 0} (same : K → K → Bool) (hash : K → ℕ) (terms : 
     abbrev e : Entry K V
     e = entry (EndMap own) Done played.steps effects
 
-    begun : EndIsBegun same hash name m s map i old.logged d.began
+    abbrev begun : EndIsBegun same hash name m s map i old.logged d.began
     begun = d.begins same hash name m s run.stands.shown
 
     none_on : NoCallOn old.logged.executor map
     none_on = no_call same hash terms log old own due map d.found d.free
 
-    standing : Standing K
+    abbrev standing : Standing K
     standing = (begun none_on).0
 
-    s1 : Scene K V
+    abbrev s1 : Scene K V
     s1 = ending_begun map i standing s
 
     at1 : IsAt same hash d.began.executor s1
@@ -317,7 +317,7 @@ module _ {K V S : Type 0} (same : K → K → Bool) (hash : K → ℕ) (terms : 
     prev : Midway same hash terms name log own i map (known old.logged.notes) number first_noted s1.maps gone below d.gone.1.0 x d.gone.0
     prev = ends_come same hash terms name log own i map (known old.logged.notes) number first_noted s1.maps gone below d.gone.1.0 x (far [] d.began) d.gone.0 d.gone.1.1 first
 
-    y : Comes (suc d.gone.1.0) (far effects new.logged)
+    abbrev y : Comes (suc d.gone.1.0) (far effects new.logged)
     y = end_comes_on same hash terms name log own i map (known old.logged.notes) number first_noted s1.maps gone below d.gone.1.0 x d.gone.0 (far effects new.logged) prev.0 prev.1 d.gone.2
 
     over : y.scene.enders i ≡ None

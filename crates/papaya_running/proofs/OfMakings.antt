@@ -184,16 +184,16 @@ module _ {K V S : Type 0} (same : K → K → Bool) (hash : K → ℕ) (terms : 
     abbrev d : Beginning K
     d = record b { machine = it.0 }
 
-    leads : MakingLeads same hash i step.said y.scene mid.logged.executor to.logged.executor
+    abbrev leads : MakingLeads same hash i step.said y.scene mid.logged.executor to.logged.executor
     leads = step.leads same hash y.scene y.is_at
 
-    effects : List Effect
+    abbrev effects : List Effect
     effects = effects_of (acts.Making b.map) (known mid.logged.notes) to.logged.executor.memory.changed
 
-    pub next : Scene K V
+    abbrev pub next : Scene K V
     next = next_scene same hash y.scene mid.logged.executor to.logged.executor i d it.1 step.said leads
 
-    w : Moment K V
+    abbrev w : Moment K V
     w = with_effects None (Some b.map) effects y.now
 
     one : MakingSteps same hash terms i b.map (come_by mid y.now y.scene) (come_by to w next)
@@ -211,7 +211,7 @@ module _ {K V S : Type 0} (same : K → K → Bool) (hash : K → ℕ) (terms : 
           step.is_noted.did step.is_noted.noted;
     }
 
-    pub making_comes_on : MakingComes (suc n) x to
+    abbrev pub making_comes_on : MakingComes (suc n) x to
     making_comes_on = record {
       now = w;
       scene = next;
@@ -265,7 +265,7 @@ module _ {K V S : Type 0} (same : K → K → Bool) (hash : K → ℕ) (terms : 
   s = run.stands.scene
 
   -- it may happen
-  may : MayMap same hash terms log event old
+  abbrev may : MayMap same hash terms log event old
   may = record { due = record { played = run.stands; in_turn = turn }; lawful = holds.lawful; counts = holds.counts }
 
   abbrev KeepsAs : Entry K V → Type 0
@@ -291,7 +291,7 @@ module _ {K V S : Type 0} (same : K → K → Bool) (hash : K → ℕ) (terms : 
     abbrev bm : Moment K V
     bm = with_map there m
 
-    s1 : Scene K V
+    abbrev s1 : Scene K V
     s1 = record s { makers = with_at s.makers i (Some b) }
 
     begins : MakingIsBegun same hash name m s d.given d.places i old.logged d.began
@@ -353,7 +353,7 @@ module _ {K V S : Type 0} (same : K → K → Bool) (hash : K → ℕ) (terms : 
     was : WasNew b.map d.gone.3.said prev.0.now
     was = subst (λ (t : Progress Setting). WasNew b.map t prev.0.now) (sym d.gone.4) prev.1.2
 
-    y : MakingComes same hash terms name log own mode capacity i b bm below d.setting s.maps (suc d.gone.1.0) x (far effects mid)
+    abbrev y : MakingComes same hash terms name log own mode capacity i b bm below d.setting s.maps (suc d.gone.1.0) x (far effects mid)
     y = making_comes_on same hash terms name log own mode capacity i b bm below d.setting s.maps d.gone.1.0 x d.gone.0 (far effects mid) prev.0 prev.1 d.gone.3 was
 
     chain : Chain (MakingSteps same hash terms i b.map) (suc d.gone.1.0) (record { executor = d.began.executor; did = []; now = bm; notes = known old.logged.notes; scene = s1 })

@@ -166,10 +166,10 @@ module _ {K V S : Type 0} (same : K → K → Bool) (hash : K → ℕ) (terms : 
     may : MayBegin old.logged.executor (slot_of ran.caller) called
     may = subst (λ (x : ℕ). MayBegin old.logged.executor x called) (sym ran.in_slot) f.may
 
-    leads : RowBegins same hash called ran.caller s old.logged.executor ran.began.executor
+    abbrev leads : RowBegins same hash called ran.caller s old.logged.executor ran.began.executor
     leads = (ran.begins same hash name m s run.stands.shown may).0
 
-    s1 : Scene K V
+    abbrev s1 : Scene K V
     s1 = scene_then same hash (Begin ran.caller (request_of (slot_of ran.caller) called)) s old.logged.executor ran.began.executor (leads may).3
 
     y : RowComes same hash terms ran.caller ran.goes.0 (come_by (far [] ran.began) m s1) (far played.effects.items new.logged)
