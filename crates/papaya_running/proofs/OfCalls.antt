@@ -9,6 +9,8 @@ pub mod Found
 pub mod Ends
 pub mod Taken
 pub mod Quiet
+pub mod AsBefore
+pub mod Again
 pub mod Begun
 pub mod Told
 pub mod Whole

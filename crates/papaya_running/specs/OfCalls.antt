@@ -1,8 +1,7 @@
 -- What is so after each event of a run, of the scheduler and of the scene for which it stands; and what is promised of an event of a call: it keeps its promises, and the run goes on.
-use Rattle.std.specs.Prelude.{◌≡◌, ◌⊎◌, ◌<◌, ◌≤◌, ◌^◌, ◌+◌, ◌||◌, ℕ, Bool, true, false, List, ◌∷◌, not, slice_index_or, Option, Some, None}
+use Rattle.std.specs.Prelude.{◌≡◌, ◌<◌, ◌≤◌, ◌^◌, ◌+◌, ◌||◌, ℕ, Bool, true, false, List, ◌∷◌, not, slice_index_or, Option, Some, None}
 use Rattle.std.specs.List.{list_any}
 use Rattle.papaya_histories.specs.Given.SeizeWaiting.Held.{count}
-use Rattle.papaya_histories.specs.Given.SeizeWords.declared.fault.Fault.TheVariants.{Busy}
 use Rattle.papaya_histories.specs.Given.Seize.WaitingSets.{Sets}
 use Rattle.papaya_histories.specs.Given.Seize.World.{World, IsInside, Request, Begin, Step, Happens}
 use Rattle.papaya_histories.specs.Given.Tables.Nodes.{deferred_word}
@@ -19,7 +18,7 @@ use Rattle.papaya_histories.specs.Given.Schedules.declared.effect.Effect.{Effect
 use Rattle.papaya_histories.specs.Given.Schedules.declared.event.Event.{Event}
 use Rattle.papaya_histories.specs.Given.Schedules.declared.event.Event.TheVariants as events
 use Rattle.papaya_histories.specs.Given.Schedules.declared.outcome.Outcome.{Outcome}
-use Rattle.papaya_histories.specs.Given.Schedules.declared.outcome.Outcome.TheVariants.{Answered, Done, Goes, Refused}
+use Rattle.papaya_histories.specs.Given.Schedules.declared.outcome.Outcome.TheVariants.{Answered, Done, Goes}
 use Rattle.papaya_histories.specs.Given.Schedules.After.{moment, moments_from}
 use Rattle.papaya_histories.specs.Given.Schedules.Beginning.{at_work}
 use Rattle.papaya_histories.specs.Given.Schedules.Entry.{Entry, IfCall, acting, caller_of}
@@ -117,21 +116,14 @@ module _ (K V S : Type 0) (same : K → K → Bool) (hash : K → ℕ) where
   pub record Wanted : Type 0 where
     pub noted : RowsHandNoted
 
--- an event by which a call goes on has taken steps, or was out of turn: a call that asks, or is ready, and says so again, takes none
-abbrev pub TookOrBusy : {V : Type 0} → Played V → Type 0
-TookOrBusy played = (1 ≤ played.steps) ⊎ (played.outcome ≡ Refused Busy)
-
 module _ {K V : Type 0} where
-  -- Of which events in turn this is said: of one by which a call goes on that is no walk asked for its next pair, if it has taken steps, or was out of turn; of one that is to begin a call; and of
-  -- one by which a call has got a reply, or a walk was given up.
+  -- Of which events in turn this is said: of one by which a call goes on that is no walk asked for its next pair; of one that is to begin a call; and of one by which a call has got a reply, or a
+  -- walk was given up.
   abbrev pub IsSaid : Event K V → Played V → Type 0
-  IsSaid (events.Step caller refuse) played = TookOrBusy played
-  IsSaid (events.Go caller refuse) played = TookOrBusy played
-  IsSaid (events.OneCall guard name call) played = TookOrBusy played
-  IsSaid (events.Begin caller guard name call) played = Unit {0}
+  IsSaid (events.Next caller) played = ⊥
   IsSaid (events.Replied caller reply) played = played.outcome ≡ Goes
   IsSaid (events.Stop caller) played = played.outcome ≡ Done
-  IsSaid _ played = ⊥
+  IsSaid event played = Unit {0}
 
 module _ {K V S : Type 0} (same : K → K → Bool) (hash : K → ℕ) where
   -- What is promised of such an event that is in turn, with what is left: it keeps its promises, and the run goes on.
