@@ -72,10 +72,10 @@ module _ {K V S : Type 0} (same : K → K → Bool) (hash : K → ℕ) (old new 
       (subst (λ (e : Entry K V). IsPlayed same hash terms (e ∷ log) new) so on.played)))
 
   -- of any other event of a call nothing is said
-  unsaid : (played : Played V) (form : Event K V) → happens ≡ form → (IsSaid form played → ⊥) → KeepsDue same hash happens played old new
-  unsaid played form is never = λ said. absurd (never (subst (λ (x : Event K V). IsSaid x played) is said))
+  unsaid : (played : Played V) (form : Event K V) → happens ≡ form → (IsSaid form played.outcome → ⊥) → KeepsDue same hash happens played old new
+  unsaid played form is never = λ said. absurd (never (subst (λ (x : Event K V). IsSaid x played.outcome) is said))
 
-  pub unsaid_if : {X : Type 0} (form : Event K V) → happens ≡ form → ((played : Played V) → IsSaid form played → ⊥) → (result : Result (Played V) X) → IfOk result (λ played. KeepsDue same hash happens played old new)
+  pub unsaid_if : {X : Type 0} (form : Event K V) → happens ≡ form → ((played : Played V) → IsSaid form played.outcome → ⊥) → (result : Result (Played V) X) → IfOk result (λ played. KeepsDue same hash happens played old new)
   unsaid_if form is never (Ok played) = unsaid played form is (never played)
   unsaid_if form is never (Err x) = tt
 
