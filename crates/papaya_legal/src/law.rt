@@ -2,7 +2,7 @@
 ghost use Rattle.std.specs.Prelude.{ℕ, Bool};
 ghost use Rattle.papaya_legal.specs.AllEvents.{AllChain, AllEventsBegin, AllFindPairs, AllRunsToItsEnd, SlotsLeaveRoots};
 ghost use Rattle.papaya_legal.specs.Between.{CallsBegin, CallsTake, EndsBegin, LikesShow, LogsGrow, MakingsBegin, MapsCome, MapsGo, NamesChange, WalksGoOn, WalksStop};
-ghost use Rattle.papaya_legal.specs.Carried.{RunsBegin};
+ghost use Rattle.papaya_legal.specs.Carried.{RunsBegin, RunsBeginIn};
 ghost use Rattle.papaya_legal.specs.CallEvents.{CallEventsAreLegal, CallEventsBegin, CallEventsEnd, CallEventsFollow, CallEventsGoOn, NextsBegin, WholeCallsBegin};
 ghost use Rattle.papaya_legal.specs.CallRuns.{CallEventsRun, CallsLeaveNothing, StepsFindAll};
 ghost use Rattle.papaya_legal.specs.CallSwept.{CallsAreSwept};
@@ -13,11 +13,12 @@ ghost use Rattle.papaya_legal.specs.Over.{AgainEventsEnd, BegunEventsEnd, EndEve
 ghost use Rattle.papaya_legal.specs.Chains.{CallsChain, EndsChain, MakingsChain, RowsChain, RowsRunToTheirEnds, MakingsRunToTheirEnds, EndsRunToTheirEnds};
 ghost use Rattle.papaya_legal.specs.Promises.{EventsAreLegal};
 
-/// Before all events a moment shows all by which the first event keeps its promises. A run goes on with an event that comes to what is right, whose life is as it must be, whose effects store
+/// Before all events a moment shows all by which the first event keeps its promises, whatever was chosen of numbers of blocks. A run goes on with an event that comes to what is right, whose life is as it must be, whose effects store
 /// one pair at most, each, and by which all is back if it reclaims all, if the moment after it shows what it must of calls, readings, sections and sets; and by other names of callers that have
 /// no call.
 pub fn runs_begin<K, V>()
     ensures begins { RunsBegin K V }
+    ensures begins_in { RunsBeginIn K V }
     ensures goes_on { (same : K → K → Bool) → RunsGoOn K V same }
     ensures names { (same : K → K → Bool) → RunsByOtherNames K V same }
 {}
