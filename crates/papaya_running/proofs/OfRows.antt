@@ -57,7 +57,6 @@ use Rattle.papaya_running.proofs.OfRows.Facts.{RowFacts, facts}
 use Rattle.papaya_running.proofs.OfRows.Lone.{alone_follows}
 use Rattle.papaya_running.proofs.OfRows.Quiet.{none_still, refused_still, still_keeps}
 use Rattle.papaya_running.proofs.Remaining.{counted_in}
-
 pub mod Chain
 pub mod Facts
 pub mod Quiet
