@@ -217,7 +217,7 @@ module _ {K V S : Type 0} (same : K → K → Bool) (hash : K → ℕ) (terms : 
         )
 
   pub works_keep : WorksOnAll played old new → Keeps (entry_of event played)
-  works_keep (calls, inl (busy, none, still)) =
+  works_keep (calls, inl (busy, (none, still))) =
       subst KeepsAs (sym (entry_is event played (Refused Busy) played.steps [] busy refl none))
       (λ so right.
       (let kept = busy_still log s.world event of_all played.steps in
