@@ -1,36 +1,60 @@
--- Before all events all is carried that events need.
+-- Before all events all is carried that events need, whatever was chosen of numbers of blocks.
+use Rattle.std.specs.Prelude.{[]}
 use Rattle.std.proofs.Common.{refl, inl}
+use Rattle.papaya_histories.specs.Given.Tables.Nodes.{deferred_word}
+use Rattle.papaya_histories.specs.Given.Effects.Known.{nothing_known}
+use Rattle.papaya_histories.specs.Given.Executor.IsAt.{at_first}
 use Rattle.papaya_histories.proofs.Given.Moments.Calls.{whole_begins}
 use Rattle.papaya_histories.proofs.Given.Moments.NewMaps.{pairs_begin}
 use Rattle.papaya_histories.proofs.Given.Moments.Numbers.{numbers_begin}
 use Rattle.papaya_kept.proofs.Stays.{begins_kept}
-use Rattle.papaya_shards.proofs.ShardOthers.{counters_begin}
-use Rattle.papaya_histories.proofs.DueOn.{dues_begin}
-use Rattle.papaya_histories.proofs.NoKey.AsCalledOn.{as_called_begins}
 use Rattle.papaya_histories.proofs.Questions.{questions_begin}
-use Rattle.papaya_purposes.proofs.Between.{purposes_begin}
-use Rattle.papaya_promises.proofs.Brief.Meanwhile.{readings_begin}
 use Rattle.papaya_promises.proofs.Guards.{no_guard}
-use Rattle.papaya_models.proofs.Follows.{follows_at_first}
+use Rattle.papaya_models.specs.Numbers.{HasNumber}
+use Rattle.papaya_models.proofs.Alike.Changed.{start_alike}
+use Rattle.papaya_models.proofs.Turns.{turns_begin}
 use Rattle.papaya_finds.proofs.Runs.{all_in_order_at_first}
-use Rattle.papaya_legal.specs.Carried.{RunsBegin}
+use Rattle.papaya_legal.specs.Carried.{RunsBegin, RunsBeginIn}
 
-pub runs_begin : (K V : Type 0) → RunsBegin K V
-runs_begin K V same terms name = record {
+pub runs_begin_in : (K V : Type 0) → RunsBeginIn K V
+runs_begin_in K V same terms name known w whole kept came = record {
   calls = record {
-    whole = whole_begins K V same terms.roots name;
+    whole = whole;
     numbers = (numbers_begin K V, pairs_begin K V);
-    kept = begins_kept K V terms.roots name;
-    counters = counters_begin K V terms.roots name;
+    kept = kept;
+    counters = record {
+      shards = λ n st is shard few. absurd (cc is);
+      makes = λ i b is. absurd (cc is);
+      adds = λ n i u is removed to_add c found. absurd (cc is);
+    };
     uncounted = λ of low shard. refl;
-    dues = dues_begin K V same terms.roots name;
-    as_called = as_called_begins K V same terms.roots name;
+    dues = record {
+      history = record {
+        shown = whole.all.shown;
+        asked = whole.all.asked;
+        begun = λ n i u is c found. absurd (cc is);
+        within = λ n i u is st there c found began began_is. absurd (cc is);
+      };
+      owes = λ map i u is st there c found one one_is. absurd (cc is);
+      taken = λ map i u is c found one one_is. absurd (cc is);
+    };
+    as_called = record { shown = whole.all.shown; each = λ map i u is st there c found. absurd (cc is) };
     questions = questions_begin K V;
-    purposes = purposes_begin K V same terms.roots name;
+    purposes = record {
+      shown = whole.all.shown;
+      begun = λ n i u is c found. absurd (cc is);
+      is_for = λ n i u is c found. absurd (cc is);
+      come = λ n i u is st there c found. absurd (cc is);
+    };
   };
-  reading = readings_begin K V terms.roots name;
+  reading = record { begun = λ map i u is c found looks_for. absurd (cc is); reads = λ map i u is c found looks_for st there. absurd (cc is) };
   sections = (λ own g is. no_guard g is, tt);
-  follows = λ alone. inl (follows_at_first K V terms.batch_size terms.roots);
+  follows = λ alone. inl (record { before = []; came = came; alike = start_alike (HasNumber known []) });
   order = (all_in_order_at_first K V, tt);
   over = λ closed. absurd (cc closed);
 }
+
+pub runs_begin : (K V : Type 0) → RunsBegin K V
+runs_begin K V same terms name =
+    runs_begin_in K V same terms name nothing_known (at_first {K = K} {V = V} terms.roots).world (whole_begins K V same terms.roots name) (begins_kept K V terms.roots name)
+    (turns_begin deferred_word terms.batch_size terms.roots)

@@ -44,7 +44,7 @@ none_ready : (p : Sweeping) → is_ready p ≡ true → counts_in_sweeping p ≡
 none_ready sweeping.Ready is = refl
 none_ready _ is = absurd (cc is)
 
-none_asked : {K V : Type 0} (y : Machine K V K) → (machine_asked y).1 ≡ true → is_to_count y ≡ false
+pub none_asked : {K V : Type 0} (y : Machine K V K) → (machine_asked y).1 ≡ true → is_to_count y ≡ false
 none_asked (kinds.Sweep c) is = none_ready c.stands is
 none_asked (kinds.Key p) is = absurd (cc is)
 none_asked (kinds.Reserve r) is = absurd (cc is)

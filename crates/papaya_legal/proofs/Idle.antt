@@ -1,19 +1,29 @@
 -- An event that does nothing keeps its promises.
-use Rattle.std.specs.Prelude.{◌≡◌, Bool, true, false, not, ◌||◌, List}
+use Rattle.std.specs.Prelude.{◌≡◌, Bool, true, false, not, ◌||◌, List, []}
 use Rattle.std.specs.List.{list_all, list_any}
 use Rattle.std.proofs.Common.{refl, sym, subst}
+use Rattle.papaya_histories.specs.Given.Seize.World.{World}
+use Rattle.papaya_histories.specs.Given.Tables.declared.node.Node.{Node}
 use Rattle.papaya_histories.specs.Given.Schedules.declared.effect.Effect.{Effect}
 use Rattle.papaya_histories.specs.Given.Schedules.After.{after, moment}
 use Rattle.papaya_histories.specs.Given.Schedules.Beginning.{at_work}
-use Rattle.papaya_histories.specs.Given.Schedules.Effects.{AtEachEffect}
-use Rattle.papaya_histories.specs.Given.Schedules.Entry.{acted_on, acting, caller_of}
-use Rattle.papaya_histories.specs.Given.Schedules.Handing.{gives_all, is_granted, is_made, may_do, moments_of, refuses as refuses_growth}
+use Rattle.papaya_histories.specs.Given.Schedules.Effects.{AtEachEffect, worked}
+use Rattle.papaya_histories.specs.Given.Schedules.Entry.{Entry, IfCall, acted_on, acting, caller_of}
+use Rattle.papaya_histories.specs.Given.Schedules.Handing.{IsWhole, LeavesOf, comes_clear, gives_all, is_granted, is_made, may_do, moments_of, refuses as refuses_growth}
+use Rattle.papaya_histories.specs.Given.Schedules.Linearizable.{IsLinearizable}
 use Rattle.papaya_histories.specs.Given.Schedules.Lives.{Finds}
+use Rattle.papaya_histories.specs.Given.Schedules.Model.{changes_of, left_last}
 use Rattle.papaya_histories.specs.Given.Schedules.Reclaims.{IsProtected}
+use Rattle.papaya_histories.specs.Given.Schedules.Steps.{ReadsBriefly}
+use Rattle.papaya_histories.specs.Given.Schedules.Sweeps.{IsSwept}
+use Rattle.papaya_histories.specs.Given.Schedules.Terms.{Terms}
+use Rattle.papaya_histories.specs.Given.Effects.Known.{Known}
 use Rattle.papaya_histories.proofs.NoKey.Idle.{idle_are_linearizable}
 use Rattle.papaya_models.proofs.Follows.{idle_events_follow}
+use Rattle.papaya_promises.specs.Guards.{EntersInside}
 use Rattle.papaya_promises.specs.Sheltered.{SectionsHold}
 use Rattle.papaya_promises.proofs.Protected.{idle_events_are_protected}
+use Rattle.papaya_legal.specs.CallEvents.{IsLegalBut}
 use Rattle.papaya_legal.specs.MapEvents.{IdleEventsAreLegal}
 
 -- nothing was made
@@ -21,26 +31,35 @@ none_made : (q : Bool) → (not q || true) ≡ true
 none_made true = refl
 none_made false = refl
 
+module _ (K V : Type 0) (same : K → K → Bool) (terms : Terms) (log : List (Entry K V)) (known : Known) (w : World (Node K V)) (e : Entry K V) where
+  -- so it is of any event that does nothing, if it changes maps, answers and asks as it may
+  pub still_events_are_legal : e.effects ≡ [] → IsLinearizable same log e → SectionsHold (moment log) known w → EntersInside w e.event e.outcome (moment log).there → changes_of log e ≡ []
+      → left_last e.event e.outcome (moment log) ≡ [] → ReadsBriefly log e (worked e (moment log)) → IsSwept same terms log e
+      → IsWhole e.event e.outcome e.effects (moment log) (worked e (moment log)) → IfCall (LeavesOf (comes_clear e.outcome) e.outcome) (acting (caller_of e.event) (worked e (moment log)))
+      → IsLegalBut same terms log e × SectionsHold (after e (moment log)) known w
+  still_events_are_legal nothing linear hold enters unchanged none_left brief swept whole leaves = (
+    record {
+      brief = brief;
+      linearizable = linear;
+      swept = swept;
+      life = record {
+        finds = subst (λ (fs : List Effect). AtEachEffect (Finds terms (caller_of e.event) (acted_on e.event (at_work e (moment log))) (gives_all e.event)
+            (moments_of terms log (acting (caller_of e.event) (at_work e (moment log))))) (caller_of e.event) (acted_on e.event (at_work e (moment log))) fs (at_work e (moment log))) (sym nothing) tt;
+        may = subst (λ (fs : List Effect). list_all (may_do e.event (moment log)) fs ≡ true) (sym nothing) refl;
+        granted = subst (λ (fs : List Effect). is_granted false fs ≡ true) (sym nothing) refl;
+        refuses = subst (λ (fs : List Effect). (not (refuses_growth e.event) || not (list_any is_made fs)) ≡ true) (sym nothing) (none_made (refuses_growth e.event));
+        whole = whole;
+        leaves = leaves;
+      };
+      protected = safe.0;
+      by_model = (idle_events_follow K V terms log e nothing unchanged none_left).0;
+    },
+    safe.1,
+  )
+    where
+      safe : IsProtected log e × SectionsHold (after e (moment log)) known w
+      safe = idle_events_are_protected K V log e known w nothing hold enters
+
 pub idle_events_are_legal : (K V : Type 0) (same : K → K → Bool) → IdleEventsAreLegal K V same
-idle_events_are_legal K V same terms log known w e nothing idle hold enters unchanged none_left brief swept whole leaves = (
-  record {
-    brief = brief;
-    linearizable = idle_are_linearizable K V same log e nothing idle;
-    swept = swept;
-    life = record {
-      finds = subst (λ (fs : List Effect). AtEachEffect (Finds terms (caller_of e.event) (acted_on e.event (at_work e (moment log))) (gives_all e.event)
-          (moments_of terms log (acting (caller_of e.event) (at_work e (moment log))))) (caller_of e.event) (acted_on e.event (at_work e (moment log))) fs (at_work e (moment log))) (sym nothing) tt;
-      may = subst (λ (fs : List Effect). list_all (may_do e.event (moment log)) fs ≡ true) (sym nothing) refl;
-      granted = subst (λ (fs : List Effect). is_granted false fs ≡ true) (sym nothing) refl;
-      refuses = subst (λ (fs : List Effect). (not (refuses_growth e.event) || not (list_any is_made fs)) ≡ true) (sym nothing) (none_made (refuses_growth e.event));
-      whole = whole;
-      leaves = leaves;
-    };
-    protected = safe.0;
-    by_model = (idle_events_follow K V terms log e nothing unchanged none_left).0;
-  },
-  safe.1,
-)
-  where
-    safe : IsProtected log e × SectionsHold (after e (moment log)) known w
-    safe = idle_events_are_protected K V log e known w nothing hold enters
+idle_events_are_legal K V same terms log known w e nothing idle hold enters unchanged none_left brief swept whole leaves =
+    still_events_are_legal K V same terms log known w e nothing (idle_are_linearizable K V same log e nothing idle) hold enters unchanged none_left brief swept whole leaves

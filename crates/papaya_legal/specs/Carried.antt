@@ -2,12 +2,13 @@
 use Rattle.std.specs.Prelude.{◌≡◌, ◌⊎◌, ◌≤◌, ℕ, Bool, true, ◌&&◌, List, []}
 use Rattle.std.specs.List.{list_all}
 use Rattle.papaya_histories.specs.Given.Seize.World.{World}
+use Rattle.papaya_histories.specs.Given.Tables.Nodes.{deferred_word}
 use Rattle.papaya_histories.specs.Given.Tables.declared.node.Node.{Node}
 use Rattle.papaya_histories.specs.Given.Schedules.declared.event.Event.{Event}
 use Rattle.papaya_histories.specs.Given.Schedules.After.{is_by, moment}
 use Rattle.papaya_histories.specs.Given.Schedules.Entry.{Entry, speaker}
 use Rattle.papaya_histories.specs.Given.Schedules.Model.{sets_in, things_in}
-use Rattle.papaya_histories.specs.Given.Schedules.Moment.{Moment}
+use Rattle.papaya_histories.specs.Given.Schedules.Moment.{Moment, start}
 use Rattle.papaya_histories.specs.Given.Schedules.Terms.{Terms}
 use Rattle.papaya_histories.specs.Given.Effects.Known.{Known, nothing_known}
 use Rattle.papaya_histories.specs.Given.Executor.IsAt.{Scene, at_first, slot_of}
@@ -21,6 +22,7 @@ use Rattle.papaya_promises.specs.Sheltered.{SectionsHold}
 use Rattle.papaya_purposes.specs.Purposes.{ShowsPurposes}
 use Rattle.papaya_models.specs.CallEvents.{IsInItsRow}
 use Rattle.papaya_models.specs.Follows.{FollowsModel}
+use Rattle.papaya_models.specs.Turns.{CameByTurns}
 use Rattle.papaya_shards.specs.ShardWords.{IsUncounted, ShowsCounters}
 use Rattle.papaya_finds.specs.Little.{OverIsBack}
 use Rattle.papaya_finds.specs.Within.{AllIsInOrder, ReadyOweNone}
@@ -62,6 +64,13 @@ pub record ShowsRun {K V : Type 0} (same : K → K → Bool) (name : ℕ → Lis
   pub order : AllIsInOrder (moment log) × ReadyOweNone (moment log)
   pub over : OverIsBack (moment log)
 
--- The promise: so it is before all events.
+-- The promises: so it is before all events;
 abbrev pub RunsBegin : Type 0 → Type 0 → Type 0
 RunsBegin K V = (same : K → K → Bool) (terms : Terms) (name : ℕ → List ℕ) → ShowsRun {K = K} {V = V} same name terms [] nothing_known (at_first terms.roots)
+
+-- and in any world that came about by what happens between rows, if it is shown that nothing is under way there: so whatever was chosen of numbers of blocks.
+abbrev pub RunsBeginIn : Type 0 → Type 0 → Type 0
+RunsBeginIn K V =
+    (same : K → K → Bool) (terms : Terms) (name : ℕ → List ℕ) (known : Known) (w : World (Node K V))
+    → (let s : Scene K V = record (at_first terms.roots) { world = w } in
+    ShowsWhole same name start known s → ShowsKept name start known s → CameByTurns deferred_word terms.batch_size terms.roots w [] → ShowsRun same name terms [] known s)

@@ -1,5 +1,6 @@
--- Once an event is over the moment after it shows all that the next event needs: where it does nothing, begins a call, tells it a reply, or gives a walk up; and where it has made a map, or ended one.
+-- Once an event is over the moment after it shows all that the next event needs: where it does nothing, has a call say again what it has said, begins one, tells it a reply, or gives a walk up; and where it has made a map, or ended one.
 use Rattle.std.specs.Prelude.{◌≡◌, ◌<◌, ◌^◌, ℕ, Bool, true, false, List, [], ◌∷◌, Option, Some, None, Ok}
+use Rattle.std.specs.List.{AllByRecursion}
 use Rattle.papaya_histories.specs.Given.SeizeWords.declared.fault.Fault.TheVariants.{Busy}
 use Rattle.papaya_histories.specs.Given.Seize.World.{Rests, with_at}
 use Rattle.papaya_histories.specs.Given.Runs.Same.{is_same}
@@ -12,7 +13,7 @@ use Rattle.papaya_histories.specs.Given.Schedules.declared.effect.Effect.{Effect
 use Rattle.papaya_histories.specs.Given.Schedules.declared.event.Event.{Event}
 use Rattle.papaya_histories.specs.Given.Schedules.declared.event.Event.TheVariants.{MakeMap, EndMap, Begin, Step, Go, Replied, OneCall, Next, Stop}
 use Rattle.papaya_histories.specs.Given.Schedules.declared.outcome.Outcome.{Outcome}
-use Rattle.papaya_histories.specs.Given.Schedules.declared.outcome.Outcome.TheVariants.{Done, Goes, Refused}
+use Rattle.papaya_histories.specs.Given.Schedules.declared.outcome.Outcome.TheVariants.{Asks, Done, Goes, Ready, Refused}
 use Rattle.papaya_histories.specs.Given.Schedules.After.{moment}
 use Rattle.papaya_histories.specs.Given.Schedules.Beginning.{at_work, begun, with_map}
 use Rattle.papaya_histories.specs.Given.Schedules.Effects.{AtEachEffect}
@@ -20,10 +21,10 @@ use Rattle.papaya_histories.specs.Given.Schedules.Entry.{Entry, acted_on, caller
 use Rattle.papaya_histories.specs.Given.Schedules.Handing.{MovesOn}
 use Rattle.papaya_histories.specs.Given.Schedules.InTurn.{ComesRight}
 use Rattle.papaya_histories.specs.Given.Schedules.Model.{IsByModel, changes_of, left_last}
-use Rattle.papaya_histories.specs.Given.Schedules.Moment.{UnderWay as CallThere, Asking, MapThere, Moment}
+use Rattle.papaya_histories.specs.Given.Schedules.Moment.{UnderWay as CallThere, Stands, Asking, IsReady, MapThere, Moment}
 use Rattle.papaya_histories.specs.Given.Schedules.Terms.{Terms}
 use Rattle.papaya_histories.specs.Given.Schedules.Views.{call_of, map_at, number_of}
-use Rattle.papaya_histories.specs.Given.Raw.Machine.{machine_replied}
+use Rattle.papaya_histories.specs.Given.Raw.Machine.{machine_asked, machine_replied}
 use Rattle.papaya_histories.specs.Given.Callers.Together.{UnderWay}
 use Rattle.papaya_histories.specs.Given.Effects.Known.{Known}
 use Rattle.papaya_histories.specs.Given.Executor.Beginning.{Begins}
@@ -60,6 +61,18 @@ LeavesAll (Step caller refuse) outcome steps = (outcome ≡ Refused Busy) × (st
 LeavesAll (Go caller refuse) outcome steps = (outcome ≡ Refused Busy) × (steps ≡ 0)
 LeavesAll (Next caller) outcome steps = (outcome ≡ Refused Busy) × (steps ≡ 0)
 LeavesAll _ outcome steps = Unit {0}
+
+-- an event would have the call of this caller go on
+abbrev pub GoesOnBy : {K V : Type 0} → Event K V → List ℕ → Type 0
+GoesOnBy (Step caller refuse) own = caller ≡ own
+GoesOnBy (Go caller refuse) own = caller ≡ own
+GoesOnBy _ own = ⊥
+
+-- the call asks just this already, or is ready
+abbrev pub IsSaidSo : {V : Type 0} → Outcome V → Stands → Type 0
+IsSaidSo (Asks question) stands = stands ≡ Asking question
+IsSaidSo Ready stands = stands ≡ IsReady
+IsSaidSo _ stands = ⊥
 
 module _ (K V : Type 0) (same : K → K → Bool) where
   -- The promises: a run goes on with an event that comes to what is right, whose life is as it must be, whose effects store one pair at most, each, and by which all is back if it reclaims all;
@@ -102,6 +115,15 @@ module _ (K V S : Type 0) (same : K → K → Bool) (hash : K → ℕ) where
       → NoneNamed name (name i) s → s.world.row i ≡ Rests → IsAt same hash new (scene_with map i u s) → (on : List ℕ) → number_of on (moment log) ≡ Some map → (steps : ℕ)
       → (let e : Entry K V = record { event = Begin (name i) guard on call; outcome = Goes; steps = steps; effects = [] } in
       ComesRight terms log e → IsLegalBut same terms log e × ShowsRun same name terms (e ∷ log) known (scene_with map i u s))
+
+  -- that has one say again what it asks, or that it is ready, as each call of its name does and the machine of a walk, and does nothing,
+  abbrev pub AgainEventsEnd : Type 0
+  AgainEventsEnd =
+      (name : ℕ → List ℕ) (terms : Terms) (log : List (Entry K V)) (known : Known) (s : Scene K V) (x : Executor K V S) → IsAt same hash x s → ShowsRun same name terms log known s
+      → (map i : ℕ) (u : UnderWay K V K) → s.calls map i ≡ Some u → (c : CallThere K V) → call_of (name i) (moment log) ≡ Some c → (event : Event K V) → GoesOnBy event (name i)
+      → (said : Outcome V) → IsSaidSo said c.stands → (said ≡ Ready → (machine_asked (machine_of u)).1 ≡ true)
+      → AllByRecursion (λ d. is_same d.caller (name i) ≡ true → IsSaidSo said d.stands) (moment log).calls
+      → (let e : Entry K V = record { event = event; outcome = said; steps = 0; effects = [] } in ComesRight terms log e → IsLegalBut same terms log e × ShowsRun same name terms (e ∷ log) known s)
 
   -- that tells a reply to one that asks and takes it,
   abbrev pub ToldEventsEnd : Type 0

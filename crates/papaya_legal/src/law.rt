@@ -2,22 +2,23 @@
 ghost use Rattle.std.specs.Prelude.{ℕ, Bool};
 ghost use Rattle.papaya_legal.specs.AllEvents.{AllChain, AllEventsBegin, AllFindPairs, AllRunsToItsEnd, SlotsLeaveRoots};
 ghost use Rattle.papaya_legal.specs.Between.{CallsBegin, CallsTake, EndsBegin, LikesShow, LogsGrow, MakingsBegin, MapsCome, MapsGo, NamesChange, WalksGoOn, WalksStop};
-ghost use Rattle.papaya_legal.specs.Carried.{RunsBegin};
+ghost use Rattle.papaya_legal.specs.Carried.{RunsBegin, RunsBeginIn};
 ghost use Rattle.papaya_legal.specs.CallEvents.{CallEventsAreLegal, CallEventsBegin, CallEventsEnd, CallEventsFollow, CallEventsGoOn, NextsBegin, WholeCallsBegin};
 ghost use Rattle.papaya_legal.specs.CallRuns.{CallEventsRun, CallsLeaveNothing, StepsFindAll};
 ghost use Rattle.papaya_legal.specs.CallSwept.{CallsAreSwept};
 ghost use Rattle.papaya_legal.specs.SlotEvents.{SlotEventsBegin, SlotEventsGoOn, SlotEventsAreLegal, SlotEventsEnd};
 ghost use Rattle.papaya_legal.specs.MapEvents.{MakingEventsGoOn, EndEventsGoOn, MapEventsAreLegal, IdleEventsAreLegal};
 ghost use Rattle.papaya_legal.specs.Found.{RestShowsRetired, RowChainsFind, RowsFindTheirs};
-ghost use Rattle.papaya_legal.specs.Over.{BegunEventsEnd, EndEventsBegin, EndEventsEnd, EndEventsFollow, IdleEventsEnd, MakingEventsBegin, MakingEventsEnd, MakingEventsFollow, QuietEventsEnd, RunsByOtherNames, RunsGoOn, StoppedEventsEnd, ToldEventsEnd};
+ghost use Rattle.papaya_legal.specs.Over.{AgainEventsEnd, BegunEventsEnd, EndEventsBegin, EndEventsEnd, EndEventsFollow, IdleEventsEnd, MakingEventsBegin, MakingEventsEnd, MakingEventsFollow, QuietEventsEnd, RunsByOtherNames, RunsGoOn, StoppedEventsEnd, ToldEventsEnd};
 ghost use Rattle.papaya_legal.specs.Chains.{CallsChain, EndsChain, MakingsChain, RowsChain, RowsRunToTheirEnds, MakingsRunToTheirEnds, EndsRunToTheirEnds};
 ghost use Rattle.papaya_legal.specs.Promises.{EventsAreLegal};
 
-/// Before all events a moment shows all by which the first event keeps its promises. A run goes on with an event that comes to what is right, whose life is as it must be, whose effects store
+/// Before all events a moment shows all by which the first event keeps its promises, whatever was chosen of numbers of blocks. A run goes on with an event that comes to what is right, whose life is as it must be, whose effects store
 /// one pair at most, each, and by which all is back if it reclaims all, if the moment after it shows what it must of calls, readings, sections and sets; and by other names of callers that have
 /// no call.
 pub fn runs_begin<K, V>()
     ensures begins { RunsBegin K V }
+    ensures begins_in { RunsBeginIn K V }
     ensures goes_on { (same : K → K → Bool) → RunsGoOn K V same }
     ensures names { (same : K → K → Bool) → RunsByOtherNames K V same }
 {}
@@ -99,12 +100,14 @@ pub fn map_events<K, V, S>()
 {}
 
 /// An event that does nothing keeps its promises, as one that is kept out does. The moment after it shows all that the next event needs, if it is like one that does; so it is where calls and maps are as
-/// they were. An event that begins a call, tells it a reply that it takes, or gives up a walk that is ready, is legal but for what it comes to, and the moment after it shows all that the next one needs.
+/// they were. An event that begins a call, has one say again what it asks, or that it is ready, tells it a reply that it takes, or gives up a walk that is ready, is legal but for what it comes to, and the
+/// moment after it shows all that the next one needs.
 pub fn idle_events<K, V, S>()
     ensures legal { (same : K → K → Bool) → IdleEventsAreLegal K V same }
     ensures quiet { (same : K → K → Bool) → QuietEventsEnd K V same }
     ensures ends { (same : K → K → Bool) → IdleEventsEnd K V same }
     ensures begun { (same : K → K → Bool) (hash : K → ℕ) → BegunEventsEnd K V S same hash }
+    ensures again { (same : K → K → Bool) (hash : K → ℕ) → AgainEventsEnd K V S same hash }
     ensures told { (same : K → K → Bool) (hash : K → ℕ) → ToldEventsEnd K V S same hash }
     ensures stopped { (same : K → K → Bool) (hash : K → ℕ) → StoppedEventsEnd K V S same hash }
 {}

@@ -16,3 +16,4 @@ pub mod OfRows
 pub mod OfEnds
 pub mod OfMakings
 pub mod OfAll
+pub mod Joined

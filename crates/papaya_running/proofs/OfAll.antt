@@ -165,13 +165,13 @@ module _ {K V S : Type 0} (same : K → K → Bool) (hash : K → ℕ) (terms : 
     pairs : ComesRight terms log e → AtEachEffect FindsPair None None played.effects.items m
     pairs right =
         all_find_pairs K V S same hash name terms log (known old.logged.notes) s old.logged.executor run.shows (none_called terms log played.steps played.effects.items event of_all right) 0 first
-        behind left.behind left.left_there (suc ran.3.0) over (to, y.chain, last)
+        behind left.but.behind left.but.left_there (suc ran.3.0) over (to, y.chain, last)
 
     it : ComesRight terms log e → IsLegalBut same terms log e × ReclaimsAll log e × ShowsRun same name terms (e ∷ log) (known new.logged.notes) last_scene
     it right =
         all_runs_to_its_end K V S same hash name terms log (known old.logged.notes) s old.logged.executor small run.shows event of_all
-        (alone_follows same hash terms log old run event (speaks_of_none event of_all)) 0 first behind left.behind left.order ran.3.0 to over y.chain last done played.steps played.effects.items refl
-        (pairs right) (left.sets over has_run) right
+        (alone_follows same hash terms log old run event (speaks_of_none event of_all)) 0 first behind left.but.behind left.but.order ran.3.0 to over y.chain last done played.steps played.effects.items refl
+        (pairs right) (left.but.sets over has_run) right
 
     there : IsAt same hash new.logged.executor last_scene
     there = over_there same hash terms 0 mid end y.now y.scene y.lists y.under_way y.roots ran.5 done

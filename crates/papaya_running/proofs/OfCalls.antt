@@ -9,6 +9,9 @@ pub mod Found
 pub mod Ends
 pub mod Taken
 pub mod Quiet
+pub mod AsBefore
+pub mod Again
+pub mod Asked
 pub mod Begun
 pub mod Told
 pub mod Whole

@@ -367,7 +367,7 @@ module _ {K V S : Type 0} (same : K → K → Bool) (hash : K → ℕ) (terms : 
 
     finds : AtEachEffect (Finds terms None (Some map) false []) None (Some map) effects m
     finds =
-        subst (λ (o : Option ℕ). AtEachEffect (Finds terms None o false []) None o effects m) acts_so left.finds
+        subst (λ (o : Option ℕ). AtEachEffect (Finds terms None o false []) None o effects m) acts_so left.but.finds
 
     it : ComesRight terms log e → IsLegalBut same terms log e × ShowsRun same name terms (e ∷ log) (known new.logged.notes) y.scene
     it right =

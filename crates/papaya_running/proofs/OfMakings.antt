@@ -416,8 +416,8 @@ module _ {K V S : Type 0} (same : K → K → Bool) (hash : K → ℕ) (terms : 
     it : IsLeftOfRows terms log e → IsLegalBut same terms log e × ShowsRun same name terms (e ∷ log) (known mid.notes) y.scene
     it left =
         makings_run_to_their_ends K V S same hash name terms log (known old.logged.notes) s old.logged.executor d.began.executor run.stands.shown.is_at run.shows own mode capacity there refl i b idle map_is
-        (λ made. absurd made) lone at1 (suc d.gone.1.0) (come_by (far effects mid) y.now y.scene) chain played.steps effects refl refl named_so left.may
-        (subst (λ (o : Option ℕ). AtEachEffect (Finds terms None o false []) None o effects bm) named_so left.finds) whole left.right
+        (λ made. absurd made) lone at1 (suc d.gone.1.0) (come_by (far effects mid) y.now y.scene) chain played.steps effects refl refl named_so left.but.may
+        (subst (λ (o : Option ℕ). AtEachEffect (Finds terms None o false []) None o effects bm) named_so left.but.finds) whole left.right
 
     shows : IsLeftOfRows terms log e → ShowsRun same name terms (e ∷ log) (known new.logged.notes) y.scene
     shows left = subst (λ (n : Notes). ShowsRun same name terms (e ∷ log) (known n) y.scene) (sym d.gone.5) (it left).1

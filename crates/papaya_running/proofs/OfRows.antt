@@ -204,13 +204,13 @@ module _ {K V S : Type 0} (same : K → K → Bool) (hash : K → ℕ) (terms : 
         subst (λ (q : Bool). AtEachEffect (Finds terms None None q []) None None played.effects.items m) (sym (all_facts_of event of on).1)
         (row_chains_find K V S same hash name terms log event ran.caller called (known old.logged.notes) s.world ran.goes.0
         (record { executor = ran.began.executor; did = []; now = m; notes = known old.logged.notes; scene = s1 }) (come_by (far played.effects.items new.logged) y.now y.scene) chain begun_so refl
-        (all_of_row event of on m played.effects.items (may_of log e event of on left.may)) (needs_of terms log e event of on left.finds))
+        (all_of_row event of on m played.effects.items (may_of log e event of on left.but.may)) (needs_of terms log e event of on left.but.finds))
 
     it : IsLegalBut same terms log e × ShowsRun same name terms (e ∷ log) (known new.logged.notes) y.scene
     it =
         rows_run_to_their_ends K V S same hash name terms log (known old.logged.notes) s old.logged.executor ran.began.executor run.stands.shown.is_at run.size small run.shows e on ran.caller called may
         leads spares (alone_follows same hash terms log old run event (all_facts_of event of on).0) ran.goes.0 (come_by (far played.effects.items new.logged) y.now y.scene) chain refl rests
-        (f.inside y.scene.world y.is_at.uses played.outcome comes) (f.not_busy played.outcome comes) (may_of log e event of on left.may) finds (λ alone. is_row) left.right (reclaims_none log e of on)
+        (f.inside y.scene.world y.is_at.uses played.outcome comes) (f.not_busy played.outcome comes) (may_of log e event of on left.but.may) finds (λ alone. is_row) left.right (reclaims_none log e of on)
 
     shown : IsShown same hash name (moment (e ∷ log)) new.logged y.scene
     shown = record {

@@ -6,3 +6,4 @@ pub mod Run
 pub mod OfCalls
 pub mod OfRows
 pub mod OfAll
+pub mod Keeping

@@ -34,16 +34,19 @@ module _ {K V S : Type 0} (same : K → K → Bool) (hash : K → ℕ) (terms : 
     pub last : AllSteps same hash terms.roots caller to over
     pub done : last.said ≡ settled.Done
 
-  -- What is still asked of such an event, by name: it comes to what is right; what is behind the roots is what the moment says is left over, in that order;
+  -- What is still asked of such an event, by name, but that it comes to what is right: what is behind the roots is what the moment says is left over, in that order;
   -- and, wherever its steps have come to their end, the waiting sets of blocks have been reclaimed as they say.
-  pub record IsLeftOfAll (e : Entry K V) (run : Runs same hash terms log p) : Type 0 where
-    pub right : ComesRight terms log e
+  pub record IsLeftOfAllBut (run : Runs same hash terms log p) : Type 0 where
     pub behind : LeftIsBehind terms.roots (moment log) (known p.logged.notes) run.stands.shown.counted.remains.lists
     pub order : BehindIsLeft terms.roots (moment log) (known p.logged.notes) run.stands.shown.counted.remains.lists
     pub left_there : BehindAreLeft terms.roots (moment log) (known p.logged.notes) run.stands.shown.counted.remains.lists
     pub sets : (over : AllCome K V S) → HasRunAll run.stands.scene run.stands.shown.counted.remains.lists over → (before : List Change)
         → CameByTurns deferred_word terms.batch_size terms.roots run.stands.scene.world before
         → HasReclaimed deferred_word terms.batch_size terms.roots run.stands.scene.world before over.come.scene.world
+
+  pub record IsLeftOfAll (e : Entry K V) (run : Runs same hash terms log p) : Type 0 where
+    pub right : ComesRight terms log e
+    pub but : IsLeftOfAllBut run
 
 module _ {K V S : Type 0} (same : K → K → Bool) (hash : K → ℕ) where
   -- What is promised of one, with what is left: it keeps its promises, all is back, and the run goes on.

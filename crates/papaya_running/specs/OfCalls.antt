@@ -1,8 +1,7 @@
 -- What is so after each event of a run, of the scheduler and of the scene for which it stands; and what is promised of an event of a call: it keeps its promises, and the run goes on.
-use Rattle.std.specs.Prelude.{◌≡◌, ◌⊎◌, ◌<◌, ◌≤◌, ◌^◌, ◌+◌, ◌||◌, ℕ, Bool, true, false, List, ◌∷◌, not, slice_index_or, Option, Some, None}
+use Rattle.std.specs.Prelude.{◌≡◌, ◌<◌, ◌≤◌, ◌^◌, ◌+◌, ◌||◌, ℕ, Bool, true, false, List, ◌∷◌, not, slice_index_or, Option, Some, None}
 use Rattle.std.specs.List.{list_any}
 use Rattle.papaya_histories.specs.Given.SeizeWaiting.Held.{count}
-use Rattle.papaya_histories.specs.Given.SeizeWords.declared.fault.Fault.TheVariants.{Busy}
 use Rattle.papaya_histories.specs.Given.Seize.WaitingSets.{Sets}
 use Rattle.papaya_histories.specs.Given.Seize.World.{World, IsInside, Request, Begin, Step, Happens}
 use Rattle.papaya_histories.specs.Given.Tables.Nodes.{deferred_word}
@@ -19,7 +18,7 @@ use Rattle.papaya_histories.specs.Given.Schedules.declared.effect.Effect.{Effect
 use Rattle.papaya_histories.specs.Given.Schedules.declared.event.Event.{Event}
 use Rattle.papaya_histories.specs.Given.Schedules.declared.event.Event.TheVariants as events
 use Rattle.papaya_histories.specs.Given.Schedules.declared.outcome.Outcome.{Outcome}
-use Rattle.papaya_histories.specs.Given.Schedules.declared.outcome.Outcome.TheVariants.{Answered, Done, Goes, Refused}
+use Rattle.papaya_histories.specs.Given.Schedules.declared.outcome.Outcome.TheVariants.{Answered, Done, Goes}
 use Rattle.papaya_histories.specs.Given.Schedules.After.{moment, moments_from}
 use Rattle.papaya_histories.specs.Given.Schedules.Beginning.{at_work}
 use Rattle.papaya_histories.specs.Given.Schedules.Entry.{Entry, IfCall, acting, caller_of}
@@ -77,13 +76,16 @@ module _ {K V : Type 0} where
   TellsValue (On (Compute k)) replies (Answered answer.Absent) = ⊥
   TellsValue call replies told = Unit {0}
 
-  -- What is still asked of an event of a call, by name: it comes to what is right; it is refused a growth that is to be refused; of its effects it is known why a block is asked for, which table is
-  -- linked, and that what is handed over may be; and a value that it tells back is the one that was given.
-  pub record IsLeft (terms : Terms) (log : List (Entry K V)) (e : Entry K V) : Type 0 where
-    pub right : ComesRight terms log e
+  -- What is still asked of an event of a call, by name, but that it comes to what is right: it is refused a growth that is to be refused; of its effects it is known why a block is asked for, which
+  -- table is linked, and that what is handed over may be; and a value that it tells back is the one that was given.
+  pub record IsLeftBut (terms : Terms) (log : List (Entry K V)) (e : Entry K V) : Type 0 where
     pub refuses : (not (refuses_growth e.event) || not (list_any is_made e.effects)) ≡ true
     pub rest : (let b = at_work e (moment log) in IfCall (λ (c : CallThere K V). FindRest terms (moments_from c.begun log) c.caller c.map e.effects b) (acting (caller_of e.event) b))
     pub values : (let b = at_work e (moment log) in IfCall (λ (c : CallThere K V). TellsValue c.call c.replies e.outcome) (acting (caller_of e.event) b))
+
+  pub record IsLeft (terms : Terms) (log : List (Entry K V)) (e : Entry K V) : Type 0 where
+    pub right : ComesRight terms log e
+    pub but : IsLeftBut terms log e
 
 -- a slot is active in the sets of the model while a row of a call is under way
 abbrev pub InsidesFollowInRows : Type 0 → Type 0 → Type 0
@@ -117,31 +119,24 @@ module _ (K V S : Type 0) (same : K → K → Bool) (hash : K → ℕ) where
   pub record Wanted : Type 0 where
     pub noted : RowsHandNoted
 
--- an event by which a call goes on has taken steps, or was out of turn: a call that asks, or is ready, and says so again, takes none
-abbrev pub TookOrBusy : {V : Type 0} → Played V → Type 0
-TookOrBusy played = (1 ≤ played.steps) ⊎ (played.outcome ≡ Refused Busy)
-
 module _ {K V : Type 0} where
-  -- Of which events in turn this is said: of one by which a call goes on that is no walk asked for its next pair, if it has taken steps, or was out of turn; of one that is to begin a call; and of
-  -- one by which a call has got a reply, or a walk was given up.
-  abbrev pub IsSaid : Event K V → Played V → Type 0
-  IsSaid (events.Step caller refuse) played = TookOrBusy played
-  IsSaid (events.Go caller refuse) played = TookOrBusy played
-  IsSaid (events.OneCall guard name call) played = TookOrBusy played
-  IsSaid (events.Begin caller guard name call) played = Unit {0}
-  IsSaid (events.Replied caller reply) played = played.outcome ≡ Goes
-  IsSaid (events.Stop caller) played = played.outcome ≡ Done
-  IsSaid _ played = ⊥
+  -- Of which events in turn this is said: of one by which a call goes on that is no walk asked for its next pair; of one that is to begin a call; and of one by which a call has got a reply, or a
+  -- walk was given up.
+  abbrev pub IsSaid : Event K V → Outcome V → Type 0
+  IsSaid (events.Next caller) outcome = ⊥
+  IsSaid (events.Replied caller reply) outcome = outcome ≡ Goes
+  IsSaid (events.Stop caller) outcome = outcome ≡ Done
+  IsSaid event outcome = Unit {0}
 
 module _ {K V S : Type 0} (same : K → K → Bool) (hash : K → ℕ) where
   -- What is promised of such an event that is in turn, with what is left: it keeps its promises, and the run goes on.
   abbrev pub KeepsDue : Event K V → Played V → (old new : Scheduler K V S) → Type 0
   KeepsDue event played old new =
-      IsSaid event played → Wanted K V S same hash → (terms : Terms) (log : List (Entry K V)) → Runs same hash terms log old → is_kept_out terms event (moment log) ≡ false
+      IsSaid event played.outcome → Wanted K V S same hash → (terms : Terms) (log : List (Entry K V)) → Runs same hash terms log old → is_kept_out terms event (moment log) ≡ false
       → IsLeft terms log (entry_of event played) → RunsOn same hash terms log (entry_of event played) new
 
   -- And so it is of an event of a call that is kept out, whichever it is.
   abbrev pub KeepsAt : Event K V → Played V → (old new : Scheduler K V S) → Type 0
   KeepsAt event played old new =
-      is_of_calls event ≡ true → Wanted K V S same hash → (terms : Terms) (log : List (Entry K V)) → Runs same hash terms log old → (is_kept_out terms event (moment log) ≡ false → IsSaid event played)
+      is_of_calls event ≡ true → Wanted K V S same hash → (terms : Terms) (log : List (Entry K V)) → Runs same hash terms log old → (is_kept_out terms event (moment log) ≡ false → IsSaid event played.outcome)
       → IsLeft terms log (entry_of event played) → RunsOn same hash terms log (entry_of event played) new

@@ -52,11 +52,14 @@ module _ {K V : Type 0} where
   FindsStill terms log e (EndMap name) = (let b = at_work e (moment log) in AtEachEffect (Finds terms None (acted_on e.event b) false []) None (acted_on e.event b) e.effects b)
   FindsStill terms log e _ = AtEachEffect AsksInNeed None None e.effects (moment log)
 
-  -- What is still asked of such an event, by name: it comes to what is right, and what it does it may do, and finds what it must.
-  pub record IsLeftOfRows (terms : Terms) (log : List (Entry K V)) (e : Entry K V) : Type 0 where
-    pub right : ComesRight terms log e
+  -- What is still asked of such an event, by name, but that it comes to what is right: what it does it may do, and finds what it must.
+  pub record IsLeftOfRowsBut (terms : Terms) (log : List (Entry K V)) (e : Entry K V) : Type 0 where
     pub may : MaysDo log e e.event
     pub finds : FindsStill terms log e e.event
+
+  pub record IsLeftOfRows (terms : Terms) (log : List (Entry K V)) (e : Entry K V) : Type 0 where
+    pub right : ComesRight terms log e
+    pub but : IsLeftOfRowsBut terms log e
 
 module _ {K V S : Type 0} where
   -- Of a making that was refused once it had begun nothing is said.

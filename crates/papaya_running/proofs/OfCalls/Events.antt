@@ -1,20 +1,20 @@
 -- An event by which a call goes on, or begins, whichever it is: it keeps its promises, and the run goes on with it.
 use Rattle.std.specs.Prelude.{◌≡◌, ℕ, Bool, true, false, List, [], ◌∷◌, position, Option, Some, None, if◌then◌else◌}
-use Rattle.std.proofs.Common.{refl, ap, sym, subst, ◌∙◌, inl, inr, arith}
+use Rattle.std.proofs.Common.{refl, ap, sym, subst, ◌∙◌}
 use Rattle.papaya_histories.specs.Given.SeizeWords.declared.fault.Fault.TheVariants.{Busy}
 use Rattle.papaya_runs.specs.Stopped.{most_steps}
 use Rattle.papaya_schedules.specs.declared.call.Call.{Call}
 use Rattle.papaya_schedules.specs.declared.call.Reply.{Reply}
 use Rattle.papaya_schedules.specs.declared.event.Event.{Event}
 use Rattle.papaya_schedules.specs.declared.event.Event.TheVariants.{Begin, Go, Next, OneCall, Replied, Step, Stop}
-use Rattle.papaya_schedules.specs.declared.outcome.Outcome.{Outcome}
-use Rattle.papaya_schedules.specs.declared.outcome.Outcome.TheVariants.{Goes, Refused}
+use Rattle.papaya_schedules.specs.declared.outcome.Outcome.TheVariants.{Asks, Goes, Ready, Refused}
 use Rattle.papaya_schedules.specs.After.{moment}
 use Rattle.papaya_schedules.specs.Beginning.{with_call}
 use Rattle.papaya_schedules.specs.Entry.{Entry, nameless}
 use Rattle.papaya_schedules.specs.InTurn.{ComesRight}
 use Rattle.papaya_schedules.specs.Terms.{Terms}
 use Rattle.papaya_schedules.specs.Views.{number_of}
+use Rattle.papaya_legal.specs.Over.{GoesOnBy}
 use Rattle.papaya_scheduler.specs.Played.{Began, BeginsSo, HasBegun, IsPlayed, StandsFor, entry_of}
 use Rattle.papaya_named.specs.Seen.{is_named}
 use Rattle.papaya_named.specs.declared.caller.Stands.{Stands as HowFar}
@@ -25,7 +25,8 @@ use Rattle.papaya_scheduler.proofs.Here.{Here, here_at}
 use Rattle.papaya_scheduler.proofs.Rights.{entry_is, quiet}
 use Rattle.papaya_stepping.specs.Stepping.{GoesAt, SaysAgain, StepsCome, TakenAs, TakenBy, TookSteps, TookWhole}
 use Rattle.papaya_stepping.proofs.PlaysWhole.{goes_first, map_there}
-use Rattle.papaya_running.specs.OfCalls.{IsLeft, Runs, RunsOn, TookOrBusy, Wanted}
+use Rattle.papaya_running.specs.OfCalls.{IsLeft, Runs, RunsOn, Wanted}
+use Rattle.papaya_running.proofs.OfCalls.Again.{again_on}
 use Rattle.papaya_running.proofs.OfCalls.Begun.{begun_on, its}
 use Rattle.papaya_running.proofs.OfCalls.Quiet.{quiet_on, reads_of}
 use Rattle.papaya_running.proofs.OfCalls.Taken.{taken_on}
@@ -80,21 +81,16 @@ module _ {K V S : Type 0} (same : K → K → Bool) (hash : K → ℕ) (old new 
       pub stop_out : (own : List ℕ) → ComesRight terms log (entry_of (Stop own) played) → IsPlayed same hash terms (entry_of (Stop own) played ∷ log) new → As (Stop own)
       stop_out own = by_quiet (Stop own) (quiet_on same hash terms log old new runs logged_is calls_are (Stop own) tt tt refl tt refl tt tt)
 
-  -- one that says again what it has said has neither taken steps, nor was it out of turn
-  never_again : (o : Outcome V) → TookOrBusy played → SaysAgain same hash o played old new → (o ≡ Refused Busy → ⊥) → ⊥
-  never_again o (inl some) says other = let none = says.1 in omega (arith, some, none)
-  never_again o (inr busy) says other = other (sym says.0 ∙ busy)
-
-  module _ (wanted : Wanted K V S same hash) (terms : Terms) (log : List (Entry K V)) (runs : Runs same hash terms log old) (took_some : TookOrBusy played) where
+  module _ (wanted : Wanted K V S same hash) (terms : Terms) (log : List (Entry K V)) (runs : Runs same hash terms log old) where
     module _ (event : Event K V) (own : List ℕ) (place : ℕ) (placed : Some place ≡ position (is_named own) old.calls.items.items) (left : IsLeft terms log (entry_of event played))
-        (plays : IsPlayed same hash terms (entry_of event played ∷ log) new) (most : ℕ) where
+        (plays : IsPlayed same hash terms (entry_of event played ∷ log) new) (most : ℕ) (on : GoesOnBy event own) where
       abbrev its_here : Here same hash terms (moment log) old runs.stands own place
       its_here = here_at same hash terms (moment log) old runs.stands own place placed
 
       by_far : ((goes : its_here.caller.stands ≡ far.Goes) → StepsCome same hash place most played.steps played.outcome [] played.effects.items old new → RunsOn same hash terms log (entry_of event played) new)
           → (how : HowFar) → its_here.caller.stands ≡ how → TakenBy same hash place most how played old new → RunsOn same hash terms log (entry_of event played) new
-      by_far so (far.Asks question) is says = absurd (never_again _ took_some says (λ e. cc e))
-      by_far so far.Ready is says = absurd (never_again _ took_some says (λ e. cc e))
+      by_far so (far.Asks question) is says = again_on same hash terms log old runs own place placed event on (Asks question) is played new says left.right plays
+      by_far so far.Ready is says = again_on same hash terms log old runs own place placed event on Ready is played new says left.right plays
       by_far so far.Goes is come = so is come
 
     pub step_on : (own : List ℕ) (refuse : Bool) → TookSteps same hash 1 own played old new → IsLeft terms log (entry_of (Step own refuse) played)
@@ -108,7 +104,7 @@ module _ {K V S : Type 0} (same : K → K → Bool) (hash : K → ℕ) (old new 
         by (Some place) is =
             let placed = sym is in
             let it = here_at same hash terms (moment log) old runs.stands own place placed in
-            by_far (Step own refuse) own place placed left plays 1
+            by_far (Step own refuse) own place placed left plays 1 refl
             (λ goes come. taken_on same hash wanted terms log old runs (Step own refuse) own refl refl place placed (λ x. refl) refl refl goes 1 played new come left plays)
             it.caller.stands refl (took.0 place placed it.caller it.at)
 
@@ -123,7 +119,7 @@ module _ {K V S : Type 0} (same : K → K → Bool) (hash : K → ℕ) (old new 
         by (Some place) is =
             let placed = sym is in
             let it = here_at same hash terms (moment log) old runs.stands own place placed in
-            by_far (Go own refuse) own place placed left plays most_steps
+            by_far (Go own refuse) own place placed left plays most_steps refl
             (λ goes come. taken_on same hash wanted terms log old runs (Go own refuse) own refl refl place placed (λ x. refl) refl refl goes most_steps played new come left plays)
             it.caller.stands refl (took.0 place placed it.caller it.at)
 

@@ -28,20 +28,20 @@ module _ {K V S : Type 0} (same : K → K → Bool) (hash : K → ℕ) (old new 
   pub step_if : {X : Type 0} (own : List ℕ) (refuse : Bool) → happens ≡ event.Step own refuse → (result : Result (Played V) X) → IfOk result (λ played. PlaysOnAt same hash (event.Step own refuse) played old new)
       → IfOk result (λ played. TookSteps same hash 1 own played old new) → IfOk result (λ played. KeepsDue same hash happens played old new)
   step_if own refuse is (Ok played) plays took = subst (λ (x : Event K V). KeepsDue same hash x played old new) (sym is) (λ said wanted terms log runs out left.
-      step_on same hash old new played wanted terms log runs said own refuse took left (plays terms log (record { played = runs.stands; in_turn = out })).played)
+      step_on same hash old new played wanted terms log runs own refuse took left (plays terms log (record { played = runs.stands; in_turn = out })).played)
   step_if own refuse is (Err x) plays took = tt
 
   pub go_if : {X : Type 0} (own : List ℕ) (refuse : Bool) → happens ≡ event.Go own refuse → (result : Result (Played V) X) → IfOk result (λ played. PlaysOnAt same hash (event.Go own refuse) played old new)
       → IfOk result (λ played. TookSteps same hash most_steps own played old new) → IfOk result (λ played. KeepsDue same hash happens played old new)
   go_if own refuse is (Ok played) plays took = subst (λ (x : Event K V). KeepsDue same hash x played old new) (sym is) (λ said wanted terms log runs out left.
-      go_on same hash old new played wanted terms log runs said own refuse took left (plays terms log (record { played = runs.stands; in_turn = out })).played)
+      go_on same hash old new played wanted terms log runs own refuse took left (plays terms log (record { played = runs.stands; in_turn = out })).played)
   go_if own refuse is (Err x) plays took = tt
 
   pub whole_if : {X : Type 0} (guard on : List ℕ) (call : Call K V) → happens ≡ event.OneCall guard on call → (result : Result (Played V) X)
       → IfOk result (λ played. PlaysOnAt same hash (event.OneCall guard on call) played old new) → IfOk result (λ played. TookWhole same hash guard on call played old new)
       → IfOk result (λ played. KeepsDue same hash happens played old new)
   whole_if guard on call is (Ok played) plays took = subst (λ (x : Event K V). KeepsDue same hash x played old new) (sym is) (λ said wanted terms log runs out left.
-      whole_goes_on same hash old new played wanted terms log runs said guard on call took left (plays terms log (record { played = runs.stands; in_turn = out })).played)
+      whole_goes_on same hash old new played wanted terms log runs guard on call took left (plays terms log (record { played = runs.stands; in_turn = out })).played)
   whole_if guard on call is (Err x) plays took = tt
 
   pub begin_if : {X : Type 0} (own guard on : List ℕ) (call : Call K V) → happens ≡ event.Begin own guard on call → (result : Result (Played V) X) → IfOk result (λ played. played.steps ≡ 0)
@@ -72,10 +72,10 @@ module _ {K V S : Type 0} (same : K → K → Bool) (hash : K → ℕ) (old new 
       (subst (λ (e : Entry K V). IsPlayed same hash terms (e ∷ log) new) so on.played)))
 
   -- of any other event of a call nothing is said
-  unsaid : (played : Played V) (form : Event K V) → happens ≡ form → (IsSaid form played → ⊥) → KeepsDue same hash happens played old new
-  unsaid played form is never = λ said. absurd (never (subst (λ (x : Event K V). IsSaid x played) is said))
+  unsaid : (played : Played V) (form : Event K V) → happens ≡ form → (IsSaid form played.outcome → ⊥) → KeepsDue same hash happens played old new
+  unsaid played form is never = λ said. absurd (never (subst (λ (x : Event K V). IsSaid x played.outcome) is said))
 
-  pub unsaid_if : {X : Type 0} (form : Event K V) → happens ≡ form → ((played : Played V) → IsSaid form played → ⊥) → (result : Result (Played V) X) → IfOk result (λ played. KeepsDue same hash happens played old new)
+  pub unsaid_if : {X : Type 0} (form : Event K V) → happens ≡ form → ((played : Played V) → IsSaid form played.outcome → ⊥) → (result : Result (Played V) X) → IfOk result (λ played. KeepsDue same hash happens played old new)
   unsaid_if form is never (Ok played) = unsaid played form is (never played)
   unsaid_if form is never (Err x) = tt
 

@@ -131,7 +131,7 @@ module _ {K V S : Type 0} (same : K → K → Bool) (hash : K → ℕ) (wanted :
     rest =
         subst (λ (x : List ℕ). FindRest terms (moments_from c.begun log) x map played.effects.items m) (ap (λ (z : Seen). z.name) here.as_seen ∙ sym here.way.2)
         (subst (λ (k : ℕ). FindRest terms (moments_from c.begun log) c.caller k played.effects.items m) map_is
-        (its_left (λ (x : CallThere K V) (b : Moment K V). FindRest terms (moments_from x.begun log) x.caller x.map played.effects.items b) left.rest))
+        (its_left (λ (x : CallThere K V) (b : Moment K V). FindRest terms (moments_from x.begun log) x.caller x.map played.effects.items b) left.but.rest))
 
     pub taken_on : RunsOn same hash terms log (entry_of event played) new
     taken_on =
@@ -139,7 +139,7 @@ module _ {K V S : Type 0} (same : K → K → Bool) (hash : K → ℕ) (wanted :
         let far_on = has_come same hash wanted name terms log event m map i c place old start by.0 by.2 by.3 by.4 in
         runs_on same hash wanted name terms log event m map i c place c_is (known old.logged.notes) runs.stands.scene runs.shows played by.0 by.2 by.3 new far_on by.5 (begins played)
         (acts ∙ ap (λ (o : Option (CallThere K V)). option_map (λ (x : CallThere K V). x.map) o) acting_is ∙ ap Some map_is) takes by.1 comes_as (never_busy c.call played.outcome comes_as) left.right
-        left.refuses (its_left (λ (x : CallThere K V) (b : Moment K V). TellsValue x.call x.replies played.outcome) left.values)
+        left.but.refuses (its_left (λ (x : CallThere K V) (b : Moment K V). TellsValue x.call x.replies played.outcome) left.but.values)
         (all_find same hash wanted name terms log event m map i c place (moments_from c.begun log) by.0 by.2 played.effects.items by.3 new played.outcome far_on by.5
         (gone_find same hash wanted name terms log event m map i c place (moments_from c.begun log) old start by.0 by.2 by.3 by.4) rest)
         slot_so active plays

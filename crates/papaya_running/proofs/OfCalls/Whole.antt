@@ -168,15 +168,15 @@ module _ {K V S : Type 0} (same : K → K → Bool) (hash : K → ℕ) (wanted :
         (subst (λ (b : Moment K V). IfCall (λ (x : CallThere K V). P x b) (call_of nameless b)) begins so)
 
     rest : FindRest terms (moments_from c.begun log) (names i) map played.effects.items m1
-    rest = its_left (λ (x : CallThere K V) (b : Moment K V). FindRest terms (moments_from x.begun log) x.caller x.map played.effects.items b) left.rest
+    rest = its_left (λ (x : CallThere K V) (b : Moment K V). FindRest terms (moments_from x.begun log) x.caller x.map played.effects.items b) left.but.rest
 
     pub whole_on : RunsOn same hash terms log (entry_of event played) new
     whole_on =
         let by = come.2 in
         let far_on = has_come same hash wanted names terms log event m1 map i c 0 mid start by.0 by.2 by.3 by.4 in
         runs_on same hash wanted names terms log event m1 map i c 0 c_is (known old.logged.notes) runs.stands.scene (begun.run_named same hash terms log old runs nameless guard on call mid led) played by.0
-        by.2 by.3 new far_on by.5 begins (ap (λ (o : Option (CallThere K V)). option_map (λ (x : CallThere K V). x.map) o) acting_is) refl by.1 comes_as never left.right left.refuses
-        (its_left (λ (x : CallThere K V) (b : Moment K V). TellsValue x.call x.replies played.outcome) left.values)
+        by.2 by.3 new far_on by.5 begins (ap (λ (o : Option (CallThere K V)). option_map (λ (x : CallThere K V). x.map) o) acting_is) refl by.1 comes_as never left.right left.but.refuses
+        (its_left (λ (x : CallThere K V) (b : Moment K V). TellsValue x.call x.replies played.outcome) left.but.values)
         (all_find same hash wanted names terms log event m1 map i c 0 (moments_from c.begun log) by.0 by.2 played.effects.items by.3 new played.outcome far_on by.5
         (gone_find same hash wanted names terms log event m1 map i c 0 (moments_from c.begun log) mid start by.0 by.2 by.3 by.4) rest)
         slot_so active plays
