@@ -12,13 +12,11 @@ use Rattle.papaya_schedules.specs.Terms.{Terms}
 use Rattle.papaya_scheduler.specs.KeptOut.{PlaysKeptOut}
 use Rattle.papaya_scheduler.specs.Mapping.{MayMap}
 use Rattle.papaya_scheduler.specs.Played.{IsDue, MayPlay, Plays, entry_of}
-use Rattle.papaya_scheduler.specs.Quiet.{IsQuiet}
 use Rattle.papaya_scheduler.specs.Reclaiming.{MayReclaimAll}
 use Rattle.papaya_scheduler.specs.Turns.{keeps_out}
 use Rattle.papaya_scheduler.specs.declared.played.Played.{Played}
 use Rattle.papaya_scheduler.specs.declared.scheduler.Scheduler.{Scheduler}
 use Rattle.papaya_stepping.specs.Stepping.{ComesInCase, PlaysNextAt, PlaysOnAt}
-use Rattle.papaya_scheduler.proofs.Busy.{none_quiet}
 use Rattle.papaya_scheduler.proofs.KeptOut.{kept_out_is}
 use Rattle.papaya_running.specs.Asked.{FindsRight, Happens, HappensAt, HappensDue, Holds, MayHappenDue, takes_steps}
 use Rattle.papaya_running.proofs.Forms.{does_none, does_nothing, makes_none, makes_out}
@@ -48,19 +46,18 @@ module _ {K V S : Type 0} (same : K → K → Bool) (hash : K → ℕ) (event fo
     Due played = HappensDue same hash is_first event played old new
 
     -- one by which no call takes steps
-    pub still : takes_steps form ≡ false → (played : Played V) → played.steps ≡ 0 → IsQuiet played.outcome played.effects.items → PlaysForm played → Due played
-    still so played none busy plays = λ terms log first holds out.
+    pub still : takes_steps form ≡ false → (played : Played V) → played.steps ≡ 0 → PlaysForm played → Due played
+    still so played none plays = λ terms log first holds out.
         subst (λ (x : Event K V). Happens same hash terms log (entry_of x played) new) (sym is) (record {
           played = (plays terms log first holds out).played;
           plays = λ finds. plays terms log first holds out;
           makes = makes_none form so (stands_or (acting (caller_of form) (at_work (entry_of form played) (moment log)))) played.steps none played.outcome;
           does = does_none form so played.steps played.effects.items;
-          is_quiet = busy;
         })
 
-    pub still_if : {X : Type 0} → takes_steps form ≡ false → (result : Result (Played V) X) → IfOk result (λ played. played.steps ≡ 0) → IfOk result (λ played. IsQuiet played.outcome played.effects.items) → IfOk result PlaysForm → IfOk result Due
-    still_if so (Ok played) none busy plays = still so played none busy plays
-    still_if so (Err x) none busy plays = tt
+    pub still_if : {X : Type 0} → takes_steps form ≡ false → (result : Result (Played V) X) → IfOk result (λ played. played.steps ≡ 0) → IfOk result PlaysForm → IfOk result Due
+    still_if so (Ok played) none plays = still so played none plays
+    still_if so (Err x) none plays = tt
 
     -- one by which a call goes on
     pub goes_if : {X : Type 0} → ((terms : Terms) (log : List (Entry K V)) (played : Played V) → FindsRight terms log (entry_of form played) → ComesInCase terms log (entry_of form played))
@@ -72,7 +69,6 @@ module _ {K V S : Type 0} (same : K → K → Bool) (hash : K → ℕ) (event fo
           plays = λ finds. on.plays (case_of terms log played finds);
           makes = on.makes;
           does = on.does;
-          is_quiet = on.is_quiet;
         })
     goes_if case_of (Err x) plays = tt
 
@@ -81,7 +77,7 @@ module _ {K V S : Type 0} (same : K → K → Bool) (hash : K → ℕ) (event : 
   pub next_if : {X : Type 0} (result : Result (Played V) X) → IfOk result (λ played. PlaysNextAt same hash own played old new) → IfOk result (λ played. HappensDue same hash is_first event played old new)
   next_if (Ok played) plays = λ terms log first holds out.
       let on = plays terms log (due_so same hash event (Next own) is old terms log holds out) in
-      subst (λ (x : Event K V). Happens same hash terms log (entry_of x played) new) (sym is) (record { played = on.plays.played; plays = λ finds. on.plays; makes = on.makes; does = on.does; is_quiet = on.is_quiet })
+      subst (λ (x : Event K V). Happens same hash terms log (entry_of x played) new) (sym is) (record { played = on.plays.played; plays = λ finds. on.plays; makes = on.makes; does = on.does })
   next_if (Err x) plays = tt
 
 -- An event is kept out, or in turn.
@@ -97,7 +93,6 @@ module _ {K V S : Type 0} (same : K → K → Bool) (hash : K → ℕ) (event : 
       plays = λ finds. plays terms log holds.stands out;
       makes = makes_out event (stands_or (acting (caller_of event) (at_work (entry_of event played) (moment log)))) played.steps none played.outcome kept;
       does = does_nothing (caller_of event) played.steps played.effects.items nothing;
-      is_quiet = none_quiet played.outcome played.effects.items nothing;
     }
 
     pub in_turn_if : {X : Type 0} (result : Result (Played V) X) → IfOk result (λ played. HappensDue same hash is_first event played old new) → keeps_out event old ≡ false

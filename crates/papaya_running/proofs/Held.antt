@@ -1,8 +1,12 @@
 -- After an event the scheduler is again as events ask of it.
-use Rattle.std.specs.Prelude.{◌≡◌, ◌≤◌, ◌<◌, ◌^◌, ℕ, Bool, true, false, List, ◌∷◌, length, find, Option, Some, None, option_map, Result, Ok, Err, IfOk, if◌then◌else◌}
-use Rattle.std.specs.List.{All}
+use Rattle.std.specs.Prelude.{◌≡◌, ◌≤◌, ◌<◌, ◌^◌, ℕ, Bool, true, false, List, [], ◌∷◌, length, find, Option, Some, None, option_map, Result, Ok, Err, IfOk, if◌then◌else◌}
+use Rattle.std.specs.List.{All, AllByRecursion}
 use Rattle.std.proofs.Common.{refl, ap, sym, subst, ◌∙◌, arith}
+use Rattle.seize_words.specs.SlotWords.{slot_word}
+use Rattle.papaya_histories.specs.Given.Seize.declared.states.TheConstants.{HEAD}
 use Rattle.papaya_histories.specs.Given.Callers.Together.{UnderWay}
+use Rattle.papaya_histories.specs.Given.Finishes.Endings.{Finishing}
+use Rattle.papaya_histories.specs.Given.Finishes.Makings.{Beginning}
 use Rattle.papaya_histories.specs.Given.Finishes.Maps.{Standing}
 use Rattle.papaya_histories.specs.Given.Moments.Numbers.{NumbersMaps, PairsAreBelow}
 use Rattle.papaya_histories.proofs.Given.Moments.NewMaps.{effects_keep_pairs}
@@ -22,20 +26,27 @@ use Rattle.papaya_schedules.specs.Lists.{least_free}
 use Rattle.papaya_schedules.specs.Moment.{MapThere, Moment, Place, TableThere}
 use Rattle.papaya_schedules.specs.Terms.{Terms}
 use Rattle.papaya_schedules.specs.Views.{call_of, map_of, number_of}
+use Rattle.papaya_effects.specs.Known.{known}
 use Rattle.papaya_histories.specs.Given.Executor.IsAt.{Scene, StaysGiven}
+use Rattle.papaya_remains.specs.Remains.{AllStand, RootsAreTaken}
 use Rattle.papaya_remains.proofs.Numbered.{made_stays, standing_below}
+use Rattle.papaya_remains.proofs.Rests.{rests_remain}
+use Rattle.papaya_reclaims.specs.Reclaims.{LeftBehind}
+use Rattle.papaya_logged.specs.Shown.{IsCounted}
+use Rattle.papaya_rows.proofs.Facts.{no_ending_of, no_making_of}
 use Rattle.papaya_rows.proofs.Lists.{found_has}
 use Rattle.papaya_scheduler.specs.Mapping.{CountsMaps}
 use Rattle.papaya_scheduler.specs.Played.{IsPlayed, IsUnderWay, Plays, entry_of, terms_given}
-use Rattle.papaya_named.specs.Seen.{is_named}
+use Rattle.papaya_scheduler.specs.Reclaiming.{MayGiveAll}
+use Rattle.papaya_named.specs.Seen.{is_named, named, named_of}
 use Rattle.papaya_named.specs.declared.caller.Caller.{Caller}
 use Rattle.papaya_scheduler.specs.declared.played.Played.{Played}
 use Rattle.papaya_scheduler.specs.declared.scheduler.Scheduler.{Scheduler}
+use Rattle.papaya_mapping.proofs.MapLists.{all_back, all_seen}
 use Rattle.papaya_scheduler.proofs.RanOn.{maps_named}
 use Rattle.papaya_running.specs.Asked.{FindsRight, HappensAt, Holds, HoldsThen, numbers_on}
 use Rattle.papaya_running.proofs.Counts.{NamesApart, begun_apart, gone_apart, made_begun, named_apart}
 use Rattle.papaya_running.proofs.Logs.{begun_same, called_so}
-use Rattle.papaya_running.proofs.Remaining.{gives_all, rested}
 
 module _ {K V S : Type 0} (same : K → K → Bool) (hash : K → ℕ) (terms : Terms) (log : List (Entry K V)) (p : Scheduler K V S) (holds : Holds same hash terms (moment log) p) where
   abbrev m : Moment K V
@@ -125,6 +136,9 @@ module _ {K V S : Type 0} (same : K → K → Bool) (hash : K → ℕ) (terms : 
     abbrev w : Moment K V
     w = moment (e ∷ log)
 
+    abbrev s2 : Scene K V
+    s2 = played.scene
+
     next_then : length new.logged.executor.maps.items ≡ w.made
     next_then =
         count ∙ ap (numbers_on e.event e.outcome) holds.counts.next ∙ sym (made_begun e.event e.outcome m) ∙ sym (made_stays (caller_of e.event) (acted_on e.event b) e.effects b)
@@ -190,6 +204,34 @@ module _ {K V S : Type 0} (same : K → K → Bool) (hash : K → ℕ) (terms : 
         (named_apart b.maps (worked e m).maps (maps_named (caller_of e.event) (acted_on e.event b) e.effects b)
         (begun_apart terms log e holds.counts.apart.names e.event e.outcome (λ finds. (right finds).right)))
 
+    -- nobody makes a map, or ends one
+    no_makers : (j : ℕ) → s2.makers j ≡ None
+    no_makers j = by (s2.makers j) refl
+      where
+        by : (o : Option (Beginning K)) → s2.makers j ≡ o → s2.makers j ≡ None
+        by None is = is
+        by (Some d) is = no_making_of same hash new.logged.executor s2 played.shown.is_at j (played.rests j (played.shown.is_at.together.makings.alone j d is))
+
+    no_enders : (j : ℕ) → s2.enders j ≡ None
+    no_enders j = by (s2.enders j) refl
+      where
+        by : (o : Option (Finishing K V)) → s2.enders j ≡ o → s2.enders j ≡ None
+        by None is = is
+        by (Some f) is = no_ending_of same hash new.logged.executor s2 played.shown.is_at j (played.rests j (played.shown.is_at.together.alone j f is).0)
+
+    abbrev StandsNamed : (List ℕ × ℕ) → Type 0
+    StandsNamed z = (standing : Standing K) × (s2.maps z.1 ≡ Some standing)
+
+    all_stand : AllStand w s2
+    all_stand = all_back named StandsNamed w.maps (subst (AllByRecursion StandsNamed) (sym played.maps.listed) (all_seen named_of StandsNamed new.maps.items played.maps.stand))
+
+    abbrev counted : IsCounted w new.logged s2
+    counted = played.shown.counted
+
+    rested : RootsAreTaken new.logged.executor.roots w new.logged.executor.memory.memory × LeftBehind new.logged.executor.roots s2.world s2.maps counted.remains.lists
+    rested =
+        rests_remain K V S same hash played.name w (known new.logged.notes) s2 new.logged.executor played.shown.is_at played.shown.shows.all.shown counted.remains numbers_then.found all_stand no_makers no_enders
+
     same_terms : terms_given p.given ≡ terms_given new.given
     same_terms = holds.stands.given ∙ sym played.given
 
@@ -198,15 +240,22 @@ module _ {K V S : Type 0} (same : K → K → Bool) (hash : K → ℕ) (terms : 
       apart = record { numbers = numbers_then; names = names_then };
       pairs = pairs_then;
       next = next_then;
-      taken = (rested same hash terms w new played numbers_then.found).0;
-      once = played.shown.counted.remains.once;
-      below = played.shown.counted.remains.below;
+      taken = rested.0;
+      once = counted.remains.once;
+      below = counted.remains.below;
       roots = given.2 ∙ holds.counts.roots ∙ ap (λ (t : Terms). t.roots) same_terms;
       processors = subst (λ (n : ℕ). n ≤ 2 ^ 63) (ap (λ (t : Terms). t.processors) same_terms) holds.counts.processors;
     }
 
+    gives_then : MayGiveAll new s2
+    gives_then = record {
+      lists = counted.remains.lists;
+      left = rested.1;
+      slots = record { some = counted.numbered.slots.some; none = λ none. ap (λ (l : List (List ℕ)). slot_word l 0 HEAD) (counted.numbered.slots.none none) };
+    }
+
     pub holds_then : Holds same hash terms w new
-    holds_then = record { stands = played; lawful = holds.lawful; counts = counts_then; gives = gives_all same hash terms w new played numbers_then.found }
+    holds_then = record { stands = played; lawful = holds.lawful; counts = counts_then; gives = gives_then }
 
 -- So it is of what an event comes to.
 module _ {K V S : Type 0} (same : K → K → Bool) (hash : K → ℕ) (event : Event K V) (is_first : Bool) (old new : Scheduler K V S) (given : StaysGiven old.logged.executor new.logged.executor) where

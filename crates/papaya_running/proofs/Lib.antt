@@ -1,6 +1,4 @@
 mod Beginning
-mod Remaining
-pub mod OfCalls
 mod Ended
 mod Forms
 mod Happened
@@ -12,7 +10,3 @@ mod Logs
 mod Turns
 mod Counts
 mod Held
-pub mod OfRows
-pub mod OfEnds
-pub mod OfMakings
-pub mod OfAll

@@ -1,5 +1,5 @@
 -- One event more, and the end of a schedule.
-use Rattle.std.specs.Prelude.{◌≡◌, ℕ, suc, ◌+◌, Bool, true, false, List, [], ◌∷◌, ◌++◌, length, filter, map, Option, slice_index_or, if◌then◌else◌}
+use Rattle.std.specs.Prelude.{◌≡◌, ℕ, suc, ◌+◌, ◌==◌, ◌||◌, Bool, true, false, List, [], ◌∷◌, ◌++◌, length, filter, map, Option, None, slice_index_or, if◌then◌else◌}
 use Rattle.std.specs.Global.{Vec}
 use Rattle.std.proofs.Common.{refl, sym, ap, subst, ◌∙◌, arith}
 use Rattle.std.proofs.lemmas.List.{length-append, map-append}
@@ -7,16 +7,20 @@ use Rattle.papaya_runs.specs.declared.outcome.Single.{Single}
 use Rattle.papaya_runs.specs.declared.outcome.Single.TheVariants as single
 use Rattle.papaya_runs.specs.declared.record.Living.{Living}
 use Rattle.papaya_runs.specs.declared.record.Pair.{Pair}
+use Rattle.papaya_runs.specs.Pairs.{numbers}
+use Rattle.papaya_runs.specs.Runs.{IsStored}
 use Rattle.papaya_schedules.specs.declared.effect.Effect.{Effect}
 use Rattle.papaya_schedules.specs.declared.event.Event.{Event}
+use Rattle.papaya_schedules.specs.declared.outcome.Outcome.{Outcome}
 use Rattle.papaya_schedules.specs.declared.record.Run.{Run}
 use Rattle.papaya_schedules.specs.After.{AtEachEvent, moment}
 use Rattle.papaya_schedules.specs.Beginning.{at_work}
 use Rattle.papaya_schedules.specs.Entry.{Entry, acted_on, caller_of, is_busy}
+use Rattle.papaya_schedules.specs.InTurn.{ComesRight}
 use Rattle.papaya_schedules.specs.Moment.{Place, Deferral, MapThere, TableThere, Moment, start}
-use Rattle.papaya_schedules.specs.Runs.{Lists, ShowsMaps, log_of, log_on, trace_of}
+use Rattle.papaya_schedules.specs.Runs.{Lists, ShowsMaps, log_of, log_on, singles_of, trace_of}
 use Rattle.papaya_schedules.specs.Terms.{Terms}
-use Rattle.papaya_schedules.specs.Views.{is_in_map, is_retired}
+use Rattle.papaya_schedules.specs.Views.{is_in_a_map, is_in_map, is_retired, is_waiting}
 use Rattle.papaya_scheduler.specs.Played.{entry_of}
 use Rattle.papaya_named.specs.Seen.{named, named_of}
 use Rattle.papaya_scheduler.specs.declared.played.Played.{Played}
@@ -32,6 +36,7 @@ use Rattle.papaya_running.specs.declared.record.Record.{Record}
 use Rattle.papaya_logged.specs.Back.{ComesBack}
 use Rattle.papaya_tally.specs.Told.{AreBack}
 use Rattle.papaya_tally.proofs.Back.{back_then}
+use Rattle.papaya_tally.specs.declared.tally.Flagged.{Flagged}
 use Rattle.papaya_tally.specs.declared.tally.Tally.{Tally}
 use Rattle.papaya_tally.specs.declared.tally.Whereabouts.{Whereabouts}
 use Rattle.papaya_tally.specs.declared.tally.Whereabouts.TheVariants.{Unborn}
@@ -114,7 +119,7 @@ module _ {K V S : Type 0} (same : K → K → Bool) (hash : K → ℕ) (terms : 
 -- what is promised of an event, as a run tells it
 pub goes_so : {K V S : Type 0} (same : K → K → Bool) (hash : K → ℕ) (terms : Terms) (log : List (Entry K V)) (e : Entry K V) (p : Scheduler K V S)
     → Happens same hash terms log e p → GoesRight terms log e
-goes_so same hash terms _ e p happens = record { right = λ finds. (happens.plays finds).right; makes = happens.makes; does = happens.does; is_quiet = happens.is_quiet }
+goes_so same hash terms _ e p happens = record { right = λ finds. (happens.plays finds).right; makes = happens.makes; does = happens.does }
 
 -- before all events
 pub start_so : {K V S : Type 0} (same : K → K → Bool) (hash : K → ℕ) (terms : Terms) (rec : Record V) (tally : Tally) (p : Scheduler K V S) → rec.outcomes.items ≡ [] → rec.steps.items ≡ [] → rec.effects.items ≡ []

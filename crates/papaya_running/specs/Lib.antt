@@ -3,6 +3,3 @@ pub mod Back
 pub mod Ending
 pub mod Acting
 pub mod Run
-pub mod OfCalls
-pub mod OfRows
-pub mod OfAll

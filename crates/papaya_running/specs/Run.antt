@@ -16,7 +16,6 @@ use Rattle.papaya_schedules.specs.Steps.{DoesFew, MakesSteps, stands_or}
 use Rattle.papaya_schedules.specs.Terms.{Terms}
 use Rattle.papaya_schedules.specs.Views.{is_in_a_map, is_retired, is_waiting}
 use Rattle.papaya_scheduler.specs.declared.scheduler.Given.{Given}
-use Rattle.papaya_scheduler.specs.Quiet.{IsQuiet}
 use Rattle.papaya_scheduler.specs.declared.scheduler.Scheduler.{Scheduler}
 use Rattle.papaya_running.specs.Asked.{FindsRight, Holds}
 use Rattle.papaya_running.specs.Back.{ReclaimsRight, TellsBack}
@@ -33,12 +32,11 @@ module _ {K V : Type 0} where
   abbrev pub log_so : List (Event K V) → Record V → List (Entry K V)
   log_so events rec = log_on [] events rec.outcomes.items rec.steps.items (map (λ v. v.items) rec.effects.items)
 
-  -- An event comes to what is right, where it finds what it must; it makes as many steps as it may, and does not more; and where it is refused as busy, it did nothing.
+  -- An event comes to what is right, where it finds what it must; it makes as many steps as it may, and does not more.
   pub record GoesRight (terms : Terms) (log : List (Entry K V)) (e : Entry K V) : Type 0 where
     pub right : FindsRight terms log e → ComesRight terms log e
     pub makes : MakesSteps e.event (stands_or (acting (caller_of e.event) (at_work e (moment log)))) e.steps e.outcome
     pub does : DoesFew (caller_of e.event) e.steps e.effects
-    pub is_quiet : IsQuiet e.outcome e.effects
 
   -- What a run tells at its end of maps, and of what is not reclaimed, is what its events say, also while calls are under way; pairs that are left are as they were stored.
   pub record TellsMost (m : Moment K V) (run : Run K V) : Type 0 where

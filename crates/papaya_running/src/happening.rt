@@ -3,9 +3,6 @@ ghost use Rattle.std.specs.Prelude.{◌≡◌, true, false, length, IfOk};
 ghost use Rattle.papaya_histories.specs.Given.Executor.IsAt.{StaysGiven, KeepsGiven};
 ghost use Rattle.papaya_running.specs.Asked.{HappensAt, HappensDue, HoldsThen, MayHappen, MayHappenDue, is_of_calls, is_of_maps, numbers_on};
 ghost use Rattle.papaya_running.specs.Back.{GivesAt, GivesDue};
-ghost use Rattle.papaya_running.specs.OfAll.{KeepsAll};
-ghost use Rattle.papaya_running.specs.OfCalls.{KeepsAt, KeepsDue};
-ghost use Rattle.papaya_running.specs.OfRows.{KeepsRun, KeepsRunAt};
 
 use papaya_mapping::endings::end_map;
 use papaya_mapping::makings::make_map;
@@ -32,8 +29,6 @@ fn of_maps<K: Eq + Hash + Drop, V: Drop, S: Hashes<K>>(
     ensures happens { IfOk result (λ played. HappensDue K.eq (S.hash scheduler.old.logged.executor.hasher) is_first event played scheduler.old scheduler.new) }
     ensures back { IfOk result (λ played. GivesDue K.eq (S.hash scheduler.old.logged.executor.hasher) event played scheduler.old back.old.items back.new.items) }
     ensures count { IfOk result (λ played. length scheduler.new.logged.executor.maps.items ≡ numbers_on event played.outcome (length scheduler.old.logged.executor.maps.items)) }
-    ensures rows { IfOk result (λ played. KeepsRun K.eq (S.hash scheduler.old.logged.executor.hasher) event played scheduler.old scheduler.new) }
-    ensures all { IfOk result (λ played. KeepsAll K.eq (S.hash scheduler.old.logged.executor.hasher) event played scheduler.old scheduler.new) }
     ensures given { StaysGiven scheduler.old.logged.executor scheduler.new.logged.executor }
 {
     match event {
@@ -62,7 +57,6 @@ fn of_slots<K: Eq + Hash + Drop, V: Drop, S: Hashes<K>>(
     requires no_calls { is_of_calls event ≡ false }
     ensures happens { IfOk result (λ played. HappensDue K.eq (S.hash scheduler.old.logged.executor.hasher) is_first event played scheduler.old scheduler.new) }
     ensures back { IfOk result (λ played. GivesDue K.eq (S.hash scheduler.old.logged.executor.hasher) event played scheduler.old back.old.items back.new.items) }
-    ensures rows { IfOk result (λ played. KeepsRun K.eq (S.hash scheduler.old.logged.executor.hasher) event played scheduler.old scheduler.new) }
     ensures given { KeepsGiven scheduler.old.logged.executor scheduler.new.logged.executor }
 {
     match event {
@@ -93,7 +87,6 @@ fn of_calls<K: Eq + Hash + Drop, V: Drop, S: Hashes<K>>(
     requires due { MayHappenDue K.eq (S.hash scheduler.old.logged.executor.hasher) event scheduler.old }
     requires calls { is_of_calls event ≡ true }
     ensures happens { IfOk result (λ played. HappensDue K.eq (S.hash scheduler.old.logged.executor.hasher) is_first event played scheduler.old scheduler.new) }
-    ensures keeps { IfOk result (λ played. KeepsDue K.eq (S.hash scheduler.old.logged.executor.hasher) event played scheduler.old scheduler.new) }
     ensures given { KeepsGiven scheduler.old.logged.executor scheduler.new.logged.executor }
 {
     match event {
@@ -155,9 +148,6 @@ pub fn happen<K: Eq + Hash + Drop, V: Drop, S: Hashes<K>>(
     ensures happens { IfOk result (λ played. HappensAt K.eq (S.hash scheduler.old.logged.executor.hasher) is_first event played scheduler.old scheduler.new) }
     ensures holds { IfOk result (λ played. HoldsThen K.eq (S.hash scheduler.old.logged.executor.hasher) is_first event played scheduler.old scheduler.new) }
     ensures back { IfOk result (λ played. GivesAt K.eq (S.hash scheduler.old.logged.executor.hasher) event played scheduler.old back.old.items back.new.items) }
-    ensures rows { IfOk result (λ played. KeepsRunAt K.eq (S.hash scheduler.old.logged.executor.hasher) event played scheduler.old scheduler.new) }
-    ensures all { IfOk result (λ played. KeepsAll K.eq (S.hash scheduler.old.logged.executor.hasher) event played scheduler.old scheduler.new) }
-    ensures keeps { IfOk result (λ played. KeepsAt K.eq (S.hash scheduler.old.logged.executor.hasher) event played scheduler.old scheduler.new) }
     ensures given { StaysGiven scheduler.old.logged.executor scheduler.new.logged.executor }
 {
     if scheduler.keeps_out(&event) {

@@ -6,9 +6,6 @@ use Rattle.papaya_running.proofs.Counts.{calls_make_none, counts_still, out_coun
 use Rattle.papaya_running.proofs.Gives.{calls_reclaim_none, gave_in_turn, gave_none_if, gave_out}
 use Rattle.papaya_running.proofs.Happened.{in_turn_if, out_so, stays_out}
 use Rattle.papaya_running.proofs.Held.{holds_if, holds_so}
-use Rattle.papaya_running.proofs.OfAll.{all_out, calls_give_none, none_keep, slots_give_none}
-use Rattle.papaya_running.proofs.OfCalls.Happens.{other_keeps, out_keeps, turn_keeps}
-use Rattle.papaya_running.proofs.OfRows.Kept.{calls_keep, kept_in_turn, kept_out}
 use Rattle.papaya_running.proofs.happening.happen.Goals as goal
 
 pub returns-then-keeps_out : goal.returns-then-keeps_out
@@ -26,13 +23,7 @@ returns-then-keeps_out g c =
           (ap (λ p. length p.logged.executor.maps.items) c.refuse.ensures.mapped
           ∙ sym (out_counts c.args.event c.refuse.result.outcome (length c.args.scheduler.now.logged.executor.maps.items) c.refuse.ensures.outcome));
       back = gave_out g.K.PartialEq.eq (g.S.Hashes.hash c.args.scheduler.now.logged.executor.hasher) c.args.event c.args.scheduler.now c.refuse.result c.args.back.now.items c.refuse.ensures.effects;
-      keeps =
-          out_keeps g.K.PartialEq.eq (g.S.Hashes.hash c.args.scheduler.now.logged.executor.hasher) c.args.event c.args.scheduler.now c.refuse.new.self _ c.refuse.ensures.mapped c.refuse.result c.refuse.ensures.outcome c.refuse.ensures.steps
-          c.refuse.ensures.effects (c.refuse.ensures.plays g.K.PartialEq.eq (g.S.Hashes.hash c.args.scheduler.now.logged.executor.hasher)) (sym c.keeps_out.ensures ∙ c.if-keeps_out.true);
       given = given;
-      rows =
-          kept_out g.K.PartialEq.eq (g.S.Hashes.hash c.args.scheduler.now.logged.executor.hasher) c.args.event c.args.scheduler.now c.refuse.new.self c.refuse.result c.refuse.ensures.outcome c.refuse.ensures.effects c.refuse.ensures.mapped;
-      all = all_out g.K.PartialEq.eq (g.S.Hashes.hash c.args.scheduler.now.logged.executor.hasher) c.args.event c.args.scheduler.now c.refuse.new.self _ c.refuse.ensures.mapped c.refuse.result c.refuse.ensures.outcome c.refuse.ensures.effects;
     }
 
 pub of_calls-requires : goal.of_calls-requires
@@ -44,10 +35,6 @@ of_calls-requires g c =
 
 pub returns-then-is_of_calls : goal.returns-then-is_of_calls
 returns-then-is_of_calls g c = record {
-  rows =
-      kept_in_turn g.K.PartialEq.eq (g.S.Hashes.hash c.args.scheduler.now.logged.executor.hasher) c.args.event c.args.scheduler.now c.of_calls.new.scheduler c.of_calls.result
-      (calls_keep g.K.PartialEq.eq (g.S.Hashes.hash c.args.scheduler.now.logged.executor.hasher) c.args.event (sym c.is_of_calls.ensures ∙ c.if-is_of_calls.true) c.args.scheduler.now c.of_calls.new.scheduler c.of_calls.result)
-      (sym c.keeps_out.ensures ∙ c.if-keeps_out.false);
   happens =
       in_turn_if g.K.PartialEq.eq (g.S.Hashes.hash c.args.scheduler.now.logged.executor.hasher) c.args.event c.args.scheduler.now c.args.is_first c.of_calls.new.scheduler c.of_calls.result
       c.of_calls.ensures.happens (sym c.keeps_out.ensures ∙ c.if-keeps_out.false);
@@ -60,9 +47,6 @@ returns-then-is_of_calls g c = record {
       gave_in_turn g.K.PartialEq.eq (g.S.Hashes.hash c.args.scheduler.now.logged.executor.hasher) c.args.event c.args.scheduler.now c.of_calls.result c.args.back.now.items c.args.back.now.items
       (gave_none_if g.K.PartialEq.eq (g.S.Hashes.hash c.args.scheduler.now.logged.executor.hasher) c.args.event c.args.event refl c.args.scheduler.now
       (calls_reclaim_none c.args.event (sym c.is_of_calls.ensures ∙ c.if-is_of_calls.true)) c.of_calls.result c.args.back.now.items) (sym c.keeps_out.ensures ∙ c.if-keeps_out.false);
-  keeps = turn_keeps g.K.PartialEq.eq (g.S.Hashes.hash c.args.scheduler.now.logged.executor.hasher) c.args.event c.args.scheduler.now c.of_calls.new.scheduler c.of_calls.result c.of_calls.ensures.keeps
-      (sym c.keeps_out.ensures ∙ c.if-keeps_out.false);
-  all = none_keep g.K.PartialEq.eq (g.S.Hashes.hash c.args.scheduler.now.logged.executor.hasher) c.args.event c.args.scheduler.now c.of_calls.new.scheduler (calls_give_none c.args.event (sym c.is_of_calls.ensures ∙ c.if-is_of_calls.true)) c.of_calls.result;
   given = (c.of_calls.ensures.given.0, c.of_calls.ensures.given.1, c.of_calls.ensures.given.2);
 }
 
@@ -75,8 +59,6 @@ of_maps-requires g c =
 
 pub returns-then-is_of_maps : goal.returns-then-is_of_maps
 returns-then-is_of_maps g c = record {
-  rows = kept_in_turn g.K.PartialEq.eq (g.S.Hashes.hash c.args.scheduler.now.logged.executor.hasher) c.args.event c.args.scheduler.now c.of_maps.new.scheduler c.of_maps.result c.of_maps.ensures.rows
-      (sym c.keeps_out.ensures ∙ c.if-keeps_out.false);
   happens =
       in_turn_if g.K.PartialEq.eq (g.S.Hashes.hash c.args.scheduler.now.logged.executor.hasher) c.args.event c.args.scheduler.now c.args.is_first c.of_maps.new.scheduler c.of_maps.result
       c.of_maps.ensures.happens (sym c.keeps_out.ensures ∙ c.if-keeps_out.false);
@@ -88,8 +70,6 @@ returns-then-is_of_maps g c = record {
   back =
       gave_in_turn g.K.PartialEq.eq (g.S.Hashes.hash c.args.scheduler.now.logged.executor.hasher) c.args.event c.args.scheduler.now c.of_maps.result c.args.back.now.items c.of_maps.new.back.items c.of_maps.ensures.back
       (sym c.keeps_out.ensures ∙ c.if-keeps_out.false);
-  keeps = other_keeps g.K.PartialEq.eq (g.S.Hashes.hash c.args.scheduler.now.logged.executor.hasher) c.args.event c.args.scheduler.now c.of_maps.new.scheduler (sym c.is_of_calls.ensures ∙ c.if-is_of_calls.false) c.of_maps.result;
-  all = c.of_maps.ensures.all;
   given = c.of_maps.ensures.given;
 }
 
@@ -103,8 +83,6 @@ of_slots-requires g c =
 
 pub returns : goal.returns
 returns g c = record {
-  rows = kept_in_turn g.K.PartialEq.eq (g.S.Hashes.hash c.args.scheduler.now.logged.executor.hasher) c.args.event c.args.scheduler.now c.of_slots.new.scheduler c.of_slots.result c.of_slots.ensures.rows
-      (sym c.keeps_out.ensures ∙ c.if-keeps_out.false);
   happens =
       in_turn_if g.K.PartialEq.eq (g.S.Hashes.hash c.args.scheduler.now.logged.executor.hasher) c.args.event c.args.scheduler.now c.args.is_first c.of_slots.new.scheduler c.of_slots.result
       c.of_slots.ensures.happens (sym c.keeps_out.ensures ∙ c.if-keeps_out.false);
@@ -116,7 +94,5 @@ returns g c = record {
   back =
       gave_in_turn g.K.PartialEq.eq (g.S.Hashes.hash c.args.scheduler.now.logged.executor.hasher) c.args.event c.args.scheduler.now c.of_slots.result c.args.back.now.items c.of_slots.new.back.items c.of_slots.ensures.back
       (sym c.keeps_out.ensures ∙ c.if-keeps_out.false);
-  keeps = other_keeps g.K.PartialEq.eq (g.S.Hashes.hash c.args.scheduler.now.logged.executor.hasher) c.args.event c.args.scheduler.now c.of_slots.new.scheduler (sym c.is_of_calls.ensures ∙ c.if-is_of_calls.false) c.of_slots.result;
-  all = none_keep g.K.PartialEq.eq (g.S.Hashes.hash c.args.scheduler.now.logged.executor.hasher) c.args.event c.args.scheduler.now c.of_slots.new.scheduler (slots_give_none c.args.event (sym c.is_of_maps.ensures ∙ c.if-is_of_maps.false)) c.of_slots.result;
   given = (c.of_slots.ensures.given.0, c.of_slots.ensures.given.1, c.of_slots.ensures.given.2);
 }

@@ -3,7 +3,6 @@ use Rattle.std.proofs.Common.{refl}
 use Rattle.std.proofs.lemmas.Result.{IfOk-weaker}
 use Rattle.papaya_running.proofs.Forms.{some_call}
 use Rattle.papaya_running.proofs.Happened.{due_so, goes_if, may_play, next_if, still, still_if}
-use Rattle.papaya_running.proofs.OfCalls.Happens.{begin_if, go_if, step_if, stop_keeps, told_keeps, unsaid_if, whole_if}
 use Rattle.papaya_running.proofs.happening.of_calls.Goals as goal
 
 pub begin-requires : goal.begin-requires
@@ -12,13 +11,8 @@ begin-requires g c = may_play g.K.PartialEq.eq (g.S.Hashes.hash c.args.scheduler
 pub returns-in-Begin-clause-happens : goal.returns-in-Begin-clause-happens
 returns-in-Begin-clause-happens g c =
     still_if g.K.PartialEq.eq (g.S.Hashes.hash c.args.scheduler.now.logged.executor.hasher) c.args.event _ c.in-Begin.is c.args.scheduler.now c.args.is_first c.begin.new.self refl c.begin.result
-    c.begin.ensures.steps c.begin.ensures.quiet
+    c.begin.ensures.steps
     (IfOk-weaker c.begin.result _ _ (λ played plays. λ terms log first holds out. plays terms log (due_so g.K.PartialEq.eq (g.S.Hashes.hash c.args.scheduler.now.logged.executor.hasher) c.args.event _ c.in-Begin.is c.args.scheduler.now terms log holds out)) c.begin.ensures.plays)
-
-pub returns-in-Begin-clause-keeps : goal.returns-in-Begin-clause-keeps
-returns-in-Begin-clause-keeps g c =
-    begin_if g.K.PartialEq.eq (g.S.Hashes.hash c.args.scheduler.now.logged.executor.hasher) c.args.scheduler.now c.begin.new.self c.args.event c.in-Begin.caller c.in-Begin.guard c.in-Begin.map c.in-Begin.call c.in-Begin.is c.begin.result
-    c.begin.ensures.steps c.begin.ensures.plays c.begin.ensures.began c.begin.ensures.given
 
 pub step-requires : goal.step-requires
 step-requires g c = may_play g.K.PartialEq.eq (g.S.Hashes.hash c.args.scheduler.now.logged.executor.hasher) c.args.event _ c.in-Step.is c.args.scheduler.now c.requires.due
@@ -28,11 +22,6 @@ returns-in-Step-clause-happens g c =
     goes_if g.K.PartialEq.eq (g.S.Hashes.hash c.args.scheduler.now.logged.executor.hasher) c.args.event _ c.in-Step.is c.args.scheduler.now c.args.is_first c.step.new.scheduler (λ terms log played finds. finds) c.step.result
     c.step.ensures.plays
 
-pub returns-in-Step-clause-keeps : goal.returns-in-Step-clause-keeps
-returns-in-Step-clause-keeps g c =
-    step_if g.K.PartialEq.eq (g.S.Hashes.hash c.args.scheduler.now.logged.executor.hasher) c.args.scheduler.now c.step.new.scheduler c.args.event c.in-Step.caller c.in-Step.refuse c.in-Step.is c.step.result c.step.ensures.plays
-    c.step.ensures.took
-
 pub go-requires : goal.go-requires
 go-requires g c = may_play g.K.PartialEq.eq (g.S.Hashes.hash c.args.scheduler.now.logged.executor.hasher) c.args.event _ c.in-Go.is c.args.scheduler.now c.requires.due
 
@@ -40,10 +29,6 @@ pub returns-in-Go-clause-happens : goal.returns-in-Go-clause-happens
 returns-in-Go-clause-happens g c =
     goes_if g.K.PartialEq.eq (g.S.Hashes.hash c.args.scheduler.now.logged.executor.hasher) c.args.event _ c.in-Go.is c.args.scheduler.now c.args.is_first c.go.new.scheduler (λ terms log played finds. finds) c.go.result
     c.go.ensures.plays
-
-pub returns-in-Go-clause-keeps : goal.returns-in-Go-clause-keeps
-returns-in-Go-clause-keeps g c =
-    go_if g.K.PartialEq.eq (g.S.Hashes.hash c.args.scheduler.now.logged.executor.hasher) c.args.scheduler.now c.go.new.scheduler c.args.event c.in-Go.caller c.in-Go.refuse c.in-Go.is c.go.result c.go.ensures.plays c.go.ensures.took
 
 pub one_call-requires : goal.one_call-requires
 one_call-requires g c = may_play g.K.PartialEq.eq (g.S.Hashes.hash c.args.scheduler.now.logged.executor.hasher) c.args.event _ c.in-OneCall.is c.args.scheduler.now c.requires.due
@@ -53,11 +38,6 @@ returns-in-OneCall-clause-happens g c =
     goes_if g.K.PartialEq.eq (g.S.Hashes.hash c.args.scheduler.now.logged.executor.hasher) c.args.event _ c.in-OneCall.is c.args.scheduler.now c.args.is_first c.one_call.new.scheduler (λ terms log played finds. finds) c.one_call.result
     c.one_call.ensures.plays
 
-pub returns-in-OneCall-clause-keeps : goal.returns-in-OneCall-clause-keeps
-returns-in-OneCall-clause-keeps g c =
-    whole_if g.K.PartialEq.eq (g.S.Hashes.hash c.args.scheduler.now.logged.executor.hasher) c.args.scheduler.now c.one_call.new.scheduler c.args.event c.in-OneCall.guard c.in-OneCall.map c.in-OneCall.call c.in-OneCall.is
-    c.one_call.result c.one_call.ensures.plays c.one_call.ensures.took
-
 pub next-requires : goal.next-requires
 next-requires g c = may_play g.K.PartialEq.eq (g.S.Hashes.hash c.args.scheduler.now.logged.executor.hasher) c.args.event _ c.in-Next.is c.args.scheduler.now c.requires.due
 
@@ -65,23 +45,14 @@ pub returns-in-Next-clause-happens : goal.returns-in-Next-clause-happens
 returns-in-Next-clause-happens g c =
     next_if g.K.PartialEq.eq (g.S.Hashes.hash c.args.scheduler.now.logged.executor.hasher) c.args.event c.in-Next.caller c.in-Next.is c.args.scheduler.now c.args.is_first c.next.new.scheduler c.next.result c.next.ensures.plays
 
-pub returns-in-Next-clause-keeps : goal.returns-in-Next-clause-keeps
-returns-in-Next-clause-keeps g c =
-    unsaid_if g.K.PartialEq.eq (g.S.Hashes.hash c.args.scheduler.now.logged.executor.hasher) c.args.scheduler.now c.next.new.scheduler c.args.event _ c.in-Next.is (λ played said. said) c.next.result
-
 pub replied-requires : goal.replied-requires
 replied-requires g c = (g.K.PartialEq.eq, g.S.Hashes.hash c.args.scheduler.now.logged.executor.hasher, may_play g.K.PartialEq.eq (g.S.Hashes.hash c.args.scheduler.now.logged.executor.hasher) c.args.event _ c.in-Replied.is c.args.scheduler.now c.requires.due)
 
 pub returns-in-Replied-clause-happens : goal.returns-in-Replied-clause-happens
 returns-in-Replied-clause-happens g c =
     let plays = c.replied.ensures.plays g.K.PartialEq.eq (g.S.Hashes.hash c.args.scheduler.now.logged.executor.hasher) in
-    still g.K.PartialEq.eq (g.S.Hashes.hash c.args.scheduler.now.logged.executor.hasher) c.args.event _ c.in-Replied.is c.args.scheduler.now c.args.is_first c.replied.new.self refl c.replied.result c.replied.ensures.steps c.replied.ensures.quiet
+    still g.K.PartialEq.eq (g.S.Hashes.hash c.args.scheduler.now.logged.executor.hasher) c.args.event _ c.in-Replied.is c.args.scheduler.now c.args.is_first c.replied.new.self refl c.replied.result c.replied.ensures.steps
     (λ terms log first holds out. plays terms log (due_so g.K.PartialEq.eq (g.S.Hashes.hash c.args.scheduler.now.logged.executor.hasher) c.args.event _ c.in-Replied.is c.args.scheduler.now terms log holds out))
-
-pub returns-in-Replied-clause-keeps : goal.returns-in-Replied-clause-keeps
-returns-in-Replied-clause-keeps g c =
-    told_keeps g.K.PartialEq.eq (g.S.Hashes.hash c.args.scheduler.now.logged.executor.hasher) c.args.scheduler.now c.replied.new.self c.args.event c.in-Replied.caller c.in-Replied.reply c.in-Replied.is c.replied.result
-    c.replied.ensures.steps (c.replied.ensures.plays g.K.PartialEq.eq (g.S.Hashes.hash c.args.scheduler.now.logged.executor.hasher)) (c.replied.ensures.told g.K.PartialEq.eq (g.S.Hashes.hash c.args.scheduler.now.logged.executor.hasher)) c.replied.ensures.given
 
 pub stop-requires : goal.stop-requires
 stop-requires g c = (g.K.PartialEq.eq, g.S.Hashes.hash c.args.scheduler.now.logged.executor.hasher, may_play g.K.PartialEq.eq (g.S.Hashes.hash c.args.scheduler.now.logged.executor.hasher) c.args.event _ c.in-Stop.is c.args.scheduler.now c.requires.due)
@@ -89,13 +60,8 @@ stop-requires g c = (g.K.PartialEq.eq, g.S.Hashes.hash c.args.scheduler.now.logg
 pub returns-in-Stop-clause-happens : goal.returns-in-Stop-clause-happens
 returns-in-Stop-clause-happens g c =
     let plays = c.stop.ensures.plays g.K.PartialEq.eq (g.S.Hashes.hash c.args.scheduler.now.logged.executor.hasher) in
-    still g.K.PartialEq.eq (g.S.Hashes.hash c.args.scheduler.now.logged.executor.hasher) c.args.event _ c.in-Stop.is c.args.scheduler.now c.args.is_first c.stop.new.self refl c.stop.result c.stop.ensures.steps c.stop.ensures.quiet
+    still g.K.PartialEq.eq (g.S.Hashes.hash c.args.scheduler.now.logged.executor.hasher) c.args.event _ c.in-Stop.is c.args.scheduler.now c.args.is_first c.stop.new.self refl c.stop.result c.stop.ensures.steps
     (λ terms log first holds out. plays terms log (due_so g.K.PartialEq.eq (g.S.Hashes.hash c.args.scheduler.now.logged.executor.hasher) c.args.event _ c.in-Stop.is c.args.scheduler.now terms log holds out))
-
-pub returns-in-Stop-clause-keeps : goal.returns-in-Stop-clause-keeps
-returns-in-Stop-clause-keeps g c =
-    stop_keeps g.K.PartialEq.eq (g.S.Hashes.hash c.args.scheduler.now.logged.executor.hasher) c.args.scheduler.now c.stop.new.self c.args.event c.in-Stop.caller c.in-Stop.is c.stop.result
-    c.stop.ensures.steps (c.stop.ensures.plays g.K.PartialEq.eq (g.S.Hashes.hash c.args.scheduler.now.logged.executor.hasher)) (c.stop.ensures.stopped g.K.PartialEq.eq (g.S.Hashes.hash c.args.scheduler.now.logged.executor.hasher)) c.stop.ensures.given
 
 pub unreachable-requires : goal.unreachable-requires
 unreachable-requires g c = let d = c.in_default in some_call c.args.event c.requires.calls d.not-Begin d.not-Step d.not-Go d.not-Replied d.not-OneCall d.not-Next d.not-Stop

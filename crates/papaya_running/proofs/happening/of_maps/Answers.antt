@@ -5,10 +5,6 @@ use Rattle.papaya_running.proofs.Counts.{counts_as, counts_still}
 use Rattle.papaya_running.proofs.Forms.{some_map}
 use Rattle.papaya_running.proofs.Gives.{gave, gave_all, gave_none_if}
 use Rattle.papaya_running.proofs.Happened.{due_so, may_give, may_map, may_play, still_if}
-use Rattle.papaya_running.proofs.OfAll.{all_keep, others_none}
-use Rattle.papaya_running.proofs.OfEnds.{ends_keep}
-use Rattle.papaya_running.proofs.OfMakings.{makings_keep}
-use Rattle.papaya_running.proofs.OfRows.{others_keep_if}
 use Rattle.papaya_running.proofs.happening.of_maps.Goals as goal
 
 pub make_map-requires : goal.make_map-requires
@@ -18,7 +14,7 @@ make_map-requires g c =
 
 pub returns-in-MakeMap-clause-happens : goal.returns-in-MakeMap-clause-happens
 returns-in-MakeMap-clause-happens g c =
-    still_if g.K.PartialEq.eq (g.S.Hashes.hash c.args.scheduler.now.logged.executor.hasher) c.args.event _ c.in-MakeMap.is c.args.scheduler.now c.args.is_first c.make_map.new.scheduler refl c.make_map.result c.make_map.ensures.steps c.make_map.ensures.quiet
+    still_if g.K.PartialEq.eq (g.S.Hashes.hash c.args.scheduler.now.logged.executor.hasher) c.args.event _ c.in-MakeMap.is c.args.scheduler.now c.args.is_first c.make_map.new.scheduler refl c.make_map.result c.make_map.ensures.steps
     (IfOk-weaker c.make_map.result _ _ (λ played all. let plays = all g.K.PartialEq.eq (g.S.Hashes.hash c.args.scheduler.now.logged.executor.hasher) in λ terms log first holds out. plays terms log (may_map g.K.PartialEq.eq (g.S.Hashes.hash c.args.scheduler.now.logged.executor.hasher) c.args.event _ c.in-MakeMap.is c.args.scheduler.now terms log holds out)) c.make_map.ensures.plays)
 
 pub end_map-requires : goal.end_map-requires
@@ -26,7 +22,7 @@ end_map-requires g c = (g.K.PartialEq.eq, g.S.Hashes.hash c.args.scheduler.now.l
 
 pub returns-in-EndMap-clause-happens : goal.returns-in-EndMap-clause-happens
 returns-in-EndMap-clause-happens g c =
-    still_if g.K.PartialEq.eq (g.S.Hashes.hash c.args.scheduler.now.logged.executor.hasher) c.args.event _ c.in-EndMap.is c.args.scheduler.now c.args.is_first c.end_map.new.scheduler refl c.end_map.result c.end_map.ensures.steps c.end_map.ensures.quiet
+    still_if g.K.PartialEq.eq (g.S.Hashes.hash c.args.scheduler.now.logged.executor.hasher) c.args.event _ c.in-EndMap.is c.args.scheduler.now c.args.is_first c.end_map.new.scheduler refl c.end_map.result c.end_map.ensures.steps
     (IfOk-weaker c.end_map.result _ _ (λ played all. let plays = all g.K.PartialEq.eq (g.S.Hashes.hash c.args.scheduler.now.logged.executor.hasher) in λ terms log first holds out. plays terms log (due_so g.K.PartialEq.eq (g.S.Hashes.hash c.args.scheduler.now.logged.executor.hasher) c.args.event _ c.in-EndMap.is c.args.scheduler.now terms log holds out) holds.counts.apart) c.end_map.ensures.plays)
 
 pub show_shape-requires : goal.show_shape-requires
@@ -34,7 +30,7 @@ show_shape-requires g c = (g.K.PartialEq.eq, g.S.Hashes.hash c.args.scheduler.no
 
 pub returns-in-ShowShape-clause-happens : goal.returns-in-ShowShape-clause-happens
 returns-in-ShowShape-clause-happens g c =
-    still_if g.K.PartialEq.eq (g.S.Hashes.hash c.args.scheduler.now.logged.executor.hasher) c.args.event _ c.in-ShowShape.is c.args.scheduler.now c.args.is_first c.args.scheduler.now refl c.show_shape.result c.show_shape.ensures.steps c.show_shape.ensures.quiet
+    still_if g.K.PartialEq.eq (g.S.Hashes.hash c.args.scheduler.now.logged.executor.hasher) c.args.event _ c.in-ShowShape.is c.args.scheduler.now c.args.is_first c.args.scheduler.now refl c.show_shape.result c.show_shape.ensures.steps
     (IfOk-weaker c.show_shape.result _ _ (λ played all. let plays = all g.K.PartialEq.eq (g.S.Hashes.hash c.args.scheduler.now.logged.executor.hasher) in λ terms log first holds out. plays terms log (due_so g.K.PartialEq.eq (g.S.Hashes.hash c.args.scheduler.now.logged.executor.hasher) c.args.event _ c.in-ShowShape.is c.args.scheduler.now terms log holds out)) c.show_shape.ensures.plays)
 
 pub reclaim_all-requires : goal.reclaim_all-requires
@@ -42,7 +38,7 @@ reclaim_all-requires g c = (g.K.PartialEq.eq, g.S.Hashes.hash c.args.scheduler.n
 
 pub returns-in-ReclaimAll-clause-happens : goal.returns-in-ReclaimAll-clause-happens
 returns-in-ReclaimAll-clause-happens g c =
-    still_if g.K.PartialEq.eq (g.S.Hashes.hash c.args.scheduler.now.logged.executor.hasher) c.args.event _ c.in-ReclaimAll.is c.args.scheduler.now c.args.is_first c.reclaim_all.new.scheduler refl c.reclaim_all.result c.reclaim_all.ensures.steps c.reclaim_all.ensures.quiet
+    still_if g.K.PartialEq.eq (g.S.Hashes.hash c.args.scheduler.now.logged.executor.hasher) c.args.event _ c.in-ReclaimAll.is c.args.scheduler.now c.args.is_first c.reclaim_all.new.scheduler refl c.reclaim_all.result c.reclaim_all.ensures.steps
     (IfOk-weaker c.reclaim_all.result _ _ (λ played all. let plays = all g.K.PartialEq.eq (g.S.Hashes.hash c.args.scheduler.now.logged.executor.hasher) in λ terms log first holds out. plays terms log (due_so g.K.PartialEq.eq (g.S.Hashes.hash c.args.scheduler.now.logged.executor.hasher) c.args.event _ c.in-ReclaimAll.is c.args.scheduler.now terms log holds out) holds.gives) c.reclaim_all.ensures.plays)
 
 pub close-requires : goal.close-requires
@@ -50,7 +46,7 @@ close-requires g c = (g.K.PartialEq.eq, g.S.Hashes.hash c.args.scheduler.now.log
 
 pub returns-in-Close-clause-happens : goal.returns-in-Close-clause-happens
 returns-in-Close-clause-happens g c =
-    still_if g.K.PartialEq.eq (g.S.Hashes.hash c.args.scheduler.now.logged.executor.hasher) c.args.event _ c.in-Close.is c.args.scheduler.now c.args.is_first c.close.new.scheduler refl c.close.result c.close.ensures.steps c.close.ensures.quiet
+    still_if g.K.PartialEq.eq (g.S.Hashes.hash c.args.scheduler.now.logged.executor.hasher) c.args.event _ c.in-Close.is c.args.scheduler.now c.args.is_first c.close.new.scheduler refl c.close.result c.close.ensures.steps
     (IfOk-weaker c.close.result _ _ (λ played all. let plays = all g.K.PartialEq.eq (g.S.Hashes.hash c.args.scheduler.now.logged.executor.hasher) in λ terms log first holds out. plays terms log (due_so g.K.PartialEq.eq (g.S.Hashes.hash c.args.scheduler.now.logged.executor.hasher) c.args.event _ c.in-Close.is c.args.scheduler.now terms log holds out) holds.gives) c.close.ensures.plays)
 
 pub unreachable-requires : goal.unreachable-requires
@@ -85,33 +81,3 @@ returns-in-ReclaimAll-clause-count g c = counts_still c.args.event c.reclaim_all
 
 pub returns-in-Close-clause-count : goal.returns-in-Close-clause-count
 returns-in-Close-clause-count g c = counts_still c.args.event c.close.result (length c.args.scheduler.now.logged.executor.maps.items) (length c.close.new.scheduler.logged.executor.maps.items) (λ n mode k made. (let two = sym c.in-Close.is ∙ made in cc two)) c.close.ensures.given.3
-
-pub returns-in-MakeMap-clause-rows : goal.returns-in-MakeMap-clause-rows
-returns-in-MakeMap-clause-rows g c = makings_keep g.K.PartialEq.eq (g.S.Hashes.hash c.args.scheduler.now.logged.executor.hasher) c.args.event _ _ _ c.in-MakeMap.is c.args.scheduler.now c.make_map.new.scheduler c.make_map.result c.make_map.ensures.works
-
-pub returns-in-EndMap-clause-rows : goal.returns-in-EndMap-clause-rows
-returns-in-EndMap-clause-rows g c = ends_keep g.K.PartialEq.eq (g.S.Hashes.hash c.args.scheduler.now.logged.executor.hasher) c.args.event _ c.in-EndMap.is c.args.scheduler.now c.end_map.new.scheduler c.end_map.result c.end_map.ensures.works
-
-pub returns-in-ShowShape-clause-rows : goal.returns-in-ShowShape-clause-rows
-returns-in-ShowShape-clause-rows g c = others_keep_if g.K.PartialEq.eq (g.S.Hashes.hash c.args.scheduler.now.logged.executor.hasher) c.args.event _ c.in-ShowShape.is c.args.scheduler.now c.args.scheduler.now refl c.show_shape.result
-
-pub returns-in-ReclaimAll-clause-rows : goal.returns-in-ReclaimAll-clause-rows
-returns-in-ReclaimAll-clause-rows g c = others_keep_if g.K.PartialEq.eq (g.S.Hashes.hash c.args.scheduler.now.logged.executor.hasher) c.args.event _ c.in-ReclaimAll.is c.args.scheduler.now c.reclaim_all.new.scheduler refl c.reclaim_all.result
-
-pub returns-in-Close-clause-rows : goal.returns-in-Close-clause-rows
-returns-in-Close-clause-rows g c = others_keep_if g.K.PartialEq.eq (g.S.Hashes.hash c.args.scheduler.now.logged.executor.hasher) c.args.event _ c.in-Close.is c.args.scheduler.now c.close.new.scheduler refl c.close.result
-
-pub returns-in-MakeMap-clause-all : goal.returns-in-MakeMap-clause-all
-returns-in-MakeMap-clause-all g c = others_none g.K.PartialEq.eq (g.S.Hashes.hash c.args.scheduler.now.logged.executor.hasher) c.args.event _ c.in-MakeMap.is c.args.scheduler.now c.make_map.new.scheduler refl c.make_map.result
-
-pub returns-in-EndMap-clause-all : goal.returns-in-EndMap-clause-all
-returns-in-EndMap-clause-all g c = others_none g.K.PartialEq.eq (g.S.Hashes.hash c.args.scheduler.now.logged.executor.hasher) c.args.event _ c.in-EndMap.is c.args.scheduler.now c.end_map.new.scheduler refl c.end_map.result
-
-pub returns-in-ShowShape-clause-all : goal.returns-in-ShowShape-clause-all
-returns-in-ShowShape-clause-all g c = others_none g.K.PartialEq.eq (g.S.Hashes.hash c.args.scheduler.now.logged.executor.hasher) c.args.event _ c.in-ShowShape.is c.args.scheduler.now c.args.scheduler.now refl c.show_shape.result
-
-pub returns-in-ReclaimAll-clause-all : goal.returns-in-ReclaimAll-clause-all
-returns-in-ReclaimAll-clause-all g c = all_keep g.K.PartialEq.eq (g.S.Hashes.hash c.args.scheduler.now.logged.executor.hasher) c.args.event _ c.in-ReclaimAll.is c.args.scheduler.now c.reclaim_all.new.scheduler c.reclaim_all.result c.reclaim_all.ensures.works
-
-pub returns-in-Close-clause-all : goal.returns-in-Close-clause-all
-returns-in-Close-clause-all g c = all_keep g.K.PartialEq.eq (g.S.Hashes.hash c.args.scheduler.now.logged.executor.hasher) c.args.event _ c.in-Close.is c.args.scheduler.now c.close.new.scheduler c.close.result c.close.ensures.works

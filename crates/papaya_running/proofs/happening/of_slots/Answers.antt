@@ -4,7 +4,6 @@ use Rattle.std.proofs.lemmas.Result.{IfOk-weaker}
 use Rattle.papaya_running.proofs.Forms.{some_slot}
 use Rattle.papaya_running.proofs.Gives.{gave, gave_none, gave_none_if}
 use Rattle.papaya_running.proofs.Happened.{due_so, may_play, still, still_if}
-use Rattle.papaya_running.proofs.OfRows.{others_keep, others_keep_if, rows_keep}
 use Rattle.papaya_running.proofs.happening.of_slots.Goals as goal
 
 pub collector-requires : goal.collector-requires
@@ -13,7 +12,7 @@ collector-requires g c = (g.K.PartialEq.eq, g.S.Hashes.hash c.args.scheduler.now
 pub returns-in-Collector-clause-happens : goal.returns-in-Collector-clause-happens
 returns-in-Collector-clause-happens g c =
     let plays = c.collector.ensures.plays g.K.PartialEq.eq (g.S.Hashes.hash c.args.scheduler.now.logged.executor.hasher) in
-    still g.K.PartialEq.eq (g.S.Hashes.hash c.args.scheduler.now.logged.executor.hasher) c.args.event _ c.in-Collector.is c.args.scheduler.now c.args.is_first c.args.scheduler.now refl c.collector.result c.collector.ensures.steps c.collector.ensures.quiet
+    still g.K.PartialEq.eq (g.S.Hashes.hash c.args.scheduler.now.logged.executor.hasher) c.args.event _ c.in-Collector.is c.args.scheduler.now c.args.is_first c.args.scheduler.now refl c.collector.result c.collector.ensures.steps
     (λ terms log first holds out. plays terms log first (due_so g.K.PartialEq.eq (g.S.Hashes.hash c.args.scheduler.now.logged.executor.hasher) c.args.event _ c.in-Collector.is c.args.scheduler.now terms log holds out))
 
 pub hash-requires : goal.hash-requires
@@ -22,7 +21,7 @@ hash-requires g c = (g.K.PartialEq.eq, g.S.Hashes.hash c.args.scheduler.now.logg
 pub returns-in-Hash-clause-happens : goal.returns-in-Hash-clause-happens
 returns-in-Hash-clause-happens g c =
     let plays = c.hash.ensures.plays g.K.PartialEq.eq (g.S.Hashes.hash c.args.scheduler.now.logged.executor.hasher) in
-    still g.K.PartialEq.eq (g.S.Hashes.hash c.args.scheduler.now.logged.executor.hasher) c.args.event _ c.in-Hash.is c.args.scheduler.now c.args.is_first c.args.scheduler.now refl c.hash.result c.hash.ensures.steps c.hash.ensures.quiet
+    still g.K.PartialEq.eq (g.S.Hashes.hash c.args.scheduler.now.logged.executor.hasher) c.args.event _ c.in-Hash.is c.args.scheduler.now c.args.is_first c.args.scheduler.now refl c.hash.result c.hash.ensures.steps
     (λ terms log first holds out. plays terms log (due_so g.K.PartialEq.eq (g.S.Hashes.hash c.args.scheduler.now.logged.executor.hasher) c.args.event _ c.in-Hash.is c.args.scheduler.now terms log holds out))
 
 pub choose-requires : goal.choose-requires
@@ -30,7 +29,7 @@ choose-requires g c = (g.K.PartialEq.eq, g.S.Hashes.hash c.args.scheduler.now.lo
 
 pub returns-in-Choose-clause-happens : goal.returns-in-Choose-clause-happens
 returns-in-Choose-clause-happens g c =
-    still_if g.K.PartialEq.eq (g.S.Hashes.hash c.args.scheduler.now.logged.executor.hasher) c.args.event _ c.in-Choose.is c.args.scheduler.now c.args.is_first c.choose.new.self refl c.choose.result c.choose.ensures.steps c.choose.ensures.quiet
+    still_if g.K.PartialEq.eq (g.S.Hashes.hash c.args.scheduler.now.logged.executor.hasher) c.args.event _ c.in-Choose.is c.args.scheduler.now c.args.is_first c.choose.new.self refl c.choose.result c.choose.ensures.steps
     (IfOk-weaker c.choose.result _ _ (λ played all. let plays = all g.K.PartialEq.eq (g.S.Hashes.hash c.args.scheduler.now.logged.executor.hasher) in λ terms log first holds out. plays terms log (due_so g.K.PartialEq.eq (g.S.Hashes.hash c.args.scheduler.now.logged.executor.hasher) c.args.event _ c.in-Choose.is c.args.scheduler.now terms log holds out)) c.choose.ensures.plays)
 
 pub register-requires : goal.register-requires
@@ -38,7 +37,7 @@ register-requires g c = (g.K.PartialEq.eq, g.S.Hashes.hash c.args.scheduler.now.
 
 pub returns-in-Register-clause-happens : goal.returns-in-Register-clause-happens
 returns-in-Register-clause-happens g c =
-    still_if g.K.PartialEq.eq (g.S.Hashes.hash c.args.scheduler.now.logged.executor.hasher) c.args.event _ c.in-Register.is c.args.scheduler.now c.args.is_first c.register.new.self refl c.register.result c.register.ensures.steps c.register.ensures.quiet
+    still_if g.K.PartialEq.eq (g.S.Hashes.hash c.args.scheduler.now.logged.executor.hasher) c.args.event _ c.in-Register.is c.args.scheduler.now c.args.is_first c.register.new.self refl c.register.result c.register.ensures.steps
     (IfOk-weaker c.register.result _ _ (λ played all. let plays = all g.K.PartialEq.eq (g.S.Hashes.hash c.args.scheduler.now.logged.executor.hasher) in λ terms log first holds out. plays terms log (due_so g.K.PartialEq.eq (g.S.Hashes.hash c.args.scheduler.now.logged.executor.hasher) c.args.event _ c.in-Register.is c.args.scheduler.now terms log holds out)) c.register.ensures.plays)
 
 pub unregister-requires : goal.unregister-requires
@@ -46,7 +45,7 @@ unregister-requires g c = (g.K.PartialEq.eq, g.S.Hashes.hash c.args.scheduler.no
 
 pub returns-in-Unregister-clause-happens : goal.returns-in-Unregister-clause-happens
 returns-in-Unregister-clause-happens g c =
-    still_if g.K.PartialEq.eq (g.S.Hashes.hash c.args.scheduler.now.logged.executor.hasher) c.args.event _ c.in-Unregister.is c.args.scheduler.now c.args.is_first c.unregister.new.self refl c.unregister.result c.unregister.ensures.steps c.unregister.ensures.quiet
+    still_if g.K.PartialEq.eq (g.S.Hashes.hash c.args.scheduler.now.logged.executor.hasher) c.args.event _ c.in-Unregister.is c.args.scheduler.now c.args.is_first c.unregister.new.self refl c.unregister.result c.unregister.ensures.steps
     (IfOk-weaker c.unregister.result _ _ (λ played all. let plays = all g.K.PartialEq.eq (g.S.Hashes.hash c.args.scheduler.now.logged.executor.hasher) in λ terms log first holds out. plays terms log (due_so g.K.PartialEq.eq (g.S.Hashes.hash c.args.scheduler.now.logged.executor.hasher) c.args.event _ c.in-Unregister.is c.args.scheduler.now terms log holds out)) c.unregister.ensures.plays)
 
 pub enter-requires : goal.enter-requires
@@ -54,7 +53,7 @@ enter-requires g c = (g.K.PartialEq.eq, g.S.Hashes.hash c.args.scheduler.now.log
 
 pub returns-in-Enter-clause-happens : goal.returns-in-Enter-clause-happens
 returns-in-Enter-clause-happens g c =
-    still_if g.K.PartialEq.eq (g.S.Hashes.hash c.args.scheduler.now.logged.executor.hasher) c.args.event _ c.in-Enter.is c.args.scheduler.now c.args.is_first c.enter.new.self refl c.enter.result c.enter.ensures.steps c.enter.ensures.quiet
+    still_if g.K.PartialEq.eq (g.S.Hashes.hash c.args.scheduler.now.logged.executor.hasher) c.args.event _ c.in-Enter.is c.args.scheduler.now c.args.is_first c.enter.new.self refl c.enter.result c.enter.ensures.steps
     (IfOk-weaker c.enter.result _ _ (λ played all. let plays = all g.K.PartialEq.eq (g.S.Hashes.hash c.args.scheduler.now.logged.executor.hasher) in λ terms log first holds out. plays terms log (due_so g.K.PartialEq.eq (g.S.Hashes.hash c.args.scheduler.now.logged.executor.hasher) c.args.event _ c.in-Enter.is c.args.scheduler.now terms log holds out)) c.enter.ensures.plays)
 
 pub own-requires : goal.own-requires
@@ -62,7 +61,7 @@ own-requires g c = (g.K.PartialEq.eq, g.S.Hashes.hash c.args.scheduler.now.logge
 
 pub returns-in-Own-clause-happens : goal.returns-in-Own-clause-happens
 returns-in-Own-clause-happens g c =
-    still_if g.K.PartialEq.eq (g.S.Hashes.hash c.args.scheduler.now.logged.executor.hasher) c.args.event _ c.in-Own.is c.args.scheduler.now c.args.is_first c.own.new.self refl c.own.result c.own.ensures.steps c.own.ensures.quiet
+    still_if g.K.PartialEq.eq (g.S.Hashes.hash c.args.scheduler.now.logged.executor.hasher) c.args.event _ c.in-Own.is c.args.scheduler.now c.args.is_first c.own.new.self refl c.own.result c.own.ensures.steps
     (IfOk-weaker c.own.result _ _ (λ played all. let plays = all g.K.PartialEq.eq (g.S.Hashes.hash c.args.scheduler.now.logged.executor.hasher) in λ terms log first holds out. plays terms log (due_so g.K.PartialEq.eq (g.S.Hashes.hash c.args.scheduler.now.logged.executor.hasher) c.args.event _ c.in-Own.is c.args.scheduler.now terms log holds out)) c.own.ensures.plays)
 
 pub refresh-requires : goal.refresh-requires
@@ -70,7 +69,7 @@ refresh-requires g c = (g.K.PartialEq.eq, g.S.Hashes.hash c.args.scheduler.now.l
 
 pub returns-in-Refresh-clause-happens : goal.returns-in-Refresh-clause-happens
 returns-in-Refresh-clause-happens g c =
-    still_if g.K.PartialEq.eq (g.S.Hashes.hash c.args.scheduler.now.logged.executor.hasher) c.args.event _ c.in-Refresh.is c.args.scheduler.now c.args.is_first c.refresh.new.self refl c.refresh.result c.refresh.ensures.steps c.refresh.ensures.quiet
+    still_if g.K.PartialEq.eq (g.S.Hashes.hash c.args.scheduler.now.logged.executor.hasher) c.args.event _ c.in-Refresh.is c.args.scheduler.now c.args.is_first c.refresh.new.self refl c.refresh.result c.refresh.ensures.steps
     (IfOk-weaker c.refresh.result _ _ (λ played all. let plays = all g.K.PartialEq.eq (g.S.Hashes.hash c.args.scheduler.now.logged.executor.hasher) in λ terms log first holds out. plays terms log (due_so g.K.PartialEq.eq (g.S.Hashes.hash c.args.scheduler.now.logged.executor.hasher) c.args.event _ c.in-Refresh.is c.args.scheduler.now terms log holds out)) c.refresh.ensures.plays)
 
 pub flush-requires : goal.flush-requires
@@ -78,7 +77,7 @@ flush-requires g c = (g.K.PartialEq.eq, g.S.Hashes.hash c.args.scheduler.now.log
 
 pub returns-in-Flush-clause-happens : goal.returns-in-Flush-clause-happens
 returns-in-Flush-clause-happens g c =
-    still_if g.K.PartialEq.eq (g.S.Hashes.hash c.args.scheduler.now.logged.executor.hasher) c.args.event _ c.in-Flush.is c.args.scheduler.now c.args.is_first c.flush.new.self refl c.flush.result c.flush.ensures.steps c.flush.ensures.quiet
+    still_if g.K.PartialEq.eq (g.S.Hashes.hash c.args.scheduler.now.logged.executor.hasher) c.args.event _ c.in-Flush.is c.args.scheduler.now c.args.is_first c.flush.new.self refl c.flush.result c.flush.ensures.steps
     (IfOk-weaker c.flush.result _ _ (λ played all. let plays = all g.K.PartialEq.eq (g.S.Hashes.hash c.args.scheduler.now.logged.executor.hasher) in λ terms log first holds out. plays terms log (due_so g.K.PartialEq.eq (g.S.Hashes.hash c.args.scheduler.now.logged.executor.hasher) c.args.event _ c.in-Flush.is c.args.scheduler.now terms log holds out)) c.flush.ensures.plays)
 
 pub drop_guard-requires : goal.drop_guard-requires
@@ -86,7 +85,7 @@ drop_guard-requires g c = (g.K.PartialEq.eq, g.S.Hashes.hash c.args.scheduler.no
 
 pub returns-in-DropGuard-clause-happens : goal.returns-in-DropGuard-clause-happens
 returns-in-DropGuard-clause-happens g c =
-    still_if g.K.PartialEq.eq (g.S.Hashes.hash c.args.scheduler.now.logged.executor.hasher) c.args.event _ c.in-DropGuard.is c.args.scheduler.now c.args.is_first c.drop_guard.new.self refl c.drop_guard.result c.drop_guard.ensures.steps c.drop_guard.ensures.quiet
+    still_if g.K.PartialEq.eq (g.S.Hashes.hash c.args.scheduler.now.logged.executor.hasher) c.args.event _ c.in-DropGuard.is c.args.scheduler.now c.args.is_first c.drop_guard.new.self refl c.drop_guard.result c.drop_guard.ensures.steps
     (IfOk-weaker c.drop_guard.result _ _ (λ played all. let plays = all g.K.PartialEq.eq (g.S.Hashes.hash c.args.scheduler.now.logged.executor.hasher) in λ terms log first holds out. plays terms log (due_so g.K.PartialEq.eq (g.S.Hashes.hash c.args.scheduler.now.logged.executor.hasher) c.args.event _ c.in-DropGuard.is c.args.scheduler.now terms log holds out)) c.drop_guard.ensures.plays)
 
 pub forget-requires : goal.forget-requires
@@ -95,7 +94,7 @@ forget-requires g c = (g.K.PartialEq.eq, g.S.Hashes.hash c.args.scheduler.now.lo
 pub returns-in-Forget-clause-happens : goal.returns-in-Forget-clause-happens
 returns-in-Forget-clause-happens g c =
     let plays = c.forget.ensures.plays g.K.PartialEq.eq (g.S.Hashes.hash c.args.scheduler.now.logged.executor.hasher) in
-    still g.K.PartialEq.eq (g.S.Hashes.hash c.args.scheduler.now.logged.executor.hasher) c.args.event _ c.in-Forget.is c.args.scheduler.now c.args.is_first c.forget.new.self refl c.forget.result c.forget.ensures.steps c.forget.ensures.quiet
+    still g.K.PartialEq.eq (g.S.Hashes.hash c.args.scheduler.now.logged.executor.hasher) c.args.event _ c.in-Forget.is c.args.scheduler.now c.args.is_first c.forget.new.self refl c.forget.result c.forget.ensures.steps
     (λ terms log first holds out. plays terms log (due_so g.K.PartialEq.eq (g.S.Hashes.hash c.args.scheduler.now.logged.executor.hasher) c.args.event _ c.in-Forget.is c.args.scheduler.now terms log holds out))
 
 pub unreachable-requires : goal.unreachable-requires
@@ -135,36 +134,3 @@ returns-in-DropGuard-clause-back g c = gave g.K.PartialEq.eq (g.S.Hashes.hash c.
 
 pub returns-in-Forget-clause-back : goal.returns-in-Forget-clause-back
 returns-in-Forget-clause-back g c = gave_none g.K.PartialEq.eq (g.S.Hashes.hash c.args.scheduler.now.logged.executor.hasher) c.args.event _ c.in-Forget.is c.args.scheduler.now (λ did none. none) c.forget.result c.args.back.now.items
-
-pub returns-in-Register-clause-rows : goal.returns-in-Register-clause-rows
-returns-in-Register-clause-rows g c = rows_keep g.K.PartialEq.eq (g.S.Hashes.hash c.args.scheduler.now.logged.executor.hasher) c.args.event _ c.in-Register.is c.args.scheduler.now c.register.new.self refl c.register.result c.register.ensures.works
-
-pub returns-in-Unregister-clause-rows : goal.returns-in-Unregister-clause-rows
-returns-in-Unregister-clause-rows g c = rows_keep g.K.PartialEq.eq (g.S.Hashes.hash c.args.scheduler.now.logged.executor.hasher) c.args.event _ c.in-Unregister.is c.args.scheduler.now c.unregister.new.self refl c.unregister.result c.unregister.ensures.works
-
-pub returns-in-Enter-clause-rows : goal.returns-in-Enter-clause-rows
-returns-in-Enter-clause-rows g c = rows_keep g.K.PartialEq.eq (g.S.Hashes.hash c.args.scheduler.now.logged.executor.hasher) c.args.event _ c.in-Enter.is c.args.scheduler.now c.enter.new.self refl c.enter.result c.enter.ensures.works
-
-pub returns-in-Own-clause-rows : goal.returns-in-Own-clause-rows
-returns-in-Own-clause-rows g c = rows_keep g.K.PartialEq.eq (g.S.Hashes.hash c.args.scheduler.now.logged.executor.hasher) c.args.event _ c.in-Own.is c.args.scheduler.now c.own.new.self refl c.own.result c.own.ensures.works
-
-pub returns-in-Refresh-clause-rows : goal.returns-in-Refresh-clause-rows
-returns-in-Refresh-clause-rows g c = rows_keep g.K.PartialEq.eq (g.S.Hashes.hash c.args.scheduler.now.logged.executor.hasher) c.args.event _ c.in-Refresh.is c.args.scheduler.now c.refresh.new.self refl c.refresh.result c.refresh.ensures.works
-
-pub returns-in-Flush-clause-rows : goal.returns-in-Flush-clause-rows
-returns-in-Flush-clause-rows g c = rows_keep g.K.PartialEq.eq (g.S.Hashes.hash c.args.scheduler.now.logged.executor.hasher) c.args.event _ c.in-Flush.is c.args.scheduler.now c.flush.new.self refl c.flush.result c.flush.ensures.works
-
-pub returns-in-DropGuard-clause-rows : goal.returns-in-DropGuard-clause-rows
-returns-in-DropGuard-clause-rows g c = rows_keep g.K.PartialEq.eq (g.S.Hashes.hash c.args.scheduler.now.logged.executor.hasher) c.args.event _ c.in-DropGuard.is c.args.scheduler.now c.drop_guard.new.self refl c.drop_guard.result c.drop_guard.ensures.works
-
-pub returns-in-Collector-clause-rows : goal.returns-in-Collector-clause-rows
-returns-in-Collector-clause-rows g c = others_keep g.K.PartialEq.eq (g.S.Hashes.hash c.args.scheduler.now.logged.executor.hasher) c.args.event _ c.in-Collector.is c.args.scheduler.now c.args.scheduler.now refl c.collector.result
-
-pub returns-in-Hash-clause-rows : goal.returns-in-Hash-clause-rows
-returns-in-Hash-clause-rows g c = others_keep g.K.PartialEq.eq (g.S.Hashes.hash c.args.scheduler.now.logged.executor.hasher) c.args.event _ c.in-Hash.is c.args.scheduler.now c.args.scheduler.now refl c.hash.result
-
-pub returns-in-Choose-clause-rows : goal.returns-in-Choose-clause-rows
-returns-in-Choose-clause-rows g c = others_keep_if g.K.PartialEq.eq (g.S.Hashes.hash c.args.scheduler.now.logged.executor.hasher) c.args.event _ c.in-Choose.is c.args.scheduler.now c.choose.new.self refl c.choose.result
-
-pub returns-in-Forget-clause-rows : goal.returns-in-Forget-clause-rows
-returns-in-Forget-clause-rows g c = others_keep g.K.PartialEq.eq (g.S.Hashes.hash c.args.scheduler.now.logged.executor.hasher) c.args.event _ c.in-Forget.is c.args.scheduler.now c.forget.new.self refl c.forget.result
