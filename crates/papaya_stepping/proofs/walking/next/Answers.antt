@@ -116,12 +116,11 @@ returns g c = record {
       let comes = subst (λ h. WalkComes eq (g.S.Hashes.hash h) c.in-Some.place c.in_ok-come.come.1 c.in_ok-come.come.0 [] c.walk_on.new.effects.items asked c.walk_on.new.scheduler) c.next.ensures.given.0
       (subst (λ l. WalkComes eq (g.S.Hashes.hash c.next.new.self.executor.hasher) c.in-Some.place c.in_ok-come.come.1 c.in_ok-come.come.0 l c.walk_on.new.effects.items asked c.walk_on.new.scheduler)
       c.no_effects-effects.ensures c.in_ok-come.ensures.comes) in
-      let played = record { outcome = c.come_to-outcome.result; steps = c.in_ok-come.come.1; effects = c.walk_on.new.effects } in
-      let walked = subst (λ p. HasWalked eq hash c.in-Some.place played old p) (sym c.come_to-outcome.ensures.rest)
-      (has_walked eq hash c.in-Some.place played old c.next.new.self c.in_ok-come.come.0 c.walk_on.new.scheduler comes c.come_to-outcome.new.scheduler.calls c.come_to-outcome.ensures.calls
+      let walked = subst (λ p. HasWalked eq hash c.in-Some.place (record { outcome = c.come_to-outcome.result; steps = c.in_ok-come.come.1; effects = c.walk_on.new.effects }) old p) (sym c.come_to-outcome.ensures.rest)
+      (has_walked eq hash c.in-Some.place (record { outcome = c.come_to-outcome.result; steps = c.in_ok-come.come.1; effects = c.walk_on.new.effects }) old c.next.new.self c.in_ok-come.come.0 c.walk_on.new.scheduler comes c.come_to-outcome.new.scheduler.calls c.come_to-outcome.ensures.calls
       c.come_to-outcome.ensures.outcome here.caller here.at c.next.result c.way_of-number.result.0 (ap (λ x. x.0) read) (c.next.ensures.asked eq hash) (c.next.ensures.leads eq hash)
       c.next.ensures.notes c.next.ensures.given) in (
-        λ place is. subst (λ k. HasWalked eq hash k played old c.come_to-outcome.new.scheduler) (let its = ready ∙ sym is in cc its) walked,
+        λ place is. subst (λ k. HasWalked eq hash k (record { outcome = c.come_to-outcome.result; steps = c.in_ok-come.come.1; effects = c.walk_on.new.effects }) old c.come_to-outcome.new.scheduler) (let its = ready ∙ sym is in cc its) walked,
         λ none. absurd (cc (ready, none)),
       );
   given = given_as c.args.scheduler.now (record c.walk_on.new.scheduler { calls = c.come_to-outcome.new.scheduler.calls }) c.come_to-outcome.new.scheduler
