@@ -60,7 +60,7 @@ use Rattle.papaya_scheduler.specs.Works.{HasEndedMap, WorksOnEnd}
 use Rattle.papaya_named.specs.declared.caller.Callers.{Callers}
 use Rattle.papaya_scheduler.specs.declared.played.Played.{Played}
 use Rattle.papaya_scheduler.specs.declared.scheduler.Scheduler.{Scheduler}
-use Rattle.papaya_mapping.proofs.MapsEnded.{no_call, no_other}
+use Rattle.papaya_mapping.proofs.MapsEnded.{here as ending_here, no_call, no_other, shown_mid}
 use Rattle.papaya_mapping.proofs.MapLists.{by_recursion}
 use Rattle.papaya_scheduler.proofs.Maps.{number_is}
 use Rattle.papaya_scheduler.proofs.Rights.{entry, entry_is}
@@ -252,7 +252,7 @@ module _ {K V S : Type 0} (same : K → K → Bool) (hash : K → ℕ) (terms : 
     abbrev begun : EndIsBegun same hash name m s map i old.logged d.began
     begun = d.begins same hash name m s run.stands.shown
 
-    none_on : NoCallOn old.logged.executor map
+    abbrev none_on : NoCallOn old.logged.executor map
     none_on = no_call same hash terms log old own due map d.found d.free
 
     abbrev standing : Standing K
@@ -270,7 +270,7 @@ module _ {K V S : Type 0} (same : K → K → Bool) (hash : K → ℕ) (terms : 
     abbrev x : Come K V S
     x = come_by (far [] d.began) m s1
 
-    apart : AreApart m
+    abbrev apart : AreApart m
     apart = holds.counts.apart
 
     acts_so : number_of own m ≡ Some map
@@ -341,7 +341,8 @@ module _ {K V S : Type 0} (same : K → K → Bool) (hash : K → ℕ) (terms : 
         × (true ≡ true → ◌≡◌ {A = List ℕ} [] [] → d.ran.0 ≡ all_ended (is_incremental standing.setting.mode) map number standing.chart)
         × TellsLeft t gone_blocks came
     u =
-        d.ran.3 same hash name m s1 (begun none_on).4 (finishing_of standing s.world) (at_same s.enders i (Some (finishing_of standing s.world)) i refl) gone number first_noted (begun none_on).3.1 (λ b none. refl)
+        d.ran.3 same hash name m s1 (shown_mid same hash terms log old own due map d.found d.free d.began i begun) (finishing_of standing s.world)
+        (ending_here same hash terms log old own due map d.found d.free d.began i begun) gone number first_noted (begun none_on).3.1 (λ b none. refl)
 
     did_all : effects ≡ d.ran.0
     did_all = d.ran.1
