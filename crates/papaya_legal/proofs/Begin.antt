@@ -1,9 +1,7 @@
 -- Before all events all is carried that events need, whatever was chosen of numbers of blocks.
-use Rattle.std.specs.Prelude.{Bool, List, []}
+use Rattle.std.specs.Prelude.{[]}
 use Rattle.std.proofs.Common.{refl, inl}
-use Rattle.papaya_histories.specs.Given.Seize.World.{World}
 use Rattle.papaya_histories.specs.Given.Tables.Nodes.{deferred_word}
-use Rattle.papaya_histories.specs.Given.Tables.declared.node.Node.{Node}
 use Rattle.papaya_histories.specs.Given.Effects.Known.{nothing_known}
 use Rattle.papaya_histories.specs.Given.Executor.IsAt.{at_first}
 use Rattle.papaya_histories.proofs.Given.Moments.Calls.{whole_begins}

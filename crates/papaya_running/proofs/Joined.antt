@@ -1,5 +1,5 @@
 -- By all that is said of an event that has happened it keeps its promises, and the run goes on with it.
-use Rattle.std.specs.Prelude.{◌≡◌, ◌==◌, ◌||◌, ℕ, Bool, true, false, List, ◌∷◌}
+use Rattle.std.specs.Prelude.{◌≡◌, ◌==◌, ◌||◌, ℕ, Bool, true, false, List}
 use Rattle.std.proofs.Common.{refl, ap, sym, ◌∙◌}
 use Rattle.papaya_schedules.specs.declared.effect.Effect.{Effect}
 use Rattle.papaya_schedules.specs.declared.event.Event.{Event}
@@ -12,11 +12,11 @@ use Rattle.papaya_schedules.specs.Handing.{gives_all}
 use Rattle.papaya_schedules.specs.InTurn.{ComesRight}
 use Rattle.papaya_schedules.specs.Terms.{Terms}
 use Rattle.papaya_finds.specs.Little.{ReclaimsAll}
-use Rattle.papaya_scheduler.specs.Played.{IsPlayed, entry_of}
+use Rattle.papaya_scheduler.specs.Played.{entry_of}
 use Rattle.papaya_scheduler.specs.declared.played.Played.{Played}
 use Rattle.papaya_scheduler.specs.declared.scheduler.Scheduler.{Scheduler}
 use Rattle.papaya_running.specs.Asked.{FindsBy, Happens, HappensAt, Holds, is_of_calls}
-use Rattle.papaya_running.specs.Keeping.{GoesOnAt, IsAskedOf, IsNotRefused}
+use Rattle.papaya_running.specs.Keeping.{IsAskedOf, IsNotRefused}
 use Rattle.papaya_running.specs.OfAll.{IsLeftOfAllBut, KeepsAll}
 use Rattle.papaya_running.specs.OfCalls.{KeepsAt, Runs, RunsOn, Wanted}
 use Rattle.papaya_running.specs.OfRows.{HasNotBegun, KeepsRunAt, PowersAreOne, is_of_rows}

@@ -1,5 +1,5 @@
--- What is asked of an event, by name, of whichever kind it is, and what is promised of it then: it keeps its promises, and the run goes on with it.
-use Rattle.std.specs.Prelude.{◌≡◌, ◌||◌, ℕ, Bool, true, false, List}
+-- What is still asked of an event of a run, by name, of whichever kind it is.
+use Rattle.std.specs.Prelude.{◌≡◌, ◌||◌, true, false, List}
 use Rattle.papaya_schedules.specs.declared.event.Event.{Event}
 use Rattle.papaya_schedules.specs.declared.event.Event.TheVariants.{MakeMap}
 use Rattle.papaya_schedules.specs.declared.outcome.Outcome.{Outcome}
@@ -8,12 +8,9 @@ use Rattle.papaya_schedules.specs.After.{moment}
 use Rattle.papaya_schedules.specs.Entry.{Entry}
 use Rattle.papaya_schedules.specs.InTurn.{is_kept_out}
 use Rattle.papaya_schedules.specs.Terms.{Terms}
-use Rattle.papaya_scheduler.specs.Played.{entry_of}
-use Rattle.papaya_scheduler.specs.declared.played.Played.{Played}
-use Rattle.papaya_scheduler.specs.declared.scheduler.Scheduler.{Scheduler}
-use Rattle.papaya_running.specs.Asked.{FindsRight, Holds, is_of_calls}
-use Rattle.papaya_running.specs.OfCalls.{IsLeftBut, IsSaid, Runs, RunsOn, Wanted}
-use Rattle.papaya_running.specs.OfRows.{IsLeftOfRowsBut, PowersAreOne, is_of_rows}
+use Rattle.papaya_running.specs.Asked.{FindsRight, is_of_calls}
+use Rattle.papaya_running.specs.OfCalls.{IsLeftBut, IsSaid}
+use Rattle.papaya_running.specs.OfRows.{IsLeftOfRowsBut, is_of_rows}
 
 module _ {K V : Type 0} where
   -- of a making that was refused nothing is said
@@ -28,10 +25,3 @@ module _ {K V : Type 0} where
     pub right : FindsRight terms log e
     pub calls : is_of_calls e.event ≡ true → IsLeftBut terms log e × (is_kept_out terms e.event (moment log) ≡ false → IsSaid e.event e.outcome)
     pub rows : is_of_rows e.event ≡ true → IsLeftOfRowsBut terms log e × IsNotRefused e.event e.outcome
-
-module _ {K V S : Type 0} (same : K → K → Bool) (hash : K → ℕ) where
-  -- What is promised of it: it keeps its promises, and the run goes on with it.
-  abbrev pub GoesOnAt : Event K V → Played V → (old new : Scheduler K V S) → Type 0
-  GoesOnAt event played old new =
-      (terms : Terms) (log : List (Entry K V)) → Holds same hash terms (moment log) old → Runs same hash terms log old → Wanted K V S same hash → PowersAreOne
-      → IsAskedOf terms log (entry_of event played) → RunsOn same hash terms log (entry_of event played) new
