@@ -102,7 +102,7 @@ module _ (K V S : Type 0) (same : K → K → Bool) (hash : K → ℕ) (name : �
   m = moment log
 
   -- a walk that is ready leaves nothing behind
-  ready_leaves : (machine_asked (machine_of u)).1 ≡ true → LeavesOf true {V = V} outcome.Ready c
+  ready_leaves : (machine_asked (machine_of u)).1 ≡ true → LeavesOf true outcome.Ready c
   ready_leaves ready =
       let clear = walks_are_clear K V name m known s run.calls.kept.made run.calls.kept.tables run.calls.kept.short map i u here ready c c_is in (
         record {

@@ -11,6 +11,7 @@ pub mod Taken
 pub mod Quiet
 pub mod AsBefore
 pub mod Again
+pub mod Asked
 pub mod Begun
 pub mod Told
 pub mod Whole

@@ -1,5 +1,5 @@
 pub mod AfterEffects
-mod Again
+pub mod Again
 mod AnySays
 mod AnyWaits
 mod ComesOn
@@ -10,6 +10,7 @@ mod NextBegins
 mod NextEnds
 mod NextOn
 mod NextSays
+mod NextTook
 pub mod OneStep
 mod PlaysAgain
 mod PlaysSteps

@@ -37,11 +37,13 @@ use Rattle.papaya_histories.specs.Given.Effects.Known.{Known, known}
 use Rattle.papaya_histories.specs.Given.Executor.IsAt.{HasCall, IsAt, KeepsGiven, Scene}
 use Rattle.papaya_histories.specs.Given.Executor.Stepping.{has_ended}
 use Rattle.papaya_histories.specs.Given.Follows.Calling.{come_to}
-use Rattle.papaya_logged.specs.Calling.{CallGoesOn}
+use Rattle.papaya_histories.specs.Given.Executor.Replying.{AskLeads}
+use Rattle.papaya_logged.specs.Calling.{CallGoesOn, WalkGoesOn}
 use Rattle.papaya_logged.specs.Shown.{IsShown}
+use Rattle.papaya_logged.specs.declared.logged.Logged.{Logged}
 use Rattle.papaya_scheduler.specs.Played.{AsFar, BeginsSo, IsDue, IsPlayed, Plays, StandsAs, StandsFor, entry_of}
 use Rattle.papaya_scheduler.specs.Quiet.{IsQuiet}
-use Rattle.papaya_named.specs.Seen.{is_named}
+use Rattle.papaya_named.specs.Seen.{is_named, ready_place}
 use Rattle.papaya_named.specs.Telling.{answer_of, goes_on, number_by, kept}
 use Rattle.papaya_named.specs.declared.caller.Caller.{Caller}
 use Rattle.papaya_named.specs.declared.caller.Stands.{Stands as HowFar}
@@ -272,6 +274,29 @@ module _ {K V S : Type 0} (same : K → K → Bool) (hash : K → ℕ) where
       (terms : Terms) (m : Moment K V) → StandsFor same hash terms m old
       → (begun : Bool) × (mid : Scheduler K V S) × BeginsSo same hash terms m nameless guard name call begun old mid
       × (mid.logged.executor.batch_size ≡ old.logged.executor.batch_size) × (begun ≡ true → TakenAs 0 most_steps played mid new) × (begun ≡ false → SaysAgain (Refused Busy) played mid new)
+
+  -- A walk that is ready was asked for its next pair, and has taken steps since, each of which but the last just went on; by the last one it has come to what it told.
+  pub record HasWalked (place : ℕ) (played : Played V) (old new : Scheduler K V S) : Type 0 where
+    pub caller : Caller V
+    pub at : slice_get old.calls.items.items place ≡ Some caller
+    pub ready : Bool
+    pub asked : Logged K V S
+    pub leads : (s : Scene K V) → IsAt same hash old.logged.executor s → AskLeads same hash caller.number ready s old.logged.executor asked.executor
+    pub goes : (name : ℕ → List ℕ) (m : Moment K V) (s : Scene K V) → IsShown same hash name m old.logged s → WalkGoesOn same hash name m s caller.number ready old.logged asked
+    pub notes : asked.notes ≡ old.logged.notes
+    pub given : KeepsGiven old.logged.executor asked.executor
+    pub steps : ℕ
+    pub steps_are : played.steps ≡ steps + 1
+    pub mid : List Effect
+    pub led : Scheduler K V S
+    pub walked : WalkedFor place steps [] mid (record old { logged = asked }) led
+    pub last : IsStepped place played.outcome mid played.effects.items led new
+
+  -- So it is of an event that asks the walk of this name for its next pair. If none is ready, nothing has happened.
+  abbrev pub TookNext : List ℕ → Played V → (old new : Scheduler K V S) → Type 0
+  TookNext own played old new =
+      ((place : ℕ) → Some place ≡ ready_place own old.calls.items.items → HasWalked place played old new)
+      × (ready_place own old.calls.items.items ≡ None → SaysAgain (Refused Busy) played old new)
 
   -- What is promised of an event by which a call goes on: the scheduler has played the log with it; it comes to what is right, where it does so in its case; it makes as many steps as it may, and
   -- does not more; and what is refused as busy did nothing.

@@ -3,7 +3,7 @@ ghost use Rattle.std.specs.Prelude.{◌≡◌, ◌↔◌, true, IfOk};
 ghost use Rattle.papaya_schedules.specs.declared.event.Event.TheVariants as event;
 ghost use Rattle.papaya_histories.specs.Given.Executor.IsAt.{KeepsGiven};
 ghost use Rattle.papaya_scheduler.specs.Played.{MayPlay};
-ghost use Rattle.papaya_stepping.specs.Stepping.{MayWalk, PlaysNextAt, WalkComes};
+ghost use Rattle.papaya_stepping.specs.Stepping.{MayWalk, PlaysNextAt, TookNext, WalkComes};
 
 use crate::stepping::come_to;
 use papaya_raw::machines::Progress;
@@ -49,6 +49,7 @@ pub fn next<K: Eq + Hash + Drop, V: Drop, S: Hashes<K>>(
 ) -> Result<Played<V>, AllocError>
     requires { MayPlay K.eq (S.hash scheduler.old.logged.executor.hasher) (event.Next caller.now) scheduler.old }
     ensures plays { IfOk result (λ played. PlaysNextAt K.eq (S.hash scheduler.old.logged.executor.hasher) caller.now played scheduler.old scheduler.new) }
+    ensures took { IfOk result (λ played. TookNext K.eq (S.hash scheduler.old.logged.executor.hasher) caller.now played scheduler.old scheduler.new) }
     ensures given { KeepsGiven scheduler.old.logged.executor scheduler.new.logged.executor }
 {
     let Some(place) = scheduler.place_of_ready(caller) else {

@@ -1,0 +1,62 @@
+-- A walk that is ready is asked for its next pair: with which sweep it goes on.
+use Rattle.std.specs.Prelude.{◌≡◌, ◌==◌, ℕ, Bool, true, false, Option, Some, option_map, if◌then◌else◌}
+use Rattle.std.proofs.Common.{refl, ap, sym, subst, ◌∙◌}
+use Rattle.papaya_histories.specs.Given.Seize.World.{with_at}
+use Rattle.papaya_histories.specs.Given.Sweeps.SweepPoints.{after_next}
+use Rattle.papaya_histories.specs.Given.Callers.OverAll.{CallOverAll, gone_on}
+use Rattle.papaya_histories.specs.Given.Callers.Together.{UnderWay, OverAll}
+use Rattle.papaya_histories.specs.Given.Executor.IsAt.{IsAt, KeepsGiven, Scene, slot_of}
+use Rattle.papaya_histories.specs.Given.Executor.Replying.{AskLeads, scene_with}
+use Rattle.papaya_histories.specs.Given.Executor.declared.executor.Executor.{Executor}
+use Rattle.papaya_histories.proofs.Given.Executor.Changed.{standing_is}
+use Rattle.papaya_histories.specs.Given.Finishes.Endings.{EndingsTogether}
+use Rattle.papaya_histories.specs.Given.Finishes.Machines.{machine_of}
+use Rattle.papaya_histories.specs.Given.Finishes.Maps.{with_call}
+use Rattle.papaya_histories.proofs.Given.Finishes.Among.Sweeps.{sweeps_told_among}
+
+-- another one with the same machine in the place of a call
+same_call : {K V : Type 0} (calls : ℕ → ℕ → Option (UnderWay K V K)) (map i : ℕ) (x y : UnderWay K V K) → machine_of x ≡ machine_of y → (n j : ℕ)
+    → option_map machine_of (with_call calls map i (Some x) n j) ≡ option_map machine_of (with_call calls map i (Some y) n j)
+same_call {K} {V} calls map i x y alike n j = by (n == map)
+  where
+    in_map : (r : Bool) → option_map machine_of (if r then Some x else calls map j) ≡ option_map machine_of (if r then Some y else calls map j)
+    in_map true = ap Some alike
+    in_map false = refl
+
+    by : (q : Bool) → option_map machine_of ((if q then with_at (calls map) i (Some x) else calls n) j) ≡ option_map machine_of ((if q then with_at (calls map) i (Some y) else calls n) j)
+    by true = in_map (j == i)
+    by false = refl
+
+module _ {K V S : Type 0} (same : K → K → Bool) (hash : K → ℕ) (i : ℕ) (s : Scene K V) (old new : Executor K V S) (at : IsAt same hash old s) (given : KeepsGiven old new)
+    (leads : AskLeads same hash i true s old new) where
+  -- the sweep goes on to its next place, and all stand together
+  next_at : (map : ℕ) (o : CallOverAll) → s.calls map i ≡ Some (OverAll o) → IsAt same hash new (scene_with map i (OverAll (gone_on o (after_next o.sweep))) s)
+  next_at map o here =
+      let was = leads map (OverAll o) here in
+      let st = standing_is same hash old s at map i (OverAll o) here in
+      record {
+        memory = was.4.memory;
+        together =
+            subst (λ (batches : ℕ). EndingsTogether V same same batches new.roots slot_of s.world s.maps (with_call s.calls map i (Some (OverAll (gone_on o (after_next o.sweep))))) s.makers s.enders)
+            (sym given.1)
+            (subst (λ (roots : ℕ). EndingsTogether V same same old.batch_size roots slot_of s.world s.maps (with_call s.calls map i (Some (OverAll (gone_on o (after_next o.sweep))))) s.makers s.enders)
+            (sym given.2)
+            (sweeps_told_among V same same old.batch_size old.roots slot_of s.world s.maps s.calls s.makers s.enders at.together map st.0 st.1 i o here).next);
+        maps = was.4.maps;
+        hashes = was.4.hashes;
+        calls = λ n j. same_call s.calls map i (OverAll (gone_on o (after_next o.sweep))) was.0 (sym was.1) n j ∙ was.4.calls n j;
+        makers = was.4.makers;
+        enders = was.4.enders;
+        hashes_made = was.4.hashes_made;
+        numbers = was.4.numbers;
+        rows = was.4.rows;
+        on_slots = was.4.on_slots;
+        small = was.4.small;
+        slots = was.4.slots;
+        uses = was.4.uses;
+      }
+
+  -- so it is led there
+  abbrev pub leads_next : AskLeads same hash i true s old new
+  leads_next map (OverAll o) here = (OverAll (gone_on o (after_next o.sweep)), refl, (leads map (OverAll o) here).2, (leads map (OverAll o) here).3, next_at map o here)
+  leads_next map u here = leads map u here

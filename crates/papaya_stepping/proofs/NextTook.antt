@@ -1,0 +1,64 @@
+-- What an event has done that asked a walk for its next pair: the steps that it took.
+use Rattle.std.specs.Prelude.{◌≡◌, ℕ, Bool, List, [], slice_get, Some}
+use Rattle.std.proofs.Common.{ap, subst, ◌∙◌}
+use Rattle.papaya_raw.specs.declared.machines.progress.Progress.{Progress}
+use Rattle.papaya_histories.specs.Given.Tables.declared.node.Node.{Node}
+use Rattle.papaya_schedules.specs.Moment.{Moment}
+use Rattle.papaya_histories.specs.Given.Effects.Known.{known}
+use Rattle.papaya_histories.specs.Given.Executor.IsAt.{IsAt, KeepsGiven, Scene}
+use Rattle.papaya_histories.specs.Given.Executor.Replying.{AskLeads}
+use Rattle.papaya_logged.specs.Calling.{WalkGoesOn}
+use Rattle.papaya_logged.specs.Shown.{IsShown}
+use Rattle.papaya_logged.specs.declared.logged.Logged.{Logged}
+use Rattle.papaya_named.specs.declared.caller.Caller.{Caller}
+use Rattle.papaya_named.specs.declared.caller.Callers.{Callers}
+use Rattle.papaya_scheduler.specs.declared.played.Played.{Played}
+use Rattle.papaya_scheduler.specs.declared.scheduler.Scheduler.{Scheduler}
+use Rattle.papaya_stepping.specs.Stepping.{HasWalked, IsStepOf, IsStepped, WalkComes, callers_then, outcome_of}
+
+module _ {K V S : Type 0} (same : K → K → Bool) (hash : K → ℕ) (place : ℕ) (played : Played V) (old : Scheduler K V S) (asked : Logged K V S) (said : Progress (Node K V)) (walked : Scheduler K V S)
+    (comes : WalkComes same hash place played.steps said [] played.effects.items (record old { logged = asked }) walked) (callers : Callers V)
+    (told : (caller : Caller V) → slice_get walked.calls.items.items place ≡ Some caller → callers.items.items ≡ callers_then (known walked.logged.notes) place caller said walked.calls.items.items)
+    (comes_to_it : (caller : Caller V) → slice_get walked.calls.items.items place ≡ Some caller → played.outcome ≡ outcome_of (known walked.logged.notes) caller.kind caller.value said) where
+  abbrev step : IsStepOf same hash place said comes.3 played.effects.items comes.4 walked
+  step = comes.5
+
+  calls_same : walked.calls.items.items ≡ comes.4.calls.items.items
+  calls_same = ap (λ (x : Scheduler K V S). x.calls.items.items) step.rest
+
+  there : slice_get walked.calls.items.items place ≡ Some step.caller
+  there = ap (λ (l : List (Caller V)). slice_get l place) calls_same ∙ step.at
+
+  -- its last step, of which its caller was told
+  last_step : IsStepped same hash place played.outcome comes.3 played.effects.items comes.4 (record walked { calls = callers })
+  last_step = record {
+    caller = step.caller;
+    at = step.at;
+    said = said;
+    leads = step.leads;
+    outcome_is = comes_to_it step.caller there;
+    calls = told step.caller there ∙ ap (λ (l : List (Caller V)). callers_then (known walked.logged.notes) place step.caller said l) calls_same;
+    rest = ap (λ (x : Scheduler K V S). record x { calls = callers }) step.rest;
+    given = step.given;
+  }
+
+  pub has_walked : (caller : Caller V) → slice_get old.calls.items.items place ≡ Some caller → (ready : Bool) (number : ℕ) → number ≡ caller.number
+      → ((s : Scene K V) → IsAt same hash old.logged.executor s → AskLeads same hash number ready s old.logged.executor asked.executor)
+      → ((name : ℕ → List ℕ) (m : Moment K V) (s : Scene K V) → IsShown same hash name m old.logged s → WalkGoesOn same hash name m s number ready old.logged asked)
+      → asked.notes ≡ old.logged.notes → KeepsGiven old.logged.executor asked.executor → HasWalked same hash place played old (record walked { calls = callers })
+  has_walked caller at ready number its leads goes notes given = record {
+    caller = caller;
+    at = at;
+    ready = ready;
+    asked = asked;
+    leads = λ s is_at. subst (λ (k : ℕ). AskLeads same hash k ready s old.logged.executor asked.executor) its (leads s is_at);
+    goes = λ name m s shown. subst (λ (k : ℕ). WalkGoesOn same hash name m s k ready old.logged asked) its (goes name m s shown);
+    notes = notes;
+    given = given;
+    steps = comes.7;
+    steps_are = comes.8;
+    mid = comes.3;
+    led = comes.4;
+    walked = comes.9;
+    last = last_step;
+  }
