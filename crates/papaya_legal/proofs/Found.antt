@@ -85,6 +85,10 @@ none_among (u ∷ xs) all = by (is_retired u.stage) refl (none_among xs all.1)
     by true is rest = absurd (all.0 is)
     by false is rest = ap (λ (q : Bool). not q && list_all (λ v. not (is_retired v.stage)) xs) is ∙ rest
 
+-- what a step did by which an executor came from one place to another
+abbrev did_by : {K V S : Type 0} → (x y : Come K V S) → List Effect
+did_by x y = effects_of acts.Row x.notes y.executor.memory.changed
+
 module _ (K V S : Type 0) (same : K → K → Bool) (hash : K → ℕ) where
   pub rows_find_theirs : RowsFindTheirs K V S same hash
   rows_find_theirs name m known s old new at whole kept i told leads row here terms of_row needs =
@@ -100,9 +104,6 @@ module _ (K V S : Type 0) (same : K → K → Bool) (hash : K → ℕ) where
       Both x = InSlotEvent same name terms log event i called first began x.did x.now x.notes x.scene
           × (list_all (λ f. is_reclaiming f || asks_for_bucket f) x.did ≡ true → AtEachEffect AsksInNeed None None x.did (moment log)
           → AtEachEffect (Finds terms None None false []) None None x.did (moment log))
-
-      abbrev did_by : (x y : Come K V S) → List Effect
-      did_by x y = effects_of acts.Row x.notes y.executor.memory.changed
 
       then_find : (x y : Come K V S) → RowSteps same hash terms i x y → Both x → list_all (λ f. is_reclaiming f || asks_for_bucket f) (x.did ++ did_by x y) ≡ true
           → AtEachEffect AsksInNeed None None (x.did ++ did_by x y) (moment log) → AtEachEffect (Finds terms None None false []) None None (x.did ++ did_by x y) (moment log)
@@ -138,12 +139,12 @@ module _ (K V S : Type 0) (same : K → K → Bool) (hash : K → ℕ) where
   none_at_rest name m known s e at kept rests none left =
       let all = handed_at_rest K V e.batch_size m known s at.together.makings.standing.came kept.handed rests in
       record {
-        pairs = λ n. pair (is_handed (m.place n)) (λ is. (let it = all.0 n is in let was = it.2 in let no = none it.0 in cc (was, no)));
+        pairs = λ n. neither (is_handed (m.place n)) (λ is. (let it = all.0 n is in let was = it.2 in let no = none it.0 in cc (was, no)));
         tables = none_among m.tables
             (each_table m (λ u. ⊥) (λ u is. (let it = all.1 u.table is in let was = it.3 in let no = none it.0 in cc (was, no))) m.tables (λ t is. is));
         left = left;
       }
     where
-      pair : (q : Bool) → (q ≡ true → ⊥) → q ≡ false
-      pair true no = absurd (no refl)
-      pair false no = refl
+      neither : (q : Bool) → (q ≡ true → ⊥) → q ≡ false
+      neither true never = absurd (never refl)
+      neither false never = refl

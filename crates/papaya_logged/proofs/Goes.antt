@@ -45,12 +45,12 @@ module _ {K V S : Type 0} (first old new : Logged K V S) (xs ys zs : List Effect
   row_more i said under gone did noted given leads =
       goes_more (RowGoes i) (far xs first) (far ys old) (far zs new) gone (record { under = under; is_noted = noted_as acts.Row did noted given; said = said; leads = leads })
 
-  pub making_step : (i map : ℕ) (said : Progress Setting) → ((opening : NewMap) × (making_in (work_of old.executor i) ≡ Some (map, opening)))
+  abbrev pub making_step : (i map : ℕ) (said : Progress Setting) → ((opening : NewMap) × (making_in (work_of old.executor i) ≡ Some (map, opening)))
       → zs ≡ ys ++ effects_of (acts.Making map) (known old.notes) new.executor.memory.changed → known new.notes ≡ known_after (acts.Making map) new.executor.memory.changed (known old.notes)
       → KeepsGiven old.executor new.executor → StepsMaking i said old.executor new.executor → MakingGoes i map (far ys old) (far zs new)
   making_step i map said under did noted given leads = record { under = under; is_noted = noted_as (acts.Making map) did noted given; said = said; leads = leads }
 
-  pub end_step : (i map : ℕ) (said : Settled (Node K V)) → ((ending : EndMap) × (ending_in (work_of old.executor i) ≡ Some ending))
+  abbrev pub end_step : (i map : ℕ) (said : Settled (Node K V)) → ((ending : EndMap) × (ending_in (work_of old.executor i) ≡ Some ending))
       → zs ≡ ys ++ effects_of (acts.Ending map) (known old.notes) new.executor.memory.changed → known new.notes ≡ known_after (acts.Ending map) new.executor.memory.changed (known old.notes)
       → KeepsGiven old.executor new.executor → StepsEnd i said old.executor new.executor → EndGoes i map (far ys old) (far zs new)
   end_step i map said under did noted given leads = record { under = under; is_noted = noted_as (acts.Ending map) did noted given; said = said; leads = leads }
@@ -64,7 +64,7 @@ module _ {K V S : Type 0} (first old new : Logged K V S) (xs ys zs : List Effect
   all_more begun before after said on gone did noted given leads =
       goes_more ReclaimingOn (far xs first, begun) (far ys old, before) (far zs new, after) gone ((noted_as acts.Row did noted given, said, leads), on)
 
-  pub all_last : (before after : ReclaimAll) (said : Settled (Node K V)) → zs ≡ ys ++ effects_of acts.Row (known old.notes) new.executor.memory.changed
+  abbrev pub all_last : (before after : ReclaimAll) (said : Settled (Node K V)) → zs ≡ ys ++ effects_of acts.Row (known old.notes) new.executor.memory.changed
       → known new.notes ≡ known_after acts.Row new.executor.memory.changed (known old.notes) → KeepsGiven old.executor new.executor
       → ((same : K → K → Bool) (hash : K → ℕ) (s : Scene K V) (i : ℕ) (lists : ℕ → List ℕ) → IsReclaiming same hash old.executor s i lists before
       → ReclaimingLeads same hash s i lists old.executor new.executor before after said)

@@ -66,7 +66,7 @@ module _ {K V : Type 0} (size i p : ℕ) where
   rows_free t [] its w w2 r runs waits = inr (ap (λ (z : World (Node K V)). waits_behind p z.log) runs ∙ waits)
   rows_free t (Begin j request ∷ events) its w w2 r (v, happens, runs) waits =
       rows_free t events its.2 v w2 (happens_reached deferred_word size (Begin j request) w v r happens) runs (ap (waits_behind p) (begun_log size j request w v its.1 happens.1) ∙ waits)
-  rows_free t (Step j ∷ events) its w w2 r (v, happens, runs) waits = by (times t (taken_in it.effects)) refl
+  rows_free t (Step j ∷ events) its w w2 r (v, happens, runs) waits = by (times t (taken_in it.effects)) refl (λ so. rows_free t events its.1 v w2 later runs so)
     where
       later : Reached deferred_word size v
       later = happens_reached deferred_word size (Step j) w v r happens
@@ -74,9 +74,10 @@ module _ {K V : Type 0} (size i p : ℕ) where
       it : RowStepped deferred_word j w v
       it = did deferred_word size w r j v happens
 
-      by : (k : ℕ) → times t (taken_in it.effects) ≡ k → (waits_behind p w2.log ≡ None) ⊎ (waits_behind p w2.log ≡ Some t)
-      by zero e = rows_free t events its.1 v w2 later runs (ap (waits_behind p) it.logged ∙ waits_on p t it.effects w.log it.one waits e)
-      by (suc k) e =
+      by : (k : ℕ) → times t (taken_in it.effects) ≡ k → (waits_behind p v.log ≡ Some t → (waits_behind p w2.log ≡ None) ⊎ (waits_behind p w2.log ≡ Some t))
+          → (waits_behind p w2.log ≡ None) ⊎ (waits_behind p w2.log ≡ Some t)
+      by zero e on = on (ap (waits_behind p) it.logged ∙ waits_on p t it.effects w.log it.one waits e)
+      by (suc k) e on =
           inl (rows_alone events its.1 v w2 later runs (ap (waits_behind p) it.logged ∙ waits_no_more p t it.effects w.log it.one (λ none. omega (arith, none, e)) waits))
   rows_free t (_ ∷ events) its w w2 r runs waits = absurd its
 

@@ -15,7 +15,7 @@ use Rattle.papaya_scheduler.specs.declared.scheduler.Scheduler.{Scheduler}
 module _ {K V S : Type 0} (old : Scheduler K V S) (played : Played V) where
   -- it was out of turn, and did nothing;
   pub did_wait : played.outcome ≡ Refused Busy → played.effects.items ≡ [] → WorksOnAll played old old
-  did_wait is none = (refl, inl (is, none, refl))
+  did_wait is none = (refl, inl (is, (none, refl)))
 
   -- or all was reclaimed
   pub did_all : (new : Scheduler K V S) → new.calls ≡ old.calls → played.outcome ≡ Done → are_gone old.there old.calls.items.items ≡ true → (before after : List Effect) → before ≡ []

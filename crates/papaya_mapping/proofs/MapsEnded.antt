@@ -144,10 +144,10 @@ module _ {K V S : Type 0} (same : K → K → Bool) (hash : K → ℕ) (terms : 
         abbrev f : Finishing K V
         f = finishing_of standing s.world
 
-        here : s1.enders i ≡ Some f
+        pub here : s1.enders i ≡ Some f
         here = at_same s.enders i (Some f) i refl
 
-        shown_mid : IsShown same hash stands.name m mid s1
+        pub shown_mid : IsShown same hash stands.name m mid s1
         shown_mid = (begun no_call).4
 
         pub may_run : (t : Scene K V) × IsAt same hash mid.executor t × IsEnding t i

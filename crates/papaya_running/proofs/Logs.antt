@@ -1,6 +1,6 @@
 -- The log of a schedule, one event longer; and the map on which an event acts.
-use Rattle.std.specs.Prelude.{◌≡◌, ℕ, suc, ◌+◌, ◌==◌, Bool, true, false, List, [], ◌∷◌, ◌++◌, length, find, map, Option, Some, None, option_map, if◌then◌else◌}
-use Rattle.std.proofs.Common.{refl, sym, ap, subst, ◌∙◌, arith}
+use Rattle.std.specs.Prelude.{◌≡◌, ℕ, ◌+◌, Bool, true, false, List, [], ◌∷◌, ◌++◌, length, find, map, Option, Some, None, option_map, if◌then◌else◌}
+use Rattle.std.proofs.Common.{refl, sym, ap, ◌∙◌, arith}
 use Rattle.papaya_runs.specs.declared.outcome.Single.{Single}
 use Rattle.papaya_runs.specs.declared.outcome.Single.TheVariants as single
 use Rattle.papaya_runs.specs.Same.{is_same}
@@ -10,14 +10,14 @@ use Rattle.papaya_schedules.specs.declared.effect.Effect.{Effect}
 use Rattle.papaya_schedules.specs.declared.event.Event.{Event}
 use Rattle.papaya_schedules.specs.declared.event.Event.TheVariants.{Collector, Hash, Choose, Register, Unregister, Enter, Own, Refresh, Flush, DropGuard, Forget, ReclaimAll, Close, MakeMap, EndMap, ShowShape, Begin, Step, Go, Replied, OneCall, Next, Stop}
 use Rattle.papaya_schedules.specs.declared.outcome.Outcome.{Outcome}
-use Rattle.papaya_schedules.specs.declared.outcome.Outcome.TheVariants.{Done, Slot, Goes, Asks, Waits, Ready, Shows, Answered, Shape, Refused}
-use Rattle.papaya_schedules.specs.After.{after, moment}
+use Rattle.papaya_schedules.specs.declared.outcome.Outcome.TheVariants.{Done, Goes}
+use Rattle.papaya_schedules.specs.After.{moment}
 use Rattle.papaya_schedules.specs.Beginning.{at_work, begun, fresh_call, with_call}
 use Rattle.papaya_schedules.specs.Entry.{Entry, acted_on, is_busy, nameless}
 use Rattle.papaya_schedules.specs.Moment.{MapThere, UnderWay, Moment}
-use Rattle.papaya_schedules.specs.Runs.{log_on, singles, singles_of, trace_of}
+use Rattle.papaya_schedules.specs.Runs.{log_on, singles, singles_of}
 use Rattle.papaya_schedules.specs.Terms.{Terms}
-use Rattle.papaya_schedules.specs.Views.{call_of, map_of, number_of}
+use Rattle.papaya_schedules.specs.Views.{call_of, number_of}
 use Rattle.papaya_rows.proofs.Lists.{found_alike}
 use Rattle.papaya_scheduler.specs.Played.{StandsFor}
 use Rattle.papaya_named.specs.Seen.{Seen, is_named, number_named, seen, seen_of}

@@ -49,7 +49,6 @@ use Rattle.papaya_running.proofs.OfCalls.Scenes.{AreNamed, its_named, stands_in}
 use Rattle.papaya_running.proofs.OfRows.Lone.{alone_follows}
 use Rattle.papaya_running.proofs.OfRows.Quiet.{IsStill, still_keeps}
 use Rattle.papaya_running.proofs.Remaining.{counted_in, gives_all as gives_all_in}
-
 pub mod Chain
 
 module _ {K V : Type 0} where
@@ -204,8 +203,7 @@ module _ {K V S : Type 0} (same : K → K → Bool) (hash : K → ℕ) (terms : 
           shows = its.2.calls.whole;
           kept = its.2.calls.kept;
           counted = counted_in same hash terms (moment (e ∷ log)) new so last_scene there (λ r. []) none_left;
-        } in
-        (
+        } in (
           record {
             legal = its.0;
             runs = record {
@@ -219,7 +217,7 @@ module _ {K V S : Type 0} (same : K → K → Bool) (hash : K → ℕ) (terms : 
         )
 
   pub works_keep : WorksOnAll played old new → Keeps (entry_of event played)
-  works_keep (calls, inl (busy, none, still)) =
+  works_keep (calls, inl (busy, (none, still))) =
       subst KeepsAs (sym (entry_is event played (Refused Busy) played.steps [] busy refl none))
       (λ so right.
       (let kept = busy_still log s.world event of_all played.steps in

@@ -410,7 +410,7 @@ module _ {K V S : Type 0} (same : K → K → Bool) (hash : K → ℕ) (terms : 
 
   -- or nothing was done
   pub map_end_keeps : WorksOnEnd played old new own → RunsOn same hash terms log (entry_of (EndMap own) played) new
-  map_end_keeps (calls, inl (fault, is, none, still)) =
+  map_end_keeps (calls, inl (fault, is, (none, still))) =
       subst KeepsAs (sym (entry_is (EndMap own) played (Refused fault) played.steps [] is refl none))
       (λ so right. still_keeps same hash terms log old run (entry (EndMap own) (Refused fault) played.steps []) new refl (refused_still log s.world (EndMap own) refl fault played.steps) still calls so right)
       after left.right

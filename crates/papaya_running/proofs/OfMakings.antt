@@ -472,7 +472,7 @@ module _ {K V S : Type 0} (same : K → K → Bool) (hash : K → ℕ) (terms : 
   -- it was refused, and nothing was done; or it was made; nothing is said of one that was refused once it had begun
   pub map_made_keeps : WorksOnMap played old new own mode capacity → IsPlayed same hash terms (entry_of event played ∷ log) new → IsLeftOfRows terms log (entry_of event played)
       → HasNotBegun event played.outcome played.effects.items old new → RunsOn same hash terms log (entry_of event played) new
-  map_made_keeps (calls, inl (fault, is, none, still)) after left begun = refused_keeps fault is none still calls after left
+  map_made_keeps (calls, inl (fault, is, (none, still))) after left begun = refused_keeps fault is none still calls after left
   map_made_keeps (calls, inr (inl (fault, is))) after left begun =
       let so : (played.effects.items ≡ []) × (new.logged ≡ old.logged) = subst (λ (o : Outcome V). HasNotBegun event o played.effects.items old new) is begun in
       refused_keeps fault is so.0 so.1 calls after left

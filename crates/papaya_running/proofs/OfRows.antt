@@ -57,7 +57,6 @@ use Rattle.papaya_running.proofs.OfRows.Facts.{RowFacts, facts}
 use Rattle.papaya_running.proofs.OfRows.Lone.{alone_follows}
 use Rattle.papaya_running.proofs.OfRows.Quiet.{none_still, refused_still, still_keeps}
 use Rattle.papaya_running.proofs.Remaining.{counted_in}
-
 pub mod Chain
 pub mod Facts
 pub mod Quiet
@@ -238,10 +237,10 @@ module _ {K V S : Type 0} (same : K → K → Bool) (hash : K → ℕ) (terms : 
   KeepsAs x = IsPlayed same hash terms (x ∷ log) new → ComesRight terms log x → RunsOn same hash terms log x new
 
   pub slot_keeps : WorksOnSlot played old new event → RunsOn same hash terms log e new
-  slot_keeps (calls, inl (fault, is, none, still)) =
+  slot_keeps (calls, inl (fault, is, (none, still))) =
       subst KeepsAs (sym (entry_is event played (Refused fault) played.steps [] is refl none))
       (λ so right. still_keeps same hash terms log old run (entry event (Refused fault) played.steps []) new refl (refused_still log s.world event of fault played.steps) still calls so right) after left.right
-  slot_keeps (calls, inr (slot, about, inl (done, no_row, none, still))) =
+  slot_keeps (calls, inr (slot, about, inl (done, no_row, (none, still)))) =
       subst KeepsAs (sym (entry_is event played Done played.steps [] done refl none))
       (λ so right. still_keeps same hash terms log old run (entry event Done played.steps []) new refl
       (none_still same hash terms log old run.stands event turn played.steps slot about no_row) still calls so right) after left.right

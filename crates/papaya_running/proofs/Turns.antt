@@ -1,5 +1,5 @@
 -- One event more, and the end of a schedule.
-use Rattle.std.specs.Prelude.{◌≡◌, ℕ, suc, ◌+◌, ◌==◌, ◌||◌, Bool, true, false, List, [], ◌∷◌, ◌++◌, length, filter, map, Option, None, slice_index_or, if◌then◌else◌}
+use Rattle.std.specs.Prelude.{◌≡◌, ℕ, suc, ◌+◌, Bool, true, false, List, [], ◌∷◌, ◌++◌, length, filter, map, Option, slice_index_or, if◌then◌else◌}
 use Rattle.std.specs.Global.{Vec}
 use Rattle.std.proofs.Common.{refl, sym, ap, subst, ◌∙◌, arith}
 use Rattle.std.proofs.lemmas.List.{length-append, map-append}
@@ -7,20 +7,16 @@ use Rattle.papaya_runs.specs.declared.outcome.Single.{Single}
 use Rattle.papaya_runs.specs.declared.outcome.Single.TheVariants as single
 use Rattle.papaya_runs.specs.declared.record.Living.{Living}
 use Rattle.papaya_runs.specs.declared.record.Pair.{Pair}
-use Rattle.papaya_runs.specs.Pairs.{numbers}
-use Rattle.papaya_runs.specs.Runs.{IsStored}
 use Rattle.papaya_schedules.specs.declared.effect.Effect.{Effect}
 use Rattle.papaya_schedules.specs.declared.event.Event.{Event}
-use Rattle.papaya_schedules.specs.declared.outcome.Outcome.{Outcome}
 use Rattle.papaya_schedules.specs.declared.record.Run.{Run}
 use Rattle.papaya_schedules.specs.After.{AtEachEvent, moment}
 use Rattle.papaya_schedules.specs.Beginning.{at_work}
 use Rattle.papaya_schedules.specs.Entry.{Entry, acted_on, caller_of, is_busy}
-use Rattle.papaya_schedules.specs.InTurn.{ComesRight}
 use Rattle.papaya_schedules.specs.Moment.{Place, Deferral, MapThere, TableThere, Moment, start}
-use Rattle.papaya_schedules.specs.Runs.{Lists, ShowsMaps, log_of, log_on, singles_of, trace_of}
+use Rattle.papaya_schedules.specs.Runs.{Lists, ShowsMaps, log_of, log_on, trace_of}
 use Rattle.papaya_schedules.specs.Terms.{Terms}
-use Rattle.papaya_schedules.specs.Views.{is_in_a_map, is_in_map, is_retired, is_waiting}
+use Rattle.papaya_schedules.specs.Views.{is_in_map, is_retired}
 use Rattle.papaya_legal.specs.CallEvents.{IsLegalBut}
 use Rattle.papaya_scheduler.specs.Played.{entry_of}
 use Rattle.papaya_named.specs.Seen.{named, named_of}
@@ -40,7 +36,6 @@ use Rattle.papaya_running.specs.declared.record.Record.{Record}
 use Rattle.papaya_logged.specs.Back.{ComesBack}
 use Rattle.papaya_tally.specs.Told.{AreBack}
 use Rattle.papaya_tally.proofs.Back.{back_then}
-use Rattle.papaya_tally.specs.declared.tally.Flagged.{Flagged}
 use Rattle.papaya_tally.specs.declared.tally.Tally.{Tally}
 use Rattle.papaya_tally.specs.declared.tally.Whereabouts.{Whereabouts}
 use Rattle.papaya_tally.specs.declared.tally.Whereabouts.TheVariants.{Unborn}

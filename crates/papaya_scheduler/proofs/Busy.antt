@@ -16,10 +16,10 @@ pub none_quiet : {V : Type 0} (o : Outcome V) (effects : List Effect) → effect
 none_quiet (Refused Busy) effects none = none
 none_quiet _ effects none = tt
 
-pub slot_quiet : {V : Type 0} (there : Present) (did effects : List Effect) (fault : Fault) → GetsSlot {V = V} there did (Refused fault) → IsQuiet {V = V} (Refused fault) effects
-slot_quiet {V} there did effects fault gets = by (nat_lt (least_free (used_slots there)) most_slots) gets
+pub slot_quiet : (V : Type 0) (there : Present) (did effects : List Effect) (fault : Fault) → GetsSlot {V = V} there did (Refused fault) → IsQuiet {V = V} (Refused fault) effects
+slot_quiet V there did effects fault gets = by (nat_lt (least_free (used_slots there)) most_slots) gets
   where
-    by : (b : Bool) → MatchBool b ((◌≡◌ {A = Outcome V} (Refused fault) (Slot (least_free (used_slots there)))) ⊎ IsShort did (Refused fault)) (◌≡◌ {A = Outcome V} (Refused fault) (Refused SlotsUsedUp)) → IsQuiet {V = V} (Refused fault) effects
+    by : (b : Bool) → MatchBool b ((◌≡◌ {A = Outcome V} (Refused fault) (Slot (least_free (used_slots there)))) ⊎ IsShort {V = V} did (Refused fault)) (◌≡◌ {A = Outcome V} (Refused fault) (Refused SlotsUsedUp)) → IsQuiet {V = V} (Refused fault) effects
     by true (inl slot) = absurd (cc slot)
     by true (inr short) = subst (λ (o : Outcome V). IsQuiet o effects) (sym short.0) tt
     by false used = subst (λ (o : Outcome V). IsQuiet o effects) (sym used) tt

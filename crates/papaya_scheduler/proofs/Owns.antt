@@ -144,5 +144,5 @@ module _ {K V S : Type 0} (same : K → K → Bool) (hash : K → ℕ) (terms : 
 
   -- it was not refused as busy
   pub refused_quiet : (fault : Fault) → slot ≡ Err fault → IsQuiet {V = V} (Refused fault) after
-  refused_quiet fault is = slot_quiet (moment log).there ran.did after fault
+  refused_quiet fault is = slot_quiet V (moment log).there ran.did after fault
       (gets_none same hash terms (moment log) p due.played true (told_as slot) before after q.logged ran fault (ap (λ (x : Result ℕ Fault). told_as {T = Node K V} x) is) nothing)

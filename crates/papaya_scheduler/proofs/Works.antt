@@ -24,21 +24,32 @@ use Rattle.papaya_scheduler.specs.declared.scheduler.Scheduler.{Scheduler}
 module _ {K V S : Type 0} (event : Event K V) (old : Scheduler K V S) (played : Played V) where
   -- it was refused, and did nothing;
   pub did_refuse : (fault : Fault) → played.outcome ≡ Refused fault → played.effects.items ≡ [] → WorksOnSlot played old old event
-  did_refuse fault is none = (refl, inl (fault, is, none, refl))
+  did_refuse fault is none = (refl, inl (fault, is, (none, refl)))
 
   module _ (slot : ℕ) (about : IsAbout event old slot) (new : Scheduler K V S) (calls : new.calls ≡ old.calls) where
     -- there was nothing to be done on its slot;
     pub did_none : played.outcome ≡ Done → HasNoRow event old.there slot → played.effects.items ≡ [] → new.logged ≡ old.logged → WorksOnSlot played old new event
-    did_none done no_row none still = (calls, inr (slot, about, inl (done, no_row, none, still)))
+    did_none done no_row none still = (calls, inr (slot, about, inl (done, no_row, (none, still))))
 
     -- or its row has run there
     module _ (called : SlotCall) (its : IsItsRow event old slot called) (before after : List Effect) (nothing : before ≡ []) (effects : played.effects.items ≡ after) (q : Logged K V S) (is : new.logged ≡ q) where
       pub did_told : (said : RowTold (Node K V)) → ComesBy event said played.outcome → RowRan slot called said before after old.logged q → WorksOnSlot played old new event
-      did_told said comes ran =
-          (calls, inr (slot, about, inr (called, its, said, comes,
-          subst (λ (l : Logged K V S). RowRan slot called said [] played.effects.items old.logged l) (sym is)
-          (subst (λ (xs : List Effect). RowRan slot called said [] xs old.logged q) (sym effects)
-          (subst (λ (xs : List Effect). RowRan slot called said xs after old.logged q) nothing ran)))))
+      did_told said comes ran = (
+        calls,
+        inr (
+          slot,
+          about,
+          inr (
+            called,
+            its,
+            said,
+            comes,
+            subst (λ (l : Logged K V S). RowRan slot called said [] played.effects.items old.logged l) (sym is)
+                (subst (λ (xs : List Effect). RowRan slot called said [] xs old.logged q) (sym effects)
+                (subst (λ (xs : List Effect). RowRan slot called said xs after old.logged q) nothing ran)),
+          ),
+        ),
+      )
 
       pub did_row : ((said : RowTold (Node K V)) → ComesBy event said played.outcome) → RowRanOn slot called before after old.logged q → WorksOnSlot played old new event
       did_row comes ran = did_told ran.0 (comes ran.0) ran.1

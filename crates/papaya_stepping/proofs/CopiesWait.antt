@@ -151,7 +151,7 @@ module _ {K V S : Type 0} (same : K → K → Bool) (hash : K → ℕ) (terms : 
     table_there t table it none =
         let role_is = noted_table t table it in
         let has : HasRole w m.stored (block_in table.link) (role.Table (table_of of t) (st.chart.len t)) =
-            subst (λ (r : Role). HasRole w m.stored (block_in table.link) r) role_is (stands.shown.shows.all.shown.blocks.roles (block_in table.link)) in
+        subst (λ (r : Role). HasRole w m.stored (block_in table.link) r) role_is (stands.shown.shows.all.shown.blocks.roles (block_in table.link)) in
         let pos : 0 < block_in table.link = live_pos w.memory (block_in table.link) (ap is_some has.1) in
         omega (arith, none, pos)
 
@@ -230,8 +230,8 @@ module _ {K V S : Type 0} (same : K → K → Bool) (hash : K → ℕ) (terms : 
           by ((s, upto, source, target, cut), done, none) =
               let turn : q.target.turn ≡ suc s = ap (λ (y : Table). y.turn) target.is in
               let owes : one.0.owes ≡ passed of s q.target.turn =
-                  stands.shown.kept.owed.owed of k u has one.0 one.1 ∙ hand_of by_notes q u within ∙ ap (λ (y : Copying). tables_in_hand by_notes q y) here
-                  ∙ tables_named by_notes q q.source.link (st.chart.len s) (table_of of s) (table_there k u has s q.source source) (noted_table k u has s q.source source) in
+              stands.shown.kept.owed.owed of k u has one.0 one.1 ∙ hand_of by_notes q u within ∙ ap (λ (y : Copying). tables_in_hand by_notes q y) here
+              ∙ tables_named by_notes q q.source.link (st.chart.len s) (table_of of s) (table_there k u has s q.source source) (noted_table k u has s q.source source) in
               let first : passed of s q.target.turn ≡ numbered of s ∷ passed of (suc s) q.target.turn = passed_first of s q.target.turn (omega (arith, turn)) in
               waits_for_handing same hash terms m p stands of of i k x u under has other refl never
               (owing_hands same hash terms m p stands of of i k x u under has other (numbered of s) (passed of (suc s) q.target.turn) (owes ∙ first))

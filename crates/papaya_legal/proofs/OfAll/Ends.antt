@@ -122,10 +122,10 @@ module _ {K V : Type 0} (terms : Terms) (log : List (Entry K V)) (steps : ℕ) (
   pub none_called : (its : Event K V) → gives_all its ≡ true → ComesRight terms log (entry its) → m.calls ≡ []
   none_called event.ReclaimAll of_all right =
       nobody_calls (in_turn terms log (entry event.ReclaimAll) (is_left m) _ (was_done V)
-      (not_kept_out terms log (entry event.ReclaimAll) (is_kept_out terms event.ReclaimAll m) (IsKeptOut event.ReclaimAll (was_done V)) _ (was_done V) (λ out. out) right refl) refl)
+      (not_kept_out terms log (entry event.ReclaimAll) (is_kept_out terms event.ReclaimAll m) (IsKeptOut {K = K} {V = V} event.ReclaimAll (was_done V)) _ (was_done V) (λ out. out) right refl) refl)
   none_called event.Close of_all right =
       nobody_calls (and_both (is_left m) (is_empty m.maps) (in_turn terms log (entry event.Close) (is_left m && is_empty m.maps) _ (was_done V)
-      (not_kept_out terms log (entry event.Close) (is_kept_out terms event.Close m) (IsKeptOut event.Close (was_done V)) _ (was_done V) (λ out. out) right refl) refl)).0
+      (not_kept_out terms log (entry event.Close) (is_kept_out terms event.Close m) (IsKeptOut {K = K} {V = V} event.Close (was_done V)) _ (was_done V) (λ out. out) right refl) refl)).0
   none_called _ of_all right = absurd (cc of_all)
 
   calls_then : (its : Event K V) → gives_all its ≡ true → (moment (entry its ∷ log)).calls ≡ m.calls

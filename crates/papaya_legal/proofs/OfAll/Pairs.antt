@@ -61,7 +61,7 @@ waits_of P k (d ∷ ds) l each = by (k == d.pair) refl (λ less. waits_of P k ds
   where
     by : (q : Bool) → (k == d.pair) ≡ q → (0 < put_in k ds → (t : Table) × P k t) → (t : Table) × P k t
     by true e later = (d.behind, subst (λ (x : ℕ). P x d.behind) (sym (eqb-true k d.pair e)) each.0)
-    by false e later = later (subst (λ (q : Bool). 0 < once_if q + put_in k ds) e l)
+    by false e later = later (let more : 0 < 0 + put_in k ds = subst (λ (q : Bool). 0 < once_if q + put_in k ds) e l in omega (arith, more))
 
 -- what may be reclaimed was let go
 let_go : (p : Place) → MayReclaim true p → is_let_go p ≡ true

@@ -95,22 +95,22 @@ module _ {K V : Type 0} where
   plan_no_room m m2 told (Turn rest) end s is = subst IsNotRoomed (sym s.2) tt
   plan_no_room m m2 told (Do op rest) end s is = subst IsNotRoomed (sym s.1.1) (op_no_room m op s.0 is)
 
-  settle_no_room : (c : Settle) (p : Settling) → NoRoom (settle.plan_at (deferred_word {K = K} {V = V}) c p)
-  settle_no_room c (settling.Takes next) = tt
-  settle_no_room c _ = tt
+settle_no_room : (K V : Type 0) (c : Settle) (p : Settling) → NoRoom (settle.plan_at (deferred_word {K = K} {V = V}) c p)
+settle_no_room K V c (settling.Takes next) = tt
+settle_no_room K V c _ = tt
 
-  leave_no_room : (c : Leave) (p : Leaving) → NoRoom (leave.plan_at (deferred_word {K = K} {V = V}) c p)
-  leave_no_room c leaving.Swaps = tt
-  leave_no_room c (leaving.Settles it) = so_as (leave.settled c) (settle.settle_plan deferred_word it) (settle_no_room it it.stands)
-  leave_no_room c leaving.Frees = tt
-  leave_no_room c leaving.Over = tt
+leave_no_room : (K V : Type 0) (c : Leave) (p : Leaving) → NoRoom (leave.plan_at (deferred_word {K = K} {V = V}) c p)
+leave_no_room K V c leaving.Swaps = tt
+leave_no_room K V c (leaving.Settles it) = so_as (leave.settled c) (settle.settle_plan (deferred_word {K = K} {V = V}) it) (settle_no_room K V it it.stands)
+leave_no_room K V c leaving.Frees = tt
+leave_no_room K V c leaving.Over = tt
 
-  all_no_room : (c : ReclaimAll) (p : Reclaiming) → NoRoom (all.plan_at (deferred_word {K = K} {V = V}) was_left c p)
-  all_no_room c (at.Leaves slot it) =
-      so_as (all.within (λ (l : Leave). all.standing c (at.Leaves slot l)) (all.next_head c slot)) (leave.leave_plan deferred_word it) (leave_no_room it it.stands)
-  all_no_room c (at.Flushes slot it) =
-      so_as (all.within (λ (l : Settle). all.standing c (at.Flushes slot l)) (all.next_batch (record c { again = true }) slot)) (settle.settle_plan deferred_word it) (settle_no_room it it.stands)
-  all_no_room c _ = tt
+all_no_room : (K V : Type 0) (c : ReclaimAll) (p : Reclaiming) → NoRoom (all.plan_at (deferred_word {K = K} {V = V}) was_left c p)
+all_no_room K V c (at.Leaves slot it) =
+    so_as (all.within (λ (l : Leave). all.standing c (at.Leaves slot l)) (all.next_head c slot)) (leave.leave_plan (deferred_word {K = K} {V = V}) it) (leave_no_room K V it it.stands)
+all_no_room K V c (at.Flushes slot it) =
+    so_as (all.within (λ (l : Settle). all.standing c (at.Flushes slot l)) (all.next_batch (record c { again = true }) slot)) (settle.settle_plan (deferred_word {K = K} {V = V}) it) (settle_no_room K V it it.stands)
+all_no_room K V c _ = tt
 
 -- What it reclaims.
 
@@ -178,7 +178,7 @@ module _ {K V S : Type 0} (same : K → K → Bool) (hash : K → ℕ) (name : �
 
   not_roomed : IsNotRoomed x
   not_roomed =
-      plan_no_room old.memory.memory new.memory.memory x (all.reclaim_all_plan (deferred_word {K = K} {V = V}) was_left before) (after, told) leads.0 (all_no_room before before.stands)
+      plan_no_room old.memory.memory new.memory.memory x (all.reclaim_all_plan (deferred_word {K = K} {V = V}) was_left before) (after, told) leads.0 (all_no_room K V before before.stands)
 
   pub none_under_way : {X : Type 0} (map j : ℕ) (u : UnderWay K V K) → s.calls map j ≡ Some u → X
   none_under_way map j u here = absurd (no_call same hash name m known s whole old new i lists before after told under_way leads map j u here)

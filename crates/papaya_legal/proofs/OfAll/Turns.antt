@@ -60,7 +60,7 @@ all_back (y ∷ ys) = flat_map-cons thing_back (Reclaimed y) (map Reclaimed ys) 
 
 -- a block that is not the first one is among the others
 among_rest : (d b : ℕ) (xs : List ℕ) → d ≢ b → 0 < times d (b ∷ xs) → 0 < times d xs
-among_rest d b xs ne l = subst (λ (q : Bool). 0 < (if q then 1 else 0) + times d xs) (ne_eqb d b ne) l
+among_rest d b xs ne l = (let more : 0 < 0 + times d xs = subst (λ (q : Bool). 0 < (if q then 1 else 0) + times d xs) (ne_eqb d b ne) l in omega (arith, more))
 
 module _ {K V : Type 0} (v : Moment K V) (n : ℕ) where
   abbrev IsLeftAfter : Role → Type 0
@@ -252,8 +252,7 @@ module _ {K V S : Type 0} (same : K → K → Bool) (hash : K → ℕ) (name : �
 
       by : HasTurned → IsBehind
       by (inl (none, same_lists, taken)) =
-          let had = left n (over_by [] (none_gone known x none)) in
-          (
+          let had = left n (over_by [] (none_gone known x none)) in (
             had.0,
             noted_still same hash name m known s whole kept old new i lists before after told under_way leads none had.0 ∙ had.1,
             subst (λ (ls : ℕ → List ℕ). 0 < times had.0 (all_lists ls roots)) (sym same_lists) had.2,

@@ -73,10 +73,10 @@ pub returns-clause-quiet : goal.returns-clause-quiet
 returns-clause-quiet g c = tt
 
 pub returns-in_default-clause-works : goal.returns-in_default-clause-works
-returns-in_default-clause-works g c = (refl, inl (Busy, c.busy.ensures.outcome, c.busy.ensures.effects, refl))
+returns-in_default-clause-works g c = (refl, inl (Busy, c.busy.ensures.outcome, (c.busy.ensures.effects, refl)))
 
 pub returns-then-are_on-clause-works : goal.returns-then-are_on-clause-works
-returns-then-are_on-clause-works g c = (refl, inl (Busy, c.busy-then-are_on.ensures.outcome, c.busy-then-are_on.ensures.effects, refl))
+returns-then-are_on-clause-works g c = (refl, inl (Busy, c.busy-then-are_on.ensures.outcome, (c.busy-then-are_on.ensures.effects, refl)))
 
 pub returns-clause-works : goal.returns-clause-works
 returns-clause-works g c = (

@@ -85,13 +85,13 @@ pub returns-in_ok-push-in-Done-clause-given : goal.returns-in_ok-push-in-Done-cl
 returns-in_ok-push-in-Done-clause-given g c = stays_on c.args.scheduler.now.logged.executor c.begin_making.new.self.executor c.run_making.new.self.executor c.begin_making.ensures.given c.run_making.ensures.given
 
 pub returns-in-Err-clause-numbers : goal.returns-in-Err-clause-numbers
-returns-in-Err-clause-numbers g c = ap (λ (o : Outcome g.V). numbers_made o (length c.args.scheduler.now.logged.executor.maps.items)) (sym c.quietly.ensures.outcome)
+returns-in-Err-clause-numbers g c = ap (λ (o : Outcome g.row.V.Denot). numbers_made o (length c.args.scheduler.now.logged.executor.maps.items)) (sym c.quietly.ensures.outcome)
 
 pub returns-then-not-may_make-clause-numbers : goal.returns-then-not-may_make-clause-numbers
-returns-then-not-may_make-clause-numbers g c = ap (λ (o : Outcome g.V). numbers_made o (length c.args.scheduler.now.logged.executor.maps.items)) (sym c.busy.ensures.outcome)
+returns-then-not-may_make-clause-numbers g c = ap (λ (o : Outcome g.row.V.Denot). numbers_made o (length c.args.scheduler.now.logged.executor.maps.items)) (sym c.busy.ensures.outcome)
 
 pub returns-then-scheduler-eq0-clause-numbers : goal.returns-then-scheduler-eq0-clause-numbers
-returns-then-scheduler-eq0-clause-numbers g c = ap (λ (o : Outcome g.V). numbers_made o (length c.args.scheduler.now.logged.executor.maps.items)) (sym c.quietly-then-scheduler-eq0.ensures.outcome)
+returns-then-scheduler-eq0-clause-numbers g c = ap (λ (o : Outcome g.row.V.Denot). numbers_made o (length c.args.scheduler.now.logged.executor.maps.items)) (sym c.quietly-then-scheduler-eq0.ensures.outcome)
 
 pub returns-in-Refused-clause-numbers : goal.returns-in-Refused-clause-numbers
 returns-in-Refused-clause-numbers g c =
@@ -126,13 +126,13 @@ returns-in-Refused-clause-quiet g c =
     (subst (λ (x : Progress Setting). MakingFinds c.in_ok-caller.caller c.len-number.result x c.no_effects-effects.result.items c.run_making.new.effects.items c.begin_making.new.self c.run_making.new.self) c.in-Refused.is c.in_ok-told.ensures.finds)
 
 pub returns-in-Err-clause-works : goal.returns-in-Err-clause-works
-returns-in-Err-clause-works g c = (refl, inl (c.in-Err.fault, c.quietly.ensures.outcome, c.quietly.ensures.effects, refl))
+returns-in-Err-clause-works g c = (refl, inl (c.in-Err.fault, c.quietly.ensures.outcome, (c.quietly.ensures.effects, refl)))
 
 pub returns-then-not-may_make-clause-works : goal.returns-then-not-may_make-clause-works
-returns-then-not-may_make-clause-works g c = (refl, inl (Busy, c.busy.ensures.outcome, c.busy.ensures.effects, refl))
+returns-then-not-may_make-clause-works g c = (refl, inl (Busy, c.busy.ensures.outcome, (c.busy.ensures.effects, refl)))
 
 pub returns-then-scheduler-eq0-clause-works : goal.returns-then-scheduler-eq0-clause-works
-returns-then-scheduler-eq0-clause-works g c = (refl, inl (RootsUsedUp, c.quietly-then-scheduler-eq0.ensures.outcome, c.quietly-then-scheduler-eq0.ensures.effects, refl))
+returns-then-scheduler-eq0-clause-works g c = (refl, inl (RootsUsedUp, c.quietly-then-scheduler-eq0.ensures.outcome, (c.quietly-then-scheduler-eq0.ensures.effects, refl)))
 
 pub returns-in-Refused-clause-works : goal.returns-in-Refused-clause-works
 returns-in-Refused-clause-works g c = (refl, inr (inl (c.in-Refused.fault, refl)))

@@ -3,7 +3,7 @@ use Rattle.std.proofs.Common.{[], refl, ap, sym, ◌∙◌}
 use Rattle.seize_words.specs.declared.fault.Fault.TheVariants.{Busy}
 use Rattle.papaya_schedules.specs.After.{moment}
 use Rattle.papaya_schedules.specs.declared.event.Event.TheVariants.{ReclaimAll}
-use Rattle.papaya_schedules.specs.declared.outcome.Outcome.TheVariants.{Refused}
+use Rattle.papaya_schedules.specs.declared.outcome.Outcome.TheVariants.{Done, Refused}
 use Rattle.papaya_scheduler.proofs.Busy.{none_quiet}
 use Rattle.papaya_mapping.proofs.AllWorks.{did_all, did_wait}
 use Rattle.papaya_scheduler.proofs.Backs.{all_came, none_came}
@@ -59,5 +59,5 @@ returns-then-not-are_gone-clause-works g c = did_wait c.args.scheduler.now c.bus
 
 pub returns-clause-works : goal.returns-clause-works
 returns-clause-works g c =
-    did_all c.args.scheduler.now _ c.give_all_back.new.scheduler (ap (λ p. p.calls) c.in_ok-give_all_back.ensures.rest) refl (sym c.are_gone.ensures ∙ c.if-not-are_gone.false) c.no_effects-effects.result.items
+    did_all c.args.scheduler.now (record { outcome = Done; steps = 0; effects = c.give_all_back.new.effects }) c.give_all_back.new.scheduler (ap (λ p. p.calls) c.in_ok-give_all_back.ensures.rest) refl (sym c.are_gone.ensures ∙ c.if-not-are_gone.false) c.no_effects-effects.result.items
     c.give_all_back.new.effects.items c.no_effects-effects.ensures refl c.give_all_back.new.scheduler.logged refl c.in_ok-give_all_back.ensures.gone

@@ -85,6 +85,7 @@ returns-in-ReclaimAll-clause-count g c = counts_still c.args.event c.reclaim_all
 
 pub returns-in-Close-clause-count : goal.returns-in-Close-clause-count
 returns-in-Close-clause-count g c = counts_still c.args.event c.close.result (length c.args.scheduler.now.logged.executor.maps.items) (length c.close.new.scheduler.logged.executor.maps.items) (λ n mode k made. (let two = sym c.in-Close.is ∙ made in cc two)) c.close.ensures.given.3
+
 pub returns-in-MakeMap-clause-rows : goal.returns-in-MakeMap-clause-rows
 returns-in-MakeMap-clause-rows g c = makings_keep g.K.PartialEq.eq (g.S.Hashes.hash c.args.scheduler.now.logged.executor.hasher) c.args.event _ _ _ c.in-MakeMap.is c.args.scheduler.now c.make_map.new.scheduler c.make_map.result c.make_map.ensures.works
 

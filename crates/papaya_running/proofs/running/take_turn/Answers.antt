@@ -1,6 +1,6 @@
 -- One event of a schedule happens, and is written down.
 use Rattle.std.specs.Prelude.{◌==◌, length, if◌then◌else◌}
-use Rattle.std.proofs.Common.{◌≡◌, ℕ, List, [], ◌∷◌, ◌++◌, refl, sym, ap, subst, ◌∙◌}
+use Rattle.std.proofs.Common.{◌≡◌, ℕ, List, [], ◌∷◌, ◌++◌, sym, ap, subst, ◌∙◌}
 use Rattle.papaya_runs.specs.declared.outcome.Single.TheVariants as single
 use Rattle.papaya_schedules.specs.declared.effect.Effect.{Effect}
 use Rattle.papaya_schedules.specs.After.{moment}

@@ -48,19 +48,19 @@ returns-else-branch-clause-quiet g c = none_quiet c.busy.result.outcome c.busy.r
 pub returns-then-branch-clause-began : goal.returns-then-branch-clause-began
 returns-then-branch-clause-began g c =
     λ terms m stands. (
-    true,
-    subst (λ (b : Bool). BeginsSo g.K.PartialEq.eq (g.S.Hashes.hash c.args.self.now.logged.executor.hasher) terms m c.args.caller c.args.guard c.args.map.now c.args.call b c.args.self.now c.begins.new.self)
-    c.if-branch.true (c.in_ok-begins.ensures.begins terms m stands),
-    c.quietly.ensures.effects,
-    c.quietly.ensures.outcome,
+      true,
+      subst (λ (b : Bool). BeginsSo g.K.PartialEq.eq (g.S.Hashes.hash c.args.self.now.logged.executor.hasher) terms m c.args.caller c.args.guard c.args.map.now c.args.call b c.args.self.now c.begins.new.self)
+          c.if-branch.true (c.in_ok-begins.ensures.begins terms m stands),
+      c.quietly.ensures.effects,
+      c.quietly.ensures.outcome,
     )
 
 pub returns-else-branch-clause-began : goal.returns-else-branch-clause-began
 returns-else-branch-clause-began g c =
     λ terms m stands. (
-    false,
-    subst (λ (b : Bool). BeginsSo g.K.PartialEq.eq (g.S.Hashes.hash c.args.self.now.logged.executor.hasher) terms m c.args.caller c.args.guard c.args.map.now c.args.call b c.args.self.now c.begins.new.self)
-    c.if-branch.false (c.in_ok-begins.ensures.begins terms m stands),
-    c.busy.ensures.effects,
-    c.busy.ensures.outcome,
+      false,
+      subst (λ (b : Bool). BeginsSo g.K.PartialEq.eq (g.S.Hashes.hash c.args.self.now.logged.executor.hasher) terms m c.args.caller c.args.guard c.args.map.now c.args.call b c.args.self.now c.begins.new.self)
+          c.if-branch.false (c.in_ok-begins.ensures.begins terms m stands),
+      c.busy.ensures.effects,
+      c.busy.ensures.outcome,
     )

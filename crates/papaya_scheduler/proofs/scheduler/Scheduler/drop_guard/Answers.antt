@@ -2,7 +2,7 @@
 use Rattle.std.proofs.Common.{[], refl, sym, ap, subst, ◌∙◌}
 use Rattle.seize_words.specs.declared.fault.Fault.TheVariants.{Busy}
 use Rattle.papaya_schedules.specs.declared.event.Event.TheVariants.{DropGuard}
-use Rattle.papaya_schedules.specs.declared.outcome.Outcome.TheVariants.{Refused}
+use Rattle.papaya_schedules.specs.declared.outcome.Outcome.TheVariants.{Done, Refused}
 use Rattle.papaya_executor.specs.OnSlots.{MayBegin}
 use Rattle.papaya_executor.specs.declared.row.SlotCall.{SlotCall}
 use Rattle.papaya_scheduler.proofs.Busy.{none_quiet}
@@ -81,10 +81,12 @@ returns-clause-works g c =
     let free = sym c.slot_of_free.ensures ∙ c.in-Some.is in
     elim c.if-guards_on-eq1.branch [
       | then-guards_on-eq1+in_ok-do_row w ↦
-          did_row (DropGuard c.args.guard.now) c.args.self.now _ c.in-Some.slot free _ (ap (λ p. p.calls) (w.self-is ∙ w.do_row.ensures.rest)) w.leaves_as-called.result
+          did_row (DropGuard c.args.guard.now) c.args.self.now (record { outcome = Done; steps = 0; effects = c.if-guards_on-eq1.effects }) c.in-Some.slot free
+          (record c.if-guards_on-eq1.self { there = c.leave.new.self }) (ap (λ p. p.calls) (w.self-is ∙ w.do_row.ensures.rest)) w.leaves_as-called.result
           (w.leaves_as-called.ensures, sym c.guards_on.ensures ∙ w.if-guards_on-eq1.true) c.no_effects-effects.result.items w.do_row.new.effects.items c.no_effects-effects.ensures
           (ap (λ v. v.items) w.effects-is) w.do_row.new.self.logged (ap (λ p. p.logged) w.self-is) (λ said. refl) w.in_ok-do_row.ensures.ran
       | else-guards_on-eq1 w ↦
-          did_none (DropGuard c.args.guard.now) c.args.self.now _ c.in-Some.slot free _ (ap (λ p. p.calls) w.self-is) refl (λ z. w.if-guards_on-eq1.false (c.guards_on.ensures ∙ z))
+          did_none (DropGuard c.args.guard.now) c.args.self.now (record { outcome = Done; steps = 0; effects = c.if-guards_on-eq1.effects }) c.in-Some.slot free
+          (record c.if-guards_on-eq1.self { there = c.leave.new.self }) (ap (λ p. p.calls) w.self-is) refl (λ z. w.if-guards_on-eq1.false (c.guards_on.ensures ∙ z))
           (ap (λ v. v.items) w.effects-is ∙ c.no_effects-effects.ensures) (ap (λ p. p.logged) w.self-is)
     ]

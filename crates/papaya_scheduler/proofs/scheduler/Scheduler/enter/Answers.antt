@@ -3,7 +3,7 @@ use Rattle.std.proofs.Common.{[], refl, sym, ap, ◌∙◌, arith}
 use Rattle.std.proofs.lemmas.Bool.{lt-ltb}
 use Rattle.seize_words.specs.declared.fault.Fault.TheVariants.{Busy, GuardsFull}
 use Rattle.papaya_schedules.specs.declared.event.Event.TheVariants.{Enter}
-use Rattle.papaya_schedules.specs.declared.outcome.Outcome.TheVariants.{Refused}
+use Rattle.papaya_schedules.specs.declared.outcome.Outcome.TheVariants.{Done, Refused}
 use Rattle.papaya_scheduler.proofs.Busy.{none_quiet}
 use Rattle.papaya_scheduler.proofs.Backs.{came_as, none_came, stayed_as}
 use Rattle.papaya_scheduler.proofs.Enters.{guard_there, no_registration, full, may_enter, fits, joined, joined_first}
@@ -120,13 +120,14 @@ returns-then-guards-ge-MOST_GUARDS-clause-works g c = did_refuse (Enter c.args.g
 
 pub returns-clause-works : goal.returns-clause-works
 returns-clause-works g c =
-    let about = (sym c.has_guard.ensures ∙ c.if-has_guard.false, sym c.slot_of_registration.ensures ∙ c.in-Some.is) in
     elim c.if-guards-eq0.branch [
       | then-guards-eq0+in_ok-do_row w ↦
-          did_row (Enter c.args.guard c.args.registration.now) c.args.self.now _ c.in-Some.slot about _ (ap (λ p. p.calls) (w.self-is ∙ w.do_row.ensures.rest)) call.Enter
+          did_row (Enter c.args.guard c.args.registration.now) c.args.self.now (record { outcome = Done; steps = 0; effects = c.if-guards-eq0.effects }) c.in-Some.slot (sym c.has_guard.ensures ∙ c.if-has_guard.false, sym c.slot_of_registration.ensures ∙ c.in-Some.is)
+          (record c.if-guards-eq0.self { there = c.enter.new.self }) (ap (λ p. p.calls) (w.self-is ∙ w.do_row.ensures.rest)) call.Enter
           (refl, sym c.guards_on-guards.ensures ∙ w.if-guards-eq0.true) c.no_effects-effects.result.items w.do_row.new.effects.items c.no_effects-effects.ensures (ap (λ v. v.items) w.effects-is)
           w.do_row.new.self.logged (ap (λ p. p.logged) w.self-is) (λ said. refl) w.in_ok-do_row.ensures.ran
       | else-guards-eq0 w ↦
-          did_none (Enter c.args.guard c.args.registration.now) c.args.self.now _ c.in-Some.slot about _ (ap (λ p. p.calls) w.self-is) refl (λ z. w.if-guards-eq0.false (c.guards_on-guards.ensures ∙ z))
+          did_none (Enter c.args.guard c.args.registration.now) c.args.self.now (record { outcome = Done; steps = 0; effects = c.if-guards-eq0.effects }) c.in-Some.slot (sym c.has_guard.ensures ∙ c.if-has_guard.false, sym c.slot_of_registration.ensures ∙ c.in-Some.is)
+          (record c.if-guards-eq0.self { there = c.enter.new.self }) (ap (λ p. p.calls) w.self-is) refl (λ z. w.if-guards-eq0.false (c.guards_on-guards.ensures ∙ z))
           (ap (λ v. v.items) w.effects-is ∙ c.no_effects-effects.ensures) (ap (λ p. p.logged) w.self-is)
     ]

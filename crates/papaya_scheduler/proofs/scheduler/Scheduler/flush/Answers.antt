@@ -3,7 +3,7 @@ use Rattle.std.proofs.Common.{[], refl, sym, ap, ◌∙◌}
 use Rattle.seize_words.specs.declared.fault.Fault.TheVariants.{Busy}
 use Rattle.papaya_schedules.specs.declared.event.Event.TheVariants.{Flush}
 use Rattle.papaya_schedules.specs.After.{moment}
-use Rattle.papaya_schedules.specs.declared.outcome.Outcome.TheVariants.{Refused}
+use Rattle.papaya_schedules.specs.declared.outcome.Outcome.TheVariants.{Done, Refused}
 use Rattle.papaya_scheduler.proofs.Busy.{none_quiet}
 use Rattle.papaya_scheduler.proofs.Backs.{came, none_came}
 use Rattle.papaya_scheduler.proofs.Flushes.{not_living, its_word, is_held_now, may_flush, its_fits, has_run}
@@ -75,6 +75,6 @@ returns-then-is_held-clause-works g c = did_refuse (Flush c.args.guard.now) c.ar
 
 pub returns-clause-works : goal.returns-clause-works
 returns-clause-works g c =
-    did_row (Flush c.args.guard.now) c.args.self.now _ c.in-Some.slot (sym c.slot_of_living.ensures ∙ c.in-Some.is) c.do_row.new.self (ap (λ p. p.calls) c.do_row.ensures.rest) call.Flush
+    did_row (Flush c.args.guard.now) c.args.self.now (record { outcome = Done; steps = 0; effects = c.do_row.new.effects }) c.in-Some.slot (sym c.slot_of_living.ensures ∙ c.in-Some.is) c.do_row.new.self (ap (λ p. p.calls) c.do_row.ensures.rest) call.Flush
     (refl, λ word is. sym c.if-is_held.false ∙ c.is_held.ensures word is)
     c.no_effects-effects.result.items c.do_row.new.effects.items c.no_effects-effects.ensures refl c.do_row.new.self.logged refl (λ said. refl) c.in_ok-do_row.ensures.ran

@@ -2,7 +2,7 @@
 use Rattle.std.proofs.Common.{true, [], refl, sym, ap, ◌∙◌}
 use Rattle.seize_words.specs.declared.fault.Fault.TheVariants.{Busy}
 use Rattle.papaya_schedules.specs.declared.event.Event.TheVariants.{Own}
-use Rattle.papaya_schedules.specs.declared.outcome.Outcome.TheVariants.{Refused}
+use Rattle.papaya_schedules.specs.declared.outcome.Outcome.TheVariants.{Refused, Slot}
 use Rattle.papaya_scheduler.proofs.Busy.{none_quiet}
 use Rattle.papaya_scheduler.proofs.Backs.{came, none_came}
 use Rattle.papaya_scheduler.proofs.Owns.{joined_refused, joined_slot, name_taken, refused_quiet}
@@ -63,12 +63,13 @@ returns-then-has_guard-clause-works g c = did_refuse (Own c.args.guard) c.args.s
 
 pub returns-in-Err-clause-works : goal.returns-in-Err-clause-works
 returns-in-Err-clause-works g c =
-    did_told (Own c.args.guard) c.args.self.now _ 0 (refl, sym c.has_guard.ensures ∙ c.if-has_guard.false) c.take_slot.new.self (ap (λ p. p.calls) c.take_slot.ensures.rest) (call.Register true) refl
+    did_told (Own c.args.guard) c.args.self.now (record { outcome = Refused c.in-Err.fault; steps = 0; effects = c.take_slot.new.effects }) 0 (refl, sym c.has_guard.ensures ∙ c.if-has_guard.false) c.take_slot.new.self (ap (λ p. p.calls) c.take_slot.ensures.rest) (call.Register true) refl
     c.no_effects-effects.result.items c.take_slot.new.effects.items c.no_effects-effects.ensures refl c.take_slot.new.self.logged refl (told_as c.in_ok-taken.taken)
     (sym (ap (λ r. told_so (told_as r)) c.in-Err.is)) c.in_ok-taken.ensures.taken
 
 pub returns-in_ok-enter-in-Ok-clause-works : goal.returns-in_ok-enter-in-Ok-clause-works
 returns-in_ok-enter-in-Ok-clause-works g c =
-    did_told (Own c.args.guard) c.args.self.now _ 0 (refl, sym c.has_guard.ensures ∙ c.if-has_guard.false) _ (ap (λ p. p.calls) c.take_slot.ensures.rest) (call.Register true) refl
+    did_told (Own c.args.guard) c.args.self.now (record { outcome = Slot c.in-Ok.slot; steps = 0; effects = c.take_slot.new.effects }) 0 (refl, sym c.has_guard.ensures ∙ c.if-has_guard.false)
+    (record c.take_slot.new.self { there = c.enter.new.self }) (ap (λ p. p.calls) c.take_slot.ensures.rest) (call.Register true) refl
     c.no_effects-effects.result.items c.take_slot.new.effects.items c.no_effects-effects.ensures refl c.take_slot.new.self.logged refl (told_as c.in_ok-taken.taken)
     (sym (ap (λ r. told_so (told_as r)) c.in-Ok.is)) c.in_ok-taken.ensures.taken

@@ -3,7 +3,7 @@ use Rattle.std.specs.Prelude.{[], is_some}
 use Rattle.std.proofs.Common.{false, refl, sym, ap, ◌∙◌}
 use Rattle.seize_words.specs.declared.fault.Fault.TheVariants.{Busy}
 use Rattle.papaya_schedules.specs.declared.event.Event.TheVariants.{Register}
-use Rattle.papaya_schedules.specs.declared.outcome.Outcome.TheVariants.{Refused}
+use Rattle.papaya_schedules.specs.declared.outcome.Outcome.TheVariants.{Refused, Slot}
 use Rattle.papaya_scheduler.proofs.Busy.{none_quiet}
 use Rattle.papaya_scheduler.proofs.Backs.{came, none_came}
 use Rattle.papaya_scheduler.proofs.Registers.{joined_refused, joined_slot, name_taken, refused_quiet}
@@ -64,12 +64,14 @@ returns-then-is_some-clause-works g c = did_refuse (Register c.args.registration
 
 pub returns-in-Err-clause-works : goal.returns-in-Err-clause-works
 returns-in-Err-clause-works g c =
-    did_told (Register c.args.registration) c.args.self.now _ 0 (refl, sym (ap is_some c.slot_of_registration.ensures) ∙ sym c.if-is_some.ensures) c.take_slot.new.self (ap (λ p. p.calls) c.take_slot.ensures.rest) (call.Register false) refl
+    did_told (Register c.args.registration) c.args.self.now (record { outcome = Refused c.in-Err.fault; steps = 0; effects = c.take_slot.new.effects }) 0
+    (refl, sym (ap is_some c.slot_of_registration.ensures) ∙ sym c.if-is_some.ensures) c.take_slot.new.self (ap (λ p. p.calls) c.take_slot.ensures.rest) (call.Register false) refl
     c.no_effects-effects.result.items c.take_slot.new.effects.items c.no_effects-effects.ensures refl c.take_slot.new.self.logged refl (told_as c.in_ok-taken.taken)
     (sym (ap (λ r. told_so (told_as r)) c.in-Err.is)) c.in_ok-taken.ensures.taken
 
 pub returns-in_ok-register-in-Ok-clause-works : goal.returns-in_ok-register-in-Ok-clause-works
 returns-in_ok-register-in-Ok-clause-works g c =
-    did_told (Register c.args.registration) c.args.self.now _ 0 (refl, sym (ap is_some c.slot_of_registration.ensures) ∙ sym c.if-is_some.ensures) _ (ap (λ p. p.calls) c.take_slot.ensures.rest) (call.Register false) refl
+    did_told (Register c.args.registration) c.args.self.now (record { outcome = Slot c.in-Ok.slot; steps = 0; effects = c.take_slot.new.effects }) 0
+    (refl, sym (ap is_some c.slot_of_registration.ensures) ∙ sym c.if-is_some.ensures) (record c.take_slot.new.self { there = c.register.new.self }) (ap (λ p. p.calls) c.take_slot.ensures.rest) (call.Register false) refl
     c.no_effects-effects.result.items c.take_slot.new.effects.items c.no_effects-effects.ensures refl c.take_slot.new.self.logged refl (told_as c.in_ok-taken.taken)
     (sym (ap (λ r. told_so (told_as r)) c.in-Ok.is)) c.in_ok-taken.ensures.taken

@@ -2,7 +2,7 @@
 use Rattle.std.proofs.Common.{[], refl, sym, ap, ◌∙◌}
 use Rattle.seize_words.specs.declared.fault.Fault.TheVariants.{Busy}
 use Rattle.papaya_schedules.specs.declared.event.Event.TheVariants.{Unregister}
-use Rattle.papaya_schedules.specs.declared.outcome.Outcome.TheVariants.{Refused}
+use Rattle.papaya_schedules.specs.declared.outcome.Outcome.TheVariants.{Done, Refused}
 use Rattle.papaya_scheduler.proofs.Busy.{none_quiet}
 use Rattle.papaya_scheduler.proofs.Backs.{came_as, none_came, stayed_as}
 use Rattle.papaya_scheduler.proofs.Unregisters.{not_registered, guards_live, may_free, fits, joined, joined_last}
@@ -85,13 +85,14 @@ returns-in_default-clause-works g c = did_refuse (Unregister c.args.registration
 
 pub returns-clause-works : goal.returns-clause-works
 returns-clause-works g c =
-    let about = (sym c.slot_of_registration.ensures ∙ c.in-Some.is, eq-eqb _ _ (sym c.living_on.ensures ∙ c.if-living_on-eq0.true)) in
     elim c.if-guards_on-eq0.branch [
       | then-guards_on-eq0+in_ok-do_row w ↦
-          did_row (Unregister c.args.registration.now) c.args.self.now _ c.in-Some.slot about _ (ap (λ p. p.calls) (w.self-is ∙ w.do_row.ensures.rest)) call.Unregister
+          did_row (Unregister c.args.registration.now) c.args.self.now (record { outcome = Done; steps = 0; effects = c.if-guards_on-eq0.effects }) c.in-Some.slot (sym c.slot_of_registration.ensures ∙ c.in-Some.is, eq-eqb _ _ (sym c.living_on.ensures ∙ c.if-living_on-eq0.true))
+          (record c.if-guards_on-eq0.self { there = c.unregister.new.self }) (ap (λ p. p.calls) (w.self-is ∙ w.do_row.ensures.rest)) call.Unregister
           (refl, sym c.guards_on.ensures ∙ w.if-guards_on-eq0.true) c.no_effects-effects.result.items w.do_row.new.effects.items c.no_effects-effects.ensures (ap (λ v. v.items) w.effects-is)
           w.do_row.new.self.logged (ap (λ p. p.logged) w.self-is) (λ said. refl) w.in_ok-do_row.ensures.ran
       | else-guards_on-eq0 w ↦
-          did_none (Unregister c.args.registration.now) c.args.self.now _ c.in-Some.slot about _ (ap (λ p. p.calls) w.self-is) refl (λ z. w.if-guards_on-eq0.false (c.guards_on.ensures ∙ z))
+          did_none (Unregister c.args.registration.now) c.args.self.now (record { outcome = Done; steps = 0; effects = c.if-guards_on-eq0.effects }) c.in-Some.slot (sym c.slot_of_registration.ensures ∙ c.in-Some.is, eq-eqb _ _ (sym c.living_on.ensures ∙ c.if-living_on-eq0.true))
+          (record c.if-guards_on-eq0.self { there = c.unregister.new.self }) (ap (λ p. p.calls) w.self-is) refl (λ z. w.if-guards_on-eq0.false (c.guards_on.ensures ∙ z))
           (ap (λ v. v.items) w.effects-is ∙ c.no_effects-effects.ensures) (ap (λ p. p.logged) w.self-is)
     ]
