@@ -28,7 +28,8 @@ module _ {K V S : Type 0} where
   not_begun (event.MakeMap own mode capacity) _ effects old new never = tt
   not_begun _ outcome effects old new never = tt
 
-  -- one that reclaims all finds what it must to come to what is right
+-- one that reclaims all finds what it must to come to what is right
+module _ {K V : Type 0} where
   all_right : (its : Event K V) → gives_all its ≡ true → (terms : Terms) (log : List (Entry K V)) (e : Entry K V) → FindsBy terms log e its
   all_right event.ReclaimAll all terms log e = tt
   all_right event.Close all terms log e = tt

@@ -147,7 +147,7 @@ module _ {K V S : Type 0} (same : K → K → Bool) (hash : K → ℕ) (s : Scen
   made_maps (progress.Refused fault) leads setting is n = absurd (cc is)
   made_maps (progress.Done answer) leads setting is n = by (cases_eq n b.map)
     where
-      abbrev c : (standing : Standing K) × IsMade V same same old.batch_size old.roots slot_of b answer standing
+      c : (standing : Standing K) × IsMade V same same old.batch_size old.roots slot_of b answer standing
           × IsAt same hash new (record s { world = (leads b here).2.step.w2; maps = with_at s.maps b.map (Some standing); makers = with_at s.makers i None })
       c = (leads b here).3
 

@@ -52,35 +52,30 @@ module _ {K V : Type 0} (own : List ℕ) (d : Caller V) where
   none_far : (xs : List (CallThere K V)) (ys : List (Caller V)) → map seen xs ≡ map seen_of ys → length (filter (is_named own) ys) ≤ 0 → AllByRecursion IsFar xs
   none_far [] ys alike none = tt
   none_far (x ∷ xs) [] alike none = absurd (cc alike)
-  none_far (x ∷ xs) (y ∷ ys) alike none = by (is_named own y) refl none
+  none_far (x ∷ xs) (y ∷ ys) alike none = by (is_named own y) refl none (none_far xs ys (heads x xs y ys alike).1)
     where
-      two : (seen x ≡ seen_of y) × (map seen xs ≡ map seen_of ys)
-      two = heads x xs y ys alike
+      first : seen x ≡ seen_of y
+      first = (heads x xs y ys alike).0
 
-      by : (q : Bool) → is_named own y ≡ q → length (cond q (y ∷ filter (is_named own) ys) (filter (is_named own) ys)) ≤ 0 → AllByRecursion IsFar (x ∷ xs)
-      by true is few = absurd (omega (arith, few))
-      by false is few = (
-        λ its. absurd (let named = ap (λ (z : Seen). is_same z.name own) two.0 in cc (its, named, is)),
-        none_far xs ys two.1 few,
-      )
+      by : (q : Bool) → is_named own y ≡ q → length (cond q (y ∷ filter (is_named own) ys) (filter (is_named own) ys)) ≤ 0 → (length (filter (is_named own) ys) ≤ 0 → AllByRecursion IsFar xs)
+          → AllByRecursion IsFar (x ∷ xs)
+      by true is few rest = absurd (omega (arith, few))
+      by false is few rest = (λ its. absurd (let named = ap (λ (z : Seen). is_same z.name own) first in cc (its, named, is)), rest few)
 
   all_far : (xs : List (CallThere K V)) (ys : List (Caller V)) → map seen xs ≡ map seen_of ys → length (filter (is_named own) ys) ≤ 1 → find (is_named own) ys ≡ Some d → AllByRecursion IsFar xs
   all_far [] ys alike once found = tt
   all_far (x ∷ xs) [] alike once found = absurd (cc alike)
-  all_far (x ∷ xs) (y ∷ ys) alike once found = by (is_named own y) refl once found
+  all_far (x ∷ xs) (y ∷ ys) alike once found = by (is_named own y) refl once found (all_far xs ys (heads x xs y ys alike).1)
     where
-      two : (seen x ≡ seen_of y) × (map seen xs ≡ map seen_of ys)
-      two = heads x xs y ys alike
+      both : (seen x ≡ seen_of y) × (map seen xs ≡ map seen_of ys)
+      both = heads x xs y ys alike
 
       by : (q : Bool) → is_named own y ≡ q → length (cond q (y ∷ filter (is_named own) ys) (filter (is_named own) ys)) ≤ 1 → cond q (Some y) (find (is_named own) ys) ≡ Some d
-          → AllByRecursion IsFar (x ∷ xs)
-      by true is few there =
+          → (length (filter (is_named own) ys) ≤ 1 → find (is_named own) ys ≡ Some d → AllByRecursion IsFar xs) → AllByRecursion IsFar (x ∷ xs)
+      by true is few there rest =
           let it : y ≡ d = cc there in
-          (λ its. ap (λ (z : Seen). z.far) two.0 ∙ ap (λ (z : Caller V). z.stands) it, none_far xs ys two.1 (omega (arith, few)))
-      by false is few there = (
-        λ its. absurd (let named = ap (λ (z : Seen). is_same z.name own) two.0 in cc (its, named, is)),
-        all_far xs ys two.1 few there,
-      )
+          (λ its. ap (λ (z : Seen). z.far) both.0 ∙ ap (λ (z : Caller V). z.stands) it, none_far xs ys both.1 (omega (arith, few)))
+      by false is few there rest = (λ its. absurd (let named = ap (λ (z : Seen). is_same z.name own) both.0 in cc (its, named, is)), rest few there)
 
 -- a machine whose call shows pairs is ready
 asked_ready : {K V : Type 0} (kind : Kind) (machine : Machine K V K) → IsAsFar kind far.Ready machine → (machine_asked machine).1 ≡ true

@@ -30,7 +30,7 @@ same_call {K} {V} calls map i x y alike n j = by (n == map)
 module _ {K V S : Type 0} (same : K → K → Bool) (hash : K → ℕ) (i : ℕ) (s : Scene K V) (old new : Executor K V S) (at : IsAt same hash old s) (given : KeepsGiven old new)
     (leads : AskLeads same hash i true s old new) where
   -- the sweep goes on to its next place, and all stand together
-  next_at : (map : ℕ) (o : CallOverAll) → s.calls map i ≡ Some (OverAll o) → IsAt same hash new (scene_with map i (OverAll (gone_on o (after_next o.sweep))) s)
+  pub next_at : (map : ℕ) (o : CallOverAll) → s.calls map i ≡ Some (OverAll o) → IsAt same hash new (scene_with map i (OverAll (gone_on o (after_next o.sweep))) s)
   next_at map o here =
       let was = leads map (OverAll o) here in
       let st = standing_is same hash old s at map i (OverAll o) here in

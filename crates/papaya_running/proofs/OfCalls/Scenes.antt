@@ -41,7 +41,7 @@ module _ {K V S : Type 0} (same : K → K → Bool) (hash : K → ℕ) (terms : 
 
   module _ (name : ℕ → List ℕ) (s : Scene K V) (shown : IsShown same hash name m p.logged s) (named : AreNamed name p.calls.items.items) where
     -- a call is under way in one scene just where it is in the other, with the same machine
-    alike : (n j : ℕ) → option_map machine_of (s.calls n j) ≡ option_map machine_of (stands.scene.calls n j)
+    pub alike : (n j : ℕ) → option_map machine_of (s.calls n j) ≡ option_map machine_of (stands.scene.calls n j)
     alike n j = shown.is_at.calls n j ∙ sym (stands.shown.is_at.calls n j)
 
     way_here : (d : Caller V) → name d.number ≡ d.name → IsUnderWay stands.name stands.scene p.there d → IsUnderWay name s p.there d
@@ -49,18 +49,18 @@ module _ {K V S : Type 0} (same : K → K → Bool) (hash : K → ℕ) (terms : 
         let x = both_some machine_of machine_of (s.calls d.map d.number) (stands.scene.calls d.map d.number) (alike d.map d.number) way.0 way.1 in
         (x.0, x.1, its, way.3, subst (λ (machine : Machine K V K). AsFar d machine) (sym x.2) way.4)
 
-    ways : (calls : List (Caller V)) → AreNamed name calls → AllByRecursion (IsUnderWay stands.name stands.scene p.there) calls → AllByRecursion (IsUnderWay name s p.there) calls
+    pub ways : (calls : List (Caller V)) → AreNamed name calls → AllByRecursion (IsUnderWay stands.name stands.scene p.there) calls → AllByRecursion (IsUnderWay name s p.there) calls
     ways [] its all = tt
     ways (d ∷ calls) its all = (way_here d its.0 all.0, ways calls its.1 all.1)
 
     -- and so does a map stand
-    stands_here : (t : NamedMap) → ((standing : Standing K) × (stands.scene.maps t.number ≡ Some standing)) → (standing : Standing K) × (s.maps t.number ≡ Some standing)
+    pub stands_here : (t : NamedMap) → ((standing : Standing K) × (stands.scene.maps t.number ≡ Some standing)) → (standing : Standing K) × (s.maps t.number ≡ Some standing)
     stands_here t st =
         let setting : Standing K → Setting = λ x. x.setting in
         let x = both_some setting setting (s.maps t.number) (stands.scene.maps t.number) (shown.is_at.maps t.number ∙ sym (stands.shown.is_at.maps t.number)) st.0 st.1 in
         (x.0, x.1)
 
-    pub stands_in : StandsFor same hash terms m p
+    abbrev pub stands_in : StandsFor same hash terms m p
     stands_in = record {
       name = name;
       scene = s;

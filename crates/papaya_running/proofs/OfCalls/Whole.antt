@@ -92,7 +92,7 @@ module _ {K V S : Type 0} (same : K → K → Bool) (hash : K → ℕ) (wanted :
   c_is = whole.0
 
   -- the scheduler stands for that moment in the scene in which it has begun
-  mid_in : StandsFor same hash terms (with_call nameless guard call (Some map) m) mid
+  abbrev mid_in : StandsFor same hash terms (with_call nameless guard call (Some map) m) mid
   mid_in =
       stands_in same hash terms (with_call nameless guard call (Some map) m) mid mid_stands names (begun.then_at same hash terms log old runs nameless guard on call mid led)
       (begun.shown_begun same hash terms log old runs nameless guard on call mid led) (begun.named_here same hash terms log old runs nameless guard on call mid led)

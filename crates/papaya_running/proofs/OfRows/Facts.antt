@@ -54,14 +54,14 @@ use Rattle.papaya_scheduler.proofs.Unregisters as unregisters_so
 use Rattle.papaya_scheduler.proofs.Vacancies.{first_is}
 
 -- by how a slot is used it is within a section, or not
-pub inside_by : (use : SlotUse) (v : Use) → IsUsedAs use v → use ≡ used.Inside → IsInside v
-inside_by use v as is = let so = subst (λ (x : SlotUse). IsUsedAs x v) is as in subst (λ (x : Use). IsInside x) (sym so.1) tt
+pub inside_by : (kind : SlotUse) (v : Use) → IsUsedAs kind v → kind ≡ used.Inside → IsInside v
+inside_by kind v fits is = let so = subst (λ (x : SlotUse). IsUsedAs x v) is fits in subst (λ (x : Use). IsInside x) (sym so.1) tt
 
-outside_by : (use : SlotUse) (v : Use) → IsUsedAs use v → use ≡ used.Outside → IsInside v → ⊥
-outside_by use v as is inside = let so = subst (λ (x : SlotUse). IsUsedAs x v) is as in subst (λ (x : Use). IsInside x) so.1 inside
+outside_by : (kind : SlotUse) (v : Use) → IsUsedAs kind v → kind ≡ used.Outside → IsInside v → ⊥
+outside_by kind v fits is inside = let so = subst (λ (x : SlotUse). IsUsedAs x v) is fits in subst (λ (x : Use). IsInside x) so.1 inside
 
-vacant_by : (use : SlotUse) (v : Use) → IsUsedAs use v → use ≡ used.Vacant → IsInside v → ⊥
-vacant_by use v as is inside = let so = subst (λ (x : SlotUse). IsUsedAs x v) is as in subst (λ (x : Use). IsInside x) so inside
+vacant_by : (kind : SlotUse) (v : Use) → IsUsedAs kind v → kind ≡ used.Vacant → IsInside v → ⊥
+vacant_by kind v fits is inside = let so = subst (λ (x : SlotUse). IsUsedAs x v) is fits in subst (λ (x : Use). IsInside x) so inside
 
 module _ {K V S : Type 0} (same : K → K → Bool) (hash : K → ℕ) (terms : Terms) (log : List (Entry K V)) (p : Scheduler K V S) (stands : StandsFor same hash terms (moment log) p) where
   -- A guard that lives is there, on its slot
@@ -119,11 +119,11 @@ module _ {K V S : Type 0} (same : K → K → Bool) (hash : K → ℕ) (terms : 
       led = led_once same hash stands.name m stands.scene p.logged new stands.shown slot call.Enter said [] did ran may tt;
       spares = tt;
       not_busy = λ outcome is. by_done (λ o. is_busy o ≡ false) outcome is refl;
-      is_row = λ w as outcome is. by_done (λ o. IsRowFor (Enter' slot) before w.uses (Enter guard registration) o m) outcome is
+      is_row = λ w fits outcome is. by_done (λ o. IsRowFor (Enter' slot) before w.uses (Enter guard registration) o m) outcome is
           (subst (λ (x : ℕ). IsRowFor (Enter' x) before w.uses (Enter guard registration) Done m) its_slot ((rows w.uses).enters guard registration none_on));
-      inside = λ w as outcome is. by_done (λ o. EndsInside w (Enter guard registration) o m.there) outcome is
+      inside = λ w fits outcome is. by_done (λ o. EndsInside w (Enter guard registration) o m.there) outcome is
           (subst (λ (x : ℕ). IsInside (w.uses x)) (sym its_slot)
-          (inside_by (use_at new.executor slot) (w.uses slot) (as slot) (enters_so.is_within same hash terms log p guard registration due none slot found first said [] did new ran)));
+          (inside_by (use_at new.executor slot) (w.uses slot) (fits slot) (enters_so.is_within same hash terms log p guard registration due none slot found first said [] did new ran)));
     }
       where
         may : MayBegin p.logged.executor slot call.Enter
@@ -148,8 +148,8 @@ module _ {K V S : Type 0} (same : K → K → Bool) (hash : K → ℕ) (terms : 
           led = led_once same hash stands.name m stands.scene p.logged new stands.shown slot call.Unregister said [] did ran may tt;
           spares = tt;
           not_busy = λ outcome is. by_done (λ o. is_busy o ≡ false) outcome is refl;
-          is_row = λ w as outcome is. by_done (λ o. IsRowFor (request_of slot call.Unregister) before w.uses (Unregister registration) o m) outcome is ((rows w.uses).unregisters registration slot);
-          inside = λ w as outcome is. tt;
+          is_row = λ w fits outcome is. by_done (λ o. IsRowFor (request_of slot call.Unregister) before w.uses (Unregister registration) o m) outcome is ((rows w.uses).unregisters registration slot);
+          inside = λ w fits outcome is. tt;
         }
 
   module _ (guard : List ℕ) (turn : is_kept_out terms (Refresh guard) (moment log) ≡ false) where
@@ -166,14 +166,14 @@ module _ {K V S : Type 0} (same : K → K → Bool) (hash : K → ℕ) (terms : 
           led = led_alone same hash stands.name m stands.scene p.logged new stands.shown slot call.Refresh said [] did ran may tt alone;
           spares = nobody same hash terms log p stands guard slot lives one;
           not_busy = λ outcome is. by_done (λ o. is_busy o ≡ false) outcome is refl;
-          is_row = λ w as outcome is. by_done (λ o. IsRowFor (Refresh' slot) before w.uses (Refresh guard) o m) outcome is
+          is_row = λ w fits outcome is. by_done (λ o. IsRowFor (Refresh' slot) before w.uses (Refresh guard) o m) outcome is
               (subst (λ (x : ℕ). IsRowFor (Refresh' x) before w.uses (Refresh guard) Done m) (slot_is same hash terms log p stands guard slot lives) ((rows w.uses).refreshes guard (one_on same hash terms log p stands guard slot lives one)));
-          inside = λ w as outcome is. by_done (λ o. EndsInside w (Refresh guard) o m.there) outcome is
+          inside = λ w fits outcome is. by_done (λ o. EndsInside w (Refresh guard) o m.there) outcome is
               (let g = lives_on (guard_of guard p.there.guards) slot lives in (
                 g.0,
                 ap (λ (x : Present). guard_of guard x.guards) stands.there ∙ g.1,
                 subst (λ (x : ℕ). IsInside (w.uses x)) (sym g.2)
-                (inside_by (use_at new.executor slot) (w.uses slot) (as slot) (refreshes_so.is_within same hash terms log p guard due slot free one said [] did new ran)),
+                    (inside_by (use_at new.executor slot) (w.uses slot) (fits slot) (refreshes_so.is_within same hash terms log p guard due slot free one said [] did new ran)),
               ));
         }
       where
@@ -195,9 +195,9 @@ module _ {K V S : Type 0} (same : K → K → Bool) (hash : K → ℕ) (terms : 
           led = led_alone same hash stands.name m stands.scene p.logged new stands.shown slot (left_as slot p.there) said [] did ran may settles alone;
           spares = spares (has_registration slot p.there.registrations);
           not_busy = λ outcome is. by_done (λ o. is_busy o ≡ false) outcome is refl;
-          is_row = λ w as outcome is. by_done (λ o. IsRowFor (request_of slot (left_as slot p.there)) before w.uses (DropGuard guard) o m) outcome is
+          is_row = λ w fits outcome is. by_done (λ o. IsRowFor (request_of slot (left_as slot p.there)) before w.uses (DropGuard guard) o m) outcome is
               (row w.uses (has_registration slot p.there.registrations));
-          inside = λ w as outcome is. by_done (λ o. EndsInside w (DropGuard guard) o m.there) outcome is tt;
+          inside = λ w fits outcome is. by_done (λ o. EndsInside w (DropGuard guard) o m.there) outcome is tt;
         }
       where
         lives : living_slot (guard_of guard p.there.guards) ≡ Some slot
@@ -226,9 +226,9 @@ module _ {K V S : Type 0} (same : K → K → Bool) (hash : K → ℕ) (terms : 
           led = led_alone same hash stands.name m stands.scene p.logged new stands.shown slot call.Flush said [] did ran may tt alone;
           spares = tt;
           not_busy = λ outcome is. by_done (λ o. is_busy o ≡ false) outcome is refl;
-          is_row = λ w as outcome is. by_done (λ o. IsRowFor (Flush' slot) before w.uses (Flush guard) o m) outcome is
+          is_row = λ w fits outcome is. by_done (λ o. IsRowFor (Flush' slot) before w.uses (Flush guard) o m) outcome is
               (subst (λ (x : ℕ). IsRowFor (Flush' x) before w.uses (Flush guard) Done m) (slot_is same hash terms log p stands guard slot lives) ((rows w.uses).flushes guard));
-          inside = λ w as outcome is. tt;
+          inside = λ w fits outcome is. tt;
         }
 
   abbrev ChangesNone : Bool → (ℕ → Use) → Type 0
@@ -238,24 +238,24 @@ module _ {K V S : Type 0} (same : K → K → Bool) (hash : K → ℕ) (terms : 
   module _ (enters : Bool) (ran : RowRan 0 (call.Register enters) said [] did p.logged new) where
     registered_row : (w : World (Node K V)) → ((t : ℕ) → IsUsedAs (use_at new.executor t) (w.uses t)) → (slot : ℕ) → said ≡ told.Registered slot → enters ≡ false
         → (registration : List ℕ) → IsRowFor (Register' enters) before w.uses (Register registration) (Slot slot) m
-    registered_row w as slot is out registration =
+    registered_row w fits slot is out registration =
         (rows w.uses).registers enters registration slot (first_vacant same hash terms m p stands enters said [] did new ran slot is)
-        (outside_by (use_at new.executor slot) (w.uses slot) (as slot) (used_so same hash terms m p stands enters said [] did new ran slot is ∙ ap use_with out))
+        (outside_by (use_at new.executor slot) (w.uses slot) (fits slot) (used_so same hash terms m p stands enters said [] did new ran slot is ∙ ap use_with out))
 
     owned_row : (w : World (Node K V)) → ((t : ℕ) → IsUsedAs (use_at new.executor t) (w.uses t)) → (slot : ℕ) → said ≡ told.Registered slot → enters ≡ true
         → (guard : List ℕ) → IsRowFor (Register' enters) before w.uses (Own guard) (Slot slot) m × IsInside (w.uses slot)
-    owned_row w as slot is in_it guard =
-        let inside = inside_by (use_at new.executor slot) (w.uses slot) (as slot) (used_so same hash terms m p stands enters said [] did new ran slot is ∙ ap use_with in_it) in
+    owned_row w fits slot is in_it guard =
+        let inside = inside_by (use_at new.executor slot) (w.uses slot) (fits slot) (used_so same hash terms m p stands enters said [] did new ran slot is ∙ ap use_with in_it) in
         ((rows w.uses).owns enters guard slot (first_vacant same hash terms m p stands enters said [] did new ran slot is) inside, inside)
 
     none_changed : (w : World (Node K V)) → ((t : ℕ) → IsUsedAs (use_at new.executor t) (w.uses t)) → (fault : Fault) → said ≡ told.Refused fault → ChangesNone enters w.uses
-    none_changed w as fault is = by (new_slot before) refl
+    none_changed w fits fault is = by (new_slot before) refl
       where
         by : (o : Option ℕ) → new_slot before ≡ o → ChangesNone enters w.uses
         by None none = sym (ap (λ (x : Option ℕ). entered_at x w.uses) none)
         by (Some slot) first =
             (rows w.uses).registers enters [] slot first
-            (vacant_by (use_at new.executor slot) (w.uses slot) (as slot)
+            (vacant_by (use_at new.executor slot) (w.uses slot) (fits slot)
             (use_still same hash terms m p stands enters said [] did new ran fault is slot ∙ (first_is same hash terms m p stands slot first).vacant))
 
     over : work_of new.executor ran.caller ≡ None
@@ -285,16 +285,16 @@ module _ {K V S : Type 0} (same : K → K → Bool) (hash : K → ℕ) (terms : 
     led = led false ran;
     spares = tt;
     not_busy = not_out false ran;
-    is_row = λ w as outcome is. row w as outcome is (told_which false ran);
-    inside = λ w as outcome is. tt;
+    is_row = λ w fits outcome is. row w fits outcome is (told_which false ran);
+    inside = λ w fits outcome is. tt;
   }
     where
       row : (w : World (Node K V)) → ((t : ℕ) → IsUsedAs (use_at new.executor t) (w.uses t)) → (outcome : Outcome V) → outcome ≡ told_so said → Which false ran
           → IsRowFor (Register' false) before w.uses (Register registration) outcome m
-      row w as outcome is (inl (slot, so)) =
-          subst (λ (o : Outcome V). IsRowFor (Register' false) before w.uses (Register registration) o m) (sym (is ∙ ap told_so so)) (registered_row false ran w as slot so refl registration)
-      row w as outcome is (inr (fault, so, why)) =
-          subst (λ (o : Outcome V). IsRowFor (Register' false) before w.uses (Register registration) o m) (sym (is ∙ ap told_so so)) (none_changed false ran w as fault so)
+      row w fits outcome is (inl (slot, so)) =
+          subst (λ (o : Outcome V). IsRowFor (Register' false) before w.uses (Register registration) o m) (sym (is ∙ ap told_so so)) (registered_row false ran w fits slot so refl registration)
+      row w fits outcome is (inr (fault, so, why)) =
+          subst (λ (o : Outcome V). IsRowFor (Register' false) before w.uses (Register registration) o m) (sym (is ∙ ap told_so so)) (none_changed false ran w fits fault so)
 
   own_facts : (guard : List ℕ) → FactsAt (Own guard) 0 (call.Register true)
   own_facts guard ran = record {
@@ -303,20 +303,20 @@ module _ {K V S : Type 0} (same : K → K → Bool) (hash : K → ℕ) (terms : 
     led = led true ran;
     spares = tt;
     not_busy = not_out true ran;
-    is_row = λ w as outcome is. row w as outcome is (told_which true ran);
-    inside = λ w as outcome is. inside w as outcome is (told_which true ran);
+    is_row = λ w fits outcome is. row w fits outcome is (told_which true ran);
+    inside = λ w fits outcome is. inside w fits outcome is (told_which true ran);
   }
     where
       row : (w : World (Node K V)) → ((t : ℕ) → IsUsedAs (use_at new.executor t) (w.uses t)) → (outcome : Outcome V) → outcome ≡ told_so said → Which true ran
           → IsRowFor (Register' true) before w.uses (Own guard) outcome m
-      row w as outcome is (inl (slot, so)) =
-          subst (λ (o : Outcome V). IsRowFor (Register' true) before w.uses (Own guard) o m) (sym (is ∙ ap told_so so)) (owned_row true ran w as slot so refl guard).0
-      row w as outcome is (inr (fault, so, why)) =
-          subst (λ (o : Outcome V). IsRowFor (Register' true) before w.uses (Own guard) o m) (sym (is ∙ ap told_so so)) (none_changed true ran w as fault so)
+      row w fits outcome is (inl (slot, so)) =
+          subst (λ (o : Outcome V). IsRowFor (Register' true) before w.uses (Own guard) o m) (sym (is ∙ ap told_so so)) (owned_row true ran w fits slot so refl guard).0
+      row w fits outcome is (inr (fault, so, why)) =
+          subst (λ (o : Outcome V). IsRowFor (Register' true) before w.uses (Own guard) o m) (sym (is ∙ ap told_so so)) (none_changed true ran w fits fault so)
 
       inside : (w : World (Node K V)) → ((t : ℕ) → IsUsedAs (use_at new.executor t) (w.uses t)) → (outcome : Outcome V) → outcome ≡ told_so said → Which true ran → EndsInside w (Own guard) outcome m.there
-      inside w as outcome is (inl (slot, so)) = subst (λ (o : Outcome V). EndsInside w (Own guard) o m.there) (sym (is ∙ ap told_so so)) (owned_row true ran w as slot so refl guard).1
-      inside w as outcome is (inr (fault, so, why)) = subst (λ (o : Outcome V). EndsInside w (Own guard) o m.there) (sym (is ∙ ap told_so so)) tt
+      inside w fits outcome is (inl (slot, so)) = subst (λ (o : Outcome V). EndsInside w (Own guard) o m.there) (sym (is ∙ ap told_so so)) (owned_row true ran w fits slot so refl guard).1
+      inside w fits outcome is (inr (fault, so, why)) = subst (λ (o : Outcome V). EndsInside w (Own guard) o m.there) (sym (is ∙ ap told_so so)) tt
 
   -- whichever event it is
   pub facts : (event : Event K V) → is_kept_out terms event (moment log) ≡ false → (slot : ℕ) → IsAbout event p slot → (called : SlotCall) → IsItsRow event p slot called → FactsAt event slot called
