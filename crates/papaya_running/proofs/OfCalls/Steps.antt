@@ -76,7 +76,7 @@ module _ {K V S : Type 0} (same : K → K → Bool) (hash : K → ℕ) (wanted :
     pub caller_is : step.caller ≡ come.caller
     caller_is = the step.caller come.caller (sym step.at ∙ come.at)
 
-    leads_at : CallGoesOn same hash name come.now come.scene i map step.said mid after p.logged new.logged
+    pub leads_at : CallGoesOn same hash name come.now come.scene i map step.said mid after p.logged new.logged
     leads_at =
         subst (λ (k : ℕ). CallGoesOn same hash name come.now come.scene i k step.said mid after p.logged new.logged) (ap (λ (x : Caller V). x.map) caller_is ∙ come.on_map)
         (subst (λ (k : ℕ). CallGoesOn same hash name come.now come.scene k step.caller.map step.said mid after p.logged new.logged) (ap (λ (x : Caller V). x.number) caller_is ∙ come.number)
