@@ -3,11 +3,7 @@ use Rattle.std.specs.Prelude.{◌≡◌, ◌≤◌, ℕ, Bool, true, false, cond
 use Rattle.std.specs.List.{AllByRecursion}
 use Rattle.std.proofs.Common.{refl, ap, sym, subst, ◌∙◌, arith}
 use Rattle.papaya_histories.specs.Given.Raw.Machine.{machine_asked}
-use Rattle.papaya_raw.specs.declared.machines.machine.Machine.{Machine}
-use Rattle.papaya_raw.specs.declared.machines.machine.Machine.TheVariants as kinds
-use Rattle.papaya_histories.specs.Given.Raw.Machine.{is_ready}
 use Rattle.papaya_histories.specs.Given.Runs.Same.{is_same}
-use Rattle.papaya_histories.specs.Given.Sweeps.declared.sweep.Sweeping.{Sweeping}
 use Rattle.papaya_histories.specs.Given.Schedules.declared.event.Event.{Event}
 use Rattle.papaya_histories.specs.Given.Schedules.declared.outcome.Outcome.{Outcome}
 use Rattle.papaya_histories.specs.Given.Schedules.declared.outcome.Outcome.TheVariants.{Asks, Ready}
@@ -28,13 +24,13 @@ use Rattle.papaya_named.specs.Seen.{Seen, far_of, is_named, seen, seen_of}
 use Rattle.papaya_named.specs.declared.caller.Caller.{Caller}
 use Rattle.papaya_named.specs.declared.caller.Stands.{Stands as HowFar}
 use Rattle.papaya_named.specs.declared.caller.Stands.TheVariants as far
-use Rattle.papaya_named.specs.declared.kind.Kind.{Kind}
 use Rattle.papaya_scheduler.specs.Played.{IsPlayed, entry_of}
 use Rattle.papaya_scheduler.specs.declared.played.Played.{Played}
 use Rattle.papaya_scheduler.specs.declared.scheduler.Scheduler.{Scheduler}
 use Rattle.papaya_scheduler.proofs.Here.{Here, here_at}
 use Rattle.papaya_scheduler.proofs.Replied.{far_asks}
 use Rattle.papaya_scheduler.proofs.Rights.{entry_is}
+use Rattle.papaya_scheduler.proofs.Stopped.{asked_ready}
 use Rattle.papaya_stepping.specs.Stepping.{SaysAgain}
 use Rattle.papaya_stepping.proofs.Again.{far_ready}
 use Rattle.papaya_running.specs.OfCalls.{Runs, RunsOn}
@@ -76,13 +72,6 @@ module _ {K V : Type 0} (own : List ℕ) (d : Caller V) where
           let it : y ≡ d = cc there in
           (λ its. ap (λ (z : Seen). z.far) both.0 ∙ ap (λ (z : Caller V). z.stands) it, none_far xs ys both.1 (omega (arith, few)))
       by false is few there rest = (λ its. absurd (let named = ap (λ (z : Seen). is_same z.name own) both.0 in cc (its, named, is)), rest few there)
-
--- a machine whose call shows pairs is ready
-asked_ready : {K V : Type 0} (kind : Kind) (machine : Machine K V K) → IsAsFar kind far.Ready machine → (machine_asked machine).1 ≡ true
-asked_ready kind (kinds.Sweep sweep) so = ap (λ (stands : Sweeping). is_ready stands) so.1
-asked_ready kind (kinds.Key p) so = absurd so
-asked_ready kind (kinds.Reserve r) so = absurd so
-asked_ready kind (kinds.Count sum) so = absurd so
 
 module _ {K V S : Type 0} (same : K → K → Bool) (hash : K → ℕ) (terms : Terms) (log : List (Entry K V)) (old : Scheduler K V S) (runs : Runs same hash terms log old) (own : List ℕ) (place : ℕ)
     (placed : Some place ≡ position (is_named own) old.calls.items.items) where

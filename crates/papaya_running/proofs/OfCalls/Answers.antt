@@ -56,6 +56,27 @@ module _ {V : Type 0} where
   never_takes (Some (Aborts w)) b a e = cc e
   never_takes (Some (Decides q)) b a e = cc e
 
+-- the number of a pair by its word
+number_is : (by : Known) (word n : ℕ) → NamesPair by word n → number_by by word ≡ n
+number_is by word n names = ap number_in names
+
+-- what is asked is told by the number of the pair
+question_is : (by : Known) (about question : Option ℕ) → IsToldQuestion by about question → IsToldQuestion by about (option_map (number_by by) about)
+question_is by None None so = tt
+question_is by None (Some n) so = absurd so
+question_is by (Some word) None so = absurd so
+question_is by (Some word) (Some n) so = so ∙ ap role.Pair (sym (number_is by word n so))
+
+module _ {V : Type 0} (by : Known) (word n : ℕ) (names : NamesPair by word n) (a : Answer V) where
+  found_it : answer.Found n ≡ a → a ≡ answer.Found (number_by by word)
+  found_it is = sym is ∙ ap answer.Found (sym (number_is by word n names))
+
+  kept_it : answer.Kept n ≡ a → a ≡ answer.Kept (number_by by word)
+  kept_it is = sym is ∙ ap answer.Kept (sym (number_is by word n names))
+
+  stored_it : answer.Stored n ≡ a → a ≡ answer.Stored (number_by by word)
+  stored_it is = sym is ∙ ap answer.Stored (sym (number_is by word n names))
+
 module _ {K V : Type 0} (by : Known) (value : Option V) (replies : List (Option ℕ × Reply V)) where
   -- what is told of an answer of a call on one key
   abbrev told : OneKey K V → KeyAnswer → Answer V
@@ -64,10 +85,6 @@ module _ {K V : Type 0} (by : Known) (value : Option V) (replies : List (Option 
   -- a value that it tells back is the one that was given
   abbrev Tells : OneKey K V → KeyAnswer → Type 0
   Tells one a = TellsValue (On one) replies (outcome.Answered (told one a))
-
-  -- the number of a pair by its word
-  number_is : (word n : ℕ) → NamesPair by word n → number_by by word ≡ n
-  number_is word n names = ap number_in names
 
   aborts : (about : Option ℕ) (w : V) (a : Answer V) (k : K) (x : Option V) → reply_to about replies ≡ Some (Aborts w) → answer.Aborted w ≡ a
       → TellsValue (On (Compute k)) replies (outcome.Answered (aborted_with x)) → a ≡ aborted_with x
@@ -79,25 +96,16 @@ module _ {K V : Type 0} (by : Known) (value : Option V) (replies : List (Option 
   occupied number v a k (Some x) is tells = sym is ∙ ap (answer.Occupied number) (sym tells)
 
   module _ (word n : ℕ) (names : NamesPair by word n) (a : Answer V) where
-    found_it : answer.Found n ≡ a → a ≡ answer.Found (number_by by word)
-    found_it is = sym is ∙ ap answer.Found (sym (number_is word n names))
-
-    kept_it : answer.Kept n ≡ a → a ≡ answer.Kept (number_by by word)
-    kept_it is = sym is ∙ ap answer.Kept (sym (number_is word n names))
-
-    stored_it : answer.Stored n ≡ a → a ≡ answer.Stored (number_by by word)
-    stored_it is = sym is ∙ ap answer.Stored (sym (number_is word n names))
-
     found_by : (reply : Option (Reply V)) → reply_to (Some n) replies ≡ reply → (one : OneKey K V) → means one reply (Some n) 0 ≡ Answers a Leaves → Tells one (says.Found word) → a ≡ told one (says.Found word)
-    found_by reply is (Get k) e tells = found_it (cc e)
-    found_by reply is (GetKeyValue k) e tells = found_it (cc e)
-    found_by reply is (ContainsKey k) e tells = found_it (cc e)
+    found_by reply is (Get k) e tells = found_it by word n names a (cc e)
+    found_by reply is (GetKeyValue k) e tells = found_it by word n names a (cc e)
+    found_by reply is (ContainsKey k) e tells = found_it by word n names a (cc e)
     found_by reply is (Insert k v) e tells = absurd (cc e)
     found_by reply is (TryInsert k v) e tells =
-        occupied (number_by by word) v a k value (ap (λ (x : ℕ). answer.Occupied x v) (number_is word n names) ∙ (let f : answer.Occupied n v ≡ a = cc e in f)) tells
-    found_by reply is (TryInsertWith k) e tells = kept_it (cc e)
-    found_by reply is (GetOrInsert k v) e tells = found_it (cc e)
-    found_by reply is (GetOrInsertWith k) e tells = found_it (cc e)
+        occupied (number_by by word) v a k value (ap (λ (x : ℕ). answer.Occupied x v) (number_is by word n names) ∙ (let f : answer.Occupied n v ≡ a = cc e in f)) tells
+    found_by reply is (TryInsertWith k) e tells = kept_it by word n names a (cc e)
+    found_by reply is (GetOrInsert k v) e tells = found_it by word n names a (cc e)
+    found_by reply is (GetOrInsertWith k) e tells = found_it by word n names a (cc e)
     found_by reply is (Update k) e tells = absurd (never_leaves reply (answer.Stored 0) a e)
     found_by reply is (UpdateOrInsert k v) e tells = absurd (never_leaves reply (answer.Stored 0) a e)
     found_by reply is (UpdateOrInsertWith k) e tells = absurd (never_leaves reply (answer.Stored 0) a e)
@@ -108,7 +116,7 @@ module _ {K V : Type 0} (by : Known) (value : Option V) (replies : List (Option 
     found_by None is (Compute k) e tells = absurd (cc e)
     found_by reply is (Remove k) e tells = absurd (cc e)
     found_by reply is (RemoveEntry k) e tells = absurd (cc e)
-    found_by (Some (Decides false)) is (RemoveIf k) e tells = kept_it (cc e)
+    found_by (Some (Decides false)) is (RemoveIf k) e tells = kept_it by word n names a (cc e)
     found_by (Some (Decides true)) is (RemoveIf k) e tells = absurd (cc e)
     found_by (Some (Gives w)) is (RemoveIf k) e tells = absurd (cc e)
     found_by (Some Removes) is (RemoveIf k) e tells = absurd (cc e)
@@ -120,14 +128,14 @@ module _ {K V : Type 0} (by : Known) (value : Option V) (replies : List (Option 
     stored_by v reply (GetKeyValue k) e = absurd (cc e)
     stored_by v reply (ContainsKey k) e = absurd (cc e)
     stored_by v reply (Insert k w) e = let f : answer.Absent ≡ a = cc e in sym f
-    stored_by v reply (TryInsert k w) e = stored_it (cc e)
-    stored_by v reply (TryInsertWith k) e = stored_it (sym (puts_is reply (answer.Stored n) a v e))
-    stored_by v reply (GetOrInsert k w) e = stored_it (cc e)
-    stored_by v reply (GetOrInsertWith k) e = stored_it (sym (puts_is reply (answer.Stored n) a v e))
+    stored_by v reply (TryInsert k w) e = stored_it by word n names a (cc e)
+    stored_by v reply (TryInsertWith k) e = stored_it by word n names a (sym (puts_is reply (answer.Stored n) a v e))
+    stored_by v reply (GetOrInsert k w) e = stored_it by word n names a (cc e)
+    stored_by v reply (GetOrInsertWith k) e = stored_it by word n names a (sym (puts_is reply (answer.Stored n) a v e))
     stored_by v reply (Update k) e = absurd (cc e)
-    stored_by v reply (UpdateOrInsert k w) e = stored_it (cc e)
-    stored_by v reply (UpdateOrInsertWith k) e = stored_it (sym (puts_is reply (answer.Stored n) a v e))
-    stored_by v (Some (Gives w)) (Compute k) e = let f : answer.Inserted n ≡ a = cc e in sym f ∙ ap answer.Inserted (sym (number_is word n names))
+    stored_by v reply (UpdateOrInsert k w) e = stored_it by word n names a (cc e)
+    stored_by v reply (UpdateOrInsertWith k) e = stored_it by word n names a (sym (puts_is reply (answer.Stored n) a v e))
+    stored_by v (Some (Gives w)) (Compute k) e = let f : answer.Inserted n ≡ a = cc e in sym f ∙ ap answer.Inserted (sym (number_is by word n names))
     stored_by v (Some Removes) (Compute k) e = absurd (cc e)
     stored_by v (Some (Aborts w)) (Compute k) e = absurd (cc e)
     stored_by v (Some (Decides q)) (Compute k) e = absurd (cc e)
@@ -148,14 +156,14 @@ module _ {K V : Type 0} (by : Known) (value : Option V) (replies : List (Option 
     removed_by reply (Update k) e = absurd (never_takes reply (answer.Stored 0) a e)
     removed_by reply (UpdateOrInsert k v) e = absurd (never_takes reply (answer.Stored 0) a e)
     removed_by reply (UpdateOrInsertWith k) e = absurd (never_takes reply (answer.Stored 0) a e)
-    removed_by (Some Removes) (Compute k) e = let f : answer.Removed n ≡ a = cc e in sym f ∙ ap answer.Removed (sym (number_is word n names))
+    removed_by (Some Removes) (Compute k) e = let f : answer.Removed n ≡ a = cc e in sym f ∙ ap answer.Removed (sym (number_is by word n names))
     removed_by (Some (Gives w)) (Compute k) e = absurd (cc e)
     removed_by (Some (Aborts w)) (Compute k) e = absurd (cc e)
     removed_by (Some (Decides q)) (Compute k) e = absurd (cc e)
     removed_by None (Compute k) e = absurd (cc e)
-    removed_by reply (Remove k) e = found_it (cc e)
-    removed_by reply (RemoveEntry k) e = found_it (cc e)
-    removed_by (Some (Decides true)) (RemoveIf k) e = found_it (cc e)
+    removed_by reply (Remove k) e = found_it by word n names a (cc e)
+    removed_by reply (RemoveEntry k) e = found_it by word n names a (cc e)
+    removed_by (Some (Decides true)) (RemoveIf k) e = found_it by word n names a (cc e)
     removed_by (Some (Decides false)) (RemoveIf k) e = absurd (cc e)
     removed_by (Some (Gives w)) (RemoveIf k) e = absurd (cc e)
     removed_by (Some Removes) (RemoveIf k) e = absurd (cc e)
@@ -184,24 +192,21 @@ module _ {K V : Type 0} (by : Known) (value : Option V) (replies : List (Option 
   absent_by a reply is (RemoveIf k) e tells = let f : answer.Absent ≡ a = cc e in sym f
 
   module _ (old new o n : ℕ) (was : NamesPair by old o) (comes : NamesPair by new n) (a : Answer V) (v : V) where
-    new_it : answer.Stored n ≡ a → a ≡ answer.Stored (number_by by new)
-    new_it is = sym is ∙ ap answer.Stored (sym (number_is new n comes))
-
     replaced_by : (reply : Option (Reply V)) (one : OneKey K V) → means one reply (Some o) n ≡ Answers a (Puts v) → a ≡ told one (says.Replaced old new)
     replaced_by reply (Get k) e = absurd (cc e)
     replaced_by reply (GetKeyValue k) e = absurd (cc e)
     replaced_by reply (ContainsKey k) e = absurd (cc e)
-    replaced_by reply (Insert k w) e = found_it old o was a (cc e)
+    replaced_by reply (Insert k w) e = found_it by old o was a (cc e)
     replaced_by reply (TryInsert k w) e = absurd (cc e)
     replaced_by reply (TryInsertWith k) e = absurd (cc e)
     replaced_by reply (GetOrInsert k w) e = absurd (cc e)
     replaced_by reply (GetOrInsertWith k) e = absurd (cc e)
-    replaced_by reply (Update k) e = new_it (sym (puts_is reply (answer.Stored n) a v e))
-    replaced_by reply (UpdateOrInsert k w) e = new_it (sym (puts_is reply (answer.Stored n) a v e))
-    replaced_by reply (UpdateOrInsertWith k) e = new_it (sym (puts_is reply (answer.Stored n) a v e))
+    replaced_by reply (Update k) e = stored_it by new n comes a (sym (puts_is reply (answer.Stored n) a v e))
+    replaced_by reply (UpdateOrInsert k w) e = stored_it by new n comes a (sym (puts_is reply (answer.Stored n) a v e))
+    replaced_by reply (UpdateOrInsertWith k) e = stored_it by new n comes a (sym (puts_is reply (answer.Stored n) a v e))
     replaced_by (Some (Gives w)) (Compute k) e =
         let f : answer.Updated o n ≡ a = cc e in
-        sym f ∙ ap (λ (x : ℕ). answer.Updated x n) (sym (number_is old o was)) ∙ ap (answer.Updated (number_by by old)) (sym (number_is new n comes))
+        sym f ∙ ap (λ (x : ℕ). answer.Updated x n) (sym (number_is by old o was)) ∙ ap (answer.Updated (number_by by old)) (sym (number_is by new n comes))
     replaced_by (Some Removes) (Compute k) e = absurd (cc e)
     replaced_by (Some (Aborts w)) (Compute k) e = absurd (cc e)
     replaced_by (Some (Decides q)) (Compute k) e = absurd (cc e)
@@ -228,18 +233,11 @@ module _ {K V : Type 0} (by : Known) (value : Option V) (replies : List (Option 
   means_it one (says.Removed word) a (inl so) tells = absurd so
   means_it one (says.Removed word) a (inr (o, names, so)) tells = removed_by word o names a (reply_to (Some o) replies) one (so 0)
 
-  -- what it asks is told by the number of the pair
-  question_is : (about question : Option ℕ) → IsToldQuestion by about question → IsToldQuestion by about (option_map (number_by by) about)
-  question_is None None so = tt
-  question_is None (Some n) so = absurd so
-  question_is (Some word) None so = absurd so
-  question_is (Some word) (Some n) so = so ∙ ap role.Pair (sym (number_is word n so))
-
   key_comes : (one : OneKey K V) (said : Progress (Node K V)) (o : Outcome V) → ComesToIt by one replies said o → TellsValue (On one) replies (outcome_of by (kind_on one) value said)
       → ComesToIt by one replies said (outcome_of by (kind_on one) value said)
   key_comes one (progress.Done (answers.Key it)) (outcome.Answered a) so tells =
       subst (λ (x : Answer V). IsToldAs by one replies it x ⊎ IsToldDone by one replies it x) (means_it one it a so tells) so
-  key_comes one (progress.Asks about) (outcome.Asks question) so tells = question_is about question so
+  key_comes one (progress.Asks about) (outcome.Asks question) so tells = question_is by about question so
   key_comes one progress.Goes o so tells = tt
   key_comes one progress.Waits o so tells = tt
   key_comes one (progress.Gave node) o so tells = tt
@@ -248,7 +246,7 @@ module _ {K V : Type 0} (by : Known) (value : Option V) (replies : List (Option 
   key_comes one _ _ so tells = absurd so
 
   other_comes : (call : Call K V) (said : Progress (Node K V)) (o : Outcome V) → AsksAsSaid by said o → AsksAsSaid by said (outcome_of by (kind_of call) value said)
-  other_comes call (progress.Asks about) (outcome.Asks question) so = question_is about question so
+  other_comes call (progress.Asks about) (outcome.Asks question) so = question_is by about question so
   other_comes call progress.Goes o so = tt
   other_comes call progress.Waits o so = tt
   other_comes call (progress.Gave node) o so = tt

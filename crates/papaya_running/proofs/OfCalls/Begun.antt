@@ -141,7 +141,7 @@ module _ {K V S : Type 0} (same : K → K → Bool) (hash : K → ℕ) (terms : 
 
   pub free_named : NoneNamed names (names i) runs.stands.scene
   free_named n j x here =
-      ap (λ (l : List ℕ). is_same l (names i)) (name_there j (n, x, here)) ∙ ap (λ (l : List ℕ). is_same (runs.stands.name j) l) name_here
+      ap (λ (l : List ℕ). is_same l (names j)) name_here ∙ ap (λ (l : List ℕ). is_same own l) (name_there j (n, x, here))
       ∙ beginning.none_named same hash terms m old runs.stands own led.free n j x here
 
   pub row_here : runs.stands.scene.world.row i ≡ Rests

@@ -95,21 +95,8 @@ module _ {T : Type 0} (defers : T → Option ℕ) (i t : ℕ) where
       let it = one_back (w.row i) w x shared step in
       it.0 (many_back n x v it.1 more h)
 
--- as it began
-module _ {K V : Type 0} (batch_size i t : ℕ) (things : List Thing) (known : Known) (slot : ℕ) where
-  begun_back : (request : Request) (handed : List Change) (w v b : World (Node K V)) → HasToldPart things known slot i request handed w → Begins deferred_word batch_size i request v b
-      → (IsInside (b.uses t) → IsInside (v.uses t)) × IsShared (b.row i)
-  begun_back (Retire s k) handed w v b told begins = (
-    λ h. back_use deferred_word i t v.uses s (one_more (v.uses s)) (more_inside (v.uses s)) (subst (λ (x : World (Node K V)). IsInside (x.uses t)) begins.2 h),
-    subst (λ (x : World (Node K V)). IsShared (x.row i)) (sym begins.2) (subst IsShared (sym (at_same v.row i _ i refl)) tt),
-  )
-  begun_back (Defer' s k f) handed w v b told begins = (
-    λ h. back_use deferred_word i t v.uses s (one_more (v.uses s)) (more_inside (v.uses s)) (subst (λ (x : World (Node K V)). IsInside (x.uses t)) begins.7 h),
-    subst (λ (x : World (Node K V)). IsShared (x.row i)) (sym begins.7) (subst IsShared (sym (at_same v.row i _ i refl)) tt),
-  )
-  begun_back _ handed w v b told begins = absurd told
-
-  -- what it has told leaves active slots so
+-- what is told leaves active slots so
+module _ (batch_size : ℕ) (things : List Thing) (known : Known) where
   retired_active : (s k : ℕ) (handed : List Change) (first : Sets) → ChangesAlike (HasNumber known things) (Retires s k ∷ []) handed → (all_changed batch_size handed first).sets.active ≡ first.active
   retired_active s k [] first alike = absurd alike
   retired_active s k (d ∷ []) first alike =
@@ -122,11 +109,26 @@ module _ {K V : Type 0} (batch_size i t : ℕ) (things : List Thing) (known : Kn
   put_active k f (d ∷ []) first alike = let it = alike.0 in ap (λ (x : Change). (all_changed batch_size (x ∷ []) first).sets.active) it.4
   put_active k f (d ∷ e ∷ l) first alike = absurd alike.1
 
+-- as it began
+module _ {K V : Type 0} (batch_size i t : ℕ) (things : List Thing) (known : Known) (slot : ℕ) where
+  begun_back : (request : Request) (handed : List Change) (w v b : World (Node K V)) → HasToldPart things known slot i request handed w → Begins deferred_word batch_size i request v b
+      → (IsInside (b.uses t) → IsInside (v.uses t)) × IsShared (b.row i)
+  begun_back (Retire s k) handed w v b told begins = (
+    λ h. back_use (deferred_word {K = K} {V = V}) i t v.uses s (one_more (v.uses s)) (more_inside (v.uses s)) (subst (λ (x : World (Node K V)). IsInside (x.uses t)) begins.2 h),
+    subst (λ (x : World (Node K V)). IsShared (x.row i)) (sym begins.2) (subst IsShared (sym (at_same v.row i _ i refl)) tt),
+  )
+  begun_back (Defer' s k f) handed w v b told begins = (
+    λ h. back_use (deferred_word {K = K} {V = V}) i t v.uses s (one_more (v.uses s)) (more_inside (v.uses s)) (subst (λ (x : World (Node K V)). IsInside (x.uses t)) begins.7 h),
+    subst (λ (x : World (Node K V)). IsShared (x.row i)) (sym begins.7) (subst IsShared (sym (at_same v.row i _ i refl)) tt),
+  )
+  begun_back _ handed w v b told begins = absurd told
+
+  -- what it has told leaves active slots so
   active_as : (request : Request) (handed : List Change) (w : World (Node K V)) (first : Sets) → HasToldPart things known slot i request handed w → (all_changed batch_size handed first).sets.active ≡ first.active
   active_as (Retire s k) handed w first (same, has, inl due) = ap (λ (l : List Change). (all_changed batch_size l first).sets.active) due.1
-  active_as (Retire s k) handed w first (same, has, inr (past, alike)) = retired_active slot k handed first alike
+  active_as (Retire s k) handed w first (same, has, inr (past, alike)) = retired_active batch_size things known slot k handed first alike
   active_as (Defer' s k f) handed w first (noted, inl due) = ap (λ (l : List Change). (all_changed batch_size l first).sets.active) due.1
-  active_as (Defer' s k f) handed w first (noted, inr (past, alike)) = put_active k f handed first alike
+  active_as (Defer' s k f) handed w first (noted, inr (past, alike)) = put_active batch_size things known k f handed first alike
   active_as _ handed w first told = absurd told
 
 pub insides_follow_in_rows : (K V : Type 0) → InsidesFollowInRows K V

@@ -26,6 +26,7 @@ use Rattle.papaya_histories.specs.Given.Finishes.Machines.{machine_of}
 use Rattle.papaya_histories.specs.Given.Finishes.Maps.{Standing, with_call as with_call_of}
 use Rattle.papaya_histories.specs.Given.Follows.Calling.{NoneNamed}
 use Rattle.papaya_histories.specs.Given.Hands.Asked.{as_told}
+use Rattle.papaya_histories.proofs.Given.Follows.Calling.{apart_back}
 use Rattle.papaya_histories.proofs.Given.Hands.Asking.{which}
 use Rattle.papaya_histories.specs.Changes.{IsTaken}
 use Rattle.papaya_legal.specs.CallEvents.{IsLegalBut}
@@ -193,7 +194,7 @@ module _ {K V S : Type 0} (same : K → K → Bool) (hash : K → ℕ) (terms : 
 
     -- no other call has its name
     none_named : NoneNamed name (name its.number) after
-    none_named n j x is = by (is_same (name j) (name its.number)) refl
+    none_named n j x is = apart_back (name j) (name its.number) (by (is_same (name j) (name its.number)) refl)
       where
         by : (q : Bool) → is_same (name j) (name its.number) ≡ q → is_same (name j) (name its.number) ≡ false
         by false e = e
