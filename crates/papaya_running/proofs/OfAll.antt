@@ -101,7 +101,7 @@ module _ {K V S : Type 0} (same : K → K → Bool) (hash : K → ℕ) (terms : 
   behind = run.stands.shown.counted.remains.lists
 
   -- all of it may be reclaimed in that scene, and there are as many roots as the terms say
-  gives : MayGiveAll old s
+  abbrev gives : MayGiveAll old s
   gives = gives_all_in same hash terms m old run.stands holds.counts.apart.numbers.found
 
   roots_are : old.logged.executor.roots ≡ terms.roots
@@ -153,7 +153,7 @@ module _ {K V S : Type 0} (same : K → K → Bool) (hash : K → ℕ) (terms : 
     over = all_come end (then_now same hash terms 0 mid end y.now y.scene y.lists y.under_way y.roots ran.5) last_scene
         (leads same hash terms 0 mid end y.now y.scene y.lists y.under_way y.roots ran.5).1.lists2
 
-    last : AllSteps same hash terms.roots 0 to over
+    abbrev last : AllSteps same hash terms.roots 0 to over
     last = step_so same hash terms 0 mid end y.now y.scene y.lists y.under_way y.roots ran.5
 
     done : ran.5.1 ≡ settled.Done
@@ -230,7 +230,7 @@ module _ {K V S : Type 0} (same : K → K → Bool) (hash : K → ℕ) (event : 
   pub all_out : (mapped : Bool) → new ≡ record old { is_mapped = mapped } → (played : Played V) → IsKeptOut event played.outcome → played.effects.items ≡ [] → KeepsAll same hash event played old new
   all_out mapped same_but played out none = λ of_all terms log holds run after left.
       works_keep same hash terms log event of_all played old new holds run after left
-      (ap (λ (p : Scheduler K V S). p.calls) same_but, inl (out_busy event of_all played.outcome out, none, ap (λ (p : Scheduler K V S). p.logged) same_but))
+      (ap (λ (p : Scheduler K V S). p.calls) same_but, inl (out_busy event of_all played.outcome out, (none, ap (λ (p : Scheduler K V S). p.logged) same_but)))
 
   -- and of one that does not reclaim all nothing is said
   pub none_keep : {X : Type 0} → gives_all event ≡ false → (result : Result (Played V) X) → IfOk result (λ played. KeepsAll same hash event played old new)

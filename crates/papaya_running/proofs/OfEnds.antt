@@ -60,7 +60,7 @@ use Rattle.papaya_scheduler.specs.Works.{HasEndedMap, WorksOnEnd}
 use Rattle.papaya_named.specs.declared.caller.Callers.{Callers}
 use Rattle.papaya_scheduler.specs.declared.played.Played.{Played}
 use Rattle.papaya_scheduler.specs.declared.scheduler.Scheduler.{Scheduler}
-use Rattle.papaya_mapping.proofs.MapsEnded.{no_call, no_other}
+use Rattle.papaya_mapping.proofs.MapsEnded.{here as ending_here, no_call, no_other, shown_mid}
 use Rattle.papaya_mapping.proofs.MapLists.{by_recursion}
 use Rattle.papaya_scheduler.proofs.Maps.{number_is}
 use Rattle.papaya_scheduler.proofs.Rights.{entry, entry_is}
@@ -122,7 +122,7 @@ module _ {K V S : Type 0} (same : K → K → Bool) (hash : K → ℕ) (s : Scen
 module _ {K V S : Type 0} (same : K → K → Bool) (hash : K → ℕ) (terms : Terms) (name : ℕ → List ℕ) (log : List (Entry K V)) (own : List ℕ) (i map : ℕ) (before : Known) (number : ℕ → ℕ) (first : Known)
     (stood : ℕ → Option (Standing K)) (gone : stood map ≡ None) (below : map < (moment log).made) where
   -- So many steps of the end have led to where the run is: the executor is there in the scene, in which the same maps stand, and the event is in its midst.
-  pub record EndComes (n : ℕ) (x : Come K V S) (f : Far K V S) : Type 0 where
+  record EndComes (n : ℕ) (x : Come K V S) (f : Far K V S) : Type 0 where
     pub now : Moment K V
     pub scene : Scene K V
     pub chain : Chain (EndSteps same hash terms i map) n x (come_by f now scene)
@@ -134,32 +134,32 @@ module _ {K V S : Type 0} (same : K → K → Bool) (hash : K → ℕ) (terms : 
     pub counted : IsCounted now f.logged scene
 
   -- and it is under way, of this map
-  abbrev pub IsUnder : Far K V S → Scene K V → Type 0
+  abbrev IsUnder : Far K V S → Scene K V → Type 0
   IsUnder f s = (d : Finishing K V) × (s.enders i ≡ Some d) × NotesMap map number first d.setting d.chart d.blocks × NotedStill first (known f.logged.notes) d.back
 
   module _ (n : ℕ) (x : Come K V S) (mid to : Far K V S) (y : EndComes n x mid) (it : IsUnder mid y.scene) (step : EndGoes i map mid to) where
-    leads : EndingLeads same hash i step.said y.scene mid.logged.executor to.logged.executor
+    abbrev leads : EndingLeads same hash i step.said y.scene mid.logged.executor to.logged.executor
     leads = step.leads same hash y.scene y.is_at
 
-    effects : List Effect
-    effects = effects_of (acts.Ending map) (known mid.logged.notes) to.logged.executor.memory.changed
+    abbrev step_did : List Effect
+    step_did = effects_of (acts.Ending map) (known mid.logged.notes) to.logged.executor.memory.changed
 
     no_map : y.scene.maps map ≡ None
     no_map = ap (λ (g : ℕ → Option (Standing K)). g map) y.maps ∙ gone
 
-    next : Scene K V
+    abbrev next : Scene K V
     next = next_scene same hash y.scene mid.logged.executor to.logged.executor i it.0 it.1 step.said leads
 
-    w : Moment K V
-    w = with_effects None (Some map) effects y.now
+    abbrev w : Moment K V
+    w = with_effects None (Some map) step_did y.now
 
-    its : AtEachEffect (IsOfIts map) None (Some map) effects y.now
+    its : AtEachEffect (IsOfIts map) None (Some map) step_did y.now
     its =
         let l = leads it.0 it.1 in
         ends_alone same hash name y.now (known mid.logged.notes) y.scene mid.logged.executor to.logged.executor y.is_at y.midst.0.calls.whole i it.0 it.1 l.0 step.said l.1 l.2 map no_map l.3 number first
         it.2 it.3
 
-    did_its : effects ≡ ended_as map first (taken_of (leads it.0 it.1).2.deed)
+    did_its : step_did ≡ ended_as map first (taken_of (leads it.0 it.1).2.deed)
     did_its =
         let l = leads it.0 it.1 in
         did_end same hash name y.now (known mid.logged.notes) y.scene mid.logged.executor to.logged.executor y.is_at y.midst.0.calls.whole i it.0 it.1 l.0 step.said l.1 l.2 map no_map l.3 number first
@@ -176,11 +176,11 @@ module _ {K V S : Type 0} (same : K → K → Bool) (hash : K → ℕ) (terms : 
       gone = no_map;
       below = subst (λ (q : ℕ). map < q) (sym y.made) below;
       its = its;
-      comes = come_as to.logged.executor w next to.effects (mid.effects ++ effects) (known to.logged.notes) (known_after (acts.Ending map) to.logged.executor.memory.changed (known mid.logged.notes))
+      comes = come_as to.logged.executor w next to.effects (mid.effects ++ step_did) (known to.logged.notes) (known_after (acts.Ending map) to.logged.executor.memory.changed (known mid.logged.notes))
           step.is_noted.did step.is_noted.noted;
     }
 
-    pub end_comes_on : EndComes (suc n) x to
+    abbrev end_comes_on : EndComes (suc n) x to
     end_comes_on = record {
       now = w;
       scene = next;
@@ -188,13 +188,13 @@ module _ {K V S : Type 0} (same : K → K → Bool) (hash : K → ℕ) (terms : 
       is_at = end_there same hash mid.logged.executor to.logged.executor y.scene i step.said leads it.0 it.1;
       size = step.is_noted.given.1 ∙ y.size;
       midst = ends_chain K V S same hash name terms log (EndMap own) i map (moment log) before 1 (come_by mid y.now y.scene) (come_by to w next) (come_by mid y.now y.scene, refl, one) y.midst;
-      made = made_stays None (Some map) effects y.now ∙ y.made;
+      made = made_stays None (Some map) step_did y.now ∙ y.made;
       maps = maps_stand same hash y.scene mid.logged.executor to.logged.executor i it.0 it.1 step.said leads ∙ y.maps;
       counted = counted_end_steps same hash mid.logged to.logged.executor to.logged.notes step.is_noted.given y.now y.scene y.is_at y.counted i map step.said leads it.0 it.1 step.is_noted.noted first
           (taken_of (leads it.0 it.1).2.deed) did_its;
     }
 
-    pub end_under : is_done step.said ≡ false → IsUnder to next
+    end_under : is_done step.said ≡ false → IsUnder to next
     end_under more =
         let l = leads it.0 it.1 in
         ends_on same hash y.scene mid.logged.executor to.logged.executor i it.0 it.1 map number first (known to.logged.notes) it.2 step.said leads more
@@ -202,13 +202,13 @@ module _ {K V S : Type 0} (same : K → K → Bool) (hash : K → ℕ) (terms : 
         (noted_on same hash name y.now (known mid.logged.notes) y.scene mid.logged.executor to.logged.executor y.is_at y.midst.0.calls.whole i it.0 it.1 l.0 step.said l.1 l.2 map no_map l.3 number
         first it.2 it.3))
 
-    pub end_over : is_done step.said ≡ true → next.enders i ≡ None
+    end_over : is_done step.said ≡ true → next.enders i ≡ None
     end_over over = ends_over same hash y.scene mid.logged.executor to.logged.executor i it.0 it.1 step.said leads over
 
-  abbrev pub Midway : ℕ → Come K V S → Far K V S → Type 0
+  abbrev Midway : ℕ → Come K V S → Far K V S → Type 0
   Midway n x f = (y : EndComes n x f) × IsUnder f y.scene
 
-  pub ends_come : (n : ℕ) (x : Come K V S) (from to : Far K V S) → GoesFor (EndOn i map) n from to → Midway 0 x from → Midway n x to
+  ends_come : (n : ℕ) (x : Come K V S) (from to : Far K V S) → GoesFor (EndOn i map) n from to → Midway 0 x from → Midway n x to
   ends_come zero x from to is at = subst (Midway 0 x) is at
   ends_come (suc n) x from to (mid, went, on) at =
       let z = ends_come n x from mid went at in
@@ -226,7 +226,7 @@ module _ {K V S : Type 0} (same : K → K → Bool) (hash : K → ℕ) (terms : 
   abbrev s : Scene K V
   s = run.stands.scene
 
-  due : IsDue same hash terms log (EndMap own) old
+  abbrev due : IsDue same hash terms log (EndMap own) old
   due = record { played = run.stands; in_turn = turn }
 
   small : terms.batch_size < 2 ^ 64
@@ -249,16 +249,16 @@ module _ {K V S : Type 0} (same : K → K → Bool) (hash : K → ℕ) (terms : 
     abbrev e : Entry K V
     e = entry (EndMap own) Done played.steps effects
 
-    begun : EndIsBegun same hash name m s map i old.logged d.began
+    abbrev begun : EndIsBegun same hash name m s map i old.logged d.began
     begun = d.begins same hash name m s run.stands.shown
 
-    none_on : NoCallOn old.logged.executor map
+    abbrev none_on : NoCallOn old.logged.executor map
     none_on = no_call same hash terms log old own due map d.found d.free
 
-    standing : Standing K
+    abbrev standing : Standing K
     standing = (begun none_on).0
 
-    s1 : Scene K V
+    abbrev s1 : Scene K V
     s1 = ending_begun map i standing s
 
     at1 : IsAt same hash d.began.executor s1
@@ -270,7 +270,7 @@ module _ {K V S : Type 0} (same : K → K → Bool) (hash : K → ℕ) (terms : 
     abbrev x : Come K V S
     x = come_by (far [] d.began) m s1
 
-    apart : AreApart m
+    abbrev apart : AreApart m
     apart = holds.counts.apart
 
     acts_so : number_of own m ≡ Some map
@@ -317,7 +317,7 @@ module _ {K V S : Type 0} (same : K → K → Bool) (hash : K → ℕ) (terms : 
     prev : Midway same hash terms name log own i map (known old.logged.notes) number first_noted s1.maps gone below d.gone.1.0 x d.gone.0
     prev = ends_come same hash terms name log own i map (known old.logged.notes) number first_noted s1.maps gone below d.gone.1.0 x (far [] d.began) d.gone.0 d.gone.1.1 first
 
-    y : Comes (suc d.gone.1.0) (far effects new.logged)
+    abbrev y : Comes (suc d.gone.1.0) (far effects new.logged)
     y = end_comes_on same hash terms name log own i map (known old.logged.notes) number first_noted s1.maps gone below d.gone.1.0 x d.gone.0 (far effects new.logged) prev.0 prev.1 d.gone.2
 
     over : y.scene.enders i ≡ None
@@ -338,10 +338,11 @@ module _ {K V S : Type 0} (same : K → K → Bool) (hash : K → ℕ) (terms : 
 
     abbrev u : (t : Scene K V) × (gone_blocks : List ℕ) × (came : EndCame s1 t i (finishing_of standing s.world) gone_blocks true) × (d.ran.0 ≡ ended_as map first_noted gone_blocks)
         × NotedStill first_noted (known new.logged.notes) ([] ++ gone_blocks) × IsShown same hash name (with_effects None (Some map) d.ran.0 m) new.logged t
-        × (true ≡ true → [] ≡ [] → d.ran.0 ≡ all_ended (is_incremental standing.setting.mode) map number standing.chart)
+        × (true ≡ true → ◌≡◌ {A = List ℕ} [] [] → d.ran.0 ≡ all_ended (is_incremental standing.setting.mode) map number standing.chart)
         × TellsLeft t gone_blocks came
     u =
-        d.ran.3 same hash name m s1 (begun none_on).4 (finishing_of standing s.world) (at_same s.enders i (Some (finishing_of standing s.world)) i refl) gone number first_noted (begun none_on).3.1 (λ b none. refl)
+        d.ran.3 same hash name m s1 (shown_mid same hash terms log old own due map d.found d.free d.began i begun) (finishing_of standing s.world)
+        (ending_here same hash terms log old own due map d.found d.free d.began i begun) gone number first_noted (begun none_on).3.1 (λ b none. refl)
 
     did_all : effects ≡ d.ran.0
     did_all = d.ran.1
@@ -405,11 +406,11 @@ module _ {K V S : Type 0} (same : K → K → Bool) (hash : K → ℕ) (terms : 
       };
     }
 
-    pub end_keeps : RunsOn same hash terms log (entry_of (EndMap own) played) new
+    end_keeps : RunsOn same hash terms log (entry_of (EndMap own) played) new
     end_keeps = subst KeepsAs (sym (entry_is (EndMap own) played Done played.steps effects done refl refl)) keeps_done after left.right
 
   -- or nothing was done
-  pub map_end_keeps : WorksOnEnd played old new own → RunsOn same hash terms log (entry_of (EndMap own) played) new
+  map_end_keeps : WorksOnEnd played old new own → RunsOn same hash terms log (entry_of (EndMap own) played) new
   map_end_keeps (calls, inl (fault, is, (none, still))) =
       subst KeepsAs (sym (entry_is (EndMap own) played (Refused fault) played.steps [] is refl none))
       (λ so right. still_keeps same hash terms log old run (entry (EndMap own) (Refused fault) played.steps []) new refl (refused_still log s.world (EndMap own) refl fault played.steps) still calls so right)

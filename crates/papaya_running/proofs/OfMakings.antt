@@ -93,10 +93,10 @@ found_last p (z ∷ xs) x none so = by (p z) none (λ rest. found_last p xs x re
     by false none rest = rest none
 
 -- a map that is to have places has some, and else none
-some_places : (capacity : ℕ) → (if first_places capacity == 0 then 0 else 1) ≡ (if capacity == 0 then 0 else 1)
+some_places : (capacity : ℕ) → ◌≡◌ {A = ℕ} (if first_places capacity == 0 then 0 else 1) (if capacity == 0 then 0 else 1)
 some_places capacity = by (capacity == 0)
   where
-    by : (q : Bool) → (if (if q then 0 else next_power (places_for capacity)) == 0 then 0 else 1) ≡ (if q then 0 else 1)
+    by : (q : Bool) → ◌≡◌ {A = ℕ} (if (if q then 0 else next_power (places_for capacity)) == 0 then 0 else 1) (if q then 0 else 1)
     by true = refl
     by false = ap (λ (b : Bool). if b then 0 else 1) (ne_eqb (next_power (places_for capacity)) 0 (λ none. (let some = power_some (nat_le (places_for capacity) 1) in absurd (omega (arith, some, none)))))
       where
@@ -163,10 +163,15 @@ none_new map progress.Waits m more = tt
 none_new map (progress.Done setting) m more = absurd (cc more)
 none_new map (progress.Refused fault) m more = absurd (cc more)
 
+-- A making is under way, the map is as new, and the others stand as they stood.
+module _ {K V : Type 0} (i : ℕ) (b : Beginning K) (setting : Setting) (stood : ℕ → Option (Standing K)) where
+  abbrev IsUnder : Moment K V → Scene K V → Type 0
+  IsUnder m s = (z : NewMap) × (s.makers i ≡ Some (record b { machine = z })) × IsNew b.map setting m × (s.maps ≡ stood)
+
 module _ {K V S : Type 0} (same : K → K → Bool) (hash : K → ℕ) (terms : Terms) (name : ℕ → List ℕ) (log : List (Entry K V)) (own : List ℕ) (mode : ResizeMode) (capacity i : ℕ) (b : Beginning K)
     (began : Moment K V) (below : b.map < began.made) (setting : Setting) (stood : ℕ → Option (Standing K)) where
   -- So many steps of the making have led to where the run is: the executor is there in the scene, and the event is in its midst.
-  pub record MakingComes (n : ℕ) (x : Come K V S) (f : Far K V S) : Type 0 where
+  record MakingComes (n : ℕ) (x : Come K V S) (f : Far K V S) : Type 0 where
     pub now : Moment K V
     pub scene : Scene K V
     pub chain : Chain (MakingSteps same hash terms i b.map) n x (come_by f now scene)
@@ -176,25 +181,21 @@ module _ {K V S : Type 0} (same : K → K → Bool) (hash : K → ℕ) (terms : 
     pub made : now.made ≡ began.made
     pub counted : IsCounted now f.logged scene
 
-  -- and it is under way, the map is as new, and the others stand as they stood
-  abbrev pub IsUnder : Moment K V → Scene K V → Type 0
-  IsUnder m s = (z : NewMap) × (s.makers i ≡ Some (record b { machine = z })) × IsNew b.map setting m × (s.maps ≡ stood)
-
-  module _ (n : ℕ) (x : Come K V S) (mid to : Far K V S) (y : MakingComes n x mid) (it : IsUnder y.now y.scene) (step : MakingGoes i b.map mid to) (was_new : WasNew b.map step.said y.now) where
+  module _ (n : ℕ) (x : Come K V S) (mid to : Far K V S) (y : MakingComes n x mid) (it : IsUnder i b setting stood y.now y.scene) (step : MakingGoes i b.map mid to) (was_new : WasNew b.map step.said y.now) where
     abbrev d : Beginning K
     d = record b { machine = it.0 }
 
-    leads : MakingLeads same hash i step.said y.scene mid.logged.executor to.logged.executor
+    abbrev leads : MakingLeads same hash i step.said y.scene mid.logged.executor to.logged.executor
     leads = step.leads same hash y.scene y.is_at
 
-    effects : List Effect
-    effects = effects_of (acts.Making b.map) (known mid.logged.notes) to.logged.executor.memory.changed
+    abbrev step_did : List Effect
+    step_did = effects_of (acts.Making b.map) (known mid.logged.notes) to.logged.executor.memory.changed
 
-    pub next : Scene K V
+    abbrev next : Scene K V
     next = next_scene same hash y.scene mid.logged.executor to.logged.executor i d it.1 step.said leads
 
-    w : Moment K V
-    w = with_effects None (Some b.map) effects y.now
+    abbrev w : Moment K V
+    w = with_effects None (Some b.map) step_did y.now
 
     one : MakingSteps same hash terms i b.map (come_by mid y.now y.scene) (come_by to w next)
     one = record {
@@ -207,11 +208,11 @@ module _ {K V S : Type 0} (same : K → K → Bool) (hash : K → ℕ) (terms : 
       map_is = refl;
       below = subst (λ (q : ℕ). b.map < q) (sym y.made) below;
       was_new = was_new;
-      comes = come_as to.logged.executor w next to.effects (mid.effects ++ effects) (known to.logged.notes) (known_after (acts.Making b.map) to.logged.executor.memory.changed (known mid.logged.notes))
+      comes = come_as to.logged.executor w next to.effects (mid.effects ++ step_did) (known to.logged.notes) (known_after (acts.Making b.map) to.logged.executor.memory.changed (known mid.logged.notes))
           step.is_noted.did step.is_noted.noted;
     }
 
-    pub making_comes_on : MakingComes (suc n) x to
+    abbrev making_comes_on : MakingComes (suc n) x to
     making_comes_on = record {
       now = w;
       scene = next;
@@ -219,11 +220,11 @@ module _ {K V S : Type 0} (same : K → K → Bool) (hash : K → ℕ) (terms : 
       is_at = is_there same hash y.scene mid.logged.executor to.logged.executor i d it.1 step.said leads;
       size = step.is_noted.given.1 ∙ y.size;
       midst = makings_chain K V S same hash name terms log (MakeMap own mode capacity) i b.map began 1 (come_by mid y.now y.scene) (come_by to w next) (come_by mid y.now y.scene, refl, one) y.midst;
-      made = made_stays None (Some b.map) effects y.now ∙ y.made;
+      made = made_stays None (Some b.map) step_did y.now ∙ y.made;
       counted = counted_making_steps same hash mid.logged to.logged.executor to.logged.notes step.is_noted.given y.now y.scene y.is_at y.counted i step.said leads d it.1 (Some b.map) step.is_noted.noted;
     }
 
-    pub making_under : is_over step.said ≡ false → IsUnder w next
+    making_under : is_over step.said ≡ false → IsUnder i b setting stood w next
     making_under more = (
       (leads d it.1).0,
       making_on same hash y.scene mid.logged.executor to.logged.executor i d it.1 step.said leads more,
@@ -232,7 +233,7 @@ module _ {K V S : Type 0} (same : K → K → Bool) (hash : K → ℕ) (terms : 
     )
 
     -- of each map that stands once it was made the count falls into as many shards as before, and of the new one as it was to begin
-    pub masks : step.said ≡ progress.Done setting → (n2 : ℕ) → (next.maps n2 ≡ stood n2) ⊎ ((standing : Standing K) × (next.maps n2 ≡ Some standing) × (standing.setting.mask ≡ b.given.mask))
+    masks : step.said ≡ progress.Done setting → (n2 : ℕ) → (next.maps n2 ≡ stood n2) ⊎ ((standing : Standing K) × (next.maps n2 ≡ Some standing) × (standing.setting.mask ≡ b.given.mask))
     masks is n2 = by (made_maps same hash y.scene mid.logged.executor to.logged.executor i d it.1 step.said leads setting is n2)
       where
         by : ((n2 ≢ b.map) × (next.maps n2 ≡ y.scene.maps n2)) ⊎ ((standing : Standing K) × (next.maps n2 ≡ Some standing) × (standing.setting.mask ≡ b.given.mask))
@@ -240,10 +241,10 @@ module _ {K V S : Type 0} (same : K → K → Bool) (hash : K → ℕ) (terms : 
         by (inl (ne, same_one)) = inl (same_one ∙ ap (λ (g : ℕ → Option (Standing K)). g n2) it.3)
         by (inr made) = inr made
 
-  abbrev pub Midway : ℕ → Come K V S → Far K V S → Type 0
-  Midway n x f = (y : MakingComes n x f) × IsUnder y.now y.scene
+  abbrev Midway : ℕ → Come K V S → Far K V S → Type 0
+  Midway n x f = (y : MakingComes n x f) × IsUnder i b setting stood y.now y.scene
 
-  pub makings_come : (n : ℕ) (x : Come K V S) (from to : Far K V S) → GoesFor (MakingOn i b.map) n from to → Midway 0 x from → Midway n x to
+  makings_come : (n : ℕ) (x : Come K V S) (from to : Far K V S) → GoesFor (MakingOn i b.map) n from to → Midway 0 x from → Midway n x to
   makings_come zero x from to is at = subst (Midway 0 x) is at
   makings_come (suc n) x from to (mid, went, on) at =
       let z = makings_come n x from mid went at in
@@ -265,7 +266,7 @@ module _ {K V S : Type 0} (same : K → K → Bool) (hash : K → ℕ) (terms : 
   s = run.stands.scene
 
   -- it may happen
-  may : MayMap same hash terms log event old
+  abbrev may : MayMap same hash terms log event old
   may = record { due = record { played = run.stands; in_turn = turn }; lawful = holds.lawful; counts = holds.counts }
 
   abbrev KeepsAs : Entry K V → Type 0
@@ -291,7 +292,7 @@ module _ {K V S : Type 0} (same : K → K → Bool) (hash : K → ℕ) (terms : 
     abbrev bm : Moment K V
     bm = with_map there m
 
-    s1 : Scene K V
+    abbrev s1 : Scene K V
     s1 = record s { makers = with_at s.makers i (Some b) }
 
     begins : MakingIsBegun same hash name m s d.given d.places i old.logged d.began
@@ -353,7 +354,7 @@ module _ {K V S : Type 0} (same : K → K → Bool) (hash : K → ℕ) (terms : 
     was : WasNew b.map d.gone.3.said prev.0.now
     was = subst (λ (t : Progress Setting). WasNew b.map t prev.0.now) (sym d.gone.4) prev.1.2
 
-    y : MakingComes same hash terms name log own mode capacity i b bm below d.setting s.maps (suc d.gone.1.0) x (far effects mid)
+    abbrev y : MakingComes same hash terms name log own mode capacity i b bm below d.setting s.maps (suc d.gone.1.0) x (far effects mid)
     y = making_comes_on same hash terms name log own mode capacity i b bm below d.setting s.maps d.gone.1.0 x d.gone.0 (far effects mid) prev.0 prev.1 d.gone.3 was
 
     chain : Chain (MakingSteps same hash terms i b.map) (suc d.gone.1.0) (record { executor = d.began.executor; did = []; now = bm; notes = known old.logged.notes; scene = s1 })
@@ -470,7 +471,7 @@ module _ {K V S : Type 0} (same : K → K → Bool) (hash : K → ℕ) (terms : 
       (λ so rest. still_keeps same hash terms log old run (entry event (Refused fault) played.steps []) new refl (refused_still log s.world event refl fault played.steps) still calls so rest.right)
 
   -- it was refused, and nothing was done; or it was made; nothing is said of one that was refused once it had begun
-  pub map_made_keeps : WorksOnMap played old new own mode capacity → IsPlayed same hash terms (entry_of event played ∷ log) new → IsLeftOfRows terms log (entry_of event played)
+  map_made_keeps : WorksOnMap played old new own mode capacity → IsPlayed same hash terms (entry_of event played ∷ log) new → IsLeftOfRows terms log (entry_of event played)
       → HasNotBegun event played.outcome played.effects.items old new → RunsOn same hash terms log (entry_of event played) new
   map_made_keeps (calls, inl (fault, is, (none, still))) after left begun = refused_keeps fault is none still calls after left
   map_made_keeps (calls, inr (inl (fault, is))) after left begun =

@@ -33,7 +33,7 @@ use Rattle.papaya_models.specs.OnSlots.{IsRowFor}
 use Rattle.papaya_finds.specs.Little.{ReclaimsAll}
 use Rattle.papaya_legal.specs.CallEvents.{IsLegalBut}
 use Rattle.papaya_legal.specs.Carried.{ShowsRun}
-use Rattle.papaya_legal.specs.Chains.{Chain, RowSteps}
+use Rattle.papaya_legal.specs.Chains.{Chain as StepChain, RowSteps}
 use Rattle.papaya_legal.specs.Found.{AsksInNeed}
 use Rattle.papaya_legal.specs.SlotEvents.{InSlotEvent}
 use Rattle.papaya_legal.proofs.Chains.{rows_run_to_their_ends}
@@ -166,20 +166,20 @@ module _ {K V S : Type 0} (same : K → K → Bool) (hash : K → ℕ) (terms : 
     may : MayBegin old.logged.executor (slot_of ran.caller) called
     may = subst (λ (x : ℕ). MayBegin old.logged.executor x called) (sym ran.in_slot) f.may
 
-    leads : RowBegins same hash called ran.caller s old.logged.executor ran.began.executor
+    abbrev leads : RowBegins same hash called ran.caller s old.logged.executor ran.began.executor
     leads = (ran.begins same hash name m s run.stands.shown may).0
 
-    s1 : Scene K V
+    abbrev s1 : Scene K V
     s1 = scene_then same hash (Begin ran.caller (request_of (slot_of ran.caller) called)) s old.logged.executor ran.began.executor (leads may).3
 
     y : RowComes same hash terms ran.caller ran.goes.0 (come_by (far [] ran.began) m s1) (far played.effects.items new.logged)
     y = rows_come same hash terms ran.caller ran.goes.0 (far [] ran.began) (far played.effects.items new.logged) m s1 (leads may).3.4 (ran.given.1 ∙ run.size)
         (ran.begins same hash name m s run.stands.shown may).1.counted ran.goes.1
 
-    chain : Chain (RowSteps same hash terms ran.caller) ran.goes.0 (record { executor = ran.began.executor; did = []; now = m; notes = known old.logged.notes; scene = s1 })
+    chain : StepChain (RowSteps same hash terms ran.caller) ran.goes.0 (record { executor = ran.began.executor; did = []; now = m; notes = known old.logged.notes; scene = s1 })
         (come_by (far played.effects.items new.logged) y.now y.scene)
     chain =
-        subst (λ (n : Notes). Chain (RowSteps same hash terms ran.caller) ran.goes.0 (record { executor = ran.began.executor; did = []; now = m; notes = known n; scene = s1 })
+        subst (λ (n : Notes). StepChain (RowSteps same hash terms ran.caller) ran.goes.0 (record { executor = ran.began.executor; did = []; now = m; notes = known n; scene = s1 })
         (come_by (far played.effects.items new.logged) y.now y.scene)) ran.noted y.chain
 
     rests : y.scene.world.row ran.caller ≡ Rests

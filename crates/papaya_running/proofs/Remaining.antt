@@ -84,7 +84,7 @@ module _ {K V S : Type 0} (same : K → K → Bool) (hash : K → ℕ) (terms : 
     pub rested : RootsAreTaken p.logged.executor.roots m p.logged.executor.memory.memory × LeftBehind p.logged.executor.roots t.world t.maps c.lists
     rested = rests_remain K V S same hash plays.name m (known p.logged.notes) t p.logged.executor plays.shown.is_at plays.shown.shows.all.shown c found all_stand nobody_makes nobody_ends
 
-    pub gives_all : MayGiveAll p t
+    abbrev pub gives_all : MayGiveAll p t
     gives_all =
         let slots = plays.shown.counted.numbered.slots in
         record {

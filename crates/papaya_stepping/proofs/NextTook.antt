@@ -1,8 +1,11 @@
 -- What an event has done that asked a walk for its next pair: the steps that it took.
 use Rattle.std.specs.Prelude.{◌≡◌, ℕ, Bool, List, [], slice_get, Some}
-use Rattle.std.proofs.Common.{ap, subst, ◌∙◌}
+use Rattle.std.specs.Global.{Vec}
+use Rattle.std.proofs.Common.{ap, sym, subst, ◌∙◌}
 use Rattle.papaya_raw.specs.declared.machines.progress.Progress.{Progress}
 use Rattle.papaya_histories.specs.Given.Tables.declared.node.Node.{Node}
+use Rattle.papaya_schedules.specs.declared.effect.Effect.{Effect}
+use Rattle.papaya_schedules.specs.declared.outcome.Outcome.{Outcome}
 use Rattle.papaya_schedules.specs.Moment.{Moment}
 use Rattle.papaya_histories.specs.Given.Effects.Known.{known}
 use Rattle.papaya_histories.specs.Given.Executor.IsAt.{IsAt, KeepsGiven, Scene}
@@ -10,17 +13,22 @@ use Rattle.papaya_histories.specs.Given.Executor.Replying.{AskLeads}
 use Rattle.papaya_logged.specs.Calling.{WalkGoesOn}
 use Rattle.papaya_logged.specs.Shown.{IsShown}
 use Rattle.papaya_logged.specs.declared.logged.Logged.{Logged}
+use Rattle.papaya_named.specs.Seen.{ready_place}
 use Rattle.papaya_named.specs.declared.caller.Caller.{Caller}
 use Rattle.papaya_named.specs.declared.caller.Callers.{Callers}
 use Rattle.papaya_scheduler.specs.declared.played.Played.{Played}
 use Rattle.papaya_scheduler.specs.declared.scheduler.Scheduler.{Scheduler}
-use Rattle.papaya_stepping.specs.Stepping.{HasWalked, IsStepOf, IsStepped, WalkComes, callers_then, outcome_of}
+use Rattle.papaya_stepping.specs.Stepping.{HasWalked, IsStepOf, IsStepped, TookNext, WalkComes, callers_then, outcome_of}
+use Rattle.papaya_stepping.proofs.StepSays.{the}
 
-module _ {K V S : Type 0} (same : K → K → Bool) (hash : K → ℕ) (place : ℕ) (played : Played V) (old : Scheduler K V S) (asked : Logged K V S) (said : Progress (Node K V)) (walked : Scheduler K V S)
-    (comes : WalkComes same hash place played.steps said [] played.effects.items (record old { logged = asked }) walked) (callers : Callers V)
+module _ {K V S : Type 0} (same : K → K → Bool) (hash : K → ℕ) (place : ℕ) (old : Scheduler K V S) (asked : Logged K V S) (said : Progress (Node K V)) (outcome : Outcome V) (steps : ℕ) (effects : Vec Effect)
+    (walked : Scheduler K V S) (comes : WalkComes same hash place steps said [] effects.items (record old { logged = asked }) walked) (callers : Callers V)
     (told : (caller : Caller V) → slice_get walked.calls.items.items place ≡ Some caller → callers.items.items ≡ callers_then (known walked.logged.notes) place caller said walked.calls.items.items)
-    (comes_to_it : (caller : Caller V) → slice_get walked.calls.items.items place ≡ Some caller → played.outcome ≡ outcome_of (known walked.logged.notes) caller.kind caller.value said) where
-  abbrev step : IsStepOf same hash place said comes.3 played.effects.items comes.4 walked
+    (comes_to_it : (caller : Caller V) → slice_get walked.calls.items.items place ≡ Some caller → outcome ≡ outcome_of (known walked.logged.notes) caller.kind caller.value said) where
+  abbrev played : Played V
+  played = record { outcome = outcome; steps = steps; effects = effects }
+
+  abbrev step : IsStepOf same hash place said comes.3 effects.items comes.4 walked
   step = comes.5
 
   calls_same : walked.calls.items.items ≡ comes.4.calls.items.items
@@ -30,7 +38,7 @@ module _ {K V S : Type 0} (same : K → K → Bool) (hash : K → ℕ) (place : 
   there = ap (λ (l : List (Caller V)). slice_get l place) calls_same ∙ step.at
 
   -- its last step, of which its caller was told
-  last_step : IsStepped same hash place played.outcome comes.3 played.effects.items comes.4 (record walked { calls = callers })
+  last_step : IsStepped same hash place outcome comes.3 effects.items comes.4 (record walked { calls = callers })
   last_step = record {
     caller = step.caller;
     at = step.at;
@@ -42,7 +50,7 @@ module _ {K V S : Type 0} (same : K → K → Bool) (hash : K → ℕ) (place : 
     given = step.given;
   }
 
-  pub has_walked : (caller : Caller V) → slice_get old.calls.items.items place ≡ Some caller → (ready : Bool) (number : ℕ) → number ≡ caller.number
+  has_walked : (caller : Caller V) → slice_get old.calls.items.items place ≡ Some caller → (ready : Bool) (number : ℕ) → number ≡ caller.number
       → ((s : Scene K V) → IsAt same hash old.logged.executor s → AskLeads same hash number ready s old.logged.executor asked.executor)
       → ((name : ℕ → List ℕ) (m : Moment K V) (s : Scene K V) → IsShown same hash name m old.logged s → WalkGoesOn same hash name m s number ready old.logged asked)
       → asked.notes ≡ old.logged.notes → KeepsGiven old.logged.executor asked.executor → HasWalked same hash place played old (record walked { calls = callers })
@@ -62,3 +70,16 @@ module _ {K V S : Type 0} (same : K → K → Bool) (hash : K → ℕ) (place : 
     walked = comes.9;
     last = last_step;
   }
+
+  -- so it is of an event by which a walk of this name that was ready was asked
+  pub took_next : (own : List ℕ) → Some place ≡ ready_place own old.calls.items.items → (new : Scheduler K V S) → new ≡ record walked { calls = callers }
+      → (caller : Caller V) → slice_get old.calls.items.items place ≡ Some caller → (ready : Bool) (number : ℕ) → number ≡ caller.number
+      → ((s : Scene K V) → IsAt same hash old.logged.executor s → AskLeads same hash number ready s old.logged.executor asked.executor)
+      → ((name : ℕ → List ℕ) (m : Moment K V) (s : Scene K V) → IsShown same hash name m old.logged s → WalkGoesOn same hash name m s number ready old.logged asked)
+      → asked.notes ≡ old.logged.notes → KeepsGiven old.logged.executor asked.executor → TookNext same hash own played old new
+  took_next own found new is caller at ready number its leads goes notes given = (
+    λ at_place there.
+        subst (λ (k : ℕ). HasWalked same hash k played old new) (the place at_place (found ∙ sym there))
+        (subst (λ (p : Scheduler K V S). HasWalked same hash place played old p) (sym is) (has_walked caller at ready number its leads goes notes given)),
+    λ none. absurd (cc (found, none)),
+  )

@@ -49,7 +49,7 @@ module _ {K V S : Type 0} (same : K → K → Bool) (hash : K → ℕ) (terms : 
     abbrev pub then_scene : Scene K V
     then_scene = scene_in s leads.1.w2 leads.1.maps2
 
-    pub step_so : AllSteps same hash terms.roots i (all_come from now s lists) (all_come to then_now then_scene leads.1.lists2)
+    abbrev pub step_so : AllSteps same hash terms.roots i (all_come from now s lists) (all_come to then_now then_scene leads.1.lists2)
     step_so = record {
       under_way = under;
       roots_are = roots;

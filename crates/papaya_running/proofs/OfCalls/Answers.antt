@@ -19,6 +19,8 @@ use Rattle.papaya_histories.specs.Given.Schedules.declared.outcome.Outcome.{Outc
 use Rattle.papaya_histories.specs.Given.Schedules.declared.outcome.Outcome.TheVariants as outcome
 use Rattle.papaya_histories.specs.Given.Schedules.Sequential.{Answers, Leaves, Puts, Takes, means, puts_reply}
 use Rattle.papaya_histories.specs.Given.Schedules.Views.{reply_to}
+use Rattle.papaya_histories.specs.Given.Effects.Effects.{known_after}
+use Rattle.papaya_histories.specs.Given.Effects.declared.acting.Acting.TheVariants as acts
 use Rattle.papaya_histories.specs.Given.Effects.Known.{Known}
 use Rattle.papaya_histories.specs.Given.Effects.declared.role.Role.TheVariants as role
 use Rattle.papaya_histories.specs.Answers.{IsToldAs, IsToldDone, NamesPair}
@@ -269,4 +271,5 @@ module _ {K V : Type 0} (by : Known) (value : Option V) (replies : List (Option 
 pub last_steps_tell : (K V S : Type 0) (same : K → K → Bool) (hash : K → ℕ) → LastStepsTell K V S same hash
 last_steps_tell K V S same hash name terms log event beginning map i c steps done m known s u midst old new at said leads value comes tells =
     let words = events_have_words K V S same hash name log beginning map i c done m known s u midst.event_so old new at said leads in
-    (comes_so _ value c.replies c.call said words.0 words.1 tells, tells_of same log m map _ value c.call said comes)
+    let by = known_after (acts.Call i map) new.memory.changed known in
+    (comes_so by value c.replies c.call said words.0 words.1 tells, tells_of same log m map by value c.call said comes)

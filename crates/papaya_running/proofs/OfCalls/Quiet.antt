@@ -14,7 +14,6 @@ use Rattle.papaya_histories.specs.Given.Schedules.Steps.{IsBrief, ReadsBriefly}
 use Rattle.papaya_histories.specs.Given.Schedules.Terms.{Terms}
 use Rattle.papaya_histories.specs.Given.Schedules.Views.{call_of}
 use Rattle.papaya_histories.specs.Given.Effects.Known.{known}
-use Rattle.papaya_histories.specs.Given.Executor.IsAt.{IsAt}
 use Rattle.papaya_promises.specs.Guards.{EntersInside}
 use Rattle.papaya_promises.specs.Sheltered.{SectionsHold}
 use Rattle.papaya_promises.proofs.Brief.Ends.{events_read_briefly}
@@ -27,20 +26,13 @@ use Rattle.papaya_legal.specs.Carried.{ShowsRun}
 use Rattle.papaya_legal.specs.Over.{LeavesAll}
 use Rattle.papaya_legal.proofs.Idle.{idle_events_are_legal}
 use Rattle.papaya_legal.proofs.Over.{idle_events_end}
-use Rattle.papaya_histories.specs.Given.Moments.Whole.{ShowsWhole}
-use Rattle.papaya_kept.specs.Kept.{ShowsKept}
-use Rattle.papaya_reclaims.specs.Left.{LeftAmong}
-use Rattle.papaya_logged.specs.Shown.{IsCounted, IsShown}
-use Rattle.papaya_logged.specs.declared.logged.Logged.{Logged}
 use Rattle.papaya_scheduler.specs.Played.{IsPlayed}
 use Rattle.papaya_named.specs.Seen.{is_named}
-use Rattle.papaya_named.specs.declared.caller.Callers.{Callers}
 use Rattle.papaya_scheduler.specs.declared.scheduler.Scheduler.{Scheduler}
 use Rattle.papaya_scheduler.proofs.Here.{here_at, there_is}
 use Rattle.papaya_scheduler.proofs.Rights.{quiet}
-use Rattle.papaya_running.specs.OfCalls.{HaveShards, Runs, RunsOn}
-use Rattle.papaya_running.proofs.OfCalls.Scenes.{AreNamed, its_named, stands_in}
-use Rattle.papaya_running.proofs.Remaining.{counted_in}
+use Rattle.papaya_running.specs.OfCalls.{Runs, RunsOn}
+use Rattle.papaya_running.proofs.OfCalls.AsBefore.{as_before}
 
 -- whatever call there is, nothing is asked of it
 nothing_asked : {K V : Type 0} (o : Option (CallThere K V)) → IfCall (λ (c : CallThere K V). Unit {0}) o
@@ -89,31 +81,5 @@ module _ {K V S : Type 0} (same : K → K → Bool) (hash : K → ℕ) (terms : 
         idle_events_end K V same runs.stands.name terms log (known old.logged.notes) runs.stands.scene runs.shows e right legal.0.life refl (others_hand_over K V log e no_slot).0
         (others_hand_over K V log e no_slot).1 reclaims leaves legal.1
 
-    is_at : IsAt same hash new.logged.executor runs.stands.scene
-    is_at = subst (λ (l : Logged K V S). IsAt same hash l.executor runs.stands.scene) (sym logged_is) runs.stands.shown.is_at
-
-    counted : IsCounted (moment (e ∷ log)) new.logged runs.stands.scene
-    counted =
-        counted_in same hash terms (moment (e ∷ log)) new plays runs.stands.scene is_at runs.stands.shown.counted.remains.lists
-        (subst (λ (l : Logged K V S). LeftAmong l.executor.roots runs.stands.scene.world runs.stands.scene.maps runs.stands.scene.makers runs.stands.scene.enders runs.stands.shown.counted.remains.lists)
-        (sym logged_is) runs.stands.shown.counted.remains.left)
-
-    shown : IsShown same hash runs.stands.name (moment (e ∷ log)) new.logged runs.stands.scene
-    shown = record {
-      is_at = is_at;
-      shows = subst (λ (l : Logged K V S). ShowsWhole same runs.stands.name (moment (e ∷ log)) (known l.notes) runs.stands.scene) (sym logged_is) run.calls.whole;
-      kept = subst (λ (l : Logged K V S). ShowsKept runs.stands.name (moment (e ∷ log)) (known l.notes) runs.stands.scene) (sym logged_is) run.calls.kept;
-      counted = counted;
-    }
-
     pub quiet_on : RunsOn same hash terms log e new
-    quiet_on = record {
-      legal = legal.0;
-      runs = record {
-        stands = stands_in same hash terms (moment (e ∷ log)) new plays runs.stands.name runs.stands.scene shown
-            (subst (λ (cs : Callers V). AreNamed runs.stands.name cs.items.items) (sym calls_are) (its_named same hash terms m old runs.stands));
-        shows = subst (λ (l : Logged K V S). ShowsRun same runs.stands.name terms (e ∷ log) (known l.notes) runs.stands.scene) (sym logged_is) run;
-        size = ap (λ (l : Logged K V S). l.executor.batch_size) logged_is ∙ runs.size;
-        shards = subst (λ (l : Logged K V S). HaveShards terms l.executor) (sym logged_is) runs.shards;
-      };
-    }
+    quiet_on = as_before same hash terms log old new runs logged_is calls_are e legal.0 run plays

@@ -109,8 +109,8 @@ module _ {K V S : Type 0} (same : K → K → Bool) (hash : K → ℕ) (terms : 
   by_done P outcome is so = subst P (sym is) so
 
   module _ (guard registration : List ℕ) (turn : is_kept_out terms (Enter guard registration) (moment log) ≡ false) where
-    abbrev due : IsDue same hash terms log (Enter guard registration) p
-    due = record { played = stands; in_turn = turn }
+    abbrev enter_due : IsDue same hash terms log (Enter guard registration) p
+    enter_due = record { played = stands; in_turn = turn }
 
     enter_facts : (slot : ℕ) → IsAbout (Enter guard registration) p slot → guards_on slot p.there.guards ≡ 0 → FactsAt (Enter guard registration) slot call.Enter
     enter_facts slot (none, found) first ran = record {
@@ -123,25 +123,25 @@ module _ {K V S : Type 0} (same : K → K → Bool) (hash : K → ℕ) (terms : 
           (subst (λ (x : ℕ). IsRowFor (Enter' x) before w.uses (Enter guard registration) Done m) its_slot ((rows w.uses).enters guard registration none_on));
       inside = λ w fits outcome is. by_done (λ o. EndsInside w (Enter guard registration) o m.there) outcome is
           (subst (λ (x : ℕ). IsInside (w.uses x)) (sym its_slot)
-          (inside_by (use_at new.executor slot) (w.uses slot) (fits slot) (enters_so.is_within same hash terms log p guard registration due none slot found first said [] did new ran)));
+          (inside_by (use_at new.executor slot) (w.uses slot) (fits slot) (enters_so.is_within same hash terms log p guard registration enter_due none slot found first said [] did new ran)));
     }
       where
         may : MayBegin p.logged.executor slot call.Enter
-        may = enters_so.may_enter same hash terms log p guard registration due none slot found first
+        may = enters_so.may_enter same hash terms log p guard registration enter_due none slot found first
 
         its_slot : slot_of_registration registration m.there ≡ slot
-        its_slot = enters_so.its_slot same hash terms log p guard registration due none slot found
+        its_slot = enters_so.its_slot same hash terms log p guard registration enter_due none slot found
 
         none_on : guards_on (slot_of_registration registration m.there) m.there.guards ≡ 0
         none_on = ap (λ (x : ℕ). guards_on x m.there.guards) its_slot ∙ ap (λ (x : Present). guards_on slot x.guards) stands.there ∙ first
 
   module _ (registration : List ℕ) (turn : is_kept_out terms (Unregister registration) (moment log) ≡ false) where
-    abbrev due : IsDue same hash terms log (Unregister registration) p
-    due = record { played = stands; in_turn = turn }
+    abbrev unregister_due : IsDue same hash terms log (Unregister registration) p
+    unregister_due = record { played = stands; in_turn = turn }
 
     unregister_facts : (slot : ℕ) → IsAbout (Unregister registration) p slot → guards_on slot p.there.guards ≡ 0 → FactsAt (Unregister registration) slot call.Unregister
     unregister_facts slot (found, none_live) last ran =
-        let may = unregisters_so.may_free same hash terms log p registration due slot found none_live last in
+        let may = unregisters_so.may_free same hash terms log p registration unregister_due slot found none_live last in
         record {
           may = may;
           over = over_once same hash stands.name m stands.scene p.logged new stands.shown slot call.Unregister said [] did ran may tt;
@@ -153,13 +153,13 @@ module _ {K V S : Type 0} (same : K → K → Bool) (hash : K → ℕ) (terms : 
         }
 
   module _ (guard : List ℕ) (turn : is_kept_out terms (Refresh guard) (moment log) ≡ false) where
-    abbrev due : IsDue same hash terms log (Refresh guard) p
-    due = record { played = stands; in_turn = turn }
+    abbrev refresh_due : IsDue same hash terms log (Refresh guard) p
+    refresh_due = record { played = stands; in_turn = turn }
 
     refresh_facts : (slot : ℕ) → IsAbout (Refresh guard) p slot → guards_on slot p.there.guards ≡ 1 → FactsAt (Refresh guard) slot call.Refresh
     refresh_facts slot free one ran =
-        let may = refreshes_so.may_refresh same hash terms log p guard due slot free one in
-        let alone = refreshes_so.alone same hash terms log p guard due slot free one in
+        let may = refreshes_so.may_refresh same hash terms log p guard refresh_due slot free one in
+        let alone = refreshes_so.alone same hash terms log p guard refresh_due slot free one in
         record {
           may = may;
           over = over_alone same hash stands.name m stands.scene p.logged new stands.shown slot call.Refresh said [] did ran may tt alone;
@@ -173,7 +173,7 @@ module _ {K V S : Type 0} (same : K → K → Bool) (hash : K → ℕ) (terms : 
                 g.0,
                 ap (λ (x : Present). guard_of guard x.guards) stands.there ∙ g.1,
                 subst (λ (x : ℕ). IsInside (w.uses x)) (sym g.2)
-                    (inside_by (use_at new.executor slot) (w.uses slot) (fits slot) (refreshes_so.is_within same hash terms log p guard due slot free one said [] did new ran)),
+                    (inside_by (use_at new.executor slot) (w.uses slot) (fits slot) (refreshes_so.is_within same hash terms log p guard refresh_due slot free one said [] did new ran)),
               ));
         }
       where
@@ -181,14 +181,14 @@ module _ {K V S : Type 0} (same : K → K → Bool) (hash : K → ℕ) (terms : 
         lives = free_lives same hash terms m p stands guard slot free
 
   module _ (guard : List ℕ) (turn : is_kept_out terms (DropGuard guard) (moment log) ≡ false) where
-    abbrev due : IsDue same hash terms log (DropGuard guard) p
-    due = record { played = stands; in_turn = turn }
+    abbrev drop_due : IsDue same hash terms log (DropGuard guard) p
+    drop_due = record { played = stands; in_turn = turn }
 
     drop_facts : (slot : ℕ) → IsAbout (DropGuard guard) p slot → guards_on slot p.there.guards ≡ 1 → FactsAt (DropGuard guard) slot (left_as slot p.there)
     drop_facts slot free one ran =
-        let may = drops_so.may_leave same hash terms log p guard due slot free one in
-        let settles = drops_so.settles same hash terms log p guard due slot free one in
-        let alone = drops_so.alone same hash terms log p guard due slot free one in
+        let may = drops_so.may_leave same hash terms log p guard drop_due slot free one in
+        let settles = drops_so.settles same hash terms log p guard drop_due slot free one in
+        let alone = drops_so.alone same hash terms log p guard drop_due slot free one in
         record {
           may = may;
           over = over_alone same hash stands.name m stands.scene p.logged new stands.shown slot (left_as slot p.there) said [] did ran may settles alone;
@@ -212,14 +212,14 @@ module _ {K V S : Type 0} (same : K → K → Bool) (hash : K → ℕ) (terms : 
         row after false = subst (λ (x : ℕ). IsRowFor (LeaveOwned x) before after (DropGuard guard) Done m) (slot_is same hash terms log p stands guard slot lives) ((rows after).leaves_owned guard (one_on same hash terms log p stands guard slot lives one))
 
   module _ (guard : List ℕ) (turn : is_kept_out terms (Flush guard) (moment log) ≡ false) where
-    abbrev due : IsDue same hash terms log (Flush guard) p
-    due = record { played = stands; in_turn = turn }
+    abbrev flush_due : IsDue same hash terms log (Flush guard) p
+    flush_due = record { played = stands; in_turn = turn }
 
     flush_facts : (slot : ℕ) → IsAbout (Flush guard) p slot
         → ((word : ℕ) → word_at p.logged.executor.memory.memory (at.Slot slot BATCH) ≡ Some word → false ≡ (word == HELD)) → FactsAt (Flush guard) slot call.Flush
     flush_facts slot lives reads ran =
-        let may = flushes_so.may_flush same hash terms log p guard due slot lives in
-        let alone = flushes_so.alone same hash terms log p guard due slot lives false reads refl in
+        let may = flushes_so.may_flush same hash terms log p guard flush_due slot lives in
+        let alone = flushes_so.alone same hash terms log p guard flush_due slot lives false reads refl in
         record {
           may = may;
           over = over_alone same hash stands.name m stands.scene p.logged new stands.shown slot call.Flush said [] did ran may tt alone;

@@ -1,5 +1,5 @@
 -- The next pair of a walk is shown, or that there is none.
-use Rattle.std.proofs.Common.{[], refl, sym, ap, subst, ◌∙◌}
+use Rattle.std.proofs.Common.{◌≡◌, [], refl, sym, subst, ◌∙◌}
 use Rattle.papaya_histories.specs.Given.SeizeWords.declared.fault.Fault.TheVariants.{Busy}
 use Rattle.papaya_schedules.specs.After.{moment}
 use Rattle.papaya_schedules.specs.declared.event.Event.TheVariants.{Next}
@@ -9,9 +9,9 @@ use Rattle.papaya_logged.proofs.KeptGiven.{given_on}
 use Rattle.papaya_scheduler.proofs.KeptGiven.{given_as}
 use Rattle.papaya_logged.specs.Calling.{WalkGoesOn}
 use Rattle.papaya_rows.proofs.Lists.{got_within}
-use Rattle.papaya_stepping.specs.Stepping.{HasWalked, MayWalk, PlaysNext, WalkComes}
+use Rattle.papaya_stepping.specs.Stepping.{MayWalk, PlaysNext, WalkComes}
 use Rattle.papaya_stepping.proofs.NextEnds.{asked_here, next_asked, next_busy, next_may, next_ready, plays_next, there}
-use Rattle.papaya_stepping.proofs.NextTook.{has_walked}
+use Rattle.papaya_stepping.proofs.NextTook.{took_next}
 use Rattle.papaya_scheduler.proofs.Rights.{entry, entry_is}
 use Rattle.papaya_stepping.proofs.walking.next.Goals as goal
 
@@ -116,14 +116,9 @@ returns g c = record {
       let comes = subst (λ h. WalkComes eq (g.S.Hashes.hash h) c.in-Some.place c.in_ok-come.come.1 c.in_ok-come.come.0 [] c.walk_on.new.effects.items asked c.walk_on.new.scheduler) c.next.ensures.given.0
       (subst (λ l. WalkComes eq (g.S.Hashes.hash c.next.new.self.executor.hasher) c.in-Some.place c.in_ok-come.come.1 c.in_ok-come.come.0 l c.walk_on.new.effects.items asked c.walk_on.new.scheduler)
       c.no_effects-effects.ensures c.in_ok-come.ensures.comes) in
-      let played = record { outcome = c.come_to-outcome.result; steps = c.in_ok-come.come.1; effects = c.walk_on.new.effects } in
-      let walked = subst (λ p. HasWalked eq hash c.in-Some.place played old p) (sym c.come_to-outcome.ensures.rest)
-      (has_walked eq hash c.in-Some.place played old c.next.new.self c.in_ok-come.come.0 c.walk_on.new.scheduler comes c.come_to-outcome.new.scheduler.calls c.come_to-outcome.ensures.calls
-      c.come_to-outcome.ensures.outcome here.caller here.at c.next.result c.way_of-number.result.0 (ap (λ x. x.0) read) (c.next.ensures.asked eq hash) (c.next.ensures.leads eq hash)
-      c.next.ensures.notes c.next.ensures.given) in (
-        λ place is. subst (λ k. HasWalked eq hash k played old c.come_to-outcome.new.scheduler) (let its = ready ∙ sym is in cc its) walked,
-        λ none. absurd (cc (ready, none)),
-      );
+      took_next eq hash c.in-Some.place old c.next.new.self c.in_ok-come.come.0 c.come_to-outcome.result c.in_ok-come.come.1 c.walk_on.new.effects c.walk_on.new.scheduler comes
+      c.come_to-outcome.new.scheduler.calls c.come_to-outcome.ensures.calls c.come_to-outcome.ensures.outcome c.args.caller.now ready c.come_to-outcome.new.scheduler c.come_to-outcome.ensures.rest here.caller here.at
+      c.next.result _ (subst (λ x. x.0 ≡ here.caller.number) (sym read) refl) (c.next.ensures.asked eq hash) (c.next.ensures.leads eq hash) c.next.ensures.notes c.next.ensures.given;
   given = given_as c.args.scheduler.now (record c.walk_on.new.scheduler { calls = c.come_to-outcome.new.scheduler.calls }) c.come_to-outcome.new.scheduler
       (given_on c.args.scheduler.now.logged.executor c.next.new.self.executor c.walk_on.new.scheduler.logged.executor c.next.ensures.given c.walk_on.ensures.given) c.come_to-outcome.ensures.rest;
 }
