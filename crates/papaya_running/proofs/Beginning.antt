@@ -1,5 +1,5 @@
 -- Before all events a scheduler is as events ask of it, whatever was chosen of numbers of blocks.
-use Rattle.std.specs.Prelude.{◌≡◌, ◌<◌, ◌≤◌, ◌^◌, ℕ, Bool, List, [], length, None, Some, min, slice_get}
+use Rattle.std.specs.Prelude.{◌≡◌, ◌<◌, ◌≤◌, ◌^◌, ℕ, Bool, List, [], length, Option, None, Some, min, slice_get, slice_index_or}
 use Rattle.std.proofs.Common.{refl, sym, ap, subst, ◌∙◌, inr, arith}
 use Rattle.seize_words.specs.Mem.{Mem, word_at}
 use Rattle.seize_words.specs.SlotWords.{slot_word}
@@ -12,8 +12,17 @@ use Rattle.papaya_histories.proofs.Given.Moments.NewMaps.{pairs_begin}
 use Rattle.papaya_histories.proofs.Given.Moments.Numbers.{numbers_begin}
 use Rattle.papaya_schedules.specs.Moment.{start}
 use Rattle.papaya_schedules.specs.Terms.{Terms}
-use Rattle.papaya_effects.specs.Known.{Known}
-use Rattle.papaya_logged.specs.Choosing.{logged_chosen}
+use Rattle.papaya_effects.specs.Known.{Known, known}
+use Rattle.papaya_histories.specs.Given.Seize.World.{Chooses, World}
+use Rattle.papaya_histories.specs.Given.Tables.Nodes.{deferred_word}
+use Rattle.papaya_histories.specs.Given.Tables.declared.setting.Setting.{Setting}
+use Rattle.papaya_histories.specs.Given.Executor.IsAt.{at_first}
+use Rattle.papaya_models.specs.Turns.{CameByTurns}
+use Rattle.papaya_models.proofs.Turns.{events_follow, turns_begin}
+use Rattle.papaya_legal.proofs.Begin.{runs_begin_in}
+use Rattle.papaya_logged.specs.Choosing.{logged_chosen, memory_chosen}
+use Rattle.papaya_logged.specs.Shown.{IsShown}
+use Rattle.papaya_logged.proofs.Choosing.{choice_shown}
 use Rattle.papaya_logged.specs.declared.logged.Logged.{Logged}
 use Rattle.papaya_reclaims.proofs.Left.Stays.{left_is_left_behind, nothing_is_left}
 use Rattle.papaya_scheduler.specs.First.{HasJustBegun}
@@ -24,21 +33,51 @@ use Rattle.papaya_scheduler.specs.declared.scheduler.Given.{Given}
 use Rattle.papaya_scheduler.specs.declared.scheduler.Scheduler.{Scheduler}
 use Rattle.papaya_scheduler.proofs.Chosen.{stands_chosen}
 use Rattle.papaya_running.specs.Asked.{Holds}
+use Rattle.papaya_running.specs.OfCalls.{HaveShards, Runs}
 use Rattle.papaya_running.specs.Run.{bounded}
+use Rattle.papaya_running.proofs.OfCalls.Scenes.{its_named, stands_in}
+
+-- Nothing is under way in a world that came about by what was chosen of numbers of blocks.
+pub record BeginsIn {K V S : Type 0} (same : K → K → Bool) (hash : K → ℕ) (given : Given) (p : Scheduler K V S) : Type 0 where
+  pub world : World (Node K V)
+  pub shown : (name : ℕ → List ℕ) → IsShown same hash name start p.logged (record (at_first given.setup.roots) { world = world })
+  pub came : CameByTurns deferred_word given.setup.batch_size given.setup.roots world []
 
 -- Nothing has happened, whatever keys and hashes are.
 pub record Begins {K V S : Type 0} (given : Given) (p : Scheduler K V S) : Type 0 where
   pub played : (same : K → K → Bool) (hash : K → ℕ) → IsPlayed same hash (terms_given given) [] p
   pub begun : HasJustBegun given p
+  pub first : (same : K → K → Bool) (hash : K → ℕ) → BeginsIn same hash given p
 
--- So it is after a choice of a block's number, too.
+-- So it is as a scheduler was made,
+pub begins_first : {K V S : Type 0} (given : Given) (p : Scheduler K V S) → ((same : K → K → Bool) (hash : K → ℕ) → IsPlayed same hash (terms_given given) [] p) → HasJustBegun given p
+    → ((same : K → K → Bool) (hash : K → ℕ) (name : ℕ → List ℕ) → IsShown same hash name start p.logged (at_first given.setup.roots)) → Begins given p
+begins_first {K} {V} given p played begun shown = record {
+  played = played;
+  begun = begun;
+  first = λ same hash. record {
+    world = (at_first {K = K} {V = V} given.setup.roots).world;
+    shown = shown same hash;
+    came = turns_begin deferred_word given.setup.batch_size given.setup.roots;
+  };
+}
+
+-- and after a choice of a block's number, too.
 pub still_begins : {K V S : Type 0} (given : Given) (p : Scheduler K V S) → Begins given p → (choice : ℕ) (logged : Logged K V S) → logged ≡ logged_chosen choice p.logged
     → Begins given (record p { logged = logged })
 still_begins {K} {V} {S} given p begins choice logged is =
     let b = begins.begun in
     subst (λ (l : Logged K V S). Begins given (record p { logged = l })) (sym is) (record {
       played = λ same hash. stands_chosen same hash (terms_given given) start p (begins.played same hash) choice;
-      begun = record { maps = b.maps; known_is = b.known_is; many = b.many; free = b.free; nowhere = b.nowhere; slots = b.slots };
+      begun = record { maps = b.maps; known_is = b.known_is; many = b.many; batches = b.batches; free = b.free; nowhere = b.nowhere; slots = b.slots };
+      first = λ same hash.
+          let f = begins.first same hash in
+          record {
+            world = record f.world { memory = memory_chosen choice f.world.memory };
+            shown = λ name. choice_shown choice p.logged same hash name start (record (at_first given.setup.roots) { world = f.world }) (f.shown name);
+            came =
+                events_follow deferred_word given.setup.batch_size given.setup.roots f.world (record f.world { memory = memory_chosen choice f.world.memory }) [] f.came (Chooses choice) tt refl;
+          };
     })
 
 module _ {K V S : Type 0} (same : K → K → Bool) (hash : K → ℕ) (given : Given) (p : Scheduler K V S) (begins : Begins given p) where
@@ -91,6 +130,22 @@ module _ {K V S : Type 0} (same : K → K → Bool) (hash : K → ℕ) (given : 
           none = λ none. ap (λ (l : List (List ℕ)). slot_word l 0 HEAD) begins.begun.slots;
         };
       }
+
+  -- the run is as the first event needs
+  first : BeginsIn same hash given p
+  first = begins.first same hash
+
+  no_shards : HaveShards (terms_given given) p.logged.executor
+  no_shards n setting is = absurd (let none = ap (λ (xs : List (Option Setting)). slice_index_or xs n None) begins.begun.maps in cc (none, is))
+
+  pub first_runs : Runs same hash (terms_given given) [] p
+  first_runs = record {
+    stands = stands_in same hash (terms_given given) start p stands stands.name (record (at_first given.setup.roots) { world = first.world }) (first.shown stands.name)
+        (its_named same hash (terms_given given) start p stands);
+    shows = runs_begin_in K V same (terms_given given) stands.name (known p.logged.notes) first.world (first.shown stands.name).shows (first.shown stands.name).kept first.came;
+    size = begins.begun.batches;
+    shards = no_shards;
+  }
 
   -- all that events ask of it, where keys have lawful hashes, and processors are not too many
   pub first_holds : AreLawful same hash → given.setup.processors ≤ 2 ^ 63 → Holds same hash (terms_given given) start p

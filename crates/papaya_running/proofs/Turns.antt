@@ -17,6 +17,7 @@ use Rattle.papaya_schedules.specs.Moment.{Place, Deferral, MapThere, TableThere,
 use Rattle.papaya_schedules.specs.Runs.{Lists, ShowsMaps, log_of, log_on, trace_of}
 use Rattle.papaya_schedules.specs.Terms.{Terms}
 use Rattle.papaya_schedules.specs.Views.{is_in_map, is_retired}
+use Rattle.papaya_legal.specs.CallEvents.{IsLegalBut}
 use Rattle.papaya_scheduler.specs.Played.{entry_of}
 use Rattle.papaya_named.specs.Seen.{named, named_of}
 use Rattle.papaya_scheduler.specs.declared.played.Played.{Played}
@@ -26,7 +27,10 @@ use Rattle.papaya_running.specs.Acting.{acting_of, map_acted, singles_as, traced
 use Rattle.papaya_running.specs.Asked.{Happens, Holds}
 use Rattle.papaya_running.specs.Back.{BackSoFar, ReclaimsBy, ReclaimsRight, TellsBack}
 use Rattle.papaya_running.specs.Ending.{shown_of, told_map}
-use Rattle.papaya_running.specs.Run.{GoesRight, IsRightRun, SoFar, TellsMost, log_so}
+use Rattle.papaya_running.specs.Keeping.{IsAskedOf}
+use Rattle.papaya_running.specs.OfCalls.{Runs, RunsOn, Wanted}
+use Rattle.papaya_running.specs.OfRows.{PowersAreOne}
+use Rattle.papaya_running.specs.Run.{GoesRight, IsLegalRun, IsRightRun, RunsSoFar, SoFar, TellsMost, log_so}
 use Rattle.papaya_tally.specs.Tally.{Tells, TellsAll, TellsMoment, counted, deferral, flag_of}
 use Rattle.papaya_running.specs.declared.record.Record.{Record}
 use Rattle.papaya_logged.specs.Back.{ComesBack}
@@ -93,8 +97,9 @@ module _ {K V S : Type 0} (same : K → K → Bool) (hash : K → ℕ) (terms : 
 
       -- the event has happened, too
       pub next_so : {p2 : Scheduler K V S} → GoesRight terms log e → Holds same hash terms (moment (e ∷ log)) p2
+          → (Runs same hash terms log p → Wanted K V S same hash → PowersAreOne → IsAskedOf terms log e → RunsOn same hash terms log e p2)
           → SoFar same hash terms (events ++ event ∷ []) rec2 tally2 p2
-      next_so {p2} goes holds = record {
+      next_so {p2} goes holds on = record {
         outcomes = one_more rec.outcomes.items rec2.outcomes.items played.outcome outcomes so.outcomes;
         steps = one_more rec.steps.items rec2.steps.items played.steps steps so.steps;
         effects = one_more rec.effects.items rec2.effects.items played.effects effects so.effects;
@@ -102,6 +107,9 @@ module _ {K V S : Type 0} (same : K → K → Bool) (hash : K → ℕ) (terms : 
         goes = subst (AtEachEvent (GoesRight terms)) (sym more) (goes, so.goes);
         holds = subst (λ (l : List (Entry K V)). Holds same hash terms (moment l) p2) (sym more) holds;
         told = subst (λ (l : List (Entry K V)). TellsMoment tally2 (moment l)) (sym more) tells_then;
+        runs = subst (λ (l : List (Entry K V)). RunsSoFar same hash terms l p2) (sym more) (λ wanted powers asked.
+            (let before = so.runs wanted powers asked.1 in
+            let next = on before.1 wanted powers asked.0 in ((next.legal, before.0), next.runs)));
       }
 
       -- and what it reclaims has come back
@@ -119,8 +127,8 @@ goes_so same hash terms _ e p happens = record { right = λ finds. (happens.play
 -- before all events
 pub start_so : {K V S : Type 0} (same : K → K → Bool) (hash : K → ℕ) (terms : Terms) (rec : Record V) (tally : Tally) (p : Scheduler K V S) → rec.outcomes.items ≡ [] → rec.steps.items ≡ [] → rec.effects.items ≡ []
     → rec.trace.items ≡ [] → tally.pairs.items ≡ [] → tally.behind.items ≡ [] → tally.tables.items ≡ []
-    → Holds same hash terms (start {K = K} {V = V}) p → SoFar same hash terms [] rec tally p
-start_so {K} {V} same hash terms rec tally p outcomes steps effects trace pairs behind flags holds = record {
+    → Holds same hash terms (start {K = K} {V = V}) p → Runs same hash terms [] p → SoFar same hash terms [] rec tally p
+start_so {K} {V} same hash terms rec tally p outcomes steps effects trace pairs behind flags holds runs = record {
   outcomes = ap length outcomes;
   steps = ap length steps;
   effects = ap length effects;
@@ -132,6 +140,7 @@ start_so {K} {V} same hash terms rec tally p outcomes steps effects trace pairs 
     behind = ap (map deferral) behind;
     flags = flags;
   });
+  runs = subst (λ (l : List (Entry K V)). RunsSoFar same hash terms l p) (sym none) (λ wanted powers asked. (tt, runs));
 }
   where
     none : log_so {K = K} {V = V} [] rec ≡ []
@@ -194,3 +203,9 @@ module _ {K V S : Type 0} (same : K → K → Bool) (hash : K → ℕ) (terms : 
         tells = subst (λ (l : List (Entry K V)). TellsMost (moment l) run) (sym same_log) tells;
         back = subst (λ (l : List (Entry K V)). AtEachEvent ReclaimsRight l → TellsBack (moment l) run) (sym same_log) back;
       }
+
+  -- and each of its events is legal, as far as that is said
+  pub legal_so : (run : Run K V) → run.outcomes ≡ rec.outcomes → run.steps ≡ rec.steps → run.effects ≡ rec.effects → IsLegalRun S same terms events run
+  legal_so run outcomes steps effects wanted powers asked =
+      let same_log : log_of events run ≡ log_so events rec = λ i. log_on [] events (outcomes i).items (steps i).items (map (λ v. v.items) (effects i).items) in
+      subst (AtEachEvent (IsLegalBut same terms)) (sym same_log) (so.runs (wanted hash) powers (subst (AtEachEvent (IsAskedOf terms)) same_log asked)).0

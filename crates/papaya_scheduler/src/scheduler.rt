@@ -1,7 +1,7 @@
 //! The state of a run whose calls stay under way: the executor, and who is there by name.
 ghost use Rattle.std.specs.Prelude.{◌≡◌, ◌<◌, ℕ, Bool, List, [], IfOk, OnOk};
-ghost use Rattle.papaya_schedules.specs.Moment.{Moment};
-ghost use Rattle.papaya_executor.specs.IsAt.{Scene, KeepsGiven};
+ghost use Rattle.papaya_schedules.specs.Moment.{Moment, start};
+ghost use Rattle.papaya_executor.specs.IsAt.{Scene, KeepsGiven, at_first};
 ghost use Rattle.papaya_logged.specs.Back.{BringsBack};
 ghost use Rattle.papaya_logged.specs.Shown.{IsShown};
 ghost use Rattle.papaya_executor.specs.OnSlots.{MayBegin};
@@ -61,6 +61,7 @@ impl<K: Drop, V: Drop, S: Drop> Scheduler<K, V, S> {
     pub fn new(alloc: Global, given: Given, hasher: S) -> Result<Self, AllocError>
         ensures played { IfOk result (λ scheduler. (same : K → K → Bool) (hash : K → ℕ) → IsPlayed same hash (terms_given given) [] scheduler) }
         ensures begun { IfOk result (HasJustBegun given) }
+        ensures shown { IfOk result (λ scheduler. (same : K → K → Bool) (hash : K → ℕ) (name : ℕ → List ℕ) → IsShown same hash name start scheduler.logged (at_first given.setup.roots)) }
         ensures hasher { IfOk result (λ scheduler. scheduler.logged.executor.hasher ≡ hasher) }
     {
         let setup = given.setup;

@@ -15,7 +15,11 @@ returns-clause-begun g c =
       maps = logged.maps;
       known_is = logged.notes;
       many = logged.given.2;
+      batches = logged.given.1;
       free = ap (λ m. m.used) first;
       nowhere = ap (λ m. m.roots) first;
       slots = ap (λ m. m.slots) first;
     }
+
+pub returns-clause-shown : goal.returns-clause-shown
+returns-clause-shown g c = λ same hash name. c.in_ok-new.ensures.shown same hash name
