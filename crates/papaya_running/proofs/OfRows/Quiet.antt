@@ -24,8 +24,6 @@ use Rattle.papaya_schedules.specs.Reclaims.{IsProtected}
 use Rattle.papaya_schedules.specs.Steps.{IsBrief}
 use Rattle.papaya_schedules.specs.Terms.{Terms}
 use Rattle.papaya_effects.specs.Known.{Known, known}
-use Rattle.papaya_histories.specs.Given.Executor.IsAt.{IsAt}
-use Rattle.papaya_histories.specs.Given.Moments.Whole.{ShowsWhole}
 use Rattle.papaya_schedules.specs.Linearizable.{shift_of}
 use Rattle.papaya_histories.proofs.OtherCalls.{no_calls_are_linearizable}
 use Rattle.papaya_promises.specs.Guards.{EntersInside}
@@ -39,23 +37,17 @@ use Rattle.papaya_legal.specs.CallEvents.{IsLegalBut}
 use Rattle.papaya_legal.specs.Carried.{ShowsRun}
 use Rattle.papaya_legal.specs.Over.{LeavesAll}
 use Rattle.papaya_legal.proofs.Over.{idle_events_end}
-use Rattle.papaya_kept.specs.Kept.{ShowsKept}
-use Rattle.papaya_reclaims.specs.Left.{LeftAmong}
-use Rattle.papaya_logged.specs.Shown.{IsShown}
-use Rattle.papaya_logged.specs.declared.logged.Logged.{Logged}
 use Rattle.papaya_rows.proofs.There.{is_inside}
 use Rattle.papaya_scheduler.specs.Played.{IsDue, IsPlayed, StandsFor}
 use Rattle.papaya_scheduler.specs.Works.{HasNoRow, IsAbout}
-use Rattle.papaya_named.specs.declared.caller.Callers.{Callers}
 use Rattle.papaya_scheduler.specs.declared.scheduler.Scheduler.{Scheduler}
 use Rattle.papaya_scheduler.proofs.Dropped.{free_lives}
 use Rattle.papaya_scheduler.proofs.Enters as enters_so
 use Rattle.papaya_scheduler.proofs.Rights.{entry}
-use Rattle.papaya_running.specs.OfCalls.{HaveShards, Runs, RunsOn}
+use Rattle.papaya_running.specs.OfCalls.{Runs, RunsOn}
 use Rattle.papaya_running.specs.OfRows.{is_of_rows}
-use Rattle.papaya_running.proofs.OfCalls.Scenes.{AreNamed, its_named, stands_in}
+use Rattle.papaya_running.proofs.OfCalls.AsBefore.{as_before}
 use Rattle.papaya_running.proofs.OfRows.Facts.{inside_by, slot_is}
-use Rattle.papaya_running.proofs.Remaining.{counted_in}
 
 none_made : (q : Bool) → (not q || true) ≡ true
 none_made true = refl
@@ -103,15 +95,7 @@ module _ {K V S : Type 0} (same : K → K → Bool) (hash : K → ℕ) (terms : 
   -- So the run goes on, where executor, notes and callers are as they were.
   pub still_keeps : (e : Entry K V) (new : Scheduler K V S) → e.effects ≡ [] → IsStill log run.stands.scene.world e → new.logged ≡ old.logged → new.calls ≡ old.calls
       → IsPlayed same hash terms (e ∷ log) new → ComesRight terms log e → RunsOn same hash terms log e new
-  still_keeps e new nothing still logged calls played right = record {
-    legal = legal.0;
-    runs = record {
-      stands = stands_in same hash terms (moment (e ∷ log)) new played run.stands.name run.stands.scene shown named;
-      shows = subst (λ (l : Logged K V S). ShowsRun same run.stands.name terms (e ∷ log) (known l.notes) run.stands.scene) (sym logged) shows;
-      size = ap (λ (l : Logged K V S). l.executor.batch_size) logged ∙ run.size;
-      shards = subst (λ (l : Logged K V S). HaveShards terms l.executor) (sym logged) run.shards;
-    };
-  }
+  still_keeps e new nothing still logged calls played right = as_before same hash terms log old new run logged calls e legal.0 shows played
     where
       legal : IsLegalBut same terms log e × SectionsHold (after e (moment log)) (known old.logged.notes) run.stands.scene.world
       legal = still_legal same terms log (known old.logged.notes) run.stands.scene.world e nothing still run.shows.sections
@@ -120,25 +104,6 @@ module _ {K V S : Type 0} (same : K → K → Bool) (hash : K → ℕ) (terms : 
       shows =
           idle_events_end K V same run.stands.name terms log (known old.logged.notes) run.stands.scene run.shows e right legal.0.life nothing still.changes still.left still.reclaims still.leaves
           legal.1
-
-      is_at : IsAt same hash new.logged.executor run.stands.scene
-      is_at = subst (λ (l : Logged K V S). IsAt same hash l.executor run.stands.scene) (sym logged) run.stands.shown.is_at
-
-      left : LeftAmong new.logged.executor.roots run.stands.scene.world run.stands.scene.maps run.stands.scene.makers run.stands.scene.enders run.stands.shown.counted.remains.lists
-      left =
-          subst (λ (l : Logged K V S). LeftAmong l.executor.roots run.stands.scene.world run.stands.scene.maps run.stands.scene.makers run.stands.scene.enders run.stands.shown.counted.remains.lists)
-          (sym logged) run.stands.shown.counted.remains.left
-
-      shown : IsShown same hash run.stands.name (moment (e ∷ log)) new.logged run.stands.scene
-      shown = record {
-        is_at = is_at;
-        shows = subst (λ (l : Logged K V S). ShowsWhole same run.stands.name (moment (e ∷ log)) (known l.notes) run.stands.scene) (sym logged) shows.calls.whole;
-        kept = subst (λ (l : Logged K V S). ShowsKept run.stands.name (moment (e ∷ log)) (known l.notes) run.stands.scene) (sym logged) shows.calls.kept;
-        counted = counted_in same hash terms (moment (e ∷ log)) new played run.stands.scene is_at run.stands.shown.counted.remains.lists left;
-      }
-
-      named : AreNamed run.stands.name new.calls.items.items
-      named = subst (λ (c : Callers V). AreNamed run.stands.name c.items.items) (sym calls) (its_named same hash terms (moment log) old run.stands)
 
 -- one that was refused is whole, and changes nothing
 module _ {K V : Type 0} (log : List (Entry K V)) (w : Moment K V) where
