@@ -53,28 +53,16 @@ IsNoReservation _ = Unit {0}
 
 module _ {K V : Type 0} (same : K → K → Bool) where
   no_reservation : (u : UnderWay K V K) → MakesByCopier u → (its : Call K V) → IsCalled same u its → IsNoReservation its
-  no_reservation (OnKey x) copies (call.On one) is = tt
   no_reservation (OnKey x) copies (call.Reserve more) is = absurd is
-  no_reservation (OnKey x) copies call.Clear is = tt
-  no_reservation (OnKey x) copies call.Retain is = tt
-  no_reservation (OnKey x) copies call.Len is = tt
-  no_reservation (OnKey x) copies call.Walk is = tt
-  no_reservation (OverAll o) copies (call.On one) is = tt
+  no_reservation (OnKey x) copies _ is = tt
   no_reservation (OverAll o) copies (call.Reserve more) is = absurd is
-  no_reservation (OverAll o) copies call.Clear is = tt
-  no_reservation (OverAll o) copies call.Retain is = tt
-  no_reservation (OverAll o) copies call.Len is = tt
-  no_reservation (OverAll o) copies call.Walk is = tt
+  no_reservation (OverAll o) copies _ is = tt
   no_reservation (ForRoom r) copies its is = absurd copies
   no_reservation (Counting sum) copies its is = absurd copies
 
 next_grows : {K V : Type 0} (terms : Terms) (m : Moment K V) (moments : List (Moment K V)) (its : Call K V) (c : CallThere K V) → IsNoReservation its → HasNext c.map m → MayGrow terms its c (m ∷ moments)
 next_grows terms m moments (call.Reserve more) c none next = absurd none
-next_grows terms m moments (call.On one) c none next = inr (inl next)
-next_grows terms m moments call.Clear c none next = inr (inl next)
-next_grows terms m moments call.Retain c none next = inr (inl next)
-next_grows terms m moments call.Len c none next = inr (inl next)
-next_grows terms m moments call.Walk c none next = inr (inl next)
+next_grows terms m moments _ c none next = inr (inl next)
 
 module _ {K V S : Type 0} (same : K → K → Bool) (hash : K → ℕ) (name : ℕ → List ℕ) (m : Moment K V) (known : Known) (s : Scene K V) (old new : Executor K V S) (at : IsAt same hash old s)
     (whole : ShowsWhole same name m known s) (map i : ℕ) (u : UnderWay K V K) (here : s.calls map i ≡ Some u) (said : Progress (Node K V)) (leads : StepLeads same hash i said s old new) where

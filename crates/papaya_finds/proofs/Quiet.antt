@@ -10,14 +10,13 @@ use Rattle.papaya_histories.specs.Given.Schedules.Effects.{call_by, with_effect}
 use Rattle.papaya_histories.specs.Given.Schedules.Entry.{ByCall}
 use Rattle.papaya_histories.specs.Given.Schedules.Moment.{UnderWay as CallThere, Moment}
 use Rattle.papaya_histories.specs.Given.Schedules.Terms.{Terms}
-use Rattle.papaya_histories.specs.Given.Schedules.Views.{call_of}
+use Rattle.papaya_histories.specs.Given.Schedules.Views.{call_of, has_gift}
 use Rattle.papaya_histories.specs.Given.Schedules.declared.call.Call.{Call}
 use Rattle.papaya_histories.specs.Given.Schedules.declared.call.Call.TheVariants as call
 use Rattle.papaya_histories.specs.Given.Schedules.declared.call.OneKey.{OneKey}
 use Rattle.papaya_histories.specs.Given.Schedules.declared.call.OneKey.TheVariants as key
 use Rattle.papaya_histories.specs.Given.Schedules.Growing.{has_value_for}
 use Rattle.papaya_histories.specs.Given.Schedules.Sequential.{has_value}
-use Rattle.papaya_histories.specs.Given.Schedules.Views.{has_gift}
 use Rattle.papaya_owes.proofs.Events.{several_find}
 use Rattle.papaya_owes.proofs.Fields.{its_effect}
 use Rattle.papaya_settles.specs.Owing.{FindsOwed, hands_over}

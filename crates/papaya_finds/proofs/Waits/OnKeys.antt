@@ -19,7 +19,7 @@ use Rattle.papaya_histories.specs.Given.Teller.declared.changed.Changed.{Changed
 use Rattle.papaya_histories.specs.Given.Teller.declared.changed.Changed.TheVariants as changed
 use Rattle.papaya_histories.specs.Given.Rule.Words.{Blocks}
 use Rattle.papaya_histories.specs.Given.Callers.Sights.{seen_by}
-use Rattle.papaya_histories.specs.Given.Callers.Together.{CallOnKey, OnKey, Together}
+use Rattle.papaya_histories.specs.Given.Callers.Together.{CallOnKey, OnKey, Stands, Together}
 use Rattle.papaya_histories.specs.Given.Effects.Effects.{effects_of}
 use Rattle.papaya_histories.specs.Given.Effects.Known.{Known}
 use Rattle.papaya_histories.specs.Given.Effects.declared.acting.Acting.TheVariants as acts
@@ -44,7 +44,6 @@ use Rattle.papaya_finds.proofs.Waits.Taken.{TookPair, took_pair}
 use Rattle.papaya_finds.proofs.Waits.Calls.{before, lay, lies_then, past_then, took_then, row_takes_none}
 use Rattle.papaya_histories.specs.Given.Points.FactsCalls.{IsCopying}
 use Rattle.papaya_histories.specs.Given.Points.Told.{IsRowOfCall}
-use Rattle.papaya_histories.specs.Given.Callers.Together.{Stands}
 
 module _ {K V S : Type 0} (same : K → K → Bool) (hash : K → ℕ) (name : ℕ → List ℕ) (m : Moment K V) (known : Known) (s : Scene K V) (old new : Executor K V S) (at_old : IsAt same hash old s)
     (whole : ShowsWhole same name m known s) (entries : ShowsEntries s) (owning : OwnAreMade known s.world) (owes : ShowsOwed name m known s) (waits : ShowsWaits name m s)

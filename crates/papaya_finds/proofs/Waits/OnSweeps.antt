@@ -20,7 +20,7 @@ use Rattle.papaya_histories.specs.Given.Teller.declared.changed.Changed.TheVaria
 use Rattle.papaya_histories.specs.Given.Rule.Words.{Blocks}
 use Rattle.papaya_histories.specs.Given.Callers.OverAll.{CallOverAll}
 use Rattle.papaya_histories.specs.Given.Callers.Sights.{seen_by}
-use Rattle.papaya_histories.specs.Given.Callers.Together.{OverAll, Together}
+use Rattle.papaya_histories.specs.Given.Callers.Together.{OverAll, Stands, Together}
 use Rattle.papaya_histories.specs.Given.Effects.Effects.{effects_of}
 use Rattle.papaya_histories.specs.Given.Effects.Known.{Known}
 use Rattle.papaya_histories.specs.Given.Effects.declared.acting.Acting.TheVariants as acts
@@ -43,7 +43,6 @@ use Rattle.papaya_finds.proofs.Waits.Sweeps.{SweepWaits, SweptNone, SweptAlike, 
 use Rattle.papaya_finds.proofs.Waits.Taken.{TookPair, took_pair}
 use Rattle.papaya_finds.proofs.Waits.Calls.{before, lay, lies_then, past_then, took_then, row_takes_none}
 use Rattle.papaya_histories.specs.Given.Late.ToldSweeps.{IsRowOfSweep}
-use Rattle.papaya_histories.specs.Given.Callers.Together.{Stands}
 use Rattle.papaya_histories.specs.Given.Sweeps.declared.sweep.Sweeping.TheVariants as sweeping
 use Rattle.papaya_histories.specs.Given.Resize.declared.copier.Copier.{Copier}
 use Rattle.papaya_histories.specs.Given.Tables.declared.marks.TheConstants.{TOMBSTONE}
