@@ -1,0 +1,2 @@
+pub mod Flushes
+pub mod Steps
