@@ -1,2 +1,3 @@
 pub mod Flushes
 pub mod Steps
+pub mod Mays
