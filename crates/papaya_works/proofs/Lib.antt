@@ -1,3 +1,4 @@
 pub mod Flushes
 pub mod Steps
 pub mod Mays
+pub mod Makings
