@@ -19,7 +19,7 @@ use Rattle.papaya_running.specs.Asked.{FindsBy, Happens, HappensAt, Holds, is_of
 use Rattle.papaya_running.specs.Keeping.{IsAskedOf, IsNotRefused}
 use Rattle.papaya_running.specs.OfAll.{IsLeftOfAllBut, KeepsAll}
 use Rattle.papaya_running.specs.OfCalls.{KeepsAt, Runs, RunsOn, Wanted}
-use Rattle.papaya_running.specs.OfRows.{HasNotBegun, KeepsRunAt, PowersAreOne, is_of_rows}
+use Rattle.papaya_running.specs.OfRows.{HasNotBegun, KeepsRunAt, is_of_rows}
 
 module _ {K V S : Type 0} where
   -- a making that was not refused has not been refused once it had begun
@@ -44,8 +44,8 @@ module _ {K V S : Type 0} (same : K → K → Bool) (hash : K → ℕ) (is_first
   it = happens terms log first holds
 
   -- an event of a call, or whose work is a row, a making, or an end,
-  pub goes_on : KeepsAt same hash its played old new → KeepsRunAt same hash its played old new → Wanted K V S same hash → PowersAreOne → IsAskedOf terms log e → RunsOn same hash terms log e new
-  goes_on calls rows wanted powers asked = by (is_of_calls its) refl
+  pub goes_on : KeepsAt same hash its played old new → KeepsRunAt same hash its played old new → Wanted K V S same hash → IsAskedOf terms log e → RunsOn same hash terms log e new
+  goes_on calls rows wanted asked = by (is_of_calls its) refl
     where
       right : ComesRight terms log e
       right = (it.plays asked.right).right
@@ -55,7 +55,7 @@ module _ {K V S : Type 0} (same : K → K → Bool) (hash : K → ℕ) (is_first
       by false is =
           let of_rows : is_of_rows its ≡ true = sym (ap (λ (q : Bool). q || is_of_rows its) is) ∙ asked.kind in
           let left = asked.rows of_rows in
-          rows of_rows terms log holds runs it.played (record { right = right; but = left.0 }) (not_begun its played.outcome played.effects.items old new left.1) powers
+          rows of_rows terms log holds runs it.played (record { right = right; but = left.0 }) (not_begun its played.outcome played.effects.items old new left.1)
 
   -- and one that reclaims all
   pub all_goes_on : KeepsAll same hash its played old new → gives_all its ≡ true → IsLeftOfAllBut same hash terms log old runs → RunsOn same hash terms log e new × ReclaimsAll log e
