@@ -108,7 +108,7 @@ module _ {K V S : Type 0} (same : K → K → Bool) (hash : K → ℕ) (terms : 
 
   -- one that did nothing keeps its promises,
   still_on : (its : Event K V) → is_of_setups its ≡ true → (new.calls ≡ old.calls) × DidNothing played old new → KeepsIn (entry_of its played) new
-  still_on its of (calls, none, logged) =
+  still_on its of (calls, (none, logged)) =
       subst (λ (x : Entry K V). KeepsIn x new) (sym (entry_is its played played.outcome played.steps [] refl refl none))
       (λ after right. still_keeps same hash terms log old run (entry its played.outcome played.steps []) new refl
       (setup_still log run.stands.scene.world its of played.outcome played.steps) logged calls after right)
@@ -143,7 +143,7 @@ module _ {K V S : Type 0} (same : K → K → Bool) (hash : K → ℕ) (its : Ev
   -- One that is kept out did nothing,
   pub setup_out : (mapped : Bool) → new ≡ record old { is_mapped = mapped } → (played : Played V) → played.effects.items ≡ [] → KeepsSetup same hash its played old new
   setup_out mapped same_but played none = λ of terms log run after right.
-      still_on same hash terms log old new run played its of (ap (λ (p : Scheduler K V S). p.calls) same_but, none, ap (λ (p : Scheduler K V S). p.logged) same_but) after right
+      still_on same hash terms log old new run played its of (ap (λ (p : Scheduler K V S). p.calls) same_but, (none, ap (λ (p : Scheduler K V S). p.logged) same_but)) after right
 
   -- and of events of other kinds nothing is said.
   pub none_set : {X : Type 0} → is_of_setups its ≡ false → (result : Result (Played V) X) → IfOk result (λ played. KeepsSetup same hash its played old new)

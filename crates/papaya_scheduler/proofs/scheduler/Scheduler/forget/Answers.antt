@@ -28,7 +28,7 @@ pub returns-clause-quiet : goal.returns-clause-quiet
 returns-clause-quiet g c = none_quiet c.quietly.result.outcome c.quietly.result.effects.items c.quietly.ensures.effects
 
 pub returns-then-is_none-clause-works : goal.returns-then-is_none-clause-works
-returns-then-is_none-clause-works g c = (refl, c.busy.ensures.effects, refl)
+returns-then-is_none-clause-works g c = (refl, (c.busy.ensures.effects, refl))
 
 pub returns-clause-works : goal.returns-clause-works
-returns-clause-works g c = (refl, c.quietly.ensures.effects, refl)
+returns-clause-works g c = (refl, (c.quietly.ensures.effects, refl))

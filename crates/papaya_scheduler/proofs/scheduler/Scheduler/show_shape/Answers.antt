@@ -37,7 +37,7 @@ pub returns-in_ok-shapes-in-Some-clause-quiet : goal.returns-in_ok-shapes-in-Som
 returns-in_ok-shapes-in-Some-clause-quiet g c = none_quiet c.quietly.result.outcome c.quietly.result.effects.items c.quietly.ensures.effects
 
 pub returns-in-None-clause-works : goal.returns-in-None-clause-works
-returns-in-None-clause-works g c = (refl, c.busy.ensures.effects, refl)
+returns-in-None-clause-works g c = (refl, (c.busy.ensures.effects, refl))
 
 pub returns-in_ok-shapes-in-Some-clause-works : goal.returns-in_ok-shapes-in-Some-clause-works
-returns-in_ok-shapes-in-Some-clause-works g c = (refl, c.quietly.ensures.effects, refl)
+returns-in_ok-shapes-in-Some-clause-works g c = (refl, (c.quietly.ensures.effects, refl))
