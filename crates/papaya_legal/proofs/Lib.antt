@@ -28,3 +28,5 @@ pub mod Chains
 pub mod OfAll
 pub mod Legal
 pub mod Found
+pub mod Come
+pub mod Noted
