@@ -5,7 +5,7 @@ use Rattle.std.proofs.Common.{refl, ap, sym, subst, ◌∙◌, append_assoc, ari
 use Rattle.std.proofs.lemmas.Bool.{cases_lt, eq-eqb}
 use Rattle.std.proofs.lemmas.List.{append-nil, length-append, length-map}
 use Rattle.std.proofs.lemmas.List.Concat.{flat_map-cons}
-use Rattle.papaya_histories.specs.Given.SeizeWords.declared.at.At.TheVariants.{Root, Used, Slot, Entry, Word}
+use Rattle.papaya_histories.specs.Given.SeizeWords.declared.at.At.TheVariants as at
 use Rattle.papaya_histories.specs.Given.Seize.declared.states.TheConstants.{FIRST}
 use Rattle.papaya_histories.specs.Given.Tables.declared.table_words.TheConstants.{NEXT, DEFERRED}
 use Rattle.papaya_histories.specs.Given.Teller.declared.changed.Changed.{Changed}
@@ -63,10 +63,10 @@ at_end (y ∷ things) x same = or_right (same_thing x y) (is_in same_thing x (th
 
 -- a call has one pair at most to store
 module _ {K V : Type 0} where
-  put_few : (k : K) (x : Meaning V) → length (map (λ (v : V). (k, v)) (value_put x)) ≤ 1
+  put_few : (k : K) (x : Meaning V) → length {A = K × V} (map (λ (v : V). (k, v)) (value_put x)) ≤ 1
   put_few k x = by x
     where
-      by : (x : Meaning V) → length (map (λ (v : V). (k, v)) (value_put x)) ≤ 1
+      by : (x : Meaning V) → length {A = K × V} (map (λ (v : V). (k, v)) (value_put x)) ≤ 1
       by (Answers a (Puts v)) = omega arith
       by _ = omega arith
 
@@ -214,11 +214,11 @@ module _ {K V : Type 0} (caller : Option (List ℕ)) (acted : Option ℕ) where
 
     pub numbers_so : (told : Changed) → AllNumbered (effects_of its known told)
     numbers_so changed.Nothing = tt
-    numbers_so (changed.Wrote (Root r) old new) = numbers_if (names_same old new) [] (led_to its (named known old) (named known new)) tt (led_numbers (named known old) (named known new))
-    numbers_so (changed.Wrote (Used r) old new) = tt
-    numbers_so (changed.Wrote (Slot t field) old new) = tt
-    numbers_so (changed.Wrote (Entry b field) old new) = numbers_if (names_same old new) [] (batched its field (known.roles b)) tt (batched_numbers field (known.roles b))
-    numbers_so (changed.Wrote (Word b field) old new) = block_numbers (known.roles b) field (names_same old new) (named known old) (named known new)
+    numbers_so (changed.Wrote (at.Root r) old new) = numbers_if (names_same old new) [] (led_to its (named known old) (named known new)) tt (led_numbers (named known old) (named known new))
+    numbers_so (changed.Wrote (at.Used r) old new) = tt
+    numbers_so (changed.Wrote (at.Slot t field) old new) = tt
+    numbers_so (changed.Wrote (at.Entry b field) old new) = numbers_if (names_same old new) [] (batched its field (known.roles b)) tt (batched_numbers field (known.roles b))
+    numbers_so (changed.Wrote (at.Word b field) old new) = block_numbers (known.roles b) field (names_same old new) (named known old) (named known new)
     numbers_so (changed.Made k b) = made_numbers k
     numbers_so (changed.Unmade k) = (tt, tt)
     numbers_so (changed.Took b) = taken_numbers (known.roles b)

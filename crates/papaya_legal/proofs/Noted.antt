@@ -1,5 +1,5 @@
 -- What a row hands over that begins with a step of a call: its call's machine has it in hand, so it is noted; and all that is noted came into a map.
-use Rattle.std.specs.Prelude.{◌≡◌, ◌≢◌, ◌⊎◌, ℕ, ◌≤◌, ◌<◌, ◌==◌, zero, suc, Bool, true, false, List, [], ◌∷◌, length, Option, Some, None, if◌then◌else◌}
+use Rattle.std.specs.Prelude.{◌≡◌, ◌≢◌, ◌⊎◌, ℕ, ◌≤◌, ◌<◌, ◌==◌, zero, suc, ◌+◌, Bool, true, false, ◌&&◌, List, [], ◌∷◌, length, Option, Some, None, if◌then◌else◌}
 use Rattle.std.specs.List.{list_any}
 use Rattle.std.proofs.Common.{refl, ap, sym, subst, ◌∙◌, arith, inl, inr}
 use Rattle.std.proofs.lemmas.Bool.{and_parts, eq-eqb, ne_eqb}
@@ -62,7 +62,6 @@ use Rattle.papaya_histories.specs.Given.Follows.Blocks.{HasRole}
 use Rattle.papaya_histories.proofs.Given.Follows.Contents.{pair_within}
 use Rattle.papaya_histories.proofs.Given.Spots.Unreclaimed.{table_is}
 use Rattle.papaya_histories.specs.Given.Moments.Whole.{ShowsWhole}
-use Rattle.papaya_promises.specs.Sheltered.{IsOfThing}
 use Rattle.papaya_settles.specs.Due.{Due, ToRetire, ToPut, OwnAreMade, due_in_calling, due_in_copying, due_in_disposing, due_in_reserving, due_in_row, due_in_settle, due_in_sweeping, word_due}
 use Rattle.papaya_settles.specs.Hand.{HoldsAt, IsPairAt, IsPairRole, IsTableAt, IsTableRole, NotesInHand, NotesOfCall, NotesOfRoom, NotesOfSweep, NotesTables}
 use Rattle.papaya_settles.specs.InHand.{pair_in_disposing}
@@ -76,7 +75,7 @@ use Rattle.papaya_lives.proofs.Rows.{new_way}
 use Rattle.papaya_kept.specs.Kept.{ShowsKept}
 use Rattle.papaya_kept.proofs.Calls.{own_made}
 use Rattle.papaya_models.specs.CallEvents.{IsNoted}
-use Rattle.papaya_models.specs.Defers.{AreNoted}
+use Rattle.papaya_models.specs.Numbers.{HasNumber}
 use Rattle.papaya_finds.proofs.Lists.{one_of_them}
 use Rattle.papaya_legal.specs.Noted.{HaveCome, CallsHandNoted}
 
@@ -180,9 +179,9 @@ module _ {K V S : Type 0} (same : K → K → Bool) (hash : K → ℕ) (name : �
       (calls_go_in_hand K V S same hash name m known s old new at whole.all.shown whole.all.rows kept.entries owning map i u here said leads (kept.owed.noted map i u here)).1
 
   -- it has a number among the things
-  numbered : (b : ℕ) (r : Role) → known.roles b ≡ r → IsPairRole r ⊎ IsTableRole r → (k : ℕ) × (x : Thing) × IsOfThing x (known.roles b) × (is_in same_thing x things ≡ true) × (number_in things x ≡ k)
-  numbered b (role.Pair n) is of = (number_in things (APair n), APair n, is, pair_came b n is, refl)
-  numbered b (role.Table t len) is of = (number_in things (ATable t), ATable t, (len, is), table_came b len t is, refl)
+  numbered : (b : ℕ) (r : Role) → known.roles b ≡ r → IsPairRole r ⊎ IsTableRole r → (k : ℕ) × HasNumber known things b k
+  numbered b (role.Pair n) is of = (number_in things (APair n), (APair n, is, pair_came b n is, refl))
+  numbered b (role.Table t len) is of = (number_in things (ATable t), (ATable t, (len, is), table_came b len t is, refl))
   numbered b role.Free is (inl no_pair) = absurd no_pair
   numbered b role.Free is (inr no_table) = absurd no_table
   numbered b (role.OwnPair j) is (inl no_pair) = absurd no_pair
@@ -197,9 +196,11 @@ module _ {K V S : Type 0} (same : K → K → Bool) (hash : K → ℕ) (name : �
     retires : (t b : ℕ) → Begins deferred_word size i (Retire t b) w begun → Happens deferred_word size (Begin i (Retire t b)) w begun → Steps' deferred_word i (begun.row i) begun to2
         → IsNoted things known (slot_of i) (Retire t b)
     retires t b begins begin step =
-        let due = begun_due deferred_word size i w begun to2 t b begins step in (
+        let due = begun_due deferred_word size i w begun to2 t b begins step in
+        let number = numbered b (known.roles b) refl (in_hand b (retire_meant b (to2.row i) due)) in (
           one_slot b t (slot_of i) (to2.row i) due ((step_leaves deferred_word size begun there i to2 t shared step).on_slot on) ((leads map u here).5.on_slots i),
-          numbered b (known.roles b) refl (in_hand b (retire_meant b (to2.row i) due)),
+          number.0,
+          number.1,
         )
       where
         there : Reached deferred_word size begun
