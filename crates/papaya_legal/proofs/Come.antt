@@ -3,7 +3,7 @@ use Rattle.std.specs.Prelude.{◌≡◌, ℕ, ◌+◌, ◌≤◌, ◌==◌, nat_
 use Rattle.std.specs.List.{AllByRecursion}
 use Rattle.std.proofs.Common.{refl, ap, sym, subst, ◌∙◌, append_assoc, arith, inl, inr}
 use Rattle.std.proofs.lemmas.Bool.{cases_lt, eq-eqb}
-use Rattle.std.proofs.lemmas.List.{append-nil, length-append, length-map}
+use Rattle.std.proofs.lemmas.List.{append-nil, length-append}
 use Rattle.std.proofs.lemmas.List.Concat.{flat_map-cons}
 use Rattle.papaya_histories.specs.Given.SeizeWords.declared.at.At.TheVariants as at
 use Rattle.papaya_histories.specs.Given.Seize.declared.states.TheConstants.{FIRST}
@@ -240,7 +240,7 @@ module _ {K V : Type 0} where
     tables = subst (AllByRecursion (λ u. is_in same_thing (ATable u.table) things ≡ true)) (sym tables) h.tables;
   }
 
-  called : (caller guard : List ℕ) (call : Calling K V) (of : Option ℕ) (things : List Thing) (m : Moment K V) → HaveCome things m → HaveCome things (with_call caller guard call of m)
+  pub called : (caller guard : List ℕ) (call : Calling K V) (of : Option ℕ) (things : List Thing) (m : Moment K V) → HaveCome things m → HaveCome things (with_call caller guard call of m)
   called caller guard call None things m h = h
   called caller guard call (Some of) things m h = as_there things m (with_call caller guard call (Some of) m) h refl refl
 

@@ -1,17 +1,15 @@
 -- What a row hands over that begins with a step of a call: its call's machine has it in hand, so it is noted; and all that is noted came into a map.
-use Rattle.std.specs.Prelude.{◌≡◌, ◌≢◌, ◌⊎◌, ℕ, ◌≤◌, ◌<◌, ◌==◌, zero, suc, ◌+◌, Bool, true, false, ◌&&◌, List, [], ◌∷◌, length, Option, Some, None, if◌then◌else◌}
-use Rattle.std.specs.List.{list_any}
+use Rattle.std.specs.Prelude.{◌≡◌, ◌⊎◌, ℕ, ◌==◌, zero, suc, ◌+◌, Bool, true, false, ◌&&◌, List, length, Option, Some, None, if◌then◌else◌}
 use Rattle.std.proofs.Common.{refl, ap, sym, subst, ◌∙◌, arith, inl, inr}
 use Rattle.std.proofs.lemmas.Bool.{and_parts, eq-eqb, ne_eqb}
 use Rattle.papaya_histories.specs.Given.SeizeWords.Mem.{value_at}
-use Rattle.papaya_histories.specs.Given.SeizeWords.Word.{block_in, link_to}
+use Rattle.papaya_histories.specs.Given.SeizeWords.Word.{link_to}
 use Rattle.papaya_histories.specs.Given.SeizeWords.declared.at.At.TheVariants.{Word}
 use Rattle.papaya_histories.specs.Given.Seize.Defer.{deferring}
 use Rattle.papaya_histories.specs.Given.Seize.Settle.{retiring}
 use Rattle.papaya_histories.specs.Given.Seize.World.{World, Row, Rests, Registers, Enters, Settles, Leaves, Defers, Frees, Hand, Making, Handed, Request, Register', Enter', Leave', LeaveOwned, Refresh, Unregister', Retire, Flush, Defer', Begin, Step, Begins, Steps', Happens, with_at}
-use Rattle.papaya_histories.specs.Given.Seize.declared.rows.settle.Settle.{Settle}
 use Rattle.papaya_histories.specs.Given.Seize.declared.states.TheConstants.{LAST_SLOT}
-use Rattle.papaya_histories.proofs.Given.SeizeMoves.State.Ghost.{IsDeferring, IsOwned, can_carry, lies_with}
+use Rattle.papaya_histories.proofs.Given.SeizeMoves.State.Ghost.{IsOwned, can_carry, lies_with}
 use Rattle.papaya_histories.proofs.Given.SeizeRule.Points.Aside.{HandFits}
 use Rattle.papaya_histories.proofs.Given.SeizeRule.Rows.Known.{FitsRow}
 use Rattle.papaya_histories.proofs.Given.SeizeRule.Rows.Teams.{shares}
@@ -56,7 +54,6 @@ use Rattle.papaya_histories.specs.Given.Effects.declared.role.Role.TheVariants a
 use Rattle.papaya_histories.specs.Given.Executor.IsAt.{Scene, IsAt, slot_of}
 use Rattle.papaya_histories.specs.Given.Executor.Stepping.{StepLeads}
 use Rattle.papaya_histories.specs.Given.Executor.declared.executor.Executor.{Executor}
-use Rattle.papaya_histories.specs.Given.Finishes.Machines.{machine_of}
 use Rattle.papaya_histories.specs.Given.Finishes.Maps.{Standing}
 use Rattle.papaya_histories.specs.Given.Follows.Blocks.{HasRole}
 use Rattle.papaya_histories.proofs.Given.Follows.Contents.{pair_within}

@@ -18,7 +18,7 @@ use Rattle.papaya_scheduler.specs.declared.scheduler.Scheduler.{Scheduler}
 use Rattle.papaya_running.specs.Asked.{FindsBy, Happens, HappensAt, Holds, is_of_calls}
 use Rattle.papaya_running.specs.Keeping.{IsAskedOf, IsNotRefused}
 use Rattle.papaya_running.specs.OfAll.{IsLeftOfAllBut, KeepsAll}
-use Rattle.papaya_running.specs.OfCalls.{KeepsAt, Runs, RunsOn, Wanted}
+use Rattle.papaya_running.specs.OfCalls.{KeepsAt, Runs, RunsOn}
 use Rattle.papaya_running.specs.OfRows.{HasNotBegun, KeepsRunAt, PowersAreOne, is_of_rows}
 
 module _ {K V S : Type 0} where
@@ -44,14 +44,14 @@ module _ {K V S : Type 0} (same : K → K → Bool) (hash : K → ℕ) (is_first
   it = happens terms log first holds
 
   -- an event of a call, or whose work is a row, a making, or an end,
-  pub goes_on : KeepsAt same hash its played old new → KeepsRunAt same hash its played old new → Wanted K V S same hash → PowersAreOne → IsAskedOf terms log e → RunsOn same hash terms log e new
-  goes_on calls rows wanted powers asked = by (is_of_calls its) refl
+  pub goes_on : KeepsAt same hash its played old new → KeepsRunAt same hash its played old new → PowersAreOne → IsAskedOf terms log e → RunsOn same hash terms log e new
+  goes_on calls rows powers asked = by (is_of_calls its) refl
     where
       right : ComesRight terms log e
       right = (it.plays asked.right).right
 
       by : (q : Bool) → is_of_calls its ≡ q → RunsOn same hash terms log e new
-      by true is = let left = asked.calls is in calls is wanted terms log runs left.1 (record { right = right; but = left.0 })
+      by true is = let left = asked.calls is in calls is terms log runs left.1 (record { right = right; but = left.0 })
       by false is =
           let of_rows : is_of_rows its ≡ true = sym (ap (λ (q : Bool). q || is_of_rows its) is) ∙ asked.kind in
           let left = asked.rows of_rows in
