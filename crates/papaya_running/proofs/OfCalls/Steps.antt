@@ -26,12 +26,12 @@ use Rattle.papaya_histories.specs.Given.Executor.IsAt.{Scene, slot_of}
 use Rattle.papaya_histories.specs.Given.Executor.Stepping.{StepLeads, has_ended, scene_after}
 use Rattle.papaya_histories.specs.Given.Finishes.Maps.{Standing, IsSameMap}
 use Rattle.papaya_histories.specs.InEvent.{here_of}
+use Rattle.papaya_histories.specs.Given.Schedules.declared.effect.Thing.{Thing}
 use Rattle.papaya_models.specs.CallEvents.{IsNoted, things_then}
 use Rattle.papaya_legal.specs.Noted.{HaveCome}
 use Rattle.papaya_legal.proofs.Come.{calls_bring_things}
 use Rattle.papaya_legal.proofs.Noted.{calls_hand_noted}
 use Rattle.papaya_models.proofs.CallEvents.{things_more}
-use Rattle.papaya_histories.specs.Given.Schedules.declared.effect.Thing.{Thing}
 use Rattle.papaya_legal.specs.CallEvents.{InCallEvent}
 use Rattle.papaya_legal.proofs.Calls.{call_events_go_on_so}
 use Rattle.papaya_logged.specs.Calling.{CallGoesOn}
