@@ -29,3 +29,5 @@ pub mod Chains
 pub mod OfAll
 pub mod Legal
 pub mod Found
+pub mod Come
+pub mod Noted

@@ -9,6 +9,7 @@ ghost use Rattle.papaya_legal.specs.CallSwept.{CallsAreSwept};
 ghost use Rattle.papaya_legal.specs.SlotEvents.{SlotEventsBegin, SlotEventsGoOn, SlotEventsAreLegal, SlotEventsEnd};
 ghost use Rattle.papaya_legal.specs.MapEvents.{MakingEventsGoOn, EndEventsGoOn, MapEventsAreLegal, IdleEventsAreLegal};
 ghost use Rattle.papaya_legal.specs.Found.{RestShowsRetired, RowChainsFind, RowsFindTheirs};
+ghost use Rattle.papaya_legal.specs.Noted.{CallsBringThings, CallsHandNoted, EventsBeginWithThings, EventsBringThings, NothingHasCome};
 ghost use Rattle.papaya_legal.specs.Over.{AgainEventsEnd, BegunEventsEnd, ChoicesEnd, EndEventsBegin, EndEventsEnd, EndEventsFollow, IdleEventsEnd, MakingEventsBegin, MakingEventsEnd, MakingEventsFollow, QuietEventsEnd, RunsByOtherNames, RunsGoOn, StoppedEventsEnd, ToldEventsEnd};
 ghost use Rattle.papaya_legal.specs.Chains.{CallsChain, EndsChain, MakingsChain, RowsChain, RowsRunToTheirEnds, MakingsRunToTheirEnds, EndsRunToTheirEnds};
 ghost use Rattle.papaya_legal.specs.Promises.{EventsAreLegal};
@@ -138,4 +139,14 @@ pub fn rows_find_theirs<K, V, S>()
     ensures found { (same : K → K → Bool) (hash : K → ℕ) → RowsFindTheirs K V S same hash }
     ensures chain { (same : K → K → Bool) (hash : K → ℕ) → RowChainsFind K V S same hash }
     ensures retired { (same : K → K → Bool) (hash : K → ℕ) → RestShowsRetired K V S same hash }
+{}
+
+/// Each pair that was stored, and each table of a map, came into a map, by the log of a run: before all events, after what a call does, and after an event whose effects find what they must. So what a
+/// row hands over that begins with a step of a call is noted as such a thing, and it does so under the slot of its caller.
+pub fn rows_hand_noted<K, V, S>()
+    ensures nothing { NothingHasCome K V }
+    ensures begins { EventsBeginWithThings K V }
+    ensures calls { CallsBringThings K V }
+    ensures events { EventsBringThings K V }
+    ensures noted { (same : K → K → Bool) (hash : K → ℕ) → CallsHandNoted K V S same hash }
 {}

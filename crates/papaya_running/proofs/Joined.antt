@@ -18,7 +18,7 @@ use Rattle.papaya_scheduler.specs.declared.scheduler.Scheduler.{Scheduler}
 use Rattle.papaya_running.specs.Asked.{FindsBy, Happens, HappensAt, Holds, is_of_calls}
 use Rattle.papaya_running.specs.Keeping.{IsAskedOf, IsNotRefused}
 use Rattle.papaya_running.specs.OfAll.{IsLeftOfAllBut, KeepsAll}
-use Rattle.papaya_running.specs.OfCalls.{KeepsAt, Runs, RunsOn, Wanted}
+use Rattle.papaya_running.specs.OfCalls.{KeepsAt, Runs, RunsOn}
 use Rattle.papaya_running.specs.OfRows.{HasNotBegun, KeepsRunAt, is_of_rows}
 use Rattle.papaya_running.specs.OfSetups.{KeepsSetup, is_of_setups}
 
@@ -54,15 +54,15 @@ module _ {K V S : Type 0} (same : K → K → Bool) (hash : K → ℕ) (is_first
   it = happens terms log first holds
 
   -- an event that does not reclaim all,
-  pub goes_on : KeepsAt same hash its played old new → KeepsRunAt same hash its played old new → KeepsSetup same hash its played old new → Wanted K V S same hash → IsAskedOf terms log e
+  pub goes_on : KeepsAt same hash its played old new → KeepsRunAt same hash its played old new → KeepsSetup same hash its played old new → IsAskedOf terms log e
       → RunsOn same hash terms log e new
-  goes_on calls rows setups wanted asked = by (is_of_calls its) (is_of_rows its) refl refl
+  goes_on calls rows setups asked = by (is_of_calls its) (is_of_rows its) refl refl
     where
       right : ComesRight terms log e
       right = (it.plays asked.right).right
 
       by : (p q : Bool) → is_of_calls its ≡ p → is_of_rows its ≡ q → RunsOn same hash terms log e new
-      by true q is of_rows = let left = asked.calls is in calls is wanted terms log runs left.1 (record { right = right; but = left.0 })
+      by true q is of_rows = let left = asked.calls is in calls is terms log runs left.1 (record { right = right; but = left.0 })
       by false true is of_rows =
           let left = asked.rows of_rows in
           rows of_rows terms log holds runs it.played (record { right = right; but = left.0 }) (not_begun its played.outcome played.effects.items old new left.1)

@@ -25,6 +25,7 @@ use Rattle.papaya_reclaims.specs.Reclaims.{IsRootOf}
 use Rattle.papaya_reclaims.proofs.Left.Stays.{nothing_is_left}
 use Rattle.papaya_reclaiming.specs.Reclaiming.{IsReclaiming, MayReclaim, NobodyHas}
 use Rattle.papaya_finds.specs.Little.{ReclaimsAll}
+use Rattle.papaya_legal.proofs.Come.{events_bring_things}
 use Rattle.papaya_legal.specs.AllEvents.{AllCome, AllSteps, FindsPair}
 use Rattle.papaya_legal.specs.CallEvents.{IsLegalBut}
 use Rattle.papaya_legal.specs.Carried.{ShowsRun}
@@ -209,6 +210,7 @@ module _ {K V S : Type 0} (same : K → K → Bool) (hash : K → ℕ) (terms : 
             runs = record {
               stands = stands_in same hash terms (moment (e ∷ log)) new so name last_scene shown named;
               shows = its.2;
+              come = events_bring_things K V terms log e run.come its.0.life.finds;
               size = ran.5.0.given.1 ∙ y.size;
               shards = λ n setting is. run.shards n setting (sym (stood n) ∙ is);
             };

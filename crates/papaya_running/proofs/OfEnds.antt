@@ -39,6 +39,7 @@ use Rattle.papaya_histories.specs.Given.Moments.Endings.{IsOfIts}
 use Rattle.papaya_histories.specs.Given.Moments.WholeEnds.{all_ended, tables_ended}
 use Rattle.papaya_histories.specs.Given.Others.Endings.{ending_after}
 use Rattle.papaya_executor.proofs.Fresh.{no_ending_yet}
+use Rattle.papaya_legal.proofs.Come.{events_bring_things}
 use Rattle.papaya_legal.specs.CallEvents.{IsLegalBut}
 use Rattle.papaya_legal.specs.Carried.{ShowsRun}
 use Rattle.papaya_legal.specs.Chains.{Chain, Come, EndSteps}
@@ -401,6 +402,7 @@ module _ {K V S : Type 0} (same : K → K → Bool) (hash : K → ℕ) (terms : 
               counted = counted_in same hash terms (moment (e ∷ log)) new so y.scene y.is_at y.counted.remains.lists y.counted.remains.left;
             }) named;
         shows = (it right).1;
+        come = events_bring_things K V terms log e run.come (it right).0.life.finds;
         size = y.size;
         shards = shards;
       };

@@ -46,6 +46,7 @@ use Rattle.papaya_histories.specs.Given.Others.Makings.{IsNew, WasNew, making_af
 use Rattle.papaya_others.proofs.MakingGoes.{new_maps_stay}
 use Rattle.papaya_executor.specs.MakingBegins.{next_making}
 use Rattle.papaya_executor.proofs.Fresh.{no_making_yet}
+use Rattle.papaya_legal.proofs.Come.{events_bring_things}
 use Rattle.papaya_legal.specs.CallEvents.{IsLegalBut}
 use Rattle.papaya_models.specs.Follows.{FollowsModel}
 use Rattle.papaya_legal.specs.Carried.{ComesAlone, ShowsRun}
@@ -461,6 +462,7 @@ module _ {K V S : Type 0} (same : K → K → Bool) (hash : K → ℕ) (terms : 
           counted = counted_in same hash terms (moment (e ∷ log)) new so y.scene at_end y.counted.remains.lists left_behind;
         }) named;
         shows = shows left;
+        come = events_bring_things K V terms log e run.come (it left).0.life.finds;
         size = ap (λ (x : Executor K V S). x.batch_size) d.gone.6 ∙ y.size;
         shards = shards;
       };

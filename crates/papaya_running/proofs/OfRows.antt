@@ -31,6 +31,7 @@ use Rattle.papaya_promises.specs.Others.{SparesGuards}
 use Rattle.papaya_promises.specs.Protected.{is_of_slots, there_in}
 use Rattle.papaya_models.specs.OnSlots.{IsRowFor}
 use Rattle.papaya_finds.specs.Little.{ReclaimsAll}
+use Rattle.papaya_legal.proofs.Come.{events_bring_things}
 use Rattle.papaya_legal.specs.CallEvents.{IsLegalBut}
 use Rattle.papaya_legal.specs.Carried.{ShowsRun}
 use Rattle.papaya_legal.specs.Chains.{Chain as StepChain, RowSteps}
@@ -229,7 +230,7 @@ module _ {K V S : Type 0} (same : K → K → Bool) (hash : K → ℕ) (terms : 
     row_keeps : RunsOn same hash terms log e new
     row_keeps = record {
       legal = it.0;
-      runs = record { stands = stands_in same hash terms (moment (e ∷ log)) new after name y.scene shown named; shows = it.1; size = y.size; shards = shards };
+      runs = record { stands = stands_in same hash terms (moment (e ∷ log)) new after name y.scene shown named; shows = it.1; come = events_bring_things K V terms log e run.come it.0.life.finds; size = y.size; shards = shards };
     }
 
   -- and so it is of one that has done nothing
