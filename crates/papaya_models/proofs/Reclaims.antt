@@ -18,6 +18,7 @@ use Rattle.papaya_histories.proofs.Given.SeizeSets.Reclaims.Rounds.{reclaimed_qu
 use Rattle.papaya_histories.proofs.Given.SeizeSets.Reclaims.Sets.{active_is, is_inside, open_none}
 use Rattle.papaya_histories.proofs.Given.SeizeSets.Turns.All.{turns_shown, start_shown}
 use Rattle.papaya_histories.proofs.Given.SeizeSets.Turns.Append.{turns_append, changed_append}
+use Rattle.papaya_histories.proofs.Given.SeizeSets.Turns.Begins.{Shown}
 use Rattle.papaya_histories.specs.Given.Tables.Nodes.{deferred_word}
 use Rattle.papaya_histories.specs.Given.Tables.declared.node.Node.{Node}
 use Rattle.papaya_models.specs.Alike.{SetsAlike}
