@@ -22,6 +22,7 @@ pub mod SlotsAfter
 pub mod Over
 pub mod Idle
 pub mod Begun
+pub mod Choices
 pub mod Again
 pub mod MapsOver
 pub mod Chains

@@ -9,7 +9,7 @@ ghost use Rattle.papaya_legal.specs.CallSwept.{CallsAreSwept};
 ghost use Rattle.papaya_legal.specs.SlotEvents.{SlotEventsBegin, SlotEventsGoOn, SlotEventsAreLegal, SlotEventsEnd};
 ghost use Rattle.papaya_legal.specs.MapEvents.{MakingEventsGoOn, EndEventsGoOn, MapEventsAreLegal, IdleEventsAreLegal};
 ghost use Rattle.papaya_legal.specs.Found.{RestShowsRetired, RowChainsFind, RowsFindTheirs};
-ghost use Rattle.papaya_legal.specs.Over.{AgainEventsEnd, BegunEventsEnd, EndEventsBegin, EndEventsEnd, EndEventsFollow, IdleEventsEnd, MakingEventsBegin, MakingEventsEnd, MakingEventsFollow, QuietEventsEnd, RunsByOtherNames, RunsGoOn, StoppedEventsEnd, ToldEventsEnd};
+ghost use Rattle.papaya_legal.specs.Over.{AgainEventsEnd, BegunEventsEnd, ChoicesEnd, EndEventsBegin, EndEventsEnd, EndEventsFollow, IdleEventsEnd, MakingEventsBegin, MakingEventsEnd, MakingEventsFollow, QuietEventsEnd, RunsByOtherNames, RunsGoOn, StoppedEventsEnd, ToldEventsEnd};
 ghost use Rattle.papaya_legal.specs.Chains.{CallsChain, EndsChain, MakingsChain, RowsChain, RowsRunToTheirEnds, MakingsRunToTheirEnds, EndsRunToTheirEnds};
 ghost use Rattle.papaya_legal.specs.Promises.{EventsAreLegal};
 
@@ -100,12 +100,13 @@ pub fn map_events<K, V, S>()
 {}
 
 /// An event that does nothing keeps its promises, as one that is kept out does. The moment after it shows all that the next event needs, if it is like one that does; so it is where calls and maps are as
-/// they were. An event that begins a call, has one say again what it asks, or that it is ready, tells it a reply that it takes, or gives up a walk that is ready, is legal but for what it comes to, and the
+/// they were. So it is, too, once an event has chosen the number of a block. An event that begins a call, has one say again what it asks, or that it is ready, tells it a reply that it takes, or gives up a walk that is ready, is legal but for what it comes to, and the
 /// moment after it shows all that the next one needs.
 pub fn idle_events<K, V, S>()
     ensures legal { (same : K → K → Bool) → IdleEventsAreLegal K V same }
     ensures quiet { (same : K → K → Bool) → QuietEventsEnd K V same }
     ensures ends { (same : K → K → Bool) → IdleEventsEnd K V same }
+    ensures chosen { (same : K → K → Bool) → ChoicesEnd K V same }
     ensures begun { (same : K → K → Bool) (hash : K → ℕ) → BegunEventsEnd K V S same hash }
     ensures again { (same : K → K → Bool) (hash : K → ℕ) → AgainEventsEnd K V S same hash }
     ensures told { (same : K → K → Bool) (hash : K → ℕ) → ToldEventsEnd K V S same hash }

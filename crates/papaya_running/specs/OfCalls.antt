@@ -17,7 +17,7 @@ use Rattle.papaya_histories.specs.Given.Schedules.declared.effect.Effect.{Effect
 use Rattle.papaya_histories.specs.Given.Schedules.declared.event.Event.{Event}
 use Rattle.papaya_histories.specs.Given.Schedules.declared.event.Event.TheVariants as events
 use Rattle.papaya_histories.specs.Given.Schedules.declared.outcome.Outcome.{Outcome}
-use Rattle.papaya_histories.specs.Given.Schedules.declared.outcome.Outcome.TheVariants.{Answered, Done, Goes}
+use Rattle.papaya_histories.specs.Given.Schedules.declared.outcome.Outcome.TheVariants.{Answered}
 use Rattle.papaya_histories.specs.Given.Schedules.After.{moment, moments_from}
 use Rattle.papaya_histories.specs.Given.Schedules.Beginning.{at_work}
 use Rattle.papaya_histories.specs.Given.Schedules.Entry.{Entry, IfCall, acting, caller_of}
@@ -117,12 +117,9 @@ module _ (K V S : Type 0) (same : K → K → Bool) (hash : K → ℕ) where
     pub noted : RowsHandNoted
 
 module _ {K V : Type 0} where
-  -- Of which events in turn this is said: of one by which a call goes on that is no walk asked for its next pair; of one that is to begin a call; and of one by which a call has got a reply, or a
-  -- walk was given up.
+  -- Of which events in turn this is said: of each but one that asks a walk for its next pair.
   abbrev pub IsSaid : Event K V → Outcome V → Type 0
   IsSaid (events.Next caller) outcome = ⊥
-  IsSaid (events.Replied caller reply) outcome = outcome ≡ Goes
-  IsSaid (events.Stop caller) outcome = outcome ≡ Done
   IsSaid event outcome = Unit {0}
 
 module _ {K V S : Type 0} (same : K → K → Bool) (hash : K → ℕ) where
