@@ -16,6 +16,7 @@ use Rattle.papaya_schedules.specs.InTurn.{ComesRight}
 use Rattle.papaya_schedules.specs.Moment.{Moment}
 use Rattle.papaya_schedules.specs.Terms.{Terms}
 use Rattle.papaya_effects.specs.Known.{known}
+use Rattle.papaya_legal.proofs.Come.{events_bring_things}
 use Rattle.papaya_legal.specs.CallEvents.{IsLegalBut}
 use Rattle.papaya_legal.specs.Carried.{ShowsRun}
 use Rattle.papaya_legal.proofs.Choices.{choices_end}
@@ -97,6 +98,7 @@ module _ {K V S : Type 0} (same : K → K → Bool) (hash : K → ℕ) (terms : 
       runs = record {
         stands = stands_in same hash terms (moment (e ∷ log)) chosen after name s shown_then (its_named same hash terms (moment log) old run.stands);
         shows = it.1;
+        come = events_bring_things K V terms log e run.come it.0.life.finds;
         size = run.size;
         shards = run.shards;
       };
