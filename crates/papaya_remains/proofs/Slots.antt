@@ -184,8 +184,8 @@ module _ (bucket : ℕ) (known : Known) where
           let low : known.buckets ≤ bucket = grind (arith, e) in
           let most = capacity_le_capacity known.buckets bucket low in
           let next : length slots + 32 ≡ capacity bucket = omega (arith, most, can, whole) in
-          let long = ap length (with_bucket_next slots bucket next) ∙ length-append slots (replicate (capacity bucket) (replicate SLOT_WORDS 0)) in
-          let new = length-replicate (capacity bucket) (replicate SLOT_WORDS 0) in
+          let long = ap length (with_bucket_next slots bucket next) ∙ length-append slots (replicate (capacity bucket) (replicate {A = ℕ} SLOT_WORDS 0)) in
+          let new = length-replicate (capacity bucket) (replicate {A = ℕ} SLOT_WORDS 0) in
           let more = capacity-more bucket in
           omega (arith, next, long, new, more)
       by false e =

@@ -2,3 +2,4 @@ pub mod Flushes
 pub mod Steps
 pub mod Mays
 pub mod Makings
+pub mod Ends
