@@ -120,10 +120,9 @@ module _ (K V S : Type 0) (same : K → K → Bool) (hash : K → ℕ) where
     pub noted : RowsHandNoted
 
 module _ {K V : Type 0} where
-  -- Of which events in turn this is said: of one by which a call goes on that is no walk asked for its next pair; of one that is to begin a call; and of one by which a call has got a reply, or a
-  -- walk was given up.
+  -- Of which events in turn this is said: of one by which a call goes on, or a walk is asked for its next pair; of one that is to begin a call; and of one by which a call has got a reply, or a walk
+  -- was given up.
   abbrev pub IsSaid : Event K V → Outcome V → Type 0
-  IsSaid (events.Next caller) outcome = ⊥
   IsSaid (events.Replied caller reply) outcome = outcome ≡ Goes
   IsSaid (events.Stop caller) outcome = outcome ≡ Done
   IsSaid event outcome = Unit {0}

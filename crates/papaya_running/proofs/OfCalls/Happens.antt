@@ -18,10 +18,10 @@ use Rattle.papaya_scheduler.specs.declared.played.Played.{Played}
 use Rattle.papaya_scheduler.specs.declared.scheduler.Scheduler.{Scheduler}
 use Rattle.papaya_scheduler.proofs.KeptOut.{kept_out_is}
 use Rattle.papaya_scheduler.proofs.Rights.{entry_is}
-use Rattle.papaya_stepping.specs.Stepping.{PlaysOnAt, TookSteps, TookWhole}
+use Rattle.papaya_stepping.specs.Stepping.{PlaysNextAt, PlaysOnAt, TookNext, TookSteps, TookWhole}
 use Rattle.papaya_running.specs.Asked.{is_of_calls}
-use Rattle.papaya_running.specs.OfCalls.{IsSaid, KeepsAt, KeepsDue, RunsOn}
-use Rattle.papaya_running.proofs.OfCalls.Events.{begin_on, begin_out, go_on, go_out, next_out, reply_out, step_on, step_out, stop_out, whole_goes_on, whole_out}
+use Rattle.papaya_running.specs.OfCalls.{KeepsAt, KeepsDue, RunsOn}
+use Rattle.papaya_running.proofs.OfCalls.Events.{ask_on, begin_on, begin_out, go_on, go_out, next_out, reply_out, step_on, step_out, stop_out, whole_goes_on, whole_out}
 use Rattle.papaya_running.proofs.OfCalls.Told.{stopped_on, told_on}
 
 module _ {K V S : Type 0} (same : K → K → Bool) (hash : K → ℕ) (old new : Scheduler K V S) (happens : Event K V) where
@@ -43,6 +43,13 @@ module _ {K V S : Type 0} (same : K → K → Bool) (hash : K → ℕ) (old new 
   whole_if guard on call is (Ok played) plays took = subst (λ (x : Event K V). KeepsDue same hash x played old new) (sym is) (λ said wanted terms log runs out left.
       whole_goes_on same hash old new played wanted terms log runs guard on call took left (plays terms log (record { played = runs.stands; in_turn = out })).played)
   whole_if guard on call is (Err x) plays took = tt
+
+  pub ask_if : {X : Type 0} (own : List ℕ) → happens ≡ event.Next own → (result : Result (Played V) X) → IfOk result (λ played. PlaysNextAt same hash own played old new)
+      → IfOk result (λ played. TookNext same hash own played old new) → IfOk result (λ played. KeepsDue same hash happens played old new)
+  ask_if own is (Ok played) plays took = subst (λ (x : Event K V). KeepsDue same hash x played old new) (sym is) (λ said wanted terms log runs out left.
+      let on = plays terms log (record { played = runs.stands; in_turn = out }) in
+      ask_on same hash old new played wanted terms log runs own took left.right out on.idle on.plays.played)
+  ask_if own is (Err x) plays took = tt
 
   pub begin_if : {X : Type 0} (own guard on : List ℕ) (call : Call K V) → happens ≡ event.Begin own guard on call → (result : Result (Played V) X) → IfOk result (λ played. played.steps ≡ 0)
       → IfOk result (λ played. PlaysAt same hash (event.Begin own guard on call) played old new) → IfOk result (λ played. Began same hash own guard on call played old new)
@@ -70,14 +77,6 @@ module _ {K V S : Type 0} (same : K → K → Bool) (hash : K → ℕ) (old new 
       subst (λ (e : Entry K V). RunsOn same hash terms log e new) (sym so)
       (stopped_on same hash terms log old runs own new it.0 given (subst (λ (e : Entry K V). ComesRight terms log e) so left.right)
       (subst (λ (e : Entry K V). IsPlayed same hash terms (e ∷ log) new) so on.played)))
-
-  -- of any other event of a call nothing is said
-  unsaid : (played : Played V) (form : Event K V) → happens ≡ form → (IsSaid form played.outcome → ⊥) → KeepsDue same hash happens played old new
-  unsaid played form is never = λ said. absurd (never (subst (λ (x : Event K V). IsSaid x played.outcome) is said))
-
-  pub unsaid_if : {X : Type 0} (form : Event K V) → happens ≡ form → ((played : Played V) → IsSaid form played.outcome → ⊥) → (result : Result (Played V) X) → IfOk result (λ played. KeepsDue same hash happens played old new)
-  unsaid_if form is never (Ok played) = unsaid played form is (never played)
-  unsaid_if form is never (Err x) = tt
 
 -- An event is kept out, or in turn, or none of a call.
 module _ {K V S : Type 0} (same : K → K → Bool) (hash : K → ℕ) (happens : Event K V) (old new : Scheduler K V S) where

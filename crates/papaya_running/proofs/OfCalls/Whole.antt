@@ -1,6 +1,6 @@
 -- An event by which a whole call begins that has no name, and goes on: it keeps its promises, and the run goes on with it.
 use Rattle.std.specs.Prelude.{◌≡◌, ◌≢◌, ◌≤◌, ◌&&◌, ℕ, Bool, true, false, List, [], ◌∷◌, slice_get, Option, Some, option_map, if◌then◌else◌}
-use Rattle.std.proofs.Common.{refl, ap, sym, subst, ◌∙◌}
+use Rattle.std.proofs.Common.{refl, ap, sym, subst, ◌∙◌, inl}
 use Rattle.papaya_histories.specs.Given.SeizeWaiting.Held.{count}
 use Rattle.papaya_histories.specs.Given.SeizeWords.declared.fault.Fault.TheVariants.{Busy}
 use Rattle.papaya_histories.specs.Given.Seize.World.{Rests}
@@ -35,10 +35,10 @@ use Rattle.papaya_stepping.proofs.RightSteps.{not_busy as never_busy}
 use Rattle.papaya_running.specs.OfCalls.{IsLeft, Runs, RunsOn, TellsValue, Wanted}
 use Rattle.papaya_running.proofs.OfCalls.Alone.{active_of, inside_of, no_row}
 use Rattle.papaya_running.proofs.OfCalls.Begun as begun
-use Rattle.papaya_running.proofs.OfCalls.Ends.{runs_on}
+use Rattle.papaya_running.proofs.OfCalls.Ends.{runs_on, tells_so}
 use Rattle.papaya_running.proofs.OfCalls.Found.{all_find, gone_find}
 use Rattle.papaya_running.proofs.OfCalls.Scenes.{stands_in}
-use Rattle.papaya_running.proofs.OfCalls.Steps.{HasCome, has_come, the}
+use Rattle.papaya_running.proofs.OfCalls.Steps.{HasCome, as_told, has_come, the}
 use Rattle.papaya_running.proofs.OfCalls.Words.{not_busy}
 
 module _ {K V S : Type 0} (same : K → K → Bool) (hash : K → ℕ) (wanted : Wanted K V S same hash) (terms : Terms) (log : List (Entry K V)) (old : Scheduler K V S) (runs : Runs same hash terms log old)
@@ -175,9 +175,11 @@ module _ {K V S : Type 0} (same : K → K → Bool) (hash : K → ℕ) (wanted :
         let by = come.2 in
         let far_on = has_come same hash wanted names terms log event m1 map i c 0 mid start by.0 by.2 by.3 by.4 in
         runs_on same hash wanted names terms log event m1 map i c 0 c_is (known old.logged.notes) runs.stands.scene (begun.run_named same hash terms log old runs nameless guard on call mid led) played by.0
-        by.2 by.3 new far_on by.5 begins (ap (λ (o : Option (CallThere K V)). option_map (λ (x : CallThere K V). x.map) o) acting_is) refl by.1 comes_as never left.right left.but.refuses
-        (its_left (λ (x : CallThere K V) (b : Moment K V). TellsValue x.call x.replies played.outcome) left.but.values)
-        (all_find same hash wanted names terms log event m1 map i c 0 (moments_from c.begun log) by.0 by.2 played.effects.items by.3 new played.outcome far_on by.5
+        by.2 by.3 new far_on by.5
+        (tells_so same hash wanted names terms log event m1 map i c 0 c_is (known old.logged.notes) runs.stands.scene (begun.run_named same hash terms log old runs nameless guard on call mid led) played by.0
+        by.2 by.3 new far_on by.5 comes_as (its_left (λ (x : CallThere K V) (b : Moment K V). TellsValue x.call x.replies played.outcome) left.but.values)) begins
+        (ap (λ (o : Option (CallThere K V)). option_map (λ (x : CallThere K V). x.map) o) acting_is) (inl refl) by.1 never left.right left.but.refuses
+        (all_find same hash wanted names terms log event m1 map i c 0 (moments_from c.begun log) by.0 by.2 played.effects.items by.3 new far_on (as_told same hash by.5)
         (gone_find same hash wanted names terms log event m1 map i c 0 (moments_from c.begun log) mid start by.0 by.2 by.3 by.4) rest)
         slot_so active plays
       where
