@@ -1,5 +1,6 @@
 -- An event by which a call goes on that is under way: it keeps its promises, and the run goes on with it.
-use Rattle.std.specs.Prelude.{◌≡◌, ◌≤◌, ◌&&◌, ℕ, Bool, true, false, List, [], ◌∷◌, position, Option, Some, option_map}
+use Rattle.std.specs.Prelude.{◌≡◌, ◌≤◌, ◌&&◌, ◌||◌, ℕ, Bool, true, false, not, List, [], ◌∷◌, position, Option, Some, option_map}
+use Rattle.std.specs.List.{list_any}
 use Rattle.std.proofs.Common.{refl, ap, sym, subst, ◌∙◌, inl}
 use Rattle.papaya_histories.specs.Given.SeizeWaiting.Held.{count}
 use Rattle.papaya_histories.specs.Given.Runs.Present.{slot_of_guard}
@@ -7,6 +8,7 @@ use Rattle.papaya_histories.specs.Given.Schedules.declared.event.Event.{Event}
 use Rattle.papaya_histories.specs.Given.Schedules.After.{moment, moments_from}
 use Rattle.papaya_histories.specs.Given.Schedules.Beginning.{at_work}
 use Rattle.papaya_histories.specs.Given.Schedules.Entry.{Entry, IfCall, acted_on, acting, caller_of, speaker}
+use Rattle.papaya_histories.specs.Given.Schedules.Handing.{is_made, refuses}
 use Rattle.papaya_histories.specs.Given.Schedules.Model.{guard_or, sets_in}
 use Rattle.papaya_histories.specs.Given.Schedules.Moment.{UnderWay as CallThere, Moment}
 use Rattle.papaya_histories.specs.Given.Schedules.Terms.{Terms}
@@ -124,6 +126,7 @@ module _ {K V S : Type 0} (same : K → K → Bool) (hash : K → ℕ) (wanted :
 
     module _ (takes : takes_steps event ≡ true) (goes : here.caller.stands ≡ far.Goes) (most : ℕ) (new : Scheduler K V S)
         (come : StepsCome same hash place most played.steps played.outcome [] played.effects.items old new) (left : IsLeft terms log (entry_of event played))
+        (refused : (not (refuses event) || not (list_any is_made played.effects.items)) ≡ true)
         (plays : IsPlayed same hash terms (entry_of event played ∷ log) new) where
       comes : ComesBy same hash terms own place m played.steps played.outcome [] played.effects.items new
       comes = come.1 terms m own runs.stands (placed, here.caller, here.at, goes)
@@ -150,7 +153,7 @@ module _ {K V S : Type 0} (same : K → K → Bool) (hash : K → ℕ) (wanted :
           runs_on same hash wanted name terms log event m map i c place c_is (known old.logged.notes) runs.stands.scene runs.shows played by.0 by.2 by.3 new far_on by.5
           (tells_so same hash wanted name terms log event m map i c place c_is (known old.logged.notes) runs.stands.scene runs.shows played by.0 by.2 by.3 new far_on by.5 comes_as
           (its_left (λ (x : CallThere K V) (b : Moment K V). TellsValue x.call x.replies played.outcome) left.but.values)) (begins played) acts_on (inl takes) by.1
-          (never_busy c.call played.outcome comes_as) left.right left.but.refuses
+          (never_busy c.call played.outcome comes_as) left.right refused
           (all_find same hash wanted name terms log event m map i c place (moments_from c.begun log) by.0 by.2 played.effects.items by.3 new far_on (as_told same hash by.5)
           (gone_find same hash wanted name terms log event m map i c place (moments_from c.begun log) old start by.0 by.2 by.3 by.4) rest)
           slot_so active plays

@@ -178,7 +178,7 @@ module _ {K V S : Type 0} (same : K → K → Bool) (hash : K → ℕ) (wanted :
         by.2 by.3 new far_on by.5
         (tells_so same hash wanted names terms log event m1 map i c 0 c_is (known old.logged.notes) runs.stands.scene (begun.run_named same hash terms log old runs nameless guard on call mid led) played by.0
         by.2 by.3 new far_on by.5 comes_as (its_left (λ (x : CallThere K V) (b : Moment K V). TellsValue x.call x.replies played.outcome) left.but.values)) begins
-        (ap (λ (o : Option (CallThere K V)). option_map (λ (x : CallThere K V). x.map) o) acting_is) (inl refl) by.1 never left.right left.but.refuses
+        (ap (λ (o : Option (CallThere K V)). option_map (λ (x : CallThere K V). x.map) o) acting_is) (inl refl) by.1 never left.right refl
         (all_find same hash wanted names terms log event m1 map i c 0 (moments_from c.begun log) by.0 by.2 played.effects.items by.3 new far_on (as_told same hash by.5)
         (gone_find same hash wanted names terms log event m1 map i c 0 (moments_from c.begun log) mid start by.0 by.2 by.3 by.4) rest)
         slot_so active plays
