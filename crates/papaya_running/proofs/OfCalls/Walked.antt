@@ -1,5 +1,5 @@
 -- An event by which a walk that is ready was asked for its next pair: it keeps its promises, and the run goes on with it.
-use Rattle.std.specs.Prelude.{◌≡◌, ℕ, Bool, true, false, is_some, MatchBool, List, [], ◌∷◌, ◌++◌, position, slice_get, Some}
+use Rattle.std.specs.Prelude.{◌≡◌, ℕ, Bool, true, false, is_some, MatchBool, List, [], ◌∷◌, ◌++◌, position, slice_get, Option, Some}
 use Rattle.std.proofs.Common.{refl, ap, sym, subst, ◌∙◌, inl, inr}
 use Rattle.papaya_histories.specs.Given.SeizeWords.declared.fault.Fault.TheVariants.{Busy}
 use Rattle.papaya_histories.specs.Given.Tables.declared.node.Node.{Node}
