@@ -1,6 +1,7 @@
 -- An event by which a walk that is ready was asked for its next pair: it keeps its promises, and the run goes on with it.
-use Rattle.std.specs.Prelude.{◌≡◌, ℕ, Bool, true, false, is_some, MatchBool, List, [], ◌∷◌, ◌++◌, position, slice_get, Option, Some}
+use Rattle.std.specs.Prelude.{◌≡◌, ℕ, Bool, true, is_some, MatchBool, List, [], ◌∷◌, ◌++◌, position, slice_get, Option, Some}
 use Rattle.std.proofs.Common.{refl, ap, sym, subst, ◌∙◌, inl, inr}
+use Rattle.std.proofs.lemmas.List.{append-nil}
 use Rattle.papaya_histories.specs.Given.SeizeWords.declared.fault.Fault.TheVariants.{Busy}
 use Rattle.papaya_histories.specs.Given.Tables.declared.node.Node.{Node}
 use Rattle.papaya_histories.specs.Given.Sweeps.SweepPoints.{after_next}
@@ -11,15 +12,16 @@ use Rattle.papaya_histories.specs.Given.Raw.declared.machines.progress.Progress.
 use Rattle.papaya_histories.specs.Given.Schedules.declared.call.Call.{Call}
 use Rattle.papaya_histories.specs.Given.Schedules.declared.call.Call.TheVariants.{Clear, Retain, Walk}
 use Rattle.papaya_histories.specs.Given.Schedules.declared.effect.Effect.{Effect}
+use Rattle.papaya_histories.specs.Given.Schedules.declared.effect.Thing.{Thing}
 use Rattle.papaya_histories.specs.Given.Schedules.declared.event.Event.{Event}
 use Rattle.papaya_histories.specs.Given.Schedules.declared.event.Event.TheVariants.{Next}
 use Rattle.papaya_histories.specs.Given.Schedules.declared.outcome.Outcome.{Outcome}
 use Rattle.papaya_histories.specs.Given.Schedules.declared.outcome.Outcome.TheVariants.{Answered, Refused}
 use Rattle.papaya_histories.specs.Given.Schedules.After.{moment, moments_from}
-use Rattle.papaya_histories.specs.Given.Schedules.Coming.{shows_now}
 use Rattle.papaya_histories.specs.Given.Schedules.Effects.{with_effects}
 use Rattle.papaya_histories.specs.Given.Schedules.Entry.{Entry}
-use Rattle.papaya_histories.specs.Given.Schedules.InTurn.{ComesRight, ComesTo, IsKeptOut, IsNext, is_kept_out}
+use Rattle.papaya_histories.specs.Given.Schedules.InTurn.{ComesRight, ComesTo, IsNext}
+use Rattle.papaya_histories.specs.Given.Schedules.Model.{things_in}
 use Rattle.papaya_histories.specs.Given.Schedules.Moment.{UnderWay as CallThere, Moment}
 use Rattle.papaya_histories.specs.Given.Schedules.Terms.{Terms}
 use Rattle.papaya_histories.specs.Given.Schedules.Views.{call_of, finite_map}
@@ -30,12 +32,10 @@ use Rattle.papaya_histories.specs.Given.Executor.IsAt.{Scene}
 use Rattle.papaya_histories.specs.Given.Executor.Replying.{AskLeads, scene_with}
 use Rattle.papaya_histories.proofs.Given.Executor.Changed.{standing_is}
 use Rattle.papaya_histories.specs.Given.Finishes.Machines.{machine_of}
-use Rattle.papaya_histories.specs.Given.Finishes.Maps.{Standing}
 use Rattle.papaya_histories.specs.Given.Moments.Whole.{ShowsWhole}
 use Rattle.papaya_histories.specs.Answers.{NamesPair}
 use Rattle.papaya_histories.specs.InEvent.{ComesSo}
 use Rattle.papaya_histories.specs.OtherMidsts.{AsksAsSaid}
-use Rattle.papaya_histories.specs.Several.{IsSameCall}
 use Rattle.papaya_purposes.specs.Purposes.{IsFor}
 use Rattle.papaya_purposes.specs.Swept.{LosesNone, SaysAsWalk}
 use Rattle.papaya_purposes.proofs.WalkWords.{walks_have_words}
@@ -44,6 +44,7 @@ use Rattle.papaya_kept.specs.Kept.{ShowsKept}
 use Rattle.papaya_legal.specs.CallEvents.{InCallEvent}
 use Rattle.papaya_legal.specs.CallRuns.{ShowsAsTold}
 use Rattle.papaya_legal.specs.CallSwept.{TellsOf}
+use Rattle.papaya_legal.specs.Noted.{HaveCome}
 use Rattle.papaya_legal.proofs.CallBegins.{nexts_begin}
 use Rattle.papaya_legal.proofs.CallReads.{there_still}
 use Rattle.papaya_logged.specs.Calling.{WalkGoesOn}
@@ -62,7 +63,7 @@ use Rattle.papaya_scheduler.proofs.Here.{Here, here_at}
 use Rattle.papaya_scheduler.proofs.Stopped.{asked_ready, ready_parts, shows_by, shows_is}
 use Rattle.papaya_stepping.specs.Stepping.{HasWalked, outcome_of}
 use Rattle.papaya_stepping.proofs.SweepSteps.{walks_at}
-use Rattle.papaya_running.specs.OfCalls.{Runs, RunsOn, Wanted}
+use Rattle.papaya_running.specs.OfCalls.{Runs, RunsOn}
 use Rattle.papaya_running.proofs.OfCalls.Alone.{only_its_row}
 use Rattle.papaya_running.proofs.OfCalls.Answers.{number_is}
 use Rattle.papaya_running.proofs.OfCalls.Asked.{leads_next, next_at}
@@ -108,7 +109,7 @@ none_before : {X : Type 0} (xs ys : List X) → xs ++ ys ≡ [] → xs ≡ []
 none_before [] ys is = refl
 none_before (x ∷ xs) ys is = absurd (cc is)
 
-module _ {K V S : Type 0} (same : K → K → Bool) (hash : K → ℕ) (wanted : Wanted K V S same hash) (terms : Terms) (log : List (Entry K V)) (old : Scheduler K V S) (runs : Runs same hash terms log old)
+module _ {K V S : Type 0} (same : K → K → Bool) (hash : K → ℕ) (terms : Terms) (log : List (Entry K V)) (old : Scheduler K V S) (runs : Runs same hash terms log old)
     (own : List ℕ) (place : ℕ) (found : Some place ≡ ready_place own old.calls.items.items) (played : Played V) (new : Scheduler K V S) (walked : HasWalked same hash place played old new) where
   abbrev m : Moment K V
   m = moment log
@@ -147,7 +148,7 @@ module _ {K V S : Type 0} (same : K → K → Bool) (hash : K → ℕ) (wanted :
   under = here.way.1
 
   c_is : call_of (name i) m ≡ Some c
-  c_is = taken.c_is same hash wanted terms log old runs event own refl refl place parts.0
+  c_is = taken.c_is same hash terms log old runs event own refl refl place parts.0
 
   -- it is a walk that is ready
   as_ready : IsAsFar d.kind far.Ready (machine_of u)
@@ -197,7 +198,7 @@ module _ {K V S : Type 0} (same : K → K → Bool) (hash : K → ℕ) (wanted :
   midst : InCallEvent same name terms log event m map i c 0 [] m (known old.logged.notes) then_at next
   midst =
       subst (λ (x : List ℕ). InCallEvent same name terms log (Next x) m map i c 0 [] m (known old.logged.notes) then_at next)
-      (taken.name_is same hash wanted terms log old runs event own refl refl place parts.0)
+      (taken.name_is same hash terms log old runs event own refl refl place parts.0)
       (nexts_begin K V S same hash name terms log (known old.logged.notes) s old.logged.executor walked.asked.executor runs.stands.shown.is_at runs.shows i
       (leads_next same hash i s old.logged.executor walked.asked.executor runs.stands.shown.is_at walked.given was_asked) map o here_o refl c c_is
       (λ alone j goes. only_its_row same hash terms log old runs.stands (Next (name i)) (name i) refl alone map i u under refl j goes))
@@ -230,7 +231,7 @@ module _ {K V S : Type 0} (same : K → K → Bool) (hash : K → ℕ) (wanted :
   }
 
   abbrev Come : ℕ → List Effect → Scheduler K V S → Type 0
-  Come n fs p = HasCome same hash wanted name terms log event m map i c place n fs p
+  Come n fs p = HasCome same hash name terms log event m map i c place n fs p
 
   start : Come 0 [] (record old { logged = walked.asked })
   start = record {
@@ -243,56 +244,55 @@ module _ {K V S : Type 0} (same : K → K → Bool) (hash : K → ℕ) (wanted :
     size = walked.given.1 ∙ runs.size;
     shards = λ n setting is. runs.shards n setting (sym (runs.stands.shown.is_at.maps n) ∙ shown.is_at.maps n ∙ is);
     now = m;
+    things = subst (λ (xs : List Thing). HaveCome xs m) (sym (append-nil (things_in log))) runs.come;
     scene = then_at;
     under = next;
     shown = shown;
-    slot = taken.slot_is same hash wanted terms log old runs event own refl refl place parts.0;
+    slot = taken.slot_is same hash terms log old runs event own refl refl place parts.0;
     midst = subst (λ (k : Known). InCallEvent same name terms log event m map i c 0 [] m k then_at next) notes_are midst;
   }
 
   come : Come walked.steps walked.mid walked.led
-  come = has_walked_on same hash wanted name terms log event m map i c place (record old { logged = walked.asked }) start walked.steps walked.mid walked.led walked.walked
+  come = has_walked_on same hash name terms log event m map i c place (record old { logged = walked.asked }) start walked.steps walked.mid walked.led walked.walked
 
   abbrev step : IsStep same hash place walked.mid played.effects.items walked.led new
   step = as_told same hash walked.last
 
   abbrev then_known : Known
-  then_known = ends.by same hash wanted name terms log event m map i c place c_is (known old.logged.notes) s runs.shows played walked.steps walked.mid walked.led new come walked.last
+  then_known = ends.by same hash name terms log event m map i c place c_is (known old.logged.notes) s runs.shows runs.come played walked.steps walked.mid walked.led new come walked.last
 
   says : SaysAsWalk then_known walked.last.said
   says =
       let there = there_still same name log m map i c walked.mid come.now (known walked.led.logged.notes) come.scene come.under come.midst.event_so in
       walks_have_words K V S same hash name log come.now (known walked.led.logged.notes) come.scene walked.led.logged.executor new.logged.executor come.shown.is_at come.midst.calls.whole
-      come.midst.calls.purposes map i come.under (its_here same hash wanted name terms log event m map i c place walked.steps walked.mid played.effects.items walked.led new come step) walked.last.said
-      (leads same hash wanted name terms log event m map i c place walked.steps walked.mid played.effects.items walked.led new come step) there.0 there.1 (there.2.call ∙ is_walk)
+      come.midst.calls.purposes map i come.under (its_here same hash name terms log event m map i c place walked.steps walked.mid played.effects.items walked.led new come step) walked.last.said
+      (leads same hash name terms log event m map i c place walked.steps walked.mid played.effects.items walked.led new come step) there.0 there.1 (there.2.call ∙ is_walk)
 
-  module _ (right : ComesRight terms log (entry_of event played)) (out : is_kept_out terms event m ≡ false) (idle : played.effects.items ≡ []) (plays : IsPlayed same hash terms (entry_of event played ∷ log) new) where
+  module _ (right : ComesRight terms log (entry_of event played)) (comes : ComesTo terms log m (entry_of event played) event played.outcome) (idle : played.effects.items ≡ []) (plays : IsPlayed same hash terms (entry_of event played ∷ log) new) where
     -- it shows a pair, or has shown all
     is_next : IsNext played.outcome
-    is_next =
-        subst (λ (q : Bool). MatchBool q (IsNext played.outcome) (played.outcome ≡ Refused Busy)) (shows_by same hash terms log old own runs.stands (Some place) found)
-        (subst (λ (q : Bool). MatchBool q (IsKeptOut event played.outcome) (ComesTo terms log m (entry_of event played) event played.outcome)) out right)
+    is_next = subst (λ (q : Bool). MatchBool q (IsNext played.outcome) (played.outcome ≡ Refused Busy)) (shows_by same hash terms log old own runs.stands (Some place) found) comes
 
     -- and has done nothing before its last step
     now_is : come.now ≡ m
     now_is =
         come.midst.worked
         ∙ ap (λ (fs : List Effect). with_effects (Some (name i)) (Some map) fs m)
-        (none_before walked.mid (did same hash wanted name terms log event m map i c place walked.steps walked.mid played.effects.items walked.led new come step)
-        (sym (follows same hash wanted name terms log event m map i c place walked.steps walked.mid played.effects.items walked.led new come step) ∙ idle))
+        (none_before walked.mid (did same hash name terms log event m map i c place walked.steps walked.mid played.effects.items walked.led new come step)
+        (sym (follows same hash name terms log event m map i c place walked.steps walked.mid played.effects.items walked.led new come step) ∙ idle))
 
     loses : LosesNone same log come.now map
     loses k had = subst (λ (x : Moment K V). is_some (finite_map same map x k) ≡ true) (sym now_is) had
 
     outcome_is : played.outcome ≡ Told then_known walked.last.caller.value walked.last.said
     outcome_is =
-        ends.outcome_so same hash wanted name terms log event m map i c place c_is (known old.logged.notes) s runs.shows played walked.steps walked.mid walked.led new come walked.last
+        ends.outcome_so same hash name terms log event m map i c place c_is (known old.logged.notes) s runs.shows runs.come played walked.steps walked.mid walked.led new come walked.last
         ∙ ap (λ (x : Call K V). outcome_of then_known (kind_of x) walked.last.caller.value walked.last.said) is_walk
 
     told_next : IsNext (Told then_known walked.last.caller.value walked.last.said)
     told_next = subst (λ (x : Outcome V). IsNext x) outcome_is is_next
 
-    tells : ends.Tells same hash wanted name terms log event m map i c place c_is (known old.logged.notes) s runs.shows played walked.steps walked.mid walked.led new come walked.last
+    tells : ends.Tells same hash name terms log event m map i c place c_is (known old.logged.notes) s runs.shows runs.come played walked.steps walked.mid walked.led new come walked.last
     tells = (
       subst (λ (x : Call K V). ComesSo then_known x c.replies walked.last.said played.outcome) (sym is_walk)
           (subst (λ (x : Outcome V). AsksAsSaid then_known walked.last.said x) (sym outcome_is) (walk_asks then_known walked.last.caller.value walked.last.said told_next)),
@@ -304,9 +304,9 @@ module _ {K V S : Type 0} (same : K → K → Bool) (hash : K → ℕ) (wanted :
 
     pub walked_on : RunsOn same hash terms log (entry_of event played) new
     walked_on =
-        ends.runs_on same hash wanted name terms log event m map i c place c_is (known old.logged.notes) s runs.shows played walked.steps walked.mid walked.led new come walked.last tells refl
-        (taken.acts_on same hash wanted terms log old runs event own refl refl place parts.0 (λ x. refl) refl played) (inr idle) walked.steps_are
+        ends.runs_on same hash name terms log event m map i c place c_is (known old.logged.notes) s runs.shows runs.come played walked.steps walked.mid walked.led new come walked.last tells refl
+        (taken.acts_on same hash terms log old runs event own refl refl place parts.0 (λ x. refl) refl played) (inr idle) walked.steps_are
         (λ is. subst (λ (x : Outcome V). IsNext x) is is_next) right refl
         (subst (λ (fs : List Effect). FindAll terms (moments_from c.begun log) (name i) map fs m) (sym idle) tt)
-        (taken.slot_so same hash wanted terms log old runs event own refl refl place parts.0 (λ x. refl) refl played)
-        (taken.active same hash wanted terms log old runs event own refl refl place parts.0) plays
+        (taken.slot_so same hash terms log old runs event own refl refl place parts.0 (λ x. refl) refl played)
+        (taken.active same hash terms log old runs event own refl refl place parts.0) plays
