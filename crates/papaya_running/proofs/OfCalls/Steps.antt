@@ -52,6 +52,9 @@ use Rattle.papaya_running.specs.OfCalls.{HaveShards}
 use Rattle.papaya_running.proofs.OfCalls.Scenes.{AreNamed, named_left, named_set}
 use Rattle.papaya_running.proofs.OfCalls.Words.{shows_none}
 
+one_more : (n : ℕ) → n + 1 ≡ suc n
+one_more n = omega arith
+
 -- one that is there is there once
 pub the : {X : Type 0} (a b : X) → Some a ≡ Some b → a ≡ b
 the a b is = cc is
@@ -260,9 +263,6 @@ module _ {K V S : Type 0} (same : K → K → Bool) (hash : K → ℕ) (name : �
   walked_further n mid after p new come step =
       come_on n mid after p new come (as_walked same hash step) tt refl step.caller (ap (λ (x : Scheduler K V S). slice_get x.calls.items.items place) step.rest ∙ step.at) refl refl refl
       (subst (λ (x : Scheduler K V S). AreNamed name x.calls.items.items) (sym step.rest) come.named)
-
-  one_more : (n : ℕ) → n + 1 ≡ suc n
-  one_more n = omega arith
 
   -- so it has come wherever its steps have led
   module _ (first : Scheduler K V S) (start : HasCome 0 [] first) where

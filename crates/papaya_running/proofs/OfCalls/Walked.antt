@@ -72,13 +72,14 @@ use Rattle.papaya_running.proofs.OfCalls.Scenes.{its_named}
 use Rattle.papaya_running.proofs.OfCalls.Steps.{HasCome, IsStep, as_told, did, follows, has_walked_on, its_here, leads, the}
 use Rattle.papaya_running.proofs.OfCalls.Taken as taken
 
+-- a word of a pair names the one of its number
+named_so : (by : Known) (word : ℕ) → (n : ℕ) × NamesPair by word n → NamesPair by word (number_by by word)
+named_so by word named = subst (NamesPair by word) (sym (number_is by word named.0 named.1)) named.1
+
 -- what a walk that was asked says by its last step, in the words of an outcome
 module _ {K V : Type 0} (by : Known) (value : Option V) where
   abbrev Told : Progress (Node K V) → Outcome V
   Told said = outcome_of by kind.Walks value said
-
-  named_so : (word : ℕ) → (n : ℕ) × NamesPair by word n → NamesPair by word (number_by by word)
-  named_so word named = subst (NamesPair by word) (sym (number_is by word named.0 named.1)) named.1
 
   walk_asks : (said : Progress (Node K V)) → IsNext (Told said) → AsksAsSaid by said (Told said)
   walk_asks (progress.Pair word) next = tt
@@ -86,13 +87,13 @@ module _ {K V : Type 0} (by : Known) (value : Option V) where
   walk_asks _ next = absurd next
 
   walk_shows : (said : Progress (Node K V)) → SaysAsWalk by said → IsNext (Told said) → ShowsAsTold {K = K} by said (Told said)
-  walk_shows (progress.Pair word) says next = inr (word, number_by by word, refl, refl, named_so word (says.pairs word refl))
+  walk_shows (progress.Pair word) says next = inr (word, number_by by word, refl, refl, named_so by word (says.pairs word refl))
   walk_shows (progress.Done answer) says next = inl (tt, tt)
   walk_shows _ says next = absurd next
 
   walk_tells : (same : K → K → Bool) (log : List (Entry K V)) (m : Moment K V) (map : ℕ) → LosesNone same log m map → (said : Progress (Node K V)) → SaysAsWalk by said → IsNext (Told said)
       → TellsOf same log m map by said (Told said) Walk
-  walk_tells same log m map loses (progress.Pair word) says next = inr (inl (number_by by word, refl, named_so word (says.pairs word refl)))
+  walk_tells same log m map loses (progress.Pair word) says next = inr (inl (number_by by word, refl, named_so by word (says.pairs word refl)))
   walk_tells same log m map loses (progress.Done answer) says next =
       let over = says.over answer refl in
       inr (inr (ap (λ (x : Answer). Answered (answer_of by kind.Walks value x)) over, ap (λ (x : Answer). progress.Done x) over, loses))
