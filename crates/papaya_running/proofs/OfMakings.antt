@@ -1,8 +1,8 @@
 -- An event that makes a map keeps its promises, and a run goes on with it.
-use Rattle.std.specs.Prelude.{◌≡◌, ◌≢◌, ◌⊎◌, ◌==◌, ◌&&◌, ◌<◌, ◌+◌, ◌-◌, ◌^◌, ◌++◌, if◌then◌else◌, nat_le, ℕ, zero, suc, Bool, true, false, List, [], ◌∷◌, find, is_none, length, not, nat_lt, cond, Option, Some, None, option_map, slice_index_or, Result, Ok, Err, IfOk}
+use Rattle.std.specs.Prelude.{◌≡◌, ◌≢◌, ◌⊎◌, ◌==◌, ◌&&◌, ◌<◌, ◌+◌, ◌-◌, ◌^◌, ◌++◌, if◌then◌else◌, nat_le, ℕ, zero, suc, Bool, true, false, List, [], ◌∷◌, find, is_none, length, max, not, nat_lt, cond, Option, Some, None, option_map, slice_index_or, Result, Ok, Err, IfOk}
 use Rattle.std.specs.Int.{IsPowerOfTwo}
 use Rattle.std.proofs.Common.{refl, sym, ap, subst, inl, inr, ◌∙◌, arith}
-use Rattle.std.proofs.lemmas.Bool.{cases_eq, ne_eqb}
+use Rattle.std.proofs.lemmas.Bool.{cases_eq, eq-eqb, ne_eqb}
 use Rattle.std.proofs.lemmas.Nat.{pow_pos}
 use Rattle.papaya_histories.specs.Given.Seize.declared.progress.Progress.{Progress}
 use Rattle.papaya_histories.specs.Given.Seize.declared.progress.Progress.TheVariants as progress
@@ -14,6 +14,7 @@ use Rattle.papaya_histories.specs.Given.Tables.declared.resize_mode.ResizeMode.{
 use Rattle.papaya_histories.specs.Given.Tables.Lengths.{places_for}
 use Rattle.papaya_histories.specs.Given.Tables.Powers.{floor_log2, next_power}
 use Rattle.papaya_histories.specs.Given.Tables.declared.setting.Setting.{Setting}
+use Rattle.papaya_histories.proofs.Given.Moments.Numbers.{numbers_are_below}
 use Rattle.papaya_histories.proofs.Given.Callers.Together.At.{at_other, at_same}
 use Rattle.papaya_runs.proofs.Sames.{same_refl}
 use Rattle.papaya_schedules.specs.declared.effect.Effect.{Effect}
@@ -31,7 +32,7 @@ use Rattle.papaya_schedules.specs.Lists.{least_free}
 use Rattle.papaya_schedules.specs.Lives.{Finds}
 use Rattle.papaya_schedules.specs.Moment.{MapThere, Moment}
 use Rattle.papaya_schedules.specs.Terms.{Terms, shards_of}
-use Rattle.papaya_schedules.specs.Views.{map_of, number_of, tables_of}
+use Rattle.papaya_schedules.specs.Views.{map_at, map_of, number_of, tables_of}
 use Rattle.papaya_effects.specs.Effects.{effects_of, known_after}
 use Rattle.papaya_effects.specs.Known.{Known, known}
 use Rattle.papaya_effects.specs.declared.acting.Acting.TheVariants as acts
@@ -46,12 +47,15 @@ use Rattle.papaya_histories.specs.Given.Others.Makings.{IsNew, WasNew, making_af
 use Rattle.papaya_others.proofs.MakingGoes.{new_maps_stay}
 use Rattle.papaya_executor.specs.MakingBegins.{next_making}
 use Rattle.papaya_executor.proofs.Fresh.{no_making_yet}
+use Rattle.papaya_finds.specs.Linking.{IsMadeFor}
+use Rattle.papaya_finds.proofs.Capacities.{effects_keep_capacities, given_are_for}
 use Rattle.papaya_legal.specs.CallEvents.{IsLegalBut}
 use Rattle.papaya_models.specs.Follows.{FollowsModel}
 use Rattle.papaya_legal.specs.Carried.{ComesAlone, ShowsRun}
 use Rattle.papaya_legal.specs.Chains.{Chain, Come, MakingSteps}
 use Rattle.papaya_legal.specs.MapEvents.{InMakingEvent}
 use Rattle.papaya_legal.proofs.Chains.{makings_chain, makings_run_to_their_ends}
+use Rattle.papaya_legal.proofs.Finding.Alike.{made_still}
 use Rattle.papaya_legal.proofs.MapsOver.{making_events_begin_so}
 use Rattle.papaya_reclaims.specs.Left.{LeftAmong}
 use Rattle.papaya_remains.proofs.Numbered.{made_stays}
@@ -179,6 +183,7 @@ module _ {K V S : Type 0} (same : K → K → Bool) (hash : K → ℕ) (terms : 
     pub size : f.logged.executor.batch_size ≡ terms.batch_size
     pub midst : InMakingEvent same name terms log (MakeMap own mode capacity) b.map began f.effects now (known f.logged.notes) scene
     pub made : now.made ≡ began.made
+    pub made_for : IsMadeFor b.map now b.given
     pub counted : IsCounted now f.logged scene
 
   module _ (n : ℕ) (x : Come K V S) (mid to : Far K V S) (y : MakingComes n x mid) (it : IsUnder i b setting stood y.now y.scene) (step : MakingGoes i b.map mid to) (was_new : WasNew b.map step.said y.now) where
@@ -208,6 +213,7 @@ module _ {K V S : Type 0} (same : K → K → Bool) (hash : K → ℕ) (terms : 
       map_is = refl;
       below = subst (λ (q : ℕ). b.map < q) (sym y.made) below;
       was_new = was_new;
+      made_for = y.made_for;
       comes = come_as to.logged.executor w next to.effects (mid.effects ++ step_did) (known to.logged.notes) (known_after (acts.Making b.map) to.logged.executor.memory.changed (known mid.logged.notes))
           step.is_noted.did step.is_noted.noted;
     }
@@ -221,6 +227,7 @@ module _ {K V S : Type 0} (same : K → K → Bool) (hash : K → ℕ) (terms : 
       size = step.is_noted.given.1 ∙ y.size;
       midst = makings_chain K V S same hash name terms log (MakeMap own mode capacity) i b.map began 1 (come_by mid y.now y.scene) (come_by to w next) (come_by mid y.now y.scene, refl, one) y.midst;
       made = made_stays None (Some b.map) step_did y.now ∙ y.made;
+      made_for = made_still y.now w b.map b.given (effects_keep_capacities K V None (Some b.map) step_did y.now b.map) y.made_for;
       counted = counted_making_steps same hash mid.logged to.logged.executor to.logged.notes step.is_noted.given y.now y.scene y.is_at y.counted i step.said leads d it.1 (Some b.map) step.is_noted.noted;
     }
 
@@ -339,9 +346,20 @@ module _ {K V S : Type 0} (same : K → K → Bool) (hash : K → ℕ) (terms : 
     abbrev x : Come K V S
     x = come_by (far [] d.began) bm s1
 
+    -- its setting is for its capacity
+    none_there : (o : Option MapThere) → map_at b.map m ≡ o → map_at b.map m ≡ None
+    none_there None is = is
+    none_there (Some f) is = absurd (let low = numbers_are_below K V m run.shows.calls.numbers.0 b.map f is in let new_number = map_is in omega (arith, low, new_number))
+
+    there_now : map_at b.map bm ≡ Some there
+    there_now = found_last (λ (f : MapThere). f.number == b.map) m.maps there (none_there (map_at b.map m) refl) (eq-eqb there.number b.map (sym map_is))
+
+    made_for : IsMadeFor b.map bm b.given
+    made_for = given_are_for K V bm b.map there there_now d.faultless b.given (d.is_given.initial ∙ ap (λ (n : ℕ). max n 1) d.places_are)
+
     first : Midway same hash terms name log own mode capacity i b bm below d.setting s.maps 0 x (far [] d.began)
     first = (
-      record { now = bm; scene = s1; chain = refl; is_at = at1; size = d.stays.1 ∙ run.size; midst = midst; made = refl; counted = shown_there.counted },
+      record { now = bm; scene = s1; chain = refl; is_at = at1; size = d.stays.1 ∙ run.size; midst = midst; made = refl; made_for = made_for; counted = shown_there.counted },
       (b.machine, at_same s.makers i (Some b) i refl, is_new, refl),
     )
 

@@ -1,8 +1,11 @@
 -- What steps of calls find by is so at another moment with the same tables, maps and pairs, at which calls owe what they have in hand.
 use Rattle.std.specs.Prelude.{◌≡◌, ◌≤◌, ◌==◌, ℕ, Bool, List, length, filter, find, Option, Some}
 use Rattle.std.proofs.Common.{refl, ap, sym, subst, ◌∙◌, arith}
+use Rattle.papaya_histories.specs.Given.Tables.Lengths.{entries_of}
+use Rattle.papaya_histories.specs.Given.Tables.declared.setting.Setting.{Setting}
 use Rattle.papaya_histories.specs.Given.Schedules.declared.effect.Spot.{Spot}
 use Rattle.papaya_histories.specs.Given.Schedules.declared.effect.Table.{Table}
+use Rattle.papaya_histories.specs.Given.Schedules.Growing.{Has}
 use Rattle.papaya_histories.specs.Given.Schedules.Moment.{MapThere, Moment, Place, TableThere}
 use Rattle.papaya_histories.specs.Given.Schedules.Views.{capacity_or, first_of, first_or, grows_in_chunks, is_in_a_map, map_at}
 use Rattle.papaya_histories.specs.Given.Callers.Together.{OnKey, UnderWay}
@@ -14,6 +17,7 @@ use Rattle.papaya_histories.specs.Given.Follows.Calls.{ShowsCalls as IsThere}
 use Rattle.papaya_settles.specs.Hand.{ShowsOwed}
 use Rattle.papaya_settles.proofs.Hand.Roles.{hand_kept}
 use Rattle.papaya_finds.specs.Capacities.{StoodSo}
+use Rattle.papaya_finds.specs.Linking.{IsMadeFor}
 use Rattle.papaya_finds.specs.Waits.{IsHeldPast, LeavesHeldOf}
 use Rattle.papaya_finds.specs.Within.{many_of}
 use Rattle.papaya_finds.proofs.Capacities.{capacities_stay}
@@ -44,6 +48,10 @@ module _ {K V : Type 0} (m v : Moment K V) (stored : length m.stored ≤ length 
 -- the same maps
 pub map_same : {K V : Type 0} (m v : Moment K V) → v.maps ≡ m.maps → (map : ℕ) → map_at map v ≡ map_at map m
 map_same m v maps map = ap (λ (fs : List MapThere). find (λ f. f.number == map) fs) maps
+
+-- made for as many entries, with the same capacity
+pub made_still : {K V : Type 0} (m v : Moment K V) (map : ℕ) (setting : Setting) → capacity_or (map_at map v) ≡ capacity_or (map_at map m) → IsMadeFor map m setting → IsMadeFor map v setting
+made_still m v map setting alike made = subst (λ (n : ℕ). Has (entries_of n) setting.initial) (sym alike) made
 
 -- maps stand as they stood
 pub stood_as : {K V : Type 0} (s t : Scene K V) → t.maps ≡ s.maps → StoodSo s t

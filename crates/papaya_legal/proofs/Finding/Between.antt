@@ -125,29 +125,31 @@ module _ (known : Known) (word : ℕ) where
     due_pair place (kinds.Count sum) due = absurd (cc due)
 
 -- One that has a pair in hand does not ask, and is not ready: a reply, and the asking for a next pair, leave it where it is.
+module _ (known : Known) (n : ℕ) where
+  next_same : (c : Sweep) (stands : Sweeping) → in_hand_of_sweep known stands ≡ APair n ∷ [] → next_at stands c ≡ c
+  next_same c sweeping.Ready e = absurd (cc e)
+  next_same c _ e = refl
+
+module _ {V : Type 0} (known : Known) (n : ℕ) where
+  sweep_same : (c : Sweep) (stands : Sweeping) (reply : MachineReply V) → in_hand_of_sweep known stands ≡ APair n ∷ [] → (sweep_told stands c reply).0 ≡ c
+  sweep_same c (sweeping.Asks word) reply e = absurd (cc e)
+  sweep_same c _ reply e = refl
+
 module _ {K V : Type 0} (known : Known) (n : ℕ) where
   key_same : (p : KeyCall K V K) (stands : Calling) (reply : MachineReply V) → in_hand_of_call known stands ≡ APair n ∷ [] → (told_at stands p reply).0 ≡ p
   key_same p (calling.Asks (asking.Absent gap)) reply e = absurd (cc e)
   key_same p (calling.Asks (asking.Present word)) reply e = absurd (cc e)
   key_same p _ reply e = refl
 
-  sweep_same : (c : Sweep) (stands : Sweeping) (reply : MachineReply V) → in_hand_of_sweep known stands ≡ APair n ∷ [] → (sweep_told stands c reply).0 ≡ c
-  sweep_same c (sweeping.Asks word) reply e = absurd (cc e)
-  sweep_same c _ reply e = refl
-
-  next_same : (c : Sweep) (stands : Sweeping) → in_hand_of_sweep known stands ≡ APair n ∷ [] → next_at stands c ≡ c
-  next_same c sweeping.Ready e = absurd (cc e)
-  next_same c _ e = refl
-
   pub replied_same : (machine : Machine K V K) (reply : MachineReply V) → in_hand known machine ≡ APair n ∷ [] → (machine_replied machine reply).0 ≡ machine
   replied_same (kinds.Key p) reply e = ap kinds.Key (key_same p p.stands reply e)
-  replied_same (kinds.Sweep c) reply e = ap kinds.Sweep (sweep_same c c.stands reply e)
+  replied_same (kinds.Sweep c) reply e = ap kinds.Sweep (sweep_same known n c c.stands reply e)
   replied_same (kinds.Reserve r) reply e = refl
   replied_same (kinds.Count sum) reply e = refl
 
   pub asked_same : (machine : Machine K V K) → in_hand known machine ≡ APair n ∷ [] → (machine_asked machine).0 ≡ machine
   asked_same (kinds.Key p) e = refl
-  asked_same (kinds.Sweep c) e = ap kinds.Sweep (next_same c c.stands e)
+  asked_same (kinds.Sweep c) e = ap kinds.Sweep (next_same known n c c.stands e)
   asked_same (kinds.Reserve r) e = refl
   asked_same (kinds.Count sum) e = refl
 
@@ -179,7 +181,7 @@ module _ (K V : Type 0) (same : K → K → Bool) (name : ℕ → List ℕ) (m v
 
   pub puts_on : ShowsPuts known s → ShowsPuts known t
   puts_on puts = puts_stay K V known known s t puts
-      (λ n j x is word place due. (let was = was_so n j x is word (due_pair word place (machine_of x) due) in (was.0, was.1, was.2, λ b its. refl)))
+      (λ n j x is word place due. (let was = was_so n j x is word (due_pair known word place (machine_of x) due) in (was.0, was.1, was.2, λ b its. refl)))
 
 -- where a walk is given up, or a call is as it was
 pub fewer_calls : {K V : Type 0} (s : Scene K V) (map i : ℕ) (u : UnderWay K V K) → s.calls map i ≡ Some u → (stopped : Bool) (n j : ℕ) (x : UnderWay K V K) → with_in s.calls map i (unless_stopped stopped u) n j ≡ Some x

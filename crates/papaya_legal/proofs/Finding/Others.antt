@@ -121,11 +121,11 @@ module _ (K V S : Type 0) (same : K → K → Bool) (hash : K → ℕ) (name : �
 
 -- where no call is under way, and maps stand as they stood
 module _ (K V : Type 0) (name : ℕ → List ℕ) (m : Moment K V) (known known2 : Known) (s t : Scene K V) where
-  pub finding_of_none : ({X : Type 0} (map i : ℕ) (u : UnderWay K V K) → t.calls map i ≡ Some u → X) → (effects : List Effect) → ((n : ℕ) → IsSameMap (s.maps n) (t.maps n)) → ShowsFinding name m known s
+  pub finding_of_none : ((map i : ℕ) (u : UnderWay K V K) → t.calls map i ≡ Some u → ⊥) → (effects : List Effect) → ((n : ℕ) → IsSameMap (s.maps n) (t.maps n)) → ShowsFinding name m known s
       → ShowsFinding name (with_effects None None effects m) known2 t
   finding_of_none none effects maps finding = record {
-    growing = λ map i u is. none map i (OnKey u) is;
+    growing = λ map i u is. absurd (none map i (OnKey u) is);
     capacities = capacities_stay K V m (with_effects None None effects m) s t finding.capacities (λ n st is. effects_keep_capacities K V None None effects m n) (same_maps_stood K V s t maps);
-    waits = λ map i u is word some c c_is k owed. none map i u is;
-    puts = λ map i u is word place due. none map i u is;
+    waits = λ map i u is word some c c_is k owed. absurd (none map i u is);
+    puts = λ map i u is word place due. absurd (none map i u is);
   }
