@@ -327,11 +327,11 @@ module _ (K V S : Type 0) (same : K → K → Bool) (hash : K → ℕ) where
       kept : ShowsKept name m known (scene_with map i next s)
       kept = walks_go_on_kept K V S same hash name m known s old new all.whole all.kept i leads map (OverAll o) here
 
-      stays : in_hand known (machine_of next) ≡ in_hand {K = K} {V = V} {Q = K} known (machine_of (OverAll o))
-      stays = ap (λ (z : Machine K V K). in_hand known z) (leads map (OverAll o) here).1 ∙ (asked_stays known (machine_of (OverAll o))).0
+      stays : in_hand known (machine_of next) ≡ in_hand {K = K} {V = V} {Q = K} known (machine_of {K = K} {V = V} {Q = K} (OverAll o))
+      stays = ap (λ (z : Machine K V K). in_hand known z) (leads map (OverAll o) here).1 ∙ (asked_stays known (machine_of {K = K} {V = V} {Q = K} (OverAll o))).0
 
-      goes : (n : ℕ) → in_hand {K = K} {V = V} {Q = K} known (machine_of (OverAll o)) ≡ APair n ∷ [] → machine_of next ≡ machine_of (OverAll o)
-      goes n e = (leads map (OverAll o) here).1 ∙ asked_same known n (machine_of (OverAll o)) e
+      goes : (n : ℕ) → in_hand {K = K} {V = V} {Q = K} known (machine_of {K = K} {V = V} {Q = K} (OverAll o)) ≡ APair n ∷ [] → machine_of next ≡ machine_of (OverAll o)
+      goes n e = (leads map (OverAll o) here).1 ∙ asked_same known n (machine_of {K = K} {V = V} {Q = K} (OverAll o)) e
 
       its : (x : UnderWay K V K) → ◌≡◌ {A = Option (UnderWay K V K)} (Some next) (Some x) → (removed : ℕ) → adds_of (machine_of x) ≡ Some removed → Had name m s map i (Some next) map i removed
       its x e removed adds =

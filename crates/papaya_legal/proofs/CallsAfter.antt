@@ -131,14 +131,6 @@ call_events_end_so K V S same hash name terms log beginning map i c first before
     none : ends_call e.outcome ≡ true → NoneNamed name (name i) s2
     none = none_named same hash name log m known s midst.calls.dues map i u here old new said leads e ends
 
-    kept_then : ShowsKept name v then_known s2
-    kept_then = calls_keep_kept K V S same hash name m known s old new at whole midst.calls.kept map i u here said leads
-
-    kept_last : ShowsKept name last then_known s2
-    kept_last =
-        stays_kept K V name come last then_known s2 s2 (calls_come_to_kept K V same name v then_known s2 all.0 kept_then (name i) e.outcome e.steps none) alike.calls alike.tables
-        (ap (λ (x : Moment K V). x.deferred) worked_is) alike.place refl refl refl refl refl
-
     worked_so : v ≡ with_effects (Some (name i)) (Some map) e.effects beginning
     worked_so = ap (λ (x : Moment K V). with_effects (Some (name i)) (Some map) effects x) midst.worked ∙ sym (effects_after (Some (name i)) (Some map) done effects beginning)
         ∙ ap (λ (fs : List Effect). with_effects (Some (name i)) (Some map) fs beginning) (sym effects_are)
@@ -150,6 +142,14 @@ call_events_end_so K V S same hash name terms log beginning map i c first before
 
     alike : HasSame come last
     alike = like_over log e (name i) v midst.of_call worked_is
+
+    kept_then : ShowsKept name v then_known s2
+    kept_then = calls_keep_kept K V S same hash name m known s old new at whole midst.calls.kept map i u here said leads
+
+    kept_last : ShowsKept name last then_known s2
+    kept_last =
+        stays_kept K V name come last then_known s2 s2 (calls_come_to_kept K V same name v then_known s2 all.0 kept_then (name i) e.outcome e.steps none) alike.calls alike.tables
+        (ap (λ (x : Moment K V). x.deferred) worked_is) alike.place refl refl refl refl refl
 
     -- the map of the call was made
     below : map < m.made

@@ -148,8 +148,8 @@ slot_events_go_on_so K V S same hash name terms log event i called first began d
     led : Scene K V
     led = scene_then same hash (Step i) s old new (leads row here).4
 
-    whole2 : ShowsWhole same name v (known_after acts.Row new.memory.changed known) led
-    whole2 = rows_keep_whole K V S same hash name m known s old new at whole i said leads row here found.0 found.1
-
     found : AtEachEffect HadRetired None None effects m × AtEachEffect WaitUnreclaimed None None effects m
     found = rows_find_kept K V S same hash name m known s old new at whole midst.calls.kept i said leads row here
+
+    whole2 : ShowsWhole same name v (known_after acts.Row new.memory.changed known) led
+    whole2 = rows_keep_whole K V S same hash name m known s old new at whole i said leads row here found.0 found.1
