@@ -6,3 +6,4 @@ pub mod Aside
 pub mod Calls
 pub mod Between
 pub mod Others
+pub mod Rest
