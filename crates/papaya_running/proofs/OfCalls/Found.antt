@@ -78,6 +78,10 @@ module _ {K V S : Type 0} (same : K → K → Bool) (hash : K → ℕ) (wanted :
   abbrev All : List Effect → Moment K V → Type 0
   All fs m = FindAll terms moments (name i) map fs m
 
+  -- what is asked of one effect of the call
+  abbrev Each : (Moment K V → Effect → CallThere K V → Type 0) → Moment K V → Effect → Type 0
+  Each Finds v f = ByCall (Finds v f) (acting (Some (name i)) v)
+
   -- so it is of the first effects, and of those behind them
   parts_still : (xs ys : List Effect) (m : Moment K V) → Rest (xs ++ ys) m → Rest xs m × Rest ys (with_effects (Some (name i)) (Some map) xs m)
   parts_still xs ys m rest = (
@@ -85,17 +89,14 @@ module _ {K V S : Type 0} (same : K → K → Bool) (hash : K → ℕ) (wanted :
     record { asks = λ is. (asked (rest.asks is)).1; links = linked.1; space = spaced.1 },
   )
     where
-      abbrev At : (Moment K V → Effect → CallThere K V → Type 0) → Moment K V → Effect → Type 0
-      At Finds v f = ByCall (Finds v f) (acting (Some (name i)) v)
-
       asked : FindAsked terms moments (name i) map (xs ++ ys) m → FindAsked terms moments (name i) map xs m × FindAsked terms moments (name i) map ys (with_effects (Some (name i)) (Some map) xs m)
-      asked all = each_parts (Some (name i)) (Some map) (At (FindsAsked terms moments)) xs ys m all
+      asked all = each_parts (Some (name i)) (Some map) (Each (FindsAsked terms moments)) xs ys m all
 
       linked : FindShapes terms moments (name i) map xs m × FindShapes terms moments (name i) map ys (with_effects (Some (name i)) (Some map) xs m)
-      linked = each_parts (Some (name i)) (Some map) (At (FindsShape terms moments)) xs ys m rest.links
+      linked = each_parts (Some (name i)) (Some map) (Each (FindsShape terms moments)) xs ys m rest.links
 
       spaced : FindSpace (name i) map xs m × FindSpace (name i) map ys (with_effects (Some (name i)) (Some map) xs m)
-      spaced = each_parts (Some (name i)) (Some map) (At FindsSpace) xs ys m rest.space
+      spaced = each_parts (Some (name i)) (Some map) (Each FindsSpace) xs ys m rest.space
 
   module _ (n : ℕ) (mid after : List Effect) (p new : Scheduler K V S) (outcome : Outcome V) (come : Come n mid p) (step : IsStepped same hash place outcome mid after p new) where
     abbrev here : come.scene.calls map i ≡ Some come.under
