@@ -102,7 +102,7 @@ module _ {K V : Type 0} (same : K → K → Bool) (hash : K → ℕ) (w : World 
     late_left x _ facts is = absurd (cc is)
 
     late_next : is_incremental setting.mode ≡ false → (x : Copier) → LateCopierFacts same hash w caller setting c blocks began x → making_in_copying x.stands ≡ Some n → NextOrLeft setting c began
-    late_next blocking x facts is = inr (blocking, late_left x x.stands facts.point is)
+    late_next blocking x facts is = let left = late_left x x.stands facts.point is in inr (blocking, left.0, left.1)
 
     -- a copier of a whole table, in the mode of the map
     whole_next : (x : Copier) → CopiesWhole same hash w caller setting c blocks x → making_in_copying x.stands ≡ Some n → NextOrLeft setting c began

@@ -105,7 +105,7 @@ module _ {K V S : Type 0} (same : K → K → Bool) (hash : K → ℕ) (name : �
     none_asked : Asks new.memory.changed → MayGrow terms c.call c (m ∷ moments)
     none_asked asks =
         let it = told_in old.memory.memory new.memory.memory new.memory.changed of_sum (sum_plan sum) ((leads map (Counting sum) here).1, said) (leads map (Counting sum) here).3 in
-        let n = made_of None old.memory.memory new.memory.memory new.memory.changed (sum_plan sum) it.0 it.2 (sum_at None sum sum.stands) asks in absurd (let some = n.1 in cc some)
+        let n = made_of None old.memory.memory new.memory.memory new.memory.changed (sum_plan sum) it.0 it.2 (sum_at K V None sum sum.stands) asks in absurd (let some = n.1 in cc some)
 
     sum_asks : Asked
     sum_asks = may_ask same hash name m known s old new at whole map i (Counting sum) here said leads terms moments c c_is none_asked
