@@ -37,7 +37,7 @@ use Rattle.papaya_running.specs.OfCalls.{Wanted}
 use Rattle.papaya_running.proofs.OfCalls.Steps.{HasCome, did, follows, has_come, its_here, leads, the}
 
 -- a reservation is known by its kind
-is_room : Kind → Bool
+abbrev is_room : Kind → Bool
 is_room kind.Reserves = true
 is_room _ = false
 
