@@ -6,4 +6,5 @@ pub mod Aside
 pub mod Calls
 pub mod Between
 pub mod Others
+pub mod Making
 pub mod Rest

@@ -10,5 +10,7 @@ pub mod Chains
 pub mod AllEvents
 pub mod Promises
 pub mod Found
+pub mod Further
 pub mod Finding
 pub mod Rests
+pub mod Further

@@ -1,0 +1,6 @@
+-- Lemmas on what a step of a call makes by its copier.
+pub mod Copiers
+pub mod Calls
+pub mod Rooms
+pub mod Sweeps
+pub mod Machines
