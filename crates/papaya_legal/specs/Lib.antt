@@ -13,4 +13,3 @@ pub mod Found
 pub mod Further
 pub mod Finding
 pub mod Rests
-pub mod Further

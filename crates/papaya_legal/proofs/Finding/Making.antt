@@ -4,3 +4,8 @@ pub mod Calls
 pub mod Rooms
 pub mod Sweeps
 pub mod Machines
+pub mod Lengths
+pub mod Such
+pub mod Behind
+pub mod Steps
+pub mod Between
