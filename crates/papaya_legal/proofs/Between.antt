@@ -76,6 +76,7 @@ use Rattle.papaya_legal.specs.Between.{CallsBegin, CallsTake, EndsBegin, LikesSh
 use Rattle.papaya_legal.specs.Carried.{NoneCounted, ShowsCalls}
 use Rattle.papaya_legal.specs.Finding.{ShowsFinding}
 use Rattle.papaya_legal.proofs.Finding.Alike.{finding_fewer, stood_as}
+use Rattle.papaya_legal.proofs.Finding.Making.Between.{calls_begin_further, calls_take_further, walks_go_on_further}
 use Rattle.papaya_legal.proofs.Finding.Between.{asked_same, fewer_calls, finding_where, found_beside, found_kept, none_at_first, puts_begun, puts_on, replied_same, waits_on}
 
 pub likes_show : (K V : Type 0) (same : K → K → Bool) → LikesShow K V same
@@ -83,7 +84,7 @@ likes_show K V same name log m v known s all like = subst (λ (x : Moment K V). 
   whole = all_stays_shown K V same name m known s all.whole v.events v.is_mapped v.is_closed v.is_alone v.there v.slots v.sheltered v.remains;
   numbers = (record { found = all.numbers.0.found; below = all.numbers.0.below; tables = all.numbers.0.tables }, all.numbers.1);
   kept = stays_kept K V name m other known s s all.kept refl refl refl refl refl refl refl refl refl;
-  finding = record { growing = all.finding.growing; capacities = all.finding.capacities; waits = all.finding.waits; puts = all.finding.puts };
+  finding = record { growing = all.finding.growing; further = all.finding.further; capacities = all.finding.capacities; waits = all.finding.waits; puts = all.finding.puts };
   counters = counters_stay K V name m other s s all.counters refl refl refl refl refl (λ of j x is removed adds. (x, is, adds));
   uncounted = all.uncounted;
   dues = (dues_stay K V (Unit {0}) same (λ k. 0) name log).alike m other known s all.dues alike;
@@ -133,6 +134,7 @@ names_change K V same name name2 log m known s agree all = record {
   kept = renamed_kept K V name name2 m known s agree all.kept;
   finding = record {
     growing = all.finding.growing;
+    further = all.finding.further;
     capacities = all.finding.capacities;
     waits = λ map i u is word some c c_is k owed. all.finding.waits map i u is word some c (as_named map i u is c c_is) k owed;
     puts = all.finding.puts;
@@ -255,6 +257,7 @@ module _ (K V S : Type 0) (same : K → K → Bool) (hash : K → ℕ) where
         kept = calls_begin_kept K V S same hash name m known s old new at all.whole all.kept map i standing there u call guard begins right.called right.given none rests at2 whole.all.shown;
         finding = record {
           growing = calls_begin_growing K V same m s all.finding.growing standing map i u begins;
+          further = calls_begin_further same m s all.finding.further standing map i u begins;
           capacities = all.finding.capacities;
           waits = calls_begin_waits K V name m s all.finding.waits map i u call guard none (none_at_first same standing i u begins).0;
           puts = puts_begun known s map i u (none_at_first same standing i u begins).1 all.finding.puts;
@@ -278,6 +281,7 @@ module _ (K V S : Type 0) (same : K → K → Bool) (hash : K → ℕ) where
         kept = kept;
         finding = record {
           growing = calls_take_growing K V m s all.finding.growing map i u here (as_told is_told) next next_is;
+          further = calls_take_further m s all.finding.further map i u here next (as_told is_told) next_is;
           capacities = all.finding.capacities;
           waits = waits_on K V same name m (told (name i) is_told m) known s map i u here next all.whole.all.shown.calls all.kept.owed kept.owed stays goes (λ n j x is k waits held. held) all.finding.waits;
           puts = puts_on K V same name m (told (name i) is_told m) known s map i u here next all.whole.all.shown.calls all.kept.owed kept.owed stays goes all.finding.puts;
@@ -309,6 +313,7 @@ module _ (K V S : Type 0) (same : K → K → Bool) (hash : K → ℕ) where
     kept = kept;
     finding = record {
       growing = walks_go_on_growing K V m s all.finding.growing map i (OverAll o) here next (leads map (OverAll o) here).1;
+      further = walks_go_on_further m s all.finding.further map i (OverAll o) here next (leads map (OverAll o) here).1;
       capacities = all.finding.capacities;
       waits = waits_on K V same name m m known s map i (OverAll o) here next all.whole.all.shown.calls all.kept.owed kept.owed stays goes (λ n j x there k waits held. held) all.finding.waits;
       puts = puts_on K V same name m m known s map i (OverAll o) here next all.whole.all.shown.calls all.kept.owed kept.owed stays goes all.finding.puts;
@@ -408,7 +413,7 @@ module _ (K V S : Type 0) (same : K → K → Bool) (hash : K → ℕ) where
     whole = makings_begin_whole K V same name m known s all.whole i b not_made;
     numbers = all.numbers;
     kept = makings_begin_kept K V name m known s all.kept i b none;
-    finding = record { growing = all.finding.growing; capacities = all.finding.capacities; waits = all.finding.waits; puts = all.finding.puts };
+    finding = record { growing = all.finding.growing; further = all.finding.further; capacities = all.finding.capacities; waits = all.finding.waits; puts = all.finding.puts };
     counters = makings_begin_counters K V name m s all.counters i b not_made uncounted;
     uncounted = all.uncounted;
     dues = (dues_stay K V S same hash name log).makings_begin m known s old new at all.whole all.dues i b at2;

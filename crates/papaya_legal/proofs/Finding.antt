@@ -7,4 +7,5 @@ pub mod Calls
 pub mod Between
 pub mod Others
 pub mod Making
+pub mod Links
 pub mod Rest

@@ -32,10 +32,10 @@ module _ {K V : Type 0} where
   abbrev pub is_unsettled : CallThere K V → Moment K V → Bool
   is_unsettled c m = is_reservation c.call || not (grows_in_chunks (map_at c.map m))
 
-  -- Of such a call, why it asks for each block; of each, which table it links; and that a table behind which it puts a pair has room.
+  -- Of such a call, why it asks for each block, and which table it links; and of each call, that a table behind which it puts a pair has room.
   pub record FindStill (terms : Terms) (moments : List (Moment K V)) (own : List ℕ) (map : ℕ) (effects : List Effect) (m : Moment K V) (unsettled : Bool) : Type 0 where
     pub asks : unsettled ≡ true → FindAsked terms moments own map effects m
-    pub links : FindShapes terms moments own map effects m
+    pub links : unsettled ≡ true → FindShapes terms moments own map effects m
     pub space : FindSpace own map effects m
 
 -- The promise, of a step of a call.

@@ -26,6 +26,8 @@ use Rattle.papaya_finds.proofs.Waits.Between.{waits_follow_owed}
 use Rattle.papaya_finds.proofs.Waits.Held.{lies_same}
 use Rattle.papaya_finds.proofs.Waits.Puts.{puts_stay}
 use Rattle.papaya_legal.specs.Finding.{ShowsFinding}
+use Rattle.papaya_legal.proofs.Finding.Making.Between.{further_stays}
+use Rattle.papaya_legal.proofs.Finding.Making.Lengths.{lengths_same}
 
 -- this many and no fewer
 pub itself : (n : ℕ) → n ≤ n
@@ -63,6 +65,7 @@ module _ (K V : Type 0) (same : K → K → Bool) (name : ℕ → List ℕ) (m v
       → v.tables ≡ m.tables → v.maps ≡ m.maps → v.place ≡ m.place → v.born ≡ m.born → v.spot ≡ m.spot → v.stored ≡ m.stored → ShowsFinding name m known s → ShowsFinding name v known t
   finding_fewer there owes owes2 was stood tables maps place born spot stored finding = record {
     growing = growing_stays K V m v s t finding.growing (many_same m v tables) (λ map i u is. (u, was map i (OnKey u) is, refl));
+    further = further_stays m v s t finding.further (lengths_same m v tables) (λ map i u is. (u, was map i u is, refl));
     capacities = capacities_stay K V m v s t finding.capacities (λ map standing is. ap capacity_or (map_same m v maps map)) stood;
     waits = waits_follow_owed K V same name m v known known s t there owes owes2 finding.waits leaves
         (λ map i u is word some. (u, was map i u is, refl, hand_kept known known (λ b lasts. refl) (machine_of u) (owes.noted map i u (was map i u is))));

@@ -20,6 +20,8 @@ use Rattle.papaya_finds.proofs.Grows.Between.{growing_stays}
 use Rattle.papaya_finds.proofs.Waits.Between.{waits_stay}
 use Rattle.papaya_legal.specs.Finding.{ShowsFinding}
 use Rattle.papaya_legal.proofs.Finding.Alike.{held_in, itself, map_same}
+use Rattle.papaya_legal.proofs.Finding.Making.Between.{further_stays}
+use Rattle.papaya_legal.proofs.Finding.Making.Lengths.{KeepsLengths}
 use Rattle.papaya_legal.proofs.Finding.Puts.{puts_beside}
 
 -- a place is in a map, or in none
@@ -44,9 +46,10 @@ module _ {K V S : Type 0} (same : K → K → Bool) (hash : K → ℕ) (name : �
           let there = in_which (v.place k) is in
           absurd (let before : is_in_a_map (m.place k) ≡ true = ap is_in_a_map (beside.place k there.0 there.1) in cc (before, out))
 
-  pub finding_beside : v.spot ≡ m.spot → ((of : ℕ) → many_of of m ≤ many_of of v) → ShowsCapacities v t → ShowsFinding name v known2 t
-  finding_beside spot later capacities = record {
+  pub finding_beside : v.spot ≡ m.spot → ((of : ℕ) → many_of of m ≤ many_of of v) → KeepsLengths m v → ShowsCapacities v t → ShowsFinding name v known2 t
+  finding_beside spot later keeps capacities = record {
     growing = growing_stays K V m v s t finding.growing later (λ map i u is. (u, was map i (OnKey u) is, refl));
+    further = further_stays m v s t finding.further keeps (λ map i u is. (u, was map i u is, refl));
     capacities = capacities;
     waits = waits_stay K V name m v s t finding.waits leaves (λ map i u is word some d d_is. (u, was map i u is, refl, d, ap (λ (l : List (CallThere K V)). find (λ y. is_same y.caller (name i)) l) (sym beside.calls) ∙ d_is, refl));
     puts = puts_beside same hash name v known known2 s t e at whole beside.same_calls beside.roles finding.puts;

@@ -51,6 +51,8 @@ use Rattle.papaya_finds.proofs.Waits.Between.{waits_follow_owed, waits_stay}
 use Rattle.papaya_finds.proofs.Waits.Puts.{puts_stay}
 use Rattle.papaya_legal.specs.Finding.{ShowsFinding}
 use Rattle.papaya_legal.proofs.Finding.Alike.{held_in, itself, many_same, stood_as}
+use Rattle.papaya_legal.proofs.Finding.Making.Between.{further_stays}
+use Rattle.papaya_legal.proofs.Finding.Making.Lengths.{lengths_same}
 
 -- A call that begins has no pair in hand, and is to put none behind a table.
 
@@ -216,6 +218,7 @@ module _ {K V S : Type 0} (same : K → K → Bool) (hash : K → ℕ) (name : �
       → v.stored ≡ m.stored → ShowsFinding name m known s → ShowsFinding name v known s
   finding_where still tables calls place born spot stored finding = record {
     growing = growing_stays K V m v s s finding.growing (many_same m v tables) (λ map i u is. (u, is, refl));
+    further = further_stays m v s s finding.further (lengths_same m v tables) (λ map i u is. (u, is, refl));
     capacities = capacities_stay K V m v s s finding.capacities (λ n st is. ap capacity_or (still n st is)) (stood_as s s refl);
     waits = waits_stay K V name m v s s finding.waits leaves
         (λ map i u is word some d d_is. (u, is, refl, d, ap (λ (l : List (CallThere K V)). find (λ y. is_same y.caller (name i)) l) (sym calls) ∙ d_is, refl));

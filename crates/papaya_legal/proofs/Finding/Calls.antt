@@ -20,6 +20,7 @@ use Rattle.papaya_finds.proofs.Grows.Steps.{calls_keep_growing}
 use Rattle.papaya_finds.proofs.Waits.Puts.{calls_keep_puts}
 use Rattle.papaya_finds.proofs.Waits.Steps.{calls_keep_waits}
 use Rattle.papaya_legal.specs.Finding.{ShowsFinding}
+use Rattle.papaya_legal.proofs.Finding.Making.Steps.{further_then}
 
 module _ (K V S : Type 0) (same : K → K → Bool) (hash : K → ℕ) (name : ℕ → List ℕ) (m : Moment K V) (known : Known) (s : Scene K V) (old new : Executor K V S) (at : IsAt same hash old s)
     (whole : ShowsWhole same name m known s) (kept : ShowsKept name m known s) (finding : ShowsFinding name m known s) (map i : ℕ) (u : UnderWay K V K) (here : s.calls map i ≡ Some u)
@@ -29,6 +30,7 @@ module _ (K V S : Type 0) (same : K → K → Bool) (hash : K → ℕ) (name : �
       (scene_after same hash s old new map i to.0 u to.1 said to.4))
   calls_keep_finding = record {
     growing = calls_keep_growing K V S same hash name m known s old new at whole finding.growing map i u here said leads;
+    further = further_then same hash name m known s old new at whole finding.further map i u here said leads;
     capacities = calls_keep_capacities K V S same hash name m known s old new finding.capacities map i u here said leads;
     waits = calls_keep_waits K V S same hash name m known s old new at whole kept.entries owning kept.owed finding.waits map i u here said leads;
     puts = calls_keep_puts K V S same hash name m known s old new at whole kept.entries owning finding.puts map i u here said leads;

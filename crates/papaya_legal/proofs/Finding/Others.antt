@@ -38,6 +38,7 @@ use Rattle.papaya_finds.specs.Linking.{IsMadeFor}
 use Rattle.papaya_finds.specs.Within.{many_of}
 use Rattle.papaya_finds.proofs.Capacities.{capacities_stay, effects_keep_capacities, makings_keep_capacities, same_maps_stood}
 use Rattle.papaya_finds.proofs.Grows.Steps.{tables_have_been}
+use Rattle.papaya_legal.proofs.Finding.Making.Lengths.{effects_keep_lengths}
 use Rattle.papaya_legal.specs.Finding.{ShowsFinding}
 use Rattle.papaya_legal.proofs.Finding.Alike.{itself, stood_as}
 use Rattle.papaya_legal.proofs.Finding.Aside.{endings_leave_spots, makings_leave_spots, rows_leave_spots}
@@ -51,7 +52,7 @@ module _ (K V S : Type 0) (same : K → K → Bool) (hash : K → ℕ) (name : �
   rows_begin_finding finding called i may leads whole2 =
       let to = (leads may).3 in
       let t = scene_then same hash (Begin i (request_of (slot_of i) called)) s old new to in
-      finding_beside same hash name m m known known s t new to.4 whole2 (rows_begin_beside K V S same hash m known s old new called i may leads) finding refl (λ of. itself (many_of of m))
+      finding_beside same hash name m m known known s t new to.4 whole2 (rows_begin_beside K V S same hash m known s old new called i may leads) finding refl (λ of. itself (many_of of m)) (λ map t n is. is)
       (capacities_stay K V m m s t finding.capacities (λ n st is. refl) (same_maps_stood K V s t to.3))
 
   module _ (at : IsAt same hash old s) (whole : ShowsWhole same name m known s) (finding : ShowsFinding name m known s) where
@@ -66,7 +67,7 @@ module _ (K V S : Type 0) (same : K → K → Bool) (hash : K → ℕ) (name : �
         let v = with_effects None None effects m in
         let t = scene_then same hash (Step i) s old new to.4 in
         finding_beside same hash name m v known (known_after acts.Row new.memory.changed known) s t new to.4.4 whole2 (row_beside same hash m known s old new at i row here (to.0, said) to.1 to.4) finding
-        (rows_leave_spots same hash name m known s old new at i said leads row here) (tables_have_been K V None None effects m)
+        (rows_leave_spots same hash name m known s old new at i said leads row here) (tables_have_been K V None None effects m) (effects_keep_lengths None None effects m)
         (capacities_stay K V m v s t finding.capacities (λ n st is. effects_keep_capacities K V None None effects m n) (same_maps_stood K V s t to.4.3))
 
     -- of the making of a map, that began for its capacity
@@ -80,7 +81,7 @@ module _ (K V S : Type 0) (same : K → K → Bool) (hash : K → ℕ) (name : �
         let t = making_after same hash s old new i b (leads b here).0 (leads b here).2.step.w2 said (leads b here).3 in
         finding_beside same hash name m v known (known_after (acts.Making b.map) new.memory.changed known) s t new at2 whole2
         (makings_go_beside K V S same hash name m known s old new at whole i said leads b here (Some b.map) was_new) finding
-        (makings_leave_spots same hash name m known s old new at whole.all.shown i said leads b here (Some b.map)) (tables_have_been K V None (Some b.map) effects m)
+        (makings_leave_spots same hash name m known s old new at whole.all.shown i said leads b here (Some b.map)) (tables_have_been K V None (Some b.map) effects m) (effects_keep_lengths None (Some b.map) effects m)
         (makings_keep_capacities K V S same hash m known s old new finding.capacities i said leads b here (Some b.map) made_for)
 
     -- and of the end of one
@@ -116,7 +117,7 @@ module _ (K V S : Type 0) (same : K → K → Bool) (hash : K → ℕ) (name : �
           let v = with_effects None (Some map) effects m in
           finding_beside same hash name m v known (known_after (acts.Ending map) new.memory.changed known) s (ended said leads) new at2 whole2
           (end_beside same hash name m known s old new at whole i f here to.0 said to.1 to.2 map not_there to.3 (ended said leads) (ended_world said leads) (ended_calls said leads) (ended_maps said leads)) finding
-          (endings_leave_spots same hash name m known s old new at whole i said leads f here map not_there) (tables_have_been K V None (Some map) effects m)
+          (endings_leave_spots same hash name m known s old new at whole i said leads f here map not_there) (tables_have_been K V None (Some map) effects m) (effects_keep_lengths None (Some map) effects m)
           (capacities_stay K V m v s (ended said leads) finding.capacities (λ n st is. effects_keep_capacities K V None (Some map) effects m n) (stood_as s (ended said leads) (ended_maps said leads)))
 
 -- where no call is under way, and maps stand as they stood
@@ -125,6 +126,7 @@ module _ (K V : Type 0) (name : ℕ → List ℕ) (m : Moment K V) (known known2
       → ShowsFinding name (with_effects None None effects m) known2 t
   finding_of_none none effects maps finding = record {
     growing = λ map i u is. absurd (none map i (OnKey u) is);
+    further = λ map i u is. absurd (none map i u is);
     capacities = capacities_stay K V m (with_effects None None effects m) s t finding.capacities (λ n st is. effects_keep_capacities K V None None effects m n) (same_maps_stood K V s t maps);
     waits = λ map i u is word some c c_is k owed. absurd (none map i u is);
     puts = λ map i u is word place due. absurd (none map i u is);

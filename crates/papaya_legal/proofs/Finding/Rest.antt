@@ -20,6 +20,7 @@ use Rattle.papaya_histories.specs.Given.Schedules.Moment.{UnderWay as CallThere,
 use Rattle.papaya_histories.specs.Given.Schedules.Terms.{Terms}
 use Rattle.papaya_histories.specs.Given.Schedules.Views.{call_of, grows_in_chunks, map_at}
 use Rattle.papaya_histories.specs.Given.Points.FactsCalls.{IsCopying}
+use Rattle.papaya_histories.specs.Given.Callers.Rooms.{CallForRoom}
 use Rattle.papaya_histories.specs.Given.Callers.Together.{Counting, ForRoom, OnKey, OverAll, UnderWay}
 use Rattle.papaya_histories.specs.Given.Effects.Effects.{effects_of}
 use Rattle.papaya_histories.specs.Given.Effects.Known.{Known}
@@ -32,22 +33,26 @@ use Rattle.papaya_histories.specs.Given.Follows.Calls.{IsCalled}
 use Rattle.papaya_histories.proofs.Given.Follows.Steps.{one_of}
 use Rattle.papaya_histories.specs.Given.Moments.Whole.{ShowsWhole}
 use Rattle.papaya_histories.proofs.Given.Others.Outcomes.{told_in}
+use Rattle.papaya_owes.specs.Tables.{ShowsTables}
 use Rattle.papaya_owes.proofs.Walks.{sum_at}
 use Rattle.papaya_settles.specs.Due.{OwnAreMade}
 use Rattle.papaya_kept.specs.Kept.{ShowsKept}
 use Rattle.papaya_kept.proofs.Calls.{own_made}
 use Rattle.papaya_finds.specs.Growing.{FindAsked}
+use Rattle.papaya_finds.specs.Linking.{FindShapes}
 use Rattle.papaya_finds.specs.Nexts.{MakesByCopier, RootHasLeft, making_of_copier}
 use Rattle.papaya_finds.proofs.Capacities.{effect_leaves}
 use Rattle.papaya_finds.proofs.CopiersAsk.{copiers_may_ask}
 use Rattle.papaya_finds.proofs.CopiersNext.{copiers_have_next}
 use Rattle.papaya_finds.proofs.Grows.Asked.{Asks, made_of, may_ask}
 use Rattle.papaya_finds.proofs.Grows.Steps.{key_calls_may_ask}
+use Rattle.papaya_finds.proofs.Linking.{key_calls_link}
 use Rattle.papaya_finds.proofs.Rest.{rest_is_all}
 use Rattle.papaya_finds.proofs.Waits.Handed.{calls_hand_past, past_is_handed}
 use Rattle.papaya_finds.proofs.Waits.Next.{calls_put_behind}
 use Rattle.papaya_legal.specs.Finding.{ShowsFinding}
 use Rattle.papaya_legal.specs.Rests.{StepsFindRest, is_reservation, is_unsettled}
+use Rattle.papaya_legal.proofs.Finding.Links.{copier_links, none_links}
 
 -- whether a call on one key copies pairs
 copies_or : (q : Calling) → IsCopying q ⊎ (IsCopying q → ⊥)
@@ -110,32 +115,52 @@ module _ {K V S : Type 0} (same : K → K → Bool) (hash : K → ℕ) (name : �
     sum_asks : Asked
     sum_asks = may_ask same hash name m known s old new at whole map i (Counting sum) here said leads terms moments c c_is none_asked
 
-  settled_asks : (u : UnderWay K V K) (here : s.calls map i ≡ Some u) → is_unsettled c m ≡ false → Asked
-  settled_asks u here settled = by u here
-    where
-      parts : (is_reservation c.call ≡ false) × (grows_in_chunks (map_at c.map m) ≡ true)
-      parts = let both = neither_so (is_reservation c.call) (not (grows_in_chunks (map_at c.map m))) settled in (both.0, not_false (grows_in_chunks (map_at c.map m)) both.1)
+  -- a reservation is not settled
+  room_none : (r : CallForRoom) (its : Call K V) → IsCalled same (ForRoom r) its → is_reservation its ≡ false → ⊥
+  room_none r (call.Reserve more) called none = cc none
+  room_none r (call.On one) called none = called
+  room_none r call.Len called none = called
+  room_none r call.Clear called none = called
+  room_none r call.Retain called none = called
+  room_none r call.Walk called none = called
 
-      by : (x : UnderWay K V K) → s.calls map i ≡ Some x → Asked
-      by (OnKey x) is = elim (copies_or x.call.stands) as (λ _. Asked) [
-        | inl copies ↦ copier_asks (OnKey x) is parts.1 copies
-        | inr other ↦ key_calls_may_ask K V S same hash name m known s old new at whole finding.growing map i x is said leads other terms moments
+  module _ (settled : is_unsettled c m ≡ false) where
+    parts : (is_reservation c.call ≡ false) × (grows_in_chunks (map_at c.map m) ≡ true)
+    parts = let both = neither_so (is_reservation c.call) (not (grows_in_chunks (map_at c.map m))) settled in (both.0, not_false (grows_in_chunks (map_at c.map m)) both.1)
+
+    settled_asks : (u : UnderWay K V K) (here : s.calls map i ≡ Some u) → Asked
+    settled_asks (OnKey x) is = elim (copies_or x.call.stands) as (λ _. Asked) [
+      | inl copies ↦ copier_asks (OnKey x) is parts.1 copies
+      | inr other ↦ key_calls_may_ask K V S same hash name m known s old new at whole finding.growing map i x is said leads other terms moments
+    ]
+    settled_asks (OverAll o) is = copier_asks (OverAll o) is parts.1 tt
+    settled_asks (Counting sum) is = sum_asks sum is
+    settled_asks (ForRoom r) is = absurd (room_none r c.call (its_call (ForRoom r) is).1 parts.0)
+
+    -- which table it links
+    module _ (tables : ShowsTables name m known s) where
+      abbrev Linked : Type 0
+      Linked = FindShapes terms moments (name i) map (effects_of (acts.Call i map) known new.memory.changed) m
+
+      copier_linked : (u : UnderWay K V K) (here : s.calls map i ≡ Some u) → MakesByCopier u → Linked
+      copier_linked u here copies =
+          copier_links same hash name m known s old new at whole tables map i u here said leads terms moments finding.further copies (finding.capacities map (leads map u here).0 (leads map u here).2)
+          (has_next u here parts.1)
+
+      settled_links : (u : UnderWay K V K) (here : s.calls map i ≡ Some u) → Linked
+      settled_links (OnKey x) is = elim (copies_or x.call.stands) as (λ _. Linked) [
+        | inl copies ↦ copier_linked (OnKey x) is copies
+        | inr other ↦
+            key_calls_link K V S same hash name m known s old new at whole tables finding.growing map i x is said leads other (finding.capacities map (leads map (OnKey x) is).0 (leads map (OnKey x) is).2) terms
+            moments
       ]
-      by (OverAll o) is = copier_asks (OverAll o) is parts.1 tt
-      by (Counting sum) is = sum_asks sum is
-      by (ForRoom r) is = absurd (room_none c.call (its_call (ForRoom r) is).1 parts.0)
-        where
-          room_none : (its : Call K V) → IsCalled same (ForRoom r) its → is_reservation its ≡ false → ⊥
-          room_none (call.Reserve more) called none = cc none
-          room_none (call.On one) called none = called
-          room_none call.Len called none = called
-          room_none call.Clear called none = called
-          room_none call.Retain called none = called
-          room_none call.Walk called none = called
+      settled_links (OverAll o) is = copier_linked (OverAll o) is tt
+      settled_links (Counting sum) is = none_links same hash name m known s old new at whole tables map i (Counting sum) is said leads terms moments refl
+      settled_links (ForRoom r) is = absurd (room_none r c.call (its_call (ForRoom r) is).1 parts.0)
 
 pub steps_find_rest : (K V S : Type 0) (same : K → K → Bool) (hash : K → ℕ) → StepsFindRest K V S same hash
 steps_find_rest K V S same hash name m known s old new at whole kept finding map i u here said leads terms moments c c_is still =
-    rest_is_all K V terms moments (name i) map effects m asked still.links
+    rest_is_all K V terms moments (name i) map effects m asked linked
     (past_is_handed K V (name i) map effects m (calls_hand_past K V S same hash name m known s old new at whole kept.entries owning kept.owed finding.waits map i u here said leads)
     (calls_put_behind K V S same hash name m known s old new at whole kept.entries owning kept.owed finding.waits finding.puts map i u here said leads) still.space)
   where
@@ -150,4 +175,11 @@ steps_find_rest K V S same hash name m known s old new at whole kept finding map
       where
         by : (q : Bool) → is_unsettled c m ≡ q → FindAsked terms moments (name i) map effects m
         by true is = still.asks is
-        by false is = settled_asks same hash name m known s old new at whole finding map i said leads terms moments c c_is u here is
+        by false is = settled_asks same hash name m known s old new at whole finding map i said leads terms moments c c_is is u here
+
+    linked : FindShapes terms moments (name i) map effects m
+    linked = by (is_unsettled c m) refl
+      where
+        by : (q : Bool) → is_unsettled c m ≡ q → FindShapes terms moments (name i) map effects m
+        by true is = still.links is
+        by false is = settled_links same hash name m known s old new at whole finding map i said leads terms moments c c_is is kept.tables u here

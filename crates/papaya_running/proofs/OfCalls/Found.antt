@@ -85,15 +85,15 @@ module _ {K V S : Type 0} (same : K → K → Bool) (hash : K → ℕ) (wanted :
   -- so it is of the first effects, and of those behind them
   parts_still : (xs ys : List Effect) (m : Moment K V) → Rest (xs ++ ys) m → Rest xs m × Rest ys (with_effects (Some (name i)) (Some map) xs m)
   parts_still xs ys m rest = (
-    record { asks = λ is. (asked (rest.asks is)).0; links = linked.0; space = spaced.0 },
-    record { asks = λ is. (asked (rest.asks is)).1; links = linked.1; space = spaced.1 },
+    record { asks = λ is. (asked (rest.asks is)).0; links = λ is. (linked (rest.links is)).0; space = spaced.0 },
+    record { asks = λ is. (asked (rest.asks is)).1; links = λ is. (linked (rest.links is)).1; space = spaced.1 },
   )
     where
       asked : FindAsked terms moments (name i) map (xs ++ ys) m → FindAsked terms moments (name i) map xs m × FindAsked terms moments (name i) map ys (with_effects (Some (name i)) (Some map) xs m)
       asked all = each_parts (Some (name i)) (Some map) (Each (FindsAsked terms moments)) xs ys m all
 
-      linked : FindShapes terms moments (name i) map xs m × FindShapes terms moments (name i) map ys (with_effects (Some (name i)) (Some map) xs m)
-      linked = each_parts (Some (name i)) (Some map) (Each (FindsShape terms moments)) xs ys m rest.links
+      linked : FindShapes terms moments (name i) map (xs ++ ys) m → FindShapes terms moments (name i) map xs m × FindShapes terms moments (name i) map ys (with_effects (Some (name i)) (Some map) xs m)
+      linked all = each_parts (Some (name i)) (Some map) (Each (FindsShape terms moments)) xs ys m all
 
       spaced : FindSpace (name i) map xs m × FindSpace (name i) map ys (with_effects (Some (name i)) (Some map) xs m)
       spaced = each_parts (Some (name i)) (Some map) (Each FindsSpace) xs ys m rest.space
