@@ -1,5 +1,5 @@
 -- The table that a call links by its copier follows the last one of its map; and a counting links none.
-use Rattle.std.specs.Prelude.{◌≡◌, ℕ, suc, List, [], ◌∷◌, length, Option, Some, None}
+use Rattle.std.specs.Prelude.{◌≡◌, ℕ, suc, Bool, List, [], ◌∷◌, length, Option, Some, None}
 use Rattle.std.proofs.Common.{sym, subst, ◌∙◌}
 use Rattle.papaya_histories.specs.Given.Tables.Lengths.{entries_of}
 use Rattle.papaya_histories.specs.Given.Tables.declared.lengths.Reason.{Reason}
