@@ -4,6 +4,7 @@ ghost use Rattle.papaya_lives.specs.Behind.{WaitingIsThere};
 ghost use Rattle.papaya_lives.specs.Handed.{HandedBegins, OthersLeaveHanded, EndingsBeginHanded, HandedAtRest, RowsBeginHanded, RowsKeepHanded, RowsFindHanded, MakingsKeepHanded, CallsKeepHanded, EndingsKeepHanded};
 ghost use Rattle.papaya_lives.specs.LeftTables.{LeftBegins, OthersKeepLeft, EndingsBeginLeft, NoneIsLeftTo, NoneIsLeft, WhereNoneIsLeft, RowsBeginLeft, RowsKeepLeft, MakingsKeepLeft, CallsKeepLeft, EndingsKeepLeft};
 ghost use Rattle.papaya_lives.specs.Lying.{LyingBegins, OthersLeaveLying, EndingsBeginLying, RowsBeginLying, RowsKeepLying, MakingsKeepLying, CallsKeepLying, EndingsKeepLying};
+ghost use Rattle.papaya_lives.specs.Order.{OrderBegins, OthersLeaveOrder, EndingsBeginOrder, RowsBeginOrder, RowsKeepOrder, MakingsKeepOrder, CallsKeepOrder, EndingsKeepOrder};
 ghost use Rattle.papaya_lives.specs.Retired.{RetiredBegins, OthersLeaveRetired, EndingsBeginRetired, RowsBeginRetired, RowsKeepRetired, RowsFindRetired, MakingsKeepRetired, CallsKeepRetired, EndingsKeepRetired};
 ghost use Rattle.papaya_lives.specs.Steps.{WaitingBegins, OthersLeaveWaiting, EndingsBeginWaiting, EffectsFindWaiting, UsersKeepWaiting, RowsBeginWaiting, RowsKeepWaiting, RowsFindWaiting, MakingsKeepWaiting, CallsKeepWaiting, CallRowsKeepWaiting, EndingsFindWaiting, EndingsKeepWaiting};
 ghost use Rattle.papaya_lives.specs.Waiting.{WaitUnretired, PutsWait};
