@@ -1,12 +1,14 @@
 -- A step in a memory that tells, which has forgotten what was told before.
-use Rattle.std.proofs.Common.{◌≡◌, sym, subst}
+use Rattle.std.specs.Prelude.{true, false}
+use Rattle.std.proofs.Common.{◌≡◌, refl, sym, subst}
 use Rattle.seize_words.specs.Mem.{Mem, Can, Took, value_at}
 use Rattle.seize_words.specs.Plan.{Plan, Turn, Do, May, Steps}
 use Rattle.papaya_finishes.specs.Given.Tables.declared.node.Node.{Node}
+use Rattle.papaya_teller.specs.Changed.{is_made}
 use Rattle.papaya_teller.specs.Tells.{Telling, CanTell, TookTold, StepsTold}
 use Rattle.papaya_teller.specs.declared.changed.Changed.{Changed}
 use Rattle.papaya_teller.specs.declared.changed.Changed.TheVariants.{Nothing}
-use Rattle.papaya_teller.proofs.Laws.{may_with_teller, steps_with_teller}
+use Rattle.papaya_teller.proofs.Laws.{may_with_teller, refuses_with_teller, steps_with_teller}
 
 module _ (K V R : Type 0) (t f : Telling K V R) (is : f ≡ record t { changed = Nothing }) (plan : Plan (Node K V) R) where
   pub may_forgotten : May Can Took value_at t.memory plan → May (CanTell K V R) (TookTold K V R) (λ t. value_at t.memory) f plan
@@ -15,6 +17,12 @@ module _ (K V R : Type 0) (t f : Telling K V R) (is : f ≡ record t { changed =
   pub steps_forgotten : (n : Telling K V R) (end : R) → Steps (TookTold K V R) (λ t. value_at t.memory) f plan n end → StepsTold K V R t.memory Nothing plan n.memory n.changed end
   steps_forgotten n end st =
       steps_with_teller K V R (record t { changed = Nothing }) n plan end (subst (λ (f : Telling K V R). Steps (TookTold K V R) (λ t. value_at t.memory) f plan n end) is st)
+
+  -- where it refuses blocks, none was made
+  pub none_made : t.refuses ≡ true → (n : Telling K V R) (end : R) → Steps (TookTold K V R) (λ t. value_at t.memory) f plan n end → is_made n.changed ≡ false
+  none_made refuses n end st =
+      (refuses_with_teller K V R (record t { changed = Nothing }) n plan end (subst (λ (f : Telling K V R). Steps (TookTold K V R) (λ t. value_at t.memory) f plan n end) is st)).1
+      refuses refl
 
 -- what was told of it aside, it was a step of its plan
 module _ {K V R : Type 0} (m : Mem (Node K V)) (before : Changed) where

@@ -7,3 +7,4 @@ pub mod InHand
 pub mod Calls
 pub mod Between
 pub mod Others
+pub mod NoneMade

@@ -1,14 +1,19 @@
 -- A step of a call is written down.
-use Rattle.std.specs.Prelude.{◌≡◌, ℕ, Bool, List, ◌++◌, Some}
-use Rattle.std.proofs.Common.{subst, sym}
+use Rattle.std.specs.Prelude.{◌≡◌, ℕ, Bool, true, false, ◌||◌, List, ◌++◌, Some}
+use Rattle.std.specs.List.{list_any}
+use Rattle.std.proofs.Common.{ap, subst, sym, ◌∙◌}
+use Rattle.std.proofs.Math.Bool.{or-false}
+use Rattle.std.proofs.lemmas.List.Folds.{list_any-append}
 use Rattle.papaya_histories.specs.Given.Tables.declared.node.Node.{Node}
 use Rattle.papaya_raw.specs.declared.machines.progress.Progress.{Progress}
 use Rattle.papaya_schedules.specs.declared.effect.Effect.{Effect}
 use Rattle.papaya_schedules.specs.Effects.{with_effects}
+use Rattle.papaya_schedules.specs.Handing.{is_made}
 use Rattle.papaya_schedules.specs.Moment.{Moment}
 use Rattle.papaya_effects.specs.Effects.{effects_of, known_after}
 use Rattle.papaya_effects.specs.Known.{Known, known}
 use Rattle.papaya_effects.specs.declared.notes.Notes.{Notes}
+use Rattle.papaya_effects.specs.declared.acting.Acting.{Acting}
 use Rattle.papaya_effects.specs.declared.acting.Acting.TheVariants as acts
 use Rattle.papaya_executor.specs.IsAt.{Scene, IsAt, KeepsGiven}
 use Rattle.papaya_executor.specs.Stepping.{StepLeads, scene_after}
@@ -17,7 +22,10 @@ use Rattle.papaya_histories.proofs.Given.Moments.Calls.{calls_keep_whole}
 use Rattle.papaya_histories.specs.Given.Moments.Whole.{ShowsWhole}
 use Rattle.papaya_kept.specs.Kept.{ShowsKept}
 use Rattle.papaya_kept.proofs.Calls.{calls_keep_kept}
-use Rattle.papaya_logged.specs.Calling.{CallGoesOn}
+use Rattle.papaya_kept.proofs.NoneMade.{none_made}
+use Rattle.papaya_teller.specs.Changed.{is_made as is_block_made}
+use Rattle.papaya_teller.specs.declared.changed.Changed.{Changed}
+use Rattle.papaya_logged.specs.Calling.{CallGoesOn, MakesNoMore}
 use Rattle.papaya_logged.specs.Shown.{IsShown}
 use Rattle.papaya_logged.specs.declared.logged.Logged.{Logged}
 use Rattle.papaya_logged.proofs.Counted.{counted_call_steps}
@@ -56,3 +64,10 @@ module _ {K V S : Type 0} (same : K → K → Bool) (hash : K → ℕ) where
   goes_on old new stepped i map told before after stepping did noted executor given name m s shown =
       subst (λ (e : Executor K V S). CallGoesOn same hash name m s i map told before after old (record { executor = e; notes = new.notes })) (sym executor)
       (goes_so old stepped new.notes i map told before after stepping did noted given name m s shown)
+
+-- where it made no block, it makes no pair, and no table
+pub makes_no_more : (refuse : Bool) (its : Acting) (noted : Known) (told : Changed) (before after : List Effect) → after ≡ before ++ effects_of its noted told
+    → (refuse ≡ true → is_block_made told ≡ false) → MakesNoMore refuse before after
+makes_no_more refuse its noted told before after did unmade refused =
+    ap (list_any is_made) did ∙ list_any-append is_made before (effects_of its noted told)
+    ∙ ap (λ (q : Bool). list_any is_made before || q) (none_made its noted told (unmade refused)) ∙ or-false (list_any is_made before)

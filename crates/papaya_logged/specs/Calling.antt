@@ -1,5 +1,6 @@
 -- Where the beginning and a step of a call lead, and what they do; where a call goes on by what it is told, or asked.
 use Rattle.std.specs.Prelude.{◌≡◌, ℕ, Bool, true, List, ◌++◌, Option, Some, Result, Ok}
+use Rattle.std.specs.List.{list_any}
 use Rattle.papaya_histories.specs.Given.Tables.declared.node.Node.{Node}
 use Rattle.papaya_raw.specs.Machine.{machine_asked, machine_replied}
 use Rattle.papaya_raw.specs.declared.machines.asking.Reply.{Reply as MachineReply}
@@ -11,6 +12,7 @@ use Rattle.papaya_schedules.specs.declared.call.Call.{Call}
 use Rattle.papaya_schedules.specs.declared.call.Reply.{Reply}
 use Rattle.papaya_schedules.specs.declared.effect.Effect.{Effect}
 use Rattle.papaya_schedules.specs.Effects.{with_effects}
+use Rattle.papaya_schedules.specs.Handing.{is_made}
 use Rattle.papaya_schedules.specs.Moment.{Asking, UnderWay as CallThere, Moment}
 use Rattle.papaya_schedules.specs.Views.{call_of}
 use Rattle.papaya_histories.specs.Given.Callers.Together.{UnderWay}
@@ -31,6 +33,10 @@ use Rattle.papaya_histories.specs.Given.Hands.Calling.{IsBegunFor}
 use Rattle.papaya_histories.specs.Given.Others.Walks.{given_up}
 use Rattle.papaya_logged.specs.Shown.{IsShown}
 use Rattle.papaya_logged.specs.declared.logged.Logged.{Logged}
+
+-- where growths are to be refused, nothing more is made
+abbrev pub MakesNoMore : Bool → (before after : List Effect) → Type 0
+MakesNoMore refuse before after = refuse ≡ true → list_any is_made after ≡ list_any is_made before
 
 module _ {K V S : Type 0} (same : K → K → Bool) (hash : K → ℕ) (name : ℕ → List ℕ) (m : Moment K V) (s : Scene K V) where
   -- what such a step does, by what the executor's memory tells of it

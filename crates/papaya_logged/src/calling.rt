@@ -5,7 +5,7 @@ ghost use Rattle.papaya_executor.specs.Beginning.{IsRefused};
 ghost use Rattle.papaya_executor.specs.IsAt.{Scene, IsAt, HasCall, KeepsGiven};
 ghost use Rattle.papaya_executor.specs.Replying.{AskLeads, ReplyLeads, StopLeads};
 ghost use Rattle.papaya_executor.specs.declared.worker.TheConstants.{SLOTS};
-ghost use Rattle.papaya_logged.specs.Calling.{CallBegins, CallGoesOn, CallTakes, WalkGoesOn, WalkStops};
+ghost use Rattle.papaya_logged.specs.Calling.{CallBegins, CallGoesOn, CallTakes, MakesNoMore, WalkGoesOn, WalkStops};
 ghost use Rattle.papaya_logged.specs.Shown.{IsShown};
 
 use crate::logged::Logged;
@@ -74,20 +74,22 @@ impl<K: Drop, V: Drop, S> Logged<K, V, S> {
 }
 
 impl<K: Eq + Hash + Drop, V: Drop, S: Hashes<K>> Logged<K, V, S> {
-    /// Takes the next step of the call that a caller has under way on a map: at most one operation. What it does is added to the list. It is refused where the
-    /// list, or the notes, find no more room: then the executor has gone on, and it is written down no more.
+    /// Takes the next step of the call that a caller has under way on a map: at most one operation. A growth that it asks for may be refused. What it does is added
+    /// to the list. It is refused where the list, or the notes, find no more room: then the executor has gone on, and it is written down no more.
     pub fn step(
         &mut self,
         caller: u64,
         map: u64,
+        refuse: bool,
         effects: &mut Vec<Effect>,
     ) -> Result<Progress<Node<K, V>>, AllocError>
         requires { (s : Scene K V) × IsAt K.eq (S.hash self.old.executor.hasher) self.old.executor s × HasCall s caller }
         ensures leads { IfOk result (λ progress. (name : ℕ → List ℕ) (m : Moment K V) (s : Scene K V) → IsShown K.eq (S.hash self.old.executor.hasher) name m self.old s
             → CallGoesOn K.eq (S.hash self.old.executor.hasher) name m s caller map progress effects.old.items effects.new.items self.old self.new) }
+        ensures refused { IfOk result (λ progress. MakesNoMore refuse effects.old.items effects.new.items) }
         ensures given { KeepsGiven self.old.executor self.new.executor }
     {
-        let progress = self.executor.step(caller);
+        let progress = self.executor.step(caller, refuse);
         self.note(Acting::Call { caller, map }, effects)?;
         Ok(progress)
     }

@@ -256,6 +256,10 @@ impl Memory<Node<u64, u64>> for Open {
         }
     }
 
+    fn refuse(&mut self, value: Node<u64, u64>, _words: u64) -> Node<u64, u64> {
+        value
+    }
+
     fn take(&mut self, block: u64) -> Node<u64, u64> {
         if self.size(block).is_none() {
             self.astray = true;

@@ -1,6 +1,5 @@
 -- What is so after each event of a run, of the scheduler and of the scene for which it stands; and what is promised of an event of a call: it keeps its promises, and the run goes on.
-use Rattle.std.specs.Prelude.{◌≡◌, ◌<◌, ◌≤◌, ◌^◌, ◌+◌, ◌||◌, ℕ, Bool, true, false, List, ◌∷◌, not, slice_index_or, Option, Some, None}
-use Rattle.std.specs.List.{list_any}
+use Rattle.std.specs.Prelude.{◌≡◌, ◌<◌, ◌≤◌, ◌^◌, ◌+◌, ℕ, Bool, true, false, List, ◌∷◌, slice_index_or, Option, Some, None}
 use Rattle.papaya_histories.specs.Given.SeizeWaiting.Held.{count}
 use Rattle.papaya_histories.specs.Given.Seize.WaitingSets.{Sets}
 use Rattle.papaya_histories.specs.Given.Seize.World.{World, IsInside, Request, Begin, Step, Happens}
@@ -22,7 +21,6 @@ use Rattle.papaya_histories.specs.Given.Schedules.declared.outcome.Outcome.TheVa
 use Rattle.papaya_histories.specs.Given.Schedules.After.{moment, moments_from}
 use Rattle.papaya_histories.specs.Given.Schedules.Beginning.{at_work}
 use Rattle.papaya_histories.specs.Given.Schedules.Entry.{Entry, IfCall, acting, caller_of}
-use Rattle.papaya_histories.specs.Given.Schedules.Handing.{is_made, refuses as refuses_growth}
 use Rattle.papaya_histories.specs.Given.Schedules.InTurn.{ComesRight, is_kept_out}
 use Rattle.papaya_histories.specs.Given.Schedules.declared.effect.Thing.{Thing}
 use Rattle.papaya_histories.specs.Given.Schedules.Model.{things_in}
@@ -76,10 +74,9 @@ module _ {K V : Type 0} where
   TellsValue (On (Compute k)) replies (Answered answer.Absent) = ⊥
   TellsValue call replies told = Unit {0}
 
-  -- What is still asked of an event of a call, by name, but that it comes to what is right: it is refused a growth that is to be refused; of its effects it is known why a block is asked for, which
-  -- table is linked, and that what is handed over may be; and a value that it tells back is the one that was given.
+  -- What is still asked of an event of a call, by name, but that it comes to what is right: of its effects it is known why a block is asked for, which table is linked, and that what is handed over
+  -- may be; and a value that it tells back is the one that was given.
   pub record IsLeftBut (terms : Terms) (log : List (Entry K V)) (e : Entry K V) : Type 0 where
-    pub refuses : (not (refuses_growth e.event) || not (list_any is_made e.effects)) ≡ true
     pub rest : (let b = at_work e (moment log) in IfCall (λ (c : CallThere K V). FindRest terms (moments_from c.begun log) c.caller c.map e.effects b) (acting (caller_of e.event) b))
     pub values : (let b = at_work e (moment log) in IfCall (λ (c : CallThere K V). TellsValue c.call c.replies e.outcome) (acting (caller_of e.event) b))
 

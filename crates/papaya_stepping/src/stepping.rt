@@ -1,8 +1,9 @@
 //! Calls take steps, one or many.
-ghost use Rattle.std.specs.Prelude.{◌≡◌, ◌<◌, ◌≤◌, length, slice_get, Some, IfOk};
+ghost use Rattle.std.specs.Prelude.{◌≡◌, ◌<◌, ◌≤◌, [], length, slice_get, Some, IfOk};
 ghost use Rattle.papaya_schedules.specs.declared.event.Event.TheVariants as event;
 ghost use Rattle.papaya_histories.specs.Given.Effects.Known.{known};
 ghost use Rattle.papaya_histories.specs.Given.Executor.IsAt.{KeepsGiven};
+ghost use Rattle.papaya_logged.specs.Calling.{MakesNoMore};
 ghost use Rattle.papaya_scheduler.specs.Played.{MayPlay};
 ghost use Rattle.papaya_runs.specs.Stopped.{most_steps};
 ghost use Rattle.papaya_stepping.specs.Stepping.{IsStepped, MayGo, MayStep, PlaysOnAt, StandsAt, StepsCome, TakenAs, TookSteps, TookWhole, callers_then, outcome_of};
@@ -30,20 +31,6 @@ fn goes_on<V>(outcome: &Outcome<V>) -> bool
     ensures { result ≡ goes_on outcome.now }
 {
     matches!(outcome, Outcome::Goes)
-}
-
-/// If growths are to be refused, those are that come after so many more.
-fn refuse_after<K: Drop, V: Drop, S>(scheduler: &mut Scheduler<K, V, S>, refuse: bool, growths: u64)
-    ensures { scheduler.new ≡ scheduler.old }
-{
-    if refuse {
-        scheduler
-            .logged
-            .executor
-            .memory
-            .memory
-            .refuse_after(growths);
-    }
 }
 
 /// The call at this place has come to this. A walk that has shown a pair is ready.
@@ -96,44 +83,48 @@ pub(crate) fn come_to<K: Drop, V: Drop, S>(
     }
 }
 
-/// The call at this place takes one step. What it does is added to the list.
+/// The call at this place takes one step. A growth that it asks for may be refused. What it does is added to the list.
 fn take_step<K: Eq + Hash + Drop, V: Drop, S: Hashes<K>>(
     scheduler: &mut Scheduler<K, V, S>,
     place: usize,
+    refuse: bool,
     effects: &mut Vec<Effect>,
 ) -> Result<Outcome<V>, AllocError>
     requires { MayStep K.eq (S.hash scheduler.old.logged.executor.hasher) place scheduler.old }
     ensures stepped { IfOk result (λ outcome. IsStepped K.eq (S.hash scheduler.old.logged.executor.hasher) place outcome effects.old.items effects.new.items scheduler.old scheduler.new) }
+    ensures refused { IfOk result (λ outcome. MakesNoMore refuse effects.old.items effects.new.items) }
     ensures given { KeepsGiven scheduler.old.logged.executor scheduler.new.logged.executor }
 {
     let (number, map) = scheduler.calls.way_of(place);
-    let progress = scheduler.logged.step(number, map, effects)?;
+    let progress = scheduler.logged.step(number, map, refuse, effects)?;
     Ok(come_to(scheduler, place, progress))
 }
 
-/// The call at this place, which goes on, takes at most so many steps, while it does. What they do is added to the list.
+/// The call at this place, which goes on, takes at most so many steps, while it does. Growths that it asks for may be refused. What they do is added to the list.
 fn go_on<K: Eq + Hash + Drop, V: Drop, S: Hashes<K>>(
     scheduler: &mut Scheduler<K, V, S>,
     place: usize,
     most: u64,
+    refuse: bool,
     effects: &mut Vec<Effect>,
 ) -> Result<(Outcome<V>, u64), AllocError>
     requires some { 1 ≤ most }
     requires goes { MayGo K.eq (S.hash scheduler.old.logged.executor.hasher) place scheduler.old }
     ensures comes { IfOk result (λ come. StepsCome K.eq (S.hash scheduler.old.logged.executor.hasher) place most come.1 come.0 effects.old.items effects.new.items scheduler.old scheduler.new) }
+    ensures refused { IfOk result (λ come. MakesNoMore refuse effects.old.items effects.new.items) }
     ensures given { KeepsGiven scheduler.old.logged.executor scheduler.new.logged.executor }
 {
     for steps in 1..most {
-        let outcome = take_step(scheduler, place, effects)?;
+        let outcome = take_step(scheduler, place, refuse, effects)?;
         if !goes_on(&outcome) {
             return Ok((outcome, steps));
         }
     }
-    let outcome = take_step(scheduler, place, effects)?;
+    let outcome = take_step(scheduler, place, refuse, effects)?;
     Ok((outcome, most))
 }
 
-/// The call at this place takes at most so many steps, while it goes on. The first growth that it asks for may be refused.
+/// The call at this place takes at most so many steps, while it goes on. Growths that it asks for may be refused.
 fn take_steps<K: Eq + Hash + Drop, V: Drop, S: Hashes<K>>(
     scheduler: &mut Scheduler<K, V, S>,
     place: usize,
@@ -143,6 +134,7 @@ fn take_steps<K: Eq + Hash + Drop, V: Drop, S: Hashes<K>>(
     requires some { 1 ≤ most }
     requires stands { StandsAt K.eq (S.hash scheduler.old.logged.executor.hasher) place scheduler.old }
     ensures taken { IfOk result (λ played. TakenAs K.eq (S.hash scheduler.old.logged.executor.hasher) place most played scheduler.old scheduler.new) }
+    ensures refused { IfOk result (λ played. MakesNoMore refuse [] played.effects.items) }
     ensures given { KeepsGiven scheduler.old.logged.executor scheduler.new.logged.executor }
 {
     match scheduler.calls.far_of(place) {
@@ -151,9 +143,7 @@ fn take_steps<K: Eq + Hash + Drop, V: Drop, S: Hashes<K>>(
         Stands::Goes => {}
     }
     let mut effects = scheduler.no_effects();
-    refuse_after(scheduler, refuse, 0);
-    let come = go_on(scheduler, place, most, &mut effects)?;
-    refuse_after(scheduler, refuse, u64::MAX);
+    let come = go_on(scheduler, place, most, refuse, &mut effects)?;
     Ok(Played {
         outcome: come.0,
         steps: come.1,
@@ -170,6 +160,7 @@ pub fn step<K: Eq + Hash + Drop, V: Drop, S: Hashes<K>>(
     requires { MayPlay K.eq (S.hash scheduler.old.logged.executor.hasher) (event.Step caller.now refuse) scheduler.old }
     ensures plays { IfOk result (λ played. PlaysOnAt K.eq (S.hash scheduler.old.logged.executor.hasher) (event.Step caller.now refuse) played scheduler.old scheduler.new) }
     ensures took { IfOk result (λ played. TookSteps K.eq (S.hash scheduler.old.logged.executor.hasher) 1 caller.now played scheduler.old scheduler.new) }
+    ensures refused { IfOk result (λ played. MakesNoMore refuse [] played.effects.items) }
     ensures given { KeepsGiven scheduler.old.logged.executor scheduler.new.logged.executor }
 {
     match scheduler.calls.place_of(caller) {
@@ -187,6 +178,7 @@ pub fn go<K: Eq + Hash + Drop, V: Drop, S: Hashes<K>>(
     requires { MayPlay K.eq (S.hash scheduler.old.logged.executor.hasher) (event.Go caller.now refuse) scheduler.old }
     ensures plays { IfOk result (λ played. PlaysOnAt K.eq (S.hash scheduler.old.logged.executor.hasher) (event.Go caller.now refuse) played scheduler.old scheduler.new) }
     ensures took { IfOk result (λ played. TookSteps K.eq (S.hash scheduler.old.logged.executor.hasher) most_steps caller.now played scheduler.old scheduler.new) }
+    ensures refused { IfOk result (λ played. MakesNoMore refuse [] played.effects.items) }
     ensures given { KeepsGiven scheduler.old.logged.executor scheduler.new.logged.executor }
 {
     match scheduler.calls.place_of(caller) {

@@ -34,7 +34,7 @@ fn walk_on<K: Eq + Hash + Drop, V: Drop, S: Hashes<K>>(
 {
     let (number, map) = scheduler.calls.way_of(place);
     for steps in 1..u64::MAX {
-        let progress = scheduler.logged.step(number, map, effects)?;
+        let progress = scheduler.logged.step(number, map, false, effects)?;
         if !just_goes(&progress) {
             return Ok((progress, steps));
         }

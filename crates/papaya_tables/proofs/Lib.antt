@@ -1,7 +1,7 @@
 pub mod AllPlaces
 pub mod Ends
 pub mod Lists
-mod Logarithms
+pub mod Logarithms
 pub mod Places
 mod Samples
 pub mod TableLens

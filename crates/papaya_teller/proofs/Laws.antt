@@ -1,6 +1,6 @@
 -- What is promised of a memory that tells, clause by clause.
 use Rattle.std.proofs.Common.{rules}
-use Rattle.papaya_teller.specs.Tells.{MayWithTeller, StepsWithTeller}
+use Rattle.papaya_teller.specs.Tells.{MayWithTeller, RefusesWithTeller, StepsWithTeller}
 
 module _ (K V R : Type 0) where
   pub may_with_teller : MayWithTeller K V R
@@ -8,3 +8,6 @@ module _ (K V R : Type 0) where
 
   pub steps_with_teller : StepsWithTeller K V R
   steps_with_teller = search rules
+
+  pub refuses_with_teller : RefusesWithTeller K V R
+  refuses_with_teller = search rules

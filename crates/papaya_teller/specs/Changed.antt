@@ -1,5 +1,5 @@
 -- What a memory that tells makes of an operation, and what it then tells.
-use Rattle.std.specs.Prelude.{◌≡◌, ◌+◌, ◌^◌, ◌%◌, ◌==◌, if◌then◌else◌, true, false, bit_or, Ok, Err}
+use Rattle.std.specs.Prelude.{◌≡◌, Bool, ◌+◌, ◌^◌, ◌%◌, ◌==◌, if◌then◌else◌, true, false, bit_or, Ok, Err}
 use Rattle.seize_words.specs.Op.{Op, Out, Store, Swap, Add, Or, Exchange, Make, Take, Room, Found, Stored, Exchanged, Made, Roomed}
 use Rattle.papaya_tables.specs.declared.node.Node.{Node}
 use Rattle.papaya_tables.specs.declared.node.Node.TheVariants as node
@@ -43,3 +43,12 @@ module _ {K V : Type 0} where
   abbrev pub MadeSo : {M : Type 0} → (M → Op (Node K V) → Out (Node K V) → M → Type 0) → M → Op (Node K V) → Out (Node K V) → M → Changed → Type 0
   MadeSo took m op out n told =
       (answer : Out (Node K V)) × took m (made_as op) answer n × (out ≡ answered_as op answer) × (told ≡ changed_by (made_as op) answer)
+
+-- a block was made
+abbrev pub is_made : Changed → Bool
+is_made (changed.Made kind b) = true
+is_made _ = false
+
+-- whether blocks are refused stays, and where they are, none was made
+abbrev pub RefusesSo : Bool → Changed → Bool → Type 0
+RefusesSo refuses told still = (still ≡ refuses) × (refuses ≡ true → is_made told ≡ false)

@@ -1,5 +1,5 @@
 -- What a memory of one owner tells of a step that is taken in it.
-use Rattle.std.specs.Prelude.{◌≡◌, is_ok}
+use Rattle.std.specs.Prelude.{◌≡◌, true, false, is_ok}
 use Rattle.seize_words.specs.Mem.{Mem, Can, Took, value_at}
 use Rattle.seize_words.specs.Op.{Op, Out, Room, Roomed}
 use Rattle.seize_words.specs.Plan.{Plan, Turn, Do, May, Steps, Ends}
@@ -8,7 +8,7 @@ use Rattle.papaya_tells.specs.Seen.{Seen, Unseen, Wrote, MadeOne, HadNoRoom, Too
 use Rattle.papaya_teller.specs.declared.changed.Changed.{Changed}
 use Rattle.papaya_teller.specs.declared.changed.Changed.TheVariants as changed
 use Rattle.papaya_teller.specs.declared.teller.Teller.{Teller}
-use Rattle.papaya_teller.specs.Changed.{kind_of, made_as, MadeSo}
+use Rattle.papaya_teller.specs.Changed.{is_made, kind_of, made_as, MadeSo, RefusesSo}
 
 module _ {K V : Type 0} where
   -- what is told of what is seen: what a block holds by its kind alone, and of a value that was rewritten nothing; but a bucket that was asked for, too
@@ -39,7 +39,7 @@ module _ (K V R : Type 0) where
   CanTell t op = Can t.memory (made_as op)
 
   abbrev pub TookTold : Telling → Op (Node K V) → Out (Node K V) → Telling → Type 0
-  TookTold t op out n = MadeSo Took t.memory op out n.memory n.changed
+  TookTold t op out n = MadeSo Took t.memory op out n.memory n.changed × RefusesSo t.refuses n.changed n.refuses
 
   -- The promise: a step may be taken in the memory that tells where it may be taken in the one inside,
   abbrev pub MayWithTeller : Type 0
@@ -50,3 +50,9 @@ module _ (K V R : Type 0) where
   StepsWithTeller =
       (t n : Telling) (plan : Plan (Node K V) R) (end : R)
       → Steps TookTold (λ t. value_at t.memory) t plan n end → StepsTold t.memory t.changed plan n.memory n.changed end
+
+  -- Where it refuses blocks, it goes on to do so, and if no block was told to be made before, none is after the step.
+  abbrev pub RefusesWithTeller : Type 0
+  RefusesWithTeller =
+      (t n : Telling) (plan : Plan (Node K V) R) (end : R) → Steps TookTold (λ t. value_at t.memory) t plan n end
+      → (n.refuses ≡ t.refuses) × (t.refuses ≡ true → is_made t.changed ≡ false → is_made n.changed ≡ false)

@@ -1,29 +1,33 @@
 //! A memory that tells what its last operation has changed.
-ghost use Rattle.std.specs.Prelude.{◌≡◌};
+ghost use Rattle.std.specs.Prelude.{◌≡◌, false};
 ghost use Rattle.papaya_teller.specs.declared.changed.Changed.TheVariants.{Nothing};
 
 use crate::changed::{Changed, Kind};
 use papaya_tables::Node;
 use seize_words::{At, Fault, Look, Memory};
 
-/// A memory, and what its last operation has changed. It makes a store as a swap, which tells the word before.
+/// A memory, and what its last operation has changed. It makes a store as a swap, which tells the word before. Where it is told to, it refuses each block.
 #[derive(Drop)]
 pub struct Teller<M> {
     /// The memory inside.
     pub memory: M,
     /// What the last operation has changed.
     pub changed: Changed,
+    /// Whether each block that is asked for is refused.
+    pub refuses: bool,
 }
 
 impl<M> Teller<M> {
-    /// A memory in which no operation was made yet.
+    /// A memory in which no operation was made yet, and that refuses no block.
     pub fn new(memory: M) -> Self
         ensures memory { result.memory ≡ memory }
         ensures changed { result.changed ≡ Nothing }
+        ensures refuses { result.refuses ≡ false }
     {
         Teller {
             memory,
             changed: Changed::Nothing,
+            refuses: false,
         }
     }
 
@@ -37,11 +41,11 @@ impl<M> Teller<M> {
 
 impl<K, V, M: Memory<Node<K, V>>> Look<Node<K, V>> for Teller<M> {
     ghost use Rattle.std.specs.Prelude.{◌≡◌};
-    ghost use Rattle.papaya_teller.specs.Changed.{made_as, MadeSo};
+    ghost use Rattle.papaya_teller.specs.Changed.{made_as, MadeSo, RefusesSo};
 
     ghost can = { λ t op. M.can t.memory (made_as op) };
 
-    ghost took = { λ t op out n. MadeSo M.took t.memory op out n.memory n.changed };
+    ghost took = { λ t op out n. MadeSo M.took t.memory op out n.memory n.changed × RefusesSo t.refuses n.changed n.refuses };
 
     ghost shown = { λ t. M.shown t.memory };
 
@@ -97,6 +101,9 @@ impl<K, V, M: Memory<Node<K, V>>> Memory<Node<K, V>> for Teller<M> {
     }
 
     fn make(&mut self, value: Node<K, V>, words: u64) -> Result<u64, Node<K, V>> {
+        if self.refuses {
+            return Err(self.refuse(value, words));
+        }
         let kind = Kind::of(&value);
         let made = self.memory.make(value, words);
         self.changed = match &made {
@@ -107,6 +114,13 @@ impl<K, V, M: Memory<Node<K, V>>> Memory<Node<K, V>> for Teller<M> {
             Err(_) => Changed::Unmade { kind },
         };
         made
+    }
+
+    fn refuse(&mut self, value: Node<K, V>, words: u64) -> Node<K, V> {
+        self.changed = Changed::Unmade {
+            kind: Kind::of(&value),
+        };
+        self.memory.refuse(value, words)
     }
 
     fn take(&mut self, block: u64) -> Node<K, V> {

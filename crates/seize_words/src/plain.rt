@@ -218,6 +218,10 @@ impl<T> Memory<T> for Plain<T> {
         Ok(number)
     }
 
+    fn refuse(&mut self, value: T, _words: u64) -> T {
+        value
+    }
+
     fn take(&mut self, block: u64) -> T {
         self.blocks.take(block - 1)
     }

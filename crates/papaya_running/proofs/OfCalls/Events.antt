@@ -1,5 +1,6 @@
 -- An event by which a call goes on, or begins, whichever it is: it keeps its promises, and the run goes on with it.
-use Rattle.std.specs.Prelude.{◌≡◌, ℕ, Bool, true, false, List, [], ◌∷◌, position, Option, Some, None, if◌then◌else◌}
+use Rattle.std.specs.Prelude.{◌≡◌, ◌||◌, ℕ, Bool, true, false, not, List, [], ◌∷◌, position, Option, Some, None, if◌then◌else◌}
+use Rattle.std.specs.List.{list_any}
 use Rattle.std.proofs.Common.{refl, ap, sym, subst, ◌∙◌}
 use Rattle.papaya_histories.specs.Given.SeizeWords.declared.fault.Fault.TheVariants.{Busy}
 use Rattle.papaya_runs.specs.Stopped.{most_steps}
@@ -11,10 +12,12 @@ use Rattle.papaya_schedules.specs.declared.outcome.Outcome.TheVariants.{Asks, Go
 use Rattle.papaya_schedules.specs.After.{moment}
 use Rattle.papaya_schedules.specs.Beginning.{with_call}
 use Rattle.papaya_schedules.specs.Entry.{Entry, nameless}
+use Rattle.papaya_schedules.specs.Handing.{is_made}
 use Rattle.papaya_schedules.specs.InTurn.{ComesRight}
 use Rattle.papaya_schedules.specs.Terms.{Terms}
 use Rattle.papaya_schedules.specs.Views.{number_of}
 use Rattle.papaya_legal.specs.Over.{GoesOnBy}
+use Rattle.papaya_logged.specs.Calling.{MakesNoMore}
 use Rattle.papaya_scheduler.specs.Played.{Began, BeginsSo, HasBegun, IsPlayed, StandsFor, entry_of}
 use Rattle.papaya_named.specs.Seen.{is_named}
 use Rattle.papaya_named.specs.declared.caller.Stands.{Stands as HowFar}
@@ -39,6 +42,11 @@ module _ {K V S : Type 0} (same : K → K → Bool) (hash : K → ℕ) (old new 
 
   calls_as : (mid : Scheduler K V S) → new ≡ mid → mid ≡ old → new.calls ≡ old.calls
   calls_as mid is was = ap (λ (x : Scheduler K V S). x.calls) (is ∙ was)
+
+  -- it makes nothing where it is told to refuse growths
+  none_made : (refuse : Bool) → MakesNoMore refuse [] played.effects.items → (not refuse || not (list_any is_made played.effects.items)) ≡ true
+  none_made true none = ap not (none refl)
+  none_made false none = refl
 
   -- one that was out of turn
   module _ (terms : Terms) (log : List (Entry K V)) (runs : Runs same hash terms log old) where
@@ -93,9 +101,9 @@ module _ {K V S : Type 0} (same : K → K → Bool) (hash : K → ℕ) (old new 
       by_far so far.Ready is says = again_on same hash terms log old runs own place placed event on Ready is played new says left.right plays
       by_far so far.Goes is come = so is come
 
-    pub step_on : (own : List ℕ) (refuse : Bool) → TookSteps same hash 1 own played old new → IsLeft terms log (entry_of (Step own refuse) played)
+    pub step_on : (own : List ℕ) (refuse : Bool) → TookSteps same hash 1 own played old new → MakesNoMore refuse [] played.effects.items → IsLeft terms log (entry_of (Step own refuse) played)
         → IsPlayed same hash terms (entry_of (Step own refuse) played ∷ log) new → RunsOn same hash terms log (entry_of (Step own refuse) played) new
-    step_on own refuse took left plays = by (position (is_named own) old.calls.items.items) refl
+    step_on own refuse took refused left plays = by (position (is_named own) old.calls.items.items) refl
       where
         by : (o : Option ℕ) → position (is_named own) old.calls.items.items ≡ o → RunsOn same hash terms log (entry_of (Step own refuse) played) new
         by None is =
@@ -105,12 +113,12 @@ module _ {K V S : Type 0} (same : K → K → Bool) (hash : K → ℕ) (old new 
             let placed = sym is in
             let it = here_at same hash terms (moment log) old runs.stands own place placed in
             by_far (Step own refuse) own place placed left plays 1 refl
-            (λ goes come. taken_on same hash wanted terms log old runs (Step own refuse) own refl refl place placed (λ x. refl) refl refl goes 1 played new come left plays)
+            (λ goes come. taken_on same hash wanted terms log old runs (Step own refuse) own refl refl place placed (λ x. refl) refl refl goes 1 played new come left (none_made refuse refused) plays)
             it.caller.stands refl (took.0 place placed it.caller it.at)
 
-    pub go_on : (own : List ℕ) (refuse : Bool) → TookSteps same hash most_steps own played old new → IsLeft terms log (entry_of (Go own refuse) played)
+    pub go_on : (own : List ℕ) (refuse : Bool) → TookSteps same hash most_steps own played old new → MakesNoMore refuse [] played.effects.items → IsLeft terms log (entry_of (Go own refuse) played)
         → IsPlayed same hash terms (entry_of (Go own refuse) played ∷ log) new → RunsOn same hash terms log (entry_of (Go own refuse) played) new
-    go_on own refuse took left plays = by (position (is_named own) old.calls.items.items) refl
+    go_on own refuse took refused left plays = by (position (is_named own) old.calls.items.items) refl
       where
         by : (o : Option ℕ) → position (is_named own) old.calls.items.items ≡ o → RunsOn same hash terms log (entry_of (Go own refuse) played) new
         by None is =
@@ -120,7 +128,7 @@ module _ {K V S : Type 0} (same : K → K → Bool) (hash : K → ℕ) (old new 
             let placed = sym is in
             let it = here_at same hash terms (moment log) old runs.stands own place placed in
             by_far (Go own refuse) own place placed left plays most_steps refl
-            (λ goes come. taken_on same hash wanted terms log old runs (Go own refuse) own refl refl place placed (λ x. refl) refl refl goes most_steps played new come left plays)
+            (λ goes come. taken_on same hash wanted terms log old runs (Go own refuse) own refl refl place placed (λ x. refl) refl refl goes most_steps played new come left (none_made refuse refused) plays)
             it.caller.stands refl (took.0 place placed it.caller it.at)
 
     pub whole_goes_on : (guard on : List ℕ) (call : Call K V) → TookWhole same hash guard on call played old new → IsLeft terms log (entry_of (OneCall guard on call) played)

@@ -11,6 +11,7 @@ use Rattle.papaya_schedules.specs.declared.outcome.Outcome.TheVariants.{Done, Go
 use Rattle.papaya_schedules.specs.After.{moment}
 use Rattle.papaya_schedules.specs.Entry.{Entry}
 use Rattle.papaya_schedules.specs.InTurn.{ComesRight, IsKeptOut}
+use Rattle.papaya_logged.specs.Calling.{MakesNoMore}
 use Rattle.papaya_scheduler.specs.KeptOut.{PlaysKeptOut}
 use Rattle.papaya_scheduler.specs.Played.{Began, IsPlayed, PlaysAt, Replies, Stops}
 use Rattle.papaya_scheduler.specs.Turns.{keeps_out}
@@ -26,16 +27,18 @@ use Rattle.papaya_running.proofs.OfCalls.Told.{stopped_on, told_on}
 
 module _ {K V S : Type 0} (same : K → K → Bool) (hash : K → ℕ) (old new : Scheduler K V S) (happens : Event K V) where
   pub step_if : {X : Type 0} (own : List ℕ) (refuse : Bool) → happens ≡ event.Step own refuse → (result : Result (Played V) X) → IfOk result (λ played. PlaysOnAt same hash (event.Step own refuse) played old new)
-      → IfOk result (λ played. TookSteps same hash 1 own played old new) → IfOk result (λ played. KeepsDue same hash happens played old new)
-  step_if own refuse is (Ok played) plays took = subst (λ (x : Event K V). KeepsDue same hash x played old new) (sym is) (λ said wanted terms log runs out left.
-      step_on same hash old new played wanted terms log runs own refuse took left (plays terms log (record { played = runs.stands; in_turn = out })).played)
-  step_if own refuse is (Err x) plays took = tt
+      → IfOk result (λ played. TookSteps same hash 1 own played old new) → IfOk result (λ played. MakesNoMore refuse [] played.effects.items)
+      → IfOk result (λ played. KeepsDue same hash happens played old new)
+  step_if own refuse is (Ok played) plays took refused = subst (λ (x : Event K V). KeepsDue same hash x played old new) (sym is) (λ said wanted terms log runs out left.
+      step_on same hash old new played wanted terms log runs own refuse took refused left (plays terms log (record { played = runs.stands; in_turn = out })).played)
+  step_if own refuse is (Err x) plays took refused = tt
 
   pub go_if : {X : Type 0} (own : List ℕ) (refuse : Bool) → happens ≡ event.Go own refuse → (result : Result (Played V) X) → IfOk result (λ played. PlaysOnAt same hash (event.Go own refuse) played old new)
-      → IfOk result (λ played. TookSteps same hash most_steps own played old new) → IfOk result (λ played. KeepsDue same hash happens played old new)
-  go_if own refuse is (Ok played) plays took = subst (λ (x : Event K V). KeepsDue same hash x played old new) (sym is) (λ said wanted terms log runs out left.
-      go_on same hash old new played wanted terms log runs own refuse took left (plays terms log (record { played = runs.stands; in_turn = out })).played)
-  go_if own refuse is (Err x) plays took = tt
+      → IfOk result (λ played. TookSteps same hash most_steps own played old new) → IfOk result (λ played. MakesNoMore refuse [] played.effects.items)
+      → IfOk result (λ played. KeepsDue same hash happens played old new)
+  go_if own refuse is (Ok played) plays took refused = subst (λ (x : Event K V). KeepsDue same hash x played old new) (sym is) (λ said wanted terms log runs out left.
+      go_on same hash old new played wanted terms log runs own refuse took refused left (plays terms log (record { played = runs.stands; in_turn = out })).played)
+  go_if own refuse is (Err x) plays took refused = tt
 
   pub whole_if : {X : Type 0} (guard on : List ℕ) (call : Call K V) → happens ≡ event.OneCall guard on call → (result : Result (Played V) X)
       → IfOk result (λ played. PlaysOnAt same hash (event.OneCall guard on call) played old new) → IfOk result (λ played. TookWhole same hash guard on call played old new)

@@ -1,5 +1,6 @@
 -- An event by which a call goes on that is under way: it keeps its promises, and the run goes on with it.
-use Rattle.std.specs.Prelude.{◌≡◌, ◌≤◌, ◌&&◌, ℕ, Bool, true, false, List, [], ◌∷◌, position, Option, Some, option_map}
+use Rattle.std.specs.Prelude.{◌≡◌, ◌≤◌, ◌&&◌, ◌||◌, ℕ, Bool, true, false, not, List, [], ◌∷◌, position, Option, Some, option_map}
+use Rattle.std.specs.List.{list_any}
 use Rattle.std.proofs.Common.{refl, ap, sym, subst, ◌∙◌}
 use Rattle.papaya_histories.specs.Given.SeizeWaiting.Held.{count}
 use Rattle.papaya_histories.specs.Given.Runs.Present.{slot_of_guard}
@@ -7,6 +8,7 @@ use Rattle.papaya_histories.specs.Given.Schedules.declared.event.Event.{Event}
 use Rattle.papaya_histories.specs.Given.Schedules.After.{moment, moments_from}
 use Rattle.papaya_histories.specs.Given.Schedules.Beginning.{at_work}
 use Rattle.papaya_histories.specs.Given.Schedules.Entry.{Entry, IfCall, acted_on, acting, caller_of, speaker}
+use Rattle.papaya_histories.specs.Given.Schedules.Handing.{is_made, refuses}
 use Rattle.papaya_histories.specs.Given.Schedules.Model.{guard_or, sets_in}
 use Rattle.papaya_histories.specs.Given.Schedules.Moment.{UnderWay as CallThere, Moment}
 use Rattle.papaya_histories.specs.Given.Schedules.Terms.{Terms}
@@ -111,7 +113,8 @@ module _ {K V S : Type 0} (same : K → K → Bool) (hash : K → ℕ) (wanted :
 
   module _ (begins : (played : Played V) → at_work (entry_of event played) m ≡ m) (acts : acted_on event m ≡ option_map (λ (x : CallThere K V). x.map) (acting (caller_of event) m)) (takes : takes_steps event ≡ true)
       (goes : here.caller.stands ≡ far.Goes) (most : ℕ) (played : Played V) (new : Scheduler K V S) (come : StepsCome same hash place most played.steps played.outcome [] played.effects.items old new)
-      (left : IsLeft terms log (entry_of event played)) (plays : IsPlayed same hash terms (entry_of event played ∷ log) new) where
+      (left : IsLeft terms log (entry_of event played)) (refused : (not (refuses event) || not (list_any is_made played.effects.items)) ≡ true)
+      (plays : IsPlayed same hash terms (entry_of event played ∷ log) new) where
     comes : ComesBy same hash terms own place m played.steps played.outcome [] played.effects.items new
     comes = come.1 terms m own runs.stands (placed, here.caller, here.at, goes)
 
@@ -139,7 +142,7 @@ module _ {K V S : Type 0} (same : K → K → Bool) (hash : K → ℕ) (wanted :
         let far_on = has_come same hash wanted name terms log event m map i c place old start by.0 by.2 by.3 by.4 in
         runs_on same hash wanted name terms log event m map i c place c_is (known old.logged.notes) runs.stands.scene runs.shows played by.0 by.2 by.3 new far_on by.5 (begins played)
         (acts ∙ ap (λ (o : Option (CallThere K V)). option_map (λ (x : CallThere K V). x.map) o) acting_is ∙ ap Some map_is) takes by.1 comes_as (never_busy c.call played.outcome comes_as) left.right
-        left.but.refuses (its_left (λ (x : CallThere K V) (b : Moment K V). TellsValue x.call x.replies played.outcome) left.but.values)
+        refused (its_left (λ (x : CallThere K V) (b : Moment K V). TellsValue x.call x.replies played.outcome) left.but.values)
         (all_find same hash wanted name terms log event m map i c place (moments_from c.begun log) by.0 by.2 played.effects.items by.3 new played.outcome far_on by.5
         (gone_find same hash wanted name terms log event m map i c place (moments_from c.begun log) old start by.0 by.2 by.3 by.4) rest)
         slot_so active plays

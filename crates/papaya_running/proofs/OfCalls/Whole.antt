@@ -175,7 +175,7 @@ module _ {K V S : Type 0} (same : K → K → Bool) (hash : K → ℕ) (wanted :
         let by = come.2 in
         let far_on = has_come same hash wanted names terms log event m1 map i c 0 mid start by.0 by.2 by.3 by.4 in
         runs_on same hash wanted names terms log event m1 map i c 0 c_is (known old.logged.notes) runs.stands.scene (begun.run_named same hash terms log old runs nameless guard on call mid led) played by.0
-        by.2 by.3 new far_on by.5 begins (ap (λ (o : Option (CallThere K V)). option_map (λ (x : CallThere K V). x.map) o) acting_is) refl by.1 comes_as never left.right left.but.refuses
+        by.2 by.3 new far_on by.5 begins (ap (λ (o : Option (CallThere K V)). option_map (λ (x : CallThere K V). x.map) o) acting_is) refl by.1 comes_as never left.right refl
         (its_left (λ (x : CallThere K V) (b : Moment K V). TellsValue x.call x.replies played.outcome) left.but.values)
         (all_find same hash wanted names terms log event m1 map i c 0 (moments_from c.begun log) by.0 by.2 played.effects.items by.3 new played.outcome far_on by.5
         (gone_find same hash wanted names terms log event m1 map i c 0 (moments_from c.begun log) mid start by.0 by.2 by.3 by.4) rest)

@@ -1,9 +1,12 @@
--- A step of a machine in a memory that tells.
-use Rattle.papaya_executor.proofs.Forgotten.{may_forgotten, steps_forgotten}
+-- A step of a machine in a memory that tells, and may refuse blocks.
+use Rattle.papaya_executor.proofs.Forgotten.{may_forgotten, none_made, steps_forgotten}
 use Rattle.papaya_executor.proofs.stepping.step_telling.Goals as goal
 
-pub step-requires : goal.step-requires
-step-requires g c = may_forgotten _ _ _ c.args.memory.now _ c.forget.ensures _ c.requires
+pub step-progress-requires : goal.step-progress-requires
+step-progress-requires g c = may_forgotten _ _ _ (record c.args.memory.now { refuses = c.args.refuse }) _ c.forget.ensures _ c.requires
 
-pub returns : goal.returns
-returns g c = steps_forgotten _ _ _ c.args.memory.now _ c.forget.ensures _ _ _ c.step.ensures
+pub returns-clause-told : goal.returns-clause-told
+returns-clause-told g c = steps_forgotten _ _ _ (record c.args.memory.now { refuses = c.args.refuse }) _ c.forget.ensures _ _ _ c.step-progress.ensures
+
+pub returns-clause-refused : goal.returns-clause-refused
+returns-clause-refused g c = λ refuse. none_made _ _ _ (record c.args.memory.now { refuses = c.args.refuse }) _ c.forget.ensures _ refuse _ _ c.step-progress.ensures

@@ -31,7 +31,7 @@ returns-in-Step-clause-happens g c =
 pub returns-in-Step-clause-keeps : goal.returns-in-Step-clause-keeps
 returns-in-Step-clause-keeps g c =
     step_if g.K.PartialEq.eq (g.S.Hashes.hash c.args.scheduler.now.logged.executor.hasher) c.args.scheduler.now c.step.new.scheduler c.args.event c.in-Step.caller c.in-Step.refuse c.in-Step.is c.step.result c.step.ensures.plays
-    c.step.ensures.took
+    c.step.ensures.took c.step.ensures.refused
 
 pub go-requires : goal.go-requires
 go-requires g c = may_play g.K.PartialEq.eq (g.S.Hashes.hash c.args.scheduler.now.logged.executor.hasher) c.args.event _ c.in-Go.is c.args.scheduler.now c.requires.due
@@ -44,6 +44,7 @@ returns-in-Go-clause-happens g c =
 pub returns-in-Go-clause-keeps : goal.returns-in-Go-clause-keeps
 returns-in-Go-clause-keeps g c =
     go_if g.K.PartialEq.eq (g.S.Hashes.hash c.args.scheduler.now.logged.executor.hasher) c.args.scheduler.now c.go.new.scheduler c.args.event c.in-Go.caller c.in-Go.refuse c.in-Go.is c.go.result c.go.ensures.plays c.go.ensures.took
+    c.go.ensures.refused
 
 pub one_call-requires : goal.one_call-requires
 one_call-requires g c = may_play g.K.PartialEq.eq (g.S.Hashes.hash c.args.scheduler.now.logged.executor.hasher) c.args.event _ c.in-OneCall.is c.args.scheduler.now c.requires.due

@@ -17,6 +17,7 @@ loop-steps-init g c = (
   0,
   refl,
   (refl, refl),
+  λ refused. refl,
 )
 
 pub take_step-requires : goal.take_step-requires
@@ -57,6 +58,7 @@ loop-steps-preserved g c =
         subst (λ h. IsStepped g.K.PartialEq.eq (g.S.Hashes.hash h) c.args.place c.in_ok-outcome.outcome c.loop-steps.effects.items c.take_step.new.effects.items c.loop-steps.scheduler c.take_step.new.scheduler) i.2.0
             c.in_ok-outcome.ensures.stepped,
       ),
+      λ refused. c.in_ok-outcome.ensures.refused refused ∙ i.7 refused,
     )
 
 pub take_step-requires-2 : goal.take_step-requires-2
@@ -77,6 +79,12 @@ returns-clause-comes g c =
     (subst (λ h. IsStepped g.K.PartialEq.eq (g.S.Hashes.hash h) c.args.place c.in_ok-outcome-2.outcome c.loop-steps.effects.items c.take_step-2.new.effects.items c.loop-steps.scheduler c.take_step-2.new.scheduler) i.2.0
     c.in_ok-outcome-2.ensures.stepped)
     c.args.most (omega (arith, ended, few, is)) i.4 (let kept = i.5 in omega (arith, ended, few, kept)) i.6
+
+pub returns-then-not-goes_on-clause-refused : goal.returns-then-not-goes_on-clause-refused
+returns-then-not-goes_on-clause-refused g c = λ refused. c.in_ok-outcome.ensures.refused refused ∙ c.loop-steps.invariant.7 refused
+
+pub returns-clause-refused : goal.returns-clause-refused
+returns-clause-refused g c = λ refused. c.in_ok-outcome-2.ensures.refused refused ∙ c.loop-steps.invariant.7 refused
 
 pub returns-in_err-outcome-clause-given : goal.returns-in_err-outcome-clause-given
 returns-in_err-outcome-clause-given g c = given_on c.args.scheduler.now.logged.executor c.loop-steps.scheduler.logged.executor c.take_step.new.scheduler.logged.executor c.loop-steps.invariant.2 c.take_step.ensures.given

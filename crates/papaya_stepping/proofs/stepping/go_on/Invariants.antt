@@ -1,6 +1,7 @@
--- The call goes on, after the steps that it has taken.
+-- The call goes on, after the steps that it has taken, and has made nothing where growths are to be refused.
 use Rattle.std.specs.Prelude.{◌≡◌, ◌+◌, ℕ, List}
 use Rattle.papaya_histories.specs.Given.Executor.IsAt.{KeepsGiven}
+use Rattle.papaya_logged.specs.Calling.{MakesNoMore}
 use Rattle.papaya_schedules.specs.Moment.{Moment}
 use Rattle.papaya_schedules.specs.Terms.{Terms}
 use Rattle.papaya_scheduler.specs.Played.{StandsFor}
@@ -14,3 +15,4 @@ invariant-loop-steps g l =
     → StandsFor g.K.PartialEq.eq (g.S.Hashes.hash l.fn.scheduler.logged.executor.hasher) terms m l.fn.scheduler → GoesAt own l.fn.place l.fn.scheduler
     → IsMidst g.K.PartialEq.eq (g.S.Hashes.hash l.fn.scheduler.logged.executor.hasher) terms own l.fn.place m n l.fn.effects.items l.effects.items l.scheduler)
     × (k : ℕ) × (l.steps ≡ k + 1) × GoneFor g.K.PartialEq.eq (g.S.Hashes.hash l.fn.scheduler.logged.executor.hasher) l.fn.place k l.fn.effects.items l.effects.items l.fn.scheduler l.scheduler
+    × MakesNoMore l.fn.refuse l.fn.effects.items l.effects.items

@@ -1,8 +1,10 @@
 -- A caller's call goes on by one step.
-use Rattle.std.proofs.Common.{refl, sym, subst, ◌∙◌, arith}
+use Rattle.std.specs.List.{list_any}
+use Rattle.std.proofs.Common.{refl, sym, ap, subst, ◌∙◌, arith}
 use Rattle.std.proofs.lemmas.Result.{IfOk-weaker}
 use Rattle.papaya_histories.specs.Given.SeizeWords.declared.fault.Fault.TheVariants.{Busy}
 use Rattle.papaya_schedules.specs.After.{moment}
+use Rattle.papaya_schedules.specs.Handing.{is_made}
 use Rattle.papaya_schedules.specs.declared.event.Event.TheVariants.{Step}
 use Rattle.papaya_schedules.specs.declared.outcome.Outcome.TheVariants.{Refused}
 use Rattle.papaya_stepping.specs.Stepping.{PlaysOn, TakenAs}
@@ -28,6 +30,7 @@ returns-in-Some g c = record {
         (the c.in-Some.place place (sym c.in-Some.is ∙ c.place_of.ensures ∙ sym is)) taken,
     λ none. absurd (let some = sym c.in-Some.is ∙ c.place_of.ensures ∙ none in cc some),
   )) c.take_steps.ensures.taken;
+  refused = c.take_steps.ensures.refused;
   given = c.take_steps.ensures.given;
 }
 
@@ -42,5 +45,6 @@ returns-in-None g c = record {
     λ place is. absurd (let some = is ∙ sym c.place_of.ensures ∙ c.in-None.is in cc some),
     λ none. (c.busy.ensures.outcome, c.busy.ensures.steps, c.busy.ensures.effects, refl),
   );
+  refused = λ refused. ap (list_any is_made) c.busy.ensures.effects;
   given = (refl, refl, refl, refl);
 }

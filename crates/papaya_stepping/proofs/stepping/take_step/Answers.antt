@@ -40,6 +40,9 @@ returns-clause-stepped g c =
           c.come_to.ensures.rest;
     }
 
+pub returns-clause-refused : goal.returns-clause-refused
+returns-clause-refused g c = c.in_ok-progress.ensures.refused
+
 pub returns-clause-given : goal.returns-clause-given
 returns-clause-given g c =
     given_as c.args.scheduler.now (record c.args.scheduler.now { logged = c.step.new.self; calls = c.come_to.new.scheduler.calls }) c.come_to.new.scheduler c.step.ensures.given c.come_to.ensures.rest

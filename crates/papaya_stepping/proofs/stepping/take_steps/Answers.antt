@@ -1,9 +1,9 @@
 -- A call takes steps, or says again that it asks, or is ready.
-use Rattle.std.proofs.Common.{[], refl, sym, subst, ◌∙◌}
-use Rattle.papaya_logged.proofs.KeptGiven.{given_on}
-use Rattle.papaya_stepping.specs.Stepping.{MayGo, StepsCome, TakenBy}
+use Rattle.std.specs.List.{list_any}
+use Rattle.std.proofs.Common.{refl, sym, ap, subst, ◌∙◌}
+use Rattle.papaya_schedules.specs.Handing.{is_made}
+use Rattle.papaya_stepping.specs.Stepping.{StepsCome, TakenBy}
 use Rattle.papaya_scheduler.proofs.Here.{here_at}
-use Rattle.papaya_scheduler.proofs.KeptGiven.{given_as, given_still}
 use Rattle.papaya_rows.proofs.Lists.{got_within}
 use Rattle.papaya_stepping.proofs.stepping.take_steps.Goals as goal
 
@@ -32,23 +32,28 @@ go_on-requires g c =
     let read = c.far_of.ensures here.caller here.at in
     record {
       some = c.requires.some;
-      goes = subst (λ p. MayGo g.K.PartialEq.eq (g.S.Hashes.hash p.logged.executor.hasher) c.args.place p) (sym c.refuse_after.ensures)
-          (r.0, r.1, r.2, r.3, (r.4, here.caller, here.at, sym read ∙ c.in-Goes.is));
+      goes = (r.0, r.1, r.2, r.3, (r.4, here.caller, here.at, sym read ∙ c.in-Goes.is));
     }
 
 pub returns-clause-taken : goal.returns-clause-taken
 returns-clause-taken g c = λ d at.
     let stands = sym (c.far_of.ensures d at) ∙ c.in-Goes.is in
-    subst (λ p. TakenBy g.K.PartialEq.eq (g.S.Hashes.hash c.args.scheduler.now.logged.executor.hasher) c.args.place c.args.most d.stands
-    (record { outcome = c.in_ok-come.come.0; steps = c.in_ok-come.come.1; effects = c.go_on.new.effects }) c.args.scheduler.now p) (sym c.refuse_after-2.ensures)
-    (subst (λ h. TakenBy g.K.PartialEq.eq (g.S.Hashes.hash c.args.scheduler.now.logged.executor.hasher) c.args.place c.args.most h
+    subst (λ h. TakenBy g.K.PartialEq.eq (g.S.Hashes.hash c.args.scheduler.now.logged.executor.hasher) c.args.place c.args.most h
     (record { outcome = c.in_ok-come.come.0; steps = c.in_ok-come.come.1; effects = c.go_on.new.effects }) c.args.scheduler.now c.go_on.new.scheduler) (sym stands)
-    (subst (λ p. StepsCome g.K.PartialEq.eq (g.S.Hashes.hash p.logged.executor.hasher) c.args.place c.args.most c.in_ok-come.come.1 c.in_ok-come.come.0 [] c.go_on.new.effects.items p c.go_on.new.scheduler) c.refuse_after.ensures
-    (subst (λ l. StepsCome g.K.PartialEq.eq (g.S.Hashes.hash c.refuse_after.new.scheduler.logged.executor.hasher) c.args.place c.args.most c.in_ok-come.come.1 c.in_ok-come.come.0 l c.go_on.new.effects.items
-    c.refuse_after.new.scheduler c.go_on.new.scheduler) c.no_effects-effects.ensures c.in_ok-come.ensures.comes)))
+    (subst (λ l. StepsCome g.K.PartialEq.eq (g.S.Hashes.hash c.args.scheduler.now.logged.executor.hasher) c.args.place c.args.most c.in_ok-come.come.1 c.in_ok-come.come.0 l c.go_on.new.effects.items
+    c.args.scheduler.now c.go_on.new.scheduler) c.no_effects-effects.ensures c.in_ok-come.ensures.comes)
+
+pub returns-in-Asks-clause-refused : goal.returns-in-Asks-clause-refused
+returns-in-Asks-clause-refused g c = λ refused. ap (list_any is_made) c.quietly.ensures.effects
+
+pub returns-in-Ready-clause-refused : goal.returns-in-Ready-clause-refused
+returns-in-Ready-clause-refused g c = λ refused. ap (list_any is_made) c.quietly-in-Ready.ensures.effects
+
+pub returns-clause-refused : goal.returns-clause-refused
+returns-clause-refused g c = λ refused. c.in_ok-come.ensures.refused refused ∙ ap (list_any is_made) c.no_effects-effects.ensures
 
 pub returns-in_err-come-clause-given : goal.returns-in_err-come-clause-given
-returns-in_err-come-clause-given g c = given_on c.args.scheduler.now.logged.executor c.refuse_after.new.scheduler.logged.executor c.go_on.new.scheduler.logged.executor (given_still c.args.scheduler.now c.refuse_after.new.scheduler c.refuse_after.ensures) c.go_on.ensures.given
+returns-in_err-come-clause-given g c = c.go_on.ensures.given
 
 pub returns-clause-given : goal.returns-clause-given
-returns-clause-given g c = given_as c.args.scheduler.now c.go_on.new.scheduler c.refuse_after-2.new.scheduler (given_on c.args.scheduler.now.logged.executor c.refuse_after.new.scheduler.logged.executor c.go_on.new.scheduler.logged.executor (given_still c.args.scheduler.now c.refuse_after.new.scheduler c.refuse_after.ensures) c.go_on.ensures.given) c.refuse_after-2.ensures
+returns-clause-given g c = c.go_on.ensures.given

@@ -15,7 +15,10 @@ step_out-requires-clause-may g c =
 pub returns-clause-leads : goal.returns-clause-leads
 returns-clause-leads g c = λ s at m u here.
     leads_on _ _ _ s at m c.args.caller u here _ c.step_out.new.self refl c.take_call-slot.ensures.after refl refl refl refl refl c.step_out.result _ _ c.take_call-slot.result.machine
-    (taken_call _ _ _ s at c.args.caller m u here _ _ c.take_call-slot.result.machine c.take_call-slot.ensures.before) c.step_out.ensures
+    (taken_call _ _ _ s at c.args.caller m u here _ _ c.take_call-slot.result.machine c.take_call-slot.ensures.before) c.step_out.ensures.stepped
 
 pub returns-clause-given : goal.returns-clause-given
-returns-clause-given g c = (c.step_out.ensures.2.hasher, c.step_out.ensures.2.batch_size, c.step_out.ensures.2.roots, ap length c.step_out.ensures.2.maps)
+returns-clause-given g c = (c.step_out.ensures.stepped.2.hasher, c.step_out.ensures.stepped.2.batch_size, c.step_out.ensures.stepped.2.roots, ap length c.step_out.ensures.stepped.2.maps)
+
+pub returns-clause-refused : goal.returns-clause-refused
+returns-clause-refused g c = c.step_out.ensures.refused
