@@ -112,7 +112,7 @@ pub endings_begin_lying : (K V : Type 0) → EndingsBeginLying K V
 endings_begin_lying K V m known s shows map i standing b c len t is at = shows b c len t is at
 
 -- A row on a slot puts nothing behind a block.
-no_slot_puts : (b c : ℕ) (row : SlotRow) → IsPutting b c (row_of row) → ⊥
+pub no_slot_puts : (b c : ℕ) (row : SlotRow) → IsPutting b c (row_of row) → ⊥
 no_slot_puts b c (rows.Registers register) puts = puts
 no_slot_puts b c (rows.Enters enter) puts = puts
 no_slot_puts b c (rows.Leaves leave) puts = puts
