@@ -100,3 +100,16 @@ pub fn collected_pairs_are_handed_over<K, V, S>()
     ensures calls { (same : K → K → Bool) (hash : K → ℕ) → CallsKeepHanded K V S same hash }
     ensures endings { (same : K → K → Bool) (hash : K → ℕ) → EndingsKeepHanded K V S same hash }
 {}
+
+/// The blocks on the list of a table in use are those of the pairs that wait behind it, the last one first: so it is before all events, where the same pairs wait, where the end of a map
+/// begins, where a row begins on a slot, and after each step of one, of the making of a map, of a call, whoever's row it is, and of the end of a map.
+pub fn pairs_lie_behind_tables_in_order<K, V, S>()
+    ensures begins { OrderBegins K V }
+    ensures others { OthersLeaveOrder K V }
+    ensures endings_begin { EndingsBeginOrder K V }
+    ensures rows_begin { (same : K → K → Bool) (hash : K → ℕ) → RowsBeginOrder K V S same hash }
+    ensures rows { (same : K → K → Bool) (hash : K → ℕ) → RowsKeepOrder K V S same hash }
+    ensures makings { (same : K → K → Bool) (hash : K → ℕ) → MakingsKeepOrder K V S same hash }
+    ensures calls { (same : K → K → Bool) (hash : K → ℕ) → CallsKeepOrder K V S same hash }
+    ensures endings { (same : K → K → Bool) (hash : K → ℕ) → EndingsKeepOrder K V S same hash }
+{}
