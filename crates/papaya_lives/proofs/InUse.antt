@@ -235,6 +235,13 @@ module _ {T : Type 0} (defers : T → Option ℕ) (size : ℕ) where
       let later = still_lists events runs.0 w2 (record { good = g.0; sized = happens_sized defers size w runs.0 r.sized e runs.1 }) stills.1 runs.2 in
       (later.0, λ t. later.1 t ∙ g.1.alike.put t)
 
+  -- a block that is in use before and after has the list that it had
+  pub still_leave_list : (events : List (Event T)) (w w2 : World T) → Reached defers size w → AllStill events → Runs defers size events w w2 → (c o p : ℕ) → w.hand c ≡ InUse p → w2.hand c ≡ InUse o
+      → (blocks : List ℕ) → FurtherAre defers w2.memory c blocks → FurtherAre defers w.memory c blocks
+  still_leave_list events w w2 r stills runs c o p was used blocks are =
+      let after = still_lists events w w2 r stills runs in
+      subst (FurtherAre defers w.memory c) (sym (list_is defers w2 after.0.good c o used blocks are ∙ after.1 c)) (its_list defers w r.good c p was)
+
   used_before : (events : List (Event T)) (w w2 : World T) → Reached defers size w → AllUsers events → Runs defers size events w w2 → (c o : ℕ) → WasLinked (w.hand c) → w2.hand c ≡ InUse o
       → (p : ℕ) × (w.hand c ≡ InUse p)
   used_before [] w w2 r users runs c o linked used = (o, ap (λ (z : World T). z.hand c) (sym runs) ∙ used)
@@ -245,21 +252,17 @@ module _ {T : Type 0} (defers : T → Option ℕ) (size : ℕ) where
 
   module _ (events : List (Event T)) (w w2 : World T) (r : Reached defers size w) (users : AllUsers events) (runs : Runs defers size events w w2) (c o : ℕ) (used : w2.hand c ≡ InUse o)
       (blocks : List ℕ) (are : FurtherAre defers w2.memory c blocks) where
-    after : (r2 : Reached defers size w2) × ((t : ℕ) → r2.good.state.deferred t ≡ r.good.state.deferred t)
-    after = still_lists events w w2 r (users_still events users) runs
-
-    same_blocks : blocks ≡ r.good.state.deferred c
-    same_blocks = list_is defers w2 after.0.good c o used blocks are ∙ after.1 c
-
     -- a block that was linked has the list that it had,
     pub users_leave_list : WasLinked (w.hand c) → (p : ℕ) × (w.hand c ≡ InUse p) × FurtherAre defers w.memory c blocks
     users_leave_list linked =
         let was = used_before events w w2 r users runs c o linked used in
-        (was.0, was.1, subst (FurtherAre defers w.memory c) (sym same_blocks) (its_list defers w r.good c was.0 was.1))
+        (was.0, was.1, still_leave_list events w w2 r (users_still events users) runs c o was.0 was.1 used blocks are)
 
     -- and one that somebody had made has none
     pub users_make_none : (j : ℕ) → w.hand c ≡ Making j → blocks ≡ []
-    users_make_none j made = same_blocks ∙ made_has_none defers size w r.good c j made
+    users_make_none j made =
+        let after = still_lists events w w2 r (users_still events users) runs in
+        list_is defers w2 after.0.good c o used blocks are ∙ after.1 c ∙ made_has_none defers size w r.good c j made
 
 -- What a step of a row does.
 

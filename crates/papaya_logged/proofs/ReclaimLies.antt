@@ -122,7 +122,7 @@ module _ {K V S : Type 0} (same : K → K → Bool) (hash : K → ℕ) (name : �
           let it = root_lie old.batch_size i (Used root) 0 w w2 (subst RunsBy is leads.1.runs) in (λ j ne. ap (λ (f : ℕ → Row). f j) it.0, it.1)
 
   -- its own row puts nothing behind a block
-  own_none : (b c : ℕ) → IsPutting b c (w.row i) → ⊥
+  pub own_none : (b c : ℕ) → IsPutting b c (w.row i) → ⊥
   own_none b c puts = by before.stands at.under_way.point
     where
       is_none : (row : Row) → (IsPutting b c row → ⊥) → w.row i ≡ row → ⊥
