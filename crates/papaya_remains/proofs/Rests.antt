@@ -33,7 +33,7 @@ root_there P Q r (f ∷ fs) e all each = by (r == f.root) refl e (λ later. root
     by false other is ih = ih is
 
 module _ {K V S : Type 0} (same : K → K → Bool) (hash : K → ℕ) (name : ℕ → List ℕ) (m : Moment K V) (known : Known) (s : Scene K V) (e : Executor K V S) (at : IsAt same hash e s)
-    (shown : Shows same name m known s) (shows : ShowsRemains e.roots m s) (found : AreFound m) (stand : AllStand m s) (no_makers : (j : ℕ) → s.makers j ≡ None) (no_enders : (j : ℕ) → s.enders j ≡ None) where
+    (shown : Shows same name m known s) (shows : ShowsRemains e.roots m known s) (found : AreFound m) (stand : AllStand m s) (no_makers : (j : ℕ) → s.makers j ≡ None) (no_enders : (j : ℕ) → s.enders j ≡ None) where
   -- roots of maps that are there are those of maps that stand
   stands_there : (r : ℕ) → is_among r (map_roots m) ≡ true → IsRootOf s.maps r
   stands_there r is =
