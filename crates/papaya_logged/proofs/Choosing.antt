@@ -151,6 +151,8 @@ module _ {K V S : Type 0} (choice : ℕ) (old : Logged K V S) where
       lists = r.lists;
       left = left_then choice old.executor.roots s.world s.maps s.makers s.enders r.lists r.left;
       told = r.told;
+      pairs = r.pairs;
+      ascending = r.ascending;
       once = r.once;
       below = r.below;
       ending = r.ending;

@@ -8,3 +8,4 @@ pub mod Maps
 pub mod Rests
 pub mod Numbered
 pub mod Slots
+pub mod Leads

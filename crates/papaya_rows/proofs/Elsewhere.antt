@@ -69,5 +69,5 @@ module _ {K V : Type 0} (m : Moment K V) (known : Known) (events : ℕ) (is_mapp
   pub counted_elsewhere : {S : Type 0} (l : Logged K V S) (s : Scene K V) → remains ≡ m.remains → IsCounted m l s → IsCounted v l s
   counted_elsewhere l s alike c = record {
     numbered = numbered_elsewhere l c.numbered;
-    remains = stays_remain K V l.executor.roots m v s s c.remains refl alike refl refl refl refl;
+    remains = stays_remain K V l.executor.roots m v (known l.notes) s s c.remains refl alike refl refl refl refl;
   }
