@@ -13,6 +13,7 @@ pub mod Slots
 pub mod SlotsEnd
 pub mod Maps
 pub mod MapsEnd
+pub mod LeftTold
 pub mod CallsAfter
 pub mod CallFinds
 pub mod CallLeaves

@@ -192,7 +192,7 @@ module _ {K V : Type 0} (same : K → K → Bool) (name : ℕ → List ℕ) (siz
       elim (step_goes deferred_word size i s.world w2 r step c o used blocks are) as (λ _. map (known_after Row told known).roles blocks ≡ map role.Pair (behind t v.deferred)) [
         | inl same_list ↦
             order_as m v known (known_after Row told known) s.world shows c len o t blocks was (used_then deferred_word size i s.world w2 r step c o used blocks are) same_list.0
-            (λ b n some noted. row_pair m known s.world w2 whole.blocks.tables_once b n noted (there b some) told tells leaves)
+            (λ b n some noted. row_pair known s.world w2 b n noted (there b some) told tells leaves)
             (row_behind m known whole.blocks.tables_once c len t was told tells is)
         | inr put ↦ absurd (none put.0 c put.2)
       ]

@@ -67,6 +67,18 @@ module _ {K V : Type 0} (size : ℕ) (w : World (Node K V)) (r : Reached deferre
       of None some e = absurd (cc some)
       of (Some value) some e = (value, e)
 
+-- So it is after a step of a row on a slot,
+pub rows_note_left : {K V S : Type 0} (same : K → K → Bool) (hash : K → ℕ) (known : Known) (s : Scene K V) (old new : Executor K V S) (at : IsAt same hash old s) (i : ℕ) (said : RowTold (Node K V))
+    (leads : RowLeads same hash i said s old new) (row : SlotRow) (here : work_of old i ≡ Some (OnSlot row))
+    → LeftNoted known (known_after acts.Row new.memory.changed known) s.world (scene_then same hash (Step i) s old new (leads row here).4).world
+rows_note_left {K} {V} {S} same hash known s old new at i said leads row here b n is before after =
+    let to = leads row here in
+    let r = reached K V S same hash s old new at i row here (to.0, said) to.1 to.4 in
+    row_pair known s.world to.4.0 b n is
+    (left_value old.batch_size to.4.0 (steps_reached deferred_word old.batch_size i s.world to.4.0 r to.4.1) b after.0 after.1) new.memory.changed
+    (row_tells old.memory.memory new.memory.memory new.memory.changed (to.0, said) row to.1)
+    (left K V S same hash s old new at i row here (to.0, said) to.1 to.4)
+
 module _ {K V S : Type 0} (same : K → K → Bool) (hash : K → ℕ) (name : ℕ → List ℕ) (m : Moment K V) (known : Known) (s : Scene K V) (old new : Executor K V S) (at : IsAt same hash old s)
     (whole : ShowsWhole same name m known s) where
   -- of a call
@@ -80,17 +92,6 @@ module _ {K V S : Type 0} (same : K → K → Bool) (hash : K → ℕ) (name : �
             (step_shown same hash name m known s old new at whole.all.shown map i u here said leads own stores).1.keeps b (subst IsLasting (sym is) tt) ∙ is
         | inr other ↦ role_kept same hash name m known s old new at whole kept.entries (own_made K V S same hash name m known s old at whole kept) kept.waiting map i u here said leads other b (role.Pair n) is tt
       ]
-
-  -- of a row on a slot
-  pub rows_note_left : (i : ℕ) (said : RowTold (Node K V)) (leads : RowLeads same hash i said s old new) (row : SlotRow) (here : work_of old i ≡ Some (OnSlot row))
-      → LeftNoted known (known_after acts.Row new.memory.changed known) s.world (scene_then same hash (Step i) s old new (leads row here).4).world
-  rows_note_left i said leads row here b n is before after =
-      let to = leads row here in
-      let r = reached K V S same hash s old new at i row here (to.0, said) to.1 to.4 in
-      row_pair m known s.world to.4.0 whole.blocks.tables_once b n is
-      (left_value old.batch_size to.4.0 (steps_reached deferred_word old.batch_size i s.world to.4.0 r to.4.1) b after.0 after.1) new.memory.changed
-      (row_tells old.memory.memory new.memory.memory new.memory.changed (to.0, said) row to.1)
-      (left K V S same hash s old new at i row here (to.0, said) to.1 to.4)
 
   -- of the making of a map
   pub makings_note_left : (i : ℕ) (said : Progress Setting) (leads : MakingLeads same hash i said s old new) (b : Beginning K) (here : s.makers i ≡ Some b) → Option ℕ → WasNew b.map said m

@@ -63,7 +63,7 @@ module _ {K V S : Type 0} (same : K → K → Bool) (hash : K → ℕ) where
           kept = subst (λ (k : Known). ShowsKept {K = K} {V = V} name (with_effects None None effects m) k (scene_then same hash (Step i) s old.executor stepped (leads row here).4)) (sym noted)
               (rows_keep_kept K V S same hash name m (known old.notes) s old.executor stepped shown.is_at shown.shows shown.kept i told leads row here);
           counted = counted_row_steps same hash old stepped notes given m s shown.is_at shown.counted i told leads row here noted
-              (rows_note_left same hash name m (known old.notes) s old.executor stepped shown.is_at shown.shows i told leads row here);
+              (rows_note_left same hash (known old.notes) s old.executor stepped shown.is_at i told leads row here);
         },
       )
 

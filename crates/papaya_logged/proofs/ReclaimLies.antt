@@ -160,6 +160,6 @@ module _ {K V S : Type 0} (same : K → K → Bool) (hash : K → ℕ) (name : �
       lying_on m (with_effects None None (effects_of OfRow known x) m) known (known_after OfRow x known) w w2 lying
       lay.1
       (λ b c len t lies is. (stays_so m known whole.blocks x tells c len t is).0)
-      (λ b c n lies is. row_pair m known w w2 whole.blocks.tables_once b n is (pair_there b c n lies is) x tells l)
+      (λ b c n lies is. row_pair known w w2 b n is (pair_there b c n lies is) x tells l)
       (λ c len n t is was among. row_among m known w w2 whole.blocks.tables_once c len n t was among x tells is)
       still_put

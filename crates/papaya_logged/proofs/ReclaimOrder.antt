@@ -131,7 +131,7 @@ module _ {K V S : Type 0} (same : K → K → Bool) (hash : K → ℕ) (name : �
   pub reclaiming_order : (x : Changed) → TellsRow x → LeavesBy w.memory w2.memory x → ShowsOrder (with_effects None None (effects_of OfRow known x) m) (known_after OfRow x known) w2
   reclaiming_order x tells l c len o t blocks is used are =
       order_as m (with_effects None None (effects_of OfRow known x) m) known (known_after OfRow x known) w order c len before_it.0 t blocks was before_it.1 before_it.2
-      (λ b n some noted. row_pair m known w w2 whole.blocks.tables_once b n noted (there b some) x tells l)
+      (λ b n some noted. row_pair known w w2 b n noted (there b some) x tells l)
       (row_behind m known whole.blocks.tables_once c len t was x tells is)
     where
       was : known.roles c ≡ role.Table t len

@@ -61,6 +61,7 @@ use Rattle.papaya_logged.specs.Makings.{MakingIsBegun, is_over}
 use Rattle.papaya_logged.specs.Shown.{IsCounted, IsShown}
 use Rattle.papaya_logged.specs.declared.logged.Logged.{Logged}
 use Rattle.papaya_logged.proofs.Counted.{counted_making_steps}
+use Rattle.papaya_logged.proofs.LeftNoted.{makings_note_left}
 use Rattle.papaya_logged.proofs.GivenBack.{with_maps}
 use Rattle.papaya_rows.proofs.Lists.{found_alike}
 use Rattle.papaya_tables.proofs.Logarithms.{next-power-unique}
@@ -223,7 +224,8 @@ module _ {K V S : Type 0} (same : K → K → Bool) (hash : K → ℕ) (terms : 
       size = step.is_noted.given.1 ∙ y.size;
       midst = makings_chain K V S same hash name terms log (MakeMap own mode capacity) i b.map began 1 (come_by mid y.now y.scene) (come_by to w next) (come_by mid y.now y.scene, refl, one) y.midst;
       made = made_stays None (Some b.map) step_did y.now ∙ y.made;
-      counted = counted_making_steps same hash mid.logged to.logged.executor to.logged.notes step.is_noted.given y.now y.scene y.is_at y.counted i step.said leads d it.1 (Some b.map) step.is_noted.noted;
+      counted = counted_making_steps same hash mid.logged to.logged.executor to.logged.notes step.is_noted.given y.now y.scene y.is_at y.counted i step.said leads d it.1 (Some b.map) step.is_noted.noted
+          (makings_note_left same hash name y.now (known mid.logged.notes) y.scene mid.logged.executor to.logged.executor y.is_at y.midst.0.calls.whole i step.said leads d it.1 (Some b.map) was_new next.world);
     }
 
     making_under : is_over step.said ≡ false → IsUnder i b setting stood w next
