@@ -266,7 +266,7 @@ module _ {K V : Type 0} (terms : Terms) (acted : Option ℕ) (everything : Bool)
       kept_then : List Deferral
       kept_then = filter (λ (d : Deferral). not (same_table d.behind t)) m.deferred
 
-      abbrev rest : Bool
+      rest : Bool
       rest = is_among n (pairs_behind m.deferred fs)
 
       over : (q : Bool) → true ≡ (q || true)
@@ -369,7 +369,7 @@ module _ {K V : Type 0} (terms : Terms) (log : List (Entry K V)) where
       b : Moment K V
       b = at_work e m
 
-      abbrev moments : List (Moment K V)
+      moments : List (Moment K V)
       moments = moments_of terms log (acting (caller_of its) b)
 
       stays : (n : ℕ) → is_left_over ((worked e m).place n) ≡ is_left_over (m.place n)

@@ -9,3 +9,4 @@ pub mod Rests
 pub mod Numbered
 pub mod Slots
 pub mod Leads
+pub mod InOrder

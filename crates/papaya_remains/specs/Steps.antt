@@ -37,7 +37,7 @@ use Rattle.papaya_moments.specs.Given.Others.Makings.{making_after}
 use Rattle.papaya_moments.specs.Given.Others.Rows.{scene_then}
 use Rattle.papaya_moments.specs.Numbers.{AreFound}
 use Rattle.papaya_reclaims.specs.Reclaims.{AllIsReclaimed, LeftBehind}
-use Rattle.papaya_remains.specs.Remains.{AllStand, LeftNoted, RootsAreTaken, ShowsRemains, map_roots}
+use Rattle.papaya_remains.specs.Remains.{AllStand, LeftNoted, RootsAreTaken, ShowsRemains, left_at, map_roots}
 
 module _ (K V : Type 0) where
   -- The promises: so it is before all events,
@@ -131,3 +131,10 @@ module _ (K V S : Type 0) (same : K → K → Bool) (hash : K → ℕ) where
       (name : ℕ → List ℕ) (m : Moment K V) (known : Known) (s : Scene K V) (e : Executor K V S) → IsAt same hash e s → Shows same name m known s → (shows : ShowsRemains e.roots m known s)
       → AreFound m → AllStand m s → ((j : ℕ) → s.makers j ≡ None) → ((j : ℕ) → s.enders j ≡ None)
       → RootsAreTaken e.roots m e.memory.memory × LeftBehind e.roots s.world s.maps shows.lists
+
+  -- And what is behind each root then is noted as what is told to be left over there.
+  abbrev pub RestsNoted : Type 0
+  RestsNoted =
+      (name : ℕ → List ℕ) (m : Moment K V) (known : Known) (s : Scene K V) (e : Executor K V S) → IsAt same hash e s → Shows same name m known s → (shows : ShowsRemains e.roots m known s)
+      → AreFound m → AllStand m s → ((j : ℕ) → s.makers j ≡ None) → ((j : ℕ) → s.enders j ≡ None)
+      → (r : ℕ) → r < e.roots → map known.roles (shows.lists r) ≡ map role.Pair (left_at r m.remains)

@@ -16,12 +16,13 @@ use Rattle.papaya_histories.specs.Given.Finishes.Maps.{Standing}
 use Rattle.papaya_histories.specs.Given.Moments.Numbers.{AreFound}
 use Rattle.papaya_schedules.specs.Moment.{Moment}
 use Rattle.papaya_effects.specs.Known.{known}
+use Rattle.papaya_effects.specs.declared.role.Role.TheVariants as role
 use Rattle.papaya_schedules.specs.Terms.{Terms}
 use Rattle.papaya_reclaims.specs.Left.{IsSomebodys, LeftAmong}
 use Rattle.papaya_reclaims.specs.Reclaims.{IsRootOf, LeftBehind, RootLeads}
-use Rattle.papaya_remains.specs.Remains.{AllStand, RootsAreTaken, ShowsRemains, has_some}
+use Rattle.papaya_remains.specs.Remains.{AllStand, RootsAreTaken, ShowsRemains, has_some, left_at}
 use Rattle.papaya_remains.proofs.Leads.{both_lead}
-use Rattle.papaya_remains.proofs.Rests.{rests_remain}
+use Rattle.papaya_remains.proofs.Rests.{each_noted, rests_remain}
 use Rattle.papaya_logged.specs.Shown.{IsCounted}
 use Rattle.papaya_rows.proofs.Facts.{no_ending_of, no_making_of}
 use Rattle.papaya_rows.proofs.Lists.{both_none, both_some}
@@ -72,6 +73,10 @@ module _ {K V S : Type 0} (same : K → K → Bool) (hash : K → ℕ) (terms : 
   module _ (found : AreFound m) where
     pub rested : RootsAreTaken p.logged.executor.roots m p.logged.executor.memory.memory × LeftBehind p.logged.executor.roots t.world t.maps c.lists
     rested = rests_remain K V S same hash plays.name m (known p.logged.notes) t p.logged.executor plays.shown.is_at plays.shown.shows.all.shown c found all_stand nobody_makes nobody_ends
+
+    -- and it is noted as what the moment tells
+    pub noted_at : (r : ℕ) → r < p.logged.executor.roots → map (known p.logged.notes).roles (c.lists r) ≡ map role.Pair (left_at r m.remains)
+    noted_at = each_noted K V S same hash plays.name m (known p.logged.notes) t p.logged.executor plays.shown.is_at plays.shown.shows.all.shown c found all_stand nobody_makes nobody_ends
 
     abbrev pub gives_all : MayGiveAll p t
     gives_all =
