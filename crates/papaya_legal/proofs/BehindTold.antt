@@ -24,17 +24,15 @@ module _ (roles : ℕ → Role) where
   found_noted : (n : ℕ) (bs ns : List ℕ) → AreNoted bs ns → is_among n ns ≡ true → (b : ℕ) × (roles b ≡ role.Pair n) × (0 < times b bs)
   found_noted n bs [] noted among = absurd (cc among)
   found_noted n [] (k ∷ ns) noted among = absurd (cc noted)
-  found_noted n (b ∷ bs) (k ∷ ns) noted among = by (n == k) refl among
+  found_noted n (b ∷ bs) (k ∷ ns) noted among = by (n == k) refl among (found_noted n bs ns (let others : AreNoted bs ns = cc noted in others))
     where
       first : roles b ≡ role.Pair k
       first = cc noted
 
-      others : AreNoted bs ns
-      others = cc noted
-
-      by : (q : Bool) → (n == k) ≡ q → (q || is_among n ns) ≡ true → (x : ℕ) × (roles x ≡ role.Pair n) × (0 < times x (b ∷ bs))
-      by true e is = (b, first ∙ ap role.Pair (sym (eqb-true n k e)), some_here b bs)
-      by false e is = (let it = found_noted n bs ns others is in (it.0, it.1, some_last it.0 (b ∷ []) bs it.2))
+      by : (q : Bool) → (n == k) ≡ q → (q || is_among n ns) ≡ true → (is_among n ns ≡ true → (x : ℕ) × (roles x ≡ role.Pair n) × (0 < times x bs))
+          → (x : ℕ) × (roles x ≡ role.Pair n) × (0 < times x (b ∷ bs))
+      by true e is ih = (b, first ∙ ap role.Pair (sym (eqb-true n k e)), some_here b bs)
+      by false e is ih = (let it = ih is in (it.0, it.1, some_last it.0 (b ∷ []) bs it.2))
 
   things_noted : (bs ns : List ℕ) → AreNoted bs ns → flat_map (λ (b : ℕ). things_of (roles b)) bs ≡ map APair ns
   things_noted [] [] noted = refl
@@ -48,23 +46,21 @@ module _ (roles : ℕ → Role) where
   among_noted : (b n : ℕ) (bs ns : List ℕ) → AreNoted bs ns → 0 < times b bs → roles b ≡ role.Pair n → is_among n ns ≡ true
   among_noted b n [] ns noted some is = absurd (omega (arith, some))
   among_noted b n (x ∷ bs) [] noted some is = absurd (cc noted)
-  among_noted b n (x ∷ bs) (k ∷ ns) noted some is = by (some_of_first b x bs some)
+  among_noted b n (x ∷ bs) (k ∷ ns) noted some is =
+      by (some_of_first b x bs some) (λ more. among_noted b n bs ns (let others : AreNoted bs ns = cc noted in others) more is)
     where
       first : roles x ≡ role.Pair k
       first = cc noted
-
-      others : AreNoted bs ns
-      others = cc noted
 
       later : (q : Bool) → is_among n ns ≡ true → (q || is_among n ns) ≡ true
       later true e = refl
       later false e = e
 
-      by : (b ≡ x) ⊎ (0 < times b bs) → is_among n (k ∷ ns) ≡ true
-      by (inl e) =
+      by : (b ≡ x) ⊎ (0 < times b bs) → (0 < times b bs → is_among n ns ≡ true) → is_among n (k ∷ ns) ≡ true
+      by (inl e) ih =
           let both : role.Pair n ≡ role.Pair k = sym is ∙ ap roles e ∙ first in
           let one : n ≡ k = cc both in ap (λ (q : Bool). q || is_among n ns) (eq-eqb n k one)
-      by (inr more) = later (n == k) (among_noted b n bs ns others more is)
+      by (inr more) ih = later (n == k) (ih more)
 
 each_two : {X Y : Type 0} (g : X → Y) (a b : List X) → map g (a ++ b) ≡ map g a ++ map g b
 each_two g [] b = refl

@@ -19,7 +19,8 @@ use Rattle.papaya_histories.specs.Given.Schedules.declared.outcome.Outcome.TheVa
 use Rattle.papaya_histories.specs.Given.Schedules.After.{after, if_any, moment, remains_on, root_or, tables_taken, with_remains}
 use Rattle.papaya_histories.specs.Given.Schedules.Beginning.{at_work, begun, with_call}
 use Rattle.papaya_histories.specs.Given.Schedules.Effects.{AtEachEffect, all_at, in_map, with_effect, with_effects, worked}
-use Rattle.papaya_histories.specs.Given.Schedules.Entry.{Entry, ByCall, acted_on, acting, caller_of, nameless}
+use Rattle.papaya_histories.specs.Given.Schedules.Entry.{Entry, ByCall, acted_on, acting, caller_of, is_busy, nameless}
+use Rattle.papaya_histories.specs.Given.Schedules.Growing.{only_looks}
 use Rattle.papaya_histories.specs.Given.Schedules.Handing.{gives_all, is_ending, is_only, may_do, moments_of, IsWhole}
 use Rattle.papaya_histories.specs.Given.Schedules.InTurn.{is_kept_out}
 use Rattle.papaya_histories.specs.Given.Schedules.Lists.{is_among, is_in, put}
@@ -298,13 +299,13 @@ module _ (n : ℕ) where
 
   with_told : (new : Remains) (rs : List Remains) → told (with_remains new rs) ≡ (is_among n new.pairs || told rs)
   with_told new [] = among_two n new.pairs []
-  with_told new (r ∷ rs) = by (nat_lt new.root r.root)
+  with_told new (r ∷ rs) = by (nat_lt new.root r.root) (with_told new rs)
     where
-      by : (q : Bool) → told (if q then new ∷ r ∷ rs else r ∷ with_remains new rs) ≡ (is_among n new.pairs || told (r ∷ rs))
-      by true = among_two n new.pairs (flat_map (λ x. x.pairs) (r ∷ rs))
-      by false =
+      by : (q : Bool) → told (with_remains new rs) ≡ (is_among n new.pairs || told rs) → told (if q then new ∷ r ∷ rs else r ∷ with_remains new rs) ≡ (is_among n new.pairs || told (r ∷ rs))
+      by true ih = among_two n new.pairs (flat_map (λ x. x.pairs) (r ∷ rs))
+      by false ih =
           among_two n r.pairs (flat_map (λ x. x.pairs) (with_remains new rs))
-          ∙ ap (λ (q : Bool). is_among n r.pairs || q) (with_told new rs)
+          ∙ ap (λ (q : Bool). is_among n r.pairs || q) ih
           ∙ swapped (is_among n r.pairs) (is_among n new.pairs) (told rs)
           ∙ ap (λ (q : Bool). is_among n new.pairs || q) (sym (among_two n r.pairs (flat_map (λ x. x.pairs) rs)))
 

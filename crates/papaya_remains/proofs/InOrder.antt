@@ -1,7 +1,7 @@
 -- What is behind all roots, one after another, is what is told to be left over, in that order.
 use Rattle.std.specs.Prelude.{◌≡◌, ◌⊎◌, ◌<◌, ◌≤◌, ◌==◌, ◌||◌, ℕ, zero, suc, nat_lt, Bool, true, false, List, [], ◌∷◌, ◌++◌, flat_map, map, if◌then◌else◌}
 use Rattle.std.proofs.Common.{refl, ap, sym, ◌∙◌, inl, inr, arith, eqb-true}
-use Rattle.std.proofs.lemmas.Bool.{eq-eqb, ltb-false, ltb-true}
+use Rattle.std.proofs.lemmas.Bool.{eq-eqb, le-ltb, lt-ltb}
 use Rattle.std.proofs.lemmas.List.{append-nil, append_assoc}
 use Rattle.papaya_moments.specs.Given.Schedules.Lists.{is_among}
 use Rattle.papaya_moments.specs.Given.Schedules.Moment.{Remains}
@@ -31,7 +31,7 @@ lies (suc a) (suc n) = elim (lies a n) as (λ _. (suc a < suc n) ⊎ ((suc a ≡
 
 upto_none : (n k : ℕ) (rs : List Remains) → n ≤ k → AscendFrom k rs → upto n rs ≡ []
 upto_none n k [] le up = refl
-upto_none n k (x ∷ rs) le up = ap (λ (q : Bool). if q then x.pairs ++ upto n rs else []) (ltb-false x.root n (let from = up.0 in omega (arith, from, le)))
+upto_none n k (x ∷ rs) le up = ap (λ (q : Bool). if q then x.pairs ++ upto n rs else []) (le-ltb x.root n (let from = up.0 in omega (arith, from, le)))
 
 other_root : (a n : ℕ) → (a ≡ n → ⊥) → (a == n) ≡ false
 other_root a n ne = by (a == n) refl
@@ -48,7 +48,7 @@ left_above n k (x ∷ rs) lt up =
 
 one_more : (n k : ℕ) (rs : List Remains) → AscendFrom k rs → upto (suc n) rs ≡ upto n rs ++ left_at n rs
 one_more n k [] up = refl
-one_more n k (x ∷ rs) up = by (lies x.root n)
+one_more n k (x ∷ rs) up = by (lies x.root n) (one_more n (suc x.root) rs up.1)
   where
     Here : Bool → Bool → Bool → Type 0
     Here p q e = (if p then x.pairs ++ upto (suc n) rs else []) ≡ (if q then x.pairs ++ upto n rs else []) ++ (if e then x.pairs else left_at n rs)
@@ -59,22 +59,22 @@ one_more n k (x ∷ rs) up = by (lies x.root n)
         ∙ its
         ∙ sym (ap (λ (z : Bool). (if z then x.pairs ++ upto n rs else []) ++ left_at n (x ∷ rs)) is_q ∙ ap (λ (z : Bool). (if q then x.pairs ++ upto n rs else []) ++ (if z then x.pairs else left_at n rs)) is_e)
 
-    by : (x.root < n) ⊎ ((x.root ≡ n) ⊎ (n < x.root)) → upto (suc n) (x ∷ rs) ≡ upto n (x ∷ rs) ++ left_at n (x ∷ rs)
-    by (inl lt) =
-        as_so true true false (ltb-true x.root (suc n) (omega (arith, lt))) (ltb-true x.root n lt) (other_root x.root n (λ e. omega (arith, e, lt)))
-        (ap (λ (l : List ℕ). x.pairs ++ l) (one_more n (suc x.root) rs up.1) ∙ sym (append_assoc x.pairs (upto n rs) (left_at n rs)))
-    by (inr (inl e)) =
-        as_so true false true (ltb-true x.root (suc n) (omega (arith, e))) (ltb-false x.root n (omega (arith, e))) (eq-eqb x.root n e)
+    by : (x.root < n) ⊎ ((x.root ≡ n) ⊎ (n < x.root)) → upto (suc n) rs ≡ upto n rs ++ left_at n rs → upto (suc n) (x ∷ rs) ≡ upto n (x ∷ rs) ++ left_at n (x ∷ rs)
+    by (inl lt) ih =
+        as_so true true false (lt-ltb x.root (suc n) (omega (arith, lt))) (lt-ltb x.root n lt) (other_root x.root n (λ e. omega (arith, e, lt)))
+        (ap (λ (l : List ℕ). x.pairs ++ l) ih ∙ sym (append_assoc x.pairs (upto n rs) (left_at n rs)))
+    by (inr (inl e)) ih =
+        as_so true false true (lt-ltb x.root (suc n) (omega (arith, e))) (le-ltb x.root n (omega (arith, e))) (eq-eqb x.root n e)
         (ap (λ (l : List ℕ). x.pairs ++ l) (upto_none (suc n) (suc x.root) rs (omega (arith, e)) up.1) ∙ append-nil x.pairs)
-    by (inr (inr gt)) =
-        as_so false false false (ltb-false x.root (suc n) (omega (arith, gt))) (ltb-false x.root n (omega (arith, gt))) (other_root x.root n (λ e. omega (arith, e, gt)))
+    by (inr (inr gt)) ih =
+        as_so false false false (le-ltb x.root (suc n) (omega (arith, gt))) (le-ltb x.root n (omega (arith, gt))) (other_root x.root n (λ e. omega (arith, e, gt)))
         (sym (left_above n (suc x.root) rs (omega (arith, gt)) up.1))
 
 upto_all : (n : ℕ) (rs : List Remains) → ((r : ℕ) → is_among r (map (λ x. x.root) rs) ≡ true → r < n) → upto n rs ≡ all_pairs rs
 upto_all n [] below = refl
 upto_all n (x ∷ rs) below =
     ap (λ (q : Bool). if q then x.pairs ++ upto n rs else [])
-    (ltb-true x.root n (below x.root (ap (λ (q : Bool). q || is_among x.root (map (λ y. y.root) rs)) (eq-eqb x.root x.root refl))))
+    (lt-ltb x.root n (below x.root (ap (λ (q : Bool). q || is_among x.root (map (λ y. y.root) rs)) (eq-eqb x.root x.root refl))))
     ∙ ap (λ (l : List ℕ). x.pairs ++ l) (upto_all n rs (λ r among. below r (by (r == x.root) (is_among r (map (λ y. y.root) rs)) among)))
   where
     by : (p q : Bool) → q ≡ true → (p || q) ≡ true
