@@ -1,5 +1,5 @@
 -- An event that makes a map keeps its promises, and a run goes on with it.
-use Rattle.std.specs.Prelude.{◌≡◌, ◌≢◌, ◌⊎◌, ◌==◌, ◌&&◌, ◌<◌, ◌+◌, ◌-◌, ◌^◌, ◌++◌, if◌then◌else◌, nat_le, ℕ, zero, suc, Bool, true, false, List, [], ◌∷◌, find, is_none, length, not, nat_lt, cond, Option, Some, None, option_map, slice_index_or, Result, Ok, Err, IfOk}
+use Rattle.std.specs.Prelude.{◌≡◌, ◌≢◌, ◌⊎◌, ◌==◌, ◌&&◌, ◌<◌, ◌+◌, ◌-◌, ◌^◌, ◌++◌, if◌then◌else◌, nat_le, ℕ, zero, suc, Bool, true, false, List, [], ◌∷◌, find, is_none, length, max, not, nat_lt, cond, Option, Some, None, option_map, slice_index_or, Result, Ok, Err, IfOk}
 use Rattle.std.specs.Int.{IsPowerOfTwo}
 use Rattle.std.specs.List.{AllByRecursion, list_all}
 use Rattle.std.proofs.Common.{refl, sym, ap, subst, inl, inr, ◌∙◌, arith}
@@ -16,6 +16,7 @@ use Rattle.papaya_histories.specs.Given.Tables.declared.resize_mode.ResizeMode.{
 use Rattle.papaya_histories.specs.Given.Tables.Lengths.{places_for}
 use Rattle.papaya_histories.specs.Given.Tables.Powers.{floor_log2, next_power}
 use Rattle.papaya_histories.specs.Given.Tables.declared.setting.Setting.{Setting}
+use Rattle.papaya_histories.proofs.Given.Moments.Numbers.{numbers_are_below}
 use Rattle.papaya_histories.proofs.Given.Callers.Together.At.{at_other, at_same}
 use Rattle.papaya_runs.proofs.Sames.{same_refl}
 use Rattle.papaya_runs.specs.Runs.{map_fault}
@@ -53,12 +54,15 @@ use Rattle.papaya_others.proofs.MakingGoes.{new_maps_stay}
 use Rattle.papaya_executor.specs.MakingBegins.{next_making}
 use Rattle.papaya_executor.proofs.Fresh.{no_making_yet}
 use Rattle.papaya_legal.proofs.Come.{events_bring_things}
+use Rattle.papaya_finds.specs.Linking.{IsMadeFor}
+use Rattle.papaya_finds.proofs.Capacities.{effects_keep_capacities, given_are_for}
 use Rattle.papaya_legal.specs.CallEvents.{IsLegalBut}
 use Rattle.papaya_models.specs.Follows.{FollowsModel}
 use Rattle.papaya_legal.specs.Carried.{ComesAlone, ShowsRun}
 use Rattle.papaya_legal.specs.Chains.{Chain, Come, MakingSteps}
 use Rattle.papaya_legal.specs.MapEvents.{InMakingEvent}
 use Rattle.papaya_legal.proofs.Chains.{makings_chain, makings_run_to_their_ends}
+use Rattle.papaya_legal.proofs.Finding.Alike.{made_still}
 use Rattle.papaya_legal.proofs.MapsOver.{making_events_begin_so}
 use Rattle.papaya_legal.proofs.Slots.{each_join}
 use Rattle.papaya_finds.specs.Firsts.{ShowsOpenings}
@@ -70,6 +74,7 @@ use Rattle.papaya_logged.specs.Makings.{MakingIsBegun, is_over}
 use Rattle.papaya_logged.specs.Shown.{IsCounted, IsShown}
 use Rattle.papaya_logged.specs.declared.logged.Logged.{Logged}
 use Rattle.papaya_logged.proofs.Counted.{counted_making_steps}
+use Rattle.papaya_logged.proofs.LeftNoted.{makings_note_left}
 use Rattle.papaya_logged.proofs.GivenBack.{with_maps}
 use Rattle.papaya_rows.proofs.Lists.{found_alike}
 use Rattle.papaya_tables.proofs.Logarithms.{next-power-unique}
@@ -213,6 +218,7 @@ module _ {K V S : Type 0} (same : K → K → Bool) (hash : K → ℕ) (terms : 
     pub size : f.logged.executor.batch_size ≡ terms.batch_size
     pub midst : InMakingEvent same name terms log (MakeMap own mode capacity) b.map began f.effects now (known f.logged.notes) scene
     pub made : now.made ≡ began.made
+    pub made_for : IsMadeFor b.map now b.given
     pub counted : IsCounted now f.logged scene
     pub firsts : list_all is_first_making f.effects ≡ true
     pub found : AtEachEffect (EventFinds (Some b.map) false) None (Some b.map) f.effects began
@@ -246,6 +252,7 @@ module _ {K V S : Type 0} (same : K → K → Bool) (hash : K → ℕ) (terms : 
       map_is = refl;
       below = subst (λ (q : ℕ). b.map < q) (sym y.made) below;
       was_new = was_new;
+      made_for = y.made_for;
       comes = come_as to.logged.executor w next to.effects (mid.effects ++ step_did) (known to.logged.notes) (known_after (acts.Making b.map) to.logged.executor.memory.changed (known mid.logged.notes))
           step.is_noted.did step.is_noted.noted;
     }
@@ -282,7 +289,9 @@ module _ {K V S : Type 0} (same : K → K → Bool) (hash : K → ℕ) (terms : 
       size = step.is_noted.given.1 ∙ y.size;
       midst = next_midst;
       made = made_stays None (Some b.map) step_did y.now ∙ y.made;
-      counted = counted_making_steps same hash mid.logged to.logged.executor to.logged.notes step.is_noted.given y.now y.scene y.is_at y.counted i step.said leads d it.1 (Some b.map) step.is_noted.noted;
+      made_for = made_still y.now w b.map b.given (effects_keep_capacities K V None (Some b.map) step_did y.now b.map) y.made_for;
+      counted = counted_making_steps same hash mid.logged to.logged.executor to.logged.notes step.is_noted.given y.now y.scene y.is_at y.counted i step.said leads d it.1 (Some b.map) step.is_noted.noted
+          (makings_note_left same hash name y.now (known mid.logged.notes) y.scene mid.logged.executor to.logged.executor y.is_at y.midst.0.calls.whole i step.said leads d it.1 (Some b.map) was_new next.world);
       firsts = ap (list_all is_first_making) step.is_noted.did ∙ list_all-append is_first_making mid.effects step_did ∙ ap (λ (q : Bool). q && list_all is_first_making step_did) y.firsts ∙ step_firsts;
       found = all_found;
       openings = makings_go_on K V S same hash y.scene mid.logged.executor to.logged.executor y.openings i step.said leads d it.1;
@@ -425,6 +434,7 @@ module _ {K V S : Type 0} (same : K → K → Bool) (hash : K → ℕ) (terms : 
         found = tt;
         openings = makings_open K V s (λ j c makes. absurd (let none = nobody_makes same hash terms m old run.stands j in cc (none, makes))) i b d.given old.logged.executor.roots d.places refl;
         there_is = there_so;
+        made_for = given_are_for K V bm b.map there there_so d.faultless b.given (d.is_given.initial ∙ ap (λ (n : ℕ). max n 1) d.places_are);
       },
       (b.machine, at_same s.makers i (Some b) i refl, is_new, refl),
     )
