@@ -210,8 +210,16 @@ module _ {K V S : Type 0} (i map : ℕ) where
     [],
     sym (append-nil xs),
     λ same hash s at f here. (s, [], came_first s i f here, at),
-    λ same hash name m s shown f here not_there number first notes still. (s, [], came_first s i f here, refl, subst (NotedStill first (known l.notes)) (sym (append-nil f.back)) still, shown, λ over none. absurd (cc over),
-        λ began before. subst (λ (bs : List ℕ). TellsWaiting same map i (record f { back = bs }) began m (known l.notes) s.world) (sym (append-nil f.back)) before),
+    λ same hash name m s shown f here not_there number first notes still. (
+      s,
+      [],
+      came_first s i f here,
+      refl,
+      subst (NotedStill first (known l.notes)) (sym (append-nil f.back)) still,
+      shown,
+      λ over none. absurd (cc over),
+      λ began before. subst (λ (bs : List ℕ). TellsWaiting same map i (record f { back = bs }) began m (known l.notes) s.world) (sym (append-nil f.back)) before,
+    ),
   )
 
   -- and one step more
