@@ -6,15 +6,14 @@ use Rattle.papaya_histories.specs.Given.Seize.World.{times}
 use Rattle.papaya_histories.specs.Given.Schedules.declared.effect.Thing.{Thing}
 use Rattle.papaya_histories.specs.Given.Schedules.declared.effect.Thing.TheVariants.{APair}
 use Rattle.papaya_histories.specs.Given.Schedules.Lists.{is_among}
-use Rattle.papaya_histories.specs.Given.Schedules.Moment.{Place, Left, Remains, Moment}
-use Rattle.papaya_histories.specs.Given.Effects.Known.{Known}
+use Rattle.papaya_histories.specs.Given.Schedules.Moment.{Place, Left, Remains}
 use Rattle.papaya_histories.specs.Given.Effects.declared.role.Role.{Role}
 use Rattle.papaya_histories.specs.Given.Effects.declared.role.Role.TheVariants as role
 use Rattle.papaya_histories.proofs.Given.Finishes.Ends.CountedBlocks.{some_here, some_last, some_of_first}
 use Rattle.seize_reclaims.specs.Roots.{all_lists}
 use Rattle.papaya_models.specs.Numbers.{things_of}
 use Rattle.papaya_finds.specs.Orderly.{is_left_over}
-use Rattle.papaya_legal.specs.AllEvents.{BehindAreLeft, BehindIsLeft, BehindIsTold, LeftIsBehind}
+use Rattle.papaya_legal.specs.AllEvents.{BehindIsTold}
 
 -- blocks that are noted as these pairs
 module _ (roles : ℕ → Role) where

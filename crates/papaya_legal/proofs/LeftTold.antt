@@ -1,5 +1,5 @@
 -- What ended maps have left over is what a moment says of it: as maps end, as all is reclaimed, and where nothing of that is.
-use Rattle.std.specs.Prelude.{◌≡◌, ◌⊎◌, ◌<◌, ◌+◌, ◌==◌, ◌||◌, ℕ, zero, suc, nat_lt, Bool, true, false, not, cond, List, [], ◌∷◌, ◌++◌, filter, find, flat_map, length, map, Option, Some, None, MatchBool, if◌then◌else◌}
+use Rattle.std.specs.Prelude.{◌≡◌, ◌⊎◌, ◌<◌, ◌+◌, ◌==◌, ◌||◌, ℕ, nat_lt, Bool, true, false, not, cond, List, [], ◌∷◌, ◌++◌, filter, find, flat_map, length, map, Option, Some, None, MatchBool, if◌then◌else◌}
 use Rattle.std.specs.List.{list_all}
 use Rattle.std.proofs.Common.{refl, ap, sym, subst, ◌∙◌, inl, inr, arith}
 use Rattle.std.proofs.Math.Bool.{or-false}
@@ -8,7 +8,6 @@ use Rattle.papaya_histories.specs.Given.SeizeWords.declared.fault.Fault.TheVaria
 use Rattle.papaya_histories.specs.Given.Runs.Same.{is_same}
 use Rattle.papaya_histories.specs.Given.Schedules.declared.effect.Effect.{Effect}
 use Rattle.papaya_histories.specs.Given.Schedules.declared.effect.Effect.TheVariants as effect
-use Rattle.papaya_histories.specs.Given.Schedules.declared.effect.Spot.{Spot}
 use Rattle.papaya_histories.specs.Given.Schedules.declared.effect.Table.{Table}
 use Rattle.papaya_histories.specs.Given.Schedules.declared.effect.Thing.{Thing}
 use Rattle.papaya_histories.specs.Given.Schedules.declared.effect.Thing.TheVariants.{APair, ATable}
@@ -34,7 +33,7 @@ use Rattle.papaya_lives.proofs.Order.{behind_apart}
 use Rattle.papaya_finds.specs.Life.{StoresOne}
 use Rattle.papaya_finds.specs.Little.{ReclaimsAll}
 use Rattle.papaya_finds.specs.Orderly.{is_left_over}
-use Rattle.papaya_finds.specs.Waiting.{FindsPlaced, OwesPair, PairsArePlaced, is_behind_one, is_let_go, is_out, is_unborn, once_if, owed_by, owed_in, put_in}
+use Rattle.papaya_finds.specs.Waiting.{FindsPlaced, OwesPair, PairsArePlaced, is_behind_one, is_out, is_unborn, once_if, owed_by, owed_in, put_in}
 use Rattle.papaya_finds.specs.Within.{AllIsInOrder, GoesInOrder}
 use Rattle.papaya_finds.proofs.Begun.{all_begun}
 use Rattle.papaya_finds.proofs.Endings.{entry}

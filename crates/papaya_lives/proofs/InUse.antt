@@ -11,22 +11,21 @@ use Rattle.papaya_histories.specs.Given.Seize.Sequence.{IsUsers}
 use Rattle.papaya_histories.specs.Given.Seize.declared.rows.defer.Deferring.TheVariants as deferring
 use Rattle.papaya_histories.specs.Given.Seize.declared.rows.settle.Settle.{Settle}
 use Rattle.papaya_histories.specs.Given.Seize.declared.states.TheConstants.{NEXT, LAST_SLOT}
-use Rattle.papaya_histories.specs.Given.Seize.World.{World, Row, Rests, Registers, Enters, Settles, Leaves, Defers, Frees, Use, Hand, NoBlock, Making, InUse, Parting, Cutting, Handed, LeftTo, Event, Begin, Step, Makes, Drops, Links, Parts, Unlinks, Rewrites, Operates, Ends, LeavesOver, Relinks, Clears, Chooses, Happens, Runs, Steps', made_by, handed_by, times, with_at}
+use Rattle.papaya_histories.specs.Given.Seize.World.{World, Row, Registers, Enters, Settles, Leaves, Frees, Use, Hand, NoBlock, Making, InUse, Parting, Cutting, Handed, LeftTo, Event, Begin, Step, Makes, Drops, Links, Parts, Unlinks, Rewrites, Operates, Ends, LeavesOver, Relinks, Clears, Chooses, Happens, Runs, Steps', made_by, handed_by, times, with_at}
 use Rattle.papaya_histories.specs.Given.SeizeWaiting.Held.{count}
 use Rattle.papaya_histories.proofs.Given.SeizeWaiting.Counts.{none_counted}
 use Rattle.papaya_histories.proofs.Given.SeizeMoves.Moves.Takes.{first_doomed}
-use Rattle.papaya_histories.proofs.Given.SeizeMoves.State.Ghost.{Entry as Listed, Life, IsOwned, IsLinked, IsDoomed, IsDeferred, State, can_carry}
+use Rattle.papaya_histories.proofs.Given.SeizeMoves.State.Ghost.{Entry as Listed, Life, IsOwned, IsLinked, IsDeferred, State, can_carry}
 use Rattle.papaya_histories.proofs.Given.SeizeMoves.State.Moves
 use Rattle.papaya_histories.proofs.Given.SeizeMoves.State.Rule.{Inv}
-use Rattle.papaya_histories.proofs.Given.SeizeRule.Points.Aside.{HandFits, is_handed}
+use Rattle.papaya_histories.proofs.Given.SeizeRule.Points.Aside.{HandFits}
 use Rattle.papaya_histories.proofs.Given.SeizeRule.Points.Passed.{passed_rest}
 use Rattle.papaya_histories.proofs.Given.SeizeRule.Points.Told.{Part, part, Told, Stays, Holds, HoldsNone, Gives, Begins as BeginsTry, Appends, Fills, Skips, Passes, Finds, Marks, GivesUp, Closes, Pushes, Misses, Sums, SumsLast, Drains, DrainsNone, Takes, TakesLast, Joins, Counts, CountsLast}
-use Rattle.papaya_histories.proofs.Given.SeizeRule.Rows.Sizes.{AllSized}
 use Rattle.papaya_histories.proofs.Given.SeizeRule.Rows.SizesKept.{happens_sized}
 use Rattle.papaya_histories.proofs.Given.SeizeRule.Rows.Told.{list_off, IsOnWay, RowTold, SettleGoes, SettleEnds, LeaveSwaps, LeaveGoes, LeaveSettled, LeaveEnds, RegisterLooks, RegisterRefused, RegisterTakes, RegisterEnters, EntersSlot, FreesSlot, DeferGoes, DeferPushes, DeferEnds}
 use Rattle.papaya_histories.proofs.Given.SeizeRule.Words.Chains.{Chain}
 use Rattle.papaya_histories.proofs.Given.SeizeRule.Words.Lists.{some_word, list_from, deferred_of}
-use Rattle.papaya_histories.proofs.Given.SeizeRule.Words.Named.{link, word_found}
+use Rattle.papaya_histories.proofs.Given.SeizeRule.Words.Named.{word_found}
 use Rattle.papaya_histories.proofs.Given.SeizeRule.Words.Shows.{DeferredIs, DrainedIs, CarrierIs, lives}
 use Rattle.papaya_histories.proofs.Given.SeizeRule.Words.There.{entry_there, list_there, value_there}
 use Rattle.papaya_histories.proofs.Given.SeizeRule.Words.View.{view, list_in}

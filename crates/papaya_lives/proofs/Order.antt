@@ -1,10 +1,10 @@
 -- Pairs lie behind tables in the order in which they wait there, where nothing is put there, where rows begin and step on slots, and where maps are made.
-use Rattle.std.specs.Prelude.{◌≡◌, ◌⊎◌, ◌<◌, ℕ, ◌==◌, nat_lt, ◌&&◌, Bool, true, false, not, List, [], ◌∷◌, map, filter, Option, Some, None, IsSome, if◌then◌else◌}
+use Rattle.std.specs.Prelude.{◌≡◌, ◌<◌, ℕ, nat_lt, ◌&&◌, Bool, true, false, not, List, [], ◌∷◌, map, filter, Option, Some, None, IsSome, if◌then◌else◌}
 use Rattle.std.proofs.Common.{refl, ap, sym, subst, ◌∙◌, inl, inr}
 use Rattle.papaya_histories.specs.Given.SeizeWords.Mem.{Mem, value_at}
 use Rattle.papaya_histories.specs.Given.SeizeWords.declared.at.At.TheVariants.{Root, Used, Slot, Entry, Word}
 use Rattle.papaya_histories.specs.Given.Seize.Further.{FurtherAre}
-use Rattle.papaya_histories.specs.Given.Seize.World.{World, Hand, InUse, Making, Event, Begins, Runs, Steps', times}
+use Rattle.papaya_histories.specs.Given.Seize.World.{World, Hand, InUse, Event, Begins, Runs, Steps', times}
 use Rattle.papaya_histories.proofs.Given.SeizeAlone.Histories.Reached.{Reached, steps_reached}
 use Rattle.papaya_histories.specs.Given.Runs.declared.outcome.TableShape.{TableShape}
 use Rattle.papaya_histories.specs.Given.Tables.Nodes.{deferred_word}
@@ -30,14 +30,13 @@ use Rattle.papaya_histories.specs.Given.Executor.Rows.{request_of}
 use Rattle.papaya_histories.specs.Given.Executor.declared.row.SlotCall.{SlotCall}
 use Rattle.papaya_histories.specs.Given.Executor.declared.row.SlotCall.TheVariants as calls
 use Rattle.papaya_histories.specs.Given.Executor.declared.worker.Work.{Work}
-use Rattle.papaya_histories.specs.Given.Finishes.Makings.{Beginning}
 use Rattle.papaya_histories.proofs.Given.Finishes.Ends.CountedBlocks.{some_here, some_last}
 use Rattle.papaya_histories.specs.Given.Follows.Blocks.{HasRole, WasLinked}
 use Rattle.papaya_histories.proofs.Given.Follows.Alike.{put_here}
 use Rattle.papaya_histories.proofs.Given.Follows.Onward.{IsOfMap}
 use Rattle.papaya_histories.proofs.Given.Follows.Operations.{LeavesBy}
 use Rattle.papaya_histories.proofs.Given.Others.RowPlans.{TellsRow, row_tells}
-use Rattle.papaya_histories.proofs.Given.Spots.Unreclaimed.{table_is, same_itself}
+use Rattle.papaya_histories.proofs.Given.Spots.Unreclaimed.{table_is}
 use Rattle.papaya_histories.specs.Given.Moments.Whole.{ShowsWhole}
 use Rattle.papaya_histories.proofs.Given.Moments.Makings.{makings_keep_blocks}
 use Rattle.papaya_settles.specs.Due.{OwnAreMade}
@@ -47,7 +46,6 @@ use Rattle.papaya_lives.specs.Waiting.{IsPutting}
 use Rattle.papaya_lives.proofs.Each.{each_on}
 use Rattle.papaya_lives.proofs.InUse.{listed_there, step_goes, used_then, users_leave_list, users_make_none}
 use Rattle.papaya_lives.proofs.Lying.{no_slot_puts, row_pair}
-use Rattle.papaya_lives.proofs.LyingRows.{HasPut}
 use Rattle.papaya_lives.proofs.Makings.{role_kept, apart}
 use Rattle.papaya_lives.proofs.Reclaimed.{stays_so}
 use Rattle.papaya_lives.proofs.Stages.{WasTable, role_back}

@@ -1,10 +1,10 @@
 -- A step of the end of a map leaves the lists of the tables that are in use then, and what waits behind them.
-use Rattle.std.specs.Prelude.{◌≡◌, ◌≢◌, ◌⊎◌, ◌<◌, ◌+◌, ℕ, zero, suc, eqb, Bool, true, false, cond, List, [], ◌∷◌, map as each_of, Option, Some, None, IsSome, if◌then◌else◌, ◌==◌}
+use Rattle.std.specs.Prelude.{◌≡◌, ◌<◌, ◌+◌, ℕ, zero, suc, Bool, cond, List, [], ◌∷◌, Option, Some, None, IsSome}
 use Rattle.std.proofs.Common.{refl, ap, sym, subst, ◌∙◌, inl, inr, arith}
-use Rattle.std.proofs.lemmas.Bool.{cases_eq, ne_eqb}
+use Rattle.std.proofs.lemmas.Bool.{ne_eqb}
 use Rattle.papaya_histories.specs.Given.SeizeWords.Mem.{value_at}
 use Rattle.papaya_histories.specs.Given.Seize.Further.{FurtherAre}
-use Rattle.papaya_histories.specs.Given.Seize.World.{World, Hand, InUse, LeftTo, Event, Unlinks, LeavesOver, Runs, times}
+use Rattle.papaya_histories.specs.Given.Seize.World.{World, InUse, LeftTo, Unlinks, LeavesOver, Runs, times}
 use Rattle.papaya_histories.specs.Given.Seize.declared.rows.settle.Settled.{Settled}
 use Rattle.papaya_histories.specs.Given.Seize.declared.rows.settle.Settled.TheVariants as settled
 use Rattle.papaya_histories.specs.Given.Seize.declared.states.TheConstants.{LAST_SLOT}

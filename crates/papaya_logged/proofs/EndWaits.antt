@@ -7,7 +7,7 @@ use Rattle.papaya_histories.specs.Given.SeizeWords.Mem.{Mem, value_at}
 use Rattle.seize.specs.Further.{FurtherFrom, FurtherAre}
 use Rattle.seize.specs.declared.rows.settle.Settled.{Settled}
 use Rattle.seize.specs.declared.rows.settle.Settled.TheVariants as settled
-use Rattle.seize.specs.World.{World, InUse, LeftTo, MayCut, Runs, times}
+use Rattle.seize.specs.World.{World, InUse, MayCut, Runs, times}
 use Rattle.papaya_histories.proofs.Given.SeizeAlone.Histories.Reached.{Reached, runs_reached}
 use Rattle.papaya_histories.specs.Given.Tables.Chunks.{is_incremental}
 use Rattle.papaya_histories.specs.Given.Tables.Nodes.{deferred_word}
@@ -19,7 +19,6 @@ use Rattle.papaya_schedules.specs.declared.effect.Table.{Table}
 use Rattle.papaya_schedules.specs.Effects.{with_effects}
 use Rattle.papaya_schedules.specs.Moment.{Deferral, Moment}
 use Rattle.papaya_schedules.specs.Views.{behind}
-use Rattle.papaya_teller.specs.declared.changed.Changed.{Changed}
 use Rattle.papaya_histories.specs.Given.Callers.Kept.{IsPair}
 use Rattle.papaya_histories.proofs.Given.Callers.Together.Came.{came_reached}
 use Rattle.papaya_effects.specs.Effects.{effects_of, known_after}
@@ -32,7 +31,6 @@ use Rattle.papaya_histories.specs.Given.Finishes.FactsEnds.{Deed, Looks, TakesPa
 use Rattle.papaya_histories.specs.Given.Finishes.Maps.{Standing}
 use Rattle.papaya_histories.specs.Given.Finishes.Orders.{pairs_of}
 use Rattle.papaya_histories.proofs.Given.Finishes.Ends.CountedBlocks.{some_first, some_here, some_last, times-append, times_other}
-use Rattle.papaya_histories.proofs.Given.Finishes.Ends.Frames.{that_one}
 use Rattle.papaya_histories.proofs.Given.Finishes.Ends.OrdersOn.{table_later}
 use Rattle.papaya_executor.specs.Ending.{EndingStepsFrom, EndingComesTo}
 use Rattle.papaya_executor.specs.IsAt.{Scene, IsAt, slot_of}

@@ -24,7 +24,6 @@ use Rattle.papaya_effects.specs.declared.role.Role.TheVariants as role
 use Rattle.papaya_histories.specs.Given.Finishes.Endings.{Finishing}
 use Rattle.papaya_histories.specs.Given.Finishes.FactsEnds.{events_of}
 use Rattle.papaya_histories.specs.Given.Finishes.Makings.{Beginning}
-use Rattle.papaya_histories.specs.Given.Finishes.Maps.{Standing}
 use Rattle.papaya_executor.specs.Ending.{EndingComesTo, EndingLeads}
 use Rattle.papaya_executor.specs.IsAt.{Scene, IsAt, work_of}
 use Rattle.papaya_executor.specs.Making.{MakingLeads}

@@ -5,7 +5,6 @@ use Rattle.std.specs.List.{AllByRecursion}
 use Rattle.std.proofs.Common.{refl, ap, sym, subst, ◌∙◌, inl, inr}
 use Rattle.seize_words.specs.SlotWords.{slot_word}
 use Rattle.papaya_histories.specs.Given.Seize.declared.states.TheConstants.{HEAD}
-use Rattle.papaya_histories.specs.Given.Tables.declared.node.Node.{Node}
 use Rattle.papaya_histories.specs.Given.Tables.declared.setting.Setting.{Setting}
 use Rattle.papaya_histories.specs.Given.Raw.declared.machines.end_map.EndMap.{EndMap}
 use Rattle.papaya_histories.specs.Given.Resize.declared.new_map.NewMap.{NewMap}
