@@ -1,5 +1,6 @@
 mod Beginning
 mod Remaining
+mod Reached
 pub mod OfCalls
 mod Ended
 mod Forms
@@ -19,4 +20,3 @@ pub mod OfMakings
 pub mod OfAll
 pub mod OfSetups
 pub mod Joined
-mod Reached

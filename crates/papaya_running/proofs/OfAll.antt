@@ -1,6 +1,6 @@
 -- Events that reclaim all keep their promises, and a run goes on with them.
-use Rattle.std.specs.Prelude.{◌≡◌, ◌⊎◌, ◌<◌, ◌^◌, nat_lt, ℕ, suc, Bool, true, false, List, [], ◌∷◌, None, Result, Ok, Err, IfOk, slice_index_or, if◌then◌else◌}
-use Rattle.std.proofs.Common.{refl, ap, sym, subst, inl, inr, ◌∙◌}
+use Rattle.std.specs.Prelude.{◌≡◌, ◌≤◌, ◌⊎◌, ◌<◌, ◌^◌, nat_lt, ℕ, suc, Bool, true, false, List, [], ◌∷◌, None, Result, Ok, Err, IfOk, slice_index_or, if◌then◌else◌}
+use Rattle.std.proofs.Common.{refl, ap, sym, subst, inl, inr, ◌∙◌, arith}
 use Rattle.seize_words.specs.declared.fault.Fault.TheVariants.{Busy}
 use Rattle.papaya_histories.specs.Given.Seize.ReclaimAll.{clearing, reclaiming_all}
 use Rattle.papaya_histories.specs.Given.Seize.World.{World}
@@ -45,12 +45,14 @@ use Rattle.papaya_mapping.proofs.AllGiven.{may_reclaim, nobody_has}
 use Rattle.papaya_scheduler.proofs.Rights.{entry, entry_is}
 use Rattle.papaya_running.specs.Asked.{Holds, is_of_calls, is_of_maps}
 use Rattle.papaya_running.specs.OfAll.{KeepsAll}
+use Rattle.papaya_works.proofs.Reached.{all_note_more}
 use Rattle.papaya_running.specs.OfCalls.{Runs, RunsOn}
 use Rattle.papaya_running.proofs.OfAll.Behind.{behind_so}
 use Rattle.papaya_running.proofs.OfAll.Chain.{AllComes, all_back, all_come, all_comes, is_over, leads, over_there, step_so, then_now, then_scene}
 use Rattle.papaya_running.proofs.OfCalls.Scenes.{AreNamed, its_named, stands_in}
 use Rattle.papaya_running.proofs.OfRows.Lone.{alone_follows}
 use Rattle.papaya_running.proofs.OfRows.Quiet.{IsStill, still_keeps}
+use Rattle.papaya_running.proofs.Reached.{reached_after}
 use Rattle.papaya_running.proofs.Remaining.{counted_in, gives_all as gives_all_in}
 pub mod Chain
 pub mod Behind
@@ -209,6 +211,10 @@ module _ {K V S : Type 0} (same : K → K → Bool) (hash : K → ℕ) (terms : 
         by r (inl root) = inl (inl root)
         by r (inr free) = inr free
 
+    -- no bucket of slots is forgotten
+    grows : (known old.logged.notes).buckets ≤ (known new.logged.notes).buckets
+    grows = all_note_more same hash terms (known old.logged.notes) 0 (suc ran.3.0) (all_come (far [] old.logged, first) m s behind) over (to, y.chain, last) (omega arith)
+
     all_keeps : KeepsAs e
     all_keeps so right =
         let its = it right in
@@ -226,6 +232,7 @@ module _ {K V S : Type 0} (same : K → K → Bool) (hash : K → ℕ) (terms : 
               come = events_bring_things K V terms log e run.come its.0.life.finds;
               size = ran.5.0.given.1 ∙ y.size;
               shards = λ n setting is. run.shards n setting (sym (stood n) ∙ is);
+              reached = reached_after same hash terms log e old new right so grows run.reached;
             };
           },
           its.1,

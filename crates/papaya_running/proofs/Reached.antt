@@ -232,3 +232,8 @@ module _ {K V S : Type 0} (same : K → K → Bool) (hash : K → ℕ) (terms : 
       by : (o : Outcome V) → e.outcome ≡ o → AreReached (slots_on o (moment log).slots) (known new.logged.notes)
       by (Slot s) is = with_slot s (used_reaches same hash terms (moment (e ∷ log)) new plays s (slot_is_used terms log e s is right)) still
       by _ is = still
+
+  -- and where it notes the same
+  pub reached_by : ComesRight terms log e → IsPlayed same hash terms (e ∷ log) new → known new.logged.notes ≡ known old.logged.notes
+      → AreReached (moment log).slots (known old.logged.notes) → AreReached (moment (e ∷ log)).slots (known new.logged.notes)
+  reached_by right plays alike so = reached_after right plays (let same_number = ap (λ (k : Known). k.buckets) alike in omega (arith, same_number)) so

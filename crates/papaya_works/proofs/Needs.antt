@@ -1,6 +1,6 @@
 -- All buckets of slots that a registering asks for are in need, wherever its steps have led.
 use Rattle.std.specs.Prelude.{◌≡◌, ◌⊎◌, ◌≤◌, ◌<◌, ◌+◌, ◌&&◌, ◌||◌, ◌++◌, nat_lt, ℕ, Bool, true, false, List, [], ◌∷◌, length, Option, Some, None, if◌then◌else◌}
-use Rattle.std.specs.List.{list_any}
+use Rattle.std.specs.List.{list_all, list_any}
 use Rattle.std.proofs.Common.{refl, ap, sym, subst, inl, inr, ◌∙◌, arith}
 use Rattle.papaya_histories.specs.Given.SeizeWords.declared.at.At.TheVariants.{Root, Used, Slot, Entry as EntryWord, Word}
 use Rattle.papaya_histories.specs.Given.SeizeWords.Place.{capacity}
@@ -17,7 +17,7 @@ use Rattle.papaya_histories.specs.Given.Schedules.declared.effect.Effect.TheVari
 use Rattle.papaya_histories.specs.Given.Schedules.declared.effect.Growth.TheVariants.{ABlock, ABucket}
 use Rattle.papaya_histories.specs.Given.Schedules.Effects.{AtEachEffect, with_effect}
 use Rattle.papaya_histories.specs.Given.Schedules.Growing.{AsksForBucket}
-use Rattle.papaya_histories.specs.Given.Schedules.Handing.{asks_for_bucket}
+use Rattle.papaya_histories.specs.Given.Schedules.Handing.{asks_for_bucket, is_reclaiming}
 use Rattle.papaya_histories.specs.Given.Schedules.InUse.{used_slots}
 use Rattle.papaya_histories.specs.Given.Schedules.Lists.{least_free}
 use Rattle.papaya_histories.specs.Given.Schedules.Moment.{Moment}
@@ -35,6 +35,7 @@ use Rattle.papaya_histories.specs.Given.Executor.declared.row.SlotRow.{SlotRow}
 use Rattle.papaya_histories.specs.Given.Executor.declared.row.SlotRow.TheVariants as rows
 use Rattle.papaya_histories.specs.Given.Executor.declared.worker.Work.{Work}
 use Rattle.papaya_histories.specs.Given.Executor.declared.worker.Work.TheVariants.{OnSlot}
+use Rattle.papaya_histories.proofs.Given.Spots.Unreclaimed.{and_both}
 use Rattle.papaya_legal.specs.Chains.{Chain, Come, RowSteps}
 use Rattle.papaya_legal.specs.Found.{AsksInNeed}
 use Rattle.papaya_legal.proofs.Chains.{chains_keep}
@@ -179,3 +180,19 @@ module _ {K V S : Type 0} (same : K → K → Bool) (hash : K → ℕ) (terms : 
           let both : ◌≡◌ {A = Option (Work K V)} (Some (OnSlot (rows.Registers (record { slot = 0; enters = enters; stands = at.Begin })))) (Some (OnSlot row)) = sym (leads tt).1 ∙ there in
           let is : rows.Registers (record { slot = 0; enters = enters; stands = at.Begin }) ≡ row = cc both in
           (record { slot = 0; enters = enters; stands = at.Begin }, sym is, first_on same hash i s enters apart old new at_s leads)
+
+-- Where no bucket is asked for none is needed.
+one_none : {K V : Type 0} (f : Effect) (m : Moment K V) → asks_for_bucket f ≡ false → AsksInNeed m f
+one_none (Asked ABucket) m is = absurd (cc is)
+one_none _ m is = tt
+
+pub reclaiming_asks_none : (f : Effect) → is_reclaiming f ≡ true → asks_for_bucket f ≡ false
+reclaiming_asks_none (Asked growth) is = absurd (cc is)
+reclaiming_asks_none _ is = refl
+
+module _ {K V : Type 0} (may : Effect → Bool) (none : (f : Effect) → may f ≡ true → asks_for_bucket f ≡ false) where
+  pub none_need : (fs : List Effect) (m : Moment K V) → list_all may fs ≡ true → AtEachEffect AsksInNeed None None fs m
+  none_need [] m all = tt
+  none_need (f ∷ fs) m all =
+      let both = and_both (may f) (list_all may fs) all in
+      (one_none f m (none f both.0), none_need fs (with_effect None None f m) both.1)

@@ -7,6 +7,7 @@ use Rattle.papaya_histories.specs.Given.Schedules.Entry.{Entry}
 use Rattle.papaya_histories.specs.Given.Schedules.Terms.{Terms}
 use Rattle.papaya_histories.specs.Given.Effects.Known.{Known}
 use Rattle.papaya_histories.specs.Given.Effects.declared.acting.Acting.TheVariants as acts
+use Rattle.papaya_legal.specs.AllEvents.{AllCome, AllSteps}
 use Rattle.papaya_legal.specs.Chains.{Chain, CallCome, CallSteps, Come, EndSteps, MakingSteps, RowSteps}
 use Rattle.papaya_legal.proofs.Chains.{chains_keep}
 use Rattle.papaya_remains.proofs.Slots.{buckets_grow}
@@ -38,3 +39,9 @@ module _ {K V S : Type 0} (same : K → K → Bool) (hash : K → ℕ) (terms : 
   ends_note_more i map n from to chain so =
       chains_keep More (EndSteps same hash terms i map)
       (λ x y step its. notes_more first x.notes y.notes _ (ap (λ (z : Come K V S). z.notes.buckets) step.comes) (buckets_grow (acts.Ending map) y.executor.memory.changed x.notes) its) n from to chain so
+
+  pub all_note_more : (i n : ℕ) (from to : AllCome K V S) → Chain (AllSteps same hash terms i) n from to → first.buckets ≤ from.come.notes.buckets → first.buckets ≤ to.come.notes.buckets
+  all_note_more i n from to chain so =
+      chains_keep (λ (x : AllCome K V S). More x.come) (AllSteps same hash terms i)
+      (λ x y step its. notes_more first x.come.notes y.come.notes _ (ap (λ (z : AllCome K V S). z.come.notes.buckets) step.comes)
+      (buckets_grow acts.Row y.come.executor.memory.changed x.come.notes) its) n from to chain so
