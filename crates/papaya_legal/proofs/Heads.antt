@@ -1,2 +1,3 @@
 -- Which slots were taken, over each kind of step.
 pub mod Rows
+pub mod Steps

@@ -82,7 +82,7 @@ module _ {T : Type 0} where
     elsewhere s e = ap (λ w. w (Slot s HEAD)) (wrote m (Slot t HEAD) v some).words ∙ write_apart (words_of m) (Slot t HEAD) v (Slot s HEAD) (off (eqb s t) e)
 
     -- it was taken, and is so still
-    written : 0 < v → 0 < words_of m (Slot t HEAD) → KeepsTaken m m2
+    pub written : 0 < v → 0 < words_of m (Slot t HEAD) → KeepsTaken m m2
     written more had s = by (eqb s t) refl
       where
         there : is_taken m2 t ≡ is_taken m t
