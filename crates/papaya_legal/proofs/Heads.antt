@@ -1,3 +1,4 @@
 -- Which slots were taken, over each kind of step.
 pub mod Rows
 pub mod Steps
+pub mod Registers
