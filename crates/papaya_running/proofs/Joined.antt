@@ -74,7 +74,7 @@ module _ {K V S : Type 0} (same : K → K → Bool) (hash : K → ℕ) (is_first
       right = (it.plays asked.right).right
 
       by : (p q : Bool) → is_of_calls its ≡ p → is_of_rows its ≡ q → RunsOn same hash terms log e new
-      by true q is of_rows = let left = asked.calls is in calls is terms log runs left.1 (record { right = right; but = left.0 })
+      by true q is of_rows = calls is terms log runs (record { right = right; but = asked.calls is })
       by false true is of_rows =
           let left = asked.rows of_rows in
           rows of_rows terms log holds runs it.played (record { right = right; but = left.0 }) (not_begun its played.outcome played.effects.items old new left.1)
