@@ -2,3 +2,4 @@
 pub mod Rows
 pub mod Steps
 pub mod Registers
+pub mod Chains
