@@ -30,3 +30,4 @@ pub mod Legal
 pub mod Found
 pub mod Come
 pub mod Noted
+pub mod KeyEnds
