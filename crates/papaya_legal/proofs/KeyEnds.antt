@@ -54,6 +54,7 @@ use Rattle.papaya_histories.specs.Given.Raw.declared.machines.call.Calling.TheVa
 use Rattle.papaya_histories.specs.Given.Raw.declared.machines.call.KeyCall.{KeyCall}
 use Rattle.papaya_histories.proofs.Given.Points.Calls.Asked.{passed_so}
 use Rattle.papaya_histories.proofs.Given.Rule.Keys.Always.{Always, AlwaysOf, always_if, always_plan_as, always_steps}
+use Rattle.papaya_legal.specs.Values.{IsEnding}
 use Rattle.papaya_histories.specs.Given.SeizeWords.declared.fault.Fault.{Fault}
 
 -- it is not over
@@ -312,12 +313,6 @@ module _ (Founds : ℕ → Type 0) {K V Q : Type 0} where
   key_comes_so asks same hash p may m m2 end steps = always_steps Comes m m2 (call_plan asks same hash p) end (comes_at asks same hash p p.stands refl may) steps
 
 -- Where it has come to its end, or is about to, it stays so.
-
--- it has, or gives up its own block before
-abbrev pub IsEnding : Calling → Type 0
-IsEnding (at.Drops end) = Unit {0}
-IsEnding (at.Over end) = Unit {0}
-IsEnding _ = ⊥
 
 module _ {K V Q : Type 0} where
   abbrev EndsOn : KeyCall K V Q × Called (Node K V) → Type 0

@@ -31,3 +31,4 @@ pub mod Found
 pub mod Come
 pub mod Noted
 pub mod KeyEnds
+pub mod Values
