@@ -31,4 +31,5 @@ pub mod Found
 pub mod Come
 pub mod Noted
 pub mod KeyEnds
+pub mod ValuesFound
 pub mod Values

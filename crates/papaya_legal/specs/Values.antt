@@ -1,5 +1,5 @@
 -- The value that the caller of a call keeps, to tell it back: of `try_insert` its own, and of `compute` the one with which it was told to abort.
-use Rattle.std.specs.Prelude.{◌≡◌, ℕ, Bool, List, [], ◌∷◌, Option, Some, None, Ok}
+use Rattle.std.specs.Prelude.{◌≡◌, ℕ, Bool, List, [], ◌∷◌, Option, Some, Ok}
 use Rattle.papaya_histories.specs.Given.Tables.declared.node.Node.{Node}
 use Rattle.papaya_histories.specs.Given.Tables.declared.setting.Setting.{Setting}
 use Rattle.papaya_histories.specs.Given.Raw.Machine.{machine_replied}
@@ -52,9 +52,9 @@ kept_after its (progress.Unstored node) value = kept its node value
 kept_after its said value = value
 
 module _ (K V : Type 0) where
-  -- The promises: it keeps nothing as its call begins,
+  -- The promises: there is nothing to keep as a call begins,
   abbrev pub ValuesBegin : Type 0
-  ValuesBegin = (setting : Setting) (hash : K → ℕ) (call : Call K V) → KeepsValue call [] (machine_for setting hash call) None
+  ValuesBegin = (setting : Setting) (hash : K → ℕ) (call : Call K V) (value : Option V) → KeepsValue call [] (machine_for setting hash call) value
 
 module _ (K V S : Type 0) (same : K → K → Bool) (hash : K → ℕ) where
   -- after each step by which its call goes on it keeps what it must,

@@ -10,6 +10,7 @@ ghost use Rattle.papaya_legal.specs.SlotEvents.{SlotEventsBegin, SlotEventsGoOn,
 ghost use Rattle.papaya_legal.specs.MapEvents.{MakingEventsGoOn, EndEventsGoOn, MapEventsAreLegal, IdleEventsAreLegal};
 ghost use Rattle.papaya_legal.specs.Found.{RestShowsRetired, RowChainsFind, RowsFindTheirs};
 ghost use Rattle.papaya_legal.specs.Noted.{CallsBringThings, CallsHandNoted, EventsBeginWithThings, EventsBringThings, NothingHasCome};
+ghost use Rattle.papaya_legal.specs.Values.{InsertsTellTheirs, ValuesBegin, ValuesGoOn, ValuesTaken};
 ghost use Rattle.papaya_legal.specs.Over.{AgainEventsEnd, BegunEventsEnd, EndEventsBegin, EndEventsEnd, EndEventsFollow, IdleEventsEnd, MakingEventsBegin, MakingEventsEnd, MakingEventsFollow, QuietEventsEnd, RunsByOtherNames, RunsGoOn, StoppedEventsEnd, ToldEventsEnd};
 ghost use Rattle.papaya_legal.specs.Chains.{CallsChain, EndsChain, MakingsChain, RowsChain, RowsRunToTheirEnds, MakingsRunToTheirEnds, EndsRunToTheirEnds};
 ghost use Rattle.papaya_legal.specs.Promises.{EventsAreLegal};
@@ -148,4 +149,13 @@ pub fn rows_hand_noted<K, V, S>()
     ensures calls { CallsBringThings K V }
     ensures events { EventsBringThings K V }
     ensures noted { (same : K → K → Bool) (hash : K → ℕ) → CallsHandNoted K V S same hash }
+{}
+
+/// The caller of a call keeps the value that it is to tell back: `try_insert`'s own, where that answers that its key is there; and the one with which `compute` was told to abort, which then comes to its end.
+/// So it is as a call begins, after each step by which it goes on, and where it takes a reply.
+pub fn callers_keep_values<K, V, S>()
+    ensures begins { ValuesBegin K V }
+    ensures goes_on { (same : K → K → Bool) (hash : K → ℕ) → ValuesGoOn K V S same hash }
+    ensures taken { (same : K → K → Bool) (hash : K → ℕ) → ValuesTaken K V S same hash }
+    ensures tells { (same : K → K → Bool) (hash : K → ℕ) → InsertsTellTheirs K V S same hash }
 {}
