@@ -22,6 +22,7 @@ pub mod SlotsAfter
 pub mod Over
 pub mod Idle
 pub mod Begun
+pub mod Choices
 pub mod Again
 pub mod MapsOver
 pub mod Chains
@@ -30,6 +31,4 @@ pub mod Legal
 pub mod Found
 pub mod Come
 pub mod Noted
-pub mod KeyEnds
-pub mod ValuesFound
-pub mod Values
+pub mod Heads

@@ -11,4 +11,3 @@ pub mod AllEvents
 pub mod Promises
 pub mod Found
 pub mod Noted
-pub mod Values

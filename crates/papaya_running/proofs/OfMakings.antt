@@ -63,6 +63,7 @@ use Rattle.papaya_logged.specs.declared.logged.Logged.{Logged}
 use Rattle.papaya_logged.proofs.Counted.{counted_making_steps}
 use Rattle.papaya_logged.proofs.GivenBack.{with_maps}
 use Rattle.papaya_rows.proofs.Lists.{found_alike}
+use Rattle.papaya_tables.proofs.Logarithms.{next-power-unique}
 use Rattle.papaya_named.specs.Places.{first_places}
 use Rattle.papaya_scheduler.specs.Mapping.{MayMap, may_make_of}
 use Rattle.papaya_scheduler.specs.Played.{IsPlayed, entry_of}
@@ -77,7 +78,7 @@ use Rattle.papaya_scheduler.proofs.RanOn.{maps_named}
 use Rattle.papaya_scheduler.proofs.Rights.{entry, entry_is}
 use Rattle.papaya_running.specs.Asked.{Holds}
 use Rattle.papaya_running.specs.OfCalls.{HaveShards, Runs, RunsOn}
-use Rattle.papaya_running.specs.OfRows.{HasNotBegun, IsLeftOfRows, KeepsRun, PowersAreOne}
+use Rattle.papaya_running.specs.OfRows.{HasNotBegun, IsLeftOfRows, KeepsRun}
 use Rattle.papaya_running.proofs.OfCalls.Scenes.{AreNamed, its_named, stands_in}
 use Rattle.papaya_running.proofs.OfRows.Chain.{come_as, come_by}
 use Rattle.papaya_running.proofs.OfRows.Lone.{alone_follows}
@@ -253,7 +254,7 @@ module _ {K V S : Type 0} (same : K → K → Bool) (hash : K → ℕ) (terms : 
       (making_comes_on n x mid to z.0 z.1 on.0 was, making_under n x mid to z.0 z.1 on.0 was on.1)
 
 module _ {K V S : Type 0} (same : K → K → Bool) (hash : K → ℕ) (terms : Terms) (log : List (Entry K V)) (own : List ℕ) (mode : ResizeMode) (capacity : ℕ) (played : Played V) (old new : Scheduler K V S)
-    (holds : Holds same hash terms (moment log) old) (run : Runs same hash terms log old) (turn : is_kept_out terms (MakeMap own mode capacity) (moment log) ≡ false) (powers : PowersAreOne) where
+    (holds : Holds same hash terms (moment log) old) (run : Runs same hash terms log old) (turn : is_kept_out terms (MakeMap own mode capacity) (moment log) ≡ false) where
   abbrev event : Event K V
   event = MakeMap own mode capacity
 
@@ -429,7 +430,7 @@ module _ {K V S : Type 0} (same : K → K → Bool) (hash : K → ℕ) (terms : 
 
     mask_is : d.given.mask + 1 ≡ shards_of terms
     mask_is =
-        powers old.given.setup.processors (d.given.mask + 1) holds.counts.processors d.is_given.mask
+        next-power-unique old.given.setup.processors (d.given.mask + 1) d.is_given.mask.0.0 holds.counts.processors d.is_given.mask.0.1 d.is_given.mask.1 d.is_given.mask.2
         ∙ ap (λ (t : Terms). shards_of t) run.stands.given
 
     shards : HaveShards terms new.logged.executor
@@ -486,5 +487,5 @@ module _ {K V S : Type 0} (same : K → K → Bool) (hash : K → ℕ) (event : 
   pub makings_keep : {X : Type 0} → (result : Result (Played V) X) → IfOk result (λ played. WorksOnMap played old new own mode capacity) → IfOk result (λ played. KeepsRun same hash event played old new)
   makings_keep (Ok played) works =
       subst (λ (x : Event K V). KeepsRun same hash x played old new) (sym is)
-      (λ of terms log holds run turn after left begun powers. map_made_keeps same hash terms log own mode capacity played old new holds run turn powers works after left begun)
+      (λ of terms log holds run turn after left begun. map_made_keeps same hash terms log own mode capacity played old new holds run turn works after left begun)
   makings_keep (Err x) works = tt

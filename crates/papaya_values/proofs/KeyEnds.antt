@@ -54,7 +54,7 @@ use Rattle.papaya_histories.specs.Given.Raw.declared.machines.call.Calling.TheVa
 use Rattle.papaya_histories.specs.Given.Raw.declared.machines.call.KeyCall.{KeyCall}
 use Rattle.papaya_histories.proofs.Given.Points.Calls.Asked.{passed_so}
 use Rattle.papaya_histories.proofs.Given.Rule.Keys.Always.{Always, AlwaysOf, always_if, always_plan_as, always_steps}
-use Rattle.papaya_legal.specs.Values.{IsEnding}
+use Rattle.papaya_values.specs.Values.{IsEnding}
 use Rattle.papaya_histories.specs.Given.SeizeWords.declared.fault.Fault.{Fault}
 
 -- it is not over

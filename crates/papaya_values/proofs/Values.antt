@@ -59,9 +59,9 @@ use Rattle.papaya_named.specs.Machines.{aborted_by}
 use Rattle.papaya_named.specs.Seen.{kind_of}
 use Rattle.papaya_named.specs.Telling.{value_of}
 use Rattle.papaya_named.specs.declared.kind.Kind.TheVariants as kind
-use Rattle.papaya_legal.specs.Values.{InsertsTellTheirs, IsEnding, KeepsValue, ValuesBegin, ValuesGoOn, ValuesTaken, kept_after}
-use Rattle.papaya_legal.proofs.KeyEnds.{Comes, IsNotOver, MayFind, ending_stays, key_comes_so}
-use Rattle.papaya_legal.proofs.ValuesFound.{FoundOver, asked_on, called_so, its_pair, may_find, same_call, takes_nothing}
+use Rattle.papaya_values.specs.Values.{InsertsTellTheirs, IsEnding, KeepsValue, ValuesBegin, ValuesGoOn, ValuesTaken, kept_after}
+use Rattle.papaya_values.proofs.KeyEnds.{Comes, IsNotOver, MayFind, ending_stays, key_comes_so}
+use Rattle.papaya_values.proofs.Inserts.{FoundOver, asked_on, called_so, its_pair, may_find, same_call, takes_nothing}
 
 pub values_begin : (K V : Type 0) → ValuesBegin K V
 values_begin K V setting hash (On (TryInsert k v)) value = λ word e. absurd (cc e)

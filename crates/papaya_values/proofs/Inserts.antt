@@ -38,7 +38,7 @@ use Rattle.papaya_histories.specs.Given.Finishes.Maps.{Standing}
 use Rattle.papaya_histories.specs.Given.Follows.Calls.{IsCalled}
 use Rattle.papaya_histories.specs.Given.Hands.Asked.{IsAsked, IsAskedAs, IsAskedOn}
 use Rattle.papaya_histories.specs.Given.Moments.Whole.{ShowsWhole}
-use Rattle.papaya_legal.proofs.KeyEnds.{MayFind}
+use Rattle.papaya_values.proofs.KeyEnds.{MayFind}
 
 -- the word of a block is not that of none
 word_some : (block code : ℕ) → 0 < block → block < 2 ^ 53 → code < 2 ^ 64 → word_to block code ≡ 0 → ⊥
