@@ -258,8 +258,14 @@ module _ {K V S : Type 0} (same : K → K → Bool) (hash : K → ℕ) (terms : 
     row_keeps : RunsOn same hash terms log e new
     row_keeps = record {
       legal = it.0;
-      runs = record { stands = stands_in same hash terms (moment (e ∷ log)) new after name y.scene shown named; shows = it.1; come = events_bring_things K V terms log e run.come it.0.life.finds; size = y.size; shards = shards;
-          reached = reached_after same hash terms log e old new right after grows run.reached };
+      runs = record {
+        stands = stands_in same hash terms (moment (e ∷ log)) new after name y.scene shown named;
+        shows = it.1;
+        come = events_bring_things K V terms log e run.come it.0.life.finds;
+        size = y.size;
+        shards = shards;
+        reached = reached_after same hash terms log e old new right after grows run.reached;
+      };
     }
 
   -- and so it is of one that has done nothing
