@@ -64,11 +64,7 @@ of_room calls.Retain = refl
 of_room calls.Len = refl
 of_room calls.Walk = refl
 
-module _ {K V S : Type 0} (same : K → K → Bool) (hash : K → ℕ) (name : ℕ → List ℕ) (terms : Terms) (log : List (Entry K V)) (event : Event K V) (beginning : Moment K V)
-    (map i : ℕ) (c : CallThere K V) (place : ℕ) (c_is : call_of (name i) beginning ≡ Some c) (moments : List (Moment K V)) where
-  abbrev Come : ℕ → List Effect → Scheduler K V S → Type 0
-  Come n fs p = HasCome same hash name terms log event beginning map i c place n fs p
-
+module _ {K V : Type 0} (name : ℕ → List ℕ) (terms : Terms) (beginning : Moment K V) (map i : ℕ) (c : CallThere K V) (moments : List (Moment K V)) where
   -- what is asked of effects, by what is asked of the call as the event begins
   abbrev Rest : List Effect → Moment K V → Type 0
   Rest fs m = FindStill terms moments (name i) map fs m (is_unsettled c beginning)
@@ -95,6 +91,11 @@ module _ {K V S : Type 0} (same : K → K → Bool) (hash : K → ℕ) (name : �
 
       spaced : FindSpace (name i) map xs m × FindSpace (name i) map ys (with_effects (Some (name i)) (Some map) xs m)
       spaced = each_parts (Some (name i)) (Some map) (Each FindsSpace) xs ys m rest.space
+
+module _ {K V S : Type 0} (same : K → K → Bool) (hash : K → ℕ) (name : ℕ → List ℕ) (terms : Terms) (log : List (Entry K V)) (event : Event K V) (beginning : Moment K V)
+    (map i : ℕ) (c : CallThere K V) (place : ℕ) (c_is : call_of (name i) beginning ≡ Some c) (moments : List (Moment K V)) where
+  abbrev Come : ℕ → List Effect → Scheduler K V S → Type 0
+  Come n fs p = HasCome same hash name terms log event beginning map i c place n fs p
 
   module _ (n : ℕ) (mid after : List Effect) (p new : Scheduler K V S) (come : Come n mid p) (step : IsStep same hash place mid after p new) where
     abbrev here : come.scene.calls map i ≡ Some come.under
@@ -131,7 +132,7 @@ module _ {K V S : Type 0} (same : K → K → Bool) (hash : K → ℕ) (name : �
         ∙ ap (λ (b : Bool). is_reservation c.call || not b) (chunks_still (Some (name i)) (Some map) mid beginning c.map)
 
     -- those of one step find it
-    step_finds : Rest its_did come.now → All its_did come.now
+    step_finds : Rest name terms beginning map i c moments its_did come.now → All name terms beginning map i c moments its_did come.now
     step_finds rest =
         let led = leads same hash name terms log event beginning map i c place n mid after p new come step in
         steps_find_all K V S same hash name come.now (known p.logged.notes) come.scene p.logged.executor new.logged.executor come.shown.is_at come.midst.calls.whole come.midst.calls.kept map i come.under
@@ -141,15 +142,15 @@ module _ {K V S : Type 0} (same : K → K → Bool) (hash : K → ℕ) (name : �
         (subst (λ (b : Bool). FindStill terms moments (name i) map its_did come.now b) (sym same_settled) rest))
 
     -- and so do all, where those before do
-    pub all_find : (Rest mid beginning → All mid beginning) → Rest after beginning → All after beginning
+    pub all_find : (Rest name terms beginning map i c moments mid beginning → All name terms beginning map i c moments mid beginning) → Rest name terms beginning map i c moments after beginning → All name terms beginning map i c moments after beginning
     all_find before rest =
-        let parts = parts_still mid its_did beginning (subst (λ (fs : List Effect). Rest fs beginning) after_is rest) in
-        subst (λ (fs : List Effect). All fs beginning) (sym after_is)
+        let parts = parts_still name terms beginning map i c moments mid its_did beginning (subst (λ (fs : List Effect). Rest name terms beginning map i c moments fs beginning) after_is rest) in
+        subst (λ (fs : List Effect). All name terms beginning map i c moments fs beginning) (sym after_is)
         (several_find_all K V terms moments (name i) map mid its_did beginning (before parts.0)
-        (subst (λ (x : Moment K V). All its_did x) come.midst.worked (step_finds (subst (λ (x : Moment K V). Rest its_did x) (sym come.midst.worked) parts.1))))
+        (subst (λ (x : Moment K V). All name terms beginning map i c moments its_did x) come.midst.worked (step_finds (subst (λ (x : Moment K V). Rest name terms beginning map i c moments its_did x) (sym come.midst.worked) parts.1))))
 
   module _ (first : Scheduler K V S) (start : Come 0 [] first) where
-    pub gone_find : (n : ℕ) (after : List Effect) (p : Scheduler K V S) → GoneFor same hash place n [] after first p → Rest after beginning → All after beginning
-    gone_find zero after p gone rest = subst (λ (fs : List Effect). All fs beginning) gone.0 tt
+    pub gone_find : (n : ℕ) (after : List Effect) (p : Scheduler K V S) → GoneFor same hash place n [] after first p → Rest name terms beginning map i c moments after beginning → All name terms beginning map i c moments after beginning
+    gone_find zero after p gone rest = subst (λ (fs : List Effect). All name terms beginning map i c moments fs beginning) gone.0 tt
     gone_find (suc n) after p (mid, q, outcome, gone, on, step) rest =
         all_find n mid after q p (has_come same hash name terms log event beginning map i c place first start n mid q gone) (as_told same hash step) (gone_find n mid q gone) rest
