@@ -15,5 +15,5 @@ returns-clause-room g c = λ xs has. making_room_by {S = g.row.S.Denot} _ _ c.ar
 pub returns-clause-ran : goal.returns-clause-ran
 returns-clause-ran g c =
     let r = c.requires in
-    subst (λ (x : Reserve). HasCome (for_room_plan _) (record { reserve = x; hasher = c.args.hasher }) c.args.memory.now c.run.new.memory c.run.result) c.new-reserve.ensures
+    subst (λ (x : Reserve). HasCome (for_room_plan g.S.Hashes.hash) (record { reserve = x; hasher = c.args.hasher }) c.args.memory.now c.run.new.memory c.run.result) c.new-reserve.ensures
     (_, making_room_ends {S = g.row.S.Denot} _ _ c.args.hasher c.args.setting _ r.0 r.1 _ _ c.new-reserve.ensures, c.run.ensures)
