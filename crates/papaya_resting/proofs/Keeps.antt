@@ -57,7 +57,7 @@ module _ {K V S : Type 0} (m0 m1 : Mem (Node K V)) (none : NoneCame m0 m1) (same
   abbrev HoldsWith : List (K × V) → Type 0
   HoldsWith stored = HoldsOn stored xs (held_in m0) (held_in m2)
 
-  module _ {Q : Type 0} (asks : Q → K → Bool) {its_class : K → Bool} {its_given : Given K V} where
+  module _ {Q : Type 0} (asks : Q → K → Bool) (its_class : K → Bool) (its_given : Given K V) where
     abbrev Stopped : Result Stop Fault → Type 0
     Stopped = HasStopped asks same hashes b setting m1 its_class its_given m2
 
