@@ -1,18 +1,23 @@
 -- A step after which a copier makes a table writes no root: what writes it makes none.
-use Rattle.std.specs.Prelude.{◌≡◌, ℕ, Bool, Ok, Err, ◌⊎◌}
-use Rattle.std.proofs.Common.{refl, ap, sym, subst, inl, inr}
-use Rattle.papaya_histories.specs.Given.SeizeWords.Mem.{Mem}
-use Rattle.papaya_histories.specs.Given.SeizeWords.Op.{Exchanged, Made, Make, Out}
-use Rattle.papaya_histories.specs.Given.SeizeWords.Plan.{Plan}
+use Rattle.std.specs.Prelude.{◌≡◌, ℕ, ◌==◌, Bool, true, false, Some, Ok, Err, ◌⊎◌, if◌then◌else◌}
+use Rattle.std.proofs.Common.{refl, ap, sym, subst, ◌∙◌, inl, inr}
+use Rattle.papaya_histories.specs.Given.SeizeWords.Mem.{Gives, Mem, value_at, word_at}
+use Rattle.papaya_histories.specs.Given.SeizeWords.Op.{Exchanged, Found, Load, Made, Make, Out}
+use Rattle.papaya_histories.specs.Given.SeizeWords.Plan.{Ends, Now, Plan, Seeing}
+use Rattle.papaya_histories.specs.Given.SeizeWords.Word.{block_in}
 use Rattle.papaya_histories.specs.Given.Seize.declared.progress.Progress.{Progress as Counting}
 use Rattle.papaya_histories.specs.Given.Seize.declared.progress.Progress.TheVariants as progress
+use Rattle.papaya_histories.specs.Given.Tables.Nodes.{table_seen}
+use Rattle.papaya_histories.specs.Given.Tables.TablePlaces.{at_word}
+use Rattle.papaya_histories.specs.Given.Tables.declared.lengths.Reason.TheVariants.{NoPlace}
 use Rattle.papaya_histories.specs.Given.Tables.declared.node.Node.{Node}
 use Rattle.papaya_histories.specs.Given.Tables.declared.table.Table.{Table}
+use Rattle.papaya_histories.specs.Given.Tables.declared.table_words.TheConstants.{NEXT}
 use Rattle.papaya_histories.specs.Given.Resize.Copier as copiers
 use Rattle.papaya_histories.specs.Given.Resize.Copier.{copier_plan}
-use Rattle.papaya_histories.specs.Given.Resize.CopierFurther.{grown, remade}
+use Rattle.papaya_histories.specs.Given.Resize.CopierFurther.{anew, grown, remade, replacement_read}
 use Rattle.papaya_histories.specs.Given.Resize.NewTable as tables
-use Rattle.papaya_histories.specs.Given.Resize.NewTable.{counted, new_table_plan}
+use Rattle.papaya_histories.specs.Given.Resize.NewTable.{counted, new_table_plan, table_after}
 use Rattle.papaya_histories.specs.Given.Resize.Sum as sums
 use Rattle.papaya_histories.specs.Given.Resize.Sum.{sum_plan}
 use Rattle.papaya_histories.specs.Given.Resize.declared.copier.Copier.{Copier}
@@ -22,6 +27,7 @@ use Rattle.papaya_histories.specs.Given.Resize.declared.new_table.Making.{Making
 use Rattle.papaya_histories.specs.Given.Resize.declared.new_table.Making.TheVariants as makes
 use Rattle.papaya_histories.specs.Given.Resize.declared.new_table.NewTable.{NewTable}
 use Rattle.papaya_histories.specs.Given.Resize.declared.outcome.Outcome.{Outcome}
+use Rattle.papaya_histories.specs.Given.Resize.declared.outcome.Outcome.TheVariants as outcome
 use Rattle.papaya_histories.specs.Given.Resize.declared.sum.Sum.{Sum}
 use Rattle.papaya_histories.specs.Given.Resize.declared.sum.Summing.{Summing}
 use Rattle.papaya_histories.specs.Given.Resize.declared.sum.Summing.TheVariants as summing
@@ -50,9 +56,10 @@ use Rattle.papaya_histories.specs.Given.Teller.Tells.{StepsTold, told_of}
 use Rattle.papaya_histories.specs.Given.Teller.declared.changed.Changed.{Changed}
 use Rattle.papaya_histories.specs.Given.Teller.declared.changed.Changed.TheVariants as changed
 use Rattle.papaya_histories.specs.Given.Tells.Seen.{seen_of}
-use Rattle.papaya_histories.proofs.Given.Rule.Keys.Always.{AlwaysOf, always_steps}
+use Rattle.papaya_histories.proofs.Given.Rule.Keys.Always.{Always, AlwaysOf, always_ends, always_steps}
 use Rattle.papaya_histories.proofs.Given.Executor.Forgotten.{as_step}
 use Rattle.papaya_histories.proofs.Given.Others.Outcomes.{told_in}
+use Rattle.papaya_finds.proofs.Grown.{number_is}
 use Rattle.papaya_legal.specs.Further.{CallMakes, CopierMakes, MachineMakes, RoomMakes, SweepMakes}
 use Rattle.papaya_legal.proofs.Finding.Making.Calls as calls
 use Rattle.papaya_legal.proofs.Finding.Making.Calls.{CallEnds}
@@ -63,6 +70,26 @@ use Rattle.papaya_legal.proofs.Finding.Making.Rooms.{RoomEnds}
 use Rattle.papaya_legal.proofs.Finding.Making.Sweeps as sweeps
 use Rattle.papaya_legal.proofs.Finding.Making.Sweeps.{SweepEnds}
 use Rattle.papaya_legal.proofs.Finding.Making.Unpromoted.{OffRoot}
+
+-- the copier of a machine
+abbrev pub CallCopier : Calling → Copier → Type 0
+CallCopier (calling.Helps c goal) x = c ≡ x
+CallCopier (calling.Copies c) x = c ≡ x
+CallCopier _ x = ⊥
+
+abbrev pub RoomCopier : Reserving → Copier → Type 0
+RoomCopier (reserving.Copies c) x = c ≡ x
+RoomCopier _ x = ⊥
+
+abbrev pub SweepCopier : Sweeping → Copier → Type 0
+SweepCopier (sweeping.Copies c) x = c ≡ x
+SweepCopier _ x = ⊥
+
+abbrev pub HasCopier : {K V Q : Type 0} → Machine K V Q → Copier → Type 0
+HasCopier (kinds.Key p) x = CallCopier p.stands x
+HasCopier (kinds.Reserve r) x = RoomCopier r.stands x
+HasCopier (kinds.Sweep c) x = SweepCopier c.stands x
+HasCopier (kinds.Count sum) x = ⊥
 
 -- no table is made
 abbrev pub NoTable : NewTable → Type 0
@@ -89,7 +116,7 @@ module _ {K V : Type 0} (m m2 : Mem (Node K V)) (told : Changed) where
   sum_off c (summing.Adds shard total) end s = subst OffRoot (sym s.1.1) tt
   sum_off c (summing.Over count) end s = subst OffRoot (sym s.2) tt
 
-  IsDone : NewTable × Counting Table → Type 0
+  abbrev IsDone : NewTable × Counting Table → Type 0
   IsDone end = (t : Table) × (end.1 ≡ progress.Done t)
 
   linked_off : (n : NewTable) (table : Table) (end : NewTable × Counting Table) → Step (tables.links {T = Node K V} n table) end → IsDone end ⊎ Off
@@ -172,7 +199,7 @@ module _ {K V : Type 0} (m m2 : Mem (Node K V)) (told : Changed) where
     room_at r end (reserving.Copies c) is s =
         let it = told_in m m2 told (reserves.copied r) (copier_plan hash c) end s in
         elim (copier_off hash c it.0 it.2) as (λ _. RoomMakes NoTable end.0.stands ⊎ Off) [
-          | inl none ↦ inl (subst (λ (x : Reserve × Outcome (Node K V) Unit). RoomMakes NoTable x.0.stands) (sym it.1) (rooms.copied_makes NoTable K V r it.0 none))
+          | inl none ↦ inl (subst (λ (x : Reserve × Outcome (Node K V) Unit). RoomMakes NoTable x.0.stands) (sym it.1) (rooms.copied_makes NoTable K V hash (none_goes K V) (record r { stands = reserving.Over }) tt it.0 none))
           | inr off ↦ inr off
         ]
     room_at r end stands is s =
@@ -183,12 +210,24 @@ module _ {K V : Type 0} (m m2 : Mem (Node K V)) (told : Changed) where
     sweep_at c end (sweeping.Copies x) is s =
         let it = told_in m m2 told (sweeps_of.copied c) (copier_plan hash x) end s in
         elim (copier_off hash x it.0 it.2) as (λ _. SweepMakes NoTable end.0.stands ⊎ Off) [
-          | inl none ↦ inl (subst (λ (y : Sweep × Swept (Node K V)). SweepMakes NoTable y.0.stands) (sym it.1) (sweeps.copied_makes NoTable K V c it.0 none))
+          | inl none ↦ inl (subst (λ (y : Sweep × Swept (Node K V)). SweepMakes NoTable y.0.stands) (sym it.1) (sweeps.copied_makes NoTable K V hash (none_goes K V) (record c { stands = sweeping.Over }) tt it.0 none))
           | inr off ↦ inr off
         ]
     sweep_at c end stands is s =
         inl (always_steps (SweepEnds NoTable K V) m m2 (sweeps_of.plan_at hash c stands) end (sweeps.point_makes NoTable K V hash (none_goes K V) c (subst (SweepMakes NoTable) (sym is) tt) stands tt tt)
         (as_step m changed.Nothing (sweeps_of.plan_at hash c stands) m2 told end s))
+
+    calls_end : (e : KeyCall K V K × Called (Node K V)) → CallMakes NoTable e.0.stands → MachineMakes NoTable (of_key {K = K} {V = V} {Q = K} e).0
+    calls_end (p, told) so = so
+
+    rooms_end : (e : Reserve × Outcome (Node K V) Unit) → RoomMakes NoTable e.0.stands → MachineMakes NoTable (of_room {K = K} {V = V} {Q = K} e).0
+    rooms_end (r, outcome) so = so
+
+    sweeps_end : (e : Sweep × Swept (Node K V)) → SweepMakes NoTable e.0.stands → MachineMakes NoTable (of_sweep {K = K} {V = V} {Q = K} e).0
+    sweeps_end (c, told) so = so
+
+    sums_end : (e : Sum × Counting ℕ) → MachineMakes NoTable (of_sum {K = K} {V = V} {Q = K} e).0
+    sums_end (sum, told) = tt
 
     pub machine_off : (before machine : Machine K V K) (said : Progress (Node K V)) → Step (machine_plan asks same hash before) (machine, said) → MachineMakes NoTable machine ⊎ Off
     machine_off (kinds.Key p) machine said s =
@@ -197,30 +236,71 @@ module _ {K V : Type 0} (m m2 : Mem (Node K V)) (told : Changed) where
           | inl none ↦ inl (subst (λ (x : Machine K V K × Progress (Node K V)). MachineMakes NoTable x.0) (sym it.1) (calls_end it.0 none))
           | inr off ↦ inr off
         ]
-      where
-        calls_end : (e : KeyCall K V K × Called (Node K V)) → CallMakes NoTable e.0.stands → MachineMakes NoTable (of_key {K = K} {V = V} {Q = K} e).0
-        calls_end (p, told) so = so
     machine_off (kinds.Reserve r) machine said s =
         let it = told_in m m2 told of_room (reserve_plan hash r) (machine, said) s in
         elim (room_at r it.0 r.stands refl it.2) as (λ _. MachineMakes NoTable machine ⊎ Off) [
           | inl none ↦ inl (subst (λ (x : Machine K V K × Progress (Node K V)). MachineMakes NoTable x.0) (sym it.1) (rooms_end it.0 none))
           | inr off ↦ inr off
         ]
-      where
-        rooms_end : (e : Reserve × Outcome (Node K V) Unit) → RoomMakes NoTable e.0.stands → MachineMakes NoTable (of_room {K = K} {V = V} {Q = K} e).0
-        rooms_end (r, outcome) so = so
     machine_off (kinds.Sweep c) machine said s =
         let it = told_in m m2 told of_sweep (sweep_plan hash c) (machine, said) s in
         elim (sweep_at c it.0 c.stands refl it.2) as (λ _. MachineMakes NoTable machine ⊎ Off) [
           | inl none ↦ inl (subst (λ (x : Machine K V K × Progress (Node K V)). MachineMakes NoTable x.0) (sym it.1) (sweeps_end it.0 none))
           | inr off ↦ inr off
         ]
-      where
-        sweeps_end : (e : Sweep × Swept (Node K V)) → SweepMakes NoTable e.0.stands → MachineMakes NoTable (of_sweep {K = K} {V = V} {Q = K} e).0
-        sweeps_end (c, told) so = so
     machine_off (kinds.Count sum) machine said s =
         let it = told_in m m2 told of_sum (sum_plan sum) (machine, said) s in
         inl (subst (λ (x : Machine K V K × Progress (Node K V)). MachineMakes NoTable x.0) (sym it.1) (sums_end it.0))
-      where
-        sums_end : (e : Sum × Counting ℕ) → MachineMakes NoTable (of_sum {K = K} {V = V} {Q = K} e).0
-        sums_end (sum, told) = tt
+
+    -- one that reads which table follows one that was aborted makes none where one follows
+    module _ (x : Copier) (is : x.stands ≡ copying.Replaces) (some : word_at m (at_word x.target NEXT) ≡ Some 0 → ⊥) where
+      read_some : (end : Copier × Outcome (Node K V) Table) (out : Out (Node K V)) → Gives m (Load (at_word x.target NEXT)) out → Ends (value_at m2) (replacement_read x out) end → CopierMakes NoTable end.0.stands
+      read_some end (Found link) gives e = always_ends (CopierEnds NoTable K V) (value_at m2) (replacement_read x (Found link)) end (by (link == 0) refl) e
+        where
+          by : (q : Bool) → (link == 0) ≡ q
+              → Always (CopierEnds NoTable K V)
+              (if q then Now (record x { stands = copying.Remakes (table_after x.setting x.target NoPlace) }, outcome.Goes) else Seeing (block_in link) (λ (value : Node K V). Now (anew x (table_seen link value), outcome.Goes)))
+          by true none = absurd (some (gives ∙ ap (λ (n : ℕ). Some n) (number_is link 0 none)))
+          by false none = λ value. tt
+      read_some end _ gives e = absurd gives
+
+      copier_none : (end : Copier × Outcome (Node K V) Table) → Step (copier_plan hash x) end → CopierMakes NoTable end.0.stands
+      copier_none end s = let at = subst (λ (p : Copying). Step (copiers.plan_at hash x p) end) is s in read_some end at.0 at.1.0.0 at.2
+
+      inner_none : (c : Copier) (end : Copier × Outcome (Node K V) Table) → c ≡ x → Step (copier_plan hash c) end → CopierMakes NoTable end.0.stands
+      inner_none c end same s = copier_none end (subst (λ (y : Copier). Step (copier_plan hash y) end) same s)
+
+      key_none : (p : KeyCall K V K) (end : KeyCall K V K × Called (Node K V)) (stands : Calling) → CallCopier stands x → Step (calls_of.plan_at asks same hash p stands) end → CallMakes NoTable end.0.stands
+      key_none p end (calling.Helps c goal) its s =
+          let it = told_in m m2 told (helped p goal) (copier_plan hash c) end s in
+          subst (λ (y : KeyCall K V K × Called (Node K V)). CallMakes NoTable y.0.stands) (sym it.1) (calls.helped_makes NoTable p goal it.0 (inner_none c it.0 its it.2))
+      key_none p end (calling.Copies c) its s =
+          let it = told_in m m2 told (copied p) (copier_plan hash c) end s in
+          subst (λ (y : KeyCall K V K × Called (Node K V)). CallMakes NoTable y.0.stands) (sym it.1) (calls.copied_makes NoTable p it.0 (inner_none c it.0 its it.2))
+      key_none p end _ its s = absurd its
+
+      room_none : (r : Reserve) (end : Reserve × Outcome (Node K V) Unit) (stands : Reserving) → RoomCopier stands x → Step (reserves.plan_at hash r stands) end → RoomMakes NoTable end.0.stands
+      room_none r end (reserving.Copies c) its s =
+          let it = told_in m m2 told (reserves.copied r) (copier_plan hash c) end s in
+          subst (λ (y : Reserve × Outcome (Node K V) Unit). RoomMakes NoTable y.0.stands) (sym it.1)
+          (rooms.copied_makes NoTable K V hash (none_goes K V) (record r { stands = reserving.Over }) tt it.0 (inner_none c it.0 its it.2))
+      room_none r end _ its s = absurd its
+
+      sweep_none : (c : Sweep) (end : Sweep × Swept (Node K V)) (stands : Sweeping) → SweepCopier stands x → Step (sweeps_of.plan_at hash c stands) end → SweepMakes NoTable end.0.stands
+      sweep_none c end (sweeping.Copies y) its s =
+          let it = told_in m m2 told (sweeps_of.copied c) (copier_plan hash y) end s in
+          subst (λ (z : Sweep × Swept (Node K V)). SweepMakes NoTable z.0.stands) (sym it.1)
+          (sweeps.copied_makes NoTable K V hash (none_goes K V) (record c { stands = sweeping.Over }) tt it.0 (inner_none y it.0 its it.2))
+      sweep_none c end _ its s = absurd its
+
+      pub machine_none : (before machine : Machine K V K) (said : Progress (Node K V)) → HasCopier before x → Step (machine_plan asks same hash before) (machine, said) → MachineMakes NoTable machine
+      machine_none (kinds.Key p) machine said its s =
+          let it = told_in m m2 told of_key (call_plan asks same hash p) (machine, said) s in
+          subst (λ (y : Machine K V K × Progress (Node K V)). MachineMakes NoTable y.0) (sym it.1) (calls_end it.0 (key_none p it.0 p.stands its it.2))
+      machine_none (kinds.Reserve r) machine said its s =
+          let it = told_in m m2 told of_room (reserve_plan hash r) (machine, said) s in
+          subst (λ (y : Machine K V K × Progress (Node K V)). MachineMakes NoTable y.0) (sym it.1) (rooms_end it.0 (room_none r it.0 r.stands its it.2))
+      machine_none (kinds.Sweep c) machine said its s =
+          let it = told_in m m2 told of_sweep (sweep_plan hash c) (machine, said) s in
+          subst (λ (y : Machine K V K × Progress (Node K V)). MachineMakes NoTable y.0) (sym it.1) (sweeps_end it.0 (sweep_none c it.0 c.stands its it.2))
+      machine_none (kinds.Count sum) machine said its s = absurd its
