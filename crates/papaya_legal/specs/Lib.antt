@@ -11,5 +11,6 @@ pub mod AllEvents
 pub mod Promises
 pub mod Found
 pub mod Further
+pub mod Nexts
 pub mod Finding
 pub mod Rests

@@ -11,3 +11,4 @@ pub mod Steps
 pub mod Between
 pub mod Unpromoted
 pub mod OffRoot
+pub mod Ahead

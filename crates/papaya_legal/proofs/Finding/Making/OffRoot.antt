@@ -1,8 +1,8 @@
 -- A step after which a copier makes a table writes no root: what writes it makes none.
-use Rattle.std.specs.Prelude.{◌≡◌, ℕ, ◌==◌, Bool, true, false, Some, Ok, Err, ◌⊎◌, if◌then◌else◌}
+use Rattle.std.specs.Prelude.{◌≡◌, ℕ, ◌+◌, ◌%◌, ◌^◌, ◌==◌, Bool, true, false, Some, Ok, Err, ◌⊎◌, if◌then◌else◌}
 use Rattle.std.proofs.Common.{refl, ap, sym, subst, ◌∙◌, inl, inr}
 use Rattle.papaya_histories.specs.Given.SeizeWords.Mem.{Gives, Mem, value_at, word_at}
-use Rattle.papaya_histories.specs.Given.SeizeWords.Op.{Exchanged, Found, Load, Made, Make, Out}
+use Rattle.papaya_histories.specs.Given.SeizeWords.Op.{Exchanged, Found, Load, Made, Make, Out, Roomed, Stored, Taken}
 use Rattle.papaya_histories.specs.Given.SeizeWords.Plan.{Ends, Now, Plan, Seeing}
 use Rattle.papaya_histories.specs.Given.SeizeWords.Word.{block_in}
 use Rattle.papaya_histories.specs.Given.Seize.declared.progress.Progress.{Progress as Counting}
@@ -11,8 +11,9 @@ use Rattle.papaya_histories.specs.Given.Tables.Nodes.{table_seen}
 use Rattle.papaya_histories.specs.Given.Tables.TablePlaces.{at_word}
 use Rattle.papaya_histories.specs.Given.Tables.declared.lengths.Reason.TheVariants.{NoPlace}
 use Rattle.papaya_histories.specs.Given.Tables.declared.node.Node.{Node}
+use Rattle.papaya_histories.specs.Given.Tables.declared.node.Node.TheVariants as node
 use Rattle.papaya_histories.specs.Given.Tables.declared.table.Table.{Table}
-use Rattle.papaya_histories.specs.Given.Tables.declared.table_words.TheConstants.{NEXT}
+use Rattle.papaya_histories.specs.Given.Tables.declared.table_words.TheConstants.{NEXT, PLACES}
 use Rattle.papaya_histories.specs.Given.Resize.Copier as copiers
 use Rattle.papaya_histories.specs.Given.Resize.Copier.{copier_plan}
 use Rattle.papaya_histories.specs.Given.Resize.CopierFurther.{anew, grown, remade, replacement_read}
@@ -122,11 +123,15 @@ module _ {K V : Type 0} (m m2 : Mem (Node K V)) (told : Changed) where
   linked_off : (n : NewTable) (table : Table) (end : NewTable × Counting Table) → Step (tables.links {T = Node K V} n table) end → IsDone end ⊎ Off
   linked_off n table end (Exchanged (Ok found), took, ends) = inl (table, ap (λ (x : NewTable × Counting Table). x.1) ends)
   linked_off n table end (Exchanged (Err found), took, ends) = inr (subst OffRoot (sym took.1) tt)
-  linked_off n table end (_, took, ends) = inr (subst OffRoot (sym took.1) tt)
+  linked_off n table end (Found word, took, ends) = inr (subst OffRoot (sym took.1) tt)
+  linked_off n table end (Stored, took, ends) = inr (subst OffRoot (sym took.1) tt)
+  linked_off n table end (Made r, took, ends) = inr (subst OffRoot (sym took.1) tt)
+  linked_off n table end (Taken value, took, ends) = inr (subst OffRoot (sym took.1) tt)
+  linked_off n table end (Roomed r, took, ends) = inr (subst OffRoot (sym took.1) tt)
 
   making_off : (n : NewTable) (p : Making) (end : NewTable × Counting Table) → Step (tables.plan_at {K = K} {V = V} n p) end → IsDone end ⊎ Off
   making_off n (makes.Sums before reason sum) end s = let it = told_in m m2 told (counted n before reason) (sum_plan sum) end s in inr (sum_off sum sum.stands it.0 it.2)
-  making_off n (makes.Makes table) end s = inr (subst OffRoot (sym s.1.1) (made_off _ _ s.0))
+  making_off n (makes.Makes table) end s = inr (subst OffRoot (sym s.1.1) (made_off (node.Table table.len table.limit table.turn) ((table.len + PLACES) % 2 ^ 64) s.0))
   making_off n (makes.Promotes table) end s = inr (subst OffRoot (sym s.1.1) tt)
   making_off n (makes.Links table) end s = linked_off n table end s
   making_off n (makes.Drops table found) end s = inr (subst OffRoot (sym s.1.1) tt)

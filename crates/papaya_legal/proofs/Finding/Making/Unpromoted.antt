@@ -1,5 +1,5 @@
 -- What writes no root promotes no table; and a map of which no table is promoted has a second table still.
-use Rattle.std.specs.Prelude.{◌≡◌, ℕ, ◌<◌, ◌≤◌, ◌==◌, nat_le, Bool, true, false, ◌++◌, List, [], ◌∷◌, filter, length, map as list_map, Option, if◌then◌else◌}
+use Rattle.std.specs.Prelude.{◌≡◌, ℕ, ◌<◌, ◌≤◌, ◌==◌, ◌&&◌, nat_le, nat_lt, Bool, true, false, ◌++◌, List, [], ◌∷◌, filter, find, length, map as list_map, Option, if◌then◌else◌}
 use Rattle.std.specs.List.{AllByRecursion}
 use Rattle.std.proofs.Common.{refl, ap, sym, subst, ◌∙◌, arith, length-append}
 use Rattle.std.proofs.lemmas.List.Elements.{filter-append}
@@ -9,14 +9,15 @@ use Rattle.papaya_histories.specs.Given.Seize.declared.states.TheConstants.{FIRS
 use Rattle.papaya_histories.specs.Given.Tables.declared.table_words.TheConstants.{DEFERRED, NEXT}
 use Rattle.papaya_histories.specs.Given.Schedules.declared.effect.Effect.{Effect}
 use Rattle.papaya_histories.specs.Given.Schedules.declared.effect.Effect.TheVariants as effect
+use Rattle.papaya_histories.specs.Given.Schedules.declared.effect.Growth.TheVariants.{ABucket}
 use Rattle.papaya_histories.specs.Given.Schedules.declared.effect.Spot.{Spot}
 use Rattle.papaya_histories.specs.Given.Schedules.declared.effect.Table.{Table}
 use Rattle.papaya_histories.specs.Given.Schedules.declared.effect.Thing.TheVariants.{APair, ATable}
 use Rattle.papaya_histories.specs.Given.Schedules.Effects.{at_stage, with_effect, with_effects}
 use Rattle.papaya_histories.specs.Given.Schedules.Growing.{HasNext}
-use Rattle.papaya_histories.specs.Given.Schedules.Moment.{IsReclaimed, IsRetired, IsTaken, Moment, Stage, TableThere}
+use Rattle.papaya_histories.specs.Given.Schedules.Moment.{IsReclaimed, IsRetired, IsTaken, MapThere, Moment, Stage, TableThere}
 use Rattle.papaya_histories.specs.Given.Schedules.Things.{same_table}
-use Rattle.papaya_histories.specs.Given.Schedules.Views.{chain_of, first_of, tables_of}
+use Rattle.papaya_histories.specs.Given.Schedules.Views.{first_of, first_or}
 use Rattle.papaya_histories.specs.Given.Teller.declared.changed.Changed.{Changed}
 use Rattle.papaya_histories.specs.Given.Teller.declared.changed.Changed.TheVariants as changed
 use Rattle.papaya_histories.specs.Given.Teller.declared.changed.Kind.{Kind}
@@ -121,7 +122,7 @@ module _ (caller map : ℕ) where
     off_promotes_none (changed.Made k b) off = (tt, made_none k)
     off_promotes_none (changed.Unmade k) off = (tt, tt)
     off_promotes_none (changed.Took b) off = taken_none (known.roles b)
-    off_promotes_none (changed.Roomed bucket had) off = none_if _ [] _ tt (tt, tt)
+    off_promotes_none (changed.Roomed bucket had) off = none_if (had && nat_lt bucket known.buckets) [] (effect.Asked ABucket ∷ []) tt (tt, tt)
 
 -- Of the tables of a map from a turn on there are no fewer after an effect.
 
@@ -168,6 +169,19 @@ module _ {K V : Type 0} (caller : Option (List ℕ)) (acted : Option ℕ) where
   more_from (effect.Retired (APair n)) m first of = omega arith
   more_from (effect.Reclaimed (APair n)) m first of = omega arith
   more_from _ m first of = omega arith
+
+  pub effects_more_from : (effects : List Effect) (m : Moment K V) (first of : ℕ) → many_from first of m.tables ≤ many_from first of (with_effects caller acted effects m).tables
+  effects_more_from [] m first of = omega arith
+  effects_more_from (f ∷ fs) m first of =
+      let one = more_from f m first of in let rest = effects_more_from fs (with_effect caller acted f m) first of in omega (arith, one, rest)
+
+  -- So where maps are as they were, a map has a second table still,
+  pub same_maps_keep_next : (effects : List Effect) (m : Moment K V) → (with_effects caller acted effects m).maps ≡ m.maps → (of : ℕ) → HasNext of m → HasNext of (with_effects caller acted effects m)
+  same_maps_keep_next effects m maps of next =
+      let more = effects_more_from effects m (first_of of m) of in
+      subst (λ (fs : List MapThere). 1 < many_from (first_or (find (λ f. f.number == of) fs)) of (with_effects caller acted effects m).tables) (sym maps) (omega (arith, next, more))
+
+  -- and so it has where no table is promoted.
 
   first_same : (f : Effect) (m : Moment K V) (of : ℕ) → IsNoPromotion f → first_of of (with_effect caller acted f m) ≡ first_of of m
   first_same (effect.Promoted t) m of none = absurd none
