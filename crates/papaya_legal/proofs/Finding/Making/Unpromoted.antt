@@ -126,7 +126,7 @@ module _ (caller map : ℕ) where
 
 -- Of the tables of a map from a turn on there are no fewer after an effect.
 
-abbrev many_from : ℕ → ℕ → List TableThere → ℕ
+abbrev pub many_from : ℕ → ℕ → List TableThere → ℕ
 many_from first of ts = length (filter (λ u. nat_le first u.table.turn) (filter (λ u. u.table.map == of) ts))
 
 staged_from : (t : Table) (to : Stage) (first of : ℕ) (ts : List TableThere) → many_from first of (list_map (at_stage t to) ts) ≡ many_from first of ts
