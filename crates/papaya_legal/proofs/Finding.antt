@@ -9,4 +9,5 @@ pub mod Others
 pub mod Making
 pub mod Links
 pub mod Nexts
+pub mod NextsOthers
 pub mod Rest
