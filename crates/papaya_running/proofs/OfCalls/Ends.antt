@@ -100,7 +100,7 @@ module _ {K V S : Type 0} (same : K → K → Bool) (hash : K → ℕ) (wanted :
         step.said (leads same hash wanted name terms log event beginning map i c place n mid played.effects.items p new played.outcome come step) begins acted
         (follows same hash wanted name terms log event beginning map i c place n mid played.effects.items p new played.outcome come step)
         (λ standing there. one_more standing
-        (mask_is same hash wanted name terms log event beginning map i c place c_is (moments_from c.begun log) n mid played.effects.items p new played.outcome come step standing there))
+        (mask_is same hash wanted name terms log event beginning map i c place c_is n mid played.effects.items p new played.outcome come step standing there))
         (as_said (λ (o : Outcome V). TellsOf same log come.now map by step.said o c.call) tells.1)
       where
         one_more : (standing : Standing K) → standing.setting.mask + 1 ≡ shards_of terms → suc standing.setting.mask ≡ shards_of terms

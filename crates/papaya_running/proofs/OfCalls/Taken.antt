@@ -18,7 +18,7 @@ use Rattle.papaya_histories.specs.Given.Effects.Known.{known}
 use Rattle.papaya_histories.specs.Given.Executor.IsAt.{slot_of}
 use Rattle.papaya_finds.specs.Doing.{takes_steps}
 use Rattle.papaya_legal.specs.Carried.{ComesAlone}
-use Rattle.papaya_legal.specs.Rests.{FindStill, is_unsettled}
+use Rattle.papaya_legal.specs.Rests.{FindStill, is_reservation}
 use Rattle.papaya_legal.proofs.Calls.{call_events_begin_so}
 use Rattle.papaya_scheduler.specs.Played.{IsPlayed, entry_of}
 use Rattle.papaya_named.specs.Seen.{Seen, is_named}
@@ -130,11 +130,11 @@ module _ {K V S : Type 0} (same : K → K → Bool) (hash : K → ℕ) (wanted :
         subst (λ (o : Option (CallThere K V)). IfCall (λ (x : CallThere K V). P x m) o) acting_is
         (subst (λ (b : Moment K V). IfCall (λ (x : CallThere K V). P x b) (acting (caller_of event) b)) (begins played) so)
 
-    rest : FindStill terms (moments_from c.begun log) (name i) map played.effects.items m (is_unsettled c m)
+    rest : FindStill terms (moments_from c.begun log) (name i) map played.effects.items m (is_reservation c.call)
     rest =
-        subst (λ (x : List ℕ). FindStill terms (moments_from c.begun log) x map played.effects.items m (is_unsettled c m)) (ap (λ (z : Seen). z.name) here.as_seen ∙ sym here.way.2)
-        (subst (λ (k : ℕ). FindStill terms (moments_from c.begun log) c.caller k played.effects.items m (is_unsettled c m)) map_is
-        (its_left (λ (x : CallThere K V) (b : Moment K V). FindStill terms (moments_from x.begun log) x.caller x.map played.effects.items b (is_unsettled x b)) left.but.rest))
+        subst (λ (x : List ℕ). FindStill terms (moments_from c.begun log) x map played.effects.items m (is_reservation c.call)) (ap (λ (z : Seen). z.name) here.as_seen ∙ sym here.way.2)
+        (subst (λ (k : ℕ). FindStill terms (moments_from c.begun log) c.caller k played.effects.items m (is_reservation c.call)) map_is
+        (its_left (λ (x : CallThere K V) (b : Moment K V). FindStill terms (moments_from x.begun log) x.caller x.map played.effects.items b (is_reservation x.call)) left.but.rest))
 
     pub taken_on : RunsOn same hash terms log (entry_of event played) new
     taken_on =
@@ -143,8 +143,8 @@ module _ {K V S : Type 0} (same : K → K → Bool) (hash : K → ℕ) (wanted :
         runs_on same hash wanted name terms log event m map i c place c_is (known old.logged.notes) runs.stands.scene runs.shows played by.0 by.2 by.3 new far_on by.5 (begins played)
         (acts ∙ ap (λ (o : Option (CallThere K V)). option_map (λ (x : CallThere K V). x.map) o) acting_is ∙ ap Some map_is) takes by.1 comes_as (never_busy c.call played.outcome comes_as) left.right
         refused (its_left (λ (x : CallThere K V) (b : Moment K V). TellsValue x.call x.replies played.outcome) left.but.values)
-        (all_find same hash wanted name terms log event m map i c place c_is (moments_from c.begun log) by.0 by.2 played.effects.items by.3 new played.outcome far_on by.5
-        (gone_find same hash wanted name terms log event m map i c place c_is (moments_from c.begun log) old start by.0 by.2 by.3 by.4) rest)
+        (all_find same hash wanted name terms log event m map i c place c_is by.0 by.2 played.effects.items by.3 new played.outcome far_on by.5
+        (gone_find same hash wanted name terms log event m map i c place c_is old start by.0 by.2 by.3 by.4) rest)
         slot_so active plays
       where
         slot_so : slot_of_guard (guard_or (acting (caller_of event) (at_work (entry_of event played) m))) (at_work (entry_of event played) m).there ≡ slot_of i
