@@ -14,6 +14,8 @@ pub mod Slots
 pub mod SlotsEnd
 pub mod Maps
 pub mod MapsEnd
+pub mod LeftTold
+pub mod BehindTold
 pub mod CallsAfter
 pub mod CallFinds
 pub mod CallLeaves
@@ -23,9 +25,13 @@ pub mod SlotsAfter
 pub mod Over
 pub mod Idle
 pub mod Begun
+pub mod Choices
 pub mod Again
 pub mod MapsOver
 pub mod Chains
 pub mod OfAll
 pub mod Legal
 pub mod Found
+pub mod Come
+pub mod Noted
+pub mod Heads

@@ -10,6 +10,7 @@ pub mod Chains
 pub mod AllEvents
 pub mod Promises
 pub mod Found
+pub mod Noted
 pub mod Further
 pub mod Nexts
 pub mod Finding

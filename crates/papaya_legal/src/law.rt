@@ -1,26 +1,28 @@
 //! What is promised of each event of a run, whatever calls are under way.
 ghost use Rattle.std.specs.Prelude.{ℕ, Bool};
-ghost use Rattle.papaya_legal.specs.AllEvents.{AllChain, AllEventsBegin, AllFindPairs, AllRunsToItsEnd, SlotsLeaveRoots};
+ghost use Rattle.papaya_legal.specs.AllEvents.{AllChain, AllEventsBegin, AllFindPairs, AllReclaimBySets, AllRunsToItsEnd, BehindIsTold, SlotsLeaveRoots};
 ghost use Rattle.papaya_legal.specs.Between.{CallsBegin, CallsTake, EndsBegin, LikesShow, LogsGrow, MakingsBegin, MapsCome, MapsGo, NamesChange, WalksGoOn, WalksStop};
-ghost use Rattle.papaya_legal.specs.Carried.{RunsBegin, RunsBeginIn};
+ghost use Rattle.papaya_legal.specs.Carried.{EventsTellLeft, RunsBegin, RunsBeginIn};
 ghost use Rattle.papaya_legal.specs.CallEvents.{CallEventsAreLegal, CallEventsBegin, CallEventsEnd, CallEventsFollow, CallEventsGoOn, NextsBegin, WholeCallsBegin};
 ghost use Rattle.papaya_legal.specs.CallRuns.{CallEventsRun, CallsLeaveNothing, StepsFindAll};
 ghost use Rattle.papaya_legal.specs.CallSwept.{CallsAreSwept};
 ghost use Rattle.papaya_legal.specs.SlotEvents.{SlotEventsBegin, SlotEventsGoOn, SlotEventsAreLegal, SlotEventsEnd};
 ghost use Rattle.papaya_legal.specs.MapEvents.{MakingEventsGoOn, EndEventsGoOn, MapEventsAreLegal, IdleEventsAreLegal};
 ghost use Rattle.papaya_legal.specs.Found.{RestShowsRetired, RowChainsFind, RowsFindTheirs};
-ghost use Rattle.papaya_legal.specs.Over.{AgainEventsEnd, BegunEventsEnd, EndEventsBegin, EndEventsEnd, EndEventsFollow, IdleEventsEnd, MakingEventsBegin, MakingEventsEnd, MakingEventsFollow, QuietEventsEnd, RunsByOtherNames, RunsGoOn, StoppedEventsEnd, ToldEventsEnd};
+ghost use Rattle.papaya_legal.specs.Noted.{CallsBringThings, CallsHandNoted, EventsBeginWithThings, EventsBringThings, NothingHasCome};
+ghost use Rattle.papaya_legal.specs.Over.{AgainEventsEnd, BegunEventsEnd, ChoicesEnd, EndEventsBegin, EndEventsEnd, EndEventsFollow, IdleEventsEnd, MakingEventsBegin, MakingEventsEnd, MakingEventsFollow, QuietEventsEnd, RunsByOtherNames, RunsGoOn, StoppedEventsEnd, ToldEventsEnd};
 ghost use Rattle.papaya_legal.specs.Chains.{CallsChain, EndsChain, MakingsChain, RowsChain, RowsRunToTheirEnds, MakingsRunToTheirEnds, EndsRunToTheirEnds};
-ghost use Rattle.papaya_legal.specs.Promises.{EventsAreLegal};
+ghost use Rattle.papaya_legal.specs.Promises.{BoundedEventsAreLegal, EventsAreLegal};
 
 /// Before all events a moment shows all by which the first event keeps its promises, whatever was chosen of numbers of blocks. A run goes on with an event that comes to what is right, whose life is as it must be, whose effects store
 /// one pair at most, each, and by which all is back if it reclaims all, if the moment after it shows what it must of calls, readings, sections and sets; and by other names of callers that have
-/// no call.
+/// no call. After each event that goes in order the pairs that ended maps have left over are those that the moment tells.
 pub fn runs_begin<K, V>()
     ensures begins { RunsBegin K V }
     ensures begins_in { RunsBeginIn K V }
     ensures goes_on { (same : K → K → Bool) → RunsGoOn K V same }
     ensures names { (same : K → K → Bool) → RunsByOtherNames K V same }
+    ensures left { EventsTellLeft K V }
 {}
 
 /// What a moment shows of calls it shows, too, where a call begins as the next event does, takes a reply, is asked as a walk for its next pair, or is given up; where a map comes, its making begins,
@@ -72,15 +74,16 @@ pub fn slot_events<K, V, S>()
     ensures ends { (same : K → K → Bool) → SlotEventsEnd K V same }
 {}
 
-/// As long as reclaiming all is on slots, what is behind the roots stays there. An event that reclaims all is in its midst where that begins, if what is left over is behind the roots, and wherever a
-/// chain of its steps has led; each pair that it has reclaimed there was handed over, or left over, if no call was under way, and what was behind the roots was left over. Once its last step has said that all is reclaimed, all is back, and what ended maps had left over came last; the event is legal but for what it comes to, and a run goes on with
-/// it: if what was behind the roots is what the moment said, each pair that is reclaimed was handed over or left over, and the work on
-/// slots has reclaimed what the waiting sets of blocks say.
+/// As long as reclaiming all is on slots, what is behind the roots stays there. Where that is noted as the pairs that the moment tells, those that are left over are behind the roots, in that order. An event that reclaims all is in its midst where that begins, if what is left over is behind the roots, and wherever a
+/// chain of its steps has led; each pair that it has reclaimed there was handed over, or left over, if no call was under way, and what was behind the roots was left over. Once its last step has said that all is reclaimed, the work on slots has reclaimed what the waiting sets of blocks say, all is back, and what ended maps had left over came last; the event is legal but for what
+/// it comes to, and a run goes on with it: if what was behind the roots is what the moment said, and each pair that is reclaimed was handed over or left over.
 pub fn reclaiming_all<K, V, S>()
     ensures slots { (same : K → K → Bool) (hash : K → ℕ) → SlotsLeaveRoots K V S same hash }
+    ensures told { BehindIsTold K V }
     ensures begins { (same : K → K → Bool) (hash : K → ℕ) → AllEventsBegin K V S same hash }
     ensures chain { (same : K → K → Bool) (hash : K → ℕ) → AllChain K V S same hash }
     ensures pairs { (same : K → K → Bool) (hash : K → ℕ) → AllFindPairs K V S same hash }
+    ensures sets { (same : K → K → Bool) (hash : K → ℕ) → AllReclaimBySets K V S same hash }
     ensures ends { (same : K → K → Bool) (hash : K → ℕ) → AllRunsToItsEnd K V S same hash }
 {}
 
@@ -100,12 +103,13 @@ pub fn map_events<K, V, S>()
 {}
 
 /// An event that does nothing keeps its promises, as one that is kept out does. The moment after it shows all that the next event needs, if it is like one that does; so it is where calls and maps are as
-/// they were. An event that begins a call, has one say again what it asks, or that it is ready, tells it a reply that it takes, or gives up a walk that is ready, is legal but for what it comes to, and the
+/// they were. So it is, too, once an event has chosen the number of a block. An event that begins a call, has one say again what it asks, or that it is ready, tells it a reply that it takes, or gives up a walk that is ready, is legal but for what it comes to, and the
 /// moment after it shows all that the next one needs.
 pub fn idle_events<K, V, S>()
     ensures legal { (same : K → K → Bool) → IdleEventsAreLegal K V same }
     ensures quiet { (same : K → K → Bool) → QuietEventsEnd K V same }
     ensures ends { (same : K → K → Bool) → IdleEventsEnd K V same }
+    ensures chosen { (same : K → K → Bool) → ChoicesEnd K V same }
     ensures begun { (same : K → K → Bool) (hash : K → ℕ) → BegunEventsEnd K V S same hash }
     ensures again { (same : K → K → Bool) (hash : K → ℕ) → AgainEventsEnd K V S same hash }
     ensures told { (same : K → K → Bool) (hash : K → ℕ) → ToldEventsEnd K V S same hash }
@@ -126,9 +130,11 @@ pub fn steps_chain<K, V, S>()
     ensures whole_rows { (same : K → K → Bool) (hash : K → ℕ) → RowsRunToTheirEnds K V S same hash }
 {}
 
-/// An event that comes to what is right, makes the steps that it may, and keeps the promises that need what is under way, is legal: little waits after it.
+/// An event that comes to what is right, makes the steps that it may, and keeps the promises that need what is under way, is legal: little waits after it, by what the scene has where nobody is there, or
+/// by what is bounded then.
 pub fn events_are_legal<K, V>()
     ensures legal { EventsAreLegal K V }
+    ensures bounded { BoundedEventsAreLegal K V }
 {}
 
 /// What a row on a slot reclaims was handed over, and so it finds what it must, if it asks for a bucket of slots in need: each step of it, and all of them. While no row is under way the moment shows what is retired, if no
@@ -137,4 +143,14 @@ pub fn rows_find_theirs<K, V, S>()
     ensures found { (same : K → K → Bool) (hash : K → ℕ) → RowsFindTheirs K V S same hash }
     ensures chain { (same : K → K → Bool) (hash : K → ℕ) → RowChainsFind K V S same hash }
     ensures retired { (same : K → K → Bool) (hash : K → ℕ) → RestShowsRetired K V S same hash }
+{}
+
+/// Each pair that was stored, and each table of a map, came into a map, by the log of a run: before all events, after what a call does, and after an event whose effects find what they must. So what a
+/// row hands over that begins with a step of a call is noted as such a thing, and it does so under the slot of its caller.
+pub fn rows_hand_noted<K, V, S>()
+    ensures nothing { NothingHasCome K V }
+    ensures begins { EventsBeginWithThings K V }
+    ensures calls { CallsBringThings K V }
+    ensures events { EventsBringThings K V }
+    ensures noted { (same : K → K → Bool) (hash : K → ℕ) → CallsHandNoted K V S same hash }
 {}

@@ -9,6 +9,7 @@ pub mod Mays
 mod LawfulKeys
 mod Left
 mod Logs
+mod AsRun
 mod Turns
 mod Counts
 mod Held
@@ -16,4 +17,6 @@ pub mod OfRows
 pub mod OfEnds
 pub mod OfMakings
 pub mod OfAll
+pub mod OfSetups
 pub mod Joined
+mod Reached

@@ -35,23 +35,28 @@ use Rattle.papaya_histories.specs.Given.Finishes.FactsEnds.{taken_by as taken_of
 use Rattle.papaya_histories.specs.Given.Finishes.Maps.{Standing}
 use Rattle.papaya_histories.specs.Given.Finishes.Orders.{pairs_of}
 use Rattle.papaya_histories.specs.Given.Rule.Chart.{Chart}
+use Rattle.papaya_histories.specs.Given.Rule.InWorld.{IsMapIn}
+use Rattle.papaya_histories.proofs.Given.Rule.Laws.{current_is_known}
+use Rattle.papaya_histories.specs.Given.Follows.Maps.{ShowsMap}
+use Rattle.papaya_effects.specs.declared.role.Role.TheVariants as role
 use Rattle.papaya_histories.specs.Given.Moments.Endings.{IsOfIts}
 use Rattle.papaya_histories.specs.Given.Moments.WholeEnds.{all_ended, tables_ended}
 use Rattle.papaya_histories.specs.Given.Others.Endings.{ending_after}
 use Rattle.papaya_executor.proofs.Fresh.{no_ending_yet}
+use Rattle.papaya_legal.proofs.Come.{events_bring_things}
 use Rattle.papaya_legal.specs.CallEvents.{IsLegalBut}
 use Rattle.papaya_legal.specs.Carried.{ShowsRun}
 use Rattle.papaya_legal.specs.Chains.{Chain, Come, EndSteps}
 use Rattle.papaya_legal.specs.MapEvents.{InEndEvent}
 use Rattle.papaya_legal.proofs.Chains.{ends_chain, ends_run_to_their_ends}
 use Rattle.papaya_legal.proofs.MapsOver.{end_events_begin_so}
-use Rattle.papaya_remains.specs.Remains.{has_some}
 use Rattle.papaya_remains.proofs.Numbered.{made_stays}
-use Rattle.papaya_logged.specs.Ends.{EndCame, EndIsBegun, NotedStill, NotesMap, ended_as, is_done, left_so}
+use Rattle.papaya_logged.specs.Ends.{EndCame, EndIsBegun, NotedStill, NotesMap, ended_as, is_done}
 use Rattle.papaya_logged.specs.Goes.{EndGoes, EndOn, Far, GoesFor, far}
 use Rattle.papaya_logged.specs.Shown.{IsCounted, IsShown}
-use Rattle.papaya_logged.specs.Waits.{TellsWaiting}
+use Rattle.papaya_logged.specs.Waits.{TellsLeft, TellsWaiting}
 use Rattle.papaya_logged.proofs.Counted.{counted_end_steps}
+use Rattle.papaya_logged.proofs.LeftNoted.{endings_note_left}
 use Rattle.papaya_logged.proofs.EndSteps.{did_end, end_there, ends_alone, noted_on}
 use Rattle.papaya_rows.proofs.Lists.{found_has}
 use Rattle.papaya_scheduler.specs.Mapping.{AreApart}
@@ -64,6 +69,7 @@ use Rattle.papaya_mapping.proofs.MapsEnded.{here as ending_here, no_call, no_oth
 use Rattle.papaya_mapping.proofs.MapLists.{by_recursion}
 use Rattle.papaya_scheduler.proofs.Maps.{number_is}
 use Rattle.papaya_scheduler.proofs.Rights.{entry, entry_is}
+use Rattle.papaya_works.proofs.Ends.{ends_find_all}
 use Rattle.papaya_running.specs.Asked.{Holds}
 use Rattle.papaya_running.specs.OfCalls.{HaveShards, Runs, RunsOn}
 use Rattle.papaya_running.specs.OfRows.{IsLeftOfRows, KeepsRun}
@@ -191,7 +197,8 @@ module _ {K V S : Type 0} (same : K → K → Bool) (hash : K → ℕ) (terms : 
       made = made_stays None (Some map) step_did y.now ∙ y.made;
       maps = maps_stand same hash y.scene mid.logged.executor to.logged.executor i it.0 it.1 step.said leads ∙ y.maps;
       counted = counted_end_steps same hash mid.logged to.logged.executor to.logged.notes step.is_noted.given y.now y.scene y.is_at y.counted i map step.said leads it.0 it.1 step.is_noted.noted first
-          (taken_of (leads it.0 it.1).2.deed) did_its;
+          (taken_of (leads it.0 it.1).2.deed) did_its
+          (endings_note_left same hash name y.now (known mid.logged.notes) y.scene mid.logged.executor to.logged.executor y.is_at y.midst.0.calls.whole i map step.said leads it.0 it.1 no_map);
     }
 
     end_under : is_done step.said ≡ false → IsUnder to next
@@ -331,15 +338,14 @@ module _ {K V S : Type 0} (same : K → K → Bool) (hash : K → ℕ) (terms : 
 
     -- what all of it did, as the scheduler has it
     -- what waited is told as it ended
-    abbrev TellsLeft : (t : Scene K V) (gone_blocks : List ℕ) → EndCame s1 t i (finishing_of standing s.world) gone_blocks true → Type 0
-    TellsLeft t gone_blocks came =
-        (began : Moment K V) → TellsWaiting map standing.chart began m first_noted s1.world (has_some (finishing_of standing s.world).waits)
-        → TellsWaiting map standing.chart began (with_effects None (Some map) d.ran.0 m) (known new.logged.notes) t.world (has_some (left_so s1 t i (finishing_of standing s.world) gone_blocks true came.ender))
+    abbrev LeftTells : (t : Scene K V) (gone_blocks : List ℕ) → EndCame s1 t i (finishing_of standing s.world) gone_blocks true → Type 0
+    LeftTells t gone_blocks came =
+        (began : Moment K V) → TellsWaiting same map i (finishing_of standing s.world) began m first_noted s1.world → TellsLeft map standing.chart began (known new.logged.notes) came.ender.2.0
 
     abbrev u : (t : Scene K V) × (gone_blocks : List ℕ) × (came : EndCame s1 t i (finishing_of standing s.world) gone_blocks true) × (d.ran.0 ≡ ended_as map first_noted gone_blocks)
         × NotedStill first_noted (known new.logged.notes) ([] ++ gone_blocks) × IsShown same hash name (with_effects None (Some map) d.ran.0 m) new.logged t
         × (true ≡ true → ◌≡◌ {A = List ℕ} [] [] → d.ran.0 ≡ all_ended (is_incremental standing.setting.mode) map number standing.chart)
-        × TellsLeft t gone_blocks came
+        × LeftTells t gone_blocks came
     u =
         d.ran.3 same hash name m s1 (shown_mid same hash terms log old own due map d.found d.free d.began i begun) (finishing_of standing s.world)
         (ending_here same hash terms log old own due map d.found d.free d.began i begun) gone number first_noted (begun none_on).3.1 (λ b none. refl)
@@ -366,9 +372,27 @@ module _ {K V S : Type 0} (same : K → K → Bool) (hash : K → ℕ) (terms : 
         subst (λ (fs : List Effect). list_all (may_do (EndMap own) m) fs ≡ true) (sym (did_all ∙ u.6 refl refl))
         (all_may own m (is_incremental standing.setting.mode) map number standing.chart)
 
+    -- each pair that ends is in the map, and each table is linked
+    in_map : IsMapIn same standing.hash standing.setting s.world standing.chart standing.blocks
+    in_map = (run.stands.shown.is_at.together.makings.standing.each map standing (begun none_on).1).ground.map
+
+    current_known : (n : ℕ) → standing.chart.current n ≡ true → (n < standing.chart.stored) × (standing.blocks.pair_known n ≡ true)
+    current_known n current = current_is_known same standing.hash standing.setting s.world.memory standing.chart standing.blocks in_map.map.rule in_map.map.shows n current
+
+    abbrev stood : ShowsMap map (run.shows.calls.whole.all.shown.number map) standing m (known old.logged.notes)
+    stood = run.shows.calls.whole.all.shown.maps map standing (begun none_on).1
+
+    same_number : (n : ℕ) → standing.chart.current n ≡ true → number n ≡ run.shows.calls.whole.all.shown.number map n
+    same_number n current =
+        let k = current_known n current in
+        let noted = subst (λ (x : Known). x.roles (standing.blocks.pair n) ≡ role.Pair (number n)) begins_so ((begun none_on).3.1.pairs n current) in
+        let both : role.Pair (number n) ≡ role.Pair (run.shows.calls.whole.all.shown.number map n) = sym noted ∙ stood.pairs.roles n k.0 k.1 in
+        cc both
+
     finds : AtEachEffect (Finds terms None (Some map) false []) None (Some map) effects m
     finds =
-        subst (λ (o : Option ℕ). AtEachEffect (Finds terms None o false []) None o effects m) acts_so left.but.finds
+        subst (λ (fs : List Effect). AtEachEffect (Finds terms None (Some map) false []) None (Some map) fs m) (sym (did_all ∙ u.6 refl refl))
+        (ends_find_all K V m (known old.logged.notes) map (run.shows.calls.whole.all.shown.number map) number standing stood (begun none_on).2 (λ n current. (current_known n current).0) same_number)
 
     it : ComesRight terms log e → IsLegalBut same terms log e × ShowsRun same name terms (e ∷ log) (known new.logged.notes) y.scene
     it right =
@@ -401,6 +425,7 @@ module _ {K V S : Type 0} (same : K → K → Bool) (hash : K → ℕ) (terms : 
               counted = counted_in same hash terms (moment (e ∷ log)) new so y.scene y.is_at y.counted.remains.lists y.counted.remains.left;
             }) named;
         shows = (it right).1;
+        come = events_bring_things K V terms log e run.come (it right).0.life.finds;
         size = y.size;
         shards = shards;
       };
@@ -421,5 +446,5 @@ module _ {K V S : Type 0} (same : K → K → Bool) (hash : K → ℕ) (terms : 
 module _ {K V S : Type 0} (same : K → K → Bool) (hash : K → ℕ) (event : Event K V) (own : List ℕ) (is : event ≡ EndMap own) (old new : Scheduler K V S) where
   pub ends_keep : {X : Type 0} → (result : Result (Played V) X) → IfOk result (λ played. WorksOnEnd played old new own) → IfOk result (λ played. KeepsRun same hash event played old new)
   ends_keep (Ok played) works =
-      subst (λ (x : Event K V). KeepsRun same hash x played old new) (sym is) (λ of terms log holds run turn after left begun powers. map_end_keeps same hash terms log own played old new holds run turn after left works)
+      subst (λ (x : Event K V). KeepsRun same hash x played old new) (sym is) (λ of terms log holds run turn after left begun. map_end_keeps same hash terms log own played old new holds run turn after left works)
   ends_keep (Err x) works = tt

@@ -1,8 +1,6 @@
 -- What is had of an event whose work is a row on a slot, the making of a map, or the end of one: it keeps its promises, and the run goes on with it.
-use Rattle.std.specs.Prelude.{◌≡◌, ◌≤◌, ◌^◌, ℕ, Bool, true, false, List, [], ◌∷◌, None}
-use Rattle.std.specs.Int.{IsNextPowerOfTwo}
+use Rattle.std.specs.Prelude.{◌≡◌, ℕ, Bool, true, false, List, [], ◌∷◌, None}
 use Rattle.std.specs.List.{list_all}
-use Rattle.papaya_histories.specs.Given.Tables.Powers.{next_power}
 use Rattle.papaya_schedules.specs.declared.effect.Effect.{Effect}
 use Rattle.papaya_schedules.specs.declared.event.Event.{Event}
 use Rattle.papaya_schedules.specs.declared.event.Event.TheVariants.{DropGuard, EndMap, Enter, Flush, MakeMap, Own, Refresh, Register, Unregister}
@@ -23,10 +21,6 @@ use Rattle.papaya_scheduler.specs.declared.scheduler.Scheduler.{Scheduler}
 use Rattle.papaya_running.specs.Asked.{Holds}
 use Rattle.papaya_running.specs.OfCalls.{Runs, RunsOn}
 
--- There is one least power of two that is a number or more. So it is, but no law says so yet that can be cited here.
-abbrev pub PowersAreOne : Type 0
-PowersAreOne = (number power : ℕ) → number ≤ 2 ^ 63 → IsNextPowerOfTwo number power → power ≡ next_power number
-
 module _ {K V : Type 0} where
   -- these are the events of which it is said
   abbrev pub is_of_rows : Event K V → Bool
@@ -41,21 +35,15 @@ module _ {K V : Type 0} where
   is_of_rows (EndMap name) = true
   is_of_rows _ = false
 
-  -- it may do what it does: of an end that is had
-  abbrev pub MaysDo : List (Entry K V) → Entry K V → Event K V → Type 0
-  MaysDo log e (EndMap name) = Unit {0}
-  MaysDo log e _ = list_all (may_do e.event (moment log)) e.effects ≡ true
-
   -- It finds what it must: a row on a slot does, if it asks for buckets of slots in need.
-  abbrev pub FindsStill : Terms → List (Entry K V) → Entry K V → Event K V → Type 0
-  FindsStill terms log e (MakeMap name mode capacity) = (let b = at_work e (moment log) in AtEachEffect (Finds terms None (acted_on e.event b) false []) None (acted_on e.event b) e.effects b)
-  FindsStill terms log e (EndMap name) = (let b = at_work e (moment log) in AtEachEffect (Finds terms None (acted_on e.event b) false []) None (acted_on e.event b) e.effects b)
-  FindsStill terms log e _ = AtEachEffect AsksInNeed None None e.effects (moment log)
+  abbrev pub FindsStill : List (Entry K V) → Entry K V → Event K V → Type 0
+  FindsStill log e (MakeMap name mode capacity) = Unit {0}
+  FindsStill log e (EndMap name) = Unit {0}
+  FindsStill log e _ = AtEachEffect AsksInNeed None None e.effects (moment log)
 
-  -- What is still asked of such an event, by name, but that it comes to what is right: what it does it may do, and finds what it must.
+  -- What is still asked of such an event, by name, but that it comes to what is right: what it does finds what it must.
   pub record IsLeftOfRowsBut (terms : Terms) (log : List (Entry K V)) (e : Entry K V) : Type 0 where
-    pub may : MaysDo log e e.event
-    pub finds : FindsStill terms log e e.event
+    pub finds : FindsStill log e e.event
 
   pub record IsLeftOfRows (terms : Terms) (log : List (Entry K V)) (e : Entry K V) : Type 0 where
     pub right : ComesRight terms log e
@@ -73,11 +61,11 @@ module _ {K V S : Type 0} (same : K → K → Bool) (hash : K → ℕ) where
   KeepsRun event played old new =
       is_of_rows event ≡ true → (terms : Terms) (log : List (Entry K V)) → Holds same hash terms (moment log) old → Runs same hash terms log old → is_kept_out terms event (moment log) ≡ false
       → IsPlayed same hash terms (entry_of event played ∷ log) new → IsLeftOfRows terms log (entry_of event played) → HasNotBegun event played.outcome played.effects.items old new
-      → PowersAreOne → RunsOn same hash terms log (entry_of event played) new
+      → RunsOn same hash terms log (entry_of event played) new
 
   -- and so of one that is kept out
   abbrev pub KeepsRunAt : Event K V → Played V → (old new : Scheduler K V S) → Type 0
   KeepsRunAt event played old new =
       is_of_rows event ≡ true → (terms : Terms) (log : List (Entry K V)) → Holds same hash terms (moment log) old → Runs same hash terms log old
       → IsPlayed same hash terms (entry_of event played ∷ log) new → IsLeftOfRows terms log (entry_of event played) → HasNotBegun event played.outcome played.effects.items old new
-      → PowersAreOne → RunsOn same hash terms log (entry_of event played) new
+      → RunsOn same hash terms log (entry_of event played) new

@@ -1,6 +1,7 @@
 -- The effects of the steps of a call find what they must, if what is still asked is so of all of them.
 use Rattle.std.specs.Prelude.{◌≡◌, ◌+◌, ℕ, Bool, true, false, zero, suc, List, [], ◌∷◌, ◌++◌, map as list_map, Option, Some, option_map}
 use Rattle.std.proofs.Common.{refl, ap, sym, subst, ◌∙◌, inl, inr}
+use Rattle.papaya_histories.specs.Given.Resize.declared.new_table.NewTable.{NewTable}
 use Rattle.papaya_histories.specs.Given.Runs.Same.{is_same}
 use Rattle.papaya_histories.specs.Given.Schedules.declared.call.Call.{Call}
 use Rattle.papaya_histories.specs.Given.Schedules.declared.call.Call.TheVariants as calls
@@ -8,7 +9,6 @@ use Rattle.papaya_histories.specs.Given.Schedules.declared.call.OneKey.{OneKey}
 use Rattle.papaya_histories.specs.Given.Schedules.declared.call.OneKey.TheVariants as keys
 use Rattle.papaya_histories.specs.Given.Schedules.declared.effect.Effect.{Effect}
 use Rattle.papaya_histories.specs.Given.Schedules.declared.event.Event.{Event}
-use Rattle.papaya_histories.specs.Given.Schedules.declared.outcome.Outcome.{Outcome}
 use Rattle.papaya_histories.specs.Given.Schedules.After.{moments_from}
 use Rattle.papaya_histories.specs.Given.Schedules.Effects.{with_effects}
 use Rattle.papaya_histories.specs.Given.Schedules.Growing.{HasNext}
@@ -18,7 +18,6 @@ use Rattle.papaya_histories.specs.Given.Schedules.Moment.{UnderWay as CallThere,
 use Rattle.papaya_histories.specs.Given.Schedules.Terms.{Terms, shards_of}
 use Rattle.papaya_histories.specs.Given.Schedules.Views.{call_of}
 use Rattle.papaya_histories.specs.Given.Effects.Known.{known}
-use Rattle.papaya_histories.specs.Given.Resize.declared.new_table.NewTable.{NewTable}
 use Rattle.papaya_histories.specs.Given.Finishes.Machines.{machine_of}
 use Rattle.papaya_histories.specs.Given.Finishes.Maps.{Standing}
 use Rattle.papaya_histories.specs.Given.Follows.Calls.{IsCalled}
@@ -33,17 +32,16 @@ use Rattle.papaya_finds.proofs.Joined.{several_find_all}
 use Rattle.papaya_legal.specs.Nexts.{MayFollow}
 use Rattle.papaya_legal.specs.Rests.{FindStill, is_reservation}
 use Rattle.papaya_legal.proofs.CallFinds.{steps_find_all}
-use Rattle.papaya_legal.proofs.Finding.Rest.{steps_find_rest}
 use Rattle.papaya_legal.proofs.Finding.Links.{such_of_making}
+use Rattle.papaya_legal.proofs.Finding.Rest.{steps_find_rest}
 use Rattle.papaya_named.specs.Seen.{Seen, kind_of, kind_on, seen}
 use Rattle.papaya_named.specs.declared.kind.Kind.{Kind}
 use Rattle.papaya_named.specs.declared.kind.Kind.TheVariants as kind
 use Rattle.papaya_rows.proofs.Lists.{both_some, found_alike}
 use Rattle.papaya_scheduler.specs.declared.scheduler.Scheduler.{Scheduler}
-use Rattle.papaya_stepping.specs.Stepping.{GoneFor, IsStepped}
+use Rattle.papaya_stepping.specs.Stepping.{GoneFor}
 use Rattle.papaya_stepping.proofs.AfterEffects.{calls_seen}
-use Rattle.papaya_running.specs.OfCalls.{Wanted}
-use Rattle.papaya_running.proofs.OfCalls.Steps.{HasCome, did, follows, has_come, its_here, leads, the}
+use Rattle.papaya_running.proofs.OfCalls.Steps.{HasCome, IsStep, as_told, did, follows, has_come, its_here, leads, the}
 
 -- a reservation is known by its kind
 abbrev is_room : Kind → Bool
@@ -75,13 +73,13 @@ of_room calls.Retain = refl
 of_room calls.Len = refl
 of_room calls.Walk = refl
 
-module _ {K V S : Type 0} (same : K → K → Bool) (hash : K → ℕ) (wanted : Wanted K V S same hash) (name : ℕ → List ℕ) (terms : Terms) (log : List (Entry K V)) (event : Event K V) (beginning : Moment K V)
+module _ {K V S : Type 0} (same : K → K → Bool) (hash : K → ℕ) (name : ℕ → List ℕ) (terms : Terms) (log : List (Entry K V)) (event : Event K V) (beginning : Moment K V)
     (map i : ℕ) (c : CallThere K V) (place : ℕ) (c_is : call_of (name i) beginning ≡ Some c) where
   abbrev moments : List (Moment K V)
   moments = moments_from c.begun log
 
   abbrev Come : ℕ → List Effect → Scheduler K V S → Type 0
-  Come n fs p = HasCome same hash wanted name terms log event beginning map i c place n fs p
+  Come n fs p = HasCome same hash name terms log event beginning map i c place n fs p
 
   -- what is asked of effects, by what is asked of the call as the event begins
   abbrev Rest : List Effect → Moment K V → Type 0
@@ -110,15 +108,15 @@ module _ {K V S : Type 0} (same : K → K → Bool) (hash : K → ℕ) (wanted :
       spaced : FindSpace (name i) map xs m × FindSpace (name i) map ys (with_effects (Some (name i)) (Some map) xs m)
       spaced = each_parts (Some (name i)) (Some map) (Each FindsSpace) xs ys m rest.space
 
-  module _ (n : ℕ) (mid after : List Effect) (p new : Scheduler K V S) (outcome : Outcome V) (come : Come n mid p) (step : IsStepped same hash place outcome mid after p new) where
+  module _ (n : ℕ) (mid after : List Effect) (p new : Scheduler K V S) (come : Come n mid p) (step : IsStep same hash place mid after p new) where
     abbrev here : come.scene.calls map i ≡ Some come.under
-    here = its_here same hash wanted name terms log event beginning map i c place n mid after p new outcome come step
+    here = its_here same hash name terms log event beginning map i c place n mid after p new come step
 
     abbrev its_did : List Effect
-    its_did = did same hash wanted name terms log event beginning map i c place n mid after p new outcome come step
+    its_did = did same hash name terms log event beginning map i c place n mid after p new come step
 
     after_is : after ≡ mid ++ its_did
-    after_is = follows same hash wanted name terms log event beginning map i c place n mid after p new outcome come step
+    after_is = follows same hash name terms log event beginning map i c place n mid after p new come step
 
     -- the map of the call has as many shards as the terms say
     pub mask_is : (standing : Standing K) → come.scene.maps map ≡ Some standing → standing.setting.mask + 1 ≡ shards_of terms
@@ -142,7 +140,7 @@ module _ {K V S : Type 0} (same : K → K → Bool) (hash : K → ℕ) (wanted :
     same_begun : its.0.begun ≡ c.begun
     same_begun =
         let kept = effects_begun (name i) map (name i) mid beginning c c_is in
-        ap (λ (y : CallThere K V). y.begun) (the its.0 (sym its.1 ∙ ap (λ (x : Moment K V). call_of (name i) x) come.midst.worked ∙ kept.1)) ∙ kept.2
+        ap (λ (y : CallThere K V). y.begun) (the its.0 kept.0 (sym its.1 ∙ ap (λ (x : Moment K V). call_of (name i) x) come.midst.worked ∙ kept.1)) ∙ kept.2
 
     -- where its copier makes a table, its map has a second one, or had one since the call began
     nexts : (k : NewTable) → making_of_copier (machine_of come.under) ≡ Some k → OneOf (HasNext map) (come.now ∷ moments)
@@ -156,7 +154,7 @@ module _ {K V S : Type 0} (same : K → K → Bool) (hash : K → ℕ) (wanted :
     -- those of one step find it
     step_finds : Rest its_did come.now → All its_did come.now
     step_finds rest =
-        let led = leads same hash wanted name terms log event beginning map i c place n mid after p new outcome come step in
+        let led = leads same hash name terms log event beginning map i c place n mid after p new come step in
         steps_find_all K V S same hash name come.now (known p.logged.notes) come.scene p.logged.executor new.logged.executor come.shown.is_at come.midst.calls.whole come.midst.calls.kept map i come.under
         here step.said led terms (mask_is (led map come.under here).0 (led map come.under here).2) its.0 its.1 (come.slot its.0 its.1) moments
         (steps_find_rest K V S same hash name come.now (known p.logged.notes) come.scene p.logged.executor new.logged.executor come.shown.is_at come.midst.calls.whole come.midst.calls.kept
@@ -175,4 +173,4 @@ module _ {K V S : Type 0} (same : K → K → Bool) (hash : K → ℕ) (wanted :
     pub gone_find : (n : ℕ) (after : List Effect) (p : Scheduler K V S) → GoneFor same hash place n [] after first p → Rest after beginning → All after beginning
     gone_find zero after p gone rest = subst (λ (fs : List Effect). All fs beginning) gone.0 tt
     gone_find (suc n) after p (mid, q, outcome, gone, on, step) rest =
-        all_find n mid after q p outcome (has_come same hash wanted name terms log event beginning map i c place first start n mid q gone) step (gone_find n mid q gone) rest
+        all_find n mid after q p (has_come same hash name terms log event beginning map i c place first start n mid q gone) (as_told same hash step) (gone_find n mid q gone) rest

@@ -1,7 +1,8 @@
 -- An event by which a call goes on that is under way: it keeps its promises, and the run goes on with it.
 use Rattle.std.specs.Prelude.{◌≡◌, ◌≤◌, ◌&&◌, ◌||◌, ℕ, Bool, true, false, not, List, [], ◌∷◌, position, Option, Some, option_map}
 use Rattle.std.specs.List.{list_any}
-use Rattle.std.proofs.Common.{refl, ap, sym, subst, ◌∙◌}
+use Rattle.std.proofs.Common.{refl, ap, sym, subst, ◌∙◌, inl}
+use Rattle.std.proofs.lemmas.List.{append-nil}
 use Rattle.papaya_histories.specs.Given.SeizeWaiting.Held.{count}
 use Rattle.papaya_histories.specs.Given.Runs.Present.{slot_of_guard}
 use Rattle.papaya_histories.specs.Given.Schedules.declared.event.Event.{Event}
@@ -9,14 +10,16 @@ use Rattle.papaya_histories.specs.Given.Schedules.After.{moment, moments_from}
 use Rattle.papaya_histories.specs.Given.Schedules.Beginning.{at_work}
 use Rattle.papaya_histories.specs.Given.Schedules.Entry.{Entry, IfCall, acted_on, acting, caller_of, speaker}
 use Rattle.papaya_histories.specs.Given.Schedules.Handing.{is_made, refuses}
-use Rattle.papaya_histories.specs.Given.Schedules.Model.{guard_or, sets_in}
+use Rattle.papaya_histories.specs.Given.Schedules.Model.{guard_or, sets_in, things_in}
 use Rattle.papaya_histories.specs.Given.Schedules.Moment.{UnderWay as CallThere, Moment}
 use Rattle.papaya_histories.specs.Given.Schedules.Terms.{Terms}
 use Rattle.papaya_histories.specs.Given.Schedules.Views.{call_of}
 use Rattle.papaya_histories.specs.Given.Callers.Together.{UnderWay}
 use Rattle.papaya_histories.specs.Given.Effects.Known.{known}
 use Rattle.papaya_histories.specs.Given.Executor.IsAt.{slot_of}
+use Rattle.papaya_histories.specs.Given.Schedules.declared.effect.Thing.{Thing}
 use Rattle.papaya_finds.specs.Doing.{takes_steps}
+use Rattle.papaya_legal.specs.Noted.{HaveCome}
 use Rattle.papaya_legal.specs.Carried.{ComesAlone}
 use Rattle.papaya_legal.specs.Rests.{FindStill, is_reservation}
 use Rattle.papaya_legal.proofs.Calls.{call_events_begin_so}
@@ -29,14 +32,14 @@ use Rattle.papaya_scheduler.proofs.HeldTold.{its_guard}
 use Rattle.papaya_scheduler.proofs.Here.{Here, here_at}
 use Rattle.papaya_stepping.specs.Stepping.{ComesAs, ComesBy, StepsCome}
 use Rattle.papaya_stepping.proofs.RightSteps.{not_busy as never_busy}
-use Rattle.papaya_running.specs.OfCalls.{IsLeft, Runs, RunsOn, TellsValue, Wanted}
+use Rattle.papaya_running.specs.OfCalls.{IsLeft, Runs, RunsOn, TellsValue}
 use Rattle.papaya_running.proofs.OfCalls.Alone.{active_of, inside_of, only_its_row}
-use Rattle.papaya_running.proofs.OfCalls.Ends.{runs_on}
+use Rattle.papaya_running.proofs.OfCalls.Ends.{runs_on, tells_so}
 use Rattle.papaya_running.proofs.OfCalls.Found.{all_find, gone_find}
 use Rattle.papaya_running.proofs.OfCalls.Scenes.{its_named}
-use Rattle.papaya_running.proofs.OfCalls.Steps.{HasCome, has_come, the}
+use Rattle.papaya_running.proofs.OfCalls.Steps.{HasCome, as_told, has_come, the}
 
-module _ {K V S : Type 0} (same : K → K → Bool) (hash : K → ℕ) (wanted : Wanted K V S same hash) (terms : Terms) (log : List (Entry K V)) (old : Scheduler K V S) (runs : Runs same hash terms log old)
+module _ {K V S : Type 0} (same : K → K → Bool) (hash : K → ℕ) (terms : Terms) (log : List (Entry K V)) (old : Scheduler K V S) (runs : Runs same hash terms log old)
     (event : Event K V) (own : List ℕ) (of_call : caller_of event ≡ Some own) (speaks : speaker event ≡ Some own) (place : ℕ) (placed : Some place ≡ position (is_named own) old.calls.items.items) where
   abbrev pub m : Moment K V
   m = moment log
@@ -72,14 +75,14 @@ module _ {K V S : Type 0} (same : K → K → Bool) (hash : K → ℕ) (wanted :
   map_is = ap (λ (z : Seen). z.map) here.as_seen
 
   -- its guard is on the slot of its caller
-  slot_is : (d : CallThere K V) → call_of (name i) m ≡ Some d → slot_of_guard d.guard m.there ≡ slot_of i
+  pub slot_is : (d : CallThere K V) → call_of (name i) m ≡ Some d → slot_of_guard d.guard m.there ≡ slot_of i
   slot_is d is =
       let there = runs.stands.shown.shows.all.shown.calls map i u under in
       ap (λ (x : CallThere K V). slot_of_guard x.guard m.there) (the d there.0 (sym is ∙ there.1)) ∙ its_guard same hash terms m old runs.stands map i u under
 
   -- as it begins, the event is in its midst
   abbrev pub Come : Type 0
-  Come = HasCome same hash wanted name terms log event m map i c place 0 [] old
+  Come = HasCome same hash name terms log event m map i c place 0 [] old
 
   pub start : Come
   start = record {
@@ -92,6 +95,7 @@ module _ {K V S : Type 0} (same : K → K → Bool) (hash : K → ℕ) (wanted :
     size = runs.size;
     shards = runs.shards;
     now = m;
+    things = subst (λ (xs : List Thing). HaveCome xs m) (sym (append-nil (things_in log))) runs.come;
     scene = runs.stands.scene;
     under = u;
     shown = runs.stands.shown;
@@ -102,7 +106,7 @@ module _ {K V S : Type 0} (same : K → K → Bool) (hash : K → ℕ) (wanted :
   }
 
   -- its slot is active, where calls came one after another
-  active : ComesAlone event log → 1 ≤ count (slot_of i) (sets_in terms.batch_size log).active
+  pub active : ComesAlone event log → 1 ≤ count (slot_of i) (sets_in terms.batch_size log).active
   active alone =
       active_of same hash terms log old runs.stands runs.size (slot_of i) (inside_of same hash terms log old runs.stands here.caller.guard (slot_of i) here.way.3)
       (runs.shows.follows (first_of m.is_alone _ alone))
@@ -111,43 +115,49 @@ module _ {K V S : Type 0} (same : K → K → Bool) (hash : K → ℕ) (wanted :
       first_of true b is = refl
       first_of false b is = absurd (cc is)
 
-  module _ (begins : (played : Played V) → at_work (entry_of event played) m ≡ m) (acts : acted_on event m ≡ option_map (λ (x : CallThere K V). x.map) (acting (caller_of event) m)) (takes : takes_steps event ≡ true)
-      (goes : here.caller.stands ≡ far.Goes) (most : ℕ) (played : Played V) (new : Scheduler K V S) (come : StepsCome same hash place most played.steps played.outcome [] played.effects.items old new)
-      (left : IsLeft terms log (entry_of event played)) (refused : (not (refuses event) || not (list_any is_made played.effects.items)) ≡ true)
-      (plays : IsPlayed same hash terms (entry_of event played ∷ log) new) where
-    comes : ComesBy same hash terms own place m played.steps played.outcome [] played.effects.items new
-    comes = come.1 terms m own runs.stands (placed, here.caller, here.at, goes)
-
-    comes_as : ComesAs c.call played.outcome
-    comes_as = subst (λ (x : CallThere K V). ComesAs x.call played.outcome) (the comes.call c (sym comes.call_is ∙ here.call_is)) comes.comes
-
+  -- such an event has begun nothing, and acts on the map of its call
+  module _ (begins : (played : Played V) → at_work (entry_of event played) m ≡ m) (acts : acted_on event m ≡ option_map (λ (x : CallThere K V). x.map) (acting (caller_of event) m)) (played : Played V) where
     acting_is : acting (caller_of event) m ≡ Some c
     acting_is = ap (λ (who : Option (List ℕ)). acting who m) of_call ∙ here.call_is
 
-    -- what is left is so of its call
-    its_left : (P : CallThere K V → Moment K V → Type 0) → IfCall (λ (x : CallThere K V). P x (at_work (entry_of event played) m)) (acting (caller_of event) (at_work (entry_of event played) m)) → P c m
-    its_left P so =
-        subst (λ (o : Option (CallThere K V)). IfCall (λ (x : CallThere K V). P x m) o) acting_is
-        (subst (λ (b : Moment K V). IfCall (λ (x : CallThere K V). P x b) (acting (caller_of event) b)) (begins played) so)
+    pub acts_on : acted_on event m ≡ Some map
+    acts_on = acts ∙ ap (λ (o : Option (CallThere K V)). option_map (λ (x : CallThere K V). x.map) o) acting_is ∙ ap Some map_is
 
-    rest : FindStill terms (moments_from c.begun log) (name i) map played.effects.items m (is_reservation c.call)
-    rest =
-        subst (λ (x : List ℕ). FindStill terms (moments_from c.begun log) x map played.effects.items m (is_reservation c.call)) (ap (λ (z : Seen). z.name) here.as_seen ∙ sym here.way.2)
-        (subst (λ (k : ℕ). FindStill terms (moments_from c.begun log) c.caller k played.effects.items m (is_reservation c.call)) map_is
-        (its_left (λ (x : CallThere K V) (b : Moment K V). FindStill terms (moments_from x.begun log) x.caller x.map played.effects.items b (is_reservation x.call)) left.but.rest))
+    pub slot_so : slot_of_guard (guard_or (acting (caller_of event) (at_work (entry_of event played) m))) (at_work (entry_of event played) m).there ≡ slot_of i
+    slot_so =
+        ap (λ (b : Moment K V). slot_of_guard (guard_or (acting (caller_of event) b)) b.there) (begins played)
+        ∙ ap (λ (o : Option (CallThere K V)). slot_of_guard (guard_or o) m.there) acting_is ∙ slot_is c c_is
 
-    pub taken_on : RunsOn same hash terms log (entry_of event played) new
-    taken_on =
-        let by = come.2 in
-        let far_on = has_come same hash wanted name terms log event m map i c place old start by.0 by.2 by.3 by.4 in
-        runs_on same hash wanted name terms log event m map i c place c_is (known old.logged.notes) runs.stands.scene runs.shows played by.0 by.2 by.3 new far_on by.5 (begins played)
-        (acts ∙ ap (λ (o : Option (CallThere K V)). option_map (λ (x : CallThere K V). x.map) o) acting_is ∙ ap Some map_is) takes by.1 comes_as (never_busy c.call played.outcome comes_as) left.right
-        refused (its_left (λ (x : CallThere K V) (b : Moment K V). TellsValue x.call x.replies played.outcome) left.but.values)
-        (all_find same hash wanted name terms log event m map i c place c_is by.0 by.2 played.effects.items by.3 new played.outcome far_on by.5
-        (gone_find same hash wanted name terms log event m map i c place c_is old start by.0 by.2 by.3 by.4) rest)
-        slot_so active plays
-      where
-        slot_so : slot_of_guard (guard_or (acting (caller_of event) (at_work (entry_of event played) m))) (at_work (entry_of event played) m).there ≡ slot_of i
-        slot_so =
-            ap (λ (b : Moment K V). slot_of_guard (guard_or (acting (caller_of event) b)) b.there) (begins played)
-            ∙ ap (λ (o : Option (CallThere K V)). slot_of_guard (guard_or o) m.there) acting_is ∙ slot_is c c_is
+    module _ (takes : takes_steps event ≡ true) (goes : here.caller.stands ≡ far.Goes) (most : ℕ) (new : Scheduler K V S)
+        (come : StepsCome same hash place most played.steps played.outcome [] played.effects.items old new) (left : IsLeft terms log (entry_of event played))
+        (refused : (not (refuses event) || not (list_any is_made played.effects.items)) ≡ true)
+        (plays : IsPlayed same hash terms (entry_of event played ∷ log) new) where
+      comes : ComesBy same hash terms own place m played.steps played.outcome [] played.effects.items new
+      comes = come.1 terms m own runs.stands (placed, here.caller, here.at, goes)
+
+      comes_as : ComesAs c.call played.outcome
+      comes_as = subst (λ (x : CallThere K V). ComesAs x.call played.outcome) (the comes.call c (sym comes.call_is ∙ here.call_is)) comes.comes
+
+      -- what is left is so of its call
+      its_left : (P : CallThere K V → Moment K V → Type 0) → IfCall (λ (x : CallThere K V). P x (at_work (entry_of event played) m)) (acting (caller_of event) (at_work (entry_of event played) m)) → P c m
+      its_left P so =
+          subst (λ (o : Option (CallThere K V)). IfCall (λ (x : CallThere K V). P x m) o) acting_is
+          (subst (λ (b : Moment K V). IfCall (λ (x : CallThere K V). P x b) (acting (caller_of event) b)) (begins played) so)
+
+      rest : FindStill terms (moments_from c.begun log) (name i) map played.effects.items m (is_reservation c.call)
+      rest =
+          subst (λ (x : List ℕ). FindStill terms (moments_from c.begun log) x map played.effects.items m (is_reservation c.call)) (ap (λ (z : Seen). z.name) here.as_seen ∙ sym here.way.2)
+          (subst (λ (k : ℕ). FindStill terms (moments_from c.begun log) c.caller k played.effects.items m (is_reservation c.call)) map_is
+          (its_left (λ (x : CallThere K V) (b : Moment K V). FindStill terms (moments_from x.begun log) x.caller x.map played.effects.items b (is_reservation x.call)) left.but.rest))
+
+      pub taken_on : RunsOn same hash terms log (entry_of event played) new
+      taken_on =
+          let by = come.2 in
+          let far_on = has_come same hash name terms log event m map i c place old start by.0 by.2 by.3 by.4 in
+          runs_on same hash name terms log event m map i c place c_is (known old.logged.notes) runs.stands.scene runs.shows runs.come played by.0 by.2 by.3 new far_on by.5
+          (tells_so same hash name terms log event m map i c place c_is (known old.logged.notes) runs.stands.scene runs.shows runs.come played by.0 by.2 by.3 new far_on by.5 comes_as
+          (its_left (λ (x : CallThere K V) (b : Moment K V). TellsValue x.call x.replies played.outcome) left.but.values)) (begins played) acts_on (inl takes) by.1
+          (never_busy c.call played.outcome comes_as) left.right refused
+          (all_find same hash name terms log event m map i c place c_is by.0 by.2 played.effects.items by.3 new far_on (as_told same hash by.5)
+          (gone_find same hash name terms log event m map i c place c_is old start by.0 by.2 by.3 by.4) rest)
+          slot_so active plays

@@ -5,7 +5,7 @@ use Rattle.std.proofs.lemmas.List.{length-append}
 use Rattle.papaya_executor.specs.MakingBegins.{MakingBegins}
 use Rattle.papaya_executor.specs.declared.worker.TheConstants.{SLOTS}
 use Rattle.papaya_executor.specs.declared.worker.Work.TheVariants as work
-use Rattle.papaya_executor.proofs.Kept.{if_refused, refused_with}
+use Rattle.papaya_executor.proofs.Kept.{if_refused, refused_so, refused_with}
 use Rattle.papaya_executor.proofs.MakingBegun.{making_begins}
 use Rattle.papaya_executor.proofs.executor.Executor.begin_making.Goals as goal
 
@@ -19,6 +19,10 @@ returns-clause-leads g c = λ same hash s at.
     ∙ ap (λ x. c.args.self.now.workers.items ++ Some (record { slot = c.args.slot; work = work.Making (length c.args.self.now.maps.items) x }) ∷ []) c.new-opening.ensures in
     subst (λ (n : ℕ). MakingBegins same hash c.args.given c.args.places (n * SLOTS + c.args.slot) s c.args.self.now new) (sym count)
     (making_begins same hash c.args.self.now s at c.args.slot c.requires c.args.given c.args.places new refl items refl refl refl refl c.in_ok-push.ensures.items)
+
+pub returns-in_err-push-clause-refused : goal.returns-in_err-push-clause-refused
+returns-in_err-push-clause-refused g c =
+    if_refused c.from_residual.result (λ error. refused_so c.args.self.now (record c.args.self.now { maps = c.push.new.self }) refl refl refl refl refl c.in_err-push.ensures.items)
 
 -- the number that was kept for it is no map's
 pub returns-in_err-push-2-clause-refused : goal.returns-in_err-push-2-clause-refused
