@@ -45,13 +45,14 @@ use Rattle.papaya_histories.proofs.Given.Executor.Changed.{standing_is}
 use Rattle.papaya_histories.proofs.Given.Executor.Forgotten.{as_step}
 use Rattle.papaya_histories.specs.Given.Finishes.Machines.{machine_of}
 use Rattle.papaya_histories.specs.Given.Finishes.Maps.{Standing, with_call as with_in}
-use Rattle.papaya_histories.specs.Given.Follows.Calling.{NoneNamed, come_to, given_up, told}
+use Rattle.papaya_histories.specs.Given.Follows.Calling.{NoneNamed, come_to, told}
 use Rattle.papaya_histories.specs.Given.Follows.Calls.{ShowsCalls as IsThere}
 use Rattle.papaya_histories.proofs.Given.Follows.Calling.{apart_back, come, come_of_same, found_kept, replied_same}
 use Rattle.papaya_histories.proofs.Given.Follows.Calls.{found}
 use Rattle.papaya_histories.proofs.Given.Follows.Steps.{WentTo, one_of, went_to}
 use Rattle.papaya_histories.proofs.Given.Hands.Asking.{which}
 use Rattle.papaya_histories.proofs.Given.Hands.Calling.{caller_is}
+use Rattle.papaya_histories.specs.Given.Others.Walks.{given_up}
 use Rattle.papaya_histories.specs.Given.Moments.Whole.{ShowsWhole}
 use Rattle.papaya_histories.proofs.Begun.{comes_begun, effects_begun, if_begun, replied_begun}
 use Rattle.papaya_histories.proofs.Logs.{last_there, moments_grow}
@@ -281,7 +282,7 @@ module _ {K V S : Type 0} (same : K → K → Bool) (hash : K → ℕ) (name : �
 
     none_by : (x : Copier) → HasCopier (machine_of u) x → IsFollowed s.world x → MachineMakes NoTable to.1
     none_by x its is =
-        machine_none old.memory.memory new.memory.memory step_told same same hash x is.0 (λ read. is.1 (subst (λ (q : Mem (Node K V)). word_at q (at_word x.target NEXT) ≡ Some 0) at.memory read)) (machine_of u) to.1 said its
+        machine_none old.memory.memory new.memory.memory step_told same same hash x is.0 (λ read. is.1 (subst (λ (q : Mem (Node K V)). word_at q (at_word x.target NEXT) ≡ Some 0) (sym at.memory) read)) (machine_of u) to.1 said its
         to.3
 
     own_makes : MachineMakes After to.1
