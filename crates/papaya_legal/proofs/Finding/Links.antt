@@ -1,15 +1,13 @@
 -- The table that a call links by its copier follows the last one of its map; and a counting links none.
-use Rattle.std.specs.Prelude.{◌≡◌, ℕ, suc, Bool, List, [], ◌∷◌, length, Option, Some, None}
+use Rattle.std.specs.Prelude.{◌≡◌, ℕ, Bool, List, [], ◌∷◌, length, Option, Some, None}
 use Rattle.std.proofs.Common.{sym, subst, ◌∙◌}
 use Rattle.papaya_histories.specs.Given.Tables.Lengths.{entries_of}
-use Rattle.papaya_histories.specs.Given.Tables.declared.lengths.Reason.{Reason}
 use Rattle.papaya_histories.specs.Given.Tables.declared.lengths.Reason.TheVariants.{NoPlace}
 use Rattle.papaya_histories.specs.Given.Tables.declared.node.Node.{Node}
 use Rattle.papaya_histories.specs.Given.Tables.declared.table.Table.{Table as Planned}
 use Rattle.papaya_histories.specs.Given.Resize.declared.copier.Copying.{Copying}
 use Rattle.papaya_histories.specs.Given.Resize.declared.copier.Copying.TheVariants as copying
 use Rattle.papaya_histories.specs.Given.Resize.declared.new_table.NewTable.{NewTable}
-use Rattle.papaya_histories.specs.Given.Resize.declared.sum.Sum.{Sum}
 use Rattle.papaya_histories.specs.Given.Reserves.declared.reserve.Reserving.{Reserving}
 use Rattle.papaya_histories.specs.Given.Reserves.declared.reserve.Reserving.TheVariants as reserving
 use Rattle.papaya_histories.specs.Given.Sweeps.declared.sweep.Sweeping.{Sweeping}
@@ -43,7 +41,7 @@ use Rattle.papaya_histories.specs.Given.Follows.Calls.{IsCalled}
 use Rattle.papaya_histories.specs.Given.Follows.Finds.{FindsMap}
 use Rattle.papaya_histories.specs.Given.Moments.Whole.{ShowsWhole}
 use Rattle.papaya_owes.specs.Making.{making_in_calling, making_in_copying, making_in_sweeping, making_of}
-use Rattle.papaya_owes.specs.Tables.{ShowsTables, of_map, table_in, table_made}
+use Rattle.papaya_owes.specs.Tables.{ShowsTables, of_map, table_made}
 use Rattle.papaya_owes.proofs.Tables.Held.{shape_of, some_making}
 use Rattle.papaya_owes.proofs.Tables.Leaves.{IsGivenUp, IsLinked, IsMade, Stays}
 use Rattle.papaya_owes.proofs.Tables.Step.{left_tables}
