@@ -17,6 +17,7 @@ mod Rooms
 mod Copiers
 mod RoomPoints
 mod RoomFacts
+pub mod Needs
 mod RoomSteps
 mod For
 mod Counts
