@@ -8,4 +8,5 @@ pub mod Between
 pub mod Others
 pub mod Making
 pub mod Links
+pub mod Rooms
 pub mod Rest

@@ -60,7 +60,7 @@ module _ {K V : Type 0} (of : ℕ) (moments moments2 : List (Moment K V)) (wider
   need_wider need (n, counts, has) = (n, counts_wider of moments moments2 wider (suc p.setting.mask) n counts, has)
 
   later_wider : (before table : Table) → IsLaterFor of moments p before table → IsLaterFor of moments2 p before table
-  later_wider before table is = (need_wider table.len is.0, is.1)
+  later_wider before table is = (need_wider table.len is.0, is.1, is.2)
 
   making_wider : (before : Table) (q : Making) → ShapedAt (λ b reason. ⊥) (IsLaterFor of moments p before) q → ShapedAt (λ b reason. ⊥) (IsLaterFor of moments2 p before) q
   making_wider before (makes.Sums b reason sum) is = is
@@ -107,8 +107,16 @@ first_needs p = by (nat_le (max (reserves.needed p.additional 0) 8) (2 ^ 48)) re
 
     by : (b : Bool) → nat_le (max (reserves.needed p.additional 0) 8) (2 ^ 48) ≡ b
         → ShapedAt (λ before reason. ⊥) (IsFirstFor p) (if b then makes.Makes (planned (max (reserves.needed p.additional 0) 8) (limit_of (max (reserves.needed p.additional 0) 8)) 0) else makes.Refused Capacity)
-    by true few = (had few, refl)
+    by true few = (had few, refl, refl)
     by false few = tt
+
+-- the turn of one behind another
+next_of : (before turn : ℕ) → next_turn before ≡ Ok turn → turn ≡ suc before
+next_of before turn e = by (nat_lt before (2 ^ 63)) e
+  where
+    by : (q : Bool) → ◌≡◌ {A = Result ℕ Fault} (if q then Ok (before + 1) else Err Capacity) (Ok turn) → turn ≡ suc before
+    by true is = (let one : before + 1 ≡ turn = cc is in omega (arith, one))
+    by false is = absurd (cc is)
 
 -- By what a step comes to.
 module _ {K V : Type 0} (of : ℕ) (moments : List (Moment K V)) (p : Reserve) where
@@ -117,17 +125,17 @@ module _ {K V : Type 0} (of : ℕ) (moments : List (Moment K V)) (p : Reserve) w
 
   -- a later one, behind the root
   later_needs : (table : Table) (need : ℕ) → Needs of moments p need → ShapedAt (λ before reason. ⊥) (IsLaterFor of moments p table) (table_reserved p.setting table need).stands
-  later_needs table need needs = turned (next_turn table.turn)
+  later_needs table need needs = turned (next_turn table.turn) refl
     where
       long : Needs of moments p (max need 8)
       long = subst (Needs of moments p) (sym (eight_of (needs.0 + p.additional) need needs.2)) needs
 
-      turned : (turn : Result ℕ Fault) → ShapedAt (λ before reason. ⊥) (IsLaterFor of moments p table) (following (Reserved 0) table (max need 8) turn)
-      turned (Err fault) = tt
-      turned (Ok turn) = by (nat_le (max need 8) (2 ^ 48))
+      turned : (turn : Result ℕ Fault) → next_turn table.turn ≡ turn → ShapedAt (λ before reason. ⊥) (IsLaterFor of moments p table) (following (Reserved 0) table (max need 8) turn)
+      turned (Err fault) e = tt
+      turned (Ok turn) e = by (nat_le (max need 8) (2 ^ 48))
         where
           by : (b : Bool) → ShapedAt (λ before reason. ⊥) (IsLaterFor of moments p table) (if b then makes.Makes (planned (max need 8) (next_limit (Reserved 0) table.len (max need 8)) turn) else makes.Refused Capacity)
-          by true = (long, refl)
+          by true = (long, refl, next_of table.turn turn e)
           by false = tt
 
   enough_so : (table : Table) (count : ℕ) → Counts (suc p.setting.mask) of moments count → So (reserves.enough p table (reserves.needed p.additional count))
