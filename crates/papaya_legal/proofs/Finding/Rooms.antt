@@ -155,10 +155,10 @@ module _ {K V S : Type 0} (same : K → K → Bool) (hash : K → ℕ) (name : �
   Shapes = FindShapes terms moments (name i) map effects m
 
   module _ (tables : ShowsTables name m known s) (further : ShowsFurther m s) (made_for : IsMadeFor map m (leads map (ForRoom r) here).0.setting)
-      (nexts : (n : NewTable) → making_of_copier (machine_of {K = K} {V = V} (ForRoom r)) ≡ Some n → OneOf (HasNext map) (m ∷ moments)) where
+      (nexts : (n : NewTable) → making_of_copier {K = K} {V = V} {Q = K} (machine_of (ForRoom r)) ≡ Some n → OneOf (HasNext map) (m ∷ moments)) where
     -- what it makes while it copies its copier makes
-    copier_makes : (copier : Copier) → r.reserve.stands ≡ reserving.Copies copier → (n : NewTable) → making_of (machine_of {K = K} {V = V} (ForRoom r)) ≡ Some n
-        → IsFurther (lengths_of map m) n × (making_of_copier (machine_of {K = K} {V = V} (ForRoom r)) ≡ Some n)
+    copier_makes : (copier : Copier) → r.reserve.stands ≡ reserving.Copies copier → (n : NewTable) → making_of {K = K} {V = V} {Q = K} (machine_of (ForRoom r)) ≡ Some n
+        → IsFurther (lengths_of map m) n × (making_of_copier {K = K} {V = V} {Q = K} (machine_of (ForRoom r)) ≡ Some n)
     copier_makes copier at_q n is =
         let its = subst (λ (q : Reserving). making_in_reserving q ≡ Some n) at_q is in (
           such_of_copier (IsFurther (lengths_of map m)) n copier.stands its (subst (RoomMakes (IsFurther (lengths_of map m))) at_q (further map i (ForRoom r) here)),
@@ -176,7 +176,7 @@ module _ {K V S : Type 0} (same : K → K → Bool) (hash : K → ℕ) (name : �
           (subst (λ (k : ℕ). Follows terms c (m ∷ moments) (capacity_or (map_at k m)) (shape_of p) (tables_of k m)) (sym its_map) so))
 
       by_point : (q : Reserving) → r.reserve.stands ≡ q → NeedsAt map (m ∷ moments) r.reserve q → (n : NewTable) → making_in_reserving q ≡ Some n → table_in n.stands ≡ Some p
-          → table_made (making_of (machine_of {K = K} {V = V} (ForRoom r))) ≡ Some p → Shapes
+          → table_made (making_of {K = K} {V = V} {Q = K} (machine_of (ForRoom r))) ≡ Some p → Shapes
       by_point (reserving.Makes k) at_q needs n is made had =
           let one : n ≡ k = (let back : k ≡ n = cc is in sym back) in
           follows_so (first_follows terms (m ∷ moments) c r.reserve its_call (capacity_or (map_at map m)) st.setting.initial made_for p
