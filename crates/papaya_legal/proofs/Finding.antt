@@ -9,4 +9,6 @@ pub mod Others
 pub mod Making
 pub mod Links
 pub mod Rooms
+pub mod Nexts
+pub mod NextsOthers
 pub mod Rest

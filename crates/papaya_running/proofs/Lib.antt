@@ -9,6 +9,7 @@ pub mod Mays
 mod LawfulKeys
 mod Left
 mod Logs
+mod AsRun
 mod Turns
 mod Counts
 mod Held
@@ -18,3 +19,4 @@ pub mod OfMakings
 pub mod OfAll
 pub mod OfSetups
 pub mod Joined
+mod Reached

@@ -50,13 +50,13 @@ use Rattle.papaya_legal.specs.Chains.{Chain, Come, EndSteps}
 use Rattle.papaya_legal.specs.MapEvents.{InEndEvent}
 use Rattle.papaya_legal.proofs.Chains.{ends_chain, ends_run_to_their_ends}
 use Rattle.papaya_legal.proofs.MapsOver.{end_events_begin_so}
-use Rattle.papaya_remains.specs.Remains.{has_some}
 use Rattle.papaya_remains.proofs.Numbered.{made_stays}
-use Rattle.papaya_logged.specs.Ends.{EndCame, EndIsBegun, NotedStill, NotesMap, ended_as, is_done, left_so}
+use Rattle.papaya_logged.specs.Ends.{EndCame, EndIsBegun, NotedStill, NotesMap, ended_as, is_done}
 use Rattle.papaya_logged.specs.Goes.{EndGoes, EndOn, Far, GoesFor, far}
 use Rattle.papaya_logged.specs.Shown.{IsCounted, IsShown}
-use Rattle.papaya_logged.specs.Waits.{TellsWaiting}
+use Rattle.papaya_logged.specs.Waits.{TellsLeft, TellsWaiting}
 use Rattle.papaya_logged.proofs.Counted.{counted_end_steps}
+use Rattle.papaya_logged.proofs.LeftNoted.{endings_note_left}
 use Rattle.papaya_logged.proofs.EndSteps.{did_end, end_there, ends_alone, noted_on}
 use Rattle.papaya_rows.proofs.Lists.{found_has}
 use Rattle.papaya_scheduler.specs.Mapping.{AreApart}
@@ -197,7 +197,8 @@ module _ {K V S : Type 0} (same : K → K → Bool) (hash : K → ℕ) (terms : 
       made = made_stays None (Some map) step_did y.now ∙ y.made;
       maps = maps_stand same hash y.scene mid.logged.executor to.logged.executor i it.0 it.1 step.said leads ∙ y.maps;
       counted = counted_end_steps same hash mid.logged to.logged.executor to.logged.notes step.is_noted.given y.now y.scene y.is_at y.counted i map step.said leads it.0 it.1 step.is_noted.noted first
-          (taken_of (leads it.0 it.1).2.deed) did_its;
+          (taken_of (leads it.0 it.1).2.deed) did_its
+          (endings_note_left same hash name y.now (known mid.logged.notes) y.scene mid.logged.executor to.logged.executor y.is_at y.midst.0.calls.whole i map step.said leads it.0 it.1 no_map);
     }
 
     end_under : is_done step.said ≡ false → IsUnder to next
@@ -337,15 +338,14 @@ module _ {K V S : Type 0} (same : K → K → Bool) (hash : K → ℕ) (terms : 
 
     -- what all of it did, as the scheduler has it
     -- what waited is told as it ended
-    abbrev TellsLeft : (t : Scene K V) (gone_blocks : List ℕ) → EndCame s1 t i (finishing_of standing s.world) gone_blocks true → Type 0
-    TellsLeft t gone_blocks came =
-        (began : Moment K V) → TellsWaiting map standing.chart began m first_noted s1.world (has_some (finishing_of standing s.world).waits)
-        → TellsWaiting map standing.chart began (with_effects None (Some map) d.ran.0 m) (known new.logged.notes) t.world (has_some (left_so s1 t i (finishing_of standing s.world) gone_blocks true came.ender))
+    abbrev LeftTells : (t : Scene K V) (gone_blocks : List ℕ) → EndCame s1 t i (finishing_of standing s.world) gone_blocks true → Type 0
+    LeftTells t gone_blocks came =
+        (began : Moment K V) → TellsWaiting same map i (finishing_of standing s.world) began m first_noted s1.world → TellsLeft map standing.chart began (known new.logged.notes) came.ender.2.0
 
     abbrev u : (t : Scene K V) × (gone_blocks : List ℕ) × (came : EndCame s1 t i (finishing_of standing s.world) gone_blocks true) × (d.ran.0 ≡ ended_as map first_noted gone_blocks)
         × NotedStill first_noted (known new.logged.notes) ([] ++ gone_blocks) × IsShown same hash name (with_effects None (Some map) d.ran.0 m) new.logged t
         × (true ≡ true → ◌≡◌ {A = List ℕ} [] [] → d.ran.0 ≡ all_ended (is_incremental standing.setting.mode) map number standing.chart)
-        × TellsLeft t gone_blocks came
+        × LeftTells t gone_blocks came
     u =
         d.ran.3 same hash name m s1 (shown_mid same hash terms log old own due map d.found d.free d.began i begun) (finishing_of standing s.world)
         (ending_here same hash terms log old own due map d.found d.free d.began i begun) gone number first_noted (begun none_on).3.1 (λ b none. refl)

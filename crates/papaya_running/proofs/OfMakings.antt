@@ -74,6 +74,7 @@ use Rattle.papaya_logged.specs.Makings.{MakingIsBegun, is_over}
 use Rattle.papaya_logged.specs.Shown.{IsCounted, IsShown}
 use Rattle.papaya_logged.specs.declared.logged.Logged.{Logged}
 use Rattle.papaya_logged.proofs.Counted.{counted_making_steps}
+use Rattle.papaya_logged.proofs.LeftNoted.{makings_note_left}
 use Rattle.papaya_logged.proofs.GivenBack.{with_maps}
 use Rattle.papaya_rows.proofs.Lists.{found_alike}
 use Rattle.papaya_tables.proofs.Logarithms.{next-power-unique}
@@ -289,7 +290,8 @@ module _ {K V S : Type 0} (same : K → K → Bool) (hash : K → ℕ) (terms : 
       midst = next_midst;
       made = made_stays None (Some b.map) step_did y.now ∙ y.made;
       made_for = made_still y.now w b.map b.given (effects_keep_capacities K V None (Some b.map) step_did y.now b.map) y.made_for;
-      counted = counted_making_steps same hash mid.logged to.logged.executor to.logged.notes step.is_noted.given y.now y.scene y.is_at y.counted i step.said leads d it.1 (Some b.map) step.is_noted.noted;
+      counted = counted_making_steps same hash mid.logged to.logged.executor to.logged.notes step.is_noted.given y.now y.scene y.is_at y.counted i step.said leads d it.1 (Some b.map) step.is_noted.noted
+          (makings_note_left same hash name y.now (known mid.logged.notes) y.scene mid.logged.executor to.logged.executor y.is_at y.midst.0.calls.whole i step.said leads d it.1 (Some b.map) was_new next.world);
       firsts = ap (list_all is_first_making) step.is_noted.did ∙ list_all-append is_first_making mid.effects step_did ∙ ap (λ (q : Bool). q && list_all is_first_making step_did) y.firsts ∙ step_firsts;
       found = all_found;
       openings = makings_go_on K V S same hash y.scene mid.logged.executor to.logged.executor y.openings i step.said leads d it.1;

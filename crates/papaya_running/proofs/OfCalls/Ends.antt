@@ -110,7 +110,7 @@ module _ {K V S : Type 0} (same : K → K → Bool) (hash : K → ℕ) (name : �
         step.said (leads same hash name terms log event beginning map i c place n mid played.effects.items p new come its) begins acted
         (follows same hash name terms log event beginning map i c place n mid played.effects.items p new come its)
         (λ standing there. one_more standing
-        (mask_is same hash name terms log event beginning map i c place c_is (moments_from c.begun log) n mid played.effects.items p new come its standing there)) tells.1
+        (mask_is same hash name terms log event beginning map i c place c_is n mid played.effects.items p new come its standing there)) tells.1
       where
         one_more : (standing : Standing K) → standing.setting.mask + 1 ≡ shards_of terms → suc standing.setting.mask ≡ shards_of terms
         one_more standing is = omega (arith, is)
@@ -127,7 +127,7 @@ module _ {K V S : Type 0} (same : K → K → Bool) (hash : K → ℕ) (name : �
     after_run : ShowsRun same name terms (e ∷ log) (known new.logged.notes) at_end
     after_run = subst (λ (k : Known). ShowsRun same name terms (e ∷ log) k at_end) (sym noted) goes_on.1
 
-    abbrev its_left : ShowsRemains new.logged.executor.roots (then_now same hash name terms log event beginning map i c place n mid played.effects.items p new come its) at_end
+    abbrev its_left : ShowsRemains new.logged.executor.roots (then_now same hash name terms log event beginning map i c place n mid played.effects.items p new come its) (known new.logged.notes) at_end
     its_left = (shown_then same hash name terms log event beginning map i c place n mid played.effects.items p new come its).counted.remains
 
     shown : IsShown same hash name (moment (e ∷ log)) new.logged at_end
