@@ -24,9 +24,8 @@ use Rattle.papaya_histories.specs.Given.Follows.Calls.{IsCalled}
 use Rattle.papaya_histories.proofs.Given.Moments.After.{each_parts}
 use Rattle.papaya_histories.proofs.Begun.{effects_begun}
 use Rattle.papaya_finds.specs.Growing.{FindAsked, FindsAsked}
-use Rattle.papaya_finds.specs.Linking.{FindShapes, FindsShape}
 use Rattle.papaya_finds.specs.Nexts.{making_of_copier}
-use Rattle.papaya_finds.specs.Parts.{FindAll}
+use Rattle.papaya_finds.specs.Parts.{FindAll, FindRest}
 use Rattle.papaya_finds.specs.Waits.{FindSpace, FindsSpace}
 use Rattle.papaya_finds.proofs.Joined.{several_find_all}
 use Rattle.papaya_legal.specs.Nexts.{MayFollow}
@@ -88,15 +87,12 @@ module _ {K V : Type 0} (name : ℕ → List ℕ) (terms : Terms) (map i : ℕ) 
   -- so it is of the first effects, and of those behind them
   parts_still : (xs ys : List Effect) (m : Moment K V) → Rest (xs ++ ys) m → Rest xs m × Rest ys (with_effects (Some (name i)) (Some map) xs m)
   parts_still xs ys m rest = (
-    record { asks = λ is. (asked (rest.asks is)).0; links = λ is. (linked (rest.links is)).0; space = spaced.0 },
-    record { asks = λ is. (asked (rest.asks is)).1; links = λ is. (linked (rest.links is)).1; space = spaced.1 },
+    record { asks = λ is. (asked (rest.asks is)).0; space = spaced.0 },
+    record { asks = λ is. (asked (rest.asks is)).1; space = spaced.1 },
   )
     where
       asked : FindAsked terms moments (name i) map (xs ++ ys) m → FindAsked terms moments (name i) map xs m × FindAsked terms moments (name i) map ys (with_effects (Some (name i)) (Some map) xs m)
       asked all = each_parts (Some (name i)) (Some map) (Each (FindsAsked terms moments)) xs ys m all
-
-      linked : FindShapes terms moments (name i) map (xs ++ ys) m → FindShapes terms moments (name i) map xs m × FindShapes terms moments (name i) map ys (with_effects (Some (name i)) (Some map) xs m)
-      linked all = each_parts (Some (name i)) (Some map) (Each (FindsShape terms moments)) xs ys m all
 
       spaced : FindSpace (name i) map xs m × FindSpace (name i) map ys (with_effects (Some (name i)) (Some map) xs m)
       spaced = each_parts (Some (name i)) (Some map) (Each FindsSpace) xs ys m rest.space
@@ -141,11 +137,11 @@ module _ {K V S : Type 0} (same : K → K → Bool) (hash : K → ℕ) (name : �
         ap (λ (y : CallThere K V). y.begun) (the its.0 kept.0 (sym its.1 ∙ ap (λ (x : Moment K V). call_of (name i) x) come.midst.worked ∙ kept.1)) ∙ kept.2
 
     -- where its copier makes a table, its map has a second one, or had one since the call began
-    nexts : (k : NewTable) → making_of_copier (machine_of come.under) ≡ Some k → OneOf (HasNext map) (come.now ∷ (moments_from c.begun log))
+    nexts : (k : NewTable) → making_of_copier (machine_of come.under) ≡ Some k → OneOf (HasNext map) (come.now ∷ moments_from its.0.begun log)
     nexts k is =
         elim (such_of_making (λ (x : NewTable). MayFollow map its.0.begun log come.now) k (machine_of come.under) is (come.midst.calls.nexts map i come.under here its.0 its.1)) as
-        (λ _. OneOf (HasNext map) (come.now ∷ (moments_from c.begun log))) [
-          | inl had ↦ inr (subst (λ (b : ℕ). OneOf (HasNext map) (moments_from b log)) same_begun had)
+        (λ _. OneOf (HasNext map) (come.now ∷ moments_from its.0.begun log)) [
+          | inl had ↦ inr had
           | inr now ↦ inl now
         ]
 
@@ -155,9 +151,11 @@ module _ {K V S : Type 0} (same : K → K → Bool) (hash : K → ℕ) (name : �
         let led = leads same hash name terms log event beginning map i c place n mid after p new come step in
         steps_find_all K V S same hash name come.now (known p.logged.notes) come.scene p.logged.executor new.logged.executor come.shown.is_at come.midst.calls.whole come.midst.calls.kept map i come.under
         here step.said led terms (mask_is (led map come.under here).0 (led map come.under here).2) its.0 its.1 (come.slot its.0 its.1) (moments_from c.begun log)
-        (steps_find_rest K V S same hash name come.now (known p.logged.notes) come.scene p.logged.executor new.logged.executor come.shown.is_at come.midst.calls.whole come.midst.calls.kept
-        come.midst.calls.finding map i come.under here step.said led terms (moments_from c.begun log) its.0 its.1 nexts
-        (subst (λ (b : Bool). FindStill terms (moments_from c.begun log) (name i) map its_did come.now b) (sym same_kind) rest))
+        (subst (λ (b : ℕ). FindRest terms (moments_from b log) (name i) map its_did come.now) same_begun
+        (steps_find_rest K V S same hash name log come.now (known p.logged.notes) come.scene p.logged.executor new.logged.executor come.shown.is_at come.midst.calls.whole come.midst.calls.kept
+        come.midst.calls.finding come.midst.calls.purposes map i come.under here step.said led terms its.0 its.1 (mask_is (led map come.under here).0 (led map come.under here).2) nexts
+        (subst (λ (b : ℕ). FindStill terms (moments_from b log) (name i) map its_did come.now (is_reservation its.0.call)) (sym same_begun)
+        (subst (λ (q : Bool). FindStill terms (moments_from c.begun log) (name i) map its_did come.now q) (sym same_kind) rest))))
 
     -- and so do all, where those before do
     pub all_find : (Rest name terms map i c (moments_from c.begun log) mid beginning → All name terms map i c (moments_from c.begun log) mid beginning) → Rest name terms map i c (moments_from c.begun log) after beginning → All name terms map i c (moments_from c.begun log) after beginning
