@@ -1,0 +1,3 @@
+mod Moves
+mod Counting
+mod Places
