@@ -29,7 +29,7 @@ module _ {K : Type 0} (V : Type 0) (same : K → K → Bool) (batch_size roots :
           → (told : Settled (Node K V)) × (n : Scene K V) × (lists2 : ℕ → List ℕ) × (c2 : ReclaimAll) × ReclaimedOn V same batch_size roots slot s i lists c g told n lists2 c2
           × IsReclaimingAll V same batch_size roots slot n i lists2 c2
       leads g m2 c2 told computed =
-          let did : StepsOfReclaiming V same same batch_size roots slot s.maps s.calls s.makers s.enders s.world i lists m2 c2 told =
+          let did : StepsOfReclaiming V same same batch_size roots slot s.maps s.calls s.makers s.enders s.world i lists c.stands m2 c2 told =
           (reclaiming_stands V same same batch_size roots slot s.maps s.calls s.makers s.enders s.world i lists c word all).1 m2 c2 told
           (was_stepped s.world.memory g (reclaim_all_plan deferred_word was_left c) (m2, (c2, told)) computed) in
           (told, record s { world = did.w2; maps = did.maps2 }, did.lists2, c2, record { memory = m2; computed = computed; did = did; comes = refl; lists_are = refl }, did.next)

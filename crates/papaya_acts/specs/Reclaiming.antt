@@ -25,7 +25,7 @@ module _ {K : Type 0} (V : Type 0) (same : K → K → Bool) (batch_size roots :
   pub record ReclaimedOn (s : Scene K V) (i : ℕ) (lists : ℕ → List ℕ) (c : ReclaimAll) (g : Grant) (told : Settled (Node K V)) (n : Scene K V) (lists2 : ℕ → List ℕ) (c2 : ReclaimAll) : Type 0 where
     pub memory : Mem (Node K V)
     pub computed : reclaiming_steps s g c ≡ Some (memory, (c2, told))
-    pub did : StepsOfReclaiming V same same batch_size roots slot s.maps s.calls s.makers s.enders s.world i lists memory c2 told
+    pub did : StepsOfReclaiming V same same batch_size roots slot s.maps s.calls s.makers s.enders s.world i lists c.stands memory c2 told
     pub comes : n ≡ record s { world = did.w2; maps = did.maps2 }
     pub lists_are : lists2 ≡ did.lists2
 

@@ -44,7 +44,7 @@ module _ {K : Type 0} (V : Type 0) (same : K → K → Bool) (hash : K → ℕ) 
     led = record s { world = on.did.w2; maps = on.did.maps2 }
 
     led_theirs : AreTheirs (record s { world = on.did.w2; maps = on.did.maps2 })
-    led_theirs = reclaiming_keeps_theirs V same same batch_size roots slot s.world s.maps s.calls s.makers s.enders idle.stand i lists on.memory c2 told on.did theirs
+    led_theirs = reclaiming_keeps_theirs V same same batch_size roots slot s.world s.maps s.calls s.makers s.enders idle.stand i lists c.stands on.memory c2 told on.did theirs
 
     then_theirs : AreTheirs v
     then_theirs = subst AreTheirs (sym on.comes) led_theirs

@@ -6,6 +6,7 @@ use Rattle.papaya_executor.specs.Given.Seize.World.{World, Request, Begin, Step,
 use Rattle.papaya_executor.specs.Given.Seize.declared.progress.Progress.{Progress}
 use Rattle.papaya_executor.specs.Given.Seize.declared.progress.Progress.TheVariants as progress
 use Rattle.papaya_executor.specs.Given.Seize.declared.rows.reclaim_all.ReclaimAll.{ReclaimAll}
+use Rattle.papaya_executor.specs.Given.Seize.declared.rows.reclaim_all.Reclaiming.{Reclaiming}
 use Rattle.papaya_executor.specs.Given.Seize.declared.rows.settle.Settled.{Settled}
 use Rattle.seize_acts.specs.Reclaimed.{IsStillHad}
 use Rattle.papaya_executor.specs.Given.Tables.Nodes.{deferred_word}
@@ -150,8 +151,8 @@ module _ {K Q : Type 0} (V : Type 0) (same : K → K → Bool) (asks : Q → K �
   -- A caller that reclaims all takes a step.
   abbrev pub ReclaimingKeepsTheirs : Type 0
   ReclaimingKeepsTheirs =
-      AllStandIdle V same asks batch_size roots slot maps calls makers enders w → (i : ℕ) (lists : ℕ → List ℕ) (m2 : Mem (Node K V)) (c2 : ReclaimAll) (progress : Settled (Node K V))
-      → (st : StepsOfReclaiming V same asks batch_size roots slot maps calls makers enders w i lists m2 c2 progress)
+      AllStandIdle V same asks batch_size roots slot maps calls makers enders w → (i : ℕ) (lists : ℕ → List ℕ) (point : Reclaiming) (m2 : Mem (Node K V)) (c2 : ReclaimAll) (progress : Settled (Node K V))
+      → (st : StepsOfReclaiming V same asks batch_size roots slot maps calls makers enders w i lists point m2 c2 progress)
       → AllAreTheirs w maps calls enders → AllAreTheirs st.w2 st.maps2 calls enders
 
   -- Once all is reclaimed, nothing waits but what is deferred on linked tables of maps that stand.

@@ -22,9 +22,12 @@ pub mod SlotsAfter
 pub mod Over
 pub mod Idle
 pub mod Begun
+pub mod Choices
 pub mod Again
 pub mod MapsOver
 pub mod Chains
 pub mod OfAll
 pub mod Legal
 pub mod Found
+pub mod Come
+pub mod Noted

@@ -7,4 +7,6 @@ pub mod Stays
 pub mod Steps
 pub mod Pairs
 pub mod Model
+pub mod Sets
+pub mod BySets
 pub mod Ends

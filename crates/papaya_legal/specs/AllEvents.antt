@@ -1,6 +1,7 @@
 -- Events that reclaim all: in the midst of one, wherever a chain of its steps has led, and at its end.
-use Rattle.std.specs.Prelude.{◌≡◌, ◌⊎◌, ◌<◌, ◌^◌, ◌+◌, ℕ, Bool, true, false, List, [], ◌∷◌, ◌++◌, Option, None, flat_map}
+use Rattle.std.specs.Prelude.{◌≡◌, ◌⊎◌, ◌<◌, ◌^◌, ◌+◌, ℕ, Bool, true, false, List, [], ◌∷◌, ◌++◌, Option, None, flat_map, if◌then◌else◌}
 use Rattle.std.specs.List.{list_all}
+use Rattle.papaya_histories.specs.Given.Seize.ReclaimAll.{clearing, reclaiming_all}
 use Rattle.papaya_histories.specs.Given.Seize.Sequence.{taken_in}
 use Rattle.papaya_histories.specs.Given.Seize.WaitingSets.{Change}
 use Rattle.papaya_histories.specs.Given.Seize.World.{World, times}
@@ -97,11 +98,19 @@ module _ {K V : Type 0} (same : K → K → Bool) (name : ℕ → List ℕ) (ter
     pub turn : TakesInTurn terms.roots first began behind done known s.world all lists
     pub left : LeftIsBehind terms.roots m known lists
 
-module _ {K V S : Type 0} (same : K → K → Bool) (hash : K → ℕ) (roots i : ℕ) where
-  -- A step by which all is reclaimed, of an executor with so many roots, as if by caller i.
+module _ {K V S : Type 0} (same : K → K → Bool) (hash : K → ℕ) (terms : Terms) (i : ℕ) where
+  -- It begins, as if by caller i: with the slots, if one was taken, else with the roots.
+  pub record BeginsAll (from : AllCome K V S) : Type 0 where
+    pub under_way : IsReclaiming same hash from.come.executor from.come.scene i from.lists from.all
+    pub size : from.come.executor.batch_size ≡ terms.batch_size
+    pub taken : Bool
+    pub first : from.all ≡ (if taken then reclaiming_all terms.batch_size terms.roots else clearing terms.roots)
+
+  -- A step by which all is reclaimed, as if by caller i.
   pub record AllSteps (from to : AllCome K V S) : Type 0 where
     pub under_way : IsReclaiming same hash from.come.executor from.come.scene i from.lists from.all
-    pub roots_are : from.come.executor.roots ≡ roots
+    pub roots_are : from.come.executor.roots ≡ terms.roots
+    pub size : from.come.executor.batch_size ≡ terms.batch_size
     pub said : Settled (Node K V)
     pub leads : ReclaimingLeads same hash from.come.scene i from.lists from.come.executor to.come.executor from.all to.all said
     pub comes : to ≡ record {
@@ -138,7 +147,7 @@ module _ (K V S : Type 0) (same : K → K → Bool) (hash : K → ℕ) where
   abbrev pub AllChain : Type 0
   AllChain =
       (name : ℕ → List ℕ) (terms : Terms) (log : List (Entry K V)) (first : Known) (began : World (Node K V)) (behind : ℕ → List ℕ) (i n : ℕ) (from to : AllCome K V S)
-      → Chain (AllSteps same hash terms.roots i) n from to → InAllEvent same name terms log first began behind from.come.did from.come.now from.come.notes from.come.scene from.all from.lists
+      → Chain (AllSteps same hash terms i) n from to → InAllEvent same name terms log first began behind from.come.did from.come.now from.come.notes from.come.scene from.all from.lists
       → InAllEvent same name terms log first began behind to.come.did to.come.now to.come.notes to.come.scene to.all to.lists
 
   -- there each pair that it has reclaimed was handed over, or left over, if no call was under way as it began, and what was behind the roots was left over;
@@ -146,20 +155,27 @@ module _ (K V S : Type 0) (same : K → K → Bool) (hash : K → ℕ) where
   AllFindPairs =
       (name : ℕ → List ℕ) (terms : Terms) (log : List (Entry K V)) (known : Known) (s : Scene K V) (old : Executor K V S) → ShowsRun same name terms log known s → (moment log).calls ≡ []
       → (i : ℕ) (all : ReclaimAll) (lists : ℕ → List ℕ) → LeftIsBehind terms.roots (moment log) known lists → BehindAreLeft terms.roots (moment log) known lists
-      → (n : ℕ) (to : AllCome K V S) → Chain (AllSteps same hash terms.roots i) n (all_begun log known s old all lists) to → AtEachEffect FindsPair None None to.come.did (moment log)
+      → (n : ℕ) (to : AllCome K V S) → Chain (AllSteps same hash terms i) n (all_begun log known s old all lists) to → AtEachEffect FindsPair None None to.come.did (moment log)
 
-  -- and where its last step has said that all is reclaimed, all is back, and what ended maps had left over came last; the event is legal but for what it comes to, and a run goes on with it: if what was
-  -- behind the roots is what the moment said, each pair that is reclaimed was handed over or left over, and its work on slots, in
-  -- the world of the scene, has reclaimed what the waiting sets of blocks say, and left the sets so.
+  -- and where its last step has said that all is reclaimed, its work on slots has reclaimed what the waiting sets of blocks say, in the world of the scene, and left the sets so,
+  -- by whatever changes of them that world came in which it began.
+  abbrev pub AllReclaimBySets : Type 0
+  AllReclaimBySets =
+      (terms : Terms) → terms.batch_size < 2 ^ 64 → (i n : ℕ) (from to over : AllCome K V S) → BeginsAll same hash terms i from → Chain (AllSteps same hash terms i) n from to
+      → (last : AllSteps same hash terms i to over) → last.said ≡ settled.Done
+      → (before : List Change) → CameByTurns deferred_word terms.batch_size terms.roots from.come.scene.world before
+      → HasReclaimed deferred_word terms.batch_size terms.roots from.come.scene.world before over.come.scene.world
+
+  -- So all is back then, and what ended maps had left over came last; the event is legal but for what it comes to, and a run goes on with it: if what was behind the roots is what the moment said, and
+  -- each pair that is reclaimed was handed over or left over.
   abbrev pub AllRunsToItsEnd : Type 0
   AllRunsToItsEnd =
       (name : ℕ → List ℕ) (terms : Terms) (log : List (Entry K V)) (known : Known) (s : Scene K V) (old : Executor K V S) → terms.batch_size < 2 ^ 64 → ShowsRun same name terms log known s
       → (event : Event K V) → gives_all event ≡ true → (ComesAlone event log → FollowsModel terms.batch_size terms.roots log known s.world)
       → (i : ℕ) (all : ReclaimAll) (lists : ℕ → List ℕ) → LeftIsBehind terms.roots (moment log) known lists → BehindIsLeft terms.roots (moment log) known lists
-      → (n : ℕ) (to over : AllCome K V S) → Chain (AllSteps same hash terms.roots i) n (all_begun log known s old all lists) to
-      → (last : AllSteps same hash terms.roots i to over) → last.said ≡ settled.Done
+      → BeginsAll same hash terms i (all_begun log known s old all lists)
+      → (n : ℕ) (to over : AllCome K V S) → Chain (AllSteps same hash terms i) n (all_begun log known s old all lists) to
+      → (last : AllSteps same hash terms i to over) → last.said ≡ settled.Done
       → (steps : ℕ) (effects : List Effect) → over.come.did ≡ effects → AtEachEffect FindsPair None None effects (moment log)
-      → ((before : List Change) → CameByTurns deferred_word terms.batch_size terms.roots s.world before
-      → HasReclaimed deferred_word terms.batch_size terms.roots s.world before over.come.scene.world)
       → (let e : Entry K V = record { event = event; outcome = Done; steps = steps; effects = effects } in
       ComesRight terms log e → IsLegalBut same terms log e × ReclaimsAll log e × ShowsRun same name terms (e ∷ log) over.come.notes over.come.scene)

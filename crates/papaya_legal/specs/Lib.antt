@@ -10,3 +10,4 @@ pub mod Chains
 pub mod AllEvents
 pub mod Promises
 pub mod Found
+pub mod Noted

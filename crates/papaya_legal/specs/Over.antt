@@ -1,4 +1,4 @@
--- Once an event is over the moment after it shows all that the next event needs: where it does nothing, has a call say again what it has said, begins one, tells it a reply, or gives a walk up; and where it has made a map, or ended one.
+-- Once an event is over the moment after it shows all that the next event needs: where it does nothing, chooses the number of a block, has a call say again what it has said, begins one, tells it a reply, or gives a walk up; and where it has made a map, or ended one.
 use Rattle.std.specs.Prelude.{◌≡◌, ◌<◌, ◌^◌, ℕ, Bool, true, false, List, [], ◌∷◌, Option, Some, None, Ok}
 use Rattle.std.specs.List.{AllByRecursion}
 use Rattle.papaya_histories.specs.Given.SeizeWords.declared.fault.Fault.TheVariants.{Busy}
@@ -11,7 +11,7 @@ use Rattle.papaya_histories.specs.Given.Schedules.declared.call.Reply.{Reply}
 use Rattle.papaya_histories.specs.Given.Tables.declared.resize_mode.ResizeMode.{ResizeMode}
 use Rattle.papaya_histories.specs.Given.Schedules.declared.effect.Effect.{Effect}
 use Rattle.papaya_histories.specs.Given.Schedules.declared.event.Event.{Event}
-use Rattle.papaya_histories.specs.Given.Schedules.declared.event.Event.TheVariants.{MakeMap, EndMap, Begin, Step, Go, Replied, OneCall, Next, Stop}
+use Rattle.papaya_histories.specs.Given.Schedules.declared.event.Event.TheVariants.{Choose, MakeMap, EndMap, Begin, Step, Go, Replied, OneCall, Next, Stop}
 use Rattle.papaya_histories.specs.Given.Schedules.declared.outcome.Outcome.{Outcome}
 use Rattle.papaya_histories.specs.Given.Schedules.declared.outcome.Outcome.TheVariants.{Asks, Done, Goes, Ready, Refused}
 use Rattle.papaya_histories.specs.Given.Schedules.After.{moment}
@@ -37,7 +37,10 @@ use Rattle.papaya_histories.specs.Given.Finishes.Makings.{Beginning, HasMade}
 use Rattle.papaya_histories.specs.Given.Finishes.Maps.{Standing, with_call as with_call_of}
 use Rattle.papaya_histories.specs.Given.Follows.Calling.{NoneNamed}
 use Rattle.papaya_histories.specs.Given.Hands.Asked.{as_told}
+use Rattle.papaya_histories.specs.Given.Moments.Whole.{ShowsWhole}
 use Rattle.papaya_histories.specs.Changes.{IsTaken}
+use Rattle.papaya_kept.specs.Kept.{ShowsKept}
+use Rattle.papaya_logged.specs.Choosing.{scene_chosen}
 use Rattle.papaya_promises.specs.Reading.{ShowsReading}
 use Rattle.papaya_promises.specs.Sheltered.{SectionsHold}
 use Rattle.papaya_models.specs.Follows.{FollowsModel}
@@ -105,6 +108,15 @@ module _ (K V : Type 0) (same : K → K → Bool) where
       (name : ℕ → List ℕ) (terms : Terms) (log : List (Entry K V)) (known : Known) (s : Scene K V) → ShowsRun same name terms log known s
       → (e : Entry K V) → ComesRight terms log e → MovesOn terms log e → e.effects ≡ [] → changes_of log e ≡ [] → left_last e.event e.outcome (moment log) ≡ [] → ReclaimsAll log e
       → LeavesAll e.event e.outcome e.steps → SectionsHold (moment (e ∷ log)) known s.world → ShowsRun same name terms (e ∷ log) known s
+
+  -- It is legal that an event chooses the number of a block, and a run goes on with it in the scene whose memory has that choice, if no call is in the midst of a row where the event comes alone.
+  abbrev pub ChoicesEnd : Type 0
+  ChoicesEnd =
+      (name : ℕ → List ℕ) (terms : Terms) (log : List (Entry K V)) (known : Known) (s : Scene K V) → ShowsRun same name terms log known s → (choice : ℕ)
+      → (ComesAlone (Choose choice) log → FollowsModel terms.batch_size terms.roots log known s.world)
+      → ShowsWhole same name (moment log) known (scene_chosen choice s) → ShowsKept name (moment log) known (scene_chosen choice s) → (steps : ℕ)
+      → (let e : Entry K V = record { event = Choose choice; outcome = Done; steps = steps; effects = [] } in
+      ComesRight terms log e → IsLegalBut same terms log e × ShowsRun same name terms (e ∷ log) known (scene_chosen choice s))
 
 module _ (K V S : Type 0) (same : K → K → Bool) (hash : K → ℕ) where
   -- It is legal, and a run goes on with it, that an event begins a call on the map of this name,

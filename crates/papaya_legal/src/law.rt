@@ -1,6 +1,6 @@
 //! What is promised of each event of a run, whatever calls are under way.
 ghost use Rattle.std.specs.Prelude.{ℕ, Bool};
-ghost use Rattle.papaya_legal.specs.AllEvents.{AllChain, AllEventsBegin, AllFindPairs, AllRunsToItsEnd, SlotsLeaveRoots};
+ghost use Rattle.papaya_legal.specs.AllEvents.{AllChain, AllEventsBegin, AllFindPairs, AllReclaimBySets, AllRunsToItsEnd, SlotsLeaveRoots};
 ghost use Rattle.papaya_legal.specs.Between.{CallsBegin, CallsTake, EndsBegin, LikesShow, LogsGrow, MakingsBegin, MapsCome, MapsGo, NamesChange, WalksGoOn, WalksStop};
 ghost use Rattle.papaya_legal.specs.Carried.{RunsBegin, RunsBeginIn};
 ghost use Rattle.papaya_legal.specs.CallEvents.{CallEventsAreLegal, CallEventsBegin, CallEventsEnd, CallEventsFollow, CallEventsGoOn, NextsBegin, WholeCallsBegin};
@@ -9,7 +9,8 @@ ghost use Rattle.papaya_legal.specs.CallSwept.{CallsAreSwept};
 ghost use Rattle.papaya_legal.specs.SlotEvents.{SlotEventsBegin, SlotEventsGoOn, SlotEventsAreLegal, SlotEventsEnd};
 ghost use Rattle.papaya_legal.specs.MapEvents.{MakingEventsGoOn, EndEventsGoOn, MapEventsAreLegal, IdleEventsAreLegal};
 ghost use Rattle.papaya_legal.specs.Found.{RestShowsRetired, RowChainsFind, RowsFindTheirs};
-ghost use Rattle.papaya_legal.specs.Over.{AgainEventsEnd, BegunEventsEnd, EndEventsBegin, EndEventsEnd, EndEventsFollow, IdleEventsEnd, MakingEventsBegin, MakingEventsEnd, MakingEventsFollow, QuietEventsEnd, RunsByOtherNames, RunsGoOn, StoppedEventsEnd, ToldEventsEnd};
+ghost use Rattle.papaya_legal.specs.Noted.{CallsBringThings, CallsHandNoted, EventsBeginWithThings, EventsBringThings, NothingHasCome};
+ghost use Rattle.papaya_legal.specs.Over.{AgainEventsEnd, BegunEventsEnd, ChoicesEnd, EndEventsBegin, EndEventsEnd, EndEventsFollow, IdleEventsEnd, MakingEventsBegin, MakingEventsEnd, MakingEventsFollow, QuietEventsEnd, RunsByOtherNames, RunsGoOn, StoppedEventsEnd, ToldEventsEnd};
 ghost use Rattle.papaya_legal.specs.Chains.{CallsChain, EndsChain, MakingsChain, RowsChain, RowsRunToTheirEnds, MakingsRunToTheirEnds, EndsRunToTheirEnds};
 ghost use Rattle.papaya_legal.specs.Promises.{EventsAreLegal};
 
@@ -73,14 +74,14 @@ pub fn slot_events<K, V, S>()
 {}
 
 /// As long as reclaiming all is on slots, what is behind the roots stays there. An event that reclaims all is in its midst where that begins, if what is left over is behind the roots, and wherever a
-/// chain of its steps has led; each pair that it has reclaimed there was handed over, or left over, if no call was under way, and what was behind the roots was left over. Once its last step has said that all is reclaimed, all is back, and what ended maps had left over came last; the event is legal but for what it comes to, and a run goes on with
-/// it: if what was behind the roots is what the moment said, each pair that is reclaimed was handed over or left over, and the work on
-/// slots has reclaimed what the waiting sets of blocks say.
+/// chain of its steps has led; each pair that it has reclaimed there was handed over, or left over, if no call was under way, and what was behind the roots was left over. Once its last step has said that all is reclaimed, the work on slots has reclaimed what the waiting sets of blocks say, all is back, and what ended maps had left over came last; the event is legal but for what
+/// it comes to, and a run goes on with it: if what was behind the roots is what the moment said, and each pair that is reclaimed was handed over or left over.
 pub fn reclaiming_all<K, V, S>()
     ensures slots { (same : K → K → Bool) (hash : K → ℕ) → SlotsLeaveRoots K V S same hash }
     ensures begins { (same : K → K → Bool) (hash : K → ℕ) → AllEventsBegin K V S same hash }
     ensures chain { (same : K → K → Bool) (hash : K → ℕ) → AllChain K V S same hash }
     ensures pairs { (same : K → K → Bool) (hash : K → ℕ) → AllFindPairs K V S same hash }
+    ensures sets { (same : K → K → Bool) (hash : K → ℕ) → AllReclaimBySets K V S same hash }
     ensures ends { (same : K → K → Bool) (hash : K → ℕ) → AllRunsToItsEnd K V S same hash }
 {}
 
@@ -100,12 +101,13 @@ pub fn map_events<K, V, S>()
 {}
 
 /// An event that does nothing keeps its promises, as one that is kept out does. The moment after it shows all that the next event needs, if it is like one that does; so it is where calls and maps are as
-/// they were. An event that begins a call, has one say again what it asks, or that it is ready, tells it a reply that it takes, or gives up a walk that is ready, is legal but for what it comes to, and the
+/// they were. So it is, too, once an event has chosen the number of a block. An event that begins a call, has one say again what it asks, or that it is ready, tells it a reply that it takes, or gives up a walk that is ready, is legal but for what it comes to, and the
 /// moment after it shows all that the next one needs.
 pub fn idle_events<K, V, S>()
     ensures legal { (same : K → K → Bool) → IdleEventsAreLegal K V same }
     ensures quiet { (same : K → K → Bool) → QuietEventsEnd K V same }
     ensures ends { (same : K → K → Bool) → IdleEventsEnd K V same }
+    ensures chosen { (same : K → K → Bool) → ChoicesEnd K V same }
     ensures begun { (same : K → K → Bool) (hash : K → ℕ) → BegunEventsEnd K V S same hash }
     ensures again { (same : K → K → Bool) (hash : K → ℕ) → AgainEventsEnd K V S same hash }
     ensures told { (same : K → K → Bool) (hash : K → ℕ) → ToldEventsEnd K V S same hash }
@@ -137,4 +139,14 @@ pub fn rows_find_theirs<K, V, S>()
     ensures found { (same : K → K → Bool) (hash : K → ℕ) → RowsFindTheirs K V S same hash }
     ensures chain { (same : K → K → Bool) (hash : K → ℕ) → RowChainsFind K V S same hash }
     ensures retired { (same : K → K → Bool) (hash : K → ℕ) → RestShowsRetired K V S same hash }
+{}
+
+/// Each pair that was stored, and each table of a map, came into a map, by the log of a run: before all events, after what a call does, and after an event whose effects find what they must. So what a
+/// row hands over that begins with a step of a call is noted as such a thing, and it does so under the slot of its caller.
+pub fn rows_hand_noted<K, V, S>()
+    ensures nothing { NothingHasCome K V }
+    ensures begins { EventsBeginWithThings K V }
+    ensures calls { CallsBringThings K V }
+    ensures events { EventsBringThings K V }
+    ensures noted { (same : K → K → Bool) (hash : K → ℕ) → CallsHandNoted K V S same hash }
 {}

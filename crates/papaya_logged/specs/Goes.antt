@@ -1,8 +1,9 @@
 -- Which steps ran, one after another, each as it was noted.
-use Rattle.std.specs.Prelude.{◌≡◌, ℕ, zero, suc, Bool, true, false, List, ◌++◌, Some}
+use Rattle.std.specs.Prelude.{◌≡◌, ℕ, zero, suc, Bool, true, false, List, ◌++◌, Some, if◌then◌else◌}
 use Rattle.seize.specs.declared.progress.Progress.{Progress}
 use Rattle.seize.specs.declared.rows.reclaim_all.ReclaimAll.{ReclaimAll}
 use Rattle.seize.specs.declared.rows.settle.Settled.{Settled}
+use Rattle.seize.specs.ReclaimAll.{reclaiming_all, clearing}
 use Rattle.papaya_histories.specs.Given.Tables.declared.node.Node.{Node}
 use Rattle.papaya_histories.specs.Given.Tables.declared.setting.Setting.{Setting}
 use Rattle.papaya_histories.specs.Given.Resize.declared.new_map.NewMap.{NewMap}
@@ -110,10 +111,12 @@ module _ {K V S : Type 0} where
   abbrev pub EndGone : (i map : ℕ) → (before after : List Effect) → (old new : Logged K V S) → Type 0
   EndGone i map before after old new = (prev : Far K V S) × GoesTo (EndOn i map) (far before old) prev × (step : EndGoes i map prev (far after new)) × (is_done step.said ≡ true)
 
-  -- Reclaiming all has run by its steps, of which the last one ended it, from where it begins in whatever scene the executor is shown, and nobody has anything under way.
+  -- Reclaiming all has run by its steps, of which the last one ended it, from where it begins in whatever scene the executor is shown, and nobody has anything under way: with the slots, if one was
+  -- taken, else with the roots.
   abbrev pub ReclaimingGone : Bool → (before after : List Effect) → (old new : Logged K V S) → Type 0
   ReclaimingGone taken before after old new =
       (first : ReclaimAll)
       × ((same : K → K → Bool) (hash : K → ℕ) (name : ℕ → List ℕ) (m : Moment K V) (s : Scene K V) (i : ℕ) (lists : ℕ → List ℕ) → IsShown same hash name m old s
       → NobodyHas old.executor → MayReclaim old.executor s lists taken → IsReclaiming same hash old.executor s i lists first)
       × (mid : Far K V S × ReclaimAll) × GoesTo ReclaimingOn (far before old, first) mid × (last : ReclaimAll) × (step : ReclaimingGoes mid (far after new, last)) × (is_done step.1 ≡ true)
+      × (first ≡ (if taken then reclaiming_all old.executor.batch_size old.executor.roots else clearing old.executor.roots))

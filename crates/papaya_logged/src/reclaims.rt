@@ -1,5 +1,6 @@
 //! All is reclaimed, step by step, while nobody has anything under way.
-ghost use Rattle.std.specs.Prelude.{◌≡◌, ◌++◌, ℕ, Bool, List, IfOk, OnOk};
+ghost use Rattle.std.specs.Prelude.{◌≡◌, ◌++◌, ℕ, Bool, List, IfOk, OnOk, if◌then◌else◌};
+ghost use Rattle.seize.specs.ReclaimAll.{reclaiming_all, clearing};
 ghost use Rattle.papaya_effects.specs.Effects.{effects_of, known_after};
 ghost use Rattle.papaya_effects.specs.Known.{known};
 ghost use Rattle.papaya_effects.specs.declared.acting.Acting.TheVariants.{Row};
@@ -25,8 +26,9 @@ use std::alloc::AllocError;
 impl<K: Drop, V: Drop, S> Logged<K, V, S> {
     /// Begins to reclaim all: with the slots, if one was ever taken, else with the roots.
     pub fn begin_reclaiming(&self, taken: bool) -> Reclaiming
-        ensures { (same : K → K → Bool) (hash : K → ℕ) (name : ℕ → List ℕ) (m : Moment K V) (s : Scene K V) (i : ℕ) (lists : ℕ → List ℕ) → IsShown same hash name m self.now s
+        ensures shown { (same : K → K → Bool) (hash : K → ℕ) (name : ℕ → List ℕ) (m : Moment K V) (s : Scene K V) (i : ℕ) (lists : ℕ → List ℕ) → IsShown same hash name m self.now s
             → NobodyHas self.now.executor → MayReclaim self.now.executor s lists taken → ReclaimingIsShown same hash name m self.now s i lists result.all }
+        ensures is { result.all ≡ (if taken then reclaiming_all self.now.executor.batch_size self.now.executor.roots else clearing self.now.executor.roots) }
     {
         Reclaiming::new(&self.executor, taken)
     }

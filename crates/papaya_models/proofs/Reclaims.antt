@@ -1,16 +1,24 @@
 -- What a caller reclaims that reclaims all, alone, as it has done with slots.
 use Rattle.std.specs.Prelude.{Option}
-use Rattle.std.proofs.Common.{◌≡◌, ◌<◌, ◌^◌, ◌+◌, ℕ, Bool, List, ◌++◌, refl, ap, sym, subst, ◌∙◌}
-use Rattle.papaya_histories.specs.Given.Seize.declared.states.TheConstants.{LAST_SLOT}
-use Rattle.papaya_histories.specs.Given.Seize.WaitingSets.{Change, ReclaimsAll, Sets, After, all_reclaimed, at_start as sets_at_start}
-use Rattle.papaya_histories.specs.Given.Seize.World.{World, at_start}
+use Rattle.std.proofs.Common.{◌≡◌, ◌<◌, ◌^◌, ◌+◌, ℕ, Bool, List, [], ◌++◌, refl, ap, sym, subst, ◌∙◌, arith, inl, inr}
+use Rattle.std.proofs.lemmas.Bool.{cases_lt}
+use Rattle.std.proofs.lemmas.List.{append-nil}
+use Rattle.papaya_histories.specs.Given.SeizeWords.declared.at.At.TheVariants as name
+use Rattle.papaya_histories.specs.Given.Seize.Sequence.{taken_in}
+use Rattle.papaya_histories.specs.Given.Seize.declared.states.TheConstants.{BATCH, LAST_SLOT}
+use Rattle.papaya_histories.specs.Given.Seize.WaitingSets.{Change, ReclaimsAll, Sets, After, all_reclaimed, quietly, at_start as sets_at_start}
+use Rattle.papaya_histories.specs.Given.Seize.World.{World, Vacant, at_start}
+use Rattle.papaya_histories.proofs.Given.SeizeRule.Words.Named.{words_of}
 use Rattle.papaya_histories.proofs.Given.SeizeRule.World.Rested.{start_rested}
 use Rattle.papaya_histories.specs.Given.SeizeSets.Reclaims.{Reclaims, NothingWaits}
 use Rattle.papaya_histories.proofs.Given.SeizeSets.Reclaims.Calls.{reclaims_by_calls}
-use Rattle.papaya_histories.proofs.Given.SeizeSets.Reclaims.Ends.{Left, all_left_so}
+use Rattle.papaya_histories.proofs.Given.SeizeSets.Reclaims.Ends.{Left, all_left_so, none_closed}
 use Rattle.papaya_histories.proofs.Given.SeizeSets.Reclaims.NeverTaken.{turns_past}
+use Rattle.papaya_histories.proofs.Given.SeizeSets.Reclaims.Rounds.{reclaimed_quiet}
+use Rattle.papaya_histories.proofs.Given.SeizeSets.Reclaims.Sets.{active_is, is_inside, open_none}
 use Rattle.papaya_histories.proofs.Given.SeizeSets.Turns.All.{turns_shown, start_shown}
 use Rattle.papaya_histories.proofs.Given.SeizeSets.Turns.Append.{turns_append, changed_append}
+use Rattle.papaya_histories.proofs.Given.SeizeSets.Turns.Begins.{Shown}
 use Rattle.papaya_histories.specs.Given.Tables.Nodes.{deferred_word}
 use Rattle.papaya_histories.specs.Given.Tables.declared.node.Node.{Node}
 use Rattle.papaya_models.specs.Alike.{SetsAlike}
@@ -22,7 +30,7 @@ use Rattle.papaya_models.proofs.Numbers.{has_one}
 
 module _ {T : Type 0} (defers : T → Option ℕ) (left_over : T → Bool) (batch_size roots : ℕ) (small : batch_size < 2 ^ 64) (v : World T) (before : List Change)
     (came : CameByTurns defers batch_size roots v before) (i : ℕ) where
-  has_reclaimed : (w : World T) → Reclaims defers batch_size i v w → HasReclaimed defers batch_size roots v before w
+  pub has_reclaimed : (w : World T) → Reclaims defers batch_size i v w → HasReclaimed defers batch_size roots v before w
   has_reclaimed w reclaims =
       let n = LAST_SLOT + 1 in
       let shown = turns_shown defers n batch_size refl small came.0 (at_start defers roots) v before sets_at_start (start_shown defers n batch_size refl small roots) came.1 in
@@ -37,6 +45,35 @@ module _ {T : Type 0} (defers : T → Option ℕ) (left_over : T → Bool) (batc
         sets = sets;
         waits = subst NothingWaits (sym sets) left.waits;
       }
+
+  -- Where no slot is in use, and none has a batch, nothing waits, and so it has done with slots.
+  module _ (vacant : (s : ℕ) → v.uses s ≡ Vacant) (none : (s : ℕ) → s < LAST_SLOT + 1 → words_of v.memory (name.Slot s BATCH) ≡ 0) where
+    abbrev sets : Sets
+    sets = sets_of batch_size before
+
+    shown : Shown defers (LAST_SLOT + 1) batch_size v sets
+    shown =
+        turns_shown defers (LAST_SLOT + 1) batch_size refl small came.0 (at_start defers roots) v before sets_at_start (start_shown defers (LAST_SLOT + 1) batch_size refl small roots) came.1
+
+    none_open : (s : ℕ) → sets.open_batch s ≡ []
+    none_open s = elim (cases_lt s (LAST_SLOT + 1)) as (λ _. sets.open_batch s ≡ []) [
+      | inl l ↦ open_none defers (LAST_SLOT + 1) batch_size refl small i s v sets shown l (none s l)
+      | inr l ↦
+          turns_past defers (LAST_SLOT + 1) batch_size refl small came.0 (at_start defers roots) v before sets_at_start (start_rested defers (LAST_SLOT + 1) batch_size refl roots) came.1 (λ t le. refl) s l
+    ]
+
+    quiet : all_reclaimed batch_size sets ≡ quietly sets
+    quiet =
+        reclaimed_quiet batch_size sets (sym (active_is defers (LAST_SLOT + 1) batch_size refl small i v sets shown 0 (omega arith) (λ t l. ap is_inside (vacant t)))) none_open
+
+    pub quiet_reclaimed : HasReclaimed defers batch_size roots v before v
+    quiet_reclaimed = record {
+      after = before;
+      came = came;
+      taken = sym (append-nil (taken_in v.log)) ∙ ap (λ (a : After). taken_in v.log ++ a.reclaimed) (sym quiet);
+      sets = sym (ap (λ (a : After). a.sets) quiet);
+      waits = (none_open, none_closed defers (LAST_SLOT + 1) batch_size refl v sets shown vacant);
+    }
 
 pub slots_reclaim : (T : Type 0) (defers : T → Option ℕ) (left_over : T → Bool) → SlotsReclaim T defers left_over
 slots_reclaim T defers left_over batch_size roots small v before came i steps m runs =

@@ -73,7 +73,7 @@ module _ {K V S : Type 0} (same : K → K → Bool) (hash : K → ℕ) (e : Exec
         subst (λ (m : Mem (Node K V)). Steps Took value_at m (reclaim_all_plan deferred_word was_left all) e1.memory.memory (after, told)) (sym at.memory)
         (as_step e.memory.memory Nothing (reclaim_all_plan deferred_word was_left all) e1.memory.memory e1.memory.changed (after, told) steps)
 
-    did : StepsOfReclaiming V same same e.batch_size e.roots slot_of s.maps s.calls s.makers s.enders s.world i lists e1.memory.memory after told
+    did : StepsOfReclaiming V same same e.batch_size e.roots slot_of s.maps s.calls s.makers s.enders s.world i lists all.stands e1.memory.memory after told
     did = (reclaiming_stands {Q = K} V same same e.batch_size e.roots slot_of s.maps s.calls s.makers s.enders s.world i lists all at.small at.under_way).1 e1.memory.memory after told its_step
 
     abbrev scene2 : Scene K V
@@ -135,7 +135,7 @@ module _ {K V S : Type 0} (same : K → K → Bool) (hash : K → ℕ) (e : Exec
     abbrev LeadsIn : Teller (Mem (Node K V)) → Type 0
     LeadsIn t =
         StepsTold K V (ReclaimAll × Settled (Node K V)) e.memory.memory Nothing (reclaim_all_plan deferred_word was_left all) t.memory t.changed (after, told)
-        × (d : StepsOfReclaiming V same same e.batch_size e.roots slot_of s.maps s.calls s.makers s.enders s.world i lists t.memory after told)
+        × (d : StepsOfReclaiming V same same e.batch_size e.roots slot_of s.maps s.calls s.makers s.enders s.world i lists all.stands t.memory after told)
         × ReclaimingComesTo same hash s i lists e e2 (record s { world = d.w2; maps = d.maps2 }) d.lists2 after told
 
     pub leads : ReclaimingLeads same hash s i lists e e2 all after told

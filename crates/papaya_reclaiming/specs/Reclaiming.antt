@@ -56,5 +56,5 @@ module _ {K V S : Type 0} (same : K → K → Bool) (hash : K → ℕ) where
     abbrev pub ReclaimingLeads : ReclaimAll → ReclaimAll → Settled (Node K V) → Type 0
     ReclaimingLeads before after told =
         StepsTold K V (ReclaimAll × Settled (Node K V)) old.memory.memory Nothing (reclaim_all_plan deferred_word was_left before) new.memory.memory new.memory.changed (after, told)
-        × (did : StepsOfReclaiming V same same old.batch_size old.roots slot_of s.maps s.calls s.makers s.enders s.world i lists new.memory.memory after told)
+        × (did : StepsOfReclaiming V same same old.batch_size old.roots slot_of s.maps s.calls s.makers s.enders s.world i lists before.stands new.memory.memory after told)
         × ReclaimingComesTo (record s { world = did.w2; maps = did.maps2 }) did.lists2 after told

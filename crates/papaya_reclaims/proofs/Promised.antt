@@ -35,8 +35,8 @@ module _ {K Q : Type 0} (V : Type 0) (same : K → K → Bool) (asks : Q → K �
   abbrev Together' : (ℕ → Option (Standing K)) → World (Node K V) → (ℕ → List ℕ) → ReclaimAll → Type 0
   Together' maps2 v lists2 c2 = ReclaimingTogether V same asks batch_size roots slot maps2 calls makers enders v i lists2 c2
 
-  abbrev LedTo : (ℕ → List ℕ) → Mem (Node K V) → ReclaimAll × Settled (Node K V) → Type 0
-  LedTo lists m2 end = StepsOfReclaiming V same asks batch_size roots slot maps calls makers enders w i lists m2 end.0 end.1
+  abbrev LedTo : (ℕ → List ℕ) → Reclaiming → Mem (Node K V) → ReclaimAll × Settled (Node K V) → Type 0
+  LedTo lists point m2 end = StepsOfReclaiming V same asks batch_size roots slot maps calls makers enders w i lists point m2 end.0 end.1
 
   -- where the work on slots has led
   module _ (maps2 : ℕ → Option (Standing K)) (v : World (Node K V)) (lists : ℕ → List ℕ) (c : ReclaimAll) (idle : Idle maps2 v) (left : LeftBehind roots v maps2 lists) where
@@ -74,14 +74,15 @@ module _ {K Q : Type 0} (V : Type 0) (same : K → K → Bool) (asks : Q → K �
     not_over v (settled.Gave value) h e = cc e
     not_over v settled.Done h e = h
 
-    on_slots : (m2 : Mem (Node K V)) (end : ReclaimAll × Settled (Node K V)) → Led batch_size roots i word w m2 end.0 end.1 → LedTo lists m2 end
-    on_slots m2 end led =
+    on_slots : (point : Reclaiming) (m2 : Mem (Node K V)) (end : ReclaimAll × Settled (Node K V)) → Led batch_size roots i word w point m2 end.0 end.1 → LedTo lists point m2 end
+    on_slots point m2 end led =
         let on = rows_stand V same asks batch_size roots slot calls makers enders i led.events led.own maps w led.w2 idle led.runs in
         record {
           w2 = led.w2;
           events = led.events;
           its = inl led.own;
           runs = led.runs;
+          does = led.does;
           memory = led.memory;
           maps2 = on.0;
           as_they_were = on.1;
@@ -97,7 +98,7 @@ module _ {K Q : Type 0} (V : Type 0) (same : K → K → Bool) (asks : Q → K �
 
     abbrev Goes : Reclaiming → Type 0
     Goes p = May Can Took value_at w.memory (plan_at deferred_word was_left (machine p) p)
-        × ((m2 : Mem (Node K V)) (end : ReclaimAll × Settled (Node K V)) → Steps Took value_at w.memory (plan_at deferred_word was_left (machine p) p) m2 end → LedTo lists m2 end)
+        × ((m2 : Mem (Node K V)) (end : ReclaimAll × Settled (Node K V)) → Steps Took value_at w.memory (plan_at deferred_word was_left (machine p) p) m2 end → LedTo lists p m2 end)
 
     here : CameAbout batch_size w
     here = idle.together.makings.standing.came
@@ -105,27 +106,27 @@ module _ {K Q : Type 0} (V : Type 0) (same : K → K → Bool) (asks : Q → K �
     step_at : (p : Reclaiming) → ReclaimingAt batch_size roots i (machine p) w maps lists p → Goes p
     step_at (at.Heads s) (ss, left, (none, lt, st, there)) = (
       head_may batch_size roots i word w here batch slots all again ss rs s none lt st there,
-      λ m2 end k. on_slots word lists idle left m2 end (head_led batch_size roots i word w here batch slots all again ss rs s none lt st m2 end k),
+      λ m2 end k. on_slots word lists idle left (at.Heads s) m2 end (head_led batch_size roots i word w here batch slots all again ss rs s none lt st m2 end k),
     )
     step_at (at.Retakes s) (ss, left, (none, lt, st, free)) = (
       retake_may batch_size roots i word w here batch slots all again ss rs s none lt st free,
-      λ m2 end k. on_slots word lists idle left m2 end (retake_led batch_size roots i word w here batch slots all again ss rs s none lt st free m2 end k),
+      λ m2 end k. on_slots word lists idle left (at.Retakes s) m2 end (retake_led batch_size roots i word w here batch slots all again ss rs s none lt st free m2 end k),
     )
     step_at (at.Leaves s l) (ss, left, (none, lt, h)) = (
       leave_may batch_size roots i word w here batch slots all again ss rs s l none lt h,
-      λ m2 end k. on_slots word lists idle left m2 end (leave_led batch_size roots i word w here batch slots all again ss rs s l none lt h m2 end k),
+      λ m2 end k. on_slots word lists idle left (at.Leaves s l) m2 end (leave_led batch_size roots i word w here batch slots all again ss rs s l none lt h m2 end k),
     )
     step_at (at.Batches s) (ss, left, (lt, f)) = (
       batch_may batch_size roots i word w here batch slots all again ss rs s lt f,
-      λ m2 end k. on_slots word lists idle left m2 end (batch_led batch_size roots i word w here batch slots all again ss rs s lt f m2 end k),
+      λ m2 end k. on_slots word lists idle left (at.Batches s) m2 end (batch_led batch_size roots i word w here batch slots all again ss rs s lt f m2 end k),
     )
     step_at (at.Flushes s l) (ss, left, (lt, h)) = (
       flush_may batch_size roots i word w here batch slots all again ss rs s l lt h,
-      λ m2 end k. on_slots word lists idle left m2 end (flush_led batch_size roots i word w here batch slots all again ss rs s l lt h m2 end k),
+      λ m2 end k. on_slots word lists idle left (at.Flushes s l) m2 end (flush_led batch_size roots i word w here batch slots all again ss rs s l lt h m2 end k),
     )
     step_at (at.Frees s) (ss, left, (lt, f)) = (
       give_may batch_size roots i word w here batch slots all again ss rs s lt f,
-      λ m2 end k. on_slots word lists idle left m2 end (give_led batch_size roots i word w here batch slots all again ss rs s lt f m2 end k),
+      λ m2 end k. on_slots word lists idle left (at.Frees s) m2 end (give_led batch_size roots i word w here batch slots all again ss rs s lt f m2 end k),
     )
     step_at (at.Roots root) (quiet, left, lt, before) = (
       root_may V same asks batch_size roots slot maps calls makers enders w i lists word idle quiet (machine (at.Roots root)) rs root left lt before,

@@ -26,7 +26,7 @@ use Rattle.papaya_finishes.specs.FactsEnds.{TakesLeft, WritesRoot, events_of}
 use Rattle.papaya_finishes.specs.Makings.{Beginning, IsFreeRoot}
 use Rattle.papaya_finishes.specs.Maps.{Standing, IsSameMap}
 use Rattle.papaya_reclaims.specs.Deferred.{TablesCarryPairs, OnlyTheyCarry, OnlyPairsWait}
-use Rattle.papaya_reclaims.specs.Slots.{AreItsRows, AllRest, IsQuiet, OnSlotsAt}
+use Rattle.papaya_reclaims.specs.Slots.{AreItsRows, AllRest, IsQuiet, OnSlotsAt, DoesAt}
 
 -- the root is that of a map that stands
 abbrev pub IsRootOf : {K : Type 0} → (ℕ → Option (Standing K)) → ℕ → Type 0
@@ -125,14 +125,15 @@ module _ {K Q : Type 0} (V : Type 0) (same : K → K → Bool) (asks : Q → K �
         × (IsQuiet w → ReclaimingTogether maps calls makers enders w i lists (clearing roots))
         × (word_at w.memory (Slot 0 HEAD) ≡ None → IsQuiet w)
 
-    -- Where a step leads. It is made up of beginnings and steps of rows on slots, or takes a block away that was left over, or writes a word of a root. Each
-    -- map stands as it stood, and at the end all is reclaimed.
-    pub record StepsOfReclaiming (lists : ℕ → List ℕ) (m2 : Mem (Node K V)) (c2 : ReclaimAll) (progress : Settled (Node K V)) : Type 0 where
+    -- Where a step leads from a point. It is made up of beginnings and steps of rows on slots, those of that point, or takes a block away that was left over, or
+    -- writes a word of a root. Each map stands as it stood, and at the end all is reclaimed.
+    pub record StepsOfReclaiming (lists : ℕ → List ℕ) (point : Reclaiming) (m2 : Mem (Node K V)) (c2 : ReclaimAll) (progress : Settled (Node K V)) : Type 0 where
       pub w2 : World (Node K V)
       pub events : List (Event (Node K V))
       pub its : AreItsRows i events ⊎ ((b : ℕ) × (events ≡ events_of i (TakesLeft b)))
           ⊎ ((root : ℕ) × ((events ≡ events_of i (WritesRoot (Root root) 0)) ⊎ (events ≡ events_of i (WritesRoot (Used root) 0))))
       pub runs : Runs deferred_word batch_size events w w2
+      pub does : DoesAt batch_size i events w w2 point c2.stands
       pub memory : w2.memory ≡ m2
       pub maps2 : ℕ → Option (Standing K)
       pub as_they_were : (m : ℕ) → IsSameMap (maps m) (maps2 m)
@@ -147,4 +148,4 @@ module _ {K Q : Type 0} (V : Type 0) (same : K → K → Bool) (asks : Q → K �
         (lists : ℕ → List ℕ) (c : ReclaimAll) → batch_size < 2 ^ 64 → ReclaimingTogether maps calls makers enders w i lists c
         → May Can Took value_at w.memory (reclaim_all_plan deferred_word was_left c)
         × ((m2 : Mem (Node K V)) (c2 : ReclaimAll) (progress : Settled (Node K V))
-        → Steps Took value_at w.memory (reclaim_all_plan deferred_word was_left c) m2 (c2, progress) → StepsOfReclaiming lists m2 c2 progress)
+        → Steps Took value_at w.memory (reclaim_all_plan deferred_word was_left c) m2 (c2, progress) → StepsOfReclaiming lists c.stands m2 c2 progress)

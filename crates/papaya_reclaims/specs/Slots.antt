@@ -1,5 +1,6 @@
 -- A caller reclaims all, after whatever others did before it, step by step: its work on slots is one row after another, which leaves nothing that waits.
 use Rattle.std.specs.Prelude.{◌≡◌, ℕ, ◌+◌, ◌<◌, ◌≤◌, Bool, true, false, List, [], ◌∷◌, ◌++◌, Some, None, IsSome}
+use Rattle.std.specs.List.{AllByRecursion}
 use Rattle.papaya_finishes.specs.Given.SeizeWords.declared.at.At.TheVariants.{Slot}
 use Rattle.papaya_finishes.specs.Given.SeizeWords.Mem.{value_at, word_at}
 use Rattle.papaya_finishes.specs.Given.Seize.declared.states.TheConstants.{HEAD, BATCH, FREE, LAST_SLOT}
@@ -9,8 +10,8 @@ use Rattle.papaya_finishes.specs.Given.Seize.declared.rows.reclaim_all.ReclaimAl
 use Rattle.papaya_finishes.specs.Given.Seize.declared.rows.reclaim_all.Reclaiming.{Reclaiming}
 use Rattle.papaya_finishes.specs.Given.Seize.declared.rows.reclaim_all.Reclaiming.TheVariants as at
 use Rattle.papaya_finishes.specs.Given.Seize.Law.{is_retired}
-use Rattle.papaya_finishes.specs.Given.Seize.Sequence.{taken_in}
-use Rattle.papaya_finishes.specs.Given.Seize.World.{World, Row, Rests, Settles, Leaves, Vacant, Outside, Request, Register', Leave', Flush, Unregister', Event, Begin, Step, Begins}
+use Rattle.papaya_finishes.specs.Given.Seize.Sequence.{Calls, IsBetween, taken_in}
+use Rattle.papaya_finishes.specs.Given.Seize.World.{World, Row, Rests, Settles, Leaves, Vacant, Outside, Request, Register', Leave', Flush, Unregister', Event, Begin, Step, Begins, Steps'}
 use Rattle.papaya_finishes.specs.Given.SeizeAlone.Alone.{TakesSteps}
 use Rattle.papaya_finishes.specs.Given.Tables.Nodes.{deferred_word}
 use Rattle.papaya_finishes.specs.Given.Tables.declared.node.Node.{Node}
@@ -90,6 +91,23 @@ module _ {K V : Type 0} where
     OnSlotsAt c w (at.Flushes s settle) = (s < c.slots) × Within (Flush s) (Flushing c.slots s c.again) (Settles settle) w
     OnSlotsAt c w (at.Frees s) = (s < c.slots) × Freeing c.slots s w
     OnSlotsAt c w _ = ⊥
+
+    -- the row begins that is under way at this point, or nothing happens where none is
+    abbrev pub BeginsAt : World (Node K V) → World (Node K V) → Reclaiming → Type 0
+    BeginsAt w w2 (at.Leaves s leave) = Begins deferred_word batch_size i (Leave' s) w w2
+    BeginsAt w w2 (at.Flushes s settle) = Begins deferred_word batch_size i (Flush s) w w2
+    BeginsAt w w2 _ = w2 ≡ w
+
+    -- What a step does, from this point to that one. Where it looks at a slot, the row begins that is under way there then; within a row it is a step of that; and a slot is taken again, or given up,
+    -- by a whole row. Once it has done with slots, it is nothing of a row.
+    abbrev pub DoesAt : List (Event (Node K V)) → World (Node K V) → World (Node K V) → Reclaiming → Reclaiming → Type 0
+    DoesAt events w w2 (at.Heads s) to = BeginsAt w w2 to
+    DoesAt events w w2 (at.Retakes s) to = Calls deferred_word batch_size i (Register' false) w w2
+    DoesAt events w w2 (at.Leaves s leave) to = Steps' deferred_word i (w.row i) w w2
+    DoesAt events w w2 (at.Batches s) to = BeginsAt w w2 to
+    DoesAt events w w2 (at.Flushes s settle) to = Steps' deferred_word i (w.row i) w w2
+    DoesAt events w w2 (at.Frees s) to = Calls deferred_word batch_size i (Unregister' s) w w2
+    DoesAt events w w2 _ to = AllByRecursion IsBetween events
 
   -- A step has taken no block away; or it has taken one that was retired, whose value it hands out. It never waits.
   abbrev pub SlotsTold : World (Node K V) → World (Node K V) → Settled (Node K V) → Type 0

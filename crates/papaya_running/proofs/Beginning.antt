@@ -19,6 +19,7 @@ use Rattle.papaya_histories.specs.Given.Tables.declared.setting.Setting.{Setting
 use Rattle.papaya_histories.specs.Given.Executor.IsAt.{at_first}
 use Rattle.papaya_models.specs.Turns.{CameByTurns}
 use Rattle.papaya_models.proofs.Turns.{events_follow, turns_begin}
+use Rattle.papaya_legal.proofs.Come.{nothing_has_come}
 use Rattle.papaya_legal.proofs.Begin.{runs_begin_in}
 use Rattle.papaya_logged.specs.Choosing.{logged_chosen, memory_chosen}
 use Rattle.papaya_logged.specs.Shown.{IsShown}
@@ -143,6 +144,7 @@ module _ {K V S : Type 0} (same : K → K → Bool) (hash : K → ℕ) (given : 
     stands = stands_in same hash (terms_given given) start p stands stands.name (record (at_first given.setup.roots) { world = first.world }) (first.shown stands.name)
         (its_named same hash (terms_given given) start p stands);
     shows = runs_begin_in K V same (terms_given given) stands.name (known p.logged.notes) first.world (first.shown stands.name).shows (first.shown stands.name).kept first.came;
+    come = nothing_has_come K V;
     size = begins.begun.batches;
     shards = no_shards;
   }

@@ -1,6 +1,6 @@
 -- By all that is said of an event that has happened it keeps its promises, and the run goes on with it.
-use Rattle.std.specs.Prelude.{◌≡◌, ◌==◌, ◌||◌, ℕ, Bool, true, false, List}
-use Rattle.std.proofs.Common.{refl, ap, sym, ◌∙◌}
+use Rattle.std.specs.Prelude.{◌≡◌, ◌==◌, ℕ, Bool, true, false, List}
+use Rattle.std.proofs.Common.{refl}
 use Rattle.papaya_schedules.specs.declared.effect.Effect.{Effect}
 use Rattle.papaya_schedules.specs.declared.event.Event.{Event}
 use Rattle.papaya_schedules.specs.declared.event.Event.TheVariants as event
@@ -18,8 +18,9 @@ use Rattle.papaya_scheduler.specs.declared.scheduler.Scheduler.{Scheduler}
 use Rattle.papaya_running.specs.Asked.{FindsBy, Happens, HappensAt, Holds, is_of_calls}
 use Rattle.papaya_running.specs.Keeping.{IsAskedOf, IsNotRefused}
 use Rattle.papaya_running.specs.OfAll.{IsLeftOfAllBut, KeepsAll}
-use Rattle.papaya_running.specs.OfCalls.{KeepsAt, Runs, RunsOn, Wanted}
-use Rattle.papaya_running.specs.OfRows.{HasNotBegun, KeepsRunAt, PowersAreOne, is_of_rows}
+use Rattle.papaya_running.specs.OfCalls.{KeepsAt, Runs, RunsOn}
+use Rattle.papaya_running.specs.OfRows.{HasNotBegun, KeepsRunAt, is_of_rows}
+use Rattle.papaya_running.specs.OfSetups.{KeepsSetup, is_of_setups}
 
 module _ {K V S : Type 0} where
   -- a making that was not refused has not been refused once it had begun
@@ -28,8 +29,17 @@ module _ {K V S : Type 0} where
   not_begun (event.MakeMap own mode capacity) _ effects old new never = tt
   not_begun _ outcome effects old new never = tt
 
--- one that reclaims all finds what it must to come to what is right
 module _ {K V : Type 0} where
+  -- an event of no call, whose work is no row, no making and no end, and which does not reclaim all, is one by which no steps run
+  is_setup : (its : Event K V) → gives_all its ≡ false → is_of_calls its ≡ false → is_of_rows its ≡ false → is_of_setups its ≡ true
+  is_setup (event.Collector setup) all calls rows = refl
+  is_setup (event.Hash by) all calls rows = refl
+  is_setup (event.Choose choice) all calls rows = refl
+  is_setup (event.Forget guard) all calls rows = refl
+  is_setup (event.ShowShape name) all calls rows = refl
+  is_setup _ all calls rows = absurd (cc (all, calls, rows))
+
+  -- one that reclaims all finds what it must to come to what is right
   all_right : (its : Event K V) → gives_all its ≡ true → (terms : Terms) (log : List (Entry K V)) (e : Entry K V) → FindsBy terms log e its
   all_right event.ReclaimAll all terms log e = tt
   all_right event.Close all terms log e = tt
@@ -43,19 +53,20 @@ module _ {K V S : Type 0} (same : K → K → Bool) (hash : K → ℕ) (is_first
   it : Happens same hash terms log e new
   it = happens terms log first holds
 
-  -- an event of a call, or whose work is a row, a making, or an end,
-  pub goes_on : KeepsAt same hash its played old new → KeepsRunAt same hash its played old new → Wanted K V S same hash → PowersAreOne → IsAskedOf terms log e → RunsOn same hash terms log e new
-  goes_on calls rows wanted powers asked = by (is_of_calls its) refl
+  -- an event that does not reclaim all,
+  pub goes_on : KeepsAt same hash its played old new → KeepsRunAt same hash its played old new → KeepsSetup same hash its played old new → IsAskedOf terms log e
+      → RunsOn same hash terms log e new
+  goes_on calls rows setups asked = by (is_of_calls its) (is_of_rows its) refl refl
     where
       right : ComesRight terms log e
       right = (it.plays asked.right).right
 
-      by : (q : Bool) → is_of_calls its ≡ q → RunsOn same hash terms log e new
-      by true is = let left = asked.calls is in calls is wanted terms log runs left.1 (record { right = right; but = left.0 })
-      by false is =
-          let of_rows : is_of_rows its ≡ true = sym (ap (λ (q : Bool). q || is_of_rows its) is) ∙ asked.kind in
+      by : (p q : Bool) → is_of_calls its ≡ p → is_of_rows its ≡ q → RunsOn same hash terms log e new
+      by true q is of_rows = let left = asked.calls is in calls is terms log runs left.1 (record { right = right; but = left.0 })
+      by false true is of_rows =
           let left = asked.rows of_rows in
-          rows of_rows terms log holds runs it.played (record { right = right; but = left.0 }) (not_begun its played.outcome played.effects.items old new left.1) powers
+          rows of_rows terms log holds runs it.played (record { right = right; but = left.0 }) (not_begun its played.outcome played.effects.items old new left.1)
+      by false false is of_rows = setups (is_setup its asked.kind is of_rows) terms log runs it.played right
 
   -- and one that reclaims all
   pub all_goes_on : KeepsAll same hash its played old new → gives_all its ≡ true → IsLeftOfAllBut same hash terms log old runs → RunsOn same hash terms log e new × ReclaimsAll log e

@@ -16,4 +16,5 @@ pub mod OfRows
 pub mod OfEnds
 pub mod OfMakings
 pub mod OfAll
+pub mod OfSetups
 pub mod Joined

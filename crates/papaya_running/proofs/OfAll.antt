@@ -1,7 +1,8 @@
 -- Events that reclaim all keep their promises, and a run goes on with them.
-use Rattle.std.specs.Prelude.{◌≡◌, ◌⊎◌, ◌<◌, ◌^◌, nat_lt, ℕ, suc, Bool, true, false, List, [], ◌∷◌, None, Result, Ok, Err, IfOk, slice_index_or}
+use Rattle.std.specs.Prelude.{◌≡◌, ◌⊎◌, ◌<◌, ◌^◌, nat_lt, ℕ, suc, Bool, true, false, List, [], ◌∷◌, None, Result, Ok, Err, IfOk, slice_index_or, if◌then◌else◌}
 use Rattle.std.proofs.Common.{refl, ap, sym, subst, inl, inr, ◌∙◌}
 use Rattle.seize_words.specs.declared.fault.Fault.TheVariants.{Busy}
+use Rattle.papaya_histories.specs.Given.Seize.ReclaimAll.{clearing, reclaiming_all}
 use Rattle.papaya_histories.specs.Given.Seize.World.{World}
 use Rattle.papaya_histories.specs.Given.Seize.declared.rows.reclaim_all.ReclaimAll.{ReclaimAll}
 use Rattle.papaya_histories.specs.Given.Seize.declared.rows.settle.Settled.TheVariants as settled
@@ -25,7 +26,8 @@ use Rattle.papaya_reclaims.specs.Reclaims.{IsRootOf}
 use Rattle.papaya_reclaims.proofs.Left.Stays.{nothing_is_left}
 use Rattle.papaya_reclaiming.specs.Reclaiming.{IsReclaiming, MayReclaim, NobodyHas}
 use Rattle.papaya_finds.specs.Little.{ReclaimsAll}
-use Rattle.papaya_legal.specs.AllEvents.{AllCome, AllSteps, FindsPair}
+use Rattle.papaya_legal.proofs.Come.{events_bring_things}
+use Rattle.papaya_legal.specs.AllEvents.{AllCome, AllSteps, BeginsAll, FindsPair, all_begun}
 use Rattle.papaya_legal.specs.CallEvents.{IsLegalBut}
 use Rattle.papaya_legal.specs.Carried.{ShowsRun}
 use Rattle.papaya_legal.proofs.OfAll.Ends.{all_runs_to_its_end, none_called}
@@ -42,7 +44,7 @@ use Rattle.papaya_scheduler.specs.declared.scheduler.Scheduler.{Scheduler}
 use Rattle.papaya_mapping.proofs.AllGiven.{may_reclaim, nobody_has}
 use Rattle.papaya_scheduler.proofs.Rights.{entry, entry_is}
 use Rattle.papaya_running.specs.Asked.{Holds, is_of_calls, is_of_maps}
-use Rattle.papaya_running.specs.OfAll.{HasRunAll, IsLeftOfAll, KeepsAll}
+use Rattle.papaya_running.specs.OfAll.{IsLeftOfAll, KeepsAll}
 use Rattle.papaya_running.specs.OfCalls.{Runs, RunsOn}
 use Rattle.papaya_running.proofs.OfAll.Chain.{AllComes, all_back, all_come, all_comes, is_over, leads, over_there, step_so, then_now, then_scene}
 use Rattle.papaya_running.proofs.OfCalls.Scenes.{AreNamed, its_named, stands_in}
@@ -153,14 +155,20 @@ module _ {K V S : Type 0} (same : K → K → Bool) (hash : K → ℕ) (terms : 
     over = all_come end (then_now same hash terms 0 mid end y.now y.scene y.lists y.under_way y.roots ran.5) last_scene
         (leads same hash terms 0 mid end y.now y.scene y.lists y.under_way y.roots ran.5).1.lists2
 
-    abbrev last : AllSteps same hash terms.roots 0 to over
-    last = step_so same hash terms 0 mid end y.now y.scene y.lists y.under_way y.roots ran.5
+    abbrev last : AllSteps same hash terms 0 to over
+    last = step_so same hash terms 0 mid end y.now y.scene y.lists y.under_way y.roots ran.5 y.size
 
     done : ran.5.1 ≡ settled.Done
     done = is_over ran.5.1 ran.6
 
-    has_run : HasRunAll same hash terms log old s behind over
-    has_run = record { caller = 0; all = first; steps = ran.3.0; to = to; chain = y.chain; last = last; done = done }
+    begins : BeginsAll same hash terms 0 (all_begun log (known old.logged.notes) s old.logged.executor first behind)
+    begins = record {
+      under_way = under;
+      size = run.size;
+      taken = taken;
+      first = ran.7 ∙ ap (λ (b : ℕ). if taken then reclaiming_all b old.logged.executor.roots else clearing old.logged.executor.roots) run.size
+          ∙ ap (λ (r : ℕ). if taken then reclaiming_all terms.batch_size r else clearing r) roots_are;
+    }
 
     pairs : ComesRight terms log e → AtEachEffect FindsPair None None played.effects.items m
     pairs right =
@@ -170,8 +178,8 @@ module _ {K V S : Type 0} (same : K → K → Bool) (hash : K → ℕ) (terms : 
     it : ComesRight terms log e → IsLegalBut same terms log e × ReclaimsAll log e × ShowsRun same name terms (e ∷ log) (known new.logged.notes) last_scene
     it right =
         all_runs_to_its_end K V S same hash name terms log (known old.logged.notes) s old.logged.executor small run.shows event of_all
-        (alone_follows same hash terms log old run event (speaks_of_none event of_all)) 0 first behind left.but.behind left.but.order ran.3.0 to over y.chain last done played.steps played.effects.items refl
-        (pairs right) (left.but.sets over has_run) right
+        (alone_follows same hash terms log old run event (speaks_of_none event of_all)) 0 first behind left.but.behind left.but.order begins ran.3.0 to over y.chain last done played.steps played.effects.items refl
+        (pairs right) right
 
     there : IsAt same hash new.logged.executor last_scene
     there = over_there same hash terms 0 mid end y.now y.scene y.lists y.under_way y.roots ran.5 done
@@ -209,6 +217,7 @@ module _ {K V S : Type 0} (same : K → K → Bool) (hash : K → ℕ) (terms : 
             runs = record {
               stands = stands_in same hash terms (moment (e ∷ log)) new so name last_scene shown named;
               shows = its.2;
+              come = events_bring_things K V terms log e run.come its.0.life.finds;
               size = ran.5.0.given.1 ∙ y.size;
               shards = λ n setting is. run.shards n setting (sym (stood n) ∙ is);
             };

@@ -39,6 +39,7 @@ use Rattle.papaya_histories.specs.Given.Moments.Endings.{IsOfIts}
 use Rattle.papaya_histories.specs.Given.Moments.WholeEnds.{all_ended, tables_ended}
 use Rattle.papaya_histories.specs.Given.Others.Endings.{ending_after}
 use Rattle.papaya_executor.proofs.Fresh.{no_ending_yet}
+use Rattle.papaya_legal.proofs.Come.{events_bring_things}
 use Rattle.papaya_legal.specs.CallEvents.{IsLegalBut}
 use Rattle.papaya_legal.specs.Carried.{ShowsRun}
 use Rattle.papaya_legal.specs.Chains.{Chain, Come, EndSteps}
@@ -401,6 +402,7 @@ module _ {K V S : Type 0} (same : K → K → Bool) (hash : K → ℕ) (terms : 
               counted = counted_in same hash terms (moment (e ∷ log)) new so y.scene y.is_at y.counted.remains.lists y.counted.remains.left;
             }) named;
         shows = (it right).1;
+        come = events_bring_things K V terms log e run.come (it right).0.life.finds;
         size = y.size;
         shards = shards;
       };
@@ -421,5 +423,5 @@ module _ {K V S : Type 0} (same : K → K → Bool) (hash : K → ℕ) (terms : 
 module _ {K V S : Type 0} (same : K → K → Bool) (hash : K → ℕ) (event : Event K V) (own : List ℕ) (is : event ≡ EndMap own) (old new : Scheduler K V S) where
   pub ends_keep : {X : Type 0} → (result : Result (Played V) X) → IfOk result (λ played. WorksOnEnd played old new own) → IfOk result (λ played. KeepsRun same hash event played old new)
   ends_keep (Ok played) works =
-      subst (λ (x : Event K V). KeepsRun same hash x played old new) (sym is) (λ of terms log holds run turn after left begun powers. map_end_keeps same hash terms log own played old new holds run turn after left works)
+      subst (λ (x : Event K V). KeepsRun same hash x played old new) (sym is) (λ of terms log holds run turn after left begun. map_end_keeps same hash terms log own played old new holds run turn after left works)
   ends_keep (Err x) works = tt

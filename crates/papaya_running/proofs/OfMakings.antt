@@ -46,6 +46,7 @@ use Rattle.papaya_histories.specs.Given.Others.Makings.{IsNew, WasNew, making_af
 use Rattle.papaya_others.proofs.MakingGoes.{new_maps_stay}
 use Rattle.papaya_executor.specs.MakingBegins.{next_making}
 use Rattle.papaya_executor.proofs.Fresh.{no_making_yet}
+use Rattle.papaya_legal.proofs.Come.{events_bring_things}
 use Rattle.papaya_legal.specs.CallEvents.{IsLegalBut}
 use Rattle.papaya_models.specs.Follows.{FollowsModel}
 use Rattle.papaya_legal.specs.Carried.{ComesAlone, ShowsRun}
@@ -62,6 +63,7 @@ use Rattle.papaya_logged.specs.declared.logged.Logged.{Logged}
 use Rattle.papaya_logged.proofs.Counted.{counted_making_steps}
 use Rattle.papaya_logged.proofs.GivenBack.{with_maps}
 use Rattle.papaya_rows.proofs.Lists.{found_alike}
+use Rattle.papaya_tables.proofs.Logarithms.{next-power-unique}
 use Rattle.papaya_named.specs.Places.{first_places}
 use Rattle.papaya_scheduler.specs.Mapping.{MayMap, may_make_of}
 use Rattle.papaya_scheduler.specs.Played.{IsPlayed, entry_of}
@@ -76,7 +78,7 @@ use Rattle.papaya_scheduler.proofs.RanOn.{maps_named}
 use Rattle.papaya_scheduler.proofs.Rights.{entry, entry_is}
 use Rattle.papaya_running.specs.Asked.{Holds}
 use Rattle.papaya_running.specs.OfCalls.{HaveShards, Runs, RunsOn}
-use Rattle.papaya_running.specs.OfRows.{HasNotBegun, IsLeftOfRows, KeepsRun, PowersAreOne}
+use Rattle.papaya_running.specs.OfRows.{HasNotBegun, IsLeftOfRows, KeepsRun}
 use Rattle.papaya_running.proofs.OfCalls.Scenes.{AreNamed, its_named, stands_in}
 use Rattle.papaya_running.proofs.OfRows.Chain.{come_as, come_by}
 use Rattle.papaya_running.proofs.OfRows.Lone.{alone_follows}
@@ -252,7 +254,7 @@ module _ {K V S : Type 0} (same : K → K → Bool) (hash : K → ℕ) (terms : 
       (making_comes_on n x mid to z.0 z.1 on.0 was, making_under n x mid to z.0 z.1 on.0 was on.1)
 
 module _ {K V S : Type 0} (same : K → K → Bool) (hash : K → ℕ) (terms : Terms) (log : List (Entry K V)) (own : List ℕ) (mode : ResizeMode) (capacity : ℕ) (played : Played V) (old new : Scheduler K V S)
-    (holds : Holds same hash terms (moment log) old) (run : Runs same hash terms log old) (turn : is_kept_out terms (MakeMap own mode capacity) (moment log) ≡ false) (powers : PowersAreOne) where
+    (holds : Holds same hash terms (moment log) old) (run : Runs same hash terms log old) (turn : is_kept_out terms (MakeMap own mode capacity) (moment log) ≡ false) where
   abbrev event : Event K V
   event = MakeMap own mode capacity
 
@@ -428,7 +430,7 @@ module _ {K V S : Type 0} (same : K → K → Bool) (hash : K → ℕ) (terms : 
 
     mask_is : d.given.mask + 1 ≡ shards_of terms
     mask_is =
-        powers old.given.setup.processors (d.given.mask + 1) holds.counts.processors d.is_given.mask
+        next-power-unique old.given.setup.processors (d.given.mask + 1) d.is_given.mask.0.0 holds.counts.processors d.is_given.mask.0.1 d.is_given.mask.1 d.is_given.mask.2
         ∙ ap (λ (t : Terms). shards_of t) run.stands.given
 
     shards : HaveShards terms new.logged.executor
@@ -460,6 +462,7 @@ module _ {K V S : Type 0} (same : K → K → Bool) (hash : K → ℕ) (terms : 
           counted = counted_in same hash terms (moment (e ∷ log)) new so y.scene at_end y.counted.remains.lists left_behind;
         }) named;
         shows = shows left;
+        come = events_bring_things K V terms log e run.come (it left).0.life.finds;
         size = ap (λ (x : Executor K V S). x.batch_size) d.gone.6 ∙ y.size;
         shards = shards;
       };
@@ -484,5 +487,5 @@ module _ {K V S : Type 0} (same : K → K → Bool) (hash : K → ℕ) (event : 
   pub makings_keep : {X : Type 0} → (result : Result (Played V) X) → IfOk result (λ played. WorksOnMap played old new own mode capacity) → IfOk result (λ played. KeepsRun same hash event played old new)
   makings_keep (Ok played) works =
       subst (λ (x : Event K V). KeepsRun same hash x played old new) (sym is)
-      (λ of terms log holds run turn after left begun powers. map_made_keeps same hash terms log own mode capacity played old new holds run turn powers works after left begun)
+      (λ of terms log holds run turn after left begun. map_made_keeps same hash terms log own mode capacity played old new holds run turn works after left begun)
   makings_keep (Err x) works = tt

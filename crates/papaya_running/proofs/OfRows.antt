@@ -31,6 +31,7 @@ use Rattle.papaya_promises.specs.Others.{SparesGuards}
 use Rattle.papaya_promises.specs.Protected.{is_of_slots, there_in}
 use Rattle.papaya_models.specs.OnSlots.{IsRowFor}
 use Rattle.papaya_finds.specs.Little.{ReclaimsAll}
+use Rattle.papaya_legal.proofs.Come.{events_bring_things}
 use Rattle.papaya_legal.specs.CallEvents.{IsLegalBut}
 use Rattle.papaya_legal.specs.Carried.{ShowsRun}
 use Rattle.papaya_legal.specs.Chains.{Chain as StepChain, RowSteps}
@@ -229,7 +230,7 @@ module _ {K V S : Type 0} (same : K → K → Bool) (hash : K → ℕ) (terms : 
     row_keeps : RunsOn same hash terms log e new
     row_keeps = record {
       legal = it.0;
-      runs = record { stands = stands_in same hash terms (moment (e ∷ log)) new after name y.scene shown named; shows = it.1; size = y.size; shards = shards };
+      runs = record { stands = stands_in same hash terms (moment (e ∷ log)) new after name y.scene shown named; shows = it.1; come = events_bring_things K V terms log e run.come it.0.life.finds; size = y.size; shards = shards };
     }
 
   -- and so it is of one that has done nothing
@@ -250,12 +251,12 @@ module _ {K V S : Type 0} (same : K → K → Bool) (hash : K → ℕ) (terms : 
 module _ {K V S : Type 0} (same : K → K → Bool) (hash : K → ℕ) (event form : Event K V) (is : event ≡ form) (old new : Scheduler K V S) where
   pub rows_keep : {X : Type 0} → is_of_slots form ≡ true → (result : Result (Played V) X) → IfOk result (λ played. WorksOnSlot played old new form) → IfOk result (λ played. KeepsRun same hash event played old new)
   rows_keep on (Ok played) works =
-      subst (λ (x : Event K V). KeepsRun same hash x played old new) (sym is) (λ of terms log holds run turn after left begun powers. slot_keeps same hash terms log form played old new of on run turn after left works)
+      subst (λ (x : Event K V). KeepsRun same hash x played old new) (sym is) (λ of terms log holds run turn after left begun. slot_keeps same hash terms log form played old new of on run turn after left works)
   rows_keep on (Err x) works = tt
 
   -- of others nothing is said
   pub others_keep : is_of_rows form ≡ false → (played : Played V) → KeepsRun same hash event played old new
-  others_keep none played = subst (λ (x : Event K V). KeepsRun same hash x played old new) (sym is) (λ of terms log holds run turn after left begun powers. absurd (cc (of, none)))
+  others_keep none played = subst (λ (x : Event K V). KeepsRun same hash x played old new) (sym is) (λ of terms log holds run turn after left begun. absurd (cc (of, none)))
 
   pub others_keep_if : {X : Type 0} → is_of_rows form ≡ false → (result : Result (Played V) X) → IfOk result (λ played. KeepsRun same hash event played old new)
   others_keep_if none (Ok played) = others_keep none played

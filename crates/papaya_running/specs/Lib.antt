@@ -6,4 +6,5 @@ pub mod Run
 pub mod OfCalls
 pub mod OfRows
 pub mod OfAll
+pub mod OfSetups
 pub mod Keeping

@@ -1,10 +1,5 @@
 -- What is had of an event that reclaims all: all is back, it keeps its promises, and the run goes on with it.
 use Rattle.std.specs.Prelude.{◌≡◌, ℕ, Bool, true, List, ◌∷◌}
-use Rattle.papaya_histories.specs.Given.Seize.WaitingSets.{Change}
-use Rattle.papaya_histories.specs.Given.Seize.declared.rows.reclaim_all.ReclaimAll.{ReclaimAll}
-use Rattle.papaya_histories.specs.Given.Seize.declared.rows.settle.Settled.TheVariants as settled
-use Rattle.papaya_histories.specs.Given.Tables.Nodes.{deferred_word}
-use Rattle.papaya_histories.specs.Given.Executor.IsAt.{Scene}
 use Rattle.papaya_schedules.specs.declared.event.Event.{Event}
 use Rattle.papaya_schedules.specs.After.{moment}
 use Rattle.papaya_schedules.specs.Entry.{Entry}
@@ -12,11 +7,8 @@ use Rattle.papaya_schedules.specs.Handing.{gives_all}
 use Rattle.papaya_schedules.specs.InTurn.{ComesRight}
 use Rattle.papaya_schedules.specs.Terms.{Terms}
 use Rattle.papaya_effects.specs.Known.{known}
-use Rattle.papaya_models.specs.Reclaims.{HasReclaimed}
-use Rattle.papaya_models.specs.Turns.{CameByTurns}
 use Rattle.papaya_finds.specs.Little.{ReclaimsAll}
-use Rattle.papaya_legal.specs.AllEvents.{AllCome, AllSteps, BehindAreLeft, BehindIsLeft, LeftIsBehind, all_begun}
-use Rattle.papaya_legal.specs.Chains.{Chain}
+use Rattle.papaya_legal.specs.AllEvents.{BehindAreLeft, BehindIsLeft, LeftIsBehind}
 use Rattle.papaya_scheduler.specs.Played.{IsPlayed, entry_of}
 use Rattle.papaya_scheduler.specs.declared.played.Played.{Played}
 use Rattle.papaya_scheduler.specs.declared.scheduler.Scheduler.{Scheduler}
@@ -24,25 +16,11 @@ use Rattle.papaya_running.specs.Asked.{Holds}
 use Rattle.papaya_running.specs.OfCalls.{Runs, RunsOn}
 
 module _ {K V S : Type 0} (same : K → K → Bool) (hash : K → ℕ) (terms : Terms) (log : List (Entry K V)) (p : Scheduler K V S) where
-  -- All has been reclaimed from that scene on, with these lists behind the roots as it began, and here its steps have come to their end.
-  pub record HasRunAll (s : Scene K V) (lists : ℕ → List ℕ) (over : AllCome K V S) : Type 0 where
-    pub caller : ℕ
-    pub all : ReclaimAll
-    pub steps : ℕ
-    pub to : AllCome K V S
-    pub chain : Chain (AllSteps same hash terms.roots caller) steps (all_begun log (known p.logged.notes) s p.logged.executor all lists) to
-    pub last : AllSteps same hash terms.roots caller to over
-    pub done : last.said ≡ settled.Done
-
-  -- What is still asked of such an event, by name, but that it comes to what is right: what is behind the roots is what the moment says is left over, in that order;
-  -- and, wherever its steps have come to their end, the waiting sets of blocks have been reclaimed as they say.
+  -- What is still asked of such an event, by name, but that it comes to what is right: what is behind the roots is what the moment says is left over, in that order.
   pub record IsLeftOfAllBut (run : Runs same hash terms log p) : Type 0 where
     pub behind : LeftIsBehind terms.roots (moment log) (known p.logged.notes) run.stands.shown.counted.remains.lists
     pub order : BehindIsLeft terms.roots (moment log) (known p.logged.notes) run.stands.shown.counted.remains.lists
     pub left_there : BehindAreLeft terms.roots (moment log) (known p.logged.notes) run.stands.shown.counted.remains.lists
-    pub sets : (over : AllCome K V S) → HasRunAll run.stands.scene run.stands.shown.counted.remains.lists over → (before : List Change)
-        → CameByTurns deferred_word terms.batch_size terms.roots run.stands.scene.world before
-        → HasReclaimed deferred_word terms.batch_size terms.roots run.stands.scene.world before over.come.scene.world
 
   pub record IsLeftOfAll (e : Entry K V) (run : Runs same hash terms log p) : Type 0 where
     pub right : ComesRight terms log e

@@ -2,8 +2,7 @@
 use Rattle.std.specs.Prelude.{◌≡◌, ◌<◌, ◌≤◌, ◌^◌, ◌+◌, ℕ, Bool, true, false, List, ◌∷◌, slice_index_or, Option, Some, None}
 use Rattle.papaya_histories.specs.Given.SeizeWaiting.Held.{count}
 use Rattle.papaya_histories.specs.Given.Seize.WaitingSets.{Sets}
-use Rattle.papaya_histories.specs.Given.Seize.World.{World, IsInside, Request, Begin, Step, Happens}
-use Rattle.papaya_histories.specs.Given.Tables.Nodes.{deferred_word}
+use Rattle.papaya_histories.specs.Given.Seize.World.{World, IsInside}
 use Rattle.papaya_histories.specs.Given.Tables.declared.node.Node.{Node}
 use Rattle.papaya_histories.specs.Given.Tables.declared.setting.Setting.{Setting}
 use Rattle.papaya_histories.specs.Given.Raw.declared.machines.progress.Progress.{Progress}
@@ -17,7 +16,7 @@ use Rattle.papaya_histories.specs.Given.Schedules.declared.effect.Effect.{Effect
 use Rattle.papaya_histories.specs.Given.Schedules.declared.event.Event.{Event}
 use Rattle.papaya_histories.specs.Given.Schedules.declared.event.Event.TheVariants as events
 use Rattle.papaya_histories.specs.Given.Schedules.declared.outcome.Outcome.{Outcome}
-use Rattle.papaya_histories.specs.Given.Schedules.declared.outcome.Outcome.TheVariants.{Answered, Done, Goes}
+use Rattle.papaya_histories.specs.Given.Schedules.declared.outcome.Outcome.TheVariants.{Answered}
 use Rattle.papaya_histories.specs.Given.Schedules.After.{moment, moments_from}
 use Rattle.papaya_histories.specs.Given.Schedules.Beginning.{at_work}
 use Rattle.papaya_histories.specs.Given.Schedules.Entry.{Entry, IfCall, acting, caller_of}
@@ -27,19 +26,20 @@ use Rattle.papaya_histories.specs.Given.Schedules.Model.{things_in}
 use Rattle.papaya_histories.specs.Given.Schedules.Moment.{UnderWay as CallThere, Moment}
 use Rattle.papaya_histories.specs.Given.Schedules.Terms.{Terms, shards_of}
 use Rattle.papaya_histories.specs.Given.Schedules.Views.{reply_to}
-use Rattle.papaya_histories.specs.Given.Callers.Together.{UnderWay, HandsOver}
+use Rattle.papaya_histories.specs.Given.Callers.Together.{UnderWay}
 use Rattle.papaya_histories.specs.Given.Effects.Effects.{known_after}
 use Rattle.papaya_histories.specs.Given.Effects.Known.{Known, known}
 use Rattle.papaya_histories.specs.Given.Effects.declared.acting.Acting.TheVariants as acts
-use Rattle.papaya_histories.specs.Given.Executor.IsAt.{Scene, IsAt, slot_of}
+use Rattle.papaya_histories.specs.Given.Executor.IsAt.{Scene, IsAt}
 use Rattle.papaya_histories.specs.Given.Executor.Stepping.{StepLeads}
 use Rattle.papaya_histories.specs.Given.Executor.declared.executor.Executor.{Executor}
-use Rattle.papaya_histories.specs.InEvent.{ComesSo, here_of}
-use Rattle.papaya_models.specs.CallEvents.{IsInItsRow, IsNoted, things_then}
+use Rattle.papaya_histories.specs.InEvent.{ComesSo}
+use Rattle.papaya_models.specs.CallEvents.{IsInItsRow}
 use Rattle.papaya_finds.specs.Parts.{FindRest}
 use Rattle.papaya_legal.specs.CallEvents.{InCallEvent, IsLegalBut}
 use Rattle.papaya_legal.specs.CallSwept.{TellsOf}
 use Rattle.papaya_legal.specs.Carried.{ShowsRun}
+use Rattle.papaya_legal.specs.Noted.{HaveCome}
 use Rattle.papaya_scheduler.specs.Played.{IsPlayed, entry_of}
 use Rattle.papaya_named.specs.Seen.{kind_of}
 use Rattle.papaya_scheduler.specs.declared.played.Played.{Played}
@@ -52,11 +52,12 @@ abbrev pub HaveShards : {K V S : Type 0} → Terms → Executor K V S → Type 0
 HaveShards terms e = (n : ℕ) (setting : Setting) → slice_index_or e.maps.items n None ≡ Some setting → setting.mask + 1 ≡ shards_of terms
 
 module _ {K V S : Type 0} (same : K → K → Bool) (hash : K → ℕ) where
-  -- The scheduler has played the log, and in the scene for which it stands all is so by which the next event keeps its promises; its executor has the size of batches that the terms say, and maps
-  -- with as many shards as they say.
+  -- The scheduler has played the log, and in the scene for which it stands all is so by which the next event keeps its promises; all that was stored and linked came into a map by the log; its executor
+  -- has the size of batches that the terms say, and maps with as many shards as they say.
   pub record Runs (terms : Terms) (log : List (Entry K V)) (p : Scheduler K V S) : Type 0 where
     pub stands : IsPlayed same hash terms log p
     pub shows : ShowsRun same stands.name terms log (known p.logged.notes) stands.scene
+    pub come : HaveCome (things_in log) (moment log)
     pub size : p.logged.executor.batch_size ≡ terms.batch_size
     pub shards : HaveShards terms p.logged.executor
 
@@ -91,16 +92,6 @@ InsidesFollowInRows K V =
     → (row_slot slot i : ℕ) → IsInItsRow batch_size roots things sets row_slot i known w → IsInside (w.uses slot) → 1 ≤ count slot sets.active
 
 module _ (K V S : Type 0) (same : K → K → Bool) (hash : K → ℕ) where
-  -- what a row hands over that begins with a step of a call is noted, as what came into a map, and it does so under the slot of its caller
-  abbrev pub RowsHandNoted : Type 0
-  RowsHandNoted =
-      (name : ℕ → List ℕ) (terms : Terms) (log : List (Entry K V)) (event : Event K V) (beginning : Moment K V) (map i : ℕ) (c : CallThere K V) (steps : ℕ) (done : List Effect) (m : Moment K V) (known : Known)
-      (s : Scene K V) (u : UnderWay K V K) (midst : InCallEvent same name terms log event beginning map i c steps done m known s u)
-      → (old new : Executor K V S) → IsAt same hash old s → (said : Progress (Node K V)) (leads : StepLeads same hash i said s old new)
-      → (let to = leads map u (here_of same name log beginning map i c done m known s u midst.event_so) in
-      (request : Request) (begun : World (Node K V)) → HandsOver to.0.setting i s.world request → Happens deferred_word old.batch_size (Begin i request) s.world begun
-      → Happens deferred_word old.batch_size (Step i) begun to.4.w2 → IsNoted (things_then (things_in log) done) known (slot_of i) request)
-
   -- what the last step of an event says is told so, if a value that is told back is the one that was given, and it is told as such a call may be
   abbrev pub LastStepsTell : Type 0
   LastStepsTell =
@@ -112,28 +103,21 @@ module _ (K V S : Type 0) (same : K → K → Bool) (hash : K → ℕ) where
       let told = outcome_of known2 (kind_of c.call) value said in
       ComesAs c.call told → TellsValue c.call c.replies told → ComesSo known2 c.call c.replies said told × TellsOf same log m map known2 said told c.call)
 
-  -- What is asked here of rows that begin within calls, and is had of no law yet.
-  pub record Wanted : Type 0 where
-    pub noted : RowsHandNoted
-
 module _ {K V : Type 0} where
-  -- Of which events in turn this is said: of one by which a call goes on that is no walk asked for its next pair; of one that is to begin a call; and of one by which a call has got a reply, or a
-  -- walk was given up.
+  -- Of which events in turn this is said: of each but one that asks a walk for its next pair.
   abbrev pub IsSaid : Event K V → Outcome V → Type 0
   IsSaid (events.Next caller) outcome = ⊥
-  IsSaid (events.Replied caller reply) outcome = outcome ≡ Goes
-  IsSaid (events.Stop caller) outcome = outcome ≡ Done
   IsSaid event outcome = Unit {0}
 
 module _ {K V S : Type 0} (same : K → K → Bool) (hash : K → ℕ) where
   -- What is promised of such an event that is in turn, with what is left: it keeps its promises, and the run goes on.
   abbrev pub KeepsDue : Event K V → Played V → (old new : Scheduler K V S) → Type 0
   KeepsDue event played old new =
-      IsSaid event played.outcome → Wanted K V S same hash → (terms : Terms) (log : List (Entry K V)) → Runs same hash terms log old → is_kept_out terms event (moment log) ≡ false
+      IsSaid event played.outcome → (terms : Terms) (log : List (Entry K V)) → Runs same hash terms log old → is_kept_out terms event (moment log) ≡ false
       → IsLeft terms log (entry_of event played) → RunsOn same hash terms log (entry_of event played) new
 
   -- And so it is of an event of a call that is kept out, whichever it is.
   abbrev pub KeepsAt : Event K V → Played V → (old new : Scheduler K V S) → Type 0
   KeepsAt event played old new =
-      is_of_calls event ≡ true → Wanted K V S same hash → (terms : Terms) (log : List (Entry K V)) → Runs same hash terms log old → (is_kept_out terms event (moment log) ≡ false → IsSaid event played.outcome)
+      is_of_calls event ≡ true → (terms : Terms) (log : List (Entry K V)) → Runs same hash terms log old → (is_kept_out terms event (moment log) ≡ false → IsSaid event played.outcome)
       → IsLeft terms log (entry_of event played) → RunsOn same hash terms log (entry_of event played) new

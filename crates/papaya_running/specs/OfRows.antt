@@ -1,8 +1,6 @@
 -- What is had of an event whose work is a row on a slot, the making of a map, or the end of one: it keeps its promises, and the run goes on with it.
-use Rattle.std.specs.Prelude.{◌≡◌, ◌≤◌, ◌^◌, ℕ, Bool, true, false, List, [], ◌∷◌, None}
-use Rattle.std.specs.Int.{IsNextPowerOfTwo}
+use Rattle.std.specs.Prelude.{◌≡◌, ℕ, Bool, true, false, List, [], ◌∷◌, None}
 use Rattle.std.specs.List.{list_all}
-use Rattle.papaya_histories.specs.Given.Tables.Powers.{next_power}
 use Rattle.papaya_schedules.specs.declared.effect.Effect.{Effect}
 use Rattle.papaya_schedules.specs.declared.event.Event.{Event}
 use Rattle.papaya_schedules.specs.declared.event.Event.TheVariants.{DropGuard, EndMap, Enter, Flush, MakeMap, Own, Refresh, Register, Unregister}
@@ -22,10 +20,6 @@ use Rattle.papaya_scheduler.specs.declared.played.Played.{Played}
 use Rattle.papaya_scheduler.specs.declared.scheduler.Scheduler.{Scheduler}
 use Rattle.papaya_running.specs.Asked.{Holds}
 use Rattle.papaya_running.specs.OfCalls.{Runs, RunsOn}
-
--- There is one least power of two that is a number or more. So it is, but no law says so yet that can be cited here.
-abbrev pub PowersAreOne : Type 0
-PowersAreOne = (number power : ℕ) → number ≤ 2 ^ 63 → IsNextPowerOfTwo number power → power ≡ next_power number
 
 module _ {K V : Type 0} where
   -- these are the events of which it is said
@@ -73,11 +67,11 @@ module _ {K V S : Type 0} (same : K → K → Bool) (hash : K → ℕ) where
   KeepsRun event played old new =
       is_of_rows event ≡ true → (terms : Terms) (log : List (Entry K V)) → Holds same hash terms (moment log) old → Runs same hash terms log old → is_kept_out terms event (moment log) ≡ false
       → IsPlayed same hash terms (entry_of event played ∷ log) new → IsLeftOfRows terms log (entry_of event played) → HasNotBegun event played.outcome played.effects.items old new
-      → PowersAreOne → RunsOn same hash terms log (entry_of event played) new
+      → RunsOn same hash terms log (entry_of event played) new
 
   -- and so of one that is kept out
   abbrev pub KeepsRunAt : Event K V → Played V → (old new : Scheduler K V S) → Type 0
   KeepsRunAt event played old new =
       is_of_rows event ≡ true → (terms : Terms) (log : List (Entry K V)) → Holds same hash terms (moment log) old → Runs same hash terms log old
       → IsPlayed same hash terms (entry_of event played ∷ log) new → IsLeftOfRows terms log (entry_of event played) → HasNotBegun event played.outcome played.effects.items old new
-      → PowersAreOne → RunsOn same hash terms log (entry_of event played) new
+      → RunsOn same hash terms log (entry_of event played) new

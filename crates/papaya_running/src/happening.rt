@@ -6,6 +6,7 @@ ghost use Rattle.papaya_running.specs.Back.{GivesAt, GivesDue};
 ghost use Rattle.papaya_running.specs.OfAll.{KeepsAll};
 ghost use Rattle.papaya_running.specs.OfCalls.{KeepsAt, KeepsDue};
 ghost use Rattle.papaya_running.specs.OfRows.{KeepsRun, KeepsRunAt};
+ghost use Rattle.papaya_running.specs.OfSetups.{KeepsSetup};
 
 use papaya_mapping::endings::end_map;
 use papaya_mapping::makings::make_map;
@@ -33,6 +34,7 @@ fn of_maps<K: Eq + Hash + Drop, V: Drop, S: Hashes<K>>(
     ensures back { IfOk result (λ played. GivesDue K.eq (S.hash scheduler.old.logged.executor.hasher) event played scheduler.old back.old.items back.new.items) }
     ensures count { IfOk result (λ played. length scheduler.new.logged.executor.maps.items ≡ numbers_on event played.outcome (length scheduler.old.logged.executor.maps.items)) }
     ensures rows { IfOk result (λ played. KeepsRun K.eq (S.hash scheduler.old.logged.executor.hasher) event played scheduler.old scheduler.new) }
+    ensures setups { IfOk result (λ played. KeepsSetup K.eq (S.hash scheduler.old.logged.executor.hasher) event played scheduler.old scheduler.new) }
     ensures all { IfOk result (λ played. KeepsAll K.eq (S.hash scheduler.old.logged.executor.hasher) event played scheduler.old scheduler.new) }
     ensures given { StaysGiven scheduler.old.logged.executor scheduler.new.logged.executor }
 {
@@ -63,6 +65,7 @@ fn of_slots<K: Eq + Hash + Drop, V: Drop, S: Hashes<K>>(
     ensures happens { IfOk result (λ played. HappensDue K.eq (S.hash scheduler.old.logged.executor.hasher) is_first event played scheduler.old scheduler.new) }
     ensures back { IfOk result (λ played. GivesDue K.eq (S.hash scheduler.old.logged.executor.hasher) event played scheduler.old back.old.items back.new.items) }
     ensures rows { IfOk result (λ played. KeepsRun K.eq (S.hash scheduler.old.logged.executor.hasher) event played scheduler.old scheduler.new) }
+    ensures setups { IfOk result (λ played. KeepsSetup K.eq (S.hash scheduler.old.logged.executor.hasher) event played scheduler.old scheduler.new) }
     ensures given { KeepsGiven scheduler.old.logged.executor scheduler.new.logged.executor }
 {
     match event {
@@ -156,6 +159,7 @@ pub fn happen<K: Eq + Hash + Drop, V: Drop, S: Hashes<K>>(
     ensures holds { IfOk result (λ played. HoldsThen K.eq (S.hash scheduler.old.logged.executor.hasher) is_first event played scheduler.old scheduler.new) }
     ensures back { IfOk result (λ played. GivesAt K.eq (S.hash scheduler.old.logged.executor.hasher) event played scheduler.old back.old.items back.new.items) }
     ensures rows { IfOk result (λ played. KeepsRunAt K.eq (S.hash scheduler.old.logged.executor.hasher) event played scheduler.old scheduler.new) }
+    ensures setups { IfOk result (λ played. KeepsSetup K.eq (S.hash scheduler.old.logged.executor.hasher) event played scheduler.old scheduler.new) }
     ensures all { IfOk result (λ played. KeepsAll K.eq (S.hash scheduler.old.logged.executor.hasher) event played scheduler.old scheduler.new) }
     ensures keeps { IfOk result (λ played. KeepsAt K.eq (S.hash scheduler.old.logged.executor.hasher) event played scheduler.old scheduler.new) }
     ensures given { StaysGiven scheduler.old.logged.executor scheduler.new.logged.executor }

@@ -1,6 +1,6 @@
 -- A scheduler stands as before where a choice of a block number comes.
-use Rattle.std.specs.Prelude.{◌≡◌, ◌+◌, ◌&&◌, ℕ, Bool, List}
-use Rattle.std.proofs.Common.{refl, sym, subst}
+use Rattle.std.specs.Prelude.{◌≡◌, ◌+◌, ◌&&◌, ℕ, Bool, List, []}
+use Rattle.std.proofs.Common.{refl, ap, sym, subst}
 use Rattle.papaya_schedules.specs.declared.event.Event.TheVariants.{Choose}
 use Rattle.papaya_schedules.specs.declared.outcome.Outcome.TheVariants.{Done}
 use Rattle.papaya_schedules.specs.After.{is_alone_on, moment}
@@ -11,6 +11,8 @@ use Rattle.papaya_logged.specs.Choosing.{logged_chosen, scene_chosen}
 use Rattle.papaya_logged.specs.declared.logged.Logged.{Logged}
 use Rattle.papaya_logged.proofs.Choosing.{choice_shown}
 use Rattle.papaya_scheduler.specs.Played.{IsDue, Plays, StandsFor}
+use Rattle.papaya_scheduler.specs.Works.{WorksOnSetup}
+use Rattle.papaya_scheduler.specs.declared.played.Played.{Played}
 use Rattle.papaya_scheduler.specs.declared.scheduler.Scheduler.{Scheduler}
 use Rattle.papaya_scheduler.proofs.Quiet.{stands_on}
 use Rattle.papaya_scheduler.proofs.Rights.{plays, quiet}
@@ -45,3 +47,9 @@ module _ {K V S : Type 0} (same : K → K → Bool) (hash : K → ℕ) (terms : 
       subst (λ (l : Logged K V S). Plays same hash terms log e (record p { logged = l })) (sym is)
       (plays same hash terms log (Choose choice) (record p { logged = logged_chosen choice p.logged }) due e refl refl
       (stands_on same hash terms m (record p { logged = logged_chosen choice p.logged }) (stands_chosen same hash terms m p due.played choice) (m.events + 1) (m.is_alone && is_alone_on e m) m.slots m.sheltered))
+
+-- that is all that was done
+module _ {K V S : Type 0} (p : Scheduler K V S) (choice : ℕ) where
+  pub has_chosen : (played : Played V) → played.outcome ≡ Done → played.effects.items ≡ [] → (logged : Logged K V S) → logged ≡ logged_chosen choice p.logged
+      → WorksOnSetup played p (record p { logged = logged }) (Choose choice)
+  has_chosen played done none logged is = (done, none, ap (λ (l : Logged K V S). record p { logged = l }) is)

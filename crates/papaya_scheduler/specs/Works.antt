@@ -1,4 +1,4 @@
--- What an event has done by a row on a slot, by the making of a map, or by the end of one: which steps ran.
+-- What an event has done by a row on a slot, by the making of a map, or by the end of one: which steps ran; and what one has done by which none runs.
 use Rattle.std.specs.Prelude.{◌≡◌, ◌≢◌, ◌<◌, ◌⊎◌, ℕ, Bool, true, false, ◌==◌, List, [], length, is_some, option_map, Some, None, ◌+◌, ◌*◌}
 use Rattle.std.specs.List.{list_any}
 use Rattle.seize.specs.declared.progress.Progress.TheVariants as progress
@@ -12,7 +12,7 @@ use Rattle.papaya_histories.specs.Given.Tables.declared.setting.Setting.{Setting
 use Rattle.papaya_runs.specs.Runs.{map_fault}
 use Rattle.papaya_runs.specs.Present.{Present, guard_of, guards_on, living_on, living_slot, registration_of}
 use Rattle.papaya_schedules.specs.declared.event.Event.{Event}
-use Rattle.papaya_schedules.specs.declared.event.Event.TheVariants.{Register, Unregister, Enter, Own, Refresh, Flush, DropGuard}
+use Rattle.papaya_schedules.specs.declared.event.Event.TheVariants.{Choose, Register, Unregister, Enter, Own, Refresh, Flush, DropGuard}
 use Rattle.papaya_schedules.specs.declared.outcome.Outcome.{Outcome}
 use Rattle.papaya_schedules.specs.declared.outcome.Outcome.TheVariants.{Done, Slot, Refused}
 use Rattle.papaya_schedules.specs.Moment.{Moment}
@@ -23,6 +23,7 @@ use Rattle.papaya_executor.specs.declared.row.RowTold.TheVariants as told
 use Rattle.papaya_executor.specs.declared.row.SlotCall.{SlotCall}
 use Rattle.papaya_executor.specs.declared.worker.TheConstants.{SLOTS}
 use Rattle.papaya_executor.specs.declared.row.SlotCall.TheVariants as call
+use Rattle.papaya_logged.specs.Choosing.{logged_chosen}
 use Rattle.papaya_logged.specs.Ends.{EndIsBegun, EndIsOver, EndRan}
 use Rattle.papaya_logged.specs.Goes.{EndGone, MakingGone}
 use Rattle.papaya_logged.specs.Makings.{MakingIsBegun, MakingRan, MapIsThere}
@@ -85,6 +86,11 @@ module _ {K V S : Type 0} (played : Played V) (old new : Scheduler K V S) where
   -- nothing was done
   abbrev pub DidNothing : Type 0
   DidNothing = (played.effects.items ≡ []) × (new.logged ≡ old.logged)
+
+  -- One by which no steps run has done nothing, and callers are as they were; a choice of a block's number has come, and else nothing was done.
+  abbrev pub WorksOnSetup : Event K V → Type 0
+  WorksOnSetup (Choose choice) = (played.outcome ≡ Done) × (played.effects.items ≡ []) × (new ≡ record old { logged = logged_chosen choice old.logged })
+  WorksOnSetup _ = (new.calls ≡ old.calls) × DidNothing
 
   -- An event was refused, and has done nothing; or there was nothing to be done on its slot; or its row has run there, and nothing else. Callers are as they were.
   abbrev pub WorksOnSlot : Event K V → Type 0

@@ -7,7 +7,7 @@ ghost use Rattle.papaya_histories.specs.Given.Hands.Asked.{as_told};
 ghost use Rattle.papaya_executor.specs.IsAt.{KeepsGiven};
 ghost use Rattle.papaya_named.specs.Machines.{aborted_by};
 ghost use Rattle.papaya_scheduler.specs.Played.{Began, BeginsSo, MayPlay, PlaysAt, Replies, StandsFor, Stops};
-ghost use Rattle.papaya_scheduler.specs.Quiet.{IsQuiet};
+ghost use Rattle.papaya_scheduler.specs.Quiet.{IsQuiet, StaysBusy};
 ghost use Rattle.papaya_named.specs.Seen.{ready_place};
 
 use crate::played::Played;
@@ -106,6 +106,7 @@ impl<K: Drop, V: Drop, S> Scheduler<K, V, S> {
         ensures quiet { IsQuiet result.outcome result.effects.items }
         ensures plays { (same : K → K → Bool) (hash : K → ℕ) → PlaysAt same hash (event.Replied caller.now reply) result self.old self.new }
         ensures told { (same : K → K → Bool) (hash : K → ℕ) → Replies same hash caller.now reply result self.old self.new }
+        ensures stays { (same : K → K → Bool) (hash : K → ℕ) → StaysBusy same hash (event.Replied caller.now reply) result self.old self.new }
         ensures given { KeepsGiven self.old.logged.executor self.new.logged.executor }
     {
         let Some(place) = self.calls.place_of(caller) else {
@@ -140,6 +141,7 @@ impl<K: Drop, V: Drop, S> Scheduler<K, V, S> {
         ensures quiet { IsQuiet result.outcome result.effects.items }
         ensures plays { (same : K → K → Bool) (hash : K → ℕ) → PlaysAt same hash (event.Stop caller.now) result self.old self.new }
         ensures stopped { (same : K → K → Bool) (hash : K → ℕ) → Stops same hash caller.now result self.old self.new }
+        ensures stays { (same : K → K → Bool) (hash : K → ℕ) → StaysBusy same hash (event.Stop caller.now) result self.old self.new }
         ensures given { KeepsGiven self.old.logged.executor self.new.logged.executor }
     {
         let Some(place) = self.place_of_ready(caller) else {

@@ -9,7 +9,7 @@ ghost use Rattle.papaya_scheduler.specs.Back.{GivesBack};
 ghost use Rattle.papaya_scheduler.specs.Played.{MayPlay, PlaysAt};
 ghost use Rattle.papaya_scheduler.specs.Quiet.{IsQuiet};
 ghost use Rattle.papaya_rows.specs.Rows.{left_as};
-ghost use Rattle.papaya_scheduler.specs.Works.{WorksOnSlot};
+ghost use Rattle.papaya_scheduler.specs.Works.{WorksOnSetup, WorksOnSlot};
 
 use crate::played::Played;
 use crate::scheduler::Scheduler;
@@ -175,6 +175,7 @@ impl<K: Drop, V: Drop, S> Scheduler<K, V, S> {
         ensures steps { result.steps ≡ 0 }
         ensures quiet { IsQuiet result.outcome result.effects.items }
         ensures plays { (same : K → K → Bool) (hash : K → ℕ) → PlaysAt same hash (event.Forget guard.now) result self.old self.new }
+        ensures works { WorksOnSetup result self.old self.new (event.Forget guard.now) }
         ensures given { KeepsGiven self.old.logged.executor self.new.logged.executor }
     {
         if self.slot_of_free(guard).is_none() {

@@ -5,6 +5,7 @@ ghost use Rattle.seize_words.specs.declared.fault.Fault.TheVariants.{Busy};
 ghost use Rattle.papaya_executor.specs.IsAt.{KeepsGiven};
 ghost use Rattle.papaya_scheduler.specs.Played.{MayPlay, PlaysAt, PlaysFirst};
 ghost use Rattle.papaya_scheduler.specs.Quiet.{IsQuiet};
+ghost use Rattle.papaya_scheduler.specs.Works.{WorksOnSetup};
 
 use crate::played::Played;
 use crate::scheduler::Scheduler;
@@ -33,6 +34,7 @@ impl<K: Drop, V: Drop, S> Scheduler<K, V, S> {
         ensures steps { result.steps ≡ 0 }
         ensures quiet { IsQuiet result.outcome result.effects.items }
         ensures plays { (same : K → K → Bool) (hash : K → ℕ) → PlaysFirst same hash is_first (event.Collector setup) result self.now self.now }
+        ensures works { WorksOnSetup result self.now self.now (event.Collector setup) }
     {
         self.if_so(is_first)
     }
@@ -43,6 +45,7 @@ impl<K: Drop, V: Drop, S> Scheduler<K, V, S> {
         ensures steps { result.steps ≡ 0 }
         ensures quiet { IsQuiet result.outcome result.effects.items }
         ensures plays { (same : K → K → Bool) (hash : K → ℕ) → PlaysAt same hash (event.Hash by) result self.now self.now }
+        ensures works { WorksOnSetup result self.now self.now (event.Hash by) }
     {
         self.if_so(!self.is_mapped)
     }
@@ -53,6 +56,7 @@ impl<K: Drop, V: Drop, S> Scheduler<K, V, S> {
         ensures steps { IfOk result (λ played. played.steps ≡ 0) }
         ensures quiet { IfOk result (λ played. IsQuiet played.outcome played.effects.items) }
         ensures plays { IfOk result (λ played. (same : K → K → Bool) (hash : K → ℕ) → PlaysAt same hash (event.Choose choice) played self.old self.new) }
+        ensures works { IfOk result (λ played. WorksOnSetup played self.old self.new (event.Choose choice)) }
         ensures given { KeepsGiven self.old.logged.executor self.new.logged.executor }
     {
         self.logged.choose(choice)?;

@@ -7,6 +7,7 @@ ghost use Rattle.papaya_shown.specs.Shown.{Stands, tables_on};
 ghost use Rattle.papaya_scheduler.specs.Played.{MayPlay, PlaysAt};
 ghost use Rattle.papaya_scheduler.specs.Shapes.{shape_of};
 ghost use Rattle.papaya_scheduler.specs.Quiet.{IsQuiet};
+ghost use Rattle.papaya_scheduler.specs.Works.{WorksOnSetup};
 
 use crate::played::Played;
 use crate::scheduler::Scheduler;
@@ -53,6 +54,7 @@ impl<K: Drop, V: Drop, S> Scheduler<K, V, S> {
         ensures steps { IfOk result (λ played. played.steps ≡ 0) }
         ensures quiet { IfOk result (λ played. IsQuiet played.outcome played.effects.items) }
         ensures plays { IfOk result (λ played. (same : K → K → Bool) (hash : K → ℕ) → PlaysAt same hash (event.ShowShape map.now) played self.now self.now) }
+        ensures works { IfOk result (λ played. WorksOnSetup played self.now self.now (event.ShowShape map.now)) }
     {
         match self.setting_of(map) {
             Some((_, setting)) => {

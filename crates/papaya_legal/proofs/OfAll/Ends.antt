@@ -3,8 +3,10 @@ use Rattle.std.specs.Prelude.{◌≡◌, ◌⊎◌, ◌<◌, ℕ, Bool, true, fa
 use Rattle.std.specs.List.{list_all}
 use Rattle.std.proofs.Common.{refl, ap, sym, subst, ◌∙◌, arith, inl}
 use Rattle.papaya_histories.specs.Given.Seize.Law.{is_retired}
+use Rattle.papaya_histories.specs.Given.Seize.WaitingSets.{Change}
 use Rattle.papaya_histories.specs.Given.Seize.World.{World, Rests, times}
 use Rattle.papaya_histories.specs.Given.Seize.declared.rows.settle.Settled.{Settled}
+use Rattle.papaya_histories.specs.Given.Tables.Nodes.{deferred_word}
 use Rattle.papaya_histories.specs.Given.Tables.declared.node.Node.{Node}
 use Rattle.papaya_histories.specs.Given.Runs.Present.{all_forgotten}
 use Rattle.papaya_histories.specs.Given.Schedules.declared.effect.Effect.{Effect}
@@ -38,6 +40,8 @@ use Rattle.papaya_promises.specs.Protected.{EndsInside, InMidst, is_of_slots}
 use Rattle.papaya_promises.specs.Sheltered.{SectionsHold}
 use Rattle.papaya_promises.proofs.Protected.{all_is_ended_protected, slot_events_end_protected}
 use Rattle.papaya_models.specs.Follows.{IsFollowed}
+use Rattle.papaya_models.specs.Reclaims.{HasReclaimed}
+use Rattle.papaya_models.specs.Turns.{CameByTurns}
 use Rattle.papaya_finds.specs.Little.{ReclaimsAll, WhereAll}
 use Rattle.papaya_finds.specs.Orderly.{NothingIsRetired, is_left_over}
 use Rattle.papaya_finds.proofs.Begun.{in_turn, not_kept_out, was_done}
@@ -48,6 +52,7 @@ use Rattle.papaya_legal.specs.CallEvents.{IsLegalBut}
 use Rattle.papaya_legal.specs.Carried.{ComesAlone, ShowsRun}
 use Rattle.papaya_legal.proofs.Between.{likes_show}
 use Rattle.papaya_legal.proofs.Found.{none_at_rest}
+use Rattle.papaya_legal.proofs.OfAll.BySets.{all_reclaim_by_sets}
 use Rattle.papaya_legal.proofs.OfAll.Model.{all_is_followed, comes_last}
 use Rattle.papaya_legal.proofs.OfAll.Points.{none_listed, nothing_behind}
 use Rattle.papaya_legal.proofs.OfAll.Steps.{all_chain, all_events_begin, all_goes_on}
@@ -140,7 +145,7 @@ module _ {K V : Type 0} (terms : Terms) (log : List (Entry K V)) (steps : ℕ) (
 
 module _ (K V S : Type 0) (same : K → K → Bool) (hash : K → ℕ) where
   pub all_runs_to_its_end : AllRunsToItsEnd K V S same hash
-  all_runs_to_its_end name terms log known s old small run its of_all before i all lists left behind n to over chain last done steps effects did pairs has right = (but, reclaims, ran)
+  all_runs_to_its_end name terms log known s old small run its of_all before i all lists left behind begins n to over chain last done steps effects did pairs right = (but, reclaims, ran)
     where
       e : Entry K V
       e = record { event = its; outcome = Done; steps = steps; effects = effects }
@@ -218,11 +223,15 @@ module _ (K V S : Type 0) (same : K → K → Bool) (hash : K → ℕ) where
       safe = slot_events_end_protected K V log e over.come.now over.come.notes over.come.scene.world on at_over.worked
           (protects_all its of_all effects over.come.now over.come.notes over.come.scene.world) (ends_all its of_all (moment log) over.come.scene.world)
 
+      has_reclaimed : (changes : List Change) → CameByTurns deferred_word terms.batch_size terms.roots s.world changes
+          → HasReclaimed deferred_word terms.batch_size terms.roots s.world changes over.come.scene.world
+      has_reclaimed changes came = all_reclaim_by_sets K V S same hash terms small i n (all_begun log known s old all lists) to over begins chain last done changes came
+
       followed : ComesAlone its log → IsFollowed terms log e over.come.notes over.come.scene.world
       followed alone =
           let follows = before alone in
           all_is_followed terms log known s.world lists behind effects over.come.notes over.come.scene.world over.all over.lists at_over.turn nothing its of_all steps at_over.may small at_over.once
-          follows (has follows.before follows.came) over.come.now at_over.calls.whole.all.shown.blocks
+          follows (has_reclaimed follows.before follows.came) over.come.now at_over.calls.whole.all.shown.blocks
 
       by_model : (q : Bool) → (after e (moment log)).is_alone ≡ q → IsByModel terms log e
       by_model true is = (followed is).0

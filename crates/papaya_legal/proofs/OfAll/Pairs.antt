@@ -267,13 +267,13 @@ module _ (K V S : Type 0) (same : K → K → Bool) (hash : K → ℕ) where
 
   pub all_find_pairs : AllFindPairs K V S same hash
   all_find_pairs name terms log known s old run none i all lists left behind n to chain =
-      (chains_keep Both (AllSteps same hash terms.roots i) keeps n (all_begun log known s old all lists) to chain
+      (chains_keep Both (AllSteps same hash terms i) keeps n (all_begun log known s old all lists) to chain
       (all_events_begin K V S same hash name terms log known s run all lists left, record { finds = tt; placed = run.order.0.waits.placed; none = none; behind = behind })).1.finds
     where
       Both : AllCome K V S → Type 0
       Both x = InAllEvent same name terms log known s.world lists x.come.did x.come.now x.come.notes x.come.scene x.all x.lists × PairsGo terms.roots log x
 
-      keeps : (x y : AllCome K V S) → AllSteps same hash terms.roots i x y → Both x → Both y
+      keeps : (x y : AllCome K V S) → AllSteps same hash terms i x y → Both x → Both y
       keeps x y step (midst, go) = (
         all_goes_on K V S same hash name terms log known s.world lists i x y step midst,
         subst (PairsGo terms.roots log) (sym step.comes) (record {

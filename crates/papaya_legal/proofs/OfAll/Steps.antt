@@ -102,7 +102,7 @@ module _ (K V S : Type 0) (same : K → K → Bool) (hash : K → ℕ) where
 
   -- from one come to the next
   pub all_goes_on : (name : ℕ → List ℕ) (terms : Terms) (log : List (Entry K V)) (first : Known) (began : World (Node K V)) (behind : ℕ → List ℕ) (i : ℕ) (x y : AllCome K V S)
-      → AllSteps same hash terms.roots i x y → InAllEvent same name terms log first began behind x.come.did x.come.now x.come.notes x.come.scene x.all x.lists
+      → AllSteps same hash terms i x y → InAllEvent same name terms log first began behind x.come.did x.come.now x.come.notes x.come.scene x.all x.lists
       → InAllEvent same name terms log first began behind y.come.did y.come.now y.come.notes y.come.scene y.all y.lists
   all_goes_on name terms log first began behind i x y step midst = subst Midst (sym step.comes)
       (goes_on same hash name terms log first began behind x.come.did x.come.now x.come.notes x.come.scene x.all y.all x.lists midst x.come.executor y.come.executor i step.said step.under_way
@@ -112,7 +112,7 @@ module _ (K V S : Type 0) (same : K → K → Bool) (hash : K → ℕ) where
       Midst z = InAllEvent same name terms log first began behind z.come.did z.come.now z.come.notes z.come.scene z.all z.lists
 
   pub all_chain : AllChain K V S same hash
-  all_chain name terms log first began behind i n from to chain so = chains_keep Midst (AllSteps same hash terms.roots i) (all_goes_on name terms log first began behind i) n from to chain so
+  all_chain name terms log first began behind i n from to chain so = chains_keep Midst (AllSteps same hash terms i) (all_goes_on name terms log first began behind i) n from to chain so
     where
       Midst : AllCome K V S → Type 0
       Midst z = InAllEvent same name terms log first began behind z.come.did z.come.now z.come.notes z.come.scene z.all z.lists

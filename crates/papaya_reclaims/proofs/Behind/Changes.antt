@@ -14,6 +14,7 @@ use Rattle.papaya_finishes.specs.Given.Seize.declared.states.TheConstants.{NEXT}
 use Rattle.papaya_finishes.specs.Given.Seize.declared.rows.settle.Settled.{Settled}
 use Rattle.papaya_finishes.specs.Given.Seize.declared.rows.settle.Settled.TheVariants as settled
 use Rattle.papaya_finishes.specs.Given.Seize.declared.rows.reclaim_all.ReclaimAll.{ReclaimAll}
+use Rattle.papaya_finishes.specs.Given.Seize.declared.rows.reclaim_all.Reclaiming.{Reclaiming}
 use Rattle.papaya_finishes.specs.Given.Seize.declared.rows.reclaim_all.Reclaiming.TheVariants as at
 use Rattle.papaya_finishes.specs.Given.Seize.Further.{ListFrom}
 use Rattle.papaya_finishes.specs.Given.Seize.Law.{holds}
@@ -55,8 +56,8 @@ module _ {K Q : Type 0} (V : Type 0) (same : K → K → Bool) (asks : Q → K �
     (maps : ℕ → Option (Standing K)) (calls : ℕ → ℕ → Option (UnderWay K V Q)) (makers : ℕ → Option (Beginning K)) (enders : ℕ → Option (Finishing K V))
     (w : World (Node K V)) (i : ℕ) (lists : ℕ → List ℕ) (word : batch_size < 2 ^ 64) (idle : AllStandIdle V same asks batch_size roots slot maps calls makers enders w)
     (quiet : IsQuiet w) (c : ReclaimAll) (rs : c.roots ≡ roots) (root : ℕ) (o : Opened roots w maps lists root) where
-  abbrev Leads : Mem (Node K V) → ReclaimAll × Settled (Node K V) → Type 0
-  Leads m2 end = LedTo V same asks batch_size roots slot maps calls makers enders w i lists word idle quiet c rs m2 end
+  abbrev Leads : Reclaiming → Mem (Node K V) → ReclaimAll × Settled (Node K V) → Type 0
+  Leads point m2 end = LedTo V same asks batch_size roots slot maps calls makers enders w i lists word idle quiet c rs point m2 end
 
   came : CameAbout batch_size w
   came = idle.together.makings.standing.came
@@ -147,13 +148,14 @@ module _ {K Q : Type 0} (V : Type 0) (same : K → K → Bool) (asks : Q → K �
           (λ x on. spares.links x (not_it x (gone_from lists root b rest is roots o.below o.but.once root o.below x
           (subst (λ (l : List ℕ). 0 < times x l) (sym (less_here lists root b rest is)) on))) refl) from
 
-      took : (m2 : Mem (Node K V)) (c2 : ReclaimAll) → m2 ≡ with_block w.memory b None → c2.roots ≡ roots → ReclaimingAt batch_size roots i c2 w2 maps lists2 c2.stands
-          → Leads m2 (c2, settled.Gave value)
-      took m2 c2 memory rs2 point = record {
+      took : (block : ℕ) (m2 : Mem (Node K V)) (c2 : ReclaimAll) → m2 ≡ with_block w.memory b None → c2.roots ≡ roots → ReclaimingAt batch_size roots i c2 w2 maps lists2 c2.stands
+          → Leads (at.Takes root block next) m2 (c2, settled.Gave value)
+      took block m2 c2 memory rs2 point = record {
         w2 = w2;
         events = events_of i (TakesLeft b);
         its = inr (inl (b, refl));
         runs = runs;
+        does = (tt, tt);
         memory = sym memory;
         maps2 = maps;
         as_they_were = λ m. same_still (maps m);
@@ -163,16 +165,16 @@ module _ {K Q : Type 0} (V : Type 0) (same : K → K → Bool) (asks : Q → K �
         over = λ e. absurd (cc e);
       }
 
-      took_by : (m2 : Mem (Node K V)) (end : ReclaimAll × Settled (Node K V)) → m2 ≡ with_block w.memory b None
-          → Ends (value_at (with_block w.memory b None)) (given_back c root next (Taken value)) end → Leads m2 end
-      took_by m2 end memory ends =
-          elim (ends_if (value_at (with_block w.memory b None)) (next == 0) (Now (standing c (at.Empties root), settled.Gave value)) (Now (standing c (at.Nexts root next), settled.Gave value)) end ends) as (λ _. Leads m2 end) [
-            | inl h ↦ subst (λ (p : ReclaimAll × Settled (Node K V)). Leads m2 p) (sym h.1)
-                (took m2 (standing c (at.Empties root)) memory rs
+      took_by : (block : ℕ) (m2 : Mem (Node K V)) (end : ReclaimAll × Settled (Node K V)) → m2 ≡ with_block w.memory b None
+          → Ends (value_at (with_block w.memory b None)) (given_back c root next (Taken value)) end → Leads (at.Takes root block next) m2 end
+      took_by block m2 end memory ends =
+          elim (ends_if (value_at (with_block w.memory b None)) (next == 0) (Now (standing c (at.Empties root), settled.Gave value)) (Now (standing c (at.Nexts root next), settled.Gave value)) end ends) as (λ _. Leads (at.Takes root block next) m2 end) [
+            | inl h ↦ subst (λ (p : ReclaimAll × Settled (Node K V)). Leads (at.Takes root block next) m2 p) (sym h.1)
+                (took block m2 (standing c (at.Empties root)) memory rs
                 (quiet2, opened2, less_here lists root b rest is ∙ from_zero w.memory rest next (eqb-true next 0 h.0) from))
             | inr h ↦ (let more = from_some w.memory rest next (eqb-false next 0 h.0) from in
-                subst (λ (p : ReclaimAll × Settled (Node K V)). Leads m2 p) (sym h.1)
-                (took m2 (standing c (at.Nexts root next)) memory rs
+                subst (λ (p : ReclaimAll × Settled (Node K V)). Leads (at.Takes root block next) m2 p) (sym h.1)
+                (took block m2 (standing c (at.Nexts root next)) memory rs
                 (quiet2, opened2, (more.0, more.1, less_here lists root b rest is ∙ more.2, subst (λ (l : List ℕ). ListFrom w2.memory next l) more.2 from2))))
           ]
 
@@ -189,11 +191,11 @@ module _ {K Q : Type 0} (V : Type 0) (same : K → K → Bool) (asks : Q → K �
       take_may =
           may_take w.memory (given_back c root next) (block_in block) (subst (λ (x : ℕ). IsSome (value_at w.memory x)) (sym block_is) some) (λ value is. see_taken value (next == 0))
 
-      pub take_led : (m2 : Mem (Node K V)) (end : ReclaimAll × Settled (Node K V)) → Steps Took value_at w.memory (takes c root block next) m2 end → Leads m2 end
+      pub take_led : (m2 : Mem (Node K V)) (end : ReclaimAll × Settled (Node K V)) → Steps Took value_at w.memory (takes c root block next) m2 end → Leads (at.Takes root block next) m2 end
       take_led m2 end steps =
           let d = taken w.memory (given_back c root next) b m2 end
           (subst (λ (x : ℕ). Steps Took value_at w.memory (Do (Take x) (given_back c root next)) m2 end) block_is steps) in
-          took_by d.0 d.1 m2 end d.2 d.3
+          took_by d.0 d.1 block m2 end d.2 d.3
 
   -- a root is written
 
@@ -250,15 +252,16 @@ module _ {K Q : Type 0} (V : Type 0) (same : K → K → Bool) (asks : Q → K �
     pub empty_may : May Can Took value_at w.memory (empties {T = Node K V} c root)
     empty_may = may_store w.memory (λ out. to (standing c (at.Unuses root))) (Root root) 0 o.there tt
 
-    pub empty_led : (m2 : Mem (Node K V)) (end : ReclaimAll × Settled (Node K V)) → Steps Took value_at w.memory (empties c root) m2 end → Leads m2 end
+    pub empty_led : (m2 : Mem (Node K V)) (end : ReclaimAll × Settled (Node K V)) → Steps Took value_at w.memory (empties c root) m2 end → Leads (at.Empties root) m2 end
     empty_led m2 end steps =
         let d = stored w.memory (λ out. to (standing c (at.Unuses root))) (Root root) 0 m2 end steps in
-        subst (λ (p : ReclaimAll × Settled (Node K V)). Leads m2 p) (sym d.1)
+        subst (λ (p : ReclaimAll × Settled (Node K V)). Leads (at.Empties root) m2 p) (sym d.1)
         (record {
           w2 = emptied;
           events = events_of i (WritesRoot (Root root) 0);
           its = inr (inr (root, inl refl));
           runs = empties_runs;
+          does = (tt, tt);
           memory = sym d.0;
           maps2 = maps;
           as_they_were = λ m. same_still (maps m);
@@ -324,15 +327,16 @@ module _ {K Q : Type 0} (V : Type 0) (same : K → K → Bool) (asks : Q → K �
       pub free_may : May Can Took value_at w.memory (unuses {T = Node K V} c root)
       free_may = may_store w.memory (λ out. to (next_root c root)) (Used root) 0 used_there tt
 
-      pub free_led : (m2 : Mem (Node K V)) (end : ReclaimAll × Settled (Node K V)) → Steps Took value_at w.memory (unuses c root) m2 end → Leads m2 end
+      pub free_led : (m2 : Mem (Node K V)) (end : ReclaimAll × Settled (Node K V)) → Steps Took value_at w.memory (unuses c root) m2 end → Leads (at.Unuses root) m2 end
       free_led m2 end steps =
           let d = stored w.memory (λ out. to (next_root c root)) (Used root) 0 m2 end steps in
-          subst (λ (p : ReclaimAll × Settled (Node K V)). Leads m2 p) (sym d.1)
+          subst (λ (p : ReclaimAll × Settled (Node K V)). Leads (at.Unuses root) m2 p) (sym d.1)
           (record {
             w2 = freed;
             events = events_of i (WritesRoot (Used root) 0);
             its = inr (inr (root, inr refl));
             runs = frees_runs;
+            does = (tt, tt);
             memory = sym d.0;
             maps2 = maps;
             as_they_were = λ m. same_still (maps m);

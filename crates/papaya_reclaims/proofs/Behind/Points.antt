@@ -12,6 +12,7 @@ use Rattle.papaya_finishes.specs.Given.Seize.declared.states.TheConstants.{NEXT}
 use Rattle.papaya_finishes.specs.Given.Seize.declared.rows.settle.Settled.{Settled}
 use Rattle.papaya_finishes.specs.Given.Seize.declared.rows.settle.Settled.TheVariants as settled
 use Rattle.papaya_finishes.specs.Given.Seize.declared.rows.reclaim_all.ReclaimAll.{ReclaimAll}
+use Rattle.papaya_finishes.specs.Given.Seize.declared.rows.reclaim_all.Reclaiming.{Reclaiming}
 use Rattle.papaya_finishes.specs.Given.Seize.declared.rows.reclaim_all.Reclaiming.TheVariants as at
 use Rattle.papaya_finishes.specs.Given.Seize.Further.{ListFrom}
 use Rattle.papaya_finishes.specs.Given.Seize.ReclaimAll.{standing, next_root, to, left_there, root_read, roots as roots_plan, next_read, nexts}
@@ -29,7 +30,7 @@ use Rattle.papaya_finishes.specs.Endings.{Finishing}
 use Rattle.papaya_finishes.specs.Makings.{Beginning, IsFreeRoot}
 use Rattle.papaya_finishes.specs.Maps.{Standing}
 use Rattle.papaya_reclaims.specs.Reclaims.{IsRootOf, RootLeads, LeftBehind, Opened, ReclaimingAt, AllStandIdle, StepsOfReclaiming}
-use Rattle.papaya_reclaims.specs.Slots.{IsQuiet}
+use Rattle.papaya_reclaims.specs.Slots.{IsQuiet, DoesAt}
 use Rattle.papaya_reclaims.proofs.Behind.Deferred.{tables_carry}
 use Rattle.papaya_reclaims.proofs.Behind.Kept.{same_still}
 use Rattle.papaya_reclaims.proofs.Slots.Facts.{nothing_left}
@@ -57,22 +58,23 @@ module _ {K Q : Type 0} (V : Type 0) (same : K → K → Bool) (asks : Q → K �
     (maps : ℕ → Option (Standing K)) (calls : ℕ → ℕ → Option (UnderWay K V Q)) (makers : ℕ → Option (Beginning K)) (enders : ℕ → Option (Finishing K V))
     (w : World (Node K V)) (i : ℕ) (lists : ℕ → List ℕ) (word : batch_size < 2 ^ 64) (idle : AllStandIdle V same asks batch_size roots slot maps calls makers enders w)
     (quiet : IsQuiet w) (c : ReclaimAll) (rs : c.roots ≡ roots) where
-  abbrev pub LedTo : Mem (Node K V) → ReclaimAll × Settled (Node K V) → Type 0
-  LedTo m2 end = StepsOfReclaiming V same asks batch_size roots slot maps calls makers enders w i lists m2 end.0 end.1
+  abbrev pub LedTo : Reclaiming → Mem (Node K V) → ReclaimAll × Settled (Node K V) → Type 0
+  LedTo point m2 end = StepsOfReclaiming V same asks batch_size roots slot maps calls makers enders w i lists point m2 end.0 end.1
 
   came : CameAbout batch_size w
   came = idle.together.makings.standing.came
 
   -- in the same world it goes on so
-  still : (m2 : Mem (Node K V)) (end : ReclaimAll × Settled (Node K V)) (c2 : ReclaimAll) → m2 ≡ w.memory → end ≡ (c2, settled.Goes) → c2.roots ≡ roots
-      → ReclaimingAt batch_size roots i c2 w maps lists c2.stands → LedTo m2 end
-  still m2 end c2 memory e rs2 point =
-      subst (λ (p : ReclaimAll × Settled (Node K V)). LedTo m2 p) (sym e)
+  still : (from : Reclaiming) (m2 : Mem (Node K V)) (end : ReclaimAll × Settled (Node K V)) (c2 : ReclaimAll) → DoesAt batch_size i [] w w from c2.stands → m2 ≡ w.memory → end ≡ (c2, settled.Goes)
+      → c2.roots ≡ roots → ReclaimingAt batch_size roots i c2 w maps lists c2.stands → LedTo from m2 end
+  still from m2 end c2 does memory e rs2 point =
+      subst (λ (p : ReclaimAll × Settled (Node K V)). LedTo from m2 p) (sym e)
       (record {
         w2 = w;
         events = [];
         its = inl tt;
         runs = refl;
+        does = does;
         memory = sym memory;
         maps2 = maps;
         as_they_were = λ m. same_still (maps m);
@@ -160,22 +162,22 @@ module _ {K Q : Type 0} (V : Type 0) (same : K → K → Bool) (asks : Q → K �
       see_value (inr (b, rest, is, from, (value, here, was), used)) e =
           some_of (value_at w.memory (block_in a)) value (ap (λ (x : ℕ). value_at w.memory x) (ap (λ u. u / 2048) from.2 ∙ link-block b) ∙ here)
 
-      led_true : (m2 : Mem (Node K V)) (end : ReclaimAll × Settled (Node K V)) → m2 ≡ w.memory → a ≡ 0 → Passes a ⊎ Finds a → end ≡ (next_root c root, settled.Goes) → LedTo m2 end
+      led_true : (m2 : Mem (Node K V)) (end : ReclaimAll × Settled (Node K V)) → m2 ≡ w.memory → a ≡ 0 → Passes a ⊎ Finds a → end ≡ (next_root c root, settled.Goes) → LedTo (at.Roots root) m2 end
       led_true m2 end memory z (inl (none, what)) e =
-          still m2 end (next_root c root) memory e (next_roots root) (next_point w lists root quiet left lt (before_more root none before))
+          still (at.Roots root) m2 end (next_root c root) tt memory e (next_roots root) (next_point w lists root quiet left lt (before_more root none before))
       led_true m2 end memory z (inr (b, rest, is, from, value, used)) e = absurd (let p = from.1 in let q = from.2 in omega (arith, z, p, q))
 
       led_false : (m2 : Mem (Node K V)) (end : ReclaimAll × Settled (Node K V)) → m2 ≡ w.memory → (a ≡ 0 → ⊥) → Passes a ⊎ Finds a → (value : Node K V) → value_at w.memory (block_in a) ≡ Some value
-          → Ends (value_at w.memory) (left_there c root a (was_left value)) end → LedTo m2 end
+          → Ends (value_at w.memory) (left_there c root a (was_left value)) end → LedTo (at.Roots root) m2 end
       led_false m2 end memory ne (inl (none, inl z)) value is ends = absurd (ne z)
       led_false m2 end memory ne (inl (none, inr (x, there2, was))) value is ends =
           let here : was_left value ≡ false = ap was_left (same_some value x (sym is ∙ there2)) ∙ was in
-          still m2 end (next_root c root) memory (subst (λ (b : Bool). Ends (value_at w.memory) (left_there c root a b) end) here ends) (next_roots root)
+          still (at.Roots root) m2 end (next_root c root) tt memory (subst (λ (b : Bool). Ends (value_at w.memory) (left_there c root a b) end) here ends) (next_roots root)
           (next_point w lists root quiet left lt (before_more root none before))
       led_false m2 end memory ne (inr (b, rest, list, from, (x, there2, was), used)) value is ends =
           let named : block_in a ≡ b = ap (λ u. u / 2048) from.2 ∙ link-block b in
           let here : was_left value ≡ true = ap was_left (same_some value x (sym is ∙ ap (λ (y : ℕ). value_at w.memory y) named ∙ there2)) ∙ was in
-          still m2 end (standing c (at.Nexts root a)) memory (subst (λ (b : Bool). Ends (value_at w.memory) (left_there c root a b) end) here ends) rs
+          still (at.Roots root) m2 end (standing c (at.Nexts root a)) tt memory (subst (λ (b : Bool). Ends (value_at w.memory) (left_there c root a b) end) here ends) rs
           (quiet, opened b rest list used, (b, rest, list, from))
 
     pub root_may : May Can Took value_at w.memory (roots_plan was_left c root)
@@ -184,11 +186,11 @@ module _ {K Q : Type 0} (V : Type 0) (same : K → K → Bool) (asks : Q → K �
         (λ a there. see_if (value_at w.memory) (a == 0) _ _ (λ e. tt)
         (λ e. (see_value a there (subst (λ (x : ℕ). Passes x ⊎ Finds x) (same_some looks.0 a (sym looks.1 ∙ there)) looks.2) e, λ value is. see_left a there (was_left value))))
 
-    pub root_led : (m2 : Mem (Node K V)) (end : ReclaimAll × Settled (Node K V)) → Steps Took value_at w.memory (roots_plan was_left c root) m2 end → LedTo m2 end
+    pub root_led : (m2 : Mem (Node K V)) (end : ReclaimAll × Settled (Node K V)) → Steps Took value_at w.memory (roots_plan was_left c root) m2 end → LedTo (at.Roots root) m2 end
     root_led m2 end steps =
         let d = loaded w.memory (root_read was_left c root) (Root root) m2 end steps in
         let what : Passes d.0 ⊎ Finds d.0 = subst (λ (x : ℕ). Passes x ⊎ Finds x) (same_some looks.0 d.0 (sym looks.1 ∙ d.1)) looks.2 in
-        elim (ends_if (value_at w.memory) (d.0 == 0) (to (next_root c root)) (Seeing (block_in d.0) (λ value. left_there c root d.0 (was_left value))) end d.3) as (λ _. LedTo m2 end) [
+        elim (ends_if (value_at w.memory) (d.0 == 0) (to (next_root c root)) (Seeing (block_in d.0) (λ value. left_there c root d.0 (was_left value))) end d.3) as (λ _. LedTo (at.Roots root) m2 end) [
           | inl h ↦ led_true d.0 d.1 m2 end d.2 (eqb-true d.0 0 h.0) what h.1
           | inr h ↦ led_false d.0 d.1 m2 end d.2 (eqb-false d.0 0 h.0) what h.1.0 h.1.1 h.1.2
         ]
@@ -205,24 +207,25 @@ module _ {K Q : Type 0} (V : Type 0) (same : K → K → Bool) (asks : Q → K �
     pub next_may : May Can Took value_at w.memory (nexts {T = Node K V} c root block)
     next_may = may_load w.memory (next_read c root block) (Entry (block_in block) NEXT) (some_of (word_at w.memory (Entry (block_in block) NEXT)) from.0 link_there) (λ a e. tt)
 
-    pub next_led : (m2 : Mem (Node K V)) (end : ReclaimAll × Settled (Node K V)) → Steps Took value_at w.memory (nexts c root block) m2 end → LedTo m2 end
+    pub next_led : (m2 : Mem (Node K V)) (end : ReclaimAll × Settled (Node K V)) → Steps Took value_at w.memory (nexts c root block) m2 end → LedTo (at.Nexts root block) m2 end
     next_led m2 end steps =
         let d = loaded w.memory (next_read c root block) (Entry (block_in block) NEXT) m2 end steps in
         let e : from.0 ≡ d.0 = same_some from.0 d.0 (sym link_there ∙ d.1) in
-        still m2 end (standing c (at.Takes root block d.0)) d.2 d.3 rs
+        still (at.Nexts root block) m2 end (standing c (at.Takes root block d.0)) tt d.2 d.3 rs
         (quiet, o, (b, rest, is, from.2, from.3 ∙ ap Some e, subst (λ (x : ℕ). ListFrom w.memory x rest) e from.4))
 
   -- it is over
 
   pub over_led : (left : LeftBehind roots w maps lists) → ((r : ℕ) → r < roots → lists r ≡ []) → c.stands ≡ at.Over → (m2 : Mem (Node K V)) (end : ReclaimAll × Settled (Node K V))
-      → Steps Took value_at w.memory (Turn (Now (c, settled.Done))) m2 end → LedTo m2 end
+      → Steps Took value_at w.memory (Turn (Now (c, settled.Done))) m2 end → LedTo at.Over m2 end
   over_led left none at_over m2 end steps =
-      subst (λ (p : ReclaimAll × Settled (Node K V)). LedTo m2 p) (sym steps.1)
+      subst (λ (p : ReclaimAll × Settled (Node K V)). LedTo at.Over m2 p) (sym steps.1)
       (record {
         w2 = w;
         events = [];
         its = inl tt;
         runs = refl;
+        does = tt;
         memory = sym steps.0;
         maps2 = maps;
         as_they_were = λ m. same_still (maps m);

@@ -101,7 +101,7 @@ module _ {K V : Type 0} (size : ℕ) where
       pub shown_now : Shown deferred_word (LAST_SLOT + 1) size w sets_now
       shown_now = quiet_shown deferred_word size w rested outside
 
-      no_word : (t : ℕ) → HasNoBatch w t → words_of w.memory (name.Slot t BATCH) ≡ 0
+      pub no_word : (t : ℕ) → HasNoBatch w t → words_of w.memory (name.Slot t BATCH) ≡ 0
       no_word t none = by (word_at w.memory (name.Slot t BATCH)) refl
         where
           by : (o : Option ℕ) → word_at w.memory (name.Slot t BATCH) ≡ o → words_of w.memory (name.Slot t BATCH) ≡ 0

@@ -71,8 +71,8 @@ module _ {K V : Type 0} (size roots i : ℕ) (word : size < 2 ^ 64) where
     abbrev here : Reclaiming → ReclaimAll
     here p = machine size roots i word w came batch slots all again ss rs p
 
-    abbrev Leads : Mem (Node K V) → ReclaimAll × Settled (Node K V) → Type 0
-    Leads m2 end = LedTo size roots i word w came m2 end
+    abbrev Leads : Reclaiming → Mem (Node K V) → ReclaimAll × Settled (Node K V) → Type 0
+    Leads point m2 end = LedTo size roots i word w came point m2 end
 
     -- batches
 
@@ -99,14 +99,14 @@ module _ {K V : Type 0} (size roots i : ℕ) (word : size < 2 ^ 64) where
       by_batch : (a : ℕ) (m2 : Mem (Node K V)) (end : ReclaimAll × Settled (Node K V)) → word_at w.memory (name.Slot s BATCH) ≡ Some a → m2 ≡ w.memory
           → (x : Bool) → (x ≡ true → a ≡ 0)
           → Ends (value_at w.memory) (if x then to (next_batch batch_c s) else to (standing batch_c (at.Flushes s (flushing s batch)))) end
-          → Leads m2 end
+          → Leads (at.Batches s) m2 end
       by_batch a m2 end is same true zero_word e =
-          looked size roots i word w came m2 end (next_batch batch_c s) same e (round_on size roots i batch_c ss rs w s lt (passed (is ∙ ap Some (zero_word refl))))
+          looked size roots i word w came (at.Batches s) m2 end (next_batch batch_c s) (λ to begins. begins) (f.rests i) same e (round_on size roots i batch_c ss rs w s lt (passed (is ∙ ap Some (zero_word refl))))
       by_batch a m2 end is same false zero_word e =
           let row = Settles (flushing s size) in
           let u = with_use (with_row w i row) s (one_more (w.uses s)) in
           let taken : IsTaken (w.uses s) = subst (λ (x : Use). IsTaken x) (sym (f.idle s lt)) tt in
-          began size roots i word w came m2 end (standing batch_c (at.Flushes s (flushing s batch))) (Flush s) u (f.rests i) (refl, tt, tt) (taken, refl) refl refl same e
+          began size roots i word w came (at.Batches s) m2 end (standing batch_c (at.Flushes s (flushing s batch))) (Flush s) u (f.rests i) (refl, tt, tt) (taken, refl) (taken, refl) refl refl same e
           (record {
             size_is = ss;
             roots_are = rs;
@@ -117,7 +117,7 @@ module _ {K V : Type 0} (size roots i : ℕ) (word : size < 2 ^ 64) where
             );
           })
 
-      pub batch_led : (m2 : Mem (Node K V)) (end : ReclaimAll × Settled (Node K V)) → Steps Took value_at w.memory (batches batch_c s) m2 end → Leads m2 end
+      pub batch_led : (m2 : Mem (Node K V)) (end : ReclaimAll × Settled (Node K V)) → Steps Took value_at w.memory (batches batch_c s) m2 end → Leads (at.Batches s) m2 end
       batch_led m2 end steps =
           let d = loaded w.memory (batch_read batch_c s) (name.Slot s BATCH) m2 end steps in
           by_batch d.0 m2 end d.1 d.2 (d.0 == 0) (eqb-true d.0 0) d.3
@@ -171,12 +171,13 @@ module _ {K V : Type 0} (size roots i : ℕ) (word : size < 2 ^ 64) where
               none = λ e t b. absurd (cc e);
             })
 
-        flush_by : (e : Settle × Settled (Node K V)) → Steps Took value_at w.memory (settle_plan deferred_word l) m2 e → Leads m2 (within flushing_at behind e)
+        flush_by : (e : Settle × Settled (Node K V)) → Steps Took value_at w.memory (settle_plan deferred_word l) m2 e → Leads (at.Flushes s l) m2 (within flushing_at behind e)
         flush_by (d, settled.Goes) st = record {
           w2 = settles_on w i l m2 (d, settled.Goes);
           events = Step i ∷ [];
           own = (refl, tt);
           runs = (settles_on w i l m2 (d, settled.Goes), flush_step (d, settled.Goes) st, refl);
+          does = flush_step (d, settled.Goes) st;
           memory = refl;
           told = goes_told size w m2 (settle_effects l l.stands) (settles_on w i l m2 (d, settled.Goes)) refl (settle_tells deferred_word w.memory m2 l (d, settled.Goes) st);
           stage = flush_on d settled.Goes st (with_here w.row i (Settles d));
@@ -188,6 +189,7 @@ module _ {K V : Type 0} (size roots i : ℕ) (word : size < 2 ^ 64) where
           events = Step i ∷ [];
           own = (refl, tt);
           runs = (settles_on w i l m2 (d, settled.Gave value), flush_step (d, settled.Gave value) st, refl);
+          does = flush_step (d, settled.Gave value) st;
           memory = refl;
           told = gave_told size w m2 (settle_effects l l.stands) (settles_on w i l m2 (d, settled.Gave value)) refl (flush_came (d, settled.Gave value) st) (settle_one l l.stands) refl value
               (settle_tells deferred_word w.memory m2 l (d, settled.Gave value) st);
@@ -198,15 +200,16 @@ module _ {K V : Type 0} (size roots i : ℕ) (word : size < 2 ^ 64) where
           events = Step i ∷ [];
           own = (refl, tt);
           runs = (settles_on w i l m2 (d, settled.Done), flush_step (d, settled.Done) st, refl);
+          does = flush_step (d, settled.Done) st;
           memory = refl;
           told = refl;
           stage = flush_over d st;
         }
 
-        pub flush_led : (end : ReclaimAll × Settled (Node K V)) → Steps Took value_at w.memory (plan_at deferred_word was_left flush_c (at.Flushes s l)) m2 end → Leads m2 end
+        pub flush_led : (end : ReclaimAll × Settled (Node K V)) → Steps Took value_at w.memory (plan_at deferred_word was_left flush_c (at.Flushes s l)) m2 end → Leads (at.Flushes s l) m2 end
         flush_led end steps =
             let back = steps_back (within flushing_at behind) w.memory m2 (settle_plan deferred_word l) end steps in
-            subst (λ (p : ReclaimAll × Settled (Node K V)). Leads m2 p) (sym back.2) (flush_by back.0 back.1)
+            subst (λ (p : ReclaimAll × Settled (Node K V)). Leads (at.Flushes s l) m2 p) (sym back.2) (flush_by back.0 back.1)
 
       pub flush_may : May Can Took value_at w.memory (plan_at deferred_word was_left flush_c (at.Flushes s l))
       flush_may =
@@ -250,7 +253,7 @@ module _ {K V : Type 0} (size roots i : ℕ) (word : size < 2 ^ 64) where
             subst (λ (row : Row). Steps' deferred_word i row freeing freed_world) (sym (with_here w.row i (Frees gives))) (m2, e, st, refl) in
             (freeing, 1, f.rests i, (idle_now, refl), (freed_world, step, (with_here freeing.row i Rests, refl)))
 
-        free_by : (e : Unregister × Progress Unit) → Steps Took value_at w.memory (unregister_plan gives) m2 e → Leads m2 (next_free free_c s, settled.Goes)
+        free_by : (e : Unregister × Progress Unit) → Steps Took value_at w.memory (unregister_plan gives) m2 e → Leads (at.Frees s) m2 (next_free free_c s, settled.Goes)
         free_by e st =
             let call = free_call e st in
             let run = calls_run size i (Unregister' s) tt w freed_world call in
@@ -262,6 +265,7 @@ module _ {K V : Type 0} (size roots i : ℕ) (word : size < 2 ^ 64) where
               events = run.0;
               own = run.1;
               runs = run.2;
+              does = call;
               memory = refl;
               told = refl;
               stage = free_on size roots i free_c ss rs freed_world s lt
@@ -278,10 +282,10 @@ module _ {K V : Type 0} (size roots i : ℕ) (word : size < 2 ^ 64) where
                   });
             }
 
-        pub free_led : (end : ReclaimAll × Settled (Node K V)) → Steps Took value_at w.memory (plan_at deferred_word was_left free_c (at.Frees s)) m2 end → Leads m2 end
+        pub free_led : (end : ReclaimAll × Settled (Node K V)) → Steps Took value_at w.memory (plan_at deferred_word was_left free_c (at.Frees s)) m2 end → Leads (at.Frees s) m2 end
         free_led end steps =
             let back = steps_back goes w.memory m2 (unregister_plan gives) end steps in
-            subst (λ (p : ReclaimAll × Settled (Node K V)). Leads m2 p) (sym back.2) (free_by back.0 back.1)
+            subst (λ (p : ReclaimAll × Settled (Node K V)). Leads (at.Frees s) m2 p) (sym back.2) (free_by back.0 back.1)
 
       pub free_may : May Can Took value_at w.memory (plan_at deferred_word was_left free_c (at.Frees s))
       free_may =

@@ -33,10 +33,10 @@ use Rattle.papaya_finishes.specs.Given.Tables.Nodes.{deferred_word, was_left}
 use Rattle.papaya_finishes.specs.Given.Tables.declared.node.Node.{Node}
 use Rattle.papaya_finishes.specs.Given.Callers.Together.{CameAbout}
 use Rattle.papaya_finishes.proofs.Given.Callers.Together.Came.{came_reached, came_on, came_next}
-use Rattle.papaya_reclaims.specs.Slots.{AreItsRows, Settling, Within, SlotsTold}
+use Rattle.papaya_reclaims.specs.Slots.{AreItsRows, Settling, Within, BeginsAt, DoesAt, SlotsTold}
 use Rattle.papaya_reclaims.proofs.Slots.Facts.{rested_by, calls_run}
 use Rattle.papaya_reclaims.proofs.Slots.Rows.{goes_told, gave_told, lone_in, more_in, ends_in, leave_waits_not}
-use Rattle.papaya_reclaims.proofs.Slots.Stages.{Stage, next_slot, stops_here}
+use Rattle.papaya_reclaims.proofs.Slots.Stages.{StageAt, Stage, next_slot, stops_here}
 
 is_two : (a : ℕ) → (a == NEVER) ≡ false → (a == FREE) ≡ false → nat_lt a ACTIVE ≡ true → a ≡ 2
 is_two a p q l = grind (arith, p, q, l)
@@ -45,31 +45,40 @@ above_two : (a : ℕ) → nat_lt a ACTIVE ≡ false → 2 < a
 above_two a l = grind (arith, l)
 
 module _ {K V : Type 0} (size roots i : ℕ) (word : size < 2 ^ 64) where
-  -- where a step of the work on slots leads
-  pub record Led (w : World (Node K V)) (m2 : Mem (Node K V)) (c2 : ReclaimAll) (progress : Settled (Node K V)) : Type 0 where
+  -- where a step of the work on slots leads from a point
+  pub record Led (w : World (Node K V)) (point : Reclaiming) (m2 : Mem (Node K V)) (c2 : ReclaimAll) (progress : Settled (Node K V)) : Type 0 where
     pub w2 : World (Node K V)
     pub events : List (Event (Node K V))
     pub own : AreItsRows i events
     pub runs : Runs deferred_word size events w w2
+    pub does : DoesAt size i events w w2 point c2.stands
     pub memory : w2.memory ≡ m2
     pub told : SlotsTold w w2 progress
     pub stage : Stage size roots i c2 w2
 
   module _ (w : World (Node K V)) (came : CameAbout size w) where
-    abbrev pub LedTo : Mem (Node K V) → ReclaimAll × Settled (Node K V) → Type 0
-    LedTo m2 end = Led w m2 end.0 end.1
+    abbrev pub LedTo : Reclaiming → Mem (Node K V) → ReclaimAll × Settled (Node K V) → Type 0
+    LedTo point m2 end = Led w point m2 end.0 end.1
 
-    -- in the same memory, with no row, or a row that begins
-    pub looked : (m2 : Mem (Node K V)) (end : ReclaimAll × Settled (Node K V)) (c2 : ReclaimAll) → m2 ≡ w.memory → end ≡ (c2, settled.Goes) → Stage size roots i c2 w → LedTo m2 end
-    looked m2 end c2 same e st =
-        subst (λ (p : ReclaimAll × Settled (Node K V)). LedTo m2 p) (sym e)
-        (record { w2 = w; events = []; own = tt; runs = refl; memory = sym same; told = refl; stage = st })
+    -- where no row is under way, none is within any point
+    no_row : (c : ReclaimAll) → w.row i ≡ Rests → (p : Reclaiming) → StageAt size roots i c w p → BeginsAt size i w w p
+    no_row c rests (at.Leaves s l) (none, lt, h) = absurd (let row = h.row_is in cc (rests, row))
+    no_row c rests (at.Flushes s l) (lt, h) = absurd (let row = h.row_is in cc (rests, row))
+    no_row c rests _ h = refl
 
-    pub began : (m2 : Mem (Node K V)) (end : ReclaimAll × Settled (Node K V)) (c2 : ReclaimAll) (request : Request) (u : World (Node K V)) → w.row i ≡ Rests → AreItsRows {T = Node K V} i (Begin i request ∷ [])
-        → Begins deferred_word size i request w u → u.memory ≡ w.memory → u.log ≡ w.log → m2 ≡ w.memory → end ≡ (c2, settled.Goes) → Stage size roots i c2 u → LedTo m2 end
-    began m2 end c2 request u rests own b memory log same e st =
-        subst (λ (p : ReclaimAll × Settled (Node K V)). LedTo m2 p) (sym e)
-        (record { w2 = u; events = Begin i request ∷ []; own = own; runs = (u, (rests, b), refl); memory = memory ∙ sym same; told = ap taken_in log; stage = st })
+    module _ (point : Reclaiming) (m2 : Mem (Node K V)) (end : ReclaimAll × Settled (Node K V)) (c2 : ReclaimAll) where
+      -- in the same memory, with no row, or a row that begins
+      pub looked : ((to : Reclaiming) → BeginsAt size i w w to → DoesAt size i [] w w point to) → w.row i ≡ Rests → m2 ≡ w.memory → end ≡ (c2, settled.Goes) → Stage size roots i c2 w → LedTo point m2 end
+      looked looks rests same e st =
+          subst (λ (p : ReclaimAll × Settled (Node K V)). LedTo point m2 p) (sym e)
+          (record { w2 = w; events = []; own = tt; runs = refl; does = looks c2.stands (no_row c2 rests c2.stands st.here); memory = sym same; told = refl; stage = st })
+
+      pub began : (request : Request) (u : World (Node K V)) → w.row i ≡ Rests → AreItsRows {T = Node K V} i (Begin i request ∷ [])
+          → Begins deferred_word size i request w u → DoesAt size i (Begin i request ∷ []) w u point c2.stands → u.memory ≡ w.memory → u.log ≡ w.log → m2 ≡ w.memory → end ≡ (c2, settled.Goes)
+          → Stage size roots i c2 u → LedTo point m2 end
+      began request u rests own b does memory log same e st =
+          subst (λ (p : ReclaimAll × Settled (Node K V)). LedTo point m2 p) (sym e)
+          (record { w2 = u; events = Begin i request ∷ []; own = own; runs = (u, (rests, b), refl); does = does; memory = memory ∙ sym same; told = ap taken_in log; stage = st })
 
     module _ (batch slots all : ℕ) (again : Bool) (ss : batch ≡ size) (rs : all ≡ roots) where
       abbrev pub machine : Reclaiming → ReclaimAll
@@ -87,27 +96,33 @@ module _ {K V : Type 0} (size roots i : ℕ) (word : size < 2 ^ 64) where
         abbrev head_c : ReclaimAll
         head_c = machine (at.Heads s)
 
+        abbrev HeadLed : Mem (Node K V) → ReclaimAll × Settled (Node K V) → Type 0
+        HeadLed m2 end = LedTo (at.Heads s) m2 end
+
+        seen : (m2 : Mem (Node K V)) (end : ReclaimAll × Settled (Node K V)) (c2 : ReclaimAll) → m2 ≡ w.memory → end ≡ (c2, settled.Goes) → Stage size roots i c2 w → HeadLed m2 end
+        seen m2 end c2 same e stage = looked (at.Heads s) m2 end c2 (λ to begins. begins) (st.rests i) same e stage
+
         by_head : (a : ℕ) (m2 : Mem (Node K V)) (end : ReclaimAll × Settled (Node K V)) → word_at w.memory (name.Slot s HEAD) ≡ Some a → m2 ≡ w.memory
             → (x y z : Bool) → (a == NEVER) ≡ x → (a == FREE) ≡ y → nat_lt a ACTIVE ≡ z
             → Ends (value_at w.memory) (if x then to (first_batch (record head_c { slots = s })) else
             (if y then to (standing head_c (at.Retakes s)) else
             (if z then to (next_head head_c s) else to (standing head_c (at.Leaves s (leaving s batch IDLE false)))))) end
-            → LedTo m2 end
+            → HeadLed m2 end
         by_head a m2 end is same true y z p q l e =
-            looked m2 end (first_batch (record head_c { slots = s })) same e
+            seen m2 end (first_batch (record head_c { slots = s })) same e
             (stops_here size roots i head_c ss rs w came s lt none st (is ∙ ap Some (eqb-true a 0 p)))
         by_head a m2 end is same false true z p q l e =
-            looked m2 end (standing head_c (at.Retakes s)) same e
+            seen m2 end (standing head_c (at.Retakes s)) same e
             (record { size_is = ss; roots_are = rs; here = (none, lt, st, is ∙ ap Some (eqb-true a FREE q)) })
         by_head a m2 end is same false false true p q l e =
             let here = outside_by (w.uses s) a (word_says deferred_word (LAST_SLOT + 1) size refl w (rested_by size w came st.rests) s a is) (is_two a p q l) in
-            looked m2 end (next_head head_c s) same e
+            seen m2 end (next_head head_c s) same e
             (next_slot size roots i head_c ss rs w came s lt none (record { rests = st.rests; idle = idle_more w st.idle here }))
         by_head a m2 end is same false false false p q l e =
             let inside = inside_by (w.uses s) a (word_says deferred_word (LAST_SLOT + 1) size refl w (rested_by size w came st.rests) s a is) (above_two a l) in
             let row = Leaves (leaving s size IDLE false) in
             let u = with_use (with_row w i row) s Changing in
-            began m2 end (standing head_c (at.Leaves s (leaving s batch IDLE false))) (Leave' s) u (st.rests i) (refl, tt, tt) (inside, refl) refl refl same e
+            began (at.Heads s) m2 end (standing head_c (at.Leaves s (leaving s batch IDLE false))) (Leave' s) u (st.rests i) (refl, tt, tt) (inside, refl) (inside, refl) refl refl same e
             (record {
               size_is = ss;
               roots_are = rs;
@@ -119,7 +134,7 @@ module _ {K V : Type 0} (size roots i : ℕ) (word : size < 2 ^ 64) where
               );
             })
 
-        pub head_led : (m2 : Mem (Node K V)) (end : ReclaimAll × Settled (Node K V)) → Steps Took value_at w.memory (heads head_c s) m2 end → LedTo m2 end
+        pub head_led : (m2 : Mem (Node K V)) (end : ReclaimAll × Settled (Node K V)) → Steps Took value_at w.memory (heads head_c s) m2 end → HeadLed m2 end
         head_led m2 end steps =
             let d = loaded w.memory (head_read head_c s) (name.Slot s HEAD) m2 end steps in
             by_head d.0 m2 end d.1 d.2 (d.0 == NEVER) (d.0 == FREE) (nat_lt d.0 ACTIVE) refl refl refl d.3
@@ -131,7 +146,7 @@ module _ {K V : Type 0} (size roots i : ℕ) (word : size < 2 ^ 64) where
 
         -- a slot that was given up is taken again
         pub retake_led : word_at w.memory (name.Slot s HEAD) ≡ Some FREE → (m2 : Mem (Node K V)) (end : ReclaimAll × Settled (Node K V))
-            → Steps Took value_at w.memory (plan_at deferred_word was_left (machine (at.Retakes s)) (at.Retakes s)) m2 end → LedTo m2 end
+            → Steps Took value_at w.memory (plan_at deferred_word was_left (machine (at.Retakes s)) (at.Retakes s)) m2 end → LedTo (at.Retakes s) m2 end
         retake_led free m2 end steps =
             let n = LAST_SLOT + 1 in
             let rested = rested_by size w came st.rests in
@@ -144,12 +159,13 @@ module _ {K V : Type 0} (size roots i : ℕ) (word : size < 2 ^ 64) where
             ap (λ (m : Mem (Node K V)). word_at m (name.Slot s HEAD)) call.2
             ∙ word_at-with_word w.memory (name.Slot s HEAD) IDLE (name.Slot s HEAD) (subst (λ (o : Option ℕ). IsSome o) (sym free) refl)
             ∙ ap (λ (b : Bool). if b then Some IDLE else word_at w.memory (name.Slot s HEAD)) (same_at-refl (name.Slot s HEAD)) in
-            subst (λ (p : ReclaimAll × Settled (Node K V)). LedTo m2 p) (sym d.1)
+            subst (λ (p : ReclaimAll × Settled (Node K V)). LedTo (at.Retakes s) m2 p) (sym d.1)
             (record {
               w2 = u;
               events = run.0;
               own = run.1;
               runs = run.2;
+              does = call.1;
               memory = call.2 ∙ sym d.0;
               told = ap taken_in call.4;
               stage = next_slot size roots i (machine (at.Retakes s)) ss rs u (came_on size w u run.0 came run.2) s lt none
@@ -202,12 +218,13 @@ module _ {K V : Type 0} (size roots i : ℕ) (word : size < 2 ^ 64) where
                 ]);
               })
 
-          leave_by : (e : Leave × Settled (Node K V)) → Steps Took value_at w.memory (leave_plan deferred_word l) m2 e → LedTo m2 (within leaving_at (next_head leave_c s) e)
+          leave_by : (e : Leave × Settled (Node K V)) → Steps Took value_at w.memory (leave_plan deferred_word l) m2 e → LedTo (at.Leaves s l) m2 (within leaving_at (next_head leave_c s) e)
           leave_by (d, settled.Goes) st = record {
             w2 = leaves_on w i l m2 (d, settled.Goes);
             events = Step i ∷ [];
             own = (refl, tt);
             runs = (leaves_on w i l m2 (d, settled.Goes), leave_step (d, settled.Goes) st, refl);
+            does = leave_step (d, settled.Goes) st;
             memory = refl;
             told = goes_told size w m2 (leave_effects l l.stands) (leaves_on w i l m2 (d, settled.Goes)) refl (leave_tells deferred_word w.memory m2 l (d, settled.Goes) st);
             stage = leave_on d settled.Goes st (with_here w.row i (Leaves d));
@@ -219,6 +236,7 @@ module _ {K V : Type 0} (size roots i : ℕ) (word : size < 2 ^ 64) where
             events = Step i ∷ [];
             own = (refl, tt);
             runs = (leaves_on w i l m2 (d, settled.Gave value), leave_step (d, settled.Gave value) st, refl);
+            does = leave_step (d, settled.Gave value) st;
             memory = refl;
             told = gave_told size w m2 (leave_effects l l.stands) (leaves_on w i l m2 (d, settled.Gave value)) refl (leave_came (d, settled.Gave value) st) (leave_one l l.stands) refl value
                 (leave_tells deferred_word w.memory m2 l (d, settled.Gave value) st);
@@ -229,15 +247,16 @@ module _ {K V : Type 0} (size roots i : ℕ) (word : size < 2 ^ 64) where
             events = Step i ∷ [];
             own = (refl, tt);
             runs = (leaves_on w i l m2 (d, settled.Done), leave_step (d, settled.Done) st, refl);
+            does = leave_step (d, settled.Done) st;
             memory = refl;
             told = goes_told size w m2 (leave_effects l l.stands) (leaves_on w i l m2 (d, settled.Done)) refl (leave_tells deferred_word w.memory m2 l (d, settled.Done) st);
             stage = leave_over d st;
           }
 
-          pub leave_led : (end : ReclaimAll × Settled (Node K V)) → Steps Took value_at w.memory (plan_at deferred_word was_left leave_c (at.Leaves s l)) m2 end → LedTo m2 end
+          pub leave_led : (end : ReclaimAll × Settled (Node K V)) → Steps Took value_at w.memory (plan_at deferred_word was_left leave_c (at.Leaves s l)) m2 end → LedTo (at.Leaves s l) m2 end
           leave_led end steps =
               let back = steps_back (within leaving_at (next_head leave_c s)) w.memory m2 (leave_plan deferred_word l) end steps in
-              subst (λ (p : ReclaimAll × Settled (Node K V)). LedTo m2 p) (sym back.2) (leave_by back.0 back.1)
+              subst (λ (p : ReclaimAll × Settled (Node K V)). LedTo (at.Leaves s l) m2 p) (sym back.2) (leave_by back.0 back.1)
 
         pub leave_may : May Can Took value_at w.memory (plan_at deferred_word was_left leave_c (at.Leaves s l))
         leave_may =

@@ -49,10 +49,11 @@ module _ {K V S : Type 0} (same : K → K → Bool) (hash : K → ℕ) (terms : 
     abbrev pub then_scene : Scene K V
     then_scene = scene_in s leads.1.w2 leads.1.maps2
 
-    abbrev pub step_so : AllSteps same hash terms.roots i (all_come from now s lists) (all_come to then_now then_scene leads.1.lists2)
-    step_so = record {
+    abbrev pub step_so : from.0.logged.executor.batch_size ≡ terms.batch_size → AllSteps same hash terms i (all_come from now s lists) (all_come to then_now then_scene leads.1.lists2)
+    step_so size = record {
       under_way = under;
       roots_are = roots;
+      size = size;
       said = step.1;
       leads = leads;
       comes = ap (λ (c : Come K V S). record { come = c; all = to.1; lists = leads.1.lists2 })
@@ -86,7 +87,7 @@ module _ {K V S : Type 0} (same : K → K → Bool) (hash : K → ℕ) (terms : 
     pub now : Moment K V
     pub scene : Scene K V
     pub lists : ℕ → List ℕ
-    pub chain : Chain (AllSteps same hash terms.roots i) n x (all_come f now scene lists)
+    pub chain : Chain (AllSteps same hash terms i) n x (all_come f now scene lists)
     pub under_way : IsReclaiming same hash f.0.logged.executor scene i lists f.1
     pub roots : f.0.logged.executor.roots ≡ terms.roots
     pub size : f.0.logged.executor.batch_size ≡ terms.batch_size
@@ -105,7 +106,7 @@ module _ {K V S : Type 0} (same : K → K → Bool) (hash : K → ℕ) (terms : 
         now = then_now mid to y.now y.scene y.lists y.under_way y.roots step.0;
         scene = then_scene mid to y.now y.scene y.lists y.under_way y.roots step.0;
         lists = (leads mid to y.now y.scene y.lists y.under_way y.roots step.0).1.lists2;
-        chain = (all_come mid y.now y.scene y.lists, y.chain, step_so mid to y.now y.scene y.lists y.under_way y.roots step.0);
+        chain = (all_come mid y.now y.scene y.lists, y.chain, step_so mid to y.now y.scene y.lists y.under_way y.roots step.0 y.size);
         under_way = still_under mid to y.now y.scene y.lists y.under_way y.roots step.0 step.1;
         roots = step.0.0.given.2 ∙ y.roots;
         size = step.0.0.given.1 ∙ y.size;

@@ -8,6 +8,7 @@ use Rattle.papaya_histories.specs.Given.Effects.Known.{known}
 use Rattle.papaya_histories.specs.Given.Executor.IsAt.{IsAt}
 use Rattle.papaya_histories.specs.Given.Moments.Whole.{ShowsWhole}
 use Rattle.papaya_kept.specs.Kept.{ShowsKept}
+use Rattle.papaya_legal.proofs.Come.{events_bring_things}
 use Rattle.papaya_legal.specs.CallEvents.{IsLegalBut}
 use Rattle.papaya_legal.specs.Carried.{ShowsRun}
 use Rattle.papaya_reclaims.specs.Left.{LeftAmong}
@@ -46,6 +47,7 @@ module _ {K V S : Type 0} (same : K → K → Bool) (hash : K → ℕ) (terms : 
       stands = stands_in same hash terms (moment (e ∷ log)) new plays runs.stands.name runs.stands.scene shown
           (subst (λ (cs : Callers V). AreNamed runs.stands.name cs.items.items) (sym calls_are) (its_named same hash terms (moment log) old runs.stands));
       shows = subst (λ (l : Logged K V S). ShowsRun same runs.stands.name terms (e ∷ log) (known l.notes) runs.stands.scene) (sym logged_is) run;
+      come = events_bring_things K V terms log e runs.come legal.life.finds;
       size = ap (λ (l : Logged K V S). l.executor.batch_size) logged_is ∙ runs.size;
       shards = subst (λ (l : Logged K V S). HaveShards terms l.executor) (sym logged_is) runs.shards;
     };

@@ -27,6 +27,7 @@ use Rattle.papaya_histories.specs.Given.Follows.Calling.{NoneNamed}
 use Rattle.papaya_histories.specs.AsCalled.{IsBegunAs}
 use Rattle.papaya_promises.specs.Meanwhile.{BeginsToLook}
 use Rattle.papaya_purposes.specs.Purposes.{IsFor}
+use Rattle.papaya_legal.proofs.Come.{events_bring_things}
 use Rattle.papaya_legal.specs.Between.{IsBegunRight}
 use Rattle.papaya_legal.specs.CallEvents.{IsLegalBut}
 use Rattle.papaya_legal.specs.Carried.{ShowsRun}
@@ -194,6 +195,7 @@ module _ {K V S : Type 0} (same : K → K → Bool) (hash : K → ℕ) (terms : 
         runs = record {
           stands = stands_in same hash terms (moment (e own ∷ log)) new plays names then_at (record { is_at = shown_begun.is_at; shows = run_then.calls.whole; kept = run_then.calls.kept; counted = counted_here }) named_here;
           shows = run_then;
+          come = events_bring_things K V terms log (e own) runs.come goes_on.0.life.finds;
           size = on_size ∙ runs.size;
           shards = shards_here;
         };

@@ -13,7 +13,7 @@ use Rattle.papaya_histories.specs.Given.Schedules.Beginning.{at_work}
 use Rattle.papaya_histories.specs.Given.Schedules.Entry.{Entry, acted_on}
 use Rattle.papaya_histories.specs.Given.Schedules.Handing.{is_made, refuses}
 use Rattle.papaya_histories.specs.Given.Schedules.InTurn.{ComesRight}
-use Rattle.papaya_histories.specs.Given.Schedules.Model.{sets_in}
+use Rattle.papaya_histories.specs.Given.Schedules.Model.{sets_in, things_in}
 use Rattle.papaya_histories.specs.Given.Schedules.Moment.{UnderWay as CallThere, Moment}
 use Rattle.papaya_histories.specs.Given.Schedules.Sweeps.{IsSwept}
 use Rattle.papaya_histories.specs.Given.Schedules.Terms.{Terms, shards_of}
@@ -25,6 +25,8 @@ use Rattle.papaya_histories.specs.InEvent.{ComesSo}
 use Rattle.papaya_models.specs.CallEvents.{slot_of_call}
 use Rattle.papaya_finds.specs.Doing.{takes_steps}
 use Rattle.papaya_finds.specs.Parts.{FindAll}
+use Rattle.papaya_legal.specs.Noted.{HaveCome}
+use Rattle.papaya_legal.proofs.Come.{events_bring_things}
 use Rattle.papaya_legal.specs.CallEvents.{IsLegalBut}
 use Rattle.papaya_legal.specs.CallRuns.{ShowsAsTold, TellsEnd}
 use Rattle.papaya_legal.specs.CallSwept.{TellsOf}
@@ -40,7 +42,7 @@ use Rattle.papaya_named.specs.declared.kind.Kind.{Kind}
 use Rattle.papaya_scheduler.specs.declared.played.Played.{Played}
 use Rattle.papaya_scheduler.specs.declared.scheduler.Scheduler.{Scheduler}
 use Rattle.papaya_stepping.specs.Stepping.{ComesAs, IsStepped, outcome_of}
-use Rattle.papaya_running.specs.OfCalls.{RunsOn, TellsValue, Wanted}
+use Rattle.papaya_running.specs.OfCalls.{RunsOn, TellsValue}
 use Rattle.papaya_running.proofs.OfCalls.Answers.{last_steps_tell}
 use Rattle.papaya_running.proofs.OfCalls.Found.{mask_is}
 use Rattle.papaya_running.proofs.OfCalls.Scenes.{stands_in}
@@ -48,31 +50,31 @@ use Rattle.papaya_running.proofs.OfCalls.Steps.{HasCome, caller_is, follows, lea
 use Rattle.papaya_running.proofs.OfCalls.Words.{not_busy, shows_as_told, tells_end}
 use Rattle.papaya_running.proofs.Remaining.{counted_in}
 
-module _ {K V S : Type 0} (same : K → K → Bool) (hash : K → ℕ) (wanted : Wanted K V S same hash) (name : ℕ → List ℕ) (terms : Terms) (log : List (Entry K V)) (event : Event K V) (beginning : Moment K V)
-    (map i : ℕ) (c : CallThere K V) (place : ℕ) (c_is : call_of (name i) beginning ≡ Some c) (first : Known) (before : Scene K V) (run : ShowsRun same name terms log first before)
-    (played : Played V) (n : ℕ) (mid : List Effect) (p new : Scheduler K V S) (come : HasCome same hash wanted name terms log event beginning map i c place n mid p)
+module _ {K V S : Type 0} (same : K → K → Bool) (hash : K → ℕ) (name : ℕ → List ℕ) (terms : Terms) (log : List (Entry K V)) (event : Event K V) (beginning : Moment K V)
+    (map i : ℕ) (c : CallThere K V) (place : ℕ) (c_is : call_of (name i) beginning ≡ Some c) (first : Known) (before : Scene K V) (run : ShowsRun same name terms log first before) (had : HaveCome (things_in log) (moment log))
+    (played : Played V) (n : ℕ) (mid : List Effect) (p new : Scheduler K V S) (come : HasCome same hash name terms log event beginning map i c place n mid p)
     (step : IsStepped same hash place played.outcome mid played.effects.items p new) where
   abbrev e : Entry K V
   e = entry_of event played
 
   abbrev by : Known
-  by = then_known same hash wanted name terms log event beginning map i c place n mid played.effects.items p new played.outcome come step
+  by = then_known same hash name terms log event beginning map i c place n mid played.effects.items p new played.outcome come step
 
   abbrev at_end : Scene K V
-  at_end = then_scene same hash wanted name terms log event beginning map i c place n mid played.effects.items p new played.outcome come step
+  at_end = then_scene same hash name terms log event beginning map i c place n mid played.effects.items p new played.outcome come step
 
   abbrev value : Option V
   value = step.caller.value
 
   noted : known new.logged.notes ≡ by
-  noted = noted_then same hash wanted name terms log event beginning map i c place n mid played.effects.items p new played.outcome come step
+  noted = noted_then same hash name terms log event beginning map i c place n mid played.effects.items p new played.outcome come step
 
   -- it has come to what its last step says
   outcome_so : played.outcome ≡ outcome_of by (kind_of c.call) value step.said
   outcome_so =
       step.outcome_is ∙ ap (λ (k : Known). outcome_of k step.caller.kind value step.said) noted
       ∙ ap (λ (k : Kind). outcome_of by k value step.said)
-      (ap (λ (x : Caller V). x.kind) (caller_is same hash wanted name terms log event beginning map i c place n mid played.effects.items p new played.outcome come step) ∙ come.kind)
+      (ap (λ (x : Caller V). x.kind) (caller_is same hash name terms log event beginning map i c place n mid played.effects.items p new played.outcome come step) ∙ come.kind)
 
   module _ (begins : at_work e (moment log) ≡ beginning) (acted : acted_on event beginning ≡ Some map) (takes : takes_steps event ≡ true) (steps_are : played.steps ≡ n + 1)
       (comes_as : ComesAs c.call played.outcome) (never : played.outcome ≡ Refused Busy → ⊥) (right : ComesRight terms log e)
@@ -85,7 +87,7 @@ module _ {K V S : Type 0} (same : K → K → Bool) (hash : K → ℕ) (wanted :
     tells : ComesSo by c.call c.replies step.said (outcome_of by (kind_of c.call) value step.said) × TellsOf same log come.now map by step.said (outcome_of by (kind_of c.call) value step.said) c.call
     tells =
         last_steps_tell K V S same hash name terms log event beginning map i c n mid come.now (known p.logged.notes) come.scene come.under come.midst p.logged.executor new.logged.executor come.shown.is_at
-        step.said (leads same hash wanted name terms log event beginning map i c place n mid played.effects.items p new played.outcome come step) value (subst (ComesAs c.call) outcome_so comes_as)
+        step.said (leads same hash name terms log event beginning map i c place n mid played.effects.items p new played.outcome come step) value (subst (ComesAs c.call) outcome_so comes_as)
         (subst (TellsValue c.call c.replies) outcome_so values)
 
     ends : TellsEnd step.said played.outcome
@@ -97,10 +99,10 @@ module _ {K V S : Type 0} (same : K → K → Bool) (hash : K → ℕ) (wanted :
     swept : IsSwept same terms log e
     swept =
         calls_are_swept K V S same hash name terms log beginning map i c n mid come.now (known p.logged.notes) come.scene come.under e come.midst p.logged.executor new.logged.executor come.shown.is_at
-        step.said (leads same hash wanted name terms log event beginning map i c place n mid played.effects.items p new played.outcome come step) begins acted
-        (follows same hash wanted name terms log event beginning map i c place n mid played.effects.items p new played.outcome come step)
+        step.said (leads same hash name terms log event beginning map i c place n mid played.effects.items p new played.outcome come step) begins acted
+        (follows same hash name terms log event beginning map i c place n mid played.effects.items p new played.outcome come step)
         (λ standing there. one_more standing
-        (mask_is same hash wanted name terms log event beginning map i c place (moments_from c.begun log) n mid played.effects.items p new played.outcome come step standing there))
+        (mask_is same hash name terms log event beginning map i c place (moments_from c.begun log) n mid played.effects.items p new played.outcome come step standing there))
         (as_said (λ (o : Outcome V). TellsOf same log come.now map by step.said o c.call) tells.1)
       where
         one_more : (standing : Standing K) → standing.setting.mask + 1 ≡ shards_of terms → suc standing.setting.mask ≡ shards_of terms
@@ -109,25 +111,25 @@ module _ {K V S : Type 0} (same : K → K → Bool) (hash : K → ℕ) (wanted :
     goes_on : IsLegalBut same terms log e × ShowsRun same name terms (e ∷ log) by at_end
     goes_on =
         call_events_run K V S same hash name terms log beginning map i c c_is first before run n mid come.now (known p.logged.notes) come.scene come.under e come.midst p.logged.executor new.logged.executor
-        come.shown.is_at come.size step.said (leads same hash wanted name terms log event beginning map i c place n mid played.effects.items p new played.outcome come step) begins acted
-        (follows same hash wanted name terms log event beginning map i c place n mid played.effects.items p new played.outcome come step) steps_are
+        come.shown.is_at come.size step.said (leads same hash name terms log event beginning map i c place n mid played.effects.items p new played.outcome come step) begins acted
+        (follows same hash name terms log event beginning map i c place n mid played.effects.items p new played.outcome come step) steps_are
         (as_said (λ (o : Outcome V). ComesSo by c.call c.replies step.said o) tells.0) ends shows (inl takes) (not_busy played.outcome never) right finds swept refused
-        (noted_so same hash wanted name terms log event beginning map i c place n mid played.effects.items p new played.outcome come step) slot active
+        (noted_so same hash name terms log event beginning map i c place n mid played.effects.items p new played.outcome come step) slot active
 
     -- the moment after it shows the executor in that scene
     after_run : ShowsRun same name terms (e ∷ log) (known new.logged.notes) at_end
     after_run = subst (λ (k : Known). ShowsRun same name terms (e ∷ log) k at_end) (sym noted) goes_on.1
 
-    abbrev its_left : ShowsRemains new.logged.executor.roots (then_now same hash wanted name terms log event beginning map i c place n mid played.effects.items p new played.outcome come step) at_end
-    its_left = (shown_then same hash wanted name terms log event beginning map i c place n mid played.effects.items p new played.outcome come step).counted.remains
+    abbrev its_left : ShowsRemains new.logged.executor.roots (then_now same hash name terms log event beginning map i c place n mid played.effects.items p new played.outcome come step) at_end
+    its_left = (shown_then same hash name terms log event beginning map i c place n mid played.effects.items p new played.outcome come step).counted.remains
 
     shown : IsShown same hash name (moment (e ∷ log)) new.logged at_end
     shown = record {
-      is_at = (shown_then same hash wanted name terms log event beginning map i c place n mid played.effects.items p new played.outcome come step).is_at;
+      is_at = (shown_then same hash name terms log event beginning map i c place n mid played.effects.items p new played.outcome come step).is_at;
       shows = after_run.calls.whole;
       kept = after_run.calls.kept;
       counted = counted_in same hash terms (moment (e ∷ log)) new plays at_end
-          (shown_then same hash wanted name terms log event beginning map i c place n mid played.effects.items p new played.outcome come step).is_at its_left.lists its_left.left;
+          (shown_then same hash name terms log event beginning map i c place n mid played.effects.items p new played.outcome come step).is_at its_left.lists its_left.left;
     }
 
     pub runs_on : RunsOn same hash terms log e new
@@ -135,9 +137,10 @@ module _ {K V S : Type 0} (same : K → K → Bool) (hash : K → ℕ) (wanted :
       legal = goes_on.0;
       runs = record {
         stands = stands_in same hash terms (moment (e ∷ log)) new plays name at_end shown
-            (named_then same hash wanted name terms log event beginning map i c place n mid played.effects.items p new played.outcome come step);
+            (named_then same hash name terms log event beginning map i c place n mid played.effects.items p new played.outcome come step);
         shows = after_run;
-        size = size_then same hash wanted name terms log event beginning map i c place n mid played.effects.items p new played.outcome come step;
-        shards = shards_then same hash wanted name terms log event beginning map i c place n mid played.effects.items p new played.outcome come step;
+        come = events_bring_things K V terms log e had goes_on.0.life.finds;
+        size = size_then same hash name terms log event beginning map i c place n mid played.effects.items p new played.outcome come step;
+        shards = shards_then same hash name terms log event beginning map i c place n mid played.effects.items p new played.outcome come step;
       };
     }

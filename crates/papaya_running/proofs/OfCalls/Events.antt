@@ -28,7 +28,7 @@ use Rattle.papaya_scheduler.proofs.Here.{Here, here_at}
 use Rattle.papaya_scheduler.proofs.Rights.{entry_is, quiet}
 use Rattle.papaya_stepping.specs.Stepping.{GoesAt, SaysAgain, StepsCome, TakenAs, TakenBy, TookSteps, TookWhole}
 use Rattle.papaya_stepping.proofs.PlaysWhole.{goes_first, map_there}
-use Rattle.papaya_running.specs.OfCalls.{IsLeft, Runs, RunsOn, Wanted}
+use Rattle.papaya_running.specs.OfCalls.{IsLeft, Runs, RunsOn}
 use Rattle.papaya_running.proofs.OfCalls.Again.{again_on}
 use Rattle.papaya_running.proofs.OfCalls.Begun.{begun_on, its}
 use Rattle.papaya_running.proofs.OfCalls.Quiet.{quiet_on, reads_of}
@@ -89,7 +89,7 @@ module _ {K V S : Type 0} (same : K → K → Bool) (hash : K → ℕ) (old new 
       pub stop_out : (own : List ℕ) → ComesRight terms log (entry_of (Stop own) played) → IsPlayed same hash terms (entry_of (Stop own) played ∷ log) new → As (Stop own)
       stop_out own = by_quiet (Stop own) (quiet_on same hash terms log old new runs logged_is calls_are (Stop own) tt tt refl tt refl tt tt)
 
-  module _ (wanted : Wanted K V S same hash) (terms : Terms) (log : List (Entry K V)) (runs : Runs same hash terms log old) where
+  module _ (terms : Terms) (log : List (Entry K V)) (runs : Runs same hash terms log old) where
     module _ (event : Event K V) (own : List ℕ) (place : ℕ) (placed : Some place ≡ position (is_named own) old.calls.items.items) (left : IsLeft terms log (entry_of event played))
         (plays : IsPlayed same hash terms (entry_of event played ∷ log) new) (most : ℕ) (on : GoesOnBy event own) where
       abbrev its_here : Here same hash terms (moment log) old runs.stands own place
@@ -113,7 +113,7 @@ module _ {K V S : Type 0} (same : K → K → Bool) (hash : K → ℕ) (old new 
             let placed = sym is in
             let it = here_at same hash terms (moment log) old runs.stands own place placed in
             by_far (Step own refuse) own place placed left plays 1 refl
-            (λ goes come. taken_on same hash wanted terms log old runs (Step own refuse) own refl refl place placed (λ x. refl) refl refl goes 1 played new come left (none_made refuse refused) plays)
+            (λ goes come. taken_on same hash terms log old runs (Step own refuse) own refl refl place placed (λ x. refl) refl refl goes 1 played new come left (none_made refuse refused) plays)
             it.caller.stands refl (took.0 place placed it.caller it.at)
 
     pub go_on : (own : List ℕ) (refuse : Bool) → TookSteps same hash most_steps own played old new → MakesNoMore refuse [] played.effects.items → IsLeft terms log (entry_of (Go own refuse) played)
@@ -128,7 +128,7 @@ module _ {K V S : Type 0} (same : K → K → Bool) (hash : K → ℕ) (old new 
             let placed = sym is in
             let it = here_at same hash terms (moment log) old runs.stands own place placed in
             by_far (Go own refuse) own place placed left plays most_steps refl
-            (λ goes come. taken_on same hash wanted terms log old runs (Go own refuse) own refl refl place placed (λ x. refl) refl refl goes most_steps played new come left (none_made refuse refused) plays)
+            (λ goes come. taken_on same hash terms log old runs (Go own refuse) own refl refl place placed (λ x. refl) refl refl goes most_steps played new come left (none_made refuse refused) plays)
             it.caller.stands refl (took.0 place placed it.caller it.at)
 
     pub whole_goes_on : (guard on : List ℕ) (call : Call K V) → TookWhole same hash guard on call played old new → IsLeft terms log (entry_of (OneCall guard on call) played)
@@ -151,7 +151,7 @@ module _ {K V S : Type 0} (same : K → K → Bool) (hash : K → ℕ) (old new 
             let was = (begun_so false is).none refl in
             whole_out terms log runs says.0 says.1 says.2 (logged_as mid says.3 was) (calls_as mid says.3 was) guard on call left.right plays
         by true is =
-            whole_on same hash wanted terms log old runs guard on call mid led took_it.3 stands_mid played new
+            whole_on same hash terms log old runs guard on call mid led took_it.3 stands_mid played new
             (subst (λ (how : HowFar). TakenBy same hash 0 most_steps how played mid new) first.3 (took_it.4 is first.1 first.2)) first left plays
           where
             begins : BeginsSo same hash terms (moment log) nameless guard on call true old mid

@@ -15,29 +15,22 @@ use Rattle.papaya_finds.proofs.Joined.{several_find_all}
 use Rattle.papaya_legal.proofs.CallFinds.{steps_find_all}
 use Rattle.papaya_scheduler.specs.declared.scheduler.Scheduler.{Scheduler}
 use Rattle.papaya_stepping.specs.Stepping.{GoneFor, IsStepped}
-use Rattle.papaya_running.specs.OfCalls.{Wanted}
 use Rattle.papaya_running.proofs.OfCalls.Steps.{HasCome, did, follows, has_come, its_here, leads}
 
-module _ {K V S : Type 0} (same : K → K → Bool) (hash : K → ℕ) (wanted : Wanted K V S same hash) (name : ℕ → List ℕ) (terms : Terms) (log : List (Entry K V)) (event : Event K V) (beginning : Moment K V)
+module _ {K V S : Type 0} (same : K → K → Bool) (hash : K → ℕ) (name : ℕ → List ℕ) (terms : Terms) (log : List (Entry K V)) (event : Event K V) (beginning : Moment K V)
     (map i : ℕ) (c : CallThere K V) (place : ℕ) (moments : List (Moment K V)) where
   abbrev Come : ℕ → List Effect → Scheduler K V S → Type 0
-  Come n fs p = HasCome same hash wanted name terms log event beginning map i c place n fs p
-
-  abbrev Rest : List Effect → Moment K V → Type 0
-  Rest fs m = FindRest terms moments (name i) map fs m
-
-  abbrev All : List Effect → Moment K V → Type 0
-  All fs m = FindAll terms moments (name i) map fs m
+  Come n fs p = HasCome same hash name terms log event beginning map i c place n fs p
 
   module _ (n : ℕ) (mid after : List Effect) (p new : Scheduler K V S) (outcome : Outcome V) (come : Come n mid p) (step : IsStepped same hash place outcome mid after p new) where
     abbrev here : come.scene.calls map i ≡ Some come.under
-    here = its_here same hash wanted name terms log event beginning map i c place n mid after p new outcome come step
+    here = its_here same hash name terms log event beginning map i c place n mid after p new outcome come step
 
     abbrev its_did : List Effect
-    its_did = did same hash wanted name terms log event beginning map i c place n mid after p new outcome come step
+    its_did = did same hash name terms log event beginning map i c place n mid after p new outcome come step
 
     after_is : after ≡ mid ++ its_did
-    after_is = follows same hash wanted name terms log event beginning map i c place n mid after p new outcome come step
+    after_is = follows same hash name terms log event beginning map i c place n mid after p new outcome come step
 
     -- the map of the call has as many shards as the terms say
     pub mask_is : (standing : Standing K) → come.scene.maps map ≡ Some standing → standing.setting.mask + 1 ≡ shards_of terms
@@ -45,24 +38,24 @@ module _ {K V S : Type 0} (same : K → K → Bool) (hash : K → ℕ) (wanted :
         come.shards map standing.setting (sym (come.shown.is_at.maps map) ∙ ap (λ (o : Option (Standing K)). option_map (λ (x : Standing K). x.setting) o) there)
 
     -- those of one step find it
-    step_finds : Rest its_did come.now → All its_did come.now
+    step_finds : FindRest terms moments (name i) map its_did come.now → FindAll terms moments (name i) map its_did come.now
     step_finds rest =
-        let led = leads same hash wanted name terms log event beginning map i c place n mid after p new outcome come step in
+        let led = leads same hash name terms log event beginning map i c place n mid after p new outcome come step in
         let its = come.midst.calls.whole.all.shown.calls map i come.under here in
         steps_find_all K V S same hash name come.now (known p.logged.notes) come.scene p.logged.executor new.logged.executor come.shown.is_at come.midst.calls.whole come.midst.calls.kept map i come.under
         here step.said led terms (mask_is (led map come.under here).0 (led map come.under here).2) its.0 its.1 (come.slot its.0 its.1) moments rest
 
     -- and so do all, where those before do
-    pub all_find : (Rest mid beginning → All mid beginning) → Rest after beginning → All after beginning
+    pub all_find : (FindRest terms moments (name i) map mid beginning → FindAll terms moments (name i) map mid beginning) → FindRest terms moments (name i) map after beginning → FindAll terms moments (name i) map after beginning
     all_find before rest =
         let parts = each_parts (Some (name i)) (Some map) (λ (v : Moment K V) (f : Effect). ByCall (FindsRest terms moments v f) (acting (Some (name i)) v)) mid its_did beginning
-        (subst (λ (fs : List Effect). Rest fs beginning) after_is rest) in
-        subst (λ (fs : List Effect). All fs beginning) (sym after_is)
+        (subst (λ (fs : List Effect). FindRest terms moments (name i) map fs beginning) after_is rest) in
+        subst (λ (fs : List Effect). FindAll terms moments (name i) map fs beginning) (sym after_is)
         (several_find_all K V terms moments (name i) map mid its_did beginning (before parts.0)
-        (subst (λ (x : Moment K V). All its_did x) come.midst.worked (step_finds (subst (λ (x : Moment K V). Rest its_did x) (sym come.midst.worked) parts.1))))
+        (subst (λ (x : Moment K V). FindAll terms moments (name i) map its_did x) come.midst.worked (step_finds (subst (λ (x : Moment K V). FindRest terms moments (name i) map its_did x) (sym come.midst.worked) parts.1))))
 
   module _ (first : Scheduler K V S) (start : Come 0 [] first) where
-    pub gone_find : (n : ℕ) (after : List Effect) (p : Scheduler K V S) → GoneFor same hash place n [] after first p → Rest after beginning → All after beginning
-    gone_find zero after p gone rest = subst (λ (fs : List Effect). All fs beginning) gone.0 tt
+    pub gone_find : (n : ℕ) (after : List Effect) (p : Scheduler K V S) → GoneFor same hash place n [] after first p → FindRest terms moments (name i) map after beginning → FindAll terms moments (name i) map after beginning
+    gone_find zero after p gone rest = subst (λ (fs : List Effect). FindAll terms moments (name i) map fs beginning) gone.0 tt
     gone_find (suc n) after p (mid, q, outcome, gone, on, step) rest =
-        all_find n mid after q p outcome (has_come same hash wanted name terms log event beginning map i c place first start n mid q gone) step (gone_find n mid q gone) rest
+        all_find n mid after q p outcome (has_come same hash name terms log event beginning map i c place first start n mid q gone) step (gone_find n mid q gone) rest

@@ -26,7 +26,12 @@ use Rattle.papaya_histories.specs.Given.Executor.IsAt.{Scene, slot_of}
 use Rattle.papaya_histories.specs.Given.Executor.Stepping.{StepLeads, has_ended, scene_after}
 use Rattle.papaya_histories.specs.Given.Finishes.Maps.{Standing, IsSameMap}
 use Rattle.papaya_histories.specs.InEvent.{here_of}
+use Rattle.papaya_histories.specs.Given.Schedules.declared.effect.Thing.{Thing}
 use Rattle.papaya_models.specs.CallEvents.{IsNoted, things_then}
+use Rattle.papaya_legal.specs.Noted.{HaveCome}
+use Rattle.papaya_legal.proofs.Come.{calls_bring_things}
+use Rattle.papaya_legal.proofs.Noted.{calls_hand_noted}
+use Rattle.papaya_models.proofs.CallEvents.{things_more}
 use Rattle.papaya_legal.specs.CallEvents.{InCallEvent}
 use Rattle.papaya_legal.proofs.Calls.{call_events_go_on_so}
 use Rattle.papaya_logged.specs.Calling.{CallGoesOn}
@@ -40,7 +45,7 @@ use Rattle.papaya_scheduler.proofs.RanOn.{there_stays}
 use Rattle.papaya_stepping.specs.Stepping.{GoneFor, IsStepped, caller_then, far_then, outcome_of}
 use Rattle.papaya_stepping.proofs.AfterEffects.{calls_seen}
 use Rattle.papaya_stepping.proofs.OneStep.{caller_as, going_not_ended, goes_next, value_then}
-use Rattle.papaya_running.specs.OfCalls.{HaveShards, Wanted}
+use Rattle.papaya_running.specs.OfCalls.{HaveShards}
 use Rattle.papaya_running.proofs.OfCalls.Scenes.{AreNamed, named_left, named_set}
 use Rattle.papaya_running.proofs.OfCalls.Words.{shows_none}
 
@@ -48,7 +53,7 @@ use Rattle.papaya_running.proofs.OfCalls.Words.{shows_none}
 pub the : {X : Type 0} (a b : X) → Some a ≡ Some b → a ≡ b
 the a b is = cc is
 
-module _ {K V S : Type 0} (same : K → K → Bool) (hash : K → ℕ) (wanted : Wanted K V S same hash) (name : ℕ → List ℕ) (terms : Terms) (log : List (Entry K V)) (event : Event K V) (beginning : Moment K V)
+module _ {K V S : Type 0} (same : K → K → Bool) (hash : K → ℕ) (name : ℕ → List ℕ) (terms : Terms) (log : List (Entry K V)) (event : Event K V) (beginning : Moment K V)
     (map i : ℕ) (c : CallThere K V) (place : ℕ) where
   -- After so many steps, which did this: whose call it is stands at its place, callers have their names, and the event is in its midst in the scene in which the moment shows the executor. The guard
   -- of the call is on the slot of its caller.
@@ -62,6 +67,7 @@ module _ {K V S : Type 0} (same : K → K → Bool) (hash : K → ℕ) (wanted :
     pub size : p.logged.executor.batch_size ≡ terms.batch_size
     pub shards : HaveShards terms p.logged.executor
     pub now : Moment K V
+    pub things : HaveCome (things_then (things_in log) did) now
     pub scene : Scene K V
     pub under : UnderWay K V K
     pub shown : IsShown same hash name now p.logged scene
@@ -139,7 +145,16 @@ module _ {K V S : Type 0} (same : K → K → Bool) (hash : K → ℕ) (wanted :
     pub noted_so : (request : Request) (begun : World (Node K V)) → HandsOver (leads map come.under its_here).0.setting i come.scene.world request
         → Happens deferred_word p.logged.executor.batch_size (Begin i request) come.scene.world begun
         → Happens deferred_word p.logged.executor.batch_size (Step i) begun (leads map come.under its_here).4.w2 → IsNoted (things_then (things_in log) mid) (known p.logged.notes) (slot_of i) request
-    noted_so = wanted.noted name terms log event beginning map i c n mid come.now (known p.logged.notes) come.scene come.under come.midst p.logged.executor new.logged.executor come.shown.is_at step.said leads
+    noted_so =
+        calls_hand_noted K V S same hash name come.now (known p.logged.notes) come.scene p.logged.executor new.logged.executor come.shown.is_at come.midst.calls.whole come.midst.calls.kept map i come.under
+        its_here step.said leads (things_then (things_in log) mid) come.things
+
+    -- and what has come into maps by the step is among all things
+    things_after : HaveCome (things_then (things_in log) (mid ++ did)) then_now
+    things_after =
+        subst (λ (xs : List Thing). HaveCome xs then_now) (sym (things_more (things_in log) mid did))
+        (calls_bring_things K V (things_then (things_in log) mid) come.now come.things (known p.logged.notes) come.midst.calls.whole.all.shown.blocks.stored i map
+        new.logged.executor.memory.changed (Some (name i)) (Some map))
 
     -- the guard of its call is where it was
     slot_then : (d : CallThere K V) → call_of (name i) then_now ≡ Some d → slot_of_guard d.guard then_now.there ≡ slot_of i
@@ -202,6 +217,7 @@ module _ {K V S : Type 0} (same : K → K → Bool) (hash : K → ℕ) (wanted :
         size = size_then;
         shards = shards_then;
         now = then_now;
+        things = things_after;
         scene = then_scene;
         under = next.0;
         shown = shown_then;

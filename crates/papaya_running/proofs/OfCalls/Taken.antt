@@ -2,6 +2,7 @@
 use Rattle.std.specs.Prelude.{◌≡◌, ◌≤◌, ◌&&◌, ◌||◌, ℕ, Bool, true, false, not, List, [], ◌∷◌, position, Option, Some, option_map}
 use Rattle.std.specs.List.{list_any}
 use Rattle.std.proofs.Common.{refl, ap, sym, subst, ◌∙◌}
+use Rattle.std.proofs.lemmas.List.{append-nil}
 use Rattle.papaya_histories.specs.Given.SeizeWaiting.Held.{count}
 use Rattle.papaya_histories.specs.Given.Runs.Present.{slot_of_guard}
 use Rattle.papaya_histories.specs.Given.Schedules.declared.event.Event.{Event}
@@ -9,15 +10,17 @@ use Rattle.papaya_histories.specs.Given.Schedules.After.{moment, moments_from}
 use Rattle.papaya_histories.specs.Given.Schedules.Beginning.{at_work}
 use Rattle.papaya_histories.specs.Given.Schedules.Entry.{Entry, IfCall, acted_on, acting, caller_of, speaker}
 use Rattle.papaya_histories.specs.Given.Schedules.Handing.{is_made, refuses}
-use Rattle.papaya_histories.specs.Given.Schedules.Model.{guard_or, sets_in}
+use Rattle.papaya_histories.specs.Given.Schedules.Model.{guard_or, sets_in, things_in}
 use Rattle.papaya_histories.specs.Given.Schedules.Moment.{UnderWay as CallThere, Moment}
 use Rattle.papaya_histories.specs.Given.Schedules.Terms.{Terms}
 use Rattle.papaya_histories.specs.Given.Schedules.Views.{call_of}
 use Rattle.papaya_histories.specs.Given.Callers.Together.{UnderWay}
 use Rattle.papaya_histories.specs.Given.Effects.Known.{known}
 use Rattle.papaya_histories.specs.Given.Executor.IsAt.{slot_of}
+use Rattle.papaya_histories.specs.Given.Schedules.declared.effect.Thing.{Thing}
 use Rattle.papaya_finds.specs.Doing.{takes_steps}
 use Rattle.papaya_finds.specs.Parts.{FindRest}
+use Rattle.papaya_legal.specs.Noted.{HaveCome}
 use Rattle.papaya_legal.specs.Carried.{ComesAlone}
 use Rattle.papaya_legal.proofs.Calls.{call_events_begin_so}
 use Rattle.papaya_scheduler.specs.Played.{IsPlayed, entry_of}
@@ -29,14 +32,14 @@ use Rattle.papaya_scheduler.proofs.HeldTold.{its_guard}
 use Rattle.papaya_scheduler.proofs.Here.{Here, here_at}
 use Rattle.papaya_stepping.specs.Stepping.{ComesAs, ComesBy, StepsCome}
 use Rattle.papaya_stepping.proofs.RightSteps.{not_busy as never_busy}
-use Rattle.papaya_running.specs.OfCalls.{IsLeft, Runs, RunsOn, TellsValue, Wanted}
+use Rattle.papaya_running.specs.OfCalls.{IsLeft, Runs, RunsOn, TellsValue}
 use Rattle.papaya_running.proofs.OfCalls.Alone.{active_of, inside_of, only_its_row}
 use Rattle.papaya_running.proofs.OfCalls.Ends.{runs_on}
 use Rattle.papaya_running.proofs.OfCalls.Found.{all_find, gone_find}
 use Rattle.papaya_running.proofs.OfCalls.Scenes.{its_named}
 use Rattle.papaya_running.proofs.OfCalls.Steps.{HasCome, has_come, the}
 
-module _ {K V S : Type 0} (same : K → K → Bool) (hash : K → ℕ) (wanted : Wanted K V S same hash) (terms : Terms) (log : List (Entry K V)) (old : Scheduler K V S) (runs : Runs same hash terms log old)
+module _ {K V S : Type 0} (same : K → K → Bool) (hash : K → ℕ) (terms : Terms) (log : List (Entry K V)) (old : Scheduler K V S) (runs : Runs same hash terms log old)
     (event : Event K V) (own : List ℕ) (of_call : caller_of event ≡ Some own) (speaks : speaker event ≡ Some own) (place : ℕ) (placed : Some place ≡ position (is_named own) old.calls.items.items) where
   abbrev pub m : Moment K V
   m = moment log
@@ -79,7 +82,7 @@ module _ {K V S : Type 0} (same : K → K → Bool) (hash : K → ℕ) (wanted :
 
   -- as it begins, the event is in its midst
   abbrev pub Come : Type 0
-  Come = HasCome same hash wanted name terms log event m map i c place 0 [] old
+  Come = HasCome same hash name terms log event m map i c place 0 [] old
 
   pub start : Come
   start = record {
@@ -92,6 +95,7 @@ module _ {K V S : Type 0} (same : K → K → Bool) (hash : K → ℕ) (wanted :
     size = runs.size;
     shards = runs.shards;
     now = m;
+    things = subst (λ (xs : List Thing). HaveCome xs m) (sym (append-nil (things_in log))) runs.come;
     scene = runs.stands.scene;
     under = u;
     shown = runs.stands.shown;
@@ -139,12 +143,12 @@ module _ {K V S : Type 0} (same : K → K → Bool) (hash : K → ℕ) (wanted :
     pub taken_on : RunsOn same hash terms log (entry_of event played) new
     taken_on =
         let by = come.2 in
-        let far_on = has_come same hash wanted name terms log event m map i c place old start by.0 by.2 by.3 by.4 in
-        runs_on same hash wanted name terms log event m map i c place c_is (known old.logged.notes) runs.stands.scene runs.shows played by.0 by.2 by.3 new far_on by.5 (begins played)
+        let far_on = has_come same hash name terms log event m map i c place old start by.0 by.2 by.3 by.4 in
+        runs_on same hash name terms log event m map i c place c_is (known old.logged.notes) runs.stands.scene runs.shows runs.come played by.0 by.2 by.3 new far_on by.5 (begins played)
         (acts ∙ ap (λ (o : Option (CallThere K V)). option_map (λ (x : CallThere K V). x.map) o) acting_is ∙ ap Some map_is) takes by.1 comes_as (never_busy c.call played.outcome comes_as) left.right
         refused (its_left (λ (x : CallThere K V) (b : Moment K V). TellsValue x.call x.replies played.outcome) left.but.values)
-        (all_find same hash wanted name terms log event m map i c place (moments_from c.begun log) by.0 by.2 played.effects.items by.3 new played.outcome far_on by.5
-        (gone_find same hash wanted name terms log event m map i c place (moments_from c.begun log) old start by.0 by.2 by.3 by.4) rest)
+        (all_find same hash name terms log event m map i c place (moments_from c.begun log) by.0 by.2 played.effects.items by.3 new played.outcome far_on by.5
+        (gone_find same hash name terms log event m map i c place (moments_from c.begun log) old start by.0 by.2 by.3 by.4) rest)
         slot_so active plays
       where
         slot_so : slot_of_guard (guard_or (acting (caller_of event) (at_work (entry_of event played) m))) (at_work (entry_of event played) m).there ≡ slot_of i

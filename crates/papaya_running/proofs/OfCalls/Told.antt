@@ -29,6 +29,7 @@ use Rattle.papaya_histories.specs.Given.Hands.Asked.{as_told}
 use Rattle.papaya_histories.proofs.Given.Follows.Calling.{apart_back}
 use Rattle.papaya_histories.proofs.Given.Hands.Asking.{which}
 use Rattle.papaya_histories.specs.Changes.{IsTaken}
+use Rattle.papaya_legal.proofs.Come.{events_bring_things}
 use Rattle.papaya_legal.specs.CallEvents.{IsLegalBut}
 use Rattle.papaya_legal.specs.Carried.{ShowsRun}
 use Rattle.papaya_legal.proofs.Begun.{stopped_events_end, told_events_end}
@@ -96,6 +97,7 @@ module _ {K V S : Type 0} (same : K → K → Bool) (hash : K → ℕ) (terms : 
       runs = record {
         stands = stands_in same hash terms (moment (e ∷ log)) new plays name t (record { is_at = is_at; shows = run_then.calls.whole; kept = run_then.calls.kept; counted = counted }) named;
         shows = run_then;
+        come = events_bring_things K V terms log e runs.come legal.life.finds;
         size = on_size ∙ runs.size;
         shards = λ n setting is. runs.shards n setting (sym (runs.stands.shown.is_at.maps n) ∙ ap (λ (f : ℕ → Option (Standing K)). option_map (λ (x : Standing K). x.setting) (f n)) (sym maps) ∙ is_at.maps n ∙ is);
       };

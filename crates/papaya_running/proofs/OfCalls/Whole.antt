@@ -1,6 +1,7 @@
 -- An event by which a whole call begins that has no name, and goes on: it keeps its promises, and the run goes on with it.
 use Rattle.std.specs.Prelude.{◌≡◌, ◌≢◌, ◌≤◌, ◌&&◌, ℕ, Bool, true, false, List, [], ◌∷◌, slice_get, Option, Some, option_map, if◌then◌else◌}
 use Rattle.std.proofs.Common.{refl, ap, sym, subst, ◌∙◌}
+use Rattle.std.proofs.lemmas.List.{append-nil}
 use Rattle.papaya_histories.specs.Given.SeizeWaiting.Held.{count}
 use Rattle.papaya_histories.specs.Given.SeizeWords.declared.fault.Fault.TheVariants.{Busy}
 use Rattle.papaya_histories.specs.Given.Seize.World.{Rests}
@@ -13,13 +14,16 @@ use Rattle.papaya_histories.specs.Given.Schedules.declared.outcome.Outcome.TheVa
 use Rattle.papaya_histories.specs.Given.Schedules.After.{moment, moments_from}
 use Rattle.papaya_histories.specs.Given.Schedules.Beginning.{at_work, fresh_call, with_call}
 use Rattle.papaya_histories.specs.Given.Schedules.Entry.{Entry, IfCall, nameless}
-use Rattle.papaya_histories.specs.Given.Schedules.Model.{guard_or, sets_in}
+use Rattle.papaya_histories.specs.Given.Schedules.Model.{guard_or, sets_in, things_in}
 use Rattle.papaya_histories.specs.Given.Schedules.Moment.{UnderWay as CallThere, Moment}
 use Rattle.papaya_histories.specs.Given.Schedules.Terms.{Terms}
 use Rattle.papaya_histories.specs.Given.Schedules.Views.{call_of, number_of}
 use Rattle.papaya_histories.specs.Given.Effects.Known.{Known, known}
 use Rattle.papaya_histories.specs.Given.Executor.IsAt.{slot_of}
+use Rattle.papaya_histories.specs.Given.Schedules.declared.effect.Thing.{Thing}
 use Rattle.papaya_finds.specs.Parts.{FindRest}
+use Rattle.papaya_legal.specs.Noted.{HaveCome}
+use Rattle.papaya_legal.proofs.Come.{called}
 use Rattle.papaya_legal.specs.CallEvents.{InCallEvent}
 use Rattle.papaya_legal.specs.Carried.{ComesAlone}
 use Rattle.papaya_legal.proofs.CallBegins.{whole_calls_begin}
@@ -32,7 +36,7 @@ use Rattle.papaya_scheduler.specs.declared.scheduler.Scheduler.{Scheduler}
 use Rattle.papaya_scheduler.proofs.HeldTold.{its_guard}
 use Rattle.papaya_stepping.specs.Stepping.{ComesAs, ComesBy, GoesAt, StepsCome}
 use Rattle.papaya_stepping.proofs.RightSteps.{not_busy as never_busy}
-use Rattle.papaya_running.specs.OfCalls.{IsLeft, Runs, RunsOn, TellsValue, Wanted}
+use Rattle.papaya_running.specs.OfCalls.{IsLeft, Runs, RunsOn, TellsValue}
 use Rattle.papaya_running.proofs.OfCalls.Alone.{active_of, inside_of, no_row}
 use Rattle.papaya_running.proofs.OfCalls.Begun as begun
 use Rattle.papaya_running.proofs.OfCalls.Ends.{runs_on}
@@ -41,7 +45,7 @@ use Rattle.papaya_running.proofs.OfCalls.Scenes.{stands_in}
 use Rattle.papaya_running.proofs.OfCalls.Steps.{HasCome, has_come, the}
 use Rattle.papaya_running.proofs.OfCalls.Words.{not_busy}
 
-module _ {K V S : Type 0} (same : K → K → Bool) (hash : K → ℕ) (wanted : Wanted K V S same hash) (terms : Terms) (log : List (Entry K V)) (old : Scheduler K V S) (runs : Runs same hash terms log old)
+module _ {K V S : Type 0} (same : K → K → Bool) (hash : K → ℕ) (terms : Terms) (log : List (Entry K V)) (old : Scheduler K V S) (runs : Runs same hash terms log old)
     (guard on : List ℕ) (call : Call K V) (mid : Scheduler K V S) (led : HasBegun same hash nameless guard on call old mid)
     (on_size : mid.logged.executor.batch_size ≡ old.logged.executor.batch_size)
     (mid_stands : StandsFor same hash terms (with_call nameless guard call (Some led.number) (moment log)) mid) where
@@ -108,7 +112,7 @@ module _ {K V S : Type 0} (same : K → K → Bool) (hash : K → ℕ) (wanted :
       ∙ its_guard same hash terms (with_call nameless guard call (Some map) m) mid mid_in map i _ under
 
   abbrev pub Come : Type 0
-  Come = HasCome same hash wanted names terms log event m1 map i c 0 0 [] mid
+  Come = HasCome same hash names terms log event m1 map i c 0 0 [] mid
 
   pub start : Come
   start = record {
@@ -121,6 +125,8 @@ module _ {K V S : Type 0} (same : K → K → Bool) (hash : K → ℕ) (wanted :
     size = on_size ∙ runs.size;
     shards = begun.shards_here same hash terms log old runs nameless guard on call mid led on_size;
     now = m1;
+    things = subst (λ (xs : List Thing). HaveCome xs m1) (sym (append-nil (things_in log)))
+        (subst (HaveCome (things_in log)) (sym m1_is) (called nameless guard call (Some map) (things_in log) m runs.come));
     scene = begun.then_at same hash terms log old runs nameless guard on call mid led;
     under = begun.u same hash terms log old runs nameless guard on call mid led;
     shown = subst (λ (x : Moment K V). IsShown same hash names x mid.logged (begun.then_at same hash terms log old runs nameless guard on call mid led)) (sym m1_is) (begun.shown_begun same hash terms log old runs nameless guard on call mid led);
@@ -173,12 +179,12 @@ module _ {K V S : Type 0} (same : K → K → Bool) (hash : K → ℕ) (wanted :
     pub whole_on : RunsOn same hash terms log (entry_of event played) new
     whole_on =
         let by = come.2 in
-        let far_on = has_come same hash wanted names terms log event m1 map i c 0 mid start by.0 by.2 by.3 by.4 in
-        runs_on same hash wanted names terms log event m1 map i c 0 c_is (known old.logged.notes) runs.stands.scene (begun.run_named same hash terms log old runs nameless guard on call mid led) played by.0
+        let far_on = has_come same hash names terms log event m1 map i c 0 mid start by.0 by.2 by.3 by.4 in
+        runs_on same hash names terms log event m1 map i c 0 c_is (known old.logged.notes) runs.stands.scene (begun.run_named same hash terms log old runs nameless guard on call mid led) runs.come played by.0
         by.2 by.3 new far_on by.5 begins (ap (λ (o : Option (CallThere K V)). option_map (λ (x : CallThere K V). x.map) o) acting_is) refl by.1 comes_as never left.right refl
         (its_left (λ (x : CallThere K V) (b : Moment K V). TellsValue x.call x.replies played.outcome) left.but.values)
-        (all_find same hash wanted names terms log event m1 map i c 0 (moments_from c.begun log) by.0 by.2 played.effects.items by.3 new played.outcome far_on by.5
-        (gone_find same hash wanted names terms log event m1 map i c 0 (moments_from c.begun log) mid start by.0 by.2 by.3 by.4) rest)
+        (all_find same hash names terms log event m1 map i c 0 (moments_from c.begun log) by.0 by.2 played.effects.items by.3 new played.outcome far_on by.5
+        (gone_find same hash names terms log event m1 map i c 0 (moments_from c.begun log) mid start by.0 by.2 by.3 by.4) rest)
         slot_so active plays
       where
         slot_so : slot_of_guard (guard_or (call_of nameless (at_work (entry_of event played) m))) (at_work (entry_of event played) m).there ≡ slot_of i

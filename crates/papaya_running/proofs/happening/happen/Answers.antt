@@ -9,6 +9,7 @@ use Rattle.papaya_running.proofs.Held.{holds_if, holds_so}
 use Rattle.papaya_running.proofs.OfAll.{all_out, calls_give_none, none_keep, slots_give_none}
 use Rattle.papaya_running.proofs.OfCalls.Happens.{other_keeps, out_keeps, turn_keeps}
 use Rattle.papaya_running.proofs.OfRows.Kept.{calls_keep, kept_in_turn, kept_out}
+use Rattle.papaya_running.proofs.OfSetups.{calls_set_none, none_set, setup_out}
 use Rattle.papaya_running.proofs.happening.happen.Goals as goal
 
 pub returns-then-keeps_out : goal.returns-then-keeps_out
@@ -32,6 +33,7 @@ returns-then-keeps_out g c =
       given = given;
       rows =
           kept_out g.K.PartialEq.eq (g.S.Hashes.hash c.args.scheduler.now.logged.executor.hasher) c.args.event c.args.scheduler.now c.refuse.new.self c.refuse.result c.refuse.ensures.outcome c.refuse.ensures.effects c.refuse.ensures.mapped;
+      setups = setup_out g.K.PartialEq.eq (g.S.Hashes.hash c.args.scheduler.now.logged.executor.hasher) c.args.event c.args.scheduler.now c.refuse.new.self _ c.refuse.ensures.mapped c.refuse.result c.refuse.ensures.effects;
       all = all_out g.K.PartialEq.eq (g.S.Hashes.hash c.args.scheduler.now.logged.executor.hasher) c.args.event c.args.scheduler.now c.refuse.new.self _ c.refuse.ensures.mapped c.refuse.result c.refuse.ensures.outcome c.refuse.ensures.effects;
     }
 
@@ -62,6 +64,7 @@ returns-then-is_of_calls g c = record {
       (calls_reclaim_none c.args.event (sym c.is_of_calls.ensures ∙ c.if-is_of_calls.true)) c.of_calls.result c.args.back.now.items) (sym c.keeps_out.ensures ∙ c.if-keeps_out.false);
   keeps = turn_keeps g.K.PartialEq.eq (g.S.Hashes.hash c.args.scheduler.now.logged.executor.hasher) c.args.event c.args.scheduler.now c.of_calls.new.scheduler c.of_calls.result c.of_calls.ensures.keeps
       (sym c.keeps_out.ensures ∙ c.if-keeps_out.false);
+  setups = none_set g.K.PartialEq.eq (g.S.Hashes.hash c.args.scheduler.now.logged.executor.hasher) c.args.event c.args.scheduler.now c.of_calls.new.scheduler (calls_set_none c.args.event (sym c.is_of_calls.ensures ∙ c.if-is_of_calls.true)) c.of_calls.result;
   all = none_keep g.K.PartialEq.eq (g.S.Hashes.hash c.args.scheduler.now.logged.executor.hasher) c.args.event c.args.scheduler.now c.of_calls.new.scheduler (calls_give_none c.args.event (sym c.is_of_calls.ensures ∙ c.if-is_of_calls.true)) c.of_calls.result;
   given = (c.of_calls.ensures.given.0, c.of_calls.ensures.given.1, c.of_calls.ensures.given.2);
 }
@@ -89,6 +92,7 @@ returns-then-is_of_maps g c = record {
       gave_in_turn g.K.PartialEq.eq (g.S.Hashes.hash c.args.scheduler.now.logged.executor.hasher) c.args.event c.args.scheduler.now c.of_maps.result c.args.back.now.items c.of_maps.new.back.items c.of_maps.ensures.back
       (sym c.keeps_out.ensures ∙ c.if-keeps_out.false);
   keeps = other_keeps g.K.PartialEq.eq (g.S.Hashes.hash c.args.scheduler.now.logged.executor.hasher) c.args.event c.args.scheduler.now c.of_maps.new.scheduler (sym c.is_of_calls.ensures ∙ c.if-is_of_calls.false) c.of_maps.result;
+  setups = c.of_maps.ensures.setups;
   all = c.of_maps.ensures.all;
   given = c.of_maps.ensures.given;
 }
@@ -117,6 +121,7 @@ returns g c = record {
       gave_in_turn g.K.PartialEq.eq (g.S.Hashes.hash c.args.scheduler.now.logged.executor.hasher) c.args.event c.args.scheduler.now c.of_slots.result c.args.back.now.items c.of_slots.new.back.items c.of_slots.ensures.back
       (sym c.keeps_out.ensures ∙ c.if-keeps_out.false);
   keeps = other_keeps g.K.PartialEq.eq (g.S.Hashes.hash c.args.scheduler.now.logged.executor.hasher) c.args.event c.args.scheduler.now c.of_slots.new.scheduler (sym c.is_of_calls.ensures ∙ c.if-is_of_calls.false) c.of_slots.result;
+  setups = c.of_slots.ensures.setups;
   all = none_keep g.K.PartialEq.eq (g.S.Hashes.hash c.args.scheduler.now.logged.executor.hasher) c.args.event c.args.scheduler.now c.of_slots.new.scheduler (slots_give_none c.args.event (sym c.is_of_maps.ensures ∙ c.if-is_of_maps.false)) c.of_slots.result;
   given = (c.of_slots.ensures.given.0, c.of_slots.ensures.given.1, c.of_slots.ensures.given.2);
 }

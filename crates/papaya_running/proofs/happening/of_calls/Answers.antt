@@ -82,7 +82,8 @@ returns-in-Replied-clause-happens g c =
 pub returns-in-Replied-clause-keeps : goal.returns-in-Replied-clause-keeps
 returns-in-Replied-clause-keeps g c =
     told_keeps g.K.PartialEq.eq (g.S.Hashes.hash c.args.scheduler.now.logged.executor.hasher) c.args.scheduler.now c.replied.new.self c.args.event c.in-Replied.caller c.in-Replied.reply c.in-Replied.is c.replied.result
-    c.replied.ensures.steps (c.replied.ensures.plays g.K.PartialEq.eq (g.S.Hashes.hash c.args.scheduler.now.logged.executor.hasher)) (c.replied.ensures.told g.K.PartialEq.eq (g.S.Hashes.hash c.args.scheduler.now.logged.executor.hasher)) c.replied.ensures.given
+    c.replied.ensures.steps (c.replied.ensures.plays g.K.PartialEq.eq (g.S.Hashes.hash c.args.scheduler.now.logged.executor.hasher)) (c.replied.ensures.told g.K.PartialEq.eq (g.S.Hashes.hash c.args.scheduler.now.logged.executor.hasher))
+    (c.replied.ensures.stays g.K.PartialEq.eq (g.S.Hashes.hash c.args.scheduler.now.logged.executor.hasher)) c.replied.ensures.given
 
 pub stop-requires : goal.stop-requires
 stop-requires g c = (g.K.PartialEq.eq, g.S.Hashes.hash c.args.scheduler.now.logged.executor.hasher, may_play g.K.PartialEq.eq (g.S.Hashes.hash c.args.scheduler.now.logged.executor.hasher) c.args.event _ c.in-Stop.is c.args.scheduler.now c.requires.due)
@@ -96,7 +97,8 @@ returns-in-Stop-clause-happens g c =
 pub returns-in-Stop-clause-keeps : goal.returns-in-Stop-clause-keeps
 returns-in-Stop-clause-keeps g c =
     stop_keeps g.K.PartialEq.eq (g.S.Hashes.hash c.args.scheduler.now.logged.executor.hasher) c.args.scheduler.now c.stop.new.self c.args.event c.in-Stop.caller c.in-Stop.is c.stop.result
-    c.stop.ensures.steps (c.stop.ensures.plays g.K.PartialEq.eq (g.S.Hashes.hash c.args.scheduler.now.logged.executor.hasher)) (c.stop.ensures.stopped g.K.PartialEq.eq (g.S.Hashes.hash c.args.scheduler.now.logged.executor.hasher)) c.stop.ensures.given
+    c.stop.ensures.steps (c.stop.ensures.plays g.K.PartialEq.eq (g.S.Hashes.hash c.args.scheduler.now.logged.executor.hasher)) (c.stop.ensures.stopped g.K.PartialEq.eq (g.S.Hashes.hash c.args.scheduler.now.logged.executor.hasher))
+    (c.stop.ensures.stays g.K.PartialEq.eq (g.S.Hashes.hash c.args.scheduler.now.logged.executor.hasher)) c.stop.ensures.given
 
 pub unreachable-requires : goal.unreachable-requires
 unreachable-requires g c = let d = c.in_default in some_call c.args.event c.requires.calls d.not-Begin d.not-Step d.not-Go d.not-Replied d.not-OneCall d.not-Next d.not-Stop

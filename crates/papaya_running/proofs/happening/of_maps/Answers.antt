@@ -9,6 +9,7 @@ use Rattle.papaya_running.proofs.OfAll.{all_keep, others_none}
 use Rattle.papaya_running.proofs.OfEnds.{ends_keep}
 use Rattle.papaya_running.proofs.OfMakings.{makings_keep}
 use Rattle.papaya_running.proofs.OfRows.{others_keep_if}
+use Rattle.papaya_running.proofs.OfSetups.{others_set, setup_keeps_if}
 use Rattle.papaya_running.proofs.happening.of_maps.Goals as goal
 
 pub make_map-requires : goal.make_map-requires
@@ -115,3 +116,18 @@ returns-in-ReclaimAll-clause-all g c = all_keep g.K.PartialEq.eq (g.S.Hashes.has
 
 pub returns-in-Close-clause-all : goal.returns-in-Close-clause-all
 returns-in-Close-clause-all g c = all_keep g.K.PartialEq.eq (g.S.Hashes.hash c.args.scheduler.now.logged.executor.hasher) c.args.event _ c.in-Close.is c.args.scheduler.now c.close.new.scheduler c.close.result c.close.ensures.works
+
+pub returns-in-ShowShape-clause-setups : goal.returns-in-ShowShape-clause-setups
+returns-in-ShowShape-clause-setups g c = setup_keeps_if g.K.PartialEq.eq (g.S.Hashes.hash c.args.scheduler.now.logged.executor.hasher) c.args.event _ c.in-ShowShape.is c.args.scheduler.now c.args.scheduler.now c.show_shape.result c.show_shape.ensures.works
+
+pub returns-in-MakeMap-clause-setups : goal.returns-in-MakeMap-clause-setups
+returns-in-MakeMap-clause-setups g c = others_set g.K.PartialEq.eq (g.S.Hashes.hash c.args.scheduler.now.logged.executor.hasher) c.args.event _ c.in-MakeMap.is c.args.scheduler.now c.make_map.new.scheduler refl c.make_map.result
+
+pub returns-in-EndMap-clause-setups : goal.returns-in-EndMap-clause-setups
+returns-in-EndMap-clause-setups g c = others_set g.K.PartialEq.eq (g.S.Hashes.hash c.args.scheduler.now.logged.executor.hasher) c.args.event _ c.in-EndMap.is c.args.scheduler.now c.end_map.new.scheduler refl c.end_map.result
+
+pub returns-in-ReclaimAll-clause-setups : goal.returns-in-ReclaimAll-clause-setups
+returns-in-ReclaimAll-clause-setups g c = others_set g.K.PartialEq.eq (g.S.Hashes.hash c.args.scheduler.now.logged.executor.hasher) c.args.event _ c.in-ReclaimAll.is c.args.scheduler.now c.reclaim_all.new.scheduler refl c.reclaim_all.result
+
+pub returns-in-Close-clause-setups : goal.returns-in-Close-clause-setups
+returns-in-Close-clause-setups g c = others_set g.K.PartialEq.eq (g.S.Hashes.hash c.args.scheduler.now.logged.executor.hasher) c.args.event _ c.in-Close.is c.args.scheduler.now c.close.new.scheduler refl c.close.result

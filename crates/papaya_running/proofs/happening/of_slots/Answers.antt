@@ -5,6 +5,7 @@ use Rattle.papaya_running.proofs.Forms.{some_slot}
 use Rattle.papaya_running.proofs.Gives.{gave, gave_none, gave_none_if}
 use Rattle.papaya_running.proofs.Happened.{due_so, may_play, still, still_if}
 use Rattle.papaya_running.proofs.OfRows.{others_keep, others_keep_if, rows_keep}
+use Rattle.papaya_running.proofs.OfSetups.{others_set, setup_keeps, setup_keeps_if}
 use Rattle.papaya_running.proofs.happening.of_slots.Goals as goal
 
 pub collector-requires : goal.collector-requires
@@ -168,3 +169,36 @@ returns-in-Choose-clause-rows g c = others_keep_if g.K.PartialEq.eq (g.S.Hashes.
 
 pub returns-in-Forget-clause-rows : goal.returns-in-Forget-clause-rows
 returns-in-Forget-clause-rows g c = others_keep g.K.PartialEq.eq (g.S.Hashes.hash c.args.scheduler.now.logged.executor.hasher) c.args.event _ c.in-Forget.is c.args.scheduler.now c.forget.new.self refl c.forget.result
+
+pub returns-in-Collector-clause-setups : goal.returns-in-Collector-clause-setups
+returns-in-Collector-clause-setups g c = setup_keeps g.K.PartialEq.eq (g.S.Hashes.hash c.args.scheduler.now.logged.executor.hasher) c.args.event _ c.in-Collector.is c.args.scheduler.now c.args.scheduler.now c.collector.result c.collector.ensures.works
+
+pub returns-in-Hash-clause-setups : goal.returns-in-Hash-clause-setups
+returns-in-Hash-clause-setups g c = setup_keeps g.K.PartialEq.eq (g.S.Hashes.hash c.args.scheduler.now.logged.executor.hasher) c.args.event _ c.in-Hash.is c.args.scheduler.now c.args.scheduler.now c.hash.result c.hash.ensures.works
+
+pub returns-in-Choose-clause-setups : goal.returns-in-Choose-clause-setups
+returns-in-Choose-clause-setups g c = setup_keeps_if g.K.PartialEq.eq (g.S.Hashes.hash c.args.scheduler.now.logged.executor.hasher) c.args.event _ c.in-Choose.is c.args.scheduler.now c.choose.new.self c.choose.result c.choose.ensures.works
+
+pub returns-in-Forget-clause-setups : goal.returns-in-Forget-clause-setups
+returns-in-Forget-clause-setups g c = setup_keeps g.K.PartialEq.eq (g.S.Hashes.hash c.args.scheduler.now.logged.executor.hasher) c.args.event _ c.in-Forget.is c.args.scheduler.now c.forget.new.self c.forget.result c.forget.ensures.works
+
+pub returns-in-Register-clause-setups : goal.returns-in-Register-clause-setups
+returns-in-Register-clause-setups g c = others_set g.K.PartialEq.eq (g.S.Hashes.hash c.args.scheduler.now.logged.executor.hasher) c.args.event _ c.in-Register.is c.args.scheduler.now c.register.new.self refl c.register.result
+
+pub returns-in-Unregister-clause-setups : goal.returns-in-Unregister-clause-setups
+returns-in-Unregister-clause-setups g c = others_set g.K.PartialEq.eq (g.S.Hashes.hash c.args.scheduler.now.logged.executor.hasher) c.args.event _ c.in-Unregister.is c.args.scheduler.now c.unregister.new.self refl c.unregister.result
+
+pub returns-in-Enter-clause-setups : goal.returns-in-Enter-clause-setups
+returns-in-Enter-clause-setups g c = others_set g.K.PartialEq.eq (g.S.Hashes.hash c.args.scheduler.now.logged.executor.hasher) c.args.event _ c.in-Enter.is c.args.scheduler.now c.enter.new.self refl c.enter.result
+
+pub returns-in-Own-clause-setups : goal.returns-in-Own-clause-setups
+returns-in-Own-clause-setups g c = others_set g.K.PartialEq.eq (g.S.Hashes.hash c.args.scheduler.now.logged.executor.hasher) c.args.event _ c.in-Own.is c.args.scheduler.now c.own.new.self refl c.own.result
+
+pub returns-in-Refresh-clause-setups : goal.returns-in-Refresh-clause-setups
+returns-in-Refresh-clause-setups g c = others_set g.K.PartialEq.eq (g.S.Hashes.hash c.args.scheduler.now.logged.executor.hasher) c.args.event _ c.in-Refresh.is c.args.scheduler.now c.refresh.new.self refl c.refresh.result
+
+pub returns-in-Flush-clause-setups : goal.returns-in-Flush-clause-setups
+returns-in-Flush-clause-setups g c = others_set g.K.PartialEq.eq (g.S.Hashes.hash c.args.scheduler.now.logged.executor.hasher) c.args.event _ c.in-Flush.is c.args.scheduler.now c.flush.new.self refl c.flush.result
+
+pub returns-in-DropGuard-clause-setups : goal.returns-in-DropGuard-clause-setups
+returns-in-DropGuard-clause-setups g c = others_set g.K.PartialEq.eq (g.S.Hashes.hash c.args.scheduler.now.logged.executor.hasher) c.args.event _ c.in-DropGuard.is c.args.scheduler.now c.drop_guard.new.self refl c.drop_guard.result

@@ -20,7 +20,7 @@ loop-left-init g c = record {
 pub step_reclaiming-requires : goal.step_reclaiming-requires
 step_reclaiming-requires g c =
     let r = c.requires in
-    let first = c.begin_reclaiming-reclaiming.ensures r.0 r.1 r.2 r.3 r.4 0 r.5 r.6 r.7 r.8 in
+    let first = c.begin_reclaiming-reclaiming.ensures.shown r.0 r.1 r.2 r.3 r.4 0 r.5 r.6 r.7 r.8 in
     let u = c.loop-left.invariant.so_far.2 r.0 r.1 r.4 0 r.5 first.under_way in
     (r.0, r.1, u.0, 0, u.1, u.2)
 
@@ -39,25 +39,26 @@ loop-left-preserved g c =
 pub returns-then-is_done-clause-ran : goal.returns-then-is_done-clause-ran
 returns-then-is_done-clause-ran g c =
     reclaims_last c.args.taken _ _ _ c.args.self.now c.loop-left.self c.step_reclaiming.new.self _ _ _
-    (λ same hash name m s i lists shown nobody may. c.begin_reclaiming-reclaiming.ensures same hash name m s i lists shown nobody may) c.loop-left.invariant.given.2 c.loop-left.invariant.so_far c.in_ok-told.told (sym c.is_done.ensures ∙ c.if-is_done.true)
+    (λ same hash name m s i lists shown nobody may. c.begin_reclaiming-reclaiming.ensures.shown same hash name m s i lists shown nobody may) c.loop-left.invariant.given.2 c.loop-left.invariant.so_far c.in_ok-told.told (sym c.is_done.ensures ∙ c.if-is_done.true)
     c.in_ok-told.ensures.leads c.in_ok-told.ensures.steps
 
 pub returns-then-is_done-clause-gone : goal.returns-then-is_done-clause-gone
 returns-then-is_done-clause-gone g c = (
   _,
-  λ same hash name m s i lists shown nobody may. (c.begin_reclaiming-reclaiming.ensures same hash name m s i lists shown nobody may).under_way,
+  λ same hash name m s i lists shown nobody may. (c.begin_reclaiming-reclaiming.ensures.shown same hash name m s i lists shown nobody may).under_way,
   _,
   c.loop-left.invariant.gone,
   _,
   all_last c.loop-left.self c.loop-left.self c.step_reclaiming.new.self c.loop-left.effects.items c.loop-left.effects.items c.step_reclaiming.new.effects.items _ _ c.in_ok-told.told
       c.in_ok-told.ensures.did c.in_ok-told.ensures.noted c.step_reclaiming.ensures.given c.in_ok-told.ensures.steps,
   sym c.is_done.ensures ∙ c.if-is_done.true,
+  c.begin_reclaiming-reclaiming.ensures.is,
 )
 
 pub returns-then-is_done-clause-back : goal.returns-then-is_done-clause-back
 returns-then-is_done-clause-back g c =
     brought_all c.args.taken _ _ _ c.args.self.now _ _
-    (λ same hash name m s i lists shown nobody may. c.begin_reclaiming-reclaiming.ensures same hash name m s i lists shown nobody may)
+    (λ same hash name m s i lists shown nobody may. c.begin_reclaiming-reclaiming.ensures.shown same hash name m s i lists shown nobody may)
     (brings_all _ _ _ c.args.self.now c.loop-left.self c.step_reclaiming.new.self _ _ _ c.in_ok-told.told c.loop-left.invariant.so_far c.in_ok-told.ensures.leads c.in_ok-told.ensures.did _ _ _ c.loop-left.invariant.back
     (c.reserve.ensures.items ∙ end_comes c.in_ok-told.told _ c.loop-left.back.items (sym c.is_done.ensures ∙ c.if-is_done.true)))
 

@@ -3,7 +3,7 @@ use Rattle.std.proofs.Common.{[]}
 use Rattle.papaya_schedules.specs.declared.event.Event.TheVariants.{Choose}
 use Rattle.papaya_schedules.specs.declared.outcome.Outcome.TheVariants.{Done}
 use Rattle.papaya_scheduler.proofs.Busy.{none_quiet}
-use Rattle.papaya_scheduler.proofs.Chosen.{choice_plays}
+use Rattle.papaya_scheduler.proofs.Chosen.{choice_plays, has_chosen}
 use Rattle.papaya_scheduler.proofs.Rights.{so_played}
 use Rattle.papaya_scheduler.proofs.scheduler.Scheduler.choose.Goals as goal
 
@@ -15,3 +15,6 @@ returns-clause-plays g c =
 
 pub returns-clause-quiet : goal.returns-clause-quiet
 returns-clause-quiet g c = none_quiet c.quietly.result.outcome c.quietly.result.effects.items c.quietly.ensures.effects
+
+pub returns-clause-works : goal.returns-clause-works
+returns-clause-works g c = has_chosen c.args.self.now c.args.choice c.quietly.result c.quietly.ensures.outcome c.quietly.ensures.effects c.choose.new.self c.in_ok-choose.ensures.chosen

@@ -1,5 +1,5 @@
 -- The collector's setup is the first event alone.
-use Rattle.std.proofs.Common.{[]}
+use Rattle.std.proofs.Common.{[], refl}
 use Rattle.papaya_schedules.specs.declared.event.Event.TheVariants.{Collector}
 use Rattle.papaya_scheduler.proofs.Busy.{none_quiet}
 use Rattle.papaya_scheduler.proofs.Rights.{so_played}
@@ -14,3 +14,6 @@ returns-clause-plays g c =
 
 pub returns-clause-quiet : goal.returns-clause-quiet
 returns-clause-quiet g c = none_quiet c.if_so.result.outcome c.if_so.result.effects.items c.if_so.ensures.effects
+
+pub returns-clause-works : goal.returns-clause-works
+returns-clause-works g c = (refl, (c.if_so.ensures.effects, refl))

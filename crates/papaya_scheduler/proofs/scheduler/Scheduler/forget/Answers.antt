@@ -1,6 +1,6 @@
 -- A guard is forgotten.
 use Rattle.std.specs.Prelude.{[], is_some}
-use Rattle.std.proofs.Common.{sym, ap, ◌∙◌}
+use Rattle.std.proofs.Common.{refl, sym, ap, ◌∙◌}
 use Rattle.seize_words.specs.declared.fault.Fault.TheVariants.{Busy}
 use Rattle.papaya_schedules.specs.declared.event.Event.TheVariants.{Forget}
 use Rattle.papaya_schedules.specs.declared.outcome.Outcome.TheVariants.{Done, Refused}
@@ -26,3 +26,9 @@ returns-then-is_none-clause-quiet g c = none_quiet c.busy.result.outcome c.busy.
 
 pub returns-clause-quiet : goal.returns-clause-quiet
 returns-clause-quiet g c = none_quiet c.quietly.result.outcome c.quietly.result.effects.items c.quietly.ensures.effects
+
+pub returns-then-is_none-clause-works : goal.returns-then-is_none-clause-works
+returns-then-is_none-clause-works g c = (refl, (c.busy.ensures.effects, refl))
+
+pub returns-clause-works : goal.returns-clause-works
+returns-clause-works g c = (refl, (c.quietly.ensures.effects, refl))

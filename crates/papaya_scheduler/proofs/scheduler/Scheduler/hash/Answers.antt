@@ -14,3 +14,6 @@ returns-clause-plays g c =
 
 pub returns-clause-quiet : goal.returns-clause-quiet
 returns-clause-quiet g c = none_quiet c.if_so.result.outcome c.if_so.result.effects.items c.if_so.ensures.effects
+
+pub returns-clause-works : goal.returns-clause-works
+returns-clause-works g c = (refl, (c.if_so.ensures.effects, refl))

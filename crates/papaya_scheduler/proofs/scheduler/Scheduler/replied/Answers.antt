@@ -1,5 +1,5 @@
 -- A call gets its reply.
-use Rattle.std.proofs.Common.{[], Some, sym, ap, ◌∙◌}
+use Rattle.std.proofs.Common.{[], Some, refl, sym, ap, ◌∙◌}
 use Rattle.seize_words.specs.declared.fault.Fault.TheVariants.{Busy}
 use Rattle.papaya_schedules.specs.After.{moment}
 use Rattle.papaya_schedules.specs.declared.event.Event.TheVariants.{Replied}
@@ -100,3 +100,22 @@ returns-clause-told g c = λ same hash is. (
   },
   c.quietly.ensures.effects,
 )
+
+pub returns-in_default-clause-stays : goal.returns-in_default-clause-stays
+returns-in_default-clause-stays g c = λ same hash terms log due busy. (refl, c.busy.ensures.effects)
+
+pub returns-then-not-takes-clause-stays : goal.returns-then-not-takes-clause-stays
+returns-then-not-takes-clause-stays g c = λ same hash terms log due busy. (refl, c.busy-then-not-takes.ensures.effects)
+
+pub returns-then-is_err-clause-stays : goal.returns-then-is_err-clause-stays
+returns-then-is_err-clause-stays g c =
+    λ same hash terms log due busy. absurd (
+    let plain = is_taken same hash terms log c.args.self.now c.args.caller.now c.args.reply due c.in-Some.place (sym c.in-Some.is ∙ c.place_of.ensures) c.index.result.now c.index.ensures
+    (sym c.takes.ensures ∙ c.if-not-takes.false) c.index-2.result.now c.index-2.ensures c.told_by-told.result.0 (ap (λ t. t.0) c.told_by-told.ensures) c.reply.result c.reply.new.self
+    (c.reply.ensures.taken same hash due.played.scene due.played.shown.is_at) (c.reply.ensures.leads same hash due.played.name (moment log) due.played.scene due.played.shown) in
+    let yes = sym c.is_err.ensures.value ∙ c.if-is_err.true in
+    cc (plain, yes)
+    )
+
+pub returns-clause-stays : goal.returns-clause-stays
+returns-clause-stays g c = λ same hash terms log due busy. absurd (let goes = sym busy ∙ c.quietly.ensures.outcome in cc goes)

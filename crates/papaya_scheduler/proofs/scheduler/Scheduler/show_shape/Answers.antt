@@ -1,5 +1,5 @@
 -- The tables of a map are shown.
-use Rattle.std.proofs.Common.{[], sym, ◌∙◌}
+use Rattle.std.proofs.Common.{[], refl, sym, ◌∙◌}
 use Rattle.seize_words.specs.declared.fault.Fault.TheVariants.{Busy}
 use Rattle.papaya_schedules.specs.declared.event.Event.TheVariants.{ShowShape}
 use Rattle.papaya_schedules.specs.declared.outcome.Outcome.TheVariants.{Refused, Shape}
@@ -35,3 +35,9 @@ returns-in-None-clause-quiet g c = none_quiet c.busy.result.outcome c.busy.resul
 
 pub returns-in_ok-shapes-in-Some-clause-quiet : goal.returns-in_ok-shapes-in-Some-clause-quiet
 returns-in_ok-shapes-in-Some-clause-quiet g c = none_quiet c.quietly.result.outcome c.quietly.result.effects.items c.quietly.ensures.effects
+
+pub returns-in-None-clause-works : goal.returns-in-None-clause-works
+returns-in-None-clause-works g c = (refl, (c.busy.ensures.effects, refl))
+
+pub returns-in_ok-shapes-in-Some-clause-works : goal.returns-in_ok-shapes-in-Some-clause-works
+returns-in_ok-shapes-in-Some-clause-works g c = (refl, (c.quietly.ensures.effects, refl))

@@ -1,5 +1,5 @@
 -- A walk is given up.
-use Rattle.std.proofs.Common.{[], ℕ, sym, ap, subst, ◌∙◌}
+use Rattle.std.proofs.Common.{[], ℕ, refl, sym, ap, subst, ◌∙◌}
 use Rattle.seize_words.specs.declared.fault.Fault.TheVariants.{Busy}
 use Rattle.papaya_schedules.specs.declared.event.Event.TheVariants.{Stop}
 use Rattle.papaya_schedules.specs.declared.outcome.Outcome.TheVariants.{Done, Refused}
@@ -65,3 +65,9 @@ returns-clause-stopped g c = λ same hash is. (
   },
   c.quietly.ensures.effects,
 )
+
+pub returns-in_default-clause-stays : goal.returns-in_default-clause-stays
+returns-in_default-clause-stays g c = λ same hash terms log due busy. (refl, c.busy.ensures.effects)
+
+pub returns-clause-stays : goal.returns-clause-stays
+returns-clause-stays g c = λ same hash terms log due busy. absurd (let done = sym busy ∙ c.quietly.ensures.outcome in cc done)

@@ -1,0 +1,97 @@
+-- An event that chooses the number of a block is legal, and a run goes on with it in the scene whose memory has that choice.
+use Rattle.std.specs.Prelude.{ℕ, Bool, List, [], ◌∷◌}
+use Rattle.std.proofs.Common.{refl, subst, inl}
+use Rattle.std.proofs.lemmas.List.{append-nil}
+use Rattle.papaya_histories.specs.Given.Seize.WaitingSets.{Change}
+use Rattle.papaya_histories.specs.Given.Seize.World.{Chooses, World}
+use Rattle.papaya_histories.specs.Given.Tables.Nodes.{deferred_word}
+use Rattle.papaya_histories.specs.Given.Tables.declared.node.Node.{Node}
+use Rattle.papaya_histories.specs.Given.Schedules.declared.event.Event.TheVariants.{Choose}
+use Rattle.papaya_histories.specs.Given.Schedules.declared.outcome.Outcome.TheVariants.{Done}
+use Rattle.papaya_histories.specs.Given.Schedules.After.{after, moment}
+use Rattle.papaya_histories.specs.Given.Schedules.Entry.{Entry}
+use Rattle.papaya_histories.specs.Given.Schedules.Moment.{Moment}
+use Rattle.papaya_histories.specs.Given.Schedules.Terms.{Terms}
+use Rattle.papaya_histories.specs.Given.Effects.Known.{Known}
+use Rattle.papaya_histories.specs.Given.Executor.IsAt.{Scene}
+use Rattle.papaya_histories.specs.Given.Follows.Shows.{Shows}
+use Rattle.papaya_histories.specs.Given.Moments.Whole.{ShowsWhole}
+use Rattle.papaya_kept.specs.Kept.{ShowsKept}
+use Rattle.papaya_logged.specs.Choosing.{scene_chosen}
+use Rattle.papaya_models.specs.Follows.{FollowsModel}
+use Rattle.papaya_models.specs.Turns.{CameByTurns}
+use Rattle.papaya_models.proofs.Follows.{idle_events_follow}
+use Rattle.papaya_models.proofs.Turns.{events_follow}
+use Rattle.papaya_promises.specs.Reading.{ShowsReading}
+use Rattle.papaya_promises.specs.Sheltered.{SectionsHold}
+use Rattle.papaya_legal.specs.CallEvents.{IsLegalBut}
+use Rattle.papaya_legal.specs.Carried.{FollowsOrRows, ShowsCalls, ShowsRun}
+use Rattle.papaya_legal.specs.Over.{ChoicesEnd}
+use Rattle.papaya_legal.proofs.Between.{likes_show}
+use Rattle.papaya_legal.proofs.Idle.{idle_events_are_legal}
+use Rattle.papaya_legal.proofs.Over.{reading_like, runs_go_on, still_follows}
+
+-- Calls, maps and words are there as they were.
+module _ {K V : Type 0} (choice : ℕ) (same : K → K → Bool) (name : ℕ → List ℕ) (log : List (Entry K V)) (m : Moment K V) (known : Known) (s : Scene K V) (whole : ShowsWhole same name m known (scene_chosen choice s))
+    (kept : ShowsKept name m known (scene_chosen choice s)) where
+  abbrev shown_then : Shows same name m known s → Shows same name m known (scene_chosen choice s)
+  shown_then shown = record { blocks = whole.all.shown.blocks; number = shown.number; maps = shown.maps; calls = shown.calls }
+
+  calls_then : ShowsCalls same name log m known s → ShowsCalls same name log m known (scene_chosen choice s)
+  calls_then all = record {
+    whole = whole;
+    numbers = all.numbers;
+    kept = kept;
+    counters = record { shards = all.counters.shards; makes = all.counters.makes; adds = all.counters.adds };
+    uncounted = all.uncounted;
+    dues = record {
+      history = record {
+        shown = shown_then all.dues.history.shown;
+        asked = record { apart = all.dues.history.asked.apart; each = all.dues.history.asked.each };
+        begun = all.dues.history.begun;
+        within = all.dues.history.within;
+      };
+      owes = all.dues.owes;
+      taken = all.dues.taken;
+    };
+    as_called = record { shown = shown_then all.as_called.shown; each = all.as_called.each };
+    questions = all.questions;
+    purposes = record { shown = shown_then all.purposes.shown; begun = all.purposes.begun; is_for = all.purposes.is_for; come = all.purposes.come };
+  }
+
+  reading_then : ShowsReading name log (λ i. 0) m s → ShowsReading name log (λ i. 0) m (scene_chosen choice s)
+  reading_then reading = record { begun = reading.begun; reads = reading.reads }
+
+module _ {K V : Type 0} (terms : Terms) (log : List (Entry K V)) (known : Known) (s : Scene K V) (choice steps : ℕ) where
+  abbrev chosen : World (Node K V)
+  chosen = (scene_chosen choice s).world
+
+  abbrev e : Entry K V
+  e = record { event = Choose choice; outcome = Done; steps = steps; effects = [] }
+
+  -- the waiting sets are those that they were
+  came_then : (f : FollowsModel terms.batch_size terms.roots log known s.world) → CameByTurns deferred_word terms.batch_size terms.roots chosen f.before
+  came_then f =
+      subst (λ (before : List Change). CameByTurns deferred_word terms.batch_size terms.roots chosen before) (append-nil f.before)
+      (events_follow deferred_word terms.batch_size terms.roots s.world chosen f.before f.came (Chooses choice) tt refl)
+
+  follows_then : FollowsModel terms.batch_size terms.roots log known s.world → FollowsOrRows terms (e ∷ log) known chosen
+  follows_then f =
+      let stays = idle_events_follow K V terms log e refl refl refl in
+      still_follows terms known chosen log e stays.1 stays.2 (inl (record { before = f.before; came = came_then f; alike = f.alike }))
+
+pub choices_end : (K V : Type 0) (same : K → K → Bool) → ChoicesEnd K V same
+choices_end K V same name terms log known s run choice alone whole kept steps right = (legal.0, runs)
+  where
+    its : Entry K V
+    its = record { event = Choose choice; outcome = Done; steps = steps; effects = [] }
+
+    legal : IsLegalBut same terms log its × SectionsHold (after its (moment log)) known (scene_chosen choice s).world
+    legal = idle_events_are_legal K V same terms log known (scene_chosen choice s).world its refl tt run.sections tt refl refl tt tt tt tt
+
+    runs : ShowsRun same name terms (its ∷ log) known (scene_chosen choice s)
+    runs =
+        runs_go_on K V same name name terms log known known s (scene_chosen choice s) run its right legal.0.life tt tt
+        (likes_show K V same name log (moment log) (moment (its ∷ log)) known (scene_chosen choice s) (calls_then choice same name log (moment log) known s whole kept run.calls) refl)
+        (reading_like name log (λ i. 0) (moment log) (moment (its ∷ log)) (scene_chosen choice s) (reading_then choice same name log (moment log) known s whole kept run.reading) refl) legal.1
+        (λ is_alone. follows_then terms log known s choice steps (alone is_alone))

@@ -1,0 +1,283 @@
+-- All that was stored and linked came into maps: effect by effect, over what an operation of a call does, and over an event whose effects find what they must.
+use Rattle.std.specs.Prelude.{◌≡◌, ℕ, ◌+◌, ◌≤◌, ◌==◌, nat_lt, Bool, true, false, ◌&&◌, ◌||◌, List, [], ◌∷◌, ◌++◌, flat_map, length, map, Option, Some, None, if◌then◌else◌}
+use Rattle.std.specs.List.{AllByRecursion}
+use Rattle.std.proofs.Common.{refl, ap, sym, subst, ◌∙◌, append_assoc, arith, inl, inr}
+use Rattle.std.proofs.lemmas.Bool.{cases_lt, eq-eqb}
+use Rattle.std.proofs.lemmas.List.{append-nil, length-append}
+use Rattle.std.proofs.lemmas.List.Concat.{flat_map-cons}
+use Rattle.papaya_histories.specs.Given.SeizeWords.declared.at.At.TheVariants as at
+use Rattle.papaya_histories.specs.Given.Seize.declared.states.TheConstants.{FIRST}
+use Rattle.papaya_histories.specs.Given.Tables.declared.table_words.TheConstants.{NEXT, DEFERRED}
+use Rattle.papaya_histories.specs.Given.Teller.declared.changed.Changed.{Changed}
+use Rattle.papaya_histories.specs.Given.Teller.declared.changed.Changed.TheVariants as changed
+use Rattle.papaya_histories.specs.Given.Teller.declared.changed.Kind.{Kind}
+use Rattle.papaya_histories.specs.Given.Teller.declared.changed.Kind.TheVariants as kind
+use Rattle.papaya_histories.specs.Given.Schedules.declared.effect.Effect.{Effect}
+use Rattle.papaya_histories.specs.Given.Schedules.declared.effect.Effect.TheVariants as effect
+use Rattle.papaya_histories.specs.Given.Schedules.declared.effect.Growth.TheVariants.{ABucket, ABlock}
+use Rattle.papaya_histories.specs.Given.Schedules.declared.effect.Spot.{Spot}
+use Rattle.papaya_histories.specs.Given.Schedules.declared.effect.Table.{Table}
+use Rattle.papaya_histories.specs.Given.Schedules.declared.effect.Thing.{Thing}
+use Rattle.papaya_histories.specs.Given.Schedules.declared.effect.Thing.TheVariants.{APair, ATable}
+use Rattle.papaya_histories.specs.Given.Schedules.declared.event.Event.{Event}
+use Rattle.papaya_histories.specs.Given.Schedules.declared.event.Event.TheVariants as event
+use Rattle.papaya_histories.specs.Given.Schedules.declared.outcome.Outcome.{Outcome}
+use Rattle.papaya_histories.specs.Given.Schedules.declared.outcome.Outcome.TheVariants as outcome
+use Rattle.papaya_histories.specs.Given.Schedules.declared.call.Call.{Call as Calling}
+use Rattle.papaya_histories.specs.Given.Schedules.declared.call.Call.TheVariants.{On}
+use Rattle.papaya_histories.specs.Given.Schedules.After.{moment}
+use Rattle.papaya_histories.specs.Given.Schedules.Beginning.{at_work, begun, with_call}
+use Rattle.papaya_histories.specs.Given.Schedules.Effects.{AtEachEffect, at_stage, new_pair, stored_by, tables_by, with_effect, with_effects}
+use Rattle.papaya_histories.specs.Given.Schedules.Entry.{Entry, ByCall, acted_on, acting, caller_of, is_busy, nameless}
+use Rattle.papaya_histories.specs.Given.Schedules.Growing.{only_looks}
+use Rattle.papaya_histories.specs.Given.Schedules.Handing.{gives_all, moments_of}
+use Rattle.papaya_histories.specs.Given.Schedules.Lists.{is_in}
+use Rattle.papaya_histories.specs.Given.Schedules.Lives.{CallFinds, Finds}
+use Rattle.papaya_histories.specs.Given.Schedules.Model.{came, things_in}
+use Rattle.papaya_histories.specs.Given.Schedules.Moment.{UnderWay as CallThere, Moment, Stage, TableThere, IsLinked, IsRetired, IsReclaimed, IsTaken}
+use Rattle.papaya_histories.specs.Given.Schedules.Sequential.{Meaning, Answers, Puts, key_of, means, value_put}
+use Rattle.papaya_histories.specs.Given.Schedules.Terms.{Terms}
+use Rattle.papaya_histories.specs.Given.Schedules.Things.{same_table, same_thing}
+use Rattle.papaya_histories.specs.Given.Schedules.Views.{number_of, reply_to}
+use Rattle.papaya_histories.specs.Given.Effects.Effects.{batched, carried, effects_of, followed_by, in_block, in_table, is_place, led_to, made_by, named, names_same, placed, spot_at, taken_by}
+use Rattle.papaya_histories.specs.Given.Effects.Known.{Known}
+use Rattle.papaya_histories.specs.Given.Effects.declared.acting.Acting.{Acting}
+use Rattle.papaya_histories.specs.Given.Effects.declared.acting.Acting.TheVariants.{Call}
+use Rattle.papaya_histories.specs.Given.Effects.declared.role.Role.{Role}
+use Rattle.papaya_histories.specs.Given.Effects.declared.role.Role.TheVariants as role
+use Rattle.papaya_histories.proofs.Given.Spots.Unreclaimed.{or_right, same_itself}
+use Rattle.papaya_finds.proofs.Lists.{all_so}
+use Rattle.papaya_finds.proofs.Somewhere.{is_storing, none_stored}
+use Rattle.papaya_models.proofs.Numbers.{still_in}
+use Rattle.papaya_legal.specs.Noted.{HaveCome, CallsBringThings, EventsBeginWithThings, EventsBringThings, NothingHasCome}
+
+-- the n-th pair that is stored has the number n
+abbrev pub IsNumbered : {K V : Type 0} → Moment K V → Effect → Type 0
+IsNumbered m (effect.Stored n s) = n ≡ length m.stored + 1
+IsNumbered m _ = Unit {0}
+
+-- the thing that comes last is one of them
+at_end : (things : List Thing) (x : Thing) → same_thing x x ≡ true → is_in same_thing x (things ++ x ∷ []) ≡ true
+at_end [] x same = ap (λ (q : Bool). q || false) same
+at_end (y ∷ things) x same = or_right (same_thing x y) (is_in same_thing x (things ++ x ∷ [])) (at_end things x same)
+
+-- a call has one pair at most to store
+module _ {K V : Type 0} where
+  put_few : (k : K) (x : Meaning V) → length {A = K × V} (map (λ (v : V). (k, v)) (value_put x)) ≤ 1
+  put_few k x = by x
+    where
+      by : (x : Meaning V) → length {A = K × V} (map (λ (v : V). (k, v)) (value_put x)) ≤ 1
+      by (Answers a (Puts v)) = omega arith
+      by _ = omega arith
+
+  new_few : (call : Calling K V) (c : CallThere K V) (n : ℕ) → length (new_pair call c n) ≤ 1
+  new_few (On one) c n = put_few (key_of one) (means one (reply_to c.replacing c.replies) c.replacing n)
+  new_few _ c n = omega arith
+
+-- One effect.
+
+module _ {K V : Type 0} (caller : Option (List ℕ)) (acted : Option ℕ) (things : List Thing) (m : Moment K V) (h : HaveCome things m) where
+  -- a table of this list is among them
+  abbrev Among : List Thing → TableThere → Type 0
+  Among xs u = is_in same_thing (ATable u.table) xs ≡ true
+
+  still_pairs : (more : List Thing) (n : ℕ) → 1 ≤ n → n ≤ length m.stored → is_in same_thing (APair n) (things ++ more) ≡ true
+  still_pairs more n l u = still_in more things (APair n) (h.pairs n l u)
+
+  still_tables : (more : List Thing) → AllByRecursion (Among (things ++ more)) m.tables
+  still_tables more = all_so (Among things) (Among (things ++ more)) (λ u so. still_in more things (ATable u.table) so) m.tables h.tables
+
+  stored_too : (o : Option (CallThere K V)) (k : ℕ) (s : Spot) → k ≡ length m.stored + 1 → (n : ℕ) → 1 ≤ n → n ≤ length (stored_by o (effect.Stored k s) m.stored)
+      → is_in same_thing (APair n) (things ++ APair k ∷ []) ≡ true
+  stored_too None k s number n l u = still_pairs (APair k ∷ []) n l u
+  stored_too (Some c) k s number n l u = elim (cases_lt (length m.stored) n) as (λ _. is_in same_thing (APair n) (things ++ APair k ∷ []) ≡ true) [
+    | inl after ↦
+        let few = new_few c.call c k in
+        let many : length (m.stored ++ new_pair c.call c k) ≡ length m.stored + length (new_pair c.call c k) = length-append m.stored (new_pair c.call c k) in
+        let one : n ≡ k = omega (arith, after, u, few, many, number) in
+        subst (λ (x : ℕ). is_in same_thing (APair x) (things ++ APair k ∷ []) ≡ true) (sym one) (at_end things (APair k) (eq-eqb k k refl))
+    | inr before ↦ still_pairs (APair k ∷ []) n l before
+  ]
+
+  pairs_then : (f : Effect) (q : Bool) → is_storing f ≡ q → IsNumbered m f → (o : Option (CallThere K V)) (n : ℕ) → 1 ≤ n → n ≤ length (stored_by o f m.stored)
+      → is_in same_thing (APair n) (things ++ came f) ≡ true
+  pairs_then (effect.Stored k s) true e number o n l u = stored_too o k s number n l u
+  pairs_then f false e number o n l u = still_pairs (came f) n l (subst (λ (xs : List (K × V)). n ≤ length xs) (none_stored o f m.stored e) u)
+  pairs_then _ true e number o n l u = absurd (cc e)
+
+  -- tables at another stage are the same tables
+  staged : (t : Table) (stage : Stage) (xs : List Thing) (tables : List TableThere) → AllByRecursion (Among xs) tables → AllByRecursion (Among xs) (map (at_stage t stage) tables)
+  staged t stage xs [] all = tt
+  staged t stage xs (u ∷ tables) all = (by (same_table u.table t), staged t stage xs tables all.1)
+    where
+      by : (q : Bool) → Among xs (if q then record u { stage = stage } else u)
+      by true = all.0
+      by false = all.0
+
+  linked_too : (xs : List Thing) (new : TableThere) (tables : List TableThere) → AllByRecursion (Among xs) tables → Among xs new → AllByRecursion (Among xs) (tables ++ new ∷ [])
+  linked_too xs new [] all its = (its, tt)
+  linked_too xs new (u ∷ tables) all its = (all.0, linked_too xs new tables all.1 its)
+
+  tables_then : (f : Effect) → AllByRecursion (Among (things ++ came f)) (tables_by f m.tables)
+  tables_then (effect.Linked t shape) =
+      linked_too (things ++ ATable t ∷ []) (record { table = t; shape = shape; stage = IsLinked }) m.tables (still_tables (ATable t ∷ [])) (at_end things (ATable t) (same_itself t))
+  tables_then (effect.Retired (ATable t)) = staged t IsRetired (things ++ []) m.tables (still_tables [])
+  tables_then (effect.Reclaimed (ATable t)) = staged t IsReclaimed (things ++ []) m.tables (still_tables [])
+  tables_then (effect.Taken t) = staged t IsTaken (things ++ []) m.tables (still_tables [])
+  tables_then (effect.Stored n s) = still_tables (APair n ∷ [])
+  tables_then (effect.Retired (APair n)) = still_tables []
+  tables_then (effect.Reclaimed (APair n)) = still_tables []
+  tables_then _ = still_tables []
+
+  come_one : (f : Effect) → IsNumbered m f → HaveCome (things ++ came f) (with_effect caller acted f m)
+  come_one f number = record { pairs = λ n l u. pairs_then f (is_storing f) refl number (acting caller m) n l u; tables = tables_then f }
+
+-- Several effects.
+
+module _ {K V : Type 0} (caller : Option (List ℕ)) (acted : Option ℕ) where
+  pub come_all : (effects : List Effect) (things : List Thing) (m : Moment K V) → HaveCome things m → AtEachEffect IsNumbered caller acted effects m
+      → HaveCome (things ++ flat_map came effects) (with_effects caller acted effects m)
+  come_all [] things m h numbers = subst (λ (xs : List Thing). HaveCome xs m) (sym (append-nil things)) h
+  come_all (f ∷ effects) things m h numbers =
+      subst (λ (xs : List Thing). HaveCome xs (with_effects caller acted effects (with_effect caller acted f m)))
+      (append_assoc things (came f) (flat_map came effects) ∙ ap (λ (xs : List Thing). things ++ xs) (sym (flat_map-cons came f effects)))
+      (come_all effects (things ++ came f) (with_effect caller acted f m) (come_one caller acted things m h f numbers.0) numbers.1)
+
+  -- What an operation of a call stores has its number.
+
+  module _ (i map_number : ℕ) (known : Known) (m : Moment K V) (many : known.stored ≡ length m.stored) where
+    abbrev its : Acting
+    its = Call i map_number
+
+    abbrev AllNumbered : List Effect → Type 0
+    AllNumbered effects = AtEachEffect IsNumbered caller acted effects m
+
+    numbers_if : (q : Bool) (x y : List Effect) → AllNumbered x → AllNumbered y → AllNumbered (if q then x else y)
+    numbers_if true x y a b = a
+    numbers_if false x y a b = b
+
+    led_numbers : (was is : Role) → AllNumbered (led_to its was is)
+    led_numbers was (role.OwnTable turn shape) = (tt, tt)
+    led_numbers (role.Table t len) (role.Table u other) = (tt, tt)
+    led_numbers _ _ = tt
+
+    batched_numbers : (field : ℕ) (r : Role) → AllNumbered (batched its field r)
+    batched_numbers field role.Free = tt
+    batched_numbers field (role.OwnPair c) = tt
+    batched_numbers field (role.OwnTable turn shape) = tt
+    batched_numbers field (role.Pair n) = numbers_if (field == FIRST) (effect.Retired (APair n) ∷ []) [] (tt, tt) tt
+    batched_numbers field (role.Table t len) = numbers_if (field == FIRST) (effect.Retired (ATable t) ∷ []) [] (tt, tt) tt
+    batched_numbers field (role.Counter of) = tt
+
+    followed_numbers : (is : Role) → AllNumbered (followed_by its is)
+    followed_numbers (role.OwnTable turn shape) = (tt, tt)
+    followed_numbers _ = tt
+
+    carried_numbers : (t : Table) (is : Role) → AllNumbered (carried t is)
+    carried_numbers t (role.Pair n) = (tt, tt)
+    carried_numbers t _ = tt
+
+    placed_numbers : (x : Spot) (was is : Role) → AllNumbered (placed x known.stored was is)
+    placed_numbers x (role.Pair n) (role.OwnPair j) = (
+      tt,
+      (ap (λ (k : ℕ). k + 1) (many ∙ sym (ap length (none_stored (acting caller m) (effect.Replaced n) m.stored refl))), tt),
+    )
+    placed_numbers x _ (role.OwnPair j) = (ap (λ (k : ℕ). k + 1) many, tt)
+    placed_numbers x (role.Pair n) role.Free = (tt, tt)
+    placed_numbers x role.Free (role.Pair n) = (tt, tt)
+    placed_numbers x _ _ = tt
+
+    block_numbers : (r : Role) (field : ℕ) (q : Bool) (was is : Role) → AllNumbered (in_block its r field known.stored q was is)
+    block_numbers role.Free field q was is = tt
+    block_numbers (role.OwnPair c) field q was is = tt
+    block_numbers (role.OwnTable turn shape) field q was is = tt
+    block_numbers (role.Pair n) field q was is = tt
+    block_numbers (role.Counter of) field q was is = (tt, tt)
+    block_numbers (role.Table t len) field q was is =
+        numbers_if q [] (in_table its t len field known.stored was is) tt
+        (numbers_if (field == NEXT) (followed_by its is) (if field == DEFERRED then carried t is else (if is_place len field then placed (spot_at t field) known.stored was is else [])) (followed_numbers is)
+        (numbers_if (field == DEFERRED) (carried t is) (if is_place len field then placed (spot_at t field) known.stored was is else []) (carried_numbers t is)
+        (numbers_if (is_place len field) (placed (spot_at t field) known.stored was is) [] (placed_numbers (spot_at t field) was is) tt)))
+
+    made_numbers : (k : Kind) → AllNumbered (effect.Asked ABlock ∷ made_by its k)
+    made_numbers kind.Pair = (tt, (tt, tt))
+    made_numbers (kind.Table len limit turn) = (tt, (tt, tt))
+    made_numbers kind.Shards = (tt, tt)
+
+    taken_numbers : (r : Role) → AllNumbered (taken_by its r)
+    taken_numbers role.Free = tt
+    taken_numbers (role.OwnPair c) = (tt, tt)
+    taken_numbers (role.OwnTable turn shape) = (tt, tt)
+    taken_numbers (role.Counter of) = tt
+    taken_numbers (role.Pair n) = (tt, tt)
+    taken_numbers (role.Table t len) = (tt, tt)
+
+    pub numbers_so : (told : Changed) → AllNumbered (effects_of its known told)
+    numbers_so changed.Nothing = tt
+    numbers_so (changed.Wrote (at.Root r) old new) = numbers_if (names_same old new) [] (led_to its (named known old) (named known new)) tt (led_numbers (named known old) (named known new))
+    numbers_so (changed.Wrote (at.Used r) old new) = tt
+    numbers_so (changed.Wrote (at.Slot t field) old new) = tt
+    numbers_so (changed.Wrote (at.Entry b field) old new) = numbers_if (names_same old new) [] (batched its field (known.roles b)) tt (batched_numbers field (known.roles b))
+    numbers_so (changed.Wrote (at.Word b field) old new) = block_numbers (known.roles b) field (names_same old new) (named known old) (named known new)
+    numbers_so (changed.Made k b) = made_numbers k
+    numbers_so (changed.Unmade k) = (tt, tt)
+    numbers_so (changed.Took b) = taken_numbers (known.roles b)
+    numbers_so (changed.Roomed bucket had) = numbers_if (had && nat_lt bucket known.buckets) [] (effect.Asked ABucket ∷ []) tt (tt, tt)
+
+module _ (K V : Type 0) where
+  pub nothing_has_come : NothingHasCome K V
+  nothing_has_come = record { pairs = λ n l u. absurd (omega (arith, l, u)); tables = tt }
+
+  pub calls_bring_things : CallsBringThings K V
+  calls_bring_things things m h known many i map_number told own of = come_all own of (effects_of (Call i map_number) known told) things m h (numbers_so own of i map_number known m many told)
+
+-- An event.
+
+module _ {K V : Type 0} where
+  as_there : (things : List Thing) (m v : Moment K V) → HaveCome things m → v.stored ≡ m.stored → v.tables ≡ m.tables → HaveCome things v
+  as_there things m v h stored tables = record {
+    pairs = λ n l u. h.pairs n l (subst (λ (xs : List (K × V)). n ≤ length xs) stored u);
+    tables = subst (AllByRecursion (λ u. is_in same_thing (ATable u.table) things ≡ true)) (sym tables) h.tables;
+  }
+
+  pub called : (caller guard : List ℕ) (call : Calling K V) (of : Option ℕ) (things : List Thing) (m : Moment K V) → HaveCome things m → HaveCome things (with_call caller guard call of m)
+  called caller guard call None things m h = h
+  called caller guard call (Some of) things m h = as_there things m (with_call caller guard call (Some of) m) h refl refl
+
+  begins : (v : Event K V) (o : Outcome V) (things : List Thing) (m : Moment K V) → HaveCome things m → HaveCome things (begun v o m)
+  begins (event.Begin caller guard name call) outcome.Goes things m h = called caller guard call (number_of name m) things m h
+  begins (event.OneCall guard name call) o things m h = by (is_busy o)
+    where
+      by : (q : Bool) → HaveCome things (if q then m else with_call nameless guard call (number_of name m) m)
+      by true = h
+      by false = called nameless guard call (number_of name m) things m h
+  begins (event.MakeMap name mode capacity) outcome.Done things m h = as_there things m (begun (event.MakeMap name mode capacity) outcome.Done m) h refl refl
+  begins _ _ things m h = h
+
+  -- an effect that finds what it must
+  module _ (terms : Terms) (everything : Bool) (moments : List (Moment K V)) where
+    number_found : (caller : Option (List ℕ)) (acted : Option ℕ) (m : Moment K V) (f : Effect) → Finds terms caller acted everything moments m f → IsNumbered m f
+    number_found (Some caller) acted m (effect.Stored n s) finds = by (acting (Some caller) m) finds
+      where
+        by : (o : Option (CallThere K V)) → ByCall (λ (c : CallThere K V). (only_looks c.call ≡ false) × CallFinds terms moments m (effect.Stored n s) c) o → n ≡ length m.stored + 1
+        by None it = absurd it
+        by (Some c) it = it.1.0
+    number_found None None m (effect.Stored n s) finds = absurd finds
+    number_found None (Some acted) m (effect.Stored n s) finds = absurd finds
+    number_found caller acted m _ finds = tt
+
+    numbers_found : (caller : Option (List ℕ)) (acted : Option ℕ) (effects : List Effect) (m : Moment K V) → AtEachEffect (Finds terms caller acted everything moments) caller acted effects m
+        → AtEachEffect IsNumbered caller acted effects m
+    numbers_found caller acted [] m finds = tt
+    numbers_found caller acted (f ∷ effects) m finds = (number_found caller acted m f finds.0, numbers_found caller acted effects (with_effect caller acted f m) finds.1)
+
+module _ (K V : Type 0) where
+  pub events_begin_with_things : EventsBeginWithThings K V
+  events_begin_with_things things e m h = begins e.event e.outcome things m h
+
+  pub events_bring_things : EventsBringThings K V
+  events_bring_things terms log e h finds =
+      let b = at_work e (moment log) in
+      let all = come_all (caller_of e.event) (acted_on e.event b) e.effects (things_in log) b (begins e.event e.outcome (things_in log) (moment log) h)
+      (numbers_found terms (gives_all e.event) (moments_of terms log (acting (caller_of e.event) b)) (caller_of e.event) (acted_on e.event b) e.effects b finds) in
+      as_there (things_in (e ∷ log)) (with_effects (caller_of e.event) (acted_on e.event b) e.effects b) (moment (e ∷ log)) all refl refl

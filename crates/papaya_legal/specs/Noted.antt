@@ -1,0 +1,65 @@
+-- What a row hands over that begins with a step of a call: it is noted, as a thing that came into a map.
+use Rattle.std.specs.Prelude.{◌≡◌, ℕ, ◌≤◌, Bool, true, List, [], ◌∷◌, ◌++◌, flat_map, length, Option, Some}
+use Rattle.std.specs.List.{AllByRecursion}
+use Rattle.papaya_histories.specs.Given.Seize.World.{World, Request, Begin, Step, Happens}
+use Rattle.papaya_histories.specs.Given.Raw.declared.machines.progress.Progress.{Progress}
+use Rattle.papaya_histories.specs.Given.Tables.Nodes.{deferred_word}
+use Rattle.papaya_histories.specs.Given.Tables.declared.node.Node.{Node}
+use Rattle.papaya_histories.specs.Given.Schedules.declared.effect.Thing.{Thing}
+use Rattle.papaya_histories.specs.Given.Schedules.declared.effect.Thing.TheVariants.{APair, ATable}
+use Rattle.papaya_histories.specs.Given.Schedules.After.{moment}
+use Rattle.papaya_histories.specs.Given.Schedules.Beginning.{at_work}
+use Rattle.papaya_histories.specs.Given.Schedules.Effects.{with_effects}
+use Rattle.papaya_histories.specs.Given.Schedules.Entry.{Entry}
+use Rattle.papaya_histories.specs.Given.Schedules.Handing.{AllFind}
+use Rattle.papaya_histories.specs.Given.Schedules.Lists.{is_in}
+use Rattle.papaya_histories.specs.Given.Schedules.Model.{came, things_in}
+use Rattle.papaya_histories.specs.Given.Schedules.Moment.{Moment, start}
+use Rattle.papaya_histories.specs.Given.Schedules.Terms.{Terms}
+use Rattle.papaya_histories.specs.Given.Schedules.Things.{same_thing}
+use Rattle.papaya_histories.specs.Given.Teller.declared.changed.Changed.{Changed}
+use Rattle.papaya_histories.specs.Given.Callers.Together.{UnderWay, HandsOver}
+use Rattle.papaya_histories.specs.Given.Effects.Effects.{effects_of}
+use Rattle.papaya_histories.specs.Given.Effects.Known.{Known}
+use Rattle.papaya_histories.specs.Given.Effects.declared.acting.Acting.TheVariants.{Call}
+use Rattle.papaya_histories.specs.Given.Executor.IsAt.{Scene, IsAt, slot_of}
+use Rattle.papaya_histories.specs.Given.Executor.Stepping.{StepLeads}
+use Rattle.papaya_histories.specs.Given.Executor.declared.executor.Executor.{Executor}
+use Rattle.papaya_histories.specs.Given.Moments.Whole.{ShowsWhole}
+use Rattle.papaya_kept.specs.Kept.{ShowsKept}
+use Rattle.papaya_models.specs.CallEvents.{IsNoted}
+
+-- each pair that was stored, and each table that ever was one of a map, is among these things
+pub record HaveCome {K V : Type 0} (things : List Thing) (m : Moment K V) : Type 0 where
+  pub pairs : (n : ℕ) → 1 ≤ n → n ≤ length m.stored → is_in same_thing (APair n) things ≡ true
+  pub tables : AllByRecursion (λ u. is_in same_thing (ATable u.table) things ≡ true) m.tables
+
+module _ (K V : Type 0) where
+  -- The promises: so it is before all events,
+  abbrev pub NothingHasCome : Type 0
+  NothingHasCome = HaveCome {K = K} {V = V} [] start
+
+  -- after whatever an operation of a call does, where as many pairs are noted as were stored,
+  abbrev pub CallsBringThings : Type 0
+  CallsBringThings =
+      (things : List Thing) (m : Moment K V) → HaveCome things m → (known : Known) → known.stored ≡ length m.stored → (i map : ℕ) (told : Changed) (own : Option (List ℕ)) (of : Option ℕ)
+      → (let effects = effects_of (Call i map) known told in HaveCome (things ++ flat_map came effects) (with_effects own of effects m))
+
+  -- where an event begins what it begins, and after one whose effects find what they must: of all things that came into maps by then.
+  abbrev pub EventsBeginWithThings : Type 0
+  EventsBeginWithThings = (things : List Thing) (e : Entry K V) (m : Moment K V) → HaveCome things m → HaveCome things (at_work e m)
+
+  abbrev pub EventsBringThings : Type 0
+  EventsBringThings =
+      (terms : Terms) (log : List (Entry K V)) (e : Entry K V) → HaveCome (things_in log) (moment log) → AllFind terms log e (at_work e (moment log))
+      → HaveCome (things_in (e ∷ log)) (moment (e ∷ log))
+
+-- And where all that was stored and linked is among these things, what a row hands over that begins with a step of a call is noted as one of them, and it does so under the slot of its caller.
+abbrev pub CallsHandNoted : (K V S : Type 0) (same : K → K → Bool) (hash : K → ℕ) → Type 0
+CallsHandNoted K V S same hash =
+    (name : ℕ → List ℕ) (m : Moment K V) (known : Known) (s : Scene K V) (old new : Executor K V S) → IsAt same hash old s → ShowsWhole same name m known s → ShowsKept name m known s
+    → (map i : ℕ) (u : UnderWay K V K) (here : s.calls map i ≡ Some u) (said : Progress (Node K V)) (leads : StepLeads same hash i said s old new)
+    → (things : List Thing) → HaveCome things m
+    → (let to = leads map u here in
+    (request : Request) (begun : World (Node K V)) → HandsOver to.0.setting i s.world request → Happens deferred_word old.batch_size (Begin i request) s.world begun
+    → Happens deferred_word old.batch_size (Step i) begun to.4.w2 → IsNoted things known (slot_of i) request)
