@@ -1,3 +1,4 @@
 mod Moves
 mod Counting
 mod Places
+mod Room
