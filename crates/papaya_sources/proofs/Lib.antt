@@ -2,3 +2,4 @@ mod Moves
 mod Counting
 mod Places
 mod Room
+mod Own

@@ -1,5 +1,6 @@
 -- Where pairs were copied from: an older table names each pair for ever that was put into a later one.
 use Rattle.std.specs.Prelude.{◌≡◌, ◌≢◌, ℕ, ◌<◌, Bool}
+use Rattle.papaya_histories.specs.Given.Schedules.Moment.{Moment}
 use Rattle.papaya_histories.specs.Given.Rule.Chart.{Phase, Still, Holds, Chart}
 
 module _ {K : Type 0} (c : Chart K) (n : ℕ) where
@@ -18,3 +19,8 @@ module _ {K : Type 0} (c : Chart K) (n : ℕ) where
     pub before : table < turn
     pub place : ℕ
     pub is : IsSource table place
+
+module _ {K V : Type 0} (c : Chart K) (number : ℕ → ℕ) (m : Moment K V) where
+  -- each pair that lies in a later table than the one in which it was stored came from a place of an older one
+  abbrev pub CameFromPlaces : Type 0
+  CameFromPlaces = (n : ℕ) → n < c.stored → (m.born (number n)).turn < (m.spot (number n)).turn → HasSource c n (m.spot (number n)).turn
