@@ -3,3 +3,5 @@ mod Counting
 mod Places
 mod Room
 mod Own
+mod Rising
+mod Stays
