@@ -31,3 +31,4 @@ pub mod Legal
 pub mod Found
 pub mod Come
 pub mod Noted
+pub mod Heads

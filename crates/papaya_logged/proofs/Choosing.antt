@@ -135,7 +135,7 @@ module _ {K V : Type 0} (choice roots : ℕ) (w : World (Node K V)) where
 module _ {K V S : Type 0} (choice : ℕ) (old : Logged K V S) where
   counted_then : (m : Moment K V) (s : Scene K V) → IsCounted m old s → IsCounted m (logged_chosen choice old) (scene_chosen choice s)
   counted_then m s c = record {
-    numbered = record { numbers = c.numbered.numbers; slots = (let slots = c.numbered.slots in record { some = slots.some; none = slots.none }) };
+    numbered = record { numbers = c.numbered.numbers; slots = (let slots = c.numbered.slots in record { some = slots.some; none = slots.none; whole = slots.whole }) };
     remains = (let r = c.remains in record {
       lists = r.lists;
       left = left_then choice old.executor.roots s.world s.maps s.makers s.enders r.lists r.left;

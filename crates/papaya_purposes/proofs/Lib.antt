@@ -32,6 +32,7 @@ pub mod Swept
 pub mod Shows
 pub mod Stored
 pub mod ShowsAll
+pub mod WalkWords
 pub mod FindsRoom
 pub mod Nothing
 pub mod Elsewhere

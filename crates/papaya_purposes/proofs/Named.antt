@@ -2,7 +2,6 @@
 use Rattle.std.specs.Prelude.{◌≡◌, ℕ, ◌<◌, Bool, true, List, Option, Some}
 use Rattle.std.proofs.Common.{refl, ap, sym, ◌∙◌, inl, inr}
 use Rattle.std.proofs.lemmas.Bool.{cases_lt}
-use Rattle.papaya_histories.specs.Given.SeizeWords.Word.{block_in}
 use Rattle.papaya_histories.specs.Given.Seize.World.{with_at}
 use Rattle.papaya_histories.specs.Given.Tables.declared.node.Node.{Node}
 use Rattle.papaya_histories.specs.Given.Sweeps.declared.sweep.Sweep.{Sweep}
@@ -73,12 +72,14 @@ module _ {K V S : Type 0} (same : K → K → Bool) (hash : K → ℕ) (name : �
           ∙ ((on same hash name log m known s old new at whole purposes of i u here said leads).shows.maps of stands_then stands_is).pairs.roles n l (grown.1 ∙ known_too)
     ]
 
-    -- so the number of a pair that is named is the one that is told
+    -- so a pair that is named is noted by its number,
+    pub pair_named : (word n : ℕ) → NamesPair st.hash step.step.went.c2 step.step.went.blocks2 word n
+        → NamesNumber (known2 same hash name log m known s old new at whole purposes of i u here said leads) word (number2 n)
+    pair_named word n (l, known_too, phase, borrowed, word_is) =
+        ap (known2 same hash name log m known s old new at whole purposes of i u here said leads).roles
+        (named_by same st.hash (at.together.makings.standing.fit of st st_is).0 step.step.went.c2 step.step.went.blocks2 word n phase borrowed word_is) ∙ roles_then n l known_too
+
+    -- and that is the one that is told
     pub number_told : (word n q : ℕ) → NamesPair st.hash step.step.went.c2 step.step.went.blocks2 word n
         → NamesNumber (known2 same hash name log m known s old new at whole purposes of i u here said leads) word q → q ≡ number2 n
-    number_told word n q (l, known_too, phase, borrowed, word_is) names =
-        let block : block_in word ≡ step.step.went.blocks2.pair n =
-        named_by same st.hash (at.together.makings.standing.fit of st st_is).0 step.step.went.c2 step.step.went.blocks2 word n phase borrowed word_is in
-        let one : role.Pair q ≡ role.Pair (number2 n) =
-        sym names ∙ ap (known2 same hash name log m known s old new at whole purposes of i u here said leads).roles block ∙ roles_then n l known_too in
-        cc one
+    number_told word n q named names = let one : role.Pair q ≡ role.Pair (number2 n) = sym names ∙ pair_named word n named in cc one

@@ -1,6 +1,7 @@
 -- Events of calls on whole maps do what these are for.
 use Rattle.std.specs.Prelude.{◌≡◌, ℕ, suc, Bool, true, List, Some, None, is_some}
 use Rattle.papaya_histories.specs.Given.Tables.declared.node.Node.{Node}
+use Rattle.papaya_histories.specs.Given.Raw.declared.machines.progress.Answer.{Answer}
 use Rattle.papaya_histories.specs.Given.Raw.declared.machines.progress.Answer.TheVariants as answers
 use Rattle.papaya_histories.specs.Given.Raw.declared.machines.progress.Progress.{Progress}
 use Rattle.papaya_histories.specs.Given.Raw.declared.machines.progress.Progress.TheVariants as progress
@@ -65,6 +66,11 @@ module _ {K V : Type 0} where
 abbrev pub LosesNone : {K V : Type 0} → (K → K → Bool) → List (Entry K V) → Moment K V → ℕ → Type 0
 LosesNone {K} same log m of = (k : K) → is_some (finite_map same of (moment log) k) ≡ true → is_some (finite_map same of m k) ≡ true
 
+-- What a step of a walk says: a pair that it shows is one of the run, by its number; and where it answers, its sweep is over.
+pub record SaysAsWalk {K V : Type 0} (known : Known) (said : Progress (Node K V)) : Type 0 where
+  pub pairs : (word : ℕ) → said ≡ progress.Pair word → (n : ℕ) × NamesPair known word n
+  pub over : (answer : Answer) → said ≡ progress.Done answer → answer ≡ answers.Swept
+
 -- The promises, of an event whose effects before a last step have led to this moment, and which comes to what that step comes to.
 module _ (K V S : Type 0) (same : K → K → Bool) (hash : K → ℕ) where
   abbrev pub Ends : (CallThere K V → Type 0) → (List (Entry K V) → Moment K V → Moment K V → Scene K V → ℕ → UnderWay K V K → Type 0) → Outcome V → Type 0
@@ -108,6 +114,14 @@ module _ (K V S : Type 0) (same : K → K → Bool) (hash : K → ℕ) where
       → LosesNone same log m of
       → (terms : Terms) (e : Entry K V) → caller_of e.event ≡ Some (name i)
       → worked e (moment log) ≡ with_effects (Some (name i)) (Some of) (effects_of (acts.Call i of) known new.memory.changed) m → e.outcome ≡ Answered Absent → IsSwept same terms log e
+
+  -- So each step of a walk says.
+  abbrev pub WalksHaveWords : Type 0
+  WalksHaveWords =
+      (name : ℕ → List ℕ) (log : List (Entry K V)) (m : Moment K V) (known : Known) (s : Scene K V) (old new : Executor K V S) → IsAt same hash old s
+      → ShowsWhole same name m known s → ShowsPurposes same name log m known s
+      → (of i : ℕ) (u : UnderWay K V K) → s.calls of i ≡ Some u → (said : Progress (Node K V)) → StepLeads same hash i said s old new
+      → (c : CallThere K V) → call_of (name i) m ≡ Some c → IsWalk c → SaysAsWalk (known_after (acts.Call i of) new.memory.changed known) said
 
 module _ (K V : Type 0) (same : K → K → Bool) where
   -- Nothing is promised of an event that comes to neither an answer nor a pair that is shown, of one of a call on one key, and of one that is of no call.

@@ -4,7 +4,7 @@ ghost use Rattle.papaya_purposes.specs.Elsewhere.{PurposesStay};
 ghost use Rattle.papaya_purposes.specs.Kept.{PurposesBegin, CallsKeepPurposes, WalksShowPurposes, CallsBeginPurposes, CallsTakePurposes, WalksStopPurposes, WalksGoOnPurposes, CallsComeToPurposes, EventsKeepPurposes, FirstStepsChangePairsFirst, StillStepsChangePairsFirst, RemovalsChangePairsFirst};
 ghost use Rattle.papaya_purposes.specs.Rows.{RowsBeginPurposes, RowsKeepPurposes};
 ghost use Rattle.papaya_purposes.specs.Shards.{EventsBeginUncounted, StepsReadShards};
-ghost use Rattle.papaya_purposes.specs.Swept.{CountingsAreSwept, ReservationsAreSwept, WalksShow, WalksShowAll, ClearingsAreSwept, RetainingsAreSwept, OtherOutcomesAreSwept, CallsOnKeysAreSwept, NoCallsAreSwept};
+ghost use Rattle.papaya_purposes.specs.Swept.{CountingsAreSwept, ReservationsAreSwept, WalksShow, WalksShowAll, WalksHaveWords, ClearingsAreSwept, RetainingsAreSwept, OtherOutcomesAreSwept, CallsOnKeysAreSwept, NoCallsAreSwept};
 
 /// At each moment of a run that shows the executor, each call is for what was called, and has come to what the moment says: pair by pair and class by class, what a
 /// sweep's map had since it began, the map has at a moment of the run since then; a walk has shown just what it has done, which is one pair of each class that the map had
@@ -49,10 +49,12 @@ pub fn reservations_are_swept<K, V, S>()
 {}
 
 /// A walk shows a pair that was in the map at a moment of it, and that it has not shown before, if no pair comes within the event. One that answers that there is no
-/// pair has shown one pair of each key that had one at each moment of it, if no key has lost its pair within the event.
+/// pair has shown one pair of each key that had one at each moment of it, if no key has lost its pair within the event. Whatever a walk shows by a step is a pair of
+/// the run, and it answers only that its sweep is over.
 pub fn walks_show<K, V, S>()
     ensures events { (same : K → K → Bool) (hash : K → ℕ) → WalksShow K V S same hash }
     ensures all { (same : K → K → Bool) (hash : K → ℕ) → WalksShowAll K V S same hash }
+    ensures words { (same : K → K → Bool) (hash : K → ℕ) → WalksHaveWords K V S same hash }
 {}
 
 /// Of the pairs that were in the map all the time `clear` leaves none, and `retain` those about which the last reply was yes, if no pair comes and goes within one event.

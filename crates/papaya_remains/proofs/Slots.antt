@@ -1,8 +1,8 @@
 -- Each operation leaves words of slots noted just where there are some: room is made for the next bucket alone, and then it is noted.
 use Rattle.std.specs.Prelude.{◌⊎◌, ◌≤◌, ◌<◌, ◌==◌, nat_le, slice_get, List, [], ◌∷◌, ◌++◌, length, replicate, Option, Some, Ok, Err, IsSome, if◌then◌else◌}
-use Rattle.std.proofs.Common.{◌≡◌, ℕ, zero, suc, ◌+◌, Bool, true, false, inl, inr, refl, ap, sym, subst, ◌∙◌, arith}
+use Rattle.std.proofs.Common.{◌≡◌, ℕ, zero, suc, ◌+◌, Bool, true, false, inl, inr, refl, ap, sym, subst, ◌∙◌, arith, length-append}
 use Rattle.std.proofs.lemmas.Bool.{eq-eqb}
-use Rattle.std.proofs.lemmas.List.{get_or-replicate}
+use Rattle.std.proofs.lemmas.List.{get_or-replicate, length-replicate}
 use Rattle.papaya_moments.specs.Given.SeizeWords.declared.at.At.{At}
 use Rattle.papaya_moments.specs.Given.SeizeWords.declared.at.At.TheVariants.{Root, Used, Slot, Entry, Word}
 use Rattle.papaya_moments.specs.Given.SeizeWords.declared.slots.TheConstants.{SLOT_WORDS}
@@ -14,7 +14,8 @@ use Rattle.papaya_moments.specs.Given.SeizeWords.SlotWords.{slot_word}
 use Rattle.papaya_moments.specs.Given.SeizeWords.SlotWords.{with_bucket as with_slots}
 use Rattle.papaya_moments.specs.Given.SeizeWords.Word.{block_in}
 use Rattle.papaya_moments.proofs.Given.SeizeWords.OneOwner.AfterWrites.{word_at-with_word}
-use Rattle.papaya_moments.proofs.Given.SeizeWords.Places.Words.{capacity_le_capacity, capacity_pos}
+use Rattle.papaya_moments.proofs.Given.SeizeWords.Places.Words.{capacity-more, capacity_le_capacity, capacity_pos, with_bucket_next, with_bucket_there}
+use Rattle.papaya_moments.proofs.Given.SeizeRule.Words.Room.{same_length}
 use Rattle.papaya_moments.specs.Given.Seize.declared.states.TheConstants.{HEAD}
 use Rattle.papaya_moments.specs.Given.Tables.declared.node.Node.{Node}
 use Rattle.papaya_moments.specs.Given.Tables.declared.table_words.TheConstants.{NEXT}
@@ -79,28 +80,39 @@ buckets_stay acting (changed.Wrote at old new) known none = written_buckets acti
 buckets_stay acting (changed.Roomed bucket true) known none = absurd (cc none)
 buckets_stay acting _ known none = refl
 
+-- and never fewer
+pub buckets_grow : (acting : Acting) (c : Changed) (known : Known) → known.buckets ≤ (known_after acting c known).buckets
+buckets_grow acting (changed.Roomed bucket true) known = by (nat_le known.buckets bucket) refl
+  where
+    by : (q : Bool) → nat_le known.buckets bucket ≡ q → known.buckets ≤ (if q then record known { buckets = bucket + 1 } else known).buckets
+    by true e = let low : known.buckets ≤ bucket = grind (arith, e) in omega (arith, low)
+    by false e = omega arith
+buckets_grow acting (changed.Wrote at old new) known = let same_number = written_buckets acting at old new known in omega (arith, same_number)
+buckets_grow acting _ known = omega arith
+
 unless : (q : Bool) (w : ℕ) (o : Option ℕ) → IsSome o → IsSome (if q then Some w else o)
 unless true w o some = refl
 unless false w o some = some
 
--- Of slots: a word stays, and none comes.
+-- Of slots: a word stays, and none comes; they are as many.
 module _ {T : Type 0} where
   abbrev Keeps : Mem T → Mem T → Type 0
-  Keeps m n = (IsSome (word_at m (Slot 0 HEAD)) → IsSome (word_at n (Slot 0 HEAD))) × (m.slots ≡ [] → n.slots ≡ [])
+  Keeps m n = (IsSome (word_at m (Slot 0 HEAD)) → IsSome (word_at n (Slot 0 HEAD))) × (m.slots ≡ [] → n.slots ≡ []) × (length n.slots ≡ length m.slots)
 
   -- where there is no slot there is no word of one
   no_word : (m : Mem T) (s field : ℕ) → IsSome (word_at m (Slot s field)) → m.slots ≡ [] → ⊥
   no_word m s field some none = (let gone = subst (λ (l : List (List ℕ)). IsSome (slot_word l s field)) none some in cc gone)
 
   written : (m : Mem T) (at : At) (w : ℕ) → IsSome (word_at m at) → Keeps m (with_word m at w)
-  written m (Root r) w can = (λ some. some, λ none. none)
-  written m (Used r) w can = (λ some. some, λ none. none)
+  written m (Root r) w can = (λ some. some, λ none. none, refl)
+  written m (Used r) w can = (λ some. some, λ none. none, refl)
   written m (Slot s field) w can = (
     λ some. subst IsSome (sym (word_at-with_word m (Slot s field) w (Slot 0 HEAD) can)) (unless (same_at (Slot 0 HEAD) (Slot s field)) w (word_at m (Slot 0 HEAD)) some),
     λ none. absurd (no_word m s field can none),
+    same_length m (Slot s field) w,
   )
-  written m (Entry b field) w can = (λ some. some, λ none. none)
-  written m (Word b field) w can = (λ some. some, λ none. none)
+  written m (Entry b field) w can = (λ some. some, λ none. none, refl)
+  written m (Word b field) w can = (λ some. some, λ none. none, refl)
 
   -- an operation that makes no room
   abbrev IsOther : Op T → Out T → Type 0
@@ -108,21 +120,21 @@ module _ {T : Type 0} where
   IsOther _ _ = Unit {0}
 
   other_keeps : (m : Mem T) (op : Op T) (out : Out T) → Can m op → IsOther op out → Keeps m (after m op out)
-  other_keeps m (Load at) out can other = (λ some. some, λ none. none)
+  other_keeps m (Load at) out can other = (λ some. some, λ none. none, refl)
   other_keeps m (Store at w) out can other = written m at w can
   other_keeps m (Swap at w) out can other = written m at w can
   other_keeps m (Add at by) (Found w) can other = written m at _ can
-  other_keeps m (Add at by) _ can other = (λ some. some, λ none. none)
+  other_keeps m (Add at by) _ can other = (λ some. some, λ none. none, refl)
   other_keeps m (Or at bits) (Found w) can other = written m at _ can
-  other_keeps m (Or at bits) _ can other = (λ some. some, λ none. none)
+  other_keeps m (Or at bits) _ can other = (λ some. some, λ none. none, refl)
   other_keeps m (Exchange at old new) (Exchanged (Ok w)) can other = written m at new can
-  other_keeps m (Exchange at old new) _ can other = (λ some. some, λ none. none)
-  other_keeps m (Make value words) (Made (Ok b)) can other = (λ some. some, λ none. none)
-  other_keeps m (Make value words) _ can other = (λ some. some, λ none. none)
-  other_keeps m (Take b) out can other = (λ some. some, λ none. none)
-  other_keeps m (Rewrite b new) out can other = (λ some. some, λ none. none)
+  other_keeps m (Exchange at old new) _ can other = (λ some. some, λ none. none, refl)
+  other_keeps m (Make value words) (Made (Ok b)) can other = (λ some. some, λ none. none, refl)
+  other_keeps m (Make value words) _ can other = (λ some. some, λ none. none, refl)
+  other_keeps m (Take b) out can other = (λ some. some, λ none. none, refl)
+  other_keeps m (Rewrite b new) out can other = (λ some. some, λ none. none, refl)
   other_keeps m (Room bucket) (Roomed (Ok made)) can other = absurd other
-  other_keeps m (Room bucket) _ can other = (λ some. some, λ none. none)
+  other_keeps m (Room bucket) _ can other = (λ some. some, λ none. none, refl)
 
   -- it makes room, or it does not
   abbrev MakesRoom : Op T → Out T → Type 0
@@ -163,8 +175,32 @@ module _ (bucket : ℕ) (known : Known) where
       by true e = omega arith
       by false e = grind (arith, e)
 
+  -- so many slots there are as the buckets that are noted have
+  whole_then : (slots : List (List ℕ)) → capacity bucket ≤ length slots + 32 → length slots + 32 ≡ capacity known.buckets → length (with_slots slots bucket) + 32 ≡ capacity (with_bucket bucket known).buckets
+  whole_then slots can whole = by (nat_le known.buckets bucket) refl
+    where
+      by : (q : Bool) → nat_le known.buckets bucket ≡ q → length (with_slots slots bucket) + 32 ≡ capacity (if q then record known { buckets = bucket + 1 } else known).buckets
+      by true e =
+          let low : known.buckets ≤ bucket = grind (arith, e) in
+          let most = capacity_le_capacity known.buckets bucket low in
+          let next : length slots + 32 ≡ capacity bucket = omega (arith, most, can, whole) in
+          let long = ap length (with_bucket_next slots bucket next) ∙ length-append slots (replicate (capacity bucket) (replicate {A = ℕ} SLOT_WORDS 0)) in
+          let new = length-replicate (capacity bucket) (replicate {A = ℕ} SLOT_WORDS 0) in
+          let more = capacity-more bucket in
+          omega (arith, next, long, new, more)
+      by false e =
+          let high : bucket + 1 ≤ known.buckets = grind (arith, e) in
+          let most = capacity_le_capacity (bucket + 1) known.buckets high in
+          let more = capacity-more bucket in
+          let some = capacity_pos bucket in
+          ap (λ (l : List (List ℕ)). length l + 32) (with_bucket_there slots bucket (λ next. omega (arith, next, most, more, some, whole))) ∙ whole
+
   room_noted : {T : Type 0} (m : Mem T) → Can m (Room bucket) → SlotsNoted known m → SlotsNoted (with_bucket bucket known) (with_room m bucket)
-  room_noted m can noted = record { some = λ l. room_then m.slots can.1 noted.some noted.none; none = λ e. absurd (let some = some_then in omega (arith, e, some)) }
+  room_noted m can noted = record {
+    some = λ l. room_then m.slots can.1 noted.some noted.none;
+    none = λ e. absurd (let some = some_then in omega (arith, e, some));
+    whole = whole_then m.slots can.1 noted.whole;
+  }
 
 module _ {K V : Type 0} where
   no_room_told : (m : Mem (Node K V)) (op : Op (Node K V)) (out : Out (Node K V)) → IsOther op out → IsNoRoom (told_of op out (seen_of m op out))
@@ -199,14 +235,18 @@ module _ {K V : Type 0} where
       by op out can (inl other) =
           let keeps = other_keeps m op out can other in
           let as_many = buckets_stay acting (told_of op out (seen_of m op out)) known (no_room_told m op out other) in
-          record { some = λ l. keeps.0 (noted.some (omega (arith, l, as_many))); none = λ e. keeps.1 (noted.none (sym as_many ∙ e)) }
+          record {
+            some = λ l. keeps.0 (noted.some (omega (arith, l, as_many)));
+            none = λ e. keeps.1 (noted.none (sym as_many ∙ e));
+            whole = ap (λ (n : ℕ). n + 32) keeps.2 ∙ noted.whole ∙ ap capacity (sym as_many);
+          }
       by op out can (inr (bucket, is_room, is_made)) =
           subst (λ (x : Op (Node K V)). SlotsNoted (known_after acting (told_of x out (seen_of m x out)) known) (after m x out)) (sym is_room)
           (subst (λ (x : Out (Node K V)). SlotsNoted (known_after acting (told_of (Room bucket) x (seen_of m (Room bucket) x)) known) (after m (Room bucket) x)) (sym is_made)
           (room_noted bucket known m (subst (Can m) is_room can) noted))
 
 pub slots_begin : (K V : Type 0) → SlotsBegin K V
-slots_begin K V roots = record { some = λ l. absurd (omega (arith, l)); none = λ e. refl }
+slots_begin K V roots = record { some = λ l. absurd (omega (arith, l)); none = λ e. refl; whole = omega arith }
 
 module _ (K V S : Type 0) (same : K → K → Bool) (hash : K → ℕ) where
   pub calls_note_slots : CallsNoteSlots K V S same hash

@@ -1,7 +1,8 @@
 -- That words of slots are noted just where there are some, and what is promised of each kind of step.
-use Rattle.std.specs.Prelude.{◌≡◌, ◌<◌, ℕ, Bool, [], Some, IsSome}
+use Rattle.std.specs.Prelude.{◌≡◌, ◌<◌, ◌+◌, ℕ, Bool, [], length, Some, IsSome}
 use Rattle.papaya_moments.specs.Given.SeizeWords.declared.at.At.TheVariants.{Slot}
 use Rattle.papaya_moments.specs.Given.SeizeWords.Mem.{Mem, word_at}
+use Rattle.papaya_moments.specs.Given.SeizeWords.Place.{capacity}
 use Rattle.papaya_moments.specs.Given.Seize.declared.progress.Progress.{Progress}
 use Rattle.papaya_moments.specs.Given.Seize.declared.rows.settle.Settled.{Settled}
 use Rattle.papaya_moments.specs.Given.Seize.declared.states.TheConstants.{HEAD}
@@ -24,10 +25,11 @@ use Rattle.papaya_moments.specs.Given.Executor.declared.worker.Work.TheVariants.
 use Rattle.papaya_moments.specs.Given.Finishes.Endings.{Finishing}
 use Rattle.papaya_moments.specs.Given.Finishes.Makings.{Beginning}
 
--- where a bucket is noted the first slot has a word, and where none is there is no slot
+-- where a bucket is noted the first slot has a word, and where none is there is no slot; slots are as many as the buckets that are noted have
 pub record SlotsNoted {T : Type 0} (noted : Known) (m : Mem T) : Type 0 where
   pub some : 0 < noted.buckets → IsSome (word_at m (Slot 0 HEAD))
   pub none : noted.buckets ≡ 0 → m.slots ≡ []
+  pub whole : length m.slots + 32 ≡ capacity noted.buckets
 
 -- The promises: so it is before all events,
 abbrev pub SlotsBegin : Type 0 → Type 0 → Type 0

@@ -1,5 +1,5 @@
 -- By all that is said of an event that has happened it keeps its promises, and the run goes on with it.
-use Rattle.std.specs.Prelude.{◌≡◌, ◌==◌, ℕ, Bool, true, false, List}
+use Rattle.std.specs.Prelude.{◌≡◌, ◌==◌, ℕ, Bool, true, false, List, ◌∷◌}
 use Rattle.std.proofs.Common.{refl}
 use Rattle.papaya_schedules.specs.declared.effect.Effect.{Effect}
 use Rattle.papaya_schedules.specs.declared.event.Event.{Event}
@@ -11,13 +11,16 @@ use Rattle.papaya_schedules.specs.Entry.{Entry}
 use Rattle.papaya_schedules.specs.Handing.{gives_all}
 use Rattle.papaya_schedules.specs.InTurn.{ComesRight}
 use Rattle.papaya_schedules.specs.Terms.{Terms}
-use Rattle.papaya_finds.specs.Little.{ReclaimsAll}
+use Rattle.papaya_schedules.specs.Runs.{IsLegal}
+use Rattle.papaya_effects.specs.Known.{known}
+use Rattle.papaya_finds.specs.Little.{ReclaimsAll, WhereAll}
+use Rattle.papaya_legal.proofs.Legal.{bounded_events_are_legal}
 use Rattle.papaya_scheduler.specs.Played.{entry_of}
 use Rattle.papaya_scheduler.specs.declared.played.Played.{Played}
 use Rattle.papaya_scheduler.specs.declared.scheduler.Scheduler.{Scheduler}
 use Rattle.papaya_running.specs.Asked.{FindsBy, Happens, HappensAt, Holds, is_of_calls}
 use Rattle.papaya_running.specs.Keeping.{IsAskedOf, IsNotRefused}
-use Rattle.papaya_running.specs.OfAll.{IsLeftOfAllBut, KeepsAll}
+use Rattle.papaya_running.specs.OfAll.{BehindIsSaid, KeepsAll}
 use Rattle.papaya_running.specs.OfCalls.{KeepsAt, Runs, RunsOn}
 use Rattle.papaya_running.specs.OfRows.{HasNotBegun, KeepsRunAt, is_of_rows}
 use Rattle.papaya_running.specs.OfSetups.{KeepsSetup, is_of_setups}
@@ -39,6 +42,12 @@ module _ {K V : Type 0} where
   is_setup (event.ShowShape name) all calls rows = refl
   is_setup _ all calls rows = absurd (cc (all, calls, rows))
 
+  -- of one that does not reclaim all nothing is said that it reclaims
+  reclaims_none : (its : Event K V) (outcome : Outcome V) → gives_all its ≡ false → (P : Type 0) → WhereAll its outcome P
+  reclaims_none event.ReclaimAll outcome none P = absurd (cc none)
+  reclaims_none event.Close outcome none P = absurd (cc none)
+  reclaims_none _ outcome none P = tt
+
   -- one that reclaims all finds what it must to come to what is right
   all_right : (its : Event K V) → gives_all its ≡ true → (terms : Terms) (log : List (Entry K V)) (e : Entry K V) → FindsBy terms log e its
   all_right event.ReclaimAll all terms log e = tt
@@ -53,21 +62,38 @@ module _ {K V S : Type 0} (same : K → K → Bool) (hash : K → ℕ) (is_first
   it : Happens same hash terms log e new
   it = happens terms log first holds
 
-  -- an event that does not reclaim all,
-  pub goes_on : KeepsAt same hash its played old new → KeepsRunAt same hash its played old new → KeepsSetup same hash its played old new → IsAskedOf terms log e
-      → RunsOn same hash terms log e new
-  goes_on calls rows setups asked = by (is_of_calls its) (is_of_rows its) refl refl
+  -- one that reclaims all,
+  of_all : KeepsAll same hash its played old new → gives_all its ≡ true → BehindIsSaid K V S same hash → RunsOn same hash terms log e new × ReclaimsAll log e
+  of_all keeps all behind = keeps all terms log holds runs it.played (record { right = (it.plays (all_right its all terms log e)).right; but = behind terms log old runs })
+
+  -- and any other
+  of_others : KeepsAt same hash its played old new → KeepsRunAt same hash its played old new → KeepsSetup same hash its played old new → gives_all its ≡ false → IsAskedOf terms log e → RunsOn same hash terms log e new
+  of_others calls rows setups none asked = by (is_of_calls its) (is_of_rows its) refl refl
     where
       right : ComesRight terms log e
       right = (it.plays asked.right).right
 
       by : (p q : Bool) → is_of_calls its ≡ p → is_of_rows its ≡ q → RunsOn same hash terms log e new
-      by true q is of_rows = let left = asked.calls is in calls is terms log runs left.1 (record { right = right; but = left.0 })
+      by true q is of_rows = calls is terms log runs (record { right = right; but = asked.calls is })
       by false true is of_rows =
           let left = asked.rows of_rows in
           rows of_rows terms log holds runs it.played (record { right = right; but = left.0 }) (not_begun its played.outcome played.effects.items old new left.1)
-      by false false is of_rows = setups (is_setup its asked.kind is of_rows) terms log runs it.played right
+      by false false is of_rows = setups (is_setup its none is of_rows) terms log runs it.played right
 
-  -- and one that reclaims all
-  pub all_goes_on : KeepsAll same hash its played old new → gives_all its ≡ true → IsLeftOfAllBut same hash terms log old runs → RunsOn same hash terms log e new × ReclaimsAll log e
-  all_goes_on keeps all left = keeps all terms log holds runs it.played (record { right = (it.plays (all_right its all terms log e)).right; but = left })
+  goes_on : KeepsAt same hash its played old new → KeepsRunAt same hash its played old new → KeepsSetup same hash its played old new → KeepsAll same hash its played old new → BehindIsSaid K V S same hash
+      → IsAskedOf terms log e → RunsOn same hash terms log e new × ReclaimsAll log e
+  goes_on calls rows setups all behind asked = by (gives_all its) refl
+    where
+      by : (q : Bool) → gives_all its ≡ q → RunsOn same hash terms log e new × ReclaimsAll log e
+      by true is = of_all all is behind
+      by false none = (of_others calls rows setups none asked, reclaims_none its played.outcome none _)
+
+  -- so it is legal, and the run goes on
+  pub legal_on : KeepsAt same hash its played old new → KeepsRunAt same hash its played old new → KeepsSetup same hash its played old new → KeepsAll same hash its played old new → BehindIsSaid K V S same hash
+      → IsAskedOf terms log e → IsLegal same terms log e × Runs same hash terms (e ∷ log) new
+  legal_on calls rows setups all behind asked =
+      let on = goes_on calls rows setups all behind asked in (
+        bounded_events_are_legal K V same on.0.runs.stands.name terms log e (known new.logged.notes) on.0.runs.stands.scene (it.plays asked.right).right it.makes it.does on.0.legal on.0.runs.shows on.1
+            asked.bounded,
+        on.0.runs,
+      )

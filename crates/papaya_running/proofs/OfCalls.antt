@@ -8,6 +8,7 @@ pub mod Steps
 pub mod Found
 pub mod Ends
 pub mod Taken
+pub mod Walked
 pub mod Quiet
 pub mod AsBefore
 pub mod Again

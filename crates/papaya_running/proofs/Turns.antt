@@ -14,10 +14,9 @@ use Rattle.papaya_schedules.specs.After.{AtEachEvent, moment}
 use Rattle.papaya_schedules.specs.Beginning.{at_work}
 use Rattle.papaya_schedules.specs.Entry.{Entry, acted_on, caller_of, is_busy}
 use Rattle.papaya_schedules.specs.Moment.{Place, Deferral, MapThere, TableThere, Moment, start}
-use Rattle.papaya_schedules.specs.Runs.{Lists, ShowsMaps, log_of, log_on, trace_of}
+use Rattle.papaya_schedules.specs.Runs.{IsLegal, IsLegalLog, Lists, ShowsMaps, log_of, log_on, trace_of}
 use Rattle.papaya_schedules.specs.Terms.{Terms}
 use Rattle.papaya_schedules.specs.Views.{is_in_map, is_retired}
-use Rattle.papaya_legal.specs.CallEvents.{IsLegalBut}
 use Rattle.papaya_scheduler.specs.Played.{entry_of}
 use Rattle.papaya_named.specs.Seen.{named, named_of}
 use Rattle.papaya_scheduler.specs.declared.played.Played.{Played}
@@ -28,7 +27,8 @@ use Rattle.papaya_running.specs.Asked.{Happens, Holds}
 use Rattle.papaya_running.specs.Back.{BackSoFar, ReclaimsBy, ReclaimsRight, TellsBack}
 use Rattle.papaya_running.specs.Ending.{shown_of, told_map}
 use Rattle.papaya_running.specs.Keeping.{IsAskedOf}
-use Rattle.papaya_running.specs.OfCalls.{Runs, RunsOn}
+use Rattle.papaya_running.specs.OfAll.{BehindIsSaid}
+use Rattle.papaya_running.specs.OfCalls.{Runs}
 use Rattle.papaya_running.specs.Run.{GoesRight, IsLegalRun, IsRightRun, RunsSoFar, SoFar, TellsMost, log_so}
 use Rattle.papaya_tally.specs.Tally.{Tells, TellsAll, TellsMoment, counted, deferral, flag_of}
 use Rattle.papaya_running.specs.declared.record.Record.{Record}
@@ -96,7 +96,7 @@ module _ {K V S : Type 0} (same : K → K → Bool) (hash : K → ℕ) (terms : 
 
       -- the event has happened, too
       pub next_so : {p2 : Scheduler K V S} → GoesRight terms log e → Holds same hash terms (moment (e ∷ log)) p2
-          → (Runs same hash terms log p → IsAskedOf terms log e → RunsOn same hash terms log e p2)
+          → (Runs same hash terms log p → BehindIsSaid K V S same hash → IsAskedOf terms log e → IsLegal same terms log e × Runs same hash terms (e ∷ log) p2)
           → SoFar same hash terms (events ++ event ∷ []) rec2 tally2 p2
       next_so {p2} goes holds on = record {
         outcomes = one_more rec.outcomes.items rec2.outcomes.items played.outcome outcomes so.outcomes;
@@ -106,9 +106,9 @@ module _ {K V S : Type 0} (same : K → K → Bool) (hash : K → ℕ) (terms : 
         goes = subst (AtEachEvent (GoesRight terms)) (sym more) (goes, so.goes);
         holds = subst (λ (l : List (Entry K V)). Holds same hash terms (moment l) p2) (sym more) holds;
         told = subst (λ (l : List (Entry K V)). TellsMoment tally2 (moment l)) (sym more) tells_then;
-        runs = subst (λ (l : List (Entry K V)). RunsSoFar same hash terms l p2) (sym more) (λ asked.
-            (let before = so.runs asked.1 in
-            let next = on before.1 asked.0 in ((next.legal, before.0), next.runs)));
+        runs = subst (λ (l : List (Entry K V)). RunsSoFar same hash terms l p2) (sym more) (λ behind asked.
+            (let before = so.runs behind asked.1 in
+            let next = on before.1 behind asked.0 in ((next.0, before.0), next.1)));
       }
 
       -- and what it reclaims has come back
@@ -139,7 +139,7 @@ start_so {K} {V} same hash terms rec tally p outcomes steps effects trace pairs 
     behind = ap (map deferral) behind;
     flags = flags;
   });
-  runs = subst (λ (l : List (Entry K V)). RunsSoFar same hash terms l p) (sym none) (λ asked. (tt, runs));
+  runs = subst (λ (l : List (Entry K V)). RunsSoFar same hash terms l p) (sym none) (λ behind asked. (tt, runs));
 }
   where
     none : log_so {K = K} {V = V} [] rec ≡ []
@@ -203,8 +203,8 @@ module _ {K V S : Type 0} (same : K → K → Bool) (hash : K → ℕ) (terms : 
         back = subst (λ (l : List (Entry K V)). AtEachEvent ReclaimsRight l → TellsBack (moment l) run) (sym same_log) back;
       }
 
-  -- and each of its events is legal, as far as that is said
-  pub legal_so : (run : Run K V) → run.outcomes ≡ rec.outcomes → run.steps ≡ rec.steps → run.effects ≡ rec.effects → IsLegalRun same terms events run
-  legal_so run outcomes steps effects asked =
+  -- and each of its events is legal, by what is still asked
+  pub legal_so : (run : Run K V) → run.outcomes ≡ rec.outcomes → run.steps ≡ rec.steps → run.effects ≡ rec.effects → IsLegalRun S same terms events run
+  legal_so run outcomes steps effects behind asked =
       let same_log : log_of events run ≡ log_so events rec = λ i. log_on [] events (outcomes i).items (steps i).items (map (λ v. v.items) (effects i).items) in
-      subst (AtEachEvent (IsLegalBut same terms)) (sym same_log) (so.runs (subst (AtEachEvent (IsAskedOf terms)) same_log asked)).0
+      subst (IsLegalLog same terms) (sym same_log) (so.runs (behind hash) (subst (AtEachEvent (IsAskedOf terms)) same_log asked)).0

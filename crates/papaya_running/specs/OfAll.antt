@@ -26,6 +26,10 @@ module _ {K V S : Type 0} (same : K → K → Bool) (hash : K → ℕ) (terms : 
     pub right : ComesRight terms log e
     pub but : IsLeftOfAllBut run
 
+-- So it is wherever a run has come.
+abbrev pub BehindIsSaid : (K V S : Type 0) → (K → K → Bool) → (K → ℕ) → Type 0
+BehindIsSaid K V S same hash = (terms : Terms) (log : List (Entry K V)) (p : Scheduler K V S) (run : Runs same hash terms log p) → IsLeftOfAllBut same hash terms log p run
+
 module _ {K V S : Type 0} (same : K → K → Bool) (hash : K → ℕ) where
   -- What is promised of one, with what is left: it keeps its promises, all is back, and the run goes on.
   abbrev pub KeepsAll : Event K V → Played V → (old new : Scheduler K V S) → Type 0

@@ -14,7 +14,6 @@ use Rattle.papaya_histories.specs.Given.Schedules.declared.call.Reply.{Reply}
 use Rattle.papaya_histories.specs.Given.Schedules.declared.call.Reply.TheVariants.{Aborts}
 use Rattle.papaya_histories.specs.Given.Schedules.declared.effect.Effect.{Effect}
 use Rattle.papaya_histories.specs.Given.Schedules.declared.event.Event.{Event}
-use Rattle.papaya_histories.specs.Given.Schedules.declared.event.Event.TheVariants as events
 use Rattle.papaya_histories.specs.Given.Schedules.declared.outcome.Outcome.{Outcome}
 use Rattle.papaya_histories.specs.Given.Schedules.declared.outcome.Outcome.TheVariants.{Answered}
 use Rattle.papaya_histories.specs.Given.Schedules.After.{moment, moments_from}
@@ -103,21 +102,14 @@ module _ (K V S : Type 0) (same : K → K → Bool) (hash : K → ℕ) where
       let told = outcome_of known2 (kind_of c.call) value said in
       ComesAs c.call told → TellsValue c.call c.replies told → ComesSo known2 c.call c.replies said told × TellsOf same log m map known2 said told c.call)
 
-module _ {K V : Type 0} where
-  -- Of which events in turn this is said: of each but one that asks a walk for its next pair.
-  abbrev pub IsSaid : Event K V → Outcome V → Type 0
-  IsSaid (events.Next caller) outcome = ⊥
-  IsSaid event outcome = Unit {0}
-
 module _ {K V S : Type 0} (same : K → K → Bool) (hash : K → ℕ) where
-  -- What is promised of such an event that is in turn, with what is left: it keeps its promises, and the run goes on.
+  -- What is promised of an event of a call that is in turn, with what is left: it keeps its promises, and the run goes on.
   abbrev pub KeepsDue : Event K V → Played V → (old new : Scheduler K V S) → Type 0
   KeepsDue event played old new =
-      IsSaid event played.outcome → (terms : Terms) (log : List (Entry K V)) → Runs same hash terms log old → is_kept_out terms event (moment log) ≡ false
-      → IsLeft terms log (entry_of event played) → RunsOn same hash terms log (entry_of event played) new
+      (terms : Terms) (log : List (Entry K V)) → Runs same hash terms log old → is_kept_out terms event (moment log) ≡ false → IsLeft terms log (entry_of event played)
+      → RunsOn same hash terms log (entry_of event played) new
 
-  -- And so it is of an event of a call that is kept out, whichever it is.
+  -- And so it is of one that is kept out.
   abbrev pub KeepsAt : Event K V → Played V → (old new : Scheduler K V S) → Type 0
   KeepsAt event played old new =
-      is_of_calls event ≡ true → (terms : Terms) (log : List (Entry K V)) → Runs same hash terms log old → (is_kept_out terms event (moment log) ≡ false → IsSaid event played.outcome)
-      → IsLeft terms log (entry_of event played) → RunsOn same hash terms log (entry_of event played) new
+      is_of_calls event ≡ true → (terms : Terms) (log : List (Entry K V)) → Runs same hash terms log old → IsLeft terms log (entry_of event played) → RunsOn same hash terms log (entry_of event played) new

@@ -24,7 +24,7 @@ mod StepSays
 mod SteppedTo
 mod StepsOn
 mod SweepSays
-mod SweepSteps
+pub mod SweepSteps
 mod TakenBy
 mod Waiting
 mod WaitsFor

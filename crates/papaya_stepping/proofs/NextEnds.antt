@@ -55,7 +55,7 @@ use Rattle.papaya_stepping.proofs.AfterEffects.{closed_stays, mapped_stays}
 use Rattle.papaya_scheduler.proofs.Here.{Here, HereAs, here_at}
 use Rattle.papaya_rows.proofs.Lists.{changed_at, removed_at}
 use Rattle.papaya_stepping.proofs.NextBegins.{has_walk, walk_begins}
-use Rattle.papaya_stepping.proofs.NextOn.{alike, all_did, few_all, follows_all, goes_as_said, here, is_ready, its_place, its_sweep, its_walk, leads_is, last_did, midst_w, saying, shown, then_at, then_next, under_way}
+use Rattle.papaya_stepping.proofs.NextOn.{alike, all_did, follows_all, goes_as_said, here, idle_all, is_ready, its_place, its_sweep, its_walk, leads_is, last_did, midst_w, saying, shown, then_at, then_next, under_way}
 use Rattle.papaya_stepping.proofs.NextSays.{NextSays}
 use Rattle.papaya_stepping.proofs.OneStep.{over_next}
 use Rattle.papaya_stepping.proofs.PlaysAgain.{busy_stands}
@@ -216,6 +216,7 @@ module _ {K V S : Type 0} (same : K → K → Bool) (hash : K → ℕ) (terms : 
         plays = plays same hash terms log (Next own) old due e refl (out_of_turn IsNext (shows_now (call_of own m)) (Refused Busy) (shows_by same hash terms log old own due.played None none) refl)
             (stands_elsewhere same hash terms (come_to own (Refused Busy) 0 m) old (busy_stands same hash terms log own false old due.played) (m.events + 1) m.is_mapped m.is_closed
             (m.is_alone && is_alone_on e m) m.there m.slots m.sheltered m.remains refl refl refl refl);
+        idle = refl;
         makes = refl;
         does = omega arith;
         is_quiet = refl;
@@ -308,6 +309,10 @@ module _ {K V S : Type 0} (same : K → K → Bool) (hash : K → ℕ) (terms : 
       is_next : IsNext outcome
       is_next = subst (λ (o : Outcome V). IsNext o) outcome_is ends.is_next
 
+      -- none of its steps has done anything
+      idle : effects ≡ []
+      idle = follows_all same hash terms own place m n [] mid effects p walked midst said step ∙ idle_all same hash terms own place m n [] mid effects p walked midst said step
+
       pub plays_next : PlaysNext same hash terms log (entry (Next own) outcome steps effects) then_new
       plays_next =
           let e = entry (Next own) outcome steps effects in record {
@@ -315,9 +320,8 @@ module _ {K V S : Type 0} (same : K → K → Bool) (hash : K → ℕ) (terms : 
                 (stands_elsewhere same hash terms (come_to own outcome steps w) then_new stands_told (m.events + 1) m.is_mapped m.is_closed (m.is_alone && is_alone_on e m) w.there (slots_on outcome m.slots)
                 w.sheltered m.remains (sym (mapped_stays (Some own) (option_map (λ x. x.map) (call_of own m)) effects m)) (sym (closed_stays (Some own) (option_map (λ x. x.map) (call_of own m)) effects m)) refl
                 (sym (remains_stay (Some own) (option_map (λ x. x.map) (call_of own m)) effects m)));
+            idle = idle;
             makes = makes_next K V own (stands_or (call_of own m)) steps outcome is_next;
-            does = subst (λ (k : ℕ). sum_by weight effects ≤ k) (sym comes.2)
-                (subst (λ (l : List Effect). sum_by weight l ≤ n + 1) (sym (follows_all same hash terms own place m n [] mid effects p walked midst said step))
-                (few_all same hash terms own place m n [] mid effects p walked midst said step));
+            does = subst (λ (l : List Effect). sum_by weight l ≤ steps) (sym idle) (omega arith);
             is_quiet = next_quiet K V effects outcome is_next;
           }

@@ -1,5 +1,5 @@
--- The steps of a walk to its next pair: what each says, and that the walk goes on over the places of its table.
-use Rattle.std.specs.Prelude.{◌≡◌, ◌<◌, ◌⊎◌, ◌≤◌, ◌+◌, ◌^◌, ℕ, Bool, false, List, [], ◌++◌, map, slice_get, sum_by, Option, Some}
+-- The steps of a walk to its next pair: what each says, that it does nothing, and that the walk goes on over the places of its table.
+use Rattle.std.specs.Prelude.{◌≡◌, ◌<◌, ◌⊎◌, ◌≤◌, ◌+◌, ◌^◌, ℕ, Bool, false, List, [], ◌++◌, map, slice_get, Option, Some}
 use Rattle.std.proofs.Common.{refl, sym, ap, subst, ◌∙◌, inl, inr, arith}
 use Rattle.std.proofs.lemmas.List.{append_assoc}
 use Rattle.papaya_histories.specs.Given.Tables.declared.node.Node.{Node}
@@ -14,14 +14,15 @@ use Rattle.papaya_raw.specs.declared.machines.progress.Progress.TheVariants as p
 use Rattle.papaya_runs.specs.Same.{is_same}
 use Rattle.papaya_schedules.specs.declared.effect.Effect.{Effect}
 use Rattle.papaya_schedules.specs.Effects.{with_effects}
-use Rattle.papaya_schedules.specs.Steps.{weight}
 use Rattle.papaya_schedules.specs.Moment.{UnderWay as CallThere, Moment}
 use Rattle.papaya_schedules.specs.Terms.{Terms}
 use Rattle.papaya_histories.specs.Given.Callers.Together.{UnderWay, OnKey, ForRoom, Counting, OverAll, Together}
+use Rattle.papaya_histories.specs.Given.Effects.Effects.{effects_of}
 use Rattle.papaya_histories.specs.Given.Effects.Known.{known}
 use Rattle.papaya_histories.specs.Given.Effects.declared.acting.Acting.TheVariants as acts
 use Rattle.papaya_histories.specs.Given.Finishes.Machines.{machine_of}
 use Rattle.papaya_histories.specs.Given.Finishes.Maps.{Standing}
+use Rattle.papaya_histories.specs.Given.Teller.declared.changed.Changed.TheVariants.{Nothing}
 use Rattle.papaya_histories.specs.Given.Executor.IsAt.{HasCall, IsAt, Scene, slot_of}
 use Rattle.papaya_histories.specs.Given.Executor.Stepping.{StepLeads, StepsFrom, has_ended, scene_after}
 use Rattle.papaya_histories.specs.Given.Executor.declared.executor.Executor.{Executor}
@@ -32,7 +33,6 @@ use Rattle.papaya_logged.specs.Calling.{CallGoesOn, step_did}
 use Rattle.papaya_logged.specs.Shown.{IsShown}
 use Rattle.papaya_logged.specs.declared.logged.Logged.{Logged}
 use Rattle.papaya_histories.proofs.Given.Moments.After.{effects_after}
-use Rattle.papaya_promises.proofs.Weights.{operations_are_single, parts_add_up}
 use Rattle.papaya_scheduler.specs.Played.{StandsAs}
 use Rattle.papaya_named.specs.Seen.{Seen, seen, seen_of}
 use Rattle.papaya_stepping.specs.Stepping.{IsMidWalk, IsStepOf, IsWalking, ReadyAt, WalksFar}
@@ -43,7 +43,7 @@ use Rattle.papaya_scheduler.specs.declared.scheduler.Scheduler.{Scheduler}
 use Rattle.papaya_stepping.proofs.AfterEffects.{calls_seen, closed_stays, mapped_stays}
 use Rattle.papaya_scheduler.proofs.Here.{HereAs, here_as_at}
 use Rattle.papaya_rows.proofs.Lists.{set_itself}
-use Rattle.papaya_stepping.proofs.NextSays.{IsNextSaying, NextSays, over_says, words_say}
+use Rattle.papaya_stepping.proofs.NextSays.{IsNextSaying, NextSays, over_idle, over_says, words_idle, words_say}
 use Rattle.papaya_stepping.proofs.OneStep.{goes_next}
 use Rattle.papaya_scheduler.proofs.RanOn.{maps_named, there_stays}
 use Rattle.papaya_stepping.proofs.StepSays.{goes_as, the}
@@ -113,6 +113,17 @@ module _ {K V : Type 0} (same : K → K → Bool) (hash : K → ℕ) (n : ℕ) (
       by (inl (words, low, inside, sized)) = words_say same hash old new it.sweep it.walks machine said from words inside sized
       by (inr (over, none)) = over_says same hash old new it.sweep it.walks machine said from over
 
+  -- and that it changes nothing
+  pub changes_nothing : {S : Type 0} (old new : Executor K V S) (machine : Machine K V K) (said : Progress (Node K V)) → StepsFrom same hash (machine_of u) old new machine said → IsWalk → new.memory.changed ≡ Nothing
+  changes_nothing {S} old new machine said steps it = by it.over
+    where
+      from : StepsFrom same hash (kinds.Sweep it.sweep) old new machine said
+      from = subst (λ (x : Machine K V K). StepsFrom same hash x old new machine said) it.is steps
+
+      by : GoesOver it.sweep → new.memory.changed ≡ Nothing
+      by (inl (words, low, inside, sized)) = words_idle same hash old new it.sweep it.walks machine said from words
+      by (inr (over, none)) = over_idle same hash old new it.sweep it.walks machine said from over
+
 module _ {K V S : Type 0} (same : K → K → Bool) (hash : K → ℕ) (terms : Terms) (own : List ℕ) (n : ℕ) (w : Moment K V) (p : Scheduler K V S) (stands : StandsAs (WalksFar own n) same hash terms w p)
     (place : ℕ) (at_place : ReadyAt own place p) where
   abbrev pub here : HereAs (WalksFar own n) same hash terms w p stands own place
@@ -174,6 +185,11 @@ module _ {K V S : Type 0} (same : K → K → Bool) (hash : K → ℕ) (terms : 
     pub saying : (swept : Sweep) × ((leads d.map here.way.0 here.way.1).1 ≡ kinds.Sweep swept) × (swept.purpose ≡ its_sweep.sweep.purpose) × NextSays its_sweep.sweep said swept
     saying = as_sweep its_sweep.sweep (leads d.map here.way.0 here.way.1).1 said
         (says same hash n stands.scene d.map d.number st.0 together here.way.0 here.way.1 its_walk.1 p.logged.executor new.executor (leads d.map here.way.0 here.way.1).1 said (leads d.map here.way.0 here.way.1).3 its_sweep)
+
+    -- it does nothing
+    pub did_nothing : did ≡ []
+    did_nothing = ap (effects_of (acts.Call d.number d.map) (known p.logged.notes))
+        (changes_nothing same hash n stands.scene d.map d.number st.0 together here.way.0 here.way.1 its_walk.1 p.logged.executor new.executor (leads d.map here.way.0 here.way.1).1 said (leads d.map here.way.0 here.way.1).3 its_sweep)
 
     -- where it is under way still
     pub under_way : has_ended said ≡ false → (x : UnderWay K V K) × (then_next ≡ Some x)
@@ -252,8 +268,8 @@ module _ {K V S : Type 0} (same : K → K → Bool) (hash : K → ℕ) (terms : 
     pub follows_all : after ≡ before ++ (midst.did ++ last_did)
     follows_all = (leads_is its_place.way.0 its_place.way.1).1 ∙ ap (λ (l : List Effect). l ++ last_did) midst.follows ∙ append_assoc before midst.did last_did
 
-    pub few_all : sum_by weight (midst.did ++ last_did) ≤ n + 1
-    few_all = parts_add_up n 1 midst.did last_did midst.few (operations_are_single (acts.Call its_place.caller.number its_place.caller.map) (known p.logged.notes) new.logged.executor.memory.changed).0
+    pub idle_all : midst.did ++ last_did ≡ []
+    idle_all = ap (λ (l : List Effect). l ++ last_did) midst.idle ∙ did_nothing same hash terms own n midst_w p midst.stands place midst.ready said new.logged mid after leads_is
 
   pub mid_next : IsStepOf same hash place progress.Goes mid after p new → IsMidWalk same hash terms own place m (n + 1) before after new
   mid_next step = record {
@@ -261,7 +277,7 @@ module _ {K V S : Type 0} (same : K → K → Bool) (hash : K → ℕ) (terms : 
     call_is = midst.call_is;
     did = midst.did ++ last_did progress.Goes step;
     follows = follows_all progress.Goes step;
-    few = few_all progress.Goes step;
+    idle = idle_all progress.Goes step;
     stands = subst (λ (x : Scheduler K V S). StandsAs (WalksFar own (n + 1)) same hash terms (with_effects (Some own) (Some c.map) (midst.did ++ last_did progress.Goes step) m) x) (sym step.rest)
         (subst (λ (x : Moment K V). StandsAs (WalksFar own (n + 1)) same hash terms x (record p { logged = new.logged })) (all_did progress.Goes step)
         (walk_goes same hash terms own n midst_w p midst.stands place midst.ready new.logged mid after (leads_is progress.Goes step)));
@@ -273,7 +289,7 @@ module _ {K V S : Type 0} (same : K → K → Bool) (hash : K → ℕ) (terms : 
   pub mid_first : (p : Scheduler K V S) (stands : StandsAs (WalksFar own 0) same hash terms m p) → ReadyAt own place p → (list : List Effect) → list ≡ list ++ [] → IsMidWalk same hash terms own place m 0 list list p
   mid_first p stands ready list none =
       let it = here same hash terms own 0 m p stands place ready in
-      record { call = it.call; call_is = it.call_is; did = []; follows = none; few = omega arith; stands = stands; ready = ready }
+      record { call = it.call; call_is = it.call_is; did = []; follows = none; idle = refl; stands = stands; ready = ready }
 
   module _ (n : ℕ) (before mid : List Effect) (p : Scheduler K V S) (midst : IsMidWalk same hash terms own place m n before mid p) where
     abbrev w : Moment K V

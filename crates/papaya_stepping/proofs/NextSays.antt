@@ -1,4 +1,4 @@
--- What a step of a walk says that was asked for its next pair: it goes on to the next place, shows a pair, or has shown all.
+-- What a step of a walk says that was asked for its next pair: it goes on to the next place, shows a pair, or has shown all; and it changes nothing.
 use Rattle.std.specs.Prelude.{◌≡◌, ◌<◌, ◌≤◌, ◌^◌, ◌==◌, ◌&&◌, ℕ, nat_lt, Bool, true, false, if◌then◌else◌}
 use Rattle.std.proofs.Common.{refl, sym, ap, subst, arith}
 use Rattle.papaya_histories.specs.Given.SeizeWords.Mem.{Mem, Gives, value_at}
@@ -82,3 +82,10 @@ module _ {K V S : Type 0} (same : K → K → Bool) (hash : K → ℕ) (old new 
 
   pub over_says : q.stands ≡ at.Over → IsNextSaying q (machine, said)
   over_says is = let s = subst At is steps in subst (λ (end : Machine K V K × Progress (Node K V)). IsNextSaying q end) (sym s.1) (refl, tt)
+
+  -- and nothing is told of it
+  pub words_idle : q.stands ≡ at.Words → new.memory.changed ≡ Nothing
+  words_idle is = let s = subst At is steps in s.1.1
+
+  pub over_idle : q.stands ≡ at.Over → new.memory.changed ≡ Nothing
+  over_idle is = let s = subst At is steps in s.2

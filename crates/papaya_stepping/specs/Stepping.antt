@@ -169,13 +169,13 @@ module _ {K V S : Type 0} (same : K → K → Bool) (hash : K → ℕ) (terms : 
     pub stands : StandsFor same hash terms (with_effects (Some own) (Some call.map) did m) p
     pub going : GoesAt own place p
 
-  -- In the midst of the steps to its next pair a walk goes over places, as many at least as it has taken steps.
+  -- In the midst of the steps to its next pair a walk goes over places, as many at least as it has taken steps, and has done nothing.
   pub record IsMidWalk (steps : ℕ) (before after : List Effect) (p : Scheduler K V S) : Type 0 where
     pub call : CallThere K V
     pub call_is : call_of own m ≡ Some call
     pub did : List Effect
     pub follows : after ≡ before ++ did
-    pub few : sum_by weight did ≤ steps
+    pub idle : did ≡ []
     pub stands : StandsAs (WalksFar own steps) same hash terms (with_effects (Some own) (Some call.map) did m) p
     pub ready : ReadyAt own place p
 
@@ -310,9 +310,10 @@ module _ {K V S : Type 0} (same : K → K → Bool) (hash : K → ℕ) where
   abbrev pub PlaysOnAt : Event K V → Played V → (old new : Scheduler K V S) → Type 0
   PlaysOnAt event played old new = (terms : Terms) (log : List (Entry K V)) → IsDue same hash terms log event old → PlaysOn terms log (entry_of event played) new
 
-  -- What is promised of the event by which a walk shows its next pair.
+  -- What is promised of the event by which a walk shows its next pair: it does nothing to pairs or tables.
   pub record PlaysNext (terms : Terms) (log : List (Entry K V)) (e : Entry K V) (p : Scheduler K V S) : Type 0 where
     pub plays : Plays same hash terms log e p
+    pub idle : e.effects ≡ []
     pub makes : MakesSteps e.event (stands_or (acting (caller_of e.event) (at_work e (moment log)))) e.steps e.outcome
     pub does : DoesFew (caller_of e.event) e.steps e.effects
     pub is_quiet : IsQuiet e.outcome e.effects

@@ -59,7 +59,7 @@ module _ {V : Type 0} where
   never_takes (Some (Decides q)) b a e = cc e
 
 -- the number of a pair by its word
-number_is : (by : Known) (word n : ℕ) → NamesPair by word n → number_by by word ≡ n
+pub number_is : (by : Known) (word n : ℕ) → NamesPair by word n → number_by by word ≡ n
 number_is by word n names = ap number_in names
 
 -- what is asked is told by the number of the pair

@@ -1,7 +1,7 @@
 -- The last step of an event of a call: the event is legal but for what it comes to, and the run goes on with it.
-use Rattle.std.specs.Prelude.{◌≡◌, ◌≤◌, ◌+◌, ℕ, suc, Bool, true, List, ◌∷◌, not, ◌||◌, Option, Some}
+use Rattle.std.specs.Prelude.{◌≡◌, ◌⊎◌, ◌≤◌, ◌+◌, ℕ, suc, Bool, true, List, [], ◌∷◌, not, ◌||◌, Option, Some}
 use Rattle.std.specs.List.{list_any}
-use Rattle.std.proofs.Common.{ap, sym, subst, ◌∙◌, inl, arith}
+use Rattle.std.proofs.Common.{ap, sym, subst, ◌∙◌, arith}
 use Rattle.papaya_histories.specs.Given.SeizeWaiting.Held.{count}
 use Rattle.papaya_histories.specs.Given.SeizeWords.declared.fault.Fault.TheVariants.{Busy}
 use Rattle.papaya_histories.specs.Given.Schedules.declared.effect.Effect.{Effect}
@@ -46,7 +46,7 @@ use Rattle.papaya_running.specs.OfCalls.{RunsOn, TellsValue}
 use Rattle.papaya_running.proofs.OfCalls.Answers.{last_steps_tell}
 use Rattle.papaya_running.proofs.OfCalls.Found.{mask_is}
 use Rattle.papaya_running.proofs.OfCalls.Scenes.{stands_in}
-use Rattle.papaya_running.proofs.OfCalls.Steps.{HasCome, caller_is, follows, leads, named_then, noted_so, noted_then, shards_then, shown_then, size_then, then_known, then_now, then_scene}
+use Rattle.papaya_running.proofs.OfCalls.Steps.{HasCome, IsStep, as_told, caller_is, follows, leads, named_then, noted_so, noted_then, shards_then, shown_then, size_then, then_known, then_now, then_scene}
 use Rattle.papaya_running.proofs.OfCalls.Words.{not_busy, shows_as_told, tells_end}
 use Rattle.papaya_running.proofs.Remaining.{counted_in}
 
@@ -57,53 +57,60 @@ module _ {K V S : Type 0} (same : K → K → Bool) (hash : K → ℕ) (name : �
   abbrev e : Entry K V
   e = entry_of event played
 
-  abbrev by : Known
-  by = then_known same hash name terms log event beginning map i c place n mid played.effects.items p new played.outcome come step
+  abbrev its : IsStep same hash place mid played.effects.items p new
+  its = as_told same hash step
+
+  abbrev pub by : Known
+  by = then_known same hash name terms log event beginning map i c place n mid played.effects.items p new come its
 
   abbrev at_end : Scene K V
-  at_end = then_scene same hash name terms log event beginning map i c place n mid played.effects.items p new played.outcome come step
+  at_end = then_scene same hash name terms log event beginning map i c place n mid played.effects.items p new come its
 
   abbrev value : Option V
   value = step.caller.value
 
   noted : known new.logged.notes ≡ by
-  noted = noted_then same hash name terms log event beginning map i c place n mid played.effects.items p new played.outcome come step
+  noted = noted_then same hash name terms log event beginning map i c place n mid played.effects.items p new come its
 
   -- it has come to what its last step says
-  outcome_so : played.outcome ≡ outcome_of by (kind_of c.call) value step.said
+  pub outcome_so : played.outcome ≡ outcome_of by (kind_of c.call) value step.said
   outcome_so =
       step.outcome_is ∙ ap (λ (k : Known). outcome_of k step.caller.kind value step.said) noted
       ∙ ap (λ (k : Kind). outcome_of by k value step.said)
-      (ap (λ (x : Caller V). x.kind) (caller_is same hash name terms log event beginning map i c place n mid played.effects.items p new played.outcome come step) ∙ come.kind)
+      (ap (λ (x : Caller V). x.kind) (caller_is same hash name terms log event beginning map i c place n mid played.effects.items p new come its) ∙ come.kind)
 
-  module _ (begins : at_work e (moment log) ≡ beginning) (acted : acted_on event beginning ≡ Some map) (takes : takes_steps event ≡ true) (steps_are : played.steps ≡ n + 1)
-      (comes_as : ComesAs c.call played.outcome) (never : played.outcome ≡ Refused Busy → ⊥) (right : ComesRight terms log e)
-      (refused : (not (refuses event) || not (list_any is_made played.effects.items)) ≡ true) (values : TellsValue c.call c.replies played.outcome)
+  as_said : (P : Outcome V → Type 0) → P (outcome_of by (kind_of c.call) value step.said) → P played.outcome
+  as_said P so = subst P (sym outcome_so) so
+
+  -- what is told is as its last step says
+  abbrev pub Tells : Type 0
+  Tells = ComesSo by c.call c.replies step.said played.outcome × TellsOf same log come.now map by step.said played.outcome c.call × ShowsAsTold {K = K} by step.said played.outcome
+
+  -- so it is where it comes to what a call does that goes on by itself
+  pub tells_so : ComesAs c.call played.outcome → TellsValue c.call c.replies played.outcome → Tells
+  tells_so comes_as values =
+      let told = last_steps_tell K V S same hash name terms log event beginning map i c n mid come.now (known p.logged.notes) come.scene come.under come.midst p.logged.executor new.logged.executor
+      come.shown.is_at step.said (leads same hash name terms log event beginning map i c place n mid played.effects.items p new come its) value (subst (ComesAs c.call) outcome_so comes_as)
+      (subst (TellsValue c.call c.replies) outcome_so values) in (
+        as_said (λ (o : Outcome V). ComesSo by c.call c.replies step.said o) told.0,
+        as_said (λ (o : Outcome V). TellsOf same log come.now map by step.said o c.call) told.1,
+        as_said (ShowsAsTold {K = K} by step.said) (shows_as_told by (kind_of c.call) value c.call step.said (subst (ComesAs c.call) outcome_so comes_as)),
+      )
+
+  module _ (tells : Tells) (begins : at_work e (moment log) ≡ beginning) (acted : acted_on event beginning ≡ Some map) (takes : (takes_steps event ≡ true) ⊎ (played.effects.items ≡ [])) (steps_are : played.steps ≡ n + 1)
+      (never : played.outcome ≡ Refused Busy → ⊥) (right : ComesRight terms log e) (refused : (not (refuses event) || not (list_any is_made played.effects.items)) ≡ true)
       (finds : FindAll terms (moments_from c.begun log) (name i) map played.effects.items beginning) (slot : slot_of_call event (at_work e (moment log)) ≡ slot_of i)
       (active : ComesAlone event log → 1 ≤ count (slot_of i) (sets_in terms.batch_size log).active) (plays : IsPlayed same hash terms (e ∷ log) new) where
-    as_said : (P : Outcome V → Type 0) → P (outcome_of by (kind_of c.call) value step.said) → P played.outcome
-    as_said P so = subst P (sym outcome_so) so
-
-    tells : ComesSo by c.call c.replies step.said (outcome_of by (kind_of c.call) value step.said) × TellsOf same log come.now map by step.said (outcome_of by (kind_of c.call) value step.said) c.call
-    tells =
-        last_steps_tell K V S same hash name terms log event beginning map i c n mid come.now (known p.logged.notes) come.scene come.under come.midst p.logged.executor new.logged.executor come.shown.is_at
-        step.said (leads same hash name terms log event beginning map i c place n mid played.effects.items p new played.outcome come step) value (subst (ComesAs c.call) outcome_so comes_as)
-        (subst (TellsValue c.call c.replies) outcome_so values)
-
     ends : TellsEnd step.said played.outcome
     ends = as_said (TellsEnd step.said) (tells_end by (kind_of c.call) value step.said (λ is. never (outcome_so ∙ is)))
-
-    shows : ShowsAsTold {K = K} by step.said played.outcome
-    shows = as_said (ShowsAsTold {K = K} by step.said) (shows_as_told by (kind_of c.call) value c.call step.said (subst (ComesAs c.call) outcome_so comes_as))
 
     swept : IsSwept same terms log e
     swept =
         calls_are_swept K V S same hash name terms log beginning map i c n mid come.now (known p.logged.notes) come.scene come.under e come.midst p.logged.executor new.logged.executor come.shown.is_at
-        step.said (leads same hash name terms log event beginning map i c place n mid played.effects.items p new played.outcome come step) begins acted
-        (follows same hash name terms log event beginning map i c place n mid played.effects.items p new played.outcome come step)
+        step.said (leads same hash name terms log event beginning map i c place n mid played.effects.items p new come its) begins acted
+        (follows same hash name terms log event beginning map i c place n mid played.effects.items p new come its)
         (λ standing there. one_more standing
-        (mask_is same hash name terms log event beginning map i c place (moments_from c.begun log) n mid played.effects.items p new played.outcome come step standing there))
-        (as_said (λ (o : Outcome V). TellsOf same log come.now map by step.said o c.call) tells.1)
+        (mask_is same hash name terms log event beginning map i c place (moments_from c.begun log) n mid played.effects.items p new come its standing there)) tells.1
       where
         one_more : (standing : Standing K) → standing.setting.mask + 1 ≡ shards_of terms → suc standing.setting.mask ≡ shards_of terms
         one_more standing is = omega (arith, is)
@@ -111,25 +118,25 @@ module _ {K V S : Type 0} (same : K → K → Bool) (hash : K → ℕ) (name : �
     goes_on : IsLegalBut same terms log e × ShowsRun same name terms (e ∷ log) by at_end
     goes_on =
         call_events_run K V S same hash name terms log beginning map i c c_is first before run n mid come.now (known p.logged.notes) come.scene come.under e come.midst p.logged.executor new.logged.executor
-        come.shown.is_at come.size step.said (leads same hash name terms log event beginning map i c place n mid played.effects.items p new played.outcome come step) begins acted
-        (follows same hash name terms log event beginning map i c place n mid played.effects.items p new played.outcome come step) steps_are
-        (as_said (λ (o : Outcome V). ComesSo by c.call c.replies step.said o) tells.0) ends shows (inl takes) (not_busy played.outcome never) right finds swept refused
-        (noted_so same hash name terms log event beginning map i c place n mid played.effects.items p new played.outcome come step) slot active
+        come.shown.is_at come.size step.said (leads same hash name terms log event beginning map i c place n mid played.effects.items p new come its) begins acted
+        (follows same hash name terms log event beginning map i c place n mid played.effects.items p new come its) steps_are tells.0 ends tells.2
+        takes (not_busy played.outcome never) right finds swept refused
+        (noted_so same hash name terms log event beginning map i c place n mid played.effects.items p new come its) slot active
 
     -- the moment after it shows the executor in that scene
     after_run : ShowsRun same name terms (e ∷ log) (known new.logged.notes) at_end
     after_run = subst (λ (k : Known). ShowsRun same name terms (e ∷ log) k at_end) (sym noted) goes_on.1
 
-    abbrev its_left : ShowsRemains new.logged.executor.roots (then_now same hash name terms log event beginning map i c place n mid played.effects.items p new played.outcome come step) at_end
-    its_left = (shown_then same hash name terms log event beginning map i c place n mid played.effects.items p new played.outcome come step).counted.remains
+    abbrev its_left : ShowsRemains new.logged.executor.roots (then_now same hash name terms log event beginning map i c place n mid played.effects.items p new come its) at_end
+    its_left = (shown_then same hash name terms log event beginning map i c place n mid played.effects.items p new come its).counted.remains
 
     shown : IsShown same hash name (moment (e ∷ log)) new.logged at_end
     shown = record {
-      is_at = (shown_then same hash name terms log event beginning map i c place n mid played.effects.items p new played.outcome come step).is_at;
+      is_at = (shown_then same hash name terms log event beginning map i c place n mid played.effects.items p new come its).is_at;
       shows = after_run.calls.whole;
       kept = after_run.calls.kept;
       counted = counted_in same hash terms (moment (e ∷ log)) new plays at_end
-          (shown_then same hash name terms log event beginning map i c place n mid played.effects.items p new played.outcome come step).is_at its_left.lists its_left.left;
+          (shown_then same hash name terms log event beginning map i c place n mid played.effects.items p new come its).is_at its_left.lists its_left.left;
     }
 
     pub runs_on : RunsOn same hash terms log e new
@@ -140,7 +147,7 @@ module _ {K V S : Type 0} (same : K → K → Bool) (hash : K → ℕ) (name : �
             (named_then same hash name terms log event beginning map i c place n mid played.effects.items p new played.outcome come step);
         shows = after_run;
         come = events_bring_things K V terms log e had goes_on.0.life.finds;
-        size = size_then same hash name terms log event beginning map i c place n mid played.effects.items p new played.outcome come step;
-        shards = shards_then same hash name terms log event beginning map i c place n mid played.effects.items p new played.outcome come step;
+        size = size_then same hash name terms log event beginning map i c place n mid played.effects.items p new come its;
+        shards = shards_then same hash name terms log event beginning map i c place n mid played.effects.items p new come its;
       };
     }

@@ -13,26 +13,27 @@ use Rattle.papaya_schedules.specs.After.{moment}
 use Rattle.papaya_schedules.specs.Beginning.{with_call}
 use Rattle.papaya_schedules.specs.Entry.{Entry, nameless}
 use Rattle.papaya_schedules.specs.Handing.{is_made}
-use Rattle.papaya_schedules.specs.InTurn.{ComesRight}
+use Rattle.papaya_schedules.specs.InTurn.{ComesRight, ComesTo}
 use Rattle.papaya_schedules.specs.Terms.{Terms}
 use Rattle.papaya_schedules.specs.Views.{number_of}
 use Rattle.papaya_legal.specs.Over.{GoesOnBy}
 use Rattle.papaya_logged.specs.Calling.{MakesNoMore}
 use Rattle.papaya_scheduler.specs.Played.{Began, BeginsSo, HasBegun, IsPlayed, StandsFor, entry_of}
-use Rattle.papaya_named.specs.Seen.{is_named}
+use Rattle.papaya_named.specs.Seen.{is_named, ready_place}
 use Rattle.papaya_named.specs.declared.caller.Stands.{Stands as HowFar}
 use Rattle.papaya_named.specs.declared.caller.Stands.TheVariants as far
 use Rattle.papaya_scheduler.specs.declared.played.Played.{Played}
 use Rattle.papaya_scheduler.specs.declared.scheduler.Scheduler.{Scheduler}
 use Rattle.papaya_scheduler.proofs.Here.{Here, here_at}
 use Rattle.papaya_scheduler.proofs.Rights.{entry_is, quiet}
-use Rattle.papaya_stepping.specs.Stepping.{GoesAt, SaysAgain, StepsCome, TakenAs, TakenBy, TookSteps, TookWhole}
+use Rattle.papaya_stepping.specs.Stepping.{GoesAt, SaysAgain, StepsCome, TakenAs, TakenBy, TookNext, TookSteps, TookWhole}
 use Rattle.papaya_stepping.proofs.PlaysWhole.{goes_first, map_there}
 use Rattle.papaya_running.specs.OfCalls.{IsLeft, Runs, RunsOn}
 use Rattle.papaya_running.proofs.OfCalls.Again.{again_on}
 use Rattle.papaya_running.proofs.OfCalls.Begun.{begun_on, its}
 use Rattle.papaya_running.proofs.OfCalls.Quiet.{quiet_on, reads_of}
 use Rattle.papaya_running.proofs.OfCalls.Taken.{taken_on}
+use Rattle.papaya_running.proofs.OfCalls.Walked.{walked_on}
 use Rattle.papaya_running.proofs.OfCalls.Whole.{whole_on}
 
 module _ {K V S : Type 0} (same : K → K → Bool) (hash : K → ℕ) (old new : Scheduler K V S) (played : Played V) where
@@ -113,7 +114,7 @@ module _ {K V S : Type 0} (same : K → K → Bool) (hash : K → ℕ) (old new 
             let placed = sym is in
             let it = here_at same hash terms (moment log) old runs.stands own place placed in
             by_far (Step own refuse) own place placed left plays 1 refl
-            (λ goes come. taken_on same hash terms log old runs (Step own refuse) own refl refl place placed (λ x. refl) refl refl goes 1 played new come left (none_made refuse refused) plays)
+            (λ goes come. taken_on same hash terms log old runs (Step own refuse) own refl refl place placed (λ x. refl) refl played refl goes 1 new come left (none_made refuse refused) plays)
             it.caller.stands refl (took.0 place placed it.caller it.at)
 
     pub go_on : (own : List ℕ) (refuse : Bool) → TookSteps same hash most_steps own played old new → MakesNoMore refuse [] played.effects.items → IsLeft terms log (entry_of (Go own refuse) played)
@@ -128,7 +129,7 @@ module _ {K V S : Type 0} (same : K → K → Bool) (hash : K → ℕ) (old new 
             let placed = sym is in
             let it = here_at same hash terms (moment log) old runs.stands own place placed in
             by_far (Go own refuse) own place placed left plays most_steps refl
-            (λ goes come. taken_on same hash terms log old runs (Go own refuse) own refl refl place placed (λ x. refl) refl refl goes most_steps played new come left (none_made refuse refused) plays)
+            (λ goes come. taken_on same hash terms log old runs (Go own refuse) own refl refl place placed (λ x. refl) refl played refl goes most_steps new come left (none_made refuse refused) plays)
             it.caller.stands refl (took.0 place placed it.caller it.at)
 
     pub whole_goes_on : (guard on : List ℕ) (call : Call K V) → TookWhole same hash guard on call played old new → IsLeft terms log (entry_of (OneCall guard on call) played)
@@ -166,6 +167,17 @@ module _ {K V S : Type 0} (same : K → K → Bool) (hash : K → ℕ) (old new 
             stands_mid : StandsFor same hash terms (with_call nameless guard call (Some led.number) (moment log)) mid
             stands_mid = subst (λ (o : Option ℕ). StandsFor same hash terms (with_call nameless guard call o (moment log)) mid) (its same hash terms log old runs nameless guard on call mid led).0
                 (begins.stands refl)
+
+    -- one that asks a walk for its next pair
+    pub ask_on : (own : List ℕ) → TookNext same hash own played old new → ComesRight terms log (entry_of (Next own) played) → ComesTo terms log (moment log) (entry_of (Next own) played) (Next own) played.outcome
+        → played.effects.items ≡ [] → IsPlayed same hash terms (entry_of (Next own) played ∷ log) new → RunsOn same hash terms log (entry_of (Next own) played) new
+    ask_on own took right comes idle plays = by (ready_place own old.calls.items.items) refl
+      where
+        by : (o : Option ℕ) → ready_place own old.calls.items.items ≡ o → RunsOn same hash terms log (entry_of (Next own) played) new
+        by None is =
+            let says = took.1 is in
+            next_out terms log runs says.0 says.1 says.2 (logged_as old says.3 refl) (calls_as old says.3 refl) own right plays
+        by (Some place) is = walked_on same hash terms log old runs own place (sym is) played new (took.0 place (sym is)) right comes idle plays
 
   -- and one by which a call just begins
   module _ (terms : Terms) (log : List (Entry K V)) (runs : Runs same hash terms log old) (own guard on : List ℕ) (call : Call K V) (steps : played.steps ≡ 0)

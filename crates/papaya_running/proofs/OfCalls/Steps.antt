@@ -7,6 +7,8 @@ use Rattle.papaya_histories.specs.Given.Seize.World.{World, Request, Begin, Step
 use Rattle.papaya_histories.specs.Given.Tables.Nodes.{deferred_word}
 use Rattle.papaya_histories.specs.Given.Tables.declared.node.Node.{Node}
 use Rattle.papaya_histories.specs.Given.Tables.declared.setting.Setting.{Setting}
+use Rattle.papaya_histories.specs.Given.Raw.declared.machines.progress.Progress.{Progress}
+use Rattle.papaya_histories.specs.Given.Raw.declared.machines.progress.Progress.TheVariants as progress
 use Rattle.papaya_histories.specs.Given.Runs.Present.{slot_of_guard}
 use Rattle.papaya_histories.specs.Given.Runs.Same.{is_same}
 use Rattle.papaya_histories.specs.Given.Schedules.declared.effect.Effect.{Effect}
@@ -22,7 +24,7 @@ use Rattle.papaya_histories.specs.Given.Callers.Together.{UnderWay, HandsOver}
 use Rattle.papaya_histories.specs.Given.Effects.Effects.{effects_of, known_after}
 use Rattle.papaya_histories.specs.Given.Effects.Known.{Known, known}
 use Rattle.papaya_histories.specs.Given.Effects.declared.acting.Acting.TheVariants as acts
-use Rattle.papaya_histories.specs.Given.Executor.IsAt.{Scene, slot_of}
+use Rattle.papaya_histories.specs.Given.Executor.IsAt.{KeepsGiven, Scene, slot_of}
 use Rattle.papaya_histories.specs.Given.Executor.Stepping.{StepLeads, has_ended, scene_after}
 use Rattle.papaya_histories.specs.Given.Finishes.Maps.{Standing, IsSameMap}
 use Rattle.papaya_histories.specs.InEvent.{here_of}
@@ -32,6 +34,7 @@ use Rattle.papaya_legal.specs.Noted.{HaveCome}
 use Rattle.papaya_legal.proofs.Come.{calls_bring_things}
 use Rattle.papaya_legal.proofs.Noted.{calls_hand_noted}
 use Rattle.papaya_models.proofs.CallEvents.{things_more}
+use Rattle.papaya_purposes.specs.Kept.{ShowsNone}
 use Rattle.papaya_legal.specs.CallEvents.{InCallEvent}
 use Rattle.papaya_legal.proofs.Calls.{call_events_go_on_so}
 use Rattle.papaya_logged.specs.Calling.{CallGoesOn}
@@ -42,16 +45,35 @@ use Rattle.papaya_named.specs.Telling.{goes_on}
 use Rattle.papaya_named.specs.declared.caller.Caller.{Caller}
 use Rattle.papaya_scheduler.specs.declared.scheduler.Scheduler.{Scheduler}
 use Rattle.papaya_scheduler.proofs.RanOn.{there_stays}
-use Rattle.papaya_stepping.specs.Stepping.{GoneFor, IsStepped, caller_then, far_then, outcome_of}
+use Rattle.papaya_stepping.specs.Stepping.{GoneFor, IsStepOf, IsStepped, WalkedFor, caller_then, far_then, outcome_of}
 use Rattle.papaya_stepping.proofs.AfterEffects.{calls_seen}
 use Rattle.papaya_stepping.proofs.OneStep.{caller_as, going_not_ended, goes_next, value_then}
 use Rattle.papaya_running.specs.OfCalls.{HaveShards}
 use Rattle.papaya_running.proofs.OfCalls.Scenes.{AreNamed, named_left, named_set}
 use Rattle.papaya_running.proofs.OfCalls.Words.{shows_none}
 
+one_more : (n : ℕ) → n + 1 ≡ suc n
+one_more n = omega arith
+
 -- one that is there is there once
 pub the : {X : Type 0} (a b : X) → Some a ≡ Some b → a ≡ b
 the a b is = cc is
+
+module _ {K V S : Type 0} (same : K → K → Bool) (hash : K → ℕ) where
+  -- What a step at a place was, whether its caller was told of it or not.
+  pub record IsStep (place : ℕ) (before after : List Effect) (old new : Scheduler K V S) : Type 0 where
+    pub caller : Caller V
+    pub at : slice_get old.calls.items.items place ≡ Some caller
+    pub said : Progress (Node K V)
+    pub leads : (name : ℕ → List ℕ) (m : Moment K V) (s : Scene K V) → IsShown same hash name m old.logged s
+        → CallGoesOn same hash name m s caller.number caller.map said before after old.logged new.logged
+    pub given : KeepsGiven old.logged.executor new.logged.executor
+
+  abbrev pub as_told : {place : ℕ} {outcome : Outcome V} {before after : List Effect} {old new : Scheduler K V S} → IsStepped same hash place outcome before after old new → IsStep place before after old new
+  as_told step = record { caller = step.caller; at = step.at; said = step.said; leads = step.leads; given = step.given }
+
+  abbrev pub as_walked : {place : ℕ} {said : Progress (Node K V)} {before after : List Effect} {old new : Scheduler K V S} → IsStepOf same hash place said before after old new → IsStep place before after old new
+  as_walked {place} {said} step = record { caller = step.caller; at = step.at; said = said; leads = step.leads; given = step.given }
 
 module _ {K V S : Type 0} (same : K → K → Bool) (hash : K → ℕ) (name : ℕ → List ℕ) (terms : Terms) (log : List (Entry K V)) (event : Event K V) (beginning : Moment K V)
     (map i : ℕ) (c : CallThere K V) (place : ℕ) where
@@ -75,7 +97,7 @@ module _ {K V S : Type 0} (same : K → K → Bool) (hash : K → ℕ) (name : �
     pub midst : InCallEvent same name terms log event beginning map i c steps did now (known p.logged.notes) scene under
 
   -- a step from there
-  module _ (n : ℕ) (mid after : List Effect) (p new : Scheduler K V S) (outcome : Outcome V) (come : HasCome n mid p) (step : IsStepped same hash place outcome mid after p new) where
+  module _ (n : ℕ) (mid after : List Effect) (p new : Scheduler K V S) (come : HasCome n mid p) (step : IsStep same hash place mid after p new) where
     abbrev pub its_here : come.scene.calls map i ≡ Some come.under
     its_here = here_of same name log beginning map i c mid come.now (known p.logged.notes) come.scene come.under come.midst.event_so
 
@@ -165,6 +187,35 @@ module _ {K V S : Type 0} (same : K → K → Bool) (hash : K → ℕ) (name : �
         ∙ ap (slot_of_guard was.0.guard) (there_stays (Some (name i)) (Some map) did come.now)
         ∙ come.slot was.0 was.1
 
+    -- where it goes on it has come one step further, if callers have their names then
+    module _ (none : ShowsNone step.said) (on : has_ended step.said ≡ false) (then_caller : Caller V) (there : slice_get new.calls.items.items place ≡ Some then_caller)
+        (number : then_caller.number ≡ step.caller.number) (on_map : then_caller.map ≡ step.caller.map) (kind : then_caller.kind ≡ step.caller.kind) (named : AreNamed name new.calls.items.items) where
+      next : (x : UnderWay K V K) × ((leads map come.under its_here).4.next ≡ Some x)
+      next = let to = leads map come.under its_here in goes_next to.1 step.said to.4.next to.4.goes_on on
+
+      pub come_on : HasCome (n + 1) after new
+      come_on = subst (λ (fs : List Effect). HasCome (n + 1) fs new) (sym follows) (record {
+        caller = then_caller;
+        at = there;
+        number = number ∙ ap (λ (x : Caller V). x.number) caller_is ∙ come.number;
+        on_map = on_map ∙ ap (λ (x : Caller V). x.map) caller_is ∙ come.on_map;
+        kind = kind ∙ ap (λ (x : Caller V). x.kind) caller_is ∙ come.kind;
+        named = named;
+        size = size_then;
+        shards = shards_then;
+        now = then_now;
+        things = things_after;
+        scene = then_scene;
+        under = next.0;
+        shown = shown_then;
+        slot = slot_then;
+        midst = subst (λ (k : Known). InCallEvent same name terms log event beginning map i c (n + 1) (mid ++ did) then_now k then_scene next.0) (sym noted_then)
+            (call_events_go_on_so K V S same hash name terms log event beginning map i c n mid come.now (known p.logged.notes) come.scene come.under come.midst p.logged.executor new.logged.executor
+            come.shown.is_at come.size step.said leads none noted_so next.0 next.1);
+      })
+
+  -- one of which its caller was told
+  module _ (n : ℕ) (mid after : List Effect) (p new : Scheduler K V S) (outcome : Outcome V) (come : HasCome n mid p) (step : IsStepped same hash place outcome mid after p new) where
     abbrev calls : List (Caller V)
     calls = p.calls.items.items
 
@@ -194,10 +245,6 @@ module _ {K V S : Type 0} (same : K → K → Bool) (hash : K → ℕ) (name : �
       not_ended : has_ended step.said ≡ false
       not_ended = going_not_ended (known new.logged.notes) step.caller.kind step.caller.value step.said said_on
 
-      next : (x : UnderWay K V K) × ((leads map come.under its_here).4.next ≡ Some x)
-      next = let to = leads map come.under its_here in goes_next to.1 step.said to.4.next to.4.goes_on not_ended
-
-      -- where it goes on it has come one step further
       abbrev then_caller : Caller V
       then_caller = record step.caller { stands = far_then (known new.logged.notes) step.said; value = value_then (known new.logged.notes) step.caller.kind step.caller.value step.said }
 
@@ -206,33 +253,26 @@ module _ {K V S : Type 0} (same : K → K → Bool) (hash : K → ℕ) (name : �
           step.calls ∙ ap (λ (q : Bool). if q then remove calls place else slice_set calls place (caller_then (known new.logged.notes) step.caller step.said)) not_ended
           ∙ ap (λ (x : Caller V). slice_set calls place x) (caller_as (known new.logged.notes) step.caller step.said)
 
-      pub further : HasCome (n + 1) after new
-      further = subst (λ (fs : List Effect). HasCome (n + 1) fs new) (sym follows) (record {
-        caller = then_caller;
-        at = ap (λ (l : List (Caller V)). slice_get l place) set_so ∙ set_get calls place step.caller then_caller step.at;
-        number = ap (λ (x : Caller V). x.number) caller_is ∙ come.number;
-        on_map = ap (λ (x : Caller V). x.map) caller_is ∙ come.on_map;
-        kind = ap (λ (x : Caller V). x.kind) caller_is ∙ come.kind;
-        named = named_then;
-        size = size_then;
-        shards = shards_then;
-        now = then_now;
-        things = things_after;
-        scene = then_scene;
-        under = next.0;
-        shown = shown_then;
-        slot = slot_then;
-        midst = subst (λ (k : Known). InCallEvent same name terms log event beginning map i c (n + 1) (mid ++ did) then_now k then_scene next.0) (sym noted_then)
-            (call_events_go_on_so K V S same hash name terms log event beginning map i c n mid come.now (known p.logged.notes) come.scene come.under come.midst p.logged.executor new.logged.executor
-            come.shown.is_at come.size step.said leads (shows_none (known new.logged.notes) step.caller.kind step.caller.value step.said said_on) noted_so next.0 next.1);
-      })
+      further : HasCome (n + 1) after new
+      further =
+          come_on n mid after p new come (as_told same hash step) (shows_none (known new.logged.notes) step.caller.kind step.caller.value step.said said_on) not_ended then_caller
+          (ap (λ (l : List (Caller V)). slice_get l place) set_so ∙ set_get calls place step.caller then_caller step.at) refl refl refl named_then
+
+  -- one of a walk that was asked for its next pair, which just goes on
+  walked_further : (n : ℕ) (mid after : List Effect) (p new : Scheduler K V S) → HasCome n mid p → IsStepOf same hash place progress.Goes mid after p new → HasCome (n + 1) after new
+  walked_further n mid after p new come step =
+      come_on n mid after p new come (as_walked same hash step) tt refl step.caller (ap (λ (x : Scheduler K V S). slice_get x.calls.items.items place) step.rest ∙ step.at) refl refl refl
+      (subst (λ (x : Scheduler K V S). AreNamed name x.calls.items.items) (sym step.rest) come.named)
 
   -- so it has come wherever its steps have led
   module _ (first : Scheduler K V S) (start : HasCome 0 [] first) where
+    at_first : (after : List Effect) (p : Scheduler K V S) → [] ≡ after → first ≡ p → HasCome 0 after p
+    at_first after p same_effects is = subst (λ (x : Scheduler K V S). HasCome 0 after x) is (subst (λ (fs : List Effect). HasCome 0 fs first) same_effects start)
+
     pub has_come : (n : ℕ) (after : List Effect) (p : Scheduler K V S) → GoneFor same hash place n [] after first p → HasCome n after p
-    has_come zero after p gone = subst (λ (x : Scheduler K V S). HasCome 0 after x) gone.1 (subst (λ (fs : List Effect). HasCome 0 fs first) gone.0 start)
-    has_come (suc n) after p (mid, q, outcome, gone, on, step) =
-        subst (λ (k : ℕ). HasCome k after p) one_more (further n mid after q p outcome (has_come n mid q gone) step on)
-      where
-        one_more : n + 1 ≡ suc n
-        one_more = omega arith
+    has_come zero after p gone = at_first after p gone.0 gone.1
+    has_come (suc n) after p (mid, q, outcome, gone, on, step) = subst (λ (k : ℕ). HasCome k after p) (one_more n) (further n mid after q p outcome (has_come n mid q gone) step on)
+
+    pub has_walked_on : (n : ℕ) (after : List Effect) (p : Scheduler K V S) → WalkedFor same hash place n [] after first p → HasCome n after p
+    has_walked_on zero after p walked = at_first after p walked.0 walked.1
+    has_walked_on (suc n) after p (mid, q, walked, step) = subst (λ (k : ℕ). HasCome k after p) (one_more n) (walked_further n mid after q p (has_walked_on n mid q walked) step)

@@ -1,7 +1,7 @@
 -- An event by which a call goes on that is under way: it keeps its promises, and the run goes on with it.
 use Rattle.std.specs.Prelude.{◌≡◌, ◌≤◌, ◌&&◌, ◌||◌, ℕ, Bool, true, false, not, List, [], ◌∷◌, position, Option, Some, option_map}
 use Rattle.std.specs.List.{list_any}
-use Rattle.std.proofs.Common.{refl, ap, sym, subst, ◌∙◌}
+use Rattle.std.proofs.Common.{refl, ap, sym, subst, ◌∙◌, inl}
 use Rattle.std.proofs.lemmas.List.{append-nil}
 use Rattle.papaya_histories.specs.Given.SeizeWaiting.Held.{count}
 use Rattle.papaya_histories.specs.Given.Runs.Present.{slot_of_guard}
@@ -34,10 +34,10 @@ use Rattle.papaya_stepping.specs.Stepping.{ComesAs, ComesBy, StepsCome}
 use Rattle.papaya_stepping.proofs.RightSteps.{not_busy as never_busy}
 use Rattle.papaya_running.specs.OfCalls.{IsLeft, Runs, RunsOn, TellsValue}
 use Rattle.papaya_running.proofs.OfCalls.Alone.{active_of, inside_of, only_its_row}
-use Rattle.papaya_running.proofs.OfCalls.Ends.{runs_on}
+use Rattle.papaya_running.proofs.OfCalls.Ends.{runs_on, tells_so}
 use Rattle.papaya_running.proofs.OfCalls.Found.{all_find, gone_find}
 use Rattle.papaya_running.proofs.OfCalls.Scenes.{its_named}
-use Rattle.papaya_running.proofs.OfCalls.Steps.{HasCome, has_come, the}
+use Rattle.papaya_running.proofs.OfCalls.Steps.{HasCome, as_told, has_come, the}
 
 module _ {K V S : Type 0} (same : K → K → Bool) (hash : K → ℕ) (terms : Terms) (log : List (Entry K V)) (old : Scheduler K V S) (runs : Runs same hash terms log old)
     (event : Event K V) (own : List ℕ) (of_call : caller_of event ≡ Some own) (speaks : speaker event ≡ Some own) (place : ℕ) (placed : Some place ≡ position (is_named own) old.calls.items.items) where
@@ -75,7 +75,7 @@ module _ {K V S : Type 0} (same : K → K → Bool) (hash : K → ℕ) (terms : 
   map_is = ap (λ (z : Seen). z.map) here.as_seen
 
   -- its guard is on the slot of its caller
-  slot_is : (d : CallThere K V) → call_of (name i) m ≡ Some d → slot_of_guard d.guard m.there ≡ slot_of i
+  pub slot_is : (d : CallThere K V) → call_of (name i) m ≡ Some d → slot_of_guard d.guard m.there ≡ slot_of i
   slot_is d is =
       let there = runs.stands.shown.shows.all.shown.calls map i u under in
       ap (λ (x : CallThere K V). slot_of_guard x.guard m.there) (the d there.0 (sym is ∙ there.1)) ∙ its_guard same hash terms m old runs.stands map i u under
@@ -106,7 +106,7 @@ module _ {K V S : Type 0} (same : K → K → Bool) (hash : K → ℕ) (terms : 
   }
 
   -- its slot is active, where calls came one after another
-  active : ComesAlone event log → 1 ≤ count (slot_of i) (sets_in terms.batch_size log).active
+  pub active : ComesAlone event log → 1 ≤ count (slot_of i) (sets_in terms.batch_size log).active
   active alone =
       active_of same hash terms log old runs.stands runs.size (slot_of i) (inside_of same hash terms log old runs.stands here.caller.guard (slot_of i) here.way.3)
       (runs.shows.follows (first_of m.is_alone _ alone))
@@ -115,43 +115,49 @@ module _ {K V S : Type 0} (same : K → K → Bool) (hash : K → ℕ) (terms : 
       first_of true b is = refl
       first_of false b is = absurd (cc is)
 
-  module _ (begins : (played : Played V) → at_work (entry_of event played) m ≡ m) (acts : acted_on event m ≡ option_map (λ (x : CallThere K V). x.map) (acting (caller_of event) m)) (takes : takes_steps event ≡ true)
-      (goes : here.caller.stands ≡ far.Goes) (most : ℕ) (played : Played V) (new : Scheduler K V S) (come : StepsCome same hash place most played.steps played.outcome [] played.effects.items old new)
-      (left : IsLeft terms log (entry_of event played)) (refused : (not (refuses event) || not (list_any is_made played.effects.items)) ≡ true)
-      (plays : IsPlayed same hash terms (entry_of event played ∷ log) new) where
-    comes : ComesBy same hash terms own place m played.steps played.outcome [] played.effects.items new
-    comes = come.1 terms m own runs.stands (placed, here.caller, here.at, goes)
-
-    comes_as : ComesAs c.call played.outcome
-    comes_as = subst (λ (x : CallThere K V). ComesAs x.call played.outcome) (the comes.call c (sym comes.call_is ∙ here.call_is)) comes.comes
-
+  -- such an event has begun nothing, and acts on the map of its call
+  module _ (begins : (played : Played V) → at_work (entry_of event played) m ≡ m) (acts : acted_on event m ≡ option_map (λ (x : CallThere K V). x.map) (acting (caller_of event) m)) (played : Played V) where
     acting_is : acting (caller_of event) m ≡ Some c
     acting_is = ap (λ (who : Option (List ℕ)). acting who m) of_call ∙ here.call_is
 
-    -- what is left is so of its call
-    its_left : (P : CallThere K V → Moment K V → Type 0) → IfCall (λ (x : CallThere K V). P x (at_work (entry_of event played) m)) (acting (caller_of event) (at_work (entry_of event played) m)) → P c m
-    its_left P so =
-        subst (λ (o : Option (CallThere K V)). IfCall (λ (x : CallThere K V). P x m) o) acting_is
-        (subst (λ (b : Moment K V). IfCall (λ (x : CallThere K V). P x b) (acting (caller_of event) b)) (begins played) so)
+    pub acts_on : acted_on event m ≡ Some map
+    acts_on = acts ∙ ap (λ (o : Option (CallThere K V)). option_map (λ (x : CallThere K V). x.map) o) acting_is ∙ ap Some map_is
 
-    rest : FindRest terms (moments_from c.begun log) (name i) map played.effects.items m
-    rest =
-        subst (λ (x : List ℕ). FindRest terms (moments_from c.begun log) x map played.effects.items m) (ap (λ (z : Seen). z.name) here.as_seen ∙ sym here.way.2)
-        (subst (λ (k : ℕ). FindRest terms (moments_from c.begun log) c.caller k played.effects.items m) map_is
-        (its_left (λ (x : CallThere K V) (b : Moment K V). FindRest terms (moments_from x.begun log) x.caller x.map played.effects.items b) left.but.rest))
+    pub slot_so : slot_of_guard (guard_or (acting (caller_of event) (at_work (entry_of event played) m))) (at_work (entry_of event played) m).there ≡ slot_of i
+    slot_so =
+        ap (λ (b : Moment K V). slot_of_guard (guard_or (acting (caller_of event) b)) b.there) (begins played)
+        ∙ ap (λ (o : Option (CallThere K V)). slot_of_guard (guard_or o) m.there) acting_is ∙ slot_is c c_is
 
-    pub taken_on : RunsOn same hash terms log (entry_of event played) new
-    taken_on =
-        let by = come.2 in
-        let far_on = has_come same hash name terms log event m map i c place old start by.0 by.2 by.3 by.4 in
-        runs_on same hash name terms log event m map i c place c_is (known old.logged.notes) runs.stands.scene runs.shows runs.come played by.0 by.2 by.3 new far_on by.5 (begins played)
-        (acts ∙ ap (λ (o : Option (CallThere K V)). option_map (λ (x : CallThere K V). x.map) o) acting_is ∙ ap Some map_is) takes by.1 comes_as (never_busy c.call played.outcome comes_as) left.right
-        refused (its_left (λ (x : CallThere K V) (b : Moment K V). TellsValue x.call x.replies played.outcome) left.but.values)
-        (all_find same hash name terms log event m map i c place (moments_from c.begun log) by.0 by.2 played.effects.items by.3 new played.outcome far_on by.5
-        (gone_find same hash name terms log event m map i c place (moments_from c.begun log) old start by.0 by.2 by.3 by.4) rest)
-        slot_so active plays
-      where
-        slot_so : slot_of_guard (guard_or (acting (caller_of event) (at_work (entry_of event played) m))) (at_work (entry_of event played) m).there ≡ slot_of i
-        slot_so =
-            ap (λ (b : Moment K V). slot_of_guard (guard_or (acting (caller_of event) b)) b.there) (begins played)
-            ∙ ap (λ (o : Option (CallThere K V)). slot_of_guard (guard_or o) m.there) acting_is ∙ slot_is c c_is
+    module _ (takes : takes_steps event ≡ true) (goes : here.caller.stands ≡ far.Goes) (most : ℕ) (new : Scheduler K V S)
+        (come : StepsCome same hash place most played.steps played.outcome [] played.effects.items old new) (left : IsLeft terms log (entry_of event played))
+        (refused : (not (refuses event) || not (list_any is_made played.effects.items)) ≡ true)
+        (plays : IsPlayed same hash terms (entry_of event played ∷ log) new) where
+      comes : ComesBy same hash terms own place m played.steps played.outcome [] played.effects.items new
+      comes = come.1 terms m own runs.stands (placed, here.caller, here.at, goes)
+
+      comes_as : ComesAs c.call played.outcome
+      comes_as = subst (λ (x : CallThere K V). ComesAs x.call played.outcome) (the comes.call c (sym comes.call_is ∙ here.call_is)) comes.comes
+
+      -- what is left is so of its call
+      its_left : (P : CallThere K V → Moment K V → Type 0) → IfCall (λ (x : CallThere K V). P x (at_work (entry_of event played) m)) (acting (caller_of event) (at_work (entry_of event played) m)) → P c m
+      its_left P so =
+          subst (λ (o : Option (CallThere K V)). IfCall (λ (x : CallThere K V). P x m) o) acting_is
+          (subst (λ (b : Moment K V). IfCall (λ (x : CallThere K V). P x b) (acting (caller_of event) b)) (begins played) so)
+
+      rest : FindRest terms (moments_from c.begun log) (name i) map played.effects.items m
+      rest =
+          subst (λ (x : List ℕ). FindRest terms (moments_from c.begun log) x map played.effects.items m) (ap (λ (z : Seen). z.name) here.as_seen ∙ sym here.way.2)
+          (subst (λ (k : ℕ). FindRest terms (moments_from c.begun log) c.caller k played.effects.items m) map_is
+          (its_left (λ (x : CallThere K V) (b : Moment K V). FindRest terms (moments_from x.begun log) x.caller x.map played.effects.items b) left.but.rest))
+
+      pub taken_on : RunsOn same hash terms log (entry_of event played) new
+      taken_on =
+          let by = come.2 in
+          let far_on = has_come same hash name terms log event m map i c place old start by.0 by.2 by.3 by.4 in
+          runs_on same hash name terms log event m map i c place c_is (known old.logged.notes) runs.stands.scene runs.shows runs.come played by.0 by.2 by.3 new far_on by.5
+          (tells_so same hash name terms log event m map i c place c_is (known old.logged.notes) runs.stands.scene runs.shows runs.come played by.0 by.2 by.3 new far_on by.5 comes_as
+          (its_left (λ (x : CallThere K V) (b : Moment K V). TellsValue x.call x.replies played.outcome) left.but.values)) (begins played) acts_on (inl takes) by.1
+          (never_busy c.call played.outcome comes_as) left.right refused
+          (all_find same hash name terms log event m map i c place (moments_from c.begun log) by.0 by.2 played.effects.items by.3 new far_on (as_told same hash by.5)
+          (gone_find same hash name terms log event m map i c place (moments_from c.begun log) old start by.0 by.2 by.3 by.4) rest)
+          slot_so active plays

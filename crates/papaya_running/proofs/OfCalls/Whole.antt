@@ -1,6 +1,6 @@
 -- An event by which a whole call begins that has no name, and goes on: it keeps its promises, and the run goes on with it.
 use Rattle.std.specs.Prelude.{◌≡◌, ◌≢◌, ◌≤◌, ◌&&◌, ℕ, Bool, true, false, List, [], ◌∷◌, slice_get, Option, Some, option_map, if◌then◌else◌}
-use Rattle.std.proofs.Common.{refl, ap, sym, subst, ◌∙◌}
+use Rattle.std.proofs.Common.{refl, ap, sym, subst, ◌∙◌, inl}
 use Rattle.std.proofs.lemmas.List.{append-nil}
 use Rattle.papaya_histories.specs.Given.SeizeWaiting.Held.{count}
 use Rattle.papaya_histories.specs.Given.SeizeWords.declared.fault.Fault.TheVariants.{Busy}
@@ -39,10 +39,10 @@ use Rattle.papaya_stepping.proofs.RightSteps.{not_busy as never_busy}
 use Rattle.papaya_running.specs.OfCalls.{IsLeft, Runs, RunsOn, TellsValue}
 use Rattle.papaya_running.proofs.OfCalls.Alone.{active_of, inside_of, no_row}
 use Rattle.papaya_running.proofs.OfCalls.Begun as begun
-use Rattle.papaya_running.proofs.OfCalls.Ends.{runs_on}
+use Rattle.papaya_running.proofs.OfCalls.Ends.{runs_on, tells_so}
 use Rattle.papaya_running.proofs.OfCalls.Found.{all_find, gone_find}
 use Rattle.papaya_running.proofs.OfCalls.Scenes.{stands_in}
-use Rattle.papaya_running.proofs.OfCalls.Steps.{HasCome, has_come, the}
+use Rattle.papaya_running.proofs.OfCalls.Steps.{HasCome, as_told, has_come, the}
 use Rattle.papaya_running.proofs.OfCalls.Words.{not_busy}
 
 module _ {K V S : Type 0} (same : K → K → Bool) (hash : K → ℕ) (terms : Terms) (log : List (Entry K V)) (old : Scheduler K V S) (runs : Runs same hash terms log old)
@@ -181,9 +181,11 @@ module _ {K V S : Type 0} (same : K → K → Bool) (hash : K → ℕ) (terms : 
         let by = come.2 in
         let far_on = has_come same hash names terms log event m1 map i c 0 mid start by.0 by.2 by.3 by.4 in
         runs_on same hash names terms log event m1 map i c 0 c_is (known old.logged.notes) runs.stands.scene (begun.run_named same hash terms log old runs nameless guard on call mid led) runs.come played by.0
-        by.2 by.3 new far_on by.5 begins (ap (λ (o : Option (CallThere K V)). option_map (λ (x : CallThere K V). x.map) o) acting_is) refl by.1 comes_as never left.right refl
-        (its_left (λ (x : CallThere K V) (b : Moment K V). TellsValue x.call x.replies played.outcome) left.but.values)
-        (all_find same hash names terms log event m1 map i c 0 (moments_from c.begun log) by.0 by.2 played.effects.items by.3 new played.outcome far_on by.5
+        by.2 by.3 new far_on by.5
+        (tells_so same hash names terms log event m1 map i c 0 c_is (known old.logged.notes) runs.stands.scene (begun.run_named same hash terms log old runs nameless guard on call mid led) runs.come played by.0
+        by.2 by.3 new far_on by.5 comes_as (its_left (λ (x : CallThere K V) (b : Moment K V). TellsValue x.call x.replies played.outcome) left.but.values)) begins
+        (ap (λ (o : Option (CallThere K V)). option_map (λ (x : CallThere K V). x.map) o) acting_is) (inl refl) by.1 never left.right refl
+        (all_find same hash names terms log event m1 map i c 0 (moments_from c.begun log) by.0 by.2 played.effects.items by.3 new far_on (as_told same hash by.5)
         (gone_find same hash names terms log event m1 map i c 0 (moments_from c.begun log) mid start by.0 by.2 by.3 by.4) rest)
         slot_so active plays
       where

@@ -69,7 +69,7 @@ module _ {K V S : Type 0} (same : K → K → Bool) (hash : K → ℕ) (terms : 
     pub slot_is : slot_of_guard guard (moment log).there ≡ slot
     slot_is = let g = lives_on (guard_of guard p.there.guards) slot lives in ap (slot_of_guard guard) stands.there ∙ ap guards_slot_or g.1 ∙ g.2
 
-    one_on : guards_on slot p.there.guards ≡ 1 → guards_on (slot_of_guard guard (moment log).there) (moment log).there.guards ≡ 1
+    pub one_on : guards_on slot p.there.guards ≡ 1 → guards_on (slot_of_guard guard (moment log).there) (moment log).there.guards ≡ 1
     one_on one = ap (λ (x : ℕ). guards_on x (moment log).there.guards) slot_is ∙ ap (λ (x : Present). guards_on slot x.guards) stands.there ∙ one
 
     nobody : guards_on slot p.there.guards ≡ 1 → NobodyOn slot (drops guard (moment log).there)

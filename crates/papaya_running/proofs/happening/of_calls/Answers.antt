@@ -3,7 +3,7 @@ use Rattle.std.proofs.Common.{refl}
 use Rattle.std.proofs.lemmas.Result.{IfOk-weaker}
 use Rattle.papaya_running.proofs.Forms.{some_call}
 use Rattle.papaya_running.proofs.Happened.{due_so, goes_if, may_play, next_if, still, still_if}
-use Rattle.papaya_running.proofs.OfCalls.Happens.{begin_if, go_if, step_if, stop_keeps, told_keeps, unsaid_if, whole_if}
+use Rattle.papaya_running.proofs.OfCalls.Happens.{ask_if, begin_if, go_if, step_if, stop_keeps, told_keeps, whole_if}
 use Rattle.papaya_running.proofs.happening.of_calls.Goals as goal
 
 pub begin-requires : goal.begin-requires
@@ -68,7 +68,7 @@ returns-in-Next-clause-happens g c =
 
 pub returns-in-Next-clause-keeps : goal.returns-in-Next-clause-keeps
 returns-in-Next-clause-keeps g c =
-    unsaid_if g.K.PartialEq.eq (g.S.Hashes.hash c.args.scheduler.now.logged.executor.hasher) c.args.scheduler.now c.next.new.scheduler c.args.event _ c.in-Next.is (λ played said. said) c.next.result
+    ask_if g.K.PartialEq.eq (g.S.Hashes.hash c.args.scheduler.now.logged.executor.hasher) c.args.scheduler.now c.next.new.scheduler c.args.event c.in-Next.caller c.in-Next.is c.next.result c.next.ensures.plays c.next.ensures.took
 
 pub replied-requires : goal.replied-requires
 replied-requires g c = (g.K.PartialEq.eq, g.S.Hashes.hash c.args.scheduler.now.logged.executor.hasher, may_play g.K.PartialEq.eq (g.S.Hashes.hash c.args.scheduler.now.logged.executor.hasher) c.args.event _ c.in-Replied.is c.args.scheduler.now c.requires.due)

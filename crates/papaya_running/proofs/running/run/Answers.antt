@@ -78,6 +78,6 @@ returns-clause-legal g c =
     let empty : c.loop-event.event-iterator.rest.items ≡ [] =
     nil_from_length c.loop-event.event-iterator.rest.items (let a = c.loop-event.event-iterator.rest.ok in let s = c.in-None-event.ensures.steps in omega (arith, a, s.0)) in
     let all : events ≡ c.args.schedule.items = sym (append-nil events) ∙ ap (λ (l : List (Event g.row.K.Denot g.row.V.Denot)). events ++ l) (sym empty) ∙ c.loop-event.invariant.1 in
-    subst (λ (l : List (Event g.row.K.Denot g.row.V.Denot)). IsLegalRun g.K.PartialEq.eq (terms_given (bounded c.args.given)) l c.in_ok-end.field-0) all
+    subst (λ (l : List (Event g.row.K.Denot g.row.V.Denot)). IsLegalRun g.row.S.Denot g.K.PartialEq.eq (terms_given (bounded c.args.given)) l c.in_ok-end.field-0) all
     (legal_so g.K.PartialEq.eq hash (terms_given (bounded c.args.given)) events c.loop-event.written c.loop-event.tally c.loop-event.scheduler c.loop-event.invariant.2 c.in_ok-end.field-0 c.in_ok-end.ensures.outcomes
     c.in_ok-end.ensures.steps c.in_ok-end.ensures.effects)

@@ -8,7 +8,7 @@ use Rattle.papaya_schedules.specs.Entry.{is_busy}
 use Rattle.papaya_running.specs.Acting.{acting_of, map_acted, singles_as}
 use Rattle.papaya_running.specs.Run.{SoFar, log_so}
 use Rattle.papaya_tally.specs.Tally.{TellsAll}
-use Rattle.papaya_running.proofs.Joined.{goes_on}
+use Rattle.papaya_running.proofs.Joined.{legal_on}
 use Rattle.papaya_running.proofs.Logs.{events_are}
 use Rattle.papaya_tally.proofs.Tallies.{ok_four}
 use Rattle.papaya_running.proofs.Turns.{back_so, goes_so, long, next_so}
@@ -42,8 +42,8 @@ returns g c =
           c.traced_as-traced.ensures trace)
           (goes_so eq hash terms log _ c.happen.new.scheduler (c.in_ok-played.ensures.happens terms log first so.holds))
           (c.in_ok-played.ensures.holds terms log first so.holds)
-          (λ runs asked. goes_on eq hash c.is_empty.result c.args.event played c.args.scheduler.now c.happen.new.scheduler c.in_ok-played.ensures.happens terms log first so.holds runs
-          c.in_ok-played.ensures.keeps c.in_ok-played.ensures.rows c.in_ok-played.ensures.setups asked)));
+          (λ runs behind asked. legal_on eq hash c.is_empty.result c.args.event played c.args.scheduler.now c.happen.new.scheduler c.in_ok-played.ensures.happens terms log first so.holds runs
+          c.in_ok-played.ensures.keeps c.in_ok-played.ensures.rows c.in_ok-played.ensures.setups c.in_ok-played.ensures.all behind asked)));
       back =
           ok_four c.add.result _ _ _ _ _ c.add.ensures.outcomes c.add.ensures.steps c.add.ensures.effects c.add.ensures.trace
           (λ outcomes steps effects trace. λ terms events so before.

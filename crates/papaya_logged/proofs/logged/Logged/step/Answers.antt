@@ -1,4 +1,6 @@
 -- A step of a call.
+use Rattle.papaya_effects.specs.Known.{known}
+use Rattle.papaya_effects.specs.declared.acting.Acting.TheVariants as acts
 use Rattle.papaya_logged.proofs.KeptGiven.{given_noted}
 use Rattle.papaya_logged.proofs.Steps.{goes_on, makes_no_more}
 use Rattle.papaya_logged.proofs.logged.Logged.step.Goals as goal
@@ -7,7 +9,7 @@ pub returns-clause-leads : goal.returns-clause-leads
 returns-clause-leads g c = λ name m s shown. goes_on _ _ c.args.self.now c.note.new.self c.step-progress.new.self c.args.caller c.args.map c.step-progress.result c.args.effects.now.items c.note.new.effects.items c.step-progress.ensures.leads c.in_ok-note.ensures.did c.in_ok-note.ensures.known c.note.ensures.executor c.step-progress.ensures.given name m s shown
 
 pub returns-clause-refused : goal.returns-clause-refused
-returns-clause-refused g c = makes_no_more c.args.refuse _ _ _ c.args.effects.now.items c.note.new.effects.items c.in_ok-note.ensures.did c.step-progress.ensures.refused
+returns-clause-refused g c = makes_no_more c.args.refuse (acts.Call c.args.caller c.args.map) (known c.args.self.now.notes) c.step-progress.new.self.memory.changed c.args.effects.now.items c.note.new.effects.items c.in_ok-note.ensures.did c.step-progress.ensures.refused
 
 pub returns-in_err-note-clause-given : goal.returns-in_err-note-clause-given
 returns-in_err-note-clause-given g c = given_noted c.args.self.now.executor c.step-progress.new.self c.note.new.self.executor c.step-progress.ensures.given c.note.ensures.executor

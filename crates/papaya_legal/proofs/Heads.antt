@@ -1,0 +1,2 @@
+-- Which slots were taken, over each kind of step.
+pub mod Rows

@@ -1,0 +1,3 @@
+-- Flushes of slots that are active take nothing away.
+pub mod Moves
+pub mod Worlds

@@ -1,0 +1,5 @@
+pub mod Flushes
+pub mod Steps
+pub mod Mays
+pub mod Makings
+pub mod Ends
