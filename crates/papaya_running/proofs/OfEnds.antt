@@ -35,6 +35,10 @@ use Rattle.papaya_histories.specs.Given.Finishes.FactsEnds.{taken_by as taken_of
 use Rattle.papaya_histories.specs.Given.Finishes.Maps.{Standing}
 use Rattle.papaya_histories.specs.Given.Finishes.Orders.{pairs_of}
 use Rattle.papaya_histories.specs.Given.Rule.Chart.{Chart}
+use Rattle.papaya_histories.specs.Given.Rule.InWorld.{IsMapIn}
+use Rattle.papaya_histories.proofs.Given.Rule.Laws.{current_is_known}
+use Rattle.papaya_histories.specs.Given.Follows.Maps.{ShowsMap}
+use Rattle.papaya_effects.specs.declared.role.Role.TheVariants as role
 use Rattle.papaya_histories.specs.Given.Moments.Endings.{IsOfIts}
 use Rattle.papaya_histories.specs.Given.Moments.WholeEnds.{all_ended, tables_ended}
 use Rattle.papaya_histories.specs.Given.Others.Endings.{ending_after}
@@ -65,6 +69,7 @@ use Rattle.papaya_mapping.proofs.MapsEnded.{here as ending_here, no_call, no_oth
 use Rattle.papaya_mapping.proofs.MapLists.{by_recursion}
 use Rattle.papaya_scheduler.proofs.Maps.{number_is}
 use Rattle.papaya_scheduler.proofs.Rights.{entry, entry_is}
+use Rattle.papaya_works.proofs.Ends.{ends_find_all}
 use Rattle.papaya_running.specs.Asked.{Holds}
 use Rattle.papaya_running.specs.OfCalls.{HaveShards, Runs, RunsOn}
 use Rattle.papaya_running.specs.OfRows.{IsLeftOfRows, KeepsRun}
@@ -367,9 +372,27 @@ module _ {K V S : Type 0} (same : K → K → Bool) (hash : K → ℕ) (terms : 
         subst (λ (fs : List Effect). list_all (may_do (EndMap own) m) fs ≡ true) (sym (did_all ∙ u.6 refl refl))
         (all_may own m (is_incremental standing.setting.mode) map number standing.chart)
 
+    -- each pair that ends is in the map, and each table is linked
+    in_map : IsMapIn same standing.hash standing.setting s.world standing.chart standing.blocks
+    in_map = (run.stands.shown.is_at.together.makings.standing.each map standing (begun none_on).1).ground.map
+
+    current_known : (n : ℕ) → standing.chart.current n ≡ true → (n < standing.chart.stored) × (standing.blocks.pair_known n ≡ true)
+    current_known n current = current_is_known same standing.hash standing.setting s.world.memory standing.chart standing.blocks in_map.map.rule in_map.map.shows n current
+
+    abbrev stood : ShowsMap map (run.shows.calls.whole.all.shown.number map) standing m (known old.logged.notes)
+    stood = run.shows.calls.whole.all.shown.maps map standing (begun none_on).1
+
+    same_number : (n : ℕ) → standing.chart.current n ≡ true → number n ≡ run.shows.calls.whole.all.shown.number map n
+    same_number n current =
+        let k = current_known n current in
+        let noted = subst (λ (x : Known). x.roles (standing.blocks.pair n) ≡ role.Pair (number n)) begins_so ((begun none_on).3.1.pairs n current) in
+        let both : role.Pair (number n) ≡ role.Pair (run.shows.calls.whole.all.shown.number map n) = sym noted ∙ stood.pairs.roles n k.0 k.1 in
+        cc both
+
     finds : AtEachEffect (Finds terms None (Some map) false []) None (Some map) effects m
     finds =
-        subst (λ (o : Option ℕ). AtEachEffect (Finds terms None o false []) None o effects m) acts_so left.but.finds
+        subst (λ (fs : List Effect). AtEachEffect (Finds terms None (Some map) false []) None (Some map) fs m) (sym (did_all ∙ u.6 refl refl))
+        (ends_find_all K V m (known old.logged.notes) map (run.shows.calls.whole.all.shown.number map) number standing stood (begun none_on).2 (λ n current. (current_known n current).0) same_number)
 
     it : ComesRight terms log e → IsLegalBut same terms log e × ShowsRun same name terms (e ∷ log) (known new.logged.notes) y.scene
     it right =

@@ -2,7 +2,7 @@
 use Rattle.std.specs.Prelude.{◌≡◌, ◌&&◌, ◌||◌, ◌<◌, ◌^◌, ℕ, Bool, true, false, List, [], ◌∷◌, None, Result, Ok, Err, IfOk}
 use Rattle.std.specs.List.{list_all}
 use Rattle.std.proofs.Common.{refl, ap, sym, subst, inl, inr, ◌∙◌}
-use Rattle.papaya_histories.specs.Given.Seize.World.{Begin, Rests}
+use Rattle.papaya_histories.specs.Given.Seize.World.{Begin, IsInside, Rests}
 use Rattle.papaya_histories.specs.Given.Tables.declared.node.Node.{Node}
 use Rattle.papaya_schedules.specs.declared.effect.Effect.{Effect}
 use Rattle.papaya_schedules.specs.declared.event.Event.{Event}
@@ -50,12 +50,15 @@ use Rattle.papaya_named.specs.declared.caller.Callers.{Callers}
 use Rattle.papaya_scheduler.specs.declared.played.Played.{Played}
 use Rattle.papaya_scheduler.specs.declared.scheduler.Scheduler.{Scheduler}
 use Rattle.papaya_scheduler.proofs.Rights.{entry, entry_is}
+use Rattle.papaya_works.specs.Rows.{may_row}
+use Rattle.papaya_works.proofs.Mays.{rows_do_theirs}
 use Rattle.papaya_running.specs.OfCalls.{HaveShards, Runs, RunsOn}
-use Rattle.papaya_running.specs.OfRows.{FindsStill, IsLeftOfRows, KeepsRun, MaysDo, is_of_rows}
+use Rattle.papaya_running.specs.OfRows.{FindsStill, IsLeftOfRows, KeepsRun, is_of_rows}
 use Rattle.papaya_running.proofs.OfCalls.Scenes.{AreNamed, its_named, stands_in}
 use Rattle.papaya_running.proofs.OfRows.Chain.{RowComes, come_by, rows_come}
 use Rattle.papaya_running.proofs.OfRows.Facts.{RowFacts, facts}
 use Rattle.papaya_running.proofs.OfRows.Lone.{alone_follows}
+use Rattle.papaya_running.proofs.OfRows.May.{flush_inside, may_by}
 use Rattle.papaya_running.proofs.OfRows.Quiet.{none_still, refused_still, still_keeps}
 use Rattle.papaya_running.proofs.Remaining.{counted_in}
 pub mod Chain
@@ -63,6 +66,7 @@ pub mod Facts
 pub mod Quiet
 pub mod Kept
 pub mod Lone
+mod May
 
 module _ {K V : Type 0} where
   -- such an event works on slots, speaks of no call, and does not reclaim everything
@@ -87,27 +91,16 @@ module _ {K V : Type 0} where
   on_no_map (DropGuard guard) outcome m of on = (refl, refl)
   on_no_map _ outcome m of on = absurd (cc (of, on))
 
-  -- what it does it may do
-  may_of : (log : List (Entry K V)) (e : Entry K V) (event : Event K V) → is_of_rows event ≡ true → is_of_slots event ≡ true → MaysDo log e event → list_all (may_do e.event (moment log)) e.effects ≡ true
-  may_of log e (Register registration) of on may = may
-  may_of log e (Unregister registration) of on may = may
-  may_of log e (Enter guard registration) of on may = may
-  may_of log e (Own guard) of on may = may
-  may_of log e (Refresh guard) of on may = may
-  may_of log e (Flush guard) of on may = may
-  may_of log e (DropGuard guard) of on may = may
-  may_of log e _ of on may = absurd (cc (of, on))
-
   -- and it finds what it must, if it asks for buckets in need
-  needs_of : (terms : Terms) (log : List (Entry K V)) (e : Entry K V) (event : Event K V) → is_of_rows event ≡ true → is_of_slots event ≡ true → FindsStill terms log e event → AtEachEffect AsksInNeed None None e.effects (moment log)
-  needs_of terms log e (Register registration) of on needs = needs
-  needs_of terms log e (Unregister registration) of on needs = needs
-  needs_of terms log e (Enter guard registration) of on needs = needs
-  needs_of terms log e (Own guard) of on needs = needs
-  needs_of terms log e (Refresh guard) of on needs = needs
-  needs_of terms log e (Flush guard) of on needs = needs
-  needs_of terms log e (DropGuard guard) of on needs = needs
-  needs_of terms log e _ of on needs = absurd (cc (of, on))
+  needs_of : (log : List (Entry K V)) (e : Entry K V) (event : Event K V) → is_of_rows event ≡ true → is_of_slots event ≡ true → FindsStill log e event → AtEachEffect AsksInNeed None None e.effects (moment log)
+  needs_of log e (Register registration) of on needs = needs
+  needs_of log e (Unregister registration) of on needs = needs
+  needs_of log e (Enter guard registration) of on needs = needs
+  needs_of log e (Own guard) of on needs = needs
+  needs_of log e (Refresh guard) of on needs = needs
+  needs_of log e (Flush guard) of on needs = needs
+  needs_of log e (DropGuard guard) of on needs = needs
+  needs_of log e _ of on needs = absurd (cc (of, on))
 
   -- what it may do is to reclaim, or to ask for a bucket
   one_of_row : (event : Event K V) → is_of_rows event ≡ true → is_of_slots event ≡ true → (m : Moment K V) (f : Effect) → may_do event m f ≡ true → (is_reclaiming f || asks_for_bucket f) ≡ true
@@ -194,24 +187,33 @@ module _ {K V S : Type 0} (same : K → K → Bool) (hash : K → ℕ) (terms : 
         subst (λ (x : ℕ). IsRowFor (request_of x called) s.world.uses y.scene.world.uses event played.outcome (begun event played.outcome m)) (sym ran.in_slot)
         (f.is_row y.scene.world y.is_at.uses played.outcome comes)
 
-    -- as it begins the event is in its midst; and what all of it did finds what it must
+    -- as it begins the event is in its midst; what all of it did it may do, and finds what it must
     begun_so : InSlotEvent same name terms log event ran.caller called (known old.logged.notes) s.world [] m (known old.logged.notes) s1
     begun_so =
         slot_events_begin_so K V S same hash name terms log (known old.logged.notes) s old.logged.executor ran.began.executor run.stands.shown.is_at run.size run.shows event on ran.caller called may leads spares
         (alone_follows same hash terms log old run event (all_facts_of event of on).0)
+
+    done_by_row : list_all (may_row called) played.effects.items ≡ true
+    done_by_row =
+        rows_do_theirs K V S same hash name terms log (known old.logged.notes) s old.logged.executor ran.began.executor run.stands.shown.is_at event ran.caller called may leads
+        (λ is. subst (λ (x : ℕ). IsInside (s.world.uses x)) (sym ran.in_slot) (flush_inside same hash terms log old run.stands event slot called about its is)) begun_so
+        ran.goes.0 (come_by (far played.effects.items new.logged) y.now y.scene) chain
+
+    allowed : list_all (may_do event m) played.effects.items ≡ true
+    allowed = may_by same hash terms log old run.stands event slot called about its played.effects.items done_by_row
 
     finds : AtEachEffect (Finds terms None None (gives_all event) []) None None played.effects.items m
     finds =
         subst (λ (q : Bool). AtEachEffect (Finds terms None None q []) None None played.effects.items m) (sym (all_facts_of event of on).1)
         (row_chains_find K V S same hash name terms log event ran.caller called (known old.logged.notes) s.world ran.goes.0
         (record { executor = ran.began.executor; did = []; now = m; notes = known old.logged.notes; scene = s1 }) (come_by (far played.effects.items new.logged) y.now y.scene) chain begun_so refl
-        (all_of_row event of on m played.effects.items (may_of log e event of on left.but.may)) (needs_of terms log e event of on left.but.finds))
+        (all_of_row event of on m played.effects.items allowed) (needs_of log e event of on left.but.finds))
 
     it : IsLegalBut same terms log e × ShowsRun same name terms (e ∷ log) (known new.logged.notes) y.scene
     it =
         rows_run_to_their_ends K V S same hash name terms log (known old.logged.notes) s old.logged.executor ran.began.executor run.stands.shown.is_at run.size small run.shows e on ran.caller called may
         leads spares (alone_follows same hash terms log old run event (all_facts_of event of on).0) ran.goes.0 (come_by (far played.effects.items new.logged) y.now y.scene) chain refl rests
-        (f.inside y.scene.world y.is_at.uses played.outcome comes) (f.not_busy played.outcome comes) (may_of log e event of on left.but.may) finds (λ alone. is_row) left.right (reclaims_none log e of on)
+        (f.inside y.scene.world y.is_at.uses played.outcome comes) (f.not_busy played.outcome comes) allowed finds (λ alone. is_row) left.right (reclaims_none log e of on)
 
     shown : IsShown same hash name (moment (e ∷ log)) new.logged y.scene
     shown = record {

@@ -35,21 +35,15 @@ module _ {K V : Type 0} where
   is_of_rows (EndMap name) = true
   is_of_rows _ = false
 
-  -- it may do what it does: of an end that is had
-  abbrev pub MaysDo : List (Entry K V) → Entry K V → Event K V → Type 0
-  MaysDo log e (EndMap name) = Unit {0}
-  MaysDo log e _ = list_all (may_do e.event (moment log)) e.effects ≡ true
-
   -- It finds what it must: a row on a slot does, if it asks for buckets of slots in need.
-  abbrev pub FindsStill : Terms → List (Entry K V) → Entry K V → Event K V → Type 0
-  FindsStill terms log e (MakeMap name mode capacity) = (let b = at_work e (moment log) in AtEachEffect (Finds terms None (acted_on e.event b) false []) None (acted_on e.event b) e.effects b)
-  FindsStill terms log e (EndMap name) = (let b = at_work e (moment log) in AtEachEffect (Finds terms None (acted_on e.event b) false []) None (acted_on e.event b) e.effects b)
-  FindsStill terms log e _ = AtEachEffect AsksInNeed None None e.effects (moment log)
+  abbrev pub FindsStill : List (Entry K V) → Entry K V → Event K V → Type 0
+  FindsStill log e (MakeMap name mode capacity) = Unit {0}
+  FindsStill log e (EndMap name) = Unit {0}
+  FindsStill log e _ = AtEachEffect AsksInNeed None None e.effects (moment log)
 
-  -- What is still asked of such an event, by name, but that it comes to what is right: what it does it may do, and finds what it must.
+  -- What is still asked of such an event, by name, but that it comes to what is right: what it does finds what it must.
   pub record IsLeftOfRowsBut (terms : Terms) (log : List (Entry K V)) (e : Entry K V) : Type 0 where
-    pub may : MaysDo log e e.event
-    pub finds : FindsStill terms log e e.event
+    pub finds : FindsStill log e e.event
 
   pub record IsLeftOfRows (terms : Terms) (log : List (Entry K V)) (e : Entry K V) : Type 0 where
     pub right : ComesRight terms log e

@@ -3,3 +3,4 @@ pub mod Steps
 pub mod Mays
 pub mod Makings
 pub mod Ends
+pub mod Registering
