@@ -19,17 +19,20 @@ use Rattle.papaya_histories.specs.Given.Schedules.Lives.{MayCopy, MayDefer, IsMa
 use Rattle.papaya_histories.specs.Given.Schedules.Moment.{Place, InMap, UnderWay, MapThere, Stage, IsRetired, IsReclaimed, IsTaken, TableThere, Moment}
 use Rattle.papaya_histories.specs.Given.Schedules.Terms.{Terms}
 use Rattle.papaya_histories.specs.Given.Schedules.Things.{same_table, same_thing}
-use Rattle.papaya_histories.specs.Given.Schedules.Views.{is_in_map, call_of, map_at, first_or, first_of, grows_in_chunks, is_linked, is_stage, is_place, tables_of}
+use Rattle.papaya_histories.specs.Given.Schedules.Views.{is_in_map, is_in_a_map, call_of, map_at, first_or, first_of, grows_in_chunks, is_linked, is_stage, is_place, tables_of}
 use Rattle.papaya_histories.proofs.Given.Follows.Alike.{put_here, put_elsewhere}
 use Rattle.papaya_histories.proofs.Given.Follows.Calls.{IsOfSame, changed_same, changed}
 use Rattle.papaya_histories.proofs.Given.Others.Leads.{same_parts}
 use Rattle.papaya_histories.proofs.Given.Spots.Elsewhere.{stored_grows}
+use Rattle.papaya_histories.specs.Given.Spots.Deferred.{FindsNumbers}
 use Rattle.papaya_histories.specs.Given.Moments.Numbers.{AreFound}
 use Rattle.papaya_finds.specs.Life.{StoresOne}
+use Rattle.papaya_finds.specs.Past.{FindsOnward}
 use Rattle.papaya_finds.specs.Tables.{FindsTables}
 use Rattle.papaya_finds.specs.TornDown.{FindsItsMap}
 use Rattle.papaya_finds.specs.Waiting.{is_unborn, once_if, owed_in, FindsPlaced}
-use Rattle.papaya_finds.specs.Within.{many_of, HasItsMap, AllIsInOrder, ActsOn}
+use Rattle.papaya_finds.specs.Within.{many_of, HasItsMap, LiesNext, AllIsInOrder, ActsOn}
+use Rattle.papaya_finds.proofs.Behind.{all_lie}
 use Rattle.papaya_finds.proofs.Endings.{number_same, one_named, numbers_stay}
 use Rattle.papaya_finds.proofs.Life.{life_finds_placed}
 use Rattle.papaya_finds.proofs.Lists.{one_of_them, any_so, all_so, all_both, each_is}
@@ -430,6 +433,32 @@ module _ {K V : Type 0} (terms : Terms) (everything : Bool) (moments : List (Mom
           by true is = subst Goal (sym is) (subst (λ (x : UnderWay K V). HasItsMap (then_at f) (call_by m f x)) (sym (its.1 is)) (its_call f b placed))
           by false is = subst Goal (sym is) (same_call f c placed its.0)
 
+  -- what waits behind tables
+
+  finds_numbers : (f : Effect) → Whose f → FindsPlaced caller m f → FindsNumbers m f
+  finds_numbers (effect.Stored n s) b placed = placed.0
+  finds_numbers (effect.Deferred n t) (NoCalls none finds) placed = absurd (none_defers n t acted finds)
+  finds_numbers (effect.Deferred n t) (ACalls b) placed = let owed = owed_there n b.c.owes b.finds.0 in (b.its.owes n owed.0 owed.1).1
+  finds_numbers _ b placed = tt
+
+  finds_onward : (f : Effect) → Whose f → FindsOnward acted m f
+  finds_onward (effect.Copied n s) (NoCalls none finds) = absurd (none_copies n s acted finds)
+  finds_onward (effect.Copied n s) (ACalls b) = λ chunked.
+      ap is_in_a_map (subst (λ (q : Bool). MayCopy q b.c.map m n s) (ap (λ (o : Option ℕ). is_chunked o m) (sym b.acts) ∙ chunked) b.finds).0
+  finds_onward (effect.Promoted t) (NoCalls none finds) = absurd (none_promotes t acted finds)
+  finds_onward (effect.Promoted t) (ACalls b) =
+      subst (λ (q : ℕ). first_of q m ≤ t.turn) (sym b.finds.0) (comes_on (grows_in_chunks (map_at b.c.map m)) (first_of b.c.map m) t.turn (tables_of b.c.map m) b.finds.2)
+  finds_onward _ b = tt
+
+  defers_next : (f : Effect) → Whose f → (n : ℕ) (t : Table) → f ≡ effect.Deferred n t → LiesNext m (record { pair = n; behind = t })
+  defers_next f (NoCalls none finds) n t is = absurd (none_defers n t acted (subst (EventFinds acted everything m) is finds))
+  defers_next f (ACalls b) n t is =
+      let finds = subst (λ (g : Effect). CallFinds terms moments m g b.c) is b.finds in
+      let owed = owed_there n b.c.owes finds.0 in
+      let its = b.its.owes n owed.0 owed.1 in
+      let may : MayDefer b.c.map m n t = finds.1 in
+      (its.2 ∙ sym may.0, may.2, may.1)
+
   -- so all is in order after the effect
   module _ (f : Effect) (finds : Finds terms caller acted everything moments m f) (one : StoresOne caller m f) where
     its_whose : Whose f
@@ -457,5 +486,6 @@ module _ {K V : Type 0} (terms : Terms) (everything : Bool) (moments : List (Mom
         spots = spots_within f its_whose its_placed;
         maps = maps_within f its_whose its_placed;
         calls = calls_within f its_whose its_placed;
+        behind = all_lie m h.waits.placed caller acted f (finds_numbers f its_whose its_placed) (finds_onward f its_whose) (defers_next f its_whose) h.within.behind;
       };
     }
