@@ -54,9 +54,10 @@ module _ {K V : Type 0} (m : Moment K V) (placed : PairsArePlaced m) where
 
     same_lies : (d : Deferral) → (v.born d.pair ≡ m.born d.pair) × (v.spot d.pair ≡ m.spot d.pair) → LiesNext m d → LiesNext v d
     same_lies d same lies = (
-      ap (λ (t : Table). t.map) same.0 ∙ lies.0,
-      subst (λ (t : Table). t.turn < (v.spot d.pair).turn) (sym same.0) (subst (λ (x : Spot). (m.born d.pair).turn < x.turn) (sym same.1) lies.1),
-      ap (λ (x : Spot). x.turn) same.1 ∙ lies.2,
+      lies.0,
+      ap (λ (t : Table). t.map) same.0 ∙ lies.1,
+      subst (λ (t : Table). t.turn < (v.spot d.pair).turn) (sym same.0) (subst (λ (x : Spot). (m.born d.pair).turn < x.turn) (sym same.1) lies.2),
+      ap (λ (x : Spot). x.turn) same.1 ∙ lies.3,
     )
 
     -- those that waited

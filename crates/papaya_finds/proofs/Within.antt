@@ -457,7 +457,7 @@ module _ {K V : Type 0} (terms : Terms) (everything : Bool) (moments : List (Mom
       let owed = owed_there n b.c.owes finds.0 in
       let its = b.its.owes n owed.0 owed.1 in
       let may : MayDefer b.c.map m n t = finds.1 in
-      (its.2 ∙ sym may.0, may.2, may.1)
+      (its.0, its.2 ∙ sym may.0, may.2, may.1)
 
   -- so all is in order after the effect
   module _ (f : Effect) (finds : Finds terms caller acted everything moments m f) (one : StoresOne caller m f) where

@@ -38,7 +38,7 @@ module _ {K V : Type 0} where
     pub owes : (n k : ℕ) → owed_in n c.owes ≡ 1 + k → (1 ≤ n) × (n ≤ length m.stored) × ((m.born n).map ≡ c.map)
 
   abbrev pub LiesNext : Moment K V → Deferral → Type 0
-  LiesNext m d = ((m.born d.pair).map ≡ d.behind.map) × ((m.born d.pair).turn < (m.spot d.pair).turn) × ((m.spot d.pair).turn ≡ d.behind.turn + 1)
+  LiesNext m d = (1 ≤ d.pair) × ((m.born d.pair).map ≡ d.behind.map) × ((m.born d.pair).turn < (m.spot d.pair).turn) × ((m.spot d.pair).turn ≡ d.behind.turn + 1)
 
   pub record IsWithin (m : Moment K V) : Type 0 where
     -- each table has a turn below how many its map has had, and each root one that is no higher;

@@ -3,5 +3,10 @@ mod Counting
 mod Places
 mod Room
 mod Own
+mod New
 mod Rising
-mod Stays
+pub mod Stays
+mod Frame
+pub mod Steps
+mod Listed
+pub mod Space

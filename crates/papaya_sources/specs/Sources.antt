@@ -1,8 +1,7 @@
 -- Where pairs were copied from: an older table names each pair for ever that was put into a later one.
-use Rattle.std.specs.Prelude.{◌≡◌, ◌≢◌, ℕ, ◌+◌, ◌<◌, ◌≤◌, Bool, true, List, length, Some}
-use Rattle.std.specs.List.{AllByRecursion}
+use Rattle.std.specs.Prelude.{◌≡◌, ◌≢◌, ℕ, ◌<◌, ◌≤◌, Bool, true, List, length, Some}
 use Rattle.papaya_histories.specs.Given.Tables.Chunks.{is_incremental}
-use Rattle.papaya_histories.specs.Given.Schedules.Moment.{Deferral, Moment}
+use Rattle.papaya_histories.specs.Given.Schedules.Moment.{Moment}
 use Rattle.papaya_histories.specs.Given.Rule.Chart.{Phase, Still, Holds, Chart}
 use Rattle.papaya_histories.specs.Given.Effects.Known.{Known}
 use Rattle.papaya_histories.specs.Given.Executor.IsAt.{Scene}
@@ -41,11 +40,3 @@ pub record ShowsSources {K V : Type 0} (same : K → K → Bool) (name : ℕ →
   pub shown : Shows same name m known s
   pub numbered : (map : ℕ) (st : Standing K) → s.maps map ≡ Some st → AreNumbered map (shown.number map) st m
   pub came : (map : ℕ) (st : Standing K) → s.maps map ≡ Some st → is_incremental st.setting.mode ≡ true → CameFromPlaces st.chart (shown.number map) m
-
--- a pair that waits behind a table was stored in its map, in a table no later than this one, and lies in the next one
-module _ {K V : Type 0} where
-  abbrev pub LiesNext : Moment K V → Deferral → Type 0
-  LiesNext m d = ((m.born d.pair).map ≡ d.behind.map) × ((m.born d.pair).turn < (m.spot d.pair).turn) × ((m.spot d.pair).turn ≡ d.behind.turn + 1)
-
-  abbrev pub ShowsNext : Moment K V → Type 0
-  ShowsNext m = AllByRecursion (LiesNext m) m.deferred
