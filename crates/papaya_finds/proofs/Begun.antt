@@ -66,6 +66,7 @@ module _ {K V : Type 0} (m : Moment K V) (h : AllIsInOrder m) where
         somewhere = record { born = h.somewhere.born; there = h.somewhere.there };
         within = record {
           tables = h.within.tables;
+          apart = h.within.apart;
           roots = h.within.roots;
           made = h.within.made;
           spots = h.within.spots;
@@ -101,6 +102,7 @@ module _ {K V : Type 0} (m : Moment K V) (h : AllIsInOrder m) where
     somewhere = record { born = h.somewhere.born; there = λ n map l is. more map (h.somewhere.there n map l is) };
     within = record {
       tables = h.within.tables;
+      apart = h.within.apart;
       roots = all_append (λ (g : MapThere). g.first ≤ many_of g.number m) m.maps f h.within.roots (omega (arith, first));
       made = all_append (λ (g : MapThere). g.number < m.made + 1) m.maps f
           (all_so (λ (g : MapThere). g.number < m.made) (λ (g : MapThere). g.number < m.made + 1) (λ g l. omega (arith, l)) m.maps h.within.made) (omega (arith, number));

@@ -44,7 +44,7 @@ all_in_order_at_first K V = record {
   waits = order_at_first K V;
   named = tt;
   somewhere = somewhere_at_first K V;
-  within = record { tables = tt; roots = tt; made = tt; spots = λ n l u. absurd (omega (arith, l, u)); maps = λ n map e. absurd (cc e); calls = tt; behind = tt };
+  within = record { tables = tt; apart = tt; roots = tt; made = tt; spots = λ n l u. absurd (omega (arith, l, u)); maps = λ n map e. absurd (cc e); calls = tt; behind = tt };
 }
 
 -- effects
@@ -194,6 +194,7 @@ module _ {K V : Type 0} (terms : Terms) (log : List (Entry K V)) where
       somewhere = events_keep_somewhere K V e m ends then_worked.waits.placed then_worked.somewhere;
       within = record {
         tables = then_worked.within.tables;
+        apart = then_worked.within.apart;
         roots = left.roots;
         made = left.made;
         spots = then_worked.within.spots;

@@ -26,12 +26,14 @@ use Rattle.papaya_histories.proofs.Given.Others.Leads.{same_parts}
 use Rattle.papaya_histories.proofs.Given.Spots.Elsewhere.{stored_grows}
 use Rattle.papaya_histories.specs.Given.Spots.Deferred.{FindsNumbers}
 use Rattle.papaya_histories.specs.Given.Moments.Numbers.{AreFound}
+use Rattle.papaya_finds.specs.Bounded.{TablesApart}
 use Rattle.papaya_finds.specs.Life.{StoresOne}
 use Rattle.papaya_finds.specs.Past.{FindsOnward}
 use Rattle.papaya_finds.specs.Tables.{FindsTables}
 use Rattle.papaya_finds.specs.TornDown.{FindsItsMap}
 use Rattle.papaya_finds.specs.Waiting.{is_unborn, once_if, owed_in, FindsPlaced}
 use Rattle.papaya_finds.specs.Within.{many_of, HasItsMap, LiesNext, AllIsInOrder, ActsOn}
+use Rattle.papaya_finds.proofs.Apart.{apart_append, apart_under}
 use Rattle.papaya_finds.proofs.Behind.{all_lie}
 use Rattle.papaya_finds.proofs.Endings.{number_same, one_named, numbers_stay}
 use Rattle.papaya_finds.proofs.Life.{life_finds_placed}
@@ -203,6 +205,25 @@ module _ {K V : Type 0} (terms : Terms) (everything : Bool) (moments : List (Mom
   tables_within (effect.Reclaimed (APair n)) b = grown_tables (effect.Reclaimed (APair n))
   tables_within (effect.Taken t) b = staged_tables (effect.Taken t) t IsTaken
   tables_within f b = grown_tables f
+
+  apart_within : (f : Effect) → Whose f → TablesApart (then_at f).tables
+  apart_within (effect.Linked t shape) b =
+      apart_append m.tables (linked_as t shape) h.within.apart
+      (all_so (λ u. u.table.turn < many u.table.map) (λ u. same_table t u.table ≡ false) (λ u l. none u l (same_table t u.table) refl) m.tables h.within.tables)
+    where
+      none : (u : TableThere) → u.table.turn < many u.table.map → (q : Bool) → same_table t u.table ≡ q → same_table t u.table ≡ false
+      none u l true is =
+          let parts = same_parts t u.table is in
+          let turn = (links_next t shape b).turn in
+          let here : many t.map ≡ many u.table.map = ap many parts.0 in
+          absurd (omega (arith, l, turn, here, parts))
+      none u l false is = is
+  apart_within (effect.Retired (ATable t)) b = apart_under (at_stage t IsRetired) (stage_same t IsRetired) m.tables h.within.apart
+  apart_within (effect.Retired (APair n)) b = h.within.apart
+  apart_within (effect.Reclaimed (ATable t)) b = apart_under (at_stage t IsReclaimed) (stage_same t IsReclaimed) m.tables h.within.apart
+  apart_within (effect.Reclaimed (APair n)) b = h.within.apart
+  apart_within (effect.Taken t) b = apart_under (at_stage t IsTaken) (stage_same t IsTaken) m.tables h.within.apart
+  apart_within f b = h.within.apart
 
   grown_roots : (f : Effect) → AllByRecursion (λ g. g.first ≤ many_of g.number (then_at f)) m.maps
   grown_roots f = all_so (λ g. g.first ≤ many g.number) (λ g. g.first ≤ many_of g.number (then_at f))
@@ -481,6 +502,7 @@ module _ {K V : Type 0} (terms : Terms) (everything : Bool) (moments : List (Mom
       somewhere = effects_keep_somewhere K V caller acted (f ∷ []) m ((its_placed, finds_map acted refl f its_whose), tt) h.somewhere;
       within = record {
         tables = tables_within f its_whose;
+        apart = apart_within f its_whose;
         roots = roots_within f its_whose;
         made = made_within f;
         spots = spots_within f its_whose its_placed;

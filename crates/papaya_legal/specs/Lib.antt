@@ -11,3 +11,6 @@ pub mod AllEvents
 pub mod Promises
 pub mod Found
 pub mod Noted
+pub mod Further
+pub mod Finding
+pub mod Rests
