@@ -54,7 +54,7 @@ module _ {K V : Type 0} (Such : NewTable → Type 0) (same : K → K → Bool) w
   key_begins hash i standing keys given call (TriesToInsertWith key) = tt
   key_begins hash i standing keys given call (RemovesIf q code few class) = tt
 
-  none_made : (standing : Standing K) (i : ℕ) (u : UnderWay K V K) → Begins same standing i u → MachineMakes Such (machine_of u)
+  pub none_made : (standing : Standing K) (i : ℕ) (u : UnderWay K V K) → Begins same standing i u → MachineMakes Such (machine_of u)
   none_made standing i (OnKey u) begins = key_begins standing.hash i standing u.keys u.pair u.call begins.0
   none_made standing i (ForRoom r) begins = subst (λ (x : CallForRoom). RoomMakes Such x.reserve.stands) (sym begins.1) tt
   none_made standing i (Counting sum) begins = tt

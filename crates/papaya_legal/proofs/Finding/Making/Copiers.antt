@@ -166,7 +166,7 @@ module _ (Such : NewTable → Type 0) where
       successor_makes table _ = here
 
       -- whatever the point
-      point_makes : (stands : Copying) → CopierMakes Such stands → CopierBegins Such p stands → AlwaysOf Ends (plan_at hash p stands)
+      pub point_makes : (stands : Copying) → CopierMakes Such stands → CopierBegins Such p stands → AlwaysOf Ends (plan_at hash p stands)
       point_makes at.Begins makes begins = root_makes
       point_makes at.Follows makes begins = next_read_makes
       point_makes at.Asks makes begins = status_makes
