@@ -9,14 +9,17 @@ use Rattle.papaya_histories.specs.Given.Schedules.Moment.{Place, Unborn, InMap, 
 use Rattle.papaya_histories.specs.Given.Schedules.Things.{same_table}
 use Rattle.papaya_histories.specs.Given.Schedules.Views.{call_of, behind}
 use Rattle.papaya_histories.specs.Given.Rule.Chart.{Chart}
-use Rattle.papaya_histories.specs.Given.Follows.Maps.{tables_to}
+use Rattle.papaya_histories.specs.Given.Follows.Maps.{table_of, shape_at, tables_to}
 use Rattle.papaya_histories.specs.Given.Runs.Same.{is_same}
 use Rattle.papaya_finds.specs.Waiting.{is_out, is_behind_one, once_if, owed_in, put_in, owed_by, PairsArePlaced}
 
 -- a map has so many tables
 pub many_tables : {K : Type 0} (map : ℕ) (c : Chart K) (stage : ℕ → Stage) (n : ℕ) → length (tables_to map c stage n) ≡ n
 many_tables map c stage zero = refl
-many_tables map c stage (suc n) = (let rest = many_tables map c stage n in let more = length-append (tables_to map c stage n) _ in omega (arith, rest, more))
+many_tables map c stage (suc n) =
+    let rest = many_tables map c stage n in
+    let more = length-append (tables_to map c stage n) (record { table = table_of map n; shape = shape_at map c n; stage = stage n } ∷ []) in
+    omega (arith, rest, more)
 
 module _ (t : Table) (j : ℕ) where
   -- as often as behind any at most
@@ -46,6 +49,16 @@ module _ (t : Table) (j : ℕ) where
           | inr ne ↦ rest (let none : ◌≡◌ {A = ℕ} (if j == d.pair then 1 else 0) 0 = ap (λ (q : Bool). if q then 1 else 0) (ne_eqb j d.pair ne) in omega (arith, some, none))
         ]
 
+-- a pair that is out is behind no table
+out_not_behind : (p : Place) → 1 ≤ once_if (is_out p) → once_if (is_behind_one p) ≡ 0
+out_not_behind Out l = refl
+out_not_behind Unborn l = refl
+out_not_behind (InMap map) l = refl
+out_not_behind Handed l = refl
+out_not_behind Behind l = absurd (omega (arith, l))
+out_not_behind Left l = refl
+out_not_behind GivenBack l = refl
+
 -- a pair that a call owes is behind no table
 module _ {K V : Type 0} (own : List ℕ) where
   owed_among : (calls : List (UnderWay K V)) (c : UnderWay K V) → find (λ (d : UnderWay K V). is_same d.caller own) calls ≡ Some c → (n : ℕ) → owed_in n c.owes ≤ owed_by n calls
@@ -56,15 +69,6 @@ module _ {K V : Type 0} (own : List ℕ) where
           → (find (λ (x : UnderWay K V). is_same x.caller own) ds ≡ Some c → owed_in n c.owes ≤ owed_by n ds) → owed_in n c.owes ≤ owed_in n d.owes + owed_by n ds
       by true found rest = (let one : d ≡ c = cc found in let e = ap (λ (x : UnderWay K V). owed_in n x.owes) one in omega (arith, e))
       by false found rest = (let l = rest found in omega (arith, l))
-
-  out_not_behind : (p : Place) → 1 ≤ once_if (is_out p) → once_if (is_behind_one p) ≡ 0
-  out_not_behind Out l = refl
-  out_not_behind Unborn l = refl
-  out_not_behind (InMap map) l = refl
-  out_not_behind Handed l = refl
-  out_not_behind Behind l = absurd (omega (arith, l))
-  out_not_behind Left l = refl
-  out_not_behind GivenBack l = refl
 
   pub owed_not_behind : (m : Moment K V) (placed : PairsArePlaced m) (c : UnderWay K V) → call_of own m ≡ Some c → (n : ℕ) → 1 ≤ owed_in n c.owes → put_in n m.deferred ≡ 0
   owed_not_behind m placed c is n some =

@@ -145,7 +145,7 @@ module _ {K V S : Type 0} (same : K → K → Bool) (hash : K → ℕ) (name : �
         waits : AllByRecursion (λ d. LiesNext m d × (1 ≤ put_in d.pair m.deferred)) m.deferred
         waits = all_both (LiesNext m) (λ d. 1 ≤ put_in d.pair m.deferred) m.deferred order.within.behind (each_is_put m.deferred)
 
-    pub room : FindsSpace m (effect.Deferred n t) c
+    room : FindsSpace m (effect.Deferred n t) c
     room =
         let fits = has_room map st.chart number shown.tables.stage t.turn n (behind t m.deferred) last_made once all_came in
         let listed : tables_of c.map m ≡ tables_to map st.chart shown.tables.stage st.chart.past = ap (λ (k : ℕ). tables_of k m) its.2 ∙ shown.tables.listed in
