@@ -18,6 +18,7 @@ mod Copiers
 mod RoomPoints
 pub mod RoomFacts
 pub mod Needs
+pub mod Tableless
 mod RoomSteps
 mod For
 mod Counts
