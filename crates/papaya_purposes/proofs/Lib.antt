@@ -1,7 +1,7 @@
 mod Lists
 mod Within
 mod Present
-mod Sums
+pub mod Sums
 pub mod Shown
 mod Alike
 mod KeysOn
