@@ -3,7 +3,7 @@ mod Counting
 mod Places
 mod Room
 mod Own
-mod New
+pub mod New
 mod Rising
 pub mod Stays
 mod Frame
