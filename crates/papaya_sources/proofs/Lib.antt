@@ -1,3 +1,4 @@
+-- Lemmas on where pairs were copied from.
 mod Moves
 mod Counting
 mod Places
@@ -5,6 +6,7 @@ mod Room
 mod Own
 pub mod New
 mod Rising
+pub mod Begin
 pub mod Stays
 mod Frame
 pub mod Steps

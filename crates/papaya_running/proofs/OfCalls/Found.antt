@@ -27,8 +27,12 @@ use Rattle.papaya_finds.specs.Growing.{FindAsked, FindsAsked}
 use Rattle.papaya_finds.specs.Linking.{FindShapes, FindsShape}
 use Rattle.papaya_finds.specs.Nexts.{making_of_copier}
 use Rattle.papaya_finds.specs.Parts.{FindAll}
-use Rattle.papaya_finds.specs.Waits.{FindSpace, FindsSpace}
 use Rattle.papaya_finds.proofs.Joined.{several_find_all}
+use Rattle.papaya_histories.specs.Given.Schedules.Lives.{Finds}
+use Rattle.papaya_finds.specs.Life.{StoresOne}
+use Rattle.papaya_finds.specs.Within.{ActsOn, AllIsInOrder}
+use Rattle.papaya_finds.proofs.Over.{both_at}
+use Rattle.papaya_finds.proofs.Runs.{life_keeps_order}
 use Rattle.papaya_legal.specs.Nexts.{MayFollow}
 use Rattle.papaya_legal.specs.Rests.{FindStill, is_reservation}
 use Rattle.papaya_legal.proofs.CallFinds.{steps_find_all}
@@ -74,7 +78,7 @@ of_room calls.Len = refl
 of_room calls.Walk = refl
 
 module _ {K V S : Type 0} (same : K → K → Bool) (hash : K → ℕ) (name : ℕ → List ℕ) (terms : Terms) (log : List (Entry K V)) (event : Event K V) (beginning : Moment K V)
-    (map i : ℕ) (c : CallThere K V) (place : ℕ) (c_is : call_of (name i) beginning ≡ Some c) where
+    (map i : ℕ) (c : CallThere K V) (place : ℕ) (c_is : call_of (name i) beginning ≡ Some c) (order : AllIsInOrder beginning) where
   abbrev moments : List (Moment K V)
   moments = moments_from c.begun log
 
@@ -95,8 +99,8 @@ module _ {K V S : Type 0} (same : K → K → Bool) (hash : K → ℕ) (name : �
   -- so it is of the first effects, and of those behind them
   parts_still : (xs ys : List Effect) (m : Moment K V) → Rest (xs ++ ys) m → Rest xs m × Rest ys (with_effects (Some (name i)) (Some map) xs m)
   parts_still xs ys m rest = (
-    record { asks = λ is. (asked (rest.asks is)).0; links = λ is. (linked (rest.links is)).0; space = spaced.0 },
-    record { asks = λ is. (asked (rest.asks is)).1; links = λ is. (linked (rest.links is)).1; space = spaced.1 },
+    record { asks = λ is. (asked (rest.asks is)).0; links = λ is. (linked (rest.links is)).0 },
+    record { asks = λ is. (asked (rest.asks is)).1; links = λ is. (linked (rest.links is)).1 },
   )
     where
       asked : FindAsked terms moments (name i) map (xs ++ ys) m → FindAsked terms moments (name i) map xs m × FindAsked terms moments (name i) map ys (with_effects (Some (name i)) (Some map) xs m)
@@ -104,9 +108,6 @@ module _ {K V S : Type 0} (same : K → K → Bool) (hash : K → ℕ) (name : �
 
       linked : FindShapes terms moments (name i) map (xs ++ ys) m → FindShapes terms moments (name i) map xs m × FindShapes terms moments (name i) map ys (with_effects (Some (name i)) (Some map) xs m)
       linked all = each_parts (Some (name i)) (Some map) (Each (FindsShape terms moments)) xs ys m all
-
-      spaced : FindSpace (name i) map xs m × FindSpace (name i) map ys (with_effects (Some (name i)) (Some map) xs m)
-      spaced = each_parts (Some (name i)) (Some map) (Each FindsSpace) xs ys m rest.space
 
   module _ (n : ℕ) (mid after : List Effect) (p new : Scheduler K V S) (come : Come n mid p) (step : IsStep same hash place mid after p new) where
     abbrev here : come.scene.calls map i ≡ Some come.under
@@ -151,14 +152,29 @@ module _ {K V S : Type 0} (same : K → K → Bool) (hash : K → ℕ) (name : �
           | inr now ↦ inl now
         ]
 
+    -- all is in order there, since what was done so far has found what it must
+    order_now : All mid beginning → AllIsInOrder come.now
+    order_now found =
+        subst AllIsInOrder (sym come.midst.worked)
+        (life_keeps_order K V terms (Some (name i)) (Some map) false moments mid beginning
+        (both_at (Finds terms (Some (name i)) (Some map) false moments) (StoresOne (Some (name i))) (Some (name i)) (Some map) mid beginning found come.midst.stores) on_its order)
+      where
+        map_is : map ≡ c.map
+        map_is = sym its.2 ∙ ap (λ (z : Seen). z.map) (sym seen_same)
+
+        on_its : ActsOn (Some (name i)) (Some map) beginning
+        on_its own d caller_is d_is =
+            let same_name : name i ≡ own = cc caller_is in
+            ap Some (map_is ∙ ap (λ (x : CallThere K V). x.map) (the c d (sym c_is ∙ ap (λ (x : List ℕ). call_of x beginning) same_name ∙ d_is)))
+
     -- those of one step find it
-    step_finds : Rest its_did come.now → All its_did come.now
-    step_finds rest =
+    step_finds : AllIsInOrder come.now → Rest its_did come.now → All its_did come.now
+    step_finds here_order rest =
         let led = leads same hash name terms log event beginning map i c place n mid after p new come step in
         steps_find_all K V S same hash name come.now (known p.logged.notes) come.scene p.logged.executor new.logged.executor come.shown.is_at come.midst.calls.whole come.midst.calls.kept map i come.under
         here step.said led terms (mask_is (led map come.under here).0 (led map come.under here).2) its.0 its.1 (come.slot its.0 its.1) moments
         (steps_find_rest K V S same hash name come.now (known p.logged.notes) come.scene p.logged.executor new.logged.executor come.shown.is_at come.midst.calls.whole come.midst.calls.kept
-        come.midst.calls.finding map i come.under here step.said led terms moments its.0 its.1 nexts
+        come.midst.calls.finding come.midst.calls.sources here_order map i come.under here step.said led terms moments its.0 its.1 nexts
         (subst (λ (b : Bool). FindStill terms moments (name i) map its_did come.now b) (sym same_kind) rest))
 
     -- and so do all, where those before do
@@ -167,7 +183,7 @@ module _ {K V S : Type 0} (same : K → K → Bool) (hash : K → ℕ) (name : �
         let parts = parts_still mid its_did beginning (subst (λ (fs : List Effect). Rest fs beginning) after_is rest) in
         subst (λ (fs : List Effect). All fs beginning) (sym after_is)
         (several_find_all K V terms moments (name i) map mid its_did beginning (before parts.0)
-        (subst (λ (x : Moment K V). All its_did x) come.midst.worked (step_finds (subst (λ (x : Moment K V). Rest its_did x) (sym come.midst.worked) parts.1))))
+        (subst (λ (x : Moment K V). All its_did x) come.midst.worked (step_finds (order_now (before parts.0)) (subst (λ (x : Moment K V). Rest its_did x) (sym come.midst.worked) parts.1))))
 
   module _ (first : Scheduler K V S) (start : Come 0 [] first) where
     pub gone_find : (n : ℕ) (after : List Effect) (p : Scheduler K V S) → GoneFor same hash place n [] after first p → Rest after beginning → All after beginning
