@@ -212,9 +212,9 @@ end_events_go_on_so K V S same hash name terms log event map beginning first don
       numbers = numbers_then m midst.0.calls.numbers map below (acts.Ending map) refl known new.memory.changed;
       kept = endings_keep_kept K V S same hash name m known s old new at whole midst.0.calls.kept i said leads f here map not_there (ended_at same hash s old new i f here said leads);
       finding = endings_keep_finding K V S same hash name m known s old new at whole midst.0.calls.finding i f here said leads map not_there (ended_at same hash s old new i f here said leads) then_whole;
-      sources = so_aside K V same name m known then_known s (ended same hash s new i f here said leads) None (Some map) effects
+      sources = so_aside K V same name m known then_known s (ended same hash s old new i f here said leads) None (Some map) effects
           (endings_aside same hash name m known s old new at whole i said leads f here map not_there) midst.0.calls.sources then_whole.all.shown
-          (λ n st is. ap (λ (maps : ℕ → Option (Standing K)). maps n) (sym (ended_maps same hash s new i f here said leads)) ∙ is);
+          (λ n st is. ap (λ (maps : ℕ → Option (Standing K)). maps n) (sym (ended_maps same hash s old new i f here said leads)) ∙ is);
       nexts = endings_keep_nexts K V S same hash name log m known s old new midst.0.calls.nexts at whole i f here said leads map not_there;
       counters = endings_keep_counters K V S same hash name m known s old new at midst.0.calls.counters i said leads f here map;
       uncounted = none_counted None (Some map) effects m midst.0.calls.uncounted (none_shards (Some map) effects m);
