@@ -1,13 +1,10 @@
 -- Whatever happens, where a copier makes a table its map has a second table, or had one at a moment since the call began.
-use Rattle.std.specs.Prelude.{◌≡◌, ◌≢◌, ◌⊎◌, ◌<◌, ◌≤◌, ◌+◌, ◌==◌, ℕ, suc, Bool, true, false, cond, not, List, [], ◌∷◌, filter, find, length, map as list_map, Option, Some, None, if◌then◌else◌}
+use Rattle.std.specs.Prelude.{◌≡◌, ◌≢◌, ◌<◌, ◌≤◌, ◌+◌, ◌==◌, ℕ, Bool, true, false, cond, not, List, ◌∷◌, find, length, map as list_map, Option, Some, if◌then◌else◌}
 use Rattle.std.proofs.Common.{refl, ap, sym, subst, ◌∙◌, arith, inl, inr}
 use Rattle.papaya_histories.specs.Given.SeizeWords.Mem.{Mem, word_at}
 use Rattle.papaya_histories.specs.Given.SeizeWords.Plan.{Do, Now, Plan, Seeing, Sure, Then, Turn}
-use Rattle.papaya_histories.specs.Given.Seize.declared.progress.Progress.{Progress as Counting}
 use Rattle.papaya_histories.specs.Given.Tables.TablePlaces.{at_word}
 use Rattle.papaya_histories.specs.Given.Tables.declared.node.Node.{Node}
-use Rattle.papaya_histories.specs.Given.Tables.declared.setting.Setting.{Setting}
-use Rattle.papaya_histories.specs.Given.Tables.declared.table.Table.{Table}
 use Rattle.papaya_histories.specs.Given.Tables.declared.table_words.TheConstants.{NEXT}
 use Rattle.papaya_histories.specs.Given.Resize.NewTable.{new_table_plan}
 use Rattle.papaya_histories.specs.Given.Resize.declared.copier.Copier.{Copier}
@@ -21,7 +18,7 @@ use Rattle.papaya_histories.specs.Given.Schedules.declared.call.Call.{Call}
 use Rattle.papaya_histories.specs.Given.Schedules.declared.call.Reply.{Reply}
 use Rattle.papaya_histories.specs.Given.Schedules.declared.effect.Effect.{Effect}
 use Rattle.papaya_histories.specs.Given.Schedules.declared.outcome.Outcome.{Outcome}
-use Rattle.papaya_histories.specs.Given.Schedules.After.{moment, moments_from, replied, without_call}
+use Rattle.papaya_histories.specs.Given.Schedules.After.{moment, replied, without_call}
 use Rattle.papaya_histories.specs.Given.Schedules.Beginning.{fresh_call, with_call}
 use Rattle.papaya_histories.specs.Given.Schedules.Effects.{with_effects}
 use Rattle.papaya_histories.specs.Given.Schedules.Entry.{Entry, ends_call}

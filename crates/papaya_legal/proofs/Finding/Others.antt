@@ -1,7 +1,7 @@
 -- What steps of calls find by is so after each step of what is no call: of a row on a slot, of the making of a map, of the end of one, and of the reclaiming of all.
-use Rattle.std.specs.Prelude.{◌≡◌, ◌≤◌, ℕ, Bool, List, Option, Some, None}
-use Rattle.std.proofs.Common.{refl, ap, sym, ◌∙◌}
-use Rattle.papaya_histories.specs.Given.Seize.World.{Begin, Step, World}
+use Rattle.std.specs.Prelude.{◌≡◌, ℕ, Bool, List, Some, None}
+use Rattle.std.proofs.Common.{refl}
+use Rattle.papaya_histories.specs.Given.Seize.World.{Begin, Step}
 use Rattle.papaya_histories.specs.Given.Seize.declared.progress.Progress.{Progress as Making}
 use Rattle.papaya_histories.specs.Given.Seize.declared.rows.settle.Settled.{Settled}
 use Rattle.papaya_histories.specs.Given.Seize.declared.rows.settle.Settled.TheVariants as settled
@@ -26,7 +26,7 @@ use Rattle.papaya_histories.specs.Given.Executor.declared.row.SlotRow.{SlotRow}
 use Rattle.papaya_histories.specs.Given.Executor.declared.worker.Work.TheVariants.{OnSlot}
 use Rattle.papaya_histories.specs.Given.Finishes.Endings.{Finishing}
 use Rattle.papaya_histories.specs.Given.Finishes.Makings.{Beginning}
-use Rattle.papaya_histories.specs.Given.Finishes.Maps.{IsSameMap, Standing}
+use Rattle.papaya_histories.specs.Given.Finishes.Maps.{IsSameMap}
 use Rattle.papaya_histories.specs.Given.Others.Endings.{ending_after}
 use Rattle.papaya_histories.specs.Given.Others.Makings.{WasNew, making_after}
 use Rattle.papaya_histories.specs.Given.Others.Rows.{scene_then}

@@ -1,5 +1,5 @@
 -- The effects of a step of a call find what is left of what they must, by what the moment shows and what is still asked.
-use Rattle.std.specs.Prelude.{◌≡◌, ◌⊎◌, ℕ, Bool, true, false, List, ◌∷◌, Option, Some, None}
+use Rattle.std.specs.Prelude.{◌≡◌, ◌⊎◌, ℕ, ◌+◌, Bool, true, false, List, ◌∷◌, Option, Some, None}
 use Rattle.std.proofs.Common.{refl, ap, sym, subst, ◌∙◌, inl, inr}
 use Rattle.papaya_histories.specs.Given.Tables.declared.node.Node.{Node}
 use Rattle.papaya_histories.specs.Given.Resize.Sum.{sum_plan}
@@ -12,11 +12,13 @@ use Rattle.papaya_histories.specs.Given.Raw.declared.machines.progress.Progress.
 use Rattle.papaya_histories.specs.Given.Schedules.declared.call.Call.{Call}
 use Rattle.papaya_histories.specs.Given.Schedules.declared.call.Call.TheVariants as call
 use Rattle.papaya_histories.specs.Given.Schedules.declared.effect.Effect.{Effect}
+use Rattle.papaya_histories.specs.Given.Schedules.After.{moments_from}
 use Rattle.papaya_histories.specs.Given.Schedules.Effects.{with_effects}
+use Rattle.papaya_histories.specs.Given.Schedules.Entry.{Entry}
 use Rattle.papaya_histories.specs.Given.Schedules.Growing.{HasNext, MayGrow}
 use Rattle.papaya_histories.specs.Given.Schedules.Lists.{OneOf}
 use Rattle.papaya_histories.specs.Given.Schedules.Moment.{UnderWay as CallThere, Moment}
-use Rattle.papaya_histories.specs.Given.Schedules.Terms.{Terms}
+use Rattle.papaya_histories.specs.Given.Schedules.Terms.{Terms, shards_of}
 use Rattle.papaya_histories.specs.Given.Schedules.Views.{call_of}
 use Rattle.papaya_histories.specs.Given.Points.FactsCalls.{IsCopying}
 use Rattle.papaya_histories.specs.Given.Callers.Rooms.{CallForRoom}
@@ -35,7 +37,6 @@ use Rattle.papaya_histories.proofs.Given.Others.Outcomes.{told_in}
 use Rattle.papaya_owes.specs.Tables.{ShowsTables}
 use Rattle.papaya_owes.proofs.Walks.{sum_at}
 use Rattle.papaya_settles.specs.Due.{OwnAreMade}
-use Rattle.papaya_kept.specs.Kept.{ShowsKept}
 use Rattle.papaya_kept.proofs.Calls.{own_made}
 use Rattle.papaya_finds.specs.Growing.{FindAsked}
 use Rattle.papaya_finds.specs.Linking.{FindShapes}
@@ -49,9 +50,11 @@ use Rattle.papaya_finds.proofs.Waits.Handed.{calls_hand_past, past_is_handed}
 use Rattle.papaya_finds.proofs.Waits.Next.{calls_put_behind}
 use Rattle.papaya_finds.specs.Waits.{FindPast, FindBehind}
 use Rattle.papaya_sources.proofs.Space.{calls_find_space}
+use Rattle.papaya_purposes.specs.Purposes.{ShowsPurposes}
 use Rattle.papaya_legal.specs.Finding.{ShowsFinding}
 use Rattle.papaya_legal.specs.Rests.{StepsFindRest, is_reservation}
 use Rattle.papaya_legal.proofs.Finding.Links.{copier_links, none_links}
+use Rattle.papaya_legal.proofs.Finding.Rooms.{room_links}
 
 -- whether a call on one key copies pairs
 copies_or : (q : Calling) → IsCopying q ⊎ (IsCopying q → ⊥)
@@ -107,32 +110,46 @@ module _ {K V S : Type 0} (same : K → K → Bool) (hash : K → ℕ) (name : �
     settled_asks (Counting sum) is nexts = sum_asks sum is
     settled_asks (ForRoom r) is nexts = absurd (room_none r c.call (its_call (ForRoom r) is).1 settled)
 
-    -- which table it links
-    module _ (tables : ShowsTables name m known s) where
-      abbrev Linked : Type 0
-      Linked = FindShapes terms moments (name i) map (effects_of (acts.Call i map) known new.memory.changed) m
+-- which table it links
+module _ {K V S : Type 0} (same : K → K → Bool) (hash : K → ℕ) (name : ℕ → List ℕ) (log : List (Entry K V)) (m : Moment K V) (known : Known) (s : Scene K V) (old new : Executor K V S) (at : IsAt same hash old s)
+    (whole : ShowsWhole same name m known s) (tables : ShowsTables name m known s) (finding : ShowsFinding name m known s) (purposes : ShowsPurposes same name log m known s) (map i : ℕ) (said : Progress (Node K V))
+    (leads : StepLeads same hash i said s old new) (terms : Terms) (c : CallThere K V) (c_is : call_of (name i) m ≡ Some c) where
+  abbrev since : List (Moment K V)
+  since = moments_from c.begun log
 
-      copier_linked : (u : UnderWay K V K) (here : s.calls map i ≡ Some u) → Nexts u → MakesByCopier u → Linked
-      copier_linked u here nexts copies =
-          copier_links same hash name m known s old new at whole tables map i u here said leads terms moments finding.further copies (finding.capacities map (leads map u here).0 (leads map u here).2) nexts
+  abbrev Linked : Type 0
+  Linked = FindShapes terms since (name i) map (effects_of (acts.Call i map) known new.memory.changed) m
 
-      settled_links : (u : UnderWay K V K) (here : s.calls map i ≡ Some u) → Nexts u → Linked
-      settled_links (OnKey x) is nexts = elim (copies_or x.call.stands) as (λ _. Linked) [
-        | inl copies ↦ copier_linked (OnKey x) is nexts copies
-        | inr other ↦
-            key_calls_link K V S same hash name m known s old new at whole tables finding.growing map i x is said leads other (finding.capacities map (leads map (OnKey x) is).0 (leads map (OnKey x) is).2) terms
-            moments
-      ]
-      settled_links (OverAll o) is nexts = copier_linked (OverAll o) is nexts tt
-      settled_links (Counting sum) is nexts = none_links same hash name m known s old new at whole tables map i (Counting sum) is said leads terms moments refl
-      settled_links (ForRoom r) is nexts = absurd (room_none r c.call (its_call (ForRoom r) is).1 settled)
+  abbrev NextsOf : UnderWay K V K → Type 0
+  NextsOf u = (n : NewTable) → making_of_copier (machine_of u) ≡ Some n → OneOf (HasNext map) (m ∷ since)
+
+  copier_linked : (u : UnderWay K V K) (here : s.calls map i ≡ Some u) → NextsOf u → MakesByCopier u → Linked
+  copier_linked u here nexts copies =
+      copier_links same hash name m known s old new at whole tables map i u here said leads terms since finding.further copies (finding.capacities map (leads map u here).0 (leads map u here).2) nexts
+
+  call_links : (u : UnderWay K V K) (here : s.calls map i ≡ Some u) → (leads map u here).0.setting.mask + 1 ≡ shards_of terms → NextsOf u → Linked
+  call_links (OnKey x) is mask_is nexts = elim (copies_or x.call.stands) as (λ _. Linked) [
+    | inl copies ↦ copier_linked (OnKey x) is nexts copies
+    | inr other ↦
+        key_calls_link K V S same hash name m known s old new at whole tables finding.growing map i x is said leads other (finding.capacities map (leads map (OnKey x) is).0 (leads map (OnKey x) is).2) terms
+        since
+  ]
+  call_links (OverAll o) is mask_is nexts = copier_linked (OverAll o) is nexts tt
+  call_links (Counting sum) is mask_is nexts = none_links same hash name m known s old new at whole tables map i (Counting sum) is said leads terms since refl
+  call_links (ForRoom r) is mask_is nexts =
+      room_links same hash name log m known s old new at whole purposes map i r is said leads terms c c_is mask_is tables finding.further
+      (finding.capacities map (leads map (ForRoom r) is).0 (leads map (ForRoom r) is).2) nexts
 
 pub steps_find_rest : (K V S : Type 0) (same : K → K → Bool) (hash : K → ℕ) → StepsFindRest K V S same hash
-steps_find_rest K V S same hash name m known s old new at whole kept finding sources order map i u here said leads terms moments c c_is nexts still =
-    rest_is_all K V terms moments (name i) map effects m asked linked
+steps_find_rest K V S same hash name log m known s old new at whole kept finding sources order purposes map i u here said leads terms c c_is mask_is nexts still =
+    rest_is_all K V terms moments (name i) map effects m asked
+    (call_links same hash name log m known s old new at whole kept.tables finding purposes map i said leads terms c c_is u here mask_is nexts)
     (past_is_handed K V (name i) map effects m past behind_it
     (calls_find_space K V S same hash name m known s old new at whole kept.entries owning kept.owed sources order map i u here said leads past behind_it))
   where
+    moments : List (Moment K V)
+    moments = moments_from c.begun log
+
     effects : List Effect
     effects = effects_of (acts.Call i map) known new.memory.changed
 
@@ -151,10 +168,3 @@ steps_find_rest K V S same hash name m known s old new at whole kept finding sou
         by : (q : Bool) → is_reservation c.call ≡ q → FindAsked terms moments (name i) map effects m
         by true is = still.asks is
         by false is = settled_asks same hash name m known s old new at whole finding map i said leads terms moments c c_is is u here nexts
-
-    linked : FindShapes terms moments (name i) map effects m
-    linked = by (is_reservation c.call) refl
-      where
-        by : (q : Bool) → is_reservation c.call ≡ q → FindShapes terms moments (name i) map effects m
-        by true is = still.links is
-        by false is = settled_links same hash name m known s old new at whole finding map i said leads terms moments c c_is is kept.tables u here nexts

@@ -24,9 +24,8 @@ use Rattle.papaya_histories.specs.Given.Follows.Calls.{IsCalled}
 use Rattle.papaya_histories.proofs.Given.Moments.After.{each_parts}
 use Rattle.papaya_histories.proofs.Begun.{effects_begun}
 use Rattle.papaya_finds.specs.Growing.{FindAsked, FindsAsked}
-use Rattle.papaya_finds.specs.Linking.{FindShapes, FindsShape}
 use Rattle.papaya_finds.specs.Nexts.{making_of_copier}
-use Rattle.papaya_finds.specs.Parts.{FindAll}
+use Rattle.papaya_finds.specs.Parts.{FindAll, FindRest}
 use Rattle.papaya_finds.proofs.Joined.{several_find_all}
 use Rattle.papaya_histories.specs.Given.Schedules.Lives.{Finds}
 use Rattle.papaya_finds.specs.Life.{StoresOne}
@@ -77,14 +76,7 @@ of_room calls.Retain = refl
 of_room calls.Len = refl
 of_room calls.Walk = refl
 
-module _ {K V S : Type 0} (same : K → K → Bool) (hash : K → ℕ) (name : ℕ → List ℕ) (terms : Terms) (log : List (Entry K V)) (event : Event K V) (beginning : Moment K V)
-    (map i : ℕ) (c : CallThere K V) (place : ℕ) (c_is : call_of (name i) beginning ≡ Some c) (order : AllIsInOrder beginning) where
-  abbrev moments : List (Moment K V)
-  moments = moments_from c.begun log
-
-  abbrev Come : ℕ → List Effect → Scheduler K V S → Type 0
-  Come n fs p = HasCome same hash name terms log event beginning map i c place n fs p
-
+module _ {K V : Type 0} (name : ℕ → List ℕ) (terms : Terms) (map i : ℕ) (c : CallThere K V) (moments : List (Moment K V)) where
   -- what is asked of effects, by what is asked of the call as the event begins
   abbrev Rest : List Effect → Moment K V → Type 0
   Rest fs m = FindStill terms moments (name i) map fs m (is_reservation c.call)
@@ -99,15 +91,17 @@ module _ {K V S : Type 0} (same : K → K → Bool) (hash : K → ℕ) (name : �
   -- so it is of the first effects, and of those behind them
   parts_still : (xs ys : List Effect) (m : Moment K V) → Rest (xs ++ ys) m → Rest xs m × Rest ys (with_effects (Some (name i)) (Some map) xs m)
   parts_still xs ys m rest = (
-    record { asks = λ is. (asked (rest.asks is)).0; links = λ is. (linked (rest.links is)).0 },
-    record { asks = λ is. (asked (rest.asks is)).1; links = λ is. (linked (rest.links is)).1 },
+    record { asks = λ is. (asked (rest.asks is)).0 },
+    record { asks = λ is. (asked (rest.asks is)).1 },
   )
     where
       asked : FindAsked terms moments (name i) map (xs ++ ys) m → FindAsked terms moments (name i) map xs m × FindAsked terms moments (name i) map ys (with_effects (Some (name i)) (Some map) xs m)
       asked all = each_parts (Some (name i)) (Some map) (Each (FindsAsked terms moments)) xs ys m all
 
-      linked : FindShapes terms moments (name i) map (xs ++ ys) m → FindShapes terms moments (name i) map xs m × FindShapes terms moments (name i) map ys (with_effects (Some (name i)) (Some map) xs m)
-      linked all = each_parts (Some (name i)) (Some map) (Each (FindsShape terms moments)) xs ys m all
+module _ {K V S : Type 0} (same : K → K → Bool) (hash : K → ℕ) (name : ℕ → List ℕ) (terms : Terms) (log : List (Entry K V)) (event : Event K V) (beginning : Moment K V)
+    (map i : ℕ) (c : CallThere K V) (place : ℕ) (c_is : call_of (name i) beginning ≡ Some c) (order : AllIsInOrder beginning) where
+  abbrev Come : ℕ → List Effect → Scheduler K V S → Type 0
+  Come n fs p = HasCome same hash name terms log event beginning map i c place n fs p
 
   module _ (n : ℕ) (mid after : List Effect) (p new : Scheduler K V S) (come : Come n mid p) (step : IsStep same hash place mid after p new) where
     abbrev here : come.scene.calls map i ≡ Some come.under
@@ -144,20 +138,20 @@ module _ {K V S : Type 0} (same : K → K → Bool) (hash : K → ℕ) (name : �
         ap (λ (y : CallThere K V). y.begun) (the its.0 kept.0 (sym its.1 ∙ ap (λ (x : Moment K V). call_of (name i) x) come.midst.worked ∙ kept.1)) ∙ kept.2
 
     -- where its copier makes a table, its map has a second one, or had one since the call began
-    nexts : (k : NewTable) → making_of_copier (machine_of come.under) ≡ Some k → OneOf (HasNext map) (come.now ∷ moments)
+    nexts : (k : NewTable) → making_of_copier (machine_of come.under) ≡ Some k → OneOf (HasNext map) (come.now ∷ moments_from its.0.begun log)
     nexts k is =
         elim (such_of_making (λ (x : NewTable). MayFollow map its.0.begun log come.now) k (machine_of come.under) is (come.midst.calls.nexts map i come.under here its.0 its.1)) as
-        (λ _. OneOf (HasNext map) (come.now ∷ moments)) [
-          | inl had ↦ inr (subst (λ (b : ℕ). OneOf (HasNext map) (moments_from b log)) same_begun had)
+        (λ _. OneOf (HasNext map) (come.now ∷ moments_from its.0.begun log)) [
+          | inl had ↦ inr had
           | inr now ↦ inl now
         ]
 
     -- all is in order there, since what was done so far has found what it must
-    order_now : All mid beginning → AllIsInOrder come.now
+    order_now : All name terms map i c (moments_from c.begun log) mid beginning → AllIsInOrder come.now
     order_now found =
         subst AllIsInOrder (sym come.midst.worked)
-        (life_keeps_order K V terms (Some (name i)) (Some map) false moments mid beginning
-        (both_at (Finds terms (Some (name i)) (Some map) false moments) (StoresOne (Some (name i))) (Some (name i)) (Some map) mid beginning found come.midst.stores) on_its order)
+        (life_keeps_order K V terms (Some (name i)) (Some map) false (moments_from c.begun log) mid beginning
+        (both_at (Finds terms (Some (name i)) (Some map) false (moments_from c.begun log)) (StoresOne (Some (name i))) (Some (name i)) (Some map) mid beginning found come.midst.stores) on_its order)
       where
         map_is : map ≡ c.map
         map_is = sym its.2 ∙ ap (λ (z : Seen). z.map) (sym seen_same)
@@ -168,25 +162,28 @@ module _ {K V S : Type 0} (same : K → K → Bool) (hash : K → ℕ) (name : �
             ap Some (map_is ∙ ap (λ (x : CallThere K V). x.map) (the c d (sym c_is ∙ ap (λ (x : List ℕ). call_of x beginning) same_name ∙ d_is)))
 
     -- those of one step find it
-    step_finds : AllIsInOrder come.now → Rest its_did come.now → All its_did come.now
+    step_finds : AllIsInOrder come.now → Rest name terms map i c (moments_from c.begun log) its_did come.now → All name terms map i c (moments_from c.begun log) its_did come.now
     step_finds here_order rest =
         let led = leads same hash name terms log event beginning map i c place n mid after p new come step in
         steps_find_all K V S same hash name come.now (known p.logged.notes) come.scene p.logged.executor new.logged.executor come.shown.is_at come.midst.calls.whole come.midst.calls.kept map i come.under
-        here step.said led terms (mask_is (led map come.under here).0 (led map come.under here).2) its.0 its.1 (come.slot its.0 its.1) moments
-        (steps_find_rest K V S same hash name come.now (known p.logged.notes) come.scene p.logged.executor new.logged.executor come.shown.is_at come.midst.calls.whole come.midst.calls.kept
-        come.midst.calls.finding come.midst.calls.sources here_order map i come.under here step.said led terms moments its.0 its.1 nexts
-        (subst (λ (b : Bool). FindStill terms moments (name i) map its_did come.now b) (sym same_kind) rest))
+        here step.said led terms (mask_is (led map come.under here).0 (led map come.under here).2) its.0 its.1 (come.slot its.0 its.1) (moments_from c.begun log)
+        (subst (λ (b : ℕ). FindRest terms (moments_from b log) (name i) map its_did come.now) same_begun
+        (steps_find_rest K V S same hash name log come.now (known p.logged.notes) come.scene p.logged.executor new.logged.executor come.shown.is_at come.midst.calls.whole come.midst.calls.kept
+        come.midst.calls.finding come.midst.calls.sources here_order come.midst.calls.purposes map i come.under here step.said led terms its.0 its.1 (mask_is (led map come.under here).0 (led map come.under here).2) nexts
+        (subst (λ (b : ℕ). FindStill terms (moments_from b log) (name i) map its_did come.now (is_reservation its.0.call)) (sym same_begun)
+        (subst (λ (q : Bool). FindStill terms (moments_from c.begun log) (name i) map its_did come.now q) (sym same_kind) rest))))
 
     -- and so do all, where those before do
-    pub all_find : (Rest mid beginning → All mid beginning) → Rest after beginning → All after beginning
+    pub all_find : (Rest name terms map i c (moments_from c.begun log) mid beginning → All name terms map i c (moments_from c.begun log) mid beginning) → Rest name terms map i c (moments_from c.begun log) after beginning → All name terms map i c (moments_from c.begun log) after beginning
     all_find before rest =
-        let parts = parts_still mid its_did beginning (subst (λ (fs : List Effect). Rest fs beginning) after_is rest) in
-        subst (λ (fs : List Effect). All fs beginning) (sym after_is)
-        (several_find_all K V terms moments (name i) map mid its_did beginning (before parts.0)
-        (subst (λ (x : Moment K V). All its_did x) come.midst.worked (step_finds (order_now (before parts.0)) (subst (λ (x : Moment K V). Rest its_did x) (sym come.midst.worked) parts.1))))
+        let parts = parts_still name terms map i c (moments_from c.begun log) mid its_did beginning (subst (λ (fs : List Effect). Rest name terms map i c (moments_from c.begun log) fs beginning) after_is rest) in
+        subst (λ (fs : List Effect). All name terms map i c (moments_from c.begun log) fs beginning) (sym after_is)
+        (several_find_all K V terms (moments_from c.begun log) (name i) map mid its_did beginning (before parts.0)
+        (subst (λ (x : Moment K V). All name terms map i c (moments_from c.begun log) its_did x) come.midst.worked
+        (step_finds (order_now (before parts.0)) (subst (λ (x : Moment K V). Rest name terms map i c (moments_from c.begun log) its_did x) (sym come.midst.worked) parts.1))))
 
   module _ (first : Scheduler K V S) (start : Come 0 [] first) where
-    pub gone_find : (n : ℕ) (after : List Effect) (p : Scheduler K V S) → GoneFor same hash place n [] after first p → Rest after beginning → All after beginning
-    gone_find zero after p gone rest = subst (λ (fs : List Effect). All fs beginning) gone.0 tt
+    pub gone_find : (n : ℕ) (after : List Effect) (p : Scheduler K V S) → GoneFor same hash place n [] after first p → Rest name terms map i c (moments_from c.begun log) after beginning → All name terms map i c (moments_from c.begun log) after beginning
+    gone_find zero after p gone rest = subst (λ (fs : List Effect). All name terms map i c (moments_from c.begun log) fs beginning) gone.0 tt
     gone_find (suc n) after p (mid, q, outcome, gone, on, step) rest =
         all_find n mid after q p (has_come same hash name terms log event beginning map i c place first start n mid q gone) (as_told same hash step) (gone_find n mid q gone) rest

@@ -1,5 +1,5 @@
 -- What a copier may begin to make follows a table of its map: by what it knows where it stands.
-use Rattle.std.specs.Prelude.{◌≡◌, ℕ, Bool, true, false, cond, Some, ◌⊎◌}
+use Rattle.std.specs.Prelude.{◌≡◌, ℕ, Bool, true, false, cond, Some}
 use Rattle.std.proofs.Common.{inl, inr}
 use Rattle.papaya_histories.specs.Given.Seize.World.{World}
 use Rattle.papaya_histories.specs.Given.Tables.Chunks.{is_incremental}

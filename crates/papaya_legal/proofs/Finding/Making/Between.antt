@@ -1,11 +1,10 @@
 -- Between the steps of calls: where a call begins, takes a reply, or goes on as a walk, and where none does, each copier makes a table as it is to make it.
 use Rattle.std.specs.Prelude.{◌≡◌, ℕ, Bool, Some}
-use Rattle.std.proofs.Common.{ap, sym, subst, inl, inr}
+use Rattle.std.proofs.Common.{sym, subst, inl, inr}
 use Rattle.papaya_histories.specs.Given.Raw.Machine.{machine_asked, machine_replied}
 use Rattle.papaya_histories.specs.Given.Raw.declared.machines.asking.Reply.{Reply}
 use Rattle.papaya_histories.specs.Given.Raw.declared.machines.call.KeyCall.{KeyCall}
 use Rattle.papaya_histories.specs.Given.Raw.declared.machines.machine.Machine.{Machine}
-use Rattle.papaya_histories.specs.Given.Raw.declared.machines.machine.Machine.TheVariants as kinds
 use Rattle.papaya_histories.specs.Given.Resize.declared.new_table.NewTable.{NewTable}
 use Rattle.papaya_histories.specs.Given.Schedules.Moment.{Moment}
 use Rattle.papaya_histories.specs.Given.Callers.OverAll.{CallOverAll}

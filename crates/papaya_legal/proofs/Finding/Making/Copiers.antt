@@ -1,5 +1,5 @@
 -- A step of a copier makes a table as it was to make it, or begins to make one behind a table that has no place.
-use Rattle.std.specs.Prelude.{◌≡◌, ℕ, ◌+◌, ◌-◌, ◌%◌, ◌^◌, ◌==◌, nat_lt, Bool, true, false, Ok, Err, if◌then◌else◌}
+use Rattle.std.specs.Prelude.{ℕ, ◌+◌, ◌-◌, ◌%◌, ◌^◌, ◌==◌, nat_lt, Bool, true, false, Ok, Err, if◌then◌else◌}
 use Rattle.papaya_histories.specs.Given.SeizeWords.Op.{Out, Found, Exchanged}
 use Rattle.papaya_histories.specs.Given.SeizeWords.Word.{block_in}
 use Rattle.papaya_histories.specs.Given.SeizeWords.declared.fault.Fault.{Fault}
@@ -21,7 +21,7 @@ use Rattle.papaya_histories.specs.Given.Resize.Copier.{copier_plan, plan_at}
 use Rattle.papaya_histories.specs.Given.Resize.CopierClaims.{claim_read, claimed, next_read, root_read, status_read}
 use Rattle.papaya_histories.specs.Given.Resize.CopierCounts.{counted, refusing}
 use Rattle.papaya_histories.specs.Given.Resize.CopierFurther.{further_read, grown, remade, replacement_read}
-use Rattle.papaya_histories.specs.Given.Resize.CopierMarks.{is_awaited, is_mine, marked, mine_marked}
+use Rattle.papaya_histories.specs.Given.Resize.CopierMarks.{is_awaited, is_mine, marked}
 use Rattle.papaya_histories.specs.Given.Resize.CopierPlaces.{next_try, pair_put, place_read, put_told}
 use Rattle.papaya_histories.specs.Given.Resize.CopierPromotes.{promoted, retired, successor_read, table_retired}
 use Rattle.papaya_histories.specs.Given.Resize.CopierStates.{behind, copying_all, next_place, none_left, place_done, resting}

@@ -22,7 +22,7 @@ use Rattle.papaya_histories.specs.Given.Teller.declared.changed.Changed.{Changed
 use Rattle.papaya_histories.specs.Given.Teller.declared.changed.Changed.TheVariants as changed
 use Rattle.papaya_histories.specs.Given.Teller.declared.changed.Kind.{Kind}
 use Rattle.papaya_histories.specs.Given.Teller.declared.changed.Kind.TheVariants as kind
-use Rattle.papaya_histories.specs.Given.Effects.Effects.{batched, carried, effects_of, followed_by, in_block, in_table, is_place, made_by, named, names_same, placed, spot_at, taken_by, table_at, written_by}
+use Rattle.papaya_histories.specs.Given.Effects.Effects.{batched, carried, effects_of, followed_by, in_block, in_table, is_place, made_by, named, names_same, placed, spot_at, taken_by, written_by}
 use Rattle.papaya_histories.specs.Given.Effects.Known.{Known}
 use Rattle.papaya_histories.specs.Given.Effects.declared.acting.Acting.{Acting}
 use Rattle.papaya_histories.specs.Given.Effects.declared.acting.Acting.TheVariants as acts
