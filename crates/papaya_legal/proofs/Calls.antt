@@ -52,6 +52,7 @@ use Rattle.papaya_legal.proofs.CallChanges.{changes_first, reads_shards, unadded
 use Rattle.papaya_histories.proofs.Several.{stands}
 use Rattle.papaya_legal.proofs.CallPairs.{begun_so, each_is_its_own, own_alike, pairs_first}
 use Rattle.papaya_legal.proofs.CallReads.{does_nothing, readings_go_on}
+use Rattle.papaya_sources.proofs.Steps.{calls_keep_sources}
 use Rattle.papaya_legal.proofs.Finding.Calls.{calls_keep_finding}
 use Rattle.papaya_legal.proofs.Finding.Nexts.{nexts_go_on, others_at_first, others_go_on}
 use Rattle.papaya_legal.proofs.Uncounted.{calls_leave_uncounted}
@@ -133,6 +134,7 @@ call_events_go_on_so K V S same hash name terms log event beginning map i c step
     );
     kept = calls_keep_kept K V S same hash name m known s old new at whole midst.calls.kept map i u here said leads;
     finding = calls_keep_finding K V S same hash name m known s old new at whole midst.calls.kept midst.calls.finding map i u here said leads;
+    sources = calls_keep_sources K V S same hash name m known s old new at whole midst.calls.sources map i u here said leads;
     nexts = nexts_go_on same hash name log m known s old new at whole map i u here said leads midst.others midst.calls.nexts (whole.all.shown.calls map i u here).0 (whole.all.shown.calls map i u here).1;
     counters = calls_keep_counters K V S same hash name m known s old new at whole midst.calls.kept.counts midst.calls.counters map i u here said leads;
     uncounted = calls_leave_uncounted same hash name m known s old new at whole midst.calls.kept midst.calls.counters midst.calls.uncounted map i u here said leads below;

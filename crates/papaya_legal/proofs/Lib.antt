@@ -2,6 +2,7 @@
 pub mod Finding
 pub mod Begin
 pub mod Uncounted
+pub mod Sourced
 pub mod Between
 pub mod CallChanges
 pub mod CallPairs

@@ -30,6 +30,7 @@ use Rattle.papaya_finds.specs.Little.{OverIsBack, ReclaimsAll}
 use Rattle.papaya_finds.specs.Orderly.{is_left_over}
 use Rattle.papaya_finds.specs.Within.{AllIsInOrder, GoesInOrder, ReadyOweNone}
 use Rattle.papaya_kept.specs.Kept.{ShowsKept}
+use Rattle.papaya_sources.specs.Sources.{ShowsSources}
 use Rattle.papaya_legal.specs.Finding.{ShowsFinding}
 use Rattle.papaya_legal.specs.Nexts.{ShowsNexts}
 
@@ -49,6 +50,7 @@ pub record ShowsCalls {K V : Type 0} (same : K → K → Bool) (name : ℕ → L
   pub kept : ShowsKept name m known s
   pub finding : ShowsFinding name m known s
   pub nexts : ShowsNexts name log m s
+  pub sources : ShowsSources same name m known s
   pub counters : ShowsCounters name m s
   pub uncounted : NoneCounted m
   pub dues : ShowsDue same name log m known s

@@ -26,7 +26,8 @@ use Rattle.papaya_kept.specs.Kept.{ShowsKept}
 use Rattle.papaya_finds.specs.Growing.{FindAsked}
 use Rattle.papaya_finds.specs.Nexts.{making_of_copier}
 use Rattle.papaya_finds.specs.Parts.{FindRest}
-use Rattle.papaya_finds.specs.Waits.{FindSpace}
+use Rattle.papaya_finds.specs.Within.{AllIsInOrder}
+use Rattle.papaya_sources.specs.Sources.{ShowsSources}
 use Rattle.papaya_purposes.specs.Purposes.{ShowsPurposes}
 use Rattle.papaya_legal.specs.Finding.{ShowsFinding}
 
@@ -35,16 +36,15 @@ module _ {K V : Type 0} where
   is_reservation (Reserve more) = true
   is_reservation _ = false
 
-  -- Of a reservation, why it asks for each block; and of each call, that a table behind which it puts a pair has room.
+  -- Of a reservation, why it asks for each block.
   pub record FindStill (terms : Terms) (moments : List (Moment K V)) (own : List ℕ) (map : ℕ) (effects : List Effect) (m : Moment K V) (reserves : Bool) : Type 0 where
     pub asks : reserves ≡ true → FindAsked terms moments own map effects m
-    pub space : FindSpace own map effects m
 
--- The promise, of a step of a call, where the map of each copier that makes a table has a second one, or had one.
+-- The promise, of a step of a call, at a moment at which all is in order, where the map of each copier that makes a table has a second one, or had one.
 abbrev pub StepsFindRest : (K V S : Type 0) (same : K → K → Bool) (hash : K → ℕ) → Type 0
 StepsFindRest K V S same hash =
     (name : ℕ → List ℕ) (log : List (Entry K V)) (m : Moment K V) (known : Known) (s : Scene K V) (old new : Executor K V S) → IsAt same hash old s → ShowsWhole same name m known s
-    → ShowsKept name m known s → ShowsFinding name m known s → ShowsPurposes same name log m known s
+    → ShowsKept name m known s → ShowsFinding name m known s → ShowsSources same name m known s → AllIsInOrder m → ShowsPurposes same name log m known s
     → (map i : ℕ) (u : UnderWay K V K) (here : s.calls map i ≡ Some u) (said : Progress (Node K V)) (leads : StepLeads same hash i said s old new)
     → (terms : Terms) (c : CallThere K V) → call_of (name i) m ≡ Some c → (leads map u here).0.setting.mask + 1 ≡ shards_of terms
     → (let effects = effects_of (acts.Call i map) known new.memory.changed in

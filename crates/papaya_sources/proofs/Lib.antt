@@ -1,10 +1,12 @@
+-- Lemmas on where pairs were copied from.
 mod Moves
 mod Counting
 mod Places
 mod Room
 mod Own
-mod New
+pub mod New
 mod Rising
+pub mod Begin
 pub mod Stays
 mod Frame
 pub mod Steps

@@ -68,7 +68,7 @@ not_in_it map Left ne = refl
 not_in_it map GivenBack ne = refl
 
 -- of a map of which fewer blocks may be looked at
-same_standing : {K : Type 0} (o o2 : Option (Standing K)) → IsSameMap o o2 → (st : Standing K) → o2 ≡ Some st → (before : Standing K) × (o ≡ Some before) × (st.chart ≡ before.chart) × (before.setting ≡ st.setting)
+pub same_standing : {K : Type 0} (o o2 : Option (Standing K)) → IsSameMap o o2 → (st : Standing K) → o2 ≡ Some st → (before : Standing K) × (o ≡ Some before) × (st.chart ≡ before.chart) × (before.setting ≡ st.setting)
 same_standing None o2 none st is = absurd (cc (none, is))
 same_standing {K} (Some before) o2 (blocks, sights, same_map, part) st is =
     let one = one_of st (record before { blocks = blocks; sights = sights }) (sym is ∙ same_map) in

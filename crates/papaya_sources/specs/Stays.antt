@@ -15,11 +15,15 @@ module _ {K V : Type 0} where
     pub born : (k : ℕ) → k ≤ length m.stored → v.born k ≡ m.born k
     pub spot : (k : ℕ) → k ≤ length m.stored → v.spot k ≡ m.spot k
 
+  -- no pair was stored in this map
+  abbrev pub NoneBorn : ℕ → Moment K V → Type 0
+  NoneBorn map v = (k : ℕ) → 0 < k → k ≤ length v.stored → (v.born k).map ≡ map → ⊥
+
   -- a map stood before with these tables; or it is new, and no pair was stored there
   abbrev pub StandsAsBefore : Moment K V → Moment K V → Scene K V → ℕ → Standing K → Type 0
   StandsAsBefore m v s map st2 =
       ((st : Standing K) × (s.maps map ≡ Some st) × (st2.chart ≡ st.chart) × (is_incremental st.setting.mode ≡ is_incremental st2.setting.mode))
-      ⊎ ((st2.chart.stored ≡ 0) × ((k : ℕ) → 0 < k → k ≤ length v.stored → (v.born k).map ≡ map → ⊥))
+      ⊎ ((st2.chart.stored ≡ 0) × NoneBorn map v)
 
 -- The promises: so it is as a run begins,
 abbrev pub SourcesBegin : Type 0 → Type 0 → Type 0

@@ -48,6 +48,8 @@ use Rattle.papaya_finds.proofs.Linking.{key_calls_link}
 use Rattle.papaya_finds.proofs.Rest.{rest_is_all}
 use Rattle.papaya_finds.proofs.Waits.Handed.{calls_hand_past, past_is_handed}
 use Rattle.papaya_finds.proofs.Waits.Next.{calls_put_behind}
+use Rattle.papaya_finds.specs.Waits.{FindPast, FindBehind}
+use Rattle.papaya_sources.proofs.Space.{calls_find_space}
 use Rattle.papaya_purposes.specs.Purposes.{ShowsPurposes}
 use Rattle.papaya_legal.specs.Finding.{ShowsFinding}
 use Rattle.papaya_legal.specs.Rests.{StepsFindRest, is_reservation}
@@ -139,11 +141,11 @@ module _ {K V S : Type 0} (same : K → K → Bool) (hash : K → ℕ) (name : �
       (finding.capacities map (leads map (ForRoom r) is).0 (leads map (ForRoom r) is).2) nexts
 
 pub steps_find_rest : (K V S : Type 0) (same : K → K → Bool) (hash : K → ℕ) → StepsFindRest K V S same hash
-steps_find_rest K V S same hash name log m known s old new at whole kept finding purposes map i u here said leads terms c c_is mask_is nexts still =
+steps_find_rest K V S same hash name log m known s old new at whole kept finding sources order purposes map i u here said leads terms c c_is mask_is nexts still =
     rest_is_all K V terms moments (name i) map effects m asked
     (call_links same hash name log m known s old new at whole kept.tables finding purposes map i said leads terms c c_is u here mask_is nexts)
-    (past_is_handed K V (name i) map effects m (calls_hand_past K V S same hash name m known s old new at whole kept.entries owning kept.owed finding.waits map i u here said leads)
-    (calls_put_behind K V S same hash name m known s old new at whole kept.entries owning kept.owed finding.waits finding.puts map i u here said leads) still.space)
+    (past_is_handed K V (name i) map effects m past behind_it
+    (calls_find_space K V S same hash name m known s old new at whole kept.entries owning kept.owed sources order map i u here said leads past behind_it))
   where
     moments : List (Moment K V)
     moments = moments_from c.begun log
@@ -153,6 +155,12 @@ steps_find_rest K V S same hash name log m known s old new at whole kept finding
 
     owning : OwnAreMade known s.world
     owning = own_made K V S same hash name m known s old at whole kept
+
+    past : FindPast (name i) map effects m
+    past = calls_hand_past K V S same hash name m known s old new at whole kept.entries owning kept.owed finding.waits map i u here said leads
+
+    behind_it : FindBehind (name i) map effects m
+    behind_it = calls_put_behind K V S same hash name m known s old new at whole kept.entries owning kept.owed finding.waits finding.puts map i u here said leads
 
     asked : FindAsked terms moments (name i) map effects m
     asked = by (is_reservation c.call) refl

@@ -26,8 +26,12 @@ use Rattle.papaya_histories.proofs.Begun.{effects_begun}
 use Rattle.papaya_finds.specs.Growing.{FindAsked, FindsAsked}
 use Rattle.papaya_finds.specs.Nexts.{making_of_copier}
 use Rattle.papaya_finds.specs.Parts.{FindAll, FindRest}
-use Rattle.papaya_finds.specs.Waits.{FindSpace, FindsSpace}
 use Rattle.papaya_finds.proofs.Joined.{several_find_all}
+use Rattle.papaya_histories.specs.Given.Schedules.Lives.{Finds}
+use Rattle.papaya_finds.specs.Life.{StoresOne}
+use Rattle.papaya_finds.specs.Within.{ActsOn, AllIsInOrder}
+use Rattle.papaya_finds.proofs.Over.{both_at}
+use Rattle.papaya_finds.proofs.Runs.{life_keeps_order}
 use Rattle.papaya_legal.specs.Nexts.{MayFollow}
 use Rattle.papaya_legal.specs.Rests.{FindStill, is_reservation}
 use Rattle.papaya_legal.proofs.CallFinds.{steps_find_all}
@@ -87,18 +91,15 @@ module _ {K V : Type 0} (name : ℕ → List ℕ) (terms : Terms) (map i : ℕ) 
   -- so it is of the first effects, and of those behind them
   parts_still : (xs ys : List Effect) (m : Moment K V) → Rest (xs ++ ys) m → Rest xs m × Rest ys (with_effects (Some (name i)) (Some map) xs m)
   parts_still xs ys m rest = (
-    record { asks = λ is. (asked (rest.asks is)).0; space = spaced.0 },
-    record { asks = λ is. (asked (rest.asks is)).1; space = spaced.1 },
+    record { asks = λ is. (asked (rest.asks is)).0 },
+    record { asks = λ is. (asked (rest.asks is)).1 },
   )
     where
       asked : FindAsked terms moments (name i) map (xs ++ ys) m → FindAsked terms moments (name i) map xs m × FindAsked terms moments (name i) map ys (with_effects (Some (name i)) (Some map) xs m)
       asked all = each_parts (Some (name i)) (Some map) (Each (FindsAsked terms moments)) xs ys m all
 
-      spaced : FindSpace (name i) map xs m × FindSpace (name i) map ys (with_effects (Some (name i)) (Some map) xs m)
-      spaced = each_parts (Some (name i)) (Some map) (Each FindsSpace) xs ys m rest.space
-
 module _ {K V S : Type 0} (same : K → K → Bool) (hash : K → ℕ) (name : ℕ → List ℕ) (terms : Terms) (log : List (Entry K V)) (event : Event K V) (beginning : Moment K V)
-    (map i : ℕ) (c : CallThere K V) (place : ℕ) (c_is : call_of (name i) beginning ≡ Some c) where
+    (map i : ℕ) (c : CallThere K V) (place : ℕ) (c_is : call_of (name i) beginning ≡ Some c) (order : AllIsInOrder beginning) where
   abbrev Come : ℕ → List Effect → Scheduler K V S → Type 0
   Come n fs p = HasCome same hash name terms log event beginning map i c place n fs p
 
@@ -145,15 +146,30 @@ module _ {K V S : Type 0} (same : K → K → Bool) (hash : K → ℕ) (name : �
           | inr now ↦ inl now
         ]
 
+    -- all is in order there, since what was done so far has found what it must
+    order_now : All name terms map i c (moments_from c.begun log) mid beginning → AllIsInOrder come.now
+    order_now found =
+        subst AllIsInOrder (sym come.midst.worked)
+        (life_keeps_order K V terms (Some (name i)) (Some map) false (moments_from c.begun log) mid beginning
+        (both_at (Finds terms (Some (name i)) (Some map) false (moments_from c.begun log)) (StoresOne (Some (name i))) (Some (name i)) (Some map) mid beginning found come.midst.stores) on_its order)
+      where
+        map_is : map ≡ c.map
+        map_is = sym its.2 ∙ ap (λ (z : Seen). z.map) (sym seen_same)
+
+        on_its : ActsOn (Some (name i)) (Some map) beginning
+        on_its own d caller_is d_is =
+            let same_name : name i ≡ own = cc caller_is in
+            ap Some (map_is ∙ ap (λ (x : CallThere K V). x.map) (the c d (sym c_is ∙ ap (λ (x : List ℕ). call_of x beginning) same_name ∙ d_is)))
+
     -- those of one step find it
-    step_finds : Rest name terms map i c (moments_from c.begun log) its_did come.now → All name terms map i c (moments_from c.begun log) its_did come.now
-    step_finds rest =
+    step_finds : AllIsInOrder come.now → Rest name terms map i c (moments_from c.begun log) its_did come.now → All name terms map i c (moments_from c.begun log) its_did come.now
+    step_finds here_order rest =
         let led = leads same hash name terms log event beginning map i c place n mid after p new come step in
         steps_find_all K V S same hash name come.now (known p.logged.notes) come.scene p.logged.executor new.logged.executor come.shown.is_at come.midst.calls.whole come.midst.calls.kept map i come.under
         here step.said led terms (mask_is (led map come.under here).0 (led map come.under here).2) its.0 its.1 (come.slot its.0 its.1) (moments_from c.begun log)
         (subst (λ (b : ℕ). FindRest terms (moments_from b log) (name i) map its_did come.now) same_begun
         (steps_find_rest K V S same hash name log come.now (known p.logged.notes) come.scene p.logged.executor new.logged.executor come.shown.is_at come.midst.calls.whole come.midst.calls.kept
-        come.midst.calls.finding come.midst.calls.purposes map i come.under here step.said led terms its.0 its.1 (mask_is (led map come.under here).0 (led map come.under here).2) nexts
+        come.midst.calls.finding come.midst.calls.sources here_order come.midst.calls.purposes map i come.under here step.said led terms its.0 its.1 (mask_is (led map come.under here).0 (led map come.under here).2) nexts
         (subst (λ (b : ℕ). FindStill terms (moments_from b log) (name i) map its_did come.now (is_reservation its.0.call)) (sym same_begun)
         (subst (λ (q : Bool). FindStill terms (moments_from c.begun log) (name i) map its_did come.now q) (sym same_kind) rest))))
 
@@ -163,7 +179,8 @@ module _ {K V S : Type 0} (same : K → K → Bool) (hash : K → ℕ) (name : �
         let parts = parts_still name terms map i c (moments_from c.begun log) mid its_did beginning (subst (λ (fs : List Effect). Rest name terms map i c (moments_from c.begun log) fs beginning) after_is rest) in
         subst (λ (fs : List Effect). All name terms map i c (moments_from c.begun log) fs beginning) (sym after_is)
         (several_find_all K V terms (moments_from c.begun log) (name i) map mid its_did beginning (before parts.0)
-        (subst (λ (x : Moment K V). All name terms map i c (moments_from c.begun log) its_did x) come.midst.worked (step_finds (subst (λ (x : Moment K V). Rest name terms map i c (moments_from c.begun log) its_did x) (sym come.midst.worked) parts.1))))
+        (subst (λ (x : Moment K V). All name terms map i c (moments_from c.begun log) its_did x) come.midst.worked
+        (step_finds (order_now (before parts.0)) (subst (λ (x : Moment K V). Rest name terms map i c (moments_from c.begun log) its_did x) (sym come.midst.worked) parts.1))))
 
   module _ (first : Scheduler K V S) (start : Come 0 [] first) where
     pub gone_find : (n : ℕ) (after : List Effect) (p : Scheduler K V S) → GoneFor same hash place n [] after first p → Rest name terms map i c (moments_from c.begun log) after beginning → All name terms map i c (moments_from c.begun log) after beginning

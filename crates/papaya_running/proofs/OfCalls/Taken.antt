@@ -19,6 +19,8 @@ use Rattle.papaya_histories.specs.Given.Effects.Known.{known}
 use Rattle.papaya_histories.specs.Given.Executor.IsAt.{slot_of}
 use Rattle.papaya_histories.specs.Given.Schedules.declared.effect.Thing.{Thing}
 use Rattle.papaya_finds.specs.Doing.{takes_steps}
+use Rattle.papaya_finds.specs.Within.{AllIsInOrder}
+use Rattle.papaya_finds.proofs.Begun.{all_begun}
 use Rattle.papaya_legal.specs.Noted.{HaveCome}
 use Rattle.papaya_legal.specs.Carried.{ComesAlone}
 use Rattle.papaya_legal.specs.Rests.{FindStill, is_reservation}
@@ -151,6 +153,10 @@ module _ {K V S : Type 0} (same : K → K → Bool) (hash : K → ℕ) (terms : 
           (subst (λ (k : ℕ). FindStill terms (moments_from c.begun log) c.caller k played.effects.items m (is_reservation c.call)) map_is
           (its_left (λ (x : CallThere K V) (b : Moment K V). FindStill terms (moments_from x.begun log) x.caller x.map played.effects.items b (is_reservation x.call)) left.but.rest))
 
+      -- all is in order as it begins
+      order : AllIsInOrder m
+      order = subst AllIsInOrder (begins played) (all_begun terms log (entry_of event played) event played.outcome left.right runs.shows.order.0)
+
       pub taken_on : RunsOn same hash terms log (entry_of event played) new
       taken_on =
           let by = come.2 in
@@ -159,6 +165,6 @@ module _ {K V S : Type 0} (same : K → K → Bool) (hash : K → ℕ) (terms : 
           (tells_so same hash name terms log event m map i c place c_is (known old.logged.notes) runs.stands.scene runs.shows runs.come played by.0 by.2 by.3 new far_on by.5 comes_as
           (its_left (λ (x : CallThere K V) (b : Moment K V). TellsValue x.call x.replies played.outcome) left.but.values)) (begins played) acts_on (inl takes) by.1
           (never_busy c.call played.outcome comes_as) left.right refused
-          (all_find same hash name terms log event m map i c place c_is by.0 by.2 played.effects.items by.3 new far_on (as_told same hash by.5)
-          (gone_find same hash name terms log event m map i c place c_is old start by.0 by.2 by.3 by.4) rest)
+          (all_find same hash name terms log event m map i c place c_is order by.0 by.2 played.effects.items by.3 new far_on (as_told same hash by.5)
+          (gone_find same hash name terms log event m map i c place c_is order old start by.0 by.2 by.3 by.4) rest)
           slot_so active plays
