@@ -65,8 +65,9 @@ use Rattle.papaya_mapping.proofs.MapsEnded.{here as ending_here, no_call, no_oth
 use Rattle.papaya_mapping.proofs.MapLists.{by_recursion}
 use Rattle.papaya_scheduler.proofs.Maps.{number_is}
 use Rattle.papaya_scheduler.proofs.Rights.{entry, entry_is}
+use Rattle.papaya_running.proofs.OfCalls.Worth.{have_values_then, nobody_says}
 use Rattle.papaya_running.specs.Asked.{Holds}
-use Rattle.papaya_running.specs.OfCalls.{HaveShards, Runs, RunsOn}
+use Rattle.papaya_running.specs.OfCalls.{HaveShards, HaveValues, Runs, RunsOn}
 use Rattle.papaya_running.specs.OfRows.{IsLeftOfRows, KeepsRun}
 use Rattle.papaya_running.proofs.OfCalls.Scenes.{AreNamed, its_named, stands_in}
 use Rattle.papaya_running.proofs.OfRows.Chain.{come_as, come_by}
@@ -101,6 +102,12 @@ module _ {K V S : Type 0} (same : K → K → Bool) (hash : K → ℕ) (s : Scen
   maps_stand (settled.Gave value) leads = refl
   maps_stand settled.Done leads = refl
 
+  calls_stand : (said : Settled (Node K V)) (leads : Leads said) → (next_scene said leads).calls ≡ s.calls
+  calls_stand settled.Goes leads = refl
+  calls_stand settled.Waits leads = absurd (leads f here).3
+  calls_stand (settled.Gave value) leads = refl
+  calls_stand settled.Done leads = refl
+
   -- once it is over it is under way no more,
   ends_over : (said : Settled (Node K V)) (leads : Leads said) → is_done said ≡ true → (next_scene said leads).enders i ≡ None
   ends_over settled.Done leads over = at_same s.enders i None i refl
@@ -132,6 +139,7 @@ module _ {K V S : Type 0} (same : K → K → Bool) (hash : K → ℕ) (terms : 
     pub midst : InEndEvent same name terms log (EndMap own) map (moment log) before i f.effects now (known f.logged.notes) scene
     pub made : now.made ≡ (moment log).made
     pub maps : scene.maps ≡ stood
+    pub calls : scene.calls ≡ x.scene.calls
     pub counted : IsCounted now f.logged scene
 
   -- and it is under way, of this map
@@ -191,6 +199,7 @@ module _ {K V S : Type 0} (same : K → K → Bool) (hash : K → ℕ) (terms : 
       midst = ends_chain K V S same hash name terms log (EndMap own) i map (moment log) before 1 (come_by mid y.now y.scene) (come_by to w next) (come_by mid y.now y.scene, refl, one) y.midst;
       made = made_stays None (Some map) step_did y.now ∙ y.made;
       maps = maps_stand same hash y.scene mid.logged.executor to.logged.executor i it.0 it.1 step.said leads ∙ y.maps;
+      calls = calls_stand same hash y.scene mid.logged.executor to.logged.executor i it.0 it.1 step.said leads ∙ y.calls;
       counted = counted_end_steps same hash mid.logged to.logged.executor to.logged.notes step.is_noted.given y.now y.scene y.is_at y.counted i map step.said leads it.0 it.1 step.is_noted.noted first
           (taken_of (leads it.0 it.1).2.deed) did_its;
     }
@@ -310,7 +319,7 @@ module _ {K V S : Type 0} (same : K → K → Bool) (hash : K → ℕ) (terms : 
 
     first : Midway same hash terms name log own i map (known old.logged.notes) number first_noted s1.maps gone below 0 x (far [] d.began)
     first = (
-      record { now = m; scene = s1; chain = refl; is_at = at1; size = d.stays.1 ∙ run.size; midst = midst; made = refl; maps = refl; counted = (begun none_on).4.counted },
+      record { now = m; scene = s1; chain = refl; is_at = at1; size = d.stays.1 ∙ run.size; midst = midst; made = refl; maps = refl; calls = refl; counted = (begun none_on).4.counted },
       (finishing_of standing s.world, at_same s.enders i (Some (finishing_of standing s.world)) i refl, (begun none_on).3.1, λ b none. refl),
     )
 
@@ -390,6 +399,11 @@ module _ {K V S : Type 0} (same : K → K → Bool) (hash : K → ℕ) (terms : 
         by (inl one) = absurd (let none = ap (option_map (λ (st : Standing K). st.setting)) (at_same s.maps map None n one) in cc (none, now_is))
         by (inr ne) = run.shards n setting (sym (run.stands.shown.is_at.maps n) ∙ sym (ap (option_map (λ (st : Standing K). st.setting)) (at_other s.maps map None n ne)) ∙ now_is)
 
+    values : HaveValues (moment (e ∷ log)) y.scene new.calls.items.items
+    values =
+        subst (λ (c : Callers V). HaveValues (moment (e ∷ log)) y.scene c.items.items) (sym calls)
+        (have_values_then m (moment (e ∷ log)) (nobody_says e m refl) s y.scene y.calls old.calls.items.items run.values)
+
     keeps_done : KeepsAs e
     keeps_done so right = record {
       legal = (it right).0;
@@ -403,6 +417,7 @@ module _ {K V S : Type 0} (same : K → K → Bool) (hash : K → ℕ) (terms : 
             }) named;
         shows = (it right).1;
         come = events_bring_things K V terms log e run.come (it right).0.life.finds;
+        values = values;
         size = y.size;
         shards = shards;
       };

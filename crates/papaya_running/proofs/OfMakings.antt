@@ -76,8 +76,9 @@ use Rattle.papaya_mapping.proofs.MapsMade.{new_one, shown_there as shown_by}
 use Rattle.papaya_scheduler.proofs.Maps.{number_is}
 use Rattle.papaya_scheduler.proofs.RanOn.{maps_named}
 use Rattle.papaya_scheduler.proofs.Rights.{entry, entry_is}
+use Rattle.papaya_running.proofs.OfCalls.Worth.{have_values_then, nobody_says}
 use Rattle.papaya_running.specs.Asked.{Holds}
-use Rattle.papaya_running.specs.OfCalls.{HaveShards, Runs, RunsOn}
+use Rattle.papaya_running.specs.OfCalls.{HaveShards, HaveValues, Runs, RunsOn}
 use Rattle.papaya_running.specs.OfRows.{HasNotBegun, IsLeftOfRows, KeepsRun}
 use Rattle.papaya_running.proofs.OfCalls.Scenes.{AreNamed, its_named, stands_in}
 use Rattle.papaya_running.proofs.OfRows.Chain.{come_as, come_by}
@@ -134,6 +135,12 @@ module _ {K V S : Type 0} (same : K → K → Bool) (hash : K → ℕ) (s : Scen
   maps_still (progress.Done setting) leads more = absurd (cc more)
   maps_still (progress.Refused fault) leads more = absurd (cc more)
 
+  calls_still : (said : Progress Setting) (leads : Leads said) → (next_scene said leads).calls ≡ s.calls
+  calls_still progress.Goes leads = refl
+  calls_still progress.Waits leads = absurd (leads b here).3
+  calls_still (progress.Done setting) leads = refl
+  calls_still (progress.Refused fault) leads = refl
+
   new_still : (name : ℕ → List ℕ) (m : Moment K V) (k : Known) → IsAt same hash old s → Shows same name m k s → (of : Option ℕ) (setting : Setting) (said : Progress Setting) → Leads said → is_over said ≡ false
       → IsNew b.map setting m → IsNew b.map setting (with_effects None of (effects_of (acts.Making b.map) k new.memory.changed) m)
   new_still name m k at shows of setting progress.Goes leads more is_new = new_maps_stay K V S same hash name m k s old new at shows i leads b here of setting is_new
@@ -181,6 +188,7 @@ module _ {K V S : Type 0} (same : K → K → Bool) (hash : K → ℕ) (terms : 
     pub size : f.logged.executor.batch_size ≡ terms.batch_size
     pub midst : InMakingEvent same name terms log (MakeMap own mode capacity) b.map began f.effects now (known f.logged.notes) scene
     pub made : now.made ≡ began.made
+    pub calls : scene.calls ≡ x.scene.calls
     pub counted : IsCounted now f.logged scene
 
   module _ (n : ℕ) (x : Come K V S) (mid to : Far K V S) (y : MakingComes n x mid) (it : IsUnder i b setting stood y.now y.scene) (step : MakingGoes i b.map mid to) (was_new : WasNew b.map step.said y.now) where
@@ -223,6 +231,7 @@ module _ {K V S : Type 0} (same : K → K → Bool) (hash : K → ℕ) (terms : 
       size = step.is_noted.given.1 ∙ y.size;
       midst = makings_chain K V S same hash name terms log (MakeMap own mode capacity) i b.map began 1 (come_by mid y.now y.scene) (come_by to w next) (come_by mid y.now y.scene, refl, one) y.midst;
       made = made_stays None (Some b.map) step_did y.now ∙ y.made;
+      calls = calls_still same hash y.scene mid.logged.executor to.logged.executor i d it.1 step.said leads ∙ y.calls;
       counted = counted_making_steps same hash mid.logged to.logged.executor to.logged.notes step.is_noted.given y.now y.scene y.is_at y.counted i step.said leads d it.1 (Some b.map) step.is_noted.noted;
     }
 
@@ -343,7 +352,7 @@ module _ {K V S : Type 0} (same : K → K → Bool) (hash : K → ℕ) (terms : 
 
     first : Midway same hash terms name log own mode capacity i b bm below d.setting s.maps 0 x (far [] d.began)
     first = (
-      record { now = bm; scene = s1; chain = refl; is_at = at1; size = d.stays.1 ∙ run.size; midst = midst; made = refl; counted = shown_there.counted },
+      record { now = bm; scene = s1; chain = refl; is_at = at1; size = d.stays.1 ∙ run.size; midst = midst; made = refl; calls = refl; counted = shown_there.counted },
       (b.machine, at_same s.makers i (Some b) i refl, is_new, refl),
     )
 
@@ -451,6 +460,11 @@ module _ {K V S : Type 0} (same : K → K → Bool) (hash : K → ℕ) (terms : 
     left_behind =
         subst (λ (r : ℕ). LeftAmong r y.scene.world y.scene.maps y.scene.makers y.scene.enders y.counted.remains.lists) (sym (ap (λ (x : Executor K V S). x.roots) d.gone.6)) y.counted.remains.left
 
+    values : HaveValues (moment (e ∷ log)) y.scene new.calls.items.items
+    values =
+        subst (λ (c : Callers V). HaveValues (moment (e ∷ log)) y.scene c.items.items) (sym calls)
+        (have_values_then m (moment (e ∷ log)) (nobody_says e m refl) s y.scene y.calls old.calls.items.items run.values)
+
     keeps_made : KeepsAs e
     keeps_made so left = record {
       legal = (it left).0;
@@ -463,6 +477,7 @@ module _ {K V S : Type 0} (same : K → K → Bool) (hash : K → ℕ) (terms : 
         }) named;
         shows = shows left;
         come = events_bring_things K V terms log e run.come (it left).0.life.finds;
+        values = values;
         size = ap (λ (x : Executor K V S). x.batch_size) d.gone.6 ∙ y.size;
         shards = shards;
       };

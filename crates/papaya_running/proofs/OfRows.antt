@@ -50,7 +50,9 @@ use Rattle.papaya_named.specs.declared.caller.Callers.{Callers}
 use Rattle.papaya_scheduler.specs.declared.played.Played.{Played}
 use Rattle.papaya_scheduler.specs.declared.scheduler.Scheduler.{Scheduler}
 use Rattle.papaya_scheduler.proofs.Rights.{entry, entry_is}
-use Rattle.papaya_running.specs.OfCalls.{HaveShards, Runs, RunsOn}
+use Rattle.papaya_histories.specs.Given.SeizeWords.declared.fault.Fault.TheVariants.{Busy}
+use Rattle.papaya_running.proofs.OfCalls.Worth.{have_values_then, nobody_says}
+use Rattle.papaya_running.specs.OfCalls.{HaveShards, HaveValues, Runs, RunsOn}
 use Rattle.papaya_running.specs.OfRows.{FindsStill, IsLeftOfRows, KeepsRun, MaysDo, is_of_rows}
 use Rattle.papaya_running.proofs.OfCalls.Scenes.{AreNamed, its_named, stands_in}
 use Rattle.papaya_running.proofs.OfRows.Chain.{RowComes, come_by, rows_come}
@@ -227,10 +229,15 @@ module _ {K V S : Type 0} (same : K → K → Bool) (hash : K → ℕ) (terms : 
     shards : HaveShards terms new.logged.executor
     shards n setting is = run.shards n setting (sym (run.stands.shown.is_at.maps n) ∙ sym (f.led.settings n) ∙ f.led.at.maps n ∙ is)
 
+    values : HaveValues (moment (e ∷ log)) y.scene new.calls.items.items
+    values =
+        subst (λ (c : Callers V). HaveValues (moment (e ∷ log)) y.scene c.items.items) (sym calls)
+        (have_values_then m (moment (e ∷ log)) (nobody_says e m (refused_still log s.world event of Busy 0).no_call) s y.scene y.calls old.calls.items.items run.values)
+
     row_keeps : RunsOn same hash terms log e new
     row_keeps = record {
       legal = it.0;
-      runs = record { stands = stands_in same hash terms (moment (e ∷ log)) new after name y.scene shown named; shows = it.1; come = events_bring_things K V terms log e run.come it.0.life.finds; size = y.size; shards = shards };
+      runs = record { stands = stands_in same hash terms (moment (e ∷ log)) new after name y.scene shown named; shows = it.1; come = events_bring_things K V terms log e run.come it.0.life.finds; values = values; size = y.size; shards = shards };
     }
 
   -- and so it is of one that has done nothing

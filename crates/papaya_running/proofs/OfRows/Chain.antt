@@ -35,12 +35,13 @@ module _ {K V S : Type 0} (same : K → K → Bool) (hash : K → ℕ) (terms : 
     pub chain : Chain (RowSteps same hash terms i) n x (come_by f now scene)
     pub is_at : IsAt same hash f.logged.executor scene
     pub size : f.logged.executor.batch_size ≡ terms.batch_size
+    pub calls : scene.calls ≡ x.scene.calls
     pub counted : IsCounted now f.logged scene
 
   pub rows_come : (n : ℕ) (from to : Far K V S) (now : Moment K V) (s : Scene K V) → IsAt same hash from.logged.executor s → from.logged.executor.batch_size ≡ terms.batch_size
       → IsCounted now from.logged s → GoesFor (RowGoes i) n from to → RowComes n (come_by from now s) to
   rows_come zero from to now s at size counted is =
-      subst (λ (f : Far K V S). RowComes 0 (come_by from now s) f) is (record { now = now; scene = s; chain = refl; is_at = at; size = size; counted = counted })
+      subst (λ (f : Far K V S). RowComes 0 (come_by from now s) f) is (record { now = now; scene = s; chain = refl; is_at = at; size = size; calls = refl; counted = counted })
   rows_come (suc n) from to now s at size counted (mid, gone, step) =
       let y = rows_come n from mid now s at size counted gone in
       let leads = step.leads same hash y.scene y.is_at in
@@ -68,5 +69,6 @@ module _ {K V S : Type 0} (same : K → K → Bool) (hash : K → ℕ) (terms : 
         );
         is_at = (leads row here).4.4;
         size = step.is_noted.given.1 ∙ y.size;
+        calls = y.calls;
         counted = counted_row_steps same hash mid.logged to.logged.executor to.logged.notes step.is_noted.given y.now y.scene y.is_at y.counted i step.said leads row here step.is_noted.noted;
       }
