@@ -1,22 +1,22 @@
 -- Before all events a scheduler is as events ask of it, whatever was chosen of numbers of blocks.
 use Rattle.std.specs.Prelude.{◌≡◌, ◌<◌, ◌≤◌, ◌^◌, ℕ, Bool, List, [], ◌∷◌, length, Option, None, Some, min, slice_get, slice_index_or, map}
 use Rattle.std.proofs.Common.{refl, sym, ap, subst, ◌∙◌, inr, arith}
-use Rattle.seize_words.specs.Mem.{Mem, word_at}
-use Rattle.seize_words.specs.SlotWords.{slot_word}
-use Rattle.seize_words.specs.declared.at.At.TheVariants.{Root, Used}
 use Rattle.papaya_histories.specs.Given.Seize.declared.states.TheConstants.{HEAD}
 use Rattle.papaya_histories.specs.Given.Tables.declared.node.Node.{Node}
 use Rattle.papaya_histories.specs.Given.Points.Steps.{AreLawful}
 use Rattle.papaya_histories.proofs.Given.Points.Making.OwnTables.{zero_at}
 use Rattle.papaya_histories.proofs.Given.Moments.NewMaps.{pairs_begin}
 use Rattle.papaya_histories.proofs.Given.Moments.Numbers.{numbers_begin}
-use Rattle.papaya_schedules.specs.Moment.{start}
-use Rattle.papaya_schedules.specs.Terms.{Terms}
-use Rattle.papaya_effects.specs.Known.{Known, known}
 use Rattle.papaya_histories.specs.Given.Seize.World.{Chooses, World}
 use Rattle.papaya_histories.specs.Given.Tables.Nodes.{deferred_word}
 use Rattle.papaya_histories.specs.Given.Tables.declared.setting.Setting.{Setting}
 use Rattle.papaya_histories.specs.Given.Executor.IsAt.{at_first}
+use Rattle.seize_words.specs.Mem.{Mem, word_at}
+use Rattle.seize_words.specs.SlotWords.{slot_word}
+use Rattle.seize_words.specs.declared.at.At.TheVariants.{Root, Used}
+use Rattle.papaya_schedules.specs.Moment.{start}
+use Rattle.papaya_schedules.specs.Terms.{Terms}
+use Rattle.papaya_effects.specs.Known.{Known, known}
 use Rattle.papaya_models.specs.Turns.{CameByTurns}
 use Rattle.papaya_models.proofs.Turns.{events_follow, turns_begin}
 use Rattle.papaya_legal.proofs.Come.{nothing_has_come}

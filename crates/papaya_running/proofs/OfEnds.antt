@@ -10,6 +10,17 @@ use Rattle.papaya_histories.specs.Given.Runs.Same.{is_same}
 use Rattle.papaya_histories.specs.Given.Tables.Chunks.{is_incremental}
 use Rattle.papaya_histories.specs.Given.Tables.declared.node.Node.{Node}
 use Rattle.papaya_histories.proofs.Given.Callers.Together.At.{at_other, at_same}
+use Rattle.papaya_histories.specs.Given.Executor.Ending.{EndingLeads, NoCallOn, ending_begun}
+use Rattle.papaya_histories.specs.Given.Executor.IsAt.{Scene, IsAt}
+use Rattle.papaya_histories.specs.Given.Executor.declared.executor.Executor.{Executor}
+use Rattle.papaya_histories.specs.Given.Finishes.Endings.{Finishing, finishing_of}
+use Rattle.papaya_histories.specs.Given.Finishes.FactsEnds.{taken_by as taken_of}
+use Rattle.papaya_histories.specs.Given.Finishes.Maps.{Standing}
+use Rattle.papaya_histories.specs.Given.Finishes.Orders.{pairs_of}
+use Rattle.papaya_histories.specs.Given.Rule.Chart.{Chart}
+use Rattle.papaya_histories.specs.Given.Moments.Endings.{IsOfIts}
+use Rattle.papaya_histories.specs.Given.Moments.WholeEnds.{all_ended, tables_ended}
+use Rattle.papaya_histories.specs.Given.Others.Endings.{ending_after}
 use Rattle.papaya_schedules.specs.declared.effect.Effect.{Effect}
 use Rattle.papaya_schedules.specs.declared.effect.Effect.TheVariants.{Ended}
 use Rattle.papaya_schedules.specs.declared.event.Event.{Event}
@@ -27,17 +38,6 @@ use Rattle.papaya_schedules.specs.Views.{map_at, map_of, number_of}
 use Rattle.papaya_effects.specs.Effects.{effects_of, known_after}
 use Rattle.papaya_effects.specs.Known.{Known, known}
 use Rattle.papaya_effects.specs.declared.acting.Acting.TheVariants as acts
-use Rattle.papaya_histories.specs.Given.Executor.Ending.{EndingLeads, NoCallOn, ending_begun}
-use Rattle.papaya_histories.specs.Given.Executor.IsAt.{Scene, IsAt}
-use Rattle.papaya_histories.specs.Given.Executor.declared.executor.Executor.{Executor}
-use Rattle.papaya_histories.specs.Given.Finishes.Endings.{Finishing, finishing_of}
-use Rattle.papaya_histories.specs.Given.Finishes.FactsEnds.{taken_by as taken_of}
-use Rattle.papaya_histories.specs.Given.Finishes.Maps.{Standing}
-use Rattle.papaya_histories.specs.Given.Finishes.Orders.{pairs_of}
-use Rattle.papaya_histories.specs.Given.Rule.Chart.{Chart}
-use Rattle.papaya_histories.specs.Given.Moments.Endings.{IsOfIts}
-use Rattle.papaya_histories.specs.Given.Moments.WholeEnds.{all_ended, tables_ended}
-use Rattle.papaya_histories.specs.Given.Others.Endings.{ending_after}
 use Rattle.papaya_executor.proofs.Fresh.{no_ending_yet}
 use Rattle.papaya_legal.proofs.Come.{events_bring_things}
 use Rattle.papaya_legal.specs.CallEvents.{IsLegalBut}

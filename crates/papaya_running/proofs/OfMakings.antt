@@ -6,7 +6,6 @@ use Rattle.std.proofs.lemmas.Bool.{cases_eq, ne_eqb}
 use Rattle.std.proofs.lemmas.Nat.{pow_pos}
 use Rattle.papaya_histories.specs.Given.Seize.declared.progress.Progress.{Progress}
 use Rattle.papaya_histories.specs.Given.Seize.declared.progress.Progress.TheVariants as progress
-use Rattle.seize_words.specs.declared.fault.Fault.{Fault}
 use Rattle.papaya_histories.specs.Given.Seize.World.{with_at}
 use Rattle.papaya_histories.specs.Given.Runs.Same.{is_same}
 use Rattle.papaya_histories.specs.Given.Resize.declared.new_map.NewMap.{NewMap}
@@ -15,6 +14,14 @@ use Rattle.papaya_histories.specs.Given.Tables.Lengths.{places_for}
 use Rattle.papaya_histories.specs.Given.Tables.Powers.{floor_log2, next_power}
 use Rattle.papaya_histories.specs.Given.Tables.declared.setting.Setting.{Setting}
 use Rattle.papaya_histories.proofs.Given.Callers.Together.At.{at_other, at_same}
+use Rattle.papaya_histories.specs.Given.Executor.IsAt.{Scene, IsAt, slot_of}
+use Rattle.papaya_histories.specs.Given.Executor.Making.{MakingLeads}
+use Rattle.papaya_histories.specs.Given.Executor.declared.executor.Executor.{Executor}
+use Rattle.papaya_histories.specs.Given.Finishes.Makings.{Beginning, IsMade}
+use Rattle.papaya_histories.specs.Given.Finishes.Maps.{Standing}
+use Rattle.papaya_histories.specs.Given.Follows.Shows.{Shows}
+use Rattle.papaya_histories.specs.Given.Others.Makings.{IsNew, WasNew, making_after}
+use Rattle.seize_words.specs.declared.fault.Fault.{Fault}
 use Rattle.papaya_runs.proofs.Sames.{same_refl}
 use Rattle.papaya_schedules.specs.declared.effect.Effect.{Effect}
 use Rattle.papaya_schedules.specs.declared.event.Event.{Event}
@@ -36,13 +43,6 @@ use Rattle.papaya_effects.specs.Effects.{effects_of, known_after}
 use Rattle.papaya_effects.specs.Known.{Known, known}
 use Rattle.papaya_effects.specs.declared.acting.Acting.TheVariants as acts
 use Rattle.papaya_effects.specs.declared.notes.Notes.{Notes}
-use Rattle.papaya_histories.specs.Given.Executor.IsAt.{Scene, IsAt, slot_of}
-use Rattle.papaya_histories.specs.Given.Executor.Making.{MakingLeads}
-use Rattle.papaya_histories.specs.Given.Executor.declared.executor.Executor.{Executor}
-use Rattle.papaya_histories.specs.Given.Finishes.Makings.{Beginning, IsMade}
-use Rattle.papaya_histories.specs.Given.Finishes.Maps.{Standing}
-use Rattle.papaya_histories.specs.Given.Follows.Shows.{Shows}
-use Rattle.papaya_histories.specs.Given.Others.Makings.{IsNew, WasNew, making_after}
 use Rattle.papaya_others.proofs.MakingGoes.{new_maps_stay}
 use Rattle.papaya_executor.specs.MakingBegins.{next_making}
 use Rattle.papaya_executor.proofs.Fresh.{no_making_yet}

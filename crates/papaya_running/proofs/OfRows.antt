@@ -4,6 +4,14 @@ use Rattle.std.specs.List.{list_all}
 use Rattle.std.proofs.Common.{refl, ap, sym, subst, inl, inr, ◌∙◌}
 use Rattle.papaya_histories.specs.Given.Seize.World.{Begin, Rests}
 use Rattle.papaya_histories.specs.Given.Tables.declared.node.Node.{Node}
+use Rattle.papaya_histories.specs.Given.Executor.IsAt.{Scene, slot_of}
+use Rattle.papaya_histories.specs.Given.Executor.OnSlots.{MayBegin, RowBegins}
+use Rattle.papaya_histories.specs.Given.Executor.Rows.{request_of}
+use Rattle.papaya_histories.specs.Given.Executor.declared.row.RowTold.{RowTold}
+use Rattle.papaya_histories.specs.Given.Executor.declared.row.SlotCall.{SlotCall}
+use Rattle.papaya_histories.specs.Given.Others.Rows.{scene_then}
+use Rattle.papaya_histories.proofs.Given.Spots.Unreclaimed.{and_both, or_right}
+use Rattle.papaya_histories.specs.Given.SeizeWords.declared.fault.Fault.TheVariants.{Busy}
 use Rattle.papaya_schedules.specs.declared.effect.Effect.{Effect}
 use Rattle.papaya_schedules.specs.declared.event.Event.{Event}
 use Rattle.papaya_schedules.specs.declared.event.Event.TheVariants.{DropGuard, Enter, Flush, Own, Refresh, Register, Unregister}
@@ -20,13 +28,6 @@ use Rattle.papaya_schedules.specs.Moment.{Moment}
 use Rattle.papaya_schedules.specs.Terms.{Terms}
 use Rattle.papaya_effects.specs.Known.{known}
 use Rattle.papaya_effects.specs.declared.notes.Notes.{Notes}
-use Rattle.papaya_histories.specs.Given.Executor.IsAt.{Scene, slot_of}
-use Rattle.papaya_histories.specs.Given.Executor.OnSlots.{MayBegin, RowBegins}
-use Rattle.papaya_histories.specs.Given.Executor.Rows.{request_of}
-use Rattle.papaya_histories.specs.Given.Executor.declared.row.RowTold.{RowTold}
-use Rattle.papaya_histories.specs.Given.Executor.declared.row.SlotCall.{SlotCall}
-use Rattle.papaya_histories.specs.Given.Others.Rows.{scene_then}
-use Rattle.papaya_histories.proofs.Given.Spots.Unreclaimed.{and_both, or_right}
 use Rattle.papaya_promises.specs.Others.{SparesGuards}
 use Rattle.papaya_promises.specs.Protected.{is_of_slots, there_in}
 use Rattle.papaya_models.specs.OnSlots.{IsRowFor}
@@ -50,7 +51,6 @@ use Rattle.papaya_named.specs.declared.caller.Callers.{Callers}
 use Rattle.papaya_scheduler.specs.declared.played.Played.{Played}
 use Rattle.papaya_scheduler.specs.declared.scheduler.Scheduler.{Scheduler}
 use Rattle.papaya_scheduler.proofs.Rights.{entry, entry_is}
-use Rattle.papaya_histories.specs.Given.SeizeWords.declared.fault.Fault.TheVariants.{Busy}
 use Rattle.papaya_running.proofs.OfCalls.Worth.{have_values_then, nobody_says}
 use Rattle.papaya_running.specs.OfCalls.{HaveShards, HaveValues, Runs, RunsOn}
 use Rattle.papaya_running.specs.OfRows.{FindsStill, IsLeftOfRows, KeepsRun, MaysDo, is_of_rows}

@@ -1,10 +1,10 @@
 -- An event that sets something up, shows the tables of a map, or forgets a guard keeps its promises, and the run goes on with it.
 use Rattle.std.specs.Prelude.{◌≡◌, ℕ, Bool, true, false, List, [], ◌∷◌, Result, Ok, Err, IfOk}
 use Rattle.std.proofs.Common.{refl, sym, ap, subst, ◌∙◌}
-use Rattle.seize_words.specs.declared.fault.Fault.TheVariants.{Busy}
 use Rattle.papaya_histories.specs.Given.Seize.World.{World}
 use Rattle.papaya_histories.specs.Given.Tables.declared.node.Node.{Node}
 use Rattle.papaya_histories.specs.Given.Executor.IsAt.{Scene}
+use Rattle.seize_words.specs.declared.fault.Fault.TheVariants.{Busy}
 use Rattle.papaya_schedules.specs.declared.event.Event.{Event}
 use Rattle.papaya_schedules.specs.declared.event.Event.TheVariants.{Begin, Choose, Collector, Forget, Go, Hash, Next, OneCall, Replied, ShowShape, Step, Stop}
 use Rattle.papaya_schedules.specs.declared.outcome.Outcome.{Outcome}
@@ -30,7 +30,7 @@ use Rattle.papaya_scheduler.specs.declared.scheduler.Scheduler.{Scheduler}
 use Rattle.papaya_scheduler.proofs.Rights.{entry, entry_is}
 use Rattle.papaya_running.proofs.OfCalls.Worth.{have_values_then, nobody_says}
 use Rattle.papaya_running.specs.Asked.{is_of_calls}
-use Rattle.papaya_running.specs.OfCalls.{HaveValues, Runs, RunsOn}
+use Rattle.papaya_running.specs.OfCalls.{Runs, RunsOn}
 use Rattle.papaya_running.specs.OfSetups.{KeepsSetup, is_of_setups}
 use Rattle.papaya_running.proofs.OfCalls.Scenes.{its_named, stands_in}
 use Rattle.papaya_running.proofs.OfRows.Lone.{alone_follows}

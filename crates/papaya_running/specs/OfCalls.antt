@@ -1,21 +1,15 @@
 -- What is so after each event of a run, of the scheduler and of the scene for which it stands; and what is promised of an event of a call: it keeps its promises, and the run goes on.
 use Rattle.std.specs.Prelude.{◌≡◌, ◌<◌, ◌≤◌, ◌^◌, ◌+◌, ℕ, Bool, true, false, List, ◌∷◌, slice_index_or, Option, Some, None}
+use Rattle.std.specs.List.{AllByRecursion}
 use Rattle.papaya_histories.specs.Given.SeizeWaiting.Held.{count}
 use Rattle.papaya_histories.specs.Given.Seize.WaitingSets.{Sets}
 use Rattle.papaya_histories.specs.Given.Seize.World.{World, IsInside}
 use Rattle.papaya_histories.specs.Given.Tables.declared.node.Node.{Node}
 use Rattle.papaya_histories.specs.Given.Tables.declared.setting.Setting.{Setting}
 use Rattle.papaya_histories.specs.Given.Raw.declared.machines.progress.Progress.{Progress}
-use Rattle.papaya_histories.specs.Given.Schedules.declared.call.Answer.TheVariants as answer
 use Rattle.papaya_histories.specs.Given.Schedules.declared.call.Call.{Call}
-use Rattle.papaya_histories.specs.Given.Schedules.declared.call.Call.TheVariants.{On}
-use Rattle.papaya_histories.specs.Given.Schedules.declared.call.OneKey.TheVariants.{Compute, TryInsert}
-use Rattle.papaya_histories.specs.Given.Schedules.declared.call.Reply.{Reply}
-use Rattle.papaya_histories.specs.Given.Schedules.declared.call.Reply.TheVariants.{Aborts}
 use Rattle.papaya_histories.specs.Given.Schedules.declared.effect.Effect.{Effect}
 use Rattle.papaya_histories.specs.Given.Schedules.declared.event.Event.{Event}
-use Rattle.papaya_histories.specs.Given.Schedules.declared.outcome.Outcome.{Outcome}
-use Rattle.papaya_histories.specs.Given.Schedules.declared.outcome.Outcome.TheVariants.{Answered}
 use Rattle.papaya_histories.specs.Given.Schedules.After.{moment, moments_from}
 use Rattle.papaya_histories.specs.Given.Schedules.Beginning.{at_work}
 use Rattle.papaya_histories.specs.Given.Schedules.Entry.{Entry, IfCall, acting, caller_of}
@@ -33,12 +27,11 @@ use Rattle.papaya_histories.specs.Given.Executor.IsAt.{Scene, IsAt}
 use Rattle.papaya_histories.specs.Given.Executor.Stepping.{StepLeads}
 use Rattle.papaya_histories.specs.Given.Executor.declared.executor.Executor.{Executor}
 use Rattle.papaya_histories.specs.InEvent.{ComesSo}
+use Rattle.papaya_histories.specs.Given.Finishes.Machines.{machine_of}
 use Rattle.papaya_models.specs.CallEvents.{IsInItsRow}
 use Rattle.papaya_finds.specs.Parts.{FindRest}
 use Rattle.papaya_values.specs.Values.{KeepsValue}
 use Rattle.papaya_named.specs.declared.caller.Caller.{Caller}
-use Rattle.papaya_histories.specs.Given.Finishes.Machines.{machine_of}
-use Rattle.std.specs.List.{AllByRecursion}
 use Rattle.papaya_legal.specs.CallEvents.{InCallEvent, IsLegalBut}
 use Rattle.papaya_legal.specs.CallSwept.{TellsOf}
 use Rattle.papaya_legal.specs.Carried.{ShowsRun}

@@ -15,6 +15,9 @@ use Rattle.papaya_histories.specs.Given.Schedules.Terms.{Terms}
 use Rattle.papaya_histories.specs.Given.Schedules.Views.{call_of}
 use Rattle.papaya_histories.specs.Given.Effects.Known.{known}
 use Rattle.papaya_histories.specs.Given.Finishes.Machines.{machine_of}
+use Rattle.papaya_histories.specs.Given.Schedules.Moment.{Moment}
+use Rattle.papaya_histories.specs.Given.Schedules.After.{after}
+use Rattle.papaya_histories.specs.Given.Schedules.declared.event.Event.TheVariants.{Go, Step}
 use Rattle.papaya_legal.specs.CallEvents.{IsLegalBut}
 use Rattle.papaya_legal.specs.Carried.{ShowsRun}
 use Rattle.papaya_legal.specs.Over.{GoesOnBy, IsSaidSo}
@@ -34,9 +37,6 @@ use Rattle.papaya_scheduler.proofs.Stopped.{asked_ready}
 use Rattle.papaya_stepping.specs.Stepping.{SaysAgain}
 use Rattle.papaya_stepping.proofs.Again.{far_ready}
 use Rattle.papaya_running.proofs.OfCalls.Worth.{SaidIn, event_says}
-use Rattle.papaya_histories.specs.Given.Schedules.Moment.{Moment}
-use Rattle.papaya_histories.specs.Given.Schedules.After.{after}
-use Rattle.papaya_histories.specs.Given.Schedules.declared.event.Event.TheVariants.{Go, Step}
 use Rattle.papaya_running.specs.OfCalls.{Runs, RunsOn}
 use Rattle.papaya_running.proofs.OfCalls.AsBefore.{as_before}
 

@@ -29,11 +29,6 @@ use Rattle.papaya_histories.specs.Events.{ComesToIt}
 use Rattle.papaya_histories.specs.InEvent.{ComesSo}
 use Rattle.papaya_histories.specs.OtherMidsts.{AsksAsSaid}
 use Rattle.papaya_histories.proofs.AnyCall.InEvent.{events_have_words}
-use Rattle.papaya_named.specs.Seen.{kind_of, kind_on}
-use Rattle.papaya_named.specs.Telling.{aborted_with, answer_on, number_by, number_in, occupied_by}
-use Rattle.papaya_stepping.specs.Stepping.{outcome_of}
-use Rattle.papaya_values.specs.Values.{KeepsValue}
-use Rattle.papaya_values.proofs.Values.{inserts_tell_theirs}
 use Rattle.papaya_histories.specs.InEvent.{InEvent, here_of}
 use Rattle.papaya_histories.specs.Given.Schedules.declared.effect.Effect.{Effect}
 use Rattle.papaya_histories.specs.Given.Schedules.Entry.{Entry}
@@ -43,6 +38,11 @@ use Rattle.papaya_histories.specs.Given.Executor.IsAt.{Scene}
 use Rattle.papaya_histories.specs.Given.Executor.Stepping.{StepLeads}
 use Rattle.papaya_histories.specs.Given.Finishes.Machines.{machine_of}
 use Rattle.papaya_histories.specs.OtherCalls.{IsOnNoKey}
+use Rattle.papaya_named.specs.Seen.{kind_of, kind_on}
+use Rattle.papaya_named.specs.Telling.{aborted_with, answer_on, number_by, number_in, occupied_by}
+use Rattle.papaya_stepping.specs.Stepping.{outcome_of}
+use Rattle.papaya_values.specs.Values.{KeepsValue}
+use Rattle.papaya_values.proofs.Values.{inserts_tell_theirs}
 use Rattle.papaya_running.specs.OfCalls.{LastStepsTell}
 use Rattle.papaya_running.proofs.OfCalls.Words.{tells_of}
 

@@ -25,6 +25,10 @@ use Rattle.papaya_histories.specs.Given.Executor.Replying.{scene_with}
 use Rattle.papaya_histories.specs.Given.Finishes.Maps.{Standing}
 use Rattle.papaya_histories.specs.Given.Follows.Calling.{NoneNamed}
 use Rattle.papaya_histories.specs.AsCalled.{IsBegunAs}
+use Rattle.papaya_histories.specs.Given.Raw.declared.machines.machine.Machine.{Machine}
+use Rattle.papaya_histories.specs.Given.Finishes.Machines.{machine_of}
+use Rattle.papaya_histories.proofs.Given.Follows.Calling.{apart_back, is_same_refl}
+use Rattle.papaya_histories.proofs.Given.Hands.Asking.{which}
 use Rattle.papaya_promises.specs.Meanwhile.{BeginsToLook}
 use Rattle.papaya_purposes.specs.Purposes.{IsFor}
 use Rattle.papaya_legal.proofs.Come.{events_bring_things}
@@ -42,10 +46,6 @@ use Rattle.papaya_scheduler.specs.declared.scheduler.Scheduler.{Scheduler}
 use Rattle.papaya_scheduler.proofs.Begins as beginning
 use Rattle.papaya_named.proofs.Called.{begins_so, begun_call, is_begun_for, is_called, its_machine}
 use Rattle.papaya_scheduler.proofs.Rights.{quiet}
-use Rattle.papaya_histories.specs.Given.Raw.declared.machines.machine.Machine.{Machine}
-use Rattle.papaya_histories.specs.Given.Finishes.Machines.{machine_of}
-use Rattle.papaya_histories.proofs.Given.Follows.Calling.{apart_back, is_same_refl}
-use Rattle.papaya_histories.proofs.Given.Hands.Asking.{which}
 use Rattle.papaya_values.specs.Values.{KeepsValue}
 use Rattle.papaya_values.proofs.Values.{values_begin}
 use Rattle.papaya_running.proofs.OfCalls.Worth.{SaidIn, event_says, have_values_then}

@@ -22,6 +22,7 @@ use Rattle.papaya_histories.specs.Given.Effects.Known.{Known, known}
 use Rattle.papaya_histories.specs.Given.Executor.IsAt.{Scene, slot_of}
 use Rattle.papaya_histories.specs.Given.Finishes.Maps.{Standing}
 use Rattle.papaya_histories.specs.InEvent.{ComesSo}
+use Rattle.papaya_histories.specs.Given.Finishes.Machines.{machine_of}
 use Rattle.papaya_models.specs.CallEvents.{slot_of_call}
 use Rattle.papaya_finds.specs.Doing.{takes_steps}
 use Rattle.papaya_finds.specs.Parts.{FindAll}
@@ -49,7 +50,6 @@ use Rattle.papaya_running.proofs.OfCalls.Scenes.{stands_in}
 use Rattle.papaya_running.proofs.OfCalls.Steps.{HasCome, IsStep, as_told, caller_is, follows, leads, named_then, noted_so, noted_then, shards_then, shown_then, size_then, then_known, then_now, then_scene, there_now, values_then}
 use Rattle.papaya_running.proofs.OfCalls.Worth.{SaidIn, TellsNone, event_says, have_values_then}
 use Rattle.papaya_values.specs.Values.{KeepsValue}
-use Rattle.papaya_histories.specs.Given.Finishes.Machines.{machine_of}
 use Rattle.papaya_running.proofs.OfCalls.Words.{not_busy, shows_as_told, tells_end}
 use Rattle.papaya_running.proofs.Remaining.{counted_in}
 

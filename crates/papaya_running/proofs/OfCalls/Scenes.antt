@@ -1,5 +1,5 @@
 -- A scheduler that stands for a moment stands for it in any scene in which the moment shows its executor: who has a call under way the executor says.
-use Rattle.std.specs.Prelude.{◌≡◌, ℕ, Bool, List, [], ◌∷◌, slice_set, zero, suc, Some, option_map}
+use Rattle.std.specs.Prelude.{◌≡◌, ℕ, Bool, List, [], ◌∷◌, slice_set, Some, option_map}
 use Rattle.std.specs.List.{AllByRecursion, remove}
 use Rattle.std.proofs.Common.{sym, subst, ◌∙◌}
 use Rattle.papaya_histories.specs.Given.Tables.declared.setting.Setting.{Setting}

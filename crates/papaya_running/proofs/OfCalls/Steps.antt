@@ -3,6 +3,7 @@ use Rattle.std.specs.Prelude.{◌≡◌, ◌≢◌, ◌⊎◌, ◌+◌, ℕ, zer
 use Rattle.std.specs.List.{remove}
 use Rattle.std.proofs.Common.{refl, ap, sym, subst, ◌∙◌, inl, inr, arith}
 use Rattle.std.proofs.lemmas.Bool.{cases_eq}
+use Rattle.std.specs.Prelude.{◌≤◌, filter, length}
 use Rattle.papaya_histories.specs.Given.Seize.World.{World, Request, Begin, Step, Happens}
 use Rattle.papaya_histories.specs.Given.Tables.Nodes.{deferred_word}
 use Rattle.papaya_histories.specs.Given.Tables.declared.node.Node.{Node}
@@ -29,6 +30,11 @@ use Rattle.papaya_histories.specs.Given.Executor.Stepping.{StepLeads, has_ended,
 use Rattle.papaya_histories.specs.Given.Finishes.Maps.{Standing, IsSameMap}
 use Rattle.papaya_histories.specs.InEvent.{here_of}
 use Rattle.papaya_histories.specs.Given.Schedules.declared.effect.Thing.{Thing}
+use Rattle.papaya_histories.specs.Given.Schedules.declared.call.Call.{Call}
+use Rattle.papaya_histories.specs.Given.Schedules.declared.call.Reply.{Reply}
+use Rattle.papaya_histories.specs.Given.Finishes.Machines.{machine_of}
+use Rattle.papaya_histories.proofs.Given.Follows.Calling.{is_same_is, is_same_refl}
+use Rattle.papaya_histories.proofs.Given.Hands.Asking.{which}
 use Rattle.papaya_models.specs.CallEvents.{IsNoted, things_then}
 use Rattle.papaya_legal.specs.Noted.{HaveCome}
 use Rattle.papaya_legal.proofs.Come.{calls_bring_things}
@@ -48,13 +54,6 @@ use Rattle.papaya_scheduler.proofs.RanOn.{there_stays}
 use Rattle.papaya_stepping.specs.Stepping.{GoneFor, IsStepOf, IsStepped, WalkedFor, caller_then, far_then, outcome_of}
 use Rattle.papaya_stepping.proofs.AfterEffects.{calls_seen}
 use Rattle.papaya_stepping.proofs.OneStep.{caller_as, going_not_ended, goes_next, value_then}
-use Rattle.std.specs.Prelude.{◌≤◌, filter, length}
-use Rattle.std.specs.List.{AllByRecursion}
-use Rattle.papaya_histories.specs.Given.Schedules.declared.call.Call.{Call}
-use Rattle.papaya_histories.specs.Given.Schedules.declared.call.Reply.{Reply}
-use Rattle.papaya_histories.specs.Given.Finishes.Machines.{machine_of}
-use Rattle.papaya_histories.proofs.Given.Follows.Calling.{is_same_is, is_same_refl}
-use Rattle.papaya_histories.proofs.Given.Hands.Asking.{which}
 use Rattle.papaya_values.specs.Values.{KeepsValue, kept_after}
 use Rattle.papaya_values.proofs.Values.{values_go_on}
 use Rattle.papaya_named.specs.Seen.{is_named}

@@ -3,6 +3,7 @@ use Rattle.std.specs.Prelude.{◌≡◌, ◌≤◌, ◌&&◌, ◌||◌, ℕ, Boo
 use Rattle.std.specs.List.{list_any}
 use Rattle.std.proofs.Common.{refl, ap, sym, subst, ◌∙◌, inl}
 use Rattle.std.proofs.lemmas.List.{append-nil}
+use Rattle.std.specs.Prelude.{filter, length}
 use Rattle.papaya_histories.specs.Given.SeizeWaiting.Held.{count}
 use Rattle.papaya_histories.specs.Given.Runs.Present.{slot_of_guard}
 use Rattle.papaya_histories.specs.Given.Schedules.declared.event.Event.{Event}
@@ -18,6 +19,8 @@ use Rattle.papaya_histories.specs.Given.Callers.Together.{UnderWay}
 use Rattle.papaya_histories.specs.Given.Effects.Known.{known}
 use Rattle.papaya_histories.specs.Given.Executor.IsAt.{slot_of}
 use Rattle.papaya_histories.specs.Given.Schedules.declared.effect.Thing.{Thing}
+use Rattle.papaya_histories.specs.Given.Schedules.declared.event.Event.TheVariants.{Replied}
+use Rattle.papaya_histories.specs.Given.Schedules.declared.outcome.Outcome.{Outcome}
 use Rattle.papaya_finds.specs.Doing.{takes_steps}
 use Rattle.papaya_finds.specs.Parts.{FindRest}
 use Rattle.papaya_legal.specs.Noted.{HaveCome}
@@ -32,12 +35,9 @@ use Rattle.papaya_scheduler.proofs.HeldTold.{its_guard}
 use Rattle.papaya_scheduler.proofs.Here.{Here, here_at}
 use Rattle.papaya_stepping.specs.Stepping.{ComesAs, ComesBy, StepsCome}
 use Rattle.papaya_stepping.proofs.RightSteps.{not_busy as never_busy}
-use Rattle.papaya_histories.specs.Given.Schedules.declared.event.Event.TheVariants.{Replied}
-use Rattle.papaya_histories.specs.Given.Schedules.declared.outcome.Outcome.{Outcome}
 use Rattle.papaya_named.specs.declared.caller.Caller.{Caller}
 use Rattle.papaya_rows.proofs.Lists.{all_so, found_has}
 use Rattle.papaya_running.proofs.OfCalls.Worth.{TellsNone}
-use Rattle.std.specs.Prelude.{filter, length}
 use Rattle.papaya_running.specs.OfCalls.{IsLeft, IsWorth, Runs, RunsOn}
 use Rattle.papaya_running.proofs.OfCalls.Alone.{active_of, inside_of, only_its_row}
 use Rattle.papaya_running.proofs.OfCalls.Ends.{runs_on, tells_so}

@@ -2,6 +2,7 @@
 use Rattle.std.specs.Prelude.{◌≡◌, ◌&&◌, ℕ, Bool, true, false, List, [], ◌∷◌, position, slice_get, slice_set, Option, Some, None, option_map, Result, Ok, Err}
 use Rattle.std.specs.Result.{is_err}
 use Rattle.std.proofs.Common.{refl, ap, sym, subst, ◌∙◌, inl, inr}
+use Rattle.std.specs.List.{AllByRecursion}
 use Rattle.papaya_histories.specs.Given.Runs.Same.{is_same}
 use Rattle.papaya_histories.specs.Given.Raw.Machine.{machine_replied}
 use Rattle.papaya_histories.specs.Given.Raw.declared.machines.asking.Reply.{Reply as MachineReply}
@@ -29,6 +30,8 @@ use Rattle.papaya_histories.specs.Given.Hands.Asked.{as_told}
 use Rattle.papaya_histories.proofs.Given.Follows.Calling.{apart_back}
 use Rattle.papaya_histories.proofs.Given.Hands.Asking.{which}
 use Rattle.papaya_histories.specs.Changes.{IsTaken}
+use Rattle.papaya_histories.specs.Given.Raw.declared.machines.machine.Machine.{Machine}
+use Rattle.papaya_histories.proofs.Given.Follows.Calling.{is_same_refl}
 use Rattle.papaya_legal.proofs.Come.{events_bring_things}
 use Rattle.papaya_legal.specs.CallEvents.{IsLegalBut}
 use Rattle.papaya_legal.specs.Carried.{ShowsRun}
@@ -47,9 +50,6 @@ use Rattle.papaya_scheduler.proofs.Here.{Here, here_at, read_here}
 use Rattle.papaya_scheduler.proofs.Replied.{asks_what, far_asks}
 use Rattle.papaya_scheduler.proofs.Rights.{quiet}
 use Rattle.papaya_scheduler.proofs.Stopped.{asked_ready, ready_parts, shows_is}
-use Rattle.std.specs.List.{AllByRecursion}
-use Rattle.papaya_histories.specs.Given.Raw.declared.machines.machine.Machine.{Machine}
-use Rattle.papaya_histories.proofs.Given.Follows.Calling.{is_same_refl}
 use Rattle.papaya_values.specs.Values.{KeepsValue}
 use Rattle.papaya_values.proofs.Values.{values_taken}
 use Rattle.papaya_rows.proofs.Lists.{all_so, found_has, set_all}

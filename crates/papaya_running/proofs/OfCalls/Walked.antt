@@ -2,6 +2,8 @@
 use Rattle.std.specs.Prelude.{◌≡◌, ℕ, Bool, true, is_some, MatchBool, List, [], ◌∷◌, ◌++◌, position, slice_get, Option, Some}
 use Rattle.std.proofs.Common.{refl, ap, sym, subst, ◌∙◌, inl, inr}
 use Rattle.std.proofs.lemmas.List.{append-nil}
+use Rattle.std.specs.List.{AllByRecursion}
+use Rattle.std.specs.Prelude.{◌≤◌, false, filter, length}
 use Rattle.papaya_histories.specs.Given.SeizeWords.declared.fault.Fault.TheVariants.{Busy}
 use Rattle.papaya_histories.specs.Given.Tables.declared.node.Node.{Node}
 use Rattle.papaya_histories.specs.Given.Sweeps.SweepPoints.{after_next}
@@ -36,6 +38,9 @@ use Rattle.papaya_histories.specs.Given.Moments.Whole.{ShowsWhole}
 use Rattle.papaya_histories.specs.Answers.{NamesPair}
 use Rattle.papaya_histories.specs.InEvent.{ComesSo}
 use Rattle.papaya_histories.specs.OtherMidsts.{AsksAsSaid}
+use Rattle.papaya_histories.specs.Given.Runs.Same.{is_same}
+use Rattle.papaya_histories.proofs.Given.Follows.Calling.{is_same_refl}
+use Rattle.papaya_histories.proofs.Given.Hands.Asking.{which}
 use Rattle.papaya_purposes.specs.Purposes.{IsFor}
 use Rattle.papaya_purposes.specs.Swept.{LosesNone, SaysAsWalk}
 use Rattle.papaya_purposes.proofs.WalkWords.{walks_have_words}
@@ -63,12 +68,7 @@ use Rattle.papaya_scheduler.proofs.Here.{Here, here_at}
 use Rattle.papaya_scheduler.proofs.Stopped.{asked_ready, ready_parts, shows_by, shows_is}
 use Rattle.papaya_stepping.specs.Stepping.{HasWalked, outcome_of}
 use Rattle.papaya_stepping.proofs.SweepSteps.{walks_at}
-use Rattle.std.specs.List.{AllByRecursion}
-use Rattle.std.specs.Prelude.{◌≤◌, false, filter, length}
 use Rattle.papaya_values.specs.Values.{KeepsValue}
-use Rattle.papaya_histories.specs.Given.Runs.Same.{is_same}
-use Rattle.papaya_histories.proofs.Given.Follows.Calling.{is_same_refl}
-use Rattle.papaya_histories.proofs.Given.Hands.Asking.{which}
 use Rattle.papaya_running.specs.OfCalls.{HaveValues, IsWorth, Runs, RunsOn}
 use Rattle.papaya_running.proofs.OfCalls.Alone.{only_its_row}
 use Rattle.papaya_running.proofs.OfCalls.Answers.{number_is}

@@ -2,6 +2,8 @@
 use Rattle.std.specs.Prelude.{◌≡◌, ◌≢◌, ◌≤◌, ◌&&◌, ℕ, Bool, true, false, List, [], ◌∷◌, slice_get, Option, Some, option_map, if◌then◌else◌}
 use Rattle.std.proofs.Common.{refl, ap, sym, subst, ◌∙◌, inl}
 use Rattle.std.proofs.lemmas.List.{append-nil}
+use Rattle.std.specs.List.{AllByRecursion}
+use Rattle.std.specs.Prelude.{filter, length}
 use Rattle.papaya_histories.specs.Given.SeizeWaiting.Held.{count}
 use Rattle.papaya_histories.specs.Given.SeizeWords.declared.fault.Fault.TheVariants.{Busy}
 use Rattle.papaya_histories.specs.Given.Seize.World.{Rests}
@@ -21,6 +23,7 @@ use Rattle.papaya_histories.specs.Given.Schedules.Views.{call_of, number_of}
 use Rattle.papaya_histories.specs.Given.Effects.Known.{Known, known}
 use Rattle.papaya_histories.specs.Given.Executor.IsAt.{slot_of}
 use Rattle.papaya_histories.specs.Given.Schedules.declared.effect.Thing.{Thing}
+use Rattle.papaya_histories.specs.Given.Runs.Same.{is_same}
 use Rattle.papaya_finds.specs.Parts.{FindRest}
 use Rattle.papaya_legal.specs.Noted.{HaveCome}
 use Rattle.papaya_legal.proofs.Come.{called}
@@ -36,11 +39,8 @@ use Rattle.papaya_scheduler.specs.declared.scheduler.Scheduler.{Scheduler}
 use Rattle.papaya_scheduler.proofs.HeldTold.{its_guard}
 use Rattle.papaya_stepping.specs.Stepping.{ComesAs, ComesBy, GoesAt, StepsCome}
 use Rattle.papaya_stepping.proofs.RightSteps.{not_busy as never_busy}
-use Rattle.std.specs.List.{AllByRecursion}
-use Rattle.std.specs.Prelude.{filter, length}
 use Rattle.papaya_rows.proofs.Lists.{all_so}
 use Rattle.papaya_named.specs.Seen.{is_named}
-use Rattle.papaya_histories.specs.Given.Runs.Same.{is_same}
 use Rattle.papaya_running.specs.OfCalls.{HaveValues, IsLeft, IsWorth, Runs, RunsOn}
 use Rattle.papaya_running.proofs.OfCalls.Alone.{active_of, inside_of, no_row}
 use Rattle.papaya_running.proofs.OfCalls.Begun as begun

@@ -13,12 +13,11 @@ use Rattle.papaya_histories.specs.Given.Schedules.declared.event.Event.{Event}
 use Rattle.papaya_histories.specs.Given.Schedules.declared.event.Event.TheVariants.{Begin, MakeMap, OneCall, Replied, Stop}
 use Rattle.papaya_histories.specs.Given.Schedules.declared.outcome.Outcome.{Outcome}
 use Rattle.papaya_histories.specs.Given.Schedules.declared.outcome.Outcome.TheVariants.{Done, Goes, Waits, Asks, Ready, Shows, Refused}
-use Rattle.papaya_histories.specs.Given.Schedules.After.{after, asks_on, calls_on, comes_to, moment, stepped, without_call}
+use Rattle.papaya_histories.specs.Given.Schedules.After.{after, asks_on, calls_on, comes_to, stepped, without_call}
 use Rattle.papaya_histories.specs.Given.Schedules.Beginning.{at_work, begun}
 use Rattle.papaya_histories.specs.Given.Schedules.Effects.{call_by, due_for, with_effect, with_effects, worked}
 use Rattle.papaya_histories.specs.Given.Schedules.Entry.{Entry, acted_on, caller_of, ends_call}
 use Rattle.papaya_histories.specs.Given.Schedules.Moment.{Asking, Moment, Stands, UnderWay as CallThere}
-use Rattle.papaya_histories.specs.Given.Schedules.Views.{call_of}
 use Rattle.papaya_histories.specs.Given.Callers.Together.{UnderWay}
 use Rattle.papaya_histories.specs.Given.Executor.IsAt.{Scene}
 use Rattle.papaya_histories.specs.Given.Finishes.Machines.{machine_of}
