@@ -1,6 +1,6 @@
 -- Before all events a scheduler is as events ask of it, whatever was chosen of numbers of blocks.
 use Rattle.std.specs.Prelude.{◌≡◌, ◌<◌, ◌≤◌, ◌^◌, ℕ, Bool, List, [], ◌∷◌, length, Option, None, Some, min, slice_get, slice_index_or, map}
-use Rattle.std.proofs.Common.{refl, sym, ap, subst, ◌∙◌, inr, arith}
+use Rattle.std.proofs.Common.{refl, sym, ap, subst, ◌∙◌, inr, arith, inl}
 use Rattle.papaya_histories.specs.Given.Seize.declared.states.TheConstants.{HEAD}
 use Rattle.papaya_histories.specs.Given.Tables.declared.node.Node.{Node}
 use Rattle.papaya_histories.specs.Given.Points.Steps.{AreLawful}
@@ -11,6 +11,9 @@ use Rattle.papaya_histories.specs.Given.Seize.World.{Chooses, World}
 use Rattle.papaya_histories.specs.Given.Tables.Nodes.{deferred_word}
 use Rattle.papaya_histories.specs.Given.Tables.declared.setting.Setting.{Setting}
 use Rattle.papaya_histories.specs.Given.Executor.IsAt.{at_first}
+use Rattle.seize_words.specs.Mem.{Mem, word_at}
+use Rattle.seize_words.specs.SlotWords.{slot_word}
+use Rattle.seize_words.specs.declared.at.At.TheVariants.{Root, Used}
 use Rattle.seize_words.specs.Mem.{Mem, word_at}
 use Rattle.seize_words.specs.SlotWords.{slot_word}
 use Rattle.seize_words.specs.declared.at.At.TheVariants.{Root, Used}
@@ -155,6 +158,7 @@ module _ {K V S : Type 0} (same : K → K → Bool) (hash : K → ℕ) (given : 
     values = no_values p.calls.items.items stands.calls.listed;
     size = begins.begun.batches;
     shards = no_shards;
+    reached = inl refl;
   }
 
   -- all that events ask of it, where keys have lawful hashes, and processors are not too many

@@ -36,11 +36,13 @@ use Rattle.papaya_legal.specs.CallEvents.{InCallEvent, IsLegalBut}
 use Rattle.papaya_legal.specs.CallSwept.{TellsOf}
 use Rattle.papaya_legal.specs.Carried.{ShowsRun}
 use Rattle.papaya_legal.specs.Noted.{HaveCome}
+use Rattle.papaya_legal.specs.Rests.{FindStill, is_reservation}
 use Rattle.papaya_scheduler.specs.Played.{IsPlayed, entry_of}
 use Rattle.papaya_named.specs.Seen.{kind_of}
 use Rattle.papaya_scheduler.specs.declared.played.Played.{Played}
 use Rattle.papaya_scheduler.specs.declared.scheduler.Scheduler.{Scheduler}
 use Rattle.papaya_stepping.specs.Stepping.{ComesAs, outcome_of}
+use Rattle.papaya_works.specs.Needs.{AreReached}
 use Rattle.papaya_running.specs.Asked.{is_of_calls}
 
 -- each map has as many shards as the terms say
@@ -56,7 +58,7 @@ HaveValues m s calls = AllByRecursion (λ d. IsWorth m s d) calls
 
 module _ {K V S : Type 0} (same : K → K → Bool) (hash : K → ℕ) where
   -- The scheduler has played the log, and in the scene for which it stands all is so by which the next event keeps its promises; all that was stored and linked came into a map by the log; callers keep
-  -- the values that they are to tell back; its executor has the size of batches that the terms say, and maps with as many shards as they say.
+  -- the values that they are to tell back; its executor has the size of batches that the terms say, and maps with as many shards as they say; and slots that were ever taken have their words, as is noted.
   pub record Runs (terms : Terms) (log : List (Entry K V)) (p : Scheduler K V S) : Type 0 where
     pub stands : IsPlayed same hash terms log p
     pub shows : ShowsRun same stands.name terms log (known p.logged.notes) stands.scene
@@ -64,6 +66,7 @@ module _ {K V S : Type 0} (same : K → K → Bool) (hash : K → ℕ) where
     pub values : HaveValues (moment log) stands.scene p.calls.items.items
     pub size : p.logged.executor.batch_size ≡ terms.batch_size
     pub shards : HaveShards terms p.logged.executor
+    pub reached : AreReached (moment log).slots (known p.logged.notes)
 
   -- What is promised of an event: it is legal but for what it comes to, and a run goes on with it.
   pub record RunsOn (terms : Terms) (log : List (Entry K V)) (e : Entry K V) (p : Scheduler K V S) : Type 0 where
@@ -71,10 +74,10 @@ module _ {K V S : Type 0} (same : K → K → Bool) (hash : K → ℕ) where
     pub runs : Runs terms (e ∷ log) p
 
 module _ {K V : Type 0} where
-  -- What is still asked of an event of a call, by name, but that it comes to what is right: of its effects it is known why a block is asked for, which table is linked, and that what is handed over
-  -- may be.
+  -- What is still asked of an event of a call, by name, but that it comes to what is right: of its effects it is known which table is linked, and that a table behind which a pair is put has room, and of a
+  -- reservation, and in blocking mode, why a block is asked for.
   pub record IsLeftBut (terms : Terms) (log : List (Entry K V)) (e : Entry K V) : Type 0 where
-    pub rest : (let b = at_work e (moment log) in IfCall (λ (c : CallThere K V). FindRest terms (moments_from c.begun log) c.caller c.map e.effects b) (acting (caller_of e.event) b))
+    pub rest : (let b = at_work e (moment log) in IfCall (λ (c : CallThere K V). FindStill terms (moments_from c.begun log) c.caller c.map e.effects b (is_reservation c.call)) (acting (caller_of e.event) b))
 
   pub record IsLeft (terms : Terms) (log : List (Entry K V)) (e : Entry K V) : Type 0 where
     pub right : ComesRight terms log e

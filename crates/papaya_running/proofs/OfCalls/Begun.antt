@@ -52,6 +52,7 @@ use Rattle.papaya_running.proofs.OfCalls.Worth.{SaidIn, event_says, have_values_
 use Rattle.papaya_running.specs.OfCalls.{HaveShards, HaveValues, IsWorth, Runs, RunsOn}
 use Rattle.papaya_running.proofs.OfCalls.Scenes.{AreNamed, stands_in}
 use Rattle.papaya_running.proofs.Remaining.{counted_in}
+use Rattle.papaya_running.proofs.Reached.{reached_by}
 
 -- what is under way then is a call as it was called
 module _ {K V : Type 0} (same : K → K → Bool) (st : Standing K) (i : ℕ) where
@@ -260,5 +261,6 @@ module _ {K V S : Type 0} (same : K → K → Bool) (hash : K → ℕ) (terms : 
           values = values;
           size = on_size ∙ runs.size;
           shards = shards_here;
+          reached = reached_by same hash terms log (e own) old new right plays notes_here runs.reached;
         };
       }

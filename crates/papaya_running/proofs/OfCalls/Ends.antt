@@ -19,6 +19,7 @@ use Rattle.papaya_histories.specs.Given.Schedules.Sweeps.{IsSwept}
 use Rattle.papaya_histories.specs.Given.Schedules.Terms.{Terms, shards_of}
 use Rattle.papaya_histories.specs.Given.Schedules.Views.{call_of}
 use Rattle.papaya_histories.specs.Given.Effects.Known.{Known, known}
+use Rattle.papaya_histories.specs.Given.Effects.declared.acting.Acting.TheVariants as acts
 use Rattle.papaya_histories.specs.Given.Executor.IsAt.{Scene, slot_of}
 use Rattle.papaya_histories.specs.Given.Finishes.Maps.{Standing}
 use Rattle.papaya_histories.specs.InEvent.{ComesSo}
@@ -35,6 +36,7 @@ use Rattle.papaya_legal.specs.Carried.{ComesAlone, ShowsRun}
 use Rattle.papaya_legal.proofs.CallRuns.{call_events_run}
 use Rattle.papaya_legal.proofs.CallSwept.{calls_are_swept}
 use Rattle.papaya_remains.specs.Remains.{ShowsRemains}
+use Rattle.papaya_remains.proofs.Slots.{buckets_grow}
 use Rattle.papaya_logged.specs.Shown.{IsShown}
 use Rattle.papaya_scheduler.specs.Played.{IsPlayed, entry_of}
 use Rattle.papaya_named.specs.Seen.{kind_of}
@@ -52,6 +54,7 @@ use Rattle.papaya_running.proofs.OfCalls.Worth.{SaidIn, TellsNone, event_says, h
 use Rattle.papaya_values.specs.Values.{KeepsValue}
 use Rattle.papaya_running.proofs.OfCalls.Words.{not_busy, shows_as_told, tells_end}
 use Rattle.papaya_running.proofs.Remaining.{counted_in}
+use Rattle.papaya_running.proofs.Reached.{reached_after}
 
 module _ {K V S : Type 0} (same : K → K → Bool) (hash : K → ℕ) (name : ℕ → List ℕ) (terms : Terms) (log : List (Entry K V)) (event : Event K V) (beginning : Moment K V)
     (map i : ℕ) (c : CallThere K V) (place : ℕ) (c_is : call_of (name i) beginning ≡ Some c) (first : Known) (before : Scene K V) (run : ShowsRun same name terms log first before) (had : HaveCome (things_in log) (moment log))
@@ -121,7 +124,7 @@ module _ {K V S : Type 0} (same : K → K → Bool) (hash : K → ℕ) (name : �
         step.said (leads same hash name terms log event beginning map i c place n mid played.effects.items p new come its) begins acted
         (follows same hash name terms log event beginning map i c place n mid played.effects.items p new come its)
         (λ standing there. one_more standing
-        (mask_is same hash name terms log event beginning map i c place (moments_from c.begun log) n mid played.effects.items p new come its standing there)) tells.1
+        (mask_is same hash name terms log event beginning map i c place c_is n mid played.effects.items p new come its standing there)) tells.1
       where
         one_more : (standing : Standing K) → standing.setting.mask + 1 ≡ shards_of terms → suc standing.setting.mask ≡ shards_of terms
         one_more standing is = omega (arith, is)
@@ -138,7 +141,7 @@ module _ {K V S : Type 0} (same : K → K → Bool) (hash : K → ℕ) (name : �
     after_run : ShowsRun same name terms (e ∷ log) (known new.logged.notes) at_end
     after_run = subst (λ (k : Known). ShowsRun same name terms (e ∷ log) k at_end) (sym noted) goes_on.1
 
-    abbrev its_left : ShowsRemains new.logged.executor.roots (then_now same hash name terms log event beginning map i c place n mid played.effects.items p new come its) at_end
+    abbrev its_left : ShowsRemains new.logged.executor.roots (then_now same hash name terms log event beginning map i c place n mid played.effects.items p new come its) (known new.logged.notes) at_end
     its_left = (shown_then same hash name terms log event beginning map i c place n mid played.effects.items p new come its).counted.remains
 
     shown : IsShown same hash name (moment (e ∷ log)) new.logged at_end
@@ -155,6 +158,9 @@ module _ {K V S : Type 0} (same : K → K → Bool) (hash : K → ℕ) (name : �
         have_values_then beginning (moment (e ∷ log)) (subst (λ (v : Moment K V). SaidIn v.calls (moment (e ∷ log)).calls) begins (event_says e (moment log) silent)) at_end at_end refl new.calls.items.items
         (values_then same hash name terms log event beginning map i c place n mid played.effects.items p new played.outcome come step)
 
+    grows : (known p.logged.notes).buckets ≤ by.buckets
+    grows = buckets_grow (acts.Call i map) new.logged.executor.memory.changed (known p.logged.notes)
+
     pub runs_on : RunsOn same hash terms log e new
     runs_on = record {
       legal = goes_on.0;
@@ -166,5 +172,6 @@ module _ {K V S : Type 0} (same : K → K → Bool) (hash : K → ℕ) (name : �
         values = values;
         size = size_then same hash name terms log event beginning map i c place n mid played.effects.items p new come its;
         shards = shards_then same hash name terms log event beginning map i c place n mid played.effects.items p new come its;
+        reached = reached_after same hash terms log e p new right plays (subst (λ (k : Known). (known p.logged.notes).buckets ≤ k.buckets) (sym noted) grows) come.reached;
       };
     }
