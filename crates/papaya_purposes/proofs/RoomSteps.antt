@@ -107,7 +107,7 @@ module _ {K V S : Type 0} (same : K → K → Bool) (hash : K → ℕ) (log : Li
     pub reads : (shard : ℕ) → shard ≤ sum.setting.mask → word_at mem (Word sum.setting.counter shard) ≡ Some ((moment log).shards of shard)
     reads shard l =
         ap (λ (x : Setting). word_at mem (Word x.counter shard)) known.0.0
-        ∙ (shards tt).0 of st there shard (subst (λ (x : Setting). shard ≤ x.mask) known.0.0 l) ∙ ap Some ((shards tt).1.0.0 shard)
+        ∙ (shards tt).0 of st there shard (subst (λ (x : Setting). shard ≤ x.mask) known.0.0 l) ∙ ap Some ((shards tt).1.0 shard)
 
     -- what it comes to where that is enough
     pub ends : has.low ≤ table.turn → (count : ℕ) → Counts (suc sum.setting.mask) of moments count → nat_lt (2 ^ 48) (needed p.additional count) ≡ false
@@ -147,7 +147,7 @@ module _ {K V S : Type 0} (same : K → K → Bool) (hash : K → ℕ) (log : Li
       adds_none zero = refl
       adds_none (suc shard) =
           last (λ x. (rest : ℕ) × AddsUp of moments shard rest × (0 ≡ rest + x.shards of shard))
-          (0, adds_none shard, (let none = (shards tt).1.1 st there past shard in omega (arith, none)))
+          (0, adds_none shard, (let none = (shards tt).2 st there past shard in omega (arith, none)))
 
   abbrev Step : Reserving → Reserve × Outcome (Node K V) Unit → Type 0
   Step x end = Steps Took value_at mem (plan_at hash p x) new.memory.memory end

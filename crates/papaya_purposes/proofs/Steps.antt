@@ -322,7 +322,7 @@ module _ {K V S : Type 0} (same : K → K → Bool) (hash : K → ℕ) (name : �
         let before = before_then of st there in
         subst (λ (y : UnderWay K V K). HasCome same of st (on.shows.number of) log v2 y d) (sym (counting_goes_on sum2 end x (sym stayed.2 ∙ e)))
         (subst (λ (b : ℕ). HasAdded of (moments_from b log) sum2.setting.mask sum2.stands) (sym (same_call i c d c_is d_is).begun)
-        (counts_on same hash log m s old new at of i sum y_is went.0 went.2 c (purposes.begun of i (Counting sum) y_is c c_is) (its tt).0 (its tt).1.0
+        (counts_on same hash log m s old new at of i sum y_is went.0 went.2 c (purposes.begun of i (Counting sum) y_is c c_is) (its tt).0 (its tt).1
         (purposes.come of i (Counting sum) y_is before.0 before.1 c c_is) went.1 said steps went.4.next went.4.goes_on x e sum2 machine_is))
     own_come class_first none (OverAll o) y_is its steps (p2, end, machine_is, told_is, inl (step, moved)) x e st there c d c_is d_is =
         subst (λ (y : UnderWay K V K). HasCome same of st (on.shows.number of) log v2 y d) (sym (sweep_goes_on _ end x (sym moved.2 ∙ e)))

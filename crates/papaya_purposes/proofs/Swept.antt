@@ -146,8 +146,8 @@ module _ {K V S : Type 0} (same : K → K → Bool) (hash : K → ℕ) (name : �
         let to = went same hash name log m known s old new at whole purposes of i u here said leads in
         let begun = purposes.begun of i (Counting sum) y_is c c_is in
         let had_added = purposes.come of i (Counting sum) y_is to.0 to.2 c c_is in
-        let counted = counts_end same hash log m s old new at of i sum y_is to.0 to.2 c begun (reads tt).0 (reads tt).1.0 had_added to.1 said steps n done in
-        let masks = mask_is same hash log m s old new at of i sum y_is to.0 to.2 c begun (reads tt).0 (reads tt).1.0 had_added to.1 said steps in
+        let counted = counts_end same hash log m s old new at of i sum y_is to.0 to.2 c begun (reads tt).0 (reads tt).1 had_added to.1 said steps n done in
+        let masks = mask_is same hash log m s old new at of i sum y_is to.0 to.2 c begun (reads tt).0 (reads tt).1 had_added to.1 said steps in
         subst (λ (x : ℕ). Counts x then_call.map (moments_from then_call.begun log) n) (ap suc masks ∙ mask to.0 to.2)
         (subst (λ (x : ℕ). Counts (suc sum.setting.mask) x (moments_from then_call.begun log) n) (sym on_map)
         (subst (λ (x : ℕ). Counts (suc sum.setting.mask) of (moments_from x log) n) (sym still.begun) counted))

@@ -57,7 +57,7 @@ module _ {K V : Type 0} (terms : Terms) (everything : Bool) (moments : List (Mom
 
     -- it has found a table for what it has gained or lost
     gets_table : (f : Effect) → CallFinds terms moments m f c → 0 < (call_by m f c).gained + (call_by m f c).lost → 0 < many_of c.map m
-    gets_table (effect.Stored n s) finds some = (let l = place_below terms everything moments (Some own) acted m h on is_linked c.map s finds.2.2.0 in omega (arith, l))
+    gets_table (effect.Stored n s) finds some = (let l = place_below terms everything moments (Some own) acted m h on is_linked c.map s finds.2 in omega (arith, l))
     gets_table (effect.Removed n) finds some =
         let its = h.within.maps n c.map finds in
         let l = subst (λ (of : ℕ). (m.spot n).turn < many_of of m) its.1 (h.within.spots n its.0 (h.waits.placed.stored n (ap is_unborn finds))) in omega (arith, l)
