@@ -1,6 +1,6 @@
 -- The effects of a step of a call find what is left of what they must, by what the moment shows and what is still asked.
-use Rattle.std.specs.Prelude.{◌≡◌, ◌⊎◌, ℕ, ◌+◌, Bool, true, false, List, ◌∷◌, Option, Some, None}
-use Rattle.std.proofs.Common.{refl, ap, sym, subst, ◌∙◌, inl, inr}
+use Rattle.std.specs.Prelude.{◌≡◌, ◌⊎◌, ℕ, ◌+◌, Bool, List, ◌∷◌, Some, None}
+use Rattle.std.proofs.Common.{refl, inl, inr}
 use Rattle.papaya_histories.specs.Given.Tables.declared.node.Node.{Node}
 use Rattle.papaya_histories.specs.Given.Resize.Sum.{sum_plan}
 use Rattle.papaya_histories.specs.Given.Resize.declared.new_table.NewTable.{NewTable}

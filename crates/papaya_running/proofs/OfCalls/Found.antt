@@ -1,19 +1,15 @@
 -- The effects of the steps of a call find what they must, if what is still asked is so of all of them.
-use Rattle.std.specs.Prelude.{◌≡◌, ◌+◌, ℕ, Bool, true, false, zero, suc, List, [], ◌∷◌, ◌++◌, map as list_map, Option, Some, option_map}
-use Rattle.std.proofs.Common.{refl, ap, sym, subst, ◌∙◌, inl, inr}
+use Rattle.std.specs.Prelude.{◌≡◌, ◌+◌, ℕ, Bool, false, zero, suc, List, [], ◌∷◌, ◌++◌, map as list_map, Option, Some, option_map}
+use Rattle.std.proofs.Common.{ap, sym, subst, ◌∙◌, inl, inr}
 use Rattle.papaya_histories.specs.Given.Resize.declared.new_table.NewTable.{NewTable}
 use Rattle.papaya_histories.specs.Given.Runs.Same.{is_same}
-use Rattle.papaya_histories.specs.Given.Schedules.declared.call.Call.{Call}
 use Rattle.papaya_histories.specs.Given.Schedules.declared.call.Call.TheVariants as calls
-use Rattle.papaya_histories.specs.Given.Schedules.declared.call.OneKey.{OneKey}
-use Rattle.papaya_histories.specs.Given.Schedules.declared.call.OneKey.TheVariants as keys
 use Rattle.papaya_histories.specs.Given.Schedules.declared.effect.Effect.{Effect}
 use Rattle.papaya_histories.specs.Given.Schedules.declared.event.Event.{Event}
 use Rattle.papaya_histories.specs.Given.Schedules.After.{moments_from}
-use Rattle.papaya_histories.specs.Given.Schedules.Effects.{with_effects}
 use Rattle.papaya_histories.specs.Given.Schedules.Growing.{HasNext}
 use Rattle.papaya_histories.specs.Given.Schedules.Lists.{OneOf}
-use Rattle.papaya_histories.specs.Given.Schedules.Entry.{ByCall, Entry, acting}
+use Rattle.papaya_histories.specs.Given.Schedules.Entry.{Entry}
 use Rattle.papaya_histories.specs.Given.Schedules.Moment.{UnderWay as CallThere, Moment}
 use Rattle.papaya_histories.specs.Given.Schedules.Terms.{Terms, shards_of}
 use Rattle.papaya_histories.specs.Given.Schedules.Views.{call_of}
@@ -21,9 +17,7 @@ use Rattle.papaya_histories.specs.Given.Effects.Known.{known}
 use Rattle.papaya_histories.specs.Given.Finishes.Machines.{machine_of}
 use Rattle.papaya_histories.specs.Given.Finishes.Maps.{Standing}
 use Rattle.papaya_histories.specs.Given.Follows.Calls.{IsCalled}
-use Rattle.papaya_histories.proofs.Given.Moments.After.{each_parts}
 use Rattle.papaya_histories.proofs.Begun.{effects_begun}
-use Rattle.papaya_finds.specs.Growing.{FindAsked, FindsAsked}
 use Rattle.papaya_finds.specs.Nexts.{making_of_copier}
 use Rattle.papaya_finds.specs.Parts.{FindAll, FindRest}
 use Rattle.papaya_finds.proofs.Joined.{several_find_all}
@@ -36,9 +30,7 @@ use Rattle.papaya_legal.specs.Nexts.{MayFollow}
 use Rattle.papaya_legal.proofs.CallFinds.{steps_find_all}
 use Rattle.papaya_legal.proofs.Finding.Links.{such_of_making}
 use Rattle.papaya_legal.proofs.Finding.Rest.{steps_find_rest}
-use Rattle.papaya_named.specs.Seen.{Seen, kind_of, kind_on, seen}
-use Rattle.papaya_named.specs.declared.kind.Kind.{Kind}
-use Rattle.papaya_named.specs.declared.kind.Kind.TheVariants as kind
+use Rattle.papaya_named.specs.Seen.{Seen, seen}
 use Rattle.papaya_rows.proofs.Lists.{both_some, found_alike}
 use Rattle.papaya_scheduler.specs.declared.scheduler.Scheduler.{Scheduler}
 use Rattle.papaya_stepping.specs.Stepping.{GoneFor}
@@ -72,7 +64,7 @@ module _ {K V S : Type 0} (same : K → K → Bool) (hash : K → ℕ) (name : �
     abbrev its : (d : CallThere K V) × (call_of (name i) come.now ≡ Some d) × (d.map ≡ map) × IsCalled same come.under d.call
     its = come.midst.calls.whole.all.shown.calls map i come.under here
 
-    -- its call is of the kind of which it was as the event began, and began with the same one
+    -- its call is on the map on which it was as the event began, and began with the same one
     seen_same : seen c ≡ seen its.0
     seen_same =
         let as_now = ap (λ (x : Moment K V). list_map seen x.calls) come.midst.worked ∙ calls_seen (name i) (Some map) mid beginning in

@@ -7,9 +7,9 @@ use Rattle.std.specs.Prelude.{filter, length}
 use Rattle.papaya_histories.specs.Given.SeizeWaiting.Held.{count}
 use Rattle.papaya_histories.specs.Given.Runs.Present.{slot_of_guard}
 use Rattle.papaya_histories.specs.Given.Schedules.declared.event.Event.{Event}
-use Rattle.papaya_histories.specs.Given.Schedules.After.{moment, moments_from}
+use Rattle.papaya_histories.specs.Given.Schedules.After.{moment}
 use Rattle.papaya_histories.specs.Given.Schedules.Beginning.{at_work}
-use Rattle.papaya_histories.specs.Given.Schedules.Entry.{Entry, IfCall, acted_on, acting, caller_of, speaker}
+use Rattle.papaya_histories.specs.Given.Schedules.Entry.{Entry, acted_on, acting, caller_of, speaker}
 use Rattle.papaya_histories.specs.Given.Schedules.Handing.{is_made, refuses}
 use Rattle.papaya_histories.specs.Given.Schedules.Model.{guard_or, sets_in, things_in}
 use Rattle.papaya_histories.specs.Given.Schedules.InTurn.{ComesRight}

@@ -13,9 +13,9 @@ use Rattle.papaya_histories.specs.Given.Schedules.declared.call.Call.{Call}
 use Rattle.papaya_histories.specs.Given.Schedules.declared.event.Event.{Event}
 use Rattle.papaya_histories.specs.Given.Schedules.declared.event.Event.TheVariants.{OneCall}
 use Rattle.papaya_histories.specs.Given.Schedules.declared.outcome.Outcome.TheVariants.{Refused}
-use Rattle.papaya_histories.specs.Given.Schedules.After.{moment, moments_from}
+use Rattle.papaya_histories.specs.Given.Schedules.After.{moment}
 use Rattle.papaya_histories.specs.Given.Schedules.Beginning.{at_work, fresh_call, with_call}
-use Rattle.papaya_histories.specs.Given.Schedules.Entry.{Entry, IfCall, nameless}
+use Rattle.papaya_histories.specs.Given.Schedules.Entry.{Entry, nameless}
 use Rattle.papaya_histories.specs.Given.Schedules.Model.{guard_or, sets_in, things_in}
 use Rattle.papaya_histories.specs.Given.Schedules.InTurn.{ComesRight}
 use Rattle.papaya_histories.specs.Given.Schedules.Moment.{UnderWay as CallThere, Moment}
@@ -25,7 +25,6 @@ use Rattle.papaya_histories.specs.Given.Effects.Known.{Known, known}
 use Rattle.papaya_histories.specs.Given.Executor.IsAt.{slot_of}
 use Rattle.papaya_histories.specs.Given.Schedules.declared.effect.Thing.{Thing}
 use Rattle.papaya_histories.specs.Given.Runs.Same.{is_same}
-use Rattle.papaya_finds.specs.Parts.{FindRest}
 use Rattle.papaya_finds.specs.Within.{AllIsInOrder}
 use Rattle.papaya_finds.proofs.Begun.{all_begun}
 use Rattle.papaya_legal.specs.Noted.{HaveCome}
