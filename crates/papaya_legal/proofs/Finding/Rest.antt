@@ -1,5 +1,5 @@
 -- The effects of a step of a call find what is left of what they must, by what the moment shows and what is still asked.
-use Rattle.std.specs.Prelude.{◌≡◌, ◌⊎◌, ℕ, ◌+◌, Bool, true, false, List, ◌∷◌, Option, Some, None}
+use Rattle.std.specs.Prelude.{◌≡◌, ◌⊎◌, ℕ, ◌+◌, Bool, true, false, List, ◌∷◌, Some, None}
 use Rattle.std.proofs.Common.{refl, ap, sym, subst, ◌∙◌, inl, inr}
 use Rattle.papaya_histories.specs.Given.Tables.declared.node.Node.{Node}
 use Rattle.papaya_histories.specs.Given.Resize.Sum.{sum_plan}
@@ -13,7 +13,6 @@ use Rattle.papaya_histories.specs.Given.Schedules.declared.call.Call.{Call}
 use Rattle.papaya_histories.specs.Given.Schedules.declared.call.Call.TheVariants as call
 use Rattle.papaya_histories.specs.Given.Schedules.declared.effect.Effect.{Effect}
 use Rattle.papaya_histories.specs.Given.Schedules.After.{moments_from}
-use Rattle.papaya_histories.specs.Given.Schedules.Effects.{with_effects}
 use Rattle.papaya_histories.specs.Given.Schedules.Entry.{Entry}
 use Rattle.papaya_histories.specs.Given.Schedules.Growing.{HasNext, MayGrow}
 use Rattle.papaya_histories.specs.Given.Schedules.Lists.{OneOf}
