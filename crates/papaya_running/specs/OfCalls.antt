@@ -29,7 +29,6 @@ use Rattle.papaya_histories.specs.Given.Executor.declared.executor.Executor.{Exe
 use Rattle.papaya_histories.specs.InEvent.{ComesSo}
 use Rattle.papaya_histories.specs.Given.Finishes.Machines.{machine_of}
 use Rattle.papaya_models.specs.CallEvents.{IsInItsRow}
-use Rattle.papaya_finds.specs.Parts.{FindRest}
 use Rattle.papaya_values.specs.Values.{KeepsValue}
 use Rattle.papaya_named.specs.declared.caller.Caller.{Caller}
 use Rattle.papaya_legal.specs.CallEvents.{InCallEvent, IsLegalBut}
