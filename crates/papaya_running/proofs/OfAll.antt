@@ -46,7 +46,7 @@ use Rattle.papaya_mapping.proofs.AllGiven.{may_reclaim, nobody_has}
 use Rattle.papaya_scheduler.proofs.Rights.{entry, entry_is}
 use Rattle.papaya_running.proofs.OfCalls.Worth.{have_values_then, nobody_says}
 use Rattle.papaya_running.specs.Asked.{Holds, is_of_calls, is_of_maps}
-use Rattle.papaya_running.specs.OfAll.{IsLeftOfAll, KeepsAll}
+use Rattle.papaya_running.specs.OfAll.{KeepsAll}
 use Rattle.papaya_running.specs.OfCalls.{HaveValues, Runs, RunsOn}
 use Rattle.papaya_works.proofs.Reached.{all_note_more}
 use Rattle.papaya_running.proofs.OfAll.Behind.{behind_so}

@@ -83,7 +83,7 @@ use Rattle.papaya_scheduler.proofs.Rights.{entry, entry_is}
 use Rattle.papaya_running.proofs.OfCalls.Worth.{have_values_then, nobody_says}
 use Rattle.papaya_running.specs.Asked.{Holds}
 use Rattle.papaya_running.specs.OfCalls.{HaveShards, HaveValues, Runs, RunsOn}
-use Rattle.papaya_running.specs.OfRows.{IsLeftOfRows, KeepsRun}
+use Rattle.papaya_running.specs.OfRows.{KeepsRun}
 use Rattle.papaya_works.proofs.Ends.{ends_find_all}
 use Rattle.papaya_works.proofs.Reached.{ends_note_more}
 use Rattle.papaya_running.proofs.OfCalls.Scenes.{AreNamed, its_named, stands_in}

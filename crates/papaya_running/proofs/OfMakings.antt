@@ -15,7 +15,6 @@ use Rattle.papaya_histories.specs.Given.Tables.declared.resize_mode.ResizeMode.{
 use Rattle.papaya_histories.specs.Given.Tables.Lengths.{places_for}
 use Rattle.papaya_histories.specs.Given.Tables.Powers.{floor_log2, next_power}
 use Rattle.papaya_histories.specs.Given.Tables.declared.setting.Setting.{Setting}
-use Rattle.papaya_histories.proofs.Given.Moments.Numbers.{numbers_are_below}
 use Rattle.papaya_histories.proofs.Given.Callers.Together.At.{at_other, at_same}
 use Rattle.papaya_histories.specs.Given.Executor.IsAt.{Scene, IsAt, slot_of}
 use Rattle.papaya_histories.specs.Given.Executor.Making.{MakingLeads}
@@ -101,7 +100,7 @@ use Rattle.papaya_scheduler.proofs.Rights.{entry, entry_is}
 use Rattle.papaya_running.proofs.OfCalls.Worth.{have_values_then, nobody_says}
 use Rattle.papaya_running.specs.Asked.{Holds}
 use Rattle.papaya_running.specs.OfCalls.{HaveShards, HaveValues, Runs, RunsOn}
-use Rattle.papaya_running.specs.OfRows.{HasNotBegun, IsLeftOfRows, KeepsRun}
+use Rattle.papaya_running.specs.OfRows.{HasNotBegun, KeepsRun}
 use Rattle.papaya_works.proofs.Makings.{makings_do_theirs, makings_find_theirs}
 use Rattle.papaya_works.proofs.Reached.{makings_note_more}
 use Rattle.papaya_running.proofs.OfCalls.Scenes.{AreNamed, its_named, stands_in}

@@ -65,7 +65,7 @@ use Rattle.papaya_scheduler.specs.declared.scheduler.Scheduler.{Scheduler}
 use Rattle.papaya_scheduler.proofs.Rights.{entry, entry_is}
 use Rattle.papaya_running.proofs.OfCalls.Worth.{have_values_then, nobody_says}
 use Rattle.papaya_running.specs.OfCalls.{HaveShards, HaveValues, Runs, RunsOn}
-use Rattle.papaya_running.specs.OfRows.{FindsStill, IsLeftOfRows, KeepsRun, MaysDo, is_of_rows}
+use Rattle.papaya_running.specs.OfRows.{KeepsRun, is_of_rows}
 use Rattle.papaya_scheduler.proofs.Vacancies.{first_is, none_on_vacant}
 use Rattle.papaya_works.specs.Rows.{may_row}
 use Rattle.papaya_works.proofs.Mays.{rows_do_theirs}
