@@ -196,6 +196,7 @@ module _ {K V S : Type 0} (same : K → K → Bool) (hash : K → ℕ) (terms : 
           stands = stands_in same hash terms (moment (e own ∷ log)) new plays names then_at (record { is_at = shown_begun.is_at; shows = run_then.calls.whole; kept = run_then.calls.kept; counted = counted_here }) named_here;
           shows = run_then;
           come = events_bring_things K V terms log (e own) runs.come goes_on.0.life.finds;
+          taken = runs.taken;
           size = on_size ∙ runs.size;
           shards = shards_here;
         };

@@ -3,7 +3,7 @@ use Rattle.std.specs.Prelude.{◌≡◌, ◌≢◌, ◌⊎◌, ◌+◌, ℕ, zer
 use Rattle.std.specs.List.{remove}
 use Rattle.std.proofs.Common.{refl, ap, sym, subst, ◌∙◌, inl, inr, arith}
 use Rattle.std.proofs.lemmas.Bool.{cases_eq}
-use Rattle.papaya_histories.specs.Given.Seize.World.{World, Request, Begin, Step, Happens}
+use Rattle.papaya_histories.specs.Given.Seize.World.{World, Request, Begin, Step, Happens, SlotsTaken}
 use Rattle.papaya_histories.specs.Given.Tables.Nodes.{deferred_word}
 use Rattle.papaya_histories.specs.Given.Tables.declared.node.Node.{Node}
 use Rattle.papaya_histories.specs.Given.Tables.declared.setting.Setting.{Setting}
@@ -14,6 +14,7 @@ use Rattle.papaya_histories.specs.Given.Runs.Same.{is_same}
 use Rattle.papaya_histories.specs.Given.Schedules.declared.effect.Effect.{Effect}
 use Rattle.papaya_histories.specs.Given.Schedules.declared.event.Event.{Event}
 use Rattle.papaya_histories.specs.Given.Schedules.declared.outcome.Outcome.{Outcome}
+use Rattle.papaya_histories.specs.Given.Schedules.After.{moment}
 use Rattle.papaya_histories.specs.Given.Schedules.Effects.{with_effects}
 use Rattle.papaya_histories.specs.Given.Schedules.Entry.{Entry}
 use Rattle.papaya_histories.specs.Given.Schedules.Model.{things_in}
@@ -37,6 +38,8 @@ use Rattle.papaya_models.proofs.CallEvents.{things_more}
 use Rattle.papaya_purposes.specs.Kept.{ShowsNone}
 use Rattle.papaya_legal.specs.CallEvents.{InCallEvent}
 use Rattle.papaya_legal.proofs.Calls.{call_events_go_on_so}
+use Rattle.papaya_legal.proofs.Heads.Rows.{slots_stay}
+use Rattle.papaya_legal.proofs.Heads.Steps.{call_taken}
 use Rattle.papaya_logged.specs.Calling.{CallGoesOn}
 use Rattle.papaya_logged.specs.Shown.{IsShown}
 use Rattle.papaya_rows.proofs.Lists.{both_some, found_alike, set_get}
@@ -95,6 +98,7 @@ module _ {K V S : Type 0} (same : K → K → Bool) (hash : K → ℕ) (name : �
     pub shown : IsShown same hash name now p.logged scene
     pub slot : (d : CallThere K V) → call_of (name i) now ≡ Some d → slot_of_guard d.guard now.there ≡ slot_of i
     pub midst : InCallEvent same name terms log event beginning map i c steps did now (known p.logged.notes) scene under
+    pub taken : SlotsTaken scene.world.memory (moment log).slots
 
   -- a step from there
   module _ (n : ℕ) (mid after : List Effect) (p new : Scheduler K V S) (come : HasCome n mid p) (step : IsStep same hash place mid after p new) where
@@ -187,6 +191,13 @@ module _ {K V S : Type 0} (same : K → K → Bool) (hash : K → ℕ) (name : �
         ∙ ap (slot_of_guard was.0.guard) (there_stays (Some (name i)) (Some map) did come.now)
         ∙ come.slot was.0 was.1
 
+    -- and the slots are taken that were
+    pub taken_then : SlotsTaken then_scene.world.memory (moment log).slots
+    taken_then =
+        slots_stay come.scene.world.memory then_scene.world.memory (moment log).slots
+        (call_taken same hash name come.now (known p.logged.notes) come.scene p.logged.executor new.logged.executor come.shown.is_at come.midst.calls.whole map i come.under its_here step.said leads)
+        come.taken
+
     -- where it goes on it has come one step further, if callers have their names then
     module _ (none : ShowsNone step.said) (on : has_ended step.said ≡ false) (then_caller : Caller V) (there : slice_get new.calls.items.items place ≡ Some then_caller)
         (number : then_caller.number ≡ step.caller.number) (on_map : then_caller.map ≡ step.caller.map) (kind : then_caller.kind ≡ step.caller.kind) (named : AreNamed name new.calls.items.items) where
@@ -212,6 +223,7 @@ module _ {K V S : Type 0} (same : K → K → Bool) (hash : K → ℕ) (name : �
         midst = subst (λ (k : Known). InCallEvent same name terms log event beginning map i c (n + 1) (mid ++ did) then_now k then_scene next.0) (sym noted_then)
             (call_events_go_on_so K V S same hash name terms log event beginning map i c n mid come.now (known p.logged.notes) come.scene come.under come.midst p.logged.executor new.logged.executor
             come.shown.is_at come.size step.said leads none noted_so next.0 next.1);
+        taken = taken_then;
       })
 
   -- one of which its caller was told

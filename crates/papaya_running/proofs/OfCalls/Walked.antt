@@ -251,6 +251,7 @@ module _ {K V S : Type 0} (same : K → K → Bool) (hash : K → ℕ) (terms : 
     shown = shown;
     slot = taken.slot_is same hash terms log old runs event own refl refl place parts.0;
     midst = subst (λ (k : Known). InCallEvent same name terms log event m map i c 0 [] m k then_at next) notes_are midst;
+    taken = runs.taken;
   }
 
   come : Come walked.steps walked.mid walked.led
