@@ -59,6 +59,7 @@ runs_begin_in K V same terms name known w whole kept came = record {
   follows = λ alone. inl (record { before = []; came = came; alike = start_alike (HasNumber known []) });
   order = (all_in_order_at_first K V, tt);
   over = λ closed. absurd (cc closed);
+  left = λ n. refl;
 }
 
 pub runs_begin : (K V : Type 0) → RunsBegin K V

@@ -43,6 +43,7 @@ use Rattle.papaya_finds.specs.Within.{GoesInOrder}
 use Rattle.papaya_finds.proofs.Runs.{events_keep_order}
 use Rattle.papaya_finds.proofs.Closed.{over_stays_back}
 use Rattle.papaya_histories.specs.Given.Runs.Same.{is_same}
+use Rattle.papaya_legal.proofs.LeftTold.{events_tell_left}
 use Rattle.papaya_legal.proofs.Maps.{stands_so}
 use Rattle.papaya_histories.specs.Given.Effects.declared.acting.Acting.TheVariants as acts
 use Rattle.papaya_legal.specs.Carried.{NoneCounted}
@@ -96,6 +97,7 @@ call_events_end_so K V S same hash name terms log beginning map i c first before
   follows = follows;
   order = events_keep_order K V terms log e goes run.order;
   over = over_stays_back K V terms log e goes reclaims run.over;
+  left = events_tell_left K V terms log e goes reclaims run.order.0 run.left;
 }
   where
     whole : ShowsWhole same name m known s

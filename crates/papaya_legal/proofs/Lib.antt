@@ -14,6 +14,8 @@ pub mod Slots
 pub mod SlotsEnd
 pub mod Maps
 pub mod MapsEnd
+pub mod LeftTold
+pub mod BehindTold
 pub mod CallsAfter
 pub mod CallFinds
 pub mod CallLeaves

@@ -1,6 +1,6 @@
 -- Before all events a scheduler is as events ask of it, whatever was chosen of numbers of blocks.
 use Rattle.std.specs.Prelude.{◌≡◌, ◌<◌, ◌≤◌, ◌^◌, ℕ, Bool, List, [], length, Option, None, Some, min, slice_get, slice_index_or}
-use Rattle.std.proofs.Common.{refl, sym, ap, subst, ◌∙◌, inr, arith}
+use Rattle.std.proofs.Common.{refl, sym, ap, subst, ◌∙◌, inr, arith, inl}
 use Rattle.seize_words.specs.Mem.{Mem, word_at}
 use Rattle.seize_words.specs.SlotWords.{slot_word}
 use Rattle.seize_words.specs.declared.at.At.TheVariants.{Root, Used}
@@ -156,6 +156,7 @@ module _ {K V S : Type 0} (same : K → K → Bool) (hash : K → ℕ) (given : 
     taken = none_taken;
     size = begins.begun.batches;
     shards = no_shards;
+    reached = inl refl;
   }
 
   -- all that events ask of it, where keys have lawful hashes, and processors are not too many

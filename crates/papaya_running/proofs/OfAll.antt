@@ -1,6 +1,6 @@
 -- Events that reclaim all keep their promises, and a run goes on with them.
-use Rattle.std.specs.Prelude.{◌≡◌, ◌⊎◌, ◌<◌, ◌^◌, nat_lt, ℕ, suc, Bool, true, false, List, [], ◌∷◌, None, Result, Ok, Err, IfOk, slice_index_or, if◌then◌else◌}
-use Rattle.std.proofs.Common.{refl, ap, sym, subst, inl, inr, ◌∙◌}
+use Rattle.std.specs.Prelude.{◌≡◌, ◌≤◌, ◌⊎◌, ◌<◌, ◌^◌, nat_lt, ℕ, suc, Bool, true, false, List, [], ◌∷◌, None, Result, Ok, Err, IfOk, slice_index_or, if◌then◌else◌}
+use Rattle.std.proofs.Common.{refl, ap, sym, subst, inl, inr, ◌∙◌, arith}
 use Rattle.seize_words.specs.declared.fault.Fault.TheVariants.{Busy}
 use Rattle.papaya_histories.specs.Given.Seize.ReclaimAll.{clearing, reclaiming_all}
 use Rattle.papaya_histories.specs.Given.Seize.World.{World}
@@ -29,7 +29,7 @@ use Rattle.papaya_finds.specs.Little.{ReclaimsAll}
 use Rattle.papaya_legal.proofs.Come.{events_bring_things}
 use Rattle.papaya_legal.proofs.Heads.Chains.{all_step, all_taken}
 use Rattle.papaya_legal.proofs.Heads.Rows.{slots_stay, taken_then}
-use Rattle.papaya_legal.specs.AllEvents.{AllCome, AllSteps, BeginsAll, FindsPair, all_begun}
+use Rattle.papaya_legal.specs.AllEvents.{AllCome, AllSteps, BeginsAll, BehindAreLeft, BehindIsLeft, FindsPair, LeftIsBehind, all_begun}
 use Rattle.papaya_legal.specs.CallEvents.{IsLegalBut}
 use Rattle.papaya_legal.specs.Carried.{ShowsRun}
 use Rattle.papaya_legal.proofs.OfAll.Ends.{all_runs_to_its_end, none_called}
@@ -46,14 +46,18 @@ use Rattle.papaya_scheduler.specs.declared.scheduler.Scheduler.{Scheduler}
 use Rattle.papaya_mapping.proofs.AllGiven.{may_reclaim, nobody_has}
 use Rattle.papaya_scheduler.proofs.Rights.{entry, entry_is}
 use Rattle.papaya_running.specs.Asked.{Holds, is_of_calls, is_of_maps}
-use Rattle.papaya_running.specs.OfAll.{IsLeftOfAll, KeepsAll}
+use Rattle.papaya_running.specs.OfAll.{KeepsAll}
+use Rattle.papaya_works.proofs.Reached.{all_note_more}
 use Rattle.papaya_running.specs.OfCalls.{Runs, RunsOn}
+use Rattle.papaya_running.proofs.OfAll.Behind.{behind_so}
 use Rattle.papaya_running.proofs.OfAll.Chain.{AllComes, all_back, all_come, all_comes, is_over, leads, over_there, step_so, then_now, then_scene}
 use Rattle.papaya_running.proofs.OfCalls.Scenes.{AreNamed, its_named, stands_in}
 use Rattle.papaya_running.proofs.OfRows.Lone.{alone_follows}
 use Rattle.papaya_running.proofs.OfRows.Quiet.{IsStill, still_keeps}
+use Rattle.papaya_running.proofs.Reached.{reached_after}
 use Rattle.papaya_running.proofs.Remaining.{counted_in, gives_all as gives_all_in}
 pub mod Chain
+pub mod Behind
 
 module _ {K V : Type 0} where
   -- such an event speaks of no call
@@ -87,7 +91,7 @@ module _ {K V : Type 0} where
 
 module _ {K V S : Type 0} (same : K → K → Bool) (hash : K → ℕ) (terms : Terms) (log : List (Entry K V)) (event : Event K V) (of_all : gives_all event ≡ true)
     (played : Played V) (old new : Scheduler K V S) (holds : Holds same hash terms (moment log) old) (run : Runs same hash terms log old) (after : IsPlayed same hash terms (entry_of event played ∷ log) new)
-    (left : IsLeftOfAll same hash terms log old (entry_of event played) run) where
+    (right_so : ComesRight terms log (entry_of event played)) where
   abbrev m : Moment K V
   m = moment log
 
@@ -110,6 +114,10 @@ module _ {K V S : Type 0} (same : K → K → Bool) (hash : K → ℕ) (terms : 
 
   roots_are : old.logged.executor.roots ≡ terms.roots
   roots_are = holds.counts.roots ∙ ap (λ (t : Terms). t.roots) run.stands.given
+
+  -- which is what the moment says is left over
+  its_left : LeftIsBehind terms.roots m (known old.logged.notes) behind × BehindIsLeft terms.roots m (known old.logged.notes) behind × BehindAreLeft terms.roots m (known old.logged.notes) behind
+  its_left = behind_so same hash terms log old run holds.counts.apart.numbers.found roots_are
 
   small : terms.batch_size < 2 ^ 64
   small = subst (λ (n : ℕ). n < 2 ^ 64) run.size run.stands.shown.is_at.small
@@ -175,12 +183,12 @@ module _ {K V S : Type 0} (same : K → K → Bool) (hash : K → ℕ) (terms : 
     pairs : ComesRight terms log e → AtEachEffect FindsPair None None played.effects.items m
     pairs right =
         all_find_pairs K V S same hash name terms log (known old.logged.notes) s old.logged.executor run.shows (none_called terms log played.steps played.effects.items event of_all right) 0 first
-        behind left.but.behind left.but.left_there (suc ran.3.0) over (to, y.chain, last)
+        behind its_left.0 its_left.2 (suc ran.3.0) over (to, y.chain, last)
 
     it : ComesRight terms log e → IsLegalBut same terms log e × ReclaimsAll log e × ShowsRun same name terms (e ∷ log) (known new.logged.notes) last_scene
     it right =
         all_runs_to_its_end K V S same hash name terms log (known old.logged.notes) s old.logged.executor small run.shows event of_all
-        (alone_follows same hash terms log old run event (speaks_of_none event of_all)) 0 first behind left.but.behind left.but.order begins ran.3.0 to over y.chain last done played.steps played.effects.items refl
+        (alone_follows same hash terms log old run event (speaks_of_none event of_all)) 0 first behind its_left.0 its_left.1 begins ran.3.0 to over y.chain last done played.steps played.effects.items refl
         (pairs right) right
 
     there : IsAt same hash new.logged.executor last_scene
@@ -205,6 +213,10 @@ module _ {K V S : Type 0} (same : K → K → Bool) (hash : K → ℕ) (terms : 
         by r (inl root) = inl (inl root)
         by r (inr free) = inr free
 
+    -- no bucket of slots is forgotten
+    grows : (known old.logged.notes).buckets ≤ (known new.logged.notes).buckets
+    grows = all_note_more same hash terms (known old.logged.notes) 0 (suc ran.3.0) (all_come (far [] old.logged, first) m s behind) over (to, y.chain, last) (omega arith)
+
     all_keeps : KeepsAs e
     all_keeps so right =
         let its = it right in
@@ -225,6 +237,7 @@ module _ {K V S : Type 0} (same : K → K → Bool) (hash : K → ℕ) (terms : 
                   (all_taken same hash terms 0 ran.3.0 (all_begun log (known old.logged.notes) s old.logged.executor first behind) to y.chain) (all_step same hash terms 0 to over last)) run.taken;
               size = ran.5.0.given.1 ∙ y.size;
               shards = λ n setting is. run.shards n setting (sym (stood n) ∙ is);
+              reached = reached_after same hash terms log e old new right so grows run.reached;
             };
           },
           its.1,
@@ -235,9 +248,9 @@ module _ {K V S : Type 0} (same : K → K → Bool) (hash : K → ℕ) (terms : 
       subst KeepsAs (sym (entry_is event played (Refused Busy) played.steps [] busy refl none))
       (λ so right.
       (let kept = busy_still log s.world event of_all played.steps in
-      (still_keeps same hash terms log old run (entry event (Refused Busy) played.steps []) new refl kept still calls so right refl, kept.reclaims))) after left.right
+      (still_keeps same hash terms log old run (entry event (Refused Busy) played.steps []) new refl kept still calls so right refl, kept.reclaims))) after right_so
   works_keep (calls, inr (done, gone, ran)) =
-      subst KeepsAs (sym (entry_is event played Done played.steps played.effects.items done refl refl)) (all_keeps calls gone ran) after left.right
+      subst KeepsAs (sym (entry_is event played Done played.steps played.effects.items done refl refl)) (all_keeps calls gone ran) after right_so
 
 module _ {K V S : Type 0} (same : K → K → Bool) (hash : K → ℕ) (event : Event K V) (old new : Scheduler K V S) where
   -- so it is of one that is kept out,

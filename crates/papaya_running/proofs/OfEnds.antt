@@ -1,5 +1,5 @@
 -- An event that ends a map keeps its promises, and a run goes on with it.
-use Rattle.std.specs.Prelude.{◌≡◌, ◌≢◌, ◌⊎◌, ◌<◌, ◌+◌, ◌-◌, ◌^◌, ◌++◌, ℕ, zero, suc, Bool, true, false, List, [], ◌∷◌, map as each, Option, Some, None, option_map, Result, Ok, Err, IfOk}
+use Rattle.std.specs.Prelude.{◌≡◌, ◌≤◌, ◌≢◌, ◌⊎◌, ◌<◌, ◌+◌, ◌-◌, ◌^◌, ◌++◌, ℕ, zero, suc, Bool, true, false, List, [], ◌∷◌, map as each, Option, Some, None, option_map, Result, Ok, Err, IfOk}
 use Rattle.std.specs.List.{list_all}
 use Rattle.std.proofs.Common.{refl, sym, ap, subst, inl, inr, ◌∙◌, arith}
 use Rattle.std.proofs.lemmas.Bool.{cases_eq}
@@ -52,13 +52,13 @@ use Rattle.papaya_legal.specs.Chains.{Chain, Come, EndSteps}
 use Rattle.papaya_legal.specs.MapEvents.{InEndEvent}
 use Rattle.papaya_legal.proofs.Chains.{ends_chain, ends_run_to_their_ends}
 use Rattle.papaya_legal.proofs.MapsOver.{end_events_begin_so}
-use Rattle.papaya_remains.specs.Remains.{has_some}
 use Rattle.papaya_remains.proofs.Numbered.{made_stays}
-use Rattle.papaya_logged.specs.Ends.{EndCame, EndIsBegun, NotedStill, NotesMap, ended_as, is_done, left_so}
+use Rattle.papaya_logged.specs.Ends.{EndCame, EndIsBegun, NotedStill, NotesMap, ended_as, is_done}
 use Rattle.papaya_logged.specs.Goes.{EndGoes, EndOn, Far, GoesFor, far}
 use Rattle.papaya_logged.specs.Shown.{IsCounted, IsShown}
-use Rattle.papaya_logged.specs.Waits.{TellsWaiting}
+use Rattle.papaya_logged.specs.Waits.{TellsLeft, TellsWaiting}
 use Rattle.papaya_logged.proofs.Counted.{counted_end_steps}
+use Rattle.papaya_logged.proofs.LeftNoted.{endings_note_left}
 use Rattle.papaya_logged.proofs.EndSteps.{did_end, end_there, ends_alone, noted_on}
 use Rattle.papaya_rows.proofs.Lists.{found_has}
 use Rattle.papaya_scheduler.specs.Mapping.{AreApart}
@@ -72,13 +72,15 @@ use Rattle.papaya_mapping.proofs.MapLists.{by_recursion}
 use Rattle.papaya_scheduler.proofs.Maps.{number_is}
 use Rattle.papaya_scheduler.proofs.Rights.{entry, entry_is}
 use Rattle.papaya_works.proofs.Ends.{ends_find_all}
+use Rattle.papaya_works.proofs.Reached.{ends_note_more}
 use Rattle.papaya_running.specs.Asked.{Holds}
 use Rattle.papaya_running.specs.OfCalls.{HaveShards, Runs, RunsOn}
-use Rattle.papaya_running.specs.OfRows.{IsLeftOfRows, KeepsRun}
+use Rattle.papaya_running.specs.OfRows.{KeepsRun}
 use Rattle.papaya_running.proofs.OfCalls.Scenes.{AreNamed, its_named, stands_in}
 use Rattle.papaya_running.proofs.OfRows.Chain.{come_as, come_by}
 use Rattle.papaya_running.proofs.OfRows.Lone.{alone_follows}
 use Rattle.papaya_running.proofs.OfRows.Quiet.{refused_still, still_keeps}
+use Rattle.papaya_running.proofs.Reached.{reached_after}
 use Rattle.papaya_running.proofs.Remaining.{counted_in}
 
 -- What an end does it may do: pairs end with their map, and then its tables.
@@ -199,7 +201,8 @@ module _ {K V S : Type 0} (same : K → K → Bool) (hash : K → ℕ) (terms : 
       made = made_stays None (Some map) step_did y.now ∙ y.made;
       maps = maps_stand same hash y.scene mid.logged.executor to.logged.executor i it.0 it.1 step.said leads ∙ y.maps;
       counted = counted_end_steps same hash mid.logged to.logged.executor to.logged.notes step.is_noted.given y.now y.scene y.is_at y.counted i map step.said leads it.0 it.1 step.is_noted.noted first
-          (taken_of (leads it.0 it.1).2.deed) did_its;
+          (taken_of (leads it.0 it.1).2.deed) did_its
+          (endings_note_left same hash name y.now (known mid.logged.notes) y.scene mid.logged.executor to.logged.executor y.is_at y.midst.0.calls.whole i map step.said leads it.0 it.1 no_map);
     }
 
     end_under : is_done step.said ≡ false → IsUnder to next
@@ -224,7 +227,7 @@ module _ {K V S : Type 0} (same : K → K → Bool) (hash : K → ℕ) (terms : 
 
 module _ {K V S : Type 0} (same : K → K → Bool) (hash : K → ℕ) (terms : Terms) (log : List (Entry K V)) (own : List ℕ) (played : Played V) (old new : Scheduler K V S) (holds : Holds same hash terms (moment log) old)
     (run : Runs same hash terms log old) (turn : is_kept_out terms (EndMap own) (moment log) ≡ false) (after : IsPlayed same hash terms (entry_of (EndMap own) played ∷ log) new)
-    (left : IsLeftOfRows terms log (entry_of (EndMap own) played)) where
+    (right_so : ComesRight terms log (entry_of (EndMap own) played)) where
   abbrev m : Moment K V
   m = moment log
 
@@ -339,15 +342,14 @@ module _ {K V S : Type 0} (same : K → K → Bool) (hash : K → ℕ) (terms : 
 
     -- what all of it did, as the scheduler has it
     -- what waited is told as it ended
-    abbrev TellsLeft : (t : Scene K V) (gone_blocks : List ℕ) → EndCame s1 t i (finishing_of standing s.world) gone_blocks true → Type 0
-    TellsLeft t gone_blocks came =
-        (began : Moment K V) → TellsWaiting map standing.chart began m first_noted s1.world (has_some (finishing_of standing s.world).waits)
-        → TellsWaiting map standing.chart began (with_effects None (Some map) d.ran.0 m) (known new.logged.notes) t.world (has_some (left_so s1 t i (finishing_of standing s.world) gone_blocks true came.ender))
+    abbrev LeftTells : (t : Scene K V) (gone_blocks : List ℕ) → EndCame s1 t i (finishing_of standing s.world) gone_blocks true → Type 0
+    LeftTells t gone_blocks came =
+        (began : Moment K V) → TellsWaiting same map i (finishing_of standing s.world) began m first_noted s1.world → TellsLeft map standing.chart began (known new.logged.notes) came.ender.2.0
 
     abbrev u : (t : Scene K V) × (gone_blocks : List ℕ) × (came : EndCame s1 t i (finishing_of standing s.world) gone_blocks true) × (d.ran.0 ≡ ended_as map first_noted gone_blocks)
         × NotedStill first_noted (known new.logged.notes) ([] ++ gone_blocks) × IsShown same hash name (with_effects None (Some map) d.ran.0 m) new.logged t
         × (true ≡ true → ◌≡◌ {A = List ℕ} [] [] → d.ran.0 ≡ all_ended (is_incremental standing.setting.mode) map number standing.chart)
-        × TellsLeft t gone_blocks came
+        × LeftTells t gone_blocks came
     u =
         d.ran.3 same hash name m s1 (shown_mid same hash terms log old own due map d.found d.free d.began i begun) (finishing_of standing s.world)
         (ending_here same hash terms log old own due map d.found d.free d.began i begun) gone number first_noted (begun none_on).3.1 (λ b none. refl)
@@ -415,6 +417,12 @@ module _ {K V S : Type 0} (same : K → K → Bool) (hash : K → ℕ) (terms : 
         by (inl one) = absurd (let none = ap (option_map (λ (st : Standing K). st.setting)) (at_same s.maps map None n one) in cc (none, now_is))
         by (inr ne) = run.shards n setting (sym (run.stands.shown.is_at.maps n) ∙ sym (ap (option_map (λ (st : Standing K). st.setting)) (at_other s.maps map None n ne)) ∙ now_is)
 
+    -- no bucket of slots is forgotten
+    grows : (known old.logged.notes).buckets ≤ (known new.logged.notes).buckets
+    grows =
+        ends_note_more same hash terms (known old.logged.notes) i map (suc d.gone.1.0) (record { executor = d.began.executor; did = []; now = m; notes = known old.logged.notes; scene = s1 })
+        (come_by (far effects new.logged) y.now y.scene) chain (omega arith)
+
     keeps_done : KeepsAs e
     keeps_done so right = record {
       legal = (it right).0;
@@ -433,23 +441,24 @@ module _ {K V S : Type 0} (same : K → K → Bool) (hash : K → ℕ) (terms : 
             (come_by (far effects new.logged) y.now y.scene) chain) run.taken;
         size = y.size;
         shards = shards;
+        reached = reached_after same hash terms log e old new right so grows run.reached;
       };
     }
 
     end_keeps : RunsOn same hash terms log (entry_of (EndMap own) played) new
-    end_keeps = subst KeepsAs (sym (entry_is (EndMap own) played Done played.steps effects done refl refl)) keeps_done after left.right
+    end_keeps = subst KeepsAs (sym (entry_is (EndMap own) played Done played.steps effects done refl refl)) keeps_done after right_so
 
   -- or nothing was done
   map_end_keeps : WorksOnEnd played old new own → RunsOn same hash terms log (entry_of (EndMap own) played) new
   map_end_keeps (calls, inl (fault, is, (none, still))) =
       subst KeepsAs (sym (entry_is (EndMap own) played (Refused fault) played.steps [] is refl none))
       (λ so right. still_keeps same hash terms log old run (entry (EndMap own) (Refused fault) played.steps []) new refl (refused_still log s.world (EndMap own) refl fault played.steps) still calls so right refl)
-      after left.right
+      after right_so
   map_end_keeps (calls, inr (done, d)) = end_keeps calls done d
 
 -- So it is by what its function says.
 module _ {K V S : Type 0} (same : K → K → Bool) (hash : K → ℕ) (event : Event K V) (own : List ℕ) (is : event ≡ EndMap own) (old new : Scheduler K V S) where
   pub ends_keep : {X : Type 0} → (result : Result (Played V) X) → IfOk result (λ played. WorksOnEnd played old new own) → IfOk result (λ played. KeepsRun same hash event played old new)
   ends_keep (Ok played) works =
-      subst (λ (x : Event K V). KeepsRun same hash x played old new) (sym is) (λ of terms log holds run turn after left begun. map_end_keeps same hash terms log own played old new holds run turn after left works)
+      subst (λ (x : Event K V). KeepsRun same hash x played old new) (sym is) (λ of terms log holds run turn after right begun. map_end_keeps same hash terms log own played old new holds run turn after right works)
   ends_keep (Err x) works = tt

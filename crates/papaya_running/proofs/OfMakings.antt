@@ -1,5 +1,5 @@
 -- An event that makes a map keeps its promises, and a run goes on with it.
-use Rattle.std.specs.Prelude.{◌≡◌, ◌≢◌, ◌⊎◌, ◌==◌, ◌&&◌, ◌<◌, ◌+◌, ◌-◌, ◌^◌, ◌++◌, if◌then◌else◌, nat_le, ℕ, zero, suc, Bool, true, false, List, [], ◌∷◌, find, is_none, length, max, not, nat_lt, cond, Option, Some, None, option_map, slice_index_or, Result, Ok, Err, IfOk}
+use Rattle.std.specs.Prelude.{◌≡◌, ◌≤◌, ◌≢◌, ◌⊎◌, ◌==◌, ◌&&◌, ◌<◌, ◌+◌, ◌-◌, ◌^◌, ◌++◌, if◌then◌else◌, nat_le, ℕ, zero, suc, Bool, true, false, List, [], ◌∷◌, find, is_none, length, max, not, nat_lt, cond, Option, Some, None, option_map, slice_index_or, Result, Ok, Err, IfOk}
 use Rattle.std.specs.Int.{IsPowerOfTwo}
 use Rattle.std.specs.List.{AllByRecursion, list_all}
 use Rattle.std.proofs.Common.{refl, sym, ap, subst, inl, inr, ◌∙◌, arith}
@@ -32,7 +32,7 @@ use Rattle.papaya_schedules.specs.Beginning.{used_roots, with_map}
 use Rattle.papaya_schedules.specs.Effects.{AtEachEffect, maps_by, with_effect, with_effects, worked}
 use Rattle.papaya_schedules.specs.Entry.{Entry}
 use Rattle.papaya_schedules.specs.Handing.{IsWhole, is_first_making, may_do, tables_named}
-use Rattle.papaya_schedules.specs.InTurn.{is_kept_out}
+use Rattle.papaya_schedules.specs.InTurn.{ComesRight, is_kept_out}
 use Rattle.papaya_schedules.specs.Lists.{least_free}
 use Rattle.papaya_schedules.specs.Lives.{EventFinds}
 use Rattle.papaya_schedules.specs.Moment.{MapThere, Moment}
@@ -76,6 +76,7 @@ use Rattle.papaya_logged.specs.Makings.{MakingIsBegun, is_over}
 use Rattle.papaya_logged.specs.Shown.{IsCounted, IsShown}
 use Rattle.papaya_logged.specs.declared.logged.Logged.{Logged}
 use Rattle.papaya_logged.proofs.Counted.{counted_making_steps}
+use Rattle.papaya_logged.proofs.LeftNoted.{makings_note_left}
 use Rattle.papaya_logged.proofs.GivenBack.{with_maps}
 use Rattle.papaya_rows.proofs.Lists.{found_alike}
 use Rattle.papaya_tables.proofs.Logarithms.{next-power-unique}
@@ -93,14 +94,16 @@ use Rattle.papaya_scheduler.proofs.Maps.{number_is}
 use Rattle.papaya_scheduler.proofs.RanOn.{maps_named}
 use Rattle.papaya_scheduler.proofs.Rights.{entry, entry_is}
 use Rattle.papaya_works.proofs.Makings.{makings_do_theirs, makings_find_theirs}
+use Rattle.papaya_works.proofs.Reached.{makings_note_more}
 use Rattle.papaya_running.specs.Asked.{Holds}
 use Rattle.papaya_running.specs.OfCalls.{HaveShards, Runs, RunsOn}
-use Rattle.papaya_running.specs.OfRows.{HasNotBegun, IsLeftOfRows, KeepsRun}
+use Rattle.papaya_running.specs.OfRows.{HasNotBegun, KeepsRun}
 use Rattle.papaya_running.proofs.OfCalls.Scenes.{AreNamed, its_named, stands_in}
 use Rattle.papaya_running.proofs.OfRows.Chain.{come_as, come_by}
 use Rattle.papaya_running.proofs.OfRows.Lone.{alone_follows}
 use Rattle.papaya_running.proofs.OfRows.May.{all_by}
 use Rattle.papaya_running.proofs.OfRows.Quiet.{refused_still, still_keeps}
+use Rattle.papaya_running.proofs.Reached.{reached_after}
 use Rattle.papaya_running.proofs.Remaining.{counted_in, nobody_makes}
 
 -- one that is put behind those of which none is it is the one that is found
@@ -291,7 +294,8 @@ module _ {K V S : Type 0} (same : K → K → Bool) (hash : K → ℕ) (terms : 
       midst = next_midst;
       made = made_stays None (Some b.map) step_did y.now ∙ y.made;
       made_for = made_still y.now w b.map b.given (effects_keep_capacities K V None (Some b.map) step_did y.now b.map) y.made_for;
-      counted = counted_making_steps same hash mid.logged to.logged.executor to.logged.notes step.is_noted.given y.now y.scene y.is_at y.counted i step.said leads d it.1 (Some b.map) step.is_noted.noted;
+      counted = counted_making_steps same hash mid.logged to.logged.executor to.logged.notes step.is_noted.given y.now y.scene y.is_at y.counted i step.said leads d it.1 (Some b.map) step.is_noted.noted
+          (makings_note_left same hash name y.now (known mid.logged.notes) y.scene mid.logged.executor to.logged.executor y.is_at y.midst.0.calls.whole i step.said leads d it.1 (Some b.map) was_new next.world);
       firsts = ap (list_all is_first_making) step.is_noted.did ∙ list_all-append is_first_making mid.effects step_did ∙ ap (λ (q : Bool). q && list_all is_first_making step_did) y.firsts ∙ step_firsts;
       found = all_found;
       openings = makings_go_on K V S same hash y.scene mid.logged.executor to.logged.executor y.openings i step.said leads d it.1;
@@ -344,7 +348,7 @@ module _ {K V S : Type 0} (same : K → K → Bool) (hash : K → ℕ) (terms : 
   may = record { due = record { played = run.stands; in_turn = turn }; lawful = holds.lawful; counts = holds.counts }
 
   abbrev KeepsAs : Entry K V → Type 0
-  KeepsAs x = IsPlayed same hash terms (x ∷ log) new → IsLeftOfRows terms log x → RunsOn same hash terms log x new
+  KeepsAs x = IsPlayed same hash terms (x ∷ log) new → ComesRight terms log x → RunsOn same hash terms log x new
 
   -- the map was made
   module _ (calls : new.calls ≡ old.calls) (d : HasMadeMap played old new own mode capacity) where
@@ -508,14 +512,14 @@ module _ {K V S : Type 0} (same : K → K → Bool) (hash : K → ℕ) (terms : 
         (subst (λ (o : Option ℕ). tables_named o bw ≡ (if capacity == 0 then 0 else 1)) (sym number_still)
         (has_table ∙ ap (λ (n : ℕ). if n == 0 then 0 else 1) d.places_are ∙ some_places capacity))
 
-    it : IsLeftOfRows terms log e → IsLegalBut same terms log e × ShowsRun same name terms (e ∷ log) (known mid.notes) y.scene
-    it left =
+    it : ComesRight terms log e → IsLegalBut same terms log e × ShowsRun same name terms (e ∷ log) (known mid.notes) y.scene
+    it right =
         makings_run_to_their_ends K V S same hash name terms log (known old.logged.notes) s old.logged.executor d.began.executor run.stands.shown.is_at run.shows own mode capacity there refl i b idle map_is
         (λ made. absurd made) lone at1 (suc d.gone.1.0) (come_by (far effects mid) y.now y.scene) chain played.steps effects refl refl named_so
-        (all_by is_first_making (may_do event m) (λ f is. is) effects y.firsts) y.found whole left.right
+        (all_by is_first_making (may_do event m) (λ f is. is) effects y.firsts) y.found whole right
 
-    shows : IsLeftOfRows terms log e → ShowsRun same name terms (e ∷ log) (known new.logged.notes) y.scene
-    shows left = subst (λ (n : Notes). ShowsRun same name terms (e ∷ log) (known n) y.scene) (sym d.gone.5) (it left).1
+    shows : ComesRight terms log e → ShowsRun same name terms (e ∷ log) (known new.logged.notes) y.scene
+    shows right = subst (λ (n : Notes). ShowsRun same name terms (e ∷ log) (known n) y.scene) (sym d.gone.5) (it right).1
 
     named : AreNamed name new.calls.items.items
     named = subst (λ (c : Callers V). AreNamed name c.items.items) (sym calls) (its_named same hash terms m old run.stands)
@@ -543,44 +547,52 @@ module _ {K V S : Type 0} (same : K → K → Bool) (hash : K → ℕ) (terms : 
     left_behind =
         subst (λ (r : ℕ). LeftAmong r y.scene.world y.scene.maps y.scene.makers y.scene.enders y.counted.remains.lists) (sym (ap (λ (x : Executor K V S). x.roots) d.gone.6)) y.counted.remains.left
 
+    -- no bucket of slots is forgotten
+    grows : (known old.logged.notes).buckets ≤ (known new.logged.notes).buckets
+    grows =
+        subst (λ (n : Notes). (known old.logged.notes).buckets ≤ (known n).buckets) (sym d.gone.5)
+        (makings_note_more same hash terms (known old.logged.notes) i b.map (suc d.gone.1.0) (record { executor = d.began.executor; did = []; now = bm; notes = known old.logged.notes; scene = s1 })
+        (come_by (far effects mid) y.now y.scene) chain (omega arith))
+
     keeps_made : KeepsAs e
-    keeps_made so left = record {
-      legal = (it left).0;
+    keeps_made so right = record {
+      legal = (it right).0;
       runs = record {
         stands = stands_in same hash terms (moment (e ∷ log)) new so name y.scene (record {
           is_at = at_end;
-          shows = (shows left).calls.whole;
-          kept = (shows left).calls.kept;
+          shows = (shows right).calls.whole;
+          kept = (shows right).calls.kept;
           counted = counted_in same hash terms (moment (e ∷ log)) new so y.scene at_end y.counted.remains.lists left_behind;
         }) named;
-        shows = shows left;
-        come = events_bring_things K V terms log e run.come (it left).0.life.finds;
+        shows = shows right;
+        come = events_bring_things K V terms log e run.come (it right).0.life.finds;
         taken = slots_stay s1.world.memory y.scene.world.memory m.slots
             (makings_taken same hash terms i b.map (suc d.gone.1.0) (record { executor = d.began.executor; did = []; now = bm; notes = known old.logged.notes; scene = s1 })
             (come_by (far effects mid) y.now y.scene) chain) run.taken;
         size = ap (λ (x : Executor K V S). x.batch_size) d.gone.6 ∙ y.size;
         shards = shards;
+        reached = reached_after same hash terms log e old new right so grows run.reached;
       };
     }
 
   refused_keeps : (fault : Fault) → played.outcome ≡ Refused fault → played.effects.items ≡ [] → new.logged ≡ old.logged → new.calls ≡ old.calls → KeepsAs (entry_of event played)
   refused_keeps fault is none still calls =
       subst KeepsAs (sym (entry_is event played (Refused fault) played.steps [] is refl none))
-      (λ so rest. still_keeps same hash terms log old run (entry event (Refused fault) played.steps []) new refl (refused_still log s.world event refl fault played.steps) still calls so rest.right refl)
+      (λ so rest. still_keeps same hash terms log old run (entry event (Refused fault) played.steps []) new refl (refused_still log s.world event refl fault played.steps) still calls so rest refl)
 
   -- it was refused, and nothing was done; or it was made; nothing is said of one that was refused once it had begun
-  map_made_keeps : WorksOnMap played old new own mode capacity → IsPlayed same hash terms (entry_of event played ∷ log) new → IsLeftOfRows terms log (entry_of event played)
+  map_made_keeps : WorksOnMap played old new own mode capacity → IsPlayed same hash terms (entry_of event played ∷ log) new → ComesRight terms log (entry_of event played)
       → HasNotBegun event played.outcome played.effects.items old new → RunsOn same hash terms log (entry_of event played) new
-  map_made_keeps (calls, inl (fault, is, (none, still))) after left begun = refused_keeps fault is none still calls after left
-  map_made_keeps (calls, inr (inl (fault, is))) after left begun =
+  map_made_keeps (calls, inl (fault, is, (none, still))) after right begun = refused_keeps fault is none still calls after right
+  map_made_keeps (calls, inr (inl (fault, is))) after right begun =
       let so : (played.effects.items ≡ []) × (new.logged ≡ old.logged) = subst (λ (o : Outcome V). HasNotBegun event o played.effects.items old new) is begun in
-      refused_keeps fault is so.0 so.1 calls after left
-  map_made_keeps (calls, inr (inr (done, d))) after left begun = subst KeepsAs (sym (entry_is event played Done played.steps played.effects.items done refl refl)) (keeps_made calls d) after left
+      refused_keeps fault is so.0 so.1 calls after right
+  map_made_keeps (calls, inr (inr (done, d))) after right begun = subst KeepsAs (sym (entry_is event played Done played.steps played.effects.items done refl refl)) (keeps_made calls d) after right
 
 -- So it is by what its function says.
 module _ {K V S : Type 0} (same : K → K → Bool) (hash : K → ℕ) (event : Event K V) (own : List ℕ) (mode : ResizeMode) (capacity : ℕ) (is : event ≡ MakeMap own mode capacity) (old new : Scheduler K V S) where
   pub makings_keep : {X : Type 0} → (result : Result (Played V) X) → IfOk result (λ played. WorksOnMap played old new own mode capacity) → IfOk result (λ played. KeepsRun same hash event played old new)
   makings_keep (Ok played) works =
       subst (λ (x : Event K V). KeepsRun same hash x played old new) (sym is)
-      (λ of terms log holds run turn after left begun. map_made_keeps same hash terms log own mode capacity played old new holds run turn works after left begun)
+      (λ of terms log holds run turn after right begun. map_made_keeps same hash terms log own mode capacity played old new holds run turn works after right begun)
   makings_keep (Err x) works = tt

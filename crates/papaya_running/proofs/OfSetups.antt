@@ -36,6 +36,7 @@ use Rattle.papaya_running.specs.OfSetups.{KeepsSetup, is_of_setups}
 use Rattle.papaya_running.proofs.OfCalls.Scenes.{its_named, stands_in}
 use Rattle.papaya_running.proofs.OfRows.Lone.{alone_follows}
 use Rattle.papaya_running.proofs.OfRows.Quiet.{IsStill, still_keeps}
+use Rattle.papaya_running.proofs.Reached.{reached_by}
 use Rattle.papaya_running.proofs.Remaining.{counted_in}
 
 -- One that did nothing is whole, whatever it came to,
@@ -134,6 +135,7 @@ module _ {K V S : Type 0} (same : K → K → Bool) (hash : K → ℕ) (terms : 
         taken = run.taken;
         size = run.size;
         shards = run.shards;
+        reached = reached_by same hash terms log e old chosen right after refl run.reached;
       };
     }
 

@@ -44,6 +44,7 @@ use Rattle.papaya_named.specs.Seen.{kind_of}
 use Rattle.papaya_scheduler.specs.declared.played.Played.{Played}
 use Rattle.papaya_scheduler.specs.declared.scheduler.Scheduler.{Scheduler}
 use Rattle.papaya_stepping.specs.Stepping.{ComesAs, outcome_of}
+use Rattle.papaya_works.specs.Needs.{AreReached}
 use Rattle.papaya_running.specs.Asked.{is_of_calls}
 
 -- each map has as many shards as the terms say
@@ -52,7 +53,8 @@ HaveShards terms e = (n : ℕ) (setting : Setting) → slice_index_or e.maps.ite
 
 module _ {K V S : Type 0} (same : K → K → Bool) (hash : K → ℕ) where
   -- The scheduler has played the log, and in the scene for which it stands all is so by which the next event keeps its promises; all that was stored and linked came into a map by the log; as
-  -- many slots were taken as the moment says; its executor has the size of batches that the terms say, and maps with as many shards as they say.
+  -- many slots were taken as the moment says; its executor has the size of batches that the terms say, and maps with as many shards as they say; and slots that were ever taken have their words, as
+  -- is noted.
   pub record Runs (terms : Terms) (log : List (Entry K V)) (p : Scheduler K V S) : Type 0 where
     pub stands : IsPlayed same hash terms log p
     pub shows : ShowsRun same stands.name terms log (known p.logged.notes) stands.scene
@@ -60,6 +62,7 @@ module _ {K V S : Type 0} (same : K → K → Bool) (hash : K → ℕ) where
     pub taken : SlotsTaken stands.scene.world.memory (moment log).slots
     pub size : p.logged.executor.batch_size ≡ terms.batch_size
     pub shards : HaveShards terms p.logged.executor
+    pub reached : AreReached (moment log).slots (known p.logged.notes)
 
   -- What is promised of an event: it is legal but for what it comes to, and a run goes on with it.
   pub record RunsOn (terms : Terms) (log : List (Entry K V)) (e : Entry K V) (p : Scheduler K V S) : Type 0 where

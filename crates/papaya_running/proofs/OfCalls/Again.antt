@@ -130,4 +130,4 @@ module _ {K V S : Type 0} (same : K → K → Bool) (hash : K → ℕ) (terms : 
     again_on =
         subst (λ (x : Entry K V). RunsOn same hash terms log x new) (sym entry_as)
         (as_before same hash terms log old new runs (ap (λ (x : Scheduler K V S). x.logged) again.3) (ap (λ (x : Scheduler K V S). x.calls) again.3) e legal.0 legal.1
-        (subst (λ (x : Entry K V). IsPlayed same hash terms (x ∷ log) new) entry_as plays) (no_slot said is))
+        (subst (λ (x : Entry K V). IsPlayed same hash terms (x ∷ log) new) entry_as plays) (subst (ComesRight terms log) entry_as right) (no_slot said is))

@@ -3,6 +3,7 @@ use Rattle.std.specs.Prelude.{◌≡◌, ℕ, Bool, List, ◌∷◌}
 use Rattle.std.proofs.Common.{ap, sym, subst, ◌∙◌}
 use Rattle.papaya_histories.specs.Given.Schedules.After.{moment, slots_on}
 use Rattle.papaya_histories.specs.Given.Schedules.Entry.{Entry}
+use Rattle.papaya_histories.specs.Given.Schedules.InTurn.{ComesRight}
 use Rattle.papaya_histories.specs.Given.Schedules.Terms.{Terms}
 use Rattle.papaya_histories.specs.Given.Effects.Known.{known}
 use Rattle.papaya_histories.specs.Given.Executor.IsAt.{IsAt}
@@ -21,10 +22,11 @@ use Rattle.papaya_scheduler.specs.declared.scheduler.Scheduler.{Scheduler}
 use Rattle.papaya_running.specs.OfCalls.{HaveShards, Runs, RunsOn}
 use Rattle.papaya_running.proofs.OfCalls.Scenes.{AreNamed, its_named, stands_in}
 use Rattle.papaya_running.proofs.Remaining.{counted_in}
+use Rattle.papaya_running.proofs.Reached.{reached_by}
 
 module _ {K V S : Type 0} (same : K → K → Bool) (hash : K → ℕ) (terms : Terms) (log : List (Entry K V)) (old new : Scheduler K V S) (runs : Runs same hash terms log old) (logged_is : new.logged ≡ old.logged)
     (calls_are : new.calls ≡ old.calls) (e : Entry K V) (legal : IsLegalBut same terms log e) (run : ShowsRun same runs.stands.name terms (e ∷ log) (known old.logged.notes) runs.stands.scene)
-    (plays : IsPlayed same hash terms (e ∷ log) new) (no_slot : slots_on e.outcome (moment log).slots ≡ (moment log).slots) where
+    (plays : IsPlayed same hash terms (e ∷ log) new) (right : ComesRight terms log e) (no_slot : slots_on e.outcome (moment log).slots ≡ (moment log).slots) where
   is_at : IsAt same hash new.logged.executor runs.stands.scene
   is_at = subst (λ (l : Logged K V S). IsAt same hash l.executor runs.stands.scene) (sym logged_is) runs.stands.shown.is_at
 
@@ -52,5 +54,6 @@ module _ {K V S : Type 0} (same : K → K → Bool) (hash : K → ℕ) (terms : 
       taken = subst (SlotsTaken runs.stands.scene.world.memory) (sym no_slot) runs.taken;
       size = ap (λ (l : Logged K V S). l.executor.batch_size) logged_is ∙ runs.size;
       shards = subst (λ (l : Logged K V S). HaveShards terms l.executor) (sym logged_is) runs.shards;
+      reached = reached_by same hash terms log e old new right plays (ap (λ (l : Logged K V S). known l.notes) logged_is) runs.reached;
     };
   }

@@ -45,6 +45,7 @@ use Rattle.papaya_scheduler.proofs.Rights.{quiet}
 use Rattle.papaya_running.specs.OfCalls.{HaveShards, Runs, RunsOn}
 use Rattle.papaya_running.proofs.OfCalls.Scenes.{AreNamed, stands_in}
 use Rattle.papaya_running.proofs.Remaining.{counted_in}
+use Rattle.papaya_running.proofs.Reached.{reached_by}
 
 -- what is under way then is a call as it was called
 module _ {K V : Type 0} (same : K → K → Bool) (st : Standing K) (i : ℕ) where
@@ -199,5 +200,6 @@ module _ {K V S : Type 0} (same : K → K → Bool) (hash : K → ℕ) (terms : 
           taken = runs.taken;
           size = on_size ∙ runs.size;
           shards = shards_here;
+          reached = reached_by same hash terms log (e own) old new right plays notes_here runs.reached;
         };
       }

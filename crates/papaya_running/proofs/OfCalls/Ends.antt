@@ -23,6 +23,7 @@ use Rattle.papaya_histories.specs.Given.Schedules.Sweeps.{IsSwept}
 use Rattle.papaya_histories.specs.Given.Schedules.Terms.{Terms, shards_of}
 use Rattle.papaya_histories.specs.Given.Schedules.Views.{call_of}
 use Rattle.papaya_histories.specs.Given.Effects.Known.{Known, known}
+use Rattle.papaya_histories.specs.Given.Effects.declared.acting.Acting.TheVariants as acts
 use Rattle.papaya_histories.specs.Given.Executor.IsAt.{Scene, slot_of}
 use Rattle.papaya_histories.specs.Given.Finishes.Maps.{Standing}
 use Rattle.papaya_histories.specs.InEvent.{ComesSo}
@@ -38,6 +39,7 @@ use Rattle.papaya_legal.specs.Carried.{ComesAlone, ShowsRun}
 use Rattle.papaya_legal.proofs.CallRuns.{call_events_run}
 use Rattle.papaya_legal.proofs.CallSwept.{calls_are_swept}
 use Rattle.papaya_remains.specs.Remains.{ShowsRemains}
+use Rattle.papaya_remains.proofs.Slots.{buckets_grow}
 use Rattle.papaya_logged.specs.Shown.{IsShown}
 use Rattle.papaya_scheduler.specs.Played.{IsPlayed, entry_of}
 use Rattle.papaya_named.specs.Seen.{kind_of}
@@ -53,6 +55,7 @@ use Rattle.papaya_running.proofs.OfCalls.Scenes.{stands_in}
 use Rattle.papaya_running.proofs.OfCalls.Steps.{HasCome, IsStep, as_told, caller_is, follows, leads, named_then, noted_so, noted_then, shards_then, shown_then, size_then, taken_then, then_known, then_now, then_scene}
 use Rattle.papaya_running.proofs.OfCalls.Words.{not_busy, shows_as_told, tells_end}
 use Rattle.papaya_running.proofs.Remaining.{counted_in}
+use Rattle.papaya_running.proofs.Reached.{reached_after}
 
 module _ {K V S : Type 0} (same : K → K → Bool) (hash : K → ℕ) (name : ℕ → List ℕ) (terms : Terms) (log : List (Entry K V)) (event : Event K V) (beginning : Moment K V)
     (map i : ℕ) (c : CallThere K V) (place : ℕ) (c_is : call_of (name i) beginning ≡ Some c) (first : Known) (before : Scene K V) (run : ShowsRun same name terms log first before) (had : HaveCome (things_in log) (moment log))
@@ -131,7 +134,7 @@ module _ {K V S : Type 0} (same : K → K → Bool) (hash : K → ℕ) (name : �
     after_run : ShowsRun same name terms (e ∷ log) (known new.logged.notes) at_end
     after_run = subst (λ (k : Known). ShowsRun same name terms (e ∷ log) k at_end) (sym noted) goes_on.1
 
-    abbrev its_left : ShowsRemains new.logged.executor.roots (then_now same hash name terms log event beginning map i c place n mid played.effects.items p new come its) at_end
+    abbrev its_left : ShowsRemains new.logged.executor.roots (then_now same hash name terms log event beginning map i c place n mid played.effects.items p new come its) (known new.logged.notes) at_end
     its_left = (shown_then same hash name terms log event beginning map i c place n mid played.effects.items p new come its).counted.remains
 
     -- no call takes a slot
@@ -158,6 +161,9 @@ module _ {K V S : Type 0} (same : K → K → Bool) (hash : K → ℕ) (name : �
           (shown_then same hash name terms log event beginning map i c place n mid played.effects.items p new come its).is_at its_left.lists its_left.left;
     }
 
+    grows : (known p.logged.notes).buckets ≤ by.buckets
+    grows = buckets_grow (acts.Call i map) new.logged.executor.memory.changed (known p.logged.notes)
+
     pub runs_on : RunsOn same hash terms log e new
     runs_on = record {
       legal = goes_on.0;
@@ -169,5 +175,6 @@ module _ {K V S : Type 0} (same : K → K → Bool) (hash : K → ℕ) (name : �
         taken = subst (SlotsTaken at_end.world.memory) (sym no_slot) (taken_then same hash name terms log event beginning map i c place n mid played.effects.items p new come its);
         size = size_then same hash name terms log event beginning map i c place n mid played.effects.items p new come its;
         shards = shards_then same hash name terms log event beginning map i c place n mid played.effects.items p new come its;
+        reached = reached_after same hash terms log e p new right plays (subst (λ (k : Known). (known p.logged.notes).buckets ≤ k.buckets) (sym noted) grows) come.reached;
       };
     }

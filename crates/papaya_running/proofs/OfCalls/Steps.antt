@@ -11,6 +11,7 @@ use Rattle.papaya_histories.specs.Given.Raw.declared.machines.progress.Progress.
 use Rattle.papaya_histories.specs.Given.Raw.declared.machines.progress.Progress.TheVariants as progress
 use Rattle.papaya_histories.specs.Given.Runs.Present.{slot_of_guard}
 use Rattle.papaya_histories.specs.Given.Runs.Same.{is_same}
+use Rattle.papaya_histories.specs.Given.Schedules.After.{moment}
 use Rattle.papaya_histories.specs.Given.Schedules.declared.effect.Effect.{Effect}
 use Rattle.papaya_histories.specs.Given.Schedules.declared.event.Event.{Event}
 use Rattle.papaya_histories.specs.Given.Schedules.declared.outcome.Outcome.{Outcome}
@@ -51,6 +52,9 @@ use Rattle.papaya_scheduler.proofs.RanOn.{there_stays}
 use Rattle.papaya_stepping.specs.Stepping.{GoneFor, IsStepOf, IsStepped, WalkedFor, caller_then, far_then, outcome_of}
 use Rattle.papaya_stepping.proofs.AfterEffects.{calls_seen}
 use Rattle.papaya_stepping.proofs.OneStep.{caller_as, going_not_ended, goes_next, value_then}
+use Rattle.papaya_remains.proofs.Slots.{buckets_grow}
+use Rattle.papaya_works.specs.Needs.{AreReached}
+use Rattle.papaya_works.proofs.Reached.{reached_still}
 use Rattle.papaya_running.specs.OfCalls.{HaveShards}
 use Rattle.papaya_running.proofs.OfCalls.Scenes.{AreNamed, named_left, named_set}
 use Rattle.papaya_running.proofs.OfCalls.Words.{shows_none}
@@ -91,6 +95,7 @@ module _ {K V S : Type 0} (same : K → K → Bool) (hash : K → ℕ) (name : �
     pub named : AreNamed name p.calls.items.items
     pub size : p.logged.executor.batch_size ≡ terms.batch_size
     pub shards : HaveShards terms p.logged.executor
+    pub reached : AreReached (moment log).slots (known p.logged.notes)
     pub now : Moment K V
     pub things : HaveCome (things_then (things_in log) did) now
     pub scene : Scene K V
@@ -214,6 +219,8 @@ module _ {K V S : Type 0} (same : K → K → Bool) (hash : K → ℕ) (name : �
         named = named;
         size = size_then;
         shards = shards_then;
+        reached = subst (AreReached (moment log).slots) (sym noted_then)
+            (reached_still (moment log).slots (known p.logged.notes) then_known (buckets_grow (acts.Call i map) new.logged.executor.memory.changed (known p.logged.notes)) come.reached);
         now = then_now;
         things = things_after;
         scene = then_scene;

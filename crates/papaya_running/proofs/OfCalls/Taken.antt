@@ -94,6 +94,7 @@ module _ {K V S : Type 0} (same : K → K → Bool) (hash : K → ℕ) (terms : 
     named = its_named same hash terms m old runs.stands;
     size = runs.size;
     shards = runs.shards;
+    reached = runs.reached;
     now = m;
     things = subst (λ (xs : List Thing). HaveCome xs m) (sym (append-nil (things_in log))) runs.come;
     scene = runs.stands.scene;

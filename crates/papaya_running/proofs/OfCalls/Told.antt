@@ -53,6 +53,7 @@ use Rattle.papaya_scheduler.proofs.Stopped.{asked_ready, ready_parts, shows_is}
 use Rattle.papaya_running.specs.OfCalls.{Runs, RunsOn}
 use Rattle.papaya_running.proofs.OfCalls.Scenes.{AreNamed, its_named, named_left, named_set, stands_in}
 use Rattle.papaya_running.proofs.Remaining.{counted_in}
+use Rattle.papaya_running.proofs.Reached.{reached_by}
 
 -- a call takes a reply of its kind
 taken_by : {K V : Type 0} (one : OneKey K V) (reply : Reply V) → fits (kind_on one) reply ≡ true → IsTaken one reply
@@ -87,7 +88,7 @@ module _ {K V S : Type 0} (same : K → K → Bool) (hash : K → ℕ) (terms : 
   -- the run goes on in a scene with the same maps
   module _ (e : Entry K V) (t : Scene K V) (run : ShowsRun same name terms (e ∷ log) (known old.logged.notes) t) (legal : IsLegalBut same terms log e) (is_at : IsAt same hash new.logged.executor t) (maps : t.maps ≡ s.maps)
       (left : LeftAmong new.logged.executor.roots t.world t.maps t.makers t.enders runs.stands.shown.counted.remains.lists) (notes : new.logged.notes ≡ old.logged.notes) (on_size : new.logged.executor.batch_size ≡ old.logged.executor.batch_size) (named : AreNamed name new.calls.items.items)
-      (plays : IsPlayed same hash terms (e ∷ log) new) (memory : t.world.memory ≡ s.world.memory) (no_slot : slots_on e.outcome m.slots ≡ m.slots) where
+      (plays : IsPlayed same hash terms (e ∷ log) new) (right : ComesRight terms log e) (memory : t.world.memory ≡ s.world.memory) (no_slot : slots_on e.outcome m.slots ≡ m.slots) where
     run_then : ShowsRun same name terms (e ∷ log) (known new.logged.notes) t
     run_then = subst (λ (k : Known). ShowsRun same name terms (e ∷ log) k t) (sym (ap known notes)) run
 
@@ -104,6 +105,7 @@ module _ {K V S : Type 0} (same : K → K → Bool) (hash : K → ℕ) (terms : 
         taken = subst (λ (x : Mem (Node K V)). SlotsTaken x (moment (e ∷ log)).slots) (sym memory) (subst (SlotsTaken s.world.memory) (sym no_slot) runs.taken);
         size = on_size ∙ runs.size;
         shards = λ n setting is. runs.shards n setting (sym (runs.stands.shown.is_at.maps n) ∙ ap (λ (f : ℕ → Option (Standing K)). option_map (λ (x : Standing K). x.setting) (f n)) (sym maps) ∙ is_at.maps n ∙ is);
+        reached = reached_by same hash terms log e old new right plays (ap known notes) runs.reached;
       };
     }
 
@@ -165,7 +167,7 @@ module _ {K V S : Type 0} (same : K → K → Bool) (hash : K → ℕ) (terms : 
         (ap (λ (x : List ℕ). call_of x m) name_is ∙ here.call_is) question.0 asking led.0 led.2 reply led.1 led.3 takes_ok led.5 taken led.7 0
         (subst (λ (x : List ℕ). ComesRight terms log (e x)) (sym name_is) right)) in
         then_on (e own) t on.1 on.0 led.7 refl (behind given) has.notes given.1
-        (subst (AreNamed name) (sym (has.calls d here.at)) (named_set name old.calls.items.items has.place (record d { stands = far.Goes; value = has.value }) here.way.2 (its_named same hash terms m old runs.stands))) plays refl refl
+        (subst (AreNamed name) (sym (has.calls d here.at)) (named_set name old.calls.items.items has.place (record d { stands = far.Goes; value = has.value }) here.way.2 (its_named same hash terms m old runs.stands))) plays right refl refl
 
   -- a walk was given up
   module _ (has : HasStopped same hash own old new) (given : KeepsGiven old.logged.executor new.logged.executor) where
@@ -218,4 +220,4 @@ module _ {K V S : Type 0} (same : K → K → Bool) (hash : K → ℕ) (terms : 
         (stopped_events_end K V S same hash name terms log (known old.logged.notes) s old.logged.executor new.logged.executor runs.stands.shown.is_at runs.shows its.number led_so its.map there.way.0
         there.way.1 0 none_named (subst (λ (x : List ℕ). ComesRight terms log (f x)) (sym named_so) right)) in
         then_on (f own) after on.1 on.0 (led_so its.map there.way.0 there.way.1).2 refl (behind given) has.notes given.1
-        (subst (AreNamed name) (sym has.calls) (named_left name old.calls.items.items has.place (its_named same hash terms m old runs.stands))) plays refl refl
+        (subst (AreNamed name) (sym has.calls) (named_left name old.calls.items.items has.place (its_named same hash terms m old runs.stands))) plays right refl refl

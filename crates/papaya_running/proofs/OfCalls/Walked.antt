@@ -63,6 +63,7 @@ use Rattle.papaya_scheduler.proofs.Here.{Here, here_at}
 use Rattle.papaya_scheduler.proofs.Stopped.{asked_ready, ready_parts, shows_by, shows_is}
 use Rattle.papaya_stepping.specs.Stepping.{HasWalked, outcome_of}
 use Rattle.papaya_stepping.proofs.SweepSteps.{walks_at}
+use Rattle.papaya_works.specs.Needs.{AreReached}
 use Rattle.papaya_running.specs.OfCalls.{Runs, RunsOn}
 use Rattle.papaya_running.proofs.OfCalls.Alone.{only_its_row}
 use Rattle.papaya_running.proofs.OfCalls.Answers.{number_is}
@@ -244,6 +245,7 @@ module _ {K V S : Type 0} (same : K → K → Bool) (hash : K → ℕ) (terms : 
     named = its_named same hash terms m old runs.stands;
     size = walked.given.1 ∙ runs.size;
     shards = λ n setting is. runs.shards n setting (sym (runs.stands.shown.is_at.maps n) ∙ shown.is_at.maps n ∙ is);
+    reached = subst (AreReached m.slots) notes_are runs.reached;
     now = m;
     things = subst (λ (xs : List Thing). HaveCome xs m) (sym (append-nil (things_in log))) runs.come;
     scene = then_at;

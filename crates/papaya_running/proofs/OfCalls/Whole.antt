@@ -36,6 +36,7 @@ use Rattle.papaya_scheduler.specs.declared.scheduler.Scheduler.{Scheduler}
 use Rattle.papaya_scheduler.proofs.HeldTold.{its_guard}
 use Rattle.papaya_stepping.specs.Stepping.{ComesAs, ComesBy, GoesAt, StepsCome}
 use Rattle.papaya_stepping.proofs.RightSteps.{not_busy as never_busy}
+use Rattle.papaya_works.specs.Needs.{AreReached}
 use Rattle.papaya_running.specs.OfCalls.{IsLeft, Runs, RunsOn, TellsValue}
 use Rattle.papaya_running.proofs.OfCalls.Alone.{active_of, inside_of, no_row}
 use Rattle.papaya_running.proofs.OfCalls.Begun as begun
@@ -124,6 +125,7 @@ module _ {K V S : Type 0} (same : K → K → Bool) (hash : K → ℕ) (terms : 
     named = begun.named_here same hash terms log old runs nameless guard on call mid led;
     size = on_size ∙ runs.size;
     shards = begun.shards_here same hash terms log old runs nameless guard on call mid led on_size;
+    reached = subst (AreReached m.slots) (sym (begun.notes_here same hash terms log old runs nameless guard on call mid led)) runs.reached;
     now = m1;
     things = subst (λ (xs : List Thing). HaveCome xs m1) (sym (append-nil (things_in log)))
         (subst (HaveCome (things_in log)) (sym m1_is) (called nameless guard call (Some map) (things_in log) m runs.come));

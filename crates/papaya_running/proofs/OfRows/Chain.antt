@@ -15,6 +15,7 @@ use Rattle.papaya_histories.specs.Given.Others.Rows.{scene_then}
 use Rattle.papaya_logged.specs.Goes.{Far, GoesFor, RowGoes}
 use Rattle.papaya_logged.specs.Shown.{IsCounted}
 use Rattle.papaya_logged.proofs.Counted.{counted_row_steps}
+use Rattle.papaya_logged.proofs.LeftNoted.{rows_note_left}
 use Rattle.papaya_legal.specs.Chains.{Chain, Come, RowSteps}
 
 module _ {K V S : Type 0} where
@@ -68,5 +69,6 @@ module _ {K V S : Type 0} (same : K → K → Bool) (hash : K → ℕ) (terms : 
         );
         is_at = (leads row here).4.4;
         size = step.is_noted.given.1 ∙ y.size;
-        counted = counted_row_steps same hash mid.logged to.logged.executor to.logged.notes step.is_noted.given y.now y.scene y.is_at y.counted i step.said leads row here step.is_noted.noted;
+        counted = counted_row_steps same hash mid.logged to.logged.executor to.logged.notes step.is_noted.given y.now y.scene y.is_at y.counted i step.said leads row here step.is_noted.noted
+            (rows_note_left same hash (known mid.logged.notes) y.scene mid.logged.executor to.logged.executor y.is_at i step.said leads row here);
       }
