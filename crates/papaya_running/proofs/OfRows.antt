@@ -4,7 +4,7 @@ use Rattle.std.specs.List.{list_all}
 use Rattle.std.proofs.Common.{refl, ap, sym, subst, inl, inr, ◌∙◌, arith}
 use Rattle.papaya_histories.specs.Given.SeizeWords.Mem.{Mem}
 use Rattle.papaya_histories.specs.Given.Seize.World.{Begin, IsInside, Rests, SlotsTaken}
-use Rattle.papaya_histories.specs.Given.Seize.declared.rows.register.Registering.TheVariants as registers
+use Rattle.papaya_histories.specs.Given.Seize.declared.rows.register.Registering.TheVariants as registering
 use Rattle.papaya_histories.specs.Given.Tables.declared.node.Node.{Node}
 use Rattle.papaya_histories.specs.Given.Executor.declared.worker.Work.TheVariants.{OnSlot}
 use Rattle.papaya_runs.specs.Present.{has_registration}
@@ -284,7 +284,7 @@ module _ {K V S : Type 0} (same : K → K → Bool) (hash : K → ℕ) (terms : 
         (registers_taken same hash ran.caller m.slots said ran.began.executor new.logged.executor ran.last (record {
           scene = s1;
           is_at = (leads may).3.4;
-          register = record { slot = 0; enters = enters; stands = registers.Begin };
+          register = record { slot = 0; enters = enters; stands = registering.Begin };
           here = (leads may).1 ∙ ap (λ (c : SlotCall). Some (OnSlot (begun_row (slot_of ran.caller) old.logged.executor.batch_size c))) is;
           taken = taken_begun;
         }))
