@@ -82,7 +82,7 @@ pub mod Facts
 pub mod Quiet
 pub mod Kept
 pub mod Lone
-mod May
+pub mod May
 
 module _ {K V : Type 0} where
   -- such an event works on slots, speaks of no call, and does not reclaim everything

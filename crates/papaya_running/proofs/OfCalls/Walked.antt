@@ -218,6 +218,8 @@ module _ {K V S : Type 0} (same : K → K → Bool) (hash : K → ℕ) (terms : 
           lists = it.remains.lists;
           left = it.remains.left;
           told = it.remains.told;
+          pairs = it.remains.pairs;
+          ascending = it.remains.ascending;
           once = it.remains.once;
           below = it.remains.below;
           ending = it.remains.ending;
