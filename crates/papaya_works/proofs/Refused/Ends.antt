@@ -1,7 +1,7 @@
 -- An event whose making was refused once it had begun keeps its promises, and a run goes on with it, without the map.
-use Rattle.std.specs.Prelude.{◌≡◌, ◌&&◌, ℕ, Bool, true, false, List, [], ◌∷◌, ◌++◌, flat_map, Option, Some, None}
+use Rattle.std.specs.Prelude.{◌≡◌, ℕ, Bool, true, false, List, [], ◌∷◌, flat_map, Option, None}
 use Rattle.std.specs.List.{list_all}
-use Rattle.std.proofs.Common.{refl, ap, sym, subst, ◌∙◌, inl, inr}
+use Rattle.std.proofs.Common.{refl, sym, subst, inl}
 use Rattle.seize_words.specs.declared.fault.Fault.{Fault}
 use Rattle.seize_words.specs.declared.fault.Fault.TheVariants.{Busy}
 use Rattle.papaya_histories.specs.Given.Tables.declared.resize_mode.ResizeMode.{ResizeMode}
@@ -9,10 +9,9 @@ use Rattle.papaya_histories.specs.Given.Schedules.declared.effect.Effect.{Effect
 use Rattle.papaya_histories.specs.Given.Schedules.declared.effect.Effect.TheVariants.{Asked}
 use Rattle.papaya_histories.specs.Given.Schedules.declared.effect.Growth.TheVariants.{ABlock, ABucket}
 use Rattle.papaya_histories.specs.Given.Schedules.declared.event.Event.TheVariants.{MakeMap}
-use Rattle.papaya_histories.specs.Given.Schedules.declared.outcome.Outcome.{Outcome}
 use Rattle.papaya_histories.specs.Given.Schedules.declared.outcome.Outcome.TheVariants.{Refused}
 use Rattle.papaya_histories.specs.Given.Schedules.After.{after, moment}
-use Rattle.papaya_histories.specs.Given.Schedules.Effects.{AtEachEffect, with_effect, with_effects, worked}
+use Rattle.papaya_histories.specs.Given.Schedules.Effects.{AtEachEffect, with_effect, worked}
 use Rattle.papaya_histories.specs.Given.Schedules.Entry.{Entry, acted_on, is_busy}
 use Rattle.papaya_histories.specs.Given.Schedules.Handing.{IsWhole, is_first_making}
 use Rattle.papaya_histories.specs.Given.Schedules.InTurn.{ComesRight, is_growth}
