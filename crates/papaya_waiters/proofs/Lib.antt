@@ -1,4 +1,5 @@
 pub mod Askers
+pub mod Stands
 pub mod Awaited
 pub mod Moves
 pub mod Reached

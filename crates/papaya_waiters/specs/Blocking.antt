@@ -27,6 +27,12 @@ module _ {K : Type 0} (c : Chart K) where
   AbortsAt p copies.Aborts t = (p.target.turn ≡ t) × (c.first < t)
   AbortsAt p _ t = ⊥
 
+  -- A copier that asks how the copying stands, having found each place claimed, found so: each is, as long as that copying goes on. At its other points, until it is over, it has not.
+  abbrev pub SpentAt : Copier → Point → Type 0
+  SpentAt p copies.Asks = p.spent ≡ true → c.first < p.target.turn → p.target.turn < c.past → c.len c.first ≤ c.claim p.target.turn
+  SpentAt p copies.Over = Unit {0}
+  SpentAt p _ = p.spent ≡ false
+
   module _ {V Q : Type 0} (calls : ℕ → Option (UnderWay K V Q)) where
     -- the copier within which some call stands is so
     abbrev pub SomeCopier : (Copier → Type 0) → Type 0
@@ -37,8 +43,7 @@ module _ {K : Type 0} (c : Chart K) where
     pub record HaveEndsBlocking : Type 0 where
       pub ends : (t : ℕ) → 0 < t → t < c.past → IsUnfinished c t → IsUncounted t ⊎ SomeCopier (λ p. EndsAt c p p.stands t)
       pub lost : (t j : ℕ) → c.first < t → t < c.past → IsUnfinished c t → j < c.len c.first → c.share t j ≡ Lost → SomeCopier (λ p. AbortsAt p p.stands t)
-      pub spent : (i : ℕ) (x : UnderWay K V Q) → calls i ≡ Some x → (p : Copier) → copier_of x ≡ Some p → p.stands ≡ copies.Asks → p.spent ≡ true → c.first < p.target.turn
-          → p.target.turn < c.past → c.len c.first ≤ c.claim p.target.turn
+      pub spent : (i : ℕ) (x : UnderWay K V Q) → calls i ≡ Some x → (p : Copier) → copier_of x ≡ Some p → SpentAt p p.stands
 
 -- The promise: if the copier within which a call stands has found each place claimed, and asks how the copying stands, which is not over, then another caller has a call: it is to
 -- copy a place for that table, or has and has not counted it; or it is to end the copying, or to give it up.
