@@ -7,3 +7,7 @@ pub mod Writes
 pub mod Copiers
 pub mod Promotes
 pub mod Counts
+pub mod Spent
+pub mod Own
+pub mod Late
+pub mod Works

@@ -69,6 +69,31 @@ module _ {K : Type 0} (P A G : ℕ → Type 0) where
   abbrev pub AllKept : Chart K → (End Lose : ℕ → Type 0) → Type 0
   AllKept c End Lose = AllEnd c End × AllGivenUp c Lose
 
+  -- who is to do nothing may be left out; and who else is to do something may be named
+  pub none_either : (c : Chart K) (End Lose : ℕ → Type 0) → ((t : ℕ) → End t → ⊥) → ((t : ℕ) → Lose t → ⊥) → AllKept c End Lose → AllKept c (λ t. ⊥) (λ t. ⊥)
+  none_either c End Lose no_end no_lose (ends, given) = (λ t some made unfinished. by t (ends t some made unfinished), λ t j behind made unfinished l is. given_so t (given t j behind made unfinished l is))
+    where
+      by : (t : ℕ) → IsUncounted c t ⊎ (OthersEnd P A c t ⊎ End t) → IsUncounted c t ⊎ (OthersEnd P A c t ⊎ ⊥)
+      by t (inl uncounted) = inl uncounted
+      by t (inr (inl others)) = inr (inl others)
+      by t (inr (inr own)) = absurd (no_end t own)
+
+      given_so : (t : ℕ) → G t ⊎ Lose t → G t ⊎ ⊥
+      given_so t (inl others) = inl others
+      given_so t (inr own) = absurd (no_lose t own)
+
+  pub or_own : (c : Chart K) (End Lose : ℕ → Type 0) → AllKept c (λ t. ⊥) (λ t. ⊥) → AllKept c End Lose
+  or_own c End Lose (ends, given) = (λ t some made unfinished. by t (ends t some made unfinished), λ t j behind made unfinished l is. given_so t (given t j behind made unfinished l is))
+    where
+      by : (t : ℕ) → IsUncounted c t ⊎ (OthersEnd P A c t ⊎ ⊥) → IsUncounted c t ⊎ (OthersEnd P A c t ⊎ End t)
+      by t (inl uncounted) = inl uncounted
+      by t (inr (inl others)) = inr (inl others)
+      by t (inr (inr none)) = absurd none
+
+      given_so : (t : ℕ) → G t ⊎ ⊥ → G t ⊎ Lose t
+      given_so t (inl others) = inl others
+      given_so t (inr none) = absurd none
+
   module _ (same : K → K → Bool) (hash : K → ℕ) (c : Chart K) (rule : Rule same (spot_of hash) false c) where
     abbrev next : Move K → Chart K
     next move = after (spot_of hash) false move c
