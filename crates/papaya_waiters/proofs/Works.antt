@@ -1,5 +1,5 @@
 -- In blocking mode, a copier that has places to copy: after its step each copying that is not over has who ends it on; and if it gives its places up, it is to say so.
-use Rattle.std.specs.Prelude.{ℕ, ◌+◌, ◌-◌, ◌%◌, ◌/◌, ◌^◌, ◌==◌, nat_lt, cond, eqb, Bool, true, false, Ok, Err}
+use Rattle.std.specs.Prelude.{if◌then◌else◌, ℕ, ◌+◌, ◌-◌, ◌%◌, ◌/◌, ◌^◌, ◌==◌, nat_lt, cond, eqb, Bool, true, false, Ok, Err}
 use Rattle.std.proofs.Common.{◌≡◌, ◌≢◌, zero, suc, ◌<◌, ◌≤◌, ◌⊎◌, inl, inr, refl, ap, sym, subst, ◌∙◌, arith, eqb-true}
 use Rattle.std.proofs.lemmas.Bool.{cases_eq, eq-eqb, lt-ltb, ne_eqb}
 use Rattle.papaya_callers.specs.Given.SeizeWords.Op.{Out, Found, Exchanged}
