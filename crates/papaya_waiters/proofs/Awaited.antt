@@ -69,7 +69,7 @@ module _ {K Q : Type 0} (V : Type 0) (same : K → K → Bool) (hash : K → ℕ
         let no = beside_none V same hash asks setting slot w c blocks sights calls s mode k u has (only_within u looks) (only_no_row u looks) t j behind in cc (own, no)
 
     -- What a copier knows that asks: its target, a table behind its source; and it has no part in a copying.
-    abbrev Asked : Copier → Type 0
+    abbrev pub Asked : Copier → Type 0
     Asked p = (source : ℕ) × (t : ℕ) × (source < t) × IsTable c seen p.target t × HasNoShares same hash w k its_setting c seen
 
     fresh_asks : (p : Copier) → p.stands ≡ copies.Asks → CopierFactsBlocking same hash w k its_setting c seen p → Asked p
@@ -84,7 +84,7 @@ module _ {K Q : Type 0} (V : Type 0) (same : K → K → Bool) (hash : K → ℕ
         by : LateCopying same hash w k its_setting c seen began p copies.Asks → Asked p
         by (u, t, late) = (u, t, late.order, late.target, late.idle)
 
-    asks_so : (p : Copier) → p.stands ≡ copies.Asks → (x : UnderWay K V Q) → calls k ≡ Some x → copier_of x ≡ Some p → Asked p
+    pub asks_so : (p : Copier) → p.stands ≡ copies.Asks → (x : UnderWay K V Q) → calls k ≡ Some x → copier_of x ≡ Some p → Asked p
     asks_so p here x has within =
         elim (copier_knows V same hash asks setting slot w c blocks sights calls s mode k p x has within (λ row. subst (λ (q : Point). IsRowOfCopier q) here row)) as (λ _. Asked p) [
           | inl fresh ↦ fresh_asks p here fresh

@@ -12,7 +12,7 @@ use Rattle.papaya_callers.specs.Given.Tables.Chunks.{is_incremental}
 use Rattle.papaya_callers.specs.Given.Tables.declared.node.Node.{Node}
 use Rattle.papaya_callers.specs.Given.Tables.declared.setting.Setting.{Setting}
 use Rattle.papaya_callers.specs.Given.Resize.declared.copier.Copier.{Copier}
-use Rattle.papaya_callers.specs.Given.Raw.declared.machines.call.Calling.TheVariants as at
+use Rattle.papaya_callers.specs.Given.Resize.declared.copier.Copying.TheVariants as at
 use Rattle.papaya_callers.specs.Given.Rule.Chart.{Chart}
 use Rattle.papaya_callers.specs.Given.Rule.Words.{Blocks}
 use Rattle.papaya_callers.specs.Given.Points.FactsCopiesBlocking.{HasNoShares}

@@ -11,3 +11,8 @@ pub mod Spent
 pub mod Own
 pub mod Late
 pub mod Works
+pub mod Begins
+pub mod BeginsRooms
+pub mod BeginsSweeps
+pub mod Steps
+pub mod Calls

@@ -4,7 +4,7 @@ use Rattle.std.proofs.Common.{◌≡◌, ◌≢◌, ℕ, ◌<◌, ◌⊎◌, inl
 use Rattle.std.proofs.lemmas.Bool.{cases_eq}
 use Rattle.papaya_callers.specs.Given.Seize.World.{with_at}
 use Rattle.papaya_callers.specs.Given.Resize.declared.copier.Copier.{Copier}
-use Rattle.papaya_callers.specs.Given.Raw.declared.machines.call.Calling.TheVariants as at
+use Rattle.papaya_callers.specs.Given.Resize.declared.copier.Copying.TheVariants as at
 use Rattle.papaya_callers.specs.Given.Rule.Chart.{Chart}
 use Rattle.papaya_callers.specs.Given.Resize.declared.copier.Copying.{Copying as Point}
 use Rattle.papaya_callers.specs.Given.Resize.CopierStates.{behind}
@@ -43,7 +43,7 @@ module _ {K V Q : Type 0} (calls : ℕ → Option (UnderWay K V Q)) (i : ℕ) wh
   AnotherIs Is = (k : ℕ) × (u : UnderWay K V Q) × (p : Copier) × (calls k ≡ Some u) × (k ≢ i) × (copier_of u ≡ Some p) × Is p
 
   -- some copier is so: another caller's, or its own
-  apart : {K2 : Type 0} (c : Chart K2) (Is : Copier → Type 0) → SomeCopier c calls Is → AnotherIs Is ⊎ OfOne Is (copier_then (calls i))
+  apart : (c : Chart K) (Is : Copier → Type 0) → SomeCopier c calls Is → AnotherIs Is ⊎ OfOne Is (copier_then (calls i))
   apart c Is (k, u, p, is, of, it) = elim (cases_eq k i) as (λ _. AnotherIs Is ⊎ OfOne Is (copier_then (calls i))) [
     | inl e ↦ inr (subst (λ (o : Option (UnderWay K V Q)). OfOne Is (copier_then o)) (sym (subst (λ (n : ℕ). calls n ≡ Some u) e is)) (subst (λ (o : Option Copier). OfOne Is o) (sym of) it))
     | inr other ↦ inl (k, u, p, is, other, of, it)
@@ -54,11 +54,11 @@ module _ {K V Q : Type 0} (calls : ℕ → Option (UnderWay K V Q)) (i : ℕ) wh
     abbrev calls2 : ℕ → Option (UnderWay K V Q)
     calls2 = with_at calls i next
 
-    others_on : {K2 : Type 0} (c : Chart K2) (Is : Copier → Type 0) → AnotherIs Is → SomeCopier c calls2 Is
+    others_on : (c : Chart K) (Is : Copier → Type 0) → AnotherIs Is → SomeCopier c calls2 Is
     others_on c Is (k, u, p, is, other, of, it) = (k, u, p, at_other calls i next k other ∙ is, of, it)
 
-    own_on : {K2 : Type 0} (c : Chart K2) (Is : Copier → Type 0) → OfOne Is (copier_then next) → SomeCopier c calls2 Is
-    own_on {K2} c Is own = of_call next refl own
+    own_on : (c : Chart K) (Is : Copier → Type 0) → OfOne Is (copier_then next) → SomeCopier c calls2 Is
+    own_on c Is own = of_call next refl own
       where
         of_copier : (u : UnderWay K V Q) → next ≡ Some u → (o : Option Copier) → copier_of u ≡ o → OfOne Is o → SomeCopier c calls2 Is
         of_copier u is (Some p) of it = (i, u, p, at_same calls i next i refl ∙ is, of, it)
@@ -68,7 +68,7 @@ module _ {K V Q : Type 0} (calls : ℕ → Option (UnderWay K V Q)) (i : ℕ) wh
         of_call (Some u) is it = of_copier u is (copier_of u) refl it
         of_call None is none = absurd none
 
-  module _ {K2 : Type 0} (c : Chart K2) where
+  module _ (c : Chart K) where
     abbrev pub Ending : Type 0
     Ending = AllKept (AnotherAt calls i at.Promotes) (AnotherAt calls i at.Announces) (AnotherAt calls i at.Aborts) c (OwnEnds c (copier_then (calls i))) (OwnLoses c (copier_then (calls i)))
 

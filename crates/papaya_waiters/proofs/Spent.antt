@@ -27,7 +27,7 @@ use Rattle.papaya_callers.specs.Given.Tables.Chunks.{is_incremental}
 use Rattle.papaya_callers.specs.Given.Tables.declared.node.Node.{Node}
 use Rattle.papaya_callers.specs.Given.Tables.declared.setting.Setting.{Setting}
 use Rattle.papaya_callers.specs.Given.Resize.declared.copier.Copier.{Copier}
-use Rattle.papaya_callers.specs.Given.Raw.declared.machines.call.Calling.TheVariants as at
+use Rattle.papaya_callers.specs.Given.Resize.declared.copier.Copying.TheVariants as at
 use Rattle.papaya_callers.specs.Given.Rule.Chart.{Chart}
 use Rattle.papaya_callers.specs.Given.Rule.Words.{Blocks}
 use Rattle.papaya_callers.specs.Given.Tables.declared.status.TheConstants.Status.{PROMOTED, ABORTED}
@@ -68,7 +68,7 @@ within_unspent c p at.Over its none = absurd its
 within_unspent c p _ its none = none
 
 -- where it is not spent, it is so wherever it stands
-anywhere : (p : Copier) (stands : Point) → p.spent ≡ false → IsUnspentAt p stands
+pub anywhere : (p : Copier) (stands : Point) → p.spent ≡ false → IsUnspentAt p stands
 anywhere p at.Over none = tt
 anywhere p _ none = none
 

@@ -22,7 +22,7 @@ use Rattle.papaya_callers.specs.Given.Tables.Chunks.{is_incremental}
 use Rattle.papaya_callers.specs.Given.Tables.declared.node.Node.{Node}
 use Rattle.papaya_callers.specs.Given.Tables.declared.setting.Setting.{Setting}
 use Rattle.papaya_callers.specs.Given.Resize.declared.copier.Copier.{Copier}
-use Rattle.papaya_callers.specs.Given.Raw.declared.machines.call.Calling.TheVariants as at
+use Rattle.papaya_callers.specs.Given.Resize.declared.copier.Copying.TheVariants as at
 use Rattle.papaya_callers.specs.Given.Rule.Words.{Blocks}
 use Rattle.papaya_callers.specs.Given.Rule.Maps.{spot_of, IsTable}
 use Rattle.papaya_callers.specs.Given.Tables.declared.table.Table.{Table}
@@ -172,7 +172,7 @@ module _ {K V : Type 0} (same : K → K → Bool) (hash : K → ℕ) (caller : �
         nothing one =
             let ahead : c.first < u = subst (λ (n : ℕ). c.first < n) (sym one) into.1 in
             let now : d.copied u ≡ counted_to c u number =
-                ap (λ (x : Chart K). x.copied u) is ∙ ap (λ (b : Bool). cond b (counted_to c u number) (c.copied u)) (eq-eqb u u refl) in
+            ap (λ (x : Chart K). x.copied u) is ∙ ap (λ (b : Bool). cond b (counted_to c u number) (c.copied u)) (eq-eqb u u refl) in
             let more : counted_to c u number ≡ c.copied u + number = ap (λ (b : Bool). cond b (c.copied u + number) number) (lt-ltb c.first u ahead) in
             let same_count : d.copied u ≡ c.copied u = subst (λ (n : ℕ). d.copied n ≡ c.copied n) (sym one) copied in
             omega (arith, now, more, same_count)
@@ -212,8 +212,8 @@ module _ {K V : Type 0} (same : K → K → Bool) (hash : K → ℕ) (caller : �
         before v j behind false e lost = lost
 
   -- what it is after its step
-  module _ (q : Copier) (works : WorksFor p q) (w2 : World (Node K V))
-      (knows : CopierFactsBlocking same hash w2 caller setting d blocks2 q ⊎ ((began : ℕ) × LateCopierFacts same hash w2 caller setting d blocks2 began q)) where
+  module _ (q : Copier) (works : WorksFor p q) (w2 : World (Node K V)) (seen2 : Blocks)
+      (knows : CopierFactsBlocking same hash w2 caller setting d seen2 q ⊎ ((began : ℕ) × LateCopierFacts same hash w2 caller setting d seen2 began q)) where
     abbrev Then : Type 0
     Then = AllKept P A G d (λ u. EndsAt d q q.stands u) (λ u. AbortsAt d q q.stands u)
 
@@ -233,18 +233,18 @@ module _ {K V : Type 0} (same : K → K → Bool) (hash : K → ℕ) (caller : �
           let yes : is_of_caller caller (d.share t place) ≡ true = ap (is_of_caller caller) there ∙ eq-eqb caller caller refl in
           let no = gone place in cc (yes, no)
 
-      no_range : (u : ℕ) → IsTable d blocks2 q.target u → ClaimsRange same hash w2 caller setting d blocks2 u q.place q.end → q.place < q.end → ⊥
+      no_range : (u : ℕ) → IsTable d seen2 q.target u → ClaimsRange same hash w2 caller setting d seen2 u q.place q.end → q.place < q.end → ⊥
       no_range u target range inside = no_claim u q.place (ap (λ (x : Table). x.turn) target.is) (range.0 q.place (omega arith) inside)
 
       none_left : (u : ℕ) → q.target.turn ≡ u → q.done ≡ total (is_done_by caller) (d.share u) (d.len d.first) → 0 < q.done → ⊥
       none_left u its is_done some =
           let done_there : q.done ≡ total (is_done_by caller) (d.share t) (d.len d.first) =
-              subst (λ (n : ℕ). q.done ≡ total (is_done_by caller) (d.share n) (d.len d.first)) (sym its ∙ then_turn) is_done in
+          subst (λ (n : ℕ). q.done ≡ total (is_done_by caller) (d.share n) (d.len d.first)) (sym its ∙ then_turn) is_done in
           let nothing : total (is_done_by caller) (d.share t) (d.len d.first) ≡ 0 =
-              total_none (is_done_by caller) (d.share t) (d.len d.first) (λ j l. none_done caller (d.share t j) (gone j)) in
+          total_none (is_done_by caller) (d.share t) (d.len d.first) (λ j l. none_done caller (d.share t j) (gone j)) in
           omega (arith, done_there, nothing, some)
 
-      too_late : (u : ℕ) → IsTable d blocks2 q.target u → u ≤ d.first → ⊥
+      too_late : (u : ℕ) → IsTable d seen2 q.target u → u ≤ d.first → ⊥
       too_late u target over =
           let its : q.target.turn ≡ u = ap (λ (x : Table). x.turn) target.is in
           let one = then_turn in let ahead = into.1 in omega (arith, its, one, over, ahead, first)
@@ -253,7 +253,7 @@ module _ {K V : Type 0} (same : K → K → Bool) (hash : K → ℕ) (caller : �
       gives_own all = by q.stands refl works.1 knows
         where
           Facts : Point → Type 0
-          Facts stands = CopyingFactsBlocking same hash w2 caller setting d blocks2 q stands
+          Facts stands = CopyingFactsBlocking same hash w2 caller setting d seen2 q stands
 
           given_so : q.stands ≡ at.Aborts → Then
           given_so here =
@@ -277,7 +277,7 @@ module _ {K V : Type 0} (same : K → K → Bool) (hash : K → ℕ) (caller : �
           fresh at.Aborts its other facts = other refl
           fresh _ its other facts = its
 
-          late : (began : ℕ) (stands : Point) → IsWork stands → LateCopying same hash w2 caller setting d blocks2 began q stands → ⊥
+          late : (began : ℕ) (stands : Point) → IsWork stands → LateCopying same hash w2 caller setting d seen2 began q stands → ⊥
           late began at.Marks its (u, v, copies, range) = too_late v copies.0.target copies.0.over
           late began (at.Probes word code table probe) its (u, v, n, k, j, its_work, code_is, table_is, trial) = too_late v its_work.copies.0.target its_work.copies.0.over
           late began (at.Puts word code table probe) its (u, v, n, k, j, its_work, code_is, table_is, trial) = too_late v its_work.copies.0.target its_work.copies.0.over
@@ -290,8 +290,8 @@ module _ {K V : Type 0} (same : K → K → Bool) (hash : K → ℕ) (caller : �
           is_aborts _ = inr (λ e. cc e)
 
           by : (stands : Point) → q.stands ≡ stands → IsWork stands
-              → CopierFactsBlocking same hash w2 caller setting d blocks2 q ⊎ ((began : ℕ) × LateCopierFacts same hash w2 caller setting d blocks2 began q) → Then
-          by stands here its (inr (began, lates)) = absurd (late began stands its (subst (λ (s : Point). LateCopying same hash w2 caller setting d blocks2 began q s) here lates.point))
+              → CopierFactsBlocking same hash w2 caller setting d seen2 q ⊎ ((began : ℕ) × LateCopierFacts same hash w2 caller setting d seen2 began q) → Then
+          by stands here its (inr (began, lates)) = absurd (late began stands its (subst (λ (s : Point). LateCopying same hash w2 caller setting d seen2 began q s) here lates.point))
           by stands here its (inl facts) = elim (is_aborts stands) as (λ _. Then) [
             | inl e ↦ given_so (here ∙ e)
             | inr other ↦ absurd (fresh stands its other (subst (λ (s : Point). Facts s) here facts.point))
