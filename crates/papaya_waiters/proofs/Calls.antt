@@ -96,7 +96,7 @@ abbrev pub GoesWithin : {K V Q : Type 0} → Option (UnderWay K V Q) → Copier 
 GoesWithin next b = ((b.1 ≡ outcome.Goes → ⊥) × (copier_then next ≡ None)) ⊎ (copier_then next ≡ Some b.0)
 
 module _ {K V Q : Type 0} (like : CallOnKey K V Q) where
-  abbrev key_then : KeyCall K V Q × Called (Node K V) → Option (UnderWay K V Q)
+  abbrev pub key_then : KeyCall K V Q × Called (Node K V) → Option (UnderWay K V Q)
   key_then end = next_of (record like { call = end.0 }) end.1
 
   key_none : (p : KeyCall K V Q) (progress : Called (Node K V)) → copier_in p.stands ≡ None → copier_then (key_then (p, progress)) ≡ None
@@ -116,7 +116,7 @@ module _ {K V Q : Type 0} (like : CallOnKey K V Q) where
       by true = refl
       by false = refl
 
-  key_within : (p : KeyCall K V Q) (b : Copier × Outcome (Node K V) Table) (end : KeyCall K V Q × Called (Node K V)) → end ≡ copied p b → GoesWithin (key_then end) b
+  pub key_within : (p : KeyCall K V Q) (b : Copier × Outcome (Node K V) Table) (end : KeyCall K V Q × Called (Node K V)) → end ≡ copied p b → GoesWithin (key_then end) b
   key_within p (q, outcome.Goes) end e = inr (ap (λ (x : KeyCall K V Q × Called (Node K V)). copier_then (key_then x)) e)
   key_within p (q, outcome.Waits) end e = inr (ap (λ (x : KeyCall K V Q × Called (Node K V)). copier_then (key_then x)) e)
   key_within p (q, outcome.Gave value) end e = inr (ap (λ (x : KeyCall K V Q × Called (Node K V)). copier_then (key_then x)) e)
@@ -127,7 +127,7 @@ module _ {K V Q : Type 0} (like : CallOnKey K V Q) where
   )
 
 module _ {K V : Type 0} (Q : Type 0) where
-  abbrev room_then : ℕ → Reserve × Outcome (Node K V) Unit → Option (UnderWay K V Q)
+  abbrev pub room_then : ℕ → Reserve × Outcome (Node K V) Unit → Option (UnderWay K V Q)
   room_then began end = next_for_room (record { began = began; reserve = end.0 }) end.1
 
   room_spent : (c : Chart K) (began : ℕ) (p : Reserve) (end : Outcome (Node K V) Unit) → IsNew (copier_in_room p.stands) → OwnSpent c (copier_then (room_then began (p, end)))
@@ -135,7 +135,7 @@ module _ {K V : Type 0} (Q : Type 0) where
   room_spent c began p (outcome.Refused fault) new = tt
   room_spent c began p _ new = new_spent c (copier_in_room p.stands) new
 
-  room_within : (began : ℕ) (p : Reserve) (b : Copier × Outcome (Node K V) Table) (end : Reserve × Outcome (Node K V) Unit) → end ≡ room_plans.copied p b → GoesWithin (room_then began end) b
+  pub room_within : (began : ℕ) (p : Reserve) (b : Copier × Outcome (Node K V) Table) (end : Reserve × Outcome (Node K V) Unit) → end ≡ room_plans.copied p b → GoesWithin (room_then began end) b
   room_within began p (q, outcome.Goes) end e = inr (ap (λ (x : Reserve × Outcome (Node K V) Unit). copier_then (room_then began x)) e)
   room_within began p (q, outcome.Waits) end e = inr (ap (λ (x : Reserve × Outcome (Node K V) Unit). copier_then (room_then began x)) e)
   room_within began p (q, outcome.Gave value) end e = inr (ap (λ (x : Reserve × Outcome (Node K V) Unit). copier_then (room_then began x)) e)
@@ -143,7 +143,7 @@ module _ {K V : Type 0} (Q : Type 0) where
   room_within began p (q, outcome.Refused fault) end e = inl ((λ goes. cc goes), ap (λ (x : Reserve × Outcome (Node K V) Unit). copier_then (room_then began x)) e)
 
   module _ (o : CallOverAll) (entered : ℕ) (done : List ℕ) where
-    abbrev sweep_then : Sweep × Swept (Node K V) → Option (UnderWay K V Q)
+    abbrev pub sweep_then : Sweep × Swept (Node K V) → Option (UnderWay K V Q)
     sweep_then end = next_over_all (come_to o entered done end.0) end.1
 
     sweep_none : (p : Sweep) (end : Swept (Node K V)) → copier_in_sweep p.stands ≡ None → copier_then (sweep_then (p, end)) ≡ None
@@ -156,7 +156,7 @@ module _ {K V : Type 0} (Q : Type 0) where
     sweep_spent c p (swept.Refused fault) new = tt
     sweep_spent c p _ new = new_spent c (copier_in_sweep p.stands) new
 
-    sweep_within : (p : Sweep) (b : Copier × Outcome (Node K V) Table) (end : Sweep × Swept (Node K V)) → end ≡ sweep_plans.copied p b → GoesWithin (sweep_then end) b
+    pub sweep_within : (p : Sweep) (b : Copier × Outcome (Node K V) Table) (end : Sweep × Swept (Node K V)) → end ≡ sweep_plans.copied p b → GoesWithin (sweep_then end) b
     sweep_within p (q, outcome.Goes) end e = inr (ap (λ (x : Sweep × Swept (Node K V)). copier_then (sweep_then x)) e)
     sweep_within p (q, outcome.Waits) end e = inr (ap (λ (x : Sweep × Swept (Node K V)). copier_then (sweep_then x)) e)
     sweep_within p (q, outcome.Gave value) end e = inr (ap (λ (x : Sweep × Swept (Node K V)). copier_then (sweep_then x)) e)

@@ -54,7 +54,7 @@ module _ {K V : Type 0} (same : K → K → Bool) (hash : K → ℕ) (caller : �
   late_idle at.Promotes (u, t, late) = late.idle
   late_idle at.Announces (s, t, source, unlinked) = unlinked.3
   late_idle (at.Succeeds table) (s, t, unlinked, is) = unlinked.3
-  late_idle (at.Retires settle rest) (s, t, unlinked, retires) = unlinked.3
+  late_idle (at.Retires settle rest) (s, t, unlinked, retires, next) = unlinked.3
   late_idle at.Over (t, target, left, none) = none
   late_idle _ facts = absurd facts
 
@@ -107,7 +107,7 @@ module _ {K V : Type 0} (same : K → K → Bool) (hash : K → ℕ) (caller : �
   no_promote : (u t v : ℕ) → CopiesLate same hash w caller setting c blocks began p u t → (p.target.turn ≡ v) × (c.first < v) → ⊥
   no_promote u t v late (turn, ahead) = let its = target_turn t late.target in let over = late.over in omega (arith, turn, ahead, its, over)
 
-  IsAnnounced : Point → Type 0
+  abbrev IsAnnounced : Point → Type 0
   IsAnnounced at.Announces = Unit {0}
   IsAnnounced _ = ⊥
 

@@ -16,3 +16,5 @@ pub mod BeginsRooms
 pub mod BeginsSweeps
 pub mod Steps
 pub mod Calls
+pub mod Likes
+pub mod RowsFresh

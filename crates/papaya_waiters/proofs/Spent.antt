@@ -102,7 +102,7 @@ module _ (K V : Type 0) (hash : K → ℕ) (p : Copier) where
   asked_on : (out : Out (Node K V)) → Always AsksOn (status_read p out)
   asked_on (Found status) = always_if AsksOn (status == PROMOTED) _ _ (inr tt) (always_if AsksOn (status == ABORTED) _ _ (inr refl) (spent_on p.spent refl))
     where
-      spent_on : (b : Bool) → p.spent ≡ b → Always AsksOn (if b then Now (p, Waits) else Now (standing p at.Sees, Goes))
+      spent_on : (b : Bool) → p.spent ≡ b → Always {T = Node K V} AsksOn (if b then Now (p, Waits) else Now (standing p at.Sees, Goes))
       spent_on true is = inl refl
       spent_on false is = inr is
   asked_on _ = inl refl
