@@ -1,5 +1,5 @@
 -- In blocking mode, after each step of a call on one key, of a reservation, and of a sweep, that is none of a row, each copying that is not over has who ends it, if so before.
-use Rattle.std.specs.Prelude.{if◌then◌else◌, Option, Some, None}
+use Rattle.std.specs.Prelude.{◌==◌, if◌then◌else◌, Option, Some, None}
 use Rattle.std.specs.Int.{IsPowerOfTwo}
 use Rattle.std.proofs.Common.{◌≡◌, ℕ, Bool, true, ◌⊎◌, inl, inr, refl, ap, sym, subst, ◌∙◌, List, false}
 use Rattle.papaya_callers.specs.Given.SeizeWords.Mem.{Mem, Took, value_at}
@@ -21,7 +21,7 @@ use Rattle.papaya_callers.specs.Given.Rule.Chart.{Chart}
 use Rattle.papaya_callers.specs.Given.Rule.Words.{Blocks}
 use Rattle.papaya_callers.specs.Given.Points.FactsCalls.{CallingFacts, IsCopying}
 use Rattle.papaya_callers.specs.Given.Points.Steps.{AreLawful}
-use Rattle.papaya_callers.specs.Given.Points.Told.{IsRowOfCall, MovedBeside, IsBeside, OnlyLinks}
+use Rattle.papaya_callers.specs.Given.Points.Told.{IsRowOfCall, IsRowOfCopier, MovedBeside, IsBeside, OnlyLinks}
 use Rattle.papaya_callers.specs.Given.Tables.declared.resize_mode.ResizeMode.{ResizeMode}
 use Rattle.papaya_callers.specs.Given.Reserves.declared.reserve.Reserve.{Reserve}
 use Rattle.papaya_callers.specs.Given.Reserves.declared.reserve.Reserving.{Reserving}
@@ -57,7 +57,6 @@ use Rattle.papaya_callers.proofs.Given.SeizeRule.Rows.Leaving.{steps_back}
 use Rattle.papaya_callers.proofs.Together.At.{at_same}
 use Rattle.papaya_callers.proofs.Given.Late.Swept.Sweeps.Stands.{quiet_entering}
 use Rattle.papaya_waits.specs.Others.{copier_in, copier_in_room, copier_in_sweep}
-use Rattle.papaya_waits.proofs.CopiersKeep.{beside_keeps, copier_keeps}
 use Rattle.papaya_waits.proofs.EndingCalls.{copier_then}
 use Rattle.papaya_waiters.specs.Blocking.{CallsKeepEndsBlocking, HaveEndsBlocking, RoomsKeepEndsBlocking, SweepsKeepEndsBlocking}
 use Rattle.papaya_waiters.proofs.Stands.{copier_knows}
@@ -67,7 +66,7 @@ use Rattle.papaya_waiters.proofs.Own.{OwnSpent}
 use Rattle.papaya_waiters.proofs.Begins.{IsNew, call_new}
 use Rattle.papaya_waiters.proofs.BeginsRooms.{room_new}
 use Rattle.papaya_waiters.proofs.BeginsSweeps.{quiet_none, sweep_new}
-use Rattle.papaya_waiters.proofs.Steps.{its_map}
+use Rattle.papaya_waiters.proofs.Steps.{beside_keeps, copier_keeps, its_map}
 
 -- a copier that has just begun is as it is to be
 new_spent : {K : Type 0} (c : Chart K) (o : Option Copier) → IsNew o → OwnSpent c o

@@ -49,7 +49,7 @@ use Rattle.papaya_callers.specs.Rooms.{CallForRoom}
 use Rattle.papaya_callers.specs.Rows.{once_over, past_row}
 use Rattle.papaya_callers.proofs.Given.SeizeRule.Rows.Leaving.{steps_back}
 use Rattle.papaya_callers.proofs.Given.Rule.Keys.Always.{always_plan_as, always_steps}
-use Rattle.papaya_waits.specs.Others.{copier_in, copier_in_room, copier_in_sweep}
+use Rattle.papaya_waits.specs.Others.{copier_of, copier_in, copier_in_room, copier_in_sweep}
 use Rattle.papaya_waits.proofs.EndingCalls.{copier_then}
 use Rattle.papaya_waiters.specs.Blocking.{HaveEndsBlocking, SpentAt}
 use Rattle.papaya_waiters.proofs.Spent.{anywhere, IsUnspent}
@@ -102,11 +102,11 @@ new_key like p (called.Done answer) new = tt
 new_key like p (called.Refused fault) new = tt
 new_key like p _ new = new_fresh (copier_in p.stands) new
 
-new_sweep : {K V Q : Type 0} (o : CallOverAll) (entered : ℕ) (done : List ℕ) (p : Sweep) (end : Swept (Node K V)) → IsNew (copier_in_sweep p.stands)
+new_sweep : {K V : Type 0} (Q : Type 0) (o : CallOverAll) (entered : ℕ) (done : List ℕ) (p : Sweep) (end : Swept (Node K V)) → IsNew (copier_in_sweep p.stands)
     → IsFreshCopier (copier_then (sweep_then {K = K} {V = V} Q o entered done (p, end)))
-new_sweep o entered done p swept.Done new = tt
-new_sweep o entered done p (swept.Refused fault) new = tt
-new_sweep o entered done p _ new = new_fresh (copier_in_sweep p.stands) new
+new_sweep Q o entered done p swept.Done new = tt
+new_sweep Q o entered done p (swept.Refused fault) new = tt
+new_sweep Q o entered done p _ new = new_fresh (copier_in_sweep p.stands) new
 
 module _ {K Q : Type 0} (V : Type 0) (same : K → K → Bool) (hash : K → ℕ) (asks : Q → K → Bool) (setting : Setting) (slot : ℕ → ℕ) (mode : is_incremental setting.mode ≡ false)
     (w : World (Node K V)) (c : Chart K) (blocks : Blocks) (sights : ℕ → Sight) (calls : ℕ → Option (UnderWay K V Q))
@@ -167,5 +167,5 @@ module _ {K Q : Type 0} (V : Type 0) (same : K → K → Bool) (hash : K → ℕ
             (subst (λ (q : Sweeping). Steps Took value_at w.memory (sweep_plans.plan_at hash o.sweep q) m2 (p2, end)) here steps) in
             within_fresh (sweep_then Q o entered done (p2, end)) b.0 (sweep_within Q o entered done o.sweep b.0 (p2, end) b.2)
             (row_unspent K V hash copier (its_unspent (OverAll o) has copier (ap copier_in_sweep here) its) w.memory m2 b.0 its b.1)
-        by (sweeps.Disposes dispose) here its = new_sweep o entered done p2 end (sweep_new hash w.memory m2 o.sweep (p2, end) (ap copier_in_sweep here) steps)
+        by (sweeps.Disposes dispose) here its = new_sweep Q o entered done p2 end (sweep_new hash w.memory m2 o.sweep (p2, end) (ap copier_in_sweep here) steps)
         by _ here its = absurd its

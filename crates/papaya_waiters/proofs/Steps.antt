@@ -117,7 +117,7 @@ module _ {K Q : Type 0} (V : Type 0) (same : K → K → Bool) (hash : K → ℕ
 
     -- a step of the copier within which it stands
     module _ (p : Copier) (within : copier_of x ≡ Some p) (row : IsRowOfCopier p.stands → ⊥) (b : Copier × Outcome (Node K V) Table)
-        (steps : Steps Took value_at w.memory (copier_plan hash p) m2 b) (then : ((b.1 ≡ Goes → ⊥) × (copier_then next ≡ None)) ⊎ (copier_then next ≡ Some b.0))
+        (steps : Steps Took value_at w.memory (copier_plan hash p) m2 b) (comes : ((b.1 ≡ Goes → ⊥) × (copier_then next ≡ None)) ⊎ (copier_then next ≡ Some b.0))
         (w2 : World (Node K V)) (seen2 : Blocks)
         (knows2 : copier_then next ≡ Some b.0 → (IsRowOfCopier b.0.stands → ⊥)
         → CopierFactsBlocking same hash w2 i its_setting d seen2 b.0 ⊎ ((began : ℕ) × LateCopierFacts same hash w2 i its_setting d seen2 began b.0)) where
@@ -132,7 +132,7 @@ module _ {K Q : Type 0} (V : Type 0) (same : K → K → Bool) (hash : K → ℕ
       with_none kept = or_own P A G d (OwnEnds d (copier_then next)) (OwnLoses d (copier_then next)) kept
 
       goes_on : b.1 ≡ Goes → copier_then next ≡ Some b.0
-      goes_on goes = by then
+      goes_on goes = by comes
         where
           by : ((b.1 ≡ Goes → ⊥) × (copier_then next ≡ None)) ⊎ (copier_then next ≡ Some b.0) → copier_then next ≡ Some b.0
           by (inl none) = absurd (none.0 goes)
@@ -379,7 +379,7 @@ module _ {K Q : Type 0} (V : Type 0) (same : K → K → Bool) (hash : K → ℕ
           by (at.Refused fault) here old = blindly (subst IsBlind (sym here) tt)
 
       pub copier_keeps : HaveEndsBlocking d (with_at calls i next)
-      copier_keeps = with_own calls i d next kept_then (own_spent then) others_spent
+      copier_keeps = with_own calls i d next kept_then (own_spent comes) others_spent
         where
           own_spent : ((b.1 ≡ Goes → ⊥) × (copier_then next ≡ None)) ⊎ (copier_then next ≡ Some b.0) → OwnSpent d (copier_then next)
           own_spent (inl none) = subst (λ (o : Option Copier). OwnSpent d o) (sym none.1) tt

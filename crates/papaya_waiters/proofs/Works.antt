@@ -51,20 +51,40 @@ IsWork _ = ⊥
 abbrev pub WorksFor : Copier → Copier → Type 0
 WorksFor p q = (q.target ≡ p.target) × IsWork q.stands
 
-either : (p : Copier) (b : Bool) (x y : Copier) → WorksFor p x → WorksFor p y → WorksFor p (if b then x else y)
-either p true x y f g = f
-either p false x y f g = g
-
 -- where it has done some
 counts_next : (p : Copier) → ((p.done == 0) ≡ false) → WorksFor p (next_place p)
-counts_next p some = either p (nat_lt p.place (p.end - 1)) _ _ (refl, tt) (subst (λ (b : Bool). WorksFor p (if b then _ else _)) (sym some) (refl, tt))
+counts_next p some = by (nat_lt p.place (p.end - 1)) (p.done == 0) some
+  where
+    by : (a b : Bool) → b ≡ false → WorksFor p (if a then record p { place = p.place + 1; stands = at.Marks } else (if b then behind p else record p { stands = at.Counts }))
+    by true b e = (refl, tt)
+    by false false e = (refl, tt)
+    by false true e = absurd (cc e)
 
 done_works : (p : Copier) → p.done < 2 ^ 63 → WorksFor p (place_done p)
 done_works p few = counts_next (record p { done = (p.done + 1) % 2 ^ 64 }) (ne_eqb ((p.done + 1) % 2 ^ 64) 0 (λ e. omega (arith, e, few)))
 
 try_works : (p : Copier) → is_incremental p.setting.mode ≡ false → (word code : ℕ) (table : Table) (probe : Probe) → WorksFor p (next_try p word code table probe)
-try_works p mode word code table probe =
-    either p (nat_lt probe.len table.limit) _ _ (refl, tt) (subst (λ (b : Bool). WorksFor p (if b then _ else _)) (sym mode) (refl, tt))
+try_works p mode word code table probe = by (nat_lt probe.len table.limit) (is_incremental p.setting.mode) _ _ mode (refl, tt)
+  where
+    by : (a b : Bool) (x y : Copier) → b ≡ false → WorksFor p x → WorksFor p (if a then x else (if b then y else record p { place = 0; end = 0; done = 0; stands = at.Aborts }))
+    by true b x y e h = h
+    by false false x y e h = (refl, tt)
+    by false true x y e h = absurd (cc e)
+
+put_works_on : (p : Copier) (word : ℕ) → is_incremental p.setting.mode ≡ false → p.done < 2 ^ 63 → WorksFor p (pair_put p word)
+put_works_on p word mode few = by (is_incremental p.setting.mode) _ mode
+  where
+    by : (b : Bool) (x : Copier) → b ≡ false → WorksFor p (if b then x else place_done p)
+    by false x e = done_works p few
+    by true x e = absurd (cc e)
+
+-- each place is its own to copy
+mine_at_once : (p : Copier) (word : ℕ) → is_incremental p.setting.mode ≡ false → is_mine p word ≡ true
+mine_at_once p word mode = by (is_incremental p.setting.mode) _ mode
+  where
+    by : (b x : Bool) → b ≡ false → (if b then x else true) ≡ true
+    by false x e = refl
+    by true x e = absurd (cc e)
 
 module _ (K V : Type 0) (hash : K → ℕ) (p : Copier) (mode : is_incremental p.setting.mode ≡ false) (few : p.done < 2 ^ 63) (here : IsWork p.stands) where
   abbrev pub Works : Copier × Outcome (Node K V) Table → Type 0
@@ -72,22 +92,16 @@ module _ (K V : Type 0) (hash : K → ℕ) (p : Copier) (mode : is_incremental p
 
   marked_works : (out : Out (Node K V)) → Always Works (marked hash p out)
   marked_works (Found word) =
-      subst (λ (b : Bool). Always Works (if b then mine_marked hash p word else (if is_awaited p word then Now (p, Waits) else to (next_place p)))) (sym mine)
+      subst (λ (b : Bool). Always Works (if b then mine_marked hash p word else (if is_awaited p word then Now (p, Waits) else to (next_place p)))) (sym (mine_at_once p word mode))
       (always_if Works (word / 2048 == 0) _ _ (refl, done_works p few) (λ value. (refl, (refl, tt))))
-    where
-      mine : is_mine p word ≡ true
-      mine = subst (λ (b : Bool). (if b then _ else true) ≡ true) (sym mode) refl
   marked_works _ = (refl, (refl, here))
 
   place_works : (word code : ℕ) (table : Table) (probe : Probe) (out : Out (Node K V)) → Always Works (place_read p word code table probe out)
   place_works word code table probe (Found found) = always_if Works (found == 0) _ _ (refl, (refl, tt)) (refl, try_works p mode word code table probe)
   place_works word code table probe _ = (refl, (refl, here))
 
-  pair_works : (word : ℕ) → WorksFor p (pair_put p word)
-  pair_works word = subst (λ (b : Bool). WorksFor p (if b then _ else place_done p)) (sym mode) (done_works p few)
-
   put_works : (word code : ℕ) (table : Table) (probe : Probe) (out : Out (Node K V)) → Always Works (put_told p word code table probe out)
-  put_works word code table probe (Exchanged (Ok found)) = (refl, pair_works word)
+  put_works word code table probe (Exchanged (Ok found)) = (refl, put_works_on p word mode few)
   put_works word code table probe (Exchanged (Err found)) = (refl, try_works p mode word code table probe)
   put_works word code table probe _ = (refl, (refl, here))
 
@@ -119,7 +133,7 @@ total_zero f d (suc n) none j l = elim (cases_eq j n) as (λ _. f (d j) ≡ 0) [
 none_counted : (i : ℕ) (share : Share) → is_done_by i share ≡ 0 → share ≢ Counted → with_counted i share ≢ Counted
 none_counted i (Done k) none old = by (eqb k i) none
   where
-    by : (b : Bool) → cond b 1 0 ≡ 0 → cond b Counted (Done k) ≢ Counted
+    by : (b : Bool) → ◌≡◌ {A = ℕ} (cond b 1 0) 0 → cond b Counted (Done k) ≢ Counted
     by true one = absurd (cc one)
     by false zero_is = λ e. cc e
 none_counted i Free none old = old
