@@ -207,7 +207,7 @@ module _ (K V S : Type 0) (same : K → K → Bool) (hash : K → ℕ) where
     retired = others_leave_retired K V m v known s (scene_with map i u s) kept.retired refl refl (calls_stay s map i (Some u) (λ is. absurd (cc is)));
     left = others_keep_left K V known s (scene_with map i u s) kept.left refl refl;
     handed = others_leave_handed K V m v known s (scene_with map i u s) kept.handed refl refl refl refl (calls_stay s map i (Some u) (λ is. absurd (cc is)));
-    ends = calls_begin_ends s kept.ends map i name none u (copies_none_at_first standing i u begins);
+    ends = calls_begin_ends s kept.ends map i name none u (copies_none_at_first K V same standing i u begins);
   }
     where
       v : Moment K V

@@ -66,6 +66,7 @@ use Rattle.papaya_settles.proofs.Keys.{steps as key_told}
 use Rattle.papaya_settles.proofs.Rest.{steps as sweep_told}
 use Rattle.papaya_kept.specs.Ends.{HaveEndsIn, ShowsEnds}
 use Rattle.papaya_kept.proofs.Ends.{StoodSo, call_goes, idle_keeps, stood_ends, stood_so}
+use Rattle.papaya_histories.specs.Given.Seize.declared.progress.Progress.{Progress as CountGoes}
 use Rattle.papaya_histories.specs.Given.Seize.declared.progress.Progress.TheVariants as progress
 use Rattle.papaya_histories.specs.Given.Tables.declared.setting.Setting.{Setting}
 
@@ -90,7 +91,7 @@ row_of_sweep (sweeps.Disposes dispose) row = tt
 row_of_sweep _ row = absurd row
 
 -- a counting copies nothing
-count_fresh : (K V : Type 0) (sum : Sum) (end : Progress ℕ) → IsFreshCopier (copier_then (next_of_counting {K = K} {V = V} {Q = K} sum end))
+count_fresh : (K V : Type 0) (sum : Sum) (end : CountGoes ℕ) → IsFreshCopier (copier_then (next_of_counting {K = K} {V = V} {Q = K} sum end))
 count_fresh K V sum (progress.Done count) = tt
 count_fresh K V sum (progress.Refused fault) = tt
 count_fresh K V sum _ = tt

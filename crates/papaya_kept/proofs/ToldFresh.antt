@@ -7,7 +7,7 @@ use Rattle.papaya_waiters.proofs.Likes.{IsFreshCopier}
 use Rattle.papaya_histories.specs.Given.SeizeWords.declared.fault.Fault.TheVariants.{RemoveNothing}
 use Rattle.papaya_histories.specs.Given.Tables.declared.marks.TheConstants.{TOMBSTONE}
 use Rattle.papaya_histories.specs.Given.Raw.CallAsks.{absent_told, present_told, told_at, with_absent, with_present}
-use Rattle.papaya_histories.specs.Given.Raw.CallPoints.{at_gap, burying, ending, storing}
+use Rattle.papaya_histories.specs.Given.Raw.CallPoints.{at_gap, burying, ending, going, over, storing}
 use Rattle.papaya_histories.specs.Given.Raw.Machine.{sweep_told}
 use Rattle.papaya_histories.specs.Given.Raw.declared.machines.answer.End.{End}
 use Rattle.papaya_histories.specs.Given.Raw.declared.machines.answer.End.TheVariants as ends
@@ -36,7 +36,7 @@ module _ {K V : Type 0} where
   ending_fresh : (c : KeyCall K V K) (end : End) → IsFreshCopier (copier_in (ending c end).0.stands)
   ending_fresh c end = by (c.own == 0)
     where
-      by : (b : Bool) → IsFreshCopier (copier_in (if b then at.Over end else at.Drops end))
+      by : (b : Bool) → IsFreshCopier (copier_in (if b then over c end else going {V = V} c (at.Drops end)).0.stands)
       by true = tt
       by false = tt
 
@@ -46,7 +46,7 @@ module _ {K V : Type 0} where
   burying_fresh : (c : KeyCall K V K) (word : ℕ) → IsFreshCopier (copier_in (burying {V = V} c word).0.stands)
   burying_fresh c word = by (c.own == 0)
     where
-      by : (b : Bool) → IsFreshCopier (copier_in (if b then at.Tries word TOMBSTONE else at.Asks (asking.GivesUp word)))
+      by : (b : Bool) → IsFreshCopier (copier_in (if b then going {V = V} c (at.Tries word TOMBSTONE) else going c (at.Asks (asking.GivesUp word))).0.stands)
       by true = tt
       by false = tt
 

@@ -18,7 +18,7 @@ module _ {K V : Type 0} where
   IsNotRefused (MakeMap name mode capacity) (Refused fault) = ⊥
   IsNotRefused event outcome = Unit {0}
 
-  -- What is still asked of an event, by name. Where it waits, or is refused for the length of a table, it does so in its case; what is left of its kind is so, and of one by which no steps run nothing
+  -- What is still asked of an event, by name. Where it is refused for the length of a table, it is so in its case; what is left of its kind is so, and of one by which no steps run nothing
   -- is left; and what waits is bounded where nobody is there after it.
   pub record IsAskedOf (terms : Terms) (log : List (Entry K V)) (e : Entry K V) : Type 0 where
     pub right : FindsRight terms log e

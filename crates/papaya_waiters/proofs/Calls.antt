@@ -38,7 +38,7 @@ use Rattle.papaya_callers.specs.Given.Late.FactsSweeps.{CopiesPairs as SweepCopi
 use Rattle.papaya_callers.specs.Given.Late.ToldReserves.{IsRowOfReserve}
 use Rattle.papaya_callers.specs.Given.Late.ToldSweeps.{IsRowOfSweep, OnlyRemoves}
 use Rattle.papaya_callers.specs.Given.Raw.Call.{plan_at, call_plan, copied}
-use Rattle.papaya_callers.specs.Given.Raw.CallPoints.{ending}
+use Rattle.papaya_callers.specs.Given.Raw.CallPoints.{ending, going, over}
 use Rattle.papaya_callers.specs.Given.Raw.declared.machines.answer.Called.TheVariants as called
 use Rattle.papaya_callers.specs.Given.Raw.declared.machines.answer.End.{End}
 use Rattle.papaya_callers.specs.Given.Raw.declared.machines.answer.End.TheVariants as ends
@@ -111,7 +111,7 @@ module _ {K V Q : Type 0} (like : CallOnKey K V Q) where
   ending_none : (p : KeyCall K V Q) (end : End) → copier_in (ending p end).0.stands ≡ None
   ending_none p end = by (p.own == 0)
     where
-      by : (b : Bool) → copier_in (if b then at.Over end else at.Drops end) ≡ None
+      by : (b : Bool) → copier_in (if b then over p end else going {V = V} p (at.Drops end)).0.stands ≡ None
       by true = refl
       by false = refl
 

@@ -56,16 +56,12 @@ unspent_at c p at.Asks none = λ spent. absurd (cc (spent, none))
 unspent_at c p at.Over none = tt
 unspent_at c p _ none = none
 
--- at all points but where it asks, or is over
-abbrev pub IsWithin : Point → Type 0
-IsWithin at.Asks = ⊥
-IsWithin at.Over = ⊥
-IsWithin _ = Unit {0}
-
-within_unspent : {K : Type 0} (c : Chart K) (p : Copier) (stands : Point) → IsWithin stands → SpentAt c p stands → p.spent ≡ false
-within_unspent c p at.Asks its none = absurd its
-within_unspent c p at.Over its none = absurd its
-within_unspent c p _ its none = none
+-- the points at which it looks at no claim
+abbrev pub IsBlind : Point → Type 0
+IsBlind at.Asks = ⊥
+IsBlind at.Sees = ⊥
+IsBlind at.Claims = ⊥
+IsBlind _ = Unit {0}
 
 -- where it is not spent, it is so wherever it stands
 pub anywhere : (p : Copier) (stands : Point) → p.spent ≡ false → IsUnspentAt p stands
@@ -148,13 +144,6 @@ module _ (K V : Type 0) (hash : K → ℕ) (p : Copier) where
     remade_unspent (making, progress.Waits) = none
     remade_unspent (making, progress.Done table) = none
     remade_unspent (making, progress.Refused fault) = none
-
-  -- the points at which it looks at no claim
-  abbrev pub IsBlind : Point → Type 0
-  IsBlind at.Asks = ⊥
-  IsBlind at.Sees = ⊥
-  IsBlind at.Claims = ⊥
-  IsBlind _ = Unit {0}
 
   module _ (w : World (Node K V)) (caller : ℕ) (setting : Setting) (c : Chart K) (blocks : Blocks) (mode : is_incremental p.setting.mode ≡ false) (m m2 : Mem (Node K V))
       (end : Copier × Outcome (Node K V) Table) where

@@ -47,6 +47,13 @@ IsWork at.Counts = Unit {0}
 IsWork at.Aborts = Unit {0}
 IsWork _ = ⊥
 
+-- the points at which it has a place to copy
+abbrev pub IsCopying : Point → Type 0
+IsCopying at.Marks = Unit {0}
+IsCopying (at.Probes word code table probe) = Unit {0}
+IsCopying (at.Puts word code table probe) = Unit {0}
+IsCopying _ = ⊥
+
 -- it works on at the same table
 abbrev pub WorksFor : Copier → Copier → Type 0
 WorksFor p q = (q.target ≡ p.target) × IsWork q.stands
@@ -104,13 +111,6 @@ module _ (K V : Type 0) (hash : K → ℕ) (p : Copier) (mode : is_incremental p
   put_works word code table probe (Exchanged (Ok found)) = (refl, put_works_on p word mode few)
   put_works word code table probe (Exchanged (Err found)) = (refl, try_works p mode word code table probe)
   put_works word code table probe _ = (refl, (refl, here))
-
-  -- the points at which it has a place to copy
-  abbrev pub IsCopying : Point → Type 0
-  IsCopying at.Marks = Unit {0}
-  IsCopying (at.Probes word code table probe) = Unit {0}
-  IsCopying (at.Puts word code table probe) = Unit {0}
-  IsCopying _ = ⊥
 
   pub works_on : (m m2 : Mem (Node K V)) (end : Copier × Outcome (Node K V) Table) → IsCopying p.stands → Steps Took value_at m (copier_plan hash p) m2 end → Works end
   works_on m m2 end its s = by p.stands its s
