@@ -66,6 +66,7 @@ module _ {K V : Type 0} (m : Moment K V) (h : AllIsInOrder m) where
         somewhere = record { born = h.somewhere.born; there = h.somewhere.there };
         within = record {
           tables = h.within.tables;
+          apart = h.within.apart;
           roots = h.within.roots;
           made = h.within.made;
           spots = h.within.spots;
@@ -74,6 +75,7 @@ module _ {K V : Type 0} (m : Moment K V) (h : AllIsInOrder m) where
             record { there = its_map; table = λ t e. absurd (cc e); owes = λ n k e. absurd (omega (arith, e)) },
             all_so (HasItsMap m) (HasItsMap (with_call own guard call (Some f.number) m)) (λ c its. record { there = its.there; table = its.table; owes = its.owes }) m.calls h.within.calls,
           );
+          behind = h.within.behind;
         };
       })
         where
@@ -100,12 +102,14 @@ module _ {K V : Type 0} (m : Moment K V) (h : AllIsInOrder m) where
     somewhere = record { born = h.somewhere.born; there = λ n map l is. more map (h.somewhere.there n map l is) };
     within = record {
       tables = h.within.tables;
+      apart = h.within.apart;
       roots = all_append (λ (g : MapThere). g.first ≤ many_of g.number m) m.maps f h.within.roots (omega (arith, first));
       made = all_append (λ (g : MapThere). g.number < m.made + 1) m.maps f
           (all_so (λ (g : MapThere). g.number < m.made) (λ (g : MapThere). g.number < m.made + 1) (λ g l. omega (arith, l)) m.maps h.within.made) (omega (arith, number));
       spots = h.within.spots;
       maps = h.within.maps;
       calls = all_so (HasItsMap m) (HasItsMap (with_map f m)) (λ c its. record { there = more c.map its.there; table = its.table; owes = its.owes }) m.calls h.within.calls;
+      behind = h.within.behind;
     };
   }
     where

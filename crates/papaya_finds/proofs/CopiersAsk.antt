@@ -12,6 +12,7 @@ use Rattle.papaya_histories.specs.Given.Sweeps.Sweep.{sweep_plan}
 use Rattle.papaya_histories.specs.Given.Schedules.declared.call.Call.{Call}
 use Rattle.papaya_histories.specs.Given.Schedules.declared.call.Call.TheVariants as call
 use Rattle.papaya_histories.specs.Given.Schedules.Growing.{HasNext, MayGrow}
+use Rattle.papaya_histories.specs.Given.Schedules.Lists.{OneOf}
 use Rattle.papaya_histories.specs.Given.Schedules.Moment.{UnderWay as CallThere, Moment}
 use Rattle.papaya_histories.specs.Given.Schedules.Terms.{Terms}
 use Rattle.papaya_histories.specs.Given.Schedules.Views.{call_of}
@@ -30,8 +31,7 @@ use Rattle.papaya_histories.specs.Given.Moments.Whole.{ShowsWhole}
 use Rattle.papaya_histories.proofs.Given.Others.Outcomes.{told_in}
 use Rattle.papaya_owes.specs.Making.{making_in_calling, making_in_sweeping}
 use Rattle.papaya_owes.proofs.Walks.{IsToOwn, call_makes, sweep_makes}
-use Rattle.papaya_finds.specs.Nexts.{copier_in_calling, making_of_copier, RootHasLeft, MakesByCopier, CopiersMayAsk}
-use Rattle.papaya_finds.proofs.CopiersNext.{copiers_have_next}
+use Rattle.papaya_finds.specs.Nexts.{copier_in_calling, making_of_copier, MakesByCopier, CopiersMayAsk}
 use Rattle.papaya_finds.proofs.Grows.Asked.{Asks, made_of, may_ask}
 
 -- a call that copies makes no block for a pair, and no table but its copier's
@@ -60,9 +60,9 @@ module _ {K V : Type 0} (same : K → K → Bool) where
   no_reservation (ForRoom r) copies its is = absurd copies
   no_reservation (Counting sum) copies its is = absurd copies
 
-next_grows : {K V : Type 0} (terms : Terms) (m : Moment K V) (moments : List (Moment K V)) (its : Call K V) (c : CallThere K V) → IsNoReservation its → HasNext c.map m → MayGrow terms its c (m ∷ moments)
+next_grows : {K V : Type 0} (terms : Terms) (m : Moment K V) (moments : List (Moment K V)) (its : Call K V) (c : CallThere K V) → IsNoReservation its → OneOf (HasNext c.map) (m ∷ moments) → MayGrow terms its c (m ∷ moments)
 next_grows terms m moments (call.Reserve more) c none next = absurd none
-next_grows terms m moments _ c none next = inr (inl next)
+next_grows terms m moments _ c none next = inr next
 
 module _ {K V S : Type 0} (same : K → K → Bool) (hash : K → ℕ) (name : ℕ → List ℕ) (m : Moment K V) (known : Known) (s : Scene K V) (old new : Executor K V S) (at : IsAt same hash old s)
     (whole : ShowsWhole same name m known s) (map i : ℕ) (u : UnderWay K V K) (here : s.calls map i ≡ Some u) (said : Progress (Node K V)) (leads : StepLeads same hash i said s old new) where
@@ -100,24 +100,19 @@ module _ {K V S : Type 0} (same : K → K → Bool) (hash : K → ℕ) (name : �
   making_by (ForRoom r) copies steps asks = absurd copies
   making_by (Counting sum) copies steps asks = absurd copies
 
-  module _ (copies : MakesByCopier u) (stays : RootHasLeft s map u → ⊥) (terms : Terms) (moments : List (Moment K V)) where
+  module _ (copies : MakesByCopier u) (terms : Terms) (moments : List (Moment K V)) (nexts : (n : NewTable) → making_of_copier (machine_of u) ≡ Some n → OneOf (HasNext map) (m ∷ moments)) where
     abbrev its_call : (c : CallThere K V) × (call_of (name i) m ≡ Some c) × (c.map ≡ map) × IsCalled same u c.call
     its_call = whole.all.shown.calls map i u here
 
-    has_next : Asks told → HasNext map m
-    has_next asks =
-        let n = making_by u copies to.3 asks in
-        elim (copiers_have_next K V S same hash name m known s old at whole.all.shown map i u here n.0 n.1) as (λ _. HasNext map m) [
-          | inl next ↦ next
-          | inr left ↦ absurd (stays left)
-        ]
+    has_next : Asks told → OneOf (HasNext map) (m ∷ moments)
+    has_next asks = let n = making_by u copies to.3 asks in nexts n.0 n.1
 
     may_grow : Asks told → MayGrow terms its_call.0.call its_call.0 (m ∷ moments)
     may_grow asks =
-        next_grows terms m moments its_call.0.call its_call.0 (no_reservation same u copies its_call.0.call its_call.3) (subst (λ (k : ℕ). HasNext k m) (sym its_call.2) (has_next asks))
+        next_grows terms m moments its_call.0.call its_call.0 (no_reservation same u copies its_call.0.call its_call.3) (subst (λ (k : ℕ). OneOf (HasNext k) (m ∷ moments)) (sym its_call.2) (has_next asks))
 
 pub copiers_may_ask : (K V S : Type 0) (same : K → K → Bool) (hash : K → ℕ) → CopiersMayAsk K V S same hash
-copiers_may_ask K V S same hash name m known s old new at whole map i u here said leads copies stays terms moments =
+copiers_may_ask K V S same hash name m known s old new at whole map i u here said leads copies terms moments nexts =
     let c = whole.all.shown.calls map i u here in
     may_ask same hash name m known s old new at whole map i u here said leads terms moments c.0 c.1
-    (may_grow same hash name m known s old new at whole map i u here said leads copies stays terms moments)
+    (may_grow same hash name m known s old new at whole map i u here said leads copies terms moments nexts)

@@ -81,8 +81,8 @@ second_there map number s m known shown ahead =
 
 -- By the points of each copier.
 
-abbrev pub NextOrLeft : {K : Type 0} → Chart K → ℕ → Type 0
-NextOrLeft c began = (suc c.first < c.past) ⊎ ((t : ℕ) × Left c began t)
+abbrev pub NextOrLeft : {K : Type 0} → Setting → Chart K → ℕ → Type 0
+NextOrLeft setting c began = (suc c.first < c.past) ⊎ ((is_incremental setting.mode ≡ false) × (t : ℕ) × Left c began t)
 
 module _ {K V : Type 0} (same : K → K → Bool) (hash : K → ℕ) (w : World (Node K V)) (caller : ℕ) (setting : Setting) (c : Chart K) (blocks : Blocks) (n : NewTable) where
   copying_next : (x : Copier) (p : Copying) → CopyingFacts same hash w caller setting c blocks x p → making_in_copying p ≡ Some n → suc c.first < c.past
@@ -101,48 +101,49 @@ module _ {K V : Type 0} (same : K → K → Bool) (hash : K → ℕ) (w : World 
     late_left x (copying.Remakes m) facts is = (facts.0, facts.2.0.left)
     late_left x _ facts is = absurd (cc is)
 
-    late_next : (x : Copier) → LateCopierFacts same hash w caller setting c blocks began x → making_in_copying x.stands ≡ Some n → NextOrLeft c began
-    late_next x facts is = inr (late_left x x.stands facts.point is)
+    late_next : is_incremental setting.mode ≡ false → (x : Copier) → LateCopierFacts same hash w caller setting c blocks began x → making_in_copying x.stands ≡ Some n → NextOrLeft setting c began
+    late_next blocking x facts is = let left = late_left x x.stands facts.point is in inr (blocking, left.0, left.1)
 
     -- a copier of a whole table, in the mode of the map
-    whole_next : (x : Copier) → CopiesWhole same hash w caller setting c blocks x → making_in_copying x.stands ≡ Some n → NextOrLeft c began
+    whole_next : (x : Copier) → CopiesWhole same hash w caller setting c blocks x → making_in_copying x.stands ≡ Some n → NextOrLeft setting c began
     whole_next x facts is = by (is_incremental setting.mode) facts
       where
         by : (q : Bool)
             → cond q ((x.whole ≡ true) × CopierFacts same hash w caller setting c blocks x × IsEnding same hash w caller setting c blocks x x.stands) (CopierFactsBlocking same hash w caller setting c blocks x)
-            → NextOrLeft c began
+            → NextOrLeft setting c began
         by true so = inl (copying_next x x.stands so.1.point is)
         by false so = inl (blocking_next x x.stands so.point is)
 
-    table_next : (x : Copier) → CopiesTable same hash w caller setting c blocks began x → making_in_copying x.stands ≡ Some n → NextOrLeft c began
-    table_next x facts is = elim facts as (λ _. NextOrLeft c began) [
+    table_next : (x : Copier) → CopiesTable same hash w caller setting c blocks began x → making_in_copying x.stands ≡ Some n → NextOrLeft setting c began
+    table_next x facts is = elim facts as (λ _. NextOrLeft setting c began) [
       | inl whole ↦ whole_next x whole is
-      | inr late ↦ late_next x late.1 is
+      | inr late ↦ late_next late.0 x late.1 is
     ]
 
     -- by the points of each kind of call
 
-    room_next : (p : Reserving) → ReservingFacts same hash w caller setting c blocks p → copier_in_reserving p ≡ Some n → NextOrLeft c began
+    room_next : (p : Reserving) → ReservingFacts same hash w caller setting c blocks p → copier_in_reserving p ≡ Some n → NextOrLeft setting c began
     room_next (reserving.Copies copier) facts is = whole_next copier facts is
     room_next _ facts is = absurd (cc is)
 
-    late_room_next : (p : Reserving) → LateReserving same hash w caller setting c blocks began p → copier_in_reserving p ≡ Some n → NextOrLeft c began
-    late_room_next (reserving.Copies copier) facts is = late_next copier facts is
-    late_room_next _ facts is = absurd (cc is)
+    late_room_next : is_incremental setting.mode ≡ false → (p : Reserving) → LateReserving same hash w caller setting c blocks began p → copier_in_reserving p ≡ Some n → NextOrLeft setting c began
+    late_room_next blocking (reserving.Copies copier) facts is = late_next blocking copier facts is
+    late_room_next blocking _ facts is = absurd (cc is)
 
-    sweep_next : (x : Sweep) (p : Sweeping) → SweepingFacts same hash w caller setting c blocks began x p → making_in_sweeping p ≡ Some n → NextOrLeft c began
+    sweep_next : (x : Sweep) (p : Sweeping) → SweepingFacts same hash w caller setting c blocks began x p → making_in_sweeping p ≡ Some n → NextOrLeft setting c began
     sweep_next x (sweeping.Copies copier) facts is = table_next copier facts is
     sweep_next x _ facts is = absurd (cc is)
 
-    call_next : (keys : K → Bool) (change : Change) (x : KeyCall K V K) (p : Calling) → CallingFacts same hash same w caller setting c blocks keys change x p → copier_in_calling p ≡ Some n → NextOrLeft c began
+    call_next : (keys : K → Bool) (change : Change) (x : KeyCall K V K) (p : Calling) → CallingFacts same hash same w caller setting c blocks keys change x p → copier_in_calling p ≡ Some n → NextOrLeft setting c began
     call_next keys change x (calling.Helps copier goal) facts is = inl (copying_next copier copier.stands facts.6.point is)
     call_next keys change x (calling.Copies copier) facts is = inl (blocking_next copier copier.stands facts.2.point is)
     call_next keys change x _ facts is = absurd (cc is)
 
-    late_call_next : (keys : K → Bool) (x : KeyCall K V K) (p : Calling) → LateCalling same hash same w caller setting c blocks keys began x p → copier_in_calling p ≡ Some n → NextOrLeft c began
-    late_call_next keys x (calling.Helps copier goal) facts is = absurd facts
-    late_call_next keys x (calling.Copies copier) facts is = late_next copier facts.1 is
-    late_call_next keys x _ facts is = absurd (cc is)
+    late_call_next : is_incremental setting.mode ≡ false → (keys : K → Bool) (x : KeyCall K V K) (p : Calling) → LateCalling same hash same w caller setting c blocks keys began x p → copier_in_calling p ≡ Some n
+        → NextOrLeft setting c began
+    late_call_next blocking keys x (calling.Helps copier goal) facts is = absurd facts
+    late_call_next blocking keys x (calling.Copies copier) facts is = late_next blocking copier facts.1 is
+    late_call_next blocking keys x _ facts is = absurd (cc is)
 
 -- what a copier makes its call makes
 pub copier_of_call : (q : Calling) (n : NewTable) → copier_in_calling q ≡ Some n → making_in_calling q ≡ Some n
@@ -163,35 +164,35 @@ module _ {K V S : Type 0} (same : K → K → Bool) (hash : K → ℕ) (name : �
     abbrev seen : Blocks
     seen = seen_by st.blocks (st.sights (slot_of i))
 
-    next_of : (u : UnderWay K V K) (began : ℕ) → ((t : ℕ) → Left st.chart began t → RootHasLeft s map u) → NextOrLeft st.chart began → HasNext map m ⊎ RootHasLeft s map u
+    next_of : (u : UnderWay K V K) (began : ℕ) → (is_incremental st.setting.mode ≡ false → (t : ℕ) → Left st.chart began t → RootHasLeft s map u) → NextOrLeft st.setting st.chart began → HasNext map m ⊎ RootHasLeft s map u
     next_of u began left so = elim so as (λ _. HasNext map m ⊎ RootHasLeft s map u) [
       | inl ahead ↦ inl (second_there map (shown.number map) st m known (shown.maps map st there) ahead)
-      | inr was ↦ inr (left was.0 was.1)
+      | inr was ↦ inr (left was.0 was.1 was.2)
     ]
 
     by_kind : (u : UnderWay K V K) → s.calls map i ≡ Some u → making_of_copier (machine_of u) ≡ Some n → HasNext map m ⊎ RootHasLeft s map u
     by_kind (OnKey x) here is = elim (each.stand i (OnKey x) here) as (λ _. HasNext map m ⊎ RootHasLeft s map (OnKey x)) [
       | inl k ↦
-          next_of (OnKey x) x.began (λ t left. (st, there, t, left))
-          (elim (k.1.facts) as (λ _. NextOrLeft st.chart x.began) [
+          next_of (OnKey x) x.began (λ blocking t left. (st, there, blocking, t, left))
+          (elim (k.1.facts) as (λ _. NextOrLeft st.setting st.chart x.began) [
             | inl facts ↦ call_next same st.hash s.world i (in_slot st.setting (slot_of i)) st.chart seen n x.began x.keys x.change x.call x.call.stands facts.point is
-            | inr late ↦ late_call_next same st.hash s.world i (in_slot st.setting (slot_of i)) st.chart seen n x.began x.keys x.call x.call.stands late.1.point is
+            | inr late ↦ late_call_next same st.hash s.world i (in_slot st.setting (slot_of i)) st.chart seen n x.began late.1.blocking x.keys x.call x.call.stands late.1.point is
           ])
       | inr k ↦ absurd (let none = call_none x.call.stands k.1 in let some = copier_of_call x.call.stands n is in cc (none, some))
     ]
     by_kind (ForRoom r) here is = elim (each.stand i (ForRoom r) here) as (λ _. HasNext map m ⊎ RootHasLeft s map (ForRoom r)) [
       | inl k ↦
-          next_of (ForRoom r) r.began (λ t left. (st, there, t, left))
-          (elim (k.1.facts) as (λ _. NextOrLeft st.chart r.began) [
+          next_of (ForRoom r) r.began (λ blocking t left. (st, there, blocking, t, left))
+          (elim (k.1.facts) as (λ _. NextOrLeft st.setting st.chart r.began) [
             | inl facts ↦ room_next same st.hash s.world i (in_slot st.setting (slot_of i)) st.chart seen n r.began r.reserve.stands facts.point is
-            | inr late ↦ late_room_next same st.hash s.world i (in_slot st.setting (slot_of i)) st.chart seen n r.began r.reserve.stands late.point is
+            | inr late ↦ late_room_next same st.hash s.world i (in_slot st.setting (slot_of i)) st.chart seen n r.began late.blocking r.reserve.stands late.point is
           ])
       | inr k ↦ absurd (let none = room_none r.reserve.stands k.1 in let some = copier_of_room r.reserve.stands n is in cc (none, some))
     ]
     by_kind (Counting sum) here is = absurd (cc is)
     by_kind (OverAll o) here is = elim (each.stand i (OverAll o) here) as (λ _. HasNext map m ⊎ RootHasLeft s map (OverAll o)) [
       | inl k ↦
-          next_of (OverAll o) o.began (λ t left. (st, there, t, left))
+          next_of (OverAll o) o.began (λ blocking t left. (st, there, blocking, t, left))
           (sweep_next same st.hash s.world i (in_slot st.setting (slot_of i)) st.chart seen n o.began o.sweep o.sweep.stands k.1.facts.point is)
       | inr k ↦ absurd (let none = sweep_none o.sweep.stands k.1 in cc (none, is))
     ]

@@ -188,15 +188,15 @@ module _ {K V : Type 0} (terms : Terms) (moments : List (Moment K V)) (own : Lis
   quiet_shape (effect.Linked t shape) m c e = absurd (cc e)
   quiet_shape _ m c e = tt
 
-  none_shaped : (effects : List Effect) (m : Moment K V) (c : CallThere K V) → call_of own m ≡ Some c → NoneOfTable effects → FindShapes terms moments own map effects m
+  pub none_shaped : (effects : List Effect) (m : Moment K V) (c : CallThere K V) → call_of own m ≡ Some c → NoneOfTable effects → FindShapes terms moments own map effects m
   none_shaped [] m c is none = tt
   none_shaped (f ∷ fs) m c is none =
       (shape_by f m c is (quiet_shape f m c none.0), none_shaped fs (with_effect (Some own) (Some map) f m) (call_by m f c) (its_effect own map f m c is) none.1)
 
-  one_shaped : (f : Effect) (m : Moment K V) (c : CallThere K V) → call_of own m ≡ Some c → FindsShape terms moments m f c → FindShapes terms moments own map (f ∷ []) m
+  pub one_shaped : (f : Effect) (m : Moment K V) (c : CallThere K V) → call_of own m ≡ Some c → FindsShape terms moments m f c → FindShapes terms moments own map (f ∷ []) m
   one_shaped f m c is finds = (shape_by f m c is finds, tt)
 
-  two_shaped : (f g : Effect) (m : Moment K V) (c : CallThere K V) → call_of own m ≡ Some c → FindsShape terms moments m f c → ((v : Moment K V) (d : CallThere K V) → FindsShape terms moments v g d)
+  pub two_shaped : (f g : Effect) (m : Moment K V) (c : CallThere K V) → call_of own m ≡ Some c → FindsShape terms moments m f c → ((v : Moment K V) (d : CallThere K V) → FindsShape terms moments v g d)
       → FindShapes terms moments own map (f ∷ g ∷ []) m
   two_shaped f g m c is finds further = (
     shape_by f m c is finds,

@@ -44,7 +44,7 @@ all_in_order_at_first K V = record {
   waits = order_at_first K V;
   named = tt;
   somewhere = somewhere_at_first K V;
-  within = record { tables = tt; roots = tt; made = tt; spots = λ n l u. absurd (omega (arith, l, u)); maps = λ n map e. absurd (cc e); calls = tt };
+  within = record { tables = tt; apart = tt; roots = tt; made = tt; spots = λ n l u. absurd (omega (arith, l, u)); maps = λ n map e. absurd (cc e); calls = tt; behind = tt };
 }
 
 -- effects
@@ -194,6 +194,7 @@ module _ {K V : Type 0} (terms : Terms) (log : List (Entry K V)) where
       somewhere = events_keep_somewhere K V e m ends then_worked.waits.placed then_worked.somewhere;
       within = record {
         tables = then_worked.within.tables;
+        apart = then_worked.within.apart;
         roots = left.roots;
         made = left.made;
         spots = then_worked.within.spots;
@@ -203,6 +204,7 @@ module _ {K V : Type 0} (terms : Terms) (log : List (Entry K V)) where
             (all_so (λ (c : UnderWay K V). HasItsMap w c × (list_any (λ (f : MapThere). f.number == c.map) v.maps ≡ true)) (HasItsMap mapped)
             (λ c its. record { there = its.1; table = its.0.table; owes = its.0.owes }) w.calls
             (all_both (HasItsMap w) (λ (c : UnderWay K V). list_any (λ (f : MapThere). f.number == c.map) v.maps ≡ true) w.calls then_worked.within.calls left.calls)));
+        behind = then_worked.within.behind;
       };
     }
 

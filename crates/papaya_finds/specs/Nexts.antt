@@ -1,6 +1,7 @@
 -- For what a copier makes a further table: the map has a second one then, into which the root's is copied; or, in blocking mode, the root has left a table at the moment of
--- the map at which the call began, or since. So a call that copies may ask for each block that it makes, if it has left none.
-use Rattle.std.specs.Prelude.{◌≡◌, ℕ, Bool, List, Option, Some, None, ◌⊎◌}
+-- the map at which the call began, or since. So a call that copies may ask for each block that it makes, if its map had a second table then, or before.
+use Rattle.std.specs.Prelude.{◌≡◌, ℕ, Bool, false, List, ◌∷◌, Option, Some, None, ◌⊎◌}
+use Rattle.papaya_histories.specs.Given.Tables.Chunks.{is_incremental}
 use Rattle.papaya_histories.specs.Given.Tables.declared.node.Node.{Node}
 use Rattle.papaya_histories.specs.Given.Resize.declared.new_table.NewTable.{NewTable}
 use Rattle.papaya_histories.specs.Given.Reserves.declared.reserve.Reserving.{Reserving}
@@ -11,6 +12,7 @@ use Rattle.papaya_histories.specs.Given.Raw.declared.machines.machine.Machine.{M
 use Rattle.papaya_histories.specs.Given.Raw.declared.machines.machine.Machine.TheVariants as kinds
 use Rattle.papaya_histories.specs.Given.Raw.declared.machines.progress.Progress.{Progress}
 use Rattle.papaya_histories.specs.Given.Schedules.Growing.{HasNext}
+use Rattle.papaya_histories.specs.Given.Schedules.Lists.{OneOf}
 use Rattle.papaya_histories.specs.Given.Schedules.Moment.{Moment}
 use Rattle.papaya_histories.specs.Given.Schedules.Terms.{Terms}
 use Rattle.papaya_histories.specs.Given.Points.FactsCalls.{IsCopying}
@@ -54,9 +56,9 @@ began_of (ForRoom r) = r.began
 began_of (Counting sum) = 0
 began_of (OverAll o) = o.began
 
--- the root has left a table of the map at the moment of the map at which the call began, or since
+-- in blocking mode, the root has left a table of the map at the moment of the map at which the call began, or since
 abbrev pub RootHasLeft : {K V : Type 0} → Scene K V → ℕ → UnderWay K V K → Type 0
-RootHasLeft {K} s map u = (standing : Standing K) × (s.maps map ≡ Some standing) × (t : ℕ) × Left standing.chart (began_of u) t
+RootHasLeft {K} s map u = (standing : Standing K) × (s.maps map ≡ Some standing) × (is_incremental standing.setting.mode ≡ false) × (t : ℕ) × Left standing.chart (began_of u) t
 
 -- what a call makes its copier makes: a call on one key that copies, or a sweep
 abbrev pub MakesByCopier : {K V : Type 0} → UnderWay K V K → Type 0
@@ -71,10 +73,10 @@ module _ (K V S : Type 0) (same : K → K → Bool) (hash : K → ℕ) where
       (name : ℕ → List ℕ) (m : Moment K V) (known : Known) (s : Scene K V) (e : Executor K V S) → IsAt same hash e s → Shows same name m known s
       → (map i : ℕ) (u : UnderWay K V K) → s.calls map i ≡ Some u → (n : NewTable) → making_of_copier (machine_of u) ≡ Some n → HasNext map m ⊎ RootHasLeft s map u
 
-  -- and each block for which such a call asks in a step it may ask for, if the root has left none.
+  -- and each block for which such a call asks in a step it may ask for, if its map has a second table then, or had one at one of the moments before.
   abbrev pub CopiersMayAsk : Type 0
   CopiersMayAsk =
       (name : ℕ → List ℕ) (m : Moment K V) (known : Known) (s : Scene K V) (old new : Executor K V S) → IsAt same hash old s → ShowsWhole same name m known s
       → (map i : ℕ) (u : UnderWay K V K) (here : s.calls map i ≡ Some u) (said : Progress (Node K V)) → StepLeads same hash i said s old new
-      → MakesByCopier u → (RootHasLeft s map u → ⊥) → (terms : Terms) (moments : List (Moment K V))
+      → MakesByCopier u → (terms : Terms) (moments : List (Moment K V)) → ((n : NewTable) → making_of_copier (machine_of u) ≡ Some n → OneOf (HasNext map) (m ∷ moments))
       → FindAsked terms moments (name i) map (effects_of (acts.Call i map) known new.memory.changed) m

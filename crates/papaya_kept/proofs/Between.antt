@@ -50,6 +50,7 @@ use Rattle.papaya_lives.specs.Retired.{CallsStay}
 use Rattle.papaya_lives.proofs.HandedRows.{others_leave_handed}
 use Rattle.papaya_lives.proofs.LeftTables.{others_keep_left}
 use Rattle.papaya_lives.proofs.Lying.{others_leave_lying}
+use Rattle.papaya_lives.proofs.Order.{others_leave_order}
 use Rattle.papaya_lives.proofs.Reclaimed.{others_leave_retired}
 use Rattle.papaya_lives.proofs.Waiting.{others_leave_waiting}
 use Rattle.papaya_waits.specs.Others.{copier_in, copier_in_room, copier_in_sweep, copier_of}
@@ -204,6 +205,7 @@ module _ (K V S : Type 0) (same : K → K → Bool) (hash : K → ℕ) where
     waiting = others_leave_waiting K V m v known s.world kept.waiting refl refl;
     once = kept.once;
     lying = others_leave_lying K V m v known s.world kept.lying refl;
+    order = others_leave_order K V m v known s.world kept.order refl;
     retired = others_leave_retired K V m v known s (scene_with map i u s) kept.retired refl refl (calls_stay s map i (Some u) (λ is. absurd (cc is)));
     left = others_keep_left K V known s (scene_with map i u s) kept.left refl refl;
     handed = others_leave_handed K V m v known s (scene_with map i u s) kept.handed refl refl refl refl (calls_stay s map i (Some u) (λ is. absurd (cc is)));
@@ -227,6 +229,7 @@ module _ (K V S : Type 0) (same : K → K → Bool) (hash : K → ℕ) where
     waiting = others_leave_waiting K V m v known s.world kept.waiting refl refl;
     once = kept.once;
     lying = others_leave_lying K V m v known s.world kept.lying refl;
+    order = others_leave_order K V m v known s.world kept.order refl;
     retired = others_leave_retired K V m v known s (scene_with map i next s) kept.retired refl refl (calls_stay s map i (Some next) (λ is. absurd (cc is)));
     left = others_keep_left K V known s (scene_with map i next s) kept.left refl refl;
     handed = others_leave_handed K V m v known s (scene_with map i next s) kept.handed refl refl refl refl (calls_stay s map i (Some next) (λ is. absurd (cc is)));
@@ -252,6 +255,7 @@ module _ (K V S : Type 0) (same : K → K → Bool) (hash : K → ℕ) where
         waiting = kept.waiting;
         once = kept.once;
         lying = kept.lying;
+        order = kept.order;
         retired = others_leave_retired K V m m known s (scene_with map i next s) kept.retired refl refl (calls_stay s map i (Some next) (λ is. absurd (cc is)));
         left = others_keep_left K V known s (scene_with map i next s) kept.left refl refl;
         handed = others_leave_handed K V m m known s (scene_with map i next s) kept.handed refl refl refl refl (calls_stay s map i (Some next) (λ is. absurd (cc is)));
@@ -272,6 +276,7 @@ module _ (K V S : Type 0) (same : K → K → Bool) (hash : K → ℕ) where
     waiting = others_leave_waiting K V m v known s.world kept.waiting (given_deferred (name i) m stopped) (given_place (name i) m stopped);
     once = subst WaitsOnce (sym (given_deferred (name i) m stopped)) kept.once;
     lying = others_leave_lying K V m v known s.world kept.lying (given_deferred (name i) m stopped);
+    order = others_leave_order K V m v known s.world kept.order (given_deferred (name i) m stopped);
     retired = others_leave_retired K V m v known s (record s { calls = with_in s.calls map i (unless_stopped stopped u) }) kept.retired (given_tables (name i) m stopped) refl
         (calls_stay s map i (unless_stopped stopped u) (rests stopped refl));
     left = others_keep_left K V known s (record s { calls = with_in s.calls map i (unless_stopped stopped u) }) kept.left refl refl;

@@ -28,6 +28,7 @@ use Rattle.papaya_lives.proofs.Calls.{calls_keep_waiting, calls_keep_list}
 use Rattle.papaya_lives.proofs.HandedCalls.{calls_keep_handed}
 use Rattle.papaya_lives.proofs.LeftTables.{calls_keep_left}
 use Rattle.papaya_lives.proofs.LyingCalls.{calls_keep_lying}
+use Rattle.papaya_lives.proofs.OrderCalls.{calls_keep_order}
 use Rattle.papaya_lives.proofs.RetiredCalls.{calls_keep_retired}
 use Rattle.papaya_kept.specs.Kept.{ShowsKept}
 use Rattle.papaya_kept.proofs.EndCalls.{calls_keep_all_ends}
@@ -54,6 +55,7 @@ module _ (K V S : Type 0) (same : K → K → Bool) (hash : K → ℕ) where
         waiting = (waits owned).0;
         once = (waits owned).1;
         lying = calls_keep_lying K V S same hash name m known s old new at whole kept.entries owned kept.owed kept.lying map i u here said leads;
+        order = calls_keep_order K V S same hash name m known s old new at whole kept.entries owned kept.owed kept.waiting kept.lying kept.order map i u here said leads;
         retired = calls_keep_retired K V S same hash name m known s old new at whole kept.entries owned kept.retired map i u here said leads;
         left = calls_keep_left K V S same hash name m known s old new at whole owned kept.left map i u here said leads;
         handed = calls_keep_handed K V S same hash name m known s old new at whole kept.entries owned kept.waiting kept.retired kept.handed map i u here said leads;

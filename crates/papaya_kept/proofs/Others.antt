@@ -46,6 +46,7 @@ use Rattle.papaya_settles.proofs.Hand.Between.{stays_owed, effects_leave_owed}
 use Rattle.papaya_settles.proofs.Handing.{others_leave_handing}
 use Rattle.papaya_lives.specs.Behind.{ShowsWaiting, WaitsOnce}
 use Rattle.papaya_lives.specs.Lying.{ShowsLying}
+use Rattle.papaya_lives.specs.Order.{ShowsOrder}
 use Rattle.papaya_lives.proofs.HandedEnds.{endings_keep_handed}
 use Rattle.papaya_lives.proofs.HandedMakings.{makings_keep_handed}
 use Rattle.papaya_lives.proofs.HandedRows.{endings_begin_handed, others_leave_handed, rows_begin_handed, rows_keep_handed}
@@ -54,6 +55,8 @@ use Rattle.papaya_lives.proofs.LeftEnds.{endings_keep_left}
 use Rattle.papaya_lives.proofs.LeftTables.{others_keep_left, endings_begin_left, rows_begin_left, rows_keep_left, makings_keep_left}
 use Rattle.papaya_lives.proofs.Lying.{endings_begin_lying, rows_begin_lying, rows_keep_lying, makings_keep_lying}
 use Rattle.papaya_lives.proofs.LyingEnds.{endings_keep_lying}
+use Rattle.papaya_lives.proofs.Order.{endings_begin_order, rows_begin_order, rows_keep_order, makings_keep_order}
+use Rattle.papaya_lives.proofs.OrderEnds.{endings_keep_order}
 use Rattle.papaya_lives.proofs.Makings.{makings_keep_waiting, world_then, apart}
 use Rattle.papaya_lives.proofs.Once.{once_fewer, row_fewer}
 use Rattle.papaya_lives.proofs.Reclaimed.{others_leave_retired, endings_begin_retired, rows_begin_retired, rows_keep_retired, rows_find_retired}
@@ -112,6 +115,7 @@ module _ (K V S : Type 0) (same : K → K → Bool) (hash : K → ℕ) where
     waiting = rows_begin_waiting K V S same hash m known s old new kept.waiting called i may leads;
     once = kept.once;
     lying = rows_begin_lying K V S same hash m known s old new kept.lying called i may leads;
+    order = rows_begin_order K V S same hash m known s old new kept.order called i may leads;
     retired = rows_begin_retired K V S same hash m known s old new at kept.retired called i may leads;
     left = rows_begin_left K V S same hash known s old new kept.left called i may leads;
     handed = rows_begin_handed K V S same hash m known s old new at kept.handed called i may leads;
@@ -137,6 +141,7 @@ module _ (K V S : Type 0) (same : K → K → Bool) (hash : K → ℕ) where
     once = once_fewer m.deferred v.deferred
         (row_fewer known m new.memory.changed (row_tells old.memory.memory new.memory.memory new.memory.changed ((leads row here).0, said) row (leads row here).1)) kept.once;
     lying = rows_keep_lying K V S same hash name m known s old new at whole kept.lying i said leads row here;
+    order = rows_keep_order K V S same hash name m known s old new at whole kept.order i said leads row here;
     retired = rows_keep_retired K V S same hash name m known s old new at whole kept.retired i said leads row here;
     left = rows_keep_left K V S same hash name m known s old new at whole kept.left i said leads row here;
     handed = rows_keep_handed K V S same hash name m known s old new at whole kept.waiting kept.handed i said leads row here;
@@ -174,6 +179,8 @@ module _ (K V S : Type 0) (same : K → K → Bool) (hash : K → ℕ) where
     once = subst WaitsOnce (sym (apart same hash name m known s old new at whole i said leads b here of was_new).0) kept.once;
     lying = subst (ShowsLying v known2) (sym world)
         (makings_keep_lying K V S same hash name m known s old new at whole (own_made K V S same hash name m known s old at whole kept) kept.lying i said leads b here of was_new);
+    order = subst (ShowsOrder v known2) (sym world)
+        (makings_keep_order K V S same hash name m known s old new at whole (own_made K V S same hash name m known s old at whole kept) kept.waiting kept.order i said leads b here of was_new);
     retired = others_leave_retired K V v v known2 stepped led
         (makings_keep_retired K V S same hash name m known s old new at whole (own_made K V S same hash name m known s old at whole kept) kept.retired i said leads b here of was_new) refl world
         (λ j has. inl (calls_same stepped led calls j has));
@@ -220,6 +227,7 @@ module _ (K V S : Type 0) (same : K → K → Bool) (hash : K → ℕ) where
     waiting = endings_begin_waiting K V m known s kept.waiting map i standing;
     once = kept.once;
     lying = endings_begin_lying K V m known s kept.lying map i standing;
+    order = endings_begin_order K V m known s kept.order map i standing;
     retired = endings_begin_retired K V m known s kept.retired map i standing;
     left = endings_begin_left K V known s kept.left map i standing nobody;
     handed = endings_begin_handed K V m known s kept.handed map i standing;
@@ -244,6 +252,7 @@ module _ (K V S : Type 0) (same : K → K → Bool) (hash : K → ℕ) where
     waiting = endings_keep_waiting K V S same hash name m known s old new at whole kept.once kept.waiting i said leads f here map not_there;
     once = once_then same hash name m known s old new at whole kept.once kept.waiting i f here (leads f here).0 said (leads f here).1 (leads f here).2 map not_there (leads f here).3;
     lying = endings_keep_lying K V S same hash name m known s old new at whole kept.lying i said leads f here map not_there;
+    order = endings_keep_order K V S same hash name m known s old new at whole kept.order i said leads f here map not_there;
     retired = endings_keep_retired K V S same hash name m known s old new at whole kept.retired i said leads f here map not_there;
     left = endings_keep_left K V S same hash name m known s old new at whole kept.left i said leads f here map not_there;
     handed = endings_keep_handed K V S same hash name m known s old new at whole kept.waiting kept.retired kept.handed i said leads f here map not_there;

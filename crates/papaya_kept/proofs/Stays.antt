@@ -28,9 +28,11 @@ use Rattle.papaya_settles.proofs.Hand.Roles.{hand_kept}
 use Rattle.papaya_settles.proofs.Handing.{handing_begins, calls_come_to_handing}
 use Rattle.papaya_lives.specs.Behind.{ShowsWaiting, WaitsOnce}
 use Rattle.papaya_lives.specs.Lying.{ShowsLying}
+use Rattle.papaya_lives.specs.Order.{ShowsOrder}
 use Rattle.papaya_lives.proofs.HandedRows.{handed_begins, others_leave_handed}
 use Rattle.papaya_lives.proofs.LeftTables.{left_begins, others_keep_left}
 use Rattle.papaya_lives.proofs.Lying.{lying_begins, others_leave_lying}
+use Rattle.papaya_lives.proofs.Order.{order_begins, others_leave_order}
 use Rattle.papaya_lives.proofs.Reclaimed.{retired_begins, others_leave_retired}
 use Rattle.papaya_lives.proofs.Waiting.{waiting_begins, others_leave_waiting}
 use Rattle.papaya_kept.proofs.Ends.{ends_begin, ends_stay}
@@ -50,6 +52,7 @@ begins_kept K V roots name = record {
   waiting = waiting_begins K V roots;
   once = tt;
   lying = lying_begins K V roots;
+  order = order_begins K V roots;
   retired = retired_begins K V roots;
   left = left_begins K V roots;
   handed = handed_begins K V roots;
@@ -93,6 +96,7 @@ stays_kept K V name m v known s t kept listed tables deferred place world calls 
   waiting = subst (ShowsWaiting v known) (sym world) (others_leave_waiting K V m v known s.world kept.waiting deferred place);
   once = subst WaitsOnce (sym deferred) kept.once;
   lying = subst (ShowsLying v known) (sym world) (others_leave_lying K V m v known s.world kept.lying deferred);
+  order = subst (ShowsOrder v known) (sym world) (others_leave_order K V m v known s.world kept.order deferred);
   retired = others_leave_retired K V m v known s t kept.retired tables world (λ j has. inl (calls_same s t calls j has));
   left = others_keep_left K V known s t kept.left world enders;
   handed = others_leave_handed K V m v known s t kept.handed place deferred tables world (λ j has. inl (calls_same s t calls j has));
@@ -113,6 +117,7 @@ renamed_kept K V name name2 m known s agree kept = record {
   waiting = kept.waiting;
   once = kept.once;
   lying = kept.lying;
+  order = kept.order;
   retired = kept.retired;
   left = kept.left;
   handed = kept.handed;
@@ -136,6 +141,7 @@ calls_come_to_kept K V same name m known s whole kept own outcome steps none = r
   waiting = others_leave_waiting K V m (come_to own outcome steps m) known s.world kept.waiting refl refl;
   once = kept.once;
   lying = others_leave_lying K V m (come_to own outcome steps m) known s.world kept.lying refl;
+  order = others_leave_order K V m (come_to own outcome steps m) known s.world kept.order refl;
   retired = others_leave_retired K V m (come_to own outcome steps m) known s s kept.retired refl refl (λ j has. inl has);
   left = kept.left;
   handed = others_leave_handed K V m (come_to own outcome steps m) known s s kept.handed refl refl refl refl (λ j has. inl has);
@@ -156,6 +162,7 @@ makings_begin_kept K V name m known s kept i b none = record {
   waiting = kept.waiting;
   once = kept.once;
   lying = kept.lying;
+  order = kept.order;
   retired = others_leave_retired K V m m known s t kept.retired refl refl (λ j has. inl has);
   left = others_keep_left K V known s t kept.left refl refl;
   handed = others_leave_handed K V m m known s t kept.handed refl refl refl refl (λ j has. inl has);

@@ -16,12 +16,14 @@ use Rattle.papaya_lives.specs.Behind.{ShowsWaiting, WaitsOnce}
 use Rattle.papaya_lives.specs.Handed.{ShowsHanded}
 use Rattle.papaya_lives.specs.LeftTables.{ShowsLeft}
 use Rattle.papaya_lives.specs.Lying.{ShowsLying}
+use Rattle.papaya_lives.specs.Order.{ShowsOrder}
 use Rattle.papaya_lives.specs.Retired.{ShowsRetired}
 use Rattle.papaya_kept.specs.Ends.{ShowsEnds}
 
 -- What somebody has is blank, and a row within a call retires one block. Each call has made just that block for a pair, and that table, which the moment says, and is short
 -- of a growth just where it is to be refused for want of memory; one that only looks has a machine that looks. It has to count what the moment says, it owes what it has in hand, and one whose
--- row is under way hands something over. What waits behind a table does so in the memory, and behind no other table, and what can be reached through a table alone waits behind it, or is being put there; each table that the collector has is retired, or about to be; and
+-- row is under way hands something over. What waits behind a table does so in the memory, and behind no other table, and what can be reached through a table alone waits behind it, or is being put there; on the lists of tables in use pairs lie in the order in which they wait; each table that the collector
+-- has is retired, or about to be; and
 -- each that is left over is one of a map whose end is under way. Each pair that the collector has was handed over, or waits, or is in hand still. Each copying that is not over has a place that is not counted, or a call that is to
 -- end it; in blocking mode also one that is to give it up, where a place of it was.
 pub record ShowsKept {K V : Type 0} (name : ℕ → List ℕ) (m : Moment K V) (known : Known) (s : Scene K V) : Type 0 where
@@ -37,6 +39,7 @@ pub record ShowsKept {K V : Type 0} (name : ℕ → List ℕ) (m : Moment K V) (
   pub waiting : ShowsWaiting m known s.world
   pub once : WaitsOnce m.deferred
   pub lying : ShowsLying m known s.world
+  pub order : ShowsOrder m known s.world
   pub retired : ShowsRetired m known s
   pub left : ShowsLeft known s
   pub handed : ShowsHanded m known s

@@ -22,6 +22,14 @@ runs_begin_in K V same terms name known w whole kept came = record {
     whole = whole;
     numbers = (numbers_begin K V, pairs_begin K V);
     kept = kept;
+    finding = record {
+      growing = λ n i u is. absurd (cc is);
+      further = λ n i u is. absurd (cc is);
+      capacities = λ n st is. absurd (cc is);
+      waits = λ n i u is word some c found k owed. absurd (cc is);
+      puts = λ n i u is word place due. absurd (cc is);
+    };
+    nexts = λ n i u is c found. absurd (cc is);
     counters = record {
       shards = λ n st is shard few. absurd (cc is);
       makes = λ i b is. absurd (cc is);
@@ -52,6 +60,7 @@ runs_begin_in K V same terms name known w whole kept came = record {
   follows = λ alone. inl (record { before = []; came = came; alike = start_alike (HasNumber known []) });
   order = (all_in_order_at_first K V, tt);
   over = λ closed. absurd (cc closed);
+  left = λ n. refl;
 }
 
 pub runs_begin : (K V : Type 0) → RunsBegin K V

@@ -1,27 +1,33 @@
 -- What a moment shows of calls is so on between the steps of events.
-use Rattle.std.specs.Prelude.{◌≡◌, ◌≤◌, nat_lt, ℕ, Bool, true, false, List, Option, Some, None, if◌then◌else◌}
+use Rattle.std.specs.Prelude.{◌≡◌, ◌≤◌, ◌==◌, nat_lt, ℕ, Bool, true, false, List, [], ◌∷◌, not, Option, Some, None, if◌then◌else◌}
 use Rattle.std.proofs.Common.{refl, ap, sym, subst, ◌∙◌, inl, inr, arith}
+use Rattle.std.proofs.lemmas.Bool.{cases_eq}
 use Rattle.papaya_histories.specs.Given.SeizeWords.declared.fault.Fault.TheVariants.{Memory}
 use Rattle.papaya_histories.specs.Given.Sweeps.SweepPoints.{after_next, next_at}
 use Rattle.papaya_histories.specs.Given.Sweeps.declared.sweep.Sweep.{Sweep}
 use Rattle.papaya_histories.specs.Given.Sweeps.declared.sweep.Sweeping.{Sweeping}
 use Rattle.papaya_histories.specs.Given.Sweeps.declared.sweep.Sweeping.TheVariants as sweeping
+use Rattle.papaya_histories.specs.Given.Raw.declared.machines.machine.Machine.{Machine}
 use Rattle.papaya_histories.specs.Given.Points.FactsCalls.{Unchanged}
+use Rattle.papaya_histories.specs.Given.Runs.Same.{is_same}
+use Rattle.papaya_histories.specs.Given.Schedules.declared.effect.Thing.TheVariants.{APair}
 use Rattle.papaya_histories.specs.Given.Schedules.After.{moment}
 use Rattle.papaya_histories.specs.Given.Schedules.Beginning.{with_call, with_map}
 use Rattle.papaya_histories.specs.Given.Schedules.declared.outcome.Outcome.TheVariants.{Refused}
 use Rattle.papaya_histories.specs.Given.Schedules.Moment.{UnderWay as CallThere, Stands, Asking, Moment}
-use Rattle.papaya_histories.specs.Given.Schedules.Views.{call_of}
+use Rattle.papaya_histories.specs.Given.Schedules.Views.{call_of, map_at}
 use Rattle.papaya_histories.specs.Given.Callers.OverAll.{CallOverAll, gone_on}
 use Rattle.papaya_histories.specs.Given.Callers.Rooms.{CallForRoom}
 use Rattle.papaya_histories.specs.Given.Callers.Together.{UnderWay, CallOnKey, OnKey, ForRoom, Counting, OverAll}
 use Rattle.papaya_histories.specs.Given.Effects.Known.{Known}
+use Rattle.papaya_histories.proofs.Given.Callers.Together.At.{at_other, at_same}
 use Rattle.papaya_histories.specs.Given.Executor.Beginning.{Begins}
+use Rattle.papaya_histories.specs.Given.Executor.Ending.{ending_begun}
 use Rattle.papaya_histories.specs.Given.Executor.IsAt.{Scene, HasCall}
 use Rattle.papaya_histories.specs.Given.Executor.Replying.{scene_with, unless_stopped}
 use Rattle.papaya_histories.specs.Given.Finishes.Machines.{machine_of}
 use Rattle.papaya_histories.specs.Given.Finishes.Maps.{Standing, with_call as with_call_of}
-use Rattle.papaya_histories.specs.Given.Follows.Calling.{NoneNamed}
+use Rattle.papaya_histories.specs.Given.Follows.Calling.{NoneNamed, told}
 use Rattle.papaya_histories.specs.Given.Follows.Calls.{IsCalled, ShowsCalls as IsThere}
 use Rattle.papaya_histories.specs.Given.Hands.Asked.{as_told}
 use Rattle.papaya_histories.specs.Given.Others.Elsewhere.{HasSame}
@@ -34,7 +40,7 @@ use Rattle.papaya_histories.proofs.Given.Moments.Calls.{calls_begin_whole, calls
 use Rattle.papaya_histories.proofs.Given.Moments.Ends.{endings_begin_whole}
 use Rattle.papaya_histories.proofs.Given.Moments.MapsCome.{makings_begin_whole, maps_come_whole}
 use Rattle.papaya_histories.proofs.Given.Moments.NewMaps.{pairs_stay_as_maps_come, pairs_stay_as_maps_go}
-use Rattle.papaya_histories.proofs.Given.Moments.Numbers.{maps_come_by_number, maps_go}
+use Rattle.papaya_histories.proofs.Given.Moments.Numbers.{maps_come_by_number, maps_go, numbers_are_below}
 use Rattle.papaya_histories.proofs.Given.Moments.Over.{endings_are_over_whole}
 use Rattle.papaya_histories.proofs.Given.Moments.Walks.{walks_go_on_whole, walks_stop_whole}
 use Rattle.papaya_histories.specs.Answers.{NamesPair}
@@ -48,6 +54,12 @@ use Rattle.papaya_histories.proofs.DueOn.{calls_begin_due, calls_take_due, event
 use Rattle.papaya_histories.proofs.NoKey.AsCalledOn.{calls_begin_as_called, calls_take_as_called}
 use Rattle.papaya_histories.proofs.Questions.{calls_begin_questions, calls_come_to_questions, calls_take_questions}
 use Rattle.papaya_histories.specs.Questions.{AsksStill, ShowsQuestions}
+use Rattle.papaya_settles.specs.Hand.{ShowsOwed, in_hand}
+use Rattle.papaya_settles.proofs.Hand.Asked.{asked_stays, told_stays}
+use Rattle.papaya_finds.specs.Capacities.{StoodSo}
+use Rattle.papaya_finds.proofs.Grows.Between.{calls_begin_growing, calls_take_growing, walks_go_on_growing}
+use Rattle.papaya_finds.proofs.Waits.Between.{calls_begin_waits}
+use Rattle.papaya_kept.specs.Kept.{ShowsKept}
 use Rattle.papaya_kept.proofs.Between.{calls_begin_kept, calls_take_kept, uncounted_at_first, walks_go_on_kept, walks_stop_kept}
 use Rattle.papaya_kept.proofs.Others.{endings_begin_kept}
 use Rattle.papaya_kept.proofs.Renamed.{asked, renamed, shows}
@@ -62,12 +74,19 @@ use Rattle.papaya_shards.proofs.ShardBetween.{calls_begin_counters, calls_take_c
 use Rattle.papaya_shards.proofs.ShardOthers.{endings_begin_counters, makings_begin_counters}
 use Rattle.papaya_legal.specs.Between.{CallsBegin, CallsTake, EndsBegin, LikesShow, LogsGrow, MakingsBegin, MapsCome, MapsGo, NamesChange, WalksGoOn, WalksStop}
 use Rattle.papaya_legal.specs.Carried.{NoneCounted, ShowsCalls}
+use Rattle.papaya_legal.specs.Finding.{ShowsFinding}
+use Rattle.papaya_legal.proofs.Finding.Alike.{finding_fewer, stood_as}
+use Rattle.papaya_legal.proofs.Finding.Nexts.{calls_begin_nexts, calls_take_nexts, nexts_grow, nexts_where, walks_go_on_nexts, walks_stop_nexts}
+use Rattle.papaya_legal.proofs.Finding.Making.Between.{calls_begin_further, calls_take_further, walks_go_on_further}
+use Rattle.papaya_legal.proofs.Finding.Between.{asked_same, fewer_calls, finding_where, found_beside, found_kept, none_at_first, puts_begun, puts_on, replied_same, waits_on}
 
 pub likes_show : (K V : Type 0) (same : K → K → Bool) → LikesShow K V same
 likes_show K V same name log m v known s all like = subst (λ (x : Moment K V). ShowsCalls same name log x known s) (sym like) (record {
   whole = all_stays_shown K V same name m known s all.whole v.events v.is_mapped v.is_closed v.is_alone v.there v.slots v.sheltered v.remains;
   numbers = (record { found = all.numbers.0.found; below = all.numbers.0.below; tables = all.numbers.0.tables }, all.numbers.1);
   kept = stays_kept K V name m other known s s all.kept refl refl refl refl refl refl refl refl refl;
+  finding = record { growing = all.finding.growing; further = all.finding.further; capacities = all.finding.capacities; waits = all.finding.waits; puts = all.finding.puts };
+  nexts = all.nexts;
   counters = counters_stay K V name m other s s all.counters refl refl refl refl refl (λ of j x is removed adds. (x, is, adds));
   uncounted = all.uncounted;
   dues = (dues_stay K V (Unit {0}) same (λ k. 0) name log).alike m other known s all.dues alike;
@@ -96,6 +115,8 @@ logs_grow K V same name log e known s all = record {
   whole = all.whole;
   numbers = all.numbers;
   kept = all.kept;
+  finding = all.finding;
+  nexts = nexts_grow name log e (moment (e ∷ log)) s all.purposes.begun all.nexts;
   counters = all.counters;
   uncounted = all.uncounted;
   dues = events_keep_due K V same name log e known s all.dues;
@@ -114,6 +135,14 @@ names_change K V same name name2 log m known s agree all = record {
   whole = renamed same name name2 m known s agree all.whole;
   numbers = all.numbers;
   kept = renamed_kept K V name name2 m known s agree all.kept;
+  finding = record {
+    growing = all.finding.growing;
+    further = all.finding.further;
+    capacities = all.finding.capacities;
+    waits = λ map i u is word some c c_is k owed. all.finding.waits map i u is word some c (as_named map i u is c c_is) k owed;
+    puts = all.finding.puts;
+  };
+  nexts = λ map i u is c c_is. all.nexts map i u is c (as_named map i u is c c_is);
   counters = record {
     shards = all.counters.shards;
     makes = all.counters.makes;
@@ -230,6 +259,14 @@ module _ (K V S : Type 0) (same : K → K → Bool) (hash : K → ℕ) where
         whole = whole;
         numbers = (record { found = all.numbers.0.found; below = all.numbers.0.below; tables = all.numbers.0.tables }, all.numbers.1);
         kept = calls_begin_kept K V S same hash name m known s old new at all.whole all.kept map i standing there u call guard begins right.called right.given none rests at2 whole.all.shown;
+        finding = record {
+          growing = calls_begin_growing K V same m s all.finding.growing standing map i u begins;
+          further = calls_begin_further same m s all.finding.further standing map i u begins;
+          capacities = all.finding.capacities;
+          waits = calls_begin_waits K V name m s all.finding.waits map i u call guard none (none_at_first same standing i u begins).0;
+          puts = puts_begun known s map i u (none_at_first same standing i u begins).1 all.finding.puts;
+        };
+        nexts = calls_begin_nexts same name log m s all.nexts map i u guard call standing begins none;
         counters = calls_begin_counters K V name m s all.counters map i u call guard none (uncounted_at_first K V same standing i u begins);
         uncounted = all.uncounted;
         dues = calls_begin_due K V S same hash name log m known s old at all.dues map i u call guard standing there (began_now same standing i u begins) (unchanged same standing i u begins) none right.called
@@ -242,10 +279,19 @@ module _ (K V S : Type 0) (same : K → K → Bool) (hash : K → ℕ) where
   pub calls_take : CallsTake K V S same hash
   calls_take name log m known s old new at all map i u here c c_is question asks standing there is_told next next_is takes told_kind taken at2 =
       let whole = calls_take_whole K V S same hash name m known s old at all.whole map i u here c c_is question asks standing there is_told next next_is takes told_kind in
+      let kept = calls_take_kept K V S same hash name m known s old new at all.whole all.kept map i u here (as_told is_told) next next_is is_told at2 whole.all.shown in
       record {
         whole = whole;
         numbers = (record { found = all.numbers.0.found; below = all.numbers.0.below; tables = all.numbers.0.tables }, all.numbers.1);
-        kept = calls_take_kept K V S same hash name m known s old new at all.whole all.kept map i u here (as_told is_told) next next_is is_told at2 whole.all.shown;
+        kept = kept;
+        finding = record {
+          growing = calls_take_growing K V m s all.finding.growing map i u here (as_told is_told) next next_is;
+          further = calls_take_further m s all.finding.further map i u here next (as_told is_told) next_is;
+          capacities = all.finding.capacities;
+          waits = waits_on K V same name m (told (name i) is_told m) known s map i u here next all.whole.all.shown.calls all.kept.owed kept.owed stays goes (λ n j x is k waits held. held) all.finding.waits;
+          puts = puts_on K V same name m (told (name i) is_told m) known s map i u here next all.whole.all.shown.calls all.kept.owed kept.owed stays goes all.finding.puts;
+        };
+        nexts = calls_take_nexts same name log m s all.nexts map i u here all.whole.all.shown.calls next is_told (as_told is_told) next_is;
         counters = calls_take_counters K V same name m known s all.whole all.counters map i u here (as_told is_told) next next_is is_told;
         uncounted = all.uncounted;
         dues = calls_take_due K V S same hash name log m known s old at all.dues map i u here c c_is question asks standing there is_told next next_is takes told_kind taken;
@@ -254,6 +300,12 @@ module _ (K V S : Type 0) (same : K → K → Bool) (hash : K → ℕ) where
         purposes = calls_take_purposes K V S same hash name log m known s old at all.whole all.purposes map i u here c c_is question asks (asks_about known u question about) standing there is_told next takes told_kind;
       }
     where
+      stays : in_hand known (machine_of next) ≡ in_hand known (machine_of u)
+      stays = ap (λ (z : Machine K V K). in_hand known z) next_is ∙ (told_stays known (machine_of u) (as_told is_told)).0
+
+      goes : (n : ℕ) → in_hand known (machine_of u) ≡ APair n ∷ [] → machine_of next ≡ machine_of u
+      goes n e = next_is ∙ replied_same known n (machine_of u) (as_told is_told) e
+
       about : (o : CallOverAll) → u ≡ OverAll o → SweepAsks known o.sweep.stands question
       about o is = (its o is).asks question asks
         where
@@ -264,7 +316,15 @@ module _ (K V S : Type 0) (same : K → K → Bool) (hash : K → ℕ) where
   walks_go_on name log m known s old new at all i leads map o here is = record {
     whole = walks_go_on_whole K V S same hash name m known s old new all.whole i leads map (OverAll o) here;
     numbers = all.numbers;
-    kept = walks_go_on_kept K V S same hash name m known s old new all.whole all.kept i leads map (OverAll o) here;
+    kept = kept;
+    finding = record {
+      growing = walks_go_on_growing K V m s all.finding.growing map i (OverAll o) here next (leads map (OverAll o) here).1;
+      further = walks_go_on_further m s all.finding.further map i (OverAll o) here next (leads map (OverAll o) here).1;
+      capacities = all.finding.capacities;
+      waits = waits_on K V same name m m known s map i (OverAll o) here next all.whole.all.shown.calls all.kept.owed kept.owed stays goes (λ n j x there k waits held. held) all.finding.waits;
+      puts = puts_on K V same name m m known s map i (OverAll o) here next all.whole.all.shown.calls all.kept.owed kept.owed stays goes all.finding.puts;
+    };
+    nexts = walks_go_on_nexts same name log m s all.nexts map i (OverAll o) here all.whole.all.shown.calls next (leads map (OverAll o) here).1;
     counters = on_counters name m s map i (Some next) its all.counters;
     uncounted = all.uncounted;
     dues = (dues_stay K V S same hash name log).walks m known s old new at all.whole all.dues i leads map o here is;
@@ -276,6 +336,15 @@ module _ (K V S : Type 0) (same : K → K → Bool) (hash : K → ℕ) where
       next : UnderWay K V K
       next = (leads map (OverAll o) here).0
 
+      kept : ShowsKept name m known (scene_with map i next s)
+      kept = walks_go_on_kept K V S same hash name m known s old new all.whole all.kept i leads map (OverAll o) here
+
+      stays : in_hand known (machine_of next) ≡ in_hand {K = K} {V = V} {Q = K} known (machine_of {K = K} {V = V} {Q = K} (OverAll o))
+      stays = ap (λ (z : Machine K V K). in_hand known z) (leads map (OverAll o) here).1 ∙ (asked_stays known (machine_of {K = K} {V = V} {Q = K} (OverAll o))).0
+
+      goes : (n : ℕ) → in_hand {K = K} {V = V} {Q = K} known (machine_of {K = K} {V = V} {Q = K} (OverAll o)) ≡ APair n ∷ [] → machine_of next ≡ machine_of (OverAll o)
+      goes n e = (leads map (OverAll o) here).1 ∙ asked_same known n (machine_of {K = K} {V = V} {Q = K} (OverAll o)) e
+
       its : (x : UnderWay K V K) → ◌≡◌ {A = Option (UnderWay K V K)} (Some next) (Some x) → (removed : ℕ) → adds_of (machine_of x) ≡ Some removed → Had name m s map i (Some next) map i removed
       its x e removed adds =
           let x_is : x ≡ OverAll (gone_on o (after_next o.sweep)) = sym (one_of next x e) ∙ is in
@@ -285,7 +354,9 @@ module _ (K V S : Type 0) (same : K → K → Bool) (hash : K → ℕ) where
   walks_stop name log m known s old new at all i stopped leads map u here none = record {
     whole = walks_stop_whole K V S same hash name m known s old new all.whole i stopped leads map u here none;
     numbers = given_numbers (name i) m stopped all.numbers;
-    kept = walks_stop_kept K V S same hash name m known s old new at all.whole all.kept i stopped leads map u here none;
+    kept = kept;
+    finding = fewer_find stopped kept.owed;
+    nexts = walks_stop_nexts same name log m s all.nexts map i u here all.whole.all.shown.calls u stopped none;
     counters = by stopped none;
     uncounted = given_uncounted (name i) m stopped all.uncounted;
     dues = (dues_stay K V S same hash name log).walks_stop m known s old new at all.whole all.dues i stopped leads map u here none;
@@ -296,6 +367,17 @@ module _ (K V S : Type 0) (same : K → K → Bool) (hash : K → ℕ) where
     where
       at_end : Bool → Scene K V
       at_end q = record s { calls = with_call_of s.calls map i (unless_stopped q u) }
+
+      kept : ShowsKept name (given_up (name i) stopped m) known (at_end stopped)
+      kept = walks_stop_kept K V S same hash name m known s old new at all.whole all.kept i stopped leads map u here none
+
+      fewer_find : (q : Bool) → ShowsOwed name (given_up (name i) q m) known (at_end q) → ShowsFinding name (given_up (name i) q m) known (at_end q)
+      fewer_find true owed =
+          finding_fewer K V same name m (given_up (name i) true m) known s (at_end true) all.whole.all.shown.calls all.kept.owed owed (fewer_calls s map i u here true) (stood_as s (at_end true) refl)
+          refl refl refl refl refl refl all.finding
+      fewer_find false owed =
+          finding_fewer K V same name m (given_up (name i) false m) known s (at_end false) all.whole.all.shown.calls all.kept.owed owed (fewer_calls s map i u here false) (stood_as s (at_end false) refl)
+          refl refl refl refl refl refl all.finding
 
       fewer : IsThere same name m (at_end true).calls
       fewer n j x is = elim (which s.calls map i None n j x is) as (λ _. (c : CallThere K V) × (call_of (name j) m ≡ Some c) × (c.map ≡ n) × IsCalled same x c.call) [
@@ -317,6 +399,8 @@ module _ (K V S : Type 0) (same : K → K → Bool) (hash : K → ℕ) where
           whole = maps_come_whole K V same name m known s all.whole there come.1;
           numbers = (come.0, pairs_stay_as_maps_come K V m all.numbers.1 there);
           kept = stays_kept K V name m (with_map there m) known s s all.kept refl refl refl refl refl refl refl refl refl;
+          finding = finding_where same hash name m (with_map there m) known s e at still refl refl refl refl refl refl all.finding;
+          nexts = nexts_where same hash name log m (with_map there m) s e at all.nexts still refl refl;
           counters = counters_stay K V name m (with_map there m) s s all.counters refl refl refl refl refl (λ of j x is removed adds. (x, is, adds));
           uncounted = λ of low. (let l : m.made ≤ of = omega (arith, low) in all.uncounted of l);
           dues = (dues_stay K V S same hash name log).maps_come m known s e e at all.whole all.dues there come.1;
@@ -326,12 +410,20 @@ module _ (K V S : Type 0) (same : K → K → Bool) (hash : K → ℕ) where
         },
         (let l : m.made ≤ there.number = omega (arith, number) in all.uncounted there.number l),
       )
+    where
+      still : (n : ℕ) (st : Standing K) → s.maps n ≡ Some st → map_at n (with_map there m) ≡ map_at n m
+      still n st stands =
+          let f = (all.whole.all.shown.maps n st stands).there in
+          let below = numbers_are_below K V m all.numbers.0 n f.there f.is in
+          found_beside m.maps there n (λ one. omega (arith, one, below, number))
 
   pub makings_begin : MakingsBegin K V S same hash
   makings_begin name log m known s old new at all i b none not_made uncounted at2 = record {
     whole = makings_begin_whole K V same name m known s all.whole i b not_made;
     numbers = all.numbers;
     kept = makings_begin_kept K V name m known s all.kept i b none;
+    finding = record { growing = all.finding.growing; further = all.finding.further; capacities = all.finding.capacities; waits = all.finding.waits; puts = all.finding.puts };
+    nexts = all.nexts;
     counters = makings_begin_counters K V name m s all.counters i b not_made uncounted;
     uncounted = all.uncounted;
     dues = (dues_stay K V S same hash name log).makings_begin m known s old new at all.whole all.dues i b at2;
@@ -344,7 +436,9 @@ module _ (K V S : Type 0) (same : K → K → Bool) (hash : K → ℕ) where
   ends_begin name log m known s old new at all map i standing there idle at2 = record {
     whole = endings_begin_whole K V S same hash name m known s new all.whole map i standing there at2;
     numbers = all.numbers;
-    kept = endings_begin_kept K V S same hash name m known s old new at all.kept map i standing idle at2;
+    kept = kept;
+    finding = finding_fewer K V same name m m known s (ending_begun map i standing s) all.whole.all.shown.calls all.kept.owed kept.owed (λ n j x is. is) stood refl refl refl refl refl refl all.finding;
+    nexts = all.nexts;
     counters = endings_begin_counters K V name m s all.counters map i standing;
     uncounted = all.uncounted;
     dues = (dues_stay K V S same hash name log).endings_begin m known s old new at all.whole all.dues map i standing there at2;
@@ -352,12 +446,23 @@ module _ (K V S : Type 0) (same : K → K → Bool) (hash : K → ℕ) where
     questions = all.questions;
     purposes = (purposes_stay K V S same hash name log).endings_begin m known s old new at all.whole all.purposes map i standing there at2;
   }
+    where
+      kept : ShowsKept name m known (ending_begun map i standing s)
+      kept = endings_begin_kept K V S same hash name m known s old new at all.kept map i standing idle at2
+
+      stood : StoodSo s (ending_begun map i standing s)
+      stood n st stands = elim (cases_eq n map) as (λ _. (before : Standing K) × (s.maps n ≡ Some before) × (st.setting.initial ≡ before.setting.initial)) [
+        | inl e ↦ absurd (let gone = at_same s.maps map None n e in cc (gone, stands))
+        | inr ne ↦ (st, sym (at_other s.maps map None n ne) ∙ stands, refl)
+      ]
 
   pub maps_gone : MapsGo K V S same hash
   maps_gone name log m known s e at all own remains apart = record {
     whole = endings_are_over_whole K V same name m known s all.whole own remains all.numbers.0.found apart;
     numbers = (maps_go K V m all.numbers.0 own remains, pairs_stay_as_maps_go K V m all.numbers.1 own remains);
     kept = stays_kept K V name m (without_map own remains m) known s s all.kept refl refl refl refl refl refl refl refl refl;
+    finding = finding_where same hash name m (without_map own remains m) known s e at still refl refl refl refl refl refl all.finding;
+    nexts = nexts_where same hash name log m (without_map own remains m) s e at all.nexts still refl refl;
     counters = counters_stay K V name m (without_map own remains m) s s all.counters refl refl refl refl refl (λ of j x is removed adds. (x, is, adds));
     uncounted = all.uncounted;
     dues = (dues_stay K V S same hash name log).endings_over m known s e e at all.whole all.dues own remains apart;
@@ -365,3 +470,8 @@ module _ (K V S : Type 0) (same : K → K → Bool) (hash : K → ℕ) where
     questions = all.questions;
     purposes = (purposes_stay K V S same hash name log).endings_over m known s e e at all.whole all.purposes own remains apart;
   }
+    where
+      still : (n : ℕ) (st : Standing K) → s.maps n ≡ Some st → map_at n (without_map own remains m) ≡ map_at n m
+      still n st stands =
+          let f = (all.whole.all.shown.maps n st stands).there in
+          found_kept (λ g. g.number == n) (λ g. not (is_same g.name own)) m.maps f.there f.is (ap not (apart n st f.there stands f.is)) ∙ sym f.is

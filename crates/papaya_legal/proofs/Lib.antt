@@ -1,4 +1,5 @@
 -- Lemmas on the events of a run, and on what is carried from each to the next.
+pub mod Finding
 pub mod Begin
 pub mod Uncounted
 pub mod Between
@@ -13,6 +14,8 @@ pub mod Slots
 pub mod SlotsEnd
 pub mod Maps
 pub mod MapsEnd
+pub mod LeftTold
+pub mod BehindTold
 pub mod CallsAfter
 pub mod CallFinds
 pub mod CallLeaves

@@ -36,6 +36,7 @@ use Rattle.papaya_finds.proofs.Runs.{events_keep_order}
 use Rattle.papaya_legal.specs.Between.{IsLike}
 use Rattle.papaya_legal.specs.Carried.{FollowsOrRows}
 use Rattle.papaya_legal.specs.Over.{IdleEventsEnd, LeavesAll, QuietEventsEnd, RunsByOtherNames, RunsGoOn}
+use Rattle.papaya_legal.proofs.LeftTold.{events_tell_left}
 use Rattle.papaya_legal.proofs.Between.{likes_show, logs_grow, named_as, names_change}
 
 pub runs_go_on : (K V : Type 0) (same : K → K → Bool) → RunsGoOn K V same
@@ -46,6 +47,7 @@ runs_go_on K V same name name2 terms log first known before s run e right life s
   follows = follows;
   order = events_keep_order K V terms log e goes run.order;
   over = over_stays_back K V terms log e goes reclaims run.over;
+  left = events_tell_left K V terms log e goes reclaims run.order.0 run.left;
 }
   where
     goes : GoesInOrder terms log e
@@ -62,6 +64,7 @@ runs_by_other_names K V same name name2 terms log known s agree run = record {
   follows = run.follows;
   order = run.order;
   over = run.over;
+  left = run.left;
 }
   where
     as_named : (map i : ℕ) (u : UnderWay K V K) → s.calls map i ≡ Some u → (c : CallThere K V) → call_of (name2 i) (moment log) ≡ Some c → call_of (name i) (moment log) ≡ Some c

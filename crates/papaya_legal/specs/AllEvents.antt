@@ -1,5 +1,5 @@
 -- Events that reclaim all: in the midst of one, wherever a chain of its steps has led, and at its end.
-use Rattle.std.specs.Prelude.{◌≡◌, ◌⊎◌, ◌<◌, ◌^◌, ◌+◌, ℕ, Bool, true, false, List, [], ◌∷◌, ◌++◌, Option, None, flat_map, if◌then◌else◌}
+use Rattle.std.specs.Prelude.{◌≡◌, ◌⊎◌, ◌<◌, ◌^◌, ◌+◌, ℕ, Bool, true, false, List, [], ◌∷◌, ◌++◌, Option, None, flat_map, map, if◌then◌else◌}
 use Rattle.std.specs.List.{list_all}
 use Rattle.papaya_histories.specs.Given.Seize.ReclaimAll.{clearing, reclaiming_all}
 use Rattle.papaya_histories.specs.Given.Seize.Sequence.{taken_in}
@@ -43,7 +43,7 @@ use Rattle.papaya_models.specs.Turns.{CameByTurns}
 use Rattle.papaya_finds.specs.Little.{ReclaimsAll}
 use Rattle.papaya_finds.specs.Orderly.{is_left_over}
 use Rattle.papaya_legal.specs.CallEvents.{IsLegalBut}
-use Rattle.papaya_legal.specs.Carried.{ComesAlone, ShowsCalls, ShowsRun}
+use Rattle.papaya_legal.specs.Carried.{ComesAlone, LeftIsTold, ShowsCalls, ShowsRun}
 use Rattle.papaya_legal.specs.Chains.{Chain, Come}
 
 -- How far an event has come that reclaims all: as events do, with its machine, and with these lists behind the roots still.
@@ -72,6 +72,12 @@ BehindIsLeft roots m known lists = flat_map (λ (b : ℕ). things_of (known.role
 -- each pair in a block behind a root is left over
 abbrev pub BehindAreLeft : {K V : Type 0} → ℕ → Moment K V → Known → (ℕ → List ℕ) → Type 0
 BehindAreLeft roots m known lists = (b n : ℕ) → 0 < times b (all_lists lists roots) → known.roles b ≡ role.Pair n → m.place n ≡ Left
+
+-- The promise: so it is where what is behind the roots is noted as the pairs that the moment tells, and those are the ones that are left over.
+abbrev pub BehindIsTold : Type 0 → Type 0 → Type 0
+BehindIsTold K V =
+    (roots : ℕ) (m : Moment K V) (known : Known) (lists : ℕ → List ℕ) → map known.roles (all_lists lists roots) ≡ map role.Pair (flat_map (λ r. r.pairs) m.remains) → LeftIsTold m
+    → LeftIsBehind roots m known lists × BehindIsLeft roots m known lists × BehindAreLeft roots m known lists
 
 module _ {K V : Type 0} (roots : ℕ) (first : Known) (began : World (Node K V)) (behind : ℕ → List ℕ) where
   -- What it has reclaimed so far, as it was noted at first, since it began in that world with these lists behind the roots: blocks that were retired, and after all of these those that are behind

@@ -1,12 +1,13 @@
 -- What is so after each event of a run, of the moment and of the scene that it shows: by this each promise is had of the next event.
-use Rattle.std.specs.Prelude.{◌≡◌, ◌⊎◌, ◌≤◌, ℕ, Bool, true, ◌&&◌, List, []}
+use Rattle.std.specs.Prelude.{◌≡◌, ◌⊎◌, ◌≤◌, ℕ, Bool, true, ◌&&◌, List, [], flat_map}
 use Rattle.std.specs.List.{list_all}
 use Rattle.papaya_histories.specs.Given.Seize.World.{World}
 use Rattle.papaya_histories.specs.Given.Tables.Nodes.{deferred_word}
 use Rattle.papaya_histories.specs.Given.Tables.declared.node.Node.{Node}
 use Rattle.papaya_histories.specs.Given.Schedules.declared.event.Event.{Event}
-use Rattle.papaya_histories.specs.Given.Schedules.After.{is_by, moment}
+use Rattle.papaya_histories.specs.Given.Schedules.After.{after, is_by, moment}
 use Rattle.papaya_histories.specs.Given.Schedules.Entry.{Entry, speaker}
+use Rattle.papaya_histories.specs.Given.Schedules.Lists.{is_among}
 use Rattle.papaya_histories.specs.Given.Schedules.Model.{sets_in, things_in}
 use Rattle.papaya_histories.specs.Given.Schedules.Moment.{Moment, start}
 use Rattle.papaya_histories.specs.Given.Schedules.Terms.{Terms}
@@ -24,9 +25,12 @@ use Rattle.papaya_models.specs.CallEvents.{IsInItsRow}
 use Rattle.papaya_models.specs.Follows.{FollowsModel}
 use Rattle.papaya_models.specs.Turns.{CameByTurns}
 use Rattle.papaya_shards.specs.ShardWords.{IsUncounted, ShowsCounters}
-use Rattle.papaya_finds.specs.Little.{OverIsBack}
-use Rattle.papaya_finds.specs.Within.{AllIsInOrder, ReadyOweNone}
+use Rattle.papaya_finds.specs.Little.{OverIsBack, ReclaimsAll}
+use Rattle.papaya_finds.specs.Orderly.{is_left_over}
+use Rattle.papaya_finds.specs.Within.{AllIsInOrder, GoesInOrder, ReadyOweNone}
 use Rattle.papaya_kept.specs.Kept.{ShowsKept}
+use Rattle.papaya_legal.specs.Finding.{ShowsFinding}
+use Rattle.papaya_legal.specs.Nexts.{ShowsNexts}
 
 -- calls came one after another so far, and the event is one of those that do
 abbrev pub ComesAlone : {K V : Type 0} → Event K V → List (Entry K V) → Type 0
@@ -36,12 +40,14 @@ ComesAlone event log = ((moment log).is_alone && list_all (is_by (speaker event)
 abbrev pub NoneCounted : {K V : Type 0} → Moment K V → Type 0
 NoneCounted m = (of : ℕ) → m.made ≤ of → IsUncounted of m
 
--- What a moment shows beside who is there, wherever in an event it is, so far since the log: numbers of maps; what every step keeps; the shards of maps; what calls owe as answers, are called for,
--- have asked, and are for.
+-- What a moment shows beside who is there, wherever in an event it is, so far since the log: numbers of maps; what every step keeps; by what steps of calls find what they must, and for what copiers make tables; the shards of maps;
+-- what calls owe as answers, are called for, have asked, and are for.
 pub record ShowsCalls {K V : Type 0} (same : K → K → Bool) (name : ℕ → List ℕ) (log : List (Entry K V)) (m : Moment K V) (known : Known) (s : Scene K V) : Type 0 where
   pub whole : ShowsWhole same name m known s
   pub numbers : NumbersMaps m × PairsAreBelow m
   pub kept : ShowsKept name m known s
+  pub finding : ShowsFinding name m known s
+  pub nexts : ShowsNexts name log m s
   pub counters : ShowsCounters name m s
   pub uncounted : NoneCounted m
   pub dues : ShowsDue same name log m known s
@@ -54,8 +60,12 @@ abbrev pub FollowsOrRows : {K V : Type 0} → Terms → List (Entry K V) → Kno
 FollowsOrRows terms log known w =
     FollowsModel terms.batch_size terms.roots log known w ⊎ ((i : ℕ) × IsInItsRow terms.batch_size terms.roots (things_in log) (sets_in terms.batch_size log) (slot_of i) i known w)
 
+-- The pairs that ended maps have left over are those that the moment tells.
+abbrev pub LeftIsTold : {K V : Type 0} → Moment K V → Type 0
+LeftIsTold m = (n : ℕ) → is_left_over (m.place n) ≡ is_among n (flat_map (λ r. r.pairs) m.remains)
+
 -- And once an event is over: no lookup has read more than the moment says; sections hold what they shelter; where calls came one after another so far, the waiting sets are those of the
--- model, but for a row that is under way; all waits in order; and once the collector has ended all is back.
+-- model, but for a row that is under way; all waits in order; once the collector has ended all is back; and what ended maps have left over is told.
 pub record ShowsRun {K V : Type 0} (same : K → K → Bool) (name : ℕ → List ℕ) (terms : Terms) (log : List (Entry K V)) (known : Known) (s : Scene K V) : Type 0 where
   pub calls : ShowsCalls same name log (moment log) known s
   pub reading : ShowsReading name log (λ i. 0) (moment log) s
@@ -63,8 +73,14 @@ pub record ShowsRun {K V : Type 0} (same : K → K → Bool) (name : ℕ → Lis
   pub follows : (moment log).is_alone ≡ true → FollowsOrRows terms log known s.world
   pub order : AllIsInOrder (moment log) × ReadyOweNone (moment log)
   pub over : OverIsBack (moment log)
+  pub left : LeftIsTold (moment log)
 
--- The promises: so it is before all events;
+-- The promises: an event that goes in order tells what is left over after it;
+abbrev pub EventsTellLeft : Type 0 → Type 0 → Type 0
+EventsTellLeft K V =
+    (terms : Terms) (log : List (Entry K V)) (e : Entry K V) → GoesInOrder terms log e → ReclaimsAll log e → AllIsInOrder (moment log) → LeftIsTold (moment log) → LeftIsTold (after e (moment log))
+
+-- so it is before all events;
 abbrev pub RunsBegin : Type 0 → Type 0 → Type 0
 RunsBegin K V = (same : K → K → Bool) (terms : Terms) (name : ℕ → List ℕ) → ShowsRun {K = K} {V = V} same name terms [] nothing_known (at_first terms.roots)
 

@@ -37,6 +37,7 @@ use Rattle.papaya_histories.specs.Given.Schedules.Moment.{UnderWay as CallThere}
 use Rattle.papaya_histories.specs.Given.Callers.Together.{UnderWay, HandsOver}
 use Rattle.papaya_histories.specs.Given.Executor.IsAt.{slot_of}
 use Rattle.papaya_histories.specs.Given.Executor.Stepping.{StepLeads, scene_after}
+use Rattle.papaya_finds.specs.Linking.{IsMadeFor}
 use Rattle.papaya_purposes.specs.Kept.{ShowsNone}
 use Rattle.papaya_models.specs.CallEvents.{IsNoted, things_then}
 use Rattle.papaya_legal.specs.CallEvents.{InCallEvent}
@@ -120,6 +121,7 @@ module _ {K V S : Type 0} (same : K → K → Bool) (hash : K → ℕ) (terms : 
     pub map_is : making.map ≡ map
     pub below : making.map < from.now.made
     pub was_new : WasNew making.map said from.now
+    pub made_for : IsMadeFor making.map from.now making.given
     pub comes : to ≡ record {
       executor = to.executor;
       did = from.did ++ effects_of (acts.Making making.map) from.notes to.executor.memory.changed;

@@ -11,3 +11,7 @@ pub mod AllEvents
 pub mod Promises
 pub mod Found
 pub mod Noted
+pub mod Further
+pub mod Nexts
+pub mod Finding
+pub mod Rests

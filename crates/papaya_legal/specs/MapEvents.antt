@@ -27,6 +27,7 @@ use Rattle.papaya_histories.specs.Given.Moments.Endings.{IsOfIts}
 use Rattle.papaya_histories.specs.Given.Finishes.Makings.{Beginning}
 use Rattle.papaya_histories.specs.Given.Others.Endings.{ending_after}
 use Rattle.papaya_histories.specs.Given.Others.Makings.{WasNew, making_after}
+use Rattle.papaya_finds.specs.Linking.{IsMadeFor}
 use Rattle.papaya_promises.specs.Protected.{InMidst, is_of_slots}
 use Rattle.papaya_promises.specs.Reading.{ShowsReading}
 use Rattle.papaya_models.specs.Ends.{FollowsInEnd}
@@ -62,12 +63,12 @@ module _ {K V : Type 0} (same : K → K → Bool) (name : ℕ → List ℕ) (ter
       InMapEvent done m known s × (ComesAlone event log → FollowsInEnd terms.batch_size terms.roots (things_in log) (sets_in terms.batch_size log) first i done known s.world)
 
 module _ (K V S : Type 0) (same : K → K → Bool) (hash : K → ℕ) where
-  -- The promises: a making goes on so,
+  -- The promises: a making goes on so, that began with a setting for the capacity of its map,
   abbrev pub MakingEventsGoOn : Type 0
   MakingEventsGoOn =
       (name : ℕ → List ℕ) (terms : Terms) (log : List (Entry K V)) (event : Event K V) (beginning : Moment K V) (done : List Effect) (m : Moment K V) (known : Known) (s : Scene K V) (i : ℕ) (b : Beginning K)
       (here : s.makers i ≡ Some b) → InMakingEvent same name terms log event b.map beginning done m known s → (old new : Executor K V S) → IsAt same hash old s
-      → old.batch_size ≡ terms.batch_size → b.map < m.made → (said : Making Setting) (leads : MakingLeads same hash i said s old new) → WasNew b.map said m
+      → old.batch_size ≡ terms.batch_size → b.map < m.made → (said : Making Setting) (leads : MakingLeads same hash i said s old new) → WasNew b.map said m → IsMadeFor b.map m b.given
       → (let to = leads b here in
       let effects = effects_of (acts.Making b.map) known new.memory.changed in
       InMakingEvent same name terms log event b.map beginning (done ++ effects) (with_effects None (Some b.map) effects m) (known_after (acts.Making b.map) new.memory.changed known)

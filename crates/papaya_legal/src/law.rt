@@ -1,8 +1,8 @@
 //! What is promised of each event of a run, whatever calls are under way.
 ghost use Rattle.std.specs.Prelude.{ℕ, Bool};
-ghost use Rattle.papaya_legal.specs.AllEvents.{AllChain, AllEventsBegin, AllFindPairs, AllReclaimBySets, AllRunsToItsEnd, SlotsLeaveRoots};
+ghost use Rattle.papaya_legal.specs.AllEvents.{AllChain, AllEventsBegin, AllFindPairs, AllReclaimBySets, AllRunsToItsEnd, BehindIsTold, SlotsLeaveRoots};
 ghost use Rattle.papaya_legal.specs.Between.{CallsBegin, CallsTake, EndsBegin, LikesShow, LogsGrow, MakingsBegin, MapsCome, MapsGo, NamesChange, WalksGoOn, WalksStop};
-ghost use Rattle.papaya_legal.specs.Carried.{RunsBegin, RunsBeginIn};
+ghost use Rattle.papaya_legal.specs.Carried.{EventsTellLeft, RunsBegin, RunsBeginIn};
 ghost use Rattle.papaya_legal.specs.CallEvents.{CallEventsAreLegal, CallEventsBegin, CallEventsEnd, CallEventsFollow, CallEventsGoOn, NextsBegin, WholeCallsBegin};
 ghost use Rattle.papaya_legal.specs.CallRuns.{CallEventsRun, CallsLeaveNothing, StepsFindAll};
 ghost use Rattle.papaya_legal.specs.CallSwept.{CallsAreSwept};
@@ -10,18 +10,20 @@ ghost use Rattle.papaya_legal.specs.SlotEvents.{SlotEventsBegin, SlotEventsGoOn,
 ghost use Rattle.papaya_legal.specs.MapEvents.{MakingEventsGoOn, EndEventsGoOn, MapEventsAreLegal, IdleEventsAreLegal};
 ghost use Rattle.papaya_legal.specs.Found.{RestShowsRetired, RowChainsFind, RowsFindTheirs};
 ghost use Rattle.papaya_legal.specs.Noted.{CallsBringThings, CallsHandNoted, EventsBeginWithThings, EventsBringThings, NothingHasCome};
+ghost use Rattle.papaya_legal.specs.Rests.{StepsFindRest};
 ghost use Rattle.papaya_legal.specs.Over.{AgainEventsEnd, BegunEventsEnd, ChoicesEnd, EndEventsBegin, EndEventsEnd, EndEventsFollow, IdleEventsEnd, MakingEventsBegin, MakingEventsEnd, MakingEventsFollow, QuietEventsEnd, RunsByOtherNames, RunsGoOn, StoppedEventsEnd, ToldEventsEnd};
 ghost use Rattle.papaya_legal.specs.Chains.{CallsChain, EndsChain, MakingsChain, RowsChain, RowsRunToTheirEnds, MakingsRunToTheirEnds, EndsRunToTheirEnds};
 ghost use Rattle.papaya_legal.specs.Promises.{BoundedEventsAreLegal, EventsAreLegal};
 
 /// Before all events a moment shows all by which the first event keeps its promises, whatever was chosen of numbers of blocks. A run goes on with an event that comes to what is right, whose life is as it must be, whose effects store
 /// one pair at most, each, and by which all is back if it reclaims all, if the moment after it shows what it must of calls, readings, sections and sets; and by other names of callers that have
-/// no call.
+/// no call. After each event that goes in order the pairs that ended maps have left over are those that the moment tells.
 pub fn runs_begin<K, V>()
     ensures begins { RunsBegin K V }
     ensures begins_in { RunsBeginIn K V }
     ensures goes_on { (same : K → K → Bool) → RunsGoOn K V same }
     ensures names { (same : K → K → Bool) → RunsByOtherNames K V same }
+    ensures left { EventsTellLeft K V }
 {}
 
 /// What a moment shows of calls it shows, too, where a call begins as the next event does, takes a reply, is asked as a walk for its next pair, or is given up; where a map comes, its making begins,
@@ -46,6 +48,7 @@ pub fn calls_stay<K, V, S>()
 /// a row hands over that begins with the last step is noted, and its slot is active.
 /// The moment after it shows all that the next event needs, if it shows what calls are for and have read once the call has come to its outcome, and the sets are as they must be.
 /// What the effects of a step must find they find, but for why a block is asked for, which shape follows, where a pair may wait, and that a pair that is retired is past.
+/// These they find, too (clause `rest`), but for a reservation's blocks and tables, and that a table has room for what is put behind it.
 /// The event does what it is for, if what the last step says is told so, and a walk that has shown all pairs has lost none within the event.
 /// A call that has ended with the last step, or is ready, leaves nothing behind.
 /// So an event that comes to what is right is legal but for that, and a run goes on with it: clause `runs` has what is left of all this to be asked.
@@ -58,6 +61,7 @@ pub fn call_events<K, V, S>()
     ensures follows { (same : K → K → Bool) (hash : K → ℕ) → CallEventsFollow K V S same hash }
     ensures ends { (same : K → K → Bool) (hash : K → ℕ) → CallEventsEnd K V S same hash }
     ensures finds { (same : K → K → Bool) (hash : K → ℕ) → StepsFindAll K V S same hash }
+    ensures rest { (same : K → K → Bool) (hash : K → ℕ) → StepsFindRest K V S same hash }
     ensures swept { (same : K → K → Bool) (hash : K → ℕ) → CallsAreSwept K V S same hash }
     ensures leaves { (same : K → K → Bool) (hash : K → ℕ) → CallsLeaveNothing K V S same hash }
     ensures runs { (same : K → K → Bool) (hash : K → ℕ) → CallEventsRun K V S same hash }
@@ -73,11 +77,12 @@ pub fn slot_events<K, V, S>()
     ensures ends { (same : K → K → Bool) → SlotEventsEnd K V same }
 {}
 
-/// As long as reclaiming all is on slots, what is behind the roots stays there. An event that reclaims all is in its midst where that begins, if what is left over is behind the roots, and wherever a
+/// As long as reclaiming all is on slots, what is behind the roots stays there. Where that is noted as the pairs that the moment tells, those that are left over are behind the roots, in that order. An event that reclaims all is in its midst where that begins, if what is left over is behind the roots, and wherever a
 /// chain of its steps has led; each pair that it has reclaimed there was handed over, or left over, if no call was under way, and what was behind the roots was left over. Once its last step has said that all is reclaimed, the work on slots has reclaimed what the waiting sets of blocks say, all is back, and what ended maps had left over came last; the event is legal but for what
 /// it comes to, and a run goes on with it: if what was behind the roots is what the moment said, and each pair that is reclaimed was handed over or left over.
 pub fn reclaiming_all<K, V, S>()
     ensures slots { (same : K → K → Bool) (hash : K → ℕ) → SlotsLeaveRoots K V S same hash }
+    ensures told { BehindIsTold K V }
     ensures begins { (same : K → K → Bool) (hash : K → ℕ) → AllEventsBegin K V S same hash }
     ensures chain { (same : K → K → Bool) (hash : K → ℕ) → AllChain K V S same hash }
     ensures pairs { (same : K → K → Bool) (hash : K → ℕ) → AllFindPairs K V S same hash }

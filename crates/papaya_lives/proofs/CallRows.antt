@@ -73,7 +73,7 @@ use Rattle.papaya_settles.proofs.DueCalls.{rows_tell_due}
 use Rattle.papaya_lives.specs.Behind.{IsLeft, LiesBehind, EachWaits, ShowsWaiting, WaitsOnce}
 use Rattle.papaya_lives.specs.Retired.{IsDue, IsToRetire}
 use Rattle.papaya_lives.specs.Steps.{CallRowsKeepWaiting}
-use Rattle.papaya_lives.specs.Waiting.{waits_behind}
+use Rattle.papaya_lives.specs.Waiting.{IsPutting, waits_behind}
 use Rattle.papaya_lives.proofs.Each.{WaitsAt, each_on, found}
 use Rattle.papaya_lives.proofs.Lives.{WaitsIn, OnWay, OnList, TakenOver, in_wait}
 use Rattle.papaya_lives.proofs.Logs.{waits_on}
@@ -194,7 +194,7 @@ module _ {K V S : Type 0} (same : K → K → Bool) (hash : K → ℕ) (name : �
   tells : RowTells i map known effects (due_in_row (machine_of u)) (due_in_row to.1)
   tells = rows_tell_due K V S same hash name m known s old new at whole.all.shown whole.all.rows entries owning map i u here_is said leads other
 
-  role_kept : (b : ℕ) (r : Role) → known.roles b ≡ r → IsLasting r → known2.roles b ≡ r
+  pub role_kept : (b : ℕ) (r : Role) → known.roles b ≡ r → IsLasting r → known2.roles b ≡ r
   role_kept b r e its =
       let theirs = rows_hand_theirs K V S same hash name m known s old new at whole.all map i u here_is said leads other in
       (row_step_shown same hash name m known s old new at whole.all.shown map i u here_is said leads other theirs.1 theirs.0).keeps b (subst IsLasting (sym e) its) ∙ e
@@ -365,20 +365,24 @@ module _ {K V S : Type 0} (same : K → K → Bool) (hash : K → ℕ) (name : �
     on_still memory step = each_on Waited WaitsThen (λ n t p. (place_on memory step n t p.1 p.0, lies_on step n t p.1)) m.deferred waiting
 
     -- the row is under way if it puts a pair behind a table
-    under_way : w3.memory ≡ new.memory.memory → IsOneStep to.0.setting i w w3 → (k : ℕ) (t : Table) → effects ≡ Deferred k t ∷ [] → w.row i ≡ Rests → ⊥
+    pub under_way : w3.memory ≡ new.memory.memory → IsOneStep to.0.setting i w w3 → (k : ℕ) (t : Table) → effects ≡ Deferred k t ∷ [] → w.row i ≡ Rests → ⊥
     under_way memory (inr (request, begun, over, begin, step)) k t alone rests =
         (let calm = (stayed_calm same hash m known s old new at name whole.all.shown map i to.0 to.2 (name i) (made_so same hash name m known s old new at whole.all.shown map i u here_is said leads)
         (is_inside same hash name m known s old new at whole.all.shown map i u here_is said leads) (sym memory ∙ looked request begun over begin.1 step)).calm in
         let one = (subst AllCalm alone calm).0 in cc one)
     under_way memory (inl step) k t alone rests = subst (λ (r : Row). Steps' deferred_word i r w w3) rests step
 
-    -- the pair that it puts there waits there by the log,
+    -- and it is putting its block there,
+    pub puts_it : w3.memory ≡ new.memory.memory → IsOneStep to.0.setting i w w3 → (word block : ℕ) (place : At) (k : ℕ) (t : Table) → due_in_row (machine_of u) ≡ Some (ToPut word place) → IsWordOf block place
+        → effects ≡ Deferred k t ∷ [] → IsPutting (block_in word) block (w.row i)
+    puts_it memory step word block place k t due its alone =
+        let row = to_put same to.0.hash to.0.setting w to.0.chart (seen_by to.0.blocks (to.0.sights (slot_of i))) i word place u (each.stand i u here_is) (under_way memory step k t alone) due in
+        is_putting (LAST_SLOT + 1) i (view deferred_word w.memory) kept.good.state kept.good.extra word block place its (length w.memory.slots) (w.row i) (kept.good.rows i) row
+
+    -- which waits there by the log,
     waits_put : w3.memory ≡ new.memory.memory → IsOneStep to.0.setting i w w3 → (word block : ℕ) (place : At) (k : ℕ) (t : Table) → due_in_row (machine_of u) ≡ Some (ToPut word place) → IsWordOf block place
         → effects ≡ Deferred k t ∷ [] → waits_behind (block_in word) w.log ≡ Some block
-    waits_put memory step word block place k t due its alone =
-        let row = to_put same to.0.hash to.0.setting w to.0.chart (seen_by to.0.blocks (to.0.sights (slot_of i))) i word place u (each.stand i u here_is) (under_way memory step k t alone) due in
-        let puts = is_putting (LAST_SLOT + 1) i (view deferred_word w.memory) kept.good.state kept.good.extra word block place its (length w.memory.slots) (w.row i) (kept.good.rows i) row in
-        kept.putting i (block_in word) block puts
+    waits_put memory step word block place k t due its alone = kept.putting i (block_in word) block (puts_it memory step word block place k t due its alone)
 
     -- behind no other one
     put_once : w3.memory ≡ new.memory.memory → IsOneStep to.0.setting i w w3 → (word block : ℕ) (place : At) (k len : ℕ) (t : Table) → due_in_row (machine_of u) ≡ Some (ToPut word place) → IsWordOf block place
@@ -418,10 +422,10 @@ module _ {K V S : Type 0} (same : K → K → Bool) (hash : K → ℕ) (name : �
       waits = inl (waits_put memory step word block place k t due its alone);
     })
 
-    abbrev deferred_then : List Effect → List Deferral
+    abbrev pub deferred_then : List Effect → List Deferral
     deferred_then fs = (with_effects (Some (name i)) (Some map) fs m).deferred
 
-    retired_list : (r : Role) → deferred_then (told_retired r) ≡ m.deferred
+    pub retired_list : (r : Role) → deferred_then (told_retired r) ≡ m.deferred
     retired_list (role.Pair k) = refl
     retired_list (role.Table t len) = refl
     retired_list role.Free = refl

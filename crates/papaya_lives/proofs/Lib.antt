@@ -28,6 +28,10 @@ pub mod Lying
 pub mod LyingRows
 pub mod LyingCalls
 pub mod LyingEnds
+pub mod InUse
+pub mod Order
+pub mod OrderCalls
+pub mod OrderEnds
 pub mod HandedOver
 pub mod HandedEffects
 pub mod HandedRoles

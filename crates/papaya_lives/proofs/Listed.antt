@@ -170,7 +170,7 @@ pub record Listing {T : Type 0} (defers : T → Option ℕ) (size : ℕ) (w : Wo
   pub lists : (b t : ℕ) → 0 < count b (good.state.deferred t) → waits_behind b w.log ≡ Some t
 
 -- a block on whose list another one is may have a list
-carrier : {T : Type 0} (defers : T → Option ℕ) (size : ℕ) (w : World T) (g : Good defers (LAST_SLOT + 1) size w) (b t : ℕ) → 0 < count b (g.state.deferred t) → can_carry (g.state.life t) ≡ true
+pub carrier : {T : Type 0} (defers : T → Option ℕ) (size : ℕ) (w : World T) (g : Good defers (LAST_SLOT + 1) size w) (b t : ℕ) → 0 < count b (g.state.deferred t) → can_carry (g.state.life t) ≡ true
 carrier defers size w g b t some = (g.inv.places.carries b t (listed_with t (g.state.life b) (let listed = g.inv.places.all_deferred t b in omega (arith, listed, some)))).2
 
 module _ {T : Type 0} (defers : T → Option ℕ) (size : ℕ) (w w2 : World T) (k : Listing defers size w) where

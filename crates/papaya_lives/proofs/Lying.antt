@@ -112,7 +112,7 @@ pub endings_begin_lying : (K V : Type 0) → EndingsBeginLying K V
 endings_begin_lying K V m known s shows map i standing b c len t is at = shows b c len t is at
 
 -- A row on a slot puts nothing behind a block.
-no_slot_puts : (b c : ℕ) (row : SlotRow) → IsPutting b c (row_of row) → ⊥
+pub no_slot_puts : (b c : ℕ) (row : SlotRow) → IsPutting b c (row_of row) → ⊥
 no_slot_puts b c (rows.Registers register) puts = puts
 no_slot_puts b c (rows.Enters enter) puts = puts
 no_slot_puts b c (rows.Leaves leave) puts = puts
@@ -159,6 +159,8 @@ module _ {K V : Type 0} (m : Moment K V) (known : Known) (w w2 : World (Node K V
     row_among (changed.Took x) is e = taken_among x (known.roles x) refl e
     row_among (changed.Roomed bucket had) is e = roomed_among (had && nat_lt bucket known.buckets)
 
+-- and a pair whose block is there is noted still
+module _ {K V : Type 0} (known : Known) (w w2 : World (Node K V)) where
   pub row_pair : (b n : ℕ) → known.roles b ≡ role.Pair n → ((value : Node K V) × (value_at w2.memory b ≡ Some value)) → (x : Changed) → TellsRow x → LeavesBy w.memory w2.memory x
       → (known_after Row x known).roles b ≡ role.Pair n
   row_pair b n noted there changed.Nothing is l = noted
@@ -182,7 +184,7 @@ module _ {K V : Type 0} (same : K → K → Bool) (name : ℕ → List ℕ) (siz
       lying_on m (with_effects None None (effects_of Row known told) m) known (known_after Row told known) s.world w2 shows
       (λ b c at. (row_back deferred_word size b c s.world w2 r i step at).0)
       (λ b c len t at is. (stays_so m known whole.blocks told tells c len t is).0)
-      (λ b c n at is. row_pair m known s.world w2 whole.blocks.tables_once b n is (there b c n at is) told tells leaves)
+      (λ b c n at is. row_pair known s.world w2 b n is (there b c n at is) told tells leaves)
       (λ c len n t is was among. row_among m known s.world w2 whole.blocks.tables_once c len n t was among told tells is)
       puts
     where

@@ -1,5 +1,5 @@
 -- What lies behind tables after a step of a call waits there by the moment, or a row is putting it there: the call's own, which tells it once it has put it there.
-use Rattle.std.specs.Prelude.{◌≡◌, ◌≢◌, ◌⊎◌, ℕ, eqb, Bool, true, cond, ◌+◌, List, [], ◌∷◌, Option, Some}
+use Rattle.std.specs.Prelude.{◌≡◌, ◌≢◌, ◌⊎◌, ℕ, eqb, Bool, true, cond, ◌+◌, List, [], ◌∷◌, Option, Some, None}
 use Rattle.std.proofs.Common.{refl, ap, sym, subst, ◌∙◌, inl, inr}
 use Rattle.std.proofs.lemmas.Bool.{cases_eq, eq-eqb, ne_eqb}
 use Rattle.papaya_histories.specs.Given.SeizeWords.Word.{block_in}
@@ -206,7 +206,7 @@ module _ {K V S : Type 0} (same : K → K → Bool) (hash : K → ℕ) (name : �
         ap (λ (f : ℕ → Option (UnderWay K V K)). f i) (at_same s.calls map (with_at (s.calls map) i to.4.next) map refl) ∙ at_same (s.calls map) i to.4.next i refl ∙ e
 
     -- once its row has put its block there, its machine is to put none
-    none_after : (word : ℕ) (place : At) → HasPut (to.4.w2.row i) → due_in_row to.1 ≡ Some (ToPut word place) → ⊥
+    pub none_after : (word : ℕ) (place : At) → HasPut (to.4.w2.row i) → due_in_row to.1 ≡ Some (ToPut word place) → ⊥
     none_after word place over due =
         let next = goes_on (put_busy (to.4.w2.row i) over) in
         let st2 : Standing K = record to.0 { chart = to.4.its_map.0; blocks = to.4.its_map.1; sights = to.4.its_map.2 } in
@@ -214,6 +214,17 @@ module _ {K V S : Type 0} (same : K → K → Bool) (hash : K → ℕ) (name : �
         let due2 = subst (λ (z : Machine K V K). due_in_row z ≡ Some (ToPut word place)) (sym next.2) due in
         put_none word place (to.4.w2.row i) over
         (to_put same to.0.hash to.0.setting to.4.w2 st2.chart (seen_by st2.blocks (st2.sights (slot_of i))) i word place next.0 stands (put_busy (to.4.w2.row i) over) due2)
+
+    -- and as long as it is putting one there, its machine is to
+    pub yet_due : (b c : ℕ) → IsPutting b c (to.4.w2.row i) → due_in_row to.1 ≡ None → ⊥
+    yet_due b c puts gone =
+        let its : PutsSo b c (to.4.w2.row i) = puts_so b c (to.4.w2.row i) puts in
+        let next = goes_on (λ rests. subst (IsPutting b c) rests puts) in
+        let st2 : Standing K = record to.0 { chart = to.4.its_map.0; blocks = to.4.its_map.1; sights = to.4.its_map.2 } in
+        let stands = (to.4.together.makings.standing.each map st2 to.4.its_map.4).stand i next.0 (its_call next.0 next.1) in
+        let due = put_due same to.0.hash to.0.setting to.4.w2 st2.chart (seen_by st2.blocks (st2.sights (slot_of i))) i its.word its.place next.0 stands its.is in
+        let due2 = subst (λ (z : Machine K V K). due_in_row z ≡ Some (ToPut its.word its.place)) next.2 due in
+        cc (due2, gone)
 
     -- it tells that it has put it there
     told_put : (b c len : ℕ) (t : Table) → known.roles c ≡ role.Table t len → IsPutting b c (w.row i) → HasPut (to.4.w2.row i) → IsToldBehind v known2 b t

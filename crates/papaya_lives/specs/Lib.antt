@@ -5,3 +5,4 @@ pub mod Retired
 pub mod LeftTables
 pub mod Lying
 pub mod Handed
+pub mod Order

@@ -4,6 +4,7 @@ ghost use Rattle.papaya_lives.specs.Behind.{WaitingIsThere};
 ghost use Rattle.papaya_lives.specs.Handed.{HandedBegins, OthersLeaveHanded, EndingsBeginHanded, HandedAtRest, RowsBeginHanded, RowsKeepHanded, RowsFindHanded, MakingsKeepHanded, CallsKeepHanded, EndingsKeepHanded};
 ghost use Rattle.papaya_lives.specs.LeftTables.{LeftBegins, OthersKeepLeft, EndingsBeginLeft, NoneIsLeftTo, NoneIsLeft, WhereNoneIsLeft, RowsBeginLeft, RowsKeepLeft, MakingsKeepLeft, CallsKeepLeft, EndingsKeepLeft};
 ghost use Rattle.papaya_lives.specs.Lying.{LyingBegins, OthersLeaveLying, EndingsBeginLying, RowsBeginLying, RowsKeepLying, MakingsKeepLying, CallsKeepLying, EndingsKeepLying};
+ghost use Rattle.papaya_lives.specs.Order.{OrderBegins, OthersLeaveOrder, EndingsBeginOrder, RowsBeginOrder, RowsKeepOrder, MakingsKeepOrder, CallsKeepOrder, EndingsKeepOrder};
 ghost use Rattle.papaya_lives.specs.Retired.{RetiredBegins, OthersLeaveRetired, EndingsBeginRetired, RowsBeginRetired, RowsKeepRetired, RowsFindRetired, MakingsKeepRetired, CallsKeepRetired, EndingsKeepRetired};
 ghost use Rattle.papaya_lives.specs.Steps.{WaitingBegins, OthersLeaveWaiting, EndingsBeginWaiting, EffectsFindWaiting, UsersKeepWaiting, RowsBeginWaiting, RowsKeepWaiting, RowsFindWaiting, MakingsKeepWaiting, CallsKeepWaiting, CallRowsKeepWaiting, EndingsFindWaiting, EndingsKeepWaiting};
 ghost use Rattle.papaya_lives.specs.Waiting.{WaitUnretired, PutsWait};
@@ -98,4 +99,17 @@ pub fn collected_pairs_are_handed_over<K, V, S>()
     ensures makings { (same : K → K → Bool) (hash : K → ℕ) → MakingsKeepHanded K V S same hash }
     ensures calls { (same : K → K → Bool) (hash : K → ℕ) → CallsKeepHanded K V S same hash }
     ensures endings { (same : K → K → Bool) (hash : K → ℕ) → EndingsKeepHanded K V S same hash }
+{}
+
+/// The blocks on the list of a table in use are those of the pairs that wait behind it, the last one first: so it is before all events, where the same pairs wait, where the end of a map
+/// begins, where a row begins on a slot, and after each step of one, of the making of a map, of a call, whoever's row it is, and of the end of a map.
+pub fn pairs_lie_behind_tables_in_order<K, V, S>()
+    ensures begins { OrderBegins K V }
+    ensures others { OthersLeaveOrder K V }
+    ensures endings_begin { EndingsBeginOrder K V }
+    ensures rows_begin { (same : K → K → Bool) (hash : K → ℕ) → RowsBeginOrder K V S same hash }
+    ensures rows { (same : K → K → Bool) (hash : K → ℕ) → RowsKeepOrder K V S same hash }
+    ensures makings { (same : K → K → Bool) (hash : K → ℕ) → MakingsKeepOrder K V S same hash }
+    ensures calls { (same : K → K → Bool) (hash : K → ℕ) → CallsKeepOrder K V S same hash }
+    ensures endings { (same : K → K → Bool) (hash : K → ℕ) → EndingsKeepOrder K V S same hash }
 {}

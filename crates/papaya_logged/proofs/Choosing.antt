@@ -1,9 +1,10 @@
 -- Where a choice of a block number comes, the executor is there as before, and the moment shows it as before.
-use Rattle.std.specs.Prelude.{◌⊎◌, ℕ, Bool, List, [], ◌∷◌, Option}
+use Rattle.std.specs.Prelude.{◌⊎◌, ℕ, Bool, List, [], ◌∷◌, Option, Some, None}
 use Rattle.std.proofs.Common.{◌≡◌, refl, ap, inl, inr}
 use Rattle.papaya_histories.specs.Given.SeizeWords.Mem.{Mem}
-use Rattle.seize.specs.Further.{ListFrom}
+use Rattle.seize.specs.Further.{FurtherFrom, ListFrom}
 use Rattle.seize.specs.World.{World}
+use Rattle.papaya_histories.specs.Given.Tables.Nodes.{deferred_word}
 use Rattle.papaya_histories.specs.Given.Tables.declared.node.Node.{Node}
 use Rattle.papaya_schedules.specs.declared.effect.Table.{Table}
 use Rattle.papaya_schedules.specs.Moment.{Behind, Moment}
@@ -43,6 +44,15 @@ module _ {K V : Type 0} (choice : ℕ) (w : World (Node K V)) where
   role_then stored b (role.Pair n) h = h
   role_then stored b (role.Table t len) h = h
   role_then stored b (role.Counter map) h = h
+
+  -- the list of a block is the one that it was,
+  list_back : (word : ℕ) (l : List ℕ) → ListFrom then_in.memory word l → ListFrom w.memory word l
+  list_back word [] is = is
+  list_back word (b ∷ l) (next, some, is, entry, rest) = (next, some, is, entry, list_back next l rest)
+
+  further_back : (b : ℕ) (field : Option ℕ) (l : List ℕ) → FurtherFrom then_in.memory b field l → FurtherFrom w.memory b field l
+  further_back b None l is = is
+  further_back b (Some field) l (word, there, list) = (word, there, list_back word l list)
 
   -- and a batch holds what it held
   one_then : (slot first : ℕ) → HoldsOne w slot first → HoldsOne then_in slot first
@@ -103,6 +113,7 @@ module _ {K V : Type 0} (choice : ℕ) (name : ℕ → List ℕ) (m : Moment K V
         kept.waiting;
     once = kept.once;
     lying = kept.lying;
+    order = λ c len o t blocks is used are. kept.order c len o t blocks is used (are.0, are.1, further_back choice s.world c (deferred_word are.0) blocks are.2);
     retired = record { tables = kept.retired.tables; lengths = kept.retired.lengths };
     handed = record { pairs = kept.handed.pairs; handed = kept.handed.handed; tables = kept.handed.tables };
     ends = kept.ends;
@@ -140,6 +151,8 @@ module _ {K V S : Type 0} (choice : ℕ) (old : Logged K V S) where
       lists = r.lists;
       left = left_then choice old.executor.roots s.world s.maps s.makers s.enders r.lists r.left;
       told = r.told;
+      pairs = r.pairs;
+      ascending = r.ascending;
       once = r.once;
       below = r.below;
       ending = r.ending;

@@ -23,6 +23,7 @@ use Rattle.papaya_effects.specs.Effects.{taken_by, effects_of, known_after}
 use Rattle.papaya_effects.specs.Known.{Known, known, nothing_known}
 use Rattle.papaya_effects.specs.declared.acting.Acting.TheVariants as acts
 use Rattle.papaya_effects.specs.declared.notes.Notes.{Notes}
+use Rattle.papaya_effects.specs.declared.role.Role.TheVariants as role
 use Rattle.papaya_histories.specs.Given.Finishes.Endings.{Finishing}
 use Rattle.papaya_histories.specs.Given.Finishes.Makings.{Beginning, HasTaken}
 use Rattle.papaya_histories.specs.Given.Finishes.Maps.{Standing}
@@ -46,7 +47,7 @@ use Rattle.papaya_histories.proofs.Given.Moments.After.{effects_after}
 use Rattle.papaya_histories.proofs.Given.Moments.Numbers.{maps_go}
 use Rattle.papaya_histories.specs.Given.Moments.Numbers.{NumbersMaps}
 use Rattle.papaya_remains.specs.Numbered.{NumbersUpTo}
-use Rattle.papaya_remains.specs.Remains.{ShowsRemains, has_some}
+use Rattle.papaya_remains.specs.Remains.{LeftNoted, ShowsRemains}
 use Rattle.papaya_remains.specs.Slots.{SlotsNoted}
 use Rattle.papaya_remains.proofs.Endings.{endings_begin_remain, endings_keep_remains}
 use Rattle.papaya_remains.proofs.Makings.{makings_begin_remain, makings_keep_remains}
@@ -84,10 +85,10 @@ ends_count {K} {V} count of first (b ∷ blocks) m numbers =
 
 module _ {K V S : Type 0} (old new : Logged K V S) (given : KeepsGiven old.executor new.executor) where
   -- by what the executor was given, which stays
-  pub counted_on : (v : Moment K V) (t : Scene K V) → ShowsRemains old.executor.roots v t → NumbersUpTo (length old.executor.maps.items) v → SlotsNoted (known new.notes) new.executor.memory.memory → IsCounted v new t
+  pub counted_on : (v : Moment K V) (t : Scene K V) → ShowsRemains old.executor.roots v (known new.notes) t → NumbersUpTo (length old.executor.maps.items) v → SlotsNoted (known new.notes) new.executor.memory.memory → IsCounted v new t
   counted_on v t remains numbers slots = record {
     numbered = record { numbers = subst (λ (n : ℕ). NumbersUpTo n v) (sym given.3) numbers; slots = slots };
-    remains = subst (λ (r : ℕ). ShowsRemains r v t) (sym given.2) remains;
+    remains = subst (λ (r : ℕ). ShowsRemains r v (known new.notes) t) (sym given.2) remains;
   }
 
   module _ (noted : new.notes ≡ old.notes) where
@@ -101,14 +102,14 @@ module _ {K V S : Type 0} (old new : Logged K V S) (given : KeepsGiven old.execu
         → t.world ≡ s.world → t.maps ≡ s.maps → t.makers ≡ s.makers → t.enders ≡ s.enders → IsCounted v new t
     counted_stays m v s t c memory maps tables remains world same_maps makers enders =
         counted_on v t
-        (stays_remain K V old.executor.roots m v s t c.remains (ap (λ (ms : List MapThere). map (λ f. f.root) ms) maps) remains world same_maps makers enders)
+        (subst (λ (n : Notes). ShowsRemains old.executor.roots v (known n) t) (sym noted) (stays_remain K V old.executor.roots m v (known old.notes) s t c.remains (ap (λ (ms : List MapThere). map (λ f. f.root) ms) maps) remains world same_maps makers enders))
         (numbers_as (length old.executor.maps.items) m v maps tables c.numbered.numbers) (same_slots memory c.numbered.slots)
 
 -- where nothing of it has changed, as where a call comes to an outcome
 pub counted_calls : {K V S : Type 0} (l : Logged K V S) (m v : Moment K V) (s : Scene K V) → IsCounted m l s → v.maps ≡ m.maps → v.tables ≡ m.tables → v.remains ≡ m.remains → IsCounted v l s
 counted_calls {K} {V} l m v s c maps tables remains = record {
   numbered = record { numbers = numbers_as (length l.executor.maps.items) m v maps tables c.numbered.numbers; slots = c.numbered.slots };
-  remains = stays_remain K V l.executor.roots m v s s c.remains (ap (λ (ms : List MapThere). map (λ f. f.root) ms) maps) remains refl refl refl refl;
+  remains = stays_remain K V l.executor.roots m v (known l.notes) s s c.remains (ap (λ (ms : List MapThere). map (λ f. f.root) ms) maps) remains refl refl refl refl;
 }
 
 -- the executor's memory is that of the world
@@ -134,7 +135,8 @@ module _ {K V S : Type 0} (same : K → K → Bool) (hash : K → ℕ) where
       numbers = record { found = λ k d l. absurd (let none = l in omega (arith, none)); below = λ k d l. absurd (let none = l in omega (arith, none)); tables = λ k d l. absurd (let none = l in omega (arith, none)) };
       slots = subst (λ (k : Known). SlotsNoted k l.executor.memory.memory) (sym noted) (subst (λ (x : Mem (Node K V)). SlotsNoted nothing_known x) at.memory (slots_begin K V roots));
     };
-    remains = subst (λ (r : ℕ). ShowsRemains {K = K} {V = V} r start (at_first roots)) (sym is_roots) (begins_remain K V roots);
+    remains = subst (λ (r : ℕ). ShowsRemains {K = K} {V = V} r start (known l.notes) (at_first roots)) (sym is_roots)
+        (subst (λ (k : Known). ShowsRemains {K = K} {V = V} roots start k (at_first roots)) (sym noted) (begins_remain K V roots));
   }
 
   -- where a row begins on a slot, and after a step of it
@@ -143,17 +145,23 @@ module _ {K V S : Type 0} (same : K → K → Bool) (hash : K → ℕ) where
       → IsCounted m new (scene_then same hash (Begin i (request_of (slot_of i) called)) s old.executor new.executor (leads may).3)
   counted_row_begins old new given noted m s at c called i may leads =
       let to = (leads may).3 in
-      counted_on old new given m _ (rows_begin_remain K V S same hash m s old.executor new.executor at c.remains called i may leads) c.numbered.numbers
+      counted_on old new given m _
+      (subst (λ (n : Notes). ShowsRemains old.executor.roots m (known n) (scene_then same hash (Begin i (request_of (slot_of i) called)) s old.executor new.executor to)) (sym noted)
+      (rows_begin_remain K V S same hash m (known old.notes) s old.executor new.executor at c.remains called i may leads)) c.numbered.numbers
       (same_slots old new given noted (sym to.4.memory ∙ begun_memory old.executor.batch_size (slot_of i) i s.world to.0 called to.1.1 ∙ at.memory) c.numbered.slots)
 
   pub counted_row_steps : (old : Logged K V S) (stepped : Executor K V S) (notes : Notes) → KeepsGiven old.executor stepped → (m : Moment K V) (s : Scene K V) → IsAt same hash old.executor s → IsCounted m old s
       → (i : ℕ) (told : RowTold (Node K V)) (leads : RowLeads same hash i told s old.executor stepped) (row : SlotRow) (here : work_of old.executor i ≡ Some (work.OnSlot row))
       → known notes ≡ known_after acts.Row stepped.memory.changed (known old.notes)
+      → LeftNoted (known old.notes) (known_after acts.Row stepped.memory.changed (known old.notes)) s.world (scene_then same hash (Step i) s old.executor stepped (leads row here).4).world
       → IsCounted (with_effects None None (effects_of acts.Row (known old.notes) stepped.memory.changed) m) (record { executor = stepped; notes = notes })
       (scene_then same hash (Step i) s old.executor stepped (leads row here).4)
-  counted_row_steps old stepped notes given m s at c i told leads row here noted =
+  counted_row_steps old stepped notes given m s at c i told leads row here noted left =
       counted_on old (record { executor = stepped; notes = notes }) given _ _
-      (rows_keep_remains K V S same hash m s old.executor stepped at c.remains i told leads row here None None (effects_of acts.Row (known old.notes) stepped.memory.changed))
+      (subst (λ (k : Known). ShowsRemains old.executor.roots (with_effects None None (effects_of acts.Row (known old.notes) stepped.memory.changed) m) k
+      (scene_then same hash (Step i) s old.executor stepped (leads row here).4)) (sym noted)
+      (rows_keep_remains K V S same hash m (known old.notes) (known_after acts.Row stepped.memory.changed (known old.notes)) s old.executor stepped at c.remains i told leads row here None None
+      (effects_of acts.Row (known old.notes) stepped.memory.changed) left))
       (rows_keep_count K V S same hash m (known old.notes) s old.executor stepped (length old.executor.maps.items) c.numbered.numbers i told leads row here)
       (subst (λ (k : Known). SlotsNoted k stepped.memory.memory) (sym noted) (rows_note_slots K V S same hash (known old.notes) s old.executor stepped at c.numbered.slots i told leads row here))
 
@@ -162,11 +170,16 @@ module _ {K V S : Type 0} (same : K → K → Bool) (hash : K → ℕ) where
       → (of i : ℕ) (u : UnderWay K V K) (here : s.calls of i ≡ Some u) (told : CallTold (Node K V)) (leads : StepLeads same hash i told s old.executor stepped) (caller : List ℕ)
       → known notes ≡ known_after (acts.Call i of) stepped.memory.changed (known old.notes)
       → (let to = leads of u here in
-      IsCounted (with_effects (Some caller) (Some of) (effects_of (acts.Call i of) (known old.notes) stepped.memory.changed) m) (record { executor = stepped; notes = notes })
+      LeftNoted (known old.notes) (known_after (acts.Call i of) stepped.memory.changed (known old.notes)) s.world (scene_after same hash s old.executor stepped of i to.0 u to.1 told to.4).world
+      → IsCounted (with_effects (Some caller) (Some of) (effects_of (acts.Call i of) (known old.notes) stepped.memory.changed) m) (record { executor = stepped; notes = notes })
       (scene_after same hash s old.executor stepped of i to.0 u to.1 told to.4))
-  counted_call_steps old stepped notes given m s at c of i u here told leads caller noted =
+  counted_call_steps old stepped notes given m s at c of i u here told leads caller noted left =
       counted_on old (record { executor = stepped; notes = notes }) given _ _
-      (calls_keep_remains K V S same hash m s old.executor stepped at c.remains of i u here told leads (Some caller) (Some of) (effects_of (acts.Call i of) (known old.notes) stepped.memory.changed))
+      (let to = leads of u here in
+      subst (λ (k : Known). ShowsRemains old.executor.roots (with_effects (Some caller) (Some of) (effects_of (acts.Call i of) (known old.notes) stepped.memory.changed) m) k
+      (scene_after same hash s old.executor stepped of i to.0 u to.1 told to.4)) (sym noted)
+      (calls_keep_remains K V S same hash m (known old.notes) (known_after (acts.Call i of) stepped.memory.changed (known old.notes)) s old.executor stepped at c.remains of i u here told leads
+      (Some caller) (Some of) (effects_of (acts.Call i of) (known old.notes) stepped.memory.changed) left))
       (calls_keep_count K V S same hash m (known old.notes) s old.executor stepped at c.numbered.numbers of i u here told leads (Some caller) (Some of))
       (subst (λ (k : Known). SlotsNoted k stepped.memory.memory) (sym noted) (calls_note_slots K V S same hash (known old.notes) s old.executor stepped at c.numbered.slots of i u here told leads))
 
@@ -180,18 +193,25 @@ module _ {K V S : Type 0} (same : K → K → Bool) (hash : K → ℕ) where
       slots = subst (λ (n : Notes). SlotsNoted (known n) new.executor.memory.memory) (sym noted)
           (subst (λ (x : Mem (Node K V)). SlotsNoted (known old.notes) x) (sym memory) c.numbered.slots);
     };
-    remains = subst (λ (r : ℕ). ShowsRemains r m (record s { makers = with_at s.makers i (Some b) })) (sym roots) (makings_begin_remain K V old.executor.roots m s c.remains i b none taken);
+    remains = subst (λ (r : ℕ). ShowsRemains r m (known new.notes) (record s { makers = with_at s.makers i (Some b) })) (sym roots)
+        (subst (λ (n : Notes). ShowsRemains old.executor.roots m (known n) (record s { makers = with_at s.makers i (Some b) })) (sym noted)
+        (makings_begin_remain K V old.executor.roots m (known old.notes) s c.remains i b none taken));
   }
 
   pub counted_making_steps : (old : Logged K V S) (stepped : Executor K V S) (notes : Notes) → KeepsGiven old.executor stepped → (m : Moment K V) (s : Scene K V) → IsAt same hash old.executor s → IsCounted m old s
       → (i : ℕ) (told : Progress Setting) (leads : MakingLeads same hash i told s old.executor stepped) (b : Beginning K) (here : s.makers i ≡ Some b) (of : Option ℕ)
       → known notes ≡ known_after (acts.Making b.map) stepped.memory.changed (known old.notes)
       → (let to = leads b here in
-      IsCounted (with_effects None of (effects_of (acts.Making b.map) (known old.notes) stepped.memory.changed) m) (record { executor = stepped; notes = notes })
+      LeftNoted (known old.notes) (known_after (acts.Making b.map) stepped.memory.changed (known old.notes)) s.world (making_after same hash s old.executor stepped i b to.0 to.2.step.w2 told to.3).world
+      → IsCounted (with_effects None of (effects_of (acts.Making b.map) (known old.notes) stepped.memory.changed) m) (record { executor = stepped; notes = notes })
       (making_after same hash s old.executor stepped i b to.0 to.2.step.w2 told to.3))
-  counted_making_steps old stepped notes given m s at c i told leads b here of noted =
+  counted_making_steps old stepped notes given m s at c i told leads b here of noted left =
       counted_on old (record { executor = stepped; notes = notes }) given _ _
-      (makings_keep_remains K V S same hash m s old.executor stepped at c.remains i told leads b here None of (effects_of (acts.Making b.map) (known old.notes) stepped.memory.changed))
+      (let to = leads b here in
+      subst (λ (k : Known). ShowsRemains old.executor.roots (with_effects None of (effects_of (acts.Making b.map) (known old.notes) stepped.memory.changed) m) k
+      (making_after same hash s old.executor stepped i b to.0 to.2.step.w2 told to.3)) (sym noted)
+      (makings_keep_remains K V S same hash m (known old.notes) (known_after (acts.Making b.map) stepped.memory.changed (known old.notes)) s old.executor stepped at c.remains i told leads b here
+      None of (effects_of (acts.Making b.map) (known old.notes) stepped.memory.changed) left))
       (makings_keep_count K V S same hash m (known old.notes) s old.executor stepped at c.numbered.numbers i b here None of)
       (subst (λ (k : Known). SlotsNoted k stepped.memory.memory) (sym noted) (makings_note_slots K V S same hash (known old.notes) s old.executor stepped at c.numbered.slots i told leads b here b.map))
 
@@ -200,7 +220,9 @@ module _ {K V S : Type 0} (same : K → K → Bool) (hash : K → ℕ) where
       → Shows same name m (known old.notes) s → IsCounted m old s → (of i : ℕ) (standing : Standing K) → s.maps of ≡ Some standing → s.enders i ≡ None
       → IsAt same hash new.executor (ending_begun of i standing s) → IsCounted m new (ending_begun of i standing s)
   counted_end_begins old new given noted name m s at shown c of i standing there none at2 =
-      counted_on old new given m _ (endings_begin_remain K V S same hash name m (known old.notes) s old.executor at shown c.remains of i standing there none) c.numbered.numbers
+      counted_on old new given m _
+      (subst (λ (n : Notes). ShowsRemains old.executor.roots m (known n) (ending_begun of i standing s)) (sym noted)
+      (endings_begin_remain K V S same hash name m (known old.notes) s old.executor at shown c.remains of i standing there none)) c.numbered.numbers
       (same_slots old new given noted (same_memory same hash old.executor new.executor s (ending_begun of i standing s) at at2 refl) c.numbered.slots)
 
   pub counted_end_steps : (old : Logged K V S) (stepped : Executor K V S) (notes : Notes) → KeepsGiven old.executor stepped → (m : Moment K V) (s : Scene K V) → IsAt same hash old.executor s → IsCounted m old s
@@ -208,11 +230,16 @@ module _ {K V S : Type 0} (same : K → K → Bool) (hash : K → ℕ) where
       → known notes ≡ known_after (acts.Ending of) stepped.memory.changed (known old.notes)
       → (first : Known) (blocks : List ℕ) → effects_of (acts.Ending of) (known old.notes) stepped.memory.changed ≡ ended_as of first blocks
       → (let to = leads f here in
-      IsCounted (with_effects None (Some of) (effects_of (acts.Ending of) (known old.notes) stepped.memory.changed) m) (record { executor = stepped; notes = notes })
+      LeftNoted (known old.notes) (known_after (acts.Ending of) stepped.memory.changed (known old.notes)) s.world (ending_after same hash s stepped i f to.0 to.2.w2 to.2.deed told to.3).world
+      → IsCounted (with_effects None (Some of) (effects_of (acts.Ending of) (known old.notes) stepped.memory.changed) m) (record { executor = stepped; notes = notes })
       (ending_after same hash s stepped i f to.0 to.2.w2 to.2.deed told to.3))
-  counted_end_steps old stepped notes given m s at c i of told leads f here noted first blocks does =
+  counted_end_steps old stepped notes given m s at c i of told leads f here noted first blocks does left =
       counted_on old (record { executor = stepped; notes = notes }) given _ _
-      (endings_keep_remains K V S same hash m s old.executor stepped at c.remains i told leads f here None (Some of) (effects_of (acts.Ending of) (known old.notes) stepped.memory.changed))
+      (let to = leads f here in
+      subst (λ (k : Known). ShowsRemains old.executor.roots (with_effects None (Some of) (effects_of (acts.Ending of) (known old.notes) stepped.memory.changed) m) k
+      (ending_after same hash s stepped i f to.0 to.2.w2 to.2.deed told to.3)) (sym noted)
+      (endings_keep_remains K V S same hash m (known old.notes) (known_after (acts.Ending of) stepped.memory.changed (known old.notes)) s old.executor stepped at c.remains i told leads f here
+      None (Some of) (effects_of (acts.Ending of) (known old.notes) stepped.memory.changed) left))
       (subst (λ (fs : List Effect). NumbersUpTo (length old.executor.maps.items) (with_effects None (Some of) fs m)) (sym does) (ends_count (length old.executor.maps.items) of first blocks m c.numbered.numbers))
       (subst (λ (k : Known). SlotsNoted k stepped.memory.memory) (sym noted) (endings_note_slots K V S same hash (known old.notes) s old.executor stepped at c.numbered.slots i told leads f here of))
 
@@ -220,16 +247,16 @@ module _ {K V S : Type 0} (l : Logged K V S) where
   -- where a map comes by the next number, with a root that is not used
   pub counted_comes : (m : Moment K V) (s : Scene K V) → IsCounted m l s → (there : MapThere) → NumbersUpTo (length l.executor.maps.items) (with_map there m)
       → is_among there.root (used_roots m) ≡ false → there.root < l.executor.roots → IsCounted (with_map there m) l s
-  counted_comes m s c there numbers free below = record { numbered = record { numbers = numbers; slots = c.numbered.slots }; remains = maps_come_remain K V l.executor.roots m s c.remains there free below }
+  counted_comes m s c there numbers free below = record { numbered = record { numbers = numbers; slots = c.numbered.slots }; remains = maps_come_remain K V l.executor.roots m (known l.notes) s c.remains there free below }
 
   -- and where one is there no more
   pub counted_goes : (m : Moment K V) (s : Scene K V) (c : IsCounted m l s) (own : List ℕ) (f : MapThere) → map_of own m ≡ Some f → length (filter (λ g. is_same g.name own) m.maps) ≤ 1
-      → ((j : ℕ) → s.enders j ≡ None) → (pairs : List ℕ) → has_some (c.remains.lists f.root) ≡ has_some pairs
+      → ((j : ℕ) → s.enders j ≡ None) → (pairs : List ℕ) → map (known l.notes).roles (c.remains.lists f.root) ≡ map role.Pair pairs
       → IsCounted (without_map own (if_any f.root pairs m.remains) m) l s
-  counted_goes m s c own f is alone nobody pairs some = record {
+  counted_goes m s c own f is alone nobody pairs is_noted = record {
     numbered = record {
       numbers = (let n = maps_go K V (record m { made = length l.executor.maps.items }) c.numbered.numbers own (if_any f.root pairs m.remains) in record { found = n.found; below = n.below; tables = n.tables });
       slots = c.numbered.slots;
     };
-    remains = maps_go_remain K V l.executor.roots m s c.remains own f is alone nobody pairs some;
+    remains = maps_go_remain K V l.executor.roots m (known l.notes) s c.remains own f is alone nobody pairs is_noted;
   }

@@ -23,7 +23,7 @@ use Rattle.papaya_effects.specs.declared.notes.Notes.{Notes}
 use Rattle.papaya_effects.specs.declared.acting.Acting.TheVariants.{Ending}
 use Rattle.papaya_effects.specs.declared.role.Role.{Role}
 use Rattle.papaya_effects.specs.declared.role.Role.TheVariants as role
-use Rattle.papaya_histories.specs.Given.Finishes.Endings.{Finishing, AllPairsOnce, FinishingFacts, StepsOfEnding, waiting_by}
+use Rattle.papaya_histories.specs.Given.Finishes.Endings.{Finishing, AllPairsOnce, FinishingFacts, StepsOfEnding, finishing_of, waiting_by}
 use Rattle.papaya_histories.specs.Given.Finishes.FactsEnds.{back_of, taken_by as taken_of}
 use Rattle.papaya_histories.specs.Given.Finishes.Maps.{Standing}
 use Rattle.papaya_histories.proofs.Given.Finishes.Ends.CountedBlocks.{times-append, next_apart, some_here, some_last}
@@ -42,16 +42,15 @@ use Rattle.papaya_histories.proofs.Given.Moments.Over.{endings_are_over_whole}
 use Rattle.papaya_histories.proofs.Given.Moments.WholeEnds.{whole_ends_take_all}
 use Rattle.papaya_histories.specs.Given.Moments.WholeEnds.{all_ended}
 use Rattle.papaya_histories.specs.Given.Moments.Whole.{ShowsWhole}
-use Rattle.papaya_lives.proofs.LeftTables.{none_is_left}
-use Rattle.papaya_remains.specs.Remains.{has_some}
 use Rattle.papaya_logged.specs.Ends.{is_done, ended_as, AllEnds, NotesMap, NotedStill, EndIsBegun, EndGoesOn, EndSteps, EndIsOver}
 use Rattle.papaya_kept.specs.Kept.{ShowsKept}
 use Rattle.papaya_kept.proofs.Others.{endings_begin_kept, endings_keep_kept, endings_find_kept}
 use Rattle.papaya_kept.proofs.Stays.{stays_kept}
 use Rattle.papaya_logged.specs.Shown.{IsShown}
-use Rattle.papaya_logged.specs.Waits.{TellsWaiting}
+use Rattle.papaya_logged.specs.Waits.{TellsThen, TellsWaiting}
 use Rattle.papaya_logged.specs.declared.logged.Logged.{Logged}
 use Rattle.papaya_logged.proofs.Counted.{counted_end_begins, counted_end_steps, counted_goes}
+use Rattle.papaya_logged.proofs.LeftNoted.{endings_note_left}
 use Rattle.papaya_logged.proofs.EndOrder.{all_told, pairs_ordered}
 use Rattle.papaya_logged.proofs.EndLists.{back_first, IsOneOf, once, one_of}
 use Rattle.papaya_logged.proofs.EndWaits.{waits_begin, waits_said}
@@ -129,11 +128,8 @@ module _ {K V S : Type 0} (same : K → K → Bool) (hash : K → ℕ) where
               (endings_begin_kept K V S same hash name m (known old.notes) s old.executor new.executor shown.is_at shown.kept map i to.0 (yet s shown.is_at) to.4);
           counted = counted_end_begins same hash old new given noted name m s shown.is_at shown.shows.all.shown shown.counted map i to.0 to.1 (yet s shown.is_at) to.4;
         },
-        λ nobody_ends.
-            (let t = waits_begin same name old.executor.batch_size map to.0.chart m (known old.notes) s shown.shows shown.kept.waiting shown.is_at.together.makings.standing.came
-            (none_is_left K V (known old.notes) s shown.kept.left nobody_ends) in
-            subst (λ (n : Notes). TellsWaiting {K = K} {V = V} map to.0.chart m m (known n) (ending_begun map i to.0 s).world false) (sym noted)
-            (record { left = t.left; waited = t.waited; still = t.still; fewer = t.fewer })),
+        subst (λ (n : Notes). TellsWaiting {K = K} {V = V} same map i (finishing_of to.0 s.world) m m (known n) (ending_begun map i to.0 s).world) (sym noted)
+            (waits_begin same map i to.0 m (known old.notes) s.world (ending_begun map i to.0 s).world),
       )
 
   -- the executor is there after each step
@@ -268,12 +264,13 @@ module _ {K V S : Type 0} (same : K → K → Bool) (hash : K → ℕ) where
               (endings_keep_kept K V S same hash name m (known old.notes) s old.executor stepped shown.is_at shown.shows shown.kept i said leads f here map not_there
               (end_there old.executor stepped s i said leads f here));
           counted = counted_end_steps same hash old stepped notes given m s shown.is_at shown.counted i map said leads f here noted first (taken_of to.2.deed)
-              (did_end name m (known old.notes) s old.executor stepped shown.is_at shown.shows i f here to.0 said to.1 to.2 map not_there to.3 number first its still);
+              (did_end name m (known old.notes) s old.executor stepped shown.is_at shown.shows i f here to.0 said to.1 to.2 map not_there to.3 number first its still)
+              (endings_note_left same hash name m (known old.notes) s old.executor stepped shown.is_at shown.shows i map said leads f here not_there);
         },
         λ began before.
-            subst (λ (k : Known). TellsWaiting {K = K} {V = V} map f.chart began (with_effects None (Some map) effects m) k to.2.w2 (if is_done said then has_some f.waits else has_some (f.waits ++ waiting_by to.2.deed)))
-            (sym noted)
-            (waits_said same hash name m (known old.notes) s old.executor stepped shown.is_at shown.shows shown.kept i f here to.0 said to.1 to.2 map not_there to.3 number first its still began before),
+            subst (λ (k : Known). TellsThen {K = K} {V = V} same map i f (is_done said) to.0 to.2.deed began (with_effects None (Some map) effects m) k to.2.w2) (sym noted)
+            (waits_said same hash name m (known old.notes) s old.executor stepped shown.is_at shown.shows shown.kept i f here to.0 said to.1 to.2 map not_there to.3 number first its still
+            (noted_on name m (known old.notes) s old.executor stepped shown.is_at shown.shows i f here to.0 said to.1 to.2 map not_there to.3 number first its still) began before),
       )
 
 -- The executor has taken the step, and then its memory was noted: the executor stayed as it was.
@@ -292,10 +289,10 @@ end_steps {K} {V} {S} old new stepped i map said before after stepping did noted
 
 -- Without the map it is shown, too.
 pub end_is_over : {K V S : Type 0} (l : Logged K V S) → EndIsOver l
-end_is_over {K} {V} l same hash name m s shown own f is alone nobody pairs some found others =
+end_is_over {K} {V} l same hash name m s shown own f is alone nobody pairs noted found others =
     record {
       is_at = shown.is_at;
       shows = endings_are_over_whole K V same name m (known l.notes) s shown.shows own (if_any f.root pairs m.remains) found others;
       kept = stays_kept K V name m (without_map own (if_any f.root pairs m.remains) m) (known l.notes) s s shown.kept refl refl refl refl refl refl refl refl refl;
-      counted = counted_goes l m s shown.counted own f is alone nobody pairs some;
+      counted = counted_goes l m s shown.counted own f is alone nobody pairs noted;
     }

@@ -1,19 +1,15 @@
--- What an end of a map leaves over tells whether something waited behind the map's tables: so it is as the end begins, and after each step of it.
-use Rattle.std.specs.Prelude.{◌≡◌, ◌⊎◌, ◌<◌, ◌≤◌, ◌+◌, ◌*◌, ◌==◌, ◌||◌, ℕ, zero, suc, Bool, true, false, not, List, [], ◌∷◌, ◌++◌, map, Option, Some, None, IsSome, if◌then◌else◌}
+-- What an end of a map leaves over is noted as the pairs that waited behind the map's tables: so it is as the end begins, and after each step of it.
+use Rattle.std.specs.Prelude.{◌≡◌, ◌≢◌, ◌⊎◌, ◌<◌, ◌≤◌, ◌+◌, ◌-◌, ℕ, zero, suc, Bool, false, List, [], ◌∷◌, ◌++◌, map as each_of, Option, Some, None, IsSome}
 use Rattle.std.proofs.Common.{refl, ap, sym, subst, ◌∙◌, inl, inr, arith}
-use Rattle.std.proofs.lemmas.Bool.{cases_lt, eq-eqb, eqb-true}
+use Rattle.std.proofs.lemmas.Bool.{cases_eq, cases_lt}
+use Rattle.std.proofs.lemmas.List.{append-nil, append_assoc}
 use Rattle.papaya_histories.specs.Given.SeizeWords.Mem.{Mem, value_at}
 use Rattle.seize.specs.Further.{FurtherFrom, FurtherAre}
-use Rattle.seize.specs.Law.{With, where_is}
 use Rattle.seize.specs.declared.rows.settle.Settled.{Settled}
 use Rattle.seize.specs.declared.rows.settle.Settled.TheVariants as settled
-use Rattle.seize.specs.declared.states.TheConstants.{LAST_SLOT}
-use Rattle.seize.specs.World.{World, Hand, Cutting, Handed, LeftTo, IsOnto, MayCut, Unlinks, LeavesOver, Runs, all_left_to, times}
-use Rattle.papaya_histories.proofs.Given.SeizeMoves.Moves.Takes.{first_doomed}
-use Rattle.papaya_histories.proofs.Given.SeizeMoves.State.Ghost.{can_carry, lies_with}
-use Rattle.papaya_histories.proofs.Given.SeizeRule.Points.Aside.{HandFits}
-use Rattle.papaya_histories.proofs.Given.SeizeRule.Words.There.{value_there}
+use Rattle.seize.specs.World.{World, InUse, MayCut, Runs, times}
 use Rattle.papaya_histories.proofs.Given.SeizeAlone.Histories.Reached.{Reached, runs_reached}
+use Rattle.papaya_histories.specs.Given.Tables.Chunks.{is_incremental}
 use Rattle.papaya_histories.specs.Given.Tables.Nodes.{deferred_word}
 use Rattle.papaya_histories.specs.Given.Tables.declared.node.Node.{Node}
 use Rattle.papaya_histories.specs.Given.Tables.declared.node.Node.TheVariants as node
@@ -21,78 +17,48 @@ use Rattle.papaya_raw.specs.declared.machines.end_map.EndMap.{EndMap}
 use Rattle.papaya_schedules.specs.declared.effect.Effect.{Effect}
 use Rattle.papaya_schedules.specs.declared.effect.Table.{Table}
 use Rattle.papaya_schedules.specs.Effects.{with_effects}
-use Rattle.papaya_schedules.specs.Lists.{is_among}
-use Rattle.papaya_schedules.specs.Moment.{Behind, Deferral, Moment}
-use Rattle.papaya_schedules.specs.Things.{same_table}
+use Rattle.papaya_schedules.specs.Moment.{Deferral, Moment}
 use Rattle.papaya_schedules.specs.Views.{behind}
-use Rattle.papaya_teller.specs.declared.changed.Changed.{Changed}
-use Rattle.papaya_teller.specs.declared.changed.Changed.TheVariants as changed
-use Rattle.papaya_histories.specs.Given.Rule.Chart.{Chart}
-use Rattle.papaya_histories.specs.Given.Callers.Together.{CameAbout}
-use Rattle.papaya_histories.proofs.Given.Callers.Together.At.{at_other}
+use Rattle.papaya_histories.specs.Given.Callers.Kept.{IsPair}
 use Rattle.papaya_histories.proofs.Given.Callers.Together.Came.{came_reached}
-use Rattle.papaya_effects.specs.Effects.{taken_by, effects_of, known_after}
+use Rattle.papaya_effects.specs.Effects.{effects_of, known_after}
 use Rattle.papaya_effects.specs.Known.{Known}
 use Rattle.papaya_effects.specs.declared.acting.Acting.TheVariants.{Ending}
 use Rattle.papaya_effects.specs.declared.role.Role.{Role}
 use Rattle.papaya_effects.specs.declared.role.Role.TheVariants as role
-use Rattle.papaya_histories.specs.Given.Finishes.Endings.{Finishing, FinishingFacts, HasFinished, StepsOfEnding, waiting_by}
-use Rattle.papaya_histories.specs.Given.Finishes.FactsEnds.{Deed, Looks, TakesPair, LeavesTable, JoinsPair, TakesLeft, TakesCounter, WritesRoot, HasBehind, events_of, from_table, taken_by as taken_of, left_by}
+use Rattle.papaya_histories.specs.Given.Finishes.Endings.{Finishing, FinishingFacts, HasFinished, StepsOfEnding, finishing_of, waiting_by}
+use Rattle.papaya_histories.specs.Given.Finishes.FactsEnds.{Deed, Looks, TakesPair, LeavesTable, JoinsPair, TakesLeft, TakesCounter, WritesRoot, HasBehind, events_of, from_table, left_by, taken_by as taken_of}
+use Rattle.papaya_histories.specs.Given.Finishes.Maps.{Standing}
 use Rattle.papaya_histories.specs.Given.Finishes.Orders.{pairs_of}
-use Rattle.papaya_histories.proofs.Given.Finishes.Ends.CountedBlocks.{some_last}
-use Rattle.papaya_histories.proofs.Given.Finishes.Ends.Frames.{that_one}
+use Rattle.papaya_histories.proofs.Given.Finishes.Ends.CountedBlocks.{some_first, some_here, some_last, times-append, times_other}
 use Rattle.papaya_histories.proofs.Given.Finishes.Ends.OrdersOn.{table_later}
-use Rattle.papaya_histories.specs.Given.Tables.Chunks.{is_incremental}
 use Rattle.papaya_executor.specs.Ending.{EndingStepsFrom, EndingComesTo}
 use Rattle.papaya_executor.specs.IsAt.{Scene, IsAt, slot_of}
 use Rattle.papaya_executor.specs.declared.executor.Executor.{Executor}
-use Rattle.papaya_histories.specs.Given.Follows.Blocks.{HasRole, WasLinked}
 use Rattle.papaya_histories.specs.Given.Follows.Maps.{table_of}
 use Rattle.papaya_histories.proofs.Given.Follows.Onward.{IsOfMap}
-use Rattle.papaya_histories.proofs.Given.Spots.Unreclaimed.{same_itself, table_is as table_same}
-use Rattle.papaya_histories.specs.Given.Follows.Steps.{TakesNone}
-use Rattle.papaya_histories.specs.Given.Others.Endings.{TellsNext}
-use Rattle.papaya_histories.proofs.Given.Others.Ends.{tells_next}
 use Rattle.papaya_histories.specs.Given.Moments.Whole.{ShowsWhole}
-use Rattle.papaya_histories.proofs.Given.Moments.Ends.{says, end_keeps}
-use Rattle.papaya_histories.proofs.Given.Moments.OnSlots.{none_some}
-use Rattle.papaya_lives.specs.Behind.{IsLeft, NoTableLeft, LiesBehind, EachWaits, ShowsWaiting}
-use Rattle.papaya_lives.specs.Waiting.{waits_behind}
-use Rattle.papaya_lives.proofs.Each.{WaitsAt, each_on, each_both, each_kept, found}
-use Rattle.papaya_lives.proofs.LeftOver.{over}
-use Rattle.papaya_lives.proofs.Lives.{WaitsIn, OnWay, OnList, TakenOver}
-use Rattle.papaya_lives.proofs.Lying.{behind_other}
-use Rattle.papaya_lives.proofs.Once.{Fewer}
-use Rattle.papaya_lives.proofs.Putting.{puts_onto}
-use Rattle.papaya_lives.proofs.Users.{left_lives}
-use Rattle.papaya_lives.proofs.WaitingEnds.{calm_deferred, none_of}
-use Rattle.papaya_lives.proofs.Worlds.{Kept, happens_kept, log_back, runs_kept, start_kept, has_it}
+use Rattle.papaya_histories.proofs.Given.Moments.Ends.{end_keeps}
+use Rattle.papaya_lives.proofs.InUse.{list_is}
+use Rattle.papaya_lives.proofs.Order.{noted_still}
+use Rattle.papaya_lives.proofs.OrderEnds.{same_behind, used_before}
 use Rattle.papaya_kept.specs.Kept.{ShowsKept}
-use Rattle.papaya_remains.specs.Remains.{has_some}
 use Rattle.papaya_logged.specs.Ends.{is_done, NotesMap, NotedStill}
-use Rattle.papaya_logged.specs.Waits.{TellsWaiting}
-use Rattle.papaya_logged.proofs.SomeBehind.{fewer_behind, has_either, has_last, has_more}
+use Rattle.papaya_logged.specs.Waits.{TellsLeft, TellsThen, TellsWaiting, WaitsSo, waited_behind}
+use Rattle.papaya_logged.proofs.LeftNoted.{left_there}
+use Rattle.papaya_logged.proofs.EndPast.{left_before, past_within, yet_carries, yet_fresh, yet_used}
 
--- a list of further values that is not empty is the list of no other word
-module _ {T : Type 0} (defers : T → Option ℕ) (m : Mem T) (b : ℕ) where
-  some_from : (o : Option ℕ) (x : ℕ) (xs l : List ℕ) → FurtherFrom m b o (x ∷ xs) → FurtherFrom m b o l → has_some l ≡ true
-  some_from None x xs l f g = absurd (cc f)
-  some_from (Some field) x xs [] (word, there, (next, some, is, entry, rest)) (word2, there2, none) =
-      absurd (let one : Some word ≡ Some word2 = sym there ∙ there2 in let alike : word ≡ word2 = cc one in let zero : x * 2048 ≡ 0 = sym is ∙ alike ∙ none in omega (arith, some, zero))
-  some_from (Some field) x xs (y ∷ l) f g = refl
+each_two : {X Y : Type 0} (g : X → Y) (a b : List X) → each_of g (a ++ b) ≡ each_of g a ++ each_of g b
+each_two g [] b = refl
+each_two {Y = Y} g (x ∷ a) b = ap (λ (l : List Y). g x ∷ l) (each_two g a b)
 
-  some_further : (x : ℕ) (xs l : List ℕ) → FurtherAre defers m b (x ∷ xs) → FurtherAre defers m b l → has_some l ≡ true
-  some_further x xs l f g =
-      let one : Some f.0 ≡ Some g.0 = sym f.1 ∙ g.1 in
-      let alike : f.0 ≡ g.0 = cc one in
-      some_from (defers g.0) x xs l (subst (λ (v : T). FurtherFrom m b (defers v) (x ∷ xs)) alike f.2) g.2
-
--- what somebody may cut nobody has left over, and the collector has it not
-cut_not_left : (i j : ℕ) → MayCut i (LeftTo j) → ⊥
-cut_not_left i j may = may
-
-handed_not_left : (h : Hand) → h ≡ Handed → IsLeft h → ⊥
-handed_not_left h is left = subst IsLeft is left
+-- and of one table more
+one_waited : (map : ℕ) (ds : List Deferral) (t tables : ℕ) → waited_behind map ds t (suc tables) ≡ waited_behind map ds t tables ++ behind (table_of map (t + tables)) ds
+one_waited map ds t zero = append-nil (behind (table_of map t) ds) ∙ ap (λ (u : ℕ). behind (table_of map u) ds) (let it : t ≡ t + 0 = omega arith in it)
+one_waited map ds t (suc tables) =
+    let u : suc t + tables ≡ t + suc tables = omega arith in
+    ap (λ (l : List ℕ). behind (table_of map t) ds ++ l) (one_waited map ds (suc t) tables ∙ ap (λ (n : ℕ). waited_behind map ds (suc t) tables ++ behind (table_of map n) ds) u)
+    ∙ sym (append_assoc (behind (table_of map t) ds) (waited_behind map ds (suc t) tables) (behind (table_of map (t + suc tables)) ds))
 
 module _ {K V S : Type 0} (same : K → K → Bool) (hash : K → ℕ) (name : ℕ → List ℕ) (m : Moment K V) (known : Known) (s : Scene K V) (old new : Executor K V S) (at : IsAt same hash old s)
     (whole : ShowsWhole same name m known s) (kept : ShowsKept name m known s) (i : ℕ) (f : Finishing K V) (here : s.enders i ≡ Some f) (end : EndMap)
@@ -100,372 +66,351 @@ module _ {K V S : Type 0} (same : K → K → Bool) (hash : K → ℕ) (name : �
     (did : StepsOfEnding V same same old.batch_size old.roots slot_of s.world s.maps s.calls s.makers s.enders i f new.memory.memory (end, said))
     (of : ℕ) (not_there : s.maps of ≡ None) (comes : EndingComesTo same hash s new i f end did.w2 did.deed said)
     (number : ℕ → ℕ) (first_known : Known) (notes : NotesMap of number first_known f.setting f.chart f.blocks) (noted : NotedStill first_known known f.back)
-    (first : Moment K V) (before : TellsWaiting of f.chart first m known s.world (has_some f.waits)) where
+    (noted_then : NotedStill first_known (known_after (Ending of) new.memory.changed known) (f.back ++ taken_of did.deed))
+    (first : Moment K V) (before : TellsWaiting same of i f first m known s.world) where
   abbrev w : World (Node K V)
   w = s.world
 
-  abbrev told : Changed
-  told = new.memory.changed
-
   abbrev effects : List Effect
-  effects = effects_of (Ending of) known told
+  effects = effects_of (Ending of) known new.memory.changed
 
   abbrev known2 : Known
-  known2 = known_after (Ending of) told known
+  known2 = known_after (Ending of) new.memory.changed known
 
   abbrev v : Moment K V
   v = with_effects None (Some of) effects m
 
-  abbrev some2 : Bool
-  some2 = has_some (f.waits ++ waiting_by did.deed)
-
-  its : Kept deferred_word old.batch_size w
-  its =
-      (let came : CameAbout old.batch_size w = at.together.makings.standing.came in
-      runs_kept deferred_word old.batch_size came.1 _ w (start_kept deferred_word old.batch_size came.0) came.2)
+  abbrev its_first : Reached deferred_word old.batch_size w
+  its_first = came_reached old.batch_size w at.together.makings.standing.came
 
   after : Reached deferred_word old.batch_size did.w2
-  after = runs_reached deferred_word old.batch_size (events_of i did.deed) w did.w2 (came_reached old.batch_size w at.together.makings.standing.came) did.runs
+  after = runs_reached deferred_word old.batch_size (events_of i did.deed) w did.w2 its_first did.runs
 
-  facts : FinishingFacts same old.batch_size w i f
-  facts = at.together.facts i f here
+  k : FinishingFacts same old.batch_size w i f
+  k = at.together.facts i f here
 
-  abbrev Waited : ℕ → Table → Type 0
-  Waited n t = (m.place n ≡ Behind) × LiesBehind known w n t
+  abbrev table : ℕ → ℕ
+  table t = f.blocks.table t
 
-  abbrev Left : ℕ → Table → Type 0
-  Left n t = (b : ℕ) → known.roles b ≡ role.Pair n → IsLeft (w.hand b) → has_some f.waits ≡ true
+  so : WaitsSo of f.chart first m known k.past f.waits
+  so = before old.batch_size k
 
-  abbrev Left2 : ℕ → Table → Type 0
-  Left2 n t = (b : ℕ) → known2.roles b ≡ role.Pair n → IsLeft (did.w2.hand b) → some2 ≡ true
+  -- what is there then is noted as it was
+  still_pair : (b n : ℕ) → IsSome (value_at did.w2.memory b) → known.roles b ≡ role.Pair n → known2.roles b ≡ role.Pair n
+  still_pair b n there is = (end_keeps same hash name m known s old new at whole i f here end said steps did of not_there comes).1 b there (subst IsOfMap (sym is) tt) ∙ is
 
-  more : has_some f.waits ≡ true → some2 ≡ true
-  more some = has_more f.waits (waiting_by did.deed) some
+  module _ (t : ℕ) (yet : k.past ≤ t) (made : t < f.chart.past) where
+    from : f.chart.first ≤ t
+    from = (let within = (past_within same old.batch_size w i f k).0 in omega (arith, within, yet))
 
-  was : (b : ℕ) (r : Role) → IsOfMap r → known2.roles b ≡ r → known.roles b ≡ r
-  was b r kind is = sym ((end_keeps same hash name m known s old new at whole i f here end said steps did of not_there comes).0 b (subst IsOfMap (sym is) kind)) ∙ is
+    fresh : times (table t) f.back ≡ 0
+    fresh = yet_fresh same old.batch_size w i f k t yet made
 
-  -- what is left over then was not reclaimed
-  untaken : (b : ℕ) → IsLeft (did.w2.hand b) → times b (taken_of did.deed) ≡ 0
-  untaken b left = none_of (times b (taken_of did.deed)) (λ some. none_some (value_at did.w2.memory b) there (did.spares.gone b some))
-    where
-      there : IsSome (value_at did.w2.memory b)
-      there = value_there deferred_word (LAST_SLOT + 1) did.w2.memory after.good.state after.good.extra b after.good.shows (left_lives (did.w2.hand b) (after.good.state.life b) left (after.good.hands b))
+    used : w.hand (table t) ≡ InUse f.setting.counter
+    used = yet_used same old.batch_size w i f k t yet made
 
-  -- what it leaves over of what the collector has is among what waits then
-  newly : (deed : Deed) → Runs deferred_word old.batch_size (events_of i deed) w did.w2 → (b : ℕ) → 0 < times b (left_by deed) → w.hand b ≡ Handed → has_some (waiting_by deed) ≡ true
-  newly Looks runs b some handed = absurd (omega (arith, some))
-  newly (TakesPair c) runs b some handed = absurd (omega (arith, some))
-  newly (LeavesTable c []) runs b some handed = absurd (subst (MayCut i) (ap w.hand (sym (that_one b c some)) ∙ handed) runs.1.0)
-  newly (LeavesTable c (x ∷ further)) runs b some handed = refl
-  newly (JoinsPair c word) runs b some handed = absurd (omega (arith, some))
-  newly (TakesLeft c) runs b some handed = absurd (omega (arith, some))
-  newly (TakesCounter c) runs b some handed = absurd (omega (arith, some))
-  newly (WritesRoot place word) runs b some handed = absurd (omega (arith, some))
+    is_table : known.roles (table t) ≡ role.Table (table_of of t) (f.chart.len t)
+    is_table = noted (table t) fresh ∙ notes.tables t from made
 
-  left_then : (n : ℕ) (t : Table) → Waited n t × Left n t → Left2 n t
-  left_then n t p b is left = by (times b (left_by did.deed)) refl
-    where
-      l : LiesBehind known w n t
-      l = p.0.1
+    -- the same pairs wait behind it
+    waits_still : behind (table_of of t) m.deferred ≡ behind (table_of of t) first.deferred
+    waits_still = so.still t yet made
 
-      role_was : known.roles b ≡ role.Pair n
-      role_was = was b (role.Pair n) tt is
+  -- later tables are other blocks
+  tables_apart : (t : ℕ) → k.past ≤ t → suc t < f.chart.past → table (suc t) ≢ table t
+  tables_apart t yet made e =
+      let both : role.Table (table_of of (suc t)) (f.chart.len (suc t)) ≡ role.Table (table_of of t) (f.chart.len t) =
+      sym (is_table (suc t) (omega (arith, yet)) made) ∙ ap known.roles e ∙ is_table t yet (omega (arith, made)) in
+      let tables : table_of of (suc t) ≡ table_of of t = cc both in
+      let turns : suc t ≡ t = ap (λ (x : Table). x.turn) tables in omega (arith, turns)
 
-      one : l.pair ≡ b
-      one = whole.all.shown.blocks.once l.pair b n l.is_pair role_was
+  -- what a table may leave over is what it carries
+  module _ (u : ℕ) (yet : k.past ≤ u) (made : u < f.chart.past) (further : List ℕ) (are : FurtherAre deferred_word w.memory (table u) further) where
+    carried : HasBehind w (table u) (k.lists u)
+    carried = yet_carries same old.batch_size w i f k u yet made
 
-      newly_left : 0 < times b (left_by did.deed) → some2 ≡ true
-      newly_left some = elim l.waits as (λ _. some2 ≡ true) [
-        | inl waits ↦
-            has_last f.waits (waiting_by did.deed)
-            (newly did.deed did.runs b some (ap w.hand (sym one) ∙ has_it deferred_word old.batch_size w its l.pair l.table waits))
-        | inr both ↦ more (p.1 b role_was (subst (λ (k : ℕ). IsLeft (w.hand k)) one both.0))
-      ]
+    one_list : further ≡ k.lists u
+    one_list =
+        list_is deferred_word w its_first.good (table u) f.setting.counter (used u yet made) further are
+        ∙ sym (list_is deferred_word w its_first.good (table u) f.setting.counter (used u yet made) (k.lists u) carried.are)
 
-      by : (k : ℕ) → times b (left_by did.deed) ≡ k → some2 ≡ true
-      by zero e = more (p.1 b role_was (subst IsLeft (did.spares.hands b (untaken b left) e) left))
-      by (suc k) e = newly_left (omega (arith, e))
+    -- so it is no table that is in use
+    none_carried : (t : ℕ) → k.past ≤ t → t < f.chart.past → times (table t) further ≡ 0
+    none_carried t yet_t made_t = by (times (table t) further) refl
+      where
+        by : (n : ℕ) → times (table t) further ≡ n → times (table t) further ≡ 0
+        by zero e = e
+        by (suc n) e =
+            let some : 0 < times (table t) further = omega (arith, e) in
+            let handed = (carried.theirs (table t) (subst (λ (l : List ℕ). 0 < times (table t) l) one_list some)).0 in
+            let in_use = used t yet_t made_t in absurd (cc (handed, in_use))
 
-  -- fewer wait then, if any
-  end_took : (r : Role) → Fewer m.deferred (with_effects None (Some of) (taken_by (Ending of) r) m).deferred
-  end_took role.Free = inl refl
-  end_took (role.OwnPair j) = inl refl
-  end_took (role.OwnTable turn shape) = inl refl
-  end_took (role.Pair k) = inl refl
-  end_took (role.Table u len) = inr (u, refl)
-  end_took (role.Counter of) = inl refl
+  -- It stays at its table, and nothing more waits; or it has left over the next one, with what that carries.
+  abbrev Moves : Deed → ℕ → Type 0
+  Moves deed past2 =
+      ((past2 ≡ k.past) × (waiting_by deed ≡ [])) ⊎ ((past2 ≡ suc k.past) × (k.past < f.chart.past) × FurtherAre deferred_word w.memory (table k.past) (waiting_by deed))
 
-  end_fewer : Fewer m.deferred v.deferred
-  end_fewer = elim (says same hash name m known s old new at whole i f here end said steps did of not_there comes) as (λ _. Fewer m.deferred v.deferred) [
-    | inl it ↦ inl (calm_deferred (Some of) effects m it.0)
-    | inr it ↦ subst (λ (x : Changed). Fewer m.deferred (with_effects None (Some of) (effects_of (Ending of) known x) m).deferred) (sym it.1) (end_took (known.roles it.0))
-  ]
+  module _ (past2 : ℕ) (not_less : k.past ≤ past2) (within : past2 ≤ f.chart.past) where
+    abbrev Spared : Deed → Type 0
+    Spared deed = (t : ℕ) → k.past ≤ t → t < f.chart.past → times (table t) (taken_of deed) ≡ 0 → times (table t) (left_by deed) ≡ 0 → past2 ≤ t
 
-  each_fewer : (ds : List Deferral) → Fewer m.deferred ds → EachWaits Left2 ds
-  each_fewer ds (inl alike) =
-      subst (EachWaits Left2) (sym alike) (each_on (λ n t. Waited n t × Left n t) Left2 left_then m.deferred (each_both Waited Left m.deferred kept.waiting before.left))
-  each_fewer ds (inr (u, those)) =
-      subst (EachWaits Left2) (sym those)
-      (each_kept (λ n t. Waited n t × Left n t) Left2 (λ d. not (same_table d.behind u)) (λ d other p. left_then d.pair d.behind p) m.deferred (each_both Waited Left m.deferred kept.waiting before.left))
+    abbrev Touched : Deed → Type 0
+    Touched deed = (t : ℕ) → k.past ≤ t → t < f.chart.past → 0 < times (table t) (taken_of deed ++ left_by deed) → t < past2
 
-  less : (ds : List Deferral) → Fewer m.deferred ds → (n : ℕ) (t : Table) → is_among n (behind t ds) ≡ true → is_among n (behind t m.deferred) ≡ true
-  less ds (inl alike) n t among = ap (λ (xs : List Deferral). is_among n (behind t xs)) (sym alike) ∙ among
-  less ds (inr (u, those)) n t among =
-      fewer_behind n t (λ d. not (same_table d.behind u)) m.deferred (ap (λ (xs : List Deferral). is_among n (behind t xs)) (sym those) ∙ among)
+    abbrev Over : Deed → Type 0
+    Over deed = (x : ℕ) → 0 < times x (left_by deed) → IsPair w x ⊎ ((times x f.back ≡ 0) × ((t : ℕ) × (f.chart.first ≤ t) × (t < f.chart.past) × (x ≡ table t)))
 
-  -- a table of the map that is in use has behind it what it leaves over with that
-  module _ (c x : ℕ) (further : List ℕ) (runs : Runs deferred_word old.batch_size (Unlinks i c ∷ LeavesOver i c (x ∷ further) ∷ []) w did.w2) where
-    are : FurtherAre deferred_word w.memory c (x ∷ further)
-    are = subst (λ (z : World (Node K V)). FurtherAre deferred_word z.memory c (x ∷ further)) runs.1.1 runs.2.1.3
+    -- it takes or leaves over no table that is in use
+    stays : (deed : Deed) → waiting_by deed ≡ [] → Spared deed → ((t : ℕ) → k.past ≤ t → t < f.chart.past → (times (table t) (taken_of deed) ≡ 0) × (times (table t) (left_by deed) ≡ 0)) → Moves deed past2
+    stays deed none spared apart = inl (by (cases_lt k.past f.chart.past), none)
+      where
+        by : (k.past < f.chart.past) ⊎ (f.chart.past ≤ k.past) → past2 ≡ k.past
+        by (inl lt) = (let a = apart k.past (omega arith) lt in let le = spared k.past (omega arith) lt a.0 a.1 in omega (arith, le, not_less))
+        by (inr le) = omega (arith, le, not_less, within)
 
-    onto_none : (j : ℕ) → IsOnto c (w.row j) → ⊥
-    onto_none j onto = runs.2.1.2 j (subst (λ (z : World (Node K V)). IsOnto c (z.row j)) (sym runs.1.1) onto)
-
-    -- it is no pair
-    no_pair : (k : K) (value : V) → value_at w.memory c ≡ Some (node.Pair k value) → ⊥
-    no_pair k value is =
-        let one : Some are.0 ≡ Some (node.Pair k value) = sym are.1 ∙ is in
-        let alike : are.0 ≡ node.Pair k value = cc one in
-        let none : FurtherFrom w.memory c None (x ∷ further) = subst (λ (z : Node K V). FurtherFrom w.memory c (deferred_word z) (x ∷ further)) alike are.2 in
-        cc none
-
-    module _ (u : ℕ) (from : f.chart.first ≤ u) (made : u < f.chart.past) (is : c ≡ f.blocks.table u) (fresh : times c f.back ≡ 0) where
-      fresh_u : times (f.blocks.table u) f.back ≡ 0
-      fresh_u = subst (λ (k : ℕ). times k f.back ≡ 0) is fresh
-
-      in_use : facts.past ≤ u
-      in_use = elim (cases_lt u facts.past) as (λ _. facts.past ≤ u) [
-        | inl lt ↦
-            let left = ((facts.facts.since.tables u from made fresh_u).left lt).0 in
-            absurd (cut_not_left i i (subst (MayCut i) (ap w.hand is ∙ left) runs.1.0))
-        | inr le ↦ le
-      ]
-
-      carried : HasBehind w (f.blocks.table u) (facts.lists u)
-      carried = (facts.facts.since.tables u from made fresh_u).carries in_use
-
-      some_there : has_some (facts.lists u) ≡ true
-      some_there =
-          some_further deferred_word w.memory (f.blocks.table u) x further (facts.lists u) (subst (λ (k : ℕ). FurtherAre deferred_word w.memory k (x ∷ further)) is are) carried.are
-
-      table_is : known.roles c ≡ role.Table (table_of of u) (f.chart.len u)
-      table_is = noted c fresh ∙ ap first_known.roles is ∙ notes.tables u from made
-
-      one_waited : (n : ℕ) × (is_among n (behind (table_of of u) m.deferred) ≡ true)
-      one_waited = by (facts.lists u) refl
+    -- it cuts a block
+    module _ (deed : Deed) (c : ℕ) (may : MayCut i (w.hand c)) (are : FurtherAre deferred_word w.memory c (waiting_by deed)) (spared : Spared deed) (touched : Touched deed)
+        (gone : (x : ℕ) → x ≡ c → 0 < times x (taken_of deed ++ left_by deed))
+        (others : (x : ℕ) → x ≢ c → times x (waiting_by deed) ≡ 0 → (times x (taken_of deed) ≡ 0) × (times x (left_by deed) ≡ 0))
+        (its : (waiting_by deed ≡ []) ⊎ ((times c f.back ≡ 0) × ((u : ℕ) × (f.chart.first ≤ u) × (u < f.chart.past) × (c ≡ table u)))) where
+      -- a table that it cuts was in use
+      in_use : (u : ℕ) → f.chart.first ≤ u → times c f.back ≡ 0 → c ≡ table u → k.past ≤ u
+      in_use u from_u none is = by (cases_lt u k.past)
         where
-          first_count : (y : ℕ) (l : List ℕ) → 0 < times y (y ∷ l)
-          first_count y l = let one : times y (y ∷ l) ≡ 1 + times y l = ap (λ (q : Bool). (if q then 1 else 0) + times y l) (eq-eqb y y refl) in omega (arith, one)
+          by : (u < k.past) ⊎ (k.past ≤ u) → k.past ≤ u
+          by (inl lt) =
+              let left = left_before same old.batch_size w i f k u from_u lt (ap (λ (x : ℕ). times x f.back) (sym is) ∙ none) in
+              absurd (subst (MayCut i) (ap w.hand is ∙ left) may)
+          by (inr le) = le
 
-          by : (l : List ℕ) → facts.lists u ≡ l → (n : ℕ) × (is_among n (behind (table_of of u) m.deferred) ≡ true)
-          by [] e = absurd (let none = ap has_some e in cc (some_there, none))
-          by (y ∷ l) e =
-              let theirs = carried.theirs y (subst (λ (xs : List ℕ). 0 < times y xs) (sym e) (first_count y l)) in
-              let lies : where_is y w.log ≡ With c = theirs.1 ∙ ap With (sym is) in
-              elim (kept.lying y c (f.chart.len u) (table_of of u) table_is lies) as (λ _. (n : ℕ) × (is_among n (behind (table_of of u) m.deferred) ≡ true)) [
-                | inl it ↦ (it.0, it.2)
-                | inr put ↦ absurd (onto_none put.0 (puts_onto y c (w.row put.0) put.1))
-              ]
-
-  abbrev SomeWaited : Type 0
-  SomeWaited = (u : ℕ) × (n : ℕ) × (f.chart.first ≤ u) × (u < f.chart.past) × (is_among n (behind (table_of of u) first.deferred) ≡ true)
-
-  newly_waited : (deed : Deed) → did.deed ≡ deed → has_some (waiting_by deed) ≡ true → SomeWaited
-  newly_waited Looks is e = absurd (cc e)
-  newly_waited (TakesPair c) is e = absurd (cc e)
-  newly_waited (LeavesTable c []) is e = absurd (cc e)
-  newly_waited (LeavesTable c (x ∷ further)) is e =
-      let runs = subst (λ (d : Deed). Runs deferred_word old.batch_size (events_of i d) w did.w2) is did.runs in
-      let count : 0 < times c (left_by did.deed) = subst (λ (d : Deed). 0 < times c (left_by d)) (sym is)
-      (let one : times c (c ∷ x ∷ further) ≡ 1 + times c (x ∷ further) = ap (λ (q : Bool). (if q then 1 else 0) + times c (x ∷ further)) (eq-eqb c c refl) in omega (arith, one)) in
-      elim (did.done_to.over c count) as (λ _. SomeWaited) [
-        | inl pair ↦ absurd (no_pair c x further runs pair.0 pair.1 pair.2)
-        | inr (fresh, (u, from, made, table)) ↦
-            let it = one_waited c x further runs u from made table fresh in
-            (u, it.0, from, made, before.fewer it.0 (table_of of u) it.1)
-      ]
-  newly_waited (JoinsPair c word) is e = absurd (cc e)
-  newly_waited (TakesLeft c) is e = absurd (cc e)
-  newly_waited (TakesCounter c) is e = absurd (cc e)
-  newly_waited (WritesRoot place word) is e = absurd (cc e)
-
-  -- what waits behind a block by the log the end does not take
-  module _ (b x : ℕ) (waits : waits_behind b w.log ≡ Some x) where
-    -- that one may carry it, so it is not left over
-    not_left : (j : ℕ) → w.hand x ≡ LeftTo j → ⊥
-    not_left j left = by (its.waits b x waits)
-      where
-        fits : HandFits (LeftTo j) (its.good.state.life x)
-        fits = subst (λ (h : Hand). HandFits h (its.good.state.life x)) left (its.good.hands x)
-
-        none : can_carry (its.good.state.life x) ≡ false
-        none = ap can_carry fits
-
-        by : WaitsIn its.good.state b x → ⊥
-        by (OnWay k slot is) = (let yes = (its.good.inv.places.carries b x (ap (lies_with x) is ∙ eq-eqb x x refl)).2 in cc (yes, none))
-        by (OnList is) = (let yes = (its.good.inv.places.carries b x (ap (lies_with x) is ∙ eq-eqb x x refl)).2 in cc (yes, none))
-        by (TakenOver k bs is doomed) = (let gone = first_doomed (LAST_SLOT + 1) k its.good.state x bs its.good.inv doomed in cc (gone, fits))
-
-    apart : (k : ℕ) → MayCut k (w.hand x) → b ≡ x → ⊥
-    apart k may e = subst (MayCut k) (ap w.hand (sym e) ∙ has_it deferred_word old.batch_size w its b x waits) may
-
-    table_untaken : WasLinked (w.hand x) → (deed : Deed) → Runs deferred_word old.batch_size (events_of i deed) w did.w2 → 0 < times x (taken_of deed) → ⊥
-    table_untaken linked Looks runs some = omega (arith, some)
-    table_untaken linked (TakesPair c) runs some =
-        let one : x ≡ c = that_one x c some in
-        let k1 = happens_kept deferred_word old.batch_size w runs.0 its (Unlinks i c) runs.1 in
-        let waits1 : waits_behind b runs.0.log ≡ Some c = sym (log_back deferred_word old.batch_size w runs.0 (Unlinks i c) tt runs.1 b) ∙ waits ∙ ap (λ (k : ℕ). Some k) one in
-        let left : IsLeft (runs.2.0.hand b) = over deferred_word old.batch_size runs.0 k1 runs.2.0 i c [] runs.2.1 b waits1 in
-        let ne : b ≡ c → ⊥ = (λ e. apart i (subst (λ (k : ℕ). MayCut i (w.hand k)) (sym one) runs.1.0) (e ∙ sym one)) in
-        let handed : runs.0.hand b ≡ Handed = ap (λ (z : World (Node K V)). z.hand b) runs.1.1 ∙ at_other w.hand c (Cutting i) b ne ∙ has_it deferred_word old.batch_size w its b x waits in
-        still_handed c runs.0 runs.2.0 (ap (λ (z : World (Node K V)). z.hand b) runs.2.1.4) ne handed left
-      where
-        still_handed : (c : ℕ) (v1 v2 : World (Node K V)) → v2.hand b ≡ all_left_to i (c ∷ []) v1.hand b → (b ≡ c → ⊥) → v1.hand b ≡ Handed → IsLeft (v2.hand b) → ⊥
-        still_handed c v1 v2 is ne handed left = handed_not_left (v2.hand b) (is ∙ other_left (b == c) refl ∙ handed) left
-          where
-            other_left : (q : Bool) → (b == c) ≡ q → (if q || false then LeftTo i else v1.hand b) ≡ v1.hand b
-            other_left true e = absurd (ne (eqb-true b c e))
-            other_left false e = refl
-    table_untaken linked (LeavesTable c further) runs some = omega (arith, some)
-    table_untaken linked (JoinsPair c word) runs some = omega (arith, some)
-    table_untaken linked (TakesLeft c) runs some = (let left = runs.1.2 in not_left left.0 (ap w.hand (that_one x c some) ∙ left.1))
-    table_untaken linked (TakesCounter c) runs some =
-        (let made = runs.1.2 in subst WasLinked (ap w.hand (that_one x c some) ∙ made.1) linked)
-    table_untaken linked (WritesRoot place word) runs some = omega (arith, some)
-
-  told_taken : (x : ℕ) → told ≡ changed.Took x → 0 < times x (taken_of did.deed)
-  told_taken x is = by said comes (tells_next same hash name m known s old new at whole.all.shown i f here end said steps did of not_there said comes)
-    where
-      by : (t : Settled (Node K V)) (c : EndingComesTo same hash s new i f end did.w2 did.deed t) → TellsNext same hash s new i f end did.w2 did.deed t c told → 0 < times x (taken_of did.deed)
-      by settled.Goes c none = absurd (subst TakesNone is none)
-      by settled.Waits c none = absurd c
-      by (settled.Gave value) c took =
-          let both : changed.Took c.0 ≡ changed.Took x = sym took ∙ is in
-          let one : c.0 ≡ x = cc both in
-          let count : times x (taken_of did.deed) ≡ times x (c.0 ∷ []) = ap (times x) c.2 in
-          let once : ◌≡◌ {A = ℕ} (times x (c.0 ∷ [])) 1 = ap (λ (k : ℕ). times x (k ∷ [])) one ∙ ap (λ (q : Bool). (if q then 1 else 0) + 0) (eq-eqb x x refl) in
-          omega (arith, count, once)
-      by settled.Done c none = absurd (subst TakesNone is none)
-
-  -- where a table is taken, what waits behind it is left over with it
-  taken_left : (u : Table) (n x len : ℕ) → known.roles x ≡ role.Table u len → 0 < times x (taken_of did.deed) → is_among n (behind u m.deferred) ≡ true → has_some f.waits ≡ true
-  taken_left u n x len table some among = elim l.waits as (λ _. has_some f.waits ≡ true) [
-    | inl waits ↦
-        absurd (table_untaken l.pair x (waits ∙ ap (λ (k : ℕ). Some k) one) (subst (HasRole w m.stored x) table (whole.all.shown.blocks.roles x)).2 did.deed did.runs some)
-    | inr both ↦ a.so.1 l.pair (l.is_pair ∙ ap role.Pair (sym a.number)) both.0
-  ]
-    where
-      a : WaitsAt (λ n t. Waited n t × Left n t) n u
-      a = found (λ n t. Waited n t × Left n t) n u m.deferred (each_both Waited Left m.deferred kept.waiting before.left) among
-
-      l : LiesBehind known w n u
-      l = subst (LiesBehind known w n) (table_same a.one.behind u a.its) (subst (λ (k : ℕ). LiesBehind known w k a.one.behind) a.number a.so.0.1)
-
-      one : l.table ≡ x
-      one = whole.blocks.tables_once l.table x l.len len u l.is_table table
-
-  still_then : (n : ℕ) (t : Table) → is_among n (behind t m.deferred) ≡ true → (is_among n (behind t v.deferred) ≡ true) ⊎ (some2 ≡ true)
-  still_then n t among = elim (says same hash name m known s old new at whole i f here end said steps did of not_there comes) as (λ _. (is_among n (behind t v.deferred) ≡ true) ⊎ (some2 ≡ true)) [
-    | inl it ↦ inl (ap (λ (ds : List Deferral). is_among n (behind t ds)) (calm_deferred (Some of) effects m it.0) ∙ among)
-    | inr it ↦
-        subst (λ (x : Changed). (is_among n (behind t (with_effects None (Some of) (effects_of (Ending of) known x) m).deferred) ≡ true) ⊎ (some2 ≡ true)) (sym it.1)
-        (took it.0 it.1 (known.roles it.0) refl)
-  ]
-    where
-      took : (x : ℕ) → told ≡ changed.Took x → (r : Role) → known.roles x ≡ r
-          → (is_among n (behind t (with_effects None (Some of) (taken_by (Ending of) r) m).deferred) ≡ true) ⊎ (some2 ≡ true)
-      took x is role.Free e = inl among
-      took x is (role.OwnPair j) e = inl among
-      took x is (role.OwnTable turn shape) e = inl among
-      took x is (role.Pair k) e = inl among
-      took x is (role.Counter of) e = inl among
-      took x is (role.Table u len) e = by (same_table t u) refl
+      no_table : (t : ℕ) → k.past ≤ t → t < f.chart.past → times (table t) (waiting_by deed) ≡ 0
+      no_table t yet made = by its
         where
-          by : (q : Bool) → same_table t u ≡ q
-              → (is_among n (behind t (with_effects None (Some of) (taken_by (Ending of) (role.Table u len)) m).deferred) ≡ true) ⊎ (some2 ≡ true)
-          by true one =
-              inr (more (taken_left u n x len e (told_taken x is) (subst (λ (y : Table). is_among n (behind y m.deferred) ≡ true) (table_same t u one) among)))
-          by false one = inl (behind_other n t u (λ same_one. (let yes : same_table t u ≡ true = ap (λ (y : Table). same_table y u) same_one ∙ same_itself u in cc (yes, one))) m.deferred among)
+          by : (waiting_by deed ≡ []) ⊎ ((times c f.back ≡ 0) × ((u : ℕ) × (f.chart.first ≤ u) × (u < f.chart.past) × (c ≡ table u))) → times (table t) (waiting_by deed) ≡ 0
+          by (inl none) = ap (times (table t)) none
+          by (inr (none, (u, from_u, made_u, is))) =
+              none_carried u (in_use u from_u none is) made_u (waiting_by deed) (subst (λ (x : ℕ). FurtherAre deferred_word w.memory x (waiting_by deed)) is are) t yet made
 
-  waits_then : TellsWaiting of f.chart first v known2 did.w2 some2
-  waits_then = record {
-    left = each_fewer v.deferred end_fewer;
-    waited = λ some. elim (has_either f.waits (waiting_by did.deed) some) as (λ _. SomeWaited) [
-      | inl old_some ↦ before.waited old_some
-      | inr new_some ↦ newly_waited did.deed refl new_some
-    ];
-    still = λ n t among. elim (before.still n t among) as (λ _. (is_among n (behind t v.deferred) ≡ true) ⊎ (some2 ≡ true)) [
-      | inl yet ↦ still_then n t yet
-      | inr some ↦ inr (more some)
-    ];
-    fewer = λ n t among. before.fewer n t (less v.deferred end_fewer n t among);
-  }
+      advances : k.past < f.chart.past → c ≡ table k.past → Moves deed past2
+      advances lt is = inr (by (cases_lt (suc k.past) past2), lt, subst (λ (x : ℕ). FurtherAre deferred_word w.memory x (waiting_by deed)) is are)
+        where
+          more : k.past < past2
+          more = touched k.past (omega arith) lt (gone (table k.past) (sym is))
 
-  -- where it is over nothing more was left over by its last step
-  module _ (finished : HasFinished did.w2.memory f) where
-    all_back : (u : ℕ) → f.chart.first ≤ u → u < f.chart.past → 0 < times (f.blocks.table u) f.back
-    all_back u from made =
-        subst (λ (l : List ℕ). 0 < times (f.blocks.table u) l) (sym finished.back_is)
-        (some_last (f.blocks.table u) (map f.blocks.pair (pairs_of (is_incremental f.setting.mode) f.chart)) (from_table f.setting f.chart f.blocks (λ t. []) false f.chart.first)
-        (table_later f.setting f.chart f.blocks (λ t. []) false u f.chart.first from made))
+          by : (suc k.past < past2) ⊎ (past2 ≤ suc k.past) → past2 ≡ suc k.past
+          by (inl far) =
+              let made : suc k.past < f.chart.past = omega (arith, far, within) in
+              let a = others (table (suc k.past)) (λ e. tables_apart k.past (omega arith) made (e ∙ is)) (no_table (suc k.past) (omega arith) made) in
+              let le = spared (suc k.past) (omega arith) made a.0 a.1 in absurd (omega (arith, le, far))
+          by (inr le) = omega (arith, le, more)
 
-    nothing_new : (deed : Deed) → did.deed ≡ deed → has_some (waiting_by deed) ≡ false
-    nothing_new Looks is = refl
-    nothing_new (TakesPair c) is = refl
-    nothing_new (LeavesTable c []) is = refl
-    nothing_new (LeavesTable c (x ∷ further)) is =
-        let runs = subst (λ (d : Deed). Runs deferred_word old.batch_size (events_of i d) w did.w2) is did.runs in
-        let count : 0 < times c (left_by did.deed) = subst (λ (d : Deed). 0 < times c (left_by d)) (sym is)
-        (let one : times c (c ∷ x ∷ further) ≡ 1 + times c (x ∷ further) = ap (λ (q : Bool). (if q then 1 else 0) + times c (x ∷ further)) (eq-eqb c c refl) in omega (arith, one)) in
-        elim (did.done_to.over c count) as (λ _. true ≡ false) [
-          | inl pair ↦ absurd (no_pair c x further runs pair.0 pair.1 pair.2)
-          | inr (fresh, (u, from, made, table)) ↦
-              absurd (let some = all_back u from made in let none = subst (λ (k : ℕ). times k f.back ≡ 0) table fresh in omega (arith, some, none))
-        ]
-    nothing_new (JoinsPair c word) is = refl
-    nothing_new (TakesLeft c) is = refl
-    nothing_new (TakesCounter c) is = refl
-    nothing_new (WritesRoot place word) is = refl
+      rests : ((k.past < f.chart.past) → c ≢ table k.past) → Moves deed past2
+      rests ne = inl (past_is, none its)
+        where
+          by : (k.past < f.chart.past) ⊎ (f.chart.past ≤ k.past) → past2 ≡ k.past
+          by (inl lt) =
+              let a = others (table k.past) (λ e. ne lt (sym e)) (no_table k.past (omega arith) lt) in
+              let le = spared k.past (omega arith) lt a.0 a.1 in omega (arith, le, not_less)
+          by (inr le) = omega (arith, le, not_less, within)
 
-    same_some : some2 ≡ has_some f.waits
-    same_some = by f.waits
+          past_is : past2 ≡ k.past
+          past_is = by (cases_lt k.past f.chart.past)
+
+          none : (waiting_by deed ≡ []) ⊎ ((times c f.back ≡ 0) × ((u : ℕ) × (f.chart.first ≤ u) × (u < f.chart.past) × (c ≡ table u))) → waiting_by deed ≡ []
+          none (inl it) = it
+          none (inr (zero_times, (u, from_u, made_u, is))) =
+              let yet = in_use u from_u zero_times is in
+              let lt = touched u yet made_u (gone (table u) (sym is)) in absurd (omega (arith, lt, yet, past_is))
+
+      cuts : Moves deed past2
+      cuts = by (cases_lt k.past f.chart.past) (cases_eq c (table k.past))
+        where
+          by : (k.past < f.chart.past) ⊎ (f.chart.past ≤ k.past) → (c ≡ table k.past) ⊎ (c ≢ table k.past) → Moves deed past2
+          by (inl lt) (inl is) = advances lt is
+          by (inl lt) (inr ne) = rests (λ l. ne)
+          by (inr le) q = rests (λ l. absurd (omega (arith, l, le)))
+
+    unlinked : (c : ℕ) (z : World (Node K V)) (further : List ℕ) → z.memory ≡ w.memory → FurtherAre deferred_word z.memory c further → FurtherAre deferred_word w.memory c further
+    unlinked c z further is are = subst (λ (x : Mem (Node K V)). FurtherAre deferred_word x c further) is are
+
+    -- what is left over with a pair
+    pair_alone : (c : ℕ) (further : List ℕ) → FurtherAre deferred_word w.memory c further → IsPair w c → further ≡ []
+    pair_alone c further are (key, value, is) =
+        let one : Some are.0 ≡ Some (node.Pair key value) = sym are.1 ∙ is in
+        let alike : are.0 ≡ node.Pair key value = cc one in
+        let none : FurtherFrom w.memory c None further = subst (λ (z : Node K V). FurtherFrom w.memory c (deferred_word z) further) alike are.2 in none
+
+    none_else : (x c : ℕ) → x ≢ c → times x (c ∷ []) ≡ 0
+    none_else x c ne = times_other x c [] ne
+
+    moves_by : (deed : Deed) → Runs deferred_word old.batch_size (events_of i deed) w did.w2 → Spared deed → Touched deed → Over deed → Moves deed past2
+    moves_by Looks runs spared touched over = stays Looks refl spared (λ t yet made. (refl, refl))
+    moves_by (TakesPair b) runs spared touched over =
+        cuts (TakesPair b) b runs.1.0 (unlinked b runs.0 [] (ap (λ (z : World (Node K V)). z.memory) runs.1.1) runs.2.1.3) spared touched
+        (λ x e. subst (λ (y : ℕ). 0 < times x (y ∷ [])) e (some_here x [])) (λ x ne none. (none_else x b ne, refl)) (inl refl)
+    moves_by (LeavesTable b further) runs spared touched over =
+        let are = unlinked b runs.0 further (ap (λ (z : World (Node K V)). z.memory) runs.1.1) runs.2.1.3 in
+        cuts (LeavesTable b further) b runs.1.0 are spared touched
+        (λ x e. subst (λ (y : ℕ). 0 < times x (y ∷ further)) e (some_here x further)) (λ x ne none. (refl, times_other x b further ne ∙ none))
+        (elim (over b (some_here b further)) as (λ _. (further ≡ []) ⊎ ((times b f.back ≡ 0) × ((u : ℕ) × (f.chart.first ≤ u) × (u < f.chart.past) × (b ≡ table u)))) [
+          | inl pair ↦ inl (pair_alone b further are pair)
+          | inr it ↦ inr it
+        ])
+    moves_by (JoinsPair b word) runs spared touched over = stays (JoinsPair b word) refl spared (λ t yet made. (refl, refl))
+    moves_by (TakesLeft b) runs spared touched over =
+        stays (TakesLeft b) refl spared
+        (λ t yet made. (none_else (table t) b (λ e. let left = runs.1.2 in let in_use = used t yet made in let same_hand = ap w.hand e in cc (left.1, in_use, same_hand)), refl))
+    moves_by (TakesCounter b) runs spared touched over =
+        stays (TakesCounter b) refl spared
+        (λ t yet made. (none_else (table t) b (λ e. let making = runs.1.2 in let in_use = used t yet made in let same_hand = ap w.hand e in cc (making.1, in_use, same_hand)), refl))
+    moves_by (WritesRoot place word) runs spared touched over = stays (WritesRoot place word) refl spared (λ t yet made. (refl, refl))
+
+  -- where it goes on
+  module _ (waits2 : List ℕ) (is_waits : waits2 ≡ f.waits ++ waiting_by did.deed) (size2 : ℕ)
+      (k2 : FinishingFacts same size2 did.w2 i (record f { machine = end; back = f.back ++ taken_of did.deed; waits = waits2 })) where
+    abbrev f2 : Finishing K V
+    f2 = record f { machine = end; back = f.back ++ taken_of did.deed; waits = waits2 }
+
+    within2 : (f.chart.first ≤ k2.past) × (k2.past ≤ f.chart.past)
+    within2 = past_within same size2 did.w2 i f2 k2
+
+    none_taken : (t : ℕ) → times (table t) (f.back ++ taken_of did.deed) ≡ 0 → times (table t) f.back ≡ 0
+    none_taken t none = (let both = times-append (table t) f.back (taken_of did.deed) in omega (arith, both, none))
+
+    -- no table is in use again
+    not_less : k.past ≤ k2.past
+    not_less = by (cases_lt k2.past k.past)
       where
-        by : (xs : List ℕ) → has_some (xs ++ waiting_by did.deed) ≡ has_some xs
-        by [] = nothing_new did.deed refl
-        by (x ∷ xs) = refl
+        by : (k2.past < k.past) ⊎ (k.past ≤ k2.past) → k.past ≤ k2.past
+        by (inl lt) =
+            let made : k2.past < f.chart.past = (let bound = (past_within same old.batch_size w i f k).1 in omega (arith, bound, lt)) in
+            let none = none_taken k2.past (yet_fresh same size2 did.w2 i f2 k2 k2.past (omega arith) made) in
+            let then_used = yet_used same size2 did.w2 i f2 k2 k2.past (omega arith) made in
+            let was = used_before same hash name m known s old new at whole kept.order i f here end said steps did of not_there comes (table k2.past) f.setting.counter then_used in
+            let left = left_before same old.batch_size w i f k k2.past within2.0 lt none in
+            absurd (cc (was, left))
+        by (inr le) = le
 
-    waits_over : TellsWaiting of f.chart first v known2 did.w2 (has_some f.waits)
-    waits_over = subst (TellsWaiting of f.chart first v known2 did.w2) same_some waits_then
+    spared : (t : ℕ) → k.past ≤ t → t < f.chart.past → times (table t) (taken_of did.deed) ≡ 0 → times (table t) (left_by did.deed) ≡ 0 → k2.past ≤ t
+    spared t yet made not_taken not_left = by (cases_lt t k2.past)
+      where
+        by : (t < k2.past) ⊎ (k2.past ≤ t) → k2.past ≤ t
+        by (inl lt) =
+            let both = times-append (table t) f.back (taken_of did.deed) in
+            let none = fresh t yet made in
+            let left = left_before same size2 did.w2 i f2 k2 t (from t yet made) lt (omega (arith, both, none, not_taken)) in
+            let then_used = did.spares.hands (table t) not_taken not_left ∙ used t yet made in
+            absurd (cc (left, then_used))
+        by (inr le) = le
+
+    touched : (t : ℕ) → k.past ≤ t → t < f.chart.past → 0 < times (table t) (taken_of did.deed ++ left_by did.deed) → t < k2.past
+    touched t yet made some = by (cases_lt t k2.past)
+      where
+        by : (t < k2.past) ⊎ (k2.past ≤ t) → t < k2.past
+        by (inl lt) = lt
+        by (inr le) =
+            let none = yet_fresh same size2 did.w2 i f2 k2 t le made in
+            let both = times-append (table t) f.back (taken_of did.deed) in
+            let parts = times-append (table t) (taken_of did.deed) (left_by did.deed) in
+            let left = did.spares.left (table t) (omega (arith, none, both, parts, some)) in
+            let then_used = yet_used same size2 did.w2 i f2 k2 t le made in
+            absurd (cc (left, then_used))
+
+    moves : Moves did.deed k2.past
+    moves = moves_by k2.past not_less within2.1 did.deed did.runs spared touched did.done_to.over
+
+    -- what waits is there
+    there : (b : ℕ) → 0 < times b (f.waits ++ waiting_by did.deed) → IsSome (value_at did.w2.memory b)
+    there b some =
+        left_there old.batch_size did.w2 after b i
+        (k2.facts.since.waits b (subst (λ (l : List ℕ). 0 < times b l) (sym is_waits ∙ k2.waits_are) some))
+
+    old_noted : each_of known2.roles f.waits ≡ each_of role.Pair (waited_behind of first.deferred f.chart.first (k.past - f.chart.first))
+    old_noted =
+        noted_still known known2 f.waits (waited_behind of first.deferred f.chart.first (k.past - f.chart.first)) so.noted
+        (λ b n some is. still_pair b n (there b (some_first b f.waits (waiting_by did.deed) some)) is)
+
+    abbrev Noted : ℕ → List ℕ → Type 0
+    Noted past2 waits = each_of known2.roles waits ≡ each_of role.Pair (waited_behind of first.deferred f.chart.first (past2 - f.chart.first))
+
+    noted_by : Moves did.deed k2.past → Noted k2.past (f.waits ++ waiting_by did.deed)
+    noted_by (inl (past_is, none)) =
+        subst (λ (n : ℕ). Noted n (f.waits ++ waiting_by did.deed)) (sym past_is) (subst (λ (l : List ℕ). Noted k.past (f.waits ++ l)) (sym none) (subst (Noted k.past) (sym (append-nil f.waits)) old_noted))
+    noted_by (inr (past_is, made, are)) =
+        let further = waiting_by did.deed in
+        let waited = waited_behind of first.deferred f.chart.first (k.past - f.chart.first) in
+        let here_behind = behind (table_of of k.past) first.deferred in
+        let yet : k.past ≤ k.past = omega arith in
+        let theirs =
+        noted_still known known2 further here_behind
+        (kept.order (table k.past) (f.chart.len k.past) f.setting.counter (table_of of k.past) further (is_table k.past yet made) (used k.past yet made) are
+        ∙ ap (λ (ns : List ℕ). each_of role.Pair ns) (waits_still k.past yet made))
+        (λ b n some is. still_pair b n (there b (some_last b f.waits further some)) is) in
+        let lower = (past_within same old.batch_size w i f k).0 in
+        let sum : f.chart.first + (k.past - f.chart.first) ≡ k.past = omega (arith, lower) in
+        let one_more : suc k.past - f.chart.first ≡ suc (k.past - f.chart.first) = omega (arith, lower) in
+        let all_waited = one_waited of first.deferred f.chart.first (k.past - f.chart.first) ∙ ap (λ (u : ℕ). waited ++ behind (table_of of u) first.deferred) sum in
+        subst (λ (n : ℕ). Noted n (f.waits ++ further)) (sym past_is)
+        (each_two known2.roles f.waits further
+        ∙ ap (λ (rs : List Role). rs ++ each_of known2.roles further) old_noted
+        ∙ ap (λ (rs : List Role). each_of role.Pair waited ++ rs) theirs
+        ∙ sym (each_two role.Pair waited here_behind)
+        ∙ sym (ap (λ (ns : List ℕ). each_of role.Pair ns) all_waited)
+        ∙ sym (ap (λ (tables : ℕ). each_of role.Pair (waited_behind of first.deferred f.chart.first tables)) one_more))
+
+    still_then : (t : ℕ) → k2.past ≤ t → t < f.chart.past → behind (table_of of t) v.deferred ≡ behind (table_of of t) first.deferred
+    still_then t le made =
+        let yet : k.past ≤ t = (let more = not_less in omega (arith, more, le)) in
+        let is2 = noted_then (table t) (yet_fresh same size2 did.w2 i f2 k2 t le made) ∙ notes.tables t (from t yet made) made in
+        same_behind same hash name m known s old new at whole kept.order i f here end said steps did of not_there comes (table t) (f.chart.len t) (table_of of t) is2
+        ∙ waits_still t yet made
+
+    goes_so : WaitsSo of f.chart first v known2 k2.past waits2
+    goes_so = record { noted = subst (Noted k2.past) (sym is_waits) (noted_by moves); still = still_then }
+
+  pub waits_go : TellsWaiting same of i (record f { machine = end; back = f.back ++ taken_of did.deed; waits = f.waits ++ waiting_by did.deed }) first v known2 did.w2
+  waits_go size2 k2 = goes_so (f.waits ++ waiting_by did.deed) refl size2 k2
+
+  -- where it is over all tables were left over
+  module _ (none : taken_of did.deed ≡ []) (finished : HasFinished did.w2.memory f) where
+    all_back : (u : ℕ) → f.chart.first ≤ u → u < f.chart.past → 0 < times (table u) f.back
+    all_back u from_u made =
+        subst (λ (l : List ℕ). 0 < times (table u) l) (sym finished.back_is)
+        (some_last (table u) (each_of f.blocks.pair (pairs_of (is_incremental f.setting.mode) f.chart)) (from_table f.setting f.chart f.blocks (λ t. []) false f.chart.first)
+        (table_later f.setting f.chart f.blocks (λ t. []) false u f.chart.first from_u made))
+
+    past_all : k.past ≡ f.chart.past
+    past_all = by (cases_lt k.past f.chart.past)
+      where
+        by : (k.past < f.chart.past) ⊎ (f.chart.past ≤ k.past) → k.past ≡ f.chart.past
+        by (inl lt) =
+            let yet : k.past ≤ k.past = omega arith in
+            let some = all_back k.past (from k.past yet lt) lt in
+            let zero_times = fresh k.past yet lt in absurd (omega (arith, some, zero_times))
+        by (inr le) = (let bound = (past_within same old.batch_size w i f k).1 in omega (arith, le, bound))
+
+    pub waits_over : TellsLeft of f.chart first known2 f.waits
+    waits_over =
+        subst (λ (p : ℕ). each_of known2.roles f.waits ≡ each_of role.Pair (waited_behind of first.deferred f.chart.first (p - f.chart.first))) past_all
+        (noted_still known known2 f.waits (waited_behind of first.deferred f.chart.first (k.past - f.chart.first)) so.noted
+        (λ b n some is. still_pair b n
+        (subst (λ (p : Option (Node K V)). IsSome p) (sym (did.spares.values b (ap (times b) none)))
+        (left_there old.batch_size w its_first b i (k.facts.since.waits b (subst (λ (l : List ℕ). 0 < times b l) k.waits_are some)))) is))
 
   -- by what it says
-  pub waits_said : TellsWaiting of f.chart first v known2 did.w2 (if is_done said then has_some f.waits else some2)
+  pub waits_said : TellsThen same of i f (is_done said) end did.deed first v known2 did.w2
   waits_said = by said comes
     where
-      by : (t : Settled (Node K V)) → EndingComesTo same hash s new i f end did.w2 did.deed t → TellsWaiting of f.chart first v known2 did.w2 (if is_done t then has_some f.waits else some2)
-      by settled.Goes c = waits_then
+      by : (t : Settled (Node K V)) → EndingComesTo same hash s new i f end did.w2 did.deed t → TellsThen same of i f (is_done t) end did.deed first v known2 did.w2
+      by settled.Goes c = waits_go
       by settled.Waits c = absurd c
-      by (settled.Gave value) c = waits_then
-      by settled.Done c = waits_over c.1
+      by (settled.Gave value) c = waits_go
+      by settled.Done c = waits_over c.0 c.1
 
--- As the end begins nothing that waits is left over, where nobody ends a map.
-module _ {K V : Type 0} (same : K → K → Bool) (name : ℕ → List ℕ) (size map : ℕ) (c : Chart K) (m : Moment K V) (known : Known) (s : Scene K V) (whole : ShowsWhole same name m known s)
-    (waiting : ShowsWaiting m known s.world) (came : CameAbout size s.world) (no_table : NoTableLeft known s.world) where
-  none_left : (n : ℕ) (t : Table) → (m.place n ≡ Behind) × LiesBehind known s.world n t → (b : ℕ) → known.roles b ≡ role.Pair n → IsLeft (s.world.hand b) → false ≡ true
-  none_left n t (place, l) b is left = elim l.waits as (λ _. false ≡ true) [
-    | inl waits ↦
-        absurd (handed_not_left (s.world.hand b)
-        (ap s.world.hand (sym one) ∙ has_it deferred_word size s.world (runs_kept deferred_word size came.1 _ s.world (start_kept deferred_word size came.0) came.2) l.pair l.table waits) left)
-    | inr both ↦ absurd (no_table l.table l.len t l.is_table both.1)
-  ]
-    where
-      one : l.pair ≡ b
-      one = whole.all.shown.blocks.once l.pair b n l.is_pair is
-
-  pub waits_begin : TellsWaiting map c m m known s.world false
-  waits_begin = record {
-    left = each_on (λ n t. (m.place n ≡ Behind) × LiesBehind known s.world n t) (λ n t. (b : ℕ) → known.roles b ≡ role.Pair n → IsLeft (s.world.hand b) → false ≡ true) none_left m.deferred waiting;
-    waited = λ some. absurd (cc some);
-    still = λ n t among. inl among;
-    fewer = λ n t among. among;
-  }
+-- As the end begins nothing is left over.
+pub waits_begin : {K V : Type 0} (same : K → K → Bool) (map i : ℕ) (standing : Standing K) (m : Moment K V) (known : Known) (w0 w : World (Node K V))
+    → TellsWaiting same map i (finishing_of standing w0) m m known w
+waits_begin same map i standing m known w0 w size k =
+    let is = k.facts.point.0 in
+    let none : k.past - standing.chart.first ≡ 0 = omega (arith, is) in
+    record { noted = sym (ap (λ (tables : ℕ). each_of role.Pair (waited_behind map m.deferred standing.chart.first tables)) none); still = λ t yet made. refl }

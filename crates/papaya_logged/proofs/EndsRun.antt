@@ -1,5 +1,5 @@
 -- The end of a map runs on: what its steps do follows one upon another, and each that is not the last one leaves less to do.
-use Rattle.std.specs.Prelude.{◌≡◌, ◌≢◌, ◌<◌, ◌≤◌, ◌+◌, ◌^◌, ℕ, Bool, true, false, List, [], ◌∷◌, ◌++◌, Option, Some, None, option_map, if◌then◌else◌}
+use Rattle.std.specs.Prelude.{◌≡◌, ◌≢◌, ◌<◌, ◌≤◌, ◌+◌, ◌^◌, ℕ, Bool, true, false, List, [], ◌∷◌, ◌++◌, Option, Some, None, option_map}
 use Rattle.std.proofs.Common.{refl, sym, ap, subst, ◌∙◌}
 use Rattle.std.proofs.lemmas.List.{append-nil, append_assoc}
 use Rattle.std.proofs.lemmas.Grind.{flat_map-append}
@@ -34,10 +34,9 @@ use Rattle.papaya_executor.specs.declared.worker.Work.TheVariants as work
 use Rattle.papaya_executor.proofs.Forgotten.{as_step}
 use Rattle.papaya_histories.specs.Given.Others.Endings.{ending_after}
 use Rattle.papaya_histories.proofs.Given.Moments.After.{effects_after}
-use Rattle.papaya_logged.specs.Ends.{is_done, ended_as, left_so, NotedStill, EndCame, EndSteps, EndIsAt, EndIsShown, EndRan}
-use Rattle.papaya_remains.specs.Remains.{has_some}
+use Rattle.papaya_logged.specs.Ends.{is_done, ended_as, TellsCame, NotedStill, EndCame, EndSteps, EndIsAt, EndIsShown, EndRan}
 use Rattle.papaya_logged.specs.Shown.{IsShown}
-use Rattle.papaya_logged.specs.Waits.{TellsWaiting}
+use Rattle.papaya_logged.specs.Waits.{TellsThen, TellsWaiting}
 use Rattle.papaya_logged.specs.declared.logged.Logged.{Logged}
 use Rattle.papaya_logged.proofs.EndAll.{all_end}
 use Rattle.papaya_logged.proofs.EndSteps.{end_there}
@@ -131,17 +130,20 @@ module _ {K V : Type 0} (s : Scene K V) (i : ℕ) (f : Finishing K V) where
         }
 
     -- what it has left over by then
-    abbrev waits_by : (said : Settled (Node K V)) → EndingLeads same hash i said s1 mid new → Bool
-    waits_by said leads = if is_done said then has_some came.ender.1 else has_some (came.ender.1 ++ waiting_by (leads f1 here1).2.deed)
-
     pub waits_on : (of : ℕ) (began x : Moment K V) (noted : Known) (said : Settled (Node K V)) (leads : EndingLeads same hash i said s1 mid new)
-        → TellsWaiting of f.chart began x noted (leads f1 here1).2.w2 (waits_by said leads)
+        → TellsThen same of i f1 (is_done said) (leads f1 here1).0 (leads f1 here1).2.deed began x noted (leads f1 here1).2.w2
         → (let s2 = ending_after same hash s1 new i f1 (leads f1 here1).0 (leads f1 here1).2.w2 (leads f1 here1).2.deed said (leads f1 here1).3 in
-        TellsWaiting of f.chart began x noted s2.world (has_some (left_so s s2 i f (gone ++ taken_of (leads f1 here1).2.deed) (is_done said) (came_on said leads).ender)))
+        TellsCame s s2 i f (gone ++ taken_of (leads f1 here1).2.deed) same of began x noted (is_done said) (came_on said leads).ender)
     unfolding came_on
-    waits_on of began x noted settled.Goes leads tells = tells
+    waits_on of began x noted settled.Goes leads tells =
+        let to = leads f1 here1 in
+        subst (λ (l : List ℕ). TellsWaiting same of i (record f { machine = to.0; back = l; waits = came.ender.1 ++ waiting_by to.2.deed }) began x noted to.2.w2)
+        (append_assoc f.back gone (taken_of to.2.deed)) tells
     waits_on of began x noted settled.Waits leads tells = absurd (leads f1 here1).3
-    waits_on of began x noted (settled.Gave value) leads tells = tells
+    waits_on of began x noted (settled.Gave value) leads tells =
+        let to = leads f1 here1 in
+        subst (λ (l : List ℕ). TellsWaiting same of i (record f { machine = to.0; back = l; waits = came.ender.1 ++ waiting_by to.2.deed }) began x noted to.2.w2)
+        (append_assoc f.back gone (taken_of to.2.deed)) tells
     waits_on of began x noted settled.Done leads tells = tells
 
     -- it was under way, and it is still, with less to do
@@ -208,7 +210,16 @@ module _ {K V S : Type 0} (i map : ℕ) where
     [],
     sym (append-nil xs),
     λ same hash s at f here. (s, [], came_first s i f here, at),
-    λ same hash name m s shown f here not_there number first notes still. (s, [], came_first s i f here, refl, subst (NotedStill first (known l.notes)) (sym (append-nil f.back)) still, shown, λ over none. absurd (cc over), λ began before. before),
+    λ same hash name m s shown f here not_there number first notes still. (
+      s,
+      [],
+      came_first s i f here,
+      refl,
+      subst (NotedStill first (known l.notes)) (sym (append-nil f.back)) still,
+      shown,
+      λ over none. absurd (cc over),
+      λ began before. subst (λ (bs : List ℕ). TellsWaiting same map i (record f { back = bs }) began m (known l.notes) s.world) (sym (append-nil f.back)) before,
+    ),
   )
 
   -- and one step more
@@ -251,7 +262,7 @@ module _ {K V S : Type 0} (i map : ℕ) where
                 did_so ∙ ap (ended_as map first) all ∙ all_end map number first f.setting f.chart f.blocks notes (shown.is_at.together.facts i f here).each),
             λ began before.
                 waits_on s i f same hash mid.executor new.executor u.0 u.1 u.2 map began (with_effects None (Some map) (ran.0 ++ step.0) m) (known new.notes) said leads
-                (subst (λ (x : Moment K V). TellsWaiting map f.chart began x (known new.notes) its.2.w2 (if is_done said then has_some u.2.ender.1 else has_some (u.2.ender.1 ++ waiting_by its.2.deed)))
+                (subst (λ (x : Moment K V). TellsThen same map i g (is_done said) its.0 its.2.deed began x (known new.notes) its.2.w2)
                 (sym (effects_after None (Some map) ran.0 step.0 m)) (to.4 began (u.7 began before))),
           )
 

@@ -150,7 +150,8 @@ module _ {K V S : Type 0} (i map : ℕ) (told : Progress Setting) (mid new : Log
       slots = subst (λ (n : Notes). SlotsNoted (known n) new.executor.memory.memory) (sym notes)
           (subst (λ (x : Mem (Node K V)). SlotsNoted (known mid.notes) x) (sym (ap (λ (e : Executor K V S). e.memory.memory) is)) c.numbered.slots);
     };
-    remains = subst (λ (r : ℕ). ShowsRemains r (with_effects None of fs m) s2) (sym (ap (λ (e : Executor K V S). e.roots) is)) c.remains;
+    remains = subst (λ (r : ℕ). ShowsRemains r (with_effects None of fs m) (known new.notes) s2) (sym (ap (λ (e : Executor K V S). e.roots) is))
+        (subst (λ (n : Notes). ShowsRemains mid.executor.roots (with_effects None of fs m) (known n) s2) (sym notes) c.remains);
   }
     where
       just : (t : Progress Setting) (came : MakingCame s s2 i b t) → (CameBare s s2 i b t came.maker → JustAsks b fs) → IsRefused t → list_all is_growth fs ≡ true

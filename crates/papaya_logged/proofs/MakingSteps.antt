@@ -32,6 +32,7 @@ use Rattle.papaya_logged.specs.Makings.{MakingIsBegun, MakingGoesOn, MakingSteps
 use Rattle.papaya_logged.specs.Shown.{IsCounted, IsShown}
 use Rattle.papaya_logged.specs.declared.logged.Logged.{Logged}
 use Rattle.papaya_logged.proofs.Counted.{counted_comes, counted_making_begins, counted_making_steps, numbers_within, same_memory}
+use Rattle.papaya_logged.proofs.LeftNoted.{makings_note_left}
 use Rattle.papaya_logged.proofs.MakingAsks.{making_asks}
 
 module _ {K V S : Type 0} (same : K → K → Bool) (hash : K → ℕ) where
@@ -77,12 +78,14 @@ module _ {K V S : Type 0} (same : K → K → Bool) (hash : K → ℕ) where
     Then told leads b here = making_after same hash s old.executor stepped i b (leads b here).0 (leads b here).2.step.w2 told (leads b here).3
 
     counted_of : (told : Progress Setting) (stepping : (s : Scene K V) → IsAt same hash old.executor s → MakingLeads same hash i told s old.executor stepped)
-        → known notes ≡ known_after (acts.Making map) stepped.memory.changed (known old.notes) → KeepsGiven old.executor stepped → (b : Beginning K) (here : s.makers i ≡ Some b) → b.map ≡ map → (of : Option ℕ)
+        → known notes ≡ known_after (acts.Making map) stepped.memory.changed (known old.notes) → KeepsGiven old.executor stepped → (b : Beginning K) (here : s.makers i ≡ Some b) → b.map ≡ map → (of : Option ℕ) → WasNew map told m
         → IsCounted (with_effects None of (effects_of (acts.Making map) (known old.notes) stepped.memory.changed) m) then_logged (Then told (stepping s shown.is_at) b here)
-    counted_of told stepping noted keeps b here of_map of =
+    counted_of told stepping noted keeps b here of_map of was_new =
         subst (λ (n : ℕ). IsCounted (with_effects None of (effects_of (acts.Making n) (known old.notes) stepped.memory.changed) m) then_logged (Then told (stepping s shown.is_at) b here)) of_map
         (counted_making_steps same hash old stepped notes keeps m s shown.is_at shown.counted i told (stepping s shown.is_at) b here of
-        (noted ∙ ap (λ (n : ℕ). known_after (acts.Making n) stepped.memory.changed (known old.notes)) (sym of_map)))
+        (noted ∙ ap (λ (n : ℕ). known_after (acts.Making n) stepped.memory.changed (known old.notes)) (sym of_map))
+        (makings_note_left same hash name m (known old.notes) s old.executor stepped shown.is_at shown.shows i told (stepping s shown.is_at) b here of
+        (subst (λ (n : ℕ). WasNew n told m) (sym of_map) was_new) (Then told (stepping s shown.is_at) b here).world))
 
     making_so : (told : Progress Setting) → ((s : Scene K V) → IsAt same hash old.executor s → MakingLeads same hash i told s old.executor stepped)
         → known notes ≡ known_after (acts.Making map) stepped.memory.changed (known old.notes) → KeepsGiven old.executor stepped
@@ -106,7 +109,7 @@ module _ {K V S : Type 0} (same : K → K → Bool) (hash : K → ℕ) where
                   (λ new. makings_keep_kept K V S same hash name m (known old.notes) s old.executor stepped shown.is_at shown.shows shown.kept i told leads b here of new
                   (is_there old.executor stepped s i told leads b here)
                   (makings_keep_whole K V S same hash name m (known old.notes) s old.executor stepped shown.is_at shown.shows i told leads b here of new).all.shown) was_new);
-              counted = counted_of told stepping noted keeps b here of_map of;
+              counted = counted_of told stepping noted keeps b here of_map of was_new;
             },
           ),
         )

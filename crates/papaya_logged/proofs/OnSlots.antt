@@ -25,6 +25,7 @@ use Rattle.papaya_logged.specs.OnSlots.{OnSlotBegins, OnSlotGoesOn, OnSlotSteps}
 use Rattle.papaya_logged.specs.Shown.{IsShown}
 use Rattle.papaya_logged.specs.declared.logged.Logged.{Logged}
 use Rattle.papaya_logged.proofs.Counted.{counted_row_begins, counted_row_steps}
+use Rattle.papaya_logged.proofs.LeftNoted.{rows_note_left}
 
 module _ {K V S : Type 0} (same : K → K → Bool) (hash : K → ℕ) where
   pub on_slot_begins : (old new : Logged K V S) (called : SlotCall) (i : ℕ)
@@ -61,7 +62,8 @@ module _ {K V S : Type 0} (same : K → K → Bool) (hash : K → ℕ) where
               (rows_keep_whole K V S same hash name m (known old.notes) s old.executor stepped shown.is_at shown.shows i told leads row here finds.0 finds.1);
           kept = subst (λ (k : Known). ShowsKept {K = K} {V = V} name (with_effects None None effects m) k (scene_then same hash (Step i) s old.executor stepped (leads row here).4)) (sym noted)
               (rows_keep_kept K V S same hash name m (known old.notes) s old.executor stepped shown.is_at shown.shows shown.kept i told leads row here);
-          counted = counted_row_steps same hash old stepped notes given m s shown.is_at shown.counted i told leads row here noted;
+          counted = counted_row_steps same hash old stepped notes given m s shown.is_at shown.counted i told leads row here noted
+              (rows_note_left same hash (known old.notes) s old.executor stepped shown.is_at i told leads row here);
         },
       )
 

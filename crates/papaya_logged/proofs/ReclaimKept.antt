@@ -32,6 +32,7 @@ use Rattle.papaya_histories.proofs.Given.Others.Stays.{same_there}
 use Rattle.papaya_histories.specs.Given.Moments.Whole.{ShowsWhole}
 use Rattle.papaya_lives.specs.Behind.{IsLeft, NoTableLeft, ShowsWaiting, WaitsOnce}
 use Rattle.papaya_lives.specs.Lying.{ShowsLying}
+use Rattle.papaya_lives.specs.Order.{ShowsOrder}
 use Rattle.papaya_lives.specs.Retired.{IsToRetire, ShowsRetired}
 use Rattle.papaya_lives.proofs.Once.{once_fewer, row_fewer}
 use Rattle.papaya_lives.proofs.Reclaimed.{stays_so}
@@ -40,12 +41,13 @@ use Rattle.papaya_lives.proofs.Stages.{still_retired}
 use Rattle.papaya_lives.proofs.Users.{left_lives}
 use Rattle.papaya_lives.proofs.Worlds.{Kept}
 use Rattle.papaya_logged.proofs.ReclaimLies.{reclaiming_lies}
+use Rattle.papaya_logged.proofs.ReclaimOrder.{reclaiming_order}
 use Rattle.papaya_logged.proofs.ReclaimRows.{EmptiesRoot, reclaiming_tells}
 use Rattle.papaya_logged.proofs.ReclaimSteps.{kept as kept_there, left, no_call, root_none, nothing_there}
 use Rattle.papaya_logged.proofs.ReclaimWaits.{kept_then, rows_leave_waiting}
 
 module _ {K V S : Type 0} (same : K → K → Bool) (hash : K → ℕ) (name : ℕ → List ℕ) (m : Moment K V) (known : Known) (s : Scene K V) (whole : ShowsWhole same name m known s)
-    (waiting : ShowsWaiting m known s.world) (once : WaitsOnce m.deferred) (retired : ShowsRetired m known s) (lying : ShowsLying m known s.world) (no_table : NoTableLeft known s.world)
+    (waiting : ShowsWaiting m known s.world) (once : WaitsOnce m.deferred) (retired : ShowsRetired m known s) (lying : ShowsLying m known s.world) (order : ShowsOrder m known s.world) (no_table : NoTableLeft known s.world)
     (old new : Executor K V S) (i : ℕ) (lists : ℕ → List ℕ) (before after : ReclaimAll) (told : Settled (Node K V)) (at : IsReclaiming same hash old s i lists before)
     (leads : ReclaimingLeads same hash s i lists old new before after told) where
   abbrev w : World (Node K V)
@@ -72,6 +74,7 @@ module _ {K V S : Type 0} (same : K → K → Bool) (hash : K → ℕ) (name : �
     pub alone : WaitsOnce (with_effects None None fs m).deferred
     pub had : ShowsRetired (with_effects None None fs m) noted s2
     pub lies : ShowsLying (with_effects None None fs m) noted w2
+    pub ordered : ShowsOrder (with_effects None None fs m) noted w2
     pub none_left : NoTableLeft noted w2
 
   rows_come : (x : Changed) → TellsRow x → LeavesBy w.memory w2.memory x → ComesSo (effects_of Row known x) (known_after Row x known)
@@ -91,6 +94,7 @@ module _ {K V S : Type 0} (same : K → K → Bool) (hash : K → ℕ) (name : �
       lengths = λ b len t e. retired.lengths b len t (stays_so m known whole.blocks x tells b len t e).0;
     };
     lies = reclaiming_lies same hash name m known s whole lying old new i lists before after told at leads x tells l;
+    ordered = reclaiming_order same hash name m known s whole lying order old new i lists before after told at leads x tells l;
     none_left = λ b len t e over.
         let was = (stays_so m known whole.blocks x tells b len t e).0 in
         let hand = same_hand b (left_lives (w2.hand b) (its.good.state.life b) over (its.good.hands b)) in

@@ -122,7 +122,7 @@ module _ {K V S : Type 0} (same : K → K → Bool) (hash : K → ℕ) (name : �
           let it = root_lie old.batch_size i (Used root) 0 w w2 (subst RunsBy is leads.1.runs) in (λ j ne. ap (λ (f : ℕ → Row). f j) it.0, it.1)
 
   -- its own row puts nothing behind a block
-  own_none : (b c : ℕ) → IsPutting b c (w.row i) → ⊥
+  pub own_none : (b c : ℕ) → IsPutting b c (w.row i) → ⊥
   own_none b c puts = by before.stands at.under_way.point
     where
       is_none : (row : Row) → (IsPutting b c row → ⊥) → w.row i ≡ row → ⊥
@@ -160,6 +160,6 @@ module _ {K V S : Type 0} (same : K → K → Bool) (hash : K → ℕ) (name : �
       lying_on m (with_effects None None (effects_of OfRow known x) m) known (known_after OfRow x known) w w2 lying
       lay.1
       (λ b c len t lies is. (stays_so m known whole.blocks x tells c len t is).0)
-      (λ b c n lies is. row_pair m known w w2 whole.blocks.tables_once b n is (pair_there b c n lies is) x tells l)
+      (λ b c n lies is. row_pair known w w2 b n is (pair_there b c n lies is) x tells l)
       (λ c len n t is was among. row_among m known w w2 whole.blocks.tables_once c len n t was among x tells is)
       still_put

@@ -137,7 +137,7 @@ module _ {K V S : Type 0} (same : K → K → Bool) (hash : K → ℕ) (name : �
 
   pub reclaiming_keeps : ShowsKept name (with_effects None None effects m) (known_after Row new.memory.changed known) s2
   reclaiming_keeps =
-      let comes = reclaiming_comes same hash name m known s whole kept.waiting kept.once kept.retired kept.lying no_table old new i lists before after told at leads in
+      let comes = reclaiming_comes same hash name m known s whole kept.waiting kept.once kept.retired kept.lying kept.order no_table old new i lists before after told at leads in
       record {
         entries = record { blank = λ b its. as_blank leads.1.w2.memory b (zeros_then b its); one = λ map j u is. none_under_way map j u is };
         made = record {
@@ -158,6 +158,7 @@ module _ {K V S : Type 0} (same : K → K → Bool) (hash : K → ℕ) (name : �
         waiting = comes.waits;
         once = comes.alone;
         lying = comes.lies;
+        order = comes.ordered;
         retired = comes.had;
         left = where_none_is_left K V (known_after Row new.memory.changed known) s2 comes.none_left;
         handed = reclaiming_handed same hash name m known s whole kept.waiting kept.handed no_table old new i lists before after told at leads;

@@ -29,6 +29,7 @@ use Rattle.papaya_logged.specs.Calling.{CallGoesOn, MakesNoMore}
 use Rattle.papaya_logged.specs.Shown.{IsShown}
 use Rattle.papaya_logged.specs.declared.logged.Logged.{Logged}
 use Rattle.papaya_logged.proofs.Counted.{counted_call_steps}
+use Rattle.papaya_logged.proofs.LeftNoted.{calls_note_left}
 
 module _ {K V S : Type 0} (same : K → K → Bool) (hash : K → ℕ) where
   goes_so : (old : Logged K V S) (stepped : Executor K V S) (notes : Notes) (i map : ℕ) (told : Progress (Node K V)) (before after : List Effect)
@@ -50,7 +51,9 @@ module _ {K V S : Type 0} (same : K → K → Bool) (hash : K → ℕ) where
               (calls_keep_whole K V S same hash name m (known old.notes) s old.executor stepped shown.is_at shown.shows map i u here told leads);
           kept = subst (λ (k : Known). ShowsKept {K = K} {V = V} name (with_effects (Some (name i)) (Some map) effects m) k (scene_after same hash s old.executor stepped map i to.0 u to.1 told to.4)) (sym noted)
               (calls_keep_kept K V S same hash name m (known old.notes) s old.executor stepped shown.is_at shown.shows shown.kept map i u here told leads);
-          counted = counted_call_steps same hash old stepped notes given m s shown.is_at shown.counted map i u here told leads (name i) noted;
+          counted = counted_call_steps same hash old stepped notes given m s shown.is_at shown.counted map i u here told leads (name i) noted
+              (calls_note_left same hash name m (known old.notes) s old.executor stepped shown.is_at shown.shows shown.kept map i u here told leads
+              (scene_after same hash s old.executor stepped map i to.0 u to.1 told to.4).world);
         },
       )
 

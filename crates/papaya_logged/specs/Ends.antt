@@ -1,5 +1,5 @@
 -- Where the beginning of the end of a map leads, a step of it, and its run to the end; and what they do.
-use Rattle.std.specs.Prelude.{◌≡◌, ◌≢◌, ◌<◌, ◌≤◌, ℕ, Bool, true, false, List, [], ◌++◌, length, filter, flat_map, Some, None, if◌then◌else◌}
+use Rattle.std.specs.Prelude.{◌≡◌, ◌≢◌, ◌<◌, ◌≤◌, ℕ, Bool, true, false, List, [], ◌++◌, length, filter, flat_map, map as each_of, Some, None}
 use Rattle.seize.specs.World.{times}
 use Rattle.seize.specs.declared.rows.settle.Settled.{Settled}
 use Rattle.seize.specs.declared.rows.settle.Settled.TheVariants as settled
@@ -20,7 +20,7 @@ use Rattle.papaya_effects.specs.Effects.{taken_by}
 use Rattle.papaya_effects.specs.Known.{Known, known}
 use Rattle.papaya_effects.specs.declared.acting.Acting.TheVariants.{Ending}
 use Rattle.papaya_effects.specs.declared.role.Role.TheVariants as role
-use Rattle.papaya_histories.specs.Given.Finishes.Endings.{Finishing, AllPairsOnce, waiting_by}
+use Rattle.papaya_histories.specs.Given.Finishes.Endings.{Finishing, AllPairsOnce, finishing_of}
 use Rattle.papaya_histories.specs.Given.Finishes.FactsEnds.{RootIs, back_of, taken_by as taken_of}
 use Rattle.papaya_histories.specs.Given.Finishes.Maps.{Standing}
 use Rattle.papaya_executor.specs.Ending.{EndingLeads, NoCallOn, ending_begun}
@@ -29,9 +29,8 @@ use Rattle.papaya_histories.specs.Given.Follows.Maps.{table_of}
 use Rattle.papaya_histories.specs.Given.Others.Endings.{ending_after, without_map}
 use Rattle.papaya_histories.specs.Given.Moments.Numbers.{AreFound}
 use Rattle.papaya_histories.specs.Given.Moments.WholeEnds.{all_ended}
-use Rattle.papaya_remains.specs.Remains.{has_some}
 use Rattle.papaya_logged.specs.Shown.{IsShown}
-use Rattle.papaya_logged.specs.Waits.{TellsWaiting}
+use Rattle.papaya_logged.specs.Waits.{TellsLeft, TellsThen, TellsWaiting}
 use Rattle.papaya_logged.specs.declared.logged.Logged.{Logged}
 
 -- an end is over
@@ -59,14 +58,14 @@ NotedStill first now back = (b : ℕ) → times b back ≡ 0 → now.roles b ≡
 
 module _ {K V S : Type 0} (same : K → K → Bool) (hash : K → ℕ) (name : ℕ → List ℕ) (m : Moment K V) (s : Scene K V) where
   -- The end of a map that stands, and on which nobody has a call, is under way, and the moment shows that, as it is. Its pairs are to be reclaimed, each once; and if all of
-  -- it ended at this moment, that would be a whole end of it. If nobody ended a map, it has left nothing over so far.
+  -- it ended at this moment, that would be a whole end of it. It has left nothing over so far.
   abbrev pub EndIsBegun : (map i : ℕ) → (old new : Logged K V S) → Type 0
   EndIsBegun map i old new =
       NoCallOn old.executor map
       → (standing : Standing K) × (s.maps map ≡ Some standing) × AllPairsOnce (is_incremental standing.setting.mode) standing.chart
       × ((number : ℕ → ℕ) × NotesMap map number (known new.notes) standing.setting standing.chart standing.blocks × AllEnds map (all_ended (is_incremental standing.setting.mode) map number standing.chart) m)
       × IsShown same hash name m new (ending_begun map i standing s)
-      × (((j : ℕ) → s.enders j ≡ None) → TellsWaiting map standing.chart m m (known new.notes) (ending_begun map i standing s).world false)
+      × TellsWaiting same map i (finishing_of standing s.world) m m (known new.notes) (ending_begun map i standing s).world
 
   -- A step of a caller's end of the map of this number, of which this was noted as it began. The pair, or the table, that it reclaims ends with the map, and it does
   -- nothing else. The moment after it shows where the step has led, and what it has left over tells what waited as before.
@@ -78,9 +77,8 @@ module _ {K V S : Type 0} (same : K → K → Bool) (hash : K → ℕ) (name : �
       × (did ≡ ended_as map first (taken_of (leads f here).2.deed))
       × NotedStill first (known new.notes) (f.back ++ taken_of (leads f here).2.deed)
       × IsShown same hash name (with_effects None (Some map) did m) new (ending_after same hash s new.executor i f (leads f here).0 (leads f here).2.w2 (leads f here).2.deed said (leads f here).3)
-      × ((began : Moment K V) → TellsWaiting map f.chart began m (known old.notes) s.world (has_some f.waits)
-      → TellsWaiting map f.chart began (with_effects None (Some map) did m) (known new.notes) (leads f here).2.w2
-      (if is_done said then has_some f.waits else has_some (f.waits ++ waiting_by (leads f here).2.deed)))
+      × ((began : Moment K V) → TellsWaiting same map i f began m (known old.notes) s.world
+      → TellsThen same map i f (is_done said) (leads f here).0 (leads f here).2.deed began (with_effects None (Some map) did m) (known new.notes) (leads f here).2.w2)
 
 -- Where an end has come that was there so, and has reclaimed these further blocks: it goes on, as another machine; or it is over, has reclaimed all that it was to, and what
 -- it left over waits behind its root, which is free without that. All else that is under way is so as before, and so are the maps that stand, and the uses of slots.
@@ -90,10 +88,10 @@ module _ {K V : Type 0} (s s2 : Scene K V) (i : ℕ) (f : Finishing K V) (gone :
   EnderIs true =
       (s2.enders i ≡ None) × (f.back ++ gone ≡ back_of f.setting f.chart f.blocks (λ t. []) false) × ((waits : List ℕ) × RootIs {K = K} f.setting s2.world.memory waits)
 
-  -- what it has left over
-  abbrev pub left_so : (over : Bool) → EnderIs over → List ℕ
-  left_so false ender = ender.1
-  left_so true ender = ender.2.0
+  -- what it has left over is what waited as it began
+  abbrev pub TellsCame : (K → K → Bool) → ℕ → Moment K V → Moment K V → Known → (over : Bool) → EnderIs over → Type 0
+  TellsCame same map began m known false ender = TellsWaiting same map i (record f { machine = ender.0; back = f.back ++ gone; waits = ender.1 }) began m known s2.world
+  TellsCame same map began m known true ender = TellsLeft map f.chart began known ender.2.0
 
   pub record EndCame (over : Bool) : Type 0 where
     pub ender : EnderIs over
@@ -125,8 +123,8 @@ module _ {K V S : Type 0} where
         → (s2 : Scene K V) × (gone : List ℕ) × (came : EndCame s s2 i f gone over) × (did ≡ ended_as map first gone) × NotedStill first (known new.notes) (f.back ++ gone)
         × IsShown same hash name (with_effects None (Some map) did m) new s2
         × (over ≡ true → f.back ≡ [] → did ≡ all_ended (is_incremental f.setting.mode) map number f.chart)
-        × ((began : Moment K V) → TellsWaiting map f.chart began m (known old.notes) s.world (has_some f.waits)
-        → TellsWaiting map f.chart began (with_effects None (Some map) did m) (known new.notes) s2.world (has_some (left_so s s2 i f gone over came.ender)))
+        × ((began : Moment K V) → TellsWaiting same map i f began m (known old.notes) s.world
+        → TellsCame s s2 i f gone same map began (with_effects None (Some map) did m) (known new.notes) over came.ender)
 
   -- So it is of several steps.
   abbrev pub EndRan : (i map : ℕ) → Bool → (before after : List Effect) → (old new : Logged K V S) → Type 0
@@ -135,12 +133,12 @@ module _ {K V S : Type 0} where
       × ((same : K → K → Bool) (hash : K → ℕ) (s : Scene K V) → IsAt same hash old.executor s → EndIsAt same hash s i over new)
       × ((same : K → K → Bool) (hash : K → ℕ) (name : ℕ → List ℕ) (m : Moment K V) (s : Scene K V) → IsShown same hash name m old s → EndIsShown same hash s i over new name map old did m)
 
-  -- And once it is over, and nobody ends a map, a moment shows it without the map, too, with these pairs as what it has left over, if something is behind its root just where there are some: no map
+  -- And once it is over, and nobody ends a map, a moment shows it without the map, too, with these pairs as what it has left over, if what is behind its root is noted as them: no map
   -- that stands has its name, no other one there has it, and each one is found by its number.
   abbrev pub EndIsOver : Logged K V S → Type 0
   EndIsOver new =
       (same : K → K → Bool) (hash : K → ℕ) (name : ℕ → List ℕ) (m : Moment K V) (s : Scene K V) (shown : IsShown same hash name m new s)
       → (own : List ℕ) (f : MapThere) → map_of own m ≡ Some f → length (filter (λ g. is_same g.name own) m.maps) ≤ 1 → ((j : ℕ) → s.enders j ≡ None)
-      → (pairs : List ℕ) → has_some (shown.counted.remains.lists f.root) ≡ has_some pairs → AreFound m
+      → (pairs : List ℕ) → each_of (known new.notes).roles (shown.counted.remains.lists f.root) ≡ each_of role.Pair pairs → AreFound m
       → ((map : ℕ) (standing : Standing K) (there : MapThere) → s.maps map ≡ Some standing → map_at map m ≡ Some there → is_same there.name own ≡ false)
       → IsShown same hash name (without_map own (if_any f.root pairs m.remains) m) new s

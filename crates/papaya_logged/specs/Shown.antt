@@ -18,7 +18,7 @@ pub record AreNumbered {K V S : Type 0} (m : Moment K V) (l : Logged K V S) : Ty
 -- and what ended maps have left over is behind the roots that the moment tells.
 pub record IsCounted {K V S : Type 0} (m : Moment K V) (l : Logged K V S) (s : Scene K V) : Type 0 where
   pub numbered : AreNumbered m l
-  pub remains : ShowsRemains l.executor.roots m s
+  pub remains : ShowsRemains l.executor.roots m (known l.notes) s
 
 -- The executor is there, in this scene, which the moment shows with the notes, and of which all is so that every step keeps; and its numbers and roots are so. Callers have these names.
 pub record IsShown {K V S : Type 0} (same : K → K → Bool) (hash : K → ℕ) (name : ℕ → List ℕ) (m : Moment K V) (l : Logged K V S) (s : Scene K V) : Type 0 where

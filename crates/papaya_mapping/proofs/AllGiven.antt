@@ -144,8 +144,8 @@ module _ {K V S : Type 0} (same : K → K → Bool) (hash : K → ℕ) (terms : 
               kept = kept_elsewhere w (known new.notes) events m.is_mapped closed alone nobody m.slots [] [] stands.name s2 u.3.kept;
               counted = record {
                 numbered = numbered_elsewhere w (known new.notes) events m.is_mapped closed alone nobody m.slots [] [] new u.3.numbered;
-                remains = subst (λ (r : ℕ). ShowsRemains r (elsewhere events m.is_mapped closed alone nobody m.slots [] [] w) s2) (sym roots)
-                    (reclaimed_remain K V p.logged.executor.roots m (elsewhere events m.is_mapped closed alone nobody m.slots [] [] w) s s2 stands.shown.counted.remains (roots_stay None None ran.0 m) refl
+                remains = subst (λ (r : ℕ). ShowsRemains r (elsewhere events m.is_mapped closed alone nobody m.slots [] [] w) (known new.notes) s2) (sym roots)
+                    (reclaimed_remain K V p.logged.executor.roots m (elsewhere events m.is_mapped closed alone nobody m.slots [] [] w) (known p.logged.notes) (known new.notes) s s2 stands.shown.counted.remains (roots_stay None None ran.0 m) refl
                     (λ j. ap (λ (f : ℕ → Option (Beginning K)). f j) u.1.makers ∙ no_making_of same hash p.logged.executor s stands.shown.is_at j (nobody_has j))
                     (λ j. ap (λ (f : ℕ → Option (Finishing K V)). f j) u.1.enders ∙ no_ending_of same hash p.logged.executor s stands.shown.is_at j (nobody_has j)) u.2);
               };

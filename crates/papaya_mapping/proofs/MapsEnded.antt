@@ -24,6 +24,7 @@ use Rattle.papaya_schedules.specs.Views.{map_at, map_of, number_of}
 use Rattle.papaya_histories.proofs.Given.Callers.Together.At.{at_other, at_same}
 use Rattle.papaya_histories.specs.Given.Callers.Together.{UnderWay}
 use Rattle.papaya_effects.specs.Known.{known}
+use Rattle.papaya_effects.specs.declared.role.Role.TheVariants as role
 use Rattle.papaya_executor.specs.Ending.{NoCallOn, ending_begun}
 use Rattle.papaya_executor.specs.IsAt.{Scene, IsAt, IsEnding, ending_in}
 use Rattle.papaya_executor.specs.declared.worker.Work.{Work}
@@ -42,12 +43,13 @@ use Rattle.papaya_histories.specs.Given.Finishes.Orders.{pairs_of}
 use Rattle.papaya_logged.specs.Back.{ComesBack, EndBringsBack}
 use Rattle.papaya_reclaims.specs.Left.{IsSomebodys}
 use Rattle.papaya_reclaims.specs.Reclaims.{RootLeads}
-use Rattle.papaya_remains.specs.Remains.{has_some, left_roots, map_roots}
+use Rattle.papaya_remains.specs.Remains.{left_roots, map_roots}
+use Rattle.papaya_remains.proofs.Leads.{waits_lead}
 use Rattle.papaya_remains.proofs.Lists.{among_append, found_among}
 use Rattle.papaya_remains.proofs.Stays.{remains_stay, roots_stay, used_then}
-use Rattle.papaya_logged.specs.Ends.{EndCame, EndIsBegun, EndIsOver, EndRan, NotedStill, ended_as, left_so}
+use Rattle.papaya_logged.specs.Ends.{EndCame, EndIsBegun, EndIsOver, EndRan, NotedStill, ended_as}
 use Rattle.papaya_logged.specs.Shown.{IsShown}
-use Rattle.papaya_logged.specs.Waits.{TellsWaiting}
+use Rattle.papaya_logged.specs.Waits.{TellsLeft, TellsWaiting}
 use Rattle.papaya_logged.specs.declared.logged.Logged.{Logged}
 use Rattle.papaya_rows.proofs.Elsewhere.{elsewhere}
 use Rattle.papaya_rows.proofs.Lists.{all_but, all_so, any_alike, found_passes, one_of}
@@ -56,7 +58,7 @@ use Rattle.papaya_scheduler.specs.Played.{IsDue, IsUnderWay, Plays, StandsFor}
 use Rattle.papaya_named.specs.Seen.{named, named_of, number_named, seen, seen_of}
 use Rattle.papaya_named.specs.declared.named_map.NamedMap.{NamedMap}
 use Rattle.papaya_scheduler.specs.declared.scheduler.Scheduler.{Scheduler}
-use Rattle.papaya_mapping.proofs.EndsLeave.{left_tells, pairs_behind, same_behind}
+use Rattle.papaya_mapping.proofs.EndsLeave.{pairs_behind, waited_is}
 use Rattle.papaya_mapping.proofs.MapLists.{all_back, all_seen, by_recursion, found_same, kept_map, kept_of}
 use Rattle.papaya_mapping.proofs.Mapped.{stands_mapped}
 use Rattle.papaya_scheduler.proofs.Maps.{map_some, number_is}
@@ -174,8 +176,7 @@ module _ {K V S : Type 0} (same : K → K → Bool) (hash : K → ℕ) (terms : 
 
           abbrev u : (t : Scene K V) × (gone : List ℕ) × (came : EndCame s1 t i f gone true) × (ran.0 ≡ ended_as number (known mid.notes) gone) × NotedStill (known mid.notes) (known new.notes) (f.back ++ gone)
               × IsShown same hash stands.name v new t × (true ≡ true → f.back ≡ [] → ran.0 ≡ all_ended (is_incremental f.setting.mode) number number_by f.chart)
-              × ((began : Moment K V) → TellsWaiting number f.chart began m (known mid.notes) s1.world (has_some f.waits)
-              → TellsWaiting number f.chart began v (known new.notes) t.world (has_some (left_so s1 t i f gone true came.ender)))
+              × ((began : Moment K V) → TellsWaiting same number i f began m (known mid.notes) s1.world → TellsLeft number f.chart began (known new.notes) came.ender.2.0)
           u = ran.3 same hash stands.name m s1 shown_mid f here (at_same s.maps number None number refl) number_by (known mid.notes) (begun no_call).3.1 (λ b t. refl)
 
           abbrev s2 : Scene K V
@@ -302,16 +303,13 @@ module _ {K V S : Type 0} (same : K → K → Bool) (hash : K → ℕ) (terms : 
                   shown_mid.is_at.together.makings_roots i j f b here (sym (ap (λ (g : ℕ → Option (Beginning K)). g j) u.2.makers) ∙ makes) taken (sym its_root ∙ sym is)
               nobodys (inr (inr (j, g, ends, is))) = (let none = nobody_then j in cc (none, ends))
 
-          tells : TellsWaiting number f.chart m (with_effects None (Some number) (all_ended (is_incremental f.setting.mode) number number_by f.chart) m) (known new.notes) s2.world (has_some u.2.ender.2.0)
-          tells =
-              subst (λ (xs : List Effect). TellsWaiting number f.chart m (with_effects None (Some number) xs m) (known new.notes) s2.world (has_some u.2.ender.2.0)) (u.6 refl refl)
-              (u.7 m ((begun no_call).5 nobody_ends))
-
-          some_is : has_some (lists its.0.root) ≡ has_some pairs
-          some_is =
-              same_behind f.setting s2.world u.2.ender.2.0 (lists its.0.root) u.2.ender.2.1 (subst (λ (r : ℕ). RootLeads s2.world r (lists its.0.root)) its_root leads)
-              ∙ left_tells (is_incremental f.setting.mode) number number_by f.chart m (known new.notes) s2.world (has_some u.2.ender.2.0) tells
-              ∙ ap (λ (xs : List Effect). has_some (pairs_behind m.deferred xs)) (sym (did_is ∙ u.6 refl refl))
+          noted_is : map (known new.notes).roles (lists its.0.root) ≡ map role.Pair pairs
+          noted_is =
+              ap (λ (bs : List ℕ). map (known new.notes).roles bs)
+              (waits_lead f.setting s2.world u.2.ender.2.0 (lists its.0.root) u.2.ender.2.1 (subst (λ (r : ℕ). RootLeads s2.world r (lists its.0.root)) its_root leads))
+              ∙ u.7 m (begun no_call).5
+              ∙ ap (λ (ns : List ℕ). map role.Pair ns) (waited_is (is_incremental f.setting.mode) number number_by f.chart m.deferred)
+              ∙ ap (λ (xs : List Effect). map role.Pair (pairs_behind m.deferred xs)) (sym (did_is ∙ u.6 refl refl))
 
           named_then : map_of own v ≡ Some its.0
           named_then = ap (λ (ms : List MapThere). find (λ f. is_same f.name own) ms) same_maps ∙ its.1
@@ -322,7 +320,7 @@ module _ {K V S : Type 0} (same : K → K → Bool) (hash : K → ℕ) (terms : 
           shown_then : IsShown same hash stands.name w new s2
           shown_then =
               subst (λ (xs : List Remains). IsShown same hash stands.name (without_map own xs v) new s2) left_is
-              (over same hash stands.name v s2 u.5 own its.0 named_then (subst (λ (ms : List MapThere). length (filter (λ f. is_same f.name own) ms) ≤ 1) (sym same_maps) (are.names own)) nobody_then pairs some_is
+              (over same hash stands.name v s2 u.5 own its.0 named_then (subst (λ (ms : List MapThere). length (filter (λ f. is_same f.name own) ms) ≤ 1) (sym same_maps) (are.names own)) nobody_then pairs noted_is
               found_then no_other)
 
           abbrev e : Entry K V

@@ -112,12 +112,12 @@ module _ {K V S : Type 0} (same : K → K → Bool) (hash : K → ℕ) (name : �
   batch_is = (at.together.makings.standing.fit map to.0 to.2).2
 
   -- one that is of no row has come about by users' events
-  record ByUsers (w2 : World (Node K V)) : Type 0 where
+  pub record ByUsers (w2 : World (Node K V)) : Type 0 where
     pub events : List (Event (Node K V))
     pub users : AllUsers events
     pub runs : Runs deferred_word old.batch_size events s.world w2
 
-  by_users : NoRow u to.4.did → ByUsers to.4.w2
+  pub by_users : NoRow u to.4.did → ByUsers to.4.w2
   by_users own = by u to.4.did own
     where
       of_these : (events : List (Event (Node K V))) (w : World (Node K V)) → AllUsers events → Runs deferred_word to.0.setting.batch_size events s.world w → to.4.w2 ≡ w → ByUsers to.4.w2

@@ -2,7 +2,7 @@ mod Lists
 mod Within
 mod Present
 mod Sums
-mod Shown
+pub mod Shown
 mod Alike
 mod KeysOn
 mod Onward
@@ -16,7 +16,8 @@ mod Over
 mod Rooms
 mod Copiers
 mod RoomPoints
-mod RoomFacts
+pub mod RoomFacts
+pub mod Needs
 mod RoomSteps
 mod For
 mod Counts

@@ -1,4 +1,5 @@
 pub mod Keys
+pub mod Needs
 pub mod Purposes
 pub mod Shards
 pub mod Kept

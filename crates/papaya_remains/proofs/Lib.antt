@@ -8,3 +8,5 @@ pub mod Maps
 pub mod Rests
 pub mod Numbered
 pub mod Slots
+pub mod Leads
+pub mod InOrder

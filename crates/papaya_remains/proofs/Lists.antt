@@ -1,11 +1,14 @@
 -- Roots in lists: how often one is there, and of which list it is.
-use Rattle.std.specs.Prelude.{◌==◌, ◌||◌, nat_lt, not, filter, find, length, map, cond, if◌then◌else◌, Some}
-use Rattle.std.proofs.Common.{◌≡◌, ◌≤◌, ℕ, ◌+◌, Bool, true, false, List, [], ◌∷◌, ◌++◌, refl, ap, sym, ◌∙◌, arith}
-use Rattle.std.proofs.lemmas.Bool.{eq-eqb}
+use Rattle.std.specs.Prelude.{◌==◌, ◌||◌, ◌≢◌, suc, nat_lt, not, filter, find, length, map, cond, if◌then◌else◌, Some}
+use Rattle.std.proofs.Common.{◌≡◌, ◌≤◌, ℕ, eqb-true, ◌+◌, Bool, true, false, List, [], ◌∷◌, ◌++◌, refl, ap, sym, ◌∙◌, arith}
+use Rattle.std.proofs.lemmas.Bool.{eq-eqb, ltb-true, ltb-false}
 use Rattle.papaya_moments.specs.Given.Runs.LifeCycle.{times}
 use Rattle.papaya_moments.specs.Given.Schedules.After.{with_remains}
 use Rattle.papaya_moments.specs.Given.Schedules.Lists.{is_among}
 use Rattle.papaya_moments.specs.Given.Schedules.Moment.{Remains}
+use Rattle.papaya_moments.specs.Given.Effects.declared.role.Role.{Role}
+use Rattle.papaya_moments.specs.Given.Effects.declared.role.Role.TheVariants as role
+use Rattle.papaya_remains.specs.Remains.{AscendFrom, has_some, left_at}
 
 pub among_append : (r : ℕ) (xs ys : List ℕ) → is_among r (xs ++ ys) ≡ (is_among r xs || is_among r ys)
 among_append r [] ys = refl
@@ -110,3 +113,55 @@ module _ (r : ℕ) (new : Remains) where
           → times r (map (λ y. y.root) (if q then new ∷ x ∷ xs else x ∷ with_remains new xs)) ≡ (if r == new.root then 1 else 0) + ((if r == x.root then 1 else 0) + times r (map (λ y. y.root) xs))
       by true ih = refl
       by false ih = omega (arith, ih)
+
+-- what is left over behind a root
+
+abbrev root_list : List Remains → List ℕ
+root_list xs = map (λ x. x.root) xs
+
+pub left_none : (r : ℕ) (xs : List Remains) → is_among r (root_list xs) ≡ false → left_at r xs ≡ []
+left_none r [] none = refl
+left_none r (x ∷ xs) none = by (x.root == r) refl (neither (r == x.root) (is_among r (root_list xs)) none) (left_none r xs)
+  where
+    by : (q : Bool) → (x.root == r) ≡ q → ((r == x.root) ≡ false) × (is_among r (root_list xs) ≡ false) → (is_among r (root_list xs) ≡ false → left_at r xs ≡ []) → (if q then x.pairs else left_at r xs) ≡ []
+    by true is both ih = absurd (let yes = eq-eqb r x.root (sym (eqb-true x.root r is)) in let no_it = both.0 in cc (yes, no_it))
+    by false is both ih = ih both.1
+
+module _ (new : Remains) where
+  pub left_new : (xs : List Remains) → is_among new.root (root_list xs) ≡ false → left_at new.root (with_remains new xs) ≡ new.pairs
+  left_new [] none = ap (λ (q : Bool). if q then new.pairs else []) (eq-eqb new.root new.root refl)
+  left_new (x ∷ xs) none = by (nat_lt new.root x.root) (x.root == new.root) refl (neither (new.root == x.root) (is_among new.root (root_list xs)) none) (left_new xs)
+    where
+      by : (p q : Bool) → (x.root == new.root) ≡ q → ((new.root == x.root) ≡ false) × (is_among new.root (root_list xs) ≡ false)
+          → (is_among new.root (root_list xs) ≡ false → left_at new.root (with_remains new xs) ≡ new.pairs)
+          → left_at new.root (if p then new ∷ x ∷ xs else x ∷ with_remains new xs) ≡ new.pairs
+      by true q is both ih = ap (λ (z : Bool). if z then new.pairs else left_at new.root (x ∷ xs)) (eq-eqb new.root new.root refl)
+      by false true is both ih = absurd (let yes = eq-eqb new.root x.root (sym (eqb-true x.root new.root is)) in let no_it = both.0 in cc (yes, no_it))
+      by false false is both ih = ap (λ (z : Bool). if z then x.pairs else left_at new.root (with_remains new xs)) is ∙ ih both.1
+
+  pub left_other : (r : ℕ) → (new.root == r) ≡ false → (xs : List Remains) → left_at r (with_remains new xs) ≡ left_at r xs
+  left_other r ne [] = ap (λ (q : Bool). if q then new.pairs else []) ne
+  left_other r ne (x ∷ xs) = by (nat_lt new.root x.root) (left_other r ne xs)
+    where
+      by : (p : Bool) → left_at r (with_remains new xs) ≡ left_at r xs → left_at r (if p then new ∷ x ∷ xs else x ∷ with_remains new xs) ≡ left_at r (x ∷ xs)
+      by true ih = ap (λ (q : Bool). if q then new.pairs else left_at r (x ∷ xs)) ne
+      by false ih = ap (λ (l : List ℕ). if x.root == r then x.pairs else l) ih
+
+  pub ascends : (k : ℕ) (xs : List Remains) → AscendFrom k xs → k ≤ new.root → is_among new.root (root_list xs) ≡ false → AscendFrom k (with_remains new xs)
+  ascends k [] up le none = (le, tt)
+  ascends k (x ∷ xs) up le none = by (nat_lt new.root x.root) refl (neither (new.root == x.root) (is_among new.root (root_list xs)) none) (ascends (suc x.root) xs up.1)
+    where
+      by_ne : (a b : ℕ) → b ≤ a → a ≢ b → suc b ≤ a
+      by_ne a b le ne = omega (arith, le, ne)
+
+      by : (p : Bool) → nat_lt new.root x.root ≡ p → ((new.root == x.root) ≡ false) × (is_among new.root (root_list xs) ≡ false)
+          → (suc x.root ≤ new.root → is_among new.root (root_list xs) ≡ false → AscendFrom (suc x.root) (with_remains new xs)) → AscendFrom k (if p then new ∷ x ∷ xs else x ∷ with_remains new xs)
+      by true is both ih = (le, (ltb-true new.root x.root is, up.1))
+      by false is both ih = (up.0, ih (by_ne new.root x.root (ltb-false new.root x.root is) (λ e. (let yes = eq-eqb new.root x.root e in let no_it = both.0 in cc (yes, no_it)))) both.1)
+
+-- where blocks are noted as pairs there are some just where there are pairs
+pub some_noted : (roles : ℕ → Role) (blocks pairs : List ℕ) → map roles blocks ≡ map role.Pair pairs → has_some blocks ≡ has_some pairs
+some_noted roles [] [] is = refl
+some_noted roles [] (n ∷ pairs) is = absurd (cc is)
+some_noted roles (b ∷ blocks) [] is = absurd (cc is)
+some_noted roles (b ∷ blocks) (n ∷ pairs) is = refl

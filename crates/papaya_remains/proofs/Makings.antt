@@ -14,6 +14,7 @@ use Rattle.papaya_moments.specs.Given.Schedules.declared.effect.Effect.{Effect}
 use Rattle.papaya_moments.specs.Given.Schedules.Effects.{with_effects}
 use Rattle.papaya_moments.specs.Given.Schedules.Moment.{Moment}
 use Rattle.papaya_moments.proofs.Given.Callers.Together.At.{at_other, at_same}
+use Rattle.papaya_moments.specs.Given.Effects.Known.{Known}
 use Rattle.papaya_moments.specs.Given.Executor.IsAt.{Scene, IsAt, slot_of}
 use Rattle.papaya_moments.specs.Given.Executor.Making.{MakingComesTo}
 use Rattle.papaya_moments.specs.Given.Executor.declared.executor.Executor.{Executor}
@@ -26,7 +27,7 @@ use Rattle.papaya_reclaims.specs.Reclaims.{IsRootOf}
 use Rattle.papaya_reclaims.proofs.Behind.Kept.{keeps_still}
 use Rattle.papaya_reclaims.proofs.Left.Makings.{makings_begin_and_leave_it, makings_leave_it}
 use Rattle.papaya_reclaims.proofs.Left.Stays.{left_stays}
-use Rattle.papaya_remains.specs.Remains.{ShowsRemains}
+use Rattle.papaya_remains.specs.Remains.{LeftNoted, ShowsRemains}
 use Rattle.papaya_remains.specs.Steps.{MakingsBeginRemain, MakingsKeepRemains}
 use Rattle.papaya_remains.proofs.Stays.{goes_on, remains_stay, roots_stay}
 
@@ -55,12 +56,12 @@ with_setting maps k st t e n = by (cases_eq n k)
     by (inr ne) = ap setting_in (at_other maps k (Some st) n ne) ∙ sym (ap setting_in (at_other maps k (Some t) n ne))
 
 pub makings_begin_remain : (K V : Type 0) → MakingsBeginRemain K V
-makings_begin_remain K V roots m s shows i b none untaken =
-    goes_on roots m m s (record s { makers = with_at s.makers i (Some b) }) shows refl refl
+makings_begin_remain K V roots m known s shows i b none untaken =
+    goes_on roots m m known known s (record s { makers = with_at s.makers i (Some b) }) shows (λ x n is before after. is) refl refl
     (makings_begin_and_leave_it V (λ (k l : K). true) (λ (k l : K). true) 0 roots slot_of s.world s.maps s.calls s.makers s.enders shows.lists shows.left i none b untaken) shows.ending
 
 module _ (K V S : Type 0) (same : K → K → Bool) (hash : K → ℕ) where
-  module _ (m : Moment K V) (s : Scene K V) (old new : Executor K V S) (at : IsAt same hash old s) (shows : ShowsRemains old.roots m s) (i : ℕ) (b : Beginning K) (here : s.makers i ≡ Some b)
+  module _ (m : Moment K V) (known known2 : Known) (s : Scene K V) (old new : Executor K V S) (at : IsAt same hash old s) (shows : ShowsRemains old.roots m known s) (i : ℕ) (b : Beginning K) (here : s.makers i ≡ Some b)
       (caller : Option (List ℕ)) (acted : Option ℕ) (effects : List Effect) where
     abbrev v : Moment K V
     v = with_effects caller acted effects m
@@ -85,18 +86,19 @@ module _ (K V S : Type 0) (same : K → K → Bool) (hash : K → ℕ) where
         (λ r its. subst (λ (x : ℕ). word_at w2.memory (Used x) ≡ Some 1) its.3 (together.makings.used its.0 its.1 its.2))
 
     then_so : (opening : NewMap) (said : Progress Setting) (did : Did opening said) (comes : MakingComesTo same hash s old new i b opening did.step.w2 said)
-        → ShowsRemains old.roots v (making_after same hash s old new i b opening did.step.w2 said comes)
-    then_so opening progress.Goes did comes =
-        goes_on old.roots m v s (making_after same hash s old new i b opening did.step.w2 progress.Goes comes) shows (roots_stay caller acted effects m) (remains_stay caller acted effects m)
+        → LeftNoted known known2 s.world (making_after same hash s old new i b opening did.step.w2 said comes).world
+        → ShowsRemains old.roots v known2 (making_after same hash s old new i b opening did.step.w2 said comes)
+    then_so opening progress.Goes did comes noted =
+        goes_on old.roots m v known known2 s (making_after same hash s old new i b opening did.step.w2 progress.Goes comes) shows noted (roots_stay caller acted effects m) (remains_stay caller acted effects m)
         (left_then opening progress.Goes did) shows.ending
-    then_so opening progress.Waits did comes = absurd comes
-    then_so opening (progress.Done setting) did comes =
-        goes_on old.roots m v s (making_after same hash s old new i b opening did.step.w2 (progress.Done setting) comes) shows (roots_stay caller acted effects m) (remains_stay caller acted effects m)
+    then_so opening progress.Waits did comes noted = absurd comes
+    then_so opening (progress.Done setting) did comes noted =
+        goes_on old.roots m v known known2 s (making_after same hash s old new i b opening did.step.w2 (progress.Done setting) comes) shows noted (roots_stay caller acted effects m) (remains_stay caller acted effects m)
         (comes_so did.step.w2 did.told.0 comes.0 did.told.2 (did.told.1.setting_is ∙ sym comes.1.setting_is) (left_then opening (progress.Done setting) did)) shows.ending
-    then_so opening (progress.Refused fault) did comes =
-        goes_on old.roots m v s (making_after same hash s old new i b opening did.step.w2 (progress.Refused fault) comes) shows (roots_stay caller acted effects m) (remains_stay caller acted effects m)
+    then_so opening (progress.Refused fault) did comes noted =
+        goes_on old.roots m v known known2 s (making_after same hash s old new i b opening did.step.w2 (progress.Refused fault) comes) shows noted (roots_stay caller acted effects m) (remains_stay caller acted effects m)
         (left_then opening (progress.Refused fault) did) shows.ending
 
   pub makings_keep_remains : MakingsKeepRemains K V S same hash
-  makings_keep_remains m s old new at shows i said leads b here caller acted effects =
-      let to = leads b here in then_so m s old new at shows i b here caller acted effects to.0 said to.2 to.3
+  makings_keep_remains m known known2 s old new at shows i said leads b here caller acted effects noted =
+      let to = leads b here in then_so m known known2 s old new at shows i b here caller acted effects to.0 said to.2 to.3 noted

@@ -11,14 +11,16 @@ use Rattle.papaya_moments.specs.Given.Schedules.Beginning.{used_roots, with_map}
 use Rattle.papaya_moments.specs.Given.Schedules.Lists.{is_among}
 use Rattle.papaya_moments.specs.Given.Schedules.Moment.{MapThere, Moment, Remains}
 use Rattle.papaya_moments.specs.Given.Schedules.Views.{map_of}
+use Rattle.papaya_moments.specs.Given.Effects.Known.{Known}
+use Rattle.papaya_moments.specs.Given.Effects.declared.role.Role.TheVariants as role
 use Rattle.papaya_moments.specs.Given.Finishes.Makings.{IsFreeRoot}
 use Rattle.papaya_moments.specs.Given.Executor.IsAt.{Scene}
 use Rattle.papaya_moments.specs.Given.Others.Endings.{without_map}
 use Rattle.papaya_reclaims.specs.Left.{IsSomebodys}
 use Rattle.papaya_reclaims.proofs.Left.Stays.{nothing_is_left}
-use Rattle.papaya_remains.specs.Remains.{ShowsRemains, has_some, left_roots, map_roots}
+use Rattle.papaya_remains.specs.Remains.{AscendFrom, ShowsRemains, has_some, left_at, left_roots, map_roots}
 use Rattle.papaya_remains.specs.Steps.{MapsComeRemain, MapsGoRemain, ReclaimedRemain}
-use Rattle.papaya_remains.proofs.Lists.{among_append, among_remains, either, neither, none_times, not_among, some_times, taken_out, times_remains}
+use Rattle.papaya_remains.proofs.Lists.{among_append, among_remains, ascends, either, left_new, left_none, left_other, neither, none_times, not_among, some_noted, some_times, taken_out, times_remains}
 
 or_true : (a b : Bool) → b ≡ true → (a || b) ≡ true
 or_true true b e = refl
@@ -38,10 +40,12 @@ module _ {K V : Type 0} (m : Moment K V) where
 
 module _ (K V : Type 0) where
   pub maps_come_remain : MapsComeRemain K V
-  maps_come_remain roots m s shows there unused below = record {
+  maps_come_remain roots m known s shows there unused below = record {
     lists = shows.lists;
     left = shows.left;
     told = λ r l none. shows.told r l (neither (is_among r (map_roots m)) (is_among r (there.root ∷ [])) (sym (roots_among r) ∙ none)).0;
+    pairs = λ r l none. shows.pairs r l (neither (is_among r (map_roots m)) (is_among r (there.root ∷ [])) (sym (roots_among r) ∙ none)).0;
+    ascending = shows.ascending;
     once = λ r. (
         let sum = used_times (with_map there m) r in
         let more = ap (times r) roots_then ∙ times-append r (map_roots m) (there.root ∷ []) in
@@ -80,7 +84,7 @@ module _ (K V : Type 0) where
               old true b used = refl
               old false b used = used
 
-  module _ (roots : ℕ) (m : Moment K V) (s : Scene K V) (shows : ShowsRemains roots m s) (own : List ℕ) (f : MapThere) (found : map_of own m ≡ Some f)
+  module _ (roots : ℕ) (m : Moment K V) (known : Known) (s : Scene K V) (shows : ShowsRemains roots m known s) (own : List ℕ) (f : MapThere) (found : map_of own m ≡ Some f)
       (alone : length (filter (λ g. is_same g.name own) m.maps) ≤ 1) where
     abbrev kept : List ℕ
     kept = map (λ g. g.root) (filter (λ g. not (is_same g.name own)) m.maps)
@@ -116,12 +120,15 @@ module _ (K V : Type 0) where
 
     module _ (no_ends : (j : ℕ) → s.enders j ≡ None) where
       goes_with : (remains : List Remains) → ((r : ℕ) → r < roots → is_among r kept ≡ false → is_among r (map (λ x. x.root) remains) ≡ has_some (shows.lists r))
+          → ((r : ℕ) → r < roots → is_among r kept ≡ false → map known.roles (shows.lists r) ≡ map role.Pair (left_at r remains)) → AscendFrom 0 remains
           → ((r : ℕ) → times r (map (λ x. x.root) remains) ≤ times r (left_roots m) + (if r == f.root then 1 else 0))
-          → ((r : ℕ) → is_among r (map (λ x. x.root) remains) ≡ true → r < roots) → ShowsRemains roots (without_map own remains m) s
-      goes_with remains told few below = record {
+          → ((r : ℕ) → is_among r (map (λ x. x.root) remains) ≡ true → r < roots) → ShowsRemains roots (without_map own remains m) known s
+      goes_with remains told pairs ascending few below = record {
         lists = shows.lists;
         left = shows.left;
         told = told;
+        pairs = pairs;
+        ascending = ascending;
         once = λ r. (
             let then_sum = used_times (without_map own remains m) r in
             let sum = used_times m r in
@@ -148,8 +155,9 @@ module _ (K V : Type 0) where
               by true e = e
               by false e = absurd (let none = none_times f.root (map_roots m) e in let its = its_root in omega (arith, none, its))
 
-      goes : (pairs : List ℕ) → has_some (shows.lists f.root) ≡ has_some pairs → ShowsRemains roots (without_map own (if_any f.root pairs m.remains) m) s
-      goes [] none = goes_with m.remains told (λ r. omega arith) (λ r is. shows.below r (used_among m r ∙ or_true (is_among r (map_roots m)) (is_among r (left_roots m)) is))
+      goes : (pairs : List ℕ) → map known.roles (shows.lists f.root) ≡ map role.Pair pairs → ShowsRemains roots (without_map own (if_any f.root pairs m.remains) m) known s
+      goes [] none =
+          goes_with m.remains told left shows.ascending (λ r. omega arith) (λ r is. shows.below r (used_among m r ∙ or_true (is_among r (map_roots m)) (is_among r (left_roots m)) is))
         where
           told : (r : ℕ) → r < roots → is_among r kept ≡ false → is_among r (left_roots m) ≡ has_some (shows.lists r)
           told r l out = by (r == f.root) refl
@@ -157,11 +165,21 @@ module _ (K V : Type 0) where
               by : (q : Bool) → (r == f.root) ≡ q → is_among r (left_roots m) ≡ has_some (shows.lists r)
               by true e =
                   (let same : r ≡ f.root = eqb-true r f.root e in
-                  ap (λ (x : ℕ). is_among x (left_roots m)) same ∙ none_left ∙ sym none ∙ ap (λ (x : ℕ). has_some (shows.lists x)) (sym same))
+                  ap (λ (x : ℕ). is_among x (left_roots m)) same ∙ none_left ∙ sym (some_noted known.roles (shows.lists f.root) [] none) ∙ ap (λ (x : ℕ). has_some (shows.lists x)) (sym same))
               by false e = shows.told r l (other_none r e out)
+
+          left : (r : ℕ) → r < roots → is_among r kept ≡ false → map known.roles (shows.lists r) ≡ map role.Pair (left_at r m.remains)
+          left r l out = by (r == f.root) refl
+            where
+              by : (q : Bool) → (r == f.root) ≡ q → map known.roles (shows.lists r) ≡ map role.Pair (left_at r m.remains)
+              by true e =
+                  (let same : r ≡ f.root = eqb-true r f.root e in
+                  ap (λ (x : ℕ). map known.roles (shows.lists x)) same ∙ none
+                  ∙ sym (ap (λ (x : ℕ). map role.Pair (left_at x m.remains)) same ∙ ap (λ (ns : List ℕ). map role.Pair ns) (left_none f.root m.remains none_left)))
+              by false e = shows.pairs r l (other_none r e out)
       goes (n ∷ pairs) some =
-          goes_with (if_any f.root (n ∷ pairs) m.remains) told (λ r. (let sum = times_remains r new m.remains in omega (arith, sum)))
-          (λ r is. below r (r == f.root) refl (sym (among_remains r new m.remains) ∙ is))
+          goes_with (if_any f.root (n ∷ pairs) m.remains) told left (ascends new 0 m.remains shows.ascending (omega arith) none_left)
+          (λ r. (let sum = times_remains r new m.remains in omega (arith, sum))) (λ r is. below r (r == f.root) refl (sym (among_remains r new m.remains) ∙ is))
         where
           new : Remains
           new = record { root = f.root; pairs = n ∷ pairs }
@@ -170,24 +188,42 @@ module _ (K V : Type 0) where
           told r l out = among_remains r new m.remains ∙ by (r == f.root) refl
             where
               by : (q : Bool) → (r == f.root) ≡ q → (q || is_among r (left_roots m)) ≡ has_some (shows.lists r)
-              by true e = sym some ∙ ap (λ (x : ℕ). has_some (shows.lists x)) (sym (eqb-true r f.root e))
+              by true e = sym (some_noted known.roles (shows.lists f.root) (n ∷ pairs) some) ∙ ap (λ (x : ℕ). has_some (shows.lists x)) (sym (eqb-true r f.root e))
               by false e = shows.told r l (other_none r e out)
+
+          left : (r : ℕ) → r < roots → is_among r kept ≡ false → map known.roles (shows.lists r) ≡ map role.Pair (left_at r (if_any f.root (n ∷ pairs) m.remains))
+          left r l out = by (r == f.root) refl
+            where
+              by : (q : Bool) → (r == f.root) ≡ q → map known.roles (shows.lists r) ≡ map role.Pair (left_at r (if_any f.root (n ∷ pairs) m.remains))
+              by true e =
+                  (let same : r ≡ f.root = eqb-true r f.root e in
+                  ap (λ (x : ℕ). map known.roles (shows.lists x)) same ∙ some
+                  ∙ sym (ap (λ (x : ℕ). map role.Pair (left_at x (if_any f.root (n ∷ pairs) m.remains))) same ∙ ap (λ (ns : List ℕ). map role.Pair ns) (left_new new m.remains none_left)))
+              by false e =
+                  shows.pairs r l (other_none r e out)
+                  ∙ ap (λ (ns : List ℕ). map role.Pair ns) (sym (left_other new r (by_ne (f.root == r) refl (λ other. (let yes = eq-eqb r f.root (sym (eqb-true f.root r other)) in cc (yes, e)))) m.remains))
+                where
+                  by_ne : (q : Bool) → (f.root == r) ≡ q → ((f.root == r) ≡ true → ⊥) → (f.root == r) ≡ false
+                  by_ne true is never = absurd (never is)
+                  by_ne false is never = is
 
           below : (r : ℕ) (q : Bool) → (r == f.root) ≡ q → (q || is_among r (left_roots m)) ≡ true → r < roots
           below r true e is = subst (λ (x : ℕ). x < roots) (sym (eqb-true r f.root e)) its_below
           below r false e is = shows.below r (used_among m r ∙ or_true (is_among r (map_roots m)) (is_among r (left_roots m)) is)
 
   pub maps_go_remain : MapsGoRemain K V
-  maps_go_remain roots m s shows own f found alone no_ends pairs so = goes roots m s shows own f found alone no_ends pairs so
+  maps_go_remain roots m known s shows own f found alone no_ends pairs so = goes roots m known s shows own f found alone no_ends pairs so
 
   pub reclaimed_remain : ReclaimedRemain K V
-  reclaimed_remain roots m v s t shows maps none no_makers no_enders all = record {
+  reclaimed_remain roots m v known known2 s t shows maps none no_makers no_enders all = record {
     lists = λ r. [];
     left = nothing_is_left K V roots t.world t.maps t.makers t.enders (λ r l. elim (all.free r l) as (λ _. IsSomebodys t.maps t.makers t.enders r ⊎ IsFreeRoot t.world r) [
       | inl is ↦ inl (inl is)
       | inr free ↦ inr free
     ]);
     told = λ r l out. ap (λ (xs : List Remains). is_among r (map (λ x. x.root) xs)) none;
+    pairs = λ r l out. ap (λ (xs : List Remains). map role.Pair (left_at r xs)) (sym none);
+    ascending = subst (AscendFrom 0) (sym none) tt;
     once = λ r. (let few = used_few r in let before = used_times m r in let once = shows.once r in omega (arith, few, before, once));
     below = λ r is. shows.below r (used_among m r ∙ or_first (is_among r (map_roots m)) (is_among r (left_roots m)) (sym (used_is r) ∙ is));
     ending = λ j f is. absurd (let no_end = no_enders j in cc (no_end, is));

@@ -10,17 +10,19 @@ use Rattle.papaya_moments.specs.Given.Schedules.Lists.{is_among}
 use Rattle.papaya_moments.specs.Given.Schedules.Moment.{MapThere, Moment}
 use Rattle.papaya_moments.specs.Given.Schedules.Views.{map_at}
 use Rattle.papaya_moments.specs.Given.Effects.Known.{Known}
+use Rattle.papaya_moments.specs.Given.Effects.declared.role.Role.TheVariants as role
 use Rattle.papaya_moments.specs.Given.Executor.IsAt.{Scene, IsAt}
 use Rattle.papaya_moments.specs.Given.Executor.declared.executor.Executor.{Executor}
 use Rattle.papaya_moments.specs.Given.Finishes.Maps.{Standing}
 use Rattle.papaya_moments.specs.Given.Follows.Shows.{Shows}
+use Rattle.papaya_moments.proofs.Given.Runs.Pairs.Held.{times-append}
 use Rattle.papaya_moments.specs.Numbers.{AreFound}
 use Rattle.papaya_reclaims.specs.Left.{IsSomebodys}
 use Rattle.papaya_reclaims.specs.Reclaims.{IsRootOf, RootLeads}
 use Rattle.papaya_reclaims.proofs.Left.Stays.{left_is_left_behind}
-use Rattle.papaya_remains.specs.Remains.{AllStand, RootsAreTaken, ShowsRemains, has_some, left_roots, map_roots}
-use Rattle.papaya_remains.specs.Steps.{RestsRemain}
-use Rattle.papaya_remains.proofs.Lists.{among_append, found_among}
+use Rattle.papaya_remains.specs.Remains.{AllStand, RootsAreTaken, ShowsRemains, has_some, left_at, left_roots, map_roots}
+use Rattle.papaya_remains.specs.Steps.{RestsNoted, RestsRemain}
+use Rattle.papaya_remains.proofs.Lists.{among_append, found_among, left_none, not_among, some_times}
 
 -- a root that is there is that of one that is there
 root_there : (P Q : MapThere → Type 0) (r : ℕ) (fs : List MapThere) → is_among r (map (λ f. f.root) fs) ≡ true → All P fs → AllByRecursion Q fs → (f : MapThere) × (f.root ≡ r) × P f × Q f
@@ -33,7 +35,7 @@ root_there P Q r (f ∷ fs) e all each = by (r == f.root) refl e (λ later. root
     by false other is ih = ih is
 
 module _ {K V S : Type 0} (same : K → K → Bool) (hash : K → ℕ) (name : ℕ → List ℕ) (m : Moment K V) (known : Known) (s : Scene K V) (e : Executor K V S) (at : IsAt same hash e s)
-    (shown : Shows same name m known s) (shows : ShowsRemains e.roots m s) (found : AreFound m) (stand : AllStand m s) (no_makers : (j : ℕ) → s.makers j ≡ None) (no_enders : (j : ℕ) → s.enders j ≡ None) where
+    (shown : Shows same name m known s) (shows : ShowsRemains e.roots m known s) (found : AreFound m) (stand : AllStand m s) (no_makers : (j : ℕ) → s.makers j ≡ None) (no_enders : (j : ℕ) → s.enders j ≡ None) where
   -- roots of maps that are there are those of maps that stand
   stands_there : (r : ℕ) → is_among r (map_roots m) ≡ true → IsRootOf s.maps r
   stands_there r is =
@@ -97,3 +99,18 @@ rests_remain K V S same hash name m known s e at shown shows found stand no_make
   in_memory same hash name m known s e at shown shows found stand no_makers no_enders,
   (left_is_left_behind K V e.roots s.world s.maps s.makers s.enders shows.lists no_makers no_enders).0 shows.left,
 )
+
+-- And what is behind each root then, also behind that of a map, is noted as what is told.
+pub each_noted : (K V S : Type 0) (same : K → K → Bool) (hash : K → ℕ) → RestsNoted K V S same hash
+each_noted K V S same hash name m known s e at shown shows found stand no_makers no_enders r below = by (is_among r (map_roots m)) refl
+  where
+    none_told : is_among r (map_roots m) ≡ true → is_among r (left_roots m) ≡ false
+    none_told is =
+        not_among r (left_roots m)
+        (let once = shows.once r in let both = times-append r (map_roots m) (left_roots m) in let some = some_times r (map_roots m) is in omega (arith, once, both, some))
+
+    by : (q : Bool) → is_among r (map_roots m) ≡ q → map known.roles (shows.lists r) ≡ map role.Pair (left_at r m.remains)
+    by true is =
+        let its = stands_there same hash name m known s e at shown shows found stand no_makers no_enders r is in
+        ap (λ (bs : List ℕ). map known.roles bs) (shows.left.none r below (inl its)) ∙ sym (ap (λ (ns : List ℕ). map role.Pair ns) (left_none r m.remains (none_told is)))
+    by false is = shows.pairs r below is

@@ -13,14 +13,18 @@ use Rattle.papaya_moments.specs.Given.Schedules.Beginning.{used_roots}
 use Rattle.papaya_moments.specs.Given.Schedules.Effects.{maps_by, promoted, with_effect, with_effects}
 use Rattle.papaya_moments.specs.Given.Schedules.Lists.{is_among}
 use Rattle.papaya_moments.specs.Given.Schedules.Moment.{MapThere, Remains, Moment}
+use Rattle.papaya_moments.specs.Given.Effects.Known.{Known}
+use Rattle.papaya_moments.specs.Given.Effects.declared.role.Role.TheVariants as role
 use Rattle.papaya_moments.specs.Given.Finishes.Endings.{Finishing}
 use Rattle.papaya_moments.specs.Given.Finishes.Makings.{Beginning}
 use Rattle.papaya_moments.specs.Given.Finishes.Maps.{Standing}
 use Rattle.papaya_moments.specs.Given.Executor.IsAt.{Scene, at_first}
 use Rattle.papaya_reclaims.specs.Left.{LeftAmong}
+use Rattle.papaya_reclaims.proofs.Behind.Kept.{in_all}
 use Rattle.papaya_reclaims.proofs.Left.Stays.{nothing_is_left}
-use Rattle.papaya_remains.specs.Remains.{ShowsRemains, map_roots}
+use Rattle.papaya_remains.specs.Remains.{AscendFrom, LeftNoted, ShowsRemains, left_at, map_roots}
 use Rattle.papaya_remains.specs.Steps.{BeginsRemain, StaysRemain}
+use Rattle.papaya_lives.proofs.Order.{noted_still}
 
 -- a map whose root's table is another one has its root
 root_same : (t : Table) (f : MapThere) → (promoted t f).root ≡ f.root
@@ -51,12 +55,18 @@ module _ {K V : Type 0} where
   used_then m v maps remains = ap (λ (rs : List ℕ). rs ++ map (λ x. x.root) v.remains) maps ∙ ap (λ (xs : List Remains). map_roots m ++ map (λ x. x.root) xs) remains
 
   -- where the same lists are behind the roots still
-  pub goes_on : (roots : ℕ) (m v : Moment K V) (s t : Scene K V) (shows : ShowsRemains roots m s) → map_roots v ≡ map_roots m → v.remains ≡ m.remains
-      → LeftAmong roots t.world t.maps t.makers t.enders shows.lists → ((j : ℕ) (f : Finishing K V) → t.enders j ≡ Some f → is_among f.setting.root (map_roots m) ≡ true) → ShowsRemains roots v t
-  goes_on roots m v s t shows maps remains left ending = record {
+  pub goes_on : (roots : ℕ) (m v : Moment K V) (known known2 : Known) (s t : Scene K V) (shows : ShowsRemains roots m known s) → LeftNoted known known2 s.world t.world → map_roots v ≡ map_roots m
+      → v.remains ≡ m.remains → LeftAmong roots t.world t.maps t.makers t.enders shows.lists → ((j : ℕ) (f : Finishing K V) → t.enders j ≡ Some f → is_among f.setting.root (map_roots m) ≡ true)
+      → ShowsRemains roots v known2 t
+  goes_on roots m v known known2 s t shows noted maps remains left ending = record {
     lists = shows.lists;
     left = left;
     told = λ r l none. ap (λ (xs : List Remains). is_among r (map (λ x. x.root) xs)) remains ∙ shows.told r l (ap (is_among r) (sym maps) ∙ none);
+    pairs = λ r l none.
+        noted_still known known2 (shows.lists r) (left_at r v.remains)
+        (shows.pairs r l (ap (is_among r) (sym maps) ∙ none) ∙ ap (λ (xs : List Remains). map role.Pair (left_at r xs)) (sym remains))
+        (λ b n some is. (let in_them = in_all shows.lists r roots b l in noted b n is (shows.left.left b (omega (arith, some, in_them))) (left.left b (omega (arith, some, in_them)))));
+    ascending = subst (AscendFrom 0) (sym remains) shows.ascending;
     once = λ r. subst (λ (xs : List ℕ). times r xs ≤ 1) (sym used) (shows.once r);
     below = λ r is. shows.below r (ap (is_among r) (sym used) ∙ is);
     ending = λ j f is. ap (is_among f.setting.root) maps ∙ ending j f is;
@@ -73,14 +83,16 @@ begins_remain K V roots = record {
   lists = λ r. [];
   left = nothing_is_left K V roots (at_first {K = K} {V = V} roots).world (λ m. None) (λ i. None) (λ i. None) (λ r l. inr (zero_at roots r l, zero_at roots r l));
   told = λ r l none. refl;
+  pairs = λ r l none. refl;
+  ascending = tt;
   once = λ r. omega arith;
   below = λ r is. absurd (cc is);
   ending = λ j f is. absurd (cc is);
 }
 
 pub stays_remain : (K V : Type 0) → StaysRemain K V
-stays_remain K V roots m v s t shows maps remains world standing makers enders =
-    goes_on roots m v s t shows maps remains
+stays_remain K V roots m v known s t shows maps remains world standing makers enders =
+    goes_on roots m v known known s t shows (λ b n is before after. is) maps remains
     (subst (λ (x : World (Node K V)). LeftAmong roots x t.maps t.makers t.enders shows.lists) (sym world)
     (subst (λ (x : ℕ → Option (Standing K)). LeftAmong roots s.world x t.makers t.enders shows.lists) (sym standing)
     (subst (λ (x : ℕ → Option (Beginning K)). LeftAmong roots s.world s.maps x t.enders shows.lists) (sym makers)

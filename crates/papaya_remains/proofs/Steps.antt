@@ -26,23 +26,23 @@ is_of_slots slot call.Unregister = tt
 
 module _ (K V S : Type 0) (same : K → K → Bool) (hash : K → ℕ) where
   pub calls_keep_remains : CallsKeepRemains K V S same hash
-  calls_keep_remains m s old new at shows map i u here said leads caller acted effects =
+  calls_keep_remains m known known2 s old new at shows map i u here said leads caller acted effects noted =
       let to = leads map u here in
-      goes_on old.roots m (with_effects caller acted effects m) s (scene_after same hash s old new map i to.0 u to.1 said to.4) shows (roots_stay caller acted effects m) (remains_stay caller acted effects m)
+      goes_on old.roots m (with_effects caller acted effects m) known known2 s (scene_after same hash s old new map i to.0 u to.1 said to.4) shows noted (roots_stay caller acted effects m) (remains_stay caller acted effects m)
       (machines_leave_it V same same old.batch_size old.roots slot_of s.world s.maps s.calls s.makers s.enders shows.lists at.together shows.left map to.0 to.2 i u here new.memory.memory to.1 said to.4)
       shows.ending
 
   pub rows_begin_remain : RowsBeginRemain K V S same hash
-  rows_begin_remain m s old new at shows called i may leads =
+  rows_begin_remain m known s old new at shows called i may leads =
       let happened = (leads may).3 in
-      goes_on old.roots m m s (scene_then same hash (Begin i (request_of (slot_of i) called)) s old new happened) shows refl refl
+      goes_on old.roots m m known known s (scene_then same hash (Begin i (request_of (slot_of i) called)) s old new happened) shows (λ b n is before after. is) refl refl
       ((guards_leave_it V same same old.batch_size old.roots slot_of s.world s.maps s.calls s.makers s.enders shows.lists at.together shows.left i happened.0 happened.2 happened.3).0
       (request_of (slot_of i) called) (is_of_slots (slot_of i) called) happened.1)
       shows.ending
 
   pub rows_keep_remains : RowsKeepRemains K V S same hash
-  rows_keep_remains m s old new at shows i said leads row here caller acted effects =
+  rows_keep_remains m known known2 s old new at shows i said leads row here caller acted effects noted =
       let happened = (leads row here).4 in
-      goes_on old.roots m (with_effects caller acted effects m) s (scene_then same hash (Step i) s old new happened) shows (roots_stay caller acted effects m) (remains_stay caller acted effects m)
+      goes_on old.roots m (with_effects caller acted effects m) known known2 s (scene_then same hash (Step i) s old new happened) shows noted (roots_stay caller acted effects m) (remains_stay caller acted effects m)
       ((guards_leave_it V same same old.batch_size old.roots slot_of s.world s.maps s.calls s.makers s.enders shows.lists at.together shows.left i happened.0 happened.2 happened.3).1 happened.1)
       shows.ending

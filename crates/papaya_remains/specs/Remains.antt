@@ -1,12 +1,16 @@
 -- What ended maps have left over, while others go on: it is behind the roots that the moment says, and roots are used as it says.
-use Rattle.std.specs.Prelude.{◌≡◌, ◌<◌, ◌≤◌, ℕ, Bool, true, false, List, [], ◌∷◌, map, Some, if◌then◌else◌}
+use Rattle.std.specs.Prelude.{◌≡◌, ◌<◌, ◌≤◌, ◌==◌, ℕ, suc, Bool, true, false, List, [], ◌∷◌, map, Some, if◌then◌else◌}
 use Rattle.std.specs.List.{AllByRecursion}
 use Rattle.papaya_moments.specs.Given.SeizeWords.declared.at.At.TheVariants.{Used}
 use Rattle.papaya_moments.specs.Given.SeizeWords.Mem.{Mem, word_at}
+use Rattle.papaya_moments.specs.Given.Seize.World.{World, LeftTo}
+use Rattle.papaya_moments.specs.Given.Tables.declared.node.Node.{Node}
 use Rattle.papaya_moments.specs.Given.Runs.LifeCycle.{times}
 use Rattle.papaya_moments.specs.Given.Schedules.Beginning.{used_roots}
 use Rattle.papaya_moments.specs.Given.Schedules.Lists.{is_among}
-use Rattle.papaya_moments.specs.Given.Schedules.Moment.{Moment}
+use Rattle.papaya_moments.specs.Given.Schedules.Moment.{Moment, Remains}
+use Rattle.papaya_moments.specs.Given.Effects.Known.{Known}
+use Rattle.papaya_moments.specs.Given.Effects.declared.role.Role.TheVariants as role
 use Rattle.papaya_moments.specs.Given.Finishes.Endings.{Finishing}
 use Rattle.papaya_moments.specs.Given.Finishes.Maps.{Standing}
 use Rattle.papaya_moments.specs.Given.Executor.IsAt.{Scene}
@@ -25,12 +29,29 @@ module _ {K V : Type 0} where
   abbrev pub left_roots : Moment K V → List ℕ
   left_roots m = map (λ r. r.root) m.remains
 
--- These lists are behind the roots that are nobody's, and the moment tells a root, if no map has it that is there, just where something is behind it. It tells each of so many roots once. The root of a map
--- that ends is that of one that is there until its event is over.
-pub record ShowsRemains {K V : Type 0} (roots : ℕ) (m : Moment K V) (s : Scene K V) : Type 0 where
+-- what is left over behind a root
+abbrev pub left_at : ℕ → List Remains → List ℕ
+left_at r [] = []
+left_at r (x ∷ remains) = if x.root == r then x.pairs else left_at r remains
+
+-- roots ascend, from this one on
+abbrev pub AscendFrom : ℕ → List Remains → Type 0
+AscendFrom r [] = Unit {0}
+AscendFrom r (x ∷ remains) = (r ≤ x.root) × AscendFrom (suc x.root) remains
+
+-- blocks that are left over before and after are noted as the pairs as which they were
+abbrev pub LeftNoted : {K V : Type 0} → Known → Known → World (Node K V) → World (Node K V) → Type 0
+LeftNoted known known2 w w2 =
+    (b n : ℕ) → known.roles b ≡ role.Pair n → ((j : ℕ) × (w.hand b ≡ LeftTo j)) → ((j : ℕ) × (w2.hand b ≡ LeftTo j)) → known2.roles b ≡ role.Pair n
+
+-- These lists are behind the roots that are nobody's, and the moment tells a root, if no map has it that is there, just where something is behind it: the blocks there are noted, in their order, as the
+-- pairs that it tells to be left over behind that root. It tells each of so many roots once, by ascending root. The root of a map that ends is that of one that is there until its event is over.
+pub record ShowsRemains {K V : Type 0} (roots : ℕ) (m : Moment K V) (known : Known) (s : Scene K V) : Type 0 where
   pub lists : ℕ → List ℕ
   pub left : LeftAmong roots s.world s.maps s.makers s.enders lists
   pub told : (r : ℕ) → r < roots → is_among r (map_roots m) ≡ false → is_among r (left_roots m) ≡ has_some (lists r)
+  pub pairs : (r : ℕ) → r < roots → is_among r (map_roots m) ≡ false → map known.roles (lists r) ≡ map role.Pair (left_at r m.remains)
+  pub ascending : AscendFrom 0 m.remains
   pub once : (r : ℕ) → times r (used_roots m) ≤ 1
   pub below : (r : ℕ) → is_among r (used_roots m) ≡ true → r < roots
   pub ending : (j : ℕ) (f : Finishing K V) → s.enders j ≡ Some f → is_among f.setting.root (map_roots m) ≡ true

@@ -2,9 +2,9 @@
 ghost use Rattle.std.specs.Prelude.{ℕ, Bool};
 ghost use Rattle.papaya_remains.specs.Numbered.{CallsKeepCount, RowsKeepCount, MakingsKeepCount, EndsKeepCount, MoreAreCounted};
 ghost use Rattle.papaya_remains.specs.Slots.{SlotsBegin, CallsNoteSlots, RowsNoteSlots, MakingsNoteSlots, EndingsNoteSlots};
-ghost use Rattle.papaya_remains.specs.Steps.{BeginsRemain, StaysRemain, MakingsBeginRemain, MapsComeRemain, MapsGoRemain, ReclaimedRemain, CallsKeepRemains, RowsBeginRemain, RowsKeepRemains, MakingsKeepRemains, EndingsBeginRemain, EndingsKeepRemains, RestsRemain};
+ghost use Rattle.papaya_remains.specs.Steps.{BeginsRemain, StaysRemain, MakingsBeginRemain, MapsComeRemain, MapsGoRemain, ReclaimedRemain, CallsKeepRemains, RowsBeginRemain, RowsKeepRemains, MakingsKeepRemains, EndingsBeginRemain, EndingsKeepRemains, RestsNoted, RestsRemain};
 
-/// At each moment of a run what ended maps have left over is behind the roots that the moment says, each of which it tells once, however many others go on: so it is before all events; after each step of a
+/// At each moment of a run what ended maps have left over is behind the roots that the moment says, each of which it tells once, and is noted as the pairs that it tells there, in their order, however many others go on: so it is before all events; after each step of a
 /// call, and of a row on a slot; while maps are made and end; and once all is reclaimed. Where nobody makes a map or ends one, those roots are taken that the moment says, and what is behind them is what a
 /// caller finds there that reclaims all.
 pub fn what_remains_is_told<K, V, S>()
@@ -21,6 +21,7 @@ pub fn what_remains_is_told<K, V, S>()
     ensures endings_begin { (same : K → K → Bool) (hash : K → ℕ) → EndingsBeginRemain K V S same hash }
     ensures endings { (same : K → K → Bool) (hash : K → ℕ) → EndingsKeepRemains K V S same hash }
     ensures rests { (same : K → K → Bool) (hash : K → ℕ) → RestsRemain K V S same hash }
+    ensures rests_noted { (same : K → K → Bool) (hash : K → ℕ) → RestsNoted K V S same hash }
 {}
 
 /// Numbers of maps that are there, and of the maps of all tables, stay below the next number that the executor gives: over each step of a call, of a row on a slot, and of the making of a map, over all that

@@ -4,7 +4,7 @@ use Rattle.std.proofs.Common.{refl}
 use Rattle.papaya_histories.specs.Given.Runs.Present.{Present}
 use Rattle.papaya_histories.specs.Given.Schedules.Moment.{Remains, Sheltered, Moment}
 use Rattle.papaya_histories.specs.Given.Finishes.Maps.{Standing}
-use Rattle.papaya_histories.specs.Given.Effects.Known.{Known}
+use Rattle.papaya_histories.specs.Given.Effects.Known.{Known, known as noted_in}
 use Rattle.papaya_histories.specs.Given.Executor.IsAt.{Scene}
 use Rattle.papaya_histories.specs.Given.Follows.Maps.{ShowsMap}
 use Rattle.papaya_histories.specs.Given.Moments.Whole.{ShowsWhole}
@@ -69,5 +69,5 @@ module _ {K V : Type 0} (m : Moment K V) (known : Known) (events : ℕ) (is_mapp
   pub counted_elsewhere : {S : Type 0} (l : Logged K V S) (s : Scene K V) → remains ≡ m.remains → IsCounted m l s → IsCounted v l s
   counted_elsewhere l s alike c = record {
     numbered = numbered_elsewhere l c.numbered;
-    remains = stays_remain K V l.executor.roots m v s s c.remains refl alike refl refl refl refl;
+    remains = stays_remain K V l.executor.roots m v (noted_in l.notes) s s c.remains refl alike refl refl refl refl;
   }

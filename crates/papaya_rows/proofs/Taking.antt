@@ -26,7 +26,7 @@ use Rattle.papaya_histories.specs.Given.Callers.Together.{CameAbout}
 use Rattle.papaya_histories.proofs.Given.Callers.Together.Came.{came_next, came_reached}
 use Rattle.papaya_histories.specs.Given.Schedules.declared.effect.Effect.{Effect}
 use Rattle.papaya_histories.specs.Given.Schedules.Moment.{Moment}
-use Rattle.papaya_histories.specs.Given.Executor.IsAt.{Scene, HasRow, slot_of, work_of}
+use Rattle.papaya_histories.specs.Given.Executor.IsAt.{Scene, HasRow, IsAt, slot_of, work_of}
 use Rattle.papaya_histories.specs.Given.Executor.OnSlots.{RowBegins, RowSteps, row_on}
 use Rattle.papaya_histories.specs.Given.Executor.Rows.{of_registering, request_of}
 use Rattle.papaya_histories.specs.Given.Executor.declared.executor.Executor.{Executor}
@@ -61,7 +61,8 @@ module _ {K V S : Type 0} (same : K → K → Bool) (hash : K → ℕ) (i : ℕ)
       ((fault : Fault) × (said ≡ told.Refused fault) × WhyRefused e.memory.memory s.world.uses fault × (fault ≡ Memory → (bucket : ℕ) × (e.memory.changed ≡ changed.Roomed bucket false)))
       ⊎ ((slot : ℕ) × (said ≡ told.Registered slot) × (new_slot s.world.uses ≡ Some slot))
 
-  abbrev Next : Executor K V S → SlotRow → RowTold (Node K V) → Type 0
+  -- what a step of it leads to: it goes on, or it has ended
+  abbrev pub Next : Executor K V S → SlotRow → RowTold (Node K V) → Type 0
   Next e after said = ((c2 : Register) × (said ≡ told.Goes) × (after ≡ rows.Registers c2) × OnIt e c2) ⊎ Ends e said
 
   module _ (e e2 : Executor K V S) (c : Register) (here : OnIt e c) (after : SlotRow) (said : RowTold (Node K V)) (went : RowSteps K V (rows.Registers c) e.memory.memory e2.memory.memory e2.memory.changed (after, said)) where
@@ -130,7 +131,7 @@ module _ {K V S : Type 0} (same : K → K → Bool) (hash : K → ℕ) (i : ℕ)
         ))
     next_by (TakesFirst c2 slot is row2 first used2) = inr (inr (slot, told_by (c2, progress.Done slot) is, first))
 
-    next : Next e2 after said
+    pub next : Next e2 after said
     next = next_by comes
 
   -- as long as it goes on,
@@ -168,6 +169,25 @@ module _ {K V S : Type 0} (same : K → K → Bool) (hash : K → ℕ) (i : ℕ)
       by after work led (inl (c2, is, after_is, on2)) = absurd (let not_yet = ap (λ (x : RowTold (Node K V)). has_come x) is in cc (come, not_yet))
       by after work led (inr ends) = (led, ends, work ∙ over after ends)
 
+-- So it is where it begins.
+module _ {K V S : Type 0} (same : K → K → Bool) (hash : K → ℕ) (i : ℕ) (s : Scene K V) (enters : Bool) (apart : NoneOnVacant i s.world) where
+  pub first_on : (old new : Executor K V S) → IsAt same hash old s → RowBegins same hash (call.Register enters) i s old new
+      → OnIt same hash i s old.batch_size enters apart new (record { slot = 0; enters = enters; stands = at.Begin })
+  first_on old new at_s leads =
+      let to = (leads tt).3 in
+      record {
+        w = to.0;
+        came = came_next old.batch_size s.world to.0 (Begin i (request_of (slot_of i) (call.Register enters))) at_s.together.makings.standing.came to.1;
+        memory = to.4.memory;
+        row = subst (λ (o : Option (Work K V)). HasRow o (to.0.row i)) (leads tt).1 (to.4.rows i);
+        on = record {
+          uses_same = ap (λ (x : World (Node K V)). x.uses) to.1.1;
+          enters_same = refl;
+          looks = λ t from before_it vacant. omega (arith, before_it);
+        };
+        others = λ j other. begins_others deferred_word old.batch_size s.world to.0 i j other (request_of (slot_of i) (call.Register enters)) to.1.1;
+      }
+
 -- So has one that a scheduler has run.
 module _ {K V S : Type 0} (same : K → K → Bool) (hash : K → ℕ) (name : ℕ → List ℕ) (m : Moment K V) (s : Scene K V) (old new : Logged K V S) (shown : IsShown same hash name m old s)
     (enters : Bool) (said : RowTold (Node K V)) (before after : List Effect) (ran : RowRan 0 (call.Register enters) said before after old new) (apart : NoneOnVacant ran.caller s.world) where
@@ -181,20 +201,7 @@ module _ {K V S : Type 0} (same : K → K → Bool) (hash : K → ℕ) (name : �
   leads = (ran.begins same hash name m s shown tt).0
 
   on_first : OnIt same hash i s size enters apart ran.began.executor (record { slot = 0; enters = enters; stands = at.Begin })
-  on_first =
-      let to = (leads tt).3 in
-      record {
-        w = to.0;
-        came = came_next size s.world to.0 (Begin i (request_of (slot_of i) (call.Register enters))) shown.is_at.together.makings.standing.came to.1;
-        memory = to.4.memory;
-        row = subst (λ (o : Option (Work K V)). HasRow o (to.0.row i)) (leads tt).1 (to.4.rows i);
-        on = record {
-          uses_same = ap (λ (x : World (Node K V)). x.uses) to.1.1;
-          enters_same = refl;
-          looks = λ t from before_it vacant. omega (arith, before_it);
-        };
-        others = λ j other. begins_others deferred_word size s.world to.0 i j other (request_of (slot_of i) (call.Register enters)) to.1.1;
-      }
+  on_first = first_on same hash i s enters apart old.executor ran.began.executor shown.is_at leads
 
   on_way : OnTheWay same hash i s size enters apart ran.began.executor
   on_way = (begun_led same hash i s (call.Register enters) old.executor ran.began.executor tt leads, (record { slot = 0; enters = enters; stands = at.Begin }, (leads tt).1, on_first))

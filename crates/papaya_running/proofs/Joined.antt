@@ -20,7 +20,7 @@ use Rattle.papaya_scheduler.specs.declared.played.Played.{Played}
 use Rattle.papaya_scheduler.specs.declared.scheduler.Scheduler.{Scheduler}
 use Rattle.papaya_running.specs.Asked.{FindsBy, Happens, HappensAt, Holds, is_of_calls}
 use Rattle.papaya_running.specs.Keeping.{IsAskedOf, IsNotRefused}
-use Rattle.papaya_running.specs.OfAll.{BehindIsSaid, KeepsAll}
+use Rattle.papaya_running.specs.OfAll.{KeepsAll}
 use Rattle.papaya_running.specs.OfCalls.{KeepsAt, Runs, RunsOn}
 use Rattle.papaya_running.specs.OfRows.{HasNotBegun, KeepsRunAt, is_of_rows}
 use Rattle.papaya_running.specs.OfSetups.{KeepsSetup, is_of_setups}
@@ -63,8 +63,8 @@ module _ {K V S : Type 0} (same : K → K → Bool) (hash : K → ℕ) (is_first
   it = happens terms log first holds
 
   -- one that reclaims all,
-  of_all : KeepsAll same hash its played old new → gives_all its ≡ true → BehindIsSaid K V S same hash → RunsOn same hash terms log e new × ReclaimsAll log e
-  of_all keeps all behind = keeps all terms log holds runs it.played (record { right = (it.plays (all_right its all terms log e)).right; but = behind terms log old runs })
+  of_all : KeepsAll same hash its played old new → gives_all its ≡ true → RunsOn same hash terms log e new × ReclaimsAll log e
+  of_all keeps all = keeps all terms log holds runs it.played (it.plays (all_right its all terms log e)).right
 
   -- and any other
   of_others : KeepsAt same hash its played old new → KeepsRunAt same hash its played old new → KeepsSetup same hash its played old new → gives_all its ≡ false → IsAskedOf terms log e → RunsOn same hash terms log e new
@@ -76,23 +76,22 @@ module _ {K V S : Type 0} (same : K → K → Bool) (hash : K → ℕ) (is_first
       by : (p q : Bool) → is_of_calls its ≡ p → is_of_rows its ≡ q → RunsOn same hash terms log e new
       by true q is of_rows = calls is terms log runs (record { right = right; but = asked.calls is })
       by false true is of_rows =
-          let left = asked.rows of_rows in
-          rows of_rows terms log holds runs it.played (record { right = right; but = left.0 }) (not_begun its played.outcome played.effects.items old new left.1)
+          rows of_rows terms log holds runs it.played right (not_begun its played.outcome played.effects.items old new asked.made)
       by false false is of_rows = setups (is_setup its none is of_rows) terms log runs it.played right
 
-  goes_on : KeepsAt same hash its played old new → KeepsRunAt same hash its played old new → KeepsSetup same hash its played old new → KeepsAll same hash its played old new → BehindIsSaid K V S same hash
+  goes_on : KeepsAt same hash its played old new → KeepsRunAt same hash its played old new → KeepsSetup same hash its played old new → KeepsAll same hash its played old new
       → IsAskedOf terms log e → RunsOn same hash terms log e new × ReclaimsAll log e
-  goes_on calls rows setups all behind asked = by (gives_all its) refl
+  goes_on calls rows setups all asked = by (gives_all its) refl
     where
       by : (q : Bool) → gives_all its ≡ q → RunsOn same hash terms log e new × ReclaimsAll log e
-      by true is = of_all all is behind
+      by true is = of_all all is
       by false none = (of_others calls rows setups none asked, reclaims_none its played.outcome none _)
 
   -- so it is legal, and the run goes on
-  pub legal_on : KeepsAt same hash its played old new → KeepsRunAt same hash its played old new → KeepsSetup same hash its played old new → KeepsAll same hash its played old new → BehindIsSaid K V S same hash
+  pub legal_on : KeepsAt same hash its played old new → KeepsRunAt same hash its played old new → KeepsSetup same hash its played old new → KeepsAll same hash its played old new
       → IsAskedOf terms log e → IsLegal same terms log e × Runs same hash terms (e ∷ log) new
-  legal_on calls rows setups all behind asked =
-      let on = goes_on calls rows setups all behind asked in (
+  legal_on calls rows setups all asked =
+      let on = goes_on calls rows setups all asked in (
         bounded_events_are_legal K V same on.0.runs.stands.name terms log e (known new.logged.notes) on.0.runs.stands.scene (it.plays asked.right).right it.makes it.does on.0.legal on.0.runs.shows on.1
             asked.bounded,
         on.0.runs,

@@ -1,5 +1,6 @@
 mod Beginning
 mod Remaining
+mod Reached
 pub mod OfCalls
 mod Ended
 mod Forms
@@ -9,6 +10,7 @@ pub mod Mays
 mod LawfulKeys
 mod Left
 mod Logs
+mod AsRun
 mod Turns
 mod Counts
 mod Held

@@ -1,7 +1,6 @@
 -- Events that reclaim all keep their promises, and a run goes on with them.
-use Rattle.std.specs.Prelude.{◌≡◌, ◌⊎◌, ◌<◌, ◌^◌, nat_lt, ℕ, suc, Bool, true, false, List, [], ◌∷◌, None, Result, Ok, Err, IfOk, slice_index_or, if◌then◌else◌}
-use Rattle.std.proofs.Common.{refl, ap, sym, subst, inl, inr, ◌∙◌}
-use Rattle.seize_words.specs.declared.fault.Fault.TheVariants.{Busy}
+use Rattle.std.specs.Prelude.{◌≡◌, ◌⊎◌, ◌<◌, ◌^◌, nat_lt, ℕ, suc, Bool, true, false, List, [], ◌∷◌, None, Result, Ok, Err, IfOk, slice_index_or, if◌then◌else◌, ◌≤◌}
+use Rattle.std.proofs.Common.{refl, ap, sym, subst, inl, inr, ◌∙◌, arith}
 use Rattle.papaya_histories.specs.Given.Seize.ReclaimAll.{clearing, reclaiming_all}
 use Rattle.papaya_histories.specs.Given.Seize.World.{World}
 use Rattle.papaya_histories.specs.Given.Seize.declared.rows.reclaim_all.ReclaimAll.{ReclaimAll}
@@ -9,6 +8,8 @@ use Rattle.papaya_histories.specs.Given.Seize.declared.rows.settle.Settled.TheVa
 use Rattle.papaya_histories.specs.Given.Tables.declared.node.Node.{Node}
 use Rattle.papaya_histories.specs.Given.Executor.IsAt.{Scene, IsAt}
 use Rattle.papaya_histories.specs.Given.Finishes.Makings.{IsFreeRoot}
+use Rattle.seize_words.specs.declared.fault.Fault.TheVariants.{Busy}
+use Rattle.seize_words.specs.declared.fault.Fault.TheVariants.{Busy}
 use Rattle.papaya_schedules.specs.declared.event.Event.{Event}
 use Rattle.papaya_schedules.specs.declared.event.Event.TheVariants as events
 use Rattle.papaya_schedules.specs.declared.outcome.Outcome.{Outcome}
@@ -27,7 +28,7 @@ use Rattle.papaya_reclaims.proofs.Left.Stays.{nothing_is_left}
 use Rattle.papaya_reclaiming.specs.Reclaiming.{IsReclaiming, MayReclaim, NobodyHas}
 use Rattle.papaya_finds.specs.Little.{ReclaimsAll}
 use Rattle.papaya_legal.proofs.Come.{events_bring_things}
-use Rattle.papaya_legal.specs.AllEvents.{AllCome, AllSteps, BeginsAll, FindsPair, all_begun}
+use Rattle.papaya_legal.specs.AllEvents.{AllCome, AllSteps, BeginsAll, BehindAreLeft, BehindIsLeft, FindsPair, LeftIsBehind, all_begun}
 use Rattle.papaya_legal.specs.CallEvents.{IsLegalBut}
 use Rattle.papaya_legal.specs.Carried.{ShowsRun}
 use Rattle.papaya_legal.proofs.OfAll.Ends.{all_runs_to_its_end, none_called}
@@ -43,15 +44,20 @@ use Rattle.papaya_scheduler.specs.declared.played.Played.{Played}
 use Rattle.papaya_scheduler.specs.declared.scheduler.Scheduler.{Scheduler}
 use Rattle.papaya_mapping.proofs.AllGiven.{may_reclaim, nobody_has}
 use Rattle.papaya_scheduler.proofs.Rights.{entry, entry_is}
+use Rattle.papaya_running.proofs.OfCalls.Worth.{have_values_then, nobody_says}
 use Rattle.papaya_running.specs.Asked.{Holds, is_of_calls, is_of_maps}
 use Rattle.papaya_running.specs.OfAll.{IsLeftOfAll, KeepsAll}
-use Rattle.papaya_running.specs.OfCalls.{Runs, RunsOn}
+use Rattle.papaya_running.specs.OfCalls.{HaveValues, Runs, RunsOn}
+use Rattle.papaya_works.proofs.Reached.{all_note_more}
+use Rattle.papaya_running.proofs.OfAll.Behind.{behind_so}
 use Rattle.papaya_running.proofs.OfAll.Chain.{AllComes, all_back, all_come, all_comes, is_over, leads, over_there, step_so, then_now, then_scene}
 use Rattle.papaya_running.proofs.OfCalls.Scenes.{AreNamed, its_named, stands_in}
 use Rattle.papaya_running.proofs.OfRows.Lone.{alone_follows}
 use Rattle.papaya_running.proofs.OfRows.Quiet.{IsStill, still_keeps}
+use Rattle.papaya_running.proofs.Reached.{reached_after}
 use Rattle.papaya_running.proofs.Remaining.{counted_in, gives_all as gives_all_in}
 pub mod Chain
+pub mod Behind
 
 module _ {K V : Type 0} where
   -- such an event speaks of no call
@@ -62,8 +68,8 @@ module _ {K V : Type 0} where
 
   -- out of turn it changes nothing
   busy_still : (log : List (Entry K V)) (w : World (Node K V)) (event : Event K V) → gives_all event ≡ true → (steps : ℕ) → IsStill log w (entry event (Refused Busy) steps [])
-  busy_still log w events.ReclaimAll of_all steps = record { caller = refl; changes = refl; left = refl; enters = tt; whole = refl; leaves = tt; reclaims = tt }
-  busy_still log w events.Close of_all steps = record { caller = refl; changes = refl; left = refl; enters = tt; whole = refl; leaves = tt; reclaims = tt }
+  busy_still log w events.ReclaimAll of_all steps = record { caller = refl; no_call = refl; changes = refl; left = refl; enters = tt; whole = refl; leaves = tt; reclaims = tt }
+  busy_still log w events.Close of_all steps = record { caller = refl; no_call = refl; changes = refl; left = refl; enters = tt; whole = refl; leaves = tt; reclaims = tt }
   busy_still log w _ of_all steps = absurd (cc of_all)
 
   -- kept out it is refused as busy
@@ -85,7 +91,7 @@ module _ {K V : Type 0} where
 
 module _ {K V S : Type 0} (same : K → K → Bool) (hash : K → ℕ) (terms : Terms) (log : List (Entry K V)) (event : Event K V) (of_all : gives_all event ≡ true)
     (played : Played V) (old new : Scheduler K V S) (holds : Holds same hash terms (moment log) old) (run : Runs same hash terms log old) (after : IsPlayed same hash terms (entry_of event played ∷ log) new)
-    (left : IsLeftOfAll same hash terms log old (entry_of event played) run) where
+    (right_so : ComesRight terms log (entry_of event played)) where
   abbrev m : Moment K V
   m = moment log
 
@@ -108,6 +114,10 @@ module _ {K V S : Type 0} (same : K → K → Bool) (hash : K → ℕ) (terms : 
 
   roots_are : old.logged.executor.roots ≡ terms.roots
   roots_are = holds.counts.roots ∙ ap (λ (t : Terms). t.roots) run.stands.given
+
+  -- which is what the moment says is left over
+  its_left : LeftIsBehind terms.roots m (known old.logged.notes) behind × BehindIsLeft terms.roots m (known old.logged.notes) behind × BehindAreLeft terms.roots m (known old.logged.notes) behind
+  its_left = behind_so same hash terms log old run holds.counts.apart.numbers.found roots_are
 
   small : terms.batch_size < 2 ^ 64
   small = subst (λ (n : ℕ). n < 2 ^ 64) run.size run.stands.shown.is_at.small
@@ -143,7 +153,7 @@ module _ {K V S : Type 0} (same : K → K → Bool) (hash : K → ℕ) (terms : 
     end = (far played.effects.items new.logged, ran.4)
 
     y : AllComes same hash terms 0 s ran.3.0 (all_come (far [] old.logged, first) m s behind) mid
-    y = all_comes same hash terms 0 s ran.3.0 (far [] old.logged, first) mid m s behind under roots_are run.size (λ k. refl) ran.3.1
+    y = all_comes same hash terms 0 s ran.3.0 (far [] old.logged, first) mid m s behind under roots_are run.size refl (λ k. refl) ran.3.1
 
     abbrev to : AllCome K V S
     to = all_come mid y.now y.scene y.lists
@@ -173,12 +183,12 @@ module _ {K V S : Type 0} (same : K → K → Bool) (hash : K → ℕ) (terms : 
     pairs : ComesRight terms log e → AtEachEffect FindsPair None None played.effects.items m
     pairs right =
         all_find_pairs K V S same hash name terms log (known old.logged.notes) s old.logged.executor run.shows (none_called terms log played.steps played.effects.items event of_all right) 0 first
-        behind left.but.behind left.but.left_there (suc ran.3.0) over (to, y.chain, last)
+        behind its_left.0 its_left.2 (suc ran.3.0) over (to, y.chain, last)
 
     it : ComesRight terms log e → IsLegalBut same terms log e × ReclaimsAll log e × ShowsRun same name terms (e ∷ log) (known new.logged.notes) last_scene
     it right =
         all_runs_to_its_end K V S same hash name terms log (known old.logged.notes) s old.logged.executor small run.shows event of_all
-        (alone_follows same hash terms log old run event (speaks_of_none event of_all)) 0 first behind left.but.behind left.but.order begins ran.3.0 to over y.chain last done played.steps played.effects.items refl
+        (alone_follows same hash terms log old run event (speaks_of_none event of_all)) 0 first behind its_left.0 its_left.1 begins ran.3.0 to over y.chain last done played.steps played.effects.items refl
         (pairs right) right
 
     there : IsAt same hash new.logged.executor last_scene
@@ -203,6 +213,15 @@ module _ {K V S : Type 0} (same : K → K → Bool) (hash : K → ℕ) (terms : 
         by r (inl root) = inl (inl root)
         by r (inr free) = inr free
 
+    values : HaveValues (moment (e ∷ log)) last_scene new.calls.items.items
+    values =
+        subst (λ (c : Callers V). HaveValues (moment (e ∷ log)) last_scene c.items.items) (sym calls)
+        (have_values_then m (moment (e ∷ log)) (nobody_says e m (busy_still log s.world event of_all 0).no_call) s last_scene y.calls old.calls.items.items run.values)
+
+    -- no bucket of slots is forgotten
+    grows : (known old.logged.notes).buckets ≤ (known new.logged.notes).buckets
+    grows = all_note_more same hash terms (known old.logged.notes) 0 (suc ran.3.0) (all_come (far [] old.logged, first) m s behind) over (to, y.chain, last) (omega arith)
+
     all_keeps : KeepsAs e
     all_keeps so right =
         let its = it right in
@@ -218,8 +237,10 @@ module _ {K V S : Type 0} (same : K → K → Bool) (hash : K → ℕ) (terms : 
               stands = stands_in same hash terms (moment (e ∷ log)) new so name last_scene shown named;
               shows = its.2;
               come = events_bring_things K V terms log e run.come its.0.life.finds;
+              values = values;
               size = ran.5.0.given.1 ∙ y.size;
               shards = λ n setting is. run.shards n setting (sym (stood n) ∙ is);
+              reached = reached_after same hash terms log e old new right so grows run.reached;
             };
           },
           its.1,
@@ -230,9 +251,9 @@ module _ {K V S : Type 0} (same : K → K → Bool) (hash : K → ℕ) (terms : 
       subst KeepsAs (sym (entry_is event played (Refused Busy) played.steps [] busy refl none))
       (λ so right.
       (let kept = busy_still log s.world event of_all played.steps in
-      (still_keeps same hash terms log old run (entry event (Refused Busy) played.steps []) new refl kept still calls so right, kept.reclaims))) after left.right
+      (still_keeps same hash terms log old run (entry event (Refused Busy) played.steps []) new refl kept still calls so right, kept.reclaims))) after right_so
   works_keep (calls, inr (done, gone, ran)) =
-      subst KeepsAs (sym (entry_is event played Done played.steps played.effects.items done refl refl)) (all_keeps calls gone ran) after left.right
+      subst KeepsAs (sym (entry_is event played Done played.steps played.effects.items done refl refl)) (all_keeps calls gone ran) after right_so
 
 module _ {K V S : Type 0} (same : K → K → Bool) (hash : K → ℕ) (event : Event K V) (old new : Scheduler K V S) where
   -- so it is of one that is kept out,

@@ -1,5 +1,5 @@
 -- An event that ends a map keeps its promises, and a run goes on with it.
-use Rattle.std.specs.Prelude.{◌≡◌, ◌≢◌, ◌⊎◌, ◌<◌, ◌+◌, ◌-◌, ◌^◌, ◌++◌, ℕ, zero, suc, Bool, true, false, List, [], ◌∷◌, map as each, Option, Some, None, option_map, Result, Ok, Err, IfOk}
+use Rattle.std.specs.Prelude.{◌≡◌, ◌≤◌, ◌≢◌, ◌⊎◌, ◌<◌, ◌+◌, ◌-◌, ◌^◌, ◌++◌, ℕ, zero, suc, Bool, true, false, List, [], ◌∷◌, map as each, Option, Some, None, option_map, Result, Ok, Err, IfOk}
 use Rattle.std.specs.List.{list_all}
 use Rattle.std.proofs.Common.{refl, sym, ap, subst, inl, inr, ◌∙◌, arith}
 use Rattle.std.proofs.lemmas.Bool.{cases_eq}
@@ -10,6 +10,31 @@ use Rattle.papaya_histories.specs.Given.Runs.Same.{is_same}
 use Rattle.papaya_histories.specs.Given.Tables.Chunks.{is_incremental}
 use Rattle.papaya_histories.specs.Given.Tables.declared.node.Node.{Node}
 use Rattle.papaya_histories.proofs.Given.Callers.Together.At.{at_other, at_same}
+use Rattle.papaya_histories.specs.Given.Executor.Ending.{EndingLeads, NoCallOn, ending_begun}
+use Rattle.papaya_histories.specs.Given.Executor.IsAt.{Scene, IsAt}
+use Rattle.papaya_histories.specs.Given.Executor.declared.executor.Executor.{Executor}
+use Rattle.papaya_histories.specs.Given.Finishes.Endings.{Finishing, finishing_of}
+use Rattle.papaya_histories.specs.Given.Finishes.FactsEnds.{taken_by as taken_of}
+use Rattle.papaya_histories.specs.Given.Finishes.Maps.{Standing}
+use Rattle.papaya_histories.specs.Given.Finishes.Orders.{pairs_of}
+use Rattle.papaya_histories.specs.Given.Rule.Chart.{Chart}
+use Rattle.papaya_histories.specs.Given.Moments.Endings.{IsOfIts}
+use Rattle.papaya_histories.specs.Given.Moments.WholeEnds.{all_ended, tables_ended}
+use Rattle.papaya_histories.specs.Given.Others.Endings.{ending_after}
+use Rattle.papaya_histories.specs.Given.Executor.Ending.{EndingLeads, NoCallOn, ending_begun}
+use Rattle.papaya_histories.specs.Given.Executor.IsAt.{Scene, IsAt}
+use Rattle.papaya_histories.specs.Given.Executor.declared.executor.Executor.{Executor}
+use Rattle.papaya_histories.specs.Given.Finishes.Endings.{Finishing, finishing_of}
+use Rattle.papaya_histories.specs.Given.Finishes.FactsEnds.{taken_by as taken_of}
+use Rattle.papaya_histories.specs.Given.Finishes.Maps.{Standing}
+use Rattle.papaya_histories.specs.Given.Finishes.Orders.{pairs_of}
+use Rattle.papaya_histories.specs.Given.Rule.Chart.{Chart}
+use Rattle.papaya_histories.specs.Given.Rule.InWorld.{IsMapIn}
+use Rattle.papaya_histories.proofs.Given.Rule.Laws.{current_is_known}
+use Rattle.papaya_histories.specs.Given.Follows.Maps.{ShowsMap}
+use Rattle.papaya_histories.specs.Given.Moments.Endings.{IsOfIts}
+use Rattle.papaya_histories.specs.Given.Moments.WholeEnds.{all_ended, tables_ended}
+use Rattle.papaya_histories.specs.Given.Others.Endings.{ending_after}
 use Rattle.papaya_schedules.specs.declared.effect.Effect.{Effect}
 use Rattle.papaya_schedules.specs.declared.effect.Effect.TheVariants.{Ended}
 use Rattle.papaya_schedules.specs.declared.event.Event.{Event}
@@ -27,17 +52,7 @@ use Rattle.papaya_schedules.specs.Views.{map_at, map_of, number_of}
 use Rattle.papaya_effects.specs.Effects.{effects_of, known_after}
 use Rattle.papaya_effects.specs.Known.{Known, known}
 use Rattle.papaya_effects.specs.declared.acting.Acting.TheVariants as acts
-use Rattle.papaya_histories.specs.Given.Executor.Ending.{EndingLeads, NoCallOn, ending_begun}
-use Rattle.papaya_histories.specs.Given.Executor.IsAt.{Scene, IsAt}
-use Rattle.papaya_histories.specs.Given.Executor.declared.executor.Executor.{Executor}
-use Rattle.papaya_histories.specs.Given.Finishes.Endings.{Finishing, finishing_of}
-use Rattle.papaya_histories.specs.Given.Finishes.FactsEnds.{taken_by as taken_of}
-use Rattle.papaya_histories.specs.Given.Finishes.Maps.{Standing}
-use Rattle.papaya_histories.specs.Given.Finishes.Orders.{pairs_of}
-use Rattle.papaya_histories.specs.Given.Rule.Chart.{Chart}
-use Rattle.papaya_histories.specs.Given.Moments.Endings.{IsOfIts}
-use Rattle.papaya_histories.specs.Given.Moments.WholeEnds.{all_ended, tables_ended}
-use Rattle.papaya_histories.specs.Given.Others.Endings.{ending_after}
+use Rattle.papaya_effects.specs.declared.role.Role.TheVariants as role
 use Rattle.papaya_executor.proofs.Fresh.{no_ending_yet}
 use Rattle.papaya_legal.proofs.Come.{events_bring_things}
 use Rattle.papaya_legal.specs.CallEvents.{IsLegalBut}
@@ -46,13 +61,13 @@ use Rattle.papaya_legal.specs.Chains.{Chain, Come, EndSteps}
 use Rattle.papaya_legal.specs.MapEvents.{InEndEvent}
 use Rattle.papaya_legal.proofs.Chains.{ends_chain, ends_run_to_their_ends}
 use Rattle.papaya_legal.proofs.MapsOver.{end_events_begin_so}
-use Rattle.papaya_remains.specs.Remains.{has_some}
 use Rattle.papaya_remains.proofs.Numbered.{made_stays}
-use Rattle.papaya_logged.specs.Ends.{EndCame, EndIsBegun, NotedStill, NotesMap, ended_as, is_done, left_so}
+use Rattle.papaya_logged.specs.Ends.{EndCame, EndIsBegun, NotedStill, NotesMap, ended_as, is_done}
 use Rattle.papaya_logged.specs.Goes.{EndGoes, EndOn, Far, GoesFor, far}
 use Rattle.papaya_logged.specs.Shown.{IsCounted, IsShown}
-use Rattle.papaya_logged.specs.Waits.{TellsWaiting}
+use Rattle.papaya_logged.specs.Waits.{TellsLeft, TellsWaiting}
 use Rattle.papaya_logged.proofs.Counted.{counted_end_steps}
+use Rattle.papaya_logged.proofs.LeftNoted.{endings_note_left}
 use Rattle.papaya_logged.proofs.EndSteps.{did_end, end_there, ends_alone, noted_on}
 use Rattle.papaya_rows.proofs.Lists.{found_has}
 use Rattle.papaya_scheduler.specs.Mapping.{AreApart}
@@ -65,13 +80,17 @@ use Rattle.papaya_mapping.proofs.MapsEnded.{here as ending_here, no_call, no_oth
 use Rattle.papaya_mapping.proofs.MapLists.{by_recursion}
 use Rattle.papaya_scheduler.proofs.Maps.{number_is}
 use Rattle.papaya_scheduler.proofs.Rights.{entry, entry_is}
+use Rattle.papaya_running.proofs.OfCalls.Worth.{have_values_then, nobody_says}
 use Rattle.papaya_running.specs.Asked.{Holds}
-use Rattle.papaya_running.specs.OfCalls.{HaveShards, Runs, RunsOn}
+use Rattle.papaya_running.specs.OfCalls.{HaveShards, HaveValues, Runs, RunsOn}
 use Rattle.papaya_running.specs.OfRows.{IsLeftOfRows, KeepsRun}
+use Rattle.papaya_works.proofs.Ends.{ends_find_all}
+use Rattle.papaya_works.proofs.Reached.{ends_note_more}
 use Rattle.papaya_running.proofs.OfCalls.Scenes.{AreNamed, its_named, stands_in}
 use Rattle.papaya_running.proofs.OfRows.Chain.{come_as, come_by}
 use Rattle.papaya_running.proofs.OfRows.Lone.{alone_follows}
 use Rattle.papaya_running.proofs.OfRows.Quiet.{refused_still, still_keeps}
+use Rattle.papaya_running.proofs.Reached.{reached_after}
 use Rattle.papaya_running.proofs.Remaining.{counted_in}
 
 -- What an end does it may do: pairs end with their map, and then its tables.
@@ -100,6 +119,12 @@ module _ {K V S : Type 0} (same : K → K → Bool) (hash : K → ℕ) (s : Scen
   maps_stand settled.Waits leads = absurd (leads f here).3
   maps_stand (settled.Gave value) leads = refl
   maps_stand settled.Done leads = refl
+
+  calls_stand : (said : Settled (Node K V)) (leads : Leads said) → (next_scene said leads).calls ≡ s.calls
+  calls_stand settled.Goes leads = refl
+  calls_stand settled.Waits leads = absurd (leads f here).3
+  calls_stand (settled.Gave value) leads = refl
+  calls_stand settled.Done leads = refl
 
   -- once it is over it is under way no more,
   ends_over : (said : Settled (Node K V)) (leads : Leads said) → is_done said ≡ true → (next_scene said leads).enders i ≡ None
@@ -132,6 +157,7 @@ module _ {K V S : Type 0} (same : K → K → Bool) (hash : K → ℕ) (terms : 
     pub midst : InEndEvent same name terms log (EndMap own) map (moment log) before i f.effects now (known f.logged.notes) scene
     pub made : now.made ≡ (moment log).made
     pub maps : scene.maps ≡ stood
+    pub calls : scene.calls ≡ x.scene.calls
     pub counted : IsCounted now f.logged scene
 
   -- and it is under way, of this map
@@ -191,8 +217,10 @@ module _ {K V S : Type 0} (same : K → K → Bool) (hash : K → ℕ) (terms : 
       midst = ends_chain K V S same hash name terms log (EndMap own) i map (moment log) before 1 (come_by mid y.now y.scene) (come_by to w next) (come_by mid y.now y.scene, refl, one) y.midst;
       made = made_stays None (Some map) step_did y.now ∙ y.made;
       maps = maps_stand same hash y.scene mid.logged.executor to.logged.executor i it.0 it.1 step.said leads ∙ y.maps;
+      calls = calls_stand same hash y.scene mid.logged.executor to.logged.executor i it.0 it.1 step.said leads ∙ y.calls;
       counted = counted_end_steps same hash mid.logged to.logged.executor to.logged.notes step.is_noted.given y.now y.scene y.is_at y.counted i map step.said leads it.0 it.1 step.is_noted.noted first
-          (taken_of (leads it.0 it.1).2.deed) did_its;
+          (taken_of (leads it.0 it.1).2.deed) did_its
+          (endings_note_left same hash name y.now (known mid.logged.notes) y.scene mid.logged.executor to.logged.executor y.is_at y.midst.0.calls.whole i map step.said leads it.0 it.1 no_map);
     }
 
     end_under : is_done step.said ≡ false → IsUnder to next
@@ -217,7 +245,7 @@ module _ {K V S : Type 0} (same : K → K → Bool) (hash : K → ℕ) (terms : 
 
 module _ {K V S : Type 0} (same : K → K → Bool) (hash : K → ℕ) (terms : Terms) (log : List (Entry K V)) (own : List ℕ) (played : Played V) (old new : Scheduler K V S) (holds : Holds same hash terms (moment log) old)
     (run : Runs same hash terms log old) (turn : is_kept_out terms (EndMap own) (moment log) ≡ false) (after : IsPlayed same hash terms (entry_of (EndMap own) played ∷ log) new)
-    (left : IsLeftOfRows terms log (entry_of (EndMap own) played)) where
+    (right_so : ComesRight terms log (entry_of (EndMap own) played)) where
   abbrev m : Moment K V
   m = moment log
 
@@ -310,7 +338,7 @@ module _ {K V S : Type 0} (same : K → K → Bool) (hash : K → ℕ) (terms : 
 
     first : Midway same hash terms name log own i map (known old.logged.notes) number first_noted s1.maps gone below 0 x (far [] d.began)
     first = (
-      record { now = m; scene = s1; chain = refl; is_at = at1; size = d.stays.1 ∙ run.size; midst = midst; made = refl; maps = refl; counted = (begun none_on).4.counted },
+      record { now = m; scene = s1; chain = refl; is_at = at1; size = d.stays.1 ∙ run.size; midst = midst; made = refl; maps = refl; calls = refl; counted = (begun none_on).4.counted },
       (finishing_of standing s.world, at_same s.enders i (Some (finishing_of standing s.world)) i refl, (begun none_on).3.1, λ b none. refl),
     )
 
@@ -332,15 +360,14 @@ module _ {K V S : Type 0} (same : K → K → Bool) (hash : K → ℕ) (terms : 
 
     -- what all of it did, as the scheduler has it
     -- what waited is told as it ended
-    abbrev TellsLeft : (t : Scene K V) (gone_blocks : List ℕ) → EndCame s1 t i (finishing_of standing s.world) gone_blocks true → Type 0
-    TellsLeft t gone_blocks came =
-        (began : Moment K V) → TellsWaiting map standing.chart began m first_noted s1.world (has_some (finishing_of standing s.world).waits)
-        → TellsWaiting map standing.chart began (with_effects None (Some map) d.ran.0 m) (known new.logged.notes) t.world (has_some (left_so s1 t i (finishing_of standing s.world) gone_blocks true came.ender))
+    abbrev LeftTells : (t : Scene K V) (gone_blocks : List ℕ) → EndCame s1 t i (finishing_of standing s.world) gone_blocks true → Type 0
+    LeftTells t gone_blocks came =
+        (began : Moment K V) → TellsWaiting same map i (finishing_of standing s.world) began m first_noted s1.world → TellsLeft map standing.chart began (known new.logged.notes) came.ender.2.0
 
     abbrev u : (t : Scene K V) × (gone_blocks : List ℕ) × (came : EndCame s1 t i (finishing_of standing s.world) gone_blocks true) × (d.ran.0 ≡ ended_as map first_noted gone_blocks)
         × NotedStill first_noted (known new.logged.notes) ([] ++ gone_blocks) × IsShown same hash name (with_effects None (Some map) d.ran.0 m) new.logged t
         × (true ≡ true → ◌≡◌ {A = List ℕ} [] [] → d.ran.0 ≡ all_ended (is_incremental standing.setting.mode) map number standing.chart)
-        × TellsLeft t gone_blocks came
+        × LeftTells t gone_blocks came
     u =
         d.ran.3 same hash name m s1 (shown_mid same hash terms log old own due map d.found d.free d.began i begun) (finishing_of standing s.world)
         (ending_here same hash terms log old own due map d.found d.free d.began i begun) gone number first_noted (begun none_on).3.1 (λ b none. refl)
@@ -367,9 +394,27 @@ module _ {K V S : Type 0} (same : K → K → Bool) (hash : K → ℕ) (terms : 
         subst (λ (fs : List Effect). list_all (may_do (EndMap own) m) fs ≡ true) (sym (did_all ∙ u.6 refl refl))
         (all_may own m (is_incremental standing.setting.mode) map number standing.chart)
 
+    -- each pair that ends is in the map, and each table is linked
+    in_map : IsMapIn same standing.hash standing.setting s.world standing.chart standing.blocks
+    in_map = (run.stands.shown.is_at.together.makings.standing.each map standing (begun none_on).1).ground.map
+
+    current_known : (n : ℕ) → standing.chart.current n ≡ true → (n < standing.chart.stored) × (standing.blocks.pair_known n ≡ true)
+    current_known n current = current_is_known same standing.hash standing.setting s.world.memory standing.chart standing.blocks in_map.map.rule in_map.map.shows n current
+
+    abbrev stood : ShowsMap map (run.shows.calls.whole.all.shown.number map) standing m (known old.logged.notes)
+    stood = run.shows.calls.whole.all.shown.maps map standing (begun none_on).1
+
+    same_number : (n : ℕ) → standing.chart.current n ≡ true → number n ≡ run.shows.calls.whole.all.shown.number map n
+    same_number n current =
+        let k = current_known n current in
+        let noted = subst (λ (x : Known). x.roles (standing.blocks.pair n) ≡ role.Pair (number n)) begins_so ((begun none_on).3.1.pairs n current) in
+        let both : role.Pair (number n) ≡ role.Pair (run.shows.calls.whole.all.shown.number map n) = sym noted ∙ stood.pairs.roles n k.0 k.1 in
+        cc both
+
     finds : AtEachEffect (Finds terms None (Some map) false []) None (Some map) effects m
     finds =
-        subst (λ (o : Option ℕ). AtEachEffect (Finds terms None o false []) None o effects m) acts_so left.but.finds
+        subst (λ (fs : List Effect). AtEachEffect (Finds terms None (Some map) false []) None (Some map) fs m) (sym (did_all ∙ u.6 refl refl))
+        (ends_find_all K V m (known old.logged.notes) map (run.shows.calls.whole.all.shown.number map) number standing stood (begun none_on).2 (λ n current. (current_known n current).0) same_number)
 
     it : ComesRight terms log e → IsLegalBut same terms log e × ShowsRun same name terms (e ∷ log) (known new.logged.notes) y.scene
     it right =
@@ -390,6 +435,17 @@ module _ {K V S : Type 0} (same : K → K → Bool) (hash : K → ℕ) (terms : 
         by (inl one) = absurd (let none = ap (option_map (λ (st : Standing K). st.setting)) (at_same s.maps map None n one) in cc (none, now_is))
         by (inr ne) = run.shards n setting (sym (run.stands.shown.is_at.maps n) ∙ sym (ap (option_map (λ (st : Standing K). st.setting)) (at_other s.maps map None n ne)) ∙ now_is)
 
+    values : HaveValues (moment (e ∷ log)) y.scene new.calls.items.items
+    values =
+        subst (λ (c : Callers V). HaveValues (moment (e ∷ log)) y.scene c.items.items) (sym calls)
+        (have_values_then m (moment (e ∷ log)) (nobody_says e m refl) s y.scene y.calls old.calls.items.items run.values)
+
+    -- no bucket of slots is forgotten
+    grows : (known old.logged.notes).buckets ≤ (known new.logged.notes).buckets
+    grows =
+        ends_note_more same hash terms (known old.logged.notes) i map (suc d.gone.1.0) (record { executor = d.began.executor; did = []; now = m; notes = known old.logged.notes; scene = s1 })
+        (come_by (far effects new.logged) y.now y.scene) chain (omega arith)
+
     keeps_done : KeepsAs e
     keeps_done so right = record {
       legal = (it right).0;
@@ -403,25 +459,27 @@ module _ {K V S : Type 0} (same : K → K → Bool) (hash : K → ℕ) (terms : 
             }) named;
         shows = (it right).1;
         come = events_bring_things K V terms log e run.come (it right).0.life.finds;
+        values = values;
         size = y.size;
         shards = shards;
+        reached = reached_after same hash terms log e old new right so grows run.reached;
       };
     }
 
     end_keeps : RunsOn same hash terms log (entry_of (EndMap own) played) new
-    end_keeps = subst KeepsAs (sym (entry_is (EndMap own) played Done played.steps effects done refl refl)) keeps_done after left.right
+    end_keeps = subst KeepsAs (sym (entry_is (EndMap own) played Done played.steps effects done refl refl)) keeps_done after right_so
 
   -- or nothing was done
   map_end_keeps : WorksOnEnd played old new own → RunsOn same hash terms log (entry_of (EndMap own) played) new
   map_end_keeps (calls, inl (fault, is, (none, still))) =
       subst KeepsAs (sym (entry_is (EndMap own) played (Refused fault) played.steps [] is refl none))
       (λ so right. still_keeps same hash terms log old run (entry (EndMap own) (Refused fault) played.steps []) new refl (refused_still log s.world (EndMap own) refl fault played.steps) still calls so right)
-      after left.right
+      after right_so
   map_end_keeps (calls, inr (done, d)) = end_keeps calls done d
 
 -- So it is by what its function says.
 module _ {K V S : Type 0} (same : K → K → Bool) (hash : K → ℕ) (event : Event K V) (own : List ℕ) (is : event ≡ EndMap own) (old new : Scheduler K V S) where
   pub ends_keep : {X : Type 0} → (result : Result (Played V) X) → IfOk result (λ played. WorksOnEnd played old new own) → IfOk result (λ played. KeepsRun same hash event played old new)
   ends_keep (Ok played) works =
-      subst (λ (x : Event K V). KeepsRun same hash x played old new) (sym is) (λ of terms log holds run turn after left begun. map_end_keeps same hash terms log own played old new holds run turn after left works)
+      subst (λ (x : Event K V). KeepsRun same hash x played old new) (sym is) (λ of terms log holds run turn after right begun. map_end_keeps same hash terms log own played old new holds run turn after right works)
   ends_keep (Err x) works = tt

@@ -1,12 +1,13 @@
 -- An event that makes a map keeps its promises, and a run goes on with it.
-use Rattle.std.specs.Prelude.{◌≡◌, ◌≢◌, ◌⊎◌, ◌==◌, ◌&&◌, ◌<◌, ◌+◌, ◌-◌, ◌^◌, ◌++◌, if◌then◌else◌, nat_le, ℕ, zero, suc, Bool, true, false, List, [], ◌∷◌, find, is_none, length, not, nat_lt, cond, Option, Some, None, option_map, slice_index_or, Result, Ok, Err, IfOk}
+use Rattle.std.specs.Prelude.{◌≡◌, ◌≤◌, ◌≢◌, ◌⊎◌, ◌==◌, ◌&&◌, ◌<◌, ◌+◌, ◌-◌, ◌^◌, ◌++◌, if◌then◌else◌, nat_le, ℕ, zero, suc, Bool, true, false, List, [], ◌∷◌, find, is_none, length, max, not, nat_lt, cond, Option, Some, None, option_map, slice_index_or, Result, Ok, Err, IfOk}
 use Rattle.std.specs.Int.{IsPowerOfTwo}
+use Rattle.std.specs.List.{AllByRecursion, list_all}
 use Rattle.std.proofs.Common.{refl, sym, ap, subst, inl, inr, ◌∙◌, arith}
-use Rattle.std.proofs.lemmas.Bool.{cases_eq, ne_eqb}
+use Rattle.std.proofs.lemmas.Bool.{cases_eq, eq-eqb, ne_eqb}
+use Rattle.std.proofs.lemmas.List.Folds.{list_all-append}
 use Rattle.std.proofs.lemmas.Nat.{pow_pos}
 use Rattle.papaya_histories.specs.Given.Seize.declared.progress.Progress.{Progress}
 use Rattle.papaya_histories.specs.Given.Seize.declared.progress.Progress.TheVariants as progress
-use Rattle.seize_words.specs.declared.fault.Fault.{Fault}
 use Rattle.papaya_histories.specs.Given.Seize.World.{with_at}
 use Rattle.papaya_histories.specs.Given.Runs.Same.{is_same}
 use Rattle.papaya_histories.specs.Given.Resize.declared.new_map.NewMap.{NewMap}
@@ -14,28 +15,8 @@ use Rattle.papaya_histories.specs.Given.Tables.declared.resize_mode.ResizeMode.{
 use Rattle.papaya_histories.specs.Given.Tables.Lengths.{places_for}
 use Rattle.papaya_histories.specs.Given.Tables.Powers.{floor_log2, next_power}
 use Rattle.papaya_histories.specs.Given.Tables.declared.setting.Setting.{Setting}
+use Rattle.papaya_histories.proofs.Given.Moments.Numbers.{numbers_are_below}
 use Rattle.papaya_histories.proofs.Given.Callers.Together.At.{at_other, at_same}
-use Rattle.papaya_runs.proofs.Sames.{same_refl}
-use Rattle.papaya_schedules.specs.declared.effect.Effect.{Effect}
-use Rattle.papaya_schedules.specs.declared.event.Event.{Event}
-use Rattle.papaya_schedules.specs.declared.event.Event.TheVariants.{MakeMap}
-use Rattle.papaya_schedules.specs.declared.outcome.Outcome.{Outcome}
-use Rattle.papaya_schedules.specs.declared.outcome.Outcome.TheVariants.{Done, Refused}
-use Rattle.papaya_schedules.specs.After.{moment}
-use Rattle.papaya_schedules.specs.Beginning.{used_roots, with_map}
-use Rattle.papaya_schedules.specs.Effects.{AtEachEffect, with_effects, worked}
-use Rattle.papaya_schedules.specs.Entry.{Entry}
-use Rattle.papaya_schedules.specs.Handing.{IsWhole, tables_named}
-use Rattle.papaya_schedules.specs.InTurn.{is_kept_out}
-use Rattle.papaya_schedules.specs.Lists.{least_free}
-use Rattle.papaya_schedules.specs.Lives.{Finds}
-use Rattle.papaya_schedules.specs.Moment.{MapThere, Moment}
-use Rattle.papaya_schedules.specs.Terms.{Terms, shards_of}
-use Rattle.papaya_schedules.specs.Views.{map_of, number_of, tables_of}
-use Rattle.papaya_effects.specs.Effects.{effects_of, known_after}
-use Rattle.papaya_effects.specs.Known.{Known, known}
-use Rattle.papaya_effects.specs.declared.acting.Acting.TheVariants as acts
-use Rattle.papaya_effects.specs.declared.notes.Notes.{Notes}
 use Rattle.papaya_histories.specs.Given.Executor.IsAt.{Scene, IsAt, slot_of}
 use Rattle.papaya_histories.specs.Given.Executor.Making.{MakingLeads}
 use Rattle.papaya_histories.specs.Given.Executor.declared.executor.Executor.{Executor}
@@ -43,17 +24,56 @@ use Rattle.papaya_histories.specs.Given.Finishes.Makings.{Beginning, IsMade}
 use Rattle.papaya_histories.specs.Given.Finishes.Maps.{Standing}
 use Rattle.papaya_histories.specs.Given.Follows.Shows.{Shows}
 use Rattle.papaya_histories.specs.Given.Others.Makings.{IsNew, WasNew, making_after}
+use Rattle.papaya_histories.specs.Given.Executor.IsAt.{Scene, IsAt, slot_of}
+use Rattle.papaya_histories.specs.Given.Executor.Making.{MakingLeads}
+use Rattle.papaya_histories.specs.Given.Executor.declared.executor.Executor.{Executor}
+use Rattle.papaya_histories.specs.Given.Finishes.Makings.{Beginning, IsMade}
+use Rattle.papaya_histories.specs.Given.Finishes.Maps.{Standing}
+use Rattle.papaya_histories.specs.Given.Follows.Shows.{Shows}
+use Rattle.papaya_histories.proofs.Given.Spots.Unreclaimed.{and_both}
+use Rattle.papaya_histories.specs.Given.Others.Makings.{IsNew, WasNew, making_after}
+use Rattle.seize_words.specs.declared.fault.Fault.{Fault}
+use Rattle.papaya_runs.proofs.Sames.{same_refl}
+use Rattle.papaya_runs.specs.Runs.{map_fault}
+use Rattle.papaya_schedules.specs.declared.effect.Effect.{Effect}
+use Rattle.papaya_schedules.specs.declared.effect.Effect.TheVariants.{Asked, Linked, TableMade}
+use Rattle.papaya_schedules.specs.declared.effect.Growth.TheVariants.{ABlock}
+use Rattle.papaya_schedules.specs.declared.event.Event.{Event}
+use Rattle.papaya_schedules.specs.declared.event.Event.TheVariants.{MakeMap}
+use Rattle.papaya_schedules.specs.declared.outcome.Outcome.{Outcome}
+use Rattle.papaya_schedules.specs.declared.outcome.Outcome.TheVariants.{Done, Refused}
+use Rattle.papaya_schedules.specs.After.{moment}
+use Rattle.papaya_schedules.specs.Beginning.{used_roots, with_map}
+use Rattle.papaya_schedules.specs.Effects.{AtEachEffect, maps_by, with_effect, with_effects, worked}
+use Rattle.papaya_schedules.specs.Entry.{Entry}
+use Rattle.papaya_schedules.specs.Handing.{IsWhole, is_first_making, may_do, tables_named}
+use Rattle.papaya_schedules.specs.InTurn.{ComesRight, is_kept_out}
+use Rattle.papaya_schedules.specs.Lists.{least_free}
+use Rattle.papaya_schedules.specs.Lives.{EventFinds}
+use Rattle.papaya_schedules.specs.Moment.{MapThere, Moment}
+use Rattle.papaya_schedules.specs.Terms.{Terms, shards_of}
+use Rattle.papaya_schedules.specs.Views.{map_at, map_of, number_of, tables_of}
+use Rattle.papaya_effects.specs.Effects.{effects_of, known_after}
+use Rattle.papaya_effects.specs.Known.{Known, known}
+use Rattle.papaya_effects.specs.declared.acting.Acting.TheVariants as acts
+use Rattle.papaya_effects.specs.declared.notes.Notes.{Notes}
 use Rattle.papaya_others.proofs.MakingGoes.{new_maps_stay}
 use Rattle.papaya_executor.specs.MakingBegins.{next_making}
 use Rattle.papaya_executor.proofs.Fresh.{no_making_yet}
 use Rattle.papaya_legal.proofs.Come.{events_bring_things}
+use Rattle.papaya_finds.specs.Linking.{IsMadeFor}
+use Rattle.papaya_finds.proofs.Capacities.{effects_keep_capacities, given_are_for}
 use Rattle.papaya_legal.specs.CallEvents.{IsLegalBut}
 use Rattle.papaya_models.specs.Follows.{FollowsModel}
 use Rattle.papaya_legal.specs.Carried.{ComesAlone, ShowsRun}
 use Rattle.papaya_legal.specs.Chains.{Chain, Come, MakingSteps}
 use Rattle.papaya_legal.specs.MapEvents.{InMakingEvent}
 use Rattle.papaya_legal.proofs.Chains.{makings_chain, makings_run_to_their_ends}
+use Rattle.papaya_legal.proofs.Finding.Alike.{made_still}
 use Rattle.papaya_legal.proofs.MapsOver.{making_events_begin_so}
+use Rattle.papaya_legal.proofs.Slots.{each_join}
+use Rattle.papaya_finds.specs.Firsts.{ShowsOpenings}
+use Rattle.papaya_finds.proofs.Firsts.{makings_go_on, makings_open}
 use Rattle.papaya_reclaims.specs.Left.{LeftAmong}
 use Rattle.papaya_remains.proofs.Numbered.{made_stays}
 use Rattle.papaya_logged.specs.Goes.{Far, GoesFor, MakingGoes, MakingOn, far}
@@ -61,6 +81,7 @@ use Rattle.papaya_logged.specs.Makings.{MakingIsBegun, is_over}
 use Rattle.papaya_logged.specs.Shown.{IsCounted, IsShown}
 use Rattle.papaya_logged.specs.declared.logged.Logged.{Logged}
 use Rattle.papaya_logged.proofs.Counted.{counted_making_steps}
+use Rattle.papaya_logged.proofs.LeftNoted.{makings_note_left}
 use Rattle.papaya_logged.proofs.GivenBack.{with_maps}
 use Rattle.papaya_rows.proofs.Lists.{found_alike}
 use Rattle.papaya_tables.proofs.Logarithms.{next-power-unique}
@@ -72,18 +93,24 @@ use Rattle.papaya_scheduler.specs.Works.{HasMadeMap, WorksOnMap}
 use Rattle.papaya_named.specs.declared.caller.Callers.{Callers}
 use Rattle.papaya_scheduler.specs.declared.played.Played.{Played}
 use Rattle.papaya_scheduler.specs.declared.scheduler.Scheduler.{Scheduler}
+use Rattle.papaya_mapping.proofs.MapLists.{by_recursion}
 use Rattle.papaya_mapping.proofs.MapsMade.{new_one, shown_there as shown_by}
 use Rattle.papaya_scheduler.proofs.Maps.{number_is}
 use Rattle.papaya_scheduler.proofs.RanOn.{maps_named}
 use Rattle.papaya_scheduler.proofs.Rights.{entry, entry_is}
+use Rattle.papaya_running.proofs.OfCalls.Worth.{have_values_then, nobody_says}
 use Rattle.papaya_running.specs.Asked.{Holds}
-use Rattle.papaya_running.specs.OfCalls.{HaveShards, Runs, RunsOn}
+use Rattle.papaya_running.specs.OfCalls.{HaveShards, HaveValues, Runs, RunsOn}
 use Rattle.papaya_running.specs.OfRows.{HasNotBegun, IsLeftOfRows, KeepsRun}
+use Rattle.papaya_works.proofs.Makings.{makings_do_theirs, makings_find_theirs}
+use Rattle.papaya_works.proofs.Reached.{makings_note_more}
 use Rattle.papaya_running.proofs.OfCalls.Scenes.{AreNamed, its_named, stands_in}
 use Rattle.papaya_running.proofs.OfRows.Chain.{come_as, come_by}
 use Rattle.papaya_running.proofs.OfRows.Lone.{alone_follows}
+use Rattle.papaya_running.proofs.OfRows.May.{all_by}
 use Rattle.papaya_running.proofs.OfRows.Quiet.{refused_still, still_keeps}
-use Rattle.papaya_running.proofs.Remaining.{counted_in}
+use Rattle.papaya_running.proofs.Reached.{reached_after}
+use Rattle.papaya_running.proofs.Remaining.{counted_in, nobody_makes}
 
 -- one that is put behind those of which none is it is the one that is found
 found_last : {X : Type 0} (p : X → Bool) (xs : List X) (x : X) → find p xs ≡ None → p x ≡ true → find p (xs ++ x ∷ []) ≡ Some x
@@ -134,6 +161,12 @@ module _ {K V S : Type 0} (same : K → K → Bool) (hash : K → ℕ) (s : Scen
   maps_still (progress.Done setting) leads more = absurd (cc more)
   maps_still (progress.Refused fault) leads more = absurd (cc more)
 
+  calls_still : (said : Progress Setting) (leads : Leads said) → (next_scene said leads).calls ≡ s.calls
+  calls_still progress.Goes leads = refl
+  calls_still progress.Waits leads = absurd (leads b here).3
+  calls_still (progress.Done setting) leads = refl
+  calls_still (progress.Refused fault) leads = refl
+
   new_still : (name : ℕ → List ℕ) (m : Moment K V) (k : Known) → IsAt same hash old s → Shows same name m k s → (of : Option ℕ) (setting : Setting) (said : Progress Setting) → Leads said → is_over said ≡ false
       → IsNew b.map setting m → IsNew b.map setting (with_effects None of (effects_of (acts.Making b.map) k new.memory.changed) m)
   new_still name m k at shows of setting progress.Goes leads more is_new = new_maps_stay K V S same hash name m k s old new at shows i leads b here of setting is_new
@@ -158,6 +191,25 @@ module _ {K V S : Type 0} (same : K → K → Bool) (hash : K → ℕ) (s : Scen
       by (inl one) = inr (c.0, at_same s.maps b.map (Some c.0) n one, ap (λ (x : Setting). x.mask) (c.1.setting_is ∙ c.1.answer_is))
       by (inr ne) = inl (ne, at_other s.maps b.map (Some c.0) n ne)
 
+-- effects of a making leave the maps that are there
+maps_as_before : {K V : Type 0} (of : Option ℕ) (fs : List Effect) (m : Moment K V) → list_all is_first_making fs ≡ true → (with_effects None of fs m).maps ≡ m.maps
+maps_as_before of [] m all = refl
+maps_as_before of (f ∷ fs) m all =
+    let both = and_both (is_first_making f) (list_all is_first_making fs) all in
+    maps_as_before of fs (with_effect None of f m) both.1 ∙ by f both.0
+  where
+    by : (f : Effect) → is_first_making f ≡ true → maps_by f m.maps ≡ m.maps
+    by (Asked ABlock) is = refl
+    by (TableMade t) is = refl
+    by (Linked t shape) is = refl
+    by _ is = absurd (cc is)
+
+-- none of those before it has its number
+none_numbered : (n : ℕ) (fs : List MapThere) → AllByRecursion (λ (f : MapThere). f.number < n) fs → find (λ (f : MapThere). f.number == n) fs ≡ None
+none_numbered n [] all = refl
+none_numbered n (f ∷ fs) all =
+    ap (λ (q : Bool). cond q (Some f) (find (λ (g : MapThere). g.number == n) fs)) (ne_eqb f.number n (λ e. (let l = all.0 in omega (arith, l, e)))) ∙ none_numbered n fs all.1
+
 -- what is told until the last step needs no new map
 none_new : {K V : Type 0} (map : ℕ) (said : Progress Setting) (m : Moment K V) → is_over said ≡ false → WasNew map said m
 none_new map progress.Goes m more = tt
@@ -171,8 +223,9 @@ module _ {K V : Type 0} (i : ℕ) (b : Beginning K) (setting : Setting) (stood :
   IsUnder m s = (z : NewMap) × (s.makers i ≡ Some (record b { machine = z })) × IsNew b.map setting m × (s.maps ≡ stood)
 
 module _ {K V S : Type 0} (same : K → K → Bool) (hash : K → ℕ) (terms : Terms) (name : ℕ → List ℕ) (log : List (Entry K V)) (own : List ℕ) (mode : ResizeMode) (capacity i : ℕ) (b : Beginning K)
-    (began : Moment K V) (below : b.map < began.made) (setting : Setting) (stood : ℕ → Option (Standing K)) where
-  -- So many steps of the making have led to where the run is: the executor is there in the scene, and the event is in its midst.
+    (began : Moment K V) (below : b.map < began.made) (setting : Setting) (stood : ℕ → Option (Standing K))
+    (there : MapThere) (faultless : map_fault there.mode there.capacity ≡ None) (places_are : b.places ≡ first_places there.capacity) where
+  -- So many steps of the making have led to where the run is: the executor is there in the scene, and the event is in its midst; what it did are effects of a making, which found what they must.
   record MakingComes (n : ℕ) (x : Come K V S) (f : Far K V S) : Type 0 where
     pub now : Moment K V
     pub scene : Scene K V
@@ -181,7 +234,13 @@ module _ {K V S : Type 0} (same : K → K → Bool) (hash : K → ℕ) (terms : 
     pub size : f.logged.executor.batch_size ≡ terms.batch_size
     pub midst : InMakingEvent same name terms log (MakeMap own mode capacity) b.map began f.effects now (known f.logged.notes) scene
     pub made : now.made ≡ began.made
+    pub calls : scene.calls ≡ x.scene.calls
+    pub made_for : IsMadeFor b.map now b.given
     pub counted : IsCounted now f.logged scene
+    pub firsts : list_all is_first_making f.effects ≡ true
+    pub found : AtEachEffect (EventFinds (Some b.map) false) None (Some b.map) f.effects began
+    pub openings : ShowsOpenings scene
+    pub there_is : map_at b.map now ≡ Some there
 
   module _ (n : ℕ) (x : Come K V S) (mid to : Far K V S) (y : MakingComes n x mid) (it : IsUnder i b setting stood y.now y.scene) (step : MakingGoes i b.map mid to) (was_new : WasNew b.map step.said y.now) where
     abbrev d : Beginning K
@@ -210,9 +269,33 @@ module _ {K V S : Type 0} (same : K → K → Bool) (hash : K → ℕ) (terms : 
       map_is = refl;
       below = subst (λ (q : ℕ). b.map < q) (sym y.made) below;
       was_new = was_new;
+      made_for = y.made_for;
       comes = come_as to.logged.executor w next to.effects (mid.effects ++ step_did) (known to.logged.notes) (known_after (acts.Making b.map) to.logged.executor.memory.changed (known mid.logged.notes))
           step.is_noted.did step.is_noted.noted;
     }
+
+    next_midst : InMakingEvent same name terms log (MakeMap own mode capacity) b.map began to.effects w (known to.logged.notes) next
+    next_midst = makings_chain K V S same hash name terms log (MakeMap own mode capacity) i b.map began 1 (come_by mid y.now y.scene) (come_by to w next) (come_by mid y.now y.scene, refl, one) y.midst
+
+    -- what the step did are effects of a making, and found what they must
+    step_firsts : list_all is_first_making step_did ≡ true
+    step_firsts =
+        makings_do_theirs K V S same hash name y.now (known mid.logged.notes) y.scene mid.logged.executor to.logged.executor y.is_at y.midst.0.calls.whole.all.shown i step.said leads d it.1
+        (y.midst.0.calls.whole.counters i d it.1)
+
+    shown_then : Shows same name w (known_after (acts.Making b.map) to.logged.executor.memory.changed (known mid.logged.notes)) next
+    shown_then = subst (λ (k : Known). Shows same name w k next) step.is_noted.noted next_midst.0.calls.whole.all.shown
+
+    step_found : AtEachEffect (EventFinds (Some b.map) false) None (Some b.map) step_did y.now
+    step_found =
+        makings_find_theirs K V S same hash name y.now (known mid.logged.notes) y.scene mid.logged.executor to.logged.executor y.is_at y.midst.0.calls.whole.all.shown y.midst.0.calls.kept.tables
+        y.openings i step.said leads d it.1 (y.midst.0.calls.whole.counters i d it.1) (Some b.map) there y.there_is it.2.no_tables faultless places_are shown_then
+
+    all_found : AtEachEffect (EventFinds (Some b.map) false) None (Some b.map) to.effects began
+    all_found =
+        subst (λ (fs : List Effect). AtEachEffect (EventFinds (Some b.map) false) None (Some b.map) fs began) (sym step.is_noted.did)
+        (each_join (EventFinds (Some b.map) false) None (Some b.map) mid.effects step_did began y.found
+        (subst (λ (z : Moment K V). AtEachEffect (EventFinds (Some b.map) false) None (Some b.map) step_did z) y.midst.0.worked step_found))
 
     abbrev making_comes_on : MakingComes (suc n) x to
     making_comes_on = record {
@@ -221,9 +304,16 @@ module _ {K V S : Type 0} (same : K → K → Bool) (hash : K → ℕ) (terms : 
       chain = (come_by mid y.now y.scene, y.chain, one);
       is_at = is_there same hash y.scene mid.logged.executor to.logged.executor i d it.1 step.said leads;
       size = step.is_noted.given.1 ∙ y.size;
-      midst = makings_chain K V S same hash name terms log (MakeMap own mode capacity) i b.map began 1 (come_by mid y.now y.scene) (come_by to w next) (come_by mid y.now y.scene, refl, one) y.midst;
+      midst = next_midst;
       made = made_stays None (Some b.map) step_did y.now ∙ y.made;
-      counted = counted_making_steps same hash mid.logged to.logged.executor to.logged.notes step.is_noted.given y.now y.scene y.is_at y.counted i step.said leads d it.1 (Some b.map) step.is_noted.noted;
+      calls = calls_still same hash y.scene mid.logged.executor to.logged.executor i d it.1 step.said leads ∙ y.calls;
+      made_for = made_still y.now w b.map b.given (effects_keep_capacities K V None (Some b.map) step_did y.now b.map) y.made_for;
+      counted = counted_making_steps same hash mid.logged to.logged.executor to.logged.notes step.is_noted.given y.now y.scene y.is_at y.counted i step.said leads d it.1 (Some b.map) step.is_noted.noted
+          (makings_note_left same hash name y.now (known mid.logged.notes) y.scene mid.logged.executor to.logged.executor y.is_at y.midst.0.calls.whole i step.said leads d it.1 (Some b.map) was_new next.world);
+      firsts = ap (list_all is_first_making) step.is_noted.did ∙ list_all-append is_first_making mid.effects step_did ∙ ap (λ (q : Bool). q && list_all is_first_making step_did) y.firsts ∙ step_firsts;
+      found = all_found;
+      openings = makings_go_on K V S same hash y.scene mid.logged.executor to.logged.executor y.openings i step.said leads d it.1;
+      there_is = ap (λ (fs : List MapThere). find (λ (f : MapThere). f.number == b.map) fs) (maps_as_before (Some b.map) step_did y.now step_firsts) ∙ y.there_is;
     }
 
     making_under : is_over step.said ≡ false → IsUnder i b setting stood w next
@@ -272,7 +362,7 @@ module _ {K V S : Type 0} (same : K → K → Bool) (hash : K → ℕ) (terms : 
   may = record { due = record { played = run.stands; in_turn = turn }; lawful = holds.lawful; counts = holds.counts }
 
   abbrev KeepsAs : Entry K V → Type 0
-  KeepsAs x = IsPlayed same hash terms (x ∷ log) new → IsLeftOfRows terms log x → RunsOn same hash terms log x new
+  KeepsAs x = IsPlayed same hash terms (x ∷ log) new → ComesRight terms log x → RunsOn same hash terms log x new
 
   -- the map was made
   module _ (calls : new.calls ≡ old.calls) (d : HasMadeMap played old new own mode capacity) where
@@ -341,14 +431,35 @@ module _ {K V S : Type 0} (same : K → K → Bool) (hash : K → ℕ) (terms : 
     abbrev x : Come K V S
     x = come_by (far [] d.began) bm s1
 
-    first : Midway same hash terms name log own mode capacity i b bm below d.setting s.maps 0 x (far [] d.began)
+    -- it is found by its number
+    there_so : map_at b.map bm ≡ Some there
+    there_so =
+        subst (λ (n : ℕ). map_at n bm ≡ Some there) (sym map_is)
+        (found_last (λ (f : MapThere). f.number == m.made) m.maps there (none_numbered m.made m.maps (by_recursion _ m.maps holds.counts.apart.numbers.below)) (eq-eqb m.made m.made refl))
+
+    first : Midway same hash terms name log own mode capacity i b bm below d.setting s.maps there d.faultless d.places_are 0 x (far [] d.began)
     first = (
-      record { now = bm; scene = s1; chain = refl; is_at = at1; size = d.stays.1 ∙ run.size; midst = midst; made = refl; counted = shown_there.counted },
+      record {
+        now = bm;
+        scene = s1;
+        chain = refl;
+        is_at = at1;
+        size = d.stays.1 ∙ run.size;
+        midst = midst;
+        made = refl;
+        calls = refl;
+        counted = shown_there.counted;
+        firsts = refl;
+        found = tt;
+        openings = makings_open K V s (λ j c makes. absurd (let none = nobody_makes same hash terms m old run.stands j in cc (none, makes))) i b d.given old.logged.executor.roots d.places refl;
+        there_is = there_so;
+        made_for = given_are_for K V bm b.map there there_so d.faultless b.given (d.is_given.initial ∙ ap (λ (n : ℕ). max n 1) d.places_are);
+      },
       (b.machine, at_same s.makers i (Some b) i refl, is_new, refl),
     )
 
-    prev : Midway same hash terms name log own mode capacity i b bm below d.setting s.maps d.gone.1.0 x d.gone.0
-    prev = makings_come same hash terms name log own mode capacity i b bm below d.setting s.maps d.gone.1.0 x (far [] d.began) d.gone.0 d.gone.1.1 first
+    prev : Midway same hash terms name log own mode capacity i b bm below d.setting s.maps there d.faultless d.places_are d.gone.1.0 x d.gone.0
+    prev = makings_come same hash terms name log own mode capacity i b bm below d.setting s.maps there d.faultless d.places_are d.gone.1.0 x (far [] d.began) d.gone.0 d.gone.1.1 first
 
     abbrev mid : Logged K V S
     mid = d.gone.2
@@ -356,8 +467,8 @@ module _ {K V S : Type 0} (same : K → K → Bool) (hash : K → ℕ) (terms : 
     was : WasNew b.map d.gone.3.said prev.0.now
     was = subst (λ (t : Progress Setting). WasNew b.map t prev.0.now) (sym d.gone.4) prev.1.2
 
-    abbrev y : MakingComes same hash terms name log own mode capacity i b bm below d.setting s.maps (suc d.gone.1.0) x (far effects mid)
-    y = making_comes_on same hash terms name log own mode capacity i b bm below d.setting s.maps d.gone.1.0 x d.gone.0 (far effects mid) prev.0 prev.1 d.gone.3 was
+    abbrev y : MakingComes same hash terms name log own mode capacity i b bm below d.setting s.maps there d.faultless d.places_are (suc d.gone.1.0) x (far effects mid)
+    y = making_comes_on same hash terms name log own mode capacity i b bm below d.setting s.maps there d.faultless d.places_are d.gone.1.0 x d.gone.0 (far effects mid) prev.0 prev.1 d.gone.3 was
 
     chain : Chain (MakingSteps same hash terms i b.map) (suc d.gone.1.0) (record { executor = d.began.executor; did = []; now = bm; notes = known old.logged.notes; scene = s1 })
         (come_by (far effects mid) y.now y.scene)
@@ -416,14 +527,14 @@ module _ {K V S : Type 0} (same : K → K → Bool) (hash : K → ℕ) (terms : 
         (subst (λ (o : Option ℕ). tables_named o bw ≡ (if capacity == 0 then 0 else 1)) (sym number_still)
         (has_table ∙ ap (λ (n : ℕ). if n == 0 then 0 else 1) d.places_are ∙ some_places capacity))
 
-    it : IsLeftOfRows terms log e → IsLegalBut same terms log e × ShowsRun same name terms (e ∷ log) (known mid.notes) y.scene
-    it left =
+    it : ComesRight terms log e → IsLegalBut same terms log e × ShowsRun same name terms (e ∷ log) (known mid.notes) y.scene
+    it right =
         makings_run_to_their_ends K V S same hash name terms log (known old.logged.notes) s old.logged.executor d.began.executor run.stands.shown.is_at run.shows own mode capacity there refl i b idle map_is
-        (λ made. absurd made) lone at1 (suc d.gone.1.0) (come_by (far effects mid) y.now y.scene) chain played.steps effects refl refl named_so left.but.may
-        (subst (λ (o : Option ℕ). AtEachEffect (Finds terms None o false []) None o effects bm) named_so left.but.finds) whole left.right
+        (λ made. absurd made) lone at1 (suc d.gone.1.0) (come_by (far effects mid) y.now y.scene) chain played.steps effects refl refl named_so
+        (all_by is_first_making (may_do event m) (λ f is. is) effects y.firsts) y.found whole right
 
-    shows : IsLeftOfRows terms log e → ShowsRun same name terms (e ∷ log) (known new.logged.notes) y.scene
-    shows left = subst (λ (n : Notes). ShowsRun same name terms (e ∷ log) (known n) y.scene) (sym d.gone.5) (it left).1
+    shows : ComesRight terms log e → ShowsRun same name terms (e ∷ log) (known new.logged.notes) y.scene
+    shows right = subst (λ (n : Notes). ShowsRun same name terms (e ∷ log) (known n) y.scene) (sym d.gone.5) (it right).1
 
     named : AreNamed name new.calls.items.items
     named = subst (λ (c : Callers V). AreNamed name c.items.items) (sym calls) (its_named same hash terms m old run.stands)
@@ -434,7 +545,7 @@ module _ {K V S : Type 0} (same : K → K → Bool) (hash : K → ℕ) (terms : 
         ∙ ap (λ (t : Terms). shards_of t) run.stands.given
 
     shards : HaveShards terms new.logged.executor
-    shards n setting is = by (masks same hash terms name log own mode capacity i b bm below d.setting s.maps d.gone.1.0 x d.gone.0 (far effects mid) prev.0 prev.1 d.gone.3 was d.gone.4 n)
+    shards n setting is = by (masks same hash terms name log own mode capacity i b bm below d.setting s.maps there d.faultless d.places_are d.gone.1.0 x d.gone.0 (far effects mid) prev.0 prev.1 d.gone.3 was d.gone.4 n)
       where
         now_is : option_map (λ (st : Standing K). st.setting) (y.scene.maps n) ≡ Some setting
         now_is = at_end.maps n ∙ is
@@ -451,41 +562,55 @@ module _ {K V S : Type 0} (same : K → K → Bool) (hash : K → ℕ) (terms : 
     left_behind =
         subst (λ (r : ℕ). LeftAmong r y.scene.world y.scene.maps y.scene.makers y.scene.enders y.counted.remains.lists) (sym (ap (λ (x : Executor K V S). x.roots) d.gone.6)) y.counted.remains.left
 
+    values : HaveValues (moment (e ∷ log)) y.scene new.calls.items.items
+    values =
+        subst (λ (c : Callers V). HaveValues (moment (e ∷ log)) y.scene c.items.items) (sym calls)
+        (have_values_then m (moment (e ∷ log)) (nobody_says e m refl) s y.scene y.calls old.calls.items.items run.values)
+
+    -- no bucket of slots is forgotten
+    grows : (known old.logged.notes).buckets ≤ (known new.logged.notes).buckets
+    grows =
+        subst (λ (n : Notes). (known old.logged.notes).buckets ≤ (known n).buckets) (sym d.gone.5)
+        (makings_note_more same hash terms (known old.logged.notes) i b.map (suc d.gone.1.0) (record { executor = d.began.executor; did = []; now = bm; notes = known old.logged.notes; scene = s1 })
+        (come_by (far effects mid) y.now y.scene) chain (omega arith))
+
     keeps_made : KeepsAs e
-    keeps_made so left = record {
-      legal = (it left).0;
+    keeps_made so right = record {
+      legal = (it right).0;
       runs = record {
         stands = stands_in same hash terms (moment (e ∷ log)) new so name y.scene (record {
           is_at = at_end;
-          shows = (shows left).calls.whole;
-          kept = (shows left).calls.kept;
+          shows = (shows right).calls.whole;
+          kept = (shows right).calls.kept;
           counted = counted_in same hash terms (moment (e ∷ log)) new so y.scene at_end y.counted.remains.lists left_behind;
         }) named;
-        shows = shows left;
-        come = events_bring_things K V terms log e run.come (it left).0.life.finds;
+        shows = shows right;
+        come = events_bring_things K V terms log e run.come (it right).0.life.finds;
+        values = values;
         size = ap (λ (x : Executor K V S). x.batch_size) d.gone.6 ∙ y.size;
         shards = shards;
+        reached = reached_after same hash terms log e old new right so grows run.reached;
       };
     }
 
   refused_keeps : (fault : Fault) → played.outcome ≡ Refused fault → played.effects.items ≡ [] → new.logged ≡ old.logged → new.calls ≡ old.calls → KeepsAs (entry_of event played)
   refused_keeps fault is none still calls =
       subst KeepsAs (sym (entry_is event played (Refused fault) played.steps [] is refl none))
-      (λ so rest. still_keeps same hash terms log old run (entry event (Refused fault) played.steps []) new refl (refused_still log s.world event refl fault played.steps) still calls so rest.right)
+      (λ so rest. still_keeps same hash terms log old run (entry event (Refused fault) played.steps []) new refl (refused_still log s.world event refl fault played.steps) still calls so rest)
 
   -- it was refused, and nothing was done; or it was made; nothing is said of one that was refused once it had begun
-  map_made_keeps : WorksOnMap played old new own mode capacity → IsPlayed same hash terms (entry_of event played ∷ log) new → IsLeftOfRows terms log (entry_of event played)
+  map_made_keeps : WorksOnMap played old new own mode capacity → IsPlayed same hash terms (entry_of event played ∷ log) new → ComesRight terms log (entry_of event played)
       → HasNotBegun event played.outcome played.effects.items old new → RunsOn same hash terms log (entry_of event played) new
-  map_made_keeps (calls, inl (fault, is, (none, still))) after left begun = refused_keeps fault is none still calls after left
-  map_made_keeps (calls, inr (inl (fault, is))) after left begun =
+  map_made_keeps (calls, inl (fault, is, (none, still))) after right begun = refused_keeps fault is none still calls after right
+  map_made_keeps (calls, inr (inl (fault, is))) after right begun =
       let so : (played.effects.items ≡ []) × (new.logged ≡ old.logged) = subst (λ (o : Outcome V). HasNotBegun event o played.effects.items old new) is begun in
-      refused_keeps fault is so.0 so.1 calls after left
-  map_made_keeps (calls, inr (inr (done, d))) after left begun = subst KeepsAs (sym (entry_is event played Done played.steps played.effects.items done refl refl)) (keeps_made calls d) after left
+      refused_keeps fault is so.0 so.1 calls after right
+  map_made_keeps (calls, inr (inr (done, d))) after right begun = subst KeepsAs (sym (entry_is event played Done played.steps played.effects.items done refl refl)) (keeps_made calls d) after right
 
 -- So it is by what its function says.
 module _ {K V S : Type 0} (same : K → K → Bool) (hash : K → ℕ) (event : Event K V) (own : List ℕ) (mode : ResizeMode) (capacity : ℕ) (is : event ≡ MakeMap own mode capacity) (old new : Scheduler K V S) where
   pub makings_keep : {X : Type 0} → (result : Result (Played V) X) → IfOk result (λ played. WorksOnMap played old new own mode capacity) → IfOk result (λ played. KeepsRun same hash event played old new)
   makings_keep (Ok played) works =
       subst (λ (x : Event K V). KeepsRun same hash x played old new) (sym is)
-      (λ of terms log holds run turn after left begun. map_made_keeps same hash terms log own mode capacity played old new holds run turn works after left begun)
+      (λ of terms log holds run turn after right begun. map_made_keeps same hash terms log own mode capacity played old new holds run turn works after right begun)
   makings_keep (Err x) works = tt

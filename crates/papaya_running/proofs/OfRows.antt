@@ -1,9 +1,25 @@
 -- Events whose work is a row on a slot keep their promises, and a run goes on with them.
-use Rattle.std.specs.Prelude.{◌≡◌, ◌&&◌, ◌||◌, ◌<◌, ◌^◌, ℕ, Bool, true, false, List, [], ◌∷◌, None, Result, Ok, Err, IfOk}
+use Rattle.std.specs.Prelude.{◌≡◌, ◌≤◌, ◌&&◌, ◌||◌, ◌<◌, ◌^◌, ℕ, Bool, true, false, List, [], ◌∷◌, None, Result, Ok, Err, IfOk}
 use Rattle.std.specs.List.{list_all}
-use Rattle.std.proofs.Common.{refl, ap, sym, subst, inl, inr, ◌∙◌}
-use Rattle.papaya_histories.specs.Given.Seize.World.{Begin, Rests}
+use Rattle.std.proofs.Common.{refl, ap, sym, subst, inl, inr, ◌∙◌, arith}
+use Rattle.papaya_histories.specs.Given.Seize.World.{Begin, IsInside, Rests}
 use Rattle.papaya_histories.specs.Given.Tables.declared.node.Node.{Node}
+use Rattle.papaya_histories.specs.Given.Executor.IsAt.{Scene, slot_of}
+use Rattle.papaya_histories.specs.Given.Executor.OnSlots.{MayBegin, RowBegins}
+use Rattle.papaya_histories.specs.Given.Executor.Rows.{request_of}
+use Rattle.papaya_histories.specs.Given.Executor.declared.row.RowTold.{RowTold}
+use Rattle.papaya_histories.specs.Given.Executor.declared.row.SlotCall.{SlotCall}
+use Rattle.papaya_histories.specs.Given.Others.Rows.{scene_then}
+use Rattle.papaya_histories.proofs.Given.Spots.Unreclaimed.{and_both, or_right}
+use Rattle.papaya_histories.specs.Given.SeizeWords.declared.fault.Fault.TheVariants.{Busy}
+use Rattle.papaya_histories.specs.Given.Executor.IsAt.{Scene, slot_of}
+use Rattle.papaya_histories.specs.Given.Executor.OnSlots.{MayBegin, RowBegins}
+use Rattle.papaya_histories.specs.Given.Executor.Rows.{request_of}
+use Rattle.papaya_histories.specs.Given.Executor.declared.row.RowTold.{RowTold}
+use Rattle.papaya_histories.specs.Given.Executor.declared.row.SlotCall.{SlotCall}
+use Rattle.papaya_histories.specs.Given.Executor.declared.row.SlotCall.TheVariants as call
+use Rattle.papaya_histories.specs.Given.Others.Rows.{scene_then}
+use Rattle.papaya_histories.proofs.Given.Spots.Unreclaimed.{and_both, or_right}
 use Rattle.papaya_schedules.specs.declared.effect.Effect.{Effect}
 use Rattle.papaya_schedules.specs.declared.event.Event.{Event}
 use Rattle.papaya_schedules.specs.declared.event.Event.TheVariants.{DropGuard, Enter, Flush, Own, Refresh, Register, Unregister}
@@ -17,16 +33,12 @@ use Rattle.papaya_schedules.specs.Handing.{asks_for_bucket, gives_all, is_only, 
 use Rattle.papaya_schedules.specs.InTurn.{ComesRight, is_kept_out}
 use Rattle.papaya_schedules.specs.Lives.{Finds}
 use Rattle.papaya_schedules.specs.Moment.{Moment}
+use Rattle.papaya_schedules.specs.InUse.{used_slots}
+use Rattle.papaya_schedules.specs.Lists.{least_free}
+use Rattle.papaya_runs.specs.Present.{Present}
 use Rattle.papaya_schedules.specs.Terms.{Terms}
 use Rattle.papaya_effects.specs.Known.{known}
 use Rattle.papaya_effects.specs.declared.notes.Notes.{Notes}
-use Rattle.papaya_histories.specs.Given.Executor.IsAt.{Scene, slot_of}
-use Rattle.papaya_histories.specs.Given.Executor.OnSlots.{MayBegin, RowBegins}
-use Rattle.papaya_histories.specs.Given.Executor.Rows.{request_of}
-use Rattle.papaya_histories.specs.Given.Executor.declared.row.RowTold.{RowTold}
-use Rattle.papaya_histories.specs.Given.Executor.declared.row.SlotCall.{SlotCall}
-use Rattle.papaya_histories.specs.Given.Others.Rows.{scene_then}
-use Rattle.papaya_histories.proofs.Given.Spots.Unreclaimed.{and_both, or_right}
 use Rattle.papaya_promises.specs.Others.{SparesGuards}
 use Rattle.papaya_promises.specs.Protected.{is_of_slots, there_in}
 use Rattle.papaya_models.specs.OnSlots.{IsRowFor}
@@ -42,6 +54,7 @@ use Rattle.papaya_legal.proofs.Found.{row_chains_find}
 use Rattle.papaya_legal.proofs.Slots.{slot_events_begin_so}
 use Rattle.papaya_logged.specs.Goes.{far}
 use Rattle.papaya_logged.specs.Shown.{IsShown}
+use Rattle.papaya_remains.specs.Slots.{SlotsNoted}
 use Rattle.papaya_rows.specs.Rows.{RowRan}
 use Rattle.papaya_rows.proofs.Facts.{row_rests}
 use Rattle.papaya_scheduler.specs.Played.{IsPlayed, entry_of}
@@ -50,19 +63,28 @@ use Rattle.papaya_named.specs.declared.caller.Callers.{Callers}
 use Rattle.papaya_scheduler.specs.declared.played.Played.{Played}
 use Rattle.papaya_scheduler.specs.declared.scheduler.Scheduler.{Scheduler}
 use Rattle.papaya_scheduler.proofs.Rights.{entry, entry_is}
-use Rattle.papaya_running.specs.OfCalls.{HaveShards, Runs, RunsOn}
+use Rattle.papaya_running.proofs.OfCalls.Worth.{have_values_then, nobody_says}
+use Rattle.papaya_running.specs.OfCalls.{HaveShards, HaveValues, Runs, RunsOn}
 use Rattle.papaya_running.specs.OfRows.{FindsStill, IsLeftOfRows, KeepsRun, MaysDo, is_of_rows}
+use Rattle.papaya_scheduler.proofs.Vacancies.{first_is, none_on_vacant}
+use Rattle.papaya_works.specs.Rows.{may_row}
+use Rattle.papaya_works.proofs.Mays.{rows_do_theirs}
+use Rattle.papaya_works.proofs.Needs.{none_need, reclaiming_asks_none, registers_need}
+use Rattle.papaya_works.proofs.Reached.{rows_note_more}
 use Rattle.papaya_running.proofs.OfCalls.Scenes.{AreNamed, its_named, stands_in}
 use Rattle.papaya_running.proofs.OfRows.Chain.{RowComes, come_by, rows_come}
 use Rattle.papaya_running.proofs.OfRows.Facts.{RowFacts, facts}
 use Rattle.papaya_running.proofs.OfRows.Lone.{alone_follows}
+use Rattle.papaya_running.proofs.OfRows.May.{flush_inside, may_by}
 use Rattle.papaya_running.proofs.OfRows.Quiet.{none_still, refused_still, still_keeps}
+use Rattle.papaya_running.proofs.Reached.{reached_after}
 use Rattle.papaya_running.proofs.Remaining.{counted_in}
 pub mod Chain
 pub mod Facts
 pub mod Quiet
 pub mod Kept
 pub mod Lone
+pub mod May
 
 module _ {K V : Type 0} where
   -- such an event works on slots, speaks of no call, and does not reclaim everything
@@ -86,28 +108,6 @@ module _ {K V : Type 0} where
   on_no_map (Flush guard) outcome m of on = (refl, refl)
   on_no_map (DropGuard guard) outcome m of on = (refl, refl)
   on_no_map _ outcome m of on = absurd (cc (of, on))
-
-  -- what it does it may do
-  may_of : (log : List (Entry K V)) (e : Entry K V) (event : Event K V) → is_of_rows event ≡ true → is_of_slots event ≡ true → MaysDo log e event → list_all (may_do e.event (moment log)) e.effects ≡ true
-  may_of log e (Register registration) of on may = may
-  may_of log e (Unregister registration) of on may = may
-  may_of log e (Enter guard registration) of on may = may
-  may_of log e (Own guard) of on may = may
-  may_of log e (Refresh guard) of on may = may
-  may_of log e (Flush guard) of on may = may
-  may_of log e (DropGuard guard) of on may = may
-  may_of log e _ of on may = absurd (cc (of, on))
-
-  -- and it finds what it must, if it asks for buckets in need
-  needs_of : (terms : Terms) (log : List (Entry K V)) (e : Entry K V) (event : Event K V) → is_of_rows event ≡ true → is_of_slots event ≡ true → FindsStill terms log e event → AtEachEffect AsksInNeed None None e.effects (moment log)
-  needs_of terms log e (Register registration) of on needs = needs
-  needs_of terms log e (Unregister registration) of on needs = needs
-  needs_of terms log e (Enter guard registration) of on needs = needs
-  needs_of terms log e (Own guard) of on needs = needs
-  needs_of terms log e (Refresh guard) of on needs = needs
-  needs_of terms log e (Flush guard) of on needs = needs
-  needs_of terms log e (DropGuard guard) of on needs = needs
-  needs_of terms log e _ of on needs = absurd (cc (of, on))
 
   -- what it may do is to reclaim, or to ask for a bucket
   one_of_row : (event : Event K V) → is_of_rows event ≡ true → is_of_slots event ≡ true → (m : Moment K V) (f : Effect) → may_do event m f ≡ true → (is_reclaiming f || asks_for_bucket f) ≡ true
@@ -142,7 +142,7 @@ module _ {K V : Type 0} where
 
 module _ {K V S : Type 0} (same : K → K → Bool) (hash : K → ℕ) (terms : Terms) (log : List (Entry K V)) (event : Event K V) (played : Played V) (old new : Scheduler K V S)
     (of : is_of_rows event ≡ true) (on : is_of_slots event ≡ true) (run : Runs same hash terms log old) (turn : is_kept_out terms event (moment log) ≡ false)
-    (after : IsPlayed same hash terms (entry_of event played ∷ log) new) (left : IsLeftOfRows terms log (entry_of event played)) where
+    (after : IsPlayed same hash terms (entry_of event played ∷ log) new) (right : ComesRight terms log (entry_of event played)) where
   abbrev e : Entry K V
   e = entry_of event played
 
@@ -194,24 +194,61 @@ module _ {K V S : Type 0} (same : K → K → Bool) (hash : K → ℕ) (terms : 
         subst (λ (x : ℕ). IsRowFor (request_of x called) s.world.uses y.scene.world.uses event played.outcome (begun event played.outcome m)) (sym ran.in_slot)
         (f.is_row y.scene.world y.is_at.uses played.outcome comes)
 
-    -- as it begins the event is in its midst; and what all of it did finds what it must
+    -- as it begins the event is in its midst; what all of it did it may do, and finds what it must
     begun_so : InSlotEvent same name terms log event ran.caller called (known old.logged.notes) s.world [] m (known old.logged.notes) s1
     begun_so =
         slot_events_begin_so K V S same hash name terms log (known old.logged.notes) s old.logged.executor ran.began.executor run.stands.shown.is_at run.size run.shows event on ran.caller called may leads spares
         (alone_follows same hash terms log old run event (all_facts_of event of on).0)
+
+    done_by_row : list_all (may_row called) played.effects.items ≡ true
+    done_by_row =
+        rows_do_theirs K V S same hash name terms log (known old.logged.notes) s old.logged.executor ran.began.executor run.stands.shown.is_at event ran.caller called may leads
+        (λ is. subst (λ (x : ℕ). IsInside (s.world.uses x)) (sym ran.in_slot) (flush_inside same hash terms log old run.stands event slot called about its is)) begun_so
+        ran.goes.0 (come_by (far played.effects.items new.logged) y.now y.scene) chain
+
+    allowed : list_all (may_do event m) played.effects.items ≡ true
+    allowed = may_by same hash terms log old run.stands event slot called about its played.effects.items done_by_row
+
+    -- slots are noted as it begins
+    slots_noted : SlotsNoted (known old.logged.notes) ran.began.executor.memory.memory
+    slots_noted =
+        subst (λ (n : Notes). SlotsNoted (known n) ran.began.executor.memory.memory) ran.noted (ran.begins same hash name m s run.stands.shown may).1.counted.numbered.slots
+
+    -- a registering asks for buckets in need, and others ask for none
+    registers : (enters : Bool) → called ≡ call.Register enters → AtEachEffect AsksInNeed None None played.effects.items m
+    registers enters is =
+        registers_need same hash terms m s old.logged.executor ran.caller enters (none_on_vacant same hash terms m old run.stands ran.caller) (known old.logged.notes) run.reached
+        (λ x vacant. ap (λ (there : Present). least_free (used_slots there)) run.stands.there ∙ (first_is same hash terms m old run.stands x vacant).least) ran.began.executor run.stands.shown.is_at
+        (subst (λ (c : SlotCall). RowBegins same hash c ran.caller s old.logged.executor ran.began.executor) is leads) slots_noted ran.goes.0
+        (record { executor = ran.began.executor; did = []; now = m; notes = known old.logged.notes; scene = s1 }) (come_by (far played.effects.items new.logged) y.now y.scene) refl refl refl chain
+
+    in_need : (c : SlotCall) → called ≡ c → list_all (may_row c) played.effects.items ≡ true → AtEachEffect AsksInNeed None None played.effects.items m
+    in_need (call.Register enters) is all = registers enters is
+    in_need call.Leave is all = none_need (may_row call.Leave) reclaiming_asks_none played.effects.items m all
+    in_need call.LeaveOwned is all = none_need (may_row call.LeaveOwned) reclaiming_asks_none played.effects.items m all
+    in_need call.Refresh is all = none_need (may_row call.Refresh) reclaiming_asks_none played.effects.items m all
+    in_need call.Enter is all = none_need (may_row call.Enter) (λ f may. absurd (cc may)) played.effects.items m all
+    in_need call.Flush is all = none_need (may_row call.Flush) (λ f may. absurd (cc may)) played.effects.items m all
+    in_need call.Unregister is all = none_need (may_row call.Unregister) (λ f may. absurd (cc may)) played.effects.items m all
+
+    -- no bucket of slots is forgotten
+    grows : (known old.logged.notes).buckets ≤ (known new.logged.notes).buckets
+    grows =
+        rows_note_more same hash terms (known old.logged.notes) ran.caller ran.goes.0 (record { executor = ran.began.executor; did = []; now = m; notes = known old.logged.notes; scene = s1 })
+        (come_by (far played.effects.items new.logged) y.now y.scene) chain (omega arith)
 
     finds : AtEachEffect (Finds terms None None (gives_all event) []) None None played.effects.items m
     finds =
         subst (λ (q : Bool). AtEachEffect (Finds terms None None q []) None None played.effects.items m) (sym (all_facts_of event of on).1)
         (row_chains_find K V S same hash name terms log event ran.caller called (known old.logged.notes) s.world ran.goes.0
         (record { executor = ran.began.executor; did = []; now = m; notes = known old.logged.notes; scene = s1 }) (come_by (far played.effects.items new.logged) y.now y.scene) chain begun_so refl
-        (all_of_row event of on m played.effects.items (may_of log e event of on left.but.may)) (needs_of terms log e event of on left.but.finds))
+        (all_of_row event of on m played.effects.items allowed) (in_need called refl done_by_row))
 
     it : IsLegalBut same terms log e × ShowsRun same name terms (e ∷ log) (known new.logged.notes) y.scene
     it =
         rows_run_to_their_ends K V S same hash name terms log (known old.logged.notes) s old.logged.executor ran.began.executor run.stands.shown.is_at run.size small run.shows e on ran.caller called may
         leads spares (alone_follows same hash terms log old run event (all_facts_of event of on).0) ran.goes.0 (come_by (far played.effects.items new.logged) y.now y.scene) chain refl rests
-        (f.inside y.scene.world y.is_at.uses played.outcome comes) (f.not_busy played.outcome comes) (may_of log e event of on left.but.may) finds (λ alone. is_row) left.right (reclaims_none log e of on)
+        (f.inside y.scene.world y.is_at.uses played.outcome comes) (f.not_busy played.outcome comes) allowed finds (λ alone. is_row) right (reclaims_none log e of on)
 
     shown : IsShown same hash name (moment (e ∷ log)) new.logged y.scene
     shown = record {
@@ -227,10 +264,23 @@ module _ {K V S : Type 0} (same : K → K → Bool) (hash : K → ℕ) (terms : 
     shards : HaveShards terms new.logged.executor
     shards n setting is = run.shards n setting (sym (run.stands.shown.is_at.maps n) ∙ sym (f.led.settings n) ∙ f.led.at.maps n ∙ is)
 
+    values : HaveValues (moment (e ∷ log)) y.scene new.calls.items.items
+    values =
+        subst (λ (c : Callers V). HaveValues (moment (e ∷ log)) y.scene c.items.items) (sym calls)
+        (have_values_then m (moment (e ∷ log)) (nobody_says e m (refused_still log s.world event of Busy 0).no_call) s y.scene y.calls old.calls.items.items run.values)
+
     row_keeps : RunsOn same hash terms log e new
     row_keeps = record {
       legal = it.0;
-      runs = record { stands = stands_in same hash terms (moment (e ∷ log)) new after name y.scene shown named; shows = it.1; come = events_bring_things K V terms log e run.come it.0.life.finds; size = y.size; shards = shards };
+      runs = record {
+        stands = stands_in same hash terms (moment (e ∷ log)) new after name y.scene shown named;
+        shows = it.1;
+        come = events_bring_things K V terms log e run.come it.0.life.finds;
+        values = values;
+        size = y.size;
+        shards = shards;
+        reached = reached_after same hash terms log e old new right after grows run.reached;
+      };
     }
 
   -- and so it is of one that has done nothing
@@ -240,23 +290,23 @@ module _ {K V S : Type 0} (same : K → K → Bool) (hash : K → ℕ) (terms : 
   pub slot_keeps : WorksOnSlot played old new event → RunsOn same hash terms log e new
   slot_keeps (calls, inl (fault, is, (none, still))) =
       subst KeepsAs (sym (entry_is event played (Refused fault) played.steps [] is refl none))
-      (λ so right. still_keeps same hash terms log old run (entry event (Refused fault) played.steps []) new refl (refused_still log s.world event of fault played.steps) still calls so right) after left.right
+      (λ so right. still_keeps same hash terms log old run (entry event (Refused fault) played.steps []) new refl (refused_still log s.world event of fault played.steps) still calls so right) after right
   slot_keeps (calls, inr (slot, about, inl (done, no_row, (none, still)))) =
       subst KeepsAs (sym (entry_is event played Done played.steps [] done refl none))
       (λ so right. still_keeps same hash terms log old run (entry event Done played.steps []) new refl
-      (none_still same hash terms log old run.stands event turn played.steps slot about no_row) still calls so right) after left.right
+      (none_still same hash terms log old run.stands event turn played.steps slot about no_row) still calls so right) after right
   slot_keeps (calls, inr (slot, about, inr (called, its, said, comes, ran))) = row_keeps calls slot about called its said comes ran
 
 -- So it is by what a function says of an event in this form.
 module _ {K V S : Type 0} (same : K → K → Bool) (hash : K → ℕ) (event form : Event K V) (is : event ≡ form) (old new : Scheduler K V S) where
   pub rows_keep : {X : Type 0} → is_of_slots form ≡ true → (result : Result (Played V) X) → IfOk result (λ played. WorksOnSlot played old new form) → IfOk result (λ played. KeepsRun same hash event played old new)
   rows_keep on (Ok played) works =
-      subst (λ (x : Event K V). KeepsRun same hash x played old new) (sym is) (λ of terms log holds run turn after left begun. slot_keeps same hash terms log form played old new of on run turn after left works)
+      subst (λ (x : Event K V). KeepsRun same hash x played old new) (sym is) (λ of terms log holds run turn after right begun. slot_keeps same hash terms log form played old new of on run turn after right works)
   rows_keep on (Err x) works = tt
 
   -- of others nothing is said
   pub others_keep : is_of_rows form ≡ false → (played : Played V) → KeepsRun same hash event played old new
-  others_keep none played = subst (λ (x : Event K V). KeepsRun same hash x played old new) (sym is) (λ of terms log holds run turn after left begun. absurd (cc (of, none)))
+  others_keep none played = subst (λ (x : Event K V). KeepsRun same hash x played old new) (sym is) (λ of terms log holds run turn after right begun. absurd (cc (of, none)))
 
   pub others_keep_if : {X : Type 0} → is_of_rows form ≡ false → (result : Result (Played V) X) → IfOk result (λ played. KeepsRun same hash event played old new)
   others_keep_if none (Ok played) = others_keep none played

@@ -1,14 +1,10 @@
--- In whichever scene a scheduler stands for a moment, what ended maps have left over is behind the roots that the moment says: whether something is behind a root the memory says. So what holds of a
+-- In whichever scene a scheduler stands for a moment, what ended maps have left over is behind the roots that the moment says: what is behind a root the memory says. So what holds of a
 -- scheduler holds in each such scene.
-use Rattle.std.specs.Prelude.{◌≡◌, ◌⊎◌, ◌<◌, ℕ, Bool, List, [], ◌∷◌, Option, Some, None}
+use Rattle.std.specs.Prelude.{◌≡◌, ◌⊎◌, ◌<◌, ℕ, Bool, List, map, Option, Some, None}
 use Rattle.std.specs.List.{AllByRecursion}
 use Rattle.std.proofs.Common.{refl, ap, sym, subst, ◌∙◌, inl, inr}
 use Rattle.seize_words.specs.SlotWords.{slot_word}
-use Rattle.seize_words.specs.declared.at.At.TheVariants.{Used}
-use Rattle.papaya_histories.specs.Given.SeizeWords.Mem.{Mem, word_at}
-use Rattle.papaya_histories.specs.Given.Seize.World.{World}
 use Rattle.papaya_histories.specs.Given.Seize.declared.states.TheConstants.{HEAD}
-use Rattle.papaya_histories.specs.Given.Tables.declared.node.Node.{Node}
 use Rattle.papaya_histories.specs.Given.Tables.declared.setting.Setting.{Setting}
 use Rattle.papaya_histories.specs.Given.Raw.declared.machines.end_map.EndMap.{EndMap}
 use Rattle.papaya_histories.specs.Given.Resize.declared.new_map.NewMap.{NewMap}
@@ -19,11 +15,13 @@ use Rattle.papaya_histories.specs.Given.Finishes.Maps.{Standing}
 use Rattle.papaya_histories.specs.Given.Moments.Numbers.{AreFound}
 use Rattle.papaya_schedules.specs.Moment.{Moment}
 use Rattle.papaya_effects.specs.Known.{known}
+use Rattle.papaya_effects.specs.declared.role.Role.TheVariants as role
 use Rattle.papaya_schedules.specs.Terms.{Terms}
 use Rattle.papaya_reclaims.specs.Left.{IsSomebodys, LeftAmong}
 use Rattle.papaya_reclaims.specs.Reclaims.{IsRootOf, LeftBehind, RootLeads}
-use Rattle.papaya_remains.specs.Remains.{AllStand, RootsAreTaken, ShowsRemains, has_some}
-use Rattle.papaya_remains.proofs.Rests.{rests_remain}
+use Rattle.papaya_remains.specs.Remains.{AllStand, RootsAreTaken, ShowsRemains, has_some, left_at}
+use Rattle.papaya_remains.proofs.Leads.{both_lead}
+use Rattle.papaya_remains.proofs.Rests.{each_noted, rests_remain}
 use Rattle.papaya_logged.specs.Shown.{IsCounted}
 use Rattle.papaya_rows.proofs.Facts.{no_ending_of, no_making_of}
 use Rattle.papaya_rows.proofs.Lists.{both_none, both_some}
@@ -33,15 +31,6 @@ use Rattle.papaya_named.specs.Seen.{named, named_of}
 use Rattle.papaya_scheduler.specs.declared.scheduler.Scheduler.{Scheduler}
 use Rattle.papaya_mapping.proofs.MapLists.{all_back, all_seen}
 use Rattle.papaya_running.specs.Asked.{Holds}
-
--- two lists that are behind one root of one memory have something, or neither has
-both_lead : {K V : Type 0} (w w2 : World (Node K V)) → w2.memory ≡ w.memory → (r : ℕ) (xs ys : List ℕ) → RootLeads w r xs → RootLeads w2 r ys → has_some xs ≡ has_some ys
-both_lead w w2 same r [] [] a b = refl
-both_lead {K} {V} w w2 same r [] (y ∷ ys) a b =
-    absurd (let free = a.0 in let used = b.2 in let one = ap (λ (x : Mem (Node K V)). word_at x (Used r)) same in cc (free, used, one))
-both_lead {K} {V} w w2 same r (x ∷ xs) [] a b =
-    absurd (let used = a.2 in let free = b.0 in let one = ap (λ (z : Mem (Node K V)). word_at z (Used r)) same in cc (used, free, one))
-both_lead w w2 same r (x ∷ xs) (y ∷ ys) a b = refl
 
 -- a root that a standing map has in one scene of an executor it has in any
 root_in : {K V S : Type 0} (same : K → K → Bool) (hash : K → ℕ) (p : Scheduler K V S) (s t : Scene K V) → IsAt same hash p.logged.executor s → IsAt same hash p.logged.executor t → (r : ℕ)
@@ -55,7 +44,7 @@ module _ {K V S : Type 0} (same : K → K → Bool) (hash : K → ℕ) (terms : 
   abbrev t : Scene K V
   t = plays.scene
 
-  abbrev c : ShowsRemains p.logged.executor.roots m t
+  abbrev c : ShowsRemains p.logged.executor.roots m (known p.logged.notes) t
   c = plays.shown.counted.remains
 
   -- nobody makes a map, or ends one
@@ -83,6 +72,10 @@ module _ {K V S : Type 0} (same : K → K → Bool) (hash : K → ℕ) (terms : 
   module _ (found : AreFound m) where
     pub rested : RootsAreTaken p.logged.executor.roots m p.logged.executor.memory.memory × LeftBehind p.logged.executor.roots t.world t.maps c.lists
     rested = rests_remain K V S same hash plays.name m (known p.logged.notes) t p.logged.executor plays.shown.is_at plays.shown.shows.all.shown c found all_stand nobody_makes nobody_ends
+
+    -- and it is noted as what the moment tells
+    pub noted_at : (r : ℕ) → r < p.logged.executor.roots → map (known p.logged.notes).roles (c.lists r) ≡ map role.Pair (left_at r m.remains)
+    noted_at = each_noted K V S same hash plays.name m (known p.logged.notes) t p.logged.executor plays.shown.is_at plays.shown.shows.all.shown c found all_stand nobody_makes nobody_ends
 
     abbrev pub gives_all : MayGiveAll p t
     gives_all =
@@ -116,13 +109,13 @@ module _ {K V S : Type 0} (same : K → K → Bool) (hash : K → ℕ) (terms : 
     there_is r (inr (inr (j, f, ends, is))) = absurd (let none = enders_here j in cc (none, ends))
 
     module _ (lists : ℕ → List ℕ) (left : LeftAmong p.logged.executor.roots s.world s.maps s.makers s.enders lists) where
-      none_behind : (r : ℕ) → r < p.logged.executor.roots → IsSomebodys t.maps t.makers t.enders r → IsSomebodys s.maps s.makers s.enders r → has_some (c.lists r) ≡ has_some (lists r)
-      none_behind r l there here = ap has_some (c.left.none r l there) ∙ sym (ap has_some (left.none r l here))
+      none_behind : (r : ℕ) → r < p.logged.executor.roots → IsSomebodys t.maps t.makers t.enders r → IsSomebodys s.maps s.makers s.enders r → c.lists r ≡ lists r
+      none_behind r l there here = c.left.none r l there ∙ sym (left.none r l here)
 
-      some_so : (r : ℕ) → r < p.logged.executor.roots → has_some (c.lists r) ≡ has_some (lists r)
-      some_so r l = by (c.left.root r l) (left.root r l)
+      same_lists : (r : ℕ) → r < p.logged.executor.roots → c.lists r ≡ lists r
+      same_lists r l = by (c.left.root r l) (left.root r l)
         where
-          by : IsSomebodys t.maps t.makers t.enders r ⊎ RootLeads t.world r (c.lists r) → IsSomebodys s.maps s.makers s.enders r ⊎ RootLeads s.world r (lists r) → has_some (c.lists r) ≡ has_some (lists r)
+          by : IsSomebodys t.maps t.makers t.enders r ⊎ RootLeads t.world r (c.lists r) → IsSomebodys s.maps s.makers s.enders r ⊎ RootLeads s.world r (lists r) → c.lists r ≡ lists r
           by (inl there) here = none_behind r l there (here_is r there)
           by (inr leads) (inl here) = none_behind r l (there_is r here) here
           by (inr leads) (inr leads_here) = both_lead t.world s.world (at.memory ∙ sym plays.shown.is_at.memory) r (c.lists r) (lists r) leads leads_here
@@ -134,7 +127,9 @@ module _ {K V S : Type 0} (same : K → K → Bool) (hash : K → ℕ) (terms : 
         remains = record {
           lists = lists;
           left = left;
-          told = λ r l none. c.told r l none ∙ some_so r l;
+          told = λ r l none. c.told r l none ∙ ap has_some (same_lists r l);
+          pairs = λ r l none. ap (λ (bs : List ℕ). map (known p.logged.notes).roles bs) (sym (same_lists r l)) ∙ c.pairs r l none;
+          ascending = c.ascending;
           once = c.once;
           below = c.below;
           ending = λ j f is. absurd (let none = enders_here j in cc (none, is));

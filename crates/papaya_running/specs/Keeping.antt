@@ -10,7 +10,6 @@ use Rattle.papaya_schedules.specs.Reclaims.{is_quiescent, IsBounded}
 use Rattle.papaya_schedules.specs.Terms.{Terms}
 use Rattle.papaya_running.specs.Asked.{FindsRight, is_of_calls}
 use Rattle.papaya_running.specs.OfCalls.{IsLeftBut}
-use Rattle.papaya_running.specs.OfRows.{IsLeftOfRowsBut, is_of_rows}
 
 module _ {K V : Type 0} where
   -- of a making that was refused nothing is said
@@ -23,5 +22,5 @@ module _ {K V : Type 0} where
   pub record IsAskedOf (terms : Terms) (log : List (Entry K V)) (e : Entry K V) : Type 0 where
     pub right : FindsRight terms log e
     pub calls : is_of_calls e.event ≡ true → IsLeftBut terms log e
-    pub rows : is_of_rows e.event ≡ true → IsLeftOfRowsBut terms log e × IsNotRefused e.event e.outcome
+    pub made : IsNotRefused e.event e.outcome
     pub bounded : is_quiescent (after e (moment log)) ≡ true → IsBounded terms.batch_size (after e (moment log))

@@ -1,20 +1,14 @@
 -- What is had of an event whose work is a row on a slot, the making of a map, or the end of one: it keeps its promises, and the run goes on with it.
-use Rattle.std.specs.Prelude.{◌≡◌, ℕ, Bool, true, false, List, [], ◌∷◌, None}
-use Rattle.std.specs.List.{list_all}
+use Rattle.std.specs.Prelude.{◌≡◌, ℕ, Bool, true, false, List, [], ◌∷◌}
 use Rattle.papaya_schedules.specs.declared.effect.Effect.{Effect}
 use Rattle.papaya_schedules.specs.declared.event.Event.{Event}
 use Rattle.papaya_schedules.specs.declared.event.Event.TheVariants.{DropGuard, EndMap, Enter, Flush, MakeMap, Own, Refresh, Register, Unregister}
 use Rattle.papaya_schedules.specs.declared.outcome.Outcome.{Outcome}
 use Rattle.papaya_schedules.specs.declared.outcome.Outcome.TheVariants.{Refused}
 use Rattle.papaya_schedules.specs.After.{moment}
-use Rattle.papaya_schedules.specs.Beginning.{at_work}
-use Rattle.papaya_schedules.specs.Effects.{AtEachEffect}
-use Rattle.papaya_schedules.specs.Entry.{Entry, acted_on}
-use Rattle.papaya_schedules.specs.Handing.{may_do}
+use Rattle.papaya_schedules.specs.Entry.{Entry}
 use Rattle.papaya_schedules.specs.InTurn.{ComesRight, is_kept_out}
-use Rattle.papaya_schedules.specs.Lives.{Finds}
 use Rattle.papaya_schedules.specs.Terms.{Terms}
-use Rattle.papaya_legal.specs.Found.{AsksInNeed}
 use Rattle.papaya_scheduler.specs.Played.{IsPlayed, entry_of}
 use Rattle.papaya_scheduler.specs.declared.played.Played.{Played}
 use Rattle.papaya_scheduler.specs.declared.scheduler.Scheduler.{Scheduler}
@@ -35,26 +29,6 @@ module _ {K V : Type 0} where
   is_of_rows (EndMap name) = true
   is_of_rows _ = false
 
-  -- it may do what it does: of an end that is had
-  abbrev pub MaysDo : List (Entry K V) → Entry K V → Event K V → Type 0
-  MaysDo log e (EndMap name) = Unit {0}
-  MaysDo log e _ = list_all (may_do e.event (moment log)) e.effects ≡ true
-
-  -- It finds what it must: a row on a slot does, if it asks for buckets of slots in need.
-  abbrev pub FindsStill : Terms → List (Entry K V) → Entry K V → Event K V → Type 0
-  FindsStill terms log e (MakeMap name mode capacity) = (let b = at_work e (moment log) in AtEachEffect (Finds terms None (acted_on e.event b) false []) None (acted_on e.event b) e.effects b)
-  FindsStill terms log e (EndMap name) = (let b = at_work e (moment log) in AtEachEffect (Finds terms None (acted_on e.event b) false []) None (acted_on e.event b) e.effects b)
-  FindsStill terms log e _ = AtEachEffect AsksInNeed None None e.effects (moment log)
-
-  -- What is still asked of such an event, by name, but that it comes to what is right: what it does it may do, and finds what it must.
-  pub record IsLeftOfRowsBut (terms : Terms) (log : List (Entry K V)) (e : Entry K V) : Type 0 where
-    pub may : MaysDo log e e.event
-    pub finds : FindsStill terms log e e.event
-
-  pub record IsLeftOfRows (terms : Terms) (log : List (Entry K V)) (e : Entry K V) : Type 0 where
-    pub right : ComesRight terms log e
-    pub but : IsLeftOfRowsBut terms log e
-
 module _ {K V S : Type 0} where
   -- Of a making that was refused once it had begun nothing is said.
   abbrev pub HasNotBegun : Event K V → Outcome V → List Effect → (old new : Scheduler K V S) → Type 0
@@ -62,16 +36,16 @@ module _ {K V S : Type 0} where
   HasNotBegun _ outcome effects old new = Unit {0}
 
 module _ {K V S : Type 0} (same : K → K → Bool) (hash : K → ℕ) where
-  -- What is promised of one that is in turn, with what is left: it keeps its promises, and the run goes on.
+  -- What is promised of one that is in turn, if it comes to what is right: it keeps its promises, and the run goes on.
   abbrev pub KeepsRun : Event K V → Played V → (old new : Scheduler K V S) → Type 0
   KeepsRun event played old new =
       is_of_rows event ≡ true → (terms : Terms) (log : List (Entry K V)) → Holds same hash terms (moment log) old → Runs same hash terms log old → is_kept_out terms event (moment log) ≡ false
-      → IsPlayed same hash terms (entry_of event played ∷ log) new → IsLeftOfRows terms log (entry_of event played) → HasNotBegun event played.outcome played.effects.items old new
+      → IsPlayed same hash terms (entry_of event played ∷ log) new → ComesRight terms log (entry_of event played) → HasNotBegun event played.outcome played.effects.items old new
       → RunsOn same hash terms log (entry_of event played) new
 
   -- and so of one that is kept out
   abbrev pub KeepsRunAt : Event K V → Played V → (old new : Scheduler K V S) → Type 0
   KeepsRunAt event played old new =
       is_of_rows event ≡ true → (terms : Terms) (log : List (Entry K V)) → Holds same hash terms (moment log) old → Runs same hash terms log old
-      → IsPlayed same hash terms (entry_of event played ∷ log) new → IsLeftOfRows terms log (entry_of event played) → HasNotBegun event played.outcome played.effects.items old new
+      → IsPlayed same hash terms (entry_of event played ∷ log) new → ComesRight terms log (entry_of event played) → HasNotBegun event played.outcome played.effects.items old new
       → RunsOn same hash terms log (entry_of event played) new

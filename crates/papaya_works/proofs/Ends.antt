@@ -27,7 +27,7 @@ use Rattle.papaya_works.specs.Ends.{EndsFindAll}
 
 -- a place in a map
 in_map_is : (of : ℕ) (p : Place) → is_in_map of p ≡ true → p ≡ InMap of
-in_map_is of (InMap x) is = ap InMap (eqb-true x of is)
+in_map_is of (InMap x) is = ap InMap (sym (eqb-true of x is))
 in_map_is of _ is = absurd (cc is)
 
 -- of a list with something before the rest

@@ -51,7 +51,9 @@ use Rattle.papaya_histories.specs.Given.Finishes.Makings.{HasMade, OpeningFacts}
 use Rattle.papaya_histories.specs.Given.Follows.Blocks.{HasRole}
 use Rattle.papaya_histories.proofs.Given.Follows.Writes.{nothing_free, own_table}
 use Rattle.papaya_logged.proofs.MakingAsks.{told_as, told_back}
-use Rattle.papaya_works.specs.Makings.{MakingsDoTheirs}
+use Rattle.papaya_finds.proofs.Firsts.{firsts_are_all, makings_link_first}
+use Rattle.papaya_owes.proofs.Tables.MakingsOfMaps.{makings_keep_tables}
+use Rattle.papaya_works.specs.Makings.{MakingsDoTheirs, MakingsFindTheirs}
 
 module _ (map : ℕ) (known : Known) where
   -- what was told is nothing else
@@ -166,3 +168,9 @@ module _ (K V S : Type 0) (same : K → K → Bool) (hash : K → ℕ) where
   makings_do_theirs name m known s old new at shown i told leads b here noted =
       map_does b.map known s.world m.stored shown.blocks.roles i old.memory.memory new.memory.memory new.memory.changed old.roots b.machine ((leads b here).0, told) b.machine.stands
       (at.together.makings.facts i b here).point noted (leads b here).1
+
+  pub makings_find_theirs : MakingsFindTheirs K V S same hash
+  makings_find_theirs name m known s old new at shown tables openings i told leads b here noted of f f_is none_yet faultless places_are shown_then =
+      firsts_are_all K V b.map false of (effects_of (acts.Making b.map) known new.memory.changed) m (makings_do_theirs name m known s old new at shown i told leads b here noted)
+      (makings_keep_tables K V S same hash name m known s old new at shown tables i told leads b here of shown_then).0
+      (makings_link_first K V S same hash name m known s old new at shown tables openings i told leads b here of f f_is none_yet faultless places_are shown_then)

@@ -1,11 +1,15 @@
 -- What the making of a map does: it asks for blocks, makes the map's first table, and links it.
-use Rattle.std.specs.Prelude.{◌≡◌, ℕ, Bool, true, List, Some, None}
+use Rattle.std.specs.Prelude.{◌≡◌, ℕ, Bool, true, false, List, [], Option, Some, None}
 use Rattle.std.specs.List.{list_all}
 use Rattle.papaya_histories.specs.Given.Seize.declared.progress.Progress.{Progress}
 use Rattle.papaya_histories.specs.Given.Tables.declared.setting.Setting.{Setting}
+use Rattle.papaya_histories.specs.Given.Runs.Runs.{map_fault}
+use Rattle.papaya_histories.specs.Given.Schedules.Effects.{AtEachEffect, with_effects}
 use Rattle.papaya_histories.specs.Given.Schedules.Handing.{is_first_making}
-use Rattle.papaya_histories.specs.Given.Schedules.Moment.{Moment}
-use Rattle.papaya_histories.specs.Given.Effects.Effects.{effects_of}
+use Rattle.papaya_histories.specs.Given.Schedules.Lives.{EventFinds}
+use Rattle.papaya_histories.specs.Given.Schedules.Moment.{MapThere, Moment}
+use Rattle.papaya_histories.specs.Given.Schedules.Views.{map_at, tables_of}
+use Rattle.papaya_histories.specs.Given.Effects.Effects.{effects_of, known_after}
 use Rattle.papaya_histories.specs.Given.Effects.Known.{Known}
 use Rattle.papaya_histories.specs.Given.Effects.declared.acting.Acting.TheVariants as acts
 use Rattle.papaya_histories.specs.Given.Executor.IsAt.{Scene, IsAt}
@@ -13,7 +17,10 @@ use Rattle.papaya_histories.specs.Given.Executor.Making.{MakingLeads}
 use Rattle.papaya_histories.specs.Given.Executor.declared.executor.Executor.{Executor}
 use Rattle.papaya_histories.specs.Given.Finishes.Makings.{Beginning}
 use Rattle.papaya_histories.specs.Given.Follows.Shows.{Shows}
-use Rattle.papaya_histories.specs.Given.Others.Makings.{NotesCounter}
+use Rattle.papaya_histories.specs.Given.Others.Makings.{NotesCounter, making_after}
+use Rattle.papaya_owes.specs.Tables.{ShowsTables}
+use Rattle.papaya_finds.specs.Firsts.{ShowsOpenings}
+use Rattle.papaya_named.specs.Places.{first_places}
 
 module _ (K V S : Type 0) (same : K → K → Bool) (hash : K → ℕ) where
   -- The promise: a step of the making of a map does nothing else, if its counter is noted.
@@ -22,3 +29,14 @@ module _ (K V S : Type 0) (same : K → K → Bool) (hash : K → ℕ) where
       (name : ℕ → List ℕ) (m : Moment K V) (known : Known) (s : Scene K V) (old new : Executor K V S) → IsAt same hash old s → Shows same name m known s
       → (i : ℕ) (told : Progress Setting) → MakingLeads same hash i told s old new → (b : Beginning K) → s.makers i ≡ Some b → NotesCounter known b
       → list_all is_first_making (effects_of (acts.Making b.map) known new.memory.changed) ≡ true
+
+  -- So it finds what it must where the map is there without a table, and is to have the places of its capacity, if the moment after the step shows it.
+  abbrev pub MakingsFindTheirs : Type 0
+  MakingsFindTheirs =
+      (name : ℕ → List ℕ) (m : Moment K V) (known : Known) (s : Scene K V) (old new : Executor K V S) → IsAt same hash old s → Shows same name m known s → ShowsTables name m known s → ShowsOpenings s
+      → (i : ℕ) (told : Progress Setting) (leads : MakingLeads same hash i told s old new) (b : Beginning K) (here : s.makers i ≡ Some b) → NotesCounter known b → (of : Option ℕ)
+      → (f : MapThere) → map_at b.map m ≡ Some f → tables_of b.map m ≡ [] → map_fault f.mode f.capacity ≡ None → b.places ≡ first_places f.capacity
+      → (let to = leads b here in
+      let effects = effects_of (acts.Making b.map) known new.memory.changed in
+      Shows same name (with_effects None of effects m) (known_after (acts.Making b.map) new.memory.changed known) (making_after same hash s old new i b to.0 to.2.step.w2 told to.3)
+      → AtEachEffect (EventFinds (Some b.map) false) None of effects m)

@@ -82,7 +82,7 @@ module _ {T : Type 0} where
     elsewhere s e = ap (λ w. w (Slot s HEAD)) (wrote m (Slot t HEAD) v some).words ∙ write_apart (words_of m) (Slot t HEAD) v (Slot s HEAD) (off (eqb s t) e)
 
     -- it was taken, and is so still
-    written : 0 < v → 0 < words_of m (Slot t HEAD) → KeepsTaken m m2
+    pub written : 0 < v → 0 < words_of m (Slot t HEAD) → KeepsTaken m m2
     written more had s = by (eqb s t) refl
       where
         there : is_taken m2 t ≡ is_taken m t
@@ -96,7 +96,7 @@ becomes_some : (again : Bool) → 0 < word_of again
 becomes_some true = omega arith
 becomes_some false = omega arith
 
-positive : (n : ℕ) → (n ≡ 0 → ⊥) → 0 < n
+pub positive : (n : ℕ) → (n ≡ 0 → ⊥) → 0 < n
 positive zero ne = absurd (ne refl)
 positive (suc n) ne = omega arith
 
@@ -117,7 +117,7 @@ module _ {T : Type 0} {size : ℕ} (defers : T → Option ℕ) (w : World T) (go
   head_here s h is = subst (λ (x : Head). HeadIs (view defers w.memory).links (words_of w.memory (Slot s HEAD)) x) is (good.shows.entries.headed s)
 
   -- a slot that is idle was taken
-  idle_some : (s : ℕ) → OnSlot (LAST_SLOT + 1) i good.state good.extra s Idle → 0 < words_of w.memory (Slot s HEAD)
+  pub idle_some : (s : ℕ) → OnSlot (LAST_SLOT + 1) i good.state good.extra s Idle → 0 < words_of w.memory (Slot s HEAD)
   idle_some s r = (let two : words_of w.memory (Slot s HEAD) ≡ 2 = head_here s Idle (idle_head (good.state.head s) r.head) in omega (arith, two))
 
   -- a block that is pushed has a number
@@ -202,7 +202,7 @@ module _ {T : Type 0} {size : ℕ} (defers : T → Option ℕ) (w : World T) (go
 
 -- So many slots were taken still.
 module _ {T : Type 0} where
-  taken_word_of : (m : Mem T) (s : ℕ) → is_taken m s ≡ true → (head : ℕ) × (word_at m (Slot s HEAD) ≡ Some head) × (0 < head)
+  pub taken_word_of : (m : Mem T) (s : ℕ) → is_taken m s ≡ true → (head : ℕ) × (word_at m (Slot s HEAD) ≡ Some head) × (0 < head)
   taken_word_of m s is = by (word_at m (Slot s HEAD)) refl
     where
       by : (o : Option ℕ) → word_at m (Slot s HEAD) ≡ o → (head : ℕ) × (word_at m (Slot s HEAD) ≡ Some head) × (0 < head)

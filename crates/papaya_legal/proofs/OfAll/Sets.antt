@@ -50,7 +50,7 @@ use Rattle.papaya_models.proofs.Reclaims.{has_reclaimed, quiet_reclaimed}
 use Rattle.papaya_models.proofs.Turns.{events_follow}
 
 -- where nothing but what lies between rows happened, and rows alone, nothing happened
-none_of_rows : {T : Type 0} (i : ℕ) (events : List (Event T)) → AreItsRows i events → AllByRecursion IsBetween events → events ≡ []
+pub none_of_rows : {T : Type 0} (i : ℕ) (events : List (Event T)) → AreItsRows i events → AllByRecursion IsBetween events → events ≡ []
 none_of_rows i [] own between = refl
 none_of_rows i (Begin j request ∷ events) own between = absurd between.0
 none_of_rows i (Step j ∷ events) own between = absurd between.0

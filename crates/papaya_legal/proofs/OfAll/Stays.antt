@@ -44,6 +44,7 @@ use Rattle.papaya_shards.specs.ShardWords.{ShowsCounters, ShowsShards}
 use Rattle.papaya_shards.proofs.ShardKept.{none_shards, same_setting, word_kept}
 use Rattle.papaya_legal.specs.AllEvents.{scene_in}
 use Rattle.papaya_legal.specs.Carried.{ShowsCalls}
+use Rattle.papaya_legal.proofs.Finding.Others.{finding_of_none}
 use Rattle.papaya_legal.proofs.OfAll.Tells.{gone_by, it_reclaims, none_under_way}
 use Rattle.papaya_legal.proofs.Uncounted.{none_counted}
 
@@ -132,6 +133,8 @@ module _ {K V S : Type 0} (same : K → K → Bool) (hash : K → ℕ) (name : �
       effects_keep_pairs K V m calls.numbers.1 None None effects (λ n is. absurd (cc is)),
     );
     kept = reclaiming_keeps same hash name m known s calls.whole calls.kept old new i lists before after told under_way leads;
+    finding = finding_of_none K V name m known (known_after Row x known) s t (λ n j u is. none n j u is) effects leads.1.as_they_were calls.finding;
+    nexts = λ n j u is c found. absurd (none n j u is);
     counters = counters_then;
     uncounted = none_counted None None effects m calls.uncounted (none_shards None effects m);
     dues = record {

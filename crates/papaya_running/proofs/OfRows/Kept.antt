@@ -10,7 +10,7 @@ use Rattle.papaya_schedules.specs.declared.outcome.Outcome.{Outcome}
 use Rattle.papaya_schedules.specs.declared.outcome.Outcome.TheVariants.{Refused}
 use Rattle.papaya_schedules.specs.After.{mapped_on, moment}
 use Rattle.papaya_schedules.specs.Entry.{Entry}
-use Rattle.papaya_schedules.specs.InTurn.{IsKeptOut}
+use Rattle.papaya_schedules.specs.InTurn.{ComesRight, IsKeptOut}
 use Rattle.papaya_scheduler.specs.Played.{IsPlayed}
 use Rattle.papaya_scheduler.specs.Turns.{keeps_out}
 use Rattle.papaya_scheduler.specs.declared.played.Played.{Played}
@@ -19,7 +19,7 @@ use Rattle.papaya_scheduler.proofs.KeptOut.{kept_out_is}
 use Rattle.papaya_scheduler.proofs.Rights.{entry, entry_is}
 use Rattle.papaya_running.specs.Asked.{is_of_calls}
 use Rattle.papaya_running.specs.OfCalls.{RunsOn}
-use Rattle.papaya_running.specs.OfRows.{IsLeftOfRows, KeepsRun, KeepsRunAt, is_of_rows}
+use Rattle.papaya_running.specs.OfRows.{KeepsRun, KeepsRunAt, is_of_rows}
 use Rattle.papaya_running.proofs.OfRows.Quiet.{refused_still, still_keeps}
 
 -- an event that is kept out is refused
@@ -52,19 +52,19 @@ not_of_rows _ of = absurd (cc of)
 
 module _ {K V S : Type 0} (same : K → K → Bool) (hash : K → ℕ) (event : Event K V) where
   pub calls_keep : {X : Type 0} → is_of_calls event ≡ true → (old new : Scheduler K V S) (result : Result (Played V) X) → IfOk result (λ played. KeepsRun same hash event played old new)
-  calls_keep calls old new (Ok played) = λ of terms log holds run turn after left begun. absurd (let none = not_of_rows event calls in cc (of, none))
+  calls_keep calls old new (Ok played) = λ of terms log holds run turn after right begun. absurd (let none = not_of_rows event calls in cc (of, none))
   calls_keep calls old new (Err x) = tt
 
   module _ (old new : Scheduler K V S) where
     pub kept_out : (played : Played V) → IsKeptOut event played.outcome → played.effects.items ≡ [] → new ≡ record old { is_mapped = mapped_on event old.is_mapped } → KeepsRunAt same hash event played old new
-    kept_out played is none mapped of terms log holds run after left begun =
+    kept_out played is none mapped of terms log holds run after right begun =
         let out = out_refused event played.outcome of is in
-        subst (λ (x : Entry K V). IsPlayed same hash terms (x ∷ log) new → IsLeftOfRows terms log x → RunsOn same hash terms log x new)
+        subst (λ (x : Entry K V). IsPlayed same hash terms (x ∷ log) new → ComesRight terms log x → RunsOn same hash terms log x new)
         (sym (entry_is event played (Refused out.0) played.steps [] out.1 refl none))
         (λ so rest. still_keeps same hash terms log old run (entry event (Refused out.0) played.steps []) new refl (refused_still log run.stands.scene.world event of out.0 played.steps)
-        (ap (λ (p : Scheduler K V S). p.logged) mapped) (ap (λ (p : Scheduler K V S). p.calls) mapped) so rest.right) after left
+        (ap (λ (p : Scheduler K V S). p.logged) mapped) (ap (λ (p : Scheduler K V S). p.calls) mapped) so rest) after right
 
     pub kept_in_turn : {X : Type 0} (result : Result (Played V) X) → IfOk result (λ played. KeepsRun same hash event played old new) → keeps_out event old ≡ false
         → IfOk result (λ played. KeepsRunAt same hash event played old new)
-    kept_in_turn (Ok played) keeps out = λ of terms log holds run after left begun. keeps of terms log holds run (kept_out_is same hash terms (moment log) old holds.stands event ∙ out) after left begun
+    kept_in_turn (Ok played) keeps out = λ of terms log holds run after right begun. keeps of terms log holds run (kept_out_is same hash terms (moment log) old holds.stands event ∙ out) after right begun
     kept_in_turn (Err x) keeps out = tt

@@ -2,7 +2,7 @@
 use Rattle.papaya_remains.proofs.Endings.{endings_begin_remain, endings_keep_remains}
 use Rattle.papaya_remains.proofs.Makings.{makings_begin_remain, makings_keep_remains}
 use Rattle.papaya_remains.proofs.Maps.{maps_come_remain, maps_go_remain, reclaimed_remain}
-use Rattle.papaya_remains.proofs.Rests.{rests_remain}
+use Rattle.papaya_remains.proofs.Rests.{each_noted, rests_remain}
 use Rattle.papaya_remains.proofs.Stays.{begins_remain, stays_remain}
 use Rattle.papaya_remains.proofs.Steps.{calls_keep_remains, rows_begin_remain, rows_keep_remains}
 use Rattle.papaya_remains.proofs.law.what_remains_is_told.Goals as goal
@@ -22,4 +22,5 @@ returns c d = record {
   endings_begin = endings_begin_remain _ _ _;
   endings = endings_keep_remains _ _ _;
   rests = rests_remain _ _ _;
+  rests_noted = each_noted _ _ _;
 }

@@ -42,8 +42,8 @@ returns g c =
           c.traced_as-traced.ensures trace)
           (goes_so eq hash terms log _ c.happen.new.scheduler (c.in_ok-played.ensures.happens terms log first so.holds))
           (c.in_ok-played.ensures.holds terms log first so.holds)
-          (λ runs behind asked. legal_on eq hash c.is_empty.result c.args.event played c.args.scheduler.now c.happen.new.scheduler c.in_ok-played.ensures.happens terms log first so.holds runs
-          c.in_ok-played.ensures.keeps c.in_ok-played.ensures.rows c.in_ok-played.ensures.setups c.in_ok-played.ensures.all behind asked)));
+          (λ runs asked. legal_on eq hash c.is_empty.result c.args.event played c.args.scheduler.now c.happen.new.scheduler c.in_ok-played.ensures.happens terms log first so.holds runs
+          c.in_ok-played.ensures.keeps c.in_ok-played.ensures.rows c.in_ok-played.ensures.setups c.in_ok-played.ensures.all asked)));
       back =
           ok_four c.add.result _ _ _ _ _ c.add.ensures.outcomes c.add.ensures.steps c.add.ensures.effects c.add.ensures.trace
           (λ outcomes steps effects trace. λ terms events so before.

@@ -1,0 +1,143 @@
+-- Steps that are of no call leave each pair where it lies: those of rows on slots, of makings of maps, and of their ends.
+use Rattle.std.specs.Prelude.{◌≡◌, ◌/◌, ◌<◌, ℕ, Bool, true, false, List, [], ◌∷◌, Option, Some, None, if◌then◌else◌}
+use Rattle.std.proofs.Common.{refl, ap, sym, subst, ◌∙◌, inl, inr}
+use Rattle.papaya_histories.specs.Given.SeizeWords.Mem.{word_at}
+use Rattle.papaya_histories.specs.Given.SeizeWords.Word.{block_in}
+use Rattle.papaya_histories.specs.Given.SeizeWords.declared.at.At.TheVariants.{Entry, Root, Slot, Used, Word}
+use Rattle.papaya_histories.specs.Given.Seize.World.{World}
+use Rattle.papaya_histories.specs.Given.Seize.declared.progress.Progress.{Progress as Making}
+use Rattle.papaya_histories.specs.Given.Seize.declared.rows.settle.Settled.{Settled}
+use Rattle.papaya_histories.specs.Given.Tables.declared.node.Node.{Node}
+use Rattle.papaya_histories.specs.Given.Tables.declared.setting.Setting.{Setting}
+use Rattle.papaya_histories.specs.Given.Schedules.declared.effect.Effect.{Effect}
+use Rattle.papaya_histories.specs.Given.Schedules.declared.effect.Effect.TheVariants.{Asked}
+use Rattle.papaya_histories.specs.Given.Schedules.declared.effect.Growth.TheVariants.{ABlock}
+use Rattle.papaya_histories.specs.Given.Schedules.declared.effect.Table.{Table}
+use Rattle.papaya_histories.specs.Given.Schedules.Effects.{with_effects}
+use Rattle.papaya_histories.specs.Given.Schedules.Moment.{Moment}
+use Rattle.papaya_histories.specs.Given.Teller.declared.changed.Changed.{Changed}
+use Rattle.papaya_histories.specs.Given.Teller.declared.changed.Changed.TheVariants as changed
+use Rattle.papaya_histories.specs.Given.Teller.declared.changed.Kind.{Kind}
+use Rattle.papaya_histories.specs.Given.Teller.declared.changed.Kind.TheVariants as kind
+use Rattle.papaya_histories.specs.Given.Effects.Effects.{effects_of, in_block, led_to, made_by, named, names_same, pair_taken, table_taken, taken_by}
+use Rattle.papaya_histories.specs.Given.Effects.Known.{Known}
+use Rattle.papaya_histories.specs.Given.Effects.declared.acting.Acting.{Acting}
+use Rattle.papaya_histories.specs.Given.Effects.declared.acting.Acting.TheVariants as acts
+use Rattle.papaya_histories.specs.Given.Effects.declared.role.Role.{Role}
+use Rattle.papaya_histories.specs.Given.Effects.declared.role.Role.TheVariants as role
+use Rattle.papaya_histories.specs.Given.Executor.Ending.{EndingLeads}
+use Rattle.papaya_histories.specs.Given.Executor.IsAt.{IsAt, Scene, work_of}
+use Rattle.papaya_histories.specs.Given.Executor.Making.{MakingLeads}
+use Rattle.papaya_histories.specs.Given.Executor.OnSlots.{RowLeads}
+use Rattle.papaya_histories.specs.Given.Executor.declared.executor.Executor.{Executor}
+use Rattle.papaya_histories.specs.Given.Executor.declared.row.RowTold.{RowTold}
+use Rattle.papaya_histories.specs.Given.Executor.declared.row.SlotRow.{SlotRow}
+use Rattle.papaya_histories.specs.Given.Executor.declared.worker.Work.TheVariants.{OnSlot}
+use Rattle.papaya_histories.specs.Given.Finishes.Endings.{Finishing}
+use Rattle.papaya_histories.specs.Given.Finishes.Makings.{Beginning}
+use Rattle.papaya_histories.specs.Given.Follows.Shows.{Shows}
+use Rattle.papaya_histories.proofs.Given.Follows.Operations.{LeavesBy}
+use Rattle.papaya_histories.proofs.Given.Follows.Writes.{nothing_free}
+use Rattle.papaya_histories.specs.Given.Moments.Whole.{ShowsWhole}
+use Rattle.papaya_histories.proofs.Given.Moments.Ends.{says}
+use Rattle.papaya_histories.proofs.Given.Others.Makes.{left, no_table_word, tells}
+use Rattle.papaya_histories.proofs.Given.Others.MakingPlans.{TellsMaking}
+use Rattle.papaya_histories.proofs.Given.Others.RowPlans.{row_tells}
+use Rattle.papaya_histories.proofs.Given.Spots.Effects.{AllAside, aside_all, calm_aside, is_aside}
+use Rattle.papaya_histories.proofs.Given.Spots.OnSlots.{row_beside}
+
+-- a pair, and a table, that is taken away
+pair_aside : (its : Acting) (n : ℕ) → is_aside (pair_taken its n) ≡ true
+pair_aside (acts.Ending map) n = refl
+pair_aside (acts.Making map) n = refl
+pair_aside (acts.Call caller map) n = refl
+pair_aside acts.Row n = refl
+
+table_aside : (its : Acting) (t : Table) → is_aside (table_taken its t) ≡ true
+table_aside (acts.Ending map) t = refl
+table_aside (acts.Making map) t = refl
+table_aside (acts.Call caller map) t = refl
+table_aside acts.Row t = refl
+
+module _ (its : Acting) where
+  taken_aside : (r : Role) → AllAside (taken_by its r)
+  taken_aside role.Free = tt
+  taken_aside (role.OwnPair i) = (refl, tt)
+  taken_aside (role.OwnTable turn shape) = (refl, tt)
+  taken_aside (role.Pair n) = (pair_aside its n, tt)
+  taken_aside (role.Table t len) = (table_aside its t, tt)
+  taken_aside (role.Counter of) = tt
+
+  made_aside : (k : Kind) → AllAside (Asked ABlock ∷ made_by its k)
+  made_aside kind.Pair = (refl, (refl, tt))
+  made_aside (kind.Table len limit turn) = (refl, (refl, tt))
+  made_aside kind.Shards = (refl, tt)
+
+  -- a root that led nowhere leads to a table
+  led_aside : (q : Bool) (is : Role) → AllAside (if q then [] else led_to its role.Free is)
+  led_aside true is = tt
+  led_aside false role.Free = tt
+  led_aside false (role.OwnPair i) = tt
+  led_aside false (role.OwnTable turn shape) = (refl, tt)
+  led_aside false (role.Pair n) = tt
+  led_aside false (role.Table t len) = tt
+  led_aside false (role.Counter of) = tt
+
+  -- a word of a block that is no table, or that goes on naming what it named
+  word_aside : (field stored : ℕ) (r : Role) (q : Bool) (was is : Role) → ((t : Table) (len : ℕ) → r ≡ role.Table t len → q ≡ true) → AllAside (in_block its r field stored q was is)
+  word_aside field stored role.Free q was is names = tt
+  word_aside field stored (role.OwnPair i) q was is names = tt
+  word_aside field stored (role.OwnTable turn shape) q was is names = tt
+  word_aside field stored (role.Pair n) q was is names = tt
+  word_aside field stored (role.Counter of) q was is names = (refl, tt)
+  word_aside field stored (role.Table t len) true was is names = tt
+  word_aside field stored (role.Table t len) false was is names = absurd (let e = names t len refl in cc e)
+
+module _ {K V : Type 0} (map : ℕ) (known : Known) (w w2 : World (Node K V)) (i root : ℕ) (free : known.roles 0 ≡ role.Free)
+    (no_table : (x : ℕ) (q : Bool) → TellsMaking w i root (changed.Wrote (Word x 0) 0 0) → (t : Table) (len : ℕ) → known.roles x ≡ role.Table t len → q ≡ true) where
+  making_aside : (told : Changed) → TellsMaking w i root told → LeavesBy w.memory w2.memory told → AllAside (effects_of (acts.Making map) known told)
+  making_aside changed.Nothing so l = tt
+  making_aside (changed.Wrote (Root r) before after) so l =
+      subst (λ (x : Role). AllAside (if names_same before after then [] else led_to (acts.Making map) x (named known after))) (sym was_free) (led_aside (acts.Making map) (names_same before after) (named known after))
+    where
+      nothing_before : before ≡ 0
+      nothing_before = let there : word_at w.memory (Root r) ≡ Some 0 = ap (λ (x : ℕ). word_at w.memory (Root x)) so.0 ∙ so.1 in let words = l.0 in cc (there, words)
+
+      was_free : named known before ≡ role.Free
+      was_free = ap (λ (x : ℕ). known.roles (block_in x)) nothing_before ∙ free
+  making_aside (changed.Wrote (Used r) before after) so l = tt
+  making_aside (changed.Wrote (Slot t field) before after) so l = absurd so
+  making_aside (changed.Wrote (Entry x field) before after) so l = absurd so
+  making_aside (changed.Wrote (Word x field) before after) so l =
+      word_aside (acts.Making map) field known.stored (known.roles x) (names_same before after) (named known before) (named known after) (no_table x (names_same before after) so)
+  making_aside (changed.Made k x) so l = made_aside (acts.Making map) k
+  making_aside (changed.Unmade k) so l = (refl, tt)
+  making_aside (changed.Took x) so l = taken_aside (acts.Making map) (known.roles x)
+  making_aside (changed.Roomed bucket had) so l = absurd so
+
+module _ {K V S : Type 0} (same : K → K → Bool) (hash : K → ℕ) (name : ℕ → List ℕ) (m : Moment K V) (known : Known) (s : Scene K V) (old new : Executor K V S) (at : IsAt same hash old s) where
+  pub rows_leave_spots : (i : ℕ) (told : RowTold (Node K V)) (leads : RowLeads same hash i told s old new) (row : SlotRow) → work_of old i ≡ Some (OnSlot row)
+      → (with_effects None None (effects_of acts.Row known new.memory.changed) m).spot ≡ m.spot
+  rows_leave_spots i told leads row here =
+      let to = leads row here in
+      (aside_all None None (effects_of acts.Row known new.memory.changed) m
+      (row_beside m known new.memory.changed (row_tells old.memory.memory new.memory.memory new.memory.changed (to.0, told) row to.1)).0.0).spot
+
+  pub makings_leave_spots : Shows same name m known s → (i : ℕ) (told : Making Setting) (leads : MakingLeads same hash i told s old new) (b : Beginning K) → s.makers i ≡ Some b → (of : Option ℕ)
+      → (with_effects None of (effects_of (acts.Making b.map) known new.memory.changed) m).spot ≡ m.spot
+  makings_leave_spots shown i told leads b here of =
+      let to = leads b here in
+      (aside_all None of (effects_of (acts.Making b.map) known new.memory.changed) m
+      (making_aside b.map known s.world to.2.step.w2 i b.machine.setting.root (nothing_free s.world m.stored known shown.blocks.roles)
+      (λ x q made. no_table_word same hash name m known s old new at shown i b here to.0 told to.1 to.2 of x q made) new.memory.changed
+      (tells same hash name m known s old new at shown i b here to.0 told to.1 to.2 of) (left same hash name m known s old new at shown i b here to.0 told to.1 to.2 of))).spot
+
+  pub endings_leave_spots : ShowsWhole same name m known s → (i : ℕ) (told : Settled (Node K V)) (leads : EndingLeads same hash i told s old new) (f : Finishing K V) → s.enders i ≡ Some f
+      → (map : ℕ) → s.maps map ≡ None → (with_effects None (Some map) (effects_of (acts.Ending map) known new.memory.changed) m).spot ≡ m.spot
+  endings_leave_spots whole i told leads f here map not_there =
+      let to = leads f here in
+      (aside_all None (Some map) (effects_of (acts.Ending map) known new.memory.changed) m
+      (elim (says same hash name m known s old new at whole i f here to.0 told to.1 to.2 map not_there to.3) as (λ _. AllAside (effects_of (acts.Ending map) known new.memory.changed)) [
+        | inl it ↦ calm_aside (effects_of (acts.Ending map) known new.memory.changed) it.0
+        | inr it ↦ subst (λ (x : Changed). AllAside (effects_of (acts.Ending map) known x)) (sym it.1) (taken_aside (acts.Ending map) (known.roles it.0))
+      ])).spot

@@ -1,0 +1,162 @@
+-- The effects of a step of a call find what is left of what they must, by what the moment shows and what is still asked.
+use Rattle.std.specs.Prelude.{◌≡◌, ◌⊎◌, ℕ, ◌+◌, Bool, true, false, List, ◌∷◌, Option, Some, None}
+use Rattle.std.proofs.Common.{refl, ap, sym, subst, ◌∙◌, inl, inr}
+use Rattle.papaya_histories.specs.Given.Tables.declared.node.Node.{Node}
+use Rattle.papaya_histories.specs.Given.Resize.Sum.{sum_plan}
+use Rattle.papaya_histories.specs.Given.Resize.declared.new_table.NewTable.{NewTable}
+use Rattle.papaya_histories.specs.Given.Resize.declared.sum.Sum.{Sum}
+use Rattle.papaya_histories.specs.Given.Raw.Machine.{counted as of_sum}
+use Rattle.papaya_histories.specs.Given.Raw.declared.machines.call.Calling.{Calling}
+use Rattle.papaya_histories.specs.Given.Raw.declared.machines.call.Calling.TheVariants as calling
+use Rattle.papaya_histories.specs.Given.Raw.declared.machines.progress.Progress.{Progress}
+use Rattle.papaya_histories.specs.Given.Schedules.declared.call.Call.{Call}
+use Rattle.papaya_histories.specs.Given.Schedules.declared.call.Call.TheVariants as call
+use Rattle.papaya_histories.specs.Given.Schedules.declared.effect.Effect.{Effect}
+use Rattle.papaya_histories.specs.Given.Schedules.After.{moments_from}
+use Rattle.papaya_histories.specs.Given.Schedules.Effects.{with_effects}
+use Rattle.papaya_histories.specs.Given.Schedules.Entry.{Entry}
+use Rattle.papaya_histories.specs.Given.Schedules.Growing.{HasNext, MayGrow}
+use Rattle.papaya_histories.specs.Given.Schedules.Lists.{OneOf}
+use Rattle.papaya_histories.specs.Given.Schedules.Moment.{UnderWay as CallThere, Moment}
+use Rattle.papaya_histories.specs.Given.Schedules.Terms.{Terms, shards_of}
+use Rattle.papaya_histories.specs.Given.Schedules.Views.{call_of}
+use Rattle.papaya_histories.specs.Given.Points.FactsCalls.{IsCopying}
+use Rattle.papaya_histories.specs.Given.Callers.Rooms.{CallForRoom}
+use Rattle.papaya_histories.specs.Given.Callers.Together.{Counting, ForRoom, OnKey, OverAll, UnderWay}
+use Rattle.papaya_histories.specs.Given.Effects.Effects.{effects_of}
+use Rattle.papaya_histories.specs.Given.Effects.Known.{Known}
+use Rattle.papaya_histories.specs.Given.Effects.declared.acting.Acting.TheVariants as acts
+use Rattle.papaya_histories.specs.Given.Executor.IsAt.{IsAt, Scene}
+use Rattle.papaya_histories.specs.Given.Executor.Stepping.{StepLeads}
+use Rattle.papaya_histories.specs.Given.Executor.declared.executor.Executor.{Executor}
+use Rattle.papaya_histories.specs.Given.Finishes.Machines.{machine_of}
+use Rattle.papaya_histories.specs.Given.Follows.Calls.{IsCalled}
+use Rattle.papaya_histories.proofs.Given.Follows.Steps.{one_of}
+use Rattle.papaya_histories.specs.Given.Moments.Whole.{ShowsWhole}
+use Rattle.papaya_histories.proofs.Given.Others.Outcomes.{told_in}
+use Rattle.papaya_owes.specs.Tables.{ShowsTables}
+use Rattle.papaya_owes.proofs.Walks.{sum_at}
+use Rattle.papaya_settles.specs.Due.{OwnAreMade}
+use Rattle.papaya_kept.proofs.Calls.{own_made}
+use Rattle.papaya_finds.specs.Growing.{FindAsked}
+use Rattle.papaya_finds.specs.Linking.{FindShapes}
+use Rattle.papaya_finds.specs.Nexts.{MakesByCopier, making_of_copier}
+use Rattle.papaya_finds.proofs.CopiersAsk.{copiers_may_ask}
+use Rattle.papaya_finds.proofs.Grows.Asked.{Asks, made_of, may_ask}
+use Rattle.papaya_finds.proofs.Grows.Steps.{key_calls_may_ask}
+use Rattle.papaya_finds.proofs.Linking.{key_calls_link}
+use Rattle.papaya_finds.proofs.Rest.{rest_is_all}
+use Rattle.papaya_finds.proofs.Waits.Handed.{calls_hand_past, past_is_handed}
+use Rattle.papaya_finds.proofs.Waits.Next.{calls_put_behind}
+use Rattle.papaya_purposes.specs.Purposes.{ShowsPurposes}
+use Rattle.papaya_legal.specs.Finding.{ShowsFinding}
+use Rattle.papaya_legal.specs.Rests.{StepsFindRest, is_reservation}
+use Rattle.papaya_legal.proofs.Finding.Links.{copier_links, none_links}
+use Rattle.papaya_legal.proofs.Finding.Rooms.{room_links}
+
+-- whether a call on one key copies pairs
+copies_or : (q : Calling) → IsCopying q ⊎ (IsCopying q → ⊥)
+copies_or (calling.Helps copier goal) = inl tt
+copies_or (calling.Copies copier) = inl tt
+copies_or _ = inr (λ copies. copies)
+
+module _ {K V S : Type 0} (same : K → K → Bool) (hash : K → ℕ) (name : ℕ → List ℕ) (m : Moment K V) (known : Known) (s : Scene K V) (old new : Executor K V S) (at : IsAt same hash old s)
+    (whole : ShowsWhole same name m known s) (finding : ShowsFinding name m known s) (map i : ℕ) (said : Progress (Node K V)) (leads : StepLeads same hash i said s old new)
+    (terms : Terms) (moments : List (Moment K V)) (c : CallThere K V) (c_is : call_of (name i) m ≡ Some c) where
+  abbrev Asked : Type 0
+  Asked = FindAsked terms moments (name i) map (effects_of (acts.Call i map) known new.memory.changed) m
+
+  module _ (u : UnderWay K V K) (here : s.calls map i ≡ Some u) where
+    its_call : (c.map ≡ map) × IsCalled same u c.call
+    its_call =
+        let there = whole.all.shown.calls map i u here in
+        let one = one_of there.0 c (sym there.1 ∙ c_is) in
+        (ap (λ (x : CallThere K V). x.map) (sym one) ∙ there.2, subst (λ (x : CallThere K V). IsCalled same u x.call) one there.3)
+
+    copier_asks : ((n : NewTable) → making_of_copier (machine_of u) ≡ Some n → OneOf (HasNext map) (m ∷ moments)) → MakesByCopier u → Asked
+    copier_asks nexts copies = copiers_may_ask K V S same hash name m known s old new at whole map i u here said leads copies terms moments nexts
+
+  -- a counting asks for none
+  module _ (sum : Sum) (here : s.calls map i ≡ Some (Counting sum)) where
+    none_asked : Asks new.memory.changed → MayGrow terms c.call c (m ∷ moments)
+    none_asked asks =
+        let it = told_in old.memory.memory new.memory.memory new.memory.changed of_sum (sum_plan sum) ((leads map (Counting sum) here).1, said) (leads map (Counting sum) here).3 in
+        let n = made_of None old.memory.memory new.memory.memory new.memory.changed (sum_plan sum) it.0 it.2 (sum_at K V None sum sum.stands) asks in absurd (let some = n.1 in cc some)
+
+    sum_asks : Asked
+    sum_asks = may_ask same hash name m known s old new at whole map i (Counting sum) here said leads terms moments c c_is none_asked
+
+  -- a reservation is not settled
+  room_none : (r : CallForRoom) (its : Call K V) → IsCalled same (ForRoom r) its → is_reservation its ≡ false → ⊥
+  room_none r (call.Reserve more) called none = cc none
+  room_none r (call.On one) called none = called
+  room_none r call.Len called none = called
+  room_none r call.Clear called none = called
+  room_none r call.Retain called none = called
+  room_none r call.Walk called none = called
+
+  abbrev Nexts : UnderWay K V K → Type 0
+  Nexts u = (n : NewTable) → making_of_copier (machine_of u) ≡ Some n → OneOf (HasNext map) (m ∷ moments)
+
+  module _ (settled : is_reservation c.call ≡ false) where
+    settled_asks : (u : UnderWay K V K) (here : s.calls map i ≡ Some u) → Nexts u → Asked
+    settled_asks (OnKey x) is nexts = elim (copies_or x.call.stands) as (λ _. Asked) [
+      | inl copies ↦ copier_asks (OnKey x) is nexts copies
+      | inr other ↦ key_calls_may_ask K V S same hash name m known s old new at whole finding.growing map i x is said leads other terms moments
+    ]
+    settled_asks (OverAll o) is nexts = copier_asks (OverAll o) is nexts tt
+    settled_asks (Counting sum) is nexts = sum_asks sum is
+    settled_asks (ForRoom r) is nexts = absurd (room_none r c.call (its_call (ForRoom r) is).1 settled)
+
+-- which table it links
+module _ {K V S : Type 0} (same : K → K → Bool) (hash : K → ℕ) (name : ℕ → List ℕ) (log : List (Entry K V)) (m : Moment K V) (known : Known) (s : Scene K V) (old new : Executor K V S) (at : IsAt same hash old s)
+    (whole : ShowsWhole same name m known s) (tables : ShowsTables name m known s) (finding : ShowsFinding name m known s) (purposes : ShowsPurposes same name log m known s) (map i : ℕ) (said : Progress (Node K V))
+    (leads : StepLeads same hash i said s old new) (terms : Terms) (c : CallThere K V) (c_is : call_of (name i) m ≡ Some c) where
+  abbrev since : List (Moment K V)
+  since = moments_from c.begun log
+
+  abbrev Linked : Type 0
+  Linked = FindShapes terms since (name i) map (effects_of (acts.Call i map) known new.memory.changed) m
+
+  abbrev NextsOf : UnderWay K V K → Type 0
+  NextsOf u = (n : NewTable) → making_of_copier (machine_of u) ≡ Some n → OneOf (HasNext map) (m ∷ since)
+
+  copier_linked : (u : UnderWay K V K) (here : s.calls map i ≡ Some u) → NextsOf u → MakesByCopier u → Linked
+  copier_linked u here nexts copies =
+      copier_links same hash name m known s old new at whole tables map i u here said leads terms since finding.further copies (finding.capacities map (leads map u here).0 (leads map u here).2) nexts
+
+  call_links : (u : UnderWay K V K) (here : s.calls map i ≡ Some u) → (leads map u here).0.setting.mask + 1 ≡ shards_of terms → NextsOf u → Linked
+  call_links (OnKey x) is mask_is nexts = elim (copies_or x.call.stands) as (λ _. Linked) [
+    | inl copies ↦ copier_linked (OnKey x) is nexts copies
+    | inr other ↦
+        key_calls_link K V S same hash name m known s old new at whole tables finding.growing map i x is said leads other (finding.capacities map (leads map (OnKey x) is).0 (leads map (OnKey x) is).2) terms
+        since
+  ]
+  call_links (OverAll o) is mask_is nexts = copier_linked (OverAll o) is nexts tt
+  call_links (Counting sum) is mask_is nexts = none_links same hash name m known s old new at whole tables map i (Counting sum) is said leads terms since refl
+  call_links (ForRoom r) is mask_is nexts =
+      room_links same hash name log m known s old new at whole purposes map i r is said leads terms c c_is mask_is tables finding.further
+      (finding.capacities map (leads map (ForRoom r) is).0 (leads map (ForRoom r) is).2) nexts
+
+pub steps_find_rest : (K V S : Type 0) (same : K → K → Bool) (hash : K → ℕ) → StepsFindRest K V S same hash
+steps_find_rest K V S same hash name log m known s old new at whole kept finding purposes map i u here said leads terms c c_is mask_is nexts still =
+    rest_is_all K V terms moments (name i) map effects m asked
+    (call_links same hash name log m known s old new at whole kept.tables finding purposes map i said leads terms c c_is u here mask_is nexts)
+    (past_is_handed K V (name i) map effects m (calls_hand_past K V S same hash name m known s old new at whole kept.entries owning kept.owed finding.waits map i u here said leads)
+    (calls_put_behind K V S same hash name m known s old new at whole kept.entries owning kept.owed finding.waits finding.puts map i u here said leads) still.space)
+  where
+    moments : List (Moment K V)
+    moments = moments_from c.begun log
+
+    effects : List Effect
+    effects = effects_of (acts.Call i map) known new.memory.changed
+
+    owning : OwnAreMade known s.world
+    owning = own_made K V S same hash name m known s old at whole kept
+
+    asked : FindAsked terms moments (name i) map effects m
+    asked = by (is_reservation c.call) refl
+      where
+        by : (q : Bool) → is_reservation c.call ≡ q → FindAsked terms moments (name i) map effects m
+        by true is = still.asks is
+        by false is = settled_asks same hash name m known s old new at whole finding map i said leads terms moments c c_is is u here nexts

@@ -1,0 +1,3 @@
+pub mod Sources
+pub mod Stays
+pub mod Steps

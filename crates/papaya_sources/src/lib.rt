@@ -1,0 +1,1 @@
+//! Where pairs were copied from, and that a table has room for those that wait behind it.

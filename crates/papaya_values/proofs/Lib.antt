@@ -1,0 +1,3 @@
+pub mod KeyEnds
+pub mod Inserts
+pub mod Values

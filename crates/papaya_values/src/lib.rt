@@ -1,0 +1,4 @@
+//! The values that callers keep, to tell them back.
+#![tactic(auto)]
+
+pub mod law;
