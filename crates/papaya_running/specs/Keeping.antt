@@ -14,7 +14,7 @@ module _ {K V : Type 0} where
   IsNotRefused (MakeMap name mode capacity) (Refused fault) = ⊥
   IsNotRefused event outcome = Unit {0}
 
-  -- What is still asked of an event, by name: where it waits, or is refused for the length of a table, it does so in its case; and a making is not refused.
+  -- What is still asked of an event, by name: where it is refused for the length of a table, it is so in its case; and a making is not refused.
   pub record IsAskedOf (terms : Terms) (log : List (Entry K V)) (e : Entry K V) : Type 0 where
     pub right : FindsRight terms log e
     pub made : IsNotRefused e.event e.outcome
