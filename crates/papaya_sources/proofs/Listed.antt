@@ -1,7 +1,7 @@
 -- The list of what waits behind a table: who stands in it waits there, and no more often than in all.
-use Rattle.std.specs.Prelude.{◌≡◌, ℕ, zero, suc, ◌+◌, ◌≤◌, ◌==◌, Bool, true, false, cond, List, [], ◌∷◌, length, filter, map, find, Option, Some, if◌then◌else◌}
+use Rattle.std.specs.Prelude.{◌≡◌, ℕ, zero, suc, ◌+◌, ◌≤◌, ◌==◌, Bool, true, false, cond, List, [], ◌∷◌, length, filter, map, find, Some, if◌then◌else◌}
 use Rattle.std.specs.List.{AllByRecursion}
-use Rattle.std.proofs.Common.{refl, ap, sym, subst, ◌∙◌, arith, length-append, inl, inr}
+use Rattle.std.proofs.Common.{refl, ap, sym, ◌∙◌, arith, length-append, inl, inr}
 use Rattle.std.proofs.lemmas.Bool.{cases_eq, ne_eqb}
 use Rattle.papaya_histories.specs.Given.Runs.LifeCycle.{times}
 use Rattle.papaya_histories.specs.Given.Schedules.declared.effect.Table.{Table}

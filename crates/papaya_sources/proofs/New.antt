@@ -1,6 +1,6 @@
 -- The pair that a step of a call stores which is none of a row: one at most, in the call's map, and it lies in the table in which it was stored.
 use Rattle.std.specs.Prelude.{◌≡◌, ℕ, ◌+◌, ◌<◌, ◌≤◌, Bool, true, List, [], ◌∷◌, length, Option, Some, None}
-use Rattle.std.proofs.Common.{refl, ap, sym, subst, ◌∙◌, arith, inl, inr}
+use Rattle.std.proofs.Common.{refl, ap, sym, ◌∙◌, arith, inl, inr}
 use Rattle.papaya_histories.specs.Given.SeizeWords.Mem.{Mem}
 use Rattle.papaya_histories.specs.Given.Seize.World.{World}
 use Rattle.papaya_histories.specs.Given.Tables.Chunks.{is_incremental}
@@ -17,7 +17,7 @@ use Rattle.papaya_histories.specs.Given.Teller.declared.changed.Changed.{Changed
 use Rattle.papaya_histories.specs.Given.Rule.Chart.{Chart}
 use Rattle.papaya_histories.specs.Given.Rule.InWorld.{IsMapIn, Moved, Went}
 use Rattle.papaya_histories.specs.Given.Rule.Maps.{spot_of}
-use Rattle.papaya_histories.specs.Given.Rule.Moves.{Move, Links, Stores, Replaces, Removes, Marks, MarksBlocking, Skips, Unmarks, Puts, Covers, PutsLate, Claims, Reclaims, Counts, GivesUp, Aborts, Promotes, Announces, Allowed, after}
+use Rattle.papaya_histories.specs.Given.Rule.Moves.{Move, Links, Stores, Replaces, Removes, Marks, MarksBlocking, Skips, Unmarks, Puts, Covers, PutsLate, Claims, Reclaims, Counts, GivesUp, Aborts, Promotes, Announces, after}
 use Rattle.papaya_histories.specs.Given.Rule.Words.{Blocks}
 use Rattle.papaya_histories.specs.Given.Points.Steps.{AreLawful}
 use Rattle.papaya_histories.specs.Given.Callers.Sights.{Sight, seen_by, IsGrown, IsSight}

@@ -1,5 +1,5 @@
 -- Where pairs of the map were copied from on which a call takes a step that is none of a row: where they were before, and one that is copied by the step, from its place in the root.
-use Rattle.std.specs.Prelude.{◌≡◌, ◌≢◌, ℕ, ◌+◌, ◌<◌, ◌≤◌, nat_lt, Bool, true, false, List, [], ◌∷◌, length, Option, Some, if◌then◌else◌}
+use Rattle.std.specs.Prelude.{◌≡◌, ◌≢◌, ℕ, ◌+◌, ◌<◌, ◌≤◌, nat_lt, Bool, true, false, List, [], ◌∷◌, Option, Some, if◌then◌else◌}
 use Rattle.std.proofs.Common.{refl, ap, sym, subst, ◌∙◌, arith, inl, inr}
 use Rattle.std.proofs.lemmas.Bool.{cases_eq, cases_lt}
 use Rattle.papaya_histories.specs.Given.SeizeWords.Mem.{Mem}
@@ -14,7 +14,7 @@ use Rattle.papaya_histories.specs.Given.Schedules.Effects.{later, is_chunked, sp
 use Rattle.papaya_histories.specs.Given.Schedules.Lists.{put}
 use Rattle.papaya_histories.specs.Given.Schedules.Moment.{Moment}
 use Rattle.papaya_histories.specs.Given.Teller.declared.changed.Changed.{Changed}
-use Rattle.papaya_histories.specs.Given.Rule.Chart.{Phase, Still, Copying, Copied, Holds, Chart, is_settled}
+use Rattle.papaya_histories.specs.Given.Rule.Chart.{Phase, Copying, Holds, Chart, is_settled}
 use Rattle.papaya_histories.specs.Given.Rule.InWorld.{IsMapIn, Moved, Went}
 use Rattle.papaya_histories.specs.Given.Rule.Lasts.{Lasts}
 use Rattle.papaya_histories.specs.Given.Rule.Maps.{spot_of}
@@ -26,7 +26,7 @@ use Rattle.papaya_histories.proofs.Given.Rule.Moves.Writes.{put_in_elsewhere}
 use Rattle.papaya_histories.specs.Given.Points.Steps.{AreLawful}
 use Rattle.papaya_histories.specs.Given.Callers.Sights.{Sight, seen_by, IsGrown, IsSight}
 use Rattle.papaya_histories.specs.Given.Callers.Together.{in_slot}
-use Rattle.papaya_histories.specs.Given.Effects.Effects.{effects_of, known_after}
+use Rattle.papaya_histories.specs.Given.Effects.Effects.{effects_of}
 use Rattle.papaya_histories.specs.Given.Effects.Known.{Known}
 use Rattle.papaya_histories.specs.Given.Effects.declared.acting.Acting.TheVariants.{Call}
 use Rattle.papaya_histories.specs.Given.Finishes.Maps.{Standing}
@@ -35,11 +35,11 @@ use Rattle.papaya_histories.specs.Given.Follows.Maps.{table_of, ShowsMap}
 use Rattle.papaya_histories.proofs.Given.Follows.Alike.{put_elsewhere}
 use Rattle.papaya_histories.proofs.Given.Follows.Finds.{chunks_are}
 use Rattle.papaya_histories.proofs.Given.Follows.Operations.{LeavesBy}
-use Rattle.papaya_histories.specs.Given.Spots.Spots.{spot_in, LiesAt, ShowsSpots}
+use Rattle.papaya_histories.specs.Given.Spots.Spots.{spot_in, LiesAt}
 use Rattle.papaya_histories.proofs.Given.Spots.Done.{DidBy, DidMoved}
 use Rattle.papaya_histories.proofs.Given.Spots.Effects.{AllAside, AreAside, aside_all, calm_aside, spot_copied, spot_copied_other}
 use Rattle.papaya_histories.proofs.Given.Spots.Names.{holds_is}
-use Rattle.papaya_sources.specs.Sources.{IsSource, HasSource, CameFromPlaces}
+use Rattle.papaya_sources.specs.Sources.{HasSource, CameFromPlaces}
 use Rattle.papaya_sources.proofs.Moves.{Moving, NamedBehind, stays}
 
 -- a later spot is no earlier than either

@@ -1,5 +1,5 @@
 -- What a step of a call puts behind a table finds room there.
-use Rattle.std.specs.Prelude.{◌≡◌, ℕ, suc, ◌+◌, ◌<◌, ◌≤◌, ◌==◌, ◌||◌, ◌-◌, nat_le, Bool, true, false, List, [], ◌∷◌, length, filter, sum_by, Some, if◌then◌else◌}
+use Rattle.std.specs.Prelude.{◌≡◌, ℕ, suc, ◌<◌, ◌≤◌, ◌==◌, ◌-◌, nat_le, Bool, true, false, List, [], ◌∷◌, length, filter, sum_by, Some}
 use Rattle.std.specs.List.{AllByRecursion, list_any}
 use Rattle.std.proofs.Common.{refl, ap, sym, subst, ◌∙◌, arith, inl, inr}
 use Rattle.std.proofs.lemmas.Bool.{cases_eq, eq-eqb, ne_eqb}
@@ -16,10 +16,9 @@ use Rattle.papaya_histories.specs.Given.Schedules.declared.effect.Table.{Table}
 use Rattle.papaya_histories.specs.Given.Schedules.declared.effect.Thing.{Thing}
 use Rattle.papaya_histories.specs.Given.Schedules.declared.effect.Thing.TheVariants.{APair, ATable}
 use Rattle.papaya_histories.specs.Given.Schedules.Effects.{call_by, with_effect}
-use Rattle.papaya_histories.specs.Given.Schedules.Entry.{ByCall, acting}
-use Rattle.papaya_histories.specs.Given.Schedules.Moment.{UnderWay as CallThere, Stage, TableThere, Moment}
+use Rattle.papaya_histories.specs.Given.Schedules.Entry.{ByCall}
+use Rattle.papaya_histories.specs.Given.Schedules.Moment.{UnderWay as CallThere, TableThere, Moment}
 use Rattle.papaya_histories.specs.Given.Schedules.Views.{call_of, grows_in_chunks, map_at, behind, tables_of}
-use Rattle.papaya_histories.specs.Given.Rule.Chart.{Chart}
 use Rattle.papaya_histories.specs.Given.Callers.Together.{UnderWay}
 use Rattle.papaya_histories.specs.Given.Effects.Effects.{carried, effects_of}
 use Rattle.papaya_histories.specs.Given.Effects.Known.{Known}
@@ -38,7 +37,7 @@ use Rattle.papaya_histories.proofs.Given.Follows.Steps.{WentTo, went_to}
 use Rattle.papaya_histories.proofs.Given.Others.Leads.{same_parts}
 use Rattle.papaya_histories.specs.Given.Moments.Whole.{ShowsWhole}
 use Rattle.papaya_owes.proofs.Fields.{its_effect}
-use Rattle.papaya_settles.specs.Due.{Due, ToPut, ToRetire, due_in_row, told_retired, RowTells, TellsNone, TellsRetired, TellsDeferred, OwnAreMade}
+use Rattle.papaya_settles.specs.Due.{ToPut, due_in_row, told_retired, RowTells, TellsNone, TellsRetired, TellsDeferred, OwnAreMade}
 use Rattle.papaya_settles.specs.Entries.{ShowsEntries}
 use Rattle.papaya_settles.specs.Hand.{thing_as, ShowsOwed}
 use Rattle.papaya_settles.specs.Owing.{hands_over}
