@@ -51,7 +51,7 @@ all_in_order_at_first K V = record {
 
 module _ {K V : Type 0} where
   -- effects of a call are on its map still
-  acts_still : (caller : Option (List ℕ)) (acted : Option ℕ) (m : Moment K V) (f : Effect) → ActsOn caller acted m → ActsOn caller acted (with_effect caller acted f m)
+  pub acts_still : (caller : Option (List ℕ)) (acted : Option ℕ) (m : Moment K V) (f : Effect) → ActsOn caller acted m → ActsOn caller acted (with_effect caller acted f m)
   acts_still None acted m f on own c caller_is c_is = absurd (cc caller_is)
   acts_still (Some who) acted m f on own c caller_is c_is =
       let one : who ≡ own = cc caller_is in

@@ -87,7 +87,7 @@ module _ {K V : Type 0} (terms : Terms) (everything : Bool) (moments : List (Mom
       let parts = same_parts it.0.table t (and_parts (same_table it.0.table t) (test it.0.stage) it.1).0 in
       subst (λ (q : ℕ). t.turn < many q) parts.0 (subst (λ (q : ℕ). q < many it.0.table.map) parts.1 it.2)
 
-  place_below : (test : Stage → Bool) (of : ℕ) (s : Spot) → is_place test of s m ≡ true → s.turn < many of
+  pub place_below : (test : Stage → Bool) (of : ℕ) (s : Spot) → is_place test of s m ≡ true → s.turn < many of
   place_below test of s any =
       let t : Table = record { map = of; turn = s.turn } in
       let it = one_of_them (λ u. same_table u.table t && test u.stage && nat_lt s.place u.shape.len) (λ u. u.table.turn < many u.table.map) m.tables any h.within.tables in

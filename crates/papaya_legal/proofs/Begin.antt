@@ -14,6 +14,7 @@ use Rattle.papaya_models.specs.Numbers.{HasNumber}
 use Rattle.papaya_models.proofs.Alike.Changed.{start_alike}
 use Rattle.papaya_models.proofs.Turns.{turns_begin}
 use Rattle.papaya_finds.proofs.Runs.{all_in_order_at_first}
+use Rattle.papaya_purposes.proofs.Tableless.{tableless_at_first}
 use Rattle.papaya_legal.specs.Carried.{RunsBegin, RunsBeginIn}
 
 pub runs_begin_in : (K V : Type 0) → RunsBeginIn K V
@@ -60,6 +61,7 @@ runs_begin_in K V same terms name known w whole kept came = record {
   sections = (λ own g is. no_guard g is, tt);
   follows = λ alone. inl (record { before = []; came = came; alike = start_alike (HasNumber known []) });
   order = (all_in_order_at_first K V, tt);
+  tableless = tableless_at_first K V;
   over = λ closed. absurd (cc closed);
   left = λ n. refl;
 }

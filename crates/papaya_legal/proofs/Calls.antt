@@ -72,7 +72,7 @@ module _ {K V : Type 0} (own : List ℕ) (m : Moment K V) (known : Known) (w : W
   begins_protected _ is = absurd (cc is)
 
 pub call_events_begin_so : (K V S : Type 0) (same : K → K → Bool) (hash : K → ℕ) → CallEventsBegin K V S same hash
-call_events_begin_so K V S same hash name terms log beginning begins maps tables shards known s x at all reading sections follows event map i caller_is u here c c_is only = record {
+call_events_begin_so K V S same hash name terms log beginning begins maps tables shards tableless known s x at all reading sections follows event map i caller_is u here c c_is only = record {
   of_call = caller_is;
   event_so = events_begin K V S same hash name log beginning begins known s x at all.whole all.dues all.as_called map i u here c c_is;
   calls = all;
@@ -86,7 +86,7 @@ call_events_begin_so K V S same hash name terms log beginning begins maps tables
         subst (λ (steps : ℕ). HasLooked (is_incremental standing.setting.mode) n standing.chart (moments_from d.begun log) (d.steps + steps) v) (none_made (j == i))
         (reading.reads n j v is d found looks_for standing there);
   };
-  unadded = λ adds. events_begin_uncounted K V log beginning map shards;
+  unadded = λ adds. events_begin_uncounted K V log beginning map shards tables tableless;
   its_own = own_alike same map beginning (moment log) begins.0 begins.1
       (each_is_its_own same hash name beginning known s x at all.whole map (stands same hash s x at map i u here).0 (stands same hash s x at map i u here).1);
   quiet = λ looks_for. (maps, tables);

@@ -28,6 +28,7 @@ use Rattle.papaya_finds.specs.Life.{StoresOne}
 use Rattle.papaya_finds.proofs.Quiet.{several_store_one}
 use Rattle.papaya_finds.proofs.Steps.{steps_store_one}
 use Rattle.papaya_promises.specs.Reading.{LookupsStay}
+use Rattle.papaya_purposes.proofs.Tableless.{events_keep_tableless}
 use Rattle.papaya_legal.specs.CallEvents.{CallEventsEnd}
 use Rattle.papaya_histories.specs.Given.Schedules.declared.outcome.Outcome.{Outcome}
 use Rattle.papaya_histories.specs.Given.Moments.Numbers.{NumbersMaps, PairsAreBelow}
@@ -103,6 +104,7 @@ call_events_end_so K V S same hash name terms log beginning map i c first before
   sections = sections;
   follows = follows;
   order = events_keep_order K V terms log e goes run.order;
+  tableless = events_keep_tableless K V terms log e goes run.order run.tableless;
   over = over_stays_back K V terms log e goes reclaims run.over;
   left = events_tell_left K V terms log e goes reclaims run.order.0 run.left;
 }

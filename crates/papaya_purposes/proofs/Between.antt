@@ -57,7 +57,7 @@ use Rattle.papaya_purposes.proofs.Needs.{needs_wider, reserves_wider}
 use Rattle.papaya_purposes.proofs.Present.{begins_within}
 use Rattle.papaya_purposes.proofs.Shown.{IsStill, same_still, comes_still}
 use Rattle.papaya_purposes.proofs.Still.{come_still, for_still}
-use Rattle.papaya_purposes.proofs.Sums.{added_wider}
+use Rattle.papaya_purposes.proofs.Sums.{added_wider, counts_wider}
 use Rattle.papaya_purposes.proofs.Within.{pairs_within_moments}
 
 pub purposes_begin : (K V : Type 0) → PurposesBegin K V
@@ -86,7 +86,7 @@ module _ {K V : Type 0} (same : K → K → Bool) (log : List (Entry K V)) (e : 
     where
       point : (stands : Reserving) → RoomAt of (moments_from c.begun log) h.low stands → RoomAt of (moments_from c.begun (e ∷ log)) h.low stands
       point reserving.Reads is = is
-      point (reserving.Makes making) is = is
+      point (reserving.Makes making) is = (is.0, λ n. counts_wider of (moments_from c.begun log) (moments_from c.begun (e ∷ log)) wider n 0 (is.1 n))
       point (reserving.Sums table sum) is = (is.0, added_wider of (moments_from c.begun log) (moments_from c.begun (e ∷ log)) wider sum.setting.mask sum.stands is.1)
       point (reserving.Follows table need) is = is
       point (reserving.Grows table making) is = is

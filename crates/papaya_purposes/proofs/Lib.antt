@@ -1,7 +1,7 @@
 mod Lists
 mod Within
 mod Present
-mod Sums
+pub mod Sums
 pub mod Shown
 mod Alike
 mod KeysOn
@@ -18,6 +18,7 @@ mod Copiers
 mod RoomPoints
 pub mod RoomFacts
 pub mod Needs
+pub mod Tableless
 mod RoomSteps
 mod For
 mod Counts

@@ -1,5 +1,5 @@
 -- A step of a reservation that is under way, in the words of a run.
-use Rattle.std.specs.Prelude.{◌≡◌, ℕ, suc, ◌+◌, ◌^◌, ◌<◌, ◌≤◌, nat_lt, Bool, false, List, length, Option, Some, None, Result, Ok, Err}
+use Rattle.std.specs.Prelude.{◌≡◌, ℕ, zero, suc, ◌+◌, ◌^◌, ◌<◌, ◌≤◌, nat_lt, Bool, false, List, length, Option, Some, None, Result, Ok, Err}
 use Rattle.std.proofs.Common.{refl, ap, sym, subst, ◌∙◌, arith}
 use Rattle.papaya_histories.specs.Given.SeizeWords.Mem.{Mem, Took, value_at, word_at}
 use Rattle.papaya_histories.specs.Given.SeizeWords.Plan.{Steps}
@@ -26,7 +26,7 @@ use Rattle.papaya_histories.specs.Given.Raw.declared.machines.progress.Answer.Th
 use Rattle.papaya_histories.specs.Given.Raw.declared.machines.progress.Progress.{Progress}
 use Rattle.papaya_histories.specs.Given.Raw.declared.machines.progress.Progress.TheVariants as progress
 use Rattle.papaya_histories.specs.Given.Schedules.After.{moment, moments_from}
-use Rattle.papaya_histories.specs.Given.Schedules.Counts.{Counts}
+use Rattle.papaya_histories.specs.Given.Schedules.Counts.{AddsUp, Counts}
 use Rattle.papaya_histories.specs.Given.Schedules.Entry.{Entry}
 use Rattle.papaya_histories.specs.Given.Schedules.Lists.{OneOf}
 use Rattle.papaya_histories.specs.Given.Schedules.Moment.{UnderWay as CallThere, Moment}
@@ -107,7 +107,7 @@ module _ {K V S : Type 0} (same : K → K → Bool) (hash : K → ℕ) (log : Li
     pub reads : (shard : ℕ) → shard ≤ sum.setting.mask → word_at mem (Word sum.setting.counter shard) ≡ Some ((moment log).shards of shard)
     reads shard l =
         ap (λ (x : Setting). word_at mem (Word x.counter shard)) known.0.0
-        ∙ (shards tt).0 of st there shard (subst (λ (x : Setting). shard ≤ x.mask) known.0.0 l) ∙ ap Some ((shards tt).1 shard)
+        ∙ (shards tt).0 of st there shard (subst (λ (x : Setting). shard ≤ x.mask) known.0.0 l) ∙ ap Some ((shards tt).1.0 shard)
 
     -- what it comes to where that is enough
     pub ends : has.low ≤ table.turn → (count : ℕ) → Counts (suc sum.setting.mask) of moments count → nat_lt (2 ^ 48) (needed p.additional count) ≡ false
@@ -139,6 +139,16 @@ module _ {K V S : Type 0} (same : K → K → Bool) (hash : K → ℕ) (log : Li
       (subst (λ (x : Mem (Node K V)). Steps Took value_at x (sum_plan sum) new.memory.memory (sum2, counting.Done count)) (sym at.memory)
       (as_step old.memory.memory Nothing (sum_plan sum) new.memory.memory new.memory.changed (sum2, counting.Done count) step)))
 
+  -- where the map has had no table it has counted nothing, as the last event was over
+  counted_none : st.chart.past ≡ 0 → (n : ℕ) → Counts n of moments 0
+  counted_none past n = (0, adds_none n, refl)
+    where
+      adds_none : (n : ℕ) → AddsUp of moments n 0
+      adds_none zero = refl
+      adds_none (suc shard) =
+          last (λ x. (rest : ℕ) × AddsUp of moments shard rest × (0 ≡ rest + x.shards of shard))
+          (0, adds_none shard, (let none = (shards tt).2 st there past shard in omega (arith, none)))
+
   abbrev Step : Reserving → Reserve × Outcome (Node K V) Unit → Type 0
   Step x end = Steps Took value_at mem (plan_at hash p x) new.memory.memory end
 
@@ -155,7 +165,8 @@ module _ {K V S : Type 0} (same : K → K → Bool) (hash : K → ℕ) (log : Li
     where
       by : (x : Reserving) → p.stands ≡ x → RoomAt of moments has.low x → Step x end → Led of moments has.low EndsSo end
       by reserving.Reads is h step =
-          reads_lead of moments has.low EndsSo same hash st.setting s.world st.chart st.blocks its_map has.root (moment log) last p (ap (λ (x : Setting). x.root) setting_is) new.memory.memory end step
+          reads_lead of moments has.low EndsSo same hash st.setting s.world st.chart st.blocks its_map has.root (moment log) last p (ap (λ (x : Setting). x.root) setting_is)
+          counted_none new.memory.memory end step
       by (reserving.Makes making) is h step = makes_lead of moments has.low EndsSo hash p making h mem new.memory.memory end step
       by (reserving.Sums table sum) is h step =
           sums_lead of moments has.low EndsSo same hash st.setting s.world st.chart st.blocks its_map has.root (moment log) last p (ap (λ (x : Setting). x.root) setting_is) table sum h.0

@@ -72,10 +72,10 @@ module _ {K V : Type 0} where
     pub none : o.sweep.purpose ≡ Walks → IsBefore o.sweep.stands → o.done ≡ []
     pub keys : o.sweep.purpose ≡ Walks → KeysOf same s o
 
-  -- The table to which a reservation has come is not before this one. Where it counts, it has added up shards.
+  -- The table to which a reservation has come is not before this one. Where it has come to none, the map has counted nothing at one of these moments; and where it counts, it has added up shards.
   abbrev pub RoomAt : ℕ → List (Moment K V) → ℕ → Reserving → Type 0
   RoomAt of moments low reserving.Reads = Unit {0}
-  RoomAt of moments low (reserving.Makes making) = low ≡ 0
+  RoomAt of moments low (reserving.Makes making) = (low ≡ 0) × ((shards : ℕ) → Counts shards of moments 0)
   RoomAt of moments low (reserving.Sums table sum) = (low ≤ table.turn) × HasAdded of moments sum.setting.mask sum.stands
   RoomAt of moments low (reserving.Follows table need) = low ≤ table.turn
   RoomAt of moments low (reserving.Grows table making) = low ≤ table.turn

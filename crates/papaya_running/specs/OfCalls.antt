@@ -10,9 +10,8 @@ use Rattle.papaya_histories.specs.Given.Raw.declared.machines.progress.Progress.
 use Rattle.papaya_histories.specs.Given.Schedules.declared.call.Call.{Call}
 use Rattle.papaya_histories.specs.Given.Schedules.declared.effect.Effect.{Effect}
 use Rattle.papaya_histories.specs.Given.Schedules.declared.event.Event.{Event}
-use Rattle.papaya_histories.specs.Given.Schedules.After.{moment, moments_from}
-use Rattle.papaya_histories.specs.Given.Schedules.Beginning.{at_work}
-use Rattle.papaya_histories.specs.Given.Schedules.Entry.{Entry, IfCall, acting, caller_of}
+use Rattle.papaya_histories.specs.Given.Schedules.After.{moment}
+use Rattle.papaya_histories.specs.Given.Schedules.Entry.{Entry}
 use Rattle.papaya_histories.specs.Given.Schedules.InTurn.{ComesRight, is_kept_out}
 use Rattle.papaya_histories.specs.Given.Schedules.declared.effect.Thing.{Thing}
 use Rattle.papaya_histories.specs.Given.Schedules.Model.{things_in}
@@ -29,14 +28,12 @@ use Rattle.papaya_histories.specs.Given.Executor.declared.executor.Executor.{Exe
 use Rattle.papaya_histories.specs.InEvent.{ComesSo}
 use Rattle.papaya_histories.specs.Given.Finishes.Machines.{machine_of}
 use Rattle.papaya_models.specs.CallEvents.{IsInItsRow}
-use Rattle.papaya_finds.specs.Parts.{FindRest}
 use Rattle.papaya_values.specs.Values.{KeepsValue}
 use Rattle.papaya_named.specs.declared.caller.Caller.{Caller}
 use Rattle.papaya_legal.specs.CallEvents.{InCallEvent, IsLegalBut}
 use Rattle.papaya_legal.specs.CallSwept.{TellsOf}
 use Rattle.papaya_legal.specs.Carried.{ShowsRun}
 use Rattle.papaya_legal.specs.Noted.{HaveCome}
-use Rattle.papaya_legal.specs.Rests.{FindStill, is_reservation}
 use Rattle.papaya_scheduler.specs.Played.{IsPlayed, entry_of}
 use Rattle.papaya_named.specs.Seen.{kind_of}
 use Rattle.papaya_scheduler.specs.declared.played.Played.{Played}
@@ -73,15 +70,6 @@ module _ {K V S : Type 0} (same : K → K → Bool) (hash : K → ℕ) where
     pub legal : IsLegalBut same terms log e
     pub runs : Runs terms (e ∷ log) p
 
-module _ {K V : Type 0} where
-  -- What is still asked of an event of a call, by name, but that it comes to what is right: of the effects of a reservation it is known why a block is asked for.
-  pub record IsLeftBut (terms : Terms) (log : List (Entry K V)) (e : Entry K V) : Type 0 where
-    pub rest : (let b = at_work e (moment log) in IfCall (λ (c : CallThere K V). FindStill terms (moments_from c.begun log) c.caller c.map e.effects b (is_reservation c.call)) (acting (caller_of e.event) b))
-
-  pub record IsLeft (terms : Terms) (log : List (Entry K V)) (e : Entry K V) : Type 0 where
-    pub right : ComesRight terms log e
-    pub but : IsLeftBut terms log e
-
 -- a slot is active in the sets of the model while a row of a call is under way
 abbrev pub InsidesFollowInRows : Type 0 → Type 0 → Type 0
 InsidesFollowInRows K V =
@@ -101,13 +89,13 @@ module _ (K V S : Type 0) (same : K → K → Bool) (hash : K → ℕ) where
       ComesAs c.call told → KeepsValue c.call c.replies (machine_of u) value → ComesSo known2 c.call c.replies said told × TellsOf same log m map known2 said told c.call)
 
 module _ {K V S : Type 0} (same : K → K → Bool) (hash : K → ℕ) where
-  -- What is promised of an event of a call that is in turn, with what is left: it keeps its promises, and the run goes on.
+  -- What is promised of an event of a call that is in turn, and comes to what is right: it keeps its promises, and the run goes on.
   abbrev pub KeepsDue : Event K V → Played V → (old new : Scheduler K V S) → Type 0
   KeepsDue event played old new =
-      (terms : Terms) (log : List (Entry K V)) → Runs same hash terms log old → is_kept_out terms event (moment log) ≡ false → IsLeft terms log (entry_of event played)
+      (terms : Terms) (log : List (Entry K V)) → Runs same hash terms log old → is_kept_out terms event (moment log) ≡ false → ComesRight terms log (entry_of event played)
       → RunsOn same hash terms log (entry_of event played) new
 
   -- And so it is of one that is kept out.
   abbrev pub KeepsAt : Event K V → Played V → (old new : Scheduler K V S) → Type 0
   KeepsAt event played old new =
-      is_of_calls event ≡ true → (terms : Terms) (log : List (Entry K V)) → Runs same hash terms log old → IsLeft terms log (entry_of event played) → RunsOn same hash terms log (entry_of event played) new
+      is_of_calls event ≡ true → (terms : Terms) (log : List (Entry K V)) → Runs same hash terms log old → ComesRight terms log (entry_of event played) → RunsOn same hash terms log (entry_of event played) new

@@ -1,17 +1,28 @@
 -- The table that a reservation links is the first of its map, for so many further pairs, or follows the last one by what it has counted, or as its copier makes it; and it may ask for each block that
--- it makes behind a table.
-use Rattle.std.specs.Prelude.{◌≡◌, ℕ, suc, ◌+◌, Bool, List, [], ◌∷◌, length, Some}
+-- it makes.
+use Rattle.std.specs.Prelude.{◌≡◌, ℕ, suc, ◌+◌, ◌^◌, ◌≤◌, nat_le, nat_lt, max, Bool, true, false, List, [], ◌∷◌, length, Some, Ok, Err, if◌then◌else◌}
 use Rattle.std.proofs.Common.{refl, ap, sym, subst, ◌∙◌, arith, inl, inr}
-use Rattle.papaya_histories.specs.Given.Tables.Lengths.{entries_of}
+use Rattle.std.proofs.lemmas.Bool.{leb-true}
+use Rattle.papaya_histories.specs.Given.SeizeWords.Mem.{Mem}
+use Rattle.papaya_histories.specs.Given.SeizeWords.declared.fault.Fault.TheVariants.{Capacity}
+use Rattle.papaya_histories.specs.Given.Seize.declared.progress.Progress.{Progress as MakingProgress}
+use Rattle.papaya_histories.specs.Given.Tables.Lengths.{entries_of, len_of, places_for}
+use Rattle.papaya_histories.specs.Given.Tables.Powers.{next_power}
 use Rattle.papaya_histories.specs.Given.Tables.declared.lengths.Reason.TheVariants.{Reserved}
 use Rattle.papaya_histories.specs.Given.Tables.declared.node.Node.{Node}
 use Rattle.papaya_histories.specs.Given.Tables.declared.setting.Setting.{Setting}
 use Rattle.papaya_histories.specs.Given.Tables.declared.table.Table.{Table as Planned}
+use Rattle.papaya_histories.specs.Given.Resize.NewTable.{new_table_plan, plan_at as making_at}
 use Rattle.papaya_histories.specs.Given.Resize.declared.copier.Copier.{Copier}
+use Rattle.papaya_histories.specs.Given.Resize.declared.new_table.Making.{Making}
+use Rattle.papaya_histories.specs.Given.Resize.declared.new_table.Making.TheVariants as makes
 use Rattle.papaya_histories.specs.Given.Resize.declared.new_table.NewTable.{NewTable}
+use Rattle.papaya_histories.specs.Given.Resize.declared.outcome.Outcome.{Outcome}
+use Rattle.papaya_histories.specs.Given.Reserves.Reserve.{made, plan_at, reserve_plan}
 use Rattle.papaya_histories.specs.Given.Reserves.declared.reserve.Reserve.{Reserve}
 use Rattle.papaya_histories.specs.Given.Reserves.declared.reserve.Reserving.{Reserving}
 use Rattle.papaya_histories.specs.Given.Reserves.declared.reserve.Reserving.TheVariants as reserving
+use Rattle.papaya_histories.specs.Given.Raw.Machine.{reserved as of_room}
 use Rattle.papaya_histories.specs.Given.Raw.declared.machines.progress.Progress.{Progress}
 use Rattle.papaya_histories.specs.Given.Schedules.declared.call.Call.{Call}
 use Rattle.papaya_histories.specs.Given.Schedules.declared.call.Call.TheVariants as call
@@ -21,17 +32,21 @@ use Rattle.papaya_histories.specs.Given.Schedules.After.{moments_from}
 use Rattle.papaya_histories.specs.Given.Schedules.Counts.{Counts}
 use Rattle.papaya_histories.specs.Given.Schedules.Effects.{AtEachEffect}
 use Rattle.papaya_histories.specs.Given.Schedules.Entry.{Entry}
-use Rattle.papaya_histories.specs.Given.Schedules.Growing.{Follows, Has, HasNext, IsFirstOf, IsNextShape, MayMakeFor}
+use Rattle.papaya_histories.specs.Given.Schedules.Growing.{Follows, Has, HasNext, IsFirstOf, IsNextShape, MayGrow, MayMakeFor, is_too_many}
 use Rattle.papaya_histories.specs.Given.Schedules.Lists.{OneOf}
 use Rattle.papaya_histories.specs.Given.Schedules.Moment.{Moment, TableThere, UnderWay as CallThere}
 use Rattle.papaya_histories.specs.Given.Schedules.Terms.{Terms, shards_of}
 use Rattle.papaya_histories.specs.Given.Schedules.Views.{call_of, capacity_or, map_at, tables_of}
+use Rattle.papaya_histories.specs.Given.Teller.Tells.{StepsTold}
+use Rattle.papaya_histories.specs.Given.Teller.declared.changed.Changed.{Changed}
+use Rattle.papaya_histories.specs.Given.Teller.declared.changed.Changed.TheVariants.{Nothing}
+use Rattle.papaya_histories.proofs.Given.Others.Outcomes.{told_in}
 use Rattle.papaya_histories.specs.Given.Rule.Maps.{IsTable}
 use Rattle.papaya_histories.specs.Given.Rule.Words.{Blocks}
 use Rattle.papaya_histories.specs.Given.Late.ToldReserves.{IsRowOfReserve}
 use Rattle.papaya_histories.specs.Given.Callers.Rooms.{CallForRoom}
 use Rattle.papaya_histories.specs.Given.Callers.Sights.{seen_by}
-use Rattle.papaya_histories.specs.Given.Callers.Together.{ForRoom, Together, UnderWay, in_slot}
+use Rattle.papaya_histories.specs.Given.Callers.Together.{ForRoom, Together}
 use Rattle.papaya_histories.specs.Given.Effects.Effects.{effects_of}
 use Rattle.papaya_histories.specs.Given.Effects.Known.{Known}
 use Rattle.papaya_histories.specs.Given.Effects.declared.acting.Acting.TheVariants as acts
@@ -50,13 +65,16 @@ use Rattle.papaya_finds.specs.Growing.{FindAsked}
 use Rattle.papaya_finds.specs.Linking.{FindShapes, IsMadeFor}
 use Rattle.papaya_finds.specs.Nexts.{copier_in_reserving, making_of_copier}
 use Rattle.papaya_finds.specs.Reserving.{MakesFirst}
+use Rattle.papaya_finds.specs.Shaping.{ShapedAt}
 use Rattle.papaya_finds.specs.Within.{many_of}
+use Rattle.papaya_finds.proofs.Grows.Asked.{Asks, asks_some, may_ask}
 use Rattle.papaya_finds.proofs.Linking.{made_so, one_shaped}
 use Rattle.papaya_finds.proofs.Reserving.{rooms_may_ask}
 use Rattle.papaya_finds.proofs.Steps.{steps_find_places}
 use Rattle.papaya_purposes.specs.Needs.{IsFirstFor, IsLaterFor, NeedsAt}
-use Rattle.papaya_purposes.specs.Purposes.{HasMet, IsFor, ShowsPurposes}
+use Rattle.papaya_purposes.specs.Purposes.{HasMet, IsFor, RoomAt, ShowsPurposes}
 use Rattle.papaya_purposes.proofs.Needs.{needs_wider}
+use Rattle.papaya_purposes.proofs.Sums.{counts_wider}
 use Rattle.papaya_purposes.proofs.RoomFacts.{Point, StandsSo, room_point, room_setting}
 use Rattle.papaya_legal.specs.Further.{IsFurther, RoomMakes, ShowsFurther, at_turn, lengths_in, lengths_of}
 use Rattle.papaya_legal.proofs.Finding.Links.{linked, links_by, such_of_copier}
@@ -88,6 +106,28 @@ module _ {K V : Type 0} (terms : Terms) (moments : List (Moment K V)) (c : CallT
     later_follows (x ∷ ts) turn has =
         subst (λ (n : ℕ). IsNextShape terms c moments capacity n (shape_of table)) (sym (last_at (x ∷ ts) before.turn before.len has (sym is.2 ∙ turn)))
         (Reserved p.additional, is.0.0, initial, made_for, may_make, is.0.2, is.1)
+
+-- a first table that can be had is for no more pairs than can be
+
+not_less : (a b : ℕ) → b ≤ a → nat_lt a b ≡ false
+not_less a b l = grind (arith, l)
+
+few_of : (pairs len : ℕ) → Has (len_of pairs) len → is_too_many (0 + pairs) ≡ false
+few_of pairs len has = ap is_too_many (let same : 0 + pairs ≡ pairs = omega arith in same) ∙ by (nat_le (places_for pairs) (2 ^ 48)) refl has
+  where
+    by : (b : Bool) → nat_le (places_for pairs) (2 ^ 48) ≡ b → Has (if b then Ok (max (next_power (places_for pairs)) 8) else Err Capacity) len → is_too_many pairs ≡ false
+    by true is has = not_less (2 ^ 48) (places_for pairs) (leb-true (places_for pairs) (2 ^ 48) is)
+    by false is has = absurd has
+
+few_first : {K V : Type 0} (p : Reserve) (n : NewTable) (stands : Making) (mem mem2 : Mem (Node K V)) (told : Changed) (end : NewTable × MakingProgress Planned) → ShapedAt (λ before reason. ⊥) (IsFirstFor p) stands
+    → StepsTold K V (NewTable × MakingProgress Planned) mem Nothing (making_at n stands) mem2 told end → Asks told → is_too_many (0 + p.additional) ≡ false
+few_first p n (makes.Sums before reason sum) mem mem2 told end is step asks = absurd is
+few_first p n (makes.Makes table) mem mem2 told end is step asks = few_of p.additional table.len is.0
+few_first p n (makes.Promotes table) mem mem2 told end is step asks = few_of p.additional table.len is.0
+few_first p n (makes.Links table) mem mem2 told end is step asks = few_of p.additional table.len is.0
+few_first p n (makes.Drops table found) mem mem2 told end is step asks = few_of p.additional table.len is.0
+few_first p n (makes.Over table) mem mem2 told end is step asks = absurd (asks_some told asks step.2)
+few_first p n (makes.Refused fault) mem mem2 told end is step asks = absurd (asks_some told asks step.2)
 
 module _ {K V S : Type 0} (same : K → K → Bool) (hash : K → ℕ) (name : ℕ → List ℕ) (log : List (Entry K V)) (m : Moment K V) (known : Known) (s : Scene K V) (old new : Executor K V S) (at : IsAt same hash old s)
     (whole : ShowsWhole same name m known s) (purposes : ShowsPurposes same name log m known s) (map i : ℕ) (r : CallForRoom) (here : s.calls map i ≡ Some (ForRoom r)) (said : Progress (Node K V))
@@ -127,9 +167,32 @@ module _ {K V S : Type 0} (same : K → K → Bool) (hash : K → ℕ) (name : �
       let setting_is : r.reserve.setting.mask ≡ st.setting.mask = ap (λ (x : Setting). x.mask) (room_setting V same st.hash st.setting slot_of s.world st.chart seen i r stands) in
       omega (arith, setting_is, mask_is)
 
-  -- it may ask for each block behind a table
-  pub room_asks : (MakesFirst r.reserve.stands → ⊥) → FindAsked terms moments (name i) map effects m
-  room_asks = rooms_may_ask K V S same hash name m known s old new at whole map i r here said leads terms moments shards c c_is its_call has.reserves
+  -- it may ask for the block of a first table, since the map has counted nothing
+  module _ (making : NewTable) (at_first : r.reserve.stands ≡ reserving.Makes making) where
+    few : Asks new.memory.changed → is_too_many (0 + r.reserve.additional) ≡ false
+    few asks =
+        let it = told_in old.memory.memory new.memory.memory new.memory.changed of_room (reserve_plan hash r.reserve) ((leads map (ForRoom r) here).1, said) (leads map (ForRoom r) here).3 in
+        let makes = subst (λ (q : Reserving). StepsTold K V (Reserve × Outcome (Node K V) Unit) old.memory.memory Nothing (plan_at hash r.reserve q) new.memory.memory new.memory.changed it.0) at_first it.2 in
+        let step = told_in old.memory.memory new.memory.memory new.memory.changed (made r.reserve) (new_table_plan making) it.0 makes in
+        few_first r.reserve making making.stands old.memory.memory new.memory.memory new.memory.changed step.0 (subst (NeedsAt map moments r.reserve) at_first has.needs) step.2 asks
+
+    nothing : Counts (shards_of terms) c.map (m ∷ moments) 0
+    nothing =
+        subst (λ (k : ℕ). Counts (shards_of terms) k (m ∷ moments) 0) (sym its_map)
+        (counts_wider map moments (m ∷ moments) (λ P it. inr it) (shards_of terms) 0 ((subst (RoomAt map moments has.low) at_first has.point).1 (shards_of terms)))
+
+    first_asks : FindAsked terms moments (name i) map effects m
+    first_asks =
+        may_ask same hash name m known s old new at whole map i (ForRoom r) here said leads terms moments c c_is
+        (λ asks. subst (λ (z : Call K V). MayGrow terms z c (m ∷ moments)) (sym its_call) (0, nothing, few asks))
+
+  -- so it may ask for each block
+  pub room_asks : FindAsked terms moments (name i) map effects m
+  room_asks = by r.reserve.stands refl
+    where
+      by : (q : Reserving) → r.reserve.stands ≡ q → FindAsked terms moments (name i) map effects m
+      by (reserving.Makes making) at_first = first_asks making at_first
+      by q at_q = rooms_may_ask K V S same hash name m known s old new at whole map i r here said leads terms moments shards c c_is its_call has.reserves (λ first. subst MakesFirst at_q first)
 
   -- what it knows of the table behind which it makes one
   root_there : (table : Planned) (k : NewTable) → r.reserve.stands ≡ reserving.Grows table k → (t : ℕ) × IsTable st.chart seen table t
