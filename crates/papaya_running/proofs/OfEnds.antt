@@ -55,6 +55,8 @@ use Rattle.papaya_effects.specs.declared.acting.Acting.TheVariants as acts
 use Rattle.papaya_effects.specs.declared.role.Role.TheVariants as role
 use Rattle.papaya_executor.proofs.Fresh.{no_ending_yet}
 use Rattle.papaya_legal.proofs.Come.{events_bring_things}
+use Rattle.papaya_legal.proofs.Heads.Chains.{endings_taken}
+use Rattle.papaya_legal.proofs.Heads.Rows.{slots_stay}
 use Rattle.papaya_legal.specs.CallEvents.{IsLegalBut}
 use Rattle.papaya_legal.specs.Carried.{ShowsRun}
 use Rattle.papaya_legal.specs.Chains.{Chain, Come, EndSteps}
@@ -83,7 +85,7 @@ use Rattle.papaya_scheduler.proofs.Rights.{entry, entry_is}
 use Rattle.papaya_running.proofs.OfCalls.Worth.{have_values_then, nobody_says}
 use Rattle.papaya_running.specs.Asked.{Holds}
 use Rattle.papaya_running.specs.OfCalls.{HaveShards, HaveValues, Runs, RunsOn}
-use Rattle.papaya_running.specs.OfRows.{IsLeftOfRows, KeepsRun}
+use Rattle.papaya_running.specs.OfRows.{KeepsRun}
 use Rattle.papaya_works.proofs.Ends.{ends_find_all}
 use Rattle.papaya_works.proofs.Reached.{ends_note_more}
 use Rattle.papaya_running.proofs.OfCalls.Scenes.{AreNamed, its_named, stands_in}
@@ -460,6 +462,9 @@ module _ {K V S : Type 0} (same : K → K → Bool) (hash : K → ℕ) (terms : 
         shows = (it right).1;
         come = events_bring_things K V terms log e run.come (it right).0.life.finds;
         values = values;
+        taken = slots_stay s1.world.memory y.scene.world.memory m.slots
+            (endings_taken same hash terms i map (suc d.gone.1.0) (record { executor = d.began.executor; did = []; now = m; notes = known old.logged.notes; scene = s1 })
+            (come_by (far effects new.logged) y.now y.scene) chain) run.taken;
         size = y.size;
         shards = shards;
         reached = reached_after same hash terms log e old new right so grows run.reached;
@@ -473,7 +478,7 @@ module _ {K V S : Type 0} (same : K → K → Bool) (hash : K → ℕ) (terms : 
   map_end_keeps : WorksOnEnd played old new own → RunsOn same hash terms log (entry_of (EndMap own) played) new
   map_end_keeps (calls, inl (fault, is, (none, still))) =
       subst KeepsAs (sym (entry_is (EndMap own) played (Refused fault) played.steps [] is refl none))
-      (λ so right. still_keeps same hash terms log old run (entry (EndMap own) (Refused fault) played.steps []) new refl (refused_still log s.world (EndMap own) refl fault played.steps) still calls so right)
+      (λ so right. still_keeps same hash terms log old run (entry (EndMap own) (Refused fault) played.steps []) new refl (refused_still log s.world (EndMap own) refl fault played.steps) still calls so right refl)
       after right_so
   map_end_keeps (calls, inr (done, d)) = end_keeps calls done d
 

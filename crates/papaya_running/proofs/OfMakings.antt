@@ -15,7 +15,6 @@ use Rattle.papaya_histories.specs.Given.Tables.declared.resize_mode.ResizeMode.{
 use Rattle.papaya_histories.specs.Given.Tables.Lengths.{places_for}
 use Rattle.papaya_histories.specs.Given.Tables.Powers.{floor_log2, next_power}
 use Rattle.papaya_histories.specs.Given.Tables.declared.setting.Setting.{Setting}
-use Rattle.papaya_histories.proofs.Given.Moments.Numbers.{numbers_are_below}
 use Rattle.papaya_histories.proofs.Given.Callers.Together.At.{at_other, at_same}
 use Rattle.papaya_histories.specs.Given.Executor.IsAt.{Scene, IsAt, slot_of}
 use Rattle.papaya_histories.specs.Given.Executor.Making.{MakingLeads}
@@ -61,6 +60,8 @@ use Rattle.papaya_others.proofs.MakingGoes.{new_maps_stay}
 use Rattle.papaya_executor.specs.MakingBegins.{next_making}
 use Rattle.papaya_executor.proofs.Fresh.{no_making_yet}
 use Rattle.papaya_legal.proofs.Come.{events_bring_things}
+use Rattle.papaya_legal.proofs.Heads.Chains.{makings_taken}
+use Rattle.papaya_legal.proofs.Heads.Rows.{slots_stay}
 use Rattle.papaya_finds.specs.Linking.{IsMadeFor}
 use Rattle.papaya_finds.proofs.Capacities.{effects_keep_capacities, given_are_for}
 use Rattle.papaya_legal.specs.CallEvents.{IsLegalBut}
@@ -101,7 +102,7 @@ use Rattle.papaya_scheduler.proofs.Rights.{entry, entry_is}
 use Rattle.papaya_running.proofs.OfCalls.Worth.{have_values_then, nobody_says}
 use Rattle.papaya_running.specs.Asked.{Holds}
 use Rattle.papaya_running.specs.OfCalls.{HaveShards, HaveValues, Runs, RunsOn}
-use Rattle.papaya_running.specs.OfRows.{HasNotBegun, IsLeftOfRows, KeepsRun}
+use Rattle.papaya_running.specs.OfRows.{HasNotBegun, KeepsRun}
 use Rattle.papaya_works.proofs.Makings.{makings_do_theirs, makings_find_theirs}
 use Rattle.papaya_works.proofs.Reached.{makings_note_more}
 use Rattle.papaya_running.proofs.OfCalls.Scenes.{AreNamed, its_named, stands_in}
@@ -587,6 +588,9 @@ module _ {K V S : Type 0} (same : K → K → Bool) (hash : K → ℕ) (terms : 
         shows = shows right;
         come = events_bring_things K V terms log e run.come (it right).0.life.finds;
         values = values;
+        taken = slots_stay s1.world.memory y.scene.world.memory m.slots
+            (makings_taken same hash terms i b.map (suc d.gone.1.0) (record { executor = d.began.executor; did = []; now = bm; notes = known old.logged.notes; scene = s1 })
+            (come_by (far effects mid) y.now y.scene) chain) run.taken;
         size = ap (λ (x : Executor K V S). x.batch_size) d.gone.6 ∙ y.size;
         shards = shards;
         reached = reached_after same hash terms log e old new right so grows run.reached;
@@ -596,7 +600,7 @@ module _ {K V S : Type 0} (same : K → K → Bool) (hash : K → ℕ) (terms : 
   refused_keeps : (fault : Fault) → played.outcome ≡ Refused fault → played.effects.items ≡ [] → new.logged ≡ old.logged → new.calls ≡ old.calls → KeepsAs (entry_of event played)
   refused_keeps fault is none still calls =
       subst KeepsAs (sym (entry_is event played (Refused fault) played.steps [] is refl none))
-      (λ so rest. still_keeps same hash terms log old run (entry event (Refused fault) played.steps []) new refl (refused_still log s.world event refl fault played.steps) still calls so rest)
+      (λ so rest. still_keeps same hash terms log old run (entry event (Refused fault) played.steps []) new refl (refused_still log s.world event refl fault played.steps) still calls so rest refl)
 
   -- it was refused, and nothing was done; or it was made; nothing is said of one that was refused once it had begun
   map_made_keeps : WorksOnMap played old new own mode capacity → IsPlayed same hash terms (entry_of event played ∷ log) new → ComesRight terms log (entry_of event played)

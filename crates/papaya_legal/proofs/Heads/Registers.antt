@@ -68,7 +68,7 @@ module _ {T : Type 0} (k : ℕ) where
   -- and after a step that told this
   abbrev pub ToldSo : Mem T → Register → Progress ℕ → Type 0
   ToldSo m c progress.Goes = RegisterSo m c
-  ToldSo m c progress.Waits = RegisterSo m c
+  ToldSo m c progress.Waits = ⊥
   ToldSo m c (progress.Done slot) = SlotsTaken m (max k (slot + 1))
   ToldSo m c (progress.Refused fault) = SlotsTaken m k
 
@@ -195,7 +195,7 @@ abbrev pub IsOtherCall : SlotCall → Type 0
 IsOtherCall (call.Register enters) = ⊥
 IsOtherCall _ = Unit {0}
 
-other_begun : (slot size : ℕ) (called : SlotCall) → IsOtherCall called → IsOther (begun_row slot size called)
+pub other_begun : (slot size : ℕ) (called : SlotCall) → IsOtherCall called → IsOther (begun_row slot size called)
 other_begun slot size (call.Register enters) other = absurd other
 other_begun slot size call.Enter other = tt
 other_begun slot size call.Leave other = tt
@@ -216,11 +216,11 @@ module _ {K V : Type 0} where
   abbrev pub ThenSo : ℕ → Mem (Node K V) → RowTold (Node K V) → Type 0
   ThenSo k m (told.Registered slot) = SlotsTaken m (max k (slot + 1))
   ThenSo k m (told.Refused fault) = SlotsTaken m k
-  ThenSo k m _ = Unit {0}
+  ThenSo k m told = has_come told ≡ true → SlotsTaken m k
 
   then_so : (k : ℕ) (m : Mem (Node K V)) (c : Register) (p : Progress ℕ) → ToldSo k m c p → ThenSo k m (of_registering p)
-  then_so k m c progress.Goes so = tt
-  then_so k m c progress.Waits so = tt
+  then_so k m c progress.Goes so = λ come. absurd (cc come)
+  then_so k m c progress.Waits so = absurd so
   then_so k m c (progress.Done slot) so = so
   then_so k m c (progress.Refused fault) so = so
 
