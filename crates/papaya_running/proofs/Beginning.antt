@@ -14,9 +14,6 @@ use Rattle.papaya_histories.specs.Given.Executor.IsAt.{at_first}
 use Rattle.seize_words.specs.Mem.{Mem, word_at}
 use Rattle.seize_words.specs.SlotWords.{slot_word}
 use Rattle.seize_words.specs.declared.at.At.TheVariants.{Root, Used}
-use Rattle.seize_words.specs.Mem.{Mem, word_at}
-use Rattle.seize_words.specs.SlotWords.{slot_word}
-use Rattle.seize_words.specs.declared.at.At.TheVariants.{Root, Used}
 use Rattle.papaya_schedules.specs.Moment.{start}
 use Rattle.papaya_schedules.specs.Terms.{Terms}
 use Rattle.papaya_effects.specs.Known.{Known, known}

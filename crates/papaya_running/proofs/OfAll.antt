@@ -9,7 +9,6 @@ use Rattle.papaya_histories.specs.Given.Tables.declared.node.Node.{Node}
 use Rattle.papaya_histories.specs.Given.Executor.IsAt.{Scene, IsAt}
 use Rattle.papaya_histories.specs.Given.Finishes.Makings.{IsFreeRoot}
 use Rattle.seize_words.specs.declared.fault.Fault.TheVariants.{Busy}
-use Rattle.seize_words.specs.declared.fault.Fault.TheVariants.{Busy}
 use Rattle.papaya_schedules.specs.declared.event.Event.{Event}
 use Rattle.papaya_schedules.specs.declared.event.Event.TheVariants as events
 use Rattle.papaya_schedules.specs.declared.outcome.Outcome.{Outcome}

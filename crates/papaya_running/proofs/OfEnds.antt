@@ -21,20 +21,9 @@ use Rattle.papaya_histories.specs.Given.Rule.Chart.{Chart}
 use Rattle.papaya_histories.specs.Given.Moments.Endings.{IsOfIts}
 use Rattle.papaya_histories.specs.Given.Moments.WholeEnds.{all_ended, tables_ended}
 use Rattle.papaya_histories.specs.Given.Others.Endings.{ending_after}
-use Rattle.papaya_histories.specs.Given.Executor.Ending.{EndingLeads, NoCallOn, ending_begun}
-use Rattle.papaya_histories.specs.Given.Executor.IsAt.{Scene, IsAt}
-use Rattle.papaya_histories.specs.Given.Executor.declared.executor.Executor.{Executor}
-use Rattle.papaya_histories.specs.Given.Finishes.Endings.{Finishing, finishing_of}
-use Rattle.papaya_histories.specs.Given.Finishes.FactsEnds.{taken_by as taken_of}
-use Rattle.papaya_histories.specs.Given.Finishes.Maps.{Standing}
-use Rattle.papaya_histories.specs.Given.Finishes.Orders.{pairs_of}
-use Rattle.papaya_histories.specs.Given.Rule.Chart.{Chart}
 use Rattle.papaya_histories.specs.Given.Rule.InWorld.{IsMapIn}
 use Rattle.papaya_histories.proofs.Given.Rule.Laws.{current_is_known}
 use Rattle.papaya_histories.specs.Given.Follows.Maps.{ShowsMap}
-use Rattle.papaya_histories.specs.Given.Moments.Endings.{IsOfIts}
-use Rattle.papaya_histories.specs.Given.Moments.WholeEnds.{all_ended, tables_ended}
-use Rattle.papaya_histories.specs.Given.Others.Endings.{ending_after}
 use Rattle.papaya_schedules.specs.declared.effect.Effect.{Effect}
 use Rattle.papaya_schedules.specs.declared.effect.Effect.TheVariants.{Ended}
 use Rattle.papaya_schedules.specs.declared.event.Event.{Event}

@@ -1,5 +1,5 @@
 -- What is still asked of an event of a run, by name, of whichever kind it is.
-use Rattle.std.specs.Prelude.{◌≡◌, true, List}
+use Rattle.std.specs.Prelude.{List}
 use Rattle.papaya_schedules.specs.declared.event.Event.{Event}
 use Rattle.papaya_schedules.specs.declared.event.Event.TheVariants.{MakeMap}
 use Rattle.papaya_schedules.specs.declared.outcome.Outcome.{Outcome}

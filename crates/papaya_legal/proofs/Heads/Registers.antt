@@ -1,5 +1,5 @@
 -- A row that registers takes one slot at most, the first that was never taken, or one that was; and so a row of a caller leaves so many slots taken as it tells.
-use Rattle.std.specs.Prelude.{◌⊎◌, ◌<◌, ◌==◌, ◌||◌, max, nat_lt, eqb, Bool, true, false, Option, Some, None, IsSome, List, Ok, Err, if◌then◌else◌, length}
+use Rattle.std.specs.Prelude.{◌<◌, max, nat_lt, eqb, Bool, true, false, Option, Some, None, IsSome, Ok, Err, if◌then◌else◌, length}
 use Rattle.std.proofs.Common.{◌≡◌, ℕ, zero, suc, ◌+◌, ◌≤◌, eqb-true, refl, ap, sym, subst, ◌∙◌, arith, inl, inr}
 use Rattle.std.proofs.lemmas.Bool.{eqb-false}
 use Rattle.papaya_histories.specs.Given.SeizeWords.Mem.{Mem, Took, after, value_at, with_word, word_at}
@@ -9,7 +9,7 @@ use Rattle.papaya_histories.specs.Given.SeizeWords.declared.at.At.TheVariants.{S
 use Rattle.papaya_histories.specs.Given.SeizeWords.declared.fault.Fault.TheVariants.{SlotsUsedUp}
 use Rattle.papaya_histories.proofs.Given.SeizeWords.OneOwner.Operations.{exchanged, loaded, stored}
 use Rattle.papaya_histories.specs.Given.Seize.Register.{begun, can_be_taken, further, going, looked, plan_at, refused, register_plan, registered, taken, taking, widened, bucket_needed}
-use Rattle.papaya_histories.specs.Given.Seize.World.{World, Row, Registers, SlotsTaken}
+use Rattle.papaya_histories.specs.Given.Seize.World.{World, Registers, SlotsTaken}
 use Rattle.papaya_histories.specs.Given.Seize.declared.progress.Progress.{Progress}
 use Rattle.papaya_histories.specs.Given.Seize.declared.progress.Progress.TheVariants as progress
 use Rattle.papaya_histories.specs.Given.Seize.declared.rows.register.Register.{Register}
@@ -20,7 +20,7 @@ use Rattle.papaya_histories.proofs.Given.SeizeMoves.State.Ghost.{is_never}
 use Rattle.papaya_histories.proofs.Given.SeizeRule.Points.Known.{TakenBelow}
 use Rattle.papaya_histories.proofs.Given.SeizeRule.Points.Try.{never_word}
 use Rattle.papaya_histories.proofs.Given.SeizeRule.Rows.Known.{FitsRegister}
-use Rattle.papaya_histories.proofs.Given.SeizeRule.Rows.Register.{room_view, registers_may}
+use Rattle.papaya_histories.proofs.Given.SeizeRule.Rows.Register.{room_view}
 use Rattle.papaya_histories.proofs.Given.SeizeRule.Words.Named.{words_of}
 use Rattle.papaya_histories.proofs.Given.SeizeRule.Words.View.{View, view}
 use Rattle.papaya_histories.proofs.Given.SeizeRule.World.Good.{Good}
