@@ -67,13 +67,13 @@ use Rattle.papaya_histories.proofs.Given.Executor.Forgotten.{as_step}
 use Rattle.papaya_owes.proofs.Tables.Hosts.{Step}
 use Rattle.papaya_scheduler.specs.Played.{StandsFor}
 use Rattle.papaya_scheduler.specs.declared.scheduler.Scheduler.{Scheduler}
+use Rattle.papaya_stepping.proofs.CopiesWait.{all_together, copier_knows, is_lawful, noted_table, other_waits}
 use Rattle.papaya_stepping.proofs.QuietCopies.{IsQuiet, quiet_does, room_copier_told, room_row_quiet, sweep_copier_told, sweep_row_quiet}
 use Rattle.papaya_stepping.proofs.Waiting.{waits_for_holder}
 use Rattle.papaya_histories.specs.Given.Points.FactsCopiesBlocking.{CopierFactsBlocking, CopyingFactsBlocking}
 use Rattle.papaya_histories.specs.Given.Late.LateCopies.{LateCopierFacts, LateCopying}
 use Rattle.papaya_kept.specs.Ends.{HaveEndsIn}
 use Rattle.papaya_owned.specs.Given.SeizeActs.Waits.{SettlesOn}
-use Rattle.papaya_owned.proofs.Given.Waits.Works.{works}
 
 -- a row that works on one slot settles on that
 pub on_slot : (slot s : ℕ) (row : Row) → IsRowOn slot row → SettlesOn s row → s ≡ slot
