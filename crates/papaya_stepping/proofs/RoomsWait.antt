@@ -67,6 +67,7 @@ use Rattle.papaya_histories.proofs.Given.Executor.Forgotten.{as_step}
 use Rattle.papaya_owes.proofs.Tables.Hosts.{Step}
 use Rattle.papaya_scheduler.specs.Played.{StandsFor}
 use Rattle.papaya_scheduler.specs.declared.scheduler.Scheduler.{Scheduler}
+use Rattle.papaya_stepping.proofs.CopiesWait.{all_together, copier_knows, is_lawful, noted_table, other_waits}
 use Rattle.papaya_stepping.proofs.QuietCopies.{IsQuiet, quiet_does, room_copier_told, room_row_quiet, sweep_copier_told, sweep_row_quiet}
 use Rattle.papaya_stepping.proofs.Waiting.{waits_for_holder}
 use Rattle.papaya_histories.specs.Given.Points.FactsCopiesBlocking.{CopierFactsBlocking, CopyingFactsBlocking}
