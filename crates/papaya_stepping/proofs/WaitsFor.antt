@@ -44,6 +44,7 @@ use Rattle.papaya_histories.proofs.Given.Executor.Forgotten.{as_step}
 use Rattle.papaya_owes.proofs.Tables.Hosts.{Step}
 use Rattle.papaya_scheduler.specs.Played.{StandsFor}
 use Rattle.papaya_scheduler.specs.declared.scheduler.Scheduler.{Scheduler}
+use Rattle.papaya_stepping.proofs.CopiesWait.{only_looks_by}
 use Rattle.papaya_stepping.proofs.QuietWaits.{asked_quiet, row_quiet, try_quiet}
 use Rattle.papaya_stepping.proofs.Waiting.{waits_for_copier, waits_for_holder}
 use Rattle.papaya_stepping.proofs.CopiesWait.{only_looks_by}
