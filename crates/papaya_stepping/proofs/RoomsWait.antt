@@ -210,7 +210,7 @@ module _ {K V S : Type 0} (same : K → K → Bool) (hash : K → ℕ) (terms : 
           by copies.Asks here (spent, unfinished) =
               other_waits same hash terms m p stands of st is i x under
               (asked_at_once V same hash same st.setting slot_of w st.chart st.blocks st.sights calls_on together mode (ends_in false mode) i x under copier within here spent unfinished)
-          by copies.Marks here (incremental, being) = absurd (cc (incremental, mode))
+          by copies.Marks here (incremental, being, open_still) = absurd (cc (incremental, mode))
           by _ here awaits_so = absurd awaits_so
 
       pub copier_waits : Waits

@@ -47,7 +47,6 @@ use Rattle.papaya_scheduler.specs.declared.scheduler.Scheduler.{Scheduler}
 use Rattle.papaya_stepping.proofs.CopiesWait.{only_looks_by}
 use Rattle.papaya_stepping.proofs.QuietWaits.{asked_quiet, row_quiet, try_quiet}
 use Rattle.papaya_stepping.proofs.Waiting.{waits_for_copier, waits_for_holder}
-use Rattle.papaya_stepping.proofs.CopiesWait.{only_looks_by}
 use Rattle.papaya_stepping.proofs.RoomsWait.{at_once_on, copier_on, copier_waits, dispose_on, late_on, on_slot}
 
 module _ {K V S : Type 0} (same : K → K → Bool) (hash : K → ℕ) (terms : Terms) (m : Moment K V) (p : Scheduler K V S) (stands : StandsFor same hash terms m p) (of i : ℕ) (u : CallOnKey K V K)
@@ -126,7 +125,7 @@ module _ {K V S : Type 0} (same : K → K → Bool) (hash : K → ℕ) (terms : 
     by_copier here t place being =
         let pair = pairs_are_copied_by_calls V same hash same st.setting slot_of w st.chart st.blocks st.sights calls_on together mode t place being in
         waits_for_copier same hash terms m p stands of of i pair.2 (OnKey u) pair.3 under pair.4
-        (λ e. none_claimed here place (subst (λ (n : ℕ). st.chart.share (suc st.chart.first) place ≡ Claimed n) e pair.5)) refl
+        (λ e. none_claimed mode here place (subst (λ (n : ℕ). st.chart.share (suc st.chart.first) place ≡ Claimed n) e pair.5)) refl
         (λ looks. works same hash same st.setting slot_of w st.chart st.blocks st.sights calls_on together mode pair.2 place pair.3 pair.4 (inl pair.5) (only_looks_by pair.3 looks))
         st is pair.1
 
