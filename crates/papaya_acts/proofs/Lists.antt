@@ -195,9 +195,9 @@ module _ {K V : Type 0} (same : K → K → Bool) (hash : K → ℕ) (batch_size
   does_on lawful (s, all, inl (lists, left)) (StepsReclaiming g) (word, may) = absurd (cc may)
   does_on lawful (s, all, inr (i, lists, c, idle)) (StepsReclaiming g) (word, may) =
       let to = (reclaiming_is_by_acts V same batch_size roots slot word s i lists c idle).2 g may in stepped_by s all i lists c idle g to.1 to.2 to.3 to.5 to.0 to.4
-  does_on lawful (s, all, inr it) (Does act) (idle, may) = absurd (cc idle)
-  does_on lawful (s, all, inr it) (BeginsReclaiming i) (idle, may) = absurd (cc idle)
-  does_on lawful (s, all, inr it) (BeginsClearing i) (idle, may) = absurd (cc idle)
+  does_on lawful (s, all, inr (i, lists, c, reclaims)) (Does act) may = absurd (cc (may.0))
+  does_on lawful (s, all, inr (j, lists, c, reclaims)) (BeginsReclaiming i) may = absurd (cc (may.0))
+  does_on lawful (s, all, inr (j, lists, c, reclaims)) (BeginsClearing i) may = absurd (cc (may.0))
 
   -- at first all roots are free
   free_at_first : IsLeft {K = K} {V = V} roots (at_first roots) (λ r. [])

@@ -91,7 +91,7 @@ module _ {K : Type 0} (V : Type 0) (same : K → K → Bool) (hash : K → ℕ) 
     -- while nobody reclaims all, what ended maps have left is behind roots that are nobody's
     left_there : (p : Stage V same hash batch_size roots slot) → reclaiming V same hash batch_size roots slot p ≡ None → (lists : ℕ → List ℕ) × IsLeft roots p.0 lists
     left_there (s, all, inl left) none = left
-    left_there (s, all, inr it) none = absurd (cc none)
+    left_there (s, all, inr (i, lists, c, reclaims)) none = absurd (cc none)
 
     pub reclaiming_begins_there : ReclaimingBeginsThere V same hash batch_size roots slot course
     reclaiming_begins_there word doings x led (rest, none) =
