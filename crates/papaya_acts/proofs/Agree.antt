@@ -54,18 +54,18 @@ row_at _ = Rests
 
 module _ {K V : Type 0} (batch_size roots i : ℕ) (c : ReclaimAll) (w : World (Node K V)) (maps : ℕ → Option (Standing K)) (lists : ℕ → List ℕ) where
   row_is : (p : Reclaiming) → ReclaimingAt batch_size roots i c w maps lists p → w.row i ≡ row_at p
-  row_is (at.Heads s) (size, left, none, last, so, there) = so.rests i
-  row_is (at.Retakes s) (size, left, none, last, so, free) = so.rests i
-  row_is (at.Leaves s leave) (size, left, none, last, within) = within.row_is
-  row_is (at.Batches s) (size, left, last, so) = so.rests i
-  row_is (at.Flushes s settle) (size, left, last, within) = within.row_is
-  row_is (at.Frees s) (size, left, last, so) = so.rests i
-  row_is (at.Roots root) (quiet, more) = quiet.rests i
-  row_is (at.Nexts root block) (quiet, more) = quiet.rests i
-  row_is (at.Takes root block next) (quiet, more) = quiet.rests i
-  row_is (at.Empties root) (quiet, more) = quiet.rests i
-  row_is (at.Unuses root) (quiet, more) = quiet.rests i
-  row_is at.Over (quiet, more) = quiet.rests i
+  row_is (at.Heads s) (size, left, (none, last, so, there)) = so.rests i
+  row_is (at.Retakes s) (size, left, (none, last, so, free)) = so.rests i
+  row_is (at.Leaves s leave) (size, left, (none, last, within)) = within.row_is
+  row_is (at.Batches s) (size, left, (last, so)) = so.rests i
+  row_is (at.Flushes s settle) (size, left, (last, within)) = within.row_is
+  row_is (at.Frees s) (size, left, (last, so)) = so.rests i
+  row_is (at.Roots root) is = is.0.rests i
+  row_is (at.Nexts root block) is = is.0.rests i
+  row_is (at.Takes root block next) is = is.0.rests i
+  row_is (at.Empties root) is = is.0.rests i
+  row_is (at.Unuses root) is = is.0.rests i
+  row_is at.Over is = is.0.rests i
 
 module _ {K : Type 0} (V : Type 0) (same : K → K → Bool) (hash : K → ℕ) (batch_size roots : ℕ) (slot : ℕ → ℕ) where
   -- the rows of others, by a step of who reclaims all

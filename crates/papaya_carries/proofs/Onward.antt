@@ -110,26 +110,27 @@ module _ {K : Type 0} (V : Type 0) (same : K → K → Bool) (hash : K → ℕ) 
 
   module _ (word : batch_size < 2 ^ 64) where
     -- the next step may be taken
-    next_may : (x : At) (i : ℕ) (c : ReclaimAll) → Now x ≡ Some (i, c) → (g : Grant) × May (StepsReclaiming g) x
+    next_may : (x : At) (i : ℕ) (c : ReclaimAll) → Now x ≡ Some (i, c) → (g : Grant) × (is_none (then_on (Now x) (λ it. reclaiming_steps x.0.0 g it.1)) ≡ false)
     next_may x i c here =
         let acts = reclaiming_is_by_acts V same batch_size roots slot word x.0.0 i (behind V same hash batch_size roots slot x.0) c (idle_there V same hash batch_size roots slot x.0 i c here) in
         let step = may_be_stepped x.0.0.world.memory (reclaim_all_plan deferred_word was_left c) acts.0 in (
           step.0,
-          word,
-          subst (λ (o : Option (ℕ × ReclaimAll)). is_none (then_on o (λ it. reclaiming_steps x.0.0 step.0 it.1)) ≡ false) (sym here) (some_is_there (reclaiming_steps x.0.0 step.0 c) step.1 step.2),
+          subst (λ (o : Option (ℕ × ReclaimAll)). is_none (then_on o (λ it. reclaiming_steps x.0.0 step.0 it.1)) ≡ false) (sym here)
+              (some_is_there (reclaiming_steps x.0.0 step.0 c) step.1 step.2),
         )
 
     to_end : (m : Mem (Node K V)) (c : ReclaimAll) → ComesToEnd m c → (doings : List (Doing K V)) (x : At) → Led doings x → (i : ℕ) → Now x ≡ Some (i, c) → x.0.0.world.memory ≡ m → Onward doings
     to_end m c (Comes _ _ more) doings x led i here at =
         let k = next_may x i c here in
-        let step = st doings x led k.0 k.1 in
-        by_step doings x led k.0 k.1 step.end refl
+        let may : May (StepsReclaiming k.0) x = (word, k.1) in
+        let step = st doings x led k.0 may in
+        by_step doings x led k.0 may step.end refl
         (λ not_done. to_end step.did.memory step.next
         (more step.did.memory step.next step.end (subst (λ (y : Mem (Node K V)). Steps Took value_at y (reclaim_all_plan deferred_word was_left c) step.did.memory (step.next, step.end)) at
         (subst (λ (it : ℕ × ReclaimAll). Steps Took value_at x.0.0.world.memory (reclaim_all_plan deferred_word was_left it.1) step.did.memory (step.next, step.end))
         (same_some (step.caller, step.machine) (i, c) (sym step.here ∙ here))
         (was_stepped x.0.0.world.memory k.0 (reclaim_all_plan deferred_word was_left step.machine) (step.did.memory, (step.next, step.end)) step.did.computed))) not_done)
-        (StepsReclaiming k.0 ∷ doings) (on x (StepsReclaiming k.0) k.1) (x, led, k.1, refl) step.caller
+        (StepsReclaiming k.0 ∷ doings) (on x (StepsReclaiming k.0) may) (x, led, may, refl) step.caller
         (step.goes_on ∙ still_on step.end (step.caller, step.next) not_done)
         (ap (λ (s : Scene K V). s.world.memory) step.did.comes ∙ step.did.did.memory))
 
