@@ -47,7 +47,7 @@ module _ {K V : Type 0} (size i : ℕ) where
   writes_rows name w w2 (v, h, e) j = ap (λ (y : World (Node K V)). y.row j) e ∙ ap (λ (y : World (Node K V)). y.row j) h.4
 
 -- its own row is told by its point
-row_at : Reclaiming → Row
+abbrev row_at : Reclaiming → Row
 row_at (at.Leaves s leave) = Leaves leave
 row_at (at.Flushes s settle) = Settles settle
 row_at _ = Rests
