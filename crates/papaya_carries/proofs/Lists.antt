@@ -94,7 +94,7 @@ module _ {K : Type 0} (V : Type 0) (same : K → K → Bool) (hash : K → ℕ) 
     left_there (s, all, inr (i, lists, c, reclaims)) none = absurd (cc none)
 
     pub reclaiming_begins_there : ReclaimingBeginsThere V same hash batch_size roots slot course
-    reclaiming_begins_there word doings x led (rest, none) =
+    reclaiming_begins_there word doings x came (rest, none) =
         let there = left_there x.0 none in
         let behind = (left_is_left_behind K V roots x.0.0.world x.0.0.maps x.0.0.makers x.0.0.enders there.0 rest.no_makers rest.no_enders).0 there.1 in (
           there.0,
