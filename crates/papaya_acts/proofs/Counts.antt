@@ -40,8 +40,9 @@ use Rattle.papaya_executor.specs.IsAt.{Scene}
 use Rattle.papaya_executor.specs.Replying.{unless_stopped}
 use Rattle.papaya_acts.specs.Acts.{Act, Answer, OfCall, Wanted, Count, its, begun}
 use Rattle.papaya_acts.specs.Acts.{BeginsCall, StepsCall, TellsCall, AsksCall, StopsCall, BeginsMaking, StepsMaking, BeginsEnding, StepsEnding, BeginsRow, StepsRow}
-use Rattle.papaya_acts.specs.Counts.{HasRead, is_its, next_shard, read_on, shard_of_call, words_read, CountingsAddUp, CountingsAnswerTheSum}
-use Rattle.papaya_acts.specs.Leads.{MayBe, Led, CallCame, MakingCame, EndingCame}
+use Rattle.papaya_acts.specs.Counts.{HasRead, is_its, next_shard, read_on, shard_of_call, read_by, words_read, CountingsAddUp, CountingsAnswerTheSum}
+use Rattle.papaya_acts.specs.Doings.{Doing, Does, BeginsReclaiming, BeginsClearing, StepsReclaiming, Stage, MayDo, HasDone}
+use Rattle.papaya_acts.specs.Leads.{Led, CallCame, MakingCame, EndingCame}
 use Rattle.papaya_acts.specs.Lists.{Course, Reached, LedTo}
 use Rattle.papaya_acts.proofs.Sums.{Added, adds_on}
 
@@ -224,28 +225,37 @@ module _ {K V : Type 0} (same : K → K → Bool) (hash : K → ℕ) (batch_size
     by_act (BeginsRow j request) told (w2, happens, maps2, same_maps, none, is) = as_it_was (ap (λ (x : Scene K V). x.calls) is)
     by_act (StepsRow j g) told (w2, computed, happens, maps2, same_maps, none, is) = as_it_was (ap (λ (x : Scene K V). x.calls) is)
 
+module _ {K V : Type 0} (same : K → K → Bool) (hash : K → ℕ) (batch_size roots : ℕ) (slot : ℕ → ℕ) where
+  -- whatever is done, who reclaims all has no counting
+  by_doing : (i m : ℕ) (words : List ℕ) (p n : Stage V same hash batch_size roots slot) → ((c : Sum) → p.0.calls m i ≡ Some (Counting c) → HasRead c words)
+      → (c : Sum) → n.0.calls m i ≡ Some (Counting c) → (doing : Doing K V) (told : Answer K V) → HasDone V same hash batch_size roots slot doing p told n → HasRead c (read_by i m doing p.0 words)
+  by_doing i m words p n before c now (Does act) told (led, idle) = by_act same hash batch_size roots slot p.0 i m words before n.0 c now act told led
+  by_doing i m words p n before c now (BeginsReclaiming j) told (none, is, lists, begun) = before c (ap (λ (s : Scene K V). s.calls m i) (sym is) ∙ now)
+  by_doing i m words p n before c now (BeginsClearing j) told (none, is, lists, begun) = before c (ap (λ (s : Scene K V). s.calls m i) (sym is) ∙ now)
+  by_doing i m words p n before c now (StepsReclaiming g) told stepped = before c (ap (λ (s : Scene K V). s.calls m i) (sym stepped.did.comes) ∙ now)
+
 module _ {K V : Type 0} (same : K → K → Bool) (hash : K → ℕ) (batch_size roots : ℕ) (slot : ℕ → ℕ) (course : Course V same hash batch_size roots slot) where
   pub countings_add_up : CountingsAddUp same hash batch_size roots slot course
   countings_add_up [] x led i m c here = absurd (cc (here, ap (λ (y : Reached V same hash batch_size roots slot). y.0.0.calls m i) led))
-  countings_add_up (act ∷ acts) x (y, led, may, is) i m c here =
-      by_act same hash batch_size roots slot y.0.0 i m (words_read same hash batch_size roots slot course i m acts y led)
-      (λ c0 here0. countings_add_up acts y led i m c0 here0) (course.next y.0 act may).0 c
-      (ap (λ (z : Reached V same hash batch_size roots slot). z.0.0.calls m i) (sym is) ∙ here) act (course.told y.0 act may) (course.leads y.0 act may)
+  countings_add_up (doing ∷ doings) x (y, led, may, is) i m c here =
+      by_doing same hash batch_size roots slot i m (words_read same hash batch_size roots slot course i m doings y led) y.0 (course.next y.0 doing may)
+      (λ c0 here0. countings_add_up doings y led i m c0 here0) c
+      (ap (λ (z : Reached V same hash batch_size roots slot). z.0.0.calls m i) (sym is) ∙ here) doing (course.told y.0 doing may) (course.leads y.0 doing may)
 
-  module _ (acts : List (Act K V)) (x : Reached V same hash batch_size roots slot) (led : LedTo V same hash batch_size roots slot course acts x) (i m : ℕ) (c : Sum)
-      (here : x.0.0.calls m i ≡ Some (Counting c)) (s : Standing K) (stands : x.0.0.maps m ≡ Some s) (g : Option ℕ) (may : MayBe same hash batch_size roots slot (StepsCall i m g) x.0.0) where
+  module _ (doings : List (Doing K V)) (x : Reached V same hash batch_size roots slot) (led : LedTo V same hash batch_size roots slot course doings x) (i m : ℕ) (c : Sum)
+      (here : x.0.0.calls m i ≡ Some (Counting c)) (s : Standing K) (stands : x.0.0.maps m ≡ Some s) (g : Option ℕ) (may : MayDo V same hash batch_size roots slot (Does (StepsCall i m g)) x.0) where
     abbrev words : List ℕ
-    words = words_read same hash batch_size roots slot course i m acts x led
+    words = words_read same hash batch_size roots slot course i m doings x led
 
-    abbrev came : CallCame same hash batch_size roots slot x.0.0 i m g (course.told x.0 (StepsCall i m g) may) (course.next x.0 (StepsCall i m g) may).0
-    came = course.leads x.0 (StepsCall i m g) may
+    abbrev came : CallCame same hash batch_size roots slot x.0.0 i m g (course.told x.0 (Does (StepsCall i m g)) may) (course.next x.0 (Does (StepsCall i m g)) may).0
+    came = (course.leads x.0 (Does (StepsCall i m g)) may).0
 
     abbrev Step : Type 0
-    Step = StepOf same hash batch_size roots slot x.0.0 i m words (λ c0 here0. countings_add_up acts x led i m c0 here0) g (course.told x.0 (StepsCall i m g) may) (course.next x.0 (StepsCall i m g) may).0 came c
+    Step = StepOf same hash batch_size roots slot x.0.0 i m words (λ c0 here0. countings_add_up doings x led i m c0 here0) g (course.told x.0 (Does (StepsCall i m g)) may) (course.next x.0 (Does (StepsCall i m g)) may).0 came c
 
     its_step_is : Step
-    its_step_is = step_of same hash batch_size roots slot x.0.0 i m words (λ c0 here0. countings_add_up acts x led i m c0 here0) g (course.told x.0 (StepsCall i m g) may)
-        (course.next x.0 (StepsCall i m g) may).0 came c here (call_is came.call (sym came.here ∙ here))
+    its_step_is = step_of same hash batch_size roots slot x.0.0 i m words (λ c0 here0. countings_add_up doings x led i m c0 here0) g (course.told x.0 (Does (StepsCall i m g)) may)
+        (course.next x.0 (Does (StepsCall i m g)) may).0 came c here (call_is came.call (sym came.here ∙ here))
       where
         call_is : (u : UnderWay K V K) → Some u ≡ Some (Counting c) → u ≡ Counting c
         call_is u e = cc e
@@ -254,7 +264,7 @@ module _ {K V : Type 0} (same : K → K → Bool) (hash : K → ℕ) (batch_size
     facts = (((x.0.1.makings.standing.each m s stands).stand) i (Counting c) here).1
 
     few : length words ≤ s.setting.mask
-    few = subst (λ (p : Summing). CountsShards (in_slot s.setting (slot i)) p) (countings_add_up acts x led i m c here) facts.1
+    few = subst (λ (p : Summing). CountsShards (in_slot s.setting (slot i)) p) (countings_add_up doings x led i m c here) facts.1
 
     mask_is : c.setting.mask ≡ s.setting.mask
     mask_is = ap (λ (x : Setting). x.mask) facts.0
@@ -269,7 +279,7 @@ module _ {K V : Type 0} (same : K → K → Bool) (hash : K → ℕ) (batch_size
         let same_count : count2 ≡ count = cc (told, done) in (omega (arith, past, more, few, mask_is), sym same_count ∙ sum_is)
     answered count done ((c3, counted_as.Refused fault), is, told, added) = absurd added
 
-    pub answers_sum : (count : ℕ) → course.told x.0 (StepsCall i m g) may ≡ OfCall (progress.Done (answers.Count count)) → Told count (shard_of_call x.0.0.world.memory (x.0.0.calls m i) ++ words)
+    pub answers_sum : (count : ℕ) → course.told x.0 (Does (StepsCall i m g)) may ≡ OfCall (progress.Done (answers.Count count)) → Told count (shard_of_call x.0.0.world.memory (x.0.0.calls m i) ++ words)
     answers_sum count told =
         subst (λ (o : Option (UnderWay K V K)). Told count (shard_of_call x.0.0.world.memory o ++ words)) (sym here) (answered count (done came.progress (sym came.tells ∙ told)) its_step_is)
       where
@@ -277,4 +287,4 @@ module _ {K V : Type 0} (same : K → K → Bool) (hash : K → ℕ) (batch_size
         done p e = cc e
 
   pub countings_answer : CountingsAnswerTheSum same hash batch_size roots slot course
-  countings_answer acts x led i m c here s stands g may count told = answers_sum acts x led i m c here s stands g may count told
+  countings_answer doings x led i m c here s stands g may count told = answers_sum doings x led i m c here s stands g may count told

@@ -1,4 +1,4 @@
--- By any two courses an act leads from what is alike to what is alike, and so does a list.
+-- By any two courses an act leads from what is alike to what is alike.
 use Rattle.std.specs.Prelude.{◌≢◌, ◌++◌, Option, Some, None, option_map}
 use Rattle.std.specs.Option.{is_none}
 use Rattle.std.proofs.Common.{◌≡◌, ℕ, Bool, true, false, List, [], ◌∷◌, ◌⊎◌, inl, inr, refl, ap, sym, subst, ◌∙◌}
@@ -40,15 +40,14 @@ use Rattle.papaya_executor.specs.Given.Finishes.Machines.{machine_of}
 use Rattle.papaya_executor.specs.Given.Finishes.Makings.{Beginning}
 use Rattle.papaya_executor.specs.Given.Finishes.Maps.{Standing, IsSameMap, with_call}
 use Rattle.papaya_executor.proofs.Given.Finishes.Among.Sweeps.{walks_stop_among}
-use Rattle.papaya_executor.specs.IsAt.{Scene, at_first}
+use Rattle.papaya_executor.specs.IsAt.{Scene}
 use Rattle.papaya_executor.specs.Replying.{unless_stopped}
 use Rattle.papaya_executor.specs.Stepping.{going_on}
 use Rattle.papaya_executor.proofs.Steps.{goes_as}
 use Rattle.papaya_acts.specs.Acts.{Act, Answer, OfCall, OfReply, OfAsking, OfMaking, OfEnding, Wanted, Get, Remove, Insert, TryToInsert, Compute, Update, UpdateOrInsert, TryToInsertWith, RemoveIf, MakeRoom, Count, GoOver, begun}
 use Rattle.papaya_acts.specs.Acts.{BeginsCall, StepsCall, TellsCall, AsksCall, StopsCall, BeginsMaking, StepsMaking, BeginsEnding, StepsEnding, BeginsRow, StepsRow}
-use Rattle.papaya_acts.specs.Courses.{set_up, AreAlike, CoursesAgree}
+use Rattle.papaya_acts.specs.Courses.{set_up, AreAlike}
 use Rattle.papaya_acts.specs.Leads.{HasNoCall, MayBe, AllStand, Led, CallCame, MakingCame, EndingCame, making_begun}
-use Rattle.papaya_acts.specs.Lists.{Reached}
 use Rattle.papaya_acts.proofs.Calls.{ready_is}
 use Rattle.papaya_acts.proofs.Counts.{its_call, other_call}
 use Rattle.papaya_acts.proofs.Lists.{all_may_step}
@@ -72,7 +71,7 @@ both_at h f g k v w here others j = by (cases_eq j k)
     by (inr ne) = ap h (at_other f k v j ne) ∙ others j ∙ ap h (sym (at_other g k w j ne))
 
 -- a map that stands as it stood is set up as it was
-same_set_up : {K : Type 0} (o p : Option (Standing K)) → IsSameMap o p → option_map set_up p ≡ option_map set_up o
+pub same_set_up : {K : Type 0} (o p : Option (Standing K)) → IsSameMap o p → option_map set_up p ≡ option_map set_up o
 same_set_up None p is = ap (option_map set_up) is
 same_set_up (Some s) p (blocks, sights, is, part) = ap (option_map set_up) is
 
@@ -255,7 +254,7 @@ module _ {K V : Type 0} (same : K → K → Bool) (hash : K → ℕ) (batch_size
         rows j none (inl at) = ap w.row at ∙ here ∙ ap v.row (sym at)
         rows j none (inr ne) = (others j ne).0 ∙ alike.rows j none ∙ sym (others j ne).1
 
-    by_act : (act : Act K V) → MayBe same hash batch_size roots slot act s → (told told2 : Answer K V) → Led same hash batch_size roots slot act s told n → Led same hash batch_size roots slot act t told2 o → Agree told told2
+    pub by_act : (act : Act K V) → MayBe same hash batch_size roots slot act s → (told told2 : Answer K V) → Led same hash batch_size roots slot act s told n → Led same hash batch_size roots slot act t told2 o → Agree told told2
     by_act (BeginsCall i m wanted) may told told2 (it, stands, none, is) (it2, stands2, none2, is2) = (
       with_call_alone m i (Some (begun same slot it i wanted)) (Some (begun same slot it2 i wanted)) (ap Some (begins_as same slot i it it2 (set_both m it it2 stands stands2) wanted))
           (some_rests (begun same slot it i wanted) i) is is2,
@@ -340,16 +339,3 @@ module _ {K V : Type 0} (same : K → K → Bool) (hash : K → ℕ) (batch_size
               (λ j ne. (steps_others deferred_word batch_size s.world w2 i j ne (s.world.row i) happens, steps_others deferred_word batch_size t.world v2 i j ne (t.world.row i) happens2))),
           told_is ∙ sym told_is2,
         )
-
-pub courses_agree : {K : Type 0} (V : Type 0) (same : K → K → Bool) (hash : K → ℕ) (batch_size roots : ℕ) (slot : ℕ → ℕ) → CoursesAgree V same hash batch_size roots slot
-courses_agree {K} V same hash batch_size roots slot one other [] x y led led2 =
-    subst (λ (z : Reached V same hash batch_size roots slot). AreAlike z.0.0 y.0.0 × (z.1 ≡ y.1)) (sym led)
-    (subst (λ (z : Reached V same hash batch_size roots slot). AreAlike (at_first roots) z.0.0 × ([] ≡ z.1)) (sym led2)
-    (record { memory = refl; maps = λ m. refl; calls = λ m i. refl; makers = λ i. refl; enders = λ i. refl; rows = λ i none. refl }, refl))
-courses_agree {K} V same hash batch_size roots slot one other (act ∷ acts) x y (x1, led, may, is) (y1, led2, may2, is2) =
-    let so = courses_agree V same hash batch_size roots slot one other acts x1 y1 led led2 in
-    let then = by_act same hash batch_size roots slot x1.0.0 y1.0.0 (one.next x1.0 act may).0 (other.next y1.0 act may2).0 x1.0.1 y1.0.1 so.0 act may (one.told x1.0 act may) (other.told y1.0 act may2)
-    (one.leads x1.0 act may) (other.leads y1.0 act may2) in
-    subst (λ (z : Reached V same hash batch_size roots slot). AreAlike z.0.0 y.0.0 × (z.1 ≡ y.1)) (sym is)
-    (subst (λ (z : Reached V same hash batch_size roots slot). AreAlike (one.next x1.0 act may).0 z.0.0 × (one.told x1.0 act may ∷ x1.1 ≡ z.1)) (sym is2)
-    (then.0, ap (λ (a : Answer K V). a ∷ x1.1) then.1 ∙ ap (λ (l : List (Answer K V)). other.told y1.0 act may2 ∷ l) so.1))

@@ -1,15 +1,27 @@
--- A course: where each act leads. Each next step may be taken, and is that of an act.
-use Rattle.std.specs.Prelude.{◌≡◌, ℕ, Bool, [], Option, Some, None}
-use Rattle.std.proofs.Common.{refl}
-use Rattle.papaya_executor.specs.Given.Seize.World.{at_start}
+-- A course: where each act leads, and each step of who reclaims all. Each next step may be taken, and is that of an act.
+use Rattle.std.specs.Prelude.{◌≡◌, ◌⊎◌, ℕ, ◌<◌, ◌^◌, Bool, true, false, List, [], Option, Some, None, IsSome}
+use Rattle.std.specs.Option.{is_none}
+use Rattle.std.proofs.Common.{inl, inr, refl, sym, subst}
+use Rattle.papaya_executor.specs.Given.SeizeWords.Mem.{word_at}
+use Rattle.papaya_executor.specs.Given.SeizeWords.declared.at.At.TheVariants.{Slot}
+use Rattle.papaya_executor.specs.Given.Seize.ReclaimAll.{reclaiming_all, clearing}
+use Rattle.papaya_executor.specs.Given.Seize.World.{Use, Vacant, Outside, Inside, Changing, at_start}
+use Rattle.papaya_executor.specs.Given.Seize.declared.rows.reclaim_all.ReclaimAll.{ReclaimAll}
+use Rattle.papaya_executor.specs.Given.Seize.declared.rows.settle.Settled.{Settled}
+use Rattle.papaya_executor.specs.Given.Seize.declared.rows.settle.Settled.TheVariants as settled
+use Rattle.papaya_executor.specs.Given.Seize.declared.states.TheConstants.{HEAD}
+use Rattle.seize_acts.specs.Answers.{Grant}
+use Rattle.seize_acts.proofs.Begun.{rests_is}
 use Rattle.seize_acts.proofs.Steps.{steps_so, row_so}
 use Rattle.papaya_executor.specs.Given.Tables.Nodes.{deferred_word}
+use Rattle.papaya_executor.specs.Given.Tables.declared.node.Node.{Node}
 use Rattle.papaya_executor.specs.Given.Resize.NewMap.{new_map_plan}
 use Rattle.papaya_executor.specs.Given.Raw.EndMap.{end_map_plan}
 use Rattle.papaya_executor.specs.Given.Raw.Machine.{machine_plan}
 use Rattle.papaya_executor.specs.Given.Points.Steps.{AreLawful}
 use Rattle.papaya_executor.specs.Given.Callers.Together.{UnderWay}
 use Rattle.papaya_executor.specs.Given.Finishes.Machines.{machine_of}
+use Rattle.papaya_executor.specs.Given.Finishes.Makings.{IsFreeRoot}
 use Rattle.papaya_executor.specs.Given.Finishes.Maps.{Standing}
 use Rattle.papaya_executor.proofs.Given.Finishes.Among.Begins.{no_endings_begin}
 use Rattle.papaya_executor.proofs.Given.Finishes.Among.Machines.{machines_stand_among}
@@ -19,15 +31,35 @@ use Rattle.papaya_executor.proofs.Given.Finishes.Among.Rows.{guards_stand_among}
 use Rattle.papaya_executor.proofs.Given.Finishes.Beside.Makings.Promised.{no_makings_begin}
 use Rattle.papaya_executor.proofs.Given.Finishes.Beside.Makings.Samples.{start_roots}
 use Rattle.papaya_executor.proofs.Given.Finishes.Beside.Maps.Comes.{no_maps_begin}
+use Rattle.papaya_executor.proofs.Given.Points.Making.OwnTables.{zero_at}
+use Rattle.papaya_reclaims.specs.Left.{IsSomebodys}
+use Rattle.papaya_reclaims.specs.Slots.{IsQuiet}
+use Rattle.papaya_reclaims.proofs.Left.Stays.{left_is_left_behind, nothing_is_left}
+use Rattle.papaya_reclaims.proofs.Promised.{reclaiming_begins}
 use Rattle.papaya_executor.specs.IsAt.{Scene, at_first}
-use Rattle.papaya_acts.specs.Acts.{Act, Answer, Nothing, BeginsCall, StepsCall, TellsCall, AsksCall, StopsCall, BeginsMaking, StepsMaking, BeginsEnding, StepsEnding, BeginsRow, StepsRow}
+use Rattle.papaya_acts.specs.Acts.{Act, Answer, Nothing, OfReclaiming, BeginsCall, StepsCall, TellsCall, AsksCall, StopsCall, BeginsMaking, StepsMaking, BeginsEnding, StepsEnding, BeginsRow, StepsRow}
+use Rattle.papaya_acts.specs.Doings.{Doing, Does, BeginsReclaiming, BeginsClearing, StepsReclaiming, is_vacant, IsLeft, AllAreFree, SlotsAreFree, still, Stage, MayDo, HasDone}
 use Rattle.papaya_acts.specs.Leads.{MayBe, AllStand, Led}
 use Rattle.papaya_acts.specs.Lists.{AllMayStep, AllAreActs, StepsAreActs, Course, ListsDetermine}
+use Rattle.papaya_acts.specs.Reclaiming.{IsReclaimingAll, ReclaimedOn}
 use Rattle.papaya_acts.proofs.Calls.{call_begins, call_goes_on, call_told, call_asked, call_stops}
+use Rattle.papaya_acts.proofs.Left.{by_act as left_by_act}
 use Rattle.papaya_acts.proofs.Makings.{making_begins, making_goes_on, ending_begins, ending_goes_on}
 use Rattle.papaya_acts.proofs.Once.{is_determined}
+use Rattle.papaya_acts.proofs.Reclaiming.{reclaiming_is_by_acts}
 use Rattle.papaya_acts.proofs.Rows.{row_begins, row_goes_on}
 use Rattle.papaya_acts.proofs.Tests.{none_is}
+
+-- what the tests say of a slot
+vacant_is : (u : Use) → is_vacant u ≡ true → u ≡ Vacant
+vacant_is Vacant e = refl
+vacant_is (Outside n) e = absurd (cc e)
+vacant_is (Inside n) e = absurd (cc e)
+vacant_is Changing e = absurd (cc e)
+
+is_there : {X : Type 0} (o : Option X) → is_none o ≡ false → IsSome o
+is_there None e = absurd (cc e)
+is_there (Some x) e = refl
 
 module _ {K V : Type 0} (same : K → K → Bool) (hash : K → ℕ) (batch_size roots : ℕ) (slot : ℕ → ℕ) where
   -- at first all stand together
@@ -78,12 +110,106 @@ module _ {K V : Type 0} (same : K → K → Bool) (hash : K → ℕ) (batch_size
   pub steps_are_acts : StepsAreActs V same hash batch_size roots slot
   steps_are_acts s all = (all_may_step s all, all_are_acts s all)
 
+  abbrev DoesOn : Stage V same hash batch_size roots slot → Doing K V → Type 0
+  DoesOn p doing = (told : Answer K V) × (n : Stage V same hash batch_size roots slot) × HasDone V same hash batch_size roots slot doing p told n
+
+  -- who reclaims all may begin, where nobody has anything under way
+  module _ (s : Scene K V) (all : AllStand same hash batch_size roots slot s) (lists : ℕ → List ℕ) (left : IsLeft roots s lists) (word : batch_size < 2 ^ 64) (free : AllAreFree s) where
+    abbrev Begins : ReclaimAll → ℕ → Type 0
+    Begins c i = IsReclaimingAll V same batch_size roots slot s i lists c
+
+    begins : (i : ℕ) → (IsSome (word_at s.world.memory (Slot 0 HEAD)) → Begins (reclaiming_all batch_size roots) i)
+        × (IsQuiet s.world → Begins (clearing roots) i) × (word_at s.world.memory (Slot 0 HEAD) ≡ None → IsQuiet s.world)
+    begins i =
+        reclaiming_begins V same same batch_size roots slot s.maps s.calls s.makers s.enders s.world i lists word
+        (record { together = all; no_calls = λ m j. none_is (s.calls m j) (free.no_call m j); no_makers = λ j. none_is (s.makers j) (free.no_making j); no_enders = λ j. none_is (s.enders j) (free.no_ending j) })
+        (λ j. rests_is (s.world.row j) (free.rest j))
+        ((left_is_left_behind K V roots s.world s.maps s.makers s.enders lists (λ j. none_is (s.makers j) (free.no_making j)) (λ j. none_is (s.enders j) (free.no_ending j))).0 left)
+
+    quiet : SlotsAreFree s → IsQuiet s.world
+    quiet slots = record { rests = λ j. rests_is (s.world.row j) (free.rest j); vacant = λ t. vacant_is (s.world.uses t) (slots.vacant t); none = slots.none }
+
+  -- it goes on by a step, or has come to its end, where nothing is left behind roots
+  module _ (s : Scene K V) (all : AllStand same hash batch_size roots slot s) (i : ℕ) (lists : ℕ → List ℕ) (c : ReclaimAll) (idle : IsReclaimingAll V same batch_size roots slot s i lists c)
+      (g : Grant) (n : Scene K V) (lists2 : ℕ → List ℕ) (c2 : ReclaimAll) (idle2 : IsReclaimingAll V same batch_size roots slot n i lists2 c2) where
+    abbrev Stepped : Type 0
+    Stepped = DoesOn (s, all, inr (i, lists, c, idle)) (StepsReclaiming g)
+
+    left_then : (told : Settled (Node K V)) → ReclaimedOn V same batch_size roots slot s i lists c g told n lists2 c2 → told ≡ settled.Done → IsLeft roots n (λ r. [])
+    left_then told on done =
+        subst (λ (x : Scene K V). IsLeft roots x (λ r. [])) (sym on.comes)
+        (nothing_is_left K V roots on.did.w2 on.did.maps2 s.makers s.enders (λ r below. (elim ((on.did.over done).free r below)
+        as (λ _. IsSomebodys on.did.maps2 s.makers s.enders r ⊎ IsFreeRoot on.did.w2 r) [
+          | inl is ↦ inl (inl is)
+          | inr is ↦ inr is
+        ])))
+
+    goes_by : (told : Settled (Node K V)) → still told (i, c2) ≡ Some (i, c2) → ReclaimedOn V same batch_size roots slot s i lists c g told n lists2 c2 → Stepped
+    goes_by told goes on = (
+      OfReclaiming told,
+      (n, idle2.stand.together, inr (i, lists2, c2, idle2)),
+      record {
+        caller = i;
+        machine = c;
+        here = refl;
+        end = told;
+        lists = lists2;
+        next = c2;
+        did = on;
+        tells = refl;
+        goes_on = sym goes;
+        behind_is = λ not_done. refl;
+      },
+    )
+
+    stepped_by : (told : Settled (Node K V)) → ReclaimedOn V same batch_size roots slot s i lists c g told n lists2 c2 → Stepped
+    stepped_by settled.Goes on = goes_by settled.Goes refl on
+    stepped_by settled.Waits on = goes_by settled.Waits refl on
+    stepped_by (settled.Gave value) on = goes_by (settled.Gave value) refl on
+    stepped_by settled.Done on = (
+      OfReclaiming settled.Done,
+      (n, idle2.stand.together, inl ((λ r. []), left_then settled.Done on refl)),
+      record {
+        caller = i;
+        machine = c;
+        here = refl;
+        end = settled.Done;
+        lists = lists2;
+        next = c2;
+        did = on;
+        tells = refl;
+        goes_on = refl;
+        behind_is = λ not_done. absurd (not_done refl);
+      },
+    )
+
+  -- So each of what may be done leads on.
+  does_on : AreLawful same hash → (p : Stage V same hash batch_size roots slot) (doing : Doing K V) → MayDo V same hash batch_size roots slot doing p → DoesOn p doing
+  does_on lawful (s, all, inl (lists, left)) (Does act) (idle, may) =
+      let to = leads_on s all lawful act may in
+      let then = left_by_act same hash batch_size roots slot s to.1 all lists left act may to.0 to.2 in (to.0, (to.1, to.3, inl then), (to.2, refl))
+  does_on lawful (s, all, inl (lists, left)) (BeginsReclaiming i) (idle, word, free, there) =
+      (Nothing, (s, all, inr (i, lists, reclaiming_all batch_size roots, (begins s all lists left word free i).0 (is_there (word_at s.world.memory (Slot 0 HEAD)) there))), (refl, refl, refl, refl))
+  does_on lawful (s, all, inl (lists, left)) (BeginsClearing i) (idle, word, free, slots) =
+      (Nothing, (s, all, inr (i, lists, clearing roots, (begins s all lists left word free i).1 (quiet s all lists left word free slots))), (refl, refl, refl, refl))
+  does_on lawful (s, all, inl (lists, left)) (StepsReclaiming g) (word, may) = absurd (cc may)
+  does_on lawful (s, all, inr (i, lists, c, idle)) (StepsReclaiming g) (word, may) =
+      let to = (reclaiming_is_by_acts V same batch_size roots slot word s i lists c idle).2 g may in stepped_by s all i lists c idle g to.1 to.2 to.3 to.5 to.0 to.4
+  does_on lawful (s, all, inr (i, lists, c, reclaims)) (Does act) may = absurd (cc (may.0))
+  does_on lawful (s, all, inr (j, lists, c, reclaims)) (BeginsReclaiming i) may = absurd (cc (may.0))
+  does_on lawful (s, all, inr (j, lists, c, reclaims)) (BeginsClearing i) may = absurd (cc (may.0))
+
+  -- at first all roots are free
+  free_at_first : IsLeft {K = K} {V = V} roots (at_first roots) (λ r. [])
+  free_at_first = nothing_is_left K V roots (at_start deferred_word roots) (λ m. None) (λ i. None) (λ i. None) (λ r below. inr (zero_at roots r below, zero_at roots r below))
+
   course : AreLawful same hash → Course V same hash batch_size roots slot
   course lawful = record {
     first = first;
-    next = λ p act may. (let to = leads_on p.0 p.1 lawful act may in (to.1, to.3));
-    told = λ p act may. (leads_on p.0 p.1 lawful act may).0;
-    leads = λ p act may. (leads_on p.0 p.1 lawful act may).2;
+    left = free_at_first;
+    next = λ p doing may. (does_on lawful p doing may).1;
+    told = λ p doing may. (does_on lawful p doing may).0;
+    leads = λ p doing may. (does_on lawful p doing may).2;
   }
 
   pub lists_determine : ListsDetermine V same hash batch_size roots slot

@@ -1,4 +1,4 @@
--- That an act may be made is known in one way alone, so a course leads by a list of acts to one scene.
+-- That an act may be made, or a step of who reclaims all, is known in one way alone, so a course leads by a list to one stage.
 use Rattle.std.specs.Prelude.{◌≡◌, ℕ, Bool, [], ◌∷◌}
 use Rattle.std.specs.Coded.{Coded-set, coded_bool, coded_ℕ, le_prop}
 use Rattle.std.proofs.Common.{refl, sym, ap, subst, ◌∙◌}
@@ -6,6 +6,7 @@ use Rattle.papaya_executor.specs.Given.Seize.World.{Request, Register', Enter', 
 use Rattle.papaya_executor.specs.Given.Callers.Together.{IsOfSlots}
 use Rattle.papaya_executor.specs.IsAt.{Scene}
 use Rattle.papaya_acts.specs.Acts.{Act, BeginsCall, StepsCall, TellsCall, AsksCall, StopsCall, BeginsMaking, StepsMaking, BeginsEnding, StepsEnding, BeginsRow, StepsRow}
+use Rattle.papaya_acts.specs.Doings.{Doing, Does, BeginsReclaiming, BeginsClearing, StepsReclaiming, AllAreFree, SlotsAreFree, Stage, MayDo}
 use Rattle.papaya_acts.specs.Leads.{IsFree, AreFewWith, MayBe}
 use Rattle.papaya_acts.specs.Lists.{Course, Reached, on_by, IsDetermined}
 
@@ -44,11 +45,23 @@ module _ {K V : Type 0} (same : K → K → Bool) (hash : K → ℕ) (batch_size
   may_prop (BeginsRow i request) s = hlevel (bool_set, of_slots_prop request)
   may_prop (StepsRow i g) s = hlevel bool_set
 
+  free_all_prop : (s : Scene K V) → IsProp (AllAreFree s)
+  free_all_prop s = hlevel bool_set
+
+  slots_prop : (s : Scene K V) → IsProp (SlotsAreFree s)
+  slots_prop s = hlevel (bool_set, Coded-set coded_ℕ)
+
+  pub may_do_prop : (doing : Doing K V) (p : Stage V same hash batch_size roots slot) → IsProp (MayDo V same hash batch_size roots slot doing p)
+  may_do_prop (Does act) p = hlevel (bool_set, may_prop act p.0)
+  may_do_prop (BeginsReclaiming i) p = hlevel (bool_set, le_prop, free_all_prop p.0)
+  may_do_prop (BeginsClearing i) p = hlevel (bool_set, le_prop, free_all_prop p.0, slots_prop p.0)
+  may_do_prop (StepsReclaiming g) p = hlevel (bool_set, le_prop)
+
   module _ (course : Course V same hash batch_size roots slot) where
     pub is_determined : IsDetermined V same hash batch_size roots slot course
     is_determined [] x y led other = led ∙ sym other
-    is_determined (act ∷ acts) x y (before, led, may, is) (before2, led2, may2, is2) =
-        is ∙ subst (λ (z : Reached V same hash batch_size roots slot). (m : MayBe same hash batch_size roots slot act z.0.0)
-        → on_by V same hash batch_size roots slot course before act may ≡ on_by V same hash batch_size roots slot course z act m)
-        (is_determined acts before before2 led led2)
-        (λ m. ap (on_by V same hash batch_size roots slot course before act) (may_prop act before.0.0 may m)) may2 ∙ sym is2
+    is_determined (doing ∷ doings) x y (before, led, may, is) (before2, led2, may2, is2) =
+        is ∙ subst (λ (z : Reached V same hash batch_size roots slot). (m : MayDo V same hash batch_size roots slot doing z.0)
+        → on_by V same hash batch_size roots slot course before doing may ≡ on_by V same hash batch_size roots slot course z doing m)
+        (is_determined doings before before2 led led2)
+        (λ m. ap (on_by V same hash batch_size roots slot course before doing) (may_do_prop doing before.0 may m)) may2 ∙ sym is2

@@ -1,8 +1,9 @@
 -- Acts that may be made at first, and some that may not.
-use Rattle.std.specs.Prelude.{◌≡◌, ℕ, ◌+◌, ◌<◌, ◌≤◌, ◌^◌, Bool, max, Some, None}
+use Rattle.std.specs.Prelude.{◌≡◌, ℕ, ◌+◌, ◌<◌, ◌≤◌, ◌^◌, Bool, List, [], max, Some, None}
 use Rattle.std.specs.Int.{IsPowerOfTwo}
-use Rattle.std.proofs.Common.{refl, arith}
+use Rattle.std.proofs.Common.{inl, inr, refl, arith}
 use Rattle.papaya_executor.specs.Given.Seize.World.{Register', with_at}
+use Rattle.papaya_executor.specs.Given.Seize.declared.rows.reclaim_all.ReclaimAll.{ReclaimAll}
 use Rattle.seize_acts.specs.Answers.{Grant}
 use Rattle.papaya_executor.specs.Given.Tables.Lengths.{IsTableLen}
 use Rattle.papaya_executor.specs.Given.Tables.declared.setting.Setting.{Setting}
@@ -11,7 +12,9 @@ use Rattle.papaya_executor.specs.Given.Finishes.Makings.{Beginning}
 use Rattle.papaya_executor.specs.IsAt.{Scene, at_first}
 use Rattle.papaya_acts.specs.Acts.{Act, Wanted, BeginsCall, StepsCall, BeginsMaking, StepsMaking, BeginsRow}
 use Rattle.papaya_acts.specs.Courses.{AreAlike}
-use Rattle.papaya_acts.specs.Leads.{IsFree, MayBe, making_begun}
+use Rattle.papaya_acts.specs.Doings.{Does, BeginsReclaiming, BeginsClearing, StepsReclaiming, IsLeft, Stage, MayDo}
+use Rattle.papaya_acts.specs.Leads.{AllStand, IsFree, MayBe, making_begun}
+use Rattle.papaya_acts.specs.Reclaiming.{IsReclaimingAll}
 
 module _ {K : Type 0} (V : Type 0) (same : K → K → Bool) (hash : K → ℕ) (batch_size : ℕ) (slot : ℕ → ℕ) where
   abbrev First : Act K V → Type 0
@@ -63,3 +66,25 @@ module _ {K : Type 0} (V : Type 0) (same : K → K → Bool) (hash : K → ℕ) 
     -- It is not alike the first one, where no map is made.
     not_alike : AreAlike (Makes b) (at_first 1) → ⊥
     not_alike alike = let same_making = alike.makers 0 in cc same_making
+
+  -- Before anybody reclaims all, no step of it is there, and none begins with slots of which none was ever taken.
+  module _ (all : AllStand {V = V} same hash batch_size 1 slot (at_first 1)) (left : IsLeft {K = K} {V = V} 1 (at_first 1) (λ r. [])) where
+    abbrev start : Stage V same hash batch_size 1 slot
+    start = (at_first 1, all, inl ((λ r. []), left))
+
+    no_step_yet : (g : Grant) → MayDo V same hash batch_size 1 slot (StepsReclaiming g) start → ⊥
+    no_step_yet g may = cc (may.1)
+
+    no_slots_yet : (i : ℕ) → MayDo V same hash batch_size 1 slot (BeginsReclaiming i) start → ⊥
+    no_slots_yet i may = cc (may.3)
+
+  -- While a caller does, no other act is made, and nobody begins to do so, too.
+  module _ (s : Scene K V) (all : AllStand same hash batch_size 1 slot s) (i : ℕ) (lists : ℕ → List ℕ) (c : ReclaimAll) (idle : IsReclaimingAll V same batch_size 1 slot s i lists c) where
+    abbrev within : Stage V same hash batch_size 1 slot
+    within = (s, all, inr (i, lists, c, idle))
+
+    no_act : (act : Act K V) → MayDo V same hash batch_size 1 slot (Does act) within → ⊥
+    no_act act may = cc (may.0)
+
+    not_twice : (j : ℕ) → MayDo V same hash batch_size 1 slot (BeginsClearing j) within → ⊥
+    not_twice j may = cc (may.0)

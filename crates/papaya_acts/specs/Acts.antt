@@ -63,6 +63,7 @@ pub data Answer (K V : Type 0) : Type 0 where
   OfAsking : Bool → Answer K V  -- whether the call was ready
   OfMaking : Told Setting → Answer K V
   OfEnding : Settled (Node K V) → Answer K V
+  OfReclaiming : Settled (Node K V) → Answer K V
 
 -- a caller works with the setting of the map, in its slot
 abbrev pub its : {K : Type 0} → (ℕ → ℕ) → Standing K → ℕ → Setting

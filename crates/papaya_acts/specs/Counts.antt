@@ -15,7 +15,7 @@ use Rattle.papaya_executor.specs.Given.Callers.Together.{UnderWay, Counting}
 use Rattle.papaya_executor.specs.Given.Finishes.Maps.{Standing}
 use Rattle.papaya_executor.specs.IsAt.{Scene}
 use Rattle.papaya_acts.specs.Acts.{Act, OfCall, BeginsCall, StepsCall}
-use Rattle.papaya_acts.specs.Leads.{MayBe}
+use Rattle.papaya_acts.specs.Doings.{Doing, Does, MayDo}
 use Rattle.papaya_acts.specs.Lists.{Course, Reached, LedTo}
 
 -- what is there, as a list
@@ -48,24 +48,29 @@ module _ {K V : Type 0} (i m : ℕ) where
   read_on (StepsCall j n g) s words = if is_its i m j n then shard_of_call s.world.memory (s.calls m i) ++ words else words
   read_on act s words = words
 
+  -- it reads nothing while all is reclaimed
+  abbrev pub read_by : Doing K V → Scene K V → List ℕ → List ℕ
+  read_by (Does act) s words = read_on act s words
+  read_by doing s words = words
+
 module _ {K V : Type 0} (same : K → K → Bool) (hash : K → ℕ) (batch_size roots : ℕ) (slot : ℕ → ℕ) (course : Course V same hash batch_size roots slot) where
   -- The words that the counting has read that this caller has under way on this map: each is that of its shard, at a moment since the counting began.
-  abbrev pub words_read : ℕ → ℕ → (acts : List (Act K V)) (x : Reached V same hash batch_size roots slot) → LedTo V same hash batch_size roots slot course acts x → List ℕ
+  abbrev pub words_read : ℕ → ℕ → (doings : List (Doing K V)) (x : Reached V same hash batch_size roots slot) → LedTo V same hash batch_size roots slot course doings x → List ℕ
   words_read i m [] x led = []
-  words_read i m (act ∷ acts) x led = read_on i m act led.0.0.0 (words_read i m acts led.0 led.1)
+  words_read i m (doing ∷ doings) x led = read_by i m doing led.0.0.0 (words_read i m doings led.0 led.1)
 
   -- Wherever a list of acts has led, a counting that is under way has come to the sum of the words that it has read, shard by shard from the first on.
   abbrev pub CountingsAddUp : Type 0
   CountingsAddUp =
-      (acts : List (Act K V)) (x : Reached V same hash batch_size roots slot) (led : LedTo V same hash batch_size roots slot course acts x)
-      → (i m : ℕ) (c : Sum) → x.0.0.calls m i ≡ Some (Counting c) → HasRead c (words_read i m acts x led)
+      (doings : List (Doing K V)) (x : Reached V same hash batch_size roots slot) (led : LedTo V same hash batch_size roots slot course doings x)
+      → (i m : ℕ) (c : Sum) → x.0.0.calls m i ≡ Some (Counting c) → HasRead c (words_read i m doings x led)
 
   -- And what it answers by its last step is the sum of the words of all shards, which is none where that is negative.
   abbrev pub CountingsAnswerTheSum : Type 0
   CountingsAnswerTheSum =
-      (acts : List (Act K V)) (x : Reached V same hash batch_size roots slot) (led : LedTo V same hash batch_size roots slot course acts x)
+      (doings : List (Doing K V)) (x : Reached V same hash batch_size roots slot) (led : LedTo V same hash batch_size roots slot course doings x)
       → (i m : ℕ) (c : Sum) → x.0.0.calls m i ≡ Some (Counting c) → (s : Standing K) → x.0.0.maps m ≡ Some s
-      → (g : Grant) (may : MayBe same hash batch_size roots slot (StepsCall i m g) x.0.0) (count : ℕ)
-      → course.told x.0 (StepsCall i m g) may ≡ OfCall (progress.Done (answers.Count count))
-      → (length (shard_of_call x.0.0.world.memory (x.0.0.calls m i) ++ words_read i m acts x led) ≡ suc s.setting.mask)
-      × (count ≡ count_in (sum (shard_of_call x.0.0.world.memory (x.0.0.calls m i) ++ words_read i m acts x led) % 2 ^ 64))
+      → (g : Grant) (may : MayDo V same hash batch_size roots slot (Does (StepsCall i m g)) x.0) (count : ℕ)
+      → course.told x.0 (Does (StepsCall i m g)) may ≡ OfCall (progress.Done (answers.Count count))
+      → (length (shard_of_call x.0.0.world.memory (x.0.0.calls m i) ++ words_read i m doings x led) ≡ suc s.setting.mask)
+      × (count ≡ count_in (sum (shard_of_call x.0.0.world.memory (x.0.0.calls m i) ++ words_read i m doings x led) % 2 ^ 64))

@@ -4,7 +4,7 @@ use Rattle.papaya_executor.specs.Given.Tables.declared.setting.Setting.{Setting}
 use Rattle.papaya_executor.specs.Given.Finishes.Machines.{machine_of}
 use Rattle.papaya_executor.specs.Given.Finishes.Maps.{Standing}
 use Rattle.papaya_executor.specs.IsAt.{Scene}
-use Rattle.papaya_acts.specs.Acts.{Act}
+use Rattle.papaya_acts.specs.Doings.{Doing, reclaiming}
 use Rattle.papaya_acts.specs.Leads.{HasNoCall}
 use Rattle.papaya_acts.specs.Lists.{Course, Reached, LedTo}
 
@@ -21,8 +21,9 @@ pub record AreAlike {K V : Type 0} (s t : Scene K V) : Type 0 where
   pub enders : (i : ℕ) → option_map (λ f. f.machine) (s.enders i) ≡ option_map (λ f. f.machine) (t.enders i)
   pub rows : (i : ℕ) → HasNoCall s i → s.world.row i ≡ t.world.row i
 
--- The promise: where a list of acts leads by one course, and where by another one, is alike, and the same was told.
+-- The promise: where a list of acts leads by one course, and where by another one, is alike, the same was told, and who reclaims all is as far.
 abbrev pub CoursesAgree : {K : Type 0} (V : Type 0) (same : K → K → Bool) (hash : K → ℕ) (batch_size roots : ℕ) (slot : ℕ → ℕ) → Type 0
 CoursesAgree {K} V same hash batch_size roots slot =
-    (one other : Course V same hash batch_size roots slot) (acts : List (Act K V)) (x y : Reached V same hash batch_size roots slot)
-    → LedTo V same hash batch_size roots slot one acts x → LedTo V same hash batch_size roots slot other acts y → AreAlike x.0.0 y.0.0 × (x.1 ≡ y.1)
+    (one other : Course V same hash batch_size roots slot) (doings : List (Doing K V)) (x y : Reached V same hash batch_size roots slot)
+    → LedTo V same hash batch_size roots slot one doings x → LedTo V same hash batch_size roots slot other doings y
+    → AreAlike x.0.0 y.0.0 × (x.1 ≡ y.1) × (reclaiming V same hash batch_size roots slot x.0 ≡ reclaiming V same hash batch_size roots slot y.0)

@@ -1,5 +1,6 @@
 pub mod Acts
 pub mod Leads
+pub mod Doings
 pub mod Lists
 pub mod Counts
 pub mod Executors

@@ -1,5 +1,6 @@
 -- Lists of acts: to which scene each leads, and what is promised of it.
 use Rattle.std.specs.Prelude.{◌≡◌, ℕ, Bool, List, [], ◌∷◌, Some}
+use Rattle.std.proofs.Common.{inl}
 use Rattle.papaya_executor.specs.Given.SeizeWords.Mem.{Mem, Can, Took, value_at}
 use Rattle.papaya_executor.specs.Given.SeizeWords.Plan.{May, Steps}
 use Rattle.papaya_executor.specs.Given.Seize.World.{World, MayStep, Steps'}
@@ -24,8 +25,9 @@ use Rattle.papaya_executor.specs.Given.Finishes.Machines.{machine_of}
 use Rattle.papaya_executor.specs.Given.Finishes.Makings.{Beginning}
 use Rattle.papaya_executor.specs.Given.Finishes.Maps.{Standing}
 use Rattle.papaya_executor.specs.IsAt.{Scene, at_first}
-use Rattle.papaya_acts.specs.Acts.{Act, Answer}
-use Rattle.papaya_acts.specs.Leads.{MayBe, AllStand, Led, HasNoCall, call_steps, making_steps, ending_steps}
+use Rattle.papaya_acts.specs.Acts.{Answer}
+use Rattle.papaya_acts.specs.Doings.{Doing, IsLeft, Stage, MayDo, HasDone}
+use Rattle.papaya_acts.specs.Leads.{AllStand, HasNoCall, call_steps, making_steps, ending_steps}
 
 module _ {K : Type 0} (V : Type 0) (same : K → K → Bool) (hash : K → ℕ) (batch_size roots : ℕ) (slot : ℕ → ℕ) where
   -- whichever caller takes the next step of what it has under way, it may take it: all that the step looks at is there
@@ -55,34 +57,34 @@ module _ {K : Type 0} (V : Type 0) (same : K → K → Bool) (hash : K → ℕ) 
   abbrev pub StepsAreActs : Type 0
   StepsAreActs = (s : Scene K V) → AllStand same hash batch_size roots slot s → AllMayStep s × AllAreActs s
 
-  -- a scene in which all stand together
-  abbrev pub Stage : Type 0
-  Stage = (s : Scene K V) × AllStand same hash batch_size roots slot s
-
-  -- A course says where each act that may be made leads, and what it tells: all stand together again. At first nobody has anything under way, and no map stands.
+  -- A course says where each of what may be done leads, and what it tells: all stand together again. At first nobody has anything under way, no map stands,
+  -- and nothing is left behind roots.
   pub record Course : Type 0 where
     pub first : AllStand {V = V} same hash batch_size roots slot (at_first roots)
-    pub next : (p : Stage) (act : Act K V) → MayBe same hash batch_size roots slot act p.0 → Stage
-    pub told : (p : Stage) (act : Act K V) → MayBe same hash batch_size roots slot act p.0 → Answer K V
-    pub leads : (p : Stage) (act : Act K V) (may : MayBe same hash batch_size roots slot act p.0) → Led same hash batch_size roots slot act p.0 (told p act may) (next p act may).0
+    pub left : IsLeft {K = K} {V = V} roots (at_first roots) (λ r. [])
+    pub next : (p : Stage V same hash batch_size roots slot) (doing : Doing K V) → MayDo V same hash batch_size roots slot doing p → Stage V same hash batch_size roots slot
+    pub told : (p : Stage V same hash batch_size roots slot) (doing : Doing K V) → MayDo V same hash batch_size roots slot doing p → Answer K V
+    pub leads : (p : Stage V same hash batch_size roots slot) (doing : Doing K V) (may : MayDo V same hash batch_size roots slot doing p)
+        → HasDone V same hash batch_size roots slot doing p (told p doing may) (next p doing may)
 
-  -- where many acts have led, and what they have told, the newest first
+  -- where a list has led, and what it has told, the newest first
   abbrev pub Reached : Type 0
-  Reached = Stage × List (Answer K V)
+  Reached = Stage V same hash batch_size roots slot × List (Answer K V)
 
   module _ (course : Course) where
-    abbrev pub on_by : (x : Reached) (act : Act K V) → MayBe same hash batch_size roots slot act x.0.0 → Reached
-    on_by x act may = (course.next x.0 act may, course.told x.0 act may ∷ x.1)
+    abbrev pub on_by : (x : Reached) (doing : Doing K V) → MayDo V same hash batch_size roots slot doing x.0 → Reached
+    on_by x doing may = (course.next x.0 doing may, course.told x.0 doing may ∷ x.1)
 
-    -- A list of acts, the newest first, has led there.
-    abbrev pub LedTo : List (Act K V) → Reached → Type 0
-    LedTo [] x = x ≡ ((at_first roots, course.first), [])
-    LedTo (act ∷ acts) x = (y : Reached) × LedTo acts y × (may : MayBe same hash batch_size roots slot act y.0.0) × (x ≡ on_by y act may)
+    -- A list of acts, the newest first, has led there. A caller may have reclaimed all in between.
+    abbrev pub LedTo : List (Doing K V) → Reached → Type 0
+    LedTo [] x = x ≡ ((at_first roots, course.first, inl ((λ r. []), course.left)), [])
+    LedTo (doing ∷ doings) x = (y : Reached) × LedTo doings y × (may : MayDo V same hash batch_size roots slot doing y.0) × (x ≡ on_by y doing may)
 
-    -- A list leads to one scene, and tells one list of answers.
+    -- A list leads to one stage, and tells one list of answers.
     abbrev pub IsDetermined : Type 0
-    IsDetermined = (acts : List (Act K V)) (x y : Reached) → LedTo acts x → LedTo acts y → x ≡ y
+    IsDetermined = (doings : List (Doing K V)) (x y : Reached) → LedTo doings x → LedTo doings y → x ≡ y
 
-  -- The promise of lists: there is a course, and by each one a list of plain data determines world, maps, calls, makings, ends, and all that was told.
+  -- The promise of lists: there is a course, and by each one a list of plain data determines world, maps, calls, makings, ends, who reclaims all, and all
+  -- that was told.
   abbrev pub ListsDetermine : Type 0
   ListsDetermine = AreLawful same hash → Course × ((course : Course) → IsDetermined course)

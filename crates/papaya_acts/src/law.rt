@@ -10,7 +10,8 @@ ghost use Rattle.papaya_acts.specs.Lists.{Course, StepsAreActs, ListsDetermine};
 /// work on their slots, in any order. What one does at once is an act, as plain data: who does it, on which map, what the memory was free to choose, and what
 /// a call was told. Each act is one operation on the memory at most, and a list of acts determines the world, the maps with all their tables and pairs, what
 /// callers have under way, and what they were told. After each act all stand together, and whoever takes the next step of what it has under way may take it:
-/// what it looks at is there. No step that a memory can take is left out. By any course a list leads to the same memory, machines and answers.
+/// what it looks at is there. No step that a memory can take is left out. By any course a list leads to the same memory, machines and answers. Where nobody has
+/// anything under way, a caller may reclaim all in the midst of a list, by steps as plain data too, as often as one likes; other acts come behind it.
 pub fn lists_of_acts_determine<K, V>()
     ensures steps { (same : K → K → Bool) (hash : K → ℕ) (batch_size roots : ℕ) (slot : ℕ → ℕ) → StepsAreActs V same hash batch_size roots slot }
     ensures determined { (same : K → K → Bool) (hash : K → ℕ) (batch_size roots : ℕ) (slot : ℕ → ℕ) → ListsDetermine V same hash batch_size roots slot }
@@ -30,8 +31,8 @@ pub fn executors_act<K, V, S>()
     ensures acts { (same : K → K → Bool) (hash : K → ℕ) → ExecutorsAct V S same hash }
 {}
 
-/// And where nobody has anything under way, a caller that reclaims all does so by acts, too: each of its steps is one operation at most, computed from the
-/// memory and from what that was free to choose, and none is left out.
+/// And where nobody has anything under way, a caller that reclaims all does so by what may be in a list of acts: each of its steps is one operation at most,
+/// computed from the memory and from what that was free to choose, and none is left out.
 pub fn reclaiming_is_by_acts<K, V>()
     ensures acts { (same : K → K → Bool) (batch_size roots : ℕ) (slot : ℕ → ℕ) → ReclaimingIsByActs V same batch_size roots slot }
 {}

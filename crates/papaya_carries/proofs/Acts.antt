@@ -28,6 +28,7 @@ use Rattle.papaya_executor.specs.Replying.{unless_stopped}
 use Rattle.papaya_acts.specs.Acts.{Act, Answer, begun}
 use Rattle.papaya_acts.specs.Acts.{BeginsCall, StepsCall, TellsCall, AsksCall, StopsCall, BeginsMaking, StepsMaking, BeginsEnding, StepsEnding, BeginsRow, StepsRow}
 use Rattle.papaya_acts.specs.Leads.{MayBe, AllStand, Led, MakingCame, EndingCame}
+use Rattle.papaya_acts.proofs.Left.{goes_on_by, goes_on_same}
 use Rattle.papaya_acts.proofs.Tests.{none_is}
 use Rattle.papaya_carries.specs.Lists.{AreTheirs, ActsKeepTheirs}
 use Rattle.papaya_carries.specs.Theirs.{copier_of, AllAreTheirs}
@@ -37,18 +38,6 @@ use Rattle.papaya_carries.proofs.Machines.{kind_theirs}
 use Rattle.papaya_carries.proofs.Makings.{makings_keep_theirs}
 use Rattle.papaya_carries.proofs.Owed.{one_some}
 use Rattle.papaya_carries.proofs.Told.{told_on, next_on, not_stopped}
-
--- an end goes on, with what it has reclaimed by now, and what waits
-pub goes_on_by : {K V Q : Type 0} (same : K → K → Bool) (asks : Q → K → Bool) (batch_size roots : ℕ) (slot : ℕ → ℕ) (w : World (Node K V)) (maps : ℕ → Option (Standing K))
-    (calls : ℕ → ℕ → Option (UnderWay K V Q)) (makers : ℕ → Option (Beginning K)) (enders : ℕ → Option (Finishing K V)) (f : Finishing K V) (machine : EndMap) (deed : Deed) (back : List ℕ)
-    → taken_by deed ≡ back → GoesOnBy V same asks batch_size roots slot w maps calls makers enders f deed (record f { machine = machine; back = f.back ++ back; waits = f.waits ++ waiting_by deed })
-goes_on_by same asks batch_size roots slot w maps calls makers enders f machine deed back taken =
-    record { setting_is = refl; chart_is = refl; blocks_are = refl; back_is = ap (λ (l : List ℕ). f.back ++ l) (sym taken); waits_are = refl }
-
--- one that has taken nothing has reclaimed what it had
-pub goes_on_same : {K V : Type 0} (f : Finishing K V) (machine : EndMap) (waits : List ℕ)
-    → ◌≡◌ {A = Finishing K V} (record f { machine = machine; back = f.back ++ []; waits = waits }) (record f { machine = machine; waits = waits })
-goes_on_same f machine waits = ap (λ (l : List ℕ). record f { machine = machine; back = l; waits = waits }) (append-nil f.back)
 
 module _ {K V : Type 0} (same : K → K → Bool) (hash : K → ℕ) (batch_size roots : ℕ) (slot : ℕ → ℕ) (s n : Scene K V) (all : AllStand same hash batch_size roots slot s)
     (stand : AllStand same hash batch_size roots slot n) (theirs : AreTheirs s) where

@@ -18,7 +18,7 @@ pub mod Makings
 pub mod Machines
 pub mod Told
 pub mod Acts
-pub mod Left
 pub mod Reclaimed
 pub mod Lists
+pub mod Onward
 mod Samples

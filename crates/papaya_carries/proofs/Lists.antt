@@ -11,20 +11,20 @@ use Rattle.papaya_executor.specs.Given.Seize.declared.rows.settle.Settled.{Settl
 use Rattle.papaya_executor.specs.Given.Seize.declared.rows.settle.Settled.TheVariants as settled
 use Rattle.papaya_executor.specs.Given.Seize.declared.states.TheConstants.{HEAD}
 use Rattle.seize_acts.specs.Answers.{Grant}
+use Rattle.seize_acts.proofs.Answers.{same_some}
 use Rattle.papaya_executor.specs.Given.Tables.Nodes.{deferred_word}
 use Rattle.papaya_executor.specs.Given.Tables.declared.node.Node.{Node}
-use Rattle.papaya_executor.proofs.Given.Points.Making.OwnTables.{zero_at}
 use Rattle.papaya_reclaims.specs.Slots.{IsQuiet}
-use Rattle.papaya_reclaims.proofs.Left.Stays.{left_is_left_behind, nothing_is_left}
+use Rattle.papaya_reclaims.proofs.Left.Stays.{left_is_left_behind}
 use Rattle.papaya_reclaims.proofs.Promised.{reclaiming_begins}
 use Rattle.papaya_executor.specs.IsAt.{Scene, at_first}
-use Rattle.papaya_acts.specs.Acts.{Act}
+use Rattle.papaya_acts.specs.Acts.{Answer}
+use Rattle.papaya_acts.specs.Doings.{Doing, Does, BeginsReclaiming, BeginsClearing, StepsReclaiming, IsLeft, Stage, reclaiming, behind, MayDo, HasDone}
 use Rattle.papaya_acts.specs.Lists.{Course, Reached, LedTo}
 use Rattle.papaya_acts.specs.Reclaiming.{IsReclaimingAll, ReclaimedOn}
-use Rattle.papaya_carries.specs.Lists.{AreTheirs, IsLeft, ReclaimsTo, OnlyPairsAreLeft, ListsKeepTheirs, ReclaimingBeginsThere, OnlyPairsWaitThere, AllCanBeReclaimedThere}
+use Rattle.papaya_carries.specs.Lists.{AreTheirs, ReclaimsTo, OnlyPairsAreLeft, ListsKeepTheirs, ReclaimingBeginsThere, OnlyPairsWaitThere, AllCanBeReclaimedThere}
 use Rattle.papaya_carries.proofs.Acts.{by_act}
 use Rattle.papaya_carries.proofs.Guards.{none_begins}
-use Rattle.papaya_carries.proofs.Left as left
 use Rattle.papaya_carries.proofs.Reclaimed.{reclaiming_comes_to_end}
 use Rattle.papaya_carries.proofs.Reclaiming.{reclaiming_keeps_theirs, nothing_else_waits}
 
@@ -34,8 +34,12 @@ module _ {K : Type 0} (V : Type 0) (same : K → K → Bool) (hash : K → ℕ) 
   none_at_first =
       none_begins {Q = K} V same same batch_size roots slot (at_start deferred_word roots) (λ m. None) (λ m i. None) (λ i. None) (λ i. None) (λ b had. had)
 
-  free_at_first : IsLeft V same hash batch_size roots slot (at_first roots) (λ r. [])
-  free_at_first = nothing_is_left K V roots (at_start deferred_word roots) (λ m. None) (λ i. None) (λ i. None) (λ r below. inr (zero_at roots r below, zero_at roots r below))
+  -- who reclaims all does so while nobody has anything under way
+  pub idle_there : (p : Stage V same hash batch_size roots slot) (i : ℕ) (c : ReclaimAll) → reclaiming V same hash batch_size roots slot p ≡ Some (i, c)
+      → IsReclaimingAll V same batch_size roots slot p.0 i (behind V same hash batch_size roots slot p) c
+  idle_there (s, all, inl left) i c is = absurd (cc is)
+  idle_there (s, all, inr (j, lists, d, idle)) i c is =
+      subst (λ (it : ℕ × ReclaimAll). IsReclaimingAll V same batch_size roots slot s it.0 lists it.1) (same_some (j, d) (i, c) is) idle
 
   -- a step of a caller that reclaims all
   module _ (i : ℕ) (s : Scene K V) (lists : ℕ → List ℕ) (c : ReclaimAll) (idle : IsReclaimingAll V same batch_size roots slot s i lists c) (theirs : AreTheirs s)
@@ -43,18 +47,18 @@ module _ {K : Type 0} (V : Type 0) (same : K → K → Bool) (hash : K → ℕ) 
     abbrev led : Scene K V
     led = record s { world = on.did.w2; maps = on.did.maps2 }
 
-    led_theirs : AreTheirs (record s { world = on.did.w2; maps = on.did.maps2 })
+    pub led_theirs : AreTheirs (record s { world = on.did.w2; maps = on.did.maps2 })
     led_theirs = reclaiming_keeps_theirs V same same batch_size roots slot s.world s.maps s.calls s.makers s.enders idle.stand i lists c.stands on.memory c2 told on.did theirs
 
-    then_theirs : AreTheirs v
+    pub then_theirs : AreTheirs v
     then_theirs = subst AreTheirs (sym on.comes) led_theirs
 
-    goes_on : IsReclaimingAll V same batch_size roots slot v i lists2 c2
+    pub goes_on : IsReclaimingAll V same batch_size roots slot v i lists2 c2
     goes_on =
         subst (λ (x : Scene K V). IsReclaimingAll V same batch_size roots slot x i lists2 c2) (sym on.comes)
         (subst (λ (l : ℕ → List ℕ). IsReclaimingAll V same batch_size roots slot led i l c2) (sym on.lists_are) on.did.next)
 
-    is_over : told ≡ settled.Done → OnlyPairsAreLeft V same hash batch_size roots slot v
+    pub is_over : told ≡ settled.Done → OnlyPairsAreLeft V same hash batch_size roots slot v
     is_over done =
         subst (OnlyPairsAreLeft V same hash batch_size roots slot) (sym on.comes)
         (on.did.over done, nothing_else_waits V same same batch_size roots slot on.did.w2 on.did.maps2 s.calls s.makers s.enders on.did.next.stand (on.did.over done) led_theirs)
@@ -69,25 +73,29 @@ module _ {K : Type 0} (V : Type 0) (same : K → K → Bool) (hash : K → ℕ) 
       reclaimed_theirs i v n lists2 c2 (goes_on i s lists c idle theirs g told v lists2 c2 on) (then_theirs i s lists c idle theirs g told v lists2 c2 on) grants more
 
   module _ (course : Course V same hash batch_size roots slot) where
+    -- by whatever is done
+    by_doing : (p n : Stage V same hash batch_size roots slot) (doing : Doing K V) → MayDo V same hash batch_size roots slot doing p → (told : Answer K V)
+        → HasDone V same hash batch_size roots slot doing p told n → AreTheirs p.0 → AreTheirs n.0
+    by_doing p n (Does act) may told (led, idle) theirs = by_act same hash batch_size roots slot p.0 n.0 p.1 n.1 theirs act may.1 told led
+    by_doing p n (BeginsReclaiming i) may told (none, is, behind_is, begun) theirs = subst AreTheirs (sym is) theirs
+    by_doing p n (BeginsClearing i) may told (none, is, behind_is, begun) theirs = subst AreTheirs (sym is) theirs
+    by_doing p n (StepsReclaiming g) may told st theirs =
+        then_theirs st.caller p.0 (behind V same hash batch_size roots slot p) st.machine (idle_there p st.caller st.machine st.here) theirs g st.end n.0 st.lists st.next st.did
+
     pub lists_keep_theirs : ListsKeepTheirs V same hash batch_size roots slot course
     lists_keep_theirs [] x led = subst (λ (y : Reached V same hash batch_size roots slot). AreTheirs y.0.0) (sym led) none_at_first
-    lists_keep_theirs (act ∷ acts) x (y, led, may, is) =
+    lists_keep_theirs (doing ∷ doings) x (y, led, may, is) =
         subst (λ (z : Reached V same hash batch_size roots slot). AreTheirs z.0.0) (sym is)
-        (by_act same hash batch_size roots slot y.0.0 (course.next y.0 act may).0 y.0.1 (course.next y.0 act may).1 (lists_keep_theirs acts y led) act may (course.told y.0 act may)
-        (course.leads y.0 act may))
+        (by_doing y.0 (course.next y.0 doing may) doing may (course.told y.0 doing may) (course.leads y.0 doing may) (lists_keep_theirs doings y led))
 
-    left_there : (acts : List (Act K V)) (x : Reached V same hash batch_size roots slot) → LedTo V same hash batch_size roots slot course acts x
-        → (lists : ℕ → List ℕ) × IsLeft V same hash batch_size roots slot x.0.0 lists
-    left_there [] x led =
-        ((λ r. []), subst (λ (y : Reached V same hash batch_size roots slot). IsLeft V same hash batch_size roots slot y.0.0 (λ r. [])) (sym led) free_at_first)
-    left_there (act ∷ acts) x (y, led, may, is) =
-        let before = left_there acts y led in
-        let then = left.by_act same hash batch_size roots slot y.0.0 (course.next y.0 act may).0 y.0.1 before.0 before.1 act may (course.told y.0 act may) (course.leads y.0 act may) in
-        (then.0, subst (λ (z : Reached V same hash batch_size roots slot). IsLeft V same hash batch_size roots slot z.0.0 then.0) (sym is) then.1)
+    -- while nobody reclaims all, what ended maps have left is behind roots that are nobody's
+    left_there : (p : Stage V same hash batch_size roots slot) → reclaiming V same hash batch_size roots slot p ≡ None → (lists : ℕ → List ℕ) × IsLeft roots p.0 lists
+    left_there (s, all, inl left) none = left
+    left_there (s, all, inr (i, lists, c, reclaims)) none = absurd (cc none)
 
     pub reclaiming_begins_there : ReclaimingBeginsThere V same hash batch_size roots slot course
-    reclaiming_begins_there word acts x led rest =
-        let there = left_there acts x led in
+    reclaiming_begins_there word doings x came (rest, none) =
+        let there = left_there x.0 none in
         let behind = (left_is_left_behind K V roots x.0.0.world x.0.0.maps x.0.0.makers x.0.0.enders there.0 rest.no_makers rest.no_enders).0 there.1 in (
           there.0,
           λ i. reclaiming_begins V same same batch_size roots slot x.0.0.maps x.0.0.calls x.0.0.makers x.0.0.enders x.0.0.world i there.0 word
@@ -95,22 +103,22 @@ module _ {K : Type 0} (V : Type 0) (same : K → K → Bool) (hash : K → ℕ) 
         )
 
     pub only_pairs_wait_there : OnlyPairsWaitThere V same hash batch_size roots slot course
-    only_pairs_wait_there acts x led i lists c idle grants n to = reclaimed_theirs i x.0.0 n lists c idle (lists_keep_theirs acts x led) grants to
+    only_pairs_wait_there doings x led i lists c idle grants n to = reclaimed_theirs i x.0.0 n lists c idle (lists_keep_theirs doings x led) grants to
 
     pub all_can_be_reclaimed_there : AllCanBeReclaimedThere V same hash batch_size roots slot course
-    all_can_be_reclaimed_there word acts x led rest i = by (word_at x.0.0.world.memory (Slot 0 HEAD)) refl
+    all_can_be_reclaimed_there word doings x led rest i = by (word_at x.0.0.world.memory (Slot 0 HEAD)) refl
       where
         begins : (lists : ℕ → List ℕ) × ((i : ℕ)
             → (IsSome (word_at x.0.0.world.memory (Slot 0 HEAD)) → IsReclaimingAll V same batch_size roots slot x.0.0 i lists (reclaiming_all batch_size roots))
             × (IsQuiet x.0.0.world → IsReclaimingAll V same batch_size roots slot x.0.0 i lists (clearing roots))
             × (word_at x.0.0.world.memory (Slot 0 HEAD) ≡ None → IsQuiet x.0.0.world))
-        begins = reclaiming_begins_there word acts x led rest
+        begins = reclaiming_begins_there word doings x led rest
 
         from : (c : ReclaimAll) → IsReclaimingAll V same batch_size roots slot x.0.0 i begins.0 c → (lists : ℕ → List ℕ) × (c : ReclaimAll) × (grants : List Grant) × (n : Scene K V)
             × ReclaimsTo V same hash batch_size roots slot i grants x.0.0 lists c n × OnlyPairsAreLeft V same hash batch_size roots slot n
         from c idle =
             let k = reclaiming_comes_to_end V same hash batch_size roots slot i word x.0.0 begins.0 c idle in
-            (begins.0, c, k.0, k.1, k.2, only_pairs_wait_there acts x led i begins.0 c idle k.0 k.1 k.2)
+            (begins.0, c, k.0, k.1, k.2, only_pairs_wait_there doings x led i begins.0 c idle k.0 k.1 k.2)
 
         by : (o : Option ℕ) → word_at x.0.0.world.memory (Slot 0 HEAD) ≡ o → (lists : ℕ → List ℕ) × (c : ReclaimAll) × (grants : List Grant) × (n : Scene K V)
             × ReclaimsTo V same hash batch_size roots slot i grants x.0.0 lists c n × OnlyPairsAreLeft V same hash batch_size roots slot n

@@ -44,7 +44,7 @@ module _ {T : Type 0} (m : Mem T) where
   answered (Room bucket) can = (Some 0, Roomed (Ok tt), refl, (tt, refl))
 
   -- so does a step that may be taken
-  may_be_stepped : {R : Type 0} (plan : Plan T R) → May Can Took value_at m plan → (g : Grant) × (p : Mem T × R) × (stepped m g plan ≡ Some p)
+  pub may_be_stepped : {R : Type 0} (plan : Plan T R) → May Can Took value_at m plan → (g : Grant) × (p : Mem T × R) × (stepped m g plan ≡ Some p)
   may_be_stepped {R} (Turn rest) may =
       let k = sees_end (value_at m) rest may in (None, (m, k.0), ap (λ (o : Option R). then_on o (λ x. Some (m, x))) k.1)
   may_be_stepped {R} (Do op rest) may =
@@ -56,7 +56,7 @@ module _ {T : Type 0} (m : Mem T) where
             ∙ ap (λ (o : Option R). then_on o (λ x. Some (after m op a.1, x))) k.1,
       )
 
-some_is_there : {X : Type 0} (o : Option X) (x : X) → o ≡ Some x → is_none o ≡ false
+pub some_is_there : {X : Type 0} (o : Option X) (x : X) → o ≡ Some x → is_none o ≡ false
 some_is_there o x e = ap is_none e
 
 module _ {K : Type 0} (V : Type 0) (same : K → K → Bool) (hash : K → ℕ) (batch_size roots : ℕ) (slot : ℕ → ℕ) (i : ℕ) where

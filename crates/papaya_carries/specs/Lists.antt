@@ -1,6 +1,6 @@
 -- What is promised of lists of acts: after any of them each block behind which something may be put is somebody's, what ended maps have left is behind roots
 -- that are nobody's, and once a caller has reclaimed all, nothing waits but pairs that are deferred on linked tables.
-use Rattle.std.specs.Prelude.{◌≡◌, ◌⊎◌, ℕ, ◌<◌, ◌^◌, Bool, List, [], ◌∷◌, None, IsSome}
+use Rattle.std.specs.Prelude.{◌≡◌, ◌⊎◌, ℕ, ◌<◌, ◌^◌, Bool, List, [], ◌∷◌, ◌++◌, None, IsSome}
 use Rattle.papaya_executor.specs.Given.SeizeWords.declared.at.At.TheVariants.{Slot}
 use Rattle.papaya_executor.specs.Given.SeizeWords.Mem.{word_at}
 use Rattle.papaya_executor.specs.Given.Seize.ReclaimAll.{reclaiming_all, clearing}
@@ -11,11 +11,11 @@ use Rattle.papaya_executor.specs.Given.Seize.declared.states.TheConstants.{HEAD}
 use Rattle.seize_acts.specs.Answers.{Grant}
 use Rattle.papaya_executor.specs.Given.Tables.declared.node.Node.{Node}
 use Rattle.papaya_reclaims.specs.Deferred.{OnlyPairsWait}
-use Rattle.papaya_reclaims.specs.Left.{LeftAmong}
 use Rattle.papaya_reclaims.specs.Reclaims.{AllIsReclaimed}
 use Rattle.papaya_reclaims.specs.Slots.{AllRest, IsQuiet}
 use Rattle.papaya_executor.specs.IsAt.{Scene}
 use Rattle.papaya_acts.specs.Acts.{Act, Answer}
+use Rattle.papaya_acts.specs.Doings.{Doing, StepsReclaiming, reclaiming}
 use Rattle.papaya_acts.specs.Leads.{MayBe, AllStand, Led}
 use Rattle.papaya_acts.specs.Lists.{Course, Reached, LedTo}
 use Rattle.papaya_acts.specs.Reclaiming.{IsReclaimingAll, ReclaimedOn}
@@ -39,16 +39,6 @@ module _ {K : Type 0} (V : Type 0) (same : K → K → Bool) (hash : K → ℕ) 
       (s n : Scene K V) → AllStand same hash batch_size roots slot s → AllStand same hash batch_size roots slot n → (act : Act K V) → MayBe same hash batch_size roots slot act s
       → (told : Answer K V) → Led same hash batch_size roots slot act s told n → AreTheirs s → AreTheirs n
 
-  -- these lists are behind the roots that are nobody's, and each other one of these is free
-  abbrev pub IsLeft : Scene K V → (ℕ → List ℕ) → Type 0
-  IsLeft s lists = LeftAmong roots s.world s.maps s.makers s.enders lists
-
-  -- The promise of one act: what ended maps have left stays there, whichever comes to it.
-  abbrev pub ActsLeaveIt : Type 0
-  ActsLeaveIt =
-      (s n : Scene K V) → AllStand same hash batch_size roots slot s → (act : Act K V) → MayBe same hash batch_size roots slot act s
-      → (told : Answer K V) → Led same hash batch_size roots slot act s told n → (lists : ℕ → List ℕ) → IsLeft s lists → (lists2 : ℕ → List ℕ) × IsLeft n lists2
-
   -- All is reclaimed there, and nothing waits but pairs that are deferred on linked tables of maps that stand, in resizes that are unfinished.
   abbrev pub OnlyPairsAreLeft : Scene K V → Type 0
   OnlyPairsAreLeft s = AllIsReclaimed roots s.world s.maps × OnlyPairsWait s.world s.maps
@@ -66,16 +56,20 @@ module _ {K : Type 0} (V : Type 0) (same : K → K → Bool) (hash : K → ℕ) 
       batch_size < 2 ^ 64 → (s : Scene K V) (lists : ℕ → List ℕ) (c : ReclaimAll) → IsReclaimingAll V same batch_size roots slot s i lists c
       → (grants : List Grant) × (n : Scene K V) × ReclaimsTo i grants s lists c n
 
+  -- nobody has anything under way, nor reclaims all
+  abbrev pub AllRestThere : Reached V same hash batch_size roots slot → Type 0
+  AllRestThere x = IsAtRest x.0.0 × (reclaiming V same hash batch_size roots slot x.0 ≡ None)
+
   module _ (course : Course V same hash batch_size roots slot) where
     -- The promise: wherever a list of acts has led, each block behind which something may be put is somebody's.
     abbrev pub ListsKeepTheirs : Type 0
     ListsKeepTheirs =
-        (acts : List (Act K V)) (x : Reached V same hash batch_size roots slot) → LedTo V same hash batch_size roots slot course acts x → AreTheirs x.0.0
+        (doings : List (Doing K V)) (x : Reached V same hash batch_size roots slot) → LedTo V same hash batch_size roots slot course doings x → AreTheirs x.0.0
 
     -- There, if nobody has anything under way, any caller may begin to reclaim all, with what is behind the roots then.
     abbrev pub ReclaimingBeginsThere : Type 0
     ReclaimingBeginsThere =
-        batch_size < 2 ^ 64 → (acts : List (Act K V)) (x : Reached V same hash batch_size roots slot) → LedTo V same hash batch_size roots slot course acts x → IsAtRest x.0.0
+        batch_size < 2 ^ 64 → (doings : List (Doing K V)) (x : Reached V same hash batch_size roots slot) → LedTo V same hash batch_size roots slot course doings x → AllRestThere x
         → (lists : ℕ → List ℕ) × ((i : ℕ)
         → (IsSome (word_at x.0.0.world.memory (Slot 0 HEAD)) → IsReclaimingAll V same batch_size roots slot x.0.0 i lists (reclaiming_all batch_size roots))
         × (IsQuiet x.0.0.world → IsReclaimingAll V same batch_size roots slot x.0.0 i lists (clearing roots))
@@ -84,12 +78,25 @@ module _ {K : Type 0} (V : Type 0) (same : K → K → Bool) (hash : K → ℕ) 
     -- And once it has come to its end only pairs are left.
     abbrev pub OnlyPairsWaitThere : Type 0
     OnlyPairsWaitThere =
-        (acts : List (Act K V)) (x : Reached V same hash batch_size roots slot) → LedTo V same hash batch_size roots slot course acts x
+        (doings : List (Doing K V)) (x : Reached V same hash batch_size roots slot) → LedTo V same hash batch_size roots slot course doings x
         → (i : ℕ) (lists : ℕ → List ℕ) (c : ReclaimAll) → IsReclaimingAll V same batch_size roots slot x.0.0 i lists c
         → (grants : List Grant) (n : Scene K V) → ReclaimsTo i grants x.0.0 lists c n → OnlyPairsAreLeft n
 
     -- In one piece: there, if nobody has anything under way, any caller can reclaim all, so that only pairs are left.
     abbrev pub AllCanBeReclaimedThere : Type 0
     AllCanBeReclaimedThere =
-        batch_size < 2 ^ 64 → (acts : List (Act K V)) (x : Reached V same hash batch_size roots slot) → LedTo V same hash batch_size roots slot course acts x → IsAtRest x.0.0
+        batch_size < 2 ^ 64 → (doings : List (Doing K V)) (x : Reached V same hash batch_size roots slot) → LedTo V same hash batch_size roots slot course doings x → AllRestThere x
         → (i : ℕ) → (lists : ℕ → List ℕ) × (c : ReclaimAll) × (grants : List Grant) × (n : Scene K V) × ReclaimsTo i grants x.0.0 lists c n × OnlyPairsAreLeft n
+
+    -- So a list goes on by which all is reclaimed, and other acts may come behind it: nobody has anything under way then.
+    abbrev pub ListsReclaimAll : Type 0
+    ListsReclaimAll =
+        batch_size < 2 ^ 64 → (doings : List (Doing K V)) (x : Reached V same hash batch_size roots slot) → LedTo V same hash batch_size roots slot course doings x → AllRestThere x
+        → (i : ℕ) → (more : List (Doing K V)) × (y : Reached V same hash batch_size roots slot) × LedTo V same hash batch_size roots slot course (more ++ doings) y
+        × AllRestThere y × OnlyPairsAreLeft y.0.0
+
+    -- Wherever a list has led by the last step of a caller that reclaims all, only pairs are left, and nobody has anything under way.
+    abbrev pub OnlyPairsWaitBehind : Type 0
+    OnlyPairsWaitBehind =
+        (g : Grant) (doings : List (Doing K V)) (x : Reached V same hash batch_size roots slot) → LedTo V same hash batch_size roots slot course (StepsReclaiming g ∷ doings) x
+        → reclaiming V same hash batch_size roots slot x.0 ≡ None → AllRestThere x × OnlyPairsAreLeft x.0.0

@@ -6,8 +6,9 @@ ghost use Rattle.papaya_executor.specs.Given.Callers.Together.{UnderWay};
 ghost use Rattle.papaya_executor.specs.Given.Finishes.Endings.{Finishing};
 ghost use Rattle.papaya_executor.specs.Given.Finishes.Makings.{Beginning};
 ghost use Rattle.papaya_executor.specs.Given.Finishes.Maps.{Standing};
+ghost use Rattle.papaya_acts.specs.Doings.{ActsLeaveIt};
 ghost use Rattle.papaya_acts.specs.Lists.{Course};
-ghost use Rattle.papaya_carries.specs.Lists.{ActsKeepTheirs, ActsLeaveIt, AllCanBeReclaimedThere, ListsKeepTheirs, OnlyPairsWaitThere, ReclaimingBeginsThere, ReclaimingComesToEnd};
+ghost use Rattle.papaya_carries.specs.Lists.{ActsKeepTheirs, AllCanBeReclaimedThere, ListsKeepTheirs, ListsReclaimAll, OnlyPairsWaitBehind, OnlyPairsWaitThere, ReclaimingBeginsThere, ReclaimingComesToEnd};
 ghost use Rattle.papaya_carries.specs.Promises.{CallsKeepTheirs, ChangesKeepTheirs, EndingsBeginAndKeepTheirs, EndingsKeepTheirs, GuardsKeepTheirs, MakingsKeepTheirs, NoneBegins, NothingElseWaits, OnlyTablesCarry, ReclaimingKeepsTheirs, RoomRowsKeepTheirs, RoomsKeepTheirs, RowsKeepTheirs, SweepRowsKeepTheirs, SweepsKeepTheirs};
 
 /// Each block that users have, and behind which something may be put, is a linked table of a map that stands, or one that a call has unlinked and is to hand
@@ -38,7 +39,8 @@ pub fn what_carries_is_somebodys<K, V, Q>()
 /// Any number of callers begin calls on any maps of one collector, take steps of them, tell them what they ask for, make and end maps, and work on their slots,
 /// in any order: after any list of such acts each block that users have, and behind which something may be put, is somebody's, and what ended maps have left is
 /// behind roots that are nobody's. Where nobody has anything under way then, any caller may begin to reclaim all. There are steps by which it comes to its end,
-/// and whichever led it there, nothing waits then but pairs that are deferred on linked tables of maps that stand, in resizes that are unfinished.
+/// and whichever led it there, nothing waits then but pairs that are deferred on linked tables of maps that stand, in resizes that are unfinished. The list goes
+/// on by those steps, and by other acts behind them, as often as one likes: all of this is so then, too.
 pub fn lists_leave_only_pairs<K, V>()
     ensures acts { (same : K → K → Bool) (hash : K → ℕ) (batch_size roots : ℕ) (slot : ℕ → ℕ) → ActsKeepTheirs V same hash batch_size roots slot }
     ensures left { (same : K → K → Bool) (hash : K → ℕ) (batch_size roots : ℕ) (slot : ℕ → ℕ) → ActsLeaveIt V same hash batch_size roots slot }
@@ -47,4 +49,6 @@ pub fn lists_leave_only_pairs<K, V>()
     ensures ends { (same : K → K → Bool) (hash : K → ℕ) (batch_size roots : ℕ) (slot : ℕ → ℕ) (i : ℕ) → ReclaimingComesToEnd V same hash batch_size roots slot i }
     ensures waits { (same : K → K → Bool) (hash : K → ℕ) (batch_size roots : ℕ) (slot : ℕ → ℕ) (course : Course V same hash batch_size roots slot) → OnlyPairsWaitThere V same hash batch_size roots slot course }
     ensures all { (same : K → K → Bool) (hash : K → ℕ) (batch_size roots : ℕ) (slot : ℕ → ℕ) (course : Course V same hash batch_size roots slot) → AllCanBeReclaimedThere V same hash batch_size roots slot course }
+    ensures by_lists { (same : K → K → Bool) (hash : K → ℕ) (batch_size roots : ℕ) (slot : ℕ → ℕ) (course : Course V same hash batch_size roots slot) → ListsReclaimAll V same hash batch_size roots slot course }
+    ensures after { (same : K → K → Bool) (hash : K → ℕ) (batch_size roots : ℕ) (slot : ℕ → ℕ) (course : Course V same hash batch_size roots slot) → OnlyPairsWaitBehind V same hash batch_size roots slot course }
 {}

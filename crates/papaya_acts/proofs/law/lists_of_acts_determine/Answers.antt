@@ -1,5 +1,5 @@
 -- Acts of any number of callers, one by one and as lists.
-use Rattle.papaya_acts.proofs.Courses.{courses_agree}
+use Rattle.papaya_acts.proofs.Agree.{courses_agree}
 use Rattle.papaya_acts.proofs.Lists.{steps_are_acts, lists_determine}
 use Rattle.papaya_acts.proofs.law.lists_of_acts_determine.Goals as goal
 

@@ -1,7 +1,8 @@
 -- Lists of acts, and a caller that reclaims all after one.
+use Rattle.papaya_acts.proofs.Left.{acts_leave_it}
 use Rattle.papaya_carries.proofs.Acts.{acts_keep_theirs}
-use Rattle.papaya_carries.proofs.Left.{acts_leave_it}
 use Rattle.papaya_carries.proofs.Lists.{lists_keep_theirs, reclaiming_begins_there, only_pairs_wait_there, all_can_be_reclaimed_there}
+use Rattle.papaya_carries.proofs.Onward.{lists_reclaim_all, only_pairs_wait_behind}
 use Rattle.papaya_carries.proofs.Reclaimed.{reclaiming_comes_to_end}
 use Rattle.papaya_carries.proofs.law.lists_leave_only_pairs.Goals as goal
 
@@ -14,4 +15,6 @@ returns c d = record {
   ends = reclaiming_comes_to_end _;
   waits = only_pairs_wait_there _;
   all = all_can_be_reclaimed_there _;
+  by_lists = lists_reclaim_all _;
+  after = only_pairs_wait_behind _;
 }

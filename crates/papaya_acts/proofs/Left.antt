@@ -2,6 +2,7 @@
 use Rattle.std.specs.Prelude.{◌≢◌, ◌⊎◌, ◌++◌, Option, Some, None}
 use Rattle.std.proofs.Common.{◌≡◌, ℕ, Bool, List, [], ◌∷◌, inl, inr, refl, ap, sym, subst, ◌∙◌}
 use Rattle.std.proofs.lemmas.Bool.{cases_eq}
+use Rattle.std.proofs.lemmas.List.{append-nil}
 use Rattle.papaya_executor.specs.Given.SeizeWords.Mem.{Mem}
 use Rattle.papaya_executor.specs.Given.Seize.Law.{Ended}
 use Rattle.papaya_executor.specs.Given.Seize.World.{World, with_at, with_effect}
@@ -9,16 +10,18 @@ use Rattle.papaya_executor.specs.Given.Seize.declared.progress.Progress.{Progres
 use Rattle.papaya_executor.specs.Given.Seize.declared.progress.Progress.TheVariants as progress
 use Rattle.papaya_executor.specs.Given.Seize.declared.rows.settle.Settled.{Settled}
 use Rattle.papaya_executor.specs.Given.Seize.declared.rows.settle.Settled.TheVariants as settled
+use Rattle.seize_acts.proofs.Answers.{same_some}
 use Rattle.papaya_executor.specs.Given.Tables.declared.node.Node.{Node}
 use Rattle.papaya_executor.specs.Given.Tables.declared.setting.Setting.{Setting}
 use Rattle.papaya_executor.specs.Given.Resize.declared.new_map.NewMap.{NewMap}
 use Rattle.papaya_executor.specs.Given.Raw.declared.machines.end_map.EndMap.{EndMap}
 use Rattle.papaya_executor.proofs.Given.Callers.Together.At.{at_other, at_same}
+use Rattle.papaya_executor.specs.Given.Callers.Together.{UnderWay}
 use Rattle.papaya_executor.specs.Given.Finishes.Endings.{Finishing, MakingStepsAmong, StepsOfEnding, waiting_by}
-use Rattle.papaya_executor.specs.Given.Finishes.FactsEnds.{taken_by}
+use Rattle.papaya_executor.specs.Given.Finishes.FactsEnds.{Deed, taken_by}
 use Rattle.papaya_executor.specs.Given.Finishes.Makings.{Beginning}
 use Rattle.papaya_executor.specs.Given.Finishes.Maps.{Standing}
-use Rattle.papaya_reclaims.specs.Left.{IsSomebodys, LeftAmong}
+use Rattle.papaya_reclaims.specs.Left.{GoesOnBy, IsSomebodys, LeftAmong}
 use Rattle.papaya_reclaims.specs.Reclaims.{IsRootOf, RootLeads}
 use Rattle.papaya_reclaims.proofs.Left.Calls.{machines_leave_it, guards_leave_it}
 use Rattle.papaya_reclaims.proofs.Left.Endings.{endings_begin_and_leave_it, endings_leave_it}
@@ -26,11 +29,21 @@ use Rattle.papaya_reclaims.proofs.Left.Makings.{makings_begin_and_leave_it, maki
 use Rattle.papaya_executor.specs.IsAt.{Scene}
 use Rattle.papaya_acts.specs.Acts.{Act, Answer}
 use Rattle.papaya_acts.specs.Acts.{BeginsCall, StepsCall, TellsCall, AsksCall, StopsCall, BeginsMaking, StepsMaking, BeginsEnding, StepsEnding, BeginsRow, StepsRow}
+use Rattle.papaya_acts.specs.Doings.{IsLeft, ActsLeaveIt}
 use Rattle.papaya_acts.specs.Leads.{MayBe, AllStand, Led, MakingCame, EndingCame, making_begun}
 use Rattle.papaya_acts.proofs.Tests.{none_is}
-use Rattle.papaya_carries.specs.Lists.{IsLeft, ActsLeaveIt}
-use Rattle.papaya_carries.proofs.Acts.{goes_on_by, goes_on_same}
-use Rattle.papaya_carries.proofs.Owed.{one_some}
+
+-- an end goes on, with what it has reclaimed by now, and what waits
+pub goes_on_by : {K V Q : Type 0} (same : K → K → Bool) (asks : Q → K → Bool) (batch_size roots : ℕ) (slot : ℕ → ℕ) (w : World (Node K V)) (maps : ℕ → Option (Standing K))
+    (calls : ℕ → ℕ → Option (UnderWay K V Q)) (makers : ℕ → Option (Beginning K)) (enders : ℕ → Option (Finishing K V)) (f : Finishing K V) (machine : EndMap) (deed : Deed) (back : List ℕ)
+    → taken_by deed ≡ back → GoesOnBy V same asks batch_size roots slot w maps calls makers enders f deed (record f { machine = machine; back = f.back ++ back; waits = f.waits ++ waiting_by deed })
+goes_on_by same asks batch_size roots slot w maps calls makers enders f machine deed back taken =
+    record { setting_is = refl; chart_is = refl; blocks_are = refl; back_is = ap (λ (l : List ℕ). f.back ++ l) (sym taken); waits_are = refl }
+
+-- one that has taken nothing has reclaimed what it had
+pub goes_on_same : {K V : Type 0} (f : Finishing K V) (machine : EndMap) (waits : List ℕ)
+    → ◌≡◌ {A = Finishing K V} (record f { machine = machine; back = f.back ++ []; waits = waits }) (record f { machine = machine; waits = waits })
+goes_on_same f machine waits = ap (λ (l : List ℕ). record f { machine = machine; back = l; waits = waits }) (append-nil f.back)
 
 -- a map that came has that root, whatever else is said of it
 module _ {K V : Type 0} (roots : ℕ) (w : World (Node K V)) (maps : ℕ → Option (Standing K)) (makers : ℕ → Option (Beginning K)) (enders : ℕ → Option (Finishing K V)) (k : ℕ) where
@@ -42,7 +55,7 @@ module _ {K V : Type 0} (roots : ℕ) (w : World (Node K V)) (maps : ℕ → Opt
         k,
         r,
         at_same maps k (Some r) k refl,
-        ap (λ (x : Setting). x.root) (sym e) ∙ ap (λ (x : Standing K). x.setting.root) (one_some (with_at maps k (Some s) m) s it (at_same maps k (Some s) m at) here) ∙ is,
+        ap (λ (x : Setting). x.root) (sym e) ∙ ap (λ (x : Standing K). x.setting.root) (same_some s it (sym (at_same maps k (Some s) m at) ∙ here)) ∙ is,
       )
       by (inr ne) = (m, it, at_other maps k (Some r) m ne ∙ sym (at_other maps k (Some s) m ne) ∙ here, is)
 
@@ -63,9 +76,9 @@ module _ {K V : Type 0} (roots : ℕ) (w : World (Node K V)) (maps : ℕ → Opt
   }
 
 module _ {K V : Type 0} (same : K → K → Bool) (hash : K → ℕ) (batch_size roots : ℕ) (slot : ℕ → ℕ) (s n : Scene K V) (all : AllStand same hash batch_size roots slot s)
-    (lists : ℕ → List ℕ) (left : IsLeft V same hash batch_size roots slot s lists) where
+    (lists : ℕ → List ℕ) (left : IsLeft roots s lists) where
   abbrev Is : Scene K V → (ℕ → List ℕ) → Type 0
-  Is x lists2 = IsLeft V same hash batch_size roots slot x lists2
+  Is x lists2 = IsLeft roots x lists2
 
   abbrev Then : Type 0
   Then = (lists2 : ℕ → List ℕ) × Is n lists2

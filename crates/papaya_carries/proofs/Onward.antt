@@ -1,0 +1,166 @@
+-- A list of acts goes on by which all is reclaimed: a caller begins, and takes steps until it has come to its end. Only pairs are left then.
+use Rattle.std.specs.Prelude.{◌++◌, Option, Some, None}
+use Rattle.std.specs.Option.{is_none}
+use Rattle.std.proofs.Common.{◌≡◌, ℕ, ◌<◌, ◌^◌, Bool, false, List, [], ◌∷◌, refl, ap, sym, subst, ◌∙◌}
+use Rattle.std.proofs.lemmas.List.{append_assoc}
+use Rattle.papaya_executor.specs.Given.SeizeWords.declared.at.At.TheVariants.{Slot}
+use Rattle.papaya_executor.specs.Given.SeizeWords.Mem.{Mem, Took, value_at, word_at}
+use Rattle.papaya_executor.specs.Given.SeizeWords.Plan.{Steps}
+use Rattle.papaya_executor.specs.Given.Seize.ReclaimAll.{reclaiming_all, clearing, reclaim_all_plan}
+use Rattle.papaya_executor.specs.Given.Seize.World.{Row, Use}
+use Rattle.papaya_executor.specs.Given.Seize.declared.rows.reclaim_all.ReclaimAll.{ReclaimAll}
+use Rattle.papaya_executor.specs.Given.Seize.declared.rows.settle.Settled.{Settled}
+use Rattle.papaya_executor.specs.Given.Seize.declared.rows.settle.Settled.TheVariants as settled
+use Rattle.papaya_executor.specs.Given.Seize.declared.states.TheConstants.{HEAD}
+use Rattle.seize_acts.specs.Acts.{rests}
+use Rattle.seize_acts.specs.Answers.{Grant, then_on}
+use Rattle.seize_acts.proofs.Answers.{same_some, was_stepped}
+use Rattle.papaya_executor.specs.Given.Tables.Nodes.{deferred_word, was_left}
+use Rattle.papaya_executor.specs.Given.Tables.declared.node.Node.{Node}
+use Rattle.papaya_reclaims.specs.Ends.{ComesToEnd, Comes}
+use Rattle.papaya_reclaims.specs.Slots.{IsQuiet}
+use Rattle.papaya_reclaims.proofs.Ends.All.{reclaiming_ends}
+use Rattle.papaya_executor.specs.IsAt.{Scene}
+use Rattle.papaya_acts.specs.Doings.{Doing, BeginsReclaiming, BeginsClearing, StepsReclaiming, AllAreFree, SlotsAreFree, is_vacant, still, Stage, reclaiming, behind, MayDo, HasBegun, HasStepped}
+use Rattle.papaya_acts.specs.Lists.{Course, Reached, LedTo, on_by}
+use Rattle.papaya_acts.specs.Reclaiming.{IsReclaimingAll, reclaiming_steps}
+use Rattle.papaya_acts.proofs.Reclaiming.{reclaiming_is_by_acts}
+use Rattle.papaya_carries.specs.Lists.{AreTheirs, IsAtRest, AllRestThere, OnlyPairsAreLeft, ListsReclaimAll, OnlyPairsWaitBehind}
+use Rattle.papaya_carries.proofs.Lists.{idle_there, is_over, lists_keep_theirs, reclaiming_begins_there}
+use Rattle.papaya_carries.proofs.Reclaimed.{may_be_stepped, some_is_there}
+
+-- who has not come to its end goes on
+still_on : {T : Type 0} (e : Settled T) (it : ℕ × ReclaimAll) → (e ≡ settled.Done → ⊥) → still e it ≡ Some it
+still_on settled.Goes it not_done = refl
+still_on settled.Waits it not_done = refl
+still_on (settled.Gave value) it not_done = refl
+still_on settled.Done it not_done = absurd (not_done refl)
+
+has_ended : {T : Type 0} (e : Settled T) (it : ℕ × ReclaimAll) → still e it ≡ None → e ≡ settled.Done
+has_ended settled.Goes it none = absurd (cc none)
+has_ended settled.Waits it none = absurd (cc none)
+has_ended (settled.Gave value) it none = absurd (cc none)
+has_ended settled.Done it none = refl
+
+module _ {K : Type 0} (V : Type 0) (same : K → K → Bool) (hash : K → ℕ) (batch_size roots : ℕ) (slot : ℕ → ℕ) (course : Course V same hash batch_size roots slot) where
+  abbrev At : Type 0
+  At = Reached V same hash batch_size roots slot
+
+  abbrev Led : List (Doing K V) → At → Type 0
+  Led doings x = LedTo V same hash batch_size roots slot course doings x
+
+  abbrev May : Doing K V → At → Type 0
+  May doing x = MayDo V same hash batch_size roots slot doing x.0
+
+  abbrev on : (x : At) (doing : Doing K V) → May doing x → At
+  on x doing may = on_by V same hash batch_size roots slot course x doing may
+
+  abbrev Now : At → Option (ℕ × ReclaimAll)
+  Now x = reclaiming V same hash batch_size roots slot x.0
+
+  abbrev AllOver : At → Type 0
+  AllOver y = AllRestThere V same hash batch_size roots slot y × OnlyPairsAreLeft V same hash batch_size roots slot y.0.0
+
+  -- by its last step nobody has anything under way, and only pairs are left
+  module _ (doings : List (Doing K V)) (x : At) (led : Led doings x) (g : Grant) (may : May (StepsReclaiming g) x) where
+    abbrev st : HasStepped V same hash batch_size roots slot g x.0 (course.told x.0 (StepsReclaiming g) may) (course.next x.0 (StepsReclaiming g) may)
+    st = course.leads x.0 (StepsReclaiming g) may
+
+    idle : IsReclaimingAll V same batch_size roots slot x.0.0 st.caller (behind V same hash batch_size roots slot x.0) st.machine
+    idle = idle_there V same hash batch_size roots slot x.0 st.caller st.machine st.here
+
+    is_all_over : st.end ≡ settled.Done → AllOver (on x (StepsReclaiming g) may)
+    is_all_over done = (
+      (
+        record {
+          no_calls = λ m i. ap (λ (s : Scene K V). s.calls m i) st.did.comes ∙ idle.stand.no_calls m i;
+          no_makers = λ i. ap (λ (s : Scene K V). s.makers i) st.did.comes ∙ idle.stand.no_makers i;
+          no_enders = λ i. ap (λ (s : Scene K V). s.enders i) st.did.comes ∙ idle.stand.no_enders i;
+          rows = pairs.0.nothing.0;
+        },
+        st.goes_on ∙ ap (λ (e : Settled (Node K V)). still e (st.caller, st.next)) done,
+      ),
+      pairs,
+    )
+      where
+        pairs : OnlyPairsAreLeft V same hash batch_size roots slot (course.next x.0 (StepsReclaiming g) may).0
+        pairs =
+            is_over V same hash batch_size roots slot st.caller x.0.0 (behind V same hash batch_size roots slot x.0) st.machine idle (lists_keep_theirs V same hash batch_size roots slot course doings x led)
+            g st.end (course.next x.0 (StepsReclaiming g) may).0 st.lists st.next st.did done
+
+  pub only_pairs_wait_behind : OnlyPairsWaitBehind V same hash batch_size roots slot course
+  only_pairs_wait_behind g doings x (y, led, may, is) none =
+      let step = st doings y led g may in
+      subst AllOver (sym is) (is_all_over doings y led g may (has_ended step.end (step.caller, step.next) (sym step.goes_on ∙ ap Now (sym is) ∙ none)))
+
+  abbrev Onward : List (Doing K V) → Type 0
+  Onward doings = (more : List (Doing K V)) × (y : At) × Led (more ++ doings) y × AllRestThere V same hash batch_size roots slot y × OnlyPairsAreLeft V same hash batch_size roots slot y.0.0
+
+  by_one_more : (doing : Doing K V) (doings : List (Doing K V)) → Onward (doing ∷ doings) → Onward doings
+  by_one_more doing doings k = (k.0 ++ doing ∷ [], k.1, subst (λ (l : List (Doing K V)). Led l k.1) (sym (append_assoc k.0 (doing ∷ []) doings)) k.2, k.3, k.4)
+
+  -- whatever its step tells
+  by_step : (doings : List (Doing K V)) (x : At) (led : Led doings x) (g : Grant) (may : May (StepsReclaiming g) x) → (e : Settled (Node K V)) → (st doings x led g may).end ≡ e
+      → (((st doings x led g may).end ≡ settled.Done → ⊥) → Onward (StepsReclaiming g ∷ doings)) → Onward doings
+  by_step doings x led g may settled.Done is later =
+      let k = is_all_over doings x led g may is in (StepsReclaiming g ∷ [], on x (StepsReclaiming g) may, (x, led, may, refl), k.0, k.1)
+  by_step doings x led g may settled.Goes is later = by_one_more (StepsReclaiming g) doings (later (λ e. cc (is, e)))
+  by_step doings x led g may settled.Waits is later = by_one_more (StepsReclaiming g) doings (later (λ e. cc (is, e)))
+  by_step doings x led g may (settled.Gave value) is later = by_one_more (StepsReclaiming g) doings (later (λ e. cc (is, e)))
+
+  module _ (word : batch_size < 2 ^ 64) where
+    -- the next step may be taken
+    next_may : (x : At) (i : ℕ) (c : ReclaimAll) → Now x ≡ Some (i, c) → (g : Grant) × (is_none (then_on (Now x) (λ it. reclaiming_steps x.0.0 g it.1)) ≡ false)
+    next_may x i c here =
+        let acts = reclaiming_is_by_acts V same batch_size roots slot word x.0.0 i (behind V same hash batch_size roots slot x.0) c (idle_there V same hash batch_size roots slot x.0 i c here) in
+        let step = may_be_stepped x.0.0.world.memory (reclaim_all_plan deferred_word was_left c) acts.0 in (
+          step.0,
+          subst (λ (o : Option (ℕ × ReclaimAll)). is_none (then_on o (λ it. reclaiming_steps x.0.0 step.0 it.1)) ≡ false) (sym here)
+              (some_is_there (reclaiming_steps x.0.0 step.0 c) step.1 step.2),
+        )
+
+    to_end : (m : Mem (Node K V)) (c : ReclaimAll) → ComesToEnd m c → (doings : List (Doing K V)) (x : At) → Led doings x → (i : ℕ) → Now x ≡ Some (i, c) → x.0.0.world.memory ≡ m → Onward doings
+    to_end m c (Comes _ _ more) doings x led i here at =
+        let k = next_may x i c here in
+        let may : May (StepsReclaiming k.0) x = (word, k.1) in
+        let step = st doings x led k.0 may in
+        by_step doings x led k.0 may step.end refl
+        (λ not_done. to_end step.did.memory step.next
+        (more step.did.memory step.next step.end (subst (λ (y : Mem (Node K V)). Steps Took value_at y (reclaim_all_plan deferred_word was_left c) step.did.memory (step.next, step.end)) at
+        (subst (λ (it : ℕ × ReclaimAll). Steps Took value_at x.0.0.world.memory (reclaim_all_plan deferred_word was_left it.1) step.did.memory (step.next, step.end))
+        (same_some (step.caller, step.machine) (i, c) (sym step.here ∙ here))
+        (was_stepped x.0.0.world.memory k.0 (reclaim_all_plan deferred_word was_left step.machine) (step.did.memory, (step.next, step.end)) step.did.computed))) not_done)
+        (StepsReclaiming k.0 ∷ doings) (on x (StepsReclaiming k.0) may) (x, led, may, refl) step.caller
+        (step.goes_on ∙ still_on step.end (step.caller, step.next) not_done)
+        (ap (λ (s : Scene K V). s.world.memory) step.did.comes ∙ step.did.did.memory))
+
+    -- once it has begun
+    from_there : (doing : Doing K V) (doings : List (Doing K V)) (x : At) → Led doings x → (may : May doing x) → (i : ℕ) (c : ReclaimAll) → Now (on x doing may) ≡ Some (i, c) → Onward doings
+    from_there doing doings x led may i c here =
+        let y = on x doing may in
+        by_one_more doing doings (to_end y.0.0.world.memory c
+        (reclaiming_ends V same same batch_size roots slot y.0.0.maps y.0.0.calls y.0.0.makers y.0.0.enders y.0.0.world i (behind V same hash batch_size roots slot y.0) c word
+        (idle_there V same hash batch_size roots slot y.0 i c here)) (doing ∷ doings) y (x, led, may, refl) i here refl)
+
+    all_free : (s : Scene K V) → IsAtRest s → AllAreFree s
+    all_free s rest = record {
+      no_call = λ m i. ap is_none (rest.no_calls m i);
+      no_making = λ i. ap is_none (rest.no_makers i);
+      no_ending = λ i. ap is_none (rest.no_enders i);
+      rest = λ i. ap rests (rest.rows i);
+    }
+
+    slots_free : (s : Scene K V) → IsQuiet s.world → SlotsAreFree s
+    slots_free s quiet = record { vacant = λ t. ap is_vacant (quiet.vacant t); none = quiet.none }
+
+  pub lists_reclaim_all : ListsReclaimAll V same hash batch_size roots slot course
+  lists_reclaim_all word doings x led (rest, none) i = by (word_at x.0.0.world.memory (Slot 0 HEAD)) refl
+    where
+      by : (o : Option ℕ) → word_at x.0.0.world.memory (Slot 0 HEAD) ≡ o → Onward doings
+      by (Some head) is =
+          let may : May (BeginsReclaiming i) x = (ap is_none none, word, all_free word x.0.0 rest, ap is_none is) in
+          from_there word (BeginsReclaiming i) doings x led may i (reclaiming_all batch_size roots) (course.leads x.0 (BeginsReclaiming i) may).3
+      by None is =
+          let quiet = ((reclaiming_begins_there V same hash batch_size roots slot course word doings x led (rest, none)).1 i).2 is in
+          let may : May (BeginsClearing i) x = (ap is_none none, word, all_free word x.0.0 rest, slots_free word x.0.0 quiet) in
+          from_there word (BeginsClearing i) doings x led may i (clearing roots) (course.leads x.0 (BeginsClearing i) may).3
