@@ -6,4 +6,3 @@ pub mod Ends
 pub mod Registering
 pub mod Reached
 pub mod Needs
-pub mod Refused
