@@ -1,5 +1,5 @@
 -- By any two courses a list leads to what is alike: so do acts, and so do the steps of a caller that reclaims all.
-use Rattle.std.specs.Prelude.{◌≢◌, Option, Some}
+use Rattle.std.specs.Prelude.{◌≢◌, Option}
 use Rattle.std.proofs.Common.{◌≡◌, ℕ, Bool, List, [], ◌∷◌, ◌⊎◌, inl, inr, refl, ap, sym, subst, ◌∙◌}
 use Rattle.std.proofs.lemmas.Bool.{cases_eq}
 use Rattle.papaya_executor.specs.Given.SeizeWords.Mem.{Mem}

@@ -1,7 +1,7 @@
 -- By any two courses an act leads from what is alike to what is alike.
 use Rattle.std.specs.Prelude.{◌≢◌, ◌++◌, Option, Some, None, option_map}
 use Rattle.std.specs.Option.{is_none}
-use Rattle.std.proofs.Common.{◌≡◌, ℕ, Bool, true, false, List, [], ◌∷◌, ◌⊎◌, inl, inr, refl, ap, sym, subst, ◌∙◌}
+use Rattle.std.proofs.Common.{◌≡◌, ℕ, Bool, true, false, [], ◌∷◌, ◌⊎◌, inl, inr, refl, ap, sym, subst, ◌∙◌}
 use Rattle.std.proofs.lemmas.Bool.{cases_eq}
 use Rattle.papaya_executor.specs.Given.SeizeWords.Mem.{Mem}
 use Rattle.papaya_executor.specs.Given.Seize.World.{World, Row, Rests, with_at}

@@ -1,10 +1,9 @@
 -- Whichever act is made, each block behind which something may be put is somebody's then.
 use Rattle.std.specs.Prelude.{◌++◌, Option, Some}
-use Rattle.std.proofs.Common.{◌≡◌, ℕ, Bool, List, [], ◌∷◌, refl, ap, sym, subst}
-use Rattle.std.proofs.lemmas.List.{append-nil}
+use Rattle.std.proofs.Common.{◌≡◌, ℕ, Bool, List, [], ◌∷◌, refl, sym, subst}
 use Rattle.papaya_executor.specs.Given.SeizeWords.Mem.{Mem}
 use Rattle.papaya_executor.specs.Given.Seize.Law.{Ended}
-use Rattle.papaya_executor.specs.Given.Seize.World.{World, with_at, with_effect}
+use Rattle.papaya_executor.specs.Given.Seize.World.{with_at, with_effect}
 use Rattle.papaya_executor.specs.Given.Seize.declared.progress.Progress.{Progress}
 use Rattle.papaya_executor.specs.Given.Seize.declared.progress.Progress.TheVariants as progress
 use Rattle.papaya_executor.specs.Given.Seize.declared.rows.settle.Settled.{Settled}
@@ -18,11 +17,10 @@ use Rattle.papaya_executor.specs.Given.Raw.Machine.{machine_plan, machine_asked}
 use Rattle.papaya_executor.specs.Given.Raw.declared.machines.end_map.EndMap.{EndMap}
 use Rattle.papaya_executor.specs.Given.Callers.Together.{UnderWay}
 use Rattle.papaya_executor.specs.Given.Finishes.Endings.{Finishing, MakingStepsAmong, StepsOfEnding, waiting_by}
-use Rattle.papaya_executor.specs.Given.Finishes.FactsEnds.{Deed, taken_by}
+use Rattle.papaya_executor.specs.Given.Finishes.FactsEnds.{taken_by}
 use Rattle.papaya_executor.specs.Given.Finishes.Machines.{machine_of}
 use Rattle.papaya_executor.specs.Given.Finishes.Makings.{Beginning}
-use Rattle.papaya_executor.specs.Given.Finishes.Maps.{Standing, with_call}
-use Rattle.papaya_reclaims.specs.Left.{GoesOnBy}
+use Rattle.papaya_executor.specs.Given.Finishes.Maps.{with_call}
 use Rattle.papaya_executor.specs.IsAt.{Scene}
 use Rattle.papaya_executor.specs.Replying.{unless_stopped}
 use Rattle.papaya_acts.specs.Acts.{Act, Answer, begun}

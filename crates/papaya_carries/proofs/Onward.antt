@@ -7,7 +7,6 @@ use Rattle.papaya_executor.specs.Given.SeizeWords.declared.at.At.TheVariants.{Sl
 use Rattle.papaya_executor.specs.Given.SeizeWords.Mem.{Mem, Took, value_at, word_at}
 use Rattle.papaya_executor.specs.Given.SeizeWords.Plan.{Steps}
 use Rattle.papaya_executor.specs.Given.Seize.ReclaimAll.{reclaiming_all, clearing, reclaim_all_plan}
-use Rattle.papaya_executor.specs.Given.Seize.World.{Row, Use}
 use Rattle.papaya_executor.specs.Given.Seize.declared.rows.reclaim_all.ReclaimAll.{ReclaimAll}
 use Rattle.papaya_executor.specs.Given.Seize.declared.rows.settle.Settled.{Settled}
 use Rattle.papaya_executor.specs.Given.Seize.declared.rows.settle.Settled.TheVariants as settled
@@ -21,11 +20,11 @@ use Rattle.papaya_reclaims.specs.Ends.{ComesToEnd, Comes}
 use Rattle.papaya_reclaims.specs.Slots.{IsQuiet}
 use Rattle.papaya_reclaims.proofs.Ends.All.{reclaiming_ends}
 use Rattle.papaya_executor.specs.IsAt.{Scene}
-use Rattle.papaya_acts.specs.Doings.{Doing, BeginsReclaiming, BeginsClearing, StepsReclaiming, AllAreFree, SlotsAreFree, is_vacant, still, Stage, reclaiming, behind, MayDo, HasBegun, HasStepped}
+use Rattle.papaya_acts.specs.Doings.{Doing, BeginsReclaiming, BeginsClearing, StepsReclaiming, AllAreFree, SlotsAreFree, is_vacant, still, reclaiming, behind, MayDo, HasStepped}
 use Rattle.papaya_acts.specs.Lists.{Course, Reached, LedTo, on_by}
 use Rattle.papaya_acts.specs.Reclaiming.{IsReclaimingAll, reclaiming_steps}
 use Rattle.papaya_acts.proofs.Reclaiming.{reclaiming_is_by_acts}
-use Rattle.papaya_carries.specs.Lists.{AreTheirs, IsAtRest, AllRestThere, OnlyPairsAreLeft, ListsReclaimAll, OnlyPairsWaitBehind}
+use Rattle.papaya_carries.specs.Lists.{IsAtRest, AllRestThere, OnlyPairsAreLeft, ListsReclaimAll, OnlyPairsWaitBehind}
 use Rattle.papaya_carries.proofs.Lists.{idle_there, is_over, lists_keep_theirs, reclaiming_begins_there}
 use Rattle.papaya_carries.proofs.Reclaimed.{may_be_stepped, some_is_there}
 
