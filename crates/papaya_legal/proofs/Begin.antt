@@ -29,6 +29,7 @@ runs_begin_in K V same terms name known w whole kept came = record {
       waits = λ n i u is word some c found k owed. absurd (cc is);
       puts = λ n i u is word place due. absurd (cc is);
     };
+    nexts = λ n i u is c found. absurd (cc is);
     counters = record {
       shards = λ n st is shard few. absurd (cc is);
       makes = λ i b is. absurd (cc is);

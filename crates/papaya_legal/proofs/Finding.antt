@@ -8,4 +8,6 @@ pub mod Between
 pub mod Others
 pub mod Making
 pub mod Links
+pub mod Nexts
+pub mod NextsOthers
 pub mod Rest

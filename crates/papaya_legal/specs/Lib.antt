@@ -12,5 +12,6 @@ pub mod Promises
 pub mod Found
 pub mod Noted
 pub mod Further
+pub mod Nexts
 pub mod Finding
 pub mod Rests

@@ -10,6 +10,7 @@ ghost use Rattle.papaya_legal.specs.SlotEvents.{SlotEventsBegin, SlotEventsGoOn,
 ghost use Rattle.papaya_legal.specs.MapEvents.{MakingEventsGoOn, EndEventsGoOn, MapEventsAreLegal, IdleEventsAreLegal};
 ghost use Rattle.papaya_legal.specs.Found.{RestShowsRetired, RowChainsFind, RowsFindTheirs};
 ghost use Rattle.papaya_legal.specs.Noted.{CallsBringThings, CallsHandNoted, EventsBeginWithThings, EventsBringThings, NothingHasCome};
+ghost use Rattle.papaya_legal.specs.Rests.{StepsFindRest};
 ghost use Rattle.papaya_legal.specs.Over.{AgainEventsEnd, BegunEventsEnd, ChoicesEnd, EndEventsBegin, EndEventsEnd, EndEventsFollow, IdleEventsEnd, MakingEventsBegin, MakingEventsEnd, MakingEventsFollow, QuietEventsEnd, RunsByOtherNames, RunsGoOn, StoppedEventsEnd, ToldEventsEnd};
 ghost use Rattle.papaya_legal.specs.Chains.{CallsChain, EndsChain, MakingsChain, RowsChain, RowsRunToTheirEnds, MakingsRunToTheirEnds, EndsRunToTheirEnds};
 ghost use Rattle.papaya_legal.specs.Promises.{BoundedEventsAreLegal, EventsAreLegal};
@@ -47,6 +48,7 @@ pub fn calls_stay<K, V, S>()
 /// a row hands over that begins with the last step is noted, and its slot is active.
 /// The moment after it shows all that the next event needs, if it shows what calls are for and have read once the call has come to its outcome, and the sets are as they must be.
 /// What the effects of a step must find they find, but for why a block is asked for, which shape follows, where a pair may wait, and that a pair that is retired is past.
+/// These they find, too (clause `rest`), but for a reservation's blocks and tables, and that a table has room for what is put behind it.
 /// The event does what it is for, if what the last step says is told so, and a walk that has shown all pairs has lost none within the event.
 /// A call that has ended with the last step, or is ready, leaves nothing behind.
 /// So an event that comes to what is right is legal but for that, and a run goes on with it: clause `runs` has what is left of all this to be asked.
@@ -59,6 +61,7 @@ pub fn call_events<K, V, S>()
     ensures follows { (same : K → K → Bool) (hash : K → ℕ) → CallEventsFollow K V S same hash }
     ensures ends { (same : K → K → Bool) (hash : K → ℕ) → CallEventsEnd K V S same hash }
     ensures finds { (same : K → K → Bool) (hash : K → ℕ) → StepsFindAll K V S same hash }
+    ensures rest { (same : K → K → Bool) (hash : K → ℕ) → StepsFindRest K V S same hash }
     ensures swept { (same : K → K → Bool) (hash : K → ℕ) → CallsAreSwept K V S same hash }
     ensures leaves { (same : K → K → Bool) (hash : K → ℕ) → CallsLeaveNothing K V S same hash }
     ensures runs { (same : K → K → Bool) (hash : K → ℕ) → CallEventsRun K V S same hash }

@@ -38,7 +38,7 @@ use Rattle.papaya_legal.specs.CallEvents.{InCallEvent, IsLegalBut}
 use Rattle.papaya_legal.specs.CallSwept.{TellsOf}
 use Rattle.papaya_legal.specs.Carried.{ShowsRun}
 use Rattle.papaya_legal.specs.Noted.{HaveCome}
-use Rattle.papaya_legal.specs.Rests.{FindStill, is_unsettled}
+use Rattle.papaya_legal.specs.Rests.{FindStill, is_reservation}
 use Rattle.papaya_scheduler.specs.Played.{IsPlayed, entry_of}
 use Rattle.papaya_named.specs.Seen.{kind_of}
 use Rattle.papaya_scheduler.specs.declared.played.Played.{Played}
@@ -79,7 +79,7 @@ module _ {K V : Type 0} where
   -- What is still asked of an event of a call, by name, but that it comes to what is right: of its effects it is known which table is linked, and that a table behind which a pair is put has room, and of a
   -- reservation, and in blocking mode, why a block is asked for; and a value that it tells back is the one that was given.
   pub record IsLeftBut (terms : Terms) (log : List (Entry K V)) (e : Entry K V) : Type 0 where
-    pub rest : (let b = at_work e (moment log) in IfCall (λ (c : CallThere K V). FindStill terms (moments_from c.begun log) c.caller c.map e.effects b (is_unsettled c b)) (acting (caller_of e.event) b))
+    pub rest : (let b = at_work e (moment log) in IfCall (λ (c : CallThere K V). FindStill terms (moments_from c.begun log) c.caller c.map e.effects b (is_reservation c.call)) (acting (caller_of e.event) b))
     pub values : (let b = at_work e (moment log) in IfCall (λ (c : CallThere K V). TellsValue c.call c.replies e.outcome) (acting (caller_of e.event) b))
 
   pub record IsLeft (terms : Terms) (log : List (Entry K V)) (e : Entry K V) : Type 0 where

@@ -111,7 +111,7 @@ module _ {K V : Type 0} (same : K → K → Bool) (hash : K → ℕ) (setting : 
       link_not_zero hash w.memory c blocks setting.root map.map.shows (suc t) link.1 link.2 (sym link.0))
 
 -- What a call sees of its table is so.
-unseen : {K : Type 0} (c : Chart K) (blocks : Blocks) (sight : Sight) → IsSight c blocks sight → (table : Table) (t : ℕ) → IsTable c (seen_by blocks sight) table t → IsTable c blocks table t
+pub unseen : {K : Type 0} (c : Chart K) (blocks : Blocks) (sight : Sight) → IsSight c blocks sight → (table : Table) (t : ℕ) → IsTable c (seen_by blocks sight) table t → IsTable c blocks table t
 unseen c blocks sight is table t entered = record { made = entered.made; known = is.tables t entered.made entered.known; is = entered.is }
 
 unseen_trial : {K : Type 0} (c : Chart K) (blocks : Blocks) (sight : Sight) → IsSight c blocks sight → (trial : Trial) (code t j : ℕ) → IsTrial c (seen_by blocks sight) trial code t j

@@ -1,19 +1,21 @@
 -- The table that a call links by its copier follows the last one of its map; and a counting links none.
-use Rattle.std.specs.Prelude.{◌≡◌, ℕ, suc, Bool, List, [], ◌∷◌, length, Option, Some, None}
+use Rattle.std.specs.Prelude.{◌≡◌, ℕ, Bool, List, [], ◌∷◌, length, Option, Some, None}
 use Rattle.std.proofs.Common.{sym, subst, ◌∙◌}
 use Rattle.papaya_histories.specs.Given.Tables.Lengths.{entries_of}
-use Rattle.papaya_histories.specs.Given.Tables.declared.lengths.Reason.{Reason}
 use Rattle.papaya_histories.specs.Given.Tables.declared.lengths.Reason.TheVariants.{NoPlace}
 use Rattle.papaya_histories.specs.Given.Tables.declared.node.Node.{Node}
 use Rattle.papaya_histories.specs.Given.Tables.declared.table.Table.{Table as Planned}
 use Rattle.papaya_histories.specs.Given.Resize.declared.copier.Copying.{Copying}
 use Rattle.papaya_histories.specs.Given.Resize.declared.copier.Copying.TheVariants as copying
 use Rattle.papaya_histories.specs.Given.Resize.declared.new_table.NewTable.{NewTable}
-use Rattle.papaya_histories.specs.Given.Resize.declared.sum.Sum.{Sum}
+use Rattle.papaya_histories.specs.Given.Reserves.declared.reserve.Reserving.{Reserving}
+use Rattle.papaya_histories.specs.Given.Reserves.declared.reserve.Reserving.TheVariants as reserving
 use Rattle.papaya_histories.specs.Given.Sweeps.declared.sweep.Sweeping.{Sweeping}
 use Rattle.papaya_histories.specs.Given.Sweeps.declared.sweep.Sweeping.TheVariants as sweeping
 use Rattle.papaya_histories.specs.Given.Raw.declared.machines.call.Calling.{Calling}
 use Rattle.papaya_histories.specs.Given.Raw.declared.machines.call.Calling.TheVariants as calling
+use Rattle.papaya_histories.specs.Given.Raw.declared.machines.machine.Machine.{Machine}
+use Rattle.papaya_histories.specs.Given.Raw.declared.machines.machine.Machine.TheVariants as kinds
 use Rattle.papaya_histories.specs.Given.Raw.declared.machines.progress.Progress.{Progress}
 use Rattle.papaya_histories.specs.Given.Schedules.declared.call.Call.{Call}
 use Rattle.papaya_histories.specs.Given.Schedules.declared.call.Call.TheVariants as call
@@ -39,16 +41,16 @@ use Rattle.papaya_histories.specs.Given.Follows.Calls.{IsCalled}
 use Rattle.papaya_histories.specs.Given.Follows.Finds.{FindsMap}
 use Rattle.papaya_histories.specs.Given.Moments.Whole.{ShowsWhole}
 use Rattle.papaya_owes.specs.Making.{making_in_calling, making_in_copying, making_in_sweeping, making_of}
-use Rattle.papaya_owes.specs.Tables.{ShowsTables, of_map, table_in, table_made}
+use Rattle.papaya_owes.specs.Tables.{ShowsTables, of_map, table_made}
 use Rattle.papaya_owes.proofs.Tables.Held.{shape_of, some_making}
 use Rattle.papaya_owes.proofs.Tables.Leaves.{IsGivenUp, IsLinked, IsMade, Stays}
 use Rattle.papaya_owes.proofs.Tables.Step.{left_tables}
 use Rattle.papaya_finds.specs.Linking.{FindShapes, IsMadeFor}
-use Rattle.papaya_finds.specs.Nexts.{MakesByCopier, copier_in_calling, making_of_copier}
+use Rattle.papaya_finds.specs.Nexts.{MakesByCopier, copier_in_calling, copier_in_reserving, making_of_copier}
 use Rattle.papaya_finds.specs.Within.{many_of}
 use Rattle.papaya_finds.proofs.Linking.{made_so, none_shaped, one_shaped, two_shaped}
 use Rattle.papaya_finds.proofs.Steps.{steps_find_places}
-use Rattle.papaya_legal.specs.Further.{CallMakes, CopierMakes, IsBehind, IsFurther, MachineMakes, ShowsFurther, SweepMakes, lengths_in, lengths_of}
+use Rattle.papaya_legal.specs.Further.{CallMakes, CopierMakes, IsBehind, IsFurther, MachineMakes, RoomMakes, ShowsFurther, SweepMakes, lengths_in, lengths_of}
 use Rattle.papaya_legal.proofs.Finding.Making.Lengths.{last_at}
 
 -- what its call makes a copier makes, and so it is such a making
@@ -66,6 +68,22 @@ module _ (Such : NewTable → Type 0) (n : NewTable) where
   such_of_sweep : (p : Sweeping) → making_in_sweeping p ≡ Some n → SweepMakes Such p → Such n
   such_of_sweep (sweeping.Copies copier) is so = such_of_copier copier.stands is so
   such_of_sweep _ is so = absurd (cc is)
+
+  -- of a copier that makes one
+  such_of_copying : (p : Calling) → copier_in_calling p ≡ Some n → CallMakes Such p → Such n
+  such_of_copying (calling.Helps copier goal) is so = such_of_copier copier.stands is so
+  such_of_copying (calling.Copies copier) is so = such_of_copier copier.stands is so
+  such_of_copying _ is so = absurd (cc is)
+
+  such_of_reserving : (p : Reserving) → copier_in_reserving p ≡ Some n → RoomMakes Such p → Such n
+  such_of_reserving (reserving.Copies copier) is so = such_of_copier copier.stands is so
+  such_of_reserving _ is so = absurd (cc is)
+
+  pub such_of_making : {K V Q : Type 0} (machine : Machine K V Q) → making_of_copier machine ≡ Some n → MachineMakes Such machine → Such n
+  such_of_making (kinds.Key p) is so = such_of_copying p.stands is so
+  such_of_making (kinds.Reserve r) is so = such_of_reserving r.stands is so
+  such_of_making (kinds.Sweep c) is so = such_of_sweep c.stands is so
+  such_of_making (kinds.Count sum) is so = absurd (cc is)
 
   such_of : {K V : Type 0} (u : UnderWay K V K) → MakesByCopier u → making_of (machine_of u) ≡ Some n → MachineMakes Such (machine_of u) → Such n × (making_of_copier (machine_of u) ≡ Some n)
   such_of (OnKey x) copies is so = such_of_call x.call.stands copies is so

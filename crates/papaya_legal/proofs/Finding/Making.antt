@@ -9,3 +9,6 @@ pub mod Such
 pub mod Behind
 pub mod Steps
 pub mod Between
+pub mod Unpromoted
+pub mod OffRoot
+pub mod Ahead

@@ -1,7 +1,7 @@
 -- What steps of calls find by is so after each step of what is no call: of a row on a slot, of the making of a map, of the end of one, and of the reclaiming of all.
-use Rattle.std.specs.Prelude.{◌≡◌, ◌≤◌, ℕ, Bool, List, Option, Some, None}
-use Rattle.std.proofs.Common.{refl, ap, sym, ◌∙◌}
-use Rattle.papaya_histories.specs.Given.Seize.World.{Begin, Step, World}
+use Rattle.std.specs.Prelude.{◌≡◌, ℕ, Bool, List, Some, None}
+use Rattle.std.proofs.Common.{refl}
+use Rattle.papaya_histories.specs.Given.Seize.World.{Begin, Step}
 use Rattle.papaya_histories.specs.Given.Seize.declared.progress.Progress.{Progress as Making}
 use Rattle.papaya_histories.specs.Given.Seize.declared.rows.settle.Settled.{Settled}
 use Rattle.papaya_histories.specs.Given.Seize.declared.rows.settle.Settled.TheVariants as settled
@@ -26,7 +26,7 @@ use Rattle.papaya_histories.specs.Given.Executor.declared.row.SlotRow.{SlotRow}
 use Rattle.papaya_histories.specs.Given.Executor.declared.worker.Work.TheVariants.{OnSlot}
 use Rattle.papaya_histories.specs.Given.Finishes.Endings.{Finishing}
 use Rattle.papaya_histories.specs.Given.Finishes.Makings.{Beginning}
-use Rattle.papaya_histories.specs.Given.Finishes.Maps.{IsSameMap, Standing}
+use Rattle.papaya_histories.specs.Given.Finishes.Maps.{IsSameMap}
 use Rattle.papaya_histories.specs.Given.Others.Endings.{ending_after}
 use Rattle.papaya_histories.specs.Given.Others.Makings.{WasNew, making_after}
 use Rattle.papaya_histories.specs.Given.Others.Rows.{scene_then}
@@ -43,6 +43,29 @@ use Rattle.papaya_legal.specs.Finding.{ShowsFinding}
 use Rattle.papaya_legal.proofs.Finding.Alike.{itself, stood_as}
 use Rattle.papaya_legal.proofs.Finding.Aside.{endings_leave_spots, makings_leave_spots, rows_leave_spots}
 use Rattle.papaya_legal.proofs.Finding.Beside.{finding_beside}
+
+-- the scene after a step of the end of a map
+module _ {K V S : Type 0} (same : K → K → Bool) (hash : K → ℕ) (s : Scene K V) (old new : Executor K V S) (i : ℕ) (f : Finishing K V) (here : s.enders i ≡ Some f) where
+  abbrev pub ended : (said : Settled (Node K V)) → EndingLeads same hash i said s old new → Scene K V
+  ended said leads = ending_after same hash s new i f (leads f here).0 (leads f here).2.w2 (leads f here).2.deed said (leads f here).3
+
+  pub ended_world : (said : Settled (Node K V)) (leads : EndingLeads same hash i said s old new) → (ended said leads).world ≡ (leads f here).2.w2
+  ended_world settled.Goes leads = refl
+  ended_world settled.Waits leads = absurd (leads f here).3
+  ended_world (settled.Gave value) leads = refl
+  ended_world settled.Done leads = refl
+
+  pub ended_calls : (said : Settled (Node K V)) (leads : EndingLeads same hash i said s old new) → (ended said leads).calls ≡ s.calls
+  ended_calls settled.Goes leads = refl
+  ended_calls settled.Waits leads = refl
+  ended_calls (settled.Gave value) leads = refl
+  ended_calls settled.Done leads = refl
+
+  pub ended_maps : (said : Settled (Node K V)) (leads : EndingLeads same hash i said s old new) → (ended said leads).maps ≡ s.maps
+  ended_maps settled.Goes leads = refl
+  ended_maps settled.Waits leads = refl
+  ended_maps (settled.Gave value) leads = refl
+  ended_maps settled.Done leads = refl
 
 module _ (K V S : Type 0) (same : K → K → Bool) (hash : K → ℕ) (name : ℕ → List ℕ) (m : Moment K V) (known : Known) (s : Scene K V) (old new : Executor K V S) where
   -- a row begins on a slot
@@ -86,27 +109,6 @@ module _ (K V S : Type 0) (same : K → K → Bool) (hash : K → ℕ) (name : �
 
     -- and of the end of one
     module _ (i : ℕ) (f : Finishing K V) (here : s.enders i ≡ Some f) where
-      abbrev ended : (said : Settled (Node K V)) → EndingLeads same hash i said s old new → Scene K V
-      ended said leads = ending_after same hash s new i f (leads f here).0 (leads f here).2.w2 (leads f here).2.deed said (leads f here).3
-
-      ended_world : (said : Settled (Node K V)) (leads : EndingLeads same hash i said s old new) → (ended said leads).world ≡ (leads f here).2.w2
-      ended_world settled.Goes leads = refl
-      ended_world settled.Waits leads = absurd (leads f here).3
-      ended_world (settled.Gave value) leads = refl
-      ended_world settled.Done leads = refl
-
-      ended_calls : (said : Settled (Node K V)) (leads : EndingLeads same hash i said s old new) → (ended said leads).calls ≡ s.calls
-      ended_calls settled.Goes leads = refl
-      ended_calls settled.Waits leads = refl
-      ended_calls (settled.Gave value) leads = refl
-      ended_calls settled.Done leads = refl
-
-      ended_maps : (said : Settled (Node K V)) (leads : EndingLeads same hash i said s old new) → (ended said leads).maps ≡ s.maps
-      ended_maps settled.Goes leads = refl
-      ended_maps settled.Waits leads = refl
-      ended_maps (settled.Gave value) leads = refl
-      ended_maps settled.Done leads = refl
-
       pub endings_keep_finding : (said : Settled (Node K V)) (leads : EndingLeads same hash i said s old new) (map : ℕ) → s.maps map ≡ None
           → (let v = with_effects None (Some map) (effects_of (acts.Ending map) known new.memory.changed) m in
           let t = ending_after same hash s new i f (leads f here).0 (leads f here).2.w2 (leads f here).2.deed said (leads f here).3 in
@@ -115,10 +117,10 @@ module _ (K V S : Type 0) (same : K → K → Bool) (hash : K → ℕ) (name : �
           let to = leads f here in
           let effects = effects_of (acts.Ending map) known new.memory.changed in
           let v = with_effects None (Some map) effects m in
-          finding_beside same hash name m v known (known_after (acts.Ending map) new.memory.changed known) s (ended said leads) new at2 whole2
-          (end_beside same hash name m known s old new at whole i f here to.0 said to.1 to.2 map not_there to.3 (ended said leads) (ended_world said leads) (ended_calls said leads) (ended_maps said leads)) finding
+          finding_beside same hash name m v known (known_after (acts.Ending map) new.memory.changed known) s (ended same hash s old new i f here said leads) new at2 whole2
+          (end_beside same hash name m known s old new at whole i f here to.0 said to.1 to.2 map not_there to.3 (ended same hash s old new i f here said leads) (ended_world same hash s old new i f here said leads) (ended_calls same hash s old new i f here said leads) (ended_maps same hash s old new i f here said leads)) finding
           (endings_leave_spots same hash name m known s old new at whole i said leads f here map not_there) (tables_have_been K V None (Some map) effects m) (effects_keep_lengths None (Some map) effects m)
-          (capacities_stay K V m v s (ended said leads) finding.capacities (λ n st is. effects_keep_capacities K V None (Some map) effects m n) (stood_as s (ended said leads) (ended_maps said leads)))
+          (capacities_stay K V m v s (ended same hash s old new i f here said leads) finding.capacities (λ n st is. effects_keep_capacities K V None (Some map) effects m n) (stood_as s (ended same hash s old new i f here said leads) (ended_maps same hash s old new i f here said leads)))
 
 -- where no call is under way, and maps stand as they stood
 module _ (K V : Type 0) (name : ℕ → List ℕ) (m : Moment K V) (known known2 : Known) (s t : Scene K V) where

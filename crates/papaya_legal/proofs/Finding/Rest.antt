@@ -1,7 +1,6 @@
 -- The effects of a step of a call find what is left of what they must, by what the moment shows and what is still asked.
-use Rattle.std.specs.Prelude.{◌≡◌, ◌||◌, ◌⊎◌, ℕ, Bool, true, false, List, [], ◌∷◌, not, Option, Some, None}
+use Rattle.std.specs.Prelude.{◌≡◌, ◌⊎◌, ℕ, Bool, true, false, List, ◌∷◌, Some, None}
 use Rattle.std.proofs.Common.{refl, ap, sym, subst, ◌∙◌, inl, inr}
-use Rattle.papaya_histories.specs.Given.Tables.Chunks.{is_incremental}
 use Rattle.papaya_histories.specs.Given.Tables.declared.node.Node.{Node}
 use Rattle.papaya_histories.specs.Given.Resize.Sum.{sum_plan}
 use Rattle.papaya_histories.specs.Given.Resize.declared.new_table.NewTable.{NewTable}
@@ -13,12 +12,11 @@ use Rattle.papaya_histories.specs.Given.Raw.declared.machines.progress.Progress.
 use Rattle.papaya_histories.specs.Given.Schedules.declared.call.Call.{Call}
 use Rattle.papaya_histories.specs.Given.Schedules.declared.call.Call.TheVariants as call
 use Rattle.papaya_histories.specs.Given.Schedules.declared.effect.Effect.{Effect}
-use Rattle.papaya_histories.specs.Given.Schedules.Effects.{with_effect, with_effects}
 use Rattle.papaya_histories.specs.Given.Schedules.Growing.{HasNext, MayGrow}
 use Rattle.papaya_histories.specs.Given.Schedules.Lists.{OneOf}
 use Rattle.papaya_histories.specs.Given.Schedules.Moment.{UnderWay as CallThere, Moment}
 use Rattle.papaya_histories.specs.Given.Schedules.Terms.{Terms}
-use Rattle.papaya_histories.specs.Given.Schedules.Views.{call_of, grows_in_chunks, map_at}
+use Rattle.papaya_histories.specs.Given.Schedules.Views.{call_of}
 use Rattle.papaya_histories.specs.Given.Points.FactsCalls.{IsCopying}
 use Rattle.papaya_histories.specs.Given.Callers.Rooms.{CallForRoom}
 use Rattle.papaya_histories.specs.Given.Callers.Together.{Counting, ForRoom, OnKey, OverAll, UnderWay}
@@ -36,14 +34,11 @@ use Rattle.papaya_histories.proofs.Given.Others.Outcomes.{told_in}
 use Rattle.papaya_owes.specs.Tables.{ShowsTables}
 use Rattle.papaya_owes.proofs.Walks.{sum_at}
 use Rattle.papaya_settles.specs.Due.{OwnAreMade}
-use Rattle.papaya_kept.specs.Kept.{ShowsKept}
 use Rattle.papaya_kept.proofs.Calls.{own_made}
 use Rattle.papaya_finds.specs.Growing.{FindAsked}
 use Rattle.papaya_finds.specs.Linking.{FindShapes}
-use Rattle.papaya_finds.specs.Nexts.{MakesByCopier, RootHasLeft, making_of_copier}
-use Rattle.papaya_finds.proofs.Capacities.{effect_leaves}
+use Rattle.papaya_finds.specs.Nexts.{MakesByCopier, making_of_copier}
 use Rattle.papaya_finds.proofs.CopiersAsk.{copiers_may_ask}
-use Rattle.papaya_finds.proofs.CopiersNext.{copiers_have_next}
 use Rattle.papaya_finds.proofs.Grows.Asked.{Asks, made_of, may_ask}
 use Rattle.papaya_finds.proofs.Grows.Steps.{key_calls_may_ask}
 use Rattle.papaya_finds.proofs.Linking.{key_calls_link}
@@ -51,7 +46,7 @@ use Rattle.papaya_finds.proofs.Rest.{rest_is_all}
 use Rattle.papaya_finds.proofs.Waits.Handed.{calls_hand_past, past_is_handed}
 use Rattle.papaya_finds.proofs.Waits.Next.{calls_put_behind}
 use Rattle.papaya_legal.specs.Finding.{ShowsFinding}
-use Rattle.papaya_legal.specs.Rests.{StepsFindRest, is_reservation, is_unsettled}
+use Rattle.papaya_legal.specs.Rests.{StepsFindRest, is_reservation}
 use Rattle.papaya_legal.proofs.Finding.Links.{copier_links, none_links}
 
 -- whether a call on one key copies pairs
@@ -59,20 +54,6 @@ copies_or : (q : Calling) → IsCopying q ⊎ (IsCopying q → ⊥)
 copies_or (calling.Helps copier goal) = inl tt
 copies_or (calling.Copies copier) = inl tt
 copies_or _ = inr (λ copies. copies)
-
--- neither of two
-neither_so : (a b : Bool) → (a || b) ≡ false → (a ≡ false) × (b ≡ false)
-neither_so true b e = absurd (cc e)
-neither_so false b e = (refl, e)
-
-not_false : (b : Bool) → not b ≡ false → b ≡ true
-not_false true e = refl
-not_false false e = absurd (cc e)
-
--- effects leave the mode of each map
-pub chunks_still : {K V : Type 0} (who : Option (List ℕ)) (acted : Option ℕ) (effects : List Effect) (m : Moment K V) (map : ℕ) → grows_in_chunks (map_at map (with_effects who acted effects m)) ≡ grows_in_chunks (map_at map m)
-chunks_still who acted [] m map = refl
-chunks_still who acted (f ∷ fs) m map = chunks_still who acted fs (with_effect who acted f m) map ∙ effect_leaves grows_in_chunks (λ g n. refl) who acted f m map
 
 module _ {K V S : Type 0} (same : K → K → Bool) (hash : K → ℕ) (name : ℕ → List ℕ) (m : Moment K V) (known : Known) (s : Scene K V) (old new : Executor K V S) (at : IsAt same hash old s)
     (whole : ShowsWhole same name m known s) (finding : ShowsFinding name m known s) (map i : ℕ) (said : Progress (Node K V)) (leads : StepLeads same hash i said s old new)
@@ -87,23 +68,8 @@ module _ {K V S : Type 0} (same : K → K → Bool) (hash : K → ℕ) (name : �
         let one = one_of there.0 c (sym there.1 ∙ c_is) in
         (ap (λ (x : CallThere K V). x.map) (sym one) ∙ there.2, subst (λ (x : CallThere K V). IsCalled same u x.call) one there.3)
 
-    -- in a map that grows in chunks a copier that makes a table has a second one
-    module _ (chunked : grows_in_chunks (map_at c.map m) ≡ true) where
-      left_none : RootHasLeft s map u → ⊥
-      left_none (st, there, blocking, t, left) =
-          let shown = (whole.all.shown.maps map st there).there in
-          let mode : grows_in_chunks (map_at map m) ≡ is_incremental st.setting.mode = ap grows_in_chunks shown.is ∙ ap is_incremental shown.mode in
-          let on : grows_in_chunks (map_at map m) ≡ true = ap (λ (k : ℕ). grows_in_chunks (map_at k m)) (sym its_call.0) ∙ chunked in
-          cc (mode, on, blocking)
-
-      has_next : (n : NewTable) → making_of_copier (machine_of u) ≡ Some n → OneOf (HasNext map) (m ∷ moments)
-      has_next n makes = elim (copiers_have_next K V S same hash name m known s old at whole.all.shown map i u here n makes) as (λ _. OneOf (HasNext map) (m ∷ moments)) [
-        | inl next ↦ inl next
-        | inr left ↦ absurd (left_none left)
-      ]
-
-      copier_asks : MakesByCopier u → Asked
-      copier_asks copies = copiers_may_ask K V S same hash name m known s old new at whole map i u here said leads copies terms moments has_next
+    copier_asks : ((n : NewTable) → making_of_copier (machine_of u) ≡ Some n → OneOf (HasNext map) (m ∷ moments)) → MakesByCopier u → Asked
+    copier_asks nexts copies = copiers_may_ask K V S same hash name m known s old new at whole map i u here said leads copies terms moments nexts
 
   -- a counting asks for none
   module _ (sum : Sum) (here : s.calls map i ≡ Some (Counting sum)) where
@@ -124,42 +90,41 @@ module _ {K V S : Type 0} (same : K → K → Bool) (hash : K → ℕ) (name : �
   room_none r call.Retain called none = called
   room_none r call.Walk called none = called
 
-  module _ (settled : is_unsettled c m ≡ false) where
-    parts : (is_reservation c.call ≡ false) × (grows_in_chunks (map_at c.map m) ≡ true)
-    parts = let both = neither_so (is_reservation c.call) (not (grows_in_chunks (map_at c.map m))) settled in (both.0, not_false (grows_in_chunks (map_at c.map m)) both.1)
+  abbrev Nexts : UnderWay K V K → Type 0
+  Nexts u = (n : NewTable) → making_of_copier (machine_of u) ≡ Some n → OneOf (HasNext map) (m ∷ moments)
 
-    settled_asks : (u : UnderWay K V K) (here : s.calls map i ≡ Some u) → Asked
-    settled_asks (OnKey x) is = elim (copies_or x.call.stands) as (λ _. Asked) [
-      | inl copies ↦ copier_asks (OnKey x) is parts.1 copies
+  module _ (settled : is_reservation c.call ≡ false) where
+    settled_asks : (u : UnderWay K V K) (here : s.calls map i ≡ Some u) → Nexts u → Asked
+    settled_asks (OnKey x) is nexts = elim (copies_or x.call.stands) as (λ _. Asked) [
+      | inl copies ↦ copier_asks (OnKey x) is nexts copies
       | inr other ↦ key_calls_may_ask K V S same hash name m known s old new at whole finding.growing map i x is said leads other terms moments
     ]
-    settled_asks (OverAll o) is = copier_asks (OverAll o) is parts.1 tt
-    settled_asks (Counting sum) is = sum_asks sum is
-    settled_asks (ForRoom r) is = absurd (room_none r c.call (its_call (ForRoom r) is).1 parts.0)
+    settled_asks (OverAll o) is nexts = copier_asks (OverAll o) is nexts tt
+    settled_asks (Counting sum) is nexts = sum_asks sum is
+    settled_asks (ForRoom r) is nexts = absurd (room_none r c.call (its_call (ForRoom r) is).1 settled)
 
     -- which table it links
     module _ (tables : ShowsTables name m known s) where
       abbrev Linked : Type 0
       Linked = FindShapes terms moments (name i) map (effects_of (acts.Call i map) known new.memory.changed) m
 
-      copier_linked : (u : UnderWay K V K) (here : s.calls map i ≡ Some u) → MakesByCopier u → Linked
-      copier_linked u here copies =
-          copier_links same hash name m known s old new at whole tables map i u here said leads terms moments finding.further copies (finding.capacities map (leads map u here).0 (leads map u here).2)
-          (has_next u here parts.1)
+      copier_linked : (u : UnderWay K V K) (here : s.calls map i ≡ Some u) → Nexts u → MakesByCopier u → Linked
+      copier_linked u here nexts copies =
+          copier_links same hash name m known s old new at whole tables map i u here said leads terms moments finding.further copies (finding.capacities map (leads map u here).0 (leads map u here).2) nexts
 
-      settled_links : (u : UnderWay K V K) (here : s.calls map i ≡ Some u) → Linked
-      settled_links (OnKey x) is = elim (copies_or x.call.stands) as (λ _. Linked) [
-        | inl copies ↦ copier_linked (OnKey x) is copies
+      settled_links : (u : UnderWay K V K) (here : s.calls map i ≡ Some u) → Nexts u → Linked
+      settled_links (OnKey x) is nexts = elim (copies_or x.call.stands) as (λ _. Linked) [
+        | inl copies ↦ copier_linked (OnKey x) is nexts copies
         | inr other ↦
             key_calls_link K V S same hash name m known s old new at whole tables finding.growing map i x is said leads other (finding.capacities map (leads map (OnKey x) is).0 (leads map (OnKey x) is).2) terms
             moments
       ]
-      settled_links (OverAll o) is = copier_linked (OverAll o) is tt
-      settled_links (Counting sum) is = none_links same hash name m known s old new at whole tables map i (Counting sum) is said leads terms moments refl
-      settled_links (ForRoom r) is = absurd (room_none r c.call (its_call (ForRoom r) is).1 parts.0)
+      settled_links (OverAll o) is nexts = copier_linked (OverAll o) is nexts tt
+      settled_links (Counting sum) is nexts = none_links same hash name m known s old new at whole tables map i (Counting sum) is said leads terms moments refl
+      settled_links (ForRoom r) is nexts = absurd (room_none r c.call (its_call (ForRoom r) is).1 settled)
 
 pub steps_find_rest : (K V S : Type 0) (same : K → K → Bool) (hash : K → ℕ) → StepsFindRest K V S same hash
-steps_find_rest K V S same hash name m known s old new at whole kept finding map i u here said leads terms moments c c_is still =
+steps_find_rest K V S same hash name m known s old new at whole kept finding map i u here said leads terms moments c c_is nexts still =
     rest_is_all K V terms moments (name i) map effects m asked linked
     (past_is_handed K V (name i) map effects m (calls_hand_past K V S same hash name m known s old new at whole kept.entries owning kept.owed finding.waits map i u here said leads)
     (calls_put_behind K V S same hash name m known s old new at whole kept.entries owning kept.owed finding.waits finding.puts map i u here said leads) still.space)
@@ -171,15 +136,15 @@ steps_find_rest K V S same hash name m known s old new at whole kept finding map
     owning = own_made K V S same hash name m known s old at whole kept
 
     asked : FindAsked terms moments (name i) map effects m
-    asked = by (is_unsettled c m) refl
+    asked = by (is_reservation c.call) refl
       where
-        by : (q : Bool) → is_unsettled c m ≡ q → FindAsked terms moments (name i) map effects m
+        by : (q : Bool) → is_reservation c.call ≡ q → FindAsked terms moments (name i) map effects m
         by true is = still.asks is
-        by false is = settled_asks same hash name m known s old new at whole finding map i said leads terms moments c c_is is u here
+        by false is = settled_asks same hash name m known s old new at whole finding map i said leads terms moments c c_is is u here nexts
 
     linked : FindShapes terms moments (name i) map effects m
-    linked = by (is_unsettled c m) refl
+    linked = by (is_reservation c.call) refl
       where
-        by : (q : Bool) → is_unsettled c m ≡ q → FindShapes terms moments (name i) map effects m
+        by : (q : Bool) → is_reservation c.call ≡ q → FindShapes terms moments (name i) map effects m
         by true is = still.links is
-        by false is = settled_links same hash name m known s old new at whole finding map i said leads terms moments c c_is is kept.tables u here
+        by false is = settled_links same hash name m known s old new at whole finding map i said leads terms moments c c_is is kept.tables u here nexts

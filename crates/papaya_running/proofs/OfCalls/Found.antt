@@ -1,6 +1,7 @@
 -- The effects of the steps of a call find what they must, if what is still asked is so of all of them.
-use Rattle.std.specs.Prelude.{◌≡◌, ◌+◌, ◌||◌, ℕ, Bool, true, false, zero, suc, List, [], ◌++◌, map as list_map, not, Option, Some, option_map}
-use Rattle.std.proofs.Common.{refl, ap, sym, subst, ◌∙◌}
+use Rattle.std.specs.Prelude.{◌≡◌, ◌+◌, ℕ, Bool, true, false, zero, suc, List, [], ◌∷◌, ◌++◌, map as list_map, Option, Some, option_map}
+use Rattle.std.proofs.Common.{refl, ap, sym, subst, ◌∙◌, inl, inr}
+use Rattle.papaya_histories.specs.Given.Resize.declared.new_table.NewTable.{NewTable}
 use Rattle.papaya_histories.specs.Given.Runs.Same.{is_same}
 use Rattle.papaya_histories.specs.Given.Schedules.declared.call.Call.{Call}
 use Rattle.papaya_histories.specs.Given.Schedules.declared.call.Call.TheVariants as calls
@@ -8,23 +9,31 @@ use Rattle.papaya_histories.specs.Given.Schedules.declared.call.OneKey.{OneKey}
 use Rattle.papaya_histories.specs.Given.Schedules.declared.call.OneKey.TheVariants as keys
 use Rattle.papaya_histories.specs.Given.Schedules.declared.effect.Effect.{Effect}
 use Rattle.papaya_histories.specs.Given.Schedules.declared.event.Event.{Event}
+use Rattle.papaya_histories.specs.Given.Schedules.After.{moments_from}
 use Rattle.papaya_histories.specs.Given.Schedules.Effects.{with_effects}
+use Rattle.papaya_histories.specs.Given.Schedules.Growing.{HasNext}
+use Rattle.papaya_histories.specs.Given.Schedules.Lists.{OneOf}
 use Rattle.papaya_histories.specs.Given.Schedules.Entry.{ByCall, Entry, acting}
 use Rattle.papaya_histories.specs.Given.Schedules.Moment.{UnderWay as CallThere, Moment}
 use Rattle.papaya_histories.specs.Given.Schedules.Terms.{Terms, shards_of}
-use Rattle.papaya_histories.specs.Given.Schedules.Views.{call_of, grows_in_chunks, map_at}
+use Rattle.papaya_histories.specs.Given.Schedules.Views.{call_of}
 use Rattle.papaya_histories.specs.Given.Effects.Known.{known}
+use Rattle.papaya_histories.specs.Given.Finishes.Machines.{machine_of}
 use Rattle.papaya_histories.specs.Given.Finishes.Maps.{Standing}
 use Rattle.papaya_histories.specs.Given.Follows.Calls.{IsCalled}
 use Rattle.papaya_histories.proofs.Given.Moments.After.{each_parts}
+use Rattle.papaya_histories.proofs.Begun.{effects_begun}
 use Rattle.papaya_finds.specs.Growing.{FindAsked, FindsAsked}
 use Rattle.papaya_finds.specs.Linking.{FindShapes, FindsShape}
+use Rattle.papaya_finds.specs.Nexts.{making_of_copier}
 use Rattle.papaya_finds.specs.Parts.{FindAll}
 use Rattle.papaya_finds.specs.Waits.{FindSpace, FindsSpace}
 use Rattle.papaya_finds.proofs.Joined.{several_find_all}
-use Rattle.papaya_legal.specs.Rests.{FindStill, is_reservation, is_unsettled}
+use Rattle.papaya_legal.specs.Nexts.{MayFollow}
+use Rattle.papaya_legal.specs.Rests.{FindStill, is_reservation}
 use Rattle.papaya_legal.proofs.CallFinds.{steps_find_all}
-use Rattle.papaya_legal.proofs.Finding.Rest.{chunks_still, steps_find_rest}
+use Rattle.papaya_legal.proofs.Finding.Links.{such_of_making}
+use Rattle.papaya_legal.proofs.Finding.Rest.{steps_find_rest}
 use Rattle.papaya_named.specs.Seen.{Seen, kind_of, kind_on, seen}
 use Rattle.papaya_named.specs.declared.kind.Kind.{Kind}
 use Rattle.papaya_named.specs.declared.kind.Kind.TheVariants as kind
@@ -65,13 +74,16 @@ of_room calls.Len = refl
 of_room calls.Walk = refl
 
 module _ {K V S : Type 0} (same : K → K → Bool) (hash : K → ℕ) (name : ℕ → List ℕ) (terms : Terms) (log : List (Entry K V)) (event : Event K V) (beginning : Moment K V)
-    (map i : ℕ) (c : CallThere K V) (place : ℕ) (c_is : call_of (name i) beginning ≡ Some c) (moments : List (Moment K V)) where
+    (map i : ℕ) (c : CallThere K V) (place : ℕ) (c_is : call_of (name i) beginning ≡ Some c) where
+  abbrev moments : List (Moment K V)
+  moments = moments_from c.begun log
+
   abbrev Come : ℕ → List Effect → Scheduler K V S → Type 0
   Come n fs p = HasCome same hash name terms log event beginning map i c place n fs p
 
   -- what is asked of effects, by what is asked of the call as the event begins
   abbrev Rest : List Effect → Moment K V → Type 0
-  Rest fs m = FindStill terms moments (name i) map fs m (is_unsettled c beginning)
+  Rest fs m = FindStill terms moments (name i) map fs m (is_reservation c.call)
 
   abbrev All : List Effect → Moment K V → Type 0
   All fs m = FindAll terms moments (name i) map fs m
@@ -114,7 +126,7 @@ module _ {K V S : Type 0} (same : K → K → Bool) (hash : K → ℕ) (name : �
     abbrev its : (d : CallThere K V) × (call_of (name i) come.now ≡ Some d) × (d.map ≡ map) × IsCalled same come.under d.call
     its = come.midst.calls.whole.all.shown.calls map i come.under here
 
-    -- its call is of the kind, and on the map, of which it was as the event began, and that has its mode
+    -- its call is of the kind of which it was as the event began, and began with the same one
     seen_same : seen c ≡ seen its.0
     seen_same =
         let as_now = ap (λ (x : Moment K V). list_map seen x.calls) come.midst.worked ∙ calls_seen (name i) (Some map) mid beginning in
@@ -122,13 +134,22 @@ module _ {K V S : Type 0} (same : K → K → Bool) (hash : K → ℕ) (name : �
         let was = both_some seen seen (call_of (name i) beginning) (call_of (name i) come.now) (sym alike) its.0 its.1 in
         ap seen (the c was.0 (sym c_is ∙ was.1)) ∙ was.2
 
-    same_settled : is_unsettled its.0 come.now ≡ is_unsettled c beginning
-    same_settled =
-        ap (λ (b : Bool). b || not (grows_in_chunks (map_at its.0.map come.now)))
-        (of_room its.0.call ∙ ap (λ (z : Seen). is_room z.kind) (sym seen_same) ∙ sym (of_room c.call))
-        ∙ ap (λ (k : ℕ). is_reservation c.call || not (grows_in_chunks (map_at k come.now))) (ap (λ (z : Seen). z.map) (sym seen_same))
-        ∙ ap (λ (x : Moment K V). is_reservation c.call || not (grows_in_chunks (map_at c.map x))) come.midst.worked
-        ∙ ap (λ (b : Bool). is_reservation c.call || not b) (chunks_still (Some (name i)) (Some map) mid beginning c.map)
+    same_kind : is_reservation its.0.call ≡ is_reservation c.call
+    same_kind = of_room its.0.call ∙ ap (λ (z : Seen). is_room z.kind) (sym seen_same) ∙ sym (of_room c.call)
+
+    same_begun : its.0.begun ≡ c.begun
+    same_begun =
+        let kept = effects_begun (name i) map (name i) mid beginning c c_is in
+        ap (λ (y : CallThere K V). y.begun) (the its.0 kept.0 (sym its.1 ∙ ap (λ (x : Moment K V). call_of (name i) x) come.midst.worked ∙ kept.1)) ∙ kept.2
+
+    -- where its copier makes a table, its map has a second one, or had one since the call began
+    nexts : (k : NewTable) → making_of_copier (machine_of come.under) ≡ Some k → OneOf (HasNext map) (come.now ∷ moments)
+    nexts k is =
+        elim (such_of_making (λ (x : NewTable). MayFollow map its.0.begun log come.now) k (machine_of come.under) is (come.midst.calls.nexts map i come.under here its.0 its.1)) as
+        (λ _. OneOf (HasNext map) (come.now ∷ moments)) [
+          | inl had ↦ inr (subst (λ (b : ℕ). OneOf (HasNext map) (moments_from b log)) same_begun had)
+          | inr now ↦ inl now
+        ]
 
     -- those of one step find it
     step_finds : Rest its_did come.now → All its_did come.now
@@ -137,8 +158,8 @@ module _ {K V S : Type 0} (same : K → K → Bool) (hash : K → ℕ) (name : �
         steps_find_all K V S same hash name come.now (known p.logged.notes) come.scene p.logged.executor new.logged.executor come.shown.is_at come.midst.calls.whole come.midst.calls.kept map i come.under
         here step.said led terms (mask_is (led map come.under here).0 (led map come.under here).2) its.0 its.1 (come.slot its.0 its.1) moments
         (steps_find_rest K V S same hash name come.now (known p.logged.notes) come.scene p.logged.executor new.logged.executor come.shown.is_at come.midst.calls.whole come.midst.calls.kept
-        come.midst.calls.finding map i come.under here step.said led terms moments its.0 its.1
-        (subst (λ (b : Bool). FindStill terms moments (name i) map its_did come.now b) (sym same_settled) rest))
+        come.midst.calls.finding map i come.under here step.said led terms moments its.0 its.1 nexts
+        (subst (λ (b : Bool). FindStill terms moments (name i) map its_did come.now b) (sym same_kind) rest))
 
     -- and so do all, where those before do
     pub all_find : (Rest mid beginning → All mid beginning) → Rest after beginning → All after beginning

@@ -21,7 +21,7 @@ use Rattle.papaya_histories.specs.Given.Schedules.declared.effect.Thing.{Thing}
 use Rattle.papaya_finds.specs.Doing.{takes_steps}
 use Rattle.papaya_legal.specs.Noted.{HaveCome}
 use Rattle.papaya_legal.specs.Carried.{ComesAlone}
-use Rattle.papaya_legal.specs.Rests.{FindStill, is_unsettled}
+use Rattle.papaya_legal.specs.Rests.{FindStill, is_reservation}
 use Rattle.papaya_legal.proofs.Calls.{call_events_begin_so}
 use Rattle.papaya_scheduler.specs.Played.{IsPlayed, entry_of}
 use Rattle.papaya_named.specs.Seen.{Seen, is_named}
@@ -145,11 +145,11 @@ module _ {K V S : Type 0} (same : K → K → Bool) (hash : K → ℕ) (terms : 
           subst (λ (o : Option (CallThere K V)). IfCall (λ (x : CallThere K V). P x m) o) acting_is
           (subst (λ (b : Moment K V). IfCall (λ (x : CallThere K V). P x b) (acting (caller_of event) b)) (begins played) so)
 
-      rest : FindStill terms (moments_from c.begun log) (name i) map played.effects.items m (is_unsettled c m)
+      rest : FindStill terms (moments_from c.begun log) (name i) map played.effects.items m (is_reservation c.call)
       rest =
-          subst (λ (x : List ℕ). FindStill terms (moments_from c.begun log) x map played.effects.items m (is_unsettled c m)) (ap (λ (z : Seen). z.name) here.as_seen ∙ sym here.way.2)
-          (subst (λ (k : ℕ). FindStill terms (moments_from c.begun log) c.caller k played.effects.items m (is_unsettled c m)) map_is
-          (its_left (λ (x : CallThere K V) (b : Moment K V). FindStill terms (moments_from x.begun log) x.caller x.map played.effects.items b (is_unsettled x b)) left.but.rest))
+          subst (λ (x : List ℕ). FindStill terms (moments_from c.begun log) x map played.effects.items m (is_reservation c.call)) (ap (λ (z : Seen). z.name) here.as_seen ∙ sym here.way.2)
+          (subst (λ (k : ℕ). FindStill terms (moments_from c.begun log) c.caller k played.effects.items m (is_reservation c.call)) map_is
+          (its_left (λ (x : CallThere K V) (b : Moment K V). FindStill terms (moments_from x.begun log) x.caller x.map played.effects.items b (is_reservation x.call)) left.but.rest))
 
       pub taken_on : RunsOn same hash terms log (entry_of event played) new
       taken_on =
@@ -159,6 +159,6 @@ module _ {K V S : Type 0} (same : K → K → Bool) (hash : K → ℕ) (terms : 
           (tells_so same hash name terms log event m map i c place c_is (known old.logged.notes) runs.stands.scene runs.shows runs.come played by.0 by.2 by.3 new far_on by.5 comes_as
           (its_left (λ (x : CallThere K V) (b : Moment K V). TellsValue x.call x.replies played.outcome) left.but.values)) (begins played) acts_on (inl takes) by.1
           (never_busy c.call played.outcome comes_as) left.right refused
-          (all_find same hash name terms log event m map i c place c_is (moments_from c.begun log) by.0 by.2 played.effects.items by.3 new far_on (as_told same hash by.5)
-          (gone_find same hash name terms log event m map i c place c_is (moments_from c.begun log) old start by.0 by.2 by.3 by.4) rest)
+          (all_find same hash name terms log event m map i c place c_is by.0 by.2 played.effects.items by.3 new far_on (as_told same hash by.5)
+          (gone_find same hash name terms log event m map i c place c_is old start by.0 by.2 by.3 by.4) rest)
           slot_so active plays

@@ -25,7 +25,7 @@ use Rattle.papaya_legal.specs.Noted.{HaveCome}
 use Rattle.papaya_legal.proofs.Come.{called}
 use Rattle.papaya_legal.specs.CallEvents.{InCallEvent}
 use Rattle.papaya_legal.specs.Carried.{ComesAlone}
-use Rattle.papaya_legal.specs.Rests.{FindStill, is_unsettled}
+use Rattle.papaya_legal.specs.Rests.{FindStill, is_reservation}
 use Rattle.papaya_legal.proofs.CallBegins.{whole_calls_begin}
 use Rattle.papaya_logged.specs.Shown.{IsShown}
 use Rattle.papaya_scheduler.specs.Played.{HasBegun, IsPlayed, StandsFor, entry_of}
@@ -175,8 +175,8 @@ module _ {K V S : Type 0} (same : K → K → Bool) (hash : K → ℕ) (terms : 
         subst (λ (o : Option (CallThere K V)). IfCall (λ (x : CallThere K V). P x m1) o) acting_is
         (subst (λ (b : Moment K V). IfCall (λ (x : CallThere K V). P x b) (call_of nameless b)) begins so)
 
-    rest : FindStill terms (moments_from c.begun log) (names i) map played.effects.items m1 (is_unsettled c m1)
-    rest = its_left (λ (x : CallThere K V) (b : Moment K V). FindStill terms (moments_from x.begun log) x.caller x.map played.effects.items b (is_unsettled x b)) left.but.rest
+    rest : FindStill terms (moments_from c.begun log) (names i) map played.effects.items m1 (is_reservation c.call)
+    rest = its_left (λ (x : CallThere K V) (b : Moment K V). FindStill terms (moments_from x.begun log) x.caller x.map played.effects.items b (is_reservation x.call)) left.but.rest
 
     pub whole_on : RunsOn same hash terms log (entry_of event played) new
     whole_on =
@@ -187,8 +187,8 @@ module _ {K V S : Type 0} (same : K → K → Bool) (hash : K → ℕ) (terms : 
         (tells_so same hash names terms log event m1 map i c 0 c_is (known old.logged.notes) runs.stands.scene (begun.run_named same hash terms log old runs nameless guard on call mid led) runs.come played by.0
         by.2 by.3 new far_on by.5 comes_as (its_left (λ (x : CallThere K V) (b : Moment K V). TellsValue x.call x.replies played.outcome) left.but.values)) begins
         (ap (λ (o : Option (CallThere K V)). option_map (λ (x : CallThere K V). x.map) o) acting_is) (inl refl) by.1 never left.right refl
-        (all_find same hash names terms log event m1 map i c 0 c_is (moments_from c.begun log) by.0 by.2 played.effects.items by.3 new far_on (as_told same hash by.5)
-        (gone_find same hash names terms log event m1 map i c 0 c_is (moments_from c.begun log) mid start by.0 by.2 by.3 by.4) rest)
+        (all_find same hash names terms log event m1 map i c 0 c_is by.0 by.2 played.effects.items by.3 new far_on (as_told same hash by.5)
+        (gone_find same hash names terms log event m1 map i c 0 c_is mid start by.0 by.2 by.3 by.4) rest)
         slot_so active plays
       where
         slot_so : slot_of_guard (guard_or (call_of nameless (at_work (entry_of event played) m))) (at_work (entry_of event played) m).there ≡ slot_of i

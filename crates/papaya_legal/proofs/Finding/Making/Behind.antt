@@ -1,5 +1,5 @@
 -- What a copier may begin to make follows a table of its map: by what it knows where it stands.
-use Rattle.std.specs.Prelude.{◌≡◌, ℕ, Bool, true, false, cond, Some, ◌⊎◌}
+use Rattle.std.specs.Prelude.{◌≡◌, ℕ, Bool, true, false, cond, Some}
 use Rattle.std.proofs.Common.{inl, inr}
 use Rattle.papaya_histories.specs.Given.Seize.World.{World}
 use Rattle.papaya_histories.specs.Given.Tables.Chunks.{is_incremental}
@@ -53,16 +53,16 @@ module _ (Such : NewTable → Type 0) where
   copier_row x copying.Replaces row = absurd row
   copier_row x _ row = tt
 
-  call_row : (p : Calling) → IsRowOfCall p → CallBegins Such p
+  pub call_row : (p : Calling) → IsRowOfCall p → CallBegins Such p
   call_row (calling.Helps copier goal) row = copier_row copier copier.stands row
   call_row (calling.Copies copier) row = copier_row copier copier.stands row
   call_row _ row = tt
 
-  room_row : (p : Reserving) → IsRowOfReserve p → RoomBegins Such p
+  pub room_row : (p : Reserving) → IsRowOfReserve p → RoomBegins Such p
   room_row (reserving.Copies copier) row = copier_row copier copier.stands row
   room_row _ row = tt
 
-  sweep_row : (p : Sweeping) → IsRowOfSweep p → SweepBegins Such p
+  pub sweep_row : (p : Sweeping) → IsRowOfSweep p → SweepBegins Such p
   sweep_row (sweeping.Copies copier) row = copier_row copier copier.stands row
   sweep_row _ row = tt
 

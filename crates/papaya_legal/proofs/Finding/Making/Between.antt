@@ -1,11 +1,10 @@
 -- Between the steps of calls: where a call begins, takes a reply, or goes on as a walk, and where none does, each copier makes a table as it is to make it.
 use Rattle.std.specs.Prelude.{◌≡◌, ℕ, Bool, Some}
-use Rattle.std.proofs.Common.{ap, sym, subst, inl, inr}
+use Rattle.std.proofs.Common.{sym, subst, inl, inr}
 use Rattle.papaya_histories.specs.Given.Raw.Machine.{machine_asked, machine_replied}
 use Rattle.papaya_histories.specs.Given.Raw.declared.machines.asking.Reply.{Reply}
 use Rattle.papaya_histories.specs.Given.Raw.declared.machines.call.KeyCall.{KeyCall}
 use Rattle.papaya_histories.specs.Given.Raw.declared.machines.machine.Machine.{Machine}
-use Rattle.papaya_histories.specs.Given.Raw.declared.machines.machine.Machine.TheVariants as kinds
 use Rattle.papaya_histories.specs.Given.Resize.declared.new_table.NewTable.{NewTable}
 use Rattle.papaya_histories.specs.Given.Schedules.Moment.{Moment}
 use Rattle.papaya_histories.specs.Given.Callers.OverAll.{CallOverAll}
@@ -54,7 +53,7 @@ module _ {K V : Type 0} (Such : NewTable → Type 0) (same : K → K → Bool) w
   key_begins hash i standing keys given call (TriesToInsertWith key) = tt
   key_begins hash i standing keys given call (RemovesIf q code few class) = tt
 
-  none_made : (standing : Standing K) (i : ℕ) (u : UnderWay K V K) → Begins same standing i u → MachineMakes Such (machine_of u)
+  pub none_made : (standing : Standing K) (i : ℕ) (u : UnderWay K V K) → Begins same standing i u → MachineMakes Such (machine_of u)
   none_made standing i (OnKey u) begins = key_begins standing.hash i standing u.keys u.pair u.call begins.0
   none_made standing i (ForRoom r) begins = subst (λ (x : CallForRoom). RoomMakes Such x.reserve.stands) (sym begins.1) tt
   none_made standing i (Counting sum) begins = tt

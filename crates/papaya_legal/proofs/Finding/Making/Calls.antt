@@ -142,14 +142,14 @@ module _ (Such : NewTable → Type 0) {K V Q : Type 0} where
     disposed_makes answer (d, settled.Gave value) = tt
     disposed_makes answer (d, settled.Done) = tt
 
-    copied_makes : (end : Copier × Outcome (Node K V) Table) → CopierEnds Such K V end → CallEnds (copied p end)
+    pub copied_makes : (end : Copier × Outcome (Node K V) Table) → CopierEnds Such K V end → CallEnds (copied p end)
     copied_makes (copier, outcome.Goes) so = so
     copied_makes (copier, outcome.Waits) so = so
     copied_makes (copier, outcome.Gave value) so = so
     copied_makes (copier, outcome.Done table) so = tt
     copied_makes (copier, outcome.Refused fault) so = ending_makes _
 
-    helped_makes : (goal : Table) (end : Copier × Outcome (Node K V) Table) → CopierEnds Such K V end → CallEnds (helped p goal end)
+    pub helped_makes : (goal : Table) (end : Copier × Outcome (Node K V) Table) → CopierEnds Such K V end → CallEnds (helped p goal end)
     helped_makes goal (copier, outcome.Goes) so = so
     helped_makes goal (copier, outcome.Waits) so = so
     helped_makes goal (copier, outcome.Gave value) so = so

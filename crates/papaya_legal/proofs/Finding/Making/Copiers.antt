@@ -1,5 +1,5 @@
 -- A step of a copier makes a table as it was to make it, or begins to make one behind a table that has no place.
-use Rattle.std.specs.Prelude.{◌≡◌, ℕ, ◌+◌, ◌-◌, ◌%◌, ◌^◌, ◌==◌, nat_lt, Bool, true, false, Ok, Err, if◌then◌else◌}
+use Rattle.std.specs.Prelude.{ℕ, ◌+◌, ◌-◌, ◌%◌, ◌^◌, ◌==◌, nat_lt, Bool, true, false, Ok, Err, if◌then◌else◌}
 use Rattle.papaya_histories.specs.Given.SeizeWords.Op.{Out, Found, Exchanged}
 use Rattle.papaya_histories.specs.Given.SeizeWords.Word.{block_in}
 use Rattle.papaya_histories.specs.Given.SeizeWords.declared.fault.Fault.{Fault}
@@ -21,7 +21,7 @@ use Rattle.papaya_histories.specs.Given.Resize.Copier.{copier_plan, plan_at}
 use Rattle.papaya_histories.specs.Given.Resize.CopierClaims.{claim_read, claimed, next_read, root_read, status_read}
 use Rattle.papaya_histories.specs.Given.Resize.CopierCounts.{counted, refusing}
 use Rattle.papaya_histories.specs.Given.Resize.CopierFurther.{further_read, grown, remade, replacement_read}
-use Rattle.papaya_histories.specs.Given.Resize.CopierMarks.{is_awaited, is_mine, marked, mine_marked}
+use Rattle.papaya_histories.specs.Given.Resize.CopierMarks.{is_awaited, is_mine, marked}
 use Rattle.papaya_histories.specs.Given.Resize.CopierPlaces.{next_try, pair_put, place_read, put_told}
 use Rattle.papaya_histories.specs.Given.Resize.CopierPromotes.{promoted, retired, successor_read, table_retired}
 use Rattle.papaya_histories.specs.Given.Resize.CopierStates.{behind, copying_all, next_place, none_left, place_done, resting}
@@ -166,7 +166,7 @@ module _ (Such : NewTable → Type 0) where
       successor_makes table _ = here
 
       -- whatever the point
-      point_makes : (stands : Copying) → CopierMakes Such stands → CopierBegins Such p stands → AlwaysOf Ends (plan_at hash p stands)
+      pub point_makes : (stands : Copying) → CopierMakes Such stands → CopierBegins Such p stands → AlwaysOf Ends (plan_at hash p stands)
       point_makes at.Begins makes begins = root_makes
       point_makes at.Follows makes begins = next_read_makes
       point_makes at.Asks makes begins = status_makes

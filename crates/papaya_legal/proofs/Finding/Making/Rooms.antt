@@ -34,7 +34,7 @@ module _ (Such : NewTable → Type 0) (K V : Type 0) where
 
   module _ (hash : K → ℕ) (goes : (n : NewTable) → Such n → AlwaysOf (λ (e : NewTable × Progress Table). Such e.0) (new_table_plan {K = K} {V = V} n)) (p : Reserve) (here : RoomMakes Such p.stands) where
     -- by a step of a machine within it
-    copied_makes : (end : Copier × Outcome (Node K V) Table) → CopierEnds Such K V end → RoomEnds (copied p end)
+    pub copied_makes : (end : Copier × Outcome (Node K V) Table) → CopierEnds Such K V end → RoomEnds (copied p end)
     copied_makes (copier, outcome.Goes) so = so
     copied_makes (copier, outcome.Waits) so = so
     copied_makes (copier, outcome.Gave value) so = so
@@ -76,7 +76,7 @@ module _ (Such : NewTable → Type 0) (K V : Type 0) where
     on_next table need (Found link) = always_if RoomEnds (link == 0) _ _ tt (λ value. begun_makes Such p.setting table _)
     on_next table need _ = here
 
-    point_makes : (stands : Reserving) → RoomMakes Such stands → RoomBegins Such stands → AlwaysOf RoomEnds (plan_at hash p stands)
+    pub point_makes : (stands : Reserving) → RoomMakes Such stands → RoomBegins Such stands → AlwaysOf RoomEnds (plan_at hash p stands)
     point_makes at.Reads makes begins = on_root
     point_makes (at.Makes making) makes begins = always_plan_as RoomEnds (made p) made_makes (new_table_plan making)
     point_makes (at.Sums table sum) makes begins = always_plan_as RoomEnds (summed p table) (summed_makes table) (sum_plan sum)

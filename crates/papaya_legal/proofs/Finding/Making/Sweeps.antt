@@ -82,7 +82,7 @@ module _ (Such : NewTable → Type 0) where
 
     module _ (hash : K → ℕ) (goes : (n : NewTable) → Such n → AlwaysOf (λ (e : NewTable × Progress Table). Such e.0) (new_table_plan {K = K} {V = V} n)) (c : Sweep) (here : SweepMakes Such c.stands) where
       -- by a step of a machine within it
-      copied_makes : (end : Copier × Outcome (Node K V) Table) → CopierEnds Such K V end → SweepEnds (copied c end)
+      pub copied_makes : (end : Copier × Outcome (Node K V) Table) → CopierEnds Such K V end → SweepEnds (copied c end)
       copied_makes (copier, outcome.Goes) so = so
       copied_makes (copier, outcome.Waits) so = so
       copied_makes (copier, outcome.Gave value) so = so
@@ -113,7 +113,7 @@ module _ (Such : NewTable → Type 0) where
       on_tried word (Exchanged (Err found)) = seen_makes c found
       on_tried word _ = here
 
-      point_makes : (stands : Sweeping) → SweepMakes Such stands → SweepBegins Such stands → AlwaysOf SweepEnds (plan_at hash c stands)
+      pub point_makes : (stands : Sweeping) → SweepMakes Such stands → SweepBegins Such stands → AlwaysOf SweepEnds (plan_at hash c stands)
       point_makes at.Reads makes begins = on_root
       point_makes at.Follows makes begins = on_next
       point_makes (at.Copies copier) makes begins = always_plan_more (CopierEnds Such K V) SweepEnds (copied c) copied_makes (copier_plan hash copier) (copier_makes Such K V hash goes copier makes begins)

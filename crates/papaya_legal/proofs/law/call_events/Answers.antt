@@ -8,6 +8,7 @@ use Rattle.papaya_legal.proofs.CallSwept.{calls_are_swept}
 use Rattle.papaya_legal.proofs.Calls.{call_events_begin_so, call_events_go_on_so}
 use Rattle.papaya_legal.proofs.CallsAfter.{call_events_end_so}
 use Rattle.papaya_legal.proofs.CallsEnd.{call_events_are_legal}
+use Rattle.papaya_legal.proofs.Finding.Rest.{steps_find_rest}
 use Rattle.papaya_legal.proofs.law.call_events.Goals as goal
 
 pub returns : goal.returns
@@ -20,6 +21,7 @@ returns c d = record {
   follows = call_events_follow _ _ _;
   ends = call_events_end_so _ _ _;
   finds = steps_find_all _ _ _;
+  rest = steps_find_rest _ _ _;
   swept = calls_are_swept _ _ _;
   leaves = calls_leave_nothing _ _ _;
   runs = call_events_run _ _ _;
