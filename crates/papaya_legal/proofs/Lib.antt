@@ -35,3 +35,4 @@ pub mod Found
 pub mod Come
 pub mod Noted
 pub mod Heads
+pub mod Limits

@@ -1,0 +1,4 @@
+-- Lemmas on where a call can have no further table.
+pub mod Walk
+pub mod Last
+pub mod Mays
