@@ -1,5 +1,6 @@
 -- Lemmas on the events of a run, and on what is carried from each to the next.
 pub mod Finding
+pub mod Since
 pub mod Begin
 pub mod Uncounted
 pub mod Between

@@ -2,3 +2,7 @@
 pub mod Walk
 pub mod Last
 pub mod Mays
+pub mod Chain
+pub mod Off
+pub mod Limits
+pub mod LimitsOthers

@@ -30,31 +30,32 @@ abbrev pub is_longest : TableThere → Bool
 is_longest t = nat_le (2 ^ 48) t.shape.len || nat_le (2 ^ 63) t.table.turn
 
 -- a list in which one is so, as far as it is looked at, has one
-any_ahead : (q : TableThere → Bool) (xs ys : List TableThere) → list_any q xs ≡ true → list_any q (xs ++ ys) ≡ true
+pub any_ahead : (q : TableThere → Bool) (xs ys : List TableThere) → list_any q xs ≡ true → list_any q (xs ++ ys) ≡ true
 any_ahead q [] ys is = absurd (cc is)
-any_ahead q (x ∷ xs) ys is = by (q x) is
+any_ahead q (x ∷ xs) ys is = by (q x) (any_ahead q xs ys) is
   where
-    by : (b : Bool) → (b || list_any q xs) ≡ true → (b || list_any q (xs ++ ys)) ≡ true
-    by true is = refl
-    by false is = any_ahead q xs ys is
+    by : (b : Bool) → (list_any q xs ≡ true → list_any q (xs ++ ys) ≡ true) → (b || list_any q xs) ≡ true → (b || list_any q (xs ++ ys)) ≡ true
+    by true rest is = refl
+    by false rest is = rest is
 
 any_last : (q : TableThere → Bool) (xs : List TableThere) (y : TableThere) → q y ≡ true → list_any q (xs ++ y ∷ []) ≡ true
 any_last q [] y is = ap (λ (b : Bool). b || false) is
-any_last q (x ∷ xs) y is = by (q x)
+any_last q (x ∷ xs) y is = by (q x) (any_last q xs y is)
   where
-    by : (b : Bool) → (b || list_any q (xs ++ y ∷ [])) ≡ true
-    by true = refl
-    by false = any_last q xs y is
+    by : (b : Bool) → list_any q (xs ++ y ∷ []) ≡ true → (b || list_any q (xs ++ y ∷ [])) ≡ true
+    by true rest = refl
+    by false rest = rest
 
 -- so is one that passes a test, too
 any_filtered : (p q : TableThere → Bool) (xs : List TableThere) → list_any (λ t. p t && q t) xs ≡ true → list_any q (filter p xs) ≡ true
 any_filtered p q [] is = absurd (cc is)
-any_filtered p q (x ∷ xs) is = by (p x) (q x) refl is
+any_filtered p q (x ∷ xs) is = by (p x) (q x) refl (any_filtered p q xs) is
   where
-    by : (a b : Bool) → q x ≡ b → ((a && b) || list_any (λ t. p t && q t) xs) ≡ true → list_any q (if a then x ∷ filter p xs else filter p xs) ≡ true
-    by true true here is = ap (λ (b : Bool). b || list_any q (filter p xs)) here
-    by true false here is = ap (λ (b : Bool). b || list_any q (filter p xs)) here ∙ any_filtered p q xs is
-    by false b here is = any_filtered p q xs is
+    by : (a b : Bool) → q x ≡ b → (list_any (λ t. p t && q t) xs ≡ true → list_any q (filter p xs) ≡ true) → ((a && b) || list_any (λ t. p t && q t) xs) ≡ true
+        → list_any q (if a then x ∷ filter p xs else filter p xs) ≡ true
+    by true true here rest is = ap (λ (b : Bool). b || list_any q (filter p xs)) here
+    by true false here rest is = ap (λ (b : Bool). b || list_any q (filter p xs)) here ∙ rest is
+    by false b here rest is = rest is
 
 -- one of so many tables
 any_of : {K : Type 0} (map : ℕ) (c : Chart K) (stage : ℕ → Stage) (q : TableThere → Bool) (t n : ℕ) → t < n → q (record { table = table_of map t; shape = shape_at map c t; stage = stage t }) ≡ true

@@ -61,23 +61,23 @@ module _ (Why : Type 0) where
   pub ends_for : (setting : Setting) → setting.initial ≤ 2 ^ 48 → EndsSo (IsFor Why) (IsForBehind Why) setting
   ends_for setting fits before reason count last none is = last.1 (only_the_last_ends reason before.len before.turn count setting.initial last.0 fits none)
 
-module _ (Why Why2 : Type 0) (then : Why → Why2) where
+module _ (Why Why2 : Type 0) (leads : Why → Why2) where
   pub keeps_for : Keeps (IsFor Why) (IsFor Why2) (IsForBehind Why) (IsForBehind Why2)
-  keeps_for = ((λ fault so is. then (so is)), (λ before reason so. (so.0, λ none. then (so.1 none))))
+  keeps_for = ((λ fault so is. leads (so is)), (λ before reason so. (so.0, λ none. leads (so.1 none))))
 
   pub room_more : (p : Reserving) → RoomEnds Why p → RoomEnds Why2 p
   room_more p so = reserving_on (IsFor Why) (IsFor Why2) (IsForBehind Why) (IsForBehind Why2) p (λ bound. keeps_for) so
 
 -- what is for one thing is for another one that follows from it
 pub machine_for : {K V Q : Type 0} (Why Why2 : Type 0) → (Why → Why2) → (machine : Machine K V Q) → MachineEnds Why machine → MachineEnds Why2 machine
-machine_for Why Why2 then (kinds.Key p) so = calling_on (IsFor Why) (IsFor Why2) (IsForBehind Why) (IsForBehind Why2) p.trial.table p.stands (λ bound. keeps_for Why Why2 then) so
-machine_for Why Why2 then (kinds.Reserve r) so = room_more (Why ⊎ NeedsMore r.additional) (Why2 ⊎ NeedsMore r.additional) more r.stands so
+machine_for Why Why2 leads (kinds.Key p) so = calling_on (IsFor Why) (IsFor Why2) (IsForBehind Why) (IsForBehind Why2) p.trial.table p.stands (λ bound. keeps_for Why Why2 leads) so
+machine_for Why Why2 leads (kinds.Reserve r) so = room_more (Why ⊎ NeedsMore r.additional) (Why2 ⊎ NeedsMore r.additional) more r.stands so
   where
     more : Why ⊎ NeedsMore r.additional → Why2 ⊎ NeedsMore r.additional
-    more (inl why) = inl (then why)
+    more (inl why) = inl (leads why)
     more (inr needs) = inr needs
-machine_for Why Why2 then (kinds.Sweep c) so = sweeping_on (IsFor Why) (IsFor Why2) (IsForBehind Why) (IsForBehind Why2) c.stands (λ bound. keeps_for Why Why2 then) so
-machine_for Why Why2 then (kinds.Count sum) so = tt
+machine_for Why Why2 leads (kinds.Sweep c) so = sweeping_on (IsFor Why) (IsFor Why2) (IsForBehind Why) (IsForBehind Why2) c.stands (λ bound. keeps_for Why Why2 leads) so
+machine_for Why Why2 leads (kinds.Count sum) so = tt
 
 -- By what a step finds in its memory.
 module _ (Why : Type 0) (K V Q : Type 0) (m m2 : Mem (Node K V)) where
@@ -95,7 +95,7 @@ module _ (Why : Type 0) (K V Q : Type 0) (m m2 : Mem (Node K V)) where
   abbrev pub EndsThen : Machine K V Q → Machine K V Q × Progress (Node K V) → Type 0
   EndsThen before end = MachineEnds Why end.0 × SaysFor (WhyOf before) end.1
 
-  key_end : (p : KeyCall K V Q) (e : KeyCall K V Q × Called (Node K V)) → CallsAs (IsFor Why) (IsForBehind Why) e → EndsThen (kinds.Key p) (of_key e)
+  pub key_end : (p : KeyCall K V Q) (e : KeyCall K V Q × Called (Node K V)) → CallsAs (IsFor Why) (IsForBehind Why) e → EndsThen (kinds.Key p) (of_key e)
   key_end p (q, called.Refused fault) so = so
   key_end p (q, called.Goes) so = (so.0, tt)
   key_end p (q, called.Waits) so = (so.0, tt)
@@ -104,9 +104,9 @@ module _ (Why : Type 0) (K V Q : Type 0) (m m2 : Mem (Node K V)) where
   key_end p (q, called.Unstored value) so = (so.0, tt)
   key_end p (q, called.Done answer) so = (so.0, tt)
 
-  room_end : (r : Reserve) (e : Reserve × Outcome (Node K V) Unit) → e.0.additional ≡ r.additional → ReservesAs (IsFor (Why ⊎ NeedsMore r.additional)) (IsForBehind (Why ⊎ NeedsMore r.additional)) e
+  pub room_end : (r : Reserve) (e : Reserve × Outcome (Node K V) Unit) → e.0.additional ≡ r.additional → ReservesAs (IsFor (Why ⊎ NeedsMore r.additional)) (IsForBehind (Why ⊎ NeedsMore r.additional)) e
       → EndsThen (kinds.Reserve r) (of_room e)
-  room_end r (q, told) as so = (subst (λ (n : ℕ). RoomEnds (Why ⊎ NeedsMore n) q.stands) (sym as) so.0, says told so.1)
+  room_end r (q, told) asks_on so = (subst (λ (n : ℕ). RoomEnds (Why ⊎ NeedsMore n) q.stands) (sym asks_on) so.0, says told so.1)
     where
       says : (told : Outcome (Node K V) Unit) → RefusesSo (IsFor (Why ⊎ NeedsMore r.additional)) told → SaysFor (Why ⊎ NeedsMore r.additional) (of_room {K = K} {V = V} {Q = Q} (q, told)).1
       says outcome.Goes so = tt
@@ -115,7 +115,7 @@ module _ (Why : Type 0) (K V Q : Type 0) (m m2 : Mem (Node K V)) where
       says (outcome.Done done) so = tt
       says (outcome.Refused fault) so = so
 
-  sweep_end : (c : Sweep) (e : Sweep × Swept (Node K V)) → SweepsAs (IsFor Why) (IsForBehind Why) e → EndsThen (kinds.Sweep c) (of_sweep e)
+  pub sweep_end : (c : Sweep) (e : Sweep × Swept (Node K V)) → SweepsAs (IsFor Why) (IsForBehind Why) e → EndsThen (kinds.Sweep c) (of_sweep e)
   sweep_end c (q, told) so = (so.0, says told so.1)
     where
       says : (told : Swept (Node K V)) → SweepRefusesSo (IsFor Why) told → SaysFor Why (of_sweep {K = K} {V = V} {Q = Q} (q, told)).1
