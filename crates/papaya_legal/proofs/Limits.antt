@@ -4,5 +4,5 @@ pub mod Last
 pub mod Mays
 pub mod Chain
 pub mod Off
-pub mod Limits
-pub mod LimitsOthers
+pub mod Shows
+pub mod Steps

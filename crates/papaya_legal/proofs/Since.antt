@@ -98,9 +98,9 @@ module _ {K V : Type 0} (Of : Type 0 → Machine K V K → Type 0) (more : (A B 
     so_alike calls keeps was = so_stay keeps was (λ n j x is d d_is. (d, found_same m v calls (name j) d d_is, refl))
 
   -- at a moment with other maps, where those that stand are found as they were
-  pub so_where : {S : Type 0} (same : K → K → Bool) (hash : K → ℕ) (name : ℕ → List ℕ) (log : List (Entry K V)) (m v : Moment K V) (s : Scene K V) (e : Executor K V S) → IsAt same hash e s → ShowsSo name log m s
+  pub so_where_found : {S : Type 0} (same : K → K → Bool) (hash : K → ℕ) (name : ℕ → List ℕ) (log : List (Entry K V)) (m v : Moment K V) (s : Scene K V) (e : Executor K V S) → IsAt same hash e s → ShowsSo name log m s
       → ((n : ℕ) (st : Standing K) → s.maps n ≡ Some st → map_at n v ≡ map_at n m) → v.tables ≡ m.tables → v.calls ≡ m.calls → ShowsSo name log v s
-  so_where same hash name log m v s e at shows still tables calls n j x is d d_is =
+  so_where_found same hash name log m v s e at shows still tables calls n j x is d d_is =
       let st = standing_is same hash e s at n j x is in
       moved log m v n n d.begun d.begun (machine_of x) (machine_of x) refl refl refl (so_where m v tables n (still n st.0 st.1)) (shows n j x is d (found_same m v calls (name j) d d_is))
 
