@@ -76,6 +76,7 @@ use Rattle.papaya_legal.specs.Between.{CallsBegin, CallsTake, EndsBegin, LikesSh
 use Rattle.papaya_legal.specs.Carried.{NoneCounted, ShowsCalls}
 use Rattle.papaya_legal.specs.Finding.{ShowsFinding}
 use Rattle.papaya_legal.proofs.Finding.Alike.{finding_fewer, stood_as}
+use Rattle.papaya_legal.proofs.Limits.Shows.{calls_begin_limits, calls_take_limits, limits_grow, limits_where, walks_go_on_limits, walks_stop_limits}
 use Rattle.papaya_legal.proofs.Finding.Nexts.{calls_begin_nexts, calls_take_nexts, nexts_grow, nexts_where, walks_go_on_nexts, walks_stop_nexts}
 use Rattle.papaya_legal.proofs.Finding.Making.Between.{calls_begin_further, calls_take_further, walks_go_on_further}
 use Rattle.papaya_legal.proofs.Finding.Between.{asked_same, fewer_calls, finding_where, found_beside, found_kept, none_at_first, puts_begun, puts_on, replied_same, waits_on}
@@ -87,6 +88,7 @@ likes_show K V same name log m v known s all like = subst (λ (x : Moment K V). 
   kept = stays_kept K V name m other known s s all.kept refl refl refl refl refl refl refl refl refl;
   finding = record { growing = all.finding.growing; further = all.finding.further; capacities = all.finding.capacities; waits = all.finding.waits; puts = all.finding.puts };
   nexts = all.nexts;
+  limits = all.limits;
   counters = counters_stay K V name m other s s all.counters refl refl refl refl refl (λ of j x is removed adds. (x, is, adds));
   uncounted = all.uncounted;
   dues = (dues_stay K V (Unit {0}) same (λ k. 0) name log).alike m other known s all.dues alike;
@@ -117,6 +119,7 @@ logs_grow K V same name log e known s all = record {
   kept = all.kept;
   finding = all.finding;
   nexts = nexts_grow name log e (moment (e ∷ log)) s all.purposes.begun all.nexts;
+  limits = limits_grow name log e (moment (e ∷ log)) s all.purposes.begun all.limits;
   counters = all.counters;
   uncounted = all.uncounted;
   dues = events_keep_due K V same name log e known s all.dues;
@@ -143,6 +146,7 @@ names_change K V same name name2 log m known s agree all = record {
     puts = all.finding.puts;
   };
   nexts = λ map i u is c c_is. all.nexts map i u is c (as_named map i u is c c_is);
+  limits = λ map i u is c c_is. all.limits map i u is c (as_named map i u is c c_is);
   counters = record {
     shards = all.counters.shards;
     makes = all.counters.makes;
@@ -267,6 +271,7 @@ module _ (K V S : Type 0) (same : K → K → Bool) (hash : K → ℕ) where
           puts = puts_begun known s map i u (none_at_first same standing i u begins).1 all.finding.puts;
         };
         nexts = calls_begin_nexts same name log m s all.nexts map i u guard call standing begins none;
+        limits = calls_begin_limits same name log m s all.limits map i u guard call standing begins none;
         counters = calls_begin_counters K V name m s all.counters map i u call guard none (uncounted_at_first K V same standing i u begins);
         uncounted = all.uncounted;
         dues = calls_begin_due K V S same hash name log m known s old at all.dues map i u call guard standing there (began_now same standing i u begins) (unchanged same standing i u begins) none right.called
@@ -292,6 +297,7 @@ module _ (K V S : Type 0) (same : K → K → Bool) (hash : K → ℕ) where
           puts = puts_on K V same name m (told (name i) is_told m) known s map i u here next all.whole.all.shown.calls all.kept.owed kept.owed stays goes all.finding.puts;
         };
         nexts = calls_take_nexts same name log m s all.nexts map i u here all.whole.all.shown.calls next is_told (as_told is_told) next_is;
+        limits = calls_take_limits same name log m s all.limits map i u here all.whole.all.shown.calls next is_told (as_told is_told) next_is;
         counters = calls_take_counters K V same name m known s all.whole all.counters map i u here (as_told is_told) next next_is is_told;
         uncounted = all.uncounted;
         dues = calls_take_due K V S same hash name log m known s old at all.dues map i u here c c_is question asks standing there is_told next next_is takes told_kind taken;
@@ -325,6 +331,7 @@ module _ (K V S : Type 0) (same : K → K → Bool) (hash : K → ℕ) where
       puts = puts_on K V same name m m known s map i (OverAll o) here next all.whole.all.shown.calls all.kept.owed kept.owed stays goes all.finding.puts;
     };
     nexts = walks_go_on_nexts same name log m s all.nexts map i (OverAll o) here all.whole.all.shown.calls next (leads map (OverAll o) here).1;
+    limits = walks_go_on_limits same name log m s all.limits map i (OverAll o) here all.whole.all.shown.calls next (leads map (OverAll o) here).1;
     counters = on_counters name m s map i (Some next) its all.counters;
     uncounted = all.uncounted;
     dues = (dues_stay K V S same hash name log).walks m known s old new at all.whole all.dues i leads map o here is;
@@ -357,6 +364,7 @@ module _ (K V S : Type 0) (same : K → K → Bool) (hash : K → ℕ) where
     kept = kept;
     finding = fewer_find stopped kept.owed;
     nexts = walks_stop_nexts same name log m s all.nexts map i u here all.whole.all.shown.calls u stopped none;
+    limits = walks_stop_limits same name log m s all.limits map i u here all.whole.all.shown.calls u stopped none;
     counters = by stopped none;
     uncounted = given_uncounted (name i) m stopped all.uncounted;
     dues = (dues_stay K V S same hash name log).walks_stop m known s old new at all.whole all.dues i stopped leads map u here none;
@@ -401,6 +409,7 @@ module _ (K V S : Type 0) (same : K → K → Bool) (hash : K → ℕ) where
           kept = stays_kept K V name m (with_map there m) known s s all.kept refl refl refl refl refl refl refl refl refl;
           finding = finding_where same hash name m (with_map there m) known s e at still refl refl refl refl refl refl all.finding;
           nexts = nexts_where same hash name log m (with_map there m) s e at all.nexts still refl refl;
+          limits = limits_where same hash name log m (with_map there m) s e at all.limits still refl refl;
           counters = counters_stay K V name m (with_map there m) s s all.counters refl refl refl refl refl (λ of j x is removed adds. (x, is, adds));
           uncounted = λ of low. (let l : m.made ≤ of = omega (arith, low) in all.uncounted of l);
           dues = (dues_stay K V S same hash name log).maps_come m known s e e at all.whole all.dues there come.1;
@@ -424,6 +433,7 @@ module _ (K V S : Type 0) (same : K → K → Bool) (hash : K → ℕ) where
     kept = makings_begin_kept K V name m known s all.kept i b none;
     finding = record { growing = all.finding.growing; further = all.finding.further; capacities = all.finding.capacities; waits = all.finding.waits; puts = all.finding.puts };
     nexts = all.nexts;
+    limits = all.limits;
     counters = makings_begin_counters K V name m s all.counters i b not_made uncounted;
     uncounted = all.uncounted;
     dues = (dues_stay K V S same hash name log).makings_begin m known s old new at all.whole all.dues i b at2;
@@ -439,6 +449,7 @@ module _ (K V S : Type 0) (same : K → K → Bool) (hash : K → ℕ) where
     kept = kept;
     finding = finding_fewer K V same name m m known s (ending_begun map i standing s) all.whole.all.shown.calls all.kept.owed kept.owed (λ n j x is. is) stood refl refl refl refl refl refl all.finding;
     nexts = all.nexts;
+    limits = all.limits;
     counters = endings_begin_counters K V name m s all.counters map i standing;
     uncounted = all.uncounted;
     dues = (dues_stay K V S same hash name log).endings_begin m known s old new at all.whole all.dues map i standing there at2;
@@ -463,6 +474,7 @@ module _ (K V S : Type 0) (same : K → K → Bool) (hash : K → ℕ) where
     kept = stays_kept K V name m (without_map own remains m) known s s all.kept refl refl refl refl refl refl refl refl refl;
     finding = finding_where same hash name m (without_map own remains m) known s e at still refl refl refl refl refl refl all.finding;
     nexts = nexts_where same hash name log m (without_map own remains m) s e at all.nexts still refl refl;
+    limits = limits_where same hash name log m (without_map own remains m) s e at all.limits still refl refl;
     counters = counters_stay K V name m (without_map own remains m) s s all.counters refl refl refl refl refl (λ of j x is removed adds. (x, is, adds));
     uncounted = all.uncounted;
     dues = (dues_stay K V S same hash name log).endings_over m known s e e at all.whole all.dues own remains apart;

@@ -54,6 +54,7 @@ use Rattle.papaya_models.proofs.Ends.{ends_go_on}
 use Rattle.papaya_models.proofs.MapEvents.{making_events_go_on}
 use Rattle.papaya_legal.specs.MapEvents.{EndEventsGoOn, MakingEventsGoOn}
 use Rattle.papaya_shards.proofs.ShardKept.{none_shards}
+use Rattle.papaya_legal.proofs.Limits.Shows.{endings_keep_limits, makings_keep_limits}
 use Rattle.papaya_legal.proofs.Finding.NextsOthers.{endings_keep_nexts, makings_keep_nexts}
 use Rattle.papaya_legal.proofs.Finding.Others.{endings_keep_finding, makings_keep_finding}
 use Rattle.papaya_legal.proofs.Uncounted.{none_counted}
@@ -119,6 +120,7 @@ making_events_go_on_so K V S same hash name terms log event beginning done m kno
           (made_at same hash s old new at i b here said leads) then_whole.all.shown;
       finding = makings_keep_finding K V S same hash name m known s old new at whole midst.0.calls.finding i said leads b here was_new made_for (made_at same hash s old new at i b here said leads) then_whole;
       nexts = makings_keep_nexts K V S same hash name log m known s old new midst.0.calls.nexts at whole i said leads b here was_new;
+      limits = makings_keep_limits K V S same hash name log m known s old new midst.0.calls.limits at whole i said leads b here was_new;
       counters = makings_keep_counters K V S same hash name m known s old new at whole midst.0.calls.counters i said leads b here (Some b.map);
       uncounted = none_counted None (Some b.map) effects m midst.0.calls.uncounted (none_shards (Some b.map) effects m);
       dues = (dues_stay K V S same hash name log).makings m known s old new at whole midst.0.calls.dues i said leads b here (Some b.map) was_new;
@@ -199,6 +201,7 @@ end_events_go_on_so K V S same hash name terms log event map beginning first don
       kept = endings_keep_kept K V S same hash name m known s old new at whole midst.0.calls.kept i said leads f here map not_there (ended_at same hash s old new i f here said leads);
       finding = endings_keep_finding K V S same hash name m known s old new at whole midst.0.calls.finding i f here said leads map not_there (ended_at same hash s old new i f here said leads) then_whole;
       nexts = endings_keep_nexts K V S same hash name log m known s old new midst.0.calls.nexts at whole i f here said leads map not_there;
+      limits = endings_keep_limits K V S same hash name log m known s old new midst.0.calls.limits at whole i f here said leads map not_there;
       counters = endings_keep_counters K V S same hash name m known s old new at midst.0.calls.counters i said leads f here map;
       uncounted = none_counted None (Some map) effects m midst.0.calls.uncounted (none_shards (Some map) effects m);
       dues = (dues_stay K V S same hash name log).endings m known s old new at whole midst.0.calls.dues i said leads f here map not_there its;

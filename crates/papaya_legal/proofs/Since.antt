@@ -117,7 +117,7 @@ module _ {K V : Type 0} (Of : Type 0 → Machine K V K → Type 0) (more : (A B 
   -- Where a call begins, is told, is asked for its next pair, or is given up.
 
   module _ (same : K → K → Bool) (name : ℕ → List ℕ) (log : List (Entry K V)) (m : Moment K V) (s : Scene K V) (shows : ShowsSo name log m s) (map i : ℕ) (u : UnderWay K V K) where
-    pub calls_begin_so : (guard : List ℕ) (its : Call K V) ((Why : Type 0) → Of Why (machine_of u)) → NoneNamed name (name i) s
+    pub calls_begin_so : (guard : List ℕ) (its : Call K V) → ((Why : Type 0) → Of Why (machine_of u)) → NoneNamed name (name i) s
         → ShowsSo name log (with_call (name i) guard its (Some map) m) (scene_with map i u s)
     calls_begin_so guard its none apart n j x is d d_is =
         elim (which s.calls map i (Some u) n j x is) as (λ _. Of (HasSo n d.begun log (with_call (name i) guard its (Some map) m)) (machine_of x)) [

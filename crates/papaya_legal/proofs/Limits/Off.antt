@@ -101,6 +101,15 @@ module _ {K V : Type 0} (m m2 : Mem (Node K V)) (told : Changed) (hash : K → �
       unmarked_off word fault (Taken value, took, ends) = subst OffRoot (sym took.1) tt
       unmarked_off word fault (Roomed r, took, ends) = subst OffRoot (sym took.1) tt
 
+      tallied_off : (word : ℕ) (fault : Fault) → Step (copiers.plan_at hash c (copying.Tallies word fault)) end → Off
+      tallied_off word fault (Exchanged (Ok found), took, ends) = subst OffRoot (sym took.1) tt
+      tallied_off word fault (Exchanged (Err found), took, ends) = subst OffRoot (sym took.1) tt
+      tallied_off word fault (Found found, took, ends) = subst OffRoot (sym took.1) tt
+      tallied_off word fault (Stored, took, ends) = subst OffRoot (sym took.1) tt
+      tallied_off word fault (Made r, took, ends) = subst OffRoot (sym took.1) tt
+      tallied_off word fault (Taken value, took, ends) = subst OffRoot (sym took.1) tt
+      tallied_off word fault (Roomed r, took, ends) = subst OffRoot (sym took.1) tt
+
       copier_at : (p : Copying) → c.stands ≡ p → Step (copiers.plan_at hash c p) end → CopierFree end ⊎ Off
       copier_at (copying.Grows word code n) is s =
           let it = told_in m m2 told (grown c word code) (new_table_plan n) end s in
@@ -110,7 +119,7 @@ module _ {K V : Type 0} (m m2 : Mem (Node K V)) (told : Changed) (hash : K → �
           by_making CopierFree (remade c) (λ n t. copies_as.remade_as (IsFor Why) (IsForBehind Why) K V hash c (making_at n (makes.Over t), progress.Done t) tt) it.0 (new_table_off m m2 told n it.0 it.2) end it.1
       copier_at (copying.Passes word code table) is s = inr (subst OffRoot (sym s.1.1) tt)
       copier_at copying.Replaces is s = inr (subst OffRoot (sym s.1.1) tt)
-      copier_at (copying.Tallies word fault) is s = inr (subst OffRoot (sym s.1.1) tt)
+      copier_at (copying.Tallies word fault) is s = inr (tallied_off word fault s)
       copier_at (copying.Unmarks word fault) is s = inr (unmarked_off word fault s)
       copier_at (copying.Unclaims fault) is s = inr (subst OffRoot (sym s.1.1) tt)
       copier_at (copying.Refused fault) is s = inr (subst OffRoot (sym s.2) tt)

@@ -135,6 +135,7 @@ module _ {K V S : Type 0} (same : K → K → Bool) (hash : K → ℕ) (name : �
     kept = reclaiming_keeps same hash name m known s calls.whole calls.kept old new i lists before after told under_way leads;
     finding = finding_of_none K V name m known (known_after Row x known) s t (λ n j u is. none n j u is) effects leads.1.as_they_were calls.finding;
     nexts = λ n j u is c found. absurd (none n j u is);
+    limits = λ n j u is c found. absurd (none n j u is);
     counters = counters_then;
     uncounted = none_counted None None effects m calls.uncounted (none_shards None effects m);
     dues = record {
