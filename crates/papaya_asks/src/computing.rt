@@ -1,5 +1,7 @@
 //! A call on a key that computes what is to be done with it, run to its end by the one owner.
-ghost use Rattle.std.specs.Prelude.{◌≡◌, ℕ, Bool, List, Option, None, Some, option_map};
+ghost use Rattle.std.specs.Prelude.{◌≡◌, ℕ, Bool, List, [], Option, None, Some, option_map};
+ghost use Rattle.papaya_owned.specs.Given.Callers.Kind.{computes};
+ghost use Rattle.papaya_owned.specs.Given.Callers.Pairs.{IsTold};
 ghost use Rattle.papaya_asks.specs.Closures.{ComputesAs, ComputesTo, ComputingTakes, computing_stop};
 ghost use Rattle.papaya_owned.specs.Calling.{HasStopped};
 ghost use Rattle.papaya_owned.specs.Owned.{Holds, IsWordOf, found_by, hashed_by};
@@ -63,7 +65,7 @@ pub fn compute<
         × ComputingTakes F.FnOnce compute (found_by (K.eq key) xs) }
     ensures comes { (xs : List (K × V)) → Holds K.eq (hashed_by S.Hasher.finish S.Hasher.write S.build_hasher K.hash_input hasher.now) setting memory.old xs
         → ComputesTo K.eq (hashed_by S.Hasher.finish S.Hasher.write S.build_hasher K.hash_input hasher.now) setting memory.new key xs (ComputesAs F.FnOnce compute) result }
-    ensures ran { HasStopped K.eq K.eq (hashed_by S.Hasher.finish S.Hasher.write S.build_hasher K.hash_input) hasher.entry setting memory.old memory.new (computing_stop result) }
+    ensures ran { HasStopped K.eq K.eq (hashed_by S.Hasher.finish S.Hasher.write S.build_hasher K.hash_input) hasher.entry setting memory.old (K.eq key) (IsTold computes (Some key) []) memory.new (computing_stop result) }
 {
     let hash = hasher.hash_of(&key);
     let call = KeyCall::compute(setting, hash, key);

@@ -1,8 +1,9 @@
 //! Removals of the pair of a key, which is asked for by whatever is equivalent to it. Each is run to its end by the one owner.
-ghost use Rattle.std.specs.Prelude.{◌≡◌, List, None, if◌then◌else◌};
+ghost use Rattle.std.specs.Prelude.{◌≡◌, List, [], None, if◌then◌else◌};
 ghost use Rattle.std.specs.Option.{ForSome};
 ghost use Rattle.papaya_raw.specs.declared.machines.asking.Reply.TheVariants as replies;
-ghost use Rattle.papaya_owned.specs.Given.Callers.Kind.{removes};
+ghost use Rattle.papaya_owned.specs.Given.Callers.Kind.{removes, removes_if};
+ghost use Rattle.papaya_owned.specs.Given.Callers.Pairs.{Begun, IsTold};
 ghost use Rattle.papaya_asks.specs.Asking.{EndsAs, by_lent};
 ghost use Rattle.papaya_asks.specs.Closures.{TestsAs, TestTakes, Removing};
 ghost use Rattle.papaya_owned.specs.Calling.{HasStopped, stop_by};
@@ -27,7 +28,7 @@ pub fn remove<K: Eq + Hash + Drop, V: Drop, Q: Equivalent<K>, S: BuildHasher>(
     requires { (xs : List (K × V)) × Holds K.eq (hashed_by S.Hasher.finish S.Hasher.write S.build_hasher K.hash_input hasher.now) setting memory.old xs }
     ensures comes { (xs : List (K × V)) → Holds K.eq (hashed_by S.Hasher.finish S.Hasher.write S.build_hasher K.hash_input hasher.now) setting memory.old xs
         → EndsBy K.eq (hashed_by S.Hasher.finish S.Hasher.write S.build_hasher K.hash_input hasher.now) setting memory.new removes None (Q.Equivalent.equivalent asked.now) xs result }
-    ensures ran { HasStopped (by_lent Q.Equivalent.equivalent) K.eq (hashed_by S.Hasher.finish S.Hasher.write S.build_hasher K.hash_input) hasher.entry setting memory.old memory.new result }
+    ensures ran { HasStopped (by_lent Q.Equivalent.equivalent) K.eq (hashed_by S.Hasher.finish S.Hasher.write S.build_hasher K.hash_input) hasher.entry setting memory.old (Q.Equivalent.equivalent asked.now) (Begun removes None) memory.new result }
 {
     let hash = hasher.hash_of(asked);
     let lent = Lent {
@@ -68,7 +69,7 @@ pub fn remove_if<
         × ForSome (found_by (Q.Equivalent.equivalent asked.now) xs) (TestTakes F.FnOnce test) }
     ensures comes { (xs : List (K × V)) → Holds K.eq (hashed_by S.Hasher.finish S.Hasher.write S.build_hasher K.hash_input hasher.now) setting memory.old xs
         → EndsAs K.eq (hashed_by S.Hasher.finish S.Hasher.write S.build_hasher K.hash_input hasher.now) setting memory.new (Q.Equivalent.equivalent asked.now) xs None (Removing (TestsAs F.FnOnce test)) result }
-    ensures ran { HasStopped (by_lent Q.Equivalent.equivalent) K.eq (hashed_by S.Hasher.finish S.Hasher.write S.build_hasher K.hash_input) hasher.entry setting memory.old memory.new (stop_by (λ fault. fault) result) }
+    ensures ran { HasStopped (by_lent Q.Equivalent.equivalent) K.eq (hashed_by S.Hasher.finish S.Hasher.write S.build_hasher K.hash_input) hasher.entry setting memory.old (Q.Equivalent.equivalent asked.now) (IsTold removes_if None []) memory.new (stop_by (λ fault. fault) result) }
 {
     let hash = hasher.hash_of(asked);
     let lent = Lent {

@@ -1,8 +1,9 @@
 //! Calls on a key that update the value that is there, or store one where there is none, by closures. Each is run to its end by the one owner.
-ghost use Rattle.std.specs.Prelude.{◌≡◌, ℕ, Bool, List, Option, None, Some, IfOk, IfErr, Ok, Err};
+ghost use Rattle.std.specs.Prelude.{◌≡◌, ℕ, Bool, List, [], Option, None, Some, IfOk, IfErr, Ok, Err};
 ghost use Rattle.std.specs.Fn.{FnOnceReturns, FnOnceReturnsAt, FnOnceTakesAt};
 ghost use Rattle.std.specs.Option.{ForNone, ForSome};
-ghost use Rattle.papaya_owned.specs.Given.Callers.Kind.{Kind};
+ghost use Rattle.papaya_owned.specs.Given.Callers.Kind.{Kind, tries_to_insert_with, updates, updates_or_inserts};
+ghost use Rattle.papaya_owned.specs.Given.Callers.Pairs.{IsTold};
 ghost use Rattle.papaya_asks.specs.Asking.{IsTaken, Pauses, ToldThis};
 ghost use Rattle.papaya_asks.specs.Closures.{ComesTo, ComesToWith, Updating, UpdatingOrStoring, Storing};
 ghost use Rattle.papaya_owned.specs.Calling.{HasStopped, StopsTold, stop_by};
@@ -52,7 +53,7 @@ pub fn update<K: Eq + Hash + Drop, V: Drop, S: BuildHasher, F: FnOnce(&V) -> V>(
         × ForSome (found_by (K.eq key) xs) (λ x. FnOnceTakesAt F.FnOnce make x.1) }
     ensures comes { (xs : List (K × V)) → Holds K.eq (hashed_by S.Hasher.finish S.Hasher.write S.build_hasher K.hash_input hasher.now) setting memory.old xs
         → ComesTo K.eq (hashed_by S.Hasher.finish S.Hasher.write S.build_hasher K.hash_input hasher.now) setting memory.new key xs (Updating (FnOnceReturnsAt F.FnOnce make)) result }
-    ensures ran { HasStopped K.eq K.eq (hashed_by S.Hasher.finish S.Hasher.write S.build_hasher K.hash_input) hasher.entry setting memory.old memory.new (stop_by (λ r. r.fault) result) }
+    ensures ran { HasStopped K.eq K.eq (hashed_by S.Hasher.finish S.Hasher.write S.build_hasher K.hash_input) hasher.entry setting memory.old (K.eq key) (IsTold updates (Some key) []) memory.new (stop_by (λ r. r.fault) result) }
 {
     let hash = hasher.hash_of(&key);
     let call = KeyCall::update(setting, hash, key);
@@ -95,7 +96,7 @@ pub fn update_or_insert_with<
     ensures comes { (xs : List (K × V)) → Holds K.eq (hashed_by S.Hasher.finish S.Hasher.write S.build_hasher K.hash_input hasher.now) setting memory.old xs
         → ComesTo K.eq (hashed_by S.Hasher.finish S.Hasher.write S.build_hasher K.hash_input hasher.now) setting memory.new key xs
         (UpdatingOrStoring (FnOnceReturnsAt F.FnOnce make) (λ value. FnOnceReturns B.FnOnce begin tt value)) result }
-    ensures ran { HasStopped K.eq K.eq (hashed_by S.Hasher.finish S.Hasher.write S.build_hasher K.hash_input) hasher.entry setting memory.old memory.new (stop_by (λ r. r.fault) result) }
+    ensures ran { HasStopped K.eq K.eq (hashed_by S.Hasher.finish S.Hasher.write S.build_hasher K.hash_input) hasher.entry setting memory.old (K.eq key) (IsTold updates_or_inserts (Some key) []) memory.new (stop_by (λ r. r.fault) result) }
 {
     let hash = hasher.hash_of(&key);
     let call = KeyCall::update_or_insert_with(setting, hash, key);
@@ -136,7 +137,7 @@ pub fn update_or_insert<K: Eq + Hash + Drop, V: Drop, S: BuildHasher, F: FnOnce(
     ensures comes { (xs : List (K × V)) → Holds K.eq (hashed_by S.Hasher.finish S.Hasher.write S.build_hasher K.hash_input hasher.now) setting memory.old xs
         → ComesToWith K.eq (hashed_by S.Hasher.finish S.Hasher.write S.build_hasher K.hash_input hasher.now) setting memory.new key xs value
         (UpdatingOrStoring (FnOnceReturnsAt F.FnOnce make) (λ new. new ≡ value)) result }
-    ensures ran { HasStopped K.eq K.eq (hashed_by S.Hasher.finish S.Hasher.write S.build_hasher K.hash_input) hasher.entry setting memory.old memory.new (stop_by (λ r. r.fault) result) }
+    ensures ran { HasStopped K.eq K.eq (hashed_by S.Hasher.finish S.Hasher.write S.build_hasher K.hash_input) hasher.entry setting memory.old (K.eq key) (IsTold updates_or_inserts (Some key) []) memory.new (stop_by (λ r. r.fault) result) }
 {
     let hash = hasher.hash_of(&key);
     let call = KeyCall::update_or_insert_with(setting, hash, key);
@@ -199,7 +200,7 @@ pub fn insert_with<K: Eq + Hash + Drop, V: Drop, S: BuildHasher, B: FnOnce() -> 
         × ForNone (found_by (K.eq key) xs) (B.pre begin) }
     ensures comes { (xs : List (K × V)) → Holds K.eq (hashed_by S.Hasher.finish S.Hasher.write S.build_hasher K.hash_input hasher.now) setting memory.old xs
         → ComesTo K.eq (hashed_by S.Hasher.finish S.Hasher.write S.build_hasher K.hash_input hasher.now) setting memory.new key xs (Storing (λ value. FnOnceReturns B.FnOnce begin tt value)) result }
-    ensures ran { HasStopped K.eq K.eq (hashed_by S.Hasher.finish S.Hasher.write S.build_hasher K.hash_input) hasher.entry setting memory.old memory.new (stop_by (λ r. r.fault) result) }
+    ensures ran { HasStopped K.eq K.eq (hashed_by S.Hasher.finish S.Hasher.write S.build_hasher K.hash_input) hasher.entry setting memory.old (K.eq key) (IsTold tries_to_insert_with (Some key) []) memory.new (stop_by (λ r. r.fault) result) }
 {
     let hash = hasher.hash_of(&key);
     let call = KeyCall::try_insert_with(setting, hash, key);

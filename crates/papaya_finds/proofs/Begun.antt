@@ -75,6 +75,7 @@ module _ {K V : Type 0} (m : Moment K V) (h : AllIsInOrder m) where
             record { there = its_map; table = λ t e. absurd (cc e); owes = λ n k e. absurd (omega (arith, e)) },
             all_so (HasItsMap m) (HasItsMap (with_call own guard call (Some f.number) m)) (λ c its. record { there = its.there; table = its.table; owes = its.owes }) m.calls h.within.calls,
           );
+          behind = h.within.behind;
         };
       })
         where
@@ -108,6 +109,7 @@ module _ {K V : Type 0} (m : Moment K V) (h : AllIsInOrder m) where
       spots = h.within.spots;
       maps = h.within.maps;
       calls = all_so (HasItsMap m) (HasItsMap (with_map f m)) (λ c its. record { there = more c.map its.there; table = its.table; owes = its.owes }) m.calls h.within.calls;
+      behind = h.within.behind;
     };
   }
     where

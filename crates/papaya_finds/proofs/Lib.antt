@@ -24,6 +24,7 @@ pub mod Bounded
 pub mod Events
 pub mod Endings
 pub mod Grown
+pub mod Behind
 pub mod Apart
 pub mod Within
 pub mod Over

@@ -44,14 +44,14 @@ all_in_order_at_first K V = record {
   waits = order_at_first K V;
   named = tt;
   somewhere = somewhere_at_first K V;
-  within = record { tables = tt; apart = tt; roots = tt; made = tt; spots = λ n l u. absurd (omega (arith, l, u)); maps = λ n map e. absurd (cc e); calls = tt };
+  within = record { tables = tt; apart = tt; roots = tt; made = tt; spots = λ n l u. absurd (omega (arith, l, u)); maps = λ n map e. absurd (cc e); calls = tt; behind = tt };
 }
 
 -- effects
 
 module _ {K V : Type 0} where
   -- effects of a call are on its map still
-  acts_still : (caller : Option (List ℕ)) (acted : Option ℕ) (m : Moment K V) (f : Effect) → ActsOn caller acted m → ActsOn caller acted (with_effect caller acted f m)
+  pub acts_still : (caller : Option (List ℕ)) (acted : Option ℕ) (m : Moment K V) (f : Effect) → ActsOn caller acted m → ActsOn caller acted (with_effect caller acted f m)
   acts_still None acted m f on own c caller_is c_is = absurd (cc caller_is)
   acts_still (Some who) acted m f on own c caller_is c_is =
       let one : who ≡ own = cc caller_is in
@@ -204,6 +204,7 @@ module _ {K V : Type 0} (terms : Terms) (log : List (Entry K V)) where
             (all_so (λ (c : UnderWay K V). HasItsMap w c × (list_any (λ (f : MapThere). f.number == c.map) v.maps ≡ true)) (HasItsMap mapped)
             (λ c its. record { there = its.1; table = its.0.table; owes = its.0.owes }) w.calls
             (all_both (HasItsMap w) (λ (c : UnderWay K V). list_any (λ (f : MapThere). f.number == c.map) v.maps ≡ true) w.calls then_worked.within.calls left.calls)));
+        behind = then_worked.within.behind;
       };
     }
 

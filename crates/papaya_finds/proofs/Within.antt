@@ -30,8 +30,9 @@ use Rattle.papaya_finds.specs.Life.{StoresOne}
 use Rattle.papaya_finds.specs.Tables.{FindsTables}
 use Rattle.papaya_finds.specs.TornDown.{FindsItsMap}
 use Rattle.papaya_finds.specs.Waiting.{is_unborn, once_if, owed_in, FindsPlaced}
-use Rattle.papaya_finds.specs.Within.{many_of, HasItsMap, AllIsInOrder, ActsOn}
+use Rattle.papaya_finds.specs.Within.{many_of, HasItsMap, LiesNext, AllIsInOrder, ActsOn}
 use Rattle.papaya_finds.proofs.Apart.{apart_append, apart_under}
+use Rattle.papaya_finds.proofs.Behind.{none_links, none_promotes, none_copies, none_defers, all_lie, event_numbers, event_onward, event_next, call_numbers, call_onward, call_next}
 use Rattle.papaya_finds.proofs.Endings.{number_same, one_named, numbers_stay}
 use Rattle.papaya_finds.proofs.Life.{life_finds_placed}
 use Rattle.papaya_finds.proofs.Lists.{one_of_them, any_so, all_so, all_both, each_is}
@@ -79,23 +80,6 @@ module _ {K V : Type 0} (terms : Terms) (everything : Bool) (moments : List (Mom
             finds = all.1;
           })
 
-  -- no event has such an effect but by a call
-  none_links : (n : ℕ) (s : Spot) (o : Option ℕ) → EventFinds o everything m (effect.Stored n s) → ⊥
-  none_links n s None its = its
-  none_links n s (Some of) its = its
-
-  none_promotes : (t : Table) (o : Option ℕ) → EventFinds o everything m (effect.Promoted t) → ⊥
-  none_promotes t None its = its
-  none_promotes t (Some of) its = its
-
-  none_copies : (n : ℕ) (s : Spot) (o : Option ℕ) → EventFinds o everything m (effect.Copied n s) → ⊥
-  none_copies n s None its = its
-  none_copies n s (Some of) its = its
-
-  none_defers : (n : ℕ) (t : Table) (o : Option ℕ) → EventFinds o everything m (effect.Deferred n t) → ⊥
-  none_defers n t None its = its
-  none_defers n t (Some of) its = its
-
   -- tables that are there have turns that their maps have had
   below_many : (test : Stage → Bool) (t : Table) → is_stage test t m ≡ true → t.turn < many t.map
   below_many test t any =
@@ -103,7 +87,7 @@ module _ {K V : Type 0} (terms : Terms) (everything : Bool) (moments : List (Mom
       let parts = same_parts it.0.table t (and_parts (same_table it.0.table t) (test it.0.stage) it.1).0 in
       subst (λ (q : ℕ). t.turn < many q) parts.0 (subst (λ (q : ℕ). q < many it.0.table.map) parts.1 it.2)
 
-  place_below : (test : Stage → Bool) (of : ℕ) (s : Spot) → is_place test of s m ≡ true → s.turn < many of
+  pub place_below : (test : Stage → Bool) (of : ℕ) (s : Spot) → is_place test of s m ≡ true → s.turn < many of
   place_below test of s any =
       let t : Table = record { map = of; turn = s.turn } in
       let it = one_of_them (λ u. same_table u.table t && test u.stage && nat_lt s.place u.shape.len) (λ u. u.table.turn < many u.table.map) m.tables any h.within.tables in
@@ -142,7 +126,7 @@ module _ {K V : Type 0} (terms : Terms) (everything : Bool) (moments : List (Mom
       (λ f e l. and_from (f.number == t.map) (nat_le f.first t.turn) e (le-leb f.first t.turn (
       let turn = next.turn in let here : f.first ≤ many t.map = subst (λ (q : ℕ). f.first ≤ many q) (number_is f.number t.map e) l in omega (arith, here, turn)
       ))) m.maps next.there h.within.roots
-  finds_tables (effect.Promoted t) (NoCalls none finds) = absurd (none_promotes t acted finds)
+  finds_tables (effect.Promoted t) (NoCalls none finds) = absurd (none_promotes everything m t acted finds)
   finds_tables (effect.Promoted t) (ACalls b) =
       let some = any_found (λ (f : MapThere). f.number == b.c.map) m.maps b.its.there in
       let first : first_of b.c.map m ≡ some.0.first = ap first_or some.1 in
@@ -153,7 +137,7 @@ module _ {K V : Type 0} (terms : Terms) (everything : Bool) (moments : List (Mom
         subst (λ (q : ℕ). map_at q m ≡ Some some.0) (sym b.finds.0) some.1,
         omega (arith, first, less),
       )
-  finds_tables (effect.Deferred n t) (NoCalls none finds) = absurd (none_defers n t acted finds)
+  finds_tables (effect.Deferred n t) (NoCalls none finds) = absurd (none_defers everything m n t acted finds)
   finds_tables (effect.Deferred n t) (ACalls b) =
       let may : MayDefer b.c.map m n t = b.finds.1 in
       let owed = owed_there n b.c.owes b.finds.0 in
@@ -168,7 +152,7 @@ module _ {K V : Type 0} (terms : Terms) (everything : Bool) (moments : List (Mom
   finds_map (Some of) is (effect.Stored n s) (ACalls b) =
       let two : Some of ≡ Some b.c.map = sym is ∙ b.acts in let one : of ≡ b.c.map = cc two in
       subst (λ (q : ℕ). list_any (λ (f : MapThere). f.number == q) m.maps ≡ true) (sym one) b.its.there
-  finds_map o is (effect.Stored n s) (NoCalls none finds) = absurd (none_links n s acted finds)
+  finds_map o is (effect.Stored n s) (NoCalls none finds) = absurd (none_links everything m n s acted finds)
   finds_map None is _ b = tt
   finds_map (Some of) is _ b = tt
 
@@ -227,7 +211,7 @@ module _ {K V : Type 0} (terms : Terms) (everything : Bool) (moments : List (Mom
       (λ g l. (let more = many_grow caller acted m f g.number in omega (arith, l, more))) m.maps h.within.roots
 
   roots_within : (f : Effect) → Whose f → AllByRecursion (λ g. g.first ≤ many_of g.number (then_at f)) (then_at f).maps
-  roots_within (effect.Promoted t) (NoCalls none finds) = absurd (none_promotes t acted finds)
+  roots_within (effect.Promoted t) (NoCalls none finds) = absurd (none_promotes everything m t acted finds)
   roots_within (effect.Promoted t) (ACalls b) = all_under (promoted t) (λ g. g.first ≤ many g.number) (λ g. g.first ≤ many g.number) one m.maps h.within.roots
     where
       one : (g : MapThere) → g.first ≤ many g.number → (promoted t g).first ≤ many (promoted t g).number
@@ -278,14 +262,14 @@ module _ {K V : Type 0} (terms : Terms) (everything : Bool) (moments : List (Mom
       (ap (λ (g : ℕ → Spot). g k) (spot_same (is_chunked acted m) m.place m.copy f m.spot stays))
 
   spots_within : (f : Effect) → Whose f → FindsPlaced caller m f → (k : ℕ) → 1 ≤ k → k ≤ length (then_at f).stored → ((then_at f).spot k).turn < many_of ((then_at f).born k).map (then_at f)
-  spots_within (effect.Stored n s) (NoCalls none finds) placed k l u = absurd (none_links n s acted finds)
+  spots_within (effect.Stored n s) (NoCalls none finds) placed k l u = absurd (none_links everything m n s acted finds)
   spots_within (effect.Stored n s) (ACalls b) placed k l u = elim (cases_eq k n) as (λ _. (put n s m.spot k).turn < many_of ((then_at (effect.Stored n s)).born k).map m) [
     | inl e ↦ subst (λ (o : Option ℕ). (put n s m.spot k).turn < many (born_by o (effect.Stored n s) m.born k).map) (sym b.acts)
         (subst (λ (x : Spot). x.turn < many (put n (record { map = b.c.map; turn = s.turn }) m.born k).map) (sym (put_here n s m.spot k e))
         (subst (λ (t : Table). s.turn < many t.map) (sym (put_here n (record { map = b.c.map; turn = s.turn }) m.born k e)) (place_below is_linked b.c.map s b.finds.2)))
     | inr ne ↦ lies_within (effect.Stored n s) k l (let next = placed.0 in let last = placed.1 in omega (arith, u, ne, next, last)) placed (put_elsewhere n s m.spot k ne)
   ]
-  spots_within (effect.Copied n s) (NoCalls none finds) placed k l u = absurd (none_copies n s acted finds)
+  spots_within (effect.Copied n s) (NoCalls none finds) placed k l u = absurd (none_copies everything m n s acted finds)
   spots_within (effect.Copied n s) (ACalls b) placed k l u = by (is_chunked acted m) refl
     where
       stored : k ≤ length m.stored
@@ -317,7 +301,7 @@ module _ {K V : Type 0} (terms : Terms) (everything : Bool) (moments : List (Mom
         | inl e ↦ subst (λ (x : Spot). x.turn < many ((then_at (effect.Copied n s)).born k).map) (sym (put_here n (later (m.spot n) s) m.spot k e)) (copied e is)
         | inr ne ↦ subst (λ (x : Spot). x.turn < many ((then_at (effect.Copied n s)).born k).map) (sym (put_elsewhere n (later (m.spot n) s) m.spot k ne)) was
       ])
-  spots_within (effect.Promoted t) (NoCalls none finds) placed k l u = absurd (none_promotes t acted finds)
+  spots_within (effect.Promoted t) (NoCalls none finds) placed k l u = absurd (none_promotes everything m t acted finds)
   spots_within (effect.Promoted t) (ACalls b) placed k l u = by (is_chunked acted m)
     where
       stored : k ≤ length m.stored
@@ -354,7 +338,7 @@ module _ {K V : Type 0} (terms : Terms) (everything : Bool) (moments : List (Mom
       let was = h.within.maps k of ((leads acted m f stores).in_map k of is) in (was.0, ap (λ (g : ℕ → Table). (g k).map) (born_same acted f m.born stores) ∙ was.1)
 
   maps_within : (f : Effect) → Whose f → FindsPlaced caller m f → (k of : ℕ) → (then_at f).place k ≡ InMap of → (1 ≤ k) × (((then_at f).born k).map ≡ of)
-  maps_within (effect.Stored n s) (NoCalls none finds) placed k of is = absurd (none_links n s acted finds)
+  maps_within (effect.Stored n s) (NoCalls none finds) placed k of is = absurd (none_links everything m n s acted finds)
   maps_within (effect.Stored n s) (ACalls b) placed k of is =
       subst (λ (o : Option ℕ). put n (in_map o) m.place k ≡ InMap of → (1 ≤ k) × ((born_by o (effect.Stored n s) m.born k).map ≡ of)) (sym b.acts) its is
     where
@@ -451,6 +435,15 @@ module _ {K V : Type 0} (terms : Terms) (everything : Bool) (moments : List (Mom
           by true is = subst Goal (sym is) (subst (λ (x : UnderWay K V). HasItsMap (then_at f) (call_by m f x)) (sym (its.1 is)) (its_call f b placed))
           by false is = subst Goal (sym is) (same_call f c placed its.0)
 
+  -- what waits behind tables
+
+  behind_within : (f : Effect) → Whose f → FindsPlaced caller m f → AllByRecursion (LiesNext (then_at f)) (then_at f).deferred
+  behind_within f (NoCalls none finds) placed =
+      all_lie m h.waits.placed caller acted f (event_numbers everything m acted caller f finds placed) (event_onward everything m acted f finds) (event_next everything m acted f finds) h.within.behind
+  behind_within f (ACalls b) placed =
+      all_lie m h.waits.placed caller acted f (call_numbers terms moments acted m b.c b.acts b.its caller f b.finds placed) (call_onward terms moments acted m b.c b.acts b.its f b.finds)
+      (call_next terms moments acted m b.c b.acts b.its f b.finds) h.within.behind
+
   -- so all is in order after the effect
   module _ (f : Effect) (finds : Finds terms caller acted everything moments m f) (one : StoresOne caller m f) where
     its_whose : Whose f
@@ -479,5 +472,6 @@ module _ {K V : Type 0} (terms : Terms) (everything : Bool) (moments : List (Mom
         spots = spots_within f its_whose its_placed;
         maps = maps_within f its_whose its_placed;
         calls = calls_within f its_whose its_placed;
+        behind = behind_within f its_whose its_placed;
       };
     }

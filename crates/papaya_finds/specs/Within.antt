@@ -16,7 +16,7 @@ use Rattle.papaya_histories.specs.Given.Schedules.Entry.{Entry, caller_of, acted
 use Rattle.papaya_histories.specs.Given.Schedules.Handing.{MovesOn}
 use Rattle.papaya_histories.specs.Given.Schedules.InTurn.{ComesRight}
 use Rattle.papaya_histories.specs.Given.Schedules.Lives.{Finds}
-use Rattle.papaya_histories.specs.Given.Schedules.Moment.{InMap, UnderWay, MapThere, Moment, start}
+use Rattle.papaya_histories.specs.Given.Schedules.Moment.{InMap, Deferral, UnderWay, MapThere, Moment, start}
 use Rattle.papaya_histories.specs.Given.Schedules.Terms.{Terms}
 use Rattle.papaya_histories.specs.Given.Schedules.Views.{call_of, tables_of}
 use Rattle.papaya_finds.specs.Bounded.{TablesApart}
@@ -38,6 +38,9 @@ module _ {K V : Type 0} where
     pub table : (t : Table) → c.table ≡ Some t → t.map ≡ c.map
     pub owes : (n k : ℕ) → owed_in n c.owes ≡ 1 + k → (1 ≤ n) × (n ≤ length m.stored) × ((m.born n).map ≡ c.map)
 
+  abbrev pub LiesNext : Moment K V → Deferral → Type 0
+  LiesNext m d = (1 ≤ d.pair) × ((m.born d.pair).map ≡ d.behind.map) × ((m.born d.pair).turn < (m.spot d.pair).turn) × ((m.spot d.pair).turn ≡ d.behind.turn + 1)
+
   pub record IsWithin (m : Moment K V) : Type 0 where
     -- each table has a turn below how many its map has had, none is there twice, and each root has one that is no higher;
     pub tables : AllByRecursion (λ u. u.table.turn < many_of u.table.map m) m.tables
@@ -49,6 +52,8 @@ module _ {K V : Type 0} where
     pub maps : (n map : ℕ) → m.place n ≡ InMap map → (1 ≤ n) × ((m.born n).map ≡ map)
     -- and each call has its map
     pub calls : AllByRecursion (HasItsMap m) m.calls
+    -- and what waits behind a table of a map was stored there, in a table no later than this one, and lies in the next one
+    pub behind : AllByRecursion (LiesNext m) m.deferred
 
   pub record AllIsInOrder (m : Moment K V) : Type 0 where
     pub waits : WaitsInOrder m

@@ -1,5 +1,5 @@
 -- A change of one owner's map, after a refresh, keeps what the map had, and some of what its memory held beside it.
-use Rattle.std.specs.Prelude.{◌≡◌, ℕ, ◌⊎◌, Bool, List, [], ◌∷◌, Option, Some, None, Ok, Err}
+use Rattle.std.specs.Prelude.{◌≡◌, ℕ, ◌⊎◌, Bool, List, [], ◌∷◌, Option, Some, None, Result, Ok, Err}
 use Rattle.std.proofs.Common.{sym, ◌∙◌, inl, inr}
 use denote.Ref.{Bor}
 use Rattle.papaya_owned.specs.Given.SeizeWords.Mem.{Mem, value_at}
@@ -8,14 +8,17 @@ use Rattle.papaya_owned.specs.Given.SeizeWords.declared.fault.Fault.{Fault}
 use Rattle.papaya_owned.specs.Given.Tables.declared.node.Node.{Node}
 use Rattle.papaya_owned.specs.Given.Tables.declared.node.Node.TheVariants as node
 use Rattle.papaya_owned.specs.Given.Tables.declared.setting.Setting.{Setting}
+use Rattle.papaya_owned.specs.Given.Sweeps.declared.sweep.Purpose.{Purpose}
 use Rattle.papaya_owned.specs.Given.Resize.NewMap.{new_map_plan}
 use Rattle.papaya_owned.specs.Given.Raw.declared.machines.answer.KeyAnswer.{KeyAnswer}
 use Rattle.papaya_owned.specs.Given.Raw.declared.machines.answer.KeyAnswer.TheVariants as answers
+use Rattle.papaya_owned.specs.Given.Callers.Pairs.{Given}
 use Rattle.papaya_owned.specs.Calling.{HasStopped}
-use Rattle.papaya_owned.specs.Ending.{HasEnded}
+use Rattle.papaya_owned.specs.Ending.{HasCome, HasEnded}
 use Rattle.papaya_owned.specs.Machines.{for_room_plan}
 use Rattle.papaya_owned.specs.Owned.{Holds}
 use Rattle.papaya_owned.specs.Standing.{Standing}
+use Rattle.papaya_owned.specs.declared.machines.ForRoom.{ForRoom}
 use Rattle.papaya_owned.specs.declared.machines.Stop.TheVariants as stop
 use Rattle.papaya_owned.proofs.Owned.Standing.{pairs_stand}
 use Rattle.papaya_sifts.specs.Sweeping.{HasSwept}
@@ -58,25 +61,25 @@ module _ {K V : Type 0} (m0 m1 : Mem (Node K V)) (none : NoneCame m0 m1) where
 
   -- A change of a map with these pairs was made then.
   module _ {S : Type 0} (same : K → K → Bool) (hashes : S → K → ℕ) (b : Bor S) (setting : Setting) (xs : List (K × V)) (h : Holds same (hashes b.now) setting m1 xs) (m2 : Mem (Node K V)) where
-    pub call_holds_on : {Q : Type 0} (asks : Q → K → Bool) (answer : KeyAnswer) → HasStopped asks same hashes b setting m1 m2 (Ok (stop.Answered answer))
+    pub call_holds_on : {Q : Type 0} (asks : Q → K → Bool) (keys : K → Bool) (given : Given K V) (answer : KeyAnswer) → HasStopped asks same hashes b setting m1 keys given m2 (Ok (stop.Answered answer))
         → HoldsOn (pair_at_word m2 (stored_by answer)) xs (held_in m0) (held_in m2)
-    call_holds_on {Q} asks answer ran =
-        let t = calls_take_none_away K V Q S asks same hashes b setting m1 xs h ran.0 ran.1 ran.2 ran.3 m2 (Ok (stop.Answered answer)) ran.4 in
+    call_holds_on {Q} asks keys given answer ran =
+        let t = calls_take_none_away K V Q S asks same hashes b setting m1 keys given xs h ran.0 ran.1 ran.2 ran.3 m2 (Ok (stop.Answered answer)) ran.4 in
         answer_keeps m0 m2 t.1.0 xs (stood_before m0 m1 none t.1.0 xs t.1.1) t.1.2 answer (came_since m2 answer t.0) t.1.3
 
-    pub refused_holds_on : {Q : Type 0} (asks : Q → K → Bool) (fault : Fault) → HasStopped asks same hashes b setting m1 m2 (Err fault) → HoldsOn [] xs (held_in m0) (held_in m2)
-    refused_holds_on {Q} asks fault ran =
-        let t = calls_take_none_away K V Q S asks same hashes b setting m1 xs h ran.0 ran.1 ran.2 ran.3 m2 (Err fault) ran.4 in
+    pub refused_holds_on : {Q : Type 0} (asks : Q → K → Bool) (keys : K → Bool) (given : Given K V) (fault : Fault) → HasStopped asks same hashes b setting m1 keys given m2 (Err fault) → HoldsOn [] xs (held_in m0) (held_in m2)
+    refused_holds_on {Q} asks keys given fault ran =
+        let t = calls_take_none_away K V Q S asks same hashes b setting m1 keys given xs h ran.0 ran.1 ran.2 ran.3 m2 (Err fault) ran.4 in
         none_keeps m0 m2 t.1.0 xs (stood_before m0 m1 none t.1.0 xs t.1.1) t.1.2 (none_since m2 t.0)
 
-    pub sweep_holds_on : HasSwept hashes b setting m1 m2 → HoldsOn [] xs (held_in m0) (held_in m2)
-    sweep_holds_on ran =
-        let t = sweeps_take_none_away K V S same hashes b setting m1 xs h ran.0 ran.1 ran.2 ran.3 ran.4 m2 ran.5 ran.6 in
+    pub sweep_holds_on : {purpose : Purpose} → HasSwept hashes b setting purpose m1 m2 → HoldsOn [] xs (held_in m0) (held_in m2)
+    sweep_holds_on {purpose} ran =
+        let t = sweeps_take_none_away K V S same hashes b setting m1 xs h purpose ran.0 ran.1 ran.2 ran.3 m2 ran.4 ran.5 in
         none_keeps m0 m2 t.1.0 xs (stood_before m0 m1 none t.1.0 xs t.1.1) t.1.2 (none_since m2 t.0)
 
-    pub room_holds_on : HasEnded (for_room_plan {K = K} {V = V} hashes) m1 m2 → Holds same (hashes b.now) setting m2 xs → HoldsOn [] xs (held_in m0) (held_in m2)
-    room_holds_on ran after =
-        let since = none_since m2 (rooms_put_none K V S hashes ran.0 m1 ran.3 ran.1 m2 ran.2 ran.4) in
+    pub room_holds_on : {x : ForRoom S} {result : Result Unit Fault} → HasCome (for_room_plan {K = K} {V = V} hashes) x m1 m2 result → Holds same (hashes b.now) setting m2 xs → HoldsOn [] xs (held_in m0) (held_in m2)
+    room_holds_on {x} {result} ran after =
+        let since = none_since m2 (rooms_put_none K V S hashes x m1 ran.1 ran.0 m2 result ran.2) in
         let p = pairs_stand same (hashes b.now) setting m2 xs after in none_keeps m0 m2 p.0 xs (stood_before m0 m2 since p.0 xs p.1) p.1 since
 
 -- A map's pairs are among what its memory holds.

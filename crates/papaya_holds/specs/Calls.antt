@@ -5,6 +5,7 @@ use Rattle.papaya_owned.specs.Given.SeizeWords.Mem.{Mem}
 use Rattle.papaya_owned.specs.Given.SeizeWords.declared.fault.Fault.{Fault}
 use Rattle.papaya_owned.specs.Given.Tables.declared.node.Node.{Node}
 use Rattle.papaya_owned.specs.Given.Tables.declared.setting.Setting.{Setting}
+use Rattle.papaya_owned.specs.Given.Callers.Pairs.{Given}
 use Rattle.papaya_owned.specs.Calling.{IsCalling}
 use Rattle.papaya_owned.specs.Ending.{RunsTo}
 use Rattle.papaya_owned.specs.Machines.{on_key_plan}
@@ -17,7 +18,7 @@ use Rattle.papaya_holds.specs.Came.{ComesWith, StayBeside}
 -- then, also where it was replaced or removed. What was stored is in none of these blocks.
 abbrev pub CallsTakeNoneAway : (K V Q S : Type 0) → Type 0
 CallsTakeNoneAway K V Q S =
-    (asks : Q → K → Bool) (same : K → K → Bool) (hashes : S → K → ℕ) (b : Bor S) (setting : Setting) (m0 : Mem (Node K V)) (xs : List (K × V)) → Holds same (hashes b.now) setting m0 xs
-    → (x : OnKey K V Q S) (m : Mem (Node K V)) → IsCalling asks same hashes b setting m0 x m
+    (asks : Q → K → Bool) (same : K → K → Bool) (hashes : S → K → ℕ) (b : Bor S) (setting : Setting) (m0 : Mem (Node K V)) (keys : K → Bool) (given : Given K V) (xs : List (K × V)) → Holds same (hashes b.now) setting m0 xs
+    → (x : OnKey K V Q S) (m : Mem (Node K V)) → IsCalling asks same hashes b setting m0 keys given x m
     → (x2 : OnKey K V Q S) (m2 : Mem (Node K V)) (result : Result Stop Fault) → RunsTo (on_key_plan asks same hashes) x m x2 m2 result
     → ComesWith m0 m2 x2 result × StayBeside m0 m2 xs result

@@ -14,6 +14,7 @@ use Rattle.papaya_models.specs.Numbers.{HasNumber}
 use Rattle.papaya_models.proofs.Alike.Changed.{start_alike}
 use Rattle.papaya_models.proofs.Turns.{turns_begin}
 use Rattle.papaya_finds.proofs.Runs.{all_in_order_at_first}
+use Rattle.papaya_purposes.proofs.Tableless.{tableless_at_first}
 use Rattle.papaya_legal.specs.Carried.{RunsBegin, RunsBeginIn}
 
 pub runs_begin_in : (K V : Type 0) → RunsBeginIn K V
@@ -29,6 +30,7 @@ runs_begin_in K V same terms name known w whole kept came = record {
       waits = λ n i u is word some c found k owed. absurd (cc is);
       puts = λ n i u is word place due. absurd (cc is);
     };
+    sources = record { shown = whole.all.shown; numbered = λ n st is. absurd (cc is); came = λ n st is chunks. absurd (cc is) };
     nexts = λ n i u is c found. absurd (cc is);
     limits = λ n i u is c found. absurd (cc is);
     counters = record {
@@ -60,6 +62,7 @@ runs_begin_in K V same terms name known w whole kept came = record {
   sections = (λ own g is. no_guard g is, tt);
   follows = λ alone. inl (record { before = []; came = came; alike = start_alike (HasNumber known []) });
   order = (all_in_order_at_first K V, tt);
+  tableless = tableless_at_first K V;
   over = λ closed. absurd (cc closed);
   left = λ n. refl;
 }

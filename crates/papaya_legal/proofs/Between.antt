@@ -1,8 +1,8 @@
 -- What a moment shows of calls is so on between the steps of events.
 use Rattle.std.specs.Prelude.{◌≡◌, ◌≤◌, ◌==◌, nat_lt, ℕ, Bool, true, false, List, [], ◌∷◌, not, Option, Some, None, if◌then◌else◌}
 use Rattle.std.proofs.Common.{refl, ap, sym, subst, ◌∙◌, inl, inr, arith}
-use Rattle.std.proofs.lemmas.Bool.{cases_eq}
 use Rattle.papaya_histories.specs.Given.SeizeWords.declared.fault.Fault.TheVariants.{Memory}
+use Rattle.papaya_histories.specs.Given.Seize.World.{with_at}
 use Rattle.papaya_histories.specs.Given.Sweeps.SweepPoints.{after_next, next_at}
 use Rattle.papaya_histories.specs.Given.Sweeps.declared.sweep.Sweep.{Sweep}
 use Rattle.papaya_histories.specs.Given.Sweeps.declared.sweep.Sweeping.{Sweeping}
@@ -20,7 +20,6 @@ use Rattle.papaya_histories.specs.Given.Callers.OverAll.{CallOverAll, gone_on}
 use Rattle.papaya_histories.specs.Given.Callers.Rooms.{CallForRoom}
 use Rattle.papaya_histories.specs.Given.Callers.Together.{UnderWay, CallOnKey, OnKey, ForRoom, Counting, OverAll}
 use Rattle.papaya_histories.specs.Given.Effects.Known.{Known}
-use Rattle.papaya_histories.proofs.Given.Callers.Together.At.{at_other, at_same}
 use Rattle.papaya_histories.specs.Given.Executor.Beginning.{Begins}
 use Rattle.papaya_histories.specs.Given.Executor.Ending.{ending_begun}
 use Rattle.papaya_histories.specs.Given.Executor.IsAt.{Scene, HasCall}
@@ -28,6 +27,7 @@ use Rattle.papaya_histories.specs.Given.Executor.Replying.{scene_with, unless_st
 use Rattle.papaya_histories.specs.Given.Finishes.Machines.{machine_of}
 use Rattle.papaya_histories.specs.Given.Finishes.Maps.{Standing, with_call as with_call_of}
 use Rattle.papaya_histories.specs.Given.Follows.Calling.{NoneNamed, told}
+use Rattle.papaya_histories.specs.Given.Follows.Shows.{Shows}
 use Rattle.papaya_histories.specs.Given.Follows.Calls.{IsCalled, ShowsCalls as IsThere}
 use Rattle.papaya_histories.specs.Given.Hands.Asked.{as_told}
 use Rattle.papaya_histories.specs.Given.Others.Elsewhere.{HasSame}
@@ -75,6 +75,8 @@ use Rattle.papaya_shards.proofs.ShardOthers.{endings_begin_counters, makings_beg
 use Rattle.papaya_legal.specs.Between.{CallsBegin, CallsTake, EndsBegin, LikesShow, LogsGrow, MakingsBegin, MapsCome, MapsGo, NamesChange, WalksGoOn, WalksStop}
 use Rattle.papaya_legal.specs.Carried.{NoneCounted, ShowsCalls}
 use Rattle.papaya_legal.specs.Finding.{ShowsFinding}
+use Rattle.papaya_sources.specs.Sources.{ShowsSources}
+use Rattle.papaya_legal.proofs.Sourced.{ends_leave, sources_so}
 use Rattle.papaya_legal.proofs.Finding.Alike.{finding_fewer, stood_as}
 use Rattle.papaya_legal.proofs.Limits.Shows.{calls_begin_limits, calls_take_limits, limits_grow, limits_where, walks_go_on_limits, walks_stop_limits}
 use Rattle.papaya_legal.proofs.Finding.Nexts.{calls_begin_nexts, calls_take_nexts, nexts_grow, nexts_where, walks_go_on_nexts, walks_stop_nexts}
@@ -87,6 +89,8 @@ likes_show K V same name log m v known s all like = subst (λ (x : Moment K V). 
   numbers = (record { found = all.numbers.0.found; below = all.numbers.0.below; tables = all.numbers.0.tables }, all.numbers.1);
   kept = stays_kept K V name m other known s s all.kept refl refl refl refl refl refl refl refl refl;
   finding = record { growing = all.finding.growing; further = all.finding.further; capacities = all.finding.capacities; waits = all.finding.waits; puts = all.finding.puts };
+  sources = sources_so K V same name m other known known s s all.sources (all_stays_shown K V same name m known s all.whole v.events v.is_mapped v.is_closed v.is_alone v.there v.slots v.sheltered v.remains).all.shown refl refl refl
+      (λ n st is. is);
   nexts = all.nexts;
   limits = all.limits;
   counters = counters_stay K V name m other s s all.counters refl refl refl refl refl (λ of j x is removed adds. (x, is, adds));
@@ -118,6 +122,7 @@ logs_grow K V same name log e known s all = record {
   numbers = all.numbers;
   kept = all.kept;
   finding = all.finding;
+  sources = all.sources;
   nexts = nexts_grow name log e (moment (e ∷ log)) s all.purposes.begun all.nexts;
   limits = limits_grow name log e (moment (e ∷ log)) s all.purposes.begun all.limits;
   counters = all.counters;
@@ -145,6 +150,7 @@ names_change K V same name name2 log m known s agree all = record {
     waits = λ map i u is word some c c_is k owed. all.finding.waits map i u is word some c (as_named map i u is c c_is) k owed;
     puts = all.finding.puts;
   };
+  sources = record { shown = shows same name name2 m known s agree all.sources.shown; numbered = all.sources.numbered; came = all.sources.came };
   nexts = λ map i u is c c_is. all.nexts map i u is c (as_named map i u is c c_is);
   limits = λ map i u is c c_is. all.limits map i u is c (as_named map i u is c c_is);
   counters = record {
@@ -270,6 +276,7 @@ module _ (K V S : Type 0) (same : K → K → Bool) (hash : K → ℕ) where
           waits = calls_begin_waits K V name m s all.finding.waits map i u call guard none (none_at_first same standing i u begins).0;
           puts = puts_begun known s map i u (none_at_first same standing i u begins).1 all.finding.puts;
         };
+        sources = sources_so K V same name m v known known s then_at all.sources whole.all.shown refl refl refl (λ n st is. is);
         nexts = calls_begin_nexts same name log m s all.nexts map i u guard call standing begins none;
         limits = calls_begin_limits same name log m s all.limits map i u guard call standing begins none;
         counters = calls_begin_counters K V name m s all.counters map i u call guard none (uncounted_at_first K V same standing i u begins);
@@ -296,6 +303,7 @@ module _ (K V S : Type 0) (same : K → K → Bool) (hash : K → ℕ) where
           waits = waits_on K V same name m (told (name i) is_told m) known s map i u here next all.whole.all.shown.calls all.kept.owed kept.owed stays goes (λ n j x is k waits held. held) all.finding.waits;
           puts = puts_on K V same name m (told (name i) is_told m) known s map i u here next all.whole.all.shown.calls all.kept.owed kept.owed stays goes all.finding.puts;
         };
+        sources = sources_so K V same name m (told (name i) is_told m) known known s (scene_with map i next s) all.sources whole.all.shown refl refl refl (λ n st is. is);
         nexts = calls_take_nexts same name log m s all.nexts map i u here all.whole.all.shown.calls next is_told (as_told is_told) next_is;
         limits = calls_take_limits same name log m s all.limits map i u here all.whole.all.shown.calls next is_told (as_told is_told) next_is;
         counters = calls_take_counters K V same name m known s all.whole all.counters map i u here (as_told is_told) next next_is is_told;
@@ -330,6 +338,8 @@ module _ (K V S : Type 0) (same : K → K → Bool) (hash : K → ℕ) where
       waits = waits_on K V same name m m known s map i (OverAll o) here next all.whole.all.shown.calls all.kept.owed kept.owed stays goes (λ n j x there k waits held. held) all.finding.waits;
       puts = puts_on K V same name m m known s map i (OverAll o) here next all.whole.all.shown.calls all.kept.owed kept.owed stays goes all.finding.puts;
     };
+    sources = sources_so K V same name m m known known s (scene_with map i next s) all.sources (walks_go_on_whole K V S same hash name m known s old new all.whole i leads map (OverAll o) here).all.shown refl refl refl
+        (λ n st is. is);
     nexts = walks_go_on_nexts same name log m s all.nexts map i (OverAll o) here all.whole.all.shown.calls next (leads map (OverAll o) here).1;
     limits = walks_go_on_limits same name log m s all.limits map i (OverAll o) here all.whole.all.shown.calls next (leads map (OverAll o) here).1;
     counters = on_counters name m s map i (Some next) its all.counters;
@@ -363,6 +373,7 @@ module _ (K V S : Type 0) (same : K → K → Bool) (hash : K → ℕ) where
     numbers = given_numbers (name i) m stopped all.numbers;
     kept = kept;
     finding = fewer_find stopped kept.owed;
+    sources = given_sources stopped (walks_stop_whole K V S same hash name m known s old new all.whole i stopped leads map u here none).all.shown;
     nexts = walks_stop_nexts same name log m s all.nexts map i u here all.whole.all.shown.calls u stopped none;
     limits = walks_stop_limits same name log m s all.limits map i u here all.whole.all.shown.calls u stopped none;
     counters = by stopped none;
@@ -387,6 +398,10 @@ module _ (K V S : Type 0) (same : K → K → Bool) (hash : K → ℕ) where
           finding_fewer K V same name m (given_up (name i) false m) known s (at_end false) all.whole.all.shown.calls all.kept.owed owed (fewer_calls s map i u here false) (stood_as s (at_end false) refl)
           refl refl refl refl refl refl all.finding
 
+      given_sources : (q : Bool) → Shows same name (given_up (name i) q m) known (at_end q) → ShowsSources same name (given_up (name i) q m) known (at_end q)
+      given_sources true shown2 = sources_so K V same name m (given_up (name i) true m) known known s (at_end true) all.sources shown2 refl refl refl (λ n st is. is)
+      given_sources false shown2 = sources_so K V same name m (given_up (name i) false m) known known s (at_end false) all.sources shown2 refl refl refl (λ n st is. is)
+
       fewer : IsThere same name m (at_end true).calls
       fewer n j x is = elim (which s.calls map i None n j x is) as (λ _. (c : CallThere K V) × (call_of (name j) m ≡ Some c) × (c.map ≡ n) × IsCalled same x c.call) [
         | inl own ↦ absurd (let gone = own.2 in cc gone)
@@ -408,6 +423,7 @@ module _ (K V S : Type 0) (same : K → K → Bool) (hash : K → ℕ) where
           numbers = (come.0, pairs_stay_as_maps_come K V m all.numbers.1 there);
           kept = stays_kept K V name m (with_map there m) known s s all.kept refl refl refl refl refl refl refl refl refl;
           finding = finding_where same hash name m (with_map there m) known s e at still refl refl refl refl refl refl all.finding;
+          sources = sources_so K V same name m (with_map there m) known known s s all.sources (maps_come_whole K V same name m known s all.whole there come.1).all.shown refl refl refl (λ n st is. is);
           nexts = nexts_where same hash name log m (with_map there m) s e at all.nexts still refl refl;
           limits = limits_where same hash name log m (with_map there m) s e at all.limits still refl refl;
           counters = counters_stay K V name m (with_map there m) s s all.counters refl refl refl refl refl (λ of j x is removed adds. (x, is, adds));
@@ -432,6 +448,7 @@ module _ (K V S : Type 0) (same : K → K → Bool) (hash : K → ℕ) where
     numbers = all.numbers;
     kept = makings_begin_kept K V name m known s all.kept i b none;
     finding = record { growing = all.finding.growing; further = all.finding.further; capacities = all.finding.capacities; waits = all.finding.waits; puts = all.finding.puts };
+    sources = sources_so K V same name m m known known s (record s { makers = with_at s.makers i (Some b) }) all.sources (makings_begin_whole K V same name m known s all.whole i b not_made).all.shown refl refl refl (λ n st is. is);
     nexts = all.nexts;
     limits = all.limits;
     counters = makings_begin_counters K V name m s all.counters i b not_made uncounted;
@@ -448,6 +465,8 @@ module _ (K V S : Type 0) (same : K → K → Bool) (hash : K → ℕ) where
     numbers = all.numbers;
     kept = kept;
     finding = finding_fewer K V same name m m known s (ending_begun map i standing s) all.whole.all.shown.calls all.kept.owed kept.owed (λ n j x is. is) stood refl refl refl refl refl refl all.finding;
+    sources = sources_so K V same name m m known known s (ending_begun map i standing s) all.sources (endings_begin_whole K V S same hash name m known s new all.whole map i standing there at2).all.shown refl refl refl
+        (ends_leave s map i standing);
     nexts = all.nexts;
     limits = all.limits;
     counters = endings_begin_counters K V name m s all.counters map i standing;
@@ -462,10 +481,7 @@ module _ (K V S : Type 0) (same : K → K → Bool) (hash : K → ℕ) where
       kept = endings_begin_kept K V S same hash name m known s old new at all.kept map i standing idle at2
 
       stood : StoodSo s (ending_begun map i standing s)
-      stood n st stands = elim (cases_eq n map) as (λ _. (before : Standing K) × (s.maps n ≡ Some before) × (st.setting.initial ≡ before.setting.initial)) [
-        | inl e ↦ absurd (let gone = at_same s.maps map None n e in cc (gone, stands))
-        | inr ne ↦ (st, sym (at_other s.maps map None n ne) ∙ stands, refl)
-      ]
+      stood n st stands = (st, ends_leave s map i standing n st stands, refl)
 
   pub maps_gone : MapsGo K V S same hash
   maps_gone name log m known s e at all own remains apart = record {
@@ -473,6 +489,8 @@ module _ (K V S : Type 0) (same : K → K → Bool) (hash : K → ℕ) where
     numbers = (maps_go K V m all.numbers.0 own remains, pairs_stay_as_maps_go K V m all.numbers.1 own remains);
     kept = stays_kept K V name m (without_map own remains m) known s s all.kept refl refl refl refl refl refl refl refl refl;
     finding = finding_where same hash name m (without_map own remains m) known s e at still refl refl refl refl refl refl all.finding;
+    sources = sources_so K V same name m (without_map own remains m) known known s s all.sources (endings_are_over_whole K V same name m known s all.whole own remains all.numbers.0.found apart).all.shown refl refl refl
+        (λ n st is. is);
     nexts = nexts_where same hash name log m (without_map own remains m) s e at all.nexts still refl refl;
     limits = limits_where same hash name log m (without_map own remains m) s e at all.limits still refl refl;
     counters = counters_stay K V name m (without_map own remains m) s s all.counters refl refl refl refl refl (λ of j x is removed adds. (x, is, adds));

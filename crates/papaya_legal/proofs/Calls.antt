@@ -52,6 +52,7 @@ use Rattle.papaya_legal.proofs.CallChanges.{changes_first, reads_shards, unadded
 use Rattle.papaya_histories.proofs.Several.{stands}
 use Rattle.papaya_legal.proofs.CallPairs.{begun_so, each_is_its_own, own_alike, pairs_first}
 use Rattle.papaya_legal.proofs.CallReads.{does_nothing, readings_go_on}
+use Rattle.papaya_sources.proofs.Steps.{calls_keep_sources}
 use Rattle.papaya_legal.proofs.Finding.Calls.{calls_keep_finding}
 use Rattle.papaya_legal.proofs.Limits.Shows.{limits_at_first}
 use Rattle.papaya_legal.proofs.Limits.Steps.{limits_go_on, limits_others}
@@ -73,7 +74,7 @@ module _ {K V : Type 0} (own : List ℕ) (m : Moment K V) (known : Known) (w : W
   begins_protected _ is = absurd (cc is)
 
 pub call_events_begin_so : (K V S : Type 0) (same : K → K → Bool) (hash : K → ℕ) → CallEventsBegin K V S same hash
-call_events_begin_so K V S same hash name terms log beginning begins maps tables shards known s x at all reading sections follows event map i caller_is u here c c_is only = record {
+call_events_begin_so K V S same hash name terms log beginning begins maps tables shards tableless known s x at all reading sections follows event map i caller_is u here c c_is only = record {
   of_call = caller_is;
   event_so = events_begin K V S same hash name log beginning begins known s x at all.whole all.dues all.as_called map i u here c c_is;
   calls = all;
@@ -88,7 +89,7 @@ call_events_begin_so K V S same hash name terms log beginning begins maps tables
         subst (λ (steps : ℕ). HasLooked (is_incremental standing.setting.mode) n standing.chart (moments_from d.begun log) (d.steps + steps) v) (none_made (j == i))
         (reading.reads n j v is d found looks_for standing there);
   };
-  unadded = λ adds. events_begin_uncounted K V log beginning map shards;
+  unadded = λ adds. events_begin_uncounted K V log beginning map shards tables tableless;
   its_own = own_alike same map beginning (moment log) begins.0 begins.1
       (each_is_its_own same hash name beginning known s x at all.whole map (stands same hash s x at map i u here).0 (stands same hash s x at map i u here).1);
   quiet = λ looks_for. (maps, tables);
@@ -136,6 +137,7 @@ call_events_go_on_so K V S same hash name terms log event beginning map i c step
     );
     kept = calls_keep_kept K V S same hash name m known s old new at whole midst.calls.kept map i u here said leads;
     finding = calls_keep_finding K V S same hash name m known s old new at whole midst.calls.kept midst.calls.finding map i u here said leads;
+    sources = calls_keep_sources K V S same hash name m known s old new at whole midst.calls.sources map i u here said leads;
     nexts = nexts_go_on same hash name log m known s old new at whole map i u here said leads midst.others midst.calls.nexts (whole.all.shown.calls map i u here).0 (whole.all.shown.calls map i u here).1;
     limits = limits_go_on same hash name log m known s old new at whole map i u here said leads midst.calls.limits midst.calls.finding.capacities (whole.all.shown.calls map i u here).0 (whole.all.shown.calls map i u here).1 midst.other_limits;
     counters = calls_keep_counters K V S same hash name m known s old new at whole midst.calls.kept.counts midst.calls.counters map i u here said leads;

@@ -28,6 +28,7 @@ use Rattle.papaya_finds.specs.Life.{StoresOne}
 use Rattle.papaya_finds.proofs.Quiet.{several_store_one}
 use Rattle.papaya_finds.proofs.Steps.{steps_store_one}
 use Rattle.papaya_promises.specs.Reading.{LookupsStay}
+use Rattle.papaya_purposes.proofs.Tableless.{events_keep_tableless}
 use Rattle.papaya_legal.specs.CallEvents.{CallEventsEnd}
 use Rattle.papaya_histories.specs.Given.Schedules.declared.outcome.Outcome.{Outcome}
 use Rattle.papaya_histories.specs.Given.Moments.Numbers.{NumbersMaps, PairsAreBelow}
@@ -47,6 +48,8 @@ use Rattle.papaya_legal.proofs.LeftTold.{events_tell_left}
 use Rattle.papaya_legal.proofs.Maps.{stands_so}
 use Rattle.papaya_histories.specs.Given.Effects.declared.acting.Acting.TheVariants as acts
 use Rattle.papaya_legal.specs.Carried.{NoneCounted}
+use Rattle.papaya_sources.proofs.Steps.{calls_keep_sources}
+use Rattle.papaya_legal.proofs.Sourced.{sources_so}
 use Rattle.papaya_legal.proofs.Finding.Alike.{finding_fewer, stood_as}
 use Rattle.papaya_legal.proofs.Finding.Calls.{calls_keep_finding}
 use Rattle.papaya_legal.proofs.Finding.Nexts.{calls_come_to_nexts, next_same, nexts_alike, nexts_go_on, nexts_grow}
@@ -87,6 +90,8 @@ call_events_end_so K V S same hash name terms log beginning map i c first before
     kept = kept_last;
     finding = finding_fewer K V same name v last then_known s2 s2 all.0.all.shown.calls kept_then.owed kept_last.owed (λ n j x is. is) (stood_as s2 s2 refl) alike.tables alike.maps alike.place alike.born
         (ap (λ (x : Moment K V). x.spot) worked_is) alike.stored (calls_keep_finding K V S same hash name m known s old new at whole midst.calls.kept midst.calls.finding map i u here said leads);
+    sources = sources_so K V same name v last then_known then_known s2 s2 (calls_keep_sources K V S same hash name m known s old new at whole midst.calls.sources map i u here said leads) over.0.all.shown
+        alike.stored alike.born (ap (λ (x : Moment K V). x.spot) worked_is) (λ n st is. is);
     nexts = nexts_alike name (e ∷ log) come last s2 s2 (nexts_grow name log e come s2 purposes.begun come_nexts) alike.calls (next_same come last alike.maps alike.tables) (λ n j x is. is);
     limits = limits_alike name (e ∷ log) come last s2 s2 (limits_grow name log e come s2 purposes.begun come_limits) alike.calls (limit_same come last alike.maps alike.tables) (λ n j x is. is);
     counters = counters_stay K V name come last s2 s2
@@ -104,6 +109,7 @@ call_events_end_so K V S same hash name terms log beginning map i c first before
   sections = sections;
   follows = follows;
   order = events_keep_order K V terms log e goes run.order;
+  tableless = events_keep_tableless K V terms log e goes run.order run.tableless;
   over = over_stays_back K V terms log e goes reclaims run.over;
   left = events_tell_left K V terms log e goes reclaims run.order.0 run.left;
 }

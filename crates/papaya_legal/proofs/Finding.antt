@@ -8,6 +8,7 @@ pub mod Between
 pub mod Others
 pub mod Making
 pub mod Links
+pub mod Rooms
 pub mod Nexts
 pub mod NextsOthers
 pub mod Rest

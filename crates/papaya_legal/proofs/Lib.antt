@@ -3,6 +3,7 @@ pub mod Finding
 pub mod Since
 pub mod Begin
 pub mod Uncounted
+pub mod Sourced
 pub mod Between
 pub mod CallChanges
 pub mod CallPairs

@@ -55,6 +55,9 @@ use Rattle.papaya_models.proofs.MapEvents.{making_events_go_on}
 use Rattle.papaya_legal.specs.MapEvents.{EndEventsGoOn, MakingEventsGoOn}
 use Rattle.papaya_shards.proofs.ShardKept.{none_shards}
 use Rattle.papaya_legal.proofs.Limits.Shows.{endings_keep_limits, makings_keep_limits}
+use Rattle.papaya_histories.proofs.Given.Spots.Effects.{AllAside}
+use Rattle.papaya_legal.proofs.Sourced.{making_none, making_sources, so_aside}
+use Rattle.papaya_legal.proofs.Finding.Aside.{endings_aside, makings_aside}
 use Rattle.papaya_legal.proofs.Finding.NextsOthers.{endings_keep_nexts, makings_keep_nexts}
 use Rattle.papaya_legal.proofs.Finding.Others.{endings_keep_finding, makings_keep_finding}
 use Rattle.papaya_legal.proofs.Uncounted.{none_counted}
@@ -119,6 +122,7 @@ making_events_go_on_so K V S same hash name terms log event beginning done m kno
       kept = makings_keep_kept K V S same hash name m known s old new at whole midst.0.calls.kept i said leads b here (Some b.map) was_new
           (made_at same hash s old new at i b here said leads) then_whole.all.shown;
       finding = makings_keep_finding K V S same hash name m known s old new at whole midst.0.calls.finding i said leads b here was_new made_for (made_at same hash s old new at i b here said leads) then_whole;
+      sources = making_sources K V S same hash name m known then_known s old new i b here (Some b.map) effects aside midst.0.calls.sources midst.2 said leads then_whole.all.shown;
       nexts = makings_keep_nexts K V S same hash name log m known s old new midst.0.calls.nexts at whole i said leads b here was_new;
       limits = makings_keep_limits K V S same hash name log m known s old new midst.0.calls.limits at whole i said leads b here was_new;
       counters = makings_keep_counters K V S same hash name m known s old new at whole midst.0.calls.counters i said leads b here (Some b.map);
@@ -140,6 +144,7 @@ making_events_go_on_so K V S same hash name terms log event beginning done m kno
       (subst (λ (n : ℕ). FollowsInMaking n terms.roots (things_in log) (sets_in terms.batch_size log) (done ++ effects) then_known (leads b here).2.step.w2) size
       (making_events_go_on K V S same hash name m known s old new at whole i said leads b here (Some b.map) was_new terms.roots (things_in log) (sets_in terms.batch_size log) done
       (subst (λ (n : ℕ). FollowsInMaking n terms.roots (things_in log) (sets_in terms.batch_size log) done known s.world) (sym size) (midst.1 alone)))),
+  making_none K V S same hash name m known then_known s old new i b here (Some b.map) effects aside midst.0.calls.sources midst.2,
 )
   where
     whole : ShowsWhole same name m known s
@@ -153,6 +158,9 @@ making_events_go_on_so K V S same hash name terms log event beginning done m kno
 
     then_known : Known
     then_known = known_after (acts.Making b.map) new.memory.changed known
+
+    aside : AllAside effects
+    aside = makings_aside same hash name m known s old new at whole.all.shown i said leads b here (Some b.map)
 
     then_whole : ShowsWhole same name v then_known (led same hash s old new at i b here said leads)
     then_whole = makings_keep_whole K V S same hash name m known s old new at whole i said leads b here (Some b.map) was_new
@@ -168,6 +176,12 @@ module _ {K V S : Type 0} (same : K → K → Bool) (hash : K → ℕ) (s : Scen
   ended_at settled.Waits leads = absurd (leads f here).3
   ended_at (settled.Gave value) leads = (leads f here).3.3
   ended_at settled.Done leads = (leads f here).3.2
+
+  ended_maps : (said : Settled (Node K V)) (leads : EndingLeads same hash i said s old new) → (ended said leads).maps ≡ s.maps
+  ended_maps settled.Goes leads = refl
+  ended_maps settled.Waits leads = refl
+  ended_maps (settled.Gave value) leads = refl
+  ended_maps settled.Done leads = refl
 
   ended_world : (said : Settled (Node K V)) (leads : EndingLeads same hash i said s old new) → (ended said leads).world ≡ (leads f here).2.w2
   ended_world settled.Goes leads = refl
@@ -200,6 +214,9 @@ end_events_go_on_so K V S same hash name terms log event map beginning first don
       numbers = numbers_then m midst.0.calls.numbers map below (acts.Ending map) refl known new.memory.changed;
       kept = endings_keep_kept K V S same hash name m known s old new at whole midst.0.calls.kept i said leads f here map not_there (ended_at same hash s old new i f here said leads);
       finding = endings_keep_finding K V S same hash name m known s old new at whole midst.0.calls.finding i f here said leads map not_there (ended_at same hash s old new i f here said leads) then_whole;
+      sources = so_aside K V same name m known then_known s (ended same hash s old new i f here said leads) None (Some map) effects
+          (endings_aside same hash name m known s old new at whole i said leads f here map not_there) midst.0.calls.sources then_whole.all.shown
+          (λ n st is. ap (λ (maps : ℕ → Option (Standing K)). maps n) (sym (ended_maps same hash s old new i f here said leads)) ∙ is);
       nexts = endings_keep_nexts K V S same hash name log m known s old new midst.0.calls.nexts at whole i f here said leads map not_there;
       limits = endings_keep_limits K V S same hash name log m known s old new midst.0.calls.limits at whole i f here said leads map not_there;
       counters = endings_keep_counters K V S same hash name m known s old new at midst.0.calls.counters i said leads f here map;

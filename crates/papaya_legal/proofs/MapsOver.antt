@@ -37,6 +37,8 @@ use Rattle.papaya_legal.specs.Carried.{ComesAlone, ShowsCalls}
 use Rattle.papaya_legal.specs.Over.{EndEventsBegin, EndEventsEnd, EndEventsFollow, MakingEventsBegin, MakingEventsEnd, MakingEventsFollow}
 use Rattle.papaya_legal.proofs.Between.{ends_begin, likes_show, makings_begin, maps_come, maps_gone}
 use Rattle.papaya_legal.proofs.CallFollows.{by_model_so, of_no_slot, was_alone}
+use Rattle.papaya_sources.specs.Stays.{NoneBorn}
+use Rattle.papaya_legal.proofs.Sourced.{none_born}
 use Rattle.papaya_legal.proofs.Maps.{stands_so}
 use Rattle.papaya_legal.proofs.Over.{reading_like, runs_go_on}
 
@@ -55,6 +57,7 @@ module _ (K V S : Type 0) (same : K → K → Bool) (hash : K → ℕ) where
       protects = record { inside = hold.0; sheltered = hold.1; spared = refl };
     },
     λ alone. making_sets_begin K V terms.batch_size terms.roots (things_in log) (sets_in terms.batch_size log) known s.world (before alone),
+    subst (λ (n : ℕ). NoneBorn n (with_map there (moment log))) (sym map_is) (none_born K V (moment log) run.order.0 run.calls.numbers.0 there number),
   )
     where
       come : ShowsCalls same name log (with_map there (moment log)) known s × IsUncounted there.number (with_map there (moment log))

@@ -33,6 +33,7 @@ use Rattle.papaya_finds.specs.Life.{StoresOne}
 use Rattle.papaya_finds.specs.Within.{GoesInOrder}
 use Rattle.papaya_finds.proofs.Closed.{over_stays_back}
 use Rattle.papaya_finds.proofs.Runs.{events_keep_order}
+use Rattle.papaya_purposes.proofs.Tableless.{events_keep_tableless}
 use Rattle.papaya_legal.specs.Between.{IsLike}
 use Rattle.papaya_legal.specs.Carried.{FollowsOrRows}
 use Rattle.papaya_legal.specs.Over.{IdleEventsEnd, LeavesAll, QuietEventsEnd, RunsByOtherNames, RunsGoOn}
@@ -46,6 +47,7 @@ runs_go_on K V same name name2 terms log first known before s run e right life s
   sections = sections;
   follows = follows;
   order = events_keep_order K V terms log e goes run.order;
+  tableless = events_keep_tableless K V terms log e goes run.order run.tableless;
   over = over_stays_back K V terms log e goes reclaims run.over;
   left = events_tell_left K V terms log e goes reclaims run.order.0 run.left;
 }
@@ -63,6 +65,7 @@ runs_by_other_names K V same name name2 terms log known s agree run = record {
   sections = run.sections;
   follows = run.follows;
   order = run.order;
+  tableless = run.tableless;
   over = run.over;
   left = run.left;
 }

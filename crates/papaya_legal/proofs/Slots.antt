@@ -44,6 +44,8 @@ use Rattle.papaya_models.proofs.OnSlots.{slot_events_begin, slot_events_go_on}
 use Rattle.papaya_legal.specs.SlotEvents.{SlotEventsBegin, SlotEventsGoOn}
 use Rattle.papaya_shards.proofs.ShardKept.{none_shards}
 use Rattle.papaya_legal.proofs.Limits.Shows.{rows_begin_limits, rows_keep_limits}
+use Rattle.papaya_legal.proofs.Sourced.{same_maps_aside, sources_same}
+use Rattle.papaya_legal.proofs.Finding.Aside.{rows_aside}
 use Rattle.papaya_legal.proofs.Finding.NextsOthers.{rows_begin_nexts, rows_keep_nexts}
 use Rattle.papaya_legal.proofs.Finding.Others.{rows_begin_finding, rows_keep_finding}
 use Rattle.papaya_legal.proofs.Uncounted.{none_counted}
@@ -92,6 +94,7 @@ slot_events_begin_so K V S same hash name terms log known s old new at size run 
         numbers = run.calls.numbers;
         kept = rows_begin_kept K V S same hash name m known s old new at run.calls.kept called i may leads;
         finding = rows_begin_finding K V S same hash name m known s old new run.calls.finding called i may leads whole2;
+        sources = sources_same K V same name m m known known s (scene_then same hash (Begin i request) s old new to) run.calls.sources whole2.all.shown refl refl refl to.3;
         nexts = rows_begin_nexts K V S same hash name log m known s old new run.calls.nexts called i may leads;
         limits = rows_begin_limits K V S same hash name log m known s old new run.calls.limits called i may leads;
         counters = rows_begin_counters K V S same hash name m s old new at run.calls.counters called i may leads;
@@ -120,6 +123,8 @@ slot_events_go_on_so K V S same hash name terms log event i called first began d
     numbers = (rows_keep_numbers K V S same hash m midst.calls.numbers.0 known s old new i said leads row here, effects_keep_pairs K V m midst.calls.numbers.1 None None effects (λ n is. absurd (cc is)));
     kept = rows_keep_kept K V S same hash name m known s old new at whole midst.calls.kept i said leads row here;
     finding = rows_keep_finding K V S same hash name m known s old new at whole midst.calls.finding i said leads row here whole2;
+    sources = same_maps_aside K V same name m known (known_after acts.Row new.memory.changed known) s (scene_then same hash (Step i) s old new (leads row here).4) None None effects
+        (rows_aside same hash name m known s old new at i said leads row here) midst.calls.sources whole2.all.shown (leads row here).4.3;
     nexts = rows_keep_nexts K V S same hash name log m known s old new midst.calls.nexts at whole i said leads row here;
     limits = rows_keep_limits K V S same hash name log m known s old new midst.calls.limits at whole i said leads row here;
     counters = rows_keep_counters K V S same hash name m known s old new at whole midst.calls.counters i said leads row here;

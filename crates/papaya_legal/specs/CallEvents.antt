@@ -55,6 +55,7 @@ use Rattle.papaya_promises.specs.Sheltered.{SectionsHold}
 use Rattle.papaya_finds.specs.Little.{ReclaimsAll}
 use Rattle.papaya_histories.specs.Given.Follows.Calling.{come_to, NoneNamed}
 use Rattle.papaya_purposes.specs.Purposes.{ShowsPurposes}
+use Rattle.papaya_purposes.specs.Tableless.{TablelessUncounted}
 use Rattle.papaya_legal.specs.Between.{IsBegunRight}
 use Rattle.papaya_legal.specs.Carried.{ComesAlone, FollowsOrRows, ShowsCalls, ShowsRun}
 use Rattle.papaya_legal.specs.Limits.{OthersHadLimit}
@@ -107,7 +108,7 @@ module _ (K V S : Type 0) (same : K → K → Bool) (hash : K → ℕ) where
   abbrev pub CallEventsBegin : Type 0
   CallEventsBegin =
       (name : ℕ → List ℕ) (terms : Terms) (log : List (Entry K V)) (beginning : Moment K V) → HasJustBegun log beginning → beginning.maps ≡ (moment log).maps → beginning.tables ≡ (moment log).tables
-      → beginning.shards ≡ (moment log).shards
+      → beginning.shards ≡ (moment log).shards → TablelessUncounted (moment log)
       → (known : Known) (s : Scene K V) (x : Executor K V S) → IsAt same hash x s → ShowsCalls same name log beginning known s → ShowsReading name log (λ j. 0) beginning s
       → SectionsHold beginning known s.world → ((moment log).is_alone ≡ true → FollowsOrRows terms log known s.world)
       → (event : Event K V) (map i : ℕ) → caller_of event ≡ Some (name i) → (u : UnderWay K V K) → s.calls map i ≡ Some u → (c : CallThere K V) → call_of (name i) beginning ≡ Some c

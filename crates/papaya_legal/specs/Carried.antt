@@ -21,6 +21,7 @@ use Rattle.papaya_histories.specs.Questions.{ShowsQuestions}
 use Rattle.papaya_promises.specs.Reading.{ShowsReading}
 use Rattle.papaya_promises.specs.Sheltered.{SectionsHold}
 use Rattle.papaya_purposes.specs.Purposes.{ShowsPurposes}
+use Rattle.papaya_purposes.specs.Tableless.{TablelessUncounted}
 use Rattle.papaya_models.specs.CallEvents.{IsInItsRow}
 use Rattle.papaya_models.specs.Follows.{FollowsModel}
 use Rattle.papaya_models.specs.Turns.{CameByTurns}
@@ -29,6 +30,7 @@ use Rattle.papaya_finds.specs.Little.{OverIsBack, ReclaimsAll}
 use Rattle.papaya_finds.specs.Orderly.{is_left_over}
 use Rattle.papaya_finds.specs.Within.{AllIsInOrder, GoesInOrder, ReadyOweNone}
 use Rattle.papaya_kept.specs.Kept.{ShowsKept}
+use Rattle.papaya_sources.specs.Sources.{ShowsSources}
 use Rattle.papaya_legal.specs.Finding.{ShowsFinding}
 use Rattle.papaya_legal.specs.Limits.{ShowsLimits}
 use Rattle.papaya_legal.specs.Nexts.{ShowsNexts}
@@ -50,6 +52,7 @@ pub record ShowsCalls {K V : Type 0} (same : K → K → Bool) (name : ℕ → L
   pub finding : ShowsFinding name m known s
   pub nexts : ShowsNexts name log m s
   pub limits : ShowsLimits name log m s
+  pub sources : ShowsSources same name m known s
   pub counters : ShowsCounters name m s
   pub uncounted : NoneCounted m
   pub dues : ShowsDue same name log m known s
@@ -67,13 +70,14 @@ abbrev pub LeftIsTold : {K V : Type 0} → Moment K V → Type 0
 LeftIsTold m = (n : ℕ) → is_left_over (m.place n) ≡ is_among n (flat_map (λ r. r.pairs) m.remains)
 
 -- And once an event is over: no lookup has read more than the moment says; sections hold what they shelter; where calls came one after another so far, the waiting sets are those of the
--- model, but for a row that is under way; all waits in order; once the collector has ended all is back; and what ended maps have left over is told.
+-- model, but for a row that is under way; all waits in order; a map that has had no table has counted nothing; once the collector has ended all is back; and what ended maps have left over is told.
 pub record ShowsRun {K V : Type 0} (same : K → K → Bool) (name : ℕ → List ℕ) (terms : Terms) (log : List (Entry K V)) (known : Known) (s : Scene K V) : Type 0 where
   pub calls : ShowsCalls same name log (moment log) known s
   pub reading : ShowsReading name log (λ i. 0) (moment log) s
   pub sections : SectionsHold (moment log) known s.world
   pub follows : (moment log).is_alone ≡ true → FollowsOrRows terms log known s.world
   pub order : AllIsInOrder (moment log) × ReadyOweNone (moment log)
+  pub tableless : TablelessUncounted (moment log)
   pub over : OverIsBack (moment log)
   pub left : LeftIsTold (moment log)
 

@@ -40,6 +40,7 @@ use Rattle.papaya_histories.specs.OtherCalls.{IsIdle}
 use Rattle.papaya_promises.specs.Guards.{EntersInside}
 use Rattle.papaya_promises.specs.Sheltered.{SectionsHold}
 use Rattle.papaya_histories.specs.Given.Schedules.Beginning.{at_work}
+use Rattle.papaya_sources.specs.Stays.{NoneBorn}
 use Rattle.papaya_legal.specs.Carried.{ComesAlone, ShowsCalls}
 
 module _ {K V : Type 0} (same : K → K → Bool) (name : ℕ → List ℕ) (terms : Terms) (log : List (Entry K V)) (event : Event K V) (map : ℕ) (beginning : Moment K V) where
@@ -52,10 +53,10 @@ module _ {K V : Type 0} (same : K → K → Bool) (name : ℕ → List ℕ) (ter
     pub granted : is_granted false done ≡ true
     pub protects : InMidst event done m known s.world
 
-  -- where calls came one after another, the sets are those of the model as it began, in the midst of a making,
+  -- where calls came one after another, the sets are those of the model as it began, in the midst of a making, whose map has had no pair,
   abbrev pub InMakingEvent : List Effect → Moment K V → Known → Scene K V → Type 0
   InMakingEvent done m known s =
-      InMapEvent done m known s × (ComesAlone event log → FollowsInMaking terms.batch_size terms.roots (things_in log) (sets_in terms.batch_size log) done known s.world)
+      InMapEvent done m known s × (ComesAlone event log → FollowsInMaking terms.batch_size terms.roots (things_in log) (sets_in terms.batch_size log) done known s.world) × NoneBorn map m
 
   -- and in that of an end
   abbrev pub InEndEvent : Known → ℕ → List Effect → Moment K V → Known → Scene K V → Type 0

@@ -22,10 +22,10 @@ module _ {K V Q S : Type 0} (asks : Q → K → Bool) (same : K → K → Bool) 
   abbrev pub StopsTold : OnKey K V Q S → Mem (Node K V) → Reply V → Mem (Node K V) → Result Stop Fault → Type 0
   StopsTold x n told m result = (y : OnKey K V Q S) × RunsTo (on_key_plan asks same hashes) (record x { call = (replied x.call told).0 }) n y m result
 
-  module _ (b : Bor S) (setting : Setting) (m0 : Mem (Node K V)) where
-    -- A call on one key, begun on this memory, has come here: it was run from question to question, and told something each time.
+  module _ (b : Bor S) (setting : Setting) (m0 : Mem (Node K V)) (keys : K → Bool) (given : Given K V) where
+    -- A call on one key of this class, begun so on this memory, has come here: it was run from question to question, and told something each time.
     pub data IsCalling : OnKey K V Q S → Mem (Node K V) → Type 0 where
-      begun : (keys : K → Bool) (given : Given K V) (call : KeyCall K V Q) → IsBegun V same (hashes b.now) asks setting (λ i. setting.slot) 0 keys given call
+      begun : (call : KeyCall K V Q) → IsBegun V same (hashes b.now) asks setting (λ i. setting.slot) 0 keys given call
           → IsCalling (record { call = call; hasher = b; unstored = None }) m0
       asked : (x : OnKey K V Q S) (m : Mem (Node K V)) → IsCalling x m → (x2 : OnKey K V Q S) (m2 : Mem (Node K V)) (about : Option ℕ) → RunsTo (on_key_plan asks same hashes) x m x2 m2 (Ok (stop.Asks about))
           → (told : Reply V) → IsCalling (record x2 { call = (replied x2.call told).0 }) m2

@@ -44,3 +44,7 @@ module _ {T X A : Type 0} (plan : X → Plan T (X × Progress A)) where
   -- It was run to its end, from this memory on.
   abbrev pub HasEnded : Mem T → Mem T → Type 0
   HasEnded m m2 = (x : X) × (y : X) × (result : Result A Fault) × Ends x m × RunsTo x m y m2 result
+
+  -- So it was from this machine on, and this came of it.
+  abbrev pub HasCome : X → Mem T → Mem T → Result A Fault → Type 0
+  HasCome x m m2 result = (y : X) × Ends x m × RunsTo x m y m2 result

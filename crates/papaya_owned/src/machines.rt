@@ -30,20 +30,6 @@ pub struct OnKey<'a, K, V, Q, S> {
     pub unstored: Option<Node<K, V>>,
 }
 
-impl<K, V, Q, S> OnKey<'_, K, V, Q, S> {
-    /// A call that begins.
-    pub fn new(call: KeyCall<K, V, Q>, hasher: &S) -> OnKey<'_, K, V, Q, S>
-        ensures call { result.call ≡ call }
-        ensures hasher { result.hasher.now ≡ hasher.now }
-    {
-        OnKey {
-            call,
-            hasher,
-            unstored: None,
-        }
-    }
-}
-
 impl<K: Drop, V: Drop, Q, S> OnKey<'_, K, V, Q, S> {
     /// Goes on after a step of the call, by what that told. Within a section nothing is given back to a call.
     fn settled(&mut self, told: Called<Node<K, V>>) -> Progress<Stop>

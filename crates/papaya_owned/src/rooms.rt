@@ -1,6 +1,7 @@
 //! Room for further pairs in one owner's map: a reservation, run to its end.
 ghost use Rattle.std.specs.Prelude.{List};
-ghost use Rattle.papaya_owned.specs.Ending.{HasEnded};
+ghost use Rattle.papaya_owned.specs.Ending.{HasCome};
+ghost use Rattle.papaya_owned.specs.Given.Reserves.Reserve.{reserving};
 ghost use Rattle.papaya_owned.specs.Machines.{for_room_plan};
 ghost use Rattle.papaya_owned.specs.Owned.{Holds};
 ghost use Rattle.papaya_owned.specs.Rooms.{RoomBy};
@@ -22,7 +23,7 @@ pub fn make_room<K: Eq + Hash + Drop, V: Drop, S: Hashes<K>>(
 ) -> Result<(), Fault>
     requires { (xs : List (K × V)) × Holds K.eq (S.hash hasher.now) setting memory.old xs }
     ensures room { (xs : List (K × V)) → Holds K.eq (S.hash hasher.now) setting memory.old xs → RoomBy K.eq (S.hash hasher.now) setting additional memory.new xs result }
-    ensures ran { HasEnded (for_room_plan S.hash) memory.old memory.new }
+    ensures ran { HasCome (for_room_plan S.hash) (record { reserve = reserving setting additional; hasher = hasher.entry }) memory.old memory.new result }
 {
     let reserve = Reserve::new(setting, additional);
     let mut machine = ForRoom { reserve, hasher };

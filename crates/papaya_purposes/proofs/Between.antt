@@ -53,10 +53,11 @@ use Rattle.papaya_purposes.specs.Purposes.{IsFor, HasAdded, RoomAt, HasMet, Tell
 use Rattle.papaya_named.specs.Machines.{IsBefore}
 use Rattle.papaya_purposes.proofs.For.{sweep_for}
 use Rattle.papaya_purposes.proofs.KeysOn.{keys_next}
+use Rattle.papaya_purposes.proofs.Needs.{needs_wider, reserves_wider}
 use Rattle.papaya_purposes.proofs.Present.{begins_within}
 use Rattle.papaya_purposes.proofs.Shown.{IsStill, same_still, comes_still}
 use Rattle.papaya_purposes.proofs.Still.{come_still, for_still}
-use Rattle.papaya_purposes.proofs.Sums.{added_wider}
+use Rattle.papaya_purposes.proofs.Sums.{added_wider, counts_wider}
 use Rattle.papaya_purposes.proofs.Within.{pairs_within_moments}
 
 pub purposes_begin : (K V : Type 0) → PurposesBegin K V
@@ -74,11 +75,18 @@ module _ {K V : Type 0} (same : K → K → Bool) (log : List (Entry K V)) (e : 
 
   pub event_come : (of : ℕ) (st : Standing K) (number : ℕ → ℕ) (m : Moment K V) (u : UnderWay K V K) → HasCome same of st number log m u c → HasCome same of st number (e ∷ log) m u c
   event_come of st number m (OnKey u) h = tt
-  event_come of st number m (ForRoom r) h = record { low = h.low; was = wider (λ x. first_of of x ≤ h.low) h.was; root = h.root; point = point r.reserve.stands h.point }
+  event_come of st number m (ForRoom r) h = record {
+    low = h.low;
+    was = wider (λ x. first_of of x ≤ h.low) h.was;
+    root = h.root;
+    point = point r.reserve.stands h.point;
+    reserves = reserves_wider of (moments_from c.begun log) (moments_from c.begun (e ∷ log)) wider r.reserve r.reserve.stands h.reserves;
+    needs = needs_wider of (moments_from c.begun log) (moments_from c.begun (e ∷ log)) wider r.reserve r.reserve.stands h.needs;
+  }
     where
       point : (stands : Reserving) → RoomAt of (moments_from c.begun log) h.low stands → RoomAt of (moments_from c.begun (e ∷ log)) h.low stands
       point reserving.Reads is = is
-      point (reserving.Makes making) is = is
+      point (reserving.Makes making) is = (is.0, λ n. counts_wider of (moments_from c.begun log) (moments_from c.begun (e ∷ log)) wider n 0 (is.1 n))
       point (reserving.Sums table sum) is = (is.0, added_wider of (moments_from c.begun log) (moments_from c.begun (e ∷ log)) wider sum.setting.mask sum.stands is.1)
       point (reserving.Follows table need) is = is
       point (reserving.Grows table making) is = is
@@ -176,7 +184,7 @@ module _ {K V S : Type 0} (same : K → K → Bool) (hash : K → ℕ) (name : �
   pub begins_come : (u : UnderWay K V K) → Begins same st i u → HasCome same of st (shown.number of) log m2 u c
   begins_come (OnKey u) begins = tt
   begins_come (ForRoom r) (additional, is) =
-      subst (λ (x : CallForRoom). HasMet of st (moments_from c.begun log) x) (sym is) (record { low = st.chart.first; was = was; root = omega arith; point = tt })
+      subst (λ (x : CallForRoom). HasMet of st (moments_from c.begun log) x) (sym is) (record { low = st.chart.first; was = was; root = omega arith; point = tt; reserves = tt; needs = tt })
   begins_come (Counting sum) begins = subst (λ (x : Sum). HasAdded of (moments_from c.begun log) x.setting.mask x.stands) (sym begins) (sum_begins (in_slot st.setting (slot_of i)))
   begins_come (OverAll o) (purpose, is) =
       subst (λ (x : CallOverAll). HasSwept same of st (shown.number of) (m2 ∷ moments_from c.begun log) x c) (sym is) (sweep_begins (in_slot st.setting (slot_of i)) purpose)

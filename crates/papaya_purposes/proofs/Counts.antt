@@ -49,7 +49,7 @@ module _ {K V S : Type 0} (same : K → K → Bool) (hash : K → ℕ) (log : Li
   reads shard few =
       ap (λ (x : Mem (Node K V)). word_at x (Word sum.setting.counter shard)) (sym at.memory)
       ∙ ap (λ (x : Setting). word_at s.world.memory (Word x.counter shard)) facts.0
-      ∙ shards of st there shard (subst (λ (x : Setting). shard ≤ x.mask) facts.0 few) ∙ ap Some (none shard)
+      ∙ shards of st there shard (subst (λ (x : Setting). shard ≤ x.mask) facts.0 few) ∙ ap Some (none.0 shard)
 
   abbrev Came : Sum × Counted ℕ → Type 0
   Came end = After of (moments_from c.begun log) mem sum (moment log) (λ P p. last_there P c.begun log before p) reads end

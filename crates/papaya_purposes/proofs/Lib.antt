@@ -1,8 +1,8 @@
 mod Lists
 mod Within
 mod Present
-mod Sums
-mod Shown
+pub mod Sums
+pub mod Shown
 mod Alike
 mod KeysOn
 mod Onward
@@ -16,7 +16,9 @@ mod Over
 mod Rooms
 mod Copiers
 mod RoomPoints
-mod RoomFacts
+pub mod RoomFacts
+pub mod Needs
+pub mod Tableless
 mod RoomSteps
 mod For
 mod Counts

@@ -38,7 +38,7 @@ module _ {K V : Type 0} (same : K → K → Bool) (of : ℕ) (st st2 : Standing 
   come_over (OnKey u) carries on h = tt
   come_over (ForRoom r) carries on h =
       subst (λ (b : ℕ). HasMet of st2 (moments_from b log) r) (sym still.begun)
-      (record { low = h.low; was = h.was; root = (let l = h.root in omega (arith, l, first)); point = h.point })
+      (record { low = h.low; was = h.was; root = (let l = h.root in omega (arith, l, first)); point = h.point; reserves = h.reserves; needs = h.needs })
   come_over (Counting sum) carries on h = subst (λ (b : ℕ). HasAdded of (moments_from b log) sum.setting.mask sum.stands) (sym still.begun) h
   come_over (OverAll o) carries on h = record {
     within = within_over o.began h.within;

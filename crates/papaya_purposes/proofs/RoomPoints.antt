@@ -55,6 +55,10 @@ module _ {K V : Type 0} (of : ℕ) (moments : List (Moment K V)) (low : ℕ) (En
   LedAt (at.Copies copier) = (low ≤ copier.source.turn) × ((low ≤ copier.target.turn) ⊎ IsTold copier.stands)
   LedAt stands = RoomAt of moments low stands
 
+  -- where it has come to no table
+  abbrev pub IsBare : Type 0
+  IsBare = (low ≡ 0) × ((shards : ℕ) → Counts shards of moments 0)
+
   -- where it goes on, and what is so at its end
   abbrev pub Led : Reserve × Outcome (Node K V) Unit → Type 0
   Led (q, outcome.Done end) = Ends
@@ -78,11 +82,11 @@ module _ {K V : Type 0} (of : ℕ) (moments : List (Moment K V)) (low : ℕ) (En
         by true = (l, inr (inr refl))
         by false = (l, inr (inl refl))
 
-    made_leads : low ≡ 0 → (end : NewTable × Progress Table) → Led (made p end)
-    made_leads none (making, progress.Goes) = none
-    made_leads none (making, progress.Waits) = none
-    made_leads none (making, progress.Done table) = counts_in table (omega (arith, none))
-    made_leads none (making, progress.Refused fault) = tt
+    made_leads : IsBare → (end : NewTable × Progress Table) → Led (made p end)
+    made_leads bare (making, progress.Goes) = bare
+    made_leads bare (making, progress.Waits) = bare
+    made_leads bare (making, progress.Done table) = counts_in table (let none = bare.0 in omega (arith, none))
+    made_leads bare (making, progress.Refused fault) = tt
 
     grown_leads : (table : Table) → low ≤ table.turn → (end : NewTable × Progress Table) → Led (grown p table end)
     grown_leads table l (making, progress.Goes) = l
@@ -139,25 +143,25 @@ module _ {K V : Type 0} (of : ℕ) (moments : List (Moment K V)) (low : ℕ) (En
           let b = steps_back (summed p table) w.memory m2 (sum_plan sum) end s in
           subst Led (sym b.2) (summed_leads b.0 (counting_on of moments w.memory sum now last reads few has m2 b.0 b.1))
 
-    pub reads_lead : (m2 : Mem (Node K V)) (end : Reserve × Outcome (Node K V) Unit) → Steps Took value_at w.memory (plan_at hash p at.Reads) m2 end → Led end
-    reads_lead m2 end s =
+    pub reads_lead : (c.past ≡ 0 → (shards : ℕ) → Counts shards of moments 0) → (m2 : Mem (Node K V)) (end : Reserve × Outcome (Node K V) Unit) → Steps Took value_at w.memory (plan_at hash p at.Reads) m2 end → Led end
+    reads_lead counted m2 end s =
         let d = loaded w.memory (root_read p) (Root p.setting.root) m2 end s in
         link_ends hash w.memory c blocks setting.root map.map.shows d.0 c.first
         (root_leads same hash setting.mode setting.root w.memory c blocks map.map d.0 (ap (λ (x : ℕ). word_at w.memory (Root x)) (sym root_is) ∙ d.1))
         (standing p (at.Makes (first_table p.setting (needed p.additional 0))), outcome.Goes) (λ table. (counting p table, outcome.Goes)) Led none
         (λ table entered. counts_in p table (let turn : table.turn ≡ c.first = ap (λ (x : Table). x.turn) entered.is in omega (arith, from, turn))) end d.3
       where
-        none : c.past ≤ c.first → low ≡ 0
+        none : c.past ≤ c.first → IsBare
         none past = by c.past refl
           where
-            by : (n : ℕ) → c.past ≡ n → low ≡ 0
-            by zero e = let first = map.map.rule.common.rootless e in omega (arith, first, from)
+            by : (n : ℕ) → c.past ≡ n → IsBare
+            by zero e = ((let first = map.map.rule.common.rootless e in omega (arith, first, from)), counted e)
             by (suc n) e = absurd (let l = map.map.rule.common.rooted (omega (arith, e)) in omega (arith, l, past))
 
   module _ (hash : K → ℕ) (p : Reserve) where
-    pub makes_lead : (making : NewTable) → low ≡ 0 → (m m2 : Mem (Node K V)) (end : Reserve × Outcome (Node K V) Unit) → Steps Took value_at m (plan_at hash p (at.Makes making)) m2 end → Led end
-    makes_lead making none m m2 end s =
-        always_steps Led m m2 (plan_at hash p (at.Makes making)) end (always_plan_as Led (made p) (made_leads p none) (new_table_plan making)) s
+    pub makes_lead : (making : NewTable) → IsBare → (m m2 : Mem (Node K V)) (end : Reserve × Outcome (Node K V) Unit) → Steps Took value_at m (plan_at hash p (at.Makes making)) m2 end → Led end
+    makes_lead making bare m m2 end s =
+        always_steps Led m m2 (plan_at hash p (at.Makes making)) end (always_plan_as Led (made p) (made_leads p bare) (new_table_plan making)) s
 
     pub grows_lead : (table : Table) (making : NewTable) → low ≤ table.turn → (m m2 : Mem (Node K V)) (end : Reserve × Outcome (Node K V) Unit)
         → Steps Took value_at m (plan_at hash p (at.Grows table making)) m2 end → Led end

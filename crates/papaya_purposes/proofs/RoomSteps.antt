@@ -1,17 +1,19 @@
 -- A step of a reservation that is under way, in the words of a run.
-use Rattle.std.specs.Prelude.{◌≡◌, ℕ, suc, ◌+◌, ◌^◌, ◌<◌, ◌≤◌, nat_lt, Bool, false, List, length, Option, Some, None, Result, Ok, Err}
+use Rattle.std.specs.Prelude.{◌≡◌, ℕ, zero, suc, ◌+◌, ◌^◌, ◌<◌, ◌≤◌, nat_lt, Bool, false, List, length, Option, Some, None, Result, Ok, Err}
 use Rattle.std.proofs.Common.{refl, ap, sym, subst, ◌∙◌, arith}
 use Rattle.papaya_histories.specs.Given.SeizeWords.Mem.{Mem, Took, value_at, word_at}
 use Rattle.papaya_histories.specs.Given.SeizeWords.Plan.{Steps}
 use Rattle.papaya_histories.specs.Given.SeizeWords.declared.at.At.TheVariants.{Word}
 use Rattle.papaya_histories.specs.Given.SeizeWords.declared.fault.Fault.{Fault}
 use Rattle.papaya_histories.proofs.Given.SeizeRule.Rows.Leaving.{steps_back}
+use Rattle.papaya_histories.specs.Given.Seize.declared.progress.Progress.TheVariants as counting
 use Rattle.papaya_histories.specs.Given.Tables.Lengths.{len_of}
 use Rattle.papaya_histories.specs.Given.Tables.declared.node.Node.{Node}
 use Rattle.papaya_histories.specs.Given.Tables.declared.setting.Setting.{Setting}
 use Rattle.papaya_histories.specs.Given.Tables.declared.table.Table.{Table}
 use Rattle.papaya_histories.specs.Given.Resize.declared.outcome.Outcome.{Outcome}
 use Rattle.papaya_histories.specs.Given.Resize.declared.outcome.Outcome.TheVariants as outcome
+use Rattle.papaya_histories.specs.Given.Resize.Sum.{sum_plan}
 use Rattle.papaya_histories.specs.Given.Resize.declared.sum.Sum.{Sum}
 use Rattle.papaya_histories.specs.Given.Reserves.Reserve.{or_too_long, needed, plan_at, reserve_plan}
 use Rattle.papaya_histories.specs.Given.Reserves.declared.reserve.Reserve.{Reserve}
@@ -24,7 +26,7 @@ use Rattle.papaya_histories.specs.Given.Raw.declared.machines.progress.Answer.Th
 use Rattle.papaya_histories.specs.Given.Raw.declared.machines.progress.Progress.{Progress}
 use Rattle.papaya_histories.specs.Given.Raw.declared.machines.progress.Progress.TheVariants as progress
 use Rattle.papaya_histories.specs.Given.Schedules.After.{moment, moments_from}
-use Rattle.papaya_histories.specs.Given.Schedules.Counts.{Counts}
+use Rattle.papaya_histories.specs.Given.Schedules.Counts.{AddsUp, Counts}
 use Rattle.papaya_histories.specs.Given.Schedules.Entry.{Entry}
 use Rattle.papaya_histories.specs.Given.Schedules.Lists.{OneOf}
 use Rattle.papaya_histories.specs.Given.Schedules.Moment.{UnderWay as CallThere, Moment}
@@ -43,11 +45,17 @@ use Rattle.papaya_histories.specs.Given.Finishes.Machines.{GoesOnAs}
 use Rattle.papaya_histories.specs.Given.Finishes.Maps.{Standing}
 use Rattle.papaya_histories.specs.Given.Late.ToldReserves.{IsRowOfReserve}
 use Rattle.papaya_histories.specs.Given.Teller.declared.changed.Changed.TheVariants.{Nothing}
+use Rattle.papaya_histories.proofs.Given.Others.Outcomes.{told_in}
 use Rattle.papaya_histories.proofs.Logs.{last_there}
+use Rattle.papaya_finds.specs.Reserving.{ReservesAt, SumTells}
+use Rattle.papaya_finds.proofs.Reserving.{rooms_keep_count}
+use Rattle.papaya_purposes.specs.Needs.{NeedsAt}
 use Rattle.papaya_purposes.specs.Purposes.{RoomAt, HasMet}
 use Rattle.papaya_purposes.specs.Shards.{ReadsShards}
+use Rattle.papaya_purposes.proofs.Needs.{rooms_keep_needs}
 use Rattle.papaya_purposes.proofs.RoomFacts.{turn_is, Point, StandsSo, room_setting, room_point, room_knows, was_root}
 use Rattle.papaya_purposes.proofs.RoomPoints.{LedAt, Led, reads_lead, makes_lead, sums_lead, follows_lead, grows_lead, copies_lead}
+use Rattle.papaya_purposes.proofs.Sums.{counting_on}
 
 -- a table that is not too short, for a length that can be had
 fits_so : (o : Result ℕ Fault) (len : ℕ) → nat_lt (2 ^ 48) (or_too_long o) ≡ false → nat_lt len (or_too_long o) ≡ false → Fits o len
@@ -99,7 +107,7 @@ module _ {K V S : Type 0} (same : K → K → Bool) (hash : K → ℕ) (log : Li
     pub reads : (shard : ℕ) → shard ≤ sum.setting.mask → word_at mem (Word sum.setting.counter shard) ≡ Some ((moment log).shards of shard)
     reads shard l =
         ap (λ (x : Setting). word_at mem (Word x.counter shard)) known.0.0
-        ∙ (shards tt).0 of st there shard (subst (λ (x : Setting). shard ≤ x.mask) known.0.0 l) ∙ ap Some ((shards tt).1 shard)
+        ∙ (shards tt).0 of st there shard (subst (λ (x : Setting). shard ≤ x.mask) known.0.0 l) ∙ ap Some ((shards tt).1.0 shard)
 
     -- what it comes to where that is enough
     pub ends : has.low ≤ table.turn → (count : ℕ) → Counts (suc sum.setting.mask) of moments count → nat_lt (2 ^ 48) (needed p.additional count) ≡ false
@@ -117,6 +125,30 @@ module _ {K V S : Type 0} (same : K → K → Bool) (hash : K → ℕ) (log : Li
   last : (P : Moment K V → Type 0) → P (moment log) → OneOf P moments
   last P it = last_there P c.begun log before it
 
+  -- what it knows outside of rows
+  knows_at : (x : Reserving) → (IsRowOfReserve x → ⊥) → p.stands ≡ x → Knows p.stands
+  knows_at x none is =
+      room_point V same st.hash st.setting slot_of s.world st.chart (seen_by st.blocks (st.sights (slot_of i))) i r stands (λ row. none (subst IsRowOfReserve is row))
+
+  -- a counting that is done by the step has counted so many
+  tells : SumTells of moments p old.memory.memory new.memory.memory new.memory.changed
+  tells table sum sum2 count is step =
+      let here = knows_at (reserving.Sums table sum) (λ row. row) is in
+      subst (λ (x : Setting). Counts (suc x.mask) of moments count) ((known table sum is here).0.0 ∙ sym setting_is)
+      (counting_on of moments mem sum (moment log) last (reads table sum is here) (few table sum is here) (subst (RoomAt of moments has.low) is has.point).1 new.memory.memory (sum2, counting.Done count)
+      (subst (λ (x : Mem (Node K V)). Steps Took value_at x (sum_plan sum) new.memory.memory (sum2, counting.Done count)) (sym at.memory)
+      (as_step old.memory.memory Nothing (sum_plan sum) new.memory.memory new.memory.changed (sum2, counting.Done count) step)))
+
+  -- where the map has had no table it has counted nothing, as the last event was over
+  counted_none : st.chart.past ≡ 0 → (n : ℕ) → Counts n of moments 0
+  counted_none past n = (0, adds_none n, refl)
+    where
+      adds_none : (n : ℕ) → AddsUp of moments n 0
+      adds_none zero = refl
+      adds_none (suc shard) =
+          last (λ x. (rest : ℕ) × AddsUp of moments shard rest × (0 ≡ rest + x.shards of shard))
+          (0, adds_none shard, (let none = (shards tt).2 st there past shard in omega (arith, none)))
+
   abbrev Step : Reserving → Reserve × Outcome (Node K V) Unit → Type 0
   Step x end = Steps Took value_at mem (plan_at hash p x) new.memory.memory end
 
@@ -131,21 +163,15 @@ module _ {K V S : Type 0} (same : K → K → Bool) (hash : K → ℕ) (log : Li
   led : (end : Reserve × Outcome (Node K V) Unit) → Step p.stands end → Led of moments has.low EndsSo end
   led end step = by p.stands refl has.point step
     where
-      in_row : (x : Reserving) → (IsRowOfReserve x → ⊥) → p.stands ≡ x → IsRowOfReserve p.stands → ⊥
-      in_row x none is row = none (subst IsRowOfReserve is row)
-
-      knows : (x : Reserving) → (IsRowOfReserve x → ⊥) → p.stands ≡ x → Knows p.stands
-      knows x none is =
-          room_point V same st.hash st.setting slot_of s.world st.chart (seen_by st.blocks (st.sights (slot_of i))) i r stands (in_row x none is)
-
       by : (x : Reserving) → p.stands ≡ x → RoomAt of moments has.low x → Step x end → Led of moments has.low EndsSo end
       by reserving.Reads is h step =
-          reads_lead of moments has.low EndsSo same hash st.setting s.world st.chart st.blocks its_map has.root (moment log) last p (ap (λ (x : Setting). x.root) setting_is) new.memory.memory end step
+          reads_lead of moments has.low EndsSo same hash st.setting s.world st.chart st.blocks its_map has.root (moment log) last p (ap (λ (x : Setting). x.root) setting_is)
+          counted_none new.memory.memory end step
       by (reserving.Makes making) is h step = makes_lead of moments has.low EndsSo hash p making h mem new.memory.memory end step
       by (reserving.Sums table sum) is h step =
           sums_lead of moments has.low EndsSo same hash st.setting s.world st.chart st.blocks its_map has.root (moment log) last p (ap (λ (x : Setting). x.root) setting_is) table sum h.0
-          (reads table sum is (knows (reserving.Sums table sum) (λ row. row) is)) (few table sum is (knows (reserving.Sums table sum) (λ row. row) is)) h.1
-          (ends table sum is (knows (reserving.Sums table sum) (λ row. row) is) h.0) new.memory.memory end step
+          (reads table sum is (knows_at (reserving.Sums table sum) (λ row. row) is)) (few table sum is (knows_at (reserving.Sums table sum) (λ row. row) is)) h.1
+          (ends table sum is (knows_at (reserving.Sums table sum) (λ row. row) is) h.0) new.memory.memory end step
       by (reserving.Follows table need) is h step =
           follows_lead of moments has.low EndsSo hash p table need h (subst (LedAt of moments has.low EndsSo) (sym is) h) mem new.memory.memory end step
       by (reserving.Grows table making) is h step = grows_lead of moments has.low EndsSo hash p table making h mem new.memory.memory end step
@@ -171,6 +197,19 @@ module _ {K V S : Type 0} (same : K → K → Bool) (hash : K → ℕ) (log : Li
       by (q, outcome.Gave value) is so = subst (λ (y : Reserve). LedAt of moments has.low EndsSo y.stands) (same_one q (ap (λ z. z.0) is)) so
       by (q, outcome.Done end) is so = absurd (ended (subst (λ (y : Progress (Node K V)). GoesOnAs machine y next) (ap (λ z. z.1) is) goes))
       by (q, outcome.Refused fault) is so = absurd (ended (subst (λ (y : Progress (Node K V)). GoesOnAs machine y next) (ap (λ z. z.1) is) goes))
+
+  -- what it has counted, and which table it makes
+  pub room_keeps : (p2 : Reserve) → machine ≡ kinds.Reserve p2 → ReservesAt of moments p2 p2.stands × NeedsAt of moments p2 p2.stands
+  room_keeps p2 machine_is =
+      let it = told_in old.memory.memory new.memory.memory new.memory.changed reserved (reserve_plan hash p) (machine, said) steps in
+      let one = its_one it.0 it.1 in (
+        subst (λ (y : Reserve). ReservesAt of moments y y.stands) one
+            (rooms_keep_count K V hash of moments p old.memory.memory new.memory.memory new.memory.changed it.0 has.reserves tells it.2),
+        subst (λ (y : Reserve). NeedsAt of moments y y.stands) one (rooms_keep_needs hash of moments p old.memory.memory new.memory.memory new.memory.changed it.0 has.needs tells it.2),
+      )
+    where
+      its_one : (end : Reserve × Outcome (Node K V) Unit) → (machine, said) ≡ reserved end → end.0 ≡ p2
+      its_one (q, o) is = (let its : machine ≡ kinds.Reserve q = ap (λ z. z.0) is in cc (its, machine_is))
 
   -- where it ends
   pub room_ends : said ≡ progress.Done answers.Reserved → EndsSo

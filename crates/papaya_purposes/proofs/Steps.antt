@@ -46,6 +46,8 @@ use Rattle.papaya_histories.proofs.Within.{within_on}
 use Rattle.papaya_histories.proofs.NoKey.Sweeps.{SweepsOn, sweeps_on}
 use Rattle.papaya_purposes.specs.Keys.{KeysAt, AreKeyed}
 use Rattle.papaya_purposes.specs.Kept.{ShowsNone, PairsChangeFirst}
+use Rattle.papaya_finds.specs.Reserving.{ReservesAt}
+use Rattle.papaya_purposes.specs.Needs.{NeedsAt}
 use Rattle.papaya_purposes.specs.Purposes.{IsFor, PairsWithin, HasAdded, RoomAt, HasMet, KeysOf, HasSwept, HasCome, ShowsPurposes}
 use Rattle.papaya_named.specs.Machines.{IsBefore}
 use Rattle.papaya_purposes.specs.Shards.{ReadsShards}
@@ -61,7 +63,7 @@ use Rattle.papaya_purposes.proofs.Over.{within_over, come_over}
 use Rattle.papaya_purposes.proofs.Present.{now_stored, now_there, absent}
 use Rattle.papaya_purposes.proofs.RoomFacts.{room_later}
 use Rattle.papaya_purposes.proofs.RoomPoints.{LedAt}
-use Rattle.papaya_purposes.proofs.RoomSteps.{EndsSo, room_goes}
+use Rattle.papaya_purposes.proofs.RoomSteps.{EndsSo, room_goes, room_keeps}
 use Rattle.papaya_purposes.proofs.Rooms.{IsForRoom, room_kept}
 use Rattle.papaya_purposes.proofs.Shown.{IsStill, effects_still}
 
@@ -288,9 +290,19 @@ module _ {K V S : Type 0} (same : K → K → Bool) (hash : K → ℕ) (name : �
       point reserving.Over is h = h
       point (reserving.Refused fault) is h = h
 
+      keeps : ReservesAt of (moments_from c.begun log) p2 p2.stands × NeedsAt of (moments_from c.begun log) p2 p2.stands
+      keeps = room_keeps same hash log m s old new at of i r r_is went.0 went.2 c begun reads met went.1 said steps p2 machine_is
+
       own_room : HasMet of st (moments_from d.begun log) r2
       own_room =
-          subst (λ (b : ℕ). HasMet of st (moments_from b log) r2) (sym (same_call i c d c_is d_is).begun) (record { low = met.low; was = met.was; root = root; point = point p2.stands refl led })
+          subst (λ (b : ℕ). HasMet of st (moments_from b log) r2) (sym (same_call i c d c_is d_is).begun) (record {
+            low = met.low;
+            was = met.was;
+            root = root;
+            point = point p2.stands refl led;
+            reserves = keeps.0;
+            needs = keeps.1;
+          })
 
     -- the caller's own
     pub own_come : ChangesFirst log m same of v2 → ShowsNone said → (y : UnderWay K V K) → s.calls of i ≡ Some y → ReadsShards log m s of y → StepsFrom same hash (machine_of y) old new went.1 said → Did y

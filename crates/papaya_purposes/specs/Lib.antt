@@ -1,4 +1,6 @@
 pub mod Keys
+pub mod Needs
+pub mod Tableless
 pub mod Purposes
 pub mod Shards
 pub mod Kept

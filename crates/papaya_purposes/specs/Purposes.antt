@@ -26,7 +26,9 @@ use Rattle.papaya_histories.specs.Given.Executor.IsAt.{Scene}
 use Rattle.papaya_histories.specs.Given.Finishes.Maps.{Standing}
 use Rattle.papaya_histories.specs.Given.Follows.Shows.{Shows}
 use Rattle.papaya_histories.specs.Histories.{since, IsWithin}
+use Rattle.papaya_finds.specs.Reserving.{ReservesAt}
 use Rattle.papaya_purposes.specs.Keys.{KeysAt, AreKeyed}
+use Rattle.papaya_purposes.specs.Needs.{NeedsAt}
 use Rattle.papaya_named.specs.Machines.{IsBefore}
 
 -- by key, what a sweep that is a walk has come to in its map
@@ -70,22 +72,24 @@ module _ {K V : Type 0} where
     pub none : o.sweep.purpose ≡ Walks → IsBefore o.sweep.stands → o.done ≡ []
     pub keys : o.sweep.purpose ≡ Walks → KeysOf same s o
 
-  -- The table to which a reservation has come is not before this one. Where it counts, it has added up shards.
+  -- The table to which a reservation has come is not before this one. Where it has come to none, the map has counted nothing at one of these moments; and where it counts, it has added up shards.
   abbrev pub RoomAt : ℕ → List (Moment K V) → ℕ → Reserving → Type 0
   RoomAt of moments low reserving.Reads = Unit {0}
-  RoomAt of moments low (reserving.Makes making) = low ≡ 0
+  RoomAt of moments low (reserving.Makes making) = (low ≡ 0) × ((shards : ℕ) → Counts shards of moments 0)
   RoomAt of moments low (reserving.Sums table sum) = (low ≤ table.turn) × HasAdded of moments sum.setting.mask sum.stands
   RoomAt of moments low (reserving.Follows table need) = low ≤ table.turn
   RoomAt of moments low (reserving.Grows table making) = low ≤ table.turn
   RoomAt of moments low (reserving.Copies copier) = (low ≤ copier.source.turn) × (low ≤ copier.target.turn)
   RoomAt of moments low _ = ⊥
 
-  -- What a reservation has come to: to no table that was before the root at each of these moments.
+  -- What a reservation has come to: to no table that was before the root at each of these moments; and to a count, by which it makes a table that can be had, as long as it must be.
   pub record HasMet (of : ℕ) (s : Standing K) (moments : List (Moment K V)) (r : CallForRoom) : Type 0 where
     pub low : ℕ
     pub was : OneOf (λ m. first_of of m ≤ low) moments
     pub root : low ≤ s.chart.first
     pub point : RoomAt of moments low r.reserve.stands
+    pub reserves : ReservesAt of moments r.reserve r.reserve.stands
+    pub needs : NeedsAt of moments r.reserve r.reserve.stands
 
   -- what a call has come to
   abbrev pub HasCome : (K → K → Bool) → ℕ → Standing K → (ℕ → ℕ) → List (Entry K V) → Moment K V → UnderWay K V K → CallThere K V → Type 0

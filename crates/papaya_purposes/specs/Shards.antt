@@ -13,22 +13,29 @@ use Rattle.papaya_histories.specs.Given.Effects.declared.acting.Acting.TheVarian
 use Rattle.papaya_histories.specs.Given.Executor.IsAt.{Scene, IsAt}
 use Rattle.papaya_histories.specs.Given.Executor.Stepping.{StepLeads}
 use Rattle.papaya_histories.specs.Given.Executor.declared.executor.Executor.{Executor}
+use Rattle.papaya_histories.specs.Given.Finishes.Maps.{Standing}
 use Rattle.papaya_histories.specs.Given.Moments.Whole.{ShowsWhole}
+use Rattle.papaya_finds.specs.Within.{many_of}
 use Rattle.papaya_shards.specs.ShardSteps.{AddsUp}
 use Rattle.papaya_shards.specs.ShardWords.{ShowsShards, ShowsCounters}
+use Rattle.papaya_purposes.specs.Tableless.{TablelessUncounted}
 
 module _ {K V : Type 0} where
-  -- no shard of this map has changed since the last event of the log
+  -- no shard of this map has changed since the last event of the log, and they said nothing if the map has had no table
   abbrev pub NoneCounted : List (Entry K V) → Moment K V → ℕ → Type 0
-  NoneCounted log m of = (shard : ℕ) → m.shards of shard ≡ (moment log).shards of shard
+  NoneCounted log m of = ((shard : ℕ) → m.shards of shard ≡ (moment log).shards of shard) × (many_of of m ≡ 0 → (shard : ℕ) → (moment log).shards of shard ≡ 0)
+
+  -- so it is where the map stands and has had none
+  abbrev pub SaysNothing : List (Entry K V) → Scene K V → ℕ → Type 0
+  SaysNothing log s of = (standing : Standing K) → s.maps of ≡ Some standing → standing.chart.past ≡ 0 → (shard : ℕ) → (moment log).shards of shard ≡ 0
 
   -- what a call that adds shards up may read: those that the moment says, and that it said as the last event of the log ended
   abbrev pub ReadsShards : List (Entry K V) → Moment K V → Scene K V → ℕ → UnderWay K V K → Type 0
-  ReadsShards log m s of u = AddsUp u → ShowsShards m s × NoneCounted log m of
+  ReadsShards log m s of u = AddsUp u → ShowsShards m s × NoneCounted log m of × SaysNothing log s of
 
 -- The promises: as an event begins nothing has been counted in it,
 abbrev pub EventsBeginUncounted : Type 0 → Type 0 → Type 0
-EventsBeginUncounted K V = (log : List (Entry K V)) (m : Moment K V) (of : ℕ) → m.shards ≡ (moment log).shards → NoneCounted log m of
+EventsBeginUncounted K V = (log : List (Entry K V)) (m : Moment K V) (of : ℕ) → m.shards ≡ (moment log).shards → m.tables ≡ (moment log).tables → TablelessUncounted (moment log) → NoneCounted log m of
 
 module _ (K V S : Type 0) (same : K → K → Bool) (hash : K → ℕ) where
   -- and until something is, a call reads what it may; by its steps nothing is counted, if it adds shards up.

@@ -19,6 +19,7 @@ use Rattle.papaya_asks.specs.declared.computing.Computed.{Computed}
 use Rattle.papaya_asks.specs.declared.computing.Computed.TheVariants as computed
 use Rattle.papaya_asks.specs.declared.computing.Operation.{Operation}
 use Rattle.papaya_asks.specs.declared.refused.RefusedKey.{RefusedKey}
+use Rattle.papaya_owned.specs.Given.Callers.Pairs.{Given}
 use Rattle.papaya_owned.specs.Calling.{HasStopped, stop_by}
 use Rattle.papaya_owned.specs.Owned.{Holds, EndsBy}
 use Rattle.papaya_owned.specs.declared.machines.Stop.{Stop}
@@ -56,18 +57,18 @@ module _ {K V S : Type 0} (m0 m1 : Mem (Node K V)) (none : NoneCame m0 m1) (same
   abbrev HoldsWith : List (K × V) → Type 0
   HoldsWith stored = HoldsOn stored xs (held_in m0) (held_in m2)
 
-  module _ {Q : Type 0} (asks : Q → K → Bool) where
+  module _ {Q : Type 0} (asks : Q → K → Bool) (its_class : K → Bool) (its_given : Given K V) where
     abbrev Stopped : Result Stop Fault → Type 0
-    Stopped = HasStopped asks same hashes b setting m1 m2
+    Stopped = HasStopped asks same hashes b setting m1 its_class its_given m2
 
     answered : (answer : KeyAnswer) → Stopped (Ok (stop.Answered answer)) → HoldsWith (pair_at_word m2 (stored_by answer))
-    answered answer ran = call_holds_on m0 m1 none same hashes b setting xs h m2 asks answer ran
+    answered answer ran = call_holds_on m0 m1 none same hashes b setting xs h m2 asks its_class its_given answer ran
 
     answered_met : (answer : KeyAnswer) → Stopped (Ok (stop.Answered answer)) → HoldsWith (stored_as (changed_by answer) (pair_in m2 (words_of answer).met))
     answered_met answer ran = subst HoldsWith (sym (stored_met m2 answer)) (answered answer ran)
 
     pub refused : (result : Result Stop Fault) (fault : Fault) → result ≡ Err fault → Stopped result → HoldsWith []
-    refused result fault is ran = refused_holds_on m0 m1 none same hashes b setting xs h m2 asks fault (subst Stopped is ran)
+    refused result fault is ran = refused_holds_on m0 m1 none same hashes b setting xs h m2 asks its_class its_given fault (subst Stopped is ran)
 
     -- by what it has done
     module _ {E : Type 0} (fault_of : E → Fault) where

@@ -76,16 +76,18 @@ module _ {K V S : Type 0} (same : K → K → Bool) (hashes : S → K → ℕ) (
 -- it has stopped so
 module _ {K V S : Type 0} (same : K → K → Bool) (hashes : S → K → ℕ) (b : Bor S) (setting : Setting) (m : Mem (Node K V)) (key : K) (value : V) where
   begins_calling : (kind : Kind) (call : KeyCall K V K) → StoresPair (hashes b.now) setting key value kind call
-      → IsCalling {Q = K} same same hashes b setting m (record { call = call; hasher = b; unstored = None }) m
+      → IsCalling {Q = K} same same hashes b setting m (same key) (Begun kind (Some (node.Pair key value))) (record { call = call; hasher = b; unstored = None }) m
   begins_calling kind call (inl (is_kind, is)) =
-      subst (λ (c : KeyCall K V K). IsCalling {Q = K} same same hashes b setting m (record { call = c; hasher = b; unstored = None }) m) (sym is)
-      (begun (same key) (Begun inserts (Some (node.Pair key value))) (inserting setting (hashes b.now key) key value) (Inserts key value))
+      subst (λ (k : Kind). IsCalling {Q = K} same same hashes b setting m (same key) (Begun k (Some (node.Pair key value))) (record { call = call; hasher = b; unstored = None }) m) (sym is_kind)
+      (subst (λ (c : KeyCall K V K). IsCalling {Q = K} same same hashes b setting m (same key) (Begun inserts (Some (node.Pair key value))) (record { call = c; hasher = b; unstored = None }) m) (sym is)
+      (begun (inserting setting (hashes b.now key) key value) (Inserts key value)))
   begins_calling kind call (inr (is_kind, is)) =
-      subst (λ (c : KeyCall K V K). IsCalling {Q = K} same same hashes b setting m (record { call = c; hasher = b; unstored = None }) m) (sym is)
-      (begun (same key) (Begun tries_to_insert (Some (node.Pair key value))) (trying_to_insert setting (hashes b.now key) key value) (TriesToInsert key value))
+      subst (λ (k : Kind). IsCalling {Q = K} same same hashes b setting m (same key) (Begun k (Some (node.Pair key value))) (record { call = call; hasher = b; unstored = None }) m) (sym is_kind)
+      (subst (λ (c : KeyCall K V K). IsCalling {Q = K} same same hashes b setting m (same key) (Begun tries_to_insert (Some (node.Pair key value))) (record { call = c; hasher = b; unstored = None }) m) (sym is)
+      (begun (trying_to_insert setting (hashes b.now key) key value) (TriesToInsert key value)))
 
   pub insertion_ran : (kind : Kind) (call : KeyCall K V K) → StoresPair (hashes b.now) setting key value kind call → (x : OnKey K V K S) (m2 : Mem (Node K V)) (result : Result Stop Fault)
-      → RunsTo (on_key_plan {Q = K} same same hashes) (record { call = call; hasher = b; unstored = None }) m x m2 result → HasStopped {Q = K} same same hashes b setting m m2 result
+      → RunsTo (on_key_plan {Q = K} same same hashes) (record { call = call; hasher = b; unstored = None }) m x m2 result → HasStopped {Q = K} same same hashes b setting m (same key) (Begun kind (Some (node.Pair key value))) m2 result
   insertion_ran kind call stores x m2 result runs = (record { call = call; hasher = b; unstored = None }, m, begins_calling kind call stores, x, runs)
 
 module _ {K V : Type 0} (same : K → K → Bool) (hash : K → ℕ) (setting : Setting) (m : Mem (Node K V)) (keys : K → Bool) (xs : List (K × V)) (key : K) (value : V) where

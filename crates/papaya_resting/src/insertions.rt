@@ -6,6 +6,7 @@ ghost use Rattle.papaya_owned.specs.Given.Shown.Chain.{CannotGrowIn};
 ghost use Rattle.seize_words.specs.declared.fault.Fault.TheVariants.{Capacity};
 ghost use Rattle.papaya_tables.specs.declared.node.Node.TheVariants as node;
 ghost use Rattle.papaya_holds.specs.Held.{HoldsOn, held_in};
+ghost use Rattle.papaya_owned.specs.Given.Callers.Pairs.{Begun};
 ghost use Rattle.papaya_owned.specs.Calling.{HasStopped};
 ghost use Rattle.papaya_owned.specs.Owned.{Holds, EndsBy, ComesBack, found_by, hashed_by, left_by};
 ghost use Rattle.papaya_resting.specs.Storing.{storing};
@@ -40,7 +41,7 @@ fn store<K: Eq + Hash + Drop, V: Drop, S: BuildHasher>(
     ensures back { (xs : List (K × V)) (kind : Kind) (k : K) (v : V) → Holds K.eq (hashed_by S.Hasher.finish S.Hasher.write S.build_hasher K.hash_input hasher.now) setting memory.old xs
         → StoresPair (hashed_by S.Hasher.finish S.Hasher.write S.build_hasher K.hash_input hasher.now) setting k v kind (storing setting hasher.entry hash there key value).call → ComesBack (Some (node.Pair k v)) result.0 result.1 }
     ensures ran { (kind : Kind) (k : K) (v : V) → StoresPair (hashed_by S.Hasher.finish S.Hasher.write S.build_hasher K.hash_input hasher.now) setting k v kind (storing setting hasher.entry hash there key value).call
-        → HasStopped K.eq K.eq (hashed_by S.Hasher.finish S.Hasher.write S.build_hasher K.hash_input) hasher.entry setting memory.old memory.new result.0 }
+        → HasStopped K.eq K.eq (hashed_by S.Hasher.finish S.Hasher.write S.build_hasher K.hash_input) hasher.entry setting memory.old (K.eq k) (Begun kind (Some (node.Pair k v))) memory.new result.0 }
 {
     crate::storing::store(memory, setting, hasher, hash, there, key, value)
 }

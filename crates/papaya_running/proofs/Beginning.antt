@@ -1,22 +1,25 @@
 -- Before all events a scheduler is as events ask of it, whatever was chosen of numbers of blocks.
-use Rattle.std.specs.Prelude.{◌≡◌, ◌<◌, ◌≤◌, ◌^◌, ℕ, Bool, List, [], length, Option, None, Some, min, slice_get, slice_index_or}
+use Rattle.std.specs.Prelude.{◌≡◌, ◌<◌, ◌≤◌, ◌^◌, ℕ, Bool, List, [], ◌∷◌, length, Option, None, Some, min, slice_get, slice_index_or, map}
 use Rattle.std.proofs.Common.{refl, sym, ap, subst, ◌∙◌, inr, arith, inl}
-use Rattle.seize_words.specs.Mem.{Mem, word_at}
-use Rattle.seize_words.specs.SlotWords.{slot_word}
-use Rattle.seize_words.specs.declared.at.At.TheVariants.{Root, Used}
 use Rattle.papaya_histories.specs.Given.Seize.declared.states.TheConstants.{HEAD}
 use Rattle.papaya_histories.specs.Given.Tables.declared.node.Node.{Node}
 use Rattle.papaya_histories.specs.Given.Points.Steps.{AreLawful}
 use Rattle.papaya_histories.proofs.Given.Points.Making.OwnTables.{zero_at}
 use Rattle.papaya_histories.proofs.Given.Moments.NewMaps.{pairs_begin}
 use Rattle.papaya_histories.proofs.Given.Moments.Numbers.{numbers_begin}
-use Rattle.papaya_schedules.specs.Moment.{start}
-use Rattle.papaya_schedules.specs.Terms.{Terms}
-use Rattle.papaya_effects.specs.Known.{Known, known}
 use Rattle.papaya_histories.specs.Given.Seize.World.{Chooses, World}
 use Rattle.papaya_histories.specs.Given.Tables.Nodes.{deferred_word}
 use Rattle.papaya_histories.specs.Given.Tables.declared.setting.Setting.{Setting}
 use Rattle.papaya_histories.specs.Given.Executor.IsAt.{at_first}
+use Rattle.seize_words.specs.Mem.{Mem, word_at}
+use Rattle.seize_words.specs.SlotWords.{slot_word}
+use Rattle.seize_words.specs.declared.at.At.TheVariants.{Root, Used}
+use Rattle.seize_words.specs.Mem.{Mem, word_at}
+use Rattle.seize_words.specs.SlotWords.{slot_word}
+use Rattle.seize_words.specs.declared.at.At.TheVariants.{Root, Used}
+use Rattle.papaya_schedules.specs.Moment.{start}
+use Rattle.papaya_schedules.specs.Terms.{Terms}
+use Rattle.papaya_effects.specs.Known.{Known, known}
 use Rattle.papaya_models.specs.Turns.{CameByTurns}
 use Rattle.papaya_models.proofs.Turns.{events_follow, turns_begin}
 use Rattle.papaya_legal.proofs.Come.{nothing_has_come}
@@ -33,8 +36,10 @@ use Rattle.papaya_scheduler.specs.Reclaiming.{MayGiveAll}
 use Rattle.papaya_scheduler.specs.declared.scheduler.Given.{Given}
 use Rattle.papaya_scheduler.specs.declared.scheduler.Scheduler.{Scheduler}
 use Rattle.papaya_scheduler.proofs.Chosen.{stands_chosen}
+use Rattle.papaya_named.specs.Seen.{seen, seen_of}
+use Rattle.papaya_named.specs.declared.caller.Caller.{Caller}
 use Rattle.papaya_running.specs.Asked.{Holds}
-use Rattle.papaya_running.specs.OfCalls.{HaveShards, Runs}
+use Rattle.papaya_running.specs.OfCalls.{HaveShards, HaveValues, Runs}
 use Rattle.papaya_running.specs.Run.{bounded}
 use Rattle.papaya_running.proofs.OfCalls.Scenes.{its_named, stands_in}
 
@@ -139,12 +144,18 @@ module _ {K V S : Type 0} (same : K → K → Bool) (hash : K → ℕ) (given : 
   no_shards : HaveShards (terms_given given) p.logged.executor
   no_shards n setting is = absurd (let none = ap (λ (xs : List (Option Setting)). slice_index_or xs n None) begins.begun.maps in cc (none, is))
 
+  -- no call is under way
+  no_values : (calls : List (Caller V)) → map seen (start {K = K} {V = V}).calls ≡ map seen_of calls → HaveValues (start {K = K} {V = V}) (record (at_first given.setup.roots) { world = first.world }) calls
+  no_values [] alike = tt
+  no_values (d ∷ calls) alike = absurd (cc alike)
+
   pub first_runs : Runs same hash (terms_given given) [] p
   first_runs = record {
     stands = stands_in same hash (terms_given given) start p stands stands.name (record (at_first given.setup.roots) { world = first.world }) (first.shown stands.name)
         (its_named same hash (terms_given given) start p stands);
     shows = runs_begin_in K V same (terms_given given) stands.name (known p.logged.notes) first.world (first.shown stands.name).shows (first.shown stands.name).kept first.came;
     come = nothing_has_come K V;
+    values = no_values p.calls.items.items stands.calls.listed;
     size = begins.begun.batches;
     shards = no_shards;
     reached = inl refl;

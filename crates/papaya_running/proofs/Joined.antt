@@ -74,7 +74,7 @@ module _ {K V S : Type 0} (same : K → K → Bool) (hash : K → ℕ) (is_first
       right = (it.plays asked.right).right
 
       by : (p q : Bool) → is_of_calls its ≡ p → is_of_rows its ≡ q → RunsOn same hash terms log e new
-      by true q is of_rows = calls is terms log runs (record { right = right; but = asked.calls is })
+      by true q is of_rows = calls is terms log runs right
       by false true is of_rows =
           rows of_rows terms log holds runs it.played right (not_begun its played.outcome played.effects.items old new asked.made)
       by false false is of_rows = setups (is_setup its none is of_rows) terms log runs it.played right

@@ -1,7 +1,6 @@
 -- Events that reclaim all keep their promises, and a run goes on with them.
-use Rattle.std.specs.Prelude.{◌≡◌, ◌≤◌, ◌⊎◌, ◌<◌, ◌^◌, nat_lt, ℕ, suc, Bool, true, false, List, [], ◌∷◌, None, Result, Ok, Err, IfOk, slice_index_or, if◌then◌else◌}
+use Rattle.std.specs.Prelude.{◌≡◌, ◌⊎◌, ◌<◌, ◌^◌, nat_lt, ℕ, suc, Bool, true, false, List, [], ◌∷◌, None, Result, Ok, Err, IfOk, slice_index_or, if◌then◌else◌, ◌≤◌}
 use Rattle.std.proofs.Common.{refl, ap, sym, subst, inl, inr, ◌∙◌, arith}
-use Rattle.seize_words.specs.declared.fault.Fault.TheVariants.{Busy}
 use Rattle.papaya_histories.specs.Given.Seize.ReclaimAll.{clearing, reclaiming_all}
 use Rattle.papaya_histories.specs.Given.Seize.World.{World}
 use Rattle.papaya_histories.specs.Given.Seize.declared.rows.reclaim_all.ReclaimAll.{ReclaimAll}
@@ -9,6 +8,8 @@ use Rattle.papaya_histories.specs.Given.Seize.declared.rows.settle.Settled.TheVa
 use Rattle.papaya_histories.specs.Given.Tables.declared.node.Node.{Node}
 use Rattle.papaya_histories.specs.Given.Executor.IsAt.{Scene, IsAt}
 use Rattle.papaya_histories.specs.Given.Finishes.Makings.{IsFreeRoot}
+use Rattle.seize_words.specs.declared.fault.Fault.TheVariants.{Busy}
+use Rattle.seize_words.specs.declared.fault.Fault.TheVariants.{Busy}
 use Rattle.papaya_schedules.specs.declared.event.Event.{Event}
 use Rattle.papaya_schedules.specs.declared.event.Event.TheVariants as events
 use Rattle.papaya_schedules.specs.declared.outcome.Outcome.{Outcome}
@@ -43,10 +44,11 @@ use Rattle.papaya_scheduler.specs.declared.played.Played.{Played}
 use Rattle.papaya_scheduler.specs.declared.scheduler.Scheduler.{Scheduler}
 use Rattle.papaya_mapping.proofs.AllGiven.{may_reclaim, nobody_has}
 use Rattle.papaya_scheduler.proofs.Rights.{entry, entry_is}
+use Rattle.papaya_running.proofs.OfCalls.Worth.{have_values_then, nobody_says}
 use Rattle.papaya_running.specs.Asked.{Holds, is_of_calls, is_of_maps}
 use Rattle.papaya_running.specs.OfAll.{KeepsAll}
+use Rattle.papaya_running.specs.OfCalls.{HaveValues, Runs, RunsOn}
 use Rattle.papaya_works.proofs.Reached.{all_note_more}
-use Rattle.papaya_running.specs.OfCalls.{Runs, RunsOn}
 use Rattle.papaya_running.proofs.OfAll.Behind.{behind_so}
 use Rattle.papaya_running.proofs.OfAll.Chain.{AllComes, all_back, all_come, all_comes, is_over, leads, over_there, step_so, then_now, then_scene}
 use Rattle.papaya_running.proofs.OfCalls.Scenes.{AreNamed, its_named, stands_in}
@@ -66,8 +68,8 @@ module _ {K V : Type 0} where
 
   -- out of turn it changes nothing
   busy_still : (log : List (Entry K V)) (w : World (Node K V)) (event : Event K V) → gives_all event ≡ true → (steps : ℕ) → IsStill log w (entry event (Refused Busy) steps [])
-  busy_still log w events.ReclaimAll of_all steps = record { caller = refl; changes = refl; left = refl; enters = tt; whole = refl; leaves = tt; reclaims = tt }
-  busy_still log w events.Close of_all steps = record { caller = refl; changes = refl; left = refl; enters = tt; whole = refl; leaves = tt; reclaims = tt }
+  busy_still log w events.ReclaimAll of_all steps = record { caller = refl; no_call = refl; changes = refl; left = refl; enters = tt; whole = refl; leaves = tt; reclaims = tt }
+  busy_still log w events.Close of_all steps = record { caller = refl; no_call = refl; changes = refl; left = refl; enters = tt; whole = refl; leaves = tt; reclaims = tt }
   busy_still log w _ of_all steps = absurd (cc of_all)
 
   -- kept out it is refused as busy
@@ -151,7 +153,7 @@ module _ {K V S : Type 0} (same : K → K → Bool) (hash : K → ℕ) (terms : 
     end = (far played.effects.items new.logged, ran.4)
 
     y : AllComes same hash terms 0 s ran.3.0 (all_come (far [] old.logged, first) m s behind) mid
-    y = all_comes same hash terms 0 s ran.3.0 (far [] old.logged, first) mid m s behind under roots_are run.size (λ k. refl) ran.3.1
+    y = all_comes same hash terms 0 s ran.3.0 (far [] old.logged, first) mid m s behind under roots_are run.size refl (λ k. refl) ran.3.1
 
     abbrev to : AllCome K V S
     to = all_come mid y.now y.scene y.lists
@@ -211,6 +213,11 @@ module _ {K V S : Type 0} (same : K → K → Bool) (hash : K → ℕ) (terms : 
         by r (inl root) = inl (inl root)
         by r (inr free) = inr free
 
+    values : HaveValues (moment (e ∷ log)) last_scene new.calls.items.items
+    values =
+        subst (λ (c : Callers V). HaveValues (moment (e ∷ log)) last_scene c.items.items) (sym calls)
+        (have_values_then m (moment (e ∷ log)) (nobody_says e m (busy_still log s.world event of_all 0).no_call) s last_scene y.calls old.calls.items.items run.values)
+
     -- no bucket of slots is forgotten
     grows : (known old.logged.notes).buckets ≤ (known new.logged.notes).buckets
     grows = all_note_more same hash terms (known old.logged.notes) 0 (suc ran.3.0) (all_come (far [] old.logged, first) m s behind) over (to, y.chain, last) (omega arith)
@@ -230,6 +237,7 @@ module _ {K V S : Type 0} (same : K → K → Bool) (hash : K → ℕ) (terms : 
               stands = stands_in same hash terms (moment (e ∷ log)) new so name last_scene shown named;
               shows = its.2;
               come = events_bring_things K V terms log e run.come its.0.life.finds;
+              values = values;
               size = ran.5.0.given.1 ∙ y.size;
               shards = λ n setting is. run.shards n setting (sym (stood n) ∙ is);
               reached = reached_after same hash terms log e old new right so grows run.reached;

@@ -10,6 +10,31 @@ use Rattle.papaya_histories.specs.Given.Runs.Same.{is_same}
 use Rattle.papaya_histories.specs.Given.Tables.Chunks.{is_incremental}
 use Rattle.papaya_histories.specs.Given.Tables.declared.node.Node.{Node}
 use Rattle.papaya_histories.proofs.Given.Callers.Together.At.{at_other, at_same}
+use Rattle.papaya_histories.specs.Given.Executor.Ending.{EndingLeads, NoCallOn, ending_begun}
+use Rattle.papaya_histories.specs.Given.Executor.IsAt.{Scene, IsAt}
+use Rattle.papaya_histories.specs.Given.Executor.declared.executor.Executor.{Executor}
+use Rattle.papaya_histories.specs.Given.Finishes.Endings.{Finishing, finishing_of}
+use Rattle.papaya_histories.specs.Given.Finishes.FactsEnds.{taken_by as taken_of}
+use Rattle.papaya_histories.specs.Given.Finishes.Maps.{Standing}
+use Rattle.papaya_histories.specs.Given.Finishes.Orders.{pairs_of}
+use Rattle.papaya_histories.specs.Given.Rule.Chart.{Chart}
+use Rattle.papaya_histories.specs.Given.Moments.Endings.{IsOfIts}
+use Rattle.papaya_histories.specs.Given.Moments.WholeEnds.{all_ended, tables_ended}
+use Rattle.papaya_histories.specs.Given.Others.Endings.{ending_after}
+use Rattle.papaya_histories.specs.Given.Executor.Ending.{EndingLeads, NoCallOn, ending_begun}
+use Rattle.papaya_histories.specs.Given.Executor.IsAt.{Scene, IsAt}
+use Rattle.papaya_histories.specs.Given.Executor.declared.executor.Executor.{Executor}
+use Rattle.papaya_histories.specs.Given.Finishes.Endings.{Finishing, finishing_of}
+use Rattle.papaya_histories.specs.Given.Finishes.FactsEnds.{taken_by as taken_of}
+use Rattle.papaya_histories.specs.Given.Finishes.Maps.{Standing}
+use Rattle.papaya_histories.specs.Given.Finishes.Orders.{pairs_of}
+use Rattle.papaya_histories.specs.Given.Rule.Chart.{Chart}
+use Rattle.papaya_histories.specs.Given.Rule.InWorld.{IsMapIn}
+use Rattle.papaya_histories.proofs.Given.Rule.Laws.{current_is_known}
+use Rattle.papaya_histories.specs.Given.Follows.Maps.{ShowsMap}
+use Rattle.papaya_histories.specs.Given.Moments.Endings.{IsOfIts}
+use Rattle.papaya_histories.specs.Given.Moments.WholeEnds.{all_ended, tables_ended}
+use Rattle.papaya_histories.specs.Given.Others.Endings.{ending_after}
 use Rattle.papaya_schedules.specs.declared.effect.Effect.{Effect}
 use Rattle.papaya_schedules.specs.declared.effect.Effect.TheVariants.{Ended}
 use Rattle.papaya_schedules.specs.declared.event.Event.{Event}
@@ -27,21 +52,7 @@ use Rattle.papaya_schedules.specs.Views.{map_at, map_of, number_of}
 use Rattle.papaya_effects.specs.Effects.{effects_of, known_after}
 use Rattle.papaya_effects.specs.Known.{Known, known}
 use Rattle.papaya_effects.specs.declared.acting.Acting.TheVariants as acts
-use Rattle.papaya_histories.specs.Given.Executor.Ending.{EndingLeads, NoCallOn, ending_begun}
-use Rattle.papaya_histories.specs.Given.Executor.IsAt.{Scene, IsAt}
-use Rattle.papaya_histories.specs.Given.Executor.declared.executor.Executor.{Executor}
-use Rattle.papaya_histories.specs.Given.Finishes.Endings.{Finishing, finishing_of}
-use Rattle.papaya_histories.specs.Given.Finishes.FactsEnds.{taken_by as taken_of}
-use Rattle.papaya_histories.specs.Given.Finishes.Maps.{Standing}
-use Rattle.papaya_histories.specs.Given.Finishes.Orders.{pairs_of}
-use Rattle.papaya_histories.specs.Given.Rule.Chart.{Chart}
-use Rattle.papaya_histories.specs.Given.Rule.InWorld.{IsMapIn}
-use Rattle.papaya_histories.proofs.Given.Rule.Laws.{current_is_known}
-use Rattle.papaya_histories.specs.Given.Follows.Maps.{ShowsMap}
 use Rattle.papaya_effects.specs.declared.role.Role.TheVariants as role
-use Rattle.papaya_histories.specs.Given.Moments.Endings.{IsOfIts}
-use Rattle.papaya_histories.specs.Given.Moments.WholeEnds.{all_ended, tables_ended}
-use Rattle.papaya_histories.specs.Given.Others.Endings.{ending_after}
 use Rattle.papaya_executor.proofs.Fresh.{no_ending_yet}
 use Rattle.papaya_legal.proofs.Come.{events_bring_things}
 use Rattle.papaya_legal.specs.CallEvents.{IsLegalBut}
@@ -69,11 +80,12 @@ use Rattle.papaya_mapping.proofs.MapsEnded.{here as ending_here, no_call, no_oth
 use Rattle.papaya_mapping.proofs.MapLists.{by_recursion}
 use Rattle.papaya_scheduler.proofs.Maps.{number_is}
 use Rattle.papaya_scheduler.proofs.Rights.{entry, entry_is}
+use Rattle.papaya_running.proofs.OfCalls.Worth.{have_values_then, nobody_says}
+use Rattle.papaya_running.specs.Asked.{Holds}
+use Rattle.papaya_running.specs.OfCalls.{HaveShards, HaveValues, Runs, RunsOn}
+use Rattle.papaya_running.specs.OfRows.{KeepsRun}
 use Rattle.papaya_works.proofs.Ends.{ends_find_all}
 use Rattle.papaya_works.proofs.Reached.{ends_note_more}
-use Rattle.papaya_running.specs.Asked.{Holds}
-use Rattle.papaya_running.specs.OfCalls.{HaveShards, Runs, RunsOn}
-use Rattle.papaya_running.specs.OfRows.{KeepsRun}
 use Rattle.papaya_running.proofs.OfCalls.Scenes.{AreNamed, its_named, stands_in}
 use Rattle.papaya_running.proofs.OfRows.Chain.{come_as, come_by}
 use Rattle.papaya_running.proofs.OfRows.Lone.{alone_follows}
@@ -108,6 +120,12 @@ module _ {K V S : Type 0} (same : K → K → Bool) (hash : K → ℕ) (s : Scen
   maps_stand (settled.Gave value) leads = refl
   maps_stand settled.Done leads = refl
 
+  calls_stand : (said : Settled (Node K V)) (leads : Leads said) → (next_scene said leads).calls ≡ s.calls
+  calls_stand settled.Goes leads = refl
+  calls_stand settled.Waits leads = absurd (leads f here).3
+  calls_stand (settled.Gave value) leads = refl
+  calls_stand settled.Done leads = refl
+
   -- once it is over it is under way no more,
   ends_over : (said : Settled (Node K V)) (leads : Leads said) → is_done said ≡ true → (next_scene said leads).enders i ≡ None
   ends_over settled.Done leads over = at_same s.enders i None i refl
@@ -139,6 +157,7 @@ module _ {K V S : Type 0} (same : K → K → Bool) (hash : K → ℕ) (terms : 
     pub midst : InEndEvent same name terms log (EndMap own) map (moment log) before i f.effects now (known f.logged.notes) scene
     pub made : now.made ≡ (moment log).made
     pub maps : scene.maps ≡ stood
+    pub calls : scene.calls ≡ x.scene.calls
     pub counted : IsCounted now f.logged scene
 
   -- and it is under way, of this map
@@ -198,6 +217,7 @@ module _ {K V S : Type 0} (same : K → K → Bool) (hash : K → ℕ) (terms : 
       midst = ends_chain K V S same hash name terms log (EndMap own) i map (moment log) before 1 (come_by mid y.now y.scene) (come_by to w next) (come_by mid y.now y.scene, refl, one) y.midst;
       made = made_stays None (Some map) step_did y.now ∙ y.made;
       maps = maps_stand same hash y.scene mid.logged.executor to.logged.executor i it.0 it.1 step.said leads ∙ y.maps;
+      calls = calls_stand same hash y.scene mid.logged.executor to.logged.executor i it.0 it.1 step.said leads ∙ y.calls;
       counted = counted_end_steps same hash mid.logged to.logged.executor to.logged.notes step.is_noted.given y.now y.scene y.is_at y.counted i map step.said leads it.0 it.1 step.is_noted.noted first
           (taken_of (leads it.0 it.1).2.deed) did_its
           (endings_note_left same hash name y.now (known mid.logged.notes) y.scene mid.logged.executor to.logged.executor y.is_at y.midst.0.calls.whole i map step.said leads it.0 it.1 no_map);
@@ -318,7 +338,7 @@ module _ {K V S : Type 0} (same : K → K → Bool) (hash : K → ℕ) (terms : 
 
     first : Midway same hash terms name log own i map (known old.logged.notes) number first_noted s1.maps gone below 0 x (far [] d.began)
     first = (
-      record { now = m; scene = s1; chain = refl; is_at = at1; size = d.stays.1 ∙ run.size; midst = midst; made = refl; maps = refl; counted = (begun none_on).4.counted },
+      record { now = m; scene = s1; chain = refl; is_at = at1; size = d.stays.1 ∙ run.size; midst = midst; made = refl; maps = refl; calls = refl; counted = (begun none_on).4.counted },
       (finishing_of standing s.world, at_same s.enders i (Some (finishing_of standing s.world)) i refl, (begun none_on).3.1, λ b none. refl),
     )
 
@@ -415,6 +435,11 @@ module _ {K V S : Type 0} (same : K → K → Bool) (hash : K → ℕ) (terms : 
         by (inl one) = absurd (let none = ap (option_map (λ (st : Standing K). st.setting)) (at_same s.maps map None n one) in cc (none, now_is))
         by (inr ne) = run.shards n setting (sym (run.stands.shown.is_at.maps n) ∙ sym (ap (option_map (λ (st : Standing K). st.setting)) (at_other s.maps map None n ne)) ∙ now_is)
 
+    values : HaveValues (moment (e ∷ log)) y.scene new.calls.items.items
+    values =
+        subst (λ (c : Callers V). HaveValues (moment (e ∷ log)) y.scene c.items.items) (sym calls)
+        (have_values_then m (moment (e ∷ log)) (nobody_says e m refl) s y.scene y.calls old.calls.items.items run.values)
+
     -- no bucket of slots is forgotten
     grows : (known old.logged.notes).buckets ≤ (known new.logged.notes).buckets
     grows =
@@ -434,6 +459,7 @@ module _ {K V S : Type 0} (same : K → K → Bool) (hash : K → ℕ) (terms : 
             }) named;
         shows = (it right).1;
         come = events_bring_things K V terms log e run.come (it right).0.life.finds;
+        values = values;
         size = y.size;
         shards = shards;
         reached = reached_after same hash terms log e old new right so grows run.reached;

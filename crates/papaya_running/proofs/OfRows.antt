@@ -4,6 +4,22 @@ use Rattle.std.specs.List.{list_all}
 use Rattle.std.proofs.Common.{refl, ap, sym, subst, inl, inr, ◌∙◌, arith}
 use Rattle.papaya_histories.specs.Given.Seize.World.{Begin, IsInside, Rests}
 use Rattle.papaya_histories.specs.Given.Tables.declared.node.Node.{Node}
+use Rattle.papaya_histories.specs.Given.Executor.IsAt.{Scene, slot_of}
+use Rattle.papaya_histories.specs.Given.Executor.OnSlots.{MayBegin, RowBegins}
+use Rattle.papaya_histories.specs.Given.Executor.Rows.{request_of}
+use Rattle.papaya_histories.specs.Given.Executor.declared.row.RowTold.{RowTold}
+use Rattle.papaya_histories.specs.Given.Executor.declared.row.SlotCall.{SlotCall}
+use Rattle.papaya_histories.specs.Given.Others.Rows.{scene_then}
+use Rattle.papaya_histories.proofs.Given.Spots.Unreclaimed.{and_both, or_right}
+use Rattle.papaya_histories.specs.Given.SeizeWords.declared.fault.Fault.TheVariants.{Busy}
+use Rattle.papaya_histories.specs.Given.Executor.IsAt.{Scene, slot_of}
+use Rattle.papaya_histories.specs.Given.Executor.OnSlots.{MayBegin, RowBegins}
+use Rattle.papaya_histories.specs.Given.Executor.Rows.{request_of}
+use Rattle.papaya_histories.specs.Given.Executor.declared.row.RowTold.{RowTold}
+use Rattle.papaya_histories.specs.Given.Executor.declared.row.SlotCall.{SlotCall}
+use Rattle.papaya_histories.specs.Given.Executor.declared.row.SlotCall.TheVariants as call
+use Rattle.papaya_histories.specs.Given.Others.Rows.{scene_then}
+use Rattle.papaya_histories.proofs.Given.Spots.Unreclaimed.{and_both, or_right}
 use Rattle.papaya_schedules.specs.declared.effect.Effect.{Effect}
 use Rattle.papaya_schedules.specs.declared.event.Event.{Event}
 use Rattle.papaya_schedules.specs.declared.event.Event.TheVariants.{DropGuard, Enter, Flush, Own, Refresh, Register, Unregister}
@@ -23,14 +39,6 @@ use Rattle.papaya_runs.specs.Present.{Present}
 use Rattle.papaya_schedules.specs.Terms.{Terms}
 use Rattle.papaya_effects.specs.Known.{known}
 use Rattle.papaya_effects.specs.declared.notes.Notes.{Notes}
-use Rattle.papaya_histories.specs.Given.Executor.IsAt.{Scene, slot_of}
-use Rattle.papaya_histories.specs.Given.Executor.OnSlots.{MayBegin, RowBegins}
-use Rattle.papaya_histories.specs.Given.Executor.Rows.{request_of}
-use Rattle.papaya_histories.specs.Given.Executor.declared.row.RowTold.{RowTold}
-use Rattle.papaya_histories.specs.Given.Executor.declared.row.SlotCall.{SlotCall}
-use Rattle.papaya_histories.specs.Given.Executor.declared.row.SlotCall.TheVariants as call
-use Rattle.papaya_histories.specs.Given.Others.Rows.{scene_then}
-use Rattle.papaya_histories.proofs.Given.Spots.Unreclaimed.{and_both, or_right}
 use Rattle.papaya_promises.specs.Others.{SparesGuards}
 use Rattle.papaya_promises.specs.Protected.{is_of_slots, there_in}
 use Rattle.papaya_models.specs.OnSlots.{IsRowFor}
@@ -55,13 +63,14 @@ use Rattle.papaya_named.specs.declared.caller.Callers.{Callers}
 use Rattle.papaya_scheduler.specs.declared.played.Played.{Played}
 use Rattle.papaya_scheduler.specs.declared.scheduler.Scheduler.{Scheduler}
 use Rattle.papaya_scheduler.proofs.Rights.{entry, entry_is}
+use Rattle.papaya_running.proofs.OfCalls.Worth.{have_values_then, nobody_says}
+use Rattle.papaya_running.specs.OfCalls.{HaveShards, HaveValues, Runs, RunsOn}
+use Rattle.papaya_running.specs.OfRows.{KeepsRun, is_of_rows}
 use Rattle.papaya_scheduler.proofs.Vacancies.{first_is, none_on_vacant}
 use Rattle.papaya_works.specs.Rows.{may_row}
 use Rattle.papaya_works.proofs.Mays.{rows_do_theirs}
 use Rattle.papaya_works.proofs.Needs.{none_need, reclaiming_asks_none, registers_need}
 use Rattle.papaya_works.proofs.Reached.{rows_note_more}
-use Rattle.papaya_running.specs.OfCalls.{HaveShards, Runs, RunsOn}
-use Rattle.papaya_running.specs.OfRows.{KeepsRun, is_of_rows}
 use Rattle.papaya_running.proofs.OfCalls.Scenes.{AreNamed, its_named, stands_in}
 use Rattle.papaya_running.proofs.OfRows.Chain.{RowComes, come_by, rows_come}
 use Rattle.papaya_running.proofs.OfRows.Facts.{RowFacts, facts}
@@ -75,7 +84,7 @@ pub mod Facts
 pub mod Quiet
 pub mod Kept
 pub mod Lone
-mod May
+pub mod May
 
 module _ {K V : Type 0} where
   -- such an event works on slots, speaks of no call, and does not reclaim everything
@@ -255,6 +264,11 @@ module _ {K V S : Type 0} (same : K → K → Bool) (hash : K → ℕ) (terms : 
     shards : HaveShards terms new.logged.executor
     shards n setting is = run.shards n setting (sym (run.stands.shown.is_at.maps n) ∙ sym (f.led.settings n) ∙ f.led.at.maps n ∙ is)
 
+    values : HaveValues (moment (e ∷ log)) y.scene new.calls.items.items
+    values =
+        subst (λ (c : Callers V). HaveValues (moment (e ∷ log)) y.scene c.items.items) (sym calls)
+        (have_values_then m (moment (e ∷ log)) (nobody_says e m (refused_still log s.world event of Busy 0).no_call) s y.scene y.calls old.calls.items.items run.values)
+
     row_keeps : RunsOn same hash terms log e new
     row_keeps = record {
       legal = it.0;
@@ -262,6 +276,7 @@ module _ {K V S : Type 0} (same : K → K → Bool) (hash : K → ℕ) (terms : 
         stands = stands_in same hash terms (moment (e ∷ log)) new after name y.scene shown named;
         shows = it.1;
         come = events_bring_things K V terms log e run.come it.0.life.finds;
+        values = values;
         size = y.size;
         shards = shards;
         reached = reached_after same hash terms log e old new right after grows run.reached;

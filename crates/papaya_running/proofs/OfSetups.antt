@@ -1,10 +1,10 @@
 -- An event that sets something up, shows the tables of a map, or forgets a guard keeps its promises, and the run goes on with it.
 use Rattle.std.specs.Prelude.{◌≡◌, ℕ, Bool, true, false, List, [], ◌∷◌, Result, Ok, Err, IfOk}
 use Rattle.std.proofs.Common.{refl, sym, ap, subst, ◌∙◌}
-use Rattle.seize_words.specs.declared.fault.Fault.TheVariants.{Busy}
 use Rattle.papaya_histories.specs.Given.Seize.World.{World}
 use Rattle.papaya_histories.specs.Given.Tables.declared.node.Node.{Node}
 use Rattle.papaya_histories.specs.Given.Executor.IsAt.{Scene}
+use Rattle.seize_words.specs.declared.fault.Fault.TheVariants.{Busy}
 use Rattle.papaya_schedules.specs.declared.event.Event.{Event}
 use Rattle.papaya_schedules.specs.declared.event.Event.TheVariants.{Begin, Choose, Collector, Forget, Go, Hash, Next, OneCall, Replied, ShowShape, Step, Stop}
 use Rattle.papaya_schedules.specs.declared.outcome.Outcome.{Outcome}
@@ -28,6 +28,7 @@ use Rattle.papaya_scheduler.specs.Works.{DidNothing, WorksOnSetup}
 use Rattle.papaya_scheduler.specs.declared.played.Played.{Played}
 use Rattle.papaya_scheduler.specs.declared.scheduler.Scheduler.{Scheduler}
 use Rattle.papaya_scheduler.proofs.Rights.{entry, entry_is}
+use Rattle.papaya_running.proofs.OfCalls.Worth.{have_values_then, nobody_says}
 use Rattle.papaya_running.specs.Asked.{is_of_calls}
 use Rattle.papaya_running.specs.OfCalls.{Runs, RunsOn}
 use Rattle.papaya_running.specs.OfSetups.{KeepsSetup, is_of_setups}
@@ -55,11 +56,11 @@ module _ {K V : Type 0} (log : List (Entry K V)) (w : Moment K V) where
 -- and changes nothing.
 module _ {K V : Type 0} (log : List (Entry K V)) (w : World (Node K V)) where
   setup_still : (its : Event K V) → is_of_setups its ≡ true → (outcome : Outcome V) (steps : ℕ) → IsStill log w (entry its outcome steps [])
-  setup_still (Collector setup) of outcome steps = record { caller = refl; changes = refl; left = refl; enters = tt; whole = whole_so log _ (Collector setup) of outcome; leaves = tt; reclaims = tt }
-  setup_still (Hash by) of outcome steps = record { caller = refl; changes = refl; left = refl; enters = tt; whole = whole_so log _ (Hash by) of outcome; leaves = tt; reclaims = tt }
-  setup_still (Choose choice) of outcome steps = record { caller = refl; changes = refl; left = refl; enters = tt; whole = whole_so log _ (Choose choice) of outcome; leaves = tt; reclaims = tt }
-  setup_still (Forget guard) of outcome steps = record { caller = refl; changes = refl; left = refl; enters = tt; whole = whole_so log _ (Forget guard) of outcome; leaves = tt; reclaims = tt }
-  setup_still (ShowShape name) of outcome steps = record { caller = refl; changes = refl; left = refl; enters = tt; whole = whole_so log _ (ShowShape name) of outcome; leaves = tt; reclaims = tt }
+  setup_still (Collector setup) of outcome steps = record { caller = refl; no_call = refl; changes = refl; left = refl; enters = tt; whole = whole_so log _ (Collector setup) of outcome; leaves = tt; reclaims = tt }
+  setup_still (Hash by) of outcome steps = record { caller = refl; no_call = refl; changes = refl; left = refl; enters = tt; whole = whole_so log _ (Hash by) of outcome; leaves = tt; reclaims = tt }
+  setup_still (Choose choice) of outcome steps = record { caller = refl; no_call = refl; changes = refl; left = refl; enters = tt; whole = whole_so log _ (Choose choice) of outcome; leaves = tt; reclaims = tt }
+  setup_still (Forget guard) of outcome steps = record { caller = refl; no_call = refl; changes = refl; left = refl; enters = tt; whole = whole_so log _ (Forget guard) of outcome; leaves = tt; reclaims = tt }
+  setup_still (ShowShape name) of outcome steps = record { caller = refl; no_call = refl; changes = refl; left = refl; enters = tt; whole = whole_so log _ (ShowShape name) of outcome; leaves = tt; reclaims = tt }
   setup_still _ of outcome steps = absurd (cc of)
 
 -- Once a choice has come the scheduler stands in the scene whose memory has it.
@@ -100,6 +101,7 @@ module _ {K V S : Type 0} (same : K → K → Bool) (hash : K → ℕ) (terms : 
         stands = stands_in same hash terms (moment (e ∷ log)) chosen after name s shown_then (its_named same hash terms (moment log) old run.stands);
         shows = it.1;
         come = events_bring_things K V terms log e run.come it.0.life.finds;
+        values = have_values_then (moment log) (moment (e ∷ log)) (nobody_says e (moment log) refl) run.stands.scene s refl old.calls.items.items run.values;
         size = run.size;
         shards = run.shards;
         reached = reached_by same hash terms log e old chosen right after refl run.reached;

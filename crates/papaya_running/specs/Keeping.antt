@@ -8,8 +8,7 @@ use Rattle.papaya_schedules.specs.After.{after, moment}
 use Rattle.papaya_schedules.specs.Entry.{Entry}
 use Rattle.papaya_schedules.specs.Reclaims.{is_quiescent, IsBounded}
 use Rattle.papaya_schedules.specs.Terms.{Terms}
-use Rattle.papaya_running.specs.Asked.{FindsRight, is_of_calls}
-use Rattle.papaya_running.specs.OfCalls.{IsLeftBut}
+use Rattle.papaya_running.specs.Asked.{FindsRight}
 
 module _ {K V : Type 0} where
   -- of a making that was refused nothing is said
@@ -17,10 +16,9 @@ module _ {K V : Type 0} where
   IsNotRefused (MakeMap name mode capacity) (Refused fault) = ⊥
   IsNotRefused event outcome = Unit {0}
 
-  -- What is still asked of an event, by name. Where it waits, or is refused for the length of a table, it does so in its case; what is left of its kind is so, and of one by which no steps run nothing
-  -- is left; and what waits is bounded where nobody is there after it.
+  -- What is still asked of an event, by name. Where it waits, or is refused for the length of a table, it does so in its case; a making is not
+  -- refused; and what waits is bounded where nobody is there after it.
   pub record IsAskedOf (terms : Terms) (log : List (Entry K V)) (e : Entry K V) : Type 0 where
     pub right : FindsRight terms log e
-    pub calls : is_of_calls e.event ≡ true → IsLeftBut terms log e
     pub made : IsNotRefused e.event e.outcome
     pub bounded : is_quiescent (after e (moment log)) ≡ true → IsBounded terms.batch_size (after e (moment log))

@@ -4,6 +4,10 @@ use Rattle.std.specs.List.{AllByRecursion, list_any, remove}
 use Rattle.std.specs.Result.{is_err}
 use Rattle.papaya_histories.specs.Given.SeizeWords.declared.fault.Fault.TheVariants.{Busy}
 use Rattle.papaya_histories.specs.Given.Tables.declared.setting.Setting.{Setting}
+use Rattle.papaya_histories.specs.Given.Callers.Together.{UnderWay}
+use Rattle.papaya_histories.specs.Given.Finishes.Machines.{machine_of}
+use Rattle.papaya_histories.specs.Given.Finishes.Maps.{Standing}
+use Rattle.papaya_histories.specs.Given.Hands.Asked.{as_told}
 use Rattle.papaya_raw.specs.declared.machines.asking.Reply.{Reply as MachineReply}
 use Rattle.papaya_raw.specs.declared.machines.machine.Machine.{Machine}
 use Rattle.papaya_runs.specs.Present.{Present, HaveNames, guard_of, living_slot}
@@ -19,16 +23,12 @@ use Rattle.papaya_schedules.specs.InUse.{is_living}
 use Rattle.papaya_schedules.specs.Moment.{Moment}
 use Rattle.papaya_schedules.specs.Terms.{Terms}
 use Rattle.papaya_schedules.specs.Views.{call_of, map_of, number_of}
-use Rattle.papaya_histories.specs.Given.Callers.Together.{UnderWay}
 use Rattle.papaya_executor.specs.IsAt.{Scene, IsAt, slot_of, use_at, work_of}
 use Rattle.papaya_executor.specs.Replying.{ReplyLeads, StopLeads}
 use Rattle.papaya_executor.specs.declared.worker.TheConstants.{SLOTS}
-use Rattle.papaya_histories.specs.Given.Finishes.Machines.{machine_of}
-use Rattle.papaya_histories.specs.Given.Finishes.Maps.{Standing}
-use Rattle.papaya_histories.specs.Given.Hands.Asked.{as_told}
 use Rattle.papaya_logged.specs.Calling.{CallBegins}
 use Rattle.papaya_logged.specs.Shown.{IsShown}
-use Rattle.papaya_named.specs.Machines.{IsAsFar, RefusedForRoom, machine_for}
+use Rattle.papaya_named.specs.Machines.{IsAsFar, RefusedForRoom, aborted_by, machine_for}
 use Rattle.papaya_rows.specs.Rows.{used_as}
 use Rattle.papaya_named.specs.Seen.{is_named, kind_of, named, named_of, ready_place, seen, seen_of, setting_named, takes}
 use Rattle.papaya_named.specs.declared.caller.Caller.{Caller}
@@ -174,6 +174,7 @@ module _ {K V S : Type 0} (same : K → K → Bool) (hash : K → ℕ) where
     pub plain : is_err result ≡ false
     pub leads : (s : Scene K V) → IsAt same hash old.logged.executor s → ReplyLeads same hash whose.number as_it result s old.logged.executor new.logged.executor
     pub value : Option V
+    pub value_is : value ≡ aborted_by reply
     pub calls : (d : Caller V) → slice_get old.calls.items.items place ≡ Some d
         → new.calls.items.items ≡ slice_set old.calls.items.items place (record d { stands = far.Goes; value = value })
     pub notes : new.logged.notes ≡ old.logged.notes

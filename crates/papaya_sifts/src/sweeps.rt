@@ -1,6 +1,7 @@
 //! Sweeps that remove pairs from one owner's map, run to their ends.
 ghost use Rattle.std.specs.Prelude.{◌≡◌, List, [], IfErr, OnOk, OnErr, length};
 ghost use Rattle.papaya_owned.specs.Given.Late.Faults.{IsRoom};
+ghost use Rattle.papaya_owned.specs.Given.Sweeps.declared.sweep.Purpose.TheVariants.{Clears, Retains};
 ghost use Rattle.papaya_owned.specs.Given.Shown.Chain.{CannotGrowIn};
 ghost use Rattle.papaya_owned.specs.Owned.{Holds};
 ghost use Rattle.papaya_sifts.specs.Retaining.{KeepsOf};
@@ -26,7 +27,7 @@ pub fn empty<K: Eq + Hash + Drop, V: Drop, S: Hashes<K>>(
     ensures refused { (xs : List (K × V)) → Holds K.eq (S.hash hasher.now) setting memory.old xs → OnErr result (Holds K.eq (S.hash hasher.now) setting memory.new xs) }
     ensures fault { IfErr result IsRoom }
     ensures capacity { (xs : List (K × V)) → Holds K.eq (S.hash hasher.now) setting memory.old xs → IfErr result (λ fault. fault ≡ Capacity → CannotGrowIn memory.new setting) }
-    ensures ran { HasSwept S.hash hasher.entry setting memory.old memory.new }
+    ensures ran { HasSwept S.hash hasher.entry setting Clears memory.old memory.new }
 {
     let sweep = Sweep::clear(setting);
     let mut machine = OverPairs { sweep, hasher };
@@ -54,7 +55,7 @@ pub fn sift<K: Eq + Hash + Drop, V: Drop, S: Hashes<K>, F: FnMut(&K, &V) -> bool
     ensures refused { (xs : List (K × V)) → Holds K.eq (S.hash hasher.now) setting memory.old xs → OnErr result (Holds K.eq (S.hash hasher.now) setting memory.new xs) }
     ensures fault { IfErr result IsRoom }
     ensures capacity { (xs : List (K × V)) → Holds K.eq (S.hash hasher.now) setting memory.old xs → IfErr result (λ fault. fault ≡ Capacity → CannotGrowIn memory.new setting) }
-    ensures ran { HasSwept S.hash hasher.entry setting memory.old memory.new }
+    ensures ran { HasSwept S.hash hasher.entry setting Retains memory.old memory.new }
 {
     let sweep = Sweep::retain(setting);
     let mut machine = OverPairs { sweep, hasher };

@@ -36,21 +36,21 @@ module _ {K V Q S : Type 0} (asks : Q → K → Bool) (same : K → K → Bool) 
 module _ {K V Q S : Type 0} (asks : Q → K → Bool) (same : K → K → Bool) (hashes : S → K → ℕ) (b : Bor S) (setting : Setting) (m0 : Mem (Node K V)) (keys : K → Bool) (given : Given K V) (call : KeyCall K V Q)
     (is : IsBegun V same (hashes b.now) asks setting (λ i. setting.slot) 0 keys given call) (x : OnKey K V Q S) (m : Mem (Node K V)) (result : Result Stop Fault)
     (runs : RunsTo (on_key_plan asks same hashes) (record { call = call; hasher = b; unstored = None }) m0 x m result) where
-  begins : IsCalling asks same hashes b setting m0 (record { call = call; hasher = b; unstored = None }) m0
-  begins = begun keys given call is
+  begins : IsCalling asks same hashes b setting m0 keys given (record { call = call; hasher = b; unstored = None }) m0
+  begins = begun call is
 
-  pub stopped_there : HasStopped asks same hashes b setting m0 m result
+  pub stopped_there : HasStopped asks same hashes b setting m0 keys given m result
   stopped_there = (record { call = call; hasher = b; unstored = None }, m0, begins, x, runs)
 
-  pub stopped_answered : (s : Stop) (answer : KeyAnswer) → result ≡ Ok s → s ≡ stop.Answered answer → HasStopped asks same hashes b setting m0 m (Ok (stop.Answered answer))
-  stopped_answered s answer e f = subst (HasStopped asks same hashes b setting m0 m) (e ∙ ap (λ (t : Stop). Ok t) f) stopped_there
+  pub stopped_answered : (s : Stop) (answer : KeyAnswer) → result ≡ Ok s → s ≡ stop.Answered answer → HasStopped asks same hashes b setting m0 keys given m (Ok (stop.Answered answer))
+  stopped_answered s answer e f = subst (HasStopped asks same hashes b setting m0 keys given m) (e ∙ ap (λ (t : Stop). Ok t) f) stopped_there
 
-  pub stopped_refused : (fault : Fault) → result ≡ Err fault → HasStopped asks same hashes b setting m0 m (Err fault)
-  stopped_refused fault e = subst (HasStopped asks same hashes b setting m0 m) e stopped_there
+  pub stopped_refused : (fault : Fault) → result ≡ Err fault → HasStopped asks same hashes b setting m0 keys given m (Err fault)
+  stopped_refused fault e = subst (HasStopped asks same hashes b setting m0 keys given m) e stopped_there
 
   -- told what it has asked, it has stopped so
   pub stopped_told : (s : Stop) (about : Option ℕ) → result ≡ Ok s → s ≡ stop.Asks about → (told : Reply V) (m2 : Mem (Node K V)) (end : Result Stop Fault) → StopsTold asks same hashes x m told m2 end
-      → HasStopped asks same hashes b setting m0 m2 end
+      → HasStopped asks same hashes b setting m0 keys given m2 end
   stopped_told s about e f told m2 end ran = (
     record x { call = (replied x.call told).0 },
     m,

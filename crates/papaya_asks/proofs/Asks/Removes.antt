@@ -41,7 +41,7 @@ module _ {K V Q S : Type 0} (same : K → K → Bool) (asks : Q → K → Bool) 
       (comes_to same asks hashes b setting h.lawful h.initial h.world.memory h.chart h.blocks h.rests.together.ground.map.map.rule (asks q) (Begun removes None) _ m x m2 result runs under)
 
   pub remove_stopped : (x : OnKey K V Q S) (m2 : Mem (Node K V)) (result : Result Stop Fault) → RunsTo (on_key_plan asks same hashes) (record { call = call; hasher = b; unstored = None }) m x m2 result
-      → HasStopped asks same hashes b setting m m2 result
+      → HasStopped asks same hashes b setting m (asks q) (Begun removes None) m2 result
   remove_stopped x m2 result runs =
       stopped_there asks same hashes b setting m (asks q) (Begun removes None) call
       (subst (IsBegun V same (hashes b.now) asks setting (λ i. setting.slot) 0 (asks q) (Begun removes None)) (sym is) (Removes q code fits class)) x m2 result runs

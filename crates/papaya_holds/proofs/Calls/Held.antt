@@ -280,9 +280,9 @@ module _ {K V Q S : Type 0} (asks : Q → K → Bool) (same : K → K → Bool) 
         };
       }
 
-  under_way : (x : OnKey K V Q S) (m : Mem (Node K V)) → IsCalling asks same hashes b setting m0 x m → Under x m
-  under_way _ _ (begun keys given call is) = begins keys given call is
-  under_way _ _ (asked x m before x2 m2 about runs told) = told_on x2 m2 (stops_at x m (under_way x m before) x2 m2 (Ok (stop.Asks about)) runs) told
+  under_way : (keys : K → Bool) (given : Given K V) (x : OnKey K V Q S) (m : Mem (Node K V)) → IsCalling asks same hashes b setting m0 keys given x m → Under x m
+  under_way keys given _ _ (begun call is) = begins keys given call is
+  under_way keys given _ _ (asked x m before x2 m2 about runs told) = told_on x2 m2 (stops_at x m (under_way keys given x m before) x2 m2 (Ok (stop.Asks about)) runs) told
 
   -- wherever it stops
   abbrev StaysApart : Mem (Node K V) → Result Stop Fault → Type 0
@@ -293,11 +293,11 @@ module _ {K V Q S : Type 0} (asks : Q → K → Bool) (same : K → K → Bool) 
   at_stop x m (Ok (stop.Asks about)) s = (subst (λ (y : OnKey K V Q S). HasCome m0 m y.call) (sym s.under.is) s.under.course.come, (s.under.course.still, λ word e. absurd (cc e)))
   at_stop x m (Err fault) s = (s.0, (s.1, λ word e. absurd (cc e)))
 
-  take_none_away : (x : OnKey K V Q S) (m : Mem (Node K V)) → IsCalling asks same hashes b setting m0 x m → (x2 : OnKey K V Q S) (m2 : Mem (Node K V)) (result : Result Stop Fault)
+  take_none_away : (keys : K → Bool) (given : Given K V) (x : OnKey K V Q S) (m : Mem (Node K V)) → IsCalling asks same hashes b setting m0 keys given x m → (x2 : OnKey K V Q S) (m2 : Mem (Node K V)) (result : Result Stop Fault)
       → RunsTo (on_key_plan asks same hashes) x m x2 m2 result → ComesWith m0 m2 x2 result × StaysApart m2 result
-  take_none_away x m is x2 m2 result runs = at_stop x2 m2 result (stops_at x m (under_way x m is) x2 m2 result runs)
+  take_none_away keys given x m is x2 m2 result runs = at_stop x2 m2 result (stops_at x m (under_way keys given x m is) x2 m2 result runs)
 
 pub calls_take_none_away : (K V Q S : Type 0) → CallsTakeNoneAway K V Q S
-calls_take_none_away K V Q S asks same hashes b setting m0 xs h x m is x2 m2 result runs =
-    let at_end = take_none_away asks same hashes b setting m0 xs h x m is x2 m2 result runs in
+calls_take_none_away K V Q S asks same hashes b setting m0 keys given xs h x m is x2 m2 result runs =
+    let at_end = take_none_away asks same hashes b setting m0 xs h keys given x m is x2 m2 result runs in
     (at_end.0, stood_beside same (hashes b.now) setting m0 xs h m2 at_end.1.0 result at_end.1.1)

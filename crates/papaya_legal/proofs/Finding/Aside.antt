@@ -1,5 +1,5 @@
 -- Steps that are of no call leave each pair where it lies: those of rows on slots, of makings of maps, and of their ends.
-use Rattle.std.specs.Prelude.{◌≡◌, ◌/◌, ◌<◌, ℕ, Bool, true, false, List, [], ◌∷◌, Option, Some, None, if◌then◌else◌}
+use Rattle.std.specs.Prelude.{◌≡◌, ℕ, Bool, true, false, List, [], ◌∷◌, Option, Some, None, if◌then◌else◌}
 use Rattle.std.proofs.Common.{refl, ap, sym, subst, ◌∙◌, inl, inr}
 use Rattle.papaya_histories.specs.Given.SeizeWords.Mem.{word_at}
 use Rattle.papaya_histories.specs.Given.SeizeWords.Word.{block_in}
@@ -9,7 +9,6 @@ use Rattle.papaya_histories.specs.Given.Seize.declared.progress.Progress.{Progre
 use Rattle.papaya_histories.specs.Given.Seize.declared.rows.settle.Settled.{Settled}
 use Rattle.papaya_histories.specs.Given.Tables.declared.node.Node.{Node}
 use Rattle.papaya_histories.specs.Given.Tables.declared.setting.Setting.{Setting}
-use Rattle.papaya_histories.specs.Given.Schedules.declared.effect.Effect.{Effect}
 use Rattle.papaya_histories.specs.Given.Schedules.declared.effect.Effect.TheVariants.{Asked}
 use Rattle.papaya_histories.specs.Given.Schedules.declared.effect.Growth.TheVariants.{ABlock}
 use Rattle.papaya_histories.specs.Given.Schedules.declared.effect.Table.{Table}
@@ -116,28 +115,36 @@ module _ {K V : Type 0} (map : ℕ) (known : Known) (w w2 : World (Node K V)) (i
   making_aside (changed.Roomed bucket had) so l = absurd so
 
 module _ {K V S : Type 0} (same : K → K → Bool) (hash : K → ℕ) (name : ℕ → List ℕ) (m : Moment K V) (known : Known) (s : Scene K V) (old new : Executor K V S) (at : IsAt same hash old s) where
+  pub rows_aside : (i : ℕ) (told : RowTold (Node K V)) (leads : RowLeads same hash i told s old new) (row : SlotRow) → work_of old i ≡ Some (OnSlot row) → AllAside (effects_of acts.Row known new.memory.changed)
+  rows_aside i told leads row here =
+      let to = leads row here in (row_beside m known new.memory.changed (row_tells old.memory.memory new.memory.memory new.memory.changed (to.0, told) row to.1)).0.0
+
   pub rows_leave_spots : (i : ℕ) (told : RowTold (Node K V)) (leads : RowLeads same hash i told s old new) (row : SlotRow) → work_of old i ≡ Some (OnSlot row)
       → (with_effects None None (effects_of acts.Row known new.memory.changed) m).spot ≡ m.spot
-  rows_leave_spots i told leads row here =
-      let to = leads row here in
-      (aside_all None None (effects_of acts.Row known new.memory.changed) m
-      (row_beside m known new.memory.changed (row_tells old.memory.memory new.memory.memory new.memory.changed (to.0, told) row to.1)).0.0).spot
+  rows_leave_spots i told leads row here = (aside_all None None (effects_of acts.Row known new.memory.changed) m (rows_aside i told leads row here)).spot
+
+  pub makings_aside : Shows same name m known s → (i : ℕ) (told : Making Setting) (leads : MakingLeads same hash i told s old new) (b : Beginning K) → s.makers i ≡ Some b → (of : Option ℕ)
+      → AllAside (effects_of (acts.Making b.map) known new.memory.changed)
+  makings_aside shown i told leads b here of =
+      let to = leads b here in
+      making_aside b.map known s.world to.2.step.w2 i b.machine.setting.root (nothing_free s.world m.stored known shown.blocks.roles)
+      (λ x q made. no_table_word same hash name m known s old new at shown i b here to.0 told to.1 to.2 of x q made) new.memory.changed
+      (tells same hash name m known s old new at shown i b here to.0 told to.1 to.2 of) (left same hash name m known s old new at shown i b here to.0 told to.1 to.2 of)
 
   pub makings_leave_spots : Shows same name m known s → (i : ℕ) (told : Making Setting) (leads : MakingLeads same hash i told s old new) (b : Beginning K) → s.makers i ≡ Some b → (of : Option ℕ)
       → (with_effects None of (effects_of (acts.Making b.map) known new.memory.changed) m).spot ≡ m.spot
-  makings_leave_spots shown i told leads b here of =
-      let to = leads b here in
-      (aside_all None of (effects_of (acts.Making b.map) known new.memory.changed) m
-      (making_aside b.map known s.world to.2.step.w2 i b.machine.setting.root (nothing_free s.world m.stored known shown.blocks.roles)
-      (λ x q made. no_table_word same hash name m known s old new at shown i b here to.0 told to.1 to.2 of x q made) new.memory.changed
-      (tells same hash name m known s old new at shown i b here to.0 told to.1 to.2 of) (left same hash name m known s old new at shown i b here to.0 told to.1 to.2 of))).spot
+  makings_leave_spots shown i told leads b here of = (aside_all None of (effects_of (acts.Making b.map) known new.memory.changed) m (makings_aside shown i told leads b here of)).spot
+
+  pub endings_aside : ShowsWhole same name m known s → (i : ℕ) (told : Settled (Node K V)) (leads : EndingLeads same hash i told s old new) (f : Finishing K V) → s.enders i ≡ Some f
+      → (map : ℕ) → s.maps map ≡ None → AllAside (effects_of (acts.Ending map) known new.memory.changed)
+  endings_aside whole i told leads f here map not_there =
+      let to = leads f here in
+      elim (says same hash name m known s old new at whole i f here to.0 told to.1 to.2 map not_there to.3) as (λ _. AllAside (effects_of (acts.Ending map) known new.memory.changed)) [
+        | inl it ↦ calm_aside (effects_of (acts.Ending map) known new.memory.changed) it.0
+        | inr it ↦ subst (λ (x : Changed). AllAside (effects_of (acts.Ending map) known x)) (sym it.1) (taken_aside (acts.Ending map) (known.roles it.0))
+      ]
 
   pub endings_leave_spots : ShowsWhole same name m known s → (i : ℕ) (told : Settled (Node K V)) (leads : EndingLeads same hash i told s old new) (f : Finishing K V) → s.enders i ≡ Some f
       → (map : ℕ) → s.maps map ≡ None → (with_effects None (Some map) (effects_of (acts.Ending map) known new.memory.changed) m).spot ≡ m.spot
   endings_leave_spots whole i told leads f here map not_there =
-      let to = leads f here in
-      (aside_all None (Some map) (effects_of (acts.Ending map) known new.memory.changed) m
-      (elim (says same hash name m known s old new at whole i f here to.0 told to.1 to.2 map not_there to.3) as (λ _. AllAside (effects_of (acts.Ending map) known new.memory.changed)) [
-        | inl it ↦ calm_aside (effects_of (acts.Ending map) known new.memory.changed) it.0
-        | inr it ↦ subst (λ (x : Changed). AllAside (effects_of (acts.Ending map) known x)) (sym it.1) (taken_aside (acts.Ending map) (known.roles it.0))
-      ])).spot
+      (aside_all None (Some map) (effects_of (acts.Ending map) known new.memory.changed) m (endings_aside whole i told leads f here map not_there)).spot

@@ -55,7 +55,7 @@ use Rattle.papaya_legal.proofs.Finding.Making.Lengths.{last_at}
 
 -- what its call makes a copier makes, and so it is such a making
 module _ (Such : NewTable → Type 0) (n : NewTable) where
-  such_of_copier : (p : Copying) → making_in_copying p ≡ Some n → CopierMakes Such p → Such n
+  pub such_of_copier : (p : Copying) → making_in_copying p ≡ Some n → CopierMakes Such p → Such n
   such_of_copier (copying.Grows word code k) is so = let one : k ≡ n = cc is in subst Such one so
   such_of_copier (copying.Remakes k) is so = let one : k ≡ n = cc is in subst Such one so
   such_of_copier _ is so = absurd (cc is)
@@ -119,7 +119,7 @@ module _ {K V S : Type 0} (same : K → K → Bool) (hash : K → ℕ) (name : �
   abbrev Shapes : Type 0
   Shapes = FindShapes terms moments (name i) map effects m
 
-  links_by : ((p : Planned) → effects ≡ effect.Linked (of_map map p) (shape_of p) ∷ [] → table_made (making_of (machine_of u)) ≡ Some p → Shapes) → Shapes
+  pub links_by : ((p : Planned) → effects ≡ effect.Linked (of_map map p) (shape_of p) ∷ [] → table_made (making_of (machine_of u)) ≡ Some p → Shapes) → Shapes
   links_by linked = elim ((left_tables same hash name m known s old new at whole tables map i u here said leads).goes) as (λ _. Shapes) [
     | Stays quiet as_before ↦ none_shaped terms moments (name i) map effects m its_call.0 its_call.1 quiet
     | IsMade p effects_are none has in_turn ↦
@@ -138,19 +138,19 @@ module _ {K V S : Type 0} (same : K → K → Bool) (hash : K → ℕ) (name : �
   on_map : AtEachEffect (FindsMap map) (Some (name i)) (Some map) effects m
   on_map = (steps_find_places K V S same hash name m known s old new at whole map i u here said leads).0
 
-  module _ (further : ShowsFurther m s) (copies : MakesByCopier u) (made_for : IsMadeFor map m (leads map u here).0.setting)
-      (nexts : (n : NewTable) → making_of_copier (machine_of u) ≡ Some n → OneOf (HasNext map) (m ∷ moments)) where
-    linked : (p : Planned) → effects ≡ effect.Linked (of_map map p) (shape_of p) ∷ [] → table_made (making_of (machine_of u)) ≡ Some p → Shapes
+  -- whatever makes it, if that is a copier
+  module _ (such : (n : NewTable) → making_of (machine_of u) ≡ Some n → IsFurther (lengths_of map m) n × (making_of_copier (machine_of u) ≡ Some n))
+      (made_for : IsMadeFor map m (leads map u here).0.setting) (nexts : (n : NewTable) → making_of_copier (machine_of u) ≡ Some n → OneOf (HasNext map) (m ∷ moments)) where
+    pub linked : (p : Planned) → effects ≡ effect.Linked (of_map map p) (shape_of p) ∷ [] → table_made (making_of (machine_of u)) ≡ Some p → Shapes
     linked p effects_are had =
         let making = some_making (making_of (machine_of u)) p had in
-        let such = such_of (IsFurther (lengths_of map m)) making.0 u copies making.1 (further map i u here) in
-        let behind = made_so (λ before reason. ⊥) (IsBehind (lengths_of map m)) making.0.stands p such.0 making.2 in
+        let behind = made_so (λ before reason. ⊥) (IsBehind (lengths_of map m)) making.0.stands p (such making.0 making.1).0 making.2 in
         let turn_is : p.turn ≡ many_of map m = (subst (λ (fs : List Effect). AtEachEffect (FindsMap map) (Some (name i)) (Some map) fs m) effects_are on_map).0.1 in
         subst (λ (fs : List Effect). FindShapes terms moments (name i) map fs m) (sym effects_are)
         (one_shaped terms moments (name i) map (effect.Linked (of_map map p) (shape_of p)) m its_call.0 its_call.1
         (subst (λ (k : ℕ). Follows terms its_call.0 (m ∷ moments) (capacity_or (map_at k m)) (shape_of p) (tables_of k m)) (sym its_call.2)
         (behind_follows terms (m ∷ moments) its_call.0 (capacity_or (map_at map m)) (leads map u here).0.setting.initial made_for
-        (subst (λ (k : ℕ). OneOf (HasNext k) (m ∷ moments)) (sym its_call.2) (nexts making.0 such.1)) p (tables_of map m) behind turn_is)))
+        (subst (λ (k : ℕ). OneOf (HasNext k) (m ∷ moments)) (sym its_call.2) (nexts making.0 (such making.0 making.1).1)) p (tables_of map m) behind turn_is)))
 
-    pub copier_links : Shapes
-    copier_links = links_by linked
+  pub copier_links : ShowsFurther m s → MakesByCopier u → IsMadeFor map m (leads map u here).0.setting → ((n : NewTable) → making_of_copier (machine_of u) ≡ Some n → OneOf (HasNext map) (m ∷ moments)) → Shapes
+  copier_links further copies made_for nexts = links_by (linked (λ n is. such_of (IsFurther (lengths_of map m)) n u copies is (further map i u here)) made_for nexts)

@@ -1,6 +1,6 @@
 -- The effects of a step of a call find what is left of what they must, by what the moment shows and what is still asked.
-use Rattle.std.specs.Prelude.{◌≡◌, ◌⊎◌, ℕ, Bool, true, false, List, ◌∷◌, Some, None}
-use Rattle.std.proofs.Common.{refl, ap, sym, subst, ◌∙◌, inl, inr}
+use Rattle.std.specs.Prelude.{◌≡◌, ◌⊎◌, ℕ, ◌+◌, Bool, List, ◌∷◌, Some, None}
+use Rattle.std.proofs.Common.{refl, inl, inr}
 use Rattle.papaya_histories.specs.Given.Tables.declared.node.Node.{Node}
 use Rattle.papaya_histories.specs.Given.Resize.Sum.{sum_plan}
 use Rattle.papaya_histories.specs.Given.Resize.declared.new_table.NewTable.{NewTable}
@@ -9,16 +9,15 @@ use Rattle.papaya_histories.specs.Given.Raw.Machine.{counted as of_sum}
 use Rattle.papaya_histories.specs.Given.Raw.declared.machines.call.Calling.{Calling}
 use Rattle.papaya_histories.specs.Given.Raw.declared.machines.call.Calling.TheVariants as calling
 use Rattle.papaya_histories.specs.Given.Raw.declared.machines.progress.Progress.{Progress}
-use Rattle.papaya_histories.specs.Given.Schedules.declared.call.Call.{Call}
-use Rattle.papaya_histories.specs.Given.Schedules.declared.call.Call.TheVariants as call
 use Rattle.papaya_histories.specs.Given.Schedules.declared.effect.Effect.{Effect}
+use Rattle.papaya_histories.specs.Given.Schedules.After.{moments_from}
+use Rattle.papaya_histories.specs.Given.Schedules.Entry.{Entry}
 use Rattle.papaya_histories.specs.Given.Schedules.Growing.{HasNext, MayGrow}
 use Rattle.papaya_histories.specs.Given.Schedules.Lists.{OneOf}
 use Rattle.papaya_histories.specs.Given.Schedules.Moment.{UnderWay as CallThere, Moment}
-use Rattle.papaya_histories.specs.Given.Schedules.Terms.{Terms}
+use Rattle.papaya_histories.specs.Given.Schedules.Terms.{Terms, shards_of}
 use Rattle.papaya_histories.specs.Given.Schedules.Views.{call_of}
 use Rattle.papaya_histories.specs.Given.Points.FactsCalls.{IsCopying}
-use Rattle.papaya_histories.specs.Given.Callers.Rooms.{CallForRoom}
 use Rattle.papaya_histories.specs.Given.Callers.Together.{Counting, ForRoom, OnKey, OverAll, UnderWay}
 use Rattle.papaya_histories.specs.Given.Effects.Effects.{effects_of}
 use Rattle.papaya_histories.specs.Given.Effects.Known.{Known}
@@ -27,8 +26,6 @@ use Rattle.papaya_histories.specs.Given.Executor.IsAt.{IsAt, Scene}
 use Rattle.papaya_histories.specs.Given.Executor.Stepping.{StepLeads}
 use Rattle.papaya_histories.specs.Given.Executor.declared.executor.Executor.{Executor}
 use Rattle.papaya_histories.specs.Given.Finishes.Machines.{machine_of}
-use Rattle.papaya_histories.specs.Given.Follows.Calls.{IsCalled}
-use Rattle.papaya_histories.proofs.Given.Follows.Steps.{one_of}
 use Rattle.papaya_histories.specs.Given.Moments.Whole.{ShowsWhole}
 use Rattle.papaya_histories.proofs.Given.Others.Outcomes.{told_in}
 use Rattle.papaya_owes.specs.Tables.{ShowsTables}
@@ -45,9 +42,13 @@ use Rattle.papaya_finds.proofs.Linking.{key_calls_link}
 use Rattle.papaya_finds.proofs.Rest.{rest_is_all}
 use Rattle.papaya_finds.proofs.Waits.Handed.{calls_hand_past, past_is_handed}
 use Rattle.papaya_finds.proofs.Waits.Next.{calls_put_behind}
+use Rattle.papaya_finds.specs.Waits.{FindPast, FindBehind}
+use Rattle.papaya_sources.proofs.Space.{calls_find_space}
+use Rattle.papaya_purposes.specs.Purposes.{ShowsPurposes}
 use Rattle.papaya_legal.specs.Finding.{ShowsFinding}
-use Rattle.papaya_legal.specs.Rests.{StepsFindRest, is_reservation}
+use Rattle.papaya_legal.specs.Rests.{StepsFindRest}
 use Rattle.papaya_legal.proofs.Finding.Links.{copier_links, none_links}
+use Rattle.papaya_legal.proofs.Finding.Rooms.{room_asks, room_links}
 
 -- whether a call on one key copies pairs
 copies_or : (q : Calling) → IsCopying q ⊎ (IsCopying q → ⊥)
@@ -62,12 +63,6 @@ module _ {K V S : Type 0} (same : K → K → Bool) (hash : K → ℕ) (name : �
   Asked = FindAsked terms moments (name i) map (effects_of (acts.Call i map) known new.memory.changed) m
 
   module _ (u : UnderWay K V K) (here : s.calls map i ≡ Some u) where
-    its_call : (c.map ≡ map) × IsCalled same u c.call
-    its_call =
-        let there = whole.all.shown.calls map i u here in
-        let one = one_of there.0 c (sym there.1 ∙ c_is) in
-        (ap (λ (x : CallThere K V). x.map) (sym one) ∙ there.2, subst (λ (x : CallThere K V). IsCalled same u x.call) one there.3)
-
     copier_asks : ((n : NewTable) → making_of_copier (machine_of u) ≡ Some n → OneOf (HasNext map) (m ∷ moments)) → MakesByCopier u → Asked
     copier_asks nexts copies = copiers_may_ask K V S same hash name m known s old new at whole map i u here said leads copies terms moments nexts
 
@@ -81,53 +76,53 @@ module _ {K V S : Type 0} (same : K → K → Bool) (hash : K → ℕ) (name : �
     sum_asks : Asked
     sum_asks = may_ask same hash name m known s old new at whole map i (Counting sum) here said leads terms moments c c_is none_asked
 
-  -- a reservation is not settled
-  room_none : (r : CallForRoom) (its : Call K V) → IsCalled same (ForRoom r) its → is_reservation its ≡ false → ⊥
-  room_none r (call.Reserve more) called none = cc none
-  room_none r (call.On one) called none = called
-  room_none r call.Len called none = called
-  room_none r call.Clear called none = called
-  room_none r call.Retain called none = called
-  room_none r call.Walk called none = called
+-- which table a call links, and that it may ask for each block
+module _ {K V S : Type 0} (same : K → K → Bool) (hash : K → ℕ) (name : ℕ → List ℕ) (log : List (Entry K V)) (m : Moment K V) (known : Known) (s : Scene K V) (old new : Executor K V S) (at : IsAt same hash old s)
+    (whole : ShowsWhole same name m known s) (tables : ShowsTables name m known s) (finding : ShowsFinding name m known s) (purposes : ShowsPurposes same name log m known s) (map i : ℕ) (said : Progress (Node K V))
+    (leads : StepLeads same hash i said s old new) (terms : Terms) (c : CallThere K V) (c_is : call_of (name i) m ≡ Some c) where
+  abbrev since : List (Moment K V)
+  since = moments_from c.begun log
 
-  abbrev Nexts : UnderWay K V K → Type 0
-  Nexts u = (n : NewTable) → making_of_copier (machine_of u) ≡ Some n → OneOf (HasNext map) (m ∷ moments)
+  abbrev Linked : Type 0
+  Linked = FindShapes terms since (name i) map (effects_of (acts.Call i map) known new.memory.changed) m
 
-  module _ (settled : is_reservation c.call ≡ false) where
-    settled_asks : (u : UnderWay K V K) (here : s.calls map i ≡ Some u) → Nexts u → Asked
-    settled_asks (OnKey x) is nexts = elim (copies_or x.call.stands) as (λ _. Asked) [
-      | inl copies ↦ copier_asks (OnKey x) is nexts copies
-      | inr other ↦ key_calls_may_ask K V S same hash name m known s old new at whole finding.growing map i x is said leads other terms moments
-    ]
-    settled_asks (OverAll o) is nexts = copier_asks (OverAll o) is nexts tt
-    settled_asks (Counting sum) is nexts = sum_asks sum is
-    settled_asks (ForRoom r) is nexts = absurd (room_none r c.call (its_call (ForRoom r) is).1 settled)
+  abbrev NextsOf : UnderWay K V K → Type 0
+  NextsOf u = (n : NewTable) → making_of_copier (machine_of u) ≡ Some n → OneOf (HasNext map) (m ∷ since)
 
-    -- which table it links
-    module _ (tables : ShowsTables name m known s) where
-      abbrev Linked : Type 0
-      Linked = FindShapes terms moments (name i) map (effects_of (acts.Call i map) known new.memory.changed) m
+  copier_linked : (u : UnderWay K V K) (here : s.calls map i ≡ Some u) → NextsOf u → MakesByCopier u → Linked
+  copier_linked u here nexts copies =
+      copier_links same hash name m known s old new at whole tables map i u here said leads terms since finding.further copies (finding.capacities map (leads map u here).0 (leads map u here).2) nexts
 
-      copier_linked : (u : UnderWay K V K) (here : s.calls map i ≡ Some u) → Nexts u → MakesByCopier u → Linked
-      copier_linked u here nexts copies =
-          copier_links same hash name m known s old new at whole tables map i u here said leads terms moments finding.further copies (finding.capacities map (leads map u here).0 (leads map u here).2) nexts
+  call_links : (u : UnderWay K V K) (here : s.calls map i ≡ Some u) → (leads map u here).0.setting.mask + 1 ≡ shards_of terms → NextsOf u → Linked
+  call_links (OnKey x) is mask_is nexts = elim (copies_or x.call.stands) as (λ _. Linked) [
+    | inl copies ↦ copier_linked (OnKey x) is nexts copies
+    | inr other ↦
+        key_calls_link K V S same hash name m known s old new at whole tables finding.growing map i x is said leads other (finding.capacities map (leads map (OnKey x) is).0 (leads map (OnKey x) is).2) terms
+        since
+  ]
+  call_links (OverAll o) is mask_is nexts = copier_linked (OverAll o) is nexts tt
+  call_links (Counting sum) is mask_is nexts = none_links same hash name m known s old new at whole tables map i (Counting sum) is said leads terms since refl
+  call_links (ForRoom r) is mask_is nexts =
+      room_links same hash name log m known s old new at whole purposes map i r is said leads terms c c_is mask_is tables finding.further
+      (finding.capacities map (leads map (ForRoom r) is).0 (leads map (ForRoom r) is).2) nexts
 
-      settled_links : (u : UnderWay K V K) (here : s.calls map i ≡ Some u) → Nexts u → Linked
-      settled_links (OnKey x) is nexts = elim (copies_or x.call.stands) as (λ _. Linked) [
-        | inl copies ↦ copier_linked (OnKey x) is nexts copies
-        | inr other ↦
-            key_calls_link K V S same hash name m known s old new at whole tables finding.growing map i x is said leads other (finding.capacities map (leads map (OnKey x) is).0 (leads map (OnKey x) is).2) terms
-            moments
-      ]
-      settled_links (OverAll o) is nexts = copier_linked (OverAll o) is nexts tt
-      settled_links (Counting sum) is nexts = none_links same hash name m known s old new at whole tables map i (Counting sum) is said leads terms moments refl
-      settled_links (ForRoom r) is nexts = absurd (room_none r c.call (its_call (ForRoom r) is).1 settled)
+  call_asks : (u : UnderWay K V K) (here : s.calls map i ≡ Some u) → (leads map u here).0.setting.mask + 1 ≡ shards_of terms → NextsOf u
+      → FindAsked terms since (name i) map (effects_of (acts.Call i map) known new.memory.changed) m
+  call_asks (OnKey x) is mask_is nexts = elim (copies_or x.call.stands) as (λ _. FindAsked terms since (name i) map (effects_of (acts.Call i map) known new.memory.changed) m) [
+    | inl copies ↦ copier_asks same hash name m known s old new at whole finding map i said leads terms since c c_is (OnKey x) is nexts copies
+    | inr other ↦ key_calls_may_ask K V S same hash name m known s old new at whole finding.growing map i x is said leads other terms since
+  ]
+  call_asks (OverAll o) is mask_is nexts = copier_asks same hash name m known s old new at whole finding map i said leads terms since c c_is (OverAll o) is nexts tt
+  call_asks (Counting sum) is mask_is nexts = sum_asks same hash name m known s old new at whole finding map i said leads terms since c c_is sum is
+  call_asks (ForRoom r) is mask_is nexts = room_asks same hash name log m known s old new at whole purposes map i r is said leads terms c c_is mask_is
 
 pub steps_find_rest : (K V S : Type 0) (same : K → K → Bool) (hash : K → ℕ) → StepsFindRest K V S same hash
-steps_find_rest K V S same hash name m known s old new at whole kept finding map i u here said leads terms moments c c_is nexts still =
-    rest_is_all K V terms moments (name i) map effects m asked linked
-    (past_is_handed K V (name i) map effects m (calls_hand_past K V S same hash name m known s old new at whole kept.entries owning kept.owed finding.waits map i u here said leads)
-    (calls_put_behind K V S same hash name m known s old new at whole kept.entries owning kept.owed finding.waits finding.puts map i u here said leads) still.space)
+steps_find_rest K V S same hash name log m known s old new at whole kept finding sources order purposes map i u here said leads terms c c_is mask_is nexts =
+    rest_is_all K V terms (moments_from c.begun log) (name i) map effects m
+    (call_asks same hash name log m known s old new at whole kept.tables finding purposes map i said leads terms c c_is u here mask_is nexts)
+    (call_links same hash name log m known s old new at whole kept.tables finding purposes map i said leads terms c c_is u here mask_is nexts)
+    (past_is_handed K V (name i) map effects m past behind_it
+    (calls_find_space K V S same hash name m known s old new at whole kept.entries owning kept.owed sources order map i u here said leads past behind_it))
   where
     effects : List Effect
     effects = effects_of (acts.Call i map) known new.memory.changed
@@ -135,16 +130,8 @@ steps_find_rest K V S same hash name m known s old new at whole kept finding map
     owning : OwnAreMade known s.world
     owning = own_made K V S same hash name m known s old at whole kept
 
-    asked : FindAsked terms moments (name i) map effects m
-    asked = by (is_reservation c.call) refl
-      where
-        by : (q : Bool) → is_reservation c.call ≡ q → FindAsked terms moments (name i) map effects m
-        by true is = still.asks is
-        by false is = settled_asks same hash name m known s old new at whole finding map i said leads terms moments c c_is is u here nexts
+    past : FindPast (name i) map effects m
+    past = calls_hand_past K V S same hash name m known s old new at whole kept.entries owning kept.owed finding.waits map i u here said leads
 
-    linked : FindShapes terms moments (name i) map effects m
-    linked = by (is_reservation c.call) refl
-      where
-        by : (q : Bool) → is_reservation c.call ≡ q → FindShapes terms moments (name i) map effects m
-        by true is = still.links is
-        by false is = settled_links same hash name m known s old new at whole finding map i said leads terms moments c c_is is kept.tables u here nexts
+    behind_it : FindBehind (name i) map effects m
+    behind_it = calls_put_behind K V S same hash name m known s old new at whole kept.entries owning kept.owed finding.waits finding.puts map i u here said leads

@@ -44,6 +44,8 @@ use Rattle.papaya_shards.specs.ShardWords.{ShowsCounters, ShowsShards}
 use Rattle.papaya_shards.proofs.ShardKept.{none_shards, same_setting, word_kept}
 use Rattle.papaya_legal.specs.AllEvents.{scene_in}
 use Rattle.papaya_legal.specs.Carried.{ShowsCalls}
+use Rattle.papaya_histories.proofs.Given.Spots.Effects.{AllAside}
+use Rattle.papaya_legal.proofs.Sourced.{reclaimed_aside, same_maps_aside}
 use Rattle.papaya_legal.proofs.Finding.Others.{finding_of_none}
 use Rattle.papaya_legal.proofs.OfAll.Tells.{gone_by, it_reclaims, none_under_way}
 use Rattle.papaya_legal.proofs.Uncounted.{none_counted}
@@ -134,6 +136,9 @@ module _ {K V S : Type 0} (same : K → K → Bool) (hash : K → ℕ) (name : �
     );
     kept = reclaiming_keeps same hash name m known s calls.whole calls.kept old new i lists before after told under_way leads;
     finding = finding_of_none K V name m known (known_after Row x known) s t (λ n j u is. none n j u is) effects leads.1.as_they_were calls.finding;
+    sources = same_maps_aside K V same name m known (known_after Row x known) s t None None effects
+        (subst AllAside (sym (it_reclaims same hash name m known s calls.whole calls.kept old new i lists before after told under_way leads)) (reclaimed_aside (gone_by known x))) calls.sources whole_then.all.shown
+        leads.1.as_they_were;
     nexts = λ n j u is c found. absurd (none n j u is);
     limits = λ n j u is c found. absurd (none n j u is);
     counters = counters_then;

@@ -91,17 +91,18 @@ module _ {K V S : Type 0} (same : K → K → Bool) (hash : K → ℕ) (terms : 
     pub under_way : IsReclaiming same hash f.0.logged.executor scene i lists f.1
     pub roots : f.0.logged.executor.roots ≡ terms.roots
     pub size : f.0.logged.executor.batch_size ≡ terms.batch_size
+    pub calls : scene.calls ≡ s0.calls
     pub settings : (k : ℕ) → option_map (λ standing. standing.setting) (scene.maps k) ≡ option_map (λ standing. standing.setting) (s0.maps k)
 
   pub all_comes : (s0 : Scene K V) (n : ℕ) (from to : Far K V S × ReclaimAll) (now : Moment K V) (s : Scene K V) (lists : ℕ → List ℕ) → IsReclaiming same hash from.0.logged.executor s i lists from.1
       → from.0.logged.executor.roots ≡ terms.roots → from.0.logged.executor.batch_size ≡ terms.batch_size
-      → ((k : ℕ) → option_map (λ standing. standing.setting) (s.maps k) ≡ option_map (λ standing. standing.setting) (s0.maps k)) → GoesFor ReclaimingOn n from to
+      → s.calls ≡ s0.calls → ((k : ℕ) → option_map (λ standing. standing.setting) (s.maps k) ≡ option_map (λ standing. standing.setting) (s0.maps k)) → GoesFor ReclaimingOn n from to
       → AllComes s0 n (all_come from now s lists) to
-  all_comes s0 zero from to now s lists under roots size settings is =
+  all_comes s0 zero from to now s lists under roots size calls settings is =
       subst (λ (f : Far K V S × ReclaimAll). AllComes s0 0 (all_come from now s lists) f) is
-      (record { now = now; scene = s; lists = lists; chain = refl; under_way = under; roots = roots; size = size; settings = settings })
-  all_comes s0 (suc n) from to now s lists under roots size settings (mid, gone, step) =
-      let y = all_comes s0 n from mid now s lists under roots size settings gone in
+      (record { now = now; scene = s; lists = lists; chain = refl; under_way = under; roots = roots; size = size; calls = calls; settings = settings })
+  all_comes s0 (suc n) from to now s lists under roots size calls settings (mid, gone, step) =
+      let y = all_comes s0 n from mid now s lists under roots size calls settings gone in
       record {
         now = then_now mid to y.now y.scene y.lists y.under_way y.roots step.0;
         scene = then_scene mid to y.now y.scene y.lists y.under_way y.roots step.0;
@@ -110,6 +111,7 @@ module _ {K V S : Type 0} (same : K → K → Bool) (hash : K → ℕ) (terms : 
         under_way = still_under mid to y.now y.scene y.lists y.under_way y.roots step.0 step.1;
         roots = step.0.0.given.2 ∙ y.roots;
         size = step.0.0.given.1 ∙ y.size;
+        calls = y.calls;
         settings = λ k. same_setting (y.scene.maps k) ((leads mid to y.now y.scene y.lists y.under_way y.roots step.0).1.maps2 k)
             ((leads mid to y.now y.scene y.lists y.under_way y.roots step.0).1.as_they_were k) ∙ y.settings k;
       }

@@ -15,6 +15,9 @@ use Rattle.papaya_histories.specs.Given.Schedules.Terms.{Terms}
 use Rattle.papaya_histories.specs.Given.Schedules.Views.{call_of}
 use Rattle.papaya_histories.specs.Given.Effects.Known.{known}
 use Rattle.papaya_histories.specs.Given.Finishes.Machines.{machine_of}
+use Rattle.papaya_histories.specs.Given.Schedules.Moment.{Moment}
+use Rattle.papaya_histories.specs.Given.Schedules.After.{after}
+use Rattle.papaya_histories.specs.Given.Schedules.declared.event.Event.TheVariants.{Go, Step}
 use Rattle.papaya_legal.specs.CallEvents.{IsLegalBut}
 use Rattle.papaya_legal.specs.Carried.{ShowsRun}
 use Rattle.papaya_legal.specs.Over.{GoesOnBy, IsSaidSo}
@@ -33,6 +36,7 @@ use Rattle.papaya_scheduler.proofs.Rights.{entry_is}
 use Rattle.papaya_scheduler.proofs.Stopped.{asked_ready}
 use Rattle.papaya_stepping.specs.Stepping.{SaysAgain}
 use Rattle.papaya_stepping.proofs.Again.{far_ready}
+use Rattle.papaya_running.proofs.OfCalls.Worth.{SaidIn, event_says}
 use Rattle.papaya_running.specs.OfCalls.{Runs, RunsOn}
 use Rattle.papaya_running.proofs.OfCalls.AsBefore.{as_before}
 
@@ -120,8 +124,15 @@ module _ {K V S : Type 0} (same : K → K → Bool) (hash : K → ℕ) (terms : 
             asked_ready here.caller.kind (machine_of here.way.0)
             (subst (λ (how : HowFar). IsAsFar here.caller.kind how (machine_of here.way.0)) (subst (λ (o : Outcome V). IsSaidAt o here.caller.stands) ready is) here.way.4.0)
 
+    -- no call begins, and none is told a reply
+    says_again : (x : Event K V) → GoesOnBy x own → (o : Outcome V) → IsSaidAt o here.caller.stands → (v : Moment K V)
+        → SaidIn v.calls (after (record { event = x; outcome = o; steps = 0; effects = [] }) v).calls
+    says_again (Step caller refuse) its o so v = event_says (record { event = Step caller refuse; outcome = o; steps = 0; effects = [] }) v tt
+    says_again (Go caller refuse) its o so v = event_says (record { event = Go caller refuse; outcome = o; steps = 0; effects = [] }) v tt
+    says_again _ its o so v = absurd its
+
     pub again_on : RunsOn same hash terms log (entry_of event played) new
     again_on =
         subst (λ (x : Entry K V). RunsOn same hash terms log x new) (sym entry_as)
-        (as_before same hash terms log old new runs (ap (λ (x : Scheduler K V S). x.logged) again.3) (ap (λ (x : Scheduler K V S). x.calls) again.3) e legal.0 legal.1
+        (as_before same hash terms log old new runs (ap (λ (x : Scheduler K V S). x.logged) again.3) (ap (λ (x : Scheduler K V S). x.calls) again.3) e legal.0 legal.1 (says_again event on said is (moment log))
         (subst (λ (x : Entry K V). IsPlayed same hash terms (x ∷ log) new) entry_as plays) (subst (ComesRight terms log) entry_as right))

@@ -1,4 +1,4 @@
--- What a step of a call on one key answers is told as the call means, if a value that it tells back is the one that was given; and what it asks, by the number of the pair about which it asks.
+-- What a step of a call on one key answers is told as the call means, as its caller keeps the value that it is to tell back; and what it asks, by the number of the pair about which it asks.
 use Rattle.std.specs.Prelude.{◌≡◌, ◌⊎◌, ℕ, Bool, true, false, List, Option, Some, None, option_map}
 use Rattle.std.proofs.Common.{refl, ap, sym, subst, ◌∙◌, inl, inr}
 use Rattle.papaya_histories.specs.Given.Tables.declared.node.Node.{Node}
@@ -29,10 +29,21 @@ use Rattle.papaya_histories.specs.Events.{ComesToIt}
 use Rattle.papaya_histories.specs.InEvent.{ComesSo}
 use Rattle.papaya_histories.specs.OtherMidsts.{AsksAsSaid}
 use Rattle.papaya_histories.proofs.AnyCall.InEvent.{events_have_words}
+use Rattle.papaya_histories.specs.InEvent.{InEvent, here_of}
+use Rattle.papaya_histories.specs.Given.Schedules.declared.effect.Effect.{Effect}
+use Rattle.papaya_histories.specs.Given.Schedules.Entry.{Entry}
+use Rattle.papaya_histories.specs.Given.Schedules.Moment.{UnderWay as CallThere, Moment}
+use Rattle.papaya_histories.specs.Given.Callers.Together.{UnderWay, CallOnKey, OnKey, ForRoom, Counting, OverAll}
+use Rattle.papaya_histories.specs.Given.Executor.IsAt.{Scene}
+use Rattle.papaya_histories.specs.Given.Executor.Stepping.{StepLeads}
+use Rattle.papaya_histories.specs.Given.Finishes.Machines.{machine_of}
+use Rattle.papaya_histories.specs.OtherCalls.{IsOnNoKey}
 use Rattle.papaya_named.specs.Seen.{kind_of, kind_on}
 use Rattle.papaya_named.specs.Telling.{aborted_with, answer_on, number_by, number_in, occupied_by}
 use Rattle.papaya_stepping.specs.Stepping.{outcome_of}
-use Rattle.papaya_running.specs.OfCalls.{LastStepsTell, TellsValue}
+use Rattle.papaya_values.specs.Values.{KeepsValue}
+use Rattle.papaya_values.proofs.Values.{inserts_tell_theirs}
+use Rattle.papaya_running.specs.OfCalls.{LastStepsTell}
 use Rattle.papaya_running.proofs.OfCalls.Words.{tells_of}
 
 -- what is stored is the reply's value, and else nothing is meant
@@ -79,23 +90,24 @@ module _ {V : Type 0} (by : Known) (word n : ℕ) (names : NamesPair by word n) 
   stored_it : answer.Stored n ≡ a → a ≡ answer.Stored (number_by by word)
   stored_it is = sym is ∙ ap answer.Stored (sym (number_is by word n names))
 
+-- and a value that the caller keeps is told back
+module _ {V : Type 0} (value : Option V) (w : V) (a : Answer V) (keeps : value ≡ Some w) where
+  aborts : answer.Aborted w ≡ a → a ≡ aborted_with value
+  aborts is = sym is ∙ ap (λ (x : Option V). aborted_with x) (sym keeps)
+
+  occupied : (number : ℕ) → answer.Occupied number w ≡ a → a ≡ occupied_by number value
+  occupied number is = sym is ∙ ap (λ (x : Option V). occupied_by number x) (sym keeps)
+
 module _ {K V : Type 0} (by : Known) (value : Option V) (replies : List (Option ℕ × Reply V)) where
   -- what is told of an answer of a call on one key
   abbrev told : OneKey K V → KeyAnswer → Answer V
   told one a = answer_on by (kind_on one) value a
 
-  -- a value that it tells back is the one that was given
+  -- the value that it tells back is the one that was given: by `try_insert` its own, and by `compute` the one with which it was told to abort
   abbrev Tells : OneKey K V → KeyAnswer → Type 0
-  Tells one a = TellsValue (On one) replies (outcome.Answered (told one a))
-
-  aborts : (about : Option ℕ) (w : V) (a : Answer V) (k : K) (x : Option V) → reply_to about replies ≡ Some (Aborts w) → answer.Aborted w ≡ a
-      → TellsValue (On (Compute k)) replies (outcome.Answered (aborted_with x)) → a ≡ aborted_with x
-  aborts about w a k None replied is tells = absurd tells
-  aborts about w a k (Some x) replied is tells = sym is ∙ ap answer.Aborted (sym (tells about w replied))
-
-  occupied : (number : ℕ) (v : V) (a : Answer V) (k : K) (x : Option V) → answer.Occupied number v ≡ a → TellsValue (On (TryInsert k v)) replies (outcome.Answered (occupied_by number x)) → a ≡ occupied_by number x
-  occupied number v a k None is tells = absurd tells
-  occupied number v a k (Some x) is tells = sym is ∙ ap (answer.Occupied number) (sym tells)
+  Tells (TryInsert k v) (says.Found word) = value ≡ Some v
+  Tells (Compute k) it = (about : Option ℕ) (w : V) → reply_to about replies ≡ Some (Aborts w) → value ≡ Some w
+  Tells one it = Unit {0}
 
   module _ (word n : ℕ) (names : NamesPair by word n) (a : Answer V) where
     found_by : (reply : Option (Reply V)) → reply_to (Some n) replies ≡ reply → (one : OneKey K V) → means one reply (Some n) 0 ≡ Answers a Leaves → Tells one (says.Found word) → a ≡ told one (says.Found word)
@@ -104,14 +116,14 @@ module _ {K V : Type 0} (by : Known) (value : Option V) (replies : List (Option 
     found_by reply is (ContainsKey k) e tells = found_it by word n names a (cc e)
     found_by reply is (Insert k v) e tells = absurd (cc e)
     found_by reply is (TryInsert k v) e tells =
-        occupied (number_by by word) v a k value (ap (λ (x : ℕ). answer.Occupied x v) (number_is by word n names) ∙ (let f : answer.Occupied n v ≡ a = cc e in f)) tells
+        occupied value v a tells (number_by by word) (ap (λ (x : ℕ). answer.Occupied x v) (number_is by word n names) ∙ (let f : answer.Occupied n v ≡ a = cc e in f))
     found_by reply is (TryInsertWith k) e tells = kept_it by word n names a (cc e)
     found_by reply is (GetOrInsert k v) e tells = found_it by word n names a (cc e)
     found_by reply is (GetOrInsertWith k) e tells = found_it by word n names a (cc e)
     found_by reply is (Update k) e tells = absurd (never_leaves reply (answer.Stored 0) a e)
     found_by reply is (UpdateOrInsert k v) e tells = absurd (never_leaves reply (answer.Stored 0) a e)
     found_by reply is (UpdateOrInsertWith k) e tells = absurd (never_leaves reply (answer.Stored 0) a e)
-    found_by (Some (Aborts w)) is (Compute k) e tells = aborts (Some n) w a k value is (cc e) tells
+    found_by (Some (Aborts w)) is (Compute k) e tells = aborts value w a (tells (Some n) w is) (cc e)
     found_by (Some (Gives w)) is (Compute k) e tells = absurd (cc e)
     found_by (Some Removes) is (Compute k) e tells = absurd (cc e)
     found_by (Some (Decides q)) is (Compute k) e tells = absurd (cc e)
@@ -184,7 +196,7 @@ module _ {K V : Type 0} (by : Known) (value : Option V) (replies : List (Option 
   absent_by a reply is (Update k) e tells = let f : answer.Absent ≡ a = cc e in sym f
   absent_by a reply is (UpdateOrInsert k v) e tells = absurd (cc e)
   absent_by a reply is (UpdateOrInsertWith k) e tells = absurd (never_leaves reply (answer.Stored 0) a e)
-  absent_by a (Some (Aborts w)) is (Compute k) e tells = aborts None w a k value is (cc e) tells
+  absent_by a (Some (Aborts w)) is (Compute k) e tells = aborts value w a (tells None w is) (cc e)
   absent_by a (Some (Gives w)) is (Compute k) e tells = absurd (cc e)
   absent_by a (Some Removes) is (Compute k) e tells = absurd (cc e)
   absent_by a (Some (Decides q)) is (Compute k) e tells = absurd (cc e)
@@ -235,10 +247,10 @@ module _ {K V : Type 0} (by : Known) (value : Option V) (replies : List (Option 
   means_it one (says.Removed word) a (inl so) tells = absurd so
   means_it one (says.Removed word) a (inr (o, names, so)) tells = removed_by word o names a (reply_to (Some o) replies) one (so 0)
 
-  key_comes : (one : OneKey K V) (said : Progress (Node K V)) (o : Outcome V) → ComesToIt by one replies said o → TellsValue (On one) replies (outcome_of by (kind_on one) value said)
+  key_comes : (one : OneKey K V) (said : Progress (Node K V)) (o : Outcome V) → ComesToIt by one replies said o → ((it : KeyAnswer) → said ≡ progress.Done (answers.Key it) → Tells one it)
       → ComesToIt by one replies said (outcome_of by (kind_on one) value said)
   key_comes one (progress.Done (answers.Key it)) (outcome.Answered a) so tells =
-      subst (λ (x : Answer V). IsToldAs by one replies it x ⊎ IsToldDone by one replies it x) (means_it one it a so tells) so
+      subst (λ (x : Answer V). IsToldAs by one replies it x ⊎ IsToldDone by one replies it x) (means_it one it a so (tells it refl)) so
   key_comes one (progress.Asks about) (outcome.Asks question) so tells = question_is by about question so
   key_comes one progress.Goes o so tells = tt
   key_comes one progress.Waits o so tells = tt
@@ -259,17 +271,42 @@ module _ {K V : Type 0} (by : Known) (value : Option V) (replies : List (Option 
   other_comes call (progress.Refused fault) o so = tt
   other_comes call (progress.Asks about) _ so = absurd so
 
-  pub comes_so : (call : Call K V) (said : Progress (Node K V)) (o : Outcome V) → ComesSo by call replies said o → TellsValue call replies (outcome_of by (kind_of call) value said)
+  pub comes_so : (call : Call K V) (said : Progress (Node K V)) (o : Outcome V) → ComesSo by call replies said o
+      → ((one : OneKey K V) → call ≡ On one → (it : KeyAnswer) → said ≡ progress.Done (answers.Key it) → Tells one it)
       → ComesSo by call replies said (outcome_of by (kind_of call) value said)
-  comes_so (On one) said o so tells = key_comes one said o so tells
+  comes_so (On one) said o so tells = key_comes one said o so (tells one refl)
   comes_so (Reserve more) said o so tells = other_comes (Reserve more) said o so
   comes_so Clear said o so tells = other_comes Clear said o so
   comes_so Retain said o so tells = other_comes Retain said o so
   comes_so Len said o so tells = other_comes Len said o so
   comes_so Walk said o so tells = other_comes Walk said o so
 
+-- a call on one key is under way as one
+on_key : {K V : Type 0} (same : K → K → Bool) (name : ℕ → List ℕ) (log : List (Entry K V)) (beginning : Moment K V) (map i : ℕ) (c : CallThere K V) (done : List Effect) (m : Moment K V) (known : Known) (s : Scene K V)
+    (u : UnderWay K V K) → InEvent same name log beginning map i c done m known s u → (one : OneKey K V) → c.call ≡ On one → (x : CallOnKey K V K) × (u ≡ OnKey x)
+on_key same name log beginning map i c done m known s (OnKey x) midst one is = (x, refl)
+on_key same name log beginning map i c done m known s (ForRoom r) midst one is = absurd (subst IsOnNoKey is midst.other)
+on_key same name log beginning map i c done m known s (Counting sum) midst one is = absurd (subst IsOnNoKey is midst.other)
+on_key same name log beginning map i c done m known s (OverAll o) midst one is = absurd (subst IsOnNoKey is midst.other)
+
 pub last_steps_tell : (K V S : Type 0) (same : K → K → Bool) (hash : K → ℕ) → LastStepsTell K V S same hash
-last_steps_tell K V S same hash name terms log event beginning map i c steps done m known s u midst old new at said leads value comes tells =
+last_steps_tell K V S same hash name terms log event beginning map i c steps done m known s u midst old new at said leads d d_is call_so replies_so value comes keeps =
     let words = events_have_words K V S same hash name log beginning map i c done m known s u midst.event_so old new at said leads in
     let by = known_after (acts.Call i map) new.memory.changed known in
     (comes_so by value c.replies c.call said words.0 words.1 tells, tells_of same log m map by value c.call said comes)
+  where
+    here : s.calls map i ≡ Some u
+    here = here_of same name log beginning map i c done m known s u midst.event_so
+
+    keeps_now : KeepsValue d.call d.replies (machine_of u) value
+    keeps_now =
+        subst (λ (x : Call K V). KeepsValue x d.replies (machine_of u) value) (sym call_so) (subst (λ (l : List (Option ℕ × Reply V)). KeepsValue c.call l (machine_of u) value) (sym replies_so) keeps)
+
+    tells : (one : OneKey K V) → c.call ≡ On one → (it : KeyAnswer) → said ≡ progress.Done (answers.Key it) → Tells (known_after (acts.Call i map) new.memory.changed known) value c.replies one it
+    tells (TryInsert k v) is (says.Found word) done_so =
+        inserts_tell_theirs K V S same hash name m known s old new at midst.calls.whole map i u here word (subst (λ (x : Progress (Node K V)). StepLeads same hash i x s old new) done_so leads) d d_is k v
+        (call_so ∙ is) value keeps_now
+    tells (Compute k) is it done_so =
+        let x = on_key same name log beginning map i c done m known s u midst.event_so (Compute k) is in
+        λ about w replied. (subst (λ (p : UnderWay K V K). KeepsValue (On (Compute k)) c.replies (machine_of p) value) x.1 (subst (λ (call : Call K V). KeepsValue call c.replies (machine_of u) value) is keeps) about w replied).1
+    tells _ is it done_so = tt

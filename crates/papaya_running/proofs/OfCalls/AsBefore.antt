@@ -1,6 +1,6 @@
 -- An event after which executor, notes and callers are as they were: the run goes on with it, in the same scene, if it is legal.
 use Rattle.std.specs.Prelude.{◌≡◌, ℕ, Bool, List, ◌∷◌}
-use Rattle.std.proofs.Common.{ap, sym, subst, ◌∙◌}
+use Rattle.std.proofs.Common.{refl, ap, sym, subst, ◌∙◌}
 use Rattle.papaya_histories.specs.Given.Schedules.After.{moment}
 use Rattle.papaya_histories.specs.Given.Schedules.Entry.{Entry}
 use Rattle.papaya_histories.specs.Given.Schedules.InTurn.{ComesRight}
@@ -18,14 +18,15 @@ use Rattle.papaya_logged.specs.declared.logged.Logged.{Logged}
 use Rattle.papaya_scheduler.specs.Played.{IsPlayed}
 use Rattle.papaya_named.specs.declared.caller.Callers.{Callers}
 use Rattle.papaya_scheduler.specs.declared.scheduler.Scheduler.{Scheduler}
-use Rattle.papaya_running.specs.OfCalls.{HaveShards, Runs, RunsOn}
+use Rattle.papaya_running.proofs.OfCalls.Worth.{SaidIn, have_values_then}
+use Rattle.papaya_running.specs.OfCalls.{HaveShards, HaveValues, Runs, RunsOn}
 use Rattle.papaya_running.proofs.OfCalls.Scenes.{AreNamed, its_named, stands_in}
 use Rattle.papaya_running.proofs.Remaining.{counted_in}
 use Rattle.papaya_running.proofs.Reached.{reached_by}
 
 module _ {K V S : Type 0} (same : K → K → Bool) (hash : K → ℕ) (terms : Terms) (log : List (Entry K V)) (old new : Scheduler K V S) (runs : Runs same hash terms log old) (logged_is : new.logged ≡ old.logged)
     (calls_are : new.calls ≡ old.calls) (e : Entry K V) (legal : IsLegalBut same terms log e) (run : ShowsRun same runs.stands.name terms (e ∷ log) (known old.logged.notes) runs.stands.scene)
-    (plays : IsPlayed same hash terms (e ∷ log) new) (right : ComesRight terms log e) where
+    (said : SaidIn (moment log).calls (moment (e ∷ log)).calls) (plays : IsPlayed same hash terms (e ∷ log) new) (right : ComesRight terms log e) where
   is_at : IsAt same hash new.logged.executor runs.stands.scene
   is_at = subst (λ (l : Logged K V S). IsAt same hash l.executor runs.stands.scene) (sym logged_is) runs.stands.shown.is_at
 
@@ -50,6 +51,8 @@ module _ {K V S : Type 0} (same : K → K → Bool) (hash : K → ℕ) (terms : 
           (subst (λ (cs : Callers V). AreNamed runs.stands.name cs.items.items) (sym calls_are) (its_named same hash terms (moment log) old runs.stands));
       shows = subst (λ (l : Logged K V S). ShowsRun same runs.stands.name terms (e ∷ log) (known l.notes) runs.stands.scene) (sym logged_is) run;
       come = events_bring_things K V terms log e runs.come legal.life.finds;
+      values = subst (λ (cs : Callers V). HaveValues (moment (e ∷ log)) runs.stands.scene cs.items.items) (sym calls_are)
+          (have_values_then (moment log) (moment (e ∷ log)) said runs.stands.scene runs.stands.scene refl old.calls.items.items runs.values);
       size = ap (λ (l : Logged K V S). l.executor.batch_size) logged_is ∙ runs.size;
       shards = subst (λ (l : Logged K V S). HaveShards terms l.executor) (sym logged_is) runs.shards;
       reached = reached_by same hash terms log e old new right plays (ap (λ (l : Logged K V S). known l.notes) logged_is) runs.reached;

@@ -1,7 +1,7 @@
 -- A call begins: the event that begins it is legal, and the run goes on with it; and an event that goes on with it, too, is in its midst then.
-use Rattle.std.specs.Prelude.{◌≡◌, ℕ, Bool, List, [], ◌∷◌, Some, None}
-use Rattle.std.specs.List.{AllByRecursion}
-use Rattle.std.proofs.Common.{refl, ap, sym, subst, ◌∙◌}
+use Rattle.std.specs.Prelude.{◌≡◌, ◌||◌, cond, ℕ, Bool, true, false, List, [], ◌∷◌, Option, Some, None}
+use Rattle.std.specs.List.{AllByRecursion, list_any}
+use Rattle.std.proofs.Common.{refl, ap, sym, subst, ◌∙◌, inl, inr}
 use Rattle.papaya_histories.specs.Given.Seize.World.{Rests}
 use Rattle.papaya_histories.specs.Given.Runs.Same.{is_same}
 use Rattle.papaya_histories.specs.Given.Schedules.declared.call.Call.{Call}
@@ -11,12 +11,12 @@ use Rattle.papaya_histories.specs.Given.Schedules.declared.call.OneKey.TheVarian
 use Rattle.papaya_histories.specs.Given.Schedules.declared.event.Event.TheVariants.{Begin}
 use Rattle.papaya_histories.specs.Given.Schedules.declared.outcome.Outcome.TheVariants.{Goes}
 use Rattle.papaya_histories.specs.Given.Schedules.After.{moment}
-use Rattle.papaya_histories.specs.Given.Schedules.Beginning.{with_call}
+use Rattle.papaya_histories.specs.Given.Schedules.Beginning.{fresh_call, with_call}
 use Rattle.papaya_histories.specs.Given.Schedules.Entry.{Entry}
 use Rattle.papaya_histories.specs.Given.Schedules.InTurn.{ComesRight}
-use Rattle.papaya_histories.specs.Given.Schedules.Moment.{Moment}
+use Rattle.papaya_histories.specs.Given.Schedules.Moment.{UnderWay as CallThere, Moment}
 use Rattle.papaya_histories.specs.Given.Schedules.Terms.{Terms}
-use Rattle.papaya_histories.specs.Given.Schedules.Views.{number_of}
+use Rattle.papaya_histories.specs.Given.Schedules.Views.{call_of, number_of}
 use Rattle.papaya_histories.specs.Given.Callers.Together.{UnderWay}
 use Rattle.papaya_histories.specs.Given.Effects.Known.{Known, known}
 use Rattle.papaya_histories.specs.Given.Executor.Beginning.{Begins}
@@ -25,6 +25,10 @@ use Rattle.papaya_histories.specs.Given.Executor.Replying.{scene_with}
 use Rattle.papaya_histories.specs.Given.Finishes.Maps.{Standing}
 use Rattle.papaya_histories.specs.Given.Follows.Calling.{NoneNamed}
 use Rattle.papaya_histories.specs.AsCalled.{IsBegunAs}
+use Rattle.papaya_histories.specs.Given.Raw.declared.machines.machine.Machine.{Machine}
+use Rattle.papaya_histories.specs.Given.Finishes.Machines.{machine_of}
+use Rattle.papaya_histories.proofs.Given.Follows.Calling.{apart_back, is_same_refl}
+use Rattle.papaya_histories.proofs.Given.Hands.Asking.{which}
 use Rattle.papaya_promises.specs.Meanwhile.{BeginsToLook}
 use Rattle.papaya_purposes.specs.Purposes.{IsFor}
 use Rattle.papaya_legal.proofs.Come.{events_bring_things}
@@ -36,13 +40,16 @@ use Rattle.papaya_legal.proofs.Over.{runs_by_other_names}
 use Rattle.papaya_logged.specs.Shown.{IsCounted, IsShown}
 use Rattle.papaya_rows.proofs.Facts.{row_rests}
 use Rattle.papaya_scheduler.specs.Played.{HasBegun, IsPlayed, IsUnderWay}
-use Rattle.papaya_named.specs.Seen.{Seen}
+use Rattle.papaya_named.specs.Seen.{Seen, is_named}
 use Rattle.papaya_named.specs.declared.caller.Caller.{Caller}
 use Rattle.papaya_scheduler.specs.declared.scheduler.Scheduler.{Scheduler}
 use Rattle.papaya_scheduler.proofs.Begins as beginning
-use Rattle.papaya_named.proofs.Called.{begins_so, begun_call, is_begun_for, is_called}
+use Rattle.papaya_named.proofs.Called.{begins_so, begun_call, is_begun_for, is_called, its_machine}
 use Rattle.papaya_scheduler.proofs.Rights.{quiet}
-use Rattle.papaya_running.specs.OfCalls.{HaveShards, Runs, RunsOn}
+use Rattle.papaya_values.specs.Values.{KeepsValue}
+use Rattle.papaya_values.proofs.Values.{values_begin}
+use Rattle.papaya_running.proofs.OfCalls.Worth.{SaidIn, event_says, have_values_then}
+use Rattle.papaya_running.specs.OfCalls.{HaveShards, HaveValues, IsWorth, Runs, RunsOn}
 use Rattle.papaya_running.proofs.OfCalls.Scenes.{AreNamed, stands_in}
 use Rattle.papaya_running.proofs.Remaining.{counted_in}
 use Rattle.papaya_running.proofs.Reached.{reached_by}
@@ -92,6 +99,9 @@ module _ {K V : Type 0} (same : K → K → Bool) (st : Standing K) (i : ℕ) wh
 
   begun_right : (call : Call K V) → IsBegunRight same (begun_call same st i call) call
   begun_right call = record { called = is_called same st i call; given = is_begun_for same st i call; swept = begun_as call; aim = begun_for call; looks = begun_to_look call }
+
+the : {X : Type 0} (a b : X) → Some a ≡ Some b → a ≡ b
+the a b is = cc is
 
 module _ {K V S : Type 0} (same : K → K → Bool) (hash : K → ℕ) (terms : Terms) (log : List (Entry K V)) (old : Scheduler K V S) (runs : Runs same hash terms log old) (own guard on : List ℕ) (call : Call K V)
     (new : Scheduler K V S) (led : HasBegun same hash own guard on call old new) where
@@ -167,6 +177,51 @@ module _ {K V S : Type 0} (same : K → K → Bool) (hash : K → ℕ) (terms : 
   pub notes_here : known new.logged.notes ≡ known old.logged.notes
   notes_here = ap known led.notes
 
+  -- the moment at which it has begun
+  abbrev pub then_m : Moment K V
+  then_m = with_call own guard call (Some led.number) m
+
+  map_here : led.caller.map ≡ led.number
+  map_here = ap (λ (z : Seen). z.map) led.is
+
+  caller_named : led.caller.name ≡ own
+  caller_named = ap (λ (z : Seen). z.name) led.is
+
+  -- there is nothing yet that its caller must keep
+  pub own_worth : (value : Option V) → KeepsValue call [] (machine_of u) value
+  own_worth value = subst (λ (x : Machine K V K). KeepsValue call [] x value) (sym (its_machine same st i call)) (values_begin K V _ st.hash call value)
+
+  first_worth : IsWorth then_m then_at led.caller
+  first_worth x here c is =
+      let x_is = the x u (sym here ∙ ap (λ (n : ℕ). then_at.calls n led.caller.number) map_here ∙ ap (λ (j : ℕ). then_at.calls led.number j) led.numbered ∙ under_here) in
+      let c_is = the c (fresh_call own guard call led.number m.events) (sym is ∙ ap (λ (l : List ℕ). call_of l then_m) caller_named
+      ∙ ap (λ (q : Bool). cond q (Some (fresh_call own guard call led.number m.events)) (call_of own m)) (is_same_refl own)) in
+      subst (λ (y : CallThere K V). KeepsValue y.call y.replies (machine_of x) led.caller.value) (sym c_is)
+      (subst (λ (y : UnderWay K V K). KeepsValue call [] (machine_of y) led.caller.value) (sym x_is) (own_worth led.caller.value))
+
+  -- and others keep what they must
+  pub olds_worth : HaveValues then_m then_at old.calls.items.items
+  olds_worth = by old.calls.items.items led.free runs.stands.calls.each runs.values
+    where
+      one : (d : Caller V) → is_named own d ≡ false → IsUnderWay runs.stands.name runs.stands.scene old.there d → IsWorth m runs.stands.scene d → IsWorth then_m then_at d
+      one d other way worth x here c is =
+          worth x
+          (elim (which runs.stands.scene.calls led.number i (Some u) d.map d.number x here) as (λ _. runs.stands.scene.calls d.map d.number ≡ Some x) [
+            | inl at ↦ absurd (let none = ap (runs.stands.scene.calls d.map) at.1 ∙ none_yet d.map in let some = way.1 in cc (none, some))
+            | inr apart ↦ apart.1
+          ]) c
+          (sym (ap (λ (q : Bool). cond q (Some (fresh_call own guard call led.number m.events)) (call_of d.name m)) (apart_back d.name own other)) ∙ is)
+
+      by : (ds : List (Caller V)) → list_any (is_named own) ds ≡ false → AllByRecursion (IsUnderWay runs.stands.name runs.stands.scene old.there) ds → HaveValues m runs.stands.scene ds → HaveValues then_m then_at ds
+      by [] free ways all = tt
+      by (d ∷ ds) free ways all = both (is_named own d) refl free (by ds)
+        where
+          both : (q : Bool) → is_named own d ≡ q → (q || list_any (is_named own) ds) ≡ false
+              → (list_any (is_named own) ds ≡ false → AllByRecursion (IsUnderWay runs.stands.name runs.stands.scene old.there) ds → HaveValues m runs.stands.scene ds → HaveValues then_m then_at ds)
+              → HaveValues then_m then_at (d ∷ ds)
+          both true e f ih = absurd (cc f)
+          both false e f ih = (one d e ways.0 all.0, ih f ways.1 all.1)
+
   -- maps are as they were, and so is the size of batches
   module _ (on_size : new.logged.executor.batch_size ≡ old.logged.executor.batch_size) where
     pub shards_here : HaveShards terms new.logged.executor
@@ -190,6 +245,12 @@ module _ {K V S : Type 0} (same : K → K → Bool) (hash : K → ℕ) (terms : 
       counted_here =
           counted_in same hash terms (moment (e own ∷ log)) new plays then_at shown_begun.is_at shown_begun.counted.remains.lists shown_begun.counted.remains.left
 
+      values : HaveValues (moment (e own ∷ log)) then_at new.calls.items.items
+      values =
+          have_values_then then_m (moment (e own ∷ log))
+          (subst (λ (o : Option ℕ). SaidIn (with_call own guard call o m).calls (moment (e own ∷ log)).calls) its.0 (event_says (e own) m tt)) then_at then_at refl new.calls.items.items
+          (subst (HaveValues then_m then_at) (sym led.items) (first_worth, olds_worth))
+
       pub begun_on : RunsOn same hash terms log (e own) new
       begun_on = record {
         legal = goes_on.0;
@@ -197,6 +258,7 @@ module _ {K V S : Type 0} (same : K → K → Bool) (hash : K → ℕ) (terms : 
           stands = stands_in same hash terms (moment (e own ∷ log)) new plays names then_at (record { is_at = shown_begun.is_at; shows = run_then.calls.whole; kept = run_then.calls.kept; counted = counted_here }) named_here;
           shows = run_then;
           come = events_bring_things K V terms log (e own) runs.come goes_on.0.life.finds;
+          values = values;
           size = on_size ∙ runs.size;
           shards = shards_here;
           reached = reached_by same hash terms log (e own) old new right plays notes_here runs.reached;

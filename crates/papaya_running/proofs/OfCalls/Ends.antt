@@ -1,7 +1,7 @@
 -- The last step of an event of a call: the event is legal but for what it comes to, and the run goes on with it.
 use Rattle.std.specs.Prelude.{◌≡◌, ◌⊎◌, ◌≤◌, ◌+◌, ℕ, suc, Bool, true, List, [], ◌∷◌, not, ◌||◌, Option, Some}
 use Rattle.std.specs.List.{list_any}
-use Rattle.std.proofs.Common.{ap, sym, subst, ◌∙◌, arith}
+use Rattle.std.proofs.Common.{refl, ap, sym, subst, ◌∙◌, arith}
 use Rattle.papaya_histories.specs.Given.SeizeWaiting.Held.{count}
 use Rattle.papaya_histories.specs.Given.SeizeWords.declared.fault.Fault.TheVariants.{Busy}
 use Rattle.papaya_histories.specs.Given.Schedules.declared.effect.Effect.{Effect}
@@ -23,6 +23,7 @@ use Rattle.papaya_histories.specs.Given.Effects.declared.acting.Acting.TheVarian
 use Rattle.papaya_histories.specs.Given.Executor.IsAt.{Scene, slot_of}
 use Rattle.papaya_histories.specs.Given.Finishes.Maps.{Standing}
 use Rattle.papaya_histories.specs.InEvent.{ComesSo}
+use Rattle.papaya_histories.specs.Given.Finishes.Machines.{machine_of}
 use Rattle.papaya_models.specs.CallEvents.{slot_of_call}
 use Rattle.papaya_finds.specs.Doing.{takes_steps}
 use Rattle.papaya_finds.specs.Parts.{FindAll}
@@ -44,11 +45,13 @@ use Rattle.papaya_named.specs.declared.kind.Kind.{Kind}
 use Rattle.papaya_scheduler.specs.declared.played.Played.{Played}
 use Rattle.papaya_scheduler.specs.declared.scheduler.Scheduler.{Scheduler}
 use Rattle.papaya_stepping.specs.Stepping.{ComesAs, IsStepped, outcome_of}
-use Rattle.papaya_running.specs.OfCalls.{RunsOn, TellsValue}
+use Rattle.papaya_running.specs.OfCalls.{HaveValues, RunsOn}
 use Rattle.papaya_running.proofs.OfCalls.Answers.{last_steps_tell}
 use Rattle.papaya_running.proofs.OfCalls.Found.{mask_is}
 use Rattle.papaya_running.proofs.OfCalls.Scenes.{stands_in}
-use Rattle.papaya_running.proofs.OfCalls.Steps.{HasCome, IsStep, as_told, caller_is, follows, leads, named_then, noted_so, noted_then, shards_then, shown_then, size_then, then_known, then_now, then_scene}
+use Rattle.papaya_running.proofs.OfCalls.Steps.{HasCome, IsStep, as_told, caller_is, follows, leads, named_then, noted_so, noted_then, shards_then, shown_then, size_then, then_known, then_now, then_scene, there_now, values_then}
+use Rattle.papaya_running.proofs.OfCalls.Worth.{SaidIn, TellsNone, event_says, have_values_then}
+use Rattle.papaya_values.specs.Values.{KeepsValue}
 use Rattle.papaya_running.proofs.OfCalls.Words.{not_busy, shows_as_told, tells_end}
 use Rattle.papaya_running.proofs.Remaining.{counted_in}
 use Rattle.papaya_running.proofs.Reached.{reached_after}
@@ -89,18 +92,26 @@ module _ {K V S : Type 0} (same : K → K → Bool) (hash : K → ℕ) (name : �
   abbrev pub Tells : Type 0
   Tells = ComesSo by c.call c.replies step.said played.outcome × TellsOf same log come.now map by step.said played.outcome c.call × ShowsAsTold {K = K} by step.said played.outcome
 
+  abbrev now_there : (d : CallThere K V) × (call_of (name i) come.now ≡ Some d) × (d.call ≡ c.call) × (d.replies ≡ c.replies)
+  now_there = there_now same hash name terms log event beginning map i c place n mid played.effects.items p new come its
+
+  keeps : KeepsValue c.call c.replies (machine_of come.under) value
+  keeps =
+      subst (λ (d : Caller V). KeepsValue c.call c.replies (machine_of come.under) d.value)
+      (sym (caller_is same hash name terms log event beginning map i c place n mid played.effects.items p new come its)) come.worth
+
   -- so it is where it comes to what a call does that goes on by itself
-  pub tells_so : ComesAs c.call played.outcome → TellsValue c.call c.replies played.outcome → Tells
-  tells_so comes_as values =
+  pub tells_so : ComesAs c.call played.outcome → Tells
+  tells_so comes_as =
       let told = last_steps_tell K V S same hash name terms log event beginning map i c n mid come.now (known p.logged.notes) come.scene come.under come.midst p.logged.executor new.logged.executor
-      come.shown.is_at step.said (leads same hash name terms log event beginning map i c place n mid played.effects.items p new come its) value (subst (ComesAs c.call) outcome_so comes_as)
-      (subst (TellsValue c.call c.replies) outcome_so values) in (
+      come.shown.is_at step.said (leads same hash name terms log event beginning map i c place n mid played.effects.items p new come its) now_there.0 now_there.1 now_there.2 now_there.3 value
+      (subst (ComesAs c.call) outcome_so comes_as) keeps in (
         as_said (λ (o : Outcome V). ComesSo by c.call c.replies step.said o) told.0,
         as_said (λ (o : Outcome V). TellsOf same log come.now map by step.said o c.call) told.1,
         as_said (ShowsAsTold {K = K} by step.said) (shows_as_told by (kind_of c.call) value c.call step.said (subst (ComesAs c.call) outcome_so comes_as)),
       )
 
-  module _ (tells : Tells) (begins : at_work e (moment log) ≡ beginning) (acted : acted_on event beginning ≡ Some map) (takes : (takes_steps event ≡ true) ⊎ (played.effects.items ≡ [])) (steps_are : played.steps ≡ n + 1)
+  module _ (tells : Tells) (begins : at_work e (moment log) ≡ beginning) (acted : acted_on event beginning ≡ Some map) (takes : (takes_steps event ≡ true) ⊎ (played.effects.items ≡ [])) (steps_are : played.steps ≡ n + 1) (silent : TellsNone event played.outcome)
       (never : played.outcome ≡ Refused Busy → ⊥) (right : ComesRight terms log e) (refused : (not (refuses event) || not (list_any is_made played.effects.items)) ≡ true)
       (finds : FindAll terms (moments_from c.begun log) (name i) map played.effects.items beginning) (slot : slot_of_call event (at_work e (moment log)) ≡ slot_of i)
       (active : ComesAlone event log → 1 ≤ count (slot_of i) (sets_in terms.batch_size log).active) (plays : IsPlayed same hash terms (e ∷ log) new) where
@@ -142,6 +153,11 @@ module _ {K V S : Type 0} (same : K → K → Bool) (hash : K → ℕ) (name : �
           (shown_then same hash name terms log event beginning map i c place n mid played.effects.items p new come its).is_at its_left.lists its_left.left;
     }
 
+    values : HaveValues (moment (e ∷ log)) at_end new.calls.items.items
+    values =
+        have_values_then beginning (moment (e ∷ log)) (subst (λ (v : Moment K V). SaidIn v.calls (moment (e ∷ log)).calls) begins (event_says e (moment log) silent)) at_end at_end refl new.calls.items.items
+        (values_then same hash name terms log event beginning map i c place n mid played.effects.items p new played.outcome come step)
+
     grows : (known p.logged.notes).buckets ≤ by.buckets
     grows = buckets_grow (acts.Call i map) new.logged.executor.memory.changed (known p.logged.notes)
 
@@ -153,6 +169,7 @@ module _ {K V S : Type 0} (same : K → K → Bool) (hash : K → ℕ) (name : �
             (named_then same hash name terms log event beginning map i c place n mid played.effects.items p new played.outcome come step);
         shows = after_run;
         come = events_bring_things K V terms log e had goes_on.0.life.finds;
+        values = values;
         size = size_then same hash name terms log event beginning map i c place n mid played.effects.items p new come its;
         shards = shards_then same hash name terms log event beginning map i c place n mid played.effects.items p new come its;
         reached = reached_after same hash terms log e p new right plays (subst (λ (k : Known). (known p.logged.notes).buckets ≤ k.buckets) (sym noted) grows) come.reached;

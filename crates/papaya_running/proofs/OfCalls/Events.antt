@@ -28,7 +28,7 @@ use Rattle.papaya_scheduler.proofs.Here.{Here, here_at}
 use Rattle.papaya_scheduler.proofs.Rights.{entry_is, quiet}
 use Rattle.papaya_stepping.specs.Stepping.{GoesAt, SaysAgain, StepsCome, TakenAs, TakenBy, TookNext, TookSteps, TookWhole}
 use Rattle.papaya_stepping.proofs.PlaysWhole.{goes_first, map_there}
-use Rattle.papaya_running.specs.OfCalls.{IsLeft, Runs, RunsOn}
+use Rattle.papaya_running.specs.OfCalls.{Runs, RunsOn}
 use Rattle.papaya_running.proofs.OfCalls.Again.{again_on}
 use Rattle.papaya_running.proofs.OfCalls.Begun.{begun_on, its}
 use Rattle.papaya_running.proofs.OfCalls.Quiet.{quiet_on, reads_of}
@@ -91,25 +91,25 @@ module _ {K V S : Type 0} (same : K → K → Bool) (hash : K → ℕ) (old new 
       stop_out own = by_quiet (Stop own) (quiet_on same hash terms log old new runs logged_is calls_are (Stop own) tt tt refl tt refl tt tt)
 
   module _ (terms : Terms) (log : List (Entry K V)) (runs : Runs same hash terms log old) where
-    module _ (event : Event K V) (own : List ℕ) (place : ℕ) (placed : Some place ≡ position (is_named own) old.calls.items.items) (left : IsLeft terms log (entry_of event played))
+    module _ (event : Event K V) (own : List ℕ) (place : ℕ) (placed : Some place ≡ position (is_named own) old.calls.items.items) (left : ComesRight terms log (entry_of event played))
         (plays : IsPlayed same hash terms (entry_of event played ∷ log) new) (most : ℕ) (on : GoesOnBy event own) where
       abbrev its_here : Here same hash terms (moment log) old runs.stands own place
       its_here = here_at same hash terms (moment log) old runs.stands own place placed
 
       by_far : ((goes : its_here.caller.stands ≡ far.Goes) → StepsCome same hash place most played.steps played.outcome [] played.effects.items old new → RunsOn same hash terms log (entry_of event played) new)
           → (how : HowFar) → its_here.caller.stands ≡ how → TakenBy same hash place most how played old new → RunsOn same hash terms log (entry_of event played) new
-      by_far so (far.Asks question) is says = again_on same hash terms log old runs own place placed event on (Asks question) is played new says left.right plays
-      by_far so far.Ready is says = again_on same hash terms log old runs own place placed event on Ready is played new says left.right plays
+      by_far so (far.Asks question) is says = again_on same hash terms log old runs own place placed event on (Asks question) is played new says left plays
+      by_far so far.Ready is says = again_on same hash terms log old runs own place placed event on Ready is played new says left plays
       by_far so far.Goes is come = so is come
 
-    pub step_on : (own : List ℕ) (refuse : Bool) → TookSteps same hash 1 own played old new → MakesNoMore refuse [] played.effects.items → IsLeft terms log (entry_of (Step own refuse) played)
+    pub step_on : (own : List ℕ) (refuse : Bool) → TookSteps same hash 1 own played old new → MakesNoMore refuse [] played.effects.items → ComesRight terms log (entry_of (Step own refuse) played)
         → IsPlayed same hash terms (entry_of (Step own refuse) played ∷ log) new → RunsOn same hash terms log (entry_of (Step own refuse) played) new
     step_on own refuse took refused left plays = by (position (is_named own) old.calls.items.items) refl
       where
         by : (o : Option ℕ) → position (is_named own) old.calls.items.items ≡ o → RunsOn same hash terms log (entry_of (Step own refuse) played) new
         by None is =
             let says = took.1 is in
-            step_out terms log runs says.0 says.1 says.2 (logged_as old says.3 refl) (calls_as old says.3 refl) own refuse left.right plays
+            step_out terms log runs says.0 says.1 says.2 (logged_as old says.3 refl) (calls_as old says.3 refl) own refuse left plays
         by (Some place) is =
             let placed = sym is in
             let it = here_at same hash terms (moment log) old runs.stands own place placed in
@@ -117,14 +117,14 @@ module _ {K V S : Type 0} (same : K → K → Bool) (hash : K → ℕ) (old new 
             (λ goes come. taken_on same hash terms log old runs (Step own refuse) own refl refl place placed (λ x. refl) refl played refl goes 1 new come left (none_made refuse refused) plays)
             it.caller.stands refl (took.0 place placed it.caller it.at)
 
-    pub go_on : (own : List ℕ) (refuse : Bool) → TookSteps same hash most_steps own played old new → MakesNoMore refuse [] played.effects.items → IsLeft terms log (entry_of (Go own refuse) played)
+    pub go_on : (own : List ℕ) (refuse : Bool) → TookSteps same hash most_steps own played old new → MakesNoMore refuse [] played.effects.items → ComesRight terms log (entry_of (Go own refuse) played)
         → IsPlayed same hash terms (entry_of (Go own refuse) played ∷ log) new → RunsOn same hash terms log (entry_of (Go own refuse) played) new
     go_on own refuse took refused left plays = by (position (is_named own) old.calls.items.items) refl
       where
         by : (o : Option ℕ) → position (is_named own) old.calls.items.items ≡ o → RunsOn same hash terms log (entry_of (Go own refuse) played) new
         by None is =
             let says = took.1 is in
-            go_out terms log runs says.0 says.1 says.2 (logged_as old says.3 refl) (calls_as old says.3 refl) own refuse left.right plays
+            go_out terms log runs says.0 says.1 says.2 (logged_as old says.3 refl) (calls_as old says.3 refl) own refuse left plays
         by (Some place) is =
             let placed = sym is in
             let it = here_at same hash terms (moment log) old runs.stands own place placed in
@@ -132,7 +132,7 @@ module _ {K V S : Type 0} (same : K → K → Bool) (hash : K → ℕ) (old new 
             (λ goes come. taken_on same hash terms log old runs (Go own refuse) own refl refl place placed (λ x. refl) refl played refl goes most_steps new come left (none_made refuse refused) plays)
             it.caller.stands refl (took.0 place placed it.caller it.at)
 
-    pub whole_goes_on : (guard on : List ℕ) (call : Call K V) → TookWhole same hash guard on call played old new → IsLeft terms log (entry_of (OneCall guard on call) played)
+    pub whole_goes_on : (guard on : List ℕ) (call : Call K V) → TookWhole same hash guard on call played old new → ComesRight terms log (entry_of (OneCall guard on call) played)
         → IsPlayed same hash terms (entry_of (OneCall guard on call) played ∷ log) new → RunsOn same hash terms log (entry_of (OneCall guard on call) played) new
     whole_goes_on guard on call took left plays = by took_it.0 refl
       where
@@ -150,7 +150,7 @@ module _ {K V S : Type 0} (same : K → K → Bool) (hash : K → ℕ) (old new 
         by false is =
             let says = took_it.5 is in
             let was = (begun_so false is).none refl in
-            whole_out terms log runs says.0 says.1 says.2 (logged_as mid says.3 was) (calls_as mid says.3 was) guard on call left.right plays
+            whole_out terms log runs says.0 says.1 says.2 (logged_as mid says.3 was) (calls_as mid says.3 was) guard on call left plays
         by true is =
             whole_on same hash terms log old runs guard on call mid led took_it.3 stands_mid played new
             (subst (λ (how : HowFar). TakenBy same hash 0 most_steps how played mid new) first.3 (took_it.4 is first.1 first.2)) first left plays

@@ -31,6 +31,7 @@ use Rattle.papaya_named.specs.Seen.{is_named}
 use Rattle.papaya_scheduler.specs.declared.scheduler.Scheduler.{Scheduler}
 use Rattle.papaya_scheduler.proofs.Here.{here_at, there_is}
 use Rattle.papaya_scheduler.proofs.Rights.{quiet}
+use Rattle.papaya_running.proofs.OfCalls.Worth.{busy_says}
 use Rattle.papaya_running.specs.OfCalls.{Runs, RunsOn}
 use Rattle.papaya_running.proofs.OfCalls.AsBefore.{as_before}
 
@@ -82,4 +83,4 @@ module _ {K V S : Type 0} (same : K → K → Bool) (hash : K → ℕ) (terms : 
         (others_hand_over K V log e no_slot).1 reclaims leaves legal.1
 
     pub quiet_on : RunsOn same hash terms log e new
-    quiet_on = as_before same hash terms log old new runs logged_is calls_are e legal.0 run plays right
+    quiet_on = as_before same hash terms log old new runs logged_is calls_are e legal.0 run (busy_says event m) plays right

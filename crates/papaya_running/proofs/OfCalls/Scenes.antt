@@ -1,5 +1,5 @@
 -- A scheduler that stands for a moment stands for it in any scene in which the moment shows its executor: who has a call under way the executor says.
-use Rattle.std.specs.Prelude.{◌≡◌, ℕ, Bool, List, [], ◌∷◌, slice_set, zero, suc, Some, option_map}
+use Rattle.std.specs.Prelude.{◌≡◌, ℕ, Bool, List, [], ◌∷◌, slice_set, Some, option_map}
 use Rattle.std.specs.List.{AllByRecursion, remove}
 use Rattle.std.proofs.Common.{sym, subst, ◌∙◌}
 use Rattle.papaya_histories.specs.Given.Tables.declared.setting.Setting.{Setting}
@@ -14,6 +14,7 @@ use Rattle.papaya_rows.proofs.Lists.{all_so, both_none, both_some}
 use Rattle.papaya_scheduler.specs.Played.{AsFar, IsUnderWay, StandsFor}
 use Rattle.papaya_named.specs.declared.caller.Caller.{Caller}
 use Rattle.papaya_named.specs.declared.named_map.NamedMap.{NamedMap}
+use Rattle.papaya_running.proofs.OfCalls.Worth.{all_left, all_set}
 use Rattle.papaya_scheduler.specs.declared.scheduler.Scheduler.{Scheduler}
 
 -- callers have these names
@@ -22,17 +23,11 @@ AreNamed {V} name calls = AllByRecursion (λ (d : Caller V). name d.number ≡ d
 
 -- those that are left have them,
 pub named_left : {V : Type 0} (name : ℕ → List ℕ) (calls : List (Caller V)) (place : ℕ) → AreNamed name calls → AreNamed name (remove calls place)
-named_left name [] zero named = tt
-named_left name [] (suc place) named = tt
-named_left name (d ∷ calls) zero named = named.1
-named_left name (d ∷ calls) (suc place) named = (named.0, named_left name calls place named.1)
+named_left name calls place named = all_left (λ d. name d.number ≡ d.name) calls place named
 
 -- and so do all where one is put in the place of another
 pub named_set : {V : Type 0} (name : ℕ → List ℕ) (calls : List (Caller V)) (place : ℕ) (x : Caller V) → name x.number ≡ x.name → AreNamed name calls → AreNamed name (slice_set calls place x)
-named_set name [] zero x its named = tt
-named_set name [] (suc place) x its named = tt
-named_set name (d ∷ calls) zero x its named = (its, named.1)
-named_set name (d ∷ calls) (suc place) x its named = (named.0, named_set name calls place x its named.1)
+named_set name calls place x its named = all_set (λ d. name d.number ≡ d.name) calls place x its named
 
 module _ {K V S : Type 0} (same : K → K → Bool) (hash : K → ℕ) (terms : Terms) (m : Moment K V) (p : Scheduler K V S) (stands : StandsFor same hash terms m p) where
   -- in its own scene callers have the names of the scene

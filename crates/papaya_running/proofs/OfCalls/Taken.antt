@@ -3,14 +3,16 @@ use Rattle.std.specs.Prelude.{◌≡◌, ◌≤◌, ◌&&◌, ◌||◌, ℕ, Boo
 use Rattle.std.specs.List.{list_any}
 use Rattle.std.proofs.Common.{refl, ap, sym, subst, ◌∙◌, inl}
 use Rattle.std.proofs.lemmas.List.{append-nil}
+use Rattle.std.specs.Prelude.{filter, length}
 use Rattle.papaya_histories.specs.Given.SeizeWaiting.Held.{count}
 use Rattle.papaya_histories.specs.Given.Runs.Present.{slot_of_guard}
 use Rattle.papaya_histories.specs.Given.Schedules.declared.event.Event.{Event}
-use Rattle.papaya_histories.specs.Given.Schedules.After.{moment, moments_from}
+use Rattle.papaya_histories.specs.Given.Schedules.After.{moment}
 use Rattle.papaya_histories.specs.Given.Schedules.Beginning.{at_work}
-use Rattle.papaya_histories.specs.Given.Schedules.Entry.{Entry, IfCall, acted_on, acting, caller_of, speaker}
+use Rattle.papaya_histories.specs.Given.Schedules.Entry.{Entry, acted_on, acting, caller_of, speaker}
 use Rattle.papaya_histories.specs.Given.Schedules.Handing.{is_made, refuses}
 use Rattle.papaya_histories.specs.Given.Schedules.Model.{guard_or, sets_in, things_in}
+use Rattle.papaya_histories.specs.Given.Schedules.InTurn.{ComesRight}
 use Rattle.papaya_histories.specs.Given.Schedules.Moment.{UnderWay as CallThere, Moment}
 use Rattle.papaya_histories.specs.Given.Schedules.Terms.{Terms}
 use Rattle.papaya_histories.specs.Given.Schedules.Views.{call_of}
@@ -18,10 +20,13 @@ use Rattle.papaya_histories.specs.Given.Callers.Together.{UnderWay}
 use Rattle.papaya_histories.specs.Given.Effects.Known.{known}
 use Rattle.papaya_histories.specs.Given.Executor.IsAt.{slot_of}
 use Rattle.papaya_histories.specs.Given.Schedules.declared.effect.Thing.{Thing}
+use Rattle.papaya_histories.specs.Given.Schedules.declared.event.Event.TheVariants.{Replied}
+use Rattle.papaya_histories.specs.Given.Schedules.declared.outcome.Outcome.{Outcome}
 use Rattle.papaya_finds.specs.Doing.{takes_steps}
+use Rattle.papaya_finds.specs.Within.{AllIsInOrder}
+use Rattle.papaya_finds.proofs.Begun.{all_begun}
 use Rattle.papaya_legal.specs.Noted.{HaveCome}
 use Rattle.papaya_legal.specs.Carried.{ComesAlone}
-use Rattle.papaya_legal.specs.Rests.{FindStill, is_reservation}
 use Rattle.papaya_legal.proofs.Calls.{call_events_begin_so}
 use Rattle.papaya_scheduler.specs.Played.{IsPlayed, entry_of}
 use Rattle.papaya_named.specs.Seen.{Seen, is_named}
@@ -32,12 +37,20 @@ use Rattle.papaya_scheduler.proofs.HeldTold.{its_guard}
 use Rattle.papaya_scheduler.proofs.Here.{Here, here_at}
 use Rattle.papaya_stepping.specs.Stepping.{ComesAs, ComesBy, StepsCome}
 use Rattle.papaya_stepping.proofs.RightSteps.{not_busy as never_busy}
-use Rattle.papaya_running.specs.OfCalls.{IsLeft, Runs, RunsOn, TellsValue}
+use Rattle.papaya_named.specs.declared.caller.Caller.{Caller}
+use Rattle.papaya_rows.proofs.Lists.{all_so, found_has}
+use Rattle.papaya_running.proofs.OfCalls.Worth.{TellsNone}
+use Rattle.papaya_running.specs.OfCalls.{IsWorth, Runs, RunsOn}
 use Rattle.papaya_running.proofs.OfCalls.Alone.{active_of, inside_of, only_its_row}
 use Rattle.papaya_running.proofs.OfCalls.Ends.{runs_on, tells_so}
 use Rattle.papaya_running.proofs.OfCalls.Found.{all_find, gone_find}
 use Rattle.papaya_running.proofs.OfCalls.Scenes.{its_named}
 use Rattle.papaya_running.proofs.OfCalls.Steps.{HasCome, as_told, has_come, the}
+
+-- an event that takes steps tells no reply
+steps_tell_none : {K V : Type 0} (event : Event K V) → takes_steps event ≡ true → (outcome : Outcome V) → TellsNone event outcome
+steps_tell_none (Replied caller reply) takes outcome = absurd (cc takes)
+steps_tell_none _ takes outcome = tt
 
 module _ {K V S : Type 0} (same : K → K → Bool) (hash : K → ℕ) (terms : Terms) (log : List (Entry K V)) (old : Scheduler K V S) (runs : Runs same hash terms log old)
     (event : Event K V) (own : List ℕ) (of_call : caller_of event ≡ Some own) (speaks : speaker event ≡ Some own) (place : ℕ) (placed : Some place ≡ position (is_named own) old.calls.items.items) where
@@ -101,7 +114,11 @@ module _ {K V S : Type 0} (same : K → K → Bool) (hash : K → ℕ) (terms : 
     under = u;
     shown = runs.stands.shown;
     slot = slot_is;
-    midst = call_events_begin_so K V S same hash name terms log m (refl, refl) refl refl refl (known old.logged.notes) runs.stands.scene old.logged.executor runs.stands.shown.is_at runs.shows.calls
+    c_is = c_is;
+    once = subst (λ (x : List ℕ). length (filter (is_named x) old.calls.items.items) ≤ 1) (sym name_is) (runs.stands.calls.once own);
+    worth = found_has (λ (d : Caller V). IsWorth m runs.stands.scene d) (is_named own) old.calls.items.items here.caller here.found runs.values u under c (ap (λ (x : List ℕ). call_of x m) here.named ∙ here.call_is);
+    others = all_so (λ (d : Caller V). IsWorth m runs.stands.scene d) (λ (d : Caller V). is_named (name i) d ≡ false → IsWorth m runs.stands.scene d) (λ d worth other. worth) old.calls.items.items runs.values;
+    midst = call_events_begin_so K V S same hash name terms log m (refl, refl) refl refl refl runs.shows.tableless (known old.logged.notes) runs.stands.scene old.logged.executor runs.stands.shown.is_at runs.shows.calls
         runs.shows.reading runs.shows.sections runs.shows.follows event map i (of_call ∙ ap Some (sym name_is)) u under c c_is
         (λ alone j goes. only_its_row same hash terms log old runs.stands event own speaks alone map i u under name_is j goes);
   }
@@ -130,7 +147,7 @@ module _ {K V S : Type 0} (same : K → K → Bool) (hash : K → ℕ) (terms : 
         ∙ ap (λ (o : Option (CallThere K V)). slot_of_guard (guard_or o) m.there) acting_is ∙ slot_is c c_is
 
     module _ (takes : takes_steps event ≡ true) (goes : here.caller.stands ≡ far.Goes) (most : ℕ) (new : Scheduler K V S)
-        (come : StepsCome same hash place most played.steps played.outcome [] played.effects.items old new) (left : IsLeft terms log (entry_of event played))
+        (come : StepsCome same hash place most played.steps played.outcome [] played.effects.items old new) (left : ComesRight terms log (entry_of event played))
         (refused : (not (refuses event) || not (list_any is_made played.effects.items)) ≡ true)
         (plays : IsPlayed same hash terms (entry_of event played ∷ log) new) where
       comes : ComesBy same hash terms own place m played.steps played.outcome [] played.effects.items new
@@ -139,26 +156,18 @@ module _ {K V S : Type 0} (same : K → K → Bool) (hash : K → ℕ) (terms : 
       comes_as : ComesAs c.call played.outcome
       comes_as = subst (λ (x : CallThere K V). ComesAs x.call played.outcome) (the comes.call c (sym comes.call_is ∙ here.call_is)) comes.comes
 
-      -- what is left is so of its call
-      its_left : (P : CallThere K V → Moment K V → Type 0) → IfCall (λ (x : CallThere K V). P x (at_work (entry_of event played) m)) (acting (caller_of event) (at_work (entry_of event played) m)) → P c m
-      its_left P so =
-          subst (λ (o : Option (CallThere K V)). IfCall (λ (x : CallThere K V). P x m) o) acting_is
-          (subst (λ (b : Moment K V). IfCall (λ (x : CallThere K V). P x b) (acting (caller_of event) b)) (begins played) so)
-
-      rest : FindStill terms (moments_from c.begun log) (name i) map played.effects.items m (is_reservation c.call)
-      rest =
-          subst (λ (x : List ℕ). FindStill terms (moments_from c.begun log) x map played.effects.items m (is_reservation c.call)) (ap (λ (z : Seen). z.name) here.as_seen ∙ sym here.way.2)
-          (subst (λ (k : ℕ). FindStill terms (moments_from c.begun log) c.caller k played.effects.items m (is_reservation c.call)) map_is
-          (its_left (λ (x : CallThere K V) (b : Moment K V). FindStill terms (moments_from x.begun log) x.caller x.map played.effects.items b (is_reservation x.call)) left.but.rest))
+      -- all is in order as it begins
+      order : AllIsInOrder m
+      order = subst AllIsInOrder (begins played) (all_begun terms log (entry_of event played) event played.outcome left runs.shows.order.0)
 
       pub taken_on : RunsOn same hash terms log (entry_of event played) new
       taken_on =
           let by = come.2 in
           let far_on = has_come same hash name terms log event m map i c place old start by.0 by.2 by.3 by.4 in
           runs_on same hash name terms log event m map i c place c_is (known old.logged.notes) runs.stands.scene runs.shows runs.come played by.0 by.2 by.3 new far_on by.5
-          (tells_so same hash name terms log event m map i c place c_is (known old.logged.notes) runs.stands.scene runs.shows runs.come played by.0 by.2 by.3 new far_on by.5 comes_as
-          (its_left (λ (x : CallThere K V) (b : Moment K V). TellsValue x.call x.replies played.outcome) left.but.values)) (begins played) acts_on (inl takes) by.1
-          (never_busy c.call played.outcome comes_as) left.right refused
-          (all_find same hash name terms log event m map i c place c_is by.0 by.2 played.effects.items by.3 new far_on (as_told same hash by.5)
-          (gone_find same hash name terms log event m map i c place c_is old start by.0 by.2 by.3 by.4) rest)
+          (tells_so same hash name terms log event m map i c place c_is (known old.logged.notes) runs.stands.scene runs.shows runs.come played by.0 by.2 by.3 new far_on by.5 comes_as) (begins played) acts_on (inl takes) by.1
+          (steps_tell_none event takes played.outcome)
+          (never_busy c.call played.outcome comes_as) left refused
+          (all_find same hash name terms log event m map i c place c_is order by.0 by.2 played.effects.items by.3 new far_on (as_told same hash by.5)
+          (gone_find same hash name terms log event m map i c place c_is order old start by.0 by.2 by.3 by.4))
           slot_so active plays

@@ -2,6 +2,8 @@
 use Rattle.std.specs.Prelude.{◌≡◌, ℕ, Bool, true, is_some, MatchBool, List, [], ◌∷◌, ◌++◌, position, slice_get, Option, Some}
 use Rattle.std.proofs.Common.{refl, ap, sym, subst, ◌∙◌, inl, inr}
 use Rattle.std.proofs.lemmas.List.{append-nil}
+use Rattle.std.specs.List.{AllByRecursion}
+use Rattle.std.specs.Prelude.{◌≤◌, false, filter, length}
 use Rattle.papaya_histories.specs.Given.SeizeWords.declared.fault.Fault.TheVariants.{Busy}
 use Rattle.papaya_histories.specs.Given.Tables.declared.node.Node.{Node}
 use Rattle.papaya_histories.specs.Given.Sweeps.SweepPoints.{after_next}
@@ -36,6 +38,9 @@ use Rattle.papaya_histories.specs.Given.Moments.Whole.{ShowsWhole}
 use Rattle.papaya_histories.specs.Answers.{NamesPair}
 use Rattle.papaya_histories.specs.InEvent.{ComesSo}
 use Rattle.papaya_histories.specs.OtherMidsts.{AsksAsSaid}
+use Rattle.papaya_histories.specs.Given.Runs.Same.{is_same}
+use Rattle.papaya_histories.proofs.Given.Follows.Calling.{is_same_refl}
+use Rattle.papaya_histories.proofs.Given.Hands.Asking.{which}
 use Rattle.papaya_purposes.specs.Purposes.{IsFor}
 use Rattle.papaya_purposes.specs.Swept.{LosesNone, SaysAsWalk}
 use Rattle.papaya_purposes.proofs.WalkWords.{walks_have_words}
@@ -63,13 +68,14 @@ use Rattle.papaya_scheduler.proofs.Here.{Here, here_at}
 use Rattle.papaya_scheduler.proofs.Stopped.{asked_ready, ready_parts, shows_by, shows_is}
 use Rattle.papaya_stepping.specs.Stepping.{HasWalked, outcome_of}
 use Rattle.papaya_stepping.proofs.SweepSteps.{walks_at}
+use Rattle.papaya_values.specs.Values.{KeepsValue}
+use Rattle.papaya_running.specs.OfCalls.{HaveValues, IsWorth, Runs, RunsOn}
 use Rattle.papaya_works.specs.Needs.{AreReached}
-use Rattle.papaya_running.specs.OfCalls.{Runs, RunsOn}
 use Rattle.papaya_running.proofs.OfCalls.Alone.{only_its_row}
 use Rattle.papaya_running.proofs.OfCalls.Answers.{number_is}
 use Rattle.papaya_running.proofs.OfCalls.Asked.{leads_next, next_at}
 use Rattle.papaya_running.proofs.OfCalls.Ends as ends
-use Rattle.papaya_running.proofs.OfCalls.Scenes.{its_named}
+use Rattle.papaya_running.proofs.OfCalls.Scenes.{AreNamed, its_named}
 use Rattle.papaya_running.proofs.OfCalls.Steps.{HasCome, IsStep, as_told, did, follows, has_walked_on, its_here, leads, the}
 use Rattle.papaya_running.proofs.OfCalls.Taken as taken
 
@@ -218,6 +224,8 @@ module _ {K V S : Type 0} (same : K → K → Bool) (hash : K → ℕ) (terms : 
           lists = it.remains.lists;
           left = it.remains.left;
           told = it.remains.told;
+          pairs = it.remains.pairs;
+          ascending = it.remains.ascending;
           once = it.remains.once;
           below = it.remains.below;
           ending = it.remains.ending;
@@ -231,6 +239,18 @@ module _ {K V S : Type 0} (same : K → K → Bool) (hash : K → ℕ) (terms : 
     kept = subst (λ (k : Known). ShowsKept name m k then_at) notes_are midst.calls.kept;
     counted = counted;
   }
+
+  -- others keep their values
+  others_next : (ds : List (Caller V)) → AreNamed name ds → HaveValues m s ds → AllByRecursion (λ (x : Caller V). is_named (name i) x ≡ false → IsWorth m then_at x) ds
+  others_next [] named all = tt
+  others_next (x ∷ ds) named all = (
+    λ other v there. all.0 v
+        (elim (which s.calls map i (Some next) x.map x.number v there) as (λ _. s.calls x.map x.number ≡ Some v) [
+          | inl at ↦ absurd (let yes = ap (λ (l : List ℕ). is_same l (name i)) (sym named.0 ∙ ap name at.1) ∙ is_same_refl (name i) in cc (other, yes))
+          | inr apart ↦ apart.1
+        ]),
+    others_next ds named.1 all.1,
+  )
 
   abbrev Come : ℕ → List Effect → Scheduler K V S → Type 0
   Come n fs p = HasCome same hash name terms log event m map i c place n fs p
@@ -252,6 +272,10 @@ module _ {K V S : Type 0} (same : K → K → Bool) (hash : K → ℕ) (terms : 
     under = next;
     shown = shown;
     slot = taken.slot_is same hash terms log old runs event own refl refl place parts.0;
+    c_is = c_is;
+    once = subst (λ (x : List ℕ). length (filter (is_named x) old.calls.items.items) ≤ 1) (sym (taken.name_is same hash terms log old runs event own refl refl place parts.0)) (runs.stands.calls.once own);
+    worth = subst (λ (x : Call K V). KeepsValue x c.replies (machine_of next) d.value) (sym is_walk) tt;
+    others = others_next old.calls.items.items (its_named same hash terms m old runs.stands) runs.values;
     midst = subst (λ (k : Known). InCallEvent same name terms log event m map i c 0 [] m k then_at next) notes_are midst;
   }
 
@@ -308,7 +332,7 @@ module _ {K V S : Type 0} (same : K → K → Bool) (hash : K → ℕ) (terms : 
     pub walked_on : RunsOn same hash terms log (entry_of event played) new
     walked_on =
         ends.runs_on same hash name terms log event m map i c place c_is (known old.logged.notes) s runs.shows runs.come played walked.steps walked.mid walked.led new come walked.last tells refl
-        (taken.acts_on same hash terms log old runs event own refl refl place parts.0 (λ x. refl) refl played) (inr idle) walked.steps_are
+        (taken.acts_on same hash terms log old runs event own refl refl place parts.0 (λ x. refl) refl played) (inr idle) walked.steps_are tt
         (λ is. subst (λ (x : Outcome V). IsNext x) is is_next) right refl
         (subst (λ (fs : List Effect). FindAll terms (moments_from c.begun log) (name i) map fs m) (sym idle) tt)
         (taken.slot_so same hash terms log old runs event own refl refl place parts.0 (λ x. refl) refl played)

@@ -2,6 +2,8 @@
 use Rattle.std.specs.Prelude.{◌≡◌, ◌≢◌, ◌≤◌, ◌&&◌, ℕ, Bool, true, false, List, [], ◌∷◌, slice_get, Option, Some, option_map, if◌then◌else◌}
 use Rattle.std.proofs.Common.{refl, ap, sym, subst, ◌∙◌, inl}
 use Rattle.std.proofs.lemmas.List.{append-nil}
+use Rattle.std.specs.List.{AllByRecursion}
+use Rattle.std.specs.Prelude.{filter, length}
 use Rattle.papaya_histories.specs.Given.SeizeWaiting.Held.{count}
 use Rattle.papaya_histories.specs.Given.SeizeWords.declared.fault.Fault.TheVariants.{Busy}
 use Rattle.papaya_histories.specs.Given.Seize.World.{Rests}
@@ -11,21 +13,24 @@ use Rattle.papaya_histories.specs.Given.Schedules.declared.call.Call.{Call}
 use Rattle.papaya_histories.specs.Given.Schedules.declared.event.Event.{Event}
 use Rattle.papaya_histories.specs.Given.Schedules.declared.event.Event.TheVariants.{OneCall}
 use Rattle.papaya_histories.specs.Given.Schedules.declared.outcome.Outcome.TheVariants.{Refused}
-use Rattle.papaya_histories.specs.Given.Schedules.After.{moment, moments_from}
+use Rattle.papaya_histories.specs.Given.Schedules.After.{moment}
 use Rattle.papaya_histories.specs.Given.Schedules.Beginning.{at_work, fresh_call, with_call}
-use Rattle.papaya_histories.specs.Given.Schedules.Entry.{Entry, IfCall, nameless}
+use Rattle.papaya_histories.specs.Given.Schedules.Entry.{Entry, nameless}
 use Rattle.papaya_histories.specs.Given.Schedules.Model.{guard_or, sets_in, things_in}
+use Rattle.papaya_histories.specs.Given.Schedules.InTurn.{ComesRight}
 use Rattle.papaya_histories.specs.Given.Schedules.Moment.{UnderWay as CallThere, Moment}
 use Rattle.papaya_histories.specs.Given.Schedules.Terms.{Terms}
 use Rattle.papaya_histories.specs.Given.Schedules.Views.{call_of, number_of}
 use Rattle.papaya_histories.specs.Given.Effects.Known.{Known, known}
 use Rattle.papaya_histories.specs.Given.Executor.IsAt.{slot_of}
 use Rattle.papaya_histories.specs.Given.Schedules.declared.effect.Thing.{Thing}
+use Rattle.papaya_histories.specs.Given.Runs.Same.{is_same}
+use Rattle.papaya_finds.specs.Within.{AllIsInOrder}
+use Rattle.papaya_finds.proofs.Begun.{all_begun}
 use Rattle.papaya_legal.specs.Noted.{HaveCome}
 use Rattle.papaya_legal.proofs.Come.{called}
 use Rattle.papaya_legal.specs.CallEvents.{InCallEvent}
 use Rattle.papaya_legal.specs.Carried.{ComesAlone}
-use Rattle.papaya_legal.specs.Rests.{FindStill, is_reservation}
 use Rattle.papaya_legal.proofs.CallBegins.{whole_calls_begin}
 use Rattle.papaya_logged.specs.Shown.{IsShown}
 use Rattle.papaya_scheduler.specs.Played.{HasBegun, IsPlayed, StandsFor, entry_of}
@@ -36,8 +41,10 @@ use Rattle.papaya_scheduler.specs.declared.scheduler.Scheduler.{Scheduler}
 use Rattle.papaya_scheduler.proofs.HeldTold.{its_guard}
 use Rattle.papaya_stepping.specs.Stepping.{ComesAs, ComesBy, GoesAt, StepsCome}
 use Rattle.papaya_stepping.proofs.RightSteps.{not_busy as never_busy}
+use Rattle.papaya_rows.proofs.Lists.{all_so}
+use Rattle.papaya_named.specs.Seen.{is_named}
+use Rattle.papaya_running.specs.OfCalls.{HaveValues, IsWorth, Runs, RunsOn}
 use Rattle.papaya_works.specs.Needs.{AreReached}
-use Rattle.papaya_running.specs.OfCalls.{IsLeft, Runs, RunsOn, TellsValue}
 use Rattle.papaya_running.proofs.OfCalls.Alone.{active_of, inside_of, no_row}
 use Rattle.papaya_running.proofs.OfCalls.Begun as begun
 use Rattle.papaya_running.proofs.OfCalls.Ends.{runs_on, tells_so}
@@ -112,6 +119,19 @@ module _ {K V S : Type 0} (same : K → K → Bool) (hash : K → ℕ) (terms : 
       ap (λ (x : CallThere K V). slot_of_guard x.guard m1.there) (the d there.0 (sym is ∙ named))
       ∙ its_guard same hash terms (with_call nameless guard call (Some map) m) mid mid_in map i _ under
 
+  -- its own caller has its name, and others keep their values
+  own_named : is_named (names i) led.caller ≡ false → IsWorth m1 (begun.then_at same hash terms log old runs nameless guard on call mid led) led.caller
+  own_named other = absurd (
+      let yes = ap (is_same led.caller.name) name_is ∙ ap (λ (x : List ℕ). is_same x nameless) (ap (λ (z : Seen). z.name) led.is) in
+      let no : is_named (names i) led.caller ≡ true = yes in cc (other, no))
+
+  olds : AllByRecursion (λ (d : Caller V). is_named (names i) d ≡ false → IsWorth m1 (begun.then_at same hash terms log old runs nameless guard on call mid led) d) old.calls.items.items
+  olds =
+      all_so (λ (d : Caller V). IsWorth m1 (begun.then_at same hash terms log old runs nameless guard on call mid led) d)
+      (λ (d : Caller V). is_named (names i) d ≡ false → IsWorth m1 (begun.then_at same hash terms log old runs nameless guard on call mid led) d) (λ d worth other. worth) old.calls.items.items
+      (subst (λ (v : Moment K V). HaveValues v (begun.then_at same hash terms log old runs nameless guard on call mid led) old.calls.items.items) (sym m1_is)
+      (begun.olds_worth same hash terms log old runs nameless guard on call mid led))
+
   abbrev pub Come : Type 0
   Come = HasCome same hash names terms log event m1 map i c 0 0 [] mid
 
@@ -133,6 +153,11 @@ module _ {K V S : Type 0} (same : K → K → Bool) (hash : K → ℕ) (terms : 
     under = begun.u same hash terms log old runs nameless guard on call mid led;
     shown = subst (λ (x : Moment K V). IsShown same hash names x mid.logged (begun.then_at same hash terms log old runs nameless guard on call mid led)) (sym m1_is) (begun.shown_begun same hash terms log old runs nameless guard on call mid led);
     slot = slot_is;
+    c_is = c_is;
+    once = subst (λ (x : List ℕ). length (filter (is_named x) mid.calls.items.items) ≤ 1) (sym name_is) (mid_stands.calls.once nameless);
+    worth = begun.own_worth same hash terms log old runs nameless guard on call mid led led.caller.value;
+    others = subst (λ (l : List (Caller V)). AllByRecursion (λ (d : Caller V). is_named (names i) d ≡ false → IsWorth m1 (begun.then_at same hash terms log old runs nameless guard on call mid led) d) l)
+        (sym led.items) (own_named, olds);
     midst = subst (λ (k : Known). InCallEvent same names terms log event m1 map i c 0 [] m1 k (begun.then_at same hash terms log old runs nameless guard on call mid led)
         (begun.u same hash terms log old runs nameless guard on call mid led)) (sym (begun.notes_here same hash terms log old runs nameless guard on call mid led)) whole.1;
   }
@@ -148,7 +173,7 @@ module _ {K V S : Type 0} (same : K → K → Bool) (hash : K → ℕ) (terms : 
       first_of false b is = absurd (cc is)
 
   module _ (played : Played V) (new : Scheduler K V S) (come : StepsCome same hash 0 most_steps played.steps played.outcome [] played.effects.items mid new) (goes : GoesAt nameless 0 mid)
-      (left : IsLeft terms log (entry_of event played)) (plays : IsPlayed same hash terms (entry_of event played ∷ log) new) where
+      (left : ComesRight terms log (entry_of event played)) (plays : IsPlayed same hash terms (entry_of event played ∷ log) new) where
     comes : ComesBy same hash terms nameless 0 (with_call nameless guard call (Some map) m) played.steps played.outcome [] played.effects.items new
     comes = come.1 terms (with_call nameless guard call (Some map) m) nameless mid_stands goes
 
@@ -170,13 +195,9 @@ module _ {K V S : Type 0} (same : K → K → Bool) (hash : K → ℕ) (terms : 
     acting_is : call_of nameless m1 ≡ Some c
     acting_is = ap (λ (x : Moment K V). call_of nameless x) m1_is ∙ call_at
 
-    its_left : (P : CallThere K V → Moment K V → Type 0) → IfCall (λ (x : CallThere K V). P x (at_work (entry_of event played) m)) (call_of nameless (at_work (entry_of event played) m)) → P c m1
-    its_left P so =
-        subst (λ (o : Option (CallThere K V)). IfCall (λ (x : CallThere K V). P x m1) o) acting_is
-        (subst (λ (b : Moment K V). IfCall (λ (x : CallThere K V). P x b) (call_of nameless b)) begins so)
-
-    rest : FindStill terms (moments_from c.begun log) (names i) map played.effects.items m1 (is_reservation c.call)
-    rest = its_left (λ (x : CallThere K V) (b : Moment K V). FindStill terms (moments_from x.begun log) x.caller x.map played.effects.items b (is_reservation x.call)) left.but.rest
+    -- all is in order as it begins
+    order : AllIsInOrder m1
+    order = subst AllIsInOrder (begins) (all_begun terms log (entry_of event played) event played.outcome left runs.shows.order.0)
 
     pub whole_on : RunsOn same hash terms log (entry_of event played) new
     whole_on =
@@ -185,10 +206,10 @@ module _ {K V S : Type 0} (same : K → K → Bool) (hash : K → ℕ) (terms : 
         runs_on same hash names terms log event m1 map i c 0 c_is (known old.logged.notes) runs.stands.scene (begun.run_named same hash terms log old runs nameless guard on call mid led) runs.come played by.0
         by.2 by.3 new far_on by.5
         (tells_so same hash names terms log event m1 map i c 0 c_is (known old.logged.notes) runs.stands.scene (begun.run_named same hash terms log old runs nameless guard on call mid led) runs.come played by.0
-        by.2 by.3 new far_on by.5 comes_as (its_left (λ (x : CallThere K V) (b : Moment K V). TellsValue x.call x.replies played.outcome) left.but.values)) begins
-        (ap (λ (o : Option (CallThere K V)). option_map (λ (x : CallThere K V). x.map) o) acting_is) (inl refl) by.1 never left.right refl
-        (all_find same hash names terms log event m1 map i c 0 c_is by.0 by.2 played.effects.items by.3 new far_on (as_told same hash by.5)
-        (gone_find same hash names terms log event m1 map i c 0 c_is mid start by.0 by.2 by.3 by.4) rest)
+        by.2 by.3 new far_on by.5 comes_as) begins
+        (ap (λ (o : Option (CallThere K V)). option_map (λ (x : CallThere K V). x.map) o) acting_is) (inl refl) by.1 tt never left refl
+        (all_find same hash names terms log event m1 map i c 0 c_is order by.0 by.2 played.effects.items by.3 new far_on (as_told same hash by.5)
+        (gone_find same hash names terms log event m1 map i c 0 c_is order mid start by.0 by.2 by.3 by.4))
         slot_so active plays
       where
         slot_so : slot_of_guard (guard_or (call_of nameless (at_work (entry_of event played) m))) (at_work (entry_of event played) m).there ≡ slot_of i

@@ -2,6 +2,9 @@
 use Rattle.std.specs.Prelude.{◌≡◌, ℕ, zero, suc, Bool, List, ◌++◌, None}
 use Rattle.std.proofs.Common.{refl, subst, ◌∙◌}
 use Rattle.papaya_histories.specs.Given.Seize.World.{Step}
+use Rattle.papaya_histories.specs.Given.Executor.IsAt.{Scene, IsAt}
+use Rattle.papaya_histories.specs.Given.Executor.declared.executor.Executor.{Executor}
+use Rattle.papaya_histories.specs.Given.Others.Rows.{scene_then}
 use Rattle.papaya_schedules.specs.declared.effect.Effect.{Effect}
 use Rattle.papaya_schedules.specs.Effects.{with_effects}
 use Rattle.papaya_schedules.specs.Moment.{Moment}
@@ -9,9 +12,6 @@ use Rattle.papaya_schedules.specs.Terms.{Terms}
 use Rattle.papaya_effects.specs.Effects.{effects_of, known_after}
 use Rattle.papaya_effects.specs.Known.{Known, known}
 use Rattle.papaya_effects.specs.declared.acting.Acting.TheVariants as acts
-use Rattle.papaya_histories.specs.Given.Executor.IsAt.{Scene, IsAt}
-use Rattle.papaya_histories.specs.Given.Executor.declared.executor.Executor.{Executor}
-use Rattle.papaya_histories.specs.Given.Others.Rows.{scene_then}
 use Rattle.papaya_logged.specs.Goes.{Far, GoesFor, RowGoes}
 use Rattle.papaya_logged.specs.Shown.{IsCounted}
 use Rattle.papaya_logged.proofs.Counted.{counted_row_steps}
@@ -36,12 +36,13 @@ module _ {K V S : Type 0} (same : K → K → Bool) (hash : K → ℕ) (terms : 
     pub chain : Chain (RowSteps same hash terms i) n x (come_by f now scene)
     pub is_at : IsAt same hash f.logged.executor scene
     pub size : f.logged.executor.batch_size ≡ terms.batch_size
+    pub calls : scene.calls ≡ x.scene.calls
     pub counted : IsCounted now f.logged scene
 
   pub rows_come : (n : ℕ) (from to : Far K V S) (now : Moment K V) (s : Scene K V) → IsAt same hash from.logged.executor s → from.logged.executor.batch_size ≡ terms.batch_size
       → IsCounted now from.logged s → GoesFor (RowGoes i) n from to → RowComes n (come_by from now s) to
   rows_come zero from to now s at size counted is =
-      subst (λ (f : Far K V S). RowComes 0 (come_by from now s) f) is (record { now = now; scene = s; chain = refl; is_at = at; size = size; counted = counted })
+      subst (λ (f : Far K V S). RowComes 0 (come_by from now s) f) is (record { now = now; scene = s; chain = refl; is_at = at; size = size; calls = refl; counted = counted })
   rows_come (suc n) from to now s at size counted (mid, gone, step) =
       let y = rows_come n from mid now s at size counted gone in
       let leads = step.leads same hash y.scene y.is_at in
@@ -69,6 +70,7 @@ module _ {K V S : Type 0} (same : K → K → Bool) (hash : K → ℕ) (terms : 
         );
         is_at = (leads row here).4.4;
         size = step.is_noted.given.1 ∙ y.size;
+        calls = y.calls;
         counted = counted_row_steps same hash mid.logged to.logged.executor to.logged.notes step.is_noted.given y.now y.scene y.is_at y.counted i step.said leads row here step.is_noted.noted
             (rows_note_left same hash (known mid.logged.notes) y.scene mid.logged.executor to.logged.executor y.is_at i step.said leads row here);
       }

@@ -2,10 +2,11 @@
 use Rattle.std.specs.Prelude.{◌≡◌, ◌≢◌, ◌||◌, ◌+◌, ℕ, Bool, true, false, List, [], ◌∷◌, not, Option, None, flat_map}
 use Rattle.std.specs.List.{list_all, list_any}
 use Rattle.std.proofs.Common.{refl, sym, ap, subst, ◌∙◌}
-use Rattle.seize_words.specs.declared.fault.Fault.{Fault}
-use Rattle.seize_words.specs.declared.fault.Fault.TheVariants.{Busy}
 use Rattle.papaya_histories.specs.Given.Seize.World.{World, IsInside}
 use Rattle.papaya_histories.specs.Given.Tables.declared.node.Node.{Node}
+use Rattle.papaya_histories.proofs.OtherCalls.{no_calls_are_linearizable}
+use Rattle.seize_words.specs.declared.fault.Fault.{Fault}
+use Rattle.seize_words.specs.declared.fault.Fault.TheVariants.{Busy}
 use Rattle.papaya_runs.specs.Present.{Present, guards_on, slot_of_guard, slot_of_registration}
 use Rattle.papaya_schedules.specs.declared.effect.Effect.{Effect}
 use Rattle.papaya_schedules.specs.declared.event.Event.{Event}
@@ -25,7 +26,6 @@ use Rattle.papaya_schedules.specs.Steps.{IsBrief}
 use Rattle.papaya_schedules.specs.Terms.{Terms}
 use Rattle.papaya_effects.specs.Known.{Known, known}
 use Rattle.papaya_schedules.specs.Linearizable.{shift_of}
-use Rattle.papaya_histories.proofs.OtherCalls.{no_calls_are_linearizable}
 use Rattle.papaya_promises.specs.Guards.{EntersInside}
 use Rattle.papaya_promises.specs.Sheltered.{SectionsHold}
 use Rattle.papaya_promises.proofs.Protected.{idle_events_are_protected}
@@ -44,6 +44,8 @@ use Rattle.papaya_scheduler.specs.declared.scheduler.Scheduler.{Scheduler}
 use Rattle.papaya_scheduler.proofs.Dropped.{free_lives}
 use Rattle.papaya_scheduler.proofs.Enters as enters_so
 use Rattle.papaya_scheduler.proofs.Rights.{entry}
+use Rattle.papaya_running.specs.Asked.{is_of_calls}
+use Rattle.papaya_running.proofs.OfCalls.Worth.{nobody_says}
 use Rattle.papaya_running.specs.OfCalls.{Runs, RunsOn}
 use Rattle.papaya_running.specs.OfRows.{is_of_rows}
 use Rattle.papaya_running.proofs.OfCalls.AsBefore.{as_before}
@@ -57,6 +59,7 @@ module _ {K V : Type 0} where
   -- Nothing is changed by this event, which is of no call, and has done nothing.
   pub record IsStill (log : List (Entry K V)) (w : World (Node K V)) (e : Entry K V) : Type 0 where
     pub caller : caller_of e.event ≡ None
+    pub no_call : is_of_calls e.event ≡ false
     pub changes : changes_of log e ≡ []
     pub left : left_last e.event e.outcome (moment log) ≡ []
     pub enters : EntersInside w e.event e.outcome (moment log).there
@@ -95,7 +98,7 @@ module _ {K V S : Type 0} (same : K → K → Bool) (hash : K → ℕ) (terms : 
   -- So the run goes on, where executor, notes and callers are as they were.
   pub still_keeps : (e : Entry K V) (new : Scheduler K V S) → e.effects ≡ [] → IsStill log run.stands.scene.world e → new.logged ≡ old.logged → new.calls ≡ old.calls
       → IsPlayed same hash terms (e ∷ log) new → ComesRight terms log e → RunsOn same hash terms log e new
-  still_keeps e new nothing still logged calls played right = as_before same hash terms log old new run logged calls e legal.0 shows played right
+  still_keeps e new nothing still logged calls played right = as_before same hash terms log old new run logged calls e legal.0 shows (nobody_says e (moment log) still.no_call) played right
     where
       legal : IsLegalBut same terms log e × SectionsHold (after e (moment log)) (known old.logged.notes) run.stands.scene.world
       legal = still_legal same terms log (known old.logged.notes) run.stands.scene.world e nothing still run.shows.sections
@@ -130,15 +133,15 @@ module _ {K V : Type 0} (log : List (Entry K V)) (w : Moment K V) where
 
 module _ {K V : Type 0} (log : List (Entry K V)) (w : World (Node K V)) where
   pub refused_still : (event : Event K V) → is_of_rows event ≡ true → (fault : Fault) (steps : ℕ) → IsStill log w (entry event (Refused fault) steps [])
-  refused_still (Register registration) of fault steps = record { caller = refl; changes = refl; left = refl; enters = tt; whole = whole_refused log _ (Register registration) of fault; leaves = tt; reclaims = tt }
-  refused_still (Unregister registration) of fault steps = record { caller = refl; changes = refl; left = refl; enters = tt; whole = whole_refused log _ (Unregister registration) of fault; leaves = tt; reclaims = tt }
-  refused_still (Enter guard registration) of fault steps = record { caller = refl; changes = refl; left = refl; enters = tt; whole = whole_refused log _ (Enter guard registration) of fault; leaves = tt; reclaims = tt }
-  refused_still (Own guard) of fault steps = record { caller = refl; changes = refl; left = refl; enters = tt; whole = whole_refused log _ (Own guard) of fault; leaves = tt; reclaims = tt }
-  refused_still (Refresh guard) of fault steps = record { caller = refl; changes = refl; left = refl; enters = tt; whole = whole_refused log _ (Refresh guard) of fault; leaves = tt; reclaims = tt }
-  refused_still (Flush guard) of fault steps = record { caller = refl; changes = refl; left = refl; enters = tt; whole = whole_refused log _ (Flush guard) of fault; leaves = tt; reclaims = tt }
-  refused_still (DropGuard guard) of fault steps = record { caller = refl; changes = refl; left = refl; enters = tt; whole = whole_refused log _ (DropGuard guard) of fault; leaves = tt; reclaims = tt }
-  refused_still (MakeMap own mode capacity) of fault steps = record { caller = refl; changes = refl; left = refl; enters = tt; whole = whole_refused log _ (MakeMap own mode capacity) of fault; leaves = tt; reclaims = tt }
-  refused_still (EndMap own) of fault steps = record { caller = refl; changes = refl; left = refl; enters = tt; whole = whole_refused log _ (EndMap own) of fault; leaves = tt; reclaims = tt }
+  refused_still (Register registration) of fault steps = record { caller = refl; no_call = refl; changes = refl; left = refl; enters = tt; whole = whole_refused log _ (Register registration) of fault; leaves = tt; reclaims = tt }
+  refused_still (Unregister registration) of fault steps = record { caller = refl; no_call = refl; changes = refl; left = refl; enters = tt; whole = whole_refused log _ (Unregister registration) of fault; leaves = tt; reclaims = tt }
+  refused_still (Enter guard registration) of fault steps = record { caller = refl; no_call = refl; changes = refl; left = refl; enters = tt; whole = whole_refused log _ (Enter guard registration) of fault; leaves = tt; reclaims = tt }
+  refused_still (Own guard) of fault steps = record { caller = refl; no_call = refl; changes = refl; left = refl; enters = tt; whole = whole_refused log _ (Own guard) of fault; leaves = tt; reclaims = tt }
+  refused_still (Refresh guard) of fault steps = record { caller = refl; no_call = refl; changes = refl; left = refl; enters = tt; whole = whole_refused log _ (Refresh guard) of fault; leaves = tt; reclaims = tt }
+  refused_still (Flush guard) of fault steps = record { caller = refl; no_call = refl; changes = refl; left = refl; enters = tt; whole = whole_refused log _ (Flush guard) of fault; leaves = tt; reclaims = tt }
+  refused_still (DropGuard guard) of fault steps = record { caller = refl; no_call = refl; changes = refl; left = refl; enters = tt; whole = whole_refused log _ (DropGuard guard) of fault; leaves = tt; reclaims = tt }
+  refused_still (MakeMap own mode capacity) of fault steps = record { caller = refl; no_call = refl; changes = refl; left = refl; enters = tt; whole = whole_refused log _ (MakeMap own mode capacity) of fault; leaves = tt; reclaims = tt }
+  refused_still (EndMap own) of fault steps = record { caller = refl; no_call = refl; changes = refl; left = refl; enters = tt; whole = whole_refused log _ (EndMap own) of fault; leaves = tt; reclaims = tt }
   refused_still _ of fault steps = absurd (cc of)
 
 -- And so does one with whose slot there was nothing to be done, as others are there.
@@ -154,9 +157,10 @@ module _ {K V S : Type 0} (same : K → K → Bool) (hash : K → ℕ) (terms : 
       many (sym (ap (λ (x : ℕ). guards_on x m.there.guards) its ∙ ap (λ (x : Present). guards_on slot x.guards) stands.there) ∙ one)
 
   pub none_still : (event : Event K V) → is_kept_out terms event m ≡ false → (steps slot : ℕ) → IsAbout event p slot → HasNoRow event p.there slot → IsStill log w (entry event Done steps [])
-  none_still (Unregister registration) turn steps slot about some = record { caller = refl; changes = refl; left = refl; enters = tt; whole = tt; leaves = tt; reclaims = tt }
+  none_still (Unregister registration) turn steps slot about some = record { caller = refl; no_call = refl; changes = refl; left = refl; enters = tt; whole = tt; leaves = tt; reclaims = tt }
   none_still (Enter guard registration) turn steps slot (none, found) some = record {
     caller = refl;
+    no_call = refl;
     changes = (events_are_rows K V m).1.enters guard registration
         (λ zero. some (sym (ap (λ (x : ℕ). guards_on x m.there.guards) its ∙ ap (λ (x : Present). guards_on slot x.guards) stands.there) ∙ zero));
     left = refl;
@@ -173,6 +177,7 @@ module _ {K V S : Type 0} (same : K → K → Bool) (hash : K → ℕ) (terms : 
       its = enters_so.its_slot same hash terms log p guard registration due none slot found
   none_still (Refresh guard) turn steps slot free many = record {
     caller = refl;
+    no_call = refl;
     changes = (events_are_rows K V m).1.refreshes guard (others_on guard slot (slot_is same hash terms log p stands guard slot (free_lives same hash terms m p stands guard slot free)) many);
     left = refl;
     enters = tt;
@@ -182,6 +187,7 @@ module _ {K V S : Type 0} (same : K → K → Bool) (hash : K → ℕ) (terms : 
   }
   none_still (DropGuard guard) turn steps slot free many = record {
     caller = refl;
+    no_call = refl;
     changes = (events_are_rows K V m).1.leaves guard (others_on guard slot (slot_is same hash terms log p stands guard slot (free_lives same hash terms m p stands guard slot free)) many);
     left = refl;
     enters = tt;

@@ -70,6 +70,6 @@ module _ {K V S : Type 0} (same : K → K → Bool) (hashes : S → K → ℕ) (
   clearing_faults x m fault runs = (runs_room hashes (record { sweep = p; hasher = b }) m0 x m (Err fault) runs (subst (λ (y : Sweep). RoomInSweeping y.stands) (sym is) tt)).1
 
   -- a sweep has stopped
-  pub clearing_ran : (x : OverPairs S) (m : Mem (Node K V)) (result : Result Pause Fault) → RunsTo (over_pairs_plan {V = V} hashes) (record { sweep = p; hasher = b }) m0 x m result → HasSwept hashes b setting m0 m
+  pub clearing_ran : (x : OverPairs S) (m : Mem (Node K V)) (result : Result Pause Fault) → RunsTo (over_pairs_plan {V = V} hashes) (record { sweep = p; hasher = b }) m0 x m result → HasSwept hashes b setting Clears m0 m
   clearing_ran x m result runs =
-      (Clears, record { sweep = p; hasher = b }, m0, subst (λ (y : Sweep). IsSweeping hashes b setting Clears m0 (record { sweep = y; hasher = b }) m0) (sym is) sweeps.begun, x, result, runs)
+      (record { sweep = p; hasher = b }, m0, subst (λ (y : Sweep). IsSweeping hashes b setting Clears m0 (record { sweep = y; hasher = b }) m0) (sym is) sweeps.begun, x, result, runs)

@@ -1,9 +1,10 @@
 -- It begins, and comes to what it was told.
 use Rattle.std.specs.Fn.{FnOnceReturnsAt}
-use Rattle.std.specs.Prelude.{Some, None}
+use Rattle.std.specs.Prelude.{[], Some, None}
 use Rattle.std.proofs.Common.{◌≡◌, ◌∙◌, ap, refl, inl, subst}
 use Rattle.papaya_raw.specs.declared.machines.asking.Reply.TheVariants as reply
 use Rattle.papaya_owned.specs.Given.Callers.Kind.{updates_or_inserts}
+use Rattle.papaya_owned.specs.Given.Callers.Pairs.{IsTold}
 use Rattle.papaya_asks.specs.Closures.{ComesTo, UpdatingOrStoring}
 use Rattle.papaya_asks.specs.declared.refused.RefusedKey.{RefusedKey}
 use Rattle.papaya_owned.specs.Calling.{HasStopped, stop_by}
@@ -86,10 +87,10 @@ pub returns-in-Ok-Answered-clause-ran : goal.returns-in-Ok-Answered-clause-ran
 returns-in-Ok-Answered-clause-ran g c = stopped_answered g.K.PartialEq.eq g.K.PartialEq.eq (hashed_by g.S.Hasher.Hasher.finish g.S.Hasher.Hasher.write g.S.BuildHasher.build_hasher g.K.Hash.hash_input) c.args.hasher c.args.setting _ _ _ _ (updates_or_inserts_so g.K.PartialEq.eq ((hashed_by g.S.Hasher.Hasher.finish g.S.Hasher.Hasher.write g.S.BuildHasher.build_hasher g.K.Hash.hash_input) c.args.hasher.now) c.args.setting c.args.key _ c.hash_of-hash.ensures _ c.update_or_insert_with-call.ensures) _ _ _ c.start.ensures.ran _ _ c.in-Ok-Answered.is c.in-Ok-Answered.field-0-is
 
 pub returns-in-Ok-clause-ran : goal.returns-in-Ok-clause-ran
-returns-in-Ok-clause-ran g c = subst (λ z. HasStopped g.K.PartialEq.eq g.K.PartialEq.eq (hashed_by g.S.Hasher.Hasher.finish g.S.Hasher.Hasher.write g.S.BuildHasher.build_hasher g.K.Hash.hash_input) c.args.hasher c.args.setting c.args.memory.now c.replied.new.memory (stop_by (λ (e : RefusedKey _). e.fault) z)) c.in-Ok.is (stopped_told g.K.PartialEq.eq g.K.PartialEq.eq (hashed_by g.S.Hasher.Hasher.finish g.S.Hasher.Hasher.write g.S.BuildHasher.build_hasher g.K.Hash.hash_input) c.args.hasher c.args.setting _ _ _ _ (updates_or_inserts_so g.K.PartialEq.eq ((hashed_by g.S.Hasher.Hasher.finish g.S.Hasher.Hasher.write g.S.BuildHasher.build_hasher g.K.Hash.hash_input) c.args.hasher.now) c.args.setting c.args.key _ c.hash_of-hash.ensures _ c.update_or_insert_with-call.ensures) _ _ _ c.start.ensures.ran _ _ c.in-Ok-Asks-Some.is (c.in-Ok-Asks-Some.field-0-is ∙ ap stop.Asks c.in-Ok-Asks-Some.field-0-0-is) (reply.Insert c.make-new.result) _ _ c.replied.ensures.ran)
+returns-in-Ok-clause-ran g c = subst (λ z. HasStopped g.K.PartialEq.eq g.K.PartialEq.eq (hashed_by g.S.Hasher.Hasher.finish g.S.Hasher.Hasher.write g.S.BuildHasher.build_hasher g.K.Hash.hash_input) c.args.hasher c.args.setting c.args.memory.now (g.K.PartialEq.eq c.args.key) (IsTold updates_or_inserts (Some c.args.key) []) c.replied.new.memory (stop_by (λ (e : RefusedKey _). e.fault) z)) c.in-Ok.is (stopped_told g.K.PartialEq.eq g.K.PartialEq.eq (hashed_by g.S.Hasher.Hasher.finish g.S.Hasher.Hasher.write g.S.BuildHasher.build_hasher g.K.Hash.hash_input) c.args.hasher c.args.setting _ _ _ _ (updates_or_inserts_so g.K.PartialEq.eq ((hashed_by g.S.Hasher.Hasher.finish g.S.Hasher.Hasher.write g.S.BuildHasher.build_hasher g.K.Hash.hash_input) c.args.hasher.now) c.args.setting c.args.key _ c.hash_of-hash.ensures _ c.update_or_insert_with-call.ensures) _ _ _ c.start.ensures.ran _ _ c.in-Ok-Asks-Some.is (c.in-Ok-Asks-Some.field-0-is ∙ ap stop.Asks c.in-Ok-Asks-Some.field-0-0-is) (reply.Insert c.make-new.result) _ _ c.replied.ensures.ran)
 
 pub returns-in-Err-replied-clause-ran : goal.returns-in-Err-replied-clause-ran
-returns-in-Err-replied-clause-ran g c = subst (λ z. HasStopped g.K.PartialEq.eq g.K.PartialEq.eq (hashed_by g.S.Hasher.Hasher.finish g.S.Hasher.Hasher.write g.S.BuildHasher.build_hasher g.K.Hash.hash_input) c.args.hasher c.args.setting c.args.memory.now c.replied.new.memory (stop_by (λ (e : RefusedKey _). e.fault) z)) c.in-Err-replied.is (stopped_told g.K.PartialEq.eq g.K.PartialEq.eq (hashed_by g.S.Hasher.Hasher.finish g.S.Hasher.Hasher.write g.S.BuildHasher.build_hasher g.K.Hash.hash_input) c.args.hasher c.args.setting _ _ _ _ (updates_or_inserts_so g.K.PartialEq.eq ((hashed_by g.S.Hasher.Hasher.finish g.S.Hasher.Hasher.write g.S.BuildHasher.build_hasher g.K.Hash.hash_input) c.args.hasher.now) c.args.setting c.args.key _ c.hash_of-hash.ensures _ c.update_or_insert_with-call.ensures) _ _ _ c.start.ensures.ran _ _ c.in-Ok-Asks-Some.is (c.in-Ok-Asks-Some.field-0-is ∙ ap stop.Asks c.in-Ok-Asks-Some.field-0-0-is) (reply.Insert c.make-new.result) _ _ c.replied.ensures.ran)
+returns-in-Err-replied-clause-ran g c = subst (λ z. HasStopped g.K.PartialEq.eq g.K.PartialEq.eq (hashed_by g.S.Hasher.Hasher.finish g.S.Hasher.Hasher.write g.S.BuildHasher.build_hasher g.K.Hash.hash_input) c.args.hasher c.args.setting c.args.memory.now (g.K.PartialEq.eq c.args.key) (IsTold updates_or_inserts (Some c.args.key) []) c.replied.new.memory (stop_by (λ (e : RefusedKey _). e.fault) z)) c.in-Err-replied.is (stopped_told g.K.PartialEq.eq g.K.PartialEq.eq (hashed_by g.S.Hasher.Hasher.finish g.S.Hasher.Hasher.write g.S.BuildHasher.build_hasher g.K.Hash.hash_input) c.args.hasher c.args.setting _ _ _ _ (updates_or_inserts_so g.K.PartialEq.eq ((hashed_by g.S.Hasher.Hasher.finish g.S.Hasher.Hasher.write g.S.BuildHasher.build_hasher g.K.Hash.hash_input) c.args.hasher.now) c.args.setting c.args.key _ c.hash_of-hash.ensures _ c.update_or_insert_with-call.ensures) _ _ _ c.start.ensures.ran _ _ c.in-Ok-Asks-Some.is (c.in-Ok-Asks-Some.field-0-is ∙ ap stop.Asks c.in-Ok-Asks-Some.field-0-0-is) (reply.Insert c.make-new.result) _ _ c.replied.ensures.ran)
 
 pub returns-in-Ok-Asks-None-clause-ran : goal.returns-in-Ok-Asks-None-clause-ran
 returns-in-Ok-Asks-None-clause-ran g c = stopped_told g.K.PartialEq.eq g.K.PartialEq.eq (hashed_by g.S.Hasher.Hasher.finish g.S.Hasher.Hasher.write g.S.BuildHasher.build_hasher g.K.Hash.hash_input) c.args.hasher c.args.setting _ _ _ _ (updates_or_inserts_so g.K.PartialEq.eq ((hashed_by g.S.Hasher.Hasher.finish g.S.Hasher.Hasher.write g.S.BuildHasher.build_hasher g.K.Hash.hash_input) c.args.hasher.now) c.args.setting c.args.key _ c.hash_of-hash.ensures _ c.update_or_insert_with-call.ensures) _ _ _ c.start.ensures.ran _ _ c.in-Ok-Asks-None.is (c.in-Ok-Asks-None.field-0-is ∙ ap stop.Asks c.in-Ok-Asks-None.field-0-0-is) (reply.Insert c.args.value) _ _ c.stored.ensures.ran

@@ -1,4 +1,8 @@
 -- It comes to its end, and what it comes to.
+use Rattle.std.proofs.Common.{subst}
+use Rattle.papaya_owned.specs.Given.Reserves.declared.reserve.Reserve.{Reserve}
+use Rattle.papaya_owned.specs.Ending.{HasCome}
+use Rattle.papaya_owned.specs.Machines.{for_room_plan}
 use Rattle.papaya_owned.proofs.Owned.Rooms.{making_room_ends, making_room_by}
 use Rattle.papaya_owned.proofs.rooms.make_room.Goals as goal
 
@@ -9,4 +13,7 @@ pub returns-clause-room : goal.returns-clause-room
 returns-clause-room g c = λ xs has. making_room_by {S = g.row.S.Denot} _ _ c.args.hasher c.args.setting _ xs has _ _ c.new-reserve.ensures _ _ _ c.run.ensures
 
 pub returns-clause-ran : goal.returns-clause-ran
-returns-clause-ran g c = let r = c.requires in (_, _, _, making_room_ends {S = g.row.S.Denot} _ _ c.args.hasher c.args.setting _ r.0 r.1 _ _ c.new-reserve.ensures, c.run.ensures)
+returns-clause-ran g c =
+    let r = c.requires in
+    subst (λ (x : Reserve). HasCome (for_room_plan g.S.Hashes.hash) (record { reserve = x; hasher = c.args.hasher }) c.args.memory.now c.run.new.memory c.run.result) c.new-reserve.ensures
+    (_, making_room_ends {S = g.row.S.Denot} _ _ c.args.hasher c.args.setting _ r.0 r.1 _ _ c.new-reserve.ensures, c.run.ensures)

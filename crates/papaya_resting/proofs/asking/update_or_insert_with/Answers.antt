@@ -31,4 +31,4 @@ returns-clause-capacity g c = λ xs has.
 
 pub returns-clause-keeps : goal.returns-clause-keeps
 returns-clause-keeps g c = λ xs has.
-    change_holds_on _ _ c.refresh.ensures.none g.K.PartialEq.eq (hashed_by g.S.Hasher.Hasher.finish g.S.Hasher.Hasher.write g.S.BuildHasher.build_hasher g.K.Hash.hash_input) c.args.hasher c.args.setting xs (c.refresh.ensures.holds xs has) _ _ (λ (e : RefusedKey _). e.fault) c.update_or_insert_with.result c.update_or_insert_with.ensures.ran c.ended.new.last c.ended.ensures.words c.ended.result c.ended.ensures.done
+    change_holds_on _ _ c.refresh.ensures.none g.K.PartialEq.eq (hashed_by g.S.Hasher.Hasher.finish g.S.Hasher.Hasher.write g.S.BuildHasher.build_hasher g.K.Hash.hash_input) c.args.hasher c.args.setting xs (c.refresh.ensures.holds xs has) _ _ _ _ (λ (e : RefusedKey _). e.fault) c.update_or_insert_with.result c.update_or_insert_with.ensures.ran c.ended.new.last c.ended.ensures.words c.ended.result c.ended.ensures.done

@@ -29,4 +29,4 @@ returns-clause-capacity g c = λ xs has.
 
 pub returns-clause-keeps : goal.returns-clause-keeps
 returns-clause-keeps g c = λ xs has.
-    computing_holds_on _ _ c.refresh.ensures.none g.K.PartialEq.eq (hashed_by g.S.Hasher.Hasher.finish g.S.Hasher.Hasher.write g.S.BuildHasher.build_hasher g.K.Hash.hash_input) c.args.hasher c.args.setting xs (c.refresh.ensures.holds xs has) _ _ c.args.key (ComputesAs g.F.FnOnce c.args.decide) c.compute.result (c.compute.ensures.comes xs (c.refresh.ensures.holds xs has)) c.compute.ensures.ran c.computed.new.last c.computed.ensures.words c.computed.result c.computed.ensures.done
+    computing_holds_on _ _ c.refresh.ensures.none g.K.PartialEq.eq (hashed_by g.S.Hasher.Hasher.finish g.S.Hasher.Hasher.write g.S.BuildHasher.build_hasher g.K.Hash.hash_input) c.args.hasher c.args.setting xs (c.refresh.ensures.holds xs has) _ _ _ _ c.args.key (ComputesAs g.F.FnOnce c.args.decide) c.compute.result (c.compute.ensures.comes xs (c.refresh.ensures.holds xs has)) c.compute.ensures.ran c.computed.new.last c.computed.ensures.words c.computed.result c.computed.ensures.done

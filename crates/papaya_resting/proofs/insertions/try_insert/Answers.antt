@@ -86,8 +86,8 @@ returns-in-Ok-default-clause-kept g c =
 
 pub returns-in-Err-default-clause-keeps : goal.returns-in-Err-default-clause-keeps
 returns-in-Err-default-clause-keeps g c = λ xs has.
-    refused _ _ c.refresh.ensures.none g.K.PartialEq.eq (hashed_by g.S.Hasher.Hasher.finish g.S.Hasher.Hasher.write g.S.BuildHasher.build_hasher g.K.Hash.hash_input) c.args.hasher c.args.setting xs (c.refresh.ensures.holds xs has) _ _ c.store.result.0 _ c.in-Err-default.is-0 (c.store.ensures.ran tries_to_insert c.args.key c.args.value (tries_this ((hashed_by g.S.Hasher.Hasher.finish g.S.Hasher.Hasher.write g.S.BuildHasher.build_hasher g.K.Hash.hash_input) c.args.hasher.now) c.args.setting c.args.key c.args.value _ _ c.hash_of-hash.ensures refl))
+    refused _ _ c.refresh.ensures.none g.K.PartialEq.eq (hashed_by g.S.Hasher.Hasher.finish g.S.Hasher.Hasher.write g.S.BuildHasher.build_hasher g.K.Hash.hash_input) c.args.hasher c.args.setting xs (c.refresh.ensures.holds xs has) _ _ _ _ c.store.result.0 _ c.in-Err-default.is-0 (c.store.ensures.ran tries_to_insert c.args.key c.args.value (tries_this ((hashed_by g.S.Hasher.Hasher.finish g.S.Hasher.Hasher.write g.S.BuildHasher.build_hasher g.K.Hash.hash_input) c.args.hasher.now) c.args.setting c.args.key c.args.value _ _ c.hash_of-hash.ensures refl))
 
 pub returns-in-Ok-default-clause-keeps : goal.returns-in-Ok-default-clause-keeps
 returns-in-Ok-default-clause-keeps g c = λ xs has.
-    try_holds_on _ _ c.refresh.ensures.none g.K.PartialEq.eq (hashed_by g.S.Hasher.Hasher.finish g.S.Hasher.Hasher.write g.S.BuildHasher.build_hasher g.K.Hash.hash_input) c.args.hasher c.args.setting xs (c.refresh.ensures.holds xs has) _ _ c.args.key c.args.value c.store.result.0 (c.store.ensures.ends xs tries_to_insert c.args.key c.args.value (c.refresh.ensures.holds xs has) (tries_this ((hashed_by g.S.Hasher.Hasher.finish g.S.Hasher.Hasher.write g.S.BuildHasher.build_hasher g.K.Hash.hash_input) c.args.hasher.now) c.args.setting c.args.key c.args.value _ _ c.hash_of-hash.ensures refl)) (c.store.ensures.ran tries_to_insert c.args.key c.args.value (tries_this ((hashed_by g.S.Hasher.Hasher.finish g.S.Hasher.Hasher.write g.S.BuildHasher.build_hasher g.K.Hash.hash_input) c.args.hasher.now) c.args.setting c.args.key c.args.value _ _ c.hash_of-hash.ensures refl)) c.in-Ok-default.stop c.in-Ok-default.is-0 c.tried.result c.tried.ensures.stored c.tried.ensures.found
+    try_holds_on _ _ c.refresh.ensures.none g.K.PartialEq.eq (hashed_by g.S.Hasher.Hasher.finish g.S.Hasher.Hasher.write g.S.BuildHasher.build_hasher g.K.Hash.hash_input) c.args.hasher c.args.setting xs (c.refresh.ensures.holds xs has) _ _ _ _ c.args.key c.args.value c.store.result.0 (c.store.ensures.ends xs tries_to_insert c.args.key c.args.value (c.refresh.ensures.holds xs has) (tries_this ((hashed_by g.S.Hasher.Hasher.finish g.S.Hasher.Hasher.write g.S.BuildHasher.build_hasher g.K.Hash.hash_input) c.args.hasher.now) c.args.setting c.args.key c.args.value _ _ c.hash_of-hash.ensures refl)) (c.store.ensures.ran tries_to_insert c.args.key c.args.value (tries_this ((hashed_by g.S.Hasher.Hasher.finish g.S.Hasher.Hasher.write g.S.BuildHasher.build_hasher g.K.Hash.hash_input) c.args.hasher.now) c.args.setting c.args.key c.args.value _ _ c.hash_of-hash.ensures refl)) c.in-Ok-default.stop c.in-Ok-default.is-0 c.tried.result c.tried.ensures.stored c.tried.ensures.found

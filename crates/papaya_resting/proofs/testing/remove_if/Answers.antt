@@ -24,4 +24,4 @@ returns-clause-capacity g c = λ xs has.
 
 pub returns-clause-keeps : goal.returns-clause-keeps
 returns-clause-keeps g c = λ xs has.
-    chosen_holds_on _ _ c.refresh.ensures.none g.K.PartialEq.eq (hashed_by g.S.Hasher.Hasher.finish g.S.Hasher.Hasher.write g.S.BuildHasher.build_hasher g.K.Hash.hash_input) c.args.hasher c.args.setting xs (c.refresh.ensures.holds xs has) _ _ (g.Q.Equivalent.equivalent c.args.asked.now) (Removing (TestsAs g.F.FnOnce c.args.test)) c.remove_if.result (c.remove_if.ensures.comes xs (c.refresh.ensures.holds xs has)) c.remove_if.ensures.ran
+    chosen_holds_on _ _ c.refresh.ensures.none g.K.PartialEq.eq (hashed_by g.S.Hasher.Hasher.finish g.S.Hasher.Hasher.write g.S.BuildHasher.build_hasher g.K.Hash.hash_input) c.args.hasher c.args.setting xs (c.refresh.ensures.holds xs has) _ _ _ _ (g.Q.Equivalent.equivalent c.args.asked.now) (Removing (TestsAs g.F.FnOnce c.args.test)) c.remove_if.result (c.remove_if.ensures.comes xs (c.refresh.ensures.holds xs has)) c.remove_if.ensures.ran

@@ -95,6 +95,7 @@ returns-clause-told g c = λ same hash is. (
     plain = sym c.is_err.ensures.value ∙ c.if-is_err.false;
     leads = λ s at. c.reply.ensures.taken same hash s at;
     value = c.told_by-told.result.1;
+    value_is = ap (λ t. t.1) c.told_by-told.ensures;
     calls = λ d at. c.resume.ensures d at;
     notes = c.reply.ensures.notes;
   },

@@ -1,0 +1,42 @@
+-- Where pairs were copied from: an older table names each pair for ever that was put into a later one.
+use Rattle.std.specs.Prelude.{◌≡◌, ◌≢◌, ℕ, ◌<◌, ◌≤◌, Bool, true, List, length, Some}
+use Rattle.papaya_histories.specs.Given.Tables.Chunks.{is_incremental}
+use Rattle.papaya_histories.specs.Given.Schedules.Moment.{Moment}
+use Rattle.papaya_histories.specs.Given.Rule.Chart.{Phase, Still, Holds, Chart}
+use Rattle.papaya_histories.specs.Given.Effects.Known.{Known}
+use Rattle.papaya_histories.specs.Given.Executor.IsAt.{Scene}
+use Rattle.papaya_histories.specs.Given.Finishes.Maps.{Standing}
+use Rattle.papaya_histories.specs.Given.Follows.Shows.{Shows}
+
+module _ {K : Type 0} (c : Chart K) (n : ℕ) where
+  -- this place of a table names the pair, and it is being copied, or was
+  pub record IsSource (t i : ℕ) : Type 0 where
+    pub made : t < c.past
+    pub within : i < c.len t
+    pub phase : Phase
+    pub borrowed : Bool
+    pub held : c.place t i ≡ Holds n phase borrowed
+    pub moves : phase ≢ Still
+
+  -- there is such a place in a table before this one
+  pub record HasSource (turn : ℕ) : Type 0 where
+    pub table : ℕ
+    pub before : table < turn
+    pub place : ℕ
+    pub is : IsSource table place
+
+module _ {K V : Type 0} (c : Chart K) (number : ℕ → ℕ) (m : Moment K V) where
+  -- each pair that lies in a later table than the one in which it was stored came from a place of an older one
+  abbrev pub CameFromPlaces : Type 0
+  CameFromPlaces = (n : ℕ) → n < c.stored → (m.born (number n)).turn < (m.spot (number n)).turn → HasSource c n (m.spot (number n)).turn
+
+module _ {K V : Type 0} (map : ℕ) (number : ℕ → ℕ) (st : Standing K) (m : Moment K V) where
+  -- each pair that was stored in the map has its number there
+  abbrev pub AreNumbered : Type 0
+  AreNumbered = (k : ℕ) → 0 < k → k ≤ length m.stored → (m.born k).map ≡ map → (n : ℕ) × (n < st.chart.stored) × (number n ≡ k)
+
+-- Of each map that stands: each pair that was stored there has its number; and in one that grows in chunks each that lies in a later table than the one in which it was stored came from a place of an older one.
+pub record ShowsSources {K V : Type 0} (same : K → K → Bool) (name : ℕ → List ℕ) (m : Moment K V) (known : Known) (s : Scene K V) : Type 0 where
+  pub shown : Shows same name m known s
+  pub numbered : (map : ℕ) (st : Standing K) → s.maps map ≡ Some st → AreNumbered map (shown.number map) st m
+  pub came : (map : ℕ) (st : Standing K) → s.maps map ≡ Some st → is_incremental st.setting.mode ≡ true → CameFromPlaces st.chart (shown.number map) m

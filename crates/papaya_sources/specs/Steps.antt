@@ -1,0 +1,37 @@
+-- A step of a call, whichever it is: where pairs were copied from is so after it; and what it puts behind a table finds room there.
+use Rattle.std.specs.Prelude.{◌≡◌, ℕ, Bool, List, Some}
+use Rattle.papaya_histories.specs.Given.Tables.declared.node.Node.{Node}
+use Rattle.papaya_histories.specs.Given.Raw.declared.machines.progress.Progress.{Progress}
+use Rattle.papaya_histories.specs.Given.Schedules.Effects.{with_effects}
+use Rattle.papaya_histories.specs.Given.Schedules.Moment.{Moment}
+use Rattle.papaya_histories.specs.Given.Callers.Together.{UnderWay}
+use Rattle.papaya_histories.specs.Given.Effects.Effects.{effects_of, known_after}
+use Rattle.papaya_histories.specs.Given.Effects.Known.{Known}
+use Rattle.papaya_histories.specs.Given.Effects.declared.acting.Acting.TheVariants as acts
+use Rattle.papaya_histories.specs.Given.Executor.IsAt.{Scene, IsAt}
+use Rattle.papaya_histories.specs.Given.Executor.Stepping.{StepLeads, scene_after}
+use Rattle.papaya_histories.specs.Given.Executor.declared.executor.Executor.{Executor}
+use Rattle.papaya_histories.specs.Given.Moments.Whole.{ShowsWhole}
+use Rattle.papaya_settles.specs.Due.{OwnAreMade}
+use Rattle.papaya_settles.specs.Entries.{ShowsEntries}
+use Rattle.papaya_settles.specs.Hand.{ShowsOwed}
+use Rattle.papaya_finds.specs.Waits.{FindPast, FindBehind, FindSpace}
+use Rattle.papaya_finds.specs.Within.{AllIsInOrder}
+use Rattle.papaya_sources.specs.Sources.{ShowsSources}
+
+module _ (K V S : Type 0) (same : K → K → Bool) (hash : K → ℕ) where
+  abbrev pub CallsKeepSources : Type 0
+  CallsKeepSources =
+      (name : ℕ → List ℕ) (m : Moment K V) (known : Known) (s : Scene K V) (old new : Executor K V S) → IsAt same hash old s → ShowsWhole same name m known s → ShowsSources same name m known s
+      → (map i : ℕ) (u : UnderWay K V K) (here : s.calls map i ≡ Some u) (said : Progress (Node K V)) (leads : StepLeads same hash i said s old new)
+      → (let to = leads map u here in
+      ShowsSources same name (with_effects (Some (name i)) (Some map) (effects_of (acts.Call i map) known new.memory.changed) m) (known_after (acts.Call i map) new.memory.changed known)
+      (scene_after same hash s old new map i to.0 u to.1 said to.4))
+
+  -- At a moment at which all is in order, if a pair that it puts behind a table was copied past that one, in a map that grows in chunks.
+  abbrev pub CallsFindSpace : Type 0
+  CallsFindSpace =
+      (name : ℕ → List ℕ) (m : Moment K V) (known : Known) (s : Scene K V) (old new : Executor K V S) → IsAt same hash old s → ShowsWhole same name m known s → ShowsEntries s → OwnAreMade known s.world
+      → ShowsOwed name m known s → ShowsSources same name m known s → AllIsInOrder m
+      → (map i : ℕ) (u : UnderWay K V K) (here : s.calls map i ≡ Some u) (said : Progress (Node K V)) (leads : StepLeads same hash i said s old new)
+      → (let effects = effects_of (acts.Call i map) known new.memory.changed in FindPast (name i) map effects m → FindBehind (name i) map effects m → FindSpace (name i) map effects m)
