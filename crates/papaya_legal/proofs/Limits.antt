@@ -6,3 +6,4 @@ pub mod Chain
 pub mod Off
 pub mod Shows
 pub mod Steps
+pub mod Cases
