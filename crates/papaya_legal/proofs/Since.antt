@@ -11,7 +11,7 @@ use Rattle.papaya_histories.specs.Given.Schedules.declared.call.Call.{Call}
 use Rattle.papaya_histories.specs.Given.Schedules.declared.call.Reply.{Reply}
 use Rattle.papaya_histories.specs.Given.Schedules.declared.effect.Effect.{Effect}
 use Rattle.papaya_histories.specs.Given.Schedules.declared.outcome.Outcome.{Outcome}
-use Rattle.papaya_histories.specs.Given.Schedules.After.{moment, replied, without_call}
+use Rattle.papaya_histories.specs.Given.Schedules.After.{moment, moments_from, replied, without_call}
 use Rattle.papaya_histories.specs.Given.Schedules.Beginning.{fresh_call, with_call}
 use Rattle.papaya_histories.specs.Given.Schedules.Effects.{with_effects}
 use Rattle.papaya_histories.specs.Given.Schedules.Entry.{Entry, ends_call}
@@ -52,17 +52,17 @@ module _ {K V : Type 0} (Of : Type 0 → Machine K V K → Type 0) (more : (A B 
     (replies : (A : Type 0) (machine : Machine K V K) (reply : MachineReply V) → Of A machine → Of A (machine_replied machine reply).0) (asked : (A : Type 0) (machine : Machine K V K) → Of A machine → Of A (machine_asked machine).0)
     (So : ℕ → Moment K V → Type 0) (so_where : (m v : Moment K V) → v.tables ≡ m.tables → (n : ℕ) → map_at n v ≡ map_at n m → So n m → So n v) where
   -- it was so at a moment of the log since then, or is so now
-  abbrev HadSo : ℕ → ℕ → List (Entry K V) → Type 0
+  abbrev pub HadSo : ℕ → ℕ → List (Entry K V) → Type 0
   HadSo map begun log = OneOf (So map) (moments_from begun log)
 
-  abbrev HasSo : ℕ → ℕ → List (Entry K V) → Moment K V → Type 0
+  abbrev pub HasSo : ℕ → ℕ → List (Entry K V) → Moment K V → Type 0
   HasSo map begun log m = HadSo map begun log ⊎ So map m
 
-  abbrev ShowsSo : (ℕ → List ℕ) → List (Entry K V) → Moment K V → Scene K V → Type 0
+  abbrev pub ShowsSo : (ℕ → List ℕ) → List (Entry K V) → Moment K V → Scene K V → Type 0
   ShowsSo name log m s =
       (map i : ℕ) (u : UnderWay K V K) → s.calls map i ≡ Some u → (c : CallThere K V) → call_of (name i) m ≡ Some c → Of (HasSo map c.begun log m) (machine_of u)
 
-  abbrev OthersSo : (ℕ → List ℕ) → List (Entry K V) → ℕ → Moment K V → Scene K V → Type 0
+  abbrev pub OthersSo : (ℕ → List ℕ) → List (Entry K V) → ℕ → Moment K V → Scene K V → Type 0
   OthersSo name log i m s =
       (map j : ℕ) (u : UnderWay K V K) → s.calls map j ≡ Some u → j ≢ i → (c : CallThere K V) → call_of (name j) m ≡ Some c → Of (HadSo map c.begun log) (machine_of u)
 

@@ -95,40 +95,41 @@ its_more r call.Walk is = absurd is
 
 module _ {K V S : Type 0} (same : K → K → Bool) (hash : K → ℕ) (name : ℕ → List ℕ) (log : List (Entry K V)) (m : Moment K V) (known : Known) (s : Scene K V) (old new : Executor K V S) (at : IsAt same hash old s)
     (whole : ShowsWhole same name m known s) (map i : ℕ) (said : Progress (Node K V)) (leads : StepLeads same hash i said s old new) (limits : ShowsLimits name log m s) (capacities : ShowsCapacities m s)
-    (purposes : ShowsPurposes same name log m known s) (terms : Terms) (c : CallThere K V) (c_is : call_of (name i) m ≡ Some c) where
+    (purposes : ShowsPurposes same name log m known s) (terms : Terms) (c : CallThere K V) (c_is : call_of (name i) m ≡ Some c) (d : CallThere K V) (d_call : d.call ≡ c.call) (d_map : d.map ≡ map)
+    (d_begun : d.begun ≡ c.begun) where
   abbrev pub v : Moment K V
   v = with_effects (Some (name i)) (Some map) (effects_of (acts.Call i map) known new.memory.changed) m
 
   abbrev moments : List (Moment K V)
   moments = moments_from c.begun log
 
-  abbrev pub InCase : Type 0
-  InCase = CountsTooMany terms c.call c (v ∷ moments) ⊎ OneOf (λ x. IsAtLimit c.map x) (v ∷ moments)
+  -- of the call as it is once the event is over, by the moments since this event
+  abbrev InCaseSince : ℕ → Type 0
+  InCaseSince begun = CountsTooMany terms d.call d (v ∷ moments_from begun log) ⊎ OneOf (λ x. IsAtLimit d.map x) (v ∷ moments_from begun log)
 
-  module _ (u : UnderWay K V K) (here : s.calls map i ≡ Some u) where
-    its_map : c.map ≡ map
-    its_map = let found = whole.all.shown.calls map i u here in ap (λ (x : CallThere K V). x.map) (one_of c found.0 (sym c_is ∙ found.1)) ∙ found.2
+  abbrev InCase : Type 0
+  InCase = InCaseSince c.begun
 
-    at_limit : HasLimit map c.begun log v → InCase
-    at_limit (inl had) = inr (inr (subst (λ (n : ℕ). OneOf (λ x. IsAtLimit n x) moments) (sym its_map) had))
-    at_limit (inr now) = inr (inl (subst (λ (n : ℕ). IsAtLimit n v) (sym its_map) now))
+  at_limit : HasLimit map c.begun log v → InCase
+  at_limit (inl had) = inr (inr (subst (λ (n : ℕ). OneOf (λ x. IsAtLimit n x) moments) (sym d_map) had))
+  at_limit (inr now) = inr (inl (subst (λ (n : ℕ). IsAtLimit n v) (sym d_map) now))
 
-    none_summed : HasLimit map c.begun log v ⊎ ⊥ → InCase
-    none_summed (inl limit) = at_limit limit
-    none_summed (inr none) = absurd none
+  none_summed : HasLimit map c.begun log v ⊎ ⊥ → InCase
+  none_summed (inl limit) = at_limit limit
+  none_summed (inr none) = absurd none
 
   -- of a reservation
   module _ (r : CallForRoom) (here : s.calls map i ≡ Some (ForRoom r)) (shards_are : suc r.reserve.setting.mask ≡ shards_of terms) (shards : ReadsShards log m s map (ForRoom r)) where
     abbrev st : Standing K
     st = (leads map (ForRoom r) here).0
 
-    its_call : c.call ≡ call.Reserve r.reserve.additional
-    its_call = its_more r c.call (purposes.is_for map i (ForRoom r) here c c_is)
+    its_call : d.call ≡ call.Reserve r.reserve.additional
+    its_call = d_call ∙ its_more r c.call (purposes.is_for map i (ForRoom r) here c c_is)
 
     counts_many : (n : ℕ) → Counts (suc r.reserve.setting.mask) map (v ∷ moments) n → is_too_many (n + r.reserve.additional) ≡ true → InCase
     counts_many n counts many =
-        inl (subst (λ (z : Call K V). CountsTooMany terms z c (v ∷ moments)) (sym its_call)
-        (n, subst (λ (of : ℕ). Counts (shards_of terms) of (v ∷ moments) n) (sym (its_map (ForRoom r) here)) (subst (λ (k : ℕ). Counts k map (v ∷ moments) n) shards_are counts), many))
+        inl (subst (λ (z : Call K V). CountsTooMany terms z d (v ∷ moments)) (sym its_call)
+        (n, subst (λ (of : ℕ). Counts (shards_of terms) of (v ∷ moments) n) (sym d_map) (subst (λ (k : ℕ). Counts k map (v ∷ moments) n) shards_are counts), many))
 
     summed_at : (p : Reserving) → r.reserve.stands ≡ p → SummedAt old.memory.memory new.memory.memory r.reserve p → InCase
     summed_at (reserving.Sums table sum) is (after, count, step, many) =
@@ -144,15 +145,18 @@ module _ {K V S : Type 0} (same : K → K → Bool) (hash : K → ℕ) (name : �
     needs_more needs = let count = count_at map v moments (suc r.reserve.setting.mask) in counts_many count.0 count.1 (more_too_many count.0 r.reserve.additional needs)
 
     room_in_case : (HasLimit map c.begun log v ⊎ SummedAt old.memory.memory new.memory.memory r.reserve r.reserve.stands) ⊎ NeedsMore r.reserve.additional → InCase
-    room_in_case (inl (inl limit)) = at_limit (ForRoom r) here limit
+    room_in_case (inl (inl limit)) = at_limit limit
     room_in_case (inl (inr summed)) = summed_at r.reserve.stands refl summed
     room_in_case (inr needs) = needs_more needs
 
+  by_kind : (u : UnderWay K V K) (here : s.calls map i ≡ Some u) → ((r : CallForRoom) → u ≡ ForRoom r → suc r.reserve.setting.mask ≡ shards_of terms) → ReadsShards log m s map u → said ≡ progress.Refused Capacity → InCase
+  by_kind (OnKey x) here mask shards is = none_summed (refused_for same hash name log m known s old new at whole map i (OnKey x) here said leads limits capacities c c_is is)
+  by_kind (OverAll o) here mask shards is = none_summed (refused_for same hash name log m known s old new at whole map i (OverAll o) here said leads limits capacities c c_is is)
+  by_kind (Counting sum) here mask shards is = none_summed (refused_for same hash name log m known s old new at whole map i (Counting sum) here said leads limits capacities c c_is is)
+  by_kind (ForRoom r) here mask shards is =
+      room_in_case r here (mask r refl) shards (refused_for same hash name log m known s old new at whole map i (ForRoom r) here said leads limits capacities c c_is is)
+
   -- The promise.
   pub steps_in_case : (u : UnderWay K V K) (here : s.calls map i ≡ Some u) → ((r : CallForRoom) → u ≡ ForRoom r → suc r.reserve.setting.mask ≡ shards_of terms) → ReadsShards log m s map u → said ≡ progress.Refused Capacity
-      → InCase
-  steps_in_case (OnKey x) here mask shards is = none_summed (OnKey x) here (refused_for same hash name log m known s old new at whole map i (OnKey x) here said leads limits capacities c c_is is)
-  steps_in_case (OverAll o) here mask shards is = none_summed (OverAll o) here (refused_for same hash name log m known s old new at whole map i (OverAll o) here said leads limits capacities c c_is is)
-  steps_in_case (Counting sum) here mask shards is = none_summed (Counting sum) here (refused_for same hash name log m known s old new at whole map i (Counting sum) here said leads limits capacities c c_is is)
-  steps_in_case (ForRoom r) here mask shards is =
-      room_in_case r here (mask r refl) shards (refused_for same hash name log m known s old new at whole map i (ForRoom r) here said leads limits capacities c c_is is)
+      → CountsTooMany terms d.call d (v ∷ moments_from d.begun log) ⊎ OneOf (λ x. IsAtLimit d.map x) (v ∷ moments_from d.begun log)
+  steps_in_case u here mask shards is = subst InCaseSince (sym d_begun) (by_kind u here mask shards is)
