@@ -31,7 +31,7 @@ use Rattle.papaya_histories.specs.Given.Schedules.Terms.{Terms, shards_of}
 use Rattle.papaya_histories.specs.Given.Schedules.Views.{call_of}
 use Rattle.papaya_histories.specs.Given.Callers.Rooms.{CallForRoom}
 use Rattle.papaya_histories.specs.Given.Callers.Sights.{seen_by}
-use Rattle.papaya_histories.specs.Given.Callers.Together.{Counting, ForRoom, OnKey, OverAll, Together, UnderWay}
+use Rattle.papaya_histories.specs.Given.Callers.Together.{Counting, ForRoom, OnKey, OverAll, UnderWay}
 use Rattle.papaya_histories.specs.Given.Effects.Effects.{effects_of}
 use Rattle.papaya_histories.specs.Given.Effects.Known.{Known}
 use Rattle.papaya_histories.specs.Given.Effects.declared.acting.Acting.TheVariants as acts
@@ -46,8 +46,9 @@ use Rattle.papaya_histories.specs.Given.Finishes.Maps.{Standing}
 use Rattle.papaya_histories.specs.Given.Moments.Whole.{ShowsWhole}
 use Rattle.papaya_finds.specs.Capacities.{ShowsCapacities}
 use Rattle.papaya_finds.proofs.Reserving.{adds_after}
-use Rattle.papaya_purposes.specs.Purposes.{HasMet, IsFor, ShowsPurposes}
+use Rattle.papaya_purposes.specs.Purposes.{IsFor, ShowsPurposes}
 use Rattle.papaya_purposes.specs.Shards.{ReadsShards}
+use Rattle.papaya_purposes.proofs.RoomFacts.{room_setting}
 use Rattle.papaya_purposes.proofs.RoomSteps.{counts_then}
 use Rattle.papaya_legal.specs.Limits.{HasLimit, IsAtLimit, NeedsMore, ShowsLimits}
 use Rattle.papaya_legal.proofs.Limits.Steps.{refused_for}
@@ -92,6 +93,15 @@ its_more r call.Clear is = absurd is
 its_more r call.Retain is = absurd is
 its_more r call.Len is = absurd is
 its_more r call.Walk is = absurd is
+
+-- it has as many shards as its map
+pub room_shards : {K V S : Type 0} (same : K → K → Bool) (hash : K → ℕ) (s : Scene K V) (e : Executor K V S) → IsAt same hash e s → (map i : ℕ) (r : CallForRoom) → s.calls map i ≡ Some (ForRoom r) → (st : Standing K)
+    → s.maps map ≡ Some st → (n : ℕ) → st.setting.mask + 1 ≡ n → suc r.reserve.setting.mask ≡ n
+room_shards {K} {V} same hash s e at map i r here st there n mask_is =
+    let each = at.together.makings.standing.each map st there in
+    let setting_is : r.reserve.setting.mask ≡ st.setting.mask =
+    ap (λ (x : Setting). x.mask) (room_setting V same st.hash st.setting slot_of s.world st.chart (seen_by st.blocks (st.sights (slot_of i))) i r (each.stand i (ForRoom r) here)) in
+    omega (arith, setting_is, mask_is)
 
 module _ {K V S : Type 0} (same : K → K → Bool) (hash : K → ℕ) (name : ℕ → List ℕ) (log : List (Entry K V)) (m : Moment K V) (known : Known) (s : Scene K V) (old new : Executor K V S) (at : IsAt same hash old s)
     (whole : ShowsWhole same name m known s) (map i : ℕ) (said : Progress (Node K V)) (leads : StepLeads same hash i said s old new) (limits : ShowsLimits name log m s) (capacities : ShowsCapacities m s)
