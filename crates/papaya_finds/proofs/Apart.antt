@@ -1,7 +1,7 @@
 -- No table is there twice, also after an effect.
 use Rattle.std.specs.Prelude.{◌≡◌, Bool, true, false, ◌||◌, List, [], ◌∷◌, ◌++◌, map}
 use Rattle.std.specs.List.{AllByRecursion, list_any}
-use Rattle.std.proofs.Common.{refl, ap, sym, subst, ◌∙◌}
+use Rattle.std.proofs.Common.{refl, ap, ◌∙◌}
 use Rattle.papaya_histories.specs.Given.Schedules.declared.effect.Table.{Table}
 use Rattle.papaya_histories.specs.Given.Schedules.Moment.{TableThere}
 use Rattle.papaya_histories.specs.Given.Schedules.Things.{same_table}

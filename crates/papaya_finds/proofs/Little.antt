@@ -40,10 +40,13 @@ module _ {K V : Type 0} where
   all_emptied Close Done before m things order all = (is_emptied m order all.0, all.1)
   all_emptied _ _ before m things order all = tt
 
-  module _ (terms : Terms) (log : List (Entry K V)) (e : Entry K V) (h : AllIsInOrder (after e (moment log))) (reclaims : ReclaimsAll log e) (over : OverIsBack (after e (moment log)))
-      (bounded : is_quiescent (after e (moment log)) ≡ true → IsBounded terms.batch_size (after e (moment log))) where
+  module _ (terms : Terms) (log : List (Entry K V)) (e : Entry K V) (known : Known) (w : World (Node K V)) (word : terms.batch_size < 2 ^ 64) (h : AllIsInOrder (after e (moment log)))
+      (reclaims : ReclaimsAll log e) (over : OverIsBack (after e (moment log))) (shows : ShowsNobody terms (after e (moment log)) known w) where
     abbrev v : Moment K V
     v = after e (moment log)
+
+    bounded : is_quiescent v ≡ true → IsBounded terms.batch_size v
+    bounded quiet = let nobody = shows.nobody quiet in little_waits K V terms.batch_size v known w word shows.came nobody.0 nobody.1
 
     orderly : is_empty v.calls ≡ true → IsOrderly v
     orderly none = orderly_at_rest K V v h.waits (none_there v.calls none)
@@ -51,9 +54,8 @@ module _ {K V : Type 0} where
     torn_down : v.is_closed ≡ true → IsTornDown v
     torn_down closed = let back = over closed in torn_down_in_the_end K V v h.waits.placed h.somewhere back.1 (is_emptied v h.waits back.0)
 
-    -- it leaves little, if that is bounded where nobody is there
-    pub leaves_little : LeavesLittle terms log e
-    leaves_little = record {
+    leaves : LeavesLittle terms log e
+    leaves = record {
       bounded = where_so (is_quiescent v) (IsBounded terms.batch_size v) bounded;
       orderly = where_so (is_empty v.calls) (IsOrderly v) orderly;
       emptied = all_emptied e.event e.outcome (moment log) v (flat_map thing_back e.effects) h.waits reclaims;
@@ -61,8 +63,7 @@ module _ {K V : Type 0} where
     }
 
 pub events_leave_little : (K V : Type 0) → EventsLeaveLittle K V
-events_leave_little K V terms log e known w word h reclaims over shows =
-    leaves_little terms log e h reclaims over (λ quiet. (let nobody = shows.nobody quiet in little_waits K V terms.batch_size (after e (moment log)) known w word shows.came nobody.0 nobody.1))
+events_leave_little K V terms log e known w word h reclaims over shows = leaves terms log e known w word h reclaims over shows
 
 module _ {K V : Type 0} (terms : Terms) where
   -- so it is once the collector has ended, at each moment

@@ -1,10 +1,9 @@
 -- A run whose events come to what is right, and keep these promises, is legal.
-use Rattle.std.specs.Prelude.{◌≡◌, ◌<◌, ◌^◌, ℕ, Bool, true, List, ◌∷◌}
+use Rattle.std.specs.Prelude.{◌<◌, ◌^◌, ℕ, Bool, List, ◌∷◌}
 use Rattle.papaya_histories.specs.Given.Schedules.After.{after, moment}
 use Rattle.papaya_histories.specs.Given.Schedules.Beginning.{at_work}
 use Rattle.papaya_histories.specs.Given.Schedules.Entry.{Entry, acting, caller_of}
 use Rattle.papaya_histories.specs.Given.Schedules.InTurn.{ComesRight}
-use Rattle.papaya_histories.specs.Given.Schedules.Reclaims.{is_quiescent, IsBounded}
 use Rattle.papaya_histories.specs.Given.Schedules.Runs.{IsLegal}
 use Rattle.papaya_histories.specs.Given.Schedules.Steps.{DoesFew, MakesSteps, stands_or}
 use Rattle.papaya_histories.specs.Given.Schedules.Terms.{Terms}
@@ -21,11 +20,3 @@ EventsAreLegal K V =
     (same : K → K → Bool) (name : ℕ → List ℕ) (terms : Terms) (log : List (Entry K V)) (e : Entry K V) (known : Known) (s : Scene K V) → terms.batch_size < 2 ^ 64
     → ComesRight terms log e → MakesSteps e.event (stands_or (acting (caller_of e.event) (at_work e (moment log)))) e.steps e.outcome → DoesFew (caller_of e.event) e.steps e.effects
     → IsLegalBut same terms log e → ShowsRun same name terms (e ∷ log) known s → ReclaimsAll log e → ShowsNobody terms (after e (moment log)) known s.world → IsLegal same terms log e
-
--- And so it is, whatever the scene has, if what waits is bounded where nobody is there.
-abbrev pub BoundedEventsAreLegal : Type 0 → Type 0 → Type 0
-BoundedEventsAreLegal K V =
-    (same : K → K → Bool) (name : ℕ → List ℕ) (terms : Terms) (log : List (Entry K V)) (e : Entry K V) (known : Known) (s : Scene K V)
-    → ComesRight terms log e → MakesSteps e.event (stands_or (acting (caller_of e.event) (at_work e (moment log)))) e.steps e.outcome → DoesFew (caller_of e.event) e.steps e.effects
-    → IsLegalBut same terms log e → ShowsRun same name terms (e ∷ log) known s → ReclaimsAll log e
-    → (is_quiescent (after e (moment log)) ≡ true → IsBounded terms.batch_size (after e (moment log))) → IsLegal same terms log e

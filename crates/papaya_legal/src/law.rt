@@ -13,7 +13,7 @@ ghost use Rattle.papaya_legal.specs.Noted.{CallsBringThings, CallsHandNoted, Eve
 ghost use Rattle.papaya_legal.specs.Rests.{StepsFindRest};
 ghost use Rattle.papaya_legal.specs.Over.{AgainEventsEnd, BegunEventsEnd, ChoicesEnd, EndEventsBegin, EndEventsEnd, EndEventsFollow, IdleEventsEnd, MakingEventsBegin, MakingEventsEnd, MakingEventsFollow, QuietEventsEnd, RunsByOtherNames, RunsGoOn, StoppedEventsEnd, ToldEventsEnd};
 ghost use Rattle.papaya_legal.specs.Chains.{CallsChain, EndsChain, MakingsChain, RowsChain, RowsRunToTheirEnds, MakingsRunToTheirEnds, EndsRunToTheirEnds};
-ghost use Rattle.papaya_legal.specs.Promises.{BoundedEventsAreLegal, EventsAreLegal};
+ghost use Rattle.papaya_legal.specs.Promises.{EventsAreLegal};
 
 /// Before all events a moment shows all by which the first event keeps its promises, whatever was chosen of numbers of blocks. A run goes on with an event that comes to what is right, whose life is as it must be, whose effects store
 /// one pair at most, each, and by which all is back if it reclaims all, if the moment after it shows what it must of calls, readings, sections and sets; and by other names of callers that have
@@ -133,11 +133,9 @@ pub fn steps_chain<K, V, S>()
     ensures whole_rows { (same : K → K → Bool) (hash : K → ℕ) → RowsRunToTheirEnds K V S same hash }
 {}
 
-/// An event that comes to what is right, makes the steps that it may, and keeps the promises that need what is under way, is legal: little waits after it, by what the scene has where nobody is there, or
-/// by what is bounded then.
+/// An event that comes to what is right, makes the steps that it may, and keeps the promises that need what is under way, is legal: little waits after it, by what the scene has where nobody is there.
 pub fn events_are_legal<K, V>()
     ensures legal { EventsAreLegal K V }
-    ensures bounded { BoundedEventsAreLegal K V }
 {}
 
 /// What a row on a slot reclaims was handed over, and so it finds what it must, if it asks for a bucket of slots in need: each step of it, and all of them. While no row is under way the moment shows what is retired, if no

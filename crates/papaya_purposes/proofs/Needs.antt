@@ -1,5 +1,5 @@
 -- A reservation makes a table as long as it must be: after each step of it, and with further moments.
-use Rattle.std.specs.Prelude.{◌≡◌, ℕ, suc, ◌+◌, ◌-◌, ◌^◌, ◌≤◌, ◌==◌, nat_le, nat_lt, max, Bool, true, false, List, Result, Ok, Err, if◌then◌else◌}
+use Rattle.std.specs.Prelude.{◌≡◌, ℕ, suc, ◌+◌, ◌-◌, ◌^◌, ◌==◌, nat_le, nat_lt, max, Bool, true, false, List, Result, Ok, Err, if◌then◌else◌}
 use Rattle.std.proofs.Common.{refl, sym, subst, arith}
 use Rattle.std.proofs.lemmas.Bool.{ltb-false, leb-true}
 use Rattle.papaya_histories.specs.Given.SeizeWords.Mem.{Mem}
@@ -11,7 +11,6 @@ use Rattle.papaya_histories.specs.Given.Seize.declared.progress.Progress.TheVari
 use Rattle.papaya_histories.specs.Given.Tables.Lengths.{len_of, next_limit, next_turn, places_for}
 use Rattle.papaya_histories.specs.Given.Tables.Powers.{next_power}
 use Rattle.papaya_histories.specs.Given.Tables.Probes.{limit_of}
-use Rattle.papaya_histories.specs.Given.Tables.declared.lengths.Reason.{Reason}
 use Rattle.papaya_histories.specs.Given.Tables.declared.lengths.Reason.TheVariants.{Reserved}
 use Rattle.papaya_histories.specs.Given.Tables.declared.node.Node.{Node}
 use Rattle.papaya_histories.specs.Given.Tables.declared.table.Table.{Table}

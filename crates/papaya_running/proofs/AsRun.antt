@@ -1,5 +1,5 @@
 -- A run whose events are all legal, and after which all is in order, is one of its schedule.
-use Rattle.std.specs.Prelude.{◌≡◌, ℕ, Bool, List, [], ◌∷◌}
+use Rattle.std.specs.Prelude.{Bool, List, [], ◌∷◌}
 use Rattle.std.proofs.Common.{ap}
 use Rattle.papaya_schedules.specs.declared.event.Event.{Event}
 use Rattle.papaya_schedules.specs.declared.record.Run.{Run}
@@ -12,7 +12,7 @@ use Rattle.papaya_finds.specs.TornDown.{StoredAreSomewhere}
 use Rattle.papaya_finds.specs.Waiting.{is_unborn}
 use Rattle.papaya_tally.specs.Told.{ArePlaced}
 use Rattle.papaya_running.specs.Back.{ReclaimsRight, TellsBack}
-use Rattle.papaya_running.specs.Run.{IsRightRun, TellsMost}
+use Rattle.papaya_running.specs.Run.{IsRightRun}
 use Rattle.papaya_running.proofs.Mays.{reclaims_right}
 
 module _ {K V : Type 0} where

@@ -7,13 +7,10 @@ use Rattle.papaya_histories.specs.Given.Points.Steps.{AreLawful}
 use Rattle.papaya_histories.proofs.Given.Points.Making.OwnTables.{zero_at}
 use Rattle.papaya_histories.proofs.Given.Moments.NewMaps.{pairs_begin}
 use Rattle.papaya_histories.proofs.Given.Moments.Numbers.{numbers_begin}
-use Rattle.papaya_histories.specs.Given.Seize.World.{Chooses, World}
+use Rattle.papaya_histories.specs.Given.Seize.World.{Chooses, SlotsTaken, World}
 use Rattle.papaya_histories.specs.Given.Tables.Nodes.{deferred_word}
 use Rattle.papaya_histories.specs.Given.Tables.declared.setting.Setting.{Setting}
 use Rattle.papaya_histories.specs.Given.Executor.IsAt.{at_first}
-use Rattle.seize_words.specs.Mem.{Mem, word_at}
-use Rattle.seize_words.specs.SlotWords.{slot_word}
-use Rattle.seize_words.specs.declared.at.At.TheVariants.{Root, Used}
 use Rattle.seize_words.specs.Mem.{Mem, word_at}
 use Rattle.seize_words.specs.SlotWords.{slot_word}
 use Rattle.seize_words.specs.declared.at.At.TheVariants.{Root, Used}
@@ -149,6 +146,14 @@ module _ {K V S : Type 0} (same : K → K → Bool) (hash : K → ℕ) (given : 
   no_values [] alike = tt
   no_values (d ∷ calls) alike = absurd (cc alike)
 
+  -- no slot was taken
+  none_taken : SlotsTaken first.world.memory 0
+  none_taken =
+      subst (λ (x : Mem (Node K V)). SlotsTaken x 0) (sym (first.shown stands.name).is_at.memory) (
+        λ s l. absurd (omega (arith, l)),
+        λ s head l is. absurd (let none : slot_word memory.slots s HEAD ≡ None = ap (λ (slots : List (List ℕ)). slot_word slots s HEAD) begins.begun.slots in cc (none, is)),
+      )
+
   pub first_runs : Runs same hash (terms_given given) [] p
   first_runs = record {
     stands = stands_in same hash (terms_given given) start p stands stands.name (record (at_first given.setup.roots) { world = first.world }) (first.shown stands.name)
@@ -156,6 +161,7 @@ module _ {K V S : Type 0} (same : K → K → Bool) (hash : K → ℕ) (given : 
     shows = runs_begin_in K V same (terms_given given) stands.name (known p.logged.notes) first.world (first.shown stands.name).shows (first.shown stands.name).kept first.came;
     come = nothing_has_come K V;
     values = no_values p.calls.items.items stands.calls.listed;
+    taken = none_taken;
     size = begins.begun.batches;
     shards = no_shards;
     reached = inl refl;

@@ -14,7 +14,7 @@ use Rattle.papaya_schedules.specs.Terms.{Terms}
 use Rattle.papaya_schedules.specs.Runs.{IsLegal}
 use Rattle.papaya_effects.specs.Known.{known}
 use Rattle.papaya_finds.specs.Little.{ReclaimsAll, WhereAll}
-use Rattle.papaya_legal.proofs.Legal.{bounded_events_are_legal}
+use Rattle.papaya_legal.proofs.Legal.{events_are_legal}
 use Rattle.papaya_scheduler.specs.Played.{entry_of}
 use Rattle.papaya_scheduler.specs.declared.played.Played.{Played}
 use Rattle.papaya_scheduler.specs.declared.scheduler.Scheduler.{Scheduler}
@@ -24,6 +24,7 @@ use Rattle.papaya_running.specs.OfAll.{KeepsAll}
 use Rattle.papaya_running.specs.OfCalls.{KeepsAt, Runs, RunsOn}
 use Rattle.papaya_running.specs.OfRows.{HasNotBegun, KeepsRunAt, is_of_rows}
 use Rattle.papaya_running.specs.OfSetups.{KeepsSetup, is_of_setups}
+use Rattle.papaya_running.proofs.Nobody.{is_word, shows_nobody}
 
 module _ {K V S : Type 0} where
   -- a making that was not refused has not been refused once it had begun
@@ -92,7 +93,7 @@ module _ {K V S : Type 0} (same : K → K → Bool) (hash : K → ℕ) (is_first
       → IsAskedOf terms log e → IsLegal same terms log e × Runs same hash terms (e ∷ log) new
   legal_on calls rows setups all asked =
       let on = goes_on calls rows setups all asked in (
-        bounded_events_are_legal K V same on.0.runs.stands.name terms log e (known new.logged.notes) on.0.runs.stands.scene (it.plays asked.right).right it.makes it.does on.0.legal on.0.runs.shows on.1
-            asked.bounded,
+        events_are_legal K V same on.0.runs.stands.name terms log e (known new.logged.notes) on.0.runs.stands.scene (is_word same hash terms (e ∷ log) new on.0.runs) (it.plays asked.right).right it.makes
+            it.does on.0.legal on.0.runs.shows on.1 (shows_nobody same hash terms (e ∷ log) new on.0.runs),
         on.0.runs,
       )

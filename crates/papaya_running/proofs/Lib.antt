@@ -20,3 +20,4 @@ pub mod OfMakings
 pub mod OfAll
 pub mod OfSetups
 pub mod Joined
+mod Nobody

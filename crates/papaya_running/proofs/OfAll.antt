@@ -9,7 +9,6 @@ use Rattle.papaya_histories.specs.Given.Tables.declared.node.Node.{Node}
 use Rattle.papaya_histories.specs.Given.Executor.IsAt.{Scene, IsAt}
 use Rattle.papaya_histories.specs.Given.Finishes.Makings.{IsFreeRoot}
 use Rattle.seize_words.specs.declared.fault.Fault.TheVariants.{Busy}
-use Rattle.seize_words.specs.declared.fault.Fault.TheVariants.{Busy}
 use Rattle.papaya_schedules.specs.declared.event.Event.{Event}
 use Rattle.papaya_schedules.specs.declared.event.Event.TheVariants as events
 use Rattle.papaya_schedules.specs.declared.outcome.Outcome.{Outcome}
@@ -28,6 +27,8 @@ use Rattle.papaya_reclaims.proofs.Left.Stays.{nothing_is_left}
 use Rattle.papaya_reclaiming.specs.Reclaiming.{IsReclaiming, MayReclaim, NobodyHas}
 use Rattle.papaya_finds.specs.Little.{ReclaimsAll}
 use Rattle.papaya_legal.proofs.Come.{events_bring_things}
+use Rattle.papaya_legal.proofs.Heads.Chains.{all_step, all_taken}
+use Rattle.papaya_legal.proofs.Heads.Rows.{slots_stay, taken_then}
 use Rattle.papaya_legal.specs.AllEvents.{AllCome, AllSteps, BeginsAll, BehindAreLeft, BehindIsLeft, FindsPair, LeftIsBehind, all_begun}
 use Rattle.papaya_legal.specs.CallEvents.{IsLegalBut}
 use Rattle.papaya_legal.specs.Carried.{ShowsRun}
@@ -238,6 +239,9 @@ module _ {K V S : Type 0} (same : K → K → Bool) (hash : K → ℕ) (terms : 
               shows = its.2;
               come = events_bring_things K V terms log e run.come its.0.life.finds;
               values = values;
+              taken = slots_stay s.world.memory last_scene.world.memory m.slots
+                  (taken_then s.world.memory y.scene.world.memory last_scene.world.memory
+                  (all_taken same hash terms 0 ran.3.0 (all_begun log (known old.logged.notes) s old.logged.executor first behind) to y.chain) (all_step same hash terms 0 to over last)) run.taken;
               size = ran.5.0.given.1 ∙ y.size;
               shards = λ n setting is. run.shards n setting (sym (stood n) ∙ is);
               reached = reached_after same hash terms log e old new right so grows run.reached;
@@ -251,7 +255,7 @@ module _ {K V S : Type 0} (same : K → K → Bool) (hash : K → ℕ) (terms : 
       subst KeepsAs (sym (entry_is event played (Refused Busy) played.steps [] busy refl none))
       (λ so right.
       (let kept = busy_still log s.world event of_all played.steps in
-      (still_keeps same hash terms log old run (entry event (Refused Busy) played.steps []) new refl kept still calls so right, kept.reclaims))) after right_so
+      (still_keeps same hash terms log old run (entry event (Refused Busy) played.steps []) new refl kept still calls so right refl, kept.reclaims))) after right_so
   works_keep (calls, inr (done, gone, ran)) =
       subst KeepsAs (sym (entry_is event played Done played.steps played.effects.items done refl refl)) (all_keeps calls gone ran) after right_so
 

@@ -6,6 +6,7 @@ pub mod Words
 pub mod Answers
 pub mod Steps
 pub mod Found
+pub mod Worth
 pub mod Ends
 pub mod Taken
 pub mod Walked

@@ -21,20 +21,9 @@ use Rattle.papaya_histories.specs.Given.Rule.Chart.{Chart}
 use Rattle.papaya_histories.specs.Given.Moments.Endings.{IsOfIts}
 use Rattle.papaya_histories.specs.Given.Moments.WholeEnds.{all_ended, tables_ended}
 use Rattle.papaya_histories.specs.Given.Others.Endings.{ending_after}
-use Rattle.papaya_histories.specs.Given.Executor.Ending.{EndingLeads, NoCallOn, ending_begun}
-use Rattle.papaya_histories.specs.Given.Executor.IsAt.{Scene, IsAt}
-use Rattle.papaya_histories.specs.Given.Executor.declared.executor.Executor.{Executor}
-use Rattle.papaya_histories.specs.Given.Finishes.Endings.{Finishing, finishing_of}
-use Rattle.papaya_histories.specs.Given.Finishes.FactsEnds.{taken_by as taken_of}
-use Rattle.papaya_histories.specs.Given.Finishes.Maps.{Standing}
-use Rattle.papaya_histories.specs.Given.Finishes.Orders.{pairs_of}
-use Rattle.papaya_histories.specs.Given.Rule.Chart.{Chart}
 use Rattle.papaya_histories.specs.Given.Rule.InWorld.{IsMapIn}
 use Rattle.papaya_histories.proofs.Given.Rule.Laws.{current_is_known}
 use Rattle.papaya_histories.specs.Given.Follows.Maps.{ShowsMap}
-use Rattle.papaya_histories.specs.Given.Moments.Endings.{IsOfIts}
-use Rattle.papaya_histories.specs.Given.Moments.WholeEnds.{all_ended, tables_ended}
-use Rattle.papaya_histories.specs.Given.Others.Endings.{ending_after}
 use Rattle.papaya_schedules.specs.declared.effect.Effect.{Effect}
 use Rattle.papaya_schedules.specs.declared.effect.Effect.TheVariants.{Ended}
 use Rattle.papaya_schedules.specs.declared.event.Event.{Event}
@@ -55,6 +44,8 @@ use Rattle.papaya_effects.specs.declared.acting.Acting.TheVariants as acts
 use Rattle.papaya_effects.specs.declared.role.Role.TheVariants as role
 use Rattle.papaya_executor.proofs.Fresh.{no_ending_yet}
 use Rattle.papaya_legal.proofs.Come.{events_bring_things}
+use Rattle.papaya_legal.proofs.Heads.Chains.{endings_taken}
+use Rattle.papaya_legal.proofs.Heads.Rows.{slots_stay}
 use Rattle.papaya_legal.specs.CallEvents.{IsLegalBut}
 use Rattle.papaya_legal.specs.Carried.{ShowsRun}
 use Rattle.papaya_legal.specs.Chains.{Chain, Come, EndSteps}
@@ -460,6 +451,9 @@ module _ {K V S : Type 0} (same : K → K → Bool) (hash : K → ℕ) (terms : 
         shows = (it right).1;
         come = events_bring_things K V terms log e run.come (it right).0.life.finds;
         values = values;
+        taken = slots_stay s1.world.memory y.scene.world.memory m.slots
+            (endings_taken same hash terms i map (suc d.gone.1.0) (record { executor = d.began.executor; did = []; now = m; notes = known old.logged.notes; scene = s1 })
+            (come_by (far effects new.logged) y.now y.scene) chain) run.taken;
         size = y.size;
         shards = shards;
         reached = reached_after same hash terms log e old new right so grows run.reached;
@@ -473,7 +467,7 @@ module _ {K V S : Type 0} (same : K → K → Bool) (hash : K → ℕ) (terms : 
   map_end_keeps : WorksOnEnd played old new own → RunsOn same hash terms log (entry_of (EndMap own) played) new
   map_end_keeps (calls, inl (fault, is, (none, still))) =
       subst KeepsAs (sym (entry_is (EndMap own) played (Refused fault) played.steps [] is refl none))
-      (λ so right. still_keeps same hash terms log old run (entry (EndMap own) (Refused fault) played.steps []) new refl (refused_still log s.world (EndMap own) refl fault played.steps) still calls so right)
+      (λ so right. still_keeps same hash terms log old run (entry (EndMap own) (Refused fault) played.steps []) new refl (refused_still log s.world (EndMap own) refl fault played.steps) still calls so right refl)
       after right_so
   map_end_keeps (calls, inr (done, d)) = end_keeps calls done d
 

@@ -1,8 +1,10 @@
 -- Events whose work is a row on a slot keep their promises, and a run goes on with them.
-use Rattle.std.specs.Prelude.{◌≡◌, ◌≤◌, ◌&&◌, ◌||◌, ◌<◌, ◌^◌, ℕ, Bool, true, false, List, [], ◌∷◌, None, Result, Ok, Err, IfOk}
+use Rattle.std.specs.Prelude.{◌≡◌, ◌≤◌, ◌&&◌, ◌||◌, ◌<◌, ◌^◌, ℕ, Bool, true, false, List, [], ◌∷◌, Some, None, Result, Ok, Err, IfOk, if◌then◌else◌}
 use Rattle.std.specs.List.{list_all}
 use Rattle.std.proofs.Common.{refl, ap, sym, subst, inl, inr, ◌∙◌, arith}
-use Rattle.papaya_histories.specs.Given.Seize.World.{Begin, IsInside, Rests}
+use Rattle.papaya_histories.specs.Given.SeizeWords.Mem.{Mem}
+use Rattle.papaya_histories.specs.Given.Seize.World.{Begin, IsInside, Rests, SlotsTaken}
+use Rattle.papaya_histories.specs.Given.Seize.declared.rows.register.Registering.TheVariants as registering
 use Rattle.papaya_histories.specs.Given.Tables.declared.node.Node.{Node}
 use Rattle.papaya_histories.specs.Given.Executor.IsAt.{Scene, slot_of}
 use Rattle.papaya_histories.specs.Given.Executor.OnSlots.{MayBegin, RowBegins}
@@ -12,20 +14,15 @@ use Rattle.papaya_histories.specs.Given.Executor.declared.row.SlotCall.{SlotCall
 use Rattle.papaya_histories.specs.Given.Others.Rows.{scene_then}
 use Rattle.papaya_histories.proofs.Given.Spots.Unreclaimed.{and_both, or_right}
 use Rattle.papaya_histories.specs.Given.SeizeWords.declared.fault.Fault.TheVariants.{Busy}
-use Rattle.papaya_histories.specs.Given.Executor.IsAt.{Scene, slot_of}
-use Rattle.papaya_histories.specs.Given.Executor.OnSlots.{MayBegin, RowBegins}
-use Rattle.papaya_histories.specs.Given.Executor.Rows.{request_of}
-use Rattle.papaya_histories.specs.Given.Executor.declared.row.RowTold.{RowTold}
-use Rattle.papaya_histories.specs.Given.Executor.declared.row.SlotCall.{SlotCall}
 use Rattle.papaya_histories.specs.Given.Executor.declared.row.SlotCall.TheVariants as call
-use Rattle.papaya_histories.specs.Given.Others.Rows.{scene_then}
-use Rattle.papaya_histories.proofs.Given.Spots.Unreclaimed.{and_both, or_right}
+use Rattle.papaya_histories.specs.Given.Executor.declared.worker.Work.TheVariants.{OnSlot}
+use Rattle.papaya_runs.specs.Present.{has_registration}
 use Rattle.papaya_schedules.specs.declared.effect.Effect.{Effect}
 use Rattle.papaya_schedules.specs.declared.event.Event.{Event}
 use Rattle.papaya_schedules.specs.declared.event.Event.TheVariants.{DropGuard, Enter, Flush, Own, Refresh, Register, Unregister}
 use Rattle.papaya_schedules.specs.declared.outcome.Outcome.{Outcome}
 use Rattle.papaya_schedules.specs.declared.outcome.Outcome.TheVariants.{Done, Refused}
-use Rattle.papaya_schedules.specs.After.{moment}
+use Rattle.papaya_schedules.specs.After.{moment, slots_on}
 use Rattle.papaya_schedules.specs.Beginning.{begun}
 use Rattle.papaya_schedules.specs.Effects.{AtEachEffect}
 use Rattle.papaya_schedules.specs.Entry.{Entry, acted_on, speaker}
@@ -39,11 +36,14 @@ use Rattle.papaya_runs.specs.Present.{Present}
 use Rattle.papaya_schedules.specs.Terms.{Terms}
 use Rattle.papaya_effects.specs.Known.{known}
 use Rattle.papaya_effects.specs.declared.notes.Notes.{Notes}
+use Rattle.papaya_histories.specs.Given.Executor.Rows.{begun_row}
+use Rattle.papaya_histories.specs.Given.Executor.declared.row.RowTold.TheVariants as told
 use Rattle.papaya_promises.specs.Others.{SparesGuards}
 use Rattle.papaya_promises.specs.Protected.{is_of_slots, there_in}
 use Rattle.papaya_models.specs.OnSlots.{IsRowFor}
 use Rattle.papaya_finds.specs.Little.{ReclaimsAll}
 use Rattle.papaya_legal.proofs.Come.{events_bring_things}
+use Rattle.papaya_legal.proofs.Heads.Registers.{IsOtherCall, ThenSo, other_begun, others_taken, registers_taken}
 use Rattle.papaya_legal.specs.CallEvents.{IsLegalBut}
 use Rattle.papaya_legal.specs.Carried.{ShowsRun}
 use Rattle.papaya_legal.specs.Chains.{Chain as StepChain, RowSteps}
@@ -53,12 +53,13 @@ use Rattle.papaya_legal.proofs.Chains.{rows_run_to_their_ends}
 use Rattle.papaya_legal.proofs.Found.{row_chains_find}
 use Rattle.papaya_legal.proofs.Slots.{slot_events_begin_so}
 use Rattle.papaya_logged.specs.Goes.{far}
+use Rattle.papaya_logged.specs.OnSlots.{has_come}
 use Rattle.papaya_logged.specs.Shown.{IsShown}
 use Rattle.papaya_remains.specs.Slots.{SlotsNoted}
-use Rattle.papaya_rows.specs.Rows.{RowRan}
+use Rattle.papaya_rows.specs.Rows.{RowRan, left_as}
 use Rattle.papaya_rows.proofs.Facts.{row_rests}
 use Rattle.papaya_scheduler.specs.Played.{IsPlayed, entry_of}
-use Rattle.papaya_scheduler.specs.Works.{ComesBy, IsAbout, IsItsRow, WorksOnSlot}
+use Rattle.papaya_scheduler.specs.Works.{ComesBy, IsAbout, IsItsRow, WorksOnSlot, told_so}
 use Rattle.papaya_named.specs.declared.caller.Callers.{Callers}
 use Rattle.papaya_scheduler.specs.declared.played.Played.{Played}
 use Rattle.papaya_scheduler.specs.declared.scheduler.Scheduler.{Scheduler}
@@ -261,6 +262,64 @@ module _ {K V S : Type 0} (same : K → K → Bool) (hash : K → ℕ) (terms : 
     named : AreNamed name new.calls.items.items
     named = subst (λ (c : Callers V). AreNamed name c.items.items) (sym calls) (its_named same hash terms m old run.stands)
 
+    -- a row that does not register takes no slot, and one that does so takes the slot that it tells
+    abbrev after_row : Mem (Node K V)
+    after_row = new.logged.executor.memory.memory
+
+    taken_begun : SlotsTaken ran.began.executor.memory.memory m.slots
+    taken_begun =
+        subst (λ (x : Mem (Node K V)). SlotsTaken x m.slots) (run.stands.shown.is_at.memory ∙ sym (ap (λ x. x.memory) (leads may).0)) run.taken
+
+    taken_other : IsOtherCall called → SlotsTaken after_row m.slots
+    taken_other other =
+        others_taken same hash ran.caller m.slots said ran.began.executor new.logged.executor ran.last (record {
+          scene = s1;
+          is_at = (leads may).3.4;
+          row = begun_row (slot_of ran.caller) old.logged.executor.batch_size called;
+          here = (leads may).1;
+          other = other_begun (slot_of ran.caller) old.logged.executor.batch_size called other;
+          taken = taken_begun;
+        })
+
+    taken_registered : (enters : Bool) → called ≡ call.Register enters → SlotsTaken after_row (slots_on (told_so {V = V} said) m.slots)
+    taken_registered enters is =
+        as_told said ran.come
+        (registers_taken same hash ran.caller m.slots said ran.began.executor new.logged.executor ran.last (record {
+          scene = s1;
+          is_at = (leads may).3.4;
+          register = record { slot = 0; enters = enters; stands = registering.Begin };
+          here = (leads may).1 ∙ ap (λ (c : SlotCall). Some (OnSlot (begun_row (slot_of ran.caller) old.logged.executor.batch_size c))) is;
+          taken = taken_begun;
+        }))
+      where
+        as_told : (t : RowTold (Node K V)) → has_come t ≡ true → ThenSo m.slots after_row t → SlotsTaken after_row (slots_on (told_so {V = V} t) m.slots)
+        as_told (told.Registered slot) come so = so
+        as_told (told.Refused fault) come so = so
+        as_told _ come so = so come
+
+    taken : SlotsTaken y.scene.world.memory (slots_on played.outcome m.slots)
+    taken = subst (λ (x : Mem (Node K V)). SlotsTaken x (slots_on played.outcome m.slots)) (sym y.is_at.memory) (by event its comes)
+      where
+        comes_to : (o : Outcome V) → played.outcome ≡ o → SlotsTaken after_row (slots_on o m.slots) → SlotsTaken after_row (slots_on played.outcome m.slots)
+        comes_to o is = subst (λ (x : Outcome V). SlotsTaken after_row (slots_on x m.slots)) (sym is)
+
+        other_as : (c : SlotCall) → called ≡ c → IsOtherCall c → SlotsTaken after_row m.slots
+        other_as c is other = taken_other (subst IsOtherCall (sym is) other)
+
+        left_other : (q : Bool) → IsOtherCall (if q then call.Leave else call.LeaveOwned)
+        left_other true = tt
+        left_other false = tt
+
+        by : (x : Event K V) → IsItsRow x old slot called → ComesBy x said played.outcome → SlotsTaken after_row (slots_on played.outcome m.slots)
+        by (Register registration) is to = comes_to (told_so said) to (taken_registered false is)
+        by (Own guard) is to = comes_to (told_so said) to (taken_registered true is)
+        by (Unregister registration) is to = comes_to Done to (other_as call.Unregister is.0 tt)
+        by (Enter guard registration) is to = comes_to Done to (other_as call.Enter is.0 tt)
+        by (Refresh guard) is to = comes_to Done to (other_as call.Refresh is.0 tt)
+        by (Flush guard) is to = comes_to Done to (other_as call.Flush is.0 tt)
+        by (DropGuard guard) is to = comes_to Done to (other_as (left_as slot old.there) is.0 (left_other (has_registration slot old.there.registrations)))
+        by _ is to = absurd is
+
     shards : HaveShards terms new.logged.executor
     shards n setting is = run.shards n setting (sym (run.stands.shown.is_at.maps n) ∙ sym (f.led.settings n) ∙ f.led.at.maps n ∙ is)
 
@@ -277,6 +336,7 @@ module _ {K V S : Type 0} (same : K → K → Bool) (hash : K → ℕ) (terms : 
         shows = it.1;
         come = events_bring_things K V terms log e run.come it.0.life.finds;
         values = values;
+        taken = taken;
         size = y.size;
         shards = shards;
         reached = reached_after same hash terms log e old new right after grows run.reached;
@@ -290,11 +350,11 @@ module _ {K V S : Type 0} (same : K → K → Bool) (hash : K → ℕ) (terms : 
   pub slot_keeps : WorksOnSlot played old new event → RunsOn same hash terms log e new
   slot_keeps (calls, inl (fault, is, (none, still))) =
       subst KeepsAs (sym (entry_is event played (Refused fault) played.steps [] is refl none))
-      (λ so right. still_keeps same hash terms log old run (entry event (Refused fault) played.steps []) new refl (refused_still log s.world event of fault played.steps) still calls so right) after right
+      (λ so right. still_keeps same hash terms log old run (entry event (Refused fault) played.steps []) new refl (refused_still log s.world event of fault played.steps) still calls so right refl) after right
   slot_keeps (calls, inr (slot, about, inl (done, no_row, (none, still)))) =
       subst KeepsAs (sym (entry_is event played Done played.steps [] done refl none))
       (λ so right. still_keeps same hash terms log old run (entry event Done played.steps []) new refl
-      (none_still same hash terms log old run.stands event turn played.steps slot about no_row) still calls so right) after right
+      (none_still same hash terms log old run.stands event turn played.steps slot about no_row) still calls so right refl) after right
   slot_keeps (calls, inr (slot, about, inr (called, its, said, comes, ran))) = row_keeps calls slot about called its said comes ran
 
 -- So it is by what a function says of an event in this form.

@@ -1,5 +1,5 @@
 -- An event that sets something up, shows the tables of a map, or forgets a guard keeps its promises, and the run goes on with it.
-use Rattle.std.specs.Prelude.{◌≡◌, ℕ, Bool, true, false, List, [], ◌∷◌, Result, Ok, Err, IfOk}
+use Rattle.std.specs.Prelude.{◌≡◌, ◌==◌, ℕ, Bool, true, false, not, MatchBool, List, [], ◌∷◌, Result, Ok, Err, IfOk, is_some}
 use Rattle.std.proofs.Common.{refl, sym, ap, subst, ◌∙◌}
 use Rattle.papaya_histories.specs.Given.Seize.World.{World}
 use Rattle.papaya_histories.specs.Given.Tables.declared.node.Node.{Node}
@@ -8,13 +8,15 @@ use Rattle.seize_words.specs.declared.fault.Fault.TheVariants.{Busy}
 use Rattle.papaya_schedules.specs.declared.event.Event.{Event}
 use Rattle.papaya_schedules.specs.declared.event.Event.TheVariants.{Begin, Choose, Collector, Forget, Go, Hash, Next, OneCall, Replied, ShowShape, Step, Stop}
 use Rattle.papaya_schedules.specs.declared.outcome.Outcome.{Outcome}
-use Rattle.papaya_schedules.specs.declared.outcome.Outcome.TheVariants.{Done, Refused}
-use Rattle.papaya_schedules.specs.After.{moment}
+use Rattle.papaya_schedules.specs.declared.outcome.Outcome.TheVariants.{Done, Refused, Shape}
+use Rattle.papaya_schedules.specs.After.{moment, slots_on}
 use Rattle.papaya_schedules.specs.Entry.{Entry}
 use Rattle.papaya_schedules.specs.Handing.{IsWhole}
-use Rattle.papaya_schedules.specs.InTurn.{ComesRight}
-use Rattle.papaya_schedules.specs.Moment.{Moment}
+use Rattle.papaya_schedules.specs.InTurn.{ComesRight, ComesTo, InTurn, IsDone, IsKeptOut, IsShapeOf, chain_named, is_kept_out}
+use Rattle.papaya_schedules.specs.InUse.{is_free_guard}
+use Rattle.papaya_schedules.specs.Moment.{Moment, TableThere}
 use Rattle.papaya_schedules.specs.Terms.{Terms}
+use Rattle.papaya_schedules.specs.Views.{map_of, number_of}
 use Rattle.papaya_effects.specs.Known.{known}
 use Rattle.papaya_legal.proofs.Come.{events_bring_things}
 use Rattle.papaya_legal.specs.CallEvents.{IsLegalBut}
@@ -63,6 +65,36 @@ module _ {K V : Type 0} (log : List (Entry K V)) (w : World (Node K V)) where
   setup_still (ShowShape name) of outcome steps = record { caller = refl; no_call = refl; changes = refl; left = refl; enters = tt; whole = whole_so log _ (ShowShape name) of outcome; leaves = tt; reclaims = tt }
   setup_still _ of outcome steps = absurd (cc of)
 
+  -- and takes no slot
+  no_slot : (terms : Terms) (its : Event K V) → is_of_setups its ≡ true → (outcome : Outcome V) (steps : ℕ) → ComesRight terms log (entry its outcome steps []) → slots_on outcome (moment log).slots ≡ (moment log).slots
+  no_slot terms its of outcome steps right = by (is_kept_out terms its (moment log)) its of right
+    where
+      busy : (o : Outcome V) → o ≡ Refused Busy → slots_on o (moment log).slots ≡ (moment log).slots
+      busy o is = ap (λ (x : Outcome V). slots_on x (moment log).slots) is
+
+      done : (q : Bool) (o : Outcome V) → InTurn q IsDone o → slots_on o (moment log).slots ≡ (moment log).slots
+      done true o is = ap (λ (x : Outcome V). slots_on x (moment log).slots) is
+      done false o is = busy o is
+
+      shape : (q : Bool) (tables : List TableThere) (o : Outcome V) → InTurn q (IsShapeOf tables) o → slots_on o (moment log).slots ≡ (moment log).slots
+      shape true tables (Shape shapes) is = refl
+      shape true tables _ is = absurd is
+      shape false tables o is = busy o is
+
+      by : (out : Bool) (x : Event K V) → is_of_setups x ≡ true → MatchBool out (IsKeptOut x outcome) (ComesTo terms log (moment log) (entry its outcome steps []) x outcome)
+          → slots_on outcome (moment log).slots ≡ (moment log).slots
+      by true (Collector setup) is_one to = busy outcome to
+      by true (Hash kind) is_one to = busy outcome to
+      by true (Choose choice) is_one to = busy outcome to
+      by true (Forget guard) is_one to = busy outcome to
+      by true (ShowShape name) is_one to = busy outcome to
+      by false (Collector setup) is_one to = done ((moment log).events == 0) outcome to
+      by false (Hash kind) is_one to = done (not (moment log).is_mapped) outcome to
+      by false (Choose choice) is_one to = ap (λ (x : Outcome V). slots_on x (moment log).slots) to
+      by false (Forget guard) is_one to = done (is_free_guard guard (moment log)) outcome to
+      by false (ShowShape name) is_one to = shape (is_some (map_of name (moment log))) (chain_named (number_of name (moment log)) (moment log)) outcome to
+      by out _ is_one to = absurd (cc is_one)
+
 -- Once a choice has come the scheduler stands in the scene whose memory has it.
 module _ {K V S : Type 0} (same : K → K → Bool) (hash : K → ℕ) (terms : Terms) (log : List (Entry K V)) (old : Scheduler K V S) (run : Runs same hash terms log old) (choice steps : ℕ) where
   abbrev name : ℕ → List ℕ
@@ -102,6 +134,7 @@ module _ {K V S : Type 0} (same : K → K → Bool) (hash : K → ℕ) (terms : 
         shows = it.1;
         come = events_bring_things K V terms log e run.come it.0.life.finds;
         values = have_values_then (moment log) (moment (e ∷ log)) (nobody_says e (moment log) refl) run.stands.scene s refl old.calls.items.items run.values;
+        taken = run.taken;
         size = run.size;
         shards = run.shards;
         reached = reached_by same hash terms log e old chosen right after refl run.reached;
@@ -117,7 +150,7 @@ module _ {K V S : Type 0} (same : K → K → Bool) (hash : K → ℕ) (terms : 
   still_on its of (calls, (none, logged)) =
       subst (λ (x : Entry K V). KeepsIn x new) (sym (entry_is its played played.outcome played.steps [] refl refl none))
       (λ after right. still_keeps same hash terms log old run (entry its played.outcome played.steps []) new refl
-      (setup_still log run.stands.scene.world its of played.outcome played.steps) logged calls after right)
+      (setup_still log run.stands.scene.world its of played.outcome played.steps) logged calls after right (no_slot log run.stands.scene.world terms its of played.outcome played.steps right))
 
   -- and so does one by which a choice has come.
   chosen_on : (choice : ℕ) → WorksOnSetup played old new (Choose choice) → KeepsIn (entry_of (Choose choice) played) new

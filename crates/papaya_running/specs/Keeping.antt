@@ -1,12 +1,10 @@
 -- What is still asked of an event of a run, by name, of whichever kind it is.
-use Rattle.std.specs.Prelude.{◌≡◌, true, List}
+use Rattle.std.specs.Prelude.{List}
 use Rattle.papaya_schedules.specs.declared.event.Event.{Event}
 use Rattle.papaya_schedules.specs.declared.event.Event.TheVariants.{MakeMap}
 use Rattle.papaya_schedules.specs.declared.outcome.Outcome.{Outcome}
 use Rattle.papaya_schedules.specs.declared.outcome.Outcome.TheVariants.{Refused}
-use Rattle.papaya_schedules.specs.After.{after, moment}
 use Rattle.papaya_schedules.specs.Entry.{Entry}
-use Rattle.papaya_schedules.specs.Reclaims.{is_quiescent, IsBounded}
 use Rattle.papaya_schedules.specs.Terms.{Terms}
 use Rattle.papaya_running.specs.Asked.{FindsRight}
 
@@ -16,9 +14,7 @@ module _ {K V : Type 0} where
   IsNotRefused (MakeMap name mode capacity) (Refused fault) = ⊥
   IsNotRefused event outcome = Unit {0}
 
-  -- What is still asked of an event, by name. Where it waits, or is refused for the length of a table, it does so in its case; a making is not
-  -- refused; and what waits is bounded where nobody is there after it.
+  -- What is still asked of an event, by name: where it waits, or is refused for the length of a table, it does so in its case; and a making is not refused.
   pub record IsAskedOf (terms : Terms) (log : List (Entry K V)) (e : Entry K V) : Type 0 where
     pub right : FindsRight terms log e
     pub made : IsNotRefused e.event e.outcome
-    pub bounded : is_quiescent (after e (moment log)) ≡ true → IsBounded terms.batch_size (after e (moment log))

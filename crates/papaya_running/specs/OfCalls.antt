@@ -3,7 +3,7 @@ use Rattle.std.specs.Prelude.{◌≡◌, ◌<◌, ◌≤◌, ◌^◌, ◌+◌, �
 use Rattle.std.specs.List.{AllByRecursion}
 use Rattle.papaya_histories.specs.Given.SeizeWaiting.Held.{count}
 use Rattle.papaya_histories.specs.Given.Seize.WaitingSets.{Sets}
-use Rattle.papaya_histories.specs.Given.Seize.World.{World, IsInside}
+use Rattle.papaya_histories.specs.Given.Seize.World.{World, IsInside, SlotsTaken}
 use Rattle.papaya_histories.specs.Given.Tables.declared.node.Node.{Node}
 use Rattle.papaya_histories.specs.Given.Tables.declared.setting.Setting.{Setting}
 use Rattle.papaya_histories.specs.Given.Raw.declared.machines.progress.Progress.{Progress}
@@ -55,12 +55,14 @@ HaveValues m s calls = AllByRecursion (λ d. IsWorth m s d) calls
 
 module _ {K V S : Type 0} (same : K → K → Bool) (hash : K → ℕ) where
   -- The scheduler has played the log, and in the scene for which it stands all is so by which the next event keeps its promises; all that was stored and linked came into a map by the log; callers keep
-  -- the values that they are to tell back; its executor has the size of batches that the terms say, and maps with as many shards as they say; and slots that were ever taken have their words, as is noted.
+  -- the values that they are to tell back; as many slots were taken as the moment says; its executor has the size of batches that the terms say, and maps with as many shards as they say; and slots
+  -- that were ever taken have their words, as is noted.
   pub record Runs (terms : Terms) (log : List (Entry K V)) (p : Scheduler K V S) : Type 0 where
     pub stands : IsPlayed same hash terms log p
     pub shows : ShowsRun same stands.name terms log (known p.logged.notes) stands.scene
     pub come : HaveCome (things_in log) (moment log)
     pub values : HaveValues (moment log) stands.scene p.calls.items.items
+    pub taken : SlotsTaken stands.scene.world.memory (moment log).slots
     pub size : p.logged.executor.batch_size ≡ terms.batch_size
     pub shards : HaveShards terms p.logged.executor
     pub reached : AreReached (moment log).slots (known p.logged.notes)

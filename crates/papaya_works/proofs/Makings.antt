@@ -1,12 +1,12 @@
 -- A step of the making of a map asks for a block, makes the map's first table, or links it, and does nothing else.
-use Rattle.std.specs.Prelude.{◌≡◌, ◌<◌, ◌+◌, ◌/◌, ◌%◌, ◌^◌, ◌==◌, ℕ, Bool, true, false, List, [], ◌∷◌, Ok, Err, Some, None, if◌then◌else◌}
+use Rattle.std.specs.Prelude.{◌≡◌, ◌<◌, ◌+◌, ◌%◌, ◌^◌, ℕ, Bool, true, false, List, [], ◌∷◌, Ok, Err, if◌then◌else◌}
 use Rattle.std.specs.List.{list_all}
 use Rattle.std.proofs.Common.{refl, ap, subst, sym, ◌∙◌, arith}
 use Rattle.std.proofs.lemmas.Bool.{ne_eqb}
 use Rattle.papaya_histories.specs.Given.SeizeWords.declared.at.At.{At}
-use Rattle.papaya_histories.specs.Given.SeizeWords.declared.at.At.TheVariants.{Root, Used, Slot, Entry, Word}
+use Rattle.papaya_histories.specs.Given.SeizeWords.declared.at.At.TheVariants.{Root, Used}
 use Rattle.papaya_histories.specs.Given.SeizeWords.Mem.{Mem, Took}
-use Rattle.papaya_histories.specs.Given.SeizeWords.Op.{Op, Out, Found, Stored, Exchanged, Made, Taken, Roomed, Exchange, Make}
+use Rattle.papaya_histories.specs.Given.SeizeWords.Op.{Out, Found, Stored, Exchanged, Made, Taken, Roomed, Exchange, Make}
 use Rattle.papaya_histories.specs.Given.SeizeWords.Plan.{plan_as}
 use Rattle.papaya_histories.specs.Given.SeizeWords.Word.{block_in}
 use Rattle.papaya_histories.specs.Given.Seize.World.{World}
@@ -31,15 +31,13 @@ use Rattle.papaya_histories.specs.Given.Resize.declared.new_map.Opening.{Opening
 use Rattle.papaya_histories.specs.Given.Resize.declared.new_map.Opening.TheVariants as opens
 use Rattle.papaya_histories.specs.Given.Rule.Rule.{no_table}
 use Rattle.papaya_histories.proofs.Given.Rule.Words.TablesSeen.{block_of_link}
-use Rattle.papaya_histories.specs.Given.Points.FactsTables.{IsOwnTable, IsPlanned, MakingFacts, NewTableFacts}
-use Rattle.papaya_histories.specs.Given.Schedules.declared.effect.Effect.{Effect}
+use Rattle.papaya_histories.specs.Given.Points.FactsTables.{IsOwnTable, IsPlanned, MakingFacts}
 use Rattle.papaya_histories.specs.Given.Schedules.declared.effect.Effect.TheVariants.{Asked}
 use Rattle.papaya_histories.specs.Given.Schedules.declared.effect.Growth.TheVariants.{ABlock}
 use Rattle.papaya_histories.specs.Given.Schedules.Handing.{is_first_making}
 use Rattle.papaya_histories.specs.Given.Teller.Tells.{StepsTold}
 use Rattle.papaya_histories.specs.Given.Teller.declared.changed.Changed.{Changed}
 use Rattle.papaya_histories.specs.Given.Teller.declared.changed.Changed.TheVariants as changed
-use Rattle.papaya_histories.specs.Given.Teller.declared.changed.Kind.{Kind}
 use Rattle.papaya_histories.specs.Given.Teller.declared.changed.Kind.TheVariants as kind
 use Rattle.papaya_histories.specs.Given.Effects.Effects.{effects_of, in_block, led_to, made_by, named, names_same, taken_by}
 use Rattle.papaya_histories.specs.Given.Effects.Known.{Known}

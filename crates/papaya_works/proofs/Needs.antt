@@ -1,5 +1,5 @@
 -- All buckets of slots that a registering asks for are in need, wherever its steps have led.
-use Rattle.std.specs.Prelude.{◌≡◌, ◌⊎◌, ◌≤◌, ◌<◌, ◌+◌, ◌&&◌, ◌||◌, ◌++◌, nat_lt, ℕ, Bool, true, false, List, [], ◌∷◌, length, Option, Some, None, if◌then◌else◌}
+use Rattle.std.specs.Prelude.{◌≡◌, ◌⊎◌, ◌≤◌, ◌+◌, ◌&&◌, ◌||◌, ◌++◌, nat_lt, ℕ, Bool, true, false, List, [], ◌∷◌, length, Option, Some, None, if◌then◌else◌}
 use Rattle.std.specs.List.{list_all, list_any}
 use Rattle.std.proofs.Common.{refl, ap, sym, subst, inl, inr, ◌∙◌, arith}
 use Rattle.papaya_histories.specs.Given.SeizeWords.declared.at.At.TheVariants.{Root, Used, Slot, Entry as EntryWord, Word}
@@ -14,7 +14,7 @@ use Rattle.papaya_histories.specs.Given.Teller.declared.changed.Changed.{Changed
 use Rattle.papaya_histories.specs.Given.Teller.declared.changed.Changed.TheVariants as changed
 use Rattle.papaya_histories.specs.Given.Schedules.declared.effect.Effect.{Effect}
 use Rattle.papaya_histories.specs.Given.Schedules.declared.effect.Effect.TheVariants.{Asked}
-use Rattle.papaya_histories.specs.Given.Schedules.declared.effect.Growth.TheVariants.{ABlock, ABucket}
+use Rattle.papaya_histories.specs.Given.Schedules.declared.effect.Growth.TheVariants.{ABucket}
 use Rattle.papaya_histories.specs.Given.Schedules.Effects.{AtEachEffect, with_effect}
 use Rattle.papaya_histories.specs.Given.Schedules.Growing.{AsksForBucket}
 use Rattle.papaya_histories.specs.Given.Schedules.Handing.{asks_for_bucket, is_reclaiming}
@@ -25,7 +25,7 @@ use Rattle.papaya_histories.specs.Given.Schedules.Terms.{Terms}
 use Rattle.papaya_histories.specs.Given.Effects.Effects.{effects_of, names_same}
 use Rattle.papaya_histories.specs.Given.Effects.Known.{Known}
 use Rattle.papaya_histories.specs.Given.Effects.declared.acting.Acting.TheVariants as acts
-use Rattle.papaya_histories.specs.Given.Executor.IsAt.{Scene, IsAt, slot_of, work_of}
+use Rattle.papaya_histories.specs.Given.Executor.IsAt.{Scene, IsAt, work_of}
 use Rattle.papaya_histories.specs.Given.Executor.OnSlots.{RowBegins, RowSteps as StepsAs, row_on}
 use Rattle.papaya_histories.specs.Given.Executor.declared.executor.Executor.{Executor}
 use Rattle.papaya_histories.specs.Given.Executor.declared.row.RowTold.{RowTold}

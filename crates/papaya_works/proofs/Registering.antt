@@ -1,13 +1,12 @@
 -- A registering asks for a bucket of slots where the first vacant slot may need one, and the slot behind it has no words.
-use Rattle.std.specs.Prelude.{◌≡◌, ◌≤◌, ◌<◌, ◌+◌, ◌&&◌, nat_lt, ℕ, Bool, true, false, length, Option, Some, None, IsSome, Ok, Err}
+use Rattle.std.specs.Prelude.{◌≡◌, ◌≤◌, ◌+◌, ◌&&◌, nat_lt, ℕ, Bool, true, false, length, Option, Some, None, IsSome, Ok, Err}
 use Rattle.std.proofs.Common.{refl, ap, sym, subst, inl, inr, ◌∙◌, arith}
 use Rattle.std.proofs.lemmas.Bool.{cases_lt}
 use Rattle.papaya_histories.specs.Given.SeizeWords.declared.at.At.{At}
 use Rattle.papaya_histories.specs.Given.SeizeWords.declared.at.At.TheVariants.{Slot}
-use Rattle.papaya_histories.specs.Given.SeizeWords.declared.fault.Fault.{Fault}
 use Rattle.papaya_histories.specs.Given.SeizeWords.declared.fault.Fault.TheVariants.{Memory}
 use Rattle.papaya_histories.specs.Given.SeizeWords.Mem.{Mem, Can, Took, value_at, word_at}
-use Rattle.papaya_histories.specs.Given.SeizeWords.Op.{Op, Out, Load, Store, Exchange, Room, Found, Stored, Exchanged, Made, Taken, Roomed}
+use Rattle.papaya_histories.specs.Given.SeizeWords.Op.{Out, Exchange, Room, Found, Stored, Exchanged, Made, Taken, Roomed}
 use Rattle.papaya_histories.specs.Given.SeizeWords.Place.{capacity}
 use Rattle.papaya_histories.specs.Given.SeizeWords.Plan.{May, Steps}
 use Rattle.papaya_histories.proofs.Given.SeizeWords.Places.Words.{capacity_le_capacity}
@@ -24,7 +23,7 @@ use Rattle.papaya_histories.proofs.Given.SeizeRule.Rows.Known.{works_on}
 use Rattle.papaya_histories.proofs.Given.SeizeRule.Words.Room.{slot_there}
 use Rattle.papaya_histories.proofs.Given.SeizeRule.World.Good.{Good}
 use Rattle.papaya_histories.proofs.Given.SeizeRule.World.Kept.{row_may}
-use Rattle.papaya_histories.proofs.Given.SeizeSets.Slots.Registers.{Comes, GoesOn, IsRefused, NoneOnVacant, TakesFirst, WhyRefused, registers_apart}
+use Rattle.papaya_histories.proofs.Given.SeizeSets.Slots.Registers.{Comes, GoesOn, IsRefused, NoneOnVacant, TakesFirst, registers_apart}
 use Rattle.papaya_histories.specs.Given.Tables.Nodes.{deferred_word}
 use Rattle.papaya_histories.specs.Given.Tables.declared.node.Node.{Node}
 use Rattle.papaya_histories.specs.Given.Tells.Seen.{seen_of}

@@ -1,8 +1,21 @@
-//! What is promised of what rows on slots do.
+//! What is promised of what rows on slots, makings of maps and their ends do.
 ghost use Rattle.std.specs.Prelude.{Bool, ℕ};
 ghost use Rattle.papaya_works.specs.Rows.{RowsDoTheirs};
+ghost use Rattle.papaya_works.specs.Makings.{MakingsDoTheirs, MakingsFindTheirs};
+ghost use Rattle.papaya_works.specs.Ends.{EndsFindAll};
 
 /// A row on a slot does what it may: entering, flushing and giving a slot up do nothing, registering asks for buckets of slots alone, and leaving and refreshing reclaim alone.
 pub fn rows_do_theirs<K, V, S>()
     ensures does { (same : K → K → Bool) (hash : K → ℕ) → RowsDoTheirs K V S same hash }
+{}
+
+/// The making of a map does nothing but to ask for blocks, to make the map's first table, and to link it; and it finds what it must.
+pub fn makings_do_theirs<K, V, S>()
+    ensures does { (same : K → K → Bool) (hash : K → ℕ) → MakingsDoTheirs K V S same hash }
+    ensures finds { (same : K → K → Bool) (hash : K → ℕ) → MakingsFindTheirs K V S same hash }
+{}
+
+/// Where all of a map ends each pair is in the map, and each table is linked.
+pub fn ends_find_all<K, V>()
+    ensures finds { EndsFindAll K V }
 {}

@@ -1,20 +1,17 @@
 -- What steps of calls find by is so after a step that is of no call, which leaves calls and pairs as they are.
-use Rattle.std.specs.Prelude.{◌≡◌, ◌≤◌, ◌==◌, ℕ, Bool, true, false, List, find, length, Option, Some, IsSome}
+use Rattle.std.specs.Prelude.{◌≡◌, ◌≤◌, ℕ, Bool, true, false, List, find, length, Option, Some}
 use Rattle.std.proofs.Common.{refl, ap, sym, subst, ◌∙◌}
-use Rattle.papaya_histories.specs.Given.SeizeWords.Mem.{value_at}
 use Rattle.papaya_histories.specs.Given.Runs.Same.{is_same}
-use Rattle.papaya_histories.specs.Given.Schedules.declared.effect.Spot.{Spot}
 use Rattle.papaya_histories.specs.Given.Schedules.Moment.{Behind, GivenBack, Handed, InMap, Left, Moment, Out, Place, Unborn, UnderWay as CallThere}
-use Rattle.papaya_histories.specs.Given.Schedules.Views.{call_of, is_in_a_map}
+use Rattle.papaya_histories.specs.Given.Schedules.Views.{is_in_a_map}
 use Rattle.papaya_histories.specs.Given.Callers.Together.{OnKey, UnderWay}
 use Rattle.papaya_histories.specs.Given.Effects.Known.{Known}
 use Rattle.papaya_histories.specs.Given.Executor.IsAt.{IsAt, Scene}
 use Rattle.papaya_histories.specs.Given.Executor.declared.executor.Executor.{Executor}
-use Rattle.papaya_histories.proofs.Given.Follows.Onward.{IsOfMap}
 use Rattle.papaya_histories.specs.Given.Moments.Whole.{ShowsWhole}
 use Rattle.papaya_histories.proofs.Given.Moments.Beside.{IsBeside}
 use Rattle.papaya_finds.specs.Capacities.{ShowsCapacities}
-use Rattle.papaya_finds.specs.Waits.{IsHeldPast, LeavesInHand}
+use Rattle.papaya_finds.specs.Waits.{LeavesInHand}
 use Rattle.papaya_finds.specs.Within.{many_of}
 use Rattle.papaya_finds.proofs.Grows.Between.{growing_stays}
 use Rattle.papaya_finds.proofs.Waits.Between.{waits_stay}

@@ -3,9 +3,8 @@ use Rattle.std.specs.Prelude.{◌≡◌, ◌+◌, ℕ, Bool, List, Option, Some,
 use Rattle.std.proofs.Common.{refl, ap, sym, subst, ◌∙◌, inl, inr}
 use Rattle.papaya_histories.specs.Given.SeizeWords.Mem.{value_at}
 use Rattle.papaya_histories.specs.Given.SeizeWords.declared.at.At.{At}
-use Rattle.papaya_histories.specs.Given.SeizeWords.declared.at.At.TheVariants.{Word}
 use Rattle.papaya_histories.specs.Given.Seize.Further.{IsWordOf}
-use Rattle.papaya_histories.specs.Given.Seize.World.{Defers, Rests, World}
+use Rattle.papaya_histories.specs.Given.Seize.World.{Defers, World}
 use Rattle.papaya_histories.specs.Given.Seize.declared.rows.defer.Defer.{Defer}
 use Rattle.papaya_histories.specs.Given.Seize.declared.rows.defer.Deferring.{Deferring}
 use Rattle.papaya_histories.specs.Given.Seize.declared.rows.defer.Deferring.TheVariants as deferring
@@ -25,13 +24,12 @@ use Rattle.papaya_histories.specs.Given.Raw.declared.machines.call.Calling.{Call
 use Rattle.papaya_histories.specs.Given.Raw.declared.machines.call.Calling.TheVariants as calling
 use Rattle.papaya_histories.specs.Given.Schedules.Moment.{Moment}
 use Rattle.papaya_histories.specs.Given.Rule.Words.{Blocks}
-use Rattle.papaya_histories.specs.Given.Callers.OverAll.{CallOverAll, row_of_sweep}
+use Rattle.papaya_histories.specs.Given.Callers.OverAll.{row_of_sweep}
 use Rattle.papaya_histories.specs.Given.Callers.Rows.{row_of, row_of_disposal}
 use Rattle.papaya_histories.specs.Given.Callers.Sights.{seen_by}
-use Rattle.papaya_histories.specs.Given.Callers.Together.{CallOnKey, Counting, ForRoom, OnKey, OverAll, Together, UnderWay}
+use Rattle.papaya_histories.specs.Given.Callers.Together.{Counting, ForRoom, OnKey, OverAll, Together, UnderWay}
 use Rattle.papaya_histories.proofs.Given.Callers.Together.Came.{came_reached}
 use Rattle.papaya_histories.specs.Given.Effects.Known.{Known}
-use Rattle.papaya_histories.specs.Given.Effects.declared.role.Role.TheVariants as role
 use Rattle.papaya_histories.specs.Given.Executor.IsAt.{IsAt, Scene, slot_of}
 use Rattle.papaya_histories.specs.Given.Executor.declared.executor.Executor.{Executor}
 use Rattle.papaya_histories.proofs.Given.Executor.Changed.{standing_is}

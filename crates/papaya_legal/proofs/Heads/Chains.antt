@@ -1,6 +1,6 @@
 -- All steps of a making, of an end, and of reclaiming all leave the slots taken that were.
 use Rattle.std.specs.Prelude.{ℕ, zero, suc, Bool}
-use Rattle.std.proofs.Common.{◌≡◌, refl, sym, subst}
+use Rattle.std.proofs.Common.{refl, sym, subst}
 use Rattle.papaya_histories.specs.Given.SeizeWords.Mem.{Mem}
 use Rattle.papaya_histories.specs.Given.Seize.declared.progress.Progress.{Progress}
 use Rattle.papaya_histories.specs.Given.Seize.declared.progress.Progress.TheVariants as progress

@@ -1,5 +1,5 @@
 -- A row that registers takes one slot at most, the first that was never taken, or one that was; and so a row of a caller leaves so many slots taken as it tells.
-use Rattle.std.specs.Prelude.{◌⊎◌, ◌<◌, ◌==◌, ◌||◌, max, nat_lt, eqb, Bool, true, false, Option, Some, None, IsSome, List, Ok, Err, if◌then◌else◌, length}
+use Rattle.std.specs.Prelude.{◌<◌, max, nat_lt, eqb, Bool, true, false, Option, Some, None, IsSome, Ok, Err, if◌then◌else◌, length}
 use Rattle.std.proofs.Common.{◌≡◌, ℕ, zero, suc, ◌+◌, ◌≤◌, eqb-true, refl, ap, sym, subst, ◌∙◌, arith, inl, inr}
 use Rattle.std.proofs.lemmas.Bool.{eqb-false}
 use Rattle.papaya_histories.specs.Given.SeizeWords.Mem.{Mem, Took, after, value_at, with_word, word_at}
@@ -9,7 +9,7 @@ use Rattle.papaya_histories.specs.Given.SeizeWords.declared.at.At.TheVariants.{S
 use Rattle.papaya_histories.specs.Given.SeizeWords.declared.fault.Fault.TheVariants.{SlotsUsedUp}
 use Rattle.papaya_histories.proofs.Given.SeizeWords.OneOwner.Operations.{exchanged, loaded, stored}
 use Rattle.papaya_histories.specs.Given.Seize.Register.{begun, can_be_taken, further, going, looked, plan_at, refused, register_plan, registered, taken, taking, widened, bucket_needed}
-use Rattle.papaya_histories.specs.Given.Seize.World.{World, Row, Registers, SlotsTaken}
+use Rattle.papaya_histories.specs.Given.Seize.World.{World, Registers, SlotsTaken}
 use Rattle.papaya_histories.specs.Given.Seize.declared.progress.Progress.{Progress}
 use Rattle.papaya_histories.specs.Given.Seize.declared.progress.Progress.TheVariants as progress
 use Rattle.papaya_histories.specs.Given.Seize.declared.rows.register.Register.{Register}
@@ -20,7 +20,7 @@ use Rattle.papaya_histories.proofs.Given.SeizeMoves.State.Ghost.{is_never}
 use Rattle.papaya_histories.proofs.Given.SeizeRule.Points.Known.{TakenBelow}
 use Rattle.papaya_histories.proofs.Given.SeizeRule.Points.Try.{never_word}
 use Rattle.papaya_histories.proofs.Given.SeizeRule.Rows.Known.{FitsRegister}
-use Rattle.papaya_histories.proofs.Given.SeizeRule.Rows.Register.{room_view, registers_may}
+use Rattle.papaya_histories.proofs.Given.SeizeRule.Rows.Register.{room_view}
 use Rattle.papaya_histories.proofs.Given.SeizeRule.Words.Named.{words_of}
 use Rattle.papaya_histories.proofs.Given.SeizeRule.Words.View.{View, view}
 use Rattle.papaya_histories.proofs.Given.SeizeRule.World.Good.{Good}
@@ -68,7 +68,7 @@ module _ {T : Type 0} (k : ℕ) where
   -- and after a step that told this
   abbrev pub ToldSo : Mem T → Register → Progress ℕ → Type 0
   ToldSo m c progress.Goes = RegisterSo m c
-  ToldSo m c progress.Waits = RegisterSo m c
+  ToldSo m c progress.Waits = ⊥
   ToldSo m c (progress.Done slot) = SlotsTaken m (max k (slot + 1))
   ToldSo m c (progress.Refused fault) = SlotsTaken m k
 
@@ -195,7 +195,7 @@ abbrev pub IsOtherCall : SlotCall → Type 0
 IsOtherCall (call.Register enters) = ⊥
 IsOtherCall _ = Unit {0}
 
-other_begun : (slot size : ℕ) (called : SlotCall) → IsOtherCall called → IsOther (begun_row slot size called)
+pub other_begun : (slot size : ℕ) (called : SlotCall) → IsOtherCall called → IsOther (begun_row slot size called)
 other_begun slot size (call.Register enters) other = absurd other
 other_begun slot size call.Enter other = tt
 other_begun slot size call.Leave other = tt
@@ -216,11 +216,11 @@ module _ {K V : Type 0} where
   abbrev pub ThenSo : ℕ → Mem (Node K V) → RowTold (Node K V) → Type 0
   ThenSo k m (told.Registered slot) = SlotsTaken m (max k (slot + 1))
   ThenSo k m (told.Refused fault) = SlotsTaken m k
-  ThenSo k m _ = Unit {0}
+  ThenSo k m told = has_come told ≡ true → SlotsTaken m k
 
   then_so : (k : ℕ) (m : Mem (Node K V)) (c : Register) (p : Progress ℕ) → ToldSo k m c p → ThenSo k m (of_registering p)
-  then_so k m c progress.Goes so = tt
-  then_so k m c progress.Waits so = tt
+  then_so k m c progress.Goes so = λ come. absurd (cc come)
+  then_so k m c progress.Waits so = absurd so
   then_so k m c (progress.Done slot) so = so
   then_so k m c (progress.Refused fault) so = so
 

@@ -1,5 +1,5 @@
 -- Each step of a row but of one that registers leaves the slots taken that were, and takes none.
-use Rattle.std.specs.Prelude.{Option, Some, None, IsSome, Ok, ◌&&◌, not, nat_lt, eqb}
+use Rattle.std.specs.Prelude.{Option, Some, None, IsSome, ◌&&◌, not, nat_lt, eqb}
 use Rattle.std.proofs.Common.{◌≡◌, ℕ, zero, suc, ◌+◌, ◌<◌, ◌≤◌, Bool, true, false, List, [], ◌∷◌, eqb-true, length, inl, inr, refl, arith, ap, sym, subst, ◌∙◌}
 use Rattle.papaya_histories.specs.Given.SeizeWords.declared.at.At.TheVariants.{Slot}
 use Rattle.papaya_histories.specs.Given.SeizeWords.Mem.{Mem, Can, Took, value_at, word_at, with_word}

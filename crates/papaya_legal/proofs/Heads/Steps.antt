@@ -12,7 +12,7 @@ use Rattle.papaya_histories.proofs.Given.SeizeWords.OneOwner.Operations.{stored}
 use Rattle.papaya_histories.specs.Given.Seize.Enter.{unregister_plan}
 use Rattle.papaya_histories.specs.Given.Seize.ReclaimAll.{next_free, next_head, plan_at, reclaim_all_plan, to}
 use Rattle.papaya_histories.specs.Given.Seize.Sequence.{IsBetween, IsUsers}
-use Rattle.papaya_histories.specs.Given.Seize.World.{World, Row, Rests, Request, Register', Enter', Leave', LeaveOwned, Refresh, Unregister', Retire, Flush, Defer', Event, Begin, Step, Makes, Drops, Links, Parts, Unlinks, Rewrites, Operates, Ends, LeavesOver, Relinks, Clears, Chooses, Begins, Steps', Happens, Runs, IsOwn, IsOwnOp, made_by}
+use Rattle.papaya_histories.specs.Given.Seize.World.{World, Row, Rests, Request, Register', Enter', Leave', LeaveOwned, Refresh, Unregister', Retire, Flush, Defer', Event, Begin, Step, Makes, Drops, Links, Parts, Unlinks, Rewrites, Operates, Ends, LeavesOver, Relinks, Clears, Chooses, Begins, Happens, Runs, IsOwn, IsOwnOp, made_by}
 use Rattle.papaya_histories.specs.Given.Seize.declared.progress.Progress.{Progress}
 use Rattle.papaya_histories.specs.Given.Seize.declared.progress.Progress.TheVariants.{Done}
 use Rattle.papaya_histories.specs.Given.Seize.declared.rows.enter.Unregister.{Unregister}

@@ -7,7 +7,7 @@ use Rattle.papaya_histories.specs.Given.Runs.Same.{is_same}
 use Rattle.papaya_histories.specs.Given.Schedules.declared.event.Event.{Event}
 use Rattle.papaya_histories.specs.Given.Schedules.declared.outcome.Outcome.{Outcome}
 use Rattle.papaya_histories.specs.Given.Schedules.declared.outcome.Outcome.TheVariants.{Asks, Ready}
-use Rattle.papaya_histories.specs.Given.Schedules.After.{moment}
+use Rattle.papaya_histories.specs.Given.Schedules.After.{moment, slots_on}
 use Rattle.papaya_histories.specs.Given.Schedules.Entry.{Entry}
 use Rattle.papaya_histories.specs.Given.Schedules.InTurn.{ComesRight}
 use Rattle.papaya_histories.specs.Given.Schedules.Moment.{UnderWay as CallThere, Stands}
@@ -131,8 +131,14 @@ module _ {K V S : Type 0} (same : K → K → Bool) (hash : K → ℕ) (terms : 
     says_again (Go caller refuse) its o so v = event_says (record { event = Go caller refuse; outcome = o; steps = 0; effects = [] }) v tt
     says_again _ its o so v = absurd its
 
+    -- it takes no slot
+    no_slot : (o : Outcome V) → IsSaidAt o here.caller.stands → slots_on o (moment log).slots ≡ (moment log).slots
+    no_slot (Asks question) so = refl
+    no_slot Ready so = refl
+    no_slot _ so = absurd so
+
     pub again_on : RunsOn same hash terms log (entry_of event played) new
     again_on =
         subst (λ (x : Entry K V). RunsOn same hash terms log x new) (sym entry_as)
         (as_before same hash terms log old new runs (ap (λ (x : Scheduler K V S). x.logged) again.3) (ap (λ (x : Scheduler K V S). x.calls) again.3) e legal.0 legal.1 (says_again event on said is (moment log))
-        (subst (λ (x : Entry K V). IsPlayed same hash terms (x ∷ log) new) entry_as plays) (subst (ComesRight terms log) entry_as right))
+        (subst (λ (x : Entry K V). IsPlayed same hash terms (x ∷ log) new) entry_as plays) (subst (ComesRight terms log) entry_as right) (no_slot said is))

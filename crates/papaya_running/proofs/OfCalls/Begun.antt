@@ -259,6 +259,7 @@ module _ {K V S : Type 0} (same : K → K → Bool) (hash : K → ℕ) (terms : 
           shows = run_then;
           come = events_bring_things K V terms log (e own) runs.come goes_on.0.life.finds;
           values = values;
+          taken = runs.taken;
           size = on_size ∙ runs.size;
           shards = shards_here;
           reached = reached_by same hash terms log (e own) old new right plays notes_here runs.reached;

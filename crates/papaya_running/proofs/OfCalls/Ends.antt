@@ -4,11 +4,15 @@ use Rattle.std.specs.List.{list_any}
 use Rattle.std.proofs.Common.{refl, ap, sym, subst, ◌∙◌, arith}
 use Rattle.papaya_histories.specs.Given.SeizeWaiting.Held.{count}
 use Rattle.papaya_histories.specs.Given.SeizeWords.declared.fault.Fault.TheVariants.{Busy}
+use Rattle.papaya_histories.specs.Given.Seize.World.{SlotsTaken}
+use Rattle.papaya_histories.specs.Given.Tables.declared.node.Node.{Node}
+use Rattle.papaya_histories.specs.Given.Raw.declared.machines.progress.Progress.{Progress as Told}
+use Rattle.papaya_histories.specs.Given.Raw.declared.machines.progress.Progress.TheVariants as told
 use Rattle.papaya_histories.specs.Given.Schedules.declared.effect.Effect.{Effect}
 use Rattle.papaya_histories.specs.Given.Schedules.declared.event.Event.{Event}
 use Rattle.papaya_histories.specs.Given.Schedules.declared.outcome.Outcome.{Outcome}
 use Rattle.papaya_histories.specs.Given.Schedules.declared.outcome.Outcome.TheVariants.{Refused}
-use Rattle.papaya_histories.specs.Given.Schedules.After.{moment, moments_from}
+use Rattle.papaya_histories.specs.Given.Schedules.After.{moment, moments_from, slots_on}
 use Rattle.papaya_histories.specs.Given.Schedules.Beginning.{at_work}
 use Rattle.papaya_histories.specs.Given.Schedules.Entry.{Entry, acted_on}
 use Rattle.papaya_histories.specs.Given.Schedules.Handing.{is_made, refuses}
@@ -49,7 +53,7 @@ use Rattle.papaya_running.specs.OfCalls.{HaveValues, RunsOn}
 use Rattle.papaya_running.proofs.OfCalls.Answers.{last_steps_tell}
 use Rattle.papaya_running.proofs.OfCalls.Found.{mask_is}
 use Rattle.papaya_running.proofs.OfCalls.Scenes.{stands_in}
-use Rattle.papaya_running.proofs.OfCalls.Steps.{HasCome, IsStep, as_told, caller_is, follows, leads, named_then, noted_so, noted_then, shards_then, shown_then, size_then, then_known, then_now, then_scene, there_now, values_then}
+use Rattle.papaya_running.proofs.OfCalls.Steps.{HasCome, IsStep, as_told, caller_is, follows, leads, named_then, noted_so, noted_then, shards_then, shown_then, size_then, taken_then, then_known, then_now, then_scene, there_now, values_then}
 use Rattle.papaya_running.proofs.OfCalls.Worth.{SaidIn, TellsNone, event_says, have_values_then}
 use Rattle.papaya_values.specs.Values.{KeepsValue}
 use Rattle.papaya_running.proofs.OfCalls.Words.{not_busy, shows_as_told, tells_end}
@@ -144,6 +148,21 @@ module _ {K V S : Type 0} (same : K → K → Bool) (hash : K → ℕ) (name : �
     abbrev its_left : ShowsRemains new.logged.executor.roots (then_now same hash name terms log event beginning map i c place n mid played.effects.items p new come its) (known new.logged.notes) at_end
     its_left = (shown_then same hash name terms log event beginning map i c place n mid played.effects.items p new come its).counted.remains
 
+    -- no call takes a slot
+    no_slot : slots_on played.outcome (moment log).slots ≡ (moment log).slots
+    no_slot = as_said (λ o. slots_on o (moment log).slots ≡ (moment log).slots) (said_none step.said)
+      where
+        said_none : (said : Told (Node K V)) → slots_on (outcome_of by (kind_of c.call) value said) (moment log).slots ≡ (moment log).slots
+        said_none told.Goes = refl
+        said_none (told.Gave node) = refl
+        said_none (told.Unstored node) = refl
+        said_none told.Waits = refl
+        said_none (told.Asks word) = refl
+        said_none told.Ready = refl
+        said_none (told.Pair word) = refl
+        said_none (told.Done answer) = refl
+        said_none (told.Refused fault) = refl
+
     shown : IsShown same hash name (moment (e ∷ log)) new.logged at_end
     shown = record {
       is_at = (shown_then same hash name terms log event beginning map i c place n mid played.effects.items p new come its).is_at;
@@ -170,6 +189,7 @@ module _ {K V S : Type 0} (same : K → K → Bool) (hash : K → ℕ) (name : �
         shows = after_run;
         come = events_bring_things K V terms log e had goes_on.0.life.finds;
         values = values;
+        taken = subst (SlotsTaken at_end.world.memory) (sym no_slot) (taken_then same hash name terms log event beginning map i c place n mid played.effects.items p new come its);
         size = size_then same hash name terms log event beginning map i c place n mid played.effects.items p new come its;
         shards = shards_then same hash name terms log event beginning map i c place n mid played.effects.items p new come its;
         reached = reached_after same hash terms log e p new right plays (subst (λ (k : Known). (known p.logged.notes).buckets ≤ k.buckets) (sym noted) grows) come.reached;

@@ -3,8 +3,8 @@ use Rattle.std.specs.Prelude.{◌≡◌, ◌≢◌, ◌⊎◌, ◌+◌, ℕ, zer
 use Rattle.std.specs.List.{remove}
 use Rattle.std.proofs.Common.{refl, ap, sym, subst, ◌∙◌, inl, inr, arith}
 use Rattle.std.proofs.lemmas.Bool.{cases_eq}
-use Rattle.std.specs.Prelude.{◌≤◌, filter, length}
-use Rattle.papaya_histories.specs.Given.Seize.World.{World, Request, Begin, Step, Happens}
+use Rattle.std.specs.Prelude.{filter, length, ◌≤◌}
+use Rattle.papaya_histories.specs.Given.Seize.World.{Begin, Happens, Request, SlotsTaken, Step, World}
 use Rattle.papaya_histories.specs.Given.Tables.Nodes.{deferred_word}
 use Rattle.papaya_histories.specs.Given.Tables.declared.node.Node.{Node}
 use Rattle.papaya_histories.specs.Given.Tables.declared.setting.Setting.{Setting}
@@ -44,6 +44,8 @@ use Rattle.papaya_models.proofs.CallEvents.{things_more}
 use Rattle.papaya_purposes.specs.Kept.{ShowsNone}
 use Rattle.papaya_legal.specs.CallEvents.{InCallEvent}
 use Rattle.papaya_legal.proofs.Calls.{call_events_go_on_so}
+use Rattle.papaya_legal.proofs.Heads.Rows.{slots_stay}
+use Rattle.papaya_legal.proofs.Heads.Steps.{call_taken}
 use Rattle.papaya_logged.specs.Calling.{CallGoesOn}
 use Rattle.papaya_logged.specs.Shown.{IsShown}
 use Rattle.papaya_rows.proofs.Lists.{both_some, found_alike, set_get}
@@ -128,6 +130,7 @@ module _ {K V S : Type 0} (same : K → K → Bool) (hash : K → ℕ) (name : �
     pub worth : KeepsValue c.call c.replies (machine_of under) caller.value
     pub others : AreWorth (name i) beginning scene p.calls.items.items
     pub midst : InCallEvent same name terms log event beginning map i c steps did now (known p.logged.notes) scene under
+    pub taken : SlotsTaken scene.world.memory (moment log).slots
 
   -- a step from there
   module _ (n : ℕ) (mid after : List Effect) (p new : Scheduler K V S) (come : HasCome n mid p) (step : IsStep same hash place mid after p new) where
@@ -257,6 +260,13 @@ module _ {K V S : Type 0} (same : K → K → Bool) (hash : K → ℕ) (name : �
         (values_go_on K V S same hash name come.now (known p.logged.notes) come.scene p.logged.executor new.logged.executor come.shown.is_at come.midst.calls.whole map i come.under its_here step.said leads
         there_now.0 there_now.1 step.caller.value worth_now x is))
 
+    -- and the slots are taken that were
+    pub taken_then : SlotsTaken then_scene.world.memory (moment log).slots
+    taken_then =
+        slots_stay come.scene.world.memory then_scene.world.memory (moment log).slots
+        (call_taken same hash name come.now (known p.logged.notes) come.scene p.logged.executor new.logged.executor come.shown.is_at come.midst.calls.whole map i come.under its_here step.said leads)
+        come.taken
+
     -- where it goes on it has come one step further, if callers have their names then
     module _ (none : ShowsNone step.said) (on : has_ended step.said ≡ false) (then_caller : Caller V) (there : slice_get new.calls.items.items place ≡ Some then_caller)
         (number : then_caller.number ≡ step.caller.number) (on_map : then_caller.map ≡ step.caller.map) (kind : then_caller.kind ≡ step.caller.kind) (named : AreNamed name new.calls.items.items)
@@ -295,6 +305,7 @@ module _ {K V S : Type 0} (same : K → K → Bool) (hash : K → ℕ) (name : �
         midst = subst (λ (k : Known). InCallEvent same name terms log event beginning map i c (n + 1) (mid ++ did) then_now k then_scene next.0) (sym noted_then)
             (call_events_go_on_so K V S same hash name terms log event beginning map i c n mid come.now (known p.logged.notes) come.scene come.under come.midst p.logged.executor new.logged.executor
             come.shown.is_at come.size step.said leads none noted_so next.0 next.1);
+        taken = taken_then;
       })
 
   -- one of which its caller was told

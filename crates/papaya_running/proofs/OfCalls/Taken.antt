@@ -122,6 +122,7 @@ module _ {K V S : Type 0} (same : K → K → Bool) (hash : K → ℕ) (terms : 
     midst = call_events_begin_so K V S same hash name terms log m (refl, refl) refl refl refl runs.shows.tableless (known old.logged.notes) runs.stands.scene old.logged.executor runs.stands.shown.is_at runs.shows.calls
         runs.shows.reading runs.shows.sections runs.shows.follows event map i (of_call ∙ ap Some (sym name_is)) u under c c_is
         (λ alone j goes. only_its_row same hash terms log old runs.stands event own speaks alone map i u under name_is j goes);
+    taken = runs.taken;
   }
 
   -- its slot is active, where calls came one after another

@@ -13,7 +13,10 @@ use Rattle.papaya_histories.specs.Given.Schedules.declared.call.Reply.{Reply}
 use Rattle.papaya_histories.specs.Given.Schedules.declared.call.Reply.TheVariants.{Gives, Removes, Aborts, Decides}
 use Rattle.papaya_histories.specs.Given.Schedules.declared.event.Event.TheVariants.{Replied, Stop}
 use Rattle.papaya_histories.specs.Given.Schedules.declared.outcome.Outcome.TheVariants.{Done, Goes}
-use Rattle.papaya_histories.specs.Given.Schedules.After.{moment, replied}
+use Rattle.papaya_histories.specs.Given.Schedules.After.{moment, replied, slots_on}
+use Rattle.papaya_histories.specs.Given.SeizeWords.Mem.{Mem}
+use Rattle.papaya_histories.specs.Given.Seize.World.{SlotsTaken}
+use Rattle.papaya_histories.specs.Given.Tables.declared.node.Node.{Node}
 use Rattle.papaya_histories.specs.Given.Schedules.Entry.{Entry}
 use Rattle.papaya_histories.specs.Given.Schedules.InTurn.{ComesRight}
 use Rattle.papaya_histories.specs.Given.Schedules.Moment.{Asking, Moment, Stands, Told as IsTold, UnderWay as CallThere}
@@ -99,7 +102,7 @@ module _ {K V S : Type 0} (same : K → K → Bool) (hash : K → ℕ) (terms : 
   -- the run goes on in a scene with the same maps
   module _ (e : Entry K V) (t : Scene K V) (run : ShowsRun same name terms (e ∷ log) (known old.logged.notes) t) (legal : IsLegalBut same terms log e) (is_at : IsAt same hash new.logged.executor t) (maps : t.maps ≡ s.maps)
       (left : LeftAmong new.logged.executor.roots t.world t.maps t.makers t.enders runs.stands.shown.counted.remains.lists) (notes : new.logged.notes ≡ old.logged.notes) (on_size : new.logged.executor.batch_size ≡ old.logged.executor.batch_size) (named : AreNamed name new.calls.items.items)
-      (values : HaveValues (moment (e ∷ log)) t new.calls.items.items) (plays : IsPlayed same hash terms (e ∷ log) new) (right : ComesRight terms log e) where
+      (values : HaveValues (moment (e ∷ log)) t new.calls.items.items) (plays : IsPlayed same hash terms (e ∷ log) new) (right : ComesRight terms log e) (memory : t.world.memory ≡ s.world.memory) (no_slot : slots_on e.outcome m.slots ≡ m.slots) where
     run_then : ShowsRun same name terms (e ∷ log) (known new.logged.notes) t
     run_then = subst (λ (k : Known). ShowsRun same name terms (e ∷ log) k t) (sym (ap known notes)) run
 
@@ -114,6 +117,7 @@ module _ {K V S : Type 0} (same : K → K → Bool) (hash : K → ℕ) (terms : 
         shows = run_then;
         come = events_bring_things K V terms log e runs.come legal.life.finds;
         values = values;
+        taken = subst (λ (x : Mem (Node K V)). SlotsTaken x (moment (e ∷ log)).slots) (sym memory) (subst (SlotsTaken s.world.memory) (sym no_slot) runs.taken);
         size = on_size ∙ runs.size;
         shards = λ n setting is. runs.shards n setting (sym (runs.stands.shown.is_at.maps n) ∙ ap (λ (f : ℕ → Option (Standing K)). option_map (λ (x : Standing K). x.setting) (f n)) (sym maps) ∙ is_at.maps n ∙ is);
         reached = reached_by same hash terms log e old new right plays (ap known notes) runs.reached;
@@ -224,7 +228,7 @@ module _ {K V S : Type 0} (same : K → K → Bool) (hash : K → ℕ) (terms : 
         (ap (λ (x : List ℕ). call_of x m) name_is ∙ here.call_is) question.0 asking led.0 led.2 reply led.1 led.3 takes_ok led.5 taken led.7 0
         (subst (λ (x : List ℕ). ComesRight terms log (e x)) (sym name_is) right)) in
         then_on (e own) t on.1 on.0 led.7 refl (behind given) has.notes given.1
-        (subst (AreNamed name) (sym (has.calls d here.at)) (named_set name old.calls.items.items has.place (record d { stands = far.Goes; value = has.value }) here.way.2 (its_named same hash terms m old runs.stands))) values_told plays right
+        (subst (AreNamed name) (sym (has.calls d here.at)) (named_set name old.calls.items.items has.place (record d { stands = far.Goes; value = has.value }) here.way.2 (its_named same hash terms m old runs.stands))) values_told plays right refl refl
 
   -- a walk was given up
   module _ (has : HasStopped same hash own old new) (given : KeepsGiven old.logged.executor new.logged.executor) where
@@ -290,4 +294,4 @@ module _ {K V S : Type 0} (same : K → K → Bool) (hash : K → ℕ) (terms : 
         (stopped_events_end K V S same hash name terms log (known old.logged.notes) s old.logged.executor new.logged.executor runs.stands.shown.is_at runs.shows its.number led_so its.map there.way.0
         there.way.1 0 none_named (subst (λ (x : List ℕ). ComesRight terms log (f x)) (sym named_so) right)) in
         then_on (f own) after on.1 on.0 (led_so its.map there.way.0 there.way.1).2 refl (behind given) has.notes given.1
-        (subst (AreNamed name) (sym has.calls) (named_left name old.calls.items.items has.place (its_named same hash terms m old runs.stands))) values_stopped plays right
+        (subst (AreNamed name) (sym has.calls) (named_left name old.calls.items.items has.place (its_named same hash terms m old runs.stands))) values_stopped plays right refl refl

@@ -62,7 +62,7 @@ module _ {K V S : Type 0} (same : K → K → Bool) (hash : K → ℕ) (event : 
         subst (λ (x : Entry K V). IsPlayed same hash terms (x ∷ log) new → ComesRight terms log x → RunsOn same hash terms log x new)
         (sym (entry_is event played (Refused out.0) played.steps [] out.1 refl none))
         (λ so rest. still_keeps same hash terms log old run (entry event (Refused out.0) played.steps []) new refl (refused_still log run.stands.scene.world event of out.0 played.steps)
-        (ap (λ (p : Scheduler K V S). p.logged) mapped) (ap (λ (p : Scheduler K V S). p.calls) mapped) so rest) after right
+        (ap (λ (p : Scheduler K V S). p.logged) mapped) (ap (λ (p : Scheduler K V S). p.calls) mapped) so rest refl) after right
 
     pub kept_in_turn : {X : Type 0} (result : Result (Played V) X) → IfOk result (λ played. KeepsRun same hash event played old new) → keeps_out event old ≡ false
         → IfOk result (λ played. KeepsRunAt same hash event played old new)

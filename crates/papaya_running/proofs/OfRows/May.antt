@@ -4,7 +4,7 @@ use Rattle.std.specs.List.{list_all}
 use Rattle.std.proofs.Common.{refl, ap, sym, ◌∙◌}
 use Rattle.papaya_histories.specs.Given.Seize.World.{IsInside}
 use Rattle.papaya_histories.proofs.Given.Spots.Unreclaimed.{and_both}
-use Rattle.papaya_runs.specs.Present.{guards_on, has_registration, slot_of_guard}
+use Rattle.papaya_runs.specs.Present.{guards_on, has_registration}
 use Rattle.papaya_schedules.specs.declared.effect.Effect.{Effect}
 use Rattle.papaya_schedules.specs.declared.event.Event.{Event}
 use Rattle.papaya_schedules.specs.declared.event.Event.TheVariants.{DropGuard, Enter, Flush, Own, Refresh, Register, Unregister}

@@ -12,7 +12,7 @@ use Rattle.papaya_schedules.specs.declared.effect.Effect.{Effect}
 use Rattle.papaya_schedules.specs.declared.event.Event.{Event}
 use Rattle.papaya_schedules.specs.declared.event.Event.TheVariants.{DropGuard, EndMap, Enter, Flush, MakeMap, Own, Refresh, Register, Unregister}
 use Rattle.papaya_schedules.specs.declared.outcome.Outcome.TheVariants.{Done, Refused}
-use Rattle.papaya_schedules.specs.After.{after, moment, moments_from}
+use Rattle.papaya_schedules.specs.After.{after, moment, moments_from, slots_on}
 use Rattle.papaya_schedules.specs.Beginning.{at_work}
 use Rattle.papaya_schedules.specs.Effects.{AtEachEffect, worked}
 use Rattle.papaya_schedules.specs.Entry.{Entry, IfCall, acted_on, acting, caller_of}
@@ -97,8 +97,8 @@ module _ {K V : Type 0} where
 module _ {K V S : Type 0} (same : K → K → Bool) (hash : K → ℕ) (terms : Terms) (log : List (Entry K V)) (old : Scheduler K V S) (run : Runs same hash terms log old) where
   -- So the run goes on, where executor, notes and callers are as they were.
   pub still_keeps : (e : Entry K V) (new : Scheduler K V S) → e.effects ≡ [] → IsStill log run.stands.scene.world e → new.logged ≡ old.logged → new.calls ≡ old.calls
-      → IsPlayed same hash terms (e ∷ log) new → ComesRight terms log e → RunsOn same hash terms log e new
-  still_keeps e new nothing still logged calls played right = as_before same hash terms log old new run logged calls e legal.0 shows (nobody_says e (moment log) still.no_call) played right
+      → IsPlayed same hash terms (e ∷ log) new → ComesRight terms log e → slots_on e.outcome (moment log).slots ≡ (moment log).slots → RunsOn same hash terms log e new
+  still_keeps e new nothing still logged calls played right no_slot = as_before same hash terms log old new run logged calls e legal.0 shows (nobody_says e (moment log) still.no_call) played right no_slot
     where
       legal : IsLegalBut same terms log e × SectionsHold (after e (moment log)) (known old.logged.notes) run.stands.scene.world
       legal = still_legal same terms log (known old.logged.notes) run.stands.scene.world e nothing still run.shows.sections

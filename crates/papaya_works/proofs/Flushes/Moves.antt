@@ -2,7 +2,7 @@
 use Rattle.std.proofs.Common.{◌≡◌, ℕ, ◌+◌, ◌%◌, ◌^◌, ◌<◌, ◌≤◌, Bool, true, false, cond, eqb, ltb, List, [], ◌∷◌, ◌++◌, refl, ap, sym, subst, ◌∙◌, arith, eqb-true}
 use Rattle.papaya_histories.specs.Given.Seize.declared.rows.settle.Settle.{Settle}
 use Rattle.papaya_histories.specs.Given.SeizeWaiting.Held.{count}
-use Rattle.papaya_histories.proofs.Given.SeizeMoves.State.Ghost.{put, Debt, Unscanned, Marked, Skipped, Owing, Loose, Counted, Entry, Head, Active, Stage, Open, Closing, State, is_active, is_marked, owes, counts, was_put, total}
+use Rattle.papaya_histories.proofs.Given.SeizeMoves.State.Ghost.{put, Debt, Unscanned, Marked, Skipped, Owing, Loose, Counted, Entry, Active, Stage, Open, Closing, State, is_active, is_marked, owes, counts, was_put, total}
 use Rattle.papaya_histories.proofs.Given.SeizeMoves.State.Moves as moves
 use Rattle.papaya_histories.proofs.Given.SeizeMoves.State.Rule.{AtStage, Inv, SeenIs}
 use Rattle.papaya_histories.proofs.Given.SeizeMoves.State.Sums.{put_le, put_parts, total_le}
