@@ -31,12 +31,12 @@ use Rattle.papaya_running.proofs.OfCalls.Taken.{taken_in_case}
 use Rattle.papaya_running.proofs.OfCalls.Whole.{whole_in_case}
 
 -- one that is refused for something else, or not at all
-quiet_in_case : {K V : Type 0} (terms : Terms) (log : List (Entry K V)) (e : Entry K V) → (e.outcome ≡ Refused Capacity → ⊥) → ComesInCase terms log e
+pub quiet_in_case : {K V : Type 0} (terms : Terms) (log : List (Entry K V)) (e : Entry K V) → (e.outcome ≡ Refused Capacity → ⊥) → ComesInCase terms log e
 quiet_in_case {K} {V} terms log e never =
     if_call (λ (c : CallThere K V). IsInCase terms c (moments_from c.begun log) (worked e (moment log)) e.outcome) (acting (caller_of e.event) (worked e (moment log)))
     (λ c is. in_case_where terms c (moments_from c.begun log) (worked e (moment log)) e.outcome (λ refused. absurd (never refused)))
 
-not_busy : {V : Type 0} (o : Outcome V) → o ≡ Refused Busy → o ≡ Refused Capacity → ⊥
+pub not_busy : {V : Type 0} (o : Outcome V) → o ≡ Refused Busy → o ≡ Refused Capacity → ⊥
 not_busy o told is = (let other = sym told ∙ is in cc other)
 
 not_asking : {V : Type 0} (o : Outcome V) (question : Option ℕ) → o ≡ Asks question → o ≡ Refused Capacity → ⊥
