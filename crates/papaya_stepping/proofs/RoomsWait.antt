@@ -73,7 +73,6 @@ use Rattle.papaya_histories.specs.Given.Points.FactsCopiesBlocking.{CopierFactsB
 use Rattle.papaya_histories.specs.Given.Late.LateCopies.{LateCopierFacts, LateCopying}
 use Rattle.papaya_kept.specs.Ends.{HaveEndsIn}
 use Rattle.papaya_owned.specs.Given.SeizeActs.Waits.{SettlesOn}
-use Rattle.papaya_owned.proofs.Given.Waits.Works.{works}
 
 -- a row that works on one slot settles on that
 pub on_slot : (slot s : ℕ) (row : Row) → IsRowOn slot row → SettlesOn s row → s ≡ slot

@@ -1,5 +1,5 @@
 -- A step by which a call is refused for the length of a table comes in its case: a table of its map is at the limit, or was since it began; or a reservation has counted too many pairs.
-use Rattle.std.specs.Prelude.{◌≡◌, ◌⊎◌, ◌+◌, ◌-◌, ◌*◌, ◌/◌, ◌^◌, ◌<◌, ◌≤◌, ◌%◌, nat_le, nat_lt, max, ℕ, zero, suc, Bool, true, false, List, [], ◌∷◌, Ok, Err, Some, if◌then◌else◌}
+use Rattle.std.specs.Prelude.{◌≡◌, ◌⊎◌, ◌+◌, ◌-◌, ◌^◌, ◌<◌, ◌%◌, nat_le, max, ℕ, zero, suc, Bool, true, false, List, ◌∷◌, Ok, Err, Some, if◌then◌else◌}
 use Rattle.std.proofs.Common.{refl, ap, sym, subst, ◌∙◌, inl, inr, arith}
 use Rattle.std.proofs.lemmas.Bool.{leb-true, lt-ltb}
 use Rattle.papaya_histories.specs.Given.SeizeWords.Mem.{Mem, Took, value_at}
@@ -7,7 +7,7 @@ use Rattle.papaya_histories.specs.Given.SeizeWords.Plan.{Steps}
 use Rattle.papaya_histories.specs.Given.SeizeWords.declared.fault.Fault.TheVariants.{Capacity}
 use Rattle.papaya_histories.specs.Given.Seize.declared.progress.Progress.TheVariants as counting
 use Rattle.papaya_histories.specs.Given.Tables.Counts.{count_in}
-use Rattle.papaya_histories.specs.Given.Tables.Lengths.{len_of, places_for}
+use Rattle.papaya_histories.specs.Given.Tables.Lengths.{places_for}
 use Rattle.papaya_histories.specs.Given.Tables.Powers.{next_power}
 use Rattle.papaya_histories.specs.Given.Tables.declared.node.Node.{Node}
 use Rattle.papaya_histories.specs.Given.Tables.declared.setting.Setting.{Setting}
@@ -39,9 +39,7 @@ use Rattle.papaya_histories.specs.Given.Executor.IsAt.{IsAt, Scene, slot_of}
 use Rattle.papaya_histories.specs.Given.Executor.Stepping.{StepLeads}
 use Rattle.papaya_histories.specs.Given.Executor.declared.executor.Executor.{Executor}
 use Rattle.papaya_histories.proofs.Given.Executor.Given.Tables.TableLens.{next-power-most}
-use Rattle.papaya_histories.proofs.Given.Follows.Steps.{one_of}
 use Rattle.papaya_histories.proofs.Given.Late.KindsKept.Rooms.Making.{above}
-use Rattle.papaya_histories.specs.Given.Finishes.Machines.{machine_of}
 use Rattle.papaya_histories.specs.Given.Finishes.Maps.{Standing}
 use Rattle.papaya_histories.specs.Given.Moments.Whole.{ShowsWhole}
 use Rattle.papaya_finds.specs.Capacities.{ShowsCapacities}
@@ -52,7 +50,7 @@ use Rattle.papaya_purposes.proofs.RoomFacts.{room_setting}
 use Rattle.papaya_purposes.proofs.RoomSteps.{counts_then}
 use Rattle.papaya_legal.specs.Limits.{HasLimit, IsAtLimit, NeedsMore, ShowsLimits}
 use Rattle.papaya_legal.proofs.Limits.Steps.{refused_for}
-use Rattle.papaya_legal.proofs.Limits.Walk.{SummedAt, SummedIn, WhyOf}
+use Rattle.papaya_legal.proofs.Limits.Walk.{SummedAt}
 
 -- Where pairs need more places than a table can have, they are too many.
 module _ (count additional : ℕ) where

@@ -1,6 +1,6 @@
 -- What a call finds where it may be refused for the length of a table: none is linked behind the last one of its map, by the points of each kind of call.
 use Rattle.std.specs.Prelude.{◌≡◌, ◌⊎◌, ◌≤◌, ◌<◌, ◌^◌, ℕ, Bool, true, false, cond, Some}
-use Rattle.std.proofs.Common.{refl, sym, subst, inl, inr}
+use Rattle.std.proofs.Common.{sym, subst, inl, inr}
 use Rattle.papaya_histories.specs.Given.SeizeWords.Mem.{Mem, Took, value_at}
 use Rattle.papaya_histories.specs.Given.SeizeWords.Plan.{Steps}
 use Rattle.papaya_histories.specs.Given.Seize.World.{World}
@@ -34,7 +34,7 @@ use Rattle.papaya_histories.specs.Given.Points.FactsCopiesBlocking.{CopierFactsB
 use Rattle.papaya_histories.specs.Given.Points.Told.{IsRowOfCall, IsRowOfCopier}
 use Rattle.papaya_histories.specs.Given.Late.Ends.{EndsInCalling, EndsInCopying, EndsInReserving, EndsInSweeping, EndsSo, IsLastWhereNone}
 use Rattle.papaya_histories.specs.Given.Late.FactsReserves.{CopiesWhole, IsEnding, ReservingFacts}
-use Rattle.papaya_histories.specs.Given.Late.FactsSweeps.{CopiesTable, SweepingFacts}
+use Rattle.papaya_histories.specs.Given.Late.FactsSweeps.{SweepingFacts}
 use Rattle.papaya_histories.specs.Given.Late.LateCalls.{LateCalling}
 use Rattle.papaya_histories.specs.Given.Late.LateCopies.{LateCopying}
 use Rattle.papaya_histories.specs.Given.Late.LateReserves.{LateReserving}

@@ -1,8 +1,8 @@
 -- A step of a call writes no root, or leaves it where it is to be refused for nothing, and is to put no table behind another one.
-use Rattle.std.specs.Prelude.{◌≡◌, ◌⊎◌, ◌+◌, ◌%◌, ◌^◌, ℕ, Bool, Ok, Err}
-use Rattle.std.proofs.Common.{refl, ap, sym, subst, ◌∙◌, inl, inr}
+use Rattle.std.specs.Prelude.{◌≡◌, ◌⊎◌, ℕ, Bool, Ok, Err}
+use Rattle.std.proofs.Common.{refl, sym, subst, inl, inr}
 use Rattle.papaya_histories.specs.Given.SeizeWords.Mem.{Mem}
-use Rattle.papaya_histories.specs.Given.SeizeWords.Op.{Exchange, Exchanged, Found, Made, Out, Roomed, Stored, Taken}
+use Rattle.papaya_histories.specs.Given.SeizeWords.Op.{Exchanged, Found, Made, Roomed, Stored, Taken}
 use Rattle.papaya_histories.specs.Given.SeizeWords.Plan.{Plan}
 use Rattle.papaya_histories.specs.Given.SeizeWords.declared.fault.Fault.{Fault}
 use Rattle.papaya_histories.specs.Given.Seize.declared.progress.Progress.{Progress as Counting}
@@ -20,7 +20,6 @@ use Rattle.papaya_histories.specs.Given.Resize.declared.copier.Copying.TheVarian
 use Rattle.papaya_histories.specs.Given.Resize.declared.new_table.Making.TheVariants as makes
 use Rattle.papaya_histories.specs.Given.Resize.declared.new_table.NewTable.{NewTable}
 use Rattle.papaya_histories.specs.Given.Resize.declared.outcome.Outcome.{Outcome}
-use Rattle.papaya_histories.specs.Given.Resize.declared.sum.Sum.{Sum}
 use Rattle.papaya_histories.specs.Given.Reserves.Reserve as reserves
 use Rattle.papaya_histories.specs.Given.Reserves.Reserve.{reserve_plan}
 use Rattle.papaya_histories.specs.Given.Reserves.declared.reserve.Reserve.{Reserve}
@@ -43,7 +42,7 @@ use Rattle.papaya_histories.specs.Given.Raw.declared.machines.call.KeyCall.{KeyC
 use Rattle.papaya_histories.specs.Given.Raw.declared.machines.machine.Machine.{Machine}
 use Rattle.papaya_histories.specs.Given.Raw.declared.machines.machine.Machine.TheVariants as kinds
 use Rattle.papaya_histories.specs.Given.Raw.declared.machines.progress.Progress.{Progress}
-use Rattle.papaya_histories.specs.Given.Teller.Tells.{StepsTold, told_of}
+use Rattle.papaya_histories.specs.Given.Teller.Tells.{StepsTold}
 use Rattle.papaya_histories.specs.Given.Teller.declared.changed.Changed.{Changed}
 use Rattle.papaya_histories.specs.Given.Teller.declared.changed.Changed.TheVariants as changed
 use Rattle.papaya_histories.specs.Given.Late.Ends.{EndsInCalling, EndsInCopying, EndsInSweeping}

@@ -1,12 +1,12 @@
 -- A step of a call: where it can have no further table after it, one of its map's is at the limit, or was; and what it is refused for.
-use Rattle.std.specs.Prelude.{◌≡◌, ◌≢◌, ◌⊎◌, ◌≤◌, ◌^◌, nat_le, ℕ, Bool, true, false, List, Option, Some, None, Result, Ok, Err, IfOk}
-use Rattle.std.proofs.Common.{refl, ap, sym, subst, ◌∙◌, inl, inr, arith}
+use Rattle.std.specs.Prelude.{◌≡◌, ◌⊎◌, ◌≤◌, ◌^◌, ℕ, Bool, false, List, Option, Some, Result, Ok, Err, IfOk}
+use Rattle.std.proofs.Common.{refl, sym, subst, ◌∙◌, inl, inr, arith}
 use Rattle.papaya_histories.specs.Given.SeizeWords.Mem.{Mem}
 use Rattle.papaya_histories.specs.Given.SeizeWords.Plan.{Steps}
 use Rattle.papaya_histories.specs.Given.SeizeWords.Mem.{Took, value_at}
 use Rattle.papaya_histories.specs.Given.SeizeWords.declared.fault.Fault.{Fault}
 use Rattle.papaya_histories.specs.Given.SeizeWords.declared.fault.Fault.TheVariants.{Capacity}
-use Rattle.papaya_histories.specs.Given.Tables.Lengths.{CannotBeFollowed, IsTableLen, entries_of, places_for}
+use Rattle.papaya_histories.specs.Given.Tables.Lengths.{entries_of, places_for}
 use Rattle.papaya_histories.specs.Given.Tables.Powers.{next_power}
 use Rattle.papaya_histories.specs.Given.Tables.declared.node.Node.{Node}
 use Rattle.papaya_histories.specs.Given.Raw.Machine.{machine_plan}
@@ -35,7 +35,7 @@ use Rattle.papaya_histories.specs.Given.Finishes.Maps.{Standing}
 use Rattle.papaya_histories.proofs.Given.Follows.Steps.{WentTo, went_to}
 use Rattle.papaya_histories.specs.Given.Moments.Whole.{ShowsWhole}
 use Rattle.papaya_finds.specs.Capacities.{ShowsCapacities}
-use Rattle.papaya_legal.specs.Limits.{HadLimit, HasLimit, IsAtLimit, MachineEnds, OthersHadLimit, SaysFor, ShowsLimits}
+use Rattle.papaya_legal.specs.Limits.{HasLimit, MachineEnds, OthersHadLimit, SaysFor, ShowsLimits}
 use Rattle.papaya_legal.proofs.Finding.Making.Unpromoted.{OffRoot, off_promotes_none}
 use Rattle.papaya_legal.proofs.Limits.Chain.{effects_keep_limit, limit_where}
 use Rattle.papaya_legal.proofs.Limits.Last.{LastIsFor, limit_there}

@@ -1,15 +1,12 @@
 -- A step of a call is refused for the length of a table as that was to be, whichever kind of call it is; and so is one that goes on by a reply, or as it is asked for its next pair.
 use Rattle.std.specs.Prelude.{◌≡◌, ◌⊎◌, ◌≤◌, ◌<◌, ◌^◌, ℕ, Bool, true, false, nat_lt, if◌then◌else◌}
-use Rattle.std.proofs.Common.{refl, sym, subst, inl, inr, arith}
-use Rattle.papaya_histories.specs.Given.SeizeWords.Mem.{Mem, Took, value_at, word_at}
-use Rattle.papaya_histories.specs.Given.SeizeWords.Plan.{Plan, Steps}
-use Rattle.papaya_histories.specs.Given.SeizeWords.declared.fault.Fault.{Fault}
+use Rattle.std.proofs.Common.{refl, sym, subst, inl, inr}
+use Rattle.papaya_histories.specs.Given.SeizeWords.Mem.{Mem, Took, value_at}
+use Rattle.papaya_histories.specs.Given.SeizeWords.Plan.{Steps}
 use Rattle.papaya_histories.specs.Given.SeizeWords.declared.fault.Fault.TheVariants.{Capacity, Memory}
 use Rattle.papaya_histories.proofs.Given.SeizeRule.Rows.Leaving.{steps_back}
 use Rattle.papaya_histories.specs.Given.Seize.declared.progress.Progress.{Progress as Counting}
 use Rattle.papaya_histories.specs.Given.Seize.declared.progress.Progress.TheVariants as counting
-use Rattle.papaya_histories.specs.Given.Tables.Lengths.{NoneFollows}
-use Rattle.papaya_histories.specs.Given.Tables.declared.lengths.Reason.{Reason}
 use Rattle.papaya_histories.specs.Given.Tables.declared.node.Node.{Node}
 use Rattle.papaya_histories.specs.Given.Tables.declared.setting.Setting.{Setting}
 use Rattle.papaya_histories.specs.Given.Tables.declared.table.Table.{Table}
@@ -22,7 +19,6 @@ use Rattle.papaya_histories.specs.Given.Reserves.declared.reserve.Reserve.{Reser
 use Rattle.papaya_histories.specs.Given.Reserves.declared.reserve.Reserving.{Reserving}
 use Rattle.papaya_histories.specs.Given.Reserves.declared.reserve.Reserving.TheVariants as reserving
 use Rattle.papaya_histories.specs.Given.Sweeps.Sweep.{sweep_plan}
-use Rattle.papaya_histories.specs.Given.Sweeps.SweepPoints.{after_next, after_reply}
 use Rattle.papaya_histories.specs.Given.Sweeps.declared.sweep.Sweep.{Sweep}
 use Rattle.papaya_histories.specs.Given.Sweeps.declared.sweep.Sweeping.{Sweeping}
 use Rattle.papaya_histories.specs.Given.Sweeps.declared.sweep.Sweeping.TheVariants as sweeping
@@ -38,11 +34,10 @@ use Rattle.papaya_histories.specs.Given.Raw.declared.machines.call.KeyCall.{KeyC
 use Rattle.papaya_histories.specs.Given.Raw.declared.machines.machine.Machine.{Machine}
 use Rattle.papaya_histories.specs.Given.Raw.declared.machines.machine.Machine.TheVariants as kinds
 use Rattle.papaya_histories.specs.Given.Raw.declared.machines.progress.Progress.{Progress}
-use Rattle.papaya_histories.specs.Given.Raw.declared.machines.progress.Progress.TheVariants as progress
 use Rattle.papaya_histories.proofs.Given.Rule.Keys.Always.{always_steps}
 use Rattle.papaya_histories.specs.Given.Executor.Stepping.{has_ended}
 use Rattle.papaya_histories.specs.Given.Late.Ends.{EndsInCalling, EndsInReserving, EndsInSweeping, EndsSo}
-use Rattle.papaya_histories.specs.Given.Late.Faults.{CallRefusesSo, RefusesSo, StandsInSweeping, SweepRefusesSo}
+use Rattle.papaya_histories.specs.Given.Late.Faults.{RefusesSo, StandsInSweeping, SweepRefusesSo}
 use Rattle.papaya_histories.proofs.Given.Executor.Given.Tables.Ends.{only_the_last_ends}
 use Rattle.papaya_histories.proofs.Given.Late.KindsKept.Rooms.Asks.{reserve_asks}
 use Rattle.papaya_histories.proofs.Given.Late.KindsKept.Rooms.Bound.{Keeps, calling_on, reserving_on, sweeping_on}
