@@ -50,11 +50,11 @@ refused_said by kind value (progress.Pair word) fault is = absurd (cc is)
 refused_said by kind value (progress.Done answer) fault is = absurd (cc is)
 
 -- whatever else it comes to, there is nothing to say
-in_case_where : {K V : Type 0} (terms : Terms) (c : CallThere K V) (moments : List (Moment K V)) (now : Moment K V) (o : Outcome V) → (o ≡ Refused Capacity → IsInCase terms c moments now (Refused Capacity)) → IsInCase terms c moments now o
+pub in_case_where : {K V : Type 0} (terms : Terms) (c : CallThere K V) (moments : List (Moment K V)) (now : Moment K V) (o : Outcome V) → (o ≡ Refused Capacity → IsInCase terms c moments now (Refused Capacity)) → IsInCase terms c moments now o
 in_case_where terms c moments now (Refused Capacity) so = so refl
 in_case_where terms c moments now _ so = tt
 
-if_call : {K V : Type 0} (P : CallThere K V → Type 0) (o : Option (CallThere K V)) → ((d : CallThere K V) → o ≡ Some d → P d) → IfCall P o
+pub if_call : {K V : Type 0} (P : CallThere K V → Type 0) (o : Option (CallThere K V)) → ((d : CallThere K V) → o ≡ Some d → P d) → IfCall P o
 if_call P None so = tt
 if_call P (Some d) so = so d refl
 
