@@ -53,6 +53,7 @@ use Rattle.papaya_lives.proofs.Lying.{others_leave_lying}
 use Rattle.papaya_lives.proofs.Order.{others_leave_order}
 use Rattle.papaya_lives.proofs.Reclaimed.{others_leave_retired}
 use Rattle.papaya_lives.proofs.Waiting.{others_leave_waiting}
+use Rattle.papaya_waits.specs.Others.{copier_in, copier_in_room, copier_in_sweep, copier_of}
 use Rattle.papaya_kept.proofs.Ends.{calls_begin_ends, calls_take_ends, walks_go_on_ends, walks_stop_ends}
 use Rattle.papaya_kept.specs.Steps.{CallsBeginKept, CallsTakeKept, WalksGoOnKept, WalksStopKept}
 
@@ -76,6 +77,25 @@ module _ (K V : Type 0) (same : K → K → Bool) where
   uncounted_at_first standing i (ForRoom r) begins = refl
   uncounted_at_first standing i (Counting sum) begins = refl
   uncounted_at_first standing i (OverAll o) begins = subst (λ (x : CallOverAll). counts_in_sweeping x.sweep.stands ≡ false) (sym begins.1) refl
+
+  -- it copies nothing yet
+  key_copies_none : (hash : K → ℕ) (setting : Setting) (slot : ℕ → ℕ) (i : ℕ) (keys : K → Bool) (given : Given K V) (call : KeyCall K V K)
+      → IsBegun V same hash same setting slot i keys given call → copier_in call.stands ≡ None
+  key_copies_none hash setting slot i keys given call (Gets q code few class) = refl
+  key_copies_none hash setting slot i keys given call (Removes q code few class) = refl
+  key_copies_none hash setting slot i keys given call (Inserts key value) = refl
+  key_copies_none hash setting slot i keys given call (TriesToInsert key value) = refl
+  key_copies_none hash setting slot i keys given call (Computes key) = refl
+  key_copies_none hash setting slot i keys given call (Updates key) = refl
+  key_copies_none hash setting slot i keys given call (UpdatesOrInserts key absent) = refl
+  key_copies_none hash setting slot i keys given call (TriesToInsertWith key) = refl
+  key_copies_none hash setting slot i keys given call (RemovesIf q code few class) = refl
+
+  copies_none_at_first : (standing : Standing K) (i : ℕ) (u : UnderWay K V K) → Begins same standing i u → copier_of u ≡ None
+  copies_none_at_first standing i (OnKey u) begins = key_copies_none standing.hash standing.setting slot_of i u.keys u.pair u.call begins.0
+  copies_none_at_first standing i (ForRoom r) begins = subst (λ (x : CallForRoom). copier_in_room x.reserve.stands ≡ None) (sym begins.1) refl
+  copies_none_at_first standing i (Counting sum) begins = refl
+  copies_none_at_first standing i (OverAll o) begins = subst (λ (x : CallOverAll). copier_in_sweep x.sweep.stands ≡ None) (sym begins.1) refl
 
   -- it has no block of its own
   owns_at_first : (standing : Standing K) (i : ℕ) (u : UnderWay K V K) → AreLawful same standing.hash → Begins same standing i u → OwnsSo (machine_of u)
@@ -189,7 +209,7 @@ module _ (K V S : Type 0) (same : K → K → Bool) (hash : K → ℕ) where
     retired = others_leave_retired K V m v known s (scene_with map i u s) kept.retired refl refl (calls_stay s map i (Some u) (λ is. absurd (cc is)));
     left = others_keep_left K V known s (scene_with map i u s) kept.left refl refl;
     handed = others_leave_handed K V m v known s (scene_with map i u s) kept.handed refl refl refl refl (calls_stay s map i (Some u) (λ is. absurd (cc is)));
-    ends = calls_begin_ends s kept.ends map i name none u;
+    ends = calls_begin_ends s kept.ends map i name none u (copies_none_at_first K V same standing i u begins);
   }
     where
       v : Moment K V

@@ -1,7 +1,15 @@
 -- That each copying that is not over has who ends it, after each step of a call, of its row, too.
 use Rattle.std.specs.Prelude.{Bool, true, List, Option, Some}
 use Rattle.std.specs.Int.{IsPowerOfTwo}
-use Rattle.std.proofs.Common.{◌≡◌, ℕ, inl, inr, refl, ap, sym, subst, ◌∙◌}
+use Rattle.std.proofs.Common.{◌≡◌, ℕ, inl, inr, refl, ap, sym, subst, ◌∙◌, false}
+use Rattle.papaya_waits.specs.Others.{HaveEnds, copier_in, copier_in_room, copier_in_sweep}
+use Rattle.papaya_waits.proofs.CallsEnd.{calls_keep_ends}
+use Rattle.papaya_waits.proofs.EndingCalls.{copier_then}
+use Rattle.papaya_waits.proofs.RoomsEnd.{rooms_keep_ends, sweeps_keep_ends}
+use Rattle.papaya_waiters.specs.Blocking.{HaveEndsBlocking}
+use Rattle.papaya_waiters.proofs.Likes.{IsFreshCopier, IsIdleAt, IsIdleCopier}
+use Rattle.papaya_waiters.proofs.RowsFresh.{key_row_fresh, room_row_fresh, sweep_row_fresh}
+use Rattle.papaya_waiters.proofs.Calls.{calls_keep_ends_blocking, rooms_keep_ends_blocking, sweeps_keep_ends_blocking}
 use Rattle.papaya_histories.specs.Given.SeizeWords.Mem.{Mem, Took, value_at}
 use Rattle.papaya_histories.specs.Given.SeizeWords.Plan.{Steps}
 use Rattle.papaya_histories.specs.Given.Seize.World.{with_at}
@@ -42,7 +50,7 @@ use Rattle.papaya_histories.specs.Given.Teller.declared.changed.Changed.TheVaria
 use Rattle.papaya_histories.specs.Given.Callers.OverAll.{CallOverAll}
 use Rattle.papaya_histories.specs.Given.Callers.Rooms.{CallForRoom}
 use Rattle.papaya_histories.specs.Given.Callers.Sights.{Sight}
-use Rattle.papaya_histories.specs.Given.Callers.Together.{CallOnKey, UnderWay, OnKey, ForRoom, Counting, OverAll, Together}
+use Rattle.papaya_histories.specs.Given.Callers.Together.{CallOnKey, UnderWay, OnKey, ForRoom, Counting, OverAll, Together, next_of_counting}
 use Rattle.papaya_histories.proofs.Given.Callers.Together.At.{at_same, at_other}
 use Rattle.papaya_histories.specs.Given.Effects.Known.{Known}
 use Rattle.papaya_histories.specs.Given.Executor.IsAt.{Scene, IsAt, slot_of}
@@ -56,32 +64,37 @@ use Rattle.papaya_histories.proofs.Given.Others.Outcomes.{told_in}
 use Rattle.papaya_histories.specs.Given.Schedules.Moment.{Moment}
 use Rattle.papaya_settles.proofs.Keys.{steps as key_told}
 use Rattle.papaya_settles.proofs.Rest.{steps as sweep_told}
-use Rattle.papaya_waits.specs.Others.{HaveEnds, copier_in, copier_in_room, copier_in_sweep}
-use Rattle.papaya_waits.proofs.CallsEnd.{calls_keep_ends}
-use Rattle.papaya_waits.proofs.EndingCalls.{copier_then}
-use Rattle.papaya_waits.proofs.RoomsEnd.{rooms_keep_ends, sweeps_keep_ends}
-use Rattle.papaya_kept.specs.Ends.{ShowsEnds}
-use Rattle.papaya_kept.proofs.Ends.{IsLike, IsNoEnd, IsNoEndAt, StoodSo, call_goes, like_keeps, stood_ends, stood_so}
+use Rattle.papaya_kept.specs.Ends.{HaveEndsIn, ShowsEnds}
+use Rattle.papaya_kept.proofs.Ends.{StoodSo, call_goes, idle_keeps, stood_ends, stood_so}
+use Rattle.papaya_histories.specs.Given.Seize.declared.progress.Progress.{Progress as CountGoes}
+use Rattle.papaya_histories.specs.Given.Seize.declared.progress.Progress.TheVariants as progress
+use Rattle.papaya_histories.specs.Given.Tables.declared.setting.Setting.{Setting}
 
 -- at a row no call is to end a copying
-row_point : (stands : Point) → IsRowOfCopier stands → IsNoEndAt stands
+row_point : (stands : Point) → IsRowOfCopier stands → IsIdleAt stands
 row_point (copies.Retires settle rest) row = tt
 row_point _ row = absurd row
 
-row_of_call : (stands : Calling) → IsRowOfCall stands → IsNoEnd (copier_in stands)
+row_of_call : (stands : Calling) → IsRowOfCall stands → IsIdleCopier (copier_in stands)
 row_of_call (at.Disposes dispose answer) row = tt
 row_of_call (at.Helps copier goal) row = row_point copier.stands row
 row_of_call (at.Copies copier) row = row_point copier.stands row
 row_of_call _ row = absurd row
 
-row_of_room : (stands : Reserving) → IsRowOfReserve stands → IsNoEnd (copier_in_room stands)
+row_of_room : (stands : Reserving) → IsRowOfReserve stands → IsIdleCopier (copier_in_room stands)
 row_of_room (reserves.Copies copier) row = row_point copier.stands row
 row_of_room _ row = absurd row
 
-row_of_sweep : (stands : Sweeping) → IsRowOfSweep stands → IsNoEnd (copier_in_sweep stands)
+row_of_sweep : (stands : Sweeping) → IsRowOfSweep stands → IsIdleCopier (copier_in_sweep stands)
 row_of_sweep (sweeps.Copies copier) row = row_point copier.stands row
 row_of_sweep (sweeps.Disposes dispose) row = tt
 row_of_sweep _ row = absurd row
+
+-- a counting copies nothing
+count_fresh : (K V : Type 0) (sum : Sum) (end : CountGoes ℕ) → IsFreshCopier (copier_then (next_of_counting {K = K} {V = V} {Q = K} sum end))
+count_fresh K V sum (progress.Done count) = tt
+count_fresh K V sum (progress.Refused fault) = tt
+count_fresh K V sum _ = tt
 
 -- what a reservation says of how far it is, it says in one way
 same_outcome : {T : Type 0} (a b : Outcome T Unit) → of_outcome a ≡ of_outcome b → a ≡ b
@@ -113,7 +126,7 @@ module _ {K V S : Type 0} (same : K → K → Bool) (hash : K → ℕ) (name : �
     -- its map has moved on, and each other one is as it was
     moved : (chart : Chart K) (blocks : Blocks) (sights : ℕ → Sight) (it : Option (UnderWay K V K))
         → to.4.maps2 ≡ with_at s.maps map (Some (record to.0 { chart = chart; blocks = blocks; sights = sights })) → to.4.next ≡ it
-        → (is_incremental to.0.setting.mode ≡ true → HaveEnds chart (with_at (s.calls map) i it)) → ShowsEnds led
+        → HaveEndsIn (is_incremental to.0.setting.mode) chart (with_at (s.calls map) i it) → ShowsEnds led
     moved chart blocks sights it maps next own = call_goes s ends led map i to.4.next refl others its
       where
         after : Standing K
@@ -122,22 +135,38 @@ module _ {K V S : Type 0} (same : K → K → Bool) (hash : K → ℕ) (name : �
         others : (n : ℕ) (st : Standing K) → (n ≡ map → ⊥) → to.4.maps2 n ≡ Some st → StoodSo (s.maps n) st
         others n st ne is = (st, sym (at_other s.maps map (Some after) n ne) ∙ sym (ap (λ (f : ℕ → Option (Standing K)). f n) maps) ∙ is, refl, refl)
 
-        its : (st : Standing K) → to.4.maps2 map ≡ Some st → is_incremental st.setting.mode ≡ true → HaveEnds st.chart (with_at (s.calls map) i to.4.next)
-        its st is mode =
+        its : (st : Standing K) → to.4.maps2 map ≡ Some st → HaveEndsIn (is_incremental st.setting.mode) st.chart (with_at (s.calls map) i to.4.next)
+        its st is =
             let one : st ≡ after = one_of st after (sym is ∙ ap (λ (f : ℕ → Option (Standing K)). f map) maps ∙ at_same s.maps map (Some after) map refl) in
-            subst (λ (o : Option (UnderWay K V K)). HaveEnds st.chart (with_at (s.calls map) i o)) (sym next)
-            (subst (λ (x : Standing K). HaveEnds x.chart (with_at (s.calls map) i it)) (sym one) (own (sym (ap (λ (x : Standing K). is_incremental x.setting.mode) one) ∙ mode)))
+            subst (λ (o : Option (UnderWay K V K)). HaveEndsIn (is_incremental st.setting.mode) st.chart (with_at (s.calls map) i o)) (sym next)
+            (subst (λ (x : Standing K). HaveEndsIn (is_incremental x.setting.mode) x.chart (with_at (s.calls map) i it)) (sym one) own)
 
     -- each map is as it was
-    stayed : (it : Option (UnderWay K V K)) → ((n : ℕ) → IsSameMap (s.maps n) (to.4.maps2 n)) → to.4.next ≡ it → IsNoEnd (copier_then (Some u)) → ShowsEnds led
-    stayed it same_maps next none = call_goes s ends led map i to.4.next refl (λ n st ne is. stood_so (s.maps n) (to.4.maps2 n) (same_maps n) st is) its
+    stayed : (it : Option (UnderWay K V K)) → ((n : ℕ) → IsSameMap (s.maps n) (to.4.maps2 n)) → to.4.next ≡ it → IsIdleCopier (copier_then (Some u))
+        → (is_incremental to.0.setting.mode ≡ false → IsFreshCopier (copier_then it)) → ShowsEnds led
+    stayed it same_maps next idle fresh = call_goes s ends led map i to.4.next refl (λ n st ne is. stood_so (s.maps n) (to.4.maps2 n) (same_maps n) st is) its
       where
-        like : IsLike (copier_then to.4.next) (copier_then (s.calls map i))
-        like = inr (subst (λ (o : Option (UnderWay K V K)). IsNoEnd (copier_then o)) (sym here) none)
+        its : (st : Standing K) → to.4.maps2 map ≡ Some st → HaveEndsIn (is_incremental st.setting.mode) st.chart (with_at (s.calls map) i to.4.next)
+        its st is =
+            let stood = stood_so (s.maps map) (to.4.maps2 map) (same_maps map) st is in
+            let one : stood.0 ≡ to.0 = one_of stood.0 to.0 (sym stood.1 ∙ to.2) in
+            let same_setting : st.setting ≡ to.0.setting = stood.3 ∙ ap (λ (x : Standing K). x.setting) one in
+            idle_keeps (is_incremental st.setting.mode) st.chart (s.calls map) i to.4.next (stood_ends s ends map st stood)
+            (subst (λ (o : Option (UnderWay K V K)). IsIdleCopier (copier_then o)) (sym here) idle)
+            (λ blocking. subst (λ (o : Option (UnderWay K V K)). IsFreshCopier (copier_then o)) (sym next) (fresh (sym (ap (λ (x : Setting). is_incremental x.mode) same_setting) ∙ blocking)))
 
-        its : (st : Standing K) → to.4.maps2 map ≡ Some st → is_incremental st.setting.mode ≡ true → HaveEnds st.chart (with_at (s.calls map) i to.4.next)
-        its st is mode =
-            like_keeps st.chart (s.calls map) i to.4.next (stood_ends s ends map st (stood_so (s.maps map) (to.4.maps2 map) (same_maps map) st is) mode) like
+    -- in blocking mode
+    at_once : is_incremental to.0.setting.mode ≡ false → HaveEndsBlocking to.0.chart (s.calls map)
+    at_once blocking = subst (λ (b : Bool). HaveEndsIn b to.0.chart (s.calls map)) blocking (ends map to.0 to.2)
+
+    -- in the mode of the map
+    in_mode : (c : Chart K) (calls : ℕ → Option (UnderWay K V K)) → (is_incremental to.0.setting.mode ≡ true → HaveEnds to.0.chart (s.calls map) → HaveEnds c calls)
+        → (is_incremental to.0.setting.mode ≡ false → HaveEndsBlocking to.0.chart (s.calls map) → HaveEndsBlocking c calls) → HaveEndsIn (is_incremental to.0.setting.mode) c calls
+    in_mode c calls chunks blocking = by (is_incremental to.0.setting.mode) refl (ends map to.0 to.2)
+      where
+        by : (b : Bool) → is_incremental to.0.setting.mode ≡ b → HaveEndsIn b to.0.chart (s.calls map) → HaveEndsIn b c calls
+        by true is had = chunks is had
+        by false is had = blocking is had
 
   -- a call on one key
   module _ (x : CallOnKey K V K) (here : s.calls map i ≡ Some (OnKey x)) where
@@ -153,9 +182,16 @@ module _ {K V S : Type 0} (same : K → K → Bool) (hash : K → ℕ) (name : �
     key_ends (p2, end, machine_is, told_is, inl (step, went)) =
         let st : Standing K = (to (OnKey x) here).0 in
         moved (OnKey x) here step.step.went.c2 step.step.blocks2 step.step.sights2 _ went.1 went.2
-        (λ mode. calls_keep_ends V same st.hash same st.setting slot_of (lawful (OnKey x) here) (power (OnKey x) here) mode s.world st.chart st.blocks st.sights (s.calls map)
-        (together (OnKey x) here) (ends map st (to (OnKey x) here).2 mode) i x here step.no_row new.memory.memory p2 end (key_steps p2 end machine_is told_is) step.step)
-    key_ends (p2, end, machine_is, told_is, inr (row, still)) = stayed (OnKey x) here _ still.1 still.2 (row_of_call x.call.stands row.is_row)
+        (in_mode (OnKey x) here step.step.went.c2 _
+        (λ mode had. calls_keep_ends V same st.hash same st.setting slot_of (lawful (OnKey x) here) (power (OnKey x) here) mode s.world st.chart st.blocks st.sights (s.calls map)
+        (together (OnKey x) here) had i x here step.no_row new.memory.memory p2 end (key_steps p2 end machine_is told_is) step.step)
+        (λ mode had. calls_keep_ends_blocking V same st.hash same st.setting slot_of (lawful (OnKey x) here) (power (OnKey x) here) mode s.world st.chart st.blocks st.sights (s.calls map)
+        (together (OnKey x) here) had i x here step.no_row new.memory.memory p2 end (key_steps p2 end machine_is told_is) step.step))
+    key_ends (p2, end, machine_is, told_is, inr (row, still)) =
+        let st : Standing K = (to (OnKey x) here).0 in
+        stayed (OnKey x) here _ still.1 still.2 (row_of_call x.call.stands row.is_row)
+        (λ mode. key_row_fresh V same st.hash same st.setting slot_of mode s.world st.chart st.blocks st.sights (s.calls map) (together (OnKey x) here) (at_once (OnKey x) here mode) i
+        new.memory.memory x here row.is_row p2 end (key_steps p2 end machine_is told_is) x)
 
   -- a reservation
   module _ (x : CallForRoom) (here : s.calls map i ≡ Some (ForRoom x)) where
@@ -183,9 +219,16 @@ module _ {K V S : Type 0} (same : K → K → Bool) (hash : K → ℕ) (name : �
     room_ends (p2, end, machine_is, told_is, inl (step, went)) =
         let st : Standing K = (to (ForRoom x) here).0 in
         moved (ForRoom x) here step.step.went.c2 step.step.blocks2 step.step.sights2 _ went.1 went.2
-        (λ mode. rooms_keep_ends V same st.hash same st.setting slot_of (lawful (ForRoom x) here) (power (ForRoom x) here) mode s.world st.chart st.blocks st.sights (s.calls map)
-        (together (ForRoom x) here) (ends map st (to (ForRoom x) here).2 mode) i x here step.no_row new.memory.memory p2 end (room_steps p2 end machine_is told_is) step.step)
-    room_ends (p2, end, machine_is, told_is, inr (row, still)) = stayed (ForRoom x) here _ still.1 still.2 (row_of_room x.reserve.stands row.is_row)
+        (in_mode (ForRoom x) here step.step.went.c2 _
+        (λ mode had. rooms_keep_ends V same st.hash same st.setting slot_of (lawful (ForRoom x) here) (power (ForRoom x) here) mode s.world st.chart st.blocks st.sights (s.calls map)
+        (together (ForRoom x) here) had i x here step.no_row new.memory.memory p2 end (room_steps p2 end machine_is told_is) step.step)
+        (λ mode had. rooms_keep_ends_blocking V same st.hash same st.setting slot_of (lawful (ForRoom x) here) (power (ForRoom x) here) mode s.world st.chart st.blocks st.sights (s.calls map)
+        (together (ForRoom x) here) had i x here step.no_row new.memory.memory p2 end (room_steps p2 end machine_is told_is) step.step))
+    room_ends (p2, end, machine_is, told_is, inr (row, still)) =
+        let st : Standing K = (to (ForRoom x) here).0 in
+        stayed (ForRoom x) here _ still.1 still.2 (row_of_room x.reserve.stands row.is_row)
+        (λ mode. room_row_fresh V same st.hash same st.setting slot_of mode s.world st.chart st.blocks st.sights (s.calls map) (together (ForRoom x) here) (at_once (ForRoom x) here mode) i
+        new.memory.memory x here row.is_row p2 end (room_steps p2 end machine_is told_is))
 
   -- a sweep
   module _ (x : CallOverAll) (here : s.calls map i ≡ Some (OverAll x)) where
@@ -201,14 +244,21 @@ module _ {K V S : Type 0} (same : K → K → Bool) (hash : K → ℕ) (name : �
     sweep_ends (p2, end, machine_is, told_is, inl (step, went)) =
         let st : Standing K = (to (OverAll x) here).0 in
         moved (OverAll x) here step.step.went.c2 step.step.blocks2 step.step.sights2 _ went.1 went.2
-        (λ mode. sweeps_keep_ends V same st.hash same st.setting slot_of (lawful (OverAll x) here) (power (OverAll x) here) mode s.world st.chart st.blocks st.sights (s.calls map)
-        (together (OverAll x) here) (ends map st (to (OverAll x) here).2 mode) i x here step.no_row new.memory.memory p2 end (sweep_steps p2 end machine_is told_is) step.step)
-    sweep_ends (p2, end, machine_is, told_is, inr (row, still)) = stayed (OverAll x) here _ still.1 still.2 (row_of_sweep x.sweep.stands row.is_row)
+        (in_mode (OverAll x) here step.step.went.c2 _
+        (λ mode had. sweeps_keep_ends V same st.hash same st.setting slot_of (lawful (OverAll x) here) (power (OverAll x) here) mode s.world st.chart st.blocks st.sights (s.calls map)
+        (together (OverAll x) here) had i x here step.no_row new.memory.memory p2 end (sweep_steps p2 end machine_is told_is) step.step)
+        (λ mode had. sweeps_keep_ends_blocking V same st.hash same st.setting slot_of (lawful (OverAll x) here) (power (OverAll x) here) mode s.world st.chart st.blocks st.sights (s.calls map)
+        (together (OverAll x) here) had i x here step.no_row new.memory.memory p2 end (sweep_steps p2 end machine_is told_is) step.step))
+    sweep_ends (p2, end, machine_is, told_is, inr (row, still)) =
+        let st : Standing K = (to (OverAll x) here).0 in
+        stayed (OverAll x) here _ still.1 still.2 (row_of_sweep x.sweep.stands row.is_row)
+        (λ mode. sweep_row_fresh V same st.hash same st.setting slot_of mode s.world st.chart st.blocks st.sights (s.calls map) (together (OverAll x) here) (at_once (OverAll x) here mode) i
+        new.memory.memory x here row.is_row p2 end (sweep_steps p2 end machine_is told_is) x.entered x.done)
 
   -- a counting
   count_ends : (x : Sum) (here : s.calls map i ≡ Some (Counting x)) → DidSo same hash name m known s old new at_old shown map i (Counting x) here said leads (Counting x)
       → ShowsEnds (led (Counting x) here)
-  count_ends x here (sum2, end, machine_is, told_is, memory, still) = stayed (Counting x) here _ still.1 still.2 tt
+  count_ends x here (sum2, end, machine_is, told_is, memory, still) = stayed (Counting x) here _ still.1 still.2 tt (λ mode. count_fresh K V sum2 end)
 
   pub calls_keep_all_ends : (u : UnderWay K V K) (here : s.calls map i ≡ Some u) → ShowsEnds (led u here)
   calls_keep_all_ends (OnKey x) here = key_ends x here (to (OnKey x) here).4.did

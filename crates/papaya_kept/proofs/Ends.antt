@@ -1,7 +1,10 @@
 -- That each copying that is not over has who ends it, beside the steps of calls: before all events, as calls begin, are told and are given up, by rows on slots, and by makings and ends of maps.
-use Rattle.std.specs.Prelude.{Bool, true, false, List, Option, Some, None}
+use Rattle.std.specs.Prelude.{Bool, true, false, List, Option, Some, None, nat_lt, if◌then◌else◌}
 use Rattle.std.proofs.Common.{◌≡◌, ℕ, ◌≤◌, ◌⊎◌, inl, inr, refl, ap, sym, subst, ◌∙◌, arith}
 use Rattle.std.proofs.lemmas.Bool.{cases_eq}
+use Rattle.papaya_waits.specs.Others.{copier_in, copier_in_room, copier_in_sweep, copier_of}
+use Rattle.papaya_waits.proofs.EndingCalls.{AllOrOwn, as_own, copier_then, keeps_still, with_own}
+use Rattle.papaya_waiters.proofs.Likes.{IsFreshCopier, IsIdleCopier, idle_ends, like_keeps_blocking}
 use Rattle.papaya_histories.specs.Given.Seize.declared.rows.settle.Settled.{Settled}
 use Rattle.papaya_histories.specs.Given.Seize.declared.rows.settle.Settled.TheVariants as settled
 use Rattle.papaya_histories.specs.Given.Seize.declared.progress.Progress.{Progress}
@@ -11,8 +14,6 @@ use Rattle.papaya_histories.specs.Given.Tables.Chunks.{is_incremental}
 use Rattle.papaya_histories.specs.Given.Tables.declared.node.Node.{Node}
 use Rattle.papaya_histories.specs.Given.Tables.declared.setting.Setting.{Setting}
 use Rattle.papaya_histories.specs.Given.Resize.declared.copier.Copier.{Copier}
-use Rattle.papaya_histories.specs.Given.Resize.declared.copier.Copying.{Copying as Point}
-use Rattle.papaya_histories.specs.Given.Resize.declared.copier.Copying.TheVariants as copies
 use Rattle.papaya_histories.specs.Given.Resize.declared.new_map.NewMap.{NewMap}
 use Rattle.papaya_histories.specs.Given.Raw.CallAsks.{told_at}
 use Rattle.papaya_histories.specs.Given.Raw.Machine.{is_ready, machine_asked, machine_replied, sweep_told}
@@ -47,38 +48,25 @@ use Rattle.papaya_histories.proofs.Given.Follows.Steps.{one_of}
 use Rattle.papaya_histories.specs.Given.Others.Endings.{ending_after}
 use Rattle.papaya_histories.specs.Given.Others.Makings.{making_after}
 use Rattle.papaya_histories.specs.Given.Others.Rows.{scene_then}
-use Rattle.papaya_waits.specs.Others.{EndsAt, HaveEnds, copier_in, copier_in_room, copier_in_sweep, copier_of}
-use Rattle.papaya_waits.proofs.EndingCalls.{AllOrOwn, OwnEnds, as_own, copier_then, keeps_still, with_own}
-use Rattle.papaya_kept.specs.Ends.{ShowsEnds}
+use Rattle.papaya_kept.specs.Ends.{HaveEndsIn, ShowsEnds}
+use Rattle.papaya_kept.proofs.ToldFresh.{reply_fresh, told_fresh}
 
--- the copier, if there is one, is not to end its copying
-abbrev pub IsNoEndAt : Point → Type 0
-IsNoEndAt copies.Promotes = ⊥
-IsNoEndAt copies.Announces = ⊥
-IsNoEndAt _ = Unit {0}
+-- a call that is to do nothing for a copying goes on so, in blocking mode as one that begins
+pub idle_keeps : {K V : Type 0} (incremental : Bool) (c : Chart K) (calls : ℕ → Option (UnderWay K V K)) (i : ℕ) (next : Option (UnderWay K V K)) → HaveEndsIn incremental c calls
+    → IsIdleCopier (copier_then (calls i)) → (incremental ≡ false → IsFreshCopier (copier_then next)) → HaveEndsIn incremental c (with_at calls i next)
+idle_keeps true c calls i next ends idle fresh = keeps_still calls i c c next ends (λ t own. idle_ends c t (copier_then (calls i)) idle own)
+idle_keeps false c calls i next ends idle fresh = like_keeps_blocking c calls i next ends (inr (idle, fresh refl))
 
-abbrev pub IsNoEnd : Option Copier → Type 0
-IsNoEnd None = Unit {0}
-IsNoEnd (Some p) = IsNoEndAt p.stands
-
-none_ends : {K : Type 0} (c : Chart K) (t : ℕ) (o : Option Copier) → IsNoEnd o → OwnEnds c o t → ⊥
-none_ends c t None none own = own
-none_ends c t (Some p) none own = by p.stands none own
-  where
-    by : (stands : Point) → IsNoEndAt stands → EndsAt c p stands t → ⊥
-    by copies.Promotes none own = none
-    by copies.Announces none own = none
-    by _ none own = own
-
--- a call goes on within the copier within which it stood, or was not to end a copying
+-- a call goes on within the copier within which it stood; or it was to do nothing for a copying, and begins so
 abbrev pub IsLike : (after before : Option Copier) → Type 0
-IsLike after before = (after ≡ before) ⊎ IsNoEnd before
+IsLike after before = (after ≡ before) ⊎ (IsIdleCopier before × IsFreshCopier after)
 
 -- so, in the same tables, each copying has who ends it as before
-pub like_keeps : {K V : Type 0} (c : Chart K) (calls : ℕ → Option (UnderWay K V K)) (i : ℕ) (next : Option (UnderWay K V K)) → HaveEnds c calls
-    → IsLike (copier_then next) (copier_then (calls i)) → HaveEnds c (with_at calls i next)
-like_keeps c calls i next ends (inl e) = with_own calls i c next (subst (λ (o : Option Copier). AllOrOwn calls i c o) (sym e) (as_own calls i c ends))
-like_keeps c calls i next ends (inr none) = keeps_still calls i c c next ends (λ t own. none_ends c t (copier_then (calls i)) none own)
+pub like_keeps : {K V : Type 0} (incremental : Bool) (c : Chart K) (calls : ℕ → Option (UnderWay K V K)) (i : ℕ) (next : Option (UnderWay K V K)) → HaveEndsIn incremental c calls
+    → IsLike (copier_then next) (copier_then (calls i)) → HaveEndsIn incremental c (with_at calls i next)
+like_keeps true c calls i next ends (inl e) = with_own calls i c next (subst (λ (o : Option Copier). AllOrOwn calls i c o) (sym e) (as_own calls i c ends))
+like_keeps true c calls i next ends (inr (idle, fresh)) = idle_keeps true c calls i next ends idle (λ blocking. fresh)
+like_keeps false c calls i next ends like = like_keeps_blocking c calls i next ends like
 
 -- a map that stands stood so, with these tables, in this mode
 abbrev pub StoodSo : {K : Type 0} → Option (Standing K) → Standing K → Type 0
@@ -91,15 +79,16 @@ stood_so (Some before) o2 (blocks, sights, here, part) st is =
     (before, refl, ap (λ (x : Standing _). x.chart) one, ap (λ (x : Standing _). x.setting) one)
 
 module _ {K V : Type 0} (s : Scene K V) (ends : ShowsEnds s) where
-  pub stood_ends : (n : ℕ) (st : Standing K) → StoodSo (s.maps n) st → is_incremental st.setting.mode ≡ true → HaveEnds st.chart (s.calls n)
-  stood_ends n st (before, there, chart, setting) mode =
-      subst (λ (c : Chart K). HaveEnds c (s.calls n)) (sym chart) (ends n before there (sym (ap (λ (x : Setting). is_incremental x.mode) setting) ∙ mode))
+  pub stood_ends : (n : ℕ) (st : Standing K) → StoodSo (s.maps n) st → HaveEndsIn (is_incremental st.setting.mode) st.chart (s.calls n)
+  stood_ends n st (before, there, chart, setting) =
+      subst (λ (c : Chart K). HaveEndsIn (is_incremental st.setting.mode) c (s.calls n)) (sym chart)
+      (subst (λ (x : Setting). HaveEndsIn (is_incremental x.mode) before.chart (s.calls n)) (sym setting) (ends n before there))
 
   module _ (t : Scene K V) where
     -- each map that stands then stood so, with the same calls
     pub maps_stay : ((n : ℕ) (st : Standing K) → t.maps n ≡ Some st → StoodSo (s.maps n) st) → t.calls ≡ s.calls → ShowsEnds t
-    maps_stay stood calls n st is mode =
-        subst (λ (f : ℕ → ℕ → Option (UnderWay K V K)). HaveEnds st.chart (f n)) (sym calls) (stood_ends n st (stood n st is) mode)
+    maps_stay stood calls n st is =
+        subst (λ (f : ℕ → ℕ → Option (UnderWay K V K)). HaveEndsIn (is_incremental st.setting.mode) st.chart (f n)) (sym calls) (stood_ends n st (stood n st is))
 
     pub ends_stay : t.maps ≡ s.maps → t.calls ≡ s.calls → ShowsEnds t
     ends_stay maps calls = maps_stay (λ n st is. (st, sym (ap (λ (f : ℕ → Option (Standing K)). f n) maps) ∙ is, refl, refl)) calls
@@ -107,10 +96,10 @@ module _ {K V : Type 0} (s : Scene K V) (ends : ShowsEnds s) where
     -- one caller's call on one map has become another, has begun, or is under way no more
     pub call_goes : (map i : ℕ) (next : Option (UnderWay K V K)) → t.calls ≡ with_in s.calls map i next
         → ((n : ℕ) (st : Standing K) → (n ≡ map → ⊥) → t.maps n ≡ Some st → StoodSo (s.maps n) st)
-        → ((st : Standing K) → t.maps map ≡ Some st → is_incremental st.setting.mode ≡ true → HaveEnds st.chart (with_at (s.calls map) i next)) → ShowsEnds t
-    call_goes map i next calls others own n st is mode = elim (cases_eq n map) as (λ _. HaveEnds st.chart (t.calls n)) [
-      | inl e ↦ subst (λ (f : ℕ → Option (UnderWay K V K)). HaveEnds st.chart f) (sym (there e)) (own st (subst (λ (k : ℕ). t.maps k ≡ Some st) e is) mode)
-      | inr ne ↦ subst (λ (f : ℕ → Option (UnderWay K V K)). HaveEnds st.chart f) (sym (elsewhere ne)) (stood_ends n st (others n st ne is) mode)
+        → ((st : Standing K) → t.maps map ≡ Some st → HaveEndsIn (is_incremental st.setting.mode) st.chart (with_at (s.calls map) i next)) → ShowsEnds t
+    call_goes map i next calls others own n st is = elim (cases_eq n map) as (λ _. HaveEndsIn (is_incremental st.setting.mode) st.chart (t.calls n)) [
+      | inl e ↦ subst (λ (f : ℕ → Option (UnderWay K V K)). HaveEndsIn (is_incremental st.setting.mode) st.chart f) (sym (there e)) (own st (subst (λ (k : ℕ). t.maps k ≡ Some st) e is))
+      | inr ne ↦ subst (λ (f : ℕ → Option (UnderWay K V K)). HaveEndsIn (is_incremental st.setting.mode) st.chart f) (sym (elsewhere ne)) (stood_ends n st (others n st ne is))
     ]
       where
         there : n ≡ map → t.calls n ≡ with_at (s.calls map) i next
@@ -123,15 +112,19 @@ module _ {K V : Type 0} (s : Scene K V) (ends : ShowsEnds s) where
   pub call_like : (map i : ℕ) (next : Option (UnderWay K V K)) → IsLike (copier_then next) (copier_then (s.calls map i)) → ShowsEnds (record s { calls = with_in s.calls map i next })
   call_like map i next like =
       call_goes (record s { calls = with_in s.calls map i next }) map i next refl (λ n st ne is. (st, is, refl, refl))
-      (λ st is mode. like_keeps st.chart (s.calls map) i next (ends map st is mode) like)
+      (λ st is. like_keeps (is_incremental st.setting.mode) st.chart (s.calls map) i next (ends map st is) like)
 
 -- what a sweep is told, or asked for, leads out of no copier
 sweep_like : {V : Type 0} (c : Sweep) (reply : Reply V) (stands : Sweeping) → c.stands ≡ stands → IsLike (copier_in_sweep (sweep_told stands c reply).0.stands) (copier_in_sweep stands)
-sweep_like c reply (sweeping.Asks word) here = inr tt
+sweep_like c reply (sweeping.Asks word) here = inr (tt, told_fresh c word here reply)
 sweep_like c reply _ here = inl (ap copier_in_sweep here)
 
 next_like : (c : Sweep) (stands : Sweeping) → c.stands ≡ stands → IsLike (copier_in_sweep (next_at stands c).stands) (copier_in_sweep stands)
-next_like c sweeping.Ready here = inr tt
+next_like c sweeping.Ready here = inr (tt, by (nat_lt c.place c.table.len))
+  where
+    by : (b : Bool) → IsFreshCopier (copier_in_sweep (if b then sweeping.Words else sweeping.Over))
+    by true = tt
+    by false = tt
 next_like c _ here = inl (ap copier_in_sweep here)
 
 -- a walk that is ready stands within no copier
@@ -154,7 +147,7 @@ module _ {K V : Type 0} where
   copier_is (OverAll o) = refl
 
   key_like : (c : KeyCall K V K) (reply : Reply V) (stands : Calling) → c.stands ≡ stands → IsLike (copier_in (told_at stands c reply).0.stands) (copier_in stands)
-  key_like c reply (at.Asks about) here = inr tt
+  key_like c reply (at.Asks about) here = inr (tt, reply_fresh c about here reply)
   key_like c reply _ here = inl (ap copier_in here)
 
   replied_like : (machine : Machine K V K) (reply : Reply V) → IsLike (copier_at (machine_replied machine reply).0) (copier_at machine)
@@ -173,7 +166,7 @@ module _ {K V : Type 0} where
   goes_like : (u next : UnderWay K V K) (o : Option (UnderWay K V K)) → o ≡ Some u → (machine : Machine K V K) → machine_of next ≡ machine
       → IsLike (copier_at machine) (copier_at (machine_of u)) → IsLike (copier_of next) (copier_then o)
   goes_like u next o here machine is (inl e) = inl (copier_is next ∙ ap copier_at is ∙ e ∙ sym (copier_is u) ∙ sym (ap copier_then here))
-  goes_like u next o here machine is (inr none) = inr (subst IsNoEnd (sym (ap copier_then here ∙ copier_is u)) none)
+  goes_like u next o here machine is (inr (idle, fresh)) = inr (subst IsIdleCopier (sym (ap copier_then here ∙ copier_is u)) idle, subst IsFreshCopier (sym (copier_is next ∙ ap copier_at is)) fresh)
 
   ready_none : (u : UnderWay K V K) → true ≡ (machine_asked (machine_of u)).1 → copier_of u ≡ None
   ready_none (OverAll o) e = none_ready o.sweep.stands e
@@ -184,16 +177,17 @@ module _ {K V : Type 0} where
   stopped_like : (stopped : Bool) (u : UnderWay K V K) → stopped ≡ (machine_asked (machine_of u)).1 → (o : Option (UnderWay K V K)) → o ≡ Some u
       → IsLike (copier_then (unless_stopped stopped u)) (copier_then o)
   stopped_like false u is o here = inl (sym (ap copier_then here))
-  stopped_like true u is o here = inr (subst IsNoEnd (sym (ap copier_then here ∙ ready_none u is)) tt)
+  stopped_like true u is o here = inr (subst IsIdleCopier (sym (ap copier_then here ∙ ready_none u is)) tt, tt)
 
 -- before all events no map stands
 pub ends_begin : (K V : Type 0) (roots : ℕ) → ShowsEnds {K = K} {V = V} (at_first roots)
-ends_begin K V roots map st is mode = absurd (cc is)
+ends_begin K V roots map st is = absurd (cc is)
 
 module _ {K V : Type 0} (s : Scene K V) (ends : ShowsEnds s) (map i : ℕ) where
   -- a call begins, by a caller whose name no call has
-  pub calls_begin_ends : (name : ℕ → List ℕ) → NoneNamed name (name i) s → (u : UnderWay K V K) → ShowsEnds (scene_with map i u s)
-  calls_begin_ends name none u = call_like s ends map i (Some u) (inr (subst (λ (o : Option (UnderWay K V K)). IsNoEnd (copier_then o)) (sym (nobody (s.calls map i) refl)) tt))
+  pub calls_begin_ends : (name : ℕ → List ℕ) → NoneNamed name (name i) s → (u : UnderWay K V K) → copier_of u ≡ None → ShowsEnds (scene_with map i u s)
+  calls_begin_ends name none u within =
+      call_like s ends map i (Some u) (inr (subst (λ (o : Option (UnderWay K V K)). IsIdleCopier (copier_then o)) (sym (nobody (s.calls map i) refl)) tt, subst IsFreshCopier (sym within) tt))
     where
       nobody : (o : Option (UnderWay K V K)) → s.calls map i ≡ o → s.calls map i ≡ None
       nobody None is = is
@@ -218,6 +212,15 @@ new_table : {K : Type 0} (hash : K → ℕ) (setting : Setting) (places : ℕ) (
 new_table hash setting places c (inl (none, is)) = let e : c.past ≡ 0 = ap (λ (x : Chart _). x.past) is in omega (arith, e)
 new_table hash setting places c (inr (some, limit, is)) = let e : c.past ≡ 1 = ap (λ (x : Chart _). x.past) is in omega (arith, e)
 
+-- where there is one table at most, and no call, no copying is under way
+few_have : {K V : Type 0} (incremental : Bool) (c : Chart K) (calls : ℕ → Option (UnderWay K V K)) → c.past ≤ 1 → ((k : ℕ) → calls k ≡ None) → HaveEndsIn incremental c calls
+few_have true c calls few none = λ t some made unfinished. absurd (omega (arith, some, made, few))
+few_have false c calls few none = record {
+  ends = λ t some made unfinished. absurd (omega (arith, some, made, few));
+  lost = λ t j behind made unfinished l is. absurd (omega (arith, behind, made, few));
+  spent = λ k x is. absurd (let nobody = none k in cc (is, nobody));
+}
+
 module _ {K V S : Type 0} (same : K → K → Bool) (hash : K → ℕ) (s : Scene K V) (ends : ShowsEnds s) (old new : Executor K V S) where
   -- a row on a slot begins, and takes its steps
   pub rows_leave_ends : (event : Event (Node K V)) (happened : HappensAt same hash event s old new) → ShowsEnds (scene_then same hash event s old new happened)
@@ -225,18 +228,18 @@ module _ {K V S : Type 0} (same : K → K → Bool) (hash : K → ℕ) (s : Scen
       maps_stay s ends (scene_then same hash event s old new happened) (λ n st is. stood_so (s.maps n) (happened.2 n) (happened.3 n) st is) refl
 
   -- a map is made
-  pub makings_keep_ends : (i : ℕ) (b : Beginning K) (opening : NewMap) (w2 : World (Node K V)) (said : Progress Setting) (comes : MakingComesTo same hash s old new i b opening w2 said)
+  pub makings_keep_ends : (i : ℕ) (b : Beginning K) → ((k : ℕ) → s.calls b.map k ≡ None) → (opening : NewMap) (w2 : World (Node K V)) (said : Progress Setting) (comes : MakingComesTo same hash s old new i b opening w2 said)
       → ShowsEnds (making_after same hash s old new i b opening w2 said comes)
-  makings_keep_ends i b opening w2 progress.Goes comes = ends
-  makings_keep_ends i b opening w2 progress.Waits comes = ends
-  makings_keep_ends i b opening w2 (progress.Done setting) comes = λ n st is mode. elim (cases_eq n b.map) as (λ _. HaveEnds st.chart (s.calls n)) [
+  makings_keep_ends i b none opening w2 progress.Goes comes = ends
+  makings_keep_ends i b none opening w2 progress.Waits comes = ends
+  makings_keep_ends i b none opening w2 (progress.Done setting) comes = λ n st is. elim (cases_eq n b.map) as (λ _. HaveEndsIn (is_incremental st.setting.mode) st.chart (s.calls n)) [
     | inl e ↦
         let one : st ≡ comes.0 = one_of st comes.0 (sym is ∙ at_same s.maps b.map (Some comes.0) n e) in
         let few : st.chart.past ≤ 1 = subst (λ (x : Standing K). x.chart.past ≤ 1) (sym one) (new_table b.hash setting b.places comes.0.chart comes.1.chart_is) in
-        (λ t some made unfinished. absurd (omega (arith, some, made, few)))
-    | inr ne ↦ ends n st (sym (at_other s.maps b.map (Some comes.0) n ne) ∙ is) mode
+        few_have (is_incremental st.setting.mode) st.chart (s.calls n) few (λ k. subst (λ (m : ℕ). s.calls m k ≡ None) (sym e) (none k))
+    | inr ne ↦ ends n st (sym (at_other s.maps b.map (Some comes.0) n ne) ∙ is)
   ]
-  makings_keep_ends i b opening w2 (progress.Refused fault) comes = ends
+  makings_keep_ends i b none opening w2 (progress.Refused fault) comes = ends
 
   -- and one ends
   pub endings_keep_ends : (i : ℕ) (f : Finishing K V) (ending : EndMap) (w2 : World (Node K V)) (deed : Deed) (said : Settled (Node K V)) (comes : EndingComesTo same hash s new i f ending w2 deed said)
@@ -247,7 +250,7 @@ module _ {K V S : Type 0} (same : K → K → Bool) (hash : K → ℕ) (s : Scen
   endings_keep_ends i f ending w2 deed settled.Done comes = ends
 
 pub endings_begin_ends : {K V : Type 0} (s : Scene K V) → ShowsEnds s → (map i : ℕ) (standing : Standing K) → ShowsEnds (ending_begun map i standing s)
-endings_begin_ends s ends map i standing n st is mode = elim (cases_eq n map) as (λ _. HaveEnds st.chart (s.calls n)) [
+endings_begin_ends s ends map i standing n st is = elim (cases_eq n map) as (λ _. HaveEndsIn (is_incremental st.setting.mode) st.chart (s.calls n)) [
   | inl e ↦ absurd (let none = sym (at_same s.maps map None n e) ∙ is in cc none)
-  | inr ne ↦ ends n st (sym (at_other s.maps map None n ne) ∙ is) mode
+  | inr ne ↦ ends n st (sym (at_other s.maps map None n ne) ∙ is)
 ]

@@ -1,4 +1,5 @@
 -- Each kind of step keeps what is kept.
+pub mod ToldFresh
 pub mod Ends
 pub mod EndCalls
 pub mod Stays

@@ -189,7 +189,7 @@ module _ (K V S : Type 0) (same : K → K → Bool) (hash : K → ℕ) where
     left = others_keep_left K V known2 stepped led
         (makings_keep_left K V S same hash known s old new (own_made K V S same hash name m known s old at whole kept) kept.left i said leads b here) world
         (making_enders same hash s old new i b (leads b here).0 (leads b here).2.step.w2 said (leads b here).3);
-    ends = makings_keep_ends same hash s kept.ends old new i b (leads b here).0 (leads b here).2.step.w2 said (leads b here).3;
+    ends = makings_keep_ends same hash s kept.ends old new i b (λ k. at.together.makings.standing.only b.map k (at.together.makings.coming i b here)) (leads b here).0 (leads b here).2.step.w2 said (leads b here).3;
   }
     where
       effects : List Effect

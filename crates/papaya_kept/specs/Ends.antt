@@ -1,9 +1,16 @@
--- Of each map that grows in chunks: each copying that is not over has a place that is not counted, or a call that is to end it.
-use Rattle.std.specs.Prelude.{◌≡◌, ℕ, true, Some}
+-- Of each map: each copying that is not over has a place that is not counted, or a call that is to end it; in blocking mode also one that is to give it up where a place of it was.
+use Rattle.std.specs.Prelude.{◌≡◌, ℕ, Bool, cond, Option, Some}
 use Rattle.papaya_histories.specs.Given.Tables.Chunks.{is_incremental}
+use Rattle.papaya_histories.specs.Given.Rule.Chart.{Chart}
+use Rattle.papaya_histories.specs.Given.Callers.Together.{UnderWay}
 use Rattle.papaya_histories.specs.Given.Executor.IsAt.{Scene}
 use Rattle.papaya_histories.specs.Given.Finishes.Maps.{Standing}
 use Rattle.papaya_waits.specs.Others.{HaveEnds}
+use Rattle.papaya_waiters.specs.Blocking.{HaveEndsBlocking}
+
+-- in either mode
+abbrev pub HaveEndsIn : {K V : Type 0} → Bool → Chart K → (ℕ → Option (UnderWay K V K)) → Type 0
+HaveEndsIn incremental c calls = cond incremental (HaveEnds c calls) (HaveEndsBlocking c calls)
 
 abbrev pub ShowsEnds : {K V : Type 0} → Scene K V → Type 0
-ShowsEnds {K} s = (map : ℕ) (st : Standing K) → s.maps map ≡ Some st → is_incremental st.setting.mode ≡ true → HaveEnds st.chart (s.calls map)
+ShowsEnds {K} s = (map : ℕ) (st : Standing K) → s.maps map ≡ Some st → HaveEndsIn (is_incremental st.setting.mode) st.chart (s.calls map)

@@ -24,8 +24,8 @@ use Rattle.papaya_kept.specs.Ends.{ShowsEnds}
 -- of a growth just where it is to be refused for want of memory; one that only looks has a machine that looks. It has to count what the moment says, it owes what it has in hand, and one whose
 -- row is under way hands something over. What waits behind a table does so in the memory, and behind no other table, and what can be reached through a table alone waits behind it, or is being put there; on the lists of tables in use pairs lie in the order in which they wait; each table that the collector
 -- has is retired, or about to be; and
--- each that is left over is one of a map whose end is under way. Each pair that the collector has was handed over, or waits, or is in hand still. On a map that grows in chunks, each copying that is not over has a place that is not counted, or a call that is to
--- end it.
+-- each that is left over is one of a map whose end is under way. Each pair that the collector has was handed over, or waits, or is in hand still. Each copying that is not over has a place that is not counted, or a call that is to
+-- end it; in blocking mode also one that is to give it up, where a place of it was.
 pub record ShowsKept {K V : Type 0} (name : ℕ → List ℕ) (m : Moment K V) (known : Known) (s : Scene K V) : Type 0 where
   pub entries : ShowsEntries s
   pub made : ShowsMade name m known s

@@ -48,7 +48,7 @@ pub fn calls_stay<K, V, S>()
 /// a row hands over that begins with the last step is noted, and its slot is active.
 /// The moment after it shows all that the next event needs, if it shows what calls are for and have read once the call has come to its outcome, and the sets are as they must be.
 /// What the effects of a step must find they find, but for why a block is asked for, which shape follows, where a pair may wait, and that a pair that is retired is past.
-/// These they find, too (clause `rest`), but for a reservation's blocks and tables, and that a table has room for what is put behind it.
+/// These they find, too (clause `rest`): a call asks for a block for what it stores, or as a copy has found no place, and a reservation by what it has counted; and a table behind which a pair is put has room.
 /// The event does what it is for, if what the last step says is told so, and a walk that has shown all pairs has lost none within the event.
 /// A call that has ended with the last step, or is ready, leaves nothing behind.
 /// So an event that comes to what is right is legal but for that, and a run goes on with it: clause `runs` has what is left of all this to be asked.

@@ -4,13 +4,14 @@ ghost use Rattle.papaya_purposes.specs.Elsewhere.{PurposesStay};
 ghost use Rattle.papaya_purposes.specs.Kept.{PurposesBegin, CallsKeepPurposes, WalksShowPurposes, CallsBeginPurposes, CallsTakePurposes, WalksStopPurposes, WalksGoOnPurposes, CallsComeToPurposes, EventsKeepPurposes, FirstStepsChangePairsFirst, StillStepsChangePairsFirst, RemovalsChangePairsFirst};
 ghost use Rattle.papaya_purposes.specs.Rows.{RowsBeginPurposes, RowsKeepPurposes};
 ghost use Rattle.papaya_purposes.specs.Shards.{EventsBeginUncounted, StepsReadShards};
+ghost use Rattle.papaya_purposes.specs.Tableless.{EventsKeepTableless, TablelessAtFirst};
 ghost use Rattle.papaya_purposes.specs.Swept.{CountingsAreSwept, ReservationsAreSwept, WalksShow, WalksShowAll, WalksHaveWords, ClearingsAreSwept, RetainingsAreSwept, OtherOutcomesAreSwept, CallsOnKeysAreSwept, NoCallsAreSwept};
 
 /// At each moment of a run that shows the executor, each call is for what was called, and has come to what the moment says: pair by pair and class by class, what a
 /// sweep's map had since it began, the map has at a moment of the run since then; a walk has shown just what it has done, which is one pair of each class that the map had
 /// all the time, but for those to which it is still to come; a retaining has done such pairs about which the last reply was yes; and a counting has added up shards, each
-/// as it was at a moment of the call. So it is before all events; after each step of a call, whoever's, if no pair comes and goes, and no class changes twice, within one
-/// event; where a step shows a pair, and its event has come to that; where a call begins, takes a reply, is asked for its next pair, is given up, and comes to an
+/// as it was at a moment of the call; and a reservation that makes a table makes it as long as it must be, by such a count, or for its further pairs alone where the map has
+/// no table. So it is before all events; after each step of a call, whoever's, if no pair comes and goes, and no class changes twice, within one event; where a step shows a pair, and its event has come to that; where a call begins, takes a reply, is asked for its next pair, is given up, and comes to an
 /// outcome; where an event is over; where a row begins on a slot, and after each step of it; and where a map is made, and where one ends, from the first step to the last.
 pub fn purposes_are_kept<K, V, S>()
     ensures begins { PurposesBegin K V }
@@ -35,6 +36,13 @@ pub fn purposes_are_kept<K, V, S>()
 pub fn shards_are_read<K, V, S>()
     ensures begins { EventsBeginUncounted K V }
     ensures steps { (same : K → K → Bool) (hash : K → ℕ) → StepsReadShards K V S same hash }
+{}
+
+/// A map that has had no table has counted nothing, and no call on it has anything to count: so it is before all events, and after each event of a run whose events go in order. So a reservation that finds
+/// no table has room for its pairs alone to make.
+pub fn tableless_maps_are_uncounted<K, V>()
+    ensures begins { TablelessAtFirst K V }
+    ensures events { EventsKeepTableless K V }
 {}
 
 /// `len` answers a count of the shards, each as it was at a moment of the call, if its steps read them as the moment has them.

@@ -20,7 +20,7 @@ use Rattle.papaya_scheduler.specs.declared.scheduler.Scheduler.{Scheduler}
 use Rattle.papaya_stepping.specs.Stepping.{ComesInCase}
 
 module _ {K V : Type 0} where
-  -- A call that goes on waits, or is refused for the length of a table, in its case.
+  -- A call that goes on is refused for the length of a table in its case alone.
   abbrev pub FindsBy : Terms → List (Entry K V) → Entry K V → Event K V → Type 0
   FindsBy terms log e (Step caller refuse) = ComesInCase terms log e
   FindsBy terms log e (Go caller refuse) = ComesInCase terms log e

@@ -1,9 +1,8 @@
--- The call of a name whose machine has taken a step that waits, of whichever kind: the step has no effect, and on a map that grows in chunks it waits for one that it may wait for.
+-- The call of a name whose machine has taken a step that waits, of whichever kind: the step has no effect, and it waits for one that it may wait for.
 use Rattle.std.specs.Prelude.{List, [], Some}
 use Rattle.std.specs.List.{list_any}
 use Rattle.std.proofs.Common.{◌≡◌, ℕ, Bool, true, refl, ap, sym, subst, ◌∙◌}
 use Rattle.papaya_histories.specs.Given.SeizeWords.Mem.{Mem}
-use Rattle.papaya_histories.specs.Given.Tables.Chunks.{is_incremental}
 use Rattle.papaya_histories.specs.Given.Tables.declared.node.Node.{Node}
 use Rattle.papaya_histories.specs.Given.Resize.declared.outcome.Outcome.{Outcome}
 use Rattle.papaya_histories.specs.Given.Resize.declared.outcome.Outcome.TheVariants as outcome
@@ -29,7 +28,7 @@ use Rattle.papaya_schedules.specs.declared.effect.Effect.{Effect}
 use Rattle.papaya_schedules.specs.InUse.{may_wait_for}
 use Rattle.papaya_schedules.specs.Moment.{UnderWay as CallThere, Moment}
 use Rattle.papaya_schedules.specs.Terms.{Terms}
-use Rattle.papaya_schedules.specs.Views.{call_of, grows_in_chunks, map_at}
+use Rattle.papaya_schedules.specs.Views.{call_of}
 use Rattle.papaya_histories.specs.Given.Effects.Effects.{effects_of}
 use Rattle.papaya_histories.specs.Given.Effects.Known.{known}
 use Rattle.papaya_histories.specs.Given.Effects.declared.acting.Acting.TheVariants as acts
@@ -40,7 +39,6 @@ use Rattle.papaya_histories.specs.Given.Executor.Stepping.{StepsFrom}
 use Rattle.papaya_histories.specs.Given.Executor.declared.executor.Executor.{Executor}
 use Rattle.papaya_histories.proofs.Given.Executor.Changed.{standing_is}
 use Rattle.papaya_histories.specs.Given.Follows.Calls.{IsCalled}
-use Rattle.papaya_histories.specs.Given.Follows.Maps.{ShowsThere}
 use Rattle.papaya_histories.proofs.Given.Others.Outcomes.{told_in}
 use Rattle.papaya_owes.proofs.Tables.Hosts.{Step}
 use Rattle.papaya_scheduler.specs.Played.{StandsFor}
@@ -133,7 +131,7 @@ module _ {K V S : Type 0} (same : K → K → Bool) (hash : K → ℕ) (terms : 
   by_kind (OnKey u) there s =
       let at = key_step u s in (
         ap (λ (y : Changed). effects_of (acts.Call i of) (known p.logged.notes) y) (quiet same hash terms m p stands of i u there st st_is after told at.0 at.1),
-        λ mode. waits_so same hash terms m p stands of i u there st st_is after told at.0 at.1 mode,
+        waits_so same hash terms m p stands of i u there st st_is after told at.0 at.1,
       )
   by_kind (ForRoom r) there s = let at = room_step r s in room_says same hash terms m p stands of st st_is i r there after told at.0 at.1
   by_kind (OverAll o) there s = let at = sweep_step o s in sweep_says same hash terms m p stands of st st_is i o there after told at.0 at.1
@@ -145,13 +143,5 @@ module _ {K V S : Type 0} (same : K → K → Bool) (hash : K → ℕ) (terms : 
   pub any_quiet : did ≡ []
   any_quiet = said.0
 
-  pub any_waits_for : grows_in_chunks (map_at c.map m) ≡ true → list_any (may_wait_for c m) m.calls ≡ true
-  any_waits_for chunks = subst (λ (d : CallThere K V). list_any (may_wait_for d m) m.calls ≡ true) (same_call its.0 its.1) (said.1 mode)
-    where
-      shows : ShowsThere of st m (known p.logged.notes)
-      shows = (stands.shown.shows.all.shown.maps of st st_is).there
-
-      mode : is_incremental st.setting.mode ≡ true
-      mode =
-          ap is_incremental (sym shows.mode) ∙ ap grows_in_chunks (sym shows.is)
-          ∙ ap (λ (n : ℕ). grows_in_chunks (map_at n m)) (sym (ap (λ (d : CallThere K V). d.map) (sym (same_call its.0 its.1)) ∙ its.2)) ∙ chunks
+  pub any_waits_for : list_any (may_wait_for c m) m.calls ≡ true
+  any_waits_for = subst (λ (d : CallThere K V). list_any (may_wait_for d m) m.calls ≡ true) (same_call its.0 its.1) said.1

@@ -17,7 +17,7 @@ use Rattle.papaya_histories.proofs.Given.Hands.Replacing.{IsOn, calls_after}
 use Rattle.papaya_histories.proofs.Given.Moments.After.{effects_after}
 use Rattle.papaya_promises.proofs.Weights.{parts_add_up}
 use Rattle.papaya_scheduler.specs.Played.{StandsFor}
-use Rattle.papaya_stepping.specs.Stepping.{ComesAs, ComesBy, GoesAt, IsMidst, IsStepped, waits_in_case}
+use Rattle.papaya_stepping.specs.Stepping.{ComesAs, ComesBy, GoesAt, IsMidst, IsStepped}
 use Rattle.papaya_named.specs.Telling.{goes_on}
 use Rattle.papaya_scheduler.specs.declared.scheduler.Scheduler.{Scheduler}
 use Rattle.papaya_scheduler.proofs.Here.{here_at}
@@ -63,7 +63,7 @@ module _ {K V S : Type 0} (same : K → K → Bool) (hash : K → ℕ) (terms : 
       few = parts_add_up steps 1 midst.did last.did midst.few last.few;
       comes = subst (λ (x : Call K V). ComesAs x outcome) call_on.call last.comes;
       works = λ waits. subst (λ (x : Call K V). only_looks x ≡ false) call_on.call (last.works waits);
-      waits = λ waits. subst (λ (x : Moment K V). (d : CallThere K V) → call_of own x ≡ Some d → waits_in_case d x ≡ true → list_any (may_wait_for d x) x.calls ≡ true) all_did (last.waits waits);
+      waits = λ waits. subst (λ (x : Moment K V). (d : CallThere K V) → call_of own x ≡ Some d → list_any (may_wait_for d x) x.calls ≡ true) all_did (last.waits waits);
       memory = λ refused d d_is. last.memory refused d (ap (λ (x : Moment K V). call_of own x) all_did ∙ d_is);
       goes = λ on. (subst (λ (x : Moment K V). StandsFor same hash terms x new) all_did (last.goes on).0, (last.goes on).1);
       stands = λ never counted. subst (λ (x : Moment K V). StandsFor same hash terms (come_to own outcome counted x) new) all_did (last.stands never counted);

@@ -1,7 +1,9 @@
--- What a call knows of the copier within which it stands, on a map that grows in chunks; and that it may wait for another caller's call that copies, or ends a copying.
+-- What a call knows of the copier within which it stands, on a map that grows in chunks; and, in either mode, that it may wait for another caller's call that copies, or ends a copying.
 use Rattle.std.specs.Prelude.{◌*◌, ◌∷◌, is_some, Option, Some, None}
 use Rattle.std.specs.List.{list_any}
-use Rattle.std.proofs.Common.{◌≡◌, ◌≢◌, ℕ, suc, ◌<◌, ◌⊎◌, inl, inr, Bool, true, refl, ap, sym, subst, ◌∙◌, arith}
+use Rattle.std.proofs.Common.{◌≡◌, ◌≢◌, ℕ, suc, ◌<◌, ◌⊎◌, inl, inr, Bool, true, false, refl, ap, sym, subst, ◌∙◌, arith}
+use Rattle.papaya_waits.specs.Others.{EndsAt, copier_in, copier_in_room, copier_in_sweep, copier_of}
+use Rattle.papaya_waiters.proofs.Stands.{copier_knows as knows_at_once}
 use Rattle.papaya_histories.specs.Given.SeizeWords.Word.{block_in}
 use Rattle.papaya_histories.specs.Given.Seize.World.{World}
 use Rattle.papaya_histories.proofs.Given.SeizeRule.Words.There.{live_pos}
@@ -23,18 +25,18 @@ use Rattle.papaya_histories.specs.Given.Rule.Maps.{IsTable}
 use Rattle.papaya_histories.specs.Given.Rule.Words.{Blocks}
 use Rattle.papaya_histories.specs.Given.Points.FactsCalls.{CallFacts, CallingFacts, Unchanged}
 use Rattle.papaya_histories.specs.Given.Points.FactsCopies.{CopierFacts, CopyingFacts}
-use Rattle.papaya_histories.specs.Given.Points.FactsCopiesBlocking.{CopierFactsBlocking}
+use Rattle.papaya_histories.specs.Given.Points.FactsCopiesBlocking.{CopierFactsBlocking, CopyingFactsBlocking}
 use Rattle.papaya_histories.specs.Given.Points.Steps.{AreLawful}
 use Rattle.papaya_histories.specs.Given.Points.Told.{IsRowOfCall, IsRowOfCopier}
 use Rattle.papaya_histories.specs.Given.Late.FactsReserves.{CopiesWhole, IsEnding, ReservingFacts}
 use Rattle.papaya_histories.specs.Given.Late.FactsSweeps.{SweepingFacts}
 use Rattle.papaya_histories.specs.Given.Late.Kinds.{LooksAt}
 use Rattle.papaya_histories.specs.Given.Late.LateCalls.{LateCallFacts}
+use Rattle.papaya_histories.specs.Given.Late.LateCopies.{LateCopierFacts, LateCopying}
 use Rattle.papaya_histories.specs.Given.Late.ToldReserves.{IsRowOfReserve}
 use Rattle.papaya_histories.specs.Given.Late.ToldSweeps.{IsRowOfSweep}
 use Rattle.papaya_histories.specs.Given.Callers.Sights.{IsSight, seen_by}
 use Rattle.papaya_histories.specs.Given.Callers.Together.{CallOnKey, UnderWay, OnKey, ForRoom, Counting, OverAll, Together, in_slot}
-use Rattle.papaya_waits.specs.Others.{EndsAt, copier_in, copier_in_room, copier_in_sweep, copier_of}
 use Rattle.papaya_owned.proofs.Given.Waits.Awaited.{HasOther}
 use Rattle.papaya_owned.proofs.Given.Waits.Claimed.{chosen}
 use Rattle.papaya_schedules.specs.InUse.{may_wait_for}
@@ -58,7 +60,7 @@ use Rattle.papaya_scheduler.specs.Played.{StandsFor}
 use Rattle.papaya_scheduler.specs.declared.scheduler.Scheduler.{Scheduler}
 use Rattle.papaya_stepping.proofs.StepSays.{the}
 use Rattle.papaya_stepping.proofs.Waiting.{owing_hands, waits_for_copier, waits_for_handing}
-use Rattle.papaya_stepping.proofs.WaitsFor.{only_looks_by}
+use Rattle.papaya_owned.proofs.Given.Waits.Works.{OnlyLooks, works}
 
 -- the row of a call that copies is its copier's
 key_row : (stands : Calling) (q : Copier) → copier_in stands ≡ Some q → IsRowOfCall stands → IsRowOfCopier q.stands
@@ -85,6 +87,13 @@ looking_none (OnKey u) looks = looks_none u.call.stands looks.1
 looking_none (Counting sum) looks = refl
 looking_none (ForRoom r) looks = absurd looks
 looking_none (OverAll o) looks = absurd looks
+
+-- one whose machine looks only looks
+pub only_looks_by : {K V : Type 0} (x : UnderWay K V K) → IsLooking (machine_of x) → OnlyLooks x
+only_looks_by (OnKey u) looks = looks.1
+only_looks_by (Counting sum) looks = tt
+only_looks_by (ForRoom r) looks = looks
+only_looks_by (OverAll o) looks = looks
 
 -- what such a call has in hand is what its copier has
 module _ (by : Known) (q : Copier) where
@@ -208,7 +217,43 @@ module _ {K V S : Type 0} (same : K → K → Bool) (hash : K → ℕ) (terms : 
         pub copier_knows : copier_of x ≡ Some q → Knows
         copier_knows within = knows_of x refl within
 
-  module _ (mode : is_incremental st.setting.mode ≡ true) (i : ℕ) (x : UnderWay K V K) (under : stands.scene.calls of i ≡ Some x) where
+  -- where a copier is to say that a copying is over, it has unlinked its source, and its target is a later table
+  module _ (k : ℕ) (u : UnderWay K V K) (has : stands.scene.calls of k ≡ Some u) (q : Copier) (within : copier_of u ≡ Some q) (here : q.stands ≡ copies.Announces) where
+    abbrev Unlinked : Type 0
+    Unlinked = (s : ℕ) × (t : ℕ) × (s < t) × IsTable st.chart (seen_by st.blocks (st.sights (slot_of k))) q.source s × (q.target.turn ≡ t)
+
+    none_there : IsRowOfCopier q.stands → ⊥
+    none_there row = subst (λ (s : Copying). IsRowOfCopier s) here row
+
+    at_chunks : CopierFacts same hash w k (in_slot st.setting (slot_of k)) st.chart (seen_by st.blocks (st.sights (slot_of k))) q → Unlinked
+    at_chunks facts = by (subst (λ (s : Copying). CopyingFacts same hash w k (in_slot st.setting (slot_of k)) st.chart (seen_by st.blocks (st.sights (slot_of k))) q s) here facts.point)
+      where
+        by : CopyingFacts same hash w k (in_slot st.setting (slot_of k)) st.chart (seen_by st.blocks (st.sights (slot_of k))) q copies.Announces → Unlinked
+        by ((s, upto, source, target, cut), done, none) = (s, suc s, (let next : s < suc s = omega arith in next), source, ap (λ (y : Table). y.turn) target.is)
+
+    at_once : CopierFactsBlocking same hash w k (in_slot st.setting (slot_of k)) st.chart (seen_by st.blocks (st.sights (slot_of k))) q → Unlinked
+    at_once facts = by (subst (λ (s : Copying). CopyingFactsBlocking same hash w k (in_slot st.setting (slot_of k)) st.chart (seen_by st.blocks (st.sights (slot_of k))) q s) here facts.point)
+      where
+        by : CopyingFactsBlocking same hash w k (in_slot st.setting (slot_of k)) st.chart (seen_by st.blocks (st.sights (slot_of k))) q copies.Announces → Unlinked
+        by (s, source, unlinked) = (s, st.chart.first, unlinked.0, source, ap (λ (y : Table). y.turn) unlinked.1.is)
+
+    at_last : (began : ℕ) → LateCopierFacts same hash w k (in_slot st.setting (slot_of k)) st.chart (seen_by st.blocks (st.sights (slot_of k))) began q → Unlinked
+    at_last began facts = by (subst (λ (s : Copying). LateCopying same hash w k (in_slot st.setting (slot_of k)) st.chart (seen_by st.blocks (st.sights (slot_of k))) began q s) here facts.point)
+      where
+        by : LateCopying same hash w k (in_slot st.setting (slot_of k)) st.chart (seen_by st.blocks (st.sights (slot_of k))) began q copies.Announces → Unlinked
+        by (s, t, source, unlinked) = (s, t, unlinked.0, source, ap (λ (y : Table). y.turn) unlinked.1.is)
+
+    unlinked : Unlinked
+    unlinked = by (is_incremental st.setting.mode) refl
+      where
+        by : (b : Bool) → is_incremental st.setting.mode ≡ b → Unlinked
+        by true mode = at_chunks (copier_knows k u has mode q none_there within)
+        by false mode = elim (knows_at_once V same hash same st.setting slot_of w st.chart st.blocks st.sights calls_on all_together mode k q u has within none_there) as (λ _. Unlinked) [
+          | inl fresh ↦ at_once fresh
+          | inr late ↦ at_last late.0 late.1
+        ]
+
+  module _ (i : ℕ) (x : UnderWay K V K) (under : stands.scene.calls of i ≡ Some x) where
     abbrev Waits : Type 0
     Waits = list_any (may_wait_for (stands.shown.shows.all.shown.calls of i x under).0 m) m.calls ≡ true
 
@@ -221,20 +266,15 @@ module _ {K V S : Type 0} (same : K → K → Bool) (hash : K → ℕ) (terms : 
       one = stands.shown.shows.all.shown.calls of k u has
 
       announcing : q.stands ≡ copies.Announces → Waits
-      announcing here = by (subst (λ (s : Copying). CopyingFacts same hash w k (in_slot st.setting (slot_of k)) st.chart (seen_by st.blocks (st.sights (slot_of k))) q s) here facts.point)
-        where
-          facts : CopierFacts same hash w k (in_slot st.setting (slot_of k)) st.chart (seen_by st.blocks (st.sights (slot_of k))) q
-          facts = copier_knows k u has mode q (λ row. subst (λ (s : Copying). IsRowOfCopier s) here row) within
-
-          by : CopyingFacts same hash w k (in_slot st.setting (slot_of k)) st.chart (seen_by st.blocks (st.sights (slot_of k))) q copies.Announces → Waits
-          by ((s, upto, source, target, cut), done, none) =
-              let turn : q.target.turn ≡ suc s = ap (λ (y : Table). y.turn) target.is in
-              let owes : one.0.owes ≡ passed of s q.target.turn =
-              stands.shown.kept.owed.owed of k u has one.0 one.1 ∙ hand_of by_notes q u within ∙ ap (λ (y : Copying). tables_in_hand by_notes q y) here
-              ∙ tables_named by_notes q q.source.link (st.chart.len s) (table_of of s) (table_there k u has s q.source source) (noted_table k u has s q.source source) in
-              let first : passed of s q.target.turn ≡ numbered of s ∷ passed of (suc s) q.target.turn = passed_first of s q.target.turn (omega (arith, turn)) in
-              waits_for_handing same hash terms m p stands of of i k x u under has other refl never
-              (owing_hands same hash terms m p stands of of i k x u under has other (numbered of s) (passed of (suc s) q.target.turn) (owes ∙ first))
+      announcing here =
+          let cut = unlinked k u has q within here in
+          let owes : one.0.owes ≡ passed of cut.0 q.target.turn =
+          stands.shown.kept.owed.owed of k u has one.0 one.1 ∙ hand_of by_notes q u within ∙ ap (λ (y : Copying). tables_in_hand by_notes q y) here
+          ∙ tables_named by_notes q q.source.link (st.chart.len cut.0) (table_of of cut.0) (table_there k u has cut.0 q.source cut.3) (noted_table k u has cut.0 q.source cut.3) in
+          let first : passed of cut.0 q.target.turn ≡ numbered of cut.0 ∷ passed of (suc cut.0) q.target.turn =
+          passed_first of cut.0 q.target.turn (let behind = cut.2 in let turn = cut.4 in omega (arith, behind, turn)) in
+          waits_for_handing same hash terms m p stands of of i k x u under has other refl never
+          (owing_hands same hash terms m p stands of of i k x u under has other (numbered of cut.0) (passed of (suc cut.0) q.target.turn) (owes ∙ first))
 
       at_its_end : (t : ℕ) → t < st.chart.past → EndsAt st.chart q q.stands t → Waits
       at_its_end t made ends = by q.stands refl ends

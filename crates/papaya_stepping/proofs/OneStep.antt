@@ -43,7 +43,7 @@ use Rattle.papaya_promises.proofs.Weights.{operations_are_single}
 use Rattle.papaya_named.specs.Machines.{IsAsFar}
 use Rattle.papaya_scheduler.specs.Played.{AsFar, StandsFor}
 use Rattle.papaya_named.specs.Seen.{Seen, far_of, is_named, seen, seen_of}
-use Rattle.papaya_stepping.specs.Stepping.{ComesAs, ComesBy, GoesAt, IsStepped, caller_then, callers_then, far_then, outcome_of, waits_in_case}
+use Rattle.papaya_stepping.specs.Stepping.{ComesAs, ComesBy, GoesAt, IsStepped, caller_then, callers_then, far_then, outcome_of}
 use Rattle.papaya_named.specs.Telling.{goes_on, kept}
 use Rattle.papaya_named.specs.declared.caller.Caller.{Caller}
 use Rattle.papaya_named.specs.declared.caller.Callers.{Callers}
@@ -350,7 +350,7 @@ module _ {K V S : Type 0} (same : K → K → Bool) (hash : K → ℕ) (terms : 
         few = (operations_are_single (acts.Call d.number d.map) (known p.logged.notes) new.executor.memory.changed).0;
         comes = says.comes;
         works = λ waits. by_looking (only_looks c.call) refl waits;
-        waits = λ waits x x_is sure. by_waits (said_waits by d.kind d.value said waits) x x_is sure;
+        waits = λ waits x x_is. by_waits (said_waits by d.kind d.value said waits) x x_is;
         memory = λ refused x x_is.
             (step_keeps_grown same hash stands.name m (known p.logged.notes) stands.scene p.logged.executor new.executor stands.shown.is_at stands.shown.shows stands.shown.kept.short stands.shown.kept.grown
             d.map d.number here.way.0 here.way.1 said leads).1 (said_short by d.kind d.value said refused) x
@@ -367,13 +367,13 @@ module _ {K V S : Type 0} (same : K → K → Bool) (hash : K → ℕ) (terms : 
               (stands.shown.kept.looking d.map d.number here.way.0 here.way.1 c its_call e) (leads d.map here.way.0 here.way.1).3 (said_waits by d.kind d.value said waits))
 
           -- one that waits has done nothing, and waits for one that it may wait for
-          by_waits : said ≡ progress.Waits → (x : CallThere K V) → call_of own (with_effects (Some own) (Some c.map) did m) ≡ Some x → waits_in_case x (with_effects (Some own) (Some c.map) did m) ≡ true
+          by_waits : said ≡ progress.Waits → (x : CallThere K V) → call_of own (with_effects (Some own) (Some c.map) did m) ≡ Some x
               → list_any (may_wait_for x (with_effects (Some own) (Some c.map) did m)) (with_effects (Some own) (Some c.map) did m).calls ≡ true
-          by_waits waits x x_is sure = subst Right (sym nothing) right x x_is sure
+          by_waits waits x x_is = subst Right (sym nothing) right x x_is
             where
               Right : List Effect → Type 0
               Right l =
-                  (y : CallThere K V) → call_of own (with_effects (Some own) (Some c.map) l m) ≡ Some y → waits_in_case y (with_effects (Some own) (Some c.map) l m) ≡ true
+                  (y : CallThere K V) → call_of own (with_effects (Some own) (Some c.map) l m) ≡ Some y
                   → list_any (may_wait_for y (with_effects (Some own) (Some c.map) l m)) (with_effects (Some own) (Some c.map) l m).calls ≡ true
 
               its_step : StepsFrom same hash (machine_of here.way.0) p.logged.executor new.executor (leads d.map here.way.0 here.way.1).1 progress.Waits
@@ -383,7 +383,7 @@ module _ {K V S : Type 0} (same : K → K → Bool) (hash : K → ℕ) (terms : 
               nothing = any_quiet same hash terms m p stands own d.map d.number here.way.0 here.way.1 its_name new.executor (leads d.map here.way.0 here.way.1).1 its_step c here.call_is
 
               right : Right []
-              right y y_is y_sure = any_waits_for same hash terms m p stands own d.map d.number here.way.0 here.way.1 its_name new.executor (leads d.map here.way.0 here.way.1).1 its_step y y_is y_sure
+              right y y_is = any_waits_for same hash terms m p stands own d.map d.number here.way.0 here.way.1 its_name new.executor (leads d.map here.way.0 here.way.1).1 its_step y y_is
 
 module _ {K V S : Type 0} (same : K → K → Bool) (hash : K → ℕ) (terms : Terms) (m : Moment K V) (p new : Scheduler K V S) (stands : StandsFor same hash terms m p) (own : List ℕ) (place : ℕ)
     (at : GoesAt own place p) (outcome : Outcome V) (before after : List Effect) (step : IsStepped same hash place outcome before after p new) where

@@ -26,7 +26,7 @@ use Rattle.papaya_histories.specs.Given.Follows.Calling.{come_to}
 use Rattle.papaya_histories.proofs.Given.Hands.Replacing.{IsOn, calls_after}
 use Rattle.papaya_scheduler.specs.Played.{IsDue, StandsFor}
 use Rattle.papaya_named.specs.Seen.{Seen, far_of, is_named}
-use Rattle.papaya_stepping.specs.Stepping.{ComesAs, ComesBy, IsInCase, PlaysOn, TakesUpTo, waits_in_case}
+use Rattle.papaya_stepping.specs.Stepping.{ComesAs, ComesBy, IsInCase, PlaysOn, TakesUpTo}
 use Rattle.papaya_named.specs.declared.caller.Stands.TheVariants as far
 use Rattle.papaya_scheduler.specs.declared.scheduler.Scheduler.{Scheduler}
 use Rattle.papaya_stepping.proofs.AfterEffects.{closed_stays, mapped_stays}
@@ -99,8 +99,8 @@ module _ {K V S : Type 0} (same : K → K → Bool) (hash : K → ℕ) (terms : 
   d_works : outcome ≡ Waits → only_looks d.call ≡ false
   d_works waits = subst (λ (x : Call K V). only_looks x ≡ false) (sym d_on.call) (comes.works waits)
 
-  d_waits : outcome ≡ Waits → waits_in_case d w ≡ true → list_any (may_wait_for d w) w.calls ≡ true
-  d_waits waits = subst (λ (x : Moment K V). waits_in_case d x ≡ true → list_any (may_wait_for d x) x.calls ≡ true) worked_is
+  d_waits : outcome ≡ Waits → list_any (may_wait_for d w) w.calls ≡ true
+  d_waits waits = subst (λ (x : Moment K V). list_any (may_wait_for d x) x.calls ≡ true) worked_is
       (comes.waits waits d (calls_after own c.map own comes.did m c comes.call_is).1)
 
   d_short : outcome ≡ Refused Memory → d.is_short ≡ true

@@ -19,7 +19,7 @@ use Rattle.papaya_schedules.specs.Steps.{MakesSteps}
 use Rattle.papaya_schedules.specs.Terms.{Terms}
 use Rattle.papaya_scheduler.specs.Quiet.{IsQuiet}
 use Rattle.papaya_named.specs.Seen.{far_of}
-use Rattle.papaya_stepping.specs.Stepping.{ComesAs, IsInCase, TakesUpTo, waits_in_case}
+use Rattle.papaya_stepping.specs.Stepping.{ComesAs, IsInCase, TakesUpTo}
 use Rattle.papaya_named.specs.declared.caller.Stands.TheVariants as far
 
 module _ {K V : Type 0} where
@@ -58,18 +58,12 @@ module _ {K V : Type 0} where
   not_busy call o comes is = let it = (other_fault call Busy (subst (λ (x : Outcome V). ComesAs call x) is comes) (λ e. cc e) (λ e. cc e)).0 in cc it
 
   module _ (terms : Terms) (c : CallThere K V) (moments : List (Moment K V)) (now : Moment K V) where
-    -- where it waits in its case, and elsewhere
-    waits_so : (b : Bool) → waits_in_case c now ≡ b → (waits_in_case c now ≡ true → list_any (may_wait_for c now) now.calls ≡ true)
-        → (waits_in_case c now ≡ false → list_any (may_wait_for c now) now.calls ≡ true) → list_any (may_wait_for c now) now.calls ≡ true
-    waits_so true e known within = known e
-    waits_so false e known within = within e
-
-    pub may_come : (o : Outcome V) → ComesAs c.call o → (o ≡ Waits → only_looks c.call ≡ false) → (o ≡ Waits → waits_in_case c now ≡ true → list_any (may_wait_for c now) now.calls ≡ true)
+    pub may_come : (o : Outcome V) → ComesAs c.call o → (o ≡ Waits → only_looks c.call ≡ false) → (o ≡ Waits → list_any (may_wait_for c now) now.calls ≡ true)
         → (o ≡ Refused Memory → c.is_short ≡ true) → IsInCase terms c moments now o → MayCome terms c moments now o
     may_come Goes comes works known short within = tt
     may_come (Asks question) comes works known short within = comes
     may_come Waits comes works known short within =
-        ap (λ (b : Bool). not b && list_any (may_wait_for c now) now.calls) (works refl) ∙ waits_so (waits_in_case c now) refl (known refl) within
+        ap (λ (b : Bool). not b && list_any (may_wait_for c now) now.calls) (works refl) ∙ known refl
     may_come Ready comes works known short within = comes
     may_come (Answered a) comes works known short within = comes
     may_come (Refused Memory) comes works known short within = short refl

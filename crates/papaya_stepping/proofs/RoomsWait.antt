@@ -1,11 +1,14 @@
--- A reservation or a sweep that waits: its step has no effect, and on a map that grows in chunks it waits for a call that it may wait for.
-use Rattle.std.specs.Prelude.{Option, Some, []}
+-- A reservation or a sweep that waits: its step has no effect, and it waits for a call that it may wait for.
+use Rattle.std.specs.Prelude.{Option, Some, [], cond}
 use Rattle.std.specs.List.{list_any}
-use Rattle.std.proofs.Common.{◌≡◌, ℕ, ◌⊎◌, inl, inr, Bool, true, refl, ap, sym, subst, ◌∙◌}
+use Rattle.std.proofs.Common.{◌≡◌, ℕ, ◌⊎◌, inl, inr, Bool, true, refl, ap, sym, subst, ◌∙◌, false}
+use Rattle.papaya_waits.specs.Waits.{AnotherHolds, CopierAwaits, RoomAwaits, SweepAwaits, row_of_sweep}
+use Rattle.papaya_waits.specs.Others.{copier_in_room, copier_in_sweep, copier_of}
+use Rattle.papaya_waiters.proofs.Awaited.{asked_at_once}
 use Rattle.papaya_histories.specs.Given.SeizeWords.Mem.{Mem, Took, value_at}
 use Rattle.papaya_histories.specs.Given.SeizeWords.Plan.{Plan, Steps}
 use Rattle.papaya_histories.specs.Given.SeizeWords.Word.{block_in}
-use Rattle.papaya_histories.specs.Given.Seize.World.{World, Row, Rests}
+use Rattle.papaya_histories.specs.Given.Seize.World.{World, Row, Rests, Settles, Leaves}
 use Rattle.papaya_histories.specs.Given.Seize.declared.rows.settle.Settle.{Settle}
 use Rattle.papaya_histories.specs.Given.SeizeEnds.Holders.{has_batch}
 use Rattle.papaya_histories.specs.Given.Tables.Chunks.{is_incremental}
@@ -32,9 +35,9 @@ use Rattle.papaya_histories.specs.Given.Rule.Words.{Blocks}
 use Rattle.papaya_histories.specs.Given.Points.FactsCopies.{CopierFacts, CopyingFacts}
 use Rattle.papaya_histories.specs.Given.Points.FactsDisposes.{DisposeFacts, DisposingFacts}
 use Rattle.papaya_histories.specs.Given.Points.Told.{IsRowOfCopier}
-use Rattle.papaya_histories.specs.Given.Late.FactsReserves.{ReserveFacts, ReservingFacts}
+use Rattle.papaya_histories.specs.Given.Late.FactsReserves.{ReserveFacts, ReservingFacts, CopiesWhole, IsEnding}
 use Rattle.papaya_histories.specs.Given.Late.FactsSweeps.{SweepFacts, SweepingFacts}
-use Rattle.papaya_histories.specs.Given.Late.LateReserves.{LateReserveFacts}
+use Rattle.papaya_histories.specs.Given.Late.LateReserves.{LateReserveFacts, LateReserving}
 use Rattle.papaya_histories.specs.Given.Late.ToldReserves.{IsRowOfReserve}
 use Rattle.papaya_histories.specs.Given.Late.ToldSweeps.{IsRowOfSweep}
 use Rattle.papaya_histories.specs.Given.Callers.OverAll.{CallOverAll, row_of_sweep as swept_row}
@@ -44,8 +47,6 @@ use Rattle.papaya_histories.specs.Given.Callers.Sights.{seen_by}
 use Rattle.papaya_histories.specs.Given.Callers.Together.{UnderWay, ForRoom, OverAll, Together, in_slot}
 use Rattle.papaya_owned.proofs.Given.Whole.Rows.Kinds.{copier_decided}
 use Rattle.papaya_owned.proofs.Given.Whole.Sweeps.Leads.{sweep_decided}
-use Rattle.papaya_waits.specs.Waits.{AnotherHolds, CopierAwaits, RoomAwaits, SweepAwaits, row_of_sweep}
-use Rattle.papaya_waits.specs.Others.{copier_in_room, copier_in_sweep, copier_of}
 use Rattle.papaya_owned.proofs.Given.Waits.Awaited.{by_copier}
 use Rattle.papaya_owned.proofs.Given.Waits.Laws.{rooms_wait_for_a_copying, room_rows_wait_for_a_holder, sweeps_wait_for_a_copying, sweep_rows_wait_for_a_holder}
 use Rattle.papaya_owned.proofs.Given.Waits.Promised.{map_of}
@@ -66,10 +67,18 @@ use Rattle.papaya_histories.proofs.Given.Executor.Forgotten.{as_step}
 use Rattle.papaya_owes.proofs.Tables.Hosts.{Step}
 use Rattle.papaya_scheduler.specs.Played.{StandsFor}
 use Rattle.papaya_scheduler.specs.declared.scheduler.Scheduler.{Scheduler}
-use Rattle.papaya_stepping.proofs.CopiesWait.{all_together, copier_knows, is_lawful, noted_table, other_waits, whole_knows}
 use Rattle.papaya_stepping.proofs.QuietCopies.{IsQuiet, quiet_does, room_copier_told, room_row_quiet, sweep_copier_told, sweep_row_quiet}
 use Rattle.papaya_stepping.proofs.Waiting.{waits_for_holder}
-use Rattle.papaya_stepping.proofs.WaitsFor.{on_slot}
+use Rattle.papaya_histories.specs.Given.Points.FactsCopiesBlocking.{CopierFactsBlocking, CopyingFactsBlocking}
+use Rattle.papaya_histories.specs.Given.Late.LateCopies.{LateCopierFacts, LateCopying}
+use Rattle.papaya_kept.specs.Ends.{HaveEndsIn}
+use Rattle.papaya_owned.specs.Given.SeizeActs.Waits.{SettlesOn}
+
+-- a row that works on one slot settles on that
+pub on_slot : (slot s : ℕ) (row : Row) → IsRowOn slot row → SettlesOn s row → s ≡ slot
+on_slot slot s (Settles c) is on = sym on ∙ is
+on_slot slot s (Leaves c) is on = sym on ∙ is
+on_slot slot s _ is on = absurd on
 
 room_decided : (x : Reserving) → IsRowOfReserve x ⊎ (IsRowOfReserve x → ⊥)
 room_decided (reserves.Copies copier) = copier_decided copier.stands
@@ -119,14 +128,36 @@ module _ {K V S : Type 0} (same : K → K → Bool) (hash : K → ℕ) (terms : 
     as_taken plan m2 told end s = subst (λ (k : Mem (Node K V)). Steps Took value_at k plan m2 end) (sym stands.shown.is_at.memory) (as_step before changed.Nothing plan m2 told end s)
 
     -- the row that it stands at works on its slot: it is its copier's, or its disposal's
-    copier_on : (copier : Copier) → CopierFacts same hash w i its_setting st.chart seen copier → IsRowOn (slot_of i) (row_of_copier copier.stands)
+    pub copier_on : (copier : Copier) → CopierFacts same hash w i its_setting st.chart seen copier → IsRowOn (slot_of i) (row_of_copier copier.stands)
     copier_on copier facts = by copier.stands facts.point
       where
         by : (q : Copying) → CopyingFacts same hash w i its_setting st.chart seen copier q → IsRowOn (slot_of i) (row_of_copier q)
         by (copies.Retires settle rest) g = ap (λ (y : Settle). y.slot) g.2.0
         by _ g = tt
 
-    dispose_on : (dispose : Dispose) → DisposeFacts w i its_setting st.chart seen dispose → IsRowOn (slot_of i) (row_of_disposal (slot_of i) dispose.stands)
+    pub at_once_on : (copier : Copier) → CopierFactsBlocking same hash w i its_setting st.chart seen copier → IsRowOn (slot_of i) (row_of_copier copier.stands)
+    at_once_on copier facts = by copier.stands facts.point
+      where
+        by : (q : Copying) → CopyingFactsBlocking same hash w i its_setting st.chart seen copier q → IsRowOn (slot_of i) (row_of_copier q)
+        by (copies.Retires settle rest) g = ap (λ (y : Settle). y.slot) g.2.0
+        by _ g = tt
+
+    pub late_on : (began : ℕ) (copier : Copier) → LateCopierFacts same hash w i its_setting st.chart seen began copier → IsRowOn (slot_of i) (row_of_copier copier.stands)
+    late_on began copier facts = by copier.stands facts.point
+      where
+        by : (q : Copying) → LateCopying same hash w i its_setting st.chart seen began copier q → IsRowOn (slot_of i) (row_of_copier q)
+        by (copies.Retires settle rest) g = ap (λ (y : Settle). y.slot) g.3.0
+        by _ g = tt
+
+    whole_on : (copier : Copier) → CopiesWhole same hash w i its_setting st.chart seen copier → IsRowOn (slot_of i) (row_of_copier copier.stands)
+    whole_on copier whole = by (is_incremental st.setting.mode) whole
+      where
+        by : (b : Bool) → cond b ((copier.whole ≡ true) × CopierFacts same hash w i its_setting st.chart seen copier × IsEnding same hash w i its_setting st.chart seen copier copier.stands)
+            (CopierFactsBlocking same hash w i its_setting st.chart seen copier) → IsRowOn (slot_of i) (row_of_copier copier.stands)
+        by true had = copier_on copier had.1
+        by false had = at_once_on copier had
+
+    pub dispose_on : (dispose : Dispose) → DisposeFacts w i its_setting st.chart seen dispose → IsRowOn (slot_of i) (row_of_disposal (slot_of i) dispose.stands)
     dispose_on dispose facts = by dispose.stands facts.point
       where
         by : (q : Disposing) → DisposingFacts w i its_setting st.chart seen facts.n facts.t q → IsRowOn (slot_of i) (row_of_disposal (slot_of i) q)
@@ -167,36 +198,58 @@ module _ {K V S : Type 0} (same : K → K → Bool) (hash : K → ℕ) (terms : 
       does_nothing : (told : Changed) → IsQuiet (is_incremental st.setting.mode) told (block_in copier.source.link) → Nothing told
       does_nothing told quiet = quiet_does (acts.Call i of) (known p.logged.notes) (is_incremental st.setting.mode) told (block_in copier.source.link) noted quiet
 
-      copier_waits : is_incremental st.setting.mode ≡ true → Waits
-      copier_waits mode =
-          other_waits same hash terms m p stands of st is mode i x under
-          (by_copier V same hash same st.setting slot_of w st.chart st.blocks st.sights calls_on together mode (stands.shown.kept.ends of st is mode) i x under copier within seen
-          (copier_knows same hash terms m p stands of st is i x under mode copier none within)
-          (subst (λ (b : Bool). CopierAwaits st.chart b copier copier.stands) mode awaits))
+      ends_in : (b : Bool) → is_incremental st.setting.mode ≡ b → HaveEndsIn b st.chart calls_on
+      ends_in b mode = subst (λ (n : Bool). HaveEndsIn n st.chart calls_on) mode (stands.shown.kept.ends of st is)
 
-    -- what is said of it: its step does nothing, and on a map that grows in chunks it waits for one that it may wait for
+      -- in blocking mode it waits where it asks
+      at_once : is_incremental st.setting.mode ≡ false → Waits
+      at_once mode = by copier.stands refl awaits
+        where
+          by : (q : Copying) → copier.stands ≡ q → CopierAwaits st.chart (is_incremental st.setting.mode) copier q → Waits
+          by copies.Asks here (spent, unfinished) =
+              other_waits same hash terms m p stands of st is i x under
+              (asked_at_once V same hash same st.setting slot_of w st.chart st.blocks st.sights calls_on together mode (ends_in false mode) i x under copier within here spent unfinished)
+          by copies.Marks here (incremental, being) = absurd (cc (incremental, mode))
+          by _ here awaits_so = absurd awaits_so
+
+      pub copier_waits : Waits
+      copier_waits = by (is_incremental st.setting.mode) refl
+        where
+          by : (b : Bool) → is_incremental st.setting.mode ≡ b → Waits
+          by true mode =
+              other_waits same hash terms m p stands of st is i x under
+              (by_copier V same hash same st.setting slot_of w st.chart st.blocks st.sights calls_on together mode (ends_in true mode) i x under copier within seen
+              (copier_knows same hash terms m p stands of st is i x under mode copier none within)
+              (subst (λ (n : Bool). CopierAwaits st.chart n copier copier.stands) mode awaits))
+          by false mode = at_once mode
+
+    -- what is said of it: its step does nothing, and it waits for one that it may wait for
     abbrev pub SaysWaits : Changed → Type 0
-    SaysWaits told = Nothing told × (is_incremental st.setting.mode ≡ true → Waits)
+    SaysWaits told = Nothing told × Waits
 
-    at_row : (told : Changed) → told ≡ changed.Nothing → (row : Row) → (is_incremental st.setting.mode ≡ true → IsRowOn (slot_of i) row) → AnotherHolds w i row → SaysWaits told
-    at_row told nothing row on holds = (ap (λ (y : Changed). effects_of (acts.Call i of) (known p.logged.notes) y) nothing, λ mode. by_holder row (on mode) holds)
+    at_row : (told : Changed) → told ≡ changed.Nothing → (row : Row) → IsRowOn (slot_of i) row → AnotherHolds w i row → SaysWaits told
+    at_row told nothing row on holds = (ap (λ (y : Changed). effects_of (acts.Call i of) (known p.logged.notes) y) nothing, by_holder row on holds)
 
   -- a reservation
   module _ (i : ℕ) (r : CallForRoom) (under : stands.scene.calls of i ≡ Some (ForRoom r)) where
-    room_on : is_incremental st.setting.mode ≡ true → IsRowOn (slot_of i) (row_of_room r.reserve.stands)
-    room_on mode = elim (together.stand i (ForRoom r) under) as (λ _. IsRowOn (slot_of i) (row_of_room r.reserve.stands)) [
+    room_on : IsRowOn (slot_of i) (row_of_room r.reserve.stands)
+    room_on = elim (together.stand i (ForRoom r) under) as (λ _. IsRowOn (slot_of i) (row_of_room r.reserve.stands)) [
       | inl rests ↦ facts rests.1.facts
       | inr within ↦ subst (λ (row : Row). IsRowOn (slot_of i) row) within.0 (stands.shown.is_at.on_slots i)
     ]
       where
         begins : (q : Reserving) → ReservingFacts same hash w i (its_setting i (ForRoom r) under) st.chart (seen i (ForRoom r) under) q → IsRowOn (slot_of i) (row_of_room q)
-        begins (reserves.Copies copier) f = copier_on i (ForRoom r) under copier (whole_knows same hash terms m p stands of st is i (ForRoom r) under mode copier f)
+        begins (reserves.Copies copier) f = whole_on i (ForRoom r) under copier f
         begins _ f = tt
+
+        begins_late : (q : Reserving) → LateReserving same hash w i (its_setting i (ForRoom r) under) st.chart (seen i (ForRoom r) under) r.began q → IsRowOn (slot_of i) (row_of_room q)
+        begins_late (reserves.Copies copier) f = late_on i (ForRoom r) under r.began copier f
+        begins_late _ f = tt
 
         facts : ReserveFacts same hash w i (its_setting i (ForRoom r) under) st.chart (seen i (ForRoom r) under) r.reserve
             ⊎ LateReserveFacts same hash w i (its_setting i (ForRoom r) under) st.chart (seen i (ForRoom r) under) r.began r.reserve → IsRowOn (slot_of i) (row_of_room r.reserve.stands)
         facts (inl fresh) = begins r.reserve.stands fresh.point
-        facts (inr late) = absurd (let blocking = late.blocking in cc (mode, blocking))
+        facts (inr late) = begins_late r.reserve.stands late.point
 
     pub room_says : (m2 : Mem (Node K V)) (told : Changed) (p2 : Reserve) → Step before m2 told (rooms.reserve_plan hash r.reserve) (p2, outcome.Waits) → SaysWaits i (ForRoom r) under told
     room_says m2 told p2 s = elim (room_decided r.reserve.stands) as (λ _. SaysWaits i (ForRoom r) under told) [
@@ -225,16 +278,16 @@ module _ {K V S : Type 0} (same : K → K → Bool) (hash : K → ℕ) (terms : 
     abbrev SweepKnows : Type 0
     SweepKnows = SweepFacts same hash w i (its_setting i (OverAll o) under) st.chart (seen i (OverAll o) under) o.began o.sweep
 
-    sweep_on : is_incremental st.setting.mode ≡ true → IsRowOn (slot_of i) (row_of_sweep (slot_of i) o.sweep.stands)
-    sweep_on mode = elim (together.stand i (OverAll o) under) as (λ _. IsRowOn (slot_of i) (row_of_sweep (slot_of i) o.sweep.stands)) [
+    sweep_on : IsRowOn (slot_of i) (row_of_sweep (slot_of i) o.sweep.stands)
+    sweep_on = elim (together.stand i (OverAll o) under) as (λ _. IsRowOn (slot_of i) (row_of_sweep (slot_of i) o.sweep.stands)) [
       | inl rests ↦ begins o.sweep.stands rests.1.facts.point
       | inr within ↦ subst (λ (row : Row). IsRowOn (slot_of i) row) (within.0 ∙ same_row (slot_of i) o.sweep.stands) (stands.shown.is_at.on_slots i)
     ]
       where
         begins : (q : Sweeping) → SweepingFacts same hash w i (its_setting i (OverAll o) under) st.chart (seen i (OverAll o) under) o.began o.sweep q
             → IsRowOn (slot_of i) (row_of_sweep (slot_of i) q)
-        begins (sweeps.Copies copier) (inl whole) = copier_on i (OverAll o) under copier (whole_knows same hash terms m p stands of st is i (OverAll o) under mode copier whole)
-        begins (sweeps.Copies copier) (inr (blocking, late)) = absurd (cc (mode, blocking))
+        begins (sweeps.Copies copier) (inl whole) = whole_on i (OverAll o) under copier whole
+        begins (sweeps.Copies copier) (inr (blocking, late)) = late_on i (OverAll o) under o.began copier late
         begins (sweeps.Disposes dispose) f = dispose_on i (OverAll o) under dispose f.3
         begins _ f = tt
 

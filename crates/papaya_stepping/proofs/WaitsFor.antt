@@ -1,11 +1,11 @@
--- A call on one key that waits, on a map that grows in chunks, waits for a call that the moment tells, for which it may wait; and its step has changed nothing.
+-- A call on one key that waits, waits for a call that the moment tells, for which it may wait; and its step has changed nothing.
 use Rattle.std.specs.Prelude.{Option, Some}
 use Rattle.std.specs.List.{list_any}
-use Rattle.std.proofs.Common.{◌≡◌, ℕ, suc, ◌⊎◌, inl, inr, Bool, true, false, refl, ap, sym, subst, ◌∙◌}
+use Rattle.std.proofs.Common.{◌≡◌, ℕ, suc, ◌⊎◌, inl, inr, Bool, true, false, refl, ap, sym, subst}
+use Rattle.papaya_waits.specs.Others.{copier_in}
 use Rattle.papaya_histories.specs.Given.SeizeWords.Mem.{Mem, Took, value_at}
 use Rattle.papaya_histories.specs.Given.SeizeWords.Plan.{Steps}
-use Rattle.papaya_histories.specs.Given.Seize.World.{World, Row, Settles, Leaves}
-use Rattle.papaya_histories.specs.Given.Seize.declared.rows.settle.Settle.{Settle}
+use Rattle.papaya_histories.specs.Given.Seize.World.{World, Row}
 use Rattle.papaya_histories.specs.Given.SeizeEnds.Holders.{has_batch}
 use Rattle.papaya_histories.specs.Given.Tables.Chunks.{is_incremental}
 use Rattle.papaya_histories.specs.Given.Tables.declared.node.Node.{Node}
@@ -13,8 +13,6 @@ use Rattle.papaya_histories.specs.Given.Tables.declared.setting.Setting.{Setting
 use Rattle.papaya_histories.specs.Given.Resize.declared.copier.Copier.{Copier}
 use Rattle.papaya_histories.specs.Given.Resize.declared.copier.Copying.{Copying}
 use Rattle.papaya_histories.specs.Given.Resize.declared.copier.Copying.TheVariants as copies
-use Rattle.papaya_histories.specs.Given.Resize.declared.dispose.Disposing.{Disposing}
-use Rattle.papaya_histories.specs.Given.Resize.declared.dispose.Disposing.TheVariants as disposing
 use Rattle.papaya_raw.specs.Call.{call_plan}
 use Rattle.papaya_raw.specs.Call as calls
 use Rattle.papaya_raw.specs.declared.machines.answer.Called.TheVariants as says
@@ -24,48 +22,31 @@ use Rattle.papaya_raw.specs.declared.machines.call.KeyCall.{KeyCall}
 use Rattle.papaya_histories.specs.Given.Rule.Chart.{Claimed}
 use Rattle.papaya_histories.specs.Given.Rule.Words.{Blocks}
 use Rattle.papaya_histories.specs.Given.Points.FactsCalls.{CallFacts, CallingFacts, IsCopying, Unchanged}
-use Rattle.papaya_histories.specs.Given.Points.FactsCopies.{CopyingFacts}
-use Rattle.papaya_histories.specs.Given.Points.FactsDisposes.{DisposingFacts}
 use Rattle.papaya_histories.specs.Given.Points.Steps.{AreLawful}
 use Rattle.papaya_histories.specs.Given.Points.Told.{IsRowOfCall}
-use Rattle.papaya_histories.specs.Given.Late.LateCalls.{LateCallFacts}
-use Rattle.papaya_histories.specs.Given.Callers.Rows.{IsRowOn, row_of, row_of_copier, row_of_disposal}
+use Rattle.papaya_histories.specs.Given.Late.LateCalls.{LateCallFacts, LateCalling}
+use Rattle.papaya_histories.specs.Given.Callers.Rows.{IsRowOn, row_of}
 use Rattle.papaya_histories.specs.Given.Callers.Sights.{seen_by}
-use Rattle.papaya_histories.specs.Given.Callers.Together.{CallOnKey, UnderWay, OnKey, ForRoom, Counting, OverAll, Together, in_slot}
-use Rattle.papaya_owned.specs.Given.SeizeActs.Waits.{SettlesOn}
+use Rattle.papaya_histories.specs.Given.Callers.Together.{CallOnKey, UnderWay, OnKey, Together, in_slot}
 use Rattle.papaya_owned.proofs.Given.Whole.Rows.Kinds.{row_decided}
 use Rattle.papaya_owned.specs.Given.Waits.Waits.{AnotherHolds, CallAwaits, CopierAwaits, IsBeingCopied}
 use Rattle.papaya_owned.proofs.Given.Waits.Claimed.{pairs_are_copied_by_calls}
 use Rattle.papaya_owned.proofs.Given.Waits.Laws.{calls_wait_for_a_copying, call_rows_wait_for_a_holder}
-use Rattle.papaya_owned.proofs.Given.Waits.Works.{OnlyLooks, not_idle, works}
+use Rattle.papaya_owned.proofs.Given.Waits.Works.{not_idle, works}
 use Rattle.papaya_schedules.specs.InUse.{may_wait_for}
 use Rattle.papaya_schedules.specs.Moment.{Moment}
 use Rattle.papaya_schedules.specs.Terms.{Terms}
 use Rattle.papaya_histories.specs.Given.Teller.declared.changed.Changed.{Changed}
 use Rattle.papaya_histories.specs.Given.Teller.declared.changed.Changed.TheVariants as changed
-use Rattle.papaya_histories.specs.Given.Finishes.Machines.{machine_of}
 use Rattle.papaya_histories.specs.Given.Finishes.Maps.{Standing}
 use Rattle.papaya_histories.specs.Given.Executor.IsAt.{slot_of}
 use Rattle.papaya_histories.proofs.Given.Executor.Forgotten.{as_step}
-use Rattle.papaya_owes.specs.Looking.{IsLooking}
 use Rattle.papaya_owes.proofs.Tables.Hosts.{Step}
 use Rattle.papaya_scheduler.specs.Played.{StandsFor}
 use Rattle.papaya_scheduler.specs.declared.scheduler.Scheduler.{Scheduler}
 use Rattle.papaya_stepping.proofs.QuietWaits.{asked_quiet, row_quiet, try_quiet}
 use Rattle.papaya_stepping.proofs.Waiting.{waits_for_copier, waits_for_holder}
-
--- a row that works on one slot settles on that
-pub on_slot : (slot s : ℕ) (row : Row) → IsRowOn slot row → SettlesOn s row → s ≡ slot
-on_slot slot s (Settles c) is on = sym on ∙ is
-on_slot slot s (Leaves c) is on = sym on ∙ is
-on_slot slot s _ is on = absurd on
-
--- one whose machine looks only looks
-pub only_looks_by : {K V : Type 0} (x : UnderWay K V K) → IsLooking (machine_of x) → OnlyLooks x
-only_looks_by (OnKey u) looks = looks.1
-only_looks_by (Counting sum) looks = tt
-only_looks_by (ForRoom r) looks = looks
-only_looks_by (OverAll o) looks = looks
+use Rattle.papaya_stepping.proofs.RoomsWait.{at_once_on, copier_on, copier_waits, dispose_on, late_on, on_slot}
 
 module _ {K V S : Type 0} (same : K → K → Bool) (hash : K → ℕ) (terms : Terms) (m : Moment K V) (p : Scheduler K V S) (stands : StandsFor same hash terms m p) (of i : ℕ) (u : CallOnKey K V K)
     (under : stands.scene.calls of i ≡ Some (OnKey u)) (st : Standing K) (is : stands.scene.maps of ≡ Some st) where
@@ -109,34 +90,35 @@ module _ {K V S : Type 0} (same : K → K → Bool) (hash : K → ℕ) (terms : 
       | inr within ↦ subst (λ (q : Calling). IsRowOfCall q) here within.1
     ]
 
-    -- the row that it stands at, which it has under way or is about to begin, works on its slot
-    begins_on : (q : Calling) → CallingFacts same hash same w i its_setting st.chart seen u.keys u.change u.call q → IsRowOn (slot_of i) (row_of (slot_of i) q)
-    begins_on (at.Disposes dispose answer) f = by dispose.stands f.0.point
-      where
-        by : (q : Disposing) → DisposingFacts w i its_setting st.chart seen f.0.n f.0.t q → IsRowOn (slot_of i) (row_of_disposal (slot_of i) q)
-        by (disposing.Settles settle) g = ap (λ (x : Settle). x.slot) g.0.0
-        by (disposing.Defers defer) g = refl
-        by _ g = tt
-    begins_on (at.Helps copier goal) f = by copier.stands f.6.point
-      where
-        by : (q : Copying) → CopyingFacts same hash w i its_setting st.chart seen copier q → IsRowOn (slot_of i) (row_of_copier q)
-        by (copies.Retires settle rest) g = ap (λ (x : Settle). x.slot) g.2.0
-        by _ g = tt
-    begins_on (at.Copies copier) f = absurd (let blocking = f.1 in cc (mode, blocking))
-    begins_on _ f = tt
+  -- the row that it stands at, which it has under way or is about to begin, works on its slot
+  begins_on : (q : Calling) → CallingFacts same hash same w i its_setting st.chart seen u.keys u.change u.call q → IsRowOn (slot_of i) (row_of (slot_of i) q)
+  begins_on (at.Disposes dispose answer) f = dispose_on same hash terms m p stands of st is i (OnKey u) under dispose f.0
+  begins_on (at.Helps copier goal) f = copier_on same hash terms m p stands of st is i (OnKey u) under copier f.6
+  begins_on (at.Copies copier) f = at_once_on same hash terms m p stands of st is i (OnKey u) under copier f.2
+  begins_on _ f = tt
 
-    its_row_on : IsRowOn (slot_of i) (row_of (slot_of i) u.call.stands)
-    its_row_on = elim (together.stand i (OnKey u) under) as (λ _. IsRowOn (slot_of i) (row_of (slot_of i) u.call.stands)) [
-      | inl rests ↦ begins_on u.call.stands (fresh_of rests.1.facts).point
-      | inr within ↦ subst (λ (row : Row). IsRowOn (slot_of i) row) within.0 (stands.shown.is_at.on_slots i)
+  begins_late : (q : Calling) → LateCalling same hash same w i its_setting st.chart seen u.keys u.began u.call q → IsRowOn (slot_of i) (row_of (slot_of i) q)
+  begins_late (at.Disposes dispose answer) f = absurd f
+  begins_late (at.Helps copier goal) f = absurd f
+  begins_late (at.Copies copier) f = late_on same hash terms m p stands of st is i (OnKey u) under u.began copier f.1
+  begins_late _ f = tt
+
+  its_row_on : IsRowOn (slot_of i) (row_of (slot_of i) u.call.stands)
+  its_row_on = elim (together.stand i (OnKey u) under) as (λ _. IsRowOn (slot_of i) (row_of (slot_of i) u.call.stands)) [
+    | inl rests ↦ elim rests.1.facts as (λ _. IsRowOn (slot_of i) (row_of (slot_of i) u.call.stands)) [
+      | inl fresh ↦ begins_on u.call.stands fresh.point
+      | inr late ↦ begins_late u.call.stands late.1.point
     ]
+    | inr within ↦ subst (λ (row : Row). IsRowOn (slot_of i) row) within.0 (stands.shown.is_at.on_slots i)
+  ]
 
-    -- another row has the batch of its slot
-    by_holder : AnotherHolds w i (row_of (slot_of i) u.call.stands) → Waits
-    by_holder (s, on, (j, has, other, only)) =
-        waits_for_holder same hash terms m p stands of i j (OnKey u) under
-        (subst (λ (n : ℕ). has_batch n (w.row j) ≡ true) (on_slot (slot_of i) s (row_of (slot_of i) u.call.stands) its_row_on on) has) other
+  -- another row has the batch of its slot
+  by_holder : AnotherHolds w i (row_of (slot_of i) u.call.stands) → Waits
+  by_holder (s, on, (j, has, other, only)) =
+      waits_for_holder same hash terms m p stands of i j (OnKey u) under
+      (subst (λ (n : ℕ). has_batch n (w.row j) ≡ true) (on_slot (slot_of i) s (row_of (slot_of i) u.call.stands) its_row_on on) has) other
 
+  module _ (mode : is_incremental st.setting.mode ≡ true) where
     -- another call copies the pair that it has come to
     by_copier : u.call.stands ≡ at.Probes → (t place : ℕ) → IsBeingCopied st.chart t place → Waits
     by_copier here t place being =
@@ -171,15 +153,14 @@ module _ {K V S : Type 0} (same : K → K → Bool) (hash : K → ℕ) (terms : 
         by (at.Copies copier) (blocking, awaits) t = copying copier copier.stands refl awaits blocking t
         by _ none t = absurd none
 
-    module _ (mode : is_incremental st.setting.mode ≡ true) where
-      pub waits_so : Waits
-      waits_so = elim (row_decided u.call.stands) as (λ _. Waits) [
-        | inl row ↦ by_holder mode (call_rows_wait_for_a_holder V same hash same st.setting slot_of w st.chart st.blocks st.sights calls_on together i u under row m2 p2 steps)
-        | inr none ↦
-            by u.call.stands refl (calls_wait_for_a_copying V same hash same st.setting slot_of lawful w st.chart st.blocks st.sights calls_on together i u under none m2 p2 steps).1
-      ]
-        where
-          by : (q : Calling) → u.call.stands ≡ q → CallAwaits st.chart (is_incremental st.setting.mode) u.call q → Waits
-          by at.Probes here (incremental, being) = by_copier mode here u.call.trial.table.turn u.call.trial.probe.i being
-          by (at.Copies copier) here (blocking, awaits) = absurd (cc (mode, blocking))
-          by _ here none = absurd none
+    pub waits_so : Waits
+    waits_so = elim (row_decided u.call.stands) as (λ _. Waits) [
+      | inl row ↦ by_holder (call_rows_wait_for_a_holder V same hash same st.setting slot_of w st.chart st.blocks st.sights calls_on together i u under row m2 p2 steps)
+      | inr none ↦
+          by u.call.stands refl (calls_wait_for_a_copying V same hash same st.setting slot_of lawful w st.chart st.blocks st.sights calls_on together i u under none m2 p2 steps).1
+    ]
+      where
+        by : (q : Calling) → u.call.stands ≡ q → CallAwaits st.chart (is_incremental st.setting.mode) u.call q → Waits
+        by at.Probes here (incremental, being) = by_copier incremental here u.call.trial.table.turn u.call.trial.probe.i being
+        by (at.Copies copier) here (blocking, awaits) = copier_waits same hash terms m p stands of st is i (OnKey u) under copier (ap copier_in here) awaits
+        by _ here none = absurd none

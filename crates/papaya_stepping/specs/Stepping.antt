@@ -31,7 +31,7 @@ use Rattle.papaya_schedules.specs.Moment.{UnderWay as CallThere, Moment}
 use Rattle.papaya_schedules.specs.Sequential.{is_lookup}
 use Rattle.papaya_schedules.specs.Steps.{DoesFew, MakesSteps, stands_or, weight}
 use Rattle.papaya_schedules.specs.Terms.{Terms}
-use Rattle.papaya_schedules.specs.Views.{call_of, grows_in_chunks, map_at, map_of}
+use Rattle.papaya_schedules.specs.Views.{call_of, map_of}
 use Rattle.papaya_histories.specs.Given.Late.Faults.{IsRoom}
 use Rattle.papaya_histories.specs.Given.Effects.Known.{Known, known}
 use Rattle.papaya_histories.specs.Given.Executor.IsAt.{HasCall, IsAt, KeepsGiven, Scene}
@@ -100,14 +100,8 @@ module _ {K V : Type 0} where
   ComesAs call (Refused fault) = IsRoom fault
   ComesAs call _ = ⊥
 
-  -- a call on a map that grows in chunks, which waits only for a call that it may wait for
-  abbrev pub waits_in_case : CallThere K V → Moment K V → Bool
-  waits_in_case c now = grows_in_chunks (map_at c.map now)
-
-  -- That says: on any other map a call waits only for one that it may wait for, and a call is refused for the length of a table only where it finds none: it needs more places than a table can have,
-  -- or a table after the longest or the last one.
+  -- That says: a call is refused for the length of a table only where it finds none: it needs more places than a table can have, or a table after the longest or the last one.
   abbrev pub IsInCase : Terms → CallThere K V → List (Moment K V) → Moment K V → Outcome V → Type 0
-  IsInCase terms c moments now Waits = waits_in_case c now ≡ false → list_any (may_wait_for c now) now.calls ≡ true
   IsInCase terms c moments now (Refused Capacity) = CountsTooMany terms c.call c (now ∷ moments) ⊎ OneOf (λ m. is_at_limit c.map m ≡ true) (now ∷ moments)
   IsInCase terms c moments now _ = Unit {0}
 
@@ -150,11 +144,10 @@ module _ {K V S : Type 0} (same : K → K → Bool) (hash : K → ℕ) (terms : 
     pub follows : after ≡ before ++ did
     pub few : sum_by weight did ≤ steps
     pub comes : ComesAs call.call outcome
-    -- one that waits does more than look, and waits for one that it may wait for, if it is on a map that grows in chunks; one that is refused for want of memory has asked for
-    -- a growth, and nothing was made since
+    -- one that waits does more than look, and waits for one that it may wait for; one that is refused for want of memory has asked for a growth, and nothing was made since
     pub works : outcome ≡ Waits → only_looks call.call ≡ false
     pub waits : outcome ≡ Waits → (let w = with_effects (Some own) (Some call.map) did m in
-        (d : CallThere K V) → call_of own w ≡ Some d → waits_in_case d w ≡ true → list_any (may_wait_for d w) w.calls ≡ true)
+        (d : CallThere K V) → call_of own w ≡ Some d → list_any (may_wait_for d w) w.calls ≡ true)
     pub memory : outcome ≡ Refused Memory → (d : CallThere K V) → call_of own (with_effects (Some own) (Some call.map) did m) ≡ Some d → d.is_short ≡ true
     pub goes : goes_on outcome ≡ true → StandsFor same hash terms (with_effects (Some own) (Some call.map) did m) new × GoesAt own place new
     pub stands : (outcome ≡ Refused Busy → ⊥) → (counted : ℕ) → StandsFor same hash terms (come_to own outcome counted (with_effects (Some own) (Some call.map) did m)) new

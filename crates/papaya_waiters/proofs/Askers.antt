@@ -21,7 +21,7 @@ use Rattle.papaya_callers.specs.Sights.{Sight}
 use Rattle.papaya_callers.specs.Together.{UnderWay, Together, in_slot}
 use Rattle.papaya_waits.specs.Others.{EndsAt, copier_of}
 use Rattle.papaya_waits.specs.Waits.{IsUnfinished}
-use Rattle.papaya_waiters.specs.Blocking.{AbortsAt, AskersHaveOthersBlocking, HaveEndsBlocking, IsUncounted, SomeCopier}
+use Rattle.papaya_waiters.specs.Blocking.{AbortsAt, AskersHaveOthersBlocking, HaveEndsBlocking, IsUncounted, SomeCopier, SpentAt}
 
 -- one of two, where the choice is the second
 pub chosen : (X Y : Type 0) (b : Bool) → b ≡ false → cond b X Y → Y
@@ -92,7 +92,7 @@ module _ {K Q : Type 0} (V : Type 0) (same : K → K → Bool) (hash : K → ℕ
     -- each place is claimed
     claimed : c.first < t → (j : ℕ) → j < c.len c.first → is_free (c.share t j) ≡ false
     claimed behind j l =
-        let all = ends.spent i x call p within stands spent (subst (λ (n : ℕ). c.first < n) (sym turn) behind) (subst (λ (n : ℕ). n < c.past) (sym turn) target.made) in
+        let all = subst (λ (stage : Point). SpentAt c p stage) stands (ends.spent i x call p within) spent (subst (λ (n : ℕ). c.first < n) (sym turn) behind) (subst (λ (n : ℕ). n < c.past) (sym turn) target.made) in
         let full = subst (λ (n : ℕ). c.len c.first ≤ c.claim n) turn all in
         rule.in_mode.claims t j behind target.made l ∙ lt-leb (c.claim t) j (omega (arith, l, full))
 

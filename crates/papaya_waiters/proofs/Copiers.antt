@@ -69,6 +69,26 @@ no_abort : {K : Type 0} (c : Chart K) (p : Copier) (stands : Point) → IsAside 
 no_abort c p at.Aborts its t own = its
 no_abort c p _ its t own = own
 
+module _ {K V : Type 0} (same : K → K → Bool) (hash : K → ℕ) (caller : ℕ) (setting : Setting) (mode : is_incremental setting.mode ≡ false) (w : World (Node K V)) (c : Chart K)
+    (blocks : Blocks) (map : IsMapIn same hash setting w c blocks) (p : Copier) (m2 : Mem (Node K V)) (d : Chart K) (blocks2 : Blocks)
+    (r : Reached same hash setting mode w caller c blocks map m2 d blocks2) where
+  -- the status of its target is what a copier has written there
+  pub written : (t said : ℕ) → IsTable c blocks p.target t → m2 ≡ with_word w.memory (at_word p.target STATUS) said → d.status p.target.turn ≡ said
+  written t said target is = ap d.status (ap (λ (y : Table). y.turn) target.is)
+      ∙ status_now same hash setting mode w caller c blocks map m2 d blocks2 r t target.made (past_on same hash setting mode w caller c blocks map m2 d blocks2 r t target.made) target.known said stored
+    where
+      at_table : At
+      at_table = Word (blocks.table t) STATUS
+
+      word : at_word p.target STATUS ≡ at_table
+      word = word_stands hash w.memory c blocks setting.root map.map.shows p.target t target STATUS
+
+      stored : word_at m2 at_table ≡ Some said
+      stored =
+          ap (λ (n : Mem (Node K V)). word_at n at_table) (is ∙ ap (λ (x : At). with_word w.memory x said) word)
+          ∙ word_at-with_word w.memory at_table said at_table (is_some_of _ _ (map.map.shows.tables t target.made target.known).status)
+          ∙ ap (λ (b : Bool). cond b (Some said) (word_at w.memory at_table)) (same_at-refl at_table)
+
 module _ {K V : Type 0} (same : K → K → Bool) (hash : K → ℕ) (fits : (k : K) → hash k < 2 ^ 64) (lawful : IsLawful same (spot_of hash)) (caller : ℕ) (setting : Setting)
     (mode : is_incremental setting.mode ≡ false) (initial : IsPowerOfTwo setting.initial) (w : World (Node K V)) (c : Chart K) (blocks : Blocks) (map : IsMapIn same hash setting w c blocks)
     (p : Copier) (facts : CopierFactsBlocking same hash w caller setting c blocks p) (m2 : Mem (Node K V)) (end : Copier × Outcome (Node K V) Table)
@@ -100,23 +120,6 @@ module _ {K V : Type 0} (same : K → K → Bool) (hash : K → ℕ) (fits : (k 
       aside_keeps same hash setting mode w caller c blocks map m2 d blocks2 r P A G (first_as_before (no_row p.stands its) (no_promote p.stands its)) (idle_at p.stands its facts.point)
       (λ t. ⊥) (λ t. ⊥) all
 
-  -- the status of its target is what it has written there
-  written : (t said : ℕ) → IsTable c blocks p.target t → m2 ≡ with_word w.memory (at_word p.target STATUS) said → d.status p.target.turn ≡ said
-  written t said target is = ap d.status (ap (λ (y : Table). y.turn) target.is)
-      ∙ status_now same hash setting mode w caller c blocks map m2 d blocks2 r t target.made (past_on same hash setting mode w caller c blocks map m2 d blocks2 r t target.made) target.known said stored
-    where
-      at_table : At
-      at_table = Word (blocks.table t) STATUS
-
-      word : at_word p.target STATUS ≡ at_table
-      word = word_stands hash w.memory c blocks setting.root map.map.shows p.target t target STATUS
-
-      stored : word_at m2 at_table ≡ Some said
-      stored =
-          ap (λ (n : Mem (Node K V)). word_at n at_table) (is ∙ ap (λ (x : At). with_word w.memory x said) word)
-          ∙ word_at-with_word w.memory at_table said at_table (is_some_of _ _ (map.map.shows.tables t target.made target.known).status)
-          ∙ ap (λ (b : Bool). cond b (Some said) (word_at w.memory at_table)) (same_at-refl at_table)
-
   -- where it says that its copying was given up,
   pub copier_aborts : p.stands ≡ at.Aborts → AllKept P A G c (λ t. EndsAt c p at.Aborts t) (λ t. AbortsAt c p at.Aborts t) → AllKept P A G d (λ t. ⊥) (λ t. ⊥)
   copier_aborts here all =
@@ -128,7 +131,7 @@ module _ {K V : Type 0} (same : K → K → Bool) (hash : K → ℕ) (fits : (k 
 
       by : CopyingFactsBlocking same hash w caller setting c blocks p at.Aborts → Steps Took value_at w.memory (plan_at hash p at.Aborts) m2 end → AllKept P A G d (λ t. ⊥) (λ t. ⊥)
       by (t, gave) s =
-          aborts_keep same hash setting mode w caller c blocks map m2 d blocks2 r P A G first gave.0.2 p (written t ABORTED gave.0.0.2 s.1.1) all
+          aborts_keep same hash setting mode w caller c blocks map m2 d blocks2 r P A G first gave.0.2 p (written same hash caller setting mode w c blocks map p m2 d blocks2 r t ABORTED gave.0.0.2 s.1.1) all
 
   -- and where it says that it is over
   pub copier_announces : p.stands ≡ at.Announces → AllKept P A G c (λ t. EndsAt c p at.Announces t) (λ t. AbortsAt c p at.Announces t) → AllKept P A G d (λ t. ⊥) (λ t. ⊥)
@@ -141,4 +144,4 @@ module _ {K V : Type 0} (same : K → K → Bool) (hash : K → ℕ) (fits : (k 
 
       by : CopyingFactsBlocking same hash w caller setting c blocks p at.Announces → Steps Took value_at w.memory (plan_at hash p at.Announces) m2 end → AllKept P A G d (λ t. ⊥) (λ t. ⊥)
       by (s, source, unlinked) taken =
-          announces_keep same hash setting mode w caller c blocks map m2 d blocks2 r P A G first unlinked.2 p (written c.first PROMOTED unlinked.1 taken.1.1) all
+          announces_keep same hash setting mode w caller c blocks map m2 d blocks2 r P A G first unlinked.2 p (written same hash caller setting mode w c blocks map p m2 d blocks2 r c.first PROMOTED unlinked.1 taken.1.1) all

@@ -30,7 +30,7 @@ put_lost f t k share new u j = by (eqb u t) (eqb j k)
     by false b e = e
 
 -- what is counted, or given up, was counted, or given up, or is this caller's
-counted_lost : (i : ℕ) (share : Share) → with_counted i share ≡ Lost → share ≡ Lost
+pub counted_lost : (i : ℕ) (share : Share) → with_counted i share ≡ Lost → share ≡ Lost
 counted_lost i Free e = absurd (cc e)
 counted_lost i (Claimed k) e = absurd (cc e)
 counted_lost i Counted e = absurd (cc e)
@@ -41,7 +41,7 @@ counted_lost i (Done k) e = by (eqb k i) e
     by true is = absurd (cc is)
     by false is = absurd (cc is)
 
-lost_uncounted : (i : ℕ) (share : Share) → share ≢ Counted → with_lost i share ≢ Counted
+pub lost_uncounted : (i : ℕ) (share : Share) → share ≢ Counted → with_lost i share ≢ Counted
 lost_uncounted i share old = by (is_of_caller i share)
   where
     by : (b : Bool) → cond b Lost share ≢ Counted
@@ -49,11 +49,11 @@ lost_uncounted i share old = by (is_of_caller i share)
     by false e = old e
 
 -- by a caller that has none, no share is counted, or given up
-uncounted_after : (i : ℕ) (share : Share) → is_of_caller i share ≡ false → share ≢ Counted → with_counted i share ≢ Counted
+pub uncounted_after : (i : ℕ) (share : Share) → is_of_caller i share ≡ false → share ≢ Counted → with_counted i share ≢ Counted
 uncounted_after i (Done k) none old = subst (λ (b : Bool). cond b Counted (Done k) ≢ Counted) (sym none) old
 uncounted_after i _ none old = old
 
-lost_before : (i : ℕ) (share : Share) → is_of_caller i share ≡ false → with_lost i share ≡ Lost → share ≡ Lost
+pub lost_before : (i : ℕ) (share : Share) → is_of_caller i share ≡ false → with_lost i share ≡ Lost → share ≡ Lost
 lost_before i share none e = sym (ap (λ (b : Bool). cond b Lost share) none) ∙ e
 
 -- Others are to make a table the root, to say that they have, or that it is given up.
@@ -69,6 +69,31 @@ module _ {K : Type 0} (P A G : ℕ → Type 0) where
   abbrev pub AllKept : Chart K → (End Lose : ℕ → Type 0) → Type 0
   AllKept c End Lose = AllEnd c End × AllGivenUp c Lose
 
+  -- who is to do nothing may be left out; and who else is to do something may be named
+  pub none_either : (c : Chart K) (End Lose : ℕ → Type 0) → ((t : ℕ) → End t → ⊥) → ((t : ℕ) → Lose t → ⊥) → AllKept c End Lose → AllKept c (λ t. ⊥) (λ t. ⊥)
+  none_either c End Lose no_end no_lose (ends, given) = (λ t some made unfinished. by t (ends t some made unfinished), λ t j behind made unfinished l is. given_so t (given t j behind made unfinished l is))
+    where
+      by : (t : ℕ) → IsUncounted c t ⊎ (OthersEnd P A c t ⊎ End t) → IsUncounted c t ⊎ (OthersEnd P A c t ⊎ ⊥)
+      by t (inl uncounted) = inl uncounted
+      by t (inr (inl others)) = inr (inl others)
+      by t (inr (inr own)) = absurd (no_end t own)
+
+      given_so : (t : ℕ) → G t ⊎ Lose t → G t ⊎ ⊥
+      given_so t (inl others) = inl others
+      given_so t (inr own) = absurd (no_lose t own)
+
+  pub or_own : (c : Chart K) (End Lose : ℕ → Type 0) → AllKept c (λ t. ⊥) (λ t. ⊥) → AllKept c End Lose
+  or_own c End Lose (ends, given) = (λ t some made unfinished. by t (ends t some made unfinished), λ t j behind made unfinished l is. given_so t (given t j behind made unfinished l is))
+    where
+      by : (t : ℕ) → IsUncounted c t ⊎ (OthersEnd P A c t ⊎ ⊥) → IsUncounted c t ⊎ (OthersEnd P A c t ⊎ End t)
+      by t (inl uncounted) = inl uncounted
+      by t (inr (inl others)) = inr (inl others)
+      by t (inr (inr none)) = absurd none
+
+      given_so : (t : ℕ) → G t ⊎ ⊥ → G t ⊎ Lose t
+      given_so t (inl others) = inl others
+      given_so t (inr none) = absurd none
+
   module _ (same : K → K → Bool) (hash : K → ℕ) (c : Chart K) (rule : Rule same (spot_of hash) false c) where
     abbrev next : Move K → Chart K
     next move = after (spot_of hash) false move c
@@ -76,12 +101,13 @@ module _ {K : Type 0} (P A G : ℕ → Type 0) where
     module _ (End Lose : ℕ → Type 0) where
       -- where shares behind the root that are not counted are so on, and none is given up, and all else is as it was
       pub still : (d : Chart K) → d.first ≡ c.first → d.past ≡ c.past → d.status ≡ c.status → d.len ≡ c.len
-          → ((t j : ℕ) → c.first < t → c.share t j ≢ Counted → d.share t j ≢ Counted) → ((t j : ℕ) → c.first < t → d.share t j ≡ Lost → c.share t j ≡ Lost) → AllKept c End Lose → AllKept d End Lose
+          → ((t j : ℕ) → c.first < t → j < c.len c.first → c.share t j ≢ Counted → d.share t j ≢ Counted)
+          → ((t j : ℕ) → c.first < t → j < c.len c.first → d.share t j ≡ Lost → c.share t j ≡ Lost) → AllKept c End Lose → AllKept d End Lose
       still d first past status len uncounted lost (ends, given) = (
         λ t some made unfinished. on t (ends t some (made_before t made) (open_before t unfinished)),
         λ t j behind made unfinished l is.
             given t j (subst (λ (n : ℕ). n < t) first behind) (made_before t made) (open_before t unfinished) (inside j l)
-            (lost t j (subst (λ (n : ℕ). n < t) first behind) is),
+            (lost t j (subst (λ (n : ℕ). n < t) first behind) (inside j l) is),
       )
         where
           made_before : (t : ℕ) → t < d.past → t < c.past
@@ -98,7 +124,7 @@ module _ {K : Type 0} (P A G : ℕ → Type 0) where
             subst (λ (n : ℕ). n < t) (sym first) behind,
             j,
             subst (λ (n : ℕ). j < d.len n) (sym first) (subst (λ (g : ℕ → ℕ). j < g c.first) (sym len) l),
-            uncounted t j behind is,
+            uncounted t j behind l is,
           )
           on t (inr (inl (inl (behind, who)))) = inr (inl (inl (subst (λ (n : ℕ). n < t) (sym first) behind, who)))
           on t (inr (inl (inr (upto, who)))) = inr (inl (inr (subst (λ (n : ℕ). t ≤ n) (sym first) upto, who)))
@@ -154,16 +180,16 @@ module _ {K : Type 0} (P A G : ℕ → Type 0) where
 
       pub plain : (move : Move K) → Allowed same (spot_of hash) false move c → IsPlain move → AllKept c End Lose → AllKept (next move) End Lose
       plain (Links len limit) allowed its all = linked len limit all
-      plain (Stores t k j) allowed its all = still (next (Stores t k j)) refl refl refl refl (λ u n behind is. is) (λ u n behind is. is) all
-      plain (Replaces t place k) allowed its all = still (next (Replaces t place k)) refl refl refl refl (λ u n behind is. is) (λ u n behind is. is) all
-      plain (Removes t place) allowed its all = still (next (Removes t place)) refl refl refl refl (λ u n behind is. is) (λ u n behind is. is) all
-      plain (MarksBlocking place) allowed its all = still (next (MarksBlocking place)) refl refl refl refl (λ u n behind is. is) (λ u n behind is. is) all
+      plain (Stores t k j) allowed its all = still (next (Stores t k j)) refl refl refl refl (λ u n behind l is. is) (λ u n behind l is. is) all
+      plain (Replaces t place k) allowed its all = still (next (Replaces t place k)) refl refl refl refl (λ u n behind l is. is) (λ u n behind l is. is) all
+      plain (Removes t place) allowed its all = still (next (Removes t place)) refl refl refl refl (λ u n behind l is. is) (λ u n behind l is. is) all
+      plain (MarksBlocking place) allowed its all = still (next (MarksBlocking place)) refl refl refl refl (λ u n behind l is. is) (λ u n behind l is. is) all
       plain (Skips i t place) allowed its all =
-          still (next (Skips i t place)) refl refl refl refl (λ u j behind. put_uncounted c.share t place (Done i) (λ e. cc e) u j) (λ u j behind. put_lost c.share t place (Done i) (λ e. cc e) u j) all
+          still (next (Skips i t place)) refl refl refl refl (λ u j behind l. put_uncounted c.share t place (Done i) (λ e. cc e) u j) (λ u j behind l. put_lost c.share t place (Done i) (λ e. cc e) u j) all
       plain (Puts i place t k j) allowed its all =
-          still (next (Puts i place t k j)) refl refl refl refl (λ u j behind. put_uncounted c.share t place (Done i) (λ e. cc e) u j) (λ u j behind. put_lost c.share t place (Done i) (λ e. cc e) u j) all
-      plain (PutsLate t place n) allowed its all = still (next (PutsLate t place n)) refl refl refl refl (λ u j behind is. is) (λ u j behind is. is) all
-      plain (Claims i t chunk) allowed its all = still (next (Claims i t chunk)) refl refl refl refl (λ u j behind. uncounted u j) (λ u j behind. lost u j) all
+          still (next (Puts i place t k j)) refl refl refl refl (λ u j behind l. put_uncounted c.share t place (Done i) (λ e. cc e) u j) (λ u j behind l. put_lost c.share t place (Done i) (λ e. cc e) u j) all
+      plain (PutsLate t place n) allowed its all = still (next (PutsLate t place n)) refl refl refl refl (λ u j behind l is. is) (λ u j behind l is. is) all
+      plain (Claims i t chunk) allowed its all = still (next (Claims i t chunk)) refl refl refl refl (λ u j behind l. uncounted u j) (λ u j behind l. lost u j) all
         where
           uncounted : (u j : ℕ) → c.share u j ≢ Counted → (next (Claims i t chunk)).share u j ≢ Counted
           uncounted u j old = by (eqb u t && ltb c.first t) (leb (c.claim t) j && ltb j (c.claim t + chunk) && ltb j (c.len c.first))
@@ -252,8 +278,9 @@ module _ {K : Type 0} (P A G : ℕ → Type 0) where
               by (inl others) = inl others
               by (inr none) = absurd none
 
-    -- One caller's step: the root is the table that it was, and the caller has no part in the copying into any table behind it.
-    module _ (i : ℕ) (d : Chart K) (first : d.first ≡ c.first) (none : (u j : ℕ) → c.first < u → is_of_caller i (c.share u j) ≡ false) (End Lose : ℕ → Type 0) (all : AllKept c End Lose) where
+    -- One caller's step: the root is the table that it was. What it counts, and what it gives up, is told by others.
+    module _ (i : ℕ) (d : Chart K) (first : d.first ≡ c.first) (End Lose : ℕ → Type 0) (all : AllKept c End Lose) (R : Type 0) (on : AllKept d End Lose → R)
+        (counts : (t number : ℕ) → Allowed same (spot_of hash) false (Counts i t number) c → d ≡ next (Counts i t number) → R) (gives : (t : ℕ) → d ≡ next (GivesUp i t) → R) where
       -- what is not over then was not over
       still_open : (t : ℕ) (said : ℕ) → ((said ≡ PROMOTED) ⊎ (said ≡ ABORTED)) → (u : ℕ) → (b : Bool) → eqb u t ≡ b → (cond b said (c.status u) ≢ PROMOTED) × (cond b said (c.status u) ≢ ABORTED) → IsUnfinished c u
       still_open t said over u false e unfinished = unfinished
@@ -266,52 +293,66 @@ module _ {K : Type 0} (P A G : ℕ → Type 0) where
         λ u j behind made unfinished l lost. all.1 u j behind made (still_open t said over u (eqb u t) refl unfinished) l lost,
       )
 
-      by_move : (move : Move K) → Allowed same (spot_of hash) false move c → d ≡ next move → ((k : ℕ) → IsBy k move → k ≡ i) → AllKept d End Lose
+      plainly : (move : Move K) → Allowed same (spot_of hash) false move c → IsPlain End Lose move → d ≡ next move → R
+      plainly move allowed its is = on (subst (λ (x : Chart K). AllKept x End Lose) (sym is) (plain End Lose move allowed its all))
+
+      by_move : (move : Move K) → Allowed same (spot_of hash) false move c → d ≡ next move → ((k : ℕ) → IsBy k move → k ≡ i) → R
       by_move (Counts k t number) allowed is own =
           let mine : k ≡ i = own k refl in
-          subst (λ (x : Chart K). AllKept x End Lose) (sym is)
-          (still End Lose (next (Counts k t number)) refl refl refl refl (λ u j behind old. uncounted u j behind (eqb u t) mine old) (λ u j behind lost. before u j (eqb u t) lost) all)
-        where
-          uncounted : (u j : ℕ) → c.first < u → (b : Bool) → k ≡ i → c.share u j ≢ Counted → cond b (with_counted k (c.share u j)) (c.share u j) ≢ Counted
-          uncounted u j behind true mine old = uncounted_after k (c.share u j) (ap (λ (x : ℕ). is_of_caller x (c.share u j)) mine ∙ none u j behind) old
-          uncounted u j behind false mine old = old
-
-          before : (u j : ℕ) (b : Bool) → cond b (with_counted k (c.share u j)) (c.share u j) ≡ Lost → c.share u j ≡ Lost
-          before u j true lost = counted_lost k (c.share u j) lost
-          before u j false lost = lost
-      by_move (GivesUp k t) allowed is own =
-          let mine : k ≡ i = own k refl in
-          subst (λ (x : Chart K). AllKept x End Lose) (sym is)
-          (still End Lose (next (GivesUp k t)) refl refl refl refl (λ u j behind old. uncounted u j (eqb u t) old) (λ u j behind lost. before u j behind (eqb u t) mine lost) all)
-        where
-          uncounted : (u j : ℕ) → (b : Bool) → c.share u j ≢ Counted → cond b (with_lost k (c.share u j)) (c.share u j) ≢ Counted
-          uncounted u j true old = lost_uncounted k (c.share u j) old
-          uncounted u j false old = old
-
-          before : (u j : ℕ) → c.first < u → (b : Bool) → k ≡ i → cond b (with_lost k (c.share u j)) (c.share u j) ≡ Lost → c.share u j ≡ Lost
-          before u j behind true mine lost = lost_before k (c.share u j) (ap (λ (x : ℕ). is_of_caller x (c.share u j)) mine ∙ none u j behind) lost
-          before u j behind false mine lost = lost
-      by_move (Aborts t) allowed is own = told_over t ABORTED (inr refl) d is
-      by_move (Announces t) allowed is own = told_over t PROMOTED (inl refl) d is
+          counts t number (subst (λ (x : ℕ). Allowed same (spot_of hash) false (Counts x t number) c) mine allowed) (is ∙ ap (λ (x : ℕ). next (Counts x t number)) mine)
+      by_move (GivesUp k t) allowed is own = let mine : k ≡ i = own k refl in gives t (is ∙ ap (λ (x : ℕ). next (GivesUp x t)) mine)
+      by_move (Aborts t) allowed is own = on (told_over t ABORTED (inr refl) d is)
+      by_move (Announces t) allowed is own = on (told_over t PROMOTED (inl refl) d is)
       by_move (Promotes t) allowed is own =
           absurd (let there : d.first ≡ t = ap (λ (x : Chart K). x.first) is in let behind = allowed.0 in omega (arith, first, there, behind))
-      by_move (Links len limit) allowed is own = subst (λ (x : Chart K). AllKept x End Lose) (sym is) (plain End Lose (Links len limit) allowed tt all)
-      by_move (Stores t k j) allowed is own = subst (λ (x : Chart K). AllKept x End Lose) (sym is) (plain End Lose (Stores t k j) allowed tt all)
-      by_move (Replaces t place k) allowed is own = subst (λ (x : Chart K). AllKept x End Lose) (sym is) (plain End Lose (Replaces t place k) allowed tt all)
-      by_move (Removes t place) allowed is own = subst (λ (x : Chart K). AllKept x End Lose) (sym is) (plain End Lose (Removes t place) allowed tt all)
-      by_move (Marks k place) allowed is own = subst (λ (x : Chart K). AllKept x End Lose) (sym is) (plain End Lose (Marks k place) allowed tt all)
-      by_move (MarksBlocking place) allowed is own = subst (λ (x : Chart K). AllKept x End Lose) (sym is) (plain End Lose (MarksBlocking place) allowed tt all)
-      by_move (Skips k t place) allowed is own = subst (λ (x : Chart K). AllKept x End Lose) (sym is) (plain End Lose (Skips k t place) allowed tt all)
-      by_move (Unmarks k place) allowed is own = subst (λ (x : Chart K). AllKept x End Lose) (sym is) (plain End Lose (Unmarks k place) allowed tt all)
-      by_move (Puts k place t key try) allowed is own = subst (λ (x : Chart K). AllKept x End Lose) (sym is) (plain End Lose (Puts k place t key try) allowed tt all)
-      by_move (Covers k place) allowed is own = subst (λ (x : Chart K). AllKept x End Lose) (sym is) (plain End Lose (Covers k place) allowed tt all)
-      by_move (PutsLate t place n) allowed is own = subst (λ (x : Chart K). AllKept x End Lose) (sym is) (plain End Lose (PutsLate t place n) allowed tt all)
-      by_move (Claims k t chunk) allowed is own = subst (λ (x : Chart K). AllKept x End Lose) (sym is) (plain End Lose (Claims k t chunk) allowed tt all)
-      by_move (Reclaims t claim) allowed is own = subst (λ (x : Chart K). AllKept x End Lose) (sym is) (plain End Lose (Reclaims t claim) allowed tt all)
+      by_move (Links len limit) allowed is own = plainly (Links len limit) allowed tt is
+      by_move (Stores t k j) allowed is own = plainly (Stores t k j) allowed tt is
+      by_move (Replaces t place k) allowed is own = plainly (Replaces t place k) allowed tt is
+      by_move (Removes t place) allowed is own = plainly (Removes t place) allowed tt is
+      by_move (Marks k place) allowed is own = plainly (Marks k place) allowed tt is
+      by_move (MarksBlocking place) allowed is own = plainly (MarksBlocking place) allowed tt is
+      by_move (Skips k t place) allowed is own = plainly (Skips k t place) allowed tt is
+      by_move (Unmarks k place) allowed is own = plainly (Unmarks k place) allowed tt is
+      by_move (Puts k place t key try) allowed is own = plainly (Puts k place t key try) allowed tt is
+      by_move (Covers k place) allowed is own = plainly (Covers k place) allowed tt is
+      by_move (PutsLate t place n) allowed is own = plainly (PutsLate t place n) allowed tt is
+      by_move (Claims k t chunk) allowed is own = plainly (Claims k t chunk) allowed tt is
+      by_move (Reclaims t claim) allowed is own = plainly (Reclaims t claim) allowed tt is
+
+      pub any_move : (d ≡ c) ⊎ ((move : Move K) × Allowed same (spot_of hash) false move c × (d ≡ next move) × ((k : ℕ) → IsBy k move → k ≡ i)) → R
+      any_move (inl is) = on (subst (λ (x : Chart K). AllKept x End Lose) (sym is) all)
+      any_move (inr (move, allowed, is, own)) = by_move move allowed is own
+
+    -- a caller has no part in the copying into any table behind the root
+    module _ (i : ℕ) (d : Chart K) (first : d.first ≡ c.first) (none : (u j : ℕ) → c.first < u → is_of_caller i (c.share u j) ≡ false) (End Lose : ℕ → Type 0) (all : AllKept c End Lose) where
+      counts_none : (t number : ℕ) → d ≡ next (Counts i t number) → AllKept d End Lose
+      counts_none t number is =
+          subst (λ (x : Chart K). AllKept x End Lose) (sym is)
+          (still End Lose (next (Counts i t number)) refl refl refl refl (λ u j behind l old. uncounted u j behind (eqb u t) old) (λ u j behind l lost. before u j (eqb u t) lost) all)
+        where
+          uncounted : (u j : ℕ) → c.first < u → (b : Bool) → c.share u j ≢ Counted → cond b (with_counted i (c.share u j)) (c.share u j) ≢ Counted
+          uncounted u j behind true old = uncounted_after i (c.share u j) (none u j behind) old
+          uncounted u j behind false old = old
+
+          before : (u j : ℕ) (b : Bool) → cond b (with_counted i (c.share u j)) (c.share u j) ≡ Lost → c.share u j ≡ Lost
+          before u j true lost = counted_lost i (c.share u j) lost
+          before u j false lost = lost
+
+      gives_none : (t : ℕ) → d ≡ next (GivesUp i t) → AllKept d End Lose
+      gives_none t is =
+          subst (λ (x : Chart K). AllKept x End Lose) (sym is)
+          (still End Lose (next (GivesUp i t)) refl refl refl refl (λ u j behind l old. uncounted u j (eqb u t) old) (λ u j behind l lost. before u j behind (eqb u t) lost) all)
+        where
+          uncounted : (u j : ℕ) → (b : Bool) → c.share u j ≢ Counted → cond b (with_lost i (c.share u j)) (c.share u j) ≢ Counted
+          uncounted u j true old = lost_uncounted i (c.share u j) old
+          uncounted u j false old = old
+
+          before : (u j : ℕ) → c.first < u → (b : Bool) → cond b (with_lost i (c.share u j)) (c.share u j) ≡ Lost → c.share u j ≡ Lost
+          before u j behind true lost = lost_before i (c.share u j) (none u j behind) lost
+          before u j behind false lost = lost
 
       pub aside : (d ≡ c) ⊎ ((move : Move K) × Allowed same (spot_of hash) false move c × (d ≡ next move) × ((k : ℕ) → IsBy k move → k ≡ i)) → AllKept d End Lose
-      aside (inl is) = subst (λ (x : Chart K). AllKept x End Lose) (sym is) all
-      aside (inr (move, allowed, is, own)) = by_move move allowed is own
+      aside = any_move i d first End Lose all (AllKept d End Lose) (λ kept. kept) (λ t number allowed is. counts_none t number is) gives_none
 
     -- who was to end a copying, or to give it up, is so no more where that is over
     pub discharged : (d : Chart K) (End Lose : ℕ → Type 0) → ((u : ℕ) → End u → IsUnfinished d u → ⊥) → ((u : ℕ) → Lose u → IsUnfinished d u → ⊥) → AllKept d End Lose → AllKept d (λ u. ⊥) (λ u. ⊥)

@@ -1,6 +1,7 @@
 -- In blocking mode: that each copying that is not over has who goes on with it, who ends it, or who gives it up; and which call a call waits for then.
 use Rattle.std.specs.Prelude.{◌≡◌, ◌≢◌, ℕ, ◌<◌, ◌≤◌, ◌⊎◌, Bool, true, false, Option, Some}
-use Rattle.papaya_callers.specs.Given.Seize.World.{World}
+use Rattle.std.specs.Int.{IsPowerOfTwo}
+use Rattle.papaya_callers.specs.Given.Seize.World.{World, with_at}
 use Rattle.papaya_callers.specs.Given.Tables.Chunks.{is_incremental}
 use Rattle.papaya_callers.specs.Given.Tables.declared.node.Node.{Node}
 use Rattle.papaya_callers.specs.Given.Tables.declared.setting.Setting.{Setting}
@@ -12,8 +13,26 @@ use Rattle.papaya_callers.specs.Given.Rule.Maps.{IsTable}
 use Rattle.papaya_callers.specs.Given.Rule.Moves.{is_of_caller}
 use Rattle.papaya_callers.specs.Given.Rule.Words.{Blocks}
 use Rattle.papaya_callers.specs.Given.Points.FactsCopiesBlocking.{HasNoShares}
+use Rattle.papaya_callers.specs.Given.SeizeWords.Mem.{Mem, Took, value_at}
+use Rattle.papaya_callers.specs.Given.SeizeWords.Plan.{Steps}
+use Rattle.papaya_callers.specs.Given.Resize.declared.outcome.Outcome.{Outcome}
+use Rattle.papaya_callers.specs.Given.Raw.Call.{call_plan}
+use Rattle.papaya_callers.specs.Given.Raw.declared.machines.answer.Called.{Called}
+use Rattle.papaya_callers.specs.Given.Raw.declared.machines.call.KeyCall.{KeyCall}
+use Rattle.papaya_callers.specs.Given.Reserves.Reserve.{reserve_plan}
+use Rattle.papaya_callers.specs.Given.Reserves.declared.reserve.Reserve.{Reserve}
+use Rattle.papaya_callers.specs.Given.Sweeps.Sweep.{sweep_plan}
+use Rattle.papaya_callers.specs.Given.Sweeps.declared.sweep.Sweep.{Sweep}
+use Rattle.papaya_callers.specs.Given.Sweeps.declared.sweep.Swept.{Swept}
+use Rattle.papaya_callers.specs.Given.Points.Steps.{AreLawful}
+use Rattle.papaya_callers.specs.Given.Points.Told.{IsRowOfCall}
+use Rattle.papaya_callers.specs.Given.Late.ToldReserves.{IsRowOfReserve}
+use Rattle.papaya_callers.specs.Given.Late.ToldSweeps.{IsRowOfSweep}
 use Rattle.papaya_callers.specs.Sights.{Sight}
-use Rattle.papaya_callers.specs.Together.{UnderWay, Together, in_slot}
+use Rattle.papaya_callers.specs.Together.{UnderWay, Together, in_slot, CallOnKey, OnKey, ForRoom, OverAll, StepsTogether, RoomStepsTogether, change_told, next_of, next_for_room, next_over_all}
+use Rattle.papaya_callers.specs.OverAll.{CallOverAll, come_to}
+use Rattle.papaya_callers.specs.Rooms.{CallForRoom}
+use Rattle.papaya_callers.specs.Sweeps.{SweepStepsTogether}
 use Rattle.papaya_waits.specs.Others.{EndsAt, copier_of}
 use Rattle.papaya_waits.specs.Waits.{IsUnfinished}
 
@@ -27,6 +46,12 @@ module _ {K : Type 0} (c : Chart K) where
   AbortsAt p copies.Aborts t = (p.target.turn ≡ t) × (c.first < t)
   AbortsAt p _ t = ⊥
 
+  -- A copier that asks how the copying stands, having found each place claimed, found so: each is, as long as that copying goes on. At its other points, until it is over, it has not.
+  abbrev pub SpentAt : Copier → Point → Type 0
+  SpentAt p copies.Asks = p.spent ≡ true → c.first < p.target.turn → p.target.turn < c.past → c.len c.first ≤ c.claim p.target.turn
+  SpentAt p copies.Over = Unit {0}
+  SpentAt p _ = p.spent ≡ false
+
   module _ {V Q : Type 0} (calls : ℕ → Option (UnderWay K V Q)) where
     -- the copier within which some call stands is so
     abbrev pub SomeCopier : (Copier → Type 0) → Type 0
@@ -37,8 +62,7 @@ module _ {K : Type 0} (c : Chart K) where
     pub record HaveEndsBlocking : Type 0 where
       pub ends : (t : ℕ) → 0 < t → t < c.past → IsUnfinished c t → IsUncounted t ⊎ SomeCopier (λ p. EndsAt c p p.stands t)
       pub lost : (t j : ℕ) → c.first < t → t < c.past → IsUnfinished c t → j < c.len c.first → c.share t j ≡ Lost → SomeCopier (λ p. AbortsAt p p.stands t)
-      pub spent : (i : ℕ) (x : UnderWay K V Q) → calls i ≡ Some x → (p : Copier) → copier_of x ≡ Some p → p.stands ≡ copies.Asks → p.spent ≡ true → c.first < p.target.turn
-          → p.target.turn < c.past → c.len c.first ≤ c.claim p.target.turn
+      pub spent : (i : ℕ) (x : UnderWay K V Q) → calls i ≡ Some x → (p : Copier) → copier_of x ≡ Some p → SpentAt p p.stands
 
 -- The promise: if the copier within which a call stands has found each place claimed, and asks how the copying stands, which is not over, then another caller has a call: it is to
 -- copy a place for that table, or has and has not counted it; or it is to end the copying, or to give it up.
@@ -51,3 +75,38 @@ AskersHaveOthersBlocking {K} {Q} V same hash asks setting slot =
     → (k : ℕ) × (u : UnderWay K V Q) × (calls k ≡ Some u) × (k ≢ i)
     × (((c.first < t) × (j : ℕ) × (is_of_caller k (c.share t j) ≡ true))
     ⊎ ((q : Copier) × (copier_of u ≡ Some q) × (EndsAt c q q.stands t ⊎ AbortsAt c q q.stands t)))
+
+module _ {K Q : Type 0} (V : Type 0) (same : K → K → Bool) (hash : K → ℕ) (asks : Q → K → Bool) (setting : Setting) (slot : ℕ → ℕ) where
+  -- In blocking mode: where each copying that is not over has who goes on with it, who ends it, or who gives it up, it has after each step of a call on one key that is none of a row.
+  abbrev pub CallsKeepEndsBlocking : Type 0
+  CallsKeepEndsBlocking =
+      AreLawful same hash → IsPowerOfTwo setting.initial → is_incremental setting.mode ≡ false
+      → (w : World (Node K V)) (c : Chart K) (blocks : Blocks) (sights : ℕ → Sight) (calls : ℕ → Option (UnderWay K V Q))
+      → Together V same hash asks setting slot w c blocks sights calls → HaveEndsBlocking c calls
+      → (i : ℕ) (u : CallOnKey K V Q) → calls i ≡ Some (OnKey u) → (IsRowOfCall u.call.stands → ⊥)
+      → (m2 : Mem (Node K V)) (p2 : KeyCall K V Q) (progress : Called (Node K V)) → Steps Took value_at w.memory (call_plan asks same hash u.call) m2 (p2, progress)
+      → (leads : StepsTogether V same hash asks setting slot w c blocks sights calls i u m2 p2 progress)
+      → HaveEndsBlocking leads.went.c2
+      (with_at calls i (next_of (record { keys = u.keys; pair = u.pair; began = u.began; change = change_told V same hash asks setting slot leads.went.told; call = p2 }) progress))
+
+  -- so it has after one of a reservation
+  abbrev pub RoomsKeepEndsBlocking : Type 0
+  RoomsKeepEndsBlocking =
+      AreLawful same hash → IsPowerOfTwo setting.initial → is_incremental setting.mode ≡ false
+      → (w : World (Node K V)) (c : Chart K) (blocks : Blocks) (sights : ℕ → Sight) (calls : ℕ → Option (UnderWay K V Q))
+      → Together V same hash asks setting slot w c blocks sights calls → HaveEndsBlocking c calls
+      → (i : ℕ) (r : CallForRoom) → calls i ≡ Some (ForRoom r) → (IsRowOfReserve r.reserve.stands → ⊥)
+      → (m2 : Mem (Node K V)) (p2 : Reserve) (end : Outcome (Node K V) Unit) → Steps Took value_at w.memory (reserve_plan hash r.reserve) m2 (p2, end)
+      → (leads : RoomStepsTogether V same hash asks setting slot w c blocks sights calls i r m2 p2 end)
+      → HaveEndsBlocking leads.went.c2 (with_at calls i (next_for_room (record { began = r.began; reserve = p2 }) end))
+
+  -- and after one of a sweep
+  abbrev pub SweepsKeepEndsBlocking : Type 0
+  SweepsKeepEndsBlocking =
+      AreLawful same hash → IsPowerOfTwo setting.initial → is_incremental setting.mode ≡ false
+      → (w : World (Node K V)) (c : Chart K) (blocks : Blocks) (sights : ℕ → Sight) (calls : ℕ → Option (UnderWay K V Q))
+      → Together V same hash asks setting slot w c blocks sights calls → HaveEndsBlocking c calls
+      → (i : ℕ) (o : CallOverAll) → calls i ≡ Some (OverAll o) → (IsRowOfSweep o.sweep.stands → ⊥)
+      → (m2 : Mem (Node K V)) (p2 : Sweep) (end : Swept (Node K V)) → Steps Took value_at w.memory (sweep_plan hash o.sweep) m2 (p2, end)
+      → (leads : SweepStepsTogether V same hash asks setting slot w c blocks sights calls i o m2 p2 end)
+      → HaveEndsBlocking leads.went.c2 (with_at calls i (next_over_all (come_to o leads.entered2 leads.done2 p2) end))
