@@ -119,7 +119,9 @@ module _ {K V : Type 0} (Of : Type 0 → Machine K V K → Type 0) (more : (A B 
           | inl own ↦
               subst (λ (z : UnderWay K V K). Of (HasSo n d.begun log (with_call (name i) guard its (Some map) m)) (machine_of z)) (one_of u x own.2)
               (none (HasSo n d.begun log (with_call (name i) guard its (Some map) m)))
-          | inr was ↦ shows n j x was.1 d (found_now j (apart n j x was.1) d d_is)
+          | inr was ↦
+              moved log m (with_call (name i) guard its (Some map) m) n n d.begun d.begun (machine_of x) (machine_of x) refl refl refl (so_same m (with_call (name i) guard its (Some map) m) refl refl n)
+              (shows n j x was.1 d (found_now j (apart n j x was.1) d d_is))
         ]
       where
         found_now : (j : ℕ) → is_same (name i) (name j) ≡ false → (d : CallThere K V) → call_of (name j) (with_call (name i) guard its (Some map) m) ≡ Some d → call_of (name j) m ≡ Some d
@@ -132,11 +134,11 @@ module _ {K V : Type 0} (Of : Type 0 → Machine K V K → Type 0) (more : (A B 
             | inl own ↦
                 (let c = shown map i u here in
                 moved log m (told (name i) reply m) map n c.0.begun d.begun (machine_replied (machine_of u) machine_reply).0 (machine_of x) own.0
-                (begun_same j d c.0 (ap (λ (k : ℕ). call_of (name k) m) own.1 ∙ c.1) d_is) (ap (λ (z : UnderWay K V K). machine_of z) (sym (one_of next x own.2)) ∙ next_is) (λ has. has)
+                (begun_same j d c.0 (ap (λ (k : ℕ). call_of (name k) m) own.1 ∙ c.1) d_is) (ap (λ (z : UnderWay K V K). machine_of z) (sym (one_of next x own.2)) ∙ next_is) (so_same m (told (name i) reply m) refl refl map)
                 (replies (HasSo map c.0.begun log m) (machine_of u) machine_reply (shows map i u here c.0 c.1)))
             | inr was ↦
                 (let c = shown n j x was.1 in
-                moved log m (told (name i) reply m) n n c.0.begun d.begun (machine_of x) (machine_of x) refl (begun_same j d c.0 c.1 d_is) refl (λ has. has) (shows n j x was.1 c.0 c.1))
+                moved log m (told (name i) reply m) n n c.0.begun d.begun (machine_of x) (machine_of x) refl (begun_same j d c.0 c.1 d_is) refl (so_same m (told (name i) reply m) refl refl n) (shows n j x was.1 c.0 c.1))
           ]
         where
           tells : CallThere K V → CallThere K V
@@ -161,7 +163,9 @@ module _ {K V : Type 0} (Of : Type 0 → Machine K V K → Type 0) (more : (A B 
 
       pub walks_stop_so : (q : Bool) → (q ≡ true → NoneNamed name (name i) (at_end q)) → ShowsSo name log (given_up (name i) q m) (at_end q)
       walks_stop_so false none n j x is d d_is = shows n j x (fewer_calls s map i u here false n j x is) d d_is
-      walks_stop_so true none n j x is d d_is = shows n j x (fewer_calls s map i u here true n j x is) d found_there
+      walks_stop_so true none n j x is d d_is =
+          moved log m (given_up (name i) true m) n n d.begun d.begun (machine_of x) (machine_of x) refl refl refl (so_same m (given_up (name i) true m) refl refl n)
+          (shows n j x (fewer_calls s map i u here true n j x is) d found_there)
         where
           found_there : call_of (name j) m ≡ Some d
           found_there =
@@ -199,7 +203,7 @@ module _ {K V : Type 0} (Of : Type 0 → Machine K V K → Type 0) (more : (A B 
     calls_come_to_so n j x is d d_is =
         let c = shown n j x is in
         moved log m (come_to own o steps m) n n c.0.begun d.begun (machine_of x) (machine_of x) refl
-        (ap (λ (y : CallThere K V). y.begun) (came n j x is c.0 c.1 d d_is) ∙ if_begun (come o steps) (λ y. comes_begun o (record y { steps = y.steps + steps })) c.0 (is_same (name j) own)) refl (λ has. has)
+        (ap (λ (y : CallThere K V). y.begun) (came n j x is c.0 c.1 d d_is) ∙ if_begun (come o steps) (λ y. comes_begun o (record y { steps = y.steps + steps })) c.0 (is_same (name j) own)) refl (so_same m (come_to own o steps m) refl refl n)
         (shows n j x is c.0 c.1)
 
   -- A step of a call.
