@@ -44,11 +44,12 @@ use Rattle.papaya_histories.specs.Given.Finishes.Maps.{Standing}
 use Rattle.papaya_histories.specs.Given.Moments.Whole.{ShowsWhole}
 use Rattle.papaya_finds.specs.Capacities.{ShowsCapacities}
 use Rattle.papaya_finds.proofs.Reserving.{adds_after}
-use Rattle.papaya_purposes.specs.Purposes.{IsFor, ShowsPurposes}
+use Rattle.papaya_purposes.specs.Purposes.{ShowsPurposes}
 use Rattle.papaya_purposes.specs.Shards.{ReadsShards}
 use Rattle.papaya_purposes.proofs.RoomFacts.{room_setting}
 use Rattle.papaya_purposes.proofs.RoomSteps.{counts_then}
 use Rattle.papaya_legal.specs.Limits.{HasLimit, IsAtLimit, NeedsMore, ShowsLimits}
+use Rattle.papaya_legal.proofs.Finding.Rooms.{its_more}
 use Rattle.papaya_legal.proofs.Limits.Steps.{refused_for}
 use Rattle.papaya_legal.proofs.Limits.Walk.{SummedAt}
 
@@ -82,15 +83,6 @@ module _ {K V : Type 0} (of : ℕ) (x : Moment K V) (moments : List (Moment K V)
 
   count_on : (shards n : ℕ) → Counts shards of moments n → Counts shards of (x ∷ moments) n
   count_on shards n counts = (counts.0, adds_after of moments x shards counts.0 counts.1, counts.2)
-
--- a call for so many further pairs
-its_more : {K V : Type 0} (r : CallForRoom) (its : Call K V) → IsFor (ForRoom {K = K} {V = V} {Q = K} r) its → its ≡ call.Reserve r.reserve.additional
-its_more r (call.Reserve more) is = ap (λ (n : ℕ). call.Reserve n) (sym is)
-its_more r (call.On one) is = absurd is
-its_more r call.Clear is = absurd is
-its_more r call.Retain is = absurd is
-its_more r call.Len is = absurd is
-its_more r call.Walk is = absurd is
 
 -- it has as many shards as its map
 pub room_shards : {K V S : Type 0} (same : K → K → Bool) (hash : K → ℕ) (s : Scene K V) (e : Executor K V S) → IsAt same hash e s → (map i : ℕ) (r : CallForRoom) → s.calls map i ≡ Some (ForRoom r) → (st : Standing K)
