@@ -55,7 +55,7 @@ module _ {X : Type 0} where
   one_before P (x ∷ xs) y (inr there) = inr (one_before P xs y there)
 
 module _ {K V : Type 0} (of : ℕ) (moments : List (Moment K V)) (x : Moment K V) where
-  adds_after : (s sum : ℕ) → AddsUp of moments s sum → AddsUp of (x ∷ moments) s sum
+  pub adds_after : (s sum : ℕ) → AddsUp of moments s sum → AddsUp of (x ∷ moments) s sum
   adds_after zero sum adds = adds
   adds_after (suc s) sum adds =
       inr (one_as (λ m. (rest : ℕ) × AddsUp of moments s rest × (sum ≡ rest + m.shards of s)) (λ m. (rest : ℕ) × AddsUp of (x ∷ moments) s rest × (sum ≡ rest + m.shards of s))

@@ -78,6 +78,7 @@ use Rattle.papaya_legal.specs.Finding.{ShowsFinding}
 use Rattle.papaya_sources.specs.Sources.{ShowsSources}
 use Rattle.papaya_legal.proofs.Sourced.{ends_leave, sources_so}
 use Rattle.papaya_legal.proofs.Finding.Alike.{finding_fewer, stood_as}
+use Rattle.papaya_legal.proofs.Limits.Shows.{calls_begin_limits, calls_take_limits, limits_grow, limits_where, walks_go_on_limits, walks_stop_limits}
 use Rattle.papaya_legal.proofs.Finding.Nexts.{calls_begin_nexts, calls_take_nexts, nexts_grow, nexts_where, walks_go_on_nexts, walks_stop_nexts}
 use Rattle.papaya_legal.proofs.Finding.Making.Between.{calls_begin_further, calls_take_further, walks_go_on_further}
 use Rattle.papaya_legal.proofs.Finding.Between.{asked_same, fewer_calls, finding_where, found_beside, found_kept, none_at_first, puts_begun, puts_on, replied_same, waits_on}
@@ -91,6 +92,7 @@ likes_show K V same name log m v known s all like = subst (λ (x : Moment K V). 
   sources = sources_so K V same name m other known known s s all.sources (all_stays_shown K V same name m known s all.whole v.events v.is_mapped v.is_closed v.is_alone v.there v.slots v.sheltered v.remains).all.shown refl refl refl
       (λ n st is. is);
   nexts = all.nexts;
+  limits = all.limits;
   counters = counters_stay K V name m other s s all.counters refl refl refl refl refl (λ of j x is removed adds. (x, is, adds));
   uncounted = all.uncounted;
   dues = (dues_stay K V (Unit {0}) same (λ k. 0) name log).alike m other known s all.dues alike;
@@ -122,6 +124,7 @@ logs_grow K V same name log e known s all = record {
   finding = all.finding;
   sources = all.sources;
   nexts = nexts_grow name log e (moment (e ∷ log)) s all.purposes.begun all.nexts;
+  limits = limits_grow name log e (moment (e ∷ log)) s all.purposes.begun all.limits;
   counters = all.counters;
   uncounted = all.uncounted;
   dues = events_keep_due K V same name log e known s all.dues;
@@ -149,6 +152,7 @@ names_change K V same name name2 log m known s agree all = record {
   };
   sources = record { shown = shows same name name2 m known s agree all.sources.shown; numbered = all.sources.numbered; came = all.sources.came };
   nexts = λ map i u is c c_is. all.nexts map i u is c (as_named map i u is c c_is);
+  limits = λ map i u is c c_is. all.limits map i u is c (as_named map i u is c c_is);
   counters = record {
     shards = all.counters.shards;
     makes = all.counters.makes;
@@ -274,6 +278,7 @@ module _ (K V S : Type 0) (same : K → K → Bool) (hash : K → ℕ) where
         };
         sources = sources_so K V same name m v known known s then_at all.sources whole.all.shown refl refl refl (λ n st is. is);
         nexts = calls_begin_nexts same name log m s all.nexts map i u guard call standing begins none;
+        limits = calls_begin_limits same name log m s all.limits map i u guard call standing begins none;
         counters = calls_begin_counters K V name m s all.counters map i u call guard none (uncounted_at_first K V same standing i u begins);
         uncounted = all.uncounted;
         dues = calls_begin_due K V S same hash name log m known s old at all.dues map i u call guard standing there (began_now same standing i u begins) (unchanged same standing i u begins) none right.called
@@ -300,6 +305,7 @@ module _ (K V S : Type 0) (same : K → K → Bool) (hash : K → ℕ) where
         };
         sources = sources_so K V same name m (told (name i) is_told m) known known s (scene_with map i next s) all.sources whole.all.shown refl refl refl (λ n st is. is);
         nexts = calls_take_nexts same name log m s all.nexts map i u here all.whole.all.shown.calls next is_told (as_told is_told) next_is;
+        limits = calls_take_limits same name log m s all.limits map i u here all.whole.all.shown.calls next is_told (as_told is_told) next_is;
         counters = calls_take_counters K V same name m known s all.whole all.counters map i u here (as_told is_told) next next_is is_told;
         uncounted = all.uncounted;
         dues = calls_take_due K V S same hash name log m known s old at all.dues map i u here c c_is question asks standing there is_told next next_is takes told_kind taken;
@@ -335,6 +341,7 @@ module _ (K V S : Type 0) (same : K → K → Bool) (hash : K → ℕ) where
     sources = sources_so K V same name m m known known s (scene_with map i next s) all.sources (walks_go_on_whole K V S same hash name m known s old new all.whole i leads map (OverAll o) here).all.shown refl refl refl
         (λ n st is. is);
     nexts = walks_go_on_nexts same name log m s all.nexts map i (OverAll o) here all.whole.all.shown.calls next (leads map (OverAll o) here).1;
+    limits = walks_go_on_limits same name log m s all.limits map i (OverAll o) here all.whole.all.shown.calls next (leads map (OverAll o) here).1;
     counters = on_counters name m s map i (Some next) its all.counters;
     uncounted = all.uncounted;
     dues = (dues_stay K V S same hash name log).walks m known s old new at all.whole all.dues i leads map o here is;
@@ -368,6 +375,7 @@ module _ (K V S : Type 0) (same : K → K → Bool) (hash : K → ℕ) where
     finding = fewer_find stopped kept.owed;
     sources = given_sources stopped (walks_stop_whole K V S same hash name m known s old new all.whole i stopped leads map u here none).all.shown;
     nexts = walks_stop_nexts same name log m s all.nexts map i u here all.whole.all.shown.calls u stopped none;
+    limits = walks_stop_limits same name log m s all.limits map i u here all.whole.all.shown.calls u stopped none;
     counters = by stopped none;
     uncounted = given_uncounted (name i) m stopped all.uncounted;
     dues = (dues_stay K V S same hash name log).walks_stop m known s old new at all.whole all.dues i stopped leads map u here none;
@@ -417,6 +425,7 @@ module _ (K V S : Type 0) (same : K → K → Bool) (hash : K → ℕ) where
           finding = finding_where same hash name m (with_map there m) known s e at still refl refl refl refl refl refl all.finding;
           sources = sources_so K V same name m (with_map there m) known known s s all.sources (maps_come_whole K V same name m known s all.whole there come.1).all.shown refl refl refl (λ n st is. is);
           nexts = nexts_where same hash name log m (with_map there m) s e at all.nexts still refl refl;
+          limits = limits_where same hash name log m (with_map there m) s e at all.limits still refl refl;
           counters = counters_stay K V name m (with_map there m) s s all.counters refl refl refl refl refl (λ of j x is removed adds. (x, is, adds));
           uncounted = λ of low. (let l : m.made ≤ of = omega (arith, low) in all.uncounted of l);
           dues = (dues_stay K V S same hash name log).maps_come m known s e e at all.whole all.dues there come.1;
@@ -441,6 +450,7 @@ module _ (K V S : Type 0) (same : K → K → Bool) (hash : K → ℕ) where
     finding = record { growing = all.finding.growing; further = all.finding.further; capacities = all.finding.capacities; waits = all.finding.waits; puts = all.finding.puts };
     sources = sources_so K V same name m m known known s (record s { makers = with_at s.makers i (Some b) }) all.sources (makings_begin_whole K V same name m known s all.whole i b not_made).all.shown refl refl refl (λ n st is. is);
     nexts = all.nexts;
+    limits = all.limits;
     counters = makings_begin_counters K V name m s all.counters i b not_made uncounted;
     uncounted = all.uncounted;
     dues = (dues_stay K V S same hash name log).makings_begin m known s old new at all.whole all.dues i b at2;
@@ -458,6 +468,7 @@ module _ (K V S : Type 0) (same : K → K → Bool) (hash : K → ℕ) where
     sources = sources_so K V same name m m known known s (ending_begun map i standing s) all.sources (endings_begin_whole K V S same hash name m known s new all.whole map i standing there at2).all.shown refl refl refl
         (ends_leave s map i standing);
     nexts = all.nexts;
+    limits = all.limits;
     counters = endings_begin_counters K V name m s all.counters map i standing;
     uncounted = all.uncounted;
     dues = (dues_stay K V S same hash name log).endings_begin m known s old new at all.whole all.dues map i standing there at2;
@@ -481,6 +492,7 @@ module _ (K V S : Type 0) (same : K → K → Bool) (hash : K → ℕ) where
     sources = sources_so K V same name m (without_map own remains m) known known s s all.sources (endings_are_over_whole K V same name m known s all.whole own remains all.numbers.0.found apart).all.shown refl refl refl
         (λ n st is. is);
     nexts = nexts_where same hash name log m (without_map own remains m) s e at all.nexts still refl refl;
+    limits = limits_where same hash name log m (without_map own remains m) s e at all.limits still refl refl;
     counters = counters_stay K V name m (without_map own remains m) s s all.counters refl refl refl refl refl (λ of j x is removed adds. (x, is, adds));
     uncounted = all.uncounted;
     dues = (dues_stay K V S same hash name log).endings_over m known s e e at all.whole all.dues own remains apart;

@@ -54,6 +54,8 @@ use Rattle.papaya_legal.proofs.CallPairs.{begun_so, each_is_its_own, own_alike, 
 use Rattle.papaya_legal.proofs.CallReads.{does_nothing, readings_go_on}
 use Rattle.papaya_sources.proofs.Steps.{calls_keep_sources}
 use Rattle.papaya_legal.proofs.Finding.Calls.{calls_keep_finding}
+use Rattle.papaya_legal.proofs.Limits.Shows.{limits_at_first}
+use Rattle.papaya_legal.proofs.Limits.Steps.{limits_go_on, limits_others}
 use Rattle.papaya_legal.proofs.Finding.Nexts.{nexts_go_on, others_at_first, others_go_on}
 use Rattle.papaya_legal.proofs.Uncounted.{calls_leave_uncounted}
 
@@ -77,6 +79,7 @@ call_events_begin_so K V S same hash name terms log beginning begins maps tables
   event_so = events_begin K V S same hash name log beginning begins known s x at all.whole all.dues all.as_called map i u here c c_is;
   calls = all;
   others = others_at_first name log i beginning s maps tables all.purposes.begun all.nexts;
+  other_limits = limits_at_first name log i beginning s maps tables all.purposes.begun all.limits;
   worked = refl;
   few = let none : 0 ≤ 0 = omega arith in none;
   granted = refl;
@@ -136,6 +139,7 @@ call_events_go_on_so K V S same hash name terms log event beginning map i c step
     finding = calls_keep_finding K V S same hash name m known s old new at whole midst.calls.kept midst.calls.finding map i u here said leads;
     sources = calls_keep_sources K V S same hash name m known s old new at whole midst.calls.sources map i u here said leads;
     nexts = nexts_go_on same hash name log m known s old new at whole map i u here said leads midst.others midst.calls.nexts (whole.all.shown.calls map i u here).0 (whole.all.shown.calls map i u here).1;
+    limits = limits_go_on same hash name log m known s old new at whole map i u here said leads midst.calls.limits midst.calls.finding.capacities (whole.all.shown.calls map i u here).0 (whole.all.shown.calls map i u here).1 midst.other_limits;
     counters = calls_keep_counters K V S same hash name m known s old new at whole midst.calls.kept.counts midst.calls.counters map i u here said leads;
     uncounted = calls_leave_uncounted same hash name m known s old new at whole midst.calls.kept midst.calls.counters midst.calls.uncounted map i u here said leads below;
     dues = all.1;
@@ -148,6 +152,7 @@ call_events_go_on_so K V S same hash name terms log event beginning map i c step
         (reads_shards K V S same hash name log m known s old new at whole midst.calls.counters map i u here said leads midst.unadded) none;
   };
   others = others_go_on same hash name log m known s old new at whole map i u here said leads midst.others;
+  other_limits = limits_others same hash name log m known s old new at whole map i u here said leads midst.other_limits;
   worked = ap (λ (x : Moment K V). with_effects (Some (name i)) (Some map) effects x) midst.worked ∙ sym (effects_after (Some (name i)) (Some map) done effects beginning);
   few = parts_add_up steps 1 done effects midst.few (operations_are_single (acts.Call i map) known new.memory.changed).0;
   granted = grants_add_up done effects midst.granted (operations_are_single (acts.Call i map) known new.memory.changed).1;

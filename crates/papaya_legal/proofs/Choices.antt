@@ -60,6 +60,7 @@ module _ {K V : Type 0} (choice : ℕ) (same : K → K → Bool) (name : ℕ →
     finding = record { growing = all.finding.growing; further = all.finding.further; capacities = all.finding.capacities; waits = all.finding.waits; puts = all.finding.puts };
     nexts = all.nexts;
     sources = record { shown = shown_then all.sources.shown; numbered = all.sources.numbered; came = all.sources.came };
+    limits = all.limits;
   }
 
   reading_then : ShowsReading name log (λ i. 0) m s → ShowsReading name log (λ i. 0) m (scene_chosen choice s)

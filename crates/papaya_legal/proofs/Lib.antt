@@ -1,5 +1,6 @@
 -- Lemmas on the events of a run, and on what is carried from each to the next.
 pub mod Finding
+pub mod Since
 pub mod Begin
 pub mod Uncounted
 pub mod Sourced
@@ -36,3 +37,4 @@ pub mod Found
 pub mod Come
 pub mod Noted
 pub mod Heads
+pub mod Limits

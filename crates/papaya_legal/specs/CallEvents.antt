@@ -58,6 +58,7 @@ use Rattle.papaya_purposes.specs.Purposes.{ShowsPurposes}
 use Rattle.papaya_purposes.specs.Tableless.{TablelessUncounted}
 use Rattle.papaya_legal.specs.Between.{IsBegunRight}
 use Rattle.papaya_legal.specs.Carried.{ComesAlone, FollowsOrRows, ShowsCalls, ShowsRun}
+use Rattle.papaya_legal.specs.Limits.{OthersHadLimit}
 use Rattle.papaya_legal.specs.Nexts.{OthersHadNext}
 
 -- each pair that is in this map is the one of its class there
@@ -72,6 +73,8 @@ module _ {K V : Type 0} (same : K → K → Bool) (name : ℕ → List ℕ) (ter
     pub calls : ShowsCalls same name log m known s
     -- where the copier of another call makes a table its map had a second one at a moment of the log
     pub others : OthersHadNext name log i m s
+    -- and where it can have no further table one at the limit
+    pub other_limits : OthersHadLimit name log i m s
     pub worked : m ≡ with_effects (Some (name i)) (Some map) done beginning
     -- steps: each did one thing at most, and had what it made granted; a lookup has read so many words
     pub few : AreDoneBy steps done

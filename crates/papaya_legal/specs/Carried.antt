@@ -32,6 +32,7 @@ use Rattle.papaya_finds.specs.Within.{AllIsInOrder, GoesInOrder, ReadyOweNone}
 use Rattle.papaya_kept.specs.Kept.{ShowsKept}
 use Rattle.papaya_sources.specs.Sources.{ShowsSources}
 use Rattle.papaya_legal.specs.Finding.{ShowsFinding}
+use Rattle.papaya_legal.specs.Limits.{ShowsLimits}
 use Rattle.papaya_legal.specs.Nexts.{ShowsNexts}
 
 -- calls came one after another so far, and the event is one of those that do
@@ -42,7 +43,7 @@ ComesAlone event log = ((moment log).is_alone && list_all (is_by (speaker event)
 abbrev pub NoneCounted : {K V : Type 0} → Moment K V → Type 0
 NoneCounted m = (of : ℕ) → m.made ≤ of → IsUncounted of m
 
--- What a moment shows beside who is there, wherever in an event it is, so far since the log: numbers of maps; what every step keeps; by what steps of calls find what they must, and for what copiers make tables; the shards of maps;
+-- What a moment shows beside who is there, wherever in an event it is, so far since the log: numbers of maps; what every step keeps; by what steps of calls find what they must, for what copiers make tables, and where calls can have no further one; the shards of maps;
 -- what calls owe as answers, are called for, have asked, and are for.
 pub record ShowsCalls {K V : Type 0} (same : K → K → Bool) (name : ℕ → List ℕ) (log : List (Entry K V)) (m : Moment K V) (known : Known) (s : Scene K V) : Type 0 where
   pub whole : ShowsWhole same name m known s
@@ -50,6 +51,7 @@ pub record ShowsCalls {K V : Type 0} (same : K → K → Bool) (name : ℕ → L
   pub kept : ShowsKept name m known s
   pub finding : ShowsFinding name m known s
   pub nexts : ShowsNexts name log m s
+  pub limits : ShowsLimits name log m s
   pub sources : ShowsSources same name m known s
   pub counters : ShowsCounters name m s
   pub uncounted : NoneCounted m

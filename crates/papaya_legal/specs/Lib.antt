@@ -13,5 +13,6 @@ pub mod Found
 pub mod Noted
 pub mod Further
 pub mod Nexts
+pub mod Limits
 pub mod Finding
 pub mod Rests

@@ -19,7 +19,7 @@ mod RoomPoints
 pub mod RoomFacts
 pub mod Needs
 pub mod Tableless
-mod RoomSteps
+pub mod RoomSteps
 mod For
 mod Counts
 pub mod Steps

@@ -130,14 +130,20 @@ module _ {K V S : Type 0} (same : K → K → Bool) (hash : K → ℕ) (log : Li
   knows_at x none is =
       room_point V same st.hash st.setting slot_of s.world st.chart (seen_by st.blocks (st.sights (slot_of i))) i r stands (λ row. none (subst IsRowOfReserve is row))
 
-  -- a counting that is done by the step has counted so many
-  tells : SumTells of moments p old.memory.memory new.memory.memory new.memory.changed
-  tells table sum sum2 count is step =
+  -- where a counting would be done by the step, it has counted so many;
+  pub counts_then : (table : Table) (sum sum2 : Sum) (count : ℕ) → p.stands ≡ reserving.Sums table sum → (mem2 : Mem (Node K V)) → Steps Took value_at mem (sum_plan sum) mem2 (sum2, counting.Done count)
+      → Counts (suc p.setting.mask) of moments count
+  counts_then table sum sum2 count is mem2 step =
       let here = knows_at (reserving.Sums table sum) (λ row. row) is in
       subst (λ (x : Setting). Counts (suc x.mask) of moments count) ((known table sum is here).0.0 ∙ sym setting_is)
-      (counting_on of moments mem sum (moment log) last (reads table sum is here) (few table sum is here) (subst (RoomAt of moments has.low) is has.point).1 new.memory.memory (sum2, counting.Done count)
+      (counting_on of moments mem sum (moment log) last (reads table sum is here) (few table sum is here) (subst (RoomAt of moments has.low) is has.point).1 mem2 (sum2, counting.Done count) step)
+
+  -- and so has one that is
+  tells : SumTells of moments p old.memory.memory new.memory.memory new.memory.changed
+  tells table sum sum2 count is step =
+      counts_then table sum sum2 count is new.memory.memory
       (subst (λ (x : Mem (Node K V)). Steps Took value_at x (sum_plan sum) new.memory.memory (sum2, counting.Done count)) (sym at.memory)
-      (as_step old.memory.memory Nothing (sum_plan sum) new.memory.memory new.memory.changed (sum2, counting.Done count) step)))
+      (as_step old.memory.memory Nothing (sum_plan sum) new.memory.memory new.memory.changed (sum2, counting.Done count) step))
 
   -- where the map has had no table it has counted nothing, as the last event was over
   counted_none : st.chart.past ≡ 0 → (n : ℕ) → Counts n of moments 0

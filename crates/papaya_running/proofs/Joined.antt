@@ -18,7 +18,7 @@ use Rattle.papaya_legal.proofs.Legal.{events_are_legal}
 use Rattle.papaya_scheduler.specs.Played.{entry_of}
 use Rattle.papaya_scheduler.specs.declared.played.Played.{Played}
 use Rattle.papaya_scheduler.specs.declared.scheduler.Scheduler.{Scheduler}
-use Rattle.papaya_running.specs.Asked.{FindsBy, Happens, HappensAt, Holds, is_of_calls}
+use Rattle.papaya_running.specs.Asked.{FindsBy, FindsRight, Happens, HappensAt, Holds, is_of_calls}
 use Rattle.papaya_running.specs.Keeping.{IsAskedOf, IsNotRefused}
 use Rattle.papaya_running.specs.OfAll.{KeepsAll}
 use Rattle.papaya_running.specs.OfCalls.{KeepsAt, Runs, RunsOn}
@@ -49,11 +49,12 @@ module _ {K V : Type 0} where
   reclaims_none event.Close outcome none P = absurd (cc none)
   reclaims_none _ outcome none P = tt
 
-  -- one that reclaims all finds what it must to come to what is right
-  all_right : (its : Event K V) → gives_all its ≡ true → (terms : Terms) (log : List (Entry K V)) (e : Entry K V) → FindsBy terms log e its
-  all_right event.ReclaimAll all terms log e = tt
-  all_right event.Close all terms log e = tt
-  all_right _ all terms log e = absurd (cc all)
+  -- one of no call finds what it must to come to what is right
+  others_right : (its : Event K V) → is_of_calls its ≡ false → (terms : Terms) (log : List (Entry K V)) (e : Entry K V) → FindsBy terms log e its
+  others_right (event.Step caller refuse) none terms log e = absurd (cc none)
+  others_right (event.Go caller refuse) none terms log e = absurd (cc none)
+  others_right (event.OneCall guard name call) none terms log e = absurd (cc none)
+  others_right _ none terms log e = tt
 
 module _ {K V S : Type 0} (same : K → K → Bool) (hash : K → ℕ) (is_first : Bool) (its : Event K V) (played : Played V) (old new : Scheduler K V S) (happens : HappensAt same hash is_first its played old new)
     (terms : Terms) (log : List (Entry K V)) (first : is_first ≡ ((moment log).events == 0)) (holds : Holds same hash terms (moment log) old) (runs : Runs same hash terms log old) where
@@ -63,29 +64,34 @@ module _ {K V S : Type 0} (same : K → K → Bool) (hash : K → ℕ) (is_first
   it : Happens same hash terms log e new
   it = happens terms log first holds
 
+  -- it comes to what is right, whichever it is
+  right : KeepsAt same hash its played old new → ComesRight terms log e
+  right calls = (it.plays (finds (is_of_calls its) refl)).right
+    where
+      finds : (q : Bool) → is_of_calls its ≡ q → FindsRight terms log e
+      finds true is = (calls is terms log runs).0
+      finds false none = others_right its none terms log e
+
   -- one that reclaims all,
-  of_all : KeepsAll same hash its played old new → gives_all its ≡ true → RunsOn same hash terms log e new × ReclaimsAll log e
-  of_all keeps all = keeps all terms log holds runs it.played (it.plays (all_right its all terms log e)).right
+  of_all : KeepsAt same hash its played old new → KeepsAll same hash its played old new → gives_all its ≡ true → RunsOn same hash terms log e new × ReclaimsAll log e
+  of_all calls keeps all = keeps all terms log holds runs it.played (right calls)
 
   -- and any other
   of_others : KeepsAt same hash its played old new → KeepsRunAt same hash its played old new → KeepsSetup same hash its played old new → gives_all its ≡ false → IsAskedOf terms log e → RunsOn same hash terms log e new
   of_others calls rows setups none asked = by (is_of_calls its) (is_of_rows its) refl refl
     where
-      right : ComesRight terms log e
-      right = (it.plays asked.right).right
-
       by : (p q : Bool) → is_of_calls its ≡ p → is_of_rows its ≡ q → RunsOn same hash terms log e new
-      by true q is of_rows = calls is terms log runs right
+      by true q is of_rows = (calls is terms log runs).1 (right calls)
       by false true is of_rows =
-          rows of_rows terms log holds runs it.played right (not_begun its played.outcome played.effects.items old new asked.made)
-      by false false is of_rows = setups (is_setup its none is of_rows) terms log runs it.played right
+          rows of_rows terms log holds runs it.played (right calls) (not_begun its played.outcome played.effects.items old new asked.made)
+      by false false is of_rows = setups (is_setup its none is of_rows) terms log runs it.played (right calls)
 
   goes_on : KeepsAt same hash its played old new → KeepsRunAt same hash its played old new → KeepsSetup same hash its played old new → KeepsAll same hash its played old new
       → IsAskedOf terms log e → RunsOn same hash terms log e new × ReclaimsAll log e
   goes_on calls rows setups all asked = by (gives_all its) refl
     where
       by : (q : Bool) → gives_all its ≡ q → RunsOn same hash terms log e new × ReclaimsAll log e
-      by true is = of_all all is
+      by true is = of_all calls all is
       by false none = (of_others calls rows setups none asked, reclaims_none its played.outcome none _)
 
   -- so it is legal, and the run goes on
@@ -93,7 +99,7 @@ module _ {K V S : Type 0} (same : K → K → Bool) (hash : K → ℕ) (is_first
       → IsAskedOf terms log e → IsLegal same terms log e × Runs same hash terms (e ∷ log) new
   legal_on calls rows setups all asked =
       let on = goes_on calls rows setups all asked in (
-        events_are_legal K V same on.0.runs.stands.name terms log e (known new.logged.notes) on.0.runs.stands.scene (is_word same hash terms (e ∷ log) new on.0.runs) (it.plays asked.right).right it.makes
+        events_are_legal K V same on.0.runs.stands.name terms log e (known new.logged.notes) on.0.runs.stands.scene (is_word same hash terms (e ∷ log) new on.0.runs) (right calls) it.makes
             it.does on.0.legal on.0.runs.shows on.1 (shows_nobody same hash terms (e ∷ log) new on.0.runs),
         on.0.runs,
       )

@@ -19,3 +19,5 @@ pub mod Told
 pub mod Whole
 pub mod Events
 pub mod Happens
+pub mod InCase
+pub mod Finds

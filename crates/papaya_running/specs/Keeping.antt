@@ -6,7 +6,6 @@ use Rattle.papaya_schedules.specs.declared.outcome.Outcome.{Outcome}
 use Rattle.papaya_schedules.specs.declared.outcome.Outcome.TheVariants.{Refused}
 use Rattle.papaya_schedules.specs.Entry.{Entry}
 use Rattle.papaya_schedules.specs.Terms.{Terms}
-use Rattle.papaya_running.specs.Asked.{FindsRight}
 
 module _ {K V : Type 0} where
   -- of a making that was refused nothing is said
@@ -14,7 +13,6 @@ module _ {K V : Type 0} where
   IsNotRefused (MakeMap name mode capacity) (Refused fault) = ⊥
   IsNotRefused event outcome = Unit {0}
 
-  -- What is still asked of an event, by name: where it is refused for the length of a table, it is so in its case; and a making is not refused.
+  -- What is still asked of an event, by name: a making is not refused.
   pub record IsAskedOf (terms : Terms) (log : List (Entry K V)) (e : Entry K V) : Type 0 where
-    pub right : FindsRight terms log e
     pub made : IsNotRefused e.event e.outcome

@@ -40,7 +40,7 @@ use Rattle.papaya_scheduler.specs.declared.played.Played.{Played}
 use Rattle.papaya_scheduler.specs.declared.scheduler.Scheduler.{Scheduler}
 use Rattle.papaya_stepping.specs.Stepping.{ComesAs, outcome_of}
 use Rattle.papaya_works.specs.Needs.{AreReached}
-use Rattle.papaya_running.specs.Asked.{is_of_calls}
+use Rattle.papaya_running.specs.Asked.{FindsRight, is_of_calls}
 
 -- each map has as many shards as the terms say
 abbrev pub HaveShards : {K V S : Type 0} → Terms → Executor K V S → Type 0
@@ -91,13 +91,14 @@ module _ (K V S : Type 0) (same : K → K → Bool) (hash : K → ℕ) where
       ComesAs c.call told → KeepsValue c.call c.replies (machine_of u) value → ComesSo known2 c.call c.replies said told × TellsOf same log m map known2 said told c.call)
 
 module _ {K V S : Type 0} (same : K → K → Bool) (hash : K → ℕ) where
-  -- What is promised of an event of a call that is in turn, and comes to what is right: it keeps its promises, and the run goes on.
+  -- What is promised of an event of a call that is in turn: it finds what it must to come to what is right; and if it does, it keeps its promises, and the run goes on.
   abbrev pub KeepsDue : Event K V → Played V → (old new : Scheduler K V S) → Type 0
   KeepsDue event played old new =
-      (terms : Terms) (log : List (Entry K V)) → Runs same hash terms log old → is_kept_out terms event (moment log) ≡ false → ComesRight terms log (entry_of event played)
-      → RunsOn same hash terms log (entry_of event played) new
+      (terms : Terms) (log : List (Entry K V)) → Runs same hash terms log old → is_kept_out terms event (moment log) ≡ false
+      → FindsRight terms log (entry_of event played) × (ComesRight terms log (entry_of event played) → RunsOn same hash terms log (entry_of event played) new)
 
   -- And so it is of one that is kept out.
   abbrev pub KeepsAt : Event K V → Played V → (old new : Scheduler K V S) → Type 0
   KeepsAt event played old new =
-      is_of_calls event ≡ true → (terms : Terms) (log : List (Entry K V)) → Runs same hash terms log old → ComesRight terms log (entry_of event played) → RunsOn same hash terms log (entry_of event played) new
+      is_of_calls event ≡ true → (terms : Terms) (log : List (Entry K V)) → Runs same hash terms log old
+      → FindsRight terms log (entry_of event played) × (ComesRight terms log (entry_of event played) → RunsOn same hash terms log (entry_of event played) new)

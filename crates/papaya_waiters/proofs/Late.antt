@@ -18,7 +18,6 @@ use Rattle.papaya_callers.specs.Given.Rule.Words.{Blocks}
 use Rattle.papaya_callers.specs.Given.Points.FactsCopiesBlocking.{HasNoShares}
 use Rattle.papaya_callers.specs.Given.Points.Told.{IsRowOfCopier}
 use Rattle.papaya_callers.specs.Given.Tables.declared.status.TheConstants.Status.{PROMOTED}
-use Rattle.papaya_callers.specs.Given.Rule.Moves.{after}
 use Rattle.papaya_callers.specs.Given.Tables.declared.table.Table.{Table}
 use Rattle.papaya_callers.specs.Given.Resize.declared.copier.Copying.{Copying as Point}
 use Rattle.papaya_callers.specs.Given.Rule.Maps.{IsTable}

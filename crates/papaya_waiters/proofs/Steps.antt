@@ -41,7 +41,6 @@ use Rattle.papaya_callers.proofs.Claims.Knows.{CopierKnows, fresh_knows, late_kn
 use Rattle.papaya_waits.proofs.EndingCalls.{AnotherAt, OwnEnds, copier_then}
 use Rattle.papaya_waits.proofs.Promised.{map_of}
 use Rattle.papaya_waits.specs.Others.{copier_of, EndsAt}
-use Rattle.papaya_waits.proofs.Endings.{beside}
 use Rattle.papaya_waiters.specs.Blocking.{AbortsAt, HaveEndsBlocking, SpentAt}
 use Rattle.papaya_waiters.proofs.Stands.{IsAtRow, beside_none, copier_knows}
 use Rattle.papaya_waiters.proofs.Awaited.{asks_so}

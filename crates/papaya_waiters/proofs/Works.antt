@@ -28,7 +28,6 @@ use Rattle.papaya_callers.specs.Given.Rule.Maps.{spot_of, IsTable}
 use Rattle.papaya_callers.specs.Given.Tables.declared.table.Table.{Table}
 use Rattle.papaya_callers.specs.Given.Resize.declared.copier.Copying.{Copying as Point}
 use Rattle.papaya_callers.specs.Given.Rule.InWorld.{IsMapIn}
-use Rattle.papaya_callers.specs.Given.Resize.NewTable.{counted}
 use Rattle.papaya_callers.proofs.Given.Rule.Moves.Totals.{total_none}
 use Rattle.papaya_callers.proofs.Given.Rule.Shares.CopiersShares.{done_fits}
 use Rattle.papaya_callers.proofs.Given.Rule.Keys.Always.{Always, always_if, always_steps}

@@ -81,7 +81,7 @@ use Rattle.papaya_legal.proofs.Finding.Links.{linked, links_by, such_of_copier}
 use Rattle.papaya_legal.proofs.Finding.Making.Lengths.{last_at, table_length}
 
 -- what a reservation is called for
-its_more : {K V : Type 0} (r : CallForRoom) (its : Call K V) → IsFor (ForRoom r) its → its ≡ call.Reserve r.reserve.additional
+pub its_more : {K V : Type 0} (r : CallForRoom) (its : Call K V) → IsFor (ForRoom r) its → its ≡ call.Reserve r.reserve.additional
 its_more r (call.Reserve more) is = ap (λ (n : ℕ). call.Reserve n) (sym is)
 its_more r (call.On one) is = absurd is
 its_more r call.Clear is = absurd is

@@ -140,6 +140,7 @@ module _ {K V S : Type 0} (same : K → K → Bool) (hash : K → ℕ) (name : �
         (subst AllAside (sym (it_reclaims same hash name m known s calls.whole calls.kept old new i lists before after told under_way leads)) (reclaimed_aside (gone_by known x))) calls.sources whole_then.all.shown
         leads.1.as_they_were;
     nexts = λ n j u is c found. absurd (none n j u is);
+    limits = λ n j u is c found. absurd (none n j u is);
     counters = counters_then;
     uncounted = none_counted None None effects m calls.uncounted (none_shards None effects m);
     dues = record {

@@ -28,6 +28,7 @@ use Rattle.papaya_stepping.specs.Stepping.{PlaysNextAt, PlaysOnAt, TookNext, Too
 use Rattle.papaya_running.specs.Asked.{is_of_calls}
 use Rattle.papaya_running.specs.OfCalls.{KeepsAt, KeepsDue, Runs, RunsOn}
 use Rattle.papaya_running.proofs.OfCalls.Events.{ask_on, begin_on, begin_out, go_on, go_out, next_out, reply_out, step_on, step_out, stop_out, whole_goes_on, whole_out}
+use Rattle.papaya_running.proofs.OfCalls.Finds.{go_finds, not_busy, quiet_in_case, step_finds, whole_finds}
 use Rattle.papaya_running.proofs.OfCalls.Told.{stopped_on, told_on}
 
 -- one that is in turn comes to what it must
@@ -69,53 +70,74 @@ module _ {K V S : Type 0} (same : K → K → Bool) (hash : K → ℕ) (old new 
   pub step_if : {X : Type 0} (own : List ℕ) (refuse : Bool) → happens ≡ event.Step own refuse → (result : Result (Played V) X) → IfOk result (λ played. PlaysOnAt same hash (event.Step own refuse) played old new)
       → IfOk result (λ played. TookSteps same hash 1 own played old new) → IfOk result (λ played. MakesNoMore refuse [] played.effects.items)
       → IfOk result (λ played. KeepsDue same hash happens played old new)
-  step_if own refuse is (Ok played) plays took refused = subst (λ (x : Event K V). KeepsDue same hash x played old new) (sym is) (λ terms log runs out left.
-      step_on same hash old new played terms log runs own refuse took refused left (plays terms log (record { played = runs.stands; in_turn = out })).played)
+  step_if own refuse is (Ok played) plays took refused = subst (λ (x : Event K V). KeepsDue same hash x played old new) (sym is) (λ terms log runs out. (
+    step_finds same hash old new played terms log runs own refuse took,
+    λ left.
+        step_on same hash old new played terms log runs own refuse took refused left (plays terms log (record { played = runs.stands; in_turn = out })).played,
+  ))
   step_if own refuse is (Err x) plays took refused = tt
 
   pub go_if : {X : Type 0} (own : List ℕ) (refuse : Bool) → happens ≡ event.Go own refuse → (result : Result (Played V) X) → IfOk result (λ played. PlaysOnAt same hash (event.Go own refuse) played old new)
       → IfOk result (λ played. TookSteps same hash most_steps own played old new) → IfOk result (λ played. MakesNoMore refuse [] played.effects.items)
       → IfOk result (λ played. KeepsDue same hash happens played old new)
-  go_if own refuse is (Ok played) plays took refused = subst (λ (x : Event K V). KeepsDue same hash x played old new) (sym is) (λ terms log runs out left.
-      go_on same hash old new played terms log runs own refuse took refused left (plays terms log (record { played = runs.stands; in_turn = out })).played)
+  go_if own refuse is (Ok played) plays took refused = subst (λ (x : Event K V). KeepsDue same hash x played old new) (sym is) (λ terms log runs out. (
+    go_finds same hash old new played terms log runs own refuse took,
+    λ left.
+        go_on same hash old new played terms log runs own refuse took refused left (plays terms log (record { played = runs.stands; in_turn = out })).played,
+  ))
   go_if own refuse is (Err x) plays took refused = tt
 
   pub whole_if : {X : Type 0} (guard on : List ℕ) (call : Call K V) → happens ≡ event.OneCall guard on call → (result : Result (Played V) X)
       → IfOk result (λ played. PlaysOnAt same hash (event.OneCall guard on call) played old new) → IfOk result (λ played. TookWhole same hash guard on call played old new)
       → IfOk result (λ played. KeepsDue same hash happens played old new)
-  whole_if guard on call is (Ok played) plays took = subst (λ (x : Event K V). KeepsDue same hash x played old new) (sym is) (λ terms log runs out left.
-      whole_goes_on same hash old new played terms log runs guard on call took left (plays terms log (record { played = runs.stands; in_turn = out })).played)
+  whole_if guard on call is (Ok played) plays took = subst (λ (x : Event K V). KeepsDue same hash x played old new) (sym is) (λ terms log runs out. (
+    whole_finds same hash old new played terms log runs guard on call took,
+    λ left.
+        whole_goes_on same hash old new played terms log runs guard on call took left (plays terms log (record { played = runs.stands; in_turn = out })).played,
+  ))
   whole_if guard on call is (Err x) plays took = tt
 
   pub ask_if : {X : Type 0} (own : List ℕ) → happens ≡ event.Next own → (result : Result (Played V) X) → IfOk result (λ played. PlaysNextAt same hash own played old new)
       → IfOk result (λ played. TookNext same hash own played old new) → IfOk result (λ played. KeepsDue same hash happens played old new)
-  ask_if own is (Ok played) plays took = subst (λ (x : Event K V). KeepsDue same hash x played old new) (sym is) (λ terms log runs out left.
-      let on = plays terms log (record { played = runs.stands; in_turn = out }) in
-      ask_on same hash old new played terms log runs own took left (in_turn_comes terms log (entry_of (event.Next own) played) out left) on.idle on.plays.played)
+  ask_if own is (Ok played) plays took = subst (λ (x : Event K V). KeepsDue same hash x played old new) (sym is) (λ terms log runs out. (
+    tt,
+    λ left.
+        let on = plays terms log (record { played = runs.stands; in_turn = out }) in
+        ask_on same hash old new played terms log runs own took left (in_turn_comes terms log (entry_of (event.Next own) played) out left) on.idle on.plays.played,
+  ))
   ask_if own is (Err x) plays took = tt
 
   pub begin_if : {X : Type 0} (own guard on : List ℕ) (call : Call K V) → happens ≡ event.Begin own guard on call → (result : Result (Played V) X) → IfOk result (λ played. played.steps ≡ 0)
       → IfOk result (λ played. PlaysAt same hash (event.Begin own guard on call) played old new) → IfOk result (λ played. Began same hash own guard on call played old new)
       → KeepsGiven old.logged.executor new.logged.executor → IfOk result (λ played. KeepsDue same hash happens played old new)
-  begin_if own guard on call is (Ok played) steps plays began given = subst (λ (x : Event K V). KeepsDue same hash x played old new) (sym is) (λ terms log runs out left.
-      begin_on same hash old new played terms log runs own guard on call steps began given.1 left (plays terms log (record { played = runs.stands; in_turn = out })).played)
+  begin_if own guard on call is (Ok played) steps plays began given = subst (λ (x : Event K V). KeepsDue same hash x played old new) (sym is) (λ terms log runs out. (
+    tt,
+    λ left.
+        begin_on same hash old new played terms log runs own guard on call steps began given.1 left (plays terms log (record { played = runs.stands; in_turn = out })).played,
+  ))
   begin_if own guard on call is (Err x) steps plays began given = tt
 
   pub told_keeps : (own : List ℕ) (reply : Reply V) → happens ≡ event.Replied own reply → (played : Played V) → played.steps ≡ 0 → PlaysAt same hash (event.Replied own reply) played old new
       → Replies same hash own reply played old new → StaysBusy same hash (event.Replied own reply) played old new → KeepsGiven old.logged.executor new.logged.executor → KeepsDue same hash happens played old new
-  told_keeps own reply is played steps plays told stays given = subst (λ (x : Event K V). KeepsDue same hash x played old new) (sym is) (λ terms log runs out left.
-      let due : IsDue same hash terms log (event.Replied own reply) old = record { played = runs.stands; in_turn = out } in
-      told_either same hash old new played steps terms log runs given (stays terms log due) own reply told
-      (either {A = played.outcome ≡ Goes} {B = played.outcome ≡ Refused Busy} (fits_reply (call_of own (moment log)) reply) (in_turn_comes terms log (entry_of (event.Replied own reply) played) out left))
-      left (plays terms log due).played)
+  told_keeps own reply is played steps plays told stays given = subst (λ (x : Event K V). KeepsDue same hash x played old new) (sym is) (λ terms log runs out. (
+    tt,
+    λ left.
+        let due : IsDue same hash terms log (event.Replied own reply) old = record { played = runs.stands; in_turn = out } in
+        told_either same hash old new played steps terms log runs given (stays terms log due) own reply told
+        (either {A = played.outcome ≡ Goes} {B = played.outcome ≡ Refused Busy} (fits_reply (call_of own (moment log)) reply) (in_turn_comes terms log (entry_of (event.Replied own reply) played) out left))
+        left (plays terms log due).played,
+  ))
 
   pub stop_keeps : (own : List ℕ) → happens ≡ event.Stop own → (played : Played V) → played.steps ≡ 0 → PlaysAt same hash (event.Stop own) played old new → Stops same hash own played old new
       → StaysBusy same hash (event.Stop own) played old new → KeepsGiven old.logged.executor new.logged.executor → KeepsDue same hash happens played old new
-  stop_keeps own is played steps plays stopped stays given = subst (λ (x : Event K V). KeepsDue same hash x played old new) (sym is) (λ terms log runs out left.
-      let due : IsDue same hash terms log (event.Stop own) old = record { played = runs.stands; in_turn = out } in
-      stop_either same hash old new played steps terms log runs given (stays terms log due) own stopped
-      (either {A = played.outcome ≡ Done} {B = played.outcome ≡ Refused Busy} (shows_now (call_of own (moment log))) (in_turn_comes terms log (entry_of (event.Stop own) played) out left))
-      left (plays terms log due).played)
+  stop_keeps own is played steps plays stopped stays given = subst (λ (x : Event K V). KeepsDue same hash x played old new) (sym is) (λ terms log runs out. (
+    tt,
+    λ left.
+        let due : IsDue same hash terms log (event.Stop own) old = record { played = runs.stands; in_turn = out } in
+        stop_either same hash old new played steps terms log runs given (stays terms log due) own stopped
+        (either {A = played.outcome ≡ Done} {B = played.outcome ≡ Refused Busy} (shows_now (call_of own (moment log))) (in_turn_comes terms log (entry_of (event.Stop own) played) out left))
+        left (plays terms log due).played,
+  ))
 
 -- An event is kept out, or in turn, or none of a call.
 module _ {K V S : Type 0} (same : K → K → Bool) (hash : K → ℕ) (happens : Event K V) (old new : Scheduler K V S) where
@@ -130,27 +152,48 @@ module _ {K V S : Type 0} (same : K → K → Bool) (hash : K → ℕ) (happens 
       calls_are = ap (λ (x : Scheduler K V S). x.calls) is
 
       by : (x : Event K V) → IsKeptOut x played.outcome → PlaysKeptOut same hash x played old new → keeps_out x old ≡ true → KeepsAt same hash x played old new
-      by (event.Step own refuse) busy so kept_so = λ calls terms log runs left.
-          step_out same hash old new played terms log runs busy none nothing logged_is calls_are own refuse left (so terms log runs.stands kept_so).played
-      by (event.Go own refuse) busy so kept_so = λ calls terms log runs left.
-          go_out same hash old new played terms log runs busy none nothing logged_is calls_are own refuse left (so terms log runs.stands kept_so).played
-      by (event.OneCall guard on call) busy so kept_so = λ calls terms log runs left.
-          whole_out same hash old new played terms log runs busy none nothing logged_is calls_are guard on call left (so terms log runs.stands kept_so).played
-      by (event.Next own) busy so kept_so = λ calls terms log runs left.
-          next_out same hash old new played terms log runs busy none nothing logged_is calls_are own left (so terms log runs.stands kept_so).played
-      by (event.Begin own guard on call) busy so kept_so = λ calls terms log runs left.
-          begin_out same hash old new played terms log runs busy none nothing logged_is calls_are own guard on call left (so terms log runs.stands kept_so).played
-      by (event.Replied own reply) busy so kept_so = λ calls terms log runs left.
-          reply_out same hash old new played terms log runs busy none nothing logged_is calls_are own reply left (so terms log runs.stands kept_so).played
-      by (event.Stop own) busy so kept_so = λ calls terms log runs left.
-          stop_out same hash old new played terms log runs busy none nothing logged_is calls_are own left (so terms log runs.stands kept_so).played
+      by (event.Step own refuse) busy so kept_so = λ calls terms log runs. (
+        quiet_in_case terms log (entry_of (event.Step own refuse) played) (not_busy played.outcome busy),
+        λ left.
+            step_out same hash old new played terms log runs busy none nothing logged_is calls_are own refuse left (so terms log runs.stands kept_so).played,
+      )
+      by (event.Go own refuse) busy so kept_so = λ calls terms log runs. (
+        quiet_in_case terms log (entry_of (event.Go own refuse) played) (not_busy played.outcome busy),
+        λ left.
+            go_out same hash old new played terms log runs busy none nothing logged_is calls_are own refuse left (so terms log runs.stands kept_so).played,
+      )
+      by (event.OneCall guard on call) busy so kept_so = λ calls terms log runs. (
+        quiet_in_case terms log (entry_of (event.OneCall guard on call) played) (not_busy played.outcome busy),
+        λ left.
+            whole_out same hash old new played terms log runs busy none nothing logged_is calls_are guard on call left (so terms log runs.stands kept_so).played,
+      )
+      by (event.Next own) busy so kept_so = λ calls terms log runs. (
+        tt,
+        λ left.
+            next_out same hash old new played terms log runs busy none nothing logged_is calls_are own left (so terms log runs.stands kept_so).played,
+      )
+      by (event.Begin own guard on call) busy so kept_so = λ calls terms log runs. (
+        tt,
+        λ left.
+            begin_out same hash old new played terms log runs busy none nothing logged_is calls_are own guard on call left (so terms log runs.stands kept_so).played,
+      )
+      by (event.Replied own reply) busy so kept_so = λ calls terms log runs. (
+        tt,
+        λ left.
+            reply_out same hash old new played terms log runs busy none nothing logged_is calls_are own reply left (so terms log runs.stands kept_so).played,
+      )
+      by (event.Stop own) busy so kept_so = λ calls terms log runs. (
+        tt,
+        λ left.
+            stop_out same hash old new played terms log runs busy none nothing logged_is calls_are own left (so terms log runs.stands kept_so).played,
+      )
       by _ busy so kept_so = λ calls. absurd (cc calls)
 
   pub turn_keeps : {X : Type 0} (result : Result (Played V) X) → IfOk result (λ played. KeepsDue same hash happens played old new) → keeps_out happens old ≡ false
       → IfOk result (λ played. KeepsAt same hash happens played old new)
-  turn_keeps (Ok played) due out = λ calls terms log runs left.
+  turn_keeps (Ok played) due out = λ calls terms log runs.
       let in_turn = kept_out_is same hash terms (moment log) old runs.stands happens ∙ out in
-      due terms log runs in_turn left
+      due terms log runs in_turn
   turn_keeps (Err x) due out = tt
 
   pub other_keeps : {X : Type 0} → is_of_calls happens ≡ false → (result : Result (Played V) X) → IfOk result (λ played. KeepsAt same hash happens played old new)

@@ -35,7 +35,7 @@ use Rattle.papaya_scheduler.specs.declared.played.Played.{Played}
 use Rattle.papaya_scheduler.specs.declared.scheduler.Scheduler.{Scheduler}
 use Rattle.papaya_scheduler.proofs.HeldTold.{its_guard}
 use Rattle.papaya_scheduler.proofs.Here.{Here, here_at}
-use Rattle.papaya_stepping.specs.Stepping.{ComesAs, ComesBy, StepsCome}
+use Rattle.papaya_stepping.specs.Stepping.{ComesAs, ComesBy, ComesInCase, StepsCome}
 use Rattle.papaya_stepping.proofs.RightSteps.{not_busy as never_busy}
 use Rattle.papaya_named.specs.declared.caller.Caller.{Caller}
 use Rattle.papaya_rows.proofs.Lists.{all_so, found_has}
@@ -44,6 +44,7 @@ use Rattle.papaya_running.specs.OfCalls.{IsWorth, Runs, RunsOn}
 use Rattle.papaya_running.proofs.OfCalls.Alone.{active_of, inside_of, only_its_row}
 use Rattle.papaya_running.proofs.OfCalls.Ends.{runs_on, tells_so}
 use Rattle.papaya_running.proofs.OfCalls.Found.{all_find, gone_find}
+use Rattle.papaya_running.proofs.OfCalls.InCase.{comes_in_case}
 use Rattle.papaya_running.proofs.OfCalls.Scenes.{its_named}
 use Rattle.papaya_running.proofs.OfCalls.Steps.{HasCome, as_told, has_come, the}
 
@@ -146,6 +147,13 @@ module _ {K V S : Type 0} (same : K → K → Bool) (hash : K → ℕ) (terms : 
     slot_so =
         ap (λ (b : Moment K V). slot_of_guard (guard_or (acting (caller_of event) b)) b.there) (begins played)
         ∙ ap (λ (o : Option (CallThere K V)). slot_of_guard (guard_or o) m.there) acting_is ∙ slot_is c c_is
+
+    -- it is refused for the length of a table only in its case
+    pub taken_in_case : (most : ℕ) (new : Scheduler K V S) → StepsCome same hash place most played.steps played.outcome [] played.effects.items old new → ComesInCase terms log (entry_of event played)
+    taken_in_case most new come =
+        let by = come.2 in
+        let far_on = has_come same hash name terms log event m map i c place old start by.0 by.2 by.3 by.4 in
+        comes_in_case same hash name terms log event m map i c place c_is played by.0 by.2 by.3 new far_on by.5 (begins played) acts_on
 
     module _ (takes : takes_steps event ≡ true) (goes : here.caller.stands ≡ far.Goes) (most : ℕ) (new : Scheduler K V S)
         (come : StepsCome same hash place most played.steps played.outcome [] played.effects.items old new) (left : ComesRight terms log (entry_of event played))

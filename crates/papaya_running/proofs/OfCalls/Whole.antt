@@ -15,7 +15,7 @@ use Rattle.papaya_histories.specs.Given.Schedules.declared.event.Event.TheVarian
 use Rattle.papaya_histories.specs.Given.Schedules.declared.outcome.Outcome.TheVariants.{Refused}
 use Rattle.papaya_histories.specs.Given.Schedules.After.{moment}
 use Rattle.papaya_histories.specs.Given.Schedules.Beginning.{at_work, fresh_call, with_call}
-use Rattle.papaya_histories.specs.Given.Schedules.Entry.{Entry, nameless}
+use Rattle.papaya_histories.specs.Given.Schedules.Entry.{Entry, acted_on, nameless}
 use Rattle.papaya_histories.specs.Given.Schedules.Model.{guard_or, sets_in, things_in}
 use Rattle.papaya_histories.specs.Given.Schedules.InTurn.{ComesRight}
 use Rattle.papaya_histories.specs.Given.Schedules.Moment.{UnderWay as CallThere, Moment}
@@ -39,7 +39,7 @@ use Rattle.papaya_named.specs.declared.caller.Caller.{Caller}
 use Rattle.papaya_scheduler.specs.declared.played.Played.{Played}
 use Rattle.papaya_scheduler.specs.declared.scheduler.Scheduler.{Scheduler}
 use Rattle.papaya_scheduler.proofs.HeldTold.{its_guard}
-use Rattle.papaya_stepping.specs.Stepping.{ComesAs, ComesBy, GoesAt, StepsCome}
+use Rattle.papaya_stepping.specs.Stepping.{ComesAs, ComesBy, ComesInCase, GoesAt, StepsCome}
 use Rattle.papaya_stepping.proofs.RightSteps.{not_busy as never_busy}
 use Rattle.papaya_rows.proofs.Lists.{all_so}
 use Rattle.papaya_named.specs.Seen.{is_named}
@@ -49,6 +49,7 @@ use Rattle.papaya_running.proofs.OfCalls.Alone.{active_of, inside_of, no_row}
 use Rattle.papaya_running.proofs.OfCalls.Begun as begun
 use Rattle.papaya_running.proofs.OfCalls.Ends.{runs_on, tells_so}
 use Rattle.papaya_running.proofs.OfCalls.Found.{all_find, gone_find}
+use Rattle.papaya_running.proofs.OfCalls.InCase.{comes_in_case}
 use Rattle.papaya_running.proofs.OfCalls.Scenes.{stands_in}
 use Rattle.papaya_running.proofs.OfCalls.Steps.{HasCome, as_told, has_come, the}
 use Rattle.papaya_running.proofs.OfCalls.Words.{not_busy}
@@ -173,8 +174,7 @@ module _ {K V S : Type 0} (same : K → K → Bool) (hash : K → ℕ) (terms : 
       first_of true b is = refl
       first_of false b is = absurd (cc is)
 
-  module _ (played : Played V) (new : Scheduler K V S) (come : StepsCome same hash 0 most_steps played.steps played.outcome [] played.effects.items mid new) (goes : GoesAt nameless 0 mid)
-      (left : ComesRight terms log (entry_of event played)) (plays : IsPlayed same hash terms (entry_of event played ∷ log) new) where
+  module _ (played : Played V) (new : Scheduler K V S) (come : StepsCome same hash 0 most_steps played.steps played.outcome [] played.effects.items mid new) (goes : GoesAt nameless 0 mid) where
     comes : ComesBy same hash terms nameless 0 (with_call nameless guard call (Some map) m) played.steps played.outcome [] played.effects.items new
     comes = come.1 terms (with_call nameless guard call (Some map) m) nameless mid_stands goes
 
@@ -196,24 +196,35 @@ module _ {K V S : Type 0} (same : K → K → Bool) (hash : K → ℕ) (terms : 
     acting_is : call_of nameless m1 ≡ Some c
     acting_is = ap (λ (x : Moment K V). call_of nameless x) m1_is ∙ call_at
 
-    -- all is in order as it begins
-    order : AllIsInOrder m1
-    order = subst AllIsInOrder (begins) (all_begun terms log (entry_of event played) event played.outcome left runs.shows.order.0)
+    acts_on : acted_on event m1 ≡ Some map
+    acts_on = ap (λ (o : Option (CallThere K V)). option_map (λ (x : CallThere K V). x.map) o) acting_is
 
-    pub whole_on : RunsOn same hash terms log (entry_of event played) new
-    whole_on =
+    -- it is refused for the length of a table only in its case
+    pub whole_in_case : ComesInCase terms log (entry_of event played)
+    whole_in_case =
         let by = come.2 in
         let far_on = has_come same hash names terms log event m1 map i c 0 mid start by.0 by.2 by.3 by.4 in
-        runs_on same hash names terms log event m1 map i c 0 c_is (known old.logged.notes) runs.stands.scene (begun.run_named same hash terms log old runs nameless guard on call mid led) runs.come played by.0
-        by.2 by.3 new far_on by.5
-        (tells_so same hash names terms log event m1 map i c 0 c_is (known old.logged.notes) runs.stands.scene (begun.run_named same hash terms log old runs nameless guard on call mid led) runs.come played by.0
-        by.2 by.3 new far_on by.5 comes_as) begins
-        (ap (λ (o : Option (CallThere K V)). option_map (λ (x : CallThere K V). x.map) o) acting_is) (inl refl) by.1 tt never left refl
-        (all_find same hash names terms log event m1 map i c 0 c_is order by.0 by.2 played.effects.items by.3 new far_on (as_told same hash by.5)
-        (gone_find same hash names terms log event m1 map i c 0 c_is order mid start by.0 by.2 by.3 by.4))
-        slot_so active plays
-      where
-        slot_so : slot_of_guard (guard_or (call_of nameless (at_work (entry_of event played) m))) (at_work (entry_of event played) m).there ≡ slot_of i
-        slot_so =
-            ap (λ (b : Moment K V). slot_of_guard (guard_or (call_of nameless b)) b.there) begins
-            ∙ ap (λ (o : Option (CallThere K V)). slot_of_guard (guard_or o) m1.there) acting_is ∙ slot_is c c_is
+        comes_in_case same hash names terms log event m1 map i c 0 c_is played by.0 by.2 by.3 new far_on by.5 begins acts_on
+
+    module _ (left : ComesRight terms log (entry_of event played)) (plays : IsPlayed same hash terms (entry_of event played ∷ log) new) where
+      -- all is in order as it begins
+      order : AllIsInOrder m1
+      order = subst AllIsInOrder (begins) (all_begun terms log (entry_of event played) event played.outcome left runs.shows.order.0)
+
+      pub whole_on : RunsOn same hash terms log (entry_of event played) new
+      whole_on =
+          let by = come.2 in
+          let far_on = has_come same hash names terms log event m1 map i c 0 mid start by.0 by.2 by.3 by.4 in
+          runs_on same hash names terms log event m1 map i c 0 c_is (known old.logged.notes) runs.stands.scene (begun.run_named same hash terms log old runs nameless guard on call mid led) runs.come played by.0
+          by.2 by.3 new far_on by.5
+          (tells_so same hash names terms log event m1 map i c 0 c_is (known old.logged.notes) runs.stands.scene (begun.run_named same hash terms log old runs nameless guard on call mid led) runs.come played by.0
+          by.2 by.3 new far_on by.5 comes_as) begins
+          acts_on (inl refl) by.1 tt never left refl
+          (all_find same hash names terms log event m1 map i c 0 c_is order by.0 by.2 played.effects.items by.3 new far_on (as_told same hash by.5)
+          (gone_find same hash names terms log event m1 map i c 0 c_is order mid start by.0 by.2 by.3 by.4))
+          slot_so active plays
+        where
+          slot_so : slot_of_guard (guard_or (call_of nameless (at_work (entry_of event played) m))) (at_work (entry_of event played) m).there ≡ slot_of i
+          slot_so =
+              ap (λ (b : Moment K V). slot_of_guard (guard_or (call_of nameless b)) b.there) begins
+              ∙ ap (λ (o : Option (CallThere K V)). slot_of_guard (guard_or o) m1.there) acting_is ∙ slot_is c c_is

@@ -113,11 +113,11 @@ module _ {K V : Type 0} (m m2 : Mem (Node K V)) (told : Changed) where
   made_off value words (Made (Err back)) = tt
   made_off value words _ = tt
 
-  sum_off : (c : Sum) (p : Summing) (end : Sum × Counting ℕ) → Step (sums.plan_at c p) end → Off
+  pub sum_off : (c : Sum) (p : Summing) (end : Sum × Counting ℕ) → Step (sums.plan_at c p) end → Off
   sum_off c (summing.Adds shard total) end s = subst OffRoot (sym s.1.1) tt
   sum_off c (summing.Over count) end s = subst OffRoot (sym s.2) tt
 
-  abbrev IsDone : NewTable × Counting Table → Type 0
+  abbrev pub IsDone : NewTable × Counting Table → Type 0
   IsDone end = (t : Table) × (end.1 ≡ progress.Done t)
 
   linked_off : (n : NewTable) (table : Table) (end : NewTable × Counting Table) → Step (tables.links {T = Node K V} n table) end → IsDone end ⊎ Off
@@ -138,7 +138,7 @@ module _ {K V : Type 0} (m m2 : Mem (Node K V)) (told : Changed) where
   making_off n (makes.Over table) end s = inr (subst OffRoot (sym s.2) tt)
   making_off n (makes.Refused fault) end s = inr (subst OffRoot (sym s.2) tt)
 
-  new_table_off : (n : NewTable) (end : NewTable × Counting Table) → Step (new_table_plan {K = K} {V = V} n) end → IsDone end ⊎ Off
+  pub new_table_off : (n : NewTable) (end : NewTable × Counting Table) → Step (new_table_plan {K = K} {V = V} n) end → IsDone end ⊎ Off
   new_table_off n end s = making_off n n.stands end s
 
   -- of a copier: where its table is linked, it makes none any longer
