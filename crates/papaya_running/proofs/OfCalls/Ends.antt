@@ -128,7 +128,7 @@ module _ {K V S : Type 0} (same : K → K → Bool) (hash : K → ℕ) (name : �
         step.said (leads same hash name terms log event beginning map i c place n mid played.effects.items p new come its) begins acted
         (follows same hash name terms log event beginning map i c place n mid played.effects.items p new come its)
         (λ standing there. one_more standing
-        (mask_is same hash name terms log event beginning map i c place c_is n mid played.effects.items p new come its standing there)) tells.1
+        (mask_is same hash name terms log event beginning map i c place n mid p come standing there)) tells.1
       where
         one_more : (standing : Standing K) → standing.setting.mask + 1 ≡ shards_of terms → suc standing.setting.mask ≡ shards_of terms
         one_more standing is = omega (arith, is)

@@ -42,6 +42,12 @@ module _ {K V : Type 0} (name : ℕ → List ℕ) (terms : Terms) (map i : ℕ) 
   All fs m = FindAll terms moments (name i) map fs m
 
 module _ {K V S : Type 0} (same : K → K → Bool) (hash : K → ℕ) (name : ℕ → List ℕ) (terms : Terms) (log : List (Entry K V)) (event : Event K V) (beginning : Moment K V)
+    (map i : ℕ) (c : CallThere K V) (place n : ℕ) (mid : List Effect) (p : Scheduler K V S) (come : HasCome same hash name terms log event beginning map i c place n mid p) where
+  -- the map of the call has as many shards as the terms say
+  pub mask_is : (standing : Standing K) → come.scene.maps map ≡ Some standing → standing.setting.mask + 1 ≡ shards_of terms
+  mask_is standing there = come.shards map standing.setting (sym (come.shown.is_at.maps map) ∙ ap (λ (o : Option (Standing K)). option_map (λ (x : Standing K). x.setting) o) there)
+
+module _ {K V S : Type 0} (same : K → K → Bool) (hash : K → ℕ) (name : ℕ → List ℕ) (terms : Terms) (log : List (Entry K V)) (event : Event K V) (beginning : Moment K V)
     (map i : ℕ) (c : CallThere K V) (place : ℕ) (c_is : call_of (name i) beginning ≡ Some c) (order : AllIsInOrder beginning) where
   abbrev Come : ℕ → List Effect → Scheduler K V S → Type 0
   Come n fs p = HasCome same hash name terms log event beginning map i c place n fs p
@@ -55,11 +61,6 @@ module _ {K V S : Type 0} (same : K → K → Bool) (hash : K → ℕ) (name : �
 
     after_is : after ≡ mid ++ its_did
     after_is = follows same hash name terms log event beginning map i c place n mid after p new come step
-
-    -- the map of the call has as many shards as the terms say
-    pub mask_is : (standing : Standing K) → come.scene.maps map ≡ Some standing → standing.setting.mask + 1 ≡ shards_of terms
-    mask_is standing there =
-        come.shards map standing.setting (sym (come.shown.is_at.maps map) ∙ ap (λ (o : Option (Standing K)). option_map (λ (x : Standing K). x.setting) o) there)
 
     abbrev its : (d : CallThere K V) × (call_of (name i) come.now ≡ Some d) × (d.map ≡ map) × IsCalled same come.under d.call
     its = come.midst.calls.whole.all.shown.calls map i come.under here
@@ -105,11 +106,12 @@ module _ {K V S : Type 0} (same : K → K → Bool) (hash : K → ℕ) (name : �
     step_finds : AllIsInOrder come.now → All name terms map i c (moments_from c.begun log) its_did come.now
     step_finds here_order =
         let led = leads same hash name terms log event beginning map i c place n mid after p new come step in
+        let its_mask = mask_is same hash name terms log event beginning map i c place n mid p come (led map come.under here).0 (led map come.under here).2 in
         steps_find_all K V S same hash name come.now (known p.logged.notes) come.scene p.logged.executor new.logged.executor come.shown.is_at come.midst.calls.whole come.midst.calls.kept map i come.under
-        here step.said led terms (mask_is (led map come.under here).0 (led map come.under here).2) its.0 its.1 (come.slot its.0 its.1) (moments_from c.begun log)
+        here step.said led terms its_mask its.0 its.1 (come.slot its.0 its.1) (moments_from c.begun log)
         (subst (λ (b : ℕ). FindRest terms (moments_from b log) (name i) map its_did come.now) same_begun
         (steps_find_rest K V S same hash name log come.now (known p.logged.notes) come.scene p.logged.executor new.logged.executor come.shown.is_at come.midst.calls.whole come.midst.calls.kept
-        come.midst.calls.finding come.midst.calls.sources here_order come.midst.calls.purposes map i come.under here step.said led terms its.0 its.1 (mask_is (led map come.under here).0 (led map come.under here).2) nexts))
+        come.midst.calls.finding come.midst.calls.sources here_order come.midst.calls.purposes map i come.under here step.said led terms its.0 its.1 its_mask nexts))
 
     -- and so do all, where those before do
     pub all_find : All name terms map i c (moments_from c.begun log) mid beginning → All name terms map i c (moments_from c.begun log) after beginning

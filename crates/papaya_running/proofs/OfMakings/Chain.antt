@@ -83,7 +83,7 @@ module _ {K V S : Type 0} (same : K → K → Bool) (hash : K → ℕ) (s : Scen
   maps_still (progress.Done setting) leads more = absurd (cc more)
   maps_still (progress.Refused fault) leads more = absurd (cc more)
 
-  calls_still : (said : Progress Setting) (leads : Leads said) → (next_scene said leads).calls ≡ s.calls
+  pub calls_still : (said : Progress Setting) (leads : Leads said) → (next_scene said leads).calls ≡ s.calls
   calls_still progress.Goes leads = refl
   calls_still progress.Waits leads = absurd (leads b here).3
   calls_still (progress.Done setting) leads = refl
