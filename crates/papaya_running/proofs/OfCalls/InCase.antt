@@ -115,7 +115,7 @@ module _ {K V S : Type 0} (same : K → K → Bool) (hash : K → ℕ) (name : �
           let led = leads same hash name terms log event beginning map i c place n mid played.effects.items p new come its in
           let to = led map come.under here in
           room_shards same hash come.scene p.logged.executor come.shown.is_at map i r (here ∙ ap Some is) to.0 to.2 (shards_of terms)
-          (mask_is same hash name terms log event beginning map i c place c_is n mid played.effects.items p new come its to.0 to.2)
+          (mask_is same hash name terms log event beginning map i c place n mid p come to.0 to.2)
 
       capacity_then : step.said ≡ progress.Refused Capacity → IsInCase terms d (moments_from d.begun log) v (Refused Capacity)
       capacity_then is =
