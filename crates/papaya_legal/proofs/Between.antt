@@ -74,14 +74,14 @@ use Rattle.papaya_shards.proofs.ShardBetween.{calls_begin_counters, calls_take_c
 use Rattle.papaya_shards.proofs.ShardOthers.{endings_begin_counters, makings_begin_counters}
 use Rattle.papaya_legal.specs.Between.{CallsBegin, CallsTake, EndsBegin, LikesShow, LogsGrow, MakingsBegin, MapsCome, MapsGo, NamesChange, WalksGoOn, WalksStop}
 use Rattle.papaya_legal.specs.Carried.{NoneCounted, ShowsCalls}
-use Rattle.papaya_legal.specs.Finding.{ShowsFinding}
+use Rattle.papaya_grows.specs.Finding.{ShowsFinding}
 use Rattle.papaya_sources.specs.Sources.{ShowsSources}
 use Rattle.papaya_legal.proofs.Sourced.{ends_leave, sources_so}
-use Rattle.papaya_legal.proofs.Finding.Alike.{finding_fewer, stood_as}
-use Rattle.papaya_legal.proofs.Limits.Shows.{calls_begin_limits, calls_take_limits, limits_grow, limits_where, walks_go_on_limits, walks_stop_limits}
-use Rattle.papaya_legal.proofs.Finding.Nexts.{calls_begin_nexts, calls_take_nexts, nexts_grow, nexts_where, walks_go_on_nexts, walks_stop_nexts}
-use Rattle.papaya_legal.proofs.Finding.Making.Between.{calls_begin_further, calls_take_further, walks_go_on_further}
-use Rattle.papaya_legal.proofs.Finding.Between.{asked_same, fewer_calls, finding_where, found_beside, found_kept, none_at_first, puts_begun, puts_on, replied_same, waits_on}
+use Rattle.papaya_grows.proofs.Finding.Alike.{finding_fewer, stood_as}
+use Rattle.papaya_grows.proofs.Limits.Shows.{calls_begin_limits, calls_take_limits, limits_grow, limits_where, walks_go_on_limits, walks_stop_limits}
+use Rattle.papaya_grows.proofs.Finding.Nexts.{calls_begin_nexts, calls_take_nexts, nexts_grow, nexts_where, walks_go_on_nexts, walks_stop_nexts}
+use Rattle.papaya_grows.proofs.Finding.Making.Between.{calls_begin_further, calls_take_further, walks_go_on_further}
+use Rattle.papaya_grows.proofs.Finding.Between.{asked_same, fewer_calls, finding_where, found_beside, found_kept, none_at_first, puts_begun, puts_on, replied_same, waits_on}
 
 pub likes_show : (K V : Type 0) (same : K → K → Bool) → LikesShow K V same
 likes_show K V same name log m v known s all like = subst (λ (x : Moment K V). ShowsCalls same name log x known s) (sym like) (record {

@@ -53,10 +53,10 @@ use Rattle.papaya_histories.proofs.Several.{stands}
 use Rattle.papaya_legal.proofs.CallPairs.{begun_so, each_is_its_own, own_alike, pairs_first}
 use Rattle.papaya_legal.proofs.CallReads.{does_nothing, readings_go_on}
 use Rattle.papaya_sources.proofs.Steps.{calls_keep_sources}
-use Rattle.papaya_legal.proofs.Finding.Calls.{calls_keep_finding}
-use Rattle.papaya_legal.proofs.Limits.Shows.{limits_at_first}
-use Rattle.papaya_legal.proofs.Limits.Steps.{limits_go_on, limits_others}
-use Rattle.papaya_legal.proofs.Finding.Nexts.{nexts_go_on, others_at_first, others_go_on}
+use Rattle.papaya_grows.proofs.Finding.Calls.{calls_keep_finding}
+use Rattle.papaya_grows.proofs.Limits.Shows.{limits_at_first}
+use Rattle.papaya_grows.proofs.Limits.Steps.{limits_go_on, limits_others}
+use Rattle.papaya_grows.proofs.Finding.Nexts.{nexts_go_on, others_at_first, others_go_on}
 use Rattle.papaya_legal.proofs.Uncounted.{calls_leave_uncounted}
 
 -- no steps, whoever's

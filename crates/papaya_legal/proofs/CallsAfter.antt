@@ -50,14 +50,14 @@ use Rattle.papaya_histories.specs.Given.Effects.declared.acting.Acting.TheVarian
 use Rattle.papaya_legal.specs.Carried.{NoneCounted}
 use Rattle.papaya_sources.proofs.Steps.{calls_keep_sources}
 use Rattle.papaya_legal.proofs.Sourced.{sources_so}
-use Rattle.papaya_legal.proofs.Finding.Alike.{finding_fewer, stood_as}
-use Rattle.papaya_legal.proofs.Finding.Calls.{calls_keep_finding}
-use Rattle.papaya_legal.proofs.Finding.Nexts.{calls_come_to_nexts, next_same, nexts_alike, nexts_go_on, nexts_grow}
-use Rattle.papaya_legal.specs.Limits.{ShowsLimits}
-use Rattle.papaya_legal.specs.Nexts.{ShowsNexts}
-use Rattle.papaya_legal.proofs.Limits.Chain.{limit_same}
-use Rattle.papaya_legal.proofs.Limits.Shows.{calls_come_to_limits, limits_alike, limits_grow}
-use Rattle.papaya_legal.proofs.Limits.Steps.{limits_go_on}
+use Rattle.papaya_grows.proofs.Finding.Alike.{finding_fewer, stood_as}
+use Rattle.papaya_grows.proofs.Finding.Calls.{calls_keep_finding}
+use Rattle.papaya_grows.proofs.Finding.Nexts.{calls_come_to_nexts, next_same, nexts_alike, nexts_go_on, nexts_grow}
+use Rattle.papaya_grows.specs.Limits.{ShowsLimits}
+use Rattle.papaya_grows.specs.Nexts.{ShowsNexts}
+use Rattle.papaya_grows.proofs.Limits.Chain.{limit_same}
+use Rattle.papaya_grows.proofs.Limits.Shows.{calls_come_to_limits, limits_alike, limits_grow}
+use Rattle.papaya_grows.proofs.Limits.Steps.{limits_go_on}
 use Rattle.papaya_legal.proofs.Uncounted.{calls_leave_uncounted}
 
 -- numbers of maps are those after its effects

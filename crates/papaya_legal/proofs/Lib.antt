@@ -1,6 +1,4 @@
 -- Lemmas on the events of a run, and on what is carried from each to the next.
-pub mod Finding
-pub mod Since
 pub mod Begin
 pub mod Uncounted
 pub mod Sourced
@@ -37,4 +35,3 @@ pub mod Found
 pub mod Come
 pub mod Noted
 pub mod Heads
-pub mod Limits

@@ -54,12 +54,12 @@ use Rattle.papaya_models.proofs.Ends.{ends_go_on}
 use Rattle.papaya_models.proofs.MapEvents.{making_events_go_on}
 use Rattle.papaya_legal.specs.MapEvents.{EndEventsGoOn, MakingEventsGoOn}
 use Rattle.papaya_shards.proofs.ShardKept.{none_shards}
-use Rattle.papaya_legal.proofs.Limits.Shows.{endings_keep_limits, makings_keep_limits}
+use Rattle.papaya_grows.proofs.Limits.Shows.{endings_keep_limits, makings_keep_limits}
 use Rattle.papaya_histories.proofs.Given.Spots.Effects.{AllAside}
 use Rattle.papaya_legal.proofs.Sourced.{making_none, making_sources, so_aside}
-use Rattle.papaya_legal.proofs.Finding.Aside.{endings_aside, makings_aside}
-use Rattle.papaya_legal.proofs.Finding.NextsOthers.{endings_keep_nexts, makings_keep_nexts}
-use Rattle.papaya_legal.proofs.Finding.Others.{endings_keep_finding, makings_keep_finding}
+use Rattle.papaya_grows.proofs.Finding.Aside.{endings_aside, makings_aside}
+use Rattle.papaya_grows.proofs.Finding.NextsOthers.{endings_keep_nexts, makings_keep_nexts}
+use Rattle.papaya_grows.proofs.Finding.Others.{endings_keep_finding, makings_keep_finding}
 use Rattle.papaya_legal.proofs.Uncounted.{none_counted}
 
 -- a map that stands as it does

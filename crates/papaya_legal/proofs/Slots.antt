@@ -43,11 +43,11 @@ use Rattle.papaya_models.proofs.MapEvents.{moments_note_once}
 use Rattle.papaya_models.proofs.OnSlots.{slot_events_begin, slot_events_go_on}
 use Rattle.papaya_legal.specs.SlotEvents.{SlotEventsBegin, SlotEventsGoOn}
 use Rattle.papaya_shards.proofs.ShardKept.{none_shards}
-use Rattle.papaya_legal.proofs.Limits.Shows.{rows_begin_limits, rows_keep_limits}
+use Rattle.papaya_grows.proofs.Limits.Shows.{rows_begin_limits, rows_keep_limits}
 use Rattle.papaya_legal.proofs.Sourced.{same_maps_aside, sources_same}
-use Rattle.papaya_legal.proofs.Finding.Aside.{rows_aside}
-use Rattle.papaya_legal.proofs.Finding.NextsOthers.{rows_begin_nexts, rows_keep_nexts}
-use Rattle.papaya_legal.proofs.Finding.Others.{rows_begin_finding, rows_keep_finding}
+use Rattle.papaya_grows.proofs.Finding.Aside.{rows_aside}
+use Rattle.papaya_grows.proofs.Finding.NextsOthers.{rows_begin_nexts, rows_keep_nexts}
+use Rattle.papaya_grows.proofs.Finding.Others.{rows_begin_finding, rows_keep_finding}
 use Rattle.papaya_legal.proofs.Uncounted.{none_counted}
 
 -- each row on a slot is one

@@ -58,8 +58,8 @@ use Rattle.papaya_purposes.specs.Purposes.{ShowsPurposes}
 use Rattle.papaya_purposes.specs.Tableless.{TablelessUncounted}
 use Rattle.papaya_legal.specs.Between.{IsBegunRight}
 use Rattle.papaya_legal.specs.Carried.{ComesAlone, FollowsOrRows, ShowsCalls, ShowsRun}
-use Rattle.papaya_legal.specs.Limits.{OthersHadLimit}
-use Rattle.papaya_legal.specs.Nexts.{OthersHadNext}
+use Rattle.papaya_grows.specs.Limits.{OthersHadLimit}
+use Rattle.papaya_grows.specs.Nexts.{OthersHadNext}
 
 -- each pair that is in this map is the one of its class there
 abbrev pub EachIsItsOwn : {K V : Type 0} → (K → K → Bool) → ℕ → Moment K V → Type 0

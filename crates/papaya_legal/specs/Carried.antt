@@ -31,9 +31,9 @@ use Rattle.papaya_finds.specs.Orderly.{is_left_over}
 use Rattle.papaya_finds.specs.Within.{AllIsInOrder, GoesInOrder, ReadyOweNone}
 use Rattle.papaya_kept.specs.Kept.{ShowsKept}
 use Rattle.papaya_sources.specs.Sources.{ShowsSources}
-use Rattle.papaya_legal.specs.Finding.{ShowsFinding}
-use Rattle.papaya_legal.specs.Limits.{ShowsLimits}
-use Rattle.papaya_legal.specs.Nexts.{ShowsNexts}
+use Rattle.papaya_grows.specs.Finding.{ShowsFinding}
+use Rattle.papaya_grows.specs.Limits.{ShowsLimits}
+use Rattle.papaya_grows.specs.Nexts.{ShowsNexts}
 
 -- calls came one after another so far, and the event is one of those that do
 abbrev pub ComesAlone : {K V : Type 0} → Event K V → List (Entry K V) → Type 0

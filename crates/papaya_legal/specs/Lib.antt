@@ -11,8 +11,3 @@ pub mod AllEvents
 pub mod Promises
 pub mod Found
 pub mod Noted
-pub mod Further
-pub mod Nexts
-pub mod Limits
-pub mod Finding
-pub mod Rests

@@ -35,10 +35,10 @@ use Rattle.papaya_scheduler.specs.declared.scheduler.Scheduler.{Scheduler}
 use Rattle.papaya_scheduler.proofs.Chosen.{stands_chosen}
 use Rattle.papaya_named.specs.Seen.{seen, seen_of}
 use Rattle.papaya_named.specs.declared.caller.Caller.{Caller}
-use Rattle.papaya_running.specs.Asked.{Holds}
-use Rattle.papaya_running.specs.OfCalls.{HaveShards, HaveValues, Runs}
+use Rattle.papaya_events.specs.Asked.{Holds}
+use Rattle.papaya_events.specs.OfCalls.{HaveShards, HaveValues, Runs}
 use Rattle.papaya_running.specs.Run.{bounded}
-use Rattle.papaya_running.proofs.OfCalls.Scenes.{its_named, stands_in}
+use Rattle.papaya_events.proofs.OfCalls.Scenes.{its_named, stands_in}
 
 -- Nothing is under way in a world that came about by what was chosen of numbers of blocks.
 pub record BeginsIn {K V S : Type 0} (same : K → K → Bool) (hash : K → ℕ) (given : Given) (p : Scheduler K V S) : Type 0 where

@@ -24,7 +24,7 @@ use Rattle.papaya_rows.proofs.Lists.{is_found, none_kept}
 use Rattle.papaya_named.specs.Seen.{named}
 use Rattle.papaya_scheduler.specs.declared.played.Played.{Played}
 use Rattle.papaya_mapping.proofs.MapLists.{kept_map}
-use Rattle.papaya_running.specs.Asked.{FindsBy, is_of_calls, is_of_maps, numbers_on}
+use Rattle.papaya_events.specs.Asked.{FindsBy, is_of_calls, is_of_maps, numbers_on}
 
 -- names are apart
 abbrev pub NamesApart : List MapThere → Type 0

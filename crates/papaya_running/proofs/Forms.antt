@@ -16,7 +16,7 @@ use Rattle.papaya_schedules.specs.Entry.{caller_of}
 use Rattle.papaya_schedules.specs.InTurn.{IsKeptOut}
 use Rattle.papaya_schedules.specs.Moment.{Stands}
 use Rattle.papaya_schedules.specs.Steps.{DoesFew, MakesSteps}
-use Rattle.papaya_running.specs.Asked.{is_of_calls, is_of_maps, takes_steps}
+use Rattle.papaya_events.specs.Asked.{is_of_calls, is_of_maps, takes_steps}
 
 -- what does nothing does few
 pub does_nothing : (own : Option (List ℕ)) (steps : ℕ) (effects : List Effect) → effects ≡ [] → DoesFew own steps effects

@@ -14,7 +14,7 @@ use Rattle.papaya_scheduler.specs.Turns.{keeps_out}
 use Rattle.papaya_scheduler.specs.declared.played.Played.{Played}
 use Rattle.papaya_scheduler.specs.declared.scheduler.Scheduler.{Scheduler}
 use Rattle.papaya_scheduler.proofs.KeptOut.{kept_out_is}
-use Rattle.papaya_running.specs.Asked.{is_of_calls}
+use Rattle.papaya_events.specs.Asked.{is_of_calls}
 use Rattle.papaya_running.specs.Back.{GivesAt, GivesDue, ReclaimsBy}
 use Rattle.papaya_running.proofs.Happened.{due_so}
 

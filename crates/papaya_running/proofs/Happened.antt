@@ -20,7 +20,7 @@ use Rattle.papaya_scheduler.specs.declared.scheduler.Scheduler.{Scheduler}
 use Rattle.papaya_stepping.specs.Stepping.{ComesInCase, PlaysNextAt, PlaysOnAt}
 use Rattle.papaya_scheduler.proofs.Busy.{none_quiet}
 use Rattle.papaya_scheduler.proofs.KeptOut.{kept_out_is}
-use Rattle.papaya_running.specs.Asked.{FindsRight, Happens, HappensAt, HappensDue, Holds, MayHappenDue, takes_steps}
+use Rattle.papaya_events.specs.Asked.{FindsRight, Happens, HappensAt, HappensDue, Holds, MayHappenDue, takes_steps}
 use Rattle.papaya_running.proofs.Forms.{does_none, does_nothing, makes_none, makes_out}
 
 module _ {K V S : Type 0} (same : K → K → Bool) (hash : K → ℕ) (event form : Event K V) (is : event ≡ form) (old : Scheduler K V S) where

@@ -32,10 +32,10 @@ use Rattle.papaya_named.specs.declared.caller.Caller.{Caller}
 use Rattle.papaya_scheduler.specs.declared.played.Played.{Played}
 use Rattle.papaya_scheduler.specs.declared.scheduler.Scheduler.{Scheduler}
 use Rattle.papaya_scheduler.proofs.RanOn.{maps_named}
-use Rattle.papaya_running.specs.Asked.{FindsRight, HappensAt, Holds, HoldsThen, numbers_on}
+use Rattle.papaya_events.specs.Asked.{FindsRight, HappensAt, Holds, HoldsThen, numbers_on}
 use Rattle.papaya_running.proofs.Counts.{NamesApart, begun_apart, gone_apart, made_begun, named_apart}
 use Rattle.papaya_running.proofs.Logs.{begun_same, called_so}
-use Rattle.papaya_running.proofs.Remaining.{gives_all, rested}
+use Rattle.papaya_events.proofs.Remaining.{gives_all, rested}
 
 module _ {K V S : Type 0} (same : K → K → Bool) (hash : K → ℕ) (terms : Terms) (log : List (Entry K V)) (p : Scheduler K V S) (holds : Holds same hash terms (moment log) p) where
   abbrev m : Moment K V

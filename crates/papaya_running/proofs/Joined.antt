@@ -18,13 +18,13 @@ use Rattle.papaya_legal.proofs.Legal.{events_are_legal}
 use Rattle.papaya_scheduler.specs.Played.{entry_of}
 use Rattle.papaya_scheduler.specs.declared.played.Played.{Played}
 use Rattle.papaya_scheduler.specs.declared.scheduler.Scheduler.{Scheduler}
-use Rattle.papaya_running.specs.Asked.{FindsBy, FindsRight, Happens, HappensAt, Holds, is_of_calls}
+use Rattle.papaya_events.specs.Asked.{FindsBy, FindsRight, Happens, HappensAt, Holds, is_of_calls}
 use Rattle.papaya_running.specs.Keeping.{IsAskedOf, IsNotRefused}
-use Rattle.papaya_running.specs.OfAll.{KeepsAll}
-use Rattle.papaya_running.specs.OfCalls.{KeepsAt, Runs, RunsOn}
-use Rattle.papaya_running.specs.OfRows.{HasNotBegun, KeepsRunAt, is_of_rows}
-use Rattle.papaya_running.specs.OfSetups.{KeepsSetup, is_of_setups}
-use Rattle.papaya_running.proofs.Nobody.{is_word, shows_nobody}
+use Rattle.papaya_events.specs.OfAll.{KeepsAll}
+use Rattle.papaya_events.specs.OfCalls.{KeepsAt, Runs, RunsOn}
+use Rattle.papaya_events.specs.OfRows.{HasNotBegun, KeepsRunAt, is_of_rows}
+use Rattle.papaya_events.specs.OfSetups.{KeepsSetup, is_of_setups}
+use Rattle.papaya_events.proofs.Nobody.{is_word, shows_nobody}
 
 module _ {K V S : Type 0} where
   -- a making that was not refused has not been refused once it had begun

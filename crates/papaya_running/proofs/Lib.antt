@@ -1,7 +1,4 @@
 mod Beginning
-mod Remaining
-mod Reached
-pub mod OfCalls
 mod Ended
 mod Forms
 mod Happened
@@ -14,10 +11,4 @@ mod AsRun
 mod Turns
 mod Counts
 mod Held
-pub mod OfRows
-pub mod OfEnds
-pub mod OfMakings
-pub mod OfAll
-pub mod OfSetups
 pub mod Joined
-mod Nobody

@@ -23,11 +23,11 @@ use Rattle.papaya_scheduler.specs.declared.played.Played.{Played}
 use Rattle.papaya_named.specs.declared.named_map.NamedMap.{NamedMap}
 use Rattle.papaya_scheduler.specs.declared.scheduler.Scheduler.{Scheduler}
 use Rattle.papaya_running.specs.Acting.{acting_of, map_acted, singles_as, traced}
-use Rattle.papaya_running.specs.Asked.{Happens, Holds}
+use Rattle.papaya_events.specs.Asked.{Happens, Holds}
 use Rattle.papaya_running.specs.Back.{BackSoFar, ReclaimsBy, ReclaimsRight, TellsBack}
 use Rattle.papaya_running.specs.Ending.{shown_of, told_map}
 use Rattle.papaya_running.specs.Keeping.{IsAskedOf}
-use Rattle.papaya_running.specs.OfCalls.{Runs}
+use Rattle.papaya_events.specs.OfCalls.{Runs}
 use Rattle.papaya_running.specs.Run.{GoesRight, IsRightRun, IsWholeRun, RunsSoFar, SoFar, TellsMost, log_so}
 use Rattle.papaya_tally.specs.Tally.{Tells, TellsAll, TellsMoment, counted, deferral, flag_of}
 use Rattle.papaya_running.specs.declared.record.Record.{Record}

@@ -20,7 +20,7 @@ use Rattle.papaya_logged.specs.Back.{ComesBack}
 use Rattle.papaya_scheduler.specs.declared.played.Played.{Played}
 use Rattle.papaya_scheduler.specs.declared.scheduler.Scheduler.{Scheduler}
 use Rattle.papaya_tally.specs.Told.{AreBack, ArePlaced}
-use Rattle.papaya_running.specs.Asked.{Holds}
+use Rattle.papaya_events.specs.Asked.{Holds}
 
 module _ {K V : Type 0} where
   -- Pairs are reclaimed by those alone who do something with a slot, end a map, or reclaim everything.

@@ -1,10 +1,5 @@
-pub mod Asked
 pub mod Back
 pub mod Ending
 pub mod Acting
 pub mod Run
-pub mod OfCalls
-pub mod OfRows
-pub mod OfAll
-pub mod OfSetups
 pub mod Keeping

@@ -18,10 +18,10 @@ use Rattle.papaya_schedules.specs.Views.{is_in_a_map, is_retired, is_waiting}
 use Rattle.papaya_scheduler.specs.declared.scheduler.Given.{Given}
 use Rattle.papaya_scheduler.specs.Quiet.{IsQuiet}
 use Rattle.papaya_scheduler.specs.declared.scheduler.Scheduler.{Scheduler}
-use Rattle.papaya_running.specs.Asked.{FindsRight, Holds}
+use Rattle.papaya_events.specs.Asked.{FindsRight, Holds}
 use Rattle.papaya_running.specs.Back.{ReclaimsRight, TellsBack}
 use Rattle.papaya_running.specs.Keeping.{IsAskedOf}
-use Rattle.papaya_running.specs.OfCalls.{Runs}
+use Rattle.papaya_events.specs.OfCalls.{Runs}
 use Rattle.papaya_tally.specs.Tally.{TellsMoment}
 use Rattle.papaya_running.specs.declared.record.Record.{Record}
 use Rattle.papaya_tally.specs.declared.tally.Tally.{Tally}

@@ -1,12 +1,12 @@
 //! An event of a schedule happens.
 ghost use Rattle.std.specs.Prelude.{◌≡◌, true, false, length, IfOk};
 ghost use Rattle.papaya_histories.specs.Given.Executor.IsAt.{StaysGiven, KeepsGiven};
-ghost use Rattle.papaya_running.specs.Asked.{HappensAt, HappensDue, HoldsThen, MayHappen, MayHappenDue, is_of_calls, is_of_maps, numbers_on};
+ghost use Rattle.papaya_events.specs.Asked.{HappensAt, HappensDue, HoldsThen, MayHappen, MayHappenDue, is_of_calls, is_of_maps, numbers_on};
 ghost use Rattle.papaya_running.specs.Back.{GivesAt, GivesDue};
-ghost use Rattle.papaya_running.specs.OfAll.{KeepsAll};
-ghost use Rattle.papaya_running.specs.OfCalls.{KeepsAt, KeepsDue};
-ghost use Rattle.papaya_running.specs.OfRows.{KeepsRun, KeepsRunAt};
-ghost use Rattle.papaya_running.specs.OfSetups.{KeepsSetup};
+ghost use Rattle.papaya_events.specs.OfAll.{KeepsAll};
+ghost use Rattle.papaya_events.specs.OfCalls.{KeepsAt, KeepsDue};
+ghost use Rattle.papaya_events.specs.OfRows.{KeepsRun, KeepsRunAt};
+ghost use Rattle.papaya_events.specs.OfSetups.{KeepsSetup};
 
 use papaya_mapping::endings::end_map;
 use papaya_mapping::makings::make_map;

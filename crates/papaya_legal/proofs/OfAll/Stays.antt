@@ -46,7 +46,7 @@ use Rattle.papaya_legal.specs.AllEvents.{scene_in}
 use Rattle.papaya_legal.specs.Carried.{ShowsCalls}
 use Rattle.papaya_histories.proofs.Given.Spots.Effects.{AllAside}
 use Rattle.papaya_legal.proofs.Sourced.{reclaimed_aside, same_maps_aside}
-use Rattle.papaya_legal.proofs.Finding.Others.{finding_of_none}
+use Rattle.papaya_grows.proofs.Finding.Others.{finding_of_none}
 use Rattle.papaya_legal.proofs.OfAll.Tells.{gone_by, it_reclaims, none_under_way}
 use Rattle.papaya_legal.proofs.Uncounted.{none_counted}
 

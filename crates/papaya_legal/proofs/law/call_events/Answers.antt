@@ -8,7 +8,7 @@ use Rattle.papaya_legal.proofs.CallSwept.{calls_are_swept}
 use Rattle.papaya_legal.proofs.Calls.{call_events_begin_so, call_events_go_on_so}
 use Rattle.papaya_legal.proofs.CallsAfter.{call_events_end_so}
 use Rattle.papaya_legal.proofs.CallsEnd.{call_events_are_legal}
-use Rattle.papaya_legal.proofs.Finding.Rest.{steps_find_rest}
+use Rattle.papaya_grows.proofs.Finding.Rest.{steps_find_rest}
 use Rattle.papaya_legal.proofs.law.call_events.Goals as goal
 
 pub returns : goal.returns

@@ -1,15 +1,15 @@
 -- An event is kept out, or happens by its kind.
 use Rattle.std.proofs.Common.{length, refl, sym, ap, ◌∙◌}
 use Rattle.papaya_histories.specs.Given.Executor.IsAt.{StaysGiven}
-use Rattle.papaya_running.specs.Asked.{HappensAt}
+use Rattle.papaya_events.specs.Asked.{HappensAt}
 use Rattle.papaya_running.proofs.Counts.{calls_make_none, counts_still, out_counts, slots_make_none}
 use Rattle.papaya_running.proofs.Gives.{calls_reclaim_none, gave_in_turn, gave_none_if, gave_out}
 use Rattle.papaya_running.proofs.Happened.{in_turn_if, out_so, stays_out}
 use Rattle.papaya_running.proofs.Held.{holds_if, holds_so}
-use Rattle.papaya_running.proofs.OfAll.{all_out, calls_give_none, none_keep, slots_give_none}
-use Rattle.papaya_running.proofs.OfCalls.Happens.{other_keeps, out_keeps, turn_keeps}
-use Rattle.papaya_running.proofs.OfRows.Kept.{calls_keep, kept_in_turn, kept_out}
-use Rattle.papaya_running.proofs.OfSetups.{calls_set_none, none_set, setup_out}
+use Rattle.papaya_events.proofs.OfAll.{all_out, calls_give_none, none_keep, slots_give_none}
+use Rattle.papaya_events.proofs.OfCalls.Happens.{other_keeps, out_keeps, turn_keeps}
+use Rattle.papaya_events.proofs.OfRows.Kept.{calls_keep, kept_in_turn, kept_out}
+use Rattle.papaya_events.proofs.OfSetups.{calls_set_none, none_set, setup_out}
 use Rattle.papaya_running.proofs.happening.happen.Goals as goal
 
 pub returns-then-keeps_out : goal.returns-then-keeps_out

@@ -3,7 +3,7 @@ use Rattle.std.proofs.Common.{refl}
 use Rattle.std.proofs.lemmas.Result.{IfOk-weaker}
 use Rattle.papaya_running.proofs.Forms.{some_call}
 use Rattle.papaya_running.proofs.Happened.{due_so, goes_if, may_play, next_if, still, still_if}
-use Rattle.papaya_running.proofs.OfCalls.Happens.{ask_if, begin_if, go_if, step_if, stop_keeps, told_keeps, whole_if}
+use Rattle.papaya_events.proofs.OfCalls.Happens.{ask_if, begin_if, go_if, step_if, stop_keeps, told_keeps, whole_if}
 use Rattle.papaya_running.proofs.happening.of_calls.Goals as goal
 
 pub begin-requires : goal.begin-requires

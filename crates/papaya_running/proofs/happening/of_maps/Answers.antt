@@ -5,11 +5,11 @@ use Rattle.papaya_running.proofs.Counts.{counts_as, counts_still}
 use Rattle.papaya_running.proofs.Forms.{some_map}
 use Rattle.papaya_running.proofs.Gives.{gave, gave_all, gave_none_if}
 use Rattle.papaya_running.proofs.Happened.{due_so, may_give, may_map, may_play, still_if}
-use Rattle.papaya_running.proofs.OfAll.{all_keep, others_none}
-use Rattle.papaya_running.proofs.OfEnds.{ends_keep}
-use Rattle.papaya_running.proofs.OfMakings.{makings_keep}
-use Rattle.papaya_running.proofs.OfRows.{others_keep_if}
-use Rattle.papaya_running.proofs.OfSetups.{others_set, setup_keeps_if}
+use Rattle.papaya_events.proofs.OfAll.{all_keep, others_none}
+use Rattle.papaya_events.proofs.OfEnds.{ends_keep}
+use Rattle.papaya_events.proofs.OfMakings.{makings_keep}
+use Rattle.papaya_events.proofs.OfRows.{others_keep_if}
+use Rattle.papaya_events.proofs.OfSetups.{others_set, setup_keeps_if}
 use Rattle.papaya_running.proofs.happening.of_maps.Goals as goal
 
 pub make_map-requires : goal.make_map-requires

@@ -1,0 +1,9 @@
+pub mod Remaining
+pub mod Reached
+pub mod OfCalls
+pub mod OfRows
+pub mod OfEnds
+pub mod OfMakings
+pub mod OfAll
+pub mod OfSetups
+pub mod Nobody

@@ -1,0 +1,43 @@
+-- Wherever a run has come, what is behind the roots is what the moment says is left over, in that order.
+use Rattle.std.specs.Prelude.{◌≡◌, ◌<◌, ◌||◌, ℕ, Bool, true, false, List}
+use Rattle.std.proofs.Common.{refl, sym, subst, ◌∙◌}
+use Rattle.papaya_histories.specs.Given.Moments.Numbers.{AreFound}
+use Rattle.papaya_schedules.specs.After.{moment}
+use Rattle.papaya_schedules.specs.Entry.{Entry}
+use Rattle.papaya_schedules.specs.Lists.{is_among}
+use Rattle.papaya_schedules.specs.Moment.{Moment}
+use Rattle.papaya_schedules.specs.Terms.{Terms}
+use Rattle.papaya_effects.specs.Known.{known}
+use Rattle.papaya_legal.specs.AllEvents.{BehindAreLeft, BehindIsLeft, LeftIsBehind}
+use Rattle.papaya_legal.proofs.BehindTold.{behind_is_told}
+use Rattle.papaya_remains.specs.Remains.{ShowsRemains, left_roots, map_roots}
+use Rattle.papaya_remains.proofs.InOrder.{all_noted}
+use Rattle.papaya_remains.proofs.Lists.{among_append}
+use Rattle.papaya_scheduler.specs.declared.scheduler.Scheduler.{Scheduler}
+use Rattle.papaya_events.specs.OfCalls.{Runs}
+use Rattle.papaya_events.proofs.Remaining.{noted_at}
+
+module _ {K V S : Type 0} (same : K → K → Bool) (hash : K → ℕ) (terms : Terms) (log : List (Entry K V)) (p : Scheduler K V S) (run : Runs same hash terms log p) (found : AreFound (moment log))
+    (roots_are : p.logged.executor.roots ≡ terms.roots) where
+  abbrev m : Moment K V
+  m = moment log
+
+  abbrev c : ShowsRemains p.logged.executor.roots m (known p.logged.notes) run.stands.scene
+  c = run.stands.shown.counted.remains
+
+  abbrev IsBelow : ℕ → ℕ → Type 0
+  IsBelow r roots = r < roots
+
+  -- roots of what is left over are roots of the collector
+  left_below : (r : ℕ) → is_among r (left_roots m) ≡ true → r < terms.roots
+  left_below r among = subst (IsBelow r) roots_are (c.below r (among_append r (map_roots m) (left_roots m) ∙ by (is_among r (map_roots m)) (is_among r (left_roots m)) among))
+    where
+      by : (a b : Bool) → b ≡ true → (a || b) ≡ true
+      by true b e = refl
+      by false b e = e
+
+  pub behind_so : LeftIsBehind terms.roots m (known p.logged.notes) c.lists × BehindIsLeft terms.roots m (known p.logged.notes) c.lists × BehindAreLeft terms.roots m (known p.logged.notes) c.lists
+  behind_so =
+      behind_is_told K V terms.roots m (known p.logged.notes) c.lists
+      (all_noted (known p.logged.notes).roles c.lists m.remains c.ascending terms.roots
+      (λ r lt. noted_at same hash terms m p run.stands found r (subst (IsBelow r) (sym roots_are) lt)) left_below) run.shows.left

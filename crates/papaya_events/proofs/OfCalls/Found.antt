@@ -1,0 +1,127 @@
+-- The effects of the steps of a call find what they must, if what is still asked is so of all of them.
+use Rattle.std.specs.Prelude.{◌≡◌, ◌+◌, ℕ, Bool, false, zero, suc, List, [], ◌∷◌, ◌++◌, map as list_map, Option, Some, option_map}
+use Rattle.std.proofs.Common.{ap, sym, subst, ◌∙◌, inl, inr}
+use Rattle.papaya_histories.specs.Given.Resize.declared.new_table.NewTable.{NewTable}
+use Rattle.papaya_histories.specs.Given.Runs.Same.{is_same}
+use Rattle.papaya_histories.specs.Given.Schedules.declared.call.Call.TheVariants as calls
+use Rattle.papaya_histories.specs.Given.Schedules.declared.effect.Effect.{Effect}
+use Rattle.papaya_histories.specs.Given.Schedules.declared.event.Event.{Event}
+use Rattle.papaya_histories.specs.Given.Schedules.After.{moments_from}
+use Rattle.papaya_histories.specs.Given.Schedules.Growing.{HasNext}
+use Rattle.papaya_histories.specs.Given.Schedules.Lists.{OneOf}
+use Rattle.papaya_histories.specs.Given.Schedules.Entry.{Entry}
+use Rattle.papaya_histories.specs.Given.Schedules.Moment.{UnderWay as CallThere, Moment}
+use Rattle.papaya_histories.specs.Given.Schedules.Terms.{Terms, shards_of}
+use Rattle.papaya_histories.specs.Given.Schedules.Views.{call_of}
+use Rattle.papaya_histories.specs.Given.Effects.Known.{known}
+use Rattle.papaya_histories.specs.Given.Finishes.Machines.{machine_of}
+use Rattle.papaya_histories.specs.Given.Finishes.Maps.{Standing}
+use Rattle.papaya_histories.specs.Given.Follows.Calls.{IsCalled}
+use Rattle.papaya_histories.proofs.Begun.{effects_begun}
+use Rattle.papaya_finds.specs.Nexts.{making_of_copier}
+use Rattle.papaya_finds.specs.Parts.{FindAll, FindRest}
+use Rattle.papaya_finds.proofs.Joined.{several_find_all}
+use Rattle.papaya_histories.specs.Given.Schedules.Lives.{Finds}
+use Rattle.papaya_finds.specs.Life.{StoresOne}
+use Rattle.papaya_finds.specs.Within.{ActsOn, AllIsInOrder}
+use Rattle.papaya_finds.proofs.Over.{both_at}
+use Rattle.papaya_finds.proofs.Runs.{life_keeps_order}
+use Rattle.papaya_grows.specs.Nexts.{MayFollow}
+use Rattle.papaya_legal.proofs.CallFinds.{steps_find_all}
+use Rattle.papaya_grows.proofs.Finding.Links.{such_of_making}
+use Rattle.papaya_grows.proofs.Finding.Rest.{steps_find_rest}
+use Rattle.papaya_named.specs.Seen.{Seen, seen}
+use Rattle.papaya_rows.proofs.Lists.{both_some, found_alike}
+use Rattle.papaya_scheduler.specs.declared.scheduler.Scheduler.{Scheduler}
+use Rattle.papaya_stepping.specs.Stepping.{GoneFor}
+use Rattle.papaya_stepping.proofs.AfterEffects.{calls_seen}
+use Rattle.papaya_events.proofs.OfCalls.Steps.{HasCome, IsStep, as_told, did, follows, has_come, its_here, leads, the}
+
+module _ {K V : Type 0} (name : ℕ → List ℕ) (terms : Terms) (map i : ℕ) (c : CallThere K V) (moments : List (Moment K V)) where
+  abbrev All : List Effect → Moment K V → Type 0
+  All fs m = FindAll terms moments (name i) map fs m
+
+module _ {K V S : Type 0} (same : K → K → Bool) (hash : K → ℕ) (name : ℕ → List ℕ) (terms : Terms) (log : List (Entry K V)) (event : Event K V) (beginning : Moment K V)
+    (map i : ℕ) (c : CallThere K V) (place n : ℕ) (mid : List Effect) (p : Scheduler K V S) (come : HasCome same hash name terms log event beginning map i c place n mid p) where
+  -- the map of the call has as many shards as the terms say
+  pub mask_is : (standing : Standing K) → come.scene.maps map ≡ Some standing → standing.setting.mask + 1 ≡ shards_of terms
+  mask_is standing there = come.shards map standing.setting (sym (come.shown.is_at.maps map) ∙ ap (λ (o : Option (Standing K)). option_map (λ (x : Standing K). x.setting) o) there)
+
+module _ {K V S : Type 0} (same : K → K → Bool) (hash : K → ℕ) (name : ℕ → List ℕ) (terms : Terms) (log : List (Entry K V)) (event : Event K V) (beginning : Moment K V)
+    (map i : ℕ) (c : CallThere K V) (place : ℕ) (c_is : call_of (name i) beginning ≡ Some c) (order : AllIsInOrder beginning) where
+  abbrev Come : ℕ → List Effect → Scheduler K V S → Type 0
+  Come n fs p = HasCome same hash name terms log event beginning map i c place n fs p
+
+  module _ (n : ℕ) (mid after : List Effect) (p new : Scheduler K V S) (come : Come n mid p) (step : IsStep same hash place mid after p new) where
+    abbrev here : come.scene.calls map i ≡ Some come.under
+    here = its_here same hash name terms log event beginning map i c place n mid after p new come step
+
+    abbrev its_did : List Effect
+    its_did = did same hash name terms log event beginning map i c place n mid after p new come step
+
+    after_is : after ≡ mid ++ its_did
+    after_is = follows same hash name terms log event beginning map i c place n mid after p new come step
+
+    abbrev its : (d : CallThere K V) × (call_of (name i) come.now ≡ Some d) × (d.map ≡ map) × IsCalled same come.under d.call
+    its = come.midst.calls.whole.all.shown.calls map i come.under here
+
+    -- its call is on the map on which it was as the event began, and began with the same one
+    seen_same : seen c ≡ seen its.0
+    seen_same =
+        let as_now = ap (λ (x : Moment K V). list_map seen x.calls) come.midst.worked ∙ calls_seen (name i) (Some map) mid beginning in
+        let alike = found_alike seen seen come.now.calls beginning.calls as_now (λ (z : Seen). is_same z.name (name i)) in
+        let was = both_some seen seen (call_of (name i) beginning) (call_of (name i) come.now) (sym alike) its.0 its.1 in
+        ap seen (the c was.0 (sym c_is ∙ was.1)) ∙ was.2
+
+    same_begun : its.0.begun ≡ c.begun
+    same_begun =
+        let kept = effects_begun (name i) map (name i) mid beginning c c_is in
+        ap (λ (y : CallThere K V). y.begun) (the its.0 kept.0 (sym its.1 ∙ ap (λ (x : Moment K V). call_of (name i) x) come.midst.worked ∙ kept.1)) ∙ kept.2
+
+    -- where its copier makes a table, its map has a second one, or had one since the call began
+    nexts : (k : NewTable) → making_of_copier (machine_of come.under) ≡ Some k → OneOf (HasNext map) (come.now ∷ moments_from its.0.begun log)
+    nexts k is =
+        elim (such_of_making (λ (x : NewTable). MayFollow map its.0.begun log come.now) k (machine_of come.under) is (come.midst.calls.nexts map i come.under here its.0 its.1)) as
+        (λ _. OneOf (HasNext map) (come.now ∷ moments_from its.0.begun log)) [
+          | inl had ↦ inr had
+          | inr now ↦ inl now
+        ]
+
+    -- all is in order there, since what was done so far has found what it must
+    order_now : All name terms map i c (moments_from c.begun log) mid beginning → AllIsInOrder come.now
+    order_now found =
+        subst AllIsInOrder (sym come.midst.worked)
+        (life_keeps_order K V terms (Some (name i)) (Some map) false (moments_from c.begun log) mid beginning
+        (both_at (Finds terms (Some (name i)) (Some map) false (moments_from c.begun log)) (StoresOne (Some (name i))) (Some (name i)) (Some map) mid beginning found come.midst.stores) on_its order)
+      where
+        map_is : map ≡ c.map
+        map_is = sym its.2 ∙ ap (λ (z : Seen). z.map) (sym seen_same)
+
+        on_its : ActsOn (Some (name i)) (Some map) beginning
+        on_its own d caller_is d_is =
+            let same_name : name i ≡ own = cc caller_is in
+            ap Some (map_is ∙ ap (λ (x : CallThere K V). x.map) (the c d (sym c_is ∙ ap (λ (x : List ℕ). call_of x beginning) same_name ∙ d_is)))
+
+    -- those of one step find it
+    step_finds : AllIsInOrder come.now → All name terms map i c (moments_from c.begun log) its_did come.now
+    step_finds here_order =
+        let led = leads same hash name terms log event beginning map i c place n mid after p new come step in
+        let its_mask = mask_is same hash name terms log event beginning map i c place n mid p come (led map come.under here).0 (led map come.under here).2 in
+        steps_find_all K V S same hash name come.now (known p.logged.notes) come.scene p.logged.executor new.logged.executor come.shown.is_at come.midst.calls.whole come.midst.calls.kept map i come.under
+        here step.said led terms its_mask its.0 its.1 (come.slot its.0 its.1) (moments_from c.begun log)
+        (subst (λ (b : ℕ). FindRest terms (moments_from b log) (name i) map its_did come.now) same_begun
+        (steps_find_rest K V S same hash name log come.now (known p.logged.notes) come.scene p.logged.executor new.logged.executor come.shown.is_at come.midst.calls.whole come.midst.calls.kept
+        come.midst.calls.finding come.midst.calls.sources here_order come.midst.calls.purposes map i come.under here step.said led terms its.0 its.1 its_mask nexts))
+
+    -- and so do all, where those before do
+    pub all_find : All name terms map i c (moments_from c.begun log) mid beginning → All name terms map i c (moments_from c.begun log) after beginning
+    all_find before =
+        subst (λ (fs : List Effect). All name terms map i c (moments_from c.begun log) fs beginning) (sym after_is)
+        (several_find_all K V terms (moments_from c.begun log) (name i) map mid its_did beginning before
+        (subst (λ (x : Moment K V). All name terms map i c (moments_from c.begun log) its_did x) come.midst.worked (step_finds (order_now before))))
+
+  module _ (first : Scheduler K V S) (start : Come 0 [] first) where
+    pub gone_find : (n : ℕ) (after : List Effect) (p : Scheduler K V S) → GoneFor same hash place n [] after first p → All name terms map i c (moments_from c.begun log) after beginning
+    gone_find zero after p gone = subst (λ (fs : List Effect). All name terms map i c (moments_from c.begun log) fs beginning) gone.0 tt
+    gone_find (suc n) after p (mid, q, outcome, gone, on, step) =
+        all_find n mid after q p (has_come same hash name terms log event beginning map i c place first start n mid q gone) (as_told same hash step) (gone_find n mid q gone)

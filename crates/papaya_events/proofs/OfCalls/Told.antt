@@ -1,0 +1,297 @@
+-- An event that tells a reply to a call that takes it, or gives up a walk that is ready: it is legal, and the run goes on with it.
+use Rattle.std.specs.Prelude.{◌≡◌, ◌&&◌, ℕ, Bool, true, false, List, [], ◌∷◌, position, slice_get, slice_set, Option, Some, None, option_map, Result, Ok, Err}
+use Rattle.std.specs.Result.{is_err}
+use Rattle.std.proofs.Common.{refl, ap, sym, subst, ◌∙◌, inl, inr}
+use Rattle.std.specs.List.{AllByRecursion}
+use Rattle.papaya_histories.specs.Given.Runs.Same.{is_same}
+use Rattle.papaya_histories.specs.Given.Raw.Machine.{machine_replied}
+use Rattle.papaya_histories.specs.Given.Raw.declared.machines.asking.Reply.{Reply as MachineReply}
+use Rattle.papaya_histories.specs.Given.Schedules.declared.call.Call.TheVariants.{On}
+use Rattle.papaya_histories.specs.Given.Schedules.declared.call.OneKey.{OneKey}
+use Rattle.papaya_histories.specs.Given.Schedules.declared.call.OneKey.TheVariants.{Compute, RemoveIf}
+use Rattle.papaya_histories.specs.Given.Schedules.declared.call.Reply.{Reply}
+use Rattle.papaya_histories.specs.Given.Schedules.declared.call.Reply.TheVariants.{Gives, Removes, Aborts, Decides}
+use Rattle.papaya_histories.specs.Given.Schedules.declared.event.Event.TheVariants.{Replied, Stop}
+use Rattle.papaya_histories.specs.Given.Schedules.declared.outcome.Outcome.TheVariants.{Done, Goes}
+use Rattle.papaya_histories.specs.Given.Schedules.After.{moment, replied, slots_on}
+use Rattle.papaya_histories.specs.Given.SeizeWords.Mem.{Mem}
+use Rattle.papaya_histories.specs.Given.Seize.World.{SlotsTaken}
+use Rattle.papaya_histories.specs.Given.Tables.declared.node.Node.{Node}
+use Rattle.papaya_histories.specs.Given.Schedules.Entry.{Entry}
+use Rattle.papaya_histories.specs.Given.Schedules.InTurn.{ComesRight}
+use Rattle.papaya_histories.specs.Given.Schedules.Moment.{Asking, Moment, Stands, Told as IsTold, UnderWay as CallThere}
+use Rattle.papaya_histories.specs.Given.Schedules.Terms.{Terms}
+use Rattle.papaya_histories.specs.Given.Schedules.Views.{call_of}
+use Rattle.papaya_histories.specs.Given.Callers.Together.{UnderWay}
+use Rattle.papaya_histories.specs.Given.Effects.Known.{Known, known}
+use Rattle.papaya_histories.specs.Given.Executor.IsAt.{Scene, IsAt, KeepsGiven}
+use Rattle.papaya_histories.specs.Given.Executor.Replying.{ReplyLeads, StopLeads, scene_with, unless_stopped}
+use Rattle.papaya_histories.specs.Given.Finishes.Machines.{machine_of}
+use Rattle.papaya_histories.specs.Given.Finishes.Maps.{Standing, with_call as with_call_of}
+use Rattle.papaya_histories.specs.Given.Follows.Calling.{NoneNamed}
+use Rattle.papaya_histories.specs.Given.Hands.Asked.{as_told}
+use Rattle.papaya_histories.proofs.Given.Follows.Calling.{apart_back}
+use Rattle.papaya_histories.proofs.Given.Hands.Asking.{which}
+use Rattle.papaya_histories.specs.Changes.{IsTaken}
+use Rattle.papaya_histories.specs.Given.Raw.declared.machines.machine.Machine.{Machine}
+use Rattle.papaya_histories.proofs.Given.Follows.Calling.{is_same_refl}
+use Rattle.papaya_legal.proofs.Come.{events_bring_things}
+use Rattle.papaya_legal.specs.CallEvents.{IsLegalBut}
+use Rattle.papaya_legal.specs.Carried.{ShowsRun}
+use Rattle.papaya_legal.proofs.Begun.{stopped_events_end, told_events_end}
+use Rattle.papaya_reclaims.specs.Left.{LeftAmong}
+use Rattle.papaya_logged.specs.Shown.{IsCounted}
+use Rattle.papaya_named.specs.Machines.{IsAsFar}
+use Rattle.papaya_scheduler.specs.Played.{HasReplied, HasStopped, IsPlayed}
+use Rattle.papaya_named.specs.Seen.{Seen, asks, fits, is_named, is_ready as is_ready_there, kind_of, kind_on, takes}
+use Rattle.papaya_named.specs.declared.caller.Caller.{Caller}
+use Rattle.papaya_named.specs.declared.caller.Stands.{Stands as HowFar}
+use Rattle.papaya_named.specs.declared.caller.Stands.TheVariants as far
+use Rattle.papaya_named.specs.declared.kind.Kind.{Kind}
+use Rattle.papaya_scheduler.specs.declared.scheduler.Scheduler.{Scheduler}
+use Rattle.papaya_scheduler.proofs.Here.{Here, here_at, read_here}
+use Rattle.papaya_scheduler.proofs.Replied.{asks_what, far_asks}
+use Rattle.papaya_scheduler.proofs.Rights.{quiet}
+use Rattle.papaya_scheduler.proofs.Stopped.{asked_ready, ready_parts, shows_is}
+use Rattle.papaya_values.specs.Values.{KeepsValue}
+use Rattle.papaya_values.proofs.Values.{values_taken}
+use Rattle.papaya_rows.proofs.Lists.{all_so, found_has, set_all}
+use Rattle.papaya_events.proofs.OfCalls.Worth.{all_left, event_says, found_changed, found_unchanged, is_worth_then}
+use Rattle.papaya_events.specs.OfCalls.{HaveValues, IsWorth, Runs, RunsOn}
+use Rattle.papaya_events.proofs.OfCalls.Scenes.{AreNamed, its_named, named_left, named_set, stands_in}
+use Rattle.papaya_events.proofs.Remaining.{counted_in}
+use Rattle.papaya_events.proofs.Reached.{reached_by}
+
+-- a call takes a reply of its kind
+taken_by : {K V : Type 0} (one : OneKey K V) (reply : Reply V) → fits (kind_on one) reply ≡ true → IsTaken one reply
+taken_by (RemoveIf k) (Decides keeps) is = tt
+taken_by (RemoveIf k) (Gives v) is = absurd (cc is)
+taken_by (RemoveIf k) Removes is = absurd (cc is)
+taken_by (RemoveIf k) (Aborts v) is = absurd (cc is)
+taken_by (Compute k) (Decides keeps) is = absurd (cc is)
+taken_by (Compute k) (Gives v) is = tt
+taken_by (Compute k) Removes is = tt
+taken_by (Compute k) (Aborts v) is = tt
+taken_by _ reply is = tt
+
+the_one : {X : Type 0} (a b : X) → Some a ≡ Some b → a ≡ b
+the_one a b is = cc is
+
+replied_name : {K V : Type 0} (reply : Reply V) (c : CallThere K V) (stands : Stands) → (replied reply c stands).caller ≡ c.caller
+replied_name reply c (Asking q) = refl
+replied_name reply c _ = refl
+
+plain_ok : {X : Type 0} (r : Result Unit X) → is_err r ≡ false → r ≡ Ok tt
+plain_ok (Ok tt) is = refl
+plain_ok (Err x) is = absurd (cc is)
+
+both : (a b : Bool) → (a && b) ≡ true → (a ≡ true) × (b ≡ true)
+both true b is = (refl, is)
+both false b is = absurd (cc is)
+
+module _ {K V S : Type 0} (same : K → K → Bool) (hash : K → ℕ) (terms : Terms) (log : List (Entry K V)) (old : Scheduler K V S) (runs : Runs same hash terms log old) (own : List ℕ) (new : Scheduler K V S) where
+  abbrev m : Moment K V
+  m = moment log
+
+  abbrev s : Scene K V
+  s = runs.stands.scene
+
+  abbrev name : ℕ → List ℕ
+  name = runs.stands.name
+
+  -- the run goes on in a scene with the same maps
+  module _ (e : Entry K V) (t : Scene K V) (run : ShowsRun same name terms (e ∷ log) (known old.logged.notes) t) (legal : IsLegalBut same terms log e) (is_at : IsAt same hash new.logged.executor t) (maps : t.maps ≡ s.maps)
+      (left : LeftAmong new.logged.executor.roots t.world t.maps t.makers t.enders runs.stands.shown.counted.remains.lists) (notes : new.logged.notes ≡ old.logged.notes) (on_size : new.logged.executor.batch_size ≡ old.logged.executor.batch_size) (named : AreNamed name new.calls.items.items)
+      (values : HaveValues (moment (e ∷ log)) t new.calls.items.items) (plays : IsPlayed same hash terms (e ∷ log) new) (right : ComesRight terms log e) (memory : t.world.memory ≡ s.world.memory) (no_slot : slots_on e.outcome m.slots ≡ m.slots) where
+    run_then : ShowsRun same name terms (e ∷ log) (known new.logged.notes) t
+    run_then = subst (λ (k : Known). ShowsRun same name terms (e ∷ log) k t) (sym (ap known notes)) run
+
+    counted : IsCounted (moment (e ∷ log)) new.logged t
+    counted = counted_in same hash terms (moment (e ∷ log)) new plays t is_at runs.stands.shown.counted.remains.lists left
+
+    pub then_on : RunsOn same hash terms log e new
+    then_on = record {
+      legal = legal;
+      runs = record {
+        stands = stands_in same hash terms (moment (e ∷ log)) new plays name t (record { is_at = is_at; shows = run_then.calls.whole; kept = run_then.calls.kept; counted = counted }) named;
+        shows = run_then;
+        come = events_bring_things K V terms log e runs.come legal.life.finds;
+        values = values;
+        taken = subst (λ (x : Mem (Node K V)). SlotsTaken x (moment (e ∷ log)).slots) (sym memory) (subst (SlotsTaken s.world.memory) (sym no_slot) runs.taken);
+        size = on_size ∙ runs.size;
+        shards = λ n setting is. runs.shards n setting (sym (runs.stands.shown.is_at.maps n) ∙ ap (λ (f : ℕ → Option (Standing K)). option_map (λ (x : Standing K). x.setting) (f n)) (sym maps) ∙ is_at.maps n ∙ is);
+        reached = reached_by same hash terms log e old new right plays (ap known notes) runs.reached;
+      };
+    }
+
+  -- what is behind roots stays there, in a scene that differs in calls alone
+  behind : KeepsGiven old.logged.executor new.logged.executor
+      → LeftAmong new.logged.executor.roots s.world s.maps s.makers s.enders runs.stands.shown.counted.remains.lists
+  behind given =
+      subst (λ (r : ℕ). LeftAmong r s.world s.maps s.makers s.enders runs.stands.shown.counted.remains.lists) (sym given.2) runs.stands.shown.counted.remains.left
+
+  -- a reply was told
+  module _ (reply : Reply V) (has : HasReplied same hash own reply old new) (given : KeepsGiven old.logged.executor new.logged.executor) where
+    abbrev here : Here same hash terms m old runs.stands own has.place
+    here = here_at same hash terms m old runs.stands own has.place has.placed
+
+    abbrev d : Caller V
+    d = here.caller
+
+    abbrev u : UnderWay K V K
+    u = here.way.0
+
+    name_is : name d.number ≡ own
+    name_is = here.way.2 ∙ here.named
+
+    takes_it : takes d reply ≡ true
+    takes_it = ap (λ (x : Caller V). takes x reply) (sym (read_here same hash terms m old runs.stands own has.place here has.asked has.reads)) ∙ has.taken
+
+    parts : (asks d.stands ≡ true) × (fits d.kind reply ≡ true)
+    parts = both (asks d.stands) (fits d.kind reply) takes_it
+
+    question : (q : Option ℕ) × (d.stands ≡ far.Asks q)
+    question = asks_what d.stands parts.0
+
+    asking : here.call.stands ≡ Asking question.0
+    asking = far_asks here.call.stands question.0 (ap (λ (z : Seen). z.far) here.as_seen ∙ question.1)
+
+    leads : ReplyLeads same hash d.number (as_told reply) has.result s old.logged.executor new.logged.executor
+    leads =
+        subst (λ (t : MachineReply V). ReplyLeads same hash d.number t has.result s old.logged.executor new.logged.executor) has.is_told
+        (subst (λ (x : Caller V). ReplyLeads same hash x.number has.as_it has.result s old.logged.executor new.logged.executor)
+        (read_here same hash terms m old runs.stands own has.place here has.whose has.reads_whose) (has.leads s runs.stands.shown.is_at))
+
+    abbrev t : Scene K V
+    t = scene_with d.map d.number (leads d.map u here.way.1).1 s
+
+    takes_ok : (machine_replied (machine_of u) (as_told reply)).1 ≡ Ok tt
+    takes_ok = sym (leads d.map u here.way.1).4 ∙ plain_ok has.result has.plain
+
+    taken : (one : OneKey K V) → here.call.call ≡ On one → IsTaken one reply
+    taken one is = taken_by one reply (sym (ap (λ (k : Kind). fits k reply) (sym (ap (λ (z : Seen). z.kind) here.as_seen) ∙ ap kind_of is)) ∙ parts.1)
+
+    abbrev e : List ℕ → Entry K V
+    e x = quiet (Replied x reply) Goes
+
+    abbrev told_caller : Caller V
+    told_caller = record d { stands = far.Goes; value = has.value }
+
+    -- its call is told the reply
+    told_call : CallThere K V
+    told_call = replied reply here.call here.call.stands
+
+    call_then : call_of own (moment (e own ∷ log)) ≡ Some (record here.call { stands = IsTold; replies = (question.0, reply) ∷ here.call.replies })
+    call_then =
+        found_changed own (λ (c : CallThere K V). replied reply c c.stands) (λ (c : CallThere K V). replied_name reply c c.stands) m.calls here.call here.call_is
+        ∙ ap (λ (x : Stands). Some (replied reply here.call x)) asking
+
+    -- and the caller keeps the value with which it was told to abort
+    own_worth : IsWorth (moment (e own ∷ log)) t told_caller
+    own_worth x there c is =
+        elim (which s.calls d.map d.number (Some (leads d.map u here.way.1).1) d.map d.number x there) as (λ _. KeepsValue c.call c.replies (machine_of x) has.value) [
+          | inl at ↦ subst (λ (y : CallThere K V). KeepsValue y.call y.replies (machine_of x) has.value) (the_one _ c (sym call_then ∙ ap (λ (l : List ℕ). call_of l (moment (e own ∷ log))) (sym here.named) ∙ is))
+              (subst (λ (y : UnderWay K V K). KeepsValue here.call.call ((question.0, reply) ∷ here.call.replies) (machine_of y) has.value) (the_one (leads d.map u here.way.1).1 x at.2)
+              (subst (λ (y : Machine K V K). KeepsValue here.call.call ((question.0, reply) ∷ here.call.replies) y has.value) (sym (leads d.map u here.way.1).3)
+              (subst (λ (v : Option V). KeepsValue here.call.call ((question.0, reply) ∷ here.call.replies) (machine_replied (machine_of u) (as_told reply)).0 v) (sym has.value_is)
+              (values_taken K V S same hash name m (known old.logged.notes) s old.logged.executor runs.stands.shown.is_at runs.stands.shown.shows d.map d.number u here.way.1 (leads d.map u here.way.1).0
+              (leads d.map u here.way.1).2 here.call (ap (λ (l : List ℕ). call_of l m) name_is ∙ here.call_is) question.0 asking reply takes_ok d.value
+              (found_has (λ (z : Caller V). IsWorth m s z) (is_named own) old.calls.items.items d here.found runs.values u here.way.1 here.call (ap (λ (l : List ℕ). call_of l m) here.named ∙ here.call_is))))))
+          | inr apart ↦ absurd (apart.0 refl refl)
+        ]
+
+    -- and others theirs
+    other_worth : (z : Caller V) → is_named own z ≡ false → (name z.number ≡ z.name) × IsWorth m s z → IsWorth (moment (e own ∷ log)) t z
+    other_worth z other (named, worth) x there c is =
+        worth x
+        (elim (which s.calls d.map d.number (Some (leads d.map u here.way.1).1) z.map z.number x there) as (λ _. s.calls z.map z.number ≡ Some x) [
+          | inl at ↦ absurd (let yes = ap (λ (l : List ℕ). is_same l own) (sym named ∙ ap name at.1 ∙ name_is) ∙ is_same_refl own in cc (other, yes))
+          | inr apart ↦ apart.1
+        ]) c (sym (found_unchanged own z.name other (λ (y : CallThere K V). replied reply y y.stands) (λ (y : CallThere K V). replied_name reply y y.stands) m.calls) ∙ is)
+
+    values_told : HaveValues (moment (e own ∷ log)) t new.calls.items.items
+    values_told =
+        subst (HaveValues (moment (e own ∷ log)) t) (sym (has.calls d here.at))
+        (subst (λ (n : ℕ). HaveValues (moment (e own ∷ log)) t (slice_set old.calls.items.items n told_caller)) (sym here.first)
+        (set_all (λ (z : Caller V). (name z.number ≡ z.name) × IsWorth m s z) (IsWorth (moment (e own ∷ log)) t) (is_named own) told_caller own_worth other_worth old.calls.items.items
+        (both_all old.calls.items.items (its_named same hash terms m old runs.stands) runs.values) (runs.stands.calls.once own)))
+      where
+        both_all : (ds : List (Caller V)) → AreNamed name ds → HaveValues m s ds → AllByRecursion (λ (z : Caller V). (name z.number ≡ z.name) × IsWorth m s z) ds
+        both_all [] named all = tt
+        both_all (z ∷ ds) named all = ((named.0, all.0), both_all ds named.1 all.1)
+
+    pub told_on : ComesRight terms log (e own) → IsPlayed same hash terms (e own ∷ log) new → RunsOn same hash terms log (e own) new
+    told_on right plays =
+        let led = leads d.map u here.way.1 in
+        let on = subst (λ (x : List ℕ). IsLegalBut same terms log (e x) × ShowsRun same name terms (e x ∷ log) (known old.logged.notes) t) name_is
+        (told_events_end K V S same hash name terms log (known old.logged.notes) s old.logged.executor new.logged.executor runs.stands.shown.is_at runs.shows d.map d.number u here.way.1 here.call
+        (ap (λ (x : List ℕ). call_of x m) name_is ∙ here.call_is) question.0 asking led.0 led.2 reply led.1 led.3 takes_ok led.5 taken led.7 0
+        (subst (λ (x : List ℕ). ComesRight terms log (e x)) (sym name_is) right)) in
+        then_on (e own) t on.1 on.0 led.7 refl (behind given) has.notes given.1
+        (subst (AreNamed name) (sym (has.calls d here.at)) (named_set name old.calls.items.items has.place (record d { stands = far.Goes; value = has.value }) here.way.2 (its_named same hash terms m old runs.stands))) values_told plays right refl refl
+
+  -- a walk was given up
+  module _ (has : HasStopped same hash own old new) (given : KeepsGiven old.logged.executor new.logged.executor) where
+    placed : (Some has.place ≡ position (is_named own) old.calls.items.items) × (is_ready_there (slice_get old.calls.items.items has.place) ≡ true)
+    placed = ready_parts same hash terms log old own runs.stands has.place has.ready
+
+    abbrev there : Here same hash terms m old runs.stands own has.place
+    there = here_at same hash terms m old runs.stands own has.place placed.0
+
+    abbrev its : Caller V
+    its = there.caller
+
+    named_so : name its.number ≡ own
+    named_so = there.way.2 ∙ there.named
+
+    far_is : its.stands ≡ far.Ready
+    far_is = shows_is its.stands (sym (ap is_ready_there there.at) ∙ placed.1)
+
+    led : StopLeads same hash its.number has.stopped s old.logged.executor new.logged.executor
+    led = subst (λ (x : Caller V). StopLeads same hash x.number has.stopped s old.logged.executor new.logged.executor)
+        (read_here same hash terms m old runs.stands own has.place there has.whose has.reads) (has.leads s runs.stands.shown.is_at)
+
+    is_stopped : has.stopped ≡ true
+    is_stopped = (led its.map there.way.0 there.way.1).0
+        ∙ asked_ready its.kind (machine_of there.way.0) (subst (λ (x : HowFar). IsAsFar its.kind x (machine_of there.way.0)) far_is there.way.4.0)
+
+    led_so : StopLeads same hash its.number true s old.logged.executor new.logged.executor
+    led_so = subst (λ (q : Bool). StopLeads same hash its.number q s old.logged.executor new.logged.executor) is_stopped led
+
+    abbrev after : Scene K V
+    after = record s { calls = with_call_of s.calls its.map its.number (unless_stopped true there.way.0) }
+
+    -- no other call has its name
+    none_named : NoneNamed name (name its.number) after
+    none_named n j x is = apart_back (name j) (name its.number) (by (is_same (name j) (name its.number)) refl)
+      where
+        by : (q : Bool) → is_same (name j) (name its.number) ≡ q → is_same (name j) (name its.number) ≡ false
+        by false e = e
+        by true e = elim (which s.calls its.map its.number None n j x is) as (λ _. is_same (name j) (name its.number) ≡ false) [
+          | inl own_one ↦ absurd (let none = own_one.2 in cc none)
+          | inr had ↦ absurd (let two = runs.stands.shown.shows.all.asked.apart n j its.map its.number x there.way.0 had.1 there.way.1 e in had.0 two.0 two.1)
+        ]
+
+    abbrev f : List ℕ → Entry K V
+    f x = quiet (Stop x) Done
+
+    values_stopped : HaveValues (moment (f own ∷ log)) after new.calls.items.items
+    values_stopped =
+        subst (λ (cs : List (Caller V)). HaveValues (moment (f own ∷ log)) after cs) (sym has.calls)
+        (all_left (IsWorth (moment (f own ∷ log)) after) old.calls.items.items has.place
+        (all_so (IsWorth m s) (IsWorth (moment (f own ∷ log)) after)
+        (λ z worth. is_worth_then m (moment (f own ∷ log)) (event_says (f own) m tt) s after z (λ x is. there_still z x is) worth) old.calls.items.items runs.values))
+      where
+        there_still : (z : Caller V) (x : UnderWay K V K) → after.calls z.map z.number ≡ Some x → s.calls z.map z.number ≡ Some x
+        there_still z x is = elim (which s.calls its.map its.number None z.map z.number x is) as (λ _. s.calls z.map z.number ≡ Some x) [
+          | inl at ↦ absurd (let none = at.2 in cc none)
+          | inr apart ↦ apart.1
+        ]
+
+    pub stopped_on : ComesRight terms log (f own) → IsPlayed same hash terms (f own ∷ log) new → RunsOn same hash terms log (f own) new
+    stopped_on right plays =
+        let on = subst (λ (x : List ℕ). IsLegalBut same terms log (f x) × ShowsRun same name terms (f x ∷ log) (known old.logged.notes) after) named_so
+        (stopped_events_end K V S same hash name terms log (known old.logged.notes) s old.logged.executor new.logged.executor runs.stands.shown.is_at runs.shows its.number led_so its.map there.way.0
+        there.way.1 0 none_named (subst (λ (x : List ℕ). ComesRight terms log (f x)) (sym named_so) right)) in
+        then_on (f own) after on.1 on.0 (led_so its.map there.way.0 there.way.1).2 refl (behind given) has.notes given.1
+        (subst (AreNamed name) (sym has.calls) (named_left name old.calls.items.items has.place (its_named same hash terms m old runs.stands))) values_stopped plays right refl refl

@@ -1,0 +1,260 @@
+-- The steps of an event that makes a map: it is in the midst of its work after each of them.
+use Rattle.std.specs.Prelude.{◌≡◌, ◌≢◌, ◌⊎◌, ◌==◌, ◌&&◌, ◌<◌, ◌+◌, ◌-◌, ◌++◌, ℕ, zero, suc, Bool, true, false, List, [], ◌∷◌, find, Option, Some, None}
+use Rattle.std.specs.List.{list_all}
+use Rattle.std.proofs.Common.{refl, sym, ap, subst, inl, inr, ◌∙◌}
+use Rattle.std.proofs.lemmas.Bool.{cases_eq}
+use Rattle.std.proofs.lemmas.List.Folds.{list_all-append}
+use Rattle.papaya_histories.specs.Given.Seize.declared.progress.Progress.{Progress}
+use Rattle.papaya_histories.specs.Given.Seize.declared.progress.Progress.TheVariants as progress
+use Rattle.papaya_histories.specs.Given.Seize.World.{with_at}
+use Rattle.papaya_histories.specs.Given.Resize.declared.new_map.NewMap.{NewMap}
+use Rattle.papaya_histories.specs.Given.Tables.declared.resize_mode.ResizeMode.{ResizeMode}
+use Rattle.papaya_histories.specs.Given.Tables.declared.setting.Setting.{Setting}
+use Rattle.papaya_histories.proofs.Given.Callers.Together.At.{at_other, at_same}
+use Rattle.papaya_runs.specs.Runs.{map_fault}
+use Rattle.papaya_schedules.specs.declared.effect.Effect.{Effect}
+use Rattle.papaya_schedules.specs.declared.effect.Effect.TheVariants.{Asked, Linked, TableMade}
+use Rattle.papaya_schedules.specs.declared.effect.Growth.TheVariants.{ABlock}
+use Rattle.papaya_schedules.specs.declared.event.Event.TheVariants.{MakeMap}
+use Rattle.papaya_schedules.specs.declared.outcome.Outcome.TheVariants.{Done, Refused}
+use Rattle.papaya_schedules.specs.Effects.{AtEachEffect, maps_by, with_effect, with_effects, worked}
+use Rattle.papaya_schedules.specs.Entry.{Entry}
+use Rattle.papaya_schedules.specs.Handing.{is_first_making}
+use Rattle.papaya_schedules.specs.Lives.{EventFinds}
+use Rattle.papaya_schedules.specs.Moment.{MapThere, Moment}
+use Rattle.papaya_schedules.specs.Terms.{Terms}
+use Rattle.papaya_schedules.specs.Views.{map_at}
+use Rattle.papaya_effects.specs.Effects.{effects_of, known_after}
+use Rattle.papaya_effects.specs.Known.{Known, known}
+use Rattle.papaya_effects.specs.declared.acting.Acting.TheVariants as acts
+use Rattle.papaya_histories.specs.Given.Executor.IsAt.{Scene, IsAt, slot_of}
+use Rattle.papaya_histories.specs.Given.Executor.Making.{MakingLeads}
+use Rattle.papaya_histories.specs.Given.Executor.declared.executor.Executor.{Executor}
+use Rattle.papaya_histories.specs.Given.Finishes.Makings.{Beginning, IsMade}
+use Rattle.papaya_histories.specs.Given.Finishes.Maps.{Standing}
+use Rattle.papaya_histories.specs.Given.Follows.Shows.{Shows}
+use Rattle.papaya_histories.proofs.Given.Spots.Unreclaimed.{and_both}
+use Rattle.papaya_histories.specs.Given.Others.Makings.{IsNew, WasNew, making_after}
+use Rattle.papaya_others.proofs.MakingGoes.{new_maps_stay}
+use Rattle.papaya_finds.specs.Linking.{IsMadeFor}
+use Rattle.papaya_finds.proofs.Capacities.{effects_keep_capacities}
+use Rattle.papaya_legal.specs.Chains.{Chain, Come, MakingSteps}
+use Rattle.papaya_legal.specs.MapEvents.{InMakingEvent}
+use Rattle.papaya_legal.proofs.Chains.{makings_chain}
+use Rattle.papaya_grows.proofs.Finding.Alike.{made_still}
+use Rattle.papaya_legal.proofs.Slots.{each_join}
+use Rattle.papaya_finds.specs.Firsts.{ShowsOpenings}
+use Rattle.papaya_finds.proofs.Firsts.{makings_go_on}
+use Rattle.papaya_remains.proofs.Numbered.{made_stays}
+use Rattle.papaya_logged.specs.Goes.{Far, GoesFor, MakingGoes, MakingOn}
+use Rattle.papaya_logged.specs.Makings.{is_over}
+use Rattle.papaya_logged.specs.Shown.{IsCounted}
+use Rattle.papaya_logged.proofs.Counted.{counted_making_steps}
+use Rattle.papaya_logged.proofs.LeftNoted.{makings_note_left}
+use Rattle.papaya_named.specs.Places.{first_places}
+use Rattle.papaya_works.proofs.Makings.{makings_do_theirs, makings_find_theirs}
+use Rattle.papaya_events.proofs.OfRows.Chain.{come_as, come_by}
+
+-- By what a step of a making told: it goes on as another machine, of the same map.
+module _ {K V S : Type 0} (same : K → K → Bool) (hash : K → ℕ) (s : Scene K V) (old new : Executor K V S) (i : ℕ) (b : Beginning K) (here : s.makers i ≡ Some b) where
+  abbrev Leads : Progress Setting → Type 0
+  Leads said = MakingLeads same hash i said s old new
+
+  abbrev next_scene : (said : Progress Setting) → Leads said → Scene K V
+  next_scene said leads = making_after same hash s old new i b (leads b here).0 (leads b here).2.step.w2 said (leads b here).3
+
+  -- the executor is there,
+  pub is_there : (said : Progress Setting) (leads : Leads said) → IsAt same hash new (next_scene said leads)
+  is_there progress.Goes leads = (leads b here).3
+  is_there progress.Waits leads = absurd (leads b here).3
+  is_there (progress.Done setting) leads = (leads b here).3.2
+  is_there (progress.Refused fault) leads = (leads b here).3
+
+  -- and until the last step the making is under way, and the map is as new
+  making_on : (said : Progress Setting) (leads : Leads said) → is_over said ≡ false → (next_scene said leads).makers i ≡ Some (record b { machine = (leads b here).0 })
+  making_on progress.Goes leads more = at_same s.makers i (Some (record b { machine = (leads b here).0 })) i refl
+  making_on progress.Waits leads more = absurd (leads b here).3
+  making_on (progress.Done setting) leads more = absurd (cc more)
+  making_on (progress.Refused fault) leads more = absurd (cc more)
+
+  maps_still : (said : Progress Setting) (leads : Leads said) → is_over said ≡ false → (next_scene said leads).maps ≡ s.maps
+  maps_still progress.Goes leads more = refl
+  maps_still progress.Waits leads more = absurd (leads b here).3
+  maps_still (progress.Done setting) leads more = absurd (cc more)
+  maps_still (progress.Refused fault) leads more = absurd (cc more)
+
+  pub calls_still : (said : Progress Setting) (leads : Leads said) → (next_scene said leads).calls ≡ s.calls
+  calls_still progress.Goes leads = refl
+  calls_still progress.Waits leads = absurd (leads b here).3
+  calls_still (progress.Done setting) leads = refl
+  calls_still (progress.Refused fault) leads = refl
+
+  new_still : (name : ℕ → List ℕ) (m : Moment K V) (k : Known) → IsAt same hash old s → Shows same name m k s → (of : Option ℕ) (setting : Setting) (said : Progress Setting) → Leads said → is_over said ≡ false
+      → IsNew b.map setting m → IsNew b.map setting (with_effects None of (effects_of (acts.Making b.map) k new.memory.changed) m)
+  new_still name m k at shows of setting progress.Goes leads more is_new = new_maps_stay K V S same hash name m k s old new at shows i leads b here of setting is_new
+  new_still name m k at shows of setting progress.Waits leads more is_new = absurd (leads b here).3
+  new_still name m k at shows of setting (progress.Done answer) leads more is_new = absurd (cc more)
+  new_still name m k at shows of setting (progress.Refused fault) leads more is_new = absurd (cc more)
+
+  -- maps that stand then: those that stood, and that which was made, as it was to be
+  made_maps : (said : Progress Setting) (leads : Leads said) (setting : Setting) → said ≡ progress.Done setting → (n : ℕ)
+      → ((n ≢ b.map) × ((next_scene said leads).maps n ≡ s.maps n)) ⊎ ((standing : Standing K) × ((next_scene said leads).maps n ≡ Some standing) × (standing.setting.mask ≡ b.given.mask))
+  made_maps progress.Goes leads setting is n = absurd (cc is)
+  made_maps progress.Waits leads setting is n = absurd (leads b here).3
+  made_maps (progress.Refused fault) leads setting is n = absurd (cc is)
+  made_maps (progress.Done answer) leads setting is n = by (cases_eq n b.map)
+    where
+      c : (standing : Standing K) × IsMade V same same old.batch_size old.roots slot_of b answer standing
+          × IsAt same hash new (record s { world = (leads b here).2.step.w2; maps = with_at s.maps b.map (Some standing); makers = with_at s.makers i None })
+      c = (leads b here).3
+
+      by : (n ≡ b.map) ⊎ (n ≢ b.map) → ((n ≢ b.map) × ((next_scene (progress.Done answer) leads).maps n ≡ s.maps n))
+          ⊎ ((standing : Standing K) × ((next_scene (progress.Done answer) leads).maps n ≡ Some standing) × (standing.setting.mask ≡ b.given.mask))
+      by (inl one) = inr (c.0, at_same s.maps b.map (Some c.0) n one, ap (λ (x : Setting). x.mask) (c.1.setting_is ∙ c.1.answer_is))
+      by (inr ne) = inl (ne, at_other s.maps b.map (Some c.0) n ne)
+
+-- effects of a making leave the maps that are there
+pub maps_as_before : {K V : Type 0} (of : Option ℕ) (fs : List Effect) (m : Moment K V) → list_all is_first_making fs ≡ true → (with_effects None of fs m).maps ≡ m.maps
+maps_as_before of [] m all = refl
+maps_as_before of (f ∷ fs) m all =
+    let both = and_both (is_first_making f) (list_all is_first_making fs) all in
+    maps_as_before of fs (with_effect None of f m) both.1 ∙ by f both.0
+  where
+    by : (f : Effect) → is_first_making f ≡ true → maps_by f m.maps ≡ m.maps
+    by (Asked ABlock) is = refl
+    by (TableMade t) is = refl
+    by (Linked t shape) is = refl
+    by _ is = absurd (cc is)
+
+-- what is told until the last step needs no new map
+none_new : {K V : Type 0} (map : ℕ) (said : Progress Setting) (m : Moment K V) → is_over said ≡ false → WasNew map said m
+none_new map progress.Goes m more = tt
+none_new map progress.Waits m more = tt
+none_new map (progress.Done setting) m more = absurd (cc more)
+none_new map (progress.Refused fault) m more = absurd (cc more)
+
+-- A making is under way, the map is as new, and the others stand as they stood.
+module _ {K V : Type 0} (i : ℕ) (b : Beginning K) (setting : Setting) (stood : ℕ → Option (Standing K)) where
+  abbrev pub IsUnder : Moment K V → Scene K V → Type 0
+  IsUnder m s = (z : NewMap) × (s.makers i ≡ Some (record b { machine = z })) × IsNew b.map setting m × (s.maps ≡ stood)
+
+module _ {K V S : Type 0} (same : K → K → Bool) (hash : K → ℕ) (terms : Terms) (name : ℕ → List ℕ) (log : List (Entry K V)) (own : List ℕ) (mode : ResizeMode) (capacity i : ℕ) (b : Beginning K)
+    (began : Moment K V) (below : b.map < began.made) (setting : Setting) (stood : ℕ → Option (Standing K))
+    (there : MapThere) (faultless : map_fault there.mode there.capacity ≡ None) (places_are : b.places ≡ first_places there.capacity) where
+  -- So many steps of the making have led to where the run is: the executor is there in the scene, and the event is in its midst; what it did are effects of a making, which found what they must.
+  pub record MakingComes (n : ℕ) (x : Come K V S) (f : Far K V S) : Type 0 where
+    pub now : Moment K V
+    pub scene : Scene K V
+    pub chain : Chain (MakingSteps same hash terms i b.map) n x (come_by f now scene)
+    pub is_at : IsAt same hash f.logged.executor scene
+    pub size : f.logged.executor.batch_size ≡ terms.batch_size
+    pub midst : InMakingEvent same name terms log (MakeMap own mode capacity) b.map began f.effects now (known f.logged.notes) scene
+    pub made : now.made ≡ began.made
+    pub calls : scene.calls ≡ x.scene.calls
+    pub made_for : IsMadeFor b.map now b.given
+    pub counted : IsCounted now f.logged scene
+    pub firsts : list_all is_first_making f.effects ≡ true
+    pub found : AtEachEffect (EventFinds (Some b.map) false) None (Some b.map) f.effects began
+    pub openings : ShowsOpenings scene
+    pub there_is : map_at b.map now ≡ Some there
+
+  module _ (n : ℕ) (x : Come K V S) (mid to : Far K V S) (y : MakingComes n x mid) (it : IsUnder i b setting stood y.now y.scene) (step : MakingGoes i b.map mid to) (was_new : WasNew b.map step.said y.now) where
+    abbrev d : Beginning K
+    d = record b { machine = it.0 }
+
+    abbrev leads : MakingLeads same hash i step.said y.scene mid.logged.executor to.logged.executor
+    leads = step.leads same hash y.scene y.is_at
+
+    abbrev step_did : List Effect
+    step_did = effects_of (acts.Making b.map) (known mid.logged.notes) to.logged.executor.memory.changed
+
+    abbrev next : Scene K V
+    next = next_scene same hash y.scene mid.logged.executor to.logged.executor i d it.1 step.said leads
+
+    abbrev w : Moment K V
+    w = with_effects None (Some b.map) step_did y.now
+
+    pub one : MakingSteps same hash terms i b.map (come_by mid y.now y.scene) (come_by to w next)
+    one = record {
+      is_at = y.is_at;
+      size = y.size;
+      said = step.said;
+      leads = leads;
+      making = d;
+      here = it.1;
+      map_is = refl;
+      below = subst (λ (q : ℕ). b.map < q) (sym y.made) below;
+      was_new = was_new;
+      made_for = y.made_for;
+      comes = come_as to.logged.executor w next to.effects (mid.effects ++ step_did) (known to.logged.notes) (known_after (acts.Making b.map) to.logged.executor.memory.changed (known mid.logged.notes))
+          step.is_noted.did step.is_noted.noted;
+    }
+
+    pub next_midst : InMakingEvent same name terms log (MakeMap own mode capacity) b.map began to.effects w (known to.logged.notes) next
+    next_midst = makings_chain K V S same hash name terms log (MakeMap own mode capacity) i b.map began 1 (come_by mid y.now y.scene) (come_by to w next) (come_by mid y.now y.scene, refl, one) y.midst
+
+    -- what the step did are effects of a making, and found what they must
+    pub step_firsts : list_all is_first_making step_did ≡ true
+    step_firsts =
+        makings_do_theirs K V S same hash name y.now (known mid.logged.notes) y.scene mid.logged.executor to.logged.executor y.is_at y.midst.0.calls.whole.all.shown i step.said leads d it.1
+        (y.midst.0.calls.whole.counters i d it.1)
+
+    shown_then : Shows same name w (known_after (acts.Making b.map) to.logged.executor.memory.changed (known mid.logged.notes)) next
+    shown_then = subst (λ (k : Known). Shows same name w k next) step.is_noted.noted next_midst.0.calls.whole.all.shown
+
+    step_found : AtEachEffect (EventFinds (Some b.map) false) None (Some b.map) step_did y.now
+    step_found =
+        makings_find_theirs K V S same hash name y.now (known mid.logged.notes) y.scene mid.logged.executor to.logged.executor y.is_at y.midst.0.calls.whole.all.shown y.midst.0.calls.kept.tables
+        y.openings i step.said leads d it.1 (y.midst.0.calls.whole.counters i d it.1) (Some b.map) there y.there_is it.2.no_tables faultless places_are shown_then
+
+    pub all_found : AtEachEffect (EventFinds (Some b.map) false) None (Some b.map) to.effects began
+    all_found =
+        subst (λ (fs : List Effect). AtEachEffect (EventFinds (Some b.map) false) None (Some b.map) fs began) (sym step.is_noted.did)
+        (each_join (EventFinds (Some b.map) false) None (Some b.map) mid.effects step_did began y.found
+        (subst (λ (z : Moment K V). AtEachEffect (EventFinds (Some b.map) false) None (Some b.map) step_did z) y.midst.0.worked step_found))
+
+    abbrev pub making_comes_on : MakingComes (suc n) x to
+    making_comes_on = record {
+      now = w;
+      scene = next;
+      chain = (come_by mid y.now y.scene, y.chain, one);
+      is_at = is_there same hash y.scene mid.logged.executor to.logged.executor i d it.1 step.said leads;
+      size = step.is_noted.given.1 ∙ y.size;
+      midst = next_midst;
+      made = made_stays None (Some b.map) step_did y.now ∙ y.made;
+      calls = calls_still same hash y.scene mid.logged.executor to.logged.executor i d it.1 step.said leads ∙ y.calls;
+      made_for = made_still y.now w b.map b.given (effects_keep_capacities K V None (Some b.map) step_did y.now b.map) y.made_for;
+      counted = counted_making_steps same hash mid.logged to.logged.executor to.logged.notes step.is_noted.given y.now y.scene y.is_at y.counted i step.said leads d it.1 (Some b.map) step.is_noted.noted
+          (makings_note_left same hash name y.now (known mid.logged.notes) y.scene mid.logged.executor to.logged.executor y.is_at y.midst.0.calls.whole i step.said leads d it.1 (Some b.map) was_new next.world);
+      firsts = ap (list_all is_first_making) step.is_noted.did ∙ list_all-append is_first_making mid.effects step_did ∙ ap (λ (q : Bool). q && list_all is_first_making step_did) y.firsts ∙ step_firsts;
+      found = all_found;
+      openings = makings_go_on K V S same hash y.scene mid.logged.executor to.logged.executor y.openings i step.said leads d it.1;
+      there_is = ap (λ (fs : List MapThere). find (λ (f : MapThere). f.number == b.map) fs) (maps_as_before (Some b.map) step_did y.now step_firsts) ∙ y.there_is;
+    }
+
+    making_under : is_over step.said ≡ false → IsUnder i b setting stood w next
+    making_under more = (
+      (leads d it.1).0,
+      making_on same hash y.scene mid.logged.executor to.logged.executor i d it.1 step.said leads more,
+      new_still same hash y.scene mid.logged.executor to.logged.executor i d it.1 name y.now (known mid.logged.notes) y.is_at y.midst.0.calls.whole.all.shown (Some b.map) setting step.said leads more it.2,
+      maps_still same hash y.scene mid.logged.executor to.logged.executor i d it.1 step.said leads more ∙ it.3,
+    )
+
+    -- of each map that stands once it was made the count falls into as many shards as before, and of the new one as it was to begin
+    pub masks : step.said ≡ progress.Done setting → (n2 : ℕ) → (next.maps n2 ≡ stood n2) ⊎ ((standing : Standing K) × (next.maps n2 ≡ Some standing) × (standing.setting.mask ≡ b.given.mask))
+    masks is n2 = by (made_maps same hash y.scene mid.logged.executor to.logged.executor i d it.1 step.said leads setting is n2)
+      where
+        by : ((n2 ≢ b.map) × (next.maps n2 ≡ y.scene.maps n2)) ⊎ ((standing : Standing K) × (next.maps n2 ≡ Some standing) × (standing.setting.mask ≡ b.given.mask))
+            → (next.maps n2 ≡ stood n2) ⊎ ((standing : Standing K) × (next.maps n2 ≡ Some standing) × (standing.setting.mask ≡ b.given.mask))
+        by (inl (ne, same_one)) = inl (same_one ∙ ap (λ (g : ℕ → Option (Standing K)). g n2) it.3)
+        by (inr made) = inr made
+
+  abbrev pub Midway : ℕ → Come K V S → Far K V S → Type 0
+  Midway n x f = (y : MakingComes n x f) × IsUnder i b setting stood y.now y.scene
+
+  pub makings_come : (n : ℕ) (x : Come K V S) (from to : Far K V S) → GoesFor (MakingOn i b.map) n from to → Midway 0 x from → Midway n x to
+  makings_come zero x from to is at = subst (Midway 0 x) is at
+  makings_come (suc n) x from to (mid, went, on) at =
+      let z = makings_come n x from mid went at in
+      let was = none_new b.map on.0.said z.0.now on.1 in
+      (making_comes_on n x mid to z.0 z.1 on.0 was, making_under n x mid to z.0 z.1 on.0 was on.1)

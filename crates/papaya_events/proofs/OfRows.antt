@@ -1,0 +1,373 @@
+-- Events whose work is a row on a slot keep their promises, and a run goes on with them.
+use Rattle.std.specs.Prelude.{◌≡◌, ◌≤◌, ◌&&◌, ◌||◌, ◌<◌, ◌^◌, ℕ, Bool, true, false, List, [], ◌∷◌, Some, None, Result, Ok, Err, IfOk, if◌then◌else◌}
+use Rattle.std.specs.List.{list_all}
+use Rattle.std.proofs.Common.{refl, ap, sym, subst, inl, inr, ◌∙◌, arith}
+use Rattle.papaya_histories.specs.Given.SeizeWords.Mem.{Mem}
+use Rattle.papaya_histories.specs.Given.Seize.World.{Begin, IsInside, Rests, SlotsTaken}
+use Rattle.papaya_histories.specs.Given.Seize.declared.rows.register.Registering.TheVariants as registering
+use Rattle.papaya_histories.specs.Given.Tables.declared.node.Node.{Node}
+use Rattle.papaya_histories.specs.Given.Executor.IsAt.{Scene, slot_of}
+use Rattle.papaya_histories.specs.Given.Executor.OnSlots.{MayBegin, RowBegins}
+use Rattle.papaya_histories.specs.Given.Executor.Rows.{request_of}
+use Rattle.papaya_histories.specs.Given.Executor.declared.row.RowTold.{RowTold}
+use Rattle.papaya_histories.specs.Given.Executor.declared.row.SlotCall.{SlotCall}
+use Rattle.papaya_histories.specs.Given.Others.Rows.{scene_then}
+use Rattle.papaya_histories.proofs.Given.Spots.Unreclaimed.{and_both, or_right}
+use Rattle.papaya_histories.specs.Given.SeizeWords.declared.fault.Fault.TheVariants.{Busy}
+use Rattle.papaya_histories.specs.Given.Executor.declared.row.SlotCall.TheVariants as call
+use Rattle.papaya_histories.specs.Given.Executor.declared.worker.Work.TheVariants.{OnSlot}
+use Rattle.papaya_runs.specs.Present.{has_registration}
+use Rattle.papaya_schedules.specs.declared.effect.Effect.{Effect}
+use Rattle.papaya_schedules.specs.declared.event.Event.{Event}
+use Rattle.papaya_schedules.specs.declared.event.Event.TheVariants.{DropGuard, Enter, Flush, Own, Refresh, Register, Unregister}
+use Rattle.papaya_schedules.specs.declared.outcome.Outcome.{Outcome}
+use Rattle.papaya_schedules.specs.declared.outcome.Outcome.TheVariants.{Done, Refused}
+use Rattle.papaya_schedules.specs.After.{moment, slots_on}
+use Rattle.papaya_schedules.specs.Beginning.{begun}
+use Rattle.papaya_schedules.specs.Effects.{AtEachEffect}
+use Rattle.papaya_schedules.specs.Entry.{Entry, acted_on, speaker}
+use Rattle.papaya_schedules.specs.Handing.{asks_for_bucket, gives_all, is_only, is_reclaiming, may_do}
+use Rattle.papaya_schedules.specs.InTurn.{ComesRight, is_kept_out}
+use Rattle.papaya_schedules.specs.Lives.{Finds}
+use Rattle.papaya_schedules.specs.Moment.{Moment}
+use Rattle.papaya_schedules.specs.InUse.{used_slots}
+use Rattle.papaya_schedules.specs.Lists.{least_free}
+use Rattle.papaya_runs.specs.Present.{Present}
+use Rattle.papaya_schedules.specs.Terms.{Terms}
+use Rattle.papaya_effects.specs.Known.{known}
+use Rattle.papaya_effects.specs.declared.notes.Notes.{Notes}
+use Rattle.papaya_histories.specs.Given.Executor.Rows.{begun_row}
+use Rattle.papaya_histories.specs.Given.Executor.declared.row.RowTold.TheVariants as told
+use Rattle.papaya_promises.specs.Others.{SparesGuards}
+use Rattle.papaya_promises.specs.Protected.{is_of_slots, there_in}
+use Rattle.papaya_models.specs.OnSlots.{IsRowFor}
+use Rattle.papaya_finds.specs.Little.{ReclaimsAll}
+use Rattle.papaya_legal.proofs.Come.{events_bring_things}
+use Rattle.papaya_legal.proofs.Heads.Registers.{IsOtherCall, ThenSo, other_begun, others_taken, registers_taken}
+use Rattle.papaya_legal.specs.CallEvents.{IsLegalBut}
+use Rattle.papaya_legal.specs.Carried.{ShowsRun}
+use Rattle.papaya_legal.specs.Chains.{Chain as StepChain, RowSteps}
+use Rattle.papaya_legal.specs.Found.{AsksInNeed}
+use Rattle.papaya_legal.specs.SlotEvents.{InSlotEvent}
+use Rattle.papaya_legal.proofs.Chains.{rows_run_to_their_ends}
+use Rattle.papaya_legal.proofs.Found.{row_chains_find}
+use Rattle.papaya_legal.proofs.Slots.{slot_events_begin_so}
+use Rattle.papaya_logged.specs.Goes.{far}
+use Rattle.papaya_logged.specs.OnSlots.{has_come}
+use Rattle.papaya_logged.specs.Shown.{IsShown}
+use Rattle.papaya_remains.specs.Slots.{SlotsNoted}
+use Rattle.papaya_rows.specs.Rows.{RowRan, left_as}
+use Rattle.papaya_rows.proofs.Facts.{row_rests}
+use Rattle.papaya_scheduler.specs.Played.{IsPlayed, entry_of}
+use Rattle.papaya_scheduler.specs.Works.{ComesBy, IsAbout, IsItsRow, WorksOnSlot, told_so}
+use Rattle.papaya_named.specs.declared.caller.Callers.{Callers}
+use Rattle.papaya_scheduler.specs.declared.played.Played.{Played}
+use Rattle.papaya_scheduler.specs.declared.scheduler.Scheduler.{Scheduler}
+use Rattle.papaya_scheduler.proofs.Rights.{entry, entry_is}
+use Rattle.papaya_events.proofs.OfCalls.Worth.{have_values_then, nobody_says}
+use Rattle.papaya_events.specs.OfCalls.{HaveShards, HaveValues, Runs, RunsOn}
+use Rattle.papaya_events.specs.OfRows.{KeepsRun, is_of_rows}
+use Rattle.papaya_scheduler.proofs.Vacancies.{first_is, none_on_vacant}
+use Rattle.papaya_works.specs.Rows.{may_row}
+use Rattle.papaya_works.proofs.Mays.{rows_do_theirs}
+use Rattle.papaya_works.proofs.Needs.{none_need, reclaiming_asks_none, registers_need}
+use Rattle.papaya_works.proofs.Reached.{rows_note_more}
+use Rattle.papaya_events.proofs.OfCalls.Scenes.{AreNamed, its_named, stands_in}
+use Rattle.papaya_events.proofs.OfRows.Chain.{RowComes, come_by, rows_come}
+use Rattle.papaya_events.proofs.OfRows.Facts.{RowFacts, facts}
+use Rattle.papaya_events.proofs.OfRows.Lone.{alone_follows}
+use Rattle.papaya_events.proofs.OfRows.May.{flush_inside, may_by}
+use Rattle.papaya_events.proofs.OfRows.Quiet.{none_still, refused_still, still_keeps}
+use Rattle.papaya_events.proofs.Reached.{reached_after}
+use Rattle.papaya_events.proofs.Remaining.{counted_in}
+pub mod Chain
+pub mod Facts
+pub mod Quiet
+pub mod Kept
+pub mod Lone
+pub mod May
+
+module _ {K V : Type 0} where
+  -- such an event works on slots, speaks of no call, and does not reclaim everything
+  all_facts_of : (event : Event K V) → is_of_rows event ≡ true → is_of_slots event ≡ true → (speaker event ≡ None) × (gives_all event ≡ false)
+  all_facts_of (Register registration) of on = (refl, refl)
+  all_facts_of (Unregister registration) of on = (refl, refl)
+  all_facts_of (Enter guard registration) of on = (refl, refl)
+  all_facts_of (Own guard) of on = (refl, refl)
+  all_facts_of (Refresh guard) of on = (refl, refl)
+  all_facts_of (Flush guard) of on = (refl, refl)
+  all_facts_of (DropGuard guard) of on = (refl, refl)
+  all_facts_of _ of on = absurd (cc (of, on))
+
+  -- it begins nothing, acts on no map, and leaves what it is asked when everything is reclaimed
+  on_no_map : (event : Event K V) (outcome : Outcome V) (m : Moment K V) → is_of_rows event ≡ true → is_of_slots event ≡ true → (begun event outcome m ≡ m) × (acted_on event m ≡ None)
+  on_no_map (Register registration) outcome m of on = (refl, refl)
+  on_no_map (Unregister registration) outcome m of on = (refl, refl)
+  on_no_map (Enter guard registration) outcome m of on = (refl, refl)
+  on_no_map (Own guard) outcome m of on = (refl, refl)
+  on_no_map (Refresh guard) outcome m of on = (refl, refl)
+  on_no_map (Flush guard) outcome m of on = (refl, refl)
+  on_no_map (DropGuard guard) outcome m of on = (refl, refl)
+  on_no_map _ outcome m of on = absurd (cc (of, on))
+
+  -- what it may do is to reclaim, or to ask for a bucket
+  one_of_row : (event : Event K V) → is_of_rows event ≡ true → is_of_slots event ≡ true → (m : Moment K V) (f : Effect) → may_do event m f ≡ true → (is_reclaiming f || asks_for_bucket f) ≡ true
+  one_of_row (Register registration) of on m f may = or_right (is_reclaiming f) (asks_for_bucket f) may
+  one_of_row (Unregister registration) of on m f may = absurd (cc may)
+  one_of_row (Enter guard registration) of on m f may = absurd (cc may)
+  one_of_row (Own guard) of on m f may = or_right (is_reclaiming f) (asks_for_bucket f) may
+  one_of_row (Refresh guard) of on m f may = ap (λ (q : Bool). q || asks_for_bucket f) (and_both (is_only guard m) (is_reclaiming f) may).1
+  one_of_row (Flush guard) of on m f may = absurd (cc may)
+  one_of_row (DropGuard guard) of on m f may = ap (λ (q : Bool). q || asks_for_bucket f) (and_both (is_only guard m) (is_reclaiming f) may).1
+  one_of_row _ of on m f may = absurd (cc (of, on))
+
+  all_of_row : (event : Event K V) → is_of_rows event ≡ true → is_of_slots event ≡ true → (m : Moment K V) (fs : List Effect) → list_all (may_do event m) fs ≡ true
+      → list_all (λ f. is_reclaiming f || asks_for_bucket f) fs ≡ true
+  all_of_row event of on m [] may = refl
+  all_of_row event of on m (f ∷ fs) may =
+      let each = and_both (may_do event m f) (list_all (may_do event m) fs) may in
+      ap (λ (q : Bool). q && list_all (λ g. is_reclaiming g || asks_for_bucket g) fs) (one_of_row event of on m f each.0) ∙ all_of_row event of on m fs each.1
+
+  reclaims_none : (log : List (Entry K V)) (e : Entry K V) → is_of_rows e.event ≡ true → is_of_slots e.event ≡ true → ReclaimsAll log e
+  reclaims_none log e of on = by e.event of on
+    where
+      by : (event : Event K V) → is_of_rows event ≡ true → is_of_slots event ≡ true → ReclaimsAll log (record e { event = event })
+      by (Register registration) of on = tt
+      by (Unregister registration) of on = tt
+      by (Enter guard registration) of on = tt
+      by (Own guard) of on = tt
+      by (Refresh guard) of on = tt
+      by (Flush guard) of on = tt
+      by (DropGuard guard) of on = tt
+      by _ of on = absurd (cc (of, on))
+
+module _ {K V S : Type 0} (same : K → K → Bool) (hash : K → ℕ) (terms : Terms) (log : List (Entry K V)) (event : Event K V) (played : Played V) (old new : Scheduler K V S)
+    (of : is_of_rows event ≡ true) (on : is_of_slots event ≡ true) (run : Runs same hash terms log old) (turn : is_kept_out terms event (moment log) ≡ false)
+    (after : IsPlayed same hash terms (entry_of event played ∷ log) new) (right : ComesRight terms log (entry_of event played)) where
+  abbrev e : Entry K V
+  e = entry_of event played
+
+  abbrev m : Moment K V
+  m = moment log
+
+  abbrev name : ℕ → List ℕ
+  name = run.stands.name
+
+  abbrev s : Scene K V
+  s = run.stands.scene
+
+  small : terms.batch_size < 2 ^ 64
+  small = subst (λ (n : ℕ). n < 2 ^ 64) run.size run.stands.shown.is_at.small
+
+  -- its row has run to its end
+  module _ (calls : new.calls ≡ old.calls) (slot : ℕ) (about : IsAbout event old slot) (called : SlotCall) (its : IsItsRow event old slot called) (said : RowTold (Node K V)) (comes : ComesBy event said played.outcome)
+      (ran : RowRan slot called said [] played.effects.items old.logged new.logged) where
+    f : RowFacts same hash terms log old run.stands said played.effects.items new.logged event slot called ran
+    f = facts same hash terms log old run.stands said played.effects.items new.logged event turn slot about called its ran
+
+    may : MayBegin old.logged.executor (slot_of ran.caller) called
+    may = subst (λ (x : ℕ). MayBegin old.logged.executor x called) (sym ran.in_slot) f.may
+
+    abbrev leads : RowBegins same hash called ran.caller s old.logged.executor ran.began.executor
+    leads = (ran.begins same hash name m s run.stands.shown may).0
+
+    abbrev s1 : Scene K V
+    s1 = scene_then same hash (Begin ran.caller (request_of (slot_of ran.caller) called)) s old.logged.executor ran.began.executor (leads may).3
+
+    y : RowComes same hash terms ran.caller ran.goes.0 (come_by (far [] ran.began) m s1) (far played.effects.items new.logged)
+    y = rows_come same hash terms ran.caller ran.goes.0 (far [] ran.began) (far played.effects.items new.logged) m s1 (leads may).3.4 (ran.given.1 ∙ run.size)
+        (ran.begins same hash name m s run.stands.shown may).1.counted ran.goes.1
+
+    chain : StepChain (RowSteps same hash terms ran.caller) ran.goes.0 (record { executor = ran.began.executor; did = []; now = m; notes = known old.logged.notes; scene = s1 })
+        (come_by (far played.effects.items new.logged) y.now y.scene)
+    chain =
+        subst (λ (n : Notes). StepChain (RowSteps same hash terms ran.caller) ran.goes.0 (record { executor = ran.began.executor; did = []; now = m; notes = known n; scene = s1 })
+        (come_by (far played.effects.items new.logged) y.now y.scene)) ran.noted y.chain
+
+    rests : y.scene.world.row ran.caller ≡ Rests
+    rests = row_rests same hash new.logged.executor y.scene y.is_at ran.caller f.over
+
+    spares : SparesGuards called (slot_of ran.caller) (there_in event m.there)
+    spares = subst (λ (x : ℕ). SparesGuards called x (there_in event m.there)) (sym ran.in_slot) f.spares
+
+    is_row : IsRowFor (request_of (slot_of ran.caller) called) s.world.uses y.scene.world.uses event played.outcome (begun event played.outcome m)
+    is_row =
+        subst (λ (x : ℕ). IsRowFor (request_of x called) s.world.uses y.scene.world.uses event played.outcome (begun event played.outcome m)) (sym ran.in_slot)
+        (f.is_row y.scene.world y.is_at.uses played.outcome comes)
+
+    -- as it begins the event is in its midst; what all of it did it may do, and finds what it must
+    begun_so : InSlotEvent same name terms log event ran.caller called (known old.logged.notes) s.world [] m (known old.logged.notes) s1
+    begun_so =
+        slot_events_begin_so K V S same hash name terms log (known old.logged.notes) s old.logged.executor ran.began.executor run.stands.shown.is_at run.size run.shows event on ran.caller called may leads spares
+        (alone_follows same hash terms log old run event (all_facts_of event of on).0)
+
+    done_by_row : list_all (may_row called) played.effects.items ≡ true
+    done_by_row =
+        rows_do_theirs K V S same hash name terms log (known old.logged.notes) s old.logged.executor ran.began.executor run.stands.shown.is_at event ran.caller called may leads
+        (λ is. subst (λ (x : ℕ). IsInside (s.world.uses x)) (sym ran.in_slot) (flush_inside same hash terms log old run.stands event slot called about its is)) begun_so
+        ran.goes.0 (come_by (far played.effects.items new.logged) y.now y.scene) chain
+
+    allowed : list_all (may_do event m) played.effects.items ≡ true
+    allowed = may_by same hash terms log old run.stands event slot called about its played.effects.items done_by_row
+
+    -- slots are noted as it begins
+    slots_noted : SlotsNoted (known old.logged.notes) ran.began.executor.memory.memory
+    slots_noted =
+        subst (λ (n : Notes). SlotsNoted (known n) ran.began.executor.memory.memory) ran.noted (ran.begins same hash name m s run.stands.shown may).1.counted.numbered.slots
+
+    -- a registering asks for buckets in need, and others ask for none
+    registers : (enters : Bool) → called ≡ call.Register enters → AtEachEffect AsksInNeed None None played.effects.items m
+    registers enters is =
+        registers_need same hash terms m s old.logged.executor ran.caller enters (none_on_vacant same hash terms m old run.stands ran.caller) (known old.logged.notes) run.reached
+        (λ x vacant. ap (λ (there : Present). least_free (used_slots there)) run.stands.there ∙ (first_is same hash terms m old run.stands x vacant).least) ran.began.executor run.stands.shown.is_at
+        (subst (λ (c : SlotCall). RowBegins same hash c ran.caller s old.logged.executor ran.began.executor) is leads) slots_noted ran.goes.0
+        (record { executor = ran.began.executor; did = []; now = m; notes = known old.logged.notes; scene = s1 }) (come_by (far played.effects.items new.logged) y.now y.scene) refl refl refl chain
+
+    in_need : (c : SlotCall) → called ≡ c → list_all (may_row c) played.effects.items ≡ true → AtEachEffect AsksInNeed None None played.effects.items m
+    in_need (call.Register enters) is all = registers enters is
+    in_need call.Leave is all = none_need (may_row call.Leave) reclaiming_asks_none played.effects.items m all
+    in_need call.LeaveOwned is all = none_need (may_row call.LeaveOwned) reclaiming_asks_none played.effects.items m all
+    in_need call.Refresh is all = none_need (may_row call.Refresh) reclaiming_asks_none played.effects.items m all
+    in_need call.Enter is all = none_need (may_row call.Enter) (λ f may. absurd (cc may)) played.effects.items m all
+    in_need call.Flush is all = none_need (may_row call.Flush) (λ f may. absurd (cc may)) played.effects.items m all
+    in_need call.Unregister is all = none_need (may_row call.Unregister) (λ f may. absurd (cc may)) played.effects.items m all
+
+    -- no bucket of slots is forgotten
+    grows : (known old.logged.notes).buckets ≤ (known new.logged.notes).buckets
+    grows =
+        rows_note_more same hash terms (known old.logged.notes) ran.caller ran.goes.0 (record { executor = ran.began.executor; did = []; now = m; notes = known old.logged.notes; scene = s1 })
+        (come_by (far played.effects.items new.logged) y.now y.scene) chain (omega arith)
+
+    finds : AtEachEffect (Finds terms None None (gives_all event) []) None None played.effects.items m
+    finds =
+        subst (λ (q : Bool). AtEachEffect (Finds terms None None q []) None None played.effects.items m) (sym (all_facts_of event of on).1)
+        (row_chains_find K V S same hash name terms log event ran.caller called (known old.logged.notes) s.world ran.goes.0
+        (record { executor = ran.began.executor; did = []; now = m; notes = known old.logged.notes; scene = s1 }) (come_by (far played.effects.items new.logged) y.now y.scene) chain begun_so refl
+        (all_of_row event of on m played.effects.items allowed) (in_need called refl done_by_row))
+
+    it : IsLegalBut same terms log e × ShowsRun same name terms (e ∷ log) (known new.logged.notes) y.scene
+    it =
+        rows_run_to_their_ends K V S same hash name terms log (known old.logged.notes) s old.logged.executor ran.began.executor run.stands.shown.is_at run.size small run.shows e on ran.caller called may
+        leads spares (alone_follows same hash terms log old run event (all_facts_of event of on).0) ran.goes.0 (come_by (far played.effects.items new.logged) y.now y.scene) chain refl rests
+        (f.inside y.scene.world y.is_at.uses played.outcome comes) (f.not_busy played.outcome comes) allowed finds (λ alone. is_row) right (reclaims_none log e of on)
+
+    shown : IsShown same hash name (moment (e ∷ log)) new.logged y.scene
+    shown = record {
+      is_at = y.is_at;
+      shows = it.1.calls.whole;
+      kept = it.1.calls.kept;
+      counted = counted_in same hash terms (moment (e ∷ log)) new after y.scene y.is_at y.counted.remains.lists y.counted.remains.left;
+    }
+
+    named : AreNamed name new.calls.items.items
+    named = subst (λ (c : Callers V). AreNamed name c.items.items) (sym calls) (its_named same hash terms m old run.stands)
+
+    -- a row that does not register takes no slot, and one that does so takes the slot that it tells
+    abbrev after_row : Mem (Node K V)
+    after_row = new.logged.executor.memory.memory
+
+    taken_begun : SlotsTaken ran.began.executor.memory.memory m.slots
+    taken_begun =
+        subst (λ (x : Mem (Node K V)). SlotsTaken x m.slots) (run.stands.shown.is_at.memory ∙ sym (ap (λ x. x.memory) (leads may).0)) run.taken
+
+    taken_other : IsOtherCall called → SlotsTaken after_row m.slots
+    taken_other other =
+        others_taken same hash ran.caller m.slots said ran.began.executor new.logged.executor ran.last (record {
+          scene = s1;
+          is_at = (leads may).3.4;
+          row = begun_row (slot_of ran.caller) old.logged.executor.batch_size called;
+          here = (leads may).1;
+          other = other_begun (slot_of ran.caller) old.logged.executor.batch_size called other;
+          taken = taken_begun;
+        })
+
+    taken_registered : (enters : Bool) → called ≡ call.Register enters → SlotsTaken after_row (slots_on (told_so {V = V} said) m.slots)
+    taken_registered enters is =
+        as_told said ran.come
+        (registers_taken same hash ran.caller m.slots said ran.began.executor new.logged.executor ran.last (record {
+          scene = s1;
+          is_at = (leads may).3.4;
+          register = record { slot = 0; enters = enters; stands = registering.Begin };
+          here = (leads may).1 ∙ ap (λ (c : SlotCall). Some (OnSlot (begun_row (slot_of ran.caller) old.logged.executor.batch_size c))) is;
+          taken = taken_begun;
+        }))
+      where
+        as_told : (t : RowTold (Node K V)) → has_come t ≡ true → ThenSo m.slots after_row t → SlotsTaken after_row (slots_on (told_so {V = V} t) m.slots)
+        as_told (told.Registered slot) come so = so
+        as_told (told.Refused fault) come so = so
+        as_told _ come so = so come
+
+    taken : SlotsTaken y.scene.world.memory (slots_on played.outcome m.slots)
+    taken = subst (λ (x : Mem (Node K V)). SlotsTaken x (slots_on played.outcome m.slots)) (sym y.is_at.memory) (by event its comes)
+      where
+        comes_to : (o : Outcome V) → played.outcome ≡ o → SlotsTaken after_row (slots_on o m.slots) → SlotsTaken after_row (slots_on played.outcome m.slots)
+        comes_to o is = subst (λ (x : Outcome V). SlotsTaken after_row (slots_on x m.slots)) (sym is)
+
+        other_as : (c : SlotCall) → called ≡ c → IsOtherCall c → SlotsTaken after_row m.slots
+        other_as c is other = taken_other (subst IsOtherCall (sym is) other)
+
+        left_other : (q : Bool) → IsOtherCall (if q then call.Leave else call.LeaveOwned)
+        left_other true = tt
+        left_other false = tt
+
+        by : (x : Event K V) → IsItsRow x old slot called → ComesBy x said played.outcome → SlotsTaken after_row (slots_on played.outcome m.slots)
+        by (Register registration) is to = comes_to (told_so said) to (taken_registered false is)
+        by (Own guard) is to = comes_to (told_so said) to (taken_registered true is)
+        by (Unregister registration) is to = comes_to Done to (other_as call.Unregister is.0 tt)
+        by (Enter guard registration) is to = comes_to Done to (other_as call.Enter is.0 tt)
+        by (Refresh guard) is to = comes_to Done to (other_as call.Refresh is.0 tt)
+        by (Flush guard) is to = comes_to Done to (other_as call.Flush is.0 tt)
+        by (DropGuard guard) is to = comes_to Done to (other_as (left_as slot old.there) is.0 (left_other (has_registration slot old.there.registrations)))
+        by _ is to = absurd is
+
+    shards : HaveShards terms new.logged.executor
+    shards n setting is = run.shards n setting (sym (run.stands.shown.is_at.maps n) ∙ sym (f.led.settings n) ∙ f.led.at.maps n ∙ is)
+
+    values : HaveValues (moment (e ∷ log)) y.scene new.calls.items.items
+    values =
+        subst (λ (c : Callers V). HaveValues (moment (e ∷ log)) y.scene c.items.items) (sym calls)
+        (have_values_then m (moment (e ∷ log)) (nobody_says e m (refused_still log s.world event of Busy 0).no_call) s y.scene y.calls old.calls.items.items run.values)
+
+    row_keeps : RunsOn same hash terms log e new
+    row_keeps = record {
+      legal = it.0;
+      runs = record {
+        stands = stands_in same hash terms (moment (e ∷ log)) new after name y.scene shown named;
+        shows = it.1;
+        come = events_bring_things K V terms log e run.come it.0.life.finds;
+        values = values;
+        taken = taken;
+        size = y.size;
+        shards = shards;
+        reached = reached_after same hash terms log e old new right after grows run.reached;
+      };
+    }
+
+  -- and so it is of one that has done nothing
+  abbrev KeepsAs : Entry K V → Type 0
+  KeepsAs x = IsPlayed same hash terms (x ∷ log) new → ComesRight terms log x → RunsOn same hash terms log x new
+
+  pub slot_keeps : WorksOnSlot played old new event → RunsOn same hash terms log e new
+  slot_keeps (calls, inl (fault, is, (none, still))) =
+      subst KeepsAs (sym (entry_is event played (Refused fault) played.steps [] is refl none))
+      (λ so right. still_keeps same hash terms log old run (entry event (Refused fault) played.steps []) new refl (refused_still log s.world event of fault played.steps) still calls so right refl) after right
+  slot_keeps (calls, inr (slot, about, inl (done, no_row, (none, still)))) =
+      subst KeepsAs (sym (entry_is event played Done played.steps [] done refl none))
+      (λ so right. still_keeps same hash terms log old run (entry event Done played.steps []) new refl
+      (none_still same hash terms log old run.stands event turn played.steps slot about no_row) still calls so right refl) after right
+  slot_keeps (calls, inr (slot, about, inr (called, its, said, comes, ran))) = row_keeps calls slot about called its said comes ran
+
+-- So it is by what a function says of an event in this form.
+module _ {K V S : Type 0} (same : K → K → Bool) (hash : K → ℕ) (event form : Event K V) (is : event ≡ form) (old new : Scheduler K V S) where
+  pub rows_keep : {X : Type 0} → is_of_slots form ≡ true → (result : Result (Played V) X) → IfOk result (λ played. WorksOnSlot played old new form) → IfOk result (λ played. KeepsRun same hash event played old new)
+  rows_keep on (Ok played) works =
+      subst (λ (x : Event K V). KeepsRun same hash x played old new) (sym is) (λ of terms log holds run turn after right begun. slot_keeps same hash terms log form played old new of on run turn after right works)
+  rows_keep on (Err x) works = tt
+
+  -- of others nothing is said
+  pub others_keep : is_of_rows form ≡ false → (played : Played V) → KeepsRun same hash event played old new
+  others_keep none played = subst (λ (x : Event K V). KeepsRun same hash x played old new) (sym is) (λ of terms log holds run turn after right begun. absurd (cc (of, none)))
+
+  pub others_keep_if : {X : Type 0} → is_of_rows form ≡ false → (result : Result (Played V) X) → IfOk result (λ played. KeepsRun same hash event played old new)
+  others_keep_if none (Ok played) = others_keep none played
+  others_keep_if none (Err x) = tt

@@ -1,0 +1,70 @@
+-- An event that is kept out keeps the run, and one that is in turn does so as it is said of it.
+use Rattle.std.specs.Prelude.{◌≡◌, ℕ, Bool, true, false, [], ◌∷◌, Option, Some, None, MatchOption, Result, Ok, Err, IfOk}
+use Rattle.std.proofs.Common.{refl, sym, ap, subst, ◌∙◌}
+use Rattle.seize_words.specs.declared.fault.Fault.{Fault}
+use Rattle.seize_words.specs.declared.fault.Fault.TheVariants.{Busy}
+use Rattle.papaya_runs.specs.Runs.{map_fault}
+use Rattle.papaya_schedules.specs.declared.event.Event.{Event}
+use Rattle.papaya_schedules.specs.declared.event.Event.TheVariants.{Begin, DropGuard, EndMap, Enter, Flush, Go, MakeMap, Next, OneCall, Own, Refresh, Register, Replied, Step, Stop, Unregister}
+use Rattle.papaya_schedules.specs.declared.outcome.Outcome.{Outcome}
+use Rattle.papaya_schedules.specs.declared.outcome.Outcome.TheVariants.{Refused}
+use Rattle.papaya_schedules.specs.After.{mapped_on, moment}
+use Rattle.papaya_schedules.specs.Entry.{Entry}
+use Rattle.papaya_schedules.specs.InTurn.{ComesRight, IsKeptOut}
+use Rattle.papaya_scheduler.specs.Played.{IsPlayed}
+use Rattle.papaya_scheduler.specs.Turns.{keeps_out}
+use Rattle.papaya_scheduler.specs.declared.played.Played.{Played}
+use Rattle.papaya_scheduler.specs.declared.scheduler.Scheduler.{Scheduler}
+use Rattle.papaya_scheduler.proofs.KeptOut.{kept_out_is}
+use Rattle.papaya_scheduler.proofs.Rights.{entry, entry_is}
+use Rattle.papaya_events.specs.Asked.{is_of_calls}
+use Rattle.papaya_events.specs.OfCalls.{RunsOn}
+use Rattle.papaya_events.specs.OfRows.{KeepsRun, KeepsRunAt, is_of_rows}
+use Rattle.papaya_events.proofs.OfRows.Quiet.{refused_still, still_keeps}
+
+-- an event that is kept out is refused
+out_refused : {K V : Type 0} (event : Event K V) (outcome : Outcome V) → is_of_rows event ≡ true → IsKeptOut event outcome → (fault : Fault) × (outcome ≡ Refused fault)
+out_refused (Register registration) outcome of is = (Busy, is)
+out_refused (Unregister registration) outcome of is = (Busy, is)
+out_refused (Enter guard registration) outcome of is = (Busy, is)
+out_refused (Own guard) outcome of is = (Busy, is)
+out_refused (Refresh guard) outcome of is = (Busy, is)
+out_refused (Flush guard) outcome of is = (Busy, is)
+out_refused (DropGuard guard) outcome of is = (Busy, is)
+out_refused (EndMap own) outcome of is = (Busy, is)
+out_refused (MakeMap own mode capacity) outcome of is = by (map_fault mode capacity) is
+  where
+    by : (o : Option Fault) → MatchOption o (outcome ≡ Refused Busy) (λ fault. outcome ≡ Refused fault) → (fault : Fault) × (outcome ≡ Refused fault)
+    by None so = (Busy, so)
+    by (Some fault) so = (fault, so)
+out_refused _ outcome of is = absurd (cc of)
+
+-- an event of a call is none of these
+not_of_rows : {K V : Type 0} (event : Event K V) → is_of_calls event ≡ true → is_of_rows event ≡ false
+not_of_rows (Begin caller guard name call) of = refl
+not_of_rows (Step caller refuse) of = refl
+not_of_rows (Go caller refuse) of = refl
+not_of_rows (Replied caller reply) of = refl
+not_of_rows (OneCall guard name call) of = refl
+not_of_rows (Next caller) of = refl
+not_of_rows (Stop caller) of = refl
+not_of_rows _ of = absurd (cc of)
+
+module _ {K V S : Type 0} (same : K → K → Bool) (hash : K → ℕ) (event : Event K V) where
+  pub calls_keep : {X : Type 0} → is_of_calls event ≡ true → (old new : Scheduler K V S) (result : Result (Played V) X) → IfOk result (λ played. KeepsRun same hash event played old new)
+  calls_keep calls old new (Ok played) = λ of terms log holds run turn after right begun. absurd (let none = not_of_rows event calls in cc (of, none))
+  calls_keep calls old new (Err x) = tt
+
+  module _ (old new : Scheduler K V S) where
+    pub kept_out : (played : Played V) → IsKeptOut event played.outcome → played.effects.items ≡ [] → new ≡ record old { is_mapped = mapped_on event old.is_mapped } → KeepsRunAt same hash event played old new
+    kept_out played is none mapped of terms log holds run after right begun =
+        let out = out_refused event played.outcome of is in
+        subst (λ (x : Entry K V). IsPlayed same hash terms (x ∷ log) new → ComesRight terms log x → RunsOn same hash terms log x new)
+        (sym (entry_is event played (Refused out.0) played.steps [] out.1 refl none))
+        (λ so rest. still_keeps same hash terms log old run (entry event (Refused out.0) played.steps []) new refl (refused_still log run.stands.scene.world event of out.0 played.steps)
+        (ap (λ (p : Scheduler K V S). p.logged) mapped) (ap (λ (p : Scheduler K V S). p.calls) mapped) so rest refl) after right
+
+    pub kept_in_turn : {X : Type 0} (result : Result (Played V) X) → IfOk result (λ played. KeepsRun same hash event played old new) → keeps_out event old ≡ false
+        → IfOk result (λ played. KeepsRunAt same hash event played old new)
+    kept_in_turn (Ok played) keeps out = λ of terms log holds run after right begun. keeps of terms log holds run (kept_out_is same hash terms (moment log) old holds.stands event ∙ out) after right begun
+    kept_in_turn (Err x) keeps out = tt

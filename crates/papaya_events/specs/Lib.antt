@@ -1,0 +1,5 @@
+pub mod Asked
+pub mod OfCalls
+pub mod OfRows
+pub mod OfAll
+pub mod OfSetups

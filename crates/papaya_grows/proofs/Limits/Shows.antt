@@ -1,0 +1,198 @@
+-- Whatever happens between the steps of calls, where a call can have no further table, one of its map's is at the limit, or was at a moment since it began.
+use Rattle.std.specs.Prelude.{◌≡◌, ◌⊎◌, ◌≤◌, ℕ, Bool, true, List, ◌∷◌, Option, Some, None, length}
+use Rattle.std.proofs.Common.{ap, sym, subst, ◌∙◌}
+use Rattle.papaya_histories.specs.Given.Seize.World.{Begin, Step}
+use Rattle.papaya_histories.specs.Given.Seize.declared.progress.Progress.{Progress as Making}
+use Rattle.papaya_histories.specs.Given.Seize.declared.rows.settle.Settled.{Settled}
+use Rattle.papaya_histories.specs.Given.Tables.declared.node.Node.{Node}
+use Rattle.papaya_histories.specs.Given.Tables.declared.setting.Setting.{Setting}
+use Rattle.papaya_histories.specs.Given.Raw.Machine.{machine_asked, machine_replied}
+use Rattle.papaya_histories.specs.Given.Raw.declared.machines.asking.Reply.{Reply as MachineReply}
+use Rattle.papaya_histories.specs.Given.Raw.declared.machines.machine.Machine.{Machine}
+use Rattle.papaya_histories.specs.Given.Schedules.declared.call.Call.{Call}
+use Rattle.papaya_histories.specs.Given.Schedules.declared.call.Reply.{Reply}
+use Rattle.papaya_histories.specs.Given.Schedules.declared.outcome.Outcome.{Outcome}
+use Rattle.papaya_histories.specs.Given.Schedules.After.{moment}
+use Rattle.papaya_histories.specs.Given.Schedules.Beginning.{with_call}
+use Rattle.papaya_histories.specs.Given.Schedules.Effects.{with_effects}
+use Rattle.papaya_histories.specs.Given.Schedules.Entry.{Entry, ends_call}
+use Rattle.papaya_histories.specs.Given.Schedules.Moment.{Moment, UnderWay as CallThere}
+use Rattle.papaya_histories.specs.Given.Schedules.Views.{call_of, map_at}
+use Rattle.papaya_histories.specs.Given.Callers.OverAll.{CallOverAll}
+use Rattle.papaya_histories.specs.Given.Callers.Pairs.{Given}
+use Rattle.papaya_histories.specs.Given.Callers.Rooms.{CallForRoom}
+use Rattle.papaya_histories.specs.Given.Callers.Together.{Computes, Counting, ForRoom, Gets, Inserts, IsBegun, OnKey, OverAll, Removes, RemovesIf, TriesToInsert, TriesToInsertWith, UnderWay, Updates, UpdatesOrInserts}
+use Rattle.papaya_histories.specs.Given.Effects.Effects.{effects_of, known_after}
+use Rattle.papaya_histories.specs.Given.Effects.Known.{Known}
+use Rattle.papaya_histories.specs.Given.Effects.declared.acting.Acting.TheVariants as acts
+use Rattle.papaya_histories.specs.Given.Executor.Beginning.{Begins}
+use Rattle.papaya_histories.specs.Given.Executor.Ending.{EndingLeads}
+use Rattle.papaya_histories.specs.Given.Executor.IsAt.{IsAt, Scene, slot_of, work_of}
+use Rattle.papaya_histories.specs.Given.Executor.Making.{MakingLeads}
+use Rattle.papaya_histories.specs.Given.Executor.OnSlots.{MayBegin, RowBegins, RowLeads}
+use Rattle.papaya_histories.specs.Given.Executor.Replying.{scene_with, unless_stopped}
+use Rattle.papaya_histories.specs.Given.Executor.Rows.{request_of}
+use Rattle.papaya_histories.specs.Given.Executor.declared.executor.Executor.{Executor}
+use Rattle.papaya_histories.specs.Given.Executor.declared.row.RowTold.{RowTold}
+use Rattle.papaya_histories.specs.Given.Executor.declared.row.SlotCall.{SlotCall}
+use Rattle.papaya_histories.specs.Given.Executor.declared.row.SlotRow.{SlotRow}
+use Rattle.papaya_histories.specs.Given.Executor.declared.worker.Work.TheVariants.{OnSlot}
+use Rattle.papaya_histories.specs.Given.Raw.declared.machines.call.KeyCall.{KeyCall}
+use Rattle.papaya_histories.specs.Given.Finishes.Endings.{Finishing}
+use Rattle.papaya_histories.specs.Given.Finishes.Machines.{machine_of}
+use Rattle.papaya_histories.specs.Given.Finishes.Makings.{Beginning}
+use Rattle.papaya_histories.specs.Given.Finishes.Maps.{Standing, with_call as with_in}
+use Rattle.papaya_histories.specs.Given.Follows.Calling.{NoneNamed, come_to, told}
+use Rattle.papaya_histories.specs.Given.Follows.Calls.{ShowsCalls as IsThere}
+use Rattle.papaya_histories.specs.Given.Others.Endings.{ending_after}
+use Rattle.papaya_histories.specs.Given.Others.Makings.{WasNew, making_after}
+use Rattle.papaya_histories.specs.Given.Others.Rows.{scene_then}
+use Rattle.papaya_histories.specs.Given.Others.Walks.{given_up}
+use Rattle.papaya_histories.specs.Given.Moments.Whole.{ShowsWhole}
+use Rattle.papaya_histories.proofs.Given.Moments.Beside.{IsBeside}
+use Rattle.papaya_histories.proofs.Given.Moments.Ends.{end_beside}
+use Rattle.papaya_histories.proofs.Given.Moments.MakingSteps.{makings_go_beside}
+use Rattle.papaya_histories.proofs.Given.Moments.OnSlots.{row_beside, rows_begin_beside}
+use Rattle.papaya_histories.specs.Given.Late.Faults.{StandsInCalling, StandsInSweeping}
+use Rattle.papaya_grows.specs.Limits.{IsAtLimit, IsFor, IsForBehind, MachineEnds, NeedsMore, OthersHadLimit, RoomEnds, ShowsLimits}
+use Rattle.papaya_grows.proofs.Finding.Others.{ended, ended_calls, ended_maps, ended_world}
+use Rattle.papaya_grows.proofs.Limits.Chain.{limit_where, same_maps_keep_limit}
+use Rattle.papaya_grows.proofs.Limits.Walk.{asked_ends, machine_for, reply_ends}
+use Rattle.papaya_grows.proofs.Since as since
+
+-- A call that begins has not come so far.
+module _ {K V : Type 0} (same : K → K → Bool) (Why : Type 0) where
+  key_begins : (hash : K → ℕ) (i : ℕ) (standing : Standing K) (keys : K → Bool) (given : Given K V) (call : KeyCall K V K) → IsBegun V same hash same standing.setting slot_of i keys given call
+      → StandsInCalling (IsFor Why) (IsForBehind Why) call.trial.table call.stands
+  key_begins hash i standing keys given call (Gets q code few class) = tt
+  key_begins hash i standing keys given call (Removes q code few class) = tt
+  key_begins hash i standing keys given call (Inserts key value) = tt
+  key_begins hash i standing keys given call (TriesToInsert key value) = tt
+  key_begins hash i standing keys given call (Computes key) = tt
+  key_begins hash i standing keys given call (Updates key) = tt
+  key_begins hash i standing keys given call (UpdatesOrInserts key absent) = tt
+  key_begins hash i standing keys given call (TriesToInsertWith key) = tt
+  key_begins hash i standing keys given call (RemovesIf q code few class) = tt
+
+  begun_ends : (standing : Standing K) (i : ℕ) (u : UnderWay K V K) → Begins same standing i u → MachineEnds Why (machine_of u)
+  begun_ends standing i (OnKey u) begins = key_begins standing.hash i standing u.keys u.pair u.call begins.0
+  begun_ends standing i (ForRoom r) begins = subst (λ (x : CallForRoom). RoomEnds (Why ⊎ NeedsMore x.reserve.additional) x.reserve.stands) (sym begins.1) tt
+  begun_ends standing i (Counting sum) begins = tt
+  begun_ends standing i (OverAll o) begins = subst (λ (x : CallOverAll). StandsInSweeping (IsFor Why) (IsForBehind Why) x.sweep.stands) (sym begins.1) tt
+
+-- what is so of each machine
+module _ (K V : Type 0) where
+  abbrev pub Of : Type 0 → Machine K V K → Type 0
+  Of Why machine = MachineEnds Why machine
+
+  pub more : (A B : Type 0) → (A → B) → (machine : Machine K V K) → Of A machine → Of B machine
+  more A B leads machine so = machine_for A B leads machine so
+
+  pub replies : (A : Type 0) (machine : Machine K V K) (reply : MachineReply V) → Of A machine → Of A (machine_replied machine reply).0
+  replies A machine reply so = reply_ends A K V K machine reply so
+
+  pub asked : (A : Type 0) (machine : Machine K V K) → Of A machine → Of A (machine_asked machine).0
+  asked A machine so = asked_ends A K V K machine so
+
+  abbrev pub So : ℕ → Moment K V → Type 0
+  So map m = IsAtLimit map m
+
+module _ {K V : Type 0} (name : ℕ → List ℕ) (log : List (Entry K V)) (m v : Moment K V) (s t : Scene K V) (limits : ShowsLimits name log m s) where
+  -- where calls are as they were, or are under way no more
+  pub limits_alike : v.calls ≡ m.calls → ((n : ℕ) → IsAtLimit n m → IsAtLimit n v) → ((n j : ℕ) (x : UnderWay K V K) → t.calls n j ≡ Some x → s.calls n j ≡ Some x) → ShowsLimits name log v t
+  limits_alike calls keeps was = since.so_alike (Of K V) (more K V) (replies K V) (asked K V) (So K V) limit_where name log m v s t limits calls keeps was
+
+-- at a moment with other maps, where those that stand are found as they were
+pub limits_where : {K V S : Type 0} (same : K → K → Bool) (hash : K → ℕ) (name : ℕ → List ℕ) (log : List (Entry K V)) (m v : Moment K V) (s : Scene K V) (e : Executor K V S) → IsAt same hash e s → ShowsLimits name log m s
+    → ((n : ℕ) (st : Standing K) → s.maps n ≡ Some st → map_at n v ≡ map_at n m) → v.tables ≡ m.tables → v.calls ≡ m.calls → ShowsLimits name log v s
+limits_where {K} {V} same hash name log m v s e at limits still tables calls =
+    since.so_where_found (Of K V) (more K V) (replies K V) (asked K V) (So K V) limit_where same hash name log m v s e at limits still tables calls
+
+-- with a further event of the log
+pub limits_grow : {K V : Type 0} (name : ℕ → List ℕ) (log : List (Entry K V)) (e : Entry K V) (m : Moment K V) (s : Scene K V)
+    → ((map i : ℕ) (u : UnderWay K V K) → s.calls map i ≡ Some u → (c : CallThere K V) → call_of (name i) m ≡ Some c → c.begun ≤ length log) → ShowsLimits name log m s → ShowsLimits name (e ∷ log) m s
+limits_grow {K} {V} name log e m s begun limits = since.so_grow (Of K V) (more K V) (replies K V) (asked K V) (So K V) limit_where name log e m s begun limits
+
+-- Where a call begins, is told, is asked for its next pair, or is given up.
+
+module _ {K V : Type 0} (same : K → K → Bool) (name : ℕ → List ℕ) (log : List (Entry K V)) (m : Moment K V) (s : Scene K V) (limits : ShowsLimits name log m s) (map i : ℕ) (u : UnderWay K V K) where
+  pub calls_begin_limits : (guard : List ℕ) (its : Call K V) (standing : Standing K) → Begins same standing i u → NoneNamed name (name i) s
+      → ShowsLimits name log (with_call (name i) guard its (Some map) m) (scene_with map i u s)
+  calls_begin_limits guard its standing begins apart =
+      since.calls_begin_so (Of K V) (more K V) (replies K V) (asked K V) (So K V) limit_where same name log m s limits map i u guard its (λ Why. begun_ends same Why standing i u begins) apart
+
+  module _ (here : s.calls map i ≡ Some u) (shown : IsThere same name m s.calls) (next : UnderWay K V K) where
+    pub calls_take_limits : (reply : Reply V) (machine_reply : MachineReply V) → machine_of next ≡ (machine_replied (machine_of u) machine_reply).0 → ShowsLimits name log (told (name i) reply m) (scene_with map i next s)
+    calls_take_limits reply machine_reply next_is =
+        since.calls_take_so (Of K V) (more K V) (replies K V) (asked K V) (So K V) limit_where same name log m s limits map i u here shown next reply machine_reply next_is
+
+    pub walks_go_on_limits : machine_of next ≡ (machine_asked (machine_of u)).0 → ShowsLimits name log m (scene_with map i next s)
+    walks_go_on_limits next_is = since.walks_go_on_so (Of K V) (more K V) (replies K V) (asked K V) (So K V) limit_where same name log m s limits map i u here shown next next_is
+
+    abbrev at_end : Bool → Scene K V
+    at_end q = record s { calls = with_in s.calls map i (unless_stopped q u) }
+
+    pub walks_stop_limits : (q : Bool) → (q ≡ true → NoneNamed name (name i) (at_end q)) → ShowsLimits name log (given_up (name i) q m) (at_end q)
+    walks_stop_limits q none = since.walks_stop_so (Of K V) (more K V) (replies K V) (asked K V) (So K V) limit_where same name log m s limits map i u here shown next q none
+
+-- Where a call comes to an outcome.
+pub calls_come_to_limits : {K V : Type 0} (same : K → K → Bool) (name : ℕ → List ℕ) (log : List (Entry K V)) (m : Moment K V) (s : Scene K V) → ShowsLimits name log m s → IsThere same name m s.calls → (own : List ℕ) (o : Outcome V) (steps : ℕ)
+    → (ends_call o ≡ true → NoneNamed name own s) → ShowsLimits name log (come_to own o steps m) s
+calls_come_to_limits {K} {V} same name log m s limits shown own o steps ended =
+    since.calls_come_to_so (Of K V) (more K V) (replies K V) (asked K V) (So K V) limit_where same name log m s limits shown own o steps ended
+
+-- Where an event of a call begins, others are as the log says.
+pub limits_at_first : {K V : Type 0} (name : ℕ → List ℕ) (log : List (Entry K V)) (i : ℕ) (m : Moment K V) (s : Scene K V) → m.maps ≡ (moment log).maps → m.tables ≡ (moment log).tables
+    → ((map j : ℕ) (u : UnderWay K V K) → s.calls map j ≡ Some u → (c : CallThere K V) → call_of (name j) m ≡ Some c → c.begun ≤ length log) → ShowsLimits name log m s → OthersHadLimit name log i m s
+limits_at_first {K} {V} name log i m s maps tables begun limits =
+    since.others_at_first (Of K V) (more K V) (replies K V) (asked K V) (So K V) limit_where name log i m s maps tables begun limits
+
+-- After each step of what is no call.
+
+-- where calls and maps are as they were
+limits_beside : {K V : Type 0} (name : ℕ → List ℕ) (log : List (Entry K V)) (m v : Moment K V) (known known2 : Known) (s t : Scene K V) → IsBeside m v known known2 s t → ((n : ℕ) → IsAtLimit n m → IsAtLimit n v) → ShowsLimits name log m s
+    → ShowsLimits name log v t
+limits_beside {K} {V} name log m v known known2 s t beside keeps limits = limits_alike name log m v s t limits beside.calls keeps (λ n j x is. ap (λ (f : ℕ → ℕ → Option (UnderWay K V K)). f n j) (sym beside.same_calls) ∙ is)
+
+module _ (K V S : Type 0) (same : K → K → Bool) (hash : K → ℕ) (name : ℕ → List ℕ) (log : List (Entry K V)) (m : Moment K V) (known : Known) (s : Scene K V) (old new : Executor K V S) (limits : ShowsLimits name log m s) where
+  -- a row begins on a slot
+  pub rows_begin_limits : (called : SlotCall) (i : ℕ) (may : MayBegin old (slot_of i) called) (leads : RowBegins same hash called i s old new)
+      → ShowsLimits name log m (scene_then same hash (Begin i (request_of (slot_of i) called)) s old new (leads may).3)
+  rows_begin_limits called i may leads =
+      let t = scene_then same hash (Begin i (request_of (slot_of i) called)) s old new (leads may).3 in
+      limits_beside name log m m known known s t (rows_begin_beside K V S same hash m known s old new called i may leads) (λ n has. has) limits
+
+  module _ (at : IsAt same hash old s) (whole : ShowsWhole same name m known s) where
+    -- a step of one
+    pub rows_keep_limits : (i : ℕ) (said : RowTold (Node K V)) (leads : RowLeads same hash i said s old new) (row : SlotRow) (here : work_of old i ≡ Some (OnSlot row))
+        → ShowsLimits name log (with_effects None None (effects_of acts.Row known new.memory.changed) m) (scene_then same hash (Step i) s old new (leads row here).4)
+    rows_keep_limits i said leads row here =
+        let to = leads row here in
+        let effects = effects_of acts.Row known new.memory.changed in
+        let v = with_effects None None effects m in
+        let t = scene_then same hash (Step i) s old new to.4 in
+        let beside = row_beside same hash m known s old new at i row here (to.0, said) to.1 to.4 in
+        limits_beside name log m v known (known_after acts.Row new.memory.changed known) s t beside (same_maps_keep_limit None None effects m beside.maps) limits
+
+    -- of the making of a map
+    pub makings_keep_limits : (i : ℕ) (said : Making Setting) (leads : MakingLeads same hash i said s old new) (b : Beginning K) (here : s.makers i ≡ Some b) → WasNew b.map said m
+        → ShowsLimits name log (with_effects None (Some b.map) (effects_of (acts.Making b.map) known new.memory.changed) m) (making_after same hash s old new i b (leads b here).0 (leads b here).2.step.w2 said (leads b here).3)
+    makings_keep_limits i said leads b here was_new =
+        let effects = effects_of (acts.Making b.map) known new.memory.changed in
+        let v = with_effects None (Some b.map) effects m in
+        let t = making_after same hash s old new i b (leads b here).0 (leads b here).2.step.w2 said (leads b here).3 in
+        let beside = makings_go_beside K V S same hash name m known s old new at whole i said leads b here (Some b.map) was_new in
+        limits_beside name log m v known (known_after (acts.Making b.map) new.memory.changed known) s t beside (same_maps_keep_limit None (Some b.map) effects m beside.maps) limits
+
+    -- and of the end of one
+    module _ (i : ℕ) (f : Finishing K V) (here : s.enders i ≡ Some f) where
+      pub endings_keep_limits : (said : Settled (Node K V)) (leads : EndingLeads same hash i said s old new) (map : ℕ) → s.maps map ≡ None
+          → ShowsLimits name log (with_effects None (Some map) (effects_of (acts.Ending map) known new.memory.changed) m) (ending_after same hash s new i f (leads f here).0 (leads f here).2.w2 (leads f here).2.deed said (leads f here).3)
+      endings_keep_limits said leads map not_there =
+          let to = leads f here in
+          let effects = effects_of (acts.Ending map) known new.memory.changed in
+          let v = with_effects None (Some map) effects m in
+          let t = ended same hash s old new i f here said leads in
+          let beside = end_beside same hash name m known s old new at whole i f here to.0 said to.1 to.2 map not_there to.3 t (ended_world same hash s old new i f here said leads)
+          (ended_calls same hash s old new i f here said leads) (ended_maps same hash s old new i f here said leads) in
+          limits_beside name log m v known (known_after (acts.Ending map) new.memory.changed known) s t beside (same_maps_keep_limit None (Some map) effects m beside.maps) limits

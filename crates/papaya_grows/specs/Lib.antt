@@ -1,0 +1,5 @@
+pub mod Further
+pub mod Nexts
+pub mod Finding
+pub mod Rests
+pub mod Limits

@@ -1,0 +1,40 @@
+-- What is promised of the effects of a step of a call, by what a moment shows: they find what is left of what they must.
+use Rattle.std.specs.Prelude.{◌≡◌, ℕ, ◌+◌, Bool, List, ◌∷◌, Some}
+use Rattle.papaya_histories.specs.Given.Tables.declared.node.Node.{Node}
+use Rattle.papaya_histories.specs.Given.Resize.declared.new_table.NewTable.{NewTable}
+use Rattle.papaya_histories.specs.Given.Raw.declared.machines.progress.Progress.{Progress}
+use Rattle.papaya_histories.specs.Given.Schedules.After.{moments_from}
+use Rattle.papaya_histories.specs.Given.Schedules.Entry.{Entry}
+use Rattle.papaya_histories.specs.Given.Schedules.Growing.{HasNext}
+use Rattle.papaya_histories.specs.Given.Schedules.Lists.{OneOf}
+use Rattle.papaya_histories.specs.Given.Schedules.Moment.{UnderWay as CallThere, Moment}
+use Rattle.papaya_histories.specs.Given.Schedules.Terms.{Terms, shards_of}
+use Rattle.papaya_histories.specs.Given.Schedules.Views.{call_of}
+use Rattle.papaya_histories.specs.Given.Callers.Together.{UnderWay}
+use Rattle.papaya_histories.specs.Given.Effects.Effects.{effects_of}
+use Rattle.papaya_histories.specs.Given.Effects.Known.{Known}
+use Rattle.papaya_histories.specs.Given.Effects.declared.acting.Acting.TheVariants as acts
+use Rattle.papaya_histories.specs.Given.Executor.IsAt.{IsAt, Scene}
+use Rattle.papaya_histories.specs.Given.Executor.Stepping.{StepLeads}
+use Rattle.papaya_histories.specs.Given.Executor.declared.executor.Executor.{Executor}
+use Rattle.papaya_histories.specs.Given.Finishes.Machines.{machine_of}
+use Rattle.papaya_histories.specs.Given.Moments.Whole.{ShowsWhole}
+use Rattle.papaya_kept.specs.Kept.{ShowsKept}
+use Rattle.papaya_finds.specs.Nexts.{making_of_copier}
+use Rattle.papaya_finds.specs.Parts.{FindRest}
+use Rattle.papaya_finds.specs.Within.{AllIsInOrder}
+use Rattle.papaya_sources.specs.Sources.{ShowsSources}
+use Rattle.papaya_purposes.specs.Purposes.{ShowsPurposes}
+use Rattle.papaya_grows.specs.Finding.{ShowsFinding}
+
+-- The promise, of a step of a call, at a moment at which all is in order, where the map of each copier that makes a table has a second one, or had one.
+abbrev pub StepsFindRest : (K V S : Type 0) (same : K → K → Bool) (hash : K → ℕ) → Type 0
+StepsFindRest K V S same hash =
+    (name : ℕ → List ℕ) (log : List (Entry K V)) (m : Moment K V) (known : Known) (s : Scene K V) (old new : Executor K V S) → IsAt same hash old s → ShowsWhole same name m known s
+    → ShowsKept name m known s → ShowsFinding name m known s → ShowsSources same name m known s → AllIsInOrder m → ShowsPurposes same name log m known s
+    → (map i : ℕ) (u : UnderWay K V K) (here : s.calls map i ≡ Some u) (said : Progress (Node K V)) (leads : StepLeads same hash i said s old new)
+    → (terms : Terms) (c : CallThere K V) → call_of (name i) m ≡ Some c → (leads map u here).0.setting.mask + 1 ≡ shards_of terms
+    → (let effects = effects_of (acts.Call i map) known new.memory.changed in
+    let moments = moments_from c.begun log in
+    ((n : NewTable) → making_of_copier (machine_of u) ≡ Some n → OneOf (HasNext map) (m ∷ moments))
+    → FindRest terms moments (name i) map effects m)
