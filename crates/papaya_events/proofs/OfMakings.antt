@@ -50,7 +50,7 @@ use Rattle.papaya_legal.specs.Chains.{Chain as StepChain, Come, MakingSteps}
 use Rattle.papaya_legal.specs.MapEvents.{InMakingEvent}
 use Rattle.papaya_legal.proofs.Chains.{makings_run_to_their_ends}
 use Rattle.papaya_legal.proofs.MapsOver.{making_events_begin_so}
-use Rattle.papaya_finds.proofs.Firsts.{makings_open}
+use Rattle.papaya_works.proofs.Firsts.{makings_open}
 use Rattle.papaya_reclaims.specs.Left.{LeftAmong}
 use Rattle.papaya_logged.specs.Goes.{far}
 use Rattle.papaya_logged.specs.Makings.{MakingIsBegun}

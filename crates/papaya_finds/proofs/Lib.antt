@@ -41,6 +41,5 @@ pub mod CopiersNext
 pub mod CopiersAsk
 pub mod Rest
 pub mod Capacities
-pub mod Firsts
 pub mod Waits
 pub mod Reserving

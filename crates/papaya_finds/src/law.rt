@@ -2,7 +2,6 @@
 ghost use Rattle.std.specs.Prelude.{ℕ, Bool};
 ghost use Rattle.papaya_finds.specs.Joined.{PartsAreAll, SeveralFindAll, EventsFindAll, PairsAreAskedFor};
 ghost use Rattle.papaya_finds.specs.Capacities.{GivenAreFor, CapacitiesBegin, CapacitiesStay, EffectsKeepCapacities, SameMapsStood, CallsKeepCapacities, MakingsKeepCapacities};
-ghost use Rattle.papaya_finds.specs.Firsts.{OpeningsBegin, OpeningsStay, MakingsOpen, FirstsAreAll, MakingsGoOn, MakingsLinkFirst};
 ghost use Rattle.papaya_finds.specs.Doing.{SeveralDoTheirs, EventsMayDo};
 ghost use Rattle.papaya_finds.specs.Past.{EffectsLeavePast, CallsFindOnward};
 ghost use Rattle.papaya_finds.specs.Quiet.{FoundLeaveNothing, OthersOweNothing, SeveralStoreOne, ValuedMayAsk};
@@ -190,16 +189,4 @@ pub fn maps_keep_their_capacities<K, V, S>()
     ensures stood { SameMapsStood K V }
     ensures calls { (same : K → K → Bool) (hash : K → ℕ) → CallsKeepCapacities K V S same hash }
     ensures makings { (same : K → K → Bool) (hash : K → ℕ) → MakingsKeepCapacities K V S same hash }
-{}
-
-/// The making of a map makes a table for the places that the map is to have: so it is as a run begins, as long as makings are as they were, where one begins, and after each step of one. So the table
-/// that it links, where the map is there without one, and is to have the places of its capacity, is the first that the map must have: as long as the capacity asks, with the last try that goes with that.
-/// With that, and with the tables that are made, effects such as a making has find all that they must.
-pub fn makings_link_first_tables<K, V, S>()
-    ensures begins { OpeningsBegin K V }
-    ensures stays { OpeningsStay K V }
-    ensures opens { MakingsOpen K V }
-    ensures steps { (same : K → K → Bool) (hash : K → ℕ) → MakingsGoOn K V S same hash }
-    ensures linked { (same : K → K → Bool) (hash : K → ℕ) → MakingsLinkFirst K V S same hash }
-    ensures found { FirstsAreAll K V }
 {}

@@ -6,3 +6,4 @@ pub mod Ends
 pub mod Registering
 pub mod Reached
 pub mod Needs
+pub mod Firsts

@@ -49,7 +49,7 @@ use Rattle.papaya_histories.specs.Given.Finishes.Makings.{HasMade, OpeningFacts}
 use Rattle.papaya_histories.specs.Given.Follows.Blocks.{HasRole}
 use Rattle.papaya_histories.proofs.Given.Follows.Writes.{nothing_free, own_table}
 use Rattle.papaya_logged.proofs.MakingAsks.{told_as, told_back}
-use Rattle.papaya_finds.proofs.Firsts.{firsts_are_all, makings_link_first}
+use Rattle.papaya_works.proofs.Firsts.{firsts_are_all, makings_link_first}
 use Rattle.papaya_owes.proofs.Tables.MakingsOfMaps.{makings_keep_tables}
 use Rattle.papaya_works.specs.Makings.{MakingsDoTheirs, MakingsFindTheirs}
 

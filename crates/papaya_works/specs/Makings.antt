@@ -19,7 +19,7 @@ use Rattle.papaya_histories.specs.Given.Finishes.Makings.{Beginning}
 use Rattle.papaya_histories.specs.Given.Follows.Shows.{Shows}
 use Rattle.papaya_histories.specs.Given.Others.Makings.{NotesCounter, making_after}
 use Rattle.papaya_owes.specs.Tables.{ShowsTables}
-use Rattle.papaya_finds.specs.Firsts.{ShowsOpenings}
+use Rattle.papaya_works.specs.Firsts.{ShowsOpenings}
 use Rattle.papaya_named.specs.Places.{first_places}
 
 module _ (K V S : Type 0) (same : K → K → Bool) (hash : K → ℕ) where

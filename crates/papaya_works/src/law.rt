@@ -3,6 +3,7 @@ ghost use Rattle.std.specs.Prelude.{Bool, ℕ};
 ghost use Rattle.papaya_works.specs.Rows.{RowsDoTheirs};
 ghost use Rattle.papaya_works.specs.Makings.{MakingsDoTheirs, MakingsFindTheirs};
 ghost use Rattle.papaya_works.specs.Ends.{EndsFindAll};
+ghost use Rattle.papaya_works.specs.Firsts.{OpeningsBegin, OpeningsStay, MakingsOpen, FirstsAreAll, MakingsGoOn, MakingsLinkFirst};
 
 /// A row on a slot does what it may: entering, flushing and giving a slot up do nothing, registering asks for buckets of slots alone, and leaving and refreshing reclaim alone.
 pub fn rows_do_theirs<K, V, S>()
@@ -18,4 +19,16 @@ pub fn makings_do_theirs<K, V, S>()
 /// Where all of a map ends each pair is in the map, and each table is linked.
 pub fn ends_find_all<K, V>()
     ensures finds { EndsFindAll K V }
+{}
+
+/// The making of a map makes a table for the places that the map is to have: so it is as a run begins, as long as makings are as they were, where one begins, and after each step of one. So the table
+/// that it links, where the map is there without one, and is to have the places of its capacity, is the first that the map must have: as long as the capacity asks, with the last try that goes with that.
+/// With that, and with the tables that are made, effects such as a making has find all that they must.
+pub fn makings_link_first_tables<K, V, S>()
+    ensures begins { OpeningsBegin K V }
+    ensures stays { OpeningsStay K V }
+    ensures opens { MakingsOpen K V }
+    ensures steps { (same : K → K → Bool) (hash : K → ℕ) → MakingsGoOn K V S same hash }
+    ensures linked { (same : K → K → Bool) (hash : K → ℕ) → MakingsLinkFirst K V S same hash }
+    ensures found { FirstsAreAll K V }
 {}

@@ -43,8 +43,8 @@ use Rattle.papaya_legal.specs.MapEvents.{InMakingEvent}
 use Rattle.papaya_legal.proofs.Chains.{makings_chain}
 use Rattle.papaya_grows.proofs.Finding.Alike.{made_still}
 use Rattle.papaya_legal.proofs.Slots.{each_join}
-use Rattle.papaya_finds.specs.Firsts.{ShowsOpenings}
-use Rattle.papaya_finds.proofs.Firsts.{makings_go_on}
+use Rattle.papaya_works.specs.Firsts.{ShowsOpenings}
+use Rattle.papaya_works.proofs.Firsts.{makings_go_on}
 use Rattle.papaya_remains.proofs.Numbered.{made_stays}
 use Rattle.papaya_logged.specs.Goes.{Far, GoesFor, MakingGoes, MakingOn}
 use Rattle.papaya_logged.specs.Makings.{is_over}

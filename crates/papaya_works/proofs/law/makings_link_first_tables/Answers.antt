@@ -1,6 +1,6 @@
 -- Makings of maps link first tables.
-use Rattle.papaya_finds.proofs.Firsts.{openings_begin, openings_stay, makings_open, makings_go_on, makings_link_first, firsts_are_all}
-use Rattle.papaya_finds.proofs.law.makings_link_first_tables.Goals as goal
+use Rattle.papaya_works.proofs.Firsts.{openings_begin, openings_stay, makings_open, makings_go_on, makings_link_first, firsts_are_all}
+use Rattle.papaya_works.proofs.law.makings_link_first_tables.Goals as goal
 
 pub returns : goal.returns
 returns c d = record {

@@ -61,7 +61,7 @@ use Rattle.papaya_owes.proofs.Tables.Held.{shape_of, some_making}
 use Rattle.papaya_owes.proofs.Tables.Leaves.{Stays, IsMade, IsGivenUp, IsLinked}
 use Rattle.papaya_owes.proofs.Tables.MakingsOfMaps.{left_tables}
 use Rattle.papaya_owes.proofs.Tables.Roles.{of_table, NoneOfTable}
-use Rattle.papaya_finds.specs.Firsts.{IsForPlaces, OpensFor, ShowsOpenings, FindsFirst, OpeningsBegin, OpeningsStay, MakingsOpen, FirstsAreAll, MakingsGoOn, MakingsLinkFirst}
+use Rattle.papaya_works.specs.Firsts.{IsForPlaces, OpensFor, ShowsOpenings, FindsFirst, OpeningsBegin, OpeningsStay, MakingsOpen, FirstsAreAll, MakingsGoOn, MakingsLinkFirst}
 use Rattle.papaya_finds.specs.Shaping.{ShapedAt}
 use Rattle.papaya_finds.proofs.Capacities.{few_places, no_fault}
 use Rattle.papaya_finds.proofs.Grown.{found_of, number_is}
