@@ -475,5 +475,5 @@ module _ {K V S : Type 0} (same : K → K → Bool) (hash : K → ℕ) (terms : 
 module _ {K V S : Type 0} (same : K → K → Bool) (hash : K → ℕ) (event : Event K V) (own : List ℕ) (is : event ≡ EndMap own) (old new : Scheduler K V S) where
   pub ends_keep : {X : Type 0} → (result : Result (Played V) X) → IfOk result (λ played. WorksOnEnd played old new own) → IfOk result (λ played. KeepsRun same hash event played old new)
   ends_keep (Ok played) works =
-      subst (λ (x : Event K V). KeepsRun same hash x played old new) (sym is) (λ of terms log holds run turn after right begun. map_end_keeps same hash terms log own played old new holds run turn after right works)
+      subst (λ (x : Event K V). KeepsRun same hash x played old new) (sym is) (λ of terms log holds run turn after right. map_end_keeps same hash terms log own played old new holds run turn after right works)
   ends_keep (Err x) works = tt

@@ -361,12 +361,12 @@ module _ {K V S : Type 0} (same : K → K → Bool) (hash : K → ℕ) (terms : 
 module _ {K V S : Type 0} (same : K → K → Bool) (hash : K → ℕ) (event form : Event K V) (is : event ≡ form) (old new : Scheduler K V S) where
   pub rows_keep : {X : Type 0} → is_of_slots form ≡ true → (result : Result (Played V) X) → IfOk result (λ played. WorksOnSlot played old new form) → IfOk result (λ played. KeepsRun same hash event played old new)
   rows_keep on (Ok played) works =
-      subst (λ (x : Event K V). KeepsRun same hash x played old new) (sym is) (λ of terms log holds run turn after right begun. slot_keeps same hash terms log form played old new of on run turn after right works)
+      subst (λ (x : Event K V). KeepsRun same hash x played old new) (sym is) (λ of terms log holds run turn after right. slot_keeps same hash terms log form played old new of on run turn after right works)
   rows_keep on (Err x) works = tt
 
   -- of others nothing is said
   pub others_keep : is_of_rows form ≡ false → (played : Played V) → KeepsRun same hash event played old new
-  others_keep none played = subst (λ (x : Event K V). KeepsRun same hash x played old new) (sym is) (λ of terms log holds run turn after right begun. absurd (cc (of, none)))
+  others_keep none played = subst (λ (x : Event K V). KeepsRun same hash x played old new) (sym is) (λ of terms log holds run turn after right. absurd (cc (of, none)))
 
   pub others_keep_if : {X : Type 0} → is_of_rows form ≡ false → (result : Result (Played V) X) → IfOk result (λ played. KeepsRun same hash event played old new)
   others_keep_if none (Ok played) = others_keep none played

@@ -106,7 +106,7 @@ module _ {K V S : Type 0} (same : K → K → Bool) (hash : K → ℕ) (s : Scen
   made_same (progress.Refused fault) leads = refl
 
   -- maps stand as they stood, as long as it has not made its own
-  unmade_maps : (said : Making Setting) (leads : MakingLeads same hash i said s old new) → HasNotMade said → (led said leads).maps ≡ s.maps
+  pub unmade_maps : (said : Making Setting) (leads : MakingLeads same hash i said s old new) → HasNotMade said → (led said leads).maps ≡ s.maps
   unmade_maps progress.Goes leads none = refl
   unmade_maps progress.Waits leads none = refl
   unmade_maps (progress.Done setting) leads none = absurd none
