@@ -70,11 +70,12 @@ use Rattle.papaya_events.specs.Asked.{Holds}
 use Rattle.papaya_events.specs.OfCalls.{HaveShards, Runs, RunsOn}
 use Rattle.papaya_events.specs.OfRows.{KeepsRun}
 use Rattle.papaya_works.proofs.Reached.{makings_note_more}
-use Rattle.papaya_events.proofs.OfMakings.Begun.{begun_as, begun_in, begun_shown, none_begun, over_runs}
+use Rattle.papaya_events.proofs.OfMakings.Begun.{begun_as, begun_in, begun_shown, none_begun}
 use Rattle.papaya_events.proofs.OfMakings.Chain.{HasFound, MakingComes, Midway, comes_on, found_on, makings_come, masks}
 use Rattle.papaya_events.proofs.OfMakings.Refused.{refused_runs}
 use Rattle.papaya_events.proofs.OfRows.Chain.{come_by}
 use Rattle.papaya_events.proofs.OfRows.Lone.{alone_follows}
+use Rattle.papaya_events.proofs.OfRows.Over.{over_runs}
 use Rattle.papaya_events.proofs.OfRows.May.{all_by}
 use Rattle.papaya_events.proofs.OfRows.Quiet.{refused_still, still_keeps}
 use Rattle.papaya_events.proofs.Remaining.{nobody_makes}

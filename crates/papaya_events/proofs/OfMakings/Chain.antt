@@ -154,23 +154,23 @@ module _ {K V S : Type 0} (same : K → K → Bool) (hash : K → ℕ) (terms : 
     pub firsts : list_all is_first_making f.effects ≡ true
 
   module _ (n : ℕ) (x : Come K V S) (mid to : Far K V S) (y : MakingComes n x mid) (stood : ℕ → Option (Standing K)) (it : IsUnder i b stood y.scene) (step : MakingGoes i b.map mid to) where
-    abbrev pub d : Beginning K
+    abbrev d : Beginning K
     d = record b { machine = it.0 }
 
-    abbrev pub leads : MakingLeads same hash i step.said y.scene mid.logged.executor to.logged.executor
+    abbrev leads : MakingLeads same hash i step.said y.scene mid.logged.executor to.logged.executor
     leads = step.leads same hash y.scene y.is_at
 
-    abbrev pub step_did : List Effect
+    abbrev step_did : List Effect
     step_did = effects_of (acts.Making b.map) (known mid.logged.notes) to.logged.executor.memory.changed
 
-    abbrev pub next : Scene K V
+    abbrev next : Scene K V
     next = next_scene same hash y.scene mid.logged.executor to.logged.executor i d it.1 step.said leads
 
-    abbrev pub w : Moment K V
+    abbrev w : Moment K V
     w = with_effects None (Some b.map) step_did y.now
 
     -- what the step did are effects of a making
-    pub step_firsts : list_all is_first_making step_did ≡ true
+    step_firsts : list_all is_first_making step_did ≡ true
     step_firsts =
         makings_do_theirs K V S same hash name y.now (known mid.logged.notes) y.scene mid.logged.executor to.logged.executor y.is_at y.midst.0.calls.whole.all.shown i step.said leads d it.1
         (y.midst.0.calls.whole.counters i d it.1)

@@ -53,10 +53,11 @@ use Rattle.papaya_mapping.proofs.MapsMade.{refused_never}
 use Rattle.papaya_works.proofs.Reached.{makings_note_more}
 use Rattle.papaya_events.specs.Asked.{Holds}
 use Rattle.papaya_events.specs.OfCalls.{HaveShards, Runs, RunsOn}
-use Rattle.papaya_events.proofs.OfMakings.Begun.{begun_as, begun_in, begun_shown, none_begun, over_runs}
+use Rattle.papaya_events.proofs.OfMakings.Begun.{begun_as, begun_in, begun_shown, none_begun}
 use Rattle.papaya_events.proofs.OfMakings.Chain.{IsUnder, MakingComes, making_comes_on, making_under, none_made, none_new}
 use Rattle.papaya_events.proofs.OfRows.Chain.{come_by}
 use Rattle.papaya_events.proofs.OfRows.Lone.{alone_follows}
+use Rattle.papaya_events.proofs.OfRows.Over.{over_runs}
 
 -- where all that was asked for were growths, so were those before, and those that follow
 asked_before : (xs ys zs : List Effect) → zs ≡ xs ++ ys → list_all is_growth zs ≡ true → (list_all is_growth xs ≡ true) × (list_all is_growth ys ≡ true)
@@ -69,7 +70,7 @@ module _ {K V S : Type 0} (same : K → K → Bool) (hash : K → ℕ) (terms : 
   Comes n x f = MakingComes same hash terms name log own mode capacity i b (moment log) n x f
 
   -- it is on its way
-  abbrev pub Midway : ℕ → Come K V S → Far K V S → Type 0
+  abbrev Midway : ℕ → Come K V S → Far K V S → Type 0
   Midway n x f = (y : MakingComes same hash terms name log own mode capacity i b (moment log) n x f) × IsUnder i b stood y.scene × (y.now ≡ moment log)
 
   module _ (n : ℕ) (x : Come K V S) (mid to : Far K V S) (z : Midway n x mid) (step : MakingGoes i b.map mid to) (was_new : WasNew b.map step.said z.0.now) (none : HasNotMade step.said)
@@ -80,13 +81,13 @@ module _ {K V S : Type 0} (same : K → K → Bool) (hash : K → ℕ) (terms : 
     did_ask : list_all is_growth did ≡ true
     did_ask = (asked_before mid.effects did to.effects step.is_noted.did asks).1
 
-    abbrev pub refused_on : Comes (suc n) x to
+    abbrev refused_on : Comes (suc n) x to
     refused_on = making_comes_on same hash terms name log own mode capacity i b (moment log) n x mid to z.0 stood z.1 step was_new (inr (none, did_ask))
 
-    pub still_there : refused_on.now ≡ moment log
+    still_there : refused_on.now ≡ moment log
     still_there = growths_leave (Some b.map) did z.0.now did_ask ∙ z.2
 
-  pub refused_come : (n : ℕ) (x : Come K V S) (from to : Far K V S) → GoesFor (MakingOn i b.map) n from to → list_all is_growth to.effects ≡ true → Midway 0 x from → Midway n x to
+  refused_come : (n : ℕ) (x : Come K V S) (from to : Far K V S) → GoesFor (MakingOn i b.map) n from to → list_all is_growth to.effects ≡ true → Midway 0 x from → Midway n x to
   refused_come zero x from to is asks at = subst (Midway 0 x) is at
   refused_come (suc n) x from to (mid, went, on) asks at =
       let before = effects_of (acts.Making b.map) (known mid.logged.notes) to.logged.executor.memory.changed in
