@@ -3,12 +3,13 @@ ghost use Rattle.std.specs.Prelude.{◌≡◌, ◌++◌, map, OnOk, IfOk};
 ghost use Rattle.std.specs.List.Sorted.{IsNonDecreasingBy, IsPermutation};
 ghost use Rattle.std.specs.List.{flat_map, filter_map};
 ghost use Rattle.reclaimed_text.specs.Ascending.{ascending};
-ghost use Rattle.papaya_runs.specs.Record.{pair_of};
+ghost use Rattle.papaya_schedules.specs.Runs.{pair_of};
 ghost use Rattle.reclaimed_text.specs.Text.{entry, final_lines, map_line, tag, waiting_line};
 
-use crate::pieces::{append_entry, append_tag};
-use papaya_runs::record::{Living, Pair, Run};
+use crate::pieces::{append_entry, append_tag, pair_of};
+use papaya_runs::record::{Living, Pair};
 use papaya_runs::token::Token;
+use papaya_schedules::record::Run;
 use std::alloc::{AllocError, Global};
 
 /// The pairs of these numbers, in ascending order of keys.
@@ -27,7 +28,7 @@ fn in_order<'a>(
 {
     let mut pairs = Vec::new(alloc);
     for number in numbers {
-        if let Some(pair) = run.pair(*number) {
+        if let Some(pair) = pair_of(run, *number) {
             pairs.push(pair)?;
         }
     }
