@@ -3,6 +3,7 @@
 
 ghost use Rattle.std.specs.Prelude.{◌≡◌, false, IfOk, IfErr, OnErr, IfSome};
 ghost use Rattle.std.specs.Io.KnownBytes.{Keeps, Appends};
+ghost use Rattle.papaya_running.specs.Run.{bounded};
 ghost use Rattle.papaya_scheduler.specs.Played.{terms_given};
 ghost use Rattle.reclaimed_engine.specs.Engine.{stop_line, terms_of, EndsWith, IsTextFor};
 ghost use Rattle.reclaimed_text.specs.Output.{has_failed, writer_of};
@@ -30,7 +31,7 @@ fn stop_line(alloc: Global, stop: Stop) -> Result<Vec<u8>, AllocError>
 
 /// What a run of these events is made with: calls come one by one, and a run makes one map at most.
 fn given_for(events: &[Event<u64, Token>]) -> Given
-    ensures { terms_given result ≡ terms_of events.now }
+    ensures { terms_given (bounded result) ≡ terms_of events.now }
 {
     Given {
         setup: setup_of(events),

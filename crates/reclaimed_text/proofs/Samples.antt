@@ -1,5 +1,5 @@
 -- Lines worked by hand from the rules of what is printed: examples that the definitions of specs/Text.antt have to give. Nothing cites them.
-use Rattle.std.proofs.Common.{◌≡◌, [], ◌∷◌, refl}
+use Rattle.std.proofs.Common.{◌≡◌, ◌^◌, [], ◌∷◌, refl}
 use Rattle.std.specs.Prelude.{codes, Some, None, map}
 use Rattle.std.specs.List.{filter_map}
 use Rattle.std.specs.Fmt.{digits}
@@ -12,7 +12,7 @@ use Rattle.papaya_schedules.specs.declared.outcome.Outcome.TheVariants.{Goes, As
 use Rattle.papaya_runs.specs.declared.record.Living.{Living}
 use Rattle.papaya_schedules.specs.Runs.{pair_of}
 use Rattle.reclaimed_text.specs.Ascending.{ascending}
-use Rattle.reclaimed_text.specs.Text.{WordPair, WordRun, answer_line, back_lines, entry, fault_line, key_and_value, map_line, outcome_line, refused_line, shape_line, tag, waiting_line}
+use Rattle.reclaimed_text.specs.Text.{WordPair, WordRun, answer_line, back_lines, entry, fault_line, key_and_value, name_number, map_line, outcome_line, refused_line, shape_line, tag, waiting_line}
 
 light : WordPair
 light = record { number = 4; key = 7; value = codes "x" }
@@ -149,6 +149,10 @@ fault_on_line_twelve = refl
 
 keys_ascend : ascending (λ key. key) (30 ∷ 4 ∷ 100 ∷ 5 ∷ []) ≡ 4 ∷ 5 ∷ 30 ∷ 100 ∷ []
 keys_ascend = refl
+
+-- a name comes before those that it begins, and a capital letter before a small one
+names_in_order : ascending (λ name. name_number (2 ^ 120) name) (codes "ba" ∷ codes "b" ∷ codes "a2" ∷ codes "B" ∷ codes "a10" ∷ []) ≡ codes "B" ∷ codes "a10" ∷ codes "a2" ∷ codes "b" ∷ codes "ba" ∷ []
+names_in_order = refl
 
 -- the pairs of a map, which were not stored in the order of their keys
 map_of_three : (run : WordRun) (living : Living) → living.name ≡ codes "m2" → filter_map (pair_of run) living.pairs.items ≡ six ∷ one ∷ five ∷ []

@@ -1,5 +1,5 @@
 -- What is printed for a finished run: its events in order, and then what is left at the end.
-use Rattle.std.specs.Prelude.{ℕ, List, [], ◌++◌, Option, Some, None, length, codes}
+use Rattle.std.specs.Prelude.{ℕ, ◌+◌, ◌*◌, ◌/◌, ◌%◌, ◌^◌, List, [], ◌∷◌, ◌++◌, Option, Some, None, length, codes}
 use Rattle.std.specs.List.{flat_map, filter_map, zip}
 use Rattle.std.specs.Fmt.{decimal}
 use Rattle.std.specs.Global.{Vec}
@@ -108,6 +108,16 @@ entry pair = codes " " ++ decimal pair.key ++ codes ":" ++ pair.value
 abbrev pub map_line : WordRun → Living → List ℕ
 map_line run living = line (codes "map " ++ living.name ++ flat_map entry (ascending (λ pair. pair.key) (filter_map (pair_of run) living.pairs.items)))
 
+-- The bytes of a name as digits of a number in base 256, of which the first has this weight. With the weight 2^120 names of up to 16 bytes stand in the order of
+-- a dictionary.
+abbrev pub name_number : ℕ → List ℕ → ℕ
+name_number weight [] = 0
+name_number weight (byte ∷ name) = (byte * weight % 2 ^ 128 + name_number (weight / 256) name) % 2 ^ 128
+
+-- maps in the order of their names
+abbrev pub by_name : List Living → List Living
+by_name maps = ascending (λ living. name_number (2 ^ 120) living.name) maps
+
 -- the numbers of the pairs that left their map and were not reclaimed
 abbrev pub waiting_line : List ℕ → List ℕ
 waiting_line numbers = line (codes "waiting" ++ flat_map tag numbers)
@@ -115,7 +125,7 @@ waiting_line numbers = line (codes "waiting" ++ flat_map tag numbers)
 -- the maps, the pairs that still wait, the tables that still wait, and how many pairs were stored and reclaimed
 abbrev pub final_lines : WordRun → List ℕ
 final_lines run =
-    flat_map (map_line run) run.maps.items
+    flat_map (map_line run) (by_name run.maps.items)
     ++ waiting_line run.waiting.items
     ++ line (codes "tables " ++ decimal run.tables)
     ++ line (codes "stored " ++ decimal run.stored ++ codes " back " ++ decimal (length run.given_back))
