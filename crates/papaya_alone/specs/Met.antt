@@ -48,7 +48,7 @@ TriesMeetPairs {K} hash =
     (c : Chart K) (blocks : Blocks) (code t : ℕ)
     → ((table : Table) → (first_trial table code).met ≤ met_in c code t 0)
     × ((trial : Trial) (j : ℕ) → trial.met ≤ met_in c code t j
-        → (with_met trial (place_word hash c blocks (c.place t (spot_at (c.len t) code j)))).met ≤ met_in c code t (suc j))
+    → (with_met trial (place_word hash c blocks (c.place t (spot_at (c.len t) code j)))).met ≤ met_in c code t (suc j))
     × ((trial : Trial) → IfSome (next_trial trial) (λ next. next.met ≡ trial.met))
 
 -- the same by the words of a memory: a word names a block

@@ -24,7 +24,7 @@ use Rattle.papaya_histories.specs.Given.Schedules.Growing.{Has}
 use Rattle.papaya_histories.specs.Given.Schedules.Moment.{MapThere, Moment}
 use Rattle.papaya_histories.specs.Given.Schedules.Views.{map_at, capacity_or}
 use Rattle.papaya_histories.proofs.Given.Callers.Together.At.{at_other, at_same}
-use Rattle.papaya_calls.specs.Beginning.{first_places}
+use Rattle.papaya_named.specs.Places.{first_places}
 use Rattle.papaya_histories.specs.Given.Effects.Effects.{effects_of}
 use Rattle.papaya_histories.specs.Given.Effects.declared.acting.Acting.TheVariants as acts
 use Rattle.papaya_histories.specs.Given.Executor.IsAt.{Scene}

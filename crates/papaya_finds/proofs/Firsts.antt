@@ -41,7 +41,7 @@ use Rattle.papaya_histories.proofs.Given.Rule.Keys.Always.{Always, AlwaysOf, alw
 use Rattle.papaya_histories.specs.Given.Rule.Rule.{no_table}
 use Rattle.papaya_histories.specs.Given.Callers.Together.{no_blocks}
 use Rattle.papaya_histories.proofs.Given.Callers.Together.At.{at_other, at_same}
-use Rattle.papaya_calls.specs.Beginning.{first_places}
+use Rattle.papaya_named.specs.Places.{first_places}
 use Rattle.papaya_histories.specs.Given.Effects.Effects.{table_at, effects_of, known_after}
 use Rattle.papaya_histories.specs.Given.Effects.Known.{Known}
 use Rattle.papaya_histories.specs.Given.Effects.declared.acting.Acting.{Acting}

@@ -10,7 +10,7 @@ use Rattle.papaya_histories.specs.Given.Schedules.Effects.{with_effects}
 use Rattle.papaya_histories.specs.Given.Schedules.Moment.{MapThere, Moment, start}
 use Rattle.papaya_histories.specs.Given.Schedules.Views.{map_at, capacity_or}
 use Rattle.papaya_histories.specs.Given.Callers.Together.{UnderWay}
-use Rattle.papaya_calls.specs.Beginning.{first_places}
+use Rattle.papaya_named.specs.Places.{first_places}
 use Rattle.papaya_histories.specs.Given.Effects.Effects.{effects_of}
 use Rattle.papaya_histories.specs.Given.Effects.Known.{Known}
 use Rattle.papaya_histories.specs.Given.Effects.declared.acting.Acting.TheVariants as acts

@@ -17,7 +17,7 @@ use Rattle.papaya_histories.specs.Given.Schedules.Handing.{is_first_making}
 use Rattle.papaya_histories.specs.Given.Schedules.Lives.{IsMapsFirst, EventFinds}
 use Rattle.papaya_histories.specs.Given.Schedules.Moment.{MapThere, Moment}
 use Rattle.papaya_histories.specs.Given.Schedules.Views.{map_at, tables_of}
-use Rattle.papaya_calls.specs.Beginning.{first_places}
+use Rattle.papaya_named.specs.Places.{first_places}
 use Rattle.papaya_histories.specs.Given.Effects.Effects.{effects_of, known_after}
 use Rattle.papaya_histories.specs.Given.Effects.Known.{Known}
 use Rattle.papaya_histories.specs.Given.Effects.declared.acting.Acting.TheVariants as acts

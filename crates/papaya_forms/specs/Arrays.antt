@@ -26,7 +26,7 @@ module _ {K : Type 0} (value : K → Data) where
     pub has : HasElements xs written
     pub in_order : IsStrictlySortedBy (slice_cmp nat_cmp) (map compact_text has.items)
 
--- What is put into a collection was refused, for want of memory, or as a table would have been too long.
+-- Memory, or the length of a table, was refused.
 abbrev pub IsRefused : JsonFault → Type 0
 IsRefused why = (why ≡ Refused Memory) ⊎ (why ≡ Refused Capacity)
 
@@ -56,6 +56,6 @@ module _ {K : Type 0} (in_range : K → Type 0) (value : K → Data) where
   FirstBad why no_items = ⊥
   FirstBad why (item d ds) = IsNoElement why d ⊎ (((x : K) × IsElementOf d x) × FirstBad why ds)
 
-  -- Why elements were not read of a value: it is no array; or it is one, and this is its first fault, or what was read was refused.
+  -- Why elements were not read of a value: it is no array; or it is one, and this is its first fault, or memory, or the length of a table, was refused.
   abbrev pub IsNotRead : JsonFault → Data → Type 0
   IsNotRead why d = ((why ≡ NotAnArray) × (as_array d ≡ None)) ⊎ ((ds : Items) × (d ≡ array ds) × (FirstBad why ds ⊎ IsRefused why))

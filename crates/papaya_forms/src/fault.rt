@@ -21,7 +21,7 @@ pub enum JsonFault {
     /// A value that no value of the map, or no element of the set, is written as.
     #[error("BadElement")]
     BadElement,
-    /// A call of the map or set that was being made was refused.
+    /// Memory, or the length of a table, was refused.
     #[error("Refused")]
     Refused(Fault),
 }

@@ -300,8 +300,11 @@ module _ {K V S : Type 0} (same : K → K → Bool) (hash : K → ℕ) (name : �
         began (Defer' slot x d) e over h = elim (cases_eq b x) as (λ _. Lies b c t) [
           | inl one ↦
               let behind_it : d ≡ c = deferred_behind (eqb b x) (is_standing (where_is d w.log)) d c (where_is b w.log) (eq-eqb b x one) lies_new in
-              inr (i, subst (λ (z : World (Node K V)). IsPutting b c (z.row i)) (sym is)
-              (subst (λ (k : ℕ). IsPutting b k (w3.row i)) behind_it (subst (λ (k : ℕ). IsPutting k d (w3.row i)) (sym one) (begun_puts deferred_word size i w begun w3 slot x d h step))))
+              inr (
+                i,
+                subst (λ (z : World (Node K V)). IsPutting b c (z.row i)) (sym is)
+                    (subst (λ (k : ℕ). IsPutting b k (w3.row i)) behind_it (subst (λ (k : ℕ). IsPutting k d (w3.row i)) (sym one) (begun_puts deferred_word size i w begun w3 slot x d h step))),
+              )
           | inr ne ↦ lay_so (sym (ap (λ (q : Bool). cond q (cond (is_standing (where_is d w.log)) (With d) Nowhere) (where_is b w.log)) (ne_eqb b x ne)) ∙ lies_new)
         ]
           where

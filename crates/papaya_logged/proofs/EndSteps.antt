@@ -127,7 +127,7 @@ module _ {K V S : Type 0} (same : K → K → Bool) (hash : K → ℕ) where
               (endings_begin_whole K V S same hash name m (known old.notes) s new.executor shown.shows map i to.0 to.1 to.4);
           kept = subst (λ (n : Notes). ShowsKept {K = K} {V = V} name m (known n) (ending_begun map i to.0 s)) (sym noted)
               (endings_begin_kept K V S same hash name m (known old.notes) s old.executor new.executor shown.is_at shown.kept map i to.0 (yet s shown.is_at) to.4);
-          counted = counted_end_begins same hash name old new given noted m s shown.is_at shown.shows.all.shown shown.counted map i to.0 to.1 (yet s shown.is_at) to.4;
+          counted = counted_end_begins same hash old new given noted name m s shown.is_at shown.shows.all.shown shown.counted map i to.0 to.1 (yet s shown.is_at) to.4;
         },
         λ nobody_ends.
             (let t = waits_begin same name old.executor.batch_size map to.0.chart m (known old.notes) s shown.shows shown.kept.waiting shown.is_at.together.makings.standing.came

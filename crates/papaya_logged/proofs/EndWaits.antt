@@ -1,14 +1,13 @@
 -- What an end of a map leaves over tells whether something waited behind the map's tables: so it is as the end begins, and after each step of it.
-use Rattle.std.specs.Prelude.{◌≡◌, ◌⊎◌, ◌<◌, ◌≤◌, ◌+◌, ◌*◌, ◌==◌, ℕ, zero, suc, Bool, true, false, not, List, [], ◌∷◌, ◌++◌, map, Option, Some, None, IsSome, if◌then◌else◌}
+use Rattle.std.specs.Prelude.{◌≡◌, ◌⊎◌, ◌<◌, ◌≤◌, ◌+◌, ◌*◌, ◌==◌, ◌||◌, ℕ, zero, suc, Bool, true, false, not, List, [], ◌∷◌, ◌++◌, map, Option, Some, None, IsSome, if◌then◌else◌}
 use Rattle.std.proofs.Common.{refl, ap, sym, subst, ◌∙◌, inl, inr, arith}
-use Rattle.std.proofs.lemmas.Bool.{cases_lt, eq-eqb}
+use Rattle.std.proofs.lemmas.Bool.{cases_lt, eq-eqb, eqb-true}
 use Rattle.papaya_histories.specs.Given.SeizeWords.Mem.{Mem, value_at}
 use Rattle.seize.specs.Further.{FurtherFrom, FurtherAre}
 use Rattle.seize.specs.Law.{With, where_is}
 use Rattle.seize.specs.declared.rows.settle.Settled.{Settled}
 use Rattle.seize.specs.declared.rows.settle.Settled.TheVariants as settled
 use Rattle.seize.specs.declared.states.TheConstants.{LAST_SLOT}
-use Rattle.seize.specs.WaitingSets.{is_one_of}
 use Rattle.seize.specs.World.{World, Hand, Cutting, Handed, LeftTo, IsOnto, MayCut, Unlinks, LeavesOver, Runs, all_left_to, times}
 use Rattle.papaya_histories.proofs.Given.SeizeMoves.Moves.Takes.{first_doomed}
 use Rattle.papaya_histories.proofs.Given.SeizeMoves.State.Ghost.{can_carry, lies_with}
@@ -78,7 +77,7 @@ use Rattle.papaya_logged.proofs.SomeBehind.{fewer_behind, has_either, has_last, 
 module _ {T : Type 0} (defers : T → Option ℕ) (m : Mem T) (b : ℕ) where
   some_from : (o : Option ℕ) (x : ℕ) (xs l : List ℕ) → FurtherFrom m b o (x ∷ xs) → FurtherFrom m b o l → has_some l ≡ true
   some_from None x xs l f g = absurd (cc f)
-  some_from (Some field) x xs [] (word, there, next, some, is, entry, rest) (word2, there2, none) =
+  some_from (Some field) x xs [] (word, there, (next, some, is, entry, rest)) (word2, there2, none) =
       absurd (let one : Some word ≡ Some word2 = sym there ∙ there2 in let alike : word ≡ word2 = cc one in let zero : x * 2048 ≡ 0 = sym is ∙ alike ∙ none in omega (arith, some, zero))
   some_from (Some field) x xs (y ∷ l) f g = refl
 
@@ -144,7 +143,7 @@ module _ {K V S : Type 0} (same : K → K → Bool) (hash : K → ℕ) (name : �
   more some = has_more f.waits (waiting_by did.deed) some
 
   was : (b : ℕ) (r : Role) → IsOfMap r → known2.roles b ≡ r → known.roles b ≡ r
-  was b r of is = sym ((end_keeps same hash name m known s old new at whole i f here end said steps did of not_there comes).0 b (subst IsOfMap (sym is) of)) ∙ is
+  was b r kind is = sym ((end_keeps same hash name m known s old new at whole i f here end said steps did of not_there comes).0 b (subst IsOfMap (sym is) kind)) ∙ is
 
   -- what is left over then was not reclaimed
   untaken : (b : ℕ) → IsLeft (did.w2.hand b) → times b (taken_of did.deed) ≡ 0
@@ -323,10 +322,10 @@ module _ {K V S : Type 0} (same : K → K → Bool) (hash : K → ℕ) (name : �
         still_handed c runs.0 runs.2.0 (ap (λ (z : World (Node K V)). z.hand b) runs.2.1.4) ne handed left
       where
         still_handed : (c : ℕ) (v1 v2 : World (Node K V)) → v2.hand b ≡ all_left_to i (c ∷ []) v1.hand b → (b ≡ c → ⊥) → v1.hand b ≡ Handed → IsLeft (v2.hand b) → ⊥
-        still_handed c v1 v2 is ne handed left = handed_not_left (v2.hand b) (is ∙ other_left (is_one_of b (c ∷ [])) refl ∙ handed) left
+        still_handed c v1 v2 is ne handed left = handed_not_left (v2.hand b) (is ∙ other_left (b == c) refl ∙ handed) left
           where
-            other_left : (q : Bool) → is_one_of b (c ∷ []) ≡ q → (if q then LeftTo i else v1.hand b) ≡ v1.hand b
-            other_left true e = absurd (ne (grind (arith, e)))
+            other_left : (q : Bool) → (b == c) ≡ q → (if q || false then LeftTo i else v1.hand b) ≡ v1.hand b
+            other_left true e = absurd (ne (eqb-true b c e))
             other_left false e = refl
     table_untaken linked (LeavesTable c further) runs some = omega (arith, some)
     table_untaken linked (JoinsPair c word) runs some = omega (arith, some)

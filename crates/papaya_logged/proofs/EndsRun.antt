@@ -1,5 +1,5 @@
 -- The end of a map runs on: what its steps do follows one upon another, and each that is not the last one leaves less to do.
-use Rattle.std.specs.Prelude.{◌≡◌, ◌≢◌, ◌<◌, ◌≤◌, ◌+◌, ◌^◌, ℕ, Bool, true, false, List, [], ◌∷◌, ◌++◌, Option, Some, None, option_map}
+use Rattle.std.specs.Prelude.{◌≡◌, ◌≢◌, ◌<◌, ◌≤◌, ◌+◌, ◌^◌, ℕ, Bool, true, false, List, [], ◌∷◌, ◌++◌, Option, Some, None, option_map, if◌then◌else◌}
 use Rattle.std.proofs.Common.{refl, sym, ap, subst, ◌∙◌}
 use Rattle.std.proofs.lemmas.List.{append-nil, append_assoc}
 use Rattle.std.proofs.lemmas.Grind.{flat_map-append}
@@ -138,6 +138,7 @@ module _ {K V : Type 0} (s : Scene K V) (i : ℕ) (f : Finishing K V) where
         → TellsWaiting of f.chart began x noted (leads f1 here1).2.w2 (waits_by said leads)
         → (let s2 = ending_after same hash s1 new i f1 (leads f1 here1).0 (leads f1 here1).2.w2 (leads f1 here1).2.deed said (leads f1 here1).3 in
         TellsWaiting of f.chart began x noted s2.world (has_some (left_so s s2 i f (gone ++ taken_of (leads f1 here1).2.deed) (is_done said) (came_on said leads).ender)))
+    unfolding came_on
     waits_on of began x noted settled.Goes leads tells = tells
     waits_on of began x noted settled.Waits leads tells = absurd (leads f1 here1).3
     waits_on of began x noted (settled.Gave value) leads tells = tells
@@ -202,6 +203,7 @@ module _ {K V : Type 0} (s : Scene K V) (i : ℕ) (f : Finishing K V) where
 
 module _ {K V S : Type 0} (i map : ℕ) where
   pub ends_none : (l : Logged K V S) (xs : List Effect) → EndRan i map false xs xs l l
+  unfolding came_first
   ends_none l xs = (
     [],
     sym (append-nil xs),

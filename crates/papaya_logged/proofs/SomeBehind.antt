@@ -27,7 +27,7 @@ pub fewer_behind : (n : ℕ) (t : Table) (f : Deferral → Bool) (ds : List Defe
 fewer_behind n t f [] among = among
 fewer_behind n t f (d ∷ ds) among = by (f d) (same_table d.behind t) refl among (fewer_behind n t f ds)
   where
-    abbrev Among : List Deferral → Type 0
+    Among : List Deferral → Type 0
     Among xs = is_among n (behind t xs) ≡ true
 
     whole : (q : Bool) → same_table d.behind t ≡ q → is_among n (map (λ (x : Deferral). x.pair) (if q then d ∷ filter (λ (x : Deferral). same_table x.behind t) ds else filter (λ (x : Deferral). same_table x.behind t) ds)) ≡ true → Among (d ∷ ds)

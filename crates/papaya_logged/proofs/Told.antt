@@ -1,6 +1,6 @@
 -- Calls go on by what they are told, or asked, and the moment shows that.
-use Rattle.std.specs.Prelude.{◌≡◌, ℕ, Bool, List, Result, Ok}
-use Rattle.std.proofs.Common.{sym, subst}
+use Rattle.std.specs.Prelude.{◌≡◌, ℕ, Bool, true, false, List, Result, Ok}
+use Rattle.std.proofs.Common.{refl, sym, subst}
 use Rattle.papaya_raw.specs.Machine.{machine_replied}
 use Rattle.papaya_raw.specs.declared.machines.asking.Reply.{Reply as MachineReply}
 use Rattle.papaya_schedules.specs.Moment.{Moment}

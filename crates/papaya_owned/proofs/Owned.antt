@@ -3,6 +3,7 @@ pub mod Answered
 pub mod Blocks
 pub mod Calls
 pub mod ComesBack
+pub mod Firsts
 pub mod HandsBack
 pub mod Keys
 pub mod Lasts

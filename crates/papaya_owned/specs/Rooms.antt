@@ -1,5 +1,5 @@
 -- Room for pairs in the map of one owner.
-use Rattle.std.specs.Prelude.{◌≡◌, ◌≢◌, ℕ, ◌<◌, ◌≤◌, ◌^◌, ◌⊎◌, Bool, List, length, Result, Ok, Err, Some}
+use Rattle.std.specs.Prelude.{◌≡◌, ◌≢◌, ℕ, ◌<◌, ◌≤◌, ◌^◌, ◌⊎◌, ◌==◌, Bool, List, [], ◌∷◌, if◌then◌else◌, length, max, Result, Ok, Err, Some}
 use Rattle.seize_words.specs.Mem.{Mem, value_at, word_at}
 use Rattle.seize_words.specs.Word.{block_in}
 use Rattle.seize_words.specs.declared.at.At.TheVariants.{Root}
@@ -9,7 +9,7 @@ use Rattle.papaya_tables.specs.Lengths.{places_for}
 use Rattle.papaya_tables.specs.declared.node.Node.{Node}
 use Rattle.papaya_tables.specs.declared.node.Node.TheVariants as node
 use Rattle.papaya_tables.specs.declared.setting.Setting.{Setting}
-use Rattle.papaya_shown.specs.Chain.{CannotGrowIn}
+use Rattle.papaya_shown.specs.Chain.{CannotGrowIn, CountsTables, root_link, shapes_on}
 use Rattle.papaya_whole.specs.Given.Reserves.Reserve.{needed}
 use Rattle.papaya_whole.specs.Given.Late.Faults.{IsRoom}
 use Rattle.papaya_owned.specs.Owned.{Holds}
@@ -29,6 +29,18 @@ CannotMakeRoom setting m additional count = CannotGrowIn m setting ⊎ NeedTooMa
 -- Why there is no map with room for so many pairs: they are too many; or they are not, and memory was refused.
 abbrev pub IsUnmade : ℕ → Fault → Type 0
 IsUnmade pairs fault = ((fault ≡ Capacity) × AreTooMany pairs) ⊎ ((fault ≡ Memory) × (AreTooMany pairs → ⊥))
+
+-- the tables of a map that was just made with so many places, each by its places and its turn: none, or a first one
+abbrev pub tables_with : ℕ → List (ℕ × ℕ)
+tables_with places = if places == 0 then [] else (max places 8, 0) ∷ []
+
+-- of one that was just made for so many pairs: none for no pairs, or a first one with as many places as these need
+abbrev pub tables_for : ℕ → List (ℕ × ℕ)
+tables_for pairs = if pairs == 0 then [] else (needed pairs 0, 0) ∷ []
+
+-- the words of a map show these tables, from the first one on
+abbrev pub ShowTables : {K V : Type 0} → Setting → Mem (Node K V) → List (ℕ × ℕ) → Type 0
+ShowTables setting m shapes = (tables : CountsTables m (root_link m setting)) × (shapes_on m tables.0 (root_link m setting) ≡ shapes)
 
 -- The table of the root has as many places as so many further pairs need, beside so many that are there.
 pub record HasRoomFor {K V : Type 0} (setting : Setting) (m : Mem (Node K V)) (additional count : ℕ) : Type 0 where

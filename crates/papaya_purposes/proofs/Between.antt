@@ -49,7 +49,8 @@ use Rattle.papaya_histories.proofs.Now.{now_had}
 use Rattle.papaya_histories.specs.Given.Others.After.{ShowsAfter}
 use Rattle.papaya_histories.proofs.Given.Others.Walks.{fewer_calls, with_calls}
 use Rattle.papaya_purposes.specs.Kept.{TellsNone, PurposesBegin, CallsBeginPurposes, WalksGoOnPurposes, CallsComeToPurposes, EventsKeepPurposes, FirstStepsChangePairsFirst, StillStepsChangePairsFirst, RemovalsChangePairsFirst}
-use Rattle.papaya_purposes.specs.Purposes.{IsBefore, IsFor, HasAdded, RoomAt, HasMet, TellsDone, KeysOf, HasSwept, HasCome}
+use Rattle.papaya_purposes.specs.Purposes.{IsFor, HasAdded, RoomAt, HasMet, TellsDone, KeysOf, HasSwept, HasCome}
+use Rattle.papaya_named.specs.Machines.{IsBefore}
 use Rattle.papaya_purposes.proofs.For.{sweep_for}
 use Rattle.papaya_purposes.proofs.KeysOn.{keys_next}
 use Rattle.papaya_purposes.proofs.Present.{begins_within}

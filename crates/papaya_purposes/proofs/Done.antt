@@ -20,7 +20,8 @@ use Rattle.papaya_histories.specs.Given.Late.CoversSweeps.{DoneBy, DoneAt}
 use Rattle.papaya_histories.specs.Given.Callers.OverAll.{CallOverAll}
 use Rattle.papaya_histories.specs.Given.Callers.Together.{OverAll}
 use Rattle.papaya_purposes.specs.Kept.{ShowsNone}
-use Rattle.papaya_purposes.specs.Purposes.{IsBefore, IsFor, TellsDone}
+use Rattle.papaya_purposes.specs.Purposes.{IsFor, TellsDone}
+use Rattle.papaya_named.specs.Machines.{IsBefore}
 use Rattle.papaya_purposes.proofs.Lists.{all_on, all_both, maps_alike}
 use Rattle.papaya_purposes.proofs.Shown.{IsStill}
 

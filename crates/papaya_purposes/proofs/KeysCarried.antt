@@ -47,7 +47,8 @@ use Rattle.papaya_histories.proofs.Given.Callers.Together.Fits.{map_in_slot}
 use Rattle.papaya_histories.specs.Given.Finishes.Maps.{Standing, IsSameMap}
 use Rattle.papaya_histories.proofs.Given.Follows.Steps.{one_of}
 use Rattle.papaya_purposes.specs.Keys.{KeysAt, AreKeyed}
-use Rattle.papaya_purposes.specs.Purposes.{IsBefore, KeysOf}
+use Rattle.papaya_purposes.specs.Purposes.{KeysOf}
+use Rattle.papaya_named.specs.Machines.{IsBefore}
 use Rattle.papaya_purposes.proofs.KeysOn.{IsLow, StandsLow, keys_at_on}
 use Rattle.papaya_purposes.proofs.KeysSteps.{Leads, copies_lead, walk_leads}
 use Rattle.papaya_purposes.proofs.Lists.{all_on, all_both}

@@ -42,7 +42,8 @@ use Rattle.papaya_histories.specs.Given.Teller.declared.changed.Changed.TheVaria
 use Rattle.papaya_histories.proofs.Steps.{to}
 use Rattle.papaya_purposes.specs.Keys.{KeysAt, AreKeyed}
 use Rattle.papaya_purposes.specs.Kept.{ShowsNone}
-use Rattle.papaya_purposes.specs.Purposes.{IsBefore, KeysOf}
+use Rattle.papaya_purposes.specs.Purposes.{KeysOf}
+use Rattle.papaya_named.specs.Machines.{IsBefore}
 use Rattle.papaya_purposes.proofs.KeysCarried.{StandsMoved, stood_moved, keys_carried, keyed_carried, its_map, since, LeadsOn, leads_on}
 use Rattle.papaya_purposes.proofs.KeysOn.{StandsLow}
 use Rattle.papaya_purposes.proofs.Pairs.{pair_swept}

@@ -40,7 +40,7 @@ use Rattle.papaya_histories.proofs.Given.Late.Swept.Sweeps.Moved.{SweepMoves}
 use Rattle.papaya_histories.proofs.Given.Late.Swept.Sweeps.Tables.{upto_in, live_in, pair_some}
 use Rattle.papaya_purposes.specs.Keys.{of_class, StandsTo, KeysTo, KeysCame, KeysAt}
 use Rattle.papaya_purposes.specs.Kept.{ShowsNone}
-use Rattle.papaya_purposes.specs.Purposes.{IsBefore}
+use Rattle.papaya_named.specs.Machines.{IsBefore}
 use Rattle.papaya_purposes.proofs.KeysOn.{named_held, names_by, inside_of, IsLow, StandsLow}
 use Rattle.papaya_purposes.proofs.Onward.{not_walking, not_retaining}
 

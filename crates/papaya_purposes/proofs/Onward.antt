@@ -32,7 +32,7 @@ use Rattle.papaya_histories.specs.Given.Callers.Together.{OverAll, Stands}
 use Rattle.papaya_histories.specs.Given.Executor.Stepping.{StepsFrom}
 use Rattle.papaya_histories.specs.Given.Executor.declared.executor.Executor.{Executor}
 use Rattle.papaya_histories.proofs.Asking.{always_told, always_turned}
-use Rattle.papaya_purposes.specs.Purposes.{IsBefore}
+use Rattle.papaya_named.specs.Machines.{IsBefore}
 
 pub before_or : (p : Sweeping) → IsBefore p ⊎ (IsBefore p → ⊥)
 before_or at.Reads = inl tt

@@ -46,7 +46,8 @@ use Rattle.papaya_histories.proofs.Within.{within_on}
 use Rattle.papaya_histories.proofs.NoKey.Sweeps.{SweepsOn, sweeps_on}
 use Rattle.papaya_purposes.specs.Keys.{KeysAt, AreKeyed}
 use Rattle.papaya_purposes.specs.Kept.{ShowsNone, PairsChangeFirst}
-use Rattle.papaya_purposes.specs.Purposes.{IsBefore, IsFor, PairsWithin, HasAdded, RoomAt, HasMet, KeysOf, HasSwept, HasCome, ShowsPurposes}
+use Rattle.papaya_purposes.specs.Purposes.{IsFor, PairsWithin, HasAdded, RoomAt, HasMet, KeysOf, HasSwept, HasCome, ShowsPurposes}
+use Rattle.papaya_named.specs.Machines.{IsBefore}
 use Rattle.papaya_purposes.specs.Shards.{ReadsShards}
 use Rattle.papaya_purposes.proofs.Alike.{alike}
 use Rattle.papaya_purposes.proofs.Counts.{counts_on}

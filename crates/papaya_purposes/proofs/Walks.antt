@@ -57,7 +57,8 @@ use Rattle.papaya_histories.proofs.Later.{IsLater}
 use Rattle.papaya_histories.specs.Given.Moments.Whole.{ShowsWhole}
 use Rattle.papaya_purposes.specs.Keys.{KeysAt, AreKeyed}
 use Rattle.papaya_purposes.specs.Kept.{PairsChangeFirst, WalksShowPurposes}
-use Rattle.papaya_purposes.specs.Purposes.{IsBefore, IsFor, TellsDone, KeysOf, HasSwept, HasCome, ShowsPurposes}
+use Rattle.papaya_purposes.specs.Purposes.{IsFor, TellsDone, KeysOf, HasSwept, HasCome, ShowsPurposes}
+use Rattle.papaya_named.specs.Machines.{IsBefore}
 use Rattle.papaya_purposes.proofs.Done.{maps_kept}
 use Rattle.papaya_purposes.proofs.Kept.{then_at, v, next, number2, Which, which_is, begun_then, for_then, other_come}
 use Rattle.papaya_purposes.proofs.KeysMoved.{one_shown, carried, keyed_then, names_keyed}

@@ -8,8 +8,6 @@ use Rattle.papaya_histories.specs.Given.Resize.declared.sum.Summing.TheVariants 
 use Rattle.papaya_histories.specs.Given.Reserves.declared.reserve.Reserving.{Reserving}
 use Rattle.papaya_histories.specs.Given.Reserves.declared.reserve.Reserving.TheVariants as reserving
 use Rattle.papaya_histories.specs.Given.Sweeps.declared.sweep.Purpose.TheVariants.{Walks, Clears, Retains}
-use Rattle.papaya_histories.specs.Given.Sweeps.declared.sweep.Sweeping.{Sweeping}
-use Rattle.papaya_histories.specs.Given.Sweeps.declared.sweep.Sweeping.TheVariants as at
 use Rattle.papaya_histories.specs.Given.Schedules.declared.call.Call.{Call}
 use Rattle.papaya_histories.specs.Given.Schedules.declared.call.Call.TheVariants.{On, Reserve, Clear, Retain, Len, Walk}
 use Rattle.papaya_histories.specs.Given.Schedules.After.{moments_from}
@@ -29,13 +27,7 @@ use Rattle.papaya_histories.specs.Given.Finishes.Maps.{Standing}
 use Rattle.papaya_histories.specs.Given.Follows.Shows.{Shows}
 use Rattle.papaya_histories.specs.Histories.{since, IsWithin}
 use Rattle.papaya_purposes.specs.Keys.{KeysAt, AreKeyed}
-
--- until it goes over a table, a sweep stands there
-abbrev pub IsBefore : Sweeping → Type 0
-IsBefore at.Reads = Unit {0}
-IsBefore at.Follows = Unit {0}
-IsBefore (at.Copies copier) = Unit {0}
-IsBefore _ = ⊥
+use Rattle.papaya_named.specs.Machines.{IsBefore}
 
 -- by key, what a sweep that is a walk has come to in its map
 abbrev pub KeysOf : {K : Type 0} → (K → K → Bool) → Standing K → CallOverAll → Type 0

@@ -10,7 +10,7 @@ ghost use Rattle.papaya_tables.specs.Lengths.{IsTableLen};
 ghost use Rattle.papaya_tables.specs.Nodes.{deferred_word};
 ghost use Rattle.papaya_holds.specs.Held.{held_in};
 ghost use Rattle.papaya_owned.specs.Owned.{Holds, hashed_by};
-ghost use Rattle.papaya_owned.specs.Rooms.{AreTooMany};
+ghost use Rattle.papaya_owned.specs.Rooms.{AreTooMany, ShowTables, tables_for, tables_with};
 
 use papaya_owned::run;
 use papaya_raw::machines::NewMap;
@@ -29,6 +29,7 @@ pub fn places_for(capacity: u64) -> Result<u64, Fault>
     ensures initial { IfOk result (λ places. IsPowerOfTwo (max places 1)) }
     ensures table { IfOk result (λ places. IsTableLen (max places 8)) }
     ensures few { OnOk result (AreTooMany capacity → ⊥) }
+    ensures made { IfOk result (λ places. tables_with places ≡ tables_for capacity) }
     ensures fault { IfErr result (λ fault. (fault ≡ Capacity) × AreTooMany capacity) }
 {
     let entries = entries_for(capacity)?;
@@ -48,6 +49,7 @@ pub fn begin<K: Eq + Hash + Drop, V: Drop, S: BuildHasher>(
     requires initial { IsPowerOfTwo (max places 1) }
     requires table { IsTableLen (max places 8) }
     ensures held { IfOk result (λ setting. Holds K.eq (hashed_by S.Hasher.finish S.Hasher.write S.build_hasher K.hash_input _hasher.now) setting memory.new []) }
+    ensures tables { IfOk result (λ setting. ShowTables setting memory.new (tables_with places)) }
     ensures fault { IfErr result (λ fault. fault ≡ Memory) }
     ensures bare { ((b : ℕ) → value_at memory.old b ≡ None) → held_in memory.new ≡ [] }
 {

@@ -21,9 +21,9 @@ use Rattle.papaya_schedules.specs.Moment.{MapThere, Moment}
 use Rattle.papaya_schedules.specs.Terms.{Terms}
 use Rattle.papaya_schedules.specs.Views.{map_of, number_of}
 use Rattle.papaya_rows.proofs.Lists.{is_found, none_kept}
-use Rattle.papaya_scheduler.specs.Seen.{named}
+use Rattle.papaya_named.specs.Seen.{named}
 use Rattle.papaya_scheduler.specs.declared.played.Played.{Played}
-use Rattle.papaya_scheduler.proofs.MapLists.{kept_map}
+use Rattle.papaya_mapping.proofs.MapLists.{kept_map}
 use Rattle.papaya_running.specs.Asked.{FindsBy, is_of_calls, is_of_maps, numbers_on}
 
 -- names are apart
@@ -89,6 +89,11 @@ none_of_both : {X : Type 0} (o : Option X) (q : Bool) → (is_none o && q) ≡ t
 none_of_both None q e = refl
 none_of_both (Some x) q e = absurd (cc e)
 
+-- an event that is done is refused nothing
+never_done : (V : Type 0) (fault : Option Fault) → MatchOption fault (◌≡◌ {A = Outcome V} Done (Refused Busy)) (λ f. ◌≡◌ {A = Outcome V} Done (Refused f)) → ⊥
+never_done V None so = cc so
+never_done V (Some f) so = cc so
+
 module _ {K V : Type 0} where
   -- an event has begun what it begins: one map more has a number if it makes one
   pub made_begun : (e : Event K V) (o : Outcome V) (m : Moment K V) → (begun e o m).made ≡ numbers_on e o m.made
@@ -129,37 +134,33 @@ module _ {K V : Type 0} where
 
   -- one that makes no map leaves how many there are,
   pub still_counts : (e : Event K V) (o : Outcome V) (count : ℕ) → ((n : List ℕ) (mode : ResizeMode) (c : ℕ) → e ≡ MakeMap n mode c → ⊥) → numbers_on e o count ≡ count
-  still_counts (Collector setup) o count no = refl
-  still_counts (Hash by) o count no = refl
-  still_counts (Choose choice) o count no = refl
-  still_counts (Register r) o count no = refl
-  still_counts (Unregister r) o count no = refl
-  still_counts (Enter g r) o count no = refl
-  still_counts (Own g) o count no = refl
-  still_counts (Refresh g) o count no = refl
-  still_counts (Flush g) o count no = refl
-  still_counts (DropGuard g) o count no = refl
-  still_counts (Forget g) o count no = refl
-  still_counts ReclaimAll o count no = refl
-  still_counts Close o count no = refl
-  still_counts (MakeMap n mode c) o count no = absurd (no n mode c refl)
-  still_counts (EndMap n) o count no = refl
-  still_counts (ShowShape n) o count no = refl
-  still_counts (Begin c g n call) o count no = refl
-  still_counts (Step c refuse) o count no = refl
-  still_counts (Go c refuse) o count no = refl
-  still_counts (Replied c reply) o count no = refl
-  still_counts (OneCall g n call) o count no = refl
-  still_counts (Next c) o count no = refl
-  still_counts (Stop c) o count no = refl
+  still_counts (Collector setup) o count other = refl
+  still_counts (Hash by) o count other = refl
+  still_counts (Choose choice) o count other = refl
+  still_counts (Register r) o count other = refl
+  still_counts (Unregister r) o count other = refl
+  still_counts (Enter g r) o count other = refl
+  still_counts (Own g) o count other = refl
+  still_counts (Refresh g) o count other = refl
+  still_counts (Flush g) o count other = refl
+  still_counts (DropGuard g) o count other = refl
+  still_counts (Forget g) o count other = refl
+  still_counts ReclaimAll o count other = refl
+  still_counts Close o count other = refl
+  still_counts (MakeMap n mode c) o count other = absurd (other n mode c refl)
+  still_counts (EndMap n) o count other = refl
+  still_counts (ShowShape n) o count other = refl
+  still_counts (Begin c g n call) o count other = refl
+  still_counts (Step c refuse) o count other = refl
+  still_counts (Go c refuse) o count other = refl
+  still_counts (Replied c reply) o count other = refl
+  still_counts (OneCall g n call) o count other = refl
+  still_counts (Next c) o count other = refl
+  still_counts (Stop c) o count other = refl
 
   -- and so does one that is kept out
-  never_done : (fault : Option Fault) → MatchOption fault (◌≡◌ {A = Outcome V} Done (Refused Busy)) (λ f. ◌≡◌ {A = Outcome V} Done (Refused f)) → ⊥
-  never_done None so = cc so
-  never_done (Some f) so = cc so
-
   pub out_counts : (e : Event K V) (o : Outcome V) (count : ℕ) → IsKeptOut e o → numbers_on e o count ≡ count
-  out_counts (MakeMap n mode c) Done count out = absurd (never_done (map_fault mode c) out)
+  out_counts (MakeMap n mode c) Done count out = absurd (never_done V (map_fault mode c) out)
   out_counts (MakeMap n mode c) o count out = refl
   out_counts (Collector setup) o count out = refl
   out_counts (Hash by) o count out = refl
@@ -224,9 +225,9 @@ module _ {K V : Type 0} where
       where
         by : (out : Bool) (fault : Option Fault) (may : Bool) → may_make terms.is_one_map n m ≡ may
             → MatchBool out (MatchOption fault (◌≡◌ {A = Outcome V} Done (Refused Busy)) (λ f. ◌≡◌ {A = Outcome V} Done (Refused f)))
-            (MatchOption fault (InTurn may (IsMade (nat_lt (length (used_roots m)) terms.roots) e.effects) Done) (λ f. ◌≡◌ {A = Outcome V} Done (Refused f)))
+            (MatchOption fault (InTurn {V = V} may (IsMade (nat_lt (length (used_roots m)) terms.roots) e.effects) Done) (λ f. ◌≡◌ {A = Outcome V} Done (Refused f)))
             → map_of n m ≡ None
-        by true fault may is so = absurd (never_done fault so)
+        by true fault may is so = absurd (never_done V fault so)
         by false (Some f) may is so = absurd (cc so)
         by false None false is so = absurd (cc so)
         by false None true is so = none_of_both (map_of n m) (not (terms.is_one_map && nat_lt 0 m.made)) is
@@ -283,8 +284,8 @@ module _ {K V : Type 0} where
     counts_as form is so = subst CountsOn (sym is) so
 
     pub counts_still : ((n : List ℕ) (mode : ResizeMode) (c : ℕ) → event ≡ MakeMap n mode c → ⊥) → new ≡ old → CountsOn event
-    counts_still no is = by result
+    counts_still other is = by result
       where
         by : (r : Result (Played V) X) → IfOk r (λ played. new ≡ numbers_on event played.outcome old)
-        by (Ok played) = is ∙ sym (still_counts event played.outcome old no)
+        by (Ok played) = is ∙ sym (still_counts event played.outcome old other)
         by (Err x) = tt

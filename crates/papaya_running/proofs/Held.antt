@@ -11,6 +11,7 @@ use Rattle.papaya_histories.specs.Given.Finishes.Maps.{Standing}
 use Rattle.papaya_histories.specs.Given.Moments.Numbers.{NumbersMaps, PairsAreBelow}
 use Rattle.papaya_histories.proofs.Given.Moments.NewMaps.{effects_keep_pairs}
 use Rattle.papaya_histories.proofs.Given.Moments.Numbers.{found_of, maps_come_by_number}
+use Rattle.papaya_histories.specs.Given.Tables.declared.resize_mode.ResizeMode.{ResizeMode}
 use Rattle.papaya_runs.specs.Same.{is_same}
 use Rattle.papaya_schedules.specs.declared.call.Call.{Call}
 use Rattle.papaya_schedules.specs.declared.event.Event.{Event}
@@ -18,9 +19,10 @@ use Rattle.papaya_schedules.specs.declared.event.Event.TheVariants.{Collector, H
 use Rattle.papaya_schedules.specs.declared.outcome.Outcome.{Outcome}
 use Rattle.papaya_schedules.specs.declared.outcome.Outcome.TheVariants.{Done, Goes}
 use Rattle.papaya_schedules.specs.After.{moment}
-use Rattle.papaya_schedules.specs.Beginning.{at_work, begun, fresh_call, with_call}
+use Rattle.papaya_schedules.specs.Beginning.{at_work, begun, fresh_call, used_roots, with_call}
 use Rattle.papaya_schedules.specs.Entry.{Entry, acted_on, caller_of, is_busy, nameless}
 use Rattle.papaya_schedules.specs.Effects.{worked}
+use Rattle.papaya_schedules.specs.Lists.{least_free}
 use Rattle.papaya_schedules.specs.Moment.{MapThere, Moment, Place, TableThere}
 use Rattle.papaya_schedules.specs.Terms.{Terms}
 use Rattle.papaya_schedules.specs.Views.{call_of, map_of, number_of}
@@ -36,11 +38,11 @@ use Rattle.papaya_rows.proofs.Lists.{found_has}
 use Rattle.papaya_scheduler.specs.Mapping.{CountsMaps}
 use Rattle.papaya_scheduler.specs.Played.{IsPlayed, IsUnderWay, Plays, entry_of, terms_given}
 use Rattle.papaya_scheduler.specs.Reclaiming.{MayGiveAll}
-use Rattle.papaya_scheduler.specs.Seen.{is_named, named, named_of}
-use Rattle.papaya_scheduler.specs.declared.caller.Caller.{Caller}
+use Rattle.papaya_named.specs.Seen.{is_named, named, named_of}
+use Rattle.papaya_named.specs.declared.caller.Caller.{Caller}
 use Rattle.papaya_scheduler.specs.declared.played.Played.{Played}
 use Rattle.papaya_scheduler.specs.declared.scheduler.Scheduler.{Scheduler}
-use Rattle.papaya_scheduler.proofs.MapLists.{all_back, all_seen}
+use Rattle.papaya_mapping.proofs.MapLists.{all_back, all_seen}
 use Rattle.papaya_scheduler.proofs.RanOn.{maps_named}
 use Rattle.papaya_running.specs.Asked.{FindsRight, HappensAt, Holds, HoldsThen, numbers_on}
 use Rattle.papaya_running.proofs.Counts.{NamesApart, begun_apart, gone_apart, made_begun, named_apart}
@@ -95,12 +97,16 @@ module _ {K V S : Type 0} (same : K → K → Bool) (hash : K → ℕ) (terms : 
       by true below e = let one : k ≡ n = cc e in subst (λ (x : ℕ). x < m.made) one below
       by false below e = called_below nameless n e
 
+  -- the map that is made
+  abbrev made_now : List ℕ → ResizeMode → ℕ → MapThere
+  made_now own mode capacity = record { name = own; number = m.made; root = least_free (used_roots m); mode = mode; capacity = capacity; first = 0 }
+
   acted_below : (event : Event K V) (o : Outcome V) (n : ℕ) → acted_on event (begun event o m) ≡ Some n → n < (begun event o m).made
   acted_below (Step c refuse) o n is = called_below c n is
   acted_below (Go c refuse) o n is = called_below c n is
   acted_below (Next c) o n is = called_below c n is
   acted_below (OneCall g own call) o n is = whole_below g own call (is_busy o) (number_of own m) refl n is
-  acted_below (MakeMap own mode c) Done n is = named_below (begun (MakeMap own mode c) Done m) (maps_come_by_number K V m holds.counts.apart.numbers _ refl).0 own n is
+  acted_below (MakeMap own mode c) Done n is = named_below (begun (MakeMap own mode c) Done m) (maps_come_by_number K V m holds.counts.apart.numbers (made_now own mode c) refl).0 own n is
   acted_below (MakeMap own mode c) o n is = named_below m holds.counts.apart.numbers own n is
   acted_below (EndMap own) o n is = named_below m holds.counts.apart.numbers own n is
   acted_below (Collector setup) o n is = absurd (cc is)

@@ -20,8 +20,8 @@ use Rattle.papaya_schedules.specs.Terms.{Terms}
 use Rattle.papaya_schedules.specs.Views.{call_of, map_of, number_of}
 use Rattle.papaya_rows.proofs.Lists.{found_alike}
 use Rattle.papaya_scheduler.specs.Played.{StandsFor}
-use Rattle.papaya_scheduler.specs.Seen.{Seen, is_named, number_named, seen, seen_of}
-use Rattle.papaya_scheduler.specs.declared.caller.Caller.{Caller}
+use Rattle.papaya_named.specs.Seen.{Seen, is_named, number_named, seen, seen_of}
+use Rattle.papaya_named.specs.declared.caller.Caller.{Caller}
 use Rattle.papaya_scheduler.specs.declared.scheduler.Scheduler.{Scheduler}
 use Rattle.papaya_scheduler.proofs.Maps.{number_is}
 use Rattle.papaya_running.specs.Acting.{acting_of, called_map, map_acted, or_else, singles_as, traced}

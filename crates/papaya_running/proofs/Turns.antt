@@ -22,9 +22,9 @@ use Rattle.papaya_schedules.specs.Runs.{Lists, ShowsMaps, log_of, log_on, single
 use Rattle.papaya_schedules.specs.Terms.{Terms}
 use Rattle.papaya_schedules.specs.Views.{is_in_a_map, is_in_map, is_retired, is_waiting}
 use Rattle.papaya_scheduler.specs.Played.{entry_of}
-use Rattle.papaya_scheduler.specs.Seen.{named, named_of}
+use Rattle.papaya_named.specs.Seen.{named, named_of}
 use Rattle.papaya_scheduler.specs.declared.played.Played.{Played}
-use Rattle.papaya_scheduler.specs.declared.scheduler.NamedMap.{NamedMap}
+use Rattle.papaya_named.specs.declared.named_map.NamedMap.{NamedMap}
 use Rattle.papaya_scheduler.specs.declared.scheduler.Scheduler.{Scheduler}
 use Rattle.papaya_running.specs.Acting.{acting_of, map_acted, singles_as, traced}
 use Rattle.papaya_running.specs.Asked.{Happens, Holds}

@@ -2,8 +2,8 @@
 ghost use Rattle.std.specs.Prelude.{◌≡◌, map, IfOk};
 ghost use Rattle.papaya_running.specs.Ending.{shown_of, told_map};
 
+use papaya_named::named_map::NamedMap;
 use papaya_runs::record::Living;
-use papaya_scheduler::scheduler::NamedMap;
 use papaya_tally::tally::Tally;
 use std::alloc::{AllocError, Global};
 

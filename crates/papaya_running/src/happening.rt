@@ -4,6 +4,9 @@ ghost use Rattle.papaya_histories.specs.Given.Executor.IsAt.{StaysGiven, KeepsGi
 ghost use Rattle.papaya_running.specs.Asked.{HappensAt, HappensDue, HoldsThen, MayHappen, MayHappenDue, is_of_calls, is_of_maps, numbers_on};
 ghost use Rattle.papaya_running.specs.Back.{GivesAt, GivesDue};
 
+use papaya_mapping::endings::end_map;
+use papaya_mapping::makings::make_map;
+use papaya_mapping::reclaims::{close, reclaim_all};
 use papaya_raw::Hashes;
 use papaya_runs::record::Pair;
 use papaya_scheduler::played::Played;
@@ -33,11 +36,11 @@ fn of_maps<K: Eq + Hash + Drop, V: Drop, S: Hashes<K>>(
             map,
             mode,
             capacity,
-        } => scheduler.make_map(map, mode, capacity),
-        Event::EndMap { map } => scheduler.end_map(&map, back),
+        } => make_map(scheduler, map, mode, capacity),
+        Event::EndMap { map } => end_map(scheduler, &map, back),
         Event::ShowShape { map } => scheduler.show_shape(&map),
-        Event::ReclaimAll => scheduler.reclaim_all(back),
-        Event::Close => scheduler.close(back),
+        Event::ReclaimAll => reclaim_all(scheduler, back),
+        Event::Close => close(scheduler, back),
         _ => unreachable!(),
     }
 }

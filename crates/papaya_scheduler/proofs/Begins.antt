@@ -27,14 +27,14 @@ use Rattle.papaya_histories.proofs.Given.Follows.Calling.{apart_back, is_same_is
 use Rattle.papaya_logged.specs.Calling.{CallBegins}
 use Rattle.papaya_logged.specs.Shown.{IsShown}
 use Rattle.papaya_logged.specs.declared.logged.Logged.{Logged}
-use Rattle.papaya_scheduler.specs.Machines.{IsAsFar, machine_for}
+use Rattle.papaya_named.specs.Machines.{IsAsFar, machine_for}
 use Rattle.papaya_scheduler.specs.Played.{BeginsSo, CallsAre, IsUnderWay, StandsFor}
-use Rattle.papaya_scheduler.specs.Seen.{Seen, is_named, kind_of, seen, seen_of, setting_named}
-use Rattle.papaya_scheduler.specs.declared.caller.Caller.{Caller}
-use Rattle.papaya_scheduler.specs.declared.caller.Callers.{Callers}
-use Rattle.papaya_scheduler.specs.declared.caller.Stands.TheVariants as far
+use Rattle.papaya_named.specs.Seen.{Seen, is_named, kind_of, seen, seen_of, setting_named}
+use Rattle.papaya_named.specs.declared.caller.Caller.{Caller}
+use Rattle.papaya_named.specs.declared.caller.Callers.{Callers}
+use Rattle.papaya_named.specs.declared.caller.Stands.TheVariants as far
 use Rattle.papaya_scheduler.specs.declared.scheduler.Scheduler.{Scheduler}
-use Rattle.papaya_scheduler.proofs.Called.{begins_for_room, begun_call, begins_so, is_as_far, is_begun_for, is_called, its_machine}
+use Rattle.papaya_named.proofs.Called.{begins_for_room, begun_call, begins_so, is_as_far, is_begun_for, is_called, its_machine}
 use Rattle.papaya_rows.proofs.Facts.{no_ending_of, no_making_of, no_work_at, row_rests, slot_fits, used_still}
 use Rattle.papaya_rows.proofs.Lists.{all_but, all_so, as_some, found_alike, is_found, none_kept, one_of}
 use Rattle.papaya_scheduler.proofs.Maps.{setting_of_it, setting_some}

@@ -15,7 +15,7 @@ use Rattle.papaya_executor.specs.declared.row.SlotUse.TheVariants as used
 use Rattle.papaya_executor.specs.declared.worker.TheConstants.{SLOTS}
 use Rattle.papaya_rows.specs.Rows.{used_as}
 use Rattle.papaya_scheduler.specs.Played.{IsUnderWay, StandsFor}
-use Rattle.papaya_scheduler.specs.Seen.{free_slot}
+use Rattle.papaya_named.specs.Seen.{free_slot}
 use Rattle.papaya_scheduler.specs.declared.scheduler.Scheduler.{Scheduler}
 use Rattle.papaya_rows.proofs.Facts.{slot_fits}
 use Rattle.papaya_rows.proofs.Lists.{all_but}

@@ -32,7 +32,7 @@ use Rattle.papaya_logged.specs.Ended.{has_ended, uses_ended}
 use Rattle.papaya_logged.specs.declared.logged.Logged.{Logged}
 use Rattle.papaya_scheduler.specs.Played.{IsDue, IsUnderWay, Plays, StandsFor}
 use Rattle.papaya_rows.specs.Rows.{RowRan, RowRanOn, left_as, used_as}
-use Rattle.papaya_scheduler.specs.Seen.{free_slot}
+use Rattle.papaya_named.specs.Seen.{free_slot}
 use Rattle.papaya_scheduler.specs.declared.scheduler.Scheduler.{Scheduler}
 use Rattle.papaya_scheduler.proofs.Dropped.{each_left, fits, free_lives, inside, nobody_else, none_left, others_used, used_still}
 use Rattle.papaya_rows.proofs.Holders.{none_has}

@@ -9,8 +9,8 @@ use Rattle.papaya_executor.specs.declared.row.SlotUse.TheVariants as used
 use Rattle.papaya_logged.specs.Shown.{IsShown}
 use Rattle.papaya_rows.specs.Rows.{used_as}
 use Rattle.papaya_scheduler.specs.Played.{CallsAre, IsPlayed, MapsAre, terms_given}
-use Rattle.papaya_scheduler.specs.declared.caller.Caller.{Caller}
-use Rattle.papaya_scheduler.specs.declared.scheduler.NamedMap.{NamedMap}
+use Rattle.papaya_named.specs.declared.caller.Caller.{Caller}
+use Rattle.papaya_named.specs.declared.named_map.NamedMap.{NamedMap}
 use Rattle.papaya_scheduler.specs.declared.scheduler.Scheduler.{Scheduler}
 use Rattle.papaya_rows.proofs.Facts.{no_work_at, used_once}
 use Rattle.papaya_rows.proofs.Names.{nobody_named}

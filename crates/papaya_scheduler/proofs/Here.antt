@@ -9,8 +9,8 @@ use Rattle.papaya_schedules.specs.Terms.{Terms}
 use Rattle.papaya_schedules.specs.Views.{call_of}
 use Rattle.papaya_histories.proofs.Given.Follows.Calling.{is_same_is}
 use Rattle.papaya_scheduler.specs.Played.{AsFar, IsUnderWayAs, StandsAs, StandsFor}
-use Rattle.papaya_scheduler.specs.Seen.{Seen, is_named, seen, seen_of}
-use Rattle.papaya_scheduler.specs.declared.caller.Caller.{Caller}
+use Rattle.papaya_named.specs.Seen.{Seen, is_named, seen, seen_of}
+use Rattle.papaya_named.specs.declared.caller.Caller.{Caller}
 use Rattle.papaya_scheduler.specs.declared.scheduler.Scheduler.{Scheduler}
 use Rattle.papaya_rows.proofs.Lists.{got, as_some, both_some, found_alike, found_has, found_passes, is_found, place_found, place_is, place_some}
 

@@ -23,8 +23,9 @@ use Rattle.papaya_histories.specs.Given.Hands.Calling.{AsksJust}
 use Rattle.papaya_histories.proofs.Given.Moments.Calls.{calls_come_to_whole}
 use Rattle.papaya_kept.proofs.Stays.{calls_come_to_kept}
 use Rattle.papaya_scheduler.specs.Played.{IsPlayed, Plays, StandsFor}
-use Rattle.papaya_scheduler.specs.Seen.{Seen, seen, seen_of}
-use Rattle.papaya_scheduler.specs.Turns.{is_that, keeps_out}
+use Rattle.papaya_named.specs.Seen.{Seen, seen, seen_of}
+use Rattle.papaya_named.specs.Turns.{is_that}
+use Rattle.papaya_scheduler.specs.Turns.{keeps_out}
 use Rattle.papaya_scheduler.specs.declared.scheduler.Scheduler.{Scheduler}
 use Rattle.papaya_logged.proofs.Counted.{counted_calls}
 use Rattle.papaya_rows.proofs.Elsewhere.{elsewhere, shown_elsewhere, kept_elsewhere, counted_elsewhere}

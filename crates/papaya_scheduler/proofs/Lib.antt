@@ -8,12 +8,10 @@ pub mod KeptOut
 pub mod Refused
 pub mod Seats
 pub mod Maps
-pub mod Called
 pub mod Begins
 pub mod ShapesHere
 pub mod RanOn
 pub mod Enters
-pub mod Takes
 pub mod Here
 pub mod Replied
 pub mod Stopped
@@ -31,11 +29,3 @@ pub mod Vacancies
 pub mod SlotTaken
 pub mod Registers
 pub mod Owns
-pub mod MapLists
-pub mod Mapped
-pub mod EndsLeave
-pub mod MapsEnded
-pub mod RootsUsed
-pub mod MapNumbers
-pub mod MapsMade
-mod AllGiven

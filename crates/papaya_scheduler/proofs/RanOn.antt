@@ -25,8 +25,8 @@ use Rattle.papaya_histories.proofs.Given.Others.Quiet.{calls_none}
 use Rattle.papaya_histories.specs.Given.Tables.declared.node.Node.{Node}
 use Rattle.papaya_scheduler.specs.Played.{IsUnderWay, StandsFor}
 use Rattle.papaya_rows.specs.Rows.{RowRan, used_as}
-use Rattle.papaya_scheduler.specs.Seen.{named, seen}
-use Rattle.papaya_scheduler.specs.declared.scheduler.NamedMap.{NamedMap}
+use Rattle.papaya_named.specs.Seen.{named, seen}
+use Rattle.papaya_named.specs.declared.named_map.NamedMap.{NamedMap}
 use Rattle.papaya_scheduler.specs.declared.scheduler.Scheduler.{Scheduler}
 use Rattle.papaya_remains.proofs.Stays.{remains_stay}
 use Rattle.papaya_rows.proofs.Elsewhere.{elsewhere, shown_elsewhere, kept_elsewhere, counted_elsewhere}

@@ -29,7 +29,7 @@ use Rattle.papaya_logged.specs.Ended.{has_ended}
 use Rattle.papaya_logged.specs.declared.logged.Logged.{Logged}
 use Rattle.papaya_scheduler.specs.Played.{IsDue, Plays, StandsFor}
 use Rattle.papaya_rows.specs.Rows.{RowRan, RowRanOn, used_as}
-use Rattle.papaya_scheduler.specs.Seen.{free_slot}
+use Rattle.papaya_named.specs.Seen.{free_slot}
 use Rattle.papaya_scheduler.specs.declared.scheduler.Scheduler.{Scheduler}
 use Rattle.papaya_scheduler.proofs.Dropped.{fits, free_lives, inside, nobody_else}
 use Rattle.papaya_rows.proofs.Holders.{none_has}

@@ -60,20 +60,20 @@ use Rattle.papaya_histories.specs.Given.Points.Told.{IsRowOfCall}
 use Rattle.papaya_logged.specs.Calling.{CallTakes}
 use Rattle.papaya_logged.specs.Shown.{IsShown}
 use Rattle.papaya_logged.specs.declared.logged.Logged.{Logged}
-use Rattle.papaya_scheduler.specs.Machines.{IsAsFar, IsFor, RefusedForRoom}
+use Rattle.papaya_named.specs.Machines.{IsAsFar, IsFor, RefusedForRoom}
 use Rattle.papaya_scheduler.specs.Played.{CallsAre, IsDue, IsUnderWay, Plays, StandsFor}
-use Rattle.papaya_scheduler.specs.Seen.{Seen, asks, far_of, fits, is_named, kind_of, kind_on, seen, seen_of, takes}
-use Rattle.papaya_scheduler.specs.declared.caller.Caller.{Caller}
-use Rattle.papaya_scheduler.specs.declared.caller.Callers.{Callers}
-use Rattle.papaya_scheduler.specs.declared.caller.Stands.{Stands as HowFar}
-use Rattle.papaya_scheduler.specs.declared.caller.Stands.TheVariants as far
-use Rattle.papaya_scheduler.specs.declared.kind.Kind.{Kind}
+use Rattle.papaya_named.specs.Seen.{Seen, asks, far_of, fits, is_named, kind_of, kind_on, seen, seen_of, takes}
+use Rattle.papaya_named.specs.declared.caller.Caller.{Caller}
+use Rattle.papaya_named.specs.declared.caller.Callers.{Callers}
+use Rattle.papaya_named.specs.declared.caller.Stands.{Stands as HowFar}
+use Rattle.papaya_named.specs.declared.caller.Stands.TheVariants as far
+use Rattle.papaya_named.specs.declared.kind.Kind.{Kind}
 use Rattle.papaya_scheduler.specs.declared.scheduler.Scheduler.{Scheduler}
 use Rattle.papaya_rows.proofs.Facts.{no_ending_of, no_making_of, no_work_at, row_rests, used_still}
 use Rattle.papaya_scheduler.proofs.Here.{Here, here_at, there_is}
 use Rattle.papaya_rows.proofs.Lists.{changed_at, set_all, set_any, set_count}
 use Rattle.papaya_scheduler.proofs.Quiet.{stands_on}
-use Rattle.papaya_scheduler.proofs.Takes.{key_takes, sweep_takes}
+use Rattle.papaya_named.proofs.Takes.{key_takes, sweep_takes}
 use Rattle.papaya_scheduler.proofs.Rights.{in_turn, out_of_turn, plays, quiet}
 
 -- What a call on a key was begun with, and told since, says of which kind it is.

@@ -16,7 +16,7 @@ use Rattle.papaya_schedules.specs.Terms.{Terms}
 use Rattle.papaya_effects.specs.Known.{known}
 use Rattle.papaya_rows.specs.Rows.{used_as}
 use Rattle.papaya_scheduler.specs.Played.{IsDue, IsUnderWay, Plays, StandsFor}
-use Rattle.papaya_scheduler.specs.Seen.{Seen, free_slot, seen, seen_of}
+use Rattle.papaya_named.specs.Seen.{Seen, free_slot, seen, seen_of}
 use Rattle.papaya_scheduler.specs.declared.scheduler.Scheduler.{Scheduler}
 use Rattle.papaya_rows.proofs.Elsewhere.{elsewhere, shown_elsewhere, kept_elsewhere, counted_elsewhere}
 use Rattle.papaya_rows.proofs.Lists.{all_but, any_alike}

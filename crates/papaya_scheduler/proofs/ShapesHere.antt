@@ -26,7 +26,7 @@ use Rattle.papaya_schedules.specs.Views.{first_of, first_or, map_of, number_of, 
 use Rattle.papaya_histories.specs.Given.Finishes.Maps.{Standing}
 use Rattle.papaya_histories.specs.Given.Follows.Maps.{tables_to}
 use Rattle.papaya_scheduler.specs.Played.{IsDue, Plays, StandsFor}
-use Rattle.papaya_scheduler.specs.Seen.{setting_named}
+use Rattle.papaya_named.specs.Seen.{setting_named}
 use Rattle.papaya_scheduler.specs.Shapes.{shape_of}
 use Rattle.papaya_scheduler.specs.declared.scheduler.Scheduler.{Scheduler}
 use Rattle.papaya_scheduler.proofs.Maps.{setting_of_it, setting_some}

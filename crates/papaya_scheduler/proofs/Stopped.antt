@@ -35,14 +35,14 @@ use Rattle.papaya_logged.specs.Calling.{WalkStops}
 use Rattle.papaya_logged.specs.Shown.{IsShown}
 use Rattle.papaya_logged.specs.declared.logged.Logged.{Logged}
 use Rattle.papaya_histories.specs.Given.Others.Walks.{given_up}
-use Rattle.papaya_scheduler.specs.Machines.{IsAsFar}
+use Rattle.papaya_named.specs.Machines.{IsAsFar}
 use Rattle.papaya_scheduler.specs.Played.{CallsAre, IsDue, IsUnderWay, Plays, StandsFor}
-use Rattle.papaya_scheduler.specs.Seen.{Seen, far_of, if_ready, is_named, is_ready as is_ready_there, ready_place, seen, seen_of, shows}
-use Rattle.papaya_scheduler.specs.declared.caller.Caller.{Caller}
-use Rattle.papaya_scheduler.specs.declared.caller.Callers.{Callers}
-use Rattle.papaya_scheduler.specs.declared.caller.Stands.{Stands as HowFar}
-use Rattle.papaya_scheduler.specs.declared.caller.Stands.TheVariants as far
-use Rattle.papaya_scheduler.specs.declared.kind.Kind.{Kind}
+use Rattle.papaya_named.specs.Seen.{Seen, far_of, if_ready, is_named, is_ready as is_ready_there, ready_place, seen, seen_of, shows}
+use Rattle.papaya_named.specs.declared.caller.Caller.{Caller}
+use Rattle.papaya_named.specs.declared.caller.Callers.{Callers}
+use Rattle.papaya_named.specs.declared.caller.Stands.{Stands as HowFar}
+use Rattle.papaya_named.specs.declared.caller.Stands.TheVariants as far
+use Rattle.papaya_named.specs.declared.kind.Kind.{Kind}
 use Rattle.papaya_scheduler.specs.declared.scheduler.Scheduler.{Scheduler}
 use Rattle.papaya_rows.proofs.Facts.{no_ending_of, no_making_of, no_work_at, row_rests, used_still}
 use Rattle.papaya_scheduler.proofs.Here.{Here, here_at, there_is}

@@ -1,6 +1,3 @@
-pub mod Seen
-pub mod Machines
-pub mod Telling
 pub mod Shapes
 pub mod Turns
 pub mod Played

@@ -18,9 +18,9 @@ use Rattle.papaya_schedules.specs.Terms.{Terms}
 use Rattle.papaya_histories.specs.Given.Moments.Numbers.{NumbersMaps, PairsAreBelow}
 use Rattle.papaya_logged.specs.Roots.{AreTaken}
 use Rattle.papaya_scheduler.specs.Played.{IsDue, Plays, entry_of}
-use Rattle.papaya_scheduler.specs.Seen.{number_named}
+use Rattle.papaya_named.specs.Seen.{number_named}
 use Rattle.papaya_scheduler.specs.declared.played.Played.{Played}
-use Rattle.papaya_scheduler.specs.declared.scheduler.NamedMap.{NamedMap}
+use Rattle.papaya_named.specs.declared.named_map.NamedMap.{NamedMap}
 use Rattle.papaya_scheduler.specs.declared.scheduler.Scheduler.{Scheduler}
 
 -- a map of this name can be made: none has it, and there may be one more

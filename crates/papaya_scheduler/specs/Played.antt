@@ -18,13 +18,13 @@ use Rattle.papaya_executor.specs.IsAt.{Scene, slot_of, use_at, work_of}
 use Rattle.papaya_histories.specs.Given.Finishes.Machines.{machine_of}
 use Rattle.papaya_histories.specs.Given.Finishes.Maps.{Standing}
 use Rattle.papaya_logged.specs.Shown.{IsShown}
-use Rattle.papaya_scheduler.specs.Machines.{IsAsFar, RefusedForRoom}
+use Rattle.papaya_named.specs.Machines.{IsAsFar, RefusedForRoom}
 use Rattle.papaya_rows.specs.Rows.{used_as}
-use Rattle.papaya_scheduler.specs.Seen.{is_named, named, named_of, seen, seen_of}
-use Rattle.papaya_scheduler.specs.declared.caller.Caller.{Caller}
+use Rattle.papaya_named.specs.Seen.{is_named, named, named_of, seen, seen_of}
+use Rattle.papaya_named.specs.declared.caller.Caller.{Caller}
 use Rattle.papaya_scheduler.specs.declared.played.Played.{Played}
 use Rattle.papaya_scheduler.specs.declared.scheduler.Given.{Given}
-use Rattle.papaya_scheduler.specs.declared.scheduler.NamedMap.{NamedMap}
+use Rattle.papaya_named.specs.declared.named_map.NamedMap.{NamedMap}
 use Rattle.papaya_scheduler.specs.declared.scheduler.Scheduler.{Scheduler}
 
 -- what the run is made with

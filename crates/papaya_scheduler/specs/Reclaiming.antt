@@ -11,7 +11,7 @@ use Rattle.papaya_effects.specs.Known.{Known, known}
 use Rattle.papaya_executor.specs.IsAt.{Scene}
 use Rattle.papaya_reclaims.specs.Reclaims.{LeftBehind}
 use Rattle.papaya_scheduler.specs.Played.{IsDue, Plays, entry_of}
-use Rattle.papaya_scheduler.specs.declared.caller.Caller.{Caller}
+use Rattle.papaya_named.specs.declared.caller.Caller.{Caller}
 use Rattle.papaya_scheduler.specs.declared.played.Played.{Played}
 use Rattle.papaya_scheduler.specs.declared.scheduler.Scheduler.{Scheduler}
 

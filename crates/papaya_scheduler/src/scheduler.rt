@@ -6,16 +6,17 @@ ghost use Rattle.papaya_logged.specs.Back.{BringsBack};
 ghost use Rattle.papaya_logged.specs.Shown.{IsShown};
 ghost use Rattle.papaya_executor.specs.OnSlots.{MayBegin};
 ghost use Rattle.papaya_executor.specs.declared.worker.TheConstants.{SLOTS};
-ghost use Rattle.papaya_scheduler.specs.Seen.{free_slot, number_named, setting_named};
+ghost use Rattle.papaya_named.specs.Seen.{free_slot, number_named, setting_named};
 ghost use Rattle.papaya_scheduler.specs.First.{HasJustBegun};
 ghost use Rattle.papaya_scheduler.specs.Played.{IsPlayed, terms_given};
 ghost use Rattle.papaya_rows.specs.Rows.{RowRan, RowRanOn};
 ghost use Rattle.seize_words.specs.declared.fault.Fault.TheVariants.{Busy};
 
-use crate::caller::Callers;
 use crate::played::Played;
 use papaya_executor::row::{RowTold, SlotCall};
 use papaya_logged::logged::Logged;
+use papaya_named::caller::Callers;
+use papaya_named::named_map::NamedMap;
 use papaya_present::Present;
 use papaya_raw::{Node, Setting};
 use papaya_runs::event::Setup;
@@ -24,15 +25,6 @@ use papaya_runs::token::Token;
 use papaya_schedules::effect::Effect;
 use papaya_schedules::outcome::Outcome;
 use std::alloc::{AllocError, Global};
-
-/// A map that is there.
-#[derive(Drop)]
-pub struct NamedMap {
-    /// Its name.
-    pub name: Token,
-    /// Its number.
-    pub number: u64,
-}
 
 /// What a run is made with.
 #[derive(Clone, Copy)]

@@ -1,43 +1,17 @@
-//! Whose turn it is: events that are kept out.
+//! Events that are kept out.
 ghost use Rattle.std.specs.Prelude.{◌≡◌, ℕ, Bool, true, []};
 ghost use Rattle.papaya_runs.specs.Runs.{map_fault};
-ghost use Rattle.papaya_runs.specs.Same.{is_same};
 ghost use Rattle.papaya_schedules.specs.After.{mapped_on};
-ghost use Rattle.papaya_schedules.specs.Entry.{nameless};
 ghost use Rattle.papaya_schedules.specs.InTurn.{IsKeptOut};
 ghost use Rattle.papaya_scheduler.specs.KeptOut.{PlaysKeptOut};
-ghost use Rattle.papaya_scheduler.specs.Turns.{IsMakingOut, is_of, is_of_each, keeps_out};
+ghost use Rattle.papaya_scheduler.specs.Turns.{IsMakingOut, keeps_out};
 
-use crate::caller::Callers;
 use crate::played::Played;
 use crate::scheduler::Scheduler;
 use papaya_raw::{ResizeMode, entries_for};
-use papaya_runs::token::Token;
 use papaya_schedules::event::Event;
 use papaya_schedules::outcome::Outcome;
 use seize_words::Fault;
-
-/// Whether a name is that of a whole call that was begun without one.
-fn is_nameless(name: &Token) -> bool
-    ensures { result ≡ is_same name.now nameless }
-{
-    name.as_bytes() == b"-".as_slice()
-}
-
-/// Whether an event speaks of the call of this caller.
-fn is_of<K, V>(event: &Event<K, V>, name: &Token) -> bool
-    ensures { result ≡ is_of event.now name.now }
-{
-    match event {
-        Event::Replied { caller, .. }
-        | Event::Stop { caller }
-        | Event::Step { caller, .. }
-        | Event::Go { caller, .. }
-        | Event::Next { caller } => name.is(caller),
-        Event::OneCall { .. } => is_nameless(name),
-        _ => false,
-    }
-}
 
 /// What is wrong in making such a map.
 fn fault_of(mode: ResizeMode, capacity: u64) -> Option<Fault>
@@ -49,15 +23,6 @@ fn fault_of(mode: ResizeMode, capacity: u64) -> Option<Fault>
     match entries_for(capacity) {
         Ok(_) => None,
         Err(fault) => Some(fault),
-    }
-}
-
-impl<V: Drop> Callers<V> {
-    /// Whether an event speaks of each call that is under way.
-    fn are_of<K>(&self, event: &Event<K, V>) -> bool
-        ensures { result ≡ is_of_each event.now self.now.items.items }
-    {
-        self.items.iter().all(|caller| is_of(event, &caller.name))
     }
 }
 

@@ -11,7 +11,7 @@ use Rattle.std.proofs.lemmas.List.Sorted.{IsPermutation-trans, IsPermutation-app
 use Rattle.papaya_seq_map.specs.Given.{AskedAlong, IsCloneOf, KeepsOf, found_by, left_by, put, put_all, with_no_values}
 use Rattle.papaya_seq_map.specs.Maps.{Keeps, Map}
 use Rattle.papaya_seq.specs.Sets.{KeepsElements, KeepsIn, Set, last_taken_in, left_in, put_in, put_all_in, set_of}
-use Rattle.papaya_seq_map.proofs.Given.{found_as, kept_in_any_order, lifts, no_values, there_as}
+use Rattle.papaya_seq_map.proofs.Given.{kept_in_any_order, lifts, no_values, there_as}
 
 -- what was not there is new
 pub new_so : {X : Type 0} (was : Bool) (o : Option X) → was ≡ is_some o → not was ≡ is_none o
@@ -109,7 +109,7 @@ module _ {K S : Type 0} (map : Map K (Unit {0}) S) (set : Set K S) (is : set_of 
     there_in_order b so = so (with_no_values ys) map_in_order ∙ sym (there_as test ys)
 
     pub found_in_order : (o : Option (K × Unit {0})) → ((xs : List (K × Unit {0})) → IsPermutation map.pairs xs → o ≡ found_by test xs) → option_map (λ x. x.0) o ≡ find test ys
-    found_in_order o so = ap (option_map (λ (x : K × Unit {0}). x.0)) (so (with_no_values ys) map_in_order) ∙ sym (found_as test ys)
+    found_in_order o so = key_found_in_order test map.pairs o so ys (subst (λ (s : Set K S). IsPermutation s.elements ys) (sym is) order)
 
 module _ {K : Type 0} (same : K → K → Bool) where
   put_in_last : (xs ys : List K) (y : K) → put_all_in same xs (ys ++ (y ∷ [])) ≡ put_in same (put_all_in same xs ys) y

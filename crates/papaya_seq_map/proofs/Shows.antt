@@ -14,7 +14,7 @@ use Rattle.papaya_tables.specs.declared.node.Node.{Node}
 use Rattle.papaya_tables.specs.declared.setting.Setting.{Setting}
 use Rattle.papaya_tables.specs.Chunks.{is_incremental}
 use Rattle.papaya_owned.specs.Given.Rule.Words.{root_word}
-use Rattle.papaya_owned.specs.Rooms.{CannotMakeRoom, HasRoomFor, NeedTooMany}
+use Rattle.papaya_owned.specs.Rooms.{CannotMakeRoom, HasRoomFor, NeedTooMany, ShowTables}
 use Rattle.papaya_owned.specs.Given.Reserves.Reserve.{needed}
 use Rattle.papaya_resting.proofs.Given.{one_each_below, keeps_by_test, holds_stands, holds_moves_none, holds_pairs}
 use Rattle.papaya_shown.specs.Chain.{CannotGrow, CannotGrowIn, CountsTables, FirstHas, HasTables, one_count, pairs_from_root, pairs_on, root_link, shape_of, shapes_on, word_or_none}
@@ -123,6 +123,13 @@ first_has m setting (suc n, has) additional count count2 same room =
     let at_root = ap (λ (link : ℕ). value_at m (block_in link)) (ap word_or_none room.root_is) ∙ room.table in
     subst (λ (k : ℕ). needed additional k ≤ (shape_of (value_at m (block_in (root_link m setting)))).0) same
     (subst (λ (len : ℕ). needed additional count ≤ len) (sym (ap (λ (shape : ℕ × ℕ). shape.0) (ap shape_of at_root))) room.places)
+
+-- of a map that was just made they show the tables that it was made with
+pub made_shown : {K V : Type 0} (m : Mem (Node K V)) (setting : Setting) (tables : CountsTables m (root_link m setting)) (shapes shapes2 : List (ℕ × ℕ)) → ShowTables setting m shapes → shapes ≡ shapes2
+    → tables_shown m setting tables ≡ shapes2
+unfolding tables_shown
+made_shown m setting tables shapes shapes2 (counted, are) same =
+    ap (λ (n : ℕ). shapes_on m n (root_link m setting)) (one_count m tables.0 counted.0 (root_link m setting) tables.1 counted.1) ∙ are ∙ same
 
 -- and so a reservation is refused
 pub room_shown : {K V T : Type 0} (m : Mem (Node K V)) (setting : Setting) (tables : CountsTables m (root_link m setting)) (additional count count2 : ℕ) → count ≡ count2 → (r : Result T Fault)

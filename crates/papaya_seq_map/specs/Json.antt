@@ -9,7 +9,7 @@ use Rattle.papaya_forms.specs.declared.fault.JsonFault.TheVariants.{NotAnObject,
 use Rattle.papaya_owned.specs.Given.Late.Faults.{IsRoom}
 use Rattle.papaya_seq_map.specs.Maps.{Map}
 
--- a call of the map was refused, for want of memory, or as a table would have been too long
+-- memory, or the length of a table, was refused
 abbrev pub IsRefusal : JsonFault → Type 0
 IsRefusal why = (fault : Fault) × (why ≡ Refused fault) × IsRoom fault
 
@@ -39,6 +39,6 @@ module _ {K V : Type 0} (key_in : K → Type 0) (text : K → List ℕ) (value_i
   abbrev pub LastIsOf : {S : Type 0} → Data → Map K V S → Type 0
   LastIsOf d map = (map.taken ≡ None) × (ms : Members) × (d ≡ object ms) × IsLastOf (λ o. o ≡ None) ms map.met
 
-  -- Why a value was not read as a map: it is no object; or it is one, and this is its first fault, or a call of the map was refused.
+  -- Why a value was not read as a map: it is no object; or it is one, and this is its first fault, or memory, or the length of a table, was refused.
   abbrev pub IsUnread : JsonFault → Data → Type 0
   IsUnread why d = ((why ≡ NotAnObject) × (as_object d ≡ None)) ⊎ ((ms : Members) × (d ≡ object ms) × (FirstFault why ms ⊎ IsRefusal why))

@@ -18,6 +18,10 @@ pub(crate) enum Call {
     Pair(u64),
     /// Looks for a key.
     Contains(u64),
+    /// Looks at the pair that the last change took out.
+    Taken,
+    /// Looks at the pair that it met.
+    Met,
     /// Counts the pairs.
     Len,
 }
@@ -82,6 +86,8 @@ pub(crate) fn called<S: BuildHasher>(map: &mut HashMap<u64, u64, S>, call: Call)
         Call::Get(key) => Answer::Value(map.get(&key).copied()),
         Call::Pair(key) => Answer::KeyValue(copied(map.get_key_value(&key))),
         Call::Contains(key) => Answer::Was(map.contains_key(&key)),
+        Call::Taken => Answer::KeyValue(copied(map.taken())),
+        Call::Met => Answer::KeyValue(copied(map.met())),
         Call::Len => Answer::Count(map.len()),
     }
 }

@@ -1,13 +1,13 @@
-//! Pairs are stored, replaced, removed and looked for, with hashes that differ and with one hash.
+//! Pairs are stored, replaced, removed and looked for, also those that a change took out or met, with hashes that differ and with one hash.
 use crate::calls::Answer::{Back, Count, KeyValue, Stored, Value, Was};
-use crate::calls::Call::{Contains, Get, Insert, Len, Pair, Remove, TryInsert};
+use crate::calls::Call::{Contains, Get, Insert, Len, Met, Pair, Remove, Taken, TryInsert};
 use crate::calls::{Answer, Call, answers};
 use papaya_runs::key_hash::KeyHash;
 use papaya_seq::{Fault, HashMap};
 use std::alloc::Global;
 
 /// Eight pairs are stored, then one more for a key that is there, and then two are removed.
-const STORED_AND_REMOVED: [(Call, Answer); 32] = [
+const STORED_AND_REMOVED: [(Call, Answer); 38] = [
     (Len, Count(0)),
     (Get(0), Value(None)),
     (Remove(0), Was(false)),
@@ -24,11 +24,17 @@ const STORED_AND_REMOVED: [(Call, Answer); 32] = [
     (Get(7), Value(Some(70))),
     (Get(8), Value(None)),
     (Insert(3, 33), Was(true)),
+    (Taken, KeyValue(Some((3, 30)))),
+    (Met, KeyValue(Some((3, 33)))),
     (Len, Count(8)),
     (Get(3), Value(Some(33))),
     (TryInsert(3, 34), Back(34)),
+    (Taken, KeyValue(None)),
+    (Met, KeyValue(Some((3, 33)))),
     (Get(3), Value(Some(33))),
     (Remove(3), Was(true)),
+    (Taken, KeyValue(Some((3, 33)))),
+    (Met, KeyValue(None)),
     (Remove(3), Was(false)),
     (Contains(3), Was(false)),
     (Contains(4), Was(true)),

@@ -32,7 +32,8 @@ fn fills<S: BuildHasher>(set: &mut HashSet<u64, S>) -> bool {
             return false;
         }
     }
-    is_new(set, 3) == Some(false) && set.len() == 8
+    let again = is_new(set, 3) == Some(false) && set.taken() == Some(&3) && set.met() == Some(&3);
+    again && set.len() == 8
 }
 
 /// The even ones are kept, one is removed, and then all.
@@ -40,7 +41,8 @@ fn empties<S: BuildHasher>(set: &mut HashSet<u64, S>) -> Result<bool, Fault> {
     set.retain(|element| *element % 2 == 0)?;
     let kept = set.len() == 4 && sum(set) == 12;
     let known = set.contains(&2) && !set.contains(&3) && set.get(&4) == Some(&4);
-    let removed = set.remove(&2)? && !set.remove(&2)? && !set.contains(&2);
+    let taken = set.remove(&2)? && set.taken() == Some(&2) && set.met().is_none();
+    let removed = taken && !set.remove(&2)? && set.taken().is_none() && !set.contains(&2);
     set.clear()?;
     Ok(kept && known && removed && set.is_empty())
 }

@@ -12,7 +12,7 @@ use Rattle.papaya_rule.specs.Links.{LeadsTo}
 use Rattle.papaya_rule.proofs.Laws.{links_have_tables}
 use Rattle.papaya_shown.specs.Chain.{word_or_none, shape_of, behind, CannotGrow, CountsTables, shapes_on, CannotGrowIn}
 use Rattle.papaya_shown.specs.Shown.{Stands}
-use Rattle.papaya_shown.proofs.Chains.{behind_leads, root_counts}
+use Rattle.papaya_shown.proofs.Chains.{behind_leads, chain_shown}
 use Rattle.papaya_shown.proofs.Links as links
 
 module _ {K V : Type 0} (eq : K → K → Bool) (hash : K → ℕ) (m : Mem (Node K V)) (setting : Setting) (c : Chart K) (blocks : Blocks) (stands : Stands eq hash m setting c blocks)
@@ -38,10 +38,17 @@ module _ {K V : Type 0} (eq : K → K → Bool) (hash : K → ℕ) (m : Mem (Nod
       chain_ends (suc tables) (suc t) (behind m link) (omega (arith, linked)) (omega (arith, count)) (omega (arith, count, is_last))
       (goes_on t link linked leads (omega (arith, below, is_last)))
 
+  -- so many they are
+  all_linked : (c.first < c.past) × (c.first + (c.past - c.first) ≡ c.past)
+  all_linked = let first = stands.map.rule.common.rooted (omega (arith, is_last)) in (first, omega (arith, first))
+
   -- where the root leads
   pub grows_no_more : (root : ℕ) → word_at m (Root setting.root) ≡ Some root → CannotGrowIn m setting
   grows_no_more root read =
-      subst (λ (link : ℕ). (tables : CountsTables m link) × CannotGrow (shapes_on m tables.0 link)) (sym (ap word_or_none read))
-      (root_counts eq hash m setting c blocks stands root read,
-      chain_ends (c.past - c.first) c.first root (omega arith) (let first = stands.map.rule.common.rooted (omega (arith, is_last)) in omega (arith, first)) (let first = stands.map.rule.common.rooted (omega (arith, is_last)) in omega (arith, first, is_last))
-      (links.root_leads_on eq hash m setting c blocks stands root read))
+      subst (λ (link : ℕ). (tables : CountsTables m link) × CannotGrow (shapes_on m tables.0 link)) (sym (ap word_or_none read)) (
+        (c.past - c.first, (chain_shown eq hash m setting c blocks stands (c.past - c.first) c.first root (omega arith) all_linked.1 leads).0),
+        chain_ends (c.past - c.first) c.first root (omega arith) all_linked.1 (let first = all_linked.0 in omega (arith, first, is_last)) leads,
+      )
+    where
+      leads : LeadsTo c blocks root c.first
+      leads = links.root_leads_on eq hash m setting c blocks stands root read

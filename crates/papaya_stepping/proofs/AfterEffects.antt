@@ -8,7 +8,7 @@ use Rattle.papaya_schedules.specs.declared.effect.Effect.{Effect}
 use Rattle.papaya_schedules.specs.declared.effect.Effect.TheVariants.{Removed, Stored}
 use Rattle.papaya_schedules.specs.Effects.{call_by, due_for, with_effect, with_effects}
 use Rattle.papaya_schedules.specs.Moment.{UnderWay as CallThere, Moment}
-use Rattle.papaya_scheduler.specs.Seen.{seen}
+use Rattle.papaya_named.specs.Seen.{seen}
 use Rattle.papaya_rows.proofs.Lists.{unseen}
 
 module _ {K V : Type 0} where

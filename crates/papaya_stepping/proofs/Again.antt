@@ -25,10 +25,10 @@ use Rattle.papaya_histories.proofs.Given.Moments.Calls.{calls_come_to_whole}
 use Rattle.papaya_kept.proofs.Stays.{calls_come_to_kept}
 use Rattle.papaya_logged.proofs.Counted.{counted_calls}
 use Rattle.papaya_scheduler.specs.Played.{StandsFor}
-use Rattle.papaya_scheduler.specs.Seen.{Seen, far_of, is_named, seen, seen_of}
-use Rattle.papaya_scheduler.specs.declared.caller.Caller.{Caller}
-use Rattle.papaya_scheduler.specs.declared.caller.Stands.{Stands as HowFar}
-use Rattle.papaya_scheduler.specs.declared.caller.Stands.TheVariants as far
+use Rattle.papaya_named.specs.Seen.{Seen, far_of, is_named, seen, seen_of}
+use Rattle.papaya_named.specs.declared.caller.Caller.{Caller}
+use Rattle.papaya_named.specs.declared.caller.Stands.{Stands as HowFar}
+use Rattle.papaya_named.specs.declared.caller.Stands.TheVariants as far
 use Rattle.papaya_scheduler.specs.declared.scheduler.Scheduler.{Scheduler}
 use Rattle.papaya_scheduler.proofs.Here.{Here}
 use Rattle.papaya_rows.proofs.Lists.{changed_at, set_seen}

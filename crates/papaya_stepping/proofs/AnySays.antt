@@ -15,10 +15,10 @@ use Rattle.papaya_histories.specs.Given.Executor.Stepping.{StepLeads}
 use Rattle.papaya_histories.specs.Given.Executor.declared.executor.Executor.{Executor}
 use Rattle.papaya_histories.specs.Given.Follows.Calls.{IsCalled}
 use Rattle.papaya_histories.specs.Given.Moments.Whole.{ShowsWhole}
-use Rattle.papaya_scheduler.specs.Machines.{IsAsFar, RefusedForRoom}
-use Rattle.papaya_scheduler.specs.Seen.{kind_of}
-use Rattle.papaya_scheduler.specs.declared.caller.Stands.TheVariants as far
-use Rattle.papaya_scheduler.specs.declared.kind.Kind.{Kind}
+use Rattle.papaya_named.specs.Machines.{IsAsFar, RefusedForRoom}
+use Rattle.papaya_named.specs.Seen.{kind_of}
+use Rattle.papaya_named.specs.declared.caller.Stands.TheVariants as far
+use Rattle.papaya_named.specs.declared.kind.Kind.{Kind}
 use Rattle.papaya_stepping.proofs.StepSays.{Says, is_called, key_says, room_says, sum_says}
 use Rattle.papaya_stepping.proofs.SweepSteps.{clear_says, retain_says, walk_step_says}
 

@@ -18,7 +18,7 @@ use Rattle.papaya_histories.proofs.Given.Moments.After.{effects_after}
 use Rattle.papaya_promises.proofs.Weights.{parts_add_up}
 use Rattle.papaya_scheduler.specs.Played.{StandsFor}
 use Rattle.papaya_stepping.specs.Stepping.{ComesAs, ComesBy, GoesAt, IsMidst, IsStepped, waits_in_case}
-use Rattle.papaya_scheduler.specs.Telling.{goes_on}
+use Rattle.papaya_named.specs.Telling.{goes_on}
 use Rattle.papaya_scheduler.specs.declared.scheduler.Scheduler.{Scheduler}
 use Rattle.papaya_scheduler.proofs.Here.{here_at}
 use Rattle.papaya_stepping.proofs.OneStep.{step_comes}

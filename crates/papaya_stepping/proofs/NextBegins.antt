@@ -25,15 +25,15 @@ use Rattle.papaya_histories.proofs.Given.Follows.Calling.{is_same_refl}
 use Rattle.papaya_logged.specs.Calling.{WalkGoesOn}
 use Rattle.papaya_logged.specs.Shown.{IsShown}
 use Rattle.papaya_logged.specs.declared.logged.Logged.{Logged}
-use Rattle.papaya_scheduler.specs.Machines.{IsAsFar, IsFor}
+use Rattle.papaya_named.specs.Machines.{IsAsFar, IsFor}
 use Rattle.papaya_scheduler.specs.Played.{IsUnderWay, IsUnderWayAs, StandsAs, StandsFor}
-use Rattle.papaya_scheduler.specs.Seen.{is_named}
+use Rattle.papaya_named.specs.Seen.{is_named}
 use Rattle.papaya_stepping.specs.Stepping.{IsWalking, WalksFar}
-use Rattle.papaya_scheduler.specs.declared.caller.Caller.{Caller}
-use Rattle.papaya_scheduler.specs.declared.caller.Stands.{Stands as HowFar}
-use Rattle.papaya_scheduler.specs.declared.caller.Stands.TheVariants as far
-use Rattle.papaya_scheduler.specs.declared.kind.Kind.{Kind}
-use Rattle.papaya_scheduler.specs.declared.kind.Kind.TheVariants as kind
+use Rattle.papaya_named.specs.declared.caller.Caller.{Caller}
+use Rattle.papaya_named.specs.declared.caller.Stands.{Stands as HowFar}
+use Rattle.papaya_named.specs.declared.caller.Stands.TheVariants as far
+use Rattle.papaya_named.specs.declared.kind.Kind.{Kind}
+use Rattle.papaya_named.specs.declared.kind.Kind.TheVariants as kind
 use Rattle.papaya_scheduler.specs.declared.scheduler.Scheduler.{Scheduler}
 use Rattle.papaya_rows.proofs.Facts.{no_ending_of, no_making_of, no_work_at, row_rests, used_still}
 use Rattle.papaya_scheduler.proofs.Here.{Here}

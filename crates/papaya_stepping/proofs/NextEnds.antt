@@ -39,16 +39,16 @@ use Rattle.papaya_kept.proofs.Stays.{calls_come_to_kept}
 use Rattle.papaya_histories.proofs.Given.Moments.Calls.{calls_come_to_whole}
 use Rattle.papaya_remains.proofs.Stays.{remains_stay}
 use Rattle.papaya_logged.proofs.Counted.{counted_calls}
-use Rattle.papaya_scheduler.specs.Machines.{IsFor}
+use Rattle.papaya_named.specs.Machines.{IsFor}
 use Rattle.papaya_scheduler.specs.Played.{AsFar, IsDue, StandsAs, StandsFor}
-use Rattle.papaya_scheduler.specs.Seen.{Seen, is_named, is_ready as is_ready_there, ready_place, seen, seen_of}
+use Rattle.papaya_named.specs.Seen.{Seen, is_named, is_ready as is_ready_there, ready_place, seen, seen_of}
 use Rattle.papaya_stepping.specs.Stepping.{IsMidWalk, IsStepOf, PlaysNext, ReadyAt, WalkComes, WalksFar, callers_then, outcome_of}
-use Rattle.papaya_scheduler.specs.Telling.{answer_of, number_by, swept}
-use Rattle.papaya_scheduler.specs.declared.caller.Caller.{Caller}
-use Rattle.papaya_scheduler.specs.declared.caller.Callers.{Callers}
-use Rattle.papaya_scheduler.specs.declared.caller.Stands.{Stands as HowFar}
-use Rattle.papaya_scheduler.specs.declared.caller.Stands.TheVariants as far
-use Rattle.papaya_scheduler.specs.declared.kind.Kind.{Kind}
+use Rattle.papaya_named.specs.Telling.{answer_of, number_by, swept}
+use Rattle.papaya_named.specs.declared.caller.Caller.{Caller}
+use Rattle.papaya_named.specs.declared.caller.Callers.{Callers}
+use Rattle.papaya_named.specs.declared.caller.Stands.{Stands as HowFar}
+use Rattle.papaya_named.specs.declared.caller.Stands.TheVariants as far
+use Rattle.papaya_named.specs.declared.kind.Kind.{Kind}
 use Rattle.papaya_scheduler.specs.declared.scheduler.Scheduler.{Scheduler}
 use Rattle.papaya_stepping.proofs.AfterEffects.{closed_stays, mapped_stays}
 use Rattle.papaya_scheduler.proofs.Here.{Here, HereAs, here_at}

@@ -34,11 +34,11 @@ use Rattle.papaya_logged.specs.declared.logged.Logged.{Logged}
 use Rattle.papaya_histories.proofs.Given.Moments.After.{effects_after}
 use Rattle.papaya_promises.proofs.Weights.{operations_are_single, parts_add_up}
 use Rattle.papaya_scheduler.specs.Played.{StandsAs}
-use Rattle.papaya_scheduler.specs.Seen.{Seen, seen, seen_of}
+use Rattle.papaya_named.specs.Seen.{Seen, seen, seen_of}
 use Rattle.papaya_stepping.specs.Stepping.{IsMidWalk, IsStepOf, IsWalking, ReadyAt, WalksFar}
-use Rattle.papaya_scheduler.specs.declared.caller.Caller.{Caller}
-use Rattle.papaya_scheduler.specs.declared.caller.Stands.TheVariants as far
-use Rattle.papaya_scheduler.specs.declared.kind.Kind.TheVariants as kind
+use Rattle.papaya_named.specs.declared.caller.Caller.{Caller}
+use Rattle.papaya_named.specs.declared.caller.Stands.TheVariants as far
+use Rattle.papaya_named.specs.declared.kind.Kind.TheVariants as kind
 use Rattle.papaya_scheduler.specs.declared.scheduler.Scheduler.{Scheduler}
 use Rattle.papaya_stepping.proofs.AfterEffects.{calls_seen, closed_stays, mapped_stays}
 use Rattle.papaya_scheduler.proofs.Here.{HereAs, here_as_at}

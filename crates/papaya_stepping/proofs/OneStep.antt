@@ -42,16 +42,16 @@ use Rattle.papaya_kept.proofs.Stays.{calls_come_to_kept}
 use Rattle.papaya_logged.proofs.Counted.{counted_calls}
 use Rattle.papaya_owes.proofs.Grown.Calls.{step_keeps_grown}
 use Rattle.papaya_promises.proofs.Weights.{operations_are_single}
-use Rattle.papaya_scheduler.specs.Machines.{IsAsFar}
+use Rattle.papaya_named.specs.Machines.{IsAsFar}
 use Rattle.papaya_scheduler.specs.Played.{AsFar, StandsFor}
-use Rattle.papaya_scheduler.specs.Seen.{Seen, far_of, is_named, seen, seen_of}
+use Rattle.papaya_named.specs.Seen.{Seen, far_of, is_named, seen, seen_of}
 use Rattle.papaya_stepping.specs.Stepping.{ComesAs, ComesBy, GoesAt, IsStepped, caller_then, callers_then, far_then, is_on_key, outcome_of, waits_in_case}
-use Rattle.papaya_scheduler.specs.Telling.{goes_on, kept}
-use Rattle.papaya_scheduler.specs.declared.caller.Caller.{Caller}
-use Rattle.papaya_scheduler.specs.declared.caller.Callers.{Callers}
-use Rattle.papaya_scheduler.specs.declared.caller.Stands.{Stands as HowFar}
-use Rattle.papaya_scheduler.specs.declared.caller.Stands.TheVariants as far
-use Rattle.papaya_scheduler.specs.declared.kind.Kind.{Kind}
+use Rattle.papaya_named.specs.Telling.{goes_on, kept}
+use Rattle.papaya_named.specs.declared.caller.Caller.{Caller}
+use Rattle.papaya_named.specs.declared.caller.Callers.{Callers}
+use Rattle.papaya_named.specs.declared.caller.Stands.{Stands as HowFar}
+use Rattle.papaya_named.specs.declared.caller.Stands.TheVariants as far
+use Rattle.papaya_named.specs.declared.kind.Kind.{Kind}
 use Rattle.papaya_scheduler.specs.declared.scheduler.Scheduler.{Scheduler}
 use Rattle.papaya_stepping.proofs.AfterEffects.{calls_seen, closed_stays, mapped_stays}
 use Rattle.papaya_stepping.proofs.AnySays.{any_says}

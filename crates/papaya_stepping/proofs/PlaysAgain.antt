@@ -15,9 +15,9 @@ use Rattle.papaya_schedules.specs.Terms.{Terms}
 use Rattle.papaya_schedules.specs.Views.{call_of}
 use Rattle.papaya_histories.specs.Given.Follows.Calling.{come_to}
 use Rattle.papaya_scheduler.specs.Played.{IsDue, StandsFor}
-use Rattle.papaya_scheduler.specs.Seen.{Seen, is_named}
+use Rattle.papaya_named.specs.Seen.{Seen, is_named}
 use Rattle.papaya_stepping.specs.Stepping.{PlaysOn}
-use Rattle.papaya_scheduler.specs.declared.caller.Stands.TheVariants as far
+use Rattle.papaya_named.specs.declared.caller.Stands.TheVariants as far
 use Rattle.papaya_scheduler.specs.declared.scheduler.Scheduler.{Scheduler}
 use Rattle.papaya_stepping.proofs.Again.{asks_again, far_ready, ready_again}
 use Rattle.papaya_scheduler.proofs.Here.{Here, here_at, there_is}

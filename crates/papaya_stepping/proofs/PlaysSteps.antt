@@ -25,9 +25,9 @@ use Rattle.papaya_histories.specs.Given.Effects.Known.{known}
 use Rattle.papaya_histories.specs.Given.Follows.Calling.{come_to}
 use Rattle.papaya_histories.proofs.Given.Hands.Replacing.{IsOn, calls_after}
 use Rattle.papaya_scheduler.specs.Played.{IsDue, StandsFor}
-use Rattle.papaya_scheduler.specs.Seen.{Seen, far_of, is_named}
+use Rattle.papaya_named.specs.Seen.{Seen, far_of, is_named}
 use Rattle.papaya_stepping.specs.Stepping.{ComesAs, ComesBy, IsInCase, PlaysOn, TakesUpTo, waits_in_case}
-use Rattle.papaya_scheduler.specs.declared.caller.Stands.TheVariants as far
+use Rattle.papaya_named.specs.declared.caller.Stands.TheVariants as far
 use Rattle.papaya_scheduler.specs.declared.scheduler.Scheduler.{Scheduler}
 use Rattle.papaya_stepping.proofs.AfterEffects.{closed_stays, mapped_stays}
 use Rattle.papaya_remains.proofs.Stays.{remains_stay}

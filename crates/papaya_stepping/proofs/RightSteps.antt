@@ -16,9 +16,9 @@ use Rattle.papaya_schedules.specs.InUse.{may_wait_for}
 use Rattle.papaya_schedules.specs.Moment.{Stands, Going, Asking, Told, IsReady, UnderWay as CallThere, Moment}
 use Rattle.papaya_schedules.specs.Steps.{MakesSteps}
 use Rattle.papaya_schedules.specs.Terms.{Terms}
-use Rattle.papaya_scheduler.specs.Seen.{far_of}
+use Rattle.papaya_named.specs.Seen.{far_of}
 use Rattle.papaya_stepping.specs.Stepping.{ComesAs, IsInCase, TakesUpTo, waits_in_case}
-use Rattle.papaya_scheduler.specs.declared.caller.Stands.TheVariants as far
+use Rattle.papaya_named.specs.declared.caller.Stands.TheVariants as far
 
 module _ {K V : Type 0} where
   -- a call on one key is refused as out of turn never, and for removing nothing only where it computes

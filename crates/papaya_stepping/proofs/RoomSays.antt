@@ -31,7 +31,7 @@ use Rattle.papaya_histories.specs.Given.Executor.Stepping.{StepsFrom}
 use Rattle.papaya_histories.specs.Given.Executor.declared.executor.Executor.{Executor}
 use Rattle.papaya_histories.proofs.Given.Executor.Forgotten.{as_step}
 use Rattle.papaya_histories.proofs.Asking.{always_told, always_turned}
-use Rattle.papaya_scheduler.specs.Machines.{RefusedForRoom}
+use Rattle.papaya_named.specs.Machines.{RefusedForRoom}
 
 module _ {K V : Type 0} where
   -- what it says is no refusal, or one for room

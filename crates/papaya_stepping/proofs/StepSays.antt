@@ -58,12 +58,12 @@ use Rattle.papaya_histories.specs.Asking.{IsToldQuestion}
 use Rattle.papaya_histories.proofs.AnyCall.HasWords.{questions_have_words}
 use Rattle.papaya_histories.proofs.Asking.{asking_steps_stand_there}
 use Rattle.papaya_histories.proofs.Refusals.{refused}
-use Rattle.papaya_scheduler.specs.Machines.{IsAsFar, RefusedForRoom}
-use Rattle.papaya_scheduler.specs.Seen.{kind_of}
+use Rattle.papaya_named.specs.Machines.{IsAsFar, RefusedForRoom}
+use Rattle.papaya_named.specs.Seen.{kind_of}
 use Rattle.papaya_stepping.specs.Stepping.{ComesAs, IsFaultOn, far_then, outcome_of}
-use Rattle.papaya_scheduler.specs.Telling.{number_by, number_in}
-use Rattle.papaya_scheduler.specs.declared.kind.Kind.{Kind}
-use Rattle.papaya_scheduler.specs.declared.kind.Kind.TheVariants as kind
+use Rattle.papaya_named.specs.Telling.{number_by, number_in}
+use Rattle.papaya_named.specs.declared.kind.Kind.{Kind}
+use Rattle.papaya_named.specs.declared.kind.Kind.TheVariants as kind
 use Rattle.papaya_stepping.proofs.RoomSays.{NeverRefused, SaysRoom, reserve_room, sum_room}
 use Rattle.papaya_stepping.proofs.KeySays.{key_asks, key_refused}
 use Rattle.papaya_scheduler.proofs.Replied.{of_kind}

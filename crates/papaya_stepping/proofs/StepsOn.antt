@@ -7,7 +7,7 @@ use Rattle.papaya_schedules.specs.Moment.{Moment}
 use Rattle.papaya_schedules.specs.Terms.{Terms}
 use Rattle.papaya_scheduler.specs.Played.{StandsFor}
 use Rattle.papaya_stepping.specs.Stepping.{ComesBy, GoesAt, GoneFor, IsMidst, IsStepped, MayStep, StepsCome}
-use Rattle.papaya_scheduler.specs.Telling.{goes_on}
+use Rattle.papaya_named.specs.Telling.{goes_on}
 use Rattle.papaya_scheduler.specs.declared.scheduler.Scheduler.{Scheduler}
 use Rattle.papaya_stepping.proofs.ComesOn.{comes_next, midst_next}
 use Rattle.papaya_scheduler.proofs.Here.{here_at}

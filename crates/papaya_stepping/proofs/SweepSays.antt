@@ -37,7 +37,7 @@ use Rattle.papaya_histories.specs.Given.Teller.declared.changed.Changed.TheVaria
 use Rattle.papaya_histories.specs.Given.Executor.Stepping.{StepsFrom}
 use Rattle.papaya_histories.specs.Given.Executor.declared.executor.Executor.{Executor}
 use Rattle.papaya_histories.proofs.Asking.{always_told, always_turned}
-use Rattle.papaya_scheduler.specs.Machines.{IsBefore}
+use Rattle.papaya_named.specs.Machines.{IsBefore}
 
 -- a walk before its first pair
 module _ (K V : Type 0) (p : Sweep) (walks : p.purpose ≡ Walks) where

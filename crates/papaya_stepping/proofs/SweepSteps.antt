@@ -34,12 +34,12 @@ use Rattle.papaya_histories.proofs.Given.Executor.Changed.{standing_is}
 use Rattle.papaya_histories.specs.Given.Hands.Calling.{AsksJust}
 use Rattle.papaya_histories.specs.Given.Moments.Whole.{ShowsWhole}
 use Rattle.papaya_histories.proofs.NoKey.Sweeps.{SweepsOn, sweeps_on}
-use Rattle.papaya_scheduler.specs.Machines.{IsAsFar, IsFor, RefusedForRoom}
-use Rattle.papaya_scheduler.specs.Seen.{kind_of}
+use Rattle.papaya_named.specs.Machines.{IsAsFar, IsFor, RefusedForRoom}
+use Rattle.papaya_named.specs.Seen.{kind_of}
 use Rattle.papaya_stepping.specs.Stepping.{ComesAs, far_then, outcome_of}
-use Rattle.papaya_scheduler.specs.declared.caller.Stands.TheVariants as far
-use Rattle.papaya_scheduler.specs.declared.kind.Kind.{Kind}
-use Rattle.papaya_scheduler.specs.declared.kind.Kind.TheVariants as kind
+use Rattle.papaya_named.specs.declared.caller.Stands.TheVariants as far
+use Rattle.papaya_named.specs.declared.kind.Kind.{Kind}
+use Rattle.papaya_named.specs.declared.kind.Kind.TheVariants as kind
 use Rattle.papaya_stepping.proofs.RoomSays.{SaysRoom, sweep_room}
 use Rattle.papaya_stepping.proofs.StepSays.{Says, ended_not, goes_as, here_then, known2, no_key, s2, then_there, together2, walk_comes, walk_far}
 use Rattle.papaya_stepping.proofs.SweepSays.{IsWalkSaying, ShowsNone, WalkSays, shows_none, walk_says}

@@ -123,8 +123,7 @@ module _ {K V Q S : Type 0} (asks : Q → K → Bool) (same : K → K → Bool) 
           let s = stopped (Ok (stop.Asks asked)) runs in let c = come (Ok (stop.Asks asked)) runs in
           (pauses asked s runs, ap (λ (y : OnKey K V Q S). y.hasher) s.under.is, asked_word asked s c, asks_of K V kind asked s.fit)
       start_so (Err fault) runs =
-          let s = stopped (Err fault) runs in let c = come (Err fault) runs in
-          (
+          let s = stopped (Err fault) runs in let c = come (Err fault) runs in (
             room fault s.1.0 s.1.1,
             by.refused_it same asks hashes b setting m0 xs h keys (IsTold kind its []) m fault s.0,
             key_back its None None x c,

@@ -297,8 +297,7 @@ module _ {K V Q S : Type 0} (asks : Q → K → Bool) (same : K → K → Bool) 
       (by.answered_it same asks hashes x.hasher setting p.before xs h keys given2 facts.one facts.named m2 answer (stopped2 z m2 (Ok (stop.Answered answer)) runs))
   told_so z m2 (Ok (stop.Asks again)) runs = never_again z m2 again runs
   told_so z m2 (Err fault) runs =
-      let s2 = stopped2 z m2 (Err fault) runs in
-      (
+      let s2 = stopped2 z m2 (Err fault) runs in (
         refused_by fault asked about started.2 alike s2.1.0 s2.1.1,
         by.refused_it same asks hashes x.hasher setting p.before xs h keys given2 m2 fault s2.0,
         by.refused_ends same asks hashes x.hasher setting p.before xs h keys given2 m2 fault s2.0,

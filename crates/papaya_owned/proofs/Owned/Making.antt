@@ -46,6 +46,8 @@ use Rattle.papaya_whole.specs.Contents.{ContentsBelow}
 use Rattle.papaya_whole.specs.Owner.{AtRest}
 use Rattle.papaya_owned.specs.Ending.{GoesOn, Tells, Ends, all_end, RunsTo, stops, goes}
 use Rattle.papaya_owned.specs.Owned.{Holds}
+use Rattle.papaya_owned.specs.Rooms.{ShowTables, tables_with}
+use Rattle.papaya_owned.proofs.Owned.Firsts.{first_shown}
 
 -- what has happened to a memory has happened from the start
 module _ {T : Type 0} (defers : T → Option ℕ) (size : ℕ) where
@@ -160,6 +162,10 @@ module _ {K V : Type 0} (same : K → K → Bool) (hash : K → ℕ) (lawful : A
 
   -- what it comes to
   module _ (one : setting.mask ≡ 0) (size : setting.batch_size < 2 ^ 64) (incremental : is_incremental setting.mode ≡ true) (few : setting.initial ≤ 2 ^ 48) where
+    -- the map rests, with no pair, and with no table or a first one
+    abbrev HoldsNew : Setting → Mem (Node K V) → Type 0
+    HoldsNew begun m = (h : Holds same hash begun m []) × IsNewChart hash begun places h.chart
+
     no_contents : (m : Mem (Node K V)) (c : Chart K) (blocks : Blocks) → ((n : ℕ) → c.current n ≡ false) → (n : ℕ) → ContentsBelow m c blocks n []
     no_contents m c blocks empty zero = refl
     no_contents m c blocks empty (suc n) = none_last m c blocks n [] (empty n) (no_contents m c blocks empty n)
@@ -186,25 +192,28 @@ module _ {K V : Type 0} (same : K → K → Bool) (hash : K → ℕ) (lawful : A
       slot_is : setting.slot ≡ begun.slot
       slot_is = sym (ap (λ (x : Setting). x.slot) answer_is)
 
-      made_holds : Holds same hash begun m []
-      made_holds = record {
-        lawful = lawful;
-        initial = subst IsPowerOfTwo (sym (ap (λ (x : Setting). x.initial) answer_is)) initial;
-        few = subst (λ (x : ℕ). x ≤ 2 ^ 48) (sym (ap (λ (x : Setting). x.initial) answer_is)) few;
-        one_shard = ap (λ (x : Setting). x.mask) answer_is ∙ one;
-        incremental = ap (λ (x : Setting). is_incremental x.mode) answer_is ∙ incremental;
-        size = subst (λ x. x < 2 ^ 64) (sym (ap (λ (x : Setting). x.batch_size) answer_is)) size;
-        world = w;
-        chart = c;
-        blocks = blocks;
-        sights = sights;
-        memory = memory;
-        rests = subst (λ x. AtRest {K = K} {V = V} {Q = K} same hash same begun (λ i. x) w c blocks sights) slot_is rests_there;
-        counted = subst (λ (x : Mem (Node K V)). IsCounted begun x c) (sym memory) (counted0 ∙ no_pairs c0 empty0 ∙ sym (no_pairs c empty));
-        are = no_contents w.memory c blocks empty c.stored;
-      }
+      made_holds : HoldsNew begun m
+      made_holds = (
+        record {
+          lawful = lawful;
+          initial = subst IsPowerOfTwo (sym (ap (λ (x : Setting). x.initial) answer_is)) initial;
+          few = subst (λ (x : ℕ). x ≤ 2 ^ 48) (sym (ap (λ (x : Setting). x.initial) answer_is)) few;
+          one_shard = ap (λ (x : Setting). x.mask) answer_is ∙ one;
+          incremental = ap (λ (x : Setting). is_incremental x.mode) answer_is ∙ incremental;
+          size = subst (λ x. x < 2 ^ 64) (sym (ap (λ (x : Setting). x.batch_size) answer_is)) size;
+          world = w;
+          chart = c;
+          blocks = blocks;
+          sights = sights;
+          memory = memory;
+          rests = subst (λ x. AtRest {K = K} {V = V} {Q = K} same hash same begun (λ i. x) w c blocks sights) slot_is rests_there;
+          counted = subst (λ (x : Mem (Node K V)). IsCounted begun x c) (sym memory) (counted0 ∙ no_pairs c0 empty0 ∙ sym (no_pairs c empty));
+          are = no_contents w.memory c blocks empty c.stored;
+        },
+        new,
+      )
 
-    done_holds : (n : NewMap) (m : Mem (Node K V)) (o : Opens n m) (m2 : Mem (Node K V)) (n2 : NewMap) (begun : Setting) → Steps Took value_at m (new_map_plan n) m2 (n2, progress.Done begun) → Holds same hash begun m2 []
+    done_holds : (n : NewMap) (m : Mem (Node K V)) (o : Opens n m) (m2 : Mem (Node K V)) (n2 : NewMap) (begun : Setting) → Steps Took value_at m (new_map_plan n) m2 (n2, progress.Done begun) → HoldsNew begun m2
     done_holds n m o m2 n2 begun s =
         let l = leads n m o m2 n2 (progress.Done begun) s in let to = opens_to n m o m2 n2 (progress.Done begun) s in
         let st = l.told.0 in let made = l.told.1 in
@@ -215,16 +224,19 @@ module _ {K V : Type 0} (same : K → K → Bool) (hash : K → ℕ) (lawful : A
         (subst (λ (g : K → ℕ). Together V same g same st.setting slot_of l.w2 st.chart st.blocks st.sights (λ i. None)) made.hash_is (l.told.2.standing.each 0 st refl)))
         made.chart_is to.1.chart to.1.empty to.1.counted
 
-    -- By its result: the map rests, with no pair.
+    -- By its result: the map rests, with no pair, and its words show the tables that it was made with.
     abbrev pub Made : Mem (Node K V) → Result Setting Fault → Type 0
-    Made m (Ok begun) = Holds same hash begun m []
+    Made m (Ok begun) = Holds same hash begun m [] × ShowTables begun m (tables_with places)
     Made m (Err fault) = Unit {0}
+
+    shows_made : (begun : Setting) (m : Mem (Node K V)) → HoldsNew begun m → Made m (Ok begun)
+    shows_made begun m (h, new) = (h, first_shown same hash begun m [] h places new)
 
     pub runs_made : (n : NewMap) (m : Mem (Node K V)) (n2 : NewMap) (m2 : Mem (Node K V)) (result : Result Setting Fault) → RunsTo (new_map_plan {K = K} {V = V}) n m n2 m2 result → Opens n m → Made m2 result
     runs_made n m n2 m2 result (stops _ _ _ _ told _ s tells) o = by_told told result s tells
       where
         by_told : (told : Progress Setting) (result : Result Setting Fault) → Steps Took value_at m (new_map_plan n) m2 (n2, told) → Tells told result → Made m2 result
-        by_told (progress.Done begun) (Ok b) s tells = subst (λ (x : Setting). Holds same hash x m2 []) (sym tells) (done_holds n m o m2 n2 begun s)
+        by_told (progress.Done begun) (Ok b) s tells = shows_made b m2 (subst (λ (x : Setting). HoldsNew x m2) (sym tells) (done_holds n m o m2 n2 begun s))
         by_told (progress.Done begun) (Err f) s tells = absurd tells
         by_told told (Err f) s tells = tt
         by_told progress.Goes (Ok b) s tells = absurd tells

@@ -363,9 +363,7 @@ module _ {K V S : Type 0} (same : K → K → Bool) (hashes : S → K → ℕ) (
 
     -- what the shards say is how many pairs there are
     said : count_in (shards_sum e.w.memory setting.counter (suc setting.mask) % 2 ^ 64) ≡ length xs
-    said =
-        ap (λ (x : ℕ). count_in (x % 2 ^ 64)) (all_of (shards_sum e.w.memory setting.counter (suc setting.mask)))
-        ∙ countings_come_to same hash setting e.w e.c e.blocks map_then counted_then xs contents_then
+    said = said_still e.w.memory e.counts
 
     room_then : RootHasPlaces setting e.w.memory e.c additional → HasRoomFor setting m additional (length xs)
     room_then places = record {

@@ -86,7 +86,8 @@ module _ {K V : Type 0} (same : K → K → Bool) (hash : K → ℕ) (setting : 
     bounds : (stage : Copying) → (ReadsLast stage → ReadsLast copier.stands) → FactsOf stage → EndsInCopying (IsForTheLast c2) (IsTheLast c2) w.memory copier stage
     bounds (copies.Passes word code table) here f = (
       ends_so c2 copier.setting (subst (λ (x : Setting). x.initial ≤ 2 ^ 48) (sym facts.setting_is) fits),
-      λ none reason by_table. (let last = is_last same hash setting w c blocks map table f.2 f.6 none in (by_table, last_then (copier_same (here tt) f.2 last) table f.2 f.6 last)),
+      λ none reason by_table.
+          (let last = is_last same hash setting w c blocks map table f.2 f.6 none in let still = last_then (copier_same (here tt) f.2 last) table f.2 f.6 last in (by_table, still.0, still.1)),
     )
     bounds (copies.Grows word code making) here f = ends_so c2 making.setting (subst (λ (x : Setting). x.initial ≤ 2 ^ 48) (sym f.9.setting_is) fits)
     bounds copies.Replaces here f = absurd f

@@ -92,8 +92,8 @@ module _ {K V Q : Type 0} (same : K → K → Bool) (hash : K → ℕ) (asks : Q
 
   bounds : (stands : Calling) → p.stands ≡ stands → Facts stands → EndsInCalling (IsForTheLast c2) (IsTheLast c2) w.memory p.trial.table stands
   bounds at.Nexts is f = λ none reason by_table.
-      (let last = is_last same hash setting w c blocks map p.trial.table f.1 f.2 none in
-      (by_table, last_then same hash setting w c c2 blocks map lasts (same_then (subst Reads (sym is) tt) f.1 last) p.trial.table f.1 f.2 last))
+      (let last = is_last same hash setting w c blocks map p.trial.table f.1 f.2.0 none in
+      let still = last_then same hash setting w c c2 blocks map lasts (same_then (subst Reads (sym is) tt) f.1 last) p.trial.table f.1 f.2.0 last in (by_table, still.0, still.1))
   bounds (at.Firsts making) is f = ends_so c2 making.setting (subst (λ (x : Setting). x.initial ≤ 2 ^ 48) (sym f.2.setting_is) fits)
   bounds (at.Allocs making) is f = ends_so c2 making.setting (subst (λ (x : Setting). x.initial ≤ 2 ^ 48) (sym f.3.setting_is) fits)
   bounds (at.Helps copier goal) is f = copier_bounds same hash setting w c c2 blocks map lasts fits copier f.6 (copier_spared copier goal is)

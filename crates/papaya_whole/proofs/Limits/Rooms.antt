@@ -107,8 +107,8 @@ module _ {K V : Type 0} (same : K → K → Bool) (hash : K → ℕ) (setting : 
       inr (inr (subst (λ (x : ℕ). 2 ^ 48 < needed p.additional x) (sum_ahead setting w.memory sum f.1.0 f.1.1 w2.memory (after, progress.Done n) counts ∙ had ∙ said) many))
   bounds (at.Follows table need) is f had = λ none late e.
       (let last = is_last same hash setting w c blocks map table f.0.0 f.0.1 none in
-      let then = last_then same hash setting w c c2 blocks map lasts (at_point (at.Follows table need) is f.0.0 last tt) table f.0.0 f.0.1 last in
-      inl (table.turn, then.0, inr late))
+      let still = last_then same hash setting w c c2 blocks map lasts (at_point (at.Follows table need) is f.0.0 last tt) table f.0.0 f.0.1 last in
+      inl (table.turn, still.0, inr late))
   bounds (at.Grows table making) is f had = ends_room c2 p.additional count making.setting (ends_so c2 making.setting (few making.setting f.3.setting_is))
   bounds (at.Copies copier) is f had =
       copying_room c2 p.additional count w.memory copier copier.stands (copier_bounds same hash setting w c c2 blocks map lasts fits copier (facts_of copier f) (copier_spared copier is))
@@ -135,12 +135,13 @@ module _ {K V : Type 0} (same : K → K → Bool) (hash : K → ℕ) (setting : 
       w.memory w2.memory end (bounds p.stands refl facts.point sums) s
 
 -- and so it is after a step of a row of the collector
-module _ {K V : Type 0} (hash : K → ℕ) (c : Chart K) (p : Reserve) (is_row : IsRowOfReserve p.stands) (count : ℕ) where
-  row_bounds : {T : Type 0} (m m2 : Mem T) (stands : Reserving) → IsRowOfReserve stands → EndsInReserving (IsForRoom c p.additional count) (IsTheLast c) m m2 p stands
-  row_bounds m m2 (at.Copies copier) row = copying_room c p.additional count m copier copier.stands (row_copier c m copier copier.stands row)
-  row_bounds m m2 _ row = absurd row
+row_bounds : {K T : Type 0} (c : Chart K) (p : Reserve) (count : ℕ) (m m2 : Mem T) (stands : Reserving) → IsRowOfReserve stands
+    → EndsInReserving (IsForRoom c p.additional count) (IsTheLast c) m m2 p stands
+row_bounds c p count m m2 (at.Copies copier) row = copying_room c p.additional count m copier copier.stands (row_copier c m copier copier.stands row)
+row_bounds c p count m m2 _ row = absurd row
 
+module _ {K V : Type 0} (hash : K → ℕ) (c : Chart K) (p : Reserve) (is_row : IsRowOfReserve p.stands) (count : ℕ) where
   pub row_reserve_ends : (m m2 : Mem (Node K V)) (end : Reserve × Outcome (Node K V) Unit) → Steps Took value_at m (reserve_plan hash p) m2 end
       → StandsInReserving (IsForRoom c p.additional count) (IsTheLast c) p.stands → ReservesAs (IsForRoom c p.additional count) (IsTheLast c) end
   row_reserve_ends m m2 end s so =
-      reserve_as (IsForRoom c p.additional count) (IsTheLast c) (for_room c p.additional count Memory (memory_is_other c)) K V hash p so m m2 end (row_bounds m m2 p.stands is_row) s
+      reserve_as (IsForRoom c p.additional count) (IsTheLast c) (for_room c p.additional count Memory (memory_is_other c)) K V hash p so m m2 end (row_bounds c p count m m2 p.stands is_row) s

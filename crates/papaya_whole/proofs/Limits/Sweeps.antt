@@ -76,11 +76,11 @@ module _ {K V : Type 0} (same : K → K → Bool) (hash : K → ℕ) (setting : 
       (sweeping_on (IsForTheLast c) (IsForTheLast c2) (IsTheLast c) (IsTheLast c2) o.stands (stays o.stands refl whole) so) w.memory w2.memory end (bounds o.stands refl whole) s
 
 -- and so it is after a step of a row of the collector
-module _ {K V : Type 0} (hash : K → ℕ) (c : Chart K) (o : Sweep) (is_row : IsRowOfSweep o.stands) where
-  row_bounds : {T : Type 0} (m : Mem T) (stands : Sweeping) → IsRowOfSweep stands → EndsInSweeping (IsForTheLast c) (IsTheLast c) m stands
-  row_bounds m (at.Copies copier) row = row_copier c m copier copier.stands row
-  row_bounds m _ row = tt
+row_bounds : {K T : Type 0} (c : Chart K) (m : Mem T) (stands : Sweeping) → IsRowOfSweep stands → EndsInSweeping (IsForTheLast c) (IsTheLast c) m stands
+row_bounds c m (at.Copies copier) row = row_copier c m copier copier.stands row
+row_bounds c m _ row = tt
 
+module _ {K V : Type 0} (hash : K → ℕ) (c : Chart K) (o : Sweep) (is_row : IsRowOfSweep o.stands) where
   pub row_sweep_ends : (m m2 : Mem (Node K V)) (end : Sweep × Swept (Node K V)) → Steps Took value_at m (sweep_plan hash o) m2 end
       → StandsInSweeping (IsForTheLast c) (IsTheLast c) o.stands → StandsInSweeping (IsForTheLast c) (IsTheLast c) end.0.stands × SweepRefusesSo (IsForTheLast c) end.1
-  row_sweep_ends m m2 end s so = sweep_as (IsForTheLast c) (IsTheLast c) (memory_is_other c) K V hash o so m m2 end (row_bounds m o.stands is_row) s
+  row_sweep_ends m m2 end s so = sweep_as (IsForTheLast c) (IsTheLast c) (memory_is_other c) K V hash o so m m2 end (row_bounds c m o.stands is_row) s

@@ -393,7 +393,6 @@ module _ (Is : Fault → Type 0) (Last : Table → Reason → Type 0) (nothing :
   pub key_told_as : (p : KeyCall K V Q) → IsSoAt Is Last p → (r : Reply V) → IsSoAt Is Last (told_at p.stands p r).0
   key_told_as p here r = told_at_as p.stands p here here r
 
-
 -- The promise: each step leads to a point that is so, and a refusal is so.
 module _ (Is : Fault → Type 0) (Last : Table → Reason → Type 0) (short : Is Memory) {K V Q : Type 0} (asks : Q → K → Bool) (same : K → K → Bool) (hash : K → ℕ) (p : KeyCall K V Q) (here : IsSoAt Is Last p)
     (m m2 : Mem (Node K V)) (end : KeyCall K V Q × Called (Node K V)) where

@@ -224,10 +224,10 @@ module _ (Is : Fault → Type 0) (Last : Table → Reason → Type 0) (short : I
   pub new_table_as : (m m2 : Mem (Node K V)) (end : NewTable × Progress Table) → Steps Took value_at m (new_table_plan n) m2 end → MakesAs Is Last end
   new_table_as m m2 end s = by n.stands here s
     where
-      told : (stage : Making) → AlwaysOf (MakesAs Is Last) (plan_at n stage) → Steps Took value_at m (plan_at n stage) m2 end → MakesAs Is Last end
-      told stage always s = always_steps (MakesAs Is Last) m m2 (plan_at n stage) end always s
+      told : (stage : Making) → AlwaysOf (MakesAs Is Last) (plan_at {K = K} {V = V} n stage) → Steps Took value_at m (plan_at {K = K} {V = V} n stage) m2 end → MakesAs Is Last end
+      told stage always s = always_steps (MakesAs Is Last) m m2 (plan_at {K = K} {V = V} n stage) end always s
 
-      by : (stage : Making) → StandsInMaking Is Last stage → Steps Took value_at m (plan_at n stage) m2 end → MakesAs Is Last end
+      by : (stage : Making) → StandsInMaking Is Last stage → Steps Took value_at m (plan_at {K = K} {V = V} n stage) m2 end → MakesAs Is Last end
       by (makes.Sums before r sum) so s =
           let d = steps_back (counted n before r) m m2 (sum_plan sum) end s in
           subst (MakesAs Is Last) (sym d.2) (counted_as Is Last n ends before r so d.0 (always_steps CountsOn m m2 (sum_plan sum) d.0 (sum_counts (Node K V) sum) d.1))

@@ -1,6 +1,6 @@
--- It comes to its end, and rests then.
+-- It comes to its end, and rests then, with the tables that it was made with.
 use Rattle.papaya_owned.proofs.Owned.Lawful.{are_lawful}
-use Rattle.papaya_resting.proofs.Makes.{begins_ends, begins_holds, begins_refused}
+use Rattle.papaya_resting.proofs.Makes.{begins_ends, begins_holds, begins_refused, begins_shown}
 use Rattle.papaya_holds.proofs.Changes.{making_holds_none}
 use Rattle.papaya_resting.proofs.making.begin.Goals as goal
 
@@ -15,6 +15,13 @@ pub returns-clause-held : goal.returns-clause-held
 returns-clause-held g c =
     let r = c.requires in
     begins_holds {V = g.row.V.Denot} g.K.PartialEq.eq _
+    (are_lawful g.K.PartialEq.eq g.S.Hasher.Hasher.finish g.S.Hasher.Hasher.write g.S.BuildHasher.build_hasher g.K.Hash.hash_input c.args._hasher.now g.met.K.Eq.laws g.met.K.Hash.respects_eq)
+    c.args.slot c.args.places c.max.result c.max.ensures r.initial r.table _ r.history.0 r.history.1 r.history.2 r.root r.used _ c.new-opening.ensures _ _ _ c.run.ensures
+
+pub returns-clause-tables : goal.returns-clause-tables
+returns-clause-tables g c =
+    let r = c.requires in
+    begins_shown {V = g.row.V.Denot} g.K.PartialEq.eq _
     (are_lawful g.K.PartialEq.eq g.S.Hasher.Hasher.finish g.S.Hasher.Hasher.write g.S.BuildHasher.build_hasher g.K.Hash.hash_input c.args._hasher.now g.met.K.Eq.laws g.met.K.Hash.respects_eq)
     c.args.slot c.args.places c.max.result c.max.ensures r.initial r.table _ r.history.0 r.history.1 r.history.2 r.root r.used _ c.new-opening.ensures _ _ _ c.run.ensures
 

@@ -14,7 +14,7 @@ make_map-requires g c =
 
 pub returns-in-MakeMap-clause-happens : goal.returns-in-MakeMap-clause-happens
 returns-in-MakeMap-clause-happens g c =
-    still_if g.K.PartialEq.eq (g.S.Hashes.hash c.args.scheduler.now.logged.executor.hasher) c.args.event _ c.in-MakeMap.is c.args.scheduler.now c.args.is_first c.make_map.new.self refl c.make_map.result c.make_map.ensures.steps
+    still_if g.K.PartialEq.eq (g.S.Hashes.hash c.args.scheduler.now.logged.executor.hasher) c.args.event _ c.in-MakeMap.is c.args.scheduler.now c.args.is_first c.make_map.new.scheduler refl c.make_map.result c.make_map.ensures.steps
     (IfOk-weaker c.make_map.result _ _ (λ played all. let plays = all g.K.PartialEq.eq (g.S.Hashes.hash c.args.scheduler.now.logged.executor.hasher) in λ terms log first holds out. plays terms log (may_map g.K.PartialEq.eq (g.S.Hashes.hash c.args.scheduler.now.logged.executor.hasher) c.args.event _ c.in-MakeMap.is c.args.scheduler.now terms log holds out)) c.make_map.ensures.plays)
 
 pub end_map-requires : goal.end_map-requires
@@ -22,7 +22,7 @@ end_map-requires g c = (g.K.PartialEq.eq, g.S.Hashes.hash c.args.scheduler.now.l
 
 pub returns-in-EndMap-clause-happens : goal.returns-in-EndMap-clause-happens
 returns-in-EndMap-clause-happens g c =
-    still_if g.K.PartialEq.eq (g.S.Hashes.hash c.args.scheduler.now.logged.executor.hasher) c.args.event _ c.in-EndMap.is c.args.scheduler.now c.args.is_first c.end_map.new.self refl c.end_map.result c.end_map.ensures.steps
+    still_if g.K.PartialEq.eq (g.S.Hashes.hash c.args.scheduler.now.logged.executor.hasher) c.args.event _ c.in-EndMap.is c.args.scheduler.now c.args.is_first c.end_map.new.scheduler refl c.end_map.result c.end_map.ensures.steps
     (IfOk-weaker c.end_map.result _ _ (λ played all. let plays = all g.K.PartialEq.eq (g.S.Hashes.hash c.args.scheduler.now.logged.executor.hasher) in λ terms log first holds out. plays terms log (due_so g.K.PartialEq.eq (g.S.Hashes.hash c.args.scheduler.now.logged.executor.hasher) c.args.event _ c.in-EndMap.is c.args.scheduler.now terms log holds out) holds.counts.apart) c.end_map.ensures.plays)
 
 pub show_shape-requires : goal.show_shape-requires
@@ -38,7 +38,7 @@ reclaim_all-requires g c = (g.K.PartialEq.eq, g.S.Hashes.hash c.args.scheduler.n
 
 pub returns-in-ReclaimAll-clause-happens : goal.returns-in-ReclaimAll-clause-happens
 returns-in-ReclaimAll-clause-happens g c =
-    still_if g.K.PartialEq.eq (g.S.Hashes.hash c.args.scheduler.now.logged.executor.hasher) c.args.event _ c.in-ReclaimAll.is c.args.scheduler.now c.args.is_first c.reclaim_all.new.self refl c.reclaim_all.result c.reclaim_all.ensures.steps
+    still_if g.K.PartialEq.eq (g.S.Hashes.hash c.args.scheduler.now.logged.executor.hasher) c.args.event _ c.in-ReclaimAll.is c.args.scheduler.now c.args.is_first c.reclaim_all.new.scheduler refl c.reclaim_all.result c.reclaim_all.ensures.steps
     (IfOk-weaker c.reclaim_all.result _ _ (λ played all. let plays = all g.K.PartialEq.eq (g.S.Hashes.hash c.args.scheduler.now.logged.executor.hasher) in λ terms log first holds out. plays terms log (due_so g.K.PartialEq.eq (g.S.Hashes.hash c.args.scheduler.now.logged.executor.hasher) c.args.event _ c.in-ReclaimAll.is c.args.scheduler.now terms log holds out) holds.gives) c.reclaim_all.ensures.plays)
 
 pub close-requires : goal.close-requires
@@ -46,7 +46,7 @@ close-requires g c = (g.K.PartialEq.eq, g.S.Hashes.hash c.args.scheduler.now.log
 
 pub returns-in-Close-clause-happens : goal.returns-in-Close-clause-happens
 returns-in-Close-clause-happens g c =
-    still_if g.K.PartialEq.eq (g.S.Hashes.hash c.args.scheduler.now.logged.executor.hasher) c.args.event _ c.in-Close.is c.args.scheduler.now c.args.is_first c.close.new.self refl c.close.result c.close.ensures.steps
+    still_if g.K.PartialEq.eq (g.S.Hashes.hash c.args.scheduler.now.logged.executor.hasher) c.args.event _ c.in-Close.is c.args.scheduler.now c.args.is_first c.close.new.scheduler refl c.close.result c.close.ensures.steps
     (IfOk-weaker c.close.result _ _ (λ played all. let plays = all g.K.PartialEq.eq (g.S.Hashes.hash c.args.scheduler.now.logged.executor.hasher) in λ terms log first holds out. plays terms log (due_so g.K.PartialEq.eq (g.S.Hashes.hash c.args.scheduler.now.logged.executor.hasher) c.args.event _ c.in-Close.is c.args.scheduler.now terms log holds out) holds.gives) c.close.ensures.plays)
 
 pub unreachable-requires : goal.unreachable-requires
@@ -68,16 +68,16 @@ pub returns-in-Close-clause-back : goal.returns-in-Close-clause-back
 returns-in-Close-clause-back g c = gave_all g.K.PartialEq.eq (g.S.Hashes.hash c.args.scheduler.now.logged.executor.hasher) c.args.event _ c.in-Close.is c.args.scheduler.now c.close.result c.args.back.now.items c.close.new.back.items c.close.ensures.back
 
 pub returns-in-MakeMap-clause-count : goal.returns-in-MakeMap-clause-count
-returns-in-MakeMap-clause-count g c = counts_as c.args.event c.make_map.result (length c.args.scheduler.now.logged.executor.maps.items) (length c.make_map.new.self.logged.executor.maps.items) _ c.in-MakeMap.is c.make_map.ensures.numbers
+returns-in-MakeMap-clause-count g c = counts_as c.args.event c.make_map.result (length c.args.scheduler.now.logged.executor.maps.items) (length c.make_map.new.scheduler.logged.executor.maps.items) _ c.in-MakeMap.is c.make_map.ensures.numbers
 
 pub returns-in-EndMap-clause-count : goal.returns-in-EndMap-clause-count
-returns-in-EndMap-clause-count g c = counts_still c.args.event c.end_map.result (length c.args.scheduler.now.logged.executor.maps.items) (length c.end_map.new.self.logged.executor.maps.items) (λ n mode k made. (let two = sym c.in-EndMap.is ∙ made in cc two)) c.end_map.ensures.given.3
+returns-in-EndMap-clause-count g c = counts_still c.args.event c.end_map.result (length c.args.scheduler.now.logged.executor.maps.items) (length c.end_map.new.scheduler.logged.executor.maps.items) (λ n mode k made. (let two = sym c.in-EndMap.is ∙ made in cc two)) c.end_map.ensures.given.3
 
 pub returns-in-ShowShape-clause-count : goal.returns-in-ShowShape-clause-count
 returns-in-ShowShape-clause-count g c = counts_still c.args.event c.show_shape.result (length c.args.scheduler.now.logged.executor.maps.items) (length c.args.scheduler.now.logged.executor.maps.items) (λ n mode k made. (let two = sym c.in-ShowShape.is ∙ made in cc two)) refl
 
 pub returns-in-ReclaimAll-clause-count : goal.returns-in-ReclaimAll-clause-count
-returns-in-ReclaimAll-clause-count g c = counts_still c.args.event c.reclaim_all.result (length c.args.scheduler.now.logged.executor.maps.items) (length c.reclaim_all.new.self.logged.executor.maps.items) (λ n mode k made. (let two = sym c.in-ReclaimAll.is ∙ made in cc two)) c.reclaim_all.ensures.given.3
+returns-in-ReclaimAll-clause-count g c = counts_still c.args.event c.reclaim_all.result (length c.args.scheduler.now.logged.executor.maps.items) (length c.reclaim_all.new.scheduler.logged.executor.maps.items) (λ n mode k made. (let two = sym c.in-ReclaimAll.is ∙ made in cc two)) c.reclaim_all.ensures.given.3
 
 pub returns-in-Close-clause-count : goal.returns-in-Close-clause-count
-returns-in-Close-clause-count g c = counts_still c.args.event c.close.result (length c.args.scheduler.now.logged.executor.maps.items) (length c.close.new.self.logged.executor.maps.items) (λ n mode k made. (let two = sym c.in-Close.is ∙ made in cc two)) c.close.ensures.given.3
+returns-in-Close-clause-count g c = counts_still c.args.event c.close.result (length c.args.scheduler.now.logged.executor.maps.items) (length c.close.new.scheduler.logged.executor.maps.items) (λ n mode k made. (let two = sym c.in-Close.is ∙ made in cc two)) c.close.ensures.given.3

@@ -1,5 +1,5 @@
 -- An event is kept out.
-use Rattle.papaya_scheduler.specs.Turns.{is_of_each}
+use Rattle.papaya_named.specs.Turns.{is_of_each}
 use Rattle.papaya_scheduler.proofs.Refused.{held_out}
 use Rattle.papaya_scheduler.proofs.scheduler.Scheduler.keeps_out.Goals as goal
 

@@ -1,4 +1,5 @@
 -- By what the insertion comes to in the order in which its pairs were stored.
+use Rattle.papaya_asks.specs.declared.refused.Refused.{Refused}
 use Rattle.papaya_seq_map.proofs.Kept.{either_rested, either_shown, holds_err, holds_ok, ok_taken}
 use Rattle.papaya_seq_map.proofs.Shows.{capacity_shown, counts, seen_first, seen_found, seen_held, seen_keeps, shows_done, shows_refused, told_same}
 use Rattle.papaya_seq_map.proofs.map.HashMap.insert.Goals as goal
@@ -52,4 +53,4 @@ returns-clause-keeps g c =
 
 pub returns-clause-capacity : goal.returns-clause-capacity
 returns-clause-capacity g c =
-    let held = c.self.invariant in capacity_shown _ _ _ (λ r. r.fault) c.insert.result (c.insert.ensures.capacity held.0 held.1)
+    let held = c.self.invariant in capacity_shown _ _ _ (λ (e : Refused _ _). e.fault) c.insert.result (c.insert.ensures.capacity held.0 held.1)

@@ -1,9 +1,8 @@
 -- No pair has changed.
 use Rattle.std.specs.Prelude.{[]}
-use Rattle.std.proofs.lemmas.List.Sorted.{length_permutation}
 use Rattle.std.proofs.lemmas.Result.{on_ok_weaker}
 use Rattle.papaya_resting.proofs.Lasts.{none_in, none_named}
-use Rattle.papaya_seq_map.proofs.Shows.{counts, first_has, room_shown, seen_held, seen_keeps, shown_as}
+use Rattle.papaya_seq_map.proofs.Shows.{counts, first_has, room_shown, seen_as_many, seen_held, seen_keeps, shown_as}
 use Rattle.papaya_seq_map.proofs.map.HashMap.reserve.Goals as goal
 
 pub reserve-requires : goal.reserve-requires
@@ -30,12 +29,12 @@ pub returns-clause-room : goal.returns-clause-room
 returns-clause-room g c =
     let held = c.self.invariant in
     on_ok_weaker c.reserve.result
-    (λ room. first_has _ _ _ _ _ _ (length_permutation held.0 _ (seen_held _ _ _ _ held.0 held.1 c.self.inside.resting.tables _ _ _ _ c.self.view_is)) room) (c.reserve.ensures.room held.0 held.1)
+    (λ room. first_has _ _ _ _ _ _ (seen_as_many _ _ _ _ held.0 held.1 c.self.inside.resting.tables _ _ _ _ c.self.view_is) room) (c.reserve.ensures.room held.0 held.1)
 
 pub returns-clause-capacity : goal.returns-clause-capacity
 returns-clause-capacity g c =
     let held = c.self.invariant in
-    room_shown _ _ _ _ _ _ (length_permutation held.0 _ (seen_held _ _ _ _ held.0 held.1 c.self.inside.resting.tables _ _ _ _ c.self.view_is)) c.reserve.result (c.reserve.ensures.capacity held.0 held.1)
+    room_shown _ _ _ _ _ _ (seen_as_many _ _ _ _ held.0 held.1 c.self.inside.resting.tables _ _ _ _ c.self.view_is) c.reserve.result (c.reserve.ensures.capacity held.0 held.1)
 
 pub returns-clause-keeps : goal.returns-clause-keeps
 returns-clause-keeps g c =

@@ -1,4 +1,5 @@
 -- By what the insertion comes to in the order in which its pairs were stored.
+use Rattle.papaya_asks.specs.declared.refused.Refused.{Refused}
 use Rattle.papaya_seq_map.proofs.Kept.{each_rested, each_shown, holds_err, holds_found, holds_stored}
 use Rattle.papaya_seq_map.proofs.Shows.{capacity_shown, counts, seen_first, seen_held, seen_keeps, shows_found, shows_refused, shows_stored}
 use Rattle.papaya_seq_map.proofs.map.HashMap.try_insert.Goals as goal
@@ -45,4 +46,4 @@ returns-clause-keeps g c =
 
 pub returns-clause-capacity : goal.returns-clause-capacity
 returns-clause-capacity g c =
-    let held = c.self.invariant in capacity_shown _ _ _ (λ r. r.fault) c.try_insert.result (c.try_insert.ensures.capacity held.0 held.1)
+    let held = c.self.invariant in capacity_shown _ _ _ (λ (e : Refused _ _). e.fault) c.try_insert.result (c.try_insert.ensures.capacity held.0 held.1)

@@ -5,7 +5,7 @@ use Rattle.std.proofs.lemmas.Result.{err_from_is_err_and}
 use Rattle.papaya_resting.proofs.Makes.{nothing_happened, nothing_there, slot_refused, taken_inside}
 use Rattle.papaya_resting.proofs.Lasts.{none_in, none_named}
 use Rattle.papaya_pairs.proofs.Orders.{none_left}
-use Rattle.papaya_seq_map.proofs.Shows.{counts, shown}
+use Rattle.papaya_seq_map.proofs.Shows.{counts, made_shown, shown}
 use Rattle.papaya_seq_map.proofs.map.HashMap.with_capacity_and_hasher.Goals as goal
 
 pub register-requires : goal.register-requires
@@ -22,6 +22,9 @@ invariant_of-result g c = record { tables = counts _ _ _ _ _ c.in_ok-setting.ens
 
 pub returns-clause-pairs : goal.returns-clause-pairs
 returns-clause-pairs g c = none_left _ (shown _ _ _ _ _ c.in_ok-setting.ensures.held _)
+
+pub returns-clause-tables : goal.returns-clause-tables
+returns-clause-tables g c = made_shown _ _ _ _ _ c.in_ok-setting.ensures.tables c.in_ok-places.ensures.made
 
 pub returns-in_err-slot-clause-fault : goal.returns-in_err-slot-clause-fault
 returns-in_err-slot-clause-fault g c =

@@ -1,0 +1,8 @@
+pub mod MapLists
+pub mod Mapped
+pub mod EndsLeave
+pub mod MapsEnded
+pub mod RootsUsed
+pub mod MapNumbers
+pub mod MapsMade
+mod AllGiven

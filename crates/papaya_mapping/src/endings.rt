@@ -1,0 +1,55 @@
+//! Maps end.
+ghost use Rattle.std.specs.Prelude.{◌≡◌, ℕ, Bool, not, filter, IfOk};
+ghost use Rattle.papaya_runs.specs.Same.{is_same};
+ghost use Rattle.papaya_schedules.specs.declared.event.Event.TheVariants as event;
+ghost use Rattle.papaya_executor.specs.IsAt.{KeepsGiven};
+ghost use Rattle.papaya_scheduler.specs.Back.{GivesBack};
+ghost use Rattle.papaya_scheduler.specs.Mapping.{PlaysEnding};
+ghost use Rattle.papaya_scheduler.specs.Played.{MayPlay};
+
+use papaya_named::named_map::NamedMap;
+use papaya_runs::record::Pair;
+use papaya_runs::token::Token;
+use papaya_scheduler::played::Played;
+use papaya_scheduler::scheduler::Scheduler;
+use papaya_schedules::outcome::Outcome;
+use std::alloc::AllocError;
+
+/// The map of this name is there no more.
+fn without(maps: &mut Vec<NamedMap>, own: &Token)
+    ensures { maps.new.items ≡ filter (λ there. not (is_same there.name own.now)) maps.old.items }
+{
+    maps.retain(|there| !there.name.is(own));
+}
+
+/// Ends a map on which no call is under way: the pairs that are still in it are reclaimed, and then its tables. What waits behind these waits behind its root from then on.
+/// On an error nothing is said of the state after it: lists or notes of the run found no memory.
+pub fn end_map<K: Drop, V: Drop, S>(
+    scheduler: &mut Scheduler<K, V, S>,
+    map: &Token,
+    back: &mut Vec<Pair<K, V>>,
+) -> Result<Played<V>, AllocError>
+    requires { (same : K → K → Bool) × (hash : K → ℕ) × MayPlay same hash (event.EndMap map.now) scheduler.old }
+    ensures steps { IfOk result (λ played. played.steps ≡ 0) }
+    ensures plays { IfOk result (λ played. (same : K → K → Bool) (hash : K → ℕ) → PlaysEnding same hash (event.EndMap map.now) played scheduler.old scheduler.new) }
+    ensures back { IfOk result (λ played. (same : K → K → Bool) (hash : K → ℕ) → GivesBack same hash (event.EndMap map.now) played scheduler.old back.old.items back.new.items) }
+    ensures given { KeepsGiven scheduler.old.logged.executor scheduler.new.logged.executor }
+{
+    let Some(number) = scheduler.number_of(map) else {
+        return Ok(scheduler.busy());
+    };
+    if scheduler.calls.are_on(number) {
+        return Ok(scheduler.busy());
+    }
+    let mut effects = scheduler.no_effects();
+    let caller = scheduler.logged.begin_end(0, number)?;
+    scheduler
+        .logged
+        .run_end(caller, number, &mut effects, back)?;
+    without(&mut scheduler.maps, map);
+    Ok(Played {
+        outcome: Outcome::Done,
+        steps: 0,
+        effects,
+    })
+}

@@ -1,0 +1,6 @@
+//! Maps of a scheduler are made, and end; and everything is reclaimed.
+#![tactic(auto)]
+
+pub mod endings;
+pub mod makings;
+pub mod reclaims;

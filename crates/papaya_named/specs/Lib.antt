@@ -1,0 +1,5 @@
+pub mod Seen
+pub mod Machines
+pub mod Telling
+pub mod Turns
+pub mod Places
