@@ -7,11 +7,12 @@ use Rattle.papaya_schedules.specs.declared.effect.Effect.{Effect}
 use Rattle.papaya_schedules.specs.declared.event.Event.{Event}
 use Rattle.papaya_scheduler.specs.Played.{terms_given}
 use Rattle.papaya_scheduler.specs.declared.scheduler.Given.{Given}
-use Rattle.papaya_running.specs.Run.{IsRightRun, bounded}
+use Rattle.papaya_scheduler.specs.declared.scheduler.Scheduler.{Scheduler}
+use Rattle.papaya_running.specs.Run.{IsRightRun, SoFar, bounded}
 use Rattle.papaya_running.proofs.Beginning.{Begins, are_few, first_holds, still_begins}
 use Rattle.papaya_running.proofs.LawfulKeys.{are_lawful}
 use Rattle.papaya_running.proofs.Turns.{back_first, run_so, start_so}
-use Rattle.papaya_running.proofs.running.run.Goals as goal
+use Rattle.papaya_running.proofs.running.run_refusing.Goals as goal
 
 pub loop-choice-init : goal.loop-choice-init
 loop-choice-init g c =
@@ -37,17 +38,29 @@ loop-event-init g c =
     )
 
 pub take_turn-requires : goal.take_turn-requires
-take_turn-requires g c = (terms_given (bounded c.args.given), c.loop-event.invariant.0, c.loop-event.invariant.2)
+take_turn-requires g c = (
+  terms_given (bounded c.args.given),
+  c.loop-event.invariant.0,
+  subst (λ (p : Scheduler g.row.K.Denot g.row.V.Denot g.row.S.Denot).
+      SoFar g.K.PartialEq.eq (λ key. g.S.Hasher.Hasher.finish (fold g.S.Hasher.Hasher.write (g.S.BuildHasher.build_hasher p.logged.executor.hasher) (g.K.Hash.hash_input key)) % 2 ^ 64)
+      (terms_given (bounded c.args.given)) c.loop-event.invariant.0 c.loop-event.written c.loop-event.tally p)
+      (sym c.refuse_as_told.ensures) c.loop-event.invariant.2,
+)
 
 pub loop-event-preserved : goal.loop-event-preserved
 loop-event-preserved g c =
     let events = c.loop-event.invariant.0 in
     let event = c.in-Some-event.event in
+    let so =
+      subst (λ (p : Scheduler g.row.K.Denot g.row.V.Denot g.row.S.Denot).
+      SoFar g.K.PartialEq.eq (λ key. g.S.Hasher.Hasher.finish (fold g.S.Hasher.Hasher.write (g.S.BuildHasher.build_hasher p.logged.executor.hasher) (g.K.Hash.hash_input key)) % 2 ^ 64)
+      (terms_given (bounded c.args.given)) c.loop-event.invariant.0 c.loop-event.written c.loop-event.tally p)
+      (sym c.refuse_as_told.ensures) c.loop-event.invariant.2 in
     let next : c.loop-event.event-iterator.rest.items ≡ event ∷ c.next-in-loop-event.new.self.rest.items = let s = c.in-Some-event.ensures.steps in search rules in (
       events ++ event ∷ [],
       append_assoc events (event ∷ []) c.next-in-loop-event.new.self.rest.items ∙ ap (λ (l : List (Event g.row.K.Denot g.row.V.Denot)). events ++ l) (sym next) ∙ c.loop-event.invariant.1,
-      c.in_ok-take_turn.ensures.turn (terms_given (bounded c.args.given)) events c.loop-event.invariant.2,
-      c.in_ok-take_turn.ensures.back (terms_given (bounded c.args.given)) events c.loop-event.invariant.2 c.loop-event.invariant.3,
+      c.in_ok-take_turn.ensures.turn (terms_given (bounded c.args.given)) events so,
+      c.in_ok-take_turn.ensures.back (terms_given (bounded c.args.given)) events so c.loop-event.invariant.3,
     )
 
 pub end-requires : goal.end-requires

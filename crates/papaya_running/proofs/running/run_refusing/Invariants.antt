@@ -5,7 +5,7 @@ use Rattle.papaya_scheduler.specs.Played.{terms_given}
 use Rattle.papaya_running.specs.Back.{BackSoFar}
 use Rattle.papaya_running.specs.Run.{SoFar, bounded, log_so}
 use Rattle.papaya_running.proofs.Beginning.{Begins}
-use Rattle.papaya_running.proofs.running.run.Given as goal
+use Rattle.papaya_running.proofs.running.run_refusing.Given as goal
 
 abbrev pub invariant-loop-choice : goal.invariant-loop-choice
 invariant-loop-choice g l = Begins {K = g.row.K.Denot} {V = g.row.V.Denot} {S = g.row.S.Denot} (bounded l.fn.given) l.scheduler
