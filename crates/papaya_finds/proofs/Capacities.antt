@@ -96,29 +96,29 @@ capacities_stay K V m v s t shows keeps stood map standing is =
     let was = stood map standing is in
     made_as (capacity_or (map_at map m)) (capacity_or (map_at map v)) was.0.setting.initial standing.setting.initial (keeps map was.0 was.1) was.2 (shows map was.0 was.1)
 
--- Effects leave the capacity of each map: at most its root comes to a table.
+-- Effects leave what is looked at of each map, if that is not its root: at most this comes to a table.
+module _ {X : Type 0} (look : Option MapThere → X) (but_root : (f : MapThere) (first : ℕ) → look (Some (record f { first = first })) ≡ look (Some f)) where
+  alike : (z : Bool) (x y : MapThere) (a b : Option MapThere) → look (Some x) ≡ look (Some y) → look a ≡ look b → look (cond z (Some x) a) ≡ look (cond z (Some y) b)
+  alike true x y a b one rest = one
+  alike false x y a b one rest = rest
 
-alike : (z : Bool) (x y : MapThere) (a b : Option MapThere) → x.capacity ≡ y.capacity → capacity_or a ≡ capacity_or b → capacity_or (cond z (Some x) a) ≡ capacity_or (cond z (Some y) b)
-alike true x y a b one rest = one
-alike false x y a b one rest = rest
+  promoted_same : (t : Table) (of : ℕ) (fs : List MapThere) → look (find (λ f. f.number == of) (map (promoted t) fs)) ≡ look (find (λ f. f.number == of) fs)
+  promoted_same t of [] = refl
+  promoted_same t of (g ∷ fs) = by (g.number == t.map) (promoted_same t of fs)
+    where
+      by : (q : Bool) → look (find (λ f. f.number == of) (map (promoted t) fs)) ≡ look (find (λ f. f.number == of) fs)
+          → look (cond ((if q then record g { first = t.turn } else g).number == of) (Some (if q then record g { first = t.turn } else g)) (find (λ f. f.number == of) (map (promoted t) fs)))
+          ≡ look (cond (g.number == of) (Some g) (find (λ f. f.number == of) fs))
+      by true rest = alike (g.number == of) (record g { first = t.turn }) g (find (λ f. f.number == of) (map (promoted t) fs)) (find (λ f. f.number == of) fs) (but_root g t.turn) rest
+      by false rest = alike (g.number == of) g g (find (λ f. f.number == of) (map (promoted t) fs)) (find (λ f. f.number == of) fs) refl rest
 
-promoted_capacity : (t : Table) (of : ℕ) (fs : List MapThere) → capacity_or (find (λ f. f.number == of) (map (promoted t) fs)) ≡ capacity_or (find (λ f. f.number == of) fs)
-promoted_capacity t of [] = refl
-promoted_capacity t of (g ∷ fs) = by (g.number == t.map) (promoted_capacity t of fs)
-  where
-    by : (q : Bool) → capacity_or (find (λ f. f.number == of) (map (promoted t) fs)) ≡ capacity_or (find (λ f. f.number == of) fs)
-        → capacity_or (cond ((if q then record g { first = t.turn } else g).number == of) (Some (if q then record g { first = t.turn } else g)) (find (λ f. f.number == of) (map (promoted t) fs)))
-        ≡ capacity_or (cond (g.number == of) (Some g) (find (λ f. f.number == of) fs))
-    by true rest = alike (g.number == of) (record g { first = t.turn }) g (find (λ f. f.number == of) (map (promoted t) fs)) (find (λ f. f.number == of) fs) refl rest
-    by false rest = alike (g.number == of) g g (find (λ f. f.number == of) (map (promoted t) fs)) (find (λ f. f.number == of) fs) refl rest
-
-effect_keeps : {K V : Type 0} (caller : Option (List ℕ)) (acted : Option ℕ) (f : Effect) (m : Moment K V) (of : ℕ) → capacity_or (map_at of (with_effect caller acted f m)) ≡ capacity_or (map_at of m)
-effect_keeps caller acted (effect.Promoted t) m of = promoted_capacity t of m.maps
-effect_keeps caller acted _ m of = refl
+  pub effect_leaves : {K V : Type 0} (caller : Option (List ℕ)) (acted : Option ℕ) (f : Effect) (m : Moment K V) (of : ℕ) → look (map_at of (with_effect caller acted f m)) ≡ look (map_at of m)
+  effect_leaves caller acted (effect.Promoted t) m of = promoted_same t of m.maps
+  effect_leaves caller acted _ m of = refl
 
 pub effects_keep_capacities : (K V : Type 0) → EffectsKeepCapacities K V
 effects_keep_capacities K V caller acted [] m of = refl
-effects_keep_capacities K V caller acted (f ∷ effects) m of = effects_keep_capacities K V caller acted effects (with_effect caller acted f m) of ∙ effect_keeps caller acted f m of
+effects_keep_capacities K V caller acted (f ∷ effects) m of = effects_keep_capacities K V caller acted effects (with_effect caller acted f m) of ∙ effect_leaves capacity_or (λ g n. refl) caller acted f m of
 
 -- Maps of which fewer blocks may be looked at were made as they were.
 

@@ -32,7 +32,7 @@ use Rattle.papaya_owes.specs.Making.{making_in_calling, making_in_sweeping}
 use Rattle.papaya_owes.proofs.Walks.{IsToOwn, call_makes, sweep_makes}
 use Rattle.papaya_finds.specs.Nexts.{copier_in_calling, making_of_copier, RootHasLeft, MakesByCopier, CopiersMayAsk}
 use Rattle.papaya_finds.proofs.CopiersNext.{copiers_have_next}
-use Rattle.papaya_finds.proofs.GrowsAsked.{Asks, made_of, may_ask}
+use Rattle.papaya_finds.proofs.Grows.Asked.{Asks, made_of, may_ask}
 
 -- a call that copies makes no block for a pair, and no table but its copier's
 

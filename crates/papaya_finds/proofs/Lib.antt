@@ -32,12 +32,7 @@ pub mod Runs
 pub mod Closed
 pub mod Little
 pub mod Shaping
-pub mod GrowsOn
-pub mod GrowsThere
-pub mod GrowsGiven
-pub mod GrowsAsked
-pub mod GrowsSteps
-pub mod GrowsBetween
+pub mod Grows
 pub mod StoresNone
 pub mod Linking
 pub mod CopiersNext
@@ -45,3 +40,5 @@ pub mod CopiersAsk
 pub mod Rest
 pub mod Capacities
 pub mod Firsts
+pub mod Waits
+pub mod Reserving

@@ -61,7 +61,7 @@ use Rattle.papaya_finds.specs.Growing.{GrowsAt, ShowsGrowing}
 use Rattle.papaya_finds.specs.Linking.{FindsShape, FindShapes, IsMadeFor, KeyCallsLink}
 use Rattle.papaya_finds.specs.Shaping.{ShapedAt, IsFirstTable, IsNextTable}
 use Rattle.papaya_finds.specs.Within.{many_of}
-use Rattle.papaya_finds.proofs.GrowsGiven.{HasGivenForNone, called_valued, knows_for_none}
+use Rattle.papaya_finds.proofs.Grows.Given.{HasGivenForNone, called_valued, knows_for_none}
 use Rattle.papaya_finds.proofs.Steps.{steps_find_places}
 use Rattle.papaya_finds.proofs.StoresNone.{given_stores}
 

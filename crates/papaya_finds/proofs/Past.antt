@@ -31,7 +31,7 @@ none_less : (n : ℕ) → 0 ≤ n
 none_less n = omega arith
 
 -- one that the root has come to is so further on
-past_on : (born lies first first2 : ℕ) → first ≤ first2 → IsPast born lies first → IsPast born lies first2
+pub past_on : (born lies first first2 : ℕ) → first ≤ first2 → IsPast born lies first → IsPast born lies first2
 past_on born lies first first2 less h = by (nat_lt born lies) h
   where
     by : (q : Bool) → MatchBool q (lies ≤ first) (Unit {0}) → MatchBool q (lies ≤ first2) (Unit {0})
@@ -73,7 +73,7 @@ spot_elsewhere false place copy k s spot n apart = refl
 
 module _ {K V : Type 0} (who : Option (List ℕ)) (acted : Option ℕ) where
   -- by one effect
-  kept : (f : Effect) (m : Moment K V) → FindsNumbers m f → FindsOnward acted m f → (n : ℕ) → HasLeftMaps m n
+  pub kept : (f : Effect) (m : Moment K V) → FindsNumbers m f → FindsOnward acted m f → (n : ℕ) → HasLeftMaps m n
       → ((with_effect who acted f m).born n ≡ m.born n) × ((with_effect who acted f m).spot n ≡ m.spot n)
   kept (Stored k s) m finds on n left =
       let apart : n ≢ k = (λ e. let l = left.0 in omega (arith, e, finds, l)) in (born_elsewhere acted k s m.born n apart, put_elsewhere k s m.spot n apart)
@@ -85,16 +85,20 @@ module _ {K V : Type 0} (who : Option (List ℕ)) (acted : Option ℕ) where
   kept f m finds on n left =
       let aside = aside_all who acted (f ∷ []) m (refl, tt) in (ap (λ (g : ℕ → Table). g n) aside.born, ap (λ (g : ℕ → Spot). g n) aside.spot)
 
-  goes_on : (f : Effect) (m : Moment K V) → FindsOnward acted m f → (map : ℕ) → first_of map m ≤ first_of map (with_effect who acted f m)
+  pub goes_on : (f : Effect) (m : Moment K V) → FindsOnward acted m f → (map : ℕ) → first_of map m ≤ first_of map (with_effect who acted f m)
   goes_on (Promoted t) m on map = roots_go_on t m.maps on map
   goes_on f m on map = itself (first_of map m)
+
+  pub left_still : (f : Effect) (m : Moment K V) → FindsNumbers m f → (n : ℕ) → HasLeftMaps m n → HasLeftMaps (with_effect who acted f m) n
+  left_still f m finds n left =
+      let more : length m.stored ≤ length (with_effect who acted f m).stored = stored_grows who acted (f ∷ []) m in
+      ((let l = left.0 in omega (arith, l, more)), stays_out acted f m finds n left.0 left.1)
 
   one_past : (f : Effect) (m : Moment K V) → FindsNumbers m f → FindsOnward acted m f → (map n : ℕ) → HasLeftMaps m n → IsPastRoot map m n
       → HasLeftMaps (with_effect who acted f m) n × IsPastRoot map (with_effect who acted f m) n
   one_past f m finds on map n left past =
-      let more : length m.stored ≤ length (with_effect who acted f m).stored = stored_grows who acted (f ∷ []) m in
       let same = kept f m finds on n left in (
-        ((let l = left.0 in omega (arith, l, more)), stays_out acted f m finds n left.0 left.1),
+        left_still f m finds n left,
         subst (λ (s : Spot). IsPast ((with_effect who acted f m).born n).turn s.turn (first_of map (with_effect who acted f m))) (sym same.1)
             (subst (λ (b : Table). IsPast b.turn (m.spot n).turn (first_of map (with_effect who acted f m))) (sym same.0)
             (past_on (m.born n).turn (m.spot n).turn (first_of map m) (first_of map (with_effect who acted f m)) (goes_on f m on map) past)),

@@ -15,7 +15,7 @@ use Rattle.papaya_histories.specs.Given.Callers.Kind.{Kind}
 use Rattle.papaya_histories.specs.Given.Callers.Pairs.{Given, Begun, IsTold}
 use Rattle.papaya_histories.specs.Given.Hands.Asked.{given_by, AreReplies}
 use Rattle.papaya_histories.proofs.Given.Hands.Replies.{gave, told_as}
-use Rattle.papaya_finds.proofs.GrowsGiven.{StoresForNone, answers_none, HasGivenForNone, kind_same}
+use Rattle.papaya_finds.proofs.Grows.Given.{StoresForNone, answers_none, HasGivenForNone, kind_same}
 
 module _ {K V : Type 0} where
   -- where its key is missing

@@ -21,3 +21,6 @@ pub mod Linking
 pub mod Rest
 pub mod Capacities
 pub mod Firsts
+pub mod Waits
+pub mod Puts
+pub mod Reserving

@@ -6,6 +6,9 @@ ghost use Rattle.papaya_finds.specs.Firsts.{OpeningsBegin, OpeningsStay, Makings
 ghost use Rattle.papaya_finds.specs.Doing.{SeveralDoTheirs, EventsMayDo};
 ghost use Rattle.papaya_finds.specs.Past.{EffectsLeavePast, CallsFindOnward};
 ghost use Rattle.papaya_finds.specs.Quiet.{FoundLeaveNothing, OthersOweNothing, SeveralStoreOne, ValuedMayAsk};
+ghost use Rattle.papaya_finds.specs.Puts.{PutsBegin, PutsStay, CallsKeepPuts, CallsPutBehind};
+ghost use Rattle.papaya_finds.specs.Waits.{WaitsBegin, WaitsStay, WaitsFollowOwed, EffectsLeaveHeld, CallsBeginWaits, WaitsGoOn, PastIsHanded, CallsKeepWaits, CallsHandPast};
+ghost use Rattle.papaya_finds.specs.Reserving.{RoomsKeepCount, RoomsCountOn, RoomsMayAsk};
 ghost use Rattle.papaya_finds.specs.Rest.{RestIsAll, OthersHandNone};
 ghost use Rattle.papaya_finds.specs.Steps.{StepsDoTheirs, StepsFindPlaces, StepsStoreOne, StepsFindParts};
 ghost use Rattle.papaya_finds.specs.Bounded.{LittleWaits, NothingRetiredOnceReclaimed};
@@ -134,6 +137,40 @@ pub fn calls_grow_for_values<K, V, S>()
     ensures steps { (same : K → K → Bool) (hash : K → ℕ) → CallsKeepGrowing K V S same hash }
     ensures asked { (same : K → K → Bool) (hash : K → ℕ) → KeyCallsMayAsk K V S same hash }
     ensures linked { (same : K → K → Bool) (hash : K → ℕ) → KeyCallsLink K V S same hash }
+{}
+
+/// A pair that a call, on one key or a sweep, has taken out of its map and has in hand lies no further on than the root of the map; or it may have to wait, and lies in the table by which its disposal
+/// goes, copied there from an older one. So it is as a run begins; where a call begins, or goes on, that has no pair in hand; after each step of a call, whoever's; and as long as calls have in hand what they
+/// had, as after any effects that copy no pair which has left its map, and bring no root back. So a pair that a call retires is past the root; and one that it puts behind a table, which is there,
+/// was copied past an older one, in a map that grows in chunks. With that this table comes just before the pair's
+/// (`pairs_wait_just_before`), and has room, that is all that must be found where a pair is handed over.
+pub fn pairs_in_hand_are_past<K, V, S>()
+    ensures begins { WaitsBegin K V }
+    ensures stays { WaitsStay K V }
+    ensures owed { WaitsFollowOwed K V }
+    ensures effects { EffectsLeaveHeld K V }
+    ensures begun { CallsBeginWaits K V }
+    ensures goes_on { WaitsGoOn K V }
+    ensures steps { (same : K → K → Bool) (hash : K → ℕ) → CallsKeepWaits K V S same hash }
+    ensures past { (same : K → K → Bool) (hash : K → ℕ) → CallsHandPast K V S same hash }
+    ensures handed { PastIsHanded K V }
+{}
+
+/// A call whose row is to put the pair that it has in hand behind a table is to put it behind that of its map just before the one by which the disposal goes, and that is noted as such. So it is as a run
+/// begins, after each step of a call, whoever's, and as long as calls are to put what they were to put, and such tables are noted as they were. So a pair is put behind the table just before the one in which it lies.
+pub fn pairs_wait_just_before<K, V, S>()
+    ensures begins { PutsBegin K V }
+    ensures stays { PutsStay K V }
+    ensures steps { (same : K → K → Bool) (hash : K → ℕ) → CallsKeepPuts K V S same hash }
+    ensures behind { (same : K → K → Bool) (hash : K → ℕ) → CallsPutBehind K V S same hash }
+{}
+
+/// A reservation that goes on from its counting to a table behind the root knows that count, and that a table can be had with so many further pairs, until it counts anew: after each step of it, if one that is done
+/// with counting has counted so many, and with further moments. So it may ask for each block that it makes, but for those of the first table of its map.
+pub fn reservations_fit_their_count<K, V, S>()
+    ensures steps { RoomsKeepCount K V }
+    ensures moments { RoomsCountOn K V }
+    ensures asked { (same : K → K → Bool) (hash : K → ℕ) → RoomsMayAsk K V S same hash }
 {}
 
 /// Where a copier makes a further table its map has a second one, into which the root's is copied; or, in blocking mode, the root has left a table at the moment of the map at which the call

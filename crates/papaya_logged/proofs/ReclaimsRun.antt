@@ -134,7 +134,7 @@ module _ {K V S : Type 0} where
           s2 first now next old mid new xs ys zs so settled.Done step stepping same hash name m s 0 lists there,
           came_then first now next old mid new xs ys zs so settled.Done step stepping same hash name m s 0 lists there,
           subst (λ (r : ℕ). AllIsReclaimed r (s2 first now next old mid new xs ys zs so settled.Done step stepping same hash name m s 0 lists there).world
-          (s2 first now next old mid new xs ys zs so settled.Done step stepping same hash name m s 0 lists there).maps) roots to.0,
+              (s2 first now next old mid new xs ys zs so settled.Done step stepping same hash name m s 0 lists there).maps) roots to.0,
           to.1,
           retired_then first now next old mid new xs ys zs so settled.Done step stepping same hash name m s 0 lists there,
         )),

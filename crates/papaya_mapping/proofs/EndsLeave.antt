@@ -85,15 +85,15 @@ module _ (ds : List Deferral) where
 -- behind a table that is taken nothing waits any more
 none_behind : (n : ℕ) (t : Table) (ds : List Deferral) → is_among n (behind t (filter (λ (d : Deferral). not (same_table d.behind t)) ds)) ≡ true → ⊥
 none_behind n t [] e = cc e
-none_behind n t (d ∷ ds) e = by (same_table d.behind t) refl e
+none_behind n t (d ∷ ds) e = by (same_table d.behind t) refl e (none_behind n t ds)
   where
     F : List Deferral
     F = filter (λ (x : Deferral). not (same_table x.behind t)) ds
 
-    by : (q : Bool) → same_table d.behind t ≡ q → is_among n (behind t (if not q then d ∷ F else F)) ≡ true → ⊥
-    by true is k = none_behind n t ds k
-    by false is k =
-        none_behind n t ds (sym (ap (λ (z : Bool). is_among n (map (λ (x : Deferral). x.pair)
+    by : (q : Bool) → same_table d.behind t ≡ q → is_among n (behind t (if not q then d ∷ F else F)) ≡ true → (is_among n (behind t F) ≡ true → ⊥) → ⊥
+    by true is k further = further k
+    by false is k further =
+        further (sym (ap (λ (z : Bool). is_among n (map (λ (x : Deferral). x.pair)
         (if z then d ∷ filter (λ (x : Deferral). same_table x.behind t) F else filter (λ (x : Deferral). same_table x.behind t) F))) is) ∙ k)
 
 module _ {K V : Type 0} (acted : Option ℕ) (n : ℕ) (t : Table) where

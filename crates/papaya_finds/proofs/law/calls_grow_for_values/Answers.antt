@@ -1,6 +1,6 @@
 -- Calls on one key make tables for what they store.
-use Rattle.papaya_finds.proofs.GrowsBetween.{growing_begins, growing_stays, calls_begin_growing, calls_take_growing, walks_go_on_growing, calls_go_growing}
-use Rattle.papaya_finds.proofs.GrowsSteps.{tables_have_been, calls_keep_growing, key_calls_may_ask}
+use Rattle.papaya_finds.proofs.Grows.Between.{growing_begins, growing_stays, calls_begin_growing, calls_take_growing, walks_go_on_growing, calls_go_growing}
+use Rattle.papaya_finds.proofs.Grows.Steps.{tables_have_been, calls_keep_growing, key_calls_may_ask}
 use Rattle.papaya_finds.proofs.Linking.{key_calls_link}
 use Rattle.papaya_finds.proofs.law.calls_grow_for_values.Goals as goal
 

@@ -83,13 +83,13 @@ pub returns-in_ok-push-in-Done-clause-given : goal.returns-in_ok-push-in-Done-cl
 returns-in_ok-push-in-Done-clause-given g c = stays_on c.args.scheduler.now.logged.executor c.begin_making.new.self.executor c.run_making.new.self.executor c.begin_making.ensures.given c.run_making.ensures.given
 
 pub returns-in-Err-clause-numbers : goal.returns-in-Err-clause-numbers
-returns-in-Err-clause-numbers g c = ap (λ (o : Outcome g.V). numbers_made o (length c.args.scheduler.now.logged.executor.maps.items)) (sym c.quietly.ensures.outcome)
+returns-in-Err-clause-numbers g c = ap (λ (o : Outcome g.row.V.Denot). numbers_made o (length c.args.scheduler.now.logged.executor.maps.items)) (sym c.quietly.ensures.outcome)
 
 pub returns-then-not-may_make-clause-numbers : goal.returns-then-not-may_make-clause-numbers
-returns-then-not-may_make-clause-numbers g c = ap (λ (o : Outcome g.V). numbers_made o (length c.args.scheduler.now.logged.executor.maps.items)) (sym c.busy.ensures.outcome)
+returns-then-not-may_make-clause-numbers g c = ap (λ (o : Outcome g.row.V.Denot). numbers_made o (length c.args.scheduler.now.logged.executor.maps.items)) (sym c.busy.ensures.outcome)
 
 pub returns-then-scheduler-eq0-clause-numbers : goal.returns-then-scheduler-eq0-clause-numbers
-returns-then-scheduler-eq0-clause-numbers g c = ap (λ (o : Outcome g.V). numbers_made o (length c.args.scheduler.now.logged.executor.maps.items)) (sym c.quietly-then-scheduler-eq0.ensures.outcome)
+returns-then-scheduler-eq0-clause-numbers g c = ap (λ (o : Outcome g.row.V.Denot). numbers_made o (length c.args.scheduler.now.logged.executor.maps.items)) (sym c.quietly-then-scheduler-eq0.ensures.outcome)
 
 pub returns-in-Refused-clause-numbers : goal.returns-in-Refused-clause-numbers
 returns-in-Refused-clause-numbers g c =

@@ -50,10 +50,10 @@ use Rattle.papaya_owes.specs.Making.{making_in_calling}
 use Rattle.papaya_finds.specs.Growing.{GrowsAt, ShowsGrowing, FindAsked, CallsKeepGrowing, KeyCallsMayAsk, TablesHaveBeen}
 use Rattle.papaya_finds.specs.Within.{many_of}
 use Rattle.papaya_finds.proofs.Grown.{many_grow}
-use Rattle.papaya_finds.proofs.GrowsAsked.{Asks, asks_some, made_of, may_ask}
-use Rattle.papaya_finds.proofs.GrowsGiven.{called_valued, knows_for_none}
-use Rattle.papaya_finds.proofs.GrowsOn.{TableTells, grows_later, step_grows}
-use Rattle.papaya_finds.proofs.GrowsThere.{table_tells, row_tells}
+use Rattle.papaya_finds.proofs.Grows.Asked.{Asks, asks_some, made_of, may_ask}
+use Rattle.papaya_finds.proofs.Grows.Given.{called_valued, knows_for_none}
+use Rattle.papaya_finds.proofs.Grows.On.{TableTells, grows_later, step_grows}
+use Rattle.papaya_finds.proofs.Grows.There.{table_tells, row_tells}
 use Rattle.papaya_finds.proofs.Joined.{valued_grows}
 
 -- A map has had no fewer tables after any effects.

@@ -18,7 +18,7 @@ use Rattle.papaya_histories.proofs.Given.Hands.Asking.{which}
 use Rattle.papaya_owes.proofs.Kept.{calls_without}
 use Rattle.papaya_finds.specs.Growing.{GrowsAt, ShowsGrowing, GrowingBegins, GrowingStays, CallsBeginGrowing, CallsTakeGrowing, WalksGoOnGrowing, CallsGoGrowing}
 use Rattle.papaya_finds.specs.Within.{many_of}
-use Rattle.papaya_finds.proofs.GrowsOn.{grows_later, reply_grows}
+use Rattle.papaya_finds.proofs.Grows.On.{grows_later, reply_grows}
 
 pub growing_begins : (K V : Type 0) → GrowingBegins K V
 growing_begins K V roots map i u is = absurd (cc is)

@@ -40,7 +40,7 @@ use Rattle.papaya_histories.specs.Given.Late.Left.{Left}
 use Rattle.papaya_histories.specs.Given.Callers.Sights.{Sight, seen_by, IsSight}
 use Rattle.papaya_histories.specs.Given.Callers.Together.{CallOnKey, in_slot, Knows}
 use Rattle.papaya_finds.proofs.Grown.{number_is}
-use Rattle.papaya_finds.proofs.GrowsOn.{TableTells}
+use Rattle.papaya_finds.proofs.Grows.On.{TableTells}
 
 -- In blocking mode a call goes on from a place only where its word has the mark of copying.
 

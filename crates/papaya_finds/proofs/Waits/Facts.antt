@@ -1,0 +1,98 @@
+-- What a call knows of the table where it changes its map, and, as its disposal reads the root, of that.
+use Rattle.std.specs.Prelude.{◌≡◌, ℕ, Bool, Some}
+use Rattle.std.proofs.Common.{ap, subst, inl, inr, arith}
+use Rattle.papaya_histories.specs.Given.SeizeWords.Mem.{word_at, value_at}
+use Rattle.papaya_histories.specs.Given.SeizeWords.Word.{block_in}
+use Rattle.papaya_histories.specs.Given.SeizeWords.declared.at.At.TheVariants.{Root}
+use Rattle.papaya_histories.specs.Given.Seize.World.{World}
+use Rattle.papaya_histories.specs.Given.Tables.Nodes.{table_seen}
+use Rattle.papaya_histories.specs.Given.Tables.declared.node.Node.{Node}
+use Rattle.papaya_histories.specs.Given.Tables.declared.setting.Setting.{Setting}
+use Rattle.papaya_histories.specs.Given.Tables.declared.table.Table.{Table}
+use Rattle.papaya_histories.specs.Given.Resize.declared.dispose.Dispose.{Dispose}
+use Rattle.papaya_histories.specs.Given.Resize.declared.dispose.Disposing.TheVariants as disposal
+use Rattle.papaya_histories.specs.Given.Sweeps.declared.sweep.Sweeping.{Sweeping}
+use Rattle.papaya_histories.specs.Given.Sweeps.declared.sweep.Sweeping.TheVariants as sweeping
+use Rattle.papaya_histories.specs.Given.Raw.declared.machines.answer.KeyAnswer.{KeyAnswer}
+use Rattle.papaya_histories.specs.Given.Raw.declared.machines.call.Calling.{Calling}
+use Rattle.papaya_histories.specs.Given.Raw.declared.machines.call.Calling.TheVariants as calling
+use Rattle.papaya_histories.specs.Given.Rule.Chart.{Chart}
+use Rattle.papaya_histories.specs.Given.Rule.InWorld.{IsMapIn}
+use Rattle.papaya_histories.specs.Given.Rule.Links.{IsLinkTo}
+use Rattle.papaya_histories.specs.Given.Rule.Maps.{IsTable}
+use Rattle.papaya_histories.specs.Given.Rule.Words.{Blocks}
+use Rattle.papaya_histories.proofs.Given.Rule.Words.LinksRead.{link_table}
+use Rattle.papaya_histories.proofs.Given.Rule.Words.LinksSeen.{link_made, root_leads}
+use Rattle.papaya_histories.specs.Given.Points.FactsCalls.{CallingFacts}
+use Rattle.papaya_histories.specs.Given.Points.FactsDisposes.{DisposeFacts}
+use Rattle.papaya_histories.specs.Given.Points.Told.{IsRowOf, IsRowOfCall}
+use Rattle.papaya_histories.specs.Given.Late.FactsSweeps.{SweepingFacts}
+use Rattle.papaya_histories.specs.Given.Late.LateCalls.{LateCalling}
+use Rattle.papaya_histories.specs.Given.Late.ToldSweeps.{IsRowOfSweep}
+use Rattle.papaya_histories.specs.Given.Callers.OverAll.{CallOverAll}
+use Rattle.papaya_histories.specs.Given.Callers.Together.{CallOnKey, OnKey, OverAll, Stands, in_slot}
+
+-- the root that a disposal reads is the first table of its map
+pub root_turn : {K V : Type 0} (same : K → K → Bool) (hash : K → ℕ) (setting : Setting) (w : World (Node K V)) (caller : ℕ) (c : Chart K) (blocks : Blocks) → IsMapIn same hash setting w c blocks
+    → (d : Dispose) → DisposeFacts w caller setting c blocks d → (root : ℕ) (value : Node K V) → word_at w.memory (Root d.setting.root) ≡ Some root → value_at w.memory (block_in root) ≡ Some value
+    → (table_seen root value).turn ≡ c.first
+root_turn same hash setting w caller c blocks map d facts root value read seen =
+    let leads : IsLinkTo c blocks root c.first =
+    link_made c blocks root c.first
+    (root_leads same hash setting.mode setting.root w.memory c blocks map.map root (subst (λ (s : Setting). word_at w.memory (Root s.root) ≡ Some root) facts.setting_is read))
+    (let made = facts.table.made in map.map.rule.common.rooted (omega (arith, made))) in
+    let entered : IsTable c blocks (table_seen root value) c.first = link_table hash w.memory c blocks setting.root map.map.shows root c.first leads value seen in
+    ap (λ (x : Table). x.turn) entered.is
+
+module _ {K V : Type 0} (same : K → K → Bool) (hash : K → ℕ) (setting : Setting) (slot : ℕ → ℕ) (w : World (Node K V)) (c : Chart K) (seen : Blocks) (i : ℕ) where
+  abbrev own : Setting
+  own = in_slot setting (slot i)
+
+  -- of a call on one key
+  module _ (x : CallOnKey K V K) (stands : Stands V same hash same setting slot w c seen i (OnKey x)) where
+    abbrev At : Calling → Type 0
+    At q = CallingFacts same hash same w i own c seen x.keys x.change x.call q
+
+    abbrev LateAt : Calling → Type 0
+    LateAt q = LateCalling same hash same w i own c seen x.keys x.began x.call q
+
+    abbrev Tries : Type 0
+    Tries = (t : ℕ) × IsTable c seen x.call.trial.table t × (x.call.setting ≡ own)
+
+    pub key_tries : (word new : ℕ) → x.call.stands ≡ calling.Tries word new → Tries
+    key_tries word new is = elim stands as (λ _. Tries) [
+      | inl k ↦ elim (k.1.facts) as (λ _. Tries) [
+        | inl facts ↦ let p : At (calling.Tries word new) = subst At is facts.point in (p.2.0, p.2.2.table, facts.setting_is)
+        | inr late ↦ let p : LateAt (calling.Tries word new) = subst LateAt is late.1.point in (p.1.0, p.1.2.table, late.1.setting_is)
+      ]
+      | inr k ↦ absurd (subst IsRowOfCall is k.1)
+    ]
+
+    pub key_reads : (d : Dispose) (answer : KeyAnswer) → x.call.stands ≡ calling.Disposes d answer → d.stands ≡ disposal.Reads → DisposeFacts w i own c seen d
+    key_reads d answer is reads = elim stands as (λ _. DisposeFacts w i own c seen d) [
+      | inl k ↦ elim (k.1.facts) as (λ _. DisposeFacts w i own c seen d) [
+        | inl facts ↦ let p : At (calling.Disposes d answer) = subst At is facts.point in p.0
+        | inr late ↦ absurd (let p : LateAt (calling.Disposes d answer) = subst LateAt is late.1.point in p)
+      ]
+      | inr k ↦ absurd (let row : IsRowOfCall (calling.Disposes d answer) = subst IsRowOfCall is k.1 in let none : IsRowOf disposal.Reads = subst IsRowOf reads row in none)
+    ]
+
+  -- and of a sweep
+  module _ (x : CallOverAll) (stands : Stands V same hash same setting slot w c seen i (OverAll x)) where
+    abbrev SweptAt : Sweeping → Type 0
+    SweptAt q = SweepingFacts same hash w i own c seen x.began x.sweep q
+
+    abbrev SweptTries : Type 0
+    SweptTries = (t : ℕ) × IsTable c seen x.sweep.table t × (x.sweep.setting ≡ own)
+
+    pub sweep_tries : (word : ℕ) → x.sweep.stands ≡ sweeping.Tries word → SweptTries
+    sweep_tries word is = elim stands as (λ _. SweptTries) [
+      | inl k ↦ let p : SweptAt (sweeping.Tries word) = subst SweptAt is k.1.facts.point in (p.2, p.3.0.table, k.1.facts.setting_is)
+      | inr k ↦ absurd (subst IsRowOfSweep is k.1)
+    ]
+
+    pub sweep_reads : (d : Dispose) → x.sweep.stands ≡ sweeping.Disposes d → d.stands ≡ disposal.Reads → DisposeFacts w i own c seen d
+    sweep_reads d is reads = elim stands as (λ _. DisposeFacts w i own c seen d) [
+      | inl k ↦ let p : SweptAt (sweeping.Disposes d) = subst SweptAt is k.1.facts.point in p.3
+      | inr k ↦ absurd (let row : IsRowOfSweep (sweeping.Disposes d) = subst IsRowOfSweep is k.1 in let none : IsRowOf disposal.Reads = subst IsRowOf reads row in none)
+    ]

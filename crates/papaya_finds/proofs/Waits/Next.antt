@@ -1,0 +1,128 @@
+-- A pair that a step of a call puts behind a table is put behind that of the map just before its own.
+use Rattle.std.specs.Prelude.{◌≡◌, ℕ, Bool, false, List, [], ◌∷◌, Some}
+use Rattle.std.specs.List.{list_any}
+use Rattle.std.proofs.Common.{refl, ap, sym, subst, ◌∙◌, inl, inr, arith}
+use Rattle.papaya_histories.specs.Given.SeizeWords.Word.{block_in}
+use Rattle.papaya_histories.specs.Given.SeizeWords.declared.at.At.{At}
+use Rattle.papaya_histories.specs.Given.SeizeWords.declared.at.At.TheVariants.{Word}
+use Rattle.papaya_histories.specs.Given.Seize.Further.{IsWordOf}
+use Rattle.papaya_histories.specs.Given.Tables.declared.node.Node.{Node}
+use Rattle.papaya_histories.specs.Given.Raw.declared.machines.progress.Progress.{Progress}
+use Rattle.papaya_histories.specs.Given.Schedules.declared.effect.Effect.{Effect}
+use Rattle.papaya_histories.specs.Given.Schedules.declared.effect.Effect.TheVariants as effect
+use Rattle.papaya_histories.specs.Given.Schedules.declared.effect.Table.{Table}
+use Rattle.papaya_histories.specs.Given.Schedules.declared.effect.Thing.TheVariants.{APair, ATable}
+use Rattle.papaya_histories.specs.Given.Schedules.Effects.{call_by, with_effect}
+use Rattle.papaya_histories.specs.Given.Schedules.Entry.{ByCall}
+use Rattle.papaya_histories.specs.Given.Schedules.Moment.{UnderWay as CallThere, Moment}
+use Rattle.papaya_histories.specs.Given.Schedules.Views.{call_of}
+use Rattle.papaya_histories.specs.Given.Callers.Together.{UnderWay}
+use Rattle.papaya_histories.specs.Given.Effects.Effects.{carried, effects_of}
+use Rattle.papaya_histories.specs.Given.Effects.Known.{Known}
+use Rattle.papaya_histories.specs.Given.Effects.declared.acting.Acting.TheVariants as acts
+use Rattle.papaya_histories.specs.Given.Effects.declared.role.Role.{Role}
+use Rattle.papaya_histories.specs.Given.Effects.declared.role.Role.TheVariants as role
+use Rattle.papaya_histories.specs.Given.Executor.IsAt.{Scene, IsAt}
+use Rattle.papaya_histories.specs.Given.Executor.Stepping.{StepLeads}
+use Rattle.papaya_histories.specs.Given.Executor.declared.executor.Executor.{Executor}
+use Rattle.papaya_histories.specs.Given.Finishes.Machines.{machine_of}
+use Rattle.papaya_histories.specs.Given.Follows.Calls.{IsCalled}
+use Rattle.papaya_histories.proofs.Given.Follows.Steps.{WentTo, went_to}
+use Rattle.papaya_histories.specs.Given.Moments.Whole.{ShowsWhole}
+use Rattle.papaya_owes.proofs.Fields.{its_effect}
+use Rattle.papaya_settles.specs.Due.{ToPut, RowTells, TellsNone, TellsRetired, TellsDeferred, told_retired, due_in_row, OwnAreMade}
+use Rattle.papaya_settles.specs.Entries.{ShowsEntries}
+use Rattle.papaya_settles.specs.Hand.{thing_as, ShowsOwed}
+use Rattle.papaya_settles.specs.Owing.{hands_over}
+use Rattle.papaya_settles.proofs.DueCalls.{rows_tell_due}
+use Rattle.papaya_settles.proofs.Hand.All.{own_or_row}
+use Rattle.papaya_settles.proofs.Takings.{steps_take_out}
+use Rattle.papaya_finds.specs.Waits.{IsHeldPast, ShowsWaits, FindsBehind, FindBehind}
+use Rattle.papaya_finds.proofs.Quiet.{neither}
+use Rattle.papaya_finds.proofs.Waits.Due.{row_due}
+use Rattle.papaya_finds.specs.Puts.{ShowsPuts, CallsPutBehind}
+
+-- an effect that hands nothing over is put behind no table
+module _ {K V : Type 0} where
+  behind_none : (m : Moment K V) (f : Effect) (c : CallThere K V) → hands_over f ≡ false → FindsBehind m f c
+  behind_none m (effect.Deferred n t) c e = absurd (cc e)
+  behind_none m _ c e = tt
+
+  all_none : (own : List ℕ) (map : ℕ) (effects : List Effect) (m : Moment K V) (c : CallThere K V) → call_of own m ≡ Some c → list_any hands_over effects ≡ false → FindBehind own map effects m
+  all_none own map [] m c c_is e = tt
+  all_none own map (f ∷ fs) m c c_is e =
+      let both = neither (hands_over f) (list_any hands_over fs) e in (
+        subst (ByCall (FindsBehind m f)) (sym c_is) (behind_none m f c both.0),
+        all_none own map fs (with_effect (Some own) (Some map) f m) (call_by m f c) (its_effect own map f m c c_is) both.1,
+      )
+
+-- a place is in one block
+same_block : (a b : ℕ) (place : At) → IsWordOf a place → IsWordOf b place → a ≡ b
+same_block a b (Word d field) x y = x ∙ sym y
+same_block a b _ x y = absurd x
+
+module _ {K V S : Type 0} (same : K → K → Bool) (hash : K → ℕ) (name : ℕ → List ℕ) (m : Moment K V) (known : Known) (s : Scene K V) (old new : Executor K V S) (at_old : IsAt same hash old s)
+    (whole : ShowsWhole same name m known s) (entries : ShowsEntries s) (owning : OwnAreMade known s.world) (owes : ShowsOwed name m known s) (waits : ShowsWaits name m s) (puts : ShowsPuts known s)
+    (map i : ℕ) (u : UnderWay K V K) (here : s.calls map i ≡ Some u) (said : Progress (Node K V)) (leads : StepLeads same hash i said s old new) where
+  abbrev to : WentTo same hash name m known s old new at_old whole.all.shown map i u here said leads
+  to = went_to same hash name m known s old new at_old whole.all.shown map i u here said leads
+
+  abbrev effects : List Effect
+  effects = effects_of (acts.Call i map) known new.memory.changed
+
+  its : (c : CallThere K V) × (call_of (name i) m ≡ Some c) × (c.map ≡ map) × IsCalled same u c.call
+  its = whole.all.shown.calls map i u here
+
+  abbrev c : CallThere K V
+  c = its.0
+
+  abbrev Finds : List Effect → Type 0
+  Finds l = FindBehind (name i) map l m
+
+  one : (f : Effect) → FindsBehind m f c → Finds (f ∷ [])
+  one f finds = (subst (ByCall (FindsBehind m f)) (sym its.1) finds, tt)
+
+  retired : (r : Role) → Finds (told_retired r)
+  retired (role.Pair n) = one (effect.Retired (APair n)) tt
+  retired (role.Table t len) = one (effect.Retired (ATable t)) tt
+  retired role.Free = tt
+  retired (role.OwnPair j) = tt
+  retired (role.OwnTable turn shape) = tt
+  retired (role.Counter of) = tt
+
+  -- the block that it is put behind is that of the table just before its own
+  put_behind : (word block : ℕ) (place : At) (t : Table) (len : ℕ) → due_in_row (machine_of u) ≡ Some (ToPut word place) → IsWordOf block place → known.roles block ≡ role.Table t len
+      → (n : ℕ) → known.roles (block_in word) ≡ role.Pair n → FindsBehind m (effect.Deferred n t) c
+  put_behind word block place t len due its_word noted n is =
+      let has = row_due known (ToPut word place) n is (machine_of u) (owes.noted map i u here) due in
+      let held = waits map i u here word has.1 c its.1 n (owes.owed map i u here c its.1 ∙ has.0 ∙ ap thing_as is) in
+      let b = puts map i u here word place due in
+      let lies = (subst (IsHeldPast map m n) b.4 held).1.0 in
+      let table : ◌≡◌ {A = Role} (role.Table t len) (role.Table (record { map = map; turn = b.1 }) b.2) = sym noted ∙ ap known.roles (same_block block b.0 place its_word b.3) ∙ b.5 in
+      let one_table : t ≡ record { map = map; turn = b.1 } = cc table in
+      let turn = ap (λ (x : Table). x.turn) one_table in
+      (ap (λ (x : Table). x.map) one_table ∙ sym its.2, omega (arith, lies, turn))
+
+  deferred : (word block : ℕ) (place : At) (t : Table) (len : ℕ) → due_in_row (machine_of u) ≡ Some (ToPut word place) → IsWordOf block place → known.roles block ≡ role.Table t len
+      → (r : Role) → known.roles (block_in word) ≡ r → Finds (carried t r)
+  deferred word block place t len due its_word noted (role.Pair n) is = one (effect.Deferred n t) (put_behind word block place t len due its_word noted n is)
+  deferred word block place t len due its_word noted (role.Table u2 len2) is = tt
+  deferred word block place t len due its_word noted role.Free is = tt
+  deferred word block place t len due its_word noted (role.OwnPair j) is = tt
+  deferred word block place t len due its_word noted (role.OwnTable turn shape) is = tt
+  deferred word block place t len due its_word noted (role.Counter of) is = tt
+
+  row_behind : RowTells i map known effects (due_in_row (machine_of u)) (due_in_row to.1) → Finds effects
+  row_behind (TellsNone none same_due) = subst Finds (sym none) tt
+  row_behind (TellsRetired word was gone are) = subst Finds (sym are) (retired (known.roles (block_in word)))
+  row_behind (TellsDeferred word block place t len was its_word gone noted are) = subst Finds (sym are) (deferred word block place t len was its_word noted (known.roles (block_in word)) refl)
+
+  pub puts_behind : Finds effects
+  puts_behind = elim (own_or_row same hash name m known s old new at_old whole.all.shown map i u here said leads u to.4.did) as (λ _. Finds effects) [
+    | inl own ↦ all_none (name i) map effects m c its.1 (steps_take_out K V S same hash name m known s old new at_old whole.all.shown map i u here said leads own []).2
+    | inr other ↦ row_behind (rows_tell_due K V S same hash name m known s old new at_old whole.all.shown whole.all.rows entries owning map i u here said leads other)
+  ]
+
+pub calls_put_behind : (K V S : Type 0) (same : K → K → Bool) (hash : K → ℕ) → CallsPutBehind K V S same hash
+calls_put_behind K V S same hash name m known s old new at_old whole entries owning owes waits puts map i u here said leads =
+    puts_behind same hash name m known s old new at_old whole entries owning owes waits puts map i u here said leads

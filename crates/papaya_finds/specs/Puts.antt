@@ -1,0 +1,62 @@
+-- Behind which table a row within a call is to put the pair that the call has in hand: the one just before that in which the pair lies.
+use Rattle.std.specs.Prelude.{◌≡◌, ℕ, ◌+◌, Bool, List, Option, Some}
+use Rattle.papaya_histories.specs.Given.SeizeWords.declared.at.At.{At}
+use Rattle.papaya_histories.specs.Given.Seize.Further.{IsWordOf}
+use Rattle.papaya_histories.specs.Given.Tables.declared.node.Node.{Node}
+use Rattle.papaya_histories.specs.Given.Raw.declared.machines.progress.Progress.{Progress}
+use Rattle.papaya_histories.specs.Given.Callers.Together.{UnderWay}
+use Rattle.papaya_histories.specs.Given.Effects.Effects.{effects_of, known_after}
+use Rattle.papaya_histories.specs.Given.Effects.Known.{Known, nothing_known}
+use Rattle.papaya_histories.specs.Given.Effects.declared.acting.Acting.TheVariants as acts
+use Rattle.papaya_histories.specs.Given.Effects.declared.role.Role.TheVariants as role
+use Rattle.papaya_histories.specs.Given.Executor.IsAt.{Scene, IsAt, at_first}
+use Rattle.papaya_histories.specs.Given.Executor.Stepping.{StepLeads, scene_after}
+use Rattle.papaya_histories.specs.Given.Executor.declared.executor.Executor.{Executor}
+use Rattle.papaya_histories.specs.Given.Finishes.Machines.{machine_of}
+use Rattle.papaya_histories.specs.Given.Moments.Whole.{ShowsWhole}
+use Rattle.papaya_histories.specs.Given.Schedules.Moment.{Moment}
+use Rattle.papaya_settles.specs.Due.{ToPut, due_in_row, OwnAreMade}
+use Rattle.papaya_settles.specs.Entries.{ShowsEntries}
+use Rattle.papaya_settles.specs.Hand.{ShowsOwed}
+use Rattle.papaya_finds.specs.Waits.{waits_in, ShowsWaits, FindBehind}
+
+-- the place is in the block that is noted as the table of the map with the turn before this one
+abbrev pub IsBehindNext : Known → ℕ → At → Option ℕ → Type 0
+IsBehindNext known map place waits =
+    (b turn len : ℕ) × IsWordOf b place × (waits ≡ Some (turn + 1)) × (known.roles b ≡ role.Table (record { map = map; turn = turn }) len)
+
+-- so it is of each call whose row is to put a pair behind a table
+abbrev pub ShowsPuts : {K V : Type 0} → Known → Scene K V → Type 0
+ShowsPuts {K} {V} known s =
+    (map i : ℕ) (u : UnderWay K V K) → s.calls map i ≡ Some u → (word : ℕ) (place : At) → due_in_row (machine_of u) ≡ Some (ToPut word place) → IsBehindNext known map place (waits_in (machine_of u))
+
+module _ (K V : Type 0) where
+  -- The promises: so it is as a run begins,
+  abbrev pub PutsBegin : Type 0
+  PutsBegin = (roots : ℕ) → ShowsPuts {K = K} {V = V} nothing_known (at_first roots)
+
+  -- and as long as each call that is to put a pair behind a table was so before, as the same machine, and the table is noted as it was.
+  abbrev pub PutsStay : Type 0
+  PutsStay =
+      (known known2 : Known) (s t : Scene K V) → ShowsPuts known s
+      → ((map i : ℕ) (u : UnderWay K V K) → t.calls map i ≡ Some u → (word : ℕ) (place : At) → due_in_row (machine_of u) ≡ Some (ToPut word place)
+      → (x : UnderWay K V K) × (s.calls map i ≡ Some x) × (machine_of x ≡ machine_of u) × ((b : ℕ) → IsWordOf b place → known2.roles b ≡ known.roles b))
+      → ShowsPuts known2 t
+
+module _ (K V S : Type 0) (same : K → K → Bool) (hash : K → ℕ) where
+  -- The promise, of a step of a call, whichever it is: so it is after it.
+  abbrev pub CallsKeepPuts : Type 0
+  CallsKeepPuts =
+      (name : ℕ → List ℕ) (m : Moment K V) (known : Known) (s : Scene K V) (old new : Executor K V S)
+      → IsAt same hash old s → ShowsWhole same name m known s → ShowsEntries s → OwnAreMade known s.world → ShowsPuts known s
+      → (map i : ℕ) (u : UnderWay K V K) (here : s.calls map i ≡ Some u) (said : Progress (Node K V)) (leads : StepLeads same hash i said s old new)
+      → (let to = leads map u here in
+      ShowsPuts (known_after (acts.Call i map) new.memory.changed known) (scene_after same hash s old new map i to.0 u to.1 said to.4))
+
+  -- So a pair that it puts behind a table is put behind that of the map just before its own.
+  abbrev pub CallsPutBehind : Type 0
+  CallsPutBehind =
+      (name : ℕ → List ℕ) (m : Moment K V) (known : Known) (s : Scene K V) (old new : Executor K V S)
+      → IsAt same hash old s → ShowsWhole same name m known s → ShowsEntries s → OwnAreMade known s.world → ShowsOwed name m known s → ShowsWaits name m s → ShowsPuts known s
+      → (map i : ℕ) (u : UnderWay K V K) (here : s.calls map i ≡ Some u) (said : Progress (Node K V)) (leads : StepLeads same hash i said s old new)
+      → FindBehind (name i) map (effects_of (acts.Call i map) known new.memory.changed) m

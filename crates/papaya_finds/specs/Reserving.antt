@@ -1,0 +1,81 @@
+-- What a reservation knows once it has counted: with so many further pairs a table can be had. So it may ask for the blocks of a table that follows another one.
+use Rattle.std.specs.Prelude.{◌≡◌, ℕ, suc, ◌+◌, Bool, false, List, [], ◌∷◌, ◌++◌, Some}
+use Rattle.papaya_histories.specs.Given.SeizeWords.Mem.{Mem}
+use Rattle.papaya_histories.specs.Given.Seize.declared.progress.Progress.{Progress}
+use Rattle.papaya_histories.specs.Given.Seize.declared.progress.Progress.TheVariants as progress
+use Rattle.papaya_histories.specs.Given.Tables.declared.node.Node.{Node}
+use Rattle.papaya_histories.specs.Given.Tables.declared.table.Table.{Table}
+use Rattle.papaya_histories.specs.Given.Resize.Sum.{sum_plan}
+use Rattle.papaya_histories.specs.Given.Resize.declared.outcome.Outcome.{Outcome}
+use Rattle.papaya_histories.specs.Given.Resize.declared.sum.Sum.{Sum}
+use Rattle.papaya_histories.specs.Given.Reserves.Reserve.{reserve_plan}
+use Rattle.papaya_histories.specs.Given.Reserves.declared.reserve.Reserve.{Reserve}
+use Rattle.papaya_histories.specs.Given.Reserves.declared.reserve.Reserving.{Reserving}
+use Rattle.papaya_histories.specs.Given.Reserves.declared.reserve.Reserving.TheVariants as reserving
+use Rattle.papaya_histories.specs.Given.Raw.declared.machines.progress.Progress.{Progress as Said}
+use Rattle.papaya_histories.specs.Given.Schedules.declared.call.Call.TheVariants.{Reserve as ToReserve}
+use Rattle.papaya_histories.specs.Given.Schedules.Counts.{Counts}
+use Rattle.papaya_histories.specs.Given.Schedules.Growing.{is_too_many}
+use Rattle.papaya_histories.specs.Given.Schedules.Moment.{UnderWay as CallThere, Moment}
+use Rattle.papaya_histories.specs.Given.Schedules.Terms.{Terms, shards_of}
+use Rattle.papaya_histories.specs.Given.Schedules.Views.{call_of}
+use Rattle.papaya_histories.specs.Given.Teller.Tells.{StepsTold}
+use Rattle.papaya_histories.specs.Given.Teller.declared.changed.Changed.{Changed}
+use Rattle.papaya_histories.specs.Given.Teller.declared.changed.Changed.TheVariants as changed
+use Rattle.papaya_histories.specs.Given.Callers.Rooms.{CallForRoom}
+use Rattle.papaya_histories.specs.Given.Callers.Together.{ForRoom}
+use Rattle.papaya_histories.specs.Given.Effects.Effects.{effects_of}
+use Rattle.papaya_histories.specs.Given.Effects.Known.{Known}
+use Rattle.papaya_histories.specs.Given.Effects.declared.acting.Acting.TheVariants as acts
+use Rattle.papaya_histories.specs.Given.Executor.IsAt.{Scene, IsAt}
+use Rattle.papaya_histories.specs.Given.Executor.Stepping.{StepLeads}
+use Rattle.papaya_histories.specs.Given.Executor.declared.executor.Executor.{Executor}
+use Rattle.papaya_histories.specs.Given.Moments.Whole.{ShowsWhole}
+use Rattle.papaya_finds.specs.Growing.{FindAsked}
+
+module _ {K V : Type 0} (of : ℕ) (moments : List (Moment K V)) where
+  -- it has counted so many pairs, by these moments, and with so many more a table can be had
+  abbrev pub FitsAt : Reserve → Type 0
+  FitsAt p = (n : ℕ) × Counts (suc p.setting.mask) of moments n × (is_too_many (n + p.additional) ≡ false)
+
+  -- from there on, until it counts anew
+  abbrev pub ReservesAt : Reserve → Reserving → Type 0
+  ReservesAt p (reserving.Follows table need) = FitsAt p
+  ReservesAt p (reserving.Grows table making) = FitsAt p
+  ReservesAt p (reserving.Copies copier) = FitsAt p
+  ReservesAt p _ = Unit {0}
+
+  -- a counting that is done by a step has counted so many
+  abbrev pub SumTells : Reserve → Mem (Node K V) → Mem (Node K V) → Changed → Type 0
+  SumTells p m m2 told =
+      (table : Table) (sum sum2 : Sum) (count : ℕ) → p.stands ≡ reserving.Sums table sum → StepsTold K V (Sum × Progress ℕ) m changed.Nothing (sum_plan sum) m2 told (sum2, progress.Done count)
+      → Counts (suc p.setting.mask) of moments count
+
+-- it makes the first table of its map
+abbrev pub MakesFirst : Reserving → Type 0
+MakesFirst (reserving.Makes making) = Unit {0}
+MakesFirst _ = ⊥
+
+module _ (K V : Type 0) where
+  -- The promises: so it is after each step of a reservation, if one that is done with counting has counted so many;
+  abbrev pub RoomsKeepCount : Type 0
+  RoomsKeepCount =
+      (hash : K → ℕ) (of : ℕ) (moments : List (Moment K V)) (p : Reserve) (m m2 : Mem (Node K V)) (told : Changed) (end : Reserve × Outcome (Node K V) Unit)
+      → ReservesAt of moments p p.stands → SumTells of moments p m m2 told → StepsTold K V (Reserve × Outcome (Node K V) Unit) m changed.Nothing (reserve_plan hash p) m2 told end
+      → ReservesAt of moments end.0 end.0.stands
+
+  -- and with further moments.
+  abbrev pub RoomsCountOn : Type 0
+  RoomsCountOn =
+      (of : ℕ) (moments : List (Moment K V)) (x : Moment K V) (p : Reserve) (q : Reserving) → ReservesAt of moments p q
+      → ReservesAt of (x ∷ moments) p q × ReservesAt of (moments ++ x ∷ []) p q
+
+module _ (K V S : Type 0) (same : K → K → Bool) (hash : K → ℕ) where
+  -- So for each block for which it asks in a step it may ask, unless it makes the first table of its map.
+  abbrev pub RoomsMayAsk : Type 0
+  RoomsMayAsk =
+      (name : ℕ → List ℕ) (m : Moment K V) (known : Known) (s : Scene K V) (old new : Executor K V S) → IsAt same hash old s → ShowsWhole same name m known s
+      → (map i : ℕ) (r : CallForRoom) (here : s.calls map i ≡ Some (ForRoom r)) (said : Said (Node K V)) (leads : StepLeads same hash i said s old new)
+      → (terms : Terms) (moments : List (Moment K V)) → suc r.reserve.setting.mask ≡ shards_of terms → (c : CallThere K V) → call_of (name i) m ≡ Some c → c.call ≡ ToReserve r.reserve.additional
+      → ReservesAt map moments r.reserve r.reserve.stands → (MakesFirst r.reserve.stands → ⊥)
+      → FindAsked terms moments (name i) map (effects_of (acts.Call i map) known new.memory.changed) m

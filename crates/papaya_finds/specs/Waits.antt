@@ -1,0 +1,199 @@
+-- Where a pair lies that a call has taken out of its map and has in hand, by where its machine stands: no further on than the root; or in the table by which its disposal goes, copied
+-- past an older one. So it is as it is retired, or put behind a table.
+use Rattle.std.specs.Prelude.{◌≡◌, ℕ, ◌+◌, ◌<◌, Bool, true, List, [], ◌∷◌, length, filter, sum_by, nat_le, Option, Some, None}
+use Rattle.papaya_histories.specs.Given.Tables.declared.node.Node.{Node}
+use Rattle.papaya_histories.specs.Given.Resize.Dispose.{disposing}
+use Rattle.papaya_histories.specs.Given.Resize.declared.dispose.Dispose.{Dispose}
+use Rattle.papaya_histories.specs.Given.Resize.declared.dispose.Disposing.{Disposing}
+use Rattle.papaya_histories.specs.Given.Resize.declared.dispose.Disposing.TheVariants as disposal
+use Rattle.papaya_histories.specs.Given.Sweeps.declared.sweep.Sweep.{Sweep}
+use Rattle.papaya_histories.specs.Given.Sweeps.declared.sweep.Sweeping.{Sweeping}
+use Rattle.papaya_histories.specs.Given.Sweeps.declared.sweep.Sweeping.TheVariants as sweeping
+use Rattle.papaya_histories.specs.Given.Raw.declared.machines.call.Calling.{Calling}
+use Rattle.papaya_histories.specs.Given.Raw.declared.machines.call.Calling.TheVariants as calling
+use Rattle.papaya_histories.specs.Given.Raw.declared.machines.call.KeyCall.{KeyCall}
+use Rattle.papaya_histories.specs.Given.Raw.declared.machines.machine.Machine.{Machine}
+use Rattle.papaya_histories.specs.Given.Raw.declared.machines.machine.Machine.TheVariants as kinds
+use Rattle.papaya_histories.specs.Given.Raw.declared.machines.progress.Progress.{Progress}
+use Rattle.papaya_histories.specs.Given.Schedules.declared.call.Call.{Call}
+use Rattle.papaya_histories.specs.Given.Schedules.declared.effect.Effect.{Effect}
+use Rattle.papaya_histories.specs.Given.Schedules.declared.effect.Effect.TheVariants.{Deferred, Retired}
+use Rattle.papaya_histories.specs.Given.Schedules.declared.effect.Thing.TheVariants.{APair}
+use Rattle.papaya_histories.specs.Given.Schedules.Beginning.{with_call}
+use Rattle.papaya_histories.specs.Given.Schedules.Effects.{with_effects, AtEachEffect}
+use Rattle.papaya_histories.specs.Given.Schedules.Entry.{ByCall, acting}
+use Rattle.papaya_histories.specs.Given.Schedules.Lives.{IsPast}
+use Rattle.papaya_histories.specs.Given.Schedules.Moment.{UnderWay as CallThere, Moment, start}
+use Rattle.papaya_histories.specs.Given.Schedules.Views.{call_of, first_of, is_stage, is_there, map_at, grows_in_chunks, behind, tables_of}
+use Rattle.papaya_histories.specs.Given.Callers.Together.{UnderWay}
+use Rattle.papaya_histories.specs.Given.Effects.Effects.{effects_of}
+use Rattle.papaya_histories.specs.Given.Effects.Known.{Known}
+use Rattle.papaya_histories.specs.Given.Effects.declared.acting.Acting.TheVariants as acts
+use Rattle.papaya_histories.specs.Given.Executor.IsAt.{Scene, IsAt, at_first}
+use Rattle.papaya_histories.specs.Given.Executor.Replying.{scene_with}
+use Rattle.papaya_histories.specs.Given.Executor.Stepping.{StepLeads, scene_after}
+use Rattle.papaya_histories.specs.Given.Executor.declared.executor.Executor.{Executor}
+use Rattle.papaya_histories.specs.Given.Finishes.Machines.{machine_of}
+use Rattle.papaya_histories.specs.Given.Follows.Calling.{NoneNamed}
+use Rattle.papaya_histories.specs.Given.Follows.Calls.{ShowsCalls}
+use Rattle.papaya_histories.specs.Given.Spots.Deferred.{FindsNumbers}
+use Rattle.papaya_histories.specs.Given.Moments.Whole.{ShowsWhole}
+use Rattle.papaya_settles.specs.Due.{OwnAreMade}
+use Rattle.papaya_settles.specs.Entries.{ShowsEntries}
+use Rattle.papaya_settles.specs.Hand.{SameInHand, ShowsOwed}
+use Rattle.papaya_settles.specs.InHand.{pair_in_calling, pair_in_sweeping}
+use Rattle.papaya_finds.specs.Past.{HasLeftMaps, IsPastRoot, FindsOnward}
+use Rattle.papaya_finds.specs.Rest.{FindHanded}
+
+-- the turn of the table in which the pair of a disposal lies that may have to wait, as an older one may be the root still
+abbrev pub waits_in_disposing : Dispose → Disposing → Option ℕ
+waits_in_disposing d disposal.Reads = Some d.table.turn
+waits_in_disposing d (disposal.Walks table) = Some d.table.turn
+waits_in_disposing d (disposal.Defers defer) = Some d.table.turn
+waits_in_disposing d _ = None
+
+abbrev pub waits_of : Dispose → Option ℕ
+waits_of d = waits_in_disposing d d.stands
+
+-- and of a pair that a call counts first: by the disposal that begins then
+abbrev pub waits_in_calling : {K V Q : Type 0} → KeyCall K V Q → Calling → Option ℕ
+waits_in_calling p (calling.Counts removed) = waits_of (disposing p.setting removed p.trial.table)
+waits_in_calling p (calling.Disposes dispose answer) = waits_of dispose
+waits_in_calling p _ = None
+
+abbrev pub waits_in_sweeping : Sweep → Sweeping → Option ℕ
+waits_in_sweeping c (sweeping.Counts removed) = waits_of (disposing c.setting removed c.table)
+waits_in_sweeping c (sweeping.Disposes dispose) = waits_of dispose
+waits_in_sweeping c _ = None
+
+abbrev pub waits_in : {K V Q : Type 0} → Machine K V Q → Option ℕ
+waits_in (kinds.Key p) = waits_in_calling p p.stands
+waits_in (kinds.Sweep c) = waits_in_sweeping c c.stands
+waits_in _ = None
+
+-- the word of the pair that a call has in hand
+abbrev pub pair_in : {K V Q : Type 0} → Machine K V Q → Option ℕ
+pair_in (kinds.Key p) = pair_in_calling p.stands
+pair_in (kinds.Sweep c) = pair_in_sweeping c.stands
+pair_in _ = None
+
+module _ {K V : Type 0} where
+  -- it lies in the table with this turn, and was stored in an earlier one, in a map that grows in chunks; or it is past the root
+  abbrev pub LiesFor : ℕ → Moment K V → ℕ → Option ℕ → Type 0
+  LiesFor map m k (Some turn) = ((m.spot k).turn ≡ turn) × ((m.born k).turn < turn) × (grows_in_chunks (map_at map m) ≡ true)
+  LiesFor map m k None = IsPastRoot map m k
+
+  abbrev pub IsHeldPast : ℕ → Moment K V → ℕ → Option ℕ → Type 0
+  IsHeldPast map m k waits = HasLeftMaps m k × LiesFor map m k waits
+
+  -- so it is of each pair that a call has in hand, and owes
+  abbrev pub ShowsWaits : (ℕ → List ℕ) → Moment K V → Scene K V → Type 0
+  ShowsWaits name m s =
+      (map i : ℕ) (u : UnderWay K V K) → s.calls map i ≡ Some u → (word : ℕ) → pair_in (machine_of u) ≡ Some word
+      → (c : CallThere K V) → call_of (name i) m ≡ Some c → (k : ℕ) → c.owes ≡ APair k ∷ [] → IsHeldPast map m k (waits_in (machine_of u))
+
+  -- pairs that have left their maps lie at the other moment where they lay, and this map's root has not gone back
+  abbrev pub LeavesHeldOf : ℕ → Moment K V → Moment K V → Type 0
+  LeavesHeldOf map m v = (k : ℕ) (waits : Option ℕ) → IsHeldPast map m k waits → IsHeldPast map v k waits
+
+  abbrev pub LeavesHeld : Moment K V → Moment K V → Type 0
+  LeavesHeld m v = (map : ℕ) → LeavesHeldOf map m v
+
+  -- so it is of each map on which a call is under way
+  abbrev pub LeavesInHand : Scene K V → Moment K V → Moment K V → Type 0
+  LeavesInHand t m v = (map i : ℕ) (u : UnderWay K V K) → t.calls map i ≡ Some u → LeavesHeldOf map m v
+
+  -- each call that has a pair in hand then had it before, as the same machine
+  abbrev pub KeepsHands : (ℕ → List ℕ) → Moment K V → Scene K V → Moment K V → Scene K V → Type 0
+  KeepsHands name m s v t =
+      (map i : ℕ) (u : UnderWay K V K) → t.calls map i ≡ Some u → (word : ℕ) → pair_in (machine_of u) ≡ Some word → (d : CallThere K V) → call_of (name i) v ≡ Some d
+      → (x : UnderWay K V K) × (s.calls map i ≡ Some x) × (machine_of x ≡ machine_of u) × (c : CallThere K V) × (call_of (name i) m ≡ Some c) × (c.owes ≡ d.owes)
+
+  -- a pair that is retired is past the root; and one that is put behind a table, which is there, was copied past an older one, in a map that grows in chunks
+  abbrev pub FindsPast : Moment K V → Effect → CallThere K V → Type 0
+  FindsPast m (Deferred n t) c = ((m.born n).turn < (m.spot n).turn) × (is_stage is_there t m ≡ true) × (grows_in_chunks (map_at c.map m) ≡ true)
+  FindsPast m (Retired (APair n)) c = IsPast (m.born n).turn (m.spot n).turn (first_of c.map m)
+  FindsPast m _ c = Unit {0}
+
+  abbrev pub FindPast : List ℕ → ℕ → List Effect → Moment K V → Type 0
+  FindPast own map effects m = AtEachEffect (λ v f. ByCall (FindsPast v f) (acting (Some own) v)) (Some own) (Some map) effects m
+
+  -- The table behind which a pair is put is that of the map just before the one in which the pair lies.
+  abbrev pub FindsBehind : Moment K V → Effect → CallThere K V → Type 0
+  FindsBehind m (Deferred n t) c =
+      (t.map ≡ c.map) × ((m.spot n).turn ≡ t.turn + 1)
+  FindsBehind m _ c = Unit {0}
+
+  abbrev pub FindBehind : List ℕ → ℕ → List Effect → Moment K V → Type 0
+  FindBehind own map effects m = AtEachEffect (λ v f. ByCall (FindsBehind v f) (acting (Some own) v)) (Some own) (Some map) effects m
+
+  -- What is left of it: it has room.
+  abbrev pub FindsSpace : Moment K V → Effect → CallThere K V → Type 0
+  FindsSpace m (Deferred n t) c = length (behind t m.deferred) < sum_by (λ u. u.shape.len) (filter (λ u. nat_le u.table.turn t.turn) (tables_of c.map m))
+  FindsSpace m _ c = Unit {0}
+
+  abbrev pub FindSpace : List ℕ → ℕ → List Effect → Moment K V → Type 0
+  FindSpace own map effects m = AtEachEffect (λ v f. ByCall (FindsSpace v f) (acting (Some own) v)) (Some own) (Some map) effects m
+
+module _ (K V : Type 0) where
+  -- The promises: nobody has a pair in hand as a run begins;
+  abbrev pub WaitsBegin : Type 0
+  WaitsBegin = (name : ℕ → List ℕ) (roots : ℕ) → ShowsWaits {K = K} {V = V} name start (at_first roots)
+
+  -- where calls have in hand what they had, and such pairs lie where they lay, it is so still, as where others take steps, or an event is over;
+  abbrev pub WaitsStay : Type 0
+  WaitsStay =
+      (name : ℕ → List ℕ) (m v : Moment K V) (s t : Scene K V) → ShowsWaits name m s → LeavesInHand t m v → KeepsHands name m s v t → ShowsWaits name v t
+
+  -- so where each call owes what it has in hand, before and after, which is noted as it was, each that has a pair in hand then was there before, as the same machine:
+  -- where one is told a reply, comes to an outcome, or is given up, and where others than calls take steps;
+  abbrev pub WaitsFollowOwed : Type 0
+  WaitsFollowOwed =
+      (same : K → K → Bool) (name : ℕ → List ℕ) (m v : Moment K V) (known known2 : Known) (s t : Scene K V) → ShowsCalls same name m s.calls → ShowsOwed name m known s → ShowsOwed name v known2 t
+      → ShowsWaits name m s → LeavesInHand t m v
+      → ((map i : ℕ) (u : UnderWay K V K) → t.calls map i ≡ Some u → (word : ℕ) → pair_in (machine_of u) ≡ Some word
+      → (x : UnderWay K V K) × (s.calls map i ≡ Some x) × (machine_of x ≡ machine_of u) × SameInHand known known2 (machine_of x))
+      → ShowsWaits name v t
+
+  -- and such pairs do, after any effects, whoever makes them, that find the number of the pair that is stored next, copy what is in a map, and bring no root back.
+  abbrev pub EffectsLeaveHeld : Type 0
+  EffectsLeaveHeld =
+      (who : Option (List ℕ)) (acted : Option ℕ) (effects : List Effect) (m : Moment K V) → AtEachEffect FindsNumbers who acted effects m → AtEachEffect (FindsOnward acted) who acted effects m
+      → LeavesHeld m (with_effects who acted effects m)
+
+  -- So it is where a call begins that has no pair in hand, by a name that no call under way has,
+  abbrev pub CallsBeginWaits : Type 0
+  CallsBeginWaits =
+      (name : ℕ → List ℕ) (m : Moment K V) (s : Scene K V) → ShowsWaits name m s
+      → (map i : ℕ) (u : UnderWay K V K) (call : Call K V) (guard : List ℕ) → NoneNamed name (name i) s → pair_in (machine_of u) ≡ None
+      → ShowsWaits name (with_call (name i) guard call (Some map) m) (scene_with map i u s)
+
+  -- and where one goes on otherwise, and has none in hand then.
+  abbrev pub WaitsGoOn : Type 0
+  WaitsGoOn =
+      (name : ℕ → List ℕ) (m : Moment K V) (s : Scene K V) → ShowsWaits name m s
+      → (map i : ℕ) (next : UnderWay K V K) → pair_in (machine_of next) ≡ None → ShowsWaits name m (scene_with map i next s)
+
+  -- These parts make up all that effects must find that hand a pair over.
+  abbrev pub PastIsHanded : Type 0
+  PastIsHanded =
+      (own : List ℕ) (map : ℕ) (effects : List Effect) (m : Moment K V) → FindPast own map effects m → FindBehind own map effects m → FindSpace own map effects m
+      → FindHanded own map effects m
+
+module _ (K V S : Type 0) (same : K → K → Bool) (hash : K → ℕ) where
+  -- The promises, of a step of a call, whichever it is, and whether of a row or none: it is so after it,
+  abbrev pub CallsKeepWaits : Type 0
+  CallsKeepWaits =
+      (name : ℕ → List ℕ) (m : Moment K V) (known : Known) (s : Scene K V) (old new : Executor K V S)
+      → IsAt same hash old s → ShowsWhole same name m known s → ShowsEntries s → OwnAreMade known s.world → ShowsOwed name m known s → ShowsWaits name m s
+      → (map i : ℕ) (u : UnderWay K V K) (here : s.calls map i ≡ Some u) (said : Progress (Node K V)) (leads : StepLeads same hash i said s old new)
+      → (let to = leads map u here in
+      ShowsWaits name (with_effects (Some (name i)) (Some map) (effects_of (acts.Call i map) known new.memory.changed) m) (scene_after same hash s old new map i to.0 u to.1 said to.4))
+
+  -- and what it hands over is past the root, or was copied past an older table.
+  abbrev pub CallsHandPast : Type 0
+  CallsHandPast =
+      (name : ℕ → List ℕ) (m : Moment K V) (known : Known) (s : Scene K V) (old new : Executor K V S)
+      → IsAt same hash old s → ShowsWhole same name m known s → ShowsEntries s → OwnAreMade known s.world → ShowsOwed name m known s → ShowsWaits name m s
+      → (map i : ℕ) (u : UnderWay K V K) (here : s.calls map i ≡ Some u) (said : Progress (Node K V)) (leads : StepLeads same hash i said s old new)
+      → FindPast (name i) map (effects_of (acts.Call i map) known new.memory.changed) m
