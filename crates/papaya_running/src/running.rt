@@ -97,12 +97,7 @@ fn refuse_as_told<K: Drop, V: Drop, S>(
     ensures { scheduler.new ≡ scheduler.old }
 {
     if let Some(left) = growths.get(place) {
-        scheduler
-            .logged
-            .executor
-            .memory
-            .memory
-            .refuse_after(*left);
+        scheduler.logged.executor.memory.memory.refuse_after(*left);
     }
 }
 

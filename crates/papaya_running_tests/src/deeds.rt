@@ -1,8 +1,8 @@
 //! What events do, as rows of tables.
 use papaya_runs::outcome::TableShape;
-use papaya_schedules::effect::{Effect, Spot, Table};
 use papaya_schedules::effect::Growth::{ABlock, ABucket};
 use papaya_schedules::effect::Thing::{APair, ATable};
+use papaya_schedules::effect::{Effect, Spot, Table};
 
 /// An effect. Tables are those of the first map, by their turns; a pair lies at a place of one.
 #[derive(Clone, Copy)]

@@ -89,8 +89,9 @@ fn add_call(
     growths: u64,
     comes_to: Shown,
 ) -> Result<(), AllocError> {
-    let mut step = Step::Call(tried.call);
-    for (question, told) in tried.asks {
+    let (call, asks, _, _, _) = *tried;
+    let mut step = Step::Call(call);
+    for (question, told) in asks {
         planned.push((step, u64::MAX, *question))?;
         planned.push((Says(*told), u64::MAX, GOES))?;
         step = Go;
@@ -108,17 +109,18 @@ fn refused_at_each(
     mode: ResizeMode,
     tried: &Tried,
 ) -> Result<(), Fail> {
-    for growths in 0..tried.growths {
+    let (_, _, comes_to, then, most) = *tried;
+    for growths in 0..most {
         let mut planned = filling(alloc, row, mode)?;
         add_call(&mut planned, tried, growths, NO_MEMORY)?;
         add_lookups(&mut planned, row.keys, Then::Same)?;
-        add_call(&mut planned, tried, u64::MAX, tried.comes_to)?;
-        add_lookups(&mut planned, row.keys, tried.then)?;
+        add_call(&mut planned, tried, u64::MAX, comes_to)?;
+        add_lookups(&mut planned, row.keys, then)?;
         plays(rt, alloc, row.by, planned.as_slice())?;
     }
     let mut planned = filling(alloc, row, mode)?;
-    add_call(&mut planned, tried, tried.growths, tried.comes_to)?;
-    add_lookups(&mut planned, row.keys, tried.then)?;
+    add_call(&mut planned, tried, most, comes_to)?;
+    add_lookups(&mut planned, row.keys, then)?;
     plays(rt, alloc, row.by, planned.as_slice())
 }
 

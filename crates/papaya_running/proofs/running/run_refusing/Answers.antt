@@ -52,10 +52,10 @@ loop-event-preserved g c =
     let events = c.loop-event.invariant.0 in
     let event = c.in-Some-event.event in
     let so =
-      subst (λ (p : Scheduler g.row.K.Denot g.row.V.Denot g.row.S.Denot).
-      SoFar g.K.PartialEq.eq (λ key. g.S.Hasher.Hasher.finish (fold g.S.Hasher.Hasher.write (g.S.BuildHasher.build_hasher p.logged.executor.hasher) (g.K.Hash.hash_input key)) % 2 ^ 64)
-      (terms_given (bounded c.args.given)) c.loop-event.invariant.0 c.loop-event.written c.loop-event.tally p)
-      (sym c.refuse_as_told.ensures) c.loop-event.invariant.2 in
+    subst (λ (p : Scheduler g.row.K.Denot g.row.V.Denot g.row.S.Denot).
+    SoFar g.K.PartialEq.eq (λ key. g.S.Hasher.Hasher.finish (fold g.S.Hasher.Hasher.write (g.S.BuildHasher.build_hasher p.logged.executor.hasher) (g.K.Hash.hash_input key)) % 2 ^ 64)
+    (terms_given (bounded c.args.given)) c.loop-event.invariant.0 c.loop-event.written c.loop-event.tally p)
+    (sym c.refuse_as_told.ensures) c.loop-event.invariant.2 in
     let next : c.loop-event.event-iterator.rest.items ≡ event ∷ c.next-in-loop-event.new.self.rest.items = let s = c.in-Some-event.ensures.steps in search rules in (
       events ++ event ∷ [],
       append_assoc events (event ∷ []) c.next-in-loop-event.new.self.rest.items ∙ ap (λ (l : List (Event g.row.K.Denot g.row.V.Denot)). events ++ l) (sym next) ∙ c.loop-event.invariant.1,
