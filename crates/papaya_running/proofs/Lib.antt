@@ -9,6 +9,7 @@ pub mod Mays
 mod LawfulKeys
 mod Left
 mod Logs
+mod AsRun
 mod Turns
 mod Counts
 mod Held

@@ -28,7 +28,7 @@ use Rattle.papaya_running.specs.Back.{BackSoFar, ReclaimsBy, ReclaimsRight, Tell
 use Rattle.papaya_running.specs.Ending.{shown_of, told_map}
 use Rattle.papaya_running.specs.Keeping.{IsAskedOf}
 use Rattle.papaya_running.specs.OfCalls.{Runs}
-use Rattle.papaya_running.specs.Run.{GoesRight, IsLegalRun, IsRightRun, RunsSoFar, SoFar, TellsMost, log_so}
+use Rattle.papaya_running.specs.Run.{GoesRight, IsRightRun, IsWholeRun, RunsSoFar, SoFar, TellsMost, log_so}
 use Rattle.papaya_tally.specs.Tally.{Tells, TellsAll, TellsMoment, counted, deferral, flag_of}
 use Rattle.papaya_running.specs.declared.record.Record.{Record}
 use Rattle.papaya_logged.specs.Back.{ComesBack}
@@ -37,6 +37,8 @@ use Rattle.papaya_tally.proofs.Back.{back_then}
 use Rattle.papaya_tally.specs.declared.tally.Tally.{Tally}
 use Rattle.papaya_tally.specs.declared.tally.Whereabouts.{Whereabouts}
 use Rattle.papaya_tally.specs.declared.tally.Whereabouts.TheVariants.{Unborn}
+use Rattle.papaya_finds.specs.TornDown.{StoredAreSomewhere}
+use Rattle.papaya_running.proofs.AsRun.{as_run}
 use Rattle.papaya_running.proofs.Logs.{acted_so, begun_same, log_long, log_more, singles_are}
 use Rattle.papaya_tally.proofs.Numbers.{lists_map}
 use Rattle.papaya_tally.proofs.Tallies.{told_moment}
@@ -202,8 +204,11 @@ module _ {K V S : Type 0} (same : K → K → Bool) (hash : K → ℕ) (terms : 
         back = subst (λ (l : List (Entry K V)). AtEachEvent ReclaimsRight l → TellsBack (moment l) run) (sym same_log) back;
       }
 
-  -- and each of its events is legal, by what is still asked
-  pub legal_so : (run : Run K V) → run.outcomes ≡ rec.outcomes → run.steps ≡ rec.steps → run.effects ≡ rec.effects → IsLegalRun same terms events run
-  legal_so run outcomes steps effects asked =
+  -- and it has all that is promised of one, if each event has what is still asked of it
+  pub whole_so : (run : Run K V) → run.outcomes ≡ rec.outcomes → run.steps ≡ rec.steps → run.effects ≡ rec.effects → run.trace ≡ rec.trace → TellsMost (moment (log_so events rec)) run
+      → (AtEachEvent ReclaimsRight (log_so events rec) → TellsBack (moment (log_so events rec)) run) → IsWholeRun same terms events run
+  whole_so run outcomes steps effects trace tells back asked =
       let same_log : log_of events run ≡ log_so events rec = λ i. log_on [] events (outcomes i).items (steps i).items (map (λ v. v.items) (effects i).items) in
-      subst (IsLegalLog same terms) (sym same_log) (so.runs (subst (AtEachEvent (IsAskedOf terms)) same_log asked)).0
+      let on = so.runs (subst (AtEachEvent (IsAskedOf terms)) same_log asked) in
+      as_run same terms events run (run_so run outcomes steps effects trace tells back) (subst (IsLegalLog same terms) (sym same_log) on.0)
+      (subst (λ (l : List (Entry K V)). StoredAreSomewhere (moment l)) (sym same_log) on.1.shows.order.0.somewhere)

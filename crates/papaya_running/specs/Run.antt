@@ -11,7 +11,7 @@ use Rattle.papaya_schedules.specs.Beginning.{at_work}
 use Rattle.papaya_schedules.specs.Entry.{Entry, acting, caller_of}
 use Rattle.papaya_schedules.specs.InTurn.{ComesRight}
 use Rattle.papaya_schedules.specs.Moment.{Moment}
-use Rattle.papaya_schedules.specs.Runs.{IsLegalLog, Lists, ShowsMaps, log_of, log_on, trace_of}
+use Rattle.papaya_schedules.specs.Runs.{IsLegalLog, IsRunOf, Lists, ShowsMaps, log_of, log_on, trace_of}
 use Rattle.papaya_schedules.specs.Steps.{DoesFew, MakesSteps, stands_or}
 use Rattle.papaya_schedules.specs.Terms.{Terms}
 use Rattle.papaya_schedules.specs.Views.{is_in_a_map, is_retired, is_waiting}
@@ -62,9 +62,9 @@ module _ {K V : Type 0} where
     pub tells : TellsMost (moment (log_of schedule run)) run
     pub back : AtEachEvent ReclaimsRight (log_of schedule run) → TellsBack (moment (log_of schedule run)) run
 
--- Each event of the run is legal, if each has what is still asked of it.
-abbrev pub IsLegalRun : {K V : Type 0} → (K → K → Bool) → Terms → List (Event K V) → Run K V → Type 0
-IsLegalRun same terms schedule run = AtEachEvent (IsAskedOf terms) (log_of schedule run) → IsLegalLog same terms (log_of schedule run)
+-- The run is one of this schedule, with all that is promised of one, if each event has what is still asked of it.
+abbrev pub IsWholeRun : {K V : Type 0} → (K → K → Bool) → Terms → List (Event K V) → Run K V → Type 0
+IsWholeRun same terms schedule run = AtEachEvent (IsAskedOf terms) (log_of schedule run) → IsRunOf same terms schedule run
 
 module _ {K V S : Type 0} (same : K → K → Bool) (hash : K → ℕ) where
   -- If each event so far has what is still asked of it, each has kept its promises, and the run is as the next one needs.

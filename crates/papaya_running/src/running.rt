@@ -5,7 +5,7 @@ ghost use Rattle.papaya_schedules.specs.Terms.{Terms};
 ghost use Rattle.papaya_schedules.specs.declared.event.Event.{Event};
 ghost use Rattle.papaya_scheduler.specs.Played.{terms_given};
 ghost use Rattle.papaya_running.specs.Back.{BackSoFar, ReclaimsRight, TellsBack};
-ghost use Rattle.papaya_running.specs.Run.{IsLegalRun, IsRightRun, SoFar, TellsMost, bounded, log_so};
+ghost use Rattle.papaya_running.specs.Run.{IsRightRun, IsWholeRun, SoFar, TellsMost, bounded, log_so};
 
 use crate::acting::{acting_of, traced_as};
 use crate::ending::living;
@@ -56,7 +56,7 @@ pub fn run<K: Eq + Hash + Drop, V: Drop, S: BuildHasher + Drop>(
     choices: Vec<u64>,
 ) -> Result<Run<K, V>, Fault>
     ensures run { IfOk result (λ run. IsRightRun (terms_given (bounded given)) schedule.items run) }
-    ensures legal { IfOk result (λ run. IsLegalRun K.eq (terms_given (bounded given)) schedule.items run) }
+    ensures whole { IfOk result (λ run. IsWholeRun K.eq (terms_given (bounded given)) schedule.items run) }
     ensures memory { IfErr result (λ fault. fault ≡ Fault.Memory) }
 {
     run_refusing(alloc, given, hasher, schedule, choices, &[])
@@ -73,7 +73,7 @@ pub fn run_refusing<K: Eq + Hash + Drop, V: Drop, S: BuildHasher + Drop>(
     growths: &[u64],
 ) -> Result<Run<K, V>, Fault>
     ensures run { IfOk result (λ run. IsRightRun (terms_given (bounded given)) schedule.items run) }
-    ensures legal { IfOk result (λ run. IsLegalRun K.eq (terms_given (bounded given)) schedule.items run) }
+    ensures whole { IfOk result (λ run. IsWholeRun K.eq (terms_given (bounded given)) schedule.items run) }
     ensures memory { IfErr result (λ fault. fault ≡ Fault.Memory) }
 {
     let mut scheduler = Scheduler::new(alloc, bounded(given), hasher)?;

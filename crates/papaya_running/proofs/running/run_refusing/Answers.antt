@@ -6,10 +6,10 @@ use Rattle.papaya_schedules.specs.declared.event.Event.{Event}
 use Rattle.papaya_scheduler.specs.Played.{terms_given}
 use Rattle.papaya_scheduler.specs.declared.scheduler.Given.{Given}
 use Rattle.papaya_scheduler.specs.declared.scheduler.Scheduler.{Scheduler}
-use Rattle.papaya_running.specs.Run.{IsLegalRun, IsRightRun, SoFar, bounded}
+use Rattle.papaya_running.specs.Run.{IsRightRun, IsWholeRun, SoFar, bounded}
 use Rattle.papaya_running.proofs.Beginning.{Begins, are_few, begins_first, first_holds, first_runs, still_begins}
 use Rattle.papaya_running.proofs.LawfulKeys.{are_lawful}
-use Rattle.papaya_running.proofs.Turns.{back_first, legal_so, run_so, start_so}
+use Rattle.papaya_running.proofs.Turns.{back_first, run_so, start_so, whole_so}
 use Rattle.papaya_running.proofs.running.run_refusing.Goals as goal
 
 pub loop-choice-init : goal.loop-choice-init
@@ -84,13 +84,15 @@ returns-clause-run g c =
     (c.in_ok-end.ensures.tells g.K.PartialEq.eq hash (terms_given (bounded c.args.given)) events c.loop-event.invariant.2)
     (c.in_ok-end.ensures.back g.K.PartialEq.eq hash (terms_given (bounded c.args.given)) events c.loop-event.invariant.2 c.loop-event.invariant.3))
 
-pub returns-clause-legal : goal.returns-clause-legal
-returns-clause-legal g c =
+pub returns-clause-whole : goal.returns-clause-whole
+returns-clause-whole g c =
     let hash : g.row.K.Denot → ℕ = λ key. g.S.Hasher.Hasher.finish (fold g.S.Hasher.Hasher.write (g.S.BuildHasher.build_hasher c.loop-event.scheduler.logged.executor.hasher) (g.K.Hash.hash_input key)) % 2 ^ 64 in
     let events = c.loop-event.invariant.0 in
     let empty : c.loop-event.event-iterator.rest.items ≡ [] =
     nil_from_length c.loop-event.event-iterator.rest.items (let a = c.loop-event.event-iterator.rest.ok in let s = c.in-None-event.ensures.steps in omega (arith, a, s.0)) in
     let all : events ≡ c.args.schedule.items = sym (append-nil events) ∙ ap (λ (l : List (Event g.row.K.Denot g.row.V.Denot)). events ++ l) (sym empty) ∙ c.loop-event.invariant.1 in
-    subst (λ (l : List (Event g.row.K.Denot g.row.V.Denot)). IsLegalRun g.K.PartialEq.eq (terms_given (bounded c.args.given)) l c.in_ok-end.field-0) all
-    (legal_so g.K.PartialEq.eq hash (terms_given (bounded c.args.given)) events c.loop-event.written c.loop-event.tally c.loop-event.scheduler c.loop-event.invariant.2 c.in_ok-end.field-0 c.in_ok-end.ensures.outcomes
-    c.in_ok-end.ensures.steps c.in_ok-end.ensures.effects)
+    subst (λ (l : List (Event g.row.K.Denot g.row.V.Denot)). IsWholeRun g.K.PartialEq.eq (terms_given (bounded c.args.given)) l c.in_ok-end.field-0) all
+    (whole_so g.K.PartialEq.eq hash (terms_given (bounded c.args.given)) events c.loop-event.written c.loop-event.tally c.loop-event.scheduler c.loop-event.invariant.2 c.in_ok-end.field-0 c.in_ok-end.ensures.outcomes
+    c.in_ok-end.ensures.steps c.in_ok-end.ensures.effects c.in_ok-end.ensures.trace
+    (c.in_ok-end.ensures.tells g.K.PartialEq.eq hash (terms_given (bounded c.args.given)) events c.loop-event.invariant.2)
+    (c.in_ok-end.ensures.back g.K.PartialEq.eq hash (terms_given (bounded c.args.given)) events c.loop-event.invariant.2 c.loop-event.invariant.3))
