@@ -19,3 +19,4 @@ pub mod OfMakings
 pub mod OfAll
 pub mod OfSetups
 pub mod Joined
+mod Reached

@@ -4,3 +4,5 @@ pub mod Mays
 pub mod Makings
 pub mod Ends
 pub mod Registering
+pub mod Reached
+pub mod Needs

@@ -65,7 +65,7 @@ never_rests (rows.Leaves d) is = cc is
 never_rests (rows.Frees d) is = cc is
 
 -- a row that goes on does so as it was told
-goes_as : {K V : Type 0} (after row : SlotRow) (said : RowTold (Node K V)) → row_on {K = K} {V = V} after said ≡ Some (OnSlot row) → after ≡ row
+pub goes_as : {K V : Type 0} (after row : SlotRow) (said : RowTold (Node K V)) → row_on {K = K} {V = V} after said ≡ Some (OnSlot row) → after ≡ row
 goes_as after row told.Goes is = cc is
 goes_as after row told.Waits is = cc is
 goes_as after row (told.Gave value) is = cc is

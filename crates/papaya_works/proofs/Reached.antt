@@ -17,24 +17,24 @@ pub reached_still : (slots : ℕ) (known after : Known) → known.buckets ≤ af
 reached_still slots known after more (inl none) = inl none
 reached_still slots known after more (inr some) = inr (let most = capacity_le_capacity known.buckets after.buckets more in omega (arith, some, most))
 
+notes_more : (first known after : Known) (n : ℕ) → after.buckets ≡ n → known.buckets ≤ n → first.buckets ≤ known.buckets → first.buckets ≤ after.buckets
+notes_more first known after n is more so = omega (arith, is, more, so)
+
 module _ {K V S : Type 0} (same : K → K → Bool) (hash : K → ℕ) (terms : Terms) (first : Known) where
   abbrev More : Come K V S → Type 0
   More x = first.buckets ≤ x.notes.buckets
 
-  notes_more : (known after : Known) (n : ℕ) → after.buckets ≡ n → known.buckets ≤ n → first.buckets ≤ known.buckets → first.buckets ≤ after.buckets
-  notes_more known after n is more so = omega (arith, is, more, so)
-
   pub rows_note_more : (i n : ℕ) (from to : Come K V S) → Chain (RowSteps same hash terms i) n from to → first.buckets ≤ from.notes.buckets → first.buckets ≤ to.notes.buckets
   rows_note_more i n from to chain so =
       chains_keep More (RowSteps same hash terms i)
-      (λ x y step its. notes_more x.notes y.notes _ (ap (λ (z : Come K V S). z.notes.buckets) step.comes) (buckets_grow acts.Row y.executor.memory.changed x.notes) its) n from to chain so
+      (λ x y step its. notes_more first x.notes y.notes _ (ap (λ (z : Come K V S). z.notes.buckets) step.comes) (buckets_grow acts.Row y.executor.memory.changed x.notes) its) n from to chain so
 
   pub makings_note_more : (i map n : ℕ) (from to : Come K V S) → Chain (MakingSteps same hash terms i map) n from to → first.buckets ≤ from.notes.buckets → first.buckets ≤ to.notes.buckets
   makings_note_more i map n from to chain so =
       chains_keep More (MakingSteps same hash terms i map)
-      (λ x y step its. notes_more x.notes y.notes _ (ap (λ (z : Come K V S). z.notes.buckets) step.comes) (buckets_grow (acts.Making step.making.map) y.executor.memory.changed x.notes) its) n from to chain so
+      (λ x y step its. notes_more first x.notes y.notes _ (ap (λ (z : Come K V S). z.notes.buckets) step.comes) (buckets_grow (acts.Making step.making.map) y.executor.memory.changed x.notes) its) n from to chain so
 
   pub ends_note_more : (i map n : ℕ) (from to : Come K V S) → Chain (EndSteps same hash terms i map) n from to → first.buckets ≤ from.notes.buckets → first.buckets ≤ to.notes.buckets
   ends_note_more i map n from to chain so =
       chains_keep More (EndSteps same hash terms i map)
-      (λ x y step its. notes_more x.notes y.notes _ (ap (λ (z : Come K V S). z.notes.buckets) step.comes) (buckets_grow (acts.Ending map) y.executor.memory.changed x.notes) its) n from to chain so
+      (λ x y step its. notes_more first x.notes y.notes _ (ap (λ (z : Come K V S). z.notes.buckets) step.comes) (buckets_grow (acts.Ending map) y.executor.memory.changed x.notes) its) n from to chain so

@@ -1,0 +1,181 @@
+-- All buckets of slots that a registering asks for are in need, wherever its steps have led.
+use Rattle.std.specs.Prelude.{◌≡◌, ◌⊎◌, ◌≤◌, ◌<◌, ◌+◌, ◌&&◌, ◌||◌, ◌++◌, nat_lt, ℕ, Bool, true, false, List, [], ◌∷◌, length, Option, Some, None, if◌then◌else◌}
+use Rattle.std.specs.List.{list_any}
+use Rattle.std.proofs.Common.{refl, ap, sym, subst, inl, inr, ◌∙◌, arith}
+use Rattle.papaya_histories.specs.Given.SeizeWords.declared.at.At.TheVariants.{Root, Used, Slot, Entry as EntryWord, Word}
+use Rattle.papaya_histories.specs.Given.SeizeWords.Place.{capacity}
+use Rattle.papaya_histories.proofs.Given.SeizeWords.Places.Words.{capacity_le_capacity}
+use Rattle.papaya_histories.specs.Given.Seize.declared.rows.register.Register.{Register}
+use Rattle.papaya_histories.specs.Given.Seize.declared.rows.register.Registering.TheVariants as at
+use Rattle.papaya_histories.specs.Given.Seize.Sequence.{new_slot}
+use Rattle.papaya_histories.proofs.Given.SeizeSets.Slots.Registers.{NoneOnVacant}
+use Rattle.papaya_histories.specs.Given.Tables.declared.node.Node.{Node}
+use Rattle.papaya_histories.specs.Given.Teller.declared.changed.Changed.{Changed}
+use Rattle.papaya_histories.specs.Given.Teller.declared.changed.Changed.TheVariants as changed
+use Rattle.papaya_histories.specs.Given.Schedules.declared.effect.Effect.{Effect}
+use Rattle.papaya_histories.specs.Given.Schedules.declared.effect.Effect.TheVariants.{Asked}
+use Rattle.papaya_histories.specs.Given.Schedules.declared.effect.Growth.TheVariants.{ABlock, ABucket}
+use Rattle.papaya_histories.specs.Given.Schedules.Effects.{AtEachEffect, with_effect}
+use Rattle.papaya_histories.specs.Given.Schedules.Growing.{AsksForBucket}
+use Rattle.papaya_histories.specs.Given.Schedules.Handing.{asks_for_bucket}
+use Rattle.papaya_histories.specs.Given.Schedules.InUse.{used_slots}
+use Rattle.papaya_histories.specs.Given.Schedules.Lists.{least_free}
+use Rattle.papaya_histories.specs.Given.Schedules.Moment.{Moment}
+use Rattle.papaya_histories.specs.Given.Schedules.Terms.{Terms}
+use Rattle.papaya_histories.specs.Given.Effects.Effects.{effects_of, names_same}
+use Rattle.papaya_histories.specs.Given.Effects.Known.{Known}
+use Rattle.papaya_histories.specs.Given.Effects.declared.acting.Acting.TheVariants as acts
+use Rattle.papaya_histories.specs.Given.Executor.IsAt.{Scene, IsAt, slot_of, work_of}
+use Rattle.papaya_histories.specs.Given.Executor.OnSlots.{RowBegins, RowSteps as StepsAs, row_on}
+use Rattle.papaya_histories.specs.Given.Executor.declared.executor.Executor.{Executor}
+use Rattle.papaya_histories.specs.Given.Executor.declared.row.RowTold.{RowTold}
+use Rattle.papaya_histories.specs.Given.Executor.declared.row.RowTold.TheVariants as told
+use Rattle.papaya_histories.specs.Given.Executor.declared.row.SlotCall.TheVariants as call
+use Rattle.papaya_histories.specs.Given.Executor.declared.row.SlotRow.{SlotRow}
+use Rattle.papaya_histories.specs.Given.Executor.declared.row.SlotRow.TheVariants as rows
+use Rattle.papaya_histories.specs.Given.Executor.declared.worker.Work.{Work}
+use Rattle.papaya_histories.specs.Given.Executor.declared.worker.Work.TheVariants.{OnSlot}
+use Rattle.papaya_legal.specs.Chains.{Chain, Come, RowSteps}
+use Rattle.papaya_legal.specs.Found.{AsksInNeed}
+use Rattle.papaya_legal.proofs.Chains.{chains_keep}
+use Rattle.papaya_remains.specs.Slots.{SlotsNoted}
+use Rattle.papaya_remains.proofs.Slots.{buckets_grow, rows_note_slots}
+use Rattle.papaya_rows.proofs.Taking.{Next, OnIt, first_on, next}
+use Rattle.papaya_works.specs.Needs.{AreReached}
+use Rattle.papaya_works.proofs.Mays.{goes_as}
+use Rattle.papaya_works.proofs.Registering.{NeedsSlot, asks_in_need}
+use Rattle.papaya_works.proofs.Steps.{Tells, registers_tell}
+
+-- a bucket is asked for among the effects of a step that makes room, where it was not known
+module _ (known : Known) where
+  asked_is : (told : Changed) → Tells false true told → list_any asks_for_bucket (effects_of acts.Row known told) ≡ true
+      → (bucket : ℕ) × (had : Bool) × (told ≡ changed.Roomed bucket had) × ((had && nat_lt bucket known.buckets) ≡ false)
+  asked_is changed.Nothing is asked = absurd (cc asked)
+  asked_is (changed.Wrote (Slot t field) old new) is asked = absurd (cc asked)
+  asked_is (changed.Wrote (EntryWord b field) old new) is asked = absurd (by (names_same old new) asked)
+    where
+      by : (q : Bool) → list_any asks_for_bucket (if q then [] else []) ≡ true → ⊥
+      by true some = cc some
+      by false some = cc some
+  asked_is (changed.Wrote (Root r) old new) is asked = absurd is
+  asked_is (changed.Wrote (Used r) old new) is asked = absurd is
+  asked_is (changed.Wrote (Word b field) old new) is asked = absurd is
+  asked_is (changed.Made kind b) is asked = absurd is
+  asked_is (changed.Unmade kind) is asked = absurd is
+  asked_is (changed.Took b) is asked = absurd (cc is)
+  asked_is (changed.Roomed bucket had) is asked = by (had && nat_lt bucket known.buckets) refl asked
+    where
+      by : (q : Bool) → (had && nat_lt bucket known.buckets) ≡ q → list_any asks_for_bucket (if q then [] else Asked ABucket ∷ []) ≡ true
+          → (b : ℕ) × (h : Bool) × (changed.Roomed bucket had ≡ changed.Roomed b h) × ((h && nat_lt b known.buckets) ≡ false)
+      by true e some = absurd (cc some)
+      by false e some = (bucket, had, refl, e)
+
+either_any : (p : Effect → Bool) (xs ys : List Effect) → list_any p (xs ++ ys) ≡ true → (list_any p xs ≡ true) ⊎ (list_any p ys ≡ true)
+either_any p [] ys some = inr some
+either_any p (x ∷ xs) ys some = by (p x) some (either_any p xs ys)
+  where
+    by : (q : Bool) → (q || list_any p (xs ++ ys)) ≡ true → (list_any p (xs ++ ys) ≡ true → (list_any p xs ≡ true) ⊎ (list_any p ys ≡ true)) → ((q || list_any p xs) ≡ true) ⊎ (list_any p ys ≡ true)
+    by true is rest = inl refl
+    by false is rest = rest is
+
+any_more : (a b : Bool) → b ≡ true → (a || b) ≡ true
+any_more true b is = refl
+any_more false b is = is
+
+-- where one is in need, each is
+module _ {K V : Type 0} (slots slot : ℕ) where
+  one_asked : (f : Effect) (m : Moment K V) → m.slots ≡ slots → least_free (used_slots m.there) ≡ slot → (asks_for_bucket f ≡ true → AsksForBucket slots slot) → AsksInNeed m f
+  one_asked (Asked ABucket) m slots_are least so = subst (λ (n : ℕ). AsksForBucket n (least_free (used_slots m.there))) (sym slots_are) (subst (AsksForBucket slots) (sym least) (so refl))
+  one_asked _ m slots_are least so = tt
+
+  all_asked : (fs : List Effect) (m : Moment K V) → m.slots ≡ slots → least_free (used_slots m.there) ≡ slot → (list_any asks_for_bucket fs ≡ true → AsksForBucket slots slot) → AtEachEffect AsksInNeed None None fs m
+  all_asked [] m slots_are least so = tt
+  all_asked (f ∷ fs) m slots_are least so = (
+    one_asked f m slots_are least (λ is. so (ap (λ (b : Bool). b || list_any asks_for_bucket fs) is)),
+    all_asked fs (with_effect None None f m) slots_are least (λ is. so (any_more (asks_for_bucket f) (list_any asks_for_bucket fs) is)),
+  )
+
+module _ {K V S : Type 0} (same : K → K → Bool) (hash : K → ℕ) (terms : Terms) (m : Moment K V) (s : Scene K V) (old : Executor K V S) (i : ℕ) (enters : Bool) (apart : NoneOnVacant i s.world) (first : Known)
+    (reached : AreReached m.slots first) (least : (slot : ℕ) → new_slot s.world.uses ≡ Some slot → least_free (used_slots m.there) ≡ slot) where
+  -- a registering is under way as one, slots are noted, no bucket is forgotten, and what was asked for is in need
+  abbrev IsOn : Executor K V S → Type 0
+  IsOn e = (row : SlotRow) → work_of e i ≡ Some (OnSlot row) → (c : Register) × (row ≡ rows.Registers c) × OnIt same hash i s old.batch_size enters apart e c
+
+  abbrev Need : Type 0
+  Need = AsksForBucket m.slots (least_free (used_slots m.there))
+
+  abbrev NeedsSo : Come K V S → Type 0
+  NeedsSo x = IsOn x.executor × SlotsNoted x.notes x.executor.memory.memory × (first.buckets ≤ x.notes.buckets) × (list_any asks_for_bucket x.did ≡ true → Need)
+
+  -- the slot that needs a bucket was never reached
+  never_reached : (known : Known) (slot n : ℕ) → first.buckets ≤ known.buckets → n + 32 ≡ capacity known.buckets → n ≤ slot + 1 → AreReached m.slots first → m.slots ≤ slot
+  never_reached known slot n more whole few (inl none) = omega (arith, none)
+  never_reached known slot n more whole few (inr some) = let most = capacity_le_capacity first.buckets known.buckets more in omega (arith, most, whole, few, some)
+
+  module _ (x y : Come K V S) (step : RowSteps same hash terms i x y) (so : NeedsSo x) where
+    here : (c : Register) × (step.row ≡ rows.Registers c) × OnIt same hash i s old.batch_size enters apart x.executor c
+    here = so.0 step.row step.here
+
+    went : StepsAs K V (rows.Registers here.0) x.executor.memory.memory y.executor.memory.memory y.executor.memory.changed ((step.leads step.row step.here).0, step.said)
+    went =
+        subst (λ (r : SlotRow). StepsAs K V r x.executor.memory.memory y.executor.memory.memory y.executor.memory.changed ((step.leads step.row step.here).0, step.said)) here.1
+        (step.leads step.row step.here).1
+
+    needed : NeedsSlot s.world.uses x.executor.memory.memory → Need
+    needed needs =
+        let slot_is = least needs.0 needs.1 in
+        subst (AsksForBucket m.slots) (sym slot_is) (never_reached x.notes needs.0 (length x.executor.memory.memory.slots) so.2 so.1.whole needs.3 reached, needs.2)
+
+    asked : list_any asks_for_bucket (effects_of acts.Row x.notes y.executor.memory.changed) ≡ true → Need
+    asked some =
+        let is = asked_is x.notes y.executor.memory.changed
+        (registers_tell x.executor.memory.memory y.executor.memory.memory y.executor.memory.changed ((step.leads step.row step.here).0, step.said) here.0 went) some in
+        needed (asks_in_need same hash i s old.batch_size enters apart x.executor here.0 here.2 y.executor.memory.memory y.executor.memory.changed (step.leads step.row step.here).0 step.said went
+        x.notes so.1 is.0 is.1 is.2 is.3)
+
+    on_then : IsOn y.executor
+    on_then row there = by (next same hash i s old.batch_size enters apart x.executor y.executor here.0 here.2 (step.leads step.row step.here).0 step.said went)
+      where
+        goes : (step.leads step.row step.here).0 ≡ row
+        goes = goes_as (step.leads step.row step.here).0 row step.said (sym (step.leads step.row step.here).2 ∙ there)
+
+        -- one that has ended is under way no more
+        over : {X : Type 0} (said : RowTold (Node K V)) → step.said ≡ said → (row_on {K = K} {V = V} (step.leads step.row step.here).0 said ≡ Some (OnSlot row) → ⊥) → X
+        over said is never =
+            absurd (never (ap (λ (q : RowTold (Node K V)). row_on {K = K} {V = V} (step.leads step.row step.here).0 q) (sym is) ∙ sym (step.leads step.row step.here).2 ∙ there))
+
+        by : Next same hash i s old.batch_size enters apart y.executor (step.leads step.row step.here).0 step.said → (c : Register) × (row ≡ rows.Registers c) × OnIt same hash i s old.batch_size enters apart y.executor c
+        by (inl (c2, is, after_is, on2)) = (c2, sym goes ∙ after_is, on2)
+        by (inr (inl (fault, is, why, roomed))) = over (told.Refused fault) is (λ on. cc on)
+        by (inr (inr (slot, is, new_is))) = over (told.Registered slot) is (λ on. cc on)
+
+    pub needs_on : NeedsSo y
+    needs_on =
+        subst NeedsSo (sym step.comes) (
+          on_then,
+          rows_note_slots K V S same hash x.notes x.scene x.executor y.executor step.is_at so.1 i step.said step.leads step.row step.here,
+          (let more = buckets_grow acts.Row y.executor.memory.changed x.notes in let before = so.2 in omega (arith, more, before)),
+          λ some. either (either_any asks_for_bucket x.did (effects_of acts.Row x.notes y.executor.memory.changed) some),
+        )
+      where
+        either : (list_any asks_for_bucket x.did ≡ true) ⊎ (list_any asks_for_bucket (effects_of acts.Row x.notes y.executor.memory.changed) ≡ true) → Need
+        either (inl before) = so.3 before
+        either (inr now) = asked now
+
+  -- So all buckets that were asked for were in need, from where it began.
+  pub registers_need : (new : Executor K V S) → IsAt same hash old s → (leads : RowBegins same hash (call.Register enters) i s old new) → SlotsNoted first new.memory.memory → (n : ℕ) (from to : Come K V S)
+      → from.executor ≡ new → from.notes ≡ first → from.did ≡ [] → Chain (RowSteps same hash terms i) n from to → AtEachEffect AsksInNeed None None to.did m
+  registers_need new at_s leads noted n from to executor_is notes_are none chain =
+      all_asked m.slots (least_free (used_slots m.there)) to.did m refl refl
+      (chains_keep NeedsSo (RowSteps same hash terms i) (λ x y step so. needs_on x y step so) n from to chain (
+        subst IsOn (sym executor_is) on_first,
+        subst (λ (e : Executor K V S). SlotsNoted from.notes e.memory.memory) (sym executor_is) (subst (λ (k : Known). SlotsNoted k new.memory.memory) (sym notes_are) noted),
+        (let same_number = ap (λ (k : Known). k.buckets) notes_are in omega (arith, same_number)),
+        λ some. absurd (let is_none = ap (list_any asks_for_bucket) none in cc (some, is_none)),
+      )).3
+    where
+      on_first : IsOn new
+      on_first row there =
+          let both : ◌≡◌ {A = Option (Work K V)} (Some (OnSlot (rows.Registers (record { slot = 0; enters = enters; stands = at.Begin })))) (Some (OnSlot row)) = sym (leads tt).1 ∙ there in
+          let is : rows.Registers (record { slot = 0; enters = enters; stands = at.Begin }) ≡ row = cc both in
+          (record { slot = 0; enters = enters; stands = at.Begin }, sym is, first_on same hash i s enters apart old new at_s leads)
