@@ -3,3 +3,4 @@ pub mod Ending
 pub mod Acting
 pub mod Run
 pub mod Keeping
+pub mod Classes
