@@ -69,7 +69,7 @@ module _ {K V Q : Type 0} (same : K → K → Bool) (hash : K → ℕ) (asks : Q
 
   -- a step of its own reclaims nothing, so it comes on
   comes_on : (b : Bool) (c : Chart K) (p : Sweep) (stands : Sweeping) (x : Swept (Node K V)) → TakesMore stands x → LeadsSweep b 0 c (p, x) → ComesOn stands x
-  comes_on b c p stands (swept.Gave value) more leads = leads
+  comes_on b c p stands (swept.Gave value) more leads = more
   comes_on b c p stands swept.Goes more leads = more
   comes_on b c p stands swept.Waits more leads = more
   comes_on b c p stands swept.Ready more leads = more

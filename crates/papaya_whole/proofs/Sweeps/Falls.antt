@@ -67,9 +67,9 @@ module _ {K V Q : Type 0} (same : K → K → Bool) (hash : K → ℕ) (asks : Q
   -- the row is over, and the sweep goes on
   over_lower : (q : Sweep) → ◌≡◌ {A = Sweep × Swept (Node K V)} (p2, end) (q, swept.Goes) → (IsRowOfSweep q.stands → ⊥) → ((CopiesPairs o.sweep.stands → ⊥) → Rests same hash now.v 0 here c seen o.began o.sweep) → Lower q
   over_lower q is none knows =
-      elim (sweep_rows_fall V same hash here now.v 0 c seen o.began o.sweep q (rows.map_now same hash asks setting slot lawful w c blocks sights o a is_row) is_row knows m2
+      elim (sweep_rows_fall V same hash here now.v 0 c seen o.began o.sweep (rows.map_now same hash asks setting slot lawful w c blocks sights o a is_row) is_row knows m2 (q, swept.Goes)
       (subst (λ (x : Sweep × Swept (Node K V)). Steps Took value_at now.v.memory (sweep_plan hash o.sweep) m2 x) is
-      (rows.steps_now same hash asks setting slot lawful w c blocks sights o a is_row m2 p2 end steps))) as (λ _. Lower q) [
+      (rows.steps_now same hash asks setting slot lawful w c blocks sights o a is_row m2 p2 end steps)) tt) as (λ _. Lower q) [
         | inl same_row ↦ absurd (none same_row.0)
         | inr fallen ↦ lower_more (number_of_sweep hash c seen q) (number_of_sweep hash c seen o.sweep) _ _ fallen.1
       ]
