@@ -1,6 +1,6 @@
 -- A call at a try: what it finds there leads it to lower numbers, if it goes on.
 use Rattle.std.specs.Prelude.{◌+◌, ◌==◌, List, ◌∷◌, if◌then◌else◌}
-use Rattle.std.proofs.Common.{◌≡◌, ◌≢◌, ℕ, suc, ◌<◌, ◌≤◌, Bool, true, false, Option, Some, None, inl, inr, refl, ap, sym, ◌∙◌, arith}
+use Rattle.std.proofs.Common.{◌≡◌, ℕ, suc, ◌<◌, ◌≤◌, Bool, true, false, Option, Some, None, inl, inr, refl, ap, sym, ◌∙◌, arith}
 use Rattle.std.proofs.lemmas.Bool.{eq-eqb}
 use Rattle.papaya_late.specs.Given.SeizeWords.Word.{block_in}
 use Rattle.papaya_late.specs.Given.Tables.Chunks.{is_incremental}

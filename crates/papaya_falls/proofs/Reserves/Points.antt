@@ -1,5 +1,5 @@
 -- Each step of a reservation that is none of a row and goes on leads to lower numbers.
-use Rattle.std.proofs.Common.{◌≡◌, ℕ, Bool, sym, subst}
+use Rattle.std.proofs.Common.{ℕ, Bool, sym, subst}
 use Rattle.papaya_late.specs.Given.SeizeWords.Mem.{Mem, Took, value_at}
 use Rattle.papaya_late.specs.Given.SeizeWords.Plan.{Steps}
 use Rattle.papaya_late.proofs.Given.SeizeRule.Rows.Leaving.{steps_back}

@@ -32,7 +32,6 @@ use Rattle.papaya_whole.specs.WholeSweeps.{SweepsOn, ComesToAnEnd, SweepLeads, S
 use Rattle.papaya_whole.proofs.Keys.Falls.{row_left, lower_more}
 use Rattle.papaya_whole.proofs.Sweeps.Falls.{sweep_numbers, row_lower}
 use Rattle.papaya_whole.proofs.Sweeps.Leads.{sweep_decided}
-use Rattle.papaya_whole.proofs.Sweeps.Lone.{LeadsSweep}
 use Rattle.papaya_whole.proofs.Sweeps.Own as own
 use Rattle.papaya_whole.proofs.Sweeps.Rows as rows
 use Rattle.papaya_whole.proofs.Sweeps.ToldOn.{told_on}
