@@ -204,7 +204,7 @@ module _ {K V : Type 0} (same : K → K → Bool) (hash : K → ℕ) (batch_size
         unstopped : (y : Bool) → unless_stopped y u ≡ Some (Counting c) → Some u ≡ Some (Counting c)
         unstopped true e = absurd (cc e)
         unstopped false e = e
-    by_act (BeginsMaking j map given places power sized) told (none, is) = as_it_was (ap (λ (x : Scene K V). x.calls) is)
+    by_act (BeginsMaking j map given places) told (none, is) = as_it_was (ap (λ (x : Scene K V). x.calls) is)
     by_act (StepsMaking j g) told (b, makes, m2, machine, end, computed, told_is, did, came) = by end did came
       where
         by : (end : Counted Setting) (did : MakingStepsAmong V same same batch_size roots slot s.world s.maps s.calls s.makers s.enders j b m2 (machine, end))

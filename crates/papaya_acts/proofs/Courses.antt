@@ -281,7 +281,7 @@ module _ {K V : Type 0} (same : K → K → Bool) (hash : K → ℕ) (batch_size
               (told_none machine_of (unless_stopped (machine_asked (machine_of u2)).1 u2) (sym both ∙ ap (option_map machine_of) none)))) is is2,
           told_is ∙ ap (λ (x : Machine K V K). OfAsking (machine_asked x).1) one ∙ sym told_is2,
         )
-    by_act (BeginsMaking i map given places power sized) may told told2 (told_is, is) (told_is2, is2) = (
+    by_act (BeginsMaking i map given places) may told told2 (told_is, is) (told_is2, is2) = (
       to _ _ is is2 (record {
         memory = alike.memory;
         maps = alike.maps;

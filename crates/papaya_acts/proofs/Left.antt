@@ -127,7 +127,7 @@ module _ {K V : Type 0} (same : K → K → Bool) (hash : K → ℕ) (batch_size
   by_act (TellsCall i m reply) may told (standing, stands, u, next, here, machine_is, told_is, kind, is) = to _ is left
   by_act (AsksCall i m) may told (u, next, here, machine_is, told_is, is) = to _ is left
   by_act (StopsCall i m) may told (u, here, told_is, is) = to _ is left
-  by_act (BeginsMaking i map given places power sized) may told (told_is, is) =
+  by_act (BeginsMaking i map given places) may told (told_is, is) =
       to _ is (makings_begin_and_leave_it V same same batch_size roots slot s.world s.maps s.calls s.makers s.enders lists left i (none_is (s.makers i) may.0.no_making) (making_begun hash roots map given places)
       (λ taken. taken))
   by_act (StepsMaking i g) may told (b, makes, m2, machine, end, computed, told_is, did, came) = made i b makes m2 machine end did came

@@ -79,7 +79,7 @@ module _ {K V : Type 0} (same : K → K → Bool) (hash : K → ℕ) (batch_size
     leads_on lawful (TellsCall i m reply) may = call_told same hash batch_size roots slot s all i m may reply
     leads_on lawful (AsksCall i m) may = call_asked same hash batch_size roots slot s all i m may
     leads_on lawful (StopsCall i m) may = call_stops same hash batch_size roots slot s all i m may
-    leads_on lawful (BeginsMaking i map given places power sized) may = (let to = making_begins same hash batch_size roots slot s all i lawful map given places power sized may in (Nothing, to.0, to.1, to.2))
+    leads_on lawful (BeginsMaking i map given places) may = (let to = making_begins same hash batch_size roots slot s all i lawful map given places may in (Nothing, to.0, to.1, to.2))
     leads_on lawful (StepsMaking i g) may = making_goes_on same hash batch_size roots slot s all i g may
     leads_on lawful (BeginsEnding i m) may = (let to = ending_begins same hash batch_size roots slot s all i m may in (Nothing, to.0, to.1, to.2))
     leads_on lawful (StepsEnding i g) may = ending_goes_on same hash batch_size roots slot s all i g may

@@ -1,6 +1,5 @@
 -- A making or an end of a map that begins, or takes a step: all stand together then.
-use Rattle.std.specs.Prelude.{◌≡◌, ℕ, ◌≤◌, ◌^◌, Bool, [], ◌∷◌, ◌++◌, max, Some, None}
-use Rattle.std.specs.Int.{IsPowerOfTwo}
+use Rattle.std.specs.Prelude.{◌≡◌, ℕ, Bool, [], ◌∷◌, ◌++◌, Some, None}
 use Rattle.std.proofs.Common.{refl}
 use Rattle.papaya_executor.specs.Given.Seize.World.{with_at, with_effect}
 use Rattle.papaya_executor.specs.Given.Seize.Law.{Ended}
@@ -11,7 +10,6 @@ use Rattle.papaya_executor.specs.Given.Seize.declared.rows.settle.Settled.TheVar
 use Rattle.seize_acts.specs.Answers.{Grant, then_on}
 use Rattle.seize_acts.proofs.Answers.{some, was_stepped}
 use Rattle.papaya_executor.specs.Given.SeizeWords.Mem.{Mem}
-use Rattle.papaya_executor.specs.Given.Tables.Lengths.{IsTableLen}
 use Rattle.papaya_executor.specs.Given.Tables.declared.node.Node.{Node}
 use Rattle.papaya_executor.specs.Given.Tables.declared.setting.Setting.{Setting}
 use Rattle.papaya_executor.specs.Given.Resize.NewMap.{new_map_plan}
@@ -35,10 +33,10 @@ module _ {K V : Type 0} (same : K → K → Bool) (hash : K → ℕ) (batch_size
   abbrev Stands : Scene K V → Type 0
   Stands n = AllStand same hash batch_size roots slot n
 
-  pub making_begins : AreLawful same hash → (map : ℕ) (given : Setting) (places : ℕ) (power : IsPowerOfTwo given.initial) (sized : max places 8 ≤ 2 ^ 48 → IsTableLen (max places 8))
-      → MayBe same hash batch_size roots slot (BeginsMaking i map given places power sized) s
-      → (n : Scene K V) × Led same hash batch_size roots slot (BeginsMaking i map given places power sized) s Nothing n × Stands n
-  making_begins lawful map given places power sized (free, no_map, others, batches, mask, some) =
+  pub making_begins : AreLawful same hash → (map : ℕ) (given : Setting) (places : ℕ)
+      → MayBe same hash batch_size roots slot (BeginsMaking i map given places) s
+      → (n : Scene K V) × Led same hash batch_size roots slot (BeginsMaking i map given places) s Nothing n × Stands n
+  making_begins lawful map given places (free, no_map, others, batches, mask, some, power, sized) =
       let b : Beginning K = making_begun hash roots map given places in
       let no_call : (m : ℕ) → s.calls m i ≡ None = λ m. none_is (s.calls m i) (free.no_call m) in (
         record s { makers = with_at s.makers i (Some b) },

@@ -98,7 +98,7 @@ module _ {K V : Type 0} (same : K → K → Bool) (hash : K → ℕ) (batch_size
   by_act (StopsCall i m) may told (u, here, told_is, is) =
       to _ is (changed m i (unless_stopped (machine_asked (machine_of u)).1 u)
       (λ v p there has. let k = of_call m i u here v p there has in (u, not_stopped p u (machine_asked (machine_of u)).1 refl k, k)))
-  by_act (BeginsMaking i map given places power sized) may told (told_is, is) = to _ is theirs
+  by_act (BeginsMaking i map given places) may told (told_is, is) = to _ is theirs
   by_act (StepsMaking i g) may told (b, makes, m2, machine, end, computed, told_is, did, came) = made i b makes m2 machine end did came
   by_act (BeginsEnding i m) may told (standing, stands, told_is, is) =
       to _ is (endings_begin_and_keep_theirs V same same batch_size roots slot s.world s.maps s.calls s.makers s.enders theirs i (none_is (s.enders i) may.0.no_ending) m standing stands

@@ -92,7 +92,7 @@ module _ {K V Q : Type 0} (same : K → K → Bool) (hash : K → ℕ) (setting 
         -- the last step lowers the number
         lower : (settle : Settle) (m2 m3 : Mem (Node K V)) → Steps Took value_at m2 (call_plan asks same hash (within settle)) m3 (further settle, called.Goes)
             → IsBelow (number_of_call hash c blocks (further settle)) (number_of_call hash c blocks q)
-        lower settle m2 m3 st = elim (rows_fall V same hash asks (within settle) (further settle) (row_within settle) m2 m3 st c blocks) as (λ _. IsBelow (number_of_call hash c blocks (further settle)) (number_of_call hash c blocks q)) [
+        lower settle m2 m3 st = elim (rows_fall V same hash asks (within settle) (row_within settle) m2 m3 (further settle, called.Goes) st tt c blocks) as (λ _. IsBelow (number_of_call hash c blocks (further settle)) (number_of_call hash c blocks q)) [
           | inl stays ↦ absurd (over settle stays.0)
           | inr falls ↦ subst (IsBelow (number_of_call hash c blocks (further settle))) (number settle) falls.1
         ]

@@ -84,7 +84,7 @@ module _ {K V Q : Type 0} (same : K → K → Bool) (hash : K → ℕ) (setting 
             → OnTo same hash setting roots asks keys are initial_is mem0 pair back h0 c0 blocks0 rule0 m h c blocks change rows p from other m2 p2 told st q → Ends p2 m2
         by called.Goes more now t =
             on m2 t.1 t.0.c2 t.0.blocks2 t.2 rows p2 t.3 t.4
-            (calls_fall V same hash asks are setting (at_rest deferred_word m h) 0 c blocks keys change p from.map from.facts other m2 p2 now t.0)
+            (calls_fall V same hash asks are setting (at_rest deferred_word m h) 0 c blocks keys change p from.map from.facts other m2 (p2, called.Goes) now tt t.0)
         by called.Waits more now t = absurd t
         by (called.Asks asked) more now t = absurd t
         by (called.Gave value) more now t = absurd t
