@@ -44,7 +44,7 @@ impl<K: Eq + Hash + Drop, V: Drop, S: BuildHasher> HashMap<K, V, S> {
     {
         match self.try_insert_with(key, begin) {
             Ok(_) => match self.met() {
-                Some((_, value)) => Ok(value),
+                Some((_, there)) => Ok(there),
                 None => unreachable!(),
             },
             Err(refused) => Err(refused.fault),
