@@ -1,6 +1,6 @@
+pub mod Classes
 pub mod Back
 pub mod Ending
 pub mod Acting
 pub mod Run
 pub mod Keeping
-pub mod Classes

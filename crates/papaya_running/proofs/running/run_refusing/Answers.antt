@@ -5,11 +5,12 @@ use Rattle.std.proofs.lemmas.List.{append-nil, nil_from_length}
 use Rattle.papaya_schedules.specs.declared.event.Event.{Event}
 use Rattle.papaya_scheduler.specs.Played.{terms_given}
 use Rattle.papaya_scheduler.specs.declared.scheduler.Given.{Given}
-use Rattle.papaya_scheduler.specs.declared.scheduler.Scheduler.{Scheduler}
-use Rattle.papaya_running.specs.Run.{IsRightRun, IsWholeRun, SoFar, bounded}
+use Rattle.papaya_running.specs.Run.{IsRightRun, IsWholeRun, bounded}
 use Rattle.papaya_running.proofs.Beginning.{Begins, are_few, begins_first, first_holds, first_runs, still_begins}
 use Rattle.papaya_running.proofs.LawfulKeys.{are_lawful}
 use Rattle.papaya_running.proofs.Turns.{back_first, run_so, start_so, whole_so}
+use Rattle.papaya_running.specs.Run.{SoFar}
+use Rattle.papaya_scheduler.specs.declared.scheduler.Scheduler.{Scheduler}
 use Rattle.papaya_running.proofs.running.run_refusing.Goals as goal
 
 pub loop-choice-init : goal.loop-choice-init
