@@ -1,0 +1,10 @@
+pub mod Cut
+pub mod Owed
+pub mod Places
+pub mod Named
+pub mod Tied
+pub mod Closed
+pub mod Unlinked
+pub mod Steps
+pub mod Lists
+mod Samples

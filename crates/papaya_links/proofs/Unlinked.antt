@@ -1,0 +1,153 @@
+-- What events unlink can't be reached behind them: none of users links it again, and rows unlink nothing.
+use Rattle.std.specs.Prelude.{Option, Ok, Err, IsSome, is_some}
+use Rattle.std.proofs.Common.{◌≡◌, ◌≢◌, ◌⊎◌, ℕ, suc, Bool, true, false, cond, eqb, List, [], ◌∷◌, ◌++◌, inl, inr, refl, ap, sym, subst, ◌∙◌}
+use Rattle.std.proofs.lemmas.Bool.{cases_eq, eq-eqb, ne_eqb}
+use Rattle.papaya_executor.specs.Given.SeizeWords.Mem.{Mem, Took, value_in, value_at}
+use Rattle.papaya_executor.specs.Given.SeizeWords.Op.{Out, Make, Found, Stored, Exchanged, Made, Taken, Roomed}
+use Rattle.papaya_executor.specs.Given.Seize.Law as law
+use Rattle.papaya_executor.specs.Given.Seize.Law.{Effect, is_somewhere, reachable, Linked, Unlinked, Deferred, Dropped, Ended, LeftOver}
+use Rattle.papaya_executor.specs.Given.Seize.Sequence.{IsUsers}
+use Rattle.papaya_executor.specs.Given.Seize.World.{World, Hand, NoBlock, Making, InUse, Parting, Cutting, Request, Event, Begin, Step, Makes, Drops, Links, Parts, Unlinks, Rewrites, Operates, Ends, LeavesOver, Relinks, Clears, Chooses, MayCut, Happens, Runs, Steps', Begins, Register', Enter', Leave', LeaveOwned, Refresh, Unregister', Retire, Flush, Defer', made_by, with_at}
+use Rattle.papaya_executor.specs.Given.SeizeAlone.Alone.{IsOfUsers}
+use Rattle.papaya_executor.proofs.Given.SeizeRule.Rows.Effects.{IsOneStep}
+use Rattle.papaya_executor.proofs.Given.SeizeAlone.Histories.NotTaken.{IsHad, did, kept_there}
+use Rattle.papaya_executor.proofs.Given.SeizeAlone.Histories.Reached.{Reached, happens_reached, runs_reached}
+use Rattle.papaya_executor.specs.Given.Rule.InWorld.{AllUsers}
+use Rattle.papaya_executor.proofs.Given.Rule.World.Hands.{at_cases}
+use Rattle.papaya_links.specs.Tied.{unlinkings}
+use Rattle.papaya_links.proofs.Places.{cut_nowhere}
+
+-- one step of a row unlinks nothing
+unlinks_none : (b : ℕ) (effects log : List Effect) → IsOneStep effects → unlinkings b (effects ++ log) ≡ unlinkings b log
+unlinks_none b [] log one = refl
+unlinks_none b (law.Entered c ∷ []) log one = refl
+unlinks_none b (law.Left c ∷ []) log one = refl
+unlinks_none b (law.Made c ∷ []) log one = refl
+unlinks_none b (Linked c o ∷ []) log one = refl
+unlinks_none b (Unlinked c ∷ []) log one = absurd one
+unlinks_none b (Deferred c t ∷ []) log one = refl
+unlinks_none b (law.Retired c ∷ []) log one = refl
+unlinks_none b (law.Taken c ∷ []) log one = refl
+unlinks_none b (Dropped c ∷ []) log one = refl
+unlinks_none b (Ended o ∷ []) log one = refl
+unlinks_none b (LeftOver c further ∷ []) log one = refl
+unlinks_none b (e ∷ f ∷ effects) log one = absurd one
+
+-- so often it was unlinked before, or it can't be reached
+abbrev pub IsCutOff : {T : Type 0} → ℕ → World T → World T → Type 0
+IsCutOff b w w2 = (unlinkings b w2.log ≡ unlinkings b w.log) ⊎ (reachable b w2.log ≡ false)
+
+module _ {T : Type 0} (defers : T → Option ℕ) (size b : ℕ) where
+  -- The beginning of a row unlinks nothing,
+  pub begin_none : (i : ℕ) (request : Request) (w w2 : World T) → Begins defers size i request w w2 → unlinkings b w2.log ≡ unlinkings b w.log
+  begin_none i (Register' enters) w w2 h = ap (λ (x : World T). unlinkings b x.log) h
+  begin_none i (Enter' s) w w2 h = ap (λ (x : World T). unlinkings b x.log) h.1
+  begin_none i (Leave' s) w w2 h = ap (λ (x : World T). unlinkings b x.log) h.1
+  begin_none i (LeaveOwned s) w w2 h = ap (λ (x : World T). unlinkings b x.log) h.1
+  begin_none i (Refresh s) w w2 h = ap (λ (x : World T). unlinkings b x.log) h.1
+  begin_none i (Unregister' s) w w2 h = ap (λ (x : World T). unlinkings b x.log) h.1
+  begin_none i (Retire s c) w w2 h = ap (λ (x : World T). unlinkings b x.log) h.2
+  begin_none i (Flush s) w w2 h = ap (λ (x : World T). unlinkings b x.log) h.1
+  begin_none i (Defer' s c t) w w2 h = ap (λ (x : World T). unlinkings b x.log) h.7
+
+  -- nor does a step of one.
+  pub step_none : (i : ℕ) (w w2 : World T) → Reached defers size w → Steps' defers i (w.row i) w w2 → unlinkings b w2.log ≡ unlinkings b w.log
+  step_none i w w2 r step = let d = did defers size w r i w2 step in ap (unlinkings b) d.logged ∙ unlinks_none b d.effects w.log d.one
+
+  made_none : (w : World T) (i : ℕ) (m : Mem T) (out : Out T) → unlinkings b (made_by defers w i m out).log ≡ unlinkings b w.log
+  made_none w i m (Made (Ok c)) = refl
+  made_none w i m (Made (Err back)) = refl
+  made_none w i m (Found word) = refl
+  made_none w i m Stored = refl
+  made_none w i m (Exchanged result) = refl
+  made_none w i m (Taken value) = refl
+  made_none w i m (Roomed result) = refl
+
+  -- An event of users unlinks it, and a holder has it then; or not.
+  user_event : (e : Event T) (w w2 : World T) → IsUsers e → Happens defers size e w w2 → (unlinkings b w2.log ≡ unlinkings b w.log) ⊎ ((i : ℕ) × (w2.hand b ≡ Cutting i))
+  user_event (Begin i request) w w2 user h = absurd user
+  user_event (Step i) w w2 user h = absurd user
+  user_event (Makes i value words) w w2 user h = inl (ap (λ (x : World T). unlinkings b x.log) h.4 ∙ made_none w i h.1 h.0)
+  user_event (Drops i c) w w2 user h = inl (ap (λ (x : World T). unlinkings b x.log) h.4)
+  user_event (Links i c o) w w2 user h = inl (ap (λ (x : World T). unlinkings b x.log) h.1)
+  user_event (Parts i c) w w2 user h = inl (ap (λ (x : World T). unlinkings b x.log) h.1)
+  user_event (Unlinks i c) w w2 user h = by (cases_eq b c)
+    where
+      hand : w2.hand b ≡ with_at w.hand c (Cutting i) b
+      hand = ap (λ (x : World T). x.hand b) h.1
+
+      log : unlinkings b w2.log ≡ cond (eqb b c) (suc (unlinkings b w.log)) (unlinkings b w.log)
+      log = ap (λ (x : World T). unlinkings b x.log) h.1
+
+      by : (b ≡ c) ⊎ (b ≢ c) → (unlinkings b w2.log ≡ unlinkings b w.log) ⊎ ((j : ℕ) × (w2.hand b ≡ Cutting j))
+      by (inl e) = inr (i, hand ∙ ap (λ (q : Bool). cond q (Cutting i) (w.hand b)) (eq-eqb b c e))
+      by (inr ne) = inl (log ∙ ap (λ (q : Bool). cond q (suc (unlinkings b w.log)) (unlinkings b w.log)) (ne_eqb b c ne))
+  user_event (Rewrites i c value) w w2 user h = inl (ap (λ (x : World T). unlinkings b x.log) h.5)
+  user_event (Operates op) w w2 user h = inl (ap (λ (x : World T). unlinkings b x.log) h.4)
+  user_event (Ends i o) w w2 user h = absurd user
+  user_event (LeavesOver i c further) w w2 user h = absurd user
+  user_event (Relinks i c word) w w2 user h = absurd user
+  user_event (Clears i c) w w2 user h = absurd user
+  user_event (Chooses choice) w w2 user h = inl (ap (λ (x : World T). unlinkings b x.log) h)
+
+  -- Whoever has it so has it behind such an event: it is there, so its number is no new block's.
+  module _ (j : ℕ) where
+    put_kept : (w : World T) (c : ℕ) (hand : Hand) → (w.hand c ≡ Cutting j → ⊥) → w.hand b ≡ Cutting j → with_at w.hand c hand b ≡ Cutting j
+    put_kept w c hand other cut =
+        at_cases (λ (x : Hand). x ≡ Cutting j) w.hand c hand b (λ e. absurd (other (ap w.hand (sym e) ∙ cut))) (λ ne. cut)
+
+    not_made : (h : Hand) → (k : ℕ) → h ≡ Making k → h ≡ Cutting j → ⊥
+    not_made h k e f = cc (e, f)
+
+    made_kept : (w : World T) → Reached defers size w → (i : ℕ) (m : Mem T) (value : T) (words : ℕ) (out : Out T) → Took w.memory (Make value words) out m
+        → w.hand b ≡ Cutting j → (made_by defers w i m out).hand b ≡ Cutting j
+    made_kept w r i m value words (Made (Ok c)) took cut = put_kept w c (Making i) (λ has. fresh (kept_there defers size w r c (IsHad (subst IsOfUsers (sym has) tt)))) cut
+      where
+        fresh : IsSome (value_at w.memory c) → ⊥
+        fresh there = let none : is_some (value_at w.memory c) ≡ false = ap is_some (ap value_in took.0.0.0) in cc (none, there)
+    made_kept w r i m value words (Made (Err back)) took cut = cut
+    made_kept w r i m value words (Found word) took cut = cut
+    made_kept w r i m value words Stored took cut = cut
+    made_kept w r i m value words (Exchanged result) took cut = cut
+    made_kept w r i m value words (Taken block) took cut = cut
+    made_kept w r i m value words (Roomed result) took cut = cut
+
+    kept_cut : (e : Event T) (w w2 : World T) → Reached defers size w → IsUsers e → Happens defers size e w w2 → w.hand b ≡ Cutting j → w2.hand b ≡ Cutting j
+    kept_cut (Begin i request) w w2 r user h cut = absurd user
+    kept_cut (Step i) w w2 r user h cut = absurd user
+    kept_cut (Makes i value words) w w2 r user h cut = ap (λ (x : World T). x.hand b) h.4 ∙ made_kept w r i h.1 value words h.0 h.3 cut
+    kept_cut (Drops i c) w w2 r user h cut = ap (λ (x : World T). x.hand b) h.4 ∙ put_kept w c NoBlock (not_made (w.hand c) h.2.0 h.2.1) cut
+    kept_cut (Links i c o) w w2 r user h cut = ap (λ (x : World T). x.hand b) h.1 ∙ put_kept w c (InUse o) (not_made (w.hand c) h.0.0 h.0.1) cut
+    kept_cut (Parts i c) w w2 r user h cut = ap (λ (x : World T). x.hand b) h.1 ∙ put_kept w c (Parting i) (λ has. let used = h.0.1 in cc (used, has)) cut
+    kept_cut (Unlinks i c) w w2 r user h cut = ap (λ (x : World T). x.hand b) h.1 ∙ put_kept w c (Cutting i) (λ has. subst (MayCut i) has h.0) cut
+    kept_cut (Rewrites i c value) w w2 r user h cut = ap (λ (x : World T). x.hand b) h.5 ∙ cut
+    kept_cut (Operates op) w w2 r user h cut = ap (λ (x : World T). x.hand b) h.4 ∙ cut
+    kept_cut (Ends i o) w w2 r user h cut = absurd user
+    kept_cut (LeavesOver i c further) w w2 r user h cut = absurd user
+    kept_cut (Relinks i c word) w w2 r user h cut = absurd user
+    kept_cut (Clears i c) w w2 r user h cut = absurd user
+    kept_cut (Chooses choice) w w2 r user h cut = ap (λ (x : World T). x.hand b) h ∙ cut
+
+    all_kept_cut : (events : List (Event T)) (w w2 : World T) → Reached defers size w → AllUsers events → Runs defers size events w w2 → w.hand b ≡ Cutting j → w2.hand b ≡ Cutting j
+    all_kept_cut [] w w2 r users runs cut = ap (λ (x : World T). x.hand b) runs ∙ cut
+    all_kept_cut (e ∷ events) w w2 r users runs cut =
+        all_kept_cut events runs.0 w2 (happens_reached defers size e w runs.0 r runs.1) users.1 runs.2 (kept_cut e w runs.0 r users.0 runs.1 cut)
+
+  -- So what such events unlink can't be reached behind them.
+  pub users_cut : (events : List (Event T)) (w w2 : World T) → Reached defers size w → AllUsers events → Runs defers size events w w2 → IsCutOff b w w2
+  users_cut [] w w2 r users runs = inl (ap (λ (x : World T). unlinkings b x.log) runs)
+  users_cut (e ∷ events) w w2 r users runs = by (user_event e w v users.0 runs.1)
+    where
+      v : World T
+      v = runs.0
+
+      r1 : Reached defers size v
+      r1 = happens_reached defers size e w v r runs.1
+
+      then : IsCutOff b v w2 → unlinkings b v.log ≡ unlinkings b w.log → IsCutOff b w w2
+      then (inl same) e = inl (same ∙ e)
+      then (inr none) e = inr none
+
+      by : (unlinkings b v.log ≡ unlinkings b w.log) ⊎ ((i : ℕ) × (v.hand b ≡ Cutting i)) → IsCutOff b w w2
+      by (inl same) = then (users_cut events v w2 r1 users.1 runs.2) same
+      by (inr (i, cut)) = inr (ap is_somewhere (cut_nowhere defers size w2 (runs_reached defers size events v w2 r1 runs.2) b i (all_kept_cut i events v w2 r1 users.1 runs.2 cut)))
