@@ -57,10 +57,15 @@ module _ {K V : Type 0} (same : K → K → Bool) (hash : K → ℕ) (fits : (k 
     place_named : (i b word : ℕ) → word ≡ place_word hash c blocks (c.place t i) → block_in word ≡ b → 0 < b → HoldsPair c blocks t b
     place_named i b word is block some =
         let here : b ≡ block_in (place_word hash c blocks (c.place t i)) = sym block ∙ ap block_in is in
-        let k = words_with_blocks blocks.pair (λ n. byte_of hash (c.key n)) (c.place t i) (subst (λ (x : ℕ). 0 < x) here some) in
-        (i, k.0, k.1, k.2, k.3,
-        here ∙ ap (λ (p : Place). block_in (place_word hash c blocks p)) k.3
-        ∙ words_name_pairs blocks.pair (λ n. byte_of hash (c.key n)) k.0 k.1 k.2 (bytes_are_few hash fits (c.key k.0)))
+        let k = words_with_blocks blocks.pair (λ n. byte_of hash (c.key n)) (c.place t i) (subst (λ (x : ℕ). 0 < x) here some) in (
+          i,
+          k.0,
+          k.1,
+          k.2,
+          k.3,
+          here ∙ ap (λ (p : Place). block_in (place_word hash c blocks p)) k.3
+              ∙ words_name_pairs blocks.pair (λ n. byte_of hash (c.key n)) k.0 k.1 k.2 (bytes_are_few hash fits (c.key k.0)),
+        )
 
     -- So a table that may be looked at names the next one, or such a pair.
     pub table_names : (b : ℕ) → TableNames w.memory (blocks.table t) b → ((suc t < c.past) × (b ≡ blocks.table (suc t))) ⊎ HoldsPair c blocks t b

@@ -140,17 +140,26 @@ module _ {K Q : Type 0} (V : Type 0) (same : K → K → Bool) (asks : Q → K �
         → Stands V same s.hash asks s.setting slot w s.chart (seen_by s.blocks (s.sights (slot i))) i u → OwesSo x
     owes_so (OnKey u) x is (inl (rests, k)) = inl (rests, of_call u.keys u.change u.began u.call x is k.facts)
     owes_so (OnKey u) x is (inr (row, is_row, k)) =
-        inr (row ∙ call_row_is (slot i) u.call.stands x is, (call_row u.call.stands x is).0 is_row,
-        of_call u.keys u.change u.began (once_over u.call) (past_copying x x.stands) (past_call u.call.stands x is) k.facts)
+        inr (
+          row ∙ call_row_is (slot i) u.call.stands x is,
+          (call_row u.call.stands x is).0 is_row,
+          of_call u.keys u.change u.began (once_over u.call) (past_copying x x.stands) (past_call u.call.stands x is) k.facts,
+        )
     owes_so (ForRoom r) x is (inl (rests, k)) = inl (rests, of_room r.began r.reserve x is k.facts)
     owes_so (ForRoom r) x is (inr (row, is_row, k)) =
-        inr (row ∙ room_row_is r.reserve.stands x is, (room_row r.reserve.stands x is).0 is_row,
-        of_room r.began (room_once_over r.reserve) (past_copying x x.stands) (past_reserving r.reserve.stands x is) k.facts)
+        inr (
+          row ∙ room_row_is r.reserve.stands x is,
+          (room_row r.reserve.stands x is).0 is_row,
+          of_room r.began (room_once_over r.reserve) (past_copying x x.stands) (past_reserving r.reserve.stands x is) k.facts,
+        )
     owes_so (Counting sum) x is k = absurd (cc is)
     owes_so (OverAll o) x is (inl (rests, k)) = inl (rests, of_sweep o.began o.sweep x is k.facts)
     owes_so (OverAll o) x is (inr (row, is_row, k)) =
-        inr (row ∙ sweep_row_is (slot i) o.sweep.stands x is, (sweep_row o.sweep.stands x is).0 is_row,
-        of_sweep o.began (sweep_once_over o.sweep) (past_copying x x.stands) (past_sweep o.sweep.stands x is) k.facts)
+        inr (
+          row ∙ sweep_row_is (slot i) o.sweep.stands x is,
+          (sweep_row o.sweep.stands x is).0 is_row,
+          of_sweep o.began (sweep_once_over o.sweep) (past_copying x x.stands) (past_sweep o.sweep.stands x is) k.facts,
+        )
 
   -- a map on which somebody has a call stands
   stands_there : (m i : ℕ) (u : UnderWay K V Q) → calls m i ≡ Some u → (o : Option (Standing K)) → maps m ≡ o → (s : Standing K) × (maps m ≡ Some s)

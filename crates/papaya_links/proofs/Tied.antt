@@ -64,9 +64,11 @@ module _ {K Q : Type 0} (V : Type 0) (same : K → K → Bool) (asks : Q → K �
           let low : s.chart.first ≤ suc u = omega (arith, from) in
           (subst (λ (x : ℕ). reachable x w.log ≡ true) (sym is) (linked_reached m s here (suc u) low more), inl (m, s, here, suc u, low, more, is))
       by (inr pair) =
-          let k = pair_there same s.hash (fits m s here) s.setting w s.chart s.blocks (map m s here) u made known pair.0 pair.1 pair.2 pair.3 pair.4 in
-          (subst (λ (x : ℕ). reachable x w.log ≡ true) (sym pair.5)
-          (named_reached same s.hash s.setting w s.chart s.blocks (its_reached m s here) (map m s here) u pair.0 pair.1 pair.2 pair.3 from made pair.4), inr (k.2, k.3, ap (value_at w.memory) pair.5 ∙ k.4))
+          let k = pair_there same s.hash (fits m s here) s.setting w s.chart s.blocks (map m s here) u made known pair.0 pair.1 pair.2 pair.3 pair.4 in (
+            subst (λ (x : ℕ). reachable x w.log ≡ true) (sym pair.5)
+                (named_reached same s.hash s.setting w s.chart s.blocks (its_reached m s here) (map m s here) u pair.0 pair.1 pair.2 pair.3 from made pair.4),
+            inr (k.2, k.3, ap (value_at w.memory) pair.5 ∙ k.4),
+          )
 
   -- a table that names something is no pair
   from_linked : (t b : ℕ) → IsLinked t → TableNames w.memory t b → IsLinked b
