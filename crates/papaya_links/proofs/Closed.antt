@@ -1,6 +1,6 @@
 -- What a section sees of a map is closed by links, and the section holds it.
 use Rattle.std.specs.Prelude.{◌^◌, Option, Some}
-use Rattle.std.proofs.Common.{◌≡◌, ◌⊎◌, ℕ, suc, ◌<◌, ◌≤◌, Bool, true, inl, inr, refl, arith, ap, sym, subst, ◌∙◌}
+use Rattle.std.proofs.Common.{◌≡◌, ◌⊎◌, ℕ, suc, ◌<◌, Bool, true, inl, inr, arith, ap, sym, subst, ◌∙◌}
 use Rattle.papaya_executor.specs.Given.SeizeWords.Mem.{value_at}
 use Rattle.papaya_executor.specs.Given.SeizeWords.declared.at.At.TheVariants.{Root}
 use Rattle.papaya_executor.specs.Given.Seize.Law.{holds}
@@ -12,7 +12,7 @@ use Rattle.papaya_executor.specs.Given.Callers.Sights.{IsSight, seen_by}
 use Rattle.papaya_executor.specs.Given.Finishes.Maps.{Standing, MapsTogether}
 use Rattle.papaya_executor.specs.Given.Callers.Together.{UnderWay}
 use Rattle.papaya_links.specs.Lists.{ScenesAreClosed}
-use Rattle.papaya_links.specs.Tied.{Names, TableNames, IsClosed, AllAreClosed}
+use Rattle.papaya_links.specs.Tied.{Names, TableNames, AllAreClosed}
 use Rattle.papaya_links.proofs.Named.{HoldsPair, no_pair, root_first, table_names, pair_there}
 
 module _ {K Q : Type 0} (V : Type 0) (same : K → K → Bool) (asks : Q → K → Bool) (batch_size : ℕ) (slot : ℕ → ℕ)

@@ -1,6 +1,5 @@
 -- Wherever a list of acts has led, the world is tied, what one more step unlinks no links lead to, and what callers see is closed.
-use Rattle.std.specs.Prelude.{◌<◌, Option, Some}
-use Rattle.std.proofs.Common.{◌≡◌, ◌⊎◌, ℕ, Bool, true, false, List, [], ◌∷◌, inl, inr, refl, arith, ap, sym, subst, ◌∙◌}
+use Rattle.std.proofs.Common.{◌≡◌, ◌⊎◌, ℕ, Bool, false, List, ◌∷◌, inl, inr, refl, arith, ap, sym, subst}
 use Rattle.papaya_executor.specs.Given.SeizeWords.Mem.{Mem}
 use Rattle.papaya_executor.specs.Given.SeizeWords.declared.at.At.TheVariants.{Root, Used}
 use Rattle.papaya_executor.specs.Given.Seize.Law.{reachable}
@@ -20,14 +19,12 @@ use Rattle.papaya_executor.specs.Given.Finishes.Endings.{Finishing, MakingStepsA
 use Rattle.papaya_executor.specs.Given.Finishes.FactsEnds.{TakesLeft, WritesRoot, events_of}
 use Rattle.papaya_executor.specs.Given.Finishes.Makings.{Beginning}
 use Rattle.papaya_executor.specs.IsAt.{Scene}
-use Rattle.papaya_reclaims.specs.Reclaims.{StepsOfReclaiming}
 use Rattle.papaya_reclaims.specs.Slots.{AreItsRows}
 use Rattle.papaya_acts.specs.Acts.{Act, Answer}
 use Rattle.papaya_acts.specs.Acts.{BeginsCall, StepsCall, TellsCall, AsksCall, StopsCall, BeginsMaking, StepsMaking, BeginsEnding, StepsEnding, BeginsRow, StepsRow}
-use Rattle.papaya_acts.specs.Doings.{Doing, Does, BeginsReclaiming, BeginsClearing, StepsReclaiming, Stage, MayDo, HasDone, behind}
-use Rattle.papaya_acts.specs.Leads.{MayBe, AllStand, Led, MakingCame, EndingCame}
-use Rattle.papaya_acts.specs.Lists.{Course, Reached, on_by}
-use Rattle.papaya_acts.specs.Reclaiming.{ReclaimedOn}
+use Rattle.papaya_acts.specs.Doings.{Doing, Does, BeginsReclaiming, BeginsClearing, StepsReclaiming, Stage, HasDone}
+use Rattle.papaya_acts.specs.Leads.{AllStand, Led, MakingCame, EndingCame}
+use Rattle.papaya_acts.specs.Lists.{Course, on_by}
 use Rattle.papaya_carries.specs.Lists.{AreTheirs}
 use Rattle.papaya_carries.proofs.Acts.{acts_keep_theirs}
 use Rattle.papaya_carries.proofs.Lists.{lists_keep_theirs}

@@ -1,6 +1,6 @@
 -- What the links of a map name: its root names the first table, and a table names the next one and the pairs of its places.
 use Rattle.std.specs.Prelude.{◌+◌, ◌*◌, ◌^◌, ltb, Option, Some}
-use Rattle.std.proofs.Common.{◌≡◌, ◌⊎◌, ℕ, suc, ◌<◌, ◌≤◌, Bool, true, false, cond, eqb, inl, inr, refl, arith, ap, sym, subst, ◌∙◌, eqb-true}
+use Rattle.std.proofs.Common.{◌≡◌, ◌⊎◌, ℕ, suc, ◌<◌, Bool, true, false, cond, eqb, inl, inr, refl, arith, ap, sym, subst, ◌∙◌}
 use Rattle.std.proofs.lemmas.Bool.{eqb-false}
 use Rattle.std.proofs.lemmas.Bool.Decides.{nat_tests}
 use Rattle.papaya_executor.specs.Given.SeizeWords.Mem.{value_at, word_at}
@@ -13,7 +13,7 @@ use Rattle.papaya_executor.specs.Given.Tables.declared.setting.Setting.{Setting}
 use Rattle.papaya_executor.specs.Given.Tables.declared.table_words.TheConstants.{NEXT, PLACES}
 use Rattle.papaya_executor.specs.Given.Rule.Chart.{Phase, Place, Holds, Chart}
 use Rattle.papaya_executor.specs.Given.Rule.InWorld.{IsMapIn}
-use Rattle.papaya_executor.specs.Given.Rule.Words.{Blocks, ShowsTable, byte_of, next_word, root_word, place_word, word_of}
+use Rattle.papaya_executor.specs.Given.Rule.Words.{Blocks, ShowsTable, byte_of, next_word, root_word, place_word}
 use Rattle.papaya_executor.proofs.Given.Rule.Laws.{bytes_are_few, words_name_pairs, words_with_blocks}
 use Rattle.papaya_executor.proofs.Given.Rule.Words.PlacesShown.{are_stored}
 use Rattle.papaya_executor.specs.Given.Rule.Maps.{spot_of}

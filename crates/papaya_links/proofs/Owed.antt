@@ -1,6 +1,6 @@
 -- What a call, a reservation or a sweep that is under way is to hand over it has unlinked: it is not linked any more.
 use Rattle.std.specs.Prelude.{Option, Some, None}
-use Rattle.std.proofs.Common.{◌≡◌, ℕ, ◌⊎◌, Bool, true, false, inl, inr, refl, ap, sym, subst, ◌∙◌}
+use Rattle.std.proofs.Common.{◌≡◌, ℕ, ◌⊎◌, Bool, false, inl, inr, refl, ap, sym, subst, ◌∙◌}
 use Rattle.papaya_executor.specs.Given.Seize.World.{World, Rests, Cutting}
 use Rattle.papaya_executor.specs.Given.Tables.Chunks.{is_incremental}
 use Rattle.papaya_executor.specs.Given.Tables.declared.node.Node.{Node}
@@ -29,7 +29,7 @@ use Rattle.papaya_executor.specs.Given.Callers.Sights.{seen_by}
 use Rattle.papaya_executor.specs.Given.Callers.Together.{UnderWay, OnKey, ForRoom, Counting, OverAll, Stands, in_slot}
 use Rattle.papaya_executor.specs.Given.Finishes.Endings.{Finishing}
 use Rattle.papaya_executor.specs.Given.Finishes.Maps.{Standing, MapsTogether}
-use Rattle.papaya_carries.specs.Theirs.{IsAhead, next_of_them, copier_of_call, copier_of_room, copier_of_sweep, copier_of, IsToHandOver, Owes, IsOwed}
+use Rattle.papaya_carries.specs.Theirs.{IsAhead, next_of_them, copier_of_call, copier_of_room, copier_of_sweep, copier_of, IsToHandOver, IsOwed}
 use Rattle.papaya_carries.proofs.Inside.{it_is, call_row, call_row_is, room_row, room_row_is, sweep_row, sweep_row_is}
 use Rattle.papaya_carries.proofs.Owed.{one_some}
 use Rattle.papaya_links.proofs.Cut.{OwesWhatItCut, incremental_owes, blocking_owes, late_owes, whole_owes, row_ahead}

@@ -1,10 +1,10 @@
 -- Where a block can be reached, and who has it: what can be reached from a root its users have, what lies behind another block has no list of its own, and
 -- what was unlinked can't be reached.
-use Rattle.std.specs.Prelude.{Option, Some, None, is_some}
+use Rattle.std.specs.Prelude.{Option, Some, is_some}
 use Rattle.std.proofs.Common.{◌≡◌, ℕ, Bool, true, false, cond, eqb, refl, ap, sym, subst, ◌∙◌}
 use Rattle.std.proofs.lemmas.Bool.{eq-eqb}
 use Rattle.papaya_executor.specs.Given.SeizeWords.Mem.{value_at}
-use Rattle.papaya_executor.specs.Given.Seize.Law.{Place, Nowhere, Standing, With, where_is}
+use Rattle.papaya_executor.specs.Given.Seize.Law.{Nowhere, Standing, With, where_is}
 use Rattle.papaya_executor.specs.Given.Seize.World.{World, Hand, NoBlock, Making, InUse, Parting, Cutting, Handed, LeftTo}
 use Rattle.seize_acts.specs.Reclaimed.{IsStillHad}
 use Rattle.papaya_executor.proofs.Given.SeizeMoves.State.Ghost.{Life, IsFree, IsOwned, IsLinked, IsUnlinked, IsDeferring, IsDeferred, IsPending, IsIn, IsDoomed, IsLeft, is_linked, lies_with, place_of}

@@ -1,12 +1,12 @@
 -- What the definitions refuse, in a memory of two tables of one place, of which the root names the first, and that names the second: a table that was unlinked
 -- while the one before still names it; a root that still leads to one that was; a section that does not see the next table.
-use Rattle.std.specs.Prelude.{Option, Some, None}
-use Rattle.std.proofs.Common.{◌≡◌, ◌≢◌, ◌<◌, ℕ, Bool, true, false, List, [], ◌∷◌, inl, inr, refl, arith, ap, sym, subst}
+use Rattle.std.specs.Prelude.{Some, None}
+use Rattle.std.proofs.Common.{◌≡◌, ◌≢◌, ◌<◌, ℕ, true, false, List, [], ◌∷◌, inl, inr, refl, arith, ap}
 use Rattle.papaya_executor.specs.Given.SeizeWords.Mem.{Mem, word_at}
 use Rattle.papaya_executor.specs.Given.SeizeWords.Word.{link_to}
 use Rattle.papaya_executor.specs.Given.SeizeWords.declared.at.At.TheVariants.{Root}
 use Rattle.papaya_executor.specs.Given.SeizeWords.declared.block.Block.{Block}
-use Rattle.papaya_executor.specs.Given.Seize.Law.{Effect, Linked, Unlinked, Ended, reachable, is_over}
+use Rattle.papaya_executor.specs.Given.Seize.Law.{Effect, Linked, Unlinked, Ended, is_over}
 use Rattle.papaya_executor.specs.Given.Seize.World.{World, Rests, Vacant, NoBlock}
 use Rattle.papaya_executor.specs.Given.Tables.declared.node.Node.{Node}
 use Rattle.papaya_executor.specs.Given.Tables.declared.node.Node.TheVariants as node
@@ -14,7 +14,7 @@ use Rattle.papaya_executor.specs.Given.Tables.declared.table_words.TheConstants.
 use Rattle.papaya_executor.specs.Given.Rule.InWorld.{IsKnownBlock}
 use Rattle.papaya_executor.specs.Given.Callers.Sights.{seen_by}
 use Rattle.papaya_executor.specs.Given.Finishes.Maps.{Standing}
-use Rattle.papaya_links.specs.Tied.{Names, TableNames, RootNames, LinksLead, IsTied, IsClosed, unlinkings, UnlinksWhatNoneNames}
+use Rattle.papaya_links.specs.Tied.{TableNames, RootNames, LinksLead, IsTied, IsClosed, unlinkings, UnlinksWhatNoneNames}
 
 module _ {K V : Type 0} where
   -- a table of one place, with this turn, and this link to the next one

@@ -1,10 +1,10 @@
 -- Whatever a caller does, a block that is unlinked by it can't be reached then.
-use Rattle.std.specs.Prelude.{Option, Some}
+use Rattle.std.specs.Prelude.{Option}
 use Rattle.std.proofs.Common.{◌≡◌, ◌≢◌, ◌⊎◌, ℕ, suc, Bool, true, false, cond, eqb, List, [], ◌∷◌, inl, inr, refl, ap, sym, subst, ◌∙◌}
 use Rattle.std.proofs.lemmas.Bool.{cases_eq, eq-eqb, ne_eqb}
 use Rattle.papaya_executor.specs.Given.SeizeWords.Mem.{Mem}
-use Rattle.papaya_executor.specs.Given.Seize.Law.{Effect, Place, Nowhere, where_is, is_somewhere, reachable, without, Unlinked, Dropped, LeftOver}
-use Rattle.papaya_executor.specs.Given.Seize.World.{World, Event, Begin, Step, Happens, Runs}
+use Rattle.papaya_executor.specs.Given.Seize.Law.{Effect, Nowhere, where_is, is_somewhere, reachable, without, Unlinked, Dropped, LeftOver}
+use Rattle.papaya_executor.specs.Given.Seize.World.{World, Event, Begin, Step, Runs}
 use Rattle.papaya_executor.proofs.Given.SeizeAlone.Histories.Reached.{Reached, happens_reached}
 use Rattle.papaya_executor.specs.Given.Tables.Nodes.{deferred_word}
 use Rattle.papaya_executor.specs.Given.Tables.declared.node.Node.{Node}

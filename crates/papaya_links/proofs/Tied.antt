@@ -19,7 +19,7 @@ use Rattle.papaya_executor.specs.Given.Finishes.Maps.{Standing}
 use Rattle.papaya_reclaims.specs.Deferred.{IsLinkedTable}
 use Rattle.papaya_carries.specs.Theirs.{IsTheirs, AllAreTheirs}
 use Rattle.papaya_links.specs.Lists.{ScenesAreTied}
-use Rattle.papaya_links.specs.Tied.{RootNames, TableNames, LeadBy, LinksLead, IsTied}
+use Rattle.papaya_links.specs.Tied.{RootNames, TableNames, LeadBy, IsTied}
 use Rattle.papaya_links.proofs.Named.{HoldsPair, no_pair, root_first, table_names, pair_there}
 use Rattle.papaya_links.proofs.Owed.{owed_cut}
 use Rattle.papaya_links.proofs.Places.{standing_had, cut_nowhere, behind_no_list}

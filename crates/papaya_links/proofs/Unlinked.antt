@@ -1,6 +1,6 @@
 -- What events unlink can't be reached behind them: none of users links it again, and rows unlink nothing.
 use Rattle.std.specs.Prelude.{Option, Ok, Err, IsSome, is_some}
-use Rattle.std.proofs.Common.{◌≡◌, ◌≢◌, ◌⊎◌, ℕ, suc, Bool, true, false, cond, eqb, List, [], ◌∷◌, ◌++◌, inl, inr, refl, ap, sym, subst, ◌∙◌}
+use Rattle.std.proofs.Common.{◌≡◌, ◌≢◌, ◌⊎◌, ℕ, suc, Bool, false, cond, eqb, List, [], ◌∷◌, ◌++◌, inl, inr, refl, ap, sym, subst, ◌∙◌}
 use Rattle.std.proofs.lemmas.Bool.{cases_eq, eq-eqb, ne_eqb}
 use Rattle.papaya_executor.specs.Given.SeizeWords.Mem.{Mem, Took, value_in, value_at}
 use Rattle.papaya_executor.specs.Given.SeizeWords.Op.{Out, Make, Found, Stored, Exchanged, Made, Taken, Roomed}

@@ -1,5 +1,5 @@
 -- What is promised of links: wherever a list of acts on maps has led, the world is tied, and what a step unlinks no link names any more.
-use Rattle.std.specs.Prelude.{◌≡◌, ℕ, Bool, List}
+use Rattle.std.specs.Prelude.{ℕ, Bool, List}
 use Rattle.papaya_executor.specs.IsAt.{Scene}
 use Rattle.papaya_acts.specs.Acts.{Act, Answer}
 use Rattle.papaya_acts.specs.Doings.{Doing, MayDo}

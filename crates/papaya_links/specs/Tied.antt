@@ -1,6 +1,6 @@
 -- What links lead to. A link is a word that names a block: that of a map's root, or one of a table, to the next table or at a place. A world is tied where
 -- whatever they lead to can be reached, as the log tells.
-use Rattle.std.specs.Prelude.{◌≡◌, ◌⊎◌, ℕ, zero, suc, ◌+◌, ◌<◌, Bool, true, false, cond, eqb, List, [], ◌∷◌, Option, Some}
+use Rattle.std.specs.Prelude.{◌≡◌, ◌⊎◌, ℕ, zero, suc, ◌+◌, ◌<◌, true, false, cond, eqb, List, [], ◌∷◌, Option, Some}
 use Rattle.papaya_executor.specs.Given.SeizeWords.Mem.{Mem, value_at, word_at}
 use Rattle.papaya_executor.specs.Given.SeizeWords.Word.{block_in}
 use Rattle.papaya_executor.specs.Given.SeizeWords.declared.at.At.{At}
