@@ -33,7 +33,7 @@ use Rattle.papaya_links.specs.Tied.{LinksLead, UnlinksWhatNoneNames, unlinkings}
 use Rattle.papaya_links.proofs.Closed.{scenes_are_closed}
 use Rattle.papaya_links.proofs.Steps.{deed_cut, rows_none, kind_cut}
 use Rattle.papaya_links.proofs.Tied.{scenes_are_tied}
-use Rattle.papaya_links.proofs.Unlinked.{IsCutOff, begin_none, step_none, users_cut}
+use Rattle.papaya_links.proofs.Unlinked.{IsCutOff, begin_none, step_none, users_cut_off}
 
 module _ {K V : Type 0} (same : K → K → Bool) (hash : K → ℕ) (batch_size roots : ℕ) (slot : ℕ → ℕ) (s n : Scene K V) (all : AllStand same hash batch_size roots slot s) (b : ℕ) where
   reached : IsReached deferred_word batch_size s.world
@@ -48,7 +48,7 @@ module _ {K V : Type 0} (same : K → K → Bool) (hash : K → ℕ) (batch_size
   made i d m2 machine end did came = by end came
     where
       cut : IsCutOff b s.world did.step.w2
-      cut = users_cut deferred_word batch_size b did.step.events s.world did.step.w2 reached did.step.users did.step.runs
+      cut = users_cut_off deferred_word batch_size b did.step.events s.world did.step.w2 reached did.step.users did.step.runs
 
       by : (e : Progress Setting) → MakingCame same hash batch_size roots slot s i d did.step.w2 machine n e → IsCutOff b s.world n.world
       by progress.Goes is = to _ is cut

@@ -5,11 +5,11 @@ use Rattle.std.proofs.Common.{◌≡◌, ℕ, Bool, true, false, cond, eqb, refl
 use Rattle.std.proofs.lemmas.Bool.{eq-eqb}
 use Rattle.papaya_executor.specs.Given.SeizeWords.Mem.{value_at}
 use Rattle.papaya_executor.specs.Given.Seize.Law.{Nowhere, Standing, With, where_is}
-use Rattle.papaya_executor.specs.Given.Seize.World.{World, Hand, NoBlock, Making, InUse, Parting, Cutting, Handed, LeftTo}
+use Rattle.papaya_executor.specs.Given.Seize.World.{World, Hand, NoBlock, Making, InUse, Parting, Cutting, Handed, LeftTo, MayCut}
 use Rattle.seize_acts.specs.Reclaimed.{IsStillHad}
 use Rattle.papaya_executor.proofs.Given.SeizeMoves.State.Ghost.{Life, IsFree, IsOwned, IsLinked, IsUnlinked, IsDeferring, IsDeferred, IsPending, IsIn, IsDoomed, IsLeft, is_linked, lies_with, place_of}
-use Rattle.papaya_executor.proofs.Given.SeizeRule.Points.Aside.{is_handed, HandFits}
-use Rattle.papaya_executor.proofs.Given.SeizeRule.Words.Shows.{CarrierIs}
+use Rattle.papaya_executor.proofs.Given.SeizeRule.Points.Aside.{is_handed, HandFits, cut_stands, standing_life}
+use Rattle.papaya_executor.proofs.Given.SeizeRule.Words.Shows.{CarrierIs, lives}
 use Rattle.papaya_executor.proofs.Given.SeizeRule.Words.View.{list_in}
 use Rattle.papaya_executor.proofs.Given.SeizeAlone.Histories.Reached.{Reached}
 
@@ -76,6 +76,34 @@ list_of_none (IsIn x) t k o lies is none = absurd (cc lies)
 list_of_none (IsDoomed i) t k o lies is none = absurd (cc lies)
 list_of_none (IsLeft i) t k o lies is none = absurd (cc lies)
 
+-- it was unlinked, and is there still
+abbrev pub IsGone : Hand → Type 0
+IsGone (Cutting i) = Unit {0}
+IsGone Handed = Unit {0}
+IsGone (LeftTo i) = Unit {0}
+IsGone _ = ⊥
+
+handed_lives : (l : Life) → is_handed l ≡ true → lives l ≡ true
+handed_lives IsFree h = absurd (cc h)
+handed_lives (IsOwned i) h = refl
+handed_lives IsLinked h = refl
+handed_lives (IsUnlinked i) h = refl
+handed_lives (IsDeferring i s t) h = refl
+handed_lives (IsDeferred t) h = refl
+handed_lives (IsPending i) h = refl
+handed_lives (IsIn x) h = refl
+handed_lives (IsDoomed i) h = refl
+handed_lives (IsLeft i) h = refl
+
+gone_lives : (h : Hand) (l : Life) → IsGone h → HandFits h l → lives l ≡ true
+gone_lives NoBlock l gone fits = absurd gone
+gone_lives (Making i) l gone fits = absurd gone
+gone_lives (InUse o) l gone fits = absurd gone
+gone_lives (Parting i) l gone fits = absurd gone
+gone_lives (Cutting i) l gone fits = ap lives fits
+gone_lives Handed l gone fits = handed_lives l fits
+gone_lives (LeftTo i) l gone fits = ap lives fits
+
 module _ {T : Type 0} (defers : T → Option ℕ) (size : ℕ) (w : World T) (r : Reached defers size w) where
   abbrev life : ℕ → Life
   life = r.good.state.life
@@ -98,3 +126,11 @@ module _ {T : Type 0} (defers : T → Option ℕ) (size : ℕ) (w : World T) (r 
       let none = list_of_none (life b) t (r.good.state.carrier b) (list_in defers (value_at w.memory b)) lies (r.good.shows.lists.carriers b) (r.good.inv.places.carries b t lies).0 in
       let some : is_some (list_in defers (value_at w.memory b)) ≡ true = ap is_some (ap (list_in defers) is ∙ has) in
       cc (none, some)
+
+  -- what was unlinked is there until it is taken away
+  pub gone_there : (b : ℕ) → IsGone (w.hand b) → is_some (value_at w.memory b) ≡ true
+  gone_there b gone = r.good.shows.lists.lived b ∙ gone_lives (w.hand b) (life b) gone (r.good.hands b)
+
+  -- what users may unlink can be reached
+  pub cut_standing : (b i : ℕ) → MayCut i (w.hand b) → where_is b w.log ≡ Standing
+  cut_standing b i may = life_place b ∙ ap (place_of life) (standing_life (w.hand b) (life b) (cut_stands i (w.hand b) may) (r.good.hands b))

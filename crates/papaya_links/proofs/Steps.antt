@@ -22,7 +22,7 @@ use Rattle.papaya_executor.specs.Given.Finishes.Makings.{Beginning}
 use Rattle.papaya_executor.specs.Given.Finishes.Maps.{Standing}
 use Rattle.papaya_reclaims.specs.Slots.{AreItsRows}
 use Rattle.papaya_links.specs.Tied.{unlinkings}
-use Rattle.papaya_links.proofs.Unlinked.{IsCutOff, begin_none, step_none, users_cut}
+use Rattle.papaya_links.proofs.Unlinked.{IsCutOff, begin_none, step_none, users_cut_off}
 
 -- what was unlinked, and is not linked again
 module _ (b c : ℕ) where
@@ -101,7 +101,7 @@ module _ {K V : Type 0} (same : K → K → Bool) (hash : K → ℕ) (setting : 
     (Told : World (Node K V) → Chart K → Blocks → Type 0) where
   -- and one that is none of a row
   went_cut : Reached deferred_word setting.batch_size w → (went : Went same hash setting caller w c blocks m2 Told) → IsCutOff b w went.w2
-  went_cut r went = users_cut deferred_word setting.batch_size b went.events w went.w2 r went.users went.runs
+  went_cut r went = users_cut_off deferred_word setting.batch_size b went.events w went.w2 r went.users went.runs
 
 module _ {K Q : Type 0} (V : Type 0) (same : K → K → Bool) (asks : Q → K → Bool) (batch_size roots : ℕ) (slot : ℕ → ℕ)
     (w : World (Node K V)) (maps : ℕ → Option (Standing K)) (calls : ℕ → ℕ → Option (UnderWay K V Q)) (makers : ℕ → Option (Beginning K)) (enders : ℕ → Option (Finishing K V))

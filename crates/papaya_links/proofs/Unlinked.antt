@@ -1,5 +1,5 @@
 -- What events unlink can't be reached behind them: none of users links it again, and rows unlink nothing.
-use Rattle.std.specs.Prelude.{Option, Ok, Err, IsSome, is_some}
+use Rattle.std.specs.Prelude.{Option, Ok, Err, is_some}
 use Rattle.std.proofs.Common.{◌≡◌, ◌≢◌, ◌⊎◌, ℕ, suc, Bool, false, cond, eqb, List, [], ◌∷◌, ◌++◌, inl, inr, refl, ap, sym, subst, ◌∙◌}
 use Rattle.std.proofs.lemmas.Bool.{cases_eq, eq-eqb, ne_eqb}
 use Rattle.papaya_executor.specs.Given.SeizeWords.Mem.{Mem, Took, value_in, value_at}
@@ -7,15 +7,14 @@ use Rattle.papaya_executor.specs.Given.SeizeWords.Op.{Out, Make, Found, Stored, 
 use Rattle.papaya_executor.specs.Given.Seize.Law as law
 use Rattle.papaya_executor.specs.Given.Seize.Law.{Effect, is_somewhere, reachable, Linked, Unlinked, Deferred, Dropped, Ended, LeftOver}
 use Rattle.papaya_executor.specs.Given.Seize.Sequence.{IsUsers}
-use Rattle.papaya_executor.specs.Given.Seize.World.{World, Hand, NoBlock, Making, InUse, Parting, Cutting, Request, Event, Begin, Step, Makes, Drops, Links, Parts, Unlinks, Rewrites, Operates, Ends, LeavesOver, Relinks, Clears, Chooses, MayCut, Happens, Runs, Steps', Begins, Register', Enter', Leave', LeaveOwned, Refresh, Unregister', Retire, Flush, Defer', made_by, with_at}
-use Rattle.papaya_executor.specs.Given.SeizeAlone.Alone.{IsOfUsers}
+use Rattle.papaya_executor.specs.Given.Seize.World.{World, Hand, NoBlock, Making, InUse, Parting, Cutting, Handed, LeftTo, Request, Event, Begin, Step, Makes, Drops, Links, Parts, Unlinks, Rewrites, Operates, Ends, LeavesOver, Relinks, Clears, Chooses, MayCut, Happens, Runs, Steps', Begins, Register', Enter', Leave', LeaveOwned, Refresh, Unregister', Retire, Flush, Defer', made_by, with_at}
 use Rattle.papaya_executor.proofs.Given.SeizeRule.Rows.Effects.{IsOneStep}
-use Rattle.papaya_executor.proofs.Given.SeizeAlone.Histories.NotTaken.{IsHad, did, kept_there}
+use Rattle.papaya_executor.proofs.Given.SeizeAlone.Histories.NotTaken.{did}
 use Rattle.papaya_executor.proofs.Given.SeizeAlone.Histories.Reached.{Reached, happens_reached, runs_reached}
 use Rattle.papaya_executor.specs.Given.Rule.InWorld.{AllUsers}
 use Rattle.papaya_executor.proofs.Given.Rule.World.Hands.{at_cases}
 use Rattle.papaya_links.specs.Tied.{unlinkings}
-use Rattle.papaya_links.proofs.Places.{cut_nowhere}
+use Rattle.papaya_links.proofs.Places.{IsGone, gone_there, cut_nowhere}
 
 -- one step of a row unlinks nothing
 unlinks_none : (b : ℕ) (effects log : List Effect) → IsOneStep effects → unlinkings b (effects ++ log) ≡ unlinkings b log
@@ -32,6 +31,16 @@ unlinks_none b (Dropped c ∷ []) log one = refl
 unlinks_none b (Ended o ∷ []) log one = refl
 unlinks_none b (LeftOver c further ∷ []) log one = refl
 unlinks_none b (e ∷ f ∷ effects) log one = absurd one
+
+-- what may be unlinked was not
+cut_not_gone : (i : ℕ) (h : Hand) → MayCut i h → IsGone h → ⊥
+cut_not_gone i NoBlock may gone = may
+cut_not_gone i (Making k) may gone = may
+cut_not_gone i (InUse o) may gone = gone
+cut_not_gone i (Parting k) may gone = gone
+cut_not_gone i (Cutting k) may gone = may
+cut_not_gone i Handed may gone = may
+cut_not_gone i (LeftTo k) may gone = may
 
 -- so often it was unlinked before, or it can't be reached
 abbrev pub IsCutOff : {T : Type 0} → ℕ → World T → World T → Type 0
@@ -63,8 +72,12 @@ module _ {T : Type 0} (defers : T → Option ℕ) (size b : ℕ) where
   made_none w i m (Taken value) = refl
   made_none w i m (Roomed result) = refl
 
-  -- An event of users unlinks it, and a holder has it then; or not.
-  user_event : (e : Event T) (w w2 : World T) → IsUsers e → Happens defers size e w w2 → (unlinkings b w2.log ≡ unlinkings b w.log) ⊎ ((i : ℕ) × (w2.hand b ≡ Cutting i))
+  -- who could unlink it has done so, and has it then
+  abbrev pub IsUnlinkedBy : World T → World T → Type 0
+  IsUnlinkedBy w w2 = (i : ℕ) × MayCut i (w.hand b) × (w2.hand b ≡ Cutting i)
+
+  -- An event of users unlinks it, or not.
+  pub user_event : (e : Event T) (w w2 : World T) → IsUsers e → Happens defers size e w w2 → (unlinkings b w2.log ≡ unlinkings b w.log) ⊎ IsUnlinkedBy w w2
   user_event (Begin i request) w w2 user h = absurd user
   user_event (Step i) w w2 user h = absurd user
   user_event (Makes i value words) w w2 user h = inl (ap (λ (x : World T). unlinkings b x.log) h.4 ∙ made_none w i h.1 h.0)
@@ -79,8 +92,8 @@ module _ {T : Type 0} (defers : T → Option ℕ) (size b : ℕ) where
       log : unlinkings b w2.log ≡ cond (eqb b c) (suc (unlinkings b w.log)) (unlinkings b w.log)
       log = ap (λ (x : World T). unlinkings b x.log) h.1
 
-      by : (b ≡ c) ⊎ (b ≢ c) → (unlinkings b w2.log ≡ unlinkings b w.log) ⊎ ((j : ℕ) × (w2.hand b ≡ Cutting j))
-      by (inl e) = inr (i, hand ∙ ap (λ (q : Bool). cond q (Cutting i) (w.hand b)) (eq-eqb b c e))
+      by : (b ≡ c) ⊎ (b ≢ c) → (unlinkings b w2.log ≡ unlinkings b w.log) ⊎ IsUnlinkedBy w w2
+      by (inl e) = inr (i, subst (λ (x : ℕ). MayCut i (w.hand x)) (sym e) h.0, hand ∙ ap (λ (q : Bool). cond q (Cutting i) (w.hand b)) (eq-eqb b c e))
       by (inr ne) = inl (log ∙ ap (λ (q : Bool). cond q (suc (unlinkings b w.log)) (unlinkings b w.log)) (ne_eqb b c ne))
   user_event (Rewrites i c value) w w2 user h = inl (ap (λ (x : World T). unlinkings b x.log) h.5)
   user_event (Operates op) w w2 user h = inl (ap (λ (x : World T). unlinkings b x.log) h.4)
@@ -90,51 +103,66 @@ module _ {T : Type 0} (defers : T → Option ℕ) (size b : ℕ) where
   user_event (Clears i c) w w2 user h = absurd user
   user_event (Chooses choice) w w2 user h = inl (ap (λ (x : World T). unlinkings b x.log) h)
 
-  -- Whoever has it so has it behind such an event: it is there, so its number is no new block's.
-  module _ (j : ℕ) where
-    put_kept : (w : World T) (c : ℕ) (hand : Hand) → (w.hand c ≡ Cutting j → ⊥) → w.hand b ≡ Cutting j → with_at w.hand c hand b ≡ Cutting j
-    put_kept w c hand other cut =
-        at_cases (λ (x : Hand). x ≡ Cutting j) w.hand c hand b (λ e. absurd (other (ap w.hand (sym e) ∙ cut))) (λ ne. cut)
+  -- Who has it once it is unlinked has it behind such an event: it is there, so its number is no new block's.
+  module _ (hand : Hand) (gone : IsGone hand) where
+    put_kept : (w : World T) (c : ℕ) (h : Hand) → (w.hand c ≡ hand → ⊥) → w.hand b ≡ hand → with_at w.hand c h b ≡ hand
+    put_kept w c h other is = at_cases (λ (x : Hand). x ≡ hand) w.hand c h b (λ e. absurd (other (ap w.hand (sym e) ∙ is))) (λ ne. is)
 
-    not_made : (h : Hand) → (k : ℕ) → h ≡ Making k → h ≡ Cutting j → ⊥
-    not_made h k e f = cc (e, f)
+    -- it is in no such hand
+    not_in : (w : World T) (c : ℕ) (h : Hand) → (IsGone h → ⊥) → w.hand c ≡ h → w.hand c ≡ hand → ⊥
+    not_in w c h other is e = other (subst IsGone (sym e ∙ is) gone)
 
     made_kept : (w : World T) → Reached defers size w → (i : ℕ) (m : Mem T) (value : T) (words : ℕ) (out : Out T) → Took w.memory (Make value words) out m
-        → w.hand b ≡ Cutting j → (made_by defers w i m out).hand b ≡ Cutting j
-    made_kept w r i m value words (Made (Ok c)) took cut = put_kept w c (Making i) (λ has. fresh (kept_there defers size w r c (IsHad (subst IsOfUsers (sym has) tt)))) cut
+        → w.hand b ≡ hand → (made_by defers w i m out).hand b ≡ hand
+    made_kept w r i m value words (Made (Ok c)) took is = put_kept w c (Making i) fresh is
       where
-        fresh : IsSome (value_at w.memory c) → ⊥
-        fresh there = let none : is_some (value_at w.memory c) ≡ false = ap is_some (ap value_in took.0.0.0) in cc (none, there)
-    made_kept w r i m value words (Made (Err back)) took cut = cut
-    made_kept w r i m value words (Found word) took cut = cut
-    made_kept w r i m value words Stored took cut = cut
-    made_kept w r i m value words (Exchanged result) took cut = cut
-    made_kept w r i m value words (Taken block) took cut = cut
-    made_kept w r i m value words (Roomed result) took cut = cut
+        fresh : w.hand c ≡ hand → ⊥
+        fresh e =
+            let there = gone_there defers size w r c (subst IsGone (sym e) gone) in
+            let none : is_some (value_at w.memory c) ≡ false = ap is_some (ap value_in took.0.0.0) in cc (none, there)
+    made_kept w r i m value words (Made (Err back)) took is = is
+    made_kept w r i m value words (Found word) took is = is
+    made_kept w r i m value words Stored took is = is
+    made_kept w r i m value words (Exchanged result) took is = is
+    made_kept w r i m value words (Taken block) took is = is
+    made_kept w r i m value words (Roomed result) took is = is
 
-    kept_cut : (e : Event T) (w w2 : World T) → Reached defers size w → IsUsers e → Happens defers size e w w2 → w.hand b ≡ Cutting j → w2.hand b ≡ Cutting j
-    kept_cut (Begin i request) w w2 r user h cut = absurd user
-    kept_cut (Step i) w w2 r user h cut = absurd user
-    kept_cut (Makes i value words) w w2 r user h cut = ap (λ (x : World T). x.hand b) h.4 ∙ made_kept w r i h.1 value words h.0 h.3 cut
-    kept_cut (Drops i c) w w2 r user h cut = ap (λ (x : World T). x.hand b) h.4 ∙ put_kept w c NoBlock (not_made (w.hand c) h.2.0 h.2.1) cut
-    kept_cut (Links i c o) w w2 r user h cut = ap (λ (x : World T). x.hand b) h.1 ∙ put_kept w c (InUse o) (not_made (w.hand c) h.0.0 h.0.1) cut
-    kept_cut (Parts i c) w w2 r user h cut = ap (λ (x : World T). x.hand b) h.1 ∙ put_kept w c (Parting i) (λ has. let used = h.0.1 in cc (used, has)) cut
-    kept_cut (Unlinks i c) w w2 r user h cut = ap (λ (x : World T). x.hand b) h.1 ∙ put_kept w c (Cutting i) (λ has. subst (MayCut i) has h.0) cut
-    kept_cut (Rewrites i c value) w w2 r user h cut = ap (λ (x : World T). x.hand b) h.5 ∙ cut
-    kept_cut (Operates op) w w2 r user h cut = ap (λ (x : World T). x.hand b) h.4 ∙ cut
-    kept_cut (Ends i o) w w2 r user h cut = absurd user
-    kept_cut (LeavesOver i c further) w w2 r user h cut = absurd user
-    kept_cut (Relinks i c word) w w2 r user h cut = absurd user
-    kept_cut (Clears i c) w w2 r user h cut = absurd user
-    kept_cut (Chooses choice) w w2 r user h cut = ap (λ (x : World T). x.hand b) h ∙ cut
+    event_kept : (e : Event T) (w w2 : World T) → Reached defers size w → IsUsers e → Happens defers size e w w2 → w.hand b ≡ hand → w2.hand b ≡ hand
+    event_kept (Begin i request) w w2 r user h is = absurd user
+    event_kept (Step i) w w2 r user h is = absurd user
+    event_kept (Makes i value words) w w2 r user h is = ap (λ (x : World T). x.hand b) h.4 ∙ made_kept w r i h.1 value words h.0 h.3 is
+    event_kept (Drops i c) w w2 r user h is = ap (λ (x : World T). x.hand b) h.4 ∙ put_kept w c NoBlock (not_in w c (Making h.2.0) (λ no_way. no_way) h.2.1) is
+    event_kept (Links i c o) w w2 r user h is = ap (λ (x : World T). x.hand b) h.1 ∙ put_kept w c (InUse o) (not_in w c (Making h.0.0) (λ no_way. no_way) h.0.1) is
+    event_kept (Parts i c) w w2 r user h is = ap (λ (x : World T). x.hand b) h.1 ∙ put_kept w c (Parting i) (not_in w c (InUse h.0.0) (λ no_way. no_way) h.0.1) is
+    event_kept (Unlinks i c) w w2 r user h is = ap (λ (x : World T). x.hand b) h.1 ∙ put_kept w c (Cutting i) (λ e. cut_not_gone i hand (subst (MayCut i) e h.0) gone) is
+    event_kept (Rewrites i c value) w w2 r user h is = ap (λ (x : World T). x.hand b) h.5 ∙ is
+    event_kept (Operates op) w w2 r user h is = ap (λ (x : World T). x.hand b) h.4 ∙ is
+    event_kept (Ends i o) w w2 r user h is = absurd user
+    event_kept (LeavesOver i c further) w w2 r user h is = absurd user
+    event_kept (Relinks i c word) w w2 r user h is = absurd user
+    event_kept (Clears i c) w w2 r user h is = absurd user
+    event_kept (Chooses choice) w w2 r user h is = ap (λ (x : World T). x.hand b) h ∙ is
 
-    all_kept_cut : (events : List (Event T)) (w w2 : World T) → Reached defers size w → AllUsers events → Runs defers size events w w2 → w.hand b ≡ Cutting j → w2.hand b ≡ Cutting j
-    all_kept_cut [] w w2 r users runs cut = ap (λ (x : World T). x.hand b) runs ∙ cut
-    all_kept_cut (e ∷ events) w w2 r users runs cut =
-        all_kept_cut events runs.0 w2 (happens_reached defers size e w runs.0 r runs.1) users.1 runs.2 (kept_cut e w runs.0 r users.0 runs.1 cut)
+    pub hand_kept : (events : List (Event T)) (w w2 : World T) → Reached defers size w → AllUsers events → Runs defers size events w w2 → w.hand b ≡ hand → w2.hand b ≡ hand
+    hand_kept [] w w2 r users runs is = ap (λ (x : World T). x.hand b) runs ∙ is
+    hand_kept (e ∷ events) w w2 r users runs is =
+        hand_kept events runs.0 w2 (happens_reached defers size e w runs.0 r runs.1) users.1 runs.2 (event_kept e w runs.0 r users.0 runs.1 is)
 
-  -- So what such events unlink can't be reached behind them.
-  pub users_cut : (events : List (Event T)) (w w2 : World T) → Reached defers size w → AllUsers events → Runs defers size events w w2 → IsCutOff b w w2
+    -- and it is not unlinked again
+    pub none_again : (events : List (Event T)) (w w2 : World T) → Reached defers size w → AllUsers events → Runs defers size events w w2 → w.hand b ≡ hand
+        → unlinkings b w2.log ≡ unlinkings b w.log
+    none_again [] w w2 r users runs is = ap (λ (x : World T). unlinkings b x.log) runs
+    none_again (e ∷ events) w w2 r users runs is =
+        none_again events runs.0 w2 (happens_reached defers size e w runs.0 r runs.1) users.1 runs.2 (event_kept e w runs.0 r users.0 runs.1 is)
+        ∙ first (user_event e w runs.0 users.0 runs.1)
+      where
+        first : (unlinkings b runs.0.log ≡ unlinkings b w.log) ⊎ IsUnlinkedBy w runs.0 → unlinkings b runs.0.log ≡ unlinkings b w.log
+        first (inl same) = same
+        first (inr (i, may, cut)) = absurd (cut_not_gone i hand (subst (MayCut i) is may) gone)
+
+  -- so often it was unlinked before such events, or a holder has it behind them
+  pub users_cut : (events : List (Event T)) (w w2 : World T) → Reached defers size w → AllUsers events → Runs defers size events w w2
+      → (unlinkings b w2.log ≡ unlinkings b w.log) ⊎ ((i : ℕ) × (w2.hand b ≡ Cutting i))
   users_cut [] w w2 r users runs = inl (ap (λ (x : World T). unlinkings b x.log) runs)
   users_cut (e ∷ events) w w2 r users runs = by (user_event e w v users.0 runs.1)
     where
@@ -144,10 +172,19 @@ module _ {T : Type 0} (defers : T → Option ℕ) (size b : ℕ) where
       r1 : Reached defers size v
       r1 = happens_reached defers size e w v r runs.1
 
-      then : IsCutOff b v w2 → unlinkings b v.log ≡ unlinkings b w.log → IsCutOff b w w2
+      then : (unlinkings b w2.log ≡ unlinkings b v.log) ⊎ ((i : ℕ) × (w2.hand b ≡ Cutting i)) → unlinkings b v.log ≡ unlinkings b w.log
+          → (unlinkings b w2.log ≡ unlinkings b w.log) ⊎ ((i : ℕ) × (w2.hand b ≡ Cutting i))
       then (inl same) e = inl (same ∙ e)
-      then (inr none) e = inr none
+      then (inr cut) e = inr cut
 
-      by : (unlinkings b v.log ≡ unlinkings b w.log) ⊎ ((i : ℕ) × (v.hand b ≡ Cutting i)) → IsCutOff b w w2
+      by : (unlinkings b v.log ≡ unlinkings b w.log) ⊎ IsUnlinkedBy w v → (unlinkings b w2.log ≡ unlinkings b w.log) ⊎ ((i : ℕ) × (w2.hand b ≡ Cutting i))
       by (inl same) = then (users_cut events v w2 r1 users.1 runs.2) same
-      by (inr (i, cut)) = inr (ap is_somewhere (cut_nowhere defers size w2 (runs_reached defers size events v w2 r1 runs.2) b i (all_kept_cut i events v w2 r1 users.1 runs.2 cut)))
+      by (inr (i, may, cut)) = inr (i, hand_kept (Cutting i) tt events v w2 r1 users.1 runs.2 cut)
+
+  -- So what they unlink can't be reached behind them.
+  pub users_cut_off : (events : List (Event T)) (w w2 : World T) → Reached defers size w → AllUsers events → Runs defers size events w w2 → IsCutOff b w w2
+  users_cut_off events w w2 r users runs = by (users_cut events w w2 r users runs)
+    where
+      by : (unlinkings b w2.log ≡ unlinkings b w.log) ⊎ ((i : ℕ) × (w2.hand b ≡ Cutting i)) → IsCutOff b w w2
+      by (inl same) = inl same
+      by (inr (i, cut)) = inr (ap is_somewhere (cut_nowhere defers size w2 (runs_reached defers size events w w2 r runs) b i cut))
