@@ -5,6 +5,8 @@ pub mod Named
 pub mod Tied
 pub mod Closed
 pub mod Unlinked
+pub mod Before
+pub mod Makings
 pub mod Steps
 pub mod Lists
 mod Samples

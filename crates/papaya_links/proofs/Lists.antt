@@ -1,9 +1,10 @@
 -- Wherever a list of acts has led, the world is tied, what one more step unlinks no links lead to, and what callers see is closed.
-use Rattle.std.proofs.Common.{◌≡◌, ◌⊎◌, ℕ, Bool, false, List, ◌∷◌, inl, inr, refl, arith, ap, sym, subst}
-use Rattle.papaya_executor.specs.Given.SeizeWords.Mem.{Mem}
+use Rattle.std.specs.Prelude.{Some}
+use Rattle.std.proofs.Common.{◌≡◌, ◌⊎◌, ◌<◌, ℕ, Bool, true, false, List, ◌∷◌, inl, inr, refl, arith, ap, sym, subst, ◌∙◌}
+use Rattle.papaya_executor.specs.Given.SeizeWords.Mem.{Mem, word_at}
 use Rattle.papaya_executor.specs.Given.SeizeWords.declared.at.At.TheVariants.{Root, Used}
 use Rattle.papaya_executor.specs.Given.Seize.Law.{reachable}
-use Rattle.papaya_executor.specs.Given.Seize.World.{World, Event, Runs}
+use Rattle.papaya_executor.specs.Given.Seize.World.{World, InUse, Event, Runs, with_at}
 use Rattle.papaya_executor.specs.Given.Seize.declared.progress.Progress.{Progress}
 use Rattle.papaya_executor.specs.Given.Seize.declared.progress.Progress.TheVariants as progress
 use Rattle.papaya_executor.specs.Given.Seize.declared.rows.settle.Settled.{Settled}
@@ -14,10 +15,11 @@ use Rattle.papaya_executor.specs.Given.Tables.declared.node.Node.{Node}
 use Rattle.papaya_executor.specs.Given.Tables.declared.setting.Setting.{Setting}
 use Rattle.papaya_executor.specs.Given.Resize.declared.new_map.NewMap.{NewMap}
 use Rattle.papaya_executor.specs.Given.Raw.declared.machines.end_map.EndMap.{EndMap}
+use Rattle.papaya_executor.proofs.Given.Callers.Together.At.{at_same}
 use Rattle.papaya_executor.proofs.Given.Callers.Together.Came.{came_reached}
 use Rattle.papaya_executor.specs.Given.Finishes.Endings.{Finishing, MakingStepsAmong, StepsOfEnding}
 use Rattle.papaya_executor.specs.Given.Finishes.FactsEnds.{TakesLeft, WritesRoot, events_of}
-use Rattle.papaya_executor.specs.Given.Finishes.Makings.{Beginning}
+use Rattle.papaya_executor.specs.Given.Finishes.Makings.{Beginning, IsFirstTable, StepsOfMaking}
 use Rattle.papaya_executor.specs.IsAt.{Scene}
 use Rattle.papaya_reclaims.specs.Slots.{AreItsRows}
 use Rattle.papaya_acts.specs.Acts.{Act, Answer}
@@ -31,13 +33,19 @@ use Rattle.papaya_carries.proofs.Lists.{lists_keep_theirs}
 use Rattle.papaya_links.specs.Lists.{ActsUnlink, ListsAreTied, ListsUnlink, ListsAreClosed}
 use Rattle.papaya_links.specs.Tied.{LinksLead, UnlinksWhatNoneNames, unlinkings}
 use Rattle.papaya_links.proofs.Closed.{scenes_are_closed}
+use Rattle.papaya_links.proofs.Makings.{first_in_use, making_cut_off}
 use Rattle.papaya_links.proofs.Steps.{deed_cut, rows_none, kind_cut}
 use Rattle.papaya_links.proofs.Tied.{scenes_are_tied}
-use Rattle.papaya_links.proofs.Unlinked.{IsCutOff, begin_none, step_none, users_cut_off}
+use Rattle.papaya_links.proofs.Unlinked.{IsCutOff, begin_none, step_none}
 
-module _ {K V : Type 0} (same : K → K → Bool) (hash : K → ℕ) (batch_size roots : ℕ) (slot : ℕ → ℕ) (s n : Scene K V) (all : AllStand same hash batch_size roots slot s) (b : ℕ) where
+module _ {K V : Type 0} (same : K → K → Bool) (hash : K → ℕ) (batch_size roots : ℕ) (slot : ℕ → ℕ) (s n : Scene K V) (all : AllStand same hash batch_size roots slot s) (stand : AllStand same hash batch_size roots slot n) (b : ℕ) where
   reached : IsReached deferred_word batch_size s.world
   reached = came_reached batch_size s.world all.makings.standing.came
+
+  cut_off : (i : ℕ) (d : Beginning K) (m2 : Mem (Node K V)) (end : NewMap × Progress Setting)
+      (st : StepsOfMaking V same same batch_size roots slot s.world s.maps s.calls s.makers i d m2 end)
+      → (0 < b → IsFirstTable st.w2 end b → (o : ℕ) × (st.w2.hand b ≡ InUse o)) → IsCutOff b s.world st.w2
+  cut_off i d m2 end st = making_cut_off V same same batch_size roots slot s.world s.maps s.calls s.makers i d m2 end st b reached
 
   to : (x : Scene K V) → n ≡ x → IsCutOff b s.world x.world → IsCutOff b s.world n.world
   to x is so = subst (λ (y : Scene K V). IsCutOff b s.world y.world) (sym is) so
@@ -45,16 +53,16 @@ module _ {K V : Type 0} (same : K → K → Bool) (hash : K → ℕ) (batch_size
   made : (i : ℕ) (d : Beginning K) (m2 : Mem (Node K V)) (machine : NewMap) (end : Progress Setting)
       (did : MakingStepsAmong V same same batch_size roots slot s.world s.maps s.calls s.makers s.enders i d m2 (machine, end))
       → MakingCame same hash batch_size roots slot s i d did.step.w2 machine n end → IsCutOff b s.world n.world
-  made i d m2 machine end did came = by end came
-    where
-      cut : IsCutOff b s.world did.step.w2
-      cut = users_cut_off deferred_word batch_size b did.step.events s.world did.step.w2 reached did.step.users did.step.runs
-
-      by : (e : Progress Setting) → MakingCame same hash batch_size roots slot s i d did.step.w2 machine n e → IsCutOff b s.world n.world
-      by progress.Goes is = to _ is cut
-      by progress.Waits never = absurd never
-      by (progress.Done setting) (standing, is_made, is) = to _ is cut
-      by (progress.Refused fault) is = to _ is cut
+  made i d m2 machine progress.Goes did is = to _ is (cut_off i d m2 (machine, progress.Goes) did.step (λ some first. absurd first))
+  made i d m2 machine progress.Waits did never = absurd never
+  made i d m2 machine (progress.Done setting) did (standing, is_made, is) =
+      to _ is (cut_off i d m2 (machine, progress.Done setting) did.step (λ some first. (
+        standing.setting.counter,
+        first_in_use V same same batch_size slot did.step.w2 (with_at s.maps d.map (Some standing)) s.calls (subst (AllStand same hash batch_size roots slot) is stand).makings.standing
+            d.map standing (at_same s.maps d.map (Some standing) d.map refl) b some
+            (ap (λ (y : Setting). word_at did.step.w2.memory (Root y.root)) is_made.setting_is ∙ first),
+      )))
+  made i d m2 machine (progress.Refused fault) did is = to _ is (cut_off i d m2 (machine, progress.Refused fault) did.step (λ some first. absurd first))
 
   ended : (i : ℕ) (f : Finishing K V) (m2 : Mem (Node K V)) (machine : EndMap) (end : Settled (Node K V))
       (did : StepsOfEnding V same same batch_size roots slot s.world s.maps s.calls s.makers s.enders i f m2 (machine, end))
@@ -62,7 +70,7 @@ module _ {K V : Type 0} (same : K → K → Bool) (hash : K → ℕ) (batch_size
   ended i f m2 machine end did came = by end came
     where
       cut : IsCutOff b s.world did.w2
-      cut = deed_cut batch_size b i did.deed s.world did.w2 did.runs
+      cut = deed_cut batch_size b s.world reached i did.deed did.w2 did.runs
 
       by : (e : Settled (Node K V)) → EndingCame same hash batch_size roots slot s i f did.w2 did.deed machine n e → IsCutOff b s.world n.world
       by settled.Goes (none, is) = to _ is cut
@@ -74,7 +82,7 @@ module _ {K V : Type 0} (same : K → K → Bool) (hash : K → ℕ) (batch_size
   act_cut (BeginsCall i m wanted) told (standing, stands, none, is) = to _ is (inl refl)
   act_cut (StepsCall i m g) told led =
       to _ led.comes (kind_cut V same same batch_size roots slot s.world s.maps s.calls s.makers s.enders m led.standing i b led.memory led.did.w2 led.did.maps2 led.did.next
-      (came_reached led.standing.setting.batch_size s.world (all.makings.standing.each m led.standing led.stands).ground.came) led.call led.machine led.progress led.did.did)
+      all.makings.standing led.stands led.call led.here led.machine led.progress led.did.did)
   act_cut (TellsCall i m reply) told (standing, stands, u, next, here, machine_is, told_is, kind, is) = to _ is (inl refl)
   act_cut (AsksCall i m) told (u, next, here, machine_is, told_is, is) = to _ is (inl refl)
   act_cut (StopsCall i m) told (u, here, told_is, is) = to _ is (inl refl)
@@ -90,36 +98,39 @@ unlinked_unnamed : {K : Type 0} (V : Type 0) (same : K → K → Bool) (hash : K
     → ((b : ℕ) → IsCutOff b w n.world) → UnlinksWhatNoneNames w n.world n.maps
 unlinked_unnamed {K} V same hash batch_size roots slot w n stand theirs cut b more = by (cut b)
   where
-    by : IsCutOff b w n.world → (reachable b n.world.log ≡ false) × (LinksLead n.world n.maps b → ⊥)
+    by : IsCutOff b w n.world → (reachable b w.log ≡ true) × (reachable b n.world.log ≡ false) × (LinksLead n.world n.maps b → ⊥)
     by (inl same_often) = absurd (omega (arith, same_often, more))
-    by (inr none) = (none, λ lead. let there = scenes_are_tied V same hash batch_size roots slot n stand theirs b lead in cc (none, there))
+    by (inr (before, none)) = (before, none, λ lead. let there = scenes_are_tied V same hash batch_size roots slot n stand theirs b lead in cc (none, there))
 
 pub acts_unlink : {K : Type 0} (V : Type 0) (same : K → K → Bool) (hash : K → ℕ) (batch_size roots : ℕ) (slot : ℕ → ℕ) → ActsUnlink V same hash batch_size roots slot
 acts_unlink V same hash batch_size roots slot s n all stand theirs act may told led =
     unlinked_unnamed V same hash batch_size roots slot s.world n stand (acts_keep_theirs V same hash batch_size roots slot s n all stand act may told led theirs)
-    (λ b. act_cut same hash batch_size roots slot s n all b act told led)
+    (λ b. act_cut same hash batch_size roots slot s n all stand b act told led)
 
 module _ {K : Type 0} (V : Type 0) (same : K → K → Bool) (hash : K → ℕ) (batch_size roots : ℕ) (slot : ℕ → ℕ) where
   -- a step of a caller that reclaims all
   module _ (s : Scene K V) (all : AllStand same hash batch_size roots slot s) (b : ℕ) where
+    there : IsReached deferred_word batch_size s.world
+    there = came_reached batch_size s.world all.makings.standing.came
+
     event_cut : (i : ℕ) (events : List (Event (Node K V))) (w2 : World (Node K V)) → Runs deferred_word batch_size events s.world w2
         → AreItsRows i events ⊎ (((x : ℕ) × (events ≡ events_of i (TakesLeft x)))
         ⊎ ((root : ℕ) × ((events ≡ events_of i (WritesRoot (Root root) 0)) ⊎ (events ≡ events_of i (WritesRoot (Used root) 0))))) → IsCutOff b s.world w2
-    event_cut i events w2 runs (inl own) = inl (rows_none batch_size b i events own s.world w2 (came_reached batch_size s.world all.makings.standing.came) runs)
+    event_cut i events w2 runs (inl own) = inl (rows_none batch_size b i events own s.world w2 there runs)
     event_cut i events w2 runs (inr (inl (x, is))) =
-        deed_cut batch_size b i (TakesLeft x) s.world w2 (subst (λ (l : List (Event (Node K V))). Runs deferred_word batch_size l s.world w2) is runs)
+        deed_cut batch_size b s.world there i (TakesLeft x) w2 (subst (λ (l : List (Event (Node K V))). Runs deferred_word batch_size l s.world w2) is runs)
     event_cut i events w2 runs (inr (inr (root, inl is))) =
-        deed_cut batch_size b i (WritesRoot (Root root) 0) s.world w2 (subst (λ (l : List (Event (Node K V))). Runs deferred_word batch_size l s.world w2) is runs)
+        deed_cut batch_size b s.world there i (WritesRoot (Root root) 0) w2 (subst (λ (l : List (Event (Node K V))). Runs deferred_word batch_size l s.world w2) is runs)
     event_cut i events w2 runs (inr (inr (root, inr is))) =
-        deed_cut batch_size b i (WritesRoot (Used root) 0) s.world w2 (subst (λ (l : List (Event (Node K V))). Runs deferred_word batch_size l s.world w2) is runs)
+        deed_cut batch_size b s.world there i (WritesRoot (Used root) 0) w2 (subst (λ (l : List (Event (Node K V))). Runs deferred_word batch_size l s.world w2) is runs)
 
   doing_cut : (p n : Stage V same hash batch_size roots slot) (doing : Doing K V) (told : Answer K V) → HasDone V same hash batch_size roots slot doing p told n
       → (b : ℕ) → IsCutOff b p.0.world n.0.world
-  doing_cut p n (Does act) told (led, idle) b = act_cut same hash batch_size roots slot p.0 n.0 p.1 b act told led
+  doing_cut p n (Does act) told (led, idle) b = act_cut same hash batch_size roots slot p.0 n.0 p.1 n.1 b act told led
   doing_cut p n (BeginsReclaiming i) told (none, is, behind_is, begun) b = inl (ap (λ (x : Scene K V). unlinkings b x.world.log) is)
   doing_cut p n (BeginsClearing i) told (none, is, behind_is, begun) b = inl (ap (λ (x : Scene K V). unlinkings b x.world.log) is)
   doing_cut p n (StepsReclaiming g) told st b =
-      to same hash batch_size roots slot p.0 n.0 p.1 b (record p.0 { world = st.did.did.w2; maps = st.did.did.maps2 }) st.did.comes
+      to same hash batch_size roots slot p.0 n.0 p.1 n.1 b (record p.0 { world = st.did.did.w2; maps = st.did.did.maps2 }) st.did.comes
       (event_cut p.0 p.1 b st.caller st.did.did.events st.did.did.w2 st.did.did.runs st.did.did.its)
 
   module _ (course : Course V same hash batch_size roots slot) where

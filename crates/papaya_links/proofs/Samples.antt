@@ -54,7 +54,7 @@ module _ {K V : Type 0} where
   second_was_cut = omega arith
 
   second_not_unlinked : UnlinksWhatNoneNames (told_as both_linked) (told_as second_cut) (λ m. None {A = Standing K}) → ⊥
-  second_not_unlinked unlinks = (unlinks 2 second_was_cut).1 second_is_named
+  second_not_unlinked unlinks = (unlinks 2 second_was_cut).2 second_is_named
 
   -- where it was over as its owner ended, the first one says nothing any more
   over_says_nothing : is_over 1 (Unlinked 2 ∷ Ended 7 ∷ Linked 2 7 ∷ Linked 1 7 ∷ []) ≡ true

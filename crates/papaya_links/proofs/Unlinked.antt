@@ -1,6 +1,6 @@
 -- What events unlink can't be reached behind them: none of users links it again, and rows unlink nothing.
 use Rattle.std.specs.Prelude.{Option, Ok, Err, is_some}
-use Rattle.std.proofs.Common.{◌≡◌, ◌≢◌, ◌⊎◌, ℕ, suc, Bool, false, cond, eqb, List, [], ◌∷◌, ◌++◌, inl, inr, refl, ap, sym, subst, ◌∙◌}
+use Rattle.std.proofs.Common.{◌≡◌, ◌≢◌, ◌⊎◌, ℕ, suc, Bool, true, false, cond, eqb, List, [], ◌∷◌, ◌++◌, inl, inr, refl, ap, sym, subst, ◌∙◌}
 use Rattle.std.proofs.lemmas.Bool.{cases_eq, eq-eqb, ne_eqb}
 use Rattle.papaya_executor.specs.Given.SeizeWords.Mem.{Mem, Took, value_in, value_at}
 use Rattle.papaya_executor.specs.Given.SeizeWords.Op.{Out, Make, Found, Stored, Exchanged, Made, Taken, Roomed}
@@ -10,7 +10,7 @@ use Rattle.papaya_executor.specs.Given.Seize.Sequence.{IsUsers}
 use Rattle.papaya_executor.specs.Given.Seize.World.{World, Hand, NoBlock, Making, InUse, Parting, Cutting, Handed, LeftTo, Request, Event, Begin, Step, Makes, Drops, Links, Parts, Unlinks, Rewrites, Operates, Ends, LeavesOver, Relinks, Clears, Chooses, MayCut, Happens, Runs, Steps', Begins, Register', Enter', Leave', LeaveOwned, Refresh, Unregister', Retire, Flush, Defer', made_by, with_at}
 use Rattle.papaya_executor.proofs.Given.SeizeRule.Rows.Effects.{IsOneStep}
 use Rattle.papaya_executor.proofs.Given.SeizeAlone.Histories.NotTaken.{did}
-use Rattle.papaya_executor.proofs.Given.SeizeAlone.Histories.Reached.{Reached, happens_reached, runs_reached}
+use Rattle.papaya_executor.proofs.Given.SeizeAlone.Histories.Reached.{Reached, happens_reached}
 use Rattle.papaya_executor.specs.Given.Rule.InWorld.{AllUsers}
 use Rattle.papaya_executor.proofs.Given.Rule.World.Hands.{at_cases}
 use Rattle.papaya_links.specs.Tied.{unlinkings}
@@ -42,9 +42,9 @@ cut_not_gone i (Cutting k) may gone = may
 cut_not_gone i Handed may gone = may
 cut_not_gone i (LeftTo k) may gone = may
 
--- so often it was unlinked before, or it can't be reached
+-- so often it was unlinked before, or it could be reached, and can't be any more
 abbrev pub IsCutOff : {T : Type 0} → ℕ → World T → World T → Type 0
-IsCutOff b w w2 = (unlinkings b w2.log ≡ unlinkings b w.log) ⊎ (reachable b w2.log ≡ false)
+IsCutOff b w w2 = (unlinkings b w2.log ≡ unlinkings b w.log) ⊎ ((reachable b w.log ≡ true) × (reachable b w2.log ≡ false))
 
 module _ {T : Type 0} (defers : T → Option ℕ) (size b : ℕ) where
   -- The beginning of a row unlinks nothing,
@@ -73,11 +73,11 @@ module _ {T : Type 0} (defers : T → Option ℕ) (size b : ℕ) where
   made_none w i m (Roomed result) = refl
 
   -- who could unlink it has done so, and has it then
-  abbrev pub IsUnlinkedBy : World T → World T → Type 0
-  IsUnlinkedBy w w2 = (i : ℕ) × MayCut i (w.hand b) × (w2.hand b ≡ Cutting i)
+  abbrev pub IsUnlinkedBy : Event T → World T → World T → Type 0
+  IsUnlinkedBy e w w2 = (i : ℕ) × (e ≡ Unlinks i b) × MayCut i (w.hand b) × (w2.hand b ≡ Cutting i)
 
   -- An event of users unlinks it, or not.
-  pub user_event : (e : Event T) (w w2 : World T) → IsUsers e → Happens defers size e w w2 → (unlinkings b w2.log ≡ unlinkings b w.log) ⊎ IsUnlinkedBy w w2
+  pub user_event : (e : Event T) (w w2 : World T) → IsUsers e → Happens defers size e w w2 → (unlinkings b w2.log ≡ unlinkings b w.log) ⊎ IsUnlinkedBy e w w2
   user_event (Begin i request) w w2 user h = absurd user
   user_event (Step i) w w2 user h = absurd user
   user_event (Makes i value words) w w2 user h = inl (ap (λ (x : World T). unlinkings b x.log) h.4 ∙ made_none w i h.1 h.0)
@@ -92,8 +92,8 @@ module _ {T : Type 0} (defers : T → Option ℕ) (size b : ℕ) where
       log : unlinkings b w2.log ≡ cond (eqb b c) (suc (unlinkings b w.log)) (unlinkings b w.log)
       log = ap (λ (x : World T). unlinkings b x.log) h.1
 
-      by : (b ≡ c) ⊎ (b ≢ c) → (unlinkings b w2.log ≡ unlinkings b w.log) ⊎ IsUnlinkedBy w w2
-      by (inl e) = inr (i, subst (λ (x : ℕ). MayCut i (w.hand x)) (sym e) h.0, hand ∙ ap (λ (q : Bool). cond q (Cutting i) (w.hand b)) (eq-eqb b c e))
+      by : (b ≡ c) ⊎ (b ≢ c) → (unlinkings b w2.log ≡ unlinkings b w.log) ⊎ IsUnlinkedBy (Unlinks i c) w w2
+      by (inl e) = inr (i, ap (λ (x : ℕ). Unlinks i x) (sym e), subst (λ (x : ℕ). MayCut i (w.hand x)) (sym e) h.0, hand ∙ ap (λ (q : Bool). cond q (Cutting i) (w.hand b)) (eq-eqb b c e))
       by (inr ne) = inl (log ∙ ap (λ (q : Bool). cond q (suc (unlinkings b w.log)) (unlinkings b w.log)) (ne_eqb b c ne))
   user_event (Rewrites i c value) w w2 user h = inl (ap (λ (x : World T). unlinkings b x.log) h.5)
   user_event (Operates op) w w2 user h = inl (ap (λ (x : World T). unlinkings b x.log) h.4)
@@ -156,9 +156,9 @@ module _ {T : Type 0} (defers : T → Option ℕ) (size b : ℕ) where
         none_again events runs.0 w2 (happens_reached defers size e w runs.0 r runs.1) users.1 runs.2 (event_kept e w runs.0 r users.0 runs.1 is)
         ∙ first (user_event e w runs.0 users.0 runs.1)
       where
-        first : (unlinkings b runs.0.log ≡ unlinkings b w.log) ⊎ IsUnlinkedBy w runs.0 → unlinkings b runs.0.log ≡ unlinkings b w.log
+        first : (unlinkings b runs.0.log ≡ unlinkings b w.log) ⊎ IsUnlinkedBy e w runs.0 → unlinkings b runs.0.log ≡ unlinkings b w.log
         first (inl same) = same
-        first (inr (i, may, cut)) = absurd (cut_not_gone i hand (subst (MayCut i) is may) gone)
+        first (inr (i, is_it, may, cut)) = absurd (cut_not_gone i hand (subst (MayCut i) is may) gone)
 
   -- so often it was unlinked before such events, or a holder has it behind them
   pub users_cut : (events : List (Event T)) (w w2 : World T) → Reached defers size w → AllUsers events → Runs defers size events w w2
@@ -177,14 +177,10 @@ module _ {T : Type 0} (defers : T → Option ℕ) (size b : ℕ) where
       then (inl same) e = inl (same ∙ e)
       then (inr cut) e = inr cut
 
-      by : (unlinkings b v.log ≡ unlinkings b w.log) ⊎ IsUnlinkedBy w v → (unlinkings b w2.log ≡ unlinkings b w.log) ⊎ ((i : ℕ) × (w2.hand b ≡ Cutting i))
+      by : (unlinkings b v.log ≡ unlinkings b w.log) ⊎ IsUnlinkedBy e w v → (unlinkings b w2.log ≡ unlinkings b w.log) ⊎ ((i : ℕ) × (w2.hand b ≡ Cutting i))
       by (inl same) = then (users_cut events v w2 r1 users.1 runs.2) same
-      by (inr (i, may, cut)) = inr (i, hand_kept (Cutting i) tt events v w2 r1 users.1 runs.2 cut)
+      by (inr (i, is_it, may, cut)) = inr (i, hand_kept (Cutting i) tt events v w2 r1 users.1 runs.2 cut)
 
-  -- So what they unlink can't be reached behind them.
-  pub users_cut_off : (events : List (Event T)) (w w2 : World T) → Reached defers size w → AllUsers events → Runs defers size events w w2 → IsCutOff b w w2
-  users_cut_off events w w2 r users runs = by (users_cut events w w2 r users runs)
-    where
-      by : (unlinkings b w2.log ≡ unlinkings b w.log) ⊎ ((i : ℕ) × (w2.hand b ≡ Cutting i)) → IsCutOff b w w2
-      by (inl same) = inl same
-      by (inr (i, cut)) = inr (ap is_somewhere (cut_nowhere defers size w2 (runs_reached defers size events w w2 r runs) b i cut))
+  -- and it can't be reached then
+  pub cut_unreached : (w : World T) → Reached defers size w → (i : ℕ) → w.hand b ≡ Cutting i → reachable b w.log ≡ false
+  cut_unreached w r i cut = ap is_somewhere (cut_nowhere defers size w r b i cut)

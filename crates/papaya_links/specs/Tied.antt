@@ -67,6 +67,6 @@ unlinkings b [] = 0
 unlinkings b (Unlinked c ∷ log) = cond (eqb b c) (suc (unlinkings b log)) (unlinkings b log)
 unlinkings b (_ ∷ log) = unlinkings b log
 
--- A block that was unlinked from one world to the other can't be reached in that, and no links lead to it.
+-- A block that was unlinked from one world to the other could be reached in the one, can't be in the other, and no links lead to it there.
 abbrev pub UnlinksWhatNoneNames : {K V : Type 0} → World (Node K V) → World (Node K V) → (ℕ → Option (Standing K)) → Type 0
-UnlinksWhatNoneNames w w2 maps = (b : ℕ) → unlinkings b w.log < unlinkings b w2.log → (reachable b w2.log ≡ false) × (LinksLead w2 maps b → ⊥)
+UnlinksWhatNoneNames w w2 maps = (b : ℕ) → unlinkings b w.log < unlinkings b w2.log → (reachable b w.log ≡ true) × (reachable b w2.log ≡ false) × (LinksLead w2 maps b → ⊥)
