@@ -2,4 +2,4 @@ pub mod Back
 pub mod Ending
 pub mod Acting
 pub mod Run
-pub mod Keeping
+pub mod Classes

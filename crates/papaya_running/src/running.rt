@@ -1,11 +1,12 @@
 //! A schedule runs, event by event.
 ghost use Rattle.std.specs.Prelude.{◌≡◌, ◌++◌, ◌∷◌, [], ℕ, Bool, List, IfOk, IfErr, OnOk};
 ghost use Rattle.papaya_schedules.specs.After.{AtEachEvent, moment};
+ghost use Rattle.papaya_schedules.specs.Runs.{IsRunOf};
 ghost use Rattle.papaya_schedules.specs.Terms.{Terms};
 ghost use Rattle.papaya_schedules.specs.declared.event.Event.{Event};
 ghost use Rattle.papaya_scheduler.specs.Played.{terms_given};
 ghost use Rattle.papaya_running.specs.Back.{BackSoFar, ReclaimsRight, TellsBack};
-ghost use Rattle.papaya_running.specs.Run.{IsRightRun, IsWholeRun, SoFar, TellsMost, bounded, log_so};
+ghost use Rattle.papaya_running.specs.Run.{IsRightRun, SoFar, TellsMost, bounded, log_so};
 
 use crate::acting::{acting_of, traced_as};
 use crate::ending::living;
@@ -56,7 +57,24 @@ pub fn run<K: Eq + Hash + Drop, V: Drop, S: BuildHasher + Drop>(
     choices: Vec<u64>,
 ) -> Result<Run<K, V>, Fault>
     ensures run { IfOk result (λ run. IsRightRun (terms_given (bounded given)) schedule.items run) }
-    ensures whole { IfOk result (λ run. IsWholeRun K.eq (terms_given (bounded given)) schedule.items run) }
+    ensures whole { IfOk result (λ run. IsRunOf K.eq (terms_given (bounded given)) schedule.items run) }
+    ensures memory { IfErr result (λ fault. fault ≡ Fault.Memory) }
+{
+    run_refusing(alloc, given, hasher, schedule, choices, &[])
+}
+
+/// Runs a schedule whose memory finds no more: before each event, by its place, it is told how many growths it meets from then on, and each later one is refused. Past the end of
+/// these numbers nothing is told.
+pub fn run_refusing<K: Eq + Hash + Drop, V: Drop, S: BuildHasher + Drop>(
+    alloc: Global,
+    given: Given,
+    hasher: S,
+    schedule: Vec<Event<K, V>>,
+    choices: Vec<u64>,
+    growths: &[u64],
+) -> Result<Run<K, V>, Fault>
+    ensures run { IfOk result (λ run. IsRightRun (terms_given (bounded given)) schedule.items run) }
+    ensures whole { IfOk result (λ run. IsRunOf K.eq (terms_given (bounded given)) schedule.items run) }
     ensures memory { IfErr result (λ fault. fault ≡ Fault.Memory) }
 {
     let mut scheduler = Scheduler::new(alloc, bounded(given), hasher)?;
@@ -67,9 +85,23 @@ pub fn run<K: Eq + Hash + Drop, V: Drop, S: BuildHasher + Drop>(
     let mut written = Record::nothing(alloc);
     let mut back = Vec::new(alloc);
     for event in schedule {
+        refuse_as_told(&mut scheduler, growths, written.outcomes.len());
         take_turn(&mut scheduler, &mut tally, &mut written, &mut back, event)?;
     }
     Ok(end(alloc, scheduler, tally, written, back)?)
+}
+
+/// Tells the memory how many growths it meets from now on, where that is told for this place.
+fn refuse_as_told<K: Drop, V: Drop, S>(
+    scheduler: &mut Scheduler<K, V, S>,
+    growths: &[u64],
+    place: usize,
+)
+    ensures { scheduler.new ≡ scheduler.old }
+{
+    if let Some(left) = growths.get(place) {
+        scheduler.logged.executor.memory.memory.refuse_after(*left);
+    }
 }
 
 /// More processors than 2^63 count as 2^63.

@@ -1,12 +1,13 @@
 -- What the program writes for what it reads.
-use Rattle.std.specs.Prelude.{◌≡◌, ℕ, Bool, true, false, nat_eq, List, Option, Ok, Err, codes, ◌⊎◌}
+use Rattle.std.specs.Prelude.{◌≡◌, ◌^◌, ℕ, min, Bool, true, false, List, Option, Ok, Err, codes, ◌⊎◌}
 use Rattle.std.specs.Io.KnownBytes.{Keeps, Appends}
 use Rattle.reclaimed_script.specs.declared.fault.Stop.{Stop}
 use Rattle.reclaimed_script.specs.declared.fault.Stop.TheVariants.{Line, ReadFailed, NoMemory}
 use Rattle.reclaimed_script.specs.FaultTexts.{fault_text}
 use Rattle.reclaimed_script.specs.Lines.{ScriptEvent}
 use Rattle.reclaimed_script.specs.Reading.{Answers}
-use Rattle.papaya_runs.specs.Runs.{IsRunOf, NoneGoes, TellsEnd}
+use Rattle.papaya_schedules.specs.Terms.{Terms}
+use Rattle.papaya_running.specs.Run.{IsRightRun}
 use Rattle.reclaimed_script.specs.Script.{script_of, setup_of}
 use Rattle.reclaimed_text.specs.Text.{WordRun, text_of, fault_line}
 
@@ -30,9 +31,19 @@ pub record Streams : Type 0 where
 abbrev pub SaysOnly : List ℕ → Streams → Type 0
 SaysOnly line s = Keeps s.output_before s.output_after × (s.errors_failed ≡ false → Appends s.errors_before s.errors_after line)
 
--- It is a run of these events; and if no call of it was stopped in its midst, it tells at its end what they say.
+-- with what a script is run: calls come one by one, and it makes one map at most
+abbrev pub terms_of : List ScriptEvent → Terms
+terms_of events = record {
+  batch_size = (setup_of events).batch_size;
+  processors = min (setup_of events).processors (2 ^ 63);
+  roots = (setup_of events).roots;
+  is_one_by_one = true;
+  is_one_map = true;
+}
+
+-- it is a run of these events, and tells at its end what they say
 abbrev pub IsRunFor : List ScriptEvent → WordRun → Type 0
-IsRunFor events run = IsRunOf nat_eq (setup_of events).batch_size events run × (NoneGoes run.outcomes.items → TellsEnd events run)
+IsRunFor events run = IsRightRun (terms_of events) events run
 
 -- the text is what is printed for a run of these events
 abbrev pub IsTextFor : List ScriptEvent → List ℕ → Type 0

@@ -1,13 +1,16 @@
 -- The language on lines and scripts worked by hand: examples that the definitions of specs/Words, Lines and Script.antt have to give. Nothing cites them.
-use Rattle.std.proofs.Common.{◌≡◌, [], ◌∷◌, ◌++◌, Ok, Err, refl}
+use Rattle.std.proofs.Common.{◌≡◌, true, false, [], ◌∷◌, ◌++◌, Ok, Err, refl}
 use Rattle.std.specs.Prelude.{codes}
 use Rattle.papaya_tables.specs.declared.resize_mode.ResizeMode.TheVariants.{Incremental}
-use Rattle.papaya_runs.specs.declared.event.Call.TheVariants.{Insert, TryInsert, Reserve}
-use Rattle.papaya_runs.specs.declared.event.Event.TheVariants.{Collector, Hash, Choose, Register, Unregister, Refresh, Flush, DropGuard, Forget, ReclaimAll, Close, MakeMap, EndMap, ShowShape, OneCall}
+use Rattle.papaya_schedules.specs.declared.call.Call.TheVariants.{On, Reserve, Clear, Retain, Len, Walk}
+use Rattle.papaya_schedules.specs.declared.call.OneKey.TheVariants.{Insert, TryInsert, Compute, RemoveIf}
+use Rattle.papaya_schedules.specs.declared.call.Reply.TheVariants.{Gives, Removes, Aborts, Decides}
+use Rattle.papaya_schedules.specs.declared.event.Event.TheVariants.{Collector, Hash, Choose, Register, Unregister, Own, Refresh, Flush, DropGuard, Forget, ReclaimAll, Close, MakeMap, EndMap, ShowShape, Begin, Step, Go, Replied, OneCall, Next, Stop}
 use Rattle.papaya_runs.specs.declared.key_hash.KeyHash.TheVariants.{Key, Zero}
 use Rattle.reclaimed_script.specs.declared.fault.LineFault.TheVariants.{UnknownEvent, WrongNumberOfWords, BadWord}
 use Rattle.reclaimed_script.specs.Words.{words_of, value_from, number_of}
-use Rattle.reclaimed_script.specs.Lines.{hash_of, choose_of, register_of, unregister_of, refresh_of, flush_of, drop_of, forget_of, reclaim_all_of, close_of, incremental_of, map_of, end_of, shape_of, insert_of, try_insert_of, reserve_of, call_of, map_event_from, guard_event_from, event_from, event_of_words, event_of}
+use Rattle.reclaimed_script.specs.Lines.{hash_of, choose_of, register_of, unregister_of, refresh_of, flush_of, drop_of, forget_of, reclaim_all_of, close_of, own_of, incremental_of, map_of, end_of, shape_of, call_of, begin_of, step_of, go_of, reply_of, walk_next_of, stop_of, caller_event_from, map_event_from, guard_event_from, event_from, event_of_words, event_of}
+use Rattle.reclaimed_script.specs.Calls.{one_number, one_value, key_and_value, key_call_from, whole_call_from, call_from, call_said, reply_from, reply_said}
 use Rattle.reclaimed_script.specs.Script.{lines_of, events_of, line_at, script_from, script_of, usual_setup, setup_of, hasher_of}
 
 no_line : lines_of [] ≡ []
@@ -42,24 +45,24 @@ map_with_no_places : event_of (codes "map m inc 0 16") ≡ Ok (MakeMap (codes "m
 unfolding event_of event_of_words event_from guard_event_from map_event_from map_of incremental_of number_of value_from
 map_with_no_places = refl
 
-whole_insert : event_of (codes "call g m insert 7 v_1") ≡ Ok (OneCall (codes "g") (codes "m") (Insert 7 (codes "v_1")))
-unfolding event_of event_of_words event_from guard_event_from map_event_from call_of insert_of number_of value_from
+whole_insert : event_of (codes "call g m insert 7 v_1") ≡ Ok (OneCall (codes "g") (codes "m") (On (Insert 7 (codes "v_1"))))
+unfolding event_of event_of_words event_from guard_event_from map_event_from caller_event_from call_of call_said call_from key_and_value number_of value_from
 whole_insert = refl
 
-whole_try_insert : event_of (codes "call g m try_insert 7 v_1") ≡ Ok (OneCall (codes "g") (codes "m") (TryInsert 7 (codes "v_1")))
-unfolding event_of event_of_words event_from guard_event_from map_event_from call_of try_insert_of number_of value_from
+whole_try_insert : event_of (codes "call g m try_insert 7 v_1") ≡ Ok (OneCall (codes "g") (codes "m") (On (TryInsert 7 (codes "v_1"))))
+unfolding event_of event_of_words event_from guard_event_from map_event_from caller_event_from call_of call_said call_from key_and_value number_of value_from
 whole_try_insert = refl
 
 try_insert_of_no_value : event_of (codes "call g m try_insert 7") ≡ Err WrongNumberOfWords
-unfolding event_of event_of_words event_from guard_event_from map_event_from call_of try_insert_of
+unfolding event_of event_of_words event_from guard_event_from map_event_from caller_event_from call_of call_said call_from key_and_value
 try_insert_of_no_value = refl
 
 whole_reservation : event_of (codes "call g m reserve 24") ≡ Ok (OneCall (codes "g") (codes "m") (Reserve 24))
-unfolding event_of event_of_words event_from guard_event_from map_event_from call_of reserve_of number_of value_from
+unfolding event_of event_of_words event_from guard_event_from map_event_from caller_event_from call_of call_said call_from whole_call_from one_number number_of value_from
 whole_reservation = refl
 
 unknown_call : event_of (codes "call g m put 1 2 3") ≡ Err BadWord
-unfolding event_of event_of_words event_from guard_event_from map_event_from call_of
+unfolding event_of event_of_words event_from guard_event_from map_event_from caller_event_from call_of call_said call_from whole_call_from key_call_from
 unknown_call = refl
 
 keys_are_hashes : event_of (codes "hash key") ≡ Ok (Hash Key)
@@ -146,8 +149,104 @@ words_before_their_kind : event_of (codes "register a_b c") ≡ Err WrongNumberO
 unfolding event_of event_of_words event_from register_of
 words_before_their_kind = refl
 
+owned_guard : event_of (codes "own g") ≡ Ok (Own (codes "g"))
+unfolding event_of event_of_words event_from guard_event_from own_of
+owned_guard = refl
+
+begun_compute : event_of (codes "begin c g m compute 7") ≡ Ok (Begin (codes "c") (codes "g") (codes "m") (On (Compute 7)))
+unfolding event_of event_of_words event_from guard_event_from map_event_from caller_event_from begin_of call_said call_from whole_call_from key_call_from one_number number_of value_from
+begun_compute = refl
+
+begun_without_a_name : event_of (codes "begin - g m walk") ≡ Ok (Begin (codes "-") (codes "g") (codes "m") Walk)
+unfolding event_of event_of_words event_from guard_event_from map_event_from caller_event_from begin_of call_said call_from whole_call_from
+begun_without_a_name = refl
+
+guard_without_a_name : event_of (codes "begin c - m walk") ≡ Err BadWord
+unfolding event_of event_of_words event_from guard_event_from map_event_from caller_event_from begin_of call_said call_from whole_call_from
+guard_without_a_name = refl
+
+begun_nothing : event_of (codes "begin c g m") ≡ Err WrongNumberOfWords
+unfolding event_of event_of_words event_from guard_event_from map_event_from caller_event_from begin_of call_said
+begun_nothing = refl
+
+whole_remove_if : event_of (codes "call g m remove_if 7") ≡ Ok (OneCall (codes "g") (codes "m") (On (RemoveIf 7)))
+unfolding event_of event_of_words event_from guard_event_from map_event_from caller_event_from call_of call_said call_from whole_call_from key_call_from one_number number_of value_from
+whole_remove_if = refl
+
+whole_clear : event_of (codes "call g m clear") ≡ Ok (OneCall (codes "g") (codes "m") Clear)
+unfolding event_of event_of_words event_from guard_event_from map_event_from caller_event_from call_of call_said call_from whole_call_from
+whole_clear = refl
+
+whole_retain : event_of (codes "call g m retain") ≡ Ok (OneCall (codes "g") (codes "m") Retain)
+unfolding event_of event_of_words event_from guard_event_from map_event_from caller_event_from call_of call_said call_from whole_call_from
+whole_retain = refl
+
+whole_len : event_of (codes "call g m len") ≡ Ok (OneCall (codes "g") (codes "m") Len)
+unfolding event_of event_of_words event_from guard_event_from map_event_from caller_event_from call_of call_said call_from whole_call_from
+whole_len = refl
+
+word_behind_len : event_of (codes "call g- m len 7") ≡ Err WrongNumberOfWords
+unfolding event_of event_of_words event_from guard_event_from map_event_from caller_event_from call_of call_said call_from whole_call_from
+word_behind_len = refl
+
+one_step : event_of (codes "step c") ≡ Ok (Step (codes "c") false)
+unfolding event_of event_of_words event_from guard_event_from map_event_from caller_event_from step_of
+one_step = refl
+
+one_step_without_memory : event_of (codes "step c nomem") ≡ Ok (Step (codes "c") true)
+unfolding event_of event_of_words event_from guard_event_from map_event_from caller_event_from step_of
+one_step_without_memory = refl
+
+steps_without_memory : event_of (codes "go - nomem") ≡ Ok (Go (codes "-") true)
+unfolding event_of event_of_words event_from guard_event_from map_event_from caller_event_from go_of
+steps_without_memory = refl
+
+other_word_behind_go : event_of (codes "go c mem") ≡ Err BadWord
+unfolding event_of event_of_words event_from guard_event_from map_event_from caller_event_from go_of
+other_word_behind_go = refl
+
+third_word_behind_go : event_of (codes "go c nomem nomem") ≡ Err WrongNumberOfWords
+unfolding event_of event_of_words event_from guard_event_from map_event_from caller_event_from go_of
+third_word_behind_go = refl
+
+reply_of_a_value : event_of (codes "reply c insert v_1") ≡ Ok (Replied (codes "c") (Gives (codes "v_1")))
+unfolding event_of event_of_words event_from guard_event_from map_event_from caller_event_from reply_of reply_said reply_from one_value
+reply_of_a_value = refl
+
+reply_to_remove : event_of (codes "reply c remove") ≡ Ok (Replied (codes "c") Removes)
+unfolding event_of event_of_words event_from guard_event_from map_event_from caller_event_from reply_of reply_said reply_from
+reply_to_remove = refl
+
+reply_to_abort : event_of (codes "reply - abort w") ≡ Ok (Replied (codes "-") (Aborts (codes "w")))
+unfolding event_of event_of_words event_from guard_event_from map_event_from caller_event_from reply_of reply_said reply_from one_value
+reply_to_abort = refl
+
+reply_of_yes : event_of (codes "reply c yes") ≡ Ok (Replied (codes "c") (Decides true))
+unfolding event_of event_of_words event_from guard_event_from map_event_from caller_event_from reply_of reply_said reply_from
+reply_of_yes = refl
+
+reply_of_no : event_of (codes "reply c no") ≡ Ok (Replied (codes "c") (Decides false))
+unfolding event_of event_of_words event_from guard_event_from map_event_from caller_event_from reply_of reply_said reply_from
+reply_of_no = refl
+
+unknown_reply : event_of (codes "reply c maybe v w") ≡ Err BadWord
+unfolding event_of event_of_words event_from guard_event_from map_event_from caller_event_from reply_of reply_said reply_from
+unknown_reply = refl
+
+no_reply : event_of (codes "reply c") ≡ Err WrongNumberOfWords
+unfolding event_of event_of_words event_from guard_event_from map_event_from caller_event_from reply_of reply_said
+no_reply = refl
+
+next_pair : event_of (codes "next c") ≡ Ok (Next (codes "c"))
+unfolding event_of event_of_words event_from guard_event_from map_event_from caller_event_from walk_next_of
+next_pair = refl
+
+stopped_walk : event_of (codes "stop -") ≡ Ok (Stop (codes "-"))
+unfolding event_of event_of_words event_from guard_event_from map_event_from caller_event_from stop_of
+stopped_walk = refl
+
 space_in_front : event_of (codes " drop g") ≡ Err UnknownEvent
-unfolding event_of event_of_words event_from guard_event_from map_event_from
+unfolding event_of event_of_words event_from guard_event_from map_event_from caller_event_from
 space_in_front = refl
 
 faulty_third_line : script_of (codes "drop g" ++ 10 ∷ 10 ∷ codes "drop") ≡ Err (3, WrongNumberOfWords)

@@ -1,3 +1,4 @@
+pub mod Calls
 pub mod FaultTexts
 pub mod Lines
 pub mod Reading

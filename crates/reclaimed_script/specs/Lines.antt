@@ -1,16 +1,16 @@
 -- What one line of a script says.
 use Rattle.std.specs.Prelude.{◌≡◌, ℕ, ◌^◌, List, [], ◌∷◌, Result, Ok, Err, IsOk, codes, bytes_eq, if◌then◌else◌}
 use Rattle.papaya_tables.specs.declared.resize_mode.ResizeMode.TheVariants.{Incremental, Blocking}
-use Rattle.papaya_runs.specs.declared.event.Call.TheVariants.{Get, Insert, TryInsert, Remove, Reserve}
-use Rattle.papaya_runs.specs.declared.event.Event.{Event}
-use Rattle.papaya_runs.specs.declared.event.Event.TheVariants.{Collector, Hash, Choose, Register, Unregister, Enter, Refresh, Flush, DropGuard, Forget, ReclaimAll, Close, MakeMap, EndMap, ShowShape, OneCall}
+use Rattle.papaya_schedules.specs.declared.event.Event.{Event}
+use Rattle.papaya_schedules.specs.declared.event.Event.TheVariants.{Collector, Hash, Choose, Register, Unregister, Enter, Own, Refresh, Flush, DropGuard, Forget, ReclaimAll, Close, MakeMap, EndMap, ShowShape, Begin, Step, Go, Replied, OneCall, Next, Stop}
 use Rattle.papaya_runs.specs.declared.key_hash.KeyHash.{KeyHash}
 use Rattle.papaya_runs.specs.declared.key_hash.KeyHash.TheVariants.{Key, Zero}
 use Rattle.reclaimed_script.specs.declared.fault.LineFault.{LineFault}
 use Rattle.reclaimed_script.specs.declared.fault.LineFault.TheVariants.{UnknownEvent, BadWord}
 use Rattle.reclaimed_script.specs.declared.fault.LineStop.{LineStop}
 use Rattle.reclaimed_script.specs.declared.fault.LineStop.TheVariants as stops
-use Rattle.reclaimed_script.specs.Words.{words_of, name_of, value_of, number_of, number_between, next_of, none_of, one_of, two_of, three_of, ◌>>=◌}
+use Rattle.reclaimed_script.specs.Words.{words_of, name_of, caller_of, number_of, number_between, next_of, none_of, one_of, two_of, three_of, ◌>>=◌}
+use Rattle.reclaimed_script.specs.Calls.{call_said, reply_said, nomem_of}
 
 -- an event of a script: keys are numbers, names and values are words
 abbrev pub ScriptEvent : Type 0
@@ -67,6 +67,13 @@ enter_of words = do
   guard ← name_of said.0
   registration ← name_of said.1
   Ok (Enter guard registration)
+
+-- `own G`: a guard with a slot of its own
+unfoldable pub own_of : List (List ℕ) → Result ScriptEvent LineFault
+own_of words = do
+  said ← one_of words
+  guard ← name_of said
+  Ok (Own guard)
 
 -- `refresh G`
 unfoldable pub refresh_of : List (List ℕ) → Result ScriptEvent LineFault
@@ -148,65 +155,77 @@ shape_of words = do
   map ← name_of said
   Ok (ShowShape map)
 
--- `get k` behind the guard's and the map's name
-unfoldable pub get_of : List ℕ → List ℕ → List (List ℕ) → Result ScriptEvent LineFault
-get_of guard map words = do
-  said ← one_of words
-  guard_name ← name_of guard
-  map_name ← name_of map
-  key ← number_of said
-  Ok (OneCall guard_name map_name (Get key))
-
--- `insert k v`
-unfoldable pub insert_of : List ℕ → List ℕ → List (List ℕ) → Result ScriptEvent LineFault
-insert_of guard map words = do
-  said ← two_of words
-  guard_name ← name_of guard
-  map_name ← name_of map
-  key ← number_of said.0
-  value ← value_of said.1
-  Ok (OneCall guard_name map_name (Insert key value))
-
--- `try_insert k v`
-unfoldable pub try_insert_of : List ℕ → List ℕ → List (List ℕ) → Result ScriptEvent LineFault
-try_insert_of guard map words = do
-  said ← two_of words
-  guard_name ← name_of guard
-  map_name ← name_of map
-  key ← number_of said.0
-  value ← value_of said.1
-  Ok (OneCall guard_name map_name (TryInsert key value))
-
--- `remove k`
-unfoldable pub remove_of : List ℕ → List ℕ → List (List ℕ) → Result ScriptEvent LineFault
-remove_of guard map words = do
-  said ← one_of words
-  guard_name ← name_of guard
-  map_name ← name_of map
-  key ← number_of said
-  Ok (OneCall guard_name map_name (Remove key))
-
--- `reserve n`: room for so many further pairs
-unfoldable pub reserve_of : List ℕ → List ℕ → List (List ℕ) → Result ScriptEvent LineFault
-reserve_of guard map words = do
-  said ← one_of words
-  guard_name ← name_of guard
-  map_name ← name_of map
-  more ← number_of said
-  Ok (OneCall guard_name map_name (Reserve more))
-
--- `call G M` and a call: the fourth word decides the form
+-- `call G M` and a call: it is begun for the caller without a name, and then goes on
 unfoldable pub call_of : List (List ℕ) → Result ScriptEvent LineFault
 call_of words = do
   guard ← next_of words
   map ← next_of guard.1
-  call ← next_of map.1
-  if bytes_eq call.0 (codes "get") then get_of guard.0 map.0 call.1
-      else if bytes_eq call.0 (codes "insert") then insert_of guard.0 map.0 call.1
-      else if bytes_eq call.0 (codes "try_insert") then try_insert_of guard.0 map.0 call.1
-      else if bytes_eq call.0 (codes "remove") then remove_of guard.0 map.0 call.1
-      else if bytes_eq call.0 (codes "reserve") then reserve_of guard.0 map.0 call.1
-      else Err BadWord
+  call ← call_said map.1
+  guard_name ← name_of guard.0
+  map_name ← name_of map.0
+  Ok (OneCall guard_name map_name call)
+
+-- `begin C G M` and a call
+unfoldable pub begin_of : List (List ℕ) → Result ScriptEvent LineFault
+begin_of words = do
+  caller ← next_of words
+  guard ← next_of caller.1
+  map ← next_of guard.1
+  call ← call_said map.1
+  caller_name ← caller_of caller.0
+  guard_name ← name_of guard.0
+  map_name ← name_of map.0
+  Ok (Begin caller_name guard_name map_name call)
+
+-- `step C` or `step C nomem`: one step of the caller's call
+unfoldable pub step_of : List (List ℕ) → Result ScriptEvent LineFault
+step_of words = do
+  caller ← next_of words
+  refuse ← nomem_of caller.1
+  caller_name ← caller_of caller.0
+  Ok (Step caller_name refuse)
+
+-- `go C` or `go C nomem`: its steps while it goes on
+unfoldable pub go_of : List (List ℕ) → Result ScriptEvent LineFault
+go_of words = do
+  caller ← next_of words
+  refuse ← nomem_of caller.1
+  caller_name ← caller_of caller.0
+  Ok (Go caller_name refuse)
+
+-- `reply C` and a reply
+unfoldable pub reply_of : List (List ℕ) → Result ScriptEvent LineFault
+reply_of words = do
+  caller ← next_of words
+  reply ← reply_said caller.1
+  caller_name ← caller_of caller.0
+  Ok (Replied caller_name reply)
+
+-- `next C`: the next pair of the caller's walk
+unfoldable pub walk_next_of : List (List ℕ) → Result ScriptEvent LineFault
+walk_next_of words = do
+  said ← one_of words
+  caller ← caller_of said
+  Ok (Next caller)
+
+-- `stop C`: the end of the caller's walk
+unfoldable pub stop_of : List (List ℕ) → Result ScriptEvent LineFault
+stop_of words = do
+  said ← one_of words
+  caller ← caller_of said
+  Ok (Stop caller)
+
+-- of events of callers the first word decides
+unfoldable pub caller_event_from : List ℕ → List (List ℕ) → Result ScriptEvent LineFault
+caller_event_from first words =
+    if bytes_eq first (codes "call") then call_of words
+    else if bytes_eq first (codes "begin") then begin_of words
+    else if bytes_eq first (codes "step") then step_of words
+    else if bytes_eq first (codes "go") then go_of words
+    else if bytes_eq first (codes "reply") then reply_of words
+    else if bytes_eq first (codes "next") then walk_next_of words
+    else if bytes_eq first (codes "stop") then stop_of words
+    else Err UnknownEvent
 
 -- of events on maps the first word decides
 unfoldable pub map_event_from : List ℕ → List (List ℕ) → Result ScriptEvent LineFault
@@ -214,13 +233,13 @@ map_event_from first words =
     if bytes_eq first (codes "map") then map_of words
     else if bytes_eq first (codes "end") then end_of words
     else if bytes_eq first (codes "shape") then shape_of words
-    else if bytes_eq first (codes "call") then call_of words
-    else Err UnknownEvent
+    else caller_event_from first words
 
 -- of events on guards the first word decides
 unfoldable pub guard_event_from : List ℕ → List (List ℕ) → Result ScriptEvent LineFault
 guard_event_from first words =
     if bytes_eq first (codes "enter") then enter_of words
+    else if bytes_eq first (codes "own") then own_of words
     else if bytes_eq first (codes "refresh") then refresh_of words
     else if bytes_eq first (codes "flush") then flush_of words
     else if bytes_eq first (codes "drop") then drop_of words

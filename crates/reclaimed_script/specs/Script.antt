@@ -2,7 +2,7 @@
 use Rattle.std.specs.Prelude.{◌≡◌, ℕ, ◌+◌, List, [], ◌∷◌, ◌++◌, length, Result, Ok, Err, IsOk, nat_lt, ◌==◌, if◌then◌else◌}
 use Rattle.std.specs.List.{onto_first}
 use Rattle.papaya_runs.specs.declared.event.Setup.{Setup}
-use Rattle.papaya_runs.specs.declared.event.Event.TheVariants.{Collector, Hash, MakeMap}
+use Rattle.papaya_schedules.specs.declared.event.Event.TheVariants.{Collector, Hash, MakeMap}
 use Rattle.papaya_runs.specs.declared.key_hash.KeyHash.{KeyHash}
 use Rattle.papaya_runs.specs.declared.key_hash.KeyHash.TheVariants.{Key}
 use Rattle.reclaimed_script.specs.declared.fault.LineFault.{LineFault}

@@ -1,5 +1,5 @@
 -- The words of a line, and what a name, a value and a number look like.
-use Rattle.std.specs.Prelude.{◌≡◌, ℕ, ◌+◌, ◌-◌, ◌*◌, ◌^◌, Bool, true, false, ◌&&◌, ◌||◌, not, List, [], ◌∷◌, length, Option, Some, None, Result, Ok, Err, nat_lt, nat_le, ◌==◌, if◌then◌else◌}
+use Rattle.std.specs.Prelude.{◌≡◌, ℕ, ◌+◌, ◌-◌, ◌*◌, ◌^◌, Bool, true, false, ◌&&◌, ◌||◌, not, List, [], ◌∷◌, length, Option, Some, None, Result, Ok, Err, nat_lt, nat_le, ◌==◌, codes, bytes_eq, if◌then◌else◌}
 use Rattle.std.specs.List.{slice_split, list_all}
 use Rattle.reclaimed_script.specs.declared.fault.LineFault.{LineFault}
 use Rattle.reclaimed_script.specs.declared.fault.LineFault.TheVariants.{BadWord, WrongNumberOfWords}
@@ -58,6 +58,10 @@ abbrev pub ◌>>=◌ : {A B : Type 0} → Result A LineFault → (A → Result B
 
 abbrev pub name_of : List ℕ → Result (List ℕ) LineFault
 name_of word = if is_name word then Ok word else Err BadWord
+
+-- a caller has a name, or a dash in its place
+abbrev pub caller_of : List ℕ → Result (List ℕ) LineFault
+caller_of word = if bytes_eq word (codes "-") then Ok word else name_of word
 
 abbrev pub value_of : List ℕ → Result (List ℕ) LineFault
 value_of word = if is_value word then Ok word else Err BadWord

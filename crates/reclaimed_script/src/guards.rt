@@ -1,14 +1,14 @@
 //! Reading the event on a guard that a line says, or on a map.
 ghost use Rattle.std.specs.Prelude.{◌≡◌, option_copied};
 ghost use Rattle.reclaimed_script.specs.Words.{words_left};
-ghost use Rattle.reclaimed_script.specs.Lines.{enter_of, refresh_of, flush_of, drop_of, forget_of, guard_event_from, Tells};
+ghost use Rattle.reclaimed_script.specs.Lines.{enter_of, own_of, refresh_of, flush_of, drop_of, forget_of, guard_event_from, Tells};
 
 use crate::fault::LineStop;
 use crate::kinds::name_of;
 use crate::maps::map_event_from;
 use crate::words::{one_of, two_of};
-use papaya_runs::event::Event;
 use papaya_runs::token::Token;
+use papaya_schedules::event::Event;
 use std::alloc::Global;
 
 #[tactic(auto, unfolding(crate::specs::Lines::enter_of))]
@@ -21,6 +21,16 @@ fn enter_of(alloc: Global, rest: Option<&[u8]>) -> Result<Event<u64, Token>, Lin
     Ok(Event::Enter {
         guard: Token::copy_of(alloc, guard)?,
         registration: Token::copy_of(alloc, registration)?,
+    })
+}
+
+#[tactic(auto, unfolding(crate::specs::Lines::own_of))]
+fn own_of(alloc: Global, rest: Option<&[u8]>) -> Result<Event<u64, Token>, LineStop>
+    ensures { Tells result (own_of (words_left (option_copied rest.entry))) }
+{
+    let guard = name_of(one_of(rest)?)?;
+    Ok(Event::Own {
+        guard: Token::copy_of(alloc, guard)?,
     })
 }
 
@@ -75,6 +85,8 @@ pub fn guard_event_from(
 {
     if first == b"enter".as_slice() {
         enter_of(alloc, rest)
+    } else if first == b"own".as_slice() {
+        own_of(alloc, rest)
     } else if first == b"refresh".as_slice() {
         refresh_of(alloc, rest)
     } else if first == b"flush".as_slice() {

@@ -1,7 +1,7 @@
 //! Reading a word as a name, a value or a number.
 ghost use Rattle.std.specs.Prelude.{◌≡◌};
 ghost use Rattle.std.specs.List.{list_all};
-ghost use Rattle.reclaimed_script.specs.Words.{is_digit, is_name_byte, is_value_byte, starts_well, is_decimal, name_of, value_of, number_of, number_between, Gives};
+ghost use Rattle.reclaimed_script.specs.Words.{is_digit, is_name_byte, is_value_byte, starts_well, is_decimal, name_of, caller_of, value_of, number_of, number_between, Gives};
 
 use crate::fault::LineFault;
 
@@ -43,6 +43,17 @@ pub fn name_of(word: &[u8]) -> Result<&[u8], LineFault>
         Ok(word)
     } else {
         Err(LineFault::BadWord)
+    }
+}
+
+/// A word as a caller's name, or the dash in its place.
+pub fn caller_of(word: &[u8]) -> Result<&[u8], LineFault>
+    ensures { Gives (λ x. x.now) result (caller_of word.now) }
+{
+    if word == b"-".as_slice() {
+        Ok(word)
+    } else {
+        name_of(word)
     }
 }
 

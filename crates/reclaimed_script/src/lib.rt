@@ -1,6 +1,7 @@
 //! The language of scripts: from the bytes of a script to its events.
 #![tactic(auto)]
 
+mod callers;
 mod calls;
 pub mod fault;
 mod guards;
@@ -9,6 +10,7 @@ mod line;
 mod maps;
 pub mod parser;
 pub mod reading;
+mod replies;
 pub mod setup;
 mod words;
 

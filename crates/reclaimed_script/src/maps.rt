@@ -1,15 +1,15 @@
-//! Reading the event on a map that a line says.
+//! Reading the event on a map that a line says, or of a caller.
 ghost use Rattle.std.specs.Prelude.{◌≡◌, Ok, option_copied};
 ghost use Rattle.reclaimed_script.specs.Words.{words_left};
 ghost use Rattle.reclaimed_script.specs.Lines.{incremental_of, blocking_of, map_of, end_of, shape_of, map_event_from, Tells};
 
-use crate::calls::call_of;
+use crate::callers::caller_event_from;
 use crate::fault::{LineFault, LineStop};
 use crate::kinds::{name_of, number_of};
 use crate::words::{next_of, one_of, two_of};
 use papaya_raw::ResizeMode;
-use papaya_runs::event::Event;
 use papaya_runs::token::Token;
+use papaya_schedules::event::Event;
 use std::alloc::Global;
 
 /// The event that makes a map, whose name is known.
@@ -92,7 +92,7 @@ fn shape_of(alloc: Global, rest: Option<&[u8]>) -> Result<Event<u64, Token>, Lin
     })
 }
 
-/// The event of a line on a map, whose first word this is.
+/// The event of a line on a map or of a caller, whose first word this is.
 #[tactic(auto, unfolding(crate::specs::Lines::map_event_from))]
 pub fn map_event_from(
     alloc: Global,
@@ -107,9 +107,7 @@ pub fn map_event_from(
         end_of(alloc, rest)
     } else if first == b"shape".as_slice() {
         shape_of(alloc, rest)
-    } else if first == b"call".as_slice() {
-        call_of(alloc, rest)
     } else {
-        Err(LineStop::Fault(LineFault::UnknownEvent))
+        caller_event_from(alloc, first, rest)
     }
 }

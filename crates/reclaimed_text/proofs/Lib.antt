@@ -1,3 +1,4 @@
 pub mod AscendingLemmas
+pub mod PairLemmas
 mod Samples
 pub mod Spelling

@@ -2,12 +2,15 @@
 ghost use Rattle.std.specs.Prelude.{◌≡◌, ◌++◌, codes, OnOk};
 ghost use Rattle.std.specs.Fmt.{decimal};
 ghost use Rattle.std.specs.List.{flat_map, zip};
-ghost use Rattle.reclaimed_text.specs.Text.{answer_line, back_line, back_lines, event_lines, line, numbered, outcome_line, refused_line, shape_line, table_shape};
+ghost use Rattle.reclaimed_text.specs.Text.{answer_line, asks_line, back_line, back_lines, event_lines, line, numbered, outcome_line, refused_line, shape_line, table_shape};
 
 use crate::pieces::append_numbered;
-use papaya_runs::outcome::{Answer, Effect, Outcome, TableShape};
-use papaya_runs::record::Run;
+use papaya_runs::outcome::TableShape;
 use papaya_runs::token::Token;
+use papaya_schedules::call::Answer;
+use papaya_schedules::effect::{Effect, Thing};
+use papaya_schedules::outcome::Outcome;
+use papaya_schedules::record::Run;
 use seize_words::Fault;
 use std::alloc::{AllocError, Global};
 
@@ -52,6 +55,44 @@ fn append_occupied_line(
     out.extend_from_slice(b"\n")
 }
 
+/// Appends the line of a call that stored a pair in the place of another one.
+fn append_updated_line(
+    alloc: Global,
+    out: &mut Vec<u8>,
+    run: &Run<u64, Token>,
+    old: u64,
+    new: u64,
+) -> Result<(), AllocError>
+    ensures { OnOk result (out.new.items ≡ out.old.items ++ line (codes "updated" ++ numbered run.now old ++ numbered run.now new)) }
+{
+    out.extend_from_slice(b"updated")?;
+    append_numbered(alloc, out, run, old)?;
+    append_pair_line(alloc, out, run, b"", new)
+}
+
+/// Appends the line of a call that did nothing, and what was given for it.
+fn append_aborted_line(out: &mut Vec<u8>, value: &Token) -> Result<(), AllocError>
+    ensures { OnOk result (out.new.items ≡ out.old.items ++ line (codes "aborted " ++ value.now)) }
+{
+    out.extend_from_slice(b"aborted ")?;
+    out.extend_from_slice(value.as_bytes())?;
+    out.extend_from_slice(b"\n")
+}
+
+/// Appends a line of a word and a number.
+fn append_number_line(
+    alloc: Global,
+    out: &mut Vec<u8>,
+    word: &[u8],
+    number: u64,
+) -> Result<(), AllocError>
+    ensures { OnOk result (out.new.items ≡ out.old.items ++ line (word.now ++ decimal number)) }
+{
+    let text = format!(in alloc; "{number}\n")?;
+    out.extend_from_slice(word)?;
+    out.extend_from_slice(text.as_bytes())
+}
+
 /// Appends the line of a call that was answered.
 fn append_answer_line(
     alloc: Global,
@@ -66,7 +107,28 @@ fn append_answer_line(
         Answer::Found(number) => append_pair_line(alloc, out, run, b"some", *number),
         Answer::Stored(number) => append_pair_line(alloc, out, run, b"stored", *number),
         Answer::Occupied { there, value } => append_occupied_line(alloc, out, run, *there, value),
-        Answer::Reserved => out.extend_from_slice(b"ok\n"),
+        Answer::Kept(number) => append_pair_line(alloc, out, run, b"kept", *number),
+        Answer::Inserted(number) => append_pair_line(alloc, out, run, b"inserted", *number),
+        Answer::Updated { old, new } => append_updated_line(alloc, out, run, *old, *new),
+        Answer::Removed(number) => append_pair_line(alloc, out, run, b"removed", *number),
+        Answer::Aborted(value) => append_aborted_line(out, value),
+        Answer::Completed => out.extend_from_slice(b"ok\n"),
+        Answer::Counted(count) => append_number_line(alloc, out, b"len ", *count),
+    }
+}
+
+/// Appends the line of a call that asks about a pair, or about none.
+fn append_asks_line(
+    alloc: Global,
+    out: &mut Vec<u8>,
+    run: &Run<u64, Token>,
+    question: Option<u64>,
+) -> Result<(), AllocError>
+    ensures { OnOk result (out.new.items ≡ out.old.items ++ asks_line run.now question) }
+{
+    match question {
+        None => out.extend_from_slice(b"asks none\n"),
+        Some(number) => append_pair_line(alloc, out, run, b"asks", number),
     }
 }
 
@@ -93,14 +155,6 @@ fn append_shape_line(
     out.extend_from_slice(b"\n")
 }
 
-/// Appends the line of a slot that was taken.
-fn append_slot_line(alloc: Global, out: &mut Vec<u8>, slot: u64) -> Result<(), AllocError>
-    ensures { OnOk result (out.new.items ≡ out.old.items ++ line (codes "slot " ++ decimal slot)) }
-{
-    let text = format!(in alloc; "slot {slot}\n")?;
-    out.extend_from_slice(text.as_bytes())
-}
-
 /// Appends the line of what an event came to.
 fn append_outcome_line(
     alloc: Global,
@@ -112,10 +166,14 @@ fn append_outcome_line(
 {
     match outcome {
         Outcome::Done => out.extend_from_slice(b"ok\n"),
-        Outcome::Slot(slot) => append_slot_line(alloc, out, *slot),
+        Outcome::Slot(slot) => append_number_line(alloc, out, b"slot ", *slot),
+        Outcome::Goes => out.extend_from_slice(b"goes\n"),
+        Outcome::Asks(question) => append_asks_line(alloc, out, run, *question),
+        Outcome::Waits => out.extend_from_slice(b"waits\n"),
+        Outcome::Ready => out.extend_from_slice(b"ready\n"),
+        Outcome::Shows(number) => append_pair_line(alloc, out, run, b"some", *number),
         Outcome::Answered(answer) => append_answer_line(alloc, out, run, answer),
         Outcome::Shape(tables) => append_shape_line(alloc, out, tables),
-        Outcome::Goes => out.extend_from_slice(b"goes\n"),
         Outcome::Refused(fault) => append_refused_line(alloc, out, *fault),
     }
 }
@@ -130,7 +188,7 @@ fn append_back_line(
     ensures { OnOk result (out.new.items ≡ out.old.items ++ back_line run.now effect) }
 {
     match effect {
-        Effect::Reclaimed(number) | Effect::Ended(number) => {
+        Effect::Reclaimed(Thing::APair(number)) | Effect::Ended(number) => {
             append_pair_line(alloc, out, run, b"back", number)
         }
         _ => Ok(()),

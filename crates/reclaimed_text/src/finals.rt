@@ -3,12 +3,13 @@ ghost use Rattle.std.specs.Prelude.{◌≡◌, ◌++◌, map, OnOk, IfOk};
 ghost use Rattle.std.specs.List.Sorted.{IsNonDecreasingBy, IsPermutation};
 ghost use Rattle.std.specs.List.{flat_map, filter_map};
 ghost use Rattle.reclaimed_text.specs.Ascending.{ascending};
-ghost use Rattle.papaya_runs.specs.Record.{pair_of};
-ghost use Rattle.reclaimed_text.specs.Text.{entry, final_lines, map_line, tag, waiting_line};
+ghost use Rattle.papaya_schedules.specs.Runs.{pair_of};
+ghost use Rattle.reclaimed_text.specs.Text.{by_name, entry, final_lines, map_line, name_number, tag, waiting_line};
 
-use crate::pieces::{append_entry, append_tag};
-use papaya_runs::record::{Living, Pair, Run};
+use crate::pieces::{append_entry, append_tag, pair_of};
+use papaya_runs::record::{Living, Pair};
 use papaya_runs::token::Token;
+use papaya_schedules::record::Run;
 use std::alloc::{AllocError, Global};
 
 /// The pairs of these numbers, in ascending order of keys.
@@ -27,12 +28,36 @@ fn in_order<'a>(
 {
     let mut pairs = Vec::new(alloc);
     for number in numbers {
-        if let Some(pair) = run.pair(*number) {
+        if let Some(pair) = pair_of(run, *number) {
             pairs.push(pair)?;
         }
     }
     pairs.sort_by_key(|pair| pair.key)?;
     Ok(pairs)
+}
+
+/// The bytes of a name as digits of a number in base 256, of which the first has this weight.
+fn name_number(weight: u128, name: &[u8]) -> u128
+    ensures { result ≡ name_number weight name.now }
+{
+    match name.split_first() {
+        None => 0,
+        Some((byte, rest)) => u128::from(*byte)
+            .wrapping_mul(weight)
+            .wrapping_add(name_number(weight / 256, rest)),
+    }
+}
+
+/// The maps in the order of their names.
+fn by_name(alloc: Global, maps: &[Living]) -> Result<Vec<&Living>, AllocError>
+    ensures { IfOk result (λ sorted. map (λ living. living.now) sorted.items ≡ by_name maps.now) }
+{
+    let mut sorted = Vec::new(alloc);
+    for living in maps {
+        sorted.push(living)?;
+    }
+    sorted.sort_by_key(|living| name_number(1 << 120, living.name.as_bytes()))?;
+    Ok(sorted)
 }
 
 /// Appends a map's line.
@@ -71,7 +96,7 @@ pub fn append_final_lines(
 ) -> Result<(), AllocError>
     ensures { OnOk result (out.new.items ≡ out.old.items ++ final_lines run.now) }
 {
-    for living in &run.maps {
+    for living in &by_name(alloc, &run.maps)? {
         append_map_line(alloc, out, run, living)?;
     }
     append_waiting_line(alloc, out, &run.waiting)?;

@@ -1,10 +1,23 @@
-//! The text of a pair.
+//! The pair of a number, and its text.
 ghost use Rattle.std.specs.Prelude.{◌≡◌, ◌++◌, OnOk};
+ghost use Rattle.std.specs.Option.{option_copied};
+ghost use Rattle.papaya_schedules.specs.Runs.{pair_of};
 ghost use Rattle.reclaimed_text.specs.Text.{entry, numbered, tag};
 
-use papaya_runs::record::{Pair, Run};
+use papaya_runs::record::Pair;
 use papaya_runs::token::Token;
+use papaya_schedules::record::Run;
 use std::alloc::{AllocError, Global};
+
+/// The stored pair of this number, or none where the run stored fewer.
+pub fn pair_of(run: &Run<u64, Token>, number: u64) -> Option<&Pair<u64, Token>>
+    ensures { option_copied result ≡ pair_of run.now number }
+{
+    match run.given_back.find(number) {
+        Some(pair) => Some(pair),
+        None => run.kept.find(number),
+    }
+}
 
 /// Appends the number of a pair.
 pub fn append_tag(alloc: Global, out: &mut Vec<u8>, number: u64) -> Result<(), AllocError>
@@ -24,7 +37,7 @@ pub fn append_numbered(
     ensures { OnOk result (out.new.items ≡ out.old.items ++ numbered run.now number) }
 {
     append_tag(alloc, out, number)?;
-    if let Some(pair) = run.pair(number) {
+    if let Some(pair) = pair_of(run, number) {
         let key = format!(in alloc; " {} ", pair.key)?;
         out.extend_from_slice(key.as_bytes())?;
         out.extend_from_slice(pair.value.as_bytes())?;

@@ -4,8 +4,8 @@ ghost use Rattle.reclaimed_text.specs.Text as spelled;
 
 use crate::events::append_events;
 use crate::finals::append_final_lines;
-use papaya_runs::record::Run;
 use papaya_runs::token::Token;
+use papaya_schedules::record::Run;
 use std::alloc::{AllocError, Global};
 
 /// All that is printed for a run: its events in their order, and what is left at the end.

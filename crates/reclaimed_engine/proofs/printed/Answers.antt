@@ -1,9 +1,10 @@
-use Rattle.std.proofs.Common.{◌≡◌, ap, ◌∙◌, subst, nat_eq}
-use Rattle.papaya_runs.specs.Runs.{IsRunOf}
-use Rattle.reclaimed_script.specs.Script.{setup_of}
+use Rattle.std.proofs.Common.{◌≡◌, ap, ◌∙◌, subst}
+use Rattle.papaya_running.specs.Run.{IsRightRun, bounded}
+use Rattle.papaya_scheduler.specs.Played.{terms_given}
+use Rattle.reclaimed_engine.specs.Engine.{terms_of}
 use Rattle.reclaimed_engine.proofs.printed.Goals as goal
 
 pub returns-clause-ok : goal.returns-clause-ok
 returns-clause-ok c =
-    let asked : c.setup_of-setup.result.batch_size ≡ (setup_of c.args.script.events.items).batch_size = ap (λ setup. setup.batch_size) (c.setup_of-setup.ensures ∙ ap setup_of c.deref.ensures.value) in
-    (c.in-Ok.run', (subst (λ batch_size. IsRunOf nat_eq batch_size c.args.script.events.items c.in-Ok.run') asked c.in-Ok.ensures.run, c.in-Ok.ensures.ends), c.in-Ok-text_of.ensures)
+    let asked : terms_given (bounded c.given_for-given.result) ≡ terms_of c.args.script.events.items = c.given_for-given.ensures ∙ ap terms_of c.deref.ensures.value in
+    (c.in-Ok.run', subst (λ terms. IsRightRun terms c.args.script.events.items c.in-Ok.run') asked c.in-Ok.ensures.run, c.in-Ok-text_of.ensures)

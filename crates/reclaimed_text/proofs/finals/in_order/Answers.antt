@@ -5,7 +5,7 @@ use Rattle.std.proofs.lemmas.Grind.{common_steps}
 use Rattle.std.proofs.lemmas.List.Elements.{filter_map-append}
 use Rattle.std.proofs.lemmas.List.Sorted.{IsNonDecreasingBy-from_sort_by_key, IsPermutation-map, answers_always}
 use Rattle.reclaimed_text.specs.Ascending.{ascending}
-use Rattle.papaya_runs.specs.Record.{pair_of}
+use Rattle.papaya_schedules.specs.Runs.{pair_of}
 use Rattle.reclaimed_text.specs.Text.{WordPair}
 use Rattle.reclaimed_text.proofs.AscendingLemmas.{ascending_is, ascending-map}
 use Rattle.reclaimed_text.proofs.finals.in_order.Goals as goal

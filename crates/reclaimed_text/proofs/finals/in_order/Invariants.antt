@@ -1,6 +1,6 @@
 use Rattle.std.proofs.Common.{◌≡◌, map, take}
 use Rattle.std.specs.List.{filter_map}
-use Rattle.papaya_runs.specs.Record.{pair_of}
+use Rattle.papaya_schedules.specs.Runs.{pair_of}
 use Rattle.reclaimed_text.proofs.finals.in_order.Given as goal
 
 abbrev pub invariant-loop-number : goal.invariant-loop-number

@@ -1,3 +1,0 @@
--- A map that begins, run to its end.
-pub mod Places
-pub mod Run

@@ -1,3 +1,0 @@
--- A map that ends, run to its end.
-pub mod Added
-pub mod Run

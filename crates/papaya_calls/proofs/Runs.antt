@@ -1,3 +1,0 @@
--- Machines of the map that run alone, step by step to their ends.
-pub mod Calls
-pub mod Reservations

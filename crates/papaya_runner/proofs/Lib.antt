@@ -1,5 +1,0 @@
-mod Holders
-mod Maps
-mod Reclaiming
-mod Standing
-pub mod Turns

@@ -1,2 +1,0 @@
-pub mod AllGiven
-pub mod Stands

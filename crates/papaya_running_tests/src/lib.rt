@@ -1,0 +1,13 @@
+//! Tests of the runner: schedules with what each event comes to and does, and calls that are refused memory.
+#![tactic(auto)]
+
+#[cfg(test)]
+mod deeds;
+#[cfg(test)]
+mod refused;
+#[cfg(test)]
+mod rows;
+#[cfg(test)]
+mod schedules;
+#[cfg(test)]
+mod steps;

@@ -1,0 +1,493 @@
+//! Schedules, what each of their events comes to and does, and how the runs end.
+use crate::deeds::Deed::{
+    self, Back, Block, Bucket, Copied, Counted, Deferred, Ended, GivenUp, Linked, Pair, Promoted,
+    Removed, Replaced, Retired, Stored, TableBack, TableMade, TableRetired, Taken,
+};
+use crate::steps::Made::{Compute, Insert, Remove, RemoveIf, TryInsert, Walk};
+use crate::steps::Step::{
+    Call, Choose, Close, End, Enter, Go, Leave, Make, MakeOther, Next, ReclaimAll, Register, Says,
+    Shape, Stop, Unregister,
+};
+use crate::steps::Told::{Decides, Gives};
+use crate::steps::{ABSENT, BUSY, DONE, GOES, READY, SLOT, Shown, Step, ZERO_CHUNK, shown};
+use papaya_raw::ResizeMode::{Blocking, Incremental};
+use papaya_running::running::run;
+use papaya_runs::event::Setup;
+use papaya_runs::key_hash::KeyHash;
+use papaya_scheduler::scheduler::Given;
+use papaya_schedules::effect::Effect;
+use papaya_schedules::record::Run;
+use std::alloc::Global;
+use std::process::Abort;
+use std::test::Fail;
+
+/// An event, what it comes to, and what it does.
+type Line = (Step, Shown, &'static [Deed]);
+
+/// The lines of a schedule, and what its run tells at its end.
+#[derive(Clone, Copy)]
+struct Schedule {
+    batch_size: u64,
+    parts: &'static [&'static [Line]],
+    stored: u64,
+    given_back: usize,
+    waiting: &'static [u64],
+    tables: u64,
+    /// How many pairs the map has, if it lives.
+    living: Option<usize>,
+}
+
+const SMALL: [Line; 3] = [
+    (Register, SLOT, &[Bucket]),
+    (Make(Incremental(64), 0), DONE, &[Block]),
+    (Enter, DONE, &[]),
+];
+
+const INCREMENTAL: [Line; 3] = [
+    (Register, SLOT, &[Bucket]),
+    (
+        Make(Incremental(1), 6),
+        DONE,
+        &[Block, Block, TableMade(0), Linked(0, 8, 7)],
+    ),
+    (Enter, DONE, &[]),
+];
+
+const BLOCKING: [Line; 3] = [
+    (Register, SLOT, &[Bucket]),
+    (
+        Make(Blocking, 6),
+        DONE,
+        &[Block, Block, TableMade(0), Linked(0, 8, 7)],
+    ),
+    (Enter, DONE, &[]),
+];
+
+const EIGHT: [Line; 8] = [
+    (
+        Call(Insert(0, 0)),
+        ABSENT,
+        &[Block, Pair, Stored(1, 0, 0), Counted],
+    ),
+    (
+        Call(Insert(1, 1)),
+        ABSENT,
+        &[Block, Pair, Stored(2, 0, 1), Counted],
+    ),
+    (
+        Call(Insert(2, 2)),
+        ABSENT,
+        &[Block, Pair, Stored(3, 0, 2), Counted],
+    ),
+    (
+        Call(Insert(3, 3)),
+        ABSENT,
+        &[Block, Pair, Stored(4, 0, 3), Counted],
+    ),
+    (
+        Call(Insert(4, 4)),
+        ABSENT,
+        &[Block, Pair, Stored(5, 0, 4), Counted],
+    ),
+    (
+        Call(Insert(5, 5)),
+        ABSENT,
+        &[Block, Pair, Stored(6, 0, 5), Counted],
+    ),
+    (
+        Call(Insert(6, 6)),
+        ABSENT,
+        &[Block, Pair, Stored(7, 0, 6), Counted],
+    ),
+    (
+        Call(Insert(7, 7)),
+        ABSENT,
+        &[Block, Pair, Stored(8, 0, 7), Counted],
+    ),
+];
+
+/// The ninth pair makes a second table, and the first one carries what leaves the second.
+const CARRIES: [Line; 2] = [
+    (
+        Call(Insert(8, 8)),
+        ABSENT,
+        &[
+            Block,
+            Pair,
+            Block,
+            TableMade(1),
+            Linked(1, 16, 15),
+            Copied(1, 1, 0),
+            Stored(9, 1, 8),
+            Counted,
+        ],
+    ),
+    (
+        Call(Remove(0)),
+        ("found", 1, 0),
+        &[Copied(2, 1, 1), Removed(1), Counted, Deferred(1, 0)],
+    ),
+];
+
+const LEAVES: [Line; 1] = [(Leave, DONE, &[])];
+
+/// The map ends while a table carries two of its pairs. Afterwards nothing but what is open can end.
+const ENDS: [Line; 6] = [
+    (
+        Call(Remove(1)),
+        ("found", 2, 0),
+        &[Copied(3, 1, 2), Removed(2), Counted, Deferred(2, 0)],
+    ),
+    (
+        End,
+        DONE,
+        &[
+            Ended(4),
+            Ended(5),
+            Ended(6),
+            Ended(7),
+            Ended(8),
+            Ended(3),
+            Ended(9),
+            Taken(0),
+            Taken(1),
+        ],
+    ),
+    (End, BUSY, &[]),
+    (MakeOther(Incremental(1)), BUSY, &[]),
+    (ReclaimAll, BUSY, &[]),
+    (Leave, DONE, &[]),
+];
+
+/// What a table deferred waits until all is reclaimed.
+const GIVES_BACK: [Line; 4] = [
+    (Unregister, DONE, &[]),
+    (ReclaimAll, DONE, &[Back(2), Back(1)]),
+    (ReclaimAll, DONE, &[]),
+    (Close, DONE, &[]),
+];
+
+/// What was retired waits on as its map ends.
+const RETIRES: [Line; 8] = [
+    (
+        Call(Insert(8, 8)),
+        ABSENT,
+        &[
+            Block,
+            Pair,
+            Block,
+            TableMade(1),
+            Linked(1, 16, 15),
+            Copied(1, 1, 0),
+            Copied(2, 1, 1),
+            Copied(3, 1, 2),
+            Copied(4, 1, 3),
+            Copied(5, 1, 4),
+            Copied(6, 1, 5),
+            Copied(7, 1, 6),
+            Copied(8, 1, 7),
+            Promoted(1),
+            TableRetired(0),
+            Stored(9, 1, 8),
+            Counted,
+        ],
+    ),
+    (
+        Call(Remove(0)),
+        ("found", 1, 0),
+        &[Removed(1), Counted, Retired(1)],
+    ),
+    (
+        Call(Remove(1)),
+        ("found", 2, 0),
+        &[Removed(2), Counted, Retired(2)],
+    ),
+    (
+        End,
+        DONE,
+        &[
+            Ended(3),
+            Ended(4),
+            Ended(5),
+            Ended(6),
+            Ended(7),
+            Ended(8),
+            Ended(9),
+            Taken(1),
+        ],
+    ),
+    (End, BUSY, &[]),
+    (MakeOther(Blocking), BUSY, &[]),
+    (ReclaimAll, BUSY, &[]),
+    (Leave, DONE, &[Back(2), Back(1), TableBack(0)]),
+];
+
+/// A map reclaims its pairs as it ends, and a value that found its key taken comes back at once.
+const OCCUPIED: [Line; 4] = [
+    (
+        Call(TryInsert(37, 1)),
+        ("stored", 1, 0),
+        &[
+            Block,
+            Pair,
+            Block,
+            TableMade(0),
+            Linked(0, 32, 25),
+            Stored(1, 0, 5),
+            Counted,
+        ],
+    ),
+    (
+        Call(TryInsert(37, 2)),
+        ("occupied", 1, 2),
+        &[Block, Pair, GivenUp],
+    ),
+    (Leave, DONE, &[]),
+    (End, DONE, &[Ended(1), Taken(0)]),
+];
+
+/// A collector reclaims all that waits as it ends.
+const CLOSES: [Line; 8] = [
+    (
+        Call(Insert(1, 1)),
+        ABSENT,
+        &[
+            Block,
+            Pair,
+            Block,
+            TableMade(0),
+            Linked(0, 32, 25),
+            Stored(1, 0, 1),
+            Counted,
+        ],
+    ),
+    (
+        Call(Insert(1, 2)),
+        ("found", 1, 0),
+        &[Block, Pair, Replaced(1), Stored(2, 0, 1), Retired(1)],
+    ),
+    (
+        Call(Insert(2, 3)),
+        ABSENT,
+        &[Block, Pair, Stored(3, 0, 2), Counted],
+    ),
+    (
+        Call(Remove(2)),
+        ("found", 3, 0),
+        &[Removed(3), Counted, Retired(3)],
+    ),
+    (Leave, DONE, &[]),
+    (End, DONE, &[Ended(2), Taken(0)]),
+    (Unregister, DONE, &[]),
+    (Close, DONE, &[Back(1), Back(3)]),
+];
+
+/// The collector ends last, and each event after it is refused.
+const COMES_LATE: [Line; 12] = [
+    (Close, BUSY, &[]),
+    (Leave, DONE, &[]),
+    (End, DONE, &[]),
+    (Close, BUSY, &[]),
+    (Unregister, DONE, &[]),
+    (Close, DONE, &[]),
+    (Close, BUSY, &[]),
+    (ReclaimAll, BUSY, &[]),
+    (Choose(0), BUSY, &[]),
+    (Register, BUSY, &[]),
+    (MakeOther(Incremental(1)), BUSY, &[]),
+    (MakeOther(Incremental(0)), ZERO_CHUNK, &[]),
+];
+
+/// A call that asks makes what it needs once it was told, and a walk completes the resize.
+const ASKS: [Line; 10] = [
+    (Call(Compute(8)), ("asks", 0, 0), &[]),
+    (Says(Gives(8)), GOES, &[]),
+    (
+        Go,
+        ("inserted", 9, 0),
+        &[
+            Block,
+            TableMade(1),
+            Linked(1, 16, 15),
+            Copied(1, 1, 0),
+            Block,
+            Pair,
+            Stored(9, 1, 8),
+            Counted,
+        ],
+    ),
+    (Call(RemoveIf(0)), ("asks", 1, 0), &[Copied(2, 1, 1)]),
+    (Says(Decides(true)), GOES, &[]),
+    (Go, ("found", 1, 0), &[Removed(1), Counted, Deferred(1, 0)]),
+    (
+        Call(Walk),
+        READY,
+        &[
+            Copied(3, 1, 2),
+            Copied(4, 1, 3),
+            Copied(5, 1, 4),
+            Copied(6, 1, 5),
+            Copied(7, 1, 6),
+            Copied(8, 1, 7),
+            Promoted(1),
+            TableRetired(0),
+        ],
+    ),
+    (Next, ("shows", 2, 0), &[]),
+    (Stop, DONE, &[]),
+    (Leave, DONE, &[TableBack(0), Back(1)]),
+];
+
+const SCHEDULES: [Schedule; 8] = [
+    Schedule {
+        batch_size: 1,
+        parts: &[&INCREMENTAL, &EIGHT, &CARRIES, &LEAVES],
+        stored: 9,
+        given_back: 0,
+        waiting: &[1],
+        tables: 0,
+        living: Some(8),
+    },
+    Schedule {
+        batch_size: 1,
+        parts: &[&INCREMENTAL, &EIGHT, &CARRIES, &ENDS],
+        stored: 9,
+        given_back: 7,
+        waiting: &[1, 2],
+        tables: 0,
+        living: None,
+    },
+    Schedule {
+        batch_size: 1,
+        parts: &[&INCREMENTAL, &EIGHT, &CARRIES, &ENDS, &GIVES_BACK],
+        stored: 9,
+        given_back: 9,
+        waiting: &[],
+        tables: 0,
+        living: None,
+    },
+    Schedule {
+        batch_size: 1,
+        parts: &[&INCREMENTAL, &EIGHT, &ASKS],
+        stored: 9,
+        given_back: 1,
+        waiting: &[],
+        tables: 0,
+        living: Some(8),
+    },
+    Schedule {
+        batch_size: 1,
+        parts: &[&BLOCKING, &EIGHT, &RETIRES],
+        stored: 9,
+        given_back: 9,
+        waiting: &[],
+        tables: 0,
+        living: None,
+    },
+    Schedule {
+        batch_size: 1,
+        parts: &[&SMALL, &OCCUPIED],
+        stored: 1,
+        given_back: 1,
+        waiting: &[],
+        tables: 0,
+        living: None,
+    },
+    Schedule {
+        batch_size: 32,
+        parts: &[&SMALL, &CLOSES],
+        stored: 3,
+        given_back: 3,
+        waiting: &[],
+        tables: 0,
+        living: None,
+    },
+    Schedule {
+        batch_size: 1,
+        parts: &[&SMALL, &COMES_LATE],
+        stored: 0,
+        given_back: 0,
+        waiting: &[],
+        tables: 0,
+        living: None,
+    },
+];
+
+fn given(batch_size: u64) -> Given {
+    Given {
+        setup: Setup {
+            batch_size,
+            processors: 1,
+            roots: 1,
+        },
+        is_one_by_one: true,
+        is_one_map: true,
+    }
+}
+
+/// Runs the events of these lines.
+fn played(alloc: Global, batch_size: u64, parts: &[&[Line]]) -> Result<Run<u64, u64>, Fail> {
+    let mut events = Vec::new(alloc);
+    for part in parts {
+        for (step, _, _) in *part {
+            events.push(step.event(alloc)?)?;
+        }
+    }
+    Ok(run(
+        alloc,
+        given(batch_size),
+        KeyHash::Key,
+        events,
+        Vec::new(alloc),
+    )?)
+}
+
+/// An event did this.
+fn did_so(rt: &impl Abort, did: &[Effect], does: &[Deed]) {
+    assert_eq!(rt; did.len(), does.len());
+    for (effect, deed) in did.iter().zip(does.iter()) {
+        assert_eq!(rt; *effect, deed.effect());
+    }
+}
+
+/// Each event came to what its line says, and did it.
+fn is_as_told(rt: &impl Abort, run: &Run<u64, u64>, parts: &[&[Line]]) {
+    let mut outcomes = run.outcomes.iter();
+    let mut effects = run.effects.iter();
+    for part in parts {
+        for (_, comes_to, does) in *part {
+            match (outcomes.next(), effects.next()) {
+                (Some(outcome), Some(did)) => {
+                    assert_eq!(rt; shown(outcome), *comes_to);
+                    did_so(rt, did.as_slice(), does);
+                }
+                _ => panic!(rt; "an event is missing"),
+            }
+        }
+    }
+}
+
+/// The run tells this at its end.
+fn ends_as_told(rt: &impl Abort, run: &Run<u64, u64>, schedule: &Schedule) {
+    assert_eq!(rt;
+        (run.stored, run.given_back.len(), run.tables),
+        (schedule.stored, schedule.given_back, schedule.tables)
+    );
+    assert_eq!(rt; run.waiting.as_slice(), schedule.waiting);
+    match (run.maps.first(), schedule.living) {
+        (None, None) => assert_eq!(rt; run.kept.len(), schedule.waiting.len()),
+        (Some(map), Some(pairs)) => assert_eq!(rt; map.pairs.len(), pairs),
+        _ => panic!(rt; "another map"),
+    }
+}
+
+#[test]
+fn schedules_come_to_what_is_told_of_them(rt: HostRuntime) -> Result<(), Fail> {
+    let alloc = rt.alloc();
+    for schedule in SCHEDULES {
+        let run = played(alloc, schedule.batch_size, schedule.parts)?;
+        is_as_told(&rt, &run, schedule.parts);
+        ends_as_told(&rt, &run, &schedule);
+    }
+    Ok(())
+}

@@ -1,3 +1,0 @@
--- All that waits is reclaimed.
-pub mod Behind
-pub mod Everything

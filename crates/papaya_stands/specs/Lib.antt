@@ -1,4 +1,0 @@
-pub mod Alike
-pub mod CallEnds
-pub mod Collects
-pub mod Reclaiming

@@ -1,2 +1,0 @@
-mod Calls
-mod Turns

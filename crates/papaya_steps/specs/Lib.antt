@@ -1,4 +1,0 @@
-pub mod Applied
-pub mod Called
-pub mod ReservedSo
-pub mod Served
