@@ -14,13 +14,17 @@ use Rattle.papaya_histories.specs.Given.Schedules.Moment.{UnderWay as CallThere,
 use Rattle.papaya_histories.specs.Given.Schedules.Views.{call_of}
 use Rattle.papaya_histories.specs.Given.Effects.Effects.{effects_of}
 use Rattle.papaya_histories.specs.Given.Effects.declared.acting.Acting.TheVariants as acts
-use Rattle.papaya_histories.specs.Given.Executor.IsAt.{IsAt}
+use Rattle.papaya_histories.specs.Given.Callers.Together.{UnderWay}
+use Rattle.papaya_histories.specs.Given.Effects.Known.{Known}
+use Rattle.papaya_histories.specs.Given.Executor.IsAt.{IsAt, Scene}
+use Rattle.papaya_histories.specs.Given.Moments.Whole.{ShowsWhole}
 use Rattle.papaya_histories.specs.Given.Executor.Stepping.{StepLeads}
 use Rattle.papaya_histories.specs.Given.Executor.declared.executor.Executor.{Executor}
 use Rattle.papaya_histories.specs.InEvent.{here_of}
 use Rattle.papaya_settles.specs.Hand.{in_hand}
 use Rattle.papaya_settles.specs.Owing.{AllLeave, HandsFirst, HandsOver, KeepsOwed, OwesGo, Passes, PutsOver, TakesOut, leaves_owed}
 use Rattle.papaya_settles.proofs.Hand.All.{calls_go_in_hand}
+use Rattle.papaya_kept.specs.Kept.{ShowsKept}
 use Rattle.papaya_kept.proofs.Calls.{own_made}
 use Rattle.papaya_legal.specs.CallEvents.{InCallEvent}
 use Rattle.papaya_legal.specs.Chains.{CallCome, CallSteps}
@@ -69,6 +73,28 @@ module _ {K V : Type 0} (own : List ℕ) (acted : Option ℕ) where
         tt,
       )
 
+-- Events: one of a call hands over in order where its effects do, one of no call does, and so does one that does nothing.
+module _ {K V : Type 0} (log : List (Entry K V)) (e : Entry K V) where
+  b : Moment K V
+  b = at_work e (moment log)
+
+  pub event_in_order : (own : List ℕ) (map : ℕ) (beginning : Moment K V) → caller_of e.event ≡ Some own → at_work e (moment log) ≡ beginning → acted_on e.event beginning ≡ Some map
+      → HandInOrder (Some own) (Some map) e.effects beginning → HandsInOrder log e
+  event_in_order own map beginning of_call begins acted hands =
+      subst (λ (who : Option (List ℕ)). HandInOrder who (acted_on e.event b) e.effects b) (sym of_call)
+      (subst (λ (x : Moment K V). HandInOrder (Some own) (acted_on e.event x) e.effects x) (sym begins)
+      (subst (λ (o : Option ℕ). HandInOrder (Some own) o e.effects beginning) (sym acted) hands))
+
+  pub none_in_order : caller_of e.event ≡ None → HandsInOrder log e
+  none_in_order none = subst (λ (who : Option (List ℕ)). HandInOrder who (acted_on e.event b) e.effects b) (sym none) (all e.effects b)
+    where
+      all : (effects : List Effect) (m : Moment K V) → HandInOrder None (acted_on e.event b) effects m
+      all [] m = tt
+      all (f ∷ fs) m = (tt, all fs (with_effect None (acted_on e.event b) f m))
+
+  pub idle_in_order : e.effects ≡ [] → HandsInOrder log e
+  idle_in_order none = subst (λ (l : List Effect). HandInOrder (caller_of e.event) (acted_on e.event b) l b) (sym none) tt
+
 module _ (K V S : Type 0) (same : K → K → Bool) (hash : K → ℕ) where
   pub steps_hand_in_order : StepsHandInOrder K V S same hash
   steps_hand_in_order name m known s old new at whole kept map i u here said leads =
@@ -79,35 +105,39 @@ module _ (K V S : Type 0) (same : K → K → Bool) (hash : K → ℕ) where
       let then_in_hand = in_hand known (leads map u here).1 in
       in_order (name i) (Some map) effects m c.0 c.1 then_in_hand (subst (λ (l : List Thing). OwesGo m effects l then_in_hand) (sym (kept.owed.owed map i u here c.0 c.1)) goes.0)
 
+  -- so they do behind what an event has done so far
+  pub more_in_order : (name : ℕ → List ℕ) (m : Moment K V) (known : Known) (s : Scene K V) (old new : Executor K V S) → IsAt same hash old s → ShowsWhole same name m known s → ShowsKept name m known s
+      → (map i : ℕ) (u : UnderWay K V K) → s.calls map i ≡ Some u → (said : Progress (Node K V)) → StepLeads same hash i said s old new
+      → (done : List Effect) (beginning : Moment K V) → m ≡ with_effects (Some (name i)) (Some map) done beginning → HandInOrder (Some (name i)) (Some map) done beginning
+      → HandInOrder (Some (name i)) (Some map) (done ++ effects_of (acts.Call i map) known new.memory.changed) beginning
+  more_in_order name m known s old new at whole kept map i u here said leads done beginning so hands =
+      let did = effects_of (acts.Call i map) known new.memory.changed in
+      each_join (λ v f. IfCall (IsOwedFirst f) (acting (Some (name i)) v)) (Some (name i)) (Some map) done did beginning hands
+      (subst (λ (v : Moment K V). HandInOrder (Some (name i)) (Some map) did v) so (steps_hand_in_order name m known s old new at whole kept map i u here said leads))
+
   pub call_events_hand_in_order : CallEventsHandInOrder K V S same hash
   call_events_hand_in_order name terms log beginning map i c e n first last midst none chain new at said leads begins acted effects_are =
-      subst (λ (who : Option (List ℕ)). HandInOrder who (acted_on e.event b) e.effects b) (sym midst.of_call)
-      (subst (λ (x : Moment K V). HandInOrder (Some (name i)) (acted_on e.event x) e.effects x) (sym begins)
-      (subst (λ (o : Option ℕ). HandInOrder (Some (name i)) o e.effects beginning) (sym acted)
-      (subst (λ (l : List Effect). HandInOrder (Some (name i)) (Some map) l beginning) (sym effects_are) (after_one last so new said at leads))))
+      event_in_order log e (name i) map beginning midst.of_call begins acted (subst (λ (l : List Effect). HandInOrder (Some (name i)) (Some map) l beginning) (sym effects_are) (after_one last so new said at leads))
     where
-      b : Moment K V
-      b = at_work e (moment log)
-
       -- how far the event has come is in its midst, and what it did handed over in order
       SoFar : CallCome K V S → Type 0
       SoFar x =
           InCallEvent same name terms log e.event beginning map i c x.steps x.come.did x.come.now x.come.notes x.come.scene x.under
           × HandInOrder (Some (name i)) (Some map) x.come.did beginning
 
+      its_here : (x : CallCome K V S) → SoFar x → x.come.scene.calls map i ≡ Some x.under
+      its_here x so_far = here_of same name log beginning map i c x.come.did x.come.now x.come.notes x.come.scene x.under so_far.0.event_so
+
       after_one : (x : CallCome K V S) → SoFar x → (then_executor : Executor K V S) (told : Progress (Node K V)) → IsAt same hash x.come.executor x.come.scene
           → StepLeads same hash i told x.come.scene x.come.executor then_executor
           → HandInOrder (Some (name i)) (Some map) (x.come.did ++ effects_of (acts.Call i map) x.come.notes then_executor.memory.changed) beginning
       after_one x so_far then_executor told at_x leads_x =
-          let here = here_of same name log beginning map i c x.come.did x.come.now x.come.notes x.come.scene x.under so_far.0.event_so in
-          let did = effects_of (acts.Call i map) x.come.notes then_executor.memory.changed in
-          each_join (λ v f. IfCall (IsOwedFirst f) (acting (Some (name i)) v)) (Some (name i)) (Some map) x.come.did did beginning so_far.1
-          (subst (λ (v : Moment K V). HandInOrder (Some (name i)) (Some map) did v) so_far.0.worked
-          (steps_hand_in_order name x.come.now x.come.notes x.come.scene x.come.executor then_executor at_x so_far.0.calls.whole so_far.0.calls.kept map i x.under here told leads_x))
+          more_in_order name x.come.now x.come.notes x.come.scene x.come.executor then_executor at_x so_far.0.calls.whole so_far.0.calls.kept map i x.under (its_here x so_far) told leads_x x.come.did beginning
+          so_far.0.worked so_far.1
 
       keeps : (x y : CallCome K V S) → CallSteps same hash name terms log map i x y → SoFar x → SoFar y
       keeps x y step so_far =
-          let here = here_of same name log beginning map i c x.come.did x.come.now x.come.notes x.come.scene x.under so_far.0.event_so in
+          let here = its_here x so_far in
           subst SoFar (sym (step.comes here)) (
             call_events_go_on_so K V S same hash name terms log e.event beginning map i c x.steps x.come.did x.come.now x.come.notes x.come.scene x.under so_far.0 x.come.executor y.come.executor step.is_at
                 step.size step.said step.leads step.none (step.noted here) y.under (step.goes_on here),

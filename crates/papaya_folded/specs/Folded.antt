@@ -58,6 +58,12 @@ module _ {K V : Type 0} where
   since did begun own [] = []
   since did begun own (e ∷ log) = if nat_lt (length log) begun then [] else since did begun own log ++ if_its own (caller_of e.event) (did (moment log) e)
 
+  -- Of an event with which a call ends, or is ready: the call has handed over just what it took out since it began, one thing after another.
+  abbrev pub HandsAllOver : List (Entry K V) → Entry K V → Type 0
+  HandsAllOver log e =
+      comes_clear e.outcome ≡ true → (own : List ℕ) → caller_of e.event ≡ Some own → (c : CallThere K V) → call_of own (worked e (moment log)) ≡ Some c
+      → since handed c.begun own (e ∷ log) ≡ since took c.begun own (e ∷ log)
+
 module _ (K V : Type 0) where
   -- The promises: by effects that hand over in order, what a call owed and what they take out is what they hand over, and behind that what it owes then;
   abbrev pub EffectsFold : Type 0
@@ -72,12 +78,9 @@ module _ (K V : Type 0) where
       (log : List (Entry K V)) → AtEachEvent HandsInOrder log → (own : List ℕ) (c : CallThere K V) → call_of own (moment log) ≡ Some c
       → since took c.begun own log ≡ since handed c.begun own log ++ c.owes
 
-  -- and one that has ended with an event, or is ready, has handed over just what it took out, in order.
+  -- and one that has ended, or is ready, and leaves nothing behind, has handed over just what it took out.
   abbrev pub EndedCallsFold : Type 0
-  EndedCallsFold =
-      (terms : Terms) (log : List (Entry K V)) (e : Entry K V) → AtEachEvent HandsInOrder (e ∷ log) → MovesOn terms log e → comes_clear e.outcome ≡ true
-      → (own : List ℕ) → caller_of e.event ≡ Some own → (c : CallThere K V) → call_of own (worked e (moment log)) ≡ Some c
-      → since handed c.begun own (e ∷ log) ≡ since took c.begun own (e ∷ log)
+  EndedCallsFold = (terms : Terms) (log : List (Entry K V)) (e : Entry K V) → AtEachEvent HandsInOrder (e ∷ log) → MovesOn terms log e → HandsAllOver log e
 
   -- A pair that it put behind a table was put where it may wait.
   abbrev pub DeferralsAreRight : Type 0
