@@ -18,6 +18,7 @@ use Rattle.papaya_scheduler.specs.declared.played.Played.{Played}
 use Rattle.papaya_scheduler.specs.declared.scheduler.Scheduler.{Scheduler}
 use Rattle.papaya_events.specs.Asked.{FindsBy, FindsRight, Happens, HappensAt, Holds, is_of_calls}
 use Rattle.papaya_events.specs.OfAll.{KeepsAll}
+use Rattle.papaya_folded.specs.Folded.{HandsInOrder}
 use Rattle.papaya_events.specs.OfCalls.{KeepsAt, Runs, RunsOn}
 use Rattle.papaya_events.specs.OfRows.{KeepsRunAt, is_of_rows}
 use Rattle.papaya_events.specs.OfSetups.{KeepsSetup, is_of_setups}
@@ -83,12 +84,13 @@ module _ {K V S : Type 0} (same : K → K → Bool) (hash : K → ℕ) (is_first
       by true is = of_all calls all is
       by false none = (of_others calls rows setups none, reclaims_none its played.outcome none _)
 
-  -- so it is legal, and the run goes on
+  -- so it is legal, the run goes on, and it hands over in order
   pub legal_on : KeepsAt same hash its played old new → KeepsRunAt same hash its played old new → KeepsSetup same hash its played old new → KeepsAll same hash its played old new
-      → IsLegal same terms log e × Runs same hash terms (e ∷ log) new
+      → IsLegal same terms log e × Runs same hash terms (e ∷ log) new × HandsInOrder log e
   legal_on calls rows setups all =
       let on = goes_on calls rows setups all in (
         events_are_legal K V same on.0.runs.stands.name terms log e (known new.logged.notes) on.0.runs.stands.scene (is_word same hash terms (e ∷ log) new on.0.runs) (right calls) it.makes
             it.does on.0.legal on.0.runs.shows on.1 (shows_nobody same hash terms (e ∷ log) new on.0.runs),
         on.0.runs,
+        on.0.hands,
       )

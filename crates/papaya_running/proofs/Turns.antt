@@ -27,7 +27,9 @@ use Rattle.papaya_events.specs.Asked.{Happens, Holds}
 use Rattle.papaya_running.specs.Back.{BackSoFar, ReclaimsBy, ReclaimsRight, TellsBack}
 use Rattle.papaya_running.specs.Ending.{shown_of, told_map}
 use Rattle.papaya_events.specs.OfCalls.{Runs}
-use Rattle.papaya_running.specs.Run.{GoesRight, IsRightRun, SoFar, TellsMost, log_so}
+use Rattle.papaya_folded.specs.Folded.{HandsInOrder}
+use Rattle.papaya_folded.proofs.Logs.{ended_calls_fold}
+use Rattle.papaya_running.specs.Run.{GoesRight, HandsOn, IsRightRun, SoFar, TellsMost, log_so}
 use Rattle.papaya_tally.specs.Tally.{Tells, TellsAll, TellsMoment, counted, deferral, flag_of}
 use Rattle.papaya_running.specs.declared.record.Record.{Record}
 use Rattle.papaya_logged.specs.Back.{ComesBack}
@@ -96,7 +98,7 @@ module _ {K V S : Type 0} (same : K → K → Bool) (hash : K → ℕ) (terms : 
 
       -- the event has happened, too
       pub next_so : {p2 : Scheduler K V S} → Happens same hash terms log e p2 → Holds same hash terms (moment (e ∷ log)) p2
-          → (Runs same hash terms log p → IsLegal same terms log e × Runs same hash terms (e ∷ log) p2) → SoFar same hash terms (events ++ event ∷ []) rec2 tally2 p2
+          → (Runs same hash terms log p → IsLegal same terms log e × Runs same hash terms (e ∷ log) p2 × HandsInOrder log e) → SoFar same hash terms (events ++ event ∷ []) rec2 tally2 p2
       next_so {p2} happens holds on = record {
         outcomes = one_more rec.outcomes.items rec2.outcomes.items played.outcome outcomes so.outcomes;
         steps = one_more rec.steps.items rec2.steps.items played.steps steps so.steps;
@@ -107,6 +109,7 @@ module _ {K V S : Type 0} (same : K → K → Bool) (hash : K → ℕ) (terms : 
         holds = subst (λ (l : List (Entry K V)). Holds same hash terms (moment l) p2) (sym more) holds;
         told = subst (λ (l : List (Entry K V)). TellsMoment tally2 (moment l)) (sym more) tells_then;
         legal = subst (IsLegalLog same terms) (sym more) ((on so.runs).0, so.legal);
+        hands = subst (AtEachEvent HandsInOrder) (sym more) ((on so.runs).2, so.hands);
         runs = subst (λ (l : List (Entry K V)). Runs same hash terms l p2) (sym more) (on so.runs).1;
       }
 
@@ -134,6 +137,7 @@ start_so {K} {V} same hash terms rec tally p outcomes steps effects trace pairs 
     flags = flags;
   });
   legal = subst (IsLegalLog same terms) (sym none) tt;
+  hands = subst (AtEachEvent HandsInOrder) (sym none) tt;
   runs = subst (λ (l : List (Entry K V)). Runs same hash terms l p) (sym none) runs;
 }
   where
@@ -205,3 +209,13 @@ module _ {K V S : Type 0} (same : K → K → Bool) (hash : K → ℕ) (terms : 
       let same_log : log_of events run ≡ log_so events rec = λ i. log_on [] events (outcomes i).items (steps i).items (map (λ v. v.items) (effects i).items) in
       as_run same terms events run (run_so run outcomes steps effects trace tells back) (subst (IsLegalLog same terms) (sym same_log) so.legal)
       (subst (λ (l : List (Entry K V)). StoredAreSomewhere (moment l)) (sym same_log) so.runs.shows.order.0.somewhere)
+
+  -- each of its events hands over in order, and so each call what it took out
+  pub hands_so : (run : Run K V) → run.outcomes ≡ rec.outcomes → run.steps ≡ rec.steps → run.effects ≡ rec.effects → AtEachEvent HandsOn (log_of events run)
+  hands_so run outcomes steps effects =
+      let same_log : log_of events run ≡ log_so events rec = λ i. log_on [] events (outcomes i).items (steps i).items (map (λ v. v.items) (effects i).items) in
+      subst (AtEachEvent HandsOn) (sym same_log) (all_hand (log_so events rec) so.hands so.legal)
+    where
+      all_hand : (log : List (Entry K V)) → AtEachEvent HandsInOrder log → IsLegalLog same terms log → AtEachEvent HandsOn log
+      all_hand [] hands legal = tt
+      all_hand (e ∷ log) hands legal = (record { order = hands.0; whole = ended_calls_fold K V terms log e hands legal.0.life }, all_hand log hands.1 legal.1)

@@ -21,6 +21,7 @@ use Rattle.papaya_scheduler.specs.declared.scheduler.Scheduler.{Scheduler}
 use Rattle.papaya_events.specs.Asked.{Holds}
 use Rattle.papaya_running.specs.Back.{TellsBack}
 use Rattle.papaya_events.specs.OfCalls.{Runs}
+use Rattle.papaya_folded.specs.Folded.{HandsAllOver, HandsInOrder}
 use Rattle.papaya_tally.specs.Tally.{TellsMoment}
 use Rattle.papaya_running.specs.declared.record.Record.{Record}
 use Rattle.papaya_tally.specs.declared.tally.Tally.{Tally}
@@ -40,6 +41,11 @@ module _ {K V : Type 0} where
     pub makes : MakesSteps e.event (stands_or (acting (caller_of e.event) (at_work e (moment log)))) e.steps e.outcome
     pub does : DoesFew (caller_of e.event) e.steps e.effects
     pub is_quiet : IsQuiet e.outcome e.effects
+
+  -- An event hands over first what its call owes first; and a call that has ended with it, or is ready, has handed over just what it took out, in that order.
+  pub record HandsOn (log : List (Entry K V)) (e : Entry K V) : Type 0 where
+    pub order : HandsInOrder log e
+    pub whole : HandsAllOver log e
 
   -- What a run tells at its end of maps, and of what is not reclaimed, is what its events say, also while calls are under way; pairs that are left are as they were stored.
   pub record TellsMost (m : Moment K V) (run : Run K V) : Type 0 where
@@ -72,4 +78,5 @@ module _ {K V S : Type 0} (same : K → K → Bool) (hash : K → ℕ) where
     pub holds : Holds same hash terms (moment (log_so events rec)) p
     pub told : TellsMoment tally (moment (log_so events rec))
     pub legal : IsLegalLog same terms (log_so events rec)
+    pub hands : AtEachEvent HandsInOrder (log_so events rec)
     pub runs : Runs same hash terms (log_so events rec) p

@@ -1,16 +1,19 @@
 -- Once an event that is of no call is over, the run goes on in the scene to which it has led.
-use Rattle.std.specs.Prelude.{◌≡◌, ◌≤◌, ℕ, Bool, false, List, ◌∷◌}
-use Rattle.std.proofs.Common.{sym, subst}
+use Rattle.std.specs.Prelude.{◌≡◌, ◌≤◌, ℕ, Bool, false, List, ◌∷◌, None}
+use Rattle.std.proofs.Common.{refl, sym, subst}
 use Rattle.papaya_histories.specs.Given.Seize.World.{SlotsTaken}
 use Rattle.papaya_histories.specs.Given.Executor.IsAt.{Scene, IsAt}
+use Rattle.papaya_schedules.specs.declared.event.Event.{Event}
+use Rattle.papaya_schedules.specs.declared.event.Event.TheVariants.{Go, Next, OneCall, Step}
 use Rattle.papaya_schedules.specs.After.{moment}
-use Rattle.papaya_schedules.specs.Entry.{Entry}
+use Rattle.papaya_schedules.specs.Entry.{Entry, caller_of}
 use Rattle.papaya_schedules.specs.InTurn.{ComesRight}
 use Rattle.papaya_schedules.specs.Terms.{Terms}
 use Rattle.papaya_effects.specs.Known.{known}
 use Rattle.papaya_legal.specs.CallEvents.{IsLegalBut}
 use Rattle.papaya_legal.specs.Carried.{ShowsRun}
 use Rattle.papaya_legal.proofs.Come.{events_bring_things}
+use Rattle.papaya_folded.proofs.Steps.{none_in_order}
 use Rattle.papaya_reclaims.specs.Left.{LeftAmong}
 use Rattle.papaya_named.specs.declared.caller.Callers.{Callers}
 use Rattle.papaya_scheduler.specs.Played.{IsPlayed}
@@ -21,6 +24,14 @@ use Rattle.papaya_events.proofs.OfCalls.Scenes.{AreNamed, its_named, stands_in}
 use Rattle.papaya_events.proofs.OfCalls.Worth.{have_values_then, nobody_says}
 use Rattle.papaya_events.proofs.Reached.{reached_after}
 use Rattle.papaya_events.proofs.Remaining.{counted_in}
+
+-- an event of no call is by no caller
+by_none : {K V : Type 0} (event : Event K V) → is_of_calls event ≡ false → caller_of event ≡ None
+by_none (Step caller refuse) none = absurd (cc none)
+by_none (Go caller refuse) none = absurd (cc none)
+by_none (OneCall guard name call) none = absurd (cc none)
+by_none (Next caller) none = absurd (cc none)
+by_none _ none = refl
 
 module _ {K V S : Type 0} (same : K → K → Bool) (hash : K → ℕ) (terms : Terms) (log : List (Entry K V)) (e : Entry K V) (old new : Scheduler K V S) (run : Runs same hash terms log old)
     (none : is_of_calls e.event ≡ false) (scene : Scene K V) (at_end : IsAt same hash new.logged.executor scene) (lists : ℕ → List ℕ)
@@ -39,6 +50,7 @@ module _ {K V S : Type 0} (same : K → K → Bool) (hash : K → ℕ) (terms : 
       → (known old.logged.notes).buckets ≤ (known new.logged.notes).buckets → RunsOn same hash terms log e new
   over_runs so right legal shows taken size shards grows = record {
     legal = legal;
+    hands = none_in_order log e (by_none e.event none);
     runs = record {
       stands = stands_in same hash terms (moment (e ∷ log)) new so run.stands.name scene (record {
         is_at = at_end;
