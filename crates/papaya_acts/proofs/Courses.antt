@@ -95,7 +95,7 @@ stopped_as : {K V Q : Type 0} (ready : Bool) (u : UnderWay K V Q) → option_map
 stopped_as true u = refl
 stopped_as false u = refl
 
-module _ {K V : Type 0} (same : K → K → Bool) (hash : K → ℕ) (batch_size roots : ℕ) (slot : ℕ → ℕ) where
+module _ {K V : Type 0} (same : K → K → Bool) (hash : ℕ → K → ℕ) (batch_size roots : ℕ) (slot : ℕ → ℕ) where
   -- a walk that is given up has no row under way
   stop_rests : (s : Scene K V) → AllStand same hash batch_size roots slot s → (m i : ℕ) (u : UnderWay K V K) → s.calls m i ≡ Some u → (ready : Bool) → (machine_asked (machine_of u)).1 ≡ ready
       → unless_stopped ready u ≡ None → s.world.row i ≡ Rests
@@ -286,7 +286,7 @@ module _ {K V : Type 0} (same : K → K → Bool) (hash : K → ℕ) (batch_size
         memory = alike.memory;
         maps = alike.maps;
         calls = alike.calls;
-        makers = both_at (λ (x : Option (Beginning K)). x) s.makers t.makers i (Some (making_begun hash roots map given places)) (Some (making_begun hash roots map given places)) refl alike.makers;
+        makers = both_at (λ (x : Option (Beginning K)). x) s.makers t.makers i (Some (making_begun (hash map) roots map given places)) (Some (making_begun (hash map) roots map given places)) refl alike.makers;
         enders = alike.enders;
         rows = alike.rows;
       }),

@@ -52,7 +52,7 @@ module _ {K V : Type 0} (s : Scene K V) where
   few_prop : (i m : ℕ) → IsProp (AreFewWith s i m)
   few_prop i m = hlevel le_prop
 
-module _ {K V : Type 0} (same : K → K → Bool) (hash : K → ℕ) (batch_size roots : ℕ) (slot : ℕ → ℕ) where
+module _ {K V : Type 0} (same : K → K → Bool) (hash : ℕ → K → ℕ) (batch_size roots : ℕ) (slot : ℕ → ℕ) where
   pub may_prop : (act : Act K V) (s : Scene K V) → IsProp (MayBe same hash batch_size roots slot act s)
   may_prop (BeginsCall i m wanted) s = hlevel (bool_set, free_prop s i, few_prop s i m)
   may_prop (StepsCall i m g) s = bool_set _ _

@@ -22,7 +22,7 @@ not_three : (k : ℕ) → 3 ≡ 2 ^ k → ⊥
 not_three zero e = omega (arith, e)
 not_three (suc k) e = let twice : 2 ^ suc k ≡ 2 ^ k * 2 = pow-suc 2 k in omega (arith, e, twice)
 
-module _ {K : Type 0} (V : Type 0) (same : K → K → Bool) (hash : K → ℕ) (batch_size : ℕ) (slot : ℕ → ℕ) where
+module _ {K : Type 0} (V : Type 0) (same : K → K → Bool) (hash : ℕ → K → ℕ) (batch_size : ℕ) (slot : ℕ → ℕ) where
   abbrev First : Act K V → Type 0
   First act = MayBe same hash batch_size 1 slot act (at_first 1)
 
@@ -49,7 +49,7 @@ module _ {K : Type 0} (V : Type 0) (same : K → K → Bool) (hash : K → ℕ) 
   module _ (given : Setting) where
     -- A map is being made. Its caller has something under way, and may take the next step, which takes the root.
     abbrev b : Beginning K
-    b = making_begun hash 1 0 given 0
+    b = making_begun (hash 0) 1 0 given 0
 
     abbrev Makes : Beginning K → Scene K V
     Makes b = record (at_first 1) { makers = with_at (λ i. None) 0 (Some b) }

@@ -1,4 +1,4 @@
--- What an executor does, it does by acts: where it is, its acts have led.
+-- What an executor does, it does by acts: where it is, its acts have led. All its maps have one hash.
 use Rattle.std.specs.Prelude.{◌≡◌, ℕ, ◌+◌, ◌<◌, ◌≤◌, ◌^◌, length, max, Bool, Some, Result}
 use Rattle.std.specs.Int.{IsPowerOfTwo}
 use Rattle.papaya_executor.specs.Given.Seize.declared.progress.Progress.{Progress}
@@ -38,7 +38,7 @@ use Rattle.papaya_acts.specs.Leads.{Led}
 module _ {K V S : Type 0} (same : K → K → Bool) (hash : K → ℕ) (e e2 : Executor K V S) (s : Scene K V) where
   -- from this scene, in which the first executor is, the act leads, and tells this, to one in which the second is
   abbrev pub IsAct : Act K V → Answer K V → Type 0
-  IsAct act told = (n : Scene K V) × Led same hash e.batch_size e.roots slot_of act s told n × IsAt same hash e2 n
+  IsAct act told = (n : Scene K V) × Led same (λ map. hash) e.batch_size e.roots slot_of act s told n × IsAt same hash e2 n
 
   -- The promise of what callers do with calls: they begin, and take steps, they are told something, asked for a pair, or given up.
   pub record CallsAreActs (i : ℕ) : Type 0 where

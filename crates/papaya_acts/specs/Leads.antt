@@ -58,8 +58,8 @@ module _ {K V : Type 0} where
 abbrev pub making_begun : {K : Type 0} → (K → ℕ) → ℕ → ℕ → Setting → ℕ → Beginning K
 making_begun hash roots map given places = record { map = map; given = given; places = places; hash = hash; machine = opening given roots places }
 
--- All keys have one hash; a batch has such a size, there are so many roots, and each caller has a slot.
-module _ {K V : Type 0} (same : K → K → Bool) (hash : K → ℕ) (batch_size roots : ℕ) (slot : ℕ → ℕ) where
+-- Each map has a hash, by its number; a batch has such a size, there are so many roots, and each caller has a slot.
+module _ {K V : Type 0} (same : K → K → Bool) (hash : ℕ → K → ℕ) (batch_size roots : ℕ) (slot : ℕ → ℕ) where
   -- what the next step of a call, of a making, and of an end comes to, if they are there and the memory may choose so
   abbrev pub call_steps : Scene K V → Grant → Standing K × UnderWay K V K → Option (Mem (Node K V) × (Machine K V K × CallProgress (Node K V)))
   call_steps s g it = stepped s.world.memory g (machine_plan same same it.0.hash (machine_of it.1))
@@ -143,7 +143,7 @@ module _ {K V : Type 0} (same : K → K → Bool) (hash : K → ℕ) (batch_size
   Led (StopsCall i m) s told n =
       (u : UnderWay K V K) × (s.calls m i ≡ Some u) × (told ≡ OfAsking (machine_asked (machine_of u)).1)
       × (n ≡ record s { calls = with_call s.calls m i (unless_stopped (machine_asked (machine_of u)).1 u) })
-  Led (BeginsMaking i map given places) s told n = (told ≡ Nothing) × (n ≡ record s { makers = with_at s.makers i (Some (making_begun hash roots map given places)) })
+  Led (BeginsMaking i map given places) s told n = (told ≡ Nothing) × (n ≡ record s { makers = with_at s.makers i (Some (making_begun (hash map) roots map given places)) })
   Led (StepsMaking i g) s told n =
       (b : Beginning K) × (s.makers i ≡ Some b) × (m2 : Mem (Node K V)) × (machine : NewMap) × (progress : Progress Setting)
       × (making_steps s g b ≡ Some (m2, (machine, progress))) × (told ≡ OfMaking progress)

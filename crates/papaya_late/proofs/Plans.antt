@@ -42,7 +42,7 @@ use Rattle.papaya_points.proofs.Given.Rule.Words.TablesSeen.{block_of_link}
 
 -- An insertion that answers that the key was missing, and that nothing changed, is refused by what an insertion may answer.
 module _ {K V Q : Type 0} where
-  none_is_absent : (present : There) (takes : Takes) (p : KeyCall K V Q) → ComesFit {V = V} present missing.Puts takes (told_answer p answers.Absent) → ⊥
+  none_is_absent : (present : There) (takes : Takes) (p : KeyCall K V Q) → ComesFit present missing.Puts takes (told_answer p answers.Absent) → ⊥
   none_is_absent present takes p f = ⊎_elim (λ e. cc e) (λ asks. cc asks.0) f.1
 
   -- One answers so at once, and has not tried to store its pair.

@@ -193,7 +193,7 @@ abbrev by_writing : World ℕ
 by_writing = after plain 1 (links ++ Operate 0 (Store (Root 0) 0) None (Unlinks 1 ∷ []) ∷ []) (at_start plain 1)
 
 names_none : NoRootNames by_writing.memory 1
-names_none zero word at names = let k = ap (λ (w : ℕ). block_in w) (same_some 0 word at) ∙ names in cc k
+names_none zero word at names = let k : 0 ≡ 1 = ap (λ (w : ℕ). block_in w) (same_some 0 word at) ∙ names in cc k
 names_none (suc r) word at names = cc at
 
 right_unlinks : AllMayChange plain by_writing (Unlinks 1 ∷ [])
