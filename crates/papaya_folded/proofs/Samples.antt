@@ -1,13 +1,15 @@
 -- What the definitions of what calls hand over refuse.
-use Rattle.std.specs.Prelude.{◌≡◌, ℕ, ◌+◌, false, List, [], ◌∷◌, Option, Some}
+use Rattle.std.specs.Prelude.{◌≡◌, ℕ, ◌+◌, true, false, List, [], ◌∷◌, Some}
 use Rattle.std.proofs.Common.{refl, arith}
+use Rattle.papaya_histories.specs.Given.Tables.declared.resize_mode.ResizeMode.TheVariants.{Blocking}
+use Rattle.papaya_histories.specs.Given.Schedules.declared.call.Answer.TheVariants.{Completed}
 use Rattle.papaya_histories.specs.Given.Schedules.declared.call.Call.TheVariants.{Clear}
 use Rattle.papaya_histories.specs.Given.Schedules.declared.effect.Effect.{Effect}
 use Rattle.papaya_histories.specs.Given.Schedules.declared.effect.Effect.TheVariants.{Deferred, Removed, Retired}
 use Rattle.papaya_histories.specs.Given.Schedules.declared.effect.Table.{Table}
 use Rattle.papaya_histories.specs.Given.Schedules.declared.effect.Thing.TheVariants.{APair, ATable}
-use Rattle.papaya_histories.specs.Given.Schedules.declared.event.Event.TheVariants.{Step}
-use Rattle.papaya_histories.specs.Given.Schedules.declared.outcome.Outcome.TheVariants.{Goes}
+use Rattle.papaya_histories.specs.Given.Schedules.declared.event.Event.TheVariants.{Begin, MakeMap, Step}
+use Rattle.papaya_histories.specs.Given.Schedules.declared.outcome.Outcome.TheVariants.{Answered, Done, Goes}
 use Rattle.papaya_histories.specs.Given.Schedules.Beginning.{fresh_call}
 use Rattle.papaya_histories.specs.Given.Schedules.Effects.{with_effects}
 use Rattle.papaya_histories.specs.Given.Schedules.Entry.{Entry, IfCall}
@@ -15,7 +17,7 @@ use Rattle.papaya_histories.specs.Given.Schedules.Handing.{IsClear}
 use Rattle.papaya_histories.specs.Given.Schedules.Lives.{MayDefer}
 use Rattle.papaya_histories.specs.Given.Schedules.Moment.{Moment, start}
 use Rattle.papaya_histories.specs.Given.Schedules.Views.{call_of}
-use Rattle.papaya_folded.specs.Folded.{HandInOrder, handed, since, took}
+use Rattle.papaya_folded.specs.Folded.{HandInOrder, HandsAllOver, handed, since, took}
 
 abbrev own : List ℕ
 own = 1 ∷ []
@@ -77,3 +79,17 @@ handed_one = refl
 -- What it took out before is another call's.
 took_before : since took 0 own log ≡ APair 3 ∷ APair 4 ∷ []
 took_before = refl
+
+-- A call that has removed a pair, and ends without having handed it over, or with another one handed over, has not handed over what it took out.
+abbrev begun : List (Entry ℕ ℕ)
+begun =
+    record { event = Begin own [] other Clear; outcome = Goes; steps = 0; effects = [] } ∷ record { event = MakeMap other Blocking 0; outcome = Done; steps = 1; effects = [] } ∷ []
+
+abbrev ending : List Effect → Entry ℕ ℕ
+ending effects = record { event = Step own false; outcome = Answered Completed; steps = 1; effects = effects }
+
+ends_without_it : HandsAllOver begun (ending (Removed 4 ∷ [])) → ⊥
+ends_without_it all = let none = all refl own refl (record (fresh_call own [] Clear 0 1) { lost = 1; owes = APair 4 ∷ [] }) refl in cc none
+
+ends_with_another : HandsAllOver begun (ending (Removed 4 ∷ Retired (APair 5) ∷ [])) → ⊥
+ends_with_another all = let one = all refl own refl (record (fresh_call own [] Clear 0 1) { lost = 1; owes = APair 4 ∷ []; has_handed = true }) refl in cc one
