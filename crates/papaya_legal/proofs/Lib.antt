@@ -12,6 +12,7 @@ pub mod CallFollows
 pub mod CallsEnd
 pub mod Slots
 pub mod SlotsEnd
+pub mod Growths
 pub mod Maps
 pub mod MapsEnd
 pub mod LeftTold
@@ -28,6 +29,7 @@ pub mod Begun
 pub mod Choices
 pub mod Again
 pub mod MapsOver
+pub mod Refused
 pub mod Chains
 pub mod OfAll
 pub mod Legal
