@@ -74,7 +74,7 @@ pub fn run_refusing<K: Eq + Hash + Drop, V: Drop, S: BuildHasher + Drop>(
     growths: &[u64],
 ) -> Result<Run<K, V>, Fault>
     ensures run { IfOk result (λ run. IsRightRun (terms_given (bounded given)) schedule.items run) }
-    ensures whole { IfOk result (λ run. IsWholeRun K.eq (terms_given (bounded given)) schedule.items run) }
+    ensures whole { IfOk result (λ run. IsRunOf K.eq (terms_given (bounded given)) schedule.items run) }
     ensures memory { IfErr result (λ fault. fault ≡ Fault.Memory) }
 {
     let mut scheduler = Scheduler::new(alloc, bounded(given), hasher)?;
