@@ -6,12 +6,11 @@ use Rattle.papaya_schedules.specs.declared.event.Event.{Event}
 use Rattle.papaya_schedules.specs.Runs.{IsRunOf}
 use Rattle.papaya_scheduler.specs.Played.{terms_given}
 use Rattle.papaya_scheduler.specs.declared.scheduler.Given.{Given}
-use Rattle.papaya_running.specs.Run.{IsRightRun, bounded}
+use Rattle.papaya_scheduler.specs.declared.scheduler.Scheduler.{Scheduler}
+use Rattle.papaya_running.specs.Run.{IsRightRun, SoFar, bounded}
 use Rattle.papaya_running.proofs.Beginning.{Begins, are_few, begins_first, first_holds, first_runs, still_begins}
 use Rattle.papaya_running.proofs.LawfulKeys.{are_lawful}
 use Rattle.papaya_running.proofs.Turns.{back_first, run_so, start_so, whole_so}
-use Rattle.papaya_running.specs.Run.{SoFar}
-use Rattle.papaya_scheduler.specs.declared.scheduler.Scheduler.{Scheduler}
 use Rattle.papaya_running.proofs.running.run_refusing.Goals as goal
 
 pub loop-choice-init : goal.loop-choice-init
