@@ -7,4 +7,3 @@ pub mod Values
 pub mod Rows
 pub mod Calls
 mod Samples
-pub mod Laws

@@ -1,28 +1,20 @@
 -- What the laws promise, clause by clause, as far as crates above cite it in proofs.
 use Rattle.std.proofs.Common.{ℕ, Bool}
 use Rattle.papaya_maps.specs.EndingsBegins.{BeginningsLeaveLess}
-use Rattle.papaya_maps.specs.EndingsEnds.{EndsLeaveLess}
 use Rattle.papaya_maps.specs.Listed.{ListsAddUp, InOneOfTwo, FirstOrBehind, WaitsBehindTables, MarkedIsSettledOrOwn}
-use Rattle.papaya_maps.specs.LoneReserves.{LoneReservesBegin, LoneReservesGoOn}
 use Rattle.papaya_maps.specs.RestsOn.{RestsOnAsSlotsChange, RestsOnThroughCalls, RestsOnAsChosen, RestsAtEachSlot, RestsOnWhereSpared}
 use Rattle.papaya_maps.specs.FaultsBegins.{FreeRootsSuffice, MemoryAloneIsRefused}
 use Rattle.papaya_maps.specs.Spares.{SameSlotsAreKept, CallsSpareOthers, ReservationsSpareOthers}
 use Rattle.papaya_maps.specs.WholeBegins.{MapsBeginAlone, MapsGoOnAlone}
-use Rattle.papaya_maps.specs.WholeEnds.{EndsBeginAlone, EndsGoOnAlone, EndsGiveOnce}
-use Rattle.papaya_maps.specs.WholeReserves.{ReservationsGoOnAlone, ReservationsEndAtRest}
 use Rattle.papaya_alone.proofs.Lone.Copies.{settled_or_own}
 use Rattle.papaya_maps.proofs.Begins.Faults.{free_roots_suffice, memory_alone_is_refused}
 use Rattle.papaya_maps.proofs.Begins.Whole.{maps_begin_alone, maps_go_on_alone}
 use Rattle.papaya_finishes.proofs.Ends.CountedBlocks.{times-append, some_here, some_first, some_last, some_of_two, some_of_first}
-use Rattle.papaya_maps.proofs.Ends.Whole.{ends_begin_alone, ends_go_on_alone, ends_give_once}
 use Rattle.papaya_maps.proofs.Begins.ComesToEnd.{beginnings_leave_less}
-use Rattle.papaya_maps.proofs.Ends.ComesToEnd.{ends_leave_less}
 use Rattle.papaya_finishes.proofs.Ends.OrdersOn.{in_waits}
 use Rattle.papaya_maps.proofs.OtherMaps.Calls.{calls_spare_others}
 use Rattle.papaya_maps.proofs.OtherMaps.Plans.{slots_same}
 use Rattle.papaya_maps.proofs.OtherMaps.Reservations.{reservations_spare_others}
-use Rattle.papaya_maps.proofs.Reserves.Lone.{lone_reserves_begin, lone_reserves_go_on}
-use Rattle.papaya_maps.proofs.Reserves.Whole.{reservations_go_on_alone, reservations_end_at_rest}
 use Rattle.papaya_maps.proofs.Rests.On.{rests_on}
 use Rattle.papaya_maps.proofs.Rests.Promised.{rests_on_as_slots_change, rests_on_through_calls, rests_on_as_chosen, rests_at_each_slot}
 
@@ -31,18 +23,6 @@ module _ {K Q : Type 0} (V : Type 0) (same : K → K → Bool) (hash : K → ℕ
   calls_spare_other_maps = calls_spare_others V same hash asks
 
 module _ {K : Type 0} (V : Type 0) (same : K → K → Bool) (hash : K → ℕ) where
-  pub reservations_end_resting : ReservationsEndAtRest V same hash
-  reservations_end_resting = reservations_end_at_rest V same hash
-
-  pub reservations_begin_lone : LoneReservesBegin V same hash
-  reservations_begin_lone = lone_reserves_begin V same hash
-
-  pub reservations_go_on_lone : LoneReservesGoOn V same hash
-  reservations_go_on_lone = lone_reserves_go_on V same hash
-
-  pub reservations_go_on : ReservationsGoOnAlone V same hash
-  reservations_go_on = reservations_go_on_alone V same hash
-
   pub reservations_spare_other_maps : ReservationsSpareOthers V same hash
   reservations_spare_other_maps = reservations_spare_others V same hash
 
@@ -51,18 +31,6 @@ module _ {K : Type 0} (V : Type 0) (same : K → K → Bool) (hash : K → ℕ) 
 
   pub maps_go_on : MapsGoOnAlone V same hash
   maps_go_on = maps_go_on_alone V same hash
-
-  pub ends_may_begin : EndsBeginAlone V same hash
-  ends_may_begin = ends_begin_alone V same hash
-
-  pub ends_go_on : EndsGoOnAlone V same hash
-  ends_go_on = ends_go_on_alone V same hash
-
-  pub ends_come_nearer : EndsLeaveLess V same hash
-  ends_come_nearer = ends_leave_less V same hash
-
-  pub ends_give_each_once : EndsGiveOnce V same hash
-  ends_give_each_once = ends_give_once V same hash
 
 module _ {K V : Type 0} (same : K → K → Bool) (hash : K → ℕ) where
   pub rests_as_slots_change : RestsOnAsSlotsChange V same hash

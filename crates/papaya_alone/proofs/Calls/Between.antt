@@ -27,7 +27,6 @@ use Rattle.papaya_callers.specs.Given.Raw.declared.machines.asking.Takes.TheVari
 use Rattle.papaya_callers.specs.Given.Raw.declared.machines.call.KeyCall.{KeyCall}
 use Rattle.papaya_callers.specs.Given.Raw.declared.machines.call.Calling.{Calling}
 use Rattle.papaya_callers.specs.Given.Raw.declared.machines.call.Calling.TheVariants as at
-use Rattle.papaya_callers.specs.Given.Raw.declared.machines.answer.End.{End}
 use Rattle.papaya_callers.specs.Given.Rule.Chart.{Chart}
 use Rattle.papaya_callers.specs.Given.Rule.Rule.{Rule}
 use Rattle.papaya_callers.specs.Given.Rule.Lasts.{Lasts}
@@ -48,7 +47,6 @@ use Rattle.papaya_callers.specs.Kept.{IsWithin}
 use Rattle.papaya_alone.specs.FactsAloneCalls.{IsLone, LeadsLone}
 use Rattle.papaya_alone.specs.LoneCalls.{LeadsTo}
 use Rattle.papaya_alone.proofs.Lone.Stays.{LoneWent, went_call_lone}
-use Rattle.papaya_callers.proofs.Given.Rule.World.WentTold.{went_as}
 use Rattle.papaya_callers.proofs.Rows.Known.{known_since}
 use Rattle.papaya_callers.proofs.Rows.Users.{all_users, users_within}
 use Rattle.papaya_alone.proofs.Calls.Changes.{changed_on, blocks_on, answers_last}
@@ -415,35 +413,3 @@ module _ {K V Q : Type 0} (same : K → K → Bool) (hash : K → ℕ) (setting 
         by (called.Refused fault) is f k l =
             let all = all_refused fault is f.1 in
             (h2, went.c2, went.blocks2, went.told.change2, rows, ended f.0 k all.0 0 0 all.1 (counted_refused fault is f.1), refl, f.1, l)
-
-    -- where it goes on it is alone, in the state that its step has led to
-    abbrev pub OnTo : Called (Node K V) → Type 0
-    OnTo called.Goes =
-        (to : Went same hash setting 0 (at_rest deferred_word m h) c blocks m2 (λ w2 c2 blocks2. Unit {0})) × (h3 : History) × (change3 : Change)
-        × IsBetween same hash setting roots asks keys mem0 pair back h0 c0 blocks0 m2 h3 to.c2 to.blocks2 change3 rows p2 × IsLone (is_incremental setting.mode) 0 to.c2 p2.stands
-    OnTo called.Waits = ⊥
-    OnTo (called.Asks asked) = ⊥
-    OnTo (called.Gave value) = ⊥
-    OnTo (called.Unstored value) = (end : End) × (p2.stands ≡ at.Over end)
-    OnTo (called.Done answer) = Unit {0}
-    OnTo (called.Refused fault) = Unit {0}
-
-    pub between_on : IsLone (is_incremental setting.mode) 0 c p.stands → OnTo progress
-    unfolding went lone_went
-    between_on lone = by progress went.told.facts held (lone_went.told.1 lone)
-      where
-        to : Went same hash setting 0 (at_rest deferred_word m h) c blocks m2 (λ w2 c2 blocks2. Unit {0})
-        to = went_as same hash setting 0 (at_rest deferred_word m h) c blocks m2 (λ w2 c2 blocks2. CallTold same hash asks 0 setting keys c change p w2 c2 blocks2 p2 progress) (λ w2 c2 blocks2. Unit {0})
-            (λ w2 c2 blocks2 map3 moved same_blocks told. tt) went
-
-        by : (q : Called (Node K V)) → CallFactsAfter same hash asks 0 setting keys went.w2 went.c2 went.blocks2 went.told.change2 p2 q
-            → ComesWith same hash setting mem0 pair c0 (at_rest deferred_word m h) went.w2 c went.c2 blocks went.blocks2 now.map went.map now.changed.lasts.past lasts.past lasts.stored went.blocks_same
-            went.told.change2 back p2 q
-            → LeadsLone (is_incremental setting.mode) 0 went.c2 (p2, q) → OnTo q
-        by called.Goes f k l = (to, h2, went.told.change2, next back f k, l)
-        by called.Waits f k l = l
-        by (called.Asks asked) f k l = absurd (asks_none f l.1 l.2)
-        by (called.Gave value) f k l = absurd f
-        by (called.Unstored value) f k l = (l.1, l.2)
-        by (called.Done answer) f k l = tt
-        by (called.Refused fault) f k l = tt

@@ -22,11 +22,10 @@ use Rattle.papaya_finishes.specs.Given.Rule.Chart.{Chart}
 use Rattle.papaya_finishes.specs.Given.Rule.Lasts.{Lasts}
 use Rattle.papaya_finishes.specs.Given.Rule.Words.{Blocks}
 use Rattle.papaya_finishes.specs.Given.Rule.Maps.{spot_of}
-use Rattle.papaya_finishes.specs.Given.Rule.InWorld.{SameBlocks, IsMapIn}
+use Rattle.papaya_finishes.specs.Given.Rule.InWorld.{IsMapIn}
 use Rattle.papaya_finishes.specs.Given.Points.Steps.{AreLawful}
 use Rattle.papaya_finishes.proofs.Given.Points.MovedLasts.{moved_lasts}
 use Rattle.papaya_maps.specs.FactsAloneReserves.{IsLoneReserve, LeadsReserve}
-use Rattle.papaya_maps.specs.EndingsReserves.{HasMore}
 use Rattle.papaya_finishes.specs.Given.Late.FactsReserves.{ReserveFacts}
 use Rattle.papaya_maps.specs.LoneReserves.{LeadsTo}
 use Rattle.papaya_finishes.specs.Given.Late.ToldReserves.{ReserveAfter, IsRowOfReserve}
@@ -209,20 +208,3 @@ module _ {K V : Type 0} (same : K → K → Bool) (hash : K → ℕ) (setting : 
         by (outcome.Gave value) f l alone holds k = absurd f
         by (outcome.Done over) f l alone holds k = (h2, went.c2, went.blocks2, ended f alone holds, refl, room alone k, l)
         by (outcome.Refused fault) f l alone holds k = (h2, went.c2, went.blocks2, ended f alone holds, refl, l)
-
-    -- where it goes on, as many tables are retired as before, and what could be looked at is where it was
-    pub between_on : IsLoneReserve (is_incremental setting.mode) 0 c p.stands → HasMore end
-        → (end ≡ outcome.Goes) × (h3 : History) × (c3 : Chart K) × (blocks3 : Blocks) × ReservesBetween same hash setting roots mem0 h0 c0 blocks0 m2 h3 c3 blocks3 t p2
-        × IsLoneReserve (is_incremental setting.mode) 0 c3 p2.stands × SameBlocks c blocks blocks3 × Lasts same (spot_of hash) (is_incremental setting.mode) c c3
-    between_on lone more = by end more went.told.2 (leads lone) led holds2 sums2
-      where
-        by : (q : Outcome (Node K V) Unit) → HasMore q → ReserveAfter went.w2 0 setting went.c2 went.blocks2 same hash (p2, q) → LeadsReserve (is_incremental setting.mode) 0 went.c2 (p2, q)
-            → ReservesOnTo same hash 0 setting (at_rest deferred_word m h) went.w2 c went.c2 blocks went.blocks2 now.map went.map lasts went.blocks_same went.moved p now.facts.setting_is t (p2, q)
-            → IsComing mem0 m2 (IsLinkedSince c0 went.c2 went.blocks2) (MadeByReserveAfter {N = Node K V} (p2, q)) → SumsTo same hash setting (at_rest deferred_word m h) c blocks now.map t p now.facts m2 (p2, end) (p2, q)
-            → (q ≡ outcome.Goes) × (h3 : History) × (c3 : Chart K) × (blocks3 : Blocks) × ReservesBetween same hash setting roots mem0 h0 c0 blocks0 m2 h3 c3 blocks3 t p2
-            × IsLoneReserve (is_incremental setting.mode) 0 c3 p2.stands × SameBlocks c blocks blocks3 × Lasts same (spot_of hash) (is_incremental setting.mode) c c3
-        by outcome.Goes m f l alone holds k = (refl, h2, went.c2, went.blocks2, next f alone holds k, l, went.blocks_same, lasts)
-        by outcome.Waits m f l alone holds k = absurd l
-        by (outcome.Gave value) m f l alone holds k = absurd f
-        by (outcome.Done over) m f l alone holds k = absurd m
-        by (outcome.Refused fault) m f l alone holds k = absurd m
