@@ -8,12 +8,10 @@ use Rattle.papaya_callers.specs.Given.Raw.declared.machines.call.Calling.{Callin
 use Rattle.papaya_callers.specs.Given.Raw.declared.machines.call.Calling.TheVariants as at
 use Rattle.papaya_callers.specs.Given.Resize.declared.new_map.Opening.{Opening}
 use Rattle.papaya_callers.specs.Given.Resize.declared.new_map.Opening.TheVariants as opens
-use Rattle.papaya_callers.specs.Given.Reserves.declared.reserve.Reserving.{Reserving}
-use Rattle.papaya_callers.specs.Given.Reserves.declared.reserve.Reserving.TheVariants as reserves
 use Rattle.papaya_callers.specs.Given.Rule.Chart.{Chart}
 use Rattle.papaya_callers.specs.Given.Rule.Words.{Blocks}
 use Rattle.papaya_callers.specs.Given.Points.FactsCalls.{Change, Unchanged, Stored, Replaced, Removed}
-use Rattle.papaya_callers.specs.Given.Points.Made.{IsMadeBy, IsMadeByCopier, IsMadeByCall}
+use Rattle.papaya_callers.specs.Given.Points.Made.{IsMadeBy, IsMadeByCall}
 
 -- The memory was so, and is so.
 module _ {T : Type 0} (m0 m : Mem T) where
@@ -28,13 +26,6 @@ module _ {T : Type 0} (m0 m : Mem T) where
     pub came : (b : ℕ) (x : T) → value_at m b ≡ Some x → ((value_at m0 b ≡ Some x) ⊎ Came b) ⊎ Mine b
     -- for which no block is used that was there
     pub fresh : (b : ℕ) → Mine b → value_at m0 b ≡ None
-
--- that of a reservation
-abbrev pub IsMadeByReserve : Reserving → ℕ → Type 0
-IsMadeByReserve (reserves.Makes making) b = IsMadeBy making.stands b
-IsMadeByReserve (reserves.Grows table making) b = IsMadeBy making.stands b
-IsMadeByReserve (reserves.Copies copier) b = IsMadeByCopier copier.stands b
-IsMadeByReserve _ b = ⊥
 
 -- those of a map that begins: the one of its counter, and the one of the table that it is to have
 abbrev pub IsMadeByOpening : ℕ → Opening → ℕ → Type 0

@@ -2,9 +2,7 @@
 use Rattle.std.proofs.Common.{ℕ, Bool}
 use Rattle.papaya_maps.specs.EndingsBegins.{BeginningsLeaveLess}
 use Rattle.papaya_maps.specs.Listed.{ListsAddUp, InOneOfTwo, FirstOrBehind, WaitsBehindTables, MarkedIsSettledOrOwn}
-use Rattle.papaya_maps.specs.RestsOn.{RestsOnAsSlotsChange, RestsOnThroughCalls, RestsOnAsChosen, RestsAtEachSlot, RestsOnWhereSpared}
 use Rattle.papaya_maps.specs.FaultsBegins.{FreeRootsSuffice, MemoryAloneIsRefused}
-use Rattle.papaya_maps.specs.Spares.{SameSlotsAreKept, CallsSpareOthers, ReservationsSpareOthers}
 use Rattle.papaya_maps.specs.WholeBegins.{MapsBeginAlone, MapsGoOnAlone}
 use Rattle.papaya_alone.proofs.Lone.Copies.{settled_or_own}
 use Rattle.papaya_maps.proofs.Begins.Faults.{free_roots_suffice, memory_alone_is_refused}
@@ -12,42 +10,13 @@ use Rattle.papaya_maps.proofs.Begins.Whole.{maps_begin_alone, maps_go_on_alone}
 use Rattle.papaya_finishes.proofs.Ends.CountedBlocks.{times-append, some_here, some_first, some_last, some_of_two, some_of_first}
 use Rattle.papaya_maps.proofs.Begins.ComesToEnd.{beginnings_leave_less}
 use Rattle.papaya_finishes.proofs.Ends.OrdersOn.{in_waits}
-use Rattle.papaya_maps.proofs.OtherMaps.Calls.{calls_spare_others}
-use Rattle.papaya_maps.proofs.OtherMaps.Plans.{slots_same}
-use Rattle.papaya_maps.proofs.OtherMaps.Reservations.{reservations_spare_others}
-use Rattle.papaya_maps.proofs.Rests.On.{rests_on}
-use Rattle.papaya_maps.proofs.Rests.Promised.{rests_on_as_slots_change, rests_on_through_calls, rests_on_as_chosen, rests_at_each_slot}
-
-module _ {K Q : Type 0} (V : Type 0) (same : K → K → Bool) (hash : K → ℕ) (asks : Q → K → Bool) where
-  pub calls_spare_other_maps : CallsSpareOthers V same hash asks
-  calls_spare_other_maps = calls_spare_others V same hash asks
 
 module _ {K : Type 0} (V : Type 0) (same : K → K → Bool) (hash : K → ℕ) where
-  pub reservations_spare_other_maps : ReservationsSpareOthers V same hash
-  reservations_spare_other_maps = reservations_spare_others V same hash
-
   pub maps_may_begin : MapsBeginAlone V same hash
   maps_may_begin = maps_begin_alone V same hash
 
   pub maps_go_on : MapsGoOnAlone V same hash
   maps_go_on = maps_go_on_alone V same hash
-
-module _ {K V : Type 0} (same : K → K → Bool) (hash : K → ℕ) where
-  pub rests_as_slots_change : RestsOnAsSlotsChange V same hash
-  rests_as_slots_change = rests_on_as_slots_change same hash
-
-  pub rests_through_calls : RestsOnThroughCalls V same hash
-  rests_through_calls = rests_on_through_calls same hash
-
-  pub rests_as_chosen : RestsOnAsChosen V same hash
-  rests_as_chosen = rests_on_as_chosen same hash
-
-  pub rests_at_any_slot : RestsAtEachSlot V same hash
-  rests_at_any_slot = rests_at_each_slot same hash
-
-  pub rests_where_spared : RestsOnWhereSpared V same hash
-  rests_where_spared setting roots m m2 h h2 c blocks rests back spares had2 stays spared hand =
-      rests_on same hash setting roots m m2 h h2 c blocks rests back spares had2 stays spared hand
 
 pub lists_add_up : ListsAddUp
 lists_add_up = times-append
@@ -72,6 +41,3 @@ free_roots_are_enough = free_roots_suffice
 
 pub only_memory_is_refused : (K V : Type 0) → MemoryAloneIsRefused K V
 only_memory_is_refused = memory_alone_is_refused
-
-pub same_slots_are_kept : {T : Type 0} → SameSlotsAreKept T
-same_slots_are_kept = slots_same

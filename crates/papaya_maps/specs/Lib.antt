@@ -6,16 +6,13 @@ pub mod FactsEnds
 pub mod AloneEnds
 pub mod WholeEnds
 pub mod WholeBegins
-pub mod WholeReserves
 pub mod MeasuresBegins
 pub mod EndingsBegins
 pub mod FactsAloneReserves
-pub mod LoneReserves
 pub mod MeasuresEnds
 pub mod EndingsEnds
 pub mod EndingsReserves
 pub mod Listed
-pub mod Spares
 pub mod FaultsBegins
 pub mod NextTables
 pub mod Given

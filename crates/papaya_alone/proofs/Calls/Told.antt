@@ -36,20 +36,12 @@ use Rattle.papaya_callers.specs.Given.Rule.Maps.{spot_of}
 use Rattle.papaya_callers.specs.Given.Points.Steps.{AreLawful}
 use Rattle.papaya_callers.specs.Given.Points.FactsCalls.{Change, Unchanged, Seeks}
 use Rattle.papaya_callers.specs.Given.Points.Told.{IsRowOf, IsRowOfCopier, IsRowOfCall}
-use Rattle.papaya_alone.specs.Alone.{IsBetween, IsRetiring, IsUnderWay, Between, RetiresPair, DefersPair, RetiresTable, RetiresTables, ComesTo}
+use Rattle.papaya_alone.specs.Alone.{IsBetween, IsUnderWay, Between, RetiresPair, DefersPair, RetiresTable, RetiresTables, ComesTo}
 use Rattle.papaya_alone.proofs.Calls.Between.{between_may, between_told}
 use Rattle.papaya_alone.proofs.Rows.Pairs.{pair_begins, pair_may, pair_told}
 use Rattle.papaya_alone.proofs.Rows.Behind.{behind_begins, behind_may, behind_told}
 use Rattle.papaya_alone.proofs.Rows.Tables.{table_begins, table_may, table_told}
 use Rattle.papaya_alone.proofs.Rows.TablesBlocking.{tables_begin, tables_may, tables_told}
-
-module _ {K V Q : Type 0} (same : K → K → Bool) (hash : K → ℕ) (setting : Setting) (roots : ℕ) (asks : Q → K → Bool) (keys : K → Bool)
-    (mem0 : Mem (Node K V)) (pair back : Option (Node K V)) (h0 : History) (c0 : Chart K) (blocks0 : Blocks) where
-  -- where the call is between two rows of the collector, its next step is none of a row
-  abbrev pub IsInItsRow : (p : KeyCall K V Q) (m : Mem (Node K V)) (given : List (Node K V))
-      → IsUnderWay same hash setting roots asks keys mem0 pair back h0 c0 blocks0 p m given → Type 0
-  IsInItsRow p m given (Between h c blocks change rows between none) = IsRowOfCall p.stands → ⊥
-  IsInItsRow p m given _ = Unit {0}
 
 -- a copier is about to retire a table, or it is not
 pub copier_row : (s : Copying) → ((first : Settle) × (rest : ℕ) × (s ≡ copies.Retires first rest)) ⊎ (IsRowOfCopier s → ⊥)
@@ -229,41 +221,3 @@ module _ {K V Q : Type 0} (same : K → K → Bool) (hash : K → ℕ) (setting 
       alone_told (RetiresTables m0 h c blocks rows q copier rest b settle from stands is e row) =
           tables_told same hash setting roots asks keys mem0 pair back h0 c0 blocks0 m0 h c blocks rows q from copier stands (retiring setting.slot setting.batch_size (b * 2048)) rest is settle m given b refl row m2 p2 progress
           (moved (standing q (at.Copies (copying.standing copier (copies.Retires settle rest)))) e)
-
-    -- Where its next step begins a row, it is in that row.
-    in_row : (h : History) (c : Chart K) (blocks : Blocks) (change : Change) (rows : List Waiting) → IsBetween same hash setting roots asks keys mem0 pair back h0 c0 blocks0 m h c blocks change rows p → given ≡ [] → NextRow p
-        → (now : IsUnderWay same hash setting roots asks keys mem0 pair back h0 c0 blocks0 p m given) × IsInItsRow same hash setting roots asks keys mem0 pair back h0 c0 blocks0 p m given now
-    in_row h c blocks change rows from none (NoRow other) = (Between h c blocks change rows from none, other)
-    in_row h c blocks change rows from none (OfPair d answer first is e) =
-        let row = pair_begins same hash setting roots asks keys mem0 pair back h0 c0 blocks0 m h c blocks change rows p d answer from is first e in (
-          RetiresPair m h c blocks change rows p d answer row.0 first from is (e ∙ ap disposes.Settles row.1) (pair_now m h c blocks change rows p from d answer (disposes.Settles first) is e)
-              (subst (λ (l : List (Node K V)). IsRetiring same hash setting roots m h c blocks row.0 first m l) (sym none) row.2),
-          tt,
-        )
-    in_row h c blocks change rows from none (Behind d answer first is e) =
-        let row = behind_begins same hash setting roots asks keys mem0 pair back h0 c0 blocks0 m h c blocks change rows p d answer from is first e in (
-          DefersPair m h c blocks change rows p d answer row.0 row.1 first from is (e ∙ ap disposes.Defers row.2) (pair_now m h c blocks change rows p from d answer (disposes.Defers first) is e) row.3 none,
-          tt,
-        )
-    in_row h c blocks change rows from none (OfTable copier goal first rest is e) =
-        let now = unchanged m h c blocks change rows p from (at.Helps copier goal) is tt in
-        let row = table_begins same hash setting roots asks keys mem0 pair back h0 c0 blocks0 m h c blocks rows p now copier goal is first rest e in (
-          RetiresTable m h c blocks rows p copier goal rest row.0 first now is (e ∙ ap (λ (s : Settle). copies.Retires s rest) row.1)
-              (table_now m h c blocks change rows p from copier goal (copies.Retires first rest) is e) (subst (λ (l : List (Node K V)). IsRetiring same hash setting roots m h c blocks row.0 first m l) (sym none) row.2),
-          tt,
-        )
-    in_row h c blocks change rows from none (OfTables copier first rest is e) =
-        let now = unchanged m h c blocks change rows p from (at.Copies copier) is tt in
-        let row = tables_begin same hash setting roots asks keys mem0 pair back h0 c0 blocks0 m h c blocks rows p now copier is first rest e in (
-          RetiresTables m h c blocks rows p copier rest row.0 first now is (e ∙ ap (λ (s : Settle). copies.Retires s rest) row.1)
-              (tables_now m h c blocks change rows p from copier (copies.Retires first rest) is e) (subst (λ (l : List (Node K V)). IsRetiring same hash setting roots m h c blocks row.0 first m l) (sym none) row.2),
-          tt,
-        )
-
-    pub alone_in_row : IsUnderWay same hash setting roots asks keys mem0 pair back h0 c0 blocks0 p m given
-        → (now : IsUnderWay same hash setting roots asks keys mem0 pair back h0 c0 blocks0 p m given) × IsInItsRow same hash setting roots asks keys mem0 pair back h0 c0 blocks0 p m given now
-    alone_in_row (Between h c blocks change rows from none) = in_row h c blocks change rows from none (next_row p)
-    alone_in_row (RetiresPair m0 h c blocks change rows q d answer b settle from stands is e row) = (RetiresPair m0 h c blocks change rows q d answer b settle from stands is e row, tt)
-    alone_in_row (DefersPair m0 h c blocks change rows q d answer b t defer from stands is e row none) = (DefersPair m0 h c blocks change rows q d answer b t defer from stands is e row none, tt)
-    alone_in_row (RetiresTable m0 h c blocks rows q copier goal rest b settle from stands is e row) = (RetiresTable m0 h c blocks rows q copier goal rest b settle from stands is e row, tt)
-    alone_in_row (RetiresTables m0 h c blocks rows q copier rest b settle from stands is e row) = (RetiresTables m0 h c blocks rows q copier rest b settle from stands is e row, tt)

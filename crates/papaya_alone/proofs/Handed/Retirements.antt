@@ -1,6 +1,5 @@
 -- Tables that are retired one after another: one more at the end, and the same tables where their blocks are the same.
-use Rattle.std.proofs.Common.{◌≡◌, ℕ, zero, suc, ◌+◌, ◌-◌, ◌<◌, ◌≤◌, List, [], ◌∷◌, ◌++◌, refl, arith, ap, ap₂, sym, ◌∙◌}
-use Rattle.std.proofs.lemmas.List.{append_assoc}
+use Rattle.std.proofs.Common.{◌≡◌, ℕ, zero, suc, ◌+◌, ◌<◌, ◌≤◌, List, [], ◌∷◌, ◌++◌, refl, arith, ap, ap₂, ◌∙◌}
 use Rattle.papaya_callers.specs.Given.Seize.WaitingSets.{Change as Waiting, Retires}
 use Rattle.papaya_callers.specs.Given.Rule.Words.{Blocks}
 use Rattle.papaya_alone.specs.Handed.{retirements}
@@ -18,18 +17,3 @@ retirements_same slot blocks blocks2 t zero alike = refl
 retirements_same slot blocks blocks2 t (suc n) alike =
     ap₂ (λ (b : ℕ) (l : List Waiting). Retires slot b ∷ l) (alike t (omega arith) (omega arith))
     (retirements_same slot blocks blocks2 (suc t) n (λ u l m. alike u (omega (arith, l)) (omega (arith, m))))
-
--- one more was retired
-pub retired_more : (slot : ℕ) (blocks : Blocks) (from t : ℕ) → from ≤ t → (before0 before before2 : List Waiting) → before ≡ before0 ++ retirements slot blocks from (t - from)
-    → before2 ≡ before ++ Retires slot (blocks.table t) ∷ [] → before2 ≡ before0 ++ retirements slot blocks from (suc t - from)
-retired_more slot blocks from t low before0 before before2 had more =
-    more ∙ ap (λ (l : List Waiting). l ++ Retires slot (blocks.table t) ∷ []) had ∙ append_assoc before0 (retirements slot blocks from (t - from)) (Retires slot (blocks.table t) ∷ [])
-    ∙ ap (λ (l : List Waiting). before0 ++ l)
-    (sym (ap (retirements slot blocks from) count ∙ retirements_more slot blocks from (t - from)
-    ∙ ap (λ (u : ℕ). retirements slot blocks from (t - from) ++ Retires slot (blocks.table u) ∷ []) there))
-  where
-    count : suc t - from ≡ suc (t - from)
-    count = omega (arith, low)
-
-    there : from + (t - from) ≡ t
-    there = omega (arith, low)
