@@ -1,2 +1,2 @@
--- A map rests on while its collector is used otherwise.
+-- Where nobody else has a part in a copying, no pair is on its way.
 pub mod NoneMoves

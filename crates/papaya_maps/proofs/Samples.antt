@@ -1,4 +1,4 @@
--- What a map's end reclaims, and which retirements a map rests on by, on cases worked by hand.
+-- What the end of a map reclaims, and how it leaves the root, on cases worked by hand.
 use Rattle.std.specs.Prelude.{Some}
 use Rattle.std.proofs.Common.{◌≡◌, ℕ, true, false, [], ◌∷◌, refl}
 use Rattle.papaya_finishes.specs.Given.SeizeWords.declared.at.At.TheVariants.{Root, Used}

@@ -1,10 +1,6 @@
 pub mod AloneBegins
 pub mod AloneReserves
-pub mod RestsOn
 pub mod FactsBegins
-pub mod FactsEnds
-pub mod AloneEnds
-pub mod WholeEnds
 pub mod WholeBegins
 pub mod MeasuresBegins
 pub mod EndingsBegins

@@ -1,12 +1,11 @@
-//! What is promised of maps and reservations that are alone: of beginnings, of a map between calls, and of ends.
+//! What is promised of maps that begin alone, that the end of a map with its collector comes to its end, and of the table after the last one.
 ghost use Rattle.std.specs.Prelude.{ℕ, Bool};
 ghost use Rattle.papaya_maps.specs.Listed.{ListsAddUp, InOneOfTwo, FirstOrBehind, WaitsBehindTables, MarkedIsSettledOrOwn};
 ghost use Rattle.papaya_maps.specs.EndingsBegins.{BeginningsEnd, BeginningsLeaveLess};
-ghost use Rattle.papaya_maps.specs.EndingsEnds.{EndsOfMapsEnd, EndsLeaveLess};
+ghost use Rattle.papaya_maps.specs.EndingsEnds.{OwnEndingsEnd};
 ghost use Rattle.papaya_maps.specs.NextTables.{NextTablesGoByTheCounter};
 ghost use Rattle.papaya_maps.specs.WholeBegins.{MapsBeginAlone, MapsGoOnAlone};
 ghost use Rattle.papaya_maps.specs.FaultsBegins.{FreeRootsSuffice, MemoryAloneIsRefused};
-ghost use Rattle.papaya_maps.specs.WholeEnds.{EndsBeginAlone, EndsGoOnAlone, EndsGiveOnce, OthersRestOn};
 
 /// Over the memory of one owner, where there are roots and those that are free lead nowhere, a map may begin. It may take each of its steps,
 /// and hands nothing to the collector. At its end it rests, with no pair, with no table or one of the length that it was to have and at least 8
@@ -27,19 +26,9 @@ pub fn beginnings_need_memory_alone<K, V>()
     ensures steps { MemoryAloneIsRefused K V }
 {}
 
-/// Over the memory of one owner, a map may end wherever it rests, whatever sections are open. It may take each of its steps, and begins no row of the
-/// collector. At its end it has reclaimed, in this order, the values of its pairs, then table by table from the root those of what the table carries,
-/// the last deferred first, and of the table, and that of its counter. Where the map doesn't own its collector, what its tables carry isn't given
-/// back: it waits behind the root, in one list. Without that the root is free. All other blocks are there with their values, all other roots are as they
-/// were, and what waits elsewhere waits on. Each pair of the map is reclaimed once, and no block is reclaimed twice. Another map of the same
-/// collector that has none of those blocks goes on resting. The end of a map comes to its end: no run of its steps goes on for ever.
-pub fn maps_end_alone<K, V>()
-    ensures begins { (same : K → K → Bool) (hash : K → ℕ) → EndsBeginAlone V same hash }
-    ensures steps { (same : K → K → Bool) (hash : K → ℕ) → EndsGoOnAlone V same hash }
-    ensures once { (same : K → K → Bool) (hash : K → ℕ) → EndsGiveOnce V same hash }
-    ensures others { (same : K → K → Bool) (hash : K → ℕ) → OthersRestOn V same hash }
-    ensures ends { (same : K → K → Bool) (hash : K → ℕ) → EndsOfMapsEnd V same hash }
-    ensures less { (same : K → K → Bool) (hash : K → ℕ) → EndsLeaveLess V same hash }
+/// The end of a map that owns its collector comes to its end, wherever it has come to: no run of its steps goes on for ever.
+pub fn maps_that_own_their_collector_end<K, V, Q>()
+    ensures ends { (same : K → K → Bool) (asks : Q → K → Bool) (batch_size roots : ℕ) (slot : ℕ → ℕ) → OwnEndingsEnd V same asks batch_size roots slot }
 {}
 
 /// How often a block stands in lists. What waits where a map ends waits behind one of its tables. A place that is marked is settled, or claimed by
