@@ -7,3 +7,4 @@ pub mod OfMakings
 pub mod OfAll
 pub mod OfSetups
 pub mod Nobody
+pub mod Given

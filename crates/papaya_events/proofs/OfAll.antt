@@ -1,47 +1,47 @@
 -- Events that reclaim all keep their promises, and a run goes on with them.
 use Rattle.std.specs.Prelude.{◌≡◌, ◌⊎◌, ◌<◌, ◌^◌, nat_lt, ℕ, suc, Bool, true, false, List, [], ◌∷◌, None, Result, Ok, Err, IfOk, slice_index_or, if◌then◌else◌, ◌≤◌}
 use Rattle.std.proofs.Common.{refl, ap, sym, subst, inl, inr, ◌∙◌, arith}
-use Rattle.papaya_histories.specs.Given.Seize.ReclaimAll.{clearing, reclaiming_all}
-use Rattle.papaya_histories.specs.Given.Seize.World.{World}
-use Rattle.papaya_histories.specs.Given.Seize.declared.rows.reclaim_all.ReclaimAll.{ReclaimAll}
-use Rattle.papaya_histories.specs.Given.Seize.declared.rows.settle.Settled.TheVariants as settled
-use Rattle.papaya_histories.specs.Given.Tables.declared.node.Node.{Node}
-use Rattle.papaya_histories.specs.Given.Executor.IsAt.{Scene, IsAt}
-use Rattle.papaya_histories.specs.Given.Finishes.Makings.{IsFreeRoot}
-use Rattle.seize_words.specs.declared.fault.Fault.TheVariants.{Busy}
-use Rattle.papaya_schedules.specs.declared.event.Event.{Event}
-use Rattle.papaya_schedules.specs.declared.event.Event.TheVariants as events
-use Rattle.papaya_schedules.specs.declared.outcome.Outcome.{Outcome}
-use Rattle.papaya_schedules.specs.declared.outcome.Outcome.TheVariants.{Done, Refused}
-use Rattle.papaya_schedules.specs.After.{moment}
-use Rattle.papaya_schedules.specs.Effects.{AtEachEffect}
-use Rattle.papaya_schedules.specs.Entry.{Entry, speaker}
-use Rattle.papaya_schedules.specs.Handing.{gives_all}
-use Rattle.papaya_schedules.specs.InTurn.{ComesRight, IsKeptOut}
-use Rattle.papaya_schedules.specs.Moment.{Moment}
-use Rattle.papaya_schedules.specs.Terms.{Terms}
-use Rattle.papaya_effects.specs.Known.{known}
-use Rattle.papaya_reclaims.specs.Left.{IsSomebodys, LeftAmong}
-use Rattle.papaya_reclaims.specs.Reclaims.{IsRootOf}
-use Rattle.papaya_reclaims.proofs.Left.Stays.{nothing_is_left}
-use Rattle.papaya_reclaiming.specs.Reclaiming.{IsReclaiming, MayReclaim, NobodyHas}
-use Rattle.papaya_finds.specs.Little.{ReclaimsAll}
+use Rattle.papaya_folded.specs.Given.Seize.ReclaimAll.{clearing, reclaiming_all}
+use Rattle.papaya_folded.specs.Given.Seize.World.{World}
+use Rattle.papaya_folded.specs.Given.Seize.declared.rows.reclaim_all.ReclaimAll.{ReclaimAll}
+use Rattle.papaya_folded.specs.Given.Seize.declared.rows.settle.Settled.TheVariants as settled
+use Rattle.papaya_folded.specs.Given.Tables.declared.node.Node.{Node}
+use Rattle.papaya_folded.specs.Given.Executor.IsAt.{Scene, IsAt}
+use Rattle.papaya_folded.specs.Given.Finishes.Makings.{IsFreeRoot}
+use Rattle.papaya_folded.specs.Given.SeizeWords.declared.fault.Fault.TheVariants.{Busy}
+use Rattle.papaya_folded.specs.Given.Schedules.declared.event.Event.{Event}
+use Rattle.papaya_folded.specs.Given.Schedules.declared.event.Event.TheVariants as events
+use Rattle.papaya_folded.specs.Given.Schedules.declared.outcome.Outcome.{Outcome}
+use Rattle.papaya_folded.specs.Given.Schedules.declared.outcome.Outcome.TheVariants.{Done, Refused}
+use Rattle.papaya_folded.specs.Given.Schedules.After.{moment}
+use Rattle.papaya_folded.specs.Given.Schedules.Effects.{AtEachEffect}
+use Rattle.papaya_folded.specs.Given.Schedules.Entry.{Entry, speaker}
+use Rattle.papaya_folded.specs.Given.Schedules.Handing.{gives_all}
+use Rattle.papaya_folded.specs.Given.Schedules.InTurn.{ComesRight, IsKeptOut}
+use Rattle.papaya_folded.specs.Given.Schedules.Moment.{Moment}
+use Rattle.papaya_folded.specs.Given.Schedules.Terms.{Terms}
+use Rattle.papaya_folded.specs.Given.Effects.Known.{known}
+use Rattle.papaya_folded.specs.Given.Reclaims.Left.{IsSomebodys, LeftAmong}
+use Rattle.papaya_folded.specs.Given.Reclaims.Reclaims.{IsRootOf}
+use Rattle.papaya_folded.proofs.Given.Reclaims.Left.Stays.{nothing_is_left}
+use Rattle.papaya_folded.specs.Given.Reclaiming.Reclaiming.{IsReclaiming, MayReclaim, NobodyHas}
+use Rattle.papaya_folded.specs.Given.Finds.Little.{ReclaimsAll}
 use Rattle.papaya_folded.proofs.Steps.{none_in_order}
-use Rattle.papaya_legal.proofs.Come.{events_bring_things}
-use Rattle.papaya_legal.proofs.Heads.Chains.{all_step, all_taken}
-use Rattle.papaya_legal.proofs.Heads.Rows.{slots_stay, taken_then}
-use Rattle.papaya_legal.specs.AllEvents.{AllCome, AllSteps, BeginsAll, BehindAreLeft, BehindIsLeft, FindsPair, LeftIsBehind, all_begun}
-use Rattle.papaya_legal.specs.CallEvents.{IsLegalBut}
-use Rattle.papaya_legal.specs.Carried.{ShowsRun}
-use Rattle.papaya_legal.proofs.OfAll.Ends.{all_runs_to_its_end, none_called}
-use Rattle.papaya_legal.proofs.OfAll.Pairs.{all_find_pairs}
-use Rattle.papaya_logged.specs.Goes.{Far, ReclaimingGone, far}
-use Rattle.papaya_logged.specs.Shown.{IsShown}
-use Rattle.papaya_logged.proofs.ReclaimsRun.{same_setting}
+use Rattle.papaya_folded.proofs.Given.Legal.Come.{events_bring_things}
+use Rattle.papaya_folded.proofs.Given.Legal.Heads.Chains.{all_step, all_taken}
+use Rattle.papaya_folded.proofs.Given.Legal.Heads.Rows.{slots_stay, taken_then}
+use Rattle.papaya_folded.specs.Given.Legal.AllEvents.{AllCome, AllSteps, BeginsAll, BehindAreLeft, BehindIsLeft, FindsPair, LeftIsBehind, all_begun}
+use Rattle.papaya_folded.specs.Given.Legal.CallEvents.{IsLegalBut}
+use Rattle.papaya_folded.specs.Given.Legal.Carried.{ShowsRun}
+use Rattle.papaya_folded.proofs.Given.Legal.OfAll.Ends.{all_runs_to_its_end, none_called}
+use Rattle.papaya_folded.proofs.Given.Legal.OfAll.Pairs.{all_find_pairs}
+use Rattle.papaya_folded.specs.Given.Logged.Goes.{Far, ReclaimingGone, far}
+use Rattle.papaya_folded.specs.Given.Logged.Shown.{IsShown}
+use Rattle.papaya_folded.proofs.Given.Logged.ReclaimsRun.{same_setting}
 use Rattle.papaya_scheduler.specs.AllWorks.{WorksOnAll}
 use Rattle.papaya_scheduler.specs.Played.{IsPlayed, entry_of}
 use Rattle.papaya_scheduler.specs.Reclaiming.{MayGiveAll, are_gone}
-use Rattle.papaya_named.specs.declared.caller.Callers.{Callers}
+use Rattle.papaya_folded.specs.Given.Named.declared.caller.Callers.{Callers}
 use Rattle.papaya_scheduler.specs.declared.played.Played.{Played}
 use Rattle.papaya_scheduler.specs.declared.scheduler.Scheduler.{Scheduler}
 use Rattle.papaya_mapping.proofs.AllGiven.{may_reclaim, nobody_has}

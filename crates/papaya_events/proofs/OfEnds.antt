@@ -4,62 +4,62 @@ use Rattle.std.specs.List.{list_all}
 use Rattle.std.proofs.Common.{refl, sym, ap, subst, inl, inr, ◌∙◌, arith}
 use Rattle.std.proofs.lemmas.Bool.{cases_eq}
 use Rattle.std.proofs.lemmas.List.{append-nil}
-use Rattle.papaya_histories.specs.Given.Seize.declared.rows.settle.Settled.{Settled}
-use Rattle.papaya_histories.specs.Given.Seize.declared.rows.settle.Settled.TheVariants as settled
-use Rattle.papaya_histories.specs.Given.Runs.Same.{is_same}
-use Rattle.papaya_histories.specs.Given.Tables.Chunks.{is_incremental}
-use Rattle.papaya_histories.specs.Given.Tables.declared.node.Node.{Node}
-use Rattle.papaya_histories.proofs.Given.Callers.Together.At.{at_other, at_same}
-use Rattle.papaya_histories.specs.Given.Executor.Ending.{EndingLeads, NoCallOn, ending_begun}
-use Rattle.papaya_histories.specs.Given.Executor.IsAt.{Scene, IsAt}
-use Rattle.papaya_histories.specs.Given.Executor.declared.executor.Executor.{Executor}
-use Rattle.papaya_histories.specs.Given.Finishes.Endings.{Finishing, finishing_of}
-use Rattle.papaya_histories.specs.Given.Finishes.FactsEnds.{taken_by as taken_of}
-use Rattle.papaya_histories.specs.Given.Finishes.Maps.{Standing}
-use Rattle.papaya_histories.specs.Given.Finishes.Orders.{pairs_of}
-use Rattle.papaya_histories.specs.Given.Rule.Chart.{Chart}
-use Rattle.papaya_histories.specs.Given.Moments.Endings.{IsOfIts}
-use Rattle.papaya_histories.specs.Given.Moments.WholeEnds.{all_ended, tables_ended}
-use Rattle.papaya_histories.specs.Given.Others.Endings.{ending_after}
-use Rattle.papaya_histories.specs.Given.Rule.InWorld.{IsMapIn}
-use Rattle.papaya_histories.proofs.Given.Rule.Laws.{current_is_known}
-use Rattle.papaya_histories.specs.Given.Follows.Maps.{ShowsMap}
-use Rattle.papaya_schedules.specs.declared.effect.Effect.{Effect}
-use Rattle.papaya_schedules.specs.declared.effect.Effect.TheVariants.{Ended}
-use Rattle.papaya_schedules.specs.declared.event.Event.{Event}
-use Rattle.papaya_schedules.specs.declared.event.Event.TheVariants.{EndMap}
-use Rattle.papaya_schedules.specs.declared.outcome.Outcome.TheVariants.{Done, Refused}
-use Rattle.papaya_schedules.specs.After.{moment}
-use Rattle.papaya_schedules.specs.Effects.{AtEachEffect, with_effects, worked}
-use Rattle.papaya_schedules.specs.Entry.{Entry}
-use Rattle.papaya_schedules.specs.Handing.{EndsMap, EndsNamed, IsWhole, may_do}
-use Rattle.papaya_schedules.specs.InTurn.{ComesRight, is_kept_out}
-use Rattle.papaya_schedules.specs.Lives.{Finds}
-use Rattle.papaya_schedules.specs.Moment.{MapThere, Moment}
-use Rattle.papaya_schedules.specs.Terms.{Terms, shards_of}
-use Rattle.papaya_schedules.specs.Views.{map_at, map_of, number_of}
-use Rattle.papaya_effects.specs.Effects.{effects_of, known_after}
-use Rattle.papaya_effects.specs.Known.{Known, known}
-use Rattle.papaya_effects.specs.declared.acting.Acting.TheVariants as acts
-use Rattle.papaya_effects.specs.declared.role.Role.TheVariants as role
-use Rattle.papaya_executor.proofs.Fresh.{no_ending_yet}
-use Rattle.papaya_legal.proofs.Heads.Chains.{endings_taken}
-use Rattle.papaya_legal.proofs.Heads.Rows.{slots_stay}
-use Rattle.papaya_legal.specs.CallEvents.{IsLegalBut}
-use Rattle.papaya_legal.specs.Carried.{ShowsRun}
-use Rattle.papaya_legal.specs.Chains.{Chain, Come, EndSteps}
-use Rattle.papaya_legal.specs.MapEvents.{InEndEvent}
-use Rattle.papaya_legal.proofs.Chains.{ends_chain, ends_run_to_their_ends}
-use Rattle.papaya_legal.proofs.MapsOver.{end_events_begin_so}
-use Rattle.papaya_remains.proofs.Numbered.{made_stays}
-use Rattle.papaya_logged.specs.Ends.{EndCame, EndIsBegun, NotedStill, NotesMap, ended_as, is_done}
-use Rattle.papaya_logged.specs.Goes.{EndGoes, EndOn, Far, GoesFor, far}
-use Rattle.papaya_logged.specs.Shown.{IsCounted, IsShown}
-use Rattle.papaya_logged.specs.Waits.{TellsLeft, TellsWaiting}
-use Rattle.papaya_logged.proofs.Counted.{counted_end_steps}
-use Rattle.papaya_logged.proofs.LeftNoted.{endings_note_left}
-use Rattle.papaya_logged.proofs.EndSteps.{did_end, end_there, ends_alone, noted_on}
-use Rattle.papaya_rows.proofs.Lists.{found_has}
+use Rattle.papaya_folded.specs.Given.Seize.declared.rows.settle.Settled.{Settled}
+use Rattle.papaya_folded.specs.Given.Seize.declared.rows.settle.Settled.TheVariants as settled
+use Rattle.papaya_folded.specs.Given.Runs.Same.{is_same}
+use Rattle.papaya_folded.specs.Given.Tables.Chunks.{is_incremental}
+use Rattle.papaya_folded.specs.Given.Tables.declared.node.Node.{Node}
+use Rattle.papaya_folded.proofs.Given.Callers.Together.At.{at_other, at_same}
+use Rattle.papaya_folded.specs.Given.Executor.Ending.{EndingLeads, NoCallOn, ending_begun}
+use Rattle.papaya_folded.specs.Given.Executor.IsAt.{Scene, IsAt}
+use Rattle.papaya_folded.specs.Given.Executor.declared.executor.Executor.{Executor}
+use Rattle.papaya_folded.specs.Given.Finishes.Endings.{Finishing, finishing_of}
+use Rattle.papaya_folded.specs.Given.Finishes.FactsEnds.{taken_by as taken_of}
+use Rattle.papaya_folded.specs.Given.Finishes.Maps.{Standing}
+use Rattle.papaya_folded.specs.Given.Finishes.Orders.{pairs_of}
+use Rattle.papaya_folded.specs.Given.Rule.Chart.{Chart}
+use Rattle.papaya_folded.specs.Given.Moments.Endings.{IsOfIts}
+use Rattle.papaya_folded.specs.Given.Moments.WholeEnds.{all_ended, tables_ended}
+use Rattle.papaya_folded.specs.Given.Others.Endings.{ending_after}
+use Rattle.papaya_folded.specs.Given.Rule.InWorld.{IsMapIn}
+use Rattle.papaya_folded.proofs.Given.Rule.Laws.{current_is_known}
+use Rattle.papaya_folded.specs.Given.Follows.Maps.{ShowsMap}
+use Rattle.papaya_folded.specs.Given.Schedules.declared.effect.Effect.{Effect}
+use Rattle.papaya_folded.specs.Given.Schedules.declared.effect.Effect.TheVariants.{Ended}
+use Rattle.papaya_folded.specs.Given.Schedules.declared.event.Event.{Event}
+use Rattle.papaya_folded.specs.Given.Schedules.declared.event.Event.TheVariants.{EndMap}
+use Rattle.papaya_folded.specs.Given.Schedules.declared.outcome.Outcome.TheVariants.{Done, Refused}
+use Rattle.papaya_folded.specs.Given.Schedules.After.{moment}
+use Rattle.papaya_folded.specs.Given.Schedules.Effects.{AtEachEffect, with_effects, worked}
+use Rattle.papaya_folded.specs.Given.Schedules.Entry.{Entry}
+use Rattle.papaya_folded.specs.Given.Schedules.Handing.{EndsMap, EndsNamed, IsWhole, may_do}
+use Rattle.papaya_folded.specs.Given.Schedules.InTurn.{ComesRight, is_kept_out}
+use Rattle.papaya_folded.specs.Given.Schedules.Lives.{Finds}
+use Rattle.papaya_folded.specs.Given.Schedules.Moment.{MapThere, Moment}
+use Rattle.papaya_folded.specs.Given.Schedules.Terms.{Terms, shards_of}
+use Rattle.papaya_folded.specs.Given.Schedules.Views.{map_at, map_of, number_of}
+use Rattle.papaya_folded.specs.Given.Effects.Effects.{effects_of, known_after}
+use Rattle.papaya_folded.specs.Given.Effects.Known.{Known, known}
+use Rattle.papaya_folded.specs.Given.Effects.declared.acting.Acting.TheVariants as acts
+use Rattle.papaya_folded.specs.Given.Effects.declared.role.Role.TheVariants as role
+use Rattle.papaya_folded.proofs.Given.Executor.Fresh.{no_ending_yet}
+use Rattle.papaya_folded.proofs.Given.Legal.Heads.Chains.{endings_taken}
+use Rattle.papaya_folded.proofs.Given.Legal.Heads.Rows.{slots_stay}
+use Rattle.papaya_folded.specs.Given.Legal.CallEvents.{IsLegalBut}
+use Rattle.papaya_folded.specs.Given.Legal.Carried.{ShowsRun}
+use Rattle.papaya_folded.specs.Given.Legal.Chains.{Chain, Come, EndSteps}
+use Rattle.papaya_folded.specs.Given.Legal.MapEvents.{InEndEvent}
+use Rattle.papaya_folded.proofs.Given.Legal.Chains.{ends_chain, ends_run_to_their_ends}
+use Rattle.papaya_folded.proofs.Given.Legal.MapsOver.{end_events_begin_so}
+use Rattle.papaya_folded.proofs.Given.Remains.Numbered.{made_stays}
+use Rattle.papaya_folded.specs.Given.Logged.Ends.{EndCame, EndIsBegun, NotedStill, NotesMap, ended_as, is_done}
+use Rattle.papaya_folded.specs.Given.Logged.Goes.{EndGoes, EndOn, Far, GoesFor, far}
+use Rattle.papaya_folded.specs.Given.Logged.Shown.{IsCounted, IsShown}
+use Rattle.papaya_folded.specs.Given.Logged.Waits.{TellsLeft, TellsWaiting}
+use Rattle.papaya_folded.proofs.Given.Logged.Counted.{counted_end_steps}
+use Rattle.papaya_folded.proofs.Given.Logged.LeftNoted.{endings_note_left}
+use Rattle.papaya_folded.proofs.Given.Logged.EndSteps.{did_end, end_there, ends_alone, noted_on}
+use Rattle.papaya_folded.proofs.Given.Rows.Lists.{found_has}
 use Rattle.papaya_scheduler.specs.Mapping.{AreApart}
 use Rattle.papaya_scheduler.specs.Played.{IsDue, IsPlayed, entry_of}
 use Rattle.papaya_scheduler.specs.Works.{HasEndedMap, WorksOnEnd}

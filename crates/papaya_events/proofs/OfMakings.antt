@@ -4,60 +4,60 @@ use Rattle.std.specs.List.{AllByRecursion}
 use Rattle.std.proofs.Common.{refl, sym, ap, subst, inl, inr, ◌∙◌, arith}
 use Rattle.std.proofs.lemmas.Bool.{eq-eqb, ne_eqb}
 use Rattle.std.proofs.lemmas.Nat.{pow_pos}
-use Rattle.papaya_histories.specs.Given.Seize.declared.progress.Progress.{Progress}
-use Rattle.papaya_histories.specs.Given.Seize.declared.progress.Progress.TheVariants as progress
-use Rattle.papaya_histories.specs.Given.Runs.Same.{is_same}
-use Rattle.papaya_histories.specs.Given.Tables.declared.resize_mode.ResizeMode.{ResizeMode}
-use Rattle.papaya_histories.specs.Given.Tables.Lengths.{places_for}
-use Rattle.papaya_histories.specs.Given.Tables.Powers.{floor_log2, next_power}
-use Rattle.papaya_histories.specs.Given.Tables.declared.setting.Setting.{Setting}
-use Rattle.papaya_histories.proofs.Given.Callers.Together.At.{at_same}
-use Rattle.papaya_histories.specs.Given.Executor.IsAt.{Scene, IsAt}
-use Rattle.papaya_histories.specs.Given.Executor.declared.executor.Executor.{Executor}
-use Rattle.papaya_histories.specs.Given.Finishes.Makings.{Beginning}
-use Rattle.papaya_histories.specs.Given.Finishes.Maps.{Standing}
-use Rattle.papaya_histories.specs.Given.Others.Makings.{IsNew, WasNew}
-use Rattle.seize_words.specs.declared.fault.Fault.{Fault}
-use Rattle.papaya_runs.proofs.Sames.{same_refl}
-use Rattle.papaya_schedules.specs.declared.effect.Effect.{Effect}
-use Rattle.papaya_schedules.specs.declared.event.Event.{Event}
-use Rattle.papaya_schedules.specs.declared.event.Event.TheVariants.{MakeMap}
-use Rattle.papaya_schedules.specs.declared.outcome.Outcome.TheVariants.{Done, Refused}
-use Rattle.papaya_schedules.specs.After.{moment}
-use Rattle.papaya_schedules.specs.Beginning.{used_roots, with_map}
-use Rattle.papaya_schedules.specs.Effects.{with_effects, worked}
-use Rattle.papaya_schedules.specs.Entry.{Entry}
-use Rattle.papaya_schedules.specs.Handing.{IsWhole, is_first_making, may_do, tables_named}
-use Rattle.papaya_schedules.specs.InTurn.{ComesRight, is_kept_out}
-use Rattle.papaya_schedules.specs.Lists.{least_free}
-use Rattle.papaya_schedules.specs.Moment.{MapThere, Moment}
-use Rattle.papaya_schedules.specs.Terms.{Terms, shards_of}
-use Rattle.papaya_schedules.specs.Views.{map_at, map_of, number_of, tables_of}
-use Rattle.papaya_effects.specs.Known.{Known, known}
-use Rattle.papaya_effects.specs.declared.notes.Notes.{Notes}
-use Rattle.papaya_legal.proofs.Heads.Chains.{makings_taken}
-use Rattle.papaya_legal.proofs.Heads.Rows.{slots_stay}
-use Rattle.papaya_finds.proofs.Capacities.{given_are_for}
-use Rattle.papaya_legal.specs.CallEvents.{IsLegalBut}
-use Rattle.papaya_models.specs.Follows.{FollowsModel}
-use Rattle.papaya_legal.specs.Carried.{ComesAlone, ShowsRun}
-use Rattle.papaya_legal.specs.Chains.{Chain as StepChain, Come, MakingSteps}
-use Rattle.papaya_legal.specs.MapEvents.{InMakingEvent}
-use Rattle.papaya_legal.proofs.Chains.{makings_run_to_their_ends}
-use Rattle.papaya_legal.proofs.MapsOver.{making_events_begin_so}
+use Rattle.papaya_folded.specs.Given.Seize.declared.progress.Progress.{Progress}
+use Rattle.papaya_folded.specs.Given.Seize.declared.progress.Progress.TheVariants as progress
+use Rattle.papaya_folded.specs.Given.Runs.Same.{is_same}
+use Rattle.papaya_folded.specs.Given.Tables.declared.resize_mode.ResizeMode.{ResizeMode}
+use Rattle.papaya_folded.specs.Given.Tables.Lengths.{places_for}
+use Rattle.papaya_folded.specs.Given.Tables.Powers.{floor_log2, next_power}
+use Rattle.papaya_folded.specs.Given.Tables.declared.setting.Setting.{Setting}
+use Rattle.papaya_folded.proofs.Given.Callers.Together.At.{at_same}
+use Rattle.papaya_folded.specs.Given.Executor.IsAt.{Scene, IsAt}
+use Rattle.papaya_folded.specs.Given.Executor.declared.executor.Executor.{Executor}
+use Rattle.papaya_folded.specs.Given.Finishes.Makings.{Beginning}
+use Rattle.papaya_folded.specs.Given.Finishes.Maps.{Standing}
+use Rattle.papaya_folded.specs.Given.Others.Makings.{IsNew, WasNew}
+use Rattle.papaya_folded.specs.Given.SeizeWords.declared.fault.Fault.{Fault}
+use Rattle.papaya_folded.proofs.Given.Runs.Sames.{same_refl}
+use Rattle.papaya_folded.specs.Given.Schedules.declared.effect.Effect.{Effect}
+use Rattle.papaya_folded.specs.Given.Schedules.declared.event.Event.{Event}
+use Rattle.papaya_folded.specs.Given.Schedules.declared.event.Event.TheVariants.{MakeMap}
+use Rattle.papaya_folded.specs.Given.Schedules.declared.outcome.Outcome.TheVariants.{Done, Refused}
+use Rattle.papaya_folded.specs.Given.Schedules.After.{moment}
+use Rattle.papaya_folded.specs.Given.Schedules.Beginning.{used_roots, with_map}
+use Rattle.papaya_folded.specs.Given.Schedules.Effects.{with_effects, worked}
+use Rattle.papaya_folded.specs.Given.Schedules.Entry.{Entry}
+use Rattle.papaya_folded.specs.Given.Schedules.Handing.{IsWhole, is_first_making, may_do, tables_named}
+use Rattle.papaya_folded.specs.Given.Schedules.InTurn.{ComesRight, is_kept_out}
+use Rattle.papaya_folded.specs.Given.Schedules.Lists.{least_free}
+use Rattle.papaya_folded.specs.Given.Schedules.Moment.{MapThere, Moment}
+use Rattle.papaya_folded.specs.Given.Schedules.Terms.{Terms, shards_of}
+use Rattle.papaya_folded.specs.Given.Schedules.Views.{map_at, map_of, number_of, tables_of}
+use Rattle.papaya_folded.specs.Given.Effects.Known.{Known, known}
+use Rattle.papaya_folded.specs.Given.Effects.declared.notes.Notes.{Notes}
+use Rattle.papaya_folded.proofs.Given.Legal.Heads.Chains.{makings_taken}
+use Rattle.papaya_folded.proofs.Given.Legal.Heads.Rows.{slots_stay}
+use Rattle.papaya_folded.proofs.Given.Finds.Capacities.{given_are_for}
+use Rattle.papaya_folded.specs.Given.Legal.CallEvents.{IsLegalBut}
+use Rattle.papaya_folded.specs.Given.Models.Follows.{FollowsModel}
+use Rattle.papaya_folded.specs.Given.Legal.Carried.{ComesAlone, ShowsRun}
+use Rattle.papaya_folded.specs.Given.Legal.Chains.{Chain as StepChain, Come, MakingSteps}
+use Rattle.papaya_folded.specs.Given.Legal.MapEvents.{InMakingEvent}
+use Rattle.papaya_folded.proofs.Given.Legal.Chains.{makings_run_to_their_ends}
+use Rattle.papaya_folded.proofs.Given.Legal.MapsOver.{making_events_begin_so}
 use Rattle.papaya_works.proofs.Firsts.{makings_open}
-use Rattle.papaya_reclaims.specs.Left.{LeftAmong}
-use Rattle.papaya_logged.specs.Goes.{far}
-use Rattle.papaya_logged.specs.Makings.{MakingIsBegun}
-use Rattle.papaya_logged.specs.Shown.{IsShown}
-use Rattle.papaya_logged.specs.declared.logged.Logged.{Logged}
-use Rattle.papaya_logged.proofs.GivenBack.{with_maps}
-use Rattle.papaya_rows.proofs.Lists.{found_alike}
-use Rattle.papaya_tables.proofs.Logarithms.{next-power-unique}
-use Rattle.papaya_named.specs.Places.{first_places}
+use Rattle.papaya_folded.specs.Given.Reclaims.Left.{LeftAmong}
+use Rattle.papaya_folded.specs.Given.Logged.Goes.{far}
+use Rattle.papaya_folded.specs.Given.Logged.Makings.{MakingIsBegun}
+use Rattle.papaya_folded.specs.Given.Logged.Shown.{IsShown}
+use Rattle.papaya_folded.specs.Given.Logged.declared.logged.Logged.{Logged}
+use Rattle.papaya_folded.proofs.Given.Logged.GivenBack.{with_maps}
+use Rattle.papaya_folded.proofs.Given.Rows.Lists.{found_alike}
+use Rattle.papaya_folded.proofs.Given.Tables.Logarithms.{next-power-unique}
+use Rattle.papaya_folded.specs.Given.Named.Places.{first_places}
 use Rattle.papaya_scheduler.specs.Mapping.{MayMap, may_make_of}
 use Rattle.papaya_scheduler.specs.Played.{IsPlayed, entry_of}
-use Rattle.papaya_named.specs.Seen.{named as named_of_map, number_named}
+use Rattle.papaya_folded.specs.Given.Named.Seen.{named as named_of_map, number_named}
 use Rattle.papaya_scheduler.specs.Works.{MakingHasRun, WorksOnMap}
 use Rattle.papaya_scheduler.specs.declared.played.Played.{Played}
 use Rattle.papaya_scheduler.specs.declared.scheduler.Scheduler.{Scheduler}

@@ -2,60 +2,60 @@
 use Rattle.std.specs.Prelude.{◌≡◌, ◌≤◌, ◌&&◌, ◌||◌, ◌<◌, ◌^◌, ℕ, Bool, true, false, List, [], ◌∷◌, Some, None, Result, Ok, Err, IfOk, if◌then◌else◌}
 use Rattle.std.specs.List.{list_all}
 use Rattle.std.proofs.Common.{refl, ap, sym, subst, inl, inr, ◌∙◌, arith}
-use Rattle.papaya_histories.specs.Given.SeizeWords.Mem.{Mem}
-use Rattle.papaya_histories.specs.Given.Seize.World.{Begin, IsInside, Rests, SlotsTaken}
-use Rattle.papaya_histories.specs.Given.Seize.declared.rows.register.Registering.TheVariants as registering
-use Rattle.papaya_histories.specs.Given.Tables.declared.node.Node.{Node}
-use Rattle.papaya_histories.specs.Given.Executor.IsAt.{Scene, slot_of}
-use Rattle.papaya_histories.specs.Given.Executor.OnSlots.{MayBegin, RowBegins}
-use Rattle.papaya_histories.specs.Given.Executor.Rows.{request_of}
-use Rattle.papaya_histories.specs.Given.Executor.declared.row.RowTold.{RowTold}
-use Rattle.papaya_histories.specs.Given.Executor.declared.row.SlotCall.{SlotCall}
-use Rattle.papaya_histories.specs.Given.Others.Rows.{scene_then}
-use Rattle.papaya_histories.proofs.Given.Spots.Unreclaimed.{and_both, or_right}
-use Rattle.papaya_histories.specs.Given.SeizeWords.declared.fault.Fault.TheVariants.{Busy}
-use Rattle.papaya_histories.specs.Given.Executor.declared.row.SlotCall.TheVariants as call
-use Rattle.papaya_histories.specs.Given.Executor.declared.worker.Work.TheVariants.{OnSlot}
-use Rattle.papaya_runs.specs.Present.{has_registration}
-use Rattle.papaya_schedules.specs.declared.effect.Effect.{Effect}
-use Rattle.papaya_schedules.specs.declared.event.Event.{Event}
-use Rattle.papaya_schedules.specs.declared.event.Event.TheVariants.{DropGuard, Enter, Flush, Own, Refresh, Register, Unregister}
-use Rattle.papaya_schedules.specs.declared.outcome.Outcome.{Outcome}
-use Rattle.papaya_schedules.specs.declared.outcome.Outcome.TheVariants.{Done, Refused}
-use Rattle.papaya_schedules.specs.After.{moment, slots_on}
-use Rattle.papaya_schedules.specs.Beginning.{begun}
-use Rattle.papaya_schedules.specs.Effects.{AtEachEffect}
-use Rattle.papaya_schedules.specs.Entry.{Entry, acted_on, speaker}
-use Rattle.papaya_schedules.specs.Handing.{asks_for_bucket, gives_all, is_only, is_reclaiming, may_do}
-use Rattle.papaya_schedules.specs.InTurn.{ComesRight, is_kept_out}
-use Rattle.papaya_schedules.specs.Lives.{Finds}
-use Rattle.papaya_schedules.specs.Moment.{Moment}
-use Rattle.papaya_schedules.specs.InUse.{used_slots}
-use Rattle.papaya_schedules.specs.Lists.{least_free}
-use Rattle.papaya_runs.specs.Present.{Present}
-use Rattle.papaya_schedules.specs.Terms.{Terms}
-use Rattle.papaya_effects.specs.Known.{known}
-use Rattle.papaya_effects.specs.declared.notes.Notes.{Notes}
-use Rattle.papaya_histories.specs.Given.Executor.Rows.{begun_row}
-use Rattle.papaya_histories.specs.Given.Executor.declared.row.RowTold.TheVariants as told
-use Rattle.papaya_promises.specs.Others.{SparesGuards}
-use Rattle.papaya_promises.specs.Protected.{is_of_slots, there_in}
-use Rattle.papaya_models.specs.OnSlots.{IsRowFor}
-use Rattle.papaya_finds.specs.Little.{ReclaimsAll}
-use Rattle.papaya_legal.proofs.Heads.Registers.{IsOtherCall, ThenSo, other_begun, others_taken, registers_taken}
-use Rattle.papaya_legal.specs.CallEvents.{IsLegalBut}
-use Rattle.papaya_legal.specs.Carried.{ShowsRun}
-use Rattle.papaya_legal.specs.Chains.{Chain as StepChain, RowSteps}
-use Rattle.papaya_legal.specs.Found.{AsksInNeed}
-use Rattle.papaya_legal.specs.SlotEvents.{InSlotEvent}
-use Rattle.papaya_legal.proofs.Chains.{rows_run_to_their_ends}
-use Rattle.papaya_legal.proofs.Found.{row_chains_find}
-use Rattle.papaya_legal.proofs.Slots.{slot_events_begin_so}
-use Rattle.papaya_logged.specs.Goes.{far}
-use Rattle.papaya_logged.specs.OnSlots.{has_come}
-use Rattle.papaya_remains.specs.Slots.{SlotsNoted}
-use Rattle.papaya_rows.specs.Rows.{RowRan, left_as}
-use Rattle.papaya_rows.proofs.Facts.{row_rests}
+use Rattle.papaya_folded.specs.Given.SeizeWords.Mem.{Mem}
+use Rattle.papaya_folded.specs.Given.Seize.World.{Begin, IsInside, Rests, SlotsTaken}
+use Rattle.papaya_folded.specs.Given.Seize.declared.rows.register.Registering.TheVariants as registering
+use Rattle.papaya_folded.specs.Given.Tables.declared.node.Node.{Node}
+use Rattle.papaya_folded.specs.Given.Executor.IsAt.{Scene, slot_of}
+use Rattle.papaya_folded.specs.Given.Executor.OnSlots.{MayBegin, RowBegins}
+use Rattle.papaya_folded.specs.Given.Executor.Rows.{request_of}
+use Rattle.papaya_folded.specs.Given.Executor.declared.row.RowTold.{RowTold}
+use Rattle.papaya_folded.specs.Given.Executor.declared.row.SlotCall.{SlotCall}
+use Rattle.papaya_folded.specs.Given.Others.Rows.{scene_then}
+use Rattle.papaya_folded.proofs.Given.Spots.Unreclaimed.{and_both, or_right}
+use Rattle.papaya_folded.specs.Given.SeizeWords.declared.fault.Fault.TheVariants.{Busy}
+use Rattle.papaya_folded.specs.Given.Executor.declared.row.SlotCall.TheVariants as call
+use Rattle.papaya_folded.specs.Given.Executor.declared.worker.Work.TheVariants.{OnSlot}
+use Rattle.papaya_folded.specs.Given.Runs.Present.{has_registration}
+use Rattle.papaya_folded.specs.Given.Schedules.declared.effect.Effect.{Effect}
+use Rattle.papaya_folded.specs.Given.Schedules.declared.event.Event.{Event}
+use Rattle.papaya_folded.specs.Given.Schedules.declared.event.Event.TheVariants.{DropGuard, Enter, Flush, Own, Refresh, Register, Unregister}
+use Rattle.papaya_folded.specs.Given.Schedules.declared.outcome.Outcome.{Outcome}
+use Rattle.papaya_folded.specs.Given.Schedules.declared.outcome.Outcome.TheVariants.{Done, Refused}
+use Rattle.papaya_folded.specs.Given.Schedules.After.{moment, slots_on}
+use Rattle.papaya_folded.specs.Given.Schedules.Beginning.{begun}
+use Rattle.papaya_folded.specs.Given.Schedules.Effects.{AtEachEffect}
+use Rattle.papaya_folded.specs.Given.Schedules.Entry.{Entry, acted_on, speaker}
+use Rattle.papaya_folded.specs.Given.Schedules.Handing.{asks_for_bucket, gives_all, is_only, is_reclaiming, may_do}
+use Rattle.papaya_folded.specs.Given.Schedules.InTurn.{ComesRight, is_kept_out}
+use Rattle.papaya_folded.specs.Given.Schedules.Lives.{Finds}
+use Rattle.papaya_folded.specs.Given.Schedules.Moment.{Moment}
+use Rattle.papaya_folded.specs.Given.Schedules.InUse.{used_slots}
+use Rattle.papaya_folded.specs.Given.Schedules.Lists.{least_free}
+use Rattle.papaya_folded.specs.Given.Runs.Present.{Present}
+use Rattle.papaya_folded.specs.Given.Schedules.Terms.{Terms}
+use Rattle.papaya_folded.specs.Given.Effects.Known.{known}
+use Rattle.papaya_folded.specs.Given.Effects.declared.notes.Notes.{Notes}
+use Rattle.papaya_folded.specs.Given.Executor.Rows.{begun_row}
+use Rattle.papaya_folded.specs.Given.Executor.declared.row.RowTold.TheVariants as told
+use Rattle.papaya_folded.specs.Given.Promises.Others.{SparesGuards}
+use Rattle.papaya_folded.specs.Given.Promises.Protected.{is_of_slots, there_in}
+use Rattle.papaya_folded.specs.Given.Models.OnSlots.{IsRowFor}
+use Rattle.papaya_folded.specs.Given.Finds.Little.{ReclaimsAll}
+use Rattle.papaya_folded.proofs.Given.Legal.Heads.Registers.{IsOtherCall, ThenSo, other_begun, others_taken, registers_taken}
+use Rattle.papaya_folded.specs.Given.Legal.CallEvents.{IsLegalBut}
+use Rattle.papaya_folded.specs.Given.Legal.Carried.{ShowsRun}
+use Rattle.papaya_folded.specs.Given.Legal.Chains.{Chain as StepChain, RowSteps}
+use Rattle.papaya_folded.specs.Given.Legal.Found.{AsksInNeed}
+use Rattle.papaya_folded.specs.Given.Legal.SlotEvents.{InSlotEvent}
+use Rattle.papaya_folded.proofs.Given.Legal.Chains.{rows_run_to_their_ends}
+use Rattle.papaya_folded.proofs.Given.Legal.Found.{row_chains_find}
+use Rattle.papaya_folded.proofs.Given.Legal.Slots.{slot_events_begin_so}
+use Rattle.papaya_folded.specs.Given.Logged.Goes.{far}
+use Rattle.papaya_folded.specs.Given.Logged.OnSlots.{has_come}
+use Rattle.papaya_folded.specs.Given.Remains.Slots.{SlotsNoted}
+use Rattle.papaya_folded.specs.Given.Rows.Rows.{RowRan, left_as}
+use Rattle.papaya_folded.proofs.Given.Rows.Facts.{row_rests}
 use Rattle.papaya_scheduler.specs.Played.{IsPlayed, entry_of}
 use Rattle.papaya_scheduler.specs.Works.{ComesBy, IsAbout, IsItsRow, WorksOnSlot, told_so}
 use Rattle.papaya_scheduler.specs.declared.played.Played.{Played}

@@ -1,30 +1,30 @@
 -- An event that sets something up, shows the tables of a map, or forgets a guard keeps its promises, and the run goes on with it.
 use Rattle.std.specs.Prelude.{◌≡◌, ◌==◌, ℕ, Bool, true, false, not, MatchBool, List, [], ◌∷◌, Result, Ok, Err, IfOk, is_some}
 use Rattle.std.proofs.Common.{refl, sym, ap, subst, ◌∙◌}
-use Rattle.papaya_histories.specs.Given.Seize.World.{World}
-use Rattle.papaya_histories.specs.Given.Tables.declared.node.Node.{Node}
-use Rattle.papaya_histories.specs.Given.Executor.IsAt.{Scene}
-use Rattle.seize_words.specs.declared.fault.Fault.TheVariants.{Busy}
-use Rattle.papaya_schedules.specs.declared.event.Event.{Event}
-use Rattle.papaya_schedules.specs.declared.event.Event.TheVariants.{Begin, Choose, Collector, Forget, Go, Hash, Next, OneCall, Replied, ShowShape, Step, Stop}
-use Rattle.papaya_schedules.specs.declared.outcome.Outcome.{Outcome}
-use Rattle.papaya_schedules.specs.declared.outcome.Outcome.TheVariants.{Done, Refused, Shape}
-use Rattle.papaya_schedules.specs.After.{moment, slots_on}
-use Rattle.papaya_schedules.specs.Entry.{Entry}
-use Rattle.papaya_schedules.specs.Handing.{IsWhole}
-use Rattle.papaya_schedules.specs.InTurn.{ComesRight, ComesTo, InTurn, IsDone, IsKeptOut, IsShapeOf, chain_named, is_kept_out}
-use Rattle.papaya_schedules.specs.InUse.{is_free_guard}
-use Rattle.papaya_schedules.specs.Moment.{Moment, TableThere}
-use Rattle.papaya_schedules.specs.Terms.{Terms}
-use Rattle.papaya_schedules.specs.Views.{map_of, number_of}
-use Rattle.papaya_effects.specs.Known.{known}
-use Rattle.papaya_legal.proofs.Come.{events_bring_things}
-use Rattle.papaya_legal.specs.CallEvents.{IsLegalBut}
-use Rattle.papaya_legal.specs.Carried.{ShowsRun}
-use Rattle.papaya_legal.proofs.Choices.{choices_end}
-use Rattle.papaya_logged.specs.Choosing.{logged_chosen, scene_chosen}
-use Rattle.papaya_logged.specs.Shown.{IsShown}
-use Rattle.papaya_logged.proofs.Choosing.{choice_shown}
+use Rattle.papaya_folded.specs.Given.Seize.World.{World}
+use Rattle.papaya_folded.specs.Given.Tables.declared.node.Node.{Node}
+use Rattle.papaya_folded.specs.Given.Executor.IsAt.{Scene}
+use Rattle.papaya_folded.specs.Given.SeizeWords.declared.fault.Fault.TheVariants.{Busy}
+use Rattle.papaya_folded.specs.Given.Schedules.declared.event.Event.{Event}
+use Rattle.papaya_folded.specs.Given.Schedules.declared.event.Event.TheVariants.{Begin, Choose, Collector, Forget, Go, Hash, Next, OneCall, Replied, ShowShape, Step, Stop}
+use Rattle.papaya_folded.specs.Given.Schedules.declared.outcome.Outcome.{Outcome}
+use Rattle.papaya_folded.specs.Given.Schedules.declared.outcome.Outcome.TheVariants.{Done, Refused, Shape}
+use Rattle.papaya_folded.specs.Given.Schedules.After.{moment, slots_on}
+use Rattle.papaya_folded.specs.Given.Schedules.Entry.{Entry}
+use Rattle.papaya_folded.specs.Given.Schedules.Handing.{IsWhole}
+use Rattle.papaya_folded.specs.Given.Schedules.InTurn.{ComesRight, ComesTo, InTurn, IsDone, IsKeptOut, IsShapeOf, chain_named, is_kept_out}
+use Rattle.papaya_folded.specs.Given.Schedules.InUse.{is_free_guard}
+use Rattle.papaya_folded.specs.Given.Schedules.Moment.{Moment, TableThere}
+use Rattle.papaya_folded.specs.Given.Schedules.Terms.{Terms}
+use Rattle.papaya_folded.specs.Given.Schedules.Views.{map_of, number_of}
+use Rattle.papaya_folded.specs.Given.Effects.Known.{known}
+use Rattle.papaya_folded.proofs.Given.Legal.Come.{events_bring_things}
+use Rattle.papaya_folded.specs.Given.Legal.CallEvents.{IsLegalBut}
+use Rattle.papaya_folded.specs.Given.Legal.Carried.{ShowsRun}
+use Rattle.papaya_folded.proofs.Given.Legal.Choices.{choices_end}
+use Rattle.papaya_folded.specs.Given.Logged.Choosing.{logged_chosen, scene_chosen}
+use Rattle.papaya_folded.specs.Given.Logged.Shown.{IsShown}
+use Rattle.papaya_folded.proofs.Given.Logged.Choosing.{choice_shown}
 use Rattle.papaya_scheduler.specs.Played.{IsPlayed, entry_of}
 use Rattle.papaya_scheduler.specs.Works.{DidNothing, WorksOnSetup}
 use Rattle.papaya_scheduler.specs.declared.played.Played.{Played}

@@ -3,31 +3,31 @@
 use Rattle.std.specs.Prelude.{◌≡◌, ◌⊎◌, ◌<◌, ℕ, Bool, List, map, Option, Some, None}
 use Rattle.std.specs.List.{AllByRecursion}
 use Rattle.std.proofs.Common.{refl, ap, sym, subst, ◌∙◌, inl, inr}
-use Rattle.seize_words.specs.SlotWords.{slot_word}
-use Rattle.papaya_histories.specs.Given.Seize.declared.states.TheConstants.{HEAD}
-use Rattle.papaya_histories.specs.Given.Tables.declared.setting.Setting.{Setting}
-use Rattle.papaya_histories.specs.Given.Raw.declared.machines.end_map.EndMap.{EndMap}
-use Rattle.papaya_histories.specs.Given.Resize.declared.new_map.NewMap.{NewMap}
-use Rattle.papaya_histories.specs.Given.Executor.IsAt.{Scene, IsAt}
-use Rattle.papaya_histories.specs.Given.Finishes.Endings.{Finishing}
-use Rattle.papaya_histories.specs.Given.Finishes.Makings.{Beginning}
-use Rattle.papaya_histories.specs.Given.Finishes.Maps.{Standing}
-use Rattle.papaya_histories.specs.Given.Moments.Numbers.{AreFound}
-use Rattle.papaya_schedules.specs.Moment.{Moment}
-use Rattle.papaya_effects.specs.Known.{known}
-use Rattle.papaya_effects.specs.declared.role.Role.TheVariants as role
-use Rattle.papaya_schedules.specs.Terms.{Terms}
-use Rattle.papaya_reclaims.specs.Left.{IsSomebodys, LeftAmong}
-use Rattle.papaya_reclaims.specs.Reclaims.{IsRootOf, LeftBehind, RootLeads}
-use Rattle.papaya_remains.specs.Remains.{AllStand, RootsAreTaken, ShowsRemains, has_some, left_at}
-use Rattle.papaya_remains.proofs.Leads.{both_lead}
-use Rattle.papaya_remains.proofs.Rests.{each_noted, rests_remain}
-use Rattle.papaya_logged.specs.Shown.{IsCounted}
-use Rattle.papaya_rows.proofs.Facts.{no_ending_of, no_making_of}
-use Rattle.papaya_rows.proofs.Lists.{both_none, both_some}
+use Rattle.papaya_folded.specs.Given.SeizeWords.SlotWords.{slot_word}
+use Rattle.papaya_folded.specs.Given.Seize.declared.states.TheConstants.{HEAD}
+use Rattle.papaya_folded.specs.Given.Tables.declared.setting.Setting.{Setting}
+use Rattle.papaya_folded.specs.Given.Raw.declared.machines.end_map.EndMap.{EndMap}
+use Rattle.papaya_folded.specs.Given.Resize.declared.new_map.NewMap.{NewMap}
+use Rattle.papaya_folded.specs.Given.Executor.IsAt.{Scene, IsAt}
+use Rattle.papaya_folded.specs.Given.Finishes.Endings.{Finishing}
+use Rattle.papaya_folded.specs.Given.Finishes.Makings.{Beginning}
+use Rattle.papaya_folded.specs.Given.Finishes.Maps.{Standing}
+use Rattle.papaya_folded.specs.Given.Moments.Numbers.{AreFound}
+use Rattle.papaya_folded.specs.Given.Schedules.Moment.{Moment}
+use Rattle.papaya_folded.specs.Given.Effects.Known.{known}
+use Rattle.papaya_folded.specs.Given.Effects.declared.role.Role.TheVariants as role
+use Rattle.papaya_folded.specs.Given.Schedules.Terms.{Terms}
+use Rattle.papaya_folded.specs.Given.Reclaims.Left.{IsSomebodys, LeftAmong}
+use Rattle.papaya_folded.specs.Given.Reclaims.Reclaims.{IsRootOf, LeftBehind, RootLeads}
+use Rattle.papaya_folded.specs.Given.Remains.Remains.{AllStand, RootsAreTaken, ShowsRemains, has_some, left_at}
+use Rattle.papaya_folded.proofs.Given.Remains.Leads.{both_lead}
+use Rattle.papaya_folded.proofs.Given.Remains.Rests.{each_noted, rests_remain}
+use Rattle.papaya_folded.specs.Given.Logged.Shown.{IsCounted}
+use Rattle.papaya_folded.proofs.Given.Rows.Facts.{no_ending_of, no_making_of}
+use Rattle.papaya_folded.proofs.Given.Rows.Lists.{both_none, both_some}
 use Rattle.papaya_scheduler.specs.Played.{StandsFor}
 use Rattle.papaya_scheduler.specs.Reclaiming.{MayGiveAll}
-use Rattle.papaya_named.specs.Seen.{named, named_of}
+use Rattle.papaya_folded.specs.Given.Named.Seen.{named, named_of}
 use Rattle.papaya_scheduler.specs.declared.scheduler.Scheduler.{Scheduler}
 use Rattle.papaya_mapping.proofs.MapLists.{all_back, all_seen}
 use Rattle.papaya_events.specs.Asked.{Holds}

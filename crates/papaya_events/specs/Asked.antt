@@ -1,16 +1,16 @@
 -- What is asked of an event, and what is promised of it then.
 use Rattle.std.specs.Prelude.{◌≡◌, ◌==◌, ℕ, Bool, true, false, List, ◌∷◌}
-use Rattle.papaya_histories.specs.Given.Points.Steps.{AreLawful}
-use Rattle.papaya_schedules.specs.declared.event.Event.{Event}
-use Rattle.papaya_schedules.specs.declared.event.Event.TheVariants.{ReclaimAll, Close, MakeMap, EndMap, ShowShape, Begin, Step, Go, Replied, OneCall, Next, Stop}
-use Rattle.papaya_schedules.specs.declared.outcome.Outcome.{Outcome}
-use Rattle.papaya_schedules.specs.After.{moment}
-use Rattle.papaya_schedules.specs.Beginning.{at_work}
-use Rattle.papaya_schedules.specs.Entry.{Entry, acting, caller_of}
-use Rattle.papaya_schedules.specs.InTurn.{is_kept_out}
-use Rattle.papaya_schedules.specs.Moment.{Moment}
-use Rattle.papaya_schedules.specs.Steps.{DoesFew, MakesSteps, stands_or}
-use Rattle.papaya_schedules.specs.Terms.{Terms}
+use Rattle.papaya_folded.specs.Given.Points.Steps.{AreLawful}
+use Rattle.papaya_folded.specs.Given.Schedules.declared.event.Event.{Event}
+use Rattle.papaya_folded.specs.Given.Schedules.declared.event.Event.TheVariants.{ReclaimAll, Close, MakeMap, EndMap, ShowShape, Begin, Step, Go, Replied, OneCall, Next, Stop}
+use Rattle.papaya_folded.specs.Given.Schedules.declared.outcome.Outcome.{Outcome}
+use Rattle.papaya_folded.specs.Given.Schedules.After.{moment}
+use Rattle.papaya_folded.specs.Given.Schedules.Beginning.{at_work}
+use Rattle.papaya_folded.specs.Given.Schedules.Entry.{Entry, acting, caller_of}
+use Rattle.papaya_folded.specs.Given.Schedules.InTurn.{is_kept_out}
+use Rattle.papaya_folded.specs.Given.Schedules.Moment.{Moment}
+use Rattle.papaya_folded.specs.Given.Schedules.Steps.{DoesFew, MakesSteps, stands_or}
+use Rattle.papaya_folded.specs.Given.Schedules.Terms.{Terms}
 use Rattle.papaya_scheduler.specs.Mapping.{CountsMaps, numbers_made}
 use Rattle.papaya_scheduler.specs.Played.{Plays, StandsFor, entry_of, IsPlayed}
 use Rattle.papaya_scheduler.specs.Quiet.{IsQuiet}

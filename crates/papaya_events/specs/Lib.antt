@@ -3,3 +3,4 @@ pub mod OfCalls
 pub mod OfRows
 pub mod OfAll
 pub mod OfSetups
+pub mod Given

@@ -1,42 +1,42 @@
 -- What is so after each event of a run, of the scheduler and of the scene for which it stands; and what is promised of an event of a call: it keeps its promises, and the run goes on.
 use Rattle.std.specs.Prelude.{◌≡◌, ◌<◌, ◌≤◌, ◌^◌, ◌+◌, ℕ, Bool, true, false, List, ◌∷◌, slice_index_or, Option, Some, None}
 use Rattle.std.specs.List.{AllByRecursion}
-use Rattle.papaya_histories.specs.Given.SeizeWaiting.Held.{count}
-use Rattle.papaya_histories.specs.Given.Seize.WaitingSets.{Sets}
-use Rattle.papaya_histories.specs.Given.Seize.World.{World, IsInside, SlotsTaken}
-use Rattle.papaya_histories.specs.Given.Tables.declared.node.Node.{Node}
-use Rattle.papaya_histories.specs.Given.Tables.declared.setting.Setting.{Setting}
-use Rattle.papaya_histories.specs.Given.Raw.declared.machines.progress.Progress.{Progress}
-use Rattle.papaya_histories.specs.Given.Schedules.declared.call.Call.{Call}
-use Rattle.papaya_histories.specs.Given.Schedules.declared.effect.Effect.{Effect}
-use Rattle.papaya_histories.specs.Given.Schedules.declared.event.Event.{Event}
-use Rattle.papaya_histories.specs.Given.Schedules.After.{moment}
-use Rattle.papaya_histories.specs.Given.Schedules.Entry.{Entry}
-use Rattle.papaya_histories.specs.Given.Schedules.InTurn.{ComesRight, is_kept_out}
-use Rattle.papaya_histories.specs.Given.Schedules.declared.effect.Thing.{Thing}
-use Rattle.papaya_histories.specs.Given.Schedules.Model.{things_in}
-use Rattle.papaya_histories.specs.Given.Schedules.Moment.{UnderWay as CallThere, Moment}
-use Rattle.papaya_histories.specs.Given.Schedules.Terms.{Terms, shards_of}
-use Rattle.papaya_histories.specs.Given.Schedules.Views.{call_of}
-use Rattle.papaya_histories.specs.Given.Callers.Together.{UnderWay}
-use Rattle.papaya_histories.specs.Given.Effects.Effects.{known_after}
-use Rattle.papaya_histories.specs.Given.Effects.Known.{Known, known}
-use Rattle.papaya_histories.specs.Given.Effects.declared.acting.Acting.TheVariants as acts
-use Rattle.papaya_histories.specs.Given.Executor.IsAt.{Scene, IsAt}
-use Rattle.papaya_histories.specs.Given.Executor.Stepping.{StepLeads}
-use Rattle.papaya_histories.specs.Given.Executor.declared.executor.Executor.{Executor}
-use Rattle.papaya_histories.specs.InEvent.{ComesSo}
-use Rattle.papaya_histories.specs.Given.Finishes.Machines.{machine_of}
-use Rattle.papaya_models.specs.CallEvents.{IsInItsRow}
+use Rattle.papaya_folded.specs.Given.SeizeWaiting.Held.{count}
+use Rattle.papaya_folded.specs.Given.Seize.WaitingSets.{Sets}
+use Rattle.papaya_folded.specs.Given.Seize.World.{World, IsInside, SlotsTaken}
+use Rattle.papaya_folded.specs.Given.Tables.declared.node.Node.{Node}
+use Rattle.papaya_folded.specs.Given.Tables.declared.setting.Setting.{Setting}
+use Rattle.papaya_folded.specs.Given.Raw.declared.machines.progress.Progress.{Progress}
+use Rattle.papaya_folded.specs.Given.Schedules.declared.call.Call.{Call}
+use Rattle.papaya_folded.specs.Given.Schedules.declared.effect.Effect.{Effect}
+use Rattle.papaya_folded.specs.Given.Schedules.declared.event.Event.{Event}
+use Rattle.papaya_folded.specs.Given.Schedules.After.{moment}
+use Rattle.papaya_folded.specs.Given.Schedules.Entry.{Entry}
+use Rattle.papaya_folded.specs.Given.Schedules.InTurn.{ComesRight, is_kept_out}
+use Rattle.papaya_folded.specs.Given.Schedules.declared.effect.Thing.{Thing}
+use Rattle.papaya_folded.specs.Given.Schedules.Model.{things_in}
+use Rattle.papaya_folded.specs.Given.Schedules.Moment.{UnderWay as CallThere, Moment}
+use Rattle.papaya_folded.specs.Given.Schedules.Terms.{Terms, shards_of}
+use Rattle.papaya_folded.specs.Given.Schedules.Views.{call_of}
+use Rattle.papaya_folded.specs.Given.Callers.Together.{UnderWay}
+use Rattle.papaya_folded.specs.Given.Effects.Effects.{known_after}
+use Rattle.papaya_folded.specs.Given.Effects.Known.{Known, known}
+use Rattle.papaya_folded.specs.Given.Effects.declared.acting.Acting.TheVariants as acts
+use Rattle.papaya_folded.specs.Given.Executor.IsAt.{Scene, IsAt}
+use Rattle.papaya_folded.specs.Given.Executor.Stepping.{StepLeads}
+use Rattle.papaya_folded.specs.Given.Executor.declared.executor.Executor.{Executor}
+use Rattle.papaya_folded.specs.Given.Histories.InEvent.{ComesSo}
+use Rattle.papaya_folded.specs.Given.Finishes.Machines.{machine_of}
+use Rattle.papaya_folded.specs.Given.Models.CallEvents.{IsInItsRow}
 use Rattle.papaya_values.specs.Values.{KeepsValue}
-use Rattle.papaya_named.specs.declared.caller.Caller.{Caller}
-use Rattle.papaya_legal.specs.CallEvents.{InCallEvent, IsLegalBut}
-use Rattle.papaya_legal.specs.CallSwept.{TellsOf}
-use Rattle.papaya_legal.specs.Carried.{ShowsRun}
-use Rattle.papaya_legal.specs.Noted.{HaveCome}
+use Rattle.papaya_folded.specs.Given.Named.declared.caller.Caller.{Caller}
+use Rattle.papaya_folded.specs.Given.Legal.CallEvents.{InCallEvent, IsLegalBut}
+use Rattle.papaya_folded.specs.Given.Legal.CallSwept.{TellsOf}
+use Rattle.papaya_folded.specs.Given.Legal.Carried.{ShowsRun}
+use Rattle.papaya_folded.specs.Given.Legal.Noted.{HaveCome}
 use Rattle.papaya_folded.specs.Folded.{HandsInOrder}
 use Rattle.papaya_scheduler.specs.Played.{IsPlayed, entry_of}
-use Rattle.papaya_named.specs.Seen.{kind_of}
+use Rattle.papaya_folded.specs.Given.Named.Seen.{kind_of}
 use Rattle.papaya_scheduler.specs.declared.played.Played.{Played}
 use Rattle.papaya_scheduler.specs.declared.scheduler.Scheduler.{Scheduler}
 use Rattle.papaya_stepping.specs.Stepping.{ComesAs, outcome_of}

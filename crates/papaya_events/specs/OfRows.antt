@@ -1,11 +1,11 @@
 -- What is had of an event whose work is a row on a slot, the making of a map, or the end of one: it keeps its promises, and the run goes on with it.
 use Rattle.std.specs.Prelude.{◌≡◌, ℕ, Bool, true, false, List, ◌∷◌}
-use Rattle.papaya_schedules.specs.declared.event.Event.{Event}
-use Rattle.papaya_schedules.specs.declared.event.Event.TheVariants.{DropGuard, EndMap, Enter, Flush, MakeMap, Own, Refresh, Register, Unregister}
-use Rattle.papaya_schedules.specs.After.{moment}
-use Rattle.papaya_schedules.specs.Entry.{Entry}
-use Rattle.papaya_schedules.specs.InTurn.{ComesRight, is_kept_out}
-use Rattle.papaya_schedules.specs.Terms.{Terms}
+use Rattle.papaya_folded.specs.Given.Schedules.declared.event.Event.{Event}
+use Rattle.papaya_folded.specs.Given.Schedules.declared.event.Event.TheVariants.{DropGuard, EndMap, Enter, Flush, MakeMap, Own, Refresh, Register, Unregister}
+use Rattle.papaya_folded.specs.Given.Schedules.After.{moment}
+use Rattle.papaya_folded.specs.Given.Schedules.Entry.{Entry}
+use Rattle.papaya_folded.specs.Given.Schedules.InTurn.{ComesRight, is_kept_out}
+use Rattle.papaya_folded.specs.Given.Schedules.Terms.{Terms}
 use Rattle.papaya_scheduler.specs.Played.{IsPlayed, entry_of}
 use Rattle.papaya_scheduler.specs.declared.played.Played.{Played}
 use Rattle.papaya_scheduler.specs.declared.scheduler.Scheduler.{Scheduler}

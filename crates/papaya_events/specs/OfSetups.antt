@@ -1,10 +1,10 @@
 -- What is promised of an event that sets something up, shows the tables of a map, or forgets a guard: it keeps its promises, and the run goes on.
 use Rattle.std.specs.Prelude.{◌≡◌, ℕ, Bool, true, false, List, ◌∷◌}
-use Rattle.papaya_schedules.specs.declared.event.Event.{Event}
-use Rattle.papaya_schedules.specs.declared.event.Event.TheVariants.{Collector, Hash, Choose, Forget, ShowShape}
-use Rattle.papaya_schedules.specs.Entry.{Entry}
-use Rattle.papaya_schedules.specs.InTurn.{ComesRight}
-use Rattle.papaya_schedules.specs.Terms.{Terms}
+use Rattle.papaya_folded.specs.Given.Schedules.declared.event.Event.{Event}
+use Rattle.papaya_folded.specs.Given.Schedules.declared.event.Event.TheVariants.{Collector, Hash, Choose, Forget, ShowShape}
+use Rattle.papaya_folded.specs.Given.Schedules.Entry.{Entry}
+use Rattle.papaya_folded.specs.Given.Schedules.InTurn.{ComesRight}
+use Rattle.papaya_folded.specs.Given.Schedules.Terms.{Terms}
 use Rattle.papaya_scheduler.specs.Played.{IsPlayed, entry_of}
 use Rattle.papaya_scheduler.specs.declared.played.Played.{Played}
 use Rattle.papaya_scheduler.specs.declared.scheduler.Scheduler.{Scheduler}

@@ -1,7 +1,7 @@
 -- The effects of a step of a call find all parts that are promised.
 use Rattle.std.specs.Prelude.{ℕ, Bool}
-use Rattle.papaya_histories.specs.Given.Effects.Effects.{effects_of}
-use Rattle.papaya_histories.specs.Given.Effects.declared.acting.Acting.TheVariants as acts
+use Rattle.papaya_settles.specs.Given.Effects.Effects.{effects_of}
+use Rattle.papaya_settles.specs.Given.Effects.declared.acting.Acting.TheVariants as acts
 use Rattle.papaya_owes.proofs.Events.{steps_find_made}
 use Rattle.papaya_owes.proofs.Looking.Calls.{calls_keep_looking}
 use Rattle.papaya_settles.proofs.Calls.{calls_keep_counts}

@@ -43,3 +43,4 @@ pub mod Rest
 pub mod Capacities
 pub mod Waits
 pub mod Reserving
+pub mod Given

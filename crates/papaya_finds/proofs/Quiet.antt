@@ -2,25 +2,25 @@
 use Rattle.std.specs.Prelude.{◌≡◌, ℕ, Bool, true, false, ◌||◌, List, [], ◌∷◌, Some}
 use Rattle.std.specs.List.{list_all, list_any}
 use Rattle.std.proofs.Common.{refl, sym, subst}
-use Rattle.papaya_histories.specs.Given.Schedules.declared.effect.Effect.{Effect}
-use Rattle.papaya_histories.specs.Given.Schedules.declared.effect.Effect.TheVariants.{Asked, Linked, Deferred, Retired}
-use Rattle.papaya_histories.specs.Given.Schedules.declared.effect.Growth.TheVariants.{ABlock, ABucket}
-use Rattle.papaya_histories.specs.Given.Schedules.declared.effect.Thing.TheVariants.{APair, ATable}
-use Rattle.papaya_histories.specs.Given.Schedules.Effects.{call_by, with_effect}
-use Rattle.papaya_histories.specs.Given.Schedules.Entry.{ByCall}
-use Rattle.papaya_histories.specs.Given.Schedules.Moment.{UnderWay as CallThere, Moment}
-use Rattle.papaya_histories.specs.Given.Schedules.Terms.{Terms}
-use Rattle.papaya_histories.specs.Given.Schedules.Views.{call_of, has_gift}
-use Rattle.papaya_histories.specs.Given.Schedules.declared.call.Call.{Call}
-use Rattle.papaya_histories.specs.Given.Schedules.declared.call.Call.TheVariants as call
-use Rattle.papaya_histories.specs.Given.Schedules.declared.call.OneKey.{OneKey}
-use Rattle.papaya_histories.specs.Given.Schedules.declared.call.OneKey.TheVariants as key
-use Rattle.papaya_histories.specs.Given.Schedules.Growing.{has_value_for}
-use Rattle.papaya_histories.specs.Given.Schedules.Sequential.{has_value}
+use Rattle.papaya_settles.specs.Given.Schedules.declared.effect.Effect.{Effect}
+use Rattle.papaya_settles.specs.Given.Schedules.declared.effect.Effect.TheVariants.{Asked, Linked, Deferred, Retired}
+use Rattle.papaya_settles.specs.Given.Schedules.declared.effect.Growth.TheVariants.{ABlock, ABucket}
+use Rattle.papaya_settles.specs.Given.Schedules.declared.effect.Thing.TheVariants.{APair, ATable}
+use Rattle.papaya_settles.specs.Given.Schedules.Effects.{call_by, with_effect}
+use Rattle.papaya_settles.specs.Given.Schedules.Entry.{ByCall}
+use Rattle.papaya_settles.specs.Given.Schedules.Moment.{UnderWay as CallThere, Moment}
+use Rattle.papaya_settles.specs.Given.Schedules.Terms.{Terms}
+use Rattle.papaya_settles.specs.Given.Schedules.Views.{call_of, has_gift}
+use Rattle.papaya_settles.specs.Given.Schedules.declared.call.Call.{Call}
+use Rattle.papaya_settles.specs.Given.Schedules.declared.call.Call.TheVariants as call
+use Rattle.papaya_settles.specs.Given.Schedules.declared.call.OneKey.{OneKey}
+use Rattle.papaya_settles.specs.Given.Schedules.declared.call.OneKey.TheVariants as key
+use Rattle.papaya_settles.specs.Given.Schedules.Growing.{has_value_for}
+use Rattle.papaya_settles.specs.Given.Schedules.Sequential.{has_value}
 use Rattle.papaya_owes.proofs.Events.{several_find}
 use Rattle.papaya_owes.proofs.Fields.{its_effect}
 use Rattle.papaya_settles.specs.Owing.{FindsOwed, hands_over}
-use Rattle.papaya_histories.proofs.Given.Spots.Unreclaimed.{and_both}
+use Rattle.papaya_settles.proofs.Given.Spots.Unreclaimed.{and_both}
 use Rattle.papaya_finds.specs.Parts.{FindsRest, FindOwed, FindRest}
 use Rattle.papaya_finds.specs.Quiet.{is_found, FoundLeaveNothing, OthersOweNothing, SeveralStoreOne, has_own_value, ValuedMayAsk}
 use Rattle.papaya_finds.specs.Life.{StoresOne}

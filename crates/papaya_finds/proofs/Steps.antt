@@ -2,52 +2,52 @@
 use Rattle.std.specs.Prelude.{◌≡◌, ℕ, ◌+◌, Bool, true, List, [], ◌∷◌, length, Option, Some, None}
 use Rattle.std.specs.List.{list_all}
 use Rattle.std.proofs.Common.{refl, ap, sym, subst, ◌∙◌, inl, inr, length-append}
-use Rattle.papaya_histories.specs.Given.SeizeWords.Mem.{Mem}
-use Rattle.papaya_histories.specs.Given.Seize.World.{World}
-use Rattle.papaya_histories.specs.Given.Tables.declared.node.Node.{Node}
-use Rattle.papaya_histories.specs.Given.Raw.declared.machines.progress.Progress.{Progress}
-use Rattle.papaya_histories.specs.Given.Schedules.declared.effect.Effect.{Effect}
-use Rattle.papaya_histories.specs.Given.Schedules.declared.effect.Effect.TheVariants as effect
-use Rattle.papaya_histories.specs.Given.Schedules.declared.effect.Spot.{Spot}
-use Rattle.papaya_histories.specs.Given.Schedules.declared.effect.Table.{Table}
-use Rattle.papaya_histories.specs.Given.Schedules.Effects.{new_pair, stored_by, with_effect, with_effects, AtEachEffect}
-use Rattle.papaya_histories.specs.Given.Schedules.Entry.{acting}
-use Rattle.papaya_histories.specs.Given.Schedules.Growing.{none_before}
-use Rattle.papaya_histories.specs.Given.Schedules.Handing.{is_call_effect}
-use Rattle.papaya_histories.specs.Given.Schedules.Moment.{UnderWay as CallThere, Moment}
-use Rattle.papaya_histories.specs.Given.Schedules.Views.{call_of}
-use Rattle.papaya_histories.specs.Given.Callers.Together.{UnderWay, OnKey, ForRoom, Counting, OverAll, IsOneStep, Together}
-use Rattle.papaya_histories.specs.Given.Teller.declared.changed.Changed.{Changed}
-use Rattle.papaya_histories.specs.Given.Teller.declared.changed.Changed.TheVariants as changed
-use Rattle.papaya_histories.specs.Given.Effects.Effects.{effects_of, known_after}
-use Rattle.papaya_histories.specs.Given.Effects.Known.{Known}
-use Rattle.papaya_histories.specs.Given.Effects.declared.acting.Acting.TheVariants as acts
-use Rattle.papaya_histories.specs.Given.Effects.declared.role.Role.{Role}
-use Rattle.papaya_histories.specs.Given.Effects.declared.role.Role.TheVariants as role
-use Rattle.papaya_histories.specs.Given.Executor.IsAt.{Scene, IsAt, slot_of}
-use Rattle.papaya_histories.specs.Given.Executor.Stepping.{StepLeads, scene_after}
-use Rattle.papaya_histories.specs.Given.Executor.declared.executor.Executor.{Executor}
-use Rattle.papaya_histories.specs.Given.Finishes.Machines.{machine_of}
-use Rattle.papaya_histories.specs.Given.Finishes.Maps.{Standing}
-use Rattle.papaya_histories.specs.Given.Follows.Calls.{IsCalled}
-use Rattle.papaya_histories.specs.Given.Follows.Finds.{FindsMap}
-use Rattle.papaya_histories.specs.Given.Follows.Shows.{Shows}
-use Rattle.papaya_histories.specs.Given.Follows.Steps.{HasPair, HasToStore, StoreTheirs, TakesNone, named_now}
-use Rattle.papaya_histories.proofs.Given.Follows.Alike.{is_calm, AllCalm, calm_still, put_here}
-use Rattle.papaya_histories.proofs.Given.Follows.Finds.{still_find}
-use Rattle.papaya_histories.proofs.Given.Follows.Onward.{IsLasting, IsOfMap}
-use Rattle.papaya_histories.proofs.Given.Follows.Operations.{LeavesBy, operated_leaves}
-use Rattle.papaya_histories.proofs.Given.Follows.Rows.{HandsOn, IsStill, Puts, Retires, one_step_leaves}
-use Rattle.papaya_histories.proofs.Given.Follows.RowSteps.{row_done}
-use Rattle.papaya_histories.proofs.Given.Follows.Steps.{WentTo, went_to, made_so, step_shown, DidSo, OfNoRow}
-use Rattle.papaya_histories.proofs.Given.Hands.RowSteps.{rows_hand_theirs}
-use Rattle.papaya_histories.proofs.Given.Hands.Steps.{calls_store_theirs}
-use Rattle.papaya_histories.specs.Given.Moments.Whole.{ShowsWhole}
-use Rattle.papaya_histories.proofs.Given.Moments.Calls.{of_row, calls_keep_whole}
+use Rattle.papaya_settles.specs.Given.SeizeWords.Mem.{Mem}
+use Rattle.papaya_settles.specs.Given.Seize.World.{World}
+use Rattle.papaya_settles.specs.Given.Tables.declared.node.Node.{Node}
+use Rattle.papaya_settles.specs.Given.Raw.declared.machines.progress.Progress.{Progress}
+use Rattle.papaya_settles.specs.Given.Schedules.declared.effect.Effect.{Effect}
+use Rattle.papaya_settles.specs.Given.Schedules.declared.effect.Effect.TheVariants as effect
+use Rattle.papaya_settles.specs.Given.Schedules.declared.effect.Spot.{Spot}
+use Rattle.papaya_settles.specs.Given.Schedules.declared.effect.Table.{Table}
+use Rattle.papaya_settles.specs.Given.Schedules.Effects.{new_pair, stored_by, with_effect, with_effects, AtEachEffect}
+use Rattle.papaya_settles.specs.Given.Schedules.Entry.{acting}
+use Rattle.papaya_settles.specs.Given.Schedules.Growing.{none_before}
+use Rattle.papaya_settles.specs.Given.Schedules.Handing.{is_call_effect}
+use Rattle.papaya_settles.specs.Given.Schedules.Moment.{UnderWay as CallThere, Moment}
+use Rattle.papaya_settles.specs.Given.Schedules.Views.{call_of}
+use Rattle.papaya_settles.specs.Given.Callers.Together.{UnderWay, OnKey, ForRoom, Counting, OverAll, IsOneStep, Together}
+use Rattle.papaya_settles.specs.Given.Teller.declared.changed.Changed.{Changed}
+use Rattle.papaya_settles.specs.Given.Teller.declared.changed.Changed.TheVariants as changed
+use Rattle.papaya_settles.specs.Given.Effects.Effects.{effects_of, known_after}
+use Rattle.papaya_settles.specs.Given.Effects.Known.{Known}
+use Rattle.papaya_settles.specs.Given.Effects.declared.acting.Acting.TheVariants as acts
+use Rattle.papaya_settles.specs.Given.Effects.declared.role.Role.{Role}
+use Rattle.papaya_settles.specs.Given.Effects.declared.role.Role.TheVariants as role
+use Rattle.papaya_settles.specs.Given.Executor.IsAt.{Scene, IsAt, slot_of}
+use Rattle.papaya_settles.specs.Given.Executor.Stepping.{StepLeads, scene_after}
+use Rattle.papaya_settles.specs.Given.Executor.declared.executor.Executor.{Executor}
+use Rattle.papaya_settles.specs.Given.Finishes.Machines.{machine_of}
+use Rattle.papaya_settles.specs.Given.Finishes.Maps.{Standing}
+use Rattle.papaya_settles.specs.Given.Follows.Calls.{IsCalled}
+use Rattle.papaya_settles.specs.Given.Follows.Finds.{FindsMap}
+use Rattle.papaya_settles.specs.Given.Follows.Shows.{Shows}
+use Rattle.papaya_settles.specs.Given.Follows.Steps.{HasPair, HasToStore, StoreTheirs, TakesNone, named_now}
+use Rattle.papaya_settles.proofs.Given.Follows.Alike.{is_calm, AllCalm, calm_still, put_here}
+use Rattle.papaya_settles.proofs.Given.Follows.Finds.{still_find}
+use Rattle.papaya_settles.proofs.Given.Follows.Onward.{IsLasting, IsOfMap}
+use Rattle.papaya_settles.proofs.Given.Follows.Operations.{LeavesBy, operated_leaves}
+use Rattle.papaya_settles.proofs.Given.Follows.Rows.{HandsOn, IsStill, Puts, Retires, one_step_leaves}
+use Rattle.papaya_settles.proofs.Given.Follows.RowSteps.{row_done}
+use Rattle.papaya_settles.proofs.Given.Follows.Steps.{WentTo, went_to, made_so, step_shown, DidSo, OfNoRow}
+use Rattle.papaya_settles.proofs.Given.Hands.RowSteps.{rows_hand_theirs}
+use Rattle.papaya_settles.proofs.Given.Hands.Steps.{calls_store_theirs}
+use Rattle.papaya_settles.specs.Given.Moments.Whole.{ShowsWhole}
+use Rattle.papaya_settles.proofs.Given.Moments.Calls.{of_row, calls_keep_whole}
 use Rattle.papaya_owes.proofs.Tables.Held.{call_unmade}
 use Rattle.papaya_owes.proofs.Tables.Kinds.{no_room}
-use Rattle.papaya_histories.specs.Given.Spots.Spots.{ShowsPlaces}
-use Rattle.papaya_histories.proofs.Given.Spots.Steps.{calls_find_places}
+use Rattle.papaya_settles.specs.Given.Spots.Spots.{ShowsPlaces}
+use Rattle.papaya_settles.proofs.Given.Spots.Steps.{calls_find_places}
 use Rattle.papaya_finds.specs.Parts.{FindPlacesOf, FindAhead}
 use Rattle.papaya_finds.specs.Steps.{StepsDoTheirs, StepsFindPlaces, StepsStoreOne}
 use Rattle.papaya_finds.specs.Life.{StoresOne}

@@ -1,26 +1,26 @@
 -- Each map that stands was made for the capacity that the moment says: so it stays, whatever is done, once a map has come so.
 use Rattle.std.specs.Prelude.{◌≡◌, ℕ, Bool, List, max, Option, Some, None}
-use Rattle.papaya_histories.specs.Given.Seize.declared.progress.Progress.{Progress as Making}
-use Rattle.papaya_histories.specs.Given.Tables.declared.node.Node.{Node}
-use Rattle.papaya_histories.specs.Given.Tables.declared.setting.Setting.{Setting}
-use Rattle.papaya_histories.specs.Given.Raw.declared.machines.progress.Progress.{Progress}
-use Rattle.papaya_histories.specs.Given.Runs.Runs.{map_fault}
-use Rattle.papaya_histories.specs.Given.Schedules.declared.effect.Effect.{Effect}
-use Rattle.papaya_histories.specs.Given.Schedules.Effects.{with_effects}
-use Rattle.papaya_histories.specs.Given.Schedules.Moment.{MapThere, Moment, start}
-use Rattle.papaya_histories.specs.Given.Schedules.Views.{map_at, capacity_or}
-use Rattle.papaya_histories.specs.Given.Callers.Together.{UnderWay}
+use Rattle.papaya_settles.specs.Given.Seize.declared.progress.Progress.{Progress as Making}
+use Rattle.papaya_settles.specs.Given.Tables.declared.node.Node.{Node}
+use Rattle.papaya_settles.specs.Given.Tables.declared.setting.Setting.{Setting}
+use Rattle.papaya_settles.specs.Given.Raw.declared.machines.progress.Progress.{Progress}
+use Rattle.papaya_settles.specs.Given.Runs.Runs.{map_fault}
+use Rattle.papaya_settles.specs.Given.Schedules.declared.effect.Effect.{Effect}
+use Rattle.papaya_settles.specs.Given.Schedules.Effects.{with_effects}
+use Rattle.papaya_settles.specs.Given.Schedules.Moment.{MapThere, Moment, start}
+use Rattle.papaya_settles.specs.Given.Schedules.Views.{map_at, capacity_or}
+use Rattle.papaya_settles.specs.Given.Callers.Together.{UnderWay}
 use Rattle.papaya_named.specs.Places.{first_places}
-use Rattle.papaya_histories.specs.Given.Effects.Effects.{effects_of}
-use Rattle.papaya_histories.specs.Given.Effects.Known.{Known}
-use Rattle.papaya_histories.specs.Given.Effects.declared.acting.Acting.TheVariants as acts
-use Rattle.papaya_histories.specs.Given.Executor.IsAt.{Scene, at_first}
-use Rattle.papaya_histories.specs.Given.Executor.Making.{MakingLeads}
-use Rattle.papaya_histories.specs.Given.Executor.Stepping.{StepLeads, scene_after}
-use Rattle.papaya_histories.specs.Given.Executor.declared.executor.Executor.{Executor}
-use Rattle.papaya_histories.specs.Given.Finishes.Makings.{Beginning}
-use Rattle.papaya_histories.specs.Given.Finishes.Maps.{Standing, IsSameMap}
-use Rattle.papaya_histories.specs.Given.Others.Makings.{making_after}
+use Rattle.papaya_settles.specs.Given.Effects.Effects.{effects_of}
+use Rattle.papaya_settles.specs.Given.Effects.Known.{Known}
+use Rattle.papaya_settles.specs.Given.Effects.declared.acting.Acting.TheVariants as acts
+use Rattle.papaya_settles.specs.Given.Executor.IsAt.{Scene, at_first}
+use Rattle.papaya_settles.specs.Given.Executor.Making.{MakingLeads}
+use Rattle.papaya_settles.specs.Given.Executor.Stepping.{StepLeads, scene_after}
+use Rattle.papaya_settles.specs.Given.Executor.declared.executor.Executor.{Executor}
+use Rattle.papaya_settles.specs.Given.Finishes.Makings.{Beginning}
+use Rattle.papaya_settles.specs.Given.Finishes.Maps.{Standing, IsSameMap}
+use Rattle.papaya_settles.specs.Given.Others.Makings.{making_after}
 use Rattle.papaya_finds.specs.Linking.{IsMadeFor}
 
 abbrev pub ShowsCapacities : {K V : Type 0} → Moment K V → Scene K V → Type 0

@@ -1,37 +1,37 @@
 -- For what a call on one key makes a table: it has what it stores where its key is missing, and so it may ask for each block that it makes.
 use Rattle.std.specs.Prelude.{◌≡◌, ◌≢◌, ℕ, suc, ◌<◌, ◌≤◌, Bool, false, List, ◌∷◌, Option, Some, None, ◌⊎◌}
-use Rattle.papaya_histories.specs.Given.Tables.Chunks.{is_incremental}
-use Rattle.papaya_histories.specs.Given.Tables.declared.node.Node.{Node}
-use Rattle.papaya_histories.specs.Given.Raw.Machine.{machine_asked, machine_replied}
-use Rattle.papaya_histories.specs.Given.Raw.declared.machines.answer.Missing.TheVariants as missing
-use Rattle.papaya_histories.specs.Given.Raw.declared.machines.asking.Asking.TheVariants as asking
-use Rattle.papaya_histories.specs.Given.Raw.declared.machines.asking.Reply.{Reply as MachineReply}
-use Rattle.papaya_histories.specs.Given.Raw.declared.machines.asking.Told.TheVariants as tells
-use Rattle.papaya_histories.specs.Given.Raw.declared.machines.call.Calling.{Calling}
-use Rattle.papaya_histories.specs.Given.Raw.declared.machines.call.Calling.TheVariants as at
-use Rattle.papaya_histories.specs.Given.Raw.declared.machines.call.KeyCall.{KeyCall}
-use Rattle.papaya_histories.specs.Given.Raw.declared.machines.progress.Progress.{Progress}
-use Rattle.papaya_histories.specs.Given.Schedules.declared.effect.Effect.{Effect}
-use Rattle.papaya_histories.specs.Given.Schedules.declared.effect.Effect.TheVariants.{Asked}
-use Rattle.papaya_histories.specs.Given.Schedules.declared.effect.Growth.TheVariants.{ABlock}
-use Rattle.papaya_histories.specs.Given.Schedules.Effects.{with_effects, AtEachEffect}
-use Rattle.papaya_histories.specs.Given.Schedules.Entry.{ByCall, acting}
-use Rattle.papaya_histories.specs.Given.Schedules.Growing.{MayGrow}
-use Rattle.papaya_histories.specs.Given.Schedules.Moment.{UnderWay as CallThere, Moment, start}
-use Rattle.papaya_histories.specs.Given.Schedules.Terms.{Terms}
-use Rattle.papaya_histories.specs.Given.Points.FactsCalls.{IsCopying}
-use Rattle.papaya_histories.specs.Given.Callers.Together.{CallOnKey, UnderWay, OnKey}
-use Rattle.papaya_histories.specs.Given.Effects.Effects.{effects_of}
-use Rattle.papaya_histories.specs.Given.Effects.Known.{Known}
-use Rattle.papaya_histories.specs.Given.Effects.declared.acting.Acting.TheVariants as acts
-use Rattle.papaya_histories.specs.Given.Executor.Beginning.{Begins}
-use Rattle.papaya_histories.specs.Given.Executor.IsAt.{Scene, IsAt, at_first}
-use Rattle.papaya_histories.specs.Given.Executor.Replying.{scene_with}
-use Rattle.papaya_histories.specs.Given.Executor.Stepping.{StepLeads, scene_after}
-use Rattle.papaya_histories.specs.Given.Executor.declared.executor.Executor.{Executor}
-use Rattle.papaya_histories.specs.Given.Finishes.Machines.{machine_of}
-use Rattle.papaya_histories.specs.Given.Finishes.Maps.{Standing, with_call as with_in}
-use Rattle.papaya_histories.specs.Given.Moments.Whole.{ShowsWhole}
+use Rattle.papaya_settles.specs.Given.Tables.Chunks.{is_incremental}
+use Rattle.papaya_settles.specs.Given.Tables.declared.node.Node.{Node}
+use Rattle.papaya_settles.specs.Given.Raw.Machine.{machine_asked, machine_replied}
+use Rattle.papaya_settles.specs.Given.Raw.declared.machines.answer.Missing.TheVariants as missing
+use Rattle.papaya_settles.specs.Given.Raw.declared.machines.asking.Asking.TheVariants as asking
+use Rattle.papaya_settles.specs.Given.Raw.declared.machines.asking.Reply.{Reply as MachineReply}
+use Rattle.papaya_settles.specs.Given.Raw.declared.machines.asking.Told.TheVariants as tells
+use Rattle.papaya_settles.specs.Given.Raw.declared.machines.call.Calling.{Calling}
+use Rattle.papaya_settles.specs.Given.Raw.declared.machines.call.Calling.TheVariants as at
+use Rattle.papaya_settles.specs.Given.Raw.declared.machines.call.KeyCall.{KeyCall}
+use Rattle.papaya_settles.specs.Given.Raw.declared.machines.progress.Progress.{Progress}
+use Rattle.papaya_settles.specs.Given.Schedules.declared.effect.Effect.{Effect}
+use Rattle.papaya_settles.specs.Given.Schedules.declared.effect.Effect.TheVariants.{Asked}
+use Rattle.papaya_settles.specs.Given.Schedules.declared.effect.Growth.TheVariants.{ABlock}
+use Rattle.papaya_settles.specs.Given.Schedules.Effects.{with_effects, AtEachEffect}
+use Rattle.papaya_settles.specs.Given.Schedules.Entry.{ByCall, acting}
+use Rattle.papaya_settles.specs.Given.Schedules.Growing.{MayGrow}
+use Rattle.papaya_settles.specs.Given.Schedules.Moment.{UnderWay as CallThere, Moment, start}
+use Rattle.papaya_settles.specs.Given.Schedules.Terms.{Terms}
+use Rattle.papaya_settles.specs.Given.Points.FactsCalls.{IsCopying}
+use Rattle.papaya_settles.specs.Given.Callers.Together.{CallOnKey, UnderWay, OnKey}
+use Rattle.papaya_settles.specs.Given.Effects.Effects.{effects_of}
+use Rattle.papaya_settles.specs.Given.Effects.Known.{Known}
+use Rattle.papaya_settles.specs.Given.Effects.declared.acting.Acting.TheVariants as acts
+use Rattle.papaya_settles.specs.Given.Executor.Beginning.{Begins}
+use Rattle.papaya_settles.specs.Given.Executor.IsAt.{Scene, IsAt, at_first}
+use Rattle.papaya_settles.specs.Given.Executor.Replying.{scene_with}
+use Rattle.papaya_settles.specs.Given.Executor.Stepping.{StepLeads, scene_after}
+use Rattle.papaya_settles.specs.Given.Executor.declared.executor.Executor.{Executor}
+use Rattle.papaya_settles.specs.Given.Finishes.Machines.{machine_of}
+use Rattle.papaya_settles.specs.Given.Finishes.Maps.{Standing, with_call as with_in}
+use Rattle.papaya_settles.specs.Given.Moments.Whole.{ShowsWhole}
 use Rattle.papaya_finds.specs.Shaping.{IsFirstMaking, IsNextMaking}
 use Rattle.papaya_finds.specs.Within.{many_of}
 

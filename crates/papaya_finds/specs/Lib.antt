@@ -23,3 +23,4 @@ pub mod Capacities
 pub mod Waits
 pub mod Puts
 pub mod Reserving
+pub mod Given

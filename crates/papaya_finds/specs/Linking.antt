@@ -1,26 +1,26 @@
 -- Which table a call on one key links, while it copies no pairs: the first one of its map, or the one that follows the newest, as its length and a count of the pairs say.
 use Rattle.std.specs.Prelude.{◌≡◌, ℕ, Bool, List, ◌∷◌, Some}
-use Rattle.papaya_histories.specs.Given.Tables.Lengths.{entries_of}
-use Rattle.papaya_histories.specs.Given.Tables.declared.node.Node.{Node}
-use Rattle.papaya_histories.specs.Given.Tables.declared.setting.Setting.{Setting}
-use Rattle.papaya_histories.specs.Given.Raw.declared.machines.progress.Progress.{Progress}
-use Rattle.papaya_histories.specs.Given.Schedules.declared.effect.Effect.{Effect}
-use Rattle.papaya_histories.specs.Given.Schedules.declared.effect.Effect.TheVariants.{Linked}
-use Rattle.papaya_histories.specs.Given.Schedules.Effects.{AtEachEffect}
-use Rattle.papaya_histories.specs.Given.Schedules.Entry.{ByCall, acting}
-use Rattle.papaya_histories.specs.Given.Schedules.Growing.{Has, Follows}
-use Rattle.papaya_histories.specs.Given.Schedules.Moment.{UnderWay as CallThere, Moment}
-use Rattle.papaya_histories.specs.Given.Schedules.Terms.{Terms}
-use Rattle.papaya_histories.specs.Given.Schedules.Views.{map_at, capacity_or, tables_of}
-use Rattle.papaya_histories.specs.Given.Points.FactsCalls.{IsCopying}
-use Rattle.papaya_histories.specs.Given.Callers.Together.{CallOnKey, OnKey}
-use Rattle.papaya_histories.specs.Given.Effects.Effects.{effects_of}
-use Rattle.papaya_histories.specs.Given.Effects.Known.{Known}
-use Rattle.papaya_histories.specs.Given.Effects.declared.acting.Acting.TheVariants as acts
-use Rattle.papaya_histories.specs.Given.Executor.IsAt.{Scene, IsAt}
-use Rattle.papaya_histories.specs.Given.Executor.Stepping.{StepLeads}
-use Rattle.papaya_histories.specs.Given.Executor.declared.executor.Executor.{Executor}
-use Rattle.papaya_histories.specs.Given.Moments.Whole.{ShowsWhole}
+use Rattle.papaya_settles.specs.Given.Tables.Lengths.{entries_of}
+use Rattle.papaya_settles.specs.Given.Tables.declared.node.Node.{Node}
+use Rattle.papaya_settles.specs.Given.Tables.declared.setting.Setting.{Setting}
+use Rattle.papaya_settles.specs.Given.Raw.declared.machines.progress.Progress.{Progress}
+use Rattle.papaya_settles.specs.Given.Schedules.declared.effect.Effect.{Effect}
+use Rattle.papaya_settles.specs.Given.Schedules.declared.effect.Effect.TheVariants.{Linked}
+use Rattle.papaya_settles.specs.Given.Schedules.Effects.{AtEachEffect}
+use Rattle.papaya_settles.specs.Given.Schedules.Entry.{ByCall, acting}
+use Rattle.papaya_settles.specs.Given.Schedules.Growing.{Has, Follows}
+use Rattle.papaya_settles.specs.Given.Schedules.Moment.{UnderWay as CallThere, Moment}
+use Rattle.papaya_settles.specs.Given.Schedules.Terms.{Terms}
+use Rattle.papaya_settles.specs.Given.Schedules.Views.{map_at, capacity_or, tables_of}
+use Rattle.papaya_settles.specs.Given.Points.FactsCalls.{IsCopying}
+use Rattle.papaya_settles.specs.Given.Callers.Together.{CallOnKey, OnKey}
+use Rattle.papaya_settles.specs.Given.Effects.Effects.{effects_of}
+use Rattle.papaya_settles.specs.Given.Effects.Known.{Known}
+use Rattle.papaya_settles.specs.Given.Effects.declared.acting.Acting.TheVariants as acts
+use Rattle.papaya_settles.specs.Given.Executor.IsAt.{Scene, IsAt}
+use Rattle.papaya_settles.specs.Given.Executor.Stepping.{StepLeads}
+use Rattle.papaya_settles.specs.Given.Executor.declared.executor.Executor.{Executor}
+use Rattle.papaya_settles.specs.Given.Moments.Whole.{ShowsWhole}
 use Rattle.papaya_owes.specs.Tables.{ShowsTables}
 use Rattle.papaya_finds.specs.Growing.{ShowsGrowing}
 

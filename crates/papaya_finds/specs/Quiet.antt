@@ -1,18 +1,18 @@
 -- What is promised of effects of which nothing is left to be found, and of those that hand nothing over.
 use Rattle.std.specs.Prelude.{◌≡◌, ℕ, Bool, true, false, List, ◌++◌, Some}
 use Rattle.std.specs.List.{list_all, list_any}
-use Rattle.papaya_histories.specs.Given.Schedules.declared.effect.Effect.{Effect}
-use Rattle.papaya_histories.specs.Given.Schedules.declared.effect.Effect.TheVariants.{Asked, Linked, Deferred, Retired}
-use Rattle.papaya_histories.specs.Given.Schedules.declared.effect.Growth.TheVariants.{ABlock}
-use Rattle.papaya_histories.specs.Given.Schedules.declared.effect.Thing.TheVariants.{APair}
-use Rattle.papaya_histories.specs.Given.Schedules.declared.call.Call.{Call}
-use Rattle.papaya_histories.specs.Given.Schedules.declared.call.Call.TheVariants.{On}
-use Rattle.papaya_histories.specs.Given.Schedules.Effects.{with_effects, AtEachEffect}
-use Rattle.papaya_histories.specs.Given.Schedules.Growing.{MayGrow}
-use Rattle.papaya_histories.specs.Given.Schedules.Sequential.{has_value}
-use Rattle.papaya_histories.specs.Given.Schedules.Moment.{UnderWay as CallThere, Moment}
-use Rattle.papaya_histories.specs.Given.Schedules.Terms.{Terms}
-use Rattle.papaya_histories.specs.Given.Schedules.Views.{call_of}
+use Rattle.papaya_settles.specs.Given.Schedules.declared.effect.Effect.{Effect}
+use Rattle.papaya_settles.specs.Given.Schedules.declared.effect.Effect.TheVariants.{Asked, Linked, Deferred, Retired}
+use Rattle.papaya_settles.specs.Given.Schedules.declared.effect.Growth.TheVariants.{ABlock}
+use Rattle.papaya_settles.specs.Given.Schedules.declared.effect.Thing.TheVariants.{APair}
+use Rattle.papaya_settles.specs.Given.Schedules.declared.call.Call.{Call}
+use Rattle.papaya_settles.specs.Given.Schedules.declared.call.Call.TheVariants.{On}
+use Rattle.papaya_settles.specs.Given.Schedules.Effects.{with_effects, AtEachEffect}
+use Rattle.papaya_settles.specs.Given.Schedules.Growing.{MayGrow}
+use Rattle.papaya_settles.specs.Given.Schedules.Sequential.{has_value}
+use Rattle.papaya_settles.specs.Given.Schedules.Moment.{UnderWay as CallThere, Moment}
+use Rattle.papaya_settles.specs.Given.Schedules.Terms.{Terms}
+use Rattle.papaya_settles.specs.Given.Schedules.Views.{call_of}
 use Rattle.papaya_settles.specs.Owing.{hands_over}
 use Rattle.papaya_finds.specs.Life.{StoresOne}
 use Rattle.papaya_finds.specs.Parts.{FindsRest, FindOwed, FindRest}

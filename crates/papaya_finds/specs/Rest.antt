@@ -2,15 +2,15 @@
 -- hand pairs over.
 use Rattle.std.specs.Prelude.{◌≡◌, ℕ, false, List, Some}
 use Rattle.std.specs.List.{list_any}
-use Rattle.papaya_histories.specs.Given.Schedules.declared.effect.Effect.{Effect}
-use Rattle.papaya_histories.specs.Given.Schedules.declared.effect.Effect.TheVariants.{Deferred, Retired}
-use Rattle.papaya_histories.specs.Given.Schedules.declared.effect.Thing.TheVariants.{APair}
-use Rattle.papaya_histories.specs.Given.Schedules.Effects.{AtEachEffect}
-use Rattle.papaya_histories.specs.Given.Schedules.Entry.{ByCall, acting}
-use Rattle.papaya_histories.specs.Given.Schedules.Lives.{IsPast, MayDefer}
-use Rattle.papaya_histories.specs.Given.Schedules.Moment.{UnderWay as CallThere, Moment}
-use Rattle.papaya_histories.specs.Given.Schedules.Terms.{Terms}
-use Rattle.papaya_histories.specs.Given.Schedules.Views.{call_of, first_of}
+use Rattle.papaya_settles.specs.Given.Schedules.declared.effect.Effect.{Effect}
+use Rattle.papaya_settles.specs.Given.Schedules.declared.effect.Effect.TheVariants.{Deferred, Retired}
+use Rattle.papaya_settles.specs.Given.Schedules.declared.effect.Thing.TheVariants.{APair}
+use Rattle.papaya_settles.specs.Given.Schedules.Effects.{AtEachEffect}
+use Rattle.papaya_settles.specs.Given.Schedules.Entry.{ByCall, acting}
+use Rattle.papaya_settles.specs.Given.Schedules.Lives.{IsPast, MayDefer}
+use Rattle.papaya_settles.specs.Given.Schedules.Moment.{UnderWay as CallThere, Moment}
+use Rattle.papaya_settles.specs.Given.Schedules.Terms.{Terms}
+use Rattle.papaya_settles.specs.Given.Schedules.Views.{call_of, first_of}
 use Rattle.papaya_settles.specs.Owing.{hands_over}
 use Rattle.papaya_finds.specs.Growing.{FindAsked}
 use Rattle.papaya_finds.specs.Linking.{FindShapes}

@@ -1,23 +1,23 @@
 -- What is promised of the effects of each step of a call: they find the parts.
 use Rattle.std.specs.Prelude.{◌≡◌, ℕ, ◌+◌, Bool, true, List, Some}
 use Rattle.std.specs.List.{list_all}
-use Rattle.papaya_histories.specs.Given.Tables.declared.node.Node.{Node}
-use Rattle.papaya_histories.specs.Given.Raw.declared.machines.progress.Progress.{Progress}
-use Rattle.papaya_histories.specs.Given.Runs.Present.{slot_of_guard}
-use Rattle.papaya_histories.specs.Given.Schedules.Effects.{AtEachEffect}
-use Rattle.papaya_histories.specs.Given.Schedules.Handing.{is_call_effect}
-use Rattle.papaya_histories.specs.Given.Schedules.Moment.{UnderWay as CallThere, Moment}
-use Rattle.papaya_histories.specs.Given.Schedules.Terms.{Terms, shards_of}
-use Rattle.papaya_histories.specs.Given.Schedules.Views.{call_of}
-use Rattle.papaya_histories.specs.Given.Callers.Together.{UnderWay}
-use Rattle.papaya_histories.specs.Given.Effects.Effects.{effects_of}
-use Rattle.papaya_histories.specs.Given.Effects.Known.{Known}
-use Rattle.papaya_histories.specs.Given.Effects.declared.acting.Acting.TheVariants as acts
-use Rattle.papaya_histories.specs.Given.Executor.IsAt.{Scene, IsAt, slot_of}
-use Rattle.papaya_histories.specs.Given.Executor.Stepping.{StepLeads}
-use Rattle.papaya_histories.specs.Given.Executor.declared.executor.Executor.{Executor}
-use Rattle.papaya_histories.specs.Given.Follows.Finds.{FindsMap}
-use Rattle.papaya_histories.specs.Given.Moments.Whole.{ShowsWhole}
+use Rattle.papaya_settles.specs.Given.Tables.declared.node.Node.{Node}
+use Rattle.papaya_settles.specs.Given.Raw.declared.machines.progress.Progress.{Progress}
+use Rattle.papaya_settles.specs.Given.Runs.Present.{slot_of_guard}
+use Rattle.papaya_settles.specs.Given.Schedules.Effects.{AtEachEffect}
+use Rattle.papaya_settles.specs.Given.Schedules.Handing.{is_call_effect}
+use Rattle.papaya_settles.specs.Given.Schedules.Moment.{UnderWay as CallThere, Moment}
+use Rattle.papaya_settles.specs.Given.Schedules.Terms.{Terms, shards_of}
+use Rattle.papaya_settles.specs.Given.Schedules.Views.{call_of}
+use Rattle.papaya_settles.specs.Given.Callers.Together.{UnderWay}
+use Rattle.papaya_settles.specs.Given.Effects.Effects.{effects_of}
+use Rattle.papaya_settles.specs.Given.Effects.Known.{Known}
+use Rattle.papaya_settles.specs.Given.Effects.declared.acting.Acting.TheVariants as acts
+use Rattle.papaya_settles.specs.Given.Executor.IsAt.{Scene, IsAt, slot_of}
+use Rattle.papaya_settles.specs.Given.Executor.Stepping.{StepLeads}
+use Rattle.papaya_settles.specs.Given.Executor.declared.executor.Executor.{Executor}
+use Rattle.papaya_settles.specs.Given.Follows.Finds.{FindsMap}
+use Rattle.papaya_settles.specs.Given.Moments.Whole.{ShowsWhole}
 use Rattle.papaya_owes.specs.Looking.{ShowsLooking}
 use Rattle.papaya_owes.specs.Made.{ShowsMade}
 use Rattle.papaya_owes.specs.Short.{ShowsShort}

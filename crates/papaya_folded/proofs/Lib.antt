@@ -4,3 +4,4 @@ pub mod Seen
 pub mod Logs
 pub mod Steps
 pub mod Samples
+pub mod Given

@@ -1,31 +1,31 @@
 -- The effects of each step of a call hand over in order, and so do those of an event by which it goes on.
 use Rattle.std.specs.Prelude.{◌≡◌, ℕ, Bool, true, List, [], ◌∷◌, ◌++◌, Option, Some, None}
 use Rattle.std.proofs.Common.{refl, ap, sym, subst, ◌∙◌}
-use Rattle.papaya_histories.specs.Given.Tables.declared.node.Node.{Node}
-use Rattle.papaya_histories.specs.Given.Raw.declared.machines.progress.Progress.{Progress}
-use Rattle.papaya_histories.specs.Given.Schedules.declared.effect.Effect.{Effect}
-use Rattle.papaya_histories.specs.Given.Schedules.declared.effect.Effect.TheVariants as effect
-use Rattle.papaya_histories.specs.Given.Schedules.declared.effect.Thing.{Thing}
-use Rattle.papaya_histories.specs.Given.Schedules.After.{moment}
-use Rattle.papaya_histories.specs.Given.Schedules.Beginning.{at_work}
-use Rattle.papaya_histories.specs.Given.Schedules.Effects.{with_effect, with_effects}
-use Rattle.papaya_histories.specs.Given.Schedules.Entry.{Entry, IfCall, acted_on, acting, caller_of}
-use Rattle.papaya_histories.specs.Given.Schedules.Moment.{UnderWay as CallThere, Moment}
-use Rattle.papaya_histories.specs.Given.Schedules.Views.{call_of}
-use Rattle.papaya_histories.specs.Given.Effects.Effects.{effects_of}
-use Rattle.papaya_histories.specs.Given.Effects.declared.acting.Acting.TheVariants as acts
-use Rattle.papaya_histories.specs.Given.Callers.Together.{UnderWay}
-use Rattle.papaya_histories.specs.Given.Effects.Known.{Known}
-use Rattle.papaya_histories.specs.Given.Executor.IsAt.{IsAt, Scene}
-use Rattle.papaya_histories.specs.Given.Moments.Whole.{ShowsWhole}
-use Rattle.papaya_histories.specs.Given.Executor.Stepping.{StepLeads}
-use Rattle.papaya_histories.specs.Given.Executor.declared.executor.Executor.{Executor}
-use Rattle.papaya_histories.specs.InEvent.{here_of}
-use Rattle.papaya_settles.specs.Hand.{in_hand}
-use Rattle.papaya_settles.specs.Owing.{AllLeave, HandsFirst, HandsOver, KeepsOwed, OwesGo, Passes, PutsOver, TakesOut, leaves_owed}
-use Rattle.papaya_settles.proofs.Hand.All.{calls_go_in_hand}
-use Rattle.papaya_kept.specs.Kept.{ShowsKept}
-use Rattle.papaya_kept.proofs.Calls.{own_made}
+use Rattle.papaya_legal.specs.Given.Tables.declared.node.Node.{Node}
+use Rattle.papaya_legal.specs.Given.Raw.declared.machines.progress.Progress.{Progress}
+use Rattle.papaya_legal.specs.Given.Schedules.declared.effect.Effect.{Effect}
+use Rattle.papaya_legal.specs.Given.Schedules.declared.effect.Effect.TheVariants as effect
+use Rattle.papaya_legal.specs.Given.Schedules.declared.effect.Thing.{Thing}
+use Rattle.papaya_legal.specs.Given.Schedules.After.{moment}
+use Rattle.papaya_legal.specs.Given.Schedules.Beginning.{at_work}
+use Rattle.papaya_legal.specs.Given.Schedules.Effects.{with_effect, with_effects}
+use Rattle.papaya_legal.specs.Given.Schedules.Entry.{Entry, IfCall, acted_on, acting, caller_of}
+use Rattle.papaya_legal.specs.Given.Schedules.Moment.{UnderWay as CallThere, Moment}
+use Rattle.papaya_legal.specs.Given.Schedules.Views.{call_of}
+use Rattle.papaya_legal.specs.Given.Effects.Effects.{effects_of}
+use Rattle.papaya_legal.specs.Given.Effects.declared.acting.Acting.TheVariants as acts
+use Rattle.papaya_legal.specs.Given.Callers.Together.{UnderWay}
+use Rattle.papaya_legal.specs.Given.Effects.Known.{Known}
+use Rattle.papaya_legal.specs.Given.Executor.IsAt.{IsAt, Scene}
+use Rattle.papaya_legal.specs.Given.Moments.Whole.{ShowsWhole}
+use Rattle.papaya_legal.specs.Given.Executor.Stepping.{StepLeads}
+use Rattle.papaya_legal.specs.Given.Executor.declared.executor.Executor.{Executor}
+use Rattle.papaya_legal.specs.Given.Histories.InEvent.{here_of}
+use Rattle.papaya_legal.specs.Given.Settles.Hand.{in_hand}
+use Rattle.papaya_legal.specs.Given.Settles.Owing.{AllLeave, HandsFirst, HandsOver, KeepsOwed, OwesGo, Passes, PutsOver, TakesOut, leaves_owed}
+use Rattle.papaya_legal.proofs.Given.Settles.Hand.All.{calls_go_in_hand}
+use Rattle.papaya_legal.specs.Given.Kept.Kept.{ShowsKept}
+use Rattle.papaya_legal.proofs.Given.Kept.Calls.{own_made}
 use Rattle.papaya_legal.specs.CallEvents.{InCallEvent}
 use Rattle.papaya_legal.specs.Chains.{CallCome, CallSteps}
 use Rattle.papaya_legal.proofs.Calls.{call_events_go_on_so}

@@ -1,21 +1,21 @@
 -- What is promised of each step of a call, and of each event by which one goes on: it hands over in order.
 use Rattle.std.specs.Prelude.{◌≡◌, ℕ, Bool, List, [], ◌++◌, Some}
-use Rattle.papaya_histories.specs.Given.Tables.declared.node.Node.{Node}
-use Rattle.papaya_histories.specs.Given.Raw.declared.machines.progress.Progress.{Progress}
-use Rattle.papaya_histories.specs.Given.Schedules.After.{moment}
-use Rattle.papaya_histories.specs.Given.Schedules.Beginning.{at_work}
-use Rattle.papaya_histories.specs.Given.Schedules.Entry.{Entry, acted_on}
-use Rattle.papaya_histories.specs.Given.Schedules.Moment.{UnderWay as CallThere, Moment}
-use Rattle.papaya_histories.specs.Given.Schedules.Terms.{Terms}
-use Rattle.papaya_histories.specs.Given.Callers.Together.{UnderWay}
-use Rattle.papaya_histories.specs.Given.Effects.Effects.{effects_of}
-use Rattle.papaya_histories.specs.Given.Effects.Known.{Known}
-use Rattle.papaya_histories.specs.Given.Effects.declared.acting.Acting.TheVariants as acts
-use Rattle.papaya_histories.specs.Given.Executor.IsAt.{Scene, IsAt}
-use Rattle.papaya_histories.specs.Given.Executor.Stepping.{StepLeads}
-use Rattle.papaya_histories.specs.Given.Executor.declared.executor.Executor.{Executor}
-use Rattle.papaya_histories.specs.Given.Moments.Whole.{ShowsWhole}
-use Rattle.papaya_kept.specs.Kept.{ShowsKept}
+use Rattle.papaya_legal.specs.Given.Tables.declared.node.Node.{Node}
+use Rattle.papaya_legal.specs.Given.Raw.declared.machines.progress.Progress.{Progress}
+use Rattle.papaya_legal.specs.Given.Schedules.After.{moment}
+use Rattle.papaya_legal.specs.Given.Schedules.Beginning.{at_work}
+use Rattle.papaya_legal.specs.Given.Schedules.Entry.{Entry, acted_on}
+use Rattle.papaya_legal.specs.Given.Schedules.Moment.{UnderWay as CallThere, Moment}
+use Rattle.papaya_legal.specs.Given.Schedules.Terms.{Terms}
+use Rattle.papaya_legal.specs.Given.Callers.Together.{UnderWay}
+use Rattle.papaya_legal.specs.Given.Effects.Effects.{effects_of}
+use Rattle.papaya_legal.specs.Given.Effects.Known.{Known}
+use Rattle.papaya_legal.specs.Given.Effects.declared.acting.Acting.TheVariants as acts
+use Rattle.papaya_legal.specs.Given.Executor.IsAt.{Scene, IsAt}
+use Rattle.papaya_legal.specs.Given.Executor.Stepping.{StepLeads}
+use Rattle.papaya_legal.specs.Given.Executor.declared.executor.Executor.{Executor}
+use Rattle.papaya_legal.specs.Given.Moments.Whole.{ShowsWhole}
+use Rattle.papaya_legal.specs.Given.Kept.Kept.{ShowsKept}
 use Rattle.papaya_legal.specs.CallEvents.{InCallEvent}
 use Rattle.papaya_legal.specs.Chains.{CallCome, CallSteps, Chain}
 use Rattle.papaya_folded.specs.Folded.{HandInOrder, HandsInOrder}

@@ -6,6 +6,7 @@ pub use Rattle.papaya_executor.proofs.Given.SeizeRule
 pub use Rattle.papaya_executor.proofs.Given.SeizeSets
 pub use Rattle.papaya_executor.proofs.Given.SeizeEnds
 pub use Rattle.papaya_executor.proofs.Given.SeizeAlone
+pub use Rattle.papaya_executor.proofs.Given.Tables
 pub use Rattle.papaya_executor.proofs.Given.Rule
 pub use Rattle.papaya_executor.proofs.Given.Points
 pub use Rattle.papaya_executor.proofs.Given.Late

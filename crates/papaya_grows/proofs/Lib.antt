@@ -1,3 +1,4 @@
 pub mod Finding
 pub mod Limits
 pub mod Since
+pub mod Given

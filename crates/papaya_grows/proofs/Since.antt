@@ -1,46 +1,46 @@
 -- What is so of each call under way by what is so of its map, or was at a moment since it began, whatever happens.
 use Rattle.std.specs.Prelude.{◌≡◌, ◌≢◌, ◌⊎◌, ◌≤◌, ◌+◌, ◌==◌, ℕ, Bool, true, false, cond, not, List, ◌∷◌, find, length, map as list_map, Some, if◌then◌else◌}
 use Rattle.std.proofs.Common.{refl, ap, sym, subst, ◌∙◌, arith, inl, inr}
-use Rattle.papaya_histories.specs.Given.Tables.declared.node.Node.{Node}
-use Rattle.papaya_histories.specs.Given.Raw.Machine.{machine_asked, machine_replied}
-use Rattle.papaya_histories.specs.Given.Raw.declared.machines.asking.Reply.{Reply as MachineReply}
-use Rattle.papaya_histories.specs.Given.Raw.declared.machines.machine.Machine.{Machine}
-use Rattle.papaya_histories.specs.Given.Raw.declared.machines.progress.Progress.{Progress}
-use Rattle.papaya_histories.specs.Given.Runs.Same.{is_same}
-use Rattle.papaya_histories.specs.Given.Schedules.declared.call.Call.{Call}
-use Rattle.papaya_histories.specs.Given.Schedules.declared.call.Reply.{Reply}
-use Rattle.papaya_histories.specs.Given.Schedules.declared.effect.Effect.{Effect}
-use Rattle.papaya_histories.specs.Given.Schedules.declared.outcome.Outcome.{Outcome}
-use Rattle.papaya_histories.specs.Given.Schedules.After.{moment, moments_from, replied, without_call}
-use Rattle.papaya_histories.specs.Given.Schedules.Beginning.{fresh_call, with_call}
-use Rattle.papaya_histories.specs.Given.Schedules.Effects.{with_effects}
-use Rattle.papaya_histories.specs.Given.Schedules.Entry.{Entry, ends_call}
-use Rattle.papaya_histories.specs.Given.Schedules.Lists.{OneOf}
-use Rattle.papaya_histories.specs.Given.Schedules.Moment.{MapThere, Moment, UnderWay as CallThere}
-use Rattle.papaya_histories.specs.Given.Schedules.Views.{call_of, map_at}
-use Rattle.papaya_histories.specs.Given.Callers.Together.{UnderWay}
-use Rattle.papaya_histories.specs.Given.Effects.Effects.{effects_of}
-use Rattle.papaya_histories.specs.Given.Effects.Known.{Known}
-use Rattle.papaya_histories.specs.Given.Effects.declared.acting.Acting.TheVariants as acts
-use Rattle.papaya_histories.specs.Given.Executor.IsAt.{IsAt, Scene}
-use Rattle.papaya_histories.specs.Given.Executor.Replying.{scene_with, unless_stopped}
-use Rattle.papaya_histories.specs.Given.Executor.Stepping.{StepLeads, scene_after}
-use Rattle.papaya_histories.specs.Given.Executor.declared.executor.Executor.{Executor}
-use Rattle.papaya_histories.proofs.Given.Executor.Changed.{standing_is}
-use Rattle.papaya_histories.specs.Given.Finishes.Machines.{machine_of}
-use Rattle.papaya_histories.specs.Given.Finishes.Maps.{Standing, with_call as with_in}
-use Rattle.papaya_histories.specs.Given.Follows.Calling.{NoneNamed, come_to, told}
-use Rattle.papaya_histories.specs.Given.Follows.Calls.{ShowsCalls as IsThere}
-use Rattle.papaya_histories.proofs.Given.Follows.Calling.{apart_back, come, come_of_same, found_kept, replied_same}
-use Rattle.papaya_histories.proofs.Given.Follows.Calls.{found}
-use Rattle.papaya_histories.proofs.Given.Follows.Steps.{WentTo, one_of, went_to}
-use Rattle.papaya_histories.proofs.Given.Hands.Asking.{which}
-use Rattle.papaya_histories.proofs.Given.Hands.Calling.{caller_is}
-use Rattle.papaya_histories.specs.Given.Others.Walks.{given_up}
-use Rattle.papaya_histories.specs.Given.Moments.Whole.{ShowsWhole}
-use Rattle.papaya_histories.proofs.Begun.{comes_begun, effects_begun, if_begun, replied_begun}
-use Rattle.papaya_histories.proofs.Logs.{last_there, moments_grow}
-use Rattle.papaya_owes.proofs.Calls.{goes_as_one}
+use Rattle.papaya_purposes.specs.Given.Tables.declared.node.Node.{Node}
+use Rattle.papaya_purposes.specs.Given.Raw.Machine.{machine_asked, machine_replied}
+use Rattle.papaya_purposes.specs.Given.Raw.declared.machines.asking.Reply.{Reply as MachineReply}
+use Rattle.papaya_purposes.specs.Given.Raw.declared.machines.machine.Machine.{Machine}
+use Rattle.papaya_purposes.specs.Given.Raw.declared.machines.progress.Progress.{Progress}
+use Rattle.papaya_purposes.specs.Given.Runs.Same.{is_same}
+use Rattle.papaya_purposes.specs.Given.Schedules.declared.call.Call.{Call}
+use Rattle.papaya_purposes.specs.Given.Schedules.declared.call.Reply.{Reply}
+use Rattle.papaya_purposes.specs.Given.Schedules.declared.effect.Effect.{Effect}
+use Rattle.papaya_purposes.specs.Given.Schedules.declared.outcome.Outcome.{Outcome}
+use Rattle.papaya_purposes.specs.Given.Schedules.After.{moment, moments_from, replied, without_call}
+use Rattle.papaya_purposes.specs.Given.Schedules.Beginning.{fresh_call, with_call}
+use Rattle.papaya_purposes.specs.Given.Schedules.Effects.{with_effects}
+use Rattle.papaya_purposes.specs.Given.Schedules.Entry.{Entry, ends_call}
+use Rattle.papaya_purposes.specs.Given.Schedules.Lists.{OneOf}
+use Rattle.papaya_purposes.specs.Given.Schedules.Moment.{MapThere, Moment, UnderWay as CallThere}
+use Rattle.papaya_purposes.specs.Given.Schedules.Views.{call_of, map_at}
+use Rattle.papaya_purposes.specs.Given.Callers.Together.{UnderWay}
+use Rattle.papaya_purposes.specs.Given.Effects.Effects.{effects_of}
+use Rattle.papaya_purposes.specs.Given.Effects.Known.{Known}
+use Rattle.papaya_purposes.specs.Given.Effects.declared.acting.Acting.TheVariants as acts
+use Rattle.papaya_purposes.specs.Given.Executor.IsAt.{IsAt, Scene}
+use Rattle.papaya_purposes.specs.Given.Executor.Replying.{scene_with, unless_stopped}
+use Rattle.papaya_purposes.specs.Given.Executor.Stepping.{StepLeads, scene_after}
+use Rattle.papaya_purposes.specs.Given.Executor.declared.executor.Executor.{Executor}
+use Rattle.papaya_purposes.proofs.Given.Executor.Changed.{standing_is}
+use Rattle.papaya_purposes.specs.Given.Finishes.Machines.{machine_of}
+use Rattle.papaya_purposes.specs.Given.Finishes.Maps.{Standing, with_call as with_in}
+use Rattle.papaya_purposes.specs.Given.Follows.Calling.{NoneNamed, come_to, told}
+use Rattle.papaya_purposes.specs.Given.Follows.Calls.{ShowsCalls as IsThere}
+use Rattle.papaya_purposes.proofs.Given.Follows.Calling.{apart_back, come, come_of_same, found_kept, replied_same}
+use Rattle.papaya_purposes.proofs.Given.Follows.Calls.{found}
+use Rattle.papaya_purposes.proofs.Given.Follows.Steps.{WentTo, one_of, went_to}
+use Rattle.papaya_purposes.proofs.Given.Hands.Asking.{which}
+use Rattle.papaya_purposes.proofs.Given.Hands.Calling.{caller_is}
+use Rattle.papaya_purposes.specs.Given.Others.Walks.{given_up}
+use Rattle.papaya_purposes.specs.Given.Moments.Whole.{ShowsWhole}
+use Rattle.papaya_purposes.proofs.Given.Histories.Begun.{comes_begun, effects_begun, if_begun, replied_begun}
+use Rattle.papaya_purposes.proofs.Given.Histories.Logs.{last_there, moments_grow}
+use Rattle.papaya_purposes.proofs.Given.Owes.Calls.{goes_as_one}
 use Rattle.papaya_grows.proofs.Finding.Between.{fewer_calls}
 
 module _ {K V : Type 0} (Of : Type 0 → Machine K V K → Type 0) (more : (A B : Type 0) → (A → B) → (machine : Machine K V K) → Of A machine → Of B machine)

@@ -3,3 +3,4 @@ pub mod Nexts
 pub mod Finding
 pub mod Rests
 pub mod Limits
+pub mod Given

@@ -1,26 +1,26 @@
 -- Where a call can have no further table: one of its map's is as long as a table can be, or has the last turn, or was there at a moment since the call began.
 use Rattle.std.specs.Prelude.{◌≡◌, ◌≢◌, ◌⊎◌, ◌<◌, ◌^◌, ℕ, true, List, Some}
-use Rattle.papaya_histories.specs.Given.SeizeWords.declared.fault.Fault.{Fault}
-use Rattle.papaya_histories.specs.Given.SeizeWords.declared.fault.Fault.TheVariants.{Capacity}
-use Rattle.papaya_histories.specs.Given.Tables.Lengths.{CannotBeFollowed, GoesByTable}
-use Rattle.papaya_histories.specs.Given.Tables.declared.lengths.Reason.{Reason}
-use Rattle.papaya_histories.specs.Given.Tables.declared.table.Table.{Table}
-use Rattle.papaya_histories.specs.Given.Reserves.Reserve.{needed}
-use Rattle.papaya_histories.specs.Given.Reserves.declared.reserve.Reserving.{Reserving}
-use Rattle.papaya_histories.specs.Given.Raw.declared.machines.machine.Machine.{Machine}
-use Rattle.papaya_histories.specs.Given.Raw.declared.machines.machine.Machine.TheVariants as kinds
-use Rattle.papaya_histories.specs.Given.Raw.declared.machines.progress.Progress.{Progress}
-use Rattle.papaya_histories.specs.Given.Raw.declared.machines.progress.Progress.TheVariants as progress
-use Rattle.papaya_histories.specs.Given.Schedules.After.{moments_from}
-use Rattle.papaya_histories.specs.Given.Schedules.Coming.{is_at_limit}
-use Rattle.papaya_histories.specs.Given.Schedules.Entry.{Entry}
-use Rattle.papaya_histories.specs.Given.Schedules.Lists.{OneOf}
-use Rattle.papaya_histories.specs.Given.Schedules.Moment.{Moment, UnderWay as CallThere}
-use Rattle.papaya_histories.specs.Given.Schedules.Views.{call_of}
-use Rattle.papaya_histories.specs.Given.Late.Faults.{StandsInCalling, StandsInReserving, StandsInSweeping}
-use Rattle.papaya_histories.specs.Given.Callers.Together.{UnderWay}
-use Rattle.papaya_histories.specs.Given.Executor.IsAt.{Scene}
-use Rattle.papaya_histories.specs.Given.Finishes.Machines.{machine_of}
+use Rattle.papaya_purposes.specs.Given.SeizeWords.declared.fault.Fault.{Fault}
+use Rattle.papaya_purposes.specs.Given.SeizeWords.declared.fault.Fault.TheVariants.{Capacity}
+use Rattle.papaya_purposes.specs.Given.Tables.Lengths.{CannotBeFollowed, GoesByTable}
+use Rattle.papaya_purposes.specs.Given.Tables.declared.lengths.Reason.{Reason}
+use Rattle.papaya_purposes.specs.Given.Tables.declared.table.Table.{Table}
+use Rattle.papaya_purposes.specs.Given.Reserves.Reserve.{needed}
+use Rattle.papaya_purposes.specs.Given.Reserves.declared.reserve.Reserving.{Reserving}
+use Rattle.papaya_purposes.specs.Given.Raw.declared.machines.machine.Machine.{Machine}
+use Rattle.papaya_purposes.specs.Given.Raw.declared.machines.machine.Machine.TheVariants as kinds
+use Rattle.papaya_purposes.specs.Given.Raw.declared.machines.progress.Progress.{Progress}
+use Rattle.papaya_purposes.specs.Given.Raw.declared.machines.progress.Progress.TheVariants as progress
+use Rattle.papaya_purposes.specs.Given.Schedules.After.{moments_from}
+use Rattle.papaya_purposes.specs.Given.Schedules.Coming.{is_at_limit}
+use Rattle.papaya_purposes.specs.Given.Schedules.Entry.{Entry}
+use Rattle.papaya_purposes.specs.Given.Schedules.Lists.{OneOf}
+use Rattle.papaya_purposes.specs.Given.Schedules.Moment.{Moment, UnderWay as CallThere}
+use Rattle.papaya_purposes.specs.Given.Schedules.Views.{call_of}
+use Rattle.papaya_purposes.specs.Given.Late.Faults.{StandsInCalling, StandsInReserving, StandsInSweeping}
+use Rattle.papaya_purposes.specs.Given.Callers.Together.{UnderWay}
+use Rattle.papaya_purposes.specs.Given.Executor.IsAt.{Scene}
+use Rattle.papaya_purposes.specs.Given.Finishes.Machines.{machine_of}
 
 -- a call is refused for the length of a table for this alone,
 abbrev pub IsFor : Type 0 → Fault → Type 0

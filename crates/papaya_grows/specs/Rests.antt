@@ -1,28 +1,28 @@
 -- What is promised of the effects of a step of a call, by what a moment shows: they find what is left of what they must.
 use Rattle.std.specs.Prelude.{◌≡◌, ℕ, ◌+◌, Bool, List, ◌∷◌, Some}
-use Rattle.papaya_histories.specs.Given.Tables.declared.node.Node.{Node}
-use Rattle.papaya_histories.specs.Given.Resize.declared.new_table.NewTable.{NewTable}
-use Rattle.papaya_histories.specs.Given.Raw.declared.machines.progress.Progress.{Progress}
-use Rattle.papaya_histories.specs.Given.Schedules.After.{moments_from}
-use Rattle.papaya_histories.specs.Given.Schedules.Entry.{Entry}
-use Rattle.papaya_histories.specs.Given.Schedules.Growing.{HasNext}
-use Rattle.papaya_histories.specs.Given.Schedules.Lists.{OneOf}
-use Rattle.papaya_histories.specs.Given.Schedules.Moment.{UnderWay as CallThere, Moment}
-use Rattle.papaya_histories.specs.Given.Schedules.Terms.{Terms, shards_of}
-use Rattle.papaya_histories.specs.Given.Schedules.Views.{call_of}
-use Rattle.papaya_histories.specs.Given.Callers.Together.{UnderWay}
-use Rattle.papaya_histories.specs.Given.Effects.Effects.{effects_of}
-use Rattle.papaya_histories.specs.Given.Effects.Known.{Known}
-use Rattle.papaya_histories.specs.Given.Effects.declared.acting.Acting.TheVariants as acts
-use Rattle.papaya_histories.specs.Given.Executor.IsAt.{IsAt, Scene}
-use Rattle.papaya_histories.specs.Given.Executor.Stepping.{StepLeads}
-use Rattle.papaya_histories.specs.Given.Executor.declared.executor.Executor.{Executor}
-use Rattle.papaya_histories.specs.Given.Finishes.Machines.{machine_of}
-use Rattle.papaya_histories.specs.Given.Moments.Whole.{ShowsWhole}
+use Rattle.papaya_purposes.specs.Given.Tables.declared.node.Node.{Node}
+use Rattle.papaya_purposes.specs.Given.Resize.declared.new_table.NewTable.{NewTable}
+use Rattle.papaya_purposes.specs.Given.Raw.declared.machines.progress.Progress.{Progress}
+use Rattle.papaya_purposes.specs.Given.Schedules.After.{moments_from}
+use Rattle.papaya_purposes.specs.Given.Schedules.Entry.{Entry}
+use Rattle.papaya_purposes.specs.Given.Schedules.Growing.{HasNext}
+use Rattle.papaya_purposes.specs.Given.Schedules.Lists.{OneOf}
+use Rattle.papaya_purposes.specs.Given.Schedules.Moment.{UnderWay as CallThere, Moment}
+use Rattle.papaya_purposes.specs.Given.Schedules.Terms.{Terms, shards_of}
+use Rattle.papaya_purposes.specs.Given.Schedules.Views.{call_of}
+use Rattle.papaya_purposes.specs.Given.Callers.Together.{UnderWay}
+use Rattle.papaya_purposes.specs.Given.Effects.Effects.{effects_of}
+use Rattle.papaya_purposes.specs.Given.Effects.Known.{Known}
+use Rattle.papaya_purposes.specs.Given.Effects.declared.acting.Acting.TheVariants as acts
+use Rattle.papaya_purposes.specs.Given.Executor.IsAt.{IsAt, Scene}
+use Rattle.papaya_purposes.specs.Given.Executor.Stepping.{StepLeads}
+use Rattle.papaya_purposes.specs.Given.Executor.declared.executor.Executor.{Executor}
+use Rattle.papaya_purposes.specs.Given.Finishes.Machines.{machine_of}
+use Rattle.papaya_purposes.specs.Given.Moments.Whole.{ShowsWhole}
 use Rattle.papaya_kept.specs.Kept.{ShowsKept}
-use Rattle.papaya_finds.specs.Nexts.{making_of_copier}
-use Rattle.papaya_finds.specs.Parts.{FindRest}
-use Rattle.papaya_finds.specs.Within.{AllIsInOrder}
+use Rattle.papaya_purposes.specs.Given.Finds.Nexts.{making_of_copier}
+use Rattle.papaya_purposes.specs.Given.Finds.Parts.{FindRest}
+use Rattle.papaya_purposes.specs.Given.Finds.Within.{AllIsInOrder}
 use Rattle.papaya_sources.specs.Sources.{ShowsSources}
 use Rattle.papaya_purposes.specs.Purposes.{ShowsPurposes}
 use Rattle.papaya_grows.specs.Finding.{ShowsFinding}

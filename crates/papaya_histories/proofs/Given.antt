@@ -6,6 +6,7 @@ pub use Rattle.papaya_moments.proofs.Given.SeizeRule
 pub use Rattle.papaya_moments.proofs.Given.SeizeSets
 pub use Rattle.papaya_moments.proofs.Given.SeizeEnds
 pub use Rattle.papaya_moments.proofs.Given.SeizeAlone
+pub use Rattle.papaya_moments.proofs.Given.Tables
 pub use Rattle.papaya_moments.proofs.Given.Rule
 pub use Rattle.papaya_moments.proofs.Given.Points
 pub use Rattle.papaya_moments.proofs.Given.Late

@@ -2,36 +2,36 @@
 use Rattle.std.specs.Prelude.{◌≡◌, ◌⊎◌, ℕ, Bool, true, false, List, [], Option, Some, None}
 use Rattle.std.proofs.Common.{refl, ap, sym, subst, ◌∙◌, inl, inr}
 use Rattle.std.proofs.lemmas.Bool.{cases_eq}
-use Rattle.papaya_histories.specs.Given.Seize.World.{Rests, with_at}
-use Rattle.papaya_histories.specs.Given.Tables.declared.setting.Setting.{Setting}
-use Rattle.papaya_histories.specs.Given.Raw.Machine.{is_ready, machine_asked}
-use Rattle.papaya_histories.specs.Given.Raw.declared.machines.call.KeyCall.{KeyCall}
-use Rattle.papaya_histories.specs.Given.Raw.declared.machines.machine.Machine.TheVariants as kinds
-use Rattle.papaya_histories.specs.Given.Sweeps.declared.sweep.Sweeping.{Sweeping}
-use Rattle.papaya_histories.specs.Given.Sweeps.declared.sweep.Sweeping.TheVariants as sweeping
-use Rattle.papaya_histories.specs.Given.Schedules.Beginning.{with_call}
-use Rattle.papaya_histories.specs.Given.Schedules.Growing.{only_looks}
-use Rattle.papaya_histories.specs.Given.Schedules.Moment.{Moment}
-use Rattle.papaya_histories.specs.Given.Schedules.declared.call.Call.{Call}
-use Rattle.papaya_histories.specs.Given.Schedules.declared.call.Call.TheVariants.{On, Reserve, Clear, Retain, Len, Walk}
-use Rattle.papaya_histories.specs.Given.Points.Steps.{AreLawful}
-use Rattle.papaya_histories.specs.Given.Late.ToldSweeps.{IsRowOfSweep}
-use Rattle.papaya_histories.specs.Given.Callers.OverAll.{CallOverAll}
-use Rattle.papaya_histories.specs.Given.Callers.Rooms.{CallForRoom}
-use Rattle.papaya_histories.specs.Given.Callers.Pairs.{Given}
-use Rattle.papaya_histories.specs.Given.Callers.Together.{UnderWay, OnKey, ForRoom, Counting, OverAll, IsBegun, Gets, Removes, Inserts, TriesToInsert, Computes, Updates, UpdatesOrInserts, TriesToInsertWith, RemovesIf}
-use Rattle.papaya_histories.proofs.Given.Callers.Together.At.{at_same, at_other}
-use Rattle.papaya_histories.specs.Given.Executor.Beginning.{Begins}
-use Rattle.papaya_histories.specs.Given.Executor.IsAt.{Scene, HasCall, IsAt, slot_of}
-use Rattle.papaya_histories.specs.Given.Executor.Replying.{scene_with, unless_stopped}
-use Rattle.papaya_histories.specs.Given.Executor.declared.executor.Executor.{Executor}
-use Rattle.papaya_histories.proofs.Given.Executor.Changed.{standing_is}
-use Rattle.papaya_histories.specs.Given.Finishes.Machines.{machine_of}
-use Rattle.papaya_histories.specs.Given.Finishes.Maps.{Standing, with_call as with_in}
-use Rattle.papaya_histories.specs.Given.Follows.Calling.{told}
-use Rattle.papaya_histories.specs.Given.Follows.Calls.{IsCalled}
-use Rattle.papaya_histories.specs.Given.Hands.Calling.{IsBegunFor}
-use Rattle.papaya_histories.specs.Given.Others.Walks.{given_up}
+use Rattle.papaya_lives.specs.Given.Seize.World.{Rests, with_at}
+use Rattle.papaya_lives.specs.Given.Tables.declared.setting.Setting.{Setting}
+use Rattle.papaya_lives.specs.Given.Raw.Machine.{is_ready, machine_asked}
+use Rattle.papaya_lives.specs.Given.Raw.declared.machines.call.KeyCall.{KeyCall}
+use Rattle.papaya_lives.specs.Given.Raw.declared.machines.machine.Machine.TheVariants as kinds
+use Rattle.papaya_lives.specs.Given.Sweeps.declared.sweep.Sweeping.{Sweeping}
+use Rattle.papaya_lives.specs.Given.Sweeps.declared.sweep.Sweeping.TheVariants as sweeping
+use Rattle.papaya_lives.specs.Given.Schedules.Beginning.{with_call}
+use Rattle.papaya_lives.specs.Given.Schedules.Growing.{only_looks}
+use Rattle.papaya_lives.specs.Given.Schedules.Moment.{Moment}
+use Rattle.papaya_lives.specs.Given.Schedules.declared.call.Call.{Call}
+use Rattle.papaya_lives.specs.Given.Schedules.declared.call.Call.TheVariants.{On, Reserve, Clear, Retain, Len, Walk}
+use Rattle.papaya_lives.specs.Given.Points.Steps.{AreLawful}
+use Rattle.papaya_lives.specs.Given.Late.ToldSweeps.{IsRowOfSweep}
+use Rattle.papaya_lives.specs.Given.Callers.OverAll.{CallOverAll}
+use Rattle.papaya_lives.specs.Given.Callers.Rooms.{CallForRoom}
+use Rattle.papaya_lives.specs.Given.Callers.Pairs.{Given}
+use Rattle.papaya_lives.specs.Given.Callers.Together.{UnderWay, OnKey, ForRoom, Counting, OverAll, IsBegun, Gets, Removes, Inserts, TriesToInsert, Computes, Updates, UpdatesOrInserts, TriesToInsertWith, RemovesIf}
+use Rattle.papaya_lives.proofs.Given.Callers.Together.At.{at_same, at_other}
+use Rattle.papaya_lives.specs.Given.Executor.Beginning.{Begins}
+use Rattle.papaya_lives.specs.Given.Executor.IsAt.{Scene, HasCall, IsAt, slot_of}
+use Rattle.papaya_lives.specs.Given.Executor.Replying.{scene_with, unless_stopped}
+use Rattle.papaya_lives.specs.Given.Executor.declared.executor.Executor.{Executor}
+use Rattle.papaya_lives.proofs.Given.Executor.Changed.{standing_is}
+use Rattle.papaya_lives.specs.Given.Finishes.Machines.{machine_of}
+use Rattle.papaya_lives.specs.Given.Finishes.Maps.{Standing, with_call as with_in}
+use Rattle.papaya_lives.specs.Given.Follows.Calling.{told}
+use Rattle.papaya_lives.specs.Given.Follows.Calls.{IsCalled}
+use Rattle.papaya_lives.specs.Given.Hands.Calling.{IsBegunFor}
+use Rattle.papaya_lives.specs.Given.Others.Walks.{given_up}
 use Rattle.papaya_owes.specs.Looking.{IsLooking}
 use Rattle.papaya_owes.specs.Made.{OwnsSo}
 use Rattle.papaya_owes.proofs.Between.{calls_begin_made, calls_begin_owning, calls_take_made, walks_go_on_made, walks_stop_made}
@@ -39,12 +39,12 @@ use Rattle.papaya_owes.proofs.Looking.Between.{calls_begin_looking, lookups_begi
 use Rattle.papaya_owes.proofs.Short.Between.{calls_begin_short, calls_take_short, walks_go_on_short, walks_stop_short}
 use Rattle.papaya_owes.proofs.Grown.Between.{calls_begin_grown, machines_begin_grown, calls_take_grown, walks_go_on_grown, walks_stop_grown}
 use Rattle.papaya_owes.proofs.Tables.Between.{calls_begin_tables, calls_take_tables, walks_go_on_tables, walks_stop_tables}
-use Rattle.papaya_settles.specs.Counts.{counts_in_sweeping, is_to_count}
-use Rattle.papaya_settles.specs.Owed.{HasNothing}
-use Rattle.papaya_settles.proofs.Between.{calls_begin_counts, calls_begin_uncounted, calls_take_counts, walks_go_on_counts, walks_stop_counts}
-use Rattle.papaya_settles.proofs.EntryScenes.{calls_go_on_entries}
-use Rattle.papaya_settles.proofs.Hand.Between.{calls_begin_owed, calls_take_owed, walks_go_on_owed, walks_stop_owed}
-use Rattle.papaya_settles.proofs.Handing.{calls_begin_handing, calls_take_handing, walks_go_on_handing, walks_stop_handing}
+use Rattle.papaya_lives.specs.Given.Settles.Counts.{counts_in_sweeping, is_to_count}
+use Rattle.papaya_lives.specs.Given.Settles.Owed.{HasNothing}
+use Rattle.papaya_lives.proofs.Given.Settles.Between.{calls_begin_counts, calls_begin_uncounted, calls_take_counts, walks_go_on_counts, walks_stop_counts}
+use Rattle.papaya_lives.proofs.Given.Settles.EntryScenes.{calls_go_on_entries}
+use Rattle.papaya_lives.proofs.Given.Settles.Hand.Between.{calls_begin_owed, calls_take_owed, walks_go_on_owed, walks_stop_owed}
+use Rattle.papaya_lives.proofs.Given.Settles.Handing.{calls_begin_handing, calls_take_handing, walks_go_on_handing, walks_stop_handing}
 use Rattle.papaya_lives.specs.Behind.{WaitsOnce}
 use Rattle.papaya_lives.specs.Retired.{CallsStay}
 use Rattle.papaya_lives.proofs.HandedRows.{others_leave_handed}
@@ -53,7 +53,7 @@ use Rattle.papaya_lives.proofs.Lying.{others_leave_lying}
 use Rattle.papaya_lives.proofs.Order.{others_leave_order}
 use Rattle.papaya_lives.proofs.Reclaimed.{others_leave_retired}
 use Rattle.papaya_lives.proofs.Waiting.{others_leave_waiting}
-use Rattle.papaya_waits.specs.Others.{copier_in, copier_in_room, copier_in_sweep, copier_of}
+use Rattle.papaya_owned.specs.Given.Waits.Others.{copier_in, copier_in_room, copier_in_sweep, copier_of}
 use Rattle.papaya_kept.proofs.Ends.{calls_begin_ends, calls_take_ends, walks_go_on_ends, walks_stop_ends}
 use Rattle.papaya_kept.specs.Steps.{CallsBeginKept, CallsTakeKept, WalksGoOnKept, WalksStopKept}
 

@@ -1,27 +1,27 @@
 -- Each step of a call keeps all that is kept, whoever takes it, and whether it is one of a row or not.
 use Rattle.std.specs.Prelude.{ℕ, Bool, List, Some}
 use Rattle.std.proofs.Common.{sym, subst, inl, inr}
-use Rattle.papaya_histories.specs.Given.Schedules.Effects.{with_effects}
-use Rattle.papaya_histories.specs.Given.Schedules.Moment.{Moment}
-use Rattle.papaya_histories.specs.Given.Effects.Effects.{effects_of, known_after}
-use Rattle.papaya_histories.specs.Given.Effects.Known.{Known}
-use Rattle.papaya_histories.specs.Given.Effects.declared.acting.Acting.TheVariants.{Call}
-use Rattle.papaya_histories.specs.Given.Executor.IsAt.{Scene, IsAt}
-use Rattle.papaya_histories.specs.Given.Executor.declared.executor.Executor.{Executor}
-use Rattle.papaya_histories.proofs.Given.Follows.Steps.{went_to}
-use Rattle.papaya_histories.specs.Given.Moments.Whole.{ShowsWhole}
+use Rattle.papaya_lives.specs.Given.Schedules.Effects.{with_effects}
+use Rattle.papaya_lives.specs.Given.Schedules.Moment.{Moment}
+use Rattle.papaya_lives.specs.Given.Effects.Effects.{effects_of, known_after}
+use Rattle.papaya_lives.specs.Given.Effects.Known.{Known}
+use Rattle.papaya_lives.specs.Given.Effects.declared.acting.Acting.TheVariants.{Call}
+use Rattle.papaya_lives.specs.Given.Executor.IsAt.{Scene, IsAt}
+use Rattle.papaya_lives.specs.Given.Executor.declared.executor.Executor.{Executor}
+use Rattle.papaya_lives.proofs.Given.Follows.Steps.{went_to}
+use Rattle.papaya_lives.specs.Given.Moments.Whole.{ShowsWhole}
 use Rattle.papaya_owes.proofs.Calls.{calls_keep_made}
 use Rattle.papaya_owes.proofs.Looking.Calls.{calls_keep_looking}
 use Rattle.papaya_owes.proofs.Short.Calls.{calls_keep_short}
 use Rattle.papaya_owes.proofs.Grown.Calls.{calls_keep_grown}
 use Rattle.papaya_owes.proofs.Tables.Calls.{calls_keep_tables}
 use Rattle.papaya_owes.proofs.Tables.Held.{tables_are_made}
-use Rattle.papaya_settles.specs.Due.{OwnAreMade}
-use Rattle.papaya_settles.proofs.Calls.{calls_keep_counts}
-use Rattle.papaya_settles.proofs.EntryScenes.{calls_keep_entries}
-use Rattle.papaya_settles.proofs.Hand.All.{own_or_row}
-use Rattle.papaya_settles.proofs.Hand.Calls.{calls_keep_owed}
-use Rattle.papaya_settles.proofs.Handing.{calls_keep_handing}
+use Rattle.papaya_lives.specs.Given.Settles.Due.{OwnAreMade}
+use Rattle.papaya_lives.proofs.Given.Settles.Calls.{calls_keep_counts}
+use Rattle.papaya_lives.proofs.Given.Settles.EntryScenes.{calls_keep_entries}
+use Rattle.papaya_lives.proofs.Given.Settles.Hand.All.{own_or_row}
+use Rattle.papaya_lives.proofs.Given.Settles.Hand.Calls.{calls_keep_owed}
+use Rattle.papaya_lives.proofs.Given.Settles.Handing.{calls_keep_handing}
 use Rattle.papaya_lives.specs.Behind.{ShowsWaiting, WaitsOnce}
 use Rattle.papaya_lives.proofs.CallRows.{row_waits_on}
 use Rattle.papaya_lives.proofs.Calls.{calls_keep_waiting, calls_keep_list}

@@ -1,68 +1,68 @@
 -- What a call has in hand nobody else takes: a row on a slot takes what was retired, the end of a map what was in use or left over, and the making of one nothing of a map.
 use Rattle.std.specs.Prelude.{◌≡◌, ◌⊎◌, ◌<◌, ◌+◌, ℕ, Bool, true, List, Option, Some, None, is_some}
 use Rattle.std.proofs.Common.{refl, ap, sym, subst, ◌∙◌, inl, inr}
-use Rattle.papaya_histories.specs.Given.SeizeWords.Mem.{value_at}
-use Rattle.papaya_histories.specs.Given.SeizeWords.Word.{block_in}
-use Rattle.papaya_histories.specs.Given.SeizeWords.declared.at.At.TheVariants.{Root, Used, Slot, Entry, Word}
-use Rattle.papaya_histories.specs.Given.Seize.Law.{is_retired}
-use Rattle.papaya_histories.specs.Given.Seize.declared.progress.Progress.{Progress}
-use Rattle.papaya_histories.specs.Given.Seize.declared.rows.defer.Defer.{Defer}
-use Rattle.papaya_histories.specs.Given.Seize.declared.rows.defer.Deferring.{Deferring}
-use Rattle.papaya_histories.specs.Given.Seize.declared.rows.defer.Deferring.TheVariants as deferring
-use Rattle.papaya_histories.specs.Given.Seize.declared.rows.settle.Settle.{Settle}
-use Rattle.papaya_histories.specs.Given.Seize.declared.rows.settle.Settled.{Settled}
-use Rattle.papaya_histories.specs.Given.Seize.declared.rows.settle.Settling.{Settling}
-use Rattle.papaya_histories.specs.Given.Seize.declared.rows.settle.Settling.TheVariants as settling
-use Rattle.papaya_histories.specs.Given.Seize.declared.states.TheConstants.{LAST_SLOT}
-use Rattle.papaya_histories.specs.Given.Seize.World.{World, Hand, InUse, LeftTo, Handed, Row, Rests, Registers, Enters, Settles, Leaves, Defers, Frees}
-use Rattle.papaya_histories.proofs.Given.SeizeMoves.State.Ghost.{Life, IsDeferring, State, is_given}
-use Rattle.papaya_histories.proofs.Given.SeizeMoves.Sets.Unmoved.{is_in_wait}
-use Rattle.papaya_histories.proofs.Given.SeizeRule.Rows.Known.{FitsDefer, FitsRow}
-use Rattle.papaya_histories.proofs.Given.SeizeRule.Rows.Told.{IsOnWay}
-use Rattle.papaya_histories.proofs.Given.SeizeRule.Words.Named.{link-block}
-use Rattle.papaya_histories.proofs.Given.SeizeRule.Words.Shows.{Extra}
-use Rattle.papaya_histories.proofs.Given.SeizeRule.Words.There.{live_pos}
-use Rattle.papaya_histories.proofs.Given.SeizeRule.Words.View.{View, view}
-use Rattle.papaya_histories.specs.Given.Tables.Nodes.{deferred_word}
-use Rattle.papaya_histories.specs.Given.Tables.declared.node.Node.{Node}
-use Rattle.papaya_histories.specs.Given.Tables.declared.node.Node.TheVariants as node
-use Rattle.papaya_histories.specs.Given.Tables.declared.setting.Setting.{Setting}
-use Rattle.papaya_histories.specs.Given.Schedules.Moment.{Moment}
-use Rattle.papaya_histories.specs.Given.Teller.declared.changed.Changed.{Changed}
-use Rattle.papaya_histories.specs.Given.Teller.declared.changed.Changed.TheVariants as changed
-use Rattle.papaya_histories.specs.Given.Rule.Words.{byte_of}
-use Rattle.papaya_histories.proofs.Given.Rule.Laws.{words_name_pairs, bytes_are_few}
-use Rattle.papaya_histories.specs.Given.Callers.Sights.{seen_by}
-use Rattle.papaya_histories.specs.Given.Callers.Together.{UnderWay, CameAbout}
-use Rattle.papaya_histories.specs.Given.Effects.Effects.{known_after}
-use Rattle.papaya_histories.specs.Given.Effects.Known.{Known}
-use Rattle.papaya_histories.specs.Given.Effects.declared.acting.Acting.TheVariants as acts
-use Rattle.papaya_histories.specs.Given.Effects.declared.role.Role.{Role}
-use Rattle.papaya_histories.specs.Given.Effects.declared.role.Role.TheVariants as role
-use Rattle.papaya_histories.specs.Given.Executor.Ending.{EndingLeads}
-use Rattle.papaya_histories.specs.Given.Executor.IsAt.{Scene, IsAt, slot_of, work_of}
-use Rattle.papaya_histories.specs.Given.Executor.Making.{MakingLeads}
-use Rattle.papaya_histories.specs.Given.Executor.OnSlots.{RowLeads}
-use Rattle.papaya_histories.specs.Given.Executor.declared.executor.Executor.{Executor}
-use Rattle.papaya_histories.specs.Given.Executor.declared.row.RowTold.{RowTold}
-use Rattle.papaya_histories.specs.Given.Executor.declared.row.SlotRow.{SlotRow}
-use Rattle.papaya_histories.specs.Given.Executor.declared.worker.Work.TheVariants.{OnSlot}
-use Rattle.papaya_histories.proofs.Given.Executor.Changed.{standing_is}
-use Rattle.papaya_histories.specs.Given.Finishes.Endings.{Finishing}
-use Rattle.papaya_histories.specs.Given.Finishes.Machines.{machine_of}
-use Rattle.papaya_histories.specs.Given.Finishes.Makings.{Beginning}
-use Rattle.papaya_histories.specs.Given.Follows.Blocks.{HasRole}
-use Rattle.papaya_histories.proofs.Given.Follows.Alike.{put_elsewhere}
-use Rattle.papaya_histories.proofs.Given.Follows.Onward.{IsOfMap}
-use Rattle.papaya_histories.proofs.Given.Follows.Told.{roomed_as_many}
-use Rattle.papaya_histories.specs.Given.Others.Makings.{WasNew}
-use Rattle.papaya_histories.proofs.Given.Others.RowPlans.{TellsRow, row_tells}
-use Rattle.papaya_histories.specs.Given.Moments.Whole.{ShowsWhole}
+use Rattle.papaya_lives.specs.Given.SeizeWords.Mem.{value_at}
+use Rattle.papaya_lives.specs.Given.SeizeWords.Word.{block_in}
+use Rattle.papaya_lives.specs.Given.SeizeWords.declared.at.At.TheVariants.{Root, Used, Slot, Entry, Word}
+use Rattle.papaya_lives.specs.Given.Seize.Law.{is_retired}
+use Rattle.papaya_lives.specs.Given.Seize.declared.progress.Progress.{Progress}
+use Rattle.papaya_lives.specs.Given.Seize.declared.rows.defer.Defer.{Defer}
+use Rattle.papaya_lives.specs.Given.Seize.declared.rows.defer.Deferring.{Deferring}
+use Rattle.papaya_lives.specs.Given.Seize.declared.rows.defer.Deferring.TheVariants as deferring
+use Rattle.papaya_lives.specs.Given.Seize.declared.rows.settle.Settle.{Settle}
+use Rattle.papaya_lives.specs.Given.Seize.declared.rows.settle.Settled.{Settled}
+use Rattle.papaya_lives.specs.Given.Seize.declared.rows.settle.Settling.{Settling}
+use Rattle.papaya_lives.specs.Given.Seize.declared.rows.settle.Settling.TheVariants as settling
+use Rattle.papaya_lives.specs.Given.Seize.declared.states.TheConstants.{LAST_SLOT}
+use Rattle.papaya_lives.specs.Given.Seize.World.{World, Hand, InUse, LeftTo, Handed, Row, Rests, Registers, Enters, Settles, Leaves, Defers, Frees}
+use Rattle.papaya_lives.proofs.Given.SeizeMoves.State.Ghost.{Life, IsDeferring, State, is_given}
+use Rattle.papaya_lives.proofs.Given.SeizeMoves.Sets.Unmoved.{is_in_wait}
+use Rattle.papaya_lives.proofs.Given.SeizeRule.Rows.Known.{FitsDefer, FitsRow}
+use Rattle.papaya_lives.proofs.Given.SeizeRule.Rows.Told.{IsOnWay}
+use Rattle.papaya_lives.proofs.Given.SeizeRule.Words.Named.{link-block}
+use Rattle.papaya_lives.proofs.Given.SeizeRule.Words.Shows.{Extra}
+use Rattle.papaya_lives.proofs.Given.SeizeRule.Words.There.{live_pos}
+use Rattle.papaya_lives.proofs.Given.SeizeRule.Words.View.{View, view}
+use Rattle.papaya_lives.specs.Given.Tables.Nodes.{deferred_word}
+use Rattle.papaya_lives.specs.Given.Tables.declared.node.Node.{Node}
+use Rattle.papaya_lives.specs.Given.Tables.declared.node.Node.TheVariants as node
+use Rattle.papaya_lives.specs.Given.Tables.declared.setting.Setting.{Setting}
+use Rattle.papaya_lives.specs.Given.Schedules.Moment.{Moment}
+use Rattle.papaya_lives.specs.Given.Teller.declared.changed.Changed.{Changed}
+use Rattle.papaya_lives.specs.Given.Teller.declared.changed.Changed.TheVariants as changed
+use Rattle.papaya_lives.specs.Given.Rule.Words.{byte_of}
+use Rattle.papaya_lives.proofs.Given.Rule.Laws.{words_name_pairs, bytes_are_few}
+use Rattle.papaya_lives.specs.Given.Callers.Sights.{seen_by}
+use Rattle.papaya_lives.specs.Given.Callers.Together.{UnderWay, CameAbout}
+use Rattle.papaya_lives.specs.Given.Effects.Effects.{known_after}
+use Rattle.papaya_lives.specs.Given.Effects.Known.{Known}
+use Rattle.papaya_lives.specs.Given.Effects.declared.acting.Acting.TheVariants as acts
+use Rattle.papaya_lives.specs.Given.Effects.declared.role.Role.{Role}
+use Rattle.papaya_lives.specs.Given.Effects.declared.role.Role.TheVariants as role
+use Rattle.papaya_lives.specs.Given.Executor.Ending.{EndingLeads}
+use Rattle.papaya_lives.specs.Given.Executor.IsAt.{Scene, IsAt, slot_of, work_of}
+use Rattle.papaya_lives.specs.Given.Executor.Making.{MakingLeads}
+use Rattle.papaya_lives.specs.Given.Executor.OnSlots.{RowLeads}
+use Rattle.papaya_lives.specs.Given.Executor.declared.executor.Executor.{Executor}
+use Rattle.papaya_lives.specs.Given.Executor.declared.row.RowTold.{RowTold}
+use Rattle.papaya_lives.specs.Given.Executor.declared.row.SlotRow.{SlotRow}
+use Rattle.papaya_lives.specs.Given.Executor.declared.worker.Work.TheVariants.{OnSlot}
+use Rattle.papaya_lives.proofs.Given.Executor.Changed.{standing_is}
+use Rattle.papaya_lives.specs.Given.Finishes.Endings.{Finishing}
+use Rattle.papaya_lives.specs.Given.Finishes.Machines.{machine_of}
+use Rattle.papaya_lives.specs.Given.Finishes.Makings.{Beginning}
+use Rattle.papaya_lives.specs.Given.Follows.Blocks.{HasRole}
+use Rattle.papaya_lives.proofs.Given.Follows.Alike.{put_elsewhere}
+use Rattle.papaya_lives.proofs.Given.Follows.Onward.{IsOfMap}
+use Rattle.papaya_lives.proofs.Given.Follows.Told.{roomed_as_many}
+use Rattle.papaya_lives.specs.Given.Others.Makings.{WasNew}
+use Rattle.papaya_lives.proofs.Given.Others.RowPlans.{TellsRow, row_tells}
+use Rattle.papaya_lives.specs.Given.Moments.Whole.{ShowsWhole}
 use Rattle.papaya_owes.proofs.Lasting.{IsAside, ending_says, ending_spares}
-use Rattle.papaya_settles.specs.Due.{due_in_settle, due_in_defer}
-use Rattle.papaya_settles.specs.Hand.{HoldsInHand, IsPairRole, IsTableRole, IsPairAt, IsTableAt, IsSameRole, NotesInHand, SameInHand}
-use Rattle.papaya_settles.proofs.Hand.Held.{IsTakenOut, IsDueBlock, IsHeld, HeldOut, HeldByRow, Held, due_of_row, held_in_hand}
-use Rattle.papaya_settles.proofs.Hand.Roles.{hand_both}
+use Rattle.papaya_lives.specs.Given.Settles.Due.{due_in_settle, due_in_defer}
+use Rattle.papaya_lives.specs.Given.Settles.Hand.{HoldsInHand, IsPairRole, IsTableRole, IsPairAt, IsTableAt, IsSameRole, NotesInHand, SameInHand}
+use Rattle.papaya_lives.proofs.Given.Settles.Hand.Held.{IsTakenOut, IsDueBlock, IsHeld, HeldOut, HeldByRow, Held, due_of_row, held_in_hand}
+use Rattle.papaya_lives.proofs.Given.Settles.Hand.Roles.{hand_both}
 use Rattle.papaya_lives.specs.Retired.{IsDue, IsToRetire, ShowsRetired}
 use Rattle.papaya_lives.proofs.Makings.{role_kept}
 use Rattle.papaya_lives.proofs.Reclaimed.{leaves, none_to_retire, there}

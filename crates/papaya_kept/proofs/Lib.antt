@@ -9,3 +9,4 @@ pub mod Calls
 pub mod Between
 pub mod Others
 pub mod NoneMade
+pub mod Given

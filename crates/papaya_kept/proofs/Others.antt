@@ -1,34 +1,34 @@
 -- What is no call keeps all that is kept: a row on a slot, the making of a map, and the end of one.
 use Rattle.std.specs.Prelude.{◌≡◌, ℕ, Bool, List, Some, None}
 use Rattle.std.proofs.Common.{refl, sym, subst, inl}
-use Rattle.papaya_histories.specs.Given.Seize.declared.progress.Progress.{Progress}
-use Rattle.papaya_histories.specs.Given.Seize.declared.progress.Progress.TheVariants as progress
-use Rattle.papaya_histories.specs.Given.Seize.declared.rows.settle.Settled.{Settled}
-use Rattle.papaya_histories.specs.Given.Seize.declared.rows.settle.Settled.TheVariants as settled
-use Rattle.papaya_histories.specs.Given.Seize.World.{World, Begin, Step}
-use Rattle.papaya_histories.specs.Given.Tables.declared.node.Node.{Node}
-use Rattle.papaya_histories.specs.Given.Tables.declared.setting.Setting.{Setting}
-use Rattle.papaya_histories.specs.Given.Raw.declared.machines.end_map.EndMap.{EndMap}
-use Rattle.papaya_histories.specs.Given.Resize.declared.new_map.NewMap.{NewMap}
-use Rattle.papaya_histories.specs.Given.Schedules.Effects.{with_effects}
-use Rattle.papaya_histories.specs.Given.Schedules.declared.effect.Effect.{Effect}
-use Rattle.papaya_histories.specs.Given.Schedules.Moment.{Moment}
-use Rattle.papaya_histories.specs.Given.Effects.Effects.{effects_of, known_after}
-use Rattle.papaya_histories.specs.Given.Effects.Known.{Known}
-use Rattle.papaya_histories.specs.Given.Effects.declared.acting.Acting.TheVariants as acts
-use Rattle.papaya_histories.specs.Given.Executor.Ending.{EndingComesTo, ending_begun}
-use Rattle.papaya_histories.specs.Given.Executor.IsAt.{Scene, slot_of}
-use Rattle.papaya_histories.specs.Given.Executor.Making.{MakingComesTo}
-use Rattle.papaya_histories.specs.Given.Executor.Rows.{request_of}
-use Rattle.papaya_histories.specs.Given.Executor.declared.executor.Executor.{Executor}
-use Rattle.papaya_histories.specs.Given.Finishes.Endings.{Finishing}
-use Rattle.papaya_histories.specs.Given.Finishes.FactsEnds.{Deed}
-use Rattle.papaya_histories.specs.Given.Finishes.Makings.{Beginning}
-use Rattle.papaya_histories.specs.Given.Others.Endings.{ending_after}
-use Rattle.papaya_histories.specs.Given.Others.Makings.{making_after}
-use Rattle.papaya_histories.specs.Given.Others.Rows.{scene_then}
-use Rattle.papaya_histories.proofs.Given.Others.Quiet.{calls_none}
-use Rattle.papaya_histories.proofs.Given.Others.RowPlans.{row_tells}
+use Rattle.papaya_lives.specs.Given.Seize.declared.progress.Progress.{Progress}
+use Rattle.papaya_lives.specs.Given.Seize.declared.progress.Progress.TheVariants as progress
+use Rattle.papaya_lives.specs.Given.Seize.declared.rows.settle.Settled.{Settled}
+use Rattle.papaya_lives.specs.Given.Seize.declared.rows.settle.Settled.TheVariants as settled
+use Rattle.papaya_lives.specs.Given.Seize.World.{World, Begin, Step}
+use Rattle.papaya_lives.specs.Given.Tables.declared.node.Node.{Node}
+use Rattle.papaya_lives.specs.Given.Tables.declared.setting.Setting.{Setting}
+use Rattle.papaya_lives.specs.Given.Raw.declared.machines.end_map.EndMap.{EndMap}
+use Rattle.papaya_lives.specs.Given.Resize.declared.new_map.NewMap.{NewMap}
+use Rattle.papaya_lives.specs.Given.Schedules.Effects.{with_effects}
+use Rattle.papaya_lives.specs.Given.Schedules.declared.effect.Effect.{Effect}
+use Rattle.papaya_lives.specs.Given.Schedules.Moment.{Moment}
+use Rattle.papaya_lives.specs.Given.Effects.Effects.{effects_of, known_after}
+use Rattle.papaya_lives.specs.Given.Effects.Known.{Known}
+use Rattle.papaya_lives.specs.Given.Effects.declared.acting.Acting.TheVariants as acts
+use Rattle.papaya_lives.specs.Given.Executor.Ending.{EndingComesTo, ending_begun}
+use Rattle.papaya_lives.specs.Given.Executor.IsAt.{Scene, slot_of}
+use Rattle.papaya_lives.specs.Given.Executor.Making.{MakingComesTo}
+use Rattle.papaya_lives.specs.Given.Executor.Rows.{request_of}
+use Rattle.papaya_lives.specs.Given.Executor.declared.executor.Executor.{Executor}
+use Rattle.papaya_lives.specs.Given.Finishes.Endings.{Finishing}
+use Rattle.papaya_lives.specs.Given.Finishes.FactsEnds.{Deed}
+use Rattle.papaya_lives.specs.Given.Finishes.Makings.{Beginning}
+use Rattle.papaya_lives.specs.Given.Others.Endings.{ending_after}
+use Rattle.papaya_lives.specs.Given.Others.Makings.{making_after}
+use Rattle.papaya_lives.specs.Given.Others.Rows.{scene_then}
+use Rattle.papaya_lives.proofs.Given.Others.Quiet.{calls_none}
+use Rattle.papaya_lives.proofs.Given.Others.RowPlans.{row_tells}
 use Rattle.papaya_owes.proofs.Aside.{stays_made}
 use Rattle.papaya_owes.proofs.EndsOfMaps.{endings_keep_made}
 use Rattle.papaya_owes.proofs.Looking.Between.{stays_looking}
@@ -40,10 +40,10 @@ use Rattle.papaya_owes.proofs.Tables.Aside.{stays_tables}
 use Rattle.papaya_owes.proofs.Tables.EndsOfMaps.{endings_keep_tables}
 use Rattle.papaya_owes.proofs.Tables.MakingsOfMaps.{makings_keep_tables}
 use Rattle.papaya_owes.proofs.Tables.RowsOnSlots.{rows_keep_tables}
-use Rattle.papaya_settles.proofs.Between.{stays_counts, effects_leave_counts}
-use Rattle.papaya_settles.proofs.EntryScenes.{rows_begin_entries, rows_keep_entries, makings_keep_entries, endings_begin_entries, endings_keep_entries}
-use Rattle.papaya_settles.proofs.Hand.Between.{stays_owed, effects_leave_owed}
-use Rattle.papaya_settles.proofs.Handing.{others_leave_handing}
+use Rattle.papaya_lives.proofs.Given.Settles.Between.{stays_counts, effects_leave_counts}
+use Rattle.papaya_lives.proofs.Given.Settles.EntryScenes.{rows_begin_entries, rows_keep_entries, makings_keep_entries, endings_begin_entries, endings_keep_entries}
+use Rattle.papaya_lives.proofs.Given.Settles.Hand.Between.{stays_owed, effects_leave_owed}
+use Rattle.papaya_lives.proofs.Given.Settles.Handing.{others_leave_handing}
 use Rattle.papaya_lives.specs.Behind.{ShowsWaiting, WaitsOnce}
 use Rattle.papaya_lives.specs.Lying.{ShowsLying}
 use Rattle.papaya_lives.specs.Order.{ShowsOrder}

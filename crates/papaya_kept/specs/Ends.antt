@@ -1,11 +1,11 @@
 -- Of each map: each copying that is not over has a place that is not counted, or a call that is to end it; in blocking mode also one that is to give it up where a place of it was.
 use Rattle.std.specs.Prelude.{◌≡◌, ℕ, Bool, cond, Option, Some}
-use Rattle.papaya_histories.specs.Given.Tables.Chunks.{is_incremental}
-use Rattle.papaya_histories.specs.Given.Rule.Chart.{Chart}
-use Rattle.papaya_histories.specs.Given.Callers.Together.{UnderWay}
-use Rattle.papaya_histories.specs.Given.Executor.IsAt.{Scene}
-use Rattle.papaya_histories.specs.Given.Finishes.Maps.{Standing}
-use Rattle.papaya_waits.specs.Others.{HaveEnds}
+use Rattle.papaya_lives.specs.Given.Tables.Chunks.{is_incremental}
+use Rattle.papaya_lives.specs.Given.Rule.Chart.{Chart}
+use Rattle.papaya_lives.specs.Given.Callers.Together.{UnderWay}
+use Rattle.papaya_lives.specs.Given.Executor.IsAt.{Scene}
+use Rattle.papaya_lives.specs.Given.Finishes.Maps.{Standing}
+use Rattle.papaya_owned.specs.Given.Waits.Others.{HaveEnds}
 use Rattle.papaya_waiters.specs.Blocking.{HaveEndsBlocking}
 
 -- in either mode

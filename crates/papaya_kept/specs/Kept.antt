@@ -1,17 +1,17 @@
 -- What every step keeps, of whatever kind, beside what a moment of a run shows in one piece.
 use Rattle.std.specs.Prelude.{ℕ, List}
-use Rattle.papaya_histories.specs.Given.Schedules.Moment.{Moment}
-use Rattle.papaya_histories.specs.Given.Effects.Known.{Known}
-use Rattle.papaya_histories.specs.Given.Executor.IsAt.{Scene}
+use Rattle.papaya_lives.specs.Given.Schedules.Moment.{Moment}
+use Rattle.papaya_lives.specs.Given.Effects.Known.{Known}
+use Rattle.papaya_lives.specs.Given.Executor.IsAt.{Scene}
 use Rattle.papaya_owes.specs.Grown.{ShowsGrown}
 use Rattle.papaya_owes.specs.Looking.{ShowsLooking}
 use Rattle.papaya_owes.specs.Made.{ShowsMade}
 use Rattle.papaya_owes.specs.Short.{ShowsShort}
 use Rattle.papaya_owes.specs.Tables.{ShowsTables}
-use Rattle.papaya_settles.specs.Counts.{ShowsCounts}
-use Rattle.papaya_settles.specs.Entries.{ShowsEntries}
-use Rattle.papaya_settles.specs.Hand.{ShowsOwed}
-use Rattle.papaya_settles.specs.Handing.{HandsTold}
+use Rattle.papaya_lives.specs.Given.Settles.Counts.{ShowsCounts}
+use Rattle.papaya_lives.specs.Given.Settles.Entries.{ShowsEntries}
+use Rattle.papaya_lives.specs.Given.Settles.Hand.{ShowsOwed}
+use Rattle.papaya_lives.specs.Given.Settles.Handing.{HandsTold}
 use Rattle.papaya_lives.specs.Behind.{ShowsWaiting, WaitsOnce}
 use Rattle.papaya_lives.specs.Handed.{ShowsHanded}
 use Rattle.papaya_lives.specs.LeftTables.{ShowsLeft}

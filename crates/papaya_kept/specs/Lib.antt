@@ -1,3 +1,4 @@
 pub mod Ends
 pub mod Kept
 pub mod Steps
+pub mod Given

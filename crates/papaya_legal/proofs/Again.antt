@@ -2,43 +2,43 @@
 use Rattle.std.specs.Prelude.{◌≡◌, ℕ, ◌+◌, Bool, true, false, List, [], ◌∷◌, map, Option, Some, if◌then◌else◌}
 use Rattle.std.specs.List.{AllByRecursion}
 use Rattle.std.proofs.Common.{refl, ap, sym, subst, ◌∙◌, arith}
-use Rattle.papaya_histories.specs.Given.Runs.Same.{is_same}
-use Rattle.papaya_histories.specs.Given.Raw.Machine.{machine_asked}
-use Rattle.papaya_histories.specs.Given.Schedules.declared.call.Call.{Call}
-use Rattle.papaya_histories.specs.Given.Schedules.declared.call.Call.TheVariants as call
-use Rattle.papaya_histories.specs.Given.Schedules.declared.event.Event.{Event}
-use Rattle.papaya_histories.specs.Given.Schedules.declared.event.Event.TheVariants as event
-use Rattle.papaya_histories.specs.Given.Schedules.declared.outcome.Outcome.{Outcome}
-use Rattle.papaya_histories.specs.Given.Schedules.declared.outcome.Outcome.TheVariants as outcome
-use Rattle.papaya_histories.specs.Given.Schedules.After.{after, comes_to, moment, moments_from}
-use Rattle.papaya_histories.specs.Given.Schedules.Beginning.{at_work}
-use Rattle.papaya_histories.specs.Given.Schedules.Effects.{worked}
-use Rattle.papaya_histories.specs.Given.Schedules.Entry.{Entry, IfCall, acting, caller_of}
-use Rattle.papaya_histories.specs.Given.Schedules.Handing.{IsWhole, LeavesOf, comes_clear}
-use Rattle.papaya_histories.specs.Given.Schedules.InTurn.{ComesRight}
-use Rattle.papaya_histories.specs.Given.Schedules.Linearizable.{ActsOf, ActsRight, AsksRight, Changes, Ends, IsLinearizable}
-use Rattle.papaya_histories.specs.Given.Schedules.Model.{changes_of, left_last}
-use Rattle.papaya_histories.specs.Given.Schedules.Moment.{UnderWay as CallThere, Stands, Asking, IsReady, Moment}
-use Rattle.papaya_histories.specs.Given.Schedules.Steps.{ReadsBriefly}
-use Rattle.papaya_histories.specs.Given.Schedules.Terms.{Terms}
-use Rattle.papaya_histories.specs.Given.Schedules.Views.{call_of}
-use Rattle.papaya_histories.specs.Given.Callers.Together.{UnderWay}
-use Rattle.papaya_histories.specs.Given.Effects.Known.{Known}
-use Rattle.papaya_histories.specs.Given.Executor.IsAt.{IsAt, Scene}
-use Rattle.papaya_histories.specs.Given.Executor.declared.executor.Executor.{Executor}
-use Rattle.papaya_histories.specs.Given.Finishes.Machines.{machine_of}
-use Rattle.papaya_histories.proofs.NoKey.Idle.{idle_are_linearizable}
-use Rattle.papaya_owes.proofs.Clear.{walks_are_clear}
+use Rattle.papaya_grows.specs.Given.Runs.Same.{is_same}
+use Rattle.papaya_grows.specs.Given.Raw.Machine.{machine_asked}
+use Rattle.papaya_grows.specs.Given.Schedules.declared.call.Call.{Call}
+use Rattle.papaya_grows.specs.Given.Schedules.declared.call.Call.TheVariants as call
+use Rattle.papaya_grows.specs.Given.Schedules.declared.event.Event.{Event}
+use Rattle.papaya_grows.specs.Given.Schedules.declared.event.Event.TheVariants as event
+use Rattle.papaya_grows.specs.Given.Schedules.declared.outcome.Outcome.{Outcome}
+use Rattle.papaya_grows.specs.Given.Schedules.declared.outcome.Outcome.TheVariants as outcome
+use Rattle.papaya_grows.specs.Given.Schedules.After.{after, comes_to, moment, moments_from}
+use Rattle.papaya_grows.specs.Given.Schedules.Beginning.{at_work}
+use Rattle.papaya_grows.specs.Given.Schedules.Effects.{worked}
+use Rattle.papaya_grows.specs.Given.Schedules.Entry.{Entry, IfCall, acting, caller_of}
+use Rattle.papaya_grows.specs.Given.Schedules.Handing.{IsWhole, LeavesOf, comes_clear}
+use Rattle.papaya_grows.specs.Given.Schedules.InTurn.{ComesRight}
+use Rattle.papaya_grows.specs.Given.Schedules.Linearizable.{ActsOf, ActsRight, AsksRight, Changes, Ends, IsLinearizable}
+use Rattle.papaya_grows.specs.Given.Schedules.Model.{changes_of, left_last}
+use Rattle.papaya_grows.specs.Given.Schedules.Moment.{UnderWay as CallThere, Stands, Asking, IsReady, Moment}
+use Rattle.papaya_grows.specs.Given.Schedules.Steps.{ReadsBriefly}
+use Rattle.papaya_grows.specs.Given.Schedules.Terms.{Terms}
+use Rattle.papaya_grows.specs.Given.Schedules.Views.{call_of}
+use Rattle.papaya_grows.specs.Given.Callers.Together.{UnderWay}
+use Rattle.papaya_grows.specs.Given.Effects.Known.{Known}
+use Rattle.papaya_grows.specs.Given.Executor.IsAt.{IsAt, Scene}
+use Rattle.papaya_grows.specs.Given.Executor.declared.executor.Executor.{Executor}
+use Rattle.papaya_grows.specs.Given.Finishes.Machines.{machine_of}
+use Rattle.papaya_grows.proofs.Given.Histories.NoKey.Idle.{idle_are_linearizable}
+use Rattle.papaya_grows.proofs.Given.Owes.Clear.{walks_are_clear}
 use Rattle.papaya_promises.specs.Guards.{EntersInside}
 use Rattle.papaya_promises.specs.Sheltered.{SectionsHold}
 use Rattle.papaya_promises.proofs.Brief.Ends.{events_read_briefly}
-use Rattle.papaya_purposes.specs.Swept.{SaysNothing}
-use Rattle.papaya_purposes.proofs.Nothing.{other_outcomes_are_swept}
+use Rattle.papaya_grows.specs.Given.Purposes.Swept.{SaysNothing}
+use Rattle.papaya_grows.proofs.Given.Purposes.Nothing.{other_outcomes_are_swept}
 use Rattle.papaya_models.specs.CallEvents.{IsOfNoSlot}
 use Rattle.papaya_models.proofs.CallEvents.{others_hand_over}
-use Rattle.papaya_settles.specs.Counts.{HasToCount}
-use Rattle.papaya_settles.proofs.Hand.Asked.{walks_have_nothing}
-use Rattle.papaya_finds.specs.Little.{ReclaimsAll}
+use Rattle.papaya_grows.specs.Given.Settles.Counts.{HasToCount}
+use Rattle.papaya_grows.proofs.Given.Settles.Hand.Asked.{walks_have_nothing}
+use Rattle.papaya_grows.specs.Given.Finds.Little.{ReclaimsAll}
 use Rattle.papaya_legal.specs.Between.{IsLike}
 use Rattle.papaya_legal.specs.CallEvents.{IsLegalBut}
 use Rattle.papaya_legal.specs.Carried.{ShowsRun}

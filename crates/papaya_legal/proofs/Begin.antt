@@ -1,20 +1,20 @@
 -- Before all events all is carried that events need, whatever was chosen of numbers of blocks.
 use Rattle.std.specs.Prelude.{[]}
 use Rattle.std.proofs.Common.{refl, inl}
-use Rattle.papaya_histories.specs.Given.Tables.Nodes.{deferred_word}
-use Rattle.papaya_histories.specs.Given.Effects.Known.{nothing_known}
-use Rattle.papaya_histories.specs.Given.Executor.IsAt.{at_first}
-use Rattle.papaya_histories.proofs.Given.Moments.Calls.{whole_begins}
-use Rattle.papaya_histories.proofs.Given.Moments.NewMaps.{pairs_begin}
-use Rattle.papaya_histories.proofs.Given.Moments.Numbers.{numbers_begin}
-use Rattle.papaya_kept.proofs.Stays.{begins_kept}
-use Rattle.papaya_histories.proofs.Questions.{questions_begin}
+use Rattle.papaya_grows.specs.Given.Tables.Nodes.{deferred_word}
+use Rattle.papaya_grows.specs.Given.Effects.Known.{nothing_known}
+use Rattle.papaya_grows.specs.Given.Executor.IsAt.{at_first}
+use Rattle.papaya_grows.proofs.Given.Moments.Calls.{whole_begins}
+use Rattle.papaya_grows.proofs.Given.Moments.NewMaps.{pairs_begin}
+use Rattle.papaya_grows.proofs.Given.Moments.Numbers.{numbers_begin}
+use Rattle.papaya_grows.proofs.Given.Kept.Stays.{begins_kept}
+use Rattle.papaya_grows.proofs.Given.Histories.Questions.{questions_begin}
 use Rattle.papaya_promises.proofs.Guards.{no_guard}
 use Rattle.papaya_models.specs.Numbers.{HasNumber}
 use Rattle.papaya_models.proofs.Alike.Changed.{start_alike}
 use Rattle.papaya_models.proofs.Turns.{turns_begin}
-use Rattle.papaya_finds.proofs.Runs.{all_in_order_at_first}
-use Rattle.papaya_purposes.proofs.Tableless.{tableless_at_first}
+use Rattle.papaya_grows.proofs.Given.Finds.Runs.{all_in_order_at_first}
+use Rattle.papaya_grows.proofs.Given.Purposes.Tableless.{tableless_at_first}
 use Rattle.papaya_legal.specs.Carried.{RunsBegin, RunsBeginIn}
 
 pub runs_begin_in : (K V : Type 0) → RunsBeginIn K V

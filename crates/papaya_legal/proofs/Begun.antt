@@ -1,34 +1,34 @@
 -- An event that begins a call, tells it a reply, or gives a walk up, is legal, and a run goes on with it.
 use Rattle.std.specs.Prelude.{◌≡◌, ℕ, ◌+◌, Bool, true, false, not, ◌&&◌, List, [], ◌∷◌, Option, Some, None, Ok}
 use Rattle.std.proofs.Common.{refl, ap, sym, subst, ◌∙◌, inl, inr}
-use Rattle.papaya_histories.specs.Given.Raw.CallAsks.{told_at}
-use Rattle.papaya_histories.specs.Given.Raw.Machine.{machine_replied}
-use Rattle.papaya_histories.specs.Given.Raw.declared.machines.asking.Reply.{Reply as MachineReply}
-use Rattle.papaya_histories.specs.Given.Raw.declared.machines.call.Calling.{Calling}
-use Rattle.papaya_histories.specs.Given.Runs.Same.{is_same}
-use Rattle.papaya_histories.specs.Given.Schedules.declared.event.Event.TheVariants as event
-use Rattle.papaya_histories.specs.Given.Schedules.declared.outcome.Outcome.TheVariants.{Done, Goes}
-use Rattle.papaya_histories.specs.Given.Schedules.After.{is_alone_on, moment}
-use Rattle.papaya_histories.specs.Given.Schedules.Beginning.{with_call}
-use Rattle.papaya_histories.specs.Given.Schedules.Entry.{Entry}
-use Rattle.papaya_histories.specs.Given.Schedules.Moment.{UnderWay as CallThere, Moment}
-use Rattle.papaya_histories.specs.Given.Schedules.Views.{call_of, number_of}
-use Rattle.papaya_histories.specs.Given.Tables.Chunks.{is_incremental}
-use Rattle.papaya_histories.specs.Given.Schedules.After.{moments_from}
-use Rattle.papaya_histories.specs.Given.Rule.Chart.{Chart}
-use Rattle.papaya_histories.specs.Given.Callers.Together.{UnderWay, OnKey, ForRoom, Counting, OverAll}
-use Rattle.papaya_histories.specs.Given.Executor.IsAt.{Scene}
-use Rattle.papaya_histories.specs.Given.Executor.Replying.{scene_with, unless_stopped}
-use Rattle.papaya_histories.specs.Given.Finishes.Machines.{machine_of}
-use Rattle.papaya_histories.specs.Given.Finishes.Maps.{with_call as with_call_of}
-use Rattle.papaya_histories.specs.Given.Follows.Calling.{told}
-use Rattle.papaya_histories.specs.Given.Hands.Asked.{as_told}
-use Rattle.papaya_histories.specs.Given.Others.Walks.{given_up}
-use Rattle.papaya_histories.proofs.Given.Follows.Calling.{apart_back, found_kept}
-use Rattle.papaya_histories.proofs.Given.Hands.Asking.{which}
-use Rattle.papaya_histories.proofs.Given.Hands.Calling.{caller_is}
-use Rattle.papaya_histories.proofs.BeginsCall.{events_are}
-use Rattle.papaya_purposes.proofs.Nothing.{no_calls_are_swept}
+use Rattle.papaya_grows.specs.Given.Raw.CallAsks.{told_at}
+use Rattle.papaya_grows.specs.Given.Raw.Machine.{machine_replied}
+use Rattle.papaya_grows.specs.Given.Raw.declared.machines.asking.Reply.{Reply as MachineReply}
+use Rattle.papaya_grows.specs.Given.Raw.declared.machines.call.Calling.{Calling}
+use Rattle.papaya_grows.specs.Given.Runs.Same.{is_same}
+use Rattle.papaya_grows.specs.Given.Schedules.declared.event.Event.TheVariants as event
+use Rattle.papaya_grows.specs.Given.Schedules.declared.outcome.Outcome.TheVariants.{Done, Goes}
+use Rattle.papaya_grows.specs.Given.Schedules.After.{is_alone_on, moment}
+use Rattle.papaya_grows.specs.Given.Schedules.Beginning.{with_call}
+use Rattle.papaya_grows.specs.Given.Schedules.Entry.{Entry}
+use Rattle.papaya_grows.specs.Given.Schedules.Moment.{UnderWay as CallThere, Moment}
+use Rattle.papaya_grows.specs.Given.Schedules.Views.{call_of, number_of}
+use Rattle.papaya_grows.specs.Given.Tables.Chunks.{is_incremental}
+use Rattle.papaya_grows.specs.Given.Schedules.After.{moments_from}
+use Rattle.papaya_grows.specs.Given.Rule.Chart.{Chart}
+use Rattle.papaya_grows.specs.Given.Callers.Together.{UnderWay, OnKey, ForRoom, Counting, OverAll}
+use Rattle.papaya_grows.specs.Given.Executor.IsAt.{Scene}
+use Rattle.papaya_grows.specs.Given.Executor.Replying.{scene_with, unless_stopped}
+use Rattle.papaya_grows.specs.Given.Finishes.Machines.{machine_of}
+use Rattle.papaya_grows.specs.Given.Finishes.Maps.{with_call as with_call_of}
+use Rattle.papaya_grows.specs.Given.Follows.Calling.{told}
+use Rattle.papaya_grows.specs.Given.Hands.Asked.{as_told}
+use Rattle.papaya_grows.specs.Given.Others.Walks.{given_up}
+use Rattle.papaya_grows.proofs.Given.Follows.Calling.{apart_back, found_kept}
+use Rattle.papaya_grows.proofs.Given.Hands.Asking.{which}
+use Rattle.papaya_grows.proofs.Given.Hands.Calling.{caller_is}
+use Rattle.papaya_grows.proofs.Given.Histories.BeginsCall.{events_are}
+use Rattle.papaya_grows.proofs.Given.Purposes.Nothing.{no_calls_are_swept}
 use Rattle.papaya_promises.specs.Reading.{HasLooked, LookupsStay, ShowsReading, looks}
 use Rattle.papaya_promises.specs.Sheltered.{SectionsHold}
 use Rattle.papaya_promises.proofs.Brief.Meanwhile.{calls_begin_readings, calls_take_readings}

@@ -1,69 +1,69 @@
 -- What a moment shows of calls is so on between the steps of events, and where calls begin and go on.
 use Rattle.std.specs.Prelude.{◌≡◌, nat_lt, ℕ, Bool, true, false, List, [], ◌∷◌, Option, Some, None, if◌then◌else◌}
 use Rattle.std.proofs.Common.{refl, ap, sym, subst, ◌∙◌, inl, inr}
-use Rattle.papaya_histories.specs.Given.SeizeWords.declared.fault.Fault.TheVariants.{Memory}
-use Rattle.papaya_histories.specs.Given.Sweeps.SweepPoints.{after_next, next_at}
-use Rattle.papaya_histories.specs.Given.Sweeps.declared.sweep.Sweep.{Sweep}
-use Rattle.papaya_histories.specs.Given.Sweeps.declared.sweep.Sweeping.{Sweeping}
-use Rattle.papaya_histories.specs.Given.Sweeps.declared.sweep.Sweeping.TheVariants as sweeping
-use Rattle.papaya_histories.specs.Given.Raw.declared.machines.machine.Machine.{Machine}
-use Rattle.papaya_histories.specs.Given.Points.FactsCalls.{Unchanged}
-use Rattle.papaya_histories.specs.Given.Schedules.declared.effect.Thing.TheVariants.{APair}
-use Rattle.papaya_histories.specs.Given.Schedules.After.{moment}
-use Rattle.papaya_histories.specs.Given.Schedules.Beginning.{with_call}
-use Rattle.papaya_histories.specs.Given.Schedules.declared.outcome.Outcome.TheVariants.{Refused}
-use Rattle.papaya_histories.specs.Given.Schedules.Moment.{UnderWay as CallThere, Stands, Asking, Moment}
-use Rattle.papaya_histories.specs.Given.Schedules.Views.{call_of}
-use Rattle.papaya_histories.specs.Given.Callers.OverAll.{CallOverAll, gone_on}
-use Rattle.papaya_histories.specs.Given.Callers.Rooms.{CallForRoom}
-use Rattle.papaya_histories.specs.Given.Callers.Together.{UnderWay, CallOnKey, OnKey, ForRoom, Counting, OverAll}
-use Rattle.papaya_histories.specs.Given.Effects.Known.{Known}
-use Rattle.papaya_histories.specs.Given.Executor.Beginning.{Begins}
-use Rattle.papaya_histories.specs.Given.Executor.IsAt.{Scene, HasCall}
-use Rattle.papaya_histories.specs.Given.Executor.Replying.{scene_with, unless_stopped}
-use Rattle.papaya_histories.specs.Given.Finishes.Machines.{machine_of}
-use Rattle.papaya_histories.specs.Given.Finishes.Maps.{Standing, with_call as with_call_of}
-use Rattle.papaya_histories.specs.Given.Follows.Calling.{NoneNamed, told}
-use Rattle.papaya_histories.specs.Given.Follows.Shows.{Shows}
-use Rattle.papaya_histories.specs.Given.Follows.Calls.{IsCalled, ShowsCalls as IsThere}
-use Rattle.papaya_histories.specs.Given.Hands.Asked.{as_told}
-use Rattle.papaya_histories.specs.Given.Others.Elsewhere.{HasSame}
-use Rattle.papaya_histories.specs.Given.Others.Walks.{given_up}
-use Rattle.papaya_histories.proofs.Given.Hands.Asking.{which}
-use Rattle.papaya_histories.proofs.Given.Follows.Steps.{one_of}
-use Rattle.papaya_histories.specs.Given.Moments.Numbers.{NumbersMaps, PairsAreBelow}
-use Rattle.papaya_histories.proofs.Given.Moments.Calls.{calls_begin_whole, calls_take_whole}
-use Rattle.papaya_histories.proofs.Given.Moments.Walks.{walks_go_on_whole, walks_stop_whole}
-use Rattle.papaya_histories.specs.Answers.{NamesPair}
-use Rattle.papaya_histories.specs.AsCalled.{IsAsCalled, IsSweptAs, SweepAsks}
-use Rattle.papaya_histories.specs.Asking.{IsToldQuestion}
-use Rattle.papaya_histories.specs.Histories.{ShowsHistory, began_of}
-use Rattle.papaya_histories.proofs.AnyCall.Whole.{all_stays_shown}
-use Rattle.papaya_histories.proofs.Aside.Stays.{as_called_stays, dues_stay}
-use Rattle.papaya_histories.proofs.BeginsCall.{events_are}
-use Rattle.papaya_histories.proofs.DueOn.{calls_begin_due, calls_take_due, events_keep_due}
-use Rattle.papaya_histories.proofs.NoKey.AsCalledOn.{calls_begin_as_called, calls_take_as_called}
-use Rattle.papaya_histories.proofs.Questions.{calls_begin_questions, calls_come_to_questions, calls_take_questions}
-use Rattle.papaya_histories.specs.Questions.{AsksStill, ShowsQuestions}
-use Rattle.papaya_settles.specs.Hand.{ShowsOwed, in_hand}
-use Rattle.papaya_settles.proofs.Hand.Asked.{asked_stays, told_stays}
-use Rattle.papaya_finds.proofs.Grows.Between.{calls_begin_growing, calls_take_growing, walks_go_on_growing}
-use Rattle.papaya_finds.proofs.Waits.Between.{calls_begin_waits}
-use Rattle.papaya_kept.specs.Kept.{ShowsKept}
-use Rattle.papaya_kept.proofs.Between.{calls_begin_kept, calls_take_kept, uncounted_at_first, walks_go_on_kept, walks_stop_kept}
-use Rattle.papaya_kept.proofs.Renamed.{asked, renamed, shows}
-use Rattle.papaya_kept.proofs.Stays.{renamed_kept, stays_kept}
-use Rattle.papaya_purposes.specs.Kept.{AsksAboutIt}
-use Rattle.papaya_purposes.proofs.Between.{calls_begin_purposes, events_keep_purposes}
-use Rattle.papaya_purposes.proofs.Elsewhere.{purposes_stay}
-use Rattle.papaya_purposes.proofs.Told.{calls_take_purposes}
-use Rattle.papaya_shards.specs.Adds.{adds_in_sweeping, adds_of}
-use Rattle.papaya_shards.specs.ShardWords.{ShowsCounters}
-use Rattle.papaya_shards.proofs.ShardBetween.{calls_begin_counters, calls_take_counters, counters_stay, fewer_add}
+use Rattle.papaya_grows.specs.Given.SeizeWords.declared.fault.Fault.TheVariants.{Memory}
+use Rattle.papaya_grows.specs.Given.Sweeps.SweepPoints.{after_next, next_at}
+use Rattle.papaya_grows.specs.Given.Sweeps.declared.sweep.Sweep.{Sweep}
+use Rattle.papaya_grows.specs.Given.Sweeps.declared.sweep.Sweeping.{Sweeping}
+use Rattle.papaya_grows.specs.Given.Sweeps.declared.sweep.Sweeping.TheVariants as sweeping
+use Rattle.papaya_grows.specs.Given.Raw.declared.machines.machine.Machine.{Machine}
+use Rattle.papaya_grows.specs.Given.Points.FactsCalls.{Unchanged}
+use Rattle.papaya_grows.specs.Given.Schedules.declared.effect.Thing.TheVariants.{APair}
+use Rattle.papaya_grows.specs.Given.Schedules.After.{moment}
+use Rattle.papaya_grows.specs.Given.Schedules.Beginning.{with_call}
+use Rattle.papaya_grows.specs.Given.Schedules.declared.outcome.Outcome.TheVariants.{Refused}
+use Rattle.papaya_grows.specs.Given.Schedules.Moment.{UnderWay as CallThere, Stands, Asking, Moment}
+use Rattle.papaya_grows.specs.Given.Schedules.Views.{call_of}
+use Rattle.papaya_grows.specs.Given.Callers.OverAll.{CallOverAll, gone_on}
+use Rattle.papaya_grows.specs.Given.Callers.Rooms.{CallForRoom}
+use Rattle.papaya_grows.specs.Given.Callers.Together.{UnderWay, CallOnKey, OnKey, ForRoom, Counting, OverAll}
+use Rattle.papaya_grows.specs.Given.Effects.Known.{Known}
+use Rattle.papaya_grows.specs.Given.Executor.Beginning.{Begins}
+use Rattle.papaya_grows.specs.Given.Executor.IsAt.{Scene, HasCall}
+use Rattle.papaya_grows.specs.Given.Executor.Replying.{scene_with, unless_stopped}
+use Rattle.papaya_grows.specs.Given.Finishes.Machines.{machine_of}
+use Rattle.papaya_grows.specs.Given.Finishes.Maps.{Standing, with_call as with_call_of}
+use Rattle.papaya_grows.specs.Given.Follows.Calling.{NoneNamed, told}
+use Rattle.papaya_grows.specs.Given.Follows.Shows.{Shows}
+use Rattle.papaya_grows.specs.Given.Follows.Calls.{IsCalled, ShowsCalls as IsThere}
+use Rattle.papaya_grows.specs.Given.Hands.Asked.{as_told}
+use Rattle.papaya_grows.specs.Given.Others.Elsewhere.{HasSame}
+use Rattle.papaya_grows.specs.Given.Others.Walks.{given_up}
+use Rattle.papaya_grows.proofs.Given.Hands.Asking.{which}
+use Rattle.papaya_grows.proofs.Given.Follows.Steps.{one_of}
+use Rattle.papaya_grows.specs.Given.Moments.Numbers.{NumbersMaps, PairsAreBelow}
+use Rattle.papaya_grows.proofs.Given.Moments.Calls.{calls_begin_whole, calls_take_whole}
+use Rattle.papaya_grows.proofs.Given.Moments.Walks.{walks_go_on_whole, walks_stop_whole}
+use Rattle.papaya_grows.specs.Given.Histories.Answers.{NamesPair}
+use Rattle.papaya_grows.specs.Given.Histories.AsCalled.{IsAsCalled, IsSweptAs, SweepAsks}
+use Rattle.papaya_grows.specs.Given.Histories.Asking.{IsToldQuestion}
+use Rattle.papaya_grows.specs.Given.Histories.Histories.{ShowsHistory, began_of}
+use Rattle.papaya_grows.proofs.Given.Histories.AnyCall.Whole.{all_stays_shown}
+use Rattle.papaya_grows.proofs.Given.Histories.Aside.Stays.{as_called_stays, dues_stay}
+use Rattle.papaya_grows.proofs.Given.Histories.BeginsCall.{events_are}
+use Rattle.papaya_grows.proofs.Given.Histories.DueOn.{calls_begin_due, calls_take_due, events_keep_due}
+use Rattle.papaya_grows.proofs.Given.Histories.NoKey.AsCalledOn.{calls_begin_as_called, calls_take_as_called}
+use Rattle.papaya_grows.proofs.Given.Histories.Questions.{calls_begin_questions, calls_come_to_questions, calls_take_questions}
+use Rattle.papaya_grows.specs.Given.Histories.Questions.{AsksStill, ShowsQuestions}
+use Rattle.papaya_grows.specs.Given.Settles.Hand.{ShowsOwed, in_hand}
+use Rattle.papaya_grows.proofs.Given.Settles.Hand.Asked.{asked_stays, told_stays}
+use Rattle.papaya_grows.proofs.Given.Finds.Grows.Between.{calls_begin_growing, calls_take_growing, walks_go_on_growing}
+use Rattle.papaya_grows.proofs.Given.Finds.Waits.Between.{calls_begin_waits}
+use Rattle.papaya_grows.specs.Given.Kept.Kept.{ShowsKept}
+use Rattle.papaya_grows.proofs.Given.Kept.Between.{calls_begin_kept, calls_take_kept, uncounted_at_first, walks_go_on_kept, walks_stop_kept}
+use Rattle.papaya_grows.proofs.Given.Kept.Renamed.{asked, renamed, shows}
+use Rattle.papaya_grows.proofs.Given.Kept.Stays.{renamed_kept, stays_kept}
+use Rattle.papaya_grows.specs.Given.Purposes.Kept.{AsksAboutIt}
+use Rattle.papaya_grows.proofs.Given.Purposes.Between.{calls_begin_purposes, events_keep_purposes}
+use Rattle.papaya_grows.proofs.Given.Purposes.Elsewhere.{purposes_stay}
+use Rattle.papaya_grows.proofs.Given.Purposes.Told.{calls_take_purposes}
+use Rattle.papaya_grows.specs.Given.Shards.Adds.{adds_in_sweeping, adds_of}
+use Rattle.papaya_grows.specs.Given.Shards.ShardWords.{ShowsCounters}
+use Rattle.papaya_grows.proofs.Given.Shards.ShardBetween.{calls_begin_counters, calls_take_counters, counters_stay, fewer_add}
 use Rattle.papaya_legal.specs.Between.{CallsBegin, CallsTake, LikesShow, LogsGrow, NamesChange, WalksGoOn, WalksStop}
 use Rattle.papaya_legal.specs.Carried.{NoneCounted, ShowsCalls}
 use Rattle.papaya_grows.specs.Finding.{ShowsFinding}
-use Rattle.papaya_sources.specs.Sources.{ShowsSources}
+use Rattle.papaya_grows.specs.Given.Sources.Sources.{ShowsSources}
 use Rattle.papaya_legal.proofs.Sourced.{sources_so}
 use Rattle.papaya_grows.proofs.Finding.Alike.{finding_fewer, stood_as}
 use Rattle.papaya_grows.proofs.Limits.Shows.{calls_begin_limits, calls_take_limits, limits_grow, walks_go_on_limits, walks_stop_limits}

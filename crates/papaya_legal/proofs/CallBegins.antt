@@ -1,26 +1,26 @@
 -- An event in which a whole call begins, or a walk is asked for its next pair, is in its midst.
 use Rattle.std.specs.Prelude.{◌≡◌, ℕ, ◌+◌, Bool, true, List, cond, find, Option, Some}
 use Rattle.std.proofs.Common.{refl, ap, sym, subst, ◌∙◌, inl, inr}
-use Rattle.papaya_histories.specs.Given.Runs.Same.{is_same}
-use Rattle.papaya_histories.specs.Given.Schedules.declared.call.Call.{Call}
-use Rattle.papaya_histories.specs.Given.Schedules.declared.call.Call.TheVariants.{On}
-use Rattle.papaya_histories.specs.Given.Schedules.declared.event.Event.TheVariants.{OneCall, Next}
-use Rattle.papaya_histories.specs.Given.Schedules.After.{moment}
-use Rattle.papaya_histories.specs.Given.Schedules.Beginning.{fresh_call, with_call}
-use Rattle.papaya_histories.specs.Given.Schedules.Moment.{UnderWay as CallThere}
-use Rattle.papaya_histories.specs.Given.Schedules.Views.{call_of}
-use Rattle.papaya_histories.specs.Given.Seize.World.{with_at}
-use Rattle.papaya_histories.specs.Given.Callers.OverAll.{CallOverAll, gone_on}
-use Rattle.papaya_histories.specs.Given.Callers.Together.{UnderWay, OverAll}
-use Rattle.papaya_histories.proofs.Given.Callers.Together.At.{at_same}
-use Rattle.papaya_histories.specs.Given.Sweeps.SweepPoints.{after_next}
-use Rattle.papaya_histories.specs.Given.Executor.IsAt.{Scene}
-use Rattle.papaya_histories.specs.Given.Executor.Replying.{scene_with}
-use Rattle.papaya_histories.specs.Given.Follows.Calls.{IsCalled}
-use Rattle.papaya_histories.proofs.Given.Follows.Calling.{is_same_refl}
-use Rattle.papaya_histories.proofs.Given.Follows.Steps.{one_of}
-use Rattle.papaya_histories.proofs.Given.Hands.Asking.{which}
-use Rattle.papaya_histories.proofs.BeginsCall.{events_are}
+use Rattle.papaya_grows.specs.Given.Runs.Same.{is_same}
+use Rattle.papaya_grows.specs.Given.Schedules.declared.call.Call.{Call}
+use Rattle.papaya_grows.specs.Given.Schedules.declared.call.Call.TheVariants.{On}
+use Rattle.papaya_grows.specs.Given.Schedules.declared.event.Event.TheVariants.{OneCall, Next}
+use Rattle.papaya_grows.specs.Given.Schedules.After.{moment}
+use Rattle.papaya_grows.specs.Given.Schedules.Beginning.{fresh_call, with_call}
+use Rattle.papaya_grows.specs.Given.Schedules.Moment.{UnderWay as CallThere}
+use Rattle.papaya_grows.specs.Given.Schedules.Views.{call_of}
+use Rattle.papaya_grows.specs.Given.Seize.World.{with_at}
+use Rattle.papaya_grows.specs.Given.Callers.OverAll.{CallOverAll, gone_on}
+use Rattle.papaya_grows.specs.Given.Callers.Together.{UnderWay, OverAll}
+use Rattle.papaya_grows.proofs.Given.Callers.Together.At.{at_same}
+use Rattle.papaya_grows.specs.Given.Sweeps.SweepPoints.{after_next}
+use Rattle.papaya_grows.specs.Given.Executor.IsAt.{Scene}
+use Rattle.papaya_grows.specs.Given.Executor.Replying.{scene_with}
+use Rattle.papaya_grows.specs.Given.Follows.Calls.{IsCalled}
+use Rattle.papaya_grows.proofs.Given.Follows.Calling.{is_same_refl}
+use Rattle.papaya_grows.proofs.Given.Follows.Steps.{one_of}
+use Rattle.papaya_grows.proofs.Given.Hands.Asking.{which}
+use Rattle.papaya_grows.proofs.Given.Histories.BeginsCall.{events_are}
 use Rattle.papaya_promises.specs.Reading.{LookupsStay, ShowsReading, looks}
 use Rattle.papaya_promises.proofs.Brief.Meanwhile.{calls_begin_readings}
 use Rattle.papaya_promises.proofs.Brief.Stays.{readings_stay}

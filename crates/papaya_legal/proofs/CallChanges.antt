@@ -1,33 +1,33 @@
 -- By a step of an event of a call no class changes twice within the event, and a call that adds shards up reads them as they are.
 use Rattle.std.specs.Prelude.{◌≡◌, ℕ, Bool, List, Some}
 use Rattle.std.proofs.Common.{◌∙◌}
-use Rattle.papaya_histories.specs.Given.Tables.declared.node.Node.{Node}
-use Rattle.papaya_histories.specs.Given.Raw.declared.machines.call.KeyCall.{KeyCall}
-use Rattle.papaya_histories.specs.Given.Raw.declared.machines.machine.Machine.TheVariants as kinds
-use Rattle.papaya_histories.specs.Given.Raw.declared.machines.progress.Progress.{Progress}
-use Rattle.papaya_histories.specs.Given.Sweeps.declared.sweep.Sweep.{Sweep}
-use Rattle.papaya_histories.specs.Given.Schedules.declared.effect.Effect.{Effect}
-use Rattle.papaya_histories.specs.Given.Schedules.Effects.{with_effects}
-use Rattle.papaya_histories.specs.Given.Schedules.Entry.{Entry}
-use Rattle.papaya_histories.specs.Given.Schedules.Moment.{UnderWay as CallThere, Moment}
-use Rattle.papaya_histories.specs.Given.Callers.Together.{UnderWay, OnKey, ForRoom, Counting, OverAll}
-use Rattle.papaya_histories.specs.Given.Effects.Effects.{effects_of}
-use Rattle.papaya_histories.specs.Given.Effects.Known.{Known}
-use Rattle.papaya_histories.specs.Given.Effects.declared.acting.Acting.TheVariants as acts
-use Rattle.papaya_histories.specs.Given.Executor.IsAt.{Scene, IsAt}
-use Rattle.papaya_histories.specs.Given.Executor.Stepping.{StepLeads}
-use Rattle.papaya_histories.specs.Given.Executor.declared.executor.Executor.{Executor}
-use Rattle.papaya_histories.specs.Given.Finishes.Machines.{machine_of}
-use Rattle.papaya_histories.specs.Given.Moments.Whole.{ShowsWhole}
-use Rattle.papaya_histories.specs.InEvent.{InEvent}
-use Rattle.papaya_histories.specs.Kept.{ChangesFirst}
-use Rattle.papaya_histories.proofs.OtherMidsts.{first_change as other_changes_first}
-use Rattle.papaya_histories.proofs.Several.{first_change as key_changes_first}
-use Rattle.papaya_owes.proofs.Calls.{goes_as_one}
-use Rattle.papaya_purposes.specs.Shards.{NoneCounted, ReadsShards}
-use Rattle.papaya_purposes.proofs.ShardsRead.{steps_read_shards}
-use Rattle.papaya_shards.specs.ShardSteps.{AddsUp}
-use Rattle.papaya_shards.specs.ShardWords.{ShowsCounters}
+use Rattle.papaya_grows.specs.Given.Tables.declared.node.Node.{Node}
+use Rattle.papaya_grows.specs.Given.Raw.declared.machines.call.KeyCall.{KeyCall}
+use Rattle.papaya_grows.specs.Given.Raw.declared.machines.machine.Machine.TheVariants as kinds
+use Rattle.papaya_grows.specs.Given.Raw.declared.machines.progress.Progress.{Progress}
+use Rattle.papaya_grows.specs.Given.Sweeps.declared.sweep.Sweep.{Sweep}
+use Rattle.papaya_grows.specs.Given.Schedules.declared.effect.Effect.{Effect}
+use Rattle.papaya_grows.specs.Given.Schedules.Effects.{with_effects}
+use Rattle.papaya_grows.specs.Given.Schedules.Entry.{Entry}
+use Rattle.papaya_grows.specs.Given.Schedules.Moment.{UnderWay as CallThere, Moment}
+use Rattle.papaya_grows.specs.Given.Callers.Together.{UnderWay, OnKey, ForRoom, Counting, OverAll}
+use Rattle.papaya_grows.specs.Given.Effects.Effects.{effects_of}
+use Rattle.papaya_grows.specs.Given.Effects.Known.{Known}
+use Rattle.papaya_grows.specs.Given.Effects.declared.acting.Acting.TheVariants as acts
+use Rattle.papaya_grows.specs.Given.Executor.IsAt.{Scene, IsAt}
+use Rattle.papaya_grows.specs.Given.Executor.Stepping.{StepLeads}
+use Rattle.papaya_grows.specs.Given.Executor.declared.executor.Executor.{Executor}
+use Rattle.papaya_grows.specs.Given.Finishes.Machines.{machine_of}
+use Rattle.papaya_grows.specs.Given.Moments.Whole.{ShowsWhole}
+use Rattle.papaya_grows.specs.Given.Histories.InEvent.{InEvent}
+use Rattle.papaya_grows.specs.Given.Histories.Kept.{ChangesFirst}
+use Rattle.papaya_grows.proofs.Given.Histories.OtherMidsts.{first_change as other_changes_first}
+use Rattle.papaya_grows.proofs.Given.Histories.Several.{first_change as key_changes_first}
+use Rattle.papaya_grows.proofs.Given.Owes.Calls.{goes_as_one}
+use Rattle.papaya_grows.specs.Given.Purposes.Shards.{NoneCounted, ReadsShards}
+use Rattle.papaya_grows.proofs.Given.Purposes.ShardsRead.{steps_read_shards}
+use Rattle.papaya_grows.specs.Given.Shards.ShardSteps.{AddsUp}
+use Rattle.papaya_grows.specs.Given.Shards.ShardWords.{ShowsCounters}
 
 -- no class changes twice
 module _ {K V S : Type 0} (same : K → K → Bool) (hash : K → ℕ) (name : ℕ → List ℕ) (log : List (Entry K V)) (beginning : Moment K V) (map i : ℕ) (c : CallThere K V) (done : List Effect) (m : Moment K V)

@@ -2,21 +2,21 @@
 use Rattle.std.specs.Prelude.{◌≡◌, ℕ, ◌++◌, ◌∷◌, Bool, true, false, ◌&&◌, ◌||◌, List, map, flat_map, MatchBool, ◌⊎◌, Some}
 use Rattle.std.specs.List.{list_all}
 use Rattle.std.proofs.Common.{refl, sym, subst, inl, inr}
-use Rattle.papaya_histories.specs.Given.Tables.declared.node.Node.{Node}
-use Rattle.papaya_histories.specs.Given.Seize.World.{World}
-use Rattle.papaya_histories.specs.Given.Schedules.declared.effect.Effect.{Effect}
-use Rattle.papaya_histories.specs.Given.Schedules.declared.event.Event.{Event}
-use Rattle.papaya_histories.specs.Given.Schedules.declared.event.Event.TheVariants.{Enter, Own, Refresh, Flush, DropGuard, ReclaimAll, Close}
-use Rattle.papaya_histories.specs.Given.Schedules.After.{after, is_by, moment}
-use Rattle.papaya_histories.specs.Given.Schedules.Entry.{Entry, is_busy, speaker}
-use Rattle.papaya_histories.specs.Given.Schedules.Model.{IsByModel, back_by_model, changes_of, handing, number_in, sets_in, thing_back, things_in}
-use Rattle.papaya_histories.specs.Given.Schedules.Terms.{Terms}
-use Rattle.papaya_histories.specs.Given.Effects.Effects.{effects_of, known_after}
-use Rattle.papaya_histories.specs.Given.Effects.Known.{Known}
-use Rattle.papaya_histories.specs.Given.Effects.declared.acting.Acting.TheVariants as acts
-use Rattle.papaya_histories.specs.Given.Executor.IsAt.{slot_of}
-use Rattle.papaya_histories.specs.InEvent.{here_of}
-use Rattle.papaya_histories.proofs.AnyCall.InEvent.{events_keep_all}
+use Rattle.papaya_grows.specs.Given.Tables.declared.node.Node.{Node}
+use Rattle.papaya_grows.specs.Given.Seize.World.{World}
+use Rattle.papaya_grows.specs.Given.Schedules.declared.effect.Effect.{Effect}
+use Rattle.papaya_grows.specs.Given.Schedules.declared.event.Event.{Event}
+use Rattle.papaya_grows.specs.Given.Schedules.declared.event.Event.TheVariants.{Enter, Own, Refresh, Flush, DropGuard, ReclaimAll, Close}
+use Rattle.papaya_grows.specs.Given.Schedules.After.{after, is_by, moment}
+use Rattle.papaya_grows.specs.Given.Schedules.Entry.{Entry, is_busy, speaker}
+use Rattle.papaya_grows.specs.Given.Schedules.Model.{IsByModel, back_by_model, changes_of, handing, number_in, sets_in, thing_back, things_in}
+use Rattle.papaya_grows.specs.Given.Schedules.Terms.{Terms}
+use Rattle.papaya_grows.specs.Given.Effects.Effects.{effects_of, known_after}
+use Rattle.papaya_grows.specs.Given.Effects.Known.{Known}
+use Rattle.papaya_grows.specs.Given.Effects.declared.acting.Acting.TheVariants as acts
+use Rattle.papaya_grows.specs.Given.Executor.IsAt.{slot_of}
+use Rattle.papaya_grows.specs.Given.Histories.InEvent.{here_of}
+use Rattle.papaya_grows.proofs.Given.Histories.AnyCall.InEvent.{events_keep_all}
 use Rattle.papaya_promises.specs.Protected.{is_of_slots}
 use Rattle.papaya_models.specs.CallEvents.{FollowsInEvent, IsInItsRow, IsOfNoSlot}
 use Rattle.papaya_models.specs.Follows.{FollowsModel}

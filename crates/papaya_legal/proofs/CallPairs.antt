@@ -1,37 +1,37 @@
 -- By a step of an event of a call no pair comes or goes twice within the event: no class changes twice, and each pair in a map is the one of its class.
 use Rattle.std.specs.Prelude.{◌≡◌, ◌⊎◌, ℕ, Bool, true, false, List, [], ◌∷◌, Option, Some, None}
 use Rattle.std.proofs.Common.{refl, ap, sym, subst, ◌∙◌, inl, inr}
-use Rattle.papaya_histories.specs.Given.Tables.declared.node.Node.{Node}
-use Rattle.papaya_histories.specs.Given.Raw.declared.machines.progress.Progress.{Progress}
-use Rattle.papaya_histories.specs.Given.Runs.Log.{pair_at}
-use Rattle.papaya_histories.specs.Given.Schedules.declared.effect.Effect.{Effect}
-use Rattle.papaya_histories.specs.Given.Schedules.declared.effect.Effect.TheVariants.{Stored}
-use Rattle.papaya_histories.specs.Given.Schedules.After.{moment}
-use Rattle.papaya_histories.specs.Given.Schedules.Effects.{new_pair, stored_by, with_effect, with_effects}
-use Rattle.papaya_histories.specs.Given.Schedules.Entry.{Entry, acting}
-use Rattle.papaya_histories.specs.Given.Schedules.Moment.{UnderWay as CallThere, Moment}
-use Rattle.papaya_histories.specs.Given.Schedules.Views.{finite_map, is_in_map}
-use Rattle.papaya_histories.specs.Given.Callers.Together.{UnderWay, OnKey, ForRoom, Counting, OverAll}
-use Rattle.papaya_histories.specs.Given.Effects.Effects.{effects_of, known_after}
-use Rattle.papaya_histories.specs.Given.Effects.Known.{Known}
-use Rattle.papaya_histories.specs.Given.Effects.declared.acting.Acting.TheVariants as acts
-use Rattle.papaya_histories.specs.Given.Executor.IsAt.{Scene, IsAt}
-use Rattle.papaya_histories.specs.Given.Executor.Stepping.{StepLeads, scene_after}
-use Rattle.papaya_histories.specs.Given.Executor.declared.executor.Executor.{Executor}
-use Rattle.papaya_histories.specs.Given.Finishes.Maps.{Standing}
-use Rattle.papaya_histories.proofs.Given.Follows.Contents.{lasts_more}
-use Rattle.papaya_histories.proofs.Given.Follows.Steps.{one_of}
-use Rattle.papaya_histories.proofs.Given.Follows.Stored.{in_map_true}
-use Rattle.papaya_histories.specs.Given.Schedules.Moment.{Place}
-use Rattle.papaya_histories.specs.Given.Moments.Whole.{ShowsWhole}
-use Rattle.papaya_histories.specs.InEvent.{InEvent, here_of}
-use Rattle.papaya_histories.specs.Kept.{HasJustBegun}
-use Rattle.papaya_histories.proofs.AnyCall.InEvent.{events_keep_all}
-use Rattle.papaya_histories.proofs.Found.{map_alike}
-use Rattle.papaya_histories.proofs.Had.{had_pair}
-use Rattle.papaya_histories.proofs.Now.{now_had, pair_is}
-use Rattle.papaya_histories.proofs.Retaining.{found_there}
-use Rattle.papaya_purposes.specs.Kept.{NoneCame, PairsChangeFirst}
+use Rattle.papaya_grows.specs.Given.Tables.declared.node.Node.{Node}
+use Rattle.papaya_grows.specs.Given.Raw.declared.machines.progress.Progress.{Progress}
+use Rattle.papaya_grows.specs.Given.Runs.Log.{pair_at}
+use Rattle.papaya_grows.specs.Given.Schedules.declared.effect.Effect.{Effect}
+use Rattle.papaya_grows.specs.Given.Schedules.declared.effect.Effect.TheVariants.{Stored}
+use Rattle.papaya_grows.specs.Given.Schedules.After.{moment}
+use Rattle.papaya_grows.specs.Given.Schedules.Effects.{new_pair, stored_by, with_effect, with_effects}
+use Rattle.papaya_grows.specs.Given.Schedules.Entry.{Entry, acting}
+use Rattle.papaya_grows.specs.Given.Schedules.Moment.{UnderWay as CallThere, Moment}
+use Rattle.papaya_grows.specs.Given.Schedules.Views.{finite_map, is_in_map}
+use Rattle.papaya_grows.specs.Given.Callers.Together.{UnderWay, OnKey, ForRoom, Counting, OverAll}
+use Rattle.papaya_grows.specs.Given.Effects.Effects.{effects_of, known_after}
+use Rattle.papaya_grows.specs.Given.Effects.Known.{Known}
+use Rattle.papaya_grows.specs.Given.Effects.declared.acting.Acting.TheVariants as acts
+use Rattle.papaya_grows.specs.Given.Executor.IsAt.{Scene, IsAt}
+use Rattle.papaya_grows.specs.Given.Executor.Stepping.{StepLeads, scene_after}
+use Rattle.papaya_grows.specs.Given.Executor.declared.executor.Executor.{Executor}
+use Rattle.papaya_grows.specs.Given.Finishes.Maps.{Standing}
+use Rattle.papaya_grows.proofs.Given.Follows.Contents.{lasts_more}
+use Rattle.papaya_grows.proofs.Given.Follows.Steps.{one_of}
+use Rattle.papaya_grows.proofs.Given.Follows.Stored.{in_map_true}
+use Rattle.papaya_grows.specs.Given.Schedules.Moment.{Place}
+use Rattle.papaya_grows.specs.Given.Moments.Whole.{ShowsWhole}
+use Rattle.papaya_grows.specs.Given.Histories.InEvent.{InEvent, here_of}
+use Rattle.papaya_grows.specs.Given.Histories.Kept.{HasJustBegun}
+use Rattle.papaya_grows.proofs.Given.Histories.AnyCall.InEvent.{events_keep_all}
+use Rattle.papaya_grows.proofs.Given.Histories.Found.{map_alike}
+use Rattle.papaya_grows.proofs.Given.Histories.Had.{had_pair}
+use Rattle.papaya_grows.proofs.Given.Histories.Now.{now_had, pair_is}
+use Rattle.papaya_grows.proofs.Given.Histories.Retaining.{found_there}
+use Rattle.papaya_grows.specs.Given.Purposes.Kept.{NoneCame, PairsChangeFirst}
 use Rattle.papaya_legal.specs.CallEvents.{EachIsItsOwn}
 use Rattle.papaya_legal.proofs.CallChanges.{changes_first}
 

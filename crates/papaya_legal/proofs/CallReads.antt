@@ -2,33 +2,33 @@
 use Rattle.std.specs.Prelude.{◌≡◌, ◌≤◌, ◌++◌, ℕ, ◌+◌, ◌==◌, suc, Bool, true, false, List, [], Option, Some, MatchBool, if◌then◌else◌}
 use Rattle.std.proofs.Common.{refl, ap, sym, subst, ◌∙◌, inl, inr, arith}
 use Rattle.std.proofs.lemmas.Bool.{cases_eq, eq-eqb, ne_eqb}
-use Rattle.papaya_histories.specs.Given.Tables.Chunks.{is_incremental}
-use Rattle.papaya_histories.specs.Given.Tables.declared.node.Node.{Node}
-use Rattle.papaya_histories.specs.Given.Raw.declared.machines.progress.Progress.{Progress}
-use Rattle.papaya_histories.specs.Given.Schedules.declared.effect.Effect.{Effect}
-use Rattle.papaya_histories.specs.Given.Schedules.declared.event.Event.{Event}
-use Rattle.papaya_histories.specs.Given.Schedules.After.{moment, moments_from}
-use Rattle.papaya_histories.specs.Given.Schedules.Beginning.{at_work}
-use Rattle.papaya_histories.specs.Given.Schedules.Effects.{with_effects, worked}
-use Rattle.papaya_histories.specs.Given.Schedules.Entry.{Entry, IfCall, acted_on, acting, caller_of}
-use Rattle.papaya_histories.specs.Given.Schedules.Moment.{UnderWay as CallThere, Moment}
-use Rattle.papaya_histories.specs.Given.Schedules.Steps.{IsBrief, ReadsBriefly, ReadsFew}
-use Rattle.papaya_histories.specs.Given.Schedules.Terms.{Terms}
-use Rattle.papaya_histories.specs.Given.Schedules.Views.{call_of, grows_in_chunks, map_at}
-use Rattle.papaya_histories.specs.Given.Schedules.Lists.{OneOf}
-use Rattle.papaya_histories.specs.Given.Schedules.declared.call.Call.{Call}
-use Rattle.papaya_histories.specs.Given.Schedules.declared.call.Call.TheVariants as call
-use Rattle.papaya_histories.specs.Given.Callers.Together.{UnderWay, OnKey, ForRoom, Counting, OverAll}
-use Rattle.papaya_histories.specs.Given.Effects.Effects.{effects_of}
-use Rattle.papaya_histories.specs.Given.Effects.Known.{Known}
-use Rattle.papaya_histories.specs.Given.Effects.declared.acting.Acting.TheVariants as acts
-use Rattle.papaya_histories.specs.Given.Executor.IsAt.{Scene, IsAt}
-use Rattle.papaya_histories.specs.Given.Executor.Stepping.{StepLeads, scene_after}
-use Rattle.papaya_histories.specs.Given.Executor.declared.executor.Executor.{Executor}
-use Rattle.papaya_histories.proofs.Given.Follows.Steps.{one_of}
-use Rattle.papaya_histories.proofs.Given.Moments.After.{effects_after}
-use Rattle.papaya_histories.specs.InEvent.{InEvent, here_of}
-use Rattle.papaya_histories.specs.Several.{IsSameCall}
+use Rattle.papaya_grows.specs.Given.Tables.Chunks.{is_incremental}
+use Rattle.papaya_grows.specs.Given.Tables.declared.node.Node.{Node}
+use Rattle.papaya_grows.specs.Given.Raw.declared.machines.progress.Progress.{Progress}
+use Rattle.papaya_grows.specs.Given.Schedules.declared.effect.Effect.{Effect}
+use Rattle.papaya_grows.specs.Given.Schedules.declared.event.Event.{Event}
+use Rattle.papaya_grows.specs.Given.Schedules.After.{moment, moments_from}
+use Rattle.papaya_grows.specs.Given.Schedules.Beginning.{at_work}
+use Rattle.papaya_grows.specs.Given.Schedules.Effects.{with_effects, worked}
+use Rattle.papaya_grows.specs.Given.Schedules.Entry.{Entry, IfCall, acted_on, acting, caller_of}
+use Rattle.papaya_grows.specs.Given.Schedules.Moment.{UnderWay as CallThere, Moment}
+use Rattle.papaya_grows.specs.Given.Schedules.Steps.{IsBrief, ReadsBriefly, ReadsFew}
+use Rattle.papaya_grows.specs.Given.Schedules.Terms.{Terms}
+use Rattle.papaya_grows.specs.Given.Schedules.Views.{call_of, grows_in_chunks, map_at}
+use Rattle.papaya_grows.specs.Given.Schedules.Lists.{OneOf}
+use Rattle.papaya_grows.specs.Given.Schedules.declared.call.Call.{Call}
+use Rattle.papaya_grows.specs.Given.Schedules.declared.call.Call.TheVariants as call
+use Rattle.papaya_grows.specs.Given.Callers.Together.{UnderWay, OnKey, ForRoom, Counting, OverAll}
+use Rattle.papaya_grows.specs.Given.Effects.Effects.{effects_of}
+use Rattle.papaya_grows.specs.Given.Effects.Known.{Known}
+use Rattle.papaya_grows.specs.Given.Effects.declared.acting.Acting.TheVariants as acts
+use Rattle.papaya_grows.specs.Given.Executor.IsAt.{Scene, IsAt}
+use Rattle.papaya_grows.specs.Given.Executor.Stepping.{StepLeads, scene_after}
+use Rattle.papaya_grows.specs.Given.Executor.declared.executor.Executor.{Executor}
+use Rattle.papaya_grows.proofs.Given.Follows.Steps.{one_of}
+use Rattle.papaya_grows.proofs.Given.Moments.After.{effects_after}
+use Rattle.papaya_grows.specs.Given.Histories.InEvent.{InEvent, here_of}
+use Rattle.papaya_grows.specs.Given.Histories.Several.{IsSameCall}
 use Rattle.papaya_promises.specs.Reading.{HasLooked, ShowsReading, looks}
 use Rattle.papaya_promises.proofs.Brief.Ends.{events_read_briefly}
 use Rattle.papaya_promises.proofs.Brief.Meanwhile.{effects_steps, others_keep_readings}

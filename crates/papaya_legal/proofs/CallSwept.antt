@@ -1,37 +1,37 @@
 -- An event of a call does what it is for, as the last step says.
 use Rattle.std.specs.Prelude.{◌≡◌, ◌⊎◌, ℕ, Bool, List, Option, Some, None}
 use Rattle.std.proofs.Common.{refl, ap, sym, subst, ◌∙◌, inl, inr}
-use Rattle.papaya_histories.specs.Given.Tables.declared.node.Node.{Node}
-use Rattle.papaya_histories.specs.Given.Raw.declared.machines.progress.Progress.{Progress}
-use Rattle.papaya_histories.specs.Given.Schedules.declared.call.Call.{Call}
-use Rattle.papaya_histories.specs.Given.Schedules.declared.call.Call.TheVariants.{Clear, Len, On, Reserve, Retain, Walk}
-use Rattle.papaya_histories.specs.Given.Schedules.declared.effect.Effect.{Effect}
-use Rattle.papaya_histories.specs.Given.Schedules.declared.outcome.Outcome.{Outcome}
-use Rattle.papaya_histories.specs.Given.Schedules.After.{moment}
-use Rattle.papaya_histories.specs.Given.Schedules.Effects.{with_effects, worked}
-use Rattle.papaya_histories.specs.Given.Schedules.Entry.{acted_on, acting, caller_of}
-use Rattle.papaya_histories.specs.Given.Schedules.Moment.{UnderWay as CallThere, Moment}
-use Rattle.papaya_histories.specs.Given.Schedules.Sweeps.{IsSwept}
-use Rattle.papaya_histories.specs.Given.Schedules.Views.{call_of, finite_map}
-use Rattle.papaya_histories.specs.Given.Callers.Together.{UnderWay, OnKey, ForRoom, Counting, OverAll}
-use Rattle.papaya_histories.specs.Given.Effects.Effects.{effects_of, known_after}
-use Rattle.papaya_histories.specs.Given.Effects.Known.{Known}
-use Rattle.papaya_histories.specs.Given.Effects.declared.acting.Acting.TheVariants as acts
-use Rattle.papaya_histories.specs.Given.Executor.Stepping.{StepLeads}
-use Rattle.papaya_histories.specs.Given.Moments.Whole.{ShowsWhole}
-use Rattle.papaya_histories.proofs.Given.Moments.After.{effects_after}
-use Rattle.papaya_histories.specs.InEvent.{InEvent, here_of}
-use Rattle.papaya_histories.specs.Several.{IsSameCall}
-use Rattle.papaya_histories.proofs.OtherMidsts.{fewer_so}
+use Rattle.papaya_grows.specs.Given.Tables.declared.node.Node.{Node}
+use Rattle.papaya_grows.specs.Given.Raw.declared.machines.progress.Progress.{Progress}
+use Rattle.papaya_grows.specs.Given.Schedules.declared.call.Call.{Call}
+use Rattle.papaya_grows.specs.Given.Schedules.declared.call.Call.TheVariants.{Clear, Len, On, Reserve, Retain, Walk}
+use Rattle.papaya_grows.specs.Given.Schedules.declared.effect.Effect.{Effect}
+use Rattle.papaya_grows.specs.Given.Schedules.declared.outcome.Outcome.{Outcome}
+use Rattle.papaya_grows.specs.Given.Schedules.After.{moment}
+use Rattle.papaya_grows.specs.Given.Schedules.Effects.{with_effects, worked}
+use Rattle.papaya_grows.specs.Given.Schedules.Entry.{acted_on, acting, caller_of}
+use Rattle.papaya_grows.specs.Given.Schedules.Moment.{UnderWay as CallThere, Moment}
+use Rattle.papaya_grows.specs.Given.Schedules.Sweeps.{IsSwept}
+use Rattle.papaya_grows.specs.Given.Schedules.Views.{call_of, finite_map}
+use Rattle.papaya_grows.specs.Given.Callers.Together.{UnderWay, OnKey, ForRoom, Counting, OverAll}
+use Rattle.papaya_grows.specs.Given.Effects.Effects.{effects_of, known_after}
+use Rattle.papaya_grows.specs.Given.Effects.Known.{Known}
+use Rattle.papaya_grows.specs.Given.Effects.declared.acting.Acting.TheVariants as acts
+use Rattle.papaya_grows.specs.Given.Executor.Stepping.{StepLeads}
+use Rattle.papaya_grows.specs.Given.Moments.Whole.{ShowsWhole}
+use Rattle.papaya_grows.proofs.Given.Moments.After.{effects_after}
+use Rattle.papaya_grows.specs.Given.Histories.InEvent.{InEvent, here_of}
+use Rattle.papaya_grows.specs.Given.Histories.Several.{IsSameCall}
+use Rattle.papaya_grows.proofs.Given.Histories.OtherMidsts.{fewer_so}
 use Rattle.papaya_promises.proofs.Brief.Meanwhile.{effects_steps}
-use Rattle.papaya_purposes.specs.Kept.{PairsChangeFirst}
-use Rattle.papaya_purposes.specs.Shards.{ReadsShards}
-use Rattle.papaya_purposes.specs.Swept.{ComesSo as IsToldSo}
-use Rattle.papaya_purposes.proofs.FindsRoom.{reservations_are_swept}
-use Rattle.papaya_purposes.proofs.Nothing.{calls_on_keys_are_swept, other_outcomes_are_swept}
-use Rattle.papaya_purposes.proofs.Shows.{walks_show}
-use Rattle.papaya_purposes.proofs.ShowsAll.{walks_show_all}
-use Rattle.papaya_purposes.proofs.Swept.{clearings_are_swept, countings_are_swept, retainings_are_swept}
+use Rattle.papaya_grows.specs.Given.Purposes.Kept.{PairsChangeFirst}
+use Rattle.papaya_grows.specs.Given.Purposes.Shards.{ReadsShards}
+use Rattle.papaya_grows.specs.Given.Purposes.Swept.{ComesSo as IsToldSo}
+use Rattle.papaya_grows.proofs.Given.Purposes.FindsRoom.{reservations_are_swept}
+use Rattle.papaya_grows.proofs.Given.Purposes.Nothing.{calls_on_keys_are_swept, other_outcomes_are_swept}
+use Rattle.papaya_grows.proofs.Given.Purposes.Shows.{walks_show}
+use Rattle.papaya_grows.proofs.Given.Purposes.ShowsAll.{walks_show_all}
+use Rattle.papaya_grows.proofs.Given.Purposes.Swept.{clearings_are_swept, countings_are_swept, retainings_are_swept}
 use Rattle.papaya_legal.specs.CallSwept.{CallsAreSwept, TellsOf}
 use Rattle.papaya_legal.proofs.CallChanges.{reads_shards}
 use Rattle.papaya_legal.proofs.CallPairs.{begun_so, none_comes, pairs_first}

@@ -3,56 +3,56 @@ use Rattle.std.specs.Prelude.{◌≡◌, ◌≢◌, ◌<◌, ℕ, ◌+◌, ◌�
 use Rattle.std.specs.List.{list_all}
 use Rattle.std.proofs.Common.{refl, ap, sym, subst, ◌∙◌, inl, inr, arith}
 use Rattle.std.proofs.lemmas.List.{append-nil}
-use Rattle.papaya_histories.specs.Given.Seize.WaitingSets.{Sets}
-use Rattle.papaya_histories.specs.Given.Seize.World.{World, Rests}
-use Rattle.papaya_histories.specs.Given.Tables.declared.node.Node.{Node}
-use Rattle.papaya_histories.specs.Given.Tables.Chunks.{is_incremental}
-use Rattle.papaya_histories.specs.Given.Schedules.declared.effect.Effect.{Effect}
-use Rattle.papaya_histories.specs.Given.Schedules.declared.event.Event.{Event}
-use Rattle.papaya_histories.specs.Given.Schedules.declared.event.Event.TheVariants.{OneCall, Step, Go, Next}
-use Rattle.papaya_histories.specs.Given.Schedules.declared.effect.Thing.{Thing}
-use Rattle.papaya_histories.specs.Given.Schedules.After.{is_by, moment, moments_from}
-use Rattle.papaya_histories.specs.Given.Schedules.Effects.{with_effects, AtEachEffect}
-use Rattle.papaya_histories.specs.Given.Schedules.Entry.{caller_of, speaker}
-use Rattle.papaya_histories.specs.Given.Schedules.Model.{sets_in, things_in}
-use Rattle.papaya_histories.specs.Given.Schedules.Moment.{Moment}
-use Rattle.papaya_histories.specs.Given.Executor.IsAt.{Scene, slot_of}
-use Rattle.papaya_histories.specs.Given.Executor.Stepping.{scene_after}
-use Rattle.papaya_histories.specs.Given.Effects.Effects.{effects_of, known_after}
-use Rattle.papaya_histories.specs.Given.Effects.Known.{Known}
-use Rattle.papaya_histories.specs.Given.Effects.declared.acting.Acting.TheVariants as acts
-use Rattle.papaya_histories.specs.Given.Moments.Whole.{ShowsWhole}
-use Rattle.papaya_histories.proofs.Given.Moments.After.{effects_after}
-use Rattle.papaya_histories.proofs.Given.Moments.NewMaps.{effects_keep_pairs}
-use Rattle.papaya_histories.proofs.Given.Moments.Numbers.{numbers_are_below, steps_keep_numbers}
-use Rattle.papaya_kept.proofs.Calls.{calls_keep_kept}
-use Rattle.papaya_shards.proofs.ShardCalls.{calls_keep_counters}
-use Rattle.papaya_histories.specs.AsCalled.{ShowsAsCalled}
-use Rattle.papaya_histories.specs.Due.{ShowsDue}
-use Rattle.papaya_histories.specs.InEvent.{here_of}
-use Rattle.papaya_histories.proofs.Questions.{effects_keep_questions}
-use Rattle.papaya_purposes.proofs.Kept.{calls_keep_purposes}
-use Rattle.papaya_histories.proofs.AnyCall.InEvent.{events_begin, events_go_on, events_keep_all}
+use Rattle.papaya_grows.specs.Given.Seize.WaitingSets.{Sets}
+use Rattle.papaya_grows.specs.Given.Seize.World.{World, Rests}
+use Rattle.papaya_grows.specs.Given.Tables.declared.node.Node.{Node}
+use Rattle.papaya_grows.specs.Given.Tables.Chunks.{is_incremental}
+use Rattle.papaya_grows.specs.Given.Schedules.declared.effect.Effect.{Effect}
+use Rattle.papaya_grows.specs.Given.Schedules.declared.event.Event.{Event}
+use Rattle.papaya_grows.specs.Given.Schedules.declared.event.Event.TheVariants.{OneCall, Step, Go, Next}
+use Rattle.papaya_grows.specs.Given.Schedules.declared.effect.Thing.{Thing}
+use Rattle.papaya_grows.specs.Given.Schedules.After.{is_by, moment, moments_from}
+use Rattle.papaya_grows.specs.Given.Schedules.Effects.{with_effects, AtEachEffect}
+use Rattle.papaya_grows.specs.Given.Schedules.Entry.{caller_of, speaker}
+use Rattle.papaya_grows.specs.Given.Schedules.Model.{sets_in, things_in}
+use Rattle.papaya_grows.specs.Given.Schedules.Moment.{Moment}
+use Rattle.papaya_grows.specs.Given.Executor.IsAt.{Scene, slot_of}
+use Rattle.papaya_grows.specs.Given.Executor.Stepping.{scene_after}
+use Rattle.papaya_grows.specs.Given.Effects.Effects.{effects_of, known_after}
+use Rattle.papaya_grows.specs.Given.Effects.Known.{Known}
+use Rattle.papaya_grows.specs.Given.Effects.declared.acting.Acting.TheVariants as acts
+use Rattle.papaya_grows.specs.Given.Moments.Whole.{ShowsWhole}
+use Rattle.papaya_grows.proofs.Given.Moments.After.{effects_after}
+use Rattle.papaya_grows.proofs.Given.Moments.NewMaps.{effects_keep_pairs}
+use Rattle.papaya_grows.proofs.Given.Moments.Numbers.{numbers_are_below, steps_keep_numbers}
+use Rattle.papaya_grows.proofs.Given.Kept.Calls.{calls_keep_kept}
+use Rattle.papaya_grows.proofs.Given.Shards.ShardCalls.{calls_keep_counters}
+use Rattle.papaya_grows.specs.Given.Histories.AsCalled.{ShowsAsCalled}
+use Rattle.papaya_grows.specs.Given.Histories.Due.{ShowsDue}
+use Rattle.papaya_grows.specs.Given.Histories.InEvent.{here_of}
+use Rattle.papaya_grows.proofs.Given.Histories.Questions.{effects_keep_questions}
+use Rattle.papaya_grows.proofs.Given.Purposes.Kept.{calls_keep_purposes}
+use Rattle.papaya_grows.proofs.Given.Histories.AnyCall.InEvent.{events_begin, events_go_on, events_keep_all}
 use Rattle.papaya_models.specs.CallEvents.{FollowsInEvent, IsInItsRow}
 use Rattle.papaya_models.proofs.CallEvents.{call_events_begin, call_events_go_on}
 use Rattle.papaya_models.proofs.MapEvents.{moments_note_once}
-use Rattle.papaya_histories.proofs.Given.Spots.Unreclaimed.{and_both}
-use Rattle.papaya_finds.specs.Life.{StoresOne}
-use Rattle.papaya_finds.proofs.Doing.{several_do_theirs}
-use Rattle.papaya_finds.proofs.Quiet.{several_store_one}
-use Rattle.papaya_finds.proofs.Steps.{steps_do_theirs, steps_store_one}
+use Rattle.papaya_grows.proofs.Given.Spots.Unreclaimed.{and_both}
+use Rattle.papaya_grows.specs.Given.Finds.Life.{StoresOne}
+use Rattle.papaya_grows.proofs.Given.Finds.Doing.{several_do_theirs}
+use Rattle.papaya_grows.proofs.Given.Finds.Quiet.{several_store_one}
+use Rattle.papaya_grows.proofs.Given.Finds.Steps.{steps_do_theirs, steps_store_one}
 use Rattle.papaya_promises.specs.Protected.{InMidst, is_of_slots}
 use Rattle.papaya_promises.specs.Reading.{HasLooked, looks}
 use Rattle.papaya_promises.specs.Sheltered.{SectionsHold}
 use Rattle.papaya_promises.proofs.Protected.{calls_protect}
 use Rattle.papaya_promises.proofs.Weights.{grants_add_up, operations_are_single, parts_add_up}
 use Rattle.papaya_legal.specs.CallEvents.{CallEventsBegin, CallEventsGoOn}
-use Rattle.papaya_purposes.proofs.ShardsRead.{events_begin_uncounted}
+use Rattle.papaya_grows.proofs.Given.Purposes.ShardsRead.{events_begin_uncounted}
 use Rattle.papaya_legal.proofs.CallChanges.{changes_first, reads_shards, unadded_still}
-use Rattle.papaya_histories.proofs.Several.{stands}
+use Rattle.papaya_grows.proofs.Given.Histories.Several.{stands}
 use Rattle.papaya_legal.proofs.CallPairs.{begun_so, each_is_its_own, own_alike, pairs_first}
 use Rattle.papaya_legal.proofs.CallReads.{does_nothing, readings_go_on}
-use Rattle.papaya_sources.proofs.Steps.{calls_keep_sources}
+use Rattle.papaya_grows.proofs.Given.Sources.Steps.{calls_keep_sources}
 use Rattle.papaya_grows.proofs.Finding.Calls.{calls_keep_finding}
 use Rattle.papaya_grows.proofs.Limits.Shows.{limits_at_first}
 use Rattle.papaya_grows.proofs.Limits.Steps.{limits_go_on, limits_others}

@@ -1,54 +1,54 @@
 -- The moment after an event of a call shows what the next event needs.
 use Rattle.std.specs.Prelude.{◌≡◌, ◌<◌, ℕ, Bool, true, List, ◌∷◌, Option, Some, find}
 use Rattle.std.proofs.Common.{refl, ap, sym, subst, ◌∙◌}
-use Rattle.papaya_histories.specs.Given.Schedules.declared.effect.Effect.{Effect}
-use Rattle.papaya_histories.specs.Given.Schedules.declared.event.Event.{Event}
-use Rattle.papaya_histories.specs.Given.Schedules.declared.event.Event.TheVariants.{OneCall, Step, Go, Next}
-use Rattle.papaya_histories.specs.Given.Schedules.After.{moment, after}
-use Rattle.papaya_histories.specs.Given.Schedules.Effects.{with_effects, AtEachEffect, worked}
-use Rattle.papaya_histories.specs.Given.Schedules.Entry.{caller_of, Entry, acted_on, ends_call}
-use Rattle.papaya_histories.specs.Given.Schedules.Moment.{Moment, UnderWay as CallThere}
-use Rattle.papaya_histories.specs.Given.Executor.IsAt.{Scene}
-use Rattle.papaya_histories.specs.Given.Executor.Stepping.{scene_after}
-use Rattle.papaya_histories.specs.Given.Effects.Effects.{effects_of, known_after}
-use Rattle.papaya_histories.specs.Given.Effects.Known.{Known}
-use Rattle.papaya_histories.specs.Given.Moments.Whole.{ShowsWhole}
-use Rattle.papaya_histories.proofs.Given.Moments.After.{effects_after}
-use Rattle.papaya_histories.proofs.Given.Moments.NewMaps.{effects_keep_pairs}
-use Rattle.papaya_histories.proofs.Given.Moments.Numbers.{numbers_are_below, steps_keep_numbers}
-use Rattle.papaya_kept.specs.Kept.{ShowsKept}
-use Rattle.papaya_kept.proofs.Calls.{calls_keep_kept}
-use Rattle.papaya_shards.proofs.ShardCalls.{calls_keep_counters}
-use Rattle.papaya_histories.specs.AsCalled.{ShowsAsCalled}
-use Rattle.papaya_histories.specs.Due.{ShowsDue}
-use Rattle.papaya_histories.specs.InEvent.{here_of}
-use Rattle.papaya_histories.proofs.Questions.{events_keep_questions}
-use Rattle.papaya_histories.proofs.AnyCall.InEvent.{events_keep_all}
-use Rattle.papaya_finds.specs.Life.{StoresOne}
-use Rattle.papaya_finds.proofs.Quiet.{several_store_one}
-use Rattle.papaya_finds.proofs.Steps.{steps_store_one}
+use Rattle.papaya_grows.specs.Given.Schedules.declared.effect.Effect.{Effect}
+use Rattle.papaya_grows.specs.Given.Schedules.declared.event.Event.{Event}
+use Rattle.papaya_grows.specs.Given.Schedules.declared.event.Event.TheVariants.{OneCall, Step, Go, Next}
+use Rattle.papaya_grows.specs.Given.Schedules.After.{moment, after}
+use Rattle.papaya_grows.specs.Given.Schedules.Effects.{with_effects, AtEachEffect, worked}
+use Rattle.papaya_grows.specs.Given.Schedules.Entry.{caller_of, Entry, acted_on, ends_call}
+use Rattle.papaya_grows.specs.Given.Schedules.Moment.{Moment, UnderWay as CallThere}
+use Rattle.papaya_grows.specs.Given.Executor.IsAt.{Scene}
+use Rattle.papaya_grows.specs.Given.Executor.Stepping.{scene_after}
+use Rattle.papaya_grows.specs.Given.Effects.Effects.{effects_of, known_after}
+use Rattle.papaya_grows.specs.Given.Effects.Known.{Known}
+use Rattle.papaya_grows.specs.Given.Moments.Whole.{ShowsWhole}
+use Rattle.papaya_grows.proofs.Given.Moments.After.{effects_after}
+use Rattle.papaya_grows.proofs.Given.Moments.NewMaps.{effects_keep_pairs}
+use Rattle.papaya_grows.proofs.Given.Moments.Numbers.{numbers_are_below, steps_keep_numbers}
+use Rattle.papaya_grows.specs.Given.Kept.Kept.{ShowsKept}
+use Rattle.papaya_grows.proofs.Given.Kept.Calls.{calls_keep_kept}
+use Rattle.papaya_grows.proofs.Given.Shards.ShardCalls.{calls_keep_counters}
+use Rattle.papaya_grows.specs.Given.Histories.AsCalled.{ShowsAsCalled}
+use Rattle.papaya_grows.specs.Given.Histories.Due.{ShowsDue}
+use Rattle.papaya_grows.specs.Given.Histories.InEvent.{here_of}
+use Rattle.papaya_grows.proofs.Given.Histories.Questions.{events_keep_questions}
+use Rattle.papaya_grows.proofs.Given.Histories.AnyCall.InEvent.{events_keep_all}
+use Rattle.papaya_grows.specs.Given.Finds.Life.{StoresOne}
+use Rattle.papaya_grows.proofs.Given.Finds.Quiet.{several_store_one}
+use Rattle.papaya_grows.proofs.Given.Finds.Steps.{steps_store_one}
 use Rattle.papaya_promises.specs.Reading.{LookupsStay}
-use Rattle.papaya_purposes.proofs.Tableless.{events_keep_tableless}
+use Rattle.papaya_grows.proofs.Given.Purposes.Tableless.{events_keep_tableless}
 use Rattle.papaya_legal.specs.CallEvents.{CallEventsEnd}
-use Rattle.papaya_histories.specs.Given.Schedules.declared.outcome.Outcome.{Outcome}
-use Rattle.papaya_histories.specs.Given.Moments.Numbers.{NumbersMaps, PairsAreBelow}
-use Rattle.papaya_histories.specs.Given.Follows.Calling.{come_to, NoneNamed}
-use Rattle.papaya_histories.specs.Given.Others.Elsewhere.{HasSame}
-use Rattle.papaya_histories.proofs.AnyCall.Over.{events_are_over, like_over, none_named}
-use Rattle.papaya_purposes.proofs.Between.{events_keep_purposes}
-use Rattle.papaya_purposes.proofs.Elsewhere.{purposes_stay}
-use Rattle.papaya_kept.proofs.Stays.{stays_kept, calls_come_to_kept}
-use Rattle.papaya_shards.proofs.ShardBetween.{counters_stay, calls_come_to_counters}
+use Rattle.papaya_grows.specs.Given.Schedules.declared.outcome.Outcome.{Outcome}
+use Rattle.papaya_grows.specs.Given.Moments.Numbers.{NumbersMaps, PairsAreBelow}
+use Rattle.papaya_grows.specs.Given.Follows.Calling.{come_to, NoneNamed}
+use Rattle.papaya_grows.specs.Given.Others.Elsewhere.{HasSame}
+use Rattle.papaya_grows.proofs.Given.Histories.AnyCall.Over.{events_are_over, like_over, none_named}
+use Rattle.papaya_grows.proofs.Given.Purposes.Between.{events_keep_purposes}
+use Rattle.papaya_grows.proofs.Given.Purposes.Elsewhere.{purposes_stay}
+use Rattle.papaya_grows.proofs.Given.Kept.Stays.{stays_kept, calls_come_to_kept}
+use Rattle.papaya_grows.proofs.Given.Shards.ShardBetween.{counters_stay, calls_come_to_counters}
 use Rattle.papaya_promises.proofs.Brief.Stays.{events_keep_readings, readings_stay}
-use Rattle.papaya_finds.specs.Within.{GoesInOrder}
-use Rattle.papaya_finds.proofs.Runs.{events_keep_order}
-use Rattle.papaya_finds.proofs.Closed.{over_stays_back}
-use Rattle.papaya_histories.specs.Given.Runs.Same.{is_same}
+use Rattle.papaya_grows.specs.Given.Finds.Within.{GoesInOrder}
+use Rattle.papaya_grows.proofs.Given.Finds.Runs.{events_keep_order}
+use Rattle.papaya_grows.proofs.Given.Finds.Closed.{over_stays_back}
+use Rattle.papaya_grows.specs.Given.Runs.Same.{is_same}
 use Rattle.papaya_legal.proofs.LeftTold.{events_tell_left}
 use Rattle.papaya_legal.proofs.Maps.{stands_so}
-use Rattle.papaya_histories.specs.Given.Effects.declared.acting.Acting.TheVariants as acts
+use Rattle.papaya_grows.specs.Given.Effects.declared.acting.Acting.TheVariants as acts
 use Rattle.papaya_legal.specs.Carried.{NoneCounted}
-use Rattle.papaya_sources.proofs.Steps.{calls_keep_sources}
+use Rattle.papaya_grows.proofs.Given.Sources.Steps.{calls_keep_sources}
 use Rattle.papaya_legal.proofs.Sourced.{sources_so}
 use Rattle.papaya_grows.proofs.Finding.Alike.{finding_fewer, stood_as}
 use Rattle.papaya_grows.proofs.Finding.Calls.{calls_keep_finding}

@@ -2,38 +2,38 @@
 use Rattle.std.specs.Prelude.{◌≡◌, ◌⊎◌, [], ℕ, Bool, true, false, List, Some}
 use Rattle.std.specs.List.{list_all}
 use Rattle.std.proofs.Common.{refl, ap, sym, subst, ◌∙◌, inl, inr}
-use Rattle.papaya_histories.specs.Given.SeizeWords.declared.fault.Fault.TheVariants.{Busy}
-use Rattle.papaya_histories.specs.Given.Schedules.declared.effect.Effect.{Effect}
-use Rattle.papaya_histories.specs.Given.Schedules.declared.event.Event.{Event}
-use Rattle.papaya_histories.specs.Given.Schedules.declared.event.Event.TheVariants.{OneCall, Step, Go, Next}
-use Rattle.papaya_histories.specs.Given.Schedules.declared.outcome.Outcome.{Outcome}
-use Rattle.papaya_histories.specs.Given.Schedules.declared.outcome.Outcome.TheVariants.{Refused}
-use Rattle.papaya_histories.specs.Given.Schedules.After.{after, moment, moments_from}
-use Rattle.papaya_histories.specs.Given.Schedules.Beginning.{at_work}
-use Rattle.papaya_histories.specs.Given.Schedules.Effects.{with_effects, worked}
-use Rattle.papaya_histories.specs.Given.Schedules.Entry.{caller_of, is_busy}
-use Rattle.papaya_histories.specs.Given.Schedules.Handing.{AllFind, IsWhole, is_call_effect, is_granted, may_do}
-use Rattle.papaya_histories.specs.Given.Schedules.Linearizable.{IsLinearizable}
-use Rattle.papaya_histories.specs.Given.Schedules.Moment.{Moment}
-use Rattle.papaya_histories.specs.Given.Schedules.Reclaims.{IsProtected}
-use Rattle.papaya_histories.specs.Given.Effects.Effects.{effects_of, known_after}
-use Rattle.papaya_histories.specs.Given.Effects.Known.{Known}
-use Rattle.papaya_histories.specs.Given.Effects.declared.acting.Acting.TheVariants as acts
-use Rattle.papaya_histories.specs.Given.Moments.Whole.{ShowsWhole}
-use Rattle.papaya_histories.proofs.Given.Moments.After.{effects_after}
-use Rattle.papaya_histories.specs.InEvent.{here_of}
-use Rattle.papaya_histories.specs.Questions.{EventAsksStill}
-use Rattle.papaya_histories.proofs.AnyCall.InEvent.{events_end}
+use Rattle.papaya_grows.specs.Given.SeizeWords.declared.fault.Fault.TheVariants.{Busy}
+use Rattle.papaya_grows.specs.Given.Schedules.declared.effect.Effect.{Effect}
+use Rattle.papaya_grows.specs.Given.Schedules.declared.event.Event.{Event}
+use Rattle.papaya_grows.specs.Given.Schedules.declared.event.Event.TheVariants.{OneCall, Step, Go, Next}
+use Rattle.papaya_grows.specs.Given.Schedules.declared.outcome.Outcome.{Outcome}
+use Rattle.papaya_grows.specs.Given.Schedules.declared.outcome.Outcome.TheVariants.{Refused}
+use Rattle.papaya_grows.specs.Given.Schedules.After.{after, moment, moments_from}
+use Rattle.papaya_grows.specs.Given.Schedules.Beginning.{at_work}
+use Rattle.papaya_grows.specs.Given.Schedules.Effects.{with_effects, worked}
+use Rattle.papaya_grows.specs.Given.Schedules.Entry.{caller_of, is_busy}
+use Rattle.papaya_grows.specs.Given.Schedules.Handing.{AllFind, IsWhole, is_call_effect, is_granted, may_do}
+use Rattle.papaya_grows.specs.Given.Schedules.Linearizable.{IsLinearizable}
+use Rattle.papaya_grows.specs.Given.Schedules.Moment.{Moment}
+use Rattle.papaya_grows.specs.Given.Schedules.Reclaims.{IsProtected}
+use Rattle.papaya_grows.specs.Given.Effects.Effects.{effects_of, known_after}
+use Rattle.papaya_grows.specs.Given.Effects.Known.{Known}
+use Rattle.papaya_grows.specs.Given.Effects.declared.acting.Acting.TheVariants as acts
+use Rattle.papaya_grows.specs.Given.Moments.Whole.{ShowsWhole}
+use Rattle.papaya_grows.proofs.Given.Moments.After.{effects_after}
+use Rattle.papaya_grows.specs.Given.Histories.InEvent.{here_of}
+use Rattle.papaya_grows.specs.Given.Histories.Questions.{EventAsksStill}
+use Rattle.papaya_grows.proofs.Given.Histories.AnyCall.InEvent.{events_end}
 use Rattle.papaya_promises.specs.Protected.{InMidst}
 use Rattle.papaya_promises.specs.Sheltered.{SectionsHold}
 use Rattle.papaya_promises.proofs.Protected.{calls_protect, other_events_end_protected}
 use Rattle.papaya_promises.proofs.Weights.{grants_add_up, operations_are_single}
-use Rattle.papaya_finds.specs.Doing.{takes_steps}
-use Rattle.papaya_finds.specs.Parts.{FindAll}
-use Rattle.papaya_finds.proofs.Doing.{events_may_do, several_do_theirs}
-use Rattle.papaya_finds.proofs.Joined.{events_find_all}
-use Rattle.papaya_finds.proofs.Over.{acts as acts_on_its}
-use Rattle.papaya_finds.proofs.Steps.{steps_do_theirs}
+use Rattle.papaya_grows.specs.Given.Finds.Doing.{takes_steps}
+use Rattle.papaya_grows.specs.Given.Finds.Parts.{FindAll}
+use Rattle.papaya_grows.proofs.Given.Finds.Doing.{events_may_do, several_do_theirs}
+use Rattle.papaya_grows.proofs.Given.Finds.Joined.{events_find_all}
+use Rattle.papaya_grows.proofs.Given.Finds.Over.{acts as acts_on_its}
+use Rattle.papaya_grows.proofs.Given.Finds.Steps.{steps_do_theirs}
 use Rattle.papaya_legal.specs.CallEvents.{CallEventsAreLegal}
 use Rattle.papaya_legal.proofs.Calls.{out_of_slots}
 use Rattle.papaya_legal.proofs.CallReads.{reads_briefly}

@@ -1,26 +1,26 @@
 -- Steps of an event, one after another.
 use Rattle.std.specs.Prelude.{◌≡◌, ◌∷◌, true, List, ℕ, Bool, zero, suc, ◌++◌, Some, None}
 use Rattle.std.proofs.Common.{refl, sym, subst}
-use Rattle.papaya_histories.specs.Given.Schedules.declared.effect.Effect.{Effect}
-use Rattle.papaya_histories.specs.Given.Schedules.After.{moment}
-use Rattle.papaya_histories.specs.Given.Schedules.Effects.{with_effects}
+use Rattle.papaya_grows.specs.Given.Schedules.declared.effect.Effect.{Effect}
+use Rattle.papaya_grows.specs.Given.Schedules.After.{moment}
+use Rattle.papaya_grows.specs.Given.Schedules.Effects.{with_effects}
 use Rattle.papaya_promises.specs.Sheltered.{SectionsHold}
 use Rattle.papaya_models.specs.Follows.{FollowsModel}
-use Rattle.papaya_histories.specs.Given.Effects.Effects.{effects_of, known_after}
-use Rattle.papaya_histories.specs.Given.Effects.declared.acting.Acting.TheVariants as acts
-use Rattle.papaya_histories.specs.Given.Others.Makings.{making_after}
+use Rattle.papaya_grows.specs.Given.Effects.Effects.{effects_of, known_after}
+use Rattle.papaya_grows.specs.Given.Effects.declared.acting.Acting.TheVariants as acts
+use Rattle.papaya_grows.specs.Given.Others.Makings.{making_after}
 use Rattle.papaya_legal.specs.Chains.{CallCome, CallsChain, CallSteps, Chain, Come, EndsChain, EndsRunToTheirEnds, EndSteps, MakingsChain, MakingsRunToTheirEnds, MakingSteps, RowsChain, RowsRunToTheirEnds, RowSteps}
-use Rattle.papaya_histories.specs.InEvent.{here_of}
+use Rattle.papaya_grows.specs.Given.Histories.InEvent.{here_of}
 use Rattle.papaya_legal.specs.CallEvents.{InCallEvent, IsLegalBut}
 use Rattle.papaya_legal.specs.MapEvents.{InEndEvent, InMakingEvent}
 use Rattle.papaya_legal.specs.SlotEvents.{InSlotEvent}
 use Rattle.papaya_legal.proofs.Calls.{call_events_go_on_so}
 use Rattle.papaya_legal.proofs.Maps.{end_events_go_on_so, making_events_go_on_so}
-use Rattle.papaya_histories.specs.Given.Schedules.declared.event.Event.TheVariants.{EndMap, MakeMap}
-use Rattle.papaya_histories.specs.Given.Schedules.declared.outcome.Outcome.TheVariants.{Done}
-use Rattle.papaya_histories.specs.Given.Schedules.Beginning.{with_map}
-use Rattle.papaya_histories.specs.Given.Schedules.Entry.{Entry}
-use Rattle.papaya_histories.specs.Given.Schedules.Model.{IsByModel}
+use Rattle.papaya_grows.specs.Given.Schedules.declared.event.Event.TheVariants.{EndMap, MakeMap}
+use Rattle.papaya_grows.specs.Given.Schedules.declared.outcome.Outcome.TheVariants.{Done}
+use Rattle.papaya_grows.specs.Given.Schedules.Beginning.{with_map}
+use Rattle.papaya_grows.specs.Given.Schedules.Entry.{Entry}
+use Rattle.papaya_grows.specs.Given.Schedules.Model.{IsByModel}
 use Rattle.papaya_models.proofs.MapEvents.{moments_note_once}
 use Rattle.papaya_legal.proofs.MapsEnd.{map_events_are_legal}
 use Rattle.papaya_legal.proofs.MapsOver.{end_events_begin_so, end_events_end_so, end_events_follow, making_events_begin_so, making_events_end_so, making_events_follow}

@@ -5,49 +5,49 @@ use Rattle.std.proofs.Common.{refl, ap, sym, subst, ◌∙◌, append_assoc, ari
 use Rattle.std.proofs.lemmas.Bool.{cases_lt, eq-eqb}
 use Rattle.std.proofs.lemmas.List.{append-nil, length-append}
 use Rattle.std.proofs.lemmas.List.Concat.{flat_map-cons}
-use Rattle.papaya_histories.specs.Given.SeizeWords.declared.at.At.TheVariants as at
-use Rattle.papaya_histories.specs.Given.Seize.declared.states.TheConstants.{FIRST}
-use Rattle.papaya_histories.specs.Given.Tables.declared.table_words.TheConstants.{NEXT, DEFERRED}
-use Rattle.papaya_histories.specs.Given.Teller.declared.changed.Changed.{Changed}
-use Rattle.papaya_histories.specs.Given.Teller.declared.changed.Changed.TheVariants as changed
-use Rattle.papaya_histories.specs.Given.Teller.declared.changed.Kind.{Kind}
-use Rattle.papaya_histories.specs.Given.Teller.declared.changed.Kind.TheVariants as kind
-use Rattle.papaya_histories.specs.Given.Schedules.declared.effect.Effect.{Effect}
-use Rattle.papaya_histories.specs.Given.Schedules.declared.effect.Effect.TheVariants as effect
-use Rattle.papaya_histories.specs.Given.Schedules.declared.effect.Growth.TheVariants.{ABucket, ABlock}
-use Rattle.papaya_histories.specs.Given.Schedules.declared.effect.Spot.{Spot}
-use Rattle.papaya_histories.specs.Given.Schedules.declared.effect.Table.{Table}
-use Rattle.papaya_histories.specs.Given.Schedules.declared.effect.Thing.{Thing}
-use Rattle.papaya_histories.specs.Given.Schedules.declared.effect.Thing.TheVariants.{APair, ATable}
-use Rattle.papaya_histories.specs.Given.Schedules.declared.event.Event.{Event}
-use Rattle.papaya_histories.specs.Given.Schedules.declared.event.Event.TheVariants as event
-use Rattle.papaya_histories.specs.Given.Schedules.declared.outcome.Outcome.{Outcome}
-use Rattle.papaya_histories.specs.Given.Schedules.declared.outcome.Outcome.TheVariants as outcome
-use Rattle.papaya_histories.specs.Given.Schedules.declared.call.Call.{Call as Calling}
-use Rattle.papaya_histories.specs.Given.Schedules.declared.call.Call.TheVariants.{On}
-use Rattle.papaya_histories.specs.Given.Schedules.After.{moment}
-use Rattle.papaya_histories.specs.Given.Schedules.Beginning.{at_work, begun, with_call}
-use Rattle.papaya_histories.specs.Given.Schedules.Effects.{AtEachEffect, at_stage, new_pair, stored_by, tables_by, with_effect, with_effects}
-use Rattle.papaya_histories.specs.Given.Schedules.Entry.{Entry, ByCall, acted_on, acting, caller_of, is_busy, nameless}
-use Rattle.papaya_histories.specs.Given.Schedules.Growing.{only_looks}
-use Rattle.papaya_histories.specs.Given.Schedules.Handing.{gives_all, moments_of}
-use Rattle.papaya_histories.specs.Given.Schedules.Lists.{is_in}
-use Rattle.papaya_histories.specs.Given.Schedules.Lives.{CallFinds, Finds}
-use Rattle.papaya_histories.specs.Given.Schedules.Model.{came, things_in}
-use Rattle.papaya_histories.specs.Given.Schedules.Moment.{UnderWay as CallThere, Moment, Stage, TableThere, IsLinked, IsRetired, IsReclaimed, IsTaken}
-use Rattle.papaya_histories.specs.Given.Schedules.Sequential.{Meaning, Answers, Puts, key_of, means, value_put}
-use Rattle.papaya_histories.specs.Given.Schedules.Terms.{Terms}
-use Rattle.papaya_histories.specs.Given.Schedules.Things.{same_table, same_thing}
-use Rattle.papaya_histories.specs.Given.Schedules.Views.{number_of, reply_to}
-use Rattle.papaya_histories.specs.Given.Effects.Effects.{batched, carried, effects_of, followed_by, in_block, in_table, is_place, led_to, made_by, named, names_same, placed, spot_at, taken_by}
-use Rattle.papaya_histories.specs.Given.Effects.Known.{Known}
-use Rattle.papaya_histories.specs.Given.Effects.declared.acting.Acting.{Acting}
-use Rattle.papaya_histories.specs.Given.Effects.declared.acting.Acting.TheVariants.{Call}
-use Rattle.papaya_histories.specs.Given.Effects.declared.role.Role.{Role}
-use Rattle.papaya_histories.specs.Given.Effects.declared.role.Role.TheVariants as role
-use Rattle.papaya_histories.proofs.Given.Spots.Unreclaimed.{or_right, same_itself}
-use Rattle.papaya_finds.proofs.Lists.{all_so}
-use Rattle.papaya_finds.proofs.Somewhere.{is_storing, none_stored}
+use Rattle.papaya_grows.specs.Given.SeizeWords.declared.at.At.TheVariants as at
+use Rattle.papaya_grows.specs.Given.Seize.declared.states.TheConstants.{FIRST}
+use Rattle.papaya_grows.specs.Given.Tables.declared.table_words.TheConstants.{NEXT, DEFERRED}
+use Rattle.papaya_grows.specs.Given.Teller.declared.changed.Changed.{Changed}
+use Rattle.papaya_grows.specs.Given.Teller.declared.changed.Changed.TheVariants as changed
+use Rattle.papaya_grows.specs.Given.Teller.declared.changed.Kind.{Kind}
+use Rattle.papaya_grows.specs.Given.Teller.declared.changed.Kind.TheVariants as kind
+use Rattle.papaya_grows.specs.Given.Schedules.declared.effect.Effect.{Effect}
+use Rattle.papaya_grows.specs.Given.Schedules.declared.effect.Effect.TheVariants as effect
+use Rattle.papaya_grows.specs.Given.Schedules.declared.effect.Growth.TheVariants.{ABucket, ABlock}
+use Rattle.papaya_grows.specs.Given.Schedules.declared.effect.Spot.{Spot}
+use Rattle.papaya_grows.specs.Given.Schedules.declared.effect.Table.{Table}
+use Rattle.papaya_grows.specs.Given.Schedules.declared.effect.Thing.{Thing}
+use Rattle.papaya_grows.specs.Given.Schedules.declared.effect.Thing.TheVariants.{APair, ATable}
+use Rattle.papaya_grows.specs.Given.Schedules.declared.event.Event.{Event}
+use Rattle.papaya_grows.specs.Given.Schedules.declared.event.Event.TheVariants as event
+use Rattle.papaya_grows.specs.Given.Schedules.declared.outcome.Outcome.{Outcome}
+use Rattle.papaya_grows.specs.Given.Schedules.declared.outcome.Outcome.TheVariants as outcome
+use Rattle.papaya_grows.specs.Given.Schedules.declared.call.Call.{Call as Calling}
+use Rattle.papaya_grows.specs.Given.Schedules.declared.call.Call.TheVariants.{On}
+use Rattle.papaya_grows.specs.Given.Schedules.After.{moment}
+use Rattle.papaya_grows.specs.Given.Schedules.Beginning.{at_work, begun, with_call}
+use Rattle.papaya_grows.specs.Given.Schedules.Effects.{AtEachEffect, at_stage, new_pair, stored_by, tables_by, with_effect, with_effects}
+use Rattle.papaya_grows.specs.Given.Schedules.Entry.{Entry, ByCall, acted_on, acting, caller_of, is_busy, nameless}
+use Rattle.papaya_grows.specs.Given.Schedules.Growing.{only_looks}
+use Rattle.papaya_grows.specs.Given.Schedules.Handing.{gives_all, moments_of}
+use Rattle.papaya_grows.specs.Given.Schedules.Lists.{is_in}
+use Rattle.papaya_grows.specs.Given.Schedules.Lives.{CallFinds, Finds}
+use Rattle.papaya_grows.specs.Given.Schedules.Model.{came, things_in}
+use Rattle.papaya_grows.specs.Given.Schedules.Moment.{UnderWay as CallThere, Moment, Stage, TableThere, IsLinked, IsRetired, IsReclaimed, IsTaken}
+use Rattle.papaya_grows.specs.Given.Schedules.Sequential.{Meaning, Answers, Puts, key_of, means, value_put}
+use Rattle.papaya_grows.specs.Given.Schedules.Terms.{Terms}
+use Rattle.papaya_grows.specs.Given.Schedules.Things.{same_table, same_thing}
+use Rattle.papaya_grows.specs.Given.Schedules.Views.{number_of, reply_to}
+use Rattle.papaya_grows.specs.Given.Effects.Effects.{batched, carried, effects_of, followed_by, in_block, in_table, is_place, led_to, made_by, named, names_same, placed, spot_at, taken_by}
+use Rattle.papaya_grows.specs.Given.Effects.Known.{Known}
+use Rattle.papaya_grows.specs.Given.Effects.declared.acting.Acting.{Acting}
+use Rattle.papaya_grows.specs.Given.Effects.declared.acting.Acting.TheVariants.{Call}
+use Rattle.papaya_grows.specs.Given.Effects.declared.role.Role.{Role}
+use Rattle.papaya_grows.specs.Given.Effects.declared.role.Role.TheVariants as role
+use Rattle.papaya_grows.proofs.Given.Spots.Unreclaimed.{or_right, same_itself}
+use Rattle.papaya_grows.proofs.Given.Finds.Lists.{all_so}
+use Rattle.papaya_grows.proofs.Given.Finds.Somewhere.{is_storing, none_stored}
 use Rattle.papaya_models.proofs.Numbers.{still_in}
 use Rattle.papaya_legal.specs.Noted.{HaveCome, CallsBringThings, EventsBeginWithThings, EventsBringThings, NothingHasCome}
 

@@ -3,36 +3,36 @@ use Rattle.std.specs.Prelude.{◌≡◌, ℕ, Bool, true, false, not, ◌&&◌, 
 use Rattle.std.specs.List.{AllByRecursion, list_all, list_any}
 use Rattle.std.proofs.Common.{refl, ap, sym, subst, ◌∙◌}
 use Rattle.std.proofs.lemmas.List.Folds.{list_all-append}
-use Rattle.papaya_histories.specs.Given.Seize.Law.{is_retired as was_retired}
-use Rattle.papaya_histories.specs.Given.Seize.World.{Rests}
-use Rattle.papaya_histories.specs.Given.Schedules.declared.effect.Effect.{Effect}
-use Rattle.papaya_histories.specs.Given.Schedules.declared.effect.Effect.TheVariants.{Asked, Reclaimed}
-use Rattle.papaya_histories.specs.Given.Schedules.declared.effect.Growth.TheVariants.{ABlock, ABucket}
-use Rattle.papaya_histories.specs.Given.Schedules.declared.effect.Table.{Table}
-use Rattle.papaya_histories.specs.Given.Schedules.declared.effect.Thing.TheVariants.{APair, ATable}
-use Rattle.papaya_histories.specs.Given.Schedules.After.{moment}
-use Rattle.papaya_histories.specs.Given.Schedules.Effects.{with_effect, AtEachEffect}
-use Rattle.papaya_histories.specs.Given.Schedules.Handing.{asks_for_bucket, is_reclaiming}
-use Rattle.papaya_histories.specs.Given.Schedules.Lives.{Finds, MayReclaim}
-use Rattle.papaya_histories.specs.Given.Schedules.Moment.{Place, Handed, TableThere, Moment}
-use Rattle.papaya_histories.specs.Given.Schedules.Reclaims.{is_handed}
-use Rattle.papaya_histories.specs.Given.Schedules.Terms.{Terms}
-use Rattle.papaya_histories.specs.Given.Schedules.Things.{same_table}
-use Rattle.papaya_histories.specs.Given.Schedules.Views.{is_stage, is_retired}
-use Rattle.papaya_histories.specs.Given.Effects.Effects.{effects_of}
-use Rattle.papaya_histories.specs.Given.Effects.Known.{Known}
-use Rattle.papaya_histories.specs.Given.Effects.declared.acting.Acting.TheVariants as acts
-use Rattle.papaya_histories.specs.Given.Executor.IsAt.{Scene, IsAt}
-use Rattle.papaya_histories.specs.Given.Executor.declared.executor.Executor.{Executor}
-use Rattle.papaya_histories.specs.Given.Moments.OnSlots.{HadRetired}
-use Rattle.papaya_histories.proofs.Given.Moments.After.{each_parts}
-use Rattle.papaya_histories.proofs.Given.Spots.Unreclaimed.{and_both, or_right, same_itself}
-use Rattle.papaya_finds.specs.Bounded.{HasRetiredTable}
-use Rattle.papaya_finds.specs.Orderly.{NothingIsRetired, is_left_over}
-use Rattle.papaya_kept.specs.Kept.{ShowsKept}
-use Rattle.papaya_lives.specs.Handed.{HadHanded}
-use Rattle.papaya_lives.proofs.HandedRows.{handed_at_rest, rows_find_handed}
-use Rattle.papaya_lives.proofs.Reclaimed.{rows_find_retired}
+use Rattle.papaya_grows.specs.Given.Seize.Law.{is_retired as was_retired}
+use Rattle.papaya_grows.specs.Given.Seize.World.{Rests}
+use Rattle.papaya_grows.specs.Given.Schedules.declared.effect.Effect.{Effect}
+use Rattle.papaya_grows.specs.Given.Schedules.declared.effect.Effect.TheVariants.{Asked, Reclaimed}
+use Rattle.papaya_grows.specs.Given.Schedules.declared.effect.Growth.TheVariants.{ABlock, ABucket}
+use Rattle.papaya_grows.specs.Given.Schedules.declared.effect.Table.{Table}
+use Rattle.papaya_grows.specs.Given.Schedules.declared.effect.Thing.TheVariants.{APair, ATable}
+use Rattle.papaya_grows.specs.Given.Schedules.After.{moment}
+use Rattle.papaya_grows.specs.Given.Schedules.Effects.{with_effect, AtEachEffect}
+use Rattle.papaya_grows.specs.Given.Schedules.Handing.{asks_for_bucket, is_reclaiming}
+use Rattle.papaya_grows.specs.Given.Schedules.Lives.{Finds, MayReclaim}
+use Rattle.papaya_grows.specs.Given.Schedules.Moment.{Place, Handed, TableThere, Moment}
+use Rattle.papaya_grows.specs.Given.Schedules.Reclaims.{is_handed}
+use Rattle.papaya_grows.specs.Given.Schedules.Terms.{Terms}
+use Rattle.papaya_grows.specs.Given.Schedules.Things.{same_table}
+use Rattle.papaya_grows.specs.Given.Schedules.Views.{is_stage, is_retired}
+use Rattle.papaya_grows.specs.Given.Effects.Effects.{effects_of}
+use Rattle.papaya_grows.specs.Given.Effects.Known.{Known}
+use Rattle.papaya_grows.specs.Given.Effects.declared.acting.Acting.TheVariants as acts
+use Rattle.papaya_grows.specs.Given.Executor.IsAt.{Scene, IsAt}
+use Rattle.papaya_grows.specs.Given.Executor.declared.executor.Executor.{Executor}
+use Rattle.papaya_grows.specs.Given.Moments.OnSlots.{HadRetired}
+use Rattle.papaya_grows.proofs.Given.Moments.After.{each_parts}
+use Rattle.papaya_grows.proofs.Given.Spots.Unreclaimed.{and_both, or_right, same_itself}
+use Rattle.papaya_grows.specs.Given.Finds.Bounded.{HasRetiredTable}
+use Rattle.papaya_grows.specs.Given.Finds.Orderly.{NothingIsRetired, is_left_over}
+use Rattle.papaya_grows.specs.Given.Kept.Kept.{ShowsKept}
+use Rattle.papaya_grows.specs.Given.Lives.Handed.{HadHanded}
+use Rattle.papaya_grows.proofs.Given.Lives.HandedRows.{handed_at_rest, rows_find_handed}
+use Rattle.papaya_grows.proofs.Given.Lives.Reclaimed.{rows_find_retired}
 use Rattle.papaya_legal.specs.Chains.{Come, RowSteps}
 use Rattle.papaya_legal.specs.Found.{AsksInNeed, RestShowsRetired, RowChainsFind, RowsFindTheirs}
 use Rattle.papaya_legal.specs.SlotEvents.{InSlotEvent}

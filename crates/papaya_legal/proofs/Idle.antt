@@ -2,23 +2,23 @@
 use Rattle.std.specs.Prelude.{◌≡◌, Bool, true, false, not, ◌||◌, List, []}
 use Rattle.std.specs.List.{list_all, list_any}
 use Rattle.std.proofs.Common.{refl, sym, subst}
-use Rattle.papaya_histories.specs.Given.Seize.World.{World}
-use Rattle.papaya_histories.specs.Given.Tables.declared.node.Node.{Node}
-use Rattle.papaya_histories.specs.Given.Schedules.declared.effect.Effect.{Effect}
-use Rattle.papaya_histories.specs.Given.Schedules.After.{after, moment}
-use Rattle.papaya_histories.specs.Given.Schedules.Beginning.{at_work}
-use Rattle.papaya_histories.specs.Given.Schedules.Effects.{AtEachEffect, worked}
-use Rattle.papaya_histories.specs.Given.Schedules.Entry.{Entry, IfCall, acted_on, acting, caller_of}
-use Rattle.papaya_histories.specs.Given.Schedules.Handing.{IsWhole, LeavesOf, comes_clear, gives_all, is_granted, is_made, may_do, moments_of, refuses as refuses_growth}
-use Rattle.papaya_histories.specs.Given.Schedules.Linearizable.{IsLinearizable}
-use Rattle.papaya_histories.specs.Given.Schedules.Lives.{Finds}
-use Rattle.papaya_histories.specs.Given.Schedules.Model.{changes_of, left_last}
-use Rattle.papaya_histories.specs.Given.Schedules.Reclaims.{IsProtected}
-use Rattle.papaya_histories.specs.Given.Schedules.Steps.{ReadsBriefly}
-use Rattle.papaya_histories.specs.Given.Schedules.Sweeps.{IsSwept}
-use Rattle.papaya_histories.specs.Given.Schedules.Terms.{Terms}
-use Rattle.papaya_histories.specs.Given.Effects.Known.{Known}
-use Rattle.papaya_histories.proofs.NoKey.Idle.{idle_are_linearizable}
+use Rattle.papaya_grows.specs.Given.Seize.World.{World}
+use Rattle.papaya_grows.specs.Given.Tables.declared.node.Node.{Node}
+use Rattle.papaya_grows.specs.Given.Schedules.declared.effect.Effect.{Effect}
+use Rattle.papaya_grows.specs.Given.Schedules.After.{after, moment}
+use Rattle.papaya_grows.specs.Given.Schedules.Beginning.{at_work}
+use Rattle.papaya_grows.specs.Given.Schedules.Effects.{AtEachEffect, worked}
+use Rattle.papaya_grows.specs.Given.Schedules.Entry.{Entry, IfCall, acted_on, acting, caller_of}
+use Rattle.papaya_grows.specs.Given.Schedules.Handing.{IsWhole, LeavesOf, comes_clear, gives_all, is_granted, is_made, may_do, moments_of, refuses as refuses_growth}
+use Rattle.papaya_grows.specs.Given.Schedules.Linearizable.{IsLinearizable}
+use Rattle.papaya_grows.specs.Given.Schedules.Lives.{Finds}
+use Rattle.papaya_grows.specs.Given.Schedules.Model.{changes_of, left_last}
+use Rattle.papaya_grows.specs.Given.Schedules.Reclaims.{IsProtected}
+use Rattle.papaya_grows.specs.Given.Schedules.Steps.{ReadsBriefly}
+use Rattle.papaya_grows.specs.Given.Schedules.Sweeps.{IsSwept}
+use Rattle.papaya_grows.specs.Given.Schedules.Terms.{Terms}
+use Rattle.papaya_grows.specs.Given.Effects.Known.{Known}
+use Rattle.papaya_grows.proofs.Given.Histories.NoKey.Idle.{idle_are_linearizable}
 use Rattle.papaya_models.proofs.Follows.{idle_events_follow}
 use Rattle.papaya_promises.specs.Guards.{EntersInside}
 use Rattle.papaya_promises.specs.Sheltered.{SectionsHold}

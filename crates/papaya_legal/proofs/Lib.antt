@@ -38,3 +38,4 @@ pub mod Found
 pub mod Come
 pub mod Noted
 pub mod Heads
+pub mod Given

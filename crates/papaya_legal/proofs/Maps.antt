@@ -2,46 +2,46 @@
 use Rattle.std.specs.Prelude.{◌≡◌, ◌<◌, ℕ, Bool, List, ◌++◌, Option, Some, None}
 use Rattle.std.proofs.Common.{refl, ap, sym, subst, ◌∙◌, inl, inr}
 use Rattle.std.proofs.lemmas.Bool.{cases_eq}
-use Rattle.papaya_histories.specs.Given.Seize.World.{World}
-use Rattle.papaya_histories.specs.Given.Seize.declared.progress.Progress.{Progress as Making}
-use Rattle.papaya_histories.specs.Given.Seize.declared.progress.Progress.TheVariants as progress
-use Rattle.papaya_histories.specs.Given.Seize.declared.rows.settle.Settled.{Settled}
-use Rattle.papaya_histories.specs.Given.Seize.declared.rows.settle.Settled.TheVariants as settled
-use Rattle.papaya_histories.specs.Given.Tables.declared.node.Node.{Node}
-use Rattle.papaya_histories.specs.Given.Tables.declared.setting.Setting.{Setting}
-use Rattle.papaya_histories.specs.Given.Schedules.declared.effect.Effect.{Effect}
-use Rattle.papaya_histories.specs.Given.Schedules.Effects.{with_effects}
-use Rattle.papaya_histories.specs.Given.Schedules.Model.{sets_in, things_in}
-use Rattle.papaya_histories.specs.Given.Schedules.Moment.{Moment}
-use Rattle.papaya_histories.specs.Given.Teller.declared.changed.Changed.{Changed}
-use Rattle.papaya_histories.specs.Given.Callers.Together.{UnderWay}
-use Rattle.papaya_histories.proofs.Given.Callers.Together.At.{at_other}
-use Rattle.papaya_histories.specs.Given.Effects.Effects.{effects_of, known_after, map_of}
-use Rattle.papaya_histories.specs.Given.Effects.Known.{Known}
-use Rattle.papaya_histories.specs.Given.Effects.declared.acting.Acting.{Acting}
-use Rattle.papaya_histories.specs.Given.Effects.declared.acting.Acting.TheVariants as acts
-use Rattle.papaya_histories.specs.Given.Executor.Ending.{EndingLeads}
-use Rattle.papaya_histories.specs.Given.Executor.IsAt.{Scene, IsAt}
-use Rattle.papaya_histories.specs.Given.Executor.Making.{MakingLeads}
-use Rattle.papaya_histories.specs.Given.Executor.declared.executor.Executor.{Executor}
-use Rattle.papaya_histories.specs.Given.Finishes.Endings.{Finishing}
-use Rattle.papaya_histories.specs.Given.Finishes.Makings.{Beginning}
-use Rattle.papaya_histories.specs.Given.Finishes.Maps.{Standing}
-use Rattle.papaya_histories.specs.Given.Others.Endings.{ending_after}
-use Rattle.papaya_histories.specs.Given.Others.Makings.{making_after}
-use Rattle.papaya_histories.specs.Given.Moments.Whole.{ShowsWhole}
-use Rattle.papaya_histories.specs.Given.Moments.Numbers.{NumbersMaps, PairsAreBelow}
-use Rattle.papaya_histories.proofs.Given.Moments.After.{effects_after}
-use Rattle.papaya_histories.proofs.Given.Moments.NewMaps.{effects_keep_pairs}
-use Rattle.papaya_histories.proofs.Given.Moments.Numbers.{steps_keep_numbers}
-use Rattle.papaya_histories.proofs.Given.Moments.Ends.{endings_keep_whole}
-use Rattle.papaya_histories.proofs.Given.Moments.MakingSteps.{makings_go_beside, makings_keep_whole}
-use Rattle.papaya_kept.proofs.Others.{endings_find_kept, endings_keep_kept, makings_keep_kept}
-use Rattle.papaya_shards.proofs.ShardMakes.{makings_keep_counters}
-use Rattle.papaya_shards.proofs.ShardOthers.{endings_keep_counters}
-use Rattle.papaya_histories.proofs.Aside.Stays.{as_called_stays, dues_stay}
-use Rattle.papaya_histories.proofs.Questions.{effects_keep_questions}
-use Rattle.papaya_purposes.proofs.Elsewhere.{purposes_stay}
+use Rattle.papaya_grows.specs.Given.Seize.World.{World}
+use Rattle.papaya_grows.specs.Given.Seize.declared.progress.Progress.{Progress as Making}
+use Rattle.papaya_grows.specs.Given.Seize.declared.progress.Progress.TheVariants as progress
+use Rattle.papaya_grows.specs.Given.Seize.declared.rows.settle.Settled.{Settled}
+use Rattle.papaya_grows.specs.Given.Seize.declared.rows.settle.Settled.TheVariants as settled
+use Rattle.papaya_grows.specs.Given.Tables.declared.node.Node.{Node}
+use Rattle.papaya_grows.specs.Given.Tables.declared.setting.Setting.{Setting}
+use Rattle.papaya_grows.specs.Given.Schedules.declared.effect.Effect.{Effect}
+use Rattle.papaya_grows.specs.Given.Schedules.Effects.{with_effects}
+use Rattle.papaya_grows.specs.Given.Schedules.Model.{sets_in, things_in}
+use Rattle.papaya_grows.specs.Given.Schedules.Moment.{Moment}
+use Rattle.papaya_grows.specs.Given.Teller.declared.changed.Changed.{Changed}
+use Rattle.papaya_grows.specs.Given.Callers.Together.{UnderWay}
+use Rattle.papaya_grows.proofs.Given.Callers.Together.At.{at_other}
+use Rattle.papaya_grows.specs.Given.Effects.Effects.{effects_of, known_after, map_of}
+use Rattle.papaya_grows.specs.Given.Effects.Known.{Known}
+use Rattle.papaya_grows.specs.Given.Effects.declared.acting.Acting.{Acting}
+use Rattle.papaya_grows.specs.Given.Effects.declared.acting.Acting.TheVariants as acts
+use Rattle.papaya_grows.specs.Given.Executor.Ending.{EndingLeads}
+use Rattle.papaya_grows.specs.Given.Executor.IsAt.{Scene, IsAt}
+use Rattle.papaya_grows.specs.Given.Executor.Making.{MakingLeads}
+use Rattle.papaya_grows.specs.Given.Executor.declared.executor.Executor.{Executor}
+use Rattle.papaya_grows.specs.Given.Finishes.Endings.{Finishing}
+use Rattle.papaya_grows.specs.Given.Finishes.Makings.{Beginning}
+use Rattle.papaya_grows.specs.Given.Finishes.Maps.{Standing}
+use Rattle.papaya_grows.specs.Given.Others.Endings.{ending_after}
+use Rattle.papaya_grows.specs.Given.Others.Makings.{making_after}
+use Rattle.papaya_grows.specs.Given.Moments.Whole.{ShowsWhole}
+use Rattle.papaya_grows.specs.Given.Moments.Numbers.{NumbersMaps, PairsAreBelow}
+use Rattle.papaya_grows.proofs.Given.Moments.After.{effects_after}
+use Rattle.papaya_grows.proofs.Given.Moments.NewMaps.{effects_keep_pairs}
+use Rattle.papaya_grows.proofs.Given.Moments.Numbers.{steps_keep_numbers}
+use Rattle.papaya_grows.proofs.Given.Moments.Ends.{endings_keep_whole}
+use Rattle.papaya_grows.proofs.Given.Moments.MakingSteps.{makings_go_beside, makings_keep_whole}
+use Rattle.papaya_grows.proofs.Given.Kept.Others.{endings_find_kept, endings_keep_kept, makings_keep_kept}
+use Rattle.papaya_grows.proofs.Given.Shards.ShardMakes.{makings_keep_counters}
+use Rattle.papaya_grows.proofs.Given.Shards.ShardOthers.{endings_keep_counters}
+use Rattle.papaya_grows.proofs.Given.Histories.Aside.Stays.{as_called_stays, dues_stay}
+use Rattle.papaya_grows.proofs.Given.Histories.Questions.{effects_keep_questions}
+use Rattle.papaya_grows.proofs.Given.Purposes.Elsewhere.{purposes_stay}
 use Rattle.papaya_promises.specs.Protected.{InMidst}
 use Rattle.papaya_promises.specs.Reading.{HasStood}
 use Rattle.papaya_promises.proofs.Brief.Meanwhile.{other_work_keeps_readings}
@@ -53,9 +53,9 @@ use Rattle.papaya_models.specs.MapEvents.{FollowsInMaking}
 use Rattle.papaya_models.proofs.Ends.{ends_go_on}
 use Rattle.papaya_models.proofs.MapEvents.{making_events_go_on}
 use Rattle.papaya_legal.specs.MapEvents.{EndEventsGoOn, FindsItsMap, HasNotMade, MakingEventsGoOn}
-use Rattle.papaya_shards.proofs.ShardKept.{none_shards}
+use Rattle.papaya_grows.proofs.Given.Shards.ShardKept.{none_shards}
 use Rattle.papaya_grows.proofs.Limits.Shows.{endings_keep_limits, makings_keep_limits}
-use Rattle.papaya_histories.proofs.Given.Spots.Effects.{AllAside}
+use Rattle.papaya_grows.proofs.Given.Spots.Effects.{AllAside}
 use Rattle.papaya_legal.proofs.Sourced.{making_none, making_sources, so_aside}
 use Rattle.papaya_grows.specs.Finding.{ShowsFinding}
 use Rattle.papaya_grows.proofs.Finding.Alike.{stood_as}
@@ -64,8 +64,8 @@ use Rattle.papaya_grows.proofs.Finding.Beside.{finding_beside}
 use Rattle.papaya_grows.proofs.Finding.Making.Lengths.{effects_keep_lengths}
 use Rattle.papaya_grows.proofs.Finding.NextsOthers.{endings_keep_nexts, makings_keep_nexts}
 use Rattle.papaya_grows.proofs.Finding.Others.{endings_keep_finding, makings_keep_finding}
-use Rattle.papaya_finds.proofs.Capacities.{capacities_stay, effects_keep_capacities}
-use Rattle.papaya_finds.proofs.Grows.Steps.{tables_have_been}
+use Rattle.papaya_grows.proofs.Given.Finds.Capacities.{capacities_stay, effects_keep_capacities}
+use Rattle.papaya_grows.proofs.Given.Finds.Grows.Steps.{tables_have_been}
 use Rattle.papaya_legal.proofs.Growths.{growths_leave}
 use Rattle.papaya_legal.proofs.Uncounted.{none_counted}
 

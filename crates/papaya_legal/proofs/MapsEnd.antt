@@ -2,28 +2,28 @@
 use Rattle.std.specs.Prelude.{◌≡◌, ℕ, ◌+◌, Bool, true, false, not, ◌||◌, List, [], ◌∷◌, ◌++◌, flat_map, Option, Some, None}
 use Rattle.std.specs.List.{list_all, list_any}
 use Rattle.std.proofs.Common.{refl, ap, sym, subst, ◌∙◌}
-use Rattle.papaya_histories.specs.Given.Schedules.declared.effect.Effect.{Effect}
-use Rattle.papaya_histories.specs.Given.Schedules.declared.effect.Effect.TheVariants.{Asked, TableMade, Linked, Ended, Taken}
-use Rattle.papaya_histories.specs.Given.Schedules.declared.effect.Growth.TheVariants.{ABlock}
-use Rattle.papaya_histories.specs.Given.Schedules.declared.event.Event.{Event}
-use Rattle.papaya_histories.specs.Given.Schedules.declared.event.Event.TheVariants.{MakeMap, EndMap, Step, Go, ReclaimAll, Close}
-use Rattle.papaya_histories.specs.Given.Schedules.After.{after, moment, moments_from}
-use Rattle.papaya_histories.specs.Given.Schedules.Beginning.{at_work}
-use Rattle.papaya_histories.specs.Given.Schedules.Effects.{AtEachEffect, worked}
-use Rattle.papaya_histories.specs.Given.Schedules.Entry.{IfCall, acted_on, acting, caller_of}
-use Rattle.papaya_histories.specs.Given.Schedules.Handing.{AllFind, LeavesOf, comes_clear, gives_all, is_ending, is_first_making, is_made, may_do, moments_of, refuses}
-use Rattle.papaya_histories.specs.Given.Schedules.Linearizable.{shift_of}
-use Rattle.papaya_histories.specs.Given.Schedules.Lives.{Finds}
-use Rattle.papaya_histories.specs.Given.Schedules.Moment.{UnderWay as CallThere, Moment}
-use Rattle.papaya_histories.specs.Given.Schedules.Reclaims.{IsProtected}
-use Rattle.papaya_histories.specs.Given.Schedules.Sequential.{Shift}
-use Rattle.papaya_histories.specs.Given.Schedules.Steps.{IsBrief}
-use Rattle.papaya_histories.proofs.OtherCalls.{no_calls_are_linearizable}
+use Rattle.papaya_grows.specs.Given.Schedules.declared.effect.Effect.{Effect}
+use Rattle.papaya_grows.specs.Given.Schedules.declared.effect.Effect.TheVariants.{Asked, TableMade, Linked, Ended, Taken}
+use Rattle.papaya_grows.specs.Given.Schedules.declared.effect.Growth.TheVariants.{ABlock}
+use Rattle.papaya_grows.specs.Given.Schedules.declared.event.Event.{Event}
+use Rattle.papaya_grows.specs.Given.Schedules.declared.event.Event.TheVariants.{MakeMap, EndMap, Step, Go, ReclaimAll, Close}
+use Rattle.papaya_grows.specs.Given.Schedules.After.{after, moment, moments_from}
+use Rattle.papaya_grows.specs.Given.Schedules.Beginning.{at_work}
+use Rattle.papaya_grows.specs.Given.Schedules.Effects.{AtEachEffect, worked}
+use Rattle.papaya_grows.specs.Given.Schedules.Entry.{IfCall, acted_on, acting, caller_of}
+use Rattle.papaya_grows.specs.Given.Schedules.Handing.{AllFind, LeavesOf, comes_clear, gives_all, is_ending, is_first_making, is_made, may_do, moments_of, refuses}
+use Rattle.papaya_grows.specs.Given.Schedules.Linearizable.{shift_of}
+use Rattle.papaya_grows.specs.Given.Schedules.Lives.{Finds}
+use Rattle.papaya_grows.specs.Given.Schedules.Moment.{UnderWay as CallThere, Moment}
+use Rattle.papaya_grows.specs.Given.Schedules.Reclaims.{IsProtected}
+use Rattle.papaya_grows.specs.Given.Schedules.Sequential.{Shift}
+use Rattle.papaya_grows.specs.Given.Schedules.Steps.{IsBrief}
+use Rattle.papaya_grows.proofs.Given.Histories.OtherCalls.{no_calls_are_linearizable}
 use Rattle.papaya_promises.specs.Protected.{is_of_slots}
 use Rattle.papaya_promises.specs.Sheltered.{SectionsHold}
 use Rattle.papaya_promises.proofs.Protected.{other_events_end_protected}
-use Rattle.papaya_purposes.proofs.Nothing.{no_calls_are_swept}
-use Rattle.papaya_histories.proofs.Given.Spots.Unreclaimed.{and_both}
+use Rattle.papaya_grows.proofs.Given.Purposes.Nothing.{no_calls_are_swept}
+use Rattle.papaya_grows.proofs.Given.Spots.Unreclaimed.{and_both}
 use Rattle.papaya_legal.specs.MapEvents.{MapEventsAreLegal}
 
 -- Its effects bring no pair and take none out that is not ended.

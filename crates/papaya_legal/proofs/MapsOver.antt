@@ -3,23 +3,23 @@ use Rattle.std.specs.Prelude.{◌≡◌, ℕ, Bool, true, List, [], ◌∷◌, f
 use Rattle.std.specs.List.{list_all}
 use Rattle.std.proofs.Common.{refl, ap, sym, subst, ◌∙◌, inl, inr}
 use Rattle.std.proofs.lemmas.Bool.{cases_eq}
-use Rattle.papaya_histories.specs.Given.Schedules.declared.effect.Effect.{Effect}
-use Rattle.papaya_histories.specs.Given.Schedules.declared.effect.Effect.TheVariants.{Asked, TableMade, Linked, Ended, Taken}
-use Rattle.papaya_histories.specs.Given.Schedules.declared.effect.Growth.TheVariants.{ABlock}
-use Rattle.papaya_histories.specs.Given.Schedules.declared.event.Event.TheVariants.{MakeMap, EndMap}
-use Rattle.papaya_histories.specs.Given.Schedules.declared.outcome.Outcome.TheVariants.{Done}
-use Rattle.papaya_histories.specs.Given.Schedules.After.{moment, remains_on}
-use Rattle.papaya_histories.specs.Given.Schedules.Beginning.{at_work, with_map}
-use Rattle.papaya_histories.specs.Given.Schedules.Effects.{with_effect, with_effects, AtEachEffect, worked}
-use Rattle.papaya_histories.specs.Given.Schedules.Entry.{Entry, acted_on}
-use Rattle.papaya_histories.specs.Given.Schedules.Handing.{is_ending, is_first_making, may_do}
-use Rattle.papaya_histories.specs.Given.Schedules.Model.{changes_of, handing, left_last, sets_in, things_in}
-use Rattle.papaya_histories.specs.Given.Schedules.Moment.{Moment}
-use Rattle.papaya_histories.proofs.Given.Callers.Together.At.{at_other, at_same}
-use Rattle.papaya_histories.specs.Given.Executor.Ending.{ending_begun}
-use Rattle.papaya_histories.specs.Given.Finishes.Maps.{Standing}
-use Rattle.papaya_histories.specs.Given.Others.Endings.{without_map}
-use Rattle.papaya_histories.proofs.Given.Spots.Unreclaimed.{and_both}
+use Rattle.papaya_grows.specs.Given.Schedules.declared.effect.Effect.{Effect}
+use Rattle.papaya_grows.specs.Given.Schedules.declared.effect.Effect.TheVariants.{Asked, TableMade, Linked, Ended, Taken}
+use Rattle.papaya_grows.specs.Given.Schedules.declared.effect.Growth.TheVariants.{ABlock}
+use Rattle.papaya_grows.specs.Given.Schedules.declared.event.Event.TheVariants.{MakeMap, EndMap}
+use Rattle.papaya_grows.specs.Given.Schedules.declared.outcome.Outcome.TheVariants.{Done}
+use Rattle.papaya_grows.specs.Given.Schedules.After.{moment, remains_on}
+use Rattle.papaya_grows.specs.Given.Schedules.Beginning.{at_work, with_map}
+use Rattle.papaya_grows.specs.Given.Schedules.Effects.{with_effect, with_effects, AtEachEffect, worked}
+use Rattle.papaya_grows.specs.Given.Schedules.Entry.{Entry, acted_on}
+use Rattle.papaya_grows.specs.Given.Schedules.Handing.{is_ending, is_first_making, may_do}
+use Rattle.papaya_grows.specs.Given.Schedules.Model.{changes_of, handing, left_last, sets_in, things_in}
+use Rattle.papaya_grows.specs.Given.Schedules.Moment.{Moment}
+use Rattle.papaya_grows.proofs.Given.Callers.Together.At.{at_other, at_same}
+use Rattle.papaya_grows.specs.Given.Executor.Ending.{ending_begun}
+use Rattle.papaya_grows.specs.Given.Finishes.Maps.{Standing}
+use Rattle.papaya_grows.specs.Given.Others.Endings.{without_map}
+use Rattle.papaya_grows.proofs.Given.Spots.Unreclaimed.{and_both}
 use Rattle.papaya_promises.specs.Reading.{HasStood, ShowsReading}
 use Rattle.papaya_promises.specs.Sheltered.{SectionsHold}
 use Rattle.papaya_promises.proofs.Brief.Meanwhile.{other_work_keeps_readings}
@@ -28,17 +28,17 @@ use Rattle.papaya_models.specs.CallEvents.{slot_of_call}
 use Rattle.papaya_models.specs.Follows.{IsFollowed}
 use Rattle.papaya_models.proofs.CallEvents.{others_hand_over}
 use Rattle.papaya_models.proofs.Ends.{ends_begin as sets_begin}
-use Rattle.papaya_lives.proofs.LeftTables.{none_is_left_to}
+use Rattle.papaya_grows.proofs.Given.Lives.LeftTables.{none_is_left_to}
 use Rattle.papaya_models.proofs.MapEvents.{end_events_end as sets_end, making_events_begin as making_sets_begin, making_events_end as making_sets_end}
-use Rattle.papaya_shards.specs.ShardWords.{IsUncounted}
-use Rattle.papaya_finds.specs.Life.{StoresOne}
+use Rattle.papaya_grows.specs.Given.Shards.ShardWords.{IsUncounted}
+use Rattle.papaya_grows.specs.Given.Finds.Life.{StoresOne}
 use Rattle.papaya_legal.specs.Between.{IsLike}
 use Rattle.papaya_legal.specs.Carried.{ComesAlone, ShowsCalls}
 use Rattle.papaya_legal.specs.Over.{EndEventsBegin, EndEventsEnd, EndEventsFollow, MakingEventsBegin, MakingEventsEnd, MakingEventsFollow}
 use Rattle.papaya_legal.proofs.Between.{likes_show}
 use Rattle.papaya_legal.proofs.BetweenMaps.{ends_begin, makings_begin, maps_come, maps_gone}
 use Rattle.papaya_legal.proofs.CallFollows.{by_model_so, of_no_slot, was_alone}
-use Rattle.papaya_sources.specs.Stays.{NoneBorn}
+use Rattle.papaya_grows.specs.Given.Sources.Stays.{NoneBorn}
 use Rattle.papaya_legal.proofs.Sourced.{none_born}
 use Rattle.papaya_legal.proofs.Maps.{stands_so}
 use Rattle.papaya_legal.proofs.Over.{reading_like, runs_go_on}

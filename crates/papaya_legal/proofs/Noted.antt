@@ -2,78 +2,78 @@
 use Rattle.std.specs.Prelude.{◌≡◌, ◌⊎◌, ℕ, ◌==◌, zero, suc, ◌+◌, Bool, true, false, ◌&&◌, List, length, Option, Some, None, if◌then◌else◌}
 use Rattle.std.proofs.Common.{refl, ap, sym, subst, ◌∙◌, arith, inl, inr}
 use Rattle.std.proofs.lemmas.Bool.{and_parts, eq-eqb, ne_eqb}
-use Rattle.papaya_histories.specs.Given.SeizeWords.Mem.{value_at}
-use Rattle.papaya_histories.specs.Given.SeizeWords.Word.{link_to}
-use Rattle.papaya_histories.specs.Given.SeizeWords.declared.at.At.TheVariants.{Word}
-use Rattle.papaya_histories.specs.Given.Seize.Defer.{deferring}
-use Rattle.papaya_histories.specs.Given.Seize.Settle.{retiring}
-use Rattle.papaya_histories.specs.Given.Seize.World.{World, Row, Rests, Registers, Enters, Settles, Leaves, Defers, Frees, Hand, Making, Handed, Request, Register', Enter', Leave', LeaveOwned, Refresh, Unregister', Retire, Flush, Defer', Begin, Step, Begins, Steps', Happens, with_at}
-use Rattle.papaya_histories.specs.Given.Seize.declared.states.TheConstants.{LAST_SLOT}
-use Rattle.papaya_histories.proofs.Given.SeizeMoves.State.Ghost.{IsOwned, can_carry, lies_with}
-use Rattle.papaya_histories.proofs.Given.SeizeRule.Points.Aside.{HandFits}
-use Rattle.papaya_histories.proofs.Given.SeizeRule.Rows.Known.{FitsRow}
-use Rattle.papaya_histories.proofs.Given.SeizeRule.Rows.Teams.{shares}
-use Rattle.papaya_histories.proofs.Given.SeizeRule.Words.View.{view}
-use Rattle.papaya_histories.proofs.Given.SeizeAlone.Histories.Reached.{Reached, happens_reached}
-use Rattle.papaya_histories.specs.Given.Tables.Nodes.{deferred_word}
-use Rattle.papaya_histories.specs.Given.Tables.declared.table_words.TheConstants.{DEFERRED}
-use Rattle.papaya_histories.specs.Given.Tables.declared.node.Node.{Node}
-use Rattle.papaya_histories.specs.Given.Tables.declared.node.Node.TheVariants as node
-use Rattle.papaya_histories.specs.Given.Resize.declared.copier.Copier.{Copier}
-use Rattle.papaya_histories.specs.Given.Resize.declared.copier.Copying.{Copying}
-use Rattle.papaya_histories.specs.Given.Resize.declared.copier.Copying.TheVariants as copying
-use Rattle.papaya_histories.specs.Given.Resize.declared.dispose.Dispose.{Dispose}
-use Rattle.papaya_histories.specs.Given.Resize.declared.dispose.Disposing.{Disposing}
-use Rattle.papaya_histories.specs.Given.Resize.declared.dispose.Disposing.TheVariants as disposing
-use Rattle.papaya_histories.specs.Given.Reserves.declared.reserve.Reserving.{Reserving}
-use Rattle.papaya_histories.specs.Given.Reserves.declared.reserve.Reserving.TheVariants as reserving
-use Rattle.papaya_histories.specs.Given.Sweeps.declared.sweep.Sweeping.{Sweeping}
-use Rattle.papaya_histories.specs.Given.Sweeps.declared.sweep.Sweeping.TheVariants as sweeping
-use Rattle.papaya_histories.specs.Given.Raw.declared.machines.call.Calling.{Calling}
-use Rattle.papaya_histories.specs.Given.Raw.declared.machines.call.Calling.TheVariants as calling
-use Rattle.papaya_histories.specs.Given.Raw.declared.machines.machine.Machine.{Machine}
-use Rattle.papaya_histories.specs.Given.Raw.declared.machines.machine.Machine.TheVariants as kinds
-use Rattle.papaya_histories.specs.Given.Raw.declared.machines.progress.Progress.{Progress}
-use Rattle.papaya_histories.specs.Given.Runs.declared.outcome.TableShape.{TableShape}
-use Rattle.papaya_histories.specs.Given.Schedules.declared.effect.Table.{Table}
-use Rattle.papaya_histories.specs.Given.Schedules.declared.effect.Thing.{Thing}
-use Rattle.papaya_histories.specs.Given.Schedules.declared.effect.Thing.TheVariants.{APair, ATable}
-use Rattle.papaya_histories.specs.Given.Schedules.Lists.{is_in}
-use Rattle.papaya_histories.specs.Given.Schedules.Model.{number_in}
-use Rattle.papaya_histories.specs.Given.Schedules.Moment.{Moment, TableThere}
-use Rattle.papaya_histories.specs.Given.Schedules.Things.{same_table, same_thing}
-use Rattle.papaya_histories.specs.Given.Schedules.Views.{is_there}
-use Rattle.papaya_histories.specs.Given.Callers.Rows.{IsRowOn}
-use Rattle.papaya_histories.specs.Given.Callers.Sights.{seen_by}
-use Rattle.papaya_histories.specs.Given.Callers.Together.{UnderWay, CameAbout, HandsOver}
-use Rattle.papaya_histories.proofs.Given.Callers.Together.Came.{came_reached}
-use Rattle.papaya_histories.proofs.Given.Callers.Together.Slots.{step_leaves}
-use Rattle.papaya_histories.specs.Given.Effects.Known.{Known}
-use Rattle.papaya_histories.specs.Given.Effects.declared.role.Role.{Role}
-use Rattle.papaya_histories.specs.Given.Effects.declared.role.Role.TheVariants as role
-use Rattle.papaya_histories.specs.Given.Executor.IsAt.{Scene, IsAt, slot_of}
-use Rattle.papaya_histories.specs.Given.Executor.Stepping.{StepLeads}
-use Rattle.papaya_histories.specs.Given.Executor.declared.executor.Executor.{Executor}
-use Rattle.papaya_histories.specs.Given.Finishes.Maps.{Standing}
-use Rattle.papaya_histories.specs.Given.Follows.Blocks.{HasRole}
-use Rattle.papaya_histories.proofs.Given.Follows.Contents.{pair_within}
-use Rattle.papaya_histories.proofs.Given.Spots.Unreclaimed.{table_is}
-use Rattle.papaya_histories.specs.Given.Moments.Whole.{ShowsWhole}
-use Rattle.papaya_settles.specs.Due.{Due, ToRetire, ToPut, OwnAreMade, due_in_calling, due_in_copying, due_in_disposing, due_in_reserving, due_in_row, due_in_settle, due_in_sweeping, word_due}
-use Rattle.papaya_settles.specs.Hand.{HoldsAt, IsPairAt, IsPairRole, IsTableAt, IsTableRole, NotesInHand, NotesOfCall, NotesOfRoom, NotesOfSweep, NotesTables}
-use Rattle.papaya_settles.specs.InHand.{pair_in_disposing}
-use Rattle.papaya_settles.proofs.Hand.All.{calls_go_in_hand}
-use Rattle.papaya_lives.specs.Handed.{IsMeant, IsToHand}
-use Rattle.papaya_lives.specs.Retired.{IsToRetire}
-use Rattle.papaya_lives.proofs.HandedMeant.{begun_put, meant_of, retire_meant}
-use Rattle.papaya_lives.proofs.RetiredCalls.{goes_on, its_call}
-use Rattle.papaya_lives.proofs.Retires.{begun_due}
-use Rattle.papaya_lives.proofs.Rows.{new_way}
-use Rattle.papaya_kept.specs.Kept.{ShowsKept}
-use Rattle.papaya_kept.proofs.Calls.{own_made}
+use Rattle.papaya_grows.specs.Given.SeizeWords.Mem.{value_at}
+use Rattle.papaya_grows.specs.Given.SeizeWords.Word.{link_to}
+use Rattle.papaya_grows.specs.Given.SeizeWords.declared.at.At.TheVariants.{Word}
+use Rattle.papaya_grows.specs.Given.Seize.Defer.{deferring}
+use Rattle.papaya_grows.specs.Given.Seize.Settle.{retiring}
+use Rattle.papaya_grows.specs.Given.Seize.World.{World, Row, Rests, Registers, Enters, Settles, Leaves, Defers, Frees, Hand, Making, Handed, Request, Register', Enter', Leave', LeaveOwned, Refresh, Unregister', Retire, Flush, Defer', Begin, Step, Begins, Steps', Happens, with_at}
+use Rattle.papaya_grows.specs.Given.Seize.declared.states.TheConstants.{LAST_SLOT}
+use Rattle.papaya_grows.proofs.Given.SeizeMoves.State.Ghost.{IsOwned, can_carry, lies_with}
+use Rattle.papaya_grows.proofs.Given.SeizeRule.Points.Aside.{HandFits}
+use Rattle.papaya_grows.proofs.Given.SeizeRule.Rows.Known.{FitsRow}
+use Rattle.papaya_grows.proofs.Given.SeizeRule.Rows.Teams.{shares}
+use Rattle.papaya_grows.proofs.Given.SeizeRule.Words.View.{view}
+use Rattle.papaya_grows.proofs.Given.SeizeAlone.Histories.Reached.{Reached, happens_reached}
+use Rattle.papaya_grows.specs.Given.Tables.Nodes.{deferred_word}
+use Rattle.papaya_grows.specs.Given.Tables.declared.table_words.TheConstants.{DEFERRED}
+use Rattle.papaya_grows.specs.Given.Tables.declared.node.Node.{Node}
+use Rattle.papaya_grows.specs.Given.Tables.declared.node.Node.TheVariants as node
+use Rattle.papaya_grows.specs.Given.Resize.declared.copier.Copier.{Copier}
+use Rattle.papaya_grows.specs.Given.Resize.declared.copier.Copying.{Copying}
+use Rattle.papaya_grows.specs.Given.Resize.declared.copier.Copying.TheVariants as copying
+use Rattle.papaya_grows.specs.Given.Resize.declared.dispose.Dispose.{Dispose}
+use Rattle.papaya_grows.specs.Given.Resize.declared.dispose.Disposing.{Disposing}
+use Rattle.papaya_grows.specs.Given.Resize.declared.dispose.Disposing.TheVariants as disposing
+use Rattle.papaya_grows.specs.Given.Reserves.declared.reserve.Reserving.{Reserving}
+use Rattle.papaya_grows.specs.Given.Reserves.declared.reserve.Reserving.TheVariants as reserving
+use Rattle.papaya_grows.specs.Given.Sweeps.declared.sweep.Sweeping.{Sweeping}
+use Rattle.papaya_grows.specs.Given.Sweeps.declared.sweep.Sweeping.TheVariants as sweeping
+use Rattle.papaya_grows.specs.Given.Raw.declared.machines.call.Calling.{Calling}
+use Rattle.papaya_grows.specs.Given.Raw.declared.machines.call.Calling.TheVariants as calling
+use Rattle.papaya_grows.specs.Given.Raw.declared.machines.machine.Machine.{Machine}
+use Rattle.papaya_grows.specs.Given.Raw.declared.machines.machine.Machine.TheVariants as kinds
+use Rattle.papaya_grows.specs.Given.Raw.declared.machines.progress.Progress.{Progress}
+use Rattle.papaya_grows.specs.Given.Runs.declared.outcome.TableShape.{TableShape}
+use Rattle.papaya_grows.specs.Given.Schedules.declared.effect.Table.{Table}
+use Rattle.papaya_grows.specs.Given.Schedules.declared.effect.Thing.{Thing}
+use Rattle.papaya_grows.specs.Given.Schedules.declared.effect.Thing.TheVariants.{APair, ATable}
+use Rattle.papaya_grows.specs.Given.Schedules.Lists.{is_in}
+use Rattle.papaya_grows.specs.Given.Schedules.Model.{number_in}
+use Rattle.papaya_grows.specs.Given.Schedules.Moment.{Moment, TableThere}
+use Rattle.papaya_grows.specs.Given.Schedules.Things.{same_table, same_thing}
+use Rattle.papaya_grows.specs.Given.Schedules.Views.{is_there}
+use Rattle.papaya_grows.specs.Given.Callers.Rows.{IsRowOn}
+use Rattle.papaya_grows.specs.Given.Callers.Sights.{seen_by}
+use Rattle.papaya_grows.specs.Given.Callers.Together.{UnderWay, CameAbout, HandsOver}
+use Rattle.papaya_grows.proofs.Given.Callers.Together.Came.{came_reached}
+use Rattle.papaya_grows.proofs.Given.Callers.Together.Slots.{step_leaves}
+use Rattle.papaya_grows.specs.Given.Effects.Known.{Known}
+use Rattle.papaya_grows.specs.Given.Effects.declared.role.Role.{Role}
+use Rattle.papaya_grows.specs.Given.Effects.declared.role.Role.TheVariants as role
+use Rattle.papaya_grows.specs.Given.Executor.IsAt.{Scene, IsAt, slot_of}
+use Rattle.papaya_grows.specs.Given.Executor.Stepping.{StepLeads}
+use Rattle.papaya_grows.specs.Given.Executor.declared.executor.Executor.{Executor}
+use Rattle.papaya_grows.specs.Given.Finishes.Maps.{Standing}
+use Rattle.papaya_grows.specs.Given.Follows.Blocks.{HasRole}
+use Rattle.papaya_grows.proofs.Given.Follows.Contents.{pair_within}
+use Rattle.papaya_grows.proofs.Given.Spots.Unreclaimed.{table_is}
+use Rattle.papaya_grows.specs.Given.Moments.Whole.{ShowsWhole}
+use Rattle.papaya_grows.specs.Given.Settles.Due.{Due, ToRetire, ToPut, OwnAreMade, due_in_calling, due_in_copying, due_in_disposing, due_in_reserving, due_in_row, due_in_settle, due_in_sweeping, word_due}
+use Rattle.papaya_grows.specs.Given.Settles.Hand.{HoldsAt, IsPairAt, IsPairRole, IsTableAt, IsTableRole, NotesInHand, NotesOfCall, NotesOfRoom, NotesOfSweep, NotesTables}
+use Rattle.papaya_grows.specs.Given.Settles.InHand.{pair_in_disposing}
+use Rattle.papaya_grows.proofs.Given.Settles.Hand.All.{calls_go_in_hand}
+use Rattle.papaya_grows.specs.Given.Lives.Handed.{IsMeant, IsToHand}
+use Rattle.papaya_grows.specs.Given.Lives.Retired.{IsToRetire}
+use Rattle.papaya_grows.proofs.Given.Lives.HandedMeant.{begun_put, meant_of, retire_meant}
+use Rattle.papaya_grows.proofs.Given.Lives.RetiredCalls.{goes_on, its_call}
+use Rattle.papaya_grows.proofs.Given.Lives.Retires.{begun_due}
+use Rattle.papaya_grows.proofs.Given.Lives.Rows.{new_way}
+use Rattle.papaya_grows.specs.Given.Kept.Kept.{ShowsKept}
+use Rattle.papaya_grows.proofs.Given.Kept.Calls.{own_made}
 use Rattle.papaya_models.specs.CallEvents.{IsNoted}
 use Rattle.papaya_models.specs.Numbers.{HasNumber}
-use Rattle.papaya_finds.proofs.Lists.{one_of_them}
+use Rattle.papaya_grows.proofs.Given.Finds.Lists.{one_of_them}
 use Rattle.papaya_legal.specs.Noted.{HaveCome, CallsHandNoted}
 
 -- What a call has in hand, and its row is to hand over, is noted.

@@ -1,39 +1,39 @@
 -- A run goes on with an event that comes to what is right: the moment after it shows all that the next one needs.
 use Rattle.std.specs.Prelude.{◌≡◌, ℕ, ◌+◌, Bool, true, false, List, [], ◌∷◌, map, Some, if◌then◌else◌, ◌⊎◌}
 use Rattle.std.proofs.Common.{refl, ap, sym, subst, ◌∙◌, arith}
-use Rattle.papaya_histories.specs.Given.SeizeWords.declared.fault.Fault.TheVariants.{Busy}
-use Rattle.papaya_histories.specs.Given.Seize.WaitingSets.{Sets}
-use Rattle.papaya_histories.specs.Given.Seize.World.{World}
-use Rattle.papaya_histories.specs.Given.Tables.declared.node.Node.{Node}
-use Rattle.papaya_histories.specs.Given.Runs.Same.{is_same}
-use Rattle.papaya_histories.specs.Given.Schedules.declared.effect.Effect.{Effect}
-use Rattle.papaya_histories.specs.Given.Schedules.declared.effect.Thing.{Thing}
-use Rattle.papaya_histories.specs.Given.Schedules.declared.event.Event.{Event}
-use Rattle.papaya_histories.specs.Given.Schedules.declared.event.Event.TheVariants as event
-use Rattle.papaya_histories.specs.Given.Schedules.declared.outcome.Outcome.{Outcome}
-use Rattle.papaya_histories.specs.Given.Schedules.declared.outcome.Outcome.TheVariants.{Done, Goes, Refused}
-use Rattle.papaya_histories.specs.Given.Schedules.After.{after, comes_to, is_alone_on, moment}
-use Rattle.papaya_histories.specs.Given.Schedules.Beginning.{at_work}
-use Rattle.papaya_histories.specs.Given.Schedules.Effects.{AtEachEffect}
-use Rattle.papaya_histories.specs.Given.Schedules.Entry.{Entry, acted_on, caller_of, nameless}
-use Rattle.papaya_histories.specs.Given.Schedules.Model.{IsByModel, sets_in, things_in}
-use Rattle.papaya_histories.specs.Given.Schedules.Moment.{UnderWay as CallThere, Moment}
-use Rattle.papaya_histories.specs.Given.Schedules.Terms.{Terms}
-use Rattle.papaya_histories.specs.Given.Schedules.Views.{call_of}
-use Rattle.papaya_histories.specs.Given.Callers.Together.{UnderWay}
-use Rattle.papaya_histories.specs.Given.Effects.Known.{Known}
-use Rattle.papaya_histories.specs.Given.Executor.IsAt.{Scene, slot_of}
-use Rattle.papaya_histories.proofs.Given.Spots.Unreclaimed.{and_both}
+use Rattle.papaya_grows.specs.Given.SeizeWords.declared.fault.Fault.TheVariants.{Busy}
+use Rattle.papaya_grows.specs.Given.Seize.WaitingSets.{Sets}
+use Rattle.papaya_grows.specs.Given.Seize.World.{World}
+use Rattle.papaya_grows.specs.Given.Tables.declared.node.Node.{Node}
+use Rattle.papaya_grows.specs.Given.Runs.Same.{is_same}
+use Rattle.papaya_grows.specs.Given.Schedules.declared.effect.Effect.{Effect}
+use Rattle.papaya_grows.specs.Given.Schedules.declared.effect.Thing.{Thing}
+use Rattle.papaya_grows.specs.Given.Schedules.declared.event.Event.{Event}
+use Rattle.papaya_grows.specs.Given.Schedules.declared.event.Event.TheVariants as event
+use Rattle.papaya_grows.specs.Given.Schedules.declared.outcome.Outcome.{Outcome}
+use Rattle.papaya_grows.specs.Given.Schedules.declared.outcome.Outcome.TheVariants.{Done, Goes, Refused}
+use Rattle.papaya_grows.specs.Given.Schedules.After.{after, comes_to, is_alone_on, moment}
+use Rattle.papaya_grows.specs.Given.Schedules.Beginning.{at_work}
+use Rattle.papaya_grows.specs.Given.Schedules.Effects.{AtEachEffect}
+use Rattle.papaya_grows.specs.Given.Schedules.Entry.{Entry, acted_on, caller_of, nameless}
+use Rattle.papaya_grows.specs.Given.Schedules.Model.{IsByModel, sets_in, things_in}
+use Rattle.papaya_grows.specs.Given.Schedules.Moment.{UnderWay as CallThere, Moment}
+use Rattle.papaya_grows.specs.Given.Schedules.Terms.{Terms}
+use Rattle.papaya_grows.specs.Given.Schedules.Views.{call_of}
+use Rattle.papaya_grows.specs.Given.Callers.Together.{UnderWay}
+use Rattle.papaya_grows.specs.Given.Effects.Known.{Known}
+use Rattle.papaya_grows.specs.Given.Executor.IsAt.{Scene, slot_of}
+use Rattle.papaya_grows.proofs.Given.Spots.Unreclaimed.{and_both}
 use Rattle.papaya_promises.specs.Reading.{ShowsReading}
 use Rattle.papaya_promises.proofs.Brief.Stays.{events_keep_readings}
 use Rattle.papaya_models.specs.CallEvents.{IsInItsRow}
 use Rattle.papaya_models.specs.Follows.{FollowsSets}
 use Rattle.papaya_models.proofs.Follows.{idle_events_follow}
-use Rattle.papaya_finds.specs.Life.{StoresOne}
-use Rattle.papaya_finds.specs.Within.{GoesInOrder}
-use Rattle.papaya_finds.proofs.Closed.{over_stays_back}
-use Rattle.papaya_finds.proofs.Runs.{events_keep_order}
-use Rattle.papaya_purposes.proofs.Tableless.{events_keep_tableless}
+use Rattle.papaya_grows.specs.Given.Finds.Life.{StoresOne}
+use Rattle.papaya_grows.specs.Given.Finds.Within.{GoesInOrder}
+use Rattle.papaya_grows.proofs.Given.Finds.Closed.{over_stays_back}
+use Rattle.papaya_grows.proofs.Given.Finds.Runs.{events_keep_order}
+use Rattle.papaya_grows.proofs.Given.Purposes.Tableless.{events_keep_tableless}
 use Rattle.papaya_legal.specs.Between.{IsLike}
 use Rattle.papaya_legal.specs.Carried.{FollowsOrRows}
 use Rattle.papaya_legal.specs.Over.{IdleEventsEnd, LeavesAll, QuietEventsEnd, RunsByOtherNames, RunsGoOn}

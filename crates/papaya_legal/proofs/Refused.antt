@@ -2,38 +2,38 @@
 use Rattle.std.specs.Prelude.{◌≡◌, ℕ, Bool, true, false, List, [], ◌∷◌, flat_map, Option, Some, None}
 use Rattle.std.specs.List.{list_all}
 use Rattle.std.proofs.Common.{refl, sym, subst, inl, arith}
-use Rattle.papaya_histories.specs.Given.SeizeWords.declared.fault.Fault.{Fault}
-use Rattle.papaya_histories.specs.Given.SeizeWords.declared.fault.Fault.TheVariants.{Busy}
-use Rattle.papaya_histories.specs.Given.Seize.World.{with_at}
-use Rattle.papaya_histories.specs.Given.Tables.declared.resize_mode.ResizeMode.{ResizeMode}
-use Rattle.papaya_histories.specs.Given.Schedules.declared.effect.Effect.{Effect}
-use Rattle.papaya_histories.specs.Given.Schedules.declared.effect.Effect.TheVariants.{Asked}
-use Rattle.papaya_histories.specs.Given.Schedules.declared.effect.Growth.TheVariants.{ABlock, ABucket}
-use Rattle.papaya_histories.specs.Given.Schedules.declared.event.Event.TheVariants.{MakeMap}
-use Rattle.papaya_histories.specs.Given.Schedules.declared.outcome.Outcome.TheVariants.{Refused}
-use Rattle.papaya_histories.specs.Given.Schedules.After.{after, moment}
-use Rattle.papaya_histories.specs.Given.Schedules.Effects.{AtEachEffect, with_effect, worked}
-use Rattle.papaya_histories.specs.Given.Schedules.Entry.{Entry, acted_on, is_busy}
-use Rattle.papaya_histories.specs.Given.Schedules.Handing.{IsWhole, is_first_making}
-use Rattle.papaya_histories.specs.Given.Schedules.InTurn.{ComesRight, is_growth}
-use Rattle.papaya_histories.specs.Given.Schedules.Linearizable.{shift_of}
-use Rattle.papaya_histories.specs.Given.Schedules.Lives.{Finds}
-use Rattle.papaya_histories.specs.Given.Schedules.Model.{IsByModel, sets_in, things_in}
-use Rattle.papaya_histories.specs.Given.Schedules.Moment.{MapThere, Moment}
-use Rattle.papaya_histories.specs.Given.Schedules.Reclaims.{IsProtected}
-use Rattle.papaya_histories.specs.Given.Schedules.Terms.{Terms}
-use Rattle.papaya_histories.specs.Given.Effects.Known.{Known}
-use Rattle.papaya_histories.specs.Given.Executor.IsAt.{Scene, IsAt}
-use Rattle.papaya_histories.specs.Given.Executor.declared.executor.Executor.{Executor}
-use Rattle.papaya_histories.specs.Given.Finishes.Makings.{Beginning, HasMade}
-use Rattle.papaya_histories.proofs.OtherCalls.{no_calls_are_linearizable}
+use Rattle.papaya_grows.specs.Given.SeizeWords.declared.fault.Fault.{Fault}
+use Rattle.papaya_grows.specs.Given.SeizeWords.declared.fault.Fault.TheVariants.{Busy}
+use Rattle.papaya_grows.specs.Given.Seize.World.{with_at}
+use Rattle.papaya_grows.specs.Given.Tables.declared.resize_mode.ResizeMode.{ResizeMode}
+use Rattle.papaya_grows.specs.Given.Schedules.declared.effect.Effect.{Effect}
+use Rattle.papaya_grows.specs.Given.Schedules.declared.effect.Effect.TheVariants.{Asked}
+use Rattle.papaya_grows.specs.Given.Schedules.declared.effect.Growth.TheVariants.{ABlock, ABucket}
+use Rattle.papaya_grows.specs.Given.Schedules.declared.event.Event.TheVariants.{MakeMap}
+use Rattle.papaya_grows.specs.Given.Schedules.declared.outcome.Outcome.TheVariants.{Refused}
+use Rattle.papaya_grows.specs.Given.Schedules.After.{after, moment}
+use Rattle.papaya_grows.specs.Given.Schedules.Effects.{AtEachEffect, with_effect, worked}
+use Rattle.papaya_grows.specs.Given.Schedules.Entry.{Entry, acted_on, is_busy}
+use Rattle.papaya_grows.specs.Given.Schedules.Handing.{IsWhole, is_first_making}
+use Rattle.papaya_grows.specs.Given.Schedules.InTurn.{ComesRight, is_growth}
+use Rattle.papaya_grows.specs.Given.Schedules.Linearizable.{shift_of}
+use Rattle.papaya_grows.specs.Given.Schedules.Lives.{Finds}
+use Rattle.papaya_grows.specs.Given.Schedules.Model.{IsByModel, sets_in, things_in}
+use Rattle.papaya_grows.specs.Given.Schedules.Moment.{MapThere, Moment}
+use Rattle.papaya_grows.specs.Given.Schedules.Reclaims.{IsProtected}
+use Rattle.papaya_grows.specs.Given.Schedules.Terms.{Terms}
+use Rattle.papaya_grows.specs.Given.Effects.Known.{Known}
+use Rattle.papaya_grows.specs.Given.Executor.IsAt.{Scene, IsAt}
+use Rattle.papaya_grows.specs.Given.Executor.declared.executor.Executor.{Executor}
+use Rattle.papaya_grows.specs.Given.Finishes.Makings.{Beginning, HasMade}
+use Rattle.papaya_grows.proofs.Given.Histories.OtherCalls.{no_calls_are_linearizable}
 use Rattle.papaya_promises.specs.Sheltered.{SectionsHold}
 use Rattle.papaya_promises.proofs.Protected.{other_events_end_protected}
-use Rattle.papaya_purposes.proofs.Nothing.{no_calls_are_swept}
+use Rattle.papaya_grows.proofs.Given.Purposes.Nothing.{no_calls_are_swept}
 use Rattle.papaya_models.specs.Follows.{FollowsModel}
 use Rattle.papaya_models.proofs.MapEvents.{making_events_begin as making_sets_begin}
-use Rattle.papaya_finds.specs.Life.{StoresOne}
-use Rattle.papaya_sources.specs.Stays.{NoneBorn}
+use Rattle.papaya_grows.specs.Given.Finds.Life.{StoresOne}
+use Rattle.papaya_grows.specs.Given.Sources.Stays.{NoneBorn}
 use Rattle.papaya_legal.specs.Between.{IsLike}
 use Rattle.papaya_legal.specs.CallEvents.{IsLegalBut}
 use Rattle.papaya_legal.specs.Carried.{ComesAlone, ShowsRun}

@@ -1,37 +1,37 @@
 -- An event whose work is a row on a slot, from its beginning on.
 use Rattle.std.specs.Prelude.{◌≡◌, ℕ, Bool, true, List, [], ◌∷◌, ◌++◌, Option, None}
 use Rattle.std.proofs.Common.{refl, ap, sym, subst, ◌∙◌}
-use Rattle.papaya_histories.specs.Given.Seize.World.{World, Request, Begin, Step}
-use Rattle.papaya_histories.specs.Given.Tables.declared.node.Node.{Node}
-use Rattle.papaya_histories.specs.Given.Schedules.declared.effect.Effect.{Effect}
-use Rattle.papaya_histories.specs.Given.Schedules.declared.event.Event.{Event}
-use Rattle.papaya_histories.specs.Given.Schedules.declared.event.Event.TheVariants.{Register, Unregister, Enter, Own, Refresh, Flush, DropGuard, ReclaimAll, Close}
-use Rattle.papaya_histories.specs.Given.Schedules.declared.outcome.Outcome.TheVariants.{Done}
-use Rattle.papaya_histories.specs.Given.Schedules.After.{moment}
-use Rattle.papaya_histories.specs.Given.Schedules.Effects.{with_effect, with_effects, AtEachEffect}
-use Rattle.papaya_histories.specs.Given.Schedules.Model.{sets_in, things_in}
-use Rattle.papaya_histories.specs.Given.Schedules.Moment.{Moment}
-use Rattle.papaya_histories.specs.Given.Callers.Together.{IsOfSlots}
-use Rattle.papaya_histories.specs.Given.Effects.Effects.{effects_of, known_after}
-use Rattle.papaya_histories.specs.Given.Effects.Known.{Known}
-use Rattle.papaya_histories.specs.Given.Effects.declared.acting.Acting.TheVariants as acts
-use Rattle.papaya_histories.specs.Given.Executor.IsAt.{Scene, slot_of}
-use Rattle.papaya_histories.specs.Given.Executor.Rows.{request_of}
-use Rattle.papaya_histories.specs.Given.Executor.declared.row.SlotCall.{SlotCall}
-use Rattle.papaya_histories.specs.Given.Executor.declared.row.SlotCall.TheVariants as call
-use Rattle.papaya_histories.specs.Given.Others.Rows.{scene_then}
-use Rattle.papaya_histories.specs.Given.Moments.OnSlots.{HadRetired}
-use Rattle.papaya_histories.specs.Given.Moments.Whole.{ShowsWhole}
-use Rattle.papaya_histories.proofs.Given.Moments.After.{effects_after}
-use Rattle.papaya_histories.proofs.Given.Moments.NewMaps.{effects_keep_pairs}
-use Rattle.papaya_histories.proofs.Given.Moments.Numbers.{rows_keep_numbers}
-use Rattle.papaya_histories.proofs.Given.Moments.OnSlots.{rows_begin_whole, rows_keep_whole}
-use Rattle.papaya_histories.specs.Given.Spots.OnSlots.{WaitUnreclaimed}
-use Rattle.papaya_kept.proofs.Others.{rows_begin_kept, rows_find_kept, rows_keep_kept}
-use Rattle.papaya_shards.proofs.ShardOthers.{rows_begin_counters, rows_keep_counters}
-use Rattle.papaya_histories.proofs.Aside.Stays.{as_called_stays, dues_stay}
-use Rattle.papaya_histories.proofs.Questions.{effects_keep_questions}
-use Rattle.papaya_purposes.proofs.Elsewhere.{purposes_stay}
+use Rattle.papaya_grows.specs.Given.Seize.World.{World, Request, Begin, Step}
+use Rattle.papaya_grows.specs.Given.Tables.declared.node.Node.{Node}
+use Rattle.papaya_grows.specs.Given.Schedules.declared.effect.Effect.{Effect}
+use Rattle.papaya_grows.specs.Given.Schedules.declared.event.Event.{Event}
+use Rattle.papaya_grows.specs.Given.Schedules.declared.event.Event.TheVariants.{Register, Unregister, Enter, Own, Refresh, Flush, DropGuard, ReclaimAll, Close}
+use Rattle.papaya_grows.specs.Given.Schedules.declared.outcome.Outcome.TheVariants.{Done}
+use Rattle.papaya_grows.specs.Given.Schedules.After.{moment}
+use Rattle.papaya_grows.specs.Given.Schedules.Effects.{with_effect, with_effects, AtEachEffect}
+use Rattle.papaya_grows.specs.Given.Schedules.Model.{sets_in, things_in}
+use Rattle.papaya_grows.specs.Given.Schedules.Moment.{Moment}
+use Rattle.papaya_grows.specs.Given.Callers.Together.{IsOfSlots}
+use Rattle.papaya_grows.specs.Given.Effects.Effects.{effects_of, known_after}
+use Rattle.papaya_grows.specs.Given.Effects.Known.{Known}
+use Rattle.papaya_grows.specs.Given.Effects.declared.acting.Acting.TheVariants as acts
+use Rattle.papaya_grows.specs.Given.Executor.IsAt.{Scene, slot_of}
+use Rattle.papaya_grows.specs.Given.Executor.Rows.{request_of}
+use Rattle.papaya_grows.specs.Given.Executor.declared.row.SlotCall.{SlotCall}
+use Rattle.papaya_grows.specs.Given.Executor.declared.row.SlotCall.TheVariants as call
+use Rattle.papaya_grows.specs.Given.Others.Rows.{scene_then}
+use Rattle.papaya_grows.specs.Given.Moments.OnSlots.{HadRetired}
+use Rattle.papaya_grows.specs.Given.Moments.Whole.{ShowsWhole}
+use Rattle.papaya_grows.proofs.Given.Moments.After.{effects_after}
+use Rattle.papaya_grows.proofs.Given.Moments.NewMaps.{effects_keep_pairs}
+use Rattle.papaya_grows.proofs.Given.Moments.Numbers.{rows_keep_numbers}
+use Rattle.papaya_grows.proofs.Given.Moments.OnSlots.{rows_begin_whole, rows_keep_whole}
+use Rattle.papaya_grows.specs.Given.Spots.OnSlots.{WaitUnreclaimed}
+use Rattle.papaya_grows.proofs.Given.Kept.Others.{rows_begin_kept, rows_find_kept, rows_keep_kept}
+use Rattle.papaya_grows.proofs.Given.Shards.ShardOthers.{rows_begin_counters, rows_keep_counters}
+use Rattle.papaya_grows.proofs.Given.Histories.Aside.Stays.{as_called_stays, dues_stay}
+use Rattle.papaya_grows.proofs.Given.Histories.Questions.{effects_keep_questions}
+use Rattle.papaya_grows.proofs.Given.Purposes.Elsewhere.{purposes_stay}
 use Rattle.papaya_promises.specs.Protected.{InMidst, is_of_slots}
 use Rattle.papaya_promises.specs.Sheltered.{SectionsHold}
 use Rattle.papaya_promises.proofs.Brief.Meanwhile.{rows_keep_readings}
@@ -42,7 +42,7 @@ use Rattle.papaya_models.specs.OnSlots.{FollowsInRow}
 use Rattle.papaya_models.proofs.MapEvents.{moments_note_once}
 use Rattle.papaya_models.proofs.OnSlots.{slot_events_begin, slot_events_go_on}
 use Rattle.papaya_legal.specs.SlotEvents.{SlotEventsBegin, SlotEventsGoOn}
-use Rattle.papaya_shards.proofs.ShardKept.{none_shards}
+use Rattle.papaya_grows.proofs.Given.Shards.ShardKept.{none_shards}
 use Rattle.papaya_grows.proofs.Limits.Shows.{rows_begin_limits, rows_keep_limits}
 use Rattle.papaya_legal.proofs.Sourced.{same_maps_aside, sources_same}
 use Rattle.papaya_grows.proofs.Finding.Aside.{rows_aside}

@@ -2,37 +2,37 @@
 use Rattle.std.specs.Prelude.{◌≡◌, ℕ, ◌+◌, Bool, true, false, MatchBool, ◌&&◌, ◌||◌, not, List, [], ◌∷◌, ◌++◌, map, flat_map, Option, None}
 use Rattle.std.specs.List.{list_all, list_any}
 use Rattle.std.proofs.Common.{refl, ap, sym, subst, ◌∙◌}
-use Rattle.papaya_histories.specs.Given.SeizeWords.declared.fault.Fault.TheVariants.{Busy}
-use Rattle.papaya_histories.specs.Given.Schedules.declared.effect.Effect.{Effect}
-use Rattle.papaya_histories.specs.Given.Schedules.declared.effect.Effect.TheVariants.{Asked, Reclaimed}
-use Rattle.papaya_histories.specs.Given.Schedules.declared.effect.Growth.TheVariants.{ABucket}
-use Rattle.papaya_histories.specs.Given.Schedules.declared.event.Event.{Event}
-use Rattle.papaya_histories.specs.Given.Schedules.declared.event.Event.TheVariants.{Register, Unregister, Enter, Own, Refresh, Flush, DropGuard, ReclaimAll, Close}
-use Rattle.papaya_histories.specs.Given.Schedules.declared.outcome.Outcome.{Outcome}
-use Rattle.papaya_histories.specs.Given.Schedules.declared.outcome.Outcome.TheVariants.{Refused}
-use Rattle.papaya_histories.specs.Given.Schedules.After.{after, is_by, moment, moments_from}
-use Rattle.papaya_histories.specs.Given.Schedules.Beginning.{begun}
-use Rattle.papaya_histories.specs.Given.Schedules.Effects.{AtEachEffect, worked}
-use Rattle.papaya_histories.specs.Given.Schedules.Entry.{Entry, IfCall, acting, caller_of, is_busy, speaker}
-use Rattle.papaya_histories.specs.Given.Schedules.Handing.{AllFind, IsWhole, LeavesOf, asks_for_bucket, comes_clear, gives_all, is_granted, is_made, is_only, is_reclaiming, may_do, refuses}
-use Rattle.papaya_histories.specs.Given.Schedules.Linearizable.{shift_of}
-use Rattle.papaya_histories.specs.Given.Schedules.Lives.{Finds}
-use Rattle.papaya_histories.specs.Given.Schedules.Model.{IsByModel, back_by_model, number_in, thing_back, things_in}
-use Rattle.papaya_histories.specs.Given.Schedules.Moment.{UnderWay as CallThere, Moment}
-use Rattle.papaya_histories.specs.Given.Schedules.Reclaims.{IsProtected}
-use Rattle.papaya_histories.specs.Given.Schedules.Sequential.{Shift}
-use Rattle.papaya_histories.specs.Given.Schedules.Steps.{IsBrief}
-use Rattle.papaya_histories.specs.Given.Schedules.Terms.{Terms}
-use Rattle.papaya_histories.specs.Given.Executor.IsAt.{slot_of}
-use Rattle.papaya_histories.specs.Given.Executor.Rows.{request_of}
-use Rattle.papaya_histories.proofs.OtherCalls.{no_calls_are_linearizable}
+use Rattle.papaya_grows.specs.Given.SeizeWords.declared.fault.Fault.TheVariants.{Busy}
+use Rattle.papaya_grows.specs.Given.Schedules.declared.effect.Effect.{Effect}
+use Rattle.papaya_grows.specs.Given.Schedules.declared.effect.Effect.TheVariants.{Asked, Reclaimed}
+use Rattle.papaya_grows.specs.Given.Schedules.declared.effect.Growth.TheVariants.{ABucket}
+use Rattle.papaya_grows.specs.Given.Schedules.declared.event.Event.{Event}
+use Rattle.papaya_grows.specs.Given.Schedules.declared.event.Event.TheVariants.{Register, Unregister, Enter, Own, Refresh, Flush, DropGuard, ReclaimAll, Close}
+use Rattle.papaya_grows.specs.Given.Schedules.declared.outcome.Outcome.{Outcome}
+use Rattle.papaya_grows.specs.Given.Schedules.declared.outcome.Outcome.TheVariants.{Refused}
+use Rattle.papaya_grows.specs.Given.Schedules.After.{after, is_by, moment, moments_from}
+use Rattle.papaya_grows.specs.Given.Schedules.Beginning.{begun}
+use Rattle.papaya_grows.specs.Given.Schedules.Effects.{AtEachEffect, worked}
+use Rattle.papaya_grows.specs.Given.Schedules.Entry.{Entry, IfCall, acting, caller_of, is_busy, speaker}
+use Rattle.papaya_grows.specs.Given.Schedules.Handing.{AllFind, IsWhole, LeavesOf, asks_for_bucket, comes_clear, gives_all, is_granted, is_made, is_only, is_reclaiming, may_do, refuses}
+use Rattle.papaya_grows.specs.Given.Schedules.Linearizable.{shift_of}
+use Rattle.papaya_grows.specs.Given.Schedules.Lives.{Finds}
+use Rattle.papaya_grows.specs.Given.Schedules.Model.{IsByModel, back_by_model, number_in, thing_back, things_in}
+use Rattle.papaya_grows.specs.Given.Schedules.Moment.{UnderWay as CallThere, Moment}
+use Rattle.papaya_grows.specs.Given.Schedules.Reclaims.{IsProtected}
+use Rattle.papaya_grows.specs.Given.Schedules.Sequential.{Shift}
+use Rattle.papaya_grows.specs.Given.Schedules.Steps.{IsBrief}
+use Rattle.papaya_grows.specs.Given.Schedules.Terms.{Terms}
+use Rattle.papaya_grows.specs.Given.Executor.IsAt.{slot_of}
+use Rattle.papaya_grows.specs.Given.Executor.Rows.{request_of}
+use Rattle.papaya_grows.proofs.Given.Histories.OtherCalls.{no_calls_are_linearizable}
 use Rattle.papaya_models.specs.Follows.{IsFollowed}
 use Rattle.papaya_models.proofs.OnSlots.{slot_events_end}
 use Rattle.papaya_promises.specs.Protected.{is_of_slots}
 use Rattle.papaya_promises.specs.Sheltered.{SectionsHold}
 use Rattle.papaya_promises.proofs.Protected.{slot_events_end_protected}
-use Rattle.papaya_purposes.proofs.Nothing.{no_calls_are_swept}
-use Rattle.papaya_histories.proofs.Given.Spots.Unreclaimed.{and_both}
+use Rattle.papaya_grows.proofs.Given.Purposes.Nothing.{no_calls_are_swept}
+use Rattle.papaya_grows.proofs.Given.Spots.Unreclaimed.{and_both}
 use Rattle.papaya_legal.specs.CallEvents.{IsLegalBut}
 use Rattle.papaya_legal.specs.Carried.{ComesAlone}
 use Rattle.papaya_legal.specs.SlotEvents.{SlotEventsAreLegal}

@@ -2,38 +2,38 @@
 use Rattle.std.specs.Prelude.{◌≡◌, ℕ, ◌<◌, ◌≤◌, Bool, List, [], ◌∷◌, length, map, Option, Some, None}
 use Rattle.std.proofs.Common.{refl, ap, sym, subst, ◌∙◌, inl, inr, arith}
 use Rattle.std.proofs.lemmas.Bool.{cases_eq}
-use Rattle.papaya_histories.specs.Given.Seize.declared.progress.Progress.{Progress as Making}
-use Rattle.papaya_histories.specs.Given.Seize.declared.progress.Progress.TheVariants as progress
-use Rattle.papaya_histories.specs.Given.Tables.Chunks.{is_incremental}
-use Rattle.papaya_histories.specs.Given.Tables.declared.setting.Setting.{Setting}
-use Rattle.papaya_histories.specs.Given.Schedules.declared.effect.Effect.{Effect}
-use Rattle.papaya_histories.specs.Given.Schedules.declared.effect.Effect.TheVariants.{Reclaimed}
-use Rattle.papaya_histories.specs.Given.Schedules.declared.effect.Spot.{Spot}
-use Rattle.papaya_histories.specs.Given.Schedules.declared.effect.Table.{Table}
-use Rattle.papaya_histories.specs.Given.Schedules.declared.effect.Thing.{Thing}
-use Rattle.papaya_histories.specs.Given.Schedules.Effects.{with_effects}
-use Rattle.papaya_histories.specs.Given.Schedules.Moment.{MapThere, Moment}
-use Rattle.papaya_histories.specs.Given.Rule.Chart.{Chart}
-use Rattle.papaya_histories.proofs.Given.Callers.Together.At.{at_same, at_other}
-use Rattle.papaya_histories.specs.Given.Effects.Known.{Known}
-use Rattle.papaya_histories.specs.Given.Executor.Ending.{ending_begun}
-use Rattle.papaya_histories.specs.Given.Executor.IsAt.{Scene}
-use Rattle.papaya_histories.specs.Given.Executor.Making.{MakingLeads}
-use Rattle.papaya_histories.specs.Given.Executor.declared.executor.Executor.{Executor}
-use Rattle.papaya_histories.specs.Given.Finishes.Makings.{Beginning, IsNewChart}
-use Rattle.papaya_histories.specs.Given.Finishes.Maps.{Standing, IsSameMap}
-use Rattle.papaya_histories.specs.Given.Follows.Shows.{Shows}
-use Rattle.papaya_histories.proofs.Given.Follows.Steps.{one_of}
-use Rattle.papaya_histories.specs.Given.Others.Makings.{making_after}
-use Rattle.papaya_histories.specs.Given.Moments.Numbers.{NumbersMaps}
-use Rattle.papaya_histories.proofs.Given.Moments.Numbers.{maps_come_by_number}
-use Rattle.papaya_histories.proofs.Given.Spots.Effects.{AllAside, aside_all}
-use Rattle.papaya_finds.specs.Within.{many_of, AllIsInOrder}
-use Rattle.papaya_sources.specs.Sources.{ShowsSources}
-use Rattle.papaya_sources.specs.Stays.{StandsAsBefore, NoneBorn}
-use Rattle.papaya_sources.proofs.New.{aside_stores_none}
-use Rattle.papaya_sources.proofs.Stays.{sources_stay}
-use Rattle.papaya_sources.proofs.Steps.{same_standing}
+use Rattle.papaya_grows.specs.Given.Seize.declared.progress.Progress.{Progress as Making}
+use Rattle.papaya_grows.specs.Given.Seize.declared.progress.Progress.TheVariants as progress
+use Rattle.papaya_grows.specs.Given.Tables.Chunks.{is_incremental}
+use Rattle.papaya_grows.specs.Given.Tables.declared.setting.Setting.{Setting}
+use Rattle.papaya_grows.specs.Given.Schedules.declared.effect.Effect.{Effect}
+use Rattle.papaya_grows.specs.Given.Schedules.declared.effect.Effect.TheVariants.{Reclaimed}
+use Rattle.papaya_grows.specs.Given.Schedules.declared.effect.Spot.{Spot}
+use Rattle.papaya_grows.specs.Given.Schedules.declared.effect.Table.{Table}
+use Rattle.papaya_grows.specs.Given.Schedules.declared.effect.Thing.{Thing}
+use Rattle.papaya_grows.specs.Given.Schedules.Effects.{with_effects}
+use Rattle.papaya_grows.specs.Given.Schedules.Moment.{MapThere, Moment}
+use Rattle.papaya_grows.specs.Given.Rule.Chart.{Chart}
+use Rattle.papaya_grows.proofs.Given.Callers.Together.At.{at_same, at_other}
+use Rattle.papaya_grows.specs.Given.Effects.Known.{Known}
+use Rattle.papaya_grows.specs.Given.Executor.Ending.{ending_begun}
+use Rattle.papaya_grows.specs.Given.Executor.IsAt.{Scene}
+use Rattle.papaya_grows.specs.Given.Executor.Making.{MakingLeads}
+use Rattle.papaya_grows.specs.Given.Executor.declared.executor.Executor.{Executor}
+use Rattle.papaya_grows.specs.Given.Finishes.Makings.{Beginning, IsNewChart}
+use Rattle.papaya_grows.specs.Given.Finishes.Maps.{Standing, IsSameMap}
+use Rattle.papaya_grows.specs.Given.Follows.Shows.{Shows}
+use Rattle.papaya_grows.proofs.Given.Follows.Steps.{one_of}
+use Rattle.papaya_grows.specs.Given.Others.Makings.{making_after}
+use Rattle.papaya_grows.specs.Given.Moments.Numbers.{NumbersMaps}
+use Rattle.papaya_grows.proofs.Given.Moments.Numbers.{maps_come_by_number}
+use Rattle.papaya_grows.proofs.Given.Spots.Effects.{AllAside, aside_all}
+use Rattle.papaya_grows.specs.Given.Finds.Within.{many_of, AllIsInOrder}
+use Rattle.papaya_grows.specs.Given.Sources.Sources.{ShowsSources}
+use Rattle.papaya_grows.specs.Given.Sources.Stays.{StandsAsBefore, NoneBorn}
+use Rattle.papaya_grows.proofs.Given.Sources.New.{aside_stores_none}
+use Rattle.papaya_grows.proofs.Given.Sources.Stays.{sources_stay}
+use Rattle.papaya_grows.proofs.Given.Sources.Steps.{same_standing}
 
 -- where the end of a map begins, each other one stands as it did
 pub ends_leave : {K V : Type 0} (s : Scene K V) (map i : ℕ) (standing : Standing K) (n : ℕ) (st : Standing K) → (ending_begun map i standing s).maps n ≡ Some st → s.maps n ≡ Some st

@@ -1,41 +1,41 @@
 -- Between the steps of events what a moment shows of calls is so on: where a call begins, takes a reply, goes on as a walk, or is given up; where a map comes, or goes; by other names of callers that
 -- have no call; at a moment that is like it; and where an event is over.
 use Rattle.std.specs.Prelude.{◌≡◌, ℕ, Bool, true, false, List, ◌∷◌, Option, Some, None, Ok}
-use Rattle.papaya_histories.specs.Given.Seize.World.{Rests, with_at}
-use Rattle.papaya_histories.specs.Given.Runs.Same.{is_same}
-use Rattle.papaya_histories.specs.Given.Schedules.declared.call.Call.{Call}
-use Rattle.papaya_histories.specs.Given.Schedules.declared.call.Call.TheVariants.{On}
-use Rattle.papaya_histories.specs.Given.Schedules.declared.call.OneKey.{OneKey}
-use Rattle.papaya_histories.specs.Given.Schedules.declared.call.Reply.{Reply}
-use Rattle.papaya_histories.specs.Given.Schedules.After.{moment}
-use Rattle.papaya_histories.specs.Given.Schedules.Beginning.{with_call, with_map}
-use Rattle.papaya_histories.specs.Given.Schedules.Entry.{Entry}
-use Rattle.papaya_histories.specs.Given.Schedules.Moment.{UnderWay as CallThere, Asking, MapThere, Remains, Moment}
-use Rattle.papaya_histories.specs.Given.Schedules.Views.{call_of, map_at}
-use Rattle.papaya_histories.specs.Given.Sweeps.SweepPoints.{after_next}
-use Rattle.papaya_histories.specs.Given.Raw.Machine.{machine_replied}
-use Rattle.papaya_histories.specs.Given.Callers.OverAll.{CallOverAll, gone_on}
-use Rattle.papaya_histories.specs.Given.Callers.Together.{UnderWay, OverAll}
-use Rattle.papaya_histories.specs.Given.Effects.Known.{Known}
-use Rattle.papaya_histories.specs.Given.Executor.Beginning.{Begins}
-use Rattle.papaya_histories.specs.Given.Executor.Ending.{ending_begun}
-use Rattle.papaya_histories.specs.Given.Executor.IsAt.{Scene, IsAt, HasCall, slot_of}
-use Rattle.papaya_histories.specs.Given.Executor.Replying.{AskLeads, StopLeads, scene_with, unless_stopped}
-use Rattle.papaya_histories.specs.Given.Executor.declared.executor.Executor.{Executor}
-use Rattle.papaya_histories.specs.Given.Finishes.Machines.{machine_of, ToldOfKind}
-use Rattle.papaya_histories.specs.Given.Finishes.Makings.{Beginning, HasMade}
-use Rattle.papaya_histories.specs.Given.Finishes.Maps.{Standing, with_call as with_call_of}
-use Rattle.papaya_histories.specs.Given.Follows.Calling.{NoneNamed, told}
-use Rattle.papaya_histories.specs.Given.Follows.Calls.{IsCalled}
-use Rattle.papaya_histories.specs.Given.Hands.Asked.{as_told}
-use Rattle.papaya_histories.specs.Given.Hands.Calling.{IsBegunFor}
-use Rattle.papaya_histories.specs.Given.Others.Endings.{without_map}
-use Rattle.papaya_histories.specs.Given.Others.Walks.{given_up}
-use Rattle.papaya_histories.specs.AsCalled.{IsBegunAs}
-use Rattle.papaya_histories.specs.Changes.{IsTaken}
+use Rattle.papaya_grows.specs.Given.Seize.World.{Rests, with_at}
+use Rattle.papaya_grows.specs.Given.Runs.Same.{is_same}
+use Rattle.papaya_grows.specs.Given.Schedules.declared.call.Call.{Call}
+use Rattle.papaya_grows.specs.Given.Schedules.declared.call.Call.TheVariants.{On}
+use Rattle.papaya_grows.specs.Given.Schedules.declared.call.OneKey.{OneKey}
+use Rattle.papaya_grows.specs.Given.Schedules.declared.call.Reply.{Reply}
+use Rattle.papaya_grows.specs.Given.Schedules.After.{moment}
+use Rattle.papaya_grows.specs.Given.Schedules.Beginning.{with_call, with_map}
+use Rattle.papaya_grows.specs.Given.Schedules.Entry.{Entry}
+use Rattle.papaya_grows.specs.Given.Schedules.Moment.{UnderWay as CallThere, Asking, MapThere, Remains, Moment}
+use Rattle.papaya_grows.specs.Given.Schedules.Views.{call_of, map_at}
+use Rattle.papaya_grows.specs.Given.Sweeps.SweepPoints.{after_next}
+use Rattle.papaya_grows.specs.Given.Raw.Machine.{machine_replied}
+use Rattle.papaya_grows.specs.Given.Callers.OverAll.{CallOverAll, gone_on}
+use Rattle.papaya_grows.specs.Given.Callers.Together.{UnderWay, OverAll}
+use Rattle.papaya_grows.specs.Given.Effects.Known.{Known}
+use Rattle.papaya_grows.specs.Given.Executor.Beginning.{Begins}
+use Rattle.papaya_grows.specs.Given.Executor.Ending.{ending_begun}
+use Rattle.papaya_grows.specs.Given.Executor.IsAt.{Scene, IsAt, HasCall, slot_of}
+use Rattle.papaya_grows.specs.Given.Executor.Replying.{AskLeads, StopLeads, scene_with, unless_stopped}
+use Rattle.papaya_grows.specs.Given.Executor.declared.executor.Executor.{Executor}
+use Rattle.papaya_grows.specs.Given.Finishes.Machines.{machine_of, ToldOfKind}
+use Rattle.papaya_grows.specs.Given.Finishes.Makings.{Beginning, HasMade}
+use Rattle.papaya_grows.specs.Given.Finishes.Maps.{Standing, with_call as with_call_of}
+use Rattle.papaya_grows.specs.Given.Follows.Calling.{NoneNamed, told}
+use Rattle.papaya_grows.specs.Given.Follows.Calls.{IsCalled}
+use Rattle.papaya_grows.specs.Given.Hands.Asked.{as_told}
+use Rattle.papaya_grows.specs.Given.Hands.Calling.{IsBegunFor}
+use Rattle.papaya_grows.specs.Given.Others.Endings.{without_map}
+use Rattle.papaya_grows.specs.Given.Others.Walks.{given_up}
+use Rattle.papaya_grows.specs.Given.Histories.AsCalled.{IsBegunAs}
+use Rattle.papaya_grows.specs.Given.Histories.Changes.{IsTaken}
 use Rattle.papaya_promises.specs.Meanwhile.{BeginsToLook}
-use Rattle.papaya_purposes.specs.Purposes.{IsFor}
-use Rattle.papaya_shards.specs.ShardWords.{IsUncounted}
+use Rattle.papaya_grows.specs.Given.Purposes.Purposes.{IsFor}
+use Rattle.papaya_grows.specs.Given.Shards.ShardWords.{IsUncounted}
 use Rattle.papaya_legal.specs.Carried.{ShowsCalls}
 
 -- the moment is like another one, of which it has the calls, the pairs, the maps and the tables

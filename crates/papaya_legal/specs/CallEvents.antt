@@ -1,61 +1,61 @@
 -- Events in which a call takes steps: in the midst of one, and at its end.
 use Rattle.std.specs.Prelude.{◌≡◌, ◌⊎◌, ◌≢◌, ◌≤◌, ℕ, ◌+◌, ◌==◌, Bool, true, false, List, [], ◌∷◌, ◌++◌, Some, if◌then◌else◌, not, ◌||◌}
 use Rattle.std.specs.List.{list_all, list_any}
-use Rattle.papaya_histories.specs.Given.SeizeWaiting.Held.{count}
-use Rattle.papaya_histories.specs.Given.Seize.World.{World, Rests, Request, Begin, Step, Happens}
-use Rattle.papaya_histories.specs.Given.Tables.Nodes.{deferred_word}
-use Rattle.papaya_histories.specs.Given.Tables.declared.node.Node.{Node}
-use Rattle.papaya_histories.specs.Given.Raw.declared.machines.progress.Progress.{Progress}
-use Rattle.papaya_histories.specs.Given.Schedules.declared.effect.Effect.{Effect}
-use Rattle.papaya_histories.specs.Given.Schedules.declared.call.Call.{Call}
-use Rattle.papaya_histories.specs.Given.Schedules.declared.event.Event.{Event}
-use Rattle.papaya_histories.specs.Given.Schedules.declared.event.Event.TheVariants.{OneCall, Next}
-use Rattle.papaya_histories.specs.Given.Schedules.After.{moment, moments_from, after}
-use Rattle.papaya_histories.specs.Given.Schedules.Beginning.{at_work, fresh_call, with_call}
-use Rattle.papaya_histories.specs.Given.Schedules.Effects.{with_effects, AtEachEffect}
-use Rattle.papaya_histories.specs.Given.Schedules.Entry.{Entry, acted_on, caller_of, ends_call, IfCall, acting, is_busy, nameless}
-use Rattle.papaya_histories.specs.Given.Schedules.Handing.{MovesOn, is_call_effect, is_granted, LeavesOf, comes_clear, is_made, refuses}
-use Rattle.papaya_histories.specs.Given.Schedules.InTurn.{ComesRight}
-use Rattle.papaya_histories.specs.Given.Schedules.Linearizable.{IsLinearizable}
-use Rattle.papaya_histories.specs.Given.Schedules.Model.{IsByModel, sets_in, things_in}
-use Rattle.papaya_histories.specs.Given.Schedules.Moment.{UnderWay as CallThere, Moment}
-use Rattle.papaya_histories.specs.Given.Schedules.Reclaims.{IsProtected}
-use Rattle.papaya_histories.specs.Given.Schedules.Steps.{ReadsBriefly}
-use Rattle.papaya_histories.specs.Given.Schedules.Effects.{worked}
-use Rattle.papaya_histories.specs.Given.Schedules.Sweeps.{IsSwept}
-use Rattle.papaya_histories.specs.Given.Schedules.Terms.{Terms}
-use Rattle.papaya_histories.specs.Given.Runs.Log.{pair_at}
-use Rattle.papaya_histories.specs.Given.Schedules.Views.{call_of, finite_map, is_in_map}
-use Rattle.papaya_histories.specs.Given.Sweeps.SweepPoints.{after_next}
-use Rattle.papaya_histories.specs.Given.Callers.OverAll.{CallOverAll, gone_on}
-use Rattle.papaya_histories.specs.Given.Callers.Together.{UnderWay, OverAll, HandsOver}
-use Rattle.papaya_histories.specs.Given.Effects.Effects.{effects_of, known_after}
-use Rattle.papaya_histories.specs.Given.Effects.Known.{Known}
-use Rattle.papaya_histories.specs.Given.Effects.declared.acting.Acting.TheVariants as acts
-use Rattle.papaya_histories.specs.Given.Executor.IsAt.{Scene, IsAt, slot_of}
-use Rattle.papaya_histories.specs.Given.Executor.Beginning.{Begins}
-use Rattle.papaya_histories.specs.Given.Executor.Replying.{AskLeads, scene_with}
-use Rattle.papaya_histories.specs.Given.Finishes.Maps.{Standing}
-use Rattle.papaya_histories.specs.Given.Executor.Stepping.{StepLeads, has_ended, scene_after}
-use Rattle.papaya_histories.specs.Given.Executor.declared.executor.Executor.{Executor}
-use Rattle.papaya_histories.specs.InEvent.{ComesSo, InEvent, here_of}
+use Rattle.papaya_grows.specs.Given.SeizeWaiting.Held.{count}
+use Rattle.papaya_grows.specs.Given.Seize.World.{World, Rests, Request, Begin, Step, Happens}
+use Rattle.papaya_grows.specs.Given.Tables.Nodes.{deferred_word}
+use Rattle.papaya_grows.specs.Given.Tables.declared.node.Node.{Node}
+use Rattle.papaya_grows.specs.Given.Raw.declared.machines.progress.Progress.{Progress}
+use Rattle.papaya_grows.specs.Given.Schedules.declared.effect.Effect.{Effect}
+use Rattle.papaya_grows.specs.Given.Schedules.declared.call.Call.{Call}
+use Rattle.papaya_grows.specs.Given.Schedules.declared.event.Event.{Event}
+use Rattle.papaya_grows.specs.Given.Schedules.declared.event.Event.TheVariants.{OneCall, Next}
+use Rattle.papaya_grows.specs.Given.Schedules.After.{moment, moments_from, after}
+use Rattle.papaya_grows.specs.Given.Schedules.Beginning.{at_work, fresh_call, with_call}
+use Rattle.papaya_grows.specs.Given.Schedules.Effects.{with_effects, AtEachEffect}
+use Rattle.papaya_grows.specs.Given.Schedules.Entry.{Entry, acted_on, caller_of, ends_call, IfCall, acting, is_busy, nameless}
+use Rattle.papaya_grows.specs.Given.Schedules.Handing.{MovesOn, is_call_effect, is_granted, LeavesOf, comes_clear, is_made, refuses}
+use Rattle.papaya_grows.specs.Given.Schedules.InTurn.{ComesRight}
+use Rattle.papaya_grows.specs.Given.Schedules.Linearizable.{IsLinearizable}
+use Rattle.papaya_grows.specs.Given.Schedules.Model.{IsByModel, sets_in, things_in}
+use Rattle.papaya_grows.specs.Given.Schedules.Moment.{UnderWay as CallThere, Moment}
+use Rattle.papaya_grows.specs.Given.Schedules.Reclaims.{IsProtected}
+use Rattle.papaya_grows.specs.Given.Schedules.Steps.{ReadsBriefly}
+use Rattle.papaya_grows.specs.Given.Schedules.Effects.{worked}
+use Rattle.papaya_grows.specs.Given.Schedules.Sweeps.{IsSwept}
+use Rattle.papaya_grows.specs.Given.Schedules.Terms.{Terms}
+use Rattle.papaya_grows.specs.Given.Runs.Log.{pair_at}
+use Rattle.papaya_grows.specs.Given.Schedules.Views.{call_of, finite_map, is_in_map}
+use Rattle.papaya_grows.specs.Given.Sweeps.SweepPoints.{after_next}
+use Rattle.papaya_grows.specs.Given.Callers.OverAll.{CallOverAll, gone_on}
+use Rattle.papaya_grows.specs.Given.Callers.Together.{UnderWay, OverAll, HandsOver}
+use Rattle.papaya_grows.specs.Given.Effects.Effects.{effects_of, known_after}
+use Rattle.papaya_grows.specs.Given.Effects.Known.{Known}
+use Rattle.papaya_grows.specs.Given.Effects.declared.acting.Acting.TheVariants as acts
+use Rattle.papaya_grows.specs.Given.Executor.IsAt.{Scene, IsAt, slot_of}
+use Rattle.papaya_grows.specs.Given.Executor.Beginning.{Begins}
+use Rattle.papaya_grows.specs.Given.Executor.Replying.{AskLeads, scene_with}
+use Rattle.papaya_grows.specs.Given.Finishes.Maps.{Standing}
+use Rattle.papaya_grows.specs.Given.Executor.Stepping.{StepLeads, has_ended, scene_after}
+use Rattle.papaya_grows.specs.Given.Executor.declared.executor.Executor.{Executor}
+use Rattle.papaya_grows.specs.Given.Histories.InEvent.{ComesSo, InEvent, here_of}
 use Rattle.papaya_promises.specs.Protected.{InMidst}
 use Rattle.papaya_promises.specs.Reading.{ShowsReading, looks}
 use Rattle.papaya_promises.specs.Weights.{AreDoneBy}
-use Rattle.papaya_histories.specs.Kept.{HasJustBegun}
-use Rattle.papaya_purposes.specs.Kept.{ShowsNone}
-use Rattle.papaya_purposes.specs.Shards.{NoneCounted as NoneAdded}
-use Rattle.papaya_shards.specs.ShardSteps.{AddsUp}
+use Rattle.papaya_grows.specs.Given.Histories.Kept.{HasJustBegun}
+use Rattle.papaya_grows.specs.Given.Purposes.Kept.{ShowsNone}
+use Rattle.papaya_grows.specs.Given.Purposes.Shards.{NoneCounted as NoneAdded}
+use Rattle.papaya_grows.specs.Given.Shards.ShardSteps.{AddsUp}
 use Rattle.papaya_models.specs.CallEvents.{FollowsInEvent, IsNoted, things_then, slot_of_call}
-use Rattle.papaya_finds.specs.Doing.{takes_steps}
-use Rattle.papaya_finds.specs.Life.{StoresOne}
-use Rattle.papaya_finds.specs.Parts.{FindAll}
-use Rattle.papaya_histories.specs.Questions.{ShowsQuestions, EventAsksStill}
+use Rattle.papaya_grows.specs.Given.Finds.Doing.{takes_steps}
+use Rattle.papaya_grows.specs.Given.Finds.Life.{StoresOne}
+use Rattle.papaya_grows.specs.Given.Finds.Parts.{FindAll}
+use Rattle.papaya_grows.specs.Given.Histories.Questions.{ShowsQuestions, EventAsksStill}
 use Rattle.papaya_promises.specs.Sheltered.{SectionsHold}
-use Rattle.papaya_finds.specs.Little.{ReclaimsAll}
-use Rattle.papaya_histories.specs.Given.Follows.Calling.{come_to, NoneNamed}
-use Rattle.papaya_purposes.specs.Purposes.{ShowsPurposes}
-use Rattle.papaya_purposes.specs.Tableless.{TablelessUncounted}
+use Rattle.papaya_grows.specs.Given.Finds.Little.{ReclaimsAll}
+use Rattle.papaya_grows.specs.Given.Follows.Calling.{come_to, NoneNamed}
+use Rattle.papaya_grows.specs.Given.Purposes.Purposes.{ShowsPurposes}
+use Rattle.papaya_grows.specs.Given.Purposes.Tableless.{TablelessUncounted}
 use Rattle.papaya_legal.specs.Between.{IsBegunRight}
 use Rattle.papaya_legal.specs.Carried.{ComesAlone, FollowsOrRows, ShowsCalls, ShowsRun}
 use Rattle.papaya_grows.specs.Limits.{OthersHadLimit}

@@ -1,30 +1,30 @@
 -- An event of a call does what it is for.
 use Rattle.std.specs.Prelude.{◌≡◌, ◌⊎◌, ℕ, suc, Bool, List, ◌++◌, Some}
-use Rattle.papaya_histories.specs.Given.Tables.declared.node.Node.{Node}
-use Rattle.papaya_histories.specs.Given.Raw.declared.machines.progress.Answer.TheVariants as answers
-use Rattle.papaya_histories.specs.Given.Raw.declared.machines.progress.Progress.{Progress}
-use Rattle.papaya_histories.specs.Given.Raw.declared.machines.progress.Progress.TheVariants as progress
-use Rattle.papaya_histories.specs.Given.Schedules.declared.call.Answer.TheVariants.{Absent, Completed, Counted}
-use Rattle.papaya_histories.specs.Given.Schedules.declared.call.Call.{Call}
-use Rattle.papaya_histories.specs.Given.Schedules.declared.call.Call.TheVariants.{Len, On, Walk}
-use Rattle.papaya_histories.specs.Given.Schedules.declared.effect.Effect.{Effect}
-use Rattle.papaya_histories.specs.Given.Schedules.declared.outcome.Outcome.{Outcome}
-use Rattle.papaya_histories.specs.Given.Schedules.declared.outcome.Outcome.TheVariants.{Answered, Shows}
-use Rattle.papaya_histories.specs.Given.Schedules.After.{moment}
-use Rattle.papaya_histories.specs.Given.Schedules.Beginning.{at_work}
-use Rattle.papaya_histories.specs.Given.Schedules.Entry.{Entry, acted_on}
-use Rattle.papaya_histories.specs.Given.Schedules.Moment.{UnderWay as CallThere, Moment}
-use Rattle.papaya_histories.specs.Given.Schedules.Sweeps.{IsSwept}
-use Rattle.papaya_histories.specs.Given.Schedules.Terms.{Terms, shards_of}
-use Rattle.papaya_histories.specs.Given.Callers.Together.{UnderWay}
-use Rattle.papaya_histories.specs.Given.Effects.Effects.{effects_of, known_after}
-use Rattle.papaya_histories.specs.Given.Effects.Known.{Known}
-use Rattle.papaya_histories.specs.Given.Effects.declared.acting.Acting.TheVariants as acts
-use Rattle.papaya_histories.specs.Given.Executor.IsAt.{Scene, IsAt}
-use Rattle.papaya_histories.specs.Given.Executor.Stepping.{StepLeads}
-use Rattle.papaya_histories.specs.Given.Executor.declared.executor.Executor.{Executor}
-use Rattle.papaya_histories.specs.Given.Finishes.Maps.{Standing}
-use Rattle.papaya_purposes.specs.Swept.{ComesSo as IsToldSo, LosesNone, SaysNothing}
+use Rattle.papaya_grows.specs.Given.Tables.declared.node.Node.{Node}
+use Rattle.papaya_grows.specs.Given.Raw.declared.machines.progress.Answer.TheVariants as answers
+use Rattle.papaya_grows.specs.Given.Raw.declared.machines.progress.Progress.{Progress}
+use Rattle.papaya_grows.specs.Given.Raw.declared.machines.progress.Progress.TheVariants as progress
+use Rattle.papaya_grows.specs.Given.Schedules.declared.call.Answer.TheVariants.{Absent, Completed, Counted}
+use Rattle.papaya_grows.specs.Given.Schedules.declared.call.Call.{Call}
+use Rattle.papaya_grows.specs.Given.Schedules.declared.call.Call.TheVariants.{Len, On, Walk}
+use Rattle.papaya_grows.specs.Given.Schedules.declared.effect.Effect.{Effect}
+use Rattle.papaya_grows.specs.Given.Schedules.declared.outcome.Outcome.{Outcome}
+use Rattle.papaya_grows.specs.Given.Schedules.declared.outcome.Outcome.TheVariants.{Answered, Shows}
+use Rattle.papaya_grows.specs.Given.Schedules.After.{moment}
+use Rattle.papaya_grows.specs.Given.Schedules.Beginning.{at_work}
+use Rattle.papaya_grows.specs.Given.Schedules.Entry.{Entry, acted_on}
+use Rattle.papaya_grows.specs.Given.Schedules.Moment.{UnderWay as CallThere, Moment}
+use Rattle.papaya_grows.specs.Given.Schedules.Sweeps.{IsSwept}
+use Rattle.papaya_grows.specs.Given.Schedules.Terms.{Terms, shards_of}
+use Rattle.papaya_grows.specs.Given.Callers.Together.{UnderWay}
+use Rattle.papaya_grows.specs.Given.Effects.Effects.{effects_of, known_after}
+use Rattle.papaya_grows.specs.Given.Effects.Known.{Known}
+use Rattle.papaya_grows.specs.Given.Effects.declared.acting.Acting.TheVariants as acts
+use Rattle.papaya_grows.specs.Given.Executor.IsAt.{Scene, IsAt}
+use Rattle.papaya_grows.specs.Given.Executor.Stepping.{StepLeads}
+use Rattle.papaya_grows.specs.Given.Executor.declared.executor.Executor.{Executor}
+use Rattle.papaya_grows.specs.Given.Finishes.Maps.{Standing}
+use Rattle.papaya_grows.specs.Given.Purposes.Swept.{ComesSo as IsToldSo, LosesNone, SaysNothing}
 use Rattle.papaya_legal.specs.CallEvents.{InCallEvent}
 
 module _ {K V : Type 0} (same : K → K → Bool) (log : List (Entry K V)) (m : Moment K V) (map : ℕ) (known : Known) (said : Progress (Node K V)) (told : Outcome V) where

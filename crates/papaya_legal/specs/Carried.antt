@@ -1,36 +1,36 @@
 -- What is so after each event of a run, of the moment and of the scene that it shows: by this each promise is had of the next event.
 use Rattle.std.specs.Prelude.{◌≡◌, ◌⊎◌, ◌≤◌, ℕ, Bool, true, ◌&&◌, List, [], flat_map}
 use Rattle.std.specs.List.{list_all}
-use Rattle.papaya_histories.specs.Given.Seize.World.{World}
-use Rattle.papaya_histories.specs.Given.Tables.Nodes.{deferred_word}
-use Rattle.papaya_histories.specs.Given.Tables.declared.node.Node.{Node}
-use Rattle.papaya_histories.specs.Given.Schedules.declared.event.Event.{Event}
-use Rattle.papaya_histories.specs.Given.Schedules.After.{after, is_by, moment}
-use Rattle.papaya_histories.specs.Given.Schedules.Entry.{Entry, speaker}
-use Rattle.papaya_histories.specs.Given.Schedules.Lists.{is_among}
-use Rattle.papaya_histories.specs.Given.Schedules.Model.{sets_in, things_in}
-use Rattle.papaya_histories.specs.Given.Schedules.Moment.{Moment, start}
-use Rattle.papaya_histories.specs.Given.Schedules.Terms.{Terms}
-use Rattle.papaya_histories.specs.Given.Effects.Known.{Known, nothing_known}
-use Rattle.papaya_histories.specs.Given.Executor.IsAt.{Scene, at_first, slot_of}
-use Rattle.papaya_histories.specs.Given.Moments.Numbers.{NumbersMaps, PairsAreBelow}
-use Rattle.papaya_histories.specs.Given.Moments.Whole.{ShowsWhole}
-use Rattle.papaya_histories.specs.AsCalled.{ShowsAsCalled}
-use Rattle.papaya_histories.specs.Due.{ShowsDue}
-use Rattle.papaya_histories.specs.Questions.{ShowsQuestions}
+use Rattle.papaya_grows.specs.Given.Seize.World.{World}
+use Rattle.papaya_grows.specs.Given.Tables.Nodes.{deferred_word}
+use Rattle.papaya_grows.specs.Given.Tables.declared.node.Node.{Node}
+use Rattle.papaya_grows.specs.Given.Schedules.declared.event.Event.{Event}
+use Rattle.papaya_grows.specs.Given.Schedules.After.{after, is_by, moment}
+use Rattle.papaya_grows.specs.Given.Schedules.Entry.{Entry, speaker}
+use Rattle.papaya_grows.specs.Given.Schedules.Lists.{is_among}
+use Rattle.papaya_grows.specs.Given.Schedules.Model.{sets_in, things_in}
+use Rattle.papaya_grows.specs.Given.Schedules.Moment.{Moment, start}
+use Rattle.papaya_grows.specs.Given.Schedules.Terms.{Terms}
+use Rattle.papaya_grows.specs.Given.Effects.Known.{Known, nothing_known}
+use Rattle.papaya_grows.specs.Given.Executor.IsAt.{Scene, at_first, slot_of}
+use Rattle.papaya_grows.specs.Given.Moments.Numbers.{NumbersMaps, PairsAreBelow}
+use Rattle.papaya_grows.specs.Given.Moments.Whole.{ShowsWhole}
+use Rattle.papaya_grows.specs.Given.Histories.AsCalled.{ShowsAsCalled}
+use Rattle.papaya_grows.specs.Given.Histories.Due.{ShowsDue}
+use Rattle.papaya_grows.specs.Given.Histories.Questions.{ShowsQuestions}
 use Rattle.papaya_promises.specs.Reading.{ShowsReading}
 use Rattle.papaya_promises.specs.Sheltered.{SectionsHold}
-use Rattle.papaya_purposes.specs.Purposes.{ShowsPurposes}
-use Rattle.papaya_purposes.specs.Tableless.{TablelessUncounted}
+use Rattle.papaya_grows.specs.Given.Purposes.Purposes.{ShowsPurposes}
+use Rattle.papaya_grows.specs.Given.Purposes.Tableless.{TablelessUncounted}
 use Rattle.papaya_models.specs.CallEvents.{IsInItsRow}
 use Rattle.papaya_models.specs.Follows.{FollowsModel}
 use Rattle.papaya_models.specs.Turns.{CameByTurns}
-use Rattle.papaya_shards.specs.ShardWords.{IsUncounted, ShowsCounters}
-use Rattle.papaya_finds.specs.Little.{OverIsBack, ReclaimsAll}
-use Rattle.papaya_finds.specs.Orderly.{is_left_over}
-use Rattle.papaya_finds.specs.Within.{AllIsInOrder, GoesInOrder, ReadyOweNone}
-use Rattle.papaya_kept.specs.Kept.{ShowsKept}
-use Rattle.papaya_sources.specs.Sources.{ShowsSources}
+use Rattle.papaya_grows.specs.Given.Shards.ShardWords.{IsUncounted, ShowsCounters}
+use Rattle.papaya_grows.specs.Given.Finds.Little.{OverIsBack, ReclaimsAll}
+use Rattle.papaya_grows.specs.Given.Finds.Orderly.{is_left_over}
+use Rattle.papaya_grows.specs.Given.Finds.Within.{AllIsInOrder, GoesInOrder, ReadyOweNone}
+use Rattle.papaya_grows.specs.Given.Kept.Kept.{ShowsKept}
+use Rattle.papaya_grows.specs.Given.Sources.Sources.{ShowsSources}
 use Rattle.papaya_grows.specs.Finding.{ShowsFinding}
 use Rattle.papaya_grows.specs.Limits.{ShowsLimits}
 use Rattle.papaya_grows.specs.Nexts.{ShowsNexts}

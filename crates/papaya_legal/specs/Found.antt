@@ -1,35 +1,35 @@
 -- What a row on a slot finds, and what is retired while no row is under way.
 use Rattle.std.specs.Prelude.{◌≡◌, ℕ, Bool, true, false, ◌||◌, List, [], Some, None}
 use Rattle.std.specs.List.{list_all}
-use Rattle.papaya_histories.specs.Given.Seize.World.{World, Rests, SlotsTaken}
-use Rattle.papaya_histories.specs.Given.Tables.declared.node.Node.{Node}
-use Rattle.papaya_histories.specs.Given.Schedules.declared.effect.Effect.{Effect}
-use Rattle.papaya_histories.specs.Given.Schedules.declared.effect.Effect.TheVariants.{Asked}
-use Rattle.papaya_histories.specs.Given.Schedules.declared.effect.Growth.TheVariants.{ABucket}
-use Rattle.papaya_histories.specs.Given.Schedules.declared.event.Event.{Event}
-use Rattle.papaya_histories.specs.Given.Schedules.After.{moment}
-use Rattle.papaya_histories.specs.Given.Schedules.Effects.{AtEachEffect}
-use Rattle.papaya_histories.specs.Given.Schedules.Entry.{Entry}
-use Rattle.papaya_histories.specs.Given.Schedules.Growing.{AsksForBucket}
-use Rattle.papaya_histories.specs.Given.Schedules.Handing.{asks_for_bucket, is_reclaiming}
-use Rattle.papaya_histories.specs.Given.Schedules.InUse.{used_slots}
-use Rattle.papaya_histories.specs.Given.Schedules.Lists.{least_free}
-use Rattle.papaya_histories.specs.Given.Schedules.Lives.{Finds}
-use Rattle.papaya_histories.specs.Given.Schedules.Moment.{Moment}
-use Rattle.papaya_histories.specs.Given.Schedules.Terms.{Terms}
-use Rattle.papaya_histories.specs.Given.Effects.Effects.{effects_of}
-use Rattle.papaya_histories.specs.Given.Effects.Known.{Known}
-use Rattle.papaya_histories.specs.Given.Effects.declared.acting.Acting.TheVariants as acts
-use Rattle.papaya_histories.specs.Given.Executor.IsAt.{Scene, IsAt, work_of}
-use Rattle.papaya_histories.specs.Given.Executor.OnSlots.{RowLeads}
-use Rattle.papaya_histories.specs.Given.Executor.declared.executor.Executor.{Executor}
-use Rattle.papaya_histories.specs.Given.Executor.declared.row.RowTold.{RowTold}
-use Rattle.papaya_histories.specs.Given.Executor.declared.row.SlotCall.{SlotCall}
-use Rattle.papaya_histories.specs.Given.Executor.declared.row.SlotRow.{SlotRow}
-use Rattle.papaya_histories.specs.Given.Executor.declared.worker.Work.TheVariants.{OnSlot}
-use Rattle.papaya_histories.specs.Given.Moments.Whole.{ShowsWhole}
-use Rattle.papaya_finds.specs.Bounded.{ShowsRetired, TablesApart}
-use Rattle.papaya_kept.specs.Kept.{ShowsKept}
+use Rattle.papaya_grows.specs.Given.Seize.World.{World, Rests, SlotsTaken}
+use Rattle.papaya_grows.specs.Given.Tables.declared.node.Node.{Node}
+use Rattle.papaya_grows.specs.Given.Schedules.declared.effect.Effect.{Effect}
+use Rattle.papaya_grows.specs.Given.Schedules.declared.effect.Effect.TheVariants.{Asked}
+use Rattle.papaya_grows.specs.Given.Schedules.declared.effect.Growth.TheVariants.{ABucket}
+use Rattle.papaya_grows.specs.Given.Schedules.declared.event.Event.{Event}
+use Rattle.papaya_grows.specs.Given.Schedules.After.{moment}
+use Rattle.papaya_grows.specs.Given.Schedules.Effects.{AtEachEffect}
+use Rattle.papaya_grows.specs.Given.Schedules.Entry.{Entry}
+use Rattle.papaya_grows.specs.Given.Schedules.Growing.{AsksForBucket}
+use Rattle.papaya_grows.specs.Given.Schedules.Handing.{asks_for_bucket, is_reclaiming}
+use Rattle.papaya_grows.specs.Given.Schedules.InUse.{used_slots}
+use Rattle.papaya_grows.specs.Given.Schedules.Lists.{least_free}
+use Rattle.papaya_grows.specs.Given.Schedules.Lives.{Finds}
+use Rattle.papaya_grows.specs.Given.Schedules.Moment.{Moment}
+use Rattle.papaya_grows.specs.Given.Schedules.Terms.{Terms}
+use Rattle.papaya_grows.specs.Given.Effects.Effects.{effects_of}
+use Rattle.papaya_grows.specs.Given.Effects.Known.{Known}
+use Rattle.papaya_grows.specs.Given.Effects.declared.acting.Acting.TheVariants as acts
+use Rattle.papaya_grows.specs.Given.Executor.IsAt.{Scene, IsAt, work_of}
+use Rattle.papaya_grows.specs.Given.Executor.OnSlots.{RowLeads}
+use Rattle.papaya_grows.specs.Given.Executor.declared.executor.Executor.{Executor}
+use Rattle.papaya_grows.specs.Given.Executor.declared.row.RowTold.{RowTold}
+use Rattle.papaya_grows.specs.Given.Executor.declared.row.SlotCall.{SlotCall}
+use Rattle.papaya_grows.specs.Given.Executor.declared.row.SlotRow.{SlotRow}
+use Rattle.papaya_grows.specs.Given.Executor.declared.worker.Work.TheVariants.{OnSlot}
+use Rattle.papaya_grows.specs.Given.Moments.Whole.{ShowsWhole}
+use Rattle.papaya_grows.specs.Given.Finds.Bounded.{ShowsRetired, TablesApart}
+use Rattle.papaya_grows.specs.Given.Kept.Kept.{ShowsKept}
 use Rattle.papaya_legal.specs.Chains.{Chain, Come, RowSteps}
 use Rattle.papaya_legal.specs.SlotEvents.{InSlotEvent}
 

@@ -11,3 +11,4 @@ pub mod AllEvents
 pub mod Promises
 pub mod Found
 pub mod Noted
+pub mod Given

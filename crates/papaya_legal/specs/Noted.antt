@@ -1,32 +1,32 @@
 -- What a row hands over that begins with a step of a call: it is noted, as a thing that came into a map.
 use Rattle.std.specs.Prelude.{◌≡◌, ℕ, ◌≤◌, Bool, true, List, [], ◌∷◌, ◌++◌, flat_map, length, Option, Some}
 use Rattle.std.specs.List.{AllByRecursion}
-use Rattle.papaya_histories.specs.Given.Seize.World.{World, Request, Begin, Step, Happens}
-use Rattle.papaya_histories.specs.Given.Raw.declared.machines.progress.Progress.{Progress}
-use Rattle.papaya_histories.specs.Given.Tables.Nodes.{deferred_word}
-use Rattle.papaya_histories.specs.Given.Tables.declared.node.Node.{Node}
-use Rattle.papaya_histories.specs.Given.Schedules.declared.effect.Thing.{Thing}
-use Rattle.papaya_histories.specs.Given.Schedules.declared.effect.Thing.TheVariants.{APair, ATable}
-use Rattle.papaya_histories.specs.Given.Schedules.After.{moment}
-use Rattle.papaya_histories.specs.Given.Schedules.Beginning.{at_work}
-use Rattle.papaya_histories.specs.Given.Schedules.Effects.{with_effects}
-use Rattle.papaya_histories.specs.Given.Schedules.Entry.{Entry}
-use Rattle.papaya_histories.specs.Given.Schedules.Handing.{AllFind}
-use Rattle.papaya_histories.specs.Given.Schedules.Lists.{is_in}
-use Rattle.papaya_histories.specs.Given.Schedules.Model.{came, things_in}
-use Rattle.papaya_histories.specs.Given.Schedules.Moment.{Moment, start}
-use Rattle.papaya_histories.specs.Given.Schedules.Terms.{Terms}
-use Rattle.papaya_histories.specs.Given.Schedules.Things.{same_thing}
-use Rattle.papaya_histories.specs.Given.Teller.declared.changed.Changed.{Changed}
-use Rattle.papaya_histories.specs.Given.Callers.Together.{UnderWay, HandsOver}
-use Rattle.papaya_histories.specs.Given.Effects.Effects.{effects_of}
-use Rattle.papaya_histories.specs.Given.Effects.Known.{Known}
-use Rattle.papaya_histories.specs.Given.Effects.declared.acting.Acting.TheVariants.{Call}
-use Rattle.papaya_histories.specs.Given.Executor.IsAt.{Scene, IsAt, slot_of}
-use Rattle.papaya_histories.specs.Given.Executor.Stepping.{StepLeads}
-use Rattle.papaya_histories.specs.Given.Executor.declared.executor.Executor.{Executor}
-use Rattle.papaya_histories.specs.Given.Moments.Whole.{ShowsWhole}
-use Rattle.papaya_kept.specs.Kept.{ShowsKept}
+use Rattle.papaya_grows.specs.Given.Seize.World.{World, Request, Begin, Step, Happens}
+use Rattle.papaya_grows.specs.Given.Raw.declared.machines.progress.Progress.{Progress}
+use Rattle.papaya_grows.specs.Given.Tables.Nodes.{deferred_word}
+use Rattle.papaya_grows.specs.Given.Tables.declared.node.Node.{Node}
+use Rattle.papaya_grows.specs.Given.Schedules.declared.effect.Thing.{Thing}
+use Rattle.papaya_grows.specs.Given.Schedules.declared.effect.Thing.TheVariants.{APair, ATable}
+use Rattle.papaya_grows.specs.Given.Schedules.After.{moment}
+use Rattle.papaya_grows.specs.Given.Schedules.Beginning.{at_work}
+use Rattle.papaya_grows.specs.Given.Schedules.Effects.{with_effects}
+use Rattle.papaya_grows.specs.Given.Schedules.Entry.{Entry}
+use Rattle.papaya_grows.specs.Given.Schedules.Handing.{AllFind}
+use Rattle.papaya_grows.specs.Given.Schedules.Lists.{is_in}
+use Rattle.papaya_grows.specs.Given.Schedules.Model.{came, things_in}
+use Rattle.papaya_grows.specs.Given.Schedules.Moment.{Moment, start}
+use Rattle.papaya_grows.specs.Given.Schedules.Terms.{Terms}
+use Rattle.papaya_grows.specs.Given.Schedules.Things.{same_thing}
+use Rattle.papaya_grows.specs.Given.Teller.declared.changed.Changed.{Changed}
+use Rattle.papaya_grows.specs.Given.Callers.Together.{UnderWay, HandsOver}
+use Rattle.papaya_grows.specs.Given.Effects.Effects.{effects_of}
+use Rattle.papaya_grows.specs.Given.Effects.Known.{Known}
+use Rattle.papaya_grows.specs.Given.Effects.declared.acting.Acting.TheVariants.{Call}
+use Rattle.papaya_grows.specs.Given.Executor.IsAt.{Scene, IsAt, slot_of}
+use Rattle.papaya_grows.specs.Given.Executor.Stepping.{StepLeads}
+use Rattle.papaya_grows.specs.Given.Executor.declared.executor.Executor.{Executor}
+use Rattle.papaya_grows.specs.Given.Moments.Whole.{ShowsWhole}
+use Rattle.papaya_grows.specs.Given.Kept.Kept.{ShowsKept}
 use Rattle.papaya_models.specs.CallEvents.{IsNoted}
 
 -- each pair that was stored, and each table that ever was one of a map, is among these things

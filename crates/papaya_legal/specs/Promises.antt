@@ -1,15 +1,15 @@
 -- A run whose events come to what is right, and keep these promises, is legal.
 use Rattle.std.specs.Prelude.{◌<◌, ◌^◌, ℕ, Bool, List, ◌∷◌}
-use Rattle.papaya_histories.specs.Given.Schedules.After.{after, moment}
-use Rattle.papaya_histories.specs.Given.Schedules.Beginning.{at_work}
-use Rattle.papaya_histories.specs.Given.Schedules.Entry.{Entry, acting, caller_of}
-use Rattle.papaya_histories.specs.Given.Schedules.InTurn.{ComesRight}
-use Rattle.papaya_histories.specs.Given.Schedules.Runs.{IsLegal}
-use Rattle.papaya_histories.specs.Given.Schedules.Steps.{DoesFew, MakesSteps, stands_or}
-use Rattle.papaya_histories.specs.Given.Schedules.Terms.{Terms}
-use Rattle.papaya_histories.specs.Given.Effects.Known.{Known}
-use Rattle.papaya_histories.specs.Given.Executor.IsAt.{Scene}
-use Rattle.papaya_finds.specs.Little.{ReclaimsAll, ShowsNobody}
+use Rattle.papaya_grows.specs.Given.Schedules.After.{after, moment}
+use Rattle.papaya_grows.specs.Given.Schedules.Beginning.{at_work}
+use Rattle.papaya_grows.specs.Given.Schedules.Entry.{Entry, acting, caller_of}
+use Rattle.papaya_grows.specs.Given.Schedules.InTurn.{ComesRight}
+use Rattle.papaya_grows.specs.Given.Schedules.Runs.{IsLegal}
+use Rattle.papaya_grows.specs.Given.Schedules.Steps.{DoesFew, MakesSteps, stands_or}
+use Rattle.papaya_grows.specs.Given.Schedules.Terms.{Terms}
+use Rattle.papaya_grows.specs.Given.Effects.Known.{Known}
+use Rattle.papaya_grows.specs.Given.Executor.IsAt.{Scene}
+use Rattle.papaya_grows.specs.Given.Finds.Little.{ReclaimsAll, ShowsNobody}
 use Rattle.papaya_legal.specs.CallEvents.{IsLegalBut}
 use Rattle.papaya_legal.specs.Carried.{ShowsRun}
 

@@ -1,36 +1,36 @@
 -- A step of a call that is none of a row leaves what waits behind tables there.
 use Rattle.std.specs.Prelude.{◌≡◌, ℕ, ◌≤◌, Bool, List, [], ◌∷◌, length, Option, Some}
 use Rattle.std.proofs.Common.{refl, ap, sym, subst, ◌∙◌, arith, inl, inr}
-use Rattle.papaya_histories.specs.Given.Seize.World.{World, Event, Runs}
-use Rattle.papaya_histories.specs.Given.Tables.Nodes.{deferred_word}
-use Rattle.papaya_histories.specs.Given.Tables.declared.node.Node.{Node}
-use Rattle.papaya_histories.specs.Given.Raw.declared.machines.progress.Progress.{Progress}
-use Rattle.papaya_histories.specs.Given.Schedules.declared.effect.Effect.{Effect}
-use Rattle.papaya_histories.specs.Given.Schedules.declared.effect.Effect.TheVariants.{Asked, PairMade, PairGivenUp, TableMade, TableGivenUp, Linked, Promoted, Copied, Stored, Replaced, Removed, Counted, Deferred, Retired, Reclaimed, Ended, Taken}
-use Rattle.papaya_histories.specs.Given.Schedules.declared.effect.Table.{Table}
-use Rattle.papaya_histories.specs.Given.Schedules.Effects.{in_map, place_by, deferred_by, with_effect, with_effects, AtEachEffect}
-use Rattle.papaya_histories.specs.Given.Schedules.Moment.{Out, Behind, Moment}
-use Rattle.papaya_histories.specs.Given.Rule.InWorld.{AllUsers}
-use Rattle.papaya_histories.specs.Given.Callers.Together.{UnderWay, OnKey, ForRoom, Counting, OverAll}
-use Rattle.papaya_histories.specs.Given.Effects.Effects.{effects_of, known_after}
-use Rattle.papaya_histories.specs.Given.Effects.Known.{Known}
-use Rattle.papaya_histories.specs.Given.Effects.declared.acting.Acting.TheVariants.{Call}
-use Rattle.papaya_histories.specs.Given.Effects.declared.role.Role.{Role}
-use Rattle.papaya_histories.specs.Given.Effects.declared.role.Role.TheVariants as role
-use Rattle.papaya_histories.specs.Given.Executor.IsAt.{Scene, IsAt}
-use Rattle.papaya_histories.specs.Given.Executor.Stepping.{StepLeads}
-use Rattle.papaya_histories.specs.Given.Executor.declared.executor.Executor.{Executor}
-use Rattle.papaya_histories.specs.Given.Follows.Blocks.{HasRole}
-use Rattle.papaya_histories.specs.Given.Follows.Finds.{FindsMap}
-use Rattle.papaya_histories.proofs.Given.Follows.Alike.{put_elsewhere}
-use Rattle.papaya_histories.proofs.Given.Follows.Contents.{pair_within}
-use Rattle.papaya_histories.proofs.Given.Follows.Onward.{IsLasting, KeepsRoles}
-use Rattle.papaya_histories.proofs.Given.Follows.Steps.{WentTo, went_to, DidSo, OfNoRow, step_shown}
-use Rattle.papaya_histories.proofs.Given.Hands.Steps.{calls_store_theirs}
-use Rattle.papaya_histories.proofs.Given.Spots.Elsewhere.{stored_grows}
-use Rattle.papaya_histories.proofs.Given.Spots.Handing.{HandsNothing, AllHandNothing}
-use Rattle.papaya_histories.proofs.Given.Spots.Steps.{hands_nothing}
-use Rattle.papaya_histories.specs.Given.Moments.Whole.{ShowsWhole}
+use Rattle.papaya_settles.specs.Given.Seize.World.{World, Event, Runs}
+use Rattle.papaya_settles.specs.Given.Tables.Nodes.{deferred_word}
+use Rattle.papaya_settles.specs.Given.Tables.declared.node.Node.{Node}
+use Rattle.papaya_settles.specs.Given.Raw.declared.machines.progress.Progress.{Progress}
+use Rattle.papaya_settles.specs.Given.Schedules.declared.effect.Effect.{Effect}
+use Rattle.papaya_settles.specs.Given.Schedules.declared.effect.Effect.TheVariants.{Asked, PairMade, PairGivenUp, TableMade, TableGivenUp, Linked, Promoted, Copied, Stored, Replaced, Removed, Counted, Deferred, Retired, Reclaimed, Ended, Taken}
+use Rattle.papaya_settles.specs.Given.Schedules.declared.effect.Table.{Table}
+use Rattle.papaya_settles.specs.Given.Schedules.Effects.{in_map, place_by, deferred_by, with_effect, with_effects, AtEachEffect}
+use Rattle.papaya_settles.specs.Given.Schedules.Moment.{Out, Behind, Moment}
+use Rattle.papaya_settles.specs.Given.Rule.InWorld.{AllUsers}
+use Rattle.papaya_settles.specs.Given.Callers.Together.{UnderWay, OnKey, ForRoom, Counting, OverAll}
+use Rattle.papaya_settles.specs.Given.Effects.Effects.{effects_of, known_after}
+use Rattle.papaya_settles.specs.Given.Effects.Known.{Known}
+use Rattle.papaya_settles.specs.Given.Effects.declared.acting.Acting.TheVariants.{Call}
+use Rattle.papaya_settles.specs.Given.Effects.declared.role.Role.{Role}
+use Rattle.papaya_settles.specs.Given.Effects.declared.role.Role.TheVariants as role
+use Rattle.papaya_settles.specs.Given.Executor.IsAt.{Scene, IsAt}
+use Rattle.papaya_settles.specs.Given.Executor.Stepping.{StepLeads}
+use Rattle.papaya_settles.specs.Given.Executor.declared.executor.Executor.{Executor}
+use Rattle.papaya_settles.specs.Given.Follows.Blocks.{HasRole}
+use Rattle.papaya_settles.specs.Given.Follows.Finds.{FindsMap}
+use Rattle.papaya_settles.proofs.Given.Follows.Alike.{put_elsewhere}
+use Rattle.papaya_settles.proofs.Given.Follows.Contents.{pair_within}
+use Rattle.papaya_settles.proofs.Given.Follows.Onward.{IsLasting, KeepsRoles}
+use Rattle.papaya_settles.proofs.Given.Follows.Steps.{WentTo, went_to, DidSo, OfNoRow, step_shown}
+use Rattle.papaya_settles.proofs.Given.Hands.Steps.{calls_store_theirs}
+use Rattle.papaya_settles.proofs.Given.Spots.Elsewhere.{stored_grows}
+use Rattle.papaya_settles.proofs.Given.Spots.Handing.{HandsNothing, AllHandNothing}
+use Rattle.papaya_settles.proofs.Given.Spots.Steps.{hands_nothing}
+use Rattle.papaya_settles.specs.Given.Moments.Whole.{ShowsWhole}
 use Rattle.papaya_lives.specs.Behind.{LiesBehind, ShowsWaiting}
 use Rattle.papaya_lives.specs.Steps.{CallsKeepWaiting}
 use Rattle.papaya_lives.proofs.Users.{users_keep_waiting}

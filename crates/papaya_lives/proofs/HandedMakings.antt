@@ -1,42 +1,42 @@
 -- The making of a map hands nothing over, and leaves what was handed over as it was.
 use Rattle.std.specs.Prelude.{◌≡◌, ℕ, ◌==◌, Bool, true, false, List, [], ◌∷◌, Option, Some, None, if◌then◌else◌}
 use Rattle.std.proofs.Common.{refl, ap, sym, subst, ◌∙◌, inl, inr}
-use Rattle.papaya_histories.specs.Given.SeizeWords.declared.at.At.TheVariants.{Root, Used, Slot, Entry, Word}
-use Rattle.papaya_histories.specs.Given.Seize.declared.progress.Progress.{Progress}
-use Rattle.papaya_histories.specs.Given.Seize.World.{World, Row}
-use Rattle.papaya_histories.specs.Given.Tables.Nodes.{deferred_word}
-use Rattle.papaya_histories.specs.Given.Tables.declared.node.Node.{Node}
-use Rattle.papaya_histories.specs.Given.Tables.declared.setting.Setting.{Setting}
-use Rattle.papaya_histories.specs.Given.Tables.declared.table_words.TheConstants.{NEXT, DEFERRED}
-use Rattle.papaya_histories.specs.Given.Schedules.declared.effect.Effect.{Effect}
-use Rattle.papaya_histories.specs.Given.Schedules.declared.effect.Table.{Table}
-use Rattle.papaya_histories.specs.Given.Schedules.Effects.{with_effects}
-use Rattle.papaya_histories.specs.Given.Schedules.Moment.{Place, Moment}
-use Rattle.papaya_histories.specs.Given.Schedules.Reclaims.{is_handed}
-use Rattle.papaya_histories.specs.Given.Schedules.declared.effect.Spot.{Spot}
-use Rattle.papaya_histories.specs.Given.Schedules.declared.effect.Effect.TheVariants.{Asked}
-use Rattle.papaya_histories.specs.Given.Schedules.declared.effect.Growth.TheVariants.{ABlock, ABucket}
-use Rattle.papaya_histories.specs.Given.Teller.declared.changed.Changed.{Changed}
-use Rattle.papaya_histories.specs.Given.Teller.declared.changed.Changed.TheVariants as changed
-use Rattle.papaya_histories.specs.Given.Teller.declared.changed.Kind.{Kind}
-use Rattle.papaya_histories.specs.Given.Teller.declared.changed.Kind.TheVariants as kind
-use Rattle.papaya_histories.proofs.Given.Callers.Together.Came.{came_reached}
-use Rattle.papaya_histories.proofs.Given.Callers.Together.Users.{events_rows}
-use Rattle.papaya_histories.specs.Given.Effects.Effects.{names_same, named, made_by, taken_by, led_to, followed_by, carried, placed, spot_at, is_place, in_block, effects_of, known_after}
-use Rattle.papaya_histories.specs.Given.Effects.Known.{Known}
-use Rattle.papaya_histories.specs.Given.Effects.declared.acting.Acting.TheVariants.{Making}
-use Rattle.papaya_histories.specs.Given.Effects.declared.role.Role.{Role}
-use Rattle.papaya_histories.specs.Given.Effects.declared.role.Role.TheVariants as role
-use Rattle.papaya_histories.specs.Given.Executor.IsAt.{Scene, IsAt}
-use Rattle.papaya_histories.specs.Given.Executor.Making.{MakingLeads}
-use Rattle.papaya_histories.specs.Given.Executor.declared.executor.Executor.{Executor}
-use Rattle.papaya_histories.specs.Given.Finishes.Makings.{Beginning}
-use Rattle.papaya_histories.specs.Given.Follows.Blocks.{HasRole}
-use Rattle.papaya_histories.proofs.Given.Follows.Alike.{put_here}
-use Rattle.papaya_histories.proofs.Given.Follows.Onward.{IsOfMap}
-use Rattle.papaya_histories.specs.Given.Others.Makings.{WasNew}
-use Rattle.papaya_histories.specs.Given.Moments.Whole.{ShowsWhole}
-use Rattle.papaya_histories.proofs.Given.Moments.MakingSteps.{makings_go_beside}
+use Rattle.papaya_settles.specs.Given.SeizeWords.declared.at.At.TheVariants.{Root, Used, Slot, Entry, Word}
+use Rattle.papaya_settles.specs.Given.Seize.declared.progress.Progress.{Progress}
+use Rattle.papaya_settles.specs.Given.Seize.World.{World, Row}
+use Rattle.papaya_settles.specs.Given.Tables.Nodes.{deferred_word}
+use Rattle.papaya_settles.specs.Given.Tables.declared.node.Node.{Node}
+use Rattle.papaya_settles.specs.Given.Tables.declared.setting.Setting.{Setting}
+use Rattle.papaya_settles.specs.Given.Tables.declared.table_words.TheConstants.{NEXT, DEFERRED}
+use Rattle.papaya_settles.specs.Given.Schedules.declared.effect.Effect.{Effect}
+use Rattle.papaya_settles.specs.Given.Schedules.declared.effect.Table.{Table}
+use Rattle.papaya_settles.specs.Given.Schedules.Effects.{with_effects}
+use Rattle.papaya_settles.specs.Given.Schedules.Moment.{Place, Moment}
+use Rattle.papaya_settles.specs.Given.Schedules.Reclaims.{is_handed}
+use Rattle.papaya_settles.specs.Given.Schedules.declared.effect.Spot.{Spot}
+use Rattle.papaya_settles.specs.Given.Schedules.declared.effect.Effect.TheVariants.{Asked}
+use Rattle.papaya_settles.specs.Given.Schedules.declared.effect.Growth.TheVariants.{ABlock, ABucket}
+use Rattle.papaya_settles.specs.Given.Teller.declared.changed.Changed.{Changed}
+use Rattle.papaya_settles.specs.Given.Teller.declared.changed.Changed.TheVariants as changed
+use Rattle.papaya_settles.specs.Given.Teller.declared.changed.Kind.{Kind}
+use Rattle.papaya_settles.specs.Given.Teller.declared.changed.Kind.TheVariants as kind
+use Rattle.papaya_settles.proofs.Given.Callers.Together.Came.{came_reached}
+use Rattle.papaya_settles.proofs.Given.Callers.Together.Users.{events_rows}
+use Rattle.papaya_settles.specs.Given.Effects.Effects.{names_same, named, made_by, taken_by, led_to, followed_by, carried, placed, spot_at, is_place, in_block, effects_of, known_after}
+use Rattle.papaya_settles.specs.Given.Effects.Known.{Known}
+use Rattle.papaya_settles.specs.Given.Effects.declared.acting.Acting.TheVariants.{Making}
+use Rattle.papaya_settles.specs.Given.Effects.declared.role.Role.{Role}
+use Rattle.papaya_settles.specs.Given.Effects.declared.role.Role.TheVariants as role
+use Rattle.papaya_settles.specs.Given.Executor.IsAt.{Scene, IsAt}
+use Rattle.papaya_settles.specs.Given.Executor.Making.{MakingLeads}
+use Rattle.papaya_settles.specs.Given.Executor.declared.executor.Executor.{Executor}
+use Rattle.papaya_settles.specs.Given.Finishes.Makings.{Beginning}
+use Rattle.papaya_settles.specs.Given.Follows.Blocks.{HasRole}
+use Rattle.papaya_settles.proofs.Given.Follows.Alike.{put_here}
+use Rattle.papaya_settles.proofs.Given.Follows.Onward.{IsOfMap}
+use Rattle.papaya_settles.specs.Given.Others.Makings.{WasNew}
+use Rattle.papaya_settles.specs.Given.Moments.Whole.{ShowsWhole}
+use Rattle.papaya_settles.proofs.Given.Moments.MakingSteps.{makings_go_beside}
 use Rattle.papaya_lives.specs.Handed.{IsToHand, HasGone, is_deferred, ShowsHanded, MakingsKeepHanded}
 use Rattle.papaya_lives.proofs.HandedEffects.{NoneHands, retired_back}
 use Rattle.papaya_lives.proofs.HandedOver.{came_listed, users_over}

@@ -2,41 +2,41 @@
 use Rattle.std.specs.Prelude.{◌≡◌, ◌⊎◌, ◌<◌, ◌≤◌, ◌+◌, ℕ, zero, suc, Bool, false, List, [], ◌∷◌, ◌++◌, map, Option, Some, None, IsSome}
 use Rattle.std.proofs.Common.{refl, ap, sym, subst, ◌∙◌, inl, inr, arith}
 use Rattle.std.proofs.lemmas.Bool.{cases_eq}
-use Rattle.papaya_histories.specs.Given.SeizeWords.Mem.{value_at}
-use Rattle.papaya_histories.specs.Given.Seize.declared.rows.settle.Settled.{Settled}
-use Rattle.papaya_histories.specs.Given.Seize.declared.rows.settle.Settled.TheVariants as settled
-use Rattle.papaya_histories.specs.Given.Seize.declared.states.TheConstants.{LAST_SLOT}
-use Rattle.papaya_histories.specs.Given.Seize.World.{LeftTo, times, with_at}
-use Rattle.papaya_histories.proofs.Given.SeizeRule.Words.There.{value_there}
-use Rattle.papaya_histories.proofs.Given.SeizeAlone.Histories.Reached.{Reached, runs_reached}
-use Rattle.papaya_histories.specs.Given.Tables.Chunks.{is_incremental}
-use Rattle.papaya_histories.specs.Given.Tables.Nodes.{deferred_word}
-use Rattle.papaya_histories.specs.Given.Tables.declared.node.Node.{Node}
-use Rattle.papaya_histories.specs.Given.Raw.declared.machines.end_map.EndMap.{EndMap}
-use Rattle.papaya_histories.specs.Given.Schedules.declared.effect.Table.{Table}
-use Rattle.papaya_histories.specs.Given.Schedules.Moment.{Moment}
-use Rattle.papaya_histories.specs.Given.Callers.Kept.{IsPair}
-use Rattle.papaya_histories.proofs.Given.Callers.Together.At.{at_same, at_other}
-use Rattle.papaya_histories.proofs.Given.Callers.Together.Came.{came_reached}
-use Rattle.papaya_histories.specs.Given.Effects.Effects.{known_after}
-use Rattle.papaya_histories.specs.Given.Effects.Known.{Known}
-use Rattle.papaya_histories.specs.Given.Effects.declared.acting.Acting.TheVariants.{Ending}
-use Rattle.papaya_histories.specs.Given.Effects.declared.role.Role.{Role}
-use Rattle.papaya_histories.specs.Given.Effects.declared.role.Role.TheVariants as role
-use Rattle.papaya_histories.specs.Given.Executor.Ending.{EndingStepsFrom, EndingComesTo, ending_goes}
-use Rattle.papaya_histories.specs.Given.Executor.IsAt.{Scene, IsAt, slot_of}
-use Rattle.papaya_histories.specs.Given.Executor.declared.executor.Executor.{Executor}
-use Rattle.papaya_histories.specs.Given.Finishes.Endings.{Finishing, HasFinished, StepsOfEnding, waiting_by}
-use Rattle.papaya_histories.specs.Given.Finishes.FactsEnds.{events_of, from_table, taken_by as taken_of, left_by}
-use Rattle.papaya_histories.specs.Given.Finishes.Orders.{pairs_of}
-use Rattle.papaya_histories.proofs.Given.Finishes.Ends.CountedBlocks.{times-append, some_last}
-use Rattle.papaya_histories.proofs.Given.Finishes.Ends.OrdersOn.{table_later}
-use Rattle.papaya_histories.specs.Given.Follows.Blocks.{HasRole}
-use Rattle.papaya_histories.proofs.Given.Follows.Onward.{IsOfMap}
-use Rattle.papaya_histories.specs.Given.Others.Endings.{ending_after}
-use Rattle.papaya_histories.specs.Given.Moments.Whole.{ShowsWhole}
-use Rattle.papaya_histories.proofs.Given.Moments.Ends.{end_keeps}
-use Rattle.papaya_histories.proofs.Given.Moments.OnSlots.{none_some}
+use Rattle.papaya_settles.specs.Given.SeizeWords.Mem.{value_at}
+use Rattle.papaya_settles.specs.Given.Seize.declared.rows.settle.Settled.{Settled}
+use Rattle.papaya_settles.specs.Given.Seize.declared.rows.settle.Settled.TheVariants as settled
+use Rattle.papaya_settles.specs.Given.Seize.declared.states.TheConstants.{LAST_SLOT}
+use Rattle.papaya_settles.specs.Given.Seize.World.{LeftTo, times, with_at}
+use Rattle.papaya_settles.proofs.Given.SeizeRule.Words.There.{value_there}
+use Rattle.papaya_settles.proofs.Given.SeizeAlone.Histories.Reached.{Reached, runs_reached}
+use Rattle.papaya_settles.specs.Given.Tables.Chunks.{is_incremental}
+use Rattle.papaya_settles.specs.Given.Tables.Nodes.{deferred_word}
+use Rattle.papaya_settles.specs.Given.Tables.declared.node.Node.{Node}
+use Rattle.papaya_settles.specs.Given.Raw.declared.machines.end_map.EndMap.{EndMap}
+use Rattle.papaya_settles.specs.Given.Schedules.declared.effect.Table.{Table}
+use Rattle.papaya_settles.specs.Given.Schedules.Moment.{Moment}
+use Rattle.papaya_settles.specs.Given.Callers.Kept.{IsPair}
+use Rattle.papaya_settles.proofs.Given.Callers.Together.At.{at_same, at_other}
+use Rattle.papaya_settles.proofs.Given.Callers.Together.Came.{came_reached}
+use Rattle.papaya_settles.specs.Given.Effects.Effects.{known_after}
+use Rattle.papaya_settles.specs.Given.Effects.Known.{Known}
+use Rattle.papaya_settles.specs.Given.Effects.declared.acting.Acting.TheVariants.{Ending}
+use Rattle.papaya_settles.specs.Given.Effects.declared.role.Role.{Role}
+use Rattle.papaya_settles.specs.Given.Effects.declared.role.Role.TheVariants as role
+use Rattle.papaya_settles.specs.Given.Executor.Ending.{EndingStepsFrom, EndingComesTo, ending_goes}
+use Rattle.papaya_settles.specs.Given.Executor.IsAt.{Scene, IsAt, slot_of}
+use Rattle.papaya_settles.specs.Given.Executor.declared.executor.Executor.{Executor}
+use Rattle.papaya_settles.specs.Given.Finishes.Endings.{Finishing, HasFinished, StepsOfEnding, waiting_by}
+use Rattle.papaya_settles.specs.Given.Finishes.FactsEnds.{events_of, from_table, taken_by as taken_of, left_by}
+use Rattle.papaya_settles.specs.Given.Finishes.Orders.{pairs_of}
+use Rattle.papaya_settles.proofs.Given.Finishes.Ends.CountedBlocks.{times-append, some_last}
+use Rattle.papaya_settles.proofs.Given.Finishes.Ends.OrdersOn.{table_later}
+use Rattle.papaya_settles.specs.Given.Follows.Blocks.{HasRole}
+use Rattle.papaya_settles.proofs.Given.Follows.Onward.{IsOfMap}
+use Rattle.papaya_settles.specs.Given.Others.Endings.{ending_after}
+use Rattle.papaya_settles.specs.Given.Moments.Whole.{ShowsWhole}
+use Rattle.papaya_settles.proofs.Given.Moments.Ends.{end_keeps}
+use Rattle.papaya_settles.proofs.Given.Moments.OnSlots.{none_some}
 use Rattle.papaya_lives.specs.Behind.{IsLeft}
 use Rattle.papaya_lives.specs.LeftTables.{IsToTake, ShowsLeft, EndingsKeepLeft}
 use Rattle.papaya_lives.proofs.Users.{left_lives}

@@ -41,3 +41,4 @@ pub mod HandedRows
 pub mod HandedCalls
 pub mod HandedMakings
 pub mod HandedEnds
+pub mod Given

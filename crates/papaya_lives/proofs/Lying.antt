@@ -2,44 +2,44 @@
 use Rattle.std.specs.Prelude.{◌≡◌, ◌⊎◌, ℕ, ◌==◌, nat_lt, ◌&&◌, ◌||◌, Bool, true, false, not, List, [], ◌∷◌, map, filter, Option, Some, None, if◌then◌else◌}
 use Rattle.std.proofs.Common.{refl, ap, sym, subst, ◌∙◌, inl, inr}
 use Rattle.std.proofs.lemmas.Bool.{cases_eq, eq-eqb}
-use Rattle.papaya_histories.specs.Given.SeizeWords.Mem.{value_at}
-use Rattle.papaya_histories.specs.Given.SeizeWords.declared.at.At.TheVariants.{Root, Used, Slot, Entry, Word}
-use Rattle.papaya_histories.specs.Given.Seize.Law.{Effect as LogEffect, With, where_is}
-use Rattle.papaya_histories.specs.Given.Seize.World.{World, Row as Under, Steps'}
-use Rattle.papaya_histories.proofs.Given.SeizeAlone.Histories.NotTaken.{did}
-use Rattle.papaya_histories.proofs.Given.SeizeAlone.Histories.Reached.{Reached}
-use Rattle.papaya_histories.specs.Given.Tables.Nodes.{deferred_word}
-use Rattle.papaya_histories.specs.Given.Tables.declared.node.Node.{Node}
-use Rattle.papaya_histories.specs.Given.Schedules.declared.effect.Effect.TheVariants.{Asked}
-use Rattle.papaya_histories.specs.Given.Schedules.declared.effect.Growth.TheVariants.{ABucket}
-use Rattle.papaya_histories.specs.Given.Schedules.declared.effect.Table.{Table}
-use Rattle.papaya_histories.specs.Given.Schedules.Effects.{with_effects}
-use Rattle.papaya_histories.specs.Given.Schedules.Lists.{is_among}
-use Rattle.papaya_histories.specs.Given.Schedules.Moment.{Deferral, Moment}
-use Rattle.papaya_histories.specs.Given.Schedules.Things.{same_table}
-use Rattle.papaya_histories.specs.Given.Schedules.Views.{behind}
-use Rattle.papaya_histories.specs.Given.Teller.declared.changed.Changed.{Changed}
-use Rattle.papaya_histories.specs.Given.Teller.declared.changed.Changed.TheVariants as changed
-use Rattle.papaya_histories.proofs.Given.Callers.Rows.Behind.{carrier_not_made, events_back, row_back}
-use Rattle.papaya_histories.proofs.Given.Callers.Together.Came.{came_reached}
-use Rattle.papaya_histories.proofs.Given.Callers.Together.Users.{events_rows}
-use Rattle.papaya_histories.specs.Given.Effects.Effects.{names_same, taken_by, effects_of, known_after}
-use Rattle.papaya_histories.specs.Given.Effects.Known.{Known, with_role}
-use Rattle.papaya_histories.specs.Given.Effects.declared.acting.Acting.TheVariants.{Making, Row}
-use Rattle.papaya_histories.specs.Given.Effects.declared.role.Role.{Role}
-use Rattle.papaya_histories.specs.Given.Effects.declared.role.Role.TheVariants as role
-use Rattle.papaya_histories.specs.Given.Executor.IsAt.{Scene, HasRow, row_of, slot_of}
-use Rattle.papaya_histories.specs.Given.Executor.declared.row.SlotRow.{SlotRow}
-use Rattle.papaya_histories.specs.Given.Executor.declared.row.SlotRow.TheVariants as rows
-use Rattle.papaya_histories.specs.Given.Executor.declared.worker.Work.{Work}
-use Rattle.papaya_histories.specs.Given.Follows.Blocks.{HasRole}
-use Rattle.papaya_histories.proofs.Given.Follows.Alike.{put_here, put_elsewhere}
-use Rattle.papaya_histories.proofs.Given.Follows.Onward.{IsOfMap}
-use Rattle.papaya_histories.proofs.Given.Follows.Operations.{LeavesBy}
-use Rattle.papaya_histories.proofs.Given.Follows.Told.{roomed_as_many}
-use Rattle.papaya_histories.proofs.Given.Others.RowPlans.{TellsRow, row_tells}
-use Rattle.papaya_histories.proofs.Given.Spots.Unreclaimed.{table_is, same_itself}
-use Rattle.papaya_histories.specs.Given.Moments.Whole.{ShowsWhole}
+use Rattle.papaya_settles.specs.Given.SeizeWords.Mem.{value_at}
+use Rattle.papaya_settles.specs.Given.SeizeWords.declared.at.At.TheVariants.{Root, Used, Slot, Entry, Word}
+use Rattle.papaya_settles.specs.Given.Seize.Law.{Effect as LogEffect, With, where_is}
+use Rattle.papaya_settles.specs.Given.Seize.World.{World, Row as Under, Steps'}
+use Rattle.papaya_settles.proofs.Given.SeizeAlone.Histories.NotTaken.{did}
+use Rattle.papaya_settles.proofs.Given.SeizeAlone.Histories.Reached.{Reached}
+use Rattle.papaya_settles.specs.Given.Tables.Nodes.{deferred_word}
+use Rattle.papaya_settles.specs.Given.Tables.declared.node.Node.{Node}
+use Rattle.papaya_settles.specs.Given.Schedules.declared.effect.Effect.TheVariants.{Asked}
+use Rattle.papaya_settles.specs.Given.Schedules.declared.effect.Growth.TheVariants.{ABucket}
+use Rattle.papaya_settles.specs.Given.Schedules.declared.effect.Table.{Table}
+use Rattle.papaya_settles.specs.Given.Schedules.Effects.{with_effects}
+use Rattle.papaya_settles.specs.Given.Schedules.Lists.{is_among}
+use Rattle.papaya_settles.specs.Given.Schedules.Moment.{Deferral, Moment}
+use Rattle.papaya_settles.specs.Given.Schedules.Things.{same_table}
+use Rattle.papaya_settles.specs.Given.Schedules.Views.{behind}
+use Rattle.papaya_settles.specs.Given.Teller.declared.changed.Changed.{Changed}
+use Rattle.papaya_settles.specs.Given.Teller.declared.changed.Changed.TheVariants as changed
+use Rattle.papaya_settles.proofs.Given.Callers.Rows.Behind.{carrier_not_made, events_back, row_back}
+use Rattle.papaya_settles.proofs.Given.Callers.Together.Came.{came_reached}
+use Rattle.papaya_settles.proofs.Given.Callers.Together.Users.{events_rows}
+use Rattle.papaya_settles.specs.Given.Effects.Effects.{names_same, taken_by, effects_of, known_after}
+use Rattle.papaya_settles.specs.Given.Effects.Known.{Known, with_role}
+use Rattle.papaya_settles.specs.Given.Effects.declared.acting.Acting.TheVariants.{Making, Row}
+use Rattle.papaya_settles.specs.Given.Effects.declared.role.Role.{Role}
+use Rattle.papaya_settles.specs.Given.Effects.declared.role.Role.TheVariants as role
+use Rattle.papaya_settles.specs.Given.Executor.IsAt.{Scene, HasRow, row_of, slot_of}
+use Rattle.papaya_settles.specs.Given.Executor.declared.row.SlotRow.{SlotRow}
+use Rattle.papaya_settles.specs.Given.Executor.declared.row.SlotRow.TheVariants as rows
+use Rattle.papaya_settles.specs.Given.Executor.declared.worker.Work.{Work}
+use Rattle.papaya_settles.specs.Given.Follows.Blocks.{HasRole}
+use Rattle.papaya_settles.proofs.Given.Follows.Alike.{put_here, put_elsewhere}
+use Rattle.papaya_settles.proofs.Given.Follows.Onward.{IsOfMap}
+use Rattle.papaya_settles.proofs.Given.Follows.Operations.{LeavesBy}
+use Rattle.papaya_settles.proofs.Given.Follows.Told.{roomed_as_many}
+use Rattle.papaya_settles.proofs.Given.Others.RowPlans.{TellsRow, row_tells}
+use Rattle.papaya_settles.proofs.Given.Spots.Unreclaimed.{table_is, same_itself}
+use Rattle.papaya_settles.specs.Given.Moments.Whole.{ShowsWhole}
 use Rattle.papaya_lives.specs.Lying.{IsToldBehind, IsPutThere, ShowsLying, LyingBegins, OthersLeaveLying, EndingsBeginLying, RowsBeginLying, RowsKeepLying, MakingsKeepLying}
 use Rattle.papaya_lives.specs.Waiting.{IsPutting}
 use Rattle.papaya_lives.proofs.Makings.{role_kept, apart}

@@ -2,49 +2,49 @@
 use Rattle.std.specs.Prelude.{◌≡◌, ◌≢◌, ◌⊎◌, ℕ, eqb, Bool, true, cond, ◌+◌, List, [], ◌∷◌, Option, Some, None}
 use Rattle.std.proofs.Common.{refl, ap, sym, subst, ◌∙◌, inl, inr}
 use Rattle.std.proofs.lemmas.Bool.{cases_eq, eq-eqb, ne_eqb}
-use Rattle.papaya_histories.specs.Given.SeizeWords.Word.{block_in}
-use Rattle.papaya_histories.specs.Given.SeizeWords.declared.at.At.{At}
-use Rattle.papaya_histories.specs.Given.Seize.Further.{IsWordOf}
-use Rattle.papaya_histories.specs.Given.Seize.Law.{With, Nowhere, is_standing, where_is}
-use Rattle.papaya_histories.specs.Given.Seize.declared.states.TheConstants.{LAST_SLOT}
-use Rattle.papaya_histories.specs.Given.Seize.World.{World, Row, Rests, Registers, Enters, Settles, Leaves, Defers, Frees, Request, Register', Enter', Leave', LeaveOwned, Refresh, Unregister', Retire, Flush, Defer', Event, Begin, Begins, Runs, Steps', with_at}
-use Rattle.papaya_histories.proofs.Given.SeizeRule.World.Kept.{steps_next}
-use Rattle.papaya_histories.proofs.Given.SeizeRule.Words.Named.{link-block}
-use Rattle.papaya_histories.proofs.Given.SeizeAlone.Histories.Reached.{Reached, happens_reached}
-use Rattle.papaya_histories.specs.Given.Tables.Nodes.{deferred_word}
-use Rattle.papaya_histories.specs.Given.Tables.declared.node.Node.{Node}
-use Rattle.papaya_histories.specs.Given.Raw.declared.machines.machine.Machine.{Machine}
-use Rattle.papaya_histories.specs.Given.Raw.declared.machines.progress.Progress.{Progress}
-use Rattle.papaya_histories.specs.Given.Raw.declared.machines.progress.Progress.TheVariants as progress
-use Rattle.papaya_histories.specs.Given.Schedules.declared.effect.Effect.{Effect}
-use Rattle.papaya_histories.specs.Given.Schedules.declared.effect.Table.{Table}
-use Rattle.papaya_histories.specs.Given.Schedules.Effects.{with_effects}
-use Rattle.papaya_histories.specs.Given.Schedules.Lists.{is_among}
-use Rattle.papaya_histories.specs.Given.Schedules.Moment.{Deferral, Moment}
-use Rattle.papaya_histories.specs.Given.Schedules.Views.{behind}
-use Rattle.papaya_histories.specs.Given.Rule.InWorld.{AllUsers}
-use Rattle.papaya_histories.specs.Given.Callers.Sights.{seen_by}
-use Rattle.papaya_histories.specs.Given.Callers.Together.{UnderWay, OnKey, ForRoom, Counting, OverAll, Together, HandsOver, IsOneStep}
-use Rattle.papaya_histories.proofs.Given.Callers.Rows.Behind.{carrier_not_made, deferred_behind, events_back, row_back}
-use Rattle.papaya_histories.proofs.Given.Callers.Together.At.{at_same}
-use Rattle.papaya_histories.proofs.Given.Callers.Together.Came.{came_reached}
-use Rattle.papaya_histories.proofs.Given.Callers.Together.Users.{events_rows}
-use Rattle.papaya_histories.specs.Given.Effects.Effects.{carried, named, effects_of, known_after}
-use Rattle.papaya_histories.specs.Given.Effects.Known.{Known}
-use Rattle.papaya_histories.specs.Given.Effects.declared.acting.Acting.TheVariants.{Call}
-use Rattle.papaya_histories.specs.Given.Effects.declared.role.Role.{Role}
-use Rattle.papaya_histories.specs.Given.Effects.declared.role.Role.TheVariants as role
-use Rattle.papaya_histories.specs.Given.Executor.IsAt.{Scene, IsAt, slot_of}
-use Rattle.papaya_histories.specs.Given.Executor.Stepping.{StepLeads, scene_after}
-use Rattle.papaya_histories.specs.Given.Executor.declared.executor.Executor.{Executor}
-use Rattle.papaya_histories.specs.Given.Finishes.Machines.{machine_of, GoesOnAs}
-use Rattle.papaya_histories.specs.Given.Finishes.Maps.{Standing}
-use Rattle.papaya_histories.proofs.Given.Follows.Onward.{IsLasting, KeepsRoles}
-use Rattle.papaya_histories.proofs.Given.Follows.RowSteps.{row_step_shown}
-use Rattle.papaya_histories.proofs.Given.Follows.Steps.{WentTo, went_to, DidSo, OfNoRow, step_shown}
-use Rattle.papaya_histories.proofs.Given.Hands.RowSteps.{rows_hand_theirs}
-use Rattle.papaya_histories.proofs.Given.Hands.Steps.{calls_store_theirs}
-use Rattle.papaya_histories.specs.Given.Moments.Whole.{ShowsWhole}
+use Rattle.papaya_settles.specs.Given.SeizeWords.Word.{block_in}
+use Rattle.papaya_settles.specs.Given.SeizeWords.declared.at.At.{At}
+use Rattle.papaya_settles.specs.Given.Seize.Further.{IsWordOf}
+use Rattle.papaya_settles.specs.Given.Seize.Law.{With, Nowhere, is_standing, where_is}
+use Rattle.papaya_settles.specs.Given.Seize.declared.states.TheConstants.{LAST_SLOT}
+use Rattle.papaya_settles.specs.Given.Seize.World.{World, Row, Rests, Registers, Enters, Settles, Leaves, Defers, Frees, Request, Register', Enter', Leave', LeaveOwned, Refresh, Unregister', Retire, Flush, Defer', Event, Begin, Begins, Runs, Steps', with_at}
+use Rattle.papaya_settles.proofs.Given.SeizeRule.World.Kept.{steps_next}
+use Rattle.papaya_settles.proofs.Given.SeizeRule.Words.Named.{link-block}
+use Rattle.papaya_settles.proofs.Given.SeizeAlone.Histories.Reached.{Reached, happens_reached}
+use Rattle.papaya_settles.specs.Given.Tables.Nodes.{deferred_word}
+use Rattle.papaya_settles.specs.Given.Tables.declared.node.Node.{Node}
+use Rattle.papaya_settles.specs.Given.Raw.declared.machines.machine.Machine.{Machine}
+use Rattle.papaya_settles.specs.Given.Raw.declared.machines.progress.Progress.{Progress}
+use Rattle.papaya_settles.specs.Given.Raw.declared.machines.progress.Progress.TheVariants as progress
+use Rattle.papaya_settles.specs.Given.Schedules.declared.effect.Effect.{Effect}
+use Rattle.papaya_settles.specs.Given.Schedules.declared.effect.Table.{Table}
+use Rattle.papaya_settles.specs.Given.Schedules.Effects.{with_effects}
+use Rattle.papaya_settles.specs.Given.Schedules.Lists.{is_among}
+use Rattle.papaya_settles.specs.Given.Schedules.Moment.{Deferral, Moment}
+use Rattle.papaya_settles.specs.Given.Schedules.Views.{behind}
+use Rattle.papaya_settles.specs.Given.Rule.InWorld.{AllUsers}
+use Rattle.papaya_settles.specs.Given.Callers.Sights.{seen_by}
+use Rattle.papaya_settles.specs.Given.Callers.Together.{UnderWay, OnKey, ForRoom, Counting, OverAll, Together, HandsOver, IsOneStep}
+use Rattle.papaya_settles.proofs.Given.Callers.Rows.Behind.{carrier_not_made, deferred_behind, events_back, row_back}
+use Rattle.papaya_settles.proofs.Given.Callers.Together.At.{at_same}
+use Rattle.papaya_settles.proofs.Given.Callers.Together.Came.{came_reached}
+use Rattle.papaya_settles.proofs.Given.Callers.Together.Users.{events_rows}
+use Rattle.papaya_settles.specs.Given.Effects.Effects.{carried, named, effects_of, known_after}
+use Rattle.papaya_settles.specs.Given.Effects.Known.{Known}
+use Rattle.papaya_settles.specs.Given.Effects.declared.acting.Acting.TheVariants.{Call}
+use Rattle.papaya_settles.specs.Given.Effects.declared.role.Role.{Role}
+use Rattle.papaya_settles.specs.Given.Effects.declared.role.Role.TheVariants as role
+use Rattle.papaya_settles.specs.Given.Executor.IsAt.{Scene, IsAt, slot_of}
+use Rattle.papaya_settles.specs.Given.Executor.Stepping.{StepLeads, scene_after}
+use Rattle.papaya_settles.specs.Given.Executor.declared.executor.Executor.{Executor}
+use Rattle.papaya_settles.specs.Given.Finishes.Machines.{machine_of, GoesOnAs}
+use Rattle.papaya_settles.specs.Given.Finishes.Maps.{Standing}
+use Rattle.papaya_settles.proofs.Given.Follows.Onward.{IsLasting, KeepsRoles}
+use Rattle.papaya_settles.proofs.Given.Follows.RowSteps.{row_step_shown}
+use Rattle.papaya_settles.proofs.Given.Follows.Steps.{WentTo, went_to, DidSo, OfNoRow, step_shown}
+use Rattle.papaya_settles.proofs.Given.Hands.RowSteps.{rows_hand_theirs}
+use Rattle.papaya_settles.proofs.Given.Hands.Steps.{calls_store_theirs}
+use Rattle.papaya_settles.specs.Given.Moments.Whole.{ShowsWhole}
 use Rattle.papaya_settles.specs.Due.{ToPut, due_in_row, told_retired, RowTells, TellsNone, TellsRetired, TellsDeferred, OwnAreMade}
 use Rattle.papaya_settles.specs.Entries.{ShowsEntries}
 use Rattle.papaya_settles.specs.Hand.{IsPairRole, ShowsOwed}

@@ -1,39 +1,39 @@
 -- A step of the end of a map leaves what lies behind tables there, but for what lies behind one that it leaves over, which lies nowhere from then on.
 use Rattle.std.specs.Prelude.{◌≡◌, ℕ, Bool, true, List, Some, None}
 use Rattle.std.proofs.Common.{refl, ap, sym, subst, ◌∙◌, inl, inr}
-use Rattle.papaya_histories.specs.Given.Seize.Law.{With, is_somewhere, where_is}
-use Rattle.papaya_histories.specs.Given.Seize.World.{Row}
-use Rattle.papaya_histories.specs.Given.Seize.declared.rows.settle.Settled.{Settled}
-use Rattle.papaya_histories.specs.Given.Seize.declared.rows.settle.Settled.TheVariants as settled
-use Rattle.papaya_histories.proofs.Given.SeizeAlone.Histories.NotTaken.{CanBeReached, kept_there}
-use Rattle.papaya_histories.proofs.Given.SeizeAlone.Histories.Reached.{Reached, runs_reached}
-use Rattle.papaya_histories.specs.Given.Tables.Nodes.{deferred_word}
-use Rattle.papaya_histories.specs.Given.Tables.declared.node.Node.{Node}
-use Rattle.papaya_histories.specs.Given.Raw.declared.machines.end_map.EndMap.{EndMap}
-use Rattle.papaya_histories.specs.Given.Schedules.declared.effect.Effect.{Effect}
-use Rattle.papaya_histories.specs.Given.Schedules.declared.effect.Table.{Table}
-use Rattle.papaya_histories.specs.Given.Schedules.Effects.{with_effects}
-use Rattle.papaya_histories.specs.Given.Schedules.Lists.{is_among}
-use Rattle.papaya_histories.specs.Given.Schedules.Moment.{Deferral, Moment}
-use Rattle.papaya_histories.specs.Given.Schedules.Views.{behind}
-use Rattle.papaya_histories.specs.Given.Teller.declared.changed.Changed.{Changed}
-use Rattle.papaya_histories.specs.Given.Teller.declared.changed.Changed.TheVariants as changed
-use Rattle.papaya_histories.proofs.Given.Callers.Together.Came.{came_reached}
-use Rattle.papaya_histories.specs.Given.Effects.Effects.{taken_by, effects_of, known_after}
-use Rattle.papaya_histories.specs.Given.Effects.Known.{Known}
-use Rattle.papaya_histories.specs.Given.Effects.declared.acting.Acting.TheVariants.{Ending}
-use Rattle.papaya_histories.specs.Given.Effects.declared.role.Role.{Role}
-use Rattle.papaya_histories.specs.Given.Effects.declared.role.Role.TheVariants as role
-use Rattle.papaya_histories.specs.Given.Executor.Ending.{EndingStepsFrom, EndingComesTo}
-use Rattle.papaya_histories.specs.Given.Executor.IsAt.{Scene, IsAt, slot_of}
-use Rattle.papaya_histories.specs.Given.Executor.declared.executor.Executor.{Executor}
-use Rattle.papaya_histories.specs.Given.Finishes.Endings.{Finishing, StepsOfEnding}
-use Rattle.papaya_histories.specs.Given.Finishes.FactsEnds.{events_of}
-use Rattle.papaya_histories.proofs.Given.Follows.Alike.{put_here}
-use Rattle.papaya_histories.proofs.Given.Follows.Onward.{IsOfMap}
-use Rattle.papaya_histories.specs.Given.Others.Endings.{ending_after}
-use Rattle.papaya_histories.specs.Given.Moments.Whole.{ShowsWhole}
-use Rattle.papaya_histories.proofs.Given.Moments.Ends.{says, end_keeps}
+use Rattle.papaya_settles.specs.Given.Seize.Law.{With, is_somewhere, where_is}
+use Rattle.papaya_settles.specs.Given.Seize.World.{Row}
+use Rattle.papaya_settles.specs.Given.Seize.declared.rows.settle.Settled.{Settled}
+use Rattle.papaya_settles.specs.Given.Seize.declared.rows.settle.Settled.TheVariants as settled
+use Rattle.papaya_settles.proofs.Given.SeizeAlone.Histories.NotTaken.{CanBeReached, kept_there}
+use Rattle.papaya_settles.proofs.Given.SeizeAlone.Histories.Reached.{Reached, runs_reached}
+use Rattle.papaya_settles.specs.Given.Tables.Nodes.{deferred_word}
+use Rattle.papaya_settles.specs.Given.Tables.declared.node.Node.{Node}
+use Rattle.papaya_settles.specs.Given.Raw.declared.machines.end_map.EndMap.{EndMap}
+use Rattle.papaya_settles.specs.Given.Schedules.declared.effect.Effect.{Effect}
+use Rattle.papaya_settles.specs.Given.Schedules.declared.effect.Table.{Table}
+use Rattle.papaya_settles.specs.Given.Schedules.Effects.{with_effects}
+use Rattle.papaya_settles.specs.Given.Schedules.Lists.{is_among}
+use Rattle.papaya_settles.specs.Given.Schedules.Moment.{Deferral, Moment}
+use Rattle.papaya_settles.specs.Given.Schedules.Views.{behind}
+use Rattle.papaya_settles.specs.Given.Teller.declared.changed.Changed.{Changed}
+use Rattle.papaya_settles.specs.Given.Teller.declared.changed.Changed.TheVariants as changed
+use Rattle.papaya_settles.proofs.Given.Callers.Together.Came.{came_reached}
+use Rattle.papaya_settles.specs.Given.Effects.Effects.{taken_by, effects_of, known_after}
+use Rattle.papaya_settles.specs.Given.Effects.Known.{Known}
+use Rattle.papaya_settles.specs.Given.Effects.declared.acting.Acting.TheVariants.{Ending}
+use Rattle.papaya_settles.specs.Given.Effects.declared.role.Role.{Role}
+use Rattle.papaya_settles.specs.Given.Effects.declared.role.Role.TheVariants as role
+use Rattle.papaya_settles.specs.Given.Executor.Ending.{EndingStepsFrom, EndingComesTo}
+use Rattle.papaya_settles.specs.Given.Executor.IsAt.{Scene, IsAt, slot_of}
+use Rattle.papaya_settles.specs.Given.Executor.declared.executor.Executor.{Executor}
+use Rattle.papaya_settles.specs.Given.Finishes.Endings.{Finishing, StepsOfEnding}
+use Rattle.papaya_settles.specs.Given.Finishes.FactsEnds.{events_of}
+use Rattle.papaya_settles.proofs.Given.Follows.Alike.{put_here}
+use Rattle.papaya_settles.proofs.Given.Follows.Onward.{IsOfMap}
+use Rattle.papaya_settles.specs.Given.Others.Endings.{ending_after}
+use Rattle.papaya_settles.specs.Given.Moments.Whole.{ShowsWhole}
+use Rattle.papaya_settles.proofs.Given.Moments.Ends.{says, end_keeps}
 use Rattle.papaya_lives.specs.Lying.{ShowsLying, EndingsKeepLying}
 use Rattle.papaya_lives.specs.Waiting.{IsPutting}
 use Rattle.papaya_lives.proofs.Lying.{behind_other, lying_on}

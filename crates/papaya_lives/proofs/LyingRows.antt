@@ -2,43 +2,43 @@
 use Rattle.std.specs.Prelude.{◌≡◌, ◌≢◌, ◌⊎◌, ℕ, Bool, Option, Some, if◌then◌else◌}
 use Rattle.std.proofs.Common.{refl, ap, sym, subst, ◌∙◌, inl, inr}
 use Rattle.std.proofs.lemmas.Bool.{eq-eqb}
-use Rattle.papaya_histories.specs.Given.SeizeWords.declared.at.At.{At}
-use Rattle.papaya_histories.specs.Given.SeizeWords.declared.at.At.TheVariants.{Root, Used, Slot, Entry, Word}
-use Rattle.papaya_histories.specs.Given.SeizeWords.Op.{Found, Stored, Exchanged, Made, Taken, Roomed}
-use Rattle.papaya_histories.specs.Given.SeizeWords.Word.{link_to}
-use Rattle.papaya_histories.specs.Given.Seize.Defer.{deferring}
-use Rattle.papaya_histories.specs.Given.Seize.Further.{IsWordOf}
-use Rattle.papaya_histories.specs.Given.Seize.declared.progress.Progress.{Progress as Deferring}
-use Rattle.papaya_histories.specs.Given.Seize.declared.rows.defer.Defer.{Defer}
-use Rattle.papaya_histories.specs.Given.Seize.declared.rows.defer.Deferring.{Deferring as Point}
-use Rattle.papaya_histories.specs.Given.Seize.declared.rows.defer.Deferring.TheVariants as at
-use Rattle.papaya_histories.specs.Given.Seize.World.{World, Row, Rests, Registers, Enters, Settles, Leaves, Defers, Frees, Use, Defer', Begins, Steps', defers_on, with_at}
-use Rattle.papaya_histories.proofs.Given.SeizeMoves.State.Ghost.{State}
-use Rattle.papaya_histories.proofs.Given.SeizeRule.Rows.Told.{RowTold, SettleGoes, SettleEnds, LeaveSwaps, LeaveGoes, LeaveSettled, LeaveEnds, RegisterLooks, RegisterRefused, RegisterTakes, RegisterEnters, EntersSlot, FreesSlot, DeferGoes, DeferPushes, DeferEnds}
-use Rattle.papaya_histories.specs.Given.Tables.declared.node.Node.{Node}
-use Rattle.papaya_histories.specs.Given.Tables.declared.setting.Setting.{Setting}
-use Rattle.papaya_histories.specs.Given.Resize.declared.copier.Copying.{Copying}
-use Rattle.papaya_histories.specs.Given.Resize.declared.copier.Copying.TheVariants as copying
-use Rattle.papaya_histories.specs.Given.Resize.declared.dispose.Disposing.{Disposing}
-use Rattle.papaya_histories.specs.Given.Resize.declared.dispose.Disposing.TheVariants as disposing
-use Rattle.papaya_histories.specs.Given.Reserves.declared.reserve.Reserving.{Reserving}
-use Rattle.papaya_histories.specs.Given.Reserves.declared.reserve.Reserving.TheVariants as reserving
-use Rattle.papaya_histories.specs.Given.Sweeps.declared.sweep.Sweeping.{Sweeping}
-use Rattle.papaya_histories.specs.Given.Sweeps.declared.sweep.Sweeping.TheVariants as sweeping
-use Rattle.papaya_histories.specs.Given.Raw.declared.machines.call.Calling.{Calling}
-use Rattle.papaya_histories.specs.Given.Raw.declared.machines.call.Calling.TheVariants as calling
-use Rattle.papaya_histories.specs.Given.Raw.declared.machines.machine.Machine.{Machine}
-use Rattle.papaya_histories.specs.Given.Raw.declared.machines.machine.Machine.TheVariants as kinds
-use Rattle.papaya_histories.specs.Given.Rule.Chart.{Chart}
-use Rattle.papaya_histories.specs.Given.Rule.Words.{Blocks}
-use Rattle.papaya_histories.specs.Given.Callers.Rows.{row_of, row_of_disposal, row_of_copier}
-use Rattle.papaya_histories.specs.Given.Callers.Rooms.{row_of_room}
-use Rattle.papaya_histories.specs.Given.Callers.OverAll.{row_of_sweep}
-use Rattle.papaya_histories.specs.Given.Callers.Together.{UnderWay, OnKey, ForRoom, Counting, OverAll, Stands}
-use Rattle.papaya_histories.specs.Given.Effects.Effects.{named}
-use Rattle.papaya_histories.specs.Given.Effects.Known.{Known}
-use Rattle.papaya_histories.specs.Given.Executor.IsAt.{slot_of}
-use Rattle.papaya_histories.specs.Given.Finishes.Machines.{machine_of}
+use Rattle.papaya_settles.specs.Given.SeizeWords.declared.at.At.{At}
+use Rattle.papaya_settles.specs.Given.SeizeWords.declared.at.At.TheVariants.{Root, Used, Slot, Entry, Word}
+use Rattle.papaya_settles.specs.Given.SeizeWords.Op.{Found, Stored, Exchanged, Made, Taken, Roomed}
+use Rattle.papaya_settles.specs.Given.SeizeWords.Word.{link_to}
+use Rattle.papaya_settles.specs.Given.Seize.Defer.{deferring}
+use Rattle.papaya_settles.specs.Given.Seize.Further.{IsWordOf}
+use Rattle.papaya_settles.specs.Given.Seize.declared.progress.Progress.{Progress as Deferring}
+use Rattle.papaya_settles.specs.Given.Seize.declared.rows.defer.Defer.{Defer}
+use Rattle.papaya_settles.specs.Given.Seize.declared.rows.defer.Deferring.{Deferring as Point}
+use Rattle.papaya_settles.specs.Given.Seize.declared.rows.defer.Deferring.TheVariants as at
+use Rattle.papaya_settles.specs.Given.Seize.World.{World, Row, Rests, Registers, Enters, Settles, Leaves, Defers, Frees, Use, Defer', Begins, Steps', defers_on, with_at}
+use Rattle.papaya_settles.proofs.Given.SeizeMoves.State.Ghost.{State}
+use Rattle.papaya_settles.proofs.Given.SeizeRule.Rows.Told.{RowTold, SettleGoes, SettleEnds, LeaveSwaps, LeaveGoes, LeaveSettled, LeaveEnds, RegisterLooks, RegisterRefused, RegisterTakes, RegisterEnters, EntersSlot, FreesSlot, DeferGoes, DeferPushes, DeferEnds}
+use Rattle.papaya_settles.specs.Given.Tables.declared.node.Node.{Node}
+use Rattle.papaya_settles.specs.Given.Tables.declared.setting.Setting.{Setting}
+use Rattle.papaya_settles.specs.Given.Resize.declared.copier.Copying.{Copying}
+use Rattle.papaya_settles.specs.Given.Resize.declared.copier.Copying.TheVariants as copying
+use Rattle.papaya_settles.specs.Given.Resize.declared.dispose.Disposing.{Disposing}
+use Rattle.papaya_settles.specs.Given.Resize.declared.dispose.Disposing.TheVariants as disposing
+use Rattle.papaya_settles.specs.Given.Reserves.declared.reserve.Reserving.{Reserving}
+use Rattle.papaya_settles.specs.Given.Reserves.declared.reserve.Reserving.TheVariants as reserving
+use Rattle.papaya_settles.specs.Given.Sweeps.declared.sweep.Sweeping.{Sweeping}
+use Rattle.papaya_settles.specs.Given.Sweeps.declared.sweep.Sweeping.TheVariants as sweeping
+use Rattle.papaya_settles.specs.Given.Raw.declared.machines.call.Calling.{Calling}
+use Rattle.papaya_settles.specs.Given.Raw.declared.machines.call.Calling.TheVariants as calling
+use Rattle.papaya_settles.specs.Given.Raw.declared.machines.machine.Machine.{Machine}
+use Rattle.papaya_settles.specs.Given.Raw.declared.machines.machine.Machine.TheVariants as kinds
+use Rattle.papaya_settles.specs.Given.Rule.Chart.{Chart}
+use Rattle.papaya_settles.specs.Given.Rule.Words.{Blocks}
+use Rattle.papaya_settles.specs.Given.Callers.Rows.{row_of, row_of_disposal, row_of_copier}
+use Rattle.papaya_settles.specs.Given.Callers.Rooms.{row_of_room}
+use Rattle.papaya_settles.specs.Given.Callers.OverAll.{row_of_sweep}
+use Rattle.papaya_settles.specs.Given.Callers.Together.{UnderWay, OnKey, ForRoom, Counting, OverAll, Stands}
+use Rattle.papaya_settles.specs.Given.Effects.Effects.{named}
+use Rattle.papaya_settles.specs.Given.Effects.Known.{Known}
+use Rattle.papaya_settles.specs.Given.Executor.IsAt.{slot_of}
+use Rattle.papaya_settles.specs.Given.Finishes.Machines.{machine_of}
 use Rattle.papaya_settles.specs.Due.{ToPut, due_in_defer, due_in_disposing, due_in_copying, due_in_calling, due_in_reserving, due_in_sweeping, due_in_row}
 use Rattle.papaya_settles.specs.Hand.{IsPairRole, NotesInHand}
 use Rattle.papaya_settles.proofs.Hand.Behind.{key_puts, room_puts, sweep_puts}

@@ -1,44 +1,44 @@
 -- A step of the making of a map leaves what waits behind tables there.
 use Rattle.std.specs.Prelude.{◌≡◌, ℕ, Bool, true, false, List, [], ◌∷◌, Option, Some, None, IsSome, if◌then◌else◌}
 use Rattle.std.proofs.Common.{refl, ap, sym, subst, ◌∙◌}
-use Rattle.papaya_histories.specs.Given.SeizeWords.Mem.{value_at, word_at}
-use Rattle.papaya_histories.specs.Given.SeizeWords.Word.{block_in}
-use Rattle.papaya_histories.specs.Given.SeizeWords.declared.at.At.TheVariants.{Root, Used, Slot, Entry, Word}
-use Rattle.papaya_histories.specs.Given.Seize.declared.progress.Progress.{Progress}
-use Rattle.papaya_histories.specs.Given.Seize.declared.progress.Progress.TheVariants as progress
-use Rattle.papaya_histories.specs.Given.Seize.World.{World}
-use Rattle.papaya_histories.specs.Given.Tables.declared.node.Node.{Node}
-use Rattle.papaya_histories.specs.Given.Tables.declared.setting.Setting.{Setting}
-use Rattle.papaya_histories.specs.Given.Resize.declared.new_map.NewMap.{NewMap}
-use Rattle.papaya_histories.specs.Given.Schedules.declared.effect.Effect.{Effect}
-use Rattle.papaya_histories.specs.Given.Schedules.declared.effect.Effect.TheVariants.{Asked}
-use Rattle.papaya_histories.specs.Given.Schedules.declared.effect.Growth.TheVariants.{ABlock}
-use Rattle.papaya_histories.specs.Given.Schedules.declared.effect.Table.{Table}
-use Rattle.papaya_histories.specs.Given.Schedules.Effects.{with_effects}
-use Rattle.papaya_histories.specs.Given.Schedules.Moment.{Place, Moment}
-use Rattle.papaya_histories.specs.Given.Teller.declared.changed.Changed.{Changed}
-use Rattle.papaya_histories.specs.Given.Teller.declared.changed.Changed.TheVariants as changed
-use Rattle.papaya_histories.specs.Given.Teller.declared.changed.Kind.{Kind}
-use Rattle.papaya_histories.specs.Given.Teller.declared.changed.Kind.TheVariants as kind
-use Rattle.papaya_histories.specs.Given.Finishes.Makings.{Beginning}
-use Rattle.papaya_histories.specs.Given.Effects.Effects.{made_by, taken_by, led_to, in_block, named, names_same, effects_of, known_after}
-use Rattle.papaya_histories.specs.Given.Effects.Known.{Known}
-use Rattle.papaya_histories.specs.Given.Effects.declared.acting.Acting.{Acting}
-use Rattle.papaya_histories.specs.Given.Effects.declared.acting.Acting.TheVariants.{Making}
-use Rattle.papaya_histories.specs.Given.Effects.declared.role.Role.{Role}
-use Rattle.papaya_histories.specs.Given.Effects.declared.role.Role.TheVariants as role
-use Rattle.papaya_histories.specs.Given.Executor.IsAt.{Scene, IsAt}
-use Rattle.papaya_histories.specs.Given.Executor.Making.{MakingComesTo, MakingLeads}
-use Rattle.papaya_histories.specs.Given.Executor.declared.executor.Executor.{Executor}
-use Rattle.papaya_histories.specs.Given.Follows.Blocks.{HasRole}
-use Rattle.papaya_histories.proofs.Given.Follows.Onward.{IsOfMap}
-use Rattle.papaya_histories.proofs.Given.Follows.Operations.{LeavesBy}
-use Rattle.papaya_histories.proofs.Given.Follows.Writes.{nothing_free}
-use Rattle.papaya_histories.specs.Given.Others.Makings.{making_after, WasNew}
-use Rattle.papaya_histories.proofs.Given.Others.MakingPlans.{TellsMaking}
-use Rattle.papaya_histories.proofs.Given.Others.Makes.{tells, left, linked_stays, no_table_word}
-use Rattle.papaya_histories.specs.Given.Moments.Whole.{ShowsWhole}
-use Rattle.papaya_histories.proofs.Given.Moments.MakingSteps.{makings_go_beside}
+use Rattle.papaya_settles.specs.Given.SeizeWords.Mem.{value_at, word_at}
+use Rattle.papaya_settles.specs.Given.SeizeWords.Word.{block_in}
+use Rattle.papaya_settles.specs.Given.SeizeWords.declared.at.At.TheVariants.{Root, Used, Slot, Entry, Word}
+use Rattle.papaya_settles.specs.Given.Seize.declared.progress.Progress.{Progress}
+use Rattle.papaya_settles.specs.Given.Seize.declared.progress.Progress.TheVariants as progress
+use Rattle.papaya_settles.specs.Given.Seize.World.{World}
+use Rattle.papaya_settles.specs.Given.Tables.declared.node.Node.{Node}
+use Rattle.papaya_settles.specs.Given.Tables.declared.setting.Setting.{Setting}
+use Rattle.papaya_settles.specs.Given.Resize.declared.new_map.NewMap.{NewMap}
+use Rattle.papaya_settles.specs.Given.Schedules.declared.effect.Effect.{Effect}
+use Rattle.papaya_settles.specs.Given.Schedules.declared.effect.Effect.TheVariants.{Asked}
+use Rattle.papaya_settles.specs.Given.Schedules.declared.effect.Growth.TheVariants.{ABlock}
+use Rattle.papaya_settles.specs.Given.Schedules.declared.effect.Table.{Table}
+use Rattle.papaya_settles.specs.Given.Schedules.Effects.{with_effects}
+use Rattle.papaya_settles.specs.Given.Schedules.Moment.{Place, Moment}
+use Rattle.papaya_settles.specs.Given.Teller.declared.changed.Changed.{Changed}
+use Rattle.papaya_settles.specs.Given.Teller.declared.changed.Changed.TheVariants as changed
+use Rattle.papaya_settles.specs.Given.Teller.declared.changed.Kind.{Kind}
+use Rattle.papaya_settles.specs.Given.Teller.declared.changed.Kind.TheVariants as kind
+use Rattle.papaya_settles.specs.Given.Finishes.Makings.{Beginning}
+use Rattle.papaya_settles.specs.Given.Effects.Effects.{made_by, taken_by, led_to, in_block, named, names_same, effects_of, known_after}
+use Rattle.papaya_settles.specs.Given.Effects.Known.{Known}
+use Rattle.papaya_settles.specs.Given.Effects.declared.acting.Acting.{Acting}
+use Rattle.papaya_settles.specs.Given.Effects.declared.acting.Acting.TheVariants.{Making}
+use Rattle.papaya_settles.specs.Given.Effects.declared.role.Role.{Role}
+use Rattle.papaya_settles.specs.Given.Effects.declared.role.Role.TheVariants as role
+use Rattle.papaya_settles.specs.Given.Executor.IsAt.{Scene, IsAt}
+use Rattle.papaya_settles.specs.Given.Executor.Making.{MakingComesTo, MakingLeads}
+use Rattle.papaya_settles.specs.Given.Executor.declared.executor.Executor.{Executor}
+use Rattle.papaya_settles.specs.Given.Follows.Blocks.{HasRole}
+use Rattle.papaya_settles.proofs.Given.Follows.Onward.{IsOfMap}
+use Rattle.papaya_settles.proofs.Given.Follows.Operations.{LeavesBy}
+use Rattle.papaya_settles.proofs.Given.Follows.Writes.{nothing_free}
+use Rattle.papaya_settles.specs.Given.Others.Makings.{making_after, WasNew}
+use Rattle.papaya_settles.proofs.Given.Others.MakingPlans.{TellsMaking}
+use Rattle.papaya_settles.proofs.Given.Others.Makes.{tells, left, linked_stays, no_table_word}
+use Rattle.papaya_settles.specs.Given.Moments.Whole.{ShowsWhole}
+use Rattle.papaya_settles.proofs.Given.Moments.MakingSteps.{makings_go_beside}
 use Rattle.papaya_lives.specs.Behind.{ShowsWaiting}
 use Rattle.papaya_lives.specs.Steps.{MakingsKeepWaiting}
 use Rattle.papaya_lives.proofs.Stages.{NoneEnds}

@@ -2,54 +2,54 @@
 use Rattle.std.specs.Prelude.{◌≡◌, ◌⊎◌, ℕ, ◌+◌, nat_lt, ◌&&◌, Bool, true, false, List, [], ◌∷◌, length, Option, Some, None, option_map, if◌then◌else◌}
 use Rattle.std.proofs.Common.{refl, ap, sym, subst, ◌∙◌, inl, inr}
 use Rattle.std.proofs.lemmas.Bool.{ne_eqb}
-use Rattle.papaya_histories.specs.Given.SeizeWords.declared.at.At.TheVariants.{Root, Used, Slot, Entry, Word}
-use Rattle.papaya_histories.specs.Given.Seize.Law.{is_retired as was_retired}
-use Rattle.papaya_histories.specs.Given.Seize.World.{World, Row as Under, Begins, Hand, with_at}
-use Rattle.papaya_histories.specs.Given.Seize.declared.states.TheConstants.{LAST_SLOT}
-use Rattle.papaya_histories.proofs.Given.SeizeMoves.State.Ghost.{Life, IsPending, IsIn, IsDoomed, is_given}
-use Rattle.papaya_histories.proofs.Given.SeizeRule.Words.Shows.{lives}
-use Rattle.papaya_histories.proofs.Given.SeizeRule.Words.There.{live_pos}
-use Rattle.papaya_histories.proofs.Given.SeizeRule.Words.View.{view}
-use Rattle.papaya_histories.proofs.Given.SeizeAlone.Histories.Reached.{Reached}
-use Rattle.papaya_histories.specs.Given.Tables.Nodes.{deferred_word}
-use Rattle.papaya_histories.specs.Given.Tables.declared.node.Node.{Node}
-use Rattle.papaya_histories.specs.Given.Raw.declared.machines.machine.Machine.{Machine}
-use Rattle.papaya_histories.specs.Given.Schedules.declared.effect.Effect.{Effect}
-use Rattle.papaya_histories.specs.Given.Schedules.declared.effect.Effect.TheVariants.{Asked}
-use Rattle.papaya_histories.specs.Given.Schedules.declared.effect.Growth.TheVariants.{ABucket}
-use Rattle.papaya_histories.specs.Given.Schedules.declared.effect.Table.{Table}
-use Rattle.papaya_histories.specs.Given.Schedules.Effects.{with_effects, AtEachEffect}
-use Rattle.papaya_histories.specs.Given.Schedules.Moment.{Moment}
-use Rattle.papaya_histories.specs.Given.Schedules.Views.{is_stage, is_retired}
-use Rattle.papaya_histories.specs.Given.Teller.declared.changed.Changed.{Changed}
-use Rattle.papaya_histories.specs.Given.Teller.declared.changed.Changed.TheVariants as changed
-use Rattle.papaya_histories.specs.Given.Callers.Together.{CameAbout}
-use Rattle.papaya_histories.specs.Given.Effects.Effects.{names_same, taken_by, effects_of, known_after}
-use Rattle.papaya_histories.specs.Given.Effects.Known.{Known, with_role}
-use Rattle.papaya_histories.specs.Given.Effects.declared.acting.Acting.TheVariants.{Row}
-use Rattle.papaya_histories.specs.Given.Effects.declared.role.Role.{Role}
-use Rattle.papaya_histories.specs.Given.Effects.declared.role.Role.TheVariants as role
-use Rattle.papaya_histories.specs.Given.Executor.IsAt.{Scene, HasCall, IsAt, call_in, slot_of, work_of}
-use Rattle.papaya_histories.specs.Given.Executor.OnSlots.{RowLeads}
-use Rattle.papaya_histories.specs.Given.Executor.Rows.{request_of}
-use Rattle.papaya_histories.specs.Given.Executor.declared.executor.Executor.{Executor}
-use Rattle.papaya_histories.specs.Given.Executor.declared.row.RowTold.{RowTold}
-use Rattle.papaya_histories.specs.Given.Executor.declared.row.SlotCall.{SlotCall}
-use Rattle.papaya_histories.specs.Given.Executor.declared.row.SlotCall.TheVariants as call
-use Rattle.papaya_histories.specs.Given.Executor.declared.row.SlotRow.{SlotRow}
-use Rattle.papaya_histories.specs.Given.Executor.declared.worker.Work.{Work}
-use Rattle.papaya_histories.specs.Given.Executor.declared.worker.Work.TheVariants as work
-use Rattle.papaya_histories.specs.Given.Finishes.Machines.{machine_of}
-use Rattle.papaya_histories.proofs.Given.Follows.Alike.{put_here}
-use Rattle.papaya_histories.proofs.Given.Follows.Onward.{IsOfMap}
-use Rattle.papaya_histories.proofs.Given.Follows.Operations.{LeavesBy}
-use Rattle.papaya_histories.proofs.Given.Follows.Told.{roomed_as_many}
-use Rattle.papaya_histories.proofs.Given.Others.RowPlans.{TellsRow, row_tells}
-use Rattle.papaya_histories.specs.Given.Spots.Unreclaimed.{ShowsUnreclaimed}
-use Rattle.papaya_histories.proofs.Given.Spots.Calm.{put_back}
-use Rattle.papaya_histories.specs.Given.Moments.OnSlots.{HadRetired}
-use Rattle.papaya_histories.specs.Given.Moments.Whole.{ShowsWhole}
-use Rattle.papaya_histories.proofs.Given.Moments.OnSlots.{begun_hands}
+use Rattle.papaya_settles.specs.Given.SeizeWords.declared.at.At.TheVariants.{Root, Used, Slot, Entry, Word}
+use Rattle.papaya_settles.specs.Given.Seize.Law.{is_retired as was_retired}
+use Rattle.papaya_settles.specs.Given.Seize.World.{World, Row as Under, Begins, Hand, with_at}
+use Rattle.papaya_settles.specs.Given.Seize.declared.states.TheConstants.{LAST_SLOT}
+use Rattle.papaya_settles.proofs.Given.SeizeMoves.State.Ghost.{Life, IsPending, IsIn, IsDoomed, is_given}
+use Rattle.papaya_settles.proofs.Given.SeizeRule.Words.Shows.{lives}
+use Rattle.papaya_settles.proofs.Given.SeizeRule.Words.There.{live_pos}
+use Rattle.papaya_settles.proofs.Given.SeizeRule.Words.View.{view}
+use Rattle.papaya_settles.proofs.Given.SeizeAlone.Histories.Reached.{Reached}
+use Rattle.papaya_settles.specs.Given.Tables.Nodes.{deferred_word}
+use Rattle.papaya_settles.specs.Given.Tables.declared.node.Node.{Node}
+use Rattle.papaya_settles.specs.Given.Raw.declared.machines.machine.Machine.{Machine}
+use Rattle.papaya_settles.specs.Given.Schedules.declared.effect.Effect.{Effect}
+use Rattle.papaya_settles.specs.Given.Schedules.declared.effect.Effect.TheVariants.{Asked}
+use Rattle.papaya_settles.specs.Given.Schedules.declared.effect.Growth.TheVariants.{ABucket}
+use Rattle.papaya_settles.specs.Given.Schedules.declared.effect.Table.{Table}
+use Rattle.papaya_settles.specs.Given.Schedules.Effects.{with_effects, AtEachEffect}
+use Rattle.papaya_settles.specs.Given.Schedules.Moment.{Moment}
+use Rattle.papaya_settles.specs.Given.Schedules.Views.{is_stage, is_retired}
+use Rattle.papaya_settles.specs.Given.Teller.declared.changed.Changed.{Changed}
+use Rattle.papaya_settles.specs.Given.Teller.declared.changed.Changed.TheVariants as changed
+use Rattle.papaya_settles.specs.Given.Callers.Together.{CameAbout}
+use Rattle.papaya_settles.specs.Given.Effects.Effects.{names_same, taken_by, effects_of, known_after}
+use Rattle.papaya_settles.specs.Given.Effects.Known.{Known, with_role}
+use Rattle.papaya_settles.specs.Given.Effects.declared.acting.Acting.TheVariants.{Row}
+use Rattle.papaya_settles.specs.Given.Effects.declared.role.Role.{Role}
+use Rattle.papaya_settles.specs.Given.Effects.declared.role.Role.TheVariants as role
+use Rattle.papaya_settles.specs.Given.Executor.IsAt.{Scene, HasCall, IsAt, call_in, slot_of, work_of}
+use Rattle.papaya_settles.specs.Given.Executor.OnSlots.{RowLeads}
+use Rattle.papaya_settles.specs.Given.Executor.Rows.{request_of}
+use Rattle.papaya_settles.specs.Given.Executor.declared.executor.Executor.{Executor}
+use Rattle.papaya_settles.specs.Given.Executor.declared.row.RowTold.{RowTold}
+use Rattle.papaya_settles.specs.Given.Executor.declared.row.SlotCall.{SlotCall}
+use Rattle.papaya_settles.specs.Given.Executor.declared.row.SlotCall.TheVariants as call
+use Rattle.papaya_settles.specs.Given.Executor.declared.row.SlotRow.{SlotRow}
+use Rattle.papaya_settles.specs.Given.Executor.declared.worker.Work.{Work}
+use Rattle.papaya_settles.specs.Given.Executor.declared.worker.Work.TheVariants as work
+use Rattle.papaya_settles.specs.Given.Finishes.Machines.{machine_of}
+use Rattle.papaya_settles.proofs.Given.Follows.Alike.{put_here}
+use Rattle.papaya_settles.proofs.Given.Follows.Onward.{IsOfMap}
+use Rattle.papaya_settles.proofs.Given.Follows.Operations.{LeavesBy}
+use Rattle.papaya_settles.proofs.Given.Follows.Told.{roomed_as_many}
+use Rattle.papaya_settles.proofs.Given.Others.RowPlans.{TellsRow, row_tells}
+use Rattle.papaya_settles.specs.Given.Spots.Unreclaimed.{ShowsUnreclaimed}
+use Rattle.papaya_settles.proofs.Given.Spots.Calm.{put_back}
+use Rattle.papaya_settles.specs.Given.Moments.OnSlots.{HadRetired}
+use Rattle.papaya_settles.specs.Given.Moments.Whole.{ShowsWhole}
+use Rattle.papaya_settles.proofs.Given.Moments.OnSlots.{begun_hands}
 use Rattle.papaya_lives.specs.Retired.{IsToRetire, ShowsRetired, RetiredBegins, OthersLeaveRetired, EndingsBeginRetired, RowsBeginRetired, RowsKeepRetired, RowsFindRetired}
 use Rattle.papaya_lives.proofs.Retires.{row_life, given_hand, handed_before}
 use Rattle.papaya_lives.proofs.Stages.{NoneEnds, still_retired, taken_ends}

@@ -1,47 +1,47 @@
 -- The tables that the collector has after a step of the end of a map are retired, or rows within calls are to retire them.
 use Rattle.std.specs.Prelude.{◌≡◌, ◌⊎◌, ℕ, zero, suc, ◌+◌, Bool, true, List, [], ◌∷◌, Option, Some, None, IsSome}
 use Rattle.std.proofs.Common.{refl, ap, sym, subst, ◌∙◌, inl, inr, arith}
-use Rattle.papaya_histories.specs.Given.SeizeWords.Mem.{value_at}
-use Rattle.papaya_histories.specs.Given.Seize.declared.rows.settle.Settled.{Settled}
-use Rattle.papaya_histories.specs.Given.Seize.declared.rows.settle.Settled.TheVariants as settled
-use Rattle.papaya_histories.specs.Given.Seize.declared.states.TheConstants.{LAST_SLOT}
-use Rattle.papaya_histories.specs.Given.Seize.Sequence.{IsBetween}
-use Rattle.papaya_histories.specs.Given.Seize.World.{World, Row, Hand, LeftTo, Handed, Event, Runs, times}
-use Rattle.papaya_histories.proofs.Given.SeizeMoves.State.Ghost.{Life, IsDeferring, IsDeferred, IsPending, IsIn, IsDoomed}
-use Rattle.papaya_histories.proofs.Given.SeizeRule.Points.Aside.{HandFits, is_handed}
-use Rattle.papaya_histories.proofs.Given.SeizeRule.Rows.Others.{users_rows}
-use Rattle.papaya_histories.proofs.Given.SeizeRule.Words.Shows.{lives}
-use Rattle.papaya_histories.proofs.Given.SeizeRule.Words.There.{value_there}
-use Rattle.papaya_histories.proofs.Given.SeizeAlone.Histories.Reached.{Reached, runs_reached}
-use Rattle.papaya_histories.specs.Given.Tables.Nodes.{deferred_word}
-use Rattle.papaya_histories.specs.Given.Tables.declared.node.Node.{Node}
-use Rattle.papaya_histories.specs.Given.Raw.declared.machines.end_map.EndMap.{EndMap}
-use Rattle.papaya_histories.specs.Given.Schedules.declared.effect.Effect.{Effect}
-use Rattle.papaya_histories.specs.Given.Schedules.declared.effect.Effect.TheVariants.{Reclaimed, Taken}
-use Rattle.papaya_histories.specs.Given.Schedules.declared.effect.Table.{Table}
-use Rattle.papaya_histories.specs.Given.Schedules.declared.effect.Thing.TheVariants.{APair, ATable}
-use Rattle.papaya_histories.specs.Given.Schedules.Effects.{with_effects}
-use Rattle.papaya_histories.specs.Given.Schedules.Moment.{Moment}
-use Rattle.papaya_histories.specs.Given.Schedules.Views.{is_stage, is_retired}
-use Rattle.papaya_histories.specs.Given.Teller.declared.changed.Changed.{Changed}
-use Rattle.papaya_histories.specs.Given.Teller.declared.changed.Changed.TheVariants as changed
-use Rattle.papaya_histories.specs.Given.Callers.Together.{UnderWay}
-use Rattle.papaya_histories.proofs.Given.Callers.Together.Came.{came_reached}
-use Rattle.papaya_histories.specs.Given.Effects.Effects.{effects_of, known_after}
-use Rattle.papaya_histories.specs.Given.Effects.Known.{Known}
-use Rattle.papaya_histories.specs.Given.Effects.declared.acting.Acting.TheVariants.{Ending}
-use Rattle.papaya_histories.specs.Given.Effects.declared.role.Role.TheVariants as role
-use Rattle.papaya_histories.specs.Given.Executor.Ending.{EndingStepsFrom, EndingComesTo}
-use Rattle.papaya_histories.specs.Given.Executor.IsAt.{Scene, HasCall, IsAt, slot_of}
-use Rattle.papaya_histories.specs.Given.Executor.declared.executor.Executor.{Executor}
-use Rattle.papaya_histories.specs.Given.Finishes.Endings.{Finishing, StepsOfEnding}
-use Rattle.papaya_histories.specs.Given.Finishes.FactsEnds.{Deed, Looks, TakesPair, LeavesTable, JoinsPair, TakesLeft, TakesCounter, WritesRoot, events_of, taken_by as taken_of, left_by}
-use Rattle.papaya_histories.proofs.Given.Follows.Alike.{is_calm, AllCalm, put_here}
-use Rattle.papaya_histories.proofs.Given.Follows.Onward.{IsOfMap}
-use Rattle.papaya_histories.specs.Given.Others.Endings.{ending_after}
-use Rattle.papaya_histories.specs.Given.Moments.Whole.{ShowsWhole}
-use Rattle.papaya_histories.proofs.Given.Moments.Ends.{says, end_keeps}
-use Rattle.papaya_histories.proofs.Given.Moments.OnSlots.{none_some}
+use Rattle.papaya_settles.specs.Given.SeizeWords.Mem.{value_at}
+use Rattle.papaya_settles.specs.Given.Seize.declared.rows.settle.Settled.{Settled}
+use Rattle.papaya_settles.specs.Given.Seize.declared.rows.settle.Settled.TheVariants as settled
+use Rattle.papaya_settles.specs.Given.Seize.declared.states.TheConstants.{LAST_SLOT}
+use Rattle.papaya_settles.specs.Given.Seize.Sequence.{IsBetween}
+use Rattle.papaya_settles.specs.Given.Seize.World.{World, Row, Hand, LeftTo, Handed, Event, Runs, times}
+use Rattle.papaya_settles.proofs.Given.SeizeMoves.State.Ghost.{Life, IsDeferring, IsDeferred, IsPending, IsIn, IsDoomed}
+use Rattle.papaya_settles.proofs.Given.SeizeRule.Points.Aside.{HandFits, is_handed}
+use Rattle.papaya_settles.proofs.Given.SeizeRule.Rows.Others.{users_rows}
+use Rattle.papaya_settles.proofs.Given.SeizeRule.Words.Shows.{lives}
+use Rattle.papaya_settles.proofs.Given.SeizeRule.Words.There.{value_there}
+use Rattle.papaya_settles.proofs.Given.SeizeAlone.Histories.Reached.{Reached, runs_reached}
+use Rattle.papaya_settles.specs.Given.Tables.Nodes.{deferred_word}
+use Rattle.papaya_settles.specs.Given.Tables.declared.node.Node.{Node}
+use Rattle.papaya_settles.specs.Given.Raw.declared.machines.end_map.EndMap.{EndMap}
+use Rattle.papaya_settles.specs.Given.Schedules.declared.effect.Effect.{Effect}
+use Rattle.papaya_settles.specs.Given.Schedules.declared.effect.Effect.TheVariants.{Reclaimed, Taken}
+use Rattle.papaya_settles.specs.Given.Schedules.declared.effect.Table.{Table}
+use Rattle.papaya_settles.specs.Given.Schedules.declared.effect.Thing.TheVariants.{APair, ATable}
+use Rattle.papaya_settles.specs.Given.Schedules.Effects.{with_effects}
+use Rattle.papaya_settles.specs.Given.Schedules.Moment.{Moment}
+use Rattle.papaya_settles.specs.Given.Schedules.Views.{is_stage, is_retired}
+use Rattle.papaya_settles.specs.Given.Teller.declared.changed.Changed.{Changed}
+use Rattle.papaya_settles.specs.Given.Teller.declared.changed.Changed.TheVariants as changed
+use Rattle.papaya_settles.specs.Given.Callers.Together.{UnderWay}
+use Rattle.papaya_settles.proofs.Given.Callers.Together.Came.{came_reached}
+use Rattle.papaya_settles.specs.Given.Effects.Effects.{effects_of, known_after}
+use Rattle.papaya_settles.specs.Given.Effects.Known.{Known}
+use Rattle.papaya_settles.specs.Given.Effects.declared.acting.Acting.TheVariants.{Ending}
+use Rattle.papaya_settles.specs.Given.Effects.declared.role.Role.TheVariants as role
+use Rattle.papaya_settles.specs.Given.Executor.Ending.{EndingStepsFrom, EndingComesTo}
+use Rattle.papaya_settles.specs.Given.Executor.IsAt.{Scene, HasCall, IsAt, slot_of}
+use Rattle.papaya_settles.specs.Given.Executor.declared.executor.Executor.{Executor}
+use Rattle.papaya_settles.specs.Given.Finishes.Endings.{Finishing, StepsOfEnding}
+use Rattle.papaya_settles.specs.Given.Finishes.FactsEnds.{Deed, Looks, TakesPair, LeavesTable, JoinsPair, TakesLeft, TakesCounter, WritesRoot, events_of, taken_by as taken_of, left_by}
+use Rattle.papaya_settles.proofs.Given.Follows.Alike.{is_calm, AllCalm, put_here}
+use Rattle.papaya_settles.proofs.Given.Follows.Onward.{IsOfMap}
+use Rattle.papaya_settles.specs.Given.Others.Endings.{ending_after}
+use Rattle.papaya_settles.specs.Given.Moments.Whole.{ShowsWhole}
+use Rattle.papaya_settles.proofs.Given.Moments.Ends.{says, end_keeps}
+use Rattle.papaya_settles.proofs.Given.Moments.OnSlots.{none_some}
 use Rattle.papaya_lives.specs.Retired.{IsToRetire, ShowsRetired, EndingsKeepRetired}
 use Rattle.papaya_lives.proofs.Stages.{EndsIt, NoneEnds, still_retired, taken_ends}
 

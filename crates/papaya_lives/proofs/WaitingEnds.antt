@@ -3,46 +3,46 @@
 use Rattle.std.specs.Prelude.{◌≡◌, ◌⊎◌, ℕ, zero, suc, ◌==◌, ◌<◌, ◌≤◌, Bool, true, false, not, List, [], ◌∷◌, Option, Some, None, IsSome, if◌then◌else◌}
 use Rattle.std.proofs.Common.{refl, ap, sym, subst, ◌∙◌, inl, inr, arith}
 use Rattle.std.proofs.lemmas.Bool.{eq-eqb}
-use Rattle.papaya_histories.specs.Given.SeizeWords.Mem.{value_at}
-use Rattle.papaya_histories.specs.Given.Seize.World.{World, Hand, NoBlock, Making, InUse, Parting, Cutting, Handed, LeftTo, IsNotLeft, times}
-use Rattle.papaya_histories.specs.Given.Seize.declared.rows.settle.Settled.{Settled}
-use Rattle.papaya_histories.specs.Given.Seize.declared.rows.settle.Settled.TheVariants as settled
-use Rattle.papaya_histories.specs.Given.Tables.Nodes.{deferred_word}
-use Rattle.papaya_histories.specs.Given.Tables.declared.node.Node.{Node}
-use Rattle.papaya_histories.specs.Given.Tables.declared.node.Node.TheVariants as node
-use Rattle.papaya_histories.specs.Given.Raw.declared.machines.end_map.EndMap.{EndMap}
-use Rattle.papaya_histories.specs.Given.Schedules.declared.effect.Effect.{Effect}
-use Rattle.papaya_histories.specs.Given.Schedules.declared.effect.Effect.TheVariants.{PairGivenUp, TableGivenUp, Deferred, Reclaimed, Ended, Taken}
-use Rattle.papaya_histories.specs.Given.Schedules.declared.effect.Table.{Table}
-use Rattle.papaya_histories.specs.Given.Schedules.declared.effect.Thing.TheVariants.{APair, ATable}
-use Rattle.papaya_histories.specs.Given.Schedules.Effects.{all_at, deferred_by, with_effect, with_effects}
-use Rattle.papaya_histories.specs.Given.Schedules.Lists.{is_among}
-use Rattle.papaya_histories.specs.Given.Schedules.Moment.{Place, Behind, Left, GivenBack, Deferral, Moment}
-use Rattle.papaya_histories.specs.Given.Schedules.Things.{same_table}
-use Rattle.papaya_histories.specs.Given.Schedules.Views.{behind}
-use Rattle.papaya_histories.specs.Given.Teller.declared.changed.Changed.{Changed}
-use Rattle.papaya_histories.specs.Given.Teller.declared.changed.Changed.TheVariants as changed
-use Rattle.papaya_histories.specs.Given.Callers.Together.{CameAbout}
-use Rattle.papaya_histories.specs.Given.Effects.Effects.{taken_by, effects_of, known_after}
-use Rattle.papaya_histories.specs.Given.Effects.Known.{Known}
-use Rattle.papaya_histories.specs.Given.Effects.declared.acting.Acting.TheVariants.{Ending}
-use Rattle.papaya_histories.specs.Given.Effects.declared.role.Role.{Role}
-use Rattle.papaya_histories.specs.Given.Effects.declared.role.Role.TheVariants as role
-use Rattle.papaya_histories.specs.Given.Executor.Ending.{EndingStepsFrom, EndingComesTo}
-use Rattle.papaya_histories.specs.Given.Executor.IsAt.{Scene, IsAt, slot_of}
-use Rattle.papaya_histories.specs.Given.Executor.declared.executor.Executor.{Executor}
-use Rattle.papaya_histories.specs.Given.Finishes.Endings.{Finishing, FinishingFacts, StepsOfEnding}
-use Rattle.papaya_histories.specs.Given.Finishes.FactsEnds.{taken_by as taken_of, left_by}
-use Rattle.papaya_histories.proofs.Given.Finishes.Ends.Frames.{that_one}
-use Rattle.papaya_histories.specs.Given.Follows.Blocks.{HasRole}
-use Rattle.papaya_histories.specs.Given.Follows.Steps.{TakesNone}
-use Rattle.papaya_histories.proofs.Given.Follows.Alike.{is_calm, AllCalm, calm_still, still_all, put_elsewhere}
-use Rattle.papaya_histories.proofs.Given.Follows.Onward.{IsOfMap}
-use Rattle.papaya_histories.specs.Given.Others.Endings.{ending_after, TellsNext}
-use Rattle.papaya_histories.proofs.Given.Others.Ends.{tells_next}
-use Rattle.papaya_histories.proofs.Given.Spots.Unreclaimed.{same_itself}
-use Rattle.papaya_histories.specs.Given.Moments.Whole.{ShowsWhole}
-use Rattle.papaya_histories.proofs.Given.Moments.Ends.{says, end_keeps}
+use Rattle.papaya_settles.specs.Given.SeizeWords.Mem.{value_at}
+use Rattle.papaya_settles.specs.Given.Seize.World.{World, Hand, NoBlock, Making, InUse, Parting, Cutting, Handed, LeftTo, IsNotLeft, times}
+use Rattle.papaya_settles.specs.Given.Seize.declared.rows.settle.Settled.{Settled}
+use Rattle.papaya_settles.specs.Given.Seize.declared.rows.settle.Settled.TheVariants as settled
+use Rattle.papaya_settles.specs.Given.Tables.Nodes.{deferred_word}
+use Rattle.papaya_settles.specs.Given.Tables.declared.node.Node.{Node}
+use Rattle.papaya_settles.specs.Given.Tables.declared.node.Node.TheVariants as node
+use Rattle.papaya_settles.specs.Given.Raw.declared.machines.end_map.EndMap.{EndMap}
+use Rattle.papaya_settles.specs.Given.Schedules.declared.effect.Effect.{Effect}
+use Rattle.papaya_settles.specs.Given.Schedules.declared.effect.Effect.TheVariants.{PairGivenUp, TableGivenUp, Deferred, Reclaimed, Ended, Taken}
+use Rattle.papaya_settles.specs.Given.Schedules.declared.effect.Table.{Table}
+use Rattle.papaya_settles.specs.Given.Schedules.declared.effect.Thing.TheVariants.{APair, ATable}
+use Rattle.papaya_settles.specs.Given.Schedules.Effects.{all_at, deferred_by, with_effect, with_effects}
+use Rattle.papaya_settles.specs.Given.Schedules.Lists.{is_among}
+use Rattle.papaya_settles.specs.Given.Schedules.Moment.{Place, Behind, Left, GivenBack, Deferral, Moment}
+use Rattle.papaya_settles.specs.Given.Schedules.Things.{same_table}
+use Rattle.papaya_settles.specs.Given.Schedules.Views.{behind}
+use Rattle.papaya_settles.specs.Given.Teller.declared.changed.Changed.{Changed}
+use Rattle.papaya_settles.specs.Given.Teller.declared.changed.Changed.TheVariants as changed
+use Rattle.papaya_settles.specs.Given.Callers.Together.{CameAbout}
+use Rattle.papaya_settles.specs.Given.Effects.Effects.{taken_by, effects_of, known_after}
+use Rattle.papaya_settles.specs.Given.Effects.Known.{Known}
+use Rattle.papaya_settles.specs.Given.Effects.declared.acting.Acting.TheVariants.{Ending}
+use Rattle.papaya_settles.specs.Given.Effects.declared.role.Role.{Role}
+use Rattle.papaya_settles.specs.Given.Effects.declared.role.Role.TheVariants as role
+use Rattle.papaya_settles.specs.Given.Executor.Ending.{EndingStepsFrom, EndingComesTo}
+use Rattle.papaya_settles.specs.Given.Executor.IsAt.{Scene, IsAt, slot_of}
+use Rattle.papaya_settles.specs.Given.Executor.declared.executor.Executor.{Executor}
+use Rattle.papaya_settles.specs.Given.Finishes.Endings.{Finishing, FinishingFacts, StepsOfEnding}
+use Rattle.papaya_settles.specs.Given.Finishes.FactsEnds.{taken_by as taken_of, left_by}
+use Rattle.papaya_settles.proofs.Given.Finishes.Ends.Frames.{that_one}
+use Rattle.papaya_settles.specs.Given.Follows.Blocks.{HasRole}
+use Rattle.papaya_settles.specs.Given.Follows.Steps.{TakesNone}
+use Rattle.papaya_settles.proofs.Given.Follows.Alike.{is_calm, AllCalm, calm_still, still_all, put_elsewhere}
+use Rattle.papaya_settles.proofs.Given.Follows.Onward.{IsOfMap}
+use Rattle.papaya_settles.specs.Given.Others.Endings.{ending_after, TellsNext}
+use Rattle.papaya_settles.proofs.Given.Others.Ends.{tells_next}
+use Rattle.papaya_settles.proofs.Given.Spots.Unreclaimed.{same_itself}
+use Rattle.papaya_settles.specs.Given.Moments.Whole.{ShowsWhole}
+use Rattle.papaya_settles.proofs.Given.Moments.Ends.{says, end_keeps}
 use Rattle.papaya_lives.specs.Behind.{IsLeft, LiesBehind, EachWaits, ShowsWaiting, WaitsOnce}
 use Rattle.papaya_lives.specs.Steps.{EndingsKeepWaiting}
 use Rattle.papaya_lives.specs.Waiting.{waits_behind}

@@ -1,35 +1,35 @@
 -- The tables that are left over at a moment of a run: each is one of a map whose end is under way, and which that end has not reclaimed.
 use Rattle.std.specs.Prelude.{◌≡◌, ◌<◌, ◌≤◌, ℕ, Bool, List, Some, None}
-use Rattle.papaya_histories.specs.Given.Seize.declared.progress.Progress.{Progress}
-use Rattle.papaya_histories.specs.Given.Seize.declared.rows.settle.Settled.{Settled}
-use Rattle.papaya_histories.specs.Given.Seize.World.{LeftTo, Begin, Step, times}
-use Rattle.papaya_histories.specs.Given.Tables.declared.node.Node.{Node}
-use Rattle.papaya_histories.specs.Given.Tables.declared.setting.Setting.{Setting}
-use Rattle.papaya_histories.specs.Given.Raw.declared.machines.progress.Progress.{Progress as CallTold}
-use Rattle.papaya_histories.specs.Given.Schedules.declared.effect.Table.{Table}
-use Rattle.papaya_histories.specs.Given.Schedules.Moment.{Moment}
-use Rattle.papaya_histories.specs.Given.Callers.Together.{UnderWay}
-use Rattle.papaya_histories.specs.Given.Effects.Effects.{known_after}
-use Rattle.papaya_histories.specs.Given.Effects.Known.{Known, nothing_known}
-use Rattle.papaya_histories.specs.Given.Effects.declared.acting.Acting.TheVariants.{Call, Making, Ending, Row}
-use Rattle.papaya_histories.specs.Given.Effects.declared.role.Role.TheVariants as role
-use Rattle.papaya_histories.specs.Given.Executor.Ending.{EndingLeads, ending_begun}
-use Rattle.papaya_histories.specs.Given.Executor.IsAt.{Scene, IsAt, at_first, slot_of, work_of}
-use Rattle.papaya_histories.specs.Given.Executor.Making.{MakingLeads}
-use Rattle.papaya_histories.specs.Given.Executor.OnSlots.{MayBegin, RowBegins, RowLeads}
-use Rattle.papaya_histories.specs.Given.Executor.Rows.{request_of}
-use Rattle.papaya_histories.specs.Given.Executor.Stepping.{StepLeads, scene_after}
-use Rattle.papaya_histories.specs.Given.Executor.declared.executor.Executor.{Executor}
-use Rattle.papaya_histories.specs.Given.Executor.declared.row.RowTold.{RowTold}
-use Rattle.papaya_histories.specs.Given.Executor.declared.row.SlotCall.{SlotCall}
-use Rattle.papaya_histories.specs.Given.Executor.declared.row.SlotRow.{SlotRow}
-use Rattle.papaya_histories.specs.Given.Executor.declared.worker.Work.TheVariants.{OnSlot}
-use Rattle.papaya_histories.specs.Given.Finishes.Endings.{Finishing}
-use Rattle.papaya_histories.specs.Given.Finishes.Makings.{Beginning}
-use Rattle.papaya_histories.specs.Given.Finishes.Maps.{Standing}
-use Rattle.papaya_histories.specs.Given.Others.Endings.{ending_after}
-use Rattle.papaya_histories.specs.Given.Others.Rows.{scene_then}
-use Rattle.papaya_histories.specs.Given.Moments.Whole.{ShowsWhole}
+use Rattle.papaya_settles.specs.Given.Seize.declared.progress.Progress.{Progress}
+use Rattle.papaya_settles.specs.Given.Seize.declared.rows.settle.Settled.{Settled}
+use Rattle.papaya_settles.specs.Given.Seize.World.{LeftTo, Begin, Step, times}
+use Rattle.papaya_settles.specs.Given.Tables.declared.node.Node.{Node}
+use Rattle.papaya_settles.specs.Given.Tables.declared.setting.Setting.{Setting}
+use Rattle.papaya_settles.specs.Given.Raw.declared.machines.progress.Progress.{Progress as CallTold}
+use Rattle.papaya_settles.specs.Given.Schedules.declared.effect.Table.{Table}
+use Rattle.papaya_settles.specs.Given.Schedules.Moment.{Moment}
+use Rattle.papaya_settles.specs.Given.Callers.Together.{UnderWay}
+use Rattle.papaya_settles.specs.Given.Effects.Effects.{known_after}
+use Rattle.papaya_settles.specs.Given.Effects.Known.{Known, nothing_known}
+use Rattle.papaya_settles.specs.Given.Effects.declared.acting.Acting.TheVariants.{Call, Making, Ending, Row}
+use Rattle.papaya_settles.specs.Given.Effects.declared.role.Role.TheVariants as role
+use Rattle.papaya_settles.specs.Given.Executor.Ending.{EndingLeads, ending_begun}
+use Rattle.papaya_settles.specs.Given.Executor.IsAt.{Scene, IsAt, at_first, slot_of, work_of}
+use Rattle.papaya_settles.specs.Given.Executor.Making.{MakingLeads}
+use Rattle.papaya_settles.specs.Given.Executor.OnSlots.{MayBegin, RowBegins, RowLeads}
+use Rattle.papaya_settles.specs.Given.Executor.Rows.{request_of}
+use Rattle.papaya_settles.specs.Given.Executor.Stepping.{StepLeads, scene_after}
+use Rattle.papaya_settles.specs.Given.Executor.declared.executor.Executor.{Executor}
+use Rattle.papaya_settles.specs.Given.Executor.declared.row.RowTold.{RowTold}
+use Rattle.papaya_settles.specs.Given.Executor.declared.row.SlotCall.{SlotCall}
+use Rattle.papaya_settles.specs.Given.Executor.declared.row.SlotRow.{SlotRow}
+use Rattle.papaya_settles.specs.Given.Executor.declared.worker.Work.TheVariants.{OnSlot}
+use Rattle.papaya_settles.specs.Given.Finishes.Endings.{Finishing}
+use Rattle.papaya_settles.specs.Given.Finishes.Makings.{Beginning}
+use Rattle.papaya_settles.specs.Given.Finishes.Maps.{Standing}
+use Rattle.papaya_settles.specs.Given.Others.Endings.{ending_after}
+use Rattle.papaya_settles.specs.Given.Others.Rows.{scene_then}
+use Rattle.papaya_settles.specs.Given.Moments.Whole.{ShowsWhole}
 use Rattle.papaya_settles.specs.Due.{OwnAreMade}
 use Rattle.papaya_lives.specs.Behind.{NoTableLeft}
 

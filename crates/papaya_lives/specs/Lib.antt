@@ -6,3 +6,4 @@ pub mod LeftTables
 pub mod Lying
 pub mod Handed
 pub mod Order
+pub mod Given

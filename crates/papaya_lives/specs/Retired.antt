@@ -1,40 +1,40 @@
 -- The tables that the collector has at a moment of a run: each is told to be retired, or the row of a call is to retire it.
 use Rattle.std.specs.Prelude.{◌≡◌, ◌≢◌, ◌⊎◌, ℕ, Bool, true, List, Option, Some, None}
-use Rattle.papaya_histories.specs.Given.SeizeWords.Word.{block_in}
-use Rattle.papaya_histories.specs.Given.Seize.declared.progress.Progress.{Progress}
-use Rattle.papaya_histories.specs.Given.Seize.declared.rows.settle.Settled.{Settled}
-use Rattle.papaya_histories.specs.Given.Seize.World.{Row, Settles, Rests, Handed, Begin, Step}
-use Rattle.papaya_histories.specs.Given.Tables.declared.node.Node.{Node}
-use Rattle.papaya_histories.specs.Given.Tables.declared.setting.Setting.{Setting}
-use Rattle.papaya_histories.specs.Given.Raw.declared.machines.progress.Progress.{Progress as CallTold}
-use Rattle.papaya_histories.specs.Given.Schedules.declared.effect.Table.{Table}
-use Rattle.papaya_histories.specs.Given.Schedules.Effects.{with_effects, AtEachEffect}
-use Rattle.papaya_histories.specs.Given.Schedules.Moment.{Moment, start}
-use Rattle.papaya_histories.specs.Given.Schedules.Views.{is_stage, is_retired}
-use Rattle.papaya_histories.specs.Given.Callers.Together.{UnderWay}
-use Rattle.papaya_histories.specs.Given.Effects.Effects.{effects_of, known_after}
-use Rattle.papaya_histories.specs.Given.Effects.Known.{Known, nothing_known}
-use Rattle.papaya_histories.specs.Given.Effects.declared.acting.Acting.TheVariants.{Call, Making, Ending, Row as OfRow}
-use Rattle.papaya_histories.specs.Given.Effects.declared.role.Role.TheVariants as role
-use Rattle.papaya_histories.specs.Given.Executor.Ending.{EndingLeads, ending_begun}
-use Rattle.papaya_histories.specs.Given.Executor.IsAt.{Scene, HasCall, IsAt, at_first, slot_of, work_of}
-use Rattle.papaya_histories.specs.Given.Executor.Making.{MakingLeads}
-use Rattle.papaya_histories.specs.Given.Executor.OnSlots.{MayBegin, RowBegins, RowLeads}
-use Rattle.papaya_histories.specs.Given.Executor.Rows.{request_of}
-use Rattle.papaya_histories.specs.Given.Executor.Stepping.{StepLeads, scene_after}
-use Rattle.papaya_histories.specs.Given.Executor.declared.executor.Executor.{Executor}
-use Rattle.papaya_histories.specs.Given.Executor.declared.row.RowTold.{RowTold}
-use Rattle.papaya_histories.specs.Given.Executor.declared.row.SlotCall.{SlotCall}
-use Rattle.papaya_histories.specs.Given.Executor.declared.row.SlotRow.{SlotRow}
-use Rattle.papaya_histories.specs.Given.Executor.declared.worker.Work.TheVariants.{OnSlot}
-use Rattle.papaya_histories.specs.Given.Finishes.Endings.{Finishing}
-use Rattle.papaya_histories.specs.Given.Finishes.Makings.{Beginning}
-use Rattle.papaya_histories.specs.Given.Finishes.Maps.{Standing}
-use Rattle.papaya_histories.specs.Given.Others.Endings.{ending_after}
-use Rattle.papaya_histories.specs.Given.Others.Makings.{WasNew}
-use Rattle.papaya_histories.specs.Given.Others.Rows.{scene_then}
-use Rattle.papaya_histories.specs.Given.Moments.OnSlots.{HadRetired}
-use Rattle.papaya_histories.specs.Given.Moments.Whole.{ShowsWhole}
+use Rattle.papaya_settles.specs.Given.SeizeWords.Word.{block_in}
+use Rattle.papaya_settles.specs.Given.Seize.declared.progress.Progress.{Progress}
+use Rattle.papaya_settles.specs.Given.Seize.declared.rows.settle.Settled.{Settled}
+use Rattle.papaya_settles.specs.Given.Seize.World.{Row, Settles, Rests, Handed, Begin, Step}
+use Rattle.papaya_settles.specs.Given.Tables.declared.node.Node.{Node}
+use Rattle.papaya_settles.specs.Given.Tables.declared.setting.Setting.{Setting}
+use Rattle.papaya_settles.specs.Given.Raw.declared.machines.progress.Progress.{Progress as CallTold}
+use Rattle.papaya_settles.specs.Given.Schedules.declared.effect.Table.{Table}
+use Rattle.papaya_settles.specs.Given.Schedules.Effects.{with_effects, AtEachEffect}
+use Rattle.papaya_settles.specs.Given.Schedules.Moment.{Moment, start}
+use Rattle.papaya_settles.specs.Given.Schedules.Views.{is_stage, is_retired}
+use Rattle.papaya_settles.specs.Given.Callers.Together.{UnderWay}
+use Rattle.papaya_settles.specs.Given.Effects.Effects.{effects_of, known_after}
+use Rattle.papaya_settles.specs.Given.Effects.Known.{Known, nothing_known}
+use Rattle.papaya_settles.specs.Given.Effects.declared.acting.Acting.TheVariants.{Call, Making, Ending, Row as OfRow}
+use Rattle.papaya_settles.specs.Given.Effects.declared.role.Role.TheVariants as role
+use Rattle.papaya_settles.specs.Given.Executor.Ending.{EndingLeads, ending_begun}
+use Rattle.papaya_settles.specs.Given.Executor.IsAt.{Scene, HasCall, IsAt, at_first, slot_of, work_of}
+use Rattle.papaya_settles.specs.Given.Executor.Making.{MakingLeads}
+use Rattle.papaya_settles.specs.Given.Executor.OnSlots.{MayBegin, RowBegins, RowLeads}
+use Rattle.papaya_settles.specs.Given.Executor.Rows.{request_of}
+use Rattle.papaya_settles.specs.Given.Executor.Stepping.{StepLeads, scene_after}
+use Rattle.papaya_settles.specs.Given.Executor.declared.executor.Executor.{Executor}
+use Rattle.papaya_settles.specs.Given.Executor.declared.row.RowTold.{RowTold}
+use Rattle.papaya_settles.specs.Given.Executor.declared.row.SlotCall.{SlotCall}
+use Rattle.papaya_settles.specs.Given.Executor.declared.row.SlotRow.{SlotRow}
+use Rattle.papaya_settles.specs.Given.Executor.declared.worker.Work.TheVariants.{OnSlot}
+use Rattle.papaya_settles.specs.Given.Finishes.Endings.{Finishing}
+use Rattle.papaya_settles.specs.Given.Finishes.Makings.{Beginning}
+use Rattle.papaya_settles.specs.Given.Finishes.Maps.{Standing}
+use Rattle.papaya_settles.specs.Given.Others.Endings.{ending_after}
+use Rattle.papaya_settles.specs.Given.Others.Makings.{WasNew}
+use Rattle.papaya_settles.specs.Given.Others.Rows.{scene_then}
+use Rattle.papaya_settles.specs.Given.Moments.OnSlots.{HadRetired}
+use Rattle.papaya_settles.specs.Given.Moments.Whole.{ShowsWhole}
 use Rattle.papaya_settles.specs.Due.{Due, ToRetire, due_in_settle, OwnAreMade}
 use Rattle.papaya_settles.specs.Entries.{ShowsEntries}
 

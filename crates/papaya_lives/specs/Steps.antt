@@ -1,43 +1,43 @@
 -- How steps lead on from what waits behind tables: it waits there still, and none of it is reclaimed before the table is.
 use Rattle.std.specs.Prelude.{◌≡◌, ℕ, Bool, List, Option, Some, None}
-use Rattle.papaya_histories.specs.Given.Seize.declared.progress.Progress.{Progress}
-use Rattle.papaya_histories.specs.Given.Seize.declared.rows.settle.Settled.{Settled}
-use Rattle.papaya_histories.specs.Given.Seize.World.{World, Event, Begin, Step, Runs}
-use Rattle.papaya_histories.specs.Given.Tables.Nodes.{deferred_word}
-use Rattle.papaya_histories.specs.Given.Tables.declared.node.Node.{Node}
-use Rattle.papaya_histories.specs.Given.Tables.declared.setting.Setting.{Setting}
-use Rattle.papaya_histories.specs.Given.Raw.declared.machines.progress.Progress.{Progress as CallTold}
-use Rattle.papaya_histories.specs.Given.Schedules.declared.effect.Effect.{Effect}
-use Rattle.papaya_histories.specs.Given.Schedules.Effects.{with_effects, AtEachEffect}
-use Rattle.papaya_histories.specs.Given.Schedules.declared.effect.Table.{Table}
-use Rattle.papaya_histories.specs.Given.Schedules.Moment.{Behind, Moment, start}
-use Rattle.papaya_histories.specs.Given.Rule.InWorld.{AllUsers}
-use Rattle.papaya_histories.specs.Given.Callers.Together.{CameAbout, UnderWay}
-use Rattle.papaya_histories.specs.Given.Effects.Effects.{effects_of, known_after}
-use Rattle.papaya_histories.specs.Given.Effects.Known.{Known, nothing_known}
-use Rattle.papaya_histories.specs.Given.Effects.declared.acting.Acting.TheVariants.{Call, Ending, Making, Row}
-use Rattle.papaya_histories.specs.Given.Effects.declared.role.Role.TheVariants as role
-use Rattle.papaya_histories.specs.Given.Executor.Ending.{EndingLeads, ending_begun}
-use Rattle.papaya_histories.specs.Given.Executor.IsAt.{Scene, IsAt, at_first, slot_of, work_of}
-use Rattle.papaya_histories.specs.Given.Executor.Making.{MakingLeads}
-use Rattle.papaya_histories.specs.Given.Executor.OnSlots.{MayBegin, RowBegins, RowLeads}
-use Rattle.papaya_histories.specs.Given.Executor.Rows.{request_of}
-use Rattle.papaya_histories.specs.Given.Executor.Stepping.{StepLeads}
-use Rattle.papaya_histories.specs.Given.Executor.declared.executor.Executor.{Executor}
-use Rattle.papaya_histories.specs.Given.Executor.declared.row.RowTold.{RowTold}
-use Rattle.papaya_histories.specs.Given.Executor.declared.row.SlotCall.{SlotCall}
-use Rattle.papaya_histories.specs.Given.Executor.declared.row.SlotRow.{SlotRow}
-use Rattle.papaya_histories.specs.Given.Executor.declared.worker.Work.TheVariants.{OnSlot}
-use Rattle.papaya_histories.specs.Given.Finishes.Endings.{Finishing}
-use Rattle.papaya_histories.specs.Given.Finishes.Makings.{Beginning}
-use Rattle.papaya_histories.specs.Given.Finishes.Maps.{Standing}
-use Rattle.papaya_histories.specs.Given.Follows.Steps.{IsOfNoRow}
-use Rattle.papaya_histories.specs.Given.Others.Endings.{ending_after}
-use Rattle.papaya_histories.specs.Given.Others.Makings.{WasNew}
-use Rattle.papaya_histories.specs.Given.Others.Rows.{scene_then}
-use Rattle.papaya_histories.specs.Given.Spots.OnSlots.{WaitUnreclaimed}
-use Rattle.papaya_histories.specs.Given.Moments.Endings.{WaitsOn}
-use Rattle.papaya_histories.specs.Given.Moments.Whole.{ShowsWhole}
+use Rattle.papaya_settles.specs.Given.Seize.declared.progress.Progress.{Progress}
+use Rattle.papaya_settles.specs.Given.Seize.declared.rows.settle.Settled.{Settled}
+use Rattle.papaya_settles.specs.Given.Seize.World.{World, Event, Begin, Step, Runs}
+use Rattle.papaya_settles.specs.Given.Tables.Nodes.{deferred_word}
+use Rattle.papaya_settles.specs.Given.Tables.declared.node.Node.{Node}
+use Rattle.papaya_settles.specs.Given.Tables.declared.setting.Setting.{Setting}
+use Rattle.papaya_settles.specs.Given.Raw.declared.machines.progress.Progress.{Progress as CallTold}
+use Rattle.papaya_settles.specs.Given.Schedules.declared.effect.Effect.{Effect}
+use Rattle.papaya_settles.specs.Given.Schedules.Effects.{with_effects, AtEachEffect}
+use Rattle.papaya_settles.specs.Given.Schedules.declared.effect.Table.{Table}
+use Rattle.papaya_settles.specs.Given.Schedules.Moment.{Behind, Moment, start}
+use Rattle.papaya_settles.specs.Given.Rule.InWorld.{AllUsers}
+use Rattle.papaya_settles.specs.Given.Callers.Together.{CameAbout, UnderWay}
+use Rattle.papaya_settles.specs.Given.Effects.Effects.{effects_of, known_after}
+use Rattle.papaya_settles.specs.Given.Effects.Known.{Known, nothing_known}
+use Rattle.papaya_settles.specs.Given.Effects.declared.acting.Acting.TheVariants.{Call, Ending, Making, Row}
+use Rattle.papaya_settles.specs.Given.Effects.declared.role.Role.TheVariants as role
+use Rattle.papaya_settles.specs.Given.Executor.Ending.{EndingLeads, ending_begun}
+use Rattle.papaya_settles.specs.Given.Executor.IsAt.{Scene, IsAt, at_first, slot_of, work_of}
+use Rattle.papaya_settles.specs.Given.Executor.Making.{MakingLeads}
+use Rattle.papaya_settles.specs.Given.Executor.OnSlots.{MayBegin, RowBegins, RowLeads}
+use Rattle.papaya_settles.specs.Given.Executor.Rows.{request_of}
+use Rattle.papaya_settles.specs.Given.Executor.Stepping.{StepLeads}
+use Rattle.papaya_settles.specs.Given.Executor.declared.executor.Executor.{Executor}
+use Rattle.papaya_settles.specs.Given.Executor.declared.row.RowTold.{RowTold}
+use Rattle.papaya_settles.specs.Given.Executor.declared.row.SlotCall.{SlotCall}
+use Rattle.papaya_settles.specs.Given.Executor.declared.row.SlotRow.{SlotRow}
+use Rattle.papaya_settles.specs.Given.Executor.declared.worker.Work.TheVariants.{OnSlot}
+use Rattle.papaya_settles.specs.Given.Finishes.Endings.{Finishing}
+use Rattle.papaya_settles.specs.Given.Finishes.Makings.{Beginning}
+use Rattle.papaya_settles.specs.Given.Finishes.Maps.{Standing}
+use Rattle.papaya_settles.specs.Given.Follows.Steps.{IsOfNoRow}
+use Rattle.papaya_settles.specs.Given.Others.Endings.{ending_after}
+use Rattle.papaya_settles.specs.Given.Others.Makings.{WasNew}
+use Rattle.papaya_settles.specs.Given.Others.Rows.{scene_then}
+use Rattle.papaya_settles.specs.Given.Spots.OnSlots.{WaitUnreclaimed}
+use Rattle.papaya_settles.specs.Given.Moments.Endings.{WaitsOn}
+use Rattle.papaya_settles.specs.Given.Moments.Whole.{ShowsWhole}
 use Rattle.papaya_settles.specs.Due.{OwnAreMade}
 use Rattle.papaya_settles.specs.Entries.{ShowsEntries}
 use Rattle.papaya_lives.specs.Behind.{LiesBehind, ShowsWaiting, WaitsOnce}

@@ -1,10 +1,10 @@
 -- Which block another one waits behind, by the log of effects; and that it is not retired while it does.
 use Rattle.std.specs.Prelude.{◌≡◌, ◌≢◌, ℕ, ◌==◌, false, List, [], ◌∷◌, Option, Some, None, if◌then◌else◌}
-use Rattle.papaya_histories.specs.Given.Seize.Law.{Effect, Deferred, Taken, LeftOver, is_retired}
-use Rattle.papaya_histories.specs.Given.Seize.World.{World, Row, Defers, Handed, Event, Runs, at_start}
-use Rattle.papaya_histories.specs.Given.Seize.Further.{IsWordOf}
-use Rattle.papaya_histories.specs.Given.Seize.declared.rows.defer.Deferring.TheVariants as deferring
-use Rattle.papaya_histories.specs.Given.SeizeWords.Word.{link_to}
+use Rattle.papaya_settles.specs.Given.Seize.Law.{Effect, Deferred, Taken, LeftOver, is_retired}
+use Rattle.papaya_settles.specs.Given.Seize.World.{World, Row, Defers, Handed, Event, Runs, at_start}
+use Rattle.papaya_settles.specs.Given.Seize.Further.{IsWordOf}
+use Rattle.papaya_settles.specs.Given.Seize.declared.rows.defer.Deferring.TheVariants as deferring
+use Rattle.papaya_settles.specs.Given.SeizeWords.Word.{link_to}
 
 -- the block, unless it is this one
 abbrev pub unless_it : ℕ → Option ℕ → Option ℕ

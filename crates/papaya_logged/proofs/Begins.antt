@@ -13,12 +13,12 @@ use Rattle.papaya_executor.specs.IsAt.{Scene, IsAt, HasCall, KeepsGiven, at_firs
 use Rattle.papaya_executor.specs.Replying.{scene_with}
 use Rattle.papaya_executor.specs.declared.worker.TheConstants.{SLOTS}
 use Rattle.papaya_executor.proofs.Fresh.{caller_in, no_calls_yet, resting}
-use Rattle.papaya_histories.specs.Given.Follows.Calling.{NoneNamed}
-use Rattle.papaya_histories.specs.Given.Moments.Whole.{ShowsWhole}
+use Rattle.papaya_kept.specs.Given.Follows.Calling.{NoneNamed}
+use Rattle.papaya_kept.specs.Given.Moments.Whole.{ShowsWhole}
 use Rattle.papaya_kept.specs.Kept.{ShowsKept}
 use Rattle.papaya_kept.proofs.Between.{calls_begin_kept}
 use Rattle.papaya_kept.proofs.Stays.{begins_kept, renamed_kept}
-use Rattle.papaya_histories.proofs.Given.Moments.Calls.{whole_begins, calls_begin_whole}
+use Rattle.papaya_kept.proofs.Given.Moments.Calls.{whole_begins, calls_begin_whole}
 use Rattle.papaya_logged.specs.Calling.{CallBegins}
 use Rattle.papaya_logged.specs.Shown.{IsShown}
 use Rattle.papaya_logged.specs.declared.logged.Logged.{Logged}

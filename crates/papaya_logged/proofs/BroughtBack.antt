@@ -4,13 +4,13 @@ use Rattle.std.specs.List.{AllByRecursion}
 use Rattle.std.proofs.Common.{refl, sym, ap, subst, ◌∙◌, arith}
 use Rattle.std.proofs.lemmas.Grind.{flat_map-append}
 use Rattle.std.proofs.lemmas.List.{append-nil, append_assoc, append_cancel_left, length-append}
-use Rattle.papaya_histories.specs.Given.SeizeWords.declared.at.At.TheVariants.{Root, Used, Slot, Entry, Word}
-use Rattle.papaya_histories.specs.Given.SeizeWords.Mem.{value_at}
+use Rattle.papaya_kept.specs.Given.SeizeWords.declared.at.At.TheVariants.{Root, Used, Slot, Entry, Word}
+use Rattle.papaya_kept.specs.Given.SeizeWords.Mem.{value_at}
 use Rattle.seize.specs.World.{World}
 use Rattle.seize.specs.declared.rows.settle.Settled.{Settled}
 use Rattle.seize.specs.declared.rows.settle.Settled.TheVariants as settled
-use Rattle.papaya_histories.specs.Given.Tables.declared.node.Node.{Node}
-use Rattle.papaya_histories.specs.Given.Tables.declared.node.Node.TheVariants as node
+use Rattle.papaya_kept.specs.Given.Tables.declared.node.Node.{Node}
+use Rattle.papaya_kept.specs.Given.Tables.declared.node.Node.TheVariants as node
 use Rattle.papaya_runs.specs.declared.record.Pair.{Pair}
 use Rattle.papaya_runs.specs.Pairs.{numbers}
 use Rattle.papaya_runs.specs.Runs.{IsStored}
@@ -37,17 +37,17 @@ use Rattle.papaya_executor.specs.declared.row.RowTold.{RowTold}
 use Rattle.papaya_executor.specs.declared.row.RowTold.TheVariants as told
 use Rattle.papaya_executor.specs.declared.row.SlotRow.{SlotRow}
 use Rattle.papaya_executor.specs.declared.worker.Work.TheVariants.{OnSlot}
-use Rattle.papaya_histories.specs.Given.Finishes.Endings.{Finishing}
-use Rattle.papaya_histories.specs.Given.Finishes.FactsEnds.{taken_by as taken_of}
-use Rattle.papaya_histories.specs.Given.Finishes.Maps.{Standing}
-use Rattle.papaya_histories.specs.Given.Follows.Blocks.{HasRole}
-use Rattle.papaya_histories.specs.Given.Follows.Steps.{TakesNone}
-use Rattle.papaya_histories.specs.Given.Others.Endings.{TellsNext}
-use Rattle.papaya_histories.specs.Given.Others.Gives.{GivesWhatItTook}
-use Rattle.papaya_histories.proofs.Given.Others.Ends.{tells_next}
-use Rattle.papaya_histories.proofs.Given.Others.Quiet.{stored_none}
-use Rattle.papaya_histories.proofs.Given.Others.RowGives.{rows_give_what_they_took}
-use Rattle.papaya_histories.proofs.Given.Others.RowPlans.{TellsRow, row_tells}
+use Rattle.papaya_kept.specs.Given.Finishes.Endings.{Finishing}
+use Rattle.papaya_kept.specs.Given.Finishes.FactsEnds.{taken_by as taken_of}
+use Rattle.papaya_kept.specs.Given.Finishes.Maps.{Standing}
+use Rattle.papaya_kept.specs.Given.Follows.Blocks.{HasRole}
+use Rattle.papaya_kept.specs.Given.Follows.Steps.{TakesNone}
+use Rattle.papaya_kept.specs.Given.Others.Endings.{TellsNext}
+use Rattle.papaya_kept.specs.Given.Others.Gives.{GivesWhatItTook}
+use Rattle.papaya_kept.proofs.Given.Others.Ends.{tells_next}
+use Rattle.papaya_kept.proofs.Given.Others.Quiet.{stored_none}
+use Rattle.papaya_kept.proofs.Given.Others.RowGives.{rows_give_what_they_took}
+use Rattle.papaya_kept.proofs.Given.Others.RowPlans.{TellsRow, row_tells}
 use Rattle.papaya_logged.specs.Back.{BringsBack, ComesBack, EndBringsBack, number_back, number_in, number_last, numbered, pair_back, row_back, settled_back}
 use Rattle.papaya_logged.specs.Ends.{EndRan, EndSteps, ended_as, is_done}
 use Rattle.papaya_logged.specs.OnSlots.{OnSlotRan, has_come}

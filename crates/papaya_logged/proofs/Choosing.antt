@@ -1,32 +1,32 @@
 -- Where a choice of a block number comes, the executor is there as before, and the moment shows it as before.
 use Rattle.std.specs.Prelude.{◌⊎◌, ℕ, Bool, List, [], ◌∷◌, Option, Some, None}
 use Rattle.std.proofs.Common.{◌≡◌, refl, ap, inl, inr}
-use Rattle.papaya_histories.specs.Given.SeizeWords.Mem.{Mem}
+use Rattle.papaya_kept.specs.Given.SeizeWords.Mem.{Mem}
 use Rattle.seize.specs.Further.{FurtherFrom, ListFrom}
 use Rattle.seize.specs.World.{World}
-use Rattle.papaya_histories.specs.Given.Tables.Nodes.{deferred_word}
-use Rattle.papaya_histories.specs.Given.Tables.declared.node.Node.{Node}
+use Rattle.papaya_kept.specs.Given.Tables.Nodes.{deferred_word}
+use Rattle.papaya_kept.specs.Given.Tables.declared.node.Node.{Node}
 use Rattle.papaya_schedules.specs.declared.effect.Table.{Table}
 use Rattle.papaya_schedules.specs.Moment.{Behind, Moment}
 use Rattle.papaya_effects.specs.Known.{Known, known}
 use Rattle.papaya_effects.specs.declared.role.Role.{Role}
 use Rattle.papaya_effects.specs.declared.role.Role.TheVariants as role
 use Rattle.papaya_executor.specs.IsAt.{Scene, IsAt, slot_of}
-use Rattle.papaya_histories.specs.Given.Finishes.Endings.{Finishing}
-use Rattle.papaya_histories.specs.Given.Finishes.Makings.{Beginning}
-use Rattle.papaya_histories.specs.Given.Finishes.Maps.{Standing}
-use Rattle.papaya_histories.proofs.Given.Finishes.Among.Choices.{choices_stand_among}
+use Rattle.papaya_kept.specs.Given.Finishes.Endings.{Finishing}
+use Rattle.papaya_kept.specs.Given.Finishes.Makings.{Beginning}
+use Rattle.papaya_kept.specs.Given.Finishes.Maps.{Standing}
+use Rattle.papaya_kept.proofs.Given.Finishes.Among.Choices.{choices_stand_among}
 use Rattle.papaya_reclaims.specs.Left.{IsSomebodys, LeftAmong}
 use Rattle.papaya_reclaims.specs.Reclaims.{RootLeads}
-use Rattle.papaya_histories.specs.Given.Follows.Blocks.{HasRole}
-use Rattle.papaya_histories.specs.Given.Hands.Rows.{HoldsOne}
-use Rattle.papaya_histories.proofs.Given.Hands.SettlingRows.{one_kept}
-use Rattle.papaya_histories.specs.Given.Moments.Whole.{ShowsWhole}
-use Rattle.papaya_settles.specs.Entries.{IsBlank}
-use Rattle.papaya_settles.proofs.EntryScenes.{one_as}
-use Rattle.papaya_lives.specs.Behind.{LiesBehind}
-use Rattle.papaya_lives.proofs.Each.{each_on}
-use Rattle.papaya_lives.proofs.LeftTables.{left_as}
+use Rattle.papaya_kept.specs.Given.Follows.Blocks.{HasRole}
+use Rattle.papaya_kept.specs.Given.Hands.Rows.{HoldsOne}
+use Rattle.papaya_kept.proofs.Given.Hands.SettlingRows.{one_kept}
+use Rattle.papaya_kept.specs.Given.Moments.Whole.{ShowsWhole}
+use Rattle.papaya_kept.specs.Given.Settles.Entries.{IsBlank}
+use Rattle.papaya_kept.proofs.Given.Settles.EntryScenes.{one_as}
+use Rattle.papaya_kept.specs.Given.Lives.Behind.{LiesBehind}
+use Rattle.papaya_kept.proofs.Given.Lives.Each.{each_on}
+use Rattle.papaya_kept.proofs.Given.Lives.LeftTables.{left_as}
 use Rattle.papaya_kept.specs.Kept.{ShowsKept}
 use Rattle.papaya_logged.specs.Choosing.{ChoiceIsShown, logged_chosen, memory_chosen, scene_chosen}
 use Rattle.papaya_logged.specs.Shown.{IsCounted}

@@ -2,15 +2,15 @@
 use Rattle.std.specs.Prelude.{◌≡◌, ◌<◌, ◌≤◌, ◌==◌, ℕ, Bool, false, ◌+◌, List, [], ◌∷◌, length, map, filter, find, Option, Some, None}
 use Rattle.std.specs.List.{All}
 use Rattle.std.proofs.Common.{refl, ap, sym, subst, ◌∙◌, arith}
-use Rattle.papaya_histories.specs.Given.SeizeWords.Mem.{Mem}
+use Rattle.papaya_kept.specs.Given.SeizeWords.Mem.{Mem}
 use Rattle.seize.specs.World.{World, Begins, Begin, Step, with_at}
 use Rattle.seize.specs.declared.progress.Progress.{Progress}
 use Rattle.seize.specs.declared.rows.settle.Settled.{Settled}
-use Rattle.papaya_histories.specs.Given.Runs.Same.{is_same}
-use Rattle.papaya_histories.specs.Given.Tables.Nodes.{deferred_word}
-use Rattle.papaya_histories.specs.Given.Tables.declared.node.Node.{Node}
-use Rattle.papaya_histories.specs.Given.Tables.declared.setting.Setting.{Setting}
-use Rattle.papaya_histories.specs.Given.Raw.declared.machines.progress.Progress.{Progress as CallTold}
+use Rattle.papaya_runs.specs.Same.{is_same}
+use Rattle.papaya_kept.specs.Given.Tables.Nodes.{deferred_word}
+use Rattle.papaya_kept.specs.Given.Tables.declared.node.Node.{Node}
+use Rattle.papaya_kept.specs.Given.Tables.declared.setting.Setting.{Setting}
+use Rattle.papaya_raw.specs.declared.machines.progress.Progress.{Progress as CallTold}
 use Rattle.papaya_schedules.specs.declared.effect.Effect.{Effect}
 use Rattle.papaya_schedules.specs.After.{if_any}
 use Rattle.papaya_schedules.specs.Beginning.{used_roots, with_map}
@@ -18,15 +18,15 @@ use Rattle.papaya_schedules.specs.Effects.{with_effects}
 use Rattle.papaya_schedules.specs.Lists.{is_among}
 use Rattle.papaya_schedules.specs.Moment.{MapThere, TableThere, Moment, start}
 use Rattle.papaya_schedules.specs.Views.{map_of}
-use Rattle.papaya_histories.specs.Given.Callers.Together.{UnderWay}
+use Rattle.papaya_kept.specs.Given.Callers.Together.{UnderWay}
 use Rattle.papaya_effects.specs.Effects.{taken_by, effects_of, known_after}
 use Rattle.papaya_effects.specs.Known.{Known, known, nothing_known}
 use Rattle.papaya_effects.specs.declared.acting.Acting.TheVariants as acts
 use Rattle.papaya_effects.specs.declared.notes.Notes.{Notes}
 use Rattle.papaya_effects.specs.declared.role.Role.TheVariants as role
-use Rattle.papaya_histories.specs.Given.Finishes.Endings.{Finishing}
-use Rattle.papaya_histories.specs.Given.Finishes.Makings.{Beginning, HasTaken}
-use Rattle.papaya_histories.specs.Given.Finishes.Maps.{Standing}
+use Rattle.papaya_kept.specs.Given.Finishes.Endings.{Finishing}
+use Rattle.papaya_kept.specs.Given.Finishes.Makings.{Beginning, HasTaken}
+use Rattle.papaya_kept.specs.Given.Finishes.Maps.{Standing}
 use Rattle.papaya_executor.specs.Ending.{EndingLeads, ending_begun}
 use Rattle.papaya_executor.specs.IsAt.{Scene, IsAt, KeepsGiven, at_first, slot_of, work_of}
 use Rattle.papaya_executor.specs.Making.{MakingLeads}
@@ -39,13 +39,13 @@ use Rattle.papaya_executor.specs.declared.row.SlotCall.{SlotCall}
 use Rattle.papaya_executor.specs.declared.row.SlotCall.TheVariants as call
 use Rattle.papaya_executor.specs.declared.row.SlotRow.{SlotRow}
 use Rattle.papaya_executor.specs.declared.worker.Work.TheVariants as work
-use Rattle.papaya_histories.specs.Given.Follows.Shows.{Shows}
-use Rattle.papaya_histories.specs.Given.Others.Endings.{ending_after, without_map}
-use Rattle.papaya_histories.specs.Given.Others.Makings.{making_after}
-use Rattle.papaya_histories.specs.Given.Others.Rows.{scene_then}
-use Rattle.papaya_histories.proofs.Given.Moments.After.{effects_after}
-use Rattle.papaya_histories.proofs.Given.Moments.Numbers.{maps_go}
-use Rattle.papaya_histories.specs.Given.Moments.Numbers.{NumbersMaps}
+use Rattle.papaya_kept.specs.Given.Follows.Shows.{Shows}
+use Rattle.papaya_kept.specs.Given.Others.Endings.{ending_after, without_map}
+use Rattle.papaya_kept.specs.Given.Others.Makings.{making_after}
+use Rattle.papaya_kept.specs.Given.Others.Rows.{scene_then}
+use Rattle.papaya_kept.proofs.Given.Moments.After.{effects_after}
+use Rattle.papaya_kept.proofs.Given.Moments.Numbers.{maps_go}
+use Rattle.papaya_kept.specs.Given.Moments.Numbers.{NumbersMaps}
 use Rattle.papaya_remains.specs.Numbered.{NumbersUpTo}
 use Rattle.papaya_remains.specs.Remains.{LeftNoted, ShowsRemains}
 use Rattle.papaya_remains.specs.Slots.{SlotsNoted}

@@ -5,10 +5,10 @@ use Rattle.std.proofs.lemmas.List.{append-nil, append_assoc}
 use Rattle.seize.specs.World.{times}
 use Rattle.seize.specs.declared.rows.settle.Settled.{Settled}
 use Rattle.seize.specs.declared.rows.settle.Settled.TheVariants as settled
-use Rattle.papaya_histories.specs.Given.Tables.Chunks.{is_incremental}
-use Rattle.papaya_histories.specs.Given.Tables.declared.node.Node.{Node}
+use Rattle.papaya_kept.specs.Given.Tables.Chunks.{is_incremental}
+use Rattle.papaya_kept.specs.Given.Tables.declared.node.Node.{Node}
 use Rattle.papaya_raw.specs.declared.machines.end_map.EndMap.{EndMap}
-use Rattle.papaya_histories.proofs.Given.Rule.Laws.{current_is_known}
+use Rattle.papaya_kept.proofs.Given.Rule.Laws.{current_is_known}
 use Rattle.papaya_schedules.specs.declared.effect.Effect.{Effect}
 use Rattle.papaya_schedules.specs.After.{if_any}
 use Rattle.papaya_schedules.specs.Effects.{with_effects, AtEachEffect}
@@ -16,32 +16,32 @@ use Rattle.papaya_schedules.specs.Handing.{in_order}
 use Rattle.papaya_schedules.specs.Moment.{Moment}
 use Rattle.papaya_teller.specs.declared.changed.Changed.{Changed}
 use Rattle.papaya_teller.specs.declared.changed.Changed.TheVariants as changed
-use Rattle.papaya_histories.proofs.Given.Callers.Together.At.{at_same}
+use Rattle.papaya_kept.proofs.Given.Callers.Together.At.{at_same}
 use Rattle.papaya_effects.specs.Effects.{taken_by, effects_of, known_after}
 use Rattle.papaya_effects.specs.Known.{Known, known}
 use Rattle.papaya_effects.specs.declared.notes.Notes.{Notes}
 use Rattle.papaya_effects.specs.declared.acting.Acting.TheVariants.{Ending}
 use Rattle.papaya_effects.specs.declared.role.Role.{Role}
 use Rattle.papaya_effects.specs.declared.role.Role.TheVariants as role
-use Rattle.papaya_histories.specs.Given.Finishes.Endings.{Finishing, AllPairsOnce, FinishingFacts, StepsOfEnding, finishing_of, waiting_by}
-use Rattle.papaya_histories.specs.Given.Finishes.FactsEnds.{back_of, taken_by as taken_of}
-use Rattle.papaya_histories.specs.Given.Finishes.Maps.{Standing}
-use Rattle.papaya_histories.proofs.Given.Finishes.Ends.CountedBlocks.{times-append, next_apart, some_here, some_last}
-use Rattle.papaya_histories.proofs.Given.Finishes.Ends.OrdersOn.{back_same}
-use Rattle.papaya_histories.proofs.Given.Finishes.Ends.OrdersOnce.{HasOrder, plain_order}
+use Rattle.papaya_kept.specs.Given.Finishes.Endings.{Finishing, AllPairsOnce, FinishingFacts, StepsOfEnding, finishing_of, waiting_by}
+use Rattle.papaya_kept.specs.Given.Finishes.FactsEnds.{back_of, taken_by as taken_of}
+use Rattle.papaya_kept.specs.Given.Finishes.Maps.{Standing}
+use Rattle.papaya_kept.proofs.Given.Finishes.Ends.CountedBlocks.{times-append, next_apart, some_here, some_last}
+use Rattle.papaya_kept.proofs.Given.Finishes.Ends.OrdersOn.{back_same}
+use Rattle.papaya_kept.proofs.Given.Finishes.Ends.OrdersOnce.{HasOrder, plain_order}
 use Rattle.papaya_executor.specs.Ending.{EndingBegins, EndingLeads, EndingStepsFrom, EndingComesTo, ending_begun}
 use Rattle.papaya_executor.specs.IsAt.{Scene, IsAt, KeepsGiven, slot_of}
 use Rattle.papaya_executor.specs.declared.executor.Executor.{Executor}
-use Rattle.papaya_histories.specs.Given.Follows.Steps.{TakesNone}
-use Rattle.papaya_histories.proofs.Given.Follows.Alike.{AllCalm, put_elsewhere}
-use Rattle.papaya_histories.specs.Given.Others.Endings.{TellsNext, ending_after, without_map}
-use Rattle.papaya_histories.proofs.Given.Others.Ends.{tells_next}
-use Rattle.papaya_histories.specs.Given.Moments.Endings.{IsOfIts}
-use Rattle.papaya_histories.proofs.Given.Moments.Ends.{says, endings_begin_whole, endings_keep_whole}
-use Rattle.papaya_histories.proofs.Given.Moments.Over.{endings_are_over_whole}
-use Rattle.papaya_histories.proofs.Given.Moments.WholeEnds.{whole_ends_take_all}
-use Rattle.papaya_histories.specs.Given.Moments.WholeEnds.{all_ended}
-use Rattle.papaya_histories.specs.Given.Moments.Whole.{ShowsWhole}
+use Rattle.papaya_kept.specs.Given.Follows.Steps.{TakesNone}
+use Rattle.papaya_kept.proofs.Given.Follows.Alike.{AllCalm, put_elsewhere}
+use Rattle.papaya_kept.specs.Given.Others.Endings.{TellsNext, ending_after, without_map}
+use Rattle.papaya_kept.proofs.Given.Others.Ends.{tells_next}
+use Rattle.papaya_kept.specs.Given.Moments.Endings.{IsOfIts}
+use Rattle.papaya_kept.proofs.Given.Moments.Ends.{says, endings_begin_whole, endings_keep_whole}
+use Rattle.papaya_kept.proofs.Given.Moments.Over.{endings_are_over_whole}
+use Rattle.papaya_kept.proofs.Given.Moments.WholeEnds.{whole_ends_take_all}
+use Rattle.papaya_kept.specs.Given.Moments.WholeEnds.{all_ended}
+use Rattle.papaya_kept.specs.Given.Moments.Whole.{ShowsWhole}
 use Rattle.papaya_logged.specs.Ends.{is_done, ended_as, AllEnds, NotesMap, NotedStill, EndIsBegun, EndGoesOn, EndSteps, EndIsOver}
 use Rattle.papaya_kept.specs.Kept.{ShowsKept}
 use Rattle.papaya_kept.proofs.Others.{endings_begin_kept, endings_keep_kept, endings_find_kept}

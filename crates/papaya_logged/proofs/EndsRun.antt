@@ -3,12 +3,12 @@ use Rattle.std.specs.Prelude.{◌≡◌, ◌≢◌, ◌<◌, ◌≤◌, ◌+◌,
 use Rattle.std.proofs.Common.{refl, sym, ap, subst, ◌∙◌}
 use Rattle.std.proofs.lemmas.List.{append-nil, append_assoc}
 use Rattle.std.proofs.lemmas.Grind.{flat_map-append}
-use Rattle.papaya_histories.specs.Given.SeizeWords.Mem.{Mem, Took, value_at}
-use Rattle.papaya_histories.specs.Given.SeizeWords.Plan.{Steps}
+use Rattle.papaya_kept.specs.Given.SeizeWords.Mem.{Mem, Took, value_at}
+use Rattle.papaya_kept.specs.Given.SeizeWords.Plan.{Steps}
 use Rattle.seize.specs.World.{World, with_at}
 use Rattle.seize.specs.declared.rows.settle.Settled.{Settled}
 use Rattle.seize.specs.declared.rows.settle.Settled.TheVariants as settled
-use Rattle.papaya_histories.specs.Given.Tables.declared.node.Node.{Node}
+use Rattle.papaya_kept.specs.Given.Tables.declared.node.Node.{Node}
 use Rattle.papaya_raw.specs.EndMap.{end_map_plan}
 use Rattle.papaya_raw.specs.declared.machines.end_map.EndMap.{EndMap}
 use Rattle.papaya_schedules.specs.declared.effect.Effect.{Effect}
@@ -18,22 +18,22 @@ use Rattle.papaya_teller.specs.declared.changed.Changed.TheVariants.{Nothing}
 use Rattle.papaya_effects.specs.Effects.{taken_by}
 use Rattle.papaya_effects.specs.Known.{Known, known}
 use Rattle.papaya_effects.specs.declared.acting.Acting.TheVariants.{Ending}
-use Rattle.papaya_histories.proofs.Given.Callers.Together.At.{at_other, at_same}
-use Rattle.papaya_histories.specs.Given.Finishes.Endings.{Finishing, FinishingFacts, waiting_by}
-use Rattle.papaya_histories.specs.Given.Finishes.FactsEnds.{taken_by as taken_of}
-use Rattle.papaya_histories.specs.Given.Finishes.Maps.{Standing}
-use Rattle.papaya_histories.proofs.Given.Finishes.Among.Own.Steps.{endings_stand}
-use Rattle.papaya_owned.specs.Given.Maps.EndingsEnds.{HasMore}
-use Rattle.papaya_owned.specs.Given.Maps.MeasuresEnds.{end_map_left, most_blocks, tables_left, steps_left}
-use Rattle.papaya_owned.proofs.Given.Maps.Ends.Lower.{end_falls, fits_in_one}
+use Rattle.papaya_kept.proofs.Given.Callers.Together.At.{at_other, at_same}
+use Rattle.papaya_kept.specs.Given.Finishes.Endings.{Finishing, FinishingFacts, waiting_by}
+use Rattle.papaya_kept.specs.Given.Finishes.FactsEnds.{taken_by as taken_of}
+use Rattle.papaya_kept.specs.Given.Finishes.Maps.{Standing}
+use Rattle.papaya_kept.proofs.Given.Finishes.Among.Own.Steps.{endings_stand}
+use Rattle.papaya_kept.specs.Given.Maps.EndingsEnds.{HasMore}
+use Rattle.papaya_kept.specs.Given.Maps.MeasuresEnds.{end_map_left, most_blocks, tables_left, steps_left}
+use Rattle.papaya_kept.proofs.Given.Maps.Ends.Lower.{end_falls, fits_in_one}
 use Rattle.papaya_executor.specs.Ending.{EndingLeads}
 use Rattle.papaya_executor.specs.IsAt.{Scene, IsAt, IsEnding, ending_in, slot_of, work_of}
 use Rattle.papaya_executor.specs.declared.executor.Executor.{Executor}
 use Rattle.papaya_executor.specs.declared.worker.Work.{Work}
 use Rattle.papaya_executor.specs.declared.worker.Work.TheVariants as work
 use Rattle.papaya_executor.proofs.Forgotten.{as_step}
-use Rattle.papaya_histories.specs.Given.Others.Endings.{ending_after}
-use Rattle.papaya_histories.proofs.Given.Moments.After.{effects_after}
+use Rattle.papaya_kept.specs.Given.Others.Endings.{ending_after}
+use Rattle.papaya_kept.proofs.Given.Moments.After.{effects_after}
 use Rattle.papaya_logged.specs.Ends.{is_done, ended_as, TellsCame, NotedStill, EndCame, EndSteps, EndIsAt, EndIsShown, EndRan}
 use Rattle.papaya_logged.specs.Shown.{IsShown}
 use Rattle.papaya_logged.specs.Waits.{TellsThen, TellsWaiting}

@@ -1,29 +1,29 @@
 -- After each step what is left over is noted as the pairs as which it was.
 use Rattle.std.specs.Prelude.{◌≡◌, ◌+◌, ℕ, Bool, List, Option, None, Some, IsSome}
 use Rattle.std.proofs.Common.{refl, sym, subst, ◌∙◌, inl, inr}
-use Rattle.papaya_histories.specs.Given.SeizeWords.Mem.{value_at}
+use Rattle.papaya_kept.specs.Given.SeizeWords.Mem.{value_at}
 use Rattle.seize.specs.declared.progress.Progress.{Progress}
 use Rattle.seize.specs.declared.rows.settle.Settled.{Settled}
 use Rattle.seize.specs.declared.rows.settle.Settled.TheVariants as settled
 use Rattle.seize.specs.declared.states.TheConstants.{LAST_SLOT}
 use Rattle.seize.specs.World.{World, Hand, LeftTo, Step}
-use Rattle.papaya_histories.proofs.Given.SeizeRule.Points.Aside.{HandFits}
-use Rattle.papaya_histories.proofs.Given.SeizeRule.Words.There.{value_there}
-use Rattle.papaya_histories.proofs.Given.SeizeAlone.Histories.Reached.{Reached, runs_reached, steps_reached}
-use Rattle.papaya_histories.specs.Given.Tables.Nodes.{deferred_word}
-use Rattle.papaya_histories.specs.Given.Tables.declared.node.Node.{Node}
-use Rattle.papaya_histories.specs.Given.Tables.declared.setting.Setting.{Setting}
-use Rattle.papaya_histories.specs.Given.Raw.declared.machines.progress.Progress.{Progress as CallTold}
+use Rattle.papaya_kept.proofs.Given.SeizeRule.Points.Aside.{HandFits}
+use Rattle.papaya_kept.proofs.Given.SeizeRule.Words.There.{value_there}
+use Rattle.papaya_kept.proofs.Given.SeizeAlone.Histories.Reached.{Reached, runs_reached, steps_reached}
+use Rattle.papaya_kept.specs.Given.Tables.Nodes.{deferred_word}
+use Rattle.papaya_kept.specs.Given.Tables.declared.node.Node.{Node}
+use Rattle.papaya_kept.specs.Given.Tables.declared.setting.Setting.{Setting}
+use Rattle.papaya_raw.specs.declared.machines.progress.Progress.{Progress as CallTold}
 use Rattle.papaya_schedules.specs.Moment.{Moment}
-use Rattle.papaya_histories.specs.Given.Callers.Together.{UnderWay}
-use Rattle.papaya_histories.proofs.Given.Callers.Together.Came.{came_reached}
+use Rattle.papaya_kept.specs.Given.Callers.Together.{UnderWay}
+use Rattle.papaya_kept.proofs.Given.Callers.Together.Came.{came_reached}
 use Rattle.papaya_effects.specs.Effects.{known_after}
 use Rattle.papaya_effects.specs.Known.{Known}
 use Rattle.papaya_effects.specs.declared.acting.Acting.TheVariants as acts
 use Rattle.papaya_effects.specs.declared.role.Role.TheVariants as role
-use Rattle.papaya_histories.specs.Given.Finishes.Endings.{Finishing}
-use Rattle.papaya_histories.specs.Given.Finishes.FactsEnds.{events_of}
-use Rattle.papaya_histories.specs.Given.Finishes.Makings.{Beginning}
+use Rattle.papaya_kept.specs.Given.Finishes.Endings.{Finishing}
+use Rattle.papaya_kept.specs.Given.Finishes.FactsEnds.{events_of}
+use Rattle.papaya_kept.specs.Given.Finishes.Makings.{Beginning}
 use Rattle.papaya_executor.specs.Ending.{EndingComesTo, EndingLeads}
 use Rattle.papaya_executor.specs.IsAt.{Scene, IsAt, work_of}
 use Rattle.papaya_executor.specs.Making.{MakingLeads}
@@ -33,21 +33,21 @@ use Rattle.papaya_executor.specs.declared.executor.Executor.{Executor}
 use Rattle.papaya_executor.specs.declared.row.RowTold.{RowTold}
 use Rattle.papaya_executor.specs.declared.row.SlotRow.{SlotRow}
 use Rattle.papaya_executor.specs.declared.worker.Work.TheVariants.{OnSlot}
-use Rattle.papaya_histories.proofs.Given.Follows.Onward.{IsLasting, IsOfMap}
-use Rattle.papaya_histories.proofs.Given.Follows.Steps.{step_shown, went_to}
-use Rattle.papaya_histories.proofs.Given.Hands.Steps.{calls_store_theirs}
-use Rattle.papaya_histories.specs.Given.Others.Endings.{ending_after}
-use Rattle.papaya_histories.specs.Given.Others.Makings.{WasNew}
-use Rattle.papaya_histories.specs.Given.Others.Rows.{scene_then}
-use Rattle.papaya_histories.proofs.Given.Others.RowPlans.{row_tells}
-use Rattle.papaya_histories.proofs.Given.Moments.Ends.{end_keeps}
-use Rattle.papaya_histories.specs.Given.Moments.Whole.{ShowsWhole}
-use Rattle.papaya_settles.proofs.Hand.All.{own_or_row}
-use Rattle.papaya_lives.proofs.CallRows.{role_kept}
-use Rattle.papaya_lives.proofs.Lying.{row_pair}
-use Rattle.papaya_lives.proofs.Makings.{role_kept as made_kept}
-use Rattle.papaya_lives.proofs.Users.{left_lives}
-use Rattle.papaya_lives.proofs.Waiting.{left, reached}
+use Rattle.papaya_kept.proofs.Given.Follows.Onward.{IsLasting, IsOfMap}
+use Rattle.papaya_kept.proofs.Given.Follows.Steps.{step_shown, went_to}
+use Rattle.papaya_kept.proofs.Given.Hands.Steps.{calls_store_theirs}
+use Rattle.papaya_kept.specs.Given.Others.Endings.{ending_after}
+use Rattle.papaya_kept.specs.Given.Others.Makings.{WasNew}
+use Rattle.papaya_kept.specs.Given.Others.Rows.{scene_then}
+use Rattle.papaya_kept.proofs.Given.Others.RowPlans.{row_tells}
+use Rattle.papaya_kept.proofs.Given.Moments.Ends.{end_keeps}
+use Rattle.papaya_kept.specs.Given.Moments.Whole.{ShowsWhole}
+use Rattle.papaya_kept.proofs.Given.Settles.Hand.All.{own_or_row}
+use Rattle.papaya_kept.proofs.Given.Lives.CallRows.{role_kept}
+use Rattle.papaya_kept.proofs.Given.Lives.Lying.{row_pair}
+use Rattle.papaya_kept.proofs.Given.Lives.Makings.{role_kept as made_kept}
+use Rattle.papaya_kept.proofs.Given.Lives.Users.{left_lives}
+use Rattle.papaya_kept.proofs.Given.Lives.Waiting.{left, reached}
 use Rattle.papaya_kept.specs.Kept.{ShowsKept}
 use Rattle.papaya_kept.proofs.Calls.{own_made}
 use Rattle.papaya_remains.specs.Remains.{LeftNoted}

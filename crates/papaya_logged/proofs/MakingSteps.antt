@@ -4,7 +4,7 @@ use Rattle.std.proofs.Common.{refl, ap, subst, sym, ◌∙◌, arith}
 use Rattle.seize.specs.World.{with_at}
 use Rattle.seize.specs.declared.progress.Progress.{Progress}
 use Rattle.seize.specs.declared.progress.Progress.TheVariants as progress
-use Rattle.papaya_histories.specs.Given.Tables.declared.setting.Setting.{Setting}
+use Rattle.papaya_kept.specs.Given.Tables.declared.setting.Setting.{Setting}
 use Rattle.papaya_schedules.specs.declared.effect.Effect.{Effect}
 use Rattle.papaya_schedules.specs.Beginning.{with_map}
 use Rattle.papaya_schedules.specs.Effects.{with_effects}
@@ -14,17 +14,17 @@ use Rattle.papaya_effects.specs.Known.{Known, known}
 use Rattle.papaya_effects.specs.declared.notes.Notes.{Notes}
 use Rattle.papaya_effects.specs.declared.acting.Acting.TheVariants as acts
 use Rattle.papaya_effects.specs.declared.role.Role.TheVariants as role
-use Rattle.papaya_histories.specs.Given.Finishes.Makings.{Beginning}
+use Rattle.papaya_kept.specs.Given.Finishes.Makings.{Beginning}
 use Rattle.papaya_executor.specs.IsAt.{Scene, IsAt, KeepsGiven}
 use Rattle.papaya_executor.specs.Making.{MakingLeads}
 use Rattle.papaya_executor.specs.MakingBegins.{MakingBegins, next_making}
 use Rattle.papaya_executor.specs.declared.executor.Executor.{Executor}
-use Rattle.papaya_histories.specs.Given.Others.Makings.{WasNew, making_after}
-use Rattle.papaya_histories.proofs.Given.Others.MakingGoes.{new_maps_stay}
-use Rattle.papaya_histories.proofs.Given.Moments.MakingSteps.{makings_keep_whole}
-use Rattle.papaya_histories.proofs.Given.Moments.MapsCome.{makings_begin_whole, maps_come_whole}
-use Rattle.papaya_histories.proofs.Given.Moments.Numbers.{maps_come_by_number}
-use Rattle.papaya_histories.specs.Given.Moments.Whole.{ShowsWhole}
+use Rattle.papaya_kept.specs.Given.Others.Makings.{WasNew, making_after}
+use Rattle.papaya_kept.proofs.Given.Others.MakingGoes.{new_maps_stay}
+use Rattle.papaya_kept.proofs.Given.Moments.MakingSteps.{makings_keep_whole}
+use Rattle.papaya_kept.proofs.Given.Moments.MapsCome.{makings_begin_whole, maps_come_whole}
+use Rattle.papaya_kept.proofs.Given.Moments.Numbers.{maps_come_by_number}
+use Rattle.papaya_kept.specs.Given.Moments.Whole.{ShowsWhole}
 use Rattle.papaya_kept.specs.Kept.{ShowsKept}
 use Rattle.papaya_kept.proofs.Others.{makings_keep_kept}
 use Rattle.papaya_kept.proofs.Stays.{makings_begin_kept, stays_kept}

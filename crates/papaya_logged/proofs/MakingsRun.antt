@@ -8,30 +8,30 @@ use Rattle.std.proofs.lemmas.List.Folds.{list_all-append}
 use Rattle.seize.specs.World.{with_at}
 use Rattle.seize.specs.declared.progress.Progress.{Progress}
 use Rattle.seize.specs.declared.progress.Progress.TheVariants as progress
-use Rattle.papaya_histories.specs.Given.Tables.declared.setting.Setting.{Setting}
-use Rattle.papaya_histories.specs.Given.Rule.Chart.{Chart}
-use Rattle.papaya_histories.specs.Given.Resize.NewMap.{new_map_plan}
-use Rattle.papaya_histories.specs.Given.Resize.declared.new_map.NewMap.{NewMap}
+use Rattle.papaya_kept.specs.Given.Tables.declared.setting.Setting.{Setting}
+use Rattle.papaya_kept.specs.Given.Rule.Chart.{Chart}
+use Rattle.papaya_kept.specs.Given.Resize.NewMap.{new_map_plan}
+use Rattle.papaya_kept.specs.Given.Resize.declared.new_map.NewMap.{NewMap}
 use Rattle.papaya_schedules.specs.declared.effect.Effect.{Effect}
 use Rattle.papaya_schedules.specs.Effects.{with_effects}
 use Rattle.papaya_schedules.specs.InTurn.{is_growth}
 use Rattle.papaya_schedules.specs.Moment.{Stage, TableThere, Moment}
 use Rattle.papaya_teller.specs.declared.changed.Changed.TheVariants.{Nothing}
-use Rattle.papaya_histories.proofs.Given.Callers.Together.At.{at_other, at_same}
-use Rattle.papaya_histories.proofs.Given.Callers.Together.Users.{events_rows, events_uses}
-use Rattle.papaya_histories.specs.Given.Follows.Maps.{shape_at, table_of, tables_to}
-use Rattle.papaya_histories.specs.Given.Finishes.Makings.{Beginning, IsNewChart, StepsOfMaking}
-use Rattle.papaya_histories.specs.Given.Finishes.Maps.{Standing}
-use Rattle.papaya_owned.specs.Given.Maps.MeasuresBegins.{new_map_left}
-use Rattle.papaya_owned.proofs.Given.Maps.Begins.ComesToEnd.{beginnings_leave_less}
+use Rattle.papaya_kept.proofs.Given.Callers.Together.At.{at_other, at_same}
+use Rattle.papaya_kept.proofs.Given.Callers.Together.Users.{events_rows, events_uses}
+use Rattle.papaya_kept.specs.Given.Follows.Maps.{shape_at, table_of, tables_to}
+use Rattle.papaya_kept.specs.Given.Finishes.Makings.{Beginning, IsNewChart, StepsOfMaking}
+use Rattle.papaya_kept.specs.Given.Finishes.Maps.{Standing}
+use Rattle.papaya_kept.specs.Given.Maps.MeasuresBegins.{new_map_left}
+use Rattle.papaya_kept.proofs.Given.Maps.Begins.ComesToEnd.{beginnings_leave_less}
 use Rattle.papaya_executor.specs.IsAt.{Scene, IsAt, IsMaking, making_in, slot_of, work_of}
 use Rattle.papaya_executor.specs.Making.{MakingLeads}
 use Rattle.papaya_executor.specs.declared.executor.Executor.{Executor}
 use Rattle.papaya_executor.specs.declared.worker.Work.{Work}
 use Rattle.papaya_executor.specs.declared.worker.Work.TheVariants as work
 use Rattle.papaya_executor.proofs.Forgotten.{as_step}
-use Rattle.papaya_histories.specs.Given.Others.Makings.{WasNew, making_after}
-use Rattle.papaya_histories.proofs.Given.Moments.After.{effects_after}
+use Rattle.papaya_kept.specs.Given.Others.Makings.{WasNew, making_after}
+use Rattle.papaya_kept.proofs.Given.Moments.After.{effects_after}
 use Rattle.papaya_logged.specs.Makings.{BelowIfRefused, is_over, HasTable, IsBare, JustAsks, StaysNew, CameBare, MakingCame, MakingSteps, MakingIsAt, MakingRan}
 use Rattle.papaya_logged.specs.Shown.{IsShown}
 use Rattle.papaya_logged.specs.declared.logged.Logged.{Logged}

@@ -2,7 +2,7 @@
 use Rattle.std.specs.Prelude.{◌≡◌, ℕ, Bool, List, ◌++◌, None}
 use Rattle.std.proofs.Common.{subst, sym}
 use Rattle.seize.specs.World.{Event, Begin, Step}
-use Rattle.papaya_histories.specs.Given.Tables.declared.node.Node.{Node}
+use Rattle.papaya_kept.specs.Given.Tables.declared.node.Node.{Node}
 use Rattle.papaya_schedules.specs.declared.effect.Effect.{Effect}
 use Rattle.papaya_schedules.specs.Effects.{with_effects}
 use Rattle.papaya_schedules.specs.Moment.{Moment}
@@ -16,9 +16,9 @@ use Rattle.papaya_executor.specs.Rows.{request_of}
 use Rattle.papaya_executor.specs.declared.executor.Executor.{Executor}
 use Rattle.papaya_executor.specs.declared.row.RowTold.{RowTold}
 use Rattle.papaya_executor.specs.declared.row.SlotCall.{SlotCall}
-use Rattle.papaya_histories.specs.Given.Others.Rows.{scene_then}
-use Rattle.papaya_histories.proofs.Given.Moments.OnSlots.{rows_begin_whole, rows_keep_whole}
-use Rattle.papaya_histories.specs.Given.Moments.Whole.{ShowsWhole}
+use Rattle.papaya_kept.specs.Given.Others.Rows.{scene_then}
+use Rattle.papaya_kept.proofs.Given.Moments.OnSlots.{rows_begin_whole, rows_keep_whole}
+use Rattle.papaya_kept.specs.Given.Moments.Whole.{ShowsWhole}
 use Rattle.papaya_kept.specs.Kept.{ShowsKept}
 use Rattle.papaya_kept.proofs.Others.{rows_begin_kept, rows_keep_kept, rows_find_kept}
 use Rattle.papaya_logged.specs.OnSlots.{OnSlotBegins, OnSlotGoesOn, OnSlotSteps}

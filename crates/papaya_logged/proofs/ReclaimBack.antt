@@ -2,11 +2,11 @@
 use Rattle.std.specs.Prelude.{◌≡◌, ◌⊎◌, ℕ, Bool, true, false, List, [], ◌++◌, flat_map, None, if◌then◌else◌}
 use Rattle.std.proofs.Common.{refl, sym, ap, subst, ◌∙◌, inl, inr}
 use Rattle.std.proofs.lemmas.List.{append-nil, append_assoc}
-use Rattle.papaya_histories.specs.Given.SeizeWords.declared.at.At.TheVariants.{Root, Used}
+use Rattle.papaya_kept.specs.Given.SeizeWords.declared.at.At.TheVariants.{Root, Used}
 use Rattle.seize.specs.declared.rows.reclaim_all.ReclaimAll.{ReclaimAll}
 use Rattle.seize.specs.declared.rows.settle.Settled.{Settled}
 use Rattle.seize.specs.declared.rows.settle.Settled.TheVariants as settled
-use Rattle.papaya_histories.specs.Given.Tables.declared.node.Node.{Node}
+use Rattle.papaya_kept.specs.Given.Tables.declared.node.Node.{Node}
 use Rattle.papaya_runs.specs.declared.record.Pair.{Pair}
 use Rattle.papaya_schedules.specs.declared.effect.Effect.{Effect}
 use Rattle.papaya_schedules.specs.Effects.{pairs_back, with_effects}
@@ -22,9 +22,9 @@ use Rattle.papaya_reclaims.specs.Reclaims.{ReclaimingTold}
 use Rattle.papaya_executor.specs.IsAt.{Scene}
 use Rattle.papaya_executor.specs.declared.executor.Executor.{Executor}
 use Rattle.papaya_reclaiming.specs.Reclaiming.{MayReclaim, NobodyHas, ReclaimingLeads}
-use Rattle.papaya_histories.specs.Given.Follows.Steps.{TakesNone}
-use Rattle.papaya_histories.proofs.Given.Others.Quiet.{stored_none}
-use Rattle.papaya_histories.proofs.Given.Others.RowPlans.{TellsRow}
+use Rattle.papaya_kept.specs.Given.Follows.Steps.{TakesNone}
+use Rattle.papaya_kept.proofs.Given.Others.Quiet.{stored_none}
+use Rattle.papaya_kept.proofs.Given.Others.RowPlans.{TellsRow}
 use Rattle.papaya_logged.specs.Back.{AllBringsBack, ComesBack, pair_back, settled_back}
 use Rattle.papaya_logged.specs.Reclaims.{ReclaimingIsShown, ReclaimingSoFar, ReclaimingSteps}
 use Rattle.papaya_logged.specs.Shown.{IsShown}

@@ -2,22 +2,22 @@
 use Rattle.std.specs.Prelude.{◌≡◌, ◌⊎◌, ℕ, nat_lt, ◌&&◌, Bool, true, false, List, [], ◌∷◌, ◌++◌, Option, Some, None, IsSome, if◌then◌else◌}
 use Rattle.std.proofs.Common.{refl, ap, sym, subst, ◌∙◌, inl, inr}
 use Rattle.std.proofs.lemmas.Bool.{cases_eq}
-use Rattle.papaya_histories.specs.Given.SeizeWords.declared.at.At.{At}
-use Rattle.papaya_histories.specs.Given.SeizeWords.declared.at.At.TheVariants.{Root, Used, Slot, Entry, Word}
-use Rattle.papaya_histories.specs.Given.SeizeWords.Mem.{Mem, value_at}
-use Rattle.papaya_histories.specs.Given.SeizeWords.Op.{Store}
-use Rattle.papaya_histories.specs.Given.SeizeWords.Word.{block_in}
+use Rattle.papaya_kept.specs.Given.SeizeWords.declared.at.At.{At}
+use Rattle.papaya_kept.specs.Given.SeizeWords.declared.at.At.TheVariants.{Root, Used, Slot, Entry, Word}
+use Rattle.papaya_kept.specs.Given.SeizeWords.Mem.{Mem, value_at}
+use Rattle.papaya_kept.specs.Given.SeizeWords.Op.{Store}
+use Rattle.papaya_kept.specs.Given.SeizeWords.Word.{block_in}
 use Rattle.seize.specs.declared.rows.reclaim_all.ReclaimAll.{ReclaimAll}
 use Rattle.seize.specs.declared.rows.settle.Settled.{Settled}
 use Rattle.seize.specs.Law.{IsSound, is_retired as was_retired}
 use Rattle.seize.specs.World.{World, Hand, Handed, Event, Begin, Step, Steps', Runs}
-use Rattle.papaya_histories.proofs.Given.SeizeMoves.State.Ghost.{is_given}
-use Rattle.papaya_histories.proofs.Given.SeizeRule.World.Values.{own_op_value, taken_value}
-use Rattle.papaya_histories.proofs.Given.SeizeAlone.Histories.NotTaken.{did}
-use Rattle.papaya_histories.proofs.Given.SeizeAlone.Histories.Reached.{Reached, happens_reached, steps_reached}
-use Rattle.papaya_histories.proofs.Given.SeizeAlone.Spared.Rows.{RowStepped}
-use Rattle.papaya_histories.specs.Given.Tables.Nodes.{deferred_word}
-use Rattle.papaya_histories.specs.Given.Tables.declared.node.Node.{Node}
+use Rattle.papaya_kept.proofs.Given.SeizeMoves.State.Ghost.{is_given}
+use Rattle.papaya_kept.proofs.Given.SeizeRule.World.Values.{own_op_value, taken_value}
+use Rattle.papaya_kept.proofs.Given.SeizeAlone.Histories.NotTaken.{did}
+use Rattle.papaya_kept.proofs.Given.SeizeAlone.Histories.Reached.{Reached, happens_reached, steps_reached}
+use Rattle.papaya_kept.proofs.Given.SeizeAlone.Spared.Rows.{RowStepped}
+use Rattle.papaya_kept.specs.Given.Tables.Nodes.{deferred_word}
+use Rattle.papaya_kept.specs.Given.Tables.declared.node.Node.{Node}
 use Rattle.papaya_schedules.specs.declared.effect.Effect.{Effect}
 use Rattle.papaya_schedules.specs.declared.effect.Effect.TheVariants.{Asked}
 use Rattle.papaya_schedules.specs.declared.effect.Growth.TheVariants.{ABucket}
@@ -32,24 +32,24 @@ use Rattle.papaya_effects.specs.Known.{Known}
 use Rattle.papaya_effects.specs.declared.acting.Acting.TheVariants.{Row}
 use Rattle.papaya_effects.specs.declared.role.Role.{Role}
 use Rattle.papaya_effects.specs.declared.role.Role.TheVariants as role
-use Rattle.papaya_histories.specs.Given.Finishes.FactsEnds.{TakesLeft, WritesRoot, events_of}
+use Rattle.papaya_kept.specs.Given.Finishes.FactsEnds.{TakesLeft, WritesRoot, events_of}
 use Rattle.papaya_reclaims.specs.Slots.{AreItsRows}
 use Rattle.papaya_executor.specs.IsAt.{Scene, HasCall}
 use Rattle.papaya_executor.specs.declared.executor.Executor.{Executor}
 use Rattle.papaya_reclaiming.specs.Reclaiming.{IsReclaiming, ReclaimingLeads}
-use Rattle.papaya_histories.specs.Given.Follows.Blocks.{HasRole}
-use Rattle.papaya_histories.proofs.Given.Follows.Operations.{LeavesBy}
-use Rattle.papaya_histories.proofs.Given.Follows.Writes.{nothing_free}
-use Rattle.papaya_histories.proofs.Given.Others.RowPlans.{TellsRow}
-use Rattle.papaya_histories.specs.Given.Spots.OnSlots.{WaitUnreclaimed}
-use Rattle.papaya_histories.specs.Given.Moments.OnSlots.{HadRetired}
-use Rattle.papaya_histories.specs.Given.Moments.Whole.{ShowsWhole}
-use Rattle.papaya_histories.proofs.Given.Moments.OnSlots.{none_some}
-use Rattle.papaya_lives.specs.Behind.{IsLeft, NoTableLeft, ShowsWaiting}
-use Rattle.papaya_lives.specs.Retired.{ShowsRetired}
-use Rattle.papaya_lives.proofs.Retires.{given_hand}
-use Rattle.papaya_lives.proofs.Taken.{taken_retired}
-use Rattle.papaya_lives.proofs.Waiting.{row_finds}
+use Rattle.papaya_kept.specs.Given.Follows.Blocks.{HasRole}
+use Rattle.papaya_kept.proofs.Given.Follows.Operations.{LeavesBy}
+use Rattle.papaya_kept.proofs.Given.Follows.Writes.{nothing_free}
+use Rattle.papaya_kept.proofs.Given.Others.RowPlans.{TellsRow}
+use Rattle.papaya_kept.specs.Given.Spots.OnSlots.{WaitUnreclaimed}
+use Rattle.papaya_kept.specs.Given.Moments.OnSlots.{HadRetired}
+use Rattle.papaya_kept.specs.Given.Moments.Whole.{ShowsWhole}
+use Rattle.papaya_kept.proofs.Given.Moments.OnSlots.{none_some}
+use Rattle.papaya_kept.specs.Given.Lives.Behind.{IsLeft, NoTableLeft, ShowsWaiting}
+use Rattle.papaya_kept.specs.Given.Lives.Retired.{ShowsRetired}
+use Rattle.papaya_kept.proofs.Given.Lives.Retires.{given_hand}
+use Rattle.papaya_kept.proofs.Given.Lives.Taken.{taken_retired}
+use Rattle.papaya_kept.proofs.Given.Lives.Waiting.{row_finds}
 use Rattle.papaya_logged.proofs.ReclaimRows.{EmptiesRoot, begun_kept, step_kept, reclaiming_tells}
 use Rattle.papaya_logged.proofs.ReclaimSteps.{left, reached}
 

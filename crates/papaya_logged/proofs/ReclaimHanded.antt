@@ -1,22 +1,22 @@
 -- After a step by which all is reclaimed what the collector has is handed over, or waits; and what is told to be handed over it has, and that waits behind nothing.
 use Rattle.std.specs.Prelude.{◌≡◌, ◌⊎◌, ℕ, ◌+◌, zero, suc, Bool, List, [], ◌∷◌, Option, Some, None, IsSome, if◌then◌else◌}
 use Rattle.std.proofs.Common.{refl, ap, sym, subst, ◌∙◌, inl, inr, arith}
-use Rattle.papaya_histories.specs.Given.SeizeWords.Op.{Store}
-use Rattle.papaya_histories.specs.Given.SeizeWords.declared.at.At.TheVariants.{Root, Used}
-use Rattle.papaya_histories.specs.Given.SeizeWords.Mem.{value_at}
-use Rattle.papaya_histories.specs.Given.SeizeWords.Word.{block_in}
+use Rattle.papaya_kept.specs.Given.SeizeWords.Op.{Store}
+use Rattle.papaya_kept.specs.Given.SeizeWords.declared.at.At.TheVariants.{Root, Used}
+use Rattle.papaya_kept.specs.Given.SeizeWords.Mem.{value_at}
+use Rattle.papaya_kept.specs.Given.SeizeWords.Word.{block_in}
 use Rattle.seize.specs.Sequence.{taken_in}
 use Rattle.seize.specs.declared.rows.reclaim_all.ReclaimAll.{ReclaimAll}
 use Rattle.seize.specs.declared.rows.settle.Settled.{Settled}
 use Rattle.seize.specs.declared.states.TheConstants.{LAST_SLOT}
 use Rattle.seize.specs.World.{World, Hand, Handed, Event, Begin, Step, Operates, Clears, Runs, times}
-use Rattle.papaya_histories.proofs.Given.SeizeRule.Points.Aside.{HandFits}
-use Rattle.papaya_histories.proofs.Given.SeizeRule.Words.There.{value_there}
-use Rattle.papaya_histories.proofs.Given.SeizeAlone.Histories.NotTaken.{did}
-use Rattle.papaya_histories.proofs.Given.SeizeAlone.Histories.Reached.{Reached, happens_reached}
-use Rattle.papaya_histories.proofs.Given.SeizeAlone.Spared.Rows.{RowStepped}
-use Rattle.papaya_histories.specs.Given.Tables.Nodes.{deferred_word}
-use Rattle.papaya_histories.specs.Given.Tables.declared.node.Node.{Node}
+use Rattle.papaya_kept.proofs.Given.SeizeRule.Points.Aside.{HandFits}
+use Rattle.papaya_kept.proofs.Given.SeizeRule.Words.There.{value_there}
+use Rattle.papaya_kept.proofs.Given.SeizeAlone.Histories.NotTaken.{did}
+use Rattle.papaya_kept.proofs.Given.SeizeAlone.Histories.Reached.{Reached, happens_reached}
+use Rattle.papaya_kept.proofs.Given.SeizeAlone.Spared.Rows.{RowStepped}
+use Rattle.papaya_kept.specs.Given.Tables.Nodes.{deferred_word}
+use Rattle.papaya_kept.specs.Given.Tables.declared.node.Node.{Node}
 use Rattle.papaya_schedules.specs.declared.effect.Effect.{Effect}
 use Rattle.papaya_schedules.specs.Effects.{with_effects}
 use Rattle.papaya_schedules.specs.Moment.{Moment}
@@ -29,20 +29,20 @@ use Rattle.papaya_executor.specs.IsAt.{Scene, HasCall}
 use Rattle.papaya_executor.specs.declared.executor.Executor.{Executor}
 use Rattle.papaya_reclaiming.specs.Reclaiming.{IsReclaiming, ReclaimingLeads}
 use Rattle.papaya_reclaims.specs.Slots.{AreItsRows}
-use Rattle.papaya_histories.specs.Given.Finishes.FactsEnds.{TakesLeft, WritesRoot, events_of}
-use Rattle.papaya_histories.proofs.Given.Follows.Operations.{LeavesBy}
-use Rattle.papaya_histories.proofs.Given.Others.RowPlans.{TellsRow}
-use Rattle.papaya_histories.proofs.Given.Others.Stays.{same_there}
-use Rattle.papaya_histories.specs.Given.Moments.Whole.{ShowsWhole}
-use Rattle.papaya_lives.specs.Behind.{NoTableLeft, ShowsWaiting}
-use Rattle.papaya_lives.specs.Handed.{IsToHand, IsHandedOver, ShowsHanded}
-use Rattle.papaya_lives.specs.Waiting.{waits_behind}
-use Rattle.papaya_lives.proofs.HandedOver.{came_listed}
-use Rattle.papaya_lives.proofs.HandedTaken.{taking_keeps}
-use Rattle.papaya_lives.proofs.Listed.{Listing, carries_lives, carries_some, runs_listed}
-use Rattle.papaya_lives.proofs.Logs.{waits_no_more, waits_not, waits_on}
-use Rattle.papaya_lives.proofs.RetiredEnds.{handed_lives}
-use Rattle.papaya_lives.proofs.Worlds.{has_it, log_back}
+use Rattle.papaya_kept.specs.Given.Finishes.FactsEnds.{TakesLeft, WritesRoot, events_of}
+use Rattle.papaya_kept.proofs.Given.Follows.Operations.{LeavesBy}
+use Rattle.papaya_kept.proofs.Given.Others.RowPlans.{TellsRow}
+use Rattle.papaya_kept.proofs.Given.Others.Stays.{same_there}
+use Rattle.papaya_kept.specs.Given.Moments.Whole.{ShowsWhole}
+use Rattle.papaya_kept.specs.Given.Lives.Behind.{NoTableLeft, ShowsWaiting}
+use Rattle.papaya_kept.specs.Given.Lives.Handed.{IsToHand, IsHandedOver, ShowsHanded}
+use Rattle.papaya_kept.specs.Given.Lives.Waiting.{waits_behind}
+use Rattle.papaya_kept.proofs.Given.Lives.HandedOver.{came_listed}
+use Rattle.papaya_kept.proofs.Given.Lives.HandedTaken.{taking_keeps}
+use Rattle.papaya_kept.proofs.Given.Lives.Listed.{Listing, carries_lives, carries_some, runs_listed}
+use Rattle.papaya_kept.proofs.Given.Lives.Logs.{waits_no_more, waits_not, waits_on}
+use Rattle.papaya_kept.proofs.Given.Lives.RetiredEnds.{handed_lives}
+use Rattle.papaya_kept.proofs.Given.Lives.Worlds.{has_it, log_back}
 use Rattle.papaya_logged.proofs.ReclaimRows.{EmptiesRoot, reclaiming_tells}
 use Rattle.papaya_logged.proofs.ReclaimSteps.{kept as kept_there, left, no_call, reached, root_none, nothing_there}
 use Rattle.papaya_logged.proofs.ReclaimWaits.{begun_log}

@@ -2,18 +2,18 @@
 -- left over; and none is left over then.
 use Rattle.std.specs.Prelude.{◌≡◌, ◌⊎◌, ℕ, ◌+◌, Bool, true, List, [], None, if◌then◌else◌}
 use Rattle.std.proofs.Common.{sym, subst, ◌∙◌, inl, inr}
-use Rattle.papaya_histories.specs.Given.SeizeWords.declared.at.At.TheVariants.{Root, Used}
-use Rattle.papaya_histories.specs.Given.SeizeWords.Mem.{value_at}
-use Rattle.papaya_histories.specs.Given.SeizeWords.Word.{block_in}
+use Rattle.papaya_kept.specs.Given.SeizeWords.declared.at.At.TheVariants.{Root, Used}
+use Rattle.papaya_kept.specs.Given.SeizeWords.Mem.{value_at}
+use Rattle.papaya_kept.specs.Given.SeizeWords.Word.{block_in}
 use Rattle.seize.specs.declared.rows.reclaim_all.ReclaimAll.{ReclaimAll}
 use Rattle.seize.specs.declared.rows.settle.Settled.{Settled}
 use Rattle.seize.specs.declared.states.TheConstants.{LAST_SLOT}
 use Rattle.seize.specs.World.{World, Hand}
-use Rattle.papaya_histories.proofs.Given.SeizeRule.Points.Aside.{HandFits}
-use Rattle.papaya_histories.proofs.Given.SeizeRule.Words.Shows.{lives}
-use Rattle.papaya_histories.proofs.Given.SeizeRule.Words.There.{value_there}
-use Rattle.papaya_histories.specs.Given.Tables.Nodes.{deferred_word}
-use Rattle.papaya_histories.specs.Given.Tables.declared.node.Node.{Node}
+use Rattle.papaya_kept.proofs.Given.SeizeRule.Points.Aside.{HandFits}
+use Rattle.papaya_kept.proofs.Given.SeizeRule.Words.Shows.{lives}
+use Rattle.papaya_kept.proofs.Given.SeizeRule.Words.There.{value_there}
+use Rattle.papaya_kept.specs.Given.Tables.Nodes.{deferred_word}
+use Rattle.papaya_kept.specs.Given.Tables.declared.node.Node.{Node}
 use Rattle.papaya_schedules.specs.declared.effect.Effect.{Effect}
 use Rattle.papaya_schedules.specs.Effects.{with_effects}
 use Rattle.papaya_schedules.specs.Moment.{Moment}
@@ -26,20 +26,20 @@ use Rattle.papaya_effects.specs.declared.acting.Acting.TheVariants.{Row}
 use Rattle.papaya_executor.specs.IsAt.{Scene, HasCall}
 use Rattle.papaya_executor.specs.declared.executor.Executor.{Executor}
 use Rattle.papaya_reclaiming.specs.Reclaiming.{IsReclaiming, ReclaimingLeads}
-use Rattle.papaya_histories.proofs.Given.Follows.Operations.{LeavesBy}
-use Rattle.papaya_histories.proofs.Given.Others.RowPlans.{TellsRow}
-use Rattle.papaya_histories.proofs.Given.Others.Stays.{same_there}
-use Rattle.papaya_histories.specs.Given.Moments.Whole.{ShowsWhole}
-use Rattle.papaya_lives.specs.Behind.{IsLeft, NoTableLeft, ShowsWaiting, WaitsOnce}
-use Rattle.papaya_lives.specs.Lying.{ShowsLying}
-use Rattle.papaya_lives.specs.Order.{ShowsOrder}
-use Rattle.papaya_lives.specs.Retired.{IsToRetire, ShowsRetired}
-use Rattle.papaya_lives.proofs.Once.{once_fewer, row_fewer}
-use Rattle.papaya_lives.proofs.Reclaimed.{stays_so}
-use Rattle.papaya_lives.proofs.RetiredEnds.{handed_lives}
-use Rattle.papaya_lives.proofs.Stages.{still_retired}
-use Rattle.papaya_lives.proofs.Users.{left_lives}
-use Rattle.papaya_lives.proofs.Worlds.{Kept}
+use Rattle.papaya_kept.proofs.Given.Follows.Operations.{LeavesBy}
+use Rattle.papaya_kept.proofs.Given.Others.RowPlans.{TellsRow}
+use Rattle.papaya_kept.proofs.Given.Others.Stays.{same_there}
+use Rattle.papaya_kept.specs.Given.Moments.Whole.{ShowsWhole}
+use Rattle.papaya_kept.specs.Given.Lives.Behind.{IsLeft, NoTableLeft, ShowsWaiting, WaitsOnce}
+use Rattle.papaya_kept.specs.Given.Lives.Lying.{ShowsLying}
+use Rattle.papaya_kept.specs.Given.Lives.Order.{ShowsOrder}
+use Rattle.papaya_kept.specs.Given.Lives.Retired.{IsToRetire, ShowsRetired}
+use Rattle.papaya_kept.proofs.Given.Lives.Once.{once_fewer, row_fewer}
+use Rattle.papaya_kept.proofs.Given.Lives.Reclaimed.{stays_so}
+use Rattle.papaya_kept.proofs.Given.Lives.RetiredEnds.{handed_lives}
+use Rattle.papaya_kept.proofs.Given.Lives.Stages.{still_retired}
+use Rattle.papaya_kept.proofs.Given.Lives.Users.{left_lives}
+use Rattle.papaya_kept.proofs.Given.Lives.Worlds.{Kept}
 use Rattle.papaya_logged.proofs.ReclaimLies.{reclaiming_lies}
 use Rattle.papaya_logged.proofs.ReclaimOrder.{reclaiming_order}
 use Rattle.papaya_logged.proofs.ReclaimRows.{EmptiesRoot, reclaiming_tells}

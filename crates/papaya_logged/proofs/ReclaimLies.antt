@@ -2,19 +2,19 @@
 use Rattle.std.specs.Prelude.{◌≡◌, ◌≢◌, ◌⊎◌, ℕ, eqb, Bool, true, false, cond, List, [], ◌∷◌, None, Some, if◌then◌else◌}
 use Rattle.std.proofs.Common.{ap, sym, subst, ◌∙◌, inl, inr}
 use Rattle.std.proofs.lemmas.Bool.{cases_eq, ne_eqb}
-use Rattle.papaya_histories.specs.Given.SeizeWords.declared.at.At.{At}
-use Rattle.papaya_histories.specs.Given.SeizeWords.declared.at.At.TheVariants.{Root, Used}
-use Rattle.papaya_histories.specs.Given.SeizeWords.Mem.{value_at}
+use Rattle.papaya_kept.specs.Given.SeizeWords.declared.at.At.{At}
+use Rattle.papaya_kept.specs.Given.SeizeWords.declared.at.At.TheVariants.{Root, Used}
+use Rattle.papaya_kept.specs.Given.SeizeWords.Mem.{value_at}
 use Rattle.seize.specs.Law.{Place, Nowhere, With, is_somewhere, where_is}
 use Rattle.seize.specs.declared.rows.reclaim_all.ReclaimAll.{ReclaimAll}
 use Rattle.seize.specs.declared.rows.reclaim_all.Reclaiming.{Reclaiming}
 use Rattle.seize.specs.declared.rows.reclaim_all.Reclaiming.TheVariants as points
 use Rattle.seize.specs.declared.rows.settle.Settled.{Settled}
 use Rattle.seize.specs.World.{World, Row, Rests, Settles, Leaves, Request, Register', Leave', Flush, Unregister', Event, Begin, Step, Begins, Runs, with_at}
-use Rattle.papaya_histories.proofs.Given.SeizeAlone.Histories.NotTaken.{CanBeReached, did, kept_there}
-use Rattle.papaya_histories.proofs.Given.SeizeAlone.Histories.Reached.{Reached, happens_reached, runs_reached}
-use Rattle.papaya_histories.specs.Given.Tables.Nodes.{deferred_word}
-use Rattle.papaya_histories.specs.Given.Tables.declared.node.Node.{Node}
+use Rattle.papaya_kept.proofs.Given.SeizeAlone.Histories.NotTaken.{CanBeReached, did, kept_there}
+use Rattle.papaya_kept.proofs.Given.SeizeAlone.Histories.Reached.{Reached, happens_reached, runs_reached}
+use Rattle.papaya_kept.specs.Given.Tables.Nodes.{deferred_word}
+use Rattle.papaya_kept.specs.Given.Tables.declared.node.Node.{Node}
 use Rattle.papaya_schedules.specs.Effects.{with_effects}
 use Rattle.papaya_schedules.specs.Moment.{Moment}
 use Rattle.papaya_teller.specs.declared.changed.Changed.{Changed}
@@ -22,21 +22,21 @@ use Rattle.papaya_effects.specs.Effects.{effects_of, known_after}
 use Rattle.papaya_effects.specs.Known.{Known}
 use Rattle.papaya_effects.specs.declared.acting.Acting.TheVariants.{Row as OfRow}
 use Rattle.papaya_effects.specs.declared.role.Role.TheVariants as role
-use Rattle.papaya_histories.proofs.Given.Callers.Rows.Behind.{row_back}
-use Rattle.papaya_histories.specs.Given.Finishes.FactsEnds.{TakesLeft, WritesRoot, events_of}
+use Rattle.papaya_kept.proofs.Given.Callers.Rows.Behind.{row_back}
+use Rattle.papaya_kept.specs.Given.Finishes.FactsEnds.{TakesLeft, WritesRoot, events_of}
 use Rattle.papaya_reclaims.specs.Reclaims.{ReclaimingAt}
 use Rattle.papaya_reclaims.specs.Slots.{IsForSlots, AreItsRows}
 use Rattle.papaya_executor.specs.IsAt.{Scene}
 use Rattle.papaya_executor.specs.declared.executor.Executor.{Executor}
 use Rattle.papaya_reclaiming.specs.Reclaiming.{IsReclaiming, ReclaimingLeads}
-use Rattle.papaya_histories.specs.Given.Follows.Blocks.{HasRole}
-use Rattle.papaya_histories.proofs.Given.Follows.Operations.{LeavesBy}
-use Rattle.papaya_histories.proofs.Given.Others.RowPlans.{TellsRow}
-use Rattle.papaya_histories.specs.Given.Moments.Whole.{ShowsWhole}
-use Rattle.papaya_lives.specs.Lying.{ShowsLying}
-use Rattle.papaya_lives.specs.Waiting.{IsPutting}
-use Rattle.papaya_lives.proofs.Lying.{lying_on, row_among, row_pair}
-use Rattle.papaya_lives.proofs.Reclaimed.{stays_so}
+use Rattle.papaya_kept.specs.Given.Follows.Blocks.{HasRole}
+use Rattle.papaya_kept.proofs.Given.Follows.Operations.{LeavesBy}
+use Rattle.papaya_kept.proofs.Given.Others.RowPlans.{TellsRow}
+use Rattle.papaya_kept.specs.Given.Moments.Whole.{ShowsWhole}
+use Rattle.papaya_kept.specs.Given.Lives.Lying.{ShowsLying}
+use Rattle.papaya_kept.specs.Given.Lives.Waiting.{IsPutting}
+use Rattle.papaya_kept.proofs.Given.Lives.Lying.{lying_on, row_among, row_pair}
+use Rattle.papaya_kept.proofs.Given.Lives.Reclaimed.{stays_so}
 use Rattle.papaya_logged.proofs.ReclaimSteps.{kept as kept_so, reached}
 use Rattle.papaya_logged.proofs.ReclaimWaits.{begun_log}
 

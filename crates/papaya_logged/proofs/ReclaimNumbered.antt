@@ -1,13 +1,13 @@
 -- A step by which all is reclaimed leaves numbers of maps below the executor's count, and slots noted.
 use Rattle.std.specs.Prelude.{◌≡◌, ℕ, Bool, List, length, None}
 use Rattle.std.proofs.Common.{sym, subst, inl, inr}
-use Rattle.papaya_histories.specs.Given.SeizeWords.declared.at.At.TheVariants.{Root, Used}
-use Rattle.papaya_histories.specs.Given.SeizeWords.Word.{block_in}
+use Rattle.papaya_kept.specs.Given.SeizeWords.declared.at.At.TheVariants.{Root, Used}
+use Rattle.papaya_kept.specs.Given.SeizeWords.Word.{block_in}
 use Rattle.seize.specs.ReclaimAll.{reclaim_all_plan}
 use Rattle.seize.specs.declared.rows.reclaim_all.ReclaimAll.{ReclaimAll}
 use Rattle.seize.specs.declared.rows.settle.Settled.{Settled}
-use Rattle.papaya_histories.specs.Given.Tables.Nodes.{deferred_word, was_left}
-use Rattle.papaya_histories.specs.Given.Tables.declared.node.Node.{Node}
+use Rattle.papaya_kept.specs.Given.Tables.Nodes.{deferred_word, was_left}
+use Rattle.papaya_kept.specs.Given.Tables.declared.node.Node.{Node}
 use Rattle.papaya_schedules.specs.declared.effect.Effect.{Effect}
 use Rattle.papaya_schedules.specs.Effects.{with_effects}
 use Rattle.papaya_schedules.specs.Moment.{Moment}
@@ -21,8 +21,8 @@ use Rattle.papaya_executor.specs.IsAt.{Scene, KeepsGiven}
 use Rattle.papaya_executor.specs.declared.executor.Executor.{Executor}
 use Rattle.papaya_reclaiming.specs.Reclaiming.{IsReclaiming, ReclaimingLeads}
 use Rattle.papaya_reclaiming.proofs.Reclaims.{may_step}
-use Rattle.papaya_histories.proofs.Given.Follows.Operations.{operated}
-use Rattle.papaya_histories.specs.Given.Moments.Whole.{ShowsWhole}
+use Rattle.papaya_kept.proofs.Given.Follows.Operations.{operated}
+use Rattle.papaya_kept.specs.Given.Moments.Whole.{ShowsWhole}
 use Rattle.papaya_remains.specs.Numbered.{NumbersUpTo}
 use Rattle.papaya_remains.specs.Slots.{SlotsNoted}
 use Rattle.papaya_remains.proofs.Numbered.{told_keeps_count}

@@ -2,19 +2,19 @@
 use Rattle.std.specs.Prelude.{◌≡◌, ◌⊎◌, ◌<◌, ℕ, ◌+◌, Bool, List, [], ◌∷◌, Option, None, Some, IsSome, if◌then◌else◌}
 use Rattle.std.proofs.Common.{refl, ap, sym, subst, ◌∙◌, inl, inr}
 use Rattle.std.proofs.lemmas.Bool.{eq-eqb}
-use Rattle.papaya_histories.specs.Given.SeizeWords.declared.at.At.{At}
-use Rattle.papaya_histories.specs.Given.SeizeWords.declared.at.At.TheVariants.{Root, Used}
-use Rattle.papaya_histories.specs.Given.SeizeWords.Mem.{Mem, value_at}
+use Rattle.papaya_kept.specs.Given.SeizeWords.declared.at.At.{At}
+use Rattle.papaya_kept.specs.Given.SeizeWords.declared.at.At.TheVariants.{Root, Used}
+use Rattle.papaya_kept.specs.Given.SeizeWords.Mem.{Mem, value_at}
 use Rattle.seize.specs.Further.{FurtherAre}
 use Rattle.seize.specs.declared.rows.reclaim_all.ReclaimAll.{ReclaimAll}
 use Rattle.seize.specs.declared.rows.settle.Settled.{Settled}
 use Rattle.seize.specs.declared.states.TheConstants.{LAST_SLOT}
 use Rattle.seize.specs.World.{World, Row, Hand, NoBlock, InUse, Request, Register', Leave', Flush, Unregister', Event, Begin, Step, Begins, Runs, Steps', with_at, times}
-use Rattle.papaya_histories.proofs.Given.SeizeRule.World.Kept.{steps_next}
-use Rattle.papaya_histories.proofs.Given.SeizeAlone.Histories.Reached.{Reached, happens_reached, runs_reached}
-use Rattle.papaya_histories.proofs.Given.Rule.World.Hands.{at_cases}
-use Rattle.papaya_histories.specs.Given.Tables.Nodes.{deferred_word}
-use Rattle.papaya_histories.specs.Given.Tables.declared.node.Node.{Node}
+use Rattle.papaya_kept.proofs.Given.SeizeRule.World.Kept.{steps_next}
+use Rattle.papaya_kept.proofs.Given.SeizeAlone.Histories.Reached.{Reached, happens_reached, runs_reached}
+use Rattle.papaya_kept.proofs.Given.Rule.World.Hands.{at_cases}
+use Rattle.papaya_kept.specs.Given.Tables.Nodes.{deferred_word}
+use Rattle.papaya_kept.specs.Given.Tables.declared.node.Node.{Node}
 use Rattle.papaya_schedules.specs.declared.effect.Table.{Table}
 use Rattle.papaya_schedules.specs.Effects.{with_effects}
 use Rattle.papaya_schedules.specs.Moment.{Moment}
@@ -23,22 +23,22 @@ use Rattle.papaya_effects.specs.Effects.{effects_of, known_after}
 use Rattle.papaya_effects.specs.Known.{Known}
 use Rattle.papaya_effects.specs.declared.acting.Acting.TheVariants.{Row as OfRow}
 use Rattle.papaya_effects.specs.declared.role.Role.TheVariants as role
-use Rattle.papaya_histories.specs.Given.Finishes.FactsEnds.{TakesLeft, WritesRoot, events_of}
+use Rattle.papaya_kept.specs.Given.Finishes.FactsEnds.{TakesLeft, WritesRoot, events_of}
 use Rattle.papaya_reclaims.specs.Slots.{IsForSlots, AreItsRows}
 use Rattle.papaya_executor.specs.IsAt.{Scene}
 use Rattle.papaya_executor.specs.declared.executor.Executor.{Executor}
 use Rattle.papaya_reclaiming.specs.Reclaiming.{IsReclaiming, ReclaimingLeads}
-use Rattle.papaya_histories.proofs.Given.Follows.Operations.{LeavesBy}
-use Rattle.papaya_histories.proofs.Given.Others.RowPlans.{TellsRow}
-use Rattle.papaya_histories.specs.Given.Moments.Whole.{ShowsWhole}
-use Rattle.papaya_lives.specs.Lying.{ShowsLying}
-use Rattle.papaya_lives.specs.Order.{ShowsOrder}
-use Rattle.papaya_lives.specs.Waiting.{IsPutting}
-use Rattle.papaya_lives.proofs.InUse.{listed_there, step_goes, still_leave_list, used_then}
-use Rattle.papaya_lives.proofs.Lying.{row_pair}
-use Rattle.papaya_lives.proofs.Order.{order_as, row_behind}
-use Rattle.papaya_lives.proofs.Putting.{put_before}
-use Rattle.papaya_lives.proofs.Reclaimed.{stays_so}
+use Rattle.papaya_kept.proofs.Given.Follows.Operations.{LeavesBy}
+use Rattle.papaya_kept.proofs.Given.Others.RowPlans.{TellsRow}
+use Rattle.papaya_kept.specs.Given.Moments.Whole.{ShowsWhole}
+use Rattle.papaya_kept.specs.Given.Lives.Lying.{ShowsLying}
+use Rattle.papaya_kept.specs.Given.Lives.Order.{ShowsOrder}
+use Rattle.papaya_kept.specs.Given.Lives.Waiting.{IsPutting}
+use Rattle.papaya_kept.proofs.Given.Lives.InUse.{listed_there, step_goes, still_leave_list, used_then}
+use Rattle.papaya_kept.proofs.Given.Lives.Lying.{row_pair}
+use Rattle.papaya_kept.proofs.Given.Lives.Order.{order_as, row_behind}
+use Rattle.papaya_kept.proofs.Given.Lives.Putting.{put_before}
+use Rattle.papaya_kept.proofs.Given.Lives.Reclaimed.{stays_so}
 use Rattle.papaya_logged.proofs.ReclaimLies.{own_none}
 use Rattle.papaya_logged.proofs.ReclaimSteps.{reached}
 

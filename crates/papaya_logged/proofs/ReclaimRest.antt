@@ -3,16 +3,16 @@
 use Rattle.std.specs.Prelude.{◌≡◌, ◌⊎◌, ℕ, Bool, List, [], ◌∷◌, Some, None}
 use Rattle.std.proofs.Common.{refl, ap, sym, subst, ◌∙◌, inl, inr}
 use Rattle.std.proofs.lemmas.Bool.{cases_eq}
-use Rattle.papaya_histories.specs.Given.SeizeWords.declared.at.At.{At}
-use Rattle.papaya_histories.specs.Given.SeizeWords.declared.at.At.TheVariants.{Root, Used, Slot, Entry, Word}
-use Rattle.papaya_histories.specs.Given.SeizeWords.Op.{Store}
-use Rattle.papaya_histories.specs.Given.SeizeWords.Word.{block_in}
+use Rattle.papaya_kept.specs.Given.SeizeWords.declared.at.At.{At}
+use Rattle.papaya_kept.specs.Given.SeizeWords.declared.at.At.TheVariants.{Root, Used, Slot, Entry, Word}
+use Rattle.papaya_kept.specs.Given.SeizeWords.Op.{Store}
+use Rattle.papaya_kept.specs.Given.SeizeWords.Word.{block_in}
 use Rattle.seize.specs.declared.rows.reclaim_all.ReclaimAll.{ReclaimAll}
 use Rattle.seize.specs.declared.rows.settle.Settled.{Settled}
 use Rattle.seize.specs.World.{World, Event, Begin, Step, Clears, Operates, Runs}
-use Rattle.papaya_histories.proofs.Given.SeizeAlone.Histories.Reached.{Reached, happens_reached}
-use Rattle.papaya_histories.specs.Given.Tables.Nodes.{deferred_word}
-use Rattle.papaya_histories.specs.Given.Tables.declared.node.Node.{Node}
+use Rattle.papaya_kept.proofs.Given.SeizeAlone.Histories.Reached.{Reached, happens_reached}
+use Rattle.papaya_kept.specs.Given.Tables.Nodes.{deferred_word}
+use Rattle.papaya_kept.specs.Given.Tables.declared.node.Node.{Node}
 use Rattle.papaya_schedules.specs.declared.effect.Effect.{Effect}
 use Rattle.papaya_schedules.specs.Effects.{with_effects}
 use Rattle.papaya_schedules.specs.Moment.{Moment}
@@ -23,21 +23,21 @@ use Rattle.papaya_effects.specs.Known.{Known}
 use Rattle.papaya_effects.specs.declared.acting.Acting.TheVariants.{Row}
 use Rattle.papaya_effects.specs.declared.role.Role.{Role}
 use Rattle.papaya_effects.specs.declared.role.Role.TheVariants as role
-use Rattle.papaya_histories.specs.Given.Callers.Together.{UnderWay}
-use Rattle.papaya_histories.specs.Given.Finishes.FactsEnds.{TakesLeft, WritesRoot, events_of}
+use Rattle.papaya_kept.specs.Given.Callers.Together.{UnderWay}
+use Rattle.papaya_kept.specs.Given.Finishes.FactsEnds.{TakesLeft, WritesRoot, events_of}
 use Rattle.papaya_reclaims.specs.Slots.{AreItsRows}
 use Rattle.papaya_executor.specs.IsAt.{Scene}
 use Rattle.papaya_executor.specs.declared.executor.Executor.{Executor}
 use Rattle.papaya_reclaiming.specs.Reclaiming.{IsReclaiming, ReclaimingLeads}
-use Rattle.papaya_histories.proofs.Given.Follows.Alike.{put_here, put_elsewhere}
-use Rattle.papaya_histories.proofs.Given.Follows.Told.{roomed_as_many}
-use Rattle.papaya_histories.proofs.Given.Others.RowPlans.{TellsRow}
-use Rattle.papaya_histories.specs.Given.Moments.Whole.{ShowsWhole}
-use Rattle.papaya_settles.proofs.EntryScenes.{as_zero, as_blank}
-use Rattle.papaya_settles.proofs.EntryUsers.{AllZero, event_zeros}
-use Rattle.papaya_settles.proofs.EntryWorlds.{step_zeros, begin_zeros}
-use Rattle.papaya_lives.specs.Behind.{NoTableLeft}
-use Rattle.papaya_lives.proofs.LeftTables.{none_is_left, where_none_is_left}
+use Rattle.papaya_kept.proofs.Given.Follows.Alike.{put_here, put_elsewhere}
+use Rattle.papaya_kept.proofs.Given.Follows.Told.{roomed_as_many}
+use Rattle.papaya_kept.proofs.Given.Others.RowPlans.{TellsRow}
+use Rattle.papaya_kept.specs.Given.Moments.Whole.{ShowsWhole}
+use Rattle.papaya_kept.proofs.Given.Settles.EntryScenes.{as_zero, as_blank}
+use Rattle.papaya_kept.proofs.Given.Settles.EntryUsers.{AllZero, event_zeros}
+use Rattle.papaya_kept.proofs.Given.Settles.EntryWorlds.{step_zeros, begin_zeros}
+use Rattle.papaya_kept.specs.Given.Lives.Behind.{NoTableLeft}
+use Rattle.papaya_kept.proofs.Given.Lives.LeftTables.{none_is_left, where_none_is_left}
 use Rattle.papaya_kept.specs.Kept.{ShowsKept}
 use Rattle.papaya_kept.proofs.Ends.{maps_stay, stood_so}
 use Rattle.papaya_logged.specs.Reclaims.{ReclaimRetired}

@@ -5,17 +5,17 @@ use Rattle.std.proofs.lemmas.List.{append-nil, append_assoc}
 use Rattle.seize.specs.declared.rows.reclaim_all.ReclaimAll.{ReclaimAll}
 use Rattle.seize.specs.declared.rows.settle.Settled.{Settled}
 use Rattle.seize.specs.declared.rows.settle.Settled.TheVariants as settled
-use Rattle.papaya_histories.specs.Given.Tables.declared.node.Node.{Node}
+use Rattle.papaya_kept.specs.Given.Tables.declared.node.Node.{Node}
 use Rattle.papaya_schedules.specs.declared.effect.Effect.{Effect}
 use Rattle.papaya_schedules.specs.Effects.{with_effect, with_effects, AtEachEffect}
 use Rattle.papaya_schedules.specs.Moment.{Moment}
 use Rattle.papaya_executor.specs.IsAt.{Scene}
-use Rattle.papaya_histories.specs.Given.Finishes.Maps.{IsSameMap, Standing}
+use Rattle.papaya_kept.specs.Given.Finishes.Maps.{IsSameMap, Standing}
 use Rattle.papaya_reclaims.specs.Reclaims.{AllIsReclaimed}
 use Rattle.papaya_reclaiming.specs.Reclaiming.{IsReclaiming, MayReclaim, NobodyHas, ReclaimingComesTo, ReclaimingLeads}
-use Rattle.papaya_histories.specs.Given.Spots.OnSlots.{WaitUnreclaimed}
-use Rattle.papaya_histories.proofs.Given.Moments.After.{effects_after}
-use Rattle.papaya_histories.specs.Given.Moments.OnSlots.{HadRetired}
+use Rattle.papaya_kept.specs.Given.Spots.OnSlots.{WaitUnreclaimed}
+use Rattle.papaya_kept.proofs.Given.Moments.After.{effects_after}
+use Rattle.papaya_kept.specs.Given.Moments.OnSlots.{HadRetired}
 use Rattle.papaya_logged.specs.Ends.{is_done}
 use Rattle.papaya_logged.specs.Reclaims.{ReclaimRetired, ReclaimingCame, ReclaimingIsShown, ReclaimingRan, ReclaimingSoFar, ReclaimingSteps, ReclaimingThen}
 use Rattle.papaya_logged.specs.Shown.{IsShown}

@@ -2,24 +2,24 @@
 use Rattle.std.specs.Prelude.{◌≡◌, ◌<◌, ◌≤◌, ◌^◌, ◌⊎◌, ℕ, Bool, true, false, List, [], ◌++◌, max, Option, Some, option_map}
 use Rattle.std.proofs.Common.{refl, ap, subst, sym, ◌∙◌, inl, inr, arith}
 use Rattle.std.proofs.lemmas.List.{append-nil, append_assoc}
-use Rattle.papaya_histories.specs.Given.SeizeWords.declared.at.At.TheVariants.{Used}
-use Rattle.papaya_histories.specs.Given.SeizeWords.Mem.{Mem, word_at}
+use Rattle.papaya_kept.specs.Given.SeizeWords.declared.at.At.TheVariants.{Used}
+use Rattle.papaya_kept.specs.Given.SeizeWords.Mem.{Mem, word_at}
 use Rattle.seize.specs.World.{World}
 use Rattle.seize.specs.declared.progress.Progress.{Progress}
 use Rattle.seize.specs.declared.progress.Progress.TheVariants as progress
-use Rattle.papaya_histories.specs.Given.Tables.declared.node.Node.{Node}
-use Rattle.papaya_histories.specs.Given.Tables.declared.setting.Setting.{Setting}
-use Rattle.papaya_histories.specs.Given.Resize.NewMap.{opening}
-use Rattle.papaya_histories.specs.Given.Resize.declared.new_map.NewMap.{NewMap}
-use Rattle.papaya_histories.specs.Given.Resize.declared.new_map.Opening.{Opening}
-use Rattle.papaya_histories.specs.Given.Resize.declared.new_map.Opening.TheVariants as opens
+use Rattle.papaya_kept.specs.Given.Tables.declared.node.Node.{Node}
+use Rattle.papaya_kept.specs.Given.Tables.declared.setting.Setting.{Setting}
+use Rattle.papaya_kept.specs.Given.Resize.NewMap.{opening}
+use Rattle.papaya_kept.specs.Given.Resize.declared.new_map.NewMap.{NewMap}
+use Rattle.papaya_kept.specs.Given.Resize.declared.new_map.Opening.{Opening}
+use Rattle.papaya_kept.specs.Given.Resize.declared.new_map.Opening.TheVariants as opens
 use Rattle.papaya_schedules.specs.declared.effect.Effect.{Effect}
 use Rattle.papaya_schedules.specs.InTurn.{has_grown}
 use Rattle.papaya_effects.specs.Effects.{effects_of}
 use Rattle.papaya_effects.specs.Known.{Known, known}
 use Rattle.papaya_effects.specs.declared.acting.Acting.TheVariants.{Making}
-use Rattle.papaya_histories.proofs.Given.Callers.Together.At.{at_same}
-use Rattle.papaya_histories.specs.Given.Finishes.Makings.{Beginning, HasTaken, HasComeTo, MakingFacts, OpeningFacts, StepsOfMaking}
+use Rattle.papaya_kept.proofs.Given.Callers.Together.At.{at_same}
+use Rattle.papaya_kept.specs.Given.Finishes.Makings.{Beginning, HasTaken, HasComeTo, MakingFacts, OpeningFacts, StepsOfMaking}
 use Rattle.papaya_executor.specs.IsAt.{Scene, IsAt, slot_of, work_of}
 use Rattle.papaya_executor.specs.Making.{MakingLeads}
 use Rattle.papaya_executor.specs.declared.executor.Executor.{Executor}

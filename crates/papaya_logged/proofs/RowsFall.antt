@@ -1,8 +1,8 @@
 -- A row on a slot that goes on, and does not wait, has less to go after its step.
 use Rattle.std.specs.Prelude.{◌≡◌, ◌<◌, ℕ, suc, Bool, true, false, Option, Some}
 use Rattle.std.proofs.Common.{refl, sym, ap, subst, ◌∙◌, arith}
-use Rattle.papaya_histories.specs.Given.SeizeWords.Mem.{Mem, Took, value_at}
-use Rattle.papaya_histories.specs.Given.SeizeWords.Plan.{Steps}
+use Rattle.papaya_kept.specs.Given.SeizeWords.Mem.{Mem, Took, value_at}
+use Rattle.papaya_kept.specs.Given.SeizeWords.Plan.{Steps}
 use Rattle.seize.specs.declared.progress.Progress.{Progress}
 use Rattle.seize.specs.declared.progress.Progress.TheVariants as progress
 use Rattle.seize.specs.declared.rows.enter.Enter.{Enter}
@@ -15,12 +15,12 @@ use Rattle.seize.specs.Leave.{leave_plan}
 use Rattle.seize.specs.Register.{register_plan}
 use Rattle.seize.specs.Settle.{settle_plan}
 use Rattle.seize.specs.World.{World}
-use Rattle.papaya_histories.proofs.Given.SeizeEnds.Rows.Among.{Came, row_steps_left, settles_go_lower, leaves_go_lower}
-use Rattle.papaya_histories.proofs.Given.SeizeEnds.Rows.Leaving.{leave_steps_left}
-use Rattle.papaya_histories.proofs.Given.SeizeEnds.Rows.Register.{register_to_go, register_ends}
-use Rattle.papaya_histories.proofs.Given.SeizeEnds.Settling.Most.{goes_further, settle_steps_left}
-use Rattle.papaya_histories.specs.Given.Tables.Nodes.{deferred_word}
-use Rattle.papaya_histories.specs.Given.Tables.declared.node.Node.{Node}
+use Rattle.papaya_kept.proofs.Given.SeizeEnds.Rows.Among.{Came, row_steps_left, settles_go_lower, leaves_go_lower}
+use Rattle.papaya_kept.proofs.Given.SeizeEnds.Rows.Leaving.{leave_steps_left}
+use Rattle.papaya_kept.proofs.Given.SeizeEnds.Rows.Register.{register_to_go, register_ends}
+use Rattle.papaya_kept.proofs.Given.SeizeEnds.Settling.Most.{goes_further, settle_steps_left}
+use Rattle.papaya_kept.specs.Given.Tables.Nodes.{deferred_word}
+use Rattle.papaya_kept.specs.Given.Tables.declared.node.Node.{Node}
 use Rattle.papaya_teller.specs.declared.changed.Changed.{Changed}
 use Rattle.papaya_teller.specs.declared.changed.Changed.TheVariants.{Nothing}
 use Rattle.papaya_executor.specs.declared.executor.Executor.{Executor}

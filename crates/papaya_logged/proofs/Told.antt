@@ -8,16 +8,16 @@ use Rattle.papaya_effects.specs.Known.{known}
 use Rattle.papaya_effects.specs.declared.notes.Notes.{Notes}
 use Rattle.papaya_executor.specs.IsAt.{Scene, IsAt, KeepsGiven, slot_of}
 use Rattle.papaya_executor.specs.Replying.{ReplyLeads, AskLeads, StopLeads, scene_with, unless_stopped}
-use Rattle.papaya_histories.specs.Given.Finishes.Machines.{machine_of, ToldOfKind}
-use Rattle.papaya_histories.specs.Given.Finishes.Maps.{with_call}
-use Rattle.papaya_histories.specs.Given.Follows.Calling.{told as told_so}
-use Rattle.papaya_histories.specs.Given.Hands.Asked.{as_told}
-use Rattle.papaya_histories.proofs.Given.Moments.Calls.{calls_take_whole}
-use Rattle.papaya_histories.proofs.Given.Moments.Walks.{walks_go_on_whole, walks_stop_whole}
-use Rattle.papaya_histories.specs.Given.Moments.Whole.{ShowsWhole}
+use Rattle.papaya_kept.specs.Given.Finishes.Machines.{machine_of, ToldOfKind}
+use Rattle.papaya_kept.specs.Given.Finishes.Maps.{with_call}
+use Rattle.papaya_kept.specs.Given.Follows.Calling.{told as told_so}
+use Rattle.papaya_kept.specs.Given.Hands.Asked.{as_told}
+use Rattle.papaya_kept.proofs.Given.Moments.Calls.{calls_take_whole}
+use Rattle.papaya_kept.proofs.Given.Moments.Walks.{walks_go_on_whole, walks_stop_whole}
+use Rattle.papaya_kept.specs.Given.Moments.Whole.{ShowsWhole}
 use Rattle.papaya_kept.specs.Kept.{ShowsKept}
 use Rattle.papaya_kept.proofs.Between.{calls_take_kept, walks_go_on_kept, walks_stop_kept}
-use Rattle.papaya_histories.specs.Given.Others.Walks.{given_up}
+use Rattle.papaya_kept.specs.Given.Others.Walks.{given_up}
 use Rattle.papaya_logged.specs.Calling.{CallTakes, WalkGoesOn, WalkStops}
 use Rattle.papaya_logged.specs.Shown.{IsShown}
 use Rattle.papaya_logged.specs.declared.logged.Logged.{Logged}

@@ -1,7 +1,7 @@
 -- Where the beginning and a step of a call lead, and what they do; where a call goes on by what it is told, or asked.
 use Rattle.std.specs.Prelude.{◌≡◌, ℕ, Bool, true, List, ◌++◌, Option, Some, Result, Ok}
 use Rattle.std.specs.List.{list_any}
-use Rattle.papaya_histories.specs.Given.Tables.declared.node.Node.{Node}
+use Rattle.papaya_kept.specs.Given.Tables.declared.node.Node.{Node}
 use Rattle.papaya_raw.specs.Machine.{machine_asked, machine_replied}
 use Rattle.papaya_raw.specs.declared.machines.asking.Reply.{Reply as MachineReply}
 use Rattle.papaya_raw.specs.declared.machines.machine.Machine.{Machine}
@@ -15,7 +15,7 @@ use Rattle.papaya_schedules.specs.Effects.{with_effects}
 use Rattle.papaya_schedules.specs.Handing.{is_made}
 use Rattle.papaya_schedules.specs.Moment.{Asking, UnderWay as CallThere, Moment}
 use Rattle.papaya_schedules.specs.Views.{call_of}
-use Rattle.papaya_histories.specs.Given.Callers.Together.{UnderWay}
+use Rattle.papaya_kept.specs.Given.Callers.Together.{UnderWay}
 use Rattle.papaya_effects.specs.Effects.{effects_of, known_after}
 use Rattle.papaya_effects.specs.Known.{known}
 use Rattle.papaya_effects.specs.declared.acting.Acting.TheVariants as acts
@@ -24,13 +24,13 @@ use Rattle.papaya_executor.specs.IsAt.{Scene, slot_of, use_at}
 use Rattle.papaya_executor.specs.Replying.{scene_with, unless_stopped}
 use Rattle.papaya_executor.specs.Stepping.{StepLeads, scene_after}
 use Rattle.papaya_executor.specs.declared.row.SlotUse.TheVariants as used
-use Rattle.papaya_histories.specs.Given.Finishes.Machines.{machine_of}
-use Rattle.papaya_histories.specs.Given.Finishes.Maps.{Standing, with_call as with_call_of}
-use Rattle.papaya_histories.specs.Given.Follows.Calling.{NoneNamed, told as told_so}
-use Rattle.papaya_histories.specs.Given.Follows.Calls.{IsCalled}
-use Rattle.papaya_histories.specs.Given.Hands.Asked.{as_told}
-use Rattle.papaya_histories.specs.Given.Hands.Calling.{IsBegunFor}
-use Rattle.papaya_histories.specs.Given.Others.Walks.{given_up}
+use Rattle.papaya_kept.specs.Given.Finishes.Machines.{machine_of}
+use Rattle.papaya_kept.specs.Given.Finishes.Maps.{Standing, with_call as with_call_of}
+use Rattle.papaya_kept.specs.Given.Follows.Calling.{NoneNamed, told as told_so}
+use Rattle.papaya_kept.specs.Given.Follows.Calls.{IsCalled}
+use Rattle.papaya_kept.specs.Given.Hands.Asked.{as_told}
+use Rattle.papaya_kept.specs.Given.Hands.Calling.{IsBegunFor}
+use Rattle.papaya_kept.specs.Given.Others.Walks.{given_up}
 use Rattle.papaya_logged.specs.Shown.{IsShown}
 use Rattle.papaya_logged.specs.declared.logged.Logged.{Logged}
 

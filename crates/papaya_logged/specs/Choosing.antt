@@ -1,6 +1,6 @@
 -- A choice of a free block number joins those that are left.
 use Rattle.std.specs.Prelude.{ℕ, Bool, List, [], ◌∷◌, ◌++◌}
-use Rattle.papaya_histories.specs.Given.SeizeWords.Mem.{Mem}
+use Rattle.papaya_kept.specs.Given.SeizeWords.Mem.{Mem}
 use Rattle.papaya_schedules.specs.Moment.{Moment}
 use Rattle.papaya_executor.specs.IsAt.{Scene}
 use Rattle.papaya_logged.specs.Shown.{IsShown}

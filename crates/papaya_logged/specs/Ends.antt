@@ -4,12 +4,12 @@ use Rattle.seize.specs.World.{times}
 use Rattle.seize.specs.declared.rows.settle.Settled.{Settled}
 use Rattle.seize.specs.declared.rows.settle.Settled.TheVariants as settled
 use Rattle.papaya_runs.specs.Same.{is_same}
-use Rattle.papaya_histories.specs.Given.Tables.Chunks.{is_incremental}
-use Rattle.papaya_histories.specs.Given.Tables.declared.node.Node.{Node}
-use Rattle.papaya_histories.specs.Given.Tables.declared.setting.Setting.{Setting}
+use Rattle.papaya_kept.specs.Given.Tables.Chunks.{is_incremental}
+use Rattle.papaya_kept.specs.Given.Tables.declared.node.Node.{Node}
+use Rattle.papaya_kept.specs.Given.Tables.declared.setting.Setting.{Setting}
 use Rattle.papaya_raw.specs.declared.machines.end_map.EndMap.{EndMap}
-use Rattle.papaya_histories.specs.Given.Rule.Chart.{Chart}
-use Rattle.papaya_histories.specs.Given.Rule.Words.{Blocks}
+use Rattle.papaya_kept.specs.Given.Rule.Chart.{Chart}
+use Rattle.papaya_kept.specs.Given.Rule.Words.{Blocks}
 use Rattle.papaya_schedules.specs.declared.effect.Effect.{Effect}
 use Rattle.papaya_schedules.specs.After.{if_any}
 use Rattle.papaya_schedules.specs.Effects.{with_effects}
@@ -20,15 +20,15 @@ use Rattle.papaya_effects.specs.Effects.{taken_by}
 use Rattle.papaya_effects.specs.Known.{Known, known}
 use Rattle.papaya_effects.specs.declared.acting.Acting.TheVariants.{Ending}
 use Rattle.papaya_effects.specs.declared.role.Role.TheVariants as role
-use Rattle.papaya_histories.specs.Given.Finishes.Endings.{Finishing, AllPairsOnce, finishing_of}
-use Rattle.papaya_histories.specs.Given.Finishes.FactsEnds.{RootIs, back_of, taken_by as taken_of}
-use Rattle.papaya_histories.specs.Given.Finishes.Maps.{Standing}
+use Rattle.papaya_kept.specs.Given.Finishes.Endings.{Finishing, AllPairsOnce, finishing_of}
+use Rattle.papaya_kept.specs.Given.Finishes.FactsEnds.{RootIs, back_of, taken_by as taken_of}
+use Rattle.papaya_kept.specs.Given.Finishes.Maps.{Standing}
 use Rattle.papaya_executor.specs.Ending.{EndingLeads, NoCallOn, ending_begun}
 use Rattle.papaya_executor.specs.IsAt.{Scene, IsAt}
-use Rattle.papaya_histories.specs.Given.Follows.Maps.{table_of}
-use Rattle.papaya_histories.specs.Given.Others.Endings.{ending_after, without_map}
-use Rattle.papaya_histories.specs.Given.Moments.Numbers.{AreFound}
-use Rattle.papaya_histories.specs.Given.Moments.WholeEnds.{all_ended}
+use Rattle.papaya_kept.specs.Given.Follows.Maps.{table_of}
+use Rattle.papaya_kept.specs.Given.Others.Endings.{ending_after, without_map}
+use Rattle.papaya_kept.specs.Given.Moments.Numbers.{AreFound}
+use Rattle.papaya_kept.specs.Given.Moments.WholeEnds.{all_ended}
 use Rattle.papaya_logged.specs.Shown.{IsShown}
 use Rattle.papaya_logged.specs.Waits.{TellsLeft, TellsThen, TellsWaiting}
 use Rattle.papaya_logged.specs.declared.logged.Logged.{Logged}

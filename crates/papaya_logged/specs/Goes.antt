@@ -4,9 +4,9 @@ use Rattle.seize.specs.declared.progress.Progress.{Progress}
 use Rattle.seize.specs.declared.rows.reclaim_all.ReclaimAll.{ReclaimAll}
 use Rattle.seize.specs.declared.rows.settle.Settled.{Settled}
 use Rattle.seize.specs.ReclaimAll.{reclaiming_all, clearing}
-use Rattle.papaya_histories.specs.Given.Tables.declared.node.Node.{Node}
-use Rattle.papaya_histories.specs.Given.Tables.declared.setting.Setting.{Setting}
-use Rattle.papaya_histories.specs.Given.Resize.declared.new_map.NewMap.{NewMap}
+use Rattle.papaya_kept.specs.Given.Tables.declared.node.Node.{Node}
+use Rattle.papaya_kept.specs.Given.Tables.declared.setting.Setting.{Setting}
+use Rattle.papaya_kept.specs.Given.Resize.declared.new_map.NewMap.{NewMap}
 use Rattle.papaya_raw.specs.declared.machines.end_map.EndMap.{EndMap}
 use Rattle.papaya_schedules.specs.declared.effect.Effect.{Effect}
 use Rattle.papaya_schedules.specs.Moment.{Moment}

@@ -10,3 +10,4 @@ pub mod Ends
 pub mod Reclaims
 pub mod Back
 pub mod Choosing
+pub mod Given

@@ -1,15 +1,15 @@
 -- Which roots are taken, and which one the making of a map finds.
 use Rattle.std.specs.Prelude.{◌≡◌, ◌<◌, ◌≤◌, ◌^◌, ◌==◌, ◌||◌, ℕ, Bool, true, false, List, ◌++◌, max, Some, if◌then◌else◌}
-use Rattle.papaya_histories.specs.Given.SeizeWords.declared.at.At.TheVariants.{Used}
-use Rattle.papaya_histories.specs.Given.SeizeWords.declared.fault.Fault.TheVariants.{Memory, RootsUsedUp}
-use Rattle.papaya_histories.specs.Given.SeizeWords.Mem.{Mem, word_at}
+use Rattle.papaya_kept.specs.Given.SeizeWords.declared.at.At.TheVariants.{Used}
+use Rattle.papaya_kept.specs.Given.SeizeWords.declared.fault.Fault.TheVariants.{Memory, RootsUsedUp}
+use Rattle.papaya_kept.specs.Given.SeizeWords.Mem.{Mem, word_at}
 use Rattle.seize.specs.declared.progress.Progress.{Progress}
 use Rattle.seize.specs.declared.progress.Progress.TheVariants as progress
-use Rattle.papaya_histories.specs.Given.Tables.declared.setting.Setting.{Setting}
-use Rattle.papaya_histories.specs.Given.Resize.NewMap.{opening}
+use Rattle.papaya_kept.specs.Given.Tables.declared.setting.Setting.{Setting}
+use Rattle.papaya_kept.specs.Given.Resize.NewMap.{opening}
 use Rattle.papaya_schedules.specs.declared.effect.Effect.{Effect}
 use Rattle.papaya_schedules.specs.InTurn.{has_grown}
-use Rattle.papaya_histories.specs.Given.Finishes.Makings.{Beginning}
+use Rattle.papaya_kept.specs.Given.Finishes.Makings.{Beginning}
 use Rattle.papaya_executor.specs.IsAt.{Scene, IsAt}
 use Rattle.papaya_logged.specs.declared.logged.Logged.{Logged}
 

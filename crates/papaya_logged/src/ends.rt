@@ -4,7 +4,7 @@ ghost use Rattle.papaya_effects.specs.Effects.{effects_of, known_after};
 ghost use Rattle.papaya_effects.specs.Known.{known};
 ghost use Rattle.papaya_effects.specs.declared.acting.Acting.TheVariants.{Ending};
 ghost use Rattle.papaya_schedules.specs.Moment.{Moment};
-ghost use Rattle.papaya_histories.specs.Given.Tables.declared.setting.Setting.{Setting};
+ghost use Rattle.papaya_kept.specs.Given.Tables.declared.setting.Setting.{Setting};
 ghost use Rattle.papaya_executor.specs.Beginning.{IsRefused};
 ghost use Rattle.papaya_executor.specs.Ending.{EndingLeads};
 ghost use Rattle.papaya_executor.specs.IsAt.{Scene, IsAt, IsEnding, KeepsGiven};

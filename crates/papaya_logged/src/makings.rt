@@ -3,7 +3,7 @@ ghost use Rattle.std.specs.Prelude.{◌≡◌, ◌<◌, ◌+◌, ◌*◌, ◌++�
 ghost use Rattle.papaya_effects.specs.Effects.{effects_of, known_after};
 ghost use Rattle.papaya_effects.specs.Known.{known};
 ghost use Rattle.papaya_effects.specs.declared.acting.Acting.TheVariants.{Making};
-ghost use Rattle.papaya_histories.specs.Given.Finishes.Makings.{Beginning};
+ghost use Rattle.papaya_kept.specs.Given.Finishes.Makings.{Beginning};
 ghost use Rattle.papaya_schedules.specs.Moment.{Moment};
 ghost use Rattle.papaya_executor.specs.Beginning.{IsRefused};
 ghost use Rattle.papaya_executor.specs.IsAt.{Scene, IsAt, IsMaking, StaysGiven, KeepsGiven};

@@ -20,26 +20,26 @@ use Rattle.papaya_schedules.specs.InUse.{is_left}
 use Rattle.papaya_schedules.specs.Lists.{is_empty}
 use Rattle.papaya_schedules.specs.Moment.{UnderWay as CallThere, Moment}
 use Rattle.papaya_schedules.specs.Terms.{Terms}
-use Rattle.papaya_histories.specs.Given.Callers.Together.{UnderWay}
-use Rattle.papaya_effects.specs.Known.{known}
-use Rattle.papaya_executor.specs.IsAt.{Scene, use_at}
-use Rattle.papaya_executor.specs.declared.row.SlotUse.TheVariants as used
-use Rattle.papaya_histories.specs.Given.Finishes.Endings.{Finishing}
-use Rattle.papaya_histories.specs.Given.Finishes.Makings.{Beginning}
-use Rattle.papaya_histories.specs.Given.Finishes.Maps.{Standing}
-use Rattle.papaya_histories.proofs.Given.Others.Quiet.{calls_none}
-use Rattle.papaya_reclaims.proofs.Slots.Stages.{never_taken}
-use Rattle.papaya_reclaiming.specs.Reclaiming.{MayReclaim, NobodyHas}
-use Rattle.papaya_reclaims.specs.Reclaims.{AllIsReclaimed}
-use Rattle.papaya_remains.specs.Remains.{ShowsRemains}
-use Rattle.papaya_remains.proofs.Maps.{reclaimed_remain}
-use Rattle.papaya_remains.proofs.Stays.{roots_stay}
-use Rattle.papaya_logged.specs.Reclaims.{AllIsShown, ReclaimRetired, ReclaimingCame, ReclaimingRan}
-use Rattle.papaya_logged.specs.declared.logged.Logged.{Logged}
-use Rattle.papaya_rows.proofs.Elsewhere.{elsewhere, kept_elsewhere, shown_elsewhere, numbered_elsewhere}
-use Rattle.papaya_rows.proofs.Facts.{no_ending_of, no_making_of, no_work_at, row_rests, used_once}
-use Rattle.papaya_rows.proofs.Lists.{all_so}
-use Rattle.papaya_rows.proofs.Names.{nobody_named}
+use Rattle.papaya_scheduler.specs.Given.Callers.Together.{UnderWay}
+use Rattle.papaya_scheduler.specs.Given.Effects.Known.{known}
+use Rattle.papaya_scheduler.specs.Given.Executor.IsAt.{Scene, use_at}
+use Rattle.papaya_scheduler.specs.Given.Executor.declared.row.SlotUse.TheVariants as used
+use Rattle.papaya_scheduler.specs.Given.Finishes.Endings.{Finishing}
+use Rattle.papaya_scheduler.specs.Given.Finishes.Makings.{Beginning}
+use Rattle.papaya_scheduler.specs.Given.Finishes.Maps.{Standing}
+use Rattle.papaya_scheduler.proofs.Given.Others.Quiet.{calls_none}
+use Rattle.papaya_scheduler.proofs.Given.Reclaims.Slots.Stages.{never_taken}
+use Rattle.papaya_scheduler.specs.Given.Reclaiming.Reclaiming.{MayReclaim, NobodyHas}
+use Rattle.papaya_scheduler.specs.Given.Reclaims.Reclaims.{AllIsReclaimed}
+use Rattle.papaya_scheduler.specs.Given.Remains.Remains.{ShowsRemains}
+use Rattle.papaya_scheduler.proofs.Given.Remains.Maps.{reclaimed_remain}
+use Rattle.papaya_scheduler.proofs.Given.Remains.Stays.{roots_stay}
+use Rattle.papaya_scheduler.specs.Given.Logged.Reclaims.{AllIsShown, ReclaimRetired, ReclaimingCame, ReclaimingRan}
+use Rattle.papaya_scheduler.specs.Given.Logged.declared.logged.Logged.{Logged}
+use Rattle.papaya_scheduler.proofs.Given.Rows.Elsewhere.{elsewhere, kept_elsewhere, shown_elsewhere, numbered_elsewhere}
+use Rattle.papaya_scheduler.proofs.Given.Rows.Facts.{no_ending_of, no_making_of, no_work_at, row_rests, used_once}
+use Rattle.papaya_scheduler.proofs.Given.Rows.Lists.{all_so}
+use Rattle.papaya_scheduler.proofs.Given.Rows.Names.{nobody_named}
 use Rattle.papaya_scheduler.specs.Played.{IsDue, IsUnderWay, Plays, StandsFor}
 use Rattle.papaya_scheduler.specs.Reclaiming.{MayGiveAll, are_gone}
 use Rattle.papaya_named.specs.Seen.{named, named_of, seen, seen_of}

@@ -4,9 +4,9 @@ use Rattle.std.proofs.Common.{refl, subst, sym, inl, inr}
 use Rattle.seize_words.specs.declared.fault.Fault.TheVariants.{Busy}
 use Rattle.papaya_schedules.specs.declared.effect.Effect.{Effect}
 use Rattle.papaya_schedules.specs.declared.outcome.Outcome.TheVariants.{Done, Refused}
-use Rattle.papaya_effects.specs.Known.{known}
-use Rattle.papaya_logged.specs.Goes.{ReclaimingGone}
-use Rattle.papaya_logged.specs.declared.logged.Logged.{Logged}
+use Rattle.papaya_scheduler.specs.Given.Effects.Known.{known}
+use Rattle.papaya_scheduler.specs.Given.Logged.Goes.{ReclaimingGone}
+use Rattle.papaya_scheduler.specs.Given.Logged.declared.logged.Logged.{Logged}
 use Rattle.papaya_scheduler.specs.AllWorks.{WorksOnAll}
 use Rattle.papaya_scheduler.specs.Reclaiming.{are_gone}
 use Rattle.papaya_scheduler.specs.declared.played.Played.{Played}

@@ -5,8 +5,8 @@ use Rattle.std.proofs.Common.{refl, ap, sym, subst, ◌∙◌, inl, inr, eqb-tru
 use Rattle.std.proofs.lemmas.Bool.{cases_eq}
 use Rattle.seize_words.specs.declared.fault.Fault.TheVariants.{Busy}
 use Rattle.papaya_runs.specs.Same.{is_same}
-use Rattle.papaya_histories.specs.Given.Tables.Chunks.{is_incremental}
-use Rattle.papaya_histories.specs.Given.Rule.Chart.{Chart}
+use Rattle.papaya_scheduler.specs.Given.Tables.Chunks.{is_incremental}
+use Rattle.papaya_scheduler.specs.Given.Rule.Chart.{Chart}
 use Rattle.papaya_runs.specs.declared.record.Pair.{Pair}
 use Rattle.papaya_schedules.specs.declared.effect.Effect.{Effect}
 use Rattle.papaya_schedules.specs.declared.effect.Effect.TheVariants.{Ended}
@@ -21,38 +21,38 @@ use Rattle.papaya_schedules.specs.Lists.{is_among}
 use Rattle.papaya_schedules.specs.Moment.{MapThere, Remains, Moment}
 use Rattle.papaya_schedules.specs.Terms.{Terms}
 use Rattle.papaya_schedules.specs.Views.{map_at, map_of, number_of}
-use Rattle.papaya_histories.proofs.Given.Callers.Together.At.{at_other, at_same}
-use Rattle.papaya_histories.specs.Given.Callers.Together.{UnderWay}
-use Rattle.papaya_effects.specs.Known.{known}
-use Rattle.papaya_effects.specs.declared.role.Role.TheVariants as role
-use Rattle.papaya_executor.specs.Ending.{NoCallOn, ending_begun}
-use Rattle.papaya_executor.specs.IsAt.{Scene, IsAt, IsEnding, ending_in}
-use Rattle.papaya_executor.specs.declared.worker.Work.{Work}
+use Rattle.papaya_scheduler.proofs.Given.Callers.Together.At.{at_other, at_same}
+use Rattle.papaya_scheduler.specs.Given.Callers.Together.{UnderWay}
+use Rattle.papaya_scheduler.specs.Given.Effects.Known.{known}
+use Rattle.papaya_scheduler.specs.Given.Effects.declared.role.Role.TheVariants as role
+use Rattle.papaya_scheduler.specs.Given.Executor.Ending.{NoCallOn, ending_begun}
+use Rattle.papaya_scheduler.specs.Given.Executor.IsAt.{Scene, IsAt, IsEnding, ending_in}
+use Rattle.papaya_scheduler.specs.Given.Executor.declared.worker.Work.{Work}
 use Rattle.papaya_raw.specs.declared.machines.end_map.EndMap.{EndMap as EndMachine}
-use Rattle.papaya_histories.specs.Given.Finishes.Makings.{Beginning}
-use Rattle.papaya_histories.specs.Given.Finishes.Endings.{Finishing, finishing_of}
-use Rattle.papaya_histories.specs.Given.Finishes.Machines.{machine_of}
-use Rattle.papaya_histories.specs.Given.Finishes.Maps.{Standing}
-use Rattle.papaya_histories.proofs.Given.Others.Quiet.{calls_none}
-use Rattle.papaya_histories.specs.Given.Others.Endings.{without_map}
-use Rattle.papaya_histories.proofs.Given.Moments.After.{effects_after}
-use Rattle.papaya_histories.proofs.Given.Moments.Numbers.{found_of}
-use Rattle.papaya_histories.specs.Given.Moments.Numbers.{AreFound}
-use Rattle.papaya_histories.specs.Given.Moments.WholeEnds.{all_ended, tables_ended}
-use Rattle.papaya_histories.specs.Given.Finishes.Orders.{pairs_of}
-use Rattle.papaya_logged.specs.Back.{ComesBack, EndBringsBack}
-use Rattle.papaya_reclaims.specs.Left.{IsSomebodys}
-use Rattle.papaya_reclaims.specs.Reclaims.{RootLeads}
-use Rattle.papaya_remains.specs.Remains.{left_roots, map_roots}
-use Rattle.papaya_remains.proofs.Leads.{waits_lead}
-use Rattle.papaya_remains.proofs.Lists.{among_append, found_among}
-use Rattle.papaya_remains.proofs.Stays.{remains_stay, roots_stay, used_then}
-use Rattle.papaya_logged.specs.Ends.{EndCame, EndIsBegun, EndIsOver, EndRan, NotedStill, ended_as}
-use Rattle.papaya_logged.specs.Shown.{IsShown}
-use Rattle.papaya_logged.specs.Waits.{TellsLeft, TellsWaiting}
-use Rattle.papaya_logged.specs.declared.logged.Logged.{Logged}
-use Rattle.papaya_rows.proofs.Elsewhere.{elsewhere}
-use Rattle.papaya_rows.proofs.Lists.{all_but, all_so, any_alike, found_passes, one_of}
+use Rattle.papaya_scheduler.specs.Given.Finishes.Makings.{Beginning}
+use Rattle.papaya_scheduler.specs.Given.Finishes.Endings.{Finishing, finishing_of}
+use Rattle.papaya_scheduler.specs.Given.Finishes.Machines.{machine_of}
+use Rattle.papaya_scheduler.specs.Given.Finishes.Maps.{Standing}
+use Rattle.papaya_scheduler.proofs.Given.Others.Quiet.{calls_none}
+use Rattle.papaya_scheduler.specs.Given.Others.Endings.{without_map}
+use Rattle.papaya_scheduler.proofs.Given.Moments.After.{effects_after}
+use Rattle.papaya_scheduler.proofs.Given.Moments.Numbers.{found_of}
+use Rattle.papaya_scheduler.specs.Given.Moments.Numbers.{AreFound}
+use Rattle.papaya_scheduler.specs.Given.Moments.WholeEnds.{all_ended, tables_ended}
+use Rattle.papaya_scheduler.specs.Given.Finishes.Orders.{pairs_of}
+use Rattle.papaya_scheduler.specs.Given.Logged.Back.{ComesBack, EndBringsBack}
+use Rattle.papaya_scheduler.specs.Given.Reclaims.Left.{IsSomebodys}
+use Rattle.papaya_scheduler.specs.Given.Reclaims.Reclaims.{RootLeads}
+use Rattle.papaya_scheduler.specs.Given.Remains.Remains.{left_roots, map_roots}
+use Rattle.papaya_scheduler.proofs.Given.Remains.Leads.{waits_lead}
+use Rattle.papaya_scheduler.proofs.Given.Remains.Lists.{among_append, found_among}
+use Rattle.papaya_scheduler.proofs.Given.Remains.Stays.{remains_stay, roots_stay, used_then}
+use Rattle.papaya_scheduler.specs.Given.Logged.Ends.{EndCame, EndIsBegun, EndIsOver, EndRan, NotedStill, ended_as}
+use Rattle.papaya_scheduler.specs.Given.Logged.Shown.{IsShown}
+use Rattle.papaya_scheduler.specs.Given.Logged.Waits.{TellsLeft, TellsWaiting}
+use Rattle.papaya_scheduler.specs.Given.Logged.declared.logged.Logged.{Logged}
+use Rattle.papaya_scheduler.proofs.Given.Rows.Elsewhere.{elsewhere}
+use Rattle.papaya_scheduler.proofs.Given.Rows.Lists.{all_but, all_so, any_alike, found_passes, one_of}
 use Rattle.papaya_scheduler.specs.Mapping.{AreApart}
 use Rattle.papaya_scheduler.specs.Played.{IsDue, IsUnderWay, Plays, StandsFor}
 use Rattle.papaya_named.specs.Seen.{named, named_of, number_named, seen, seen_of}

@@ -10,9 +10,9 @@ use Rattle.seize.specs.declared.progress.Progress.{Progress}
 use Rattle.seize.specs.declared.progress.Progress.TheVariants as progress
 use Rattle.seize_words.specs.declared.fault.Fault.{Fault}
 use Rattle.seize_words.specs.declared.fault.Fault.TheVariants.{RootsUsedUp, Busy, Memory}
-use Rattle.papaya_histories.specs.Given.Tables.declared.resize_mode.ResizeMode.{ResizeMode}
-use Rattle.papaya_histories.specs.Given.Tables.declared.setting.Setting.{Setting}
-use Rattle.papaya_histories.specs.Given.Resize.NewMap.{opening}
+use Rattle.papaya_scheduler.specs.Given.Tables.declared.resize_mode.ResizeMode.{ResizeMode}
+use Rattle.papaya_scheduler.specs.Given.Tables.declared.setting.Setting.{Setting}
+use Rattle.papaya_scheduler.specs.Given.Resize.NewMap.{opening}
 use Rattle.papaya_runs.specs.Runs.{map_fault}
 use Rattle.papaya_schedules.specs.declared.effect.Effect.{Effect}
 use Rattle.papaya_schedules.specs.declared.event.Event.{Event}
@@ -29,24 +29,24 @@ use Rattle.papaya_schedules.specs.Moment.{MapThere, Moment}
 use Rattle.papaya_schedules.specs.Terms.{Terms}
 use Rattle.papaya_schedules.specs.Views.{map_of, number_of}
 use Rattle.papaya_named.specs.Places.{IsFirstLen}
-use Rattle.papaya_histories.proofs.Given.Callers.Together.At.{at_other, at_same}
-use Rattle.papaya_executor.specs.IsAt.{Scene, IsAt}
-use Rattle.papaya_executor.specs.MakingBegins.{next_making}
-use Rattle.papaya_histories.specs.Given.Finishes.Endings.{Finishing}
-use Rattle.papaya_histories.specs.Given.Finishes.Makings.{Beginning}
-use Rattle.papaya_histories.specs.Given.Finishes.Maps.{Standing}
-use Rattle.papaya_histories.proofs.Given.Others.Quiet.{calls_none}
-use Rattle.papaya_histories.specs.Given.Others.Makings.{IsNew}
-use Rattle.papaya_histories.proofs.Given.Moments.NewMaps.{maps_come_as_new}
-use Rattle.papaya_remains.specs.Numbered.{NumbersUpTo}
-use Rattle.papaya_remains.proofs.Stays.{remains_stay}
-use Rattle.papaya_logged.specs.Makings.{HasTable, JustAsks, CameBare, MakingCame, MakingIsBegun, MakingRan, MapIsThere}
-use Rattle.papaya_logged.specs.Roots.{AreTaken, FindsRoot, IsFirstFree, MakingFinds}
-use Rattle.papaya_logged.specs.Shown.{IsShown}
-use Rattle.papaya_logged.specs.declared.logged.Logged.{Logged}
-use Rattle.papaya_rows.proofs.Elsewhere.{elsewhere}
-use Rattle.papaya_rows.proofs.Least.{least_is}
-use Rattle.papaya_rows.proofs.Lists.{all_so}
+use Rattle.papaya_scheduler.proofs.Given.Callers.Together.At.{at_other, at_same}
+use Rattle.papaya_scheduler.specs.Given.Executor.IsAt.{Scene, IsAt}
+use Rattle.papaya_scheduler.specs.Given.Executor.MakingBegins.{next_making}
+use Rattle.papaya_scheduler.specs.Given.Finishes.Endings.{Finishing}
+use Rattle.papaya_scheduler.specs.Given.Finishes.Makings.{Beginning}
+use Rattle.papaya_scheduler.specs.Given.Finishes.Maps.{Standing}
+use Rattle.papaya_scheduler.proofs.Given.Others.Quiet.{calls_none}
+use Rattle.papaya_scheduler.specs.Given.Others.Makings.{IsNew}
+use Rattle.papaya_scheduler.proofs.Given.Moments.NewMaps.{maps_come_as_new}
+use Rattle.papaya_scheduler.specs.Given.Remains.Numbered.{NumbersUpTo}
+use Rattle.papaya_scheduler.proofs.Given.Remains.Stays.{remains_stay}
+use Rattle.papaya_scheduler.specs.Given.Logged.Makings.{HasTable, JustAsks, CameBare, MakingCame, MakingIsBegun, MakingRan, MapIsThere}
+use Rattle.papaya_scheduler.specs.Given.Logged.Roots.{AreTaken, FindsRoot, IsFirstFree, MakingFinds}
+use Rattle.papaya_scheduler.specs.Given.Logged.Shown.{IsShown}
+use Rattle.papaya_scheduler.specs.Given.Logged.declared.logged.Logged.{Logged}
+use Rattle.papaya_scheduler.proofs.Given.Rows.Elsewhere.{elsewhere}
+use Rattle.papaya_scheduler.proofs.Given.Rows.Least.{least_is}
+use Rattle.papaya_scheduler.proofs.Given.Rows.Lists.{all_so}
 use Rattle.papaya_scheduler.specs.Mapping.{CountsMaps, IsGivenFor, MayMap, may_make_of}
 use Rattle.papaya_scheduler.specs.Played.{Plays, StandsFor}
 use Rattle.papaya_scheduler.specs.Quiet.{IsQuiet}

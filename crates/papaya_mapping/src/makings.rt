@@ -3,7 +3,7 @@ ghost use Rattle.std.specs.Prelude.{◌≡◌, ◌≤◌, ◌^◌, ℕ, Bool, Li
 ghost use Rattle.papaya_schedules.specs.Entry.{Entry};
 ghost use Rattle.papaya_schedules.specs.Terms.{Terms};
 ghost use Rattle.papaya_schedules.specs.declared.event.Event.TheVariants as event;
-ghost use Rattle.papaya_executor.specs.IsAt.{StaysGiven};
+ghost use Rattle.papaya_scheduler.specs.Given.Executor.IsAt.{StaysGiven};
 ghost use Rattle.papaya_scheduler.specs.Mapping.{MayMap, PlaysMaking, IsGivenFor, may_make_of, numbers_made};
 ghost use Rattle.papaya_scheduler.specs.Quiet.{IsQuiet};
 ghost use Rattle.papaya_scheduler.specs.Works.{WorksOnMap};

@@ -1,6 +1,5 @@
 -- What is so by the crates below, given on to the crates above: these list this crate in place of those.
 pub use Rattle.papaya_finishes.proofs.Given.SeizeWords
-pub use Rattle.papaya_finishes.proofs.Given.SeizeWaiting
 pub use Rattle.papaya_finishes.proofs.Given.SeizeMoves
 pub use Rattle.papaya_finishes.proofs.Given.SeizeRule
 pub use Rattle.papaya_finishes.proofs.Given.SeizeEnds

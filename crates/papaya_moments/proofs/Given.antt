@@ -6,6 +6,7 @@ pub use Rattle.papaya_others.proofs.Given.SeizeRule
 pub use Rattle.papaya_others.proofs.Given.SeizeSets
 pub use Rattle.papaya_others.proofs.Given.SeizeEnds
 pub use Rattle.papaya_others.proofs.Given.SeizeAlone
+pub use Rattle.papaya_others.proofs.Given.Tables
 pub use Rattle.papaya_others.proofs.Given.Rule
 pub use Rattle.papaya_others.proofs.Given.Points
 pub use Rattle.papaya_others.proofs.Given.Late

@@ -12,18 +12,18 @@ use Rattle.papaya_raw.specs.declared.machines.asking.Takes.{Takes}
 use Rattle.papaya_raw.specs.declared.machines.asking.Takes.TheVariants as takes
 use Rattle.papaya_raw.specs.declared.machines.call.Calling.TheVariants as at
 use Rattle.papaya_raw.specs.declared.machines.call.KeyCall.{KeyCall}
-use Rattle.papaya_histories.specs.Given.Sweeps.declared.sweep.Sweep.{Sweep}
-use Rattle.papaya_histories.specs.Given.Sweeps.declared.sweep.Sweeping.{Sweeping}
-use Rattle.papaya_histories.specs.Given.Sweeps.declared.sweep.Sweeping.TheVariants as sweeping
+use Rattle.papaya_follows.specs.Given.Sweeps.declared.sweep.Sweep.{Sweep}
+use Rattle.papaya_follows.specs.Given.Sweeps.declared.sweep.Sweeping.{Sweeping}
+use Rattle.papaya_follows.specs.Given.Sweeps.declared.sweep.Sweeping.TheVariants as sweeping
 use Rattle.papaya_schedules.specs.declared.call.OneKey.{OneKey}
 use Rattle.papaya_schedules.specs.declared.call.OneKey.TheVariants.{Get, GetKeyValue, ContainsKey, Insert, TryInsert, TryInsertWith, GetOrInsert, GetOrInsertWith, Update, UpdateOrInsert, UpdateOrInsertWith, Compute, Remove, RemoveEntry, RemoveIf}
 use Rattle.papaya_schedules.specs.declared.call.Reply.{Reply}
 use Rattle.papaya_schedules.specs.declared.call.Reply.TheVariants.{Gives, Removes, Aborts, Decides}
-use Rattle.papaya_histories.specs.Given.Late.Kinds.{FitsAsking}
-use Rattle.papaya_histories.specs.Given.Callers.Asked.{Asked}
-use Rattle.papaya_histories.specs.Given.Callers.Pairs.{kind_of}
+use Rattle.papaya_follows.specs.Given.Late.Kinds.{FitsAsking}
+use Rattle.papaya_follows.specs.Given.Callers.Asked.{Asked}
+use Rattle.papaya_follows.specs.Given.Callers.Pairs.{kind_of}
 use Rattle.papaya_effects.specs.Known.{Known}
-use Rattle.papaya_histories.specs.Given.Hands.Asked.{IsQuestion, as_told, given_by}
+use Rattle.papaya_hands.specs.Asked.{IsQuestion, as_told, given_by}
 use Rattle.papaya_named.specs.Machines.{IsFor, SweepIsAt}
 use Rattle.papaya_named.specs.Seen.{fits, is_choice, is_gift, kind_on}
 use Rattle.papaya_named.specs.declared.caller.Stands.TheVariants as far

@@ -1,8 +1,8 @@
 -- What a call is told to answer, by what its machine says.
 use Rattle.std.specs.Prelude.{ℕ, Bool, true, false, Option, Some, None}
 use Rattle.seize_words.specs.Word.{block_in}
-use Rattle.papaya_histories.specs.Given.Tables.declared.node.Node.{Node}
-use Rattle.papaya_histories.specs.Given.Tables.declared.node.Node.TheVariants as node
+use Rattle.papaya_follows.specs.Given.Tables.declared.node.Node.{Node}
+use Rattle.papaya_follows.specs.Given.Tables.declared.node.Node.TheVariants as node
 use Rattle.papaya_raw.specs.declared.machines.answer.KeyAnswer.{KeyAnswer}
 use Rattle.papaya_raw.specs.declared.machines.answer.KeyAnswer.TheVariants as says
 use Rattle.papaya_raw.specs.declared.machines.progress.Answer.{Answer as Said}

@@ -6,6 +6,7 @@ pub use Rattle.papaya_follows.proofs.Given.SeizeRule
 pub use Rattle.papaya_follows.proofs.Given.SeizeSets
 pub use Rattle.papaya_follows.proofs.Given.SeizeEnds
 pub use Rattle.papaya_follows.proofs.Given.SeizeAlone
+pub use Rattle.papaya_follows.proofs.Given.Tables
 pub use Rattle.papaya_follows.proofs.Given.Rule
 pub use Rattle.papaya_follows.proofs.Given.Points
 pub use Rattle.papaya_follows.proofs.Given.Late

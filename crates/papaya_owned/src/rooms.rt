@@ -1,7 +1,7 @@
 //! Room for further pairs in one owner's map: a reservation, run to its end.
 ghost use Rattle.std.specs.Prelude.{List};
 ghost use Rattle.papaya_owned.specs.Ending.{HasCome};
-ghost use Rattle.papaya_owned.specs.Given.Reserves.Reserve.{reserving};
+ghost use Rattle.papaya_whole.specs.Given.Reserves.Reserve.{reserving};
 ghost use Rattle.papaya_owned.specs.Machines.{for_room_plan};
 ghost use Rattle.papaya_owned.specs.Owned.{Holds};
 ghost use Rattle.papaya_owned.specs.Rooms.{RoomBy};

@@ -1,56 +1,56 @@
 -- Before all events, between the steps of calls, and where an event is over, the moment says what calls on whole maps have come to, and what they are for.
 use Rattle.std.specs.Prelude.{◌≡◌, ℕ, ◌+◌, ◌≤◌, ◌==◌, nat_lt, Bool, true, false, cond, List, [], ◌∷◌, length, find, Option, Some, if◌then◌else◌, ◌⊎◌}
 use Rattle.std.proofs.Common.{refl, ap, sym, subst, ◌∙◌, arith, inl, inr}
-use Rattle.papaya_histories.specs.Given.Tables.Chunks.{is_incremental}
-use Rattle.papaya_histories.specs.Given.Tables.declared.setting.Setting.{Setting}
-use Rattle.papaya_histories.specs.Given.Resize.Sum.{summing}
-use Rattle.papaya_histories.specs.Given.Resize.declared.sum.Sum.{Sum}
-use Rattle.papaya_histories.specs.Given.Reserves.declared.reserve.Reserving.{Reserving}
-use Rattle.papaya_histories.specs.Given.Reserves.declared.reserve.Reserving.TheVariants as reserving
-use Rattle.papaya_histories.specs.Given.Sweeps.SweepPoints.{next_at, after_next}
-use Rattle.papaya_histories.specs.Given.Sweeps.declared.sweep.Purpose.{Purpose}
-use Rattle.papaya_histories.specs.Given.Sweeps.declared.sweep.Purpose.TheVariants.{Walks}
-use Rattle.papaya_histories.specs.Given.Sweeps.declared.sweep.Sweep.{Sweep}
-use Rattle.papaya_histories.specs.Given.Sweeps.declared.sweep.Sweeping.{Sweeping}
-use Rattle.papaya_histories.specs.Given.Sweeps.declared.sweep.Sweeping.TheVariants as sweeping
-use Rattle.papaya_histories.specs.Given.Runs.Same.{is_same}
-use Rattle.papaya_histories.specs.Given.Schedules.declared.call.Call.{Call}
-use Rattle.papaya_histories.specs.Given.Schedules.declared.call.Call.TheVariants as call
-use Rattle.papaya_histories.specs.Given.Schedules.declared.outcome.Outcome.{Outcome}
-use Rattle.papaya_histories.specs.Given.Schedules.After.{moment, moments_from, comes_to}
-use Rattle.papaya_histories.specs.Given.Schedules.Beginning.{fresh_call, with_call}
-use Rattle.papaya_histories.specs.Given.Schedules.Entry.{Entry}
-use Rattle.papaya_histories.specs.Given.Schedules.Lists.{OneOf}
-use Rattle.papaya_histories.specs.Given.Schedules.Moment.{Place, MapThere, UnderWay as CallThere, Moment}
-use Rattle.papaya_histories.specs.Given.Schedules.Views.{call_of, is_in_map, finite_map, first_or, first_of}
-use Rattle.papaya_histories.specs.Given.Rule.Maps.{spot_of}
-use Rattle.papaya_histories.specs.Given.Callers.OverAll.{CallOverAll, begun_over_all, gone_on}
-use Rattle.papaya_histories.specs.Given.Callers.Rooms.{CallForRoom}
-use Rattle.papaya_histories.specs.Given.Callers.Together.{UnderWay, OnKey, ForRoom, Counting, OverAll, in_slot}
-use Rattle.papaya_histories.specs.Given.Effects.Known.{Known}
-use Rattle.papaya_histories.specs.Given.Executor.Beginning.{Begins}
-use Rattle.papaya_histories.specs.Given.Executor.IsAt.{Scene, IsAt, slot_of}
-use Rattle.papaya_histories.specs.Given.Executor.Replying.{scene_with}
-use Rattle.papaya_histories.specs.Given.Executor.declared.executor.Executor.{Executor}
-use Rattle.papaya_histories.specs.Given.Finishes.Maps.{Standing, with_call as with_in}
-use Rattle.papaya_histories.specs.Given.Follows.Calling.{come_to}
-use Rattle.papaya_histories.specs.Given.Follows.Shows.{Shows}
-use Rattle.papaya_histories.proofs.Given.Follows.Called.{called_as, some_is, sweep_called}
-use Rattle.papaya_histories.proofs.Given.Follows.Calling.{is_same_refl, come, begins_with, come_with}
-use Rattle.papaya_histories.proofs.Given.Follows.Steps.{one_of}
-use Rattle.papaya_histories.proofs.Given.Hands.Asking.{which}
-use Rattle.papaya_histories.proofs.Given.Hands.Beginning.{runs_begin_so}
-use Rattle.papaya_histories.specs.Had.{HadThen}
-use Rattle.papaya_histories.specs.Histories.{IsWithin}
-use Rattle.papaya_histories.proofs.Calling.{came_so}
-use Rattle.papaya_histories.proofs.Found.{map_alike}
-use Rattle.papaya_histories.proofs.Logs.{last_there, moments_grow}
-use Rattle.papaya_histories.proofs.Now.{now_had}
-use Rattle.papaya_histories.specs.Given.Others.After.{ShowsAfter}
-use Rattle.papaya_histories.proofs.Given.Others.Walks.{fewer_calls, with_calls}
+use Rattle.papaya_finds.specs.Given.Tables.Chunks.{is_incremental}
+use Rattle.papaya_finds.specs.Given.Tables.declared.setting.Setting.{Setting}
+use Rattle.papaya_finds.specs.Given.Resize.Sum.{summing}
+use Rattle.papaya_finds.specs.Given.Resize.declared.sum.Sum.{Sum}
+use Rattle.papaya_finds.specs.Given.Reserves.declared.reserve.Reserving.{Reserving}
+use Rattle.papaya_finds.specs.Given.Reserves.declared.reserve.Reserving.TheVariants as reserving
+use Rattle.papaya_finds.specs.Given.Sweeps.SweepPoints.{next_at, after_next}
+use Rattle.papaya_finds.specs.Given.Sweeps.declared.sweep.Purpose.{Purpose}
+use Rattle.papaya_finds.specs.Given.Sweeps.declared.sweep.Purpose.TheVariants.{Walks}
+use Rattle.papaya_finds.specs.Given.Sweeps.declared.sweep.Sweep.{Sweep}
+use Rattle.papaya_finds.specs.Given.Sweeps.declared.sweep.Sweeping.{Sweeping}
+use Rattle.papaya_finds.specs.Given.Sweeps.declared.sweep.Sweeping.TheVariants as sweeping
+use Rattle.papaya_finds.specs.Given.Runs.Same.{is_same}
+use Rattle.papaya_finds.specs.Given.Schedules.declared.call.Call.{Call}
+use Rattle.papaya_finds.specs.Given.Schedules.declared.call.Call.TheVariants as call
+use Rattle.papaya_finds.specs.Given.Schedules.declared.outcome.Outcome.{Outcome}
+use Rattle.papaya_finds.specs.Given.Schedules.After.{moment, moments_from, comes_to}
+use Rattle.papaya_finds.specs.Given.Schedules.Beginning.{fresh_call, with_call}
+use Rattle.papaya_finds.specs.Given.Schedules.Entry.{Entry}
+use Rattle.papaya_finds.specs.Given.Schedules.Lists.{OneOf}
+use Rattle.papaya_finds.specs.Given.Schedules.Moment.{Place, MapThere, UnderWay as CallThere, Moment}
+use Rattle.papaya_finds.specs.Given.Schedules.Views.{call_of, is_in_map, finite_map, first_or, first_of}
+use Rattle.papaya_finds.specs.Given.Rule.Maps.{spot_of}
+use Rattle.papaya_finds.specs.Given.Callers.OverAll.{CallOverAll, begun_over_all, gone_on}
+use Rattle.papaya_finds.specs.Given.Callers.Rooms.{CallForRoom}
+use Rattle.papaya_finds.specs.Given.Callers.Together.{UnderWay, OnKey, ForRoom, Counting, OverAll, in_slot}
+use Rattle.papaya_finds.specs.Given.Effects.Known.{Known}
+use Rattle.papaya_finds.specs.Given.Executor.Beginning.{Begins}
+use Rattle.papaya_finds.specs.Given.Executor.IsAt.{Scene, IsAt, slot_of}
+use Rattle.papaya_finds.specs.Given.Executor.Replying.{scene_with}
+use Rattle.papaya_finds.specs.Given.Executor.declared.executor.Executor.{Executor}
+use Rattle.papaya_finds.specs.Given.Finishes.Maps.{Standing, with_call as with_in}
+use Rattle.papaya_finds.specs.Given.Follows.Calling.{come_to}
+use Rattle.papaya_finds.specs.Given.Follows.Shows.{Shows}
+use Rattle.papaya_finds.proofs.Given.Follows.Called.{called_as, some_is, sweep_called}
+use Rattle.papaya_finds.proofs.Given.Follows.Calling.{is_same_refl, come, begins_with, come_with}
+use Rattle.papaya_finds.proofs.Given.Follows.Steps.{one_of}
+use Rattle.papaya_finds.proofs.Given.Hands.Asking.{which}
+use Rattle.papaya_finds.proofs.Given.Hands.Beginning.{runs_begin_so}
+use Rattle.papaya_finds.specs.Given.Histories.Had.{HadThen}
+use Rattle.papaya_finds.specs.Given.Histories.Histories.{IsWithin}
+use Rattle.papaya_finds.proofs.Given.Histories.Calling.{came_so}
+use Rattle.papaya_finds.proofs.Given.Histories.Found.{map_alike}
+use Rattle.papaya_finds.proofs.Given.Histories.Logs.{last_there, moments_grow}
+use Rattle.papaya_finds.proofs.Given.Histories.Now.{now_had}
+use Rattle.papaya_finds.specs.Given.Others.After.{ShowsAfter}
+use Rattle.papaya_finds.proofs.Given.Others.Walks.{fewer_calls, with_calls}
 use Rattle.papaya_purposes.specs.Kept.{TellsNone, PurposesBegin, CallsBeginPurposes, WalksGoOnPurposes, CallsComeToPurposes, EventsKeepPurposes, FirstStepsChangePairsFirst, StillStepsChangePairsFirst, RemovalsChangePairsFirst}
 use Rattle.papaya_purposes.specs.Purposes.{IsFor, HasAdded, RoomAt, HasMet, TellsDone, KeysOf, HasSwept, HasCome}
-use Rattle.papaya_named.specs.Machines.{IsBefore}
+use Rattle.papaya_finds.specs.Given.Named.Machines.{IsBefore}
 use Rattle.papaya_purposes.proofs.For.{sweep_for}
 use Rattle.papaya_purposes.proofs.KeysOn.{keys_next}
 use Rattle.papaya_purposes.proofs.Needs.{needs_wider, reserves_wider}

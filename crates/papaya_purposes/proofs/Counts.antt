@@ -1,35 +1,35 @@
 -- A step of a counting that is under way, in the words of a run.
 use Rattle.std.specs.Prelude.{◌≡◌, ℕ, suc, ◌≤◌, Bool, List, length, Option, Some}
 use Rattle.std.proofs.Common.{ap, sym, subst, ◌∙◌}
-use Rattle.papaya_histories.specs.Given.SeizeWords.Mem.{Mem, word_at}
-use Rattle.papaya_histories.specs.Given.SeizeWords.declared.at.At.TheVariants.{Word}
-use Rattle.papaya_histories.proofs.Given.SeizeRule.Rows.Leaving.{steps_back}
-use Rattle.papaya_histories.specs.Given.Seize.declared.progress.Progress.{Progress as Counted}
-use Rattle.papaya_histories.specs.Given.Seize.declared.progress.Progress.TheVariants as counting
-use Rattle.papaya_histories.specs.Given.Tables.declared.node.Node.{Node}
-use Rattle.papaya_histories.specs.Given.Tables.declared.setting.Setting.{Setting}
-use Rattle.papaya_histories.specs.Given.Resize.Sum.{sum_plan}
-use Rattle.papaya_histories.specs.Given.Resize.declared.sum.Sum.{Sum}
-use Rattle.papaya_histories.specs.Given.Raw.Machine.{machine_plan, counted}
-use Rattle.papaya_histories.specs.Given.Raw.declared.machines.machine.Machine.{Machine}
-use Rattle.papaya_histories.specs.Given.Raw.declared.machines.machine.Machine.TheVariants as kinds
-use Rattle.papaya_histories.specs.Given.Raw.declared.machines.progress.Answer.TheVariants as answers
-use Rattle.papaya_histories.specs.Given.Raw.declared.machines.progress.Progress.{Progress}
-use Rattle.papaya_histories.specs.Given.Raw.declared.machines.progress.Progress.TheVariants as progress
-use Rattle.papaya_histories.specs.Given.Schedules.After.{moment, moments_from}
-use Rattle.papaya_histories.specs.Given.Schedules.Counts.{Counts}
-use Rattle.papaya_histories.specs.Given.Schedules.Entry.{Entry}
-use Rattle.papaya_histories.specs.Given.Schedules.Moment.{UnderWay as CallThere, Moment}
-use Rattle.papaya_histories.specs.Given.Points.FactsTables.{CountsShards, SumFacts}
-use Rattle.papaya_histories.specs.Given.Callers.Together.{UnderWay, Counting, in_slot}
-use Rattle.papaya_histories.specs.Given.Executor.IsAt.{Scene, IsAt, slot_of}
-use Rattle.papaya_histories.specs.Given.Executor.Stepping.{StepsFrom}
-use Rattle.papaya_histories.specs.Given.Executor.declared.executor.Executor.{Executor}
-use Rattle.papaya_histories.proofs.Given.Executor.Forgotten.{as_step}
-use Rattle.papaya_histories.specs.Given.Finishes.Machines.{GoesOnAs}
-use Rattle.papaya_histories.specs.Given.Finishes.Maps.{Standing}
-use Rattle.papaya_histories.specs.Given.Teller.declared.changed.Changed.TheVariants.{Nothing}
-use Rattle.papaya_histories.proofs.Logs.{last_there}
+use Rattle.papaya_finds.specs.Given.SeizeWords.Mem.{Mem, word_at}
+use Rattle.papaya_finds.specs.Given.SeizeWords.declared.at.At.TheVariants.{Word}
+use Rattle.papaya_finds.proofs.Given.SeizeRule.Rows.Leaving.{steps_back}
+use Rattle.papaya_finds.specs.Given.Seize.declared.progress.Progress.{Progress as Counted}
+use Rattle.papaya_finds.specs.Given.Seize.declared.progress.Progress.TheVariants as counting
+use Rattle.papaya_finds.specs.Given.Tables.declared.node.Node.{Node}
+use Rattle.papaya_finds.specs.Given.Tables.declared.setting.Setting.{Setting}
+use Rattle.papaya_finds.specs.Given.Resize.Sum.{sum_plan}
+use Rattle.papaya_finds.specs.Given.Resize.declared.sum.Sum.{Sum}
+use Rattle.papaya_finds.specs.Given.Raw.Machine.{machine_plan, counted}
+use Rattle.papaya_finds.specs.Given.Raw.declared.machines.machine.Machine.{Machine}
+use Rattle.papaya_finds.specs.Given.Raw.declared.machines.machine.Machine.TheVariants as kinds
+use Rattle.papaya_finds.specs.Given.Raw.declared.machines.progress.Answer.TheVariants as answers
+use Rattle.papaya_finds.specs.Given.Raw.declared.machines.progress.Progress.{Progress}
+use Rattle.papaya_finds.specs.Given.Raw.declared.machines.progress.Progress.TheVariants as progress
+use Rattle.papaya_finds.specs.Given.Schedules.After.{moment, moments_from}
+use Rattle.papaya_finds.specs.Given.Schedules.Counts.{Counts}
+use Rattle.papaya_finds.specs.Given.Schedules.Entry.{Entry}
+use Rattle.papaya_finds.specs.Given.Schedules.Moment.{UnderWay as CallThere, Moment}
+use Rattle.papaya_finds.specs.Given.Points.FactsTables.{CountsShards, SumFacts}
+use Rattle.papaya_finds.specs.Given.Callers.Together.{UnderWay, Counting, in_slot}
+use Rattle.papaya_finds.specs.Given.Executor.IsAt.{Scene, IsAt, slot_of}
+use Rattle.papaya_finds.specs.Given.Executor.Stepping.{StepsFrom}
+use Rattle.papaya_finds.specs.Given.Executor.declared.executor.Executor.{Executor}
+use Rattle.papaya_finds.proofs.Given.Executor.Forgotten.{as_step}
+use Rattle.papaya_finds.specs.Given.Finishes.Machines.{GoesOnAs}
+use Rattle.papaya_finds.specs.Given.Finishes.Maps.{Standing}
+use Rattle.papaya_finds.specs.Given.Teller.declared.changed.Changed.TheVariants.{Nothing}
+use Rattle.papaya_finds.proofs.Given.Histories.Logs.{last_there}
 use Rattle.papaya_shards.specs.ShardWords.{ShowsShards}
 use Rattle.papaya_purposes.specs.Purposes.{HasAdded}
 use Rattle.papaya_purposes.specs.Shards.{NoneCounted}

@@ -2,46 +2,46 @@
 use Rattle.std.specs.Prelude.{◌≡◌, ℕ, zero, suc, ◌+◌, ◌<◌, ◌≤◌, nat_le, Bool, true, false, cond, List, [], ◌∷◌, ◌++◌, filter, Option, Some, ◌⊎◌}
 use Rattle.std.proofs.Common.{refl, ap, sym, subst, ◌∙◌, arith, inl, inr}
 use Rattle.std.proofs.lemmas.Bool.{cases_eq}
-use Rattle.papaya_histories.specs.Given.Tables.Lengths.{len_of}
-use Rattle.papaya_histories.specs.Given.Tables.declared.node.Node.{Node}
-use Rattle.papaya_histories.specs.Given.Resize.declared.outcome.Outcome.{Outcome}
-use Rattle.papaya_histories.specs.Given.Resize.declared.outcome.Outcome.TheVariants as outcome
-use Rattle.papaya_histories.specs.Given.Raw.Progress.{of_outcome}
-use Rattle.papaya_histories.specs.Given.Raw.declared.machines.progress.Answer.TheVariants as answers
-use Rattle.papaya_histories.specs.Given.Raw.declared.machines.progress.Progress.{Progress}
-use Rattle.papaya_histories.specs.Given.Raw.declared.machines.progress.Progress.TheVariants as progress
-use Rattle.papaya_histories.specs.Given.Schedules.declared.call.Answer.TheVariants.{Completed}
-use Rattle.papaya_histories.specs.Given.Schedules.declared.call.Call.{Call}
-use Rattle.papaya_histories.specs.Given.Schedules.declared.call.Call.TheVariants as call
-use Rattle.papaya_histories.specs.Given.Schedules.declared.outcome.Outcome.TheVariants.{Answered}
-use Rattle.papaya_histories.specs.Given.Schedules.After.{moments_from}
-use Rattle.papaya_histories.specs.Given.Schedules.Counts.{Counts}
-use Rattle.papaya_histories.specs.Given.Schedules.Entry.{Entry}
-use Rattle.papaya_histories.specs.Given.Schedules.Lists.{OneOf}
-use Rattle.papaya_histories.specs.Given.Schedules.Moment.{UnderWay as CallThere, Stage, TableThere, Moment}
-use Rattle.papaya_histories.specs.Given.Schedules.Steps.{met_from}
-use Rattle.papaya_histories.specs.Given.Schedules.Sweeps.{Fits, roots_since, FindsRoom}
-use Rattle.papaya_histories.specs.Given.Schedules.Terms.{Terms, shards_of}
-use Rattle.papaya_histories.specs.Given.Schedules.Views.{call_of, first_or, first_of, tables_of}
-use Rattle.papaya_histories.specs.Given.Rule.Chart.{Chart}
-use Rattle.papaya_histories.specs.Given.Rule.InWorld.{IsMapIn}
-use Rattle.papaya_histories.proofs.Given.Points.MovedLasts.{moved_lasts}
-use Rattle.papaya_histories.specs.Given.Callers.Rooms.{CallForRoom}
-use Rattle.papaya_histories.specs.Given.Callers.Sights.{seen_by}
-use Rattle.papaya_histories.specs.Given.Callers.Together.{UnderWay, OnKey, ForRoom, Counting, OverAll, in_slot}
-use Rattle.papaya_histories.proofs.Given.Callers.Sights.Seen.{map_seen}
-use Rattle.papaya_histories.proofs.Given.Callers.Together.At.{at_same}
-use Rattle.papaya_histories.proofs.Given.Callers.Together.Fits.{map_in_slot}
-use Rattle.papaya_histories.specs.Given.Effects.Known.{Known}
-use Rattle.papaya_histories.specs.Given.Executor.IsAt.{Scene, IsAt, slot_of}
-use Rattle.papaya_histories.specs.Given.Executor.Stepping.{StepsFrom, StepLeads}
-use Rattle.papaya_histories.specs.Given.Executor.declared.executor.Executor.{Executor}
-use Rattle.papaya_histories.specs.Given.Finishes.Machines.{machine_of}
-use Rattle.papaya_histories.specs.Given.Finishes.Maps.{Standing}
-use Rattle.papaya_histories.specs.Given.Follows.Maps.{tables_to, ShowsTables}
-use Rattle.papaya_histories.proofs.Given.Follows.Steps.{WentTo, made_so, is_inside, is_sight}
-use Rattle.papaya_histories.proofs.Logs.{each_of}
-use Rattle.papaya_histories.specs.Given.Moments.Whole.{ShowsWhole}
+use Rattle.papaya_finds.specs.Given.Tables.Lengths.{len_of}
+use Rattle.papaya_finds.specs.Given.Tables.declared.node.Node.{Node}
+use Rattle.papaya_finds.specs.Given.Resize.declared.outcome.Outcome.{Outcome}
+use Rattle.papaya_finds.specs.Given.Resize.declared.outcome.Outcome.TheVariants as outcome
+use Rattle.papaya_finds.specs.Given.Raw.Progress.{of_outcome}
+use Rattle.papaya_finds.specs.Given.Raw.declared.machines.progress.Answer.TheVariants as answers
+use Rattle.papaya_finds.specs.Given.Raw.declared.machines.progress.Progress.{Progress}
+use Rattle.papaya_finds.specs.Given.Raw.declared.machines.progress.Progress.TheVariants as progress
+use Rattle.papaya_finds.specs.Given.Schedules.declared.call.Answer.TheVariants.{Completed}
+use Rattle.papaya_finds.specs.Given.Schedules.declared.call.Call.{Call}
+use Rattle.papaya_finds.specs.Given.Schedules.declared.call.Call.TheVariants as call
+use Rattle.papaya_finds.specs.Given.Schedules.declared.outcome.Outcome.TheVariants.{Answered}
+use Rattle.papaya_finds.specs.Given.Schedules.After.{moments_from}
+use Rattle.papaya_finds.specs.Given.Schedules.Counts.{Counts}
+use Rattle.papaya_finds.specs.Given.Schedules.Entry.{Entry}
+use Rattle.papaya_finds.specs.Given.Schedules.Lists.{OneOf}
+use Rattle.papaya_finds.specs.Given.Schedules.Moment.{UnderWay as CallThere, Stage, TableThere, Moment}
+use Rattle.papaya_finds.specs.Given.Schedules.Steps.{met_from}
+use Rattle.papaya_finds.specs.Given.Schedules.Sweeps.{Fits, roots_since, FindsRoom}
+use Rattle.papaya_finds.specs.Given.Schedules.Terms.{Terms, shards_of}
+use Rattle.papaya_finds.specs.Given.Schedules.Views.{call_of, first_or, first_of, tables_of}
+use Rattle.papaya_finds.specs.Given.Rule.Chart.{Chart}
+use Rattle.papaya_finds.specs.Given.Rule.InWorld.{IsMapIn}
+use Rattle.papaya_finds.proofs.Given.Points.MovedLasts.{moved_lasts}
+use Rattle.papaya_finds.specs.Given.Callers.Rooms.{CallForRoom}
+use Rattle.papaya_finds.specs.Given.Callers.Sights.{seen_by}
+use Rattle.papaya_finds.specs.Given.Callers.Together.{UnderWay, OnKey, ForRoom, Counting, OverAll, in_slot}
+use Rattle.papaya_finds.proofs.Given.Callers.Sights.Seen.{map_seen}
+use Rattle.papaya_finds.proofs.Given.Callers.Together.At.{at_same}
+use Rattle.papaya_finds.proofs.Given.Callers.Together.Fits.{map_in_slot}
+use Rattle.papaya_finds.specs.Given.Effects.Known.{Known}
+use Rattle.papaya_finds.specs.Given.Executor.IsAt.{Scene, IsAt, slot_of}
+use Rattle.papaya_finds.specs.Given.Executor.Stepping.{StepsFrom, StepLeads}
+use Rattle.papaya_finds.specs.Given.Executor.declared.executor.Executor.{Executor}
+use Rattle.papaya_finds.specs.Given.Finishes.Machines.{machine_of}
+use Rattle.papaya_finds.specs.Given.Finishes.Maps.{Standing}
+use Rattle.papaya_finds.specs.Given.Follows.Maps.{tables_to, ShowsTables}
+use Rattle.papaya_finds.proofs.Given.Follows.Steps.{WentTo, made_so, is_inside, is_sight}
+use Rattle.papaya_finds.proofs.Given.Histories.Logs.{each_of}
+use Rattle.papaya_finds.specs.Given.Moments.Whole.{ShowsWhole}
 use Rattle.papaya_purposes.specs.Purposes.{IsFor, HasMet, ShowsPurposes}
 use Rattle.papaya_purposes.specs.Shards.{ReadsShards}
 use Rattle.papaya_purposes.specs.Swept.{ReservationsAreSwept}

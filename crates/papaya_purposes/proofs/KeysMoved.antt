@@ -3,47 +3,47 @@ use Rattle.std.specs.Prelude.{◌≡◌, ℕ, ◌<◌, ◌≤◌, Bool, true, Li
 use Rattle.std.specs.List.{AllByRecursion}
 use Rattle.std.proofs.Common.{refl, ap, sym, subst, ◌∙◌, inl, inr}
 use Rattle.std.proofs.lemmas.Bool.{cases_eq}
-use Rattle.papaya_histories.specs.Given.SeizeWords.Mem.{Mem, Took, value_at}
-use Rattle.papaya_histories.specs.Given.SeizeWords.Plan.{Steps}
-use Rattle.papaya_histories.proofs.Given.SeizeRule.Rows.Leaving.{steps_back}
-use Rattle.papaya_histories.specs.Given.Seize.World.{with_at}
-use Rattle.papaya_histories.specs.Given.Tables.Chunks.{is_incremental}
-use Rattle.papaya_histories.specs.Given.Tables.declared.node.Node.{Node}
-use Rattle.papaya_histories.specs.Given.Sweeps.Sweep.{sweep_plan}
-use Rattle.papaya_histories.specs.Given.Sweeps.declared.sweep.Purpose.TheVariants.{Walks}
-use Rattle.papaya_histories.specs.Given.Sweeps.declared.sweep.Sweep.{Sweep}
-use Rattle.papaya_histories.specs.Given.Sweeps.declared.sweep.Swept.{Swept}
-use Rattle.papaya_histories.specs.Given.Raw.Machine.{machine_plan, swept}
-use Rattle.papaya_histories.specs.Given.Raw.Progress.{of_swept}
-use Rattle.papaya_histories.specs.Given.Raw.declared.machines.machine.Machine.TheVariants as kinds
-use Rattle.papaya_histories.specs.Given.Raw.declared.machines.progress.Progress.{Progress}
-use Rattle.papaya_histories.specs.Given.Raw.declared.machines.progress.Progress.TheVariants as progress
-use Rattle.papaya_histories.specs.Given.Schedules.Moment.{Moment}
-use Rattle.papaya_histories.specs.Given.Rule.Chart.{Chart}
-use Rattle.papaya_histories.specs.Given.Rule.InWorld.{Moved}
-use Rattle.papaya_histories.specs.Given.Rule.Maps.{spot_of}
-use Rattle.papaya_histories.specs.Given.Rule.Words.{Blocks}
-use Rattle.papaya_histories.specs.Given.Points.Steps.{AreLawful}
-use Rattle.papaya_histories.specs.Given.Late.Covers.{NamesPair}
-use Rattle.papaya_histories.specs.Given.Callers.OverAll.{CallOverAll}
-use Rattle.papaya_histories.specs.Given.Callers.Sights.{Sight, seen_by}
-use Rattle.papaya_histories.specs.Given.Callers.Together.{UnderWay, OnKey, ForRoom, Counting, OverAll, Together}
-use Rattle.papaya_histories.proofs.Given.Callers.Together.At.{at_same}
-use Rattle.papaya_histories.specs.Given.Effects.Known.{Known}
-use Rattle.papaya_histories.specs.Given.Executor.IsAt.{Scene, IsAt, slot_of}
-use Rattle.papaya_histories.specs.Given.Executor.Stepping.{StepsFrom, StepLeads}
-use Rattle.papaya_histories.specs.Given.Executor.declared.executor.Executor.{Executor}
-use Rattle.papaya_histories.proofs.Given.Executor.Forgotten.{as_step}
-use Rattle.papaya_histories.specs.Given.Finishes.Maps.{Standing}
-use Rattle.papaya_histories.specs.Given.Follows.Shows.{Shows}
-use Rattle.papaya_histories.proofs.Given.Follows.Steps.{WentTo, DidSo, one_of}
-use Rattle.papaya_histories.specs.Given.Moments.Whole.{ShowsWhole}
-use Rattle.papaya_histories.specs.Given.Teller.declared.changed.Changed.TheVariants.{Nothing}
-use Rattle.papaya_histories.proofs.Steps.{to}
+use Rattle.papaya_finds.specs.Given.SeizeWords.Mem.{Mem, Took, value_at}
+use Rattle.papaya_finds.specs.Given.SeizeWords.Plan.{Steps}
+use Rattle.papaya_finds.proofs.Given.SeizeRule.Rows.Leaving.{steps_back}
+use Rattle.papaya_finds.specs.Given.Seize.World.{with_at}
+use Rattle.papaya_finds.specs.Given.Tables.Chunks.{is_incremental}
+use Rattle.papaya_finds.specs.Given.Tables.declared.node.Node.{Node}
+use Rattle.papaya_finds.specs.Given.Sweeps.Sweep.{sweep_plan}
+use Rattle.papaya_finds.specs.Given.Sweeps.declared.sweep.Purpose.TheVariants.{Walks}
+use Rattle.papaya_finds.specs.Given.Sweeps.declared.sweep.Sweep.{Sweep}
+use Rattle.papaya_finds.specs.Given.Sweeps.declared.sweep.Swept.{Swept}
+use Rattle.papaya_finds.specs.Given.Raw.Machine.{machine_plan, swept}
+use Rattle.papaya_finds.specs.Given.Raw.Progress.{of_swept}
+use Rattle.papaya_finds.specs.Given.Raw.declared.machines.machine.Machine.TheVariants as kinds
+use Rattle.papaya_finds.specs.Given.Raw.declared.machines.progress.Progress.{Progress}
+use Rattle.papaya_finds.specs.Given.Raw.declared.machines.progress.Progress.TheVariants as progress
+use Rattle.papaya_finds.specs.Given.Schedules.Moment.{Moment}
+use Rattle.papaya_finds.specs.Given.Rule.Chart.{Chart}
+use Rattle.papaya_finds.specs.Given.Rule.InWorld.{Moved}
+use Rattle.papaya_finds.specs.Given.Rule.Maps.{spot_of}
+use Rattle.papaya_finds.specs.Given.Rule.Words.{Blocks}
+use Rattle.papaya_finds.specs.Given.Points.Steps.{AreLawful}
+use Rattle.papaya_finds.specs.Given.Late.Covers.{NamesPair}
+use Rattle.papaya_finds.specs.Given.Callers.OverAll.{CallOverAll}
+use Rattle.papaya_finds.specs.Given.Callers.Sights.{Sight, seen_by}
+use Rattle.papaya_finds.specs.Given.Callers.Together.{UnderWay, OnKey, ForRoom, Counting, OverAll, Together}
+use Rattle.papaya_finds.proofs.Given.Callers.Together.At.{at_same}
+use Rattle.papaya_finds.specs.Given.Effects.Known.{Known}
+use Rattle.papaya_finds.specs.Given.Executor.IsAt.{Scene, IsAt, slot_of}
+use Rattle.papaya_finds.specs.Given.Executor.Stepping.{StepsFrom, StepLeads}
+use Rattle.papaya_finds.specs.Given.Executor.declared.executor.Executor.{Executor}
+use Rattle.papaya_finds.proofs.Given.Executor.Forgotten.{as_step}
+use Rattle.papaya_finds.specs.Given.Finishes.Maps.{Standing}
+use Rattle.papaya_finds.specs.Given.Follows.Shows.{Shows}
+use Rattle.papaya_finds.proofs.Given.Follows.Steps.{WentTo, DidSo, one_of}
+use Rattle.papaya_finds.specs.Given.Moments.Whole.{ShowsWhole}
+use Rattle.papaya_finds.specs.Given.Teller.declared.changed.Changed.TheVariants.{Nothing}
+use Rattle.papaya_finds.proofs.Given.Histories.Steps.{to}
 use Rattle.papaya_purposes.specs.Keys.{KeysAt, AreKeyed}
 use Rattle.papaya_purposes.specs.Kept.{ShowsNone}
 use Rattle.papaya_purposes.specs.Purposes.{KeysOf}
-use Rattle.papaya_named.specs.Machines.{IsBefore}
+use Rattle.papaya_finds.specs.Given.Named.Machines.{IsBefore}
 use Rattle.papaya_purposes.proofs.KeysCarried.{StandsMoved, stood_moved, keys_carried, keyed_carried, its_map, since, LeadsOn, leads_on}
 use Rattle.papaya_purposes.proofs.KeysOn.{StandsLow}
 use Rattle.papaya_purposes.proofs.Pairs.{pair_swept}

@@ -39,3 +39,4 @@ pub mod FindsRoom
 pub mod Nothing
 pub mod Elsewhere
 pub mod ShardsRead
+pub mod Given

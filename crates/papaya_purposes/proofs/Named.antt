@@ -2,29 +2,29 @@
 use Rattle.std.specs.Prelude.{◌≡◌, ℕ, ◌<◌, Bool, true, List, Option, Some}
 use Rattle.std.proofs.Common.{refl, ap, sym, ◌∙◌, inl, inr}
 use Rattle.std.proofs.lemmas.Bool.{cases_lt}
-use Rattle.papaya_histories.specs.Given.Seize.World.{with_at}
-use Rattle.papaya_histories.specs.Given.Tables.declared.node.Node.{Node}
-use Rattle.papaya_histories.specs.Given.Sweeps.declared.sweep.Sweep.{Sweep}
-use Rattle.papaya_histories.specs.Given.Sweeps.declared.sweep.Swept.{Swept}
-use Rattle.papaya_histories.specs.Given.Raw.declared.machines.progress.Progress.{Progress}
-use Rattle.papaya_histories.specs.Given.Schedules.Entry.{Entry}
-use Rattle.papaya_histories.specs.Given.Schedules.Moment.{Moment}
-use Rattle.papaya_histories.specs.Given.Late.Covers.{NamesPair}
-use Rattle.papaya_histories.specs.Given.Callers.OverAll.{CallOverAll}
-use Rattle.papaya_histories.specs.Given.Callers.Sights.{Sight, IsSight}
-use Rattle.papaya_histories.specs.Given.Callers.Together.{UnderWay}
-use Rattle.papaya_histories.proofs.Given.Callers.Together.At.{at_same}
-use Rattle.papaya_histories.specs.Given.Effects.Known.{Known}
-use Rattle.papaya_histories.specs.Given.Effects.declared.role.Role.TheVariants as role
-use Rattle.papaya_histories.specs.Given.Executor.IsAt.{Scene, IsAt, slot_of}
-use Rattle.papaya_histories.specs.Given.Executor.Stepping.{StepLeads}
-use Rattle.papaya_histories.specs.Given.Executor.declared.executor.Executor.{Executor}
-use Rattle.papaya_histories.specs.Given.Finishes.Sweeps.{SweepStepsAmong}
-use Rattle.papaya_histories.specs.Given.Finishes.Maps.{Standing}
-use Rattle.papaya_histories.proofs.Given.Follows.Steps.{made_so, is_inside, is_sight}
-use Rattle.papaya_histories.specs.Answers.{NamesPair as NamesNumber}
-use Rattle.papaya_histories.proofs.Roles.{named_by}
-use Rattle.papaya_histories.specs.Given.Moments.Whole.{ShowsWhole}
+use Rattle.papaya_finds.specs.Given.Seize.World.{with_at}
+use Rattle.papaya_finds.specs.Given.Tables.declared.node.Node.{Node}
+use Rattle.papaya_finds.specs.Given.Sweeps.declared.sweep.Sweep.{Sweep}
+use Rattle.papaya_finds.specs.Given.Sweeps.declared.sweep.Swept.{Swept}
+use Rattle.papaya_finds.specs.Given.Raw.declared.machines.progress.Progress.{Progress}
+use Rattle.papaya_finds.specs.Given.Schedules.Entry.{Entry}
+use Rattle.papaya_finds.specs.Given.Schedules.Moment.{Moment}
+use Rattle.papaya_finds.specs.Given.Late.Covers.{NamesPair}
+use Rattle.papaya_finds.specs.Given.Callers.OverAll.{CallOverAll}
+use Rattle.papaya_finds.specs.Given.Callers.Sights.{Sight, IsSight}
+use Rattle.papaya_finds.specs.Given.Callers.Together.{UnderWay}
+use Rattle.papaya_finds.proofs.Given.Callers.Together.At.{at_same}
+use Rattle.papaya_finds.specs.Given.Effects.Known.{Known}
+use Rattle.papaya_finds.specs.Given.Effects.declared.role.Role.TheVariants as role
+use Rattle.papaya_finds.specs.Given.Executor.IsAt.{Scene, IsAt, slot_of}
+use Rattle.papaya_finds.specs.Given.Executor.Stepping.{StepLeads}
+use Rattle.papaya_finds.specs.Given.Executor.declared.executor.Executor.{Executor}
+use Rattle.papaya_finds.specs.Given.Finishes.Sweeps.{SweepStepsAmong}
+use Rattle.papaya_finds.specs.Given.Finishes.Maps.{Standing}
+use Rattle.papaya_finds.proofs.Given.Follows.Steps.{made_so, is_inside, is_sight}
+use Rattle.papaya_finds.specs.Given.Histories.Answers.{NamesPair as NamesNumber}
+use Rattle.papaya_finds.proofs.Given.Histories.Roles.{named_by}
+use Rattle.papaya_finds.specs.Given.Moments.Whole.{ShowsWhole}
 use Rattle.papaya_purposes.specs.Purposes.{ShowsPurposes}
 use Rattle.papaya_purposes.proofs.Steps.{went, on, known2}
 

@@ -1,16 +1,16 @@
 -- Events of which nothing is promised.
 use Rattle.std.specs.Prelude.{ℕ, Bool, List, Option, Some, None}
 use Rattle.std.proofs.Common.{ap, sym, subst}
-use Rattle.papaya_histories.specs.Given.Schedules.declared.call.Call.{Call}
-use Rattle.papaya_histories.specs.Given.Schedules.declared.call.Call.TheVariants as call
-use Rattle.papaya_histories.specs.Given.Schedules.declared.outcome.Outcome.{Outcome}
-use Rattle.papaya_histories.specs.Given.Schedules.declared.outcome.Outcome.TheVariants as outcome
-use Rattle.papaya_histories.specs.Given.Schedules.After.{moment, moments_from}
-use Rattle.papaya_histories.specs.Given.Schedules.Effects.{worked}
-use Rattle.papaya_histories.specs.Given.Schedules.Entry.{IfCall, acting, caller_of}
-use Rattle.papaya_histories.specs.Given.Schedules.Moment.{UnderWay as CallThere, Moment}
-use Rattle.papaya_histories.specs.Given.Schedules.Sweeps.{Sweeps}
-use Rattle.papaya_histories.specs.Given.Schedules.Terms.{Terms}
+use Rattle.papaya_finds.specs.Given.Schedules.declared.call.Call.{Call}
+use Rattle.papaya_finds.specs.Given.Schedules.declared.call.Call.TheVariants as call
+use Rattle.papaya_finds.specs.Given.Schedules.declared.outcome.Outcome.{Outcome}
+use Rattle.papaya_finds.specs.Given.Schedules.declared.outcome.Outcome.TheVariants as outcome
+use Rattle.papaya_finds.specs.Given.Schedules.After.{moment, moments_from}
+use Rattle.papaya_finds.specs.Given.Schedules.Effects.{worked}
+use Rattle.papaya_finds.specs.Given.Schedules.Entry.{IfCall, acting, caller_of}
+use Rattle.papaya_finds.specs.Given.Schedules.Moment.{UnderWay as CallThere, Moment}
+use Rattle.papaya_finds.specs.Given.Schedules.Sweeps.{Sweeps}
+use Rattle.papaya_finds.specs.Given.Schedules.Terms.{Terms}
 use Rattle.papaya_purposes.specs.Swept.{SaysNothing, OtherOutcomesAreSwept, CallsOnKeysAreSwept, NoCallsAreSwept}
 
 module _ {K V : Type 0} (same : K → K → Bool) (terms : Terms) (c : CallThere K V) (moments : List (Moment K V)) (now : Moment K V) where

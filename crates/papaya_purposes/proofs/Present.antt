@@ -1,17 +1,17 @@
 -- Which pairs a map has now, and where a call begins.
 use Rattle.std.specs.Prelude.{◌≡◌, ℕ, ◌<◌, ◌≤◌, Bool, true, false, List, ◌∷◌, Some}
 use Rattle.std.proofs.Common.{refl, ap, sym, ◌∙◌, arith, inl}
-use Rattle.papaya_histories.specs.Given.Schedules.Moment.{Place, Moment}
-use Rattle.papaya_histories.specs.Given.Schedules.Views.{is_in_map}
-use Rattle.papaya_histories.specs.Given.Rule.Chart.{Chart}
-use Rattle.papaya_histories.proofs.Given.Rule.Laws.{current_is_known}
-use Rattle.papaya_histories.specs.Given.Callers.Together.{Together}
-use Rattle.papaya_histories.specs.Given.Effects.Known.{Known}
-use Rattle.papaya_histories.specs.Given.Executor.IsAt.{Scene, IsAt, slot_of}
-use Rattle.papaya_histories.specs.Given.Executor.declared.executor.Executor.{Executor}
-use Rattle.papaya_histories.specs.Given.Finishes.Maps.{Standing}
-use Rattle.papaya_histories.specs.Given.Follows.Shows.{Shows}
-use Rattle.papaya_histories.proofs.Given.Follows.Stored.{in_map_true}
+use Rattle.papaya_finds.specs.Given.Schedules.Moment.{Place, Moment}
+use Rattle.papaya_finds.specs.Given.Schedules.Views.{is_in_map}
+use Rattle.papaya_finds.specs.Given.Rule.Chart.{Chart}
+use Rattle.papaya_finds.proofs.Given.Rule.Laws.{current_is_known}
+use Rattle.papaya_finds.specs.Given.Callers.Together.{Together}
+use Rattle.papaya_finds.specs.Given.Effects.Known.{Known}
+use Rattle.papaya_finds.specs.Given.Executor.IsAt.{Scene, IsAt, slot_of}
+use Rattle.papaya_finds.specs.Given.Executor.declared.executor.Executor.{Executor}
+use Rattle.papaya_finds.specs.Given.Finishes.Maps.{Standing}
+use Rattle.papaya_finds.specs.Given.Follows.Shows.{Shows}
+use Rattle.papaya_finds.proofs.Given.Follows.Stored.{in_map_true}
 use Rattle.papaya_purposes.specs.Purposes.{PairsWithin}
 
 module _ {K V S : Type 0} (same : K → K → Bool) (hash : K → ℕ) (name : ℕ → List ℕ) (m : Moment K V) (known : Known) (s : Scene K V) (e : Executor K V S) (at : IsAt same hash e s)

@@ -1,52 +1,52 @@
 -- A step of a reservation that is under way, in the words of a run.
 use Rattle.std.specs.Prelude.{◌≡◌, ℕ, zero, suc, ◌+◌, ◌^◌, ◌<◌, ◌≤◌, nat_lt, Bool, false, List, length, Option, Some, None, Result, Ok, Err}
 use Rattle.std.proofs.Common.{refl, ap, sym, subst, ◌∙◌, arith}
-use Rattle.papaya_histories.specs.Given.SeizeWords.Mem.{Mem, Took, value_at, word_at}
-use Rattle.papaya_histories.specs.Given.SeizeWords.Plan.{Steps}
-use Rattle.papaya_histories.specs.Given.SeizeWords.declared.at.At.TheVariants.{Word}
-use Rattle.papaya_histories.specs.Given.SeizeWords.declared.fault.Fault.{Fault}
-use Rattle.papaya_histories.proofs.Given.SeizeRule.Rows.Leaving.{steps_back}
-use Rattle.papaya_histories.specs.Given.Seize.declared.progress.Progress.TheVariants as counting
-use Rattle.papaya_histories.specs.Given.Tables.Lengths.{len_of}
-use Rattle.papaya_histories.specs.Given.Tables.declared.node.Node.{Node}
-use Rattle.papaya_histories.specs.Given.Tables.declared.setting.Setting.{Setting}
-use Rattle.papaya_histories.specs.Given.Tables.declared.table.Table.{Table}
-use Rattle.papaya_histories.specs.Given.Resize.declared.outcome.Outcome.{Outcome}
-use Rattle.papaya_histories.specs.Given.Resize.declared.outcome.Outcome.TheVariants as outcome
-use Rattle.papaya_histories.specs.Given.Resize.Sum.{sum_plan}
-use Rattle.papaya_histories.specs.Given.Resize.declared.sum.Sum.{Sum}
-use Rattle.papaya_histories.specs.Given.Reserves.Reserve.{or_too_long, needed, plan_at, reserve_plan}
-use Rattle.papaya_histories.specs.Given.Reserves.declared.reserve.Reserve.{Reserve}
-use Rattle.papaya_histories.specs.Given.Reserves.declared.reserve.Reserving.{Reserving}
-use Rattle.papaya_histories.specs.Given.Reserves.declared.reserve.Reserving.TheVariants as reserving
-use Rattle.papaya_histories.specs.Given.Raw.Machine.{machine_plan, reserved}
-use Rattle.papaya_histories.specs.Given.Raw.declared.machines.machine.Machine.{Machine}
-use Rattle.papaya_histories.specs.Given.Raw.declared.machines.machine.Machine.TheVariants as kinds
-use Rattle.papaya_histories.specs.Given.Raw.declared.machines.progress.Answer.TheVariants as answers
-use Rattle.papaya_histories.specs.Given.Raw.declared.machines.progress.Progress.{Progress}
-use Rattle.papaya_histories.specs.Given.Raw.declared.machines.progress.Progress.TheVariants as progress
-use Rattle.papaya_histories.specs.Given.Schedules.After.{moment, moments_from}
-use Rattle.papaya_histories.specs.Given.Schedules.Counts.{AddsUp, Counts}
-use Rattle.papaya_histories.specs.Given.Schedules.Entry.{Entry}
-use Rattle.papaya_histories.specs.Given.Schedules.Lists.{OneOf}
-use Rattle.papaya_histories.specs.Given.Schedules.Moment.{UnderWay as CallThere, Moment}
-use Rattle.papaya_histories.specs.Given.Schedules.Sweeps.{Fits}
-use Rattle.papaya_histories.specs.Given.Rule.InWorld.{IsMapIn}
-use Rattle.papaya_histories.specs.Given.Rule.Maps.{IsTable}
-use Rattle.papaya_histories.specs.Given.Points.FactsTables.{CountsShards, SumFacts}
-use Rattle.papaya_histories.specs.Given.Callers.Rooms.{CallForRoom}
-use Rattle.papaya_histories.specs.Given.Callers.Sights.{seen_by}
-use Rattle.papaya_histories.specs.Given.Callers.Together.{UnderWay, ForRoom, Together, in_slot}
-use Rattle.papaya_histories.specs.Given.Executor.IsAt.{Scene, IsAt, slot_of}
-use Rattle.papaya_histories.specs.Given.Executor.Stepping.{StepsFrom}
-use Rattle.papaya_histories.specs.Given.Executor.declared.executor.Executor.{Executor}
-use Rattle.papaya_histories.proofs.Given.Executor.Forgotten.{as_step}
-use Rattle.papaya_histories.specs.Given.Finishes.Machines.{GoesOnAs}
-use Rattle.papaya_histories.specs.Given.Finishes.Maps.{Standing}
-use Rattle.papaya_histories.specs.Given.Late.ToldReserves.{IsRowOfReserve}
-use Rattle.papaya_histories.specs.Given.Teller.declared.changed.Changed.TheVariants.{Nothing}
-use Rattle.papaya_histories.proofs.Given.Others.Outcomes.{told_in}
-use Rattle.papaya_histories.proofs.Logs.{last_there}
+use Rattle.papaya_finds.specs.Given.SeizeWords.Mem.{Mem, Took, value_at, word_at}
+use Rattle.papaya_finds.specs.Given.SeizeWords.Plan.{Steps}
+use Rattle.papaya_finds.specs.Given.SeizeWords.declared.at.At.TheVariants.{Word}
+use Rattle.papaya_finds.specs.Given.SeizeWords.declared.fault.Fault.{Fault}
+use Rattle.papaya_finds.proofs.Given.SeizeRule.Rows.Leaving.{steps_back}
+use Rattle.papaya_finds.specs.Given.Seize.declared.progress.Progress.TheVariants as counting
+use Rattle.papaya_finds.specs.Given.Tables.Lengths.{len_of}
+use Rattle.papaya_finds.specs.Given.Tables.declared.node.Node.{Node}
+use Rattle.papaya_finds.specs.Given.Tables.declared.setting.Setting.{Setting}
+use Rattle.papaya_finds.specs.Given.Tables.declared.table.Table.{Table}
+use Rattle.papaya_finds.specs.Given.Resize.declared.outcome.Outcome.{Outcome}
+use Rattle.papaya_finds.specs.Given.Resize.declared.outcome.Outcome.TheVariants as outcome
+use Rattle.papaya_finds.specs.Given.Resize.Sum.{sum_plan}
+use Rattle.papaya_finds.specs.Given.Resize.declared.sum.Sum.{Sum}
+use Rattle.papaya_finds.specs.Given.Reserves.Reserve.{or_too_long, needed, plan_at, reserve_plan}
+use Rattle.papaya_finds.specs.Given.Reserves.declared.reserve.Reserve.{Reserve}
+use Rattle.papaya_finds.specs.Given.Reserves.declared.reserve.Reserving.{Reserving}
+use Rattle.papaya_finds.specs.Given.Reserves.declared.reserve.Reserving.TheVariants as reserving
+use Rattle.papaya_finds.specs.Given.Raw.Machine.{machine_plan, reserved}
+use Rattle.papaya_finds.specs.Given.Raw.declared.machines.machine.Machine.{Machine}
+use Rattle.papaya_finds.specs.Given.Raw.declared.machines.machine.Machine.TheVariants as kinds
+use Rattle.papaya_finds.specs.Given.Raw.declared.machines.progress.Answer.TheVariants as answers
+use Rattle.papaya_finds.specs.Given.Raw.declared.machines.progress.Progress.{Progress}
+use Rattle.papaya_finds.specs.Given.Raw.declared.machines.progress.Progress.TheVariants as progress
+use Rattle.papaya_finds.specs.Given.Schedules.After.{moment, moments_from}
+use Rattle.papaya_finds.specs.Given.Schedules.Counts.{AddsUp, Counts}
+use Rattle.papaya_finds.specs.Given.Schedules.Entry.{Entry}
+use Rattle.papaya_finds.specs.Given.Schedules.Lists.{OneOf}
+use Rattle.papaya_finds.specs.Given.Schedules.Moment.{UnderWay as CallThere, Moment}
+use Rattle.papaya_finds.specs.Given.Schedules.Sweeps.{Fits}
+use Rattle.papaya_finds.specs.Given.Rule.InWorld.{IsMapIn}
+use Rattle.papaya_finds.specs.Given.Rule.Maps.{IsTable}
+use Rattle.papaya_finds.specs.Given.Points.FactsTables.{CountsShards, SumFacts}
+use Rattle.papaya_finds.specs.Given.Callers.Rooms.{CallForRoom}
+use Rattle.papaya_finds.specs.Given.Callers.Sights.{seen_by}
+use Rattle.papaya_finds.specs.Given.Callers.Together.{UnderWay, ForRoom, Together, in_slot}
+use Rattle.papaya_finds.specs.Given.Executor.IsAt.{Scene, IsAt, slot_of}
+use Rattle.papaya_finds.specs.Given.Executor.Stepping.{StepsFrom}
+use Rattle.papaya_finds.specs.Given.Executor.declared.executor.Executor.{Executor}
+use Rattle.papaya_finds.proofs.Given.Executor.Forgotten.{as_step}
+use Rattle.papaya_finds.specs.Given.Finishes.Machines.{GoesOnAs}
+use Rattle.papaya_finds.specs.Given.Finishes.Maps.{Standing}
+use Rattle.papaya_finds.specs.Given.Late.ToldReserves.{IsRowOfReserve}
+use Rattle.papaya_finds.specs.Given.Teller.declared.changed.Changed.TheVariants.{Nothing}
+use Rattle.papaya_finds.proofs.Given.Others.Outcomes.{told_in}
+use Rattle.papaya_finds.proofs.Given.Histories.Logs.{last_there}
 use Rattle.papaya_finds.specs.Reserving.{ReservesAt, SumTells}
 use Rattle.papaya_finds.proofs.Reserving.{rooms_keep_count}
 use Rattle.papaya_purposes.specs.Needs.{NeedsAt}

@@ -1,31 +1,31 @@
 -- What is of no call leaves what calls on whole maps have come to: no pair of a map comes or goes.
 use Rattle.std.specs.Prelude.{◌≡◌, ℕ, ◌==◌, ◌<◌, ◌≤◌, Bool, List, find, Option, Some, ◌⊎◌}
 use Rattle.std.proofs.Common.{ap, sym, subst, ◌∙◌, arith, inl, inr}
-use Rattle.papaya_histories.specs.Given.Tables.Chunks.{is_incremental}
-use Rattle.papaya_histories.specs.Given.Sweeps.declared.sweep.Purpose.TheVariants.{Walks}
-use Rattle.papaya_histories.specs.Given.Runs.Same.{is_same}
-use Rattle.papaya_histories.specs.Given.Schedules.Entry.{Entry}
-use Rattle.papaya_histories.specs.Given.Schedules.Moment.{MapThere, UnderWay as CallThere, Moment}
-use Rattle.papaya_histories.specs.Given.Schedules.Views.{call_of, is_in_map, finite_map}
-use Rattle.papaya_histories.specs.Given.Rule.Chart.{Chart}
-use Rattle.papaya_histories.specs.Given.Callers.OverAll.{CallOverAll}
-use Rattle.papaya_histories.specs.Given.Callers.Together.{UnderWay, OverAll}
-use Rattle.papaya_histories.specs.Given.Effects.Known.{Known}
-use Rattle.papaya_histories.specs.Given.Executor.IsAt.{Scene, IsAt, slot_of}
-use Rattle.papaya_histories.specs.Given.Executor.declared.executor.Executor.{Executor}
-use Rattle.papaya_histories.specs.Given.Finishes.Maps.{Standing}
-use Rattle.papaya_histories.specs.Given.Others.After.{ShowsAfter}
-use Rattle.papaya_histories.proofs.Given.Others.RowBegins.{rows_begin_shown}
-use Rattle.papaya_histories.proofs.Given.Others.Rows.{rows_on_slots_are_shown}
-use Rattle.papaya_histories.proofs.Given.Moments.Beside.{IsBeside, StoodSo, StandsNew}
-use Rattle.papaya_histories.proofs.Given.Moments.OnSlots.{row_beside, rows_begin_beside}
-use Rattle.papaya_histories.proofs.Given.Follows.Steps.{one_of}
-use Rattle.papaya_histories.specs.Had.{HadThen}
-use Rattle.papaya_histories.specs.Histories.{since, IsWithin}
-use Rattle.papaya_histories.proofs.Had.{had_on, had_one}
-use Rattle.papaya_histories.proofs.Now.{now_had}
-use Rattle.papaya_histories.proofs.Within.{within_on}
-use Rattle.papaya_histories.proofs.Later.{IsLater, same_later}
+use Rattle.papaya_finds.specs.Given.Tables.Chunks.{is_incremental}
+use Rattle.papaya_finds.specs.Given.Sweeps.declared.sweep.Purpose.TheVariants.{Walks}
+use Rattle.papaya_finds.specs.Given.Runs.Same.{is_same}
+use Rattle.papaya_finds.specs.Given.Schedules.Entry.{Entry}
+use Rattle.papaya_finds.specs.Given.Schedules.Moment.{MapThere, UnderWay as CallThere, Moment}
+use Rattle.papaya_finds.specs.Given.Schedules.Views.{call_of, is_in_map, finite_map}
+use Rattle.papaya_finds.specs.Given.Rule.Chart.{Chart}
+use Rattle.papaya_finds.specs.Given.Callers.OverAll.{CallOverAll}
+use Rattle.papaya_finds.specs.Given.Callers.Together.{UnderWay, OverAll}
+use Rattle.papaya_finds.specs.Given.Effects.Known.{Known}
+use Rattle.papaya_finds.specs.Given.Executor.IsAt.{Scene, IsAt, slot_of}
+use Rattle.papaya_finds.specs.Given.Executor.declared.executor.Executor.{Executor}
+use Rattle.papaya_finds.specs.Given.Finishes.Maps.{Standing}
+use Rattle.papaya_finds.specs.Given.Others.After.{ShowsAfter}
+use Rattle.papaya_finds.proofs.Given.Others.RowBegins.{rows_begin_shown}
+use Rattle.papaya_finds.proofs.Given.Others.Rows.{rows_on_slots_are_shown}
+use Rattle.papaya_finds.proofs.Given.Moments.Beside.{IsBeside, StoodSo, StandsNew}
+use Rattle.papaya_finds.proofs.Given.Moments.OnSlots.{row_beside, rows_begin_beside}
+use Rattle.papaya_finds.proofs.Given.Follows.Steps.{one_of}
+use Rattle.papaya_finds.specs.Given.Histories.Had.{HadThen}
+use Rattle.papaya_finds.specs.Given.Histories.Histories.{since, IsWithin}
+use Rattle.papaya_finds.proofs.Given.Histories.Had.{had_on, had_one}
+use Rattle.papaya_finds.proofs.Given.Histories.Now.{now_had}
+use Rattle.papaya_finds.proofs.Given.Histories.Within.{within_on}
+use Rattle.papaya_finds.proofs.Given.Histories.Later.{IsLater, same_later}
 use Rattle.papaya_purposes.specs.Purposes.{KeysOf, HasSwept, HasCome, ShowsPurposes}
 use Rattle.papaya_purposes.specs.Rows.{RowsBeginPurposes, RowsKeepPurposes}
 use Rattle.papaya_purposes.proofs.Alike.{alike}

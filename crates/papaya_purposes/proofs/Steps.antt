@@ -3,53 +3,53 @@ use Rattle.std.specs.Prelude.{◌≡◌, ◌≢◌, ℕ, ◌<◌, ◌≤◌, Boo
 use Rattle.std.specs.List.{AllByRecursion}
 use Rattle.std.proofs.Common.{refl, ap, sym, subst, ◌∙◌, arith, inl, inr}
 use Rattle.std.proofs.lemmas.Bool.{cases_eq}
-use Rattle.papaya_histories.specs.Given.Seize.World.{with_at}
-use Rattle.papaya_histories.specs.Given.Tables.Chunks.{is_incremental}
-use Rattle.papaya_histories.specs.Given.Tables.declared.node.Node.{Node}
-use Rattle.papaya_histories.specs.Given.Reserves.declared.reserve.Reserve.{Reserve}
-use Rattle.papaya_histories.specs.Given.Reserves.declared.reserve.Reserving.{Reserving}
-use Rattle.papaya_histories.specs.Given.Reserves.declared.reserve.Reserving.TheVariants as reserving
-use Rattle.papaya_histories.specs.Given.Sweeps.declared.sweep.Purpose.TheVariants.{Walks}
-use Rattle.papaya_histories.specs.Given.Raw.declared.machines.machine.Machine.{Machine}
-use Rattle.papaya_histories.specs.Given.Raw.declared.machines.machine.Machine.TheVariants as kinds
-use Rattle.papaya_histories.specs.Given.Raw.declared.machines.progress.Progress.{Progress}
-use Rattle.papaya_histories.specs.Given.Schedules.declared.call.Call.{Call}
-use Rattle.papaya_histories.specs.Given.Schedules.After.{moment, moments_from}
-use Rattle.papaya_histories.specs.Given.Schedules.Entry.{Entry}
-use Rattle.papaya_histories.specs.Given.Schedules.Moment.{UnderWay as CallThere, Moment}
-use Rattle.papaya_histories.specs.Given.Schedules.Views.{call_of, is_in_map, finite_map}
-use Rattle.papaya_histories.specs.Given.Rule.Chart.{Chart}
-use Rattle.papaya_histories.specs.Given.Rule.Maps.{spot_of}
-use Rattle.papaya_histories.specs.Given.Callers.OverAll.{CallOverAll, come_to, gone_on}
-use Rattle.papaya_histories.specs.Given.Callers.Rooms.{CallForRoom}
-use Rattle.papaya_histories.specs.Given.Callers.Sights.{seen_by}
-use Rattle.papaya_histories.specs.Given.Callers.Together.{UnderWay, OnKey, ForRoom, Counting, OverAll}
-use Rattle.papaya_histories.proofs.Given.Callers.Together.At.{at_same}
-use Rattle.papaya_histories.specs.Given.Finishes.Machines.{machine_of}
-use Rattle.papaya_histories.specs.Given.Finishes.Maps.{Standing}
-use Rattle.papaya_histories.specs.Given.Effects.Effects.{effects_of}
-use Rattle.papaya_histories.specs.Given.Effects.Known.{Known}
-use Rattle.papaya_histories.specs.Given.Effects.declared.acting.Acting.TheVariants as acts
-use Rattle.papaya_histories.specs.Given.Executor.IsAt.{Scene, IsAt, slot_of}
-use Rattle.papaya_histories.specs.Given.Executor.Stepping.{StepsFrom, StepLeads}
-use Rattle.papaya_histories.specs.Given.Executor.declared.executor.Executor.{Executor}
-use Rattle.papaya_histories.specs.Given.Follows.Shows.{Shows}
-use Rattle.papaya_histories.proofs.Given.Follows.Called.{key_goes_on, room_goes_on, sweep_goes_on, counting_goes_on}
-use Rattle.papaya_histories.proofs.Given.Follows.Steps.{WentTo, DidSo, LeadsThere, one_of}
-use Rattle.papaya_histories.specs.Given.Moments.Whole.{ShowsWhole}
-use Rattle.papaya_histories.proofs.Given.Moments.OnSlots.{stood_same}
-use Rattle.papaya_histories.specs.Histories.{since, IsWithin}
-use Rattle.papaya_histories.specs.Kept.{ChangesFirst}
-use Rattle.papaya_histories.proofs.Later.{IsLater}
-use Rattle.papaya_histories.proofs.Steps.{to, led_on, v, after, s2, maps_later, now_then, same_elsewhere}
-use Rattle.papaya_histories.proofs.Within.{within_on}
-use Rattle.papaya_histories.proofs.NoKey.Sweeps.{SweepsOn, sweeps_on}
+use Rattle.papaya_finds.specs.Given.Seize.World.{with_at}
+use Rattle.papaya_finds.specs.Given.Tables.Chunks.{is_incremental}
+use Rattle.papaya_finds.specs.Given.Tables.declared.node.Node.{Node}
+use Rattle.papaya_finds.specs.Given.Reserves.declared.reserve.Reserve.{Reserve}
+use Rattle.papaya_finds.specs.Given.Reserves.declared.reserve.Reserving.{Reserving}
+use Rattle.papaya_finds.specs.Given.Reserves.declared.reserve.Reserving.TheVariants as reserving
+use Rattle.papaya_finds.specs.Given.Sweeps.declared.sweep.Purpose.TheVariants.{Walks}
+use Rattle.papaya_finds.specs.Given.Raw.declared.machines.machine.Machine.{Machine}
+use Rattle.papaya_finds.specs.Given.Raw.declared.machines.machine.Machine.TheVariants as kinds
+use Rattle.papaya_finds.specs.Given.Raw.declared.machines.progress.Progress.{Progress}
+use Rattle.papaya_finds.specs.Given.Schedules.declared.call.Call.{Call}
+use Rattle.papaya_finds.specs.Given.Schedules.After.{moment, moments_from}
+use Rattle.papaya_finds.specs.Given.Schedules.Entry.{Entry}
+use Rattle.papaya_finds.specs.Given.Schedules.Moment.{UnderWay as CallThere, Moment}
+use Rattle.papaya_finds.specs.Given.Schedules.Views.{call_of, is_in_map, finite_map}
+use Rattle.papaya_finds.specs.Given.Rule.Chart.{Chart}
+use Rattle.papaya_finds.specs.Given.Rule.Maps.{spot_of}
+use Rattle.papaya_finds.specs.Given.Callers.OverAll.{CallOverAll, come_to, gone_on}
+use Rattle.papaya_finds.specs.Given.Callers.Rooms.{CallForRoom}
+use Rattle.papaya_finds.specs.Given.Callers.Sights.{seen_by}
+use Rattle.papaya_finds.specs.Given.Callers.Together.{UnderWay, OnKey, ForRoom, Counting, OverAll}
+use Rattle.papaya_finds.proofs.Given.Callers.Together.At.{at_same}
+use Rattle.papaya_finds.specs.Given.Finishes.Machines.{machine_of}
+use Rattle.papaya_finds.specs.Given.Finishes.Maps.{Standing}
+use Rattle.papaya_finds.specs.Given.Effects.Effects.{effects_of}
+use Rattle.papaya_finds.specs.Given.Effects.Known.{Known}
+use Rattle.papaya_finds.specs.Given.Effects.declared.acting.Acting.TheVariants as acts
+use Rattle.papaya_finds.specs.Given.Executor.IsAt.{Scene, IsAt, slot_of}
+use Rattle.papaya_finds.specs.Given.Executor.Stepping.{StepsFrom, StepLeads}
+use Rattle.papaya_finds.specs.Given.Executor.declared.executor.Executor.{Executor}
+use Rattle.papaya_finds.specs.Given.Follows.Shows.{Shows}
+use Rattle.papaya_finds.proofs.Given.Follows.Called.{key_goes_on, room_goes_on, sweep_goes_on, counting_goes_on}
+use Rattle.papaya_finds.proofs.Given.Follows.Steps.{WentTo, DidSo, LeadsThere, one_of}
+use Rattle.papaya_finds.specs.Given.Moments.Whole.{ShowsWhole}
+use Rattle.papaya_finds.proofs.Given.Moments.OnSlots.{stood_same}
+use Rattle.papaya_finds.specs.Given.Histories.Histories.{since, IsWithin}
+use Rattle.papaya_finds.specs.Given.Histories.Kept.{ChangesFirst}
+use Rattle.papaya_finds.proofs.Given.Histories.Later.{IsLater}
+use Rattle.papaya_finds.proofs.Given.Histories.Steps.{to, led_on, v, after, s2, maps_later, now_then, same_elsewhere}
+use Rattle.papaya_finds.proofs.Given.Histories.Within.{within_on}
+use Rattle.papaya_finds.proofs.Given.Histories.NoKey.Sweeps.{SweepsOn, sweeps_on}
 use Rattle.papaya_purposes.specs.Keys.{KeysAt, AreKeyed}
 use Rattle.papaya_purposes.specs.Kept.{ShowsNone, PairsChangeFirst}
 use Rattle.papaya_finds.specs.Reserving.{ReservesAt}
 use Rattle.papaya_purposes.specs.Needs.{NeedsAt}
 use Rattle.papaya_purposes.specs.Purposes.{IsFor, PairsWithin, HasAdded, RoomAt, HasMet, KeysOf, HasSwept, HasCome, ShowsPurposes}
-use Rattle.papaya_named.specs.Machines.{IsBefore}
+use Rattle.papaya_finds.specs.Given.Named.Machines.{IsBefore}
 use Rattle.papaya_purposes.specs.Shards.{ReadsShards}
 use Rattle.papaya_purposes.proofs.Alike.{alike}
 use Rattle.papaya_purposes.proofs.Counts.{counts_on}

@@ -1,17 +1,17 @@
 -- Where only calls have changed, and this one has been told and has shown what it was told and had shown, it has come to what it had come to.
 use Rattle.std.specs.Prelude.{◌≡◌, ℕ, Bool, List, ◌∷◌}
 use Rattle.std.proofs.Common.{refl, ap, sym, subst, ◌∙◌, inl, inr}
-use Rattle.papaya_histories.specs.Given.Schedules.declared.call.Call.{Call}
-use Rattle.papaya_histories.specs.Given.Schedules.After.{moments_from}
-use Rattle.papaya_histories.specs.Given.Schedules.Entry.{Entry}
-use Rattle.papaya_histories.specs.Given.Schedules.Lists.{OneOf}
-use Rattle.papaya_histories.specs.Given.Schedules.Moment.{Place, UnderWay as CallThere, Moment}
-use Rattle.papaya_histories.specs.Given.Schedules.Views.{is_in_map}
-use Rattle.papaya_histories.specs.Given.Callers.Together.{UnderWay, OnKey, ForRoom, Counting, OverAll}
-use Rattle.papaya_histories.specs.Given.Finishes.Maps.{Standing}
-use Rattle.papaya_histories.specs.Histories.{IsWithin}
-use Rattle.papaya_histories.proofs.Found.{map_alike}
-use Rattle.papaya_histories.proofs.Within.{within_alike}
+use Rattle.papaya_finds.specs.Given.Schedules.declared.call.Call.{Call}
+use Rattle.papaya_finds.specs.Given.Schedules.After.{moments_from}
+use Rattle.papaya_finds.specs.Given.Schedules.Entry.{Entry}
+use Rattle.papaya_finds.specs.Given.Schedules.Lists.{OneOf}
+use Rattle.papaya_finds.specs.Given.Schedules.Moment.{Place, UnderWay as CallThere, Moment}
+use Rattle.papaya_finds.specs.Given.Schedules.Views.{is_in_map}
+use Rattle.papaya_finds.specs.Given.Callers.Together.{UnderWay, OnKey, ForRoom, Counting, OverAll}
+use Rattle.papaya_finds.specs.Given.Finishes.Maps.{Standing}
+use Rattle.papaya_finds.specs.Given.Histories.Histories.{IsWithin}
+use Rattle.papaya_finds.proofs.Given.Histories.Found.{map_alike}
+use Rattle.papaya_finds.proofs.Given.Histories.Within.{within_alike}
 use Rattle.papaya_purposes.specs.Purposes.{PairsWithin, IsFor, HasAdded, HasMet, HasCome}
 use Rattle.papaya_purposes.proofs.Done.{tells_kept}
 use Rattle.papaya_purposes.proofs.Shown.{IsStill}

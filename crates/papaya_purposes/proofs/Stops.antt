@@ -1,22 +1,22 @@
 -- A walk that is given up: other calls have come to what they had come to.
 use Rattle.std.specs.Prelude.{◌≡◌, ℕ, Bool, true, false, List, Option, Some, None, ◌⊎◌}
 use Rattle.std.proofs.Common.{refl, ap, sym, subst, ◌∙◌, inl, inr}
-use Rattle.papaya_histories.specs.Given.SeizeWords.declared.fault.Fault.TheVariants.{Memory}
-use Rattle.papaya_histories.specs.Given.Schedules.declared.outcome.Outcome.TheVariants.{Refused}
-use Rattle.papaya_histories.specs.Given.Schedules.Entry.{Entry}
-use Rattle.papaya_histories.specs.Given.Schedules.Moment.{Moment}
-use Rattle.papaya_histories.specs.Given.Callers.Together.{UnderWay}
-use Rattle.papaya_histories.specs.Given.Effects.Known.{Known}
-use Rattle.papaya_histories.specs.Given.Executor.IsAt.{Scene}
-use Rattle.papaya_histories.specs.Given.Executor.Replying.{unless_stopped}
-use Rattle.papaya_histories.specs.Given.Finishes.Maps.{with_call as with_in}
-use Rattle.papaya_histories.specs.Given.Follows.Calling.{NoneNamed}
-use Rattle.papaya_histories.proofs.Given.Follows.Calls.{CalledOn}
-use Rattle.papaya_histories.proofs.Given.Follows.Steps.{one_of}
-use Rattle.papaya_histories.proofs.Given.Hands.Asking.{which}
-use Rattle.papaya_histories.specs.Given.Others.After.{ShowsAfter}
-use Rattle.papaya_histories.specs.Given.Others.Walks.{given_up}
-use Rattle.papaya_histories.proofs.Given.Others.Walks.{fewer_calls, with_calls}
+use Rattle.papaya_finds.specs.Given.SeizeWords.declared.fault.Fault.TheVariants.{Memory}
+use Rattle.papaya_finds.specs.Given.Schedules.declared.outcome.Outcome.TheVariants.{Refused}
+use Rattle.papaya_finds.specs.Given.Schedules.Entry.{Entry}
+use Rattle.papaya_finds.specs.Given.Schedules.Moment.{Moment}
+use Rattle.papaya_finds.specs.Given.Callers.Together.{UnderWay}
+use Rattle.papaya_finds.specs.Given.Effects.Known.{Known}
+use Rattle.papaya_finds.specs.Given.Executor.IsAt.{Scene}
+use Rattle.papaya_finds.specs.Given.Executor.Replying.{unless_stopped}
+use Rattle.papaya_finds.specs.Given.Finishes.Maps.{with_call as with_in}
+use Rattle.papaya_finds.specs.Given.Follows.Calling.{NoneNamed}
+use Rattle.papaya_finds.proofs.Given.Follows.Calls.{CalledOn}
+use Rattle.papaya_finds.proofs.Given.Follows.Steps.{one_of}
+use Rattle.papaya_finds.proofs.Given.Hands.Asking.{which}
+use Rattle.papaya_finds.specs.Given.Others.After.{ShowsAfter}
+use Rattle.papaya_finds.specs.Given.Others.Walks.{given_up}
+use Rattle.papaya_finds.proofs.Given.Others.Walks.{fewer_calls, with_calls}
 use Rattle.papaya_purposes.specs.Kept.{WalksStopPurposes}
 use Rattle.papaya_purposes.specs.Purposes.{HasCome, ShowsPurposes}
 use Rattle.papaya_purposes.proofs.Between.{calls_come_to_purposes}

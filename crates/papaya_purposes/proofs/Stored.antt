@@ -2,19 +2,19 @@
 use Rattle.std.specs.Prelude.{◌≡◌, ℕ, ◌==◌, nat_lt, Bool, true, false, List, [], ◌∷◌, length, Option, Some, None, if◌then◌else◌}
 use Rattle.std.specs.List.{AllByRecursion}
 use Rattle.std.proofs.Common.{refl}
-use Rattle.papaya_histories.specs.Given.Schedules.declared.effect.Effect.{Effect}
-use Rattle.papaya_histories.specs.Given.Schedules.declared.effect.Effect.TheVariants as effect
-use Rattle.papaya_histories.specs.Given.Schedules.declared.event.Event.{Event}
-use Rattle.papaya_histories.specs.Given.Schedules.declared.event.Event.TheVariants as event
-use Rattle.papaya_histories.specs.Given.Schedules.declared.outcome.Outcome.{Outcome}
-use Rattle.papaya_histories.specs.Given.Schedules.declared.outcome.Outcome.TheVariants as outcome
-use Rattle.papaya_histories.specs.Given.Schedules.After.{moment, moments_from}
-use Rattle.papaya_histories.specs.Given.Schedules.Beginning.{with_call, begun, at_work}
-use Rattle.papaya_histories.specs.Given.Schedules.Effects.{new_pair, stored_by, with_effect, with_effects, worked}
-use Rattle.papaya_histories.specs.Given.Schedules.Entry.{Entry, nameless, is_busy, caller_of, acting, acted_on}
-use Rattle.papaya_histories.specs.Given.Schedules.Moment.{UnderWay as CallThere, Moment, start}
-use Rattle.papaya_histories.specs.Given.Schedules.Views.{number_of}
-use Rattle.papaya_histories.proofs.Given.Follows.Contents.{Lasts, lasts_same, lasts_more}
+use Rattle.papaya_finds.specs.Given.Schedules.declared.effect.Effect.{Effect}
+use Rattle.papaya_finds.specs.Given.Schedules.declared.effect.Effect.TheVariants as effect
+use Rattle.papaya_finds.specs.Given.Schedules.declared.event.Event.{Event}
+use Rattle.papaya_finds.specs.Given.Schedules.declared.event.Event.TheVariants as event
+use Rattle.papaya_finds.specs.Given.Schedules.declared.outcome.Outcome.{Outcome}
+use Rattle.papaya_finds.specs.Given.Schedules.declared.outcome.Outcome.TheVariants as outcome
+use Rattle.papaya_finds.specs.Given.Schedules.After.{moment, moments_from}
+use Rattle.papaya_finds.specs.Given.Schedules.Beginning.{with_call, begun, at_work}
+use Rattle.papaya_finds.specs.Given.Schedules.Effects.{new_pair, stored_by, with_effect, with_effects, worked}
+use Rattle.papaya_finds.specs.Given.Schedules.Entry.{Entry, nameless, is_busy, caller_of, acting, acted_on}
+use Rattle.papaya_finds.specs.Given.Schedules.Moment.{UnderWay as CallThere, Moment, start}
+use Rattle.papaya_finds.specs.Given.Schedules.Views.{number_of}
+use Rattle.papaya_finds.proofs.Given.Follows.Contents.{Lasts, lasts_same, lasts_more}
 use Rattle.papaya_purposes.proofs.Lists.{all_on}
 
 module _ {K V : Type 0} where

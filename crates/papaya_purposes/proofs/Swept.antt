@@ -2,51 +2,51 @@
 use Rattle.std.specs.Prelude.{◌≡◌, ℕ, suc, ◌<◌, ◌≤◌, ◌&&◌, ◌||◌, Bool, true, false, not, List, [], ◌∷◌, length, Option, Some, None, ◌⊎◌}
 use Rattle.std.specs.List.{AllByRecursion, list_all}
 use Rattle.std.proofs.Common.{refl, ap, sym, subst, ◌∙◌, arith, inl, inr}
-use Rattle.papaya_histories.specs.Given.Tables.declared.node.Node.{Node}
-use Rattle.papaya_histories.specs.Given.Sweeps.declared.sweep.Purpose.{Purpose}
-use Rattle.papaya_histories.specs.Given.Sweeps.declared.sweep.Purpose.TheVariants.{Clears, Retains}
-use Rattle.papaya_histories.specs.Given.Sweeps.declared.sweep.Sweeping.{Sweeping}
-use Rattle.papaya_histories.specs.Given.Sweeps.declared.sweep.Sweeping.TheVariants as sweeping
-use Rattle.papaya_histories.specs.Given.Sweeps.declared.sweep.Swept.{Swept}
-use Rattle.papaya_histories.specs.Given.Sweeps.declared.sweep.Swept.TheVariants as swept
-use Rattle.papaya_histories.specs.Given.Raw.Progress.{of_swept}
-use Rattle.papaya_histories.specs.Given.Raw.declared.machines.progress.Answer.TheVariants as answers
-use Rattle.papaya_histories.specs.Given.Raw.declared.machines.progress.Progress.{Progress}
-use Rattle.papaya_histories.specs.Given.Raw.declared.machines.progress.Progress.TheVariants as progress
-use Rattle.papaya_histories.specs.Given.Schedules.declared.call.Answer.TheVariants.{Completed, Counted}
-use Rattle.papaya_histories.specs.Given.Schedules.declared.call.Call.{Call}
-use Rattle.papaya_histories.specs.Given.Schedules.declared.call.Call.TheVariants as call
-use Rattle.papaya_histories.specs.Given.Schedules.declared.outcome.Outcome.{Outcome}
-use Rattle.papaya_histories.specs.Given.Schedules.declared.outcome.Outcome.TheVariants.{Answered}
-use Rattle.papaya_histories.specs.Given.Schedules.After.{moment, moments_from}
-use Rattle.papaya_histories.specs.Given.Schedules.Counts.{Counts}
-use Rattle.papaya_histories.specs.Given.Schedules.Effects.{worked}
-use Rattle.papaya_histories.specs.Given.Schedules.Entry.{Entry, IfCall, acting, caller_of}
-use Rattle.papaya_histories.specs.Given.Schedules.Lists.{numbers_from}
-use Rattle.papaya_histories.specs.Given.Schedules.Moment.{UnderWay as CallThere, Moment}
-use Rattle.papaya_histories.specs.Given.Schedules.Sweeps.{is_yes, stays, ClearsAll, RetainsOnly, Sweeps, IsSwept}
-use Rattle.papaya_histories.specs.Given.Schedules.Terms.{Terms, shards_of}
-use Rattle.papaya_histories.specs.Given.Schedules.Views.{call_of, is_in_map, reply_to}
-use Rattle.papaya_histories.specs.Given.Rule.Chart.{Chart}
-use Rattle.papaya_histories.specs.Given.Rule.Words.{Blocks}
-use Rattle.papaya_histories.specs.Given.Late.Covers.{times, IsKept, WasAlways, Came}
-use Rattle.papaya_histories.specs.Given.Late.CoversSweeps.{DoneAt}
-use Rattle.papaya_histories.specs.Given.Callers.OverAll.{CallOverAll}
-use Rattle.papaya_histories.specs.Given.Callers.Together.{UnderWay, OnKey, ForRoom, Counting, OverAll}
-use Rattle.papaya_histories.proofs.Given.Callers.Together.At.{at_same}
-use Rattle.papaya_histories.specs.Given.Effects.Effects.{effects_of}
-use Rattle.papaya_histories.specs.Given.Effects.Known.{Known}
-use Rattle.papaya_histories.specs.Given.Effects.declared.acting.Acting.TheVariants as acts
-use Rattle.papaya_histories.specs.Given.Executor.IsAt.{Scene, IsAt}
-use Rattle.papaya_histories.specs.Given.Executor.Stepping.{StepsFrom, StepLeads}
-use Rattle.papaya_histories.specs.Given.Executor.declared.executor.Executor.{Executor}
-use Rattle.papaya_histories.specs.Given.Finishes.Machines.{machine_of}
-use Rattle.papaya_histories.specs.Given.Finishes.Maps.{Standing, IsSameMap}
-use Rattle.papaya_histories.proofs.Given.Follows.Steps.{WentTo, one_of}
-use Rattle.papaya_histories.proofs.Given.Follows.Stored.{in_map_true}
-use Rattle.papaya_histories.proofs.Given.Hands.Replacing.{calls_after}
-use Rattle.papaya_histories.specs.Histories.{since}
-use Rattle.papaya_histories.specs.Given.Moments.Whole.{ShowsWhole}
+use Rattle.papaya_finds.specs.Given.Tables.declared.node.Node.{Node}
+use Rattle.papaya_finds.specs.Given.Sweeps.declared.sweep.Purpose.{Purpose}
+use Rattle.papaya_finds.specs.Given.Sweeps.declared.sweep.Purpose.TheVariants.{Clears, Retains}
+use Rattle.papaya_finds.specs.Given.Sweeps.declared.sweep.Sweeping.{Sweeping}
+use Rattle.papaya_finds.specs.Given.Sweeps.declared.sweep.Sweeping.TheVariants as sweeping
+use Rattle.papaya_finds.specs.Given.Sweeps.declared.sweep.Swept.{Swept}
+use Rattle.papaya_finds.specs.Given.Sweeps.declared.sweep.Swept.TheVariants as swept
+use Rattle.papaya_finds.specs.Given.Raw.Progress.{of_swept}
+use Rattle.papaya_finds.specs.Given.Raw.declared.machines.progress.Answer.TheVariants as answers
+use Rattle.papaya_finds.specs.Given.Raw.declared.machines.progress.Progress.{Progress}
+use Rattle.papaya_finds.specs.Given.Raw.declared.machines.progress.Progress.TheVariants as progress
+use Rattle.papaya_finds.specs.Given.Schedules.declared.call.Answer.TheVariants.{Completed, Counted}
+use Rattle.papaya_finds.specs.Given.Schedules.declared.call.Call.{Call}
+use Rattle.papaya_finds.specs.Given.Schedules.declared.call.Call.TheVariants as call
+use Rattle.papaya_finds.specs.Given.Schedules.declared.outcome.Outcome.{Outcome}
+use Rattle.papaya_finds.specs.Given.Schedules.declared.outcome.Outcome.TheVariants.{Answered}
+use Rattle.papaya_finds.specs.Given.Schedules.After.{moment, moments_from}
+use Rattle.papaya_finds.specs.Given.Schedules.Counts.{Counts}
+use Rattle.papaya_finds.specs.Given.Schedules.Effects.{worked}
+use Rattle.papaya_finds.specs.Given.Schedules.Entry.{Entry, IfCall, acting, caller_of}
+use Rattle.papaya_finds.specs.Given.Schedules.Lists.{numbers_from}
+use Rattle.papaya_finds.specs.Given.Schedules.Moment.{UnderWay as CallThere, Moment}
+use Rattle.papaya_finds.specs.Given.Schedules.Sweeps.{is_yes, stays, ClearsAll, RetainsOnly, Sweeps, IsSwept}
+use Rattle.papaya_finds.specs.Given.Schedules.Terms.{Terms, shards_of}
+use Rattle.papaya_finds.specs.Given.Schedules.Views.{call_of, is_in_map, reply_to}
+use Rattle.papaya_finds.specs.Given.Rule.Chart.{Chart}
+use Rattle.papaya_finds.specs.Given.Rule.Words.{Blocks}
+use Rattle.papaya_finds.specs.Given.Late.Covers.{times, IsKept, WasAlways, Came}
+use Rattle.papaya_finds.specs.Given.Late.CoversSweeps.{DoneAt}
+use Rattle.papaya_finds.specs.Given.Callers.OverAll.{CallOverAll}
+use Rattle.papaya_finds.specs.Given.Callers.Together.{UnderWay, OnKey, ForRoom, Counting, OverAll}
+use Rattle.papaya_finds.proofs.Given.Callers.Together.At.{at_same}
+use Rattle.papaya_finds.specs.Given.Effects.Effects.{effects_of}
+use Rattle.papaya_finds.specs.Given.Effects.Known.{Known}
+use Rattle.papaya_finds.specs.Given.Effects.declared.acting.Acting.TheVariants as acts
+use Rattle.papaya_finds.specs.Given.Executor.IsAt.{Scene, IsAt}
+use Rattle.papaya_finds.specs.Given.Executor.Stepping.{StepsFrom, StepLeads}
+use Rattle.papaya_finds.specs.Given.Executor.declared.executor.Executor.{Executor}
+use Rattle.papaya_finds.specs.Given.Finishes.Machines.{machine_of}
+use Rattle.papaya_finds.specs.Given.Finishes.Maps.{Standing, IsSameMap}
+use Rattle.papaya_finds.proofs.Given.Follows.Steps.{WentTo, one_of}
+use Rattle.papaya_finds.proofs.Given.Follows.Stored.{in_map_true}
+use Rattle.papaya_finds.proofs.Given.Hands.Replacing.{calls_after}
+use Rattle.papaya_finds.specs.Given.Histories.Histories.{since}
+use Rattle.papaya_finds.specs.Given.Moments.Whole.{ShowsWhole}
 use Rattle.papaya_purposes.specs.Kept.{PairsChangeFirst}
 use Rattle.papaya_purposes.specs.Purposes.{IsFor, PairsWithin, TellsDone, HasSwept, ShowsPurposes}
 use Rattle.papaya_purposes.specs.Shards.{ReadsShards}

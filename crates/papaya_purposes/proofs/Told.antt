@@ -3,51 +3,51 @@ use Rattle.std.specs.Prelude.{◌≡◌, ◌≢◌, ℕ, ◌+◌, ◌<◌, ◌�
 use Rattle.std.specs.List.{AllByRecursion}
 use Rattle.std.proofs.Common.{refl, ap, sym, subst, ◌∙◌, arith, inl, inr}
 use Rattle.std.proofs.lemmas.Bool.{cases_order, eq-eqb}
-use Rattle.papaya_histories.specs.Given.Sweeps.SweepPoints.{reply_at, after_reply}
-use Rattle.papaya_histories.specs.Given.Sweeps.declared.sweep.Purpose.TheVariants.{Retains}
-use Rattle.papaya_histories.specs.Given.Sweeps.declared.sweep.Sweep.{Sweep}
-use Rattle.papaya_histories.specs.Given.Sweeps.declared.sweep.Sweeping.{Sweeping}
-use Rattle.papaya_histories.specs.Given.Sweeps.declared.sweep.Sweeping.TheVariants as sweeping
-use Rattle.papaya_histories.specs.Given.Raw.Machine.{machine_replied, sweep_told}
-use Rattle.papaya_histories.specs.Given.Raw.declared.machines.asking.Reply.{Reply as MachineReply}
-use Rattle.papaya_histories.specs.Given.Raw.declared.machines.asking.Reply.TheVariants as reply
-use Rattle.papaya_histories.specs.Given.Runs.Same.{is_same}
-use Rattle.papaya_histories.specs.Given.Schedules.declared.call.Call.{Call}
-use Rattle.papaya_histories.specs.Given.Schedules.declared.call.Call.TheVariants as call
-use Rattle.papaya_histories.specs.Given.Schedules.declared.call.Reply.{Reply}
-use Rattle.papaya_histories.specs.Given.Schedules.declared.call.Reply.TheVariants.{Gives, Removes, Aborts, Decides}
-use Rattle.papaya_histories.specs.Given.Schedules.After.{moments_from, replied}
-use Rattle.papaya_histories.specs.Given.Schedules.Entry.{Entry}
-use Rattle.papaya_histories.specs.Given.Schedules.Moment.{Asking, Told, UnderWay as CallThere, Moment}
-use Rattle.papaya_histories.specs.Given.Schedules.Sweeps.{is_yes}
-use Rattle.papaya_histories.specs.Given.Schedules.Views.{call_of, reply_to}
-use Rattle.papaya_histories.specs.Given.Rule.Words.{Blocks}
-use Rattle.papaya_histories.specs.Given.Points.Steps.{AreLawful}
-use Rattle.papaya_histories.specs.Given.Late.Covers.{times, NamesPair, CoversAt}
-use Rattle.papaya_histories.specs.Given.Late.FactsSweeps.{SweepingFacts}
-use Rattle.papaya_histories.specs.Given.Late.ToldSweeps.{IsRowOfSweep}
-use Rattle.papaya_histories.specs.Given.Callers.OverAll.{CallOverAll, told_of}
-use Rattle.papaya_histories.specs.Given.Callers.Sights.{IsSight, seen_by}
-use Rattle.papaya_histories.specs.Given.Callers.Together.{UnderWay, OnKey, ForRoom, Counting, OverAll, KnowsSweep, Together, in_slot}
-use Rattle.papaya_histories.specs.Given.Effects.Known.{Known}
-use Rattle.papaya_histories.specs.Given.Effects.declared.role.Role.TheVariants as role
-use Rattle.papaya_histories.specs.Given.Executor.IsAt.{Scene, IsAt, slot_of}
-use Rattle.papaya_histories.specs.Given.Executor.Replying.{scene_with}
-use Rattle.papaya_histories.specs.Given.Executor.declared.executor.Executor.{Executor}
-use Rattle.papaya_histories.specs.Given.Finishes.Machines.{machine_of, ToldOfKind}
-use Rattle.papaya_histories.specs.Given.Finishes.Maps.{Standing}
-use Rattle.papaya_histories.specs.Given.Follows.Calling.{told}
-use Rattle.papaya_histories.specs.Given.Follows.Shows.{Shows}
-use Rattle.papaya_histories.proofs.Given.Follows.Calling.{is_same_refl, replied_same, told_with}
-use Rattle.papaya_histories.proofs.Given.Follows.Calls.{found}
-use Rattle.papaya_histories.proofs.Given.Follows.Steps.{one_of}
-use Rattle.papaya_histories.specs.Given.Hands.Asked.{as_told}
-use Rattle.papaya_histories.proofs.Given.Hands.Asking.{which}
-use Rattle.papaya_histories.proofs.Given.Hands.Calling.{caller_is}
-use Rattle.papaya_histories.specs.Answers.{NamesPair as NamesNumber}
-use Rattle.papaya_histories.specs.Histories.{since, IsWithin}
-use Rattle.papaya_histories.proofs.Roles.{named_by}
-use Rattle.papaya_histories.specs.Given.Moments.Whole.{ShowsWhole}
+use Rattle.papaya_finds.specs.Given.Sweeps.SweepPoints.{reply_at, after_reply}
+use Rattle.papaya_finds.specs.Given.Sweeps.declared.sweep.Purpose.TheVariants.{Retains}
+use Rattle.papaya_finds.specs.Given.Sweeps.declared.sweep.Sweep.{Sweep}
+use Rattle.papaya_finds.specs.Given.Sweeps.declared.sweep.Sweeping.{Sweeping}
+use Rattle.papaya_finds.specs.Given.Sweeps.declared.sweep.Sweeping.TheVariants as sweeping
+use Rattle.papaya_finds.specs.Given.Raw.Machine.{machine_replied, sweep_told}
+use Rattle.papaya_finds.specs.Given.Raw.declared.machines.asking.Reply.{Reply as MachineReply}
+use Rattle.papaya_finds.specs.Given.Raw.declared.machines.asking.Reply.TheVariants as reply
+use Rattle.papaya_finds.specs.Given.Runs.Same.{is_same}
+use Rattle.papaya_finds.specs.Given.Schedules.declared.call.Call.{Call}
+use Rattle.papaya_finds.specs.Given.Schedules.declared.call.Call.TheVariants as call
+use Rattle.papaya_finds.specs.Given.Schedules.declared.call.Reply.{Reply}
+use Rattle.papaya_finds.specs.Given.Schedules.declared.call.Reply.TheVariants.{Gives, Removes, Aborts, Decides}
+use Rattle.papaya_finds.specs.Given.Schedules.After.{moments_from, replied}
+use Rattle.papaya_finds.specs.Given.Schedules.Entry.{Entry}
+use Rattle.papaya_finds.specs.Given.Schedules.Moment.{Asking, Told, UnderWay as CallThere, Moment}
+use Rattle.papaya_finds.specs.Given.Schedules.Sweeps.{is_yes}
+use Rattle.papaya_finds.specs.Given.Schedules.Views.{call_of, reply_to}
+use Rattle.papaya_finds.specs.Given.Rule.Words.{Blocks}
+use Rattle.papaya_finds.specs.Given.Points.Steps.{AreLawful}
+use Rattle.papaya_finds.specs.Given.Late.Covers.{times, NamesPair, CoversAt}
+use Rattle.papaya_finds.specs.Given.Late.FactsSweeps.{SweepingFacts}
+use Rattle.papaya_finds.specs.Given.Late.ToldSweeps.{IsRowOfSweep}
+use Rattle.papaya_finds.specs.Given.Callers.OverAll.{CallOverAll, told_of}
+use Rattle.papaya_finds.specs.Given.Callers.Sights.{IsSight, seen_by}
+use Rattle.papaya_finds.specs.Given.Callers.Together.{UnderWay, OnKey, ForRoom, Counting, OverAll, KnowsSweep, Together, in_slot}
+use Rattle.papaya_finds.specs.Given.Effects.Known.{Known}
+use Rattle.papaya_finds.specs.Given.Effects.declared.role.Role.TheVariants as role
+use Rattle.papaya_finds.specs.Given.Executor.IsAt.{Scene, IsAt, slot_of}
+use Rattle.papaya_finds.specs.Given.Executor.Replying.{scene_with}
+use Rattle.papaya_finds.specs.Given.Executor.declared.executor.Executor.{Executor}
+use Rattle.papaya_finds.specs.Given.Finishes.Machines.{machine_of, ToldOfKind}
+use Rattle.papaya_finds.specs.Given.Finishes.Maps.{Standing}
+use Rattle.papaya_finds.specs.Given.Follows.Calling.{told}
+use Rattle.papaya_finds.specs.Given.Follows.Shows.{Shows}
+use Rattle.papaya_finds.proofs.Given.Follows.Calling.{is_same_refl, replied_same, told_with}
+use Rattle.papaya_finds.proofs.Given.Follows.Calls.{found}
+use Rattle.papaya_finds.proofs.Given.Follows.Steps.{one_of}
+use Rattle.papaya_finds.specs.Given.Hands.Asked.{as_told}
+use Rattle.papaya_finds.proofs.Given.Hands.Asking.{which}
+use Rattle.papaya_finds.proofs.Given.Hands.Calling.{caller_is}
+use Rattle.papaya_finds.specs.Given.Histories.Answers.{NamesPair as NamesNumber}
+use Rattle.papaya_finds.specs.Given.Histories.Histories.{since, IsWithin}
+use Rattle.papaya_finds.proofs.Given.Histories.Roles.{named_by}
+use Rattle.papaya_finds.specs.Given.Moments.Whole.{ShowsWhole}
 use Rattle.papaya_purposes.specs.Kept.{AsksAboutIt, CallsTakePurposes}
 use Rattle.papaya_purposes.specs.Purposes.{IsFor, PairsWithin, HasAdded, HasMet, TellsDone, HasSwept, HasCome, ShowsPurposes}
 use Rattle.papaya_purposes.proofs.For.{key_is_for, sweep_for}

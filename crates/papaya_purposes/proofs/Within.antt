@@ -2,14 +2,14 @@
 use Rattle.std.specs.Prelude.{◌≡◌, ℕ, suc, ◌<◌, ◌≤◌, Bool, true, false, List, ◌∷◌, length, ◌⊎◌}
 use Rattle.std.proofs.Common.{refl, ap, sym, ◌∙◌, arith, inl, inr}
 use Rattle.std.proofs.lemmas.Bool.{cases_eq, cases_lt}
-use Rattle.papaya_histories.specs.Given.Schedules.After.{moment, moments_from}
-use Rattle.papaya_histories.specs.Given.Schedules.Entry.{Entry}
-use Rattle.papaya_histories.specs.Given.Schedules.Lists.{OneOf}
-use Rattle.papaya_histories.specs.Given.Schedules.Moment.{Moment}
-use Rattle.papaya_histories.specs.Given.Schedules.Views.{is_in_map}
-use Rattle.papaya_histories.specs.Given.Finishes.Maps.{Standing}
-use Rattle.papaya_histories.proofs.Later.{IsLater}
-use Rattle.papaya_histories.proofs.Logs.{each_of, last_there}
+use Rattle.papaya_finds.specs.Given.Schedules.After.{moment, moments_from}
+use Rattle.papaya_finds.specs.Given.Schedules.Entry.{Entry}
+use Rattle.papaya_finds.specs.Given.Schedules.Lists.{OneOf}
+use Rattle.papaya_finds.specs.Given.Schedules.Moment.{Moment}
+use Rattle.papaya_finds.specs.Given.Schedules.Views.{is_in_map}
+use Rattle.papaya_finds.specs.Given.Finishes.Maps.{Standing}
+use Rattle.papaya_finds.proofs.Given.Histories.Later.{IsLater}
+use Rattle.papaya_finds.proofs.Given.Histories.Logs.{each_of, last_there}
 use Rattle.papaya_purposes.specs.Purposes.{PairsWithin}
 
 -- from one moment to the next, of the map and of the run

@@ -1,7 +1,7 @@
 -- What calls on whole maps have come to stays so where anything else happens than a step of a call.
 use Rattle.std.specs.Prelude.{ℕ, Bool, List}
-use Rattle.papaya_histories.specs.Given.Schedules.Entry.{Entry}
-use Rattle.papaya_histories.specs.Elsewhere.{StaysElsewhere}
+use Rattle.papaya_finds.specs.Given.Schedules.Entry.{Entry}
+use Rattle.papaya_finds.specs.Given.Histories.Elsewhere.{StaysElsewhere}
 use Rattle.papaya_purposes.specs.Purposes.{ShowsPurposes}
 
 module _ (K V S : Type 0) (same : K → K → Bool) (hash : K → ℕ) where

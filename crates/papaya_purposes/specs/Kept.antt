@@ -1,40 +1,40 @@
 -- Where a run goes on, the moment says what calls on whole maps have come to, and what they are for.
 use Rattle.std.specs.Prelude.{◌≡◌, ℕ, Bool, true, List, [], ◌∷◌, length, Option, Some, Ok, ◌⊎◌}
-use Rattle.papaya_histories.specs.Given.Tables.declared.node.Node.{Node}
-use Rattle.papaya_histories.specs.Given.Sweeps.SweepPoints.{after_next}
-use Rattle.papaya_histories.specs.Given.Sweeps.declared.sweep.Sweeping.TheVariants as at
-use Rattle.papaya_histories.specs.Given.Raw.Machine.{machine_replied}
-use Rattle.papaya_histories.specs.Given.Raw.declared.machines.progress.Progress.{Progress}
-use Rattle.papaya_histories.specs.Given.Raw.declared.machines.progress.Progress.TheVariants as progress
-use Rattle.papaya_histories.specs.Given.Schedules.declared.call.Call.{Call}
-use Rattle.papaya_histories.specs.Given.Schedules.declared.call.Reply.{Reply}
-use Rattle.papaya_histories.specs.Given.Schedules.declared.outcome.Outcome.{Outcome}
-use Rattle.papaya_histories.specs.Given.Schedules.declared.outcome.Outcome.TheVariants.{Shows}
-use Rattle.papaya_histories.specs.Given.Schedules.After.{moment}
-use Rattle.papaya_histories.specs.Given.Schedules.Beginning.{with_call}
-use Rattle.papaya_histories.specs.Given.Schedules.Effects.{with_effects}
-use Rattle.papaya_histories.specs.Given.Schedules.Entry.{Entry, ends_call}
-use Rattle.papaya_histories.specs.Given.Schedules.Moment.{Asking, UnderWay as CallThere, Moment, start}
-use Rattle.papaya_histories.specs.Given.Schedules.Views.{call_of, is_in_map}
-use Rattle.papaya_histories.specs.Given.Callers.OverAll.{CallOverAll, gone_on}
-use Rattle.papaya_histories.specs.Given.Callers.Together.{UnderWay, OverAll}
-use Rattle.papaya_histories.specs.Given.Effects.Effects.{effects_of, known_after}
-use Rattle.papaya_histories.specs.Given.Effects.Known.{Known, nothing_known}
-use Rattle.papaya_histories.specs.Given.Effects.declared.acting.Acting.TheVariants as acts
-use Rattle.papaya_histories.specs.Given.Executor.Beginning.{Begins}
-use Rattle.papaya_histories.specs.Given.Executor.IsAt.{Scene, IsAt, at_first, slot_of}
-use Rattle.papaya_histories.specs.Given.Executor.Replying.{StopLeads, scene_with, unless_stopped}
-use Rattle.papaya_histories.specs.Given.Executor.Stepping.{StepLeads, scene_after}
-use Rattle.papaya_histories.specs.Given.Executor.declared.executor.Executor.{Executor}
-use Rattle.papaya_histories.specs.Given.Finishes.Machines.{machine_of, ToldOfKind}
-use Rattle.papaya_histories.specs.Given.Finishes.Maps.{Standing, with_call as with_in}
-use Rattle.papaya_histories.specs.Given.Follows.Calling.{NoneNamed, told, come_to}
-use Rattle.papaya_histories.specs.Given.Follows.Calls.{IsCalled}
-use Rattle.papaya_histories.specs.Given.Hands.Asked.{as_told}
-use Rattle.papaya_histories.specs.Answers.{NamesPair}
-use Rattle.papaya_histories.specs.Kept.{HasJustBegun, ChangesFirst}
-use Rattle.papaya_histories.specs.Given.Moments.Whole.{ShowsWhole}
-use Rattle.papaya_histories.specs.Given.Others.Walks.{given_up}
+use Rattle.papaya_finds.specs.Given.Tables.declared.node.Node.{Node}
+use Rattle.papaya_finds.specs.Given.Sweeps.SweepPoints.{after_next}
+use Rattle.papaya_finds.specs.Given.Sweeps.declared.sweep.Sweeping.TheVariants as at
+use Rattle.papaya_finds.specs.Given.Raw.Machine.{machine_replied}
+use Rattle.papaya_finds.specs.Given.Raw.declared.machines.progress.Progress.{Progress}
+use Rattle.papaya_finds.specs.Given.Raw.declared.machines.progress.Progress.TheVariants as progress
+use Rattle.papaya_finds.specs.Given.Schedules.declared.call.Call.{Call}
+use Rattle.papaya_finds.specs.Given.Schedules.declared.call.Reply.{Reply}
+use Rattle.papaya_finds.specs.Given.Schedules.declared.outcome.Outcome.{Outcome}
+use Rattle.papaya_finds.specs.Given.Schedules.declared.outcome.Outcome.TheVariants.{Shows}
+use Rattle.papaya_finds.specs.Given.Schedules.After.{moment}
+use Rattle.papaya_finds.specs.Given.Schedules.Beginning.{with_call}
+use Rattle.papaya_finds.specs.Given.Schedules.Effects.{with_effects}
+use Rattle.papaya_finds.specs.Given.Schedules.Entry.{Entry, ends_call}
+use Rattle.papaya_finds.specs.Given.Schedules.Moment.{Asking, UnderWay as CallThere, Moment, start}
+use Rattle.papaya_finds.specs.Given.Schedules.Views.{call_of, is_in_map}
+use Rattle.papaya_finds.specs.Given.Callers.OverAll.{CallOverAll, gone_on}
+use Rattle.papaya_finds.specs.Given.Callers.Together.{UnderWay, OverAll}
+use Rattle.papaya_finds.specs.Given.Effects.Effects.{effects_of, known_after}
+use Rattle.papaya_finds.specs.Given.Effects.Known.{Known, nothing_known}
+use Rattle.papaya_finds.specs.Given.Effects.declared.acting.Acting.TheVariants as acts
+use Rattle.papaya_finds.specs.Given.Executor.Beginning.{Begins}
+use Rattle.papaya_finds.specs.Given.Executor.IsAt.{Scene, IsAt, at_first, slot_of}
+use Rattle.papaya_finds.specs.Given.Executor.Replying.{StopLeads, scene_with, unless_stopped}
+use Rattle.papaya_finds.specs.Given.Executor.Stepping.{StepLeads, scene_after}
+use Rattle.papaya_finds.specs.Given.Executor.declared.executor.Executor.{Executor}
+use Rattle.papaya_finds.specs.Given.Finishes.Machines.{machine_of, ToldOfKind}
+use Rattle.papaya_finds.specs.Given.Finishes.Maps.{Standing, with_call as with_in}
+use Rattle.papaya_finds.specs.Given.Follows.Calling.{NoneNamed, told, come_to}
+use Rattle.papaya_finds.specs.Given.Follows.Calls.{IsCalled}
+use Rattle.papaya_finds.specs.Given.Hands.Asked.{as_told}
+use Rattle.papaya_finds.specs.Given.Histories.Answers.{NamesPair}
+use Rattle.papaya_finds.specs.Given.Histories.Kept.{HasJustBegun, ChangesFirst}
+use Rattle.papaya_finds.specs.Given.Moments.Whole.{ShowsWhole}
+use Rattle.papaya_finds.specs.Given.Others.Walks.{given_up}
 use Rattle.papaya_purposes.specs.Purposes.{IsFor, ShowsPurposes}
 use Rattle.papaya_purposes.specs.Shards.{ReadsShards}
 

@@ -7,3 +7,4 @@ pub mod Kept
 pub mod Rows
 pub mod Swept
 pub mod Elsewhere
+pub mod Given

@@ -2,34 +2,34 @@
 -- called.
 use Rattle.std.specs.Prelude.{◌≡◌, ℕ, suc, ◌<◌, ◌≤◌, ◌%◌, ◌^◌, Bool, true, List, [], length, map, Some}
 use Rattle.std.specs.List.{AllByRecursion}
-use Rattle.papaya_histories.specs.Given.Tables.Chunks.{is_incremental}
-use Rattle.papaya_histories.specs.Given.Resize.declared.sum.Summing.{Summing}
-use Rattle.papaya_histories.specs.Given.Resize.declared.sum.Summing.TheVariants as sums
-use Rattle.papaya_histories.specs.Given.Reserves.declared.reserve.Reserving.{Reserving}
-use Rattle.papaya_histories.specs.Given.Reserves.declared.reserve.Reserving.TheVariants as reserving
-use Rattle.papaya_histories.specs.Given.Sweeps.declared.sweep.Purpose.TheVariants.{Walks, Clears, Retains}
-use Rattle.papaya_histories.specs.Given.Schedules.declared.call.Call.{Call}
-use Rattle.papaya_histories.specs.Given.Schedules.declared.call.Call.TheVariants.{On, Reserve, Clear, Retain, Len, Walk}
-use Rattle.papaya_histories.specs.Given.Schedules.After.{moments_from}
-use Rattle.papaya_histories.specs.Given.Schedules.Counts.{AddsUp, Counts}
-use Rattle.papaya_histories.specs.Given.Schedules.Entry.{Entry}
-use Rattle.papaya_histories.specs.Given.Schedules.Lists.{OneOf}
-use Rattle.papaya_histories.specs.Given.Schedules.Moment.{UnderWay as CallThere, Moment}
-use Rattle.papaya_histories.specs.Given.Schedules.Sweeps.{is_yes}
-use Rattle.papaya_histories.specs.Given.Schedules.Views.{call_of, is_in_map, first_of, reply_to}
-use Rattle.papaya_histories.specs.Given.Rule.Maps.{spot_of}
-use Rattle.papaya_histories.specs.Given.Callers.OverAll.{CallOverAll}
-use Rattle.papaya_histories.specs.Given.Callers.Rooms.{CallForRoom}
-use Rattle.papaya_histories.specs.Given.Callers.Together.{UnderWay, OnKey, ForRoom, Counting, OverAll}
-use Rattle.papaya_histories.specs.Given.Effects.Known.{Known}
-use Rattle.papaya_histories.specs.Given.Executor.IsAt.{Scene}
-use Rattle.papaya_histories.specs.Given.Finishes.Maps.{Standing}
-use Rattle.papaya_histories.specs.Given.Follows.Shows.{Shows}
-use Rattle.papaya_histories.specs.Histories.{since, IsWithin}
+use Rattle.papaya_finds.specs.Given.Tables.Chunks.{is_incremental}
+use Rattle.papaya_finds.specs.Given.Resize.declared.sum.Summing.{Summing}
+use Rattle.papaya_finds.specs.Given.Resize.declared.sum.Summing.TheVariants as sums
+use Rattle.papaya_finds.specs.Given.Reserves.declared.reserve.Reserving.{Reserving}
+use Rattle.papaya_finds.specs.Given.Reserves.declared.reserve.Reserving.TheVariants as reserving
+use Rattle.papaya_finds.specs.Given.Sweeps.declared.sweep.Purpose.TheVariants.{Walks, Clears, Retains}
+use Rattle.papaya_finds.specs.Given.Schedules.declared.call.Call.{Call}
+use Rattle.papaya_finds.specs.Given.Schedules.declared.call.Call.TheVariants.{On, Reserve, Clear, Retain, Len, Walk}
+use Rattle.papaya_finds.specs.Given.Schedules.After.{moments_from}
+use Rattle.papaya_finds.specs.Given.Schedules.Counts.{AddsUp, Counts}
+use Rattle.papaya_finds.specs.Given.Schedules.Entry.{Entry}
+use Rattle.papaya_finds.specs.Given.Schedules.Lists.{OneOf}
+use Rattle.papaya_finds.specs.Given.Schedules.Moment.{UnderWay as CallThere, Moment}
+use Rattle.papaya_finds.specs.Given.Schedules.Sweeps.{is_yes}
+use Rattle.papaya_finds.specs.Given.Schedules.Views.{call_of, is_in_map, first_of, reply_to}
+use Rattle.papaya_finds.specs.Given.Rule.Maps.{spot_of}
+use Rattle.papaya_finds.specs.Given.Callers.OverAll.{CallOverAll}
+use Rattle.papaya_finds.specs.Given.Callers.Rooms.{CallForRoom}
+use Rattle.papaya_finds.specs.Given.Callers.Together.{UnderWay, OnKey, ForRoom, Counting, OverAll}
+use Rattle.papaya_finds.specs.Given.Effects.Known.{Known}
+use Rattle.papaya_finds.specs.Given.Executor.IsAt.{Scene}
+use Rattle.papaya_finds.specs.Given.Finishes.Maps.{Standing}
+use Rattle.papaya_finds.specs.Given.Follows.Shows.{Shows}
+use Rattle.papaya_finds.specs.Given.Histories.Histories.{since, IsWithin}
 use Rattle.papaya_finds.specs.Reserving.{ReservesAt}
 use Rattle.papaya_purposes.specs.Keys.{KeysAt, AreKeyed}
 use Rattle.papaya_purposes.specs.Needs.{NeedsAt}
-use Rattle.papaya_named.specs.Machines.{IsBefore}
+use Rattle.papaya_finds.specs.Given.Named.Machines.{IsBefore}
 
 -- by key, what a sweep that is a walk has come to in its map
 abbrev pub KeysOf : {K : Type 0} → (K → K → Bool) → Standing K → CallOverAll → Type 0

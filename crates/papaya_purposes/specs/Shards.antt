@@ -1,20 +1,20 @@
 -- Which words of a map's count a call that adds them up reads, in the words of a run.
 use Rattle.std.specs.Prelude.{◌≡◌, ℕ, Bool, List, Some}
-use Rattle.papaya_histories.specs.Given.Tables.declared.node.Node.{Node}
-use Rattle.papaya_histories.specs.Given.Raw.declared.machines.progress.Progress.{Progress}
-use Rattle.papaya_histories.specs.Given.Schedules.After.{moment}
-use Rattle.papaya_histories.specs.Given.Schedules.Effects.{with_effects}
-use Rattle.papaya_histories.specs.Given.Schedules.Entry.{Entry}
-use Rattle.papaya_histories.specs.Given.Schedules.Moment.{Moment}
-use Rattle.papaya_histories.specs.Given.Callers.Together.{UnderWay}
-use Rattle.papaya_histories.specs.Given.Effects.Effects.{effects_of}
-use Rattle.papaya_histories.specs.Given.Effects.Known.{Known}
-use Rattle.papaya_histories.specs.Given.Effects.declared.acting.Acting.TheVariants as acts
-use Rattle.papaya_histories.specs.Given.Executor.IsAt.{Scene, IsAt}
-use Rattle.papaya_histories.specs.Given.Executor.Stepping.{StepLeads}
-use Rattle.papaya_histories.specs.Given.Executor.declared.executor.Executor.{Executor}
-use Rattle.papaya_histories.specs.Given.Finishes.Maps.{Standing}
-use Rattle.papaya_histories.specs.Given.Moments.Whole.{ShowsWhole}
+use Rattle.papaya_finds.specs.Given.Tables.declared.node.Node.{Node}
+use Rattle.papaya_finds.specs.Given.Raw.declared.machines.progress.Progress.{Progress}
+use Rattle.papaya_finds.specs.Given.Schedules.After.{moment}
+use Rattle.papaya_finds.specs.Given.Schedules.Effects.{with_effects}
+use Rattle.papaya_finds.specs.Given.Schedules.Entry.{Entry}
+use Rattle.papaya_finds.specs.Given.Schedules.Moment.{Moment}
+use Rattle.papaya_finds.specs.Given.Callers.Together.{UnderWay}
+use Rattle.papaya_finds.specs.Given.Effects.Effects.{effects_of}
+use Rattle.papaya_finds.specs.Given.Effects.Known.{Known}
+use Rattle.papaya_finds.specs.Given.Effects.declared.acting.Acting.TheVariants as acts
+use Rattle.papaya_finds.specs.Given.Executor.IsAt.{Scene, IsAt}
+use Rattle.papaya_finds.specs.Given.Executor.Stepping.{StepLeads}
+use Rattle.papaya_finds.specs.Given.Executor.declared.executor.Executor.{Executor}
+use Rattle.papaya_finds.specs.Given.Finishes.Maps.{Standing}
+use Rattle.papaya_finds.specs.Given.Moments.Whole.{ShowsWhole}
 use Rattle.papaya_finds.specs.Within.{many_of}
 use Rattle.papaya_shards.specs.ShardSteps.{AddsUp}
 use Rattle.papaya_shards.specs.ShardWords.{ShowsShards, ShowsCounters}

@@ -1,32 +1,32 @@
 -- Events of calls on whole maps do what these are for.
 use Rattle.std.specs.Prelude.{◌≡◌, ℕ, suc, Bool, true, List, Some, None, is_some}
-use Rattle.papaya_histories.specs.Given.Tables.declared.node.Node.{Node}
-use Rattle.papaya_histories.specs.Given.Raw.declared.machines.progress.Answer.{Answer}
-use Rattle.papaya_histories.specs.Given.Raw.declared.machines.progress.Answer.TheVariants as answers
-use Rattle.papaya_histories.specs.Given.Raw.declared.machines.progress.Progress.{Progress}
-use Rattle.papaya_histories.specs.Given.Raw.declared.machines.progress.Progress.TheVariants as progress
-use Rattle.papaya_histories.specs.Given.Schedules.declared.call.Answer.TheVariants.{Absent, Completed, Counted}
-use Rattle.papaya_histories.specs.Given.Schedules.declared.call.Call.TheVariants.{On, Reserve, Clear, Retain, Len, Walk}
-use Rattle.papaya_histories.specs.Given.Schedules.declared.call.OneKey.{OneKey}
-use Rattle.papaya_histories.specs.Given.Schedules.declared.outcome.Outcome.{Outcome}
-use Rattle.papaya_histories.specs.Given.Schedules.declared.outcome.Outcome.TheVariants.{Shows, Answered}
-use Rattle.papaya_histories.specs.Given.Schedules.After.{moment}
-use Rattle.papaya_histories.specs.Given.Schedules.Effects.{with_effects, worked}
-use Rattle.papaya_histories.specs.Given.Schedules.Entry.{Entry, acting, caller_of}
-use Rattle.papaya_histories.specs.Given.Schedules.Moment.{UnderWay as CallThere, Moment}
-use Rattle.papaya_histories.specs.Given.Schedules.Sweeps.{IsSwept}
-use Rattle.papaya_histories.specs.Given.Schedules.Terms.{Terms, shards_of}
-use Rattle.papaya_histories.specs.Given.Schedules.Views.{call_of, finite_map}
-use Rattle.papaya_histories.specs.Given.Callers.Together.{UnderWay}
-use Rattle.papaya_histories.specs.Given.Effects.Effects.{effects_of, known_after}
-use Rattle.papaya_histories.specs.Given.Effects.Known.{Known}
-use Rattle.papaya_histories.specs.Given.Effects.declared.acting.Acting.TheVariants as acts
-use Rattle.papaya_histories.specs.Given.Executor.IsAt.{Scene, IsAt}
-use Rattle.papaya_histories.specs.Given.Executor.Stepping.{StepLeads}
-use Rattle.papaya_histories.specs.Given.Executor.declared.executor.Executor.{Executor}
-use Rattle.papaya_histories.specs.Given.Finishes.Maps.{Standing}
-use Rattle.papaya_histories.specs.Answers.{NamesPair}
-use Rattle.papaya_histories.specs.Given.Moments.Whole.{ShowsWhole}
+use Rattle.papaya_finds.specs.Given.Tables.declared.node.Node.{Node}
+use Rattle.papaya_finds.specs.Given.Raw.declared.machines.progress.Answer.{Answer}
+use Rattle.papaya_finds.specs.Given.Raw.declared.machines.progress.Answer.TheVariants as answers
+use Rattle.papaya_finds.specs.Given.Raw.declared.machines.progress.Progress.{Progress}
+use Rattle.papaya_finds.specs.Given.Raw.declared.machines.progress.Progress.TheVariants as progress
+use Rattle.papaya_finds.specs.Given.Schedules.declared.call.Answer.TheVariants.{Absent, Completed, Counted}
+use Rattle.papaya_finds.specs.Given.Schedules.declared.call.Call.TheVariants.{On, Reserve, Clear, Retain, Len, Walk}
+use Rattle.papaya_finds.specs.Given.Schedules.declared.call.OneKey.{OneKey}
+use Rattle.papaya_finds.specs.Given.Schedules.declared.outcome.Outcome.{Outcome}
+use Rattle.papaya_finds.specs.Given.Schedules.declared.outcome.Outcome.TheVariants.{Shows, Answered}
+use Rattle.papaya_finds.specs.Given.Schedules.After.{moment}
+use Rattle.papaya_finds.specs.Given.Schedules.Effects.{with_effects, worked}
+use Rattle.papaya_finds.specs.Given.Schedules.Entry.{Entry, acting, caller_of}
+use Rattle.papaya_finds.specs.Given.Schedules.Moment.{UnderWay as CallThere, Moment}
+use Rattle.papaya_finds.specs.Given.Schedules.Sweeps.{IsSwept}
+use Rattle.papaya_finds.specs.Given.Schedules.Terms.{Terms, shards_of}
+use Rattle.papaya_finds.specs.Given.Schedules.Views.{call_of, finite_map}
+use Rattle.papaya_finds.specs.Given.Callers.Together.{UnderWay}
+use Rattle.papaya_finds.specs.Given.Effects.Effects.{effects_of, known_after}
+use Rattle.papaya_finds.specs.Given.Effects.Known.{Known}
+use Rattle.papaya_finds.specs.Given.Effects.declared.acting.Acting.TheVariants as acts
+use Rattle.papaya_finds.specs.Given.Executor.IsAt.{Scene, IsAt}
+use Rattle.papaya_finds.specs.Given.Executor.Stepping.{StepLeads}
+use Rattle.papaya_finds.specs.Given.Executor.declared.executor.Executor.{Executor}
+use Rattle.papaya_finds.specs.Given.Finishes.Maps.{Standing}
+use Rattle.papaya_finds.specs.Given.Histories.Answers.{NamesPair}
+use Rattle.papaya_finds.specs.Given.Moments.Whole.{ShowsWhole}
 use Rattle.papaya_purposes.specs.Kept.{NoneCame, PairsChangeFirst}
 use Rattle.papaya_purposes.specs.Purposes.{ShowsPurposes}
 use Rattle.papaya_purposes.specs.Shards.{ReadsShards}

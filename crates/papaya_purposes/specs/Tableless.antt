@@ -1,10 +1,10 @@
 -- A map that has had no table has counted nothing: so it is at each moment of a run whose events go in order.
 use Rattle.std.specs.Prelude.{◌≡◌, ℕ, ◌+◌, ◌<◌, List}
 use Rattle.std.specs.List.{AllByRecursion}
-use Rattle.papaya_histories.specs.Given.Schedules.After.{after, moment}
-use Rattle.papaya_histories.specs.Given.Schedules.Entry.{Entry}
-use Rattle.papaya_histories.specs.Given.Schedules.Moment.{Moment, UnderWay, start}
-use Rattle.papaya_histories.specs.Given.Schedules.Terms.{Terms}
+use Rattle.papaya_finds.specs.Given.Schedules.After.{after, moment}
+use Rattle.papaya_finds.specs.Given.Schedules.Entry.{Entry}
+use Rattle.papaya_finds.specs.Given.Schedules.Moment.{Moment, UnderWay, start}
+use Rattle.papaya_finds.specs.Given.Schedules.Terms.{Terms}
 use Rattle.papaya_finds.specs.Within.{AllIsInOrder, GoesInOrder, ReadyOweNone, many_of}
 
 module _ {K V : Type 0} where

@@ -3,10 +3,10 @@ use Rattle.std.specs.Prelude.{◌≡◌, ◌⊎◌, ◌<◌, ◌≤◌, ◌==◌
 use Rattle.std.proofs.Common.{refl, ap, sym, ◌∙◌, inl, inr, arith, eqb-true}
 use Rattle.std.proofs.lemmas.Bool.{eq-eqb, le-ltb, lt-ltb}
 use Rattle.std.proofs.lemmas.List.{append-nil, append_assoc}
-use Rattle.papaya_moments.specs.Given.Schedules.Lists.{is_among}
-use Rattle.papaya_moments.specs.Given.Schedules.Moment.{Remains}
-use Rattle.papaya_moments.specs.Given.Effects.declared.role.Role.{Role}
-use Rattle.papaya_moments.specs.Given.Effects.declared.role.Role.TheVariants as role
+use Rattle.papaya_lives.specs.Given.Schedules.Lists.{is_among}
+use Rattle.papaya_lives.specs.Given.Schedules.Moment.{Remains}
+use Rattle.papaya_lives.specs.Given.Effects.declared.role.Role.{Role}
+use Rattle.papaya_lives.specs.Given.Effects.declared.role.Role.TheVariants as role
 use Rattle.seize_reclaims.specs.Roots.{all_lists}
 use Rattle.papaya_remains.specs.Remains.{AscendFrom, left_at}
 

@@ -2,26 +2,26 @@
 use Rattle.std.specs.Prelude.{◌≢◌, ◌⊎◌, Option, Some, None, option_map}
 use Rattle.std.proofs.Common.{◌≡◌, ℕ, Bool, true, List, inl, inr, refl, ap, sym, subst, ◌∙◌}
 use Rattle.std.proofs.lemmas.Bool.{cases_eq}
-use Rattle.papaya_moments.specs.Given.SeizeWords.declared.at.At.TheVariants.{Used}
-use Rattle.papaya_moments.specs.Given.SeizeWords.Mem.{word_at}
-use Rattle.papaya_moments.specs.Given.Seize.World.{World, with_at}
-use Rattle.papaya_moments.specs.Given.Seize.declared.progress.Progress.{Progress}
-use Rattle.papaya_moments.specs.Given.Seize.declared.progress.Progress.TheVariants as progress
-use Rattle.papaya_moments.specs.Given.Tables.declared.node.Node.{Node}
-use Rattle.papaya_moments.specs.Given.Tables.declared.setting.Setting.{Setting}
-use Rattle.papaya_moments.specs.Given.Resize.declared.new_map.NewMap.{NewMap}
-use Rattle.papaya_moments.specs.Given.Schedules.declared.effect.Effect.{Effect}
-use Rattle.papaya_moments.specs.Given.Schedules.Effects.{with_effects}
-use Rattle.papaya_moments.specs.Given.Schedules.Moment.{Moment}
-use Rattle.papaya_moments.proofs.Given.Callers.Together.At.{at_other, at_same}
-use Rattle.papaya_moments.specs.Given.Effects.Known.{Known}
-use Rattle.papaya_moments.specs.Given.Executor.IsAt.{Scene, IsAt, slot_of}
-use Rattle.papaya_moments.specs.Given.Executor.Making.{MakingComesTo}
-use Rattle.papaya_moments.specs.Given.Executor.declared.executor.Executor.{Executor}
-use Rattle.papaya_moments.specs.Given.Finishes.Endings.{EndingsTogether, MakingStepsAmong}
-use Rattle.papaya_moments.specs.Given.Finishes.Makings.{Beginning}
-use Rattle.papaya_moments.specs.Given.Finishes.Maps.{Standing}
-use Rattle.papaya_moments.specs.Given.Others.Makings.{making_after}
+use Rattle.papaya_lives.specs.Given.SeizeWords.declared.at.At.TheVariants.{Used}
+use Rattle.papaya_lives.specs.Given.SeizeWords.Mem.{word_at}
+use Rattle.papaya_lives.specs.Given.Seize.World.{World, with_at}
+use Rattle.papaya_lives.specs.Given.Seize.declared.progress.Progress.{Progress}
+use Rattle.papaya_lives.specs.Given.Seize.declared.progress.Progress.TheVariants as progress
+use Rattle.papaya_lives.specs.Given.Tables.declared.node.Node.{Node}
+use Rattle.papaya_lives.specs.Given.Tables.declared.setting.Setting.{Setting}
+use Rattle.papaya_lives.specs.Given.Resize.declared.new_map.NewMap.{NewMap}
+use Rattle.papaya_lives.specs.Given.Schedules.declared.effect.Effect.{Effect}
+use Rattle.papaya_lives.specs.Given.Schedules.Effects.{with_effects}
+use Rattle.papaya_lives.specs.Given.Schedules.Moment.{Moment}
+use Rattle.papaya_lives.proofs.Given.Callers.Together.At.{at_other, at_same}
+use Rattle.papaya_lives.specs.Given.Effects.Known.{Known}
+use Rattle.papaya_lives.specs.Given.Executor.IsAt.{Scene, IsAt, slot_of}
+use Rattle.papaya_lives.specs.Given.Executor.Making.{MakingComesTo}
+use Rattle.papaya_lives.specs.Given.Executor.declared.executor.Executor.{Executor}
+use Rattle.papaya_lives.specs.Given.Finishes.Endings.{EndingsTogether, MakingStepsAmong}
+use Rattle.papaya_lives.specs.Given.Finishes.Makings.{Beginning}
+use Rattle.papaya_lives.specs.Given.Finishes.Maps.{Standing}
+use Rattle.papaya_lives.specs.Given.Others.Makings.{making_after}
 use Rattle.papaya_reclaims.specs.Left.{LeftAmong, MakingLeft}
 use Rattle.papaya_reclaims.specs.Reclaims.{IsRootOf}
 use Rattle.papaya_reclaims.proofs.Behind.Kept.{keeps_still}

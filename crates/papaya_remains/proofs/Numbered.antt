@@ -4,27 +4,27 @@ use Rattle.std.specs.List.{All}
 use Rattle.std.proofs.Common.{◌≡◌, ℕ, zero, suc, Bool, true, false, inl, inr, refl, ap, sym, subst, ◌∙◌, arith}
 use Rattle.std.proofs.lemmas.Bool.{cases_lt}
 use Rattle.std.proofs.lemmas.List.{get_or_past, length-map}
-use Rattle.papaya_moments.specs.Given.SeizeWords.declared.at.At.TheVariants.{Root, Used, Slot, Entry, Word}
-use Rattle.papaya_moments.specs.Given.Teller.declared.changed.Changed.{Changed}
-use Rattle.papaya_moments.specs.Given.Teller.declared.changed.Changed.TheVariants as changed
-use Rattle.papaya_moments.specs.Given.Teller.declared.changed.Changed.TheVariants.{Took}
-use Rattle.papaya_moments.specs.Given.Schedules.declared.effect.Effect.{Effect}
-use Rattle.papaya_moments.specs.Given.Schedules.declared.effect.Effect.TheVariants.{Asked, Taken}
-use Rattle.papaya_moments.specs.Given.Schedules.declared.effect.Growth.TheVariants.{ABucket}
-use Rattle.papaya_moments.specs.Given.Schedules.declared.effect.Table.{Table}
-use Rattle.papaya_moments.specs.Given.Schedules.Effects.{at_stage, maps_by, tables_by, with_effect, with_effects}
-use Rattle.papaya_moments.specs.Given.Schedules.Moment.{IsReclaimed, IsTaken, MapThere, Moment, TableThere}
-use Rattle.papaya_moments.specs.Given.Effects.Effects.{names_same, taken_by, effects_of}
-use Rattle.papaya_moments.specs.Given.Effects.Known.{Known}
-use Rattle.papaya_moments.specs.Given.Effects.declared.acting.Acting.TheVariants as acts
-use Rattle.papaya_moments.specs.Given.Effects.declared.role.Role.{Role}
-use Rattle.papaya_moments.specs.Given.Effects.declared.role.Role.TheVariants as role
-use Rattle.papaya_moments.specs.Given.Executor.IsAt.{Scene, IsAt}
-use Rattle.papaya_moments.specs.Given.Executor.declared.executor.Executor.{Executor}
-use Rattle.papaya_moments.specs.Given.Finishes.Maps.{Standing}
-use Rattle.papaya_moments.proofs.Given.Others.RowPlans.{TellsRow}
-use Rattle.papaya_moments.specs.Numbers.{NumbersMaps}
-use Rattle.papaya_moments.proofs.Numbers.{rows_keep_numbers, steps_keep_numbers}
+use Rattle.papaya_lives.specs.Given.SeizeWords.declared.at.At.TheVariants.{Root, Used, Slot, Entry, Word}
+use Rattle.papaya_lives.specs.Given.Teller.declared.changed.Changed.{Changed}
+use Rattle.papaya_lives.specs.Given.Teller.declared.changed.Changed.TheVariants as changed
+use Rattle.papaya_lives.specs.Given.Teller.declared.changed.Changed.TheVariants.{Took}
+use Rattle.papaya_lives.specs.Given.Schedules.declared.effect.Effect.{Effect}
+use Rattle.papaya_lives.specs.Given.Schedules.declared.effect.Effect.TheVariants.{Asked, Taken}
+use Rattle.papaya_lives.specs.Given.Schedules.declared.effect.Growth.TheVariants.{ABucket}
+use Rattle.papaya_lives.specs.Given.Schedules.declared.effect.Table.{Table}
+use Rattle.papaya_lives.specs.Given.Schedules.Effects.{at_stage, maps_by, tables_by, with_effect, with_effects}
+use Rattle.papaya_lives.specs.Given.Schedules.Moment.{IsReclaimed, IsTaken, MapThere, Moment, TableThere}
+use Rattle.papaya_lives.specs.Given.Effects.Effects.{names_same, taken_by, effects_of}
+use Rattle.papaya_lives.specs.Given.Effects.Known.{Known}
+use Rattle.papaya_lives.specs.Given.Effects.declared.acting.Acting.TheVariants as acts
+use Rattle.papaya_lives.specs.Given.Effects.declared.role.Role.{Role}
+use Rattle.papaya_lives.specs.Given.Effects.declared.role.Role.TheVariants as role
+use Rattle.papaya_lives.specs.Given.Executor.IsAt.{Scene, IsAt}
+use Rattle.papaya_lives.specs.Given.Executor.declared.executor.Executor.{Executor}
+use Rattle.papaya_lives.specs.Given.Finishes.Maps.{Standing}
+use Rattle.papaya_lives.proofs.Given.Others.RowPlans.{TellsRow}
+use Rattle.papaya_lives.specs.Given.Moments.Numbers.{NumbersMaps}
+use Rattle.papaya_lives.proofs.Given.Moments.Numbers.{rows_keep_numbers, steps_keep_numbers}
 use Rattle.papaya_remains.specs.Numbered.{CallsKeepCount, EndsKeepCount, MakingsKeepCount, MoreAreCounted, NumbersUpTo, RowsKeepCount}
 
 module _ {K V : Type 0} (caller : Option (List ℕ)) (acted : Option ℕ) where

@@ -2,21 +2,21 @@
 use Rattle.std.specs.Prelude.{◌<◌, ◌||◌, ◌==◌, map, Some, None, if◌then◌else◌}
 use Rattle.std.specs.List.{All, AllByRecursion}
 use Rattle.std.proofs.Common.{◌≡◌, ℕ, suc, Bool, true, false, List, [], ◌∷◌, inl, inr, refl, ap, sym, subst, ◌∙◌, arith, eqb-true}
-use Rattle.papaya_moments.specs.Given.SeizeWords.declared.at.At.TheVariants.{Used}
-use Rattle.papaya_moments.specs.Given.SeizeWords.Mem.{Mem, word_at}
-use Rattle.papaya_moments.specs.Given.Tables.declared.node.Node.{Node}
-use Rattle.papaya_moments.specs.Given.Schedules.Beginning.{used_roots}
-use Rattle.papaya_moments.specs.Given.Schedules.Lists.{is_among}
-use Rattle.papaya_moments.specs.Given.Schedules.Moment.{MapThere, Moment}
-use Rattle.papaya_moments.specs.Given.Schedules.Views.{map_at}
-use Rattle.papaya_moments.specs.Given.Effects.Known.{Known}
-use Rattle.papaya_moments.specs.Given.Effects.declared.role.Role.TheVariants as role
-use Rattle.papaya_moments.specs.Given.Executor.IsAt.{Scene, IsAt}
-use Rattle.papaya_moments.specs.Given.Executor.declared.executor.Executor.{Executor}
-use Rattle.papaya_moments.specs.Given.Finishes.Maps.{Standing}
-use Rattle.papaya_moments.specs.Given.Follows.Shows.{Shows}
-use Rattle.papaya_moments.proofs.Given.Runs.Pairs.Held.{times-append}
-use Rattle.papaya_moments.specs.Numbers.{AreFound}
+use Rattle.papaya_lives.specs.Given.SeizeWords.declared.at.At.TheVariants.{Used}
+use Rattle.papaya_lives.specs.Given.SeizeWords.Mem.{Mem, word_at}
+use Rattle.papaya_lives.specs.Given.Tables.declared.node.Node.{Node}
+use Rattle.papaya_lives.specs.Given.Schedules.Beginning.{used_roots}
+use Rattle.papaya_lives.specs.Given.Schedules.Lists.{is_among}
+use Rattle.papaya_lives.specs.Given.Schedules.Moment.{MapThere, Moment}
+use Rattle.papaya_lives.specs.Given.Schedules.Views.{map_at}
+use Rattle.papaya_lives.specs.Given.Effects.Known.{Known}
+use Rattle.papaya_lives.specs.Given.Effects.declared.role.Role.TheVariants as role
+use Rattle.papaya_lives.specs.Given.Executor.IsAt.{Scene, IsAt}
+use Rattle.papaya_lives.specs.Given.Executor.declared.executor.Executor.{Executor}
+use Rattle.papaya_lives.specs.Given.Finishes.Maps.{Standing}
+use Rattle.papaya_lives.specs.Given.Follows.Shows.{Shows}
+use Rattle.papaya_lives.proofs.Given.Runs.Pairs.Held.{times-append}
+use Rattle.papaya_lives.specs.Given.Moments.Numbers.{AreFound}
 use Rattle.papaya_reclaims.specs.Left.{IsSomebodys}
 use Rattle.papaya_reclaims.specs.Reclaims.{IsRootOf, RootLeads}
 use Rattle.papaya_reclaims.proofs.Left.Stays.{left_is_left_behind}

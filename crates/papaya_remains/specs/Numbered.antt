@@ -1,23 +1,23 @@
 -- Numbers of maps, as an executor counts them: those that are there and those of all tables are below the next one that it gives, while maps are made, too.
 use Rattle.std.specs.Prelude.{◌≡◌, ◌+◌, ℕ, Bool, List, length, Option, Some, None}
-use Rattle.papaya_moments.specs.Given.Tables.declared.node.Node.{Node}
-use Rattle.papaya_moments.specs.Given.Raw.declared.machines.progress.Progress.{Progress as CallTold}
-use Rattle.papaya_moments.specs.Given.Schedules.Effects.{with_effects}
-use Rattle.papaya_moments.specs.Given.Schedules.Moment.{Moment}
-use Rattle.papaya_moments.specs.Given.Callers.Together.{UnderWay}
-use Rattle.papaya_moments.specs.Given.Effects.Effects.{effects_of, taken_by}
-use Rattle.papaya_moments.specs.Given.Effects.Known.{Known}
-use Rattle.papaya_moments.specs.Given.Effects.declared.acting.Acting.TheVariants as acts
-use Rattle.papaya_moments.specs.Given.Effects.declared.role.Role.{Role}
-use Rattle.papaya_moments.specs.Given.Executor.IsAt.{Scene, IsAt, work_of}
-use Rattle.papaya_moments.specs.Given.Executor.OnSlots.{RowLeads}
-use Rattle.papaya_moments.specs.Given.Executor.Stepping.{StepLeads}
-use Rattle.papaya_moments.specs.Given.Executor.declared.executor.Executor.{Executor}
-use Rattle.papaya_moments.specs.Given.Executor.declared.row.RowTold.{RowTold}
-use Rattle.papaya_moments.specs.Given.Executor.declared.row.SlotRow.{SlotRow}
-use Rattle.papaya_moments.specs.Given.Executor.declared.worker.Work.TheVariants.{OnSlot}
-use Rattle.papaya_moments.specs.Given.Finishes.Makings.{Beginning}
-use Rattle.papaya_moments.specs.Numbers.{NumbersMaps}
+use Rattle.papaya_lives.specs.Given.Tables.declared.node.Node.{Node}
+use Rattle.papaya_lives.specs.Given.Raw.declared.machines.progress.Progress.{Progress as CallTold}
+use Rattle.papaya_lives.specs.Given.Schedules.Effects.{with_effects}
+use Rattle.papaya_lives.specs.Given.Schedules.Moment.{Moment}
+use Rattle.papaya_lives.specs.Given.Callers.Together.{UnderWay}
+use Rattle.papaya_lives.specs.Given.Effects.Effects.{effects_of, taken_by}
+use Rattle.papaya_lives.specs.Given.Effects.Known.{Known}
+use Rattle.papaya_lives.specs.Given.Effects.declared.acting.Acting.TheVariants as acts
+use Rattle.papaya_lives.specs.Given.Effects.declared.role.Role.{Role}
+use Rattle.papaya_lives.specs.Given.Executor.IsAt.{Scene, IsAt, work_of}
+use Rattle.papaya_lives.specs.Given.Executor.OnSlots.{RowLeads}
+use Rattle.papaya_lives.specs.Given.Executor.Stepping.{StepLeads}
+use Rattle.papaya_lives.specs.Given.Executor.declared.executor.Executor.{Executor}
+use Rattle.papaya_lives.specs.Given.Executor.declared.row.RowTold.{RowTold}
+use Rattle.papaya_lives.specs.Given.Executor.declared.row.SlotRow.{SlotRow}
+use Rattle.papaya_lives.specs.Given.Executor.declared.worker.Work.TheVariants.{OnSlot}
+use Rattle.papaya_lives.specs.Given.Finishes.Makings.{Beginning}
+use Rattle.papaya_lives.specs.Given.Moments.Numbers.{NumbersMaps}
 
 -- numbers are as they are where so many have been given
 abbrev pub NumbersUpTo : {K V : Type 0} → ℕ → Moment K V → Type 0

@@ -1,29 +1,29 @@
 -- That words of slots are noted just where there are some, and what is promised of each kind of step.
 use Rattle.std.specs.Prelude.{◌≡◌, ◌<◌, ◌+◌, ℕ, Bool, [], length, Some, IsSome}
-use Rattle.papaya_moments.specs.Given.SeizeWords.declared.at.At.TheVariants.{Slot}
-use Rattle.papaya_moments.specs.Given.SeizeWords.Mem.{Mem, word_at}
-use Rattle.papaya_moments.specs.Given.SeizeWords.Place.{capacity}
-use Rattle.papaya_moments.specs.Given.Seize.declared.progress.Progress.{Progress}
-use Rattle.papaya_moments.specs.Given.Seize.declared.rows.settle.Settled.{Settled}
-use Rattle.papaya_moments.specs.Given.Seize.declared.states.TheConstants.{HEAD}
-use Rattle.papaya_moments.specs.Given.Tables.declared.node.Node.{Node}
-use Rattle.papaya_moments.specs.Given.Tables.declared.setting.Setting.{Setting}
-use Rattle.papaya_moments.specs.Given.Raw.declared.machines.progress.Progress.{Progress as CallTold}
-use Rattle.papaya_moments.specs.Given.Callers.Together.{UnderWay}
-use Rattle.papaya_moments.specs.Given.Effects.Effects.{known_after}
-use Rattle.papaya_moments.specs.Given.Effects.Known.{Known, nothing_known}
-use Rattle.papaya_moments.specs.Given.Effects.declared.acting.Acting.TheVariants as acts
-use Rattle.papaya_moments.specs.Given.Executor.Ending.{EndingLeads}
-use Rattle.papaya_moments.specs.Given.Executor.IsAt.{Scene, IsAt, at_first, work_of}
-use Rattle.papaya_moments.specs.Given.Executor.Making.{MakingLeads}
-use Rattle.papaya_moments.specs.Given.Executor.OnSlots.{RowLeads}
-use Rattle.papaya_moments.specs.Given.Executor.Stepping.{StepLeads}
-use Rattle.papaya_moments.specs.Given.Executor.declared.executor.Executor.{Executor}
-use Rattle.papaya_moments.specs.Given.Executor.declared.row.RowTold.{RowTold}
-use Rattle.papaya_moments.specs.Given.Executor.declared.row.SlotRow.{SlotRow}
-use Rattle.papaya_moments.specs.Given.Executor.declared.worker.Work.TheVariants.{OnSlot}
-use Rattle.papaya_moments.specs.Given.Finishes.Endings.{Finishing}
-use Rattle.papaya_moments.specs.Given.Finishes.Makings.{Beginning}
+use Rattle.papaya_lives.specs.Given.SeizeWords.declared.at.At.TheVariants.{Slot}
+use Rattle.papaya_lives.specs.Given.SeizeWords.Mem.{Mem, word_at}
+use Rattle.papaya_lives.specs.Given.SeizeWords.Place.{capacity}
+use Rattle.papaya_lives.specs.Given.Seize.declared.progress.Progress.{Progress}
+use Rattle.papaya_lives.specs.Given.Seize.declared.rows.settle.Settled.{Settled}
+use Rattle.papaya_lives.specs.Given.Seize.declared.states.TheConstants.{HEAD}
+use Rattle.papaya_lives.specs.Given.Tables.declared.node.Node.{Node}
+use Rattle.papaya_lives.specs.Given.Tables.declared.setting.Setting.{Setting}
+use Rattle.papaya_lives.specs.Given.Raw.declared.machines.progress.Progress.{Progress as CallTold}
+use Rattle.papaya_lives.specs.Given.Callers.Together.{UnderWay}
+use Rattle.papaya_lives.specs.Given.Effects.Effects.{known_after}
+use Rattle.papaya_lives.specs.Given.Effects.Known.{Known, nothing_known}
+use Rattle.papaya_lives.specs.Given.Effects.declared.acting.Acting.TheVariants as acts
+use Rattle.papaya_lives.specs.Given.Executor.Ending.{EndingLeads}
+use Rattle.papaya_lives.specs.Given.Executor.IsAt.{Scene, IsAt, at_first, work_of}
+use Rattle.papaya_lives.specs.Given.Executor.Making.{MakingLeads}
+use Rattle.papaya_lives.specs.Given.Executor.OnSlots.{RowLeads}
+use Rattle.papaya_lives.specs.Given.Executor.Stepping.{StepLeads}
+use Rattle.papaya_lives.specs.Given.Executor.declared.executor.Executor.{Executor}
+use Rattle.papaya_lives.specs.Given.Executor.declared.row.RowTold.{RowTold}
+use Rattle.papaya_lives.specs.Given.Executor.declared.row.SlotRow.{SlotRow}
+use Rattle.papaya_lives.specs.Given.Executor.declared.worker.Work.TheVariants.{OnSlot}
+use Rattle.papaya_lives.specs.Given.Finishes.Endings.{Finishing}
+use Rattle.papaya_lives.specs.Given.Finishes.Makings.{Beginning}
 
 -- where a bucket is noted the first slot has a word, and where none is there is no slot; slots are as many as the buckets that are noted have
 pub record SlotsNoted {T : Type 0} (noted : Known) (m : Mem T) : Type 0 where

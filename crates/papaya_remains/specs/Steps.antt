@@ -1,41 +1,41 @@
 -- What is promised of each kind of step: what ended maps have left over is behind the roots that the moment after it says. So it is where maps come and go, and once all is reclaimed.
 use Rattle.std.specs.Prelude.{◌≡◌, ◌<◌, ◌≤◌, ℕ, Bool, false, List, [], length, filter, map, Option, Some, None}
-use Rattle.papaya_moments.specs.Given.Seize.World.{Begin, Step, with_at}
-use Rattle.papaya_moments.specs.Given.Seize.declared.progress.Progress.{Progress}
-use Rattle.papaya_moments.specs.Given.Seize.declared.rows.settle.Settled.{Settled}
-use Rattle.papaya_moments.specs.Given.Tables.declared.node.Node.{Node}
-use Rattle.papaya_moments.specs.Given.Tables.declared.setting.Setting.{Setting}
-use Rattle.papaya_moments.specs.Given.Raw.declared.machines.progress.Progress.{Progress as CallTold}
-use Rattle.papaya_moments.specs.Given.Runs.Same.{is_same}
-use Rattle.papaya_moments.specs.Given.Schedules.declared.effect.Effect.{Effect}
-use Rattle.papaya_moments.specs.Given.Schedules.After.{if_any}
-use Rattle.papaya_moments.specs.Given.Schedules.Beginning.{used_roots, with_map}
-use Rattle.papaya_moments.specs.Given.Schedules.Effects.{with_effects}
-use Rattle.papaya_moments.specs.Given.Schedules.Lists.{is_among}
-use Rattle.papaya_moments.specs.Given.Schedules.Moment.{MapThere, Moment, start}
-use Rattle.papaya_moments.specs.Given.Schedules.Views.{map_of}
-use Rattle.papaya_moments.specs.Given.Callers.Together.{UnderWay}
-use Rattle.papaya_moments.specs.Given.Effects.Known.{Known, nothing_known}
-use Rattle.papaya_moments.specs.Given.Effects.declared.role.Role.TheVariants as role
-use Rattle.papaya_moments.specs.Given.Executor.Ending.{EndingLeads, ending_begun}
-use Rattle.papaya_moments.specs.Given.Executor.IsAt.{Scene, IsAt, at_first, slot_of, work_of}
-use Rattle.papaya_moments.specs.Given.Executor.Making.{MakingLeads}
-use Rattle.papaya_moments.specs.Given.Executor.OnSlots.{MayBegin, RowBegins, RowLeads}
-use Rattle.papaya_moments.specs.Given.Executor.Rows.{request_of}
-use Rattle.papaya_moments.specs.Given.Executor.Stepping.{StepLeads, scene_after}
-use Rattle.papaya_moments.specs.Given.Executor.declared.executor.Executor.{Executor}
-use Rattle.papaya_moments.specs.Given.Executor.declared.row.RowTold.{RowTold}
-use Rattle.papaya_moments.specs.Given.Executor.declared.row.SlotCall.{SlotCall}
-use Rattle.papaya_moments.specs.Given.Executor.declared.row.SlotRow.{SlotRow}
-use Rattle.papaya_moments.specs.Given.Executor.declared.worker.Work.TheVariants.{OnSlot}
-use Rattle.papaya_moments.specs.Given.Finishes.Endings.{Finishing}
-use Rattle.papaya_moments.specs.Given.Finishes.Makings.{Beginning, HasTaken}
-use Rattle.papaya_moments.specs.Given.Finishes.Maps.{Standing}
-use Rattle.papaya_moments.specs.Given.Follows.Shows.{Shows}
-use Rattle.papaya_moments.specs.Given.Others.Endings.{ending_after, without_map}
-use Rattle.papaya_moments.specs.Given.Others.Makings.{making_after}
-use Rattle.papaya_moments.specs.Given.Others.Rows.{scene_then}
-use Rattle.papaya_moments.specs.Numbers.{AreFound}
+use Rattle.papaya_lives.specs.Given.Seize.World.{Begin, Step, with_at}
+use Rattle.papaya_lives.specs.Given.Seize.declared.progress.Progress.{Progress}
+use Rattle.papaya_lives.specs.Given.Seize.declared.rows.settle.Settled.{Settled}
+use Rattle.papaya_lives.specs.Given.Tables.declared.node.Node.{Node}
+use Rattle.papaya_lives.specs.Given.Tables.declared.setting.Setting.{Setting}
+use Rattle.papaya_lives.specs.Given.Raw.declared.machines.progress.Progress.{Progress as CallTold}
+use Rattle.papaya_lives.specs.Given.Runs.Same.{is_same}
+use Rattle.papaya_lives.specs.Given.Schedules.declared.effect.Effect.{Effect}
+use Rattle.papaya_lives.specs.Given.Schedules.After.{if_any}
+use Rattle.papaya_lives.specs.Given.Schedules.Beginning.{used_roots, with_map}
+use Rattle.papaya_lives.specs.Given.Schedules.Effects.{with_effects}
+use Rattle.papaya_lives.specs.Given.Schedules.Lists.{is_among}
+use Rattle.papaya_lives.specs.Given.Schedules.Moment.{MapThere, Moment, start}
+use Rattle.papaya_lives.specs.Given.Schedules.Views.{map_of}
+use Rattle.papaya_lives.specs.Given.Callers.Together.{UnderWay}
+use Rattle.papaya_lives.specs.Given.Effects.Known.{Known, nothing_known}
+use Rattle.papaya_lives.specs.Given.Effects.declared.role.Role.TheVariants as role
+use Rattle.papaya_lives.specs.Given.Executor.Ending.{EndingLeads, ending_begun}
+use Rattle.papaya_lives.specs.Given.Executor.IsAt.{Scene, IsAt, at_first, slot_of, work_of}
+use Rattle.papaya_lives.specs.Given.Executor.Making.{MakingLeads}
+use Rattle.papaya_lives.specs.Given.Executor.OnSlots.{MayBegin, RowBegins, RowLeads}
+use Rattle.papaya_lives.specs.Given.Executor.Rows.{request_of}
+use Rattle.papaya_lives.specs.Given.Executor.Stepping.{StepLeads, scene_after}
+use Rattle.papaya_lives.specs.Given.Executor.declared.executor.Executor.{Executor}
+use Rattle.papaya_lives.specs.Given.Executor.declared.row.RowTold.{RowTold}
+use Rattle.papaya_lives.specs.Given.Executor.declared.row.SlotCall.{SlotCall}
+use Rattle.papaya_lives.specs.Given.Executor.declared.row.SlotRow.{SlotRow}
+use Rattle.papaya_lives.specs.Given.Executor.declared.worker.Work.TheVariants.{OnSlot}
+use Rattle.papaya_lives.specs.Given.Finishes.Endings.{Finishing}
+use Rattle.papaya_lives.specs.Given.Finishes.Makings.{Beginning, HasTaken}
+use Rattle.papaya_lives.specs.Given.Finishes.Maps.{Standing}
+use Rattle.papaya_lives.specs.Given.Follows.Shows.{Shows}
+use Rattle.papaya_lives.specs.Given.Others.Endings.{ending_after, without_map}
+use Rattle.papaya_lives.specs.Given.Others.Makings.{making_after}
+use Rattle.papaya_lives.specs.Given.Others.Rows.{scene_then}
+use Rattle.papaya_lives.specs.Given.Moments.Numbers.{AreFound}
 use Rattle.papaya_reclaims.specs.Reclaims.{AllIsReclaimed, LeftBehind}
 use Rattle.papaya_remains.specs.Remains.{AllStand, LeftNoted, RootsAreTaken, ShowsRemains, left_at, map_roots}
 

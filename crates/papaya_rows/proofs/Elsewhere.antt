@@ -1,16 +1,16 @@
 -- What is nothing to what is shown: of a moment all but its pairs, maps, tables and calls.
 use Rattle.std.specs.Prelude.{◌≡◌, ℕ, Bool, List}
 use Rattle.std.proofs.Common.{refl}
-use Rattle.papaya_histories.specs.Given.Runs.Present.{Present}
-use Rattle.papaya_histories.specs.Given.Schedules.Moment.{Remains, Sheltered, Moment}
-use Rattle.papaya_histories.specs.Given.Finishes.Maps.{Standing}
-use Rattle.papaya_histories.specs.Given.Effects.Known.{Known, known as noted_in}
-use Rattle.papaya_histories.specs.Given.Executor.IsAt.{Scene}
-use Rattle.papaya_histories.specs.Given.Follows.Maps.{ShowsMap}
-use Rattle.papaya_histories.specs.Given.Moments.Whole.{ShowsWhole}
-use Rattle.papaya_kept.specs.Kept.{ShowsKept}
-use Rattle.papaya_kept.proofs.Stays.{stays_kept}
-use Rattle.papaya_remains.proofs.Stays.{stays_remain}
+use Rattle.papaya_logged.specs.Given.Runs.Present.{Present}
+use Rattle.papaya_logged.specs.Given.Schedules.Moment.{Remains, Sheltered, Moment}
+use Rattle.papaya_logged.specs.Given.Finishes.Maps.{Standing}
+use Rattle.papaya_logged.specs.Given.Effects.Known.{Known, known as noted_in}
+use Rattle.papaya_logged.specs.Given.Executor.IsAt.{Scene}
+use Rattle.papaya_logged.specs.Given.Follows.Maps.{ShowsMap}
+use Rattle.papaya_logged.specs.Given.Moments.Whole.{ShowsWhole}
+use Rattle.papaya_logged.specs.Given.Kept.Kept.{ShowsKept}
+use Rattle.papaya_logged.proofs.Given.Kept.Stays.{stays_kept}
+use Rattle.papaya_logged.proofs.Given.Remains.Stays.{stays_remain}
 use Rattle.papaya_logged.specs.Shown.{AreNumbered, IsCounted}
 use Rattle.papaya_logged.specs.declared.logged.Logged.{Logged}
 

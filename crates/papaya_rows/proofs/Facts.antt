@@ -3,18 +3,18 @@ use Rattle.std.specs.Prelude.{◌≡◌, ◌≢◌, ◌<◌, ◌≤◌, ◌⊎�
 use Rattle.std.proofs.Common.{refl, sym, ap, subst, ◌∙◌, inl, inr, arith}
 use Rattle.std.proofs.lemmas.Bool.{cases_lt, eq-eqb}
 use Rattle.std.proofs.lemmas.List.{get_or_past}
-use Rattle.papaya_histories.specs.Given.Seize.World.{Use, Rests}
-use Rattle.papaya_histories.specs.Given.Finishes.Machines.{machine_of}
-use Rattle.papaya_histories.specs.Given.Executor.IsAt.{Scene, IsAt, IsUsedAs, HasRow, call_in, making_in, ending_in, row_of, use_at, work_of}
-use Rattle.papaya_histories.specs.Given.Executor.declared.executor.Executor.{Executor}
-use Rattle.papaya_histories.specs.Given.Executor.declared.row.SlotRow.{SlotRow}
-use Rattle.papaya_histories.specs.Given.Executor.declared.row.SlotRow.TheVariants as rows
-use Rattle.papaya_histories.specs.Given.Executor.declared.row.SlotUse.{SlotUse}
-use Rattle.papaya_histories.specs.Given.Executor.declared.row.SlotUse.TheVariants as used
-use Rattle.papaya_histories.specs.Given.Executor.declared.worker.TheConstants.{SLOTS}
-use Rattle.papaya_histories.specs.Given.Executor.declared.worker.Work.{Work}
-use Rattle.papaya_histories.specs.Given.Executor.declared.worker.Work.TheVariants as work
-use Rattle.papaya_histories.proofs.Given.Executor.Places.{none_of}
+use Rattle.papaya_logged.specs.Given.Seize.World.{Use, Rests}
+use Rattle.papaya_logged.specs.Given.Finishes.Machines.{machine_of}
+use Rattle.papaya_logged.specs.Given.Executor.IsAt.{Scene, IsAt, IsUsedAs, HasRow, call_in, making_in, ending_in, row_of, use_at, work_of}
+use Rattle.papaya_logged.specs.Given.Executor.declared.executor.Executor.{Executor}
+use Rattle.papaya_logged.specs.Given.Executor.declared.row.SlotRow.{SlotRow}
+use Rattle.papaya_logged.specs.Given.Executor.declared.row.SlotRow.TheVariants as rows
+use Rattle.papaya_logged.specs.Given.Executor.declared.row.SlotUse.{SlotUse}
+use Rattle.papaya_logged.specs.Given.Executor.declared.row.SlotUse.TheVariants as used
+use Rattle.papaya_logged.specs.Given.Executor.declared.worker.TheConstants.{SLOTS}
+use Rattle.papaya_logged.specs.Given.Executor.declared.worker.Work.{Work}
+use Rattle.papaya_logged.specs.Given.Executor.declared.worker.Work.TheVariants as work
+use Rattle.papaya_logged.proofs.Given.Executor.Places.{none_of}
 
 -- a row is none that rests
 never_rests : (it : SlotRow) → row_of it ≡ Rests → ⊥

@@ -1,31 +1,31 @@
 -- Who has the batch of a slot in hand, wherever the executor is: its row works on that slot, and the slot's word says that the batch is held.
 use Rattle.std.specs.Prelude.{◌≡◌, ◌<◌, ◌+◌, ◌⊎◌, ℕ, Bool, true, IsSome}
 use Rattle.std.proofs.Common.{refl, sym, ap, subst, ◌∙◌, arith}
-use Rattle.papaya_histories.specs.Given.Seize.Settle.{flushing}
-use Rattle.papaya_histories.specs.Given.Seize.World.{World, Row, Rests, Registers, Enters, Settles, Leaves, Defers, Frees, Begin, Flush, at_start, one_more, with_row, with_use}
-use Rattle.papaya_histories.specs.Given.Seize.declared.states.TheConstants.{BATCH, HELD, LAST_SLOT}
-use Rattle.papaya_histories.specs.Given.SeizeWords.Mem.{Mem, word_at}
-use Rattle.papaya_histories.specs.Given.SeizeWords.declared.at.At.TheVariants.{Slot}
-use Rattle.papaya_histories.proofs.Given.SeizeRule.Rows.Others.{with_here}
-use Rattle.papaya_histories.proofs.Given.SeizeRule.Words.Named.{words_of}
-use Rattle.papaya_histories.proofs.Given.SeizeRule.World.Good.{Good}
-use Rattle.papaya_histories.proofs.Given.SeizeRule.World.Kept.{happens_good, row_may}
-use Rattle.papaya_histories.proofs.Given.SeizeRule.World.Start.{start_good}
-use Rattle.papaya_histories.specs.Given.SeizeEnds.Holders.{has_batch}
-use Rattle.papaya_histories.proofs.Given.SeizeEnds.Batches.Rows.{HeldByRows, runs_held, start_held}
-use Rattle.papaya_owned.specs.Given.SeizeActs.Waits.{SettlesOn}
-use Rattle.papaya_owned.proofs.Given.SeizeActs.Waits.{has_its, held_while}
-use Rattle.papaya_histories.specs.Given.Tables.Nodes.{deferred_word}
-use Rattle.papaya_histories.specs.Given.Tables.declared.node.Node.{Node}
-use Rattle.papaya_histories.specs.Given.Callers.Rows.{IsRowOn}
-use Rattle.papaya_histories.specs.Given.Callers.Together.{CameAbout}
-use Rattle.papaya_histories.specs.Given.Executor.IsAt.{Scene, IsAt, slot_of, use_at}
-use Rattle.papaya_histories.specs.Given.Executor.OnSlots.{NobodyIn}
-use Rattle.papaya_histories.specs.Given.Executor.declared.executor.Executor.{Executor}
-use Rattle.papaya_histories.specs.Given.Executor.declared.row.SlotUse.TheVariants as used
-use Rattle.papaya_histories.specs.Given.Executor.declared.worker.TheConstants.{SLOTS}
-use Rattle.papaya_histories.proofs.Given.Executor.Fresh.{caller_in, resting}
-use Rattle.papaya_histories.proofs.Given.Executor.Uses.{reached, taken_now}
+use Rattle.papaya_logged.specs.Given.Seize.Settle.{flushing}
+use Rattle.papaya_logged.specs.Given.Seize.World.{World, Row, Rests, Registers, Enters, Settles, Leaves, Defers, Frees, Begin, Flush, at_start, one_more, with_row, with_use}
+use Rattle.papaya_logged.specs.Given.Seize.declared.states.TheConstants.{BATCH, HELD, LAST_SLOT}
+use Rattle.papaya_logged.specs.Given.SeizeWords.Mem.{Mem, word_at}
+use Rattle.papaya_logged.specs.Given.SeizeWords.declared.at.At.TheVariants.{Slot}
+use Rattle.papaya_logged.proofs.Given.SeizeRule.Rows.Others.{with_here}
+use Rattle.papaya_logged.proofs.Given.SeizeRule.Words.Named.{words_of}
+use Rattle.papaya_logged.proofs.Given.SeizeRule.World.Good.{Good}
+use Rattle.papaya_logged.proofs.Given.SeizeRule.World.Kept.{happens_good, row_may}
+use Rattle.papaya_logged.proofs.Given.SeizeRule.World.Start.{start_good}
+use Rattle.papaya_logged.specs.Given.SeizeEnds.Holders.{has_batch}
+use Rattle.papaya_logged.proofs.Given.SeizeEnds.Batches.Rows.{HeldByRows, runs_held, start_held}
+use Rattle.papaya_logged.specs.Given.SeizeActs.Waits.{SettlesOn}
+use Rattle.papaya_logged.proofs.Given.SeizeActs.Waits.{has_its, held_while}
+use Rattle.papaya_logged.specs.Given.Tables.Nodes.{deferred_word}
+use Rattle.papaya_logged.specs.Given.Tables.declared.node.Node.{Node}
+use Rattle.papaya_logged.specs.Given.Callers.Rows.{IsRowOn}
+use Rattle.papaya_logged.specs.Given.Callers.Together.{CameAbout}
+use Rattle.papaya_logged.specs.Given.Executor.IsAt.{Scene, IsAt, slot_of, use_at}
+use Rattle.papaya_logged.specs.Given.Executor.OnSlots.{NobodyIn}
+use Rattle.papaya_logged.specs.Given.Executor.declared.executor.Executor.{Executor}
+use Rattle.papaya_logged.specs.Given.Executor.declared.row.SlotUse.TheVariants as used
+use Rattle.papaya_logged.specs.Given.Executor.declared.worker.TheConstants.{SLOTS}
+use Rattle.papaya_logged.proofs.Given.Executor.Fresh.{caller_in, resting}
+use Rattle.papaya_logged.proofs.Given.Executor.Uses.{reached, taken_now}
 use Rattle.papaya_rows.proofs.Facts.{row_rests}
 
 -- a row that settles on a slot is on that one alone

@@ -1,34 +1,34 @@
 -- A row that leaves its slot, refreshes or flushes never waits where nobody has the batch of its slot in hand as it begins: it ends done.
 use Rattle.std.specs.Prelude.{◌≡◌, ◌≢◌, ℕ, Bool, true, false, List, Option, Some, None}
 use Rattle.std.proofs.Common.{refl, sym, ap, subst, ◌∙◌}
-use Rattle.papaya_histories.specs.Given.Seize.Leave.{leave_plan}
-use Rattle.papaya_histories.specs.Given.Seize.Settle.{settle_plan}
-use Rattle.papaya_histories.specs.Given.Seize.World.{Row}
-use Rattle.papaya_histories.specs.Given.Seize.declared.rows.settle.Settled.{Settled}
-use Rattle.papaya_histories.specs.Given.Seize.declared.rows.settle.Settled.TheVariants as settled
-use Rattle.papaya_histories.specs.Given.SeizeWords.Mem.{Mem, Took, value_at}
-use Rattle.papaya_histories.specs.Given.SeizeWords.Plan.{Steps}
-use Rattle.papaya_histories.specs.Given.SeizeEnds.Holders.{has_batch}
-use Rattle.papaya_owned.proofs.Given.SeizeActs.Waits.{leaves_wait, settles_wait}
-use Rattle.papaya_histories.specs.Given.Tables.Nodes.{deferred_word}
-use Rattle.papaya_histories.specs.Given.Tables.declared.node.Node.{Node}
-use Rattle.papaya_histories.specs.Given.Teller.declared.changed.Changed.{Changed}
-use Rattle.papaya_histories.specs.Given.Teller.declared.changed.Changed.TheVariants.{Nothing}
-use Rattle.papaya_histories.specs.Given.Schedules.declared.effect.Effect.{Effect}
-use Rattle.papaya_histories.specs.Given.Schedules.Moment.{Moment}
-use Rattle.papaya_histories.specs.Given.Callers.Rows.{IsRowOn}
-use Rattle.papaya_histories.specs.Given.Executor.IsAt.{Scene, HasRow, row_of, slot_of, work_of}
-use Rattle.papaya_histories.specs.Given.Executor.OnSlots.{MayBegin, RowLeads, RowSteps, row_on}
-use Rattle.papaya_histories.specs.Given.Executor.Rows.{begun_row, of_settling}
-use Rattle.papaya_histories.specs.Given.Executor.declared.executor.Executor.{Executor}
-use Rattle.papaya_histories.specs.Given.Executor.declared.row.RowTold.{RowTold}
-use Rattle.papaya_histories.specs.Given.Executor.declared.row.RowTold.TheVariants as told
-use Rattle.papaya_histories.specs.Given.Executor.declared.row.SlotCall.{SlotCall}
-use Rattle.papaya_histories.specs.Given.Executor.declared.row.SlotRow.{SlotRow}
-use Rattle.papaya_histories.specs.Given.Executor.declared.row.SlotRow.TheVariants as rows
-use Rattle.papaya_histories.specs.Given.Executor.declared.worker.Work.{Work}
-use Rattle.papaya_histories.specs.Given.Executor.declared.worker.Work.TheVariants.{OnSlot}
-use Rattle.papaya_histories.proofs.Given.Executor.Forgotten.{as_step}
+use Rattle.papaya_logged.specs.Given.Seize.Leave.{leave_plan}
+use Rattle.papaya_logged.specs.Given.Seize.Settle.{settle_plan}
+use Rattle.papaya_logged.specs.Given.Seize.World.{Row}
+use Rattle.papaya_logged.specs.Given.Seize.declared.rows.settle.Settled.{Settled}
+use Rattle.papaya_logged.specs.Given.Seize.declared.rows.settle.Settled.TheVariants as settled
+use Rattle.papaya_logged.specs.Given.SeizeWords.Mem.{Mem, Took, value_at}
+use Rattle.papaya_logged.specs.Given.SeizeWords.Plan.{Steps}
+use Rattle.papaya_logged.specs.Given.SeizeEnds.Holders.{has_batch}
+use Rattle.papaya_logged.proofs.Given.SeizeActs.Waits.{leaves_wait, settles_wait}
+use Rattle.papaya_logged.specs.Given.Tables.Nodes.{deferred_word}
+use Rattle.papaya_logged.specs.Given.Tables.declared.node.Node.{Node}
+use Rattle.papaya_logged.specs.Given.Teller.declared.changed.Changed.{Changed}
+use Rattle.papaya_logged.specs.Given.Teller.declared.changed.Changed.TheVariants.{Nothing}
+use Rattle.papaya_logged.specs.Given.Schedules.declared.effect.Effect.{Effect}
+use Rattle.papaya_logged.specs.Given.Schedules.Moment.{Moment}
+use Rattle.papaya_logged.specs.Given.Callers.Rows.{IsRowOn}
+use Rattle.papaya_logged.specs.Given.Executor.IsAt.{Scene, HasRow, row_of, slot_of, work_of}
+use Rattle.papaya_logged.specs.Given.Executor.OnSlots.{MayBegin, RowLeads, RowSteps, row_on}
+use Rattle.papaya_logged.specs.Given.Executor.Rows.{begun_row, of_settling}
+use Rattle.papaya_logged.specs.Given.Executor.declared.executor.Executor.{Executor}
+use Rattle.papaya_logged.specs.Given.Executor.declared.row.RowTold.{RowTold}
+use Rattle.papaya_logged.specs.Given.Executor.declared.row.RowTold.TheVariants as told
+use Rattle.papaya_logged.specs.Given.Executor.declared.row.SlotCall.{SlotCall}
+use Rattle.papaya_logged.specs.Given.Executor.declared.row.SlotRow.{SlotRow}
+use Rattle.papaya_logged.specs.Given.Executor.declared.row.SlotRow.TheVariants as rows
+use Rattle.papaya_logged.specs.Given.Executor.declared.worker.Work.{Work}
+use Rattle.papaya_logged.specs.Given.Executor.declared.worker.Work.TheVariants.{OnSlot}
+use Rattle.papaya_logged.proofs.Given.Executor.Forgotten.{as_step}
 use Rattle.papaya_logged.specs.OnSlots.{has_come}
 use Rattle.papaya_logged.specs.Shown.{IsShown}
 use Rattle.papaya_logged.specs.declared.logged.Logged.{Logged}

@@ -1,31 +1,31 @@
 -- Where a row on a slot has led that ran: the executor is there, maps have the settings that they had, and others have under way what they had.
 use Rattle.std.specs.Prelude.{◌≡◌, ◌≢◌, ℕ, zero, suc, Bool, false, List, Option, Some, None, option_map}
 use Rattle.std.proofs.Common.{sym, ap, subst, ◌∙◌}
-use Rattle.papaya_histories.specs.Given.Seize.World.{World}
-use Rattle.papaya_histories.specs.Given.Seize.declared.progress.Progress.{Progress}
-use Rattle.papaya_histories.specs.Given.Seize.declared.rows.enter.Enter.{Enter}
-use Rattle.papaya_histories.specs.Given.Seize.declared.rows.enter.Unregister.{Unregister}
-use Rattle.papaya_histories.specs.Given.Seize.Enter.{enter_plan, unregister_plan}
-use Rattle.papaya_histories.specs.Given.SeizeWords.Mem.{Mem}
-use Rattle.papaya_histories.proofs.Given.SeizeRule.Rows.Others.{begins_others, steps_others}
-use Rattle.papaya_histories.specs.Given.Tables.Nodes.{deferred_word}
-use Rattle.papaya_histories.specs.Given.Tables.declared.node.Node.{Node}
-use Rattle.papaya_histories.specs.Given.Teller.declared.changed.Changed.{Changed}
-use Rattle.papaya_histories.specs.Given.Teller.declared.changed.Changed.TheVariants.{Nothing}
-use Rattle.papaya_histories.specs.Given.Schedules.declared.effect.Effect.{Effect}
-use Rattle.papaya_histories.specs.Given.Schedules.Moment.{Moment}
-use Rattle.papaya_histories.specs.Given.Executor.IsAt.{Scene, IsAt, slot_of, work_of}
-use Rattle.papaya_histories.specs.Given.Executor.OnSlots.{MayBegin, RowBegins, RowSteps, row_on}
-use Rattle.papaya_histories.specs.Given.Executor.Rows.{begun_row, of_storing, request_of}
-use Rattle.papaya_histories.specs.Given.Executor.declared.executor.Executor.{Executor}
-use Rattle.papaya_histories.specs.Given.Executor.declared.row.RowTold.{RowTold}
-use Rattle.papaya_histories.specs.Given.Executor.declared.row.RowTold.TheVariants as told
-use Rattle.papaya_histories.specs.Given.Executor.declared.row.SlotCall.{SlotCall}
-use Rattle.papaya_histories.specs.Given.Executor.declared.row.SlotRow.{SlotRow}
-use Rattle.papaya_histories.specs.Given.Executor.declared.row.SlotRow.TheVariants as rows
-use Rattle.papaya_histories.specs.Given.Executor.declared.worker.Work.TheVariants.{OnSlot}
-use Rattle.papaya_histories.proofs.Given.Executor.Forgotten.{as_step}
-use Rattle.papaya_histories.specs.Given.Finishes.Maps.{IsSameMap, Standing}
+use Rattle.papaya_logged.specs.Given.Seize.World.{World}
+use Rattle.papaya_logged.specs.Given.Seize.declared.progress.Progress.{Progress}
+use Rattle.papaya_logged.specs.Given.Seize.declared.rows.enter.Enter.{Enter}
+use Rattle.papaya_logged.specs.Given.Seize.declared.rows.enter.Unregister.{Unregister}
+use Rattle.papaya_logged.specs.Given.Seize.Enter.{enter_plan, unregister_plan}
+use Rattle.papaya_logged.specs.Given.SeizeWords.Mem.{Mem}
+use Rattle.papaya_logged.proofs.Given.SeizeRule.Rows.Others.{begins_others, steps_others}
+use Rattle.papaya_logged.specs.Given.Tables.Nodes.{deferred_word}
+use Rattle.papaya_logged.specs.Given.Tables.declared.node.Node.{Node}
+use Rattle.papaya_logged.specs.Given.Teller.declared.changed.Changed.{Changed}
+use Rattle.papaya_logged.specs.Given.Teller.declared.changed.Changed.TheVariants.{Nothing}
+use Rattle.papaya_logged.specs.Given.Schedules.declared.effect.Effect.{Effect}
+use Rattle.papaya_logged.specs.Given.Schedules.Moment.{Moment}
+use Rattle.papaya_logged.specs.Given.Executor.IsAt.{Scene, IsAt, slot_of, work_of}
+use Rattle.papaya_logged.specs.Given.Executor.OnSlots.{MayBegin, RowBegins, RowSteps, row_on}
+use Rattle.papaya_logged.specs.Given.Executor.Rows.{begun_row, of_storing, request_of}
+use Rattle.papaya_logged.specs.Given.Executor.declared.executor.Executor.{Executor}
+use Rattle.papaya_logged.specs.Given.Executor.declared.row.RowTold.{RowTold}
+use Rattle.papaya_logged.specs.Given.Executor.declared.row.RowTold.TheVariants as told
+use Rattle.papaya_logged.specs.Given.Executor.declared.row.SlotCall.{SlotCall}
+use Rattle.papaya_logged.specs.Given.Executor.declared.row.SlotRow.{SlotRow}
+use Rattle.papaya_logged.specs.Given.Executor.declared.row.SlotRow.TheVariants as rows
+use Rattle.papaya_logged.specs.Given.Executor.declared.worker.Work.TheVariants.{OnSlot}
+use Rattle.papaya_logged.proofs.Given.Executor.Forgotten.{as_step}
+use Rattle.papaya_logged.specs.Given.Finishes.Maps.{IsSameMap, Standing}
 use Rattle.papaya_logged.specs.OnSlots.{GoesOnFor, OnSlotLast, StepsOn, has_come}
 use Rattle.papaya_logged.specs.Shown.{IsShown}
 use Rattle.papaya_logged.specs.declared.logged.Logged.{Logged}

@@ -1,18 +1,18 @@
 -- A row on a slot begins, and runs: what is told of that.
 use Rattle.std.specs.Prelude.{◌≡◌, ℕ, Bool, true, List, Some}
 use Rattle.std.proofs.Common.{◌<◌, ◌+◌, ◌*◌, sym, ap, subst, ◌∙◌, arith}
-use Rattle.papaya_histories.specs.Given.Tables.declared.node.Node.{Node}
-use Rattle.papaya_histories.specs.Given.Schedules.declared.effect.Effect.{Effect}
-use Rattle.papaya_histories.specs.Given.Schedules.Moment.{Moment}
-use Rattle.papaya_histories.specs.Given.Executor.IsAt.{KeepsGiven, Scene, IsAt, slot_of, work_of}
-use Rattle.papaya_histories.specs.Given.Executor.OnSlots.{MayBegin, RowBegins}
-use Rattle.papaya_histories.specs.Given.Executor.Rows.{begun_row, uses_begun}
-use Rattle.papaya_histories.specs.Given.Executor.declared.row.RowTold.{RowTold}
-use Rattle.papaya_histories.specs.Given.Executor.declared.row.SlotCall.{SlotCall}
-use Rattle.papaya_histories.specs.Given.Executor.declared.row.SlotRow.{SlotRow}
-use Rattle.papaya_histories.specs.Given.Executor.declared.row.SlotUse.{SlotUse}
-use Rattle.papaya_histories.specs.Given.Executor.declared.worker.TheConstants.{SLOTS}
-use Rattle.papaya_histories.specs.Given.Executor.declared.worker.Work.TheVariants.{OnSlot}
+use Rattle.papaya_logged.specs.Given.Tables.declared.node.Node.{Node}
+use Rattle.papaya_logged.specs.Given.Schedules.declared.effect.Effect.{Effect}
+use Rattle.papaya_logged.specs.Given.Schedules.Moment.{Moment}
+use Rattle.papaya_logged.specs.Given.Executor.IsAt.{KeepsGiven, Scene, IsAt, slot_of, work_of}
+use Rattle.papaya_logged.specs.Given.Executor.OnSlots.{MayBegin, RowBegins}
+use Rattle.papaya_logged.specs.Given.Executor.Rows.{begun_row, uses_begun}
+use Rattle.papaya_logged.specs.Given.Executor.declared.row.RowTold.{RowTold}
+use Rattle.papaya_logged.specs.Given.Executor.declared.row.SlotCall.{SlotCall}
+use Rattle.papaya_logged.specs.Given.Executor.declared.row.SlotRow.{SlotRow}
+use Rattle.papaya_logged.specs.Given.Executor.declared.row.SlotUse.{SlotUse}
+use Rattle.papaya_logged.specs.Given.Executor.declared.worker.TheConstants.{SLOTS}
+use Rattle.papaya_logged.specs.Given.Executor.declared.worker.Work.TheVariants.{OnSlot}
 use Rattle.papaya_logged.specs.Ended.{has_ended, uses_ended}
 use Rattle.papaya_logged.specs.Goes.{GoesTo, RowGoes, far}
 use Rattle.papaya_logged.specs.OnSlots.{EndsTelling, OnSlotBegins, OnSlotComes, OnSlotLast, OnSlotRan}

@@ -1,43 +1,43 @@
 -- A row that registers while no other takes or frees a slot takes the first vacant one, or is refused: how it has begun, goes on and ends.
 use Rattle.std.specs.Prelude.{Option, Some, None}
 use Rattle.std.proofs.Common.{◌≡◌, ℕ, zero, suc, ◌+◌, Bool, true, false, List, length, ◌⊎◌, inl, inr, refl, sym, ap, subst, ◌∙◌, arith}
-use Rattle.papaya_histories.specs.Given.SeizeWords.declared.fault.Fault.{Fault}
-use Rattle.papaya_histories.specs.Given.SeizeWords.declared.fault.Fault.TheVariants.{Memory}
-use Rattle.papaya_histories.specs.Given.SeizeWords.Mem.{Mem, Took, value_at}
-use Rattle.papaya_histories.specs.Given.SeizeWords.Plan.{Steps}
-use Rattle.papaya_histories.specs.Given.Seize.declared.states.TheConstants.{LAST_SLOT}
-use Rattle.papaya_histories.specs.Given.Seize.declared.progress.Progress.{Progress}
-use Rattle.papaya_histories.specs.Given.Seize.declared.progress.Progress.TheVariants as progress
-use Rattle.papaya_histories.specs.Given.Seize.declared.rows.register.Register.{Register}
-use Rattle.papaya_histories.specs.Given.Seize.declared.rows.register.Registering.{Registering}
-use Rattle.papaya_histories.specs.Given.Seize.declared.rows.register.Registering.TheVariants as at
-use Rattle.papaya_histories.specs.Given.Seize.Register.{register_plan}
-use Rattle.papaya_histories.specs.Given.Seize.Sequence.{new_slot}
-use Rattle.papaya_histories.specs.Given.Seize.World.{World, Row, Registers, Use, Begin, Step, Happens, Steps', registers_on}
-use Rattle.papaya_histories.proofs.Given.SeizeRule.Rows.Known.{FitsRow, FitsRegister, works_on}
-use Rattle.papaya_histories.proofs.Given.SeizeRule.Rows.Others.{begins_others, steps_others}
-use Rattle.papaya_histories.proofs.Given.SeizeRule.Words.View.{view}
-use Rattle.papaya_histories.proofs.Given.SeizeRule.World.Good.{Good}
-use Rattle.papaya_histories.proofs.Given.SeizeSets.Slots.Registers.{Comes, GoesOn, IsRefused, NoneOnVacant, RegistersOn, TakesFirst, WhyRefused, registers_apart}
-use Rattle.papaya_histories.specs.Given.Tables.Nodes.{deferred_word}
-use Rattle.papaya_histories.specs.Given.Tables.declared.node.Node.{Node}
-use Rattle.papaya_histories.specs.Given.Teller.declared.changed.Changed.TheVariants as changed
-use Rattle.papaya_histories.specs.Given.Callers.Together.{CameAbout}
-use Rattle.papaya_histories.proofs.Given.Callers.Together.Came.{came_next, came_reached}
-use Rattle.papaya_histories.specs.Given.Schedules.declared.effect.Effect.{Effect}
-use Rattle.papaya_histories.specs.Given.Schedules.Moment.{Moment}
-use Rattle.papaya_histories.specs.Given.Executor.IsAt.{Scene, HasRow, IsAt, slot_of, work_of}
-use Rattle.papaya_histories.specs.Given.Executor.OnSlots.{RowBegins, RowSteps, row_on}
-use Rattle.papaya_histories.specs.Given.Executor.Rows.{of_registering, request_of}
-use Rattle.papaya_histories.specs.Given.Executor.declared.executor.Executor.{Executor}
-use Rattle.papaya_histories.specs.Given.Executor.declared.row.RowTold.{RowTold}
-use Rattle.papaya_histories.specs.Given.Executor.declared.row.RowTold.TheVariants as told
-use Rattle.papaya_histories.specs.Given.Executor.declared.row.SlotCall.TheVariants as call
-use Rattle.papaya_histories.specs.Given.Executor.declared.row.SlotRow.{SlotRow}
-use Rattle.papaya_histories.specs.Given.Executor.declared.row.SlotRow.TheVariants as rows
-use Rattle.papaya_histories.specs.Given.Executor.declared.worker.Work.{Work}
-use Rattle.papaya_histories.specs.Given.Executor.declared.worker.Work.TheVariants.{OnSlot}
-use Rattle.papaya_histories.proofs.Given.Executor.Forgotten.{as_step}
+use Rattle.papaya_logged.specs.Given.SeizeWords.declared.fault.Fault.{Fault}
+use Rattle.papaya_logged.specs.Given.SeizeWords.declared.fault.Fault.TheVariants.{Memory}
+use Rattle.papaya_logged.specs.Given.SeizeWords.Mem.{Mem, Took, value_at}
+use Rattle.papaya_logged.specs.Given.SeizeWords.Plan.{Steps}
+use Rattle.papaya_logged.specs.Given.Seize.declared.states.TheConstants.{LAST_SLOT}
+use Rattle.papaya_logged.specs.Given.Seize.declared.progress.Progress.{Progress}
+use Rattle.papaya_logged.specs.Given.Seize.declared.progress.Progress.TheVariants as progress
+use Rattle.papaya_logged.specs.Given.Seize.declared.rows.register.Register.{Register}
+use Rattle.papaya_logged.specs.Given.Seize.declared.rows.register.Registering.{Registering}
+use Rattle.papaya_logged.specs.Given.Seize.declared.rows.register.Registering.TheVariants as at
+use Rattle.papaya_logged.specs.Given.Seize.Register.{register_plan}
+use Rattle.papaya_logged.specs.Given.Seize.Sequence.{new_slot}
+use Rattle.papaya_logged.specs.Given.Seize.World.{World, Row, Registers, Use, Begin, Step, Happens, Steps', registers_on}
+use Rattle.papaya_logged.proofs.Given.SeizeRule.Rows.Known.{FitsRow, FitsRegister, works_on}
+use Rattle.papaya_logged.proofs.Given.SeizeRule.Rows.Others.{begins_others, steps_others}
+use Rattle.papaya_logged.proofs.Given.SeizeRule.Words.View.{view}
+use Rattle.papaya_logged.proofs.Given.SeizeRule.World.Good.{Good}
+use Rattle.papaya_logged.proofs.Given.SeizeSets.Slots.Registers.{Comes, GoesOn, IsRefused, NoneOnVacant, RegistersOn, TakesFirst, WhyRefused, registers_apart}
+use Rattle.papaya_logged.specs.Given.Tables.Nodes.{deferred_word}
+use Rattle.papaya_logged.specs.Given.Tables.declared.node.Node.{Node}
+use Rattle.papaya_logged.specs.Given.Teller.declared.changed.Changed.TheVariants as changed
+use Rattle.papaya_logged.specs.Given.Callers.Together.{CameAbout}
+use Rattle.papaya_logged.proofs.Given.Callers.Together.Came.{came_next, came_reached}
+use Rattle.papaya_logged.specs.Given.Schedules.declared.effect.Effect.{Effect}
+use Rattle.papaya_logged.specs.Given.Schedules.Moment.{Moment}
+use Rattle.papaya_logged.specs.Given.Executor.IsAt.{Scene, HasRow, IsAt, slot_of, work_of}
+use Rattle.papaya_logged.specs.Given.Executor.OnSlots.{RowBegins, RowSteps, row_on}
+use Rattle.papaya_logged.specs.Given.Executor.Rows.{of_registering, request_of}
+use Rattle.papaya_logged.specs.Given.Executor.declared.executor.Executor.{Executor}
+use Rattle.papaya_logged.specs.Given.Executor.declared.row.RowTold.{RowTold}
+use Rattle.papaya_logged.specs.Given.Executor.declared.row.RowTold.TheVariants as told
+use Rattle.papaya_logged.specs.Given.Executor.declared.row.SlotCall.TheVariants as call
+use Rattle.papaya_logged.specs.Given.Executor.declared.row.SlotRow.{SlotRow}
+use Rattle.papaya_logged.specs.Given.Executor.declared.row.SlotRow.TheVariants as rows
+use Rattle.papaya_logged.specs.Given.Executor.declared.worker.Work.{Work}
+use Rattle.papaya_logged.specs.Given.Executor.declared.worker.Work.TheVariants.{OnSlot}
+use Rattle.papaya_logged.proofs.Given.Executor.Forgotten.{as_step}
 use Rattle.papaya_logged.specs.OnSlots.{GoesOnFor, OnSlotLast, has_come}
 use Rattle.papaya_logged.specs.Shown.{IsShown}
 use Rattle.papaya_logged.specs.declared.logged.Logged.{Logged}

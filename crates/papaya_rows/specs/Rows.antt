@@ -1,20 +1,20 @@
 -- What a caller does with its slot, run to its end.
 use Rattle.std.specs.Prelude.{◌≡◌, ◌==◌, ℕ, Bool, true, List, ◌++◌, Option, None, if◌then◌else◌}
-use Rattle.papaya_histories.specs.Given.Seize.World.{World}
-use Rattle.papaya_histories.specs.Given.Tables.declared.node.Node.{Node}
-use Rattle.papaya_histories.specs.Given.Runs.Present.{Present, guards_on, has_registration}
-use Rattle.papaya_histories.specs.Given.Schedules.declared.effect.Effect.{Effect}
-use Rattle.papaya_histories.specs.Given.Schedules.Effects.{with_effects}
-use Rattle.papaya_histories.specs.Given.Schedules.Moment.{Moment}
-use Rattle.papaya_histories.specs.Given.Executor.IsAt.{KeepsGiven, Scene, slot_of}
-use Rattle.papaya_histories.specs.Given.Executor.OnSlots.{MayBegin}
-use Rattle.papaya_histories.specs.Given.Executor.Rows.{begun_row, uses_begun}
-use Rattle.papaya_histories.specs.Given.Executor.declared.row.RowTold.{RowTold}
-use Rattle.papaya_histories.specs.Given.Executor.declared.row.SlotCall.{SlotCall}
-use Rattle.papaya_histories.specs.Given.Executor.declared.row.SlotCall.TheVariants as call
-use Rattle.papaya_histories.specs.Given.Executor.declared.row.SlotUse.{SlotUse}
-use Rattle.papaya_histories.specs.Given.Executor.declared.row.SlotUse.TheVariants as used
-use Rattle.papaya_histories.specs.Given.Finishes.Maps.{Standing}
+use Rattle.papaya_logged.specs.Given.Seize.World.{World}
+use Rattle.papaya_logged.specs.Given.Tables.declared.node.Node.{Node}
+use Rattle.papaya_logged.specs.Given.Runs.Present.{Present, guards_on, has_registration}
+use Rattle.papaya_logged.specs.Given.Schedules.declared.effect.Effect.{Effect}
+use Rattle.papaya_logged.specs.Given.Schedules.Effects.{with_effects}
+use Rattle.papaya_logged.specs.Given.Schedules.Moment.{Moment}
+use Rattle.papaya_logged.specs.Given.Executor.IsAt.{KeepsGiven, Scene, slot_of}
+use Rattle.papaya_logged.specs.Given.Executor.OnSlots.{MayBegin}
+use Rattle.papaya_logged.specs.Given.Executor.Rows.{begun_row, uses_begun}
+use Rattle.papaya_logged.specs.Given.Executor.declared.row.RowTold.{RowTold}
+use Rattle.papaya_logged.specs.Given.Executor.declared.row.SlotCall.{SlotCall}
+use Rattle.papaya_logged.specs.Given.Executor.declared.row.SlotCall.TheVariants as call
+use Rattle.papaya_logged.specs.Given.Executor.declared.row.SlotUse.{SlotUse}
+use Rattle.papaya_logged.specs.Given.Executor.declared.row.SlotUse.TheVariants as used
+use Rattle.papaya_logged.specs.Given.Finishes.Maps.{Standing}
 use Rattle.papaya_logged.specs.Ended.{has_ended, uses_ended}
 use Rattle.papaya_logged.specs.Goes.{GoesTo, RowGoes, far}
 use Rattle.papaya_logged.specs.OnSlots.{EndsTelling, OnSlotBegins, OnSlotLast, has_come}

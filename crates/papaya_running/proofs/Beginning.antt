@@ -1,31 +1,31 @@
 -- Before all events a scheduler is as events ask of it, whatever was chosen of numbers of blocks.
 use Rattle.std.specs.Prelude.{◌≡◌, ◌<◌, ◌≤◌, ◌^◌, ℕ, Bool, List, [], ◌∷◌, length, Option, None, Some, min, slice_get, slice_index_or, map}
 use Rattle.std.proofs.Common.{refl, sym, ap, subst, ◌∙◌, inr, arith, inl}
-use Rattle.papaya_histories.specs.Given.Seize.declared.states.TheConstants.{HEAD}
-use Rattle.papaya_histories.specs.Given.Tables.declared.node.Node.{Node}
-use Rattle.papaya_histories.specs.Given.Points.Steps.{AreLawful}
-use Rattle.papaya_histories.proofs.Given.Points.Making.OwnTables.{zero_at}
-use Rattle.papaya_histories.proofs.Given.Moments.NewMaps.{pairs_begin}
-use Rattle.papaya_histories.proofs.Given.Moments.Numbers.{numbers_begin}
-use Rattle.papaya_histories.specs.Given.Seize.World.{Chooses, SlotsTaken, World}
-use Rattle.papaya_histories.specs.Given.Tables.Nodes.{deferred_word}
-use Rattle.papaya_histories.specs.Given.Tables.declared.setting.Setting.{Setting}
-use Rattle.papaya_histories.specs.Given.Executor.IsAt.{at_first}
+use Rattle.papaya_events.specs.Given.Seize.declared.states.TheConstants.{HEAD}
+use Rattle.papaya_events.specs.Given.Tables.declared.node.Node.{Node}
+use Rattle.papaya_events.specs.Given.Points.Steps.{AreLawful}
+use Rattle.papaya_events.proofs.Given.Points.Making.OwnTables.{zero_at}
+use Rattle.papaya_events.proofs.Given.Moments.NewMaps.{pairs_begin}
+use Rattle.papaya_events.proofs.Given.Moments.Numbers.{numbers_begin}
+use Rattle.papaya_events.specs.Given.Seize.World.{Chooses, SlotsTaken, World}
+use Rattle.papaya_events.specs.Given.Tables.Nodes.{deferred_word}
+use Rattle.papaya_events.specs.Given.Tables.declared.setting.Setting.{Setting}
+use Rattle.papaya_events.specs.Given.Executor.IsAt.{at_first}
 use Rattle.seize_words.specs.Mem.{Mem, word_at}
 use Rattle.seize_words.specs.SlotWords.{slot_word}
 use Rattle.seize_words.specs.declared.at.At.TheVariants.{Root, Used}
 use Rattle.papaya_schedules.specs.Moment.{start}
 use Rattle.papaya_schedules.specs.Terms.{Terms}
-use Rattle.papaya_effects.specs.Known.{Known, known}
-use Rattle.papaya_models.specs.Turns.{CameByTurns}
-use Rattle.papaya_models.proofs.Turns.{events_follow, turns_begin}
-use Rattle.papaya_legal.proofs.Come.{nothing_has_come}
-use Rattle.papaya_legal.proofs.Begin.{runs_begin_in}
+use Rattle.papaya_events.specs.Given.Effects.Known.{Known, known}
+use Rattle.papaya_events.specs.Given.Models.Turns.{CameByTurns}
+use Rattle.papaya_events.proofs.Given.Models.Turns.{events_follow, turns_begin}
+use Rattle.papaya_events.proofs.Given.Legal.Come.{nothing_has_come}
+use Rattle.papaya_events.proofs.Given.Legal.Begin.{runs_begin_in}
 use Rattle.papaya_logged.specs.Choosing.{logged_chosen, memory_chosen}
 use Rattle.papaya_logged.specs.Shown.{IsShown}
 use Rattle.papaya_logged.proofs.Choosing.{choice_shown}
 use Rattle.papaya_logged.specs.declared.logged.Logged.{Logged}
-use Rattle.papaya_reclaims.proofs.Left.Stays.{left_is_left_behind, nothing_is_left}
+use Rattle.papaya_events.proofs.Given.Reclaims.Left.Stays.{left_is_left_behind, nothing_is_left}
 use Rattle.papaya_scheduler.specs.First.{HasJustBegun}
 use Rattle.papaya_scheduler.specs.Mapping.{CountsMaps}
 use Rattle.papaya_scheduler.specs.Played.{IsPlayed, StandsFor, terms_given}

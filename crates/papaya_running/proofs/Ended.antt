@@ -4,7 +4,7 @@ use Rattle.std.specs.List.{AllByRecursion}
 use Rattle.std.specs.Ordering.{nat_cmp}
 use Rattle.std.proofs.Common.{refl, sym, ap, subst, ◌∙◌}
 use Rattle.seize_words.specs.Mem.{Mem, value_at}
-use Rattle.papaya_histories.specs.Given.Tables.declared.node.Node.{Node}
+use Rattle.papaya_events.specs.Given.Tables.declared.node.Node.{Node}
 use Rattle.papaya_runs.specs.declared.record.Pair.{Pair}
 use Rattle.papaya_runs.specs.Pairs.{numbers}
 use Rattle.papaya_runs.specs.Runs.{IsStored}
@@ -15,8 +15,8 @@ use Rattle.papaya_schedules.specs.Moment.{Moment}
 use Rattle.papaya_schedules.specs.Runs.{Lists}
 use Rattle.papaya_schedules.specs.Terms.{Terms}
 use Rattle.papaya_schedules.specs.Views.{is_in_a_map, is_waiting}
-use Rattle.papaya_histories.specs.Given.Effects.Known.{Known, known}
-use Rattle.papaya_histories.specs.Given.Effects.declared.role.Role.TheVariants.{Free}
+use Rattle.papaya_events.specs.Given.Effects.Known.{Known, known}
+use Rattle.papaya_events.specs.Given.Effects.declared.role.Role.TheVariants.{Free}
 use Rattle.papaya_scheduler.specs.declared.scheduler.Scheduler.{Scheduler}
 use Rattle.papaya_running.specs.Back.{BackSoFar, ReclaimsRight, TellsBack}
 use Rattle.papaya_running.specs.Ending.{shown_of, told_map}

@@ -2,12 +2,12 @@
 use Rattle.std.specs.Prelude.{◌≡◌, ◌≤◌, ◌<◌, ◌^◌, ℕ, Bool, true, false, List, ◌∷◌, length, find, Option, Some, None, option_map, Result, Ok, Err, IfOk, if◌then◌else◌}
 use Rattle.std.specs.List.{All}
 use Rattle.std.proofs.Common.{refl, ap, sym, subst, ◌∙◌, arith}
-use Rattle.papaya_histories.specs.Given.Callers.Together.{UnderWay}
-use Rattle.papaya_histories.specs.Given.Finishes.Maps.{Standing}
-use Rattle.papaya_histories.specs.Given.Moments.Numbers.{NumbersMaps, PairsAreBelow}
-use Rattle.papaya_histories.proofs.Given.Moments.NewMaps.{effects_keep_pairs}
-use Rattle.papaya_histories.proofs.Given.Moments.Numbers.{found_of, maps_come_by_number}
-use Rattle.papaya_histories.specs.Given.Tables.declared.resize_mode.ResizeMode.{ResizeMode}
+use Rattle.papaya_events.specs.Given.Callers.Together.{UnderWay}
+use Rattle.papaya_events.specs.Given.Finishes.Maps.{Standing}
+use Rattle.papaya_events.specs.Given.Moments.Numbers.{NumbersMaps, PairsAreBelow}
+use Rattle.papaya_events.proofs.Given.Moments.NewMaps.{effects_keep_pairs}
+use Rattle.papaya_events.proofs.Given.Moments.Numbers.{found_of, maps_come_by_number}
+use Rattle.papaya_events.specs.Given.Tables.declared.resize_mode.ResizeMode.{ResizeMode}
 use Rattle.papaya_runs.specs.Same.{is_same}
 use Rattle.papaya_schedules.specs.declared.call.Call.{Call}
 use Rattle.papaya_schedules.specs.declared.event.Event.{Event}
@@ -22,9 +22,9 @@ use Rattle.papaya_schedules.specs.Lists.{least_free}
 use Rattle.papaya_schedules.specs.Moment.{MapThere, Moment, Place, TableThere}
 use Rattle.papaya_schedules.specs.Terms.{Terms}
 use Rattle.papaya_schedules.specs.Views.{call_of, map_of, number_of}
-use Rattle.papaya_histories.specs.Given.Executor.IsAt.{Scene, StaysGiven}
-use Rattle.papaya_remains.proofs.Numbered.{made_stays, standing_below}
-use Rattle.papaya_rows.proofs.Lists.{found_has}
+use Rattle.papaya_events.specs.Given.Executor.IsAt.{Scene, StaysGiven}
+use Rattle.papaya_events.proofs.Given.Remains.Numbered.{made_stays, standing_below}
+use Rattle.papaya_events.proofs.Given.Rows.Lists.{found_has}
 use Rattle.papaya_scheduler.specs.Mapping.{CountsMaps}
 use Rattle.papaya_scheduler.specs.Played.{IsPlayed, IsUnderWay, Plays, entry_of, terms_given}
 use Rattle.papaya_named.specs.Seen.{is_named}

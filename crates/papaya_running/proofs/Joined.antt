@@ -10,15 +10,15 @@ use Rattle.papaya_schedules.specs.Handing.{gives_all}
 use Rattle.papaya_schedules.specs.InTurn.{ComesRight}
 use Rattle.papaya_schedules.specs.Terms.{Terms}
 use Rattle.papaya_schedules.specs.Runs.{IsLegal}
-use Rattle.papaya_effects.specs.Known.{known}
-use Rattle.papaya_finds.specs.Little.{ReclaimsAll, WhereAll}
-use Rattle.papaya_legal.proofs.Legal.{events_are_legal}
+use Rattle.papaya_events.specs.Given.Effects.Known.{known}
+use Rattle.papaya_events.specs.Given.Finds.Little.{ReclaimsAll, WhereAll}
+use Rattle.papaya_events.proofs.Given.Legal.Legal.{events_are_legal}
 use Rattle.papaya_scheduler.specs.Played.{entry_of}
 use Rattle.papaya_scheduler.specs.declared.played.Played.{Played}
 use Rattle.papaya_scheduler.specs.declared.scheduler.Scheduler.{Scheduler}
 use Rattle.papaya_events.specs.Asked.{FindsBy, FindsRight, Happens, HappensAt, Holds, is_of_calls}
 use Rattle.papaya_events.specs.OfAll.{KeepsAll}
-use Rattle.papaya_folded.specs.Folded.{HandsInOrder}
+use Rattle.papaya_events.specs.Given.Folded.Folded.{HandsInOrder}
 use Rattle.papaya_events.specs.OfCalls.{KeepsAt, Runs, RunsOn}
 use Rattle.papaya_events.specs.OfRows.{KeepsRunAt, is_of_rows}
 use Rattle.papaya_events.specs.OfSetups.{KeepsSetup, is_of_setups}

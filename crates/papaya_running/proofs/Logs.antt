@@ -18,7 +18,7 @@ use Rattle.papaya_schedules.specs.Moment.{MapThere, UnderWay, Moment}
 use Rattle.papaya_schedules.specs.Runs.{log_on, singles, singles_of}
 use Rattle.papaya_schedules.specs.Terms.{Terms}
 use Rattle.papaya_schedules.specs.Views.{call_of, number_of}
-use Rattle.papaya_rows.proofs.Lists.{found_alike}
+use Rattle.papaya_events.proofs.Given.Rows.Lists.{found_alike}
 use Rattle.papaya_scheduler.specs.Played.{StandsFor}
 use Rattle.papaya_named.specs.Seen.{Seen, is_named, number_named, seen, seen_of}
 use Rattle.papaya_named.specs.declared.caller.Caller.{Caller}

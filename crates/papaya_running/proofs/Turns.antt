@@ -27,8 +27,8 @@ use Rattle.papaya_events.specs.Asked.{Happens, Holds}
 use Rattle.papaya_running.specs.Back.{BackSoFar, ReclaimsBy, ReclaimsRight, TellsBack}
 use Rattle.papaya_running.specs.Ending.{shown_of, told_map}
 use Rattle.papaya_events.specs.OfCalls.{Runs}
-use Rattle.papaya_folded.specs.Folded.{HandsInOrder}
-use Rattle.papaya_folded.proofs.Logs.{ended_calls_fold}
+use Rattle.papaya_events.specs.Given.Folded.Folded.{HandsInOrder}
+use Rattle.papaya_events.proofs.Given.Folded.Logs.{ended_calls_fold}
 use Rattle.papaya_running.specs.Run.{GoesRight, HandsOn, IsRightRun, SoFar, TellsMost, log_so}
 use Rattle.papaya_tally.specs.Tally.{Tells, TellsAll, TellsMoment, counted, deferral, flag_of}
 use Rattle.papaya_running.specs.declared.record.Record.{Record}
@@ -38,7 +38,7 @@ use Rattle.papaya_tally.proofs.Back.{back_then}
 use Rattle.papaya_tally.specs.declared.tally.Tally.{Tally}
 use Rattle.papaya_tally.specs.declared.tally.Whereabouts.{Whereabouts}
 use Rattle.papaya_tally.specs.declared.tally.Whereabouts.TheVariants.{Unborn}
-use Rattle.papaya_finds.specs.TornDown.{StoredAreSomewhere}
+use Rattle.papaya_events.specs.Given.Finds.TornDown.{StoredAreSomewhere}
 use Rattle.papaya_running.proofs.AsRun.{all_reclaim_right, as_run}
 use Rattle.papaya_running.proofs.Logs.{acted_so, begun_same, log_long, log_more, singles_are}
 use Rattle.papaya_tally.proofs.Numbers.{lists_map}

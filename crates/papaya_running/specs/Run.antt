@@ -21,7 +21,7 @@ use Rattle.papaya_scheduler.specs.declared.scheduler.Scheduler.{Scheduler}
 use Rattle.papaya_events.specs.Asked.{Holds}
 use Rattle.papaya_running.specs.Back.{TellsBack}
 use Rattle.papaya_events.specs.OfCalls.{Runs}
-use Rattle.papaya_folded.specs.Folded.{HandsAllOver, HandsInOrder}
+use Rattle.papaya_events.specs.Given.Folded.Folded.{HandsAllOver, HandsInOrder}
 use Rattle.papaya_tally.specs.Tally.{TellsMoment}
 use Rattle.papaya_running.specs.declared.record.Record.{Record}
 use Rattle.papaya_tally.specs.declared.tally.Tally.{Tally}

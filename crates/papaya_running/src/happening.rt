@@ -1,6 +1,6 @@
 //! An event of a schedule happens.
 ghost use Rattle.std.specs.Prelude.{◌≡◌, true, false, length, IfOk};
-ghost use Rattle.papaya_histories.specs.Given.Executor.IsAt.{StaysGiven, KeepsGiven};
+ghost use Rattle.papaya_events.specs.Given.Executor.IsAt.{StaysGiven, KeepsGiven};
 ghost use Rattle.papaya_events.specs.Asked.{HappensAt, HappensDue, HoldsThen, MayHappen, MayHappenDue, is_of_calls, is_of_maps, numbers_on};
 ghost use Rattle.papaya_running.specs.Back.{GivesAt, GivesDue};
 ghost use Rattle.papaya_events.specs.OfAll.{KeepsAll};

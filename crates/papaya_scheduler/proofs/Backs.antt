@@ -11,7 +11,7 @@ use Rattle.papaya_schedules.specs.Terms.{Terms}
 use Rattle.papaya_executor.specs.IsAt.{Scene, slot_of}
 use Rattle.papaya_executor.specs.OnSlots.{MayBegin}
 use Rattle.papaya_executor.specs.declared.row.SlotCall.{SlotCall}
-use Rattle.papaya_reclaiming.specs.Reclaiming.{MayReclaim, NobodyHas}
+use Rattle.papaya_logged.specs.Given.Reclaiming.Reclaiming.{MayReclaim, NobodyHas}
 use Rattle.papaya_logged.specs.Back.{AllBringsBack, BringsBack, ComesBack}
 use Rattle.papaya_logged.specs.OnSlots.{OnSlotBegins}
 use Rattle.papaya_logged.specs.Shown.{IsShown}

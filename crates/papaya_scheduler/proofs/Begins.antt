@@ -3,7 +3,7 @@ use Rattle.std.specs.Prelude.{◌≡◌, ◌≢◌, ◌<◌, ◌≤◌, ◌==◌
 use Rattle.std.specs.List.{list_any}
 use Rattle.std.proofs.Common.{refl, sym, ap, subst, ◌∙◌, inl, inr, arith, eqb-true}
 use Rattle.std.proofs.lemmas.Bool.{cases_eq, eq-eqb, ne_eqb}
-use Rattle.papaya_histories.specs.Given.Tables.declared.setting.Setting.{Setting}
+use Rattle.papaya_logged.specs.Given.Tables.declared.setting.Setting.{Setting}
 use Rattle.papaya_runs.specs.Present.{guard_of, living_slot}
 use Rattle.papaya_runs.specs.Same.{is_same}
 use Rattle.papaya_schedules.specs.declared.call.Call.{Call}
@@ -13,17 +13,17 @@ use Rattle.papaya_schedules.specs.Lists.{put}
 use Rattle.papaya_schedules.specs.Moment.{Moment}
 use Rattle.papaya_schedules.specs.Terms.{Terms}
 use Rattle.papaya_schedules.specs.Views.{call_of, map_of, number_of}
-use Rattle.papaya_histories.specs.Given.Callers.Together.{UnderWay, in_slot}
-use Rattle.papaya_histories.proofs.Given.Callers.Together.At.{at_other, at_same}
+use Rattle.papaya_logged.specs.Given.Callers.Together.{UnderWay, in_slot}
+use Rattle.papaya_logged.proofs.Given.Callers.Together.At.{at_other, at_same}
 use Rattle.papaya_executor.specs.IsAt.{Scene, slot_of, use_at, work_of}
 use Rattle.papaya_executor.specs.Replying.{scene_with}
 use Rattle.papaya_executor.specs.declared.row.SlotUse.TheVariants as used
 use Rattle.papaya_executor.specs.declared.worker.TheConstants.{SLOTS}
 use Rattle.papaya_executor.proofs.Fresh.{caller_in, no_calls_yet, slot_is}
-use Rattle.papaya_histories.specs.Given.Finishes.Machines.{machine_of}
-use Rattle.papaya_histories.specs.Given.Finishes.Maps.{Standing}
-use Rattle.papaya_histories.specs.Given.Follows.Calling.{NoneNamed}
-use Rattle.papaya_histories.proofs.Given.Follows.Calling.{apart_back, is_same_is}
+use Rattle.papaya_logged.specs.Given.Finishes.Machines.{machine_of}
+use Rattle.papaya_logged.specs.Given.Finishes.Maps.{Standing}
+use Rattle.papaya_logged.specs.Given.Follows.Calling.{NoneNamed}
+use Rattle.papaya_logged.proofs.Given.Follows.Calling.{apart_back, is_same_is}
 use Rattle.papaya_logged.specs.Calling.{CallBegins}
 use Rattle.papaya_logged.specs.Shown.{IsShown}
 use Rattle.papaya_logged.specs.declared.logged.Logged.{Logged}

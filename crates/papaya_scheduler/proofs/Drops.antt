@@ -5,8 +5,8 @@ use Rattle.std.proofs.Common.{[], ◌++◌, ◌≡◌, ℕ, ◌+◌, ◌<◌, Bo
 use Rattle.std.proofs.lemmas.Bool.{cases_eq}
 use Rattle.std.proofs.lemmas.List.{get_or-set_other, get_or-set_same, length-set}
 use Rattle.seize_words.specs.declared.fault.Fault.TheVariants.{Busy}
-use Rattle.papaya_histories.specs.Given.SeizeEnds.Holders.{has_batch}
-use Rattle.papaya_histories.specs.Given.Tables.declared.node.Node.{Node}
+use Rattle.papaya_logged.specs.Given.SeizeEnds.Holders.{has_batch}
+use Rattle.papaya_logged.specs.Given.Tables.declared.node.Node.{Node}
 use Rattle.papaya_runs.specs.Present.{Present, drops, guard_of, guards_on, has_registration, living_slot}
 use Rattle.papaya_schedules.specs.declared.effect.Effect.{Effect}
 use Rattle.papaya_schedules.specs.declared.event.Event.TheVariants.{DropGuard}

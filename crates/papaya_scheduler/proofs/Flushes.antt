@@ -6,9 +6,9 @@ use Rattle.seize.specs.declared.states.TheConstants.{BATCH, HELD}
 use Rattle.seize_words.specs.Mem.{Mem, word_at}
 use Rattle.seize_words.specs.declared.at.At.TheVariants.{Slot}
 use Rattle.seize_words.specs.declared.fault.Fault.TheVariants.{Busy}
-use Rattle.papaya_histories.proofs.Given.SeizeRule.Words.Named.{word_found, words_of}
-use Rattle.papaya_histories.specs.Given.SeizeEnds.Holders.{has_batch}
-use Rattle.papaya_histories.specs.Given.Tables.declared.node.Node.{Node}
+use Rattle.papaya_logged.proofs.Given.SeizeRule.Words.Named.{word_found, words_of}
+use Rattle.papaya_logged.specs.Given.SeizeEnds.Holders.{has_batch}
+use Rattle.papaya_logged.specs.Given.Tables.declared.node.Node.{Node}
 use Rattle.papaya_runs.specs.Present.{guard_of, guards_slot_or, living_slot, slot_of_guard}
 use Rattle.papaya_schedules.specs.declared.effect.Effect.{Effect}
 use Rattle.papaya_schedules.specs.declared.event.Event.TheVariants.{Flush}

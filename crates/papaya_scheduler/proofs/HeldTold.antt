@@ -6,9 +6,9 @@ use Rattle.std.proofs.lemmas.Bool.{eq-eqb}
 use Rattle.seize.specs.declared.states.TheConstants.{BATCH, HELD}
 use Rattle.seize_words.specs.Mem.{Mem, word_at}
 use Rattle.seize_words.specs.declared.at.At.TheVariants.{Slot}
-use Rattle.papaya_histories.proofs.Given.SeizeRule.Words.Named.{word_found, words_of}
-use Rattle.papaya_histories.specs.Given.SeizeEnds.Holders.{has_batch}
-use Rattle.papaya_histories.specs.Given.Tables.declared.node.Node.{Node}
+use Rattle.papaya_logged.proofs.Given.SeizeRule.Words.Named.{word_found, words_of}
+use Rattle.papaya_logged.specs.Given.SeizeEnds.Holders.{has_batch}
+use Rattle.papaya_logged.specs.Given.Tables.declared.node.Node.{Node}
 use Rattle.papaya_raw.specs.declared.machines.machine.Machine.{Machine}
 use Rattle.papaya_runs.specs.Present.{guard_of, guards_slot_or, slot_of_guard}
 use Rattle.papaya_runs.specs.Same.{is_same}
@@ -17,9 +17,9 @@ use Rattle.papaya_schedules.specs.InUse.{is_handing, is_held}
 use Rattle.papaya_schedules.specs.Moment.{UnderWay as CallThere, Moment}
 use Rattle.papaya_schedules.specs.Terms.{Terms}
 use Rattle.papaya_schedules.specs.Views.{call_of}
-use Rattle.papaya_histories.specs.Given.Callers.Together.{UnderWay}
-use Rattle.papaya_histories.specs.Given.Finishes.Machines.{machine_of}
-use Rattle.papaya_histories.specs.Given.Follows.Calls.{IsCalled}
+use Rattle.papaya_logged.specs.Given.Callers.Together.{UnderWay}
+use Rattle.papaya_logged.specs.Given.Finishes.Machines.{machine_of}
+use Rattle.papaya_logged.specs.Given.Follows.Calls.{IsCalled}
 use Rattle.papaya_executor.specs.IsAt.{call_in, slot_of, work_of}
 use Rattle.papaya_executor.specs.declared.worker.Work.{Work}
 use Rattle.papaya_executor.specs.declared.worker.Work.TheVariants as work

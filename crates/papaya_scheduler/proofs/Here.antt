@@ -7,7 +7,7 @@ use Rattle.papaya_runs.specs.Same.{is_same}
 use Rattle.papaya_schedules.specs.Moment.{UnderWay as CallThere, Moment}
 use Rattle.papaya_schedules.specs.Terms.{Terms}
 use Rattle.papaya_schedules.specs.Views.{call_of}
-use Rattle.papaya_histories.proofs.Given.Follows.Calling.{is_same_is}
+use Rattle.papaya_logged.proofs.Given.Follows.Calling.{is_same_is}
 use Rattle.papaya_scheduler.specs.Played.{AsFar, IsUnderWayAs, StandsAs, StandsFor}
 use Rattle.papaya_named.specs.Seen.{Seen, is_named, seen, seen_of}
 use Rattle.papaya_named.specs.declared.caller.Caller.{Caller}

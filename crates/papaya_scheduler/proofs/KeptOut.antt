@@ -4,7 +4,7 @@ use Rattle.std.specs.List.{list_all}
 use Rattle.std.proofs.Common.{refl, sym, ap, subst, ◌∙◌}
 use Rattle.seize_words.specs.declared.fault.Fault.{Fault}
 use Rattle.seize_words.specs.declared.fault.Fault.TheVariants.{Busy}
-use Rattle.papaya_histories.specs.Given.Tables.declared.resize_mode.ResizeMode.{ResizeMode}
+use Rattle.papaya_logged.specs.Given.Tables.declared.resize_mode.ResizeMode.{ResizeMode}
 use Rattle.papaya_runs.specs.Runs.{map_fault}
 use Rattle.papaya_runs.specs.Same.{is_same}
 use Rattle.papaya_schedules.specs.declared.event.Event.{Event}
@@ -16,12 +16,12 @@ use Rattle.papaya_schedules.specs.Entry.{Entry, nameless, speaker}
 use Rattle.papaya_schedules.specs.InTurn.{ComesRight, ComesTo, IsKeptOut, is_kept_out}
 use Rattle.papaya_schedules.specs.Moment.{UnderWay as CallThere, Moment}
 use Rattle.papaya_schedules.specs.Terms.{Terms}
-use Rattle.papaya_histories.specs.Given.Callers.Together.{UnderWay, OnKey, ForRoom, Counting, OverAll}
-use Rattle.papaya_effects.specs.Known.{Known, known}
-use Rattle.papaya_histories.specs.Given.Follows.Calling.{come_to}
-use Rattle.papaya_histories.specs.Given.Hands.Calling.{AsksJust}
-use Rattle.papaya_histories.proofs.Given.Moments.Calls.{calls_come_to_whole}
-use Rattle.papaya_kept.proofs.Stays.{calls_come_to_kept}
+use Rattle.papaya_logged.specs.Given.Callers.Together.{UnderWay, OnKey, ForRoom, Counting, OverAll}
+use Rattle.papaya_logged.specs.Given.Effects.Known.{Known, known}
+use Rattle.papaya_logged.specs.Given.Follows.Calling.{come_to}
+use Rattle.papaya_logged.specs.Given.Hands.Calling.{AsksJust}
+use Rattle.papaya_logged.proofs.Given.Moments.Calls.{calls_come_to_whole}
+use Rattle.papaya_logged.proofs.Given.Kept.Stays.{calls_come_to_kept}
 use Rattle.papaya_scheduler.specs.Played.{IsPlayed, Plays, StandsFor}
 use Rattle.papaya_named.specs.Seen.{Seen, seen, seen_of}
 use Rattle.papaya_named.specs.Turns.{is_that}

@@ -31,3 +31,4 @@ pub mod Vacancies
 pub mod SlotTaken
 pub mod Registers
 pub mod Owns
+pub mod Given

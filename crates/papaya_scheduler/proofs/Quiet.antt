@@ -3,7 +3,7 @@ use Rattle.std.specs.Prelude.{ℕ, Bool, List}
 use Rattle.std.proofs.Common.{refl}
 use Rattle.papaya_schedules.specs.Moment.{Sheltered, Moment}
 use Rattle.papaya_schedules.specs.Terms.{Terms}
-use Rattle.papaya_effects.specs.Known.{known}
+use Rattle.papaya_logged.specs.Given.Effects.Known.{known}
 use Rattle.papaya_scheduler.specs.Played.{StandsFor}
 use Rattle.papaya_scheduler.specs.declared.scheduler.Scheduler.{Scheduler}
 use Rattle.papaya_rows.proofs.Elsewhere.{elsewhere, shown_elsewhere, kept_elsewhere, counted_elsewhere}

@@ -4,15 +4,15 @@ use Rattle.std.specs.List.{AllByRecursion, list_any}
 use Rattle.std.proofs.Common.{refl, sym, ap, subst, ◌∙◌, inl, inr}
 use Rattle.std.proofs.lemmas.Bool.{cases_eq}
 use Rattle.seize_words.specs.declared.fault.Fault.TheVariants.{Busy}
-use Rattle.papaya_histories.specs.Given.Tables.declared.node.Node.{Node}
+use Rattle.papaya_logged.specs.Given.Tables.declared.node.Node.{Node}
 use Rattle.seize_words.specs.Mem.{Mem}
-use Rattle.papaya_histories.specs.Given.Rule.Chart.{Chart}
-use Rattle.papaya_histories.specs.Given.Rule.Words.{Blocks}
-use Rattle.papaya_histories.specs.Given.Points.FactsCalls.{Change}
-use Rattle.papaya_histories.specs.Given.Sweeps.SweepPoints.{reply_at}
-use Rattle.papaya_histories.specs.Given.Sweeps.declared.sweep.Sweep.{Sweep}
-use Rattle.papaya_histories.specs.Given.Sweeps.declared.sweep.Sweeping.{Sweeping}
-use Rattle.papaya_histories.specs.Given.Sweeps.declared.sweep.Sweeping.TheVariants as sweeping
+use Rattle.papaya_logged.specs.Given.Rule.Chart.{Chart}
+use Rattle.papaya_logged.specs.Given.Rule.Words.{Blocks}
+use Rattle.papaya_logged.specs.Given.Points.FactsCalls.{Change}
+use Rattle.papaya_logged.specs.Given.Sweeps.SweepPoints.{reply_at}
+use Rattle.papaya_logged.specs.Given.Sweeps.declared.sweep.Sweep.{Sweep}
+use Rattle.papaya_logged.specs.Given.Sweeps.declared.sweep.Sweeping.{Sweeping}
+use Rattle.papaya_logged.specs.Given.Sweeps.declared.sweep.Sweeping.TheVariants as sweeping
 use Rattle.papaya_raw.specs.declared.machines.call.KeyCall.{KeyCall}
 use Rattle.papaya_raw.specs.declared.machines.machine.Machine.TheVariants as kinds
 use Rattle.papaya_raw.specs.declared.machines.asking.Reply.TheVariants as machine_reply
@@ -39,24 +39,24 @@ use Rattle.papaya_schedules.specs.Entry.{Entry}
 use Rattle.papaya_schedules.specs.Moment.{Stands, Going, Asking as Asks, Told, IsReady, UnderWay as CallThere, Moment}
 use Rattle.papaya_schedules.specs.Terms.{Terms}
 use Rattle.papaya_schedules.specs.Views.{call_of}
-use Rattle.papaya_histories.specs.Given.Callers.Pairs.{Given, Begun, IsTold, KeepsGiven, IsOfKind, kind_of as kind_given}
-use Rattle.papaya_histories.specs.Given.Callers.Sights.{seen_by}
-use Rattle.papaya_histories.specs.Given.Callers.Together.{CallOnKey, UnderWay, OnKey, ForRoom, Counting, OverAll, Together, Stands as TogetherStands}
-use Rattle.papaya_histories.proofs.Given.Callers.Together.At.{at_other, at_same}
+use Rattle.papaya_logged.specs.Given.Callers.Pairs.{Given, Begun, IsTold, KeepsGiven, IsOfKind, kind_of as kind_given}
+use Rattle.papaya_logged.specs.Given.Callers.Sights.{seen_by}
+use Rattle.papaya_logged.specs.Given.Callers.Together.{CallOnKey, UnderWay, OnKey, ForRoom, Counting, OverAll, Together, Stands as TogetherStands}
+use Rattle.papaya_logged.proofs.Given.Callers.Together.At.{at_other, at_same}
 use Rattle.papaya_executor.specs.IsAt.{Scene, HasCall, slot_of, work_of}
 use Rattle.papaya_executor.specs.Replying.{ReplyLeads, scene_with}
-use Rattle.papaya_histories.specs.Given.Finishes.Machines.{machine_of}
-use Rattle.papaya_histories.specs.Given.Finishes.Maps.{Standing}
-use Rattle.papaya_histories.specs.Given.Follows.Calling.{told as told_so}
-use Rattle.papaya_histories.specs.Given.Follows.Calls.{IsCalled}
-use Rattle.papaya_histories.specs.Given.Hands.Asked.{IsAskedAs, as_told}
-use Rattle.papaya_effects.specs.Known.{known}
+use Rattle.papaya_logged.specs.Given.Finishes.Machines.{machine_of}
+use Rattle.papaya_logged.specs.Given.Finishes.Maps.{Standing}
+use Rattle.papaya_logged.specs.Given.Follows.Calling.{told as told_so}
+use Rattle.papaya_logged.specs.Given.Follows.Calls.{IsCalled}
+use Rattle.papaya_logged.specs.Given.Hands.Asked.{IsAskedAs, as_told}
+use Rattle.papaya_logged.specs.Given.Effects.Known.{known}
 use Rattle.papaya_executor.proofs.Changed.{standing_is}
-use Rattle.papaya_histories.proofs.Given.Follows.Calling.{is_same_refl}
-use Rattle.papaya_histories.specs.Given.Late.Faults.{RoomInSweeping}
-use Rattle.papaya_histories.proofs.Given.Late.KindsKept.Laws.{told_sweeps_refuse_room}
-use Rattle.papaya_histories.specs.Given.Late.Kinds.{FitsAsking, FitsAt}
-use Rattle.papaya_histories.specs.Given.Points.Told.{IsRowOfCall}
+use Rattle.papaya_logged.proofs.Given.Follows.Calling.{is_same_refl}
+use Rattle.papaya_logged.specs.Given.Late.Faults.{RoomInSweeping}
+use Rattle.papaya_logged.proofs.Given.Late.KindsKept.Laws.{told_sweeps_refuse_room}
+use Rattle.papaya_logged.specs.Given.Late.Kinds.{FitsAsking, FitsAt}
+use Rattle.papaya_logged.specs.Given.Points.Told.{IsRowOfCall}
 use Rattle.papaya_logged.specs.Calling.{CallTakes}
 use Rattle.papaya_logged.specs.Shown.{IsShown}
 use Rattle.papaya_logged.specs.declared.logged.Logged.{Logged}

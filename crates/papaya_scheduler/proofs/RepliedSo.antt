@@ -12,7 +12,7 @@ use Rattle.papaya_schedules.specs.declared.event.Event.TheVariants.{Replied}
 use Rattle.papaya_schedules.specs.declared.outcome.Outcome.TheVariants.{Goes}
 use Rattle.papaya_executor.specs.IsAt.{HasCall}
 use Rattle.papaya_executor.specs.Replying.{ReplyLeads}
-use Rattle.papaya_histories.specs.Given.Hands.Asked.{as_told}
+use Rattle.papaya_logged.specs.Given.Hands.Asked.{as_told}
 use Rattle.papaya_logged.specs.Calling.{CallTakes}
 use Rattle.papaya_logged.specs.declared.logged.Logged.{Logged}
 use Rattle.papaya_scheduler.specs.Played.{IsDue, Plays}

@@ -13,7 +13,7 @@ use Rattle.papaya_schedules.specs.InTurn.{IsDone}
 use Rattle.papaya_schedules.specs.InUse.{is_free_guard, is_living}
 use Rattle.papaya_schedules.specs.Moment.{Sheltered, Moment}
 use Rattle.papaya_schedules.specs.Terms.{Terms}
-use Rattle.papaya_effects.specs.Known.{known}
+use Rattle.papaya_logged.specs.Given.Effects.Known.{known}
 use Rattle.papaya_rows.specs.Rows.{used_as}
 use Rattle.papaya_scheduler.specs.Played.{IsDue, IsUnderWay, Plays, StandsFor}
 use Rattle.papaya_named.specs.Seen.{Seen, free_slot, seen, seen_of}

@@ -7,11 +7,11 @@ use Rattle.seize_words.specs.declared.fault.Fault.{Fault}
 use Rattle.seize_words.specs.declared.fault.Fault.TheVariants.{Memory, SlotsUsedUp}
 use Rattle.seize.specs.declared.rows.register.Register.{Register}
 use Rattle.seize.specs.declared.rows.register.Registering.TheVariants as at
-use Rattle.papaya_histories.proofs.Given.SeizeSets.Slots.Registers.{NoneOnVacant, WhyRefused}
-use Rattle.papaya_histories.specs.Given.Seize.Sequence.{new_slot}
-use Rattle.papaya_histories.specs.Given.Tables.declared.node.Node.{Node}
-use Rattle.papaya_histories.specs.Given.Teller.declared.changed.Changed.{Changed}
-use Rattle.papaya_histories.specs.Given.Teller.declared.changed.Changed.TheVariants as changed
+use Rattle.papaya_logged.proofs.Given.SeizeSets.Slots.Registers.{NoneOnVacant, WhyRefused}
+use Rattle.seize.specs.Sequence.{new_slot}
+use Rattle.papaya_logged.specs.Given.Tables.declared.node.Node.{Node}
+use Rattle.papaya_logged.specs.Given.Teller.declared.changed.Changed.{Changed}
+use Rattle.papaya_logged.specs.Given.Teller.declared.changed.Changed.TheVariants as changed
 use Rattle.papaya_runs.specs.Present.{Present}
 use Rattle.papaya_schedules.specs.declared.effect.Effect.{Effect}
 use Rattle.papaya_schedules.specs.declared.effect.Effect.TheVariants.{Asked}
@@ -24,8 +24,8 @@ use Rattle.papaya_schedules.specs.InUse.{used_slots}
 use Rattle.papaya_schedules.specs.Lists.{least_free}
 use Rattle.papaya_schedules.specs.Moment.{Moment}
 use Rattle.papaya_schedules.specs.Terms.{Terms}
-use Rattle.papaya_effects.specs.Effects.{effects_of}
-use Rattle.papaya_effects.specs.declared.acting.Acting.TheVariants as acts
+use Rattle.papaya_logged.specs.Given.Effects.Effects.{effects_of}
+use Rattle.papaya_logged.specs.Given.Effects.declared.acting.Acting.TheVariants as acts
 use Rattle.papaya_executor.specs.IsAt.{use_at, work_of}
 use Rattle.papaya_executor.specs.declared.row.RowTold.{RowTold}
 use Rattle.papaya_executor.specs.declared.row.RowTold.TheVariants as told

@@ -8,7 +8,7 @@ use Rattle.seize.specs.World.{Rests}
 use Rattle.papaya_raw.specs.Machine.{is_ready as sweep_is_ready, machine_asked}
 use Rattle.papaya_raw.specs.declared.machines.machine.Machine.{Machine}
 use Rattle.papaya_raw.specs.declared.machines.machine.Machine.TheVariants as kinds
-use Rattle.papaya_histories.specs.Given.Sweeps.declared.sweep.Sweeping.{Sweeping}
+use Rattle.papaya_logged.specs.Given.Sweeps.declared.sweep.Sweeping.{Sweeping}
 use Rattle.papaya_runs.specs.Same.{is_same}
 use Rattle.papaya_schedules.specs.declared.event.Event.TheVariants.{Stop}
 use Rattle.papaya_schedules.specs.declared.outcome.Outcome.TheVariants.{Done, Refused}
@@ -19,22 +19,22 @@ use Rattle.papaya_schedules.specs.InTurn.{IsDone}
 use Rattle.papaya_schedules.specs.Moment.{Stands, Going, Asking, Told, IsReady, UnderWay as CallThere, Moment}
 use Rattle.papaya_schedules.specs.Terms.{Terms}
 use Rattle.papaya_schedules.specs.Views.{call_of}
-use Rattle.papaya_histories.specs.Given.Callers.Sights.{seen_by}
-use Rattle.papaya_histories.specs.Given.Callers.Together.{UnderWay, OnKey, ForRoom, Counting, OverAll, Together, Stands as TogetherStands}
-use Rattle.papaya_histories.specs.Given.Late.ToldSweeps.{IsRowOfSweep}
-use Rattle.papaya_histories.specs.Given.Sweeps.declared.sweep.Sweeping.TheVariants as sweeping
+use Rattle.papaya_logged.specs.Given.Callers.Sights.{seen_by}
+use Rattle.papaya_logged.specs.Given.Callers.Together.{UnderWay, OnKey, ForRoom, Counting, OverAll, Together, Stands as TogetherStands}
+use Rattle.papaya_logged.specs.Given.Late.ToldSweeps.{IsRowOfSweep}
+use Rattle.papaya_logged.specs.Given.Sweeps.declared.sweep.Sweeping.TheVariants as sweeping
 use Rattle.papaya_executor.proofs.Changed.{standing_is}
-use Rattle.papaya_histories.proofs.Given.Callers.Together.At.{at_other, at_same}
+use Rattle.papaya_logged.proofs.Given.Callers.Together.At.{at_other, at_same}
 use Rattle.papaya_executor.specs.IsAt.{Scene, HasCall, slot_of, work_of}
 use Rattle.papaya_executor.specs.Replying.{unless_stopped}
-use Rattle.papaya_histories.specs.Given.Finishes.Machines.{machine_of}
-use Rattle.papaya_histories.specs.Given.Finishes.Maps.{Standing, with_call as with_call_of}
-use Rattle.papaya_histories.specs.Given.Follows.Calling.{NoneNamed}
-use Rattle.papaya_histories.proofs.Given.Follows.Calling.{apart_back, is_same_refl}
+use Rattle.papaya_logged.specs.Given.Finishes.Machines.{machine_of}
+use Rattle.papaya_logged.specs.Given.Finishes.Maps.{Standing, with_call as with_call_of}
+use Rattle.papaya_logged.specs.Given.Follows.Calling.{NoneNamed}
+use Rattle.papaya_logged.proofs.Given.Follows.Calling.{apart_back, is_same_refl}
 use Rattle.papaya_logged.specs.Calling.{WalkStops}
 use Rattle.papaya_logged.specs.Shown.{IsShown}
 use Rattle.papaya_logged.specs.declared.logged.Logged.{Logged}
-use Rattle.papaya_histories.specs.Given.Others.Walks.{given_up}
+use Rattle.papaya_logged.specs.Given.Others.Walks.{given_up}
 use Rattle.papaya_named.specs.Machines.{IsAsFar}
 use Rattle.papaya_scheduler.specs.Played.{CallsAre, IsDue, IsUnderWay, Plays, StandsFor}
 use Rattle.papaya_named.specs.Seen.{Seen, far_of, if_ready, is_named, is_ready as is_ready_there, ready_place, seen, seen_of, shows}

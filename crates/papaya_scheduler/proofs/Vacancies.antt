@@ -4,10 +4,10 @@ use Rattle.std.proofs.Common.{◌≡◌, ℕ, ◌+◌, ◌≤◌, ◌<◌, Bool,
 use Rattle.seize.specs.declared.states.TheConstants.{LAST_SLOT}
 use Rattle.seize.specs.Sequence.{new_slot}
 use Rattle.seize.specs.World.{Use, Vacant}
-use Rattle.papaya_histories.proofs.Given.SeizeRule.Rows.Known.{works_on}
-use Rattle.papaya_histories.proofs.Given.SeizeSets.Slots.Registers.{NoneOnVacant}
-use Rattle.papaya_histories.proofs.Given.SeizeSets.Slots.Vacant.{first_vacant_says, first_vacant_says_none}
-use Rattle.papaya_histories.specs.Given.Finishes.Machines.{machine_of}
+use Rattle.papaya_logged.proofs.Given.SeizeRule.Rows.Known.{works_on}
+use Rattle.papaya_logged.proofs.Given.SeizeSets.Slots.Registers.{NoneOnVacant}
+use Rattle.papaya_logged.proofs.Given.SeizeSets.Slots.Vacant.{first_vacant_says, first_vacant_says_none}
+use Rattle.papaya_logged.specs.Given.Finishes.Machines.{machine_of}
 use Rattle.papaya_runs.specs.Present.{guards_on, has_registration}
 use Rattle.papaya_schedules.specs.InUse.{used_slots}
 use Rattle.papaya_schedules.specs.Lists.{is_among, least_free}

@@ -1,6 +1,6 @@
 -- How a scheduler begins.
 use Rattle.std.specs.Prelude.{◌≡◌, [], replicate}
-use Rattle.papaya_effects.specs.Known.{known, nothing_known}
+use Rattle.papaya_logged.specs.Given.Effects.Known.{known, nothing_known}
 use Rattle.papaya_scheduler.specs.declared.scheduler.Given.{Given}
 use Rattle.papaya_scheduler.specs.declared.scheduler.Scheduler.{Scheduler}
 

@@ -9,3 +9,4 @@ pub mod Back
 pub mod Quiet
 pub mod Works
 pub mod AllWorks
+pub mod Given

@@ -2,12 +2,12 @@
 use Rattle.std.specs.Prelude.{◌≡◌, ◌≤◌, ℕ, ◌==◌, ◌+◌, ◌*◌, Bool, true, false, ◌&&◌, List, [], ◌∷◌, length, filter, map, is_some, is_none, position, slice_get, slice_index_or, slice_set, Option, Some, None, Result, if◌then◌else◌}
 use Rattle.std.specs.List.{AllByRecursion, list_any, remove}
 use Rattle.std.specs.Result.{is_err}
-use Rattle.papaya_histories.specs.Given.SeizeWords.declared.fault.Fault.TheVariants.{Busy}
-use Rattle.papaya_histories.specs.Given.Tables.declared.setting.Setting.{Setting}
-use Rattle.papaya_histories.specs.Given.Callers.Together.{UnderWay}
-use Rattle.papaya_histories.specs.Given.Finishes.Machines.{machine_of}
-use Rattle.papaya_histories.specs.Given.Finishes.Maps.{Standing}
-use Rattle.papaya_histories.specs.Given.Hands.Asked.{as_told}
+use Rattle.seize_words.specs.declared.fault.Fault.TheVariants.{Busy}
+use Rattle.papaya_logged.specs.Given.Tables.declared.setting.Setting.{Setting}
+use Rattle.papaya_logged.specs.Given.Callers.Together.{UnderWay}
+use Rattle.papaya_logged.specs.Given.Finishes.Machines.{machine_of}
+use Rattle.papaya_logged.specs.Given.Finishes.Maps.{Standing}
+use Rattle.papaya_logged.specs.Given.Hands.Asked.{as_told}
 use Rattle.papaya_raw.specs.declared.machines.asking.Reply.{Reply as MachineReply}
 use Rattle.papaya_raw.specs.declared.machines.machine.Machine.{Machine}
 use Rattle.papaya_runs.specs.Present.{Present, HaveNames, guard_of, living_slot}

@@ -7,9 +7,9 @@ use Rattle.papaya_runs.specs.Present.{Present, all_forgotten}
 use Rattle.papaya_schedules.specs.declared.event.Event.{Event}
 use Rattle.papaya_schedules.specs.Entry.{Entry}
 use Rattle.papaya_schedules.specs.Terms.{Terms}
-use Rattle.papaya_effects.specs.Known.{Known, known}
+use Rattle.papaya_logged.specs.Given.Effects.Known.{Known, known}
 use Rattle.papaya_executor.specs.IsAt.{Scene}
-use Rattle.papaya_reclaims.specs.Reclaims.{LeftBehind}
+use Rattle.papaya_logged.specs.Given.Reclaims.Reclaims.{LeftBehind}
 use Rattle.papaya_scheduler.specs.Played.{IsDue, Plays, entry_of}
 use Rattle.papaya_named.specs.declared.caller.Caller.{Caller}
 use Rattle.papaya_scheduler.specs.declared.played.Played.{Played}

@@ -3,7 +3,7 @@ ghost use Rattle.std.specs.Prelude.{◌≡◌, ℕ, Bool, List, IfOk};
 ghost use Rattle.papaya_schedules.specs.declared.event.Event.TheVariants as event;
 ghost use Rattle.papaya_schedules.specs.Moment.{Moment};
 ghost use Rattle.papaya_schedules.specs.Terms.{Terms};
-ghost use Rattle.papaya_histories.specs.Given.Hands.Asked.{as_told};
+ghost use Rattle.papaya_logged.specs.Given.Hands.Asked.{as_told};
 ghost use Rattle.papaya_executor.specs.IsAt.{KeepsGiven};
 ghost use Rattle.papaya_named.specs.Machines.{aborted_by};
 ghost use Rattle.papaya_scheduler.specs.Played.{Began, BeginsSo, MayPlay, PlaysAt, Replies, StandsFor, Stops};

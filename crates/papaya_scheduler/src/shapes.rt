@@ -1,8 +1,8 @@
 //! The tables of a map, as a schedule is shown them.
 ghost use Rattle.std.specs.Prelude.{◌≡◌, ◌-◌, ◌++◌, ℕ, Bool, map, IfOk};
 ghost use Rattle.papaya_schedules.specs.declared.event.Event.TheVariants as event;
-ghost use Rattle.papaya_histories.specs.Given.Rule.Chart.{Chart};
-ghost use Rattle.papaya_histories.specs.Given.Rule.Words.{Blocks};
+ghost use Rattle.papaya_logged.specs.Given.Rule.Chart.{Chart};
+ghost use Rattle.papaya_logged.specs.Given.Rule.Words.{Blocks};
 ghost use Rattle.papaya_shown.specs.Shown.{Stands, tables_on};
 ghost use Rattle.papaya_scheduler.specs.Played.{MayPlay, PlaysAt};
 ghost use Rattle.papaya_scheduler.specs.Shapes.{shape_of};

@@ -36,3 +36,4 @@ pub mod Handing
 pub mod Leaving
 pub mod Spares
 pub mod CopierTables
+pub mod Given

@@ -10,3 +10,4 @@ pub mod Hand
 pub mod Owed
 pub mod Handing
 pub mod OwedBeside
+pub mod Given

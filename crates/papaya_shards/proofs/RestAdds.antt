@@ -1,33 +1,33 @@
 -- What a step of a reservation, of a counting and of a sweep does to the words of counts: a sweep that counts adds to its shard what it is to; no other step writes one.
 use Rattle.std.specs.Prelude.{◌≡◌, ◌==◌, ℕ, Bool, true, false, List, [], ◌∷◌, Some, None}
 use Rattle.std.proofs.Common.{refl, ap, sym, subst, ◌∙◌, eqb-true, inl, inr}
-use Rattle.papaya_histories.specs.Given.SeizeWords.Word.{block_in}
-use Rattle.papaya_histories.specs.Given.Tables.declared.node.Node.{Node}
-use Rattle.papaya_histories.specs.Given.Resize.declared.sum.Sum.{Sum}
-use Rattle.papaya_histories.specs.Given.Sweeps.declared.sweep.Sweep.{Sweep}
-use Rattle.papaya_histories.specs.Given.Sweeps.declared.sweep.Sweeping.TheVariants as sweeping
-use Rattle.papaya_histories.specs.Given.Sweeps.declared.sweep.Swept.{Swept}
-use Rattle.papaya_histories.specs.Given.Raw.Progress.{of_swept}
-use Rattle.papaya_histories.specs.Given.Raw.declared.machines.machine.Machine.TheVariants as kinds
-use Rattle.papaya_histories.specs.Given.Raw.declared.machines.progress.Progress.{Progress}
-use Rattle.papaya_histories.specs.Given.Schedules.declared.effect.Effect.{Effect}
-use Rattle.papaya_histories.specs.Given.Schedules.declared.effect.Effect.TheVariants as effect
-use Rattle.papaya_histories.specs.Given.Schedules.Moment.{Moment}
-use Rattle.papaya_histories.specs.Given.Callers.OverAll.{CallOverAll}
-use Rattle.papaya_histories.specs.Given.Callers.Rooms.{CallForRoom}
-use Rattle.papaya_histories.specs.Given.Callers.Together.{UnderWay, ForRoom, Counting, OverAll}
-use Rattle.papaya_histories.specs.Given.Effects.Effects.{effects_of}
-use Rattle.papaya_histories.specs.Given.Effects.Known.{Known}
-use Rattle.papaya_histories.specs.Given.Effects.declared.acting.Acting.TheVariants as acts
-use Rattle.papaya_histories.specs.Given.Effects.declared.role.Role.TheVariants as role
-use Rattle.papaya_histories.specs.Given.Executor.IsAt.{Scene, IsAt, slot_of}
-use Rattle.papaya_histories.specs.Given.Executor.Stepping.{StepLeads}
-use Rattle.papaya_histories.specs.Given.Executor.declared.executor.Executor.{Executor}
-use Rattle.papaya_histories.specs.Given.Finishes.Maps.{Standing}
-use Rattle.papaya_histories.specs.Given.Finishes.Sweeps.{SweepStepsAmong}
-use Rattle.papaya_histories.specs.Given.Follows.Shows.{Shows}
-use Rattle.papaya_histories.proofs.Given.Follows.Steps.{WentTo, went_to, DidSo}
-use Rattle.papaya_histories.proofs.Given.Follows.Writes.{nothing_free}
+use Rattle.papaya_settles.specs.Given.SeizeWords.Word.{block_in}
+use Rattle.papaya_settles.specs.Given.Tables.declared.node.Node.{Node}
+use Rattle.papaya_settles.specs.Given.Resize.declared.sum.Sum.{Sum}
+use Rattle.papaya_settles.specs.Given.Sweeps.declared.sweep.Sweep.{Sweep}
+use Rattle.papaya_settles.specs.Given.Sweeps.declared.sweep.Sweeping.TheVariants as sweeping
+use Rattle.papaya_settles.specs.Given.Sweeps.declared.sweep.Swept.{Swept}
+use Rattle.papaya_settles.specs.Given.Raw.Progress.{of_swept}
+use Rattle.papaya_settles.specs.Given.Raw.declared.machines.machine.Machine.TheVariants as kinds
+use Rattle.papaya_settles.specs.Given.Raw.declared.machines.progress.Progress.{Progress}
+use Rattle.papaya_settles.specs.Given.Schedules.declared.effect.Effect.{Effect}
+use Rattle.papaya_settles.specs.Given.Schedules.declared.effect.Effect.TheVariants as effect
+use Rattle.papaya_settles.specs.Given.Schedules.Moment.{Moment}
+use Rattle.papaya_settles.specs.Given.Callers.OverAll.{CallOverAll}
+use Rattle.papaya_settles.specs.Given.Callers.Rooms.{CallForRoom}
+use Rattle.papaya_settles.specs.Given.Callers.Together.{UnderWay, ForRoom, Counting, OverAll}
+use Rattle.papaya_settles.specs.Given.Effects.Effects.{effects_of}
+use Rattle.papaya_settles.specs.Given.Effects.Known.{Known}
+use Rattle.papaya_settles.specs.Given.Effects.declared.acting.Acting.TheVariants as acts
+use Rattle.papaya_settles.specs.Given.Effects.declared.role.Role.TheVariants as role
+use Rattle.papaya_settles.specs.Given.Executor.IsAt.{Scene, IsAt, slot_of}
+use Rattle.papaya_settles.specs.Given.Executor.Stepping.{StepLeads}
+use Rattle.papaya_settles.specs.Given.Executor.declared.executor.Executor.{Executor}
+use Rattle.papaya_settles.specs.Given.Finishes.Maps.{Standing}
+use Rattle.papaya_settles.specs.Given.Finishes.Sweeps.{SweepStepsAmong}
+use Rattle.papaya_settles.specs.Given.Follows.Shows.{Shows}
+use Rattle.papaya_settles.proofs.Given.Follows.Steps.{WentTo, went_to, DidSo}
+use Rattle.papaya_settles.proofs.Given.Follows.Writes.{nothing_free}
 use Rattle.papaya_shards.specs.Adds.{adds_in_sweeping, adds_of}
 use Rattle.papaya_settles.specs.Counts.{counts_in_sweeping, shard_for}
 use Rattle.papaya_shards.proofs.Adds.{sweep_adds_counts, sweep_adds_at, sweep_adds_none, Brings, StepAdds, AddsNone, AddsIts}

@@ -2,46 +2,46 @@
 use Rattle.std.specs.Prelude.{◌≡◌, ℕ, ◌<◌, ◌≤◌, Bool, List, Option, Some, None}
 use Rattle.std.proofs.Common.{refl, ap, sym, subst, ◌∙◌, arith, inl, inr}
 use Rattle.std.proofs.lemmas.Bool.{cases_eq}
-use Rattle.papaya_histories.specs.Given.SeizeWords.Mem.{Mem, value_at, word_at}
-use Rattle.papaya_histories.specs.Given.SeizeWords.declared.at.At.TheVariants.{Root, Word}
-use Rattle.papaya_histories.specs.Given.Seize.World.{World, with_at}
-use Rattle.papaya_histories.specs.Given.Seize.declared.progress.Progress.{Progress}
-use Rattle.papaya_histories.specs.Given.Seize.declared.progress.Progress.TheVariants as progress
-use Rattle.papaya_histories.specs.Given.Tables.declared.node.Node.{Node}
-use Rattle.papaya_histories.specs.Given.Tables.declared.node.Node.TheVariants as node
-use Rattle.papaya_histories.specs.Given.Tables.declared.setting.Setting.{Setting}
-use Rattle.papaya_histories.specs.Given.Resize.NewMap.{opened, new_map_plan}
-use Rattle.papaya_histories.specs.Given.Resize.NewMap as new_map
-use Rattle.papaya_histories.specs.Given.Resize.NewTable.{new_table_plan}
-use Rattle.papaya_histories.specs.Given.Resize.declared.new_map.NewMap.{NewMap}
-use Rattle.papaya_histories.specs.Given.Resize.declared.new_map.Opening.{Opening}
-use Rattle.papaya_histories.specs.Given.Resize.declared.new_map.Opening.TheVariants as at
-use Rattle.papaya_histories.specs.Given.Schedules.declared.effect.Effect.{Effect}
-use Rattle.papaya_histories.specs.Given.Schedules.Effects.{with_effects}
-use Rattle.papaya_histories.specs.Given.Schedules.Moment.{Moment}
-use Rattle.papaya_histories.specs.Given.Teller.declared.changed.Changed.{Changed}
-use Rattle.papaya_histories.specs.Given.Teller.declared.changed.Changed.TheVariants as changed
-use Rattle.papaya_histories.specs.Given.Teller.declared.changed.Kind.{Kind}
-use Rattle.papaya_histories.specs.Given.Teller.declared.changed.Kind.TheVariants as kind
-use Rattle.papaya_histories.specs.Given.Rule.Rule.{no_table}
-use Rattle.papaya_histories.specs.Given.Callers.Together.{no_blocks}
-use Rattle.papaya_histories.proofs.Given.Callers.Together.At.{at_other, at_same}
-use Rattle.papaya_histories.specs.Given.Effects.Effects.{effects_of}
-use Rattle.papaya_histories.specs.Given.Effects.Known.{Known}
-use Rattle.papaya_histories.specs.Given.Effects.declared.acting.Acting.TheVariants as acts
-use Rattle.papaya_histories.specs.Given.Effects.declared.role.Role.TheVariants as role
-use Rattle.papaya_histories.specs.Given.Executor.IsAt.{Scene, IsAt, slot_of}
-use Rattle.papaya_histories.specs.Given.Executor.Making.{MakingStepsFrom}
-use Rattle.papaya_histories.specs.Given.Executor.declared.executor.Executor.{Executor}
-use Rattle.papaya_histories.proofs.Given.Executor.Makings.{may_make}
-use Rattle.papaya_histories.specs.Given.Finishes.Endings.{MakingStepsAmong}
-use Rattle.papaya_histories.specs.Given.Finishes.Makings.{Beginning, HasMade, OpeningFacts, MakingFacts, IsMade, KeepsIts}
-use Rattle.papaya_histories.specs.Given.Finishes.Maps.{Standing}
-use Rattle.papaya_histories.specs.Given.Follows.Blocks.{HasRole}
-use Rattle.papaya_histories.proofs.Given.Follows.Operations.{LeavesBy, Operated, operated, operated_leaves}
-use Rattle.papaya_histories.proofs.Given.Follows.Steps.{one_of}
-use Rattle.papaya_histories.specs.Given.Moments.Whole.{ShowsWhole}
-use Rattle.papaya_histories.proofs.Given.Others.MakingPlans.{DoneBy, making_done, CounterFrom, counter_from}
+use Rattle.papaya_settles.specs.Given.SeizeWords.Mem.{Mem, value_at, word_at}
+use Rattle.papaya_settles.specs.Given.SeizeWords.declared.at.At.TheVariants.{Root, Word}
+use Rattle.papaya_settles.specs.Given.Seize.World.{World, with_at}
+use Rattle.papaya_settles.specs.Given.Seize.declared.progress.Progress.{Progress}
+use Rattle.papaya_settles.specs.Given.Seize.declared.progress.Progress.TheVariants as progress
+use Rattle.papaya_settles.specs.Given.Tables.declared.node.Node.{Node}
+use Rattle.papaya_settles.specs.Given.Tables.declared.node.Node.TheVariants as node
+use Rattle.papaya_settles.specs.Given.Tables.declared.setting.Setting.{Setting}
+use Rattle.papaya_settles.specs.Given.Resize.NewMap.{opened, new_map_plan}
+use Rattle.papaya_settles.specs.Given.Resize.NewMap as new_map
+use Rattle.papaya_settles.specs.Given.Resize.NewTable.{new_table_plan}
+use Rattle.papaya_settles.specs.Given.Resize.declared.new_map.NewMap.{NewMap}
+use Rattle.papaya_settles.specs.Given.Resize.declared.new_map.Opening.{Opening}
+use Rattle.papaya_settles.specs.Given.Resize.declared.new_map.Opening.TheVariants as at
+use Rattle.papaya_settles.specs.Given.Schedules.declared.effect.Effect.{Effect}
+use Rattle.papaya_settles.specs.Given.Schedules.Effects.{with_effects}
+use Rattle.papaya_settles.specs.Given.Schedules.Moment.{Moment}
+use Rattle.papaya_settles.specs.Given.Teller.declared.changed.Changed.{Changed}
+use Rattle.papaya_settles.specs.Given.Teller.declared.changed.Changed.TheVariants as changed
+use Rattle.papaya_settles.specs.Given.Teller.declared.changed.Kind.{Kind}
+use Rattle.papaya_settles.specs.Given.Teller.declared.changed.Kind.TheVariants as kind
+use Rattle.papaya_settles.specs.Given.Rule.Rule.{no_table}
+use Rattle.papaya_settles.specs.Given.Callers.Together.{no_blocks}
+use Rattle.papaya_settles.proofs.Given.Callers.Together.At.{at_other, at_same}
+use Rattle.papaya_settles.specs.Given.Effects.Effects.{effects_of}
+use Rattle.papaya_settles.specs.Given.Effects.Known.{Known}
+use Rattle.papaya_settles.specs.Given.Effects.declared.acting.Acting.TheVariants as acts
+use Rattle.papaya_settles.specs.Given.Effects.declared.role.Role.TheVariants as role
+use Rattle.papaya_settles.specs.Given.Executor.IsAt.{Scene, IsAt, slot_of}
+use Rattle.papaya_settles.specs.Given.Executor.Making.{MakingStepsFrom}
+use Rattle.papaya_settles.specs.Given.Executor.declared.executor.Executor.{Executor}
+use Rattle.papaya_settles.proofs.Given.Executor.Makings.{may_make}
+use Rattle.papaya_settles.specs.Given.Finishes.Endings.{MakingStepsAmong}
+use Rattle.papaya_settles.specs.Given.Finishes.Makings.{Beginning, HasMade, OpeningFacts, MakingFacts, IsMade, KeepsIts}
+use Rattle.papaya_settles.specs.Given.Finishes.Maps.{Standing}
+use Rattle.papaya_settles.specs.Given.Follows.Blocks.{HasRole}
+use Rattle.papaya_settles.proofs.Given.Follows.Operations.{LeavesBy, Operated, operated, operated_leaves}
+use Rattle.papaya_settles.proofs.Given.Follows.Steps.{one_of}
+use Rattle.papaya_settles.specs.Given.Moments.Whole.{ShowsWhole}
+use Rattle.papaya_settles.proofs.Given.Others.MakingPlans.{DoneBy, making_done, CounterFrom, counter_from}
 use Rattle.papaya_shards.specs.ShardSteps.{MakingsKeepCounters}
 use Rattle.papaya_shards.specs.ShardWords.{ShowsShards, IsUncounted, MakesUncounted, ShowsCounters}
 use Rattle.papaya_settles.proofs.Aimed.{new_aims}

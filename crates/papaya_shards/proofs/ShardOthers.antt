@@ -2,40 +2,40 @@
 use Rattle.std.specs.Prelude.{◌≡◌, ℕ, zero, suc, ◌≤◌, Bool, List, Option, Some, None}
 use Rattle.std.proofs.Common.{refl, ap, sym, subst, ◌∙◌, arith, inl, inr}
 use Rattle.std.proofs.lemmas.Bool.{cases_eq}
-use Rattle.papaya_histories.specs.Given.SeizeWords.Mem.{Mem, word_at}
-use Rattle.papaya_histories.specs.Given.SeizeWords.declared.at.At.TheVariants.{Word}
-use Rattle.papaya_histories.specs.Given.Seize.World.{World, Begin, Step, with_at, times}
-use Rattle.papaya_histories.specs.Given.Tables.declared.node.Node.{Node}
-use Rattle.papaya_histories.specs.Given.Tables.declared.setting.Setting.{Setting}
-use Rattle.papaya_histories.specs.Given.Schedules.declared.effect.Effect.{Effect}
-use Rattle.papaya_histories.specs.Given.Schedules.Effects.{with_effects}
-use Rattle.papaya_histories.specs.Given.Schedules.Moment.{Moment}
-use Rattle.papaya_histories.specs.Given.Teller.declared.changed.Changed.{Changed}
-use Rattle.papaya_histories.specs.Given.Teller.declared.teller.Teller.{Teller}
-use Rattle.papaya_histories.proofs.Given.Callers.Together.At.{at_other, at_same}
-use Rattle.papaya_histories.specs.Given.Effects.Effects.{effects_of}
-use Rattle.papaya_histories.specs.Given.Effects.Known.{Known}
-use Rattle.papaya_histories.specs.Given.Effects.declared.acting.Acting.TheVariants as acts
-use Rattle.papaya_histories.specs.Given.Effects.declared.role.Role.TheVariants as role
-use Rattle.papaya_histories.specs.Given.Executor.Ending.{ending_begun}
-use Rattle.papaya_histories.specs.Given.Executor.IsAt.{Scene, IsAt, slot_of, work_of}
-use Rattle.papaya_histories.specs.Given.Executor.OnSlots.{HappensAt, RowSteps}
-use Rattle.papaya_histories.specs.Given.Executor.Rows.{request_of}
-use Rattle.papaya_histories.specs.Given.Executor.declared.executor.Executor.{Executor}
-use Rattle.papaya_histories.specs.Given.Executor.declared.row.RowTold.{RowTold}
-use Rattle.papaya_histories.specs.Given.Executor.declared.row.SlotRow.{SlotRow}
-use Rattle.papaya_histories.specs.Given.Executor.declared.worker.Work.TheVariants.{OnSlot}
-use Rattle.papaya_histories.proofs.Given.Executor.OnSlots.{row_at, may_taken}
-use Rattle.papaya_histories.specs.Given.Finishes.FactsEnds.{Deed, Spares, taken_by}
-use Rattle.papaya_histories.specs.Given.Finishes.Makings.{Beginning, HasMade}
-use Rattle.papaya_histories.specs.Given.Finishes.Maps.{Standing}
-use Rattle.papaya_histories.proofs.Given.Follows.Operations.{Operated}
-use Rattle.papaya_histories.proofs.Given.Follows.Steps.{one_of}
-use Rattle.papaya_histories.specs.Given.Moments.Whole.{ShowsWhole}
-use Rattle.papaya_histories.specs.Given.Others.Endings.{ending_after}
-use Rattle.papaya_histories.specs.Given.Others.Rows.{scene_then}
-use Rattle.papaya_histories.proofs.Given.Others.RowPlans.{TellsRow, row_tells, row_operated}
-use Rattle.papaya_histories.proofs.Aside.Elsewhere.{ending_at}
+use Rattle.papaya_settles.specs.Given.SeizeWords.Mem.{Mem, word_at}
+use Rattle.papaya_settles.specs.Given.SeizeWords.declared.at.At.TheVariants.{Word}
+use Rattle.papaya_settles.specs.Given.Seize.World.{World, Begin, Step, with_at, times}
+use Rattle.papaya_settles.specs.Given.Tables.declared.node.Node.{Node}
+use Rattle.papaya_settles.specs.Given.Tables.declared.setting.Setting.{Setting}
+use Rattle.papaya_settles.specs.Given.Schedules.declared.effect.Effect.{Effect}
+use Rattle.papaya_settles.specs.Given.Schedules.Effects.{with_effects}
+use Rattle.papaya_settles.specs.Given.Schedules.Moment.{Moment}
+use Rattle.papaya_settles.specs.Given.Teller.declared.changed.Changed.{Changed}
+use Rattle.papaya_settles.specs.Given.Teller.declared.teller.Teller.{Teller}
+use Rattle.papaya_settles.proofs.Given.Callers.Together.At.{at_other, at_same}
+use Rattle.papaya_settles.specs.Given.Effects.Effects.{effects_of}
+use Rattle.papaya_settles.specs.Given.Effects.Known.{Known}
+use Rattle.papaya_settles.specs.Given.Effects.declared.acting.Acting.TheVariants as acts
+use Rattle.papaya_settles.specs.Given.Effects.declared.role.Role.TheVariants as role
+use Rattle.papaya_settles.specs.Given.Executor.Ending.{ending_begun}
+use Rattle.papaya_settles.specs.Given.Executor.IsAt.{Scene, IsAt, slot_of, work_of}
+use Rattle.papaya_settles.specs.Given.Executor.OnSlots.{HappensAt, RowSteps}
+use Rattle.papaya_settles.specs.Given.Executor.Rows.{request_of}
+use Rattle.papaya_settles.specs.Given.Executor.declared.executor.Executor.{Executor}
+use Rattle.papaya_settles.specs.Given.Executor.declared.row.RowTold.{RowTold}
+use Rattle.papaya_settles.specs.Given.Executor.declared.row.SlotRow.{SlotRow}
+use Rattle.papaya_settles.specs.Given.Executor.declared.worker.Work.TheVariants.{OnSlot}
+use Rattle.papaya_settles.proofs.Given.Executor.OnSlots.{row_at, may_taken}
+use Rattle.papaya_settles.specs.Given.Finishes.FactsEnds.{Deed, Spares, taken_by}
+use Rattle.papaya_settles.specs.Given.Finishes.Makings.{Beginning, HasMade}
+use Rattle.papaya_settles.specs.Given.Finishes.Maps.{Standing}
+use Rattle.papaya_settles.proofs.Given.Follows.Operations.{Operated}
+use Rattle.papaya_settles.proofs.Given.Follows.Steps.{one_of}
+use Rattle.papaya_settles.specs.Given.Moments.Whole.{ShowsWhole}
+use Rattle.papaya_settles.specs.Given.Others.Endings.{ending_after}
+use Rattle.papaya_settles.specs.Given.Others.Rows.{scene_then}
+use Rattle.papaya_settles.proofs.Given.Others.RowPlans.{TellsRow, row_tells, row_operated}
+use Rattle.papaya_settles.proofs.Given.Histories.Aside.Elsewhere.{ending_at}
 use Rattle.papaya_shards.specs.ShardSteps.{CountersBegin, RowsBeginCounters, RowsKeepCounters, EndingsKeepCounters, MakingsBeginCounters, EndingsBeginCounters}
 use Rattle.papaya_shards.specs.ShardWords.{ShowsShards, IsUncounted, MakesUncounted, ShowsCounters}
 use Rattle.papaya_settles.proofs.Gains.{none_changed}

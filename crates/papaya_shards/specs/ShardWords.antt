@@ -1,12 +1,12 @@
 -- The words of a map's count, as the memory has them, and as the moment says.
 use Rattle.std.specs.Prelude.{◌≡◌, ℕ, ◌≤◌, List, length, Some}
-use Rattle.papaya_histories.specs.Given.SeizeWords.Mem.{word_at}
-use Rattle.papaya_histories.specs.Given.SeizeWords.declared.at.At.TheVariants.{Word}
-use Rattle.papaya_histories.specs.Given.Schedules.Moment.{Moment}
-use Rattle.papaya_histories.specs.Given.Executor.IsAt.{Scene}
-use Rattle.papaya_histories.specs.Given.Executor.declared.executor.Executor.{Executor}
-use Rattle.papaya_histories.specs.Given.Finishes.Makings.{Beginning, HasMade}
-use Rattle.papaya_histories.specs.Given.Finishes.Maps.{Standing}
+use Rattle.papaya_settles.specs.Given.SeizeWords.Mem.{word_at}
+use Rattle.papaya_settles.specs.Given.SeizeWords.declared.at.At.TheVariants.{Word}
+use Rattle.papaya_settles.specs.Given.Schedules.Moment.{Moment}
+use Rattle.papaya_settles.specs.Given.Executor.IsAt.{Scene}
+use Rattle.papaya_settles.specs.Given.Executor.declared.executor.Executor.{Executor}
+use Rattle.papaya_settles.specs.Given.Finishes.Makings.{Beginning, HasMade}
+use Rattle.papaya_settles.specs.Given.Finishes.Maps.{Standing}
 use Rattle.papaya_shards.specs.Adds.{ShowsAdds}
 
 module _ {K V : Type 0} where

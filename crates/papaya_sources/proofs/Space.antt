@@ -3,47 +3,47 @@ use Rattle.std.specs.Prelude.{◌≡◌, ℕ, suc, ◌<◌, ◌≤◌, ◌==◌,
 use Rattle.std.specs.List.{AllByRecursion, list_any}
 use Rattle.std.proofs.Common.{refl, ap, sym, subst, ◌∙◌, arith, inl, inr}
 use Rattle.std.proofs.lemmas.Bool.{cases_eq, eq-eqb, ne_eqb}
-use Rattle.papaya_histories.specs.Given.SeizeWords.declared.at.At.{At}
-use Rattle.papaya_histories.specs.Given.SeizeWords.Word.{block_in}
-use Rattle.papaya_histories.specs.Given.Tables.Chunks.{is_incremental}
-use Rattle.papaya_histories.specs.Given.Tables.declared.node.Node.{Node}
-use Rattle.papaya_histories.specs.Given.Raw.declared.machines.progress.Progress.{Progress}
-use Rattle.papaya_histories.specs.Given.Runs.LifeCycle.{times}
-use Rattle.papaya_histories.specs.Given.Runs.Same.{is_same}
-use Rattle.papaya_histories.specs.Given.Schedules.declared.effect.Effect.{Effect}
-use Rattle.papaya_histories.specs.Given.Schedules.declared.effect.Effect.TheVariants as effect
-use Rattle.papaya_histories.specs.Given.Schedules.declared.effect.Table.{Table}
-use Rattle.papaya_histories.specs.Given.Schedules.declared.effect.Thing.{Thing}
-use Rattle.papaya_histories.specs.Given.Schedules.declared.effect.Thing.TheVariants.{APair, ATable}
-use Rattle.papaya_histories.specs.Given.Schedules.Effects.{call_by, with_effect}
-use Rattle.papaya_histories.specs.Given.Schedules.Entry.{ByCall}
-use Rattle.papaya_histories.specs.Given.Schedules.Moment.{UnderWay as CallThere, TableThere, Moment}
-use Rattle.papaya_histories.specs.Given.Schedules.Views.{call_of, grows_in_chunks, map_at, behind, tables_of}
-use Rattle.papaya_histories.specs.Given.Callers.Together.{UnderWay}
-use Rattle.papaya_histories.specs.Given.Effects.Effects.{carried, effects_of}
-use Rattle.papaya_histories.specs.Given.Effects.Known.{Known}
-use Rattle.papaya_histories.specs.Given.Effects.declared.acting.Acting.TheVariants as acts
-use Rattle.papaya_histories.specs.Given.Effects.declared.role.Role.{Role}
-use Rattle.papaya_histories.specs.Given.Effects.declared.role.Role.TheVariants as role
-use Rattle.papaya_histories.specs.Given.Executor.IsAt.{Scene, IsAt}
-use Rattle.papaya_histories.specs.Given.Executor.Stepping.{StepLeads}
-use Rattle.papaya_histories.specs.Given.Executor.declared.executor.Executor.{Executor}
-use Rattle.papaya_histories.specs.Given.Finishes.Machines.{machine_of}
-use Rattle.papaya_histories.specs.Given.Finishes.Maps.{Standing}
-use Rattle.papaya_histories.specs.Given.Follows.Calls.{IsCalled}
-use Rattle.papaya_histories.specs.Given.Follows.Maps.{tables_to, ShowsMap}
-use Rattle.papaya_histories.proofs.Given.Follows.Finds.{chunks_are}
-use Rattle.papaya_histories.proofs.Given.Follows.Steps.{WentTo, went_to}
-use Rattle.papaya_histories.proofs.Given.Others.Leads.{same_parts}
-use Rattle.papaya_histories.specs.Given.Moments.Whole.{ShowsWhole}
-use Rattle.papaya_owes.proofs.Fields.{its_effect}
-use Rattle.papaya_settles.specs.Due.{ToPut, due_in_row, told_retired, RowTells, TellsNone, TellsRetired, TellsDeferred, OwnAreMade}
-use Rattle.papaya_settles.specs.Entries.{ShowsEntries}
-use Rattle.papaya_settles.specs.Hand.{thing_as, ShowsOwed}
-use Rattle.papaya_settles.specs.Owing.{hands_over}
-use Rattle.papaya_settles.proofs.DueCalls.{rows_tell_due}
-use Rattle.papaya_settles.proofs.Hand.All.{own_or_row}
-use Rattle.papaya_settles.proofs.Takings.{steps_take_out}
+use Rattle.papaya_finds.specs.Given.SeizeWords.declared.at.At.{At}
+use Rattle.papaya_finds.specs.Given.SeizeWords.Word.{block_in}
+use Rattle.papaya_finds.specs.Given.Tables.Chunks.{is_incremental}
+use Rattle.papaya_finds.specs.Given.Tables.declared.node.Node.{Node}
+use Rattle.papaya_finds.specs.Given.Raw.declared.machines.progress.Progress.{Progress}
+use Rattle.papaya_finds.specs.Given.Runs.LifeCycle.{times}
+use Rattle.papaya_finds.specs.Given.Runs.Same.{is_same}
+use Rattle.papaya_finds.specs.Given.Schedules.declared.effect.Effect.{Effect}
+use Rattle.papaya_finds.specs.Given.Schedules.declared.effect.Effect.TheVariants as effect
+use Rattle.papaya_finds.specs.Given.Schedules.declared.effect.Table.{Table}
+use Rattle.papaya_finds.specs.Given.Schedules.declared.effect.Thing.{Thing}
+use Rattle.papaya_finds.specs.Given.Schedules.declared.effect.Thing.TheVariants.{APair, ATable}
+use Rattle.papaya_finds.specs.Given.Schedules.Effects.{call_by, with_effect}
+use Rattle.papaya_finds.specs.Given.Schedules.Entry.{ByCall}
+use Rattle.papaya_finds.specs.Given.Schedules.Moment.{UnderWay as CallThere, TableThere, Moment}
+use Rattle.papaya_finds.specs.Given.Schedules.Views.{call_of, grows_in_chunks, map_at, behind, tables_of}
+use Rattle.papaya_finds.specs.Given.Callers.Together.{UnderWay}
+use Rattle.papaya_finds.specs.Given.Effects.Effects.{carried, effects_of}
+use Rattle.papaya_finds.specs.Given.Effects.Known.{Known}
+use Rattle.papaya_finds.specs.Given.Effects.declared.acting.Acting.TheVariants as acts
+use Rattle.papaya_finds.specs.Given.Effects.declared.role.Role.{Role}
+use Rattle.papaya_finds.specs.Given.Effects.declared.role.Role.TheVariants as role
+use Rattle.papaya_finds.specs.Given.Executor.IsAt.{Scene, IsAt}
+use Rattle.papaya_finds.specs.Given.Executor.Stepping.{StepLeads}
+use Rattle.papaya_finds.specs.Given.Executor.declared.executor.Executor.{Executor}
+use Rattle.papaya_finds.specs.Given.Finishes.Machines.{machine_of}
+use Rattle.papaya_finds.specs.Given.Finishes.Maps.{Standing}
+use Rattle.papaya_finds.specs.Given.Follows.Calls.{IsCalled}
+use Rattle.papaya_finds.specs.Given.Follows.Maps.{tables_to, ShowsMap}
+use Rattle.papaya_finds.proofs.Given.Follows.Finds.{chunks_are}
+use Rattle.papaya_finds.proofs.Given.Follows.Steps.{WentTo, went_to}
+use Rattle.papaya_finds.proofs.Given.Others.Leads.{same_parts}
+use Rattle.papaya_finds.specs.Given.Moments.Whole.{ShowsWhole}
+use Rattle.papaya_finds.proofs.Given.Owes.Fields.{its_effect}
+use Rattle.papaya_finds.specs.Given.Settles.Due.{ToPut, due_in_row, told_retired, RowTells, TellsNone, TellsRetired, TellsDeferred, OwnAreMade}
+use Rattle.papaya_finds.specs.Given.Settles.Entries.{ShowsEntries}
+use Rattle.papaya_finds.specs.Given.Settles.Hand.{thing_as, ShowsOwed}
+use Rattle.papaya_finds.specs.Given.Settles.Owing.{hands_over}
+use Rattle.papaya_finds.proofs.Given.Settles.DueCalls.{rows_tell_due}
+use Rattle.papaya_finds.proofs.Given.Settles.Hand.All.{own_or_row}
+use Rattle.papaya_finds.proofs.Given.Settles.Takings.{steps_take_out}
 use Rattle.papaya_finds.specs.Waiting.{once_if, owed_in, put_in, is_behind_one}
 use Rattle.papaya_finds.specs.Waits.{FindsPast, FindPast, FindsBehind, FindBehind, FindsSpace, FindSpace}
 use Rattle.papaya_finds.specs.Within.{many_of, HasItsMap, LiesNext, AllIsInOrder}

@@ -1,12 +1,12 @@
 -- Where pairs were copied from: an older table names each pair for ever that was put into a later one.
 use Rattle.std.specs.Prelude.{◌≡◌, ◌≢◌, ℕ, ◌<◌, ◌≤◌, Bool, true, List, length, Some}
-use Rattle.papaya_histories.specs.Given.Tables.Chunks.{is_incremental}
-use Rattle.papaya_histories.specs.Given.Schedules.Moment.{Moment}
-use Rattle.papaya_histories.specs.Given.Rule.Chart.{Phase, Still, Holds, Chart}
-use Rattle.papaya_histories.specs.Given.Effects.Known.{Known}
-use Rattle.papaya_histories.specs.Given.Executor.IsAt.{Scene}
-use Rattle.papaya_histories.specs.Given.Finishes.Maps.{Standing}
-use Rattle.papaya_histories.specs.Given.Follows.Shows.{Shows}
+use Rattle.papaya_finds.specs.Given.Tables.Chunks.{is_incremental}
+use Rattle.papaya_finds.specs.Given.Schedules.Moment.{Moment}
+use Rattle.papaya_finds.specs.Given.Rule.Chart.{Phase, Still, Holds, Chart}
+use Rattle.papaya_finds.specs.Given.Effects.Known.{Known}
+use Rattle.papaya_finds.specs.Given.Executor.IsAt.{Scene}
+use Rattle.papaya_finds.specs.Given.Finishes.Maps.{Standing}
+use Rattle.papaya_finds.specs.Given.Follows.Shows.{Shows}
 
 module _ {K : Type 0} (c : Chart K) (n : ℕ) where
   -- this place of a table names the pair, and it is being copied, or was

@@ -1,11 +1,11 @@
 -- Where pairs were copied from is so still wherever tables are as they were, and pairs lie where they lay.
 use Rattle.std.specs.Prelude.{◌≡◌, ◌⊎◌, ℕ, ◌<◌, ◌≤◌, Bool, List, length, Some}
-use Rattle.papaya_histories.specs.Given.Tables.Chunks.{is_incremental}
-use Rattle.papaya_histories.specs.Given.Schedules.Moment.{Moment, start}
-use Rattle.papaya_histories.specs.Given.Effects.Known.{Known, nothing_known}
-use Rattle.papaya_histories.specs.Given.Executor.IsAt.{Scene, at_first}
-use Rattle.papaya_histories.specs.Given.Finishes.Maps.{Standing}
-use Rattle.papaya_histories.specs.Given.Follows.Shows.{Shows}
+use Rattle.papaya_finds.specs.Given.Tables.Chunks.{is_incremental}
+use Rattle.papaya_finds.specs.Given.Schedules.Moment.{Moment, start}
+use Rattle.papaya_finds.specs.Given.Effects.Known.{Known, nothing_known}
+use Rattle.papaya_finds.specs.Given.Executor.IsAt.{Scene, at_first}
+use Rattle.papaya_finds.specs.Given.Finishes.Maps.{Standing}
+use Rattle.papaya_finds.specs.Given.Follows.Shows.{Shows}
 use Rattle.papaya_sources.specs.Sources.{ShowsSources}
 
 module _ {K V : Type 0} where

@@ -1,20 +1,20 @@
 -- A step of a call, whichever it is: where pairs were copied from is so after it; and what it puts behind a table finds room there.
 use Rattle.std.specs.Prelude.{◌≡◌, ℕ, Bool, List, Some}
-use Rattle.papaya_histories.specs.Given.Tables.declared.node.Node.{Node}
-use Rattle.papaya_histories.specs.Given.Raw.declared.machines.progress.Progress.{Progress}
-use Rattle.papaya_histories.specs.Given.Schedules.Effects.{with_effects}
-use Rattle.papaya_histories.specs.Given.Schedules.Moment.{Moment}
-use Rattle.papaya_histories.specs.Given.Callers.Together.{UnderWay}
-use Rattle.papaya_histories.specs.Given.Effects.Effects.{effects_of, known_after}
-use Rattle.papaya_histories.specs.Given.Effects.Known.{Known}
-use Rattle.papaya_histories.specs.Given.Effects.declared.acting.Acting.TheVariants as acts
-use Rattle.papaya_histories.specs.Given.Executor.IsAt.{Scene, IsAt}
-use Rattle.papaya_histories.specs.Given.Executor.Stepping.{StepLeads, scene_after}
-use Rattle.papaya_histories.specs.Given.Executor.declared.executor.Executor.{Executor}
-use Rattle.papaya_histories.specs.Given.Moments.Whole.{ShowsWhole}
-use Rattle.papaya_settles.specs.Due.{OwnAreMade}
-use Rattle.papaya_settles.specs.Entries.{ShowsEntries}
-use Rattle.papaya_settles.specs.Hand.{ShowsOwed}
+use Rattle.papaya_finds.specs.Given.Tables.declared.node.Node.{Node}
+use Rattle.papaya_finds.specs.Given.Raw.declared.machines.progress.Progress.{Progress}
+use Rattle.papaya_finds.specs.Given.Schedules.Effects.{with_effects}
+use Rattle.papaya_finds.specs.Given.Schedules.Moment.{Moment}
+use Rattle.papaya_finds.specs.Given.Callers.Together.{UnderWay}
+use Rattle.papaya_finds.specs.Given.Effects.Effects.{effects_of, known_after}
+use Rattle.papaya_finds.specs.Given.Effects.Known.{Known}
+use Rattle.papaya_finds.specs.Given.Effects.declared.acting.Acting.TheVariants as acts
+use Rattle.papaya_finds.specs.Given.Executor.IsAt.{Scene, IsAt}
+use Rattle.papaya_finds.specs.Given.Executor.Stepping.{StepLeads, scene_after}
+use Rattle.papaya_finds.specs.Given.Executor.declared.executor.Executor.{Executor}
+use Rattle.papaya_finds.specs.Given.Moments.Whole.{ShowsWhole}
+use Rattle.papaya_finds.specs.Given.Settles.Due.{OwnAreMade}
+use Rattle.papaya_finds.specs.Given.Settles.Entries.{ShowsEntries}
+use Rattle.papaya_finds.specs.Given.Settles.Hand.{ShowsOwed}
 use Rattle.papaya_finds.specs.Waits.{FindPast, FindBehind, FindSpace}
 use Rattle.papaya_finds.specs.Within.{AllIsInOrder}
 use Rattle.papaya_sources.specs.Sources.{ShowsSources}

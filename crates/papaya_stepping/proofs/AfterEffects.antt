@@ -9,7 +9,7 @@ use Rattle.papaya_schedules.specs.declared.effect.Effect.TheVariants.{Removed, S
 use Rattle.papaya_schedules.specs.Effects.{call_by, due_for, with_effect, with_effects}
 use Rattle.papaya_schedules.specs.Moment.{UnderWay as CallThere, Moment}
 use Rattle.papaya_named.specs.Seen.{seen}
-use Rattle.papaya_rows.proofs.Lists.{unseen}
+use Rattle.papaya_scheduler.proofs.Given.Rows.Lists.{unseen}
 
 module _ {K V : Type 0} where
   due_seen : (call : Call K V) (c : CallThere K V) (old : Option ℕ) (new : ℕ) → seen (due_for call c old new) ≡ seen c

@@ -11,19 +11,19 @@ use Rattle.papaya_schedules.specs.Entry.{ends_call}
 use Rattle.papaya_schedules.specs.Moment.{Asking, IsReady, Stands, UnderWay as CallThere, Moment}
 use Rattle.papaya_schedules.specs.Terms.{Terms}
 use Rattle.papaya_schedules.specs.Views.{call_of}
-use Rattle.papaya_histories.specs.Given.Callers.Together.{UnderWay, OnKey}
-use Rattle.papaya_histories.specs.Given.Finishes.Maps.{Standing}
-use Rattle.papaya_histories.specs.Given.Effects.Known.{known}
-use Rattle.papaya_histories.specs.Given.Executor.IsAt.{Scene}
-use Rattle.papaya_histories.proofs.Given.Executor.Changed.{standing_is}
-use Rattle.papaya_histories.specs.Given.Follows.Calling.{come_to}
-use Rattle.papaya_histories.specs.Given.Follows.Calls.{IsCalled}
-use Rattle.papaya_histories.proofs.Given.Follows.Calling.{is_same_is}
-use Rattle.papaya_histories.specs.Given.Hands.Asked.{AsksThere, IsAskedAs}
-use Rattle.papaya_histories.specs.Given.Hands.Calling.{AsksJust}
-use Rattle.papaya_histories.proofs.Given.Moments.Calls.{calls_come_to_whole}
-use Rattle.papaya_kept.proofs.Stays.{calls_come_to_kept}
-use Rattle.papaya_logged.proofs.Counted.{counted_calls}
+use Rattle.papaya_scheduler.specs.Given.Callers.Together.{UnderWay, OnKey}
+use Rattle.papaya_scheduler.specs.Given.Finishes.Maps.{Standing}
+use Rattle.papaya_scheduler.specs.Given.Effects.Known.{known}
+use Rattle.papaya_scheduler.specs.Given.Executor.IsAt.{Scene}
+use Rattle.papaya_scheduler.proofs.Given.Executor.Changed.{standing_is}
+use Rattle.papaya_scheduler.specs.Given.Follows.Calling.{come_to}
+use Rattle.papaya_scheduler.specs.Given.Follows.Calls.{IsCalled}
+use Rattle.papaya_scheduler.proofs.Given.Follows.Calling.{is_same_is}
+use Rattle.papaya_scheduler.specs.Given.Hands.Asked.{AsksThere, IsAskedAs}
+use Rattle.papaya_scheduler.specs.Given.Hands.Calling.{AsksJust}
+use Rattle.papaya_scheduler.proofs.Given.Moments.Calls.{calls_come_to_whole}
+use Rattle.papaya_scheduler.proofs.Given.Kept.Stays.{calls_come_to_kept}
+use Rattle.papaya_scheduler.proofs.Given.Logged.Counted.{counted_calls}
 use Rattle.papaya_scheduler.specs.Played.{StandsFor}
 use Rattle.papaya_named.specs.Seen.{Seen, far_of, is_named, seen, seen_of}
 use Rattle.papaya_named.specs.declared.caller.Caller.{Caller}
@@ -31,7 +31,7 @@ use Rattle.papaya_named.specs.declared.caller.Stands.{Stands as HowFar}
 use Rattle.papaya_named.specs.declared.caller.Stands.TheVariants as far
 use Rattle.papaya_scheduler.specs.declared.scheduler.Scheduler.{Scheduler}
 use Rattle.papaya_scheduler.proofs.Here.{Here}
-use Rattle.papaya_rows.proofs.Lists.{changed_at, set_seen}
+use Rattle.papaya_scheduler.proofs.Given.Rows.Lists.{changed_at, set_seen}
 use Rattle.papaya_scheduler.proofs.Replied.{far_asks}
 use Rattle.papaya_stepping.proofs.StepSays.{the}
 

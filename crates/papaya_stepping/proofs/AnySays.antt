@@ -1,20 +1,20 @@
 -- What a step of any call says that goes on, by what was called.
 use Rattle.std.specs.Prelude.{◌≡◌, ℕ, Bool, List, Option, Some}
 use Rattle.std.proofs.Common.{refl}
-use Rattle.papaya_histories.specs.Given.Tables.declared.node.Node.{Node}
+use Rattle.papaya_scheduler.specs.Given.Tables.declared.node.Node.{Node}
 use Rattle.papaya_raw.specs.declared.machines.progress.Progress.{Progress}
 use Rattle.papaya_schedules.specs.declared.call.Call.{Call}
 use Rattle.papaya_schedules.specs.declared.call.Call.TheVariants.{On, Reserve, Clear, Retain, Len, Walk}
 use Rattle.papaya_schedules.specs.Moment.{UnderWay as CallThere, Moment}
 use Rattle.papaya_schedules.specs.Views.{call_of}
-use Rattle.papaya_histories.specs.Given.Callers.Together.{UnderWay, OnKey, ForRoom, Counting, OverAll}
-use Rattle.papaya_histories.specs.Given.Finishes.Machines.{machine_of}
-use Rattle.papaya_histories.specs.Given.Effects.Known.{Known}
-use Rattle.papaya_histories.specs.Given.Executor.IsAt.{Scene, IsAt}
-use Rattle.papaya_histories.specs.Given.Executor.Stepping.{StepLeads}
-use Rattle.papaya_histories.specs.Given.Executor.declared.executor.Executor.{Executor}
-use Rattle.papaya_histories.specs.Given.Follows.Calls.{IsCalled}
-use Rattle.papaya_histories.specs.Given.Moments.Whole.{ShowsWhole}
+use Rattle.papaya_scheduler.specs.Given.Callers.Together.{UnderWay, OnKey, ForRoom, Counting, OverAll}
+use Rattle.papaya_scheduler.specs.Given.Finishes.Machines.{machine_of}
+use Rattle.papaya_scheduler.specs.Given.Effects.Known.{Known}
+use Rattle.papaya_scheduler.specs.Given.Executor.IsAt.{Scene, IsAt}
+use Rattle.papaya_scheduler.specs.Given.Executor.Stepping.{StepLeads}
+use Rattle.papaya_scheduler.specs.Given.Executor.declared.executor.Executor.{Executor}
+use Rattle.papaya_scheduler.specs.Given.Follows.Calls.{IsCalled}
+use Rattle.papaya_scheduler.specs.Given.Moments.Whole.{ShowsWhole}
 use Rattle.papaya_named.specs.Machines.{IsAsFar, RefusedForRoom}
 use Rattle.papaya_named.specs.Seen.{kind_of}
 use Rattle.papaya_named.specs.declared.caller.Stands.TheVariants as far

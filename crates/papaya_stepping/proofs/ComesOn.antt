@@ -12,9 +12,9 @@ use Rattle.papaya_schedules.specs.InUse.{may_wait_for}
 use Rattle.papaya_schedules.specs.Moment.{UnderWay as CallThere, Moment}
 use Rattle.papaya_schedules.specs.Terms.{Terms}
 use Rattle.papaya_schedules.specs.Views.{call_of}
-use Rattle.papaya_histories.specs.Given.Follows.Calling.{come_to}
-use Rattle.papaya_histories.proofs.Given.Hands.Replacing.{IsOn, calls_after}
-use Rattle.papaya_histories.proofs.Given.Moments.After.{effects_after}
+use Rattle.papaya_scheduler.specs.Given.Follows.Calling.{come_to}
+use Rattle.papaya_scheduler.proofs.Given.Hands.Replacing.{IsOn, calls_after}
+use Rattle.papaya_scheduler.proofs.Given.Moments.After.{effects_after}
 use Rattle.papaya_promises.proofs.Weights.{parts_add_up}
 use Rattle.papaya_scheduler.specs.Played.{StandsFor}
 use Rattle.papaya_stepping.specs.Stepping.{ComesAs, ComesBy, GoesAt, IsMidst, IsStepped}

@@ -1,14 +1,14 @@
 -- A call that only looks does not wait: a lookup goes on or is over, and so does a counting.
 use Rattle.std.specs.Prelude.{◌≡◌, ℕ, Bool}
 use Rattle.std.proofs.Common.{refl, sym, ap, ◌∙◌}
-use Rattle.papaya_histories.specs.Given.SeizeWords.Mem.{Mem, Took, value_at}
-use Rattle.papaya_histories.specs.Given.SeizeWords.Plan.{Steps, plan_as}
-use Rattle.papaya_histories.specs.Given.Seize.declared.progress.Progress.{Progress as Counted}
-use Rattle.papaya_histories.specs.Given.Seize.declared.progress.Progress.TheVariants as counts
-use Rattle.papaya_histories.proofs.Given.SeizeRule.Rows.Leaving.{steps_back}
-use Rattle.papaya_histories.specs.Given.Tables.declared.node.Node.{Node}
-use Rattle.papaya_histories.specs.Given.Resize.Sum.{sum_plan}
-use Rattle.papaya_histories.specs.Given.Resize.declared.sum.Sum.{Sum}
+use Rattle.papaya_scheduler.specs.Given.SeizeWords.Mem.{Mem, Took, value_at}
+use Rattle.papaya_scheduler.specs.Given.SeizeWords.Plan.{Steps, plan_as}
+use Rattle.papaya_scheduler.specs.Given.Seize.declared.progress.Progress.{Progress as Counted}
+use Rattle.papaya_scheduler.specs.Given.Seize.declared.progress.Progress.TheVariants as counts
+use Rattle.papaya_scheduler.proofs.Given.SeizeRule.Rows.Leaving.{steps_back}
+use Rattle.papaya_scheduler.specs.Given.Tables.declared.node.Node.{Node}
+use Rattle.papaya_scheduler.specs.Given.Resize.Sum.{sum_plan}
+use Rattle.papaya_scheduler.specs.Given.Resize.declared.sum.Sum.{Sum}
 use Rattle.papaya_raw.specs.Answers.{ended}
 use Rattle.papaya_raw.specs.Call.{call_plan, plan_at}
 use Rattle.papaya_raw.specs.Machine.{called, counted}
@@ -24,15 +24,15 @@ use Rattle.papaya_raw.specs.declared.machines.machine.Machine.{Machine}
 use Rattle.papaya_raw.specs.declared.machines.machine.Machine.TheVariants as kinds
 use Rattle.papaya_raw.specs.declared.machines.progress.Progress.{Progress}
 use Rattle.papaya_raw.specs.declared.machines.progress.Progress.TheVariants as progress
-use Rattle.papaya_histories.proofs.Given.Rule.Keys.Always.{always_steps}
-use Rattle.papaya_histories.specs.Given.Late.Kinds.{LooksAt}
-use Rattle.papaya_histories.specs.Given.Teller.declared.changed.Changed.TheVariants.{Nothing}
-use Rattle.papaya_owned.proofs.Given.Waits.Laws.{lookups_never_wait}
-use Rattle.papaya_owned.proofs.Given.Waits.Never.{Advances, sum_goes}
-use Rattle.papaya_histories.specs.Given.Executor.Stepping.{StepsFrom}
-use Rattle.papaya_histories.specs.Given.Executor.declared.executor.Executor.{Executor}
-use Rattle.papaya_histories.proofs.Given.Executor.Forgotten.{as_step}
-use Rattle.papaya_owes.specs.Looking.{IsLooking}
+use Rattle.papaya_scheduler.proofs.Given.Rule.Keys.Always.{always_steps}
+use Rattle.papaya_scheduler.specs.Given.Late.Kinds.{LooksAt}
+use Rattle.papaya_scheduler.specs.Given.Teller.declared.changed.Changed.TheVariants.{Nothing}
+use Rattle.papaya_scheduler.proofs.Given.Waits.Laws.{lookups_never_wait}
+use Rattle.papaya_scheduler.proofs.Given.Waits.Never.{Advances, sum_goes}
+use Rattle.papaya_scheduler.specs.Given.Executor.Stepping.{StepsFrom}
+use Rattle.papaya_scheduler.specs.Given.Executor.declared.executor.Executor.{Executor}
+use Rattle.papaya_scheduler.proofs.Given.Executor.Forgotten.{as_step}
+use Rattle.papaya_scheduler.specs.Given.Owes.Looking.{IsLooking}
 
 abbrev SumOn : Sum × Counted ℕ → Type 0
 SumOn end = Advances end

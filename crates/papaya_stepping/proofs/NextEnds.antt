@@ -2,10 +2,10 @@
 use Rattle.std.specs.Prelude.{◌≡◌, ◌+◌, ◌≤◌, ◌&&◌, ℕ, Bool, true, false, List, [], ◌++◌, find, map, position, slice_get, slice_set, sum_by, Option, Some, None, option_map}
 use Rattle.std.specs.List.{remove}
 use Rattle.std.proofs.Common.{refl, sym, ap, subst, ◌∙◌, arith}
-use Rattle.papaya_histories.specs.Given.SeizeWords.declared.fault.Fault.TheVariants.{Busy}
-use Rattle.papaya_histories.specs.Given.Tables.declared.node.Node.{Node}
-use Rattle.papaya_histories.specs.Given.Sweeps.declared.sweep.Sweep.{Sweep}
-use Rattle.papaya_histories.specs.Given.Sweeps.declared.sweep.Sweeping.{Sweeping}
+use Rattle.papaya_scheduler.specs.Given.SeizeWords.declared.fault.Fault.TheVariants.{Busy}
+use Rattle.papaya_scheduler.specs.Given.Tables.declared.node.Node.{Node}
+use Rattle.papaya_scheduler.specs.Given.Sweeps.declared.sweep.Sweep.{Sweep}
+use Rattle.papaya_scheduler.specs.Given.Sweeps.declared.sweep.Sweeping.{Sweeping}
 use Rattle.papaya_raw.specs.declared.machines.machine.Machine.{Machine}
 use Rattle.papaya_raw.specs.declared.machines.machine.Machine.TheVariants as kinds
 use Rattle.papaya_raw.specs.declared.machines.progress.Answer.TheVariants as answers
@@ -26,19 +26,19 @@ use Rattle.papaya_schedules.specs.Moment.{Stands, UnderWay as CallThere, Moment}
 use Rattle.papaya_schedules.specs.Steps.{MakesSteps, stands_or, weight}
 use Rattle.papaya_schedules.specs.Terms.{Terms}
 use Rattle.papaya_schedules.specs.Views.{call_of}
-use Rattle.papaya_histories.specs.Given.Late.Faults.{RoomInSweeping}
-use Rattle.papaya_histories.specs.Given.Callers.Together.{UnderWay}
-use Rattle.papaya_histories.specs.Given.Effects.Known.{Known, known}
-use Rattle.papaya_histories.specs.Given.Finishes.Machines.{machine_of}
-use Rattle.papaya_histories.specs.Given.Executor.IsAt.{HasCall}
-use Rattle.papaya_histories.specs.Given.Follows.Calling.{come_to}
-use Rattle.papaya_logged.specs.Calling.{CallGoesOn, WalkGoesOn, step_did}
-use Rattle.papaya_logged.specs.Shown.{IsShown}
-use Rattle.papaya_logged.specs.declared.logged.Logged.{Logged}
-use Rattle.papaya_kept.proofs.Stays.{calls_come_to_kept}
-use Rattle.papaya_histories.proofs.Given.Moments.Calls.{calls_come_to_whole}
-use Rattle.papaya_remains.proofs.Stays.{remains_stay}
-use Rattle.papaya_logged.proofs.Counted.{counted_calls}
+use Rattle.papaya_scheduler.specs.Given.Late.Faults.{RoomInSweeping}
+use Rattle.papaya_scheduler.specs.Given.Callers.Together.{UnderWay}
+use Rattle.papaya_scheduler.specs.Given.Effects.Known.{Known, known}
+use Rattle.papaya_scheduler.specs.Given.Finishes.Machines.{machine_of}
+use Rattle.papaya_scheduler.specs.Given.Executor.IsAt.{HasCall}
+use Rattle.papaya_scheduler.specs.Given.Follows.Calling.{come_to}
+use Rattle.papaya_scheduler.specs.Given.Logged.Calling.{CallGoesOn, WalkGoesOn, step_did}
+use Rattle.papaya_scheduler.specs.Given.Logged.Shown.{IsShown}
+use Rattle.papaya_scheduler.specs.Given.Logged.declared.logged.Logged.{Logged}
+use Rattle.papaya_scheduler.proofs.Given.Kept.Stays.{calls_come_to_kept}
+use Rattle.papaya_scheduler.proofs.Given.Moments.Calls.{calls_come_to_whole}
+use Rattle.papaya_scheduler.proofs.Given.Remains.Stays.{remains_stay}
+use Rattle.papaya_scheduler.proofs.Given.Logged.Counted.{counted_calls}
 use Rattle.papaya_named.specs.Machines.{IsFor}
 use Rattle.papaya_scheduler.specs.Played.{AsFar, IsDue, StandsAs, StandsFor}
 use Rattle.papaya_named.specs.Seen.{Seen, is_named, is_ready as is_ready_there, ready_place, seen, seen_of}
@@ -53,7 +53,7 @@ use Rattle.papaya_named.specs.declared.kind.Kind.{Kind}
 use Rattle.papaya_scheduler.specs.declared.scheduler.Scheduler.{Scheduler}
 use Rattle.papaya_stepping.proofs.AfterEffects.{closed_stays, mapped_stays}
 use Rattle.papaya_scheduler.proofs.Here.{Here, HereAs, here_at}
-use Rattle.papaya_rows.proofs.Lists.{changed_at, removed_at}
+use Rattle.papaya_scheduler.proofs.Given.Rows.Lists.{changed_at, removed_at}
 use Rattle.papaya_stepping.proofs.NextBegins.{has_walk, walk_begins}
 use Rattle.papaya_stepping.proofs.NextOn.{alike, all_did, follows_all, goes_as_said, here, idle_all, is_ready, its_place, its_sweep, its_walk, leads_is, last_did, midst_w, saying, shown, then_at, then_next, under_way}
 use Rattle.papaya_stepping.proofs.NextSays.{NextSays}

@@ -3,16 +3,16 @@ use Rattle.std.specs.Prelude.{◌≡◌, ℕ, Bool, List, [], slice_get, Some}
 use Rattle.std.specs.Global.{Vec}
 use Rattle.std.proofs.Common.{ap, sym, subst, ◌∙◌}
 use Rattle.papaya_raw.specs.declared.machines.progress.Progress.{Progress}
-use Rattle.papaya_histories.specs.Given.Tables.declared.node.Node.{Node}
+use Rattle.papaya_scheduler.specs.Given.Tables.declared.node.Node.{Node}
 use Rattle.papaya_schedules.specs.declared.effect.Effect.{Effect}
 use Rattle.papaya_schedules.specs.declared.outcome.Outcome.{Outcome}
 use Rattle.papaya_schedules.specs.Moment.{Moment}
-use Rattle.papaya_histories.specs.Given.Effects.Known.{known}
-use Rattle.papaya_histories.specs.Given.Executor.IsAt.{IsAt, KeepsGiven, Scene}
-use Rattle.papaya_histories.specs.Given.Executor.Replying.{AskLeads}
-use Rattle.papaya_logged.specs.Calling.{WalkGoesOn}
-use Rattle.papaya_logged.specs.Shown.{IsShown}
-use Rattle.papaya_logged.specs.declared.logged.Logged.{Logged}
+use Rattle.papaya_scheduler.specs.Given.Effects.Known.{known}
+use Rattle.papaya_scheduler.specs.Given.Executor.IsAt.{IsAt, KeepsGiven, Scene}
+use Rattle.papaya_scheduler.specs.Given.Executor.Replying.{AskLeads}
+use Rattle.papaya_scheduler.specs.Given.Logged.Calling.{WalkGoesOn}
+use Rattle.papaya_scheduler.specs.Given.Logged.Shown.{IsShown}
+use Rattle.papaya_scheduler.specs.Given.Logged.declared.logged.Logged.{Logged}
 use Rattle.papaya_named.specs.Seen.{ready_place}
 use Rattle.papaya_named.specs.declared.caller.Caller.{Caller}
 use Rattle.papaya_named.specs.declared.caller.Callers.{Callers}

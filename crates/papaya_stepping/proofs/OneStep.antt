@@ -2,9 +2,9 @@
 use Rattle.std.specs.Prelude.{◌≡◌, ◌⊎◌, ◌+◌, ℕ, Bool, true, false, List, [], filter, find, map, not, position, slice_get, slice_set, Option, Some, None, if◌then◌else◌}
 use Rattle.std.specs.List.{list_any, remove}
 use Rattle.std.proofs.Common.{refl, sym, ap, subst, ◌∙◌, inl, inr}
-use Rattle.papaya_histories.specs.Given.SeizeWords.declared.fault.Fault.{Fault}
-use Rattle.papaya_histories.specs.Given.SeizeWords.declared.fault.Fault.TheVariants.{Busy, Memory}
-use Rattle.papaya_histories.specs.Given.Tables.declared.node.Node.{Node}
+use Rattle.papaya_scheduler.specs.Given.SeizeWords.declared.fault.Fault.{Fault}
+use Rattle.papaya_scheduler.specs.Given.SeizeWords.declared.fault.Fault.TheVariants.{Busy, Memory}
+use Rattle.papaya_scheduler.specs.Given.Tables.declared.node.Node.{Node}
 use Rattle.papaya_raw.specs.declared.machines.machine.Machine.{Machine}
 use Rattle.papaya_raw.specs.declared.machines.progress.Progress.{Progress}
 use Rattle.papaya_raw.specs.declared.machines.progress.Progress.TheVariants as progress
@@ -22,23 +22,23 @@ use Rattle.papaya_schedules.specs.InUse.{may_wait_for}
 use Rattle.papaya_schedules.specs.Moment.{Stands, Going, Asking, Told, IsReady, UnderWay as CallThere, Moment}
 use Rattle.papaya_schedules.specs.Terms.{Terms}
 use Rattle.papaya_schedules.specs.Views.{call_of}
-use Rattle.papaya_histories.specs.Given.Callers.Together.{UnderWay}
-use Rattle.papaya_histories.specs.Given.Finishes.Machines.{GoesOnAs, machine_of}
-use Rattle.papaya_histories.specs.Given.Effects.Known.{Known, known}
-use Rattle.papaya_histories.specs.Given.Effects.Effects.{known_after}
-use Rattle.papaya_histories.specs.Given.Effects.declared.acting.Acting.TheVariants as acts
-use Rattle.papaya_histories.specs.Given.Executor.IsAt.{Scene}
-use Rattle.papaya_histories.specs.Given.Executor.Stepping.{StepLeads, StepsFrom, has_ended}
-use Rattle.papaya_histories.specs.Given.Follows.Calling.{come_to}
-use Rattle.papaya_histories.proofs.Given.Follows.Calling.{apart_back}
-use Rattle.papaya_histories.specs.Given.Hands.Calling.{AsksJust}
-use Rattle.papaya_logged.specs.Calling.{CallGoesOn, step_did}
-use Rattle.papaya_logged.specs.Shown.{IsShown}
-use Rattle.papaya_logged.specs.declared.logged.Logged.{Logged}
-use Rattle.papaya_histories.proofs.Given.Moments.Calls.{calls_come_to_whole}
-use Rattle.papaya_kept.proofs.Stays.{calls_come_to_kept}
-use Rattle.papaya_logged.proofs.Counted.{counted_calls}
-use Rattle.papaya_owes.proofs.Grown.Calls.{step_keeps_grown}
+use Rattle.papaya_scheduler.specs.Given.Callers.Together.{UnderWay}
+use Rattle.papaya_scheduler.specs.Given.Finishes.Machines.{GoesOnAs, machine_of}
+use Rattle.papaya_scheduler.specs.Given.Effects.Known.{Known, known}
+use Rattle.papaya_scheduler.specs.Given.Effects.Effects.{known_after}
+use Rattle.papaya_scheduler.specs.Given.Effects.declared.acting.Acting.TheVariants as acts
+use Rattle.papaya_scheduler.specs.Given.Executor.IsAt.{Scene}
+use Rattle.papaya_scheduler.specs.Given.Executor.Stepping.{StepLeads, StepsFrom, has_ended}
+use Rattle.papaya_scheduler.specs.Given.Follows.Calling.{come_to}
+use Rattle.papaya_scheduler.proofs.Given.Follows.Calling.{apart_back}
+use Rattle.papaya_scheduler.specs.Given.Hands.Calling.{AsksJust}
+use Rattle.papaya_scheduler.specs.Given.Logged.Calling.{CallGoesOn, step_did}
+use Rattle.papaya_scheduler.specs.Given.Logged.Shown.{IsShown}
+use Rattle.papaya_scheduler.specs.Given.Logged.declared.logged.Logged.{Logged}
+use Rattle.papaya_scheduler.proofs.Given.Moments.Calls.{calls_come_to_whole}
+use Rattle.papaya_scheduler.proofs.Given.Kept.Stays.{calls_come_to_kept}
+use Rattle.papaya_scheduler.proofs.Given.Logged.Counted.{counted_calls}
+use Rattle.papaya_scheduler.proofs.Given.Owes.Grown.Calls.{step_keeps_grown}
 use Rattle.papaya_promises.proofs.Weights.{operations_are_single}
 use Rattle.papaya_named.specs.Machines.{IsAsFar}
 use Rattle.papaya_scheduler.specs.Played.{AsFar, StandsFor}
@@ -55,7 +55,7 @@ use Rattle.papaya_stepping.proofs.AfterEffects.{calls_seen, closed_stays, mapped
 use Rattle.papaya_stepping.proofs.AnySays.{any_says}
 use Rattle.papaya_stepping.proofs.LookSays.{never_waits}
 use Rattle.papaya_scheduler.proofs.Here.{Here, here_at}
-use Rattle.papaya_rows.proofs.Lists.{changed_at, removed_at, set_get, set_position, set_seen}
+use Rattle.papaya_scheduler.proofs.Given.Rows.Lists.{changed_at, removed_at, set_get, set_position, set_seen}
 use Rattle.papaya_scheduler.proofs.RanOn.{maps_named, there_stays}
 use Rattle.papaya_stepping.proofs.StepSays.{Says, the}
 use Rattle.papaya_stepping.proofs.SteppedTo.{going_on, has_gone, here_then, name_is, next, none_named, s2}

@@ -1,7 +1,7 @@
 -- The events by which a call would go on that asks, or is ready, or is not there: nothing happens.
 use Rattle.std.specs.Prelude.{◌≡◌, ◌+◌, ◌&&◌, ℕ, Bool, true, false, List, [], ◌∷◌, map, position, is_some, Option, Some, None, if◌then◌else◌}
 use Rattle.std.proofs.Common.{refl, sym, ap, subst, ◌∙◌, arith}
-use Rattle.papaya_histories.specs.Given.SeizeWords.declared.fault.Fault.TheVariants.{Busy}
+use Rattle.papaya_scheduler.specs.Given.SeizeWords.declared.fault.Fault.TheVariants.{Busy}
 use Rattle.papaya_runs.specs.Same.{is_same}
 use Rattle.papaya_schedules.specs.declared.event.Event.TheVariants.{Go, Step}
 use Rattle.papaya_schedules.specs.declared.outcome.Outcome.TheVariants.{Asks, Ready, Refused}
@@ -13,7 +13,7 @@ use Rattle.papaya_schedules.specs.Moment.{Asking, IsReady, Stands, UnderWay as C
 use Rattle.papaya_schedules.specs.Steps.{MakesSteps, stands_or}
 use Rattle.papaya_schedules.specs.Terms.{Terms}
 use Rattle.papaya_schedules.specs.Views.{call_of}
-use Rattle.papaya_histories.specs.Given.Follows.Calling.{come_to}
+use Rattle.papaya_scheduler.specs.Given.Follows.Calling.{come_to}
 use Rattle.papaya_scheduler.specs.Played.{IsDue, StandsFor}
 use Rattle.papaya_named.specs.Seen.{Seen, is_named}
 use Rattle.papaya_stepping.specs.Stepping.{PlaysOn}

@@ -2,7 +2,7 @@
 use Rattle.std.specs.Prelude.{◌≡◌, ◌+◌, ◌≤◌, ◌&&◌, ℕ, Bool, true, false, List, [], is_some, position, sum_by, Option, Some, option_map}
 use Rattle.std.specs.List.{list_any}
 use Rattle.std.proofs.Common.{refl, sym, ap, subst, ◌∙◌}
-use Rattle.papaya_histories.specs.Given.SeizeWords.declared.fault.Fault.TheVariants.{Busy, Memory}
+use Rattle.papaya_scheduler.specs.Given.SeizeWords.declared.fault.Fault.TheVariants.{Busy, Memory}
 use Rattle.papaya_runs.specs.Present.{Present}
 use Rattle.papaya_runs.specs.Stopped.{most_steps}
 use Rattle.papaya_schedules.specs.declared.call.Call.{Call}
@@ -21,17 +21,17 @@ use Rattle.papaya_schedules.specs.Moment.{Remains, Sheltered, UnderWay as CallTh
 use Rattle.papaya_schedules.specs.Steps.{stands_or, weight}
 use Rattle.papaya_schedules.specs.Terms.{Terms}
 use Rattle.papaya_schedules.specs.Views.{call_of}
-use Rattle.papaya_histories.specs.Given.Effects.Known.{known}
-use Rattle.papaya_histories.specs.Given.Follows.Calling.{come_to}
-use Rattle.papaya_histories.proofs.Given.Hands.Replacing.{IsOn, calls_after}
+use Rattle.papaya_scheduler.specs.Given.Effects.Known.{known}
+use Rattle.papaya_scheduler.specs.Given.Follows.Calling.{come_to}
+use Rattle.papaya_scheduler.proofs.Given.Hands.Replacing.{IsOn, calls_after}
 use Rattle.papaya_scheduler.specs.Played.{IsDue, StandsFor}
 use Rattle.papaya_named.specs.Seen.{Seen, far_of, is_named}
 use Rattle.papaya_stepping.specs.Stepping.{ComesAs, ComesBy, IsInCase, PlaysOn, TakesUpTo}
 use Rattle.papaya_named.specs.declared.caller.Stands.TheVariants as far
 use Rattle.papaya_scheduler.specs.declared.scheduler.Scheduler.{Scheduler}
 use Rattle.papaya_stepping.proofs.AfterEffects.{closed_stays, mapped_stays}
-use Rattle.papaya_remains.proofs.Stays.{remains_stay}
-use Rattle.papaya_rows.proofs.Elsewhere.{elsewhere, shown_elsewhere, kept_elsewhere, counted_elsewhere}
+use Rattle.papaya_scheduler.proofs.Given.Remains.Stays.{remains_stay}
+use Rattle.papaya_scheduler.proofs.Given.Rows.Elsewhere.{elsewhere, shown_elsewhere, kept_elsewhere, counted_elsewhere}
 use Rattle.papaya_scheduler.proofs.Here.{Here, here_at}
 use Rattle.papaya_stepping.proofs.RightSteps.{makes_many, makes_one, may_come, never_quiet, not_busy, progresses}
 use Rattle.papaya_scheduler.proofs.Rights.{entry, in_turn, plays}

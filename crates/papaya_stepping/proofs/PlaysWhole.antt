@@ -1,7 +1,7 @@
 -- The event by which a call without a name begins, and goes on.
 use Rattle.std.specs.Prelude.{◌≡◌, ◌+◌, ◌&&◌, ℕ, Bool, true, false, List, [], ◌∷◌, is_none, is_some, map, position, slice_get, option_map, Option, Some, None, if◌then◌else◌}
 use Rattle.std.proofs.Common.{refl, sym, ap, subst, ◌∙◌, arith}
-use Rattle.papaya_histories.specs.Given.SeizeWords.declared.fault.Fault.TheVariants.{Busy}
+use Rattle.papaya_scheduler.specs.Given.SeizeWords.declared.fault.Fault.TheVariants.{Busy}
 use Rattle.papaya_runs.specs.Same.{is_same}
 use Rattle.papaya_runs.specs.Stopped.{most_steps}
 use Rattle.papaya_schedules.specs.declared.call.Call.{Call}
@@ -20,8 +20,8 @@ use Rattle.papaya_schedules.specs.Moment.{MapThere, Moment}
 use Rattle.papaya_schedules.specs.Steps.{stands_or}
 use Rattle.papaya_schedules.specs.Terms.{Terms}
 use Rattle.papaya_schedules.specs.Views.{call_of, map_of, number_of}
-use Rattle.papaya_histories.specs.Given.Follows.Calling.{come_to}
-use Rattle.papaya_histories.proofs.Given.Follows.Calling.{is_same_refl}
+use Rattle.papaya_scheduler.specs.Given.Follows.Calling.{come_to}
+use Rattle.papaya_scheduler.proofs.Given.Follows.Calling.{is_same_refl}
 use Rattle.papaya_scheduler.specs.Played.{BeginsSo, IsDue, StandsFor, entry_of}
 use Rattle.papaya_named.specs.Seen.{Seen, is_named, seen, seen_of}
 use Rattle.papaya_stepping.specs.Stepping.{ComesBy, GoesAt, IsInCase, PlaysOn, StepsCome, TakenAs, TakenBy, TakesUpTo, may_begin}
@@ -30,9 +30,9 @@ use Rattle.papaya_named.specs.declared.caller.Stands.{Stands as HowFar}
 use Rattle.papaya_named.specs.declared.caller.Stands.TheVariants as far
 use Rattle.papaya_scheduler.specs.declared.played.Played.{Played}
 use Rattle.papaya_scheduler.specs.declared.scheduler.Scheduler.{Scheduler}
-use Rattle.papaya_rows.proofs.Elsewhere.{elsewhere}
+use Rattle.papaya_scheduler.proofs.Given.Rows.Elsewhere.{elsewhere}
 use Rattle.papaya_scheduler.proofs.Here.{Here, here_at}
-use Rattle.papaya_rows.proofs.Lists.{first_position}
+use Rattle.papaya_scheduler.proofs.Given.Rows.Lists.{first_position}
 use Rattle.papaya_stepping.proofs.PlaysAgain.{busy_stands}
 use Rattle.papaya_stepping.proofs.PlaysSteps.{few_steps, goes_right, never_busy, stands_elsewhere, stands_then}
 use Rattle.papaya_stepping.proofs.RightSteps.{makes_whole, never_quiet}

@@ -1,17 +1,17 @@
 -- What a step of a call says, by what was called: what the call comes to, how far it is then, and that it stands where it asks that.
 use Rattle.std.specs.Prelude.{◌≡◌, ℕ, Bool, true, List, Option, Some, None, option_map}
 use Rattle.std.proofs.Common.{refl, sym, ap, subst, ◌∙◌, inl, inr}
-use Rattle.papaya_histories.specs.Given.SeizeWords.declared.fault.Fault.{Fault}
-use Rattle.papaya_histories.specs.Given.Seize.declared.progress.Progress.{Progress as Counted}
-use Rattle.papaya_histories.specs.Given.Seize.declared.progress.Progress.TheVariants as counted
-use Rattle.papaya_histories.specs.Given.Tables.declared.node.Node.{Node}
-use Rattle.papaya_histories.specs.Given.Resize.declared.outcome.Outcome.{Outcome as Room}
-use Rattle.papaya_histories.specs.Given.Resize.declared.outcome.Outcome.TheVariants as room
-use Rattle.papaya_histories.specs.Given.Resize.declared.sum.Sum.{Sum}
-use Rattle.papaya_histories.specs.Given.Reserves.declared.reserve.Reserve.{Reserve}
-use Rattle.papaya_histories.specs.Given.Sweeps.declared.sweep.Purpose.TheVariants.{Walks}
-use Rattle.papaya_histories.specs.Given.Sweeps.declared.sweep.Sweep.{Sweep}
-use Rattle.papaya_histories.specs.Given.Sweeps.declared.sweep.Sweeping.{Sweeping}
+use Rattle.papaya_scheduler.specs.Given.SeizeWords.declared.fault.Fault.{Fault}
+use Rattle.papaya_scheduler.specs.Given.Seize.declared.progress.Progress.{Progress as Counted}
+use Rattle.papaya_scheduler.specs.Given.Seize.declared.progress.Progress.TheVariants as counted
+use Rattle.papaya_scheduler.specs.Given.Tables.declared.node.Node.{Node}
+use Rattle.papaya_scheduler.specs.Given.Resize.declared.outcome.Outcome.{Outcome as Room}
+use Rattle.papaya_scheduler.specs.Given.Resize.declared.outcome.Outcome.TheVariants as room
+use Rattle.papaya_scheduler.specs.Given.Resize.declared.sum.Sum.{Sum}
+use Rattle.papaya_scheduler.specs.Given.Reserves.declared.reserve.Reserve.{Reserve}
+use Rattle.papaya_scheduler.specs.Given.Sweeps.declared.sweep.Purpose.TheVariants.{Walks}
+use Rattle.papaya_scheduler.specs.Given.Sweeps.declared.sweep.Sweep.{Sweep}
+use Rattle.papaya_scheduler.specs.Given.Sweeps.declared.sweep.Sweeping.{Sweeping}
 use Rattle.papaya_raw.specs.Progress.{of_called, of_counting, of_outcome}
 use Rattle.papaya_raw.specs.declared.machines.answer.Called.{Called}
 use Rattle.papaya_raw.specs.declared.machines.answer.Called.TheVariants as called
@@ -30,34 +30,34 @@ use Rattle.papaya_schedules.specs.Coming.{asks_of_key}
 use Rattle.papaya_schedules.specs.Effects.{with_effects}
 use Rattle.papaya_schedules.specs.Moment.{UnderWay as CallThere, Moment}
 use Rattle.papaya_schedules.specs.Views.{call_of}
-use Rattle.papaya_histories.specs.Given.Late.Faults.{RoomInReserving}
-use Rattle.papaya_histories.specs.Given.Late.Kinds.{FaultFits, FitsAsking, FitsAt}
-use Rattle.papaya_histories.specs.Given.Points.Told.{IsRowOfCall}
-use Rattle.papaya_histories.specs.Given.Callers.Pairs.{Given, kind_of as kind_given}
-use Rattle.papaya_histories.specs.Given.Callers.Rooms.{CallForRoom}
-use Rattle.papaya_histories.specs.Given.Callers.Sights.{seen_by}
-use Rattle.papaya_histories.specs.Given.Callers.Together.{CallOnKey, UnderWay, OnKey, ForRoom, Counting, Stands as TogetherStands, Together}
-use Rattle.papaya_histories.proofs.Given.Callers.Together.At.{at_same}
-use Rattle.papaya_histories.specs.Given.Finishes.Machines.{GoesOnAs, machine_of}
-use Rattle.papaya_histories.specs.Given.Finishes.Maps.{Standing}
-use Rattle.papaya_histories.specs.Given.Effects.Effects.{effects_of, known_after}
-use Rattle.papaya_histories.specs.Given.Effects.Known.{Known}
-use Rattle.papaya_histories.specs.Given.Effects.declared.acting.Acting.TheVariants as acts
-use Rattle.papaya_histories.specs.Given.Effects.declared.role.Role.TheVariants as role
-use Rattle.papaya_histories.specs.Given.Executor.IsAt.{Scene, IsAt, slot_of}
-use Rattle.papaya_histories.specs.Given.Executor.Stepping.{StepLeads, scene_after}
-use Rattle.papaya_histories.specs.Given.Executor.declared.executor.Executor.{Executor}
-use Rattle.papaya_histories.proofs.Given.Executor.Changed.{standing_is}
-use Rattle.papaya_histories.specs.Given.Follows.Calls.{IsCalled}
-use Rattle.papaya_histories.specs.Given.Hands.Asked.{AsksThere, IsAskedAs, IsAskedOn}
-use Rattle.papaya_histories.specs.Given.Hands.Calling.{AsksJust}
-use Rattle.papaya_histories.proofs.Given.Hands.Replacing.{IsOn, calls_after}
-use Rattle.papaya_histories.specs.Given.Moments.Whole.{ShowsWhole}
-use Rattle.papaya_histories.proofs.Given.Moments.Calls.{calls_keep_whole}
-use Rattle.papaya_histories.specs.Asking.{IsToldQuestion}
-use Rattle.papaya_histories.proofs.AnyCall.HasWords.{questions_have_words}
-use Rattle.papaya_histories.proofs.Asking.{asking_steps_stand_there}
-use Rattle.papaya_histories.proofs.Refusals.{refused}
+use Rattle.papaya_scheduler.specs.Given.Late.Faults.{RoomInReserving}
+use Rattle.papaya_scheduler.specs.Given.Late.Kinds.{FaultFits, FitsAsking, FitsAt}
+use Rattle.papaya_scheduler.specs.Given.Points.Told.{IsRowOfCall}
+use Rattle.papaya_scheduler.specs.Given.Callers.Pairs.{Given, kind_of as kind_given}
+use Rattle.papaya_scheduler.specs.Given.Callers.Rooms.{CallForRoom}
+use Rattle.papaya_scheduler.specs.Given.Callers.Sights.{seen_by}
+use Rattle.papaya_scheduler.specs.Given.Callers.Together.{CallOnKey, UnderWay, OnKey, ForRoom, Counting, Stands as TogetherStands, Together}
+use Rattle.papaya_scheduler.proofs.Given.Callers.Together.At.{at_same}
+use Rattle.papaya_scheduler.specs.Given.Finishes.Machines.{GoesOnAs, machine_of}
+use Rattle.papaya_scheduler.specs.Given.Finishes.Maps.{Standing}
+use Rattle.papaya_scheduler.specs.Given.Effects.Effects.{effects_of, known_after}
+use Rattle.papaya_scheduler.specs.Given.Effects.Known.{Known}
+use Rattle.papaya_scheduler.specs.Given.Effects.declared.acting.Acting.TheVariants as acts
+use Rattle.papaya_scheduler.specs.Given.Effects.declared.role.Role.TheVariants as role
+use Rattle.papaya_scheduler.specs.Given.Executor.IsAt.{Scene, IsAt, slot_of}
+use Rattle.papaya_scheduler.specs.Given.Executor.Stepping.{StepLeads, scene_after}
+use Rattle.papaya_scheduler.specs.Given.Executor.declared.executor.Executor.{Executor}
+use Rattle.papaya_scheduler.proofs.Given.Executor.Changed.{standing_is}
+use Rattle.papaya_scheduler.specs.Given.Follows.Calls.{IsCalled}
+use Rattle.papaya_scheduler.specs.Given.Hands.Asked.{AsksThere, IsAskedAs, IsAskedOn}
+use Rattle.papaya_scheduler.specs.Given.Hands.Calling.{AsksJust}
+use Rattle.papaya_scheduler.proofs.Given.Hands.Replacing.{IsOn, calls_after}
+use Rattle.papaya_scheduler.specs.Given.Moments.Whole.{ShowsWhole}
+use Rattle.papaya_scheduler.proofs.Given.Moments.Calls.{calls_keep_whole}
+use Rattle.papaya_scheduler.specs.Given.Histories.Asking.{IsToldQuestion}
+use Rattle.papaya_scheduler.proofs.Given.Histories.AnyCall.HasWords.{questions_have_words}
+use Rattle.papaya_scheduler.proofs.Given.Histories.Asking.{asking_steps_stand_there}
+use Rattle.papaya_scheduler.proofs.Given.Histories.Refusals.{refused}
 use Rattle.papaya_named.specs.Machines.{IsAsFar, RefusedForRoom}
 use Rattle.papaya_named.specs.Seen.{kind_of}
 use Rattle.papaya_stepping.specs.Stepping.{ComesAs, IsFaultOn, far_then, outcome_of}

@@ -3,26 +3,26 @@ use Rattle.std.specs.Prelude.{◌≡◌, ◌≢◌, ◌⊎◌, ◌≤◌, ◌==�
 use Rattle.std.specs.List.{AllByRecursion, list_any, remove}
 use Rattle.std.proofs.Common.{refl, sym, ap, subst, ◌∙◌, inl, inr, arith, eqb-true}
 use Rattle.std.proofs.lemmas.Bool.{cases_eq, ne_eqb}
-use Rattle.papaya_histories.specs.Given.Seize.World.{Use}
-use Rattle.papaya_histories.specs.Given.Tables.declared.node.Node.{Node}
+use Rattle.papaya_scheduler.specs.Given.Seize.World.{Use}
+use Rattle.papaya_scheduler.specs.Given.Tables.declared.node.Node.{Node}
 use Rattle.papaya_raw.specs.declared.machines.machine.Machine.{Machine}
 use Rattle.papaya_raw.specs.declared.machines.progress.Progress.{Progress}
 use Rattle.papaya_runs.specs.Same.{is_same}
 use Rattle.papaya_schedules.specs.Moment.{Moment}
 use Rattle.papaya_schedules.specs.Terms.{Terms}
-use Rattle.papaya_histories.specs.Given.Callers.Rows.{IsUsedAlike}
-use Rattle.papaya_histories.specs.Given.Callers.Together.{UnderWay}
-use Rattle.papaya_histories.proofs.Given.Callers.Together.At.{at_other, at_same}
-use Rattle.papaya_histories.specs.Given.Finishes.Machines.{MachineStepsAmong, machine_of}
-use Rattle.papaya_histories.specs.Given.Finishes.Maps.{IsSameMap, Standing}
-use Rattle.papaya_histories.specs.Given.Executor.IsAt.{IsUsedAs, Scene, slot_of, use_at, work_of}
-use Rattle.papaya_histories.specs.Given.Executor.Stepping.{StepLeads, scene_after}
-use Rattle.papaya_histories.specs.Given.Executor.declared.row.SlotUse.{SlotUse}
-use Rattle.papaya_histories.specs.Given.Executor.declared.row.SlotUse.TheVariants as used
-use Rattle.papaya_histories.specs.Given.Follows.Calling.{NoneNamed}
-use Rattle.papaya_histories.proofs.Given.Follows.Calling.{apart_back, is_same_refl}
-use Rattle.papaya_logged.specs.Shown.{IsShown}
-use Rattle.papaya_logged.specs.declared.logged.Logged.{Logged}
+use Rattle.papaya_scheduler.specs.Given.Callers.Rows.{IsUsedAlike}
+use Rattle.papaya_scheduler.specs.Given.Callers.Together.{UnderWay}
+use Rattle.papaya_scheduler.proofs.Given.Callers.Together.At.{at_other, at_same}
+use Rattle.papaya_scheduler.specs.Given.Finishes.Machines.{MachineStepsAmong, machine_of}
+use Rattle.papaya_scheduler.specs.Given.Finishes.Maps.{IsSameMap, Standing}
+use Rattle.papaya_scheduler.specs.Given.Executor.IsAt.{IsUsedAs, Scene, slot_of, use_at, work_of}
+use Rattle.papaya_scheduler.specs.Given.Executor.Stepping.{StepLeads, scene_after}
+use Rattle.papaya_scheduler.specs.Given.Executor.declared.row.SlotUse.{SlotUse}
+use Rattle.papaya_scheduler.specs.Given.Executor.declared.row.SlotUse.TheVariants as used
+use Rattle.papaya_scheduler.specs.Given.Follows.Calling.{NoneNamed}
+use Rattle.papaya_scheduler.proofs.Given.Follows.Calling.{apart_back, is_same_refl}
+use Rattle.papaya_scheduler.specs.Given.Logged.Shown.{IsShown}
+use Rattle.papaya_scheduler.specs.Given.Logged.declared.logged.Logged.{Logged}
 use Rattle.papaya_scheduler.specs.Played.{CallsAs, IsUnderWayAs, StandsAs}
 use Rattle.papaya_named.specs.Seen.{is_named, named, seen, seen_of}
 use Rattle.papaya_named.specs.declared.caller.Caller.{Caller}
@@ -30,9 +30,9 @@ use Rattle.papaya_named.specs.declared.caller.Callers.{Callers}
 use Rattle.papaya_named.specs.declared.caller.Stands.{Stands as HowFar}
 use Rattle.papaya_named.specs.declared.named_map.NamedMap.{NamedMap}
 use Rattle.papaya_scheduler.specs.declared.scheduler.Scheduler.{Scheduler}
-use Rattle.papaya_rows.proofs.Facts.{no_ending_of, no_making_of, no_work_at, row_rests, used_once}
+use Rattle.papaya_scheduler.proofs.Given.Rows.Facts.{no_ending_of, no_making_of, no_work_at, row_rests, used_once}
 use Rattle.papaya_scheduler.proofs.Here.{HereAs}
-use Rattle.papaya_rows.proofs.Lists.{all_so, one_of, removed_all, removed_any, removed_count, set_all, set_any, set_count}
+use Rattle.papaya_scheduler.proofs.Given.Rows.Lists.{all_so, one_of, removed_all, removed_any, removed_count, set_all, set_any, set_count}
 
 -- a slot that is used alike is used in that way
 used_alike : (v : SlotUse) (u u2 : Use) → IsUsedAs v u → IsUsedAlike u u2 → IsUsedAs v u2

@@ -1,14 +1,14 @@
 -- What a step of a walk, a clearing or a retaining says, by what was called.
 use Rattle.std.specs.Prelude.{◌≡◌, ℕ, Bool, true, List, Option, Some}
 use Rattle.std.proofs.Common.{refl, sym, ap, subst, ◌∙◌, inl, inr}
-use Rattle.papaya_histories.specs.Given.Tables.declared.node.Node.{Node}
-use Rattle.papaya_histories.specs.Given.Sweeps.SweepPoints.{removes}
-use Rattle.papaya_histories.specs.Given.Sweeps.declared.sweep.Purpose.TheVariants.{Walks, Clears, Retains}
-use Rattle.papaya_histories.specs.Given.Sweeps.declared.sweep.Sweep.{Sweep}
-use Rattle.papaya_histories.specs.Given.Sweeps.declared.sweep.Sweeping.{Sweeping}
-use Rattle.papaya_histories.specs.Given.Sweeps.declared.sweep.Sweeping.TheVariants as at
-use Rattle.papaya_histories.specs.Given.Sweeps.declared.sweep.Swept.{Swept}
-use Rattle.papaya_histories.specs.Given.Sweeps.declared.sweep.Swept.TheVariants as ends
+use Rattle.papaya_scheduler.specs.Given.Tables.declared.node.Node.{Node}
+use Rattle.papaya_scheduler.specs.Given.Sweeps.SweepPoints.{removes}
+use Rattle.papaya_scheduler.specs.Given.Sweeps.declared.sweep.Purpose.TheVariants.{Walks, Clears, Retains}
+use Rattle.papaya_scheduler.specs.Given.Sweeps.declared.sweep.Sweep.{Sweep}
+use Rattle.papaya_scheduler.specs.Given.Sweeps.declared.sweep.Sweeping.{Sweeping}
+use Rattle.papaya_scheduler.specs.Given.Sweeps.declared.sweep.Sweeping.TheVariants as at
+use Rattle.papaya_scheduler.specs.Given.Sweeps.declared.sweep.Swept.{Swept}
+use Rattle.papaya_scheduler.specs.Given.Sweeps.declared.sweep.Swept.TheVariants as ends
 use Rattle.papaya_raw.specs.Progress.{of_swept}
 use Rattle.papaya_raw.specs.declared.machines.machine.Machine.{Machine}
 use Rattle.papaya_raw.specs.declared.machines.machine.Machine.TheVariants as kinds
@@ -18,22 +18,22 @@ use Rattle.papaya_schedules.specs.declared.call.Call.{Call}
 use Rattle.papaya_schedules.specs.declared.call.Call.TheVariants.{Clear, Retain, Walk}
 use Rattle.papaya_schedules.specs.Moment.{UnderWay as CallThere, Moment}
 use Rattle.papaya_schedules.specs.Views.{call_of}
-use Rattle.papaya_histories.specs.Given.Late.Faults.{RoomInSweeping}
-use Rattle.papaya_histories.specs.Given.Late.FactsSweeps.{SweepingFacts}
-use Rattle.papaya_histories.specs.Given.Late.ToldSweeps.{IsRowOfSweep}
-use Rattle.papaya_histories.specs.Given.Callers.OverAll.{CallOverAll}
-use Rattle.papaya_histories.specs.Given.Callers.Sights.{seen_by}
-use Rattle.papaya_histories.specs.Given.Callers.Together.{UnderWay, OverAll, Stands as TogetherStands, Together, in_slot}
-use Rattle.papaya_histories.specs.Given.Finishes.Machines.{GoesOnAs, machine_of}
-use Rattle.papaya_histories.specs.Given.Finishes.Maps.{Standing}
-use Rattle.papaya_histories.specs.Given.Effects.Known.{Known}
-use Rattle.papaya_histories.specs.Given.Executor.IsAt.{Scene, IsAt, slot_of}
-use Rattle.papaya_histories.specs.Given.Executor.Stepping.{StepLeads}
-use Rattle.papaya_histories.specs.Given.Executor.declared.executor.Executor.{Executor}
-use Rattle.papaya_histories.proofs.Given.Executor.Changed.{standing_is}
-use Rattle.papaya_histories.specs.Given.Hands.Calling.{AsksJust}
-use Rattle.papaya_histories.specs.Given.Moments.Whole.{ShowsWhole}
-use Rattle.papaya_histories.proofs.NoKey.Sweeps.{SweepsOn, sweeps_on}
+use Rattle.papaya_scheduler.specs.Given.Late.Faults.{RoomInSweeping}
+use Rattle.papaya_scheduler.specs.Given.Late.FactsSweeps.{SweepingFacts}
+use Rattle.papaya_scheduler.specs.Given.Late.ToldSweeps.{IsRowOfSweep}
+use Rattle.papaya_scheduler.specs.Given.Callers.OverAll.{CallOverAll}
+use Rattle.papaya_scheduler.specs.Given.Callers.Sights.{seen_by}
+use Rattle.papaya_scheduler.specs.Given.Callers.Together.{UnderWay, OverAll, Stands as TogetherStands, Together, in_slot}
+use Rattle.papaya_scheduler.specs.Given.Finishes.Machines.{GoesOnAs, machine_of}
+use Rattle.papaya_scheduler.specs.Given.Finishes.Maps.{Standing}
+use Rattle.papaya_scheduler.specs.Given.Effects.Known.{Known}
+use Rattle.papaya_scheduler.specs.Given.Executor.IsAt.{Scene, IsAt, slot_of}
+use Rattle.papaya_scheduler.specs.Given.Executor.Stepping.{StepLeads}
+use Rattle.papaya_scheduler.specs.Given.Executor.declared.executor.Executor.{Executor}
+use Rattle.papaya_scheduler.proofs.Given.Executor.Changed.{standing_is}
+use Rattle.papaya_scheduler.specs.Given.Hands.Calling.{AsksJust}
+use Rattle.papaya_scheduler.specs.Given.Moments.Whole.{ShowsWhole}
+use Rattle.papaya_scheduler.proofs.Given.Histories.NoKey.Sweeps.{SweepsOn, sweeps_on}
 use Rattle.papaya_named.specs.Machines.{IsAsFar, IsFor, RefusedForRoom}
 use Rattle.papaya_named.specs.Seen.{kind_of}
 use Rattle.papaya_stepping.specs.Stepping.{ComesAs, far_then, outcome_of}

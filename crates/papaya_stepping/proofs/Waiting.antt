@@ -4,13 +4,13 @@ use Rattle.std.specs.List.{list_any}
 use Rattle.std.proofs.Common.{◌≡◌, ℕ, zero, suc, ◌≤◌, ◌<◌, Bool, true, false, List, refl, sym, ap, ◌∙◌, inl, inr, arith}
 use Rattle.std.proofs.lemmas.Bool.{eq-eqb}
 use Rattle.std.proofs.lemmas.List.{length-map}
-use Rattle.papaya_histories.specs.Given.Seize.World.{Rests}
-use Rattle.papaya_histories.specs.Given.SeizeEnds.Holders.{has_batch}
+use Rattle.papaya_scheduler.specs.Given.Seize.World.{Rests}
+use Rattle.papaya_scheduler.specs.Given.SeizeEnds.Holders.{has_batch}
 use Rattle.papaya_raw.specs.declared.machines.call.Calling.{Calling}
 use Rattle.papaya_raw.specs.declared.machines.call.Calling.TheVariants as at
-use Rattle.papaya_histories.specs.Given.Rule.Chart.{Chart}
-use Rattle.papaya_histories.specs.Given.Rule.Words.{Blocks}
-use Rattle.papaya_owned.specs.Given.Shown.Shown.{tables_on}
+use Rattle.papaya_scheduler.specs.Given.Rule.Chart.{Chart}
+use Rattle.papaya_scheduler.specs.Given.Rule.Words.{Blocks}
+use Rattle.papaya_scheduler.specs.Given.Shown.Shown.{tables_on}
 use Rattle.papaya_runs.specs.Present.{slot_of_guard}
 use Rattle.papaya_runs.specs.Same.{is_same}
 use Rattle.papaya_schedules.specs.declared.effect.Thing.{Thing}
@@ -20,17 +20,17 @@ use Rattle.papaya_schedules.specs.Lists.{is_empty}
 use Rattle.papaya_schedules.specs.Moment.{TableThere, UnderWay as CallThere, Moment}
 use Rattle.papaya_schedules.specs.Terms.{Terms}
 use Rattle.papaya_schedules.specs.Views.{call_of, chain_of, first_of, first_or, tables_of}
-use Rattle.papaya_histories.specs.Given.Late.Kinds.{LooksAt}
-use Rattle.papaya_histories.specs.Given.Points.Told.{IsRowOfCall}
-use Rattle.papaya_histories.specs.Given.Callers.Together.{UnderWay, OnKey, ForRoom, Counting, OverAll}
-use Rattle.papaya_histories.specs.Given.Finishes.Machines.{machine_of}
-use Rattle.papaya_histories.specs.Given.Finishes.Maps.{Standing}
-use Rattle.papaya_histories.specs.Given.Executor.IsAt.{slot_of}
-use Rattle.papaya_histories.proofs.Given.Executor.Changed.{standing_is}
-use Rattle.papaya_histories.specs.Given.Follows.Calls.{IsCalled}
-use Rattle.papaya_histories.proofs.Given.Hands.Calling.{caller_is}
-use Rattle.papaya_owes.specs.Looking.{IsLooking}
-use Rattle.papaya_rows.proofs.Holders.{works_there}
+use Rattle.papaya_scheduler.specs.Given.Late.Kinds.{LooksAt}
+use Rattle.papaya_scheduler.specs.Given.Points.Told.{IsRowOfCall}
+use Rattle.papaya_scheduler.specs.Given.Callers.Together.{UnderWay, OnKey, ForRoom, Counting, OverAll}
+use Rattle.papaya_scheduler.specs.Given.Finishes.Machines.{machine_of}
+use Rattle.papaya_scheduler.specs.Given.Finishes.Maps.{Standing}
+use Rattle.papaya_scheduler.specs.Given.Executor.IsAt.{slot_of}
+use Rattle.papaya_scheduler.proofs.Given.Executor.Changed.{standing_is}
+use Rattle.papaya_scheduler.specs.Given.Follows.Calls.{IsCalled}
+use Rattle.papaya_scheduler.proofs.Given.Hands.Calling.{caller_is}
+use Rattle.papaya_scheduler.specs.Given.Owes.Looking.{IsLooking}
+use Rattle.papaya_scheduler.proofs.Given.Rows.Holders.{works_there}
 use Rattle.papaya_scheduler.specs.Played.{StandsFor}
 use Rattle.papaya_scheduler.specs.Shapes.{shape_of}
 use Rattle.papaya_scheduler.specs.declared.scheduler.Scheduler.{Scheduler}

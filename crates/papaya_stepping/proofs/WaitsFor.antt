@@ -2,46 +2,46 @@
 use Rattle.std.specs.Prelude.{Option, Some}
 use Rattle.std.specs.List.{list_any}
 use Rattle.std.proofs.Common.{◌≡◌, ℕ, suc, ◌⊎◌, inl, inr, Bool, true, false, refl, ap, sym, subst}
-use Rattle.papaya_waits.specs.Others.{copier_in}
-use Rattle.papaya_histories.specs.Given.SeizeWords.Mem.{Mem, Took, value_at}
-use Rattle.papaya_histories.specs.Given.SeizeWords.Plan.{Steps}
-use Rattle.papaya_histories.specs.Given.Seize.World.{World, Row}
-use Rattle.papaya_histories.specs.Given.SeizeEnds.Holders.{has_batch}
-use Rattle.papaya_histories.specs.Given.Tables.Chunks.{is_incremental}
-use Rattle.papaya_histories.specs.Given.Tables.declared.node.Node.{Node}
-use Rattle.papaya_histories.specs.Given.Tables.declared.setting.Setting.{Setting}
-use Rattle.papaya_histories.specs.Given.Resize.declared.copier.Copier.{Copier}
-use Rattle.papaya_histories.specs.Given.Resize.declared.copier.Copying.{Copying}
-use Rattle.papaya_histories.specs.Given.Resize.declared.copier.Copying.TheVariants as copies
+use Rattle.papaya_scheduler.specs.Given.Waits.Others.{copier_in}
+use Rattle.papaya_scheduler.specs.Given.SeizeWords.Mem.{Mem, Took, value_at}
+use Rattle.papaya_scheduler.specs.Given.SeizeWords.Plan.{Steps}
+use Rattle.papaya_scheduler.specs.Given.Seize.World.{World, Row}
+use Rattle.papaya_scheduler.specs.Given.SeizeEnds.Holders.{has_batch}
+use Rattle.papaya_scheduler.specs.Given.Tables.Chunks.{is_incremental}
+use Rattle.papaya_scheduler.specs.Given.Tables.declared.node.Node.{Node}
+use Rattle.papaya_scheduler.specs.Given.Tables.declared.setting.Setting.{Setting}
+use Rattle.papaya_scheduler.specs.Given.Resize.declared.copier.Copier.{Copier}
+use Rattle.papaya_scheduler.specs.Given.Resize.declared.copier.Copying.{Copying}
+use Rattle.papaya_scheduler.specs.Given.Resize.declared.copier.Copying.TheVariants as copies
 use Rattle.papaya_raw.specs.Call.{call_plan}
 use Rattle.papaya_raw.specs.Call as calls
 use Rattle.papaya_raw.specs.declared.machines.answer.Called.TheVariants as says
 use Rattle.papaya_raw.specs.declared.machines.call.Calling.{Calling}
 use Rattle.papaya_raw.specs.declared.machines.call.Calling.TheVariants as at
 use Rattle.papaya_raw.specs.declared.machines.call.KeyCall.{KeyCall}
-use Rattle.papaya_histories.specs.Given.Rule.Chart.{Claimed}
-use Rattle.papaya_histories.specs.Given.Rule.Words.{Blocks}
-use Rattle.papaya_histories.specs.Given.Points.FactsCalls.{CallFacts, CallingFacts, IsCopying, Unchanged}
-use Rattle.papaya_histories.specs.Given.Points.Steps.{AreLawful}
-use Rattle.papaya_histories.specs.Given.Points.Told.{IsRowOfCall}
-use Rattle.papaya_histories.specs.Given.Late.LateCalls.{LateCallFacts, LateCalling}
-use Rattle.papaya_histories.specs.Given.Callers.Rows.{IsRowOn, row_of}
-use Rattle.papaya_histories.specs.Given.Callers.Sights.{seen_by}
-use Rattle.papaya_histories.specs.Given.Callers.Together.{CallOnKey, UnderWay, OnKey, Together, in_slot}
-use Rattle.papaya_owned.proofs.Given.Whole.Rows.Kinds.{row_decided}
-use Rattle.papaya_owned.specs.Given.Waits.Waits.{AnotherHolds, CallAwaits, CopierAwaits, IsBeingCopied}
-use Rattle.papaya_owned.proofs.Given.Waits.Claimed.{pairs_are_copied_by_calls}
-use Rattle.papaya_owned.proofs.Given.Waits.Laws.{calls_wait_for_a_copying, call_rows_wait_for_a_holder}
-use Rattle.papaya_owned.proofs.Given.Waits.Works.{not_idle, works}
+use Rattle.papaya_scheduler.specs.Given.Rule.Chart.{Claimed}
+use Rattle.papaya_scheduler.specs.Given.Rule.Words.{Blocks}
+use Rattle.papaya_scheduler.specs.Given.Points.FactsCalls.{CallFacts, CallingFacts, IsCopying, Unchanged}
+use Rattle.papaya_scheduler.specs.Given.Points.Steps.{AreLawful}
+use Rattle.papaya_scheduler.specs.Given.Points.Told.{IsRowOfCall}
+use Rattle.papaya_scheduler.specs.Given.Late.LateCalls.{LateCallFacts, LateCalling}
+use Rattle.papaya_scheduler.specs.Given.Callers.Rows.{IsRowOn, row_of}
+use Rattle.papaya_scheduler.specs.Given.Callers.Sights.{seen_by}
+use Rattle.papaya_scheduler.specs.Given.Callers.Together.{CallOnKey, UnderWay, OnKey, Together, in_slot}
+use Rattle.papaya_scheduler.proofs.Given.Whole.Rows.Kinds.{row_decided}
+use Rattle.papaya_scheduler.specs.Given.Waits.Waits.{AnotherHolds, CallAwaits, CopierAwaits, IsBeingCopied}
+use Rattle.papaya_scheduler.proofs.Given.Waits.Claimed.{pairs_are_copied_by_calls}
+use Rattle.papaya_scheduler.proofs.Given.Waits.Laws.{calls_wait_for_a_copying, call_rows_wait_for_a_holder}
+use Rattle.papaya_scheduler.proofs.Given.Waits.Works.{not_idle, works}
 use Rattle.papaya_schedules.specs.InUse.{may_wait_for}
 use Rattle.papaya_schedules.specs.Moment.{Moment}
 use Rattle.papaya_schedules.specs.Terms.{Terms}
-use Rattle.papaya_histories.specs.Given.Teller.declared.changed.Changed.{Changed}
-use Rattle.papaya_histories.specs.Given.Teller.declared.changed.Changed.TheVariants as changed
-use Rattle.papaya_histories.specs.Given.Finishes.Maps.{Standing}
-use Rattle.papaya_histories.specs.Given.Executor.IsAt.{slot_of}
-use Rattle.papaya_histories.proofs.Given.Executor.Forgotten.{as_step}
-use Rattle.papaya_owes.proofs.Tables.Hosts.{Step}
+use Rattle.papaya_scheduler.specs.Given.Teller.declared.changed.Changed.{Changed}
+use Rattle.papaya_scheduler.specs.Given.Teller.declared.changed.Changed.TheVariants as changed
+use Rattle.papaya_scheduler.specs.Given.Finishes.Maps.{Standing}
+use Rattle.papaya_scheduler.specs.Given.Executor.IsAt.{slot_of}
+use Rattle.papaya_scheduler.proofs.Given.Executor.Forgotten.{as_step}
+use Rattle.papaya_scheduler.proofs.Given.Owes.Tables.Hosts.{Step}
 use Rattle.papaya_scheduler.specs.Played.{StandsFor}
 use Rattle.papaya_scheduler.specs.declared.scheduler.Scheduler.{Scheduler}
 use Rattle.papaya_stepping.proofs.CopiesWait.{only_looks_by}

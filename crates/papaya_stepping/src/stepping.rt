@@ -1,9 +1,9 @@
 //! Calls take steps, one or many.
 ghost use Rattle.std.specs.Prelude.{◌≡◌, ◌<◌, ◌≤◌, [], length, slice_get, Some, IfOk};
 ghost use Rattle.papaya_schedules.specs.declared.event.Event.TheVariants as event;
-ghost use Rattle.papaya_histories.specs.Given.Effects.Known.{known};
-ghost use Rattle.papaya_histories.specs.Given.Executor.IsAt.{KeepsGiven};
-ghost use Rattle.papaya_logged.specs.Calling.{MakesNoMore};
+ghost use Rattle.papaya_scheduler.specs.Given.Effects.Known.{known};
+ghost use Rattle.papaya_scheduler.specs.Given.Executor.IsAt.{KeepsGiven};
+ghost use Rattle.papaya_scheduler.specs.Given.Logged.Calling.{MakesNoMore};
 ghost use Rattle.papaya_scheduler.specs.Played.{MayPlay};
 ghost use Rattle.papaya_runs.specs.Stopped.{most_steps};
 ghost use Rattle.papaya_stepping.specs.Stepping.{IsStepped, MayGo, MayStep, PlaysOnAt, StandsAt, StepsCome, TakenAs, TookSteps, TookWhole, callers_then, outcome_of};

@@ -1,7 +1,7 @@
 //! Walks show their pairs, one by one.
 ghost use Rattle.std.specs.Prelude.{◌≡◌, ◌↔◌, true, IfOk};
 ghost use Rattle.papaya_schedules.specs.declared.event.Event.TheVariants as event;
-ghost use Rattle.papaya_histories.specs.Given.Executor.IsAt.{KeepsGiven};
+ghost use Rattle.papaya_scheduler.specs.Given.Executor.IsAt.{KeepsGiven};
 ghost use Rattle.papaya_scheduler.specs.Played.{MayPlay};
 ghost use Rattle.papaya_stepping.specs.Stepping.{MayWalk, PlaysNextAt, TookNext, WalkComes};
 

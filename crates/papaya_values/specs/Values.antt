@@ -1,33 +1,33 @@
 -- The value that the caller of a call keeps, to tell it back: of `try_insert` its own, and of `compute` the one with which it was told to abort.
 use Rattle.std.specs.Prelude.{◌≡◌, ℕ, Bool, List, [], ◌∷◌, Option, Some, Ok}
-use Rattle.papaya_histories.specs.Given.Tables.declared.node.Node.{Node}
-use Rattle.papaya_histories.specs.Given.Tables.declared.setting.Setting.{Setting}
-use Rattle.papaya_histories.specs.Given.Raw.Machine.{machine_replied}
-use Rattle.papaya_histories.specs.Given.Raw.declared.machines.answer.End.TheVariants as ends
-use Rattle.papaya_histories.specs.Given.Raw.declared.machines.answer.KeyAnswer.TheVariants as answers
-use Rattle.papaya_histories.specs.Given.Raw.declared.machines.progress.Answer.TheVariants as said
-use Rattle.papaya_histories.specs.Given.Raw.declared.machines.call.Calling.{Calling}
-use Rattle.papaya_histories.specs.Given.Raw.declared.machines.call.Calling.TheVariants as at
-use Rattle.papaya_histories.specs.Given.Raw.declared.machines.machine.Machine.{Machine}
-use Rattle.papaya_histories.specs.Given.Raw.declared.machines.machine.Machine.TheVariants as kinds
-use Rattle.papaya_histories.specs.Given.Raw.declared.machines.progress.Progress.{Progress}
-use Rattle.papaya_histories.specs.Given.Raw.declared.machines.progress.Progress.TheVariants as progress
-use Rattle.papaya_histories.specs.Given.Schedules.declared.call.Call.{Call}
-use Rattle.papaya_histories.specs.Given.Schedules.declared.call.Call.TheVariants.{On}
-use Rattle.papaya_histories.specs.Given.Schedules.declared.call.OneKey.TheVariants.{Compute, TryInsert}
-use Rattle.papaya_histories.specs.Given.Schedules.declared.call.Reply.{Reply}
-use Rattle.papaya_histories.specs.Given.Schedules.declared.call.Reply.TheVariants.{Aborts}
-use Rattle.papaya_histories.specs.Given.Schedules.Moment.{Asking, UnderWay as CallThere, Moment}
-use Rattle.papaya_histories.specs.Given.Schedules.Views.{call_of, reply_to}
-use Rattle.papaya_histories.specs.Given.Callers.Together.{UnderWay}
-use Rattle.papaya_histories.specs.Given.Effects.Known.{Known}
-use Rattle.papaya_histories.specs.Given.Executor.IsAt.{Scene, IsAt}
-use Rattle.papaya_histories.specs.Given.Executor.Stepping.{StepLeads}
-use Rattle.papaya_histories.specs.Given.Executor.declared.executor.Executor.{Executor}
-use Rattle.papaya_histories.specs.Given.Finishes.Machines.{machine_of}
-use Rattle.papaya_histories.specs.Given.Finishes.Maps.{Standing}
-use Rattle.papaya_histories.specs.Given.Hands.Asked.{as_told}
-use Rattle.papaya_histories.specs.Given.Moments.Whole.{ShowsWhole}
+use Rattle.papaya_moments.specs.Given.Tables.declared.node.Node.{Node}
+use Rattle.papaya_moments.specs.Given.Tables.declared.setting.Setting.{Setting}
+use Rattle.papaya_moments.specs.Given.Raw.Machine.{machine_replied}
+use Rattle.papaya_moments.specs.Given.Raw.declared.machines.answer.End.TheVariants as ends
+use Rattle.papaya_moments.specs.Given.Raw.declared.machines.answer.KeyAnswer.TheVariants as answers
+use Rattle.papaya_moments.specs.Given.Raw.declared.machines.progress.Answer.TheVariants as said
+use Rattle.papaya_moments.specs.Given.Raw.declared.machines.call.Calling.{Calling}
+use Rattle.papaya_moments.specs.Given.Raw.declared.machines.call.Calling.TheVariants as at
+use Rattle.papaya_moments.specs.Given.Raw.declared.machines.machine.Machine.{Machine}
+use Rattle.papaya_moments.specs.Given.Raw.declared.machines.machine.Machine.TheVariants as kinds
+use Rattle.papaya_moments.specs.Given.Raw.declared.machines.progress.Progress.{Progress}
+use Rattle.papaya_moments.specs.Given.Raw.declared.machines.progress.Progress.TheVariants as progress
+use Rattle.papaya_moments.specs.Given.Schedules.declared.call.Call.{Call}
+use Rattle.papaya_moments.specs.Given.Schedules.declared.call.Call.TheVariants.{On}
+use Rattle.papaya_moments.specs.Given.Schedules.declared.call.OneKey.TheVariants.{Compute, TryInsert}
+use Rattle.papaya_moments.specs.Given.Schedules.declared.call.Reply.{Reply}
+use Rattle.papaya_moments.specs.Given.Schedules.declared.call.Reply.TheVariants.{Aborts}
+use Rattle.papaya_moments.specs.Given.Schedules.Moment.{Asking, UnderWay as CallThere, Moment}
+use Rattle.papaya_moments.specs.Given.Schedules.Views.{call_of, reply_to}
+use Rattle.papaya_moments.specs.Given.Callers.Together.{UnderWay}
+use Rattle.papaya_moments.specs.Given.Effects.Known.{Known}
+use Rattle.papaya_moments.specs.Given.Executor.IsAt.{Scene, IsAt}
+use Rattle.papaya_moments.specs.Given.Executor.Stepping.{StepLeads}
+use Rattle.papaya_moments.specs.Given.Executor.declared.executor.Executor.{Executor}
+use Rattle.papaya_moments.specs.Given.Finishes.Machines.{machine_of}
+use Rattle.papaya_moments.specs.Given.Finishes.Maps.{Standing}
+use Rattle.papaya_moments.specs.Given.Hands.Asked.{as_told}
+use Rattle.papaya_moments.specs.Whole.{ShowsWhole}
 use Rattle.papaya_named.specs.Machines.{aborted_by, machine_for}
 use Rattle.papaya_named.specs.Seen.{kind_of}
 use Rattle.papaya_named.specs.Telling.{kept}

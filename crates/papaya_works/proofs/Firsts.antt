@@ -3,71 +3,71 @@ use Rattle.std.specs.Prelude.{◌≡◌, ◌≢◌, ℕ, ◌+◌, ◌-◌, ◌^�
 use Rattle.std.specs.List.{list_all}
 use Rattle.std.proofs.Common.{refl, ap, sym, subst, ◌∙◌, inl, inr}
 use Rattle.std.proofs.lemmas.Bool.{cases_eq, and_parts}
-use Rattle.papaya_histories.specs.Given.SeizeWords.Mem.{Mem}
-use Rattle.papaya_histories.specs.Given.SeizeWords.Op.{Out, Exchanged, Made}
-use Rattle.papaya_histories.specs.Given.SeizeWords.declared.at.At.TheVariants.{Root}
-use Rattle.papaya_histories.specs.Given.SeizeWords.declared.fault.Fault.{Fault}
-use Rattle.papaya_histories.specs.Given.SeizeWords.declared.fault.Fault.TheVariants.{Capacity, RootsUsedUp}
-use Rattle.papaya_histories.specs.Given.Seize.World.{World, with_at}
-use Rattle.papaya_histories.specs.Given.Seize.declared.progress.Progress.{Progress}
-use Rattle.papaya_histories.specs.Given.Seize.declared.progress.Progress.TheVariants as progress
-use Rattle.papaya_histories.specs.Given.Tables.Lengths.{places_for, len_of}
-use Rattle.papaya_histories.specs.Given.Tables.Powers.{next_power}
-use Rattle.papaya_histories.specs.Given.Tables.Probes.{limit_of}
-use Rattle.papaya_histories.specs.Given.Tables.declared.node.Node.{Node}
-use Rattle.papaya_histories.specs.Given.Tables.declared.setting.Setting.{Setting}
-use Rattle.papaya_histories.specs.Given.Tables.declared.table.Table.{Table as Planned}
-use Rattle.papaya_histories.specs.Given.Resize.NewMap.{at_root, with_counter, goes, done, refused, next_root, opened, taken, made, plan_at, new_map_plan}
-use Rattle.papaya_histories.specs.Given.Resize.NewTable.{first_table, new_table_plan}
-use Rattle.papaya_histories.specs.Given.Resize.declared.new_map.NewMap.{NewMap}
-use Rattle.papaya_histories.specs.Given.Resize.declared.new_map.Opening.{Opening}
-use Rattle.papaya_histories.specs.Given.Resize.declared.new_map.Opening.TheVariants as at
-use Rattle.papaya_histories.specs.Given.Resize.declared.new_table.Making.TheVariants as makes
-use Rattle.papaya_histories.specs.Given.Resize.declared.new_table.NewTable.{NewTable}
-use Rattle.papaya_histories.specs.Given.Runs.Runs.{map_fault}
-use Rattle.papaya_histories.specs.Given.Schedules.declared.effect.Effect.{Effect}
-use Rattle.papaya_histories.specs.Given.Schedules.declared.effect.Effect.TheVariants as effect
-use Rattle.papaya_histories.specs.Given.Schedules.declared.effect.Growth.TheVariants.{ABlock, ABucket}
-use Rattle.papaya_histories.specs.Given.Schedules.Effects.{AtEachEffect, with_effect, with_effects}
-use Rattle.papaya_histories.specs.Given.Schedules.Growing.{Has}
-use Rattle.papaya_histories.specs.Given.Schedules.Handing.{is_first_making}
-use Rattle.papaya_histories.specs.Given.Schedules.Lives.{IsMapsFirst, EventFinds}
-use Rattle.papaya_histories.specs.Given.Schedules.Moment.{MapThere, Moment}
-use Rattle.papaya_histories.specs.Given.Schedules.Views.{map_at, tables_of}
-use Rattle.papaya_histories.specs.Given.Teller.Tells.{StepsTold}
-use Rattle.papaya_histories.specs.Given.Teller.declared.changed.Changed.{Changed}
-use Rattle.papaya_histories.specs.Given.Teller.declared.changed.Changed.TheVariants as changed
-use Rattle.papaya_histories.proofs.Given.Rule.Keys.Always.{Always, AlwaysOf, always_steps}
-use Rattle.papaya_histories.specs.Given.Rule.Rule.{no_table}
-use Rattle.papaya_histories.specs.Given.Callers.Together.{no_blocks}
-use Rattle.papaya_histories.proofs.Given.Callers.Together.At.{at_other, at_same}
-use Rattle.papaya_named.specs.Places.{first_places}
-use Rattle.papaya_histories.specs.Given.Effects.Effects.{table_at, effects_of, known_after}
-use Rattle.papaya_histories.specs.Given.Effects.Known.{Known}
-use Rattle.papaya_histories.specs.Given.Effects.declared.acting.Acting.{Acting}
-use Rattle.papaya_histories.specs.Given.Effects.declared.acting.Acting.TheVariants as acts
-use Rattle.papaya_histories.specs.Given.Executor.IsAt.{Scene, IsAt}
-use Rattle.papaya_histories.specs.Given.Executor.Making.{MakingComesTo, MakingLeads}
-use Rattle.papaya_histories.specs.Given.Executor.declared.executor.Executor.{Executor}
-use Rattle.papaya_histories.proofs.Given.Executor.Forgotten.{as_step}
-use Rattle.papaya_histories.specs.Given.Finishes.Makings.{Beginning, OpeningFacts}
-use Rattle.papaya_histories.specs.Given.Follows.Shows.{Shows}
-use Rattle.papaya_histories.proofs.Given.Follows.Steps.{one_of}
-use Rattle.papaya_histories.specs.Given.Others.Makings.{making_after}
-use Rattle.papaya_owes.specs.Making.{making_in_opening}
-use Rattle.papaya_owes.specs.Tables.{table_in, table_made, ShowsTables}
-use Rattle.papaya_owes.specs.TablesBeside.{MakesFirst}
-use Rattle.papaya_owes.proofs.Tables.Held.{shape_of, some_making}
-use Rattle.papaya_owes.proofs.Tables.Leaves.{Stays, IsMade, IsGivenUp, IsLinked}
-use Rattle.papaya_owes.proofs.Tables.MakingsOfMaps.{left_tables}
-use Rattle.papaya_owes.proofs.Tables.Roles.{of_table, NoneOfTable}
+use Rattle.papaya_legal.specs.Given.SeizeWords.Mem.{Mem}
+use Rattle.papaya_legal.specs.Given.SeizeWords.Op.{Out, Exchanged, Made}
+use Rattle.papaya_legal.specs.Given.SeizeWords.declared.at.At.TheVariants.{Root}
+use Rattle.papaya_legal.specs.Given.SeizeWords.declared.fault.Fault.{Fault}
+use Rattle.papaya_legal.specs.Given.SeizeWords.declared.fault.Fault.TheVariants.{Capacity, RootsUsedUp}
+use Rattle.papaya_legal.specs.Given.Seize.World.{World, with_at}
+use Rattle.papaya_legal.specs.Given.Seize.declared.progress.Progress.{Progress}
+use Rattle.papaya_legal.specs.Given.Seize.declared.progress.Progress.TheVariants as progress
+use Rattle.papaya_legal.specs.Given.Tables.Lengths.{places_for, len_of}
+use Rattle.papaya_legal.specs.Given.Tables.Powers.{next_power}
+use Rattle.papaya_legal.specs.Given.Tables.Probes.{limit_of}
+use Rattle.papaya_legal.specs.Given.Tables.declared.node.Node.{Node}
+use Rattle.papaya_legal.specs.Given.Tables.declared.setting.Setting.{Setting}
+use Rattle.papaya_legal.specs.Given.Tables.declared.table.Table.{Table as Planned}
+use Rattle.papaya_legal.specs.Given.Resize.NewMap.{at_root, with_counter, goes, done, refused, next_root, opened, taken, made, plan_at, new_map_plan}
+use Rattle.papaya_legal.specs.Given.Resize.NewTable.{first_table, new_table_plan}
+use Rattle.papaya_legal.specs.Given.Resize.declared.new_map.NewMap.{NewMap}
+use Rattle.papaya_legal.specs.Given.Resize.declared.new_map.Opening.{Opening}
+use Rattle.papaya_legal.specs.Given.Resize.declared.new_map.Opening.TheVariants as at
+use Rattle.papaya_legal.specs.Given.Resize.declared.new_table.Making.TheVariants as makes
+use Rattle.papaya_legal.specs.Given.Resize.declared.new_table.NewTable.{NewTable}
+use Rattle.papaya_legal.specs.Given.Runs.Runs.{map_fault}
+use Rattle.papaya_legal.specs.Given.Schedules.declared.effect.Effect.{Effect}
+use Rattle.papaya_legal.specs.Given.Schedules.declared.effect.Effect.TheVariants as effect
+use Rattle.papaya_legal.specs.Given.Schedules.declared.effect.Growth.TheVariants.{ABlock, ABucket}
+use Rattle.papaya_legal.specs.Given.Schedules.Effects.{AtEachEffect, with_effect, with_effects}
+use Rattle.papaya_legal.specs.Given.Schedules.Growing.{Has}
+use Rattle.papaya_legal.specs.Given.Schedules.Handing.{is_first_making}
+use Rattle.papaya_legal.specs.Given.Schedules.Lives.{IsMapsFirst, EventFinds}
+use Rattle.papaya_legal.specs.Given.Schedules.Moment.{MapThere, Moment}
+use Rattle.papaya_legal.specs.Given.Schedules.Views.{map_at, tables_of}
+use Rattle.papaya_legal.specs.Given.Teller.Tells.{StepsTold}
+use Rattle.papaya_legal.specs.Given.Teller.declared.changed.Changed.{Changed}
+use Rattle.papaya_legal.specs.Given.Teller.declared.changed.Changed.TheVariants as changed
+use Rattle.papaya_legal.proofs.Given.Rule.Keys.Always.{Always, AlwaysOf, always_steps}
+use Rattle.papaya_legal.specs.Given.Rule.Rule.{no_table}
+use Rattle.papaya_legal.specs.Given.Callers.Together.{no_blocks}
+use Rattle.papaya_legal.proofs.Given.Callers.Together.At.{at_other, at_same}
+use Rattle.papaya_legal.specs.Given.Named.Places.{first_places}
+use Rattle.papaya_legal.specs.Given.Effects.Effects.{table_at, effects_of, known_after}
+use Rattle.papaya_legal.specs.Given.Effects.Known.{Known}
+use Rattle.papaya_legal.specs.Given.Effects.declared.acting.Acting.{Acting}
+use Rattle.papaya_legal.specs.Given.Effects.declared.acting.Acting.TheVariants as acts
+use Rattle.papaya_legal.specs.Given.Executor.IsAt.{Scene, IsAt}
+use Rattle.papaya_legal.specs.Given.Executor.Making.{MakingComesTo, MakingLeads}
+use Rattle.papaya_legal.specs.Given.Executor.declared.executor.Executor.{Executor}
+use Rattle.papaya_legal.proofs.Given.Executor.Forgotten.{as_step}
+use Rattle.papaya_legal.specs.Given.Finishes.Makings.{Beginning, OpeningFacts}
+use Rattle.papaya_legal.specs.Given.Follows.Shows.{Shows}
+use Rattle.papaya_legal.proofs.Given.Follows.Steps.{one_of}
+use Rattle.papaya_legal.specs.Given.Others.Makings.{making_after}
+use Rattle.papaya_legal.specs.Given.Owes.Making.{making_in_opening}
+use Rattle.papaya_legal.specs.Given.Owes.Tables.{table_in, table_made, ShowsTables}
+use Rattle.papaya_legal.specs.Given.Owes.TablesBeside.{MakesFirst}
+use Rattle.papaya_legal.proofs.Given.Owes.Tables.Held.{shape_of, some_making}
+use Rattle.papaya_legal.proofs.Given.Owes.Tables.Leaves.{Stays, IsMade, IsGivenUp, IsLinked}
+use Rattle.papaya_legal.proofs.Given.Owes.Tables.MakingsOfMaps.{left_tables}
+use Rattle.papaya_legal.proofs.Given.Owes.Tables.Roles.{of_table, NoneOfTable}
 use Rattle.papaya_works.specs.Firsts.{IsForPlaces, OpensFor, ShowsOpenings, FindsFirst, OpeningsBegin, OpeningsStay, MakingsOpen, FirstsAreAll, MakingsGoOn, MakingsLinkFirst}
-use Rattle.papaya_finds.specs.Shaping.{ShapedAt}
-use Rattle.papaya_finds.proofs.Capacities.{few_places, no_fault}
-use Rattle.papaya_finds.proofs.Grown.{found_of, number_is}
-use Rattle.papaya_finds.proofs.Linking.{made_so as made_as_shaped, turn_new}
-use Rattle.papaya_finds.proofs.Lists.{each_is}
-use Rattle.papaya_finds.proofs.Shaping.{always_plan_more, goes_shaped}
+use Rattle.papaya_legal.specs.Given.Finds.Shaping.{ShapedAt}
+use Rattle.papaya_legal.proofs.Given.Finds.Capacities.{few_places, no_fault}
+use Rattle.papaya_legal.proofs.Given.Finds.Grown.{found_of, number_is}
+use Rattle.papaya_legal.proofs.Given.Finds.Linking.{made_so as made_as_shaped, turn_new}
+use Rattle.papaya_legal.proofs.Given.Finds.Lists.{each_is}
+use Rattle.papaya_legal.proofs.Given.Finds.Shaping.{always_plan_more, goes_shaped}
 
 -- A step of the making of a map leaves it the places that its table is to have, and makes a table for those.
 

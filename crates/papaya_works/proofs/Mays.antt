@@ -3,35 +3,35 @@ use Rattle.std.specs.Prelude.{◌≡◌, ◌⊎◌, ◌&&◌, ℕ, Bool, true, f
 use Rattle.std.specs.List.{list_all}
 use Rattle.std.proofs.Common.{refl, ap, sym, subst, inl, inr, ◌∙◌}
 use Rattle.std.proofs.lemmas.List.Folds.{list_all-append}
-use Rattle.papaya_histories.specs.Given.Seize.declared.rows.settle.Settle.{Settle}
-use Rattle.papaya_histories.specs.Given.Seize.declared.rows.settle.Settling.{Settling}
-use Rattle.papaya_histories.specs.Given.Seize.declared.rows.settle.Settling.TheVariants as settling
-use Rattle.papaya_histories.specs.Given.Seize.World.{World, Rests, Settles, Begins}
-use Rattle.papaya_histories.proofs.Given.SeizeMoves.State.Ghost.{State}
-use Rattle.papaya_histories.proofs.Given.SeizeRule.Points.Told.{part, part_at}
-use Rattle.papaya_histories.specs.Given.Tables.Nodes.{deferred_word}
-use Rattle.papaya_histories.specs.Given.Tables.declared.node.Node.{Node}
-use Rattle.papaya_histories.specs.Given.Teller.declared.changed.Changed.TheVariants as changed
-use Rattle.papaya_histories.proofs.Given.Callers.Together.Came.{came_reached}
-use Rattle.papaya_histories.specs.Given.Schedules.declared.effect.Effect.{Effect}
-use Rattle.papaya_histories.specs.Given.Schedules.declared.event.Event.{Event}
-use Rattle.papaya_histories.specs.Given.Schedules.Entry.{Entry}
-use Rattle.papaya_histories.specs.Given.Schedules.Terms.{Terms}
-use Rattle.papaya_histories.specs.Given.Effects.Effects.{effects_of}
-use Rattle.papaya_histories.specs.Given.Effects.Known.{Known}
-use Rattle.papaya_histories.specs.Given.Effects.declared.acting.Acting.TheVariants as acts
-use Rattle.papaya_histories.specs.Given.Executor.IsAt.{HasRow, row_of, slot_of, work_of}
-use Rattle.papaya_histories.specs.Given.Executor.OnSlots.{RowSteps as StepsAs, row_on}
-use Rattle.papaya_histories.specs.Given.Executor.Rows.{begun_row, request_of}
-use Rattle.papaya_histories.specs.Given.Executor.declared.executor.Executor.{Executor}
-use Rattle.papaya_histories.specs.Given.Executor.declared.row.RowTold.{RowTold}
-use Rattle.papaya_histories.specs.Given.Executor.declared.row.RowTold.TheVariants as told
-use Rattle.papaya_histories.specs.Given.Executor.declared.row.SlotCall.{SlotCall}
-use Rattle.papaya_histories.specs.Given.Executor.declared.row.SlotCall.TheVariants as call
-use Rattle.papaya_histories.specs.Given.Executor.declared.row.SlotRow.{SlotRow}
-use Rattle.papaya_histories.specs.Given.Executor.declared.row.SlotRow.TheVariants as rows
-use Rattle.papaya_histories.specs.Given.Executor.declared.worker.Work.{Work}
-use Rattle.papaya_histories.specs.Given.Executor.declared.worker.Work.TheVariants.{OnSlot}
+use Rattle.papaya_legal.specs.Given.Seize.declared.rows.settle.Settle.{Settle}
+use Rattle.papaya_legal.specs.Given.Seize.declared.rows.settle.Settling.{Settling}
+use Rattle.papaya_legal.specs.Given.Seize.declared.rows.settle.Settling.TheVariants as settling
+use Rattle.papaya_legal.specs.Given.Seize.World.{World, Rests, Settles, Begins}
+use Rattle.papaya_legal.proofs.Given.SeizeMoves.State.Ghost.{State}
+use Rattle.papaya_legal.proofs.Given.SeizeRule.Points.Told.{part, part_at}
+use Rattle.papaya_legal.specs.Given.Tables.Nodes.{deferred_word}
+use Rattle.papaya_legal.specs.Given.Tables.declared.node.Node.{Node}
+use Rattle.papaya_legal.specs.Given.Teller.declared.changed.Changed.TheVariants as changed
+use Rattle.papaya_legal.proofs.Given.Callers.Together.Came.{came_reached}
+use Rattle.papaya_legal.specs.Given.Schedules.declared.effect.Effect.{Effect}
+use Rattle.papaya_legal.specs.Given.Schedules.declared.event.Event.{Event}
+use Rattle.papaya_legal.specs.Given.Schedules.Entry.{Entry}
+use Rattle.papaya_legal.specs.Given.Schedules.Terms.{Terms}
+use Rattle.papaya_legal.specs.Given.Effects.Effects.{effects_of}
+use Rattle.papaya_legal.specs.Given.Effects.Known.{Known}
+use Rattle.papaya_legal.specs.Given.Effects.declared.acting.Acting.TheVariants as acts
+use Rattle.papaya_legal.specs.Given.Executor.IsAt.{HasRow, row_of, slot_of, work_of}
+use Rattle.papaya_legal.specs.Given.Executor.OnSlots.{RowSteps as StepsAs, row_on}
+use Rattle.papaya_legal.specs.Given.Executor.Rows.{begun_row, request_of}
+use Rattle.papaya_legal.specs.Given.Executor.declared.executor.Executor.{Executor}
+use Rattle.papaya_legal.specs.Given.Executor.declared.row.RowTold.{RowTold}
+use Rattle.papaya_legal.specs.Given.Executor.declared.row.RowTold.TheVariants as told
+use Rattle.papaya_legal.specs.Given.Executor.declared.row.SlotCall.{SlotCall}
+use Rattle.papaya_legal.specs.Given.Executor.declared.row.SlotCall.TheVariants as call
+use Rattle.papaya_legal.specs.Given.Executor.declared.row.SlotRow.{SlotRow}
+use Rattle.papaya_legal.specs.Given.Executor.declared.row.SlotRow.TheVariants as rows
+use Rattle.papaya_legal.specs.Given.Executor.declared.worker.Work.{Work}
+use Rattle.papaya_legal.specs.Given.Executor.declared.worker.Work.TheVariants.{OnSlot}
 use Rattle.papaya_legal.specs.Chains.{Come, RowSteps}
 use Rattle.papaya_legal.specs.SlotEvents.{InSlotEvent}
 use Rattle.papaya_legal.proofs.Chains.{chains_keep}

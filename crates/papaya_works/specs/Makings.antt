@@ -1,26 +1,26 @@
 -- What the making of a map does: it asks for blocks, makes the map's first table, and links it.
 use Rattle.std.specs.Prelude.{◌≡◌, ℕ, Bool, true, false, List, [], Option, Some, None}
 use Rattle.std.specs.List.{list_all}
-use Rattle.papaya_histories.specs.Given.Seize.declared.progress.Progress.{Progress}
-use Rattle.papaya_histories.specs.Given.Tables.declared.setting.Setting.{Setting}
-use Rattle.papaya_histories.specs.Given.Runs.Runs.{map_fault}
-use Rattle.papaya_histories.specs.Given.Schedules.Effects.{AtEachEffect, with_effects}
-use Rattle.papaya_histories.specs.Given.Schedules.Handing.{is_first_making}
-use Rattle.papaya_histories.specs.Given.Schedules.Lives.{EventFinds}
-use Rattle.papaya_histories.specs.Given.Schedules.Moment.{MapThere, Moment}
-use Rattle.papaya_histories.specs.Given.Schedules.Views.{map_at, tables_of}
-use Rattle.papaya_histories.specs.Given.Effects.Effects.{effects_of, known_after}
-use Rattle.papaya_histories.specs.Given.Effects.Known.{Known}
-use Rattle.papaya_histories.specs.Given.Effects.declared.acting.Acting.TheVariants as acts
-use Rattle.papaya_histories.specs.Given.Executor.IsAt.{Scene, IsAt}
-use Rattle.papaya_histories.specs.Given.Executor.Making.{MakingLeads}
-use Rattle.papaya_histories.specs.Given.Executor.declared.executor.Executor.{Executor}
-use Rattle.papaya_histories.specs.Given.Finishes.Makings.{Beginning}
-use Rattle.papaya_histories.specs.Given.Follows.Shows.{Shows}
-use Rattle.papaya_histories.specs.Given.Others.Makings.{NotesCounter, making_after}
-use Rattle.papaya_owes.specs.Tables.{ShowsTables}
+use Rattle.papaya_legal.specs.Given.Seize.declared.progress.Progress.{Progress}
+use Rattle.papaya_legal.specs.Given.Tables.declared.setting.Setting.{Setting}
+use Rattle.papaya_legal.specs.Given.Runs.Runs.{map_fault}
+use Rattle.papaya_legal.specs.Given.Schedules.Effects.{AtEachEffect, with_effects}
+use Rattle.papaya_legal.specs.Given.Schedules.Handing.{is_first_making}
+use Rattle.papaya_legal.specs.Given.Schedules.Lives.{EventFinds}
+use Rattle.papaya_legal.specs.Given.Schedules.Moment.{MapThere, Moment}
+use Rattle.papaya_legal.specs.Given.Schedules.Views.{map_at, tables_of}
+use Rattle.papaya_legal.specs.Given.Effects.Effects.{effects_of, known_after}
+use Rattle.papaya_legal.specs.Given.Effects.Known.{Known}
+use Rattle.papaya_legal.specs.Given.Effects.declared.acting.Acting.TheVariants as acts
+use Rattle.papaya_legal.specs.Given.Executor.IsAt.{Scene, IsAt}
+use Rattle.papaya_legal.specs.Given.Executor.Making.{MakingLeads}
+use Rattle.papaya_legal.specs.Given.Executor.declared.executor.Executor.{Executor}
+use Rattle.papaya_legal.specs.Given.Finishes.Makings.{Beginning}
+use Rattle.papaya_legal.specs.Given.Follows.Shows.{Shows}
+use Rattle.papaya_legal.specs.Given.Others.Makings.{NotesCounter, making_after}
+use Rattle.papaya_legal.specs.Given.Owes.Tables.{ShowsTables}
 use Rattle.papaya_works.specs.Firsts.{ShowsOpenings}
-use Rattle.papaya_named.specs.Places.{first_places}
+use Rattle.papaya_legal.specs.Given.Named.Places.{first_places}
 
 module _ (K V S : Type 0) (same : K → K → Bool) (hash : K → ℕ) where
   -- The promise: a step of the making of a map does nothing else, if its counter is noted.

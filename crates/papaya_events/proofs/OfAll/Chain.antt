@@ -1,25 +1,25 @@
 -- The steps by which all was reclaimed are a chain of steps from the scene in which that began.
 use Rattle.std.specs.Prelude.{◌≡◌, ◌++◌, ℕ, zero, suc, Bool, true, false, List, None, option_map}
 use Rattle.std.proofs.Common.{refl, ap, subst, ◌∙◌}
-use Rattle.papaya_histories.specs.Given.Seize.declared.rows.reclaim_all.ReclaimAll.{ReclaimAll}
-use Rattle.papaya_histories.specs.Given.Seize.declared.rows.settle.Settled.{Settled}
-use Rattle.papaya_histories.specs.Given.Seize.declared.rows.settle.Settled.TheVariants as settled
-use Rattle.papaya_histories.specs.Given.Tables.declared.node.Node.{Node}
-use Rattle.papaya_histories.specs.Given.Effects.Effects.{effects_of, known_after}
-use Rattle.papaya_histories.specs.Given.Effects.declared.acting.Acting.TheVariants as acts
-use Rattle.papaya_histories.specs.Given.Executor.IsAt.{Scene, IsAt}
-use Rattle.papaya_schedules.specs.declared.effect.Effect.{Effect}
-use Rattle.papaya_schedules.specs.Effects.{with_effects}
-use Rattle.papaya_schedules.specs.Moment.{Moment}
-use Rattle.papaya_schedules.specs.Terms.{Terms}
-use Rattle.papaya_effects.specs.Known.{known}
-use Rattle.papaya_reclaims.specs.Reclaims.{AllIsReclaimed}
-use Rattle.papaya_reclaiming.specs.Reclaiming.{IsReclaiming, ReclaimingComesTo, ReclaimingLeads}
-use Rattle.papaya_logged.specs.Ends.{is_done}
-use Rattle.papaya_logged.specs.Goes.{Far, GoesFor, ReclaimingGoes, ReclaimingOn}
-use Rattle.papaya_logged.proofs.ReclaimsRun.{same_setting}
-use Rattle.papaya_legal.specs.AllEvents.{AllCome, AllSteps, scene_in}
-use Rattle.papaya_legal.specs.Chains.{Chain, Come}
+use Rattle.papaya_folded.specs.Given.Seize.declared.rows.reclaim_all.ReclaimAll.{ReclaimAll}
+use Rattle.papaya_folded.specs.Given.Seize.declared.rows.settle.Settled.{Settled}
+use Rattle.papaya_folded.specs.Given.Seize.declared.rows.settle.Settled.TheVariants as settled
+use Rattle.papaya_folded.specs.Given.Tables.declared.node.Node.{Node}
+use Rattle.papaya_folded.specs.Given.Effects.Effects.{effects_of, known_after}
+use Rattle.papaya_folded.specs.Given.Effects.declared.acting.Acting.TheVariants as acts
+use Rattle.papaya_folded.specs.Given.Executor.IsAt.{Scene, IsAt}
+use Rattle.papaya_folded.specs.Given.Schedules.declared.effect.Effect.{Effect}
+use Rattle.papaya_folded.specs.Given.Schedules.Effects.{with_effects}
+use Rattle.papaya_folded.specs.Given.Schedules.Moment.{Moment}
+use Rattle.papaya_folded.specs.Given.Schedules.Terms.{Terms}
+use Rattle.papaya_folded.specs.Given.Effects.Known.{known}
+use Rattle.papaya_folded.specs.Given.Reclaims.Reclaims.{AllIsReclaimed}
+use Rattle.papaya_folded.specs.Given.Reclaiming.Reclaiming.{IsReclaiming, ReclaimingComesTo, ReclaimingLeads}
+use Rattle.papaya_folded.specs.Given.Logged.Ends.{is_done}
+use Rattle.papaya_folded.specs.Given.Logged.Goes.{Far, GoesFor, ReclaimingGoes, ReclaimingOn}
+use Rattle.papaya_folded.proofs.Given.Logged.ReclaimsRun.{same_setting}
+use Rattle.papaya_folded.specs.Given.Legal.AllEvents.{AllCome, AllSteps, scene_in}
+use Rattle.papaya_folded.specs.Given.Legal.Chains.{Chain, Come}
 use Rattle.papaya_events.proofs.OfRows.Chain.{come_as, come_by}
 
 module _ {K V S : Type 0} where

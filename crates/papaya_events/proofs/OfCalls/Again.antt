@@ -2,31 +2,31 @@
 use Rattle.std.specs.Prelude.{◌≡◌, ◌≤◌, ℕ, Bool, true, false, cond, List, [], ◌∷◌, filter, find, length, map, position, Some}
 use Rattle.std.specs.List.{AllByRecursion}
 use Rattle.std.proofs.Common.{refl, ap, sym, subst, ◌∙◌, arith}
-use Rattle.papaya_histories.specs.Given.Raw.Machine.{machine_asked}
-use Rattle.papaya_histories.specs.Given.Runs.Same.{is_same}
-use Rattle.papaya_histories.specs.Given.Schedules.declared.event.Event.{Event}
-use Rattle.papaya_histories.specs.Given.Schedules.declared.outcome.Outcome.{Outcome}
-use Rattle.papaya_histories.specs.Given.Schedules.declared.outcome.Outcome.TheVariants.{Asks, Ready}
-use Rattle.papaya_histories.specs.Given.Schedules.After.{moment, slots_on}
-use Rattle.papaya_histories.specs.Given.Schedules.Entry.{Entry}
-use Rattle.papaya_histories.specs.Given.Schedules.InTurn.{ComesRight}
-use Rattle.papaya_histories.specs.Given.Schedules.Moment.{UnderWay as CallThere, Stands}
-use Rattle.papaya_histories.specs.Given.Schedules.Terms.{Terms}
-use Rattle.papaya_histories.specs.Given.Schedules.Views.{call_of}
-use Rattle.papaya_histories.specs.Given.Effects.Known.{known}
-use Rattle.papaya_histories.specs.Given.Finishes.Machines.{machine_of}
-use Rattle.papaya_histories.specs.Given.Schedules.Moment.{Moment}
-use Rattle.papaya_histories.specs.Given.Schedules.After.{after}
-use Rattle.papaya_histories.specs.Given.Schedules.declared.event.Event.TheVariants.{Go, Step}
-use Rattle.papaya_legal.specs.CallEvents.{IsLegalBut}
-use Rattle.papaya_legal.specs.Carried.{ShowsRun}
-use Rattle.papaya_legal.specs.Over.{GoesOnBy, IsSaidSo}
-use Rattle.papaya_legal.proofs.Again.{again_events_end}
-use Rattle.papaya_named.specs.Machines.{IsAsFar}
-use Rattle.papaya_named.specs.Seen.{Seen, far_of, is_named, seen, seen_of}
-use Rattle.papaya_named.specs.declared.caller.Caller.{Caller}
-use Rattle.papaya_named.specs.declared.caller.Stands.{Stands as HowFar}
-use Rattle.papaya_named.specs.declared.caller.Stands.TheVariants as far
+use Rattle.papaya_folded.specs.Given.Raw.Machine.{machine_asked}
+use Rattle.papaya_folded.specs.Given.Runs.Same.{is_same}
+use Rattle.papaya_folded.specs.Given.Schedules.declared.event.Event.{Event}
+use Rattle.papaya_folded.specs.Given.Schedules.declared.outcome.Outcome.{Outcome}
+use Rattle.papaya_folded.specs.Given.Schedules.declared.outcome.Outcome.TheVariants.{Asks, Ready}
+use Rattle.papaya_folded.specs.Given.Schedules.After.{moment, slots_on}
+use Rattle.papaya_folded.specs.Given.Schedules.Entry.{Entry}
+use Rattle.papaya_folded.specs.Given.Schedules.InTurn.{ComesRight}
+use Rattle.papaya_folded.specs.Given.Schedules.Moment.{UnderWay as CallThere, Stands}
+use Rattle.papaya_folded.specs.Given.Schedules.Terms.{Terms}
+use Rattle.papaya_folded.specs.Given.Schedules.Views.{call_of}
+use Rattle.papaya_folded.specs.Given.Effects.Known.{known}
+use Rattle.papaya_folded.specs.Given.Finishes.Machines.{machine_of}
+use Rattle.papaya_folded.specs.Given.Schedules.Moment.{Moment}
+use Rattle.papaya_folded.specs.Given.Schedules.After.{after}
+use Rattle.papaya_folded.specs.Given.Schedules.declared.event.Event.TheVariants.{Go, Step}
+use Rattle.papaya_folded.specs.Given.Legal.CallEvents.{IsLegalBut}
+use Rattle.papaya_folded.specs.Given.Legal.Carried.{ShowsRun}
+use Rattle.papaya_folded.specs.Given.Legal.Over.{GoesOnBy, IsSaidSo}
+use Rattle.papaya_folded.proofs.Given.Legal.Again.{again_events_end}
+use Rattle.papaya_folded.specs.Given.Named.Machines.{IsAsFar}
+use Rattle.papaya_folded.specs.Given.Named.Seen.{Seen, far_of, is_named, seen, seen_of}
+use Rattle.papaya_folded.specs.Given.Named.declared.caller.Caller.{Caller}
+use Rattle.papaya_folded.specs.Given.Named.declared.caller.Stands.{Stands as HowFar}
+use Rattle.papaya_folded.specs.Given.Named.declared.caller.Stands.TheVariants as far
 use Rattle.papaya_scheduler.specs.Played.{IsPlayed, entry_of}
 use Rattle.papaya_scheduler.specs.declared.played.Played.{Played}
 use Rattle.papaya_scheduler.specs.declared.scheduler.Scheduler.{Scheduler}

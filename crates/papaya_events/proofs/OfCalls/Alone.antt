@@ -3,28 +3,28 @@ use Rattle.std.specs.Prelude.{◌≡◌, ◌≢◌, ◌<◌, ◌≤◌, ◌^◌,
 use Rattle.std.specs.List.{AllByRecursion, list_all, list_any}
 use Rattle.std.proofs.Common.{refl, ap, sym, subst, ◌∙◌, inl, inr}
 use Rattle.std.proofs.lemmas.Bool.{eqb-true}
-use Rattle.papaya_histories.specs.Given.SeizeWaiting.Held.{count}
-use Rattle.papaya_histories.specs.Given.Seize.World.{IsInside, Rests, Use}
-use Rattle.papaya_histories.specs.Given.Runs.Present.{guard_of, living_slot}
-use Rattle.papaya_histories.specs.Given.Runs.Same.{is_same}
-use Rattle.papaya_histories.specs.Given.Schedules.declared.event.Event.{Event}
-use Rattle.papaya_histories.specs.Given.Schedules.After.{is_by, moment}
-use Rattle.papaya_histories.specs.Given.Schedules.Entry.{Entry, speaker}
-use Rattle.papaya_histories.specs.Given.Schedules.Model.{sets_in}
-use Rattle.papaya_histories.specs.Given.Schedules.Terms.{Terms}
-use Rattle.papaya_histories.specs.Given.Callers.Together.{UnderWay}
-use Rattle.papaya_histories.specs.Given.Effects.Known.{known}
-use Rattle.papaya_histories.specs.Given.Executor.IsAt.{IsUsedAs, slot_of}
-use Rattle.papaya_histories.specs.Given.Executor.declared.row.SlotUse.{SlotUse}
-use Rattle.papaya_histories.specs.Given.Executor.declared.row.SlotUse.TheVariants as used
-use Rattle.papaya_models.proofs.Quiet.{insides_follow}
-use Rattle.papaya_legal.specs.Carried.{ComesAlone, FollowsOrRows}
-use Rattle.papaya_rows.proofs.Facts.{row_rests}
-use Rattle.papaya_rows.proofs.Lists.{all_alike, one_of}
-use Rattle.papaya_rows.proofs.There.{is_inside, on_its_slot}
+use Rattle.papaya_folded.specs.Given.SeizeWaiting.Held.{count}
+use Rattle.papaya_folded.specs.Given.Seize.World.{IsInside, Rests, Use}
+use Rattle.papaya_folded.specs.Given.Runs.Present.{guard_of, living_slot}
+use Rattle.papaya_folded.specs.Given.Runs.Same.{is_same}
+use Rattle.papaya_folded.specs.Given.Schedules.declared.event.Event.{Event}
+use Rattle.papaya_folded.specs.Given.Schedules.After.{is_by, moment}
+use Rattle.papaya_folded.specs.Given.Schedules.Entry.{Entry, speaker}
+use Rattle.papaya_folded.specs.Given.Schedules.Model.{sets_in}
+use Rattle.papaya_folded.specs.Given.Schedules.Terms.{Terms}
+use Rattle.papaya_folded.specs.Given.Callers.Together.{UnderWay}
+use Rattle.papaya_folded.specs.Given.Effects.Known.{known}
+use Rattle.papaya_folded.specs.Given.Executor.IsAt.{IsUsedAs, slot_of}
+use Rattle.papaya_folded.specs.Given.Executor.declared.row.SlotUse.{SlotUse}
+use Rattle.papaya_folded.specs.Given.Executor.declared.row.SlotUse.TheVariants as used
+use Rattle.papaya_folded.proofs.Given.Models.Quiet.{insides_follow}
+use Rattle.papaya_folded.specs.Given.Legal.Carried.{ComesAlone, FollowsOrRows}
+use Rattle.papaya_folded.proofs.Given.Rows.Facts.{row_rests}
+use Rattle.papaya_folded.proofs.Given.Rows.Lists.{all_alike, one_of}
+use Rattle.papaya_folded.proofs.Given.Rows.There.{is_inside, on_its_slot}
 use Rattle.papaya_scheduler.specs.Played.{IsPlayed, IsUnderWay}
-use Rattle.papaya_named.specs.Seen.{Seen, is_named, seen, seen_of}
-use Rattle.papaya_named.specs.declared.caller.Caller.{Caller}
+use Rattle.papaya_folded.specs.Given.Named.Seen.{Seen, is_named, seen, seen_of}
+use Rattle.papaya_folded.specs.Given.Named.declared.caller.Caller.{Caller}
 use Rattle.papaya_scheduler.specs.declared.scheduler.Scheduler.{Scheduler}
 use Rattle.papaya_events.proofs.OfCalls.InRows.{insides_follow_in_rows}
 

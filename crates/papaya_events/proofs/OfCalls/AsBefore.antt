@@ -1,23 +1,23 @@
 -- An event after which executor, notes and callers are as they were: the run goes on with it, in the same scene, if it is legal.
 use Rattle.std.specs.Prelude.{◌≡◌, ℕ, Bool, List, [], ◌∷◌}
 use Rattle.std.proofs.Common.{ap, refl, subst, sym, ◌∙◌}
-use Rattle.papaya_histories.specs.Given.Schedules.After.{moment, slots_on}
-use Rattle.papaya_histories.specs.Given.Schedules.Entry.{Entry}
-use Rattle.papaya_histories.specs.Given.Schedules.InTurn.{ComesRight}
-use Rattle.papaya_histories.specs.Given.Schedules.Terms.{Terms}
-use Rattle.papaya_histories.specs.Given.Effects.Known.{known}
-use Rattle.papaya_histories.specs.Given.Executor.IsAt.{IsAt}
-use Rattle.papaya_histories.specs.Given.Seize.World.{SlotsTaken}
-use Rattle.papaya_histories.specs.Given.Moments.Whole.{ShowsWhole}
-use Rattle.papaya_kept.specs.Kept.{ShowsKept}
-use Rattle.papaya_legal.proofs.Come.{events_bring_things}
-use Rattle.papaya_legal.specs.CallEvents.{IsLegalBut}
-use Rattle.papaya_legal.specs.Carried.{ShowsRun}
-use Rattle.papaya_reclaims.specs.Left.{LeftAmong}
-use Rattle.papaya_logged.specs.Shown.{IsShown}
-use Rattle.papaya_logged.specs.declared.logged.Logged.{Logged}
+use Rattle.papaya_folded.specs.Given.Schedules.After.{moment, slots_on}
+use Rattle.papaya_folded.specs.Given.Schedules.Entry.{Entry}
+use Rattle.papaya_folded.specs.Given.Schedules.InTurn.{ComesRight}
+use Rattle.papaya_folded.specs.Given.Schedules.Terms.{Terms}
+use Rattle.papaya_folded.specs.Given.Effects.Known.{known}
+use Rattle.papaya_folded.specs.Given.Executor.IsAt.{IsAt}
+use Rattle.papaya_folded.specs.Given.Seize.World.{SlotsTaken}
+use Rattle.papaya_folded.specs.Given.Moments.Whole.{ShowsWhole}
+use Rattle.papaya_folded.specs.Given.Kept.Kept.{ShowsKept}
+use Rattle.papaya_folded.proofs.Given.Legal.Come.{events_bring_things}
+use Rattle.papaya_folded.specs.Given.Legal.CallEvents.{IsLegalBut}
+use Rattle.papaya_folded.specs.Given.Legal.Carried.{ShowsRun}
+use Rattle.papaya_folded.specs.Given.Reclaims.Left.{LeftAmong}
+use Rattle.papaya_folded.specs.Given.Logged.Shown.{IsShown}
+use Rattle.papaya_folded.specs.Given.Logged.declared.logged.Logged.{Logged}
 use Rattle.papaya_scheduler.specs.Played.{IsPlayed}
-use Rattle.papaya_named.specs.declared.caller.Callers.{Callers}
+use Rattle.papaya_folded.specs.Given.Named.declared.caller.Callers.{Callers}
 use Rattle.papaya_scheduler.specs.declared.scheduler.Scheduler.{Scheduler}
 use Rattle.papaya_folded.proofs.Steps.{idle_in_order}
 use Rattle.papaya_events.proofs.OfCalls.Worth.{SaidIn, have_values_then}

@@ -2,50 +2,50 @@
 use Rattle.std.specs.Prelude.{◌≡◌, ◌⊎◌, ◌≤◌, ◌+◌, ℕ, suc, Bool, true, List, [], ◌∷◌, not, ◌||◌, Option, Some}
 use Rattle.std.specs.List.{list_any}
 use Rattle.std.proofs.Common.{refl, ap, sym, subst, ◌∙◌, arith}
-use Rattle.papaya_histories.specs.Given.SeizeWaiting.Held.{count}
-use Rattle.papaya_histories.specs.Given.SeizeWords.declared.fault.Fault.TheVariants.{Busy}
-use Rattle.papaya_histories.specs.Given.Seize.World.{SlotsTaken}
-use Rattle.papaya_histories.specs.Given.Tables.declared.node.Node.{Node}
-use Rattle.papaya_histories.specs.Given.Raw.declared.machines.progress.Progress.{Progress as Told}
-use Rattle.papaya_histories.specs.Given.Raw.declared.machines.progress.Progress.TheVariants as told
-use Rattle.papaya_histories.specs.Given.Schedules.declared.effect.Effect.{Effect}
-use Rattle.papaya_histories.specs.Given.Schedules.declared.event.Event.{Event}
-use Rattle.papaya_histories.specs.Given.Schedules.declared.outcome.Outcome.{Outcome}
-use Rattle.papaya_histories.specs.Given.Schedules.declared.outcome.Outcome.TheVariants.{Refused}
-use Rattle.papaya_histories.specs.Given.Schedules.After.{moment, moments_from, slots_on}
-use Rattle.papaya_histories.specs.Given.Schedules.Beginning.{at_work}
-use Rattle.papaya_histories.specs.Given.Schedules.Entry.{Entry, acted_on}
-use Rattle.papaya_histories.specs.Given.Schedules.Handing.{is_made, refuses}
-use Rattle.papaya_histories.specs.Given.Schedules.InTurn.{ComesRight}
-use Rattle.papaya_histories.specs.Given.Schedules.Model.{sets_in, things_in}
-use Rattle.papaya_histories.specs.Given.Schedules.Moment.{UnderWay as CallThere, Moment}
-use Rattle.papaya_histories.specs.Given.Schedules.Sweeps.{IsSwept}
-use Rattle.papaya_histories.specs.Given.Schedules.Terms.{Terms, shards_of}
-use Rattle.papaya_histories.specs.Given.Schedules.Views.{call_of}
-use Rattle.papaya_histories.specs.Given.Effects.Known.{Known, known}
-use Rattle.papaya_histories.specs.Given.Effects.declared.acting.Acting.TheVariants as acts
-use Rattle.papaya_histories.specs.Given.Executor.IsAt.{Scene, slot_of}
-use Rattle.papaya_histories.specs.Given.Finishes.Maps.{Standing}
-use Rattle.papaya_histories.specs.InEvent.{ComesSo}
-use Rattle.papaya_histories.specs.Given.Finishes.Machines.{machine_of}
-use Rattle.papaya_models.specs.CallEvents.{slot_of_call}
-use Rattle.papaya_finds.specs.Doing.{takes_steps}
-use Rattle.papaya_finds.specs.Parts.{FindAll}
-use Rattle.papaya_legal.specs.Noted.{HaveCome}
-use Rattle.papaya_legal.proofs.Come.{events_bring_things}
-use Rattle.papaya_legal.specs.CallEvents.{IsLegalBut}
-use Rattle.papaya_legal.specs.CallRuns.{ShowsAsTold, TellsEnd}
-use Rattle.papaya_legal.specs.CallSwept.{TellsOf}
-use Rattle.papaya_legal.specs.Carried.{ComesAlone, ShowsRun}
-use Rattle.papaya_legal.proofs.CallRuns.{call_events_run}
-use Rattle.papaya_legal.proofs.CallSwept.{calls_are_swept}
-use Rattle.papaya_remains.specs.Remains.{ShowsRemains}
-use Rattle.papaya_remains.proofs.Slots.{buckets_grow}
-use Rattle.papaya_logged.specs.Shown.{IsShown}
+use Rattle.papaya_folded.specs.Given.SeizeWaiting.Held.{count}
+use Rattle.papaya_folded.specs.Given.SeizeWords.declared.fault.Fault.TheVariants.{Busy}
+use Rattle.papaya_folded.specs.Given.Seize.World.{SlotsTaken}
+use Rattle.papaya_folded.specs.Given.Tables.declared.node.Node.{Node}
+use Rattle.papaya_folded.specs.Given.Raw.declared.machines.progress.Progress.{Progress as Told}
+use Rattle.papaya_folded.specs.Given.Raw.declared.machines.progress.Progress.TheVariants as told
+use Rattle.papaya_folded.specs.Given.Schedules.declared.effect.Effect.{Effect}
+use Rattle.papaya_folded.specs.Given.Schedules.declared.event.Event.{Event}
+use Rattle.papaya_folded.specs.Given.Schedules.declared.outcome.Outcome.{Outcome}
+use Rattle.papaya_folded.specs.Given.Schedules.declared.outcome.Outcome.TheVariants.{Refused}
+use Rattle.papaya_folded.specs.Given.Schedules.After.{moment, moments_from, slots_on}
+use Rattle.papaya_folded.specs.Given.Schedules.Beginning.{at_work}
+use Rattle.papaya_folded.specs.Given.Schedules.Entry.{Entry, acted_on}
+use Rattle.papaya_folded.specs.Given.Schedules.Handing.{is_made, refuses}
+use Rattle.papaya_folded.specs.Given.Schedules.InTurn.{ComesRight}
+use Rattle.papaya_folded.specs.Given.Schedules.Model.{sets_in, things_in}
+use Rattle.papaya_folded.specs.Given.Schedules.Moment.{UnderWay as CallThere, Moment}
+use Rattle.papaya_folded.specs.Given.Schedules.Sweeps.{IsSwept}
+use Rattle.papaya_folded.specs.Given.Schedules.Terms.{Terms, shards_of}
+use Rattle.papaya_folded.specs.Given.Schedules.Views.{call_of}
+use Rattle.papaya_folded.specs.Given.Effects.Known.{Known, known}
+use Rattle.papaya_folded.specs.Given.Effects.declared.acting.Acting.TheVariants as acts
+use Rattle.papaya_folded.specs.Given.Executor.IsAt.{Scene, slot_of}
+use Rattle.papaya_folded.specs.Given.Finishes.Maps.{Standing}
+use Rattle.papaya_folded.specs.Given.Histories.InEvent.{ComesSo}
+use Rattle.papaya_folded.specs.Given.Finishes.Machines.{machine_of}
+use Rattle.papaya_folded.specs.Given.Models.CallEvents.{slot_of_call}
+use Rattle.papaya_folded.specs.Given.Finds.Doing.{takes_steps}
+use Rattle.papaya_folded.specs.Given.Finds.Parts.{FindAll}
+use Rattle.papaya_folded.specs.Given.Legal.Noted.{HaveCome}
+use Rattle.papaya_folded.proofs.Given.Legal.Come.{events_bring_things}
+use Rattle.papaya_folded.specs.Given.Legal.CallEvents.{IsLegalBut}
+use Rattle.papaya_folded.specs.Given.Legal.CallRuns.{ShowsAsTold, TellsEnd}
+use Rattle.papaya_folded.specs.Given.Legal.CallSwept.{TellsOf}
+use Rattle.papaya_folded.specs.Given.Legal.Carried.{ComesAlone, ShowsRun}
+use Rattle.papaya_folded.proofs.Given.Legal.CallRuns.{call_events_run}
+use Rattle.papaya_folded.proofs.Given.Legal.CallSwept.{calls_are_swept}
+use Rattle.papaya_folded.specs.Given.Remains.Remains.{ShowsRemains}
+use Rattle.papaya_folded.proofs.Given.Remains.Slots.{buckets_grow}
+use Rattle.papaya_folded.specs.Given.Logged.Shown.{IsShown}
 use Rattle.papaya_scheduler.specs.Played.{IsPlayed, entry_of}
-use Rattle.papaya_named.specs.Seen.{kind_of}
-use Rattle.papaya_named.specs.declared.caller.Caller.{Caller}
-use Rattle.papaya_named.specs.declared.kind.Kind.{Kind}
+use Rattle.papaya_folded.specs.Given.Named.Seen.{kind_of}
+use Rattle.papaya_folded.specs.Given.Named.declared.caller.Caller.{Caller}
+use Rattle.papaya_folded.specs.Given.Named.declared.kind.Kind.{Kind}
 use Rattle.papaya_scheduler.specs.declared.played.Played.{Played}
 use Rattle.papaya_scheduler.specs.declared.scheduler.Scheduler.{Scheduler}
 use Rattle.papaya_stepping.specs.Stepping.{ComesAs, IsStepped, outcome_of}

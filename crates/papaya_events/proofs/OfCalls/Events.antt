@@ -2,26 +2,26 @@
 use Rattle.std.specs.Prelude.{◌≡◌, ◌||◌, ℕ, Bool, true, false, not, List, [], ◌∷◌, position, Option, Some, None, if◌then◌else◌}
 use Rattle.std.specs.List.{list_any}
 use Rattle.std.proofs.Common.{refl, ap, sym, subst, ◌∙◌}
-use Rattle.papaya_histories.specs.Given.SeizeWords.declared.fault.Fault.TheVariants.{Busy}
-use Rattle.papaya_runs.specs.Stopped.{most_steps}
-use Rattle.papaya_schedules.specs.declared.call.Call.{Call}
-use Rattle.papaya_schedules.specs.declared.call.Reply.{Reply}
-use Rattle.papaya_schedules.specs.declared.event.Event.{Event}
-use Rattle.papaya_schedules.specs.declared.event.Event.TheVariants.{Begin, Go, Next, OneCall, Replied, Step, Stop}
-use Rattle.papaya_schedules.specs.declared.outcome.Outcome.TheVariants.{Asks, Goes, Ready, Refused}
-use Rattle.papaya_schedules.specs.After.{moment}
-use Rattle.papaya_schedules.specs.Beginning.{with_call}
-use Rattle.papaya_schedules.specs.Entry.{Entry, nameless}
-use Rattle.papaya_schedules.specs.Handing.{is_made}
-use Rattle.papaya_schedules.specs.InTurn.{ComesRight, ComesTo}
-use Rattle.papaya_schedules.specs.Terms.{Terms}
-use Rattle.papaya_schedules.specs.Views.{number_of}
-use Rattle.papaya_legal.specs.Over.{GoesOnBy}
-use Rattle.papaya_logged.specs.Calling.{MakesNoMore}
+use Rattle.papaya_folded.specs.Given.SeizeWords.declared.fault.Fault.TheVariants.{Busy}
+use Rattle.papaya_folded.specs.Given.Runs.Stopped.{most_steps}
+use Rattle.papaya_folded.specs.Given.Schedules.declared.call.Call.{Call}
+use Rattle.papaya_folded.specs.Given.Schedules.declared.call.Reply.{Reply}
+use Rattle.papaya_folded.specs.Given.Schedules.declared.event.Event.{Event}
+use Rattle.papaya_folded.specs.Given.Schedules.declared.event.Event.TheVariants.{Begin, Go, Next, OneCall, Replied, Step, Stop}
+use Rattle.papaya_folded.specs.Given.Schedules.declared.outcome.Outcome.TheVariants.{Asks, Goes, Ready, Refused}
+use Rattle.papaya_folded.specs.Given.Schedules.After.{moment}
+use Rattle.papaya_folded.specs.Given.Schedules.Beginning.{with_call}
+use Rattle.papaya_folded.specs.Given.Schedules.Entry.{Entry, nameless}
+use Rattle.papaya_folded.specs.Given.Schedules.Handing.{is_made}
+use Rattle.papaya_folded.specs.Given.Schedules.InTurn.{ComesRight, ComesTo}
+use Rattle.papaya_folded.specs.Given.Schedules.Terms.{Terms}
+use Rattle.papaya_folded.specs.Given.Schedules.Views.{number_of}
+use Rattle.papaya_folded.specs.Given.Legal.Over.{GoesOnBy}
+use Rattle.papaya_folded.specs.Given.Logged.Calling.{MakesNoMore}
 use Rattle.papaya_scheduler.specs.Played.{Began, BeginsSo, HasBegun, IsPlayed, StandsFor, entry_of}
-use Rattle.papaya_named.specs.Seen.{is_named, ready_place}
-use Rattle.papaya_named.specs.declared.caller.Stands.{Stands as HowFar}
-use Rattle.papaya_named.specs.declared.caller.Stands.TheVariants as far
+use Rattle.papaya_folded.specs.Given.Named.Seen.{is_named, ready_place}
+use Rattle.papaya_folded.specs.Given.Named.declared.caller.Stands.{Stands as HowFar}
+use Rattle.papaya_folded.specs.Given.Named.declared.caller.Stands.TheVariants as far
 use Rattle.papaya_scheduler.specs.declared.played.Played.{Played}
 use Rattle.papaya_scheduler.specs.declared.scheduler.Scheduler.{Scheduler}
 use Rattle.papaya_scheduler.proofs.Here.{Here, here_at}

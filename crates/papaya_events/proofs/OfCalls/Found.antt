@@ -1,37 +1,37 @@
 -- The effects of the steps of a call find what they must, if what is still asked is so of all of them.
 use Rattle.std.specs.Prelude.{◌≡◌, ◌+◌, ℕ, Bool, false, zero, suc, List, [], ◌∷◌, ◌++◌, map as list_map, Option, Some, option_map}
 use Rattle.std.proofs.Common.{ap, sym, subst, ◌∙◌, inl, inr}
-use Rattle.papaya_histories.specs.Given.Resize.declared.new_table.NewTable.{NewTable}
-use Rattle.papaya_histories.specs.Given.Runs.Same.{is_same}
-use Rattle.papaya_histories.specs.Given.Schedules.declared.call.Call.TheVariants as calls
-use Rattle.papaya_histories.specs.Given.Schedules.declared.effect.Effect.{Effect}
-use Rattle.papaya_histories.specs.Given.Schedules.declared.event.Event.{Event}
-use Rattle.papaya_histories.specs.Given.Schedules.After.{moments_from}
-use Rattle.papaya_histories.specs.Given.Schedules.Growing.{HasNext}
-use Rattle.papaya_histories.specs.Given.Schedules.Lists.{OneOf}
-use Rattle.papaya_histories.specs.Given.Schedules.Entry.{Entry}
-use Rattle.papaya_histories.specs.Given.Schedules.Moment.{UnderWay as CallThere, Moment}
-use Rattle.papaya_histories.specs.Given.Schedules.Terms.{Terms, shards_of}
-use Rattle.papaya_histories.specs.Given.Schedules.Views.{call_of}
-use Rattle.papaya_histories.specs.Given.Effects.Known.{known}
-use Rattle.papaya_histories.specs.Given.Finishes.Machines.{machine_of}
-use Rattle.papaya_histories.specs.Given.Finishes.Maps.{Standing}
-use Rattle.papaya_histories.specs.Given.Follows.Calls.{IsCalled}
-use Rattle.papaya_histories.proofs.Begun.{effects_begun}
-use Rattle.papaya_finds.specs.Nexts.{making_of_copier}
-use Rattle.papaya_finds.specs.Parts.{FindAll, FindRest}
-use Rattle.papaya_finds.proofs.Joined.{several_find_all}
-use Rattle.papaya_histories.specs.Given.Schedules.Lives.{Finds}
-use Rattle.papaya_finds.specs.Life.{StoresOne}
-use Rattle.papaya_finds.specs.Within.{ActsOn, AllIsInOrder}
-use Rattle.papaya_finds.proofs.Over.{both_at}
-use Rattle.papaya_finds.proofs.Runs.{life_keeps_order}
-use Rattle.papaya_grows.specs.Nexts.{MayFollow}
-use Rattle.papaya_legal.proofs.CallFinds.{steps_find_all}
-use Rattle.papaya_grows.proofs.Finding.Links.{such_of_making}
-use Rattle.papaya_grows.proofs.Finding.Rest.{steps_find_rest}
-use Rattle.papaya_named.specs.Seen.{Seen, seen}
-use Rattle.papaya_rows.proofs.Lists.{both_some, found_alike}
+use Rattle.papaya_folded.specs.Given.Resize.declared.new_table.NewTable.{NewTable}
+use Rattle.papaya_folded.specs.Given.Runs.Same.{is_same}
+use Rattle.papaya_folded.specs.Given.Schedules.declared.call.Call.TheVariants as calls
+use Rattle.papaya_folded.specs.Given.Schedules.declared.effect.Effect.{Effect}
+use Rattle.papaya_folded.specs.Given.Schedules.declared.event.Event.{Event}
+use Rattle.papaya_folded.specs.Given.Schedules.After.{moments_from}
+use Rattle.papaya_folded.specs.Given.Schedules.Growing.{HasNext}
+use Rattle.papaya_folded.specs.Given.Schedules.Lists.{OneOf}
+use Rattle.papaya_folded.specs.Given.Schedules.Entry.{Entry}
+use Rattle.papaya_folded.specs.Given.Schedules.Moment.{UnderWay as CallThere, Moment}
+use Rattle.papaya_folded.specs.Given.Schedules.Terms.{Terms, shards_of}
+use Rattle.papaya_folded.specs.Given.Schedules.Views.{call_of}
+use Rattle.papaya_folded.specs.Given.Effects.Known.{known}
+use Rattle.papaya_folded.specs.Given.Finishes.Machines.{machine_of}
+use Rattle.papaya_folded.specs.Given.Finishes.Maps.{Standing}
+use Rattle.papaya_folded.specs.Given.Follows.Calls.{IsCalled}
+use Rattle.papaya_folded.proofs.Given.Histories.Begun.{effects_begun}
+use Rattle.papaya_folded.specs.Given.Finds.Nexts.{making_of_copier}
+use Rattle.papaya_folded.specs.Given.Finds.Parts.{FindAll, FindRest}
+use Rattle.papaya_folded.proofs.Given.Finds.Joined.{several_find_all}
+use Rattle.papaya_folded.specs.Given.Schedules.Lives.{Finds}
+use Rattle.papaya_folded.specs.Given.Finds.Life.{StoresOne}
+use Rattle.papaya_folded.specs.Given.Finds.Within.{ActsOn, AllIsInOrder}
+use Rattle.papaya_folded.proofs.Given.Finds.Over.{both_at}
+use Rattle.papaya_folded.proofs.Given.Finds.Runs.{life_keeps_order}
+use Rattle.papaya_folded.specs.Given.Grows.Nexts.{MayFollow}
+use Rattle.papaya_folded.proofs.Given.Legal.CallFinds.{steps_find_all}
+use Rattle.papaya_folded.proofs.Given.Grows.Finding.Links.{such_of_making}
+use Rattle.papaya_folded.proofs.Given.Grows.Finding.Rest.{steps_find_rest}
+use Rattle.papaya_folded.specs.Given.Named.Seen.{Seen, seen}
+use Rattle.papaya_folded.proofs.Given.Rows.Lists.{both_some, found_alike}
 use Rattle.papaya_scheduler.specs.declared.scheduler.Scheduler.{Scheduler}
 use Rattle.papaya_stepping.specs.Stepping.{GoneFor}
 use Rattle.papaya_stepping.proofs.AfterEffects.{calls_seen}

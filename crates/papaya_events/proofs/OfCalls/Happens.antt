@@ -1,21 +1,21 @@
 -- An event that is in turn, or kept out, keeps its promises, and the run goes on with it.
 use Rattle.std.specs.Prelude.{◌≡◌, ◌⊎◌, ℕ, Bool, true, false, List, [], ◌∷◌, Result, Ok, Err, IfOk, MatchBool}
 use Rattle.std.proofs.Common.{ap, sym, subst, inl, inr, ◌∙◌}
-use Rattle.seize_words.specs.declared.fault.Fault.TheVariants.{Busy}
-use Rattle.papaya_histories.specs.Given.Executor.IsAt.{KeepsGiven}
-use Rattle.papaya_runs.specs.Stopped.{most_steps}
-use Rattle.papaya_schedules.specs.declared.call.Call.{Call}
-use Rattle.papaya_schedules.specs.declared.call.Reply.{Reply}
-use Rattle.papaya_schedules.specs.declared.event.Event.{Event}
-use Rattle.papaya_schedules.specs.declared.event.Event.TheVariants as event
-use Rattle.papaya_schedules.specs.declared.outcome.Outcome.TheVariants.{Done, Goes, Refused}
-use Rattle.papaya_schedules.specs.After.{moment}
-use Rattle.papaya_schedules.specs.Coming.{fits_reply, shows_now}
-use Rattle.papaya_schedules.specs.Entry.{Entry}
-use Rattle.papaya_schedules.specs.InTurn.{ComesRight, ComesTo, IsKeptOut, is_kept_out}
-use Rattle.papaya_schedules.specs.Terms.{Terms}
-use Rattle.papaya_schedules.specs.Views.{call_of}
-use Rattle.papaya_logged.specs.Calling.{MakesNoMore}
+use Rattle.papaya_folded.specs.Given.SeizeWords.declared.fault.Fault.TheVariants.{Busy}
+use Rattle.papaya_folded.specs.Given.Executor.IsAt.{KeepsGiven}
+use Rattle.papaya_folded.specs.Given.Runs.Stopped.{most_steps}
+use Rattle.papaya_folded.specs.Given.Schedules.declared.call.Call.{Call}
+use Rattle.papaya_folded.specs.Given.Schedules.declared.call.Reply.{Reply}
+use Rattle.papaya_folded.specs.Given.Schedules.declared.event.Event.{Event}
+use Rattle.papaya_folded.specs.Given.Schedules.declared.event.Event.TheVariants as event
+use Rattle.papaya_folded.specs.Given.Schedules.declared.outcome.Outcome.TheVariants.{Done, Goes, Refused}
+use Rattle.papaya_folded.specs.Given.Schedules.After.{moment}
+use Rattle.papaya_folded.specs.Given.Schedules.Coming.{fits_reply, shows_now}
+use Rattle.papaya_folded.specs.Given.Schedules.Entry.{Entry}
+use Rattle.papaya_folded.specs.Given.Schedules.InTurn.{ComesRight, ComesTo, IsKeptOut, is_kept_out}
+use Rattle.papaya_folded.specs.Given.Schedules.Terms.{Terms}
+use Rattle.papaya_folded.specs.Given.Schedules.Views.{call_of}
+use Rattle.papaya_folded.specs.Given.Logged.Calling.{MakesNoMore}
 use Rattle.papaya_scheduler.specs.KeptOut.{PlaysKeptOut}
 use Rattle.papaya_scheduler.specs.Played.{Began, IsDue, IsPlayed, PlaysAt, Replies, Stops, entry_of}
 use Rattle.papaya_scheduler.specs.Quiet.{StaysBusy}

@@ -1,33 +1,33 @@
 -- An event of a call that is out of turn, or kept out, does nothing: it keeps its promises, and the run goes on with it.
 use Rattle.std.specs.Prelude.{◌≡◌, ◌+◌, ℕ, Bool, false, is_some, List, [], ◌∷◌, position, Option, Some, None}
 use Rattle.std.proofs.Common.{refl, ap, sym, subst, ◌∙◌, arith}
-use Rattle.papaya_histories.specs.Given.SeizeWords.declared.fault.Fault.TheVariants.{Busy}
-use Rattle.papaya_histories.specs.Given.Schedules.declared.event.Event.{Event}
-use Rattle.papaya_histories.specs.Given.Schedules.declared.outcome.Outcome.TheVariants.{Refused}
-use Rattle.papaya_histories.specs.Given.Schedules.After.{moment, moments_from}
-use Rattle.papaya_histories.specs.Given.Schedules.Effects.{worked}
-use Rattle.papaya_histories.specs.Given.Schedules.Entry.{Entry, IfCall, acting, caller_of}
-use Rattle.papaya_histories.specs.Given.Schedules.Handing.{IsWhole}
-use Rattle.papaya_histories.specs.Given.Schedules.InTurn.{ComesRight}
-use Rattle.papaya_histories.specs.Given.Schedules.Moment.{UnderWay as CallThere, Moment}
-use Rattle.papaya_histories.specs.Given.Schedules.Steps.{IsBrief, ReadsBriefly}
-use Rattle.papaya_histories.specs.Given.Schedules.Terms.{Terms}
-use Rattle.papaya_histories.specs.Given.Schedules.Views.{call_of}
-use Rattle.papaya_histories.specs.Given.Effects.Known.{known}
-use Rattle.papaya_promises.specs.Guards.{EntersInside}
-use Rattle.papaya_promises.specs.Sheltered.{SectionsHold}
-use Rattle.papaya_promises.proofs.Brief.Ends.{events_read_briefly}
-use Rattle.papaya_purposes.proofs.Nothing.{other_outcomes_are_swept}
-use Rattle.papaya_models.specs.CallEvents.{IsOfNoSlot}
-use Rattle.papaya_models.proofs.CallEvents.{others_hand_over}
-use Rattle.papaya_finds.specs.Little.{ReclaimsAll}
-use Rattle.papaya_legal.specs.CallEvents.{IsLegalBut}
-use Rattle.papaya_legal.specs.Carried.{ShowsRun}
-use Rattle.papaya_legal.specs.Over.{LeavesAll}
-use Rattle.papaya_legal.proofs.Idle.{idle_events_are_legal}
-use Rattle.papaya_legal.proofs.Over.{idle_events_end}
+use Rattle.papaya_folded.specs.Given.SeizeWords.declared.fault.Fault.TheVariants.{Busy}
+use Rattle.papaya_folded.specs.Given.Schedules.declared.event.Event.{Event}
+use Rattle.papaya_folded.specs.Given.Schedules.declared.outcome.Outcome.TheVariants.{Refused}
+use Rattle.papaya_folded.specs.Given.Schedules.After.{moment, moments_from}
+use Rattle.papaya_folded.specs.Given.Schedules.Effects.{worked}
+use Rattle.papaya_folded.specs.Given.Schedules.Entry.{Entry, IfCall, acting, caller_of}
+use Rattle.papaya_folded.specs.Given.Schedules.Handing.{IsWhole}
+use Rattle.papaya_folded.specs.Given.Schedules.InTurn.{ComesRight}
+use Rattle.papaya_folded.specs.Given.Schedules.Moment.{UnderWay as CallThere, Moment}
+use Rattle.papaya_folded.specs.Given.Schedules.Steps.{IsBrief, ReadsBriefly}
+use Rattle.papaya_folded.specs.Given.Schedules.Terms.{Terms}
+use Rattle.papaya_folded.specs.Given.Schedules.Views.{call_of}
+use Rattle.papaya_folded.specs.Given.Effects.Known.{known}
+use Rattle.papaya_folded.specs.Given.Promises.Guards.{EntersInside}
+use Rattle.papaya_folded.specs.Given.Promises.Sheltered.{SectionsHold}
+use Rattle.papaya_folded.proofs.Given.Promises.Brief.Ends.{events_read_briefly}
+use Rattle.papaya_folded.proofs.Given.Purposes.Nothing.{other_outcomes_are_swept}
+use Rattle.papaya_folded.specs.Given.Models.CallEvents.{IsOfNoSlot}
+use Rattle.papaya_folded.proofs.Given.Models.CallEvents.{others_hand_over}
+use Rattle.papaya_folded.specs.Given.Finds.Little.{ReclaimsAll}
+use Rattle.papaya_folded.specs.Given.Legal.CallEvents.{IsLegalBut}
+use Rattle.papaya_folded.specs.Given.Legal.Carried.{ShowsRun}
+use Rattle.papaya_folded.specs.Given.Legal.Over.{LeavesAll}
+use Rattle.papaya_folded.proofs.Given.Legal.Idle.{idle_events_are_legal}
+use Rattle.papaya_folded.proofs.Given.Legal.Over.{idle_events_end}
 use Rattle.papaya_scheduler.specs.Played.{IsPlayed}
-use Rattle.papaya_named.specs.Seen.{is_named}
+use Rattle.papaya_folded.specs.Given.Named.Seen.{is_named}
 use Rattle.papaya_scheduler.specs.declared.scheduler.Scheduler.{Scheduler}
 use Rattle.papaya_scheduler.proofs.Here.{here_at, there_is}
 use Rattle.papaya_scheduler.proofs.Rights.{quiet}

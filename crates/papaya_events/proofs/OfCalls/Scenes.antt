@@ -2,18 +2,18 @@
 use Rattle.std.specs.Prelude.{◌≡◌, ℕ, Bool, List, [], ◌∷◌, slice_set, Some, option_map}
 use Rattle.std.specs.List.{AllByRecursion, remove}
 use Rattle.std.proofs.Common.{sym, subst, ◌∙◌}
-use Rattle.papaya_histories.specs.Given.Tables.declared.setting.Setting.{Setting}
-use Rattle.papaya_histories.specs.Given.Raw.declared.machines.machine.Machine.{Machine}
-use Rattle.papaya_histories.specs.Given.Schedules.Moment.{Moment}
-use Rattle.papaya_histories.specs.Given.Schedules.Terms.{Terms}
-use Rattle.papaya_histories.specs.Given.Executor.IsAt.{Scene}
-use Rattle.papaya_histories.specs.Given.Finishes.Machines.{machine_of}
-use Rattle.papaya_histories.specs.Given.Finishes.Maps.{Standing}
-use Rattle.papaya_logged.specs.Shown.{IsShown}
-use Rattle.papaya_rows.proofs.Lists.{all_so, both_none, both_some}
+use Rattle.papaya_folded.specs.Given.Tables.declared.setting.Setting.{Setting}
+use Rattle.papaya_folded.specs.Given.Raw.declared.machines.machine.Machine.{Machine}
+use Rattle.papaya_folded.specs.Given.Schedules.Moment.{Moment}
+use Rattle.papaya_folded.specs.Given.Schedules.Terms.{Terms}
+use Rattle.papaya_folded.specs.Given.Executor.IsAt.{Scene}
+use Rattle.papaya_folded.specs.Given.Finishes.Machines.{machine_of}
+use Rattle.papaya_folded.specs.Given.Finishes.Maps.{Standing}
+use Rattle.papaya_folded.specs.Given.Logged.Shown.{IsShown}
+use Rattle.papaya_folded.proofs.Given.Rows.Lists.{all_so, both_none, both_some}
 use Rattle.papaya_scheduler.specs.Played.{AsFar, IsUnderWay, StandsFor}
-use Rattle.papaya_named.specs.declared.caller.Caller.{Caller}
-use Rattle.papaya_named.specs.declared.named_map.NamedMap.{NamedMap}
+use Rattle.papaya_folded.specs.Given.Named.declared.caller.Caller.{Caller}
+use Rattle.papaya_folded.specs.Given.Named.declared.named_map.NamedMap.{NamedMap}
 use Rattle.papaya_events.proofs.OfCalls.Worth.{all_left, all_set}
 use Rattle.papaya_scheduler.specs.declared.scheduler.Scheduler.{Scheduler}
 

@@ -4,54 +4,54 @@ use Rattle.std.specs.List.{remove}
 use Rattle.std.proofs.Common.{refl, ap, sym, subst, ◌∙◌, inl, inr, arith}
 use Rattle.std.proofs.lemmas.Bool.{cases_eq}
 use Rattle.std.specs.Prelude.{filter, length, ◌≤◌}
-use Rattle.papaya_histories.specs.Given.Seize.World.{Begin, Happens, Request, SlotsTaken, Step, World}
-use Rattle.papaya_histories.specs.Given.Tables.Nodes.{deferred_word}
-use Rattle.papaya_histories.specs.Given.Tables.declared.node.Node.{Node}
-use Rattle.papaya_histories.specs.Given.Tables.declared.setting.Setting.{Setting}
-use Rattle.papaya_histories.specs.Given.Raw.declared.machines.progress.Progress.{Progress}
-use Rattle.papaya_histories.specs.Given.Raw.declared.machines.progress.Progress.TheVariants as progress
-use Rattle.papaya_histories.specs.Given.Runs.Present.{slot_of_guard}
-use Rattle.papaya_histories.specs.Given.Runs.Same.{is_same}
-use Rattle.papaya_histories.specs.Given.Schedules.After.{moment}
-use Rattle.papaya_histories.specs.Given.Schedules.declared.effect.Effect.{Effect}
-use Rattle.papaya_histories.specs.Given.Schedules.declared.event.Event.{Event}
-use Rattle.papaya_histories.specs.Given.Schedules.declared.outcome.Outcome.{Outcome}
-use Rattle.papaya_histories.specs.Given.Schedules.Effects.{with_effects}
-use Rattle.papaya_histories.specs.Given.Schedules.Entry.{Entry}
-use Rattle.papaya_histories.specs.Given.Schedules.Model.{things_in}
-use Rattle.papaya_histories.specs.Given.Schedules.Moment.{UnderWay as CallThere, Moment}
-use Rattle.papaya_histories.specs.Given.Schedules.Terms.{Terms, shards_of}
-use Rattle.papaya_histories.specs.Given.Schedules.Views.{call_of}
-use Rattle.papaya_histories.specs.Given.Callers.Together.{UnderWay, HandsOver}
-use Rattle.papaya_histories.specs.Given.Effects.Effects.{effects_of, known_after}
-use Rattle.papaya_histories.specs.Given.Effects.Known.{Known, known}
-use Rattle.papaya_histories.specs.Given.Effects.declared.acting.Acting.TheVariants as acts
-use Rattle.papaya_histories.specs.Given.Executor.IsAt.{KeepsGiven, Scene, slot_of}
-use Rattle.papaya_histories.specs.Given.Executor.Stepping.{StepLeads, has_ended, scene_after}
-use Rattle.papaya_histories.specs.Given.Finishes.Maps.{Standing, IsSameMap}
-use Rattle.papaya_histories.specs.InEvent.{here_of}
-use Rattle.papaya_histories.specs.Given.Schedules.declared.effect.Thing.{Thing}
-use Rattle.papaya_histories.specs.Given.Schedules.declared.call.Call.{Call}
-use Rattle.papaya_histories.specs.Given.Schedules.declared.call.Reply.{Reply}
-use Rattle.papaya_histories.specs.Given.Finishes.Machines.{machine_of}
-use Rattle.papaya_histories.proofs.Given.Follows.Calling.{is_same_is, is_same_refl}
-use Rattle.papaya_histories.proofs.Given.Hands.Asking.{which}
-use Rattle.papaya_models.specs.CallEvents.{IsNoted, things_then}
-use Rattle.papaya_legal.specs.Noted.{HaveCome}
-use Rattle.papaya_legal.proofs.Come.{calls_bring_things}
-use Rattle.papaya_legal.proofs.Noted.{calls_hand_noted}
-use Rattle.papaya_models.proofs.CallEvents.{things_more}
-use Rattle.papaya_purposes.specs.Kept.{ShowsNone}
-use Rattle.papaya_legal.specs.CallEvents.{InCallEvent}
-use Rattle.papaya_legal.proofs.Calls.{call_events_go_on_so}
-use Rattle.papaya_legal.proofs.Heads.Rows.{slots_stay}
-use Rattle.papaya_legal.proofs.Heads.Steps.{call_taken}
-use Rattle.papaya_logged.specs.Calling.{CallGoesOn}
-use Rattle.papaya_logged.specs.Shown.{IsShown}
-use Rattle.papaya_rows.proofs.Lists.{both_some, found_alike, set_get}
-use Rattle.papaya_named.specs.Seen.{Seen, kind_of, seen}
-use Rattle.papaya_named.specs.Telling.{goes_on}
-use Rattle.papaya_named.specs.declared.caller.Caller.{Caller}
+use Rattle.papaya_folded.specs.Given.Seize.World.{Begin, Happens, Request, SlotsTaken, Step, World}
+use Rattle.papaya_folded.specs.Given.Tables.Nodes.{deferred_word}
+use Rattle.papaya_folded.specs.Given.Tables.declared.node.Node.{Node}
+use Rattle.papaya_folded.specs.Given.Tables.declared.setting.Setting.{Setting}
+use Rattle.papaya_folded.specs.Given.Raw.declared.machines.progress.Progress.{Progress}
+use Rattle.papaya_folded.specs.Given.Raw.declared.machines.progress.Progress.TheVariants as progress
+use Rattle.papaya_folded.specs.Given.Runs.Present.{slot_of_guard}
+use Rattle.papaya_folded.specs.Given.Runs.Same.{is_same}
+use Rattle.papaya_folded.specs.Given.Schedules.After.{moment}
+use Rattle.papaya_folded.specs.Given.Schedules.declared.effect.Effect.{Effect}
+use Rattle.papaya_folded.specs.Given.Schedules.declared.event.Event.{Event}
+use Rattle.papaya_folded.specs.Given.Schedules.declared.outcome.Outcome.{Outcome}
+use Rattle.papaya_folded.specs.Given.Schedules.Effects.{with_effects}
+use Rattle.papaya_folded.specs.Given.Schedules.Entry.{Entry}
+use Rattle.papaya_folded.specs.Given.Schedules.Model.{things_in}
+use Rattle.papaya_folded.specs.Given.Schedules.Moment.{UnderWay as CallThere, Moment}
+use Rattle.papaya_folded.specs.Given.Schedules.Terms.{Terms, shards_of}
+use Rattle.papaya_folded.specs.Given.Schedules.Views.{call_of}
+use Rattle.papaya_folded.specs.Given.Callers.Together.{UnderWay, HandsOver}
+use Rattle.papaya_folded.specs.Given.Effects.Effects.{effects_of, known_after}
+use Rattle.papaya_folded.specs.Given.Effects.Known.{Known, known}
+use Rattle.papaya_folded.specs.Given.Effects.declared.acting.Acting.TheVariants as acts
+use Rattle.papaya_folded.specs.Given.Executor.IsAt.{KeepsGiven, Scene, slot_of}
+use Rattle.papaya_folded.specs.Given.Executor.Stepping.{StepLeads, has_ended, scene_after}
+use Rattle.papaya_folded.specs.Given.Finishes.Maps.{Standing, IsSameMap}
+use Rattle.papaya_folded.specs.Given.Histories.InEvent.{here_of}
+use Rattle.papaya_folded.specs.Given.Schedules.declared.effect.Thing.{Thing}
+use Rattle.papaya_folded.specs.Given.Schedules.declared.call.Call.{Call}
+use Rattle.papaya_folded.specs.Given.Schedules.declared.call.Reply.{Reply}
+use Rattle.papaya_folded.specs.Given.Finishes.Machines.{machine_of}
+use Rattle.papaya_folded.proofs.Given.Follows.Calling.{is_same_is, is_same_refl}
+use Rattle.papaya_folded.proofs.Given.Hands.Asking.{which}
+use Rattle.papaya_folded.specs.Given.Models.CallEvents.{IsNoted, things_then}
+use Rattle.papaya_folded.specs.Given.Legal.Noted.{HaveCome}
+use Rattle.papaya_folded.proofs.Given.Legal.Come.{calls_bring_things}
+use Rattle.papaya_folded.proofs.Given.Legal.Noted.{calls_hand_noted}
+use Rattle.papaya_folded.proofs.Given.Models.CallEvents.{things_more}
+use Rattle.papaya_folded.specs.Given.Purposes.Kept.{ShowsNone}
+use Rattle.papaya_folded.specs.Given.Legal.CallEvents.{InCallEvent}
+use Rattle.papaya_folded.proofs.Given.Legal.Calls.{call_events_go_on_so}
+use Rattle.papaya_folded.proofs.Given.Legal.Heads.Rows.{slots_stay}
+use Rattle.papaya_folded.proofs.Given.Legal.Heads.Steps.{call_taken}
+use Rattle.papaya_folded.specs.Given.Logged.Calling.{CallGoesOn}
+use Rattle.papaya_folded.specs.Given.Logged.Shown.{IsShown}
+use Rattle.papaya_folded.proofs.Given.Rows.Lists.{both_some, found_alike, set_get}
+use Rattle.papaya_folded.specs.Given.Named.Seen.{Seen, kind_of, seen}
+use Rattle.papaya_folded.specs.Given.Named.Telling.{goes_on}
+use Rattle.papaya_folded.specs.Given.Named.declared.caller.Caller.{Caller}
 use Rattle.papaya_scheduler.specs.declared.scheduler.Scheduler.{Scheduler}
 use Rattle.papaya_scheduler.proofs.RanOn.{there_stays}
 use Rattle.papaya_stepping.specs.Stepping.{GoneFor, IsStepOf, IsStepped, WalkedFor, caller_then, far_then, outcome_of}
@@ -59,12 +59,12 @@ use Rattle.papaya_stepping.proofs.AfterEffects.{calls_seen}
 use Rattle.papaya_stepping.proofs.OneStep.{caller_as, going_not_ended, goes_next, value_then}
 use Rattle.papaya_values.specs.Values.{KeepsValue, kept_after}
 use Rattle.papaya_values.proofs.Values.{values_go_on}
-use Rattle.papaya_named.specs.Seen.{is_named}
-use Rattle.papaya_named.specs.declared.kind.Kind.{Kind}
-use Rattle.papaya_rows.proofs.Lists.{set_count}
+use Rattle.papaya_folded.specs.Given.Named.Seen.{is_named}
+use Rattle.papaya_folded.specs.Given.Named.declared.kind.Kind.{Kind}
+use Rattle.papaya_folded.proofs.Given.Rows.Lists.{set_count}
 use Rattle.papaya_events.specs.OfCalls.{HaveValues, IsWorth}
 use Rattle.papaya_events.proofs.OfCalls.Worth.{AreWorth, SaidIn, all_gone, all_once, all_set, effects_say, is_worth_then, said_same}
-use Rattle.papaya_remains.proofs.Slots.{buckets_grow}
+use Rattle.papaya_folded.proofs.Given.Remains.Slots.{buckets_grow}
 use Rattle.papaya_works.specs.Needs.{AreReached}
 use Rattle.papaya_works.proofs.Reached.{reached_still}
 use Rattle.papaya_events.specs.OfCalls.{HaveShards}

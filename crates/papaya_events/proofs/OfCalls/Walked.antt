@@ -4,63 +4,63 @@ use Rattle.std.proofs.Common.{refl, ap, sym, subst, ◌∙◌, inl, inr}
 use Rattle.std.proofs.lemmas.List.{append-nil}
 use Rattle.std.specs.List.{AllByRecursion}
 use Rattle.std.specs.Prelude.{◌≤◌, false, filter, length}
-use Rattle.papaya_histories.specs.Given.SeizeWords.declared.fault.Fault.TheVariants.{Busy}
-use Rattle.papaya_histories.specs.Given.Tables.declared.node.Node.{Node}
-use Rattle.papaya_histories.specs.Given.Sweeps.SweepPoints.{after_next}
-use Rattle.papaya_histories.specs.Given.Sweeps.declared.sweep.Purpose.TheVariants.{Walks}
-use Rattle.papaya_histories.specs.Given.Raw.declared.machines.progress.Answer.{Answer}
-use Rattle.papaya_histories.specs.Given.Raw.declared.machines.progress.Progress.{Progress}
-use Rattle.papaya_histories.specs.Given.Raw.declared.machines.progress.Progress.TheVariants as progress
-use Rattle.papaya_histories.specs.Given.Schedules.declared.call.Call.{Call}
-use Rattle.papaya_histories.specs.Given.Schedules.declared.call.Call.TheVariants.{Clear, Retain, Walk}
-use Rattle.papaya_histories.specs.Given.Schedules.declared.effect.Effect.{Effect}
-use Rattle.papaya_histories.specs.Given.Schedules.declared.effect.Thing.{Thing}
-use Rattle.papaya_histories.specs.Given.Schedules.declared.event.Event.{Event}
-use Rattle.papaya_histories.specs.Given.Schedules.declared.event.Event.TheVariants.{Next}
-use Rattle.papaya_histories.specs.Given.Schedules.declared.outcome.Outcome.{Outcome}
-use Rattle.papaya_histories.specs.Given.Schedules.declared.outcome.Outcome.TheVariants.{Answered, Refused}
-use Rattle.papaya_histories.specs.Given.Schedules.After.{moment, moments_from}
-use Rattle.papaya_histories.specs.Given.Schedules.Effects.{with_effects}
-use Rattle.papaya_histories.specs.Given.Schedules.Entry.{Entry}
-use Rattle.papaya_histories.specs.Given.Schedules.InTurn.{ComesRight, ComesTo, IsNext}
-use Rattle.papaya_histories.specs.Given.Schedules.Model.{things_in}
-use Rattle.papaya_histories.specs.Given.Schedules.Moment.{UnderWay as CallThere, Moment}
-use Rattle.papaya_histories.specs.Given.Schedules.Terms.{Terms}
-use Rattle.papaya_histories.specs.Given.Schedules.Views.{call_of, finite_map}
-use Rattle.papaya_histories.specs.Given.Callers.OverAll.{CallOverAll, gone_on}
-use Rattle.papaya_histories.specs.Given.Callers.Together.{UnderWay, OnKey, ForRoom, Counting, OverAll}
-use Rattle.papaya_histories.specs.Given.Effects.Known.{Known, known}
-use Rattle.papaya_histories.specs.Given.Executor.IsAt.{Scene}
-use Rattle.papaya_histories.specs.Given.Executor.Replying.{AskLeads, scene_with}
-use Rattle.papaya_histories.proofs.Given.Executor.Changed.{standing_is}
-use Rattle.papaya_histories.specs.Given.Finishes.Machines.{machine_of}
-use Rattle.papaya_histories.specs.Given.Moments.Whole.{ShowsWhole}
-use Rattle.papaya_histories.specs.Answers.{NamesPair}
-use Rattle.papaya_histories.specs.InEvent.{ComesSo}
-use Rattle.papaya_histories.specs.OtherMidsts.{AsksAsSaid}
-use Rattle.papaya_histories.specs.Given.Runs.Same.{is_same}
-use Rattle.papaya_histories.proofs.Given.Follows.Calling.{is_same_refl}
-use Rattle.papaya_histories.proofs.Given.Hands.Asking.{which}
-use Rattle.papaya_purposes.specs.Purposes.{IsFor}
-use Rattle.papaya_purposes.specs.Swept.{LosesNone, SaysAsWalk}
-use Rattle.papaya_purposes.proofs.WalkWords.{walks_have_words}
-use Rattle.papaya_finds.specs.Parts.{FindAll}
-use Rattle.papaya_kept.specs.Kept.{ShowsKept}
-use Rattle.papaya_legal.specs.CallEvents.{InCallEvent}
-use Rattle.papaya_legal.specs.CallRuns.{ShowsAsTold}
-use Rattle.papaya_legal.specs.CallSwept.{TellsOf}
-use Rattle.papaya_legal.specs.Noted.{HaveCome}
-use Rattle.papaya_legal.proofs.CallBegins.{nexts_begin}
-use Rattle.papaya_legal.proofs.CallReads.{there_still}
-use Rattle.papaya_logged.specs.Calling.{WalkGoesOn}
-use Rattle.papaya_logged.specs.Shown.{IsCounted, IsShown}
-use Rattle.papaya_named.specs.Machines.{IsAsFar}
-use Rattle.papaya_named.specs.Seen.{Seen, is_named, is_ready as is_ready_there, kind_of, ready_place}
-use Rattle.papaya_named.specs.Telling.{answer_of, number_by}
-use Rattle.papaya_named.specs.declared.caller.Caller.{Caller}
-use Rattle.papaya_named.specs.declared.caller.Stands.{Stands as HowFar}
-use Rattle.papaya_named.specs.declared.caller.Stands.TheVariants as far
-use Rattle.papaya_named.specs.declared.kind.Kind.TheVariants as kind
+use Rattle.papaya_folded.specs.Given.SeizeWords.declared.fault.Fault.TheVariants.{Busy}
+use Rattle.papaya_folded.specs.Given.Tables.declared.node.Node.{Node}
+use Rattle.papaya_folded.specs.Given.Sweeps.SweepPoints.{after_next}
+use Rattle.papaya_folded.specs.Given.Sweeps.declared.sweep.Purpose.TheVariants.{Walks}
+use Rattle.papaya_folded.specs.Given.Raw.declared.machines.progress.Answer.{Answer}
+use Rattle.papaya_folded.specs.Given.Raw.declared.machines.progress.Progress.{Progress}
+use Rattle.papaya_folded.specs.Given.Raw.declared.machines.progress.Progress.TheVariants as progress
+use Rattle.papaya_folded.specs.Given.Schedules.declared.call.Call.{Call}
+use Rattle.papaya_folded.specs.Given.Schedules.declared.call.Call.TheVariants.{Clear, Retain, Walk}
+use Rattle.papaya_folded.specs.Given.Schedules.declared.effect.Effect.{Effect}
+use Rattle.papaya_folded.specs.Given.Schedules.declared.effect.Thing.{Thing}
+use Rattle.papaya_folded.specs.Given.Schedules.declared.event.Event.{Event}
+use Rattle.papaya_folded.specs.Given.Schedules.declared.event.Event.TheVariants.{Next}
+use Rattle.papaya_folded.specs.Given.Schedules.declared.outcome.Outcome.{Outcome}
+use Rattle.papaya_folded.specs.Given.Schedules.declared.outcome.Outcome.TheVariants.{Answered, Refused}
+use Rattle.papaya_folded.specs.Given.Schedules.After.{moment, moments_from}
+use Rattle.papaya_folded.specs.Given.Schedules.Effects.{with_effects}
+use Rattle.papaya_folded.specs.Given.Schedules.Entry.{Entry}
+use Rattle.papaya_folded.specs.Given.Schedules.InTurn.{ComesRight, ComesTo, IsNext}
+use Rattle.papaya_folded.specs.Given.Schedules.Model.{things_in}
+use Rattle.papaya_folded.specs.Given.Schedules.Moment.{UnderWay as CallThere, Moment}
+use Rattle.papaya_folded.specs.Given.Schedules.Terms.{Terms}
+use Rattle.papaya_folded.specs.Given.Schedules.Views.{call_of, finite_map}
+use Rattle.papaya_folded.specs.Given.Callers.OverAll.{CallOverAll, gone_on}
+use Rattle.papaya_folded.specs.Given.Callers.Together.{UnderWay, OnKey, ForRoom, Counting, OverAll}
+use Rattle.papaya_folded.specs.Given.Effects.Known.{Known, known}
+use Rattle.papaya_folded.specs.Given.Executor.IsAt.{Scene}
+use Rattle.papaya_folded.specs.Given.Executor.Replying.{AskLeads, scene_with}
+use Rattle.papaya_folded.proofs.Given.Executor.Changed.{standing_is}
+use Rattle.papaya_folded.specs.Given.Finishes.Machines.{machine_of}
+use Rattle.papaya_folded.specs.Given.Moments.Whole.{ShowsWhole}
+use Rattle.papaya_folded.specs.Given.Histories.Answers.{NamesPair}
+use Rattle.papaya_folded.specs.Given.Histories.InEvent.{ComesSo}
+use Rattle.papaya_folded.specs.Given.Histories.OtherMidsts.{AsksAsSaid}
+use Rattle.papaya_folded.specs.Given.Runs.Same.{is_same}
+use Rattle.papaya_folded.proofs.Given.Follows.Calling.{is_same_refl}
+use Rattle.papaya_folded.proofs.Given.Hands.Asking.{which}
+use Rattle.papaya_folded.specs.Given.Purposes.Purposes.{IsFor}
+use Rattle.papaya_folded.specs.Given.Purposes.Swept.{LosesNone, SaysAsWalk}
+use Rattle.papaya_folded.proofs.Given.Purposes.WalkWords.{walks_have_words}
+use Rattle.papaya_folded.specs.Given.Finds.Parts.{FindAll}
+use Rattle.papaya_folded.specs.Given.Kept.Kept.{ShowsKept}
+use Rattle.papaya_folded.specs.Given.Legal.CallEvents.{InCallEvent}
+use Rattle.papaya_folded.specs.Given.Legal.CallRuns.{ShowsAsTold}
+use Rattle.papaya_folded.specs.Given.Legal.CallSwept.{TellsOf}
+use Rattle.papaya_folded.specs.Given.Legal.Noted.{HaveCome}
+use Rattle.papaya_folded.proofs.Given.Legal.CallBegins.{nexts_begin}
+use Rattle.papaya_folded.proofs.Given.Legal.CallReads.{there_still}
+use Rattle.papaya_folded.specs.Given.Logged.Calling.{WalkGoesOn}
+use Rattle.papaya_folded.specs.Given.Logged.Shown.{IsCounted, IsShown}
+use Rattle.papaya_folded.specs.Given.Named.Machines.{IsAsFar}
+use Rattle.papaya_folded.specs.Given.Named.Seen.{Seen, is_named, is_ready as is_ready_there, kind_of, ready_place}
+use Rattle.papaya_folded.specs.Given.Named.Telling.{answer_of, number_by}
+use Rattle.papaya_folded.specs.Given.Named.declared.caller.Caller.{Caller}
+use Rattle.papaya_folded.specs.Given.Named.declared.caller.Stands.{Stands as HowFar}
+use Rattle.papaya_folded.specs.Given.Named.declared.caller.Stands.TheVariants as far
+use Rattle.papaya_folded.specs.Given.Named.declared.kind.Kind.TheVariants as kind
 use Rattle.papaya_scheduler.specs.Played.{IsPlayed, entry_of}
 use Rattle.papaya_scheduler.specs.declared.played.Played.{Played}
 use Rattle.papaya_scheduler.specs.declared.scheduler.Scheduler.{Scheduler}

@@ -4,45 +4,45 @@ use Rattle.std.proofs.Common.{refl, ap, sym, subst, ◌∙◌, inl}
 use Rattle.std.proofs.lemmas.List.{append-nil}
 use Rattle.std.specs.List.{AllByRecursion}
 use Rattle.std.specs.Prelude.{filter, length}
-use Rattle.papaya_histories.specs.Given.SeizeWaiting.Held.{count}
-use Rattle.papaya_histories.specs.Given.SeizeWords.declared.fault.Fault.TheVariants.{Busy}
-use Rattle.papaya_histories.specs.Given.Seize.World.{Rests}
-use Rattle.papaya_histories.specs.Given.Runs.Present.{slot_of_guard}
-use Rattle.papaya_histories.specs.Given.Runs.Stopped.{most_steps}
-use Rattle.papaya_histories.specs.Given.Schedules.declared.call.Call.{Call}
-use Rattle.papaya_histories.specs.Given.Schedules.declared.event.Event.{Event}
-use Rattle.papaya_histories.specs.Given.Schedules.declared.event.Event.TheVariants.{OneCall}
-use Rattle.papaya_histories.specs.Given.Schedules.declared.outcome.Outcome.TheVariants.{Refused}
-use Rattle.papaya_histories.specs.Given.Schedules.After.{moment}
-use Rattle.papaya_histories.specs.Given.Schedules.Beginning.{at_work, fresh_call, with_call}
-use Rattle.papaya_histories.specs.Given.Schedules.Entry.{Entry, acted_on, nameless}
-use Rattle.papaya_histories.specs.Given.Schedules.Model.{guard_or, sets_in, things_in}
-use Rattle.papaya_histories.specs.Given.Schedules.InTurn.{ComesRight}
-use Rattle.papaya_histories.specs.Given.Schedules.Moment.{UnderWay as CallThere, Moment}
-use Rattle.papaya_histories.specs.Given.Schedules.Terms.{Terms}
-use Rattle.papaya_histories.specs.Given.Schedules.Views.{call_of, number_of}
-use Rattle.papaya_histories.specs.Given.Effects.Known.{Known, known}
-use Rattle.papaya_histories.specs.Given.Executor.IsAt.{slot_of}
-use Rattle.papaya_histories.specs.Given.Schedules.declared.effect.Thing.{Thing}
-use Rattle.papaya_histories.specs.Given.Runs.Same.{is_same}
-use Rattle.papaya_finds.specs.Within.{AllIsInOrder}
-use Rattle.papaya_finds.proofs.Begun.{all_begun}
-use Rattle.papaya_legal.specs.Noted.{HaveCome}
-use Rattle.papaya_legal.proofs.Come.{called}
-use Rattle.papaya_legal.specs.CallEvents.{InCallEvent}
-use Rattle.papaya_legal.specs.Carried.{ComesAlone}
-use Rattle.papaya_legal.proofs.CallBegins.{whole_calls_begin}
-use Rattle.papaya_logged.specs.Shown.{IsShown}
+use Rattle.papaya_folded.specs.Given.SeizeWaiting.Held.{count}
+use Rattle.papaya_folded.specs.Given.SeizeWords.declared.fault.Fault.TheVariants.{Busy}
+use Rattle.papaya_folded.specs.Given.Seize.World.{Rests}
+use Rattle.papaya_folded.specs.Given.Runs.Present.{slot_of_guard}
+use Rattle.papaya_folded.specs.Given.Runs.Stopped.{most_steps}
+use Rattle.papaya_folded.specs.Given.Schedules.declared.call.Call.{Call}
+use Rattle.papaya_folded.specs.Given.Schedules.declared.event.Event.{Event}
+use Rattle.papaya_folded.specs.Given.Schedules.declared.event.Event.TheVariants.{OneCall}
+use Rattle.papaya_folded.specs.Given.Schedules.declared.outcome.Outcome.TheVariants.{Refused}
+use Rattle.papaya_folded.specs.Given.Schedules.After.{moment}
+use Rattle.papaya_folded.specs.Given.Schedules.Beginning.{at_work, fresh_call, with_call}
+use Rattle.papaya_folded.specs.Given.Schedules.Entry.{Entry, acted_on, nameless}
+use Rattle.papaya_folded.specs.Given.Schedules.Model.{guard_or, sets_in, things_in}
+use Rattle.papaya_folded.specs.Given.Schedules.InTurn.{ComesRight}
+use Rattle.papaya_folded.specs.Given.Schedules.Moment.{UnderWay as CallThere, Moment}
+use Rattle.papaya_folded.specs.Given.Schedules.Terms.{Terms}
+use Rattle.papaya_folded.specs.Given.Schedules.Views.{call_of, number_of}
+use Rattle.papaya_folded.specs.Given.Effects.Known.{Known, known}
+use Rattle.papaya_folded.specs.Given.Executor.IsAt.{slot_of}
+use Rattle.papaya_folded.specs.Given.Schedules.declared.effect.Thing.{Thing}
+use Rattle.papaya_folded.specs.Given.Runs.Same.{is_same}
+use Rattle.papaya_folded.specs.Given.Finds.Within.{AllIsInOrder}
+use Rattle.papaya_folded.proofs.Given.Finds.Begun.{all_begun}
+use Rattle.papaya_folded.specs.Given.Legal.Noted.{HaveCome}
+use Rattle.papaya_folded.proofs.Given.Legal.Come.{called}
+use Rattle.papaya_folded.specs.Given.Legal.CallEvents.{InCallEvent}
+use Rattle.papaya_folded.specs.Given.Legal.Carried.{ComesAlone}
+use Rattle.papaya_folded.proofs.Given.Legal.CallBegins.{whole_calls_begin}
+use Rattle.papaya_folded.specs.Given.Logged.Shown.{IsShown}
 use Rattle.papaya_scheduler.specs.Played.{HasBegun, IsPlayed, StandsFor, entry_of}
-use Rattle.papaya_named.specs.Seen.{Seen}
-use Rattle.papaya_named.specs.declared.caller.Caller.{Caller}
+use Rattle.papaya_folded.specs.Given.Named.Seen.{Seen}
+use Rattle.papaya_folded.specs.Given.Named.declared.caller.Caller.{Caller}
 use Rattle.papaya_scheduler.specs.declared.played.Played.{Played}
 use Rattle.papaya_scheduler.specs.declared.scheduler.Scheduler.{Scheduler}
 use Rattle.papaya_scheduler.proofs.HeldTold.{its_guard}
 use Rattle.papaya_stepping.specs.Stepping.{ComesAs, ComesBy, ComesInCase, GoesAt, StepsCome}
 use Rattle.papaya_stepping.proofs.RightSteps.{not_busy as never_busy}
-use Rattle.papaya_rows.proofs.Lists.{all_so}
-use Rattle.papaya_named.specs.Seen.{is_named}
+use Rattle.papaya_folded.proofs.Given.Rows.Lists.{all_so}
+use Rattle.papaya_folded.specs.Given.Named.Seen.{is_named}
 use Rattle.papaya_events.specs.OfCalls.{HaveValues, IsWorth, Runs, RunsOn}
 use Rattle.papaya_works.specs.Needs.{AreReached}
 use Rattle.papaya_events.proofs.OfCalls.Alone.{active_of, inside_of, no_row}

@@ -2,18 +2,18 @@
 use Rattle.std.specs.Prelude.{◌≡◌, ◌<◌, ◌+◌, ◌^◌, ℕ, Bool, List, Some, None}
 use Rattle.std.specs.Int.{IsPowerOfTwo}
 use Rattle.std.proofs.Common.{sym, subst, arith}
-use Rattle.papaya_histories.specs.Given.Seize.declared.progress.Progress.{Progress}
-use Rattle.papaya_histories.specs.Given.Seize.World.{with_at}
-use Rattle.papaya_histories.specs.Given.Tables.declared.resize_mode.ResizeMode.{ResizeMode}
-use Rattle.papaya_histories.specs.Given.Tables.declared.setting.Setting.{Setting}
-use Rattle.papaya_histories.specs.Given.Executor.IsAt.{Scene}
-use Rattle.papaya_histories.specs.Given.Finishes.Makings.{Beginning}
-use Rattle.papaya_schedules.specs.After.{moment}
-use Rattle.papaya_schedules.specs.Entry.{Entry}
-use Rattle.papaya_schedules.specs.Terms.{Terms}
-use Rattle.papaya_executor.specs.MakingBegins.{next_making}
-use Rattle.papaya_executor.proofs.Fresh.{no_making_yet}
-use Rattle.papaya_logged.specs.Shown.{IsShown}
+use Rattle.papaya_folded.specs.Given.Seize.declared.progress.Progress.{Progress}
+use Rattle.papaya_folded.specs.Given.Seize.World.{with_at}
+use Rattle.papaya_folded.specs.Given.Tables.declared.resize_mode.ResizeMode.{ResizeMode}
+use Rattle.papaya_folded.specs.Given.Tables.declared.setting.Setting.{Setting}
+use Rattle.papaya_folded.specs.Given.Executor.IsAt.{Scene}
+use Rattle.papaya_folded.specs.Given.Finishes.Makings.{Beginning}
+use Rattle.papaya_folded.specs.Given.Schedules.After.{moment}
+use Rattle.papaya_folded.specs.Given.Schedules.Entry.{Entry}
+use Rattle.papaya_folded.specs.Given.Schedules.Terms.{Terms}
+use Rattle.papaya_folded.specs.Given.Executor.MakingBegins.{next_making}
+use Rattle.papaya_folded.proofs.Given.Executor.Fresh.{no_making_yet}
+use Rattle.papaya_folded.specs.Given.Logged.Shown.{IsShown}
 use Rattle.papaya_scheduler.specs.Works.{MakingHasRun}
 use Rattle.papaya_scheduler.specs.declared.played.Played.{Played}
 use Rattle.papaya_scheduler.specs.declared.scheduler.Scheduler.{Scheduler}

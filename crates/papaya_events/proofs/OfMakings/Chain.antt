@@ -4,55 +4,55 @@ use Rattle.std.specs.List.{list_all}
 use Rattle.std.proofs.Common.{refl, sym, ap, subst, inl, inr, ◌∙◌}
 use Rattle.std.proofs.lemmas.Bool.{cases_eq}
 use Rattle.std.proofs.lemmas.List.Folds.{list_all-append}
-use Rattle.papaya_histories.specs.Given.Seize.declared.progress.Progress.{Progress}
-use Rattle.papaya_histories.specs.Given.Seize.declared.progress.Progress.TheVariants as progress
-use Rattle.papaya_histories.specs.Given.Seize.World.{with_at}
-use Rattle.papaya_histories.specs.Given.Resize.declared.new_map.NewMap.{NewMap}
-use Rattle.papaya_histories.specs.Given.Tables.declared.resize_mode.ResizeMode.{ResizeMode}
-use Rattle.papaya_histories.specs.Given.Tables.declared.setting.Setting.{Setting}
-use Rattle.papaya_histories.proofs.Given.Callers.Together.At.{at_other, at_same}
-use Rattle.papaya_runs.specs.Runs.{map_fault}
-use Rattle.papaya_schedules.specs.declared.effect.Effect.{Effect}
-use Rattle.papaya_schedules.specs.declared.effect.Effect.TheVariants.{Asked, Linked, TableMade}
-use Rattle.papaya_schedules.specs.declared.effect.Growth.TheVariants.{ABlock}
-use Rattle.papaya_schedules.specs.declared.event.Event.TheVariants.{MakeMap}
-use Rattle.papaya_schedules.specs.declared.outcome.Outcome.TheVariants.{Done, Refused}
-use Rattle.papaya_schedules.specs.Effects.{AtEachEffect, maps_by, with_effect, with_effects, worked}
-use Rattle.papaya_schedules.specs.Entry.{Entry}
-use Rattle.papaya_schedules.specs.Handing.{is_first_making}
-use Rattle.papaya_schedules.specs.Lives.{EventFinds}
-use Rattle.papaya_schedules.specs.Moment.{MapThere, Moment}
-use Rattle.papaya_schedules.specs.Terms.{Terms}
-use Rattle.papaya_schedules.specs.Views.{map_at}
-use Rattle.papaya_effects.specs.Effects.{effects_of, known_after}
-use Rattle.papaya_effects.specs.Known.{Known, known}
-use Rattle.papaya_effects.specs.declared.acting.Acting.TheVariants as acts
-use Rattle.papaya_histories.specs.Given.Executor.IsAt.{Scene, IsAt, slot_of}
-use Rattle.papaya_histories.specs.Given.Executor.Making.{MakingLeads}
-use Rattle.papaya_histories.specs.Given.Executor.declared.executor.Executor.{Executor}
-use Rattle.papaya_histories.specs.Given.Finishes.Makings.{Beginning, IsMade}
-use Rattle.papaya_histories.specs.Given.Finishes.Maps.{Standing}
-use Rattle.papaya_histories.specs.Given.Follows.Shows.{Shows}
-use Rattle.papaya_histories.proofs.Given.Spots.Unreclaimed.{and_both}
-use Rattle.papaya_histories.specs.Given.Others.Makings.{IsNew, WasNew, making_after}
-use Rattle.papaya_others.proofs.MakingGoes.{new_maps_stay}
-use Rattle.papaya_finds.specs.Linking.{IsMadeFor}
-use Rattle.papaya_finds.proofs.Capacities.{effects_keep_capacities}
-use Rattle.papaya_legal.specs.Chains.{Chain, Come, MakingSteps}
-use Rattle.papaya_legal.specs.MapEvents.{FindsItsMap, HasNotMade, InMakingEvent}
-use Rattle.papaya_legal.proofs.Chains.{makings_chain}
-use Rattle.papaya_legal.proofs.Maps.{unmade_maps}
-use Rattle.papaya_grows.proofs.Finding.Alike.{made_still}
-use Rattle.papaya_legal.proofs.Slots.{each_join}
+use Rattle.papaya_folded.specs.Given.Seize.declared.progress.Progress.{Progress}
+use Rattle.papaya_folded.specs.Given.Seize.declared.progress.Progress.TheVariants as progress
+use Rattle.papaya_folded.specs.Given.Seize.World.{with_at}
+use Rattle.papaya_folded.specs.Given.Resize.declared.new_map.NewMap.{NewMap}
+use Rattle.papaya_folded.specs.Given.Tables.declared.resize_mode.ResizeMode.{ResizeMode}
+use Rattle.papaya_folded.specs.Given.Tables.declared.setting.Setting.{Setting}
+use Rattle.papaya_folded.proofs.Given.Callers.Together.At.{at_other, at_same}
+use Rattle.papaya_folded.specs.Given.Runs.Runs.{map_fault}
+use Rattle.papaya_folded.specs.Given.Schedules.declared.effect.Effect.{Effect}
+use Rattle.papaya_folded.specs.Given.Schedules.declared.effect.Effect.TheVariants.{Asked, Linked, TableMade}
+use Rattle.papaya_folded.specs.Given.Schedules.declared.effect.Growth.TheVariants.{ABlock}
+use Rattle.papaya_folded.specs.Given.Schedules.declared.event.Event.TheVariants.{MakeMap}
+use Rattle.papaya_folded.specs.Given.Schedules.declared.outcome.Outcome.TheVariants.{Done, Refused}
+use Rattle.papaya_folded.specs.Given.Schedules.Effects.{AtEachEffect, maps_by, with_effect, with_effects, worked}
+use Rattle.papaya_folded.specs.Given.Schedules.Entry.{Entry}
+use Rattle.papaya_folded.specs.Given.Schedules.Handing.{is_first_making}
+use Rattle.papaya_folded.specs.Given.Schedules.Lives.{EventFinds}
+use Rattle.papaya_folded.specs.Given.Schedules.Moment.{MapThere, Moment}
+use Rattle.papaya_folded.specs.Given.Schedules.Terms.{Terms}
+use Rattle.papaya_folded.specs.Given.Schedules.Views.{map_at}
+use Rattle.papaya_folded.specs.Given.Effects.Effects.{effects_of, known_after}
+use Rattle.papaya_folded.specs.Given.Effects.Known.{Known, known}
+use Rattle.papaya_folded.specs.Given.Effects.declared.acting.Acting.TheVariants as acts
+use Rattle.papaya_folded.specs.Given.Executor.IsAt.{Scene, IsAt, slot_of}
+use Rattle.papaya_folded.specs.Given.Executor.Making.{MakingLeads}
+use Rattle.papaya_folded.specs.Given.Executor.declared.executor.Executor.{Executor}
+use Rattle.papaya_folded.specs.Given.Finishes.Makings.{Beginning, IsMade}
+use Rattle.papaya_folded.specs.Given.Finishes.Maps.{Standing}
+use Rattle.papaya_folded.specs.Given.Follows.Shows.{Shows}
+use Rattle.papaya_folded.proofs.Given.Spots.Unreclaimed.{and_both}
+use Rattle.papaya_folded.specs.Given.Others.Makings.{IsNew, WasNew, making_after}
+use Rattle.papaya_folded.proofs.Given.Others.MakingGoes.{new_maps_stay}
+use Rattle.papaya_folded.specs.Given.Finds.Linking.{IsMadeFor}
+use Rattle.papaya_folded.proofs.Given.Finds.Capacities.{effects_keep_capacities}
+use Rattle.papaya_folded.specs.Given.Legal.Chains.{Chain, Come, MakingSteps}
+use Rattle.papaya_folded.specs.Given.Legal.MapEvents.{FindsItsMap, HasNotMade, InMakingEvent}
+use Rattle.papaya_folded.proofs.Given.Legal.Chains.{makings_chain}
+use Rattle.papaya_folded.proofs.Given.Legal.Maps.{unmade_maps}
+use Rattle.papaya_folded.proofs.Given.Grows.Finding.Alike.{made_still}
+use Rattle.papaya_folded.proofs.Given.Legal.Slots.{each_join}
 use Rattle.papaya_works.specs.Firsts.{ShowsOpenings}
 use Rattle.papaya_works.proofs.Firsts.{makings_go_on}
-use Rattle.papaya_remains.proofs.Numbered.{made_stays}
-use Rattle.papaya_logged.specs.Goes.{Far, GoesFor, MakingGoes, MakingOn}
-use Rattle.papaya_logged.specs.Makings.{is_over}
-use Rattle.papaya_logged.specs.Shown.{IsCounted}
-use Rattle.papaya_logged.proofs.Counted.{counted_making_steps}
-use Rattle.papaya_logged.proofs.LeftNoted.{makings_note_left}
-use Rattle.papaya_named.specs.Places.{first_places}
+use Rattle.papaya_folded.proofs.Given.Remains.Numbered.{made_stays}
+use Rattle.papaya_folded.specs.Given.Logged.Goes.{Far, GoesFor, MakingGoes, MakingOn}
+use Rattle.papaya_folded.specs.Given.Logged.Makings.{is_over}
+use Rattle.papaya_folded.specs.Given.Logged.Shown.{IsCounted}
+use Rattle.papaya_folded.proofs.Given.Logged.Counted.{counted_making_steps}
+use Rattle.papaya_folded.proofs.Given.Logged.LeftNoted.{makings_note_left}
+use Rattle.papaya_folded.specs.Given.Named.Places.{first_places}
 use Rattle.papaya_works.proofs.Makings.{makings_do_theirs, makings_find_theirs}
 use Rattle.papaya_events.proofs.OfRows.Chain.{come_as, come_by}
 

@@ -3,46 +3,46 @@ use Rattle.std.specs.Prelude.{◌≡◌, ◌≤◌, ◌++◌, ℕ, zero, suc, Bo
 use Rattle.std.specs.List.{list_all}
 use Rattle.std.proofs.Common.{refl, sym, ap, subst, inr, ◌∙◌, arith}
 use Rattle.std.proofs.lemmas.List.Folds.{list_all-append}
-use Rattle.papaya_histories.specs.Given.Seize.declared.progress.Progress.{Progress}
-use Rattle.papaya_histories.specs.Given.Seize.declared.progress.Progress.TheVariants as progress
-use Rattle.papaya_histories.specs.Given.Seize.World.{SlotsTaken}
-use Rattle.papaya_histories.specs.Given.Tables.declared.resize_mode.ResizeMode.{ResizeMode}
-use Rattle.papaya_histories.specs.Given.Tables.declared.setting.Setting.{Setting}
-use Rattle.papaya_histories.proofs.Given.Callers.Together.At.{at_same}
-use Rattle.papaya_histories.proofs.Given.Spots.Unreclaimed.{and_both}
-use Rattle.papaya_histories.specs.Given.Executor.IsAt.{Scene, IsAt}
-use Rattle.papaya_histories.specs.Given.Executor.declared.executor.Executor.{Executor}
-use Rattle.papaya_histories.specs.Given.Finishes.Makings.{Beginning}
-use Rattle.papaya_histories.specs.Given.Finishes.Maps.{Standing}
-use Rattle.papaya_histories.specs.Given.Others.Makings.{WasNew}
-use Rattle.seize_words.specs.declared.fault.Fault.{Fault}
-use Rattle.papaya_schedules.specs.declared.effect.Effect.{Effect}
-use Rattle.papaya_schedules.specs.declared.event.Event.TheVariants.{MakeMap}
-use Rattle.papaya_schedules.specs.declared.outcome.Outcome.TheVariants.{Refused}
-use Rattle.papaya_schedules.specs.After.{moment}
-use Rattle.papaya_schedules.specs.Entry.{Entry, is_busy}
-use Rattle.papaya_schedules.specs.InTurn.{ComesRight, is_growth, is_kept_out}
-use Rattle.papaya_schedules.specs.Moment.{MapThere, Moment}
-use Rattle.papaya_schedules.specs.Terms.{Terms}
-use Rattle.papaya_effects.specs.Effects.{effects_of}
-use Rattle.papaya_effects.specs.Known.{Known, known}
-use Rattle.papaya_effects.specs.declared.acting.Acting.TheVariants as acts
-use Rattle.papaya_effects.specs.declared.notes.Notes.{Notes}
-use Rattle.papaya_legal.specs.CallEvents.{IsLegalBut}
-use Rattle.papaya_legal.specs.Carried.{ShowsRun}
-use Rattle.papaya_legal.specs.Chains.{Come}
-use Rattle.papaya_legal.specs.MapEvents.{HasNotMade, InMakingEvent}
-use Rattle.papaya_legal.proofs.Growths.{growths_leave}
-use Rattle.papaya_legal.proofs.Heads.Chains.{makings_taken}
-use Rattle.papaya_legal.proofs.Heads.Rows.{slots_stay}
-use Rattle.papaya_legal.proofs.Maps.{unmade_maps}
-use Rattle.papaya_legal.proofs.Refused.{refused_begins, refused_ends}
-use Rattle.papaya_reclaims.specs.Left.{LeftAmong}
-use Rattle.papaya_logged.specs.Goes.{Far, GoesFor, MakingGoes, MakingOn, far}
-use Rattle.papaya_logged.specs.Makings.{MakingCame, MakingIsBegun, given_back}
-use Rattle.papaya_logged.specs.declared.logged.Logged.{Logged}
-use Rattle.papaya_logged.proofs.GivenBack.{at_given}
-use Rattle.papaya_logged.proofs.MakingsRun.{came_on}
+use Rattle.papaya_folded.specs.Given.Seize.declared.progress.Progress.{Progress}
+use Rattle.papaya_folded.specs.Given.Seize.declared.progress.Progress.TheVariants as progress
+use Rattle.papaya_folded.specs.Given.Seize.World.{SlotsTaken}
+use Rattle.papaya_folded.specs.Given.Tables.declared.resize_mode.ResizeMode.{ResizeMode}
+use Rattle.papaya_folded.specs.Given.Tables.declared.setting.Setting.{Setting}
+use Rattle.papaya_folded.proofs.Given.Callers.Together.At.{at_same}
+use Rattle.papaya_folded.proofs.Given.Spots.Unreclaimed.{and_both}
+use Rattle.papaya_folded.specs.Given.Executor.IsAt.{Scene, IsAt}
+use Rattle.papaya_folded.specs.Given.Executor.declared.executor.Executor.{Executor}
+use Rattle.papaya_folded.specs.Given.Finishes.Makings.{Beginning}
+use Rattle.papaya_folded.specs.Given.Finishes.Maps.{Standing}
+use Rattle.papaya_folded.specs.Given.Others.Makings.{WasNew}
+use Rattle.papaya_folded.specs.Given.SeizeWords.declared.fault.Fault.{Fault}
+use Rattle.papaya_folded.specs.Given.Schedules.declared.effect.Effect.{Effect}
+use Rattle.papaya_folded.specs.Given.Schedules.declared.event.Event.TheVariants.{MakeMap}
+use Rattle.papaya_folded.specs.Given.Schedules.declared.outcome.Outcome.TheVariants.{Refused}
+use Rattle.papaya_folded.specs.Given.Schedules.After.{moment}
+use Rattle.papaya_folded.specs.Given.Schedules.Entry.{Entry, is_busy}
+use Rattle.papaya_folded.specs.Given.Schedules.InTurn.{ComesRight, is_growth, is_kept_out}
+use Rattle.papaya_folded.specs.Given.Schedules.Moment.{MapThere, Moment}
+use Rattle.papaya_folded.specs.Given.Schedules.Terms.{Terms}
+use Rattle.papaya_folded.specs.Given.Effects.Effects.{effects_of}
+use Rattle.papaya_folded.specs.Given.Effects.Known.{Known, known}
+use Rattle.papaya_folded.specs.Given.Effects.declared.acting.Acting.TheVariants as acts
+use Rattle.papaya_folded.specs.Given.Effects.declared.notes.Notes.{Notes}
+use Rattle.papaya_folded.specs.Given.Legal.CallEvents.{IsLegalBut}
+use Rattle.papaya_folded.specs.Given.Legal.Carried.{ShowsRun}
+use Rattle.papaya_folded.specs.Given.Legal.Chains.{Come}
+use Rattle.papaya_folded.specs.Given.Legal.MapEvents.{HasNotMade, InMakingEvent}
+use Rattle.papaya_folded.proofs.Given.Legal.Growths.{growths_leave}
+use Rattle.papaya_folded.proofs.Given.Legal.Heads.Chains.{makings_taken}
+use Rattle.papaya_folded.proofs.Given.Legal.Heads.Rows.{slots_stay}
+use Rattle.papaya_folded.proofs.Given.Legal.Maps.{unmade_maps}
+use Rattle.papaya_folded.proofs.Given.Legal.Refused.{refused_begins, refused_ends}
+use Rattle.papaya_folded.specs.Given.Reclaims.Left.{LeftAmong}
+use Rattle.papaya_folded.specs.Given.Logged.Goes.{Far, GoesFor, MakingGoes, MakingOn, far}
+use Rattle.papaya_folded.specs.Given.Logged.Makings.{MakingCame, MakingIsBegun, given_back}
+use Rattle.papaya_folded.specs.Given.Logged.declared.logged.Logged.{Logged}
+use Rattle.papaya_folded.proofs.Given.Logged.GivenBack.{at_given}
+use Rattle.papaya_folded.proofs.Given.Logged.MakingsRun.{came_on}
 use Rattle.papaya_scheduler.specs.Mapping.{MayMap}
 use Rattle.papaya_scheduler.specs.Played.{IsPlayed}
 use Rattle.papaya_scheduler.specs.Works.{MakingHasRun}

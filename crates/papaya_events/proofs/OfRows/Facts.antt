@@ -1,46 +1,46 @@
 -- What is so of the row that is an event's work: it might begin, it is over, it ends the section of no other guard, and it is the event's row to the waiting sets.
 use Rattle.std.specs.Prelude.{◌≡◌, ◌==◌, ◌⊎◌, ℕ, Bool, true, false, List, [], Option, Some, None, if◌then◌else◌}
 use Rattle.std.proofs.Common.{refl, sym, ap, subst, inl, inr, ◌∙◌}
-use Rattle.papaya_histories.specs.Given.SeizeWords.Mem.{word_at}
-use Rattle.papaya_histories.specs.Given.SeizeWords.declared.at.At.TheVariants as at
-use Rattle.seize_words.specs.declared.fault.Fault.{Fault}
-use Rattle.seize_words.specs.declared.fault.Fault.TheVariants.{Memory, SlotsUsedUp}
-use Rattle.papaya_histories.specs.Given.Seize.declared.states.TheConstants.{BATCH, HELD}
-use Rattle.papaya_histories.specs.Given.Seize.Sequence.{changes, entered_at, new_slot}
-use Rattle.papaya_histories.specs.Given.Seize.WaitingSets.{Change}
-use Rattle.papaya_histories.specs.Given.Seize.World.{World, IsInside, Use, Enter', Flush as Flush', Leave', LeaveOwned, Refresh as Refresh', Register'}
-use Rattle.papaya_histories.specs.Given.Tables.declared.node.Node.{Node}
-use Rattle.papaya_runs.specs.Present.{Present, drops, guard_of, guards_on, guards_slot_or, has_registration, living_slot, slot_of_guard, slot_of_registration}
-use Rattle.papaya_schedules.specs.declared.effect.Effect.{Effect}
-use Rattle.papaya_schedules.specs.declared.event.Event.{Event}
-use Rattle.papaya_schedules.specs.declared.event.Event.TheVariants.{DropGuard, Enter, Flush, Own, Refresh, Register, Unregister}
-use Rattle.papaya_schedules.specs.declared.outcome.Outcome.{Outcome}
-use Rattle.papaya_schedules.specs.declared.outcome.Outcome.TheVariants.{Done, Refused, Slot}
-use Rattle.papaya_schedules.specs.After.{moment}
-use Rattle.papaya_schedules.specs.Beginning.{begun}
-use Rattle.papaya_schedules.specs.Entry.{Entry, is_busy}
-use Rattle.papaya_schedules.specs.InTurn.{is_kept_out}
-use Rattle.papaya_schedules.specs.Moment.{Moment}
-use Rattle.papaya_schedules.specs.Terms.{Terms}
-use Rattle.papaya_histories.specs.Given.Executor.IsAt.{IsUsedAs, use_at, work_of}
-use Rattle.papaya_histories.specs.Given.Executor.OnSlots.{MayBegin}
-use Rattle.papaya_histories.specs.Given.Executor.Rows.{request_of}
-use Rattle.papaya_histories.specs.Given.Executor.declared.row.RowTold.{RowTold}
-use Rattle.papaya_histories.specs.Given.Executor.declared.row.RowTold.TheVariants as told
-use Rattle.papaya_histories.specs.Given.Executor.declared.row.SlotCall.{SlotCall}
-use Rattle.papaya_histories.specs.Given.Executor.declared.row.SlotCall.TheVariants as call
-use Rattle.papaya_histories.specs.Given.Executor.declared.row.SlotUse.{SlotUse}
-use Rattle.papaya_histories.specs.Given.Executor.declared.row.SlotUse.TheVariants as used
-use Rattle.papaya_promises.specs.Others.{NobodyOn, SparesGuards}
-use Rattle.papaya_promises.specs.Protected.{EndsInside, there_in}
-use Rattle.papaya_promises.proofs.Guards.{only_guards_leave_nobody}
-use Rattle.papaya_models.specs.OnSlots.{IsRowFor}
-use Rattle.papaya_models.specs.Rows.{RowsAre}
-use Rattle.papaya_models.proofs.Rows.{events_are_rows}
-use Rattle.papaya_logged.specs.declared.logged.Logged.{Logged}
-use Rattle.papaya_rows.specs.Rows.{RowRan, left_as}
-use Rattle.papaya_rows.proofs.NeverWaits.{led_alone, over_alone}
-use Rattle.papaya_rows.proofs.Ran.{Led, led_once, over_once}
+use Rattle.papaya_folded.specs.Given.SeizeWords.Mem.{word_at}
+use Rattle.papaya_folded.specs.Given.SeizeWords.declared.at.At.TheVariants as at
+use Rattle.papaya_folded.specs.Given.SeizeWords.declared.fault.Fault.{Fault}
+use Rattle.papaya_folded.specs.Given.SeizeWords.declared.fault.Fault.TheVariants.{Memory, SlotsUsedUp}
+use Rattle.papaya_folded.specs.Given.Seize.declared.states.TheConstants.{BATCH, HELD}
+use Rattle.papaya_folded.specs.Given.Seize.Sequence.{changes, entered_at, new_slot}
+use Rattle.papaya_folded.specs.Given.Seize.WaitingSets.{Change}
+use Rattle.papaya_folded.specs.Given.Seize.World.{World, IsInside, Use, Enter', Flush as Flush', Leave', LeaveOwned, Refresh as Refresh', Register'}
+use Rattle.papaya_folded.specs.Given.Tables.declared.node.Node.{Node}
+use Rattle.papaya_folded.specs.Given.Runs.Present.{Present, drops, guard_of, guards_on, guards_slot_or, has_registration, living_slot, slot_of_guard, slot_of_registration}
+use Rattle.papaya_folded.specs.Given.Schedules.declared.effect.Effect.{Effect}
+use Rattle.papaya_folded.specs.Given.Schedules.declared.event.Event.{Event}
+use Rattle.papaya_folded.specs.Given.Schedules.declared.event.Event.TheVariants.{DropGuard, Enter, Flush, Own, Refresh, Register, Unregister}
+use Rattle.papaya_folded.specs.Given.Schedules.declared.outcome.Outcome.{Outcome}
+use Rattle.papaya_folded.specs.Given.Schedules.declared.outcome.Outcome.TheVariants.{Done, Refused, Slot}
+use Rattle.papaya_folded.specs.Given.Schedules.After.{moment}
+use Rattle.papaya_folded.specs.Given.Schedules.Beginning.{begun}
+use Rattle.papaya_folded.specs.Given.Schedules.Entry.{Entry, is_busy}
+use Rattle.papaya_folded.specs.Given.Schedules.InTurn.{is_kept_out}
+use Rattle.papaya_folded.specs.Given.Schedules.Moment.{Moment}
+use Rattle.papaya_folded.specs.Given.Schedules.Terms.{Terms}
+use Rattle.papaya_folded.specs.Given.Executor.IsAt.{IsUsedAs, use_at, work_of}
+use Rattle.papaya_folded.specs.Given.Executor.OnSlots.{MayBegin}
+use Rattle.papaya_folded.specs.Given.Executor.Rows.{request_of}
+use Rattle.papaya_folded.specs.Given.Executor.declared.row.RowTold.{RowTold}
+use Rattle.papaya_folded.specs.Given.Executor.declared.row.RowTold.TheVariants as told
+use Rattle.papaya_folded.specs.Given.Executor.declared.row.SlotCall.{SlotCall}
+use Rattle.papaya_folded.specs.Given.Executor.declared.row.SlotCall.TheVariants as call
+use Rattle.papaya_folded.specs.Given.Executor.declared.row.SlotUse.{SlotUse}
+use Rattle.papaya_folded.specs.Given.Executor.declared.row.SlotUse.TheVariants as used
+use Rattle.papaya_folded.specs.Given.Promises.Others.{NobodyOn, SparesGuards}
+use Rattle.papaya_folded.specs.Given.Promises.Protected.{EndsInside, there_in}
+use Rattle.papaya_folded.proofs.Given.Promises.Guards.{only_guards_leave_nobody}
+use Rattle.papaya_folded.specs.Given.Models.OnSlots.{IsRowFor}
+use Rattle.papaya_folded.specs.Given.Models.Rows.{RowsAre}
+use Rattle.papaya_folded.proofs.Given.Models.Rows.{events_are_rows}
+use Rattle.papaya_folded.specs.Given.Logged.declared.logged.Logged.{Logged}
+use Rattle.papaya_folded.specs.Given.Rows.Rows.{RowRan, left_as}
+use Rattle.papaya_folded.proofs.Given.Rows.NeverWaits.{led_alone, over_alone}
+use Rattle.papaya_folded.proofs.Given.Rows.Ran.{Led, led_once, over_once}
 use Rattle.papaya_scheduler.specs.Played.{IsDue, StandsFor}
 use Rattle.papaya_scheduler.specs.Works.{ComesBy, IsAbout, IsItsRow, told_so}
 use Rattle.papaya_scheduler.specs.declared.scheduler.Scheduler.{Scheduler}

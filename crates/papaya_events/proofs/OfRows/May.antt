@@ -2,19 +2,19 @@
 use Rattle.std.specs.Prelude.{◌≡◌, ◌==◌, ◌&&◌, ℕ, Bool, true, false, List, [], ◌∷◌, if◌then◌else◌}
 use Rattle.std.specs.List.{list_all}
 use Rattle.std.proofs.Common.{refl, ap, sym, ◌∙◌}
-use Rattle.papaya_histories.specs.Given.Seize.World.{IsInside}
-use Rattle.papaya_histories.proofs.Given.Spots.Unreclaimed.{and_both}
-use Rattle.papaya_runs.specs.Present.{guards_on, has_registration}
-use Rattle.papaya_schedules.specs.declared.effect.Effect.{Effect}
-use Rattle.papaya_schedules.specs.declared.event.Event.{Event}
-use Rattle.papaya_schedules.specs.declared.event.Event.TheVariants.{DropGuard, Enter, Flush, Own, Refresh, Register, Unregister}
-use Rattle.papaya_schedules.specs.After.{moment}
-use Rattle.papaya_schedules.specs.Entry.{Entry}
-use Rattle.papaya_schedules.specs.Handing.{is_only, is_reclaiming, may_do}
-use Rattle.papaya_schedules.specs.Terms.{Terms}
-use Rattle.papaya_histories.specs.Given.Executor.declared.row.SlotCall.{SlotCall}
-use Rattle.papaya_histories.specs.Given.Executor.declared.row.SlotCall.TheVariants as call
-use Rattle.papaya_rows.proofs.There.{is_inside, on_its_slot}
+use Rattle.papaya_folded.specs.Given.Seize.World.{IsInside}
+use Rattle.papaya_folded.proofs.Given.Spots.Unreclaimed.{and_both}
+use Rattle.papaya_folded.specs.Given.Runs.Present.{guards_on, has_registration}
+use Rattle.papaya_folded.specs.Given.Schedules.declared.effect.Effect.{Effect}
+use Rattle.papaya_folded.specs.Given.Schedules.declared.event.Event.{Event}
+use Rattle.papaya_folded.specs.Given.Schedules.declared.event.Event.TheVariants.{DropGuard, Enter, Flush, Own, Refresh, Register, Unregister}
+use Rattle.papaya_folded.specs.Given.Schedules.After.{moment}
+use Rattle.papaya_folded.specs.Given.Schedules.Entry.{Entry}
+use Rattle.papaya_folded.specs.Given.Schedules.Handing.{is_only, is_reclaiming, may_do}
+use Rattle.papaya_folded.specs.Given.Schedules.Terms.{Terms}
+use Rattle.papaya_folded.specs.Given.Executor.declared.row.SlotCall.{SlotCall}
+use Rattle.papaya_folded.specs.Given.Executor.declared.row.SlotCall.TheVariants as call
+use Rattle.papaya_folded.proofs.Given.Rows.There.{is_inside, on_its_slot}
 use Rattle.papaya_scheduler.specs.Played.{StandsFor}
 use Rattle.papaya_scheduler.specs.Works.{IsAbout, IsItsRow}
 use Rattle.papaya_scheduler.specs.declared.scheduler.Scheduler.{Scheduler}

@@ -1,21 +1,21 @@
 -- Once an event that is of no call is over, the run goes on in the scene to which it has led.
 use Rattle.std.specs.Prelude.{◌≡◌, ◌≤◌, ℕ, Bool, false, List, ◌∷◌, None}
 use Rattle.std.proofs.Common.{refl, sym, subst}
-use Rattle.papaya_histories.specs.Given.Seize.World.{SlotsTaken}
-use Rattle.papaya_histories.specs.Given.Executor.IsAt.{Scene, IsAt}
-use Rattle.papaya_schedules.specs.declared.event.Event.{Event}
-use Rattle.papaya_schedules.specs.declared.event.Event.TheVariants.{Go, Next, OneCall, Step}
-use Rattle.papaya_schedules.specs.After.{moment}
-use Rattle.papaya_schedules.specs.Entry.{Entry, caller_of}
-use Rattle.papaya_schedules.specs.InTurn.{ComesRight}
-use Rattle.papaya_schedules.specs.Terms.{Terms}
-use Rattle.papaya_effects.specs.Known.{known}
-use Rattle.papaya_legal.specs.CallEvents.{IsLegalBut}
-use Rattle.papaya_legal.specs.Carried.{ShowsRun}
-use Rattle.papaya_legal.proofs.Come.{events_bring_things}
+use Rattle.papaya_folded.specs.Given.Seize.World.{SlotsTaken}
+use Rattle.papaya_folded.specs.Given.Executor.IsAt.{Scene, IsAt}
+use Rattle.papaya_folded.specs.Given.Schedules.declared.event.Event.{Event}
+use Rattle.papaya_folded.specs.Given.Schedules.declared.event.Event.TheVariants.{Go, Next, OneCall, Step}
+use Rattle.papaya_folded.specs.Given.Schedules.After.{moment}
+use Rattle.papaya_folded.specs.Given.Schedules.Entry.{Entry, caller_of}
+use Rattle.papaya_folded.specs.Given.Schedules.InTurn.{ComesRight}
+use Rattle.papaya_folded.specs.Given.Schedules.Terms.{Terms}
+use Rattle.papaya_folded.specs.Given.Effects.Known.{known}
+use Rattle.papaya_folded.specs.Given.Legal.CallEvents.{IsLegalBut}
+use Rattle.papaya_folded.specs.Given.Legal.Carried.{ShowsRun}
+use Rattle.papaya_folded.proofs.Given.Legal.Come.{events_bring_things}
 use Rattle.papaya_folded.proofs.Steps.{none_in_order}
-use Rattle.papaya_reclaims.specs.Left.{LeftAmong}
-use Rattle.papaya_named.specs.declared.caller.Callers.{Callers}
+use Rattle.papaya_folded.specs.Given.Reclaims.Left.{LeftAmong}
+use Rattle.papaya_folded.specs.Given.Named.declared.caller.Callers.{Callers}
 use Rattle.papaya_scheduler.specs.Played.{IsPlayed}
 use Rattle.papaya_scheduler.specs.declared.scheduler.Scheduler.{Scheduler}
 use Rattle.papaya_events.specs.Asked.{is_of_calls}

@@ -2,42 +2,42 @@
 use Rattle.std.specs.Prelude.{◌≡◌, ◌≢◌, ◌||◌, ◌+◌, ℕ, Bool, true, false, List, [], ◌∷◌, not, Option, None, flat_map}
 use Rattle.std.specs.List.{list_all, list_any}
 use Rattle.std.proofs.Common.{refl, sym, ap, subst, ◌∙◌}
-use Rattle.papaya_histories.specs.Given.Seize.World.{World, IsInside}
-use Rattle.papaya_histories.specs.Given.Tables.declared.node.Node.{Node}
-use Rattle.papaya_histories.proofs.OtherCalls.{no_calls_are_linearizable}
-use Rattle.seize_words.specs.declared.fault.Fault.{Fault}
-use Rattle.seize_words.specs.declared.fault.Fault.TheVariants.{Busy}
-use Rattle.papaya_runs.specs.Present.{Present, guards_on, slot_of_guard, slot_of_registration}
-use Rattle.papaya_schedules.specs.declared.effect.Effect.{Effect}
-use Rattle.papaya_schedules.specs.declared.event.Event.{Event}
-use Rattle.papaya_schedules.specs.declared.event.Event.TheVariants.{DropGuard, EndMap, Enter, Flush, MakeMap, Own, Refresh, Register, Unregister}
-use Rattle.papaya_schedules.specs.declared.outcome.Outcome.TheVariants.{Done, Refused}
-use Rattle.papaya_schedules.specs.After.{after, moment, moments_from, slots_on}
-use Rattle.papaya_schedules.specs.Beginning.{at_work}
-use Rattle.papaya_schedules.specs.Effects.{AtEachEffect, worked}
-use Rattle.papaya_schedules.specs.Entry.{Entry, IfCall, acted_on, acting, caller_of}
-use Rattle.papaya_schedules.specs.Handing.{IsWhole, LeavesOf, comes_clear, gives_all, is_granted, is_made, may_do, moments_of, refuses as refuses_growth}
-use Rattle.papaya_schedules.specs.InTurn.{ComesRight, is_kept_out}
-use Rattle.papaya_schedules.specs.Lives.{Finds}
-use Rattle.papaya_schedules.specs.Model.{changes_of, left_last}
-use Rattle.papaya_schedules.specs.Moment.{UnderWay as CallThere, Moment}
-use Rattle.papaya_schedules.specs.Reclaims.{IsProtected}
-use Rattle.papaya_schedules.specs.Steps.{IsBrief}
-use Rattle.papaya_schedules.specs.Terms.{Terms}
-use Rattle.papaya_effects.specs.Known.{Known, known}
-use Rattle.papaya_schedules.specs.Linearizable.{shift_of}
-use Rattle.papaya_promises.specs.Guards.{EntersInside}
-use Rattle.papaya_promises.specs.Sheltered.{SectionsHold}
-use Rattle.papaya_promises.proofs.Protected.{idle_events_are_protected}
-use Rattle.papaya_models.proofs.Follows.{idle_events_follow}
-use Rattle.papaya_models.proofs.Rows.{events_are_rows}
-use Rattle.papaya_purposes.proofs.Nothing.{no_calls_are_swept}
-use Rattle.papaya_finds.specs.Little.{ReclaimsAll}
-use Rattle.papaya_legal.specs.CallEvents.{IsLegalBut}
-use Rattle.papaya_legal.specs.Carried.{ShowsRun}
-use Rattle.papaya_legal.specs.Over.{LeavesAll}
-use Rattle.papaya_legal.proofs.Over.{idle_events_end}
-use Rattle.papaya_rows.proofs.There.{is_inside}
+use Rattle.papaya_folded.specs.Given.Seize.World.{World, IsInside}
+use Rattle.papaya_folded.specs.Given.Tables.declared.node.Node.{Node}
+use Rattle.papaya_folded.proofs.Given.Histories.OtherCalls.{no_calls_are_linearizable}
+use Rattle.papaya_folded.specs.Given.SeizeWords.declared.fault.Fault.{Fault}
+use Rattle.papaya_folded.specs.Given.SeizeWords.declared.fault.Fault.TheVariants.{Busy}
+use Rattle.papaya_folded.specs.Given.Runs.Present.{Present, guards_on, slot_of_guard, slot_of_registration}
+use Rattle.papaya_folded.specs.Given.Schedules.declared.effect.Effect.{Effect}
+use Rattle.papaya_folded.specs.Given.Schedules.declared.event.Event.{Event}
+use Rattle.papaya_folded.specs.Given.Schedules.declared.event.Event.TheVariants.{DropGuard, EndMap, Enter, Flush, MakeMap, Own, Refresh, Register, Unregister}
+use Rattle.papaya_folded.specs.Given.Schedules.declared.outcome.Outcome.TheVariants.{Done, Refused}
+use Rattle.papaya_folded.specs.Given.Schedules.After.{after, moment, moments_from, slots_on}
+use Rattle.papaya_folded.specs.Given.Schedules.Beginning.{at_work}
+use Rattle.papaya_folded.specs.Given.Schedules.Effects.{AtEachEffect, worked}
+use Rattle.papaya_folded.specs.Given.Schedules.Entry.{Entry, IfCall, acted_on, acting, caller_of}
+use Rattle.papaya_folded.specs.Given.Schedules.Handing.{IsWhole, LeavesOf, comes_clear, gives_all, is_granted, is_made, may_do, moments_of, refuses as refuses_growth}
+use Rattle.papaya_folded.specs.Given.Schedules.InTurn.{ComesRight, is_kept_out}
+use Rattle.papaya_folded.specs.Given.Schedules.Lives.{Finds}
+use Rattle.papaya_folded.specs.Given.Schedules.Model.{changes_of, left_last}
+use Rattle.papaya_folded.specs.Given.Schedules.Moment.{UnderWay as CallThere, Moment}
+use Rattle.papaya_folded.specs.Given.Schedules.Reclaims.{IsProtected}
+use Rattle.papaya_folded.specs.Given.Schedules.Steps.{IsBrief}
+use Rattle.papaya_folded.specs.Given.Schedules.Terms.{Terms}
+use Rattle.papaya_folded.specs.Given.Effects.Known.{Known, known}
+use Rattle.papaya_folded.specs.Given.Schedules.Linearizable.{shift_of}
+use Rattle.papaya_folded.specs.Given.Promises.Guards.{EntersInside}
+use Rattle.papaya_folded.specs.Given.Promises.Sheltered.{SectionsHold}
+use Rattle.papaya_folded.proofs.Given.Promises.Protected.{idle_events_are_protected}
+use Rattle.papaya_folded.proofs.Given.Models.Follows.{idle_events_follow}
+use Rattle.papaya_folded.proofs.Given.Models.Rows.{events_are_rows}
+use Rattle.papaya_folded.proofs.Given.Purposes.Nothing.{no_calls_are_swept}
+use Rattle.papaya_folded.specs.Given.Finds.Little.{ReclaimsAll}
+use Rattle.papaya_folded.specs.Given.Legal.CallEvents.{IsLegalBut}
+use Rattle.papaya_folded.specs.Given.Legal.Carried.{ShowsRun}
+use Rattle.papaya_folded.specs.Given.Legal.Over.{LeavesAll}
+use Rattle.papaya_folded.proofs.Given.Legal.Over.{idle_events_end}
+use Rattle.papaya_folded.proofs.Given.Rows.There.{is_inside}
 use Rattle.papaya_scheduler.specs.Played.{IsDue, IsPlayed, StandsFor}
 use Rattle.papaya_scheduler.specs.Works.{HasNoRow, IsAbout}
 use Rattle.papaya_scheduler.specs.declared.scheduler.Scheduler.{Scheduler}

@@ -1,36 +1,36 @@
 -- Of the effects of a step that makes a block, or is refused one, the one that asks for it finds what it must, if the call may ask; of the others nothing is left.
 use Rattle.std.specs.Prelude.{◌≡◌, ℕ, Bool, false, List, [], ◌∷◌, Option, Some}
 use Rattle.std.proofs.Common.{refl, sym, subst}
-use Rattle.papaya_histories.specs.Given.SeizeWords.Mem.{Mem}
-use Rattle.papaya_histories.specs.Given.SeizeWords.Plan.{Plan}
-use Rattle.papaya_histories.specs.Given.Tables.declared.node.Node.{Node}
-use Rattle.papaya_histories.specs.Given.Resize.declared.new_table.NewTable.{NewTable}
-use Rattle.papaya_histories.specs.Given.Raw.declared.machines.progress.Progress.{Progress}
-use Rattle.papaya_histories.specs.Given.Schedules.declared.effect.Effect.{Effect}
-use Rattle.papaya_histories.specs.Given.Schedules.declared.effect.Effect.TheVariants as effect
-use Rattle.papaya_histories.specs.Given.Schedules.declared.effect.Growth.TheVariants.{ABlock, ABucket}
-use Rattle.papaya_histories.specs.Given.Schedules.Effects.{call_by, with_effect}
-use Rattle.papaya_histories.specs.Given.Schedules.Entry.{ByCall}
-use Rattle.papaya_histories.specs.Given.Schedules.Growing.{MayGrow}
-use Rattle.papaya_histories.specs.Given.Schedules.Moment.{UnderWay as CallThere, Moment}
-use Rattle.papaya_histories.specs.Given.Schedules.Terms.{Terms}
-use Rattle.papaya_histories.specs.Given.Schedules.Views.{call_of}
-use Rattle.papaya_histories.specs.Given.Teller.Tells.{StepsTold}
-use Rattle.papaya_histories.specs.Given.Teller.declared.changed.Changed.{Changed}
-use Rattle.papaya_histories.specs.Given.Teller.declared.changed.Changed.TheVariants as changed
-use Rattle.papaya_histories.specs.Given.Teller.declared.changed.Kind.{Kind}
-use Rattle.papaya_histories.specs.Given.Teller.declared.changed.Kind.TheVariants as kind
-use Rattle.papaya_histories.specs.Given.Callers.Together.{UnderWay}
-use Rattle.papaya_histories.specs.Given.Effects.Effects.{table_at, effects_of}
-use Rattle.papaya_histories.specs.Given.Effects.Known.{Known}
-use Rattle.papaya_histories.specs.Given.Effects.declared.acting.Acting.{Acting}
-use Rattle.papaya_histories.specs.Given.Effects.declared.acting.Acting.TheVariants as acts
-use Rattle.papaya_histories.specs.Given.Executor.IsAt.{Scene, IsAt}
-use Rattle.papaya_histories.specs.Given.Executor.Stepping.{StepLeads}
-use Rattle.papaya_histories.specs.Given.Executor.declared.executor.Executor.{Executor}
-use Rattle.papaya_histories.specs.Given.Finishes.Machines.{machine_of}
-use Rattle.papaya_histories.proofs.Given.Follows.Steps.{WentTo, went_to}
-use Rattle.papaya_histories.specs.Given.Moments.Whole.{ShowsWhole}
+use Rattle.papaya_settles.specs.Given.SeizeWords.Mem.{Mem}
+use Rattle.papaya_settles.specs.Given.SeizeWords.Plan.{Plan}
+use Rattle.papaya_settles.specs.Given.Tables.declared.node.Node.{Node}
+use Rattle.papaya_settles.specs.Given.Resize.declared.new_table.NewTable.{NewTable}
+use Rattle.papaya_settles.specs.Given.Raw.declared.machines.progress.Progress.{Progress}
+use Rattle.papaya_settles.specs.Given.Schedules.declared.effect.Effect.{Effect}
+use Rattle.papaya_settles.specs.Given.Schedules.declared.effect.Effect.TheVariants as effect
+use Rattle.papaya_settles.specs.Given.Schedules.declared.effect.Growth.TheVariants.{ABlock, ABucket}
+use Rattle.papaya_settles.specs.Given.Schedules.Effects.{call_by, with_effect}
+use Rattle.papaya_settles.specs.Given.Schedules.Entry.{ByCall}
+use Rattle.papaya_settles.specs.Given.Schedules.Growing.{MayGrow}
+use Rattle.papaya_settles.specs.Given.Schedules.Moment.{UnderWay as CallThere, Moment}
+use Rattle.papaya_settles.specs.Given.Schedules.Terms.{Terms}
+use Rattle.papaya_settles.specs.Given.Schedules.Views.{call_of}
+use Rattle.papaya_settles.specs.Given.Teller.Tells.{StepsTold}
+use Rattle.papaya_settles.specs.Given.Teller.declared.changed.Changed.{Changed}
+use Rattle.papaya_settles.specs.Given.Teller.declared.changed.Changed.TheVariants as changed
+use Rattle.papaya_settles.specs.Given.Teller.declared.changed.Kind.{Kind}
+use Rattle.papaya_settles.specs.Given.Teller.declared.changed.Kind.TheVariants as kind
+use Rattle.papaya_settles.specs.Given.Callers.Together.{UnderWay}
+use Rattle.papaya_settles.specs.Given.Effects.Effects.{table_at, effects_of}
+use Rattle.papaya_settles.specs.Given.Effects.Known.{Known}
+use Rattle.papaya_settles.specs.Given.Effects.declared.acting.Acting.{Acting}
+use Rattle.papaya_settles.specs.Given.Effects.declared.acting.Acting.TheVariants as acts
+use Rattle.papaya_settles.specs.Given.Executor.IsAt.{Scene, IsAt}
+use Rattle.papaya_settles.specs.Given.Executor.Stepping.{StepLeads}
+use Rattle.papaya_settles.specs.Given.Executor.declared.executor.Executor.{Executor}
+use Rattle.papaya_settles.specs.Given.Finishes.Machines.{machine_of}
+use Rattle.papaya_settles.proofs.Given.Follows.Steps.{WentTo, went_to}
+use Rattle.papaya_settles.specs.Given.Moments.Whole.{ShowsWhole}
 use Rattle.papaya_owes.proofs.Fields.{its_effect}
 use Rattle.papaya_owes.proofs.Short.Effects.{of_growth, NoneOfGrowth, none_asked}
 use Rattle.papaya_owes.proofs.Tables.Held.{call_unmade}

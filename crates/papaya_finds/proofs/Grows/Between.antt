@@ -1,20 +1,20 @@
 -- Between the steps of calls: where a call begins, takes a reply, goes on as a walk, or is under way no more, each that makes a table has what it stores.
 use Rattle.std.specs.Prelude.{◌≡◌, ℕ, Bool, Some}
 use Rattle.std.proofs.Common.{ap, sym, subst, ◌∙◌, inl, inr}
-use Rattle.papaya_histories.specs.Given.Raw.CallAsks.{replied}
-use Rattle.papaya_histories.specs.Given.Raw.Machine.{machine_asked, machine_replied, sweep_asked, sweep_replied}
-use Rattle.papaya_histories.specs.Given.Raw.declared.machines.call.KeyCall.{KeyCall}
-use Rattle.papaya_histories.specs.Given.Raw.declared.machines.machine.Machine.{Machine}
-use Rattle.papaya_histories.specs.Given.Raw.declared.machines.machine.Machine.TheVariants as kinds
-use Rattle.papaya_histories.specs.Given.Schedules.Moment.{Moment}
-use Rattle.papaya_histories.specs.Given.Callers.Pairs.{Given}
-use Rattle.papaya_histories.specs.Given.Callers.Together.{CallOnKey, UnderWay, OnKey, ForRoom, Counting, OverAll, IsBegun, Gets, Removes, Inserts, TriesToInsert, Computes, Updates, UpdatesOrInserts, TriesToInsertWith, RemovesIf}
-use Rattle.papaya_histories.specs.Given.Executor.Beginning.{Begins}
-use Rattle.papaya_histories.specs.Given.Executor.IsAt.{Scene, slot_of}
-use Rattle.papaya_histories.specs.Given.Executor.Replying.{scene_with}
-use Rattle.papaya_histories.specs.Given.Finishes.Machines.{machine_of}
-use Rattle.papaya_histories.specs.Given.Finishes.Maps.{Standing}
-use Rattle.papaya_histories.proofs.Given.Hands.Asking.{which}
+use Rattle.papaya_settles.specs.Given.Raw.CallAsks.{replied}
+use Rattle.papaya_settles.specs.Given.Raw.Machine.{machine_asked, machine_replied, sweep_asked, sweep_replied}
+use Rattle.papaya_settles.specs.Given.Raw.declared.machines.call.KeyCall.{KeyCall}
+use Rattle.papaya_settles.specs.Given.Raw.declared.machines.machine.Machine.{Machine}
+use Rattle.papaya_settles.specs.Given.Raw.declared.machines.machine.Machine.TheVariants as kinds
+use Rattle.papaya_settles.specs.Given.Schedules.Moment.{Moment}
+use Rattle.papaya_settles.specs.Given.Callers.Pairs.{Given}
+use Rattle.papaya_settles.specs.Given.Callers.Together.{CallOnKey, UnderWay, OnKey, ForRoom, Counting, OverAll, IsBegun, Gets, Removes, Inserts, TriesToInsert, Computes, Updates, UpdatesOrInserts, TriesToInsertWith, RemovesIf}
+use Rattle.papaya_settles.specs.Given.Executor.Beginning.{Begins}
+use Rattle.papaya_settles.specs.Given.Executor.IsAt.{Scene, slot_of}
+use Rattle.papaya_settles.specs.Given.Executor.Replying.{scene_with}
+use Rattle.papaya_settles.specs.Given.Finishes.Machines.{machine_of}
+use Rattle.papaya_settles.specs.Given.Finishes.Maps.{Standing}
+use Rattle.papaya_settles.proofs.Given.Hands.Asking.{which}
 use Rattle.papaya_owes.proofs.Kept.{calls_without}
 use Rattle.papaya_finds.specs.Growing.{GrowsAt, ShowsGrowing, GrowingBegins, GrowingStays, CallsBeginGrowing, CallsTakeGrowing, WalksGoOnGrowing, CallsGoGrowing}
 use Rattle.papaya_finds.specs.Within.{many_of}

@@ -1,30 +1,30 @@
 -- What steps of calls find by is so at another moment with the same tables, maps and pairs, at which calls owe what they have in hand.
 use Rattle.std.specs.Prelude.{◌≡◌, ◌≤◌, ◌==◌, ℕ, Bool, List, length, filter, find, Option, Some}
 use Rattle.std.proofs.Common.{refl, ap, sym, subst, ◌∙◌, arith}
-use Rattle.papaya_histories.specs.Given.Tables.Lengths.{entries_of}
-use Rattle.papaya_histories.specs.Given.Tables.declared.setting.Setting.{Setting}
-use Rattle.papaya_histories.specs.Given.Schedules.declared.effect.Spot.{Spot}
-use Rattle.papaya_histories.specs.Given.Schedules.declared.effect.Table.{Table}
-use Rattle.papaya_histories.specs.Given.Schedules.Growing.{Has}
-use Rattle.papaya_histories.specs.Given.Schedules.Moment.{MapThere, Moment, Place, TableThere}
-use Rattle.papaya_histories.specs.Given.Schedules.Views.{capacity_or, first_of, first_or, grows_in_chunks, is_in_a_map, map_at}
-use Rattle.papaya_histories.specs.Given.Callers.Together.{OnKey, UnderWay}
-use Rattle.papaya_histories.specs.Given.Effects.Known.{Known}
-use Rattle.papaya_histories.specs.Given.Executor.IsAt.{Scene}
-use Rattle.papaya_histories.specs.Given.Finishes.Machines.{machine_of}
-use Rattle.papaya_histories.specs.Given.Finishes.Maps.{Standing}
-use Rattle.papaya_histories.specs.Given.Follows.Calls.{ShowsCalls as IsThere}
-use Rattle.papaya_settles.specs.Hand.{ShowsOwed}
-use Rattle.papaya_settles.proofs.Hand.Roles.{hand_kept}
-use Rattle.papaya_finds.specs.Capacities.{StoodSo}
-use Rattle.papaya_finds.specs.Linking.{IsMadeFor}
-use Rattle.papaya_finds.specs.Waits.{IsHeldPast, LeavesHeldOf}
-use Rattle.papaya_finds.specs.Within.{many_of}
-use Rattle.papaya_finds.proofs.Capacities.{capacities_stay}
-use Rattle.papaya_finds.proofs.Grows.Between.{growing_stays}
-use Rattle.papaya_finds.proofs.Waits.Between.{waits_follow_owed}
-use Rattle.papaya_finds.proofs.Waits.Held.{lies_same}
-use Rattle.papaya_finds.proofs.Waits.Puts.{puts_stay}
+use Rattle.papaya_purposes.specs.Given.Tables.Lengths.{entries_of}
+use Rattle.papaya_purposes.specs.Given.Tables.declared.setting.Setting.{Setting}
+use Rattle.papaya_purposes.specs.Given.Schedules.declared.effect.Spot.{Spot}
+use Rattle.papaya_purposes.specs.Given.Schedules.declared.effect.Table.{Table}
+use Rattle.papaya_purposes.specs.Given.Schedules.Growing.{Has}
+use Rattle.papaya_purposes.specs.Given.Schedules.Moment.{MapThere, Moment, Place, TableThere}
+use Rattle.papaya_purposes.specs.Given.Schedules.Views.{capacity_or, first_of, first_or, grows_in_chunks, is_in_a_map, map_at}
+use Rattle.papaya_purposes.specs.Given.Callers.Together.{OnKey, UnderWay}
+use Rattle.papaya_purposes.specs.Given.Effects.Known.{Known}
+use Rattle.papaya_purposes.specs.Given.Executor.IsAt.{Scene}
+use Rattle.papaya_purposes.specs.Given.Finishes.Machines.{machine_of}
+use Rattle.papaya_purposes.specs.Given.Finishes.Maps.{Standing}
+use Rattle.papaya_purposes.specs.Given.Follows.Calls.{ShowsCalls as IsThere}
+use Rattle.papaya_purposes.specs.Given.Settles.Hand.{ShowsOwed}
+use Rattle.papaya_purposes.proofs.Given.Settles.Hand.Roles.{hand_kept}
+use Rattle.papaya_purposes.specs.Given.Finds.Capacities.{StoodSo}
+use Rattle.papaya_purposes.specs.Given.Finds.Linking.{IsMadeFor}
+use Rattle.papaya_purposes.specs.Given.Finds.Waits.{IsHeldPast, LeavesHeldOf}
+use Rattle.papaya_purposes.specs.Given.Finds.Within.{many_of}
+use Rattle.papaya_purposes.proofs.Given.Finds.Capacities.{capacities_stay}
+use Rattle.papaya_purposes.proofs.Given.Finds.Grows.Between.{growing_stays}
+use Rattle.papaya_purposes.proofs.Given.Finds.Waits.Between.{waits_follow_owed}
+use Rattle.papaya_purposes.proofs.Given.Finds.Waits.Held.{lies_same}
+use Rattle.papaya_purposes.proofs.Given.Finds.Waits.Puts.{puts_stay}
 use Rattle.papaya_grows.specs.Finding.{ShowsFinding}
 use Rattle.papaya_grows.proofs.Finding.Making.Between.{further_stays}
 use Rattle.papaya_grows.proofs.Finding.Making.Lengths.{lengths_same}

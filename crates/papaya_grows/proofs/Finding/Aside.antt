@@ -1,49 +1,49 @@
 -- Steps that are of no call leave each pair where it lies: those of rows on slots, of makings of maps, and of their ends.
 use Rattle.std.specs.Prelude.{◌≡◌, ℕ, Bool, true, false, List, [], ◌∷◌, Option, Some, None, if◌then◌else◌}
 use Rattle.std.proofs.Common.{refl, ap, sym, subst, ◌∙◌, inl, inr}
-use Rattle.papaya_histories.specs.Given.SeizeWords.Mem.{word_at}
-use Rattle.papaya_histories.specs.Given.SeizeWords.Word.{block_in}
-use Rattle.papaya_histories.specs.Given.SeizeWords.declared.at.At.TheVariants.{Entry, Root, Slot, Used, Word}
-use Rattle.papaya_histories.specs.Given.Seize.World.{World}
-use Rattle.papaya_histories.specs.Given.Seize.declared.progress.Progress.{Progress as Making}
-use Rattle.papaya_histories.specs.Given.Seize.declared.rows.settle.Settled.{Settled}
-use Rattle.papaya_histories.specs.Given.Tables.declared.node.Node.{Node}
-use Rattle.papaya_histories.specs.Given.Tables.declared.setting.Setting.{Setting}
-use Rattle.papaya_histories.specs.Given.Schedules.declared.effect.Effect.TheVariants.{Asked}
-use Rattle.papaya_histories.specs.Given.Schedules.declared.effect.Growth.TheVariants.{ABlock}
-use Rattle.papaya_histories.specs.Given.Schedules.declared.effect.Table.{Table}
-use Rattle.papaya_histories.specs.Given.Schedules.Effects.{with_effects}
-use Rattle.papaya_histories.specs.Given.Schedules.Moment.{Moment}
-use Rattle.papaya_histories.specs.Given.Teller.declared.changed.Changed.{Changed}
-use Rattle.papaya_histories.specs.Given.Teller.declared.changed.Changed.TheVariants as changed
-use Rattle.papaya_histories.specs.Given.Teller.declared.changed.Kind.{Kind}
-use Rattle.papaya_histories.specs.Given.Teller.declared.changed.Kind.TheVariants as kind
-use Rattle.papaya_histories.specs.Given.Effects.Effects.{effects_of, in_block, led_to, made_by, named, names_same, pair_taken, table_taken, taken_by}
-use Rattle.papaya_histories.specs.Given.Effects.Known.{Known}
-use Rattle.papaya_histories.specs.Given.Effects.declared.acting.Acting.{Acting}
-use Rattle.papaya_histories.specs.Given.Effects.declared.acting.Acting.TheVariants as acts
-use Rattle.papaya_histories.specs.Given.Effects.declared.role.Role.{Role}
-use Rattle.papaya_histories.specs.Given.Effects.declared.role.Role.TheVariants as role
-use Rattle.papaya_histories.specs.Given.Executor.Ending.{EndingLeads}
-use Rattle.papaya_histories.specs.Given.Executor.IsAt.{IsAt, Scene, work_of}
-use Rattle.papaya_histories.specs.Given.Executor.Making.{MakingLeads}
-use Rattle.papaya_histories.specs.Given.Executor.OnSlots.{RowLeads}
-use Rattle.papaya_histories.specs.Given.Executor.declared.executor.Executor.{Executor}
-use Rattle.papaya_histories.specs.Given.Executor.declared.row.RowTold.{RowTold}
-use Rattle.papaya_histories.specs.Given.Executor.declared.row.SlotRow.{SlotRow}
-use Rattle.papaya_histories.specs.Given.Executor.declared.worker.Work.TheVariants.{OnSlot}
-use Rattle.papaya_histories.specs.Given.Finishes.Endings.{Finishing}
-use Rattle.papaya_histories.specs.Given.Finishes.Makings.{Beginning}
-use Rattle.papaya_histories.specs.Given.Follows.Shows.{Shows}
-use Rattle.papaya_histories.proofs.Given.Follows.Operations.{LeavesBy}
-use Rattle.papaya_histories.proofs.Given.Follows.Writes.{nothing_free}
-use Rattle.papaya_histories.specs.Given.Moments.Whole.{ShowsWhole}
-use Rattle.papaya_histories.proofs.Given.Moments.Ends.{says}
-use Rattle.papaya_histories.proofs.Given.Others.Makes.{left, no_table_word, tells}
-use Rattle.papaya_histories.proofs.Given.Others.MakingPlans.{TellsMaking}
-use Rattle.papaya_histories.proofs.Given.Others.RowPlans.{row_tells}
-use Rattle.papaya_histories.proofs.Given.Spots.Effects.{AllAside, aside_all, calm_aside, is_aside}
-use Rattle.papaya_histories.proofs.Given.Spots.OnSlots.{row_beside}
+use Rattle.papaya_purposes.specs.Given.SeizeWords.Mem.{word_at}
+use Rattle.papaya_purposes.specs.Given.SeizeWords.Word.{block_in}
+use Rattle.papaya_purposes.specs.Given.SeizeWords.declared.at.At.TheVariants.{Entry, Root, Slot, Used, Word}
+use Rattle.papaya_purposes.specs.Given.Seize.World.{World}
+use Rattle.papaya_purposes.specs.Given.Seize.declared.progress.Progress.{Progress as Making}
+use Rattle.papaya_purposes.specs.Given.Seize.declared.rows.settle.Settled.{Settled}
+use Rattle.papaya_purposes.specs.Given.Tables.declared.node.Node.{Node}
+use Rattle.papaya_purposes.specs.Given.Tables.declared.setting.Setting.{Setting}
+use Rattle.papaya_purposes.specs.Given.Schedules.declared.effect.Effect.TheVariants.{Asked}
+use Rattle.papaya_purposes.specs.Given.Schedules.declared.effect.Growth.TheVariants.{ABlock}
+use Rattle.papaya_purposes.specs.Given.Schedules.declared.effect.Table.{Table}
+use Rattle.papaya_purposes.specs.Given.Schedules.Effects.{with_effects}
+use Rattle.papaya_purposes.specs.Given.Schedules.Moment.{Moment}
+use Rattle.papaya_purposes.specs.Given.Teller.declared.changed.Changed.{Changed}
+use Rattle.papaya_purposes.specs.Given.Teller.declared.changed.Changed.TheVariants as changed
+use Rattle.papaya_purposes.specs.Given.Teller.declared.changed.Kind.{Kind}
+use Rattle.papaya_purposes.specs.Given.Teller.declared.changed.Kind.TheVariants as kind
+use Rattle.papaya_purposes.specs.Given.Effects.Effects.{effects_of, in_block, led_to, made_by, named, names_same, pair_taken, table_taken, taken_by}
+use Rattle.papaya_purposes.specs.Given.Effects.Known.{Known}
+use Rattle.papaya_purposes.specs.Given.Effects.declared.acting.Acting.{Acting}
+use Rattle.papaya_purposes.specs.Given.Effects.declared.acting.Acting.TheVariants as acts
+use Rattle.papaya_purposes.specs.Given.Effects.declared.role.Role.{Role}
+use Rattle.papaya_purposes.specs.Given.Effects.declared.role.Role.TheVariants as role
+use Rattle.papaya_purposes.specs.Given.Executor.Ending.{EndingLeads}
+use Rattle.papaya_purposes.specs.Given.Executor.IsAt.{IsAt, Scene, work_of}
+use Rattle.papaya_purposes.specs.Given.Executor.Making.{MakingLeads}
+use Rattle.papaya_purposes.specs.Given.Executor.OnSlots.{RowLeads}
+use Rattle.papaya_purposes.specs.Given.Executor.declared.executor.Executor.{Executor}
+use Rattle.papaya_purposes.specs.Given.Executor.declared.row.RowTold.{RowTold}
+use Rattle.papaya_purposes.specs.Given.Executor.declared.row.SlotRow.{SlotRow}
+use Rattle.papaya_purposes.specs.Given.Executor.declared.worker.Work.TheVariants.{OnSlot}
+use Rattle.papaya_purposes.specs.Given.Finishes.Endings.{Finishing}
+use Rattle.papaya_purposes.specs.Given.Finishes.Makings.{Beginning}
+use Rattle.papaya_purposes.specs.Given.Follows.Shows.{Shows}
+use Rattle.papaya_purposes.proofs.Given.Follows.Operations.{LeavesBy}
+use Rattle.papaya_purposes.proofs.Given.Follows.Writes.{nothing_free}
+use Rattle.papaya_purposes.specs.Given.Moments.Whole.{ShowsWhole}
+use Rattle.papaya_purposes.proofs.Given.Moments.Ends.{says}
+use Rattle.papaya_purposes.proofs.Given.Others.Makes.{left, no_table_word, tells}
+use Rattle.papaya_purposes.proofs.Given.Others.MakingPlans.{TellsMaking}
+use Rattle.papaya_purposes.proofs.Given.Others.RowPlans.{row_tells}
+use Rattle.papaya_purposes.proofs.Given.Spots.Effects.{AllAside, aside_all, calm_aside, is_aside}
+use Rattle.papaya_purposes.proofs.Given.Spots.OnSlots.{row_beside}
 
 -- a pair, and a table, that is taken away
 pair_aside : (its : Acting) (n : ℕ) → is_aside (pair_taken its n) ≡ true

@@ -1,20 +1,20 @@
 -- What steps of calls find by is so after a step that is of no call, which leaves calls and pairs as they are.
 use Rattle.std.specs.Prelude.{◌≡◌, ◌≤◌, ℕ, Bool, true, false, List, find, length, Option, Some}
 use Rattle.std.proofs.Common.{refl, ap, sym, subst, ◌∙◌}
-use Rattle.papaya_histories.specs.Given.Runs.Same.{is_same}
-use Rattle.papaya_histories.specs.Given.Schedules.Moment.{Behind, GivenBack, Handed, InMap, Left, Moment, Out, Place, Unborn, UnderWay as CallThere}
-use Rattle.papaya_histories.specs.Given.Schedules.Views.{is_in_a_map}
-use Rattle.papaya_histories.specs.Given.Callers.Together.{OnKey, UnderWay}
-use Rattle.papaya_histories.specs.Given.Effects.Known.{Known}
-use Rattle.papaya_histories.specs.Given.Executor.IsAt.{IsAt, Scene}
-use Rattle.papaya_histories.specs.Given.Executor.declared.executor.Executor.{Executor}
-use Rattle.papaya_histories.specs.Given.Moments.Whole.{ShowsWhole}
-use Rattle.papaya_histories.proofs.Given.Moments.Beside.{IsBeside}
-use Rattle.papaya_finds.specs.Capacities.{ShowsCapacities}
-use Rattle.papaya_finds.specs.Waits.{LeavesInHand}
-use Rattle.papaya_finds.specs.Within.{many_of}
-use Rattle.papaya_finds.proofs.Grows.Between.{growing_stays}
-use Rattle.papaya_finds.proofs.Waits.Between.{waits_stay}
+use Rattle.papaya_purposes.specs.Given.Runs.Same.{is_same}
+use Rattle.papaya_purposes.specs.Given.Schedules.Moment.{Behind, GivenBack, Handed, InMap, Left, Moment, Out, Place, Unborn, UnderWay as CallThere}
+use Rattle.papaya_purposes.specs.Given.Schedules.Views.{is_in_a_map}
+use Rattle.papaya_purposes.specs.Given.Callers.Together.{OnKey, UnderWay}
+use Rattle.papaya_purposes.specs.Given.Effects.Known.{Known}
+use Rattle.papaya_purposes.specs.Given.Executor.IsAt.{IsAt, Scene}
+use Rattle.papaya_purposes.specs.Given.Executor.declared.executor.Executor.{Executor}
+use Rattle.papaya_purposes.specs.Given.Moments.Whole.{ShowsWhole}
+use Rattle.papaya_purposes.proofs.Given.Moments.Beside.{IsBeside}
+use Rattle.papaya_purposes.specs.Given.Finds.Capacities.{ShowsCapacities}
+use Rattle.papaya_purposes.specs.Given.Finds.Waits.{LeavesInHand}
+use Rattle.papaya_purposes.specs.Given.Finds.Within.{many_of}
+use Rattle.papaya_purposes.proofs.Given.Finds.Grows.Between.{growing_stays}
+use Rattle.papaya_purposes.proofs.Given.Finds.Waits.Between.{waits_stay}
 use Rattle.papaya_grows.specs.Finding.{ShowsFinding}
 use Rattle.papaya_grows.proofs.Finding.Alike.{held_in, itself, map_same}
 use Rattle.papaya_grows.proofs.Finding.Making.Between.{further_stays}

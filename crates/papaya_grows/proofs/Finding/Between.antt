@@ -2,53 +2,53 @@
 use Rattle.std.specs.Prelude.{◌≡◌, ◌≢◌, ◌≤◌, ◌==◌, ◌++◌, ℕ, Bool, true, false, List, [], ◌∷◌, cond, filter, find, length, Option, Some, None, if◌then◌else◌}
 use Rattle.std.proofs.Common.{refl, ap, sym, subst, ◌∙◌, inl, inr}
 use Rattle.std.proofs.lemmas.Bool.{ne_eqb}
-use Rattle.papaya_histories.specs.Given.SeizeWords.Word.{block_in}
-use Rattle.papaya_histories.specs.Given.SeizeWords.declared.at.At.{At}
-use Rattle.papaya_histories.specs.Given.Sweeps.SweepPoints.{next_at}
-use Rattle.papaya_histories.specs.Given.Sweeps.declared.sweep.Sweep.{Sweep}
-use Rattle.papaya_histories.specs.Given.Sweeps.declared.sweep.Sweeping.{Sweeping}
-use Rattle.papaya_histories.specs.Given.Sweeps.declared.sweep.Sweeping.TheVariants as sweeping
-use Rattle.papaya_histories.specs.Given.Raw.CallAsks.{told_at}
-use Rattle.papaya_histories.specs.Given.Raw.Machine.{machine_asked, machine_replied, sweep_told}
-use Rattle.papaya_histories.specs.Given.Raw.declared.machines.asking.Asking.TheVariants as asking
-use Rattle.papaya_histories.specs.Given.Raw.declared.machines.asking.Reply.{Reply as MachineReply}
-use Rattle.papaya_histories.specs.Given.Raw.declared.machines.call.Calling.{Calling}
-use Rattle.papaya_histories.specs.Given.Raw.declared.machines.call.Calling.TheVariants as calling
-use Rattle.papaya_histories.specs.Given.Raw.declared.machines.call.KeyCall.{KeyCall}
-use Rattle.papaya_histories.specs.Given.Raw.declared.machines.machine.Machine.{Machine}
-use Rattle.papaya_histories.specs.Given.Raw.declared.machines.machine.Machine.TheVariants as kinds
-use Rattle.papaya_histories.specs.Given.Runs.Same.{is_same}
-use Rattle.papaya_histories.specs.Given.Schedules.declared.effect.Thing.TheVariants.{APair}
-use Rattle.papaya_histories.specs.Given.Schedules.Moment.{MapThere, Moment, Place, UnderWay as CallThere}
-use Rattle.papaya_histories.specs.Given.Schedules.Views.{capacity_or, is_in_a_map, map_at}
-use Rattle.papaya_histories.specs.Given.Callers.OverAll.{CallOverAll}
-use Rattle.papaya_histories.specs.Given.Callers.Pairs.{Given}
-use Rattle.papaya_histories.specs.Given.Callers.Rooms.{CallForRoom}
-use Rattle.papaya_histories.specs.Given.Callers.Together.{Computes, Counting, ForRoom, Gets, Inserts, IsBegun, OnKey, OverAll, Removes, RemovesIf, TriesToInsert, TriesToInsertWith, UnderWay, Updates, UpdatesOrInserts}
-use Rattle.papaya_histories.specs.Given.Effects.Known.{Known}
-use Rattle.papaya_histories.specs.Given.Effects.declared.role.Role.{Role}
-use Rattle.papaya_histories.specs.Given.Effects.declared.role.Role.TheVariants as role
-use Rattle.papaya_histories.specs.Given.Executor.Beginning.{Begins}
-use Rattle.papaya_histories.specs.Given.Executor.IsAt.{IsAt, Scene, slot_of}
-use Rattle.papaya_histories.specs.Given.Executor.Replying.{scene_with, unless_stopped}
-use Rattle.papaya_histories.specs.Given.Executor.declared.executor.Executor.{Executor}
-use Rattle.papaya_histories.proofs.Given.Executor.Changed.{standing_is}
-use Rattle.papaya_histories.specs.Given.Finishes.Machines.{machine_of}
-use Rattle.papaya_histories.specs.Given.Finishes.Maps.{Standing, with_call as with_in}
-use Rattle.papaya_histories.specs.Given.Follows.Calls.{ShowsCalls as IsThere}
-use Rattle.papaya_histories.proofs.Given.Follows.Steps.{one_of}
-use Rattle.papaya_histories.proofs.Given.Hands.Asking.{which}
-use Rattle.papaya_settles.specs.Due.{ToPut, due_in_row}
-use Rattle.papaya_settles.specs.Hand.{HoldsAt, IsPairAt, IsPairRole, NotesInHand, NotesOfCall, NotesOfSweep, ShowsOwed, in_hand, in_hand_of_call, in_hand_of_sweep, thing_as, things_at}
-use Rattle.papaya_settles.specs.InHand.{pair_in_calling, pair_in_sweeping}
-use Rattle.papaya_settles.proofs.Hand.Roles.{hand_kept}
-use Rattle.papaya_finds.specs.Puts.{IsBehindNext, ShowsPuts}
-use Rattle.papaya_finds.specs.Waits.{LeavesInHand, ShowsWaits, pair_in, waits_in}
-use Rattle.papaya_finds.proofs.Capacities.{capacities_stay}
-use Rattle.papaya_finds.proofs.Grows.Between.{growing_stays}
-use Rattle.papaya_finds.proofs.Waits.Behind.{call_put, room_never, sweep_put}
-use Rattle.papaya_finds.proofs.Waits.Between.{waits_follow_owed, waits_stay}
-use Rattle.papaya_finds.proofs.Waits.Puts.{puts_stay}
+use Rattle.papaya_purposes.specs.Given.SeizeWords.Word.{block_in}
+use Rattle.papaya_purposes.specs.Given.SeizeWords.declared.at.At.{At}
+use Rattle.papaya_purposes.specs.Given.Sweeps.SweepPoints.{next_at}
+use Rattle.papaya_purposes.specs.Given.Sweeps.declared.sweep.Sweep.{Sweep}
+use Rattle.papaya_purposes.specs.Given.Sweeps.declared.sweep.Sweeping.{Sweeping}
+use Rattle.papaya_purposes.specs.Given.Sweeps.declared.sweep.Sweeping.TheVariants as sweeping
+use Rattle.papaya_purposes.specs.Given.Raw.CallAsks.{told_at}
+use Rattle.papaya_purposes.specs.Given.Raw.Machine.{machine_asked, machine_replied, sweep_told}
+use Rattle.papaya_purposes.specs.Given.Raw.declared.machines.asking.Asking.TheVariants as asking
+use Rattle.papaya_purposes.specs.Given.Raw.declared.machines.asking.Reply.{Reply as MachineReply}
+use Rattle.papaya_purposes.specs.Given.Raw.declared.machines.call.Calling.{Calling}
+use Rattle.papaya_purposes.specs.Given.Raw.declared.machines.call.Calling.TheVariants as calling
+use Rattle.papaya_purposes.specs.Given.Raw.declared.machines.call.KeyCall.{KeyCall}
+use Rattle.papaya_purposes.specs.Given.Raw.declared.machines.machine.Machine.{Machine}
+use Rattle.papaya_purposes.specs.Given.Raw.declared.machines.machine.Machine.TheVariants as kinds
+use Rattle.papaya_purposes.specs.Given.Runs.Same.{is_same}
+use Rattle.papaya_purposes.specs.Given.Schedules.declared.effect.Thing.TheVariants.{APair}
+use Rattle.papaya_purposes.specs.Given.Schedules.Moment.{MapThere, Moment, Place, UnderWay as CallThere}
+use Rattle.papaya_purposes.specs.Given.Schedules.Views.{capacity_or, is_in_a_map, map_at}
+use Rattle.papaya_purposes.specs.Given.Callers.OverAll.{CallOverAll}
+use Rattle.papaya_purposes.specs.Given.Callers.Pairs.{Given}
+use Rattle.papaya_purposes.specs.Given.Callers.Rooms.{CallForRoom}
+use Rattle.papaya_purposes.specs.Given.Callers.Together.{Computes, Counting, ForRoom, Gets, Inserts, IsBegun, OnKey, OverAll, Removes, RemovesIf, TriesToInsert, TriesToInsertWith, UnderWay, Updates, UpdatesOrInserts}
+use Rattle.papaya_purposes.specs.Given.Effects.Known.{Known}
+use Rattle.papaya_purposes.specs.Given.Effects.declared.role.Role.{Role}
+use Rattle.papaya_purposes.specs.Given.Effects.declared.role.Role.TheVariants as role
+use Rattle.papaya_purposes.specs.Given.Executor.Beginning.{Begins}
+use Rattle.papaya_purposes.specs.Given.Executor.IsAt.{IsAt, Scene, slot_of}
+use Rattle.papaya_purposes.specs.Given.Executor.Replying.{scene_with, unless_stopped}
+use Rattle.papaya_purposes.specs.Given.Executor.declared.executor.Executor.{Executor}
+use Rattle.papaya_purposes.proofs.Given.Executor.Changed.{standing_is}
+use Rattle.papaya_purposes.specs.Given.Finishes.Machines.{machine_of}
+use Rattle.papaya_purposes.specs.Given.Finishes.Maps.{Standing, with_call as with_in}
+use Rattle.papaya_purposes.specs.Given.Follows.Calls.{ShowsCalls as IsThere}
+use Rattle.papaya_purposes.proofs.Given.Follows.Steps.{one_of}
+use Rattle.papaya_purposes.proofs.Given.Hands.Asking.{which}
+use Rattle.papaya_purposes.specs.Given.Settles.Due.{ToPut, due_in_row}
+use Rattle.papaya_purposes.specs.Given.Settles.Hand.{HoldsAt, IsPairAt, IsPairRole, NotesInHand, NotesOfCall, NotesOfSweep, ShowsOwed, in_hand, in_hand_of_call, in_hand_of_sweep, thing_as, things_at}
+use Rattle.papaya_purposes.specs.Given.Settles.InHand.{pair_in_calling, pair_in_sweeping}
+use Rattle.papaya_purposes.proofs.Given.Settles.Hand.Roles.{hand_kept}
+use Rattle.papaya_purposes.specs.Given.Finds.Puts.{IsBehindNext, ShowsPuts}
+use Rattle.papaya_purposes.specs.Given.Finds.Waits.{LeavesInHand, ShowsWaits, pair_in, waits_in}
+use Rattle.papaya_purposes.proofs.Given.Finds.Capacities.{capacities_stay}
+use Rattle.papaya_purposes.proofs.Given.Finds.Grows.Between.{growing_stays}
+use Rattle.papaya_purposes.proofs.Given.Finds.Waits.Behind.{call_put, room_never, sweep_put}
+use Rattle.papaya_purposes.proofs.Given.Finds.Waits.Between.{waits_follow_owed, waits_stay}
+use Rattle.papaya_purposes.proofs.Given.Finds.Waits.Puts.{puts_stay}
 use Rattle.papaya_grows.specs.Finding.{ShowsFinding}
 use Rattle.papaya_grows.proofs.Finding.Alike.{held_in, itself, many_same, stood_as}
 use Rattle.papaya_grows.proofs.Finding.Making.Between.{further_stays}

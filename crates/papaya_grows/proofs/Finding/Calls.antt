@@ -1,24 +1,24 @@
 -- What steps of calls find by is so after each step of a call, whichever it is.
 use Rattle.std.specs.Prelude.{◌≡◌, ℕ, Bool, List, Some}
-use Rattle.papaya_histories.specs.Given.Tables.declared.node.Node.{Node}
-use Rattle.papaya_histories.specs.Given.Raw.declared.machines.progress.Progress.{Progress}
-use Rattle.papaya_histories.specs.Given.Schedules.Effects.{with_effects}
-use Rattle.papaya_histories.specs.Given.Schedules.Moment.{Moment}
-use Rattle.papaya_histories.specs.Given.Callers.Together.{UnderWay}
-use Rattle.papaya_histories.specs.Given.Effects.Effects.{effects_of, known_after}
-use Rattle.papaya_histories.specs.Given.Effects.Known.{Known}
-use Rattle.papaya_histories.specs.Given.Effects.declared.acting.Acting.TheVariants as acts
-use Rattle.papaya_histories.specs.Given.Executor.IsAt.{IsAt, Scene}
-use Rattle.papaya_histories.specs.Given.Executor.Stepping.{StepLeads, scene_after}
-use Rattle.papaya_histories.specs.Given.Executor.declared.executor.Executor.{Executor}
-use Rattle.papaya_histories.specs.Given.Moments.Whole.{ShowsWhole}
-use Rattle.papaya_settles.specs.Due.{OwnAreMade}
+use Rattle.papaya_purposes.specs.Given.Tables.declared.node.Node.{Node}
+use Rattle.papaya_purposes.specs.Given.Raw.declared.machines.progress.Progress.{Progress}
+use Rattle.papaya_purposes.specs.Given.Schedules.Effects.{with_effects}
+use Rattle.papaya_purposes.specs.Given.Schedules.Moment.{Moment}
+use Rattle.papaya_purposes.specs.Given.Callers.Together.{UnderWay}
+use Rattle.papaya_purposes.specs.Given.Effects.Effects.{effects_of, known_after}
+use Rattle.papaya_purposes.specs.Given.Effects.Known.{Known}
+use Rattle.papaya_purposes.specs.Given.Effects.declared.acting.Acting.TheVariants as acts
+use Rattle.papaya_purposes.specs.Given.Executor.IsAt.{IsAt, Scene}
+use Rattle.papaya_purposes.specs.Given.Executor.Stepping.{StepLeads, scene_after}
+use Rattle.papaya_purposes.specs.Given.Executor.declared.executor.Executor.{Executor}
+use Rattle.papaya_purposes.specs.Given.Moments.Whole.{ShowsWhole}
+use Rattle.papaya_purposes.specs.Given.Settles.Due.{OwnAreMade}
 use Rattle.papaya_kept.specs.Kept.{ShowsKept}
 use Rattle.papaya_kept.proofs.Calls.{own_made}
-use Rattle.papaya_finds.proofs.Capacities.{calls_keep_capacities}
-use Rattle.papaya_finds.proofs.Grows.Steps.{calls_keep_growing}
-use Rattle.papaya_finds.proofs.Waits.Puts.{calls_keep_puts}
-use Rattle.papaya_finds.proofs.Waits.Steps.{calls_keep_waits}
+use Rattle.papaya_purposes.proofs.Given.Finds.Capacities.{calls_keep_capacities}
+use Rattle.papaya_purposes.proofs.Given.Finds.Grows.Steps.{calls_keep_growing}
+use Rattle.papaya_purposes.proofs.Given.Finds.Waits.Puts.{calls_keep_puts}
+use Rattle.papaya_purposes.proofs.Given.Finds.Waits.Steps.{calls_keep_waits}
 use Rattle.papaya_grows.specs.Finding.{ShowsFinding}
 use Rattle.papaya_grows.proofs.Finding.Making.Steps.{further_then}
 

@@ -1,50 +1,50 @@
 -- Whatever happens, where a copier makes a table its map has a second table, or had one at a moment since the call began.
 use Rattle.std.specs.Prelude.{◌≡◌, ◌<◌, ◌≤◌, ◌==◌, ℕ, Bool, true, List, ◌∷◌, find, length, Option, Some}
 use Rattle.std.proofs.Common.{ap, sym, subst, inl, inr}
-use Rattle.papaya_histories.specs.Given.SeizeWords.Mem.{Mem, word_at}
-use Rattle.papaya_histories.specs.Given.SeizeWords.Plan.{Do, Now, Plan, Seeing, Sure, Then, Turn}
-use Rattle.papaya_histories.specs.Given.Tables.TablePlaces.{at_word}
-use Rattle.papaya_histories.specs.Given.Tables.declared.node.Node.{Node}
-use Rattle.papaya_histories.specs.Given.Tables.declared.table_words.TheConstants.{NEXT}
-use Rattle.papaya_histories.specs.Given.Resize.NewTable.{new_table_plan}
-use Rattle.papaya_histories.specs.Given.Resize.declared.copier.Copier.{Copier}
-use Rattle.papaya_histories.specs.Given.Resize.declared.new_table.NewTable.{NewTable}
-use Rattle.papaya_histories.specs.Given.Raw.Machine.{machine_asked, machine_plan, machine_replied}
-use Rattle.papaya_histories.specs.Given.Raw.declared.machines.asking.Reply.{Reply as MachineReply}
-use Rattle.papaya_histories.specs.Given.Raw.declared.machines.machine.Machine.{Machine}
-use Rattle.papaya_histories.specs.Given.Raw.declared.machines.progress.Progress.{Progress}
-use Rattle.papaya_histories.specs.Given.Schedules.declared.call.Call.{Call}
-use Rattle.papaya_histories.specs.Given.Schedules.declared.call.Reply.{Reply}
-use Rattle.papaya_histories.specs.Given.Schedules.declared.effect.Effect.{Effect}
-use Rattle.papaya_histories.specs.Given.Schedules.declared.outcome.Outcome.{Outcome}
-use Rattle.papaya_histories.specs.Given.Schedules.After.{moment}
-use Rattle.papaya_histories.specs.Given.Schedules.Beginning.{with_call}
-use Rattle.papaya_histories.specs.Given.Schedules.Effects.{with_effects}
-use Rattle.papaya_histories.specs.Given.Schedules.Entry.{Entry, ends_call}
-use Rattle.papaya_histories.specs.Given.Schedules.Growing.{HasNext}
-use Rattle.papaya_histories.specs.Given.Schedules.Moment.{MapThere, Moment, TableThere, UnderWay as CallThere}
-use Rattle.papaya_histories.specs.Given.Schedules.Views.{call_of, first_of, first_or, map_at}
-use Rattle.papaya_histories.specs.Given.Teller.declared.changed.Changed.{Changed}
-use Rattle.papaya_histories.specs.Given.Teller.declared.changed.Changed.TheVariants as changed
-use Rattle.papaya_histories.proofs.Given.Rule.Keys.Always.{Always, AlwaysOf, always_steps}
-use Rattle.papaya_histories.specs.Given.Callers.Together.{UnderWay}
-use Rattle.papaya_histories.specs.Given.Effects.Effects.{effects_of}
-use Rattle.papaya_histories.specs.Given.Effects.Known.{Known}
-use Rattle.papaya_histories.specs.Given.Effects.declared.acting.Acting.TheVariants as acts
-use Rattle.papaya_histories.specs.Given.Executor.Beginning.{Begins}
-use Rattle.papaya_histories.specs.Given.Executor.IsAt.{IsAt, Scene}
-use Rattle.papaya_histories.specs.Given.Executor.Replying.{scene_with, unless_stopped}
-use Rattle.papaya_histories.specs.Given.Executor.Stepping.{StepLeads, scene_after}
-use Rattle.papaya_histories.specs.Given.Executor.declared.executor.Executor.{Executor}
-use Rattle.papaya_histories.proofs.Given.Executor.Forgotten.{as_step}
-use Rattle.papaya_histories.specs.Given.Finishes.Machines.{machine_of}
-use Rattle.papaya_histories.specs.Given.Finishes.Maps.{Standing, with_call as with_in}
-use Rattle.papaya_histories.specs.Given.Follows.Calling.{NoneNamed, come_to, told}
-use Rattle.papaya_histories.specs.Given.Follows.Calls.{ShowsCalls as IsThere}
-use Rattle.papaya_histories.proofs.Given.Follows.Steps.{WentTo, went_to}
-use Rattle.papaya_histories.specs.Given.Others.Walks.{given_up}
-use Rattle.papaya_histories.specs.Given.Moments.Whole.{ShowsWhole}
-use Rattle.papaya_finds.proofs.CopiersNext.{second_there}
+use Rattle.papaya_purposes.specs.Given.SeizeWords.Mem.{Mem, word_at}
+use Rattle.papaya_purposes.specs.Given.SeizeWords.Plan.{Do, Now, Plan, Seeing, Sure, Then, Turn}
+use Rattle.papaya_purposes.specs.Given.Tables.TablePlaces.{at_word}
+use Rattle.papaya_purposes.specs.Given.Tables.declared.node.Node.{Node}
+use Rattle.papaya_purposes.specs.Given.Tables.declared.table_words.TheConstants.{NEXT}
+use Rattle.papaya_purposes.specs.Given.Resize.NewTable.{new_table_plan}
+use Rattle.papaya_purposes.specs.Given.Resize.declared.copier.Copier.{Copier}
+use Rattle.papaya_purposes.specs.Given.Resize.declared.new_table.NewTable.{NewTable}
+use Rattle.papaya_purposes.specs.Given.Raw.Machine.{machine_asked, machine_plan, machine_replied}
+use Rattle.papaya_purposes.specs.Given.Raw.declared.machines.asking.Reply.{Reply as MachineReply}
+use Rattle.papaya_purposes.specs.Given.Raw.declared.machines.machine.Machine.{Machine}
+use Rattle.papaya_purposes.specs.Given.Raw.declared.machines.progress.Progress.{Progress}
+use Rattle.papaya_purposes.specs.Given.Schedules.declared.call.Call.{Call}
+use Rattle.papaya_purposes.specs.Given.Schedules.declared.call.Reply.{Reply}
+use Rattle.papaya_purposes.specs.Given.Schedules.declared.effect.Effect.{Effect}
+use Rattle.papaya_purposes.specs.Given.Schedules.declared.outcome.Outcome.{Outcome}
+use Rattle.papaya_purposes.specs.Given.Schedules.After.{moment}
+use Rattle.papaya_purposes.specs.Given.Schedules.Beginning.{with_call}
+use Rattle.papaya_purposes.specs.Given.Schedules.Effects.{with_effects}
+use Rattle.papaya_purposes.specs.Given.Schedules.Entry.{Entry, ends_call}
+use Rattle.papaya_purposes.specs.Given.Schedules.Growing.{HasNext}
+use Rattle.papaya_purposes.specs.Given.Schedules.Moment.{MapThere, Moment, TableThere, UnderWay as CallThere}
+use Rattle.papaya_purposes.specs.Given.Schedules.Views.{call_of, first_of, first_or, map_at}
+use Rattle.papaya_purposes.specs.Given.Teller.declared.changed.Changed.{Changed}
+use Rattle.papaya_purposes.specs.Given.Teller.declared.changed.Changed.TheVariants as changed
+use Rattle.papaya_purposes.proofs.Given.Rule.Keys.Always.{Always, AlwaysOf, always_steps}
+use Rattle.papaya_purposes.specs.Given.Callers.Together.{UnderWay}
+use Rattle.papaya_purposes.specs.Given.Effects.Effects.{effects_of}
+use Rattle.papaya_purposes.specs.Given.Effects.Known.{Known}
+use Rattle.papaya_purposes.specs.Given.Effects.declared.acting.Acting.TheVariants as acts
+use Rattle.papaya_purposes.specs.Given.Executor.Beginning.{Begins}
+use Rattle.papaya_purposes.specs.Given.Executor.IsAt.{IsAt, Scene}
+use Rattle.papaya_purposes.specs.Given.Executor.Replying.{scene_with, unless_stopped}
+use Rattle.papaya_purposes.specs.Given.Executor.Stepping.{StepLeads, scene_after}
+use Rattle.papaya_purposes.specs.Given.Executor.declared.executor.Executor.{Executor}
+use Rattle.papaya_purposes.proofs.Given.Executor.Forgotten.{as_step}
+use Rattle.papaya_purposes.specs.Given.Finishes.Machines.{machine_of}
+use Rattle.papaya_purposes.specs.Given.Finishes.Maps.{Standing, with_call as with_in}
+use Rattle.papaya_purposes.specs.Given.Follows.Calling.{NoneNamed, come_to, told}
+use Rattle.papaya_purposes.specs.Given.Follows.Calls.{ShowsCalls as IsThere}
+use Rattle.papaya_purposes.proofs.Given.Follows.Steps.{WentTo, went_to}
+use Rattle.papaya_purposes.specs.Given.Others.Walks.{given_up}
+use Rattle.papaya_purposes.specs.Given.Moments.Whole.{ShowsWhole}
+use Rattle.papaya_purposes.proofs.Given.Finds.CopiersNext.{second_there}
 use Rattle.papaya_grows.specs.Further.{MachineMakes}
 use Rattle.papaya_grows.specs.Nexts.{MayFollow, OthersHadNext, ShowsNexts}
 use Rattle.papaya_grows.proofs.Finding.Making.Ahead.{IsFollowed, begins_ahead}

@@ -1,43 +1,43 @@
 -- What steps of calls find by is so after each step of what is no call: of a row on a slot, of the making of a map, of the end of one, and of the reclaiming of all.
 use Rattle.std.specs.Prelude.{◌≡◌, ℕ, Bool, List, Some, None}
 use Rattle.std.proofs.Common.{refl}
-use Rattle.papaya_histories.specs.Given.Seize.World.{Begin, Step}
-use Rattle.papaya_histories.specs.Given.Seize.declared.progress.Progress.{Progress as Making}
-use Rattle.papaya_histories.specs.Given.Seize.declared.rows.settle.Settled.{Settled}
-use Rattle.papaya_histories.specs.Given.Seize.declared.rows.settle.Settled.TheVariants as settled
-use Rattle.papaya_histories.specs.Given.Tables.declared.node.Node.{Node}
-use Rattle.papaya_histories.specs.Given.Tables.declared.setting.Setting.{Setting}
-use Rattle.papaya_histories.specs.Given.Schedules.declared.effect.Effect.{Effect}
-use Rattle.papaya_histories.specs.Given.Schedules.Effects.{with_effects}
-use Rattle.papaya_histories.specs.Given.Schedules.Moment.{Moment}
-use Rattle.papaya_histories.specs.Given.Callers.Together.{OnKey, UnderWay}
-use Rattle.papaya_histories.specs.Given.Effects.Effects.{effects_of, known_after}
-use Rattle.papaya_histories.specs.Given.Effects.Known.{Known}
-use Rattle.papaya_histories.specs.Given.Effects.declared.acting.Acting.TheVariants as acts
-use Rattle.papaya_histories.specs.Given.Executor.Ending.{EndingLeads}
-use Rattle.papaya_histories.specs.Given.Executor.IsAt.{IsAt, Scene, slot_of, work_of}
-use Rattle.papaya_histories.specs.Given.Executor.Making.{MakingLeads}
-use Rattle.papaya_histories.specs.Given.Executor.OnSlots.{MayBegin, RowBegins, RowLeads}
-use Rattle.papaya_histories.specs.Given.Executor.Rows.{request_of}
-use Rattle.papaya_histories.specs.Given.Executor.declared.executor.Executor.{Executor}
-use Rattle.papaya_histories.specs.Given.Executor.declared.row.RowTold.{RowTold}
-use Rattle.papaya_histories.specs.Given.Executor.declared.row.SlotCall.{SlotCall}
-use Rattle.papaya_histories.specs.Given.Executor.declared.row.SlotRow.{SlotRow}
-use Rattle.papaya_histories.specs.Given.Executor.declared.worker.Work.TheVariants.{OnSlot}
-use Rattle.papaya_histories.specs.Given.Finishes.Endings.{Finishing}
-use Rattle.papaya_histories.specs.Given.Finishes.Makings.{Beginning}
-use Rattle.papaya_histories.specs.Given.Finishes.Maps.{IsSameMap}
-use Rattle.papaya_histories.specs.Given.Others.Endings.{ending_after}
-use Rattle.papaya_histories.specs.Given.Others.Makings.{WasNew, making_after}
-use Rattle.papaya_histories.specs.Given.Others.Rows.{scene_then}
-use Rattle.papaya_histories.specs.Given.Moments.Whole.{ShowsWhole}
-use Rattle.papaya_histories.proofs.Given.Moments.Ends.{end_beside}
-use Rattle.papaya_histories.proofs.Given.Moments.MakingSteps.{makings_go_beside}
-use Rattle.papaya_histories.proofs.Given.Moments.OnSlots.{row_beside, rows_begin_beside}
-use Rattle.papaya_finds.specs.Linking.{IsMadeFor}
-use Rattle.papaya_finds.specs.Within.{many_of}
-use Rattle.papaya_finds.proofs.Capacities.{capacities_stay, effects_keep_capacities, makings_keep_capacities, same_maps_stood}
-use Rattle.papaya_finds.proofs.Grows.Steps.{tables_have_been}
+use Rattle.papaya_purposes.specs.Given.Seize.World.{Begin, Step}
+use Rattle.papaya_purposes.specs.Given.Seize.declared.progress.Progress.{Progress as Making}
+use Rattle.papaya_purposes.specs.Given.Seize.declared.rows.settle.Settled.{Settled}
+use Rattle.papaya_purposes.specs.Given.Seize.declared.rows.settle.Settled.TheVariants as settled
+use Rattle.papaya_purposes.specs.Given.Tables.declared.node.Node.{Node}
+use Rattle.papaya_purposes.specs.Given.Tables.declared.setting.Setting.{Setting}
+use Rattle.papaya_purposes.specs.Given.Schedules.declared.effect.Effect.{Effect}
+use Rattle.papaya_purposes.specs.Given.Schedules.Effects.{with_effects}
+use Rattle.papaya_purposes.specs.Given.Schedules.Moment.{Moment}
+use Rattle.papaya_purposes.specs.Given.Callers.Together.{OnKey, UnderWay}
+use Rattle.papaya_purposes.specs.Given.Effects.Effects.{effects_of, known_after}
+use Rattle.papaya_purposes.specs.Given.Effects.Known.{Known}
+use Rattle.papaya_purposes.specs.Given.Effects.declared.acting.Acting.TheVariants as acts
+use Rattle.papaya_purposes.specs.Given.Executor.Ending.{EndingLeads}
+use Rattle.papaya_purposes.specs.Given.Executor.IsAt.{IsAt, Scene, slot_of, work_of}
+use Rattle.papaya_purposes.specs.Given.Executor.Making.{MakingLeads}
+use Rattle.papaya_purposes.specs.Given.Executor.OnSlots.{MayBegin, RowBegins, RowLeads}
+use Rattle.papaya_purposes.specs.Given.Executor.Rows.{request_of}
+use Rattle.papaya_purposes.specs.Given.Executor.declared.executor.Executor.{Executor}
+use Rattle.papaya_purposes.specs.Given.Executor.declared.row.RowTold.{RowTold}
+use Rattle.papaya_purposes.specs.Given.Executor.declared.row.SlotCall.{SlotCall}
+use Rattle.papaya_purposes.specs.Given.Executor.declared.row.SlotRow.{SlotRow}
+use Rattle.papaya_purposes.specs.Given.Executor.declared.worker.Work.TheVariants.{OnSlot}
+use Rattle.papaya_purposes.specs.Given.Finishes.Endings.{Finishing}
+use Rattle.papaya_purposes.specs.Given.Finishes.Makings.{Beginning}
+use Rattle.papaya_purposes.specs.Given.Finishes.Maps.{IsSameMap}
+use Rattle.papaya_purposes.specs.Given.Others.Endings.{ending_after}
+use Rattle.papaya_purposes.specs.Given.Others.Makings.{WasNew, making_after}
+use Rattle.papaya_purposes.specs.Given.Others.Rows.{scene_then}
+use Rattle.papaya_purposes.specs.Given.Moments.Whole.{ShowsWhole}
+use Rattle.papaya_purposes.proofs.Given.Moments.Ends.{end_beside}
+use Rattle.papaya_purposes.proofs.Given.Moments.MakingSteps.{makings_go_beside}
+use Rattle.papaya_purposes.proofs.Given.Moments.OnSlots.{row_beside, rows_begin_beside}
+use Rattle.papaya_purposes.specs.Given.Finds.Linking.{IsMadeFor}
+use Rattle.papaya_purposes.specs.Given.Finds.Within.{many_of}
+use Rattle.papaya_purposes.proofs.Given.Finds.Capacities.{capacities_stay, effects_keep_capacities, makings_keep_capacities, same_maps_stood}
+use Rattle.papaya_purposes.proofs.Given.Finds.Grows.Steps.{tables_have_been}
 use Rattle.papaya_grows.proofs.Finding.Making.Lengths.{effects_keep_lengths}
 use Rattle.papaya_grows.specs.Finding.{ShowsFinding}
 use Rattle.papaya_grows.proofs.Finding.Alike.{itself, stood_as}

@@ -1,48 +1,48 @@
 -- The effects of a step of a call find what is left of what they must, by what the moment shows and what is still asked.
 use Rattle.std.specs.Prelude.{◌≡◌, ◌⊎◌, ℕ, ◌+◌, Bool, List, ◌∷◌, Some, None}
 use Rattle.std.proofs.Common.{refl, inl, inr}
-use Rattle.papaya_histories.specs.Given.Tables.declared.node.Node.{Node}
-use Rattle.papaya_histories.specs.Given.Resize.Sum.{sum_plan}
-use Rattle.papaya_histories.specs.Given.Resize.declared.new_table.NewTable.{NewTable}
-use Rattle.papaya_histories.specs.Given.Resize.declared.sum.Sum.{Sum}
-use Rattle.papaya_histories.specs.Given.Raw.Machine.{counted as of_sum}
-use Rattle.papaya_histories.specs.Given.Raw.declared.machines.call.Calling.{Calling}
-use Rattle.papaya_histories.specs.Given.Raw.declared.machines.call.Calling.TheVariants as calling
-use Rattle.papaya_histories.specs.Given.Raw.declared.machines.progress.Progress.{Progress}
-use Rattle.papaya_histories.specs.Given.Schedules.declared.effect.Effect.{Effect}
-use Rattle.papaya_histories.specs.Given.Schedules.After.{moments_from}
-use Rattle.papaya_histories.specs.Given.Schedules.Entry.{Entry}
-use Rattle.papaya_histories.specs.Given.Schedules.Growing.{HasNext, MayGrow}
-use Rattle.papaya_histories.specs.Given.Schedules.Lists.{OneOf}
-use Rattle.papaya_histories.specs.Given.Schedules.Moment.{UnderWay as CallThere, Moment}
-use Rattle.papaya_histories.specs.Given.Schedules.Terms.{Terms, shards_of}
-use Rattle.papaya_histories.specs.Given.Schedules.Views.{call_of}
-use Rattle.papaya_histories.specs.Given.Points.FactsCalls.{IsCopying}
-use Rattle.papaya_histories.specs.Given.Callers.Together.{Counting, ForRoom, OnKey, OverAll, UnderWay}
-use Rattle.papaya_histories.specs.Given.Effects.Effects.{effects_of}
-use Rattle.papaya_histories.specs.Given.Effects.Known.{Known}
-use Rattle.papaya_histories.specs.Given.Effects.declared.acting.Acting.TheVariants as acts
-use Rattle.papaya_histories.specs.Given.Executor.IsAt.{IsAt, Scene}
-use Rattle.papaya_histories.specs.Given.Executor.Stepping.{StepLeads}
-use Rattle.papaya_histories.specs.Given.Executor.declared.executor.Executor.{Executor}
-use Rattle.papaya_histories.specs.Given.Finishes.Machines.{machine_of}
-use Rattle.papaya_histories.specs.Given.Moments.Whole.{ShowsWhole}
-use Rattle.papaya_histories.proofs.Given.Others.Outcomes.{told_in}
-use Rattle.papaya_owes.specs.Tables.{ShowsTables}
-use Rattle.papaya_owes.proofs.Walks.{sum_at}
-use Rattle.papaya_settles.specs.Due.{OwnAreMade}
+use Rattle.papaya_purposes.specs.Given.Tables.declared.node.Node.{Node}
+use Rattle.papaya_purposes.specs.Given.Resize.Sum.{sum_plan}
+use Rattle.papaya_purposes.specs.Given.Resize.declared.new_table.NewTable.{NewTable}
+use Rattle.papaya_purposes.specs.Given.Resize.declared.sum.Sum.{Sum}
+use Rattle.papaya_purposes.specs.Given.Raw.Machine.{counted as of_sum}
+use Rattle.papaya_purposes.specs.Given.Raw.declared.machines.call.Calling.{Calling}
+use Rattle.papaya_purposes.specs.Given.Raw.declared.machines.call.Calling.TheVariants as calling
+use Rattle.papaya_purposes.specs.Given.Raw.declared.machines.progress.Progress.{Progress}
+use Rattle.papaya_purposes.specs.Given.Schedules.declared.effect.Effect.{Effect}
+use Rattle.papaya_purposes.specs.Given.Schedules.After.{moments_from}
+use Rattle.papaya_purposes.specs.Given.Schedules.Entry.{Entry}
+use Rattle.papaya_purposes.specs.Given.Schedules.Growing.{HasNext, MayGrow}
+use Rattle.papaya_purposes.specs.Given.Schedules.Lists.{OneOf}
+use Rattle.papaya_purposes.specs.Given.Schedules.Moment.{UnderWay as CallThere, Moment}
+use Rattle.papaya_purposes.specs.Given.Schedules.Terms.{Terms, shards_of}
+use Rattle.papaya_purposes.specs.Given.Schedules.Views.{call_of}
+use Rattle.papaya_purposes.specs.Given.Points.FactsCalls.{IsCopying}
+use Rattle.papaya_purposes.specs.Given.Callers.Together.{Counting, ForRoom, OnKey, OverAll, UnderWay}
+use Rattle.papaya_purposes.specs.Given.Effects.Effects.{effects_of}
+use Rattle.papaya_purposes.specs.Given.Effects.Known.{Known}
+use Rattle.papaya_purposes.specs.Given.Effects.declared.acting.Acting.TheVariants as acts
+use Rattle.papaya_purposes.specs.Given.Executor.IsAt.{IsAt, Scene}
+use Rattle.papaya_purposes.specs.Given.Executor.Stepping.{StepLeads}
+use Rattle.papaya_purposes.specs.Given.Executor.declared.executor.Executor.{Executor}
+use Rattle.papaya_purposes.specs.Given.Finishes.Machines.{machine_of}
+use Rattle.papaya_purposes.specs.Given.Moments.Whole.{ShowsWhole}
+use Rattle.papaya_purposes.proofs.Given.Others.Outcomes.{told_in}
+use Rattle.papaya_purposes.specs.Given.Owes.Tables.{ShowsTables}
+use Rattle.papaya_purposes.proofs.Given.Owes.Walks.{sum_at}
+use Rattle.papaya_purposes.specs.Given.Settles.Due.{OwnAreMade}
 use Rattle.papaya_kept.proofs.Calls.{own_made}
-use Rattle.papaya_finds.specs.Growing.{FindAsked}
-use Rattle.papaya_finds.specs.Linking.{FindShapes}
-use Rattle.papaya_finds.specs.Nexts.{MakesByCopier, making_of_copier}
-use Rattle.papaya_finds.proofs.CopiersAsk.{copiers_may_ask}
-use Rattle.papaya_finds.proofs.Grows.Asked.{Asks, made_of, may_ask}
-use Rattle.papaya_finds.proofs.Grows.Steps.{key_calls_may_ask}
-use Rattle.papaya_finds.proofs.Linking.{key_calls_link}
-use Rattle.papaya_finds.proofs.Rest.{rest_is_all}
-use Rattle.papaya_finds.proofs.Waits.Handed.{calls_hand_past, past_is_handed}
-use Rattle.papaya_finds.proofs.Waits.Next.{calls_put_behind}
-use Rattle.papaya_finds.specs.Waits.{FindPast, FindBehind}
+use Rattle.papaya_purposes.specs.Given.Finds.Growing.{FindAsked}
+use Rattle.papaya_purposes.specs.Given.Finds.Linking.{FindShapes}
+use Rattle.papaya_purposes.specs.Given.Finds.Nexts.{MakesByCopier, making_of_copier}
+use Rattle.papaya_purposes.proofs.Given.Finds.CopiersAsk.{copiers_may_ask}
+use Rattle.papaya_purposes.proofs.Given.Finds.Grows.Asked.{Asks, made_of, may_ask}
+use Rattle.papaya_purposes.proofs.Given.Finds.Grows.Steps.{key_calls_may_ask}
+use Rattle.papaya_purposes.proofs.Given.Finds.Linking.{key_calls_link}
+use Rattle.papaya_purposes.proofs.Given.Finds.Rest.{rest_is_all}
+use Rattle.papaya_purposes.proofs.Given.Finds.Waits.Handed.{calls_hand_past, past_is_handed}
+use Rattle.papaya_purposes.proofs.Given.Finds.Waits.Next.{calls_put_behind}
+use Rattle.papaya_purposes.specs.Given.Finds.Waits.{FindPast, FindBehind}
 use Rattle.papaya_sources.proofs.Space.{calls_find_space}
 use Rattle.papaya_purposes.specs.Purposes.{ShowsPurposes}
 use Rattle.papaya_grows.specs.Finding.{ShowsFinding}

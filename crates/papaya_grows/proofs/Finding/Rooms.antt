@@ -3,74 +3,74 @@
 use Rattle.std.specs.Prelude.{◌≡◌, ℕ, suc, ◌+◌, ◌^◌, ◌≤◌, nat_le, nat_lt, max, Bool, true, false, List, [], ◌∷◌, length, Some, Ok, Err, if◌then◌else◌}
 use Rattle.std.proofs.Common.{refl, ap, sym, subst, ◌∙◌, arith, inl, inr}
 use Rattle.std.proofs.lemmas.Bool.{leb-true}
-use Rattle.papaya_histories.specs.Given.SeizeWords.Mem.{Mem}
-use Rattle.papaya_histories.specs.Given.SeizeWords.declared.fault.Fault.TheVariants.{Capacity}
-use Rattle.papaya_histories.specs.Given.Seize.declared.progress.Progress.{Progress as MakingProgress}
-use Rattle.papaya_histories.specs.Given.Tables.Lengths.{entries_of, len_of, places_for}
-use Rattle.papaya_histories.specs.Given.Tables.Powers.{next_power}
-use Rattle.papaya_histories.specs.Given.Tables.declared.lengths.Reason.TheVariants.{Reserved}
-use Rattle.papaya_histories.specs.Given.Tables.declared.node.Node.{Node}
-use Rattle.papaya_histories.specs.Given.Tables.declared.setting.Setting.{Setting}
-use Rattle.papaya_histories.specs.Given.Tables.declared.table.Table.{Table as Planned}
-use Rattle.papaya_histories.specs.Given.Resize.NewTable.{new_table_plan, plan_at as making_at}
-use Rattle.papaya_histories.specs.Given.Resize.declared.copier.Copier.{Copier}
-use Rattle.papaya_histories.specs.Given.Resize.declared.new_table.Making.{Making}
-use Rattle.papaya_histories.specs.Given.Resize.declared.new_table.Making.TheVariants as makes
-use Rattle.papaya_histories.specs.Given.Resize.declared.new_table.NewTable.{NewTable}
-use Rattle.papaya_histories.specs.Given.Resize.declared.outcome.Outcome.{Outcome}
-use Rattle.papaya_histories.specs.Given.Reserves.Reserve.{made, plan_at, reserve_plan}
-use Rattle.papaya_histories.specs.Given.Reserves.declared.reserve.Reserve.{Reserve}
-use Rattle.papaya_histories.specs.Given.Reserves.declared.reserve.Reserving.{Reserving}
-use Rattle.papaya_histories.specs.Given.Reserves.declared.reserve.Reserving.TheVariants as reserving
-use Rattle.papaya_histories.specs.Given.Raw.Machine.{reserved as of_room}
-use Rattle.papaya_histories.specs.Given.Raw.declared.machines.progress.Progress.{Progress}
-use Rattle.papaya_histories.specs.Given.Schedules.declared.call.Call.{Call}
-use Rattle.papaya_histories.specs.Given.Schedules.declared.call.Call.TheVariants as call
-use Rattle.papaya_histories.specs.Given.Schedules.declared.effect.Effect.{Effect}
-use Rattle.papaya_histories.specs.Given.Schedules.declared.effect.Effect.TheVariants as effect
-use Rattle.papaya_histories.specs.Given.Schedules.After.{moments_from}
-use Rattle.papaya_histories.specs.Given.Schedules.Counts.{Counts}
-use Rattle.papaya_histories.specs.Given.Schedules.Effects.{AtEachEffect}
-use Rattle.papaya_histories.specs.Given.Schedules.Entry.{Entry}
-use Rattle.papaya_histories.specs.Given.Schedules.Growing.{Follows, Has, HasNext, IsFirstOf, IsNextShape, MayGrow, MayMakeFor, is_too_many}
-use Rattle.papaya_histories.specs.Given.Schedules.Lists.{OneOf}
-use Rattle.papaya_histories.specs.Given.Schedules.Moment.{Moment, TableThere, UnderWay as CallThere}
-use Rattle.papaya_histories.specs.Given.Schedules.Terms.{Terms, shards_of}
-use Rattle.papaya_histories.specs.Given.Schedules.Views.{call_of, capacity_or, map_at, tables_of}
-use Rattle.papaya_histories.specs.Given.Teller.Tells.{StepsTold}
-use Rattle.papaya_histories.specs.Given.Teller.declared.changed.Changed.{Changed}
-use Rattle.papaya_histories.specs.Given.Teller.declared.changed.Changed.TheVariants.{Nothing}
-use Rattle.papaya_histories.proofs.Given.Others.Outcomes.{told_in}
-use Rattle.papaya_histories.specs.Given.Rule.Maps.{IsTable}
-use Rattle.papaya_histories.specs.Given.Rule.Words.{Blocks}
-use Rattle.papaya_histories.specs.Given.Late.ToldReserves.{IsRowOfReserve}
-use Rattle.papaya_histories.specs.Given.Callers.Rooms.{CallForRoom}
-use Rattle.papaya_histories.specs.Given.Callers.Sights.{seen_by}
-use Rattle.papaya_histories.specs.Given.Callers.Together.{ForRoom, Together}
-use Rattle.papaya_histories.specs.Given.Effects.Effects.{effects_of}
-use Rattle.papaya_histories.specs.Given.Effects.Known.{Known}
-use Rattle.papaya_histories.specs.Given.Effects.declared.acting.Acting.TheVariants as acts
-use Rattle.papaya_histories.specs.Given.Executor.IsAt.{IsAt, Scene, slot_of}
-use Rattle.papaya_histories.specs.Given.Executor.Stepping.{StepLeads}
-use Rattle.papaya_histories.specs.Given.Executor.declared.executor.Executor.{Executor}
-use Rattle.papaya_histories.specs.Given.Finishes.Machines.{machine_of}
-use Rattle.papaya_histories.specs.Given.Finishes.Maps.{Standing}
-use Rattle.papaya_histories.specs.Given.Follows.Finds.{FindsMap}
-use Rattle.papaya_histories.proofs.Given.Follows.Steps.{one_of}
-use Rattle.papaya_histories.specs.Given.Moments.Whole.{ShowsWhole}
-use Rattle.papaya_owes.specs.Making.{making_in_reserving, making_of}
-use Rattle.papaya_owes.specs.Tables.{ShowsTables, of_map, table_in, table_made}
-use Rattle.papaya_owes.proofs.Tables.Held.{shape_of, some_making}
-use Rattle.papaya_finds.specs.Growing.{FindAsked}
-use Rattle.papaya_finds.specs.Linking.{FindShapes, IsMadeFor}
-use Rattle.papaya_finds.specs.Nexts.{copier_in_reserving, making_of_copier}
-use Rattle.papaya_finds.specs.Reserving.{MakesFirst}
-use Rattle.papaya_finds.specs.Shaping.{ShapedAt}
-use Rattle.papaya_finds.specs.Within.{many_of}
-use Rattle.papaya_finds.proofs.Grows.Asked.{Asks, asks_some, may_ask}
-use Rattle.papaya_finds.proofs.Linking.{made_so, one_shaped}
-use Rattle.papaya_finds.proofs.Reserving.{rooms_may_ask}
-use Rattle.papaya_finds.proofs.Steps.{steps_find_places}
+use Rattle.papaya_purposes.specs.Given.SeizeWords.Mem.{Mem}
+use Rattle.papaya_purposes.specs.Given.SeizeWords.declared.fault.Fault.TheVariants.{Capacity}
+use Rattle.papaya_purposes.specs.Given.Seize.declared.progress.Progress.{Progress as MakingProgress}
+use Rattle.papaya_purposes.specs.Given.Tables.Lengths.{entries_of, len_of, places_for}
+use Rattle.papaya_purposes.specs.Given.Tables.Powers.{next_power}
+use Rattle.papaya_purposes.specs.Given.Tables.declared.lengths.Reason.TheVariants.{Reserved}
+use Rattle.papaya_purposes.specs.Given.Tables.declared.node.Node.{Node}
+use Rattle.papaya_purposes.specs.Given.Tables.declared.setting.Setting.{Setting}
+use Rattle.papaya_purposes.specs.Given.Tables.declared.table.Table.{Table as Planned}
+use Rattle.papaya_purposes.specs.Given.Resize.NewTable.{new_table_plan, plan_at as making_at}
+use Rattle.papaya_purposes.specs.Given.Resize.declared.copier.Copier.{Copier}
+use Rattle.papaya_purposes.specs.Given.Resize.declared.new_table.Making.{Making}
+use Rattle.papaya_purposes.specs.Given.Resize.declared.new_table.Making.TheVariants as makes
+use Rattle.papaya_purposes.specs.Given.Resize.declared.new_table.NewTable.{NewTable}
+use Rattle.papaya_purposes.specs.Given.Resize.declared.outcome.Outcome.{Outcome}
+use Rattle.papaya_purposes.specs.Given.Reserves.Reserve.{made, plan_at, reserve_plan}
+use Rattle.papaya_purposes.specs.Given.Reserves.declared.reserve.Reserve.{Reserve}
+use Rattle.papaya_purposes.specs.Given.Reserves.declared.reserve.Reserving.{Reserving}
+use Rattle.papaya_purposes.specs.Given.Reserves.declared.reserve.Reserving.TheVariants as reserving
+use Rattle.papaya_purposes.specs.Given.Raw.Machine.{reserved as of_room}
+use Rattle.papaya_purposes.specs.Given.Raw.declared.machines.progress.Progress.{Progress}
+use Rattle.papaya_purposes.specs.Given.Schedules.declared.call.Call.{Call}
+use Rattle.papaya_purposes.specs.Given.Schedules.declared.call.Call.TheVariants as call
+use Rattle.papaya_purposes.specs.Given.Schedules.declared.effect.Effect.{Effect}
+use Rattle.papaya_purposes.specs.Given.Schedules.declared.effect.Effect.TheVariants as effect
+use Rattle.papaya_purposes.specs.Given.Schedules.After.{moments_from}
+use Rattle.papaya_purposes.specs.Given.Schedules.Counts.{Counts}
+use Rattle.papaya_purposes.specs.Given.Schedules.Effects.{AtEachEffect}
+use Rattle.papaya_purposes.specs.Given.Schedules.Entry.{Entry}
+use Rattle.papaya_purposes.specs.Given.Schedules.Growing.{Follows, Has, HasNext, IsFirstOf, IsNextShape, MayGrow, MayMakeFor, is_too_many}
+use Rattle.papaya_purposes.specs.Given.Schedules.Lists.{OneOf}
+use Rattle.papaya_purposes.specs.Given.Schedules.Moment.{Moment, TableThere, UnderWay as CallThere}
+use Rattle.papaya_purposes.specs.Given.Schedules.Terms.{Terms, shards_of}
+use Rattle.papaya_purposes.specs.Given.Schedules.Views.{call_of, capacity_or, map_at, tables_of}
+use Rattle.papaya_purposes.specs.Given.Teller.Tells.{StepsTold}
+use Rattle.papaya_purposes.specs.Given.Teller.declared.changed.Changed.{Changed}
+use Rattle.papaya_purposes.specs.Given.Teller.declared.changed.Changed.TheVariants.{Nothing}
+use Rattle.papaya_purposes.proofs.Given.Others.Outcomes.{told_in}
+use Rattle.papaya_purposes.specs.Given.Rule.Maps.{IsTable}
+use Rattle.papaya_purposes.specs.Given.Rule.Words.{Blocks}
+use Rattle.papaya_purposes.specs.Given.Late.ToldReserves.{IsRowOfReserve}
+use Rattle.papaya_purposes.specs.Given.Callers.Rooms.{CallForRoom}
+use Rattle.papaya_purposes.specs.Given.Callers.Sights.{seen_by}
+use Rattle.papaya_purposes.specs.Given.Callers.Together.{ForRoom, Together}
+use Rattle.papaya_purposes.specs.Given.Effects.Effects.{effects_of}
+use Rattle.papaya_purposes.specs.Given.Effects.Known.{Known}
+use Rattle.papaya_purposes.specs.Given.Effects.declared.acting.Acting.TheVariants as acts
+use Rattle.papaya_purposes.specs.Given.Executor.IsAt.{IsAt, Scene, slot_of}
+use Rattle.papaya_purposes.specs.Given.Executor.Stepping.{StepLeads}
+use Rattle.papaya_purposes.specs.Given.Executor.declared.executor.Executor.{Executor}
+use Rattle.papaya_purposes.specs.Given.Finishes.Machines.{machine_of}
+use Rattle.papaya_purposes.specs.Given.Finishes.Maps.{Standing}
+use Rattle.papaya_purposes.specs.Given.Follows.Finds.{FindsMap}
+use Rattle.papaya_purposes.proofs.Given.Follows.Steps.{one_of}
+use Rattle.papaya_purposes.specs.Given.Moments.Whole.{ShowsWhole}
+use Rattle.papaya_purposes.specs.Given.Owes.Making.{making_in_reserving, making_of}
+use Rattle.papaya_purposes.specs.Given.Owes.Tables.{ShowsTables, of_map, table_in, table_made}
+use Rattle.papaya_purposes.proofs.Given.Owes.Tables.Held.{shape_of, some_making}
+use Rattle.papaya_purposes.specs.Given.Finds.Growing.{FindAsked}
+use Rattle.papaya_purposes.specs.Given.Finds.Linking.{FindShapes, IsMadeFor}
+use Rattle.papaya_purposes.specs.Given.Finds.Nexts.{copier_in_reserving, making_of_copier}
+use Rattle.papaya_purposes.specs.Given.Finds.Reserving.{MakesFirst}
+use Rattle.papaya_purposes.specs.Given.Finds.Shaping.{ShapedAt}
+use Rattle.papaya_purposes.specs.Given.Finds.Within.{many_of}
+use Rattle.papaya_purposes.proofs.Given.Finds.Grows.Asked.{Asks, asks_some, may_ask}
+use Rattle.papaya_purposes.proofs.Given.Finds.Linking.{made_so, one_shaped}
+use Rattle.papaya_purposes.proofs.Given.Finds.Reserving.{rooms_may_ask}
+use Rattle.papaya_purposes.proofs.Given.Finds.Steps.{steps_find_places}
 use Rattle.papaya_purposes.specs.Needs.{IsFirstFor, IsLaterFor, NeedsAt}
 use Rattle.papaya_purposes.specs.Purposes.{HasMet, IsFor, RoomAt, ShowsPurposes}
 use Rattle.papaya_purposes.proofs.Needs.{needs_wider}

@@ -2,48 +2,48 @@
 use Rattle.std.specs.Prelude.{◌≡◌, ◌⊎◌, ◌+◌, ◌-◌, ◌^◌, ◌<◌, ◌%◌, nat_le, max, ℕ, zero, suc, Bool, true, false, List, ◌∷◌, Ok, Err, Some, if◌then◌else◌}
 use Rattle.std.proofs.Common.{refl, ap, sym, subst, ◌∙◌, inl, inr, arith}
 use Rattle.std.proofs.lemmas.Bool.{leb-true, lt-ltb}
-use Rattle.papaya_histories.specs.Given.SeizeWords.Mem.{Mem, Took, value_at}
-use Rattle.papaya_histories.specs.Given.SeizeWords.Plan.{Steps}
-use Rattle.papaya_histories.specs.Given.SeizeWords.declared.fault.Fault.TheVariants.{Capacity}
-use Rattle.papaya_histories.specs.Given.Seize.declared.progress.Progress.TheVariants as counting
-use Rattle.papaya_histories.specs.Given.Tables.Counts.{count_in}
-use Rattle.papaya_histories.specs.Given.Tables.Lengths.{places_for}
-use Rattle.papaya_histories.specs.Given.Tables.Powers.{next_power}
-use Rattle.papaya_histories.specs.Given.Tables.declared.node.Node.{Node}
-use Rattle.papaya_histories.specs.Given.Tables.declared.setting.Setting.{Setting}
-use Rattle.papaya_histories.specs.Given.Resize.Sum.{sum_plan}
-use Rattle.papaya_histories.specs.Given.Reserves.Reserve.{needed, or_too_long}
-use Rattle.papaya_histories.specs.Given.Reserves.declared.reserve.Reserving.{Reserving}
-use Rattle.papaya_histories.specs.Given.Reserves.declared.reserve.Reserving.TheVariants as reserving
-use Rattle.papaya_histories.specs.Given.Raw.declared.machines.progress.Progress.{Progress}
-use Rattle.papaya_histories.specs.Given.Raw.declared.machines.progress.Progress.TheVariants as progress
-use Rattle.papaya_histories.specs.Given.Schedules.declared.call.Call.{Call}
-use Rattle.papaya_histories.specs.Given.Schedules.declared.call.Call.TheVariants as call
-use Rattle.papaya_histories.specs.Given.Schedules.After.{moments_from}
-use Rattle.papaya_histories.specs.Given.Schedules.Coming.{CountsTooMany}
-use Rattle.papaya_histories.specs.Given.Schedules.Counts.{AddsUp, Counts}
-use Rattle.papaya_histories.specs.Given.Schedules.Effects.{with_effects}
-use Rattle.papaya_histories.specs.Given.Schedules.Entry.{Entry}
-use Rattle.papaya_histories.specs.Given.Schedules.Growing.{is_too_many}
-use Rattle.papaya_histories.specs.Given.Schedules.Lists.{OneOf}
-use Rattle.papaya_histories.specs.Given.Schedules.Moment.{Moment, UnderWay as CallThere}
-use Rattle.papaya_histories.specs.Given.Schedules.Terms.{Terms, shards_of}
-use Rattle.papaya_histories.specs.Given.Schedules.Views.{call_of}
-use Rattle.papaya_histories.specs.Given.Callers.Rooms.{CallForRoom}
-use Rattle.papaya_histories.specs.Given.Callers.Sights.{seen_by}
-use Rattle.papaya_histories.specs.Given.Callers.Together.{Counting, ForRoom, OnKey, OverAll, UnderWay}
-use Rattle.papaya_histories.specs.Given.Effects.Effects.{effects_of}
-use Rattle.papaya_histories.specs.Given.Effects.Known.{Known}
-use Rattle.papaya_histories.specs.Given.Effects.declared.acting.Acting.TheVariants as acts
-use Rattle.papaya_histories.specs.Given.Executor.IsAt.{IsAt, Scene, slot_of}
-use Rattle.papaya_histories.specs.Given.Executor.Stepping.{StepLeads}
-use Rattle.papaya_histories.specs.Given.Executor.declared.executor.Executor.{Executor}
-use Rattle.papaya_histories.proofs.Given.Executor.Given.Tables.TableLens.{next-power-most}
-use Rattle.papaya_histories.proofs.Given.Late.KindsKept.Rooms.Making.{above}
-use Rattle.papaya_histories.specs.Given.Finishes.Maps.{Standing}
-use Rattle.papaya_histories.specs.Given.Moments.Whole.{ShowsWhole}
-use Rattle.papaya_finds.specs.Capacities.{ShowsCapacities}
-use Rattle.papaya_finds.proofs.Reserving.{adds_after}
+use Rattle.papaya_purposes.specs.Given.SeizeWords.Mem.{Mem, Took, value_at}
+use Rattle.papaya_purposes.specs.Given.SeizeWords.Plan.{Steps}
+use Rattle.papaya_purposes.specs.Given.SeizeWords.declared.fault.Fault.TheVariants.{Capacity}
+use Rattle.papaya_purposes.specs.Given.Seize.declared.progress.Progress.TheVariants as counting
+use Rattle.papaya_purposes.specs.Given.Tables.Counts.{count_in}
+use Rattle.papaya_purposes.specs.Given.Tables.Lengths.{places_for}
+use Rattle.papaya_purposes.specs.Given.Tables.Powers.{next_power}
+use Rattle.papaya_purposes.specs.Given.Tables.declared.node.Node.{Node}
+use Rattle.papaya_purposes.specs.Given.Tables.declared.setting.Setting.{Setting}
+use Rattle.papaya_purposes.specs.Given.Resize.Sum.{sum_plan}
+use Rattle.papaya_purposes.specs.Given.Reserves.Reserve.{needed, or_too_long}
+use Rattle.papaya_purposes.specs.Given.Reserves.declared.reserve.Reserving.{Reserving}
+use Rattle.papaya_purposes.specs.Given.Reserves.declared.reserve.Reserving.TheVariants as reserving
+use Rattle.papaya_purposes.specs.Given.Raw.declared.machines.progress.Progress.{Progress}
+use Rattle.papaya_purposes.specs.Given.Raw.declared.machines.progress.Progress.TheVariants as progress
+use Rattle.papaya_purposes.specs.Given.Schedules.declared.call.Call.{Call}
+use Rattle.papaya_purposes.specs.Given.Schedules.declared.call.Call.TheVariants as call
+use Rattle.papaya_purposes.specs.Given.Schedules.After.{moments_from}
+use Rattle.papaya_purposes.specs.Given.Schedules.Coming.{CountsTooMany}
+use Rattle.papaya_purposes.specs.Given.Schedules.Counts.{AddsUp, Counts}
+use Rattle.papaya_purposes.specs.Given.Schedules.Effects.{with_effects}
+use Rattle.papaya_purposes.specs.Given.Schedules.Entry.{Entry}
+use Rattle.papaya_purposes.specs.Given.Schedules.Growing.{is_too_many}
+use Rattle.papaya_purposes.specs.Given.Schedules.Lists.{OneOf}
+use Rattle.papaya_purposes.specs.Given.Schedules.Moment.{Moment, UnderWay as CallThere}
+use Rattle.papaya_purposes.specs.Given.Schedules.Terms.{Terms, shards_of}
+use Rattle.papaya_purposes.specs.Given.Schedules.Views.{call_of}
+use Rattle.papaya_purposes.specs.Given.Callers.Rooms.{CallForRoom}
+use Rattle.papaya_purposes.specs.Given.Callers.Sights.{seen_by}
+use Rattle.papaya_purposes.specs.Given.Callers.Together.{Counting, ForRoom, OnKey, OverAll, UnderWay}
+use Rattle.papaya_purposes.specs.Given.Effects.Effects.{effects_of}
+use Rattle.papaya_purposes.specs.Given.Effects.Known.{Known}
+use Rattle.papaya_purposes.specs.Given.Effects.declared.acting.Acting.TheVariants as acts
+use Rattle.papaya_purposes.specs.Given.Executor.IsAt.{IsAt, Scene, slot_of}
+use Rattle.papaya_purposes.specs.Given.Executor.Stepping.{StepLeads}
+use Rattle.papaya_purposes.specs.Given.Executor.declared.executor.Executor.{Executor}
+use Rattle.papaya_purposes.proofs.Given.Executor.Given.Tables.TableLens.{next-power-most}
+use Rattle.papaya_purposes.proofs.Given.Late.KindsKept.Rooms.Making.{above}
+use Rattle.papaya_purposes.specs.Given.Finishes.Maps.{Standing}
+use Rattle.papaya_purposes.specs.Given.Moments.Whole.{ShowsWhole}
+use Rattle.papaya_purposes.specs.Given.Finds.Capacities.{ShowsCapacities}
+use Rattle.papaya_purposes.proofs.Given.Finds.Reserving.{adds_after}
 use Rattle.papaya_purposes.specs.Purposes.{ShowsPurposes}
 use Rattle.papaya_purposes.specs.Shards.{ReadsShards}
 use Rattle.papaya_purposes.proofs.RoomFacts.{room_setting}

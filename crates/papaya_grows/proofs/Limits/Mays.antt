@@ -1,52 +1,52 @@
 -- What a call finds where it may be refused for the length of a table: none is linked behind the last one of its map, by the points of each kind of call.
 use Rattle.std.specs.Prelude.{◌≡◌, ◌⊎◌, ◌≤◌, ◌<◌, ◌^◌, ℕ, Bool, true, false, cond, Some}
 use Rattle.std.proofs.Common.{sym, subst, inl, inr}
-use Rattle.papaya_histories.specs.Given.SeizeWords.Mem.{Mem, Took, value_at}
-use Rattle.papaya_histories.specs.Given.SeizeWords.Plan.{Steps}
-use Rattle.papaya_histories.specs.Given.Seize.World.{World}
-use Rattle.papaya_histories.specs.Given.Seize.declared.progress.Progress.TheVariants as counting
-use Rattle.papaya_histories.specs.Given.Tables.Chunks.{is_incremental}
-use Rattle.papaya_histories.specs.Given.Tables.declared.node.Node.{Node}
-use Rattle.papaya_histories.specs.Given.Tables.declared.setting.Setting.{Setting}
-use Rattle.papaya_histories.specs.Given.Tables.declared.table.Table.{Table}
-use Rattle.papaya_histories.specs.Given.Resize.Sum.{sum_plan}
-use Rattle.papaya_histories.specs.Given.Resize.declared.copier.Copier.{Copier}
-use Rattle.papaya_histories.specs.Given.Resize.declared.copier.Copying.{Copying}
-use Rattle.papaya_histories.specs.Given.Resize.declared.copier.Copying.TheVariants as copying
-use Rattle.papaya_histories.specs.Given.Resize.declared.sum.Sum.{Sum}
-use Rattle.papaya_histories.specs.Given.Reserves.Reserve.{needed}
-use Rattle.papaya_histories.specs.Given.Reserves.declared.reserve.Reserve.{Reserve}
-use Rattle.papaya_histories.specs.Given.Reserves.declared.reserve.Reserving.{Reserving}
-use Rattle.papaya_histories.specs.Given.Reserves.declared.reserve.Reserving.TheVariants as reserving
-use Rattle.papaya_histories.specs.Given.Sweeps.declared.sweep.Sweep.{Sweep}
-use Rattle.papaya_histories.specs.Given.Sweeps.declared.sweep.Sweeping.{Sweeping}
-use Rattle.papaya_histories.specs.Given.Sweeps.declared.sweep.Sweeping.TheVariants as sweeping
-use Rattle.papaya_histories.specs.Given.Raw.declared.machines.call.Calling.{Calling}
-use Rattle.papaya_histories.specs.Given.Raw.declared.machines.call.Calling.TheVariants as calling
-use Rattle.papaya_histories.specs.Given.Raw.declared.machines.call.KeyCall.{KeyCall}
-use Rattle.papaya_histories.specs.Given.Rule.Chart.{Chart}
-use Rattle.papaya_histories.specs.Given.Rule.InWorld.{IsMapIn}
-use Rattle.papaya_histories.specs.Given.Rule.Maps.{IsTable}
-use Rattle.papaya_histories.specs.Given.Rule.Words.{Blocks}
-use Rattle.papaya_histories.specs.Given.Points.FactsCalls.{CallingFacts, Change}
-use Rattle.papaya_histories.specs.Given.Points.FactsCopies.{CopierFacts, CopyingFacts}
-use Rattle.papaya_histories.specs.Given.Points.FactsCopiesBlocking.{CopierFactsBlocking, CopyingFactsBlocking}
-use Rattle.papaya_histories.specs.Given.Points.Told.{IsRowOfCall, IsRowOfCopier}
-use Rattle.papaya_histories.specs.Given.Late.Ends.{EndsInCalling, EndsInCopying, EndsInReserving, EndsInSweeping, EndsSo, IsLastWhereNone}
-use Rattle.papaya_histories.specs.Given.Late.FactsReserves.{CopiesWhole, IsEnding, ReservingFacts}
-use Rattle.papaya_histories.specs.Given.Late.FactsSweeps.{SweepingFacts}
-use Rattle.papaya_histories.specs.Given.Late.LateCalls.{LateCalling}
-use Rattle.papaya_histories.specs.Given.Late.LateCopies.{LateCopying}
-use Rattle.papaya_histories.specs.Given.Late.LateReserves.{LateReserving}
-use Rattle.papaya_histories.specs.Given.Late.ToldReserves.{IsRowOfReserve}
-use Rattle.papaya_histories.specs.Given.Late.ToldSweeps.{IsRowOfSweep}
-use Rattle.papaya_histories.specs.Given.Callers.Sights.{IsSight, Sight, seen_by}
-use Rattle.papaya_histories.specs.Given.Callers.Together.{Counting, ForRoom, OnKey, OverAll, Together, UnderWay, in_slot}
-use Rattle.papaya_histories.specs.Given.Executor.IsAt.{IsAt, Scene, slot_of}
-use Rattle.papaya_histories.specs.Given.Executor.declared.executor.Executor.{Executor}
-use Rattle.papaya_histories.specs.Given.Finishes.Machines.{machine_of}
-use Rattle.papaya_histories.specs.Given.Finishes.Maps.{Standing}
-use Rattle.papaya_finds.proofs.Grows.There.{unseen}
+use Rattle.papaya_purposes.specs.Given.SeizeWords.Mem.{Mem, Took, value_at}
+use Rattle.papaya_purposes.specs.Given.SeizeWords.Plan.{Steps}
+use Rattle.papaya_purposes.specs.Given.Seize.World.{World}
+use Rattle.papaya_purposes.specs.Given.Seize.declared.progress.Progress.TheVariants as counting
+use Rattle.papaya_purposes.specs.Given.Tables.Chunks.{is_incremental}
+use Rattle.papaya_purposes.specs.Given.Tables.declared.node.Node.{Node}
+use Rattle.papaya_purposes.specs.Given.Tables.declared.setting.Setting.{Setting}
+use Rattle.papaya_purposes.specs.Given.Tables.declared.table.Table.{Table}
+use Rattle.papaya_purposes.specs.Given.Resize.Sum.{sum_plan}
+use Rattle.papaya_purposes.specs.Given.Resize.declared.copier.Copier.{Copier}
+use Rattle.papaya_purposes.specs.Given.Resize.declared.copier.Copying.{Copying}
+use Rattle.papaya_purposes.specs.Given.Resize.declared.copier.Copying.TheVariants as copying
+use Rattle.papaya_purposes.specs.Given.Resize.declared.sum.Sum.{Sum}
+use Rattle.papaya_purposes.specs.Given.Reserves.Reserve.{needed}
+use Rattle.papaya_purposes.specs.Given.Reserves.declared.reserve.Reserve.{Reserve}
+use Rattle.papaya_purposes.specs.Given.Reserves.declared.reserve.Reserving.{Reserving}
+use Rattle.papaya_purposes.specs.Given.Reserves.declared.reserve.Reserving.TheVariants as reserving
+use Rattle.papaya_purposes.specs.Given.Sweeps.declared.sweep.Sweep.{Sweep}
+use Rattle.papaya_purposes.specs.Given.Sweeps.declared.sweep.Sweeping.{Sweeping}
+use Rattle.papaya_purposes.specs.Given.Sweeps.declared.sweep.Sweeping.TheVariants as sweeping
+use Rattle.papaya_purposes.specs.Given.Raw.declared.machines.call.Calling.{Calling}
+use Rattle.papaya_purposes.specs.Given.Raw.declared.machines.call.Calling.TheVariants as calling
+use Rattle.papaya_purposes.specs.Given.Raw.declared.machines.call.KeyCall.{KeyCall}
+use Rattle.papaya_purposes.specs.Given.Rule.Chart.{Chart}
+use Rattle.papaya_purposes.specs.Given.Rule.InWorld.{IsMapIn}
+use Rattle.papaya_purposes.specs.Given.Rule.Maps.{IsTable}
+use Rattle.papaya_purposes.specs.Given.Rule.Words.{Blocks}
+use Rattle.papaya_purposes.specs.Given.Points.FactsCalls.{CallingFacts, Change}
+use Rattle.papaya_purposes.specs.Given.Points.FactsCopies.{CopierFacts, CopyingFacts}
+use Rattle.papaya_purposes.specs.Given.Points.FactsCopiesBlocking.{CopierFactsBlocking, CopyingFactsBlocking}
+use Rattle.papaya_purposes.specs.Given.Points.Told.{IsRowOfCall, IsRowOfCopier}
+use Rattle.papaya_purposes.specs.Given.Late.Ends.{EndsInCalling, EndsInCopying, EndsInReserving, EndsInSweeping, EndsSo, IsLastWhereNone}
+use Rattle.papaya_purposes.specs.Given.Late.FactsReserves.{CopiesWhole, IsEnding, ReservingFacts}
+use Rattle.papaya_purposes.specs.Given.Late.FactsSweeps.{SweepingFacts}
+use Rattle.papaya_purposes.specs.Given.Late.LateCalls.{LateCalling}
+use Rattle.papaya_purposes.specs.Given.Late.LateCopies.{LateCopying}
+use Rattle.papaya_purposes.specs.Given.Late.LateReserves.{LateReserving}
+use Rattle.papaya_purposes.specs.Given.Late.ToldReserves.{IsRowOfReserve}
+use Rattle.papaya_purposes.specs.Given.Late.ToldSweeps.{IsRowOfSweep}
+use Rattle.papaya_purposes.specs.Given.Callers.Sights.{IsSight, Sight, seen_by}
+use Rattle.papaya_purposes.specs.Given.Callers.Together.{Counting, ForRoom, OnKey, OverAll, Together, UnderWay, in_slot}
+use Rattle.papaya_purposes.specs.Given.Executor.IsAt.{IsAt, Scene, slot_of}
+use Rattle.papaya_purposes.specs.Given.Executor.declared.executor.Executor.{Executor}
+use Rattle.papaya_purposes.specs.Given.Finishes.Machines.{machine_of}
+use Rattle.papaya_purposes.specs.Given.Finishes.Maps.{Standing}
+use Rattle.papaya_purposes.proofs.Given.Finds.Grows.There.{unseen}
 use Rattle.papaya_grows.specs.Limits.{IsFor, IsForBehind, NeedsMore}
 use Rattle.papaya_grows.proofs.Limits.Last.{LastIsFor, last_for}
 use Rattle.papaya_grows.proofs.Limits.Walk.{MachineMayEnd, SummedAt, SummedIn, ends_for}

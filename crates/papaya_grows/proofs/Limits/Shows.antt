@@ -1,59 +1,59 @@
 -- Whatever happens between the steps of calls, where a call can have no further table, one of its map's is at the limit, or was at a moment since it began.
 use Rattle.std.specs.Prelude.{◌≡◌, ◌⊎◌, ◌≤◌, ℕ, Bool, true, List, ◌∷◌, Option, Some, None, length}
 use Rattle.std.proofs.Common.{ap, sym, subst, ◌∙◌}
-use Rattle.papaya_histories.specs.Given.Seize.World.{Begin, Step}
-use Rattle.papaya_histories.specs.Given.Seize.declared.progress.Progress.{Progress as Making}
-use Rattle.papaya_histories.specs.Given.Seize.declared.rows.settle.Settled.{Settled}
-use Rattle.papaya_histories.specs.Given.Tables.declared.node.Node.{Node}
-use Rattle.papaya_histories.specs.Given.Tables.declared.setting.Setting.{Setting}
-use Rattle.papaya_histories.specs.Given.Raw.Machine.{machine_asked, machine_replied}
-use Rattle.papaya_histories.specs.Given.Raw.declared.machines.asking.Reply.{Reply as MachineReply}
-use Rattle.papaya_histories.specs.Given.Raw.declared.machines.machine.Machine.{Machine}
-use Rattle.papaya_histories.specs.Given.Schedules.declared.call.Call.{Call}
-use Rattle.papaya_histories.specs.Given.Schedules.declared.call.Reply.{Reply}
-use Rattle.papaya_histories.specs.Given.Schedules.declared.outcome.Outcome.{Outcome}
-use Rattle.papaya_histories.specs.Given.Schedules.After.{moment}
-use Rattle.papaya_histories.specs.Given.Schedules.Beginning.{with_call}
-use Rattle.papaya_histories.specs.Given.Schedules.Effects.{with_effects}
-use Rattle.papaya_histories.specs.Given.Schedules.Entry.{Entry, ends_call}
-use Rattle.papaya_histories.specs.Given.Schedules.Moment.{Moment, UnderWay as CallThere}
-use Rattle.papaya_histories.specs.Given.Schedules.Views.{call_of, map_at}
-use Rattle.papaya_histories.specs.Given.Callers.OverAll.{CallOverAll}
-use Rattle.papaya_histories.specs.Given.Callers.Pairs.{Given}
-use Rattle.papaya_histories.specs.Given.Callers.Rooms.{CallForRoom}
-use Rattle.papaya_histories.specs.Given.Callers.Together.{Computes, Counting, ForRoom, Gets, Inserts, IsBegun, OnKey, OverAll, Removes, RemovesIf, TriesToInsert, TriesToInsertWith, UnderWay, Updates, UpdatesOrInserts}
-use Rattle.papaya_histories.specs.Given.Effects.Effects.{effects_of, known_after}
-use Rattle.papaya_histories.specs.Given.Effects.Known.{Known}
-use Rattle.papaya_histories.specs.Given.Effects.declared.acting.Acting.TheVariants as acts
-use Rattle.papaya_histories.specs.Given.Executor.Beginning.{Begins}
-use Rattle.papaya_histories.specs.Given.Executor.Ending.{EndingLeads}
-use Rattle.papaya_histories.specs.Given.Executor.IsAt.{IsAt, Scene, slot_of, work_of}
-use Rattle.papaya_histories.specs.Given.Executor.Making.{MakingLeads}
-use Rattle.papaya_histories.specs.Given.Executor.OnSlots.{MayBegin, RowBegins, RowLeads}
-use Rattle.papaya_histories.specs.Given.Executor.Replying.{scene_with, unless_stopped}
-use Rattle.papaya_histories.specs.Given.Executor.Rows.{request_of}
-use Rattle.papaya_histories.specs.Given.Executor.declared.executor.Executor.{Executor}
-use Rattle.papaya_histories.specs.Given.Executor.declared.row.RowTold.{RowTold}
-use Rattle.papaya_histories.specs.Given.Executor.declared.row.SlotCall.{SlotCall}
-use Rattle.papaya_histories.specs.Given.Executor.declared.row.SlotRow.{SlotRow}
-use Rattle.papaya_histories.specs.Given.Executor.declared.worker.Work.TheVariants.{OnSlot}
-use Rattle.papaya_histories.specs.Given.Raw.declared.machines.call.KeyCall.{KeyCall}
-use Rattle.papaya_histories.specs.Given.Finishes.Endings.{Finishing}
-use Rattle.papaya_histories.specs.Given.Finishes.Machines.{machine_of}
-use Rattle.papaya_histories.specs.Given.Finishes.Makings.{Beginning}
-use Rattle.papaya_histories.specs.Given.Finishes.Maps.{Standing, with_call as with_in}
-use Rattle.papaya_histories.specs.Given.Follows.Calling.{NoneNamed, come_to, told}
-use Rattle.papaya_histories.specs.Given.Follows.Calls.{ShowsCalls as IsThere}
-use Rattle.papaya_histories.specs.Given.Others.Endings.{ending_after}
-use Rattle.papaya_histories.specs.Given.Others.Makings.{WasNew, making_after}
-use Rattle.papaya_histories.specs.Given.Others.Rows.{scene_then}
-use Rattle.papaya_histories.specs.Given.Others.Walks.{given_up}
-use Rattle.papaya_histories.specs.Given.Moments.Whole.{ShowsWhole}
-use Rattle.papaya_histories.proofs.Given.Moments.Beside.{IsBeside}
-use Rattle.papaya_histories.proofs.Given.Moments.Ends.{end_beside}
-use Rattle.papaya_histories.proofs.Given.Moments.MakingSteps.{makings_go_beside}
-use Rattle.papaya_histories.proofs.Given.Moments.OnSlots.{row_beside, rows_begin_beside}
-use Rattle.papaya_histories.specs.Given.Late.Faults.{StandsInCalling, StandsInSweeping}
+use Rattle.papaya_purposes.specs.Given.Seize.World.{Begin, Step}
+use Rattle.papaya_purposes.specs.Given.Seize.declared.progress.Progress.{Progress as Making}
+use Rattle.papaya_purposes.specs.Given.Seize.declared.rows.settle.Settled.{Settled}
+use Rattle.papaya_purposes.specs.Given.Tables.declared.node.Node.{Node}
+use Rattle.papaya_purposes.specs.Given.Tables.declared.setting.Setting.{Setting}
+use Rattle.papaya_purposes.specs.Given.Raw.Machine.{machine_asked, machine_replied}
+use Rattle.papaya_purposes.specs.Given.Raw.declared.machines.asking.Reply.{Reply as MachineReply}
+use Rattle.papaya_purposes.specs.Given.Raw.declared.machines.machine.Machine.{Machine}
+use Rattle.papaya_purposes.specs.Given.Schedules.declared.call.Call.{Call}
+use Rattle.papaya_purposes.specs.Given.Schedules.declared.call.Reply.{Reply}
+use Rattle.papaya_purposes.specs.Given.Schedules.declared.outcome.Outcome.{Outcome}
+use Rattle.papaya_purposes.specs.Given.Schedules.After.{moment}
+use Rattle.papaya_purposes.specs.Given.Schedules.Beginning.{with_call}
+use Rattle.papaya_purposes.specs.Given.Schedules.Effects.{with_effects}
+use Rattle.papaya_purposes.specs.Given.Schedules.Entry.{Entry, ends_call}
+use Rattle.papaya_purposes.specs.Given.Schedules.Moment.{Moment, UnderWay as CallThere}
+use Rattle.papaya_purposes.specs.Given.Schedules.Views.{call_of, map_at}
+use Rattle.papaya_purposes.specs.Given.Callers.OverAll.{CallOverAll}
+use Rattle.papaya_purposes.specs.Given.Callers.Pairs.{Given}
+use Rattle.papaya_purposes.specs.Given.Callers.Rooms.{CallForRoom}
+use Rattle.papaya_purposes.specs.Given.Callers.Together.{Computes, Counting, ForRoom, Gets, Inserts, IsBegun, OnKey, OverAll, Removes, RemovesIf, TriesToInsert, TriesToInsertWith, UnderWay, Updates, UpdatesOrInserts}
+use Rattle.papaya_purposes.specs.Given.Effects.Effects.{effects_of, known_after}
+use Rattle.papaya_purposes.specs.Given.Effects.Known.{Known}
+use Rattle.papaya_purposes.specs.Given.Effects.declared.acting.Acting.TheVariants as acts
+use Rattle.papaya_purposes.specs.Given.Executor.Beginning.{Begins}
+use Rattle.papaya_purposes.specs.Given.Executor.Ending.{EndingLeads}
+use Rattle.papaya_purposes.specs.Given.Executor.IsAt.{IsAt, Scene, slot_of, work_of}
+use Rattle.papaya_purposes.specs.Given.Executor.Making.{MakingLeads}
+use Rattle.papaya_purposes.specs.Given.Executor.OnSlots.{MayBegin, RowBegins, RowLeads}
+use Rattle.papaya_purposes.specs.Given.Executor.Replying.{scene_with, unless_stopped}
+use Rattle.papaya_purposes.specs.Given.Executor.Rows.{request_of}
+use Rattle.papaya_purposes.specs.Given.Executor.declared.executor.Executor.{Executor}
+use Rattle.papaya_purposes.specs.Given.Executor.declared.row.RowTold.{RowTold}
+use Rattle.papaya_purposes.specs.Given.Executor.declared.row.SlotCall.{SlotCall}
+use Rattle.papaya_purposes.specs.Given.Executor.declared.row.SlotRow.{SlotRow}
+use Rattle.papaya_purposes.specs.Given.Executor.declared.worker.Work.TheVariants.{OnSlot}
+use Rattle.papaya_purposes.specs.Given.Raw.declared.machines.call.KeyCall.{KeyCall}
+use Rattle.papaya_purposes.specs.Given.Finishes.Endings.{Finishing}
+use Rattle.papaya_purposes.specs.Given.Finishes.Machines.{machine_of}
+use Rattle.papaya_purposes.specs.Given.Finishes.Makings.{Beginning}
+use Rattle.papaya_purposes.specs.Given.Finishes.Maps.{Standing, with_call as with_in}
+use Rattle.papaya_purposes.specs.Given.Follows.Calling.{NoneNamed, come_to, told}
+use Rattle.papaya_purposes.specs.Given.Follows.Calls.{ShowsCalls as IsThere}
+use Rattle.papaya_purposes.specs.Given.Others.Endings.{ending_after}
+use Rattle.papaya_purposes.specs.Given.Others.Makings.{WasNew, making_after}
+use Rattle.papaya_purposes.specs.Given.Others.Rows.{scene_then}
+use Rattle.papaya_purposes.specs.Given.Others.Walks.{given_up}
+use Rattle.papaya_purposes.specs.Given.Moments.Whole.{ShowsWhole}
+use Rattle.papaya_purposes.proofs.Given.Moments.Beside.{IsBeside}
+use Rattle.papaya_purposes.proofs.Given.Moments.Ends.{end_beside}
+use Rattle.papaya_purposes.proofs.Given.Moments.MakingSteps.{makings_go_beside}
+use Rattle.papaya_purposes.proofs.Given.Moments.OnSlots.{row_beside, rows_begin_beside}
+use Rattle.papaya_purposes.specs.Given.Late.Faults.{StandsInCalling, StandsInSweeping}
 use Rattle.papaya_grows.specs.Limits.{IsAtLimit, IsFor, IsForBehind, MachineEnds, NeedsMore, OthersHadLimit, RoomEnds, ShowsLimits}
 use Rattle.papaya_grows.proofs.Finding.Others.{ended, ended_calls, ended_maps, ended_world}
 use Rattle.papaya_grows.proofs.Limits.Chain.{limit_where, same_maps_keep_limit}

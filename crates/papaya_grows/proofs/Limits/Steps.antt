@@ -1,40 +1,40 @@
 -- A step of a call: where it can have no further table after it, one of its map's is at the limit, or was; and what it is refused for.
 use Rattle.std.specs.Prelude.{◌≡◌, ◌⊎◌, ◌≤◌, ◌^◌, ℕ, Bool, false, List, Option, Some, Result, Ok, Err, IfOk}
 use Rattle.std.proofs.Common.{refl, sym, subst, ◌∙◌, inl, inr, arith}
-use Rattle.papaya_histories.specs.Given.SeizeWords.Mem.{Mem}
-use Rattle.papaya_histories.specs.Given.SeizeWords.Plan.{Steps}
-use Rattle.papaya_histories.specs.Given.SeizeWords.Mem.{Took, value_at}
-use Rattle.papaya_histories.specs.Given.SeizeWords.declared.fault.Fault.{Fault}
-use Rattle.papaya_histories.specs.Given.SeizeWords.declared.fault.Fault.TheVariants.{Capacity}
-use Rattle.papaya_histories.specs.Given.Tables.Lengths.{entries_of, places_for}
-use Rattle.papaya_histories.specs.Given.Tables.Powers.{next_power}
-use Rattle.papaya_histories.specs.Given.Tables.declared.node.Node.{Node}
-use Rattle.papaya_histories.specs.Given.Raw.Machine.{machine_plan}
-use Rattle.papaya_histories.specs.Given.Raw.declared.machines.machine.Machine.{Machine}
-use Rattle.papaya_histories.specs.Given.Raw.declared.machines.machine.Machine.TheVariants as kinds
-use Rattle.papaya_histories.specs.Given.Raw.declared.machines.progress.Progress.{Progress}
-use Rattle.papaya_histories.specs.Given.Raw.declared.machines.progress.Progress.TheVariants as progress
-use Rattle.papaya_histories.specs.Given.Schedules.Effects.{with_effects}
-use Rattle.papaya_histories.specs.Given.Schedules.Entry.{Entry}
-use Rattle.papaya_histories.specs.Given.Schedules.Growing.{Has}
-use Rattle.papaya_histories.specs.Given.Schedules.Moment.{Moment, UnderWay as CallThere}
-use Rattle.papaya_histories.specs.Given.Schedules.Views.{call_of, capacity_or, map_at}
-use Rattle.papaya_histories.specs.Given.Teller.declared.changed.Changed.{Changed}
-use Rattle.papaya_histories.specs.Given.Teller.declared.changed.Changed.TheVariants as changed
-use Rattle.papaya_histories.specs.Given.Callers.Together.{Together, UnderWay}
-use Rattle.papaya_histories.specs.Given.Effects.Effects.{effects_of}
-use Rattle.papaya_histories.specs.Given.Effects.Known.{Known}
-use Rattle.papaya_histories.specs.Given.Effects.declared.acting.Acting.TheVariants as acts
-use Rattle.papaya_histories.specs.Given.Executor.IsAt.{IsAt, Scene, slot_of}
-use Rattle.papaya_histories.specs.Given.Executor.Stepping.{StepLeads, has_ended, scene_after}
-use Rattle.papaya_histories.specs.Given.Executor.declared.executor.Executor.{Executor}
-use Rattle.papaya_histories.proofs.Given.Executor.Forgotten.{as_step}
-use Rattle.papaya_histories.proofs.Given.Executor.Given.Tables.TableLens.{if_few-holds, next-power-most}
-use Rattle.papaya_histories.specs.Given.Finishes.Machines.{GoesOnAs, machine_of}
-use Rattle.papaya_histories.specs.Given.Finishes.Maps.{Standing}
-use Rattle.papaya_histories.proofs.Given.Follows.Steps.{WentTo, went_to}
-use Rattle.papaya_histories.specs.Given.Moments.Whole.{ShowsWhole}
-use Rattle.papaya_finds.specs.Capacities.{ShowsCapacities}
+use Rattle.papaya_purposes.specs.Given.SeizeWords.Mem.{Mem}
+use Rattle.papaya_purposes.specs.Given.SeizeWords.Plan.{Steps}
+use Rattle.papaya_purposes.specs.Given.SeizeWords.Mem.{Took, value_at}
+use Rattle.papaya_purposes.specs.Given.SeizeWords.declared.fault.Fault.{Fault}
+use Rattle.papaya_purposes.specs.Given.SeizeWords.declared.fault.Fault.TheVariants.{Capacity}
+use Rattle.papaya_purposes.specs.Given.Tables.Lengths.{entries_of, places_for}
+use Rattle.papaya_purposes.specs.Given.Tables.Powers.{next_power}
+use Rattle.papaya_purposes.specs.Given.Tables.declared.node.Node.{Node}
+use Rattle.papaya_purposes.specs.Given.Raw.Machine.{machine_plan}
+use Rattle.papaya_purposes.specs.Given.Raw.declared.machines.machine.Machine.{Machine}
+use Rattle.papaya_purposes.specs.Given.Raw.declared.machines.machine.Machine.TheVariants as kinds
+use Rattle.papaya_purposes.specs.Given.Raw.declared.machines.progress.Progress.{Progress}
+use Rattle.papaya_purposes.specs.Given.Raw.declared.machines.progress.Progress.TheVariants as progress
+use Rattle.papaya_purposes.specs.Given.Schedules.Effects.{with_effects}
+use Rattle.papaya_purposes.specs.Given.Schedules.Entry.{Entry}
+use Rattle.papaya_purposes.specs.Given.Schedules.Growing.{Has}
+use Rattle.papaya_purposes.specs.Given.Schedules.Moment.{Moment, UnderWay as CallThere}
+use Rattle.papaya_purposes.specs.Given.Schedules.Views.{call_of, capacity_or, map_at}
+use Rattle.papaya_purposes.specs.Given.Teller.declared.changed.Changed.{Changed}
+use Rattle.papaya_purposes.specs.Given.Teller.declared.changed.Changed.TheVariants as changed
+use Rattle.papaya_purposes.specs.Given.Callers.Together.{Together, UnderWay}
+use Rattle.papaya_purposes.specs.Given.Effects.Effects.{effects_of}
+use Rattle.papaya_purposes.specs.Given.Effects.Known.{Known}
+use Rattle.papaya_purposes.specs.Given.Effects.declared.acting.Acting.TheVariants as acts
+use Rattle.papaya_purposes.specs.Given.Executor.IsAt.{IsAt, Scene, slot_of}
+use Rattle.papaya_purposes.specs.Given.Executor.Stepping.{StepLeads, has_ended, scene_after}
+use Rattle.papaya_purposes.specs.Given.Executor.declared.executor.Executor.{Executor}
+use Rattle.papaya_purposes.proofs.Given.Executor.Forgotten.{as_step}
+use Rattle.papaya_purposes.proofs.Given.Executor.Given.Tables.TableLens.{if_few-holds, next-power-most}
+use Rattle.papaya_purposes.specs.Given.Finishes.Machines.{GoesOnAs, machine_of}
+use Rattle.papaya_purposes.specs.Given.Finishes.Maps.{Standing}
+use Rattle.papaya_purposes.proofs.Given.Follows.Steps.{WentTo, went_to}
+use Rattle.papaya_purposes.specs.Given.Moments.Whole.{ShowsWhole}
+use Rattle.papaya_purposes.specs.Given.Finds.Capacities.{ShowsCapacities}
 use Rattle.papaya_grows.specs.Limits.{HasLimit, MachineEnds, OthersHadLimit, SaysFor, ShowsLimits}
 use Rattle.papaya_grows.proofs.Finding.Making.Unpromoted.{OffRoot, off_promotes_none}
 use Rattle.papaya_grows.proofs.Limits.Chain.{effects_keep_limit, limit_where}

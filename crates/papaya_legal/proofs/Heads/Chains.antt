@@ -1,18 +1,18 @@
 -- All steps of a making, of an end, and of reclaiming all leave the slots taken that were.
 use Rattle.std.specs.Prelude.{ℕ, zero, suc, Bool}
 use Rattle.std.proofs.Common.{refl, sym, subst}
-use Rattle.papaya_histories.specs.Given.SeizeWords.Mem.{Mem}
-use Rattle.papaya_histories.specs.Given.Seize.declared.progress.Progress.{Progress}
-use Rattle.papaya_histories.specs.Given.Seize.declared.progress.Progress.TheVariants as progress
-use Rattle.papaya_histories.specs.Given.Seize.declared.rows.settle.Settled.{Settled}
-use Rattle.papaya_histories.specs.Given.Seize.declared.rows.settle.Settled.TheVariants as settled
-use Rattle.papaya_histories.specs.Given.Tables.declared.node.Node.{Node}
-use Rattle.papaya_histories.specs.Given.Tables.declared.setting.Setting.{Setting}
-use Rattle.papaya_histories.specs.Given.Schedules.Terms.{Terms}
-use Rattle.papaya_histories.specs.Given.Executor.Ending.{EndingComesTo}
-use Rattle.papaya_histories.specs.Given.Executor.Making.{MakingComesTo}
-use Rattle.papaya_histories.specs.Given.Others.Endings.{ending_after}
-use Rattle.papaya_histories.specs.Given.Others.Makings.{making_after}
+use Rattle.papaya_grows.specs.Given.SeizeWords.Mem.{Mem}
+use Rattle.papaya_grows.specs.Given.Seize.declared.progress.Progress.{Progress}
+use Rattle.papaya_grows.specs.Given.Seize.declared.progress.Progress.TheVariants as progress
+use Rattle.papaya_grows.specs.Given.Seize.declared.rows.settle.Settled.{Settled}
+use Rattle.papaya_grows.specs.Given.Seize.declared.rows.settle.Settled.TheVariants as settled
+use Rattle.papaya_grows.specs.Given.Tables.declared.node.Node.{Node}
+use Rattle.papaya_grows.specs.Given.Tables.declared.setting.Setting.{Setting}
+use Rattle.papaya_grows.specs.Given.Schedules.Terms.{Terms}
+use Rattle.papaya_grows.specs.Given.Executor.Ending.{EndingComesTo}
+use Rattle.papaya_grows.specs.Given.Executor.Making.{MakingComesTo}
+use Rattle.papaya_grows.specs.Given.Others.Endings.{ending_after}
+use Rattle.papaya_grows.specs.Given.Others.Makings.{making_after}
 use Rattle.papaya_legal.specs.AllEvents.{AllCome, AllSteps}
 use Rattle.papaya_legal.specs.Chains.{Chain, Come, EndSteps, MakingSteps}
 use Rattle.papaya_legal.proofs.Heads.Rows.{KeepsTaken, by_memory, taken_then}

@@ -2,71 +2,71 @@
 use Rattle.std.specs.Prelude.{◌⊎◌, ◌<◌, ◌^◌, ◌%◌, ℕ, Bool, List, [], ◌∷◌, Option, Some, IsSome, Ok, bit_or}
 use Rattle.std.specs.List.{AllByRecursion}
 use Rattle.std.proofs.Common.{◌≡◌, ◌+◌, refl, ap, sym, subst, ◌∙◌, arith, inl, inr}
-use Rattle.papaya_histories.specs.Given.SeizeWords.SlotWords.{slot_word}
-use Rattle.papaya_histories.specs.Given.SeizeWords.Mem.{Mem, Took, after, value_at, with_word, word_at}
-use Rattle.papaya_histories.specs.Given.SeizeWords.Op.{Op, Out, Load, Store, Swap, Add, Or, Exchange, Make, Take, Rewrite, Room, Found, Exchanged, Made}
-use Rattle.papaya_histories.specs.Given.SeizeWords.Plan.{Now, Steps}
-use Rattle.papaya_histories.specs.Given.SeizeWords.declared.at.At.{At}
-use Rattle.papaya_histories.specs.Given.SeizeWords.declared.at.At.TheVariants as name
-use Rattle.papaya_histories.proofs.Given.SeizeWords.OneOwner.Operations.{stored}
-use Rattle.papaya_histories.specs.Given.Seize.Enter.{unregister_plan}
-use Rattle.papaya_histories.specs.Given.Seize.ReclaimAll.{next_free, next_head, plan_at, reclaim_all_plan, to}
-use Rattle.papaya_histories.specs.Given.Seize.Sequence.{IsBetween, IsUsers}
-use Rattle.papaya_histories.specs.Given.Seize.World.{World, Row, Rests, Request, Register', Enter', Leave', LeaveOwned, Refresh, Unregister', Retire, Flush, Defer', Event, Begin, Step, Makes, Drops, Links, Parts, Unlinks, Rewrites, Operates, Ends, LeavesOver, Relinks, Clears, Chooses, Begins, Happens, Runs, IsOwn, IsOwnOp, made_by}
-use Rattle.papaya_histories.specs.Given.Seize.declared.progress.Progress.{Progress}
-use Rattle.papaya_histories.specs.Given.Seize.declared.progress.Progress.TheVariants.{Done}
-use Rattle.papaya_histories.specs.Given.Seize.declared.rows.enter.Unregister.{Unregister}
-use Rattle.papaya_histories.specs.Given.Seize.declared.rows.reclaim_all.ReclaimAll.{ReclaimAll}
-use Rattle.papaya_histories.specs.Given.Seize.declared.rows.reclaim_all.Reclaiming.{Reclaiming}
-use Rattle.papaya_histories.specs.Given.Seize.declared.rows.reclaim_all.Reclaiming.TheVariants as at
-use Rattle.papaya_histories.specs.Given.Seize.declared.rows.settle.Settled.{Settled}
-use Rattle.papaya_histories.specs.Given.Seize.declared.rows.settle.Settled.TheVariants as settled
-use Rattle.papaya_histories.specs.Given.Seize.declared.states.TheConstants.{FREE, HEAD, IDLE, LAST_SLOT}
-use Rattle.papaya_histories.proofs.Given.SeizeRule.Rows.Leaving.{steps_back}
-use Rattle.papaya_histories.proofs.Given.SeizeRule.Rows.Others.{with_here}
-use Rattle.papaya_histories.proofs.Given.SeizeRule.Words.Named.{or_zero, word_found}
-use Rattle.papaya_histories.proofs.Given.SeizeRule.World.Good.{Good}
-use Rattle.papaya_histories.proofs.Given.SeizeSets.Turns.Heads.{idle_word}
-use Rattle.papaya_histories.proofs.Given.SeizeEnds.Batches.Rows.{begins_memory}
-use Rattle.papaya_histories.proofs.Given.SeizeAlone.Histories.Reached.{Reached, happens_reached}
-use Rattle.papaya_histories.specs.Given.Tables.Nodes.{deferred_word, was_left}
-use Rattle.papaya_histories.specs.Given.Tables.declared.node.Node.{Node}
-use Rattle.papaya_histories.specs.Given.Tables.declared.setting.Setting.{Setting}
-use Rattle.papaya_histories.specs.Given.Resize.declared.copier.Copying.{Copying}
-use Rattle.papaya_histories.specs.Given.Resize.declared.copier.Copying.TheVariants as copying
-use Rattle.papaya_histories.specs.Given.Resize.declared.dispose.Disposing.{Disposing}
-use Rattle.papaya_histories.specs.Given.Resize.declared.dispose.Disposing.TheVariants as disposing
-use Rattle.papaya_histories.specs.Given.Reserves.declared.reserve.Reserving.{Reserving}
-use Rattle.papaya_histories.specs.Given.Reserves.declared.reserve.Reserving.TheVariants as reserving
-use Rattle.papaya_histories.specs.Given.Sweeps.declared.sweep.Sweeping.{Sweeping}
-use Rattle.papaya_histories.specs.Given.Sweeps.declared.sweep.Sweeping.TheVariants as sweeping
-use Rattle.papaya_histories.specs.Given.Rule.InWorld.{AllUsers}
-use Rattle.papaya_histories.specs.Given.Schedules.Moment.{Moment}
-use Rattle.papaya_histories.specs.Given.Raw.declared.machines.call.Calling.{Calling}
-use Rattle.papaya_histories.specs.Given.Raw.declared.machines.call.Calling.TheVariants as calling
-use Rattle.papaya_histories.specs.Given.Raw.declared.machines.progress.Progress.{Progress as CallTold}
-use Rattle.papaya_histories.specs.Given.Teller.declared.changed.Changed.TheVariants.{Nothing}
-use Rattle.papaya_histories.specs.Given.Callers.Rows.{row_of, row_of_copier, row_of_disposal}
-use Rattle.papaya_histories.specs.Given.Callers.Rooms.{row_of_room}
-use Rattle.papaya_histories.specs.Given.Callers.OverAll.{row_of_sweep}
-use Rattle.papaya_histories.specs.Given.Callers.Sights.{seen_by}
-use Rattle.papaya_histories.specs.Given.Callers.Together.{CameAbout, UnderWay, OnKey, ForRoom, Counting, OverAll, HandsOver, Stands}
-use Rattle.papaya_histories.proofs.Given.Callers.Together.Came.{came_reached}
-use Rattle.papaya_histories.specs.Given.Effects.Known.{Known}
-use Rattle.papaya_histories.specs.Given.Executor.Ending.{EndingLeads}
-use Rattle.papaya_histories.specs.Given.Executor.IsAt.{Scene, IsAt, slot_of}
-use Rattle.papaya_histories.specs.Given.Executor.Making.{MakingLeads}
-use Rattle.papaya_histories.specs.Given.Executor.Stepping.{StepLeads}
-use Rattle.papaya_histories.specs.Given.Executor.declared.executor.Executor.{Executor}
-use Rattle.papaya_histories.proofs.Given.Executor.Forgotten.{as_step}
-use Rattle.papaya_histories.specs.Given.Finishes.Endings.{Finishing}
-use Rattle.papaya_histories.specs.Given.Finishes.FactsEnds.{TakesLeft, WritesRoot, events_of}
-use Rattle.papaya_histories.specs.Given.Finishes.Makings.{Beginning}
-use Rattle.papaya_histories.specs.Given.Moments.Whole.{ShowsWhole}
-use Rattle.papaya_reclaims.specs.Reclaims.{ReclaimingAt}
-use Rattle.papaya_reclaims.specs.Slots.{AreItsRows, BeginsAt, DoesAt}
-use Rattle.papaya_reclaims.proofs.Slots.Facts.{rested_by}
-use Rattle.papaya_reclaiming.specs.Reclaiming.{IsReclaiming, ReclaimingLeads}
+use Rattle.papaya_grows.specs.Given.SeizeWords.SlotWords.{slot_word}
+use Rattle.papaya_grows.specs.Given.SeizeWords.Mem.{Mem, Took, after, value_at, with_word, word_at}
+use Rattle.papaya_grows.specs.Given.SeizeWords.Op.{Op, Out, Load, Store, Swap, Add, Or, Exchange, Make, Take, Rewrite, Room, Found, Exchanged, Made}
+use Rattle.papaya_grows.specs.Given.SeizeWords.Plan.{Now, Steps}
+use Rattle.papaya_grows.specs.Given.SeizeWords.declared.at.At.{At}
+use Rattle.papaya_grows.specs.Given.SeizeWords.declared.at.At.TheVariants as name
+use Rattle.papaya_grows.proofs.Given.SeizeWords.OneOwner.Operations.{stored}
+use Rattle.papaya_grows.specs.Given.Seize.Enter.{unregister_plan}
+use Rattle.papaya_grows.specs.Given.Seize.ReclaimAll.{next_free, next_head, plan_at, reclaim_all_plan, to}
+use Rattle.papaya_grows.specs.Given.Seize.Sequence.{IsBetween, IsUsers}
+use Rattle.papaya_grows.specs.Given.Seize.World.{World, Row, Rests, Request, Register', Enter', Leave', LeaveOwned, Refresh, Unregister', Retire, Flush, Defer', Event, Begin, Step, Makes, Drops, Links, Parts, Unlinks, Rewrites, Operates, Ends, LeavesOver, Relinks, Clears, Chooses, Begins, Happens, Runs, IsOwn, IsOwnOp, made_by}
+use Rattle.papaya_grows.specs.Given.Seize.declared.progress.Progress.{Progress}
+use Rattle.papaya_grows.specs.Given.Seize.declared.progress.Progress.TheVariants.{Done}
+use Rattle.papaya_grows.specs.Given.Seize.declared.rows.enter.Unregister.{Unregister}
+use Rattle.papaya_grows.specs.Given.Seize.declared.rows.reclaim_all.ReclaimAll.{ReclaimAll}
+use Rattle.papaya_grows.specs.Given.Seize.declared.rows.reclaim_all.Reclaiming.{Reclaiming}
+use Rattle.papaya_grows.specs.Given.Seize.declared.rows.reclaim_all.Reclaiming.TheVariants as at
+use Rattle.papaya_grows.specs.Given.Seize.declared.rows.settle.Settled.{Settled}
+use Rattle.papaya_grows.specs.Given.Seize.declared.rows.settle.Settled.TheVariants as settled
+use Rattle.papaya_grows.specs.Given.Seize.declared.states.TheConstants.{FREE, HEAD, IDLE, LAST_SLOT}
+use Rattle.papaya_grows.proofs.Given.SeizeRule.Rows.Leaving.{steps_back}
+use Rattle.papaya_grows.proofs.Given.SeizeRule.Rows.Others.{with_here}
+use Rattle.papaya_grows.proofs.Given.SeizeRule.Words.Named.{or_zero, word_found}
+use Rattle.papaya_grows.proofs.Given.SeizeRule.World.Good.{Good}
+use Rattle.papaya_grows.proofs.Given.SeizeSets.Turns.Heads.{idle_word}
+use Rattle.papaya_grows.proofs.Given.SeizeEnds.Batches.Rows.{begins_memory}
+use Rattle.papaya_grows.proofs.Given.SeizeAlone.Histories.Reached.{Reached, happens_reached}
+use Rattle.papaya_grows.specs.Given.Tables.Nodes.{deferred_word, was_left}
+use Rattle.papaya_grows.specs.Given.Tables.declared.node.Node.{Node}
+use Rattle.papaya_grows.specs.Given.Tables.declared.setting.Setting.{Setting}
+use Rattle.papaya_grows.specs.Given.Resize.declared.copier.Copying.{Copying}
+use Rattle.papaya_grows.specs.Given.Resize.declared.copier.Copying.TheVariants as copying
+use Rattle.papaya_grows.specs.Given.Resize.declared.dispose.Disposing.{Disposing}
+use Rattle.papaya_grows.specs.Given.Resize.declared.dispose.Disposing.TheVariants as disposing
+use Rattle.papaya_grows.specs.Given.Reserves.declared.reserve.Reserving.{Reserving}
+use Rattle.papaya_grows.specs.Given.Reserves.declared.reserve.Reserving.TheVariants as reserving
+use Rattle.papaya_grows.specs.Given.Sweeps.declared.sweep.Sweeping.{Sweeping}
+use Rattle.papaya_grows.specs.Given.Sweeps.declared.sweep.Sweeping.TheVariants as sweeping
+use Rattle.papaya_grows.specs.Given.Rule.InWorld.{AllUsers}
+use Rattle.papaya_grows.specs.Given.Schedules.Moment.{Moment}
+use Rattle.papaya_grows.specs.Given.Raw.declared.machines.call.Calling.{Calling}
+use Rattle.papaya_grows.specs.Given.Raw.declared.machines.call.Calling.TheVariants as calling
+use Rattle.papaya_grows.specs.Given.Raw.declared.machines.progress.Progress.{Progress as CallTold}
+use Rattle.papaya_grows.specs.Given.Teller.declared.changed.Changed.TheVariants.{Nothing}
+use Rattle.papaya_grows.specs.Given.Callers.Rows.{row_of, row_of_copier, row_of_disposal}
+use Rattle.papaya_grows.specs.Given.Callers.Rooms.{row_of_room}
+use Rattle.papaya_grows.specs.Given.Callers.OverAll.{row_of_sweep}
+use Rattle.papaya_grows.specs.Given.Callers.Sights.{seen_by}
+use Rattle.papaya_grows.specs.Given.Callers.Together.{CameAbout, UnderWay, OnKey, ForRoom, Counting, OverAll, HandsOver, Stands}
+use Rattle.papaya_grows.proofs.Given.Callers.Together.Came.{came_reached}
+use Rattle.papaya_grows.specs.Given.Effects.Known.{Known}
+use Rattle.papaya_grows.specs.Given.Executor.Ending.{EndingLeads}
+use Rattle.papaya_grows.specs.Given.Executor.IsAt.{Scene, IsAt, slot_of}
+use Rattle.papaya_grows.specs.Given.Executor.Making.{MakingLeads}
+use Rattle.papaya_grows.specs.Given.Executor.Stepping.{StepLeads}
+use Rattle.papaya_grows.specs.Given.Executor.declared.executor.Executor.{Executor}
+use Rattle.papaya_grows.proofs.Given.Executor.Forgotten.{as_step}
+use Rattle.papaya_grows.specs.Given.Finishes.Endings.{Finishing}
+use Rattle.papaya_grows.specs.Given.Finishes.FactsEnds.{TakesLeft, WritesRoot, events_of}
+use Rattle.papaya_grows.specs.Given.Finishes.Makings.{Beginning}
+use Rattle.papaya_grows.specs.Given.Moments.Whole.{ShowsWhole}
+use Rattle.papaya_logged.specs.Given.Reclaims.Reclaims.{ReclaimingAt}
+use Rattle.papaya_logged.specs.Given.Reclaims.Slots.{AreItsRows, BeginsAt, DoesAt}
+use Rattle.papaya_logged.proofs.Given.Reclaims.Slots.Facts.{rested_by}
+use Rattle.papaya_logged.specs.Given.Reclaiming.Reclaiming.{IsReclaiming, ReclaimingLeads}
 use Rattle.papaya_models.proofs.Calls.{OneStep, by_users, no_or, one_step}
 use Rattle.papaya_legal.proofs.Heads.Rows.{KeepsTaken, Off, by_memory, no_change, same_taken, step_taken, written}
 use Rattle.papaya_legal.proofs.OfAll.Sets.{none_of_rows}

@@ -2,50 +2,50 @@
 use Rattle.std.specs.Prelude.{◌≡◌, ◌⊎◌, ◌<◌, ℕ, Bool, true, false, ◌&&◌, List, [], ◌∷◌, None, MatchBool, map, flat_map}
 use Rattle.std.specs.List.{list_all}
 use Rattle.std.proofs.Common.{refl, ap, sym, subst, ◌∙◌, arith, inl}
-use Rattle.papaya_histories.specs.Given.Seize.Law.{is_retired}
-use Rattle.papaya_histories.specs.Given.Seize.WaitingSets.{Change}
-use Rattle.papaya_histories.specs.Given.Seize.World.{World, Rests, times}
-use Rattle.papaya_histories.specs.Given.Seize.declared.rows.settle.Settled.{Settled}
-use Rattle.papaya_histories.specs.Given.Tables.Nodes.{deferred_word}
-use Rattle.papaya_histories.specs.Given.Tables.declared.node.Node.{Node}
-use Rattle.papaya_histories.specs.Given.Runs.Present.{all_forgotten}
-use Rattle.papaya_histories.specs.Given.Schedules.declared.effect.Effect.{Effect}
-use Rattle.papaya_histories.specs.Given.Schedules.declared.effect.Effect.TheVariants.{Reclaimed}
-use Rattle.papaya_histories.specs.Given.Schedules.declared.effect.Thing.TheVariants.{APair, ATable}
-use Rattle.papaya_histories.specs.Given.Schedules.declared.event.Event.{Event}
-use Rattle.papaya_histories.specs.Given.Schedules.declared.event.Event.TheVariants as event
-use Rattle.papaya_histories.specs.Given.Schedules.declared.outcome.Outcome.TheVariants.{Done}
-use Rattle.papaya_histories.specs.Given.Schedules.After.{after, moment}
-use Rattle.papaya_histories.specs.Given.Schedules.Beginning.{at_work}
-use Rattle.papaya_histories.specs.Given.Schedules.Effects.{with_effect, with_effects, AtEachEffect}
-use Rattle.papaya_histories.specs.Given.Schedules.Entry.{Entry, acted_on, caller_of}
-use Rattle.papaya_histories.specs.Given.Schedules.Handing.{gives_all, is_reclaiming, may_do}
-use Rattle.papaya_histories.specs.Given.Schedules.InTurn.{ComesRight, IsKeptOut, is_kept_out}
-use Rattle.papaya_histories.specs.Given.Schedules.InUse.{is_left}
-use Rattle.papaya_histories.specs.Given.Schedules.Lists.{is_empty}
-use Rattle.papaya_histories.specs.Given.Schedules.Lives.{Finds}
-use Rattle.papaya_histories.specs.Given.Schedules.Model.{IsByModel, back_by_model, number_in, thing_back, things_in}
-use Rattle.papaya_histories.specs.Given.Schedules.Moment.{Moment}
-use Rattle.papaya_histories.specs.Given.Schedules.Reclaims.{IsProtected}
-use Rattle.papaya_histories.specs.Given.Schedules.Terms.{Terms}
-use Rattle.papaya_histories.specs.Given.Effects.Known.{Known}
-use Rattle.papaya_histories.specs.Given.Executor.IsAt.{IsAt}
-use Rattle.papaya_histories.specs.Given.Finishes.Makings.{IsFreeRoot}
-use Rattle.papaya_histories.specs.Given.Moments.OnSlots.{HadRetired}
-use Rattle.papaya_histories.proofs.Given.Spots.Unreclaimed.{and_both}
-use Rattle.seize_reclaims.specs.Roots.{all_lists}
-use Rattle.papaya_reclaims.specs.Reclaims.{AllIsReclaimed, IsRootOf, ReclaimingTold}
-use Rattle.papaya_reclaiming.specs.Reclaiming.{ReclaimingComesTo}
+use Rattle.papaya_grows.specs.Given.Seize.Law.{is_retired}
+use Rattle.papaya_grows.specs.Given.Seize.WaitingSets.{Change}
+use Rattle.papaya_grows.specs.Given.Seize.World.{World, Rests, times}
+use Rattle.papaya_grows.specs.Given.Seize.declared.rows.settle.Settled.{Settled}
+use Rattle.papaya_grows.specs.Given.Tables.Nodes.{deferred_word}
+use Rattle.papaya_grows.specs.Given.Tables.declared.node.Node.{Node}
+use Rattle.papaya_grows.specs.Given.Runs.Present.{all_forgotten}
+use Rattle.papaya_grows.specs.Given.Schedules.declared.effect.Effect.{Effect}
+use Rattle.papaya_grows.specs.Given.Schedules.declared.effect.Effect.TheVariants.{Reclaimed}
+use Rattle.papaya_grows.specs.Given.Schedules.declared.effect.Thing.TheVariants.{APair, ATable}
+use Rattle.papaya_grows.specs.Given.Schedules.declared.event.Event.{Event}
+use Rattle.papaya_grows.specs.Given.Schedules.declared.event.Event.TheVariants as event
+use Rattle.papaya_grows.specs.Given.Schedules.declared.outcome.Outcome.TheVariants.{Done}
+use Rattle.papaya_grows.specs.Given.Schedules.After.{after, moment}
+use Rattle.papaya_grows.specs.Given.Schedules.Beginning.{at_work}
+use Rattle.papaya_grows.specs.Given.Schedules.Effects.{with_effect, with_effects, AtEachEffect}
+use Rattle.papaya_grows.specs.Given.Schedules.Entry.{Entry, acted_on, caller_of}
+use Rattle.papaya_grows.specs.Given.Schedules.Handing.{gives_all, is_reclaiming, may_do}
+use Rattle.papaya_grows.specs.Given.Schedules.InTurn.{ComesRight, IsKeptOut, is_kept_out}
+use Rattle.papaya_grows.specs.Given.Schedules.InUse.{is_left}
+use Rattle.papaya_grows.specs.Given.Schedules.Lists.{is_empty}
+use Rattle.papaya_grows.specs.Given.Schedules.Lives.{Finds}
+use Rattle.papaya_grows.specs.Given.Schedules.Model.{IsByModel, back_by_model, number_in, thing_back, things_in}
+use Rattle.papaya_grows.specs.Given.Schedules.Moment.{Moment}
+use Rattle.papaya_grows.specs.Given.Schedules.Reclaims.{IsProtected}
+use Rattle.papaya_grows.specs.Given.Schedules.Terms.{Terms}
+use Rattle.papaya_grows.specs.Given.Effects.Known.{Known}
+use Rattle.papaya_grows.specs.Given.Executor.IsAt.{IsAt}
+use Rattle.papaya_grows.specs.Given.Finishes.Makings.{IsFreeRoot}
+use Rattle.papaya_grows.specs.Given.Moments.OnSlots.{HadRetired}
+use Rattle.papaya_grows.proofs.Given.Spots.Unreclaimed.{and_both}
+use Rattle.papaya_logged.specs.Given.SeizeReclaims.Roots.{all_lists}
+use Rattle.papaya_logged.specs.Given.Reclaims.Reclaims.{AllIsReclaimed, IsRootOf, ReclaimingTold}
+use Rattle.papaya_logged.specs.Given.Reclaiming.Reclaiming.{ReclaimingComesTo}
 use Rattle.papaya_promises.specs.Protected.{EndsInside, InMidst, is_of_slots}
 use Rattle.papaya_promises.specs.Sheltered.{SectionsHold}
 use Rattle.papaya_promises.proofs.Protected.{all_is_ended_protected, slot_events_end_protected}
 use Rattle.papaya_models.specs.Follows.{IsFollowed}
 use Rattle.papaya_models.specs.Reclaims.{HasReclaimed}
 use Rattle.papaya_models.specs.Turns.{CameByTurns}
-use Rattle.papaya_finds.specs.Little.{ReclaimsAll, WhereAll}
-use Rattle.papaya_finds.specs.Orderly.{NothingIsRetired, is_left_over}
-use Rattle.papaya_finds.proofs.Begun.{in_turn, not_kept_out, was_done}
-use Rattle.papaya_finds.proofs.Closed.{none_there}
+use Rattle.papaya_grows.specs.Given.Finds.Little.{ReclaimsAll, WhereAll}
+use Rattle.papaya_grows.specs.Given.Finds.Orderly.{NothingIsRetired, is_left_over}
+use Rattle.papaya_grows.proofs.Given.Finds.Begun.{in_turn, not_kept_out, was_done}
+use Rattle.papaya_grows.proofs.Given.Finds.Closed.{none_there}
 use Rattle.papaya_legal.specs.AllEvents.{AllCome, AllRunsToItsEnd, FindsPair, InAllEvent, all_begun, scene_in}
 use Rattle.papaya_legal.specs.Between.{IsLike}
 use Rattle.papaya_legal.specs.CallEvents.{IsLegalBut}

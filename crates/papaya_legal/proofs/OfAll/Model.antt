@@ -5,33 +5,33 @@ use Rattle.std.proofs.Common.{refl, ap, sym, subst, ◌∙◌, inl, inr}
 use Rattle.std.proofs.lemmas.Grind.{flat_map-append}
 use Rattle.std.proofs.lemmas.List.{append-nil, append_cancel_left, map-append}
 use Rattle.std.proofs.lemmas.List.Concat.{flat_map-cons}
-use Rattle.papaya_histories.specs.Given.SeizeWords.Mem.{value_at}
-use Rattle.papaya_histories.specs.Given.Seize.Sequence.{taken_in}
-use Rattle.papaya_histories.specs.Given.Seize.WaitingSets.{Change, ReclaimsAll, Sets, all_changed, all_reclaimed}
-use Rattle.papaya_histories.specs.Given.Seize.World.{World}
-use Rattle.papaya_histories.specs.Given.Seize.declared.rows.reclaim_all.ReclaimAll.{ReclaimAll}
-use Rattle.papaya_histories.specs.Given.Tables.Nodes.{deferred_word}
-use Rattle.papaya_histories.specs.Given.Tables.declared.node.Node.{Node}
-use Rattle.papaya_histories.specs.Given.Schedules.declared.effect.Effect.{Effect}
-use Rattle.papaya_histories.specs.Given.Schedules.declared.effect.Effect.TheVariants.{Reclaimed}
-use Rattle.papaya_histories.specs.Given.Schedules.declared.effect.Thing.{Thing}
-use Rattle.papaya_histories.specs.Given.Schedules.declared.event.Event.{Event}
-use Rattle.papaya_histories.specs.Given.Schedules.declared.event.Event.TheVariants as event
-use Rattle.papaya_histories.specs.Given.Schedules.declared.outcome.Outcome.TheVariants.{Done}
-use Rattle.papaya_histories.specs.Given.Schedules.After.{after, moment}
-use Rattle.papaya_histories.specs.Given.Schedules.Beginning.{at_work}
-use Rattle.papaya_histories.specs.Given.Schedules.Entry.{Entry}
-use Rattle.papaya_histories.specs.Given.Schedules.Handing.{gives_all, is_reclaiming}
-use Rattle.papaya_histories.specs.Given.Schedules.Model.{all_left, back_by_model, came, changes_by, changes_of, left_last, number_in, sets_in, thing_back, things_in}
-use Rattle.papaya_histories.specs.Given.Schedules.Moment.{Moment}
-use Rattle.papaya_histories.specs.Given.Schedules.Reclaims.{ComesLast}
-use Rattle.papaya_histories.specs.Given.Schedules.Terms.{Terms}
-use Rattle.papaya_histories.specs.Given.Effects.Known.{Known}
-use Rattle.papaya_histories.specs.Given.Effects.declared.role.Role.{Role}
-use Rattle.papaya_histories.specs.Given.Effects.declared.role.Role.TheVariants as role
-use Rattle.papaya_histories.specs.Given.Follows.Blocks.{HasRole, ShowsBlocks}
-use Rattle.papaya_histories.proofs.Given.Moments.OnSlots.{none_some}
-use Rattle.seize_reclaims.specs.Roots.{all_lists}
+use Rattle.papaya_grows.specs.Given.SeizeWords.Mem.{value_at}
+use Rattle.papaya_grows.specs.Given.Seize.Sequence.{taken_in}
+use Rattle.papaya_grows.specs.Given.Seize.WaitingSets.{Change, ReclaimsAll, Sets, all_changed, all_reclaimed}
+use Rattle.papaya_grows.specs.Given.Seize.World.{World}
+use Rattle.papaya_grows.specs.Given.Seize.declared.rows.reclaim_all.ReclaimAll.{ReclaimAll}
+use Rattle.papaya_grows.specs.Given.Tables.Nodes.{deferred_word}
+use Rattle.papaya_grows.specs.Given.Tables.declared.node.Node.{Node}
+use Rattle.papaya_grows.specs.Given.Schedules.declared.effect.Effect.{Effect}
+use Rattle.papaya_grows.specs.Given.Schedules.declared.effect.Effect.TheVariants.{Reclaimed}
+use Rattle.papaya_grows.specs.Given.Schedules.declared.effect.Thing.{Thing}
+use Rattle.papaya_grows.specs.Given.Schedules.declared.event.Event.{Event}
+use Rattle.papaya_grows.specs.Given.Schedules.declared.event.Event.TheVariants as event
+use Rattle.papaya_grows.specs.Given.Schedules.declared.outcome.Outcome.TheVariants.{Done}
+use Rattle.papaya_grows.specs.Given.Schedules.After.{after, moment}
+use Rattle.papaya_grows.specs.Given.Schedules.Beginning.{at_work}
+use Rattle.papaya_grows.specs.Given.Schedules.Entry.{Entry}
+use Rattle.papaya_grows.specs.Given.Schedules.Handing.{gives_all, is_reclaiming}
+use Rattle.papaya_grows.specs.Given.Schedules.Model.{all_left, back_by_model, came, changes_by, changes_of, left_last, number_in, sets_in, thing_back, things_in}
+use Rattle.papaya_grows.specs.Given.Schedules.Moment.{Moment}
+use Rattle.papaya_grows.specs.Given.Schedules.Reclaims.{ComesLast}
+use Rattle.papaya_grows.specs.Given.Schedules.Terms.{Terms}
+use Rattle.papaya_grows.specs.Given.Effects.Known.{Known}
+use Rattle.papaya_grows.specs.Given.Effects.declared.role.Role.{Role}
+use Rattle.papaya_grows.specs.Given.Effects.declared.role.Role.TheVariants as role
+use Rattle.papaya_grows.specs.Given.Follows.Blocks.{HasRole, ShowsBlocks}
+use Rattle.papaya_grows.proofs.Given.Moments.OnSlots.{none_some}
+use Rattle.papaya_logged.specs.Given.SeizeReclaims.Roots.{all_lists}
 use Rattle.papaya_promises.specs.Sheltered.{IsOfThing}
 use Rattle.papaya_models.specs.Alike.{AfterAlike, AreAlike, SetsAlike}
 use Rattle.papaya_models.specs.Follows.{FollowsModel, IsFollowed}

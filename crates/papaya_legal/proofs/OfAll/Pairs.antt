@@ -1,51 +1,51 @@
 -- Each pair that reclaiming all reclaims was handed over, or left over: nothing else is in a block that was retired, or that is behind a root.
 use Rattle.std.specs.Prelude.{◌≡◌, ◌⊎◌, ◌<◌, ◌+◌, ◌==◌, ℕ, Bool, true, false, List, [], ◌∷◌, map, Some, None, if◌then◌else◌}
 use Rattle.std.proofs.Common.{refl, ap, sym, subst, ◌∙◌, arith, inl, inr, eqb-true}
-use Rattle.papaya_histories.specs.Given.Seize.Law.{is_retired}
-use Rattle.papaya_histories.specs.Given.Seize.World.{World, Handed as WithCollector, times}
-use Rattle.papaya_histories.specs.Given.Seize.declared.rows.reclaim_all.ReclaimAll.{ReclaimAll}
-use Rattle.papaya_histories.specs.Given.Seize.declared.rows.settle.Settled.{Settled}
-use Rattle.papaya_histories.specs.Given.SeizeSets.Reclaims.{is_on_slots}
-use Rattle.papaya_histories.specs.Given.Tables.Nodes.{deferred_word}
-use Rattle.papaya_histories.specs.Given.Tables.declared.node.Node.{Node}
-use Rattle.papaya_histories.specs.Given.Schedules.declared.effect.Effect.{Effect}
-use Rattle.papaya_histories.specs.Given.Schedules.declared.effect.Effect.TheVariants.{Reclaimed}
-use Rattle.papaya_histories.specs.Given.Schedules.declared.effect.Table.{Table}
-use Rattle.papaya_histories.specs.Given.Schedules.declared.effect.Thing.{Thing}
-use Rattle.papaya_histories.specs.Given.Schedules.After.{moment}
-use Rattle.papaya_histories.specs.Given.Schedules.Effects.{with_effects, AtEachEffect}
-use Rattle.papaya_histories.specs.Given.Schedules.Entry.{Entry}
-use Rattle.papaya_histories.specs.Given.Schedules.Lists.{is_among}
-use Rattle.papaya_histories.specs.Given.Schedules.Lives.{MayReclaim}
-use Rattle.papaya_histories.specs.Given.Schedules.Moment.{Behind, Deferral, GivenBack, Handed, InMap, Left, Moment, Out, Place, Unborn}
-use Rattle.papaya_histories.specs.Given.Schedules.Views.{behind as behind_table, is_in_a_map}
-use Rattle.papaya_histories.specs.Given.Teller.declared.changed.Changed.{Changed}
-use Rattle.papaya_histories.specs.Given.Teller.declared.changed.Changed.TheVariants as changed
-use Rattle.papaya_histories.specs.Given.Effects.Effects.{effects_of, known_after}
-use Rattle.papaya_histories.specs.Given.Effects.Known.{Known}
-use Rattle.papaya_histories.specs.Given.Effects.declared.acting.Acting.TheVariants.{Row}
-use Rattle.papaya_histories.specs.Given.Effects.declared.role.Role.{Role}
-use Rattle.papaya_histories.specs.Given.Effects.declared.role.Role.TheVariants as role
-use Rattle.papaya_histories.specs.Given.Executor.IsAt.{Scene}
-use Rattle.papaya_histories.specs.Given.Executor.declared.executor.Executor.{Executor}
-use Rattle.papaya_histories.specs.Given.Follows.Blocks.{HasRole}
-use Rattle.papaya_histories.specs.Given.Hands.Hands.{IsInUse}
-use Rattle.papaya_histories.proofs.Given.Finishes.Ends.CountedBlocks.{times_here}
-use Rattle.papaya_histories.proofs.Given.Follows.Alike.{put_here}
-use Rattle.papaya_histories.proofs.Given.Follows.Operations.{LeavesBy}
-use Rattle.papaya_histories.specs.Given.Moments.Whole.{ShowsWhole}
-use Rattle.papaya_histories.specs.Given.Spots.Unreclaimed.{is_unreclaimed}
-use Rattle.seize_reclaims.specs.Roots.{all_lists}
-use Rattle.papaya_reclaiming.specs.Reclaiming.{IsReclaiming, ReclaimingLeads}
-use Rattle.papaya_lives.specs.Behind.{EachWaits, IsLeft, LiesBehind}
-use Rattle.papaya_lives.specs.Waiting.{waits_behind}
-use Rattle.papaya_lives.proofs.Each.{found}
-use Rattle.papaya_lives.proofs.Worlds.{Kept, runs_kept, start_kept, unretired}
+use Rattle.papaya_grows.specs.Given.Seize.Law.{is_retired}
+use Rattle.papaya_grows.specs.Given.Seize.World.{World, Handed as WithCollector, times}
+use Rattle.papaya_grows.specs.Given.Seize.declared.rows.reclaim_all.ReclaimAll.{ReclaimAll}
+use Rattle.papaya_grows.specs.Given.Seize.declared.rows.settle.Settled.{Settled}
+use Rattle.papaya_grows.specs.Given.SeizeSets.Reclaims.{is_on_slots}
+use Rattle.papaya_grows.specs.Given.Tables.Nodes.{deferred_word}
+use Rattle.papaya_grows.specs.Given.Tables.declared.node.Node.{Node}
+use Rattle.papaya_grows.specs.Given.Schedules.declared.effect.Effect.{Effect}
+use Rattle.papaya_grows.specs.Given.Schedules.declared.effect.Effect.TheVariants.{Reclaimed}
+use Rattle.papaya_grows.specs.Given.Schedules.declared.effect.Table.{Table}
+use Rattle.papaya_grows.specs.Given.Schedules.declared.effect.Thing.{Thing}
+use Rattle.papaya_grows.specs.Given.Schedules.After.{moment}
+use Rattle.papaya_grows.specs.Given.Schedules.Effects.{with_effects, AtEachEffect}
+use Rattle.papaya_grows.specs.Given.Schedules.Entry.{Entry}
+use Rattle.papaya_grows.specs.Given.Schedules.Lists.{is_among}
+use Rattle.papaya_grows.specs.Given.Schedules.Lives.{MayReclaim}
+use Rattle.papaya_grows.specs.Given.Schedules.Moment.{Behind, Deferral, GivenBack, Handed, InMap, Left, Moment, Out, Place, Unborn}
+use Rattle.papaya_grows.specs.Given.Schedules.Views.{behind as behind_table, is_in_a_map}
+use Rattle.papaya_grows.specs.Given.Teller.declared.changed.Changed.{Changed}
+use Rattle.papaya_grows.specs.Given.Teller.declared.changed.Changed.TheVariants as changed
+use Rattle.papaya_grows.specs.Given.Effects.Effects.{effects_of, known_after}
+use Rattle.papaya_grows.specs.Given.Effects.Known.{Known}
+use Rattle.papaya_grows.specs.Given.Effects.declared.acting.Acting.TheVariants.{Row}
+use Rattle.papaya_grows.specs.Given.Effects.declared.role.Role.{Role}
+use Rattle.papaya_grows.specs.Given.Effects.declared.role.Role.TheVariants as role
+use Rattle.papaya_grows.specs.Given.Executor.IsAt.{Scene}
+use Rattle.papaya_grows.specs.Given.Executor.declared.executor.Executor.{Executor}
+use Rattle.papaya_grows.specs.Given.Follows.Blocks.{HasRole}
+use Rattle.papaya_grows.specs.Given.Hands.Hands.{IsInUse}
+use Rattle.papaya_grows.proofs.Given.Finishes.Ends.CountedBlocks.{times_here}
+use Rattle.papaya_grows.proofs.Given.Follows.Alike.{put_here}
+use Rattle.papaya_grows.proofs.Given.Follows.Operations.{LeavesBy}
+use Rattle.papaya_grows.specs.Given.Moments.Whole.{ShowsWhole}
+use Rattle.papaya_grows.specs.Given.Spots.Unreclaimed.{is_unreclaimed}
+use Rattle.papaya_logged.specs.Given.SeizeReclaims.Roots.{all_lists}
+use Rattle.papaya_logged.specs.Given.Reclaiming.Reclaiming.{IsReclaiming, ReclaimingLeads}
+use Rattle.papaya_grows.specs.Given.Lives.Behind.{EachWaits, IsLeft, LiesBehind}
+use Rattle.papaya_grows.specs.Given.Lives.Waiting.{waits_behind}
+use Rattle.papaya_grows.proofs.Given.Lives.Each.{found}
+use Rattle.papaya_grows.proofs.Given.Lives.Worlds.{Kept, runs_kept, start_kept, unretired}
 use Rattle.papaya_logged.proofs.ReclaimSteps.{left as leaves_there}
-use Rattle.papaya_kept.specs.Kept.{ShowsKept}
+use Rattle.papaya_grows.specs.Given.Kept.Kept.{ShowsKept}
 use Rattle.papaya_models.specs.Numbers.{things_of}
-use Rattle.papaya_finds.specs.Waiting.{FindsPlaced, PairsArePlaced, is_behind_one, is_let_go, is_out, once_if, owed_by, put_in}
-use Rattle.papaya_finds.proofs.Placed.{effects_keep_placed}
+use Rattle.papaya_grows.specs.Given.Finds.Waiting.{FindsPlaced, PairsArePlaced, is_behind_one, is_let_go, is_out, once_if, owed_by, put_in}
+use Rattle.papaya_grows.proofs.Given.Finds.Placed.{effects_keep_placed}
 use Rattle.papaya_legal.specs.AllEvents.{AllCome, AllFindPairs, AllSteps, BehindAreLeft, FindsPair, InAllEvent, all_begun}
 use Rattle.papaya_legal.proofs.Chains.{chains_keep}
 use Rattle.papaya_legal.proofs.OfAll.Roots.{handed, slots_leave_roots}

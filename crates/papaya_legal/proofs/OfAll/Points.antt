@@ -2,33 +2,33 @@
 use Rattle.std.specs.Prelude.{◌≡◌, ◌⊎◌, ◌<◌, ◌+◌, ◌-◌, ◌==◌, ℕ, zero, suc, nat_lt, Bool, true, false, List, [], ◌∷◌, ◌++◌, Option, Some, if◌then◌else◌}
 use Rattle.std.proofs.Common.{refl, ap, sym, subst, ◌∙◌, arith, inl, inr}
 use Rattle.std.proofs.lemmas.Bool.{cases_eq, cases_lt}
-use Rattle.papaya_histories.specs.Given.SeizeWords.Mem.{Mem, value_at, word_at}
-use Rattle.papaya_histories.specs.Given.SeizeWords.Op.{Out, Found, Taken}
-use Rattle.papaya_histories.specs.Given.SeizeWords.Plan.{Now, Seeing, Ends}
-use Rattle.papaya_histories.specs.Given.SeizeWords.Word.{block_in}
-use Rattle.papaya_histories.specs.Given.SeizeWords.declared.at.At.TheVariants.{Used}
-use Rattle.papaya_histories.specs.Given.Seize.ReclaimAll as all
-use Rattle.papaya_histories.specs.Given.Seize.World.{World, with_at}
-use Rattle.papaya_histories.specs.Given.Seize.declared.rows.reclaim_all.ReclaimAll.{ReclaimAll}
-use Rattle.papaya_histories.specs.Given.Seize.declared.rows.reclaim_all.Reclaiming.{Reclaiming}
-use Rattle.papaya_histories.specs.Given.Seize.declared.rows.reclaim_all.Reclaiming.TheVariants as at
-use Rattle.papaya_histories.specs.Given.Seize.declared.rows.settle.Settled.{Settled}
-use Rattle.papaya_histories.specs.Given.Seize.declared.rows.settle.Settled.TheVariants as settled
-use Rattle.papaya_histories.specs.Given.SeizeSets.Reclaims.{is_on_slots}
-use Rattle.papaya_histories.specs.Given.Tables.Nodes.{deferred_word, was_left}
-use Rattle.papaya_histories.specs.Given.Tables.declared.node.Node.{Node}
-use Rattle.papaya_histories.specs.Given.Tables.declared.setting.Setting.{Setting}
-use Rattle.papaya_histories.specs.Given.Teller.Tells.{StepsTold}
-use Rattle.papaya_histories.specs.Given.Teller.declared.changed.Changed.{Changed}
-use Rattle.papaya_histories.specs.Given.Teller.declared.changed.Changed.TheVariants as changed
-use Rattle.papaya_histories.proofs.Given.Callers.Together.At.{at_other, at_same}
-use Rattle.papaya_histories.specs.Given.Finishes.Makings.{IsFreeRoot}
-use Rattle.papaya_histories.specs.Given.Finishes.Maps.{IsSameMap, Standing}
-use Rattle.papaya_histories.specs.Given.Follows.Steps.{TakesNone}
-use Rattle.seize_reclaims.specs.Roots.{all_lists}
-use Rattle.papaya_reclaims.specs.Reclaims.{IsRootOf, LeftBehind, Opened, ReclaimingAt, RootLeads}
-use Rattle.papaya_reclaims.specs.Slots.{IsQuiet}
-use Rattle.papaya_shards.proofs.ShardKept.{same_setting}
+use Rattle.papaya_grows.specs.Given.SeizeWords.Mem.{Mem, value_at, word_at}
+use Rattle.papaya_grows.specs.Given.SeizeWords.Op.{Out, Found, Taken}
+use Rattle.papaya_grows.specs.Given.SeizeWords.Plan.{Now, Seeing, Ends}
+use Rattle.papaya_grows.specs.Given.SeizeWords.Word.{block_in}
+use Rattle.papaya_grows.specs.Given.SeizeWords.declared.at.At.TheVariants.{Used}
+use Rattle.papaya_grows.specs.Given.Seize.ReclaimAll as all
+use Rattle.papaya_grows.specs.Given.Seize.World.{World, with_at}
+use Rattle.papaya_grows.specs.Given.Seize.declared.rows.reclaim_all.ReclaimAll.{ReclaimAll}
+use Rattle.papaya_grows.specs.Given.Seize.declared.rows.reclaim_all.Reclaiming.{Reclaiming}
+use Rattle.papaya_grows.specs.Given.Seize.declared.rows.reclaim_all.Reclaiming.TheVariants as at
+use Rattle.papaya_grows.specs.Given.Seize.declared.rows.settle.Settled.{Settled}
+use Rattle.papaya_grows.specs.Given.Seize.declared.rows.settle.Settled.TheVariants as settled
+use Rattle.papaya_grows.specs.Given.SeizeSets.Reclaims.{is_on_slots}
+use Rattle.papaya_grows.specs.Given.Tables.Nodes.{deferred_word, was_left}
+use Rattle.papaya_grows.specs.Given.Tables.declared.node.Node.{Node}
+use Rattle.papaya_grows.specs.Given.Tables.declared.setting.Setting.{Setting}
+use Rattle.papaya_grows.specs.Given.Teller.Tells.{StepsTold}
+use Rattle.papaya_grows.specs.Given.Teller.declared.changed.Changed.{Changed}
+use Rattle.papaya_grows.specs.Given.Teller.declared.changed.Changed.TheVariants as changed
+use Rattle.papaya_grows.proofs.Given.Callers.Together.At.{at_other, at_same}
+use Rattle.papaya_grows.specs.Given.Finishes.Makings.{IsFreeRoot}
+use Rattle.papaya_grows.specs.Given.Finishes.Maps.{IsSameMap, Standing}
+use Rattle.papaya_grows.specs.Given.Follows.Steps.{TakesNone}
+use Rattle.papaya_logged.specs.Given.SeizeReclaims.Roots.{all_lists}
+use Rattle.papaya_logged.specs.Given.Reclaims.Reclaims.{IsRootOf, LeftBehind, Opened, ReclaimingAt, RootLeads}
+use Rattle.papaya_logged.specs.Given.Reclaims.Slots.{IsQuiet}
+use Rattle.papaya_grows.proofs.Given.Shards.ShardKept.{same_setting}
 
 -- it stands where a block behind a root is taken away
 abbrev pub IsAtTakes : Reclaiming → Type 0

@@ -2,46 +2,46 @@
 use Rattle.std.specs.Prelude.{◌≡◌, ◌⊎◌, ◌<◌, ◌+◌, ℕ, zero, suc, Bool, true, List, [], ◌∷◌, ◌++◌, Option, Some, None, IsSome}
 use Rattle.std.proofs.Common.{refl, ap, sym, subst, append_assoc, ◌∙◌, arith, inl, inr}
 use Rattle.std.proofs.lemmas.List.{append-nil, append_cancel_left}
-use Rattle.papaya_histories.specs.Given.SeizeWords.Mem.{Mem, Took, value_at}
-use Rattle.papaya_histories.specs.Given.SeizeWords.Plan.{Steps}
-use Rattle.papaya_histories.specs.Given.SeizeWords.declared.at.At.TheVariants.{Root, Used}
-use Rattle.papaya_histories.specs.Given.Seize.Leave as leave
-use Rattle.papaya_histories.specs.Given.Seize.ReclaimAll as all
-use Rattle.papaya_histories.specs.Given.Seize.Settle as settle
-use Rattle.papaya_histories.specs.Given.Seize.Sequence.{taken_in}
-use Rattle.papaya_histories.specs.Given.Seize.World.{World, Handed, Row, Leaves, Settles, Request, Register', Leave', Flush, Unregister', Event, Begin, Step, Begins, Steps', Runs, leaves_on, settles_on, times}
-use Rattle.papaya_histories.specs.Given.Seize.declared.rows.leave.Leave.{Leave}
-use Rattle.papaya_histories.specs.Given.Seize.declared.rows.reclaim_all.ReclaimAll.{ReclaimAll}
-use Rattle.papaya_histories.specs.Given.Seize.declared.rows.reclaim_all.Reclaiming.{Reclaiming}
-use Rattle.papaya_histories.specs.Given.Seize.declared.rows.reclaim_all.Reclaiming.TheVariants as at
-use Rattle.papaya_histories.specs.Given.Seize.declared.rows.settle.Settle.{Settle}
-use Rattle.papaya_histories.specs.Given.Seize.declared.rows.settle.Settled.{Settled}
-use Rattle.papaya_histories.specs.Given.Seize.declared.rows.settle.Settled.TheVariants as settled
-use Rattle.papaya_histories.proofs.Given.SeizeAlone.Histories.NotTaken.{did}
-use Rattle.papaya_histories.proofs.Given.SeizeAlone.Histories.Reached.{Reached, happens_reached}
-use Rattle.papaya_histories.proofs.Given.SeizeAlone.Spared.Rows.{RowStepped}
-use Rattle.papaya_histories.proofs.Given.SeizeAlone.Whole.Midway.{taken_append}
-use Rattle.papaya_histories.specs.Given.SeizeSets.Reclaims.{is_on_slots}
-use Rattle.papaya_histories.specs.Given.Tables.Nodes.{deferred_word, was_left}
-use Rattle.papaya_histories.specs.Given.Tables.declared.node.Node.{Node}
-use Rattle.papaya_histories.specs.Given.Teller.Tells.{StepsTold}
-use Rattle.papaya_histories.specs.Given.Teller.declared.changed.Changed.{Changed}
-use Rattle.papaya_histories.specs.Given.Teller.declared.changed.Changed.TheVariants as changed
-use Rattle.papaya_histories.proofs.Given.Callers.Together.Came.{came_reached}
-use Rattle.papaya_histories.specs.Given.Executor.IsAt.{Scene}
-use Rattle.papaya_histories.specs.Given.Executor.declared.executor.Executor.{Executor}
-use Rattle.papaya_histories.proofs.Given.Executor.Forgotten.{as_step}
-use Rattle.papaya_histories.proofs.Given.Finishes.Ends.CountedBlocks.{times-append}
-use Rattle.papaya_histories.specs.Given.Finishes.FactsEnds.{TakesLeft, WritesRoot, events_of}
-use Rattle.papaya_histories.specs.Given.Follows.Steps.{TakesNone}
-use Rattle.papaya_histories.proofs.Given.Follows.Operations.{LeavesBy, operated, operated_leaves}
-use Rattle.papaya_histories.proofs.Given.Moments.OnSlots.{none_some}
-use Rattle.papaya_histories.proofs.Given.Others.Outcomes.{told_in}
-use Rattle.papaya_reclaims.specs.Reclaims.{HasTaken, ReclaimingAt, ReclaimingTold}
-use Rattle.papaya_reclaims.specs.Slots.{AreItsRows, IsForSlots}
-use Rattle.papaya_reclaiming.specs.Reclaiming.{IsReclaiming, ReclaimingLeads}
-use Rattle.papaya_reclaiming.proofs.Reclaims.{may_step}
-use Rattle.papaya_lives.specs.Behind.{IsLeft}
+use Rattle.papaya_grows.specs.Given.SeizeWords.Mem.{Mem, Took, value_at}
+use Rattle.papaya_grows.specs.Given.SeizeWords.Plan.{Steps}
+use Rattle.papaya_grows.specs.Given.SeizeWords.declared.at.At.TheVariants.{Root, Used}
+use Rattle.papaya_grows.specs.Given.Seize.Leave as leave
+use Rattle.papaya_grows.specs.Given.Seize.ReclaimAll as all
+use Rattle.papaya_grows.specs.Given.Seize.Settle as settle
+use Rattle.papaya_grows.specs.Given.Seize.Sequence.{taken_in}
+use Rattle.papaya_grows.specs.Given.Seize.World.{World, Handed, Row, Leaves, Settles, Request, Register', Leave', Flush, Unregister', Event, Begin, Step, Begins, Steps', Runs, leaves_on, settles_on, times}
+use Rattle.papaya_grows.specs.Given.Seize.declared.rows.leave.Leave.{Leave}
+use Rattle.papaya_grows.specs.Given.Seize.declared.rows.reclaim_all.ReclaimAll.{ReclaimAll}
+use Rattle.papaya_grows.specs.Given.Seize.declared.rows.reclaim_all.Reclaiming.{Reclaiming}
+use Rattle.papaya_grows.specs.Given.Seize.declared.rows.reclaim_all.Reclaiming.TheVariants as at
+use Rattle.papaya_grows.specs.Given.Seize.declared.rows.settle.Settle.{Settle}
+use Rattle.papaya_grows.specs.Given.Seize.declared.rows.settle.Settled.{Settled}
+use Rattle.papaya_grows.specs.Given.Seize.declared.rows.settle.Settled.TheVariants as settled
+use Rattle.papaya_grows.proofs.Given.SeizeAlone.Histories.NotTaken.{did}
+use Rattle.papaya_grows.proofs.Given.SeizeAlone.Histories.Reached.{Reached, happens_reached}
+use Rattle.papaya_grows.proofs.Given.SeizeAlone.Spared.Rows.{RowStepped}
+use Rattle.papaya_grows.proofs.Given.SeizeAlone.Whole.Midway.{taken_append}
+use Rattle.papaya_grows.specs.Given.SeizeSets.Reclaims.{is_on_slots}
+use Rattle.papaya_grows.specs.Given.Tables.Nodes.{deferred_word, was_left}
+use Rattle.papaya_grows.specs.Given.Tables.declared.node.Node.{Node}
+use Rattle.papaya_grows.specs.Given.Teller.Tells.{StepsTold}
+use Rattle.papaya_grows.specs.Given.Teller.declared.changed.Changed.{Changed}
+use Rattle.papaya_grows.specs.Given.Teller.declared.changed.Changed.TheVariants as changed
+use Rattle.papaya_grows.proofs.Given.Callers.Together.Came.{came_reached}
+use Rattle.papaya_grows.specs.Given.Executor.IsAt.{Scene}
+use Rattle.papaya_grows.specs.Given.Executor.declared.executor.Executor.{Executor}
+use Rattle.papaya_grows.proofs.Given.Executor.Forgotten.{as_step}
+use Rattle.papaya_grows.proofs.Given.Finishes.Ends.CountedBlocks.{times-append}
+use Rattle.papaya_grows.specs.Given.Finishes.FactsEnds.{TakesLeft, WritesRoot, events_of}
+use Rattle.papaya_grows.specs.Given.Follows.Steps.{TakesNone}
+use Rattle.papaya_grows.proofs.Given.Follows.Operations.{LeavesBy, operated, operated_leaves}
+use Rattle.papaya_grows.proofs.Given.Moments.OnSlots.{none_some}
+use Rattle.papaya_grows.proofs.Given.Others.Outcomes.{told_in}
+use Rattle.papaya_logged.specs.Given.Reclaims.Reclaims.{HasTaken, ReclaimingAt, ReclaimingTold}
+use Rattle.papaya_logged.specs.Given.Reclaims.Slots.{AreItsRows, IsForSlots}
+use Rattle.papaya_logged.specs.Given.Reclaiming.Reclaiming.{IsReclaiming, ReclaimingLeads}
+use Rattle.papaya_logged.proofs.Given.Reclaiming.Reclaims.{may_step}
+use Rattle.papaya_grows.specs.Given.Lives.Behind.{IsLeft}
 use Rattle.papaya_logged.proofs.ReclaimFinds.{left_before, root_value, step_handed}
 use Rattle.papaya_logged.proofs.ReclaimGives.{taken_gone}
 use Rattle.papaya_logged.proofs.ReclaimRows.{begun_kept}

@@ -3,47 +3,47 @@ use Rattle.std.specs.Prelude.{◌≡◌, ◌⊎◌, ◌<◌, ◌^◌, ◌+◌, �
 use Rattle.std.specs.List.{AllByRecursion}
 use Rattle.std.proofs.Common.{refl, ap, sym, subst, ◌∙◌, arith, inl, inr}
 use Rattle.std.proofs.lemmas.List.{append-nil}
-use Rattle.papaya_histories.specs.Given.SeizeWords.Mem.{Mem, Took, value_at}
-use Rattle.papaya_histories.specs.Given.SeizeWords.Plan.{Steps}
-use Rattle.papaya_histories.specs.Given.SeizeWords.Op.{Store}
-use Rattle.papaya_histories.specs.Given.SeizeWords.declared.at.At.{At}
-use Rattle.papaya_histories.specs.Given.SeizeWords.declared.at.At.TheVariants as name
-use Rattle.papaya_histories.proofs.Given.SeizeWords.OneOwner.Operations.{stored}
-use Rattle.papaya_histories.specs.Given.Seize.Enter.{unregister_plan}
-use Rattle.papaya_histories.specs.Given.Seize.Leave.{leave_plan, leaving}
-use Rattle.papaya_histories.specs.Given.Seize.ReclaimAll.{next_batch, next_free, next_head, plan_at, reclaiming_all, standing, to, within}
-use Rattle.papaya_histories.specs.Given.Seize.Sequence.{Calls, IsBetween, ended_by, taken_in}
-use Rattle.papaya_histories.specs.Given.Seize.Settle.{flushing, settle_plan}
-use Rattle.papaya_histories.specs.Given.Seize.WaitingSets.{Change}
-use Rattle.papaya_histories.specs.Given.Seize.World.{World, Rests, Request, Register', Leave', Flush, Unregister', Event, Begin, Step, Clears, Operates, Begins, Steps', Happens, Runs}
-use Rattle.papaya_histories.specs.Given.Seize.declared.progress.Progress.{Progress}
-use Rattle.papaya_histories.specs.Given.Seize.declared.rows.enter.Unregister.{Unregister}
-use Rattle.papaya_histories.specs.Given.Seize.declared.rows.leave.Leave.{Leave}
-use Rattle.papaya_histories.specs.Given.Seize.declared.rows.reclaim_all.ReclaimAll.{ReclaimAll}
-use Rattle.papaya_histories.specs.Given.Seize.declared.rows.reclaim_all.Reclaiming.{Reclaiming}
-use Rattle.papaya_histories.specs.Given.Seize.declared.rows.reclaim_all.Reclaiming.TheVariants as at
-use Rattle.papaya_histories.specs.Given.Seize.declared.rows.settle.Settle.{Settle}
-use Rattle.papaya_histories.specs.Given.Seize.declared.rows.settle.Settled.{Settled}
-use Rattle.papaya_histories.specs.Given.Seize.declared.rows.settle.Settled.TheVariants as settled
-use Rattle.papaya_histories.specs.Given.Seize.declared.states.TheConstants.{HEAD, IDLE, LAST_SLOT}
-use Rattle.papaya_histories.proofs.Given.SeizeRule.Rows.Leaving.{steps_back}
-use Rattle.papaya_histories.proofs.Given.SeizeRule.World.Rested.{Rested, calls_rested}
-use Rattle.papaya_histories.specs.Given.SeizeSets.Reclaims.{is_on_slots}
-use Rattle.papaya_histories.proofs.Given.SeizeSets.Reclaims.Stages.{Stage, first_stage, head_on, retake_on, leave_on, batch_on, flush_on, give_up_on}
-use Rattle.papaya_histories.specs.Given.SeizeAlone.Alone.{TakesSteps}
-use Rattle.papaya_histories.proofs.Given.SeizeAlone.Whole.Register.{steps_more, steps_end}
-use Rattle.papaya_histories.specs.Given.Tables.Nodes.{deferred_word, was_left}
-use Rattle.papaya_histories.specs.Given.Tables.declared.node.Node.{Node}
-use Rattle.papaya_histories.specs.Given.Callers.Together.{CameAbout, UnderWay}
-use Rattle.papaya_histories.specs.Given.Finishes.Endings.{Finishing}
-use Rattle.papaya_histories.specs.Given.Finishes.FactsEnds.{TakesLeft, WritesRoot, events_of}
-use Rattle.papaya_histories.specs.Given.Finishes.Makings.{Beginning}
-use Rattle.papaya_histories.specs.Given.Finishes.Maps.{Standing}
-use Rattle.seize_reclaims.specs.AllReclaimed.{is_within}
-use Rattle.seize_reclaims.proofs.AllReclaimed.Weights.{at_next_batch, at_next_head}
-use Rattle.papaya_reclaims.specs.Reclaims.{ReclaimingAt, StepsOfReclaiming}
-use Rattle.papaya_reclaims.specs.Slots.{AllRest, AreItsRows, BeginsAt, DoesAt, IsQuiet}
-use Rattle.papaya_reclaims.proofs.Slots.Facts.{no_word, outside_at, rested_by}
+use Rattle.papaya_grows.specs.Given.SeizeWords.Mem.{Mem, Took, value_at}
+use Rattle.papaya_grows.specs.Given.SeizeWords.Plan.{Steps}
+use Rattle.papaya_grows.specs.Given.SeizeWords.Op.{Store}
+use Rattle.papaya_grows.specs.Given.SeizeWords.declared.at.At.{At}
+use Rattle.papaya_grows.specs.Given.SeizeWords.declared.at.At.TheVariants as name
+use Rattle.papaya_grows.proofs.Given.SeizeWords.OneOwner.Operations.{stored}
+use Rattle.papaya_grows.specs.Given.Seize.Enter.{unregister_plan}
+use Rattle.papaya_grows.specs.Given.Seize.Leave.{leave_plan, leaving}
+use Rattle.papaya_grows.specs.Given.Seize.ReclaimAll.{next_batch, next_free, next_head, plan_at, reclaiming_all, standing, to, within}
+use Rattle.papaya_grows.specs.Given.Seize.Sequence.{Calls, IsBetween, ended_by, taken_in}
+use Rattle.papaya_grows.specs.Given.Seize.Settle.{flushing, settle_plan}
+use Rattle.papaya_grows.specs.Given.Seize.WaitingSets.{Change}
+use Rattle.papaya_grows.specs.Given.Seize.World.{World, Rests, Request, Register', Leave', Flush, Unregister', Event, Begin, Step, Clears, Operates, Begins, Steps', Happens, Runs}
+use Rattle.papaya_grows.specs.Given.Seize.declared.progress.Progress.{Progress}
+use Rattle.papaya_grows.specs.Given.Seize.declared.rows.enter.Unregister.{Unregister}
+use Rattle.papaya_grows.specs.Given.Seize.declared.rows.leave.Leave.{Leave}
+use Rattle.papaya_grows.specs.Given.Seize.declared.rows.reclaim_all.ReclaimAll.{ReclaimAll}
+use Rattle.papaya_grows.specs.Given.Seize.declared.rows.reclaim_all.Reclaiming.{Reclaiming}
+use Rattle.papaya_grows.specs.Given.Seize.declared.rows.reclaim_all.Reclaiming.TheVariants as at
+use Rattle.papaya_grows.specs.Given.Seize.declared.rows.settle.Settle.{Settle}
+use Rattle.papaya_grows.specs.Given.Seize.declared.rows.settle.Settled.{Settled}
+use Rattle.papaya_grows.specs.Given.Seize.declared.rows.settle.Settled.TheVariants as settled
+use Rattle.papaya_grows.specs.Given.Seize.declared.states.TheConstants.{HEAD, IDLE, LAST_SLOT}
+use Rattle.papaya_grows.proofs.Given.SeizeRule.Rows.Leaving.{steps_back}
+use Rattle.papaya_grows.proofs.Given.SeizeRule.World.Rested.{Rested, calls_rested}
+use Rattle.papaya_grows.specs.Given.SeizeSets.Reclaims.{is_on_slots}
+use Rattle.papaya_grows.proofs.Given.SeizeSets.Reclaims.Stages.{Stage, first_stage, head_on, retake_on, leave_on, batch_on, flush_on, give_up_on}
+use Rattle.papaya_grows.specs.Given.SeizeAlone.Alone.{TakesSteps}
+use Rattle.papaya_grows.proofs.Given.SeizeAlone.Whole.Register.{steps_more, steps_end}
+use Rattle.papaya_grows.specs.Given.Tables.Nodes.{deferred_word, was_left}
+use Rattle.papaya_grows.specs.Given.Tables.declared.node.Node.{Node}
+use Rattle.papaya_grows.specs.Given.Callers.Together.{CameAbout, UnderWay}
+use Rattle.papaya_grows.specs.Given.Finishes.Endings.{Finishing}
+use Rattle.papaya_grows.specs.Given.Finishes.FactsEnds.{TakesLeft, WritesRoot, events_of}
+use Rattle.papaya_grows.specs.Given.Finishes.Makings.{Beginning}
+use Rattle.papaya_grows.specs.Given.Finishes.Maps.{Standing}
+use Rattle.papaya_logged.specs.Given.SeizeReclaims.AllReclaimed.{is_within}
+use Rattle.papaya_logged.proofs.Given.SeizeReclaims.AllReclaimed.Weights.{at_next_batch, at_next_head}
+use Rattle.papaya_logged.specs.Given.Reclaims.Reclaims.{ReclaimingAt, StepsOfReclaiming}
+use Rattle.papaya_logged.specs.Given.Reclaims.Slots.{AllRest, AreItsRows, BeginsAt, DoesAt, IsQuiet}
+use Rattle.papaya_logged.proofs.Given.Reclaims.Slots.Facts.{no_word, outside_at, rested_by}
 use Rattle.papaya_models.specs.Reclaims.{HasReclaimed}
 use Rattle.papaya_models.specs.Turns.{CameByTurns}
 use Rattle.papaya_models.proofs.Reclaims.{has_reclaimed, quiet_reclaimed}

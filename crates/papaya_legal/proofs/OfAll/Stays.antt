@@ -3,48 +3,48 @@ use Rattle.std.specs.Prelude.{◌≡◌, ◌⊎◌, ◌<◌, ◌≤◌, ℕ, Boo
 use Rattle.std.specs.List.{All}
 use Rattle.std.proofs.Common.{refl, ap, sym, subst, ◌∙◌, inl, inr}
 use Rattle.std.proofs.lemmas.List.Elements.{All-map}
-use Rattle.papaya_histories.specs.Given.SeizeWords.Mem.{Mem, word_at}
-use Rattle.papaya_histories.specs.Given.SeizeWords.declared.at.At.TheVariants.{Word}
-use Rattle.papaya_histories.specs.Given.Seize.ReclaimAll.{reclaim_all_plan}
-use Rattle.papaya_histories.specs.Given.Seize.declared.rows.reclaim_all.ReclaimAll.{ReclaimAll}
-use Rattle.papaya_histories.specs.Given.Seize.declared.rows.settle.Settled.{Settled}
-use Rattle.papaya_histories.specs.Given.Tables.Nodes.{deferred_word, was_left}
-use Rattle.papaya_histories.specs.Given.Tables.declared.node.Node.{Node}
-use Rattle.papaya_histories.specs.Given.Tables.declared.setting.Setting.{Setting}
-use Rattle.papaya_histories.specs.Given.Schedules.declared.effect.Effect.{Effect}
-use Rattle.papaya_histories.specs.Given.Schedules.declared.effect.Effect.TheVariants.{Reclaimed}
-use Rattle.papaya_histories.specs.Given.Schedules.declared.effect.Table.{Table}
-use Rattle.papaya_histories.specs.Given.Schedules.declared.effect.Thing.{Thing}
-use Rattle.papaya_histories.specs.Given.Schedules.declared.effect.Thing.TheVariants.{APair, ATable}
-use Rattle.papaya_histories.specs.Given.Schedules.Effects.{at_stage, with_effect, with_effects}
-use Rattle.papaya_histories.specs.Given.Schedules.Entry.{Entry}
-use Rattle.papaya_histories.specs.Given.Schedules.Moment.{IsReclaimed, Moment, TableThere}
-use Rattle.papaya_histories.specs.Given.Schedules.Things.{same_table}
-use Rattle.papaya_histories.specs.Given.Teller.declared.changed.Changed.{Changed}
-use Rattle.papaya_histories.specs.Given.Callers.Together.{UnderWay, OnKey}
-use Rattle.papaya_histories.specs.Given.Effects.Effects.{effects_of, known_after}
-use Rattle.papaya_histories.specs.Given.Effects.Known.{Known}
-use Rattle.papaya_histories.specs.Given.Effects.declared.acting.Acting.TheVariants.{Row}
-use Rattle.papaya_histories.specs.Given.Executor.IsAt.{Scene}
-use Rattle.papaya_histories.specs.Given.Executor.declared.executor.Executor.{Executor}
-use Rattle.papaya_histories.proofs.Given.Follows.Operations.{Operated, operated}
-use Rattle.papaya_histories.specs.Given.Moments.Numbers.{NumbersMaps}
-use Rattle.papaya_histories.specs.Given.Moments.Whole.{ShowsWhole}
-use Rattle.papaya_histories.proofs.Given.Moments.NewMaps.{effects_keep_pairs}
-use Rattle.papaya_histories.proofs.Given.Others.RowPlans.{TellsRow}
-use Rattle.papaya_histories.proofs.Questions.{effects_keep_questions}
-use Rattle.papaya_reclaiming.specs.Reclaiming.{IsReclaiming, ReclaimingLeads}
-use Rattle.papaya_reclaiming.proofs.Reclaims.{may_step}
+use Rattle.papaya_grows.specs.Given.SeizeWords.Mem.{Mem, word_at}
+use Rattle.papaya_grows.specs.Given.SeizeWords.declared.at.At.TheVariants.{Word}
+use Rattle.papaya_grows.specs.Given.Seize.ReclaimAll.{reclaim_all_plan}
+use Rattle.papaya_grows.specs.Given.Seize.declared.rows.reclaim_all.ReclaimAll.{ReclaimAll}
+use Rattle.papaya_grows.specs.Given.Seize.declared.rows.settle.Settled.{Settled}
+use Rattle.papaya_grows.specs.Given.Tables.Nodes.{deferred_word, was_left}
+use Rattle.papaya_grows.specs.Given.Tables.declared.node.Node.{Node}
+use Rattle.papaya_grows.specs.Given.Tables.declared.setting.Setting.{Setting}
+use Rattle.papaya_grows.specs.Given.Schedules.declared.effect.Effect.{Effect}
+use Rattle.papaya_grows.specs.Given.Schedules.declared.effect.Effect.TheVariants.{Reclaimed}
+use Rattle.papaya_grows.specs.Given.Schedules.declared.effect.Table.{Table}
+use Rattle.papaya_grows.specs.Given.Schedules.declared.effect.Thing.{Thing}
+use Rattle.papaya_grows.specs.Given.Schedules.declared.effect.Thing.TheVariants.{APair, ATable}
+use Rattle.papaya_grows.specs.Given.Schedules.Effects.{at_stage, with_effect, with_effects}
+use Rattle.papaya_grows.specs.Given.Schedules.Entry.{Entry}
+use Rattle.papaya_grows.specs.Given.Schedules.Moment.{IsReclaimed, Moment, TableThere}
+use Rattle.papaya_grows.specs.Given.Schedules.Things.{same_table}
+use Rattle.papaya_grows.specs.Given.Teller.declared.changed.Changed.{Changed}
+use Rattle.papaya_grows.specs.Given.Callers.Together.{UnderWay, OnKey}
+use Rattle.papaya_grows.specs.Given.Effects.Effects.{effects_of, known_after}
+use Rattle.papaya_grows.specs.Given.Effects.Known.{Known}
+use Rattle.papaya_grows.specs.Given.Effects.declared.acting.Acting.TheVariants.{Row}
+use Rattle.papaya_grows.specs.Given.Executor.IsAt.{Scene}
+use Rattle.papaya_grows.specs.Given.Executor.declared.executor.Executor.{Executor}
+use Rattle.papaya_grows.proofs.Given.Follows.Operations.{Operated, operated}
+use Rattle.papaya_grows.specs.Given.Moments.Numbers.{NumbersMaps}
+use Rattle.papaya_grows.specs.Given.Moments.Whole.{ShowsWhole}
+use Rattle.papaya_grows.proofs.Given.Moments.NewMaps.{effects_keep_pairs}
+use Rattle.papaya_grows.proofs.Given.Others.RowPlans.{TellsRow}
+use Rattle.papaya_grows.proofs.Given.Histories.Questions.{effects_keep_questions}
+use Rattle.papaya_logged.specs.Given.Reclaiming.Reclaiming.{IsReclaiming, ReclaimingLeads}
+use Rattle.papaya_logged.proofs.Given.Reclaiming.Reclaims.{may_step}
 use Rattle.papaya_logged.proofs.ReclaimRest.{reclaiming_found, reclaiming_keeps}
 use Rattle.papaya_logged.proofs.ReclaimRows.{EmptiesRoot, reclaiming_tells}
 use Rattle.papaya_logged.proofs.ReclaimSteps.{reclaiming_whole}
 use Rattle.papaya_promises.specs.Reading.{ShowsReading}
-use Rattle.papaya_settles.proofs.Uncounted.{CountsNowhere}
-use Rattle.papaya_shards.specs.ShardWords.{ShowsCounters, ShowsShards}
-use Rattle.papaya_shards.proofs.ShardKept.{none_shards, same_setting, word_kept}
+use Rattle.papaya_grows.proofs.Given.Settles.Uncounted.{CountsNowhere}
+use Rattle.papaya_grows.specs.Given.Shards.ShardWords.{ShowsCounters, ShowsShards}
+use Rattle.papaya_grows.proofs.Given.Shards.ShardKept.{none_shards, same_setting, word_kept}
 use Rattle.papaya_legal.specs.AllEvents.{scene_in}
 use Rattle.papaya_legal.specs.Carried.{ShowsCalls}
-use Rattle.papaya_histories.proofs.Given.Spots.Effects.{AllAside}
+use Rattle.papaya_grows.proofs.Given.Spots.Effects.{AllAside}
 use Rattle.papaya_legal.proofs.Sourced.{reclaimed_aside, same_maps_aside}
 use Rattle.papaya_grows.proofs.Finding.Others.{finding_of_none}
 use Rattle.papaya_legal.proofs.OfAll.Tells.{gone_by, it_reclaims, none_under_way}

@@ -1,55 +1,55 @@
 -- What a step does by which all is reclaimed: it reclaims what was noted in the block that it takes away, and does nothing else.
 use Rattle.std.specs.Prelude.{◌≡◌, ◌⊎◌, ℕ, Bool, true, false, List, [], map, Some, Ok, Err, if◌then◌else◌}
 use Rattle.std.proofs.Common.{refl, ap, sym, subst, inl, inr}
-use Rattle.papaya_histories.specs.Given.SeizeWords.Mem.{Mem}
-use Rattle.papaya_histories.specs.Given.SeizeWords.Op.{Op, Out, Load, Store, Swap, Add, Or, Exchange, Make, Take, Rewrite, Room, Found, Exchanged, Made, Roomed}
-use Rattle.papaya_histories.specs.Given.SeizeWords.Plan.{Plan, Turn, Do, plan_as}
-use Rattle.papaya_histories.specs.Given.SeizeWords.Word.{block_in}
-use Rattle.papaya_histories.specs.Given.SeizeWords.declared.at.At.TheVariants.{Root, Used, Slot, Entry, Word}
-use Rattle.papaya_histories.specs.Given.Seize.Leave as leave
-use Rattle.papaya_histories.specs.Given.Seize.ReclaimAll as all
-use Rattle.papaya_histories.specs.Given.Seize.Settle as settle
-use Rattle.papaya_histories.specs.Given.Seize.Sequence.{taken_in}
-use Rattle.papaya_histories.specs.Given.Seize.World.{World}
-use Rattle.papaya_histories.specs.Given.Seize.declared.rows.leave.Leave.{Leave}
-use Rattle.papaya_histories.specs.Given.Seize.declared.rows.leave.Leaving.{Leaving}
-use Rattle.papaya_histories.specs.Given.Seize.declared.rows.leave.Leaving.TheVariants as leaving
-use Rattle.papaya_histories.specs.Given.Seize.declared.rows.reclaim_all.ReclaimAll.{ReclaimAll}
-use Rattle.papaya_histories.specs.Given.Seize.declared.rows.reclaim_all.Reclaiming.{Reclaiming}
-use Rattle.papaya_histories.specs.Given.Seize.declared.rows.reclaim_all.Reclaiming.TheVariants as at
-use Rattle.papaya_histories.specs.Given.Seize.declared.rows.settle.Settle.{Settle}
-use Rattle.papaya_histories.specs.Given.Seize.declared.rows.settle.Settled.{Settled}
-use Rattle.papaya_histories.specs.Given.Seize.declared.rows.settle.Settled.TheVariants as settled
-use Rattle.papaya_histories.specs.Given.Seize.declared.rows.settle.Settling.{Settling}
-use Rattle.papaya_histories.specs.Given.Seize.declared.rows.settle.Settling.TheVariants as settling
-use Rattle.papaya_histories.specs.Given.Tables.Nodes.{deferred_word, was_left}
-use Rattle.papaya_histories.specs.Given.Tables.declared.node.Node.{Node}
-use Rattle.papaya_histories.specs.Given.Schedules.declared.effect.Effect.TheVariants.{Reclaimed}
-use Rattle.papaya_histories.specs.Given.Schedules.declared.effect.Thing.{Thing}
-use Rattle.papaya_histories.specs.Given.Schedules.Moment.{Moment}
-use Rattle.papaya_histories.specs.Given.Tells.Seen.{seen_of}
-use Rattle.papaya_histories.specs.Given.Teller.Tells.{StepsTold, told_of}
-use Rattle.papaya_histories.specs.Given.Teller.declared.changed.Changed.{Changed}
-use Rattle.papaya_histories.specs.Given.Teller.declared.changed.Changed.TheVariants as changed
-use Rattle.papaya_histories.specs.Given.Callers.Together.{UnderWay}
-use Rattle.papaya_histories.specs.Given.Effects.Effects.{effects_of, known_after, named, names_same, taken_by}
-use Rattle.papaya_histories.specs.Given.Effects.Known.{Known}
-use Rattle.papaya_histories.specs.Given.Effects.declared.acting.Acting.TheVariants.{Row}
-use Rattle.papaya_histories.specs.Given.Effects.declared.role.Role.{Role}
-use Rattle.papaya_histories.specs.Given.Effects.declared.role.Role.TheVariants as role
-use Rattle.papaya_histories.specs.Given.Executor.IsAt.{Scene}
-use Rattle.papaya_histories.specs.Given.Executor.declared.executor.Executor.{Executor}
-use Rattle.papaya_histories.specs.Given.Follows.Steps.{TakesNone}
-use Rattle.papaya_histories.proofs.Given.Follows.Told.{roomed_as_many}
-use Rattle.papaya_histories.proofs.Given.Others.RowPlans.{TellsRow}
-use Rattle.papaya_histories.specs.Given.Moments.Whole.{ShowsWhole}
-use Rattle.papaya_owes.specs.Tables.{HoldsTable}
-use Rattle.papaya_reclaims.specs.Reclaims.{HasTaken, ReclaimingTold}
-use Rattle.papaya_reclaiming.specs.Reclaiming.{IsReclaiming, ReclaimingLeads}
+use Rattle.papaya_grows.specs.Given.SeizeWords.Mem.{Mem}
+use Rattle.papaya_grows.specs.Given.SeizeWords.Op.{Op, Out, Load, Store, Swap, Add, Or, Exchange, Make, Take, Rewrite, Room, Found, Exchanged, Made, Roomed}
+use Rattle.papaya_grows.specs.Given.SeizeWords.Plan.{Plan, Turn, Do, plan_as}
+use Rattle.papaya_grows.specs.Given.SeizeWords.Word.{block_in}
+use Rattle.papaya_grows.specs.Given.SeizeWords.declared.at.At.TheVariants.{Root, Used, Slot, Entry, Word}
+use Rattle.papaya_grows.specs.Given.Seize.Leave as leave
+use Rattle.papaya_grows.specs.Given.Seize.ReclaimAll as all
+use Rattle.papaya_grows.specs.Given.Seize.Settle as settle
+use Rattle.papaya_grows.specs.Given.Seize.Sequence.{taken_in}
+use Rattle.papaya_grows.specs.Given.Seize.World.{World}
+use Rattle.papaya_grows.specs.Given.Seize.declared.rows.leave.Leave.{Leave}
+use Rattle.papaya_grows.specs.Given.Seize.declared.rows.leave.Leaving.{Leaving}
+use Rattle.papaya_grows.specs.Given.Seize.declared.rows.leave.Leaving.TheVariants as leaving
+use Rattle.papaya_grows.specs.Given.Seize.declared.rows.reclaim_all.ReclaimAll.{ReclaimAll}
+use Rattle.papaya_grows.specs.Given.Seize.declared.rows.reclaim_all.Reclaiming.{Reclaiming}
+use Rattle.papaya_grows.specs.Given.Seize.declared.rows.reclaim_all.Reclaiming.TheVariants as at
+use Rattle.papaya_grows.specs.Given.Seize.declared.rows.settle.Settle.{Settle}
+use Rattle.papaya_grows.specs.Given.Seize.declared.rows.settle.Settled.{Settled}
+use Rattle.papaya_grows.specs.Given.Seize.declared.rows.settle.Settled.TheVariants as settled
+use Rattle.papaya_grows.specs.Given.Seize.declared.rows.settle.Settling.{Settling}
+use Rattle.papaya_grows.specs.Given.Seize.declared.rows.settle.Settling.TheVariants as settling
+use Rattle.papaya_grows.specs.Given.Tables.Nodes.{deferred_word, was_left}
+use Rattle.papaya_grows.specs.Given.Tables.declared.node.Node.{Node}
+use Rattle.papaya_grows.specs.Given.Schedules.declared.effect.Effect.TheVariants.{Reclaimed}
+use Rattle.papaya_grows.specs.Given.Schedules.declared.effect.Thing.{Thing}
+use Rattle.papaya_grows.specs.Given.Schedules.Moment.{Moment}
+use Rattle.papaya_grows.specs.Given.Tells.Seen.{seen_of}
+use Rattle.papaya_grows.specs.Given.Teller.Tells.{StepsTold, told_of}
+use Rattle.papaya_grows.specs.Given.Teller.declared.changed.Changed.{Changed}
+use Rattle.papaya_grows.specs.Given.Teller.declared.changed.Changed.TheVariants as changed
+use Rattle.papaya_grows.specs.Given.Callers.Together.{UnderWay}
+use Rattle.papaya_grows.specs.Given.Effects.Effects.{effects_of, known_after, named, names_same, taken_by}
+use Rattle.papaya_grows.specs.Given.Effects.Known.{Known}
+use Rattle.papaya_grows.specs.Given.Effects.declared.acting.Acting.TheVariants.{Row}
+use Rattle.papaya_grows.specs.Given.Effects.declared.role.Role.{Role}
+use Rattle.papaya_grows.specs.Given.Effects.declared.role.Role.TheVariants as role
+use Rattle.papaya_grows.specs.Given.Executor.IsAt.{Scene}
+use Rattle.papaya_grows.specs.Given.Executor.declared.executor.Executor.{Executor}
+use Rattle.papaya_grows.specs.Given.Follows.Steps.{TakesNone}
+use Rattle.papaya_grows.proofs.Given.Follows.Told.{roomed_as_many}
+use Rattle.papaya_grows.proofs.Given.Others.RowPlans.{TellsRow}
+use Rattle.papaya_grows.specs.Given.Moments.Whole.{ShowsWhole}
+use Rattle.papaya_grows.specs.Given.Owes.Tables.{HoldsTable}
+use Rattle.papaya_logged.specs.Given.Reclaims.Reclaims.{HasTaken, ReclaimingTold}
+use Rattle.papaya_logged.specs.Given.Reclaiming.Reclaiming.{IsReclaiming, ReclaimingLeads}
 use Rattle.papaya_logged.proofs.ReclaimGives.{GivesOr, reclaiming_gives, taken_gone}
 use Rattle.papaya_logged.proofs.ReclaimRows.{EmptiesRoot, reclaiming_tells}
 use Rattle.papaya_logged.proofs.ReclaimSteps.{left, no_call, nothing_there, root_none}
-use Rattle.papaya_kept.specs.Kept.{ShowsKept}
+use Rattle.papaya_grows.specs.Given.Kept.Kept.{ShowsKept}
 use Rattle.papaya_models.specs.Numbers.{things_of}
 use Rattle.papaya_models.proofs.RowSteps.{roles_after}
 

@@ -5,47 +5,47 @@ use Rattle.std.proofs.lemmas.Bool.{eq-eqb, ne_eqb}
 use Rattle.std.proofs.lemmas.Grind.{flat_map-append}
 use Rattle.std.proofs.lemmas.List.{append-nil}
 use Rattle.std.proofs.lemmas.List.Concat.{flat_map-cons}
-use Rattle.papaya_histories.specs.Given.SeizeWords.Mem.{value_at}
-use Rattle.papaya_histories.specs.Given.Seize.Law.{is_retired}
-use Rattle.papaya_histories.specs.Given.Seize.Sequence.{taken_in}
-use Rattle.papaya_histories.specs.Given.Seize.World.{World, times, with_at}
-use Rattle.papaya_histories.specs.Given.Seize.declared.rows.reclaim_all.ReclaimAll.{ReclaimAll}
-use Rattle.papaya_histories.specs.Given.Seize.declared.rows.settle.Settled.{Settled}
-use Rattle.papaya_histories.specs.Given.SeizeSets.Reclaims.{is_on_slots}
-use Rattle.papaya_histories.specs.Given.Tables.declared.node.Node.{Node}
-use Rattle.papaya_histories.specs.Given.Schedules.declared.effect.Effect.{Effect}
-use Rattle.papaya_histories.specs.Given.Schedules.declared.effect.Effect.TheVariants.{Reclaimed}
-use Rattle.papaya_histories.specs.Given.Schedules.declared.effect.Thing.{Thing}
-use Rattle.papaya_histories.specs.Given.Schedules.Effects.{with_effects}
-use Rattle.papaya_histories.specs.Given.Schedules.Lists.{is_among}
-use Rattle.papaya_histories.specs.Given.Schedules.Model.{thing_back}
-use Rattle.papaya_histories.specs.Given.Schedules.Moment.{GivenBack, Handed, Moment}
-use Rattle.papaya_histories.specs.Given.Schedules.Views.{behind as behind_table}
-use Rattle.papaya_histories.specs.Given.Teller.declared.changed.Changed.{Changed}
-use Rattle.papaya_histories.specs.Given.Teller.declared.changed.Changed.TheVariants as changed
-use Rattle.papaya_histories.proofs.Given.Callers.Together.At.{at_same}
-use Rattle.papaya_histories.specs.Given.Effects.Effects.{effects_of, known_after}
-use Rattle.papaya_histories.specs.Given.Effects.Known.{Known}
-use Rattle.papaya_histories.specs.Given.Effects.declared.acting.Acting.TheVariants.{Row}
-use Rattle.papaya_histories.specs.Given.Effects.declared.role.Role.{Role}
-use Rattle.papaya_histories.specs.Given.Effects.declared.role.Role.TheVariants as role
-use Rattle.papaya_histories.specs.Given.Executor.IsAt.{Scene}
-use Rattle.papaya_histories.specs.Given.Executor.declared.executor.Executor.{Executor}
-use Rattle.papaya_histories.specs.Given.Follows.Blocks.{HasRole}
-use Rattle.papaya_histories.specs.Given.Follows.Steps.{TakesNone}
-use Rattle.papaya_histories.proofs.Given.Follows.Alike.{put_elsewhere}
-use Rattle.papaya_histories.proofs.Given.Follows.Operations.{LeavesBy}
-use Rattle.papaya_histories.specs.Given.Moments.Whole.{ShowsWhole}
-use Rattle.papaya_histories.proofs.Given.Moments.OnSlots.{none_some}
-use Rattle.seize_reclaims.specs.Roots.{all_lists}
-use Rattle.papaya_reclaims.specs.Slots.{IsQuiet}
-use Rattle.papaya_reclaims.proofs.Slots.Facts.{nothing_left}
-use Rattle.papaya_reclaiming.specs.Reclaiming.{IsReclaiming, ReclaimingLeads}
+use Rattle.papaya_grows.specs.Given.SeizeWords.Mem.{value_at}
+use Rattle.papaya_grows.specs.Given.Seize.Law.{is_retired}
+use Rattle.papaya_grows.specs.Given.Seize.Sequence.{taken_in}
+use Rattle.papaya_grows.specs.Given.Seize.World.{World, times, with_at}
+use Rattle.papaya_grows.specs.Given.Seize.declared.rows.reclaim_all.ReclaimAll.{ReclaimAll}
+use Rattle.papaya_grows.specs.Given.Seize.declared.rows.settle.Settled.{Settled}
+use Rattle.papaya_grows.specs.Given.SeizeSets.Reclaims.{is_on_slots}
+use Rattle.papaya_grows.specs.Given.Tables.declared.node.Node.{Node}
+use Rattle.papaya_grows.specs.Given.Schedules.declared.effect.Effect.{Effect}
+use Rattle.papaya_grows.specs.Given.Schedules.declared.effect.Effect.TheVariants.{Reclaimed}
+use Rattle.papaya_grows.specs.Given.Schedules.declared.effect.Thing.{Thing}
+use Rattle.papaya_grows.specs.Given.Schedules.Effects.{with_effects}
+use Rattle.papaya_grows.specs.Given.Schedules.Lists.{is_among}
+use Rattle.papaya_grows.specs.Given.Schedules.Model.{thing_back}
+use Rattle.papaya_grows.specs.Given.Schedules.Moment.{GivenBack, Handed, Moment}
+use Rattle.papaya_grows.specs.Given.Schedules.Views.{behind as behind_table}
+use Rattle.papaya_grows.specs.Given.Teller.declared.changed.Changed.{Changed}
+use Rattle.papaya_grows.specs.Given.Teller.declared.changed.Changed.TheVariants as changed
+use Rattle.papaya_grows.proofs.Given.Callers.Together.At.{at_same}
+use Rattle.papaya_grows.specs.Given.Effects.Effects.{effects_of, known_after}
+use Rattle.papaya_grows.specs.Given.Effects.Known.{Known}
+use Rattle.papaya_grows.specs.Given.Effects.declared.acting.Acting.TheVariants.{Row}
+use Rattle.papaya_grows.specs.Given.Effects.declared.role.Role.{Role}
+use Rattle.papaya_grows.specs.Given.Effects.declared.role.Role.TheVariants as role
+use Rattle.papaya_grows.specs.Given.Executor.IsAt.{Scene}
+use Rattle.papaya_grows.specs.Given.Executor.declared.executor.Executor.{Executor}
+use Rattle.papaya_grows.specs.Given.Follows.Blocks.{HasRole}
+use Rattle.papaya_grows.specs.Given.Follows.Steps.{TakesNone}
+use Rattle.papaya_grows.proofs.Given.Follows.Alike.{put_elsewhere}
+use Rattle.papaya_grows.proofs.Given.Follows.Operations.{LeavesBy}
+use Rattle.papaya_grows.specs.Given.Moments.Whole.{ShowsWhole}
+use Rattle.papaya_grows.proofs.Given.Moments.OnSlots.{none_some}
+use Rattle.papaya_logged.specs.Given.SeizeReclaims.Roots.{all_lists}
+use Rattle.papaya_logged.specs.Given.Reclaims.Slots.{IsQuiet}
+use Rattle.papaya_logged.proofs.Given.Reclaims.Slots.Facts.{nothing_left}
+use Rattle.papaya_logged.specs.Given.Reclaiming.Reclaiming.{IsReclaiming, ReclaimingLeads}
 use Rattle.papaya_logged.proofs.ReclaimSteps.{left as leaves_there}
-use Rattle.papaya_kept.specs.Kept.{ShowsKept}
+use Rattle.papaya_grows.specs.Given.Kept.Kept.{ShowsKept}
 use Rattle.papaya_models.specs.Numbers.{things_of}
 use Rattle.papaya_models.proofs.OnSlots.{noted_still as still_noted}
-use Rattle.papaya_finds.specs.Orderly.{is_left_over}
+use Rattle.papaya_grows.specs.Given.Finds.Orderly.{is_left_over}
 use Rattle.papaya_legal.specs.AllEvents.{LeftIsBehind, TakesInTurn}
 use Rattle.papaya_legal.proofs.OfAll.Points.{first_taken, quiet_there, root_there, stays_off, takes_there}
 use Rattle.papaya_legal.proofs.OfAll.Tells.{HasDone, gone_by, has_done, it_reclaims, none_gone, noted_or_free, noted_still}

@@ -1,23 +1,23 @@
 -- Between the steps of calls: where a call begins, takes a reply, or goes on as a walk, and where none does, each copier makes a table as it is to make it.
 use Rattle.std.specs.Prelude.{◌≡◌, ℕ, Bool, Some}
 use Rattle.std.proofs.Common.{sym, subst, inl, inr}
-use Rattle.papaya_histories.specs.Given.Raw.Machine.{machine_asked, machine_replied}
-use Rattle.papaya_histories.specs.Given.Raw.declared.machines.asking.Reply.{Reply}
-use Rattle.papaya_histories.specs.Given.Raw.declared.machines.call.KeyCall.{KeyCall}
-use Rattle.papaya_histories.specs.Given.Raw.declared.machines.machine.Machine.{Machine}
-use Rattle.papaya_histories.specs.Given.Resize.declared.new_table.NewTable.{NewTable}
-use Rattle.papaya_histories.specs.Given.Schedules.Moment.{Moment}
-use Rattle.papaya_histories.specs.Given.Callers.OverAll.{CallOverAll}
-use Rattle.papaya_histories.specs.Given.Callers.Pairs.{Given}
-use Rattle.papaya_histories.specs.Given.Callers.Rooms.{CallForRoom}
-use Rattle.papaya_histories.specs.Given.Callers.Together.{Computes, Counting, ForRoom, Gets, Inserts, IsBegun, OnKey, OverAll, Removes, RemovesIf, TriesToInsert, TriesToInsertWith, UnderWay, Updates, UpdatesOrInserts}
-use Rattle.papaya_histories.specs.Given.Executor.Beginning.{Begins}
-use Rattle.papaya_histories.specs.Given.Executor.IsAt.{Scene, slot_of}
-use Rattle.papaya_histories.specs.Given.Executor.Replying.{scene_with}
-use Rattle.papaya_histories.specs.Given.Finishes.Machines.{machine_of}
-use Rattle.papaya_histories.specs.Given.Finishes.Maps.{Standing}
-use Rattle.papaya_histories.proofs.Given.Follows.Steps.{one_of}
-use Rattle.papaya_histories.proofs.Given.Hands.Asking.{which}
+use Rattle.papaya_purposes.specs.Given.Raw.Machine.{machine_asked, machine_replied}
+use Rattle.papaya_purposes.specs.Given.Raw.declared.machines.asking.Reply.{Reply}
+use Rattle.papaya_purposes.specs.Given.Raw.declared.machines.call.KeyCall.{KeyCall}
+use Rattle.papaya_purposes.specs.Given.Raw.declared.machines.machine.Machine.{Machine}
+use Rattle.papaya_purposes.specs.Given.Resize.declared.new_table.NewTable.{NewTable}
+use Rattle.papaya_purposes.specs.Given.Schedules.Moment.{Moment}
+use Rattle.papaya_purposes.specs.Given.Callers.OverAll.{CallOverAll}
+use Rattle.papaya_purposes.specs.Given.Callers.Pairs.{Given}
+use Rattle.papaya_purposes.specs.Given.Callers.Rooms.{CallForRoom}
+use Rattle.papaya_purposes.specs.Given.Callers.Together.{Computes, Counting, ForRoom, Gets, Inserts, IsBegun, OnKey, OverAll, Removes, RemovesIf, TriesToInsert, TriesToInsertWith, UnderWay, Updates, UpdatesOrInserts}
+use Rattle.papaya_purposes.specs.Given.Executor.Beginning.{Begins}
+use Rattle.papaya_purposes.specs.Given.Executor.IsAt.{Scene, slot_of}
+use Rattle.papaya_purposes.specs.Given.Executor.Replying.{scene_with}
+use Rattle.papaya_purposes.specs.Given.Finishes.Machines.{machine_of}
+use Rattle.papaya_purposes.specs.Given.Finishes.Maps.{Standing}
+use Rattle.papaya_purposes.proofs.Given.Follows.Steps.{one_of}
+use Rattle.papaya_purposes.proofs.Given.Hands.Asking.{which}
 use Rattle.papaya_grows.specs.Further.{CallMakes, IsFurther, MachineMakes, RoomMakes, ShowsFurther, SweepMakes, lengths_of}
 use Rattle.papaya_grows.proofs.Finding.Making.Lengths.{KeepsLengths}
 use Rattle.papaya_grows.proofs.Finding.Making.Machines.{asked_makes, reply_makes}

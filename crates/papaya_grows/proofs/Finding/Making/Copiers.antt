@@ -1,38 +1,38 @@
 -- A step of a copier makes a table as it was to make it, or begins to make one behind a table that has no place.
 use Rattle.std.specs.Prelude.{ℕ, ◌+◌, ◌-◌, ◌%◌, ◌^◌, ◌==◌, nat_lt, Bool, true, false, Ok, Err, if◌then◌else◌}
-use Rattle.papaya_histories.specs.Given.SeizeWords.Op.{Out, Found, Exchanged}
-use Rattle.papaya_histories.specs.Given.SeizeWords.Word.{block_in}
-use Rattle.papaya_histories.specs.Given.SeizeWords.declared.fault.Fault.{Fault}
-use Rattle.papaya_histories.specs.Given.Seize.declared.progress.Progress.{Progress}
-use Rattle.papaya_histories.specs.Given.Seize.declared.progress.Progress.TheVariants as progress
-use Rattle.papaya_histories.specs.Given.Seize.declared.rows.settle.Settle.{Settle}
-use Rattle.papaya_histories.specs.Given.Seize.declared.rows.settle.Settled.{Settled}
-use Rattle.papaya_histories.specs.Given.Seize.declared.rows.settle.Settled.TheVariants as settled
-use Rattle.papaya_histories.specs.Given.Seize.Settle.{settle_plan}
-use Rattle.papaya_histories.specs.Given.Tables.Chunks.{is_incremental}
-use Rattle.papaya_histories.specs.Given.Tables.Nodes.{deferred_word}
-use Rattle.papaya_histories.specs.Given.Tables.declared.lengths.Reason.TheVariants.{NoPlace}
-use Rattle.papaya_histories.specs.Given.Tables.declared.node.Node.{Node}
-use Rattle.papaya_histories.specs.Given.Tables.declared.probe.Probe.{Probe}
-use Rattle.papaya_histories.specs.Given.Tables.declared.setting.Setting.{Setting}
-use Rattle.papaya_histories.specs.Given.Tables.declared.status.TheConstants.Status.{ABORTED, PROMOTED}
-use Rattle.papaya_histories.specs.Given.Tables.declared.table.Table.{Table}
-use Rattle.papaya_histories.specs.Given.Resize.Copier.{copier_plan, plan_at}
-use Rattle.papaya_histories.specs.Given.Resize.CopierClaims.{claim_read, claimed, next_read, root_read, status_read}
-use Rattle.papaya_histories.specs.Given.Resize.CopierCounts.{counted, refusing}
-use Rattle.papaya_histories.specs.Given.Resize.CopierFurther.{further_read, grown, remade, replacement_read}
-use Rattle.papaya_histories.specs.Given.Resize.CopierMarks.{is_awaited, is_mine, marked}
-use Rattle.papaya_histories.specs.Given.Resize.CopierPlaces.{next_try, pair_put, place_read, put_told}
-use Rattle.papaya_histories.specs.Given.Resize.CopierPromotes.{promoted, retired, successor_read, table_retired}
-use Rattle.papaya_histories.specs.Given.Resize.CopierStates.{behind, copying_all, next_place, none_left, place_done, resting}
-use Rattle.papaya_histories.specs.Given.Resize.NewTable.{new_table_plan, table_after}
-use Rattle.papaya_histories.specs.Given.Resize.declared.copier.Copier.{Copier}
-use Rattle.papaya_histories.specs.Given.Resize.declared.copier.Copying.{Copying}
-use Rattle.papaya_histories.specs.Given.Resize.declared.copier.Copying.TheVariants as at
-use Rattle.papaya_histories.specs.Given.Resize.declared.new_table.NewTable.{NewTable}
-use Rattle.papaya_histories.specs.Given.Resize.declared.outcome.Outcome.{Outcome}
-use Rattle.papaya_histories.proofs.Given.Rule.Keys.Always.{Always, AlwaysOf, always_if, always_plan_as}
-use Rattle.papaya_finds.proofs.Shaping.{always_plan_more}
+use Rattle.papaya_purposes.specs.Given.SeizeWords.Op.{Out, Found, Exchanged}
+use Rattle.papaya_purposes.specs.Given.SeizeWords.Word.{block_in}
+use Rattle.papaya_purposes.specs.Given.SeizeWords.declared.fault.Fault.{Fault}
+use Rattle.papaya_purposes.specs.Given.Seize.declared.progress.Progress.{Progress}
+use Rattle.papaya_purposes.specs.Given.Seize.declared.progress.Progress.TheVariants as progress
+use Rattle.papaya_purposes.specs.Given.Seize.declared.rows.settle.Settle.{Settle}
+use Rattle.papaya_purposes.specs.Given.Seize.declared.rows.settle.Settled.{Settled}
+use Rattle.papaya_purposes.specs.Given.Seize.declared.rows.settle.Settled.TheVariants as settled
+use Rattle.papaya_purposes.specs.Given.Seize.Settle.{settle_plan}
+use Rattle.papaya_purposes.specs.Given.Tables.Chunks.{is_incremental}
+use Rattle.papaya_purposes.specs.Given.Tables.Nodes.{deferred_word}
+use Rattle.papaya_purposes.specs.Given.Tables.declared.lengths.Reason.TheVariants.{NoPlace}
+use Rattle.papaya_purposes.specs.Given.Tables.declared.node.Node.{Node}
+use Rattle.papaya_purposes.specs.Given.Tables.declared.probe.Probe.{Probe}
+use Rattle.papaya_purposes.specs.Given.Tables.declared.setting.Setting.{Setting}
+use Rattle.papaya_purposes.specs.Given.Tables.declared.status.TheConstants.Status.{ABORTED, PROMOTED}
+use Rattle.papaya_purposes.specs.Given.Tables.declared.table.Table.{Table}
+use Rattle.papaya_purposes.specs.Given.Resize.Copier.{copier_plan, plan_at}
+use Rattle.papaya_purposes.specs.Given.Resize.CopierClaims.{claim_read, claimed, next_read, root_read, status_read}
+use Rattle.papaya_purposes.specs.Given.Resize.CopierCounts.{counted, refusing}
+use Rattle.papaya_purposes.specs.Given.Resize.CopierFurther.{further_read, grown, remade, replacement_read}
+use Rattle.papaya_purposes.specs.Given.Resize.CopierMarks.{is_awaited, is_mine, marked}
+use Rattle.papaya_purposes.specs.Given.Resize.CopierPlaces.{next_try, pair_put, place_read, put_told}
+use Rattle.papaya_purposes.specs.Given.Resize.CopierPromotes.{promoted, retired, successor_read, table_retired}
+use Rattle.papaya_purposes.specs.Given.Resize.CopierStates.{behind, copying_all, next_place, none_left, place_done, resting}
+use Rattle.papaya_purposes.specs.Given.Resize.NewTable.{new_table_plan, table_after}
+use Rattle.papaya_purposes.specs.Given.Resize.declared.copier.Copier.{Copier}
+use Rattle.papaya_purposes.specs.Given.Resize.declared.copier.Copying.{Copying}
+use Rattle.papaya_purposes.specs.Given.Resize.declared.copier.Copying.TheVariants as at
+use Rattle.papaya_purposes.specs.Given.Resize.declared.new_table.NewTable.{NewTable}
+use Rattle.papaya_purposes.specs.Given.Resize.declared.outcome.Outcome.{Outcome}
+use Rattle.papaya_purposes.proofs.Given.Rule.Keys.Always.{Always, AlwaysOf, always_if, always_plan_as}
+use Rattle.papaya_purposes.proofs.Given.Finds.Shaping.{always_plan_more}
 use Rattle.papaya_grows.specs.Further.{CopierMakes}
 
 -- what it may begin to make is such a making

@@ -1,66 +1,66 @@
 -- A step after which a copier makes a table writes no root: what writes it makes none.
 use Rattle.std.specs.Prelude.{◌≡◌, ℕ, ◌+◌, ◌%◌, ◌^◌, ◌==◌, Bool, true, false, Some, Ok, Err, ◌⊎◌, if◌then◌else◌}
 use Rattle.std.proofs.Common.{refl, ap, sym, subst, ◌∙◌, inl, inr}
-use Rattle.papaya_histories.specs.Given.SeizeWords.Mem.{Gives, Mem, value_at, word_at}
-use Rattle.papaya_histories.specs.Given.SeizeWords.Op.{Exchanged, Found, Load, Made, Make, Out, Roomed, Stored, Taken}
-use Rattle.papaya_histories.specs.Given.SeizeWords.Plan.{Ends, Now, Plan, Seeing}
-use Rattle.papaya_histories.specs.Given.SeizeWords.Word.{block_in}
-use Rattle.papaya_histories.specs.Given.Seize.declared.progress.Progress.{Progress as Counting}
-use Rattle.papaya_histories.specs.Given.Seize.declared.progress.Progress.TheVariants as progress
-use Rattle.papaya_histories.specs.Given.Tables.Nodes.{table_seen}
-use Rattle.papaya_histories.specs.Given.Tables.TablePlaces.{at_word}
-use Rattle.papaya_histories.specs.Given.Tables.declared.lengths.Reason.TheVariants.{NoPlace}
-use Rattle.papaya_histories.specs.Given.Tables.declared.node.Node.{Node}
-use Rattle.papaya_histories.specs.Given.Tables.declared.node.Node.TheVariants as node
-use Rattle.papaya_histories.specs.Given.Tables.declared.table.Table.{Table}
-use Rattle.papaya_histories.specs.Given.Tables.declared.table_words.TheConstants.{NEXT, PLACES}
-use Rattle.papaya_histories.specs.Given.Resize.Copier as copiers
-use Rattle.papaya_histories.specs.Given.Resize.Copier.{copier_plan}
-use Rattle.papaya_histories.specs.Given.Resize.CopierFurther.{anew, grown, remade, replacement_read}
-use Rattle.papaya_histories.specs.Given.Resize.NewTable as tables
-use Rattle.papaya_histories.specs.Given.Resize.NewTable.{counted, new_table_plan, table_after}
-use Rattle.papaya_histories.specs.Given.Resize.Sum as sums
-use Rattle.papaya_histories.specs.Given.Resize.Sum.{sum_plan}
-use Rattle.papaya_histories.specs.Given.Resize.declared.copier.Copier.{Copier}
-use Rattle.papaya_histories.specs.Given.Resize.declared.copier.Copying.{Copying}
-use Rattle.papaya_histories.specs.Given.Resize.declared.copier.Copying.TheVariants as copying
-use Rattle.papaya_histories.specs.Given.Resize.declared.new_table.Making.{Making}
-use Rattle.papaya_histories.specs.Given.Resize.declared.new_table.Making.TheVariants as makes
-use Rattle.papaya_histories.specs.Given.Resize.declared.new_table.NewTable.{NewTable}
-use Rattle.papaya_histories.specs.Given.Resize.declared.outcome.Outcome.{Outcome}
-use Rattle.papaya_histories.specs.Given.Resize.declared.outcome.Outcome.TheVariants as outcome
-use Rattle.papaya_histories.specs.Given.Resize.declared.sum.Sum.{Sum}
-use Rattle.papaya_histories.specs.Given.Resize.declared.sum.Summing.{Summing}
-use Rattle.papaya_histories.specs.Given.Resize.declared.sum.Summing.TheVariants as summing
-use Rattle.papaya_histories.specs.Given.Reserves.Reserve as reserves
-use Rattle.papaya_histories.specs.Given.Reserves.Reserve.{reserve_plan}
-use Rattle.papaya_histories.specs.Given.Reserves.declared.reserve.Reserve.{Reserve}
-use Rattle.papaya_histories.specs.Given.Reserves.declared.reserve.Reserving.{Reserving}
-use Rattle.papaya_histories.specs.Given.Reserves.declared.reserve.Reserving.TheVariants as reserving
-use Rattle.papaya_histories.specs.Given.Sweeps.Sweep as sweeps_of
-use Rattle.papaya_histories.specs.Given.Sweeps.Sweep.{sweep_plan}
-use Rattle.papaya_histories.specs.Given.Sweeps.declared.sweep.Sweep.{Sweep}
-use Rattle.papaya_histories.specs.Given.Sweeps.declared.sweep.Sweeping.{Sweeping}
-use Rattle.papaya_histories.specs.Given.Sweeps.declared.sweep.Sweeping.TheVariants as sweeping
-use Rattle.papaya_histories.specs.Given.Sweeps.declared.sweep.Swept.{Swept}
-use Rattle.papaya_histories.specs.Given.Raw.Call as calls_of
-use Rattle.papaya_histories.specs.Given.Raw.Call.{call_plan, copied, helped}
-use Rattle.papaya_histories.specs.Given.Raw.Machine.{called as of_key, counted as of_sum, machine_plan, reserved as of_room, swept as of_sweep}
-use Rattle.papaya_histories.specs.Given.Raw.declared.machines.answer.Called.{Called}
-use Rattle.papaya_histories.specs.Given.Raw.declared.machines.call.Calling.{Calling}
-use Rattle.papaya_histories.specs.Given.Raw.declared.machines.call.Calling.TheVariants as calling
-use Rattle.papaya_histories.specs.Given.Raw.declared.machines.call.KeyCall.{KeyCall}
-use Rattle.papaya_histories.specs.Given.Raw.declared.machines.machine.Machine.{Machine}
-use Rattle.papaya_histories.specs.Given.Raw.declared.machines.machine.Machine.TheVariants as kinds
-use Rattle.papaya_histories.specs.Given.Raw.declared.machines.progress.Progress.{Progress}
-use Rattle.papaya_histories.specs.Given.Teller.Tells.{StepsTold, told_of}
-use Rattle.papaya_histories.specs.Given.Teller.declared.changed.Changed.{Changed}
-use Rattle.papaya_histories.specs.Given.Teller.declared.changed.Changed.TheVariants as changed
-use Rattle.papaya_histories.specs.Given.Tells.Seen.{seen_of}
-use Rattle.papaya_histories.proofs.Given.Rule.Keys.Always.{Always, AlwaysOf, always_ends, always_steps}
-use Rattle.papaya_histories.proofs.Given.Executor.Forgotten.{as_step}
-use Rattle.papaya_histories.proofs.Given.Others.Outcomes.{told_in}
-use Rattle.papaya_finds.proofs.Grown.{number_is}
+use Rattle.papaya_purposes.specs.Given.SeizeWords.Mem.{Gives, Mem, value_at, word_at}
+use Rattle.papaya_purposes.specs.Given.SeizeWords.Op.{Exchanged, Found, Load, Made, Make, Out, Roomed, Stored, Taken}
+use Rattle.papaya_purposes.specs.Given.SeizeWords.Plan.{Ends, Now, Plan, Seeing}
+use Rattle.papaya_purposes.specs.Given.SeizeWords.Word.{block_in}
+use Rattle.papaya_purposes.specs.Given.Seize.declared.progress.Progress.{Progress as Counting}
+use Rattle.papaya_purposes.specs.Given.Seize.declared.progress.Progress.TheVariants as progress
+use Rattle.papaya_purposes.specs.Given.Tables.Nodes.{table_seen}
+use Rattle.papaya_purposes.specs.Given.Tables.TablePlaces.{at_word}
+use Rattle.papaya_purposes.specs.Given.Tables.declared.lengths.Reason.TheVariants.{NoPlace}
+use Rattle.papaya_purposes.specs.Given.Tables.declared.node.Node.{Node}
+use Rattle.papaya_purposes.specs.Given.Tables.declared.node.Node.TheVariants as node
+use Rattle.papaya_purposes.specs.Given.Tables.declared.table.Table.{Table}
+use Rattle.papaya_purposes.specs.Given.Tables.declared.table_words.TheConstants.{NEXT, PLACES}
+use Rattle.papaya_purposes.specs.Given.Resize.Copier as copiers
+use Rattle.papaya_purposes.specs.Given.Resize.Copier.{copier_plan}
+use Rattle.papaya_purposes.specs.Given.Resize.CopierFurther.{anew, grown, remade, replacement_read}
+use Rattle.papaya_purposes.specs.Given.Resize.NewTable as tables
+use Rattle.papaya_purposes.specs.Given.Resize.NewTable.{counted, new_table_plan, table_after}
+use Rattle.papaya_purposes.specs.Given.Resize.Sum as sums
+use Rattle.papaya_purposes.specs.Given.Resize.Sum.{sum_plan}
+use Rattle.papaya_purposes.specs.Given.Resize.declared.copier.Copier.{Copier}
+use Rattle.papaya_purposes.specs.Given.Resize.declared.copier.Copying.{Copying}
+use Rattle.papaya_purposes.specs.Given.Resize.declared.copier.Copying.TheVariants as copying
+use Rattle.papaya_purposes.specs.Given.Resize.declared.new_table.Making.{Making}
+use Rattle.papaya_purposes.specs.Given.Resize.declared.new_table.Making.TheVariants as makes
+use Rattle.papaya_purposes.specs.Given.Resize.declared.new_table.NewTable.{NewTable}
+use Rattle.papaya_purposes.specs.Given.Resize.declared.outcome.Outcome.{Outcome}
+use Rattle.papaya_purposes.specs.Given.Resize.declared.outcome.Outcome.TheVariants as outcome
+use Rattle.papaya_purposes.specs.Given.Resize.declared.sum.Sum.{Sum}
+use Rattle.papaya_purposes.specs.Given.Resize.declared.sum.Summing.{Summing}
+use Rattle.papaya_purposes.specs.Given.Resize.declared.sum.Summing.TheVariants as summing
+use Rattle.papaya_purposes.specs.Given.Reserves.Reserve as reserves
+use Rattle.papaya_purposes.specs.Given.Reserves.Reserve.{reserve_plan}
+use Rattle.papaya_purposes.specs.Given.Reserves.declared.reserve.Reserve.{Reserve}
+use Rattle.papaya_purposes.specs.Given.Reserves.declared.reserve.Reserving.{Reserving}
+use Rattle.papaya_purposes.specs.Given.Reserves.declared.reserve.Reserving.TheVariants as reserving
+use Rattle.papaya_purposes.specs.Given.Sweeps.Sweep as sweeps_of
+use Rattle.papaya_purposes.specs.Given.Sweeps.Sweep.{sweep_plan}
+use Rattle.papaya_purposes.specs.Given.Sweeps.declared.sweep.Sweep.{Sweep}
+use Rattle.papaya_purposes.specs.Given.Sweeps.declared.sweep.Sweeping.{Sweeping}
+use Rattle.papaya_purposes.specs.Given.Sweeps.declared.sweep.Sweeping.TheVariants as sweeping
+use Rattle.papaya_purposes.specs.Given.Sweeps.declared.sweep.Swept.{Swept}
+use Rattle.papaya_purposes.specs.Given.Raw.Call as calls_of
+use Rattle.papaya_purposes.specs.Given.Raw.Call.{call_plan, copied, helped}
+use Rattle.papaya_purposes.specs.Given.Raw.Machine.{called as of_key, counted as of_sum, machine_plan, reserved as of_room, swept as of_sweep}
+use Rattle.papaya_purposes.specs.Given.Raw.declared.machines.answer.Called.{Called}
+use Rattle.papaya_purposes.specs.Given.Raw.declared.machines.call.Calling.{Calling}
+use Rattle.papaya_purposes.specs.Given.Raw.declared.machines.call.Calling.TheVariants as calling
+use Rattle.papaya_purposes.specs.Given.Raw.declared.machines.call.KeyCall.{KeyCall}
+use Rattle.papaya_purposes.specs.Given.Raw.declared.machines.machine.Machine.{Machine}
+use Rattle.papaya_purposes.specs.Given.Raw.declared.machines.machine.Machine.TheVariants as kinds
+use Rattle.papaya_purposes.specs.Given.Raw.declared.machines.progress.Progress.{Progress}
+use Rattle.papaya_purposes.specs.Given.Teller.Tells.{StepsTold, told_of}
+use Rattle.papaya_purposes.specs.Given.Teller.declared.changed.Changed.{Changed}
+use Rattle.papaya_purposes.specs.Given.Teller.declared.changed.Changed.TheVariants as changed
+use Rattle.papaya_purposes.specs.Given.Tells.Seen.{seen_of}
+use Rattle.papaya_purposes.proofs.Given.Rule.Keys.Always.{Always, AlwaysOf, always_ends, always_steps}
+use Rattle.papaya_purposes.proofs.Given.Executor.Forgotten.{as_step}
+use Rattle.papaya_purposes.proofs.Given.Others.Outcomes.{told_in}
+use Rattle.papaya_purposes.proofs.Given.Finds.Grown.{number_is}
 use Rattle.papaya_grows.specs.Further.{CallMakes, CopierMakes, MachineMakes, RoomMakes, SweepMakes}
 use Rattle.papaya_grows.proofs.Finding.Making.Calls as calls
 use Rattle.papaya_grows.proofs.Finding.Making.Calls.{CallEnds}

@@ -3,32 +3,32 @@ use Rattle.std.specs.Prelude.{◌≡◌, ℕ, ◌<◌, ◌≤◌, ◌==◌, ◌&
 use Rattle.std.specs.List.{AllByRecursion}
 use Rattle.std.proofs.Common.{refl, ap, sym, subst, ◌∙◌, arith, length-append}
 use Rattle.std.proofs.lemmas.List.Elements.{filter-append}
-use Rattle.papaya_histories.specs.Given.SeizeWords.declared.at.At.{At}
-use Rattle.papaya_histories.specs.Given.SeizeWords.declared.at.At.TheVariants.{Entry, Root, Slot, Used, Word}
-use Rattle.papaya_histories.specs.Given.Seize.declared.states.TheConstants.{FIRST}
-use Rattle.papaya_histories.specs.Given.Tables.declared.table_words.TheConstants.{DEFERRED, NEXT}
-use Rattle.papaya_histories.specs.Given.Schedules.declared.effect.Effect.{Effect}
-use Rattle.papaya_histories.specs.Given.Schedules.declared.effect.Effect.TheVariants as effect
-use Rattle.papaya_histories.specs.Given.Schedules.declared.effect.Growth.TheVariants.{ABucket}
-use Rattle.papaya_histories.specs.Given.Schedules.declared.effect.Spot.{Spot}
-use Rattle.papaya_histories.specs.Given.Schedules.declared.effect.Table.{Table}
-use Rattle.papaya_histories.specs.Given.Schedules.declared.effect.Thing.TheVariants.{APair, ATable}
-use Rattle.papaya_histories.specs.Given.Schedules.Effects.{at_stage, with_effect, with_effects}
-use Rattle.papaya_histories.specs.Given.Schedules.Growing.{HasNext}
-use Rattle.papaya_histories.specs.Given.Schedules.Moment.{IsReclaimed, IsRetired, IsTaken, MapThere, Moment, Stage, TableThere}
-use Rattle.papaya_histories.specs.Given.Schedules.Things.{same_table}
-use Rattle.papaya_histories.specs.Given.Schedules.Views.{first_of, first_or}
-use Rattle.papaya_histories.specs.Given.Teller.declared.changed.Changed.{Changed}
-use Rattle.papaya_histories.specs.Given.Teller.declared.changed.Changed.TheVariants as changed
-use Rattle.papaya_histories.specs.Given.Teller.declared.changed.Kind.{Kind}
-use Rattle.papaya_histories.specs.Given.Teller.declared.changed.Kind.TheVariants as kind
-use Rattle.papaya_histories.specs.Given.Effects.Effects.{batched, carried, effects_of, followed_by, in_block, in_table, is_place, made_by, named, names_same, placed, spot_at, taken_by, written_by}
-use Rattle.papaya_histories.specs.Given.Effects.Known.{Known}
-use Rattle.papaya_histories.specs.Given.Effects.declared.acting.Acting.{Acting}
-use Rattle.papaya_histories.specs.Given.Effects.declared.acting.Acting.TheVariants as acts
-use Rattle.papaya_histories.specs.Given.Effects.declared.role.Role.{Role}
-use Rattle.papaya_histories.specs.Given.Effects.declared.role.Role.TheVariants as role
-use Rattle.papaya_finds.proofs.Grown.{linked_as}
+use Rattle.papaya_purposes.specs.Given.SeizeWords.declared.at.At.{At}
+use Rattle.papaya_purposes.specs.Given.SeizeWords.declared.at.At.TheVariants.{Entry, Root, Slot, Used, Word}
+use Rattle.papaya_purposes.specs.Given.Seize.declared.states.TheConstants.{FIRST}
+use Rattle.papaya_purposes.specs.Given.Tables.declared.table_words.TheConstants.{DEFERRED, NEXT}
+use Rattle.papaya_purposes.specs.Given.Schedules.declared.effect.Effect.{Effect}
+use Rattle.papaya_purposes.specs.Given.Schedules.declared.effect.Effect.TheVariants as effect
+use Rattle.papaya_purposes.specs.Given.Schedules.declared.effect.Growth.TheVariants.{ABucket}
+use Rattle.papaya_purposes.specs.Given.Schedules.declared.effect.Spot.{Spot}
+use Rattle.papaya_purposes.specs.Given.Schedules.declared.effect.Table.{Table}
+use Rattle.papaya_purposes.specs.Given.Schedules.declared.effect.Thing.TheVariants.{APair, ATable}
+use Rattle.papaya_purposes.specs.Given.Schedules.Effects.{at_stage, with_effect, with_effects}
+use Rattle.papaya_purposes.specs.Given.Schedules.Growing.{HasNext}
+use Rattle.papaya_purposes.specs.Given.Schedules.Moment.{IsReclaimed, IsRetired, IsTaken, MapThere, Moment, Stage, TableThere}
+use Rattle.papaya_purposes.specs.Given.Schedules.Things.{same_table}
+use Rattle.papaya_purposes.specs.Given.Schedules.Views.{first_of, first_or}
+use Rattle.papaya_purposes.specs.Given.Teller.declared.changed.Changed.{Changed}
+use Rattle.papaya_purposes.specs.Given.Teller.declared.changed.Changed.TheVariants as changed
+use Rattle.papaya_purposes.specs.Given.Teller.declared.changed.Kind.{Kind}
+use Rattle.papaya_purposes.specs.Given.Teller.declared.changed.Kind.TheVariants as kind
+use Rattle.papaya_purposes.specs.Given.Effects.Effects.{batched, carried, effects_of, followed_by, in_block, in_table, is_place, made_by, named, names_same, placed, spot_at, taken_by, written_by}
+use Rattle.papaya_purposes.specs.Given.Effects.Known.{Known}
+use Rattle.papaya_purposes.specs.Given.Effects.declared.acting.Acting.{Acting}
+use Rattle.papaya_purposes.specs.Given.Effects.declared.acting.Acting.TheVariants as acts
+use Rattle.papaya_purposes.specs.Given.Effects.declared.role.Role.{Role}
+use Rattle.papaya_purposes.specs.Given.Effects.declared.role.Role.TheVariants as role
+use Rattle.papaya_purposes.proofs.Given.Finds.Grown.{linked_as}
 
 -- what was told is no writing of a root
 abbrev pub OffRoot : Changed → Type 0

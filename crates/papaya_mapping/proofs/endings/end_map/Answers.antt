@@ -4,7 +4,7 @@ use Rattle.seize_words.specs.declared.fault.Fault.TheVariants.{Busy}
 use Rattle.papaya_schedules.specs.After.{moment}
 use Rattle.papaya_schedules.specs.declared.event.Event.TheVariants.{EndMap}
 use Rattle.papaya_schedules.specs.declared.outcome.Outcome.TheVariants.{Refused}
-use Rattle.papaya_logged.proofs.KeptGiven.{given_on}
+use Rattle.papaya_scheduler.proofs.Given.Logged.KeptGiven.{given_on}
 use Rattle.papaya_scheduler.proofs.Busy.{none_quiet}
 use Rattle.papaya_scheduler.proofs.Backs.{none_came}
 use Rattle.papaya_scheduler.proofs.Maps.{stands_by}

@@ -1,10 +1,10 @@
 -- A map is made.
 use Rattle.std.proofs.Common.{◌≡◌, [], length, ap, inl, inr, sym, refl, subst, ◌∙◌, arith, rules}
 use Rattle.seize.specs.declared.progress.Progress.{Progress}
-use Rattle.papaya_histories.specs.Given.Tables.declared.setting.Setting.{Setting}
-use Rattle.papaya_logged.specs.Makings.{MakingRan, numbers_then}
-use Rattle.papaya_logged.specs.Roots.{MakingFinds}
-use Rattle.papaya_logged.proofs.KeptGiven.{stays_on}
+use Rattle.papaya_scheduler.specs.Given.Tables.declared.setting.Setting.{Setting}
+use Rattle.papaya_scheduler.specs.Given.Logged.Makings.{MakingRan, numbers_then}
+use Rattle.papaya_scheduler.specs.Given.Logged.Roots.{MakingFinds}
+use Rattle.papaya_scheduler.proofs.Given.Logged.KeptGiven.{stays_on}
 use Rattle.seize_words.specs.declared.fault.Fault.TheVariants.{Busy, RootsUsedUp}
 use Rattle.papaya_schedules.specs.After.{moment}
 use Rattle.papaya_schedules.specs.declared.event.Event.TheVariants.{MakeMap}

@@ -1,6 +1,6 @@
 -- An event is kept out, or happens by its kind.
 use Rattle.std.proofs.Common.{length, refl, sym, ap, ◌∙◌}
-use Rattle.papaya_histories.specs.Given.Executor.IsAt.{StaysGiven}
+use Rattle.papaya_events.specs.Given.Executor.IsAt.{StaysGiven}
 use Rattle.papaya_events.specs.Asked.{HappensAt}
 use Rattle.papaya_running.proofs.Counts.{calls_make_none, counts_still, out_counts, slots_make_none}
 use Rattle.papaya_running.proofs.Gives.{calls_reclaim_none, gave_in_turn, gave_none_if, gave_out}

@@ -1,7 +1,7 @@
 -- The call goes on, after the steps that it has taken, and has made nothing where growths are to be refused.
 use Rattle.std.specs.Prelude.{◌≡◌, ◌+◌, ℕ, List}
-use Rattle.papaya_histories.specs.Given.Executor.IsAt.{KeepsGiven}
-use Rattle.papaya_logged.specs.Calling.{MakesNoMore}
+use Rattle.papaya_scheduler.specs.Given.Executor.IsAt.{KeepsGiven}
+use Rattle.papaya_scheduler.specs.Given.Logged.Calling.{MakesNoMore}
 use Rattle.papaya_schedules.specs.Moment.{Moment}
 use Rattle.papaya_schedules.specs.Terms.{Terms}
 use Rattle.papaya_scheduler.specs.Played.{StandsFor}

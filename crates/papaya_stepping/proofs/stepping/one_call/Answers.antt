@@ -1,14 +1,14 @@
 -- A call without a name begins, and goes on, or does not begin.
 use Rattle.std.proofs.Common.{rules, ◌≡◌, Bool, true, false, refl, sym, subst, arith}
 use Rattle.std.proofs.lemmas.Result.{IfOk-weaker}
-use Rattle.papaya_histories.specs.Given.SeizeWords.declared.fault.Fault.TheVariants.{Busy}
+use Rattle.papaya_scheduler.specs.Given.SeizeWords.declared.fault.Fault.TheVariants.{Busy}
 use Rattle.papaya_runs.specs.Stopped.{most_steps}
 use Rattle.papaya_schedules.specs.After.{moment}
 use Rattle.papaya_schedules.specs.Entry.{nameless}
 use Rattle.papaya_schedules.specs.Views.{number_of}
 use Rattle.papaya_schedules.specs.declared.event.Event.TheVariants.{OneCall}
 use Rattle.papaya_schedules.specs.declared.outcome.Outcome.TheVariants.{Refused}
-use Rattle.papaya_logged.proofs.KeptGiven.{given_on}
+use Rattle.papaya_scheduler.proofs.Given.Logged.KeptGiven.{given_on}
 use Rattle.papaya_scheduler.specs.Played.{BeginsSo}
 use Rattle.papaya_stepping.specs.Stepping.{PlaysOn, StandsAt, TakenAs}
 use Rattle.papaya_stepping.proofs.PlaysWhole.{goes_first, map_there, plays_begun, whole_busy}

@@ -1,9 +1,9 @@
 -- A call takes one step.
 use Rattle.std.proofs.Common.{◌≡◌, sym, ap, subst}
-use Rattle.papaya_histories.specs.Given.Effects.Known.{known}
-use Rattle.papaya_histories.specs.Given.Executor.IsAt.{HasCall}
-use Rattle.papaya_logged.specs.Calling.{CallGoesOn}
-use Rattle.papaya_rows.proofs.Lists.{got_within}
+use Rattle.papaya_scheduler.specs.Given.Effects.Known.{known}
+use Rattle.papaya_scheduler.specs.Given.Executor.IsAt.{HasCall}
+use Rattle.papaya_scheduler.specs.Given.Logged.Calling.{CallGoesOn}
+use Rattle.papaya_scheduler.proofs.Given.Rows.Lists.{got_within}
 use Rattle.papaya_scheduler.proofs.KeptGiven.{given_as}
 use Rattle.papaya_stepping.specs.Stepping.{callers_then, outcome_of}
 use Rattle.papaya_stepping.proofs.stepping.take_step.Goals as goal

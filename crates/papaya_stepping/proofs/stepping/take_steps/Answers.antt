@@ -4,7 +4,7 @@ use Rattle.std.proofs.Common.{refl, sym, ap, subst, ◌∙◌}
 use Rattle.papaya_schedules.specs.Handing.{is_made}
 use Rattle.papaya_stepping.specs.Stepping.{StepsCome, TakenBy}
 use Rattle.papaya_scheduler.proofs.Here.{here_at}
-use Rattle.papaya_rows.proofs.Lists.{got_within}
+use Rattle.papaya_scheduler.proofs.Given.Rows.Lists.{got_within}
 use Rattle.papaya_stepping.proofs.stepping.take_steps.Goals as goal
 
 pub far_of-requires : goal.far_of-requires

@@ -1,14 +1,14 @@
 -- The next pair of a walk is shown, or that there is none.
 use Rattle.std.proofs.Common.{◌≡◌, [], refl, sym, subst, ◌∙◌}
-use Rattle.papaya_histories.specs.Given.SeizeWords.declared.fault.Fault.TheVariants.{Busy}
+use Rattle.papaya_scheduler.specs.Given.SeizeWords.declared.fault.Fault.TheVariants.{Busy}
 use Rattle.papaya_schedules.specs.After.{moment}
 use Rattle.papaya_schedules.specs.declared.event.Event.TheVariants.{Next}
 use Rattle.papaya_schedules.specs.declared.outcome.Outcome.TheVariants.{Refused}
-use Rattle.papaya_histories.specs.Given.Executor.IsAt.{HasCall}
-use Rattle.papaya_logged.proofs.KeptGiven.{given_on}
+use Rattle.papaya_scheduler.specs.Given.Executor.IsAt.{HasCall}
+use Rattle.papaya_scheduler.proofs.Given.Logged.KeptGiven.{given_on}
 use Rattle.papaya_scheduler.proofs.KeptGiven.{given_as}
-use Rattle.papaya_logged.specs.Calling.{WalkGoesOn}
-use Rattle.papaya_rows.proofs.Lists.{got_within}
+use Rattle.papaya_scheduler.specs.Given.Logged.Calling.{WalkGoesOn}
+use Rattle.papaya_scheduler.proofs.Given.Rows.Lists.{got_within}
 use Rattle.papaya_stepping.specs.Stepping.{MayWalk, PlaysNext, WalkComes}
 use Rattle.papaya_stepping.proofs.NextEnds.{asked_here, next_asked, next_busy, next_may, next_ready, plays_next, there}
 use Rattle.papaya_stepping.proofs.NextTook.{took_next}

@@ -2,11 +2,11 @@
 use Rattle.std.specs.Prelude.{suc, slice_get}
 use Rattle.std.proofs.Common.{◌+◌, refl, sym, ap, subst, ◌∙◌, arith}
 use Rattle.std.proofs.lemmas.List.{append-nil}
-use Rattle.papaya_histories.specs.Given.Executor.IsAt.{HasCall, IsAt}
-use Rattle.papaya_logged.proofs.KeptGiven.{given_on}
-use Rattle.papaya_logged.specs.Calling.{CallGoesOn}
-use Rattle.papaya_logged.specs.Shown.{IsShown}
-use Rattle.papaya_rows.proofs.Lists.{got_within}
+use Rattle.papaya_scheduler.specs.Given.Executor.IsAt.{HasCall, IsAt}
+use Rattle.papaya_scheduler.proofs.Given.Logged.KeptGiven.{given_on}
+use Rattle.papaya_scheduler.specs.Given.Logged.Calling.{CallGoesOn}
+use Rattle.papaya_scheduler.specs.Given.Logged.Shown.{IsShown}
+use Rattle.papaya_scheduler.proofs.Given.Rows.Lists.{got_within}
 use Rattle.papaya_stepping.proofs.NextOn.{logged_on, may_walk, mid_few, mid_first, mid_next}
 use Rattle.papaya_stepping.proofs.walking.walk_on.Goals as goal
 

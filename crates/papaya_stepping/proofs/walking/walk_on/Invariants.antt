@@ -1,6 +1,6 @@
 -- The walk goes over places, as many at least as it has taken steps, each of which just went on.
 use Rattle.std.specs.Prelude.{◌≡◌, ◌+◌, ℕ, List}
-use Rattle.papaya_histories.specs.Given.Executor.IsAt.{KeepsGiven}
+use Rattle.papaya_scheduler.specs.Given.Executor.IsAt.{KeepsGiven}
 use Rattle.papaya_schedules.specs.Moment.{Moment}
 use Rattle.papaya_schedules.specs.Terms.{Terms}
 use Rattle.papaya_scheduler.specs.Played.{StandsAs}

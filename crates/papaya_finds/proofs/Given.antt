@@ -1,0 +1,26 @@
+-- What is so by the crates below, given on to the crates above: these list this crate in place of those.
+pub use Rattle.papaya_settles.proofs.Given.SeizeWords
+pub use Rattle.papaya_settles.proofs.Given.SeizeWaiting
+pub use Rattle.papaya_settles.proofs.Given.SeizeMoves
+pub use Rattle.papaya_settles.proofs.Given.SeizeRule
+pub use Rattle.papaya_settles.proofs.Given.SeizeSets
+pub use Rattle.papaya_settles.proofs.Given.SeizeEnds
+pub use Rattle.papaya_settles.proofs.Given.SeizeAlone
+pub use Rattle.papaya_settles.proofs.Given.Tables
+pub use Rattle.papaya_settles.proofs.Given.Rule
+pub use Rattle.papaya_settles.proofs.Given.Points
+pub use Rattle.papaya_settles.proofs.Given.Late
+pub use Rattle.papaya_settles.proofs.Given.Tells
+pub use Rattle.papaya_settles.proofs.Given.Callers
+pub use Rattle.papaya_settles.proofs.Given.Finishes
+pub use Rattle.papaya_settles.proofs.Given.Runs
+pub use Rattle.papaya_settles.proofs.Given.Executor
+pub use Rattle.papaya_settles.proofs.Given.Follows
+pub use Rattle.papaya_settles.proofs.Given.Hands
+pub use Rattle.papaya_settles.proofs.Given.Others
+pub use Rattle.papaya_settles.proofs.Given.Spots
+pub use Rattle.papaya_settles.proofs.Given.Moments
+pub use Rattle.papaya_settles.proofs.Given.Histories
+pub use Rattle.papaya_named.proofs as Named
+pub use Rattle.papaya_owes.proofs as Owes
+pub use Rattle.papaya_settles.proofs as Settles

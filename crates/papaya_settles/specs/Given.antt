@@ -1,0 +1,29 @@
+-- The words of the crates below, given on to the crates above: these list this crate in place of those.
+pub use Rattle.papaya_histories.specs.Given.SeizeWords
+pub use Rattle.papaya_histories.specs.Given.Seize
+pub use Rattle.papaya_histories.specs.Given.SeizeWaiting
+pub use Rattle.papaya_histories.specs.Given.SeizeSets
+pub use Rattle.papaya_histories.specs.Given.SeizeEnds
+pub use Rattle.papaya_histories.specs.Given.SeizeAlone
+pub use Rattle.papaya_histories.specs.Given.Tables
+pub use Rattle.papaya_histories.specs.Given.Resize
+pub use Rattle.papaya_histories.specs.Given.Sweeps
+pub use Rattle.papaya_histories.specs.Given.Reserves
+pub use Rattle.papaya_histories.specs.Given.Raw
+pub use Rattle.papaya_histories.specs.Given.Rule
+pub use Rattle.papaya_histories.specs.Given.Points
+pub use Rattle.papaya_histories.specs.Given.Late
+pub use Rattle.papaya_histories.specs.Given.Tells
+pub use Rattle.papaya_histories.specs.Given.Teller
+pub use Rattle.papaya_histories.specs.Given.Callers
+pub use Rattle.papaya_histories.specs.Given.Finishes
+pub use Rattle.papaya_histories.specs.Given.Runs
+pub use Rattle.papaya_histories.specs.Given.Schedules
+pub use Rattle.papaya_histories.specs.Given.Effects
+pub use Rattle.papaya_histories.specs.Given.Executor
+pub use Rattle.papaya_histories.specs.Given.Follows
+pub use Rattle.papaya_histories.specs.Given.Hands
+pub use Rattle.papaya_histories.specs.Given.Others
+pub use Rattle.papaya_histories.specs.Given.Spots
+pub use Rattle.papaya_histories.specs.Given.Moments
+pub use Rattle.papaya_histories.specs as Histories
