@@ -25,7 +25,7 @@ use Rattle.papaya_settles.proofs.Given.Follows.Calls.{IsOfSame}
 use Rattle.papaya_finds.specs.Events.{ended_by, EndedOwesNone, BeginningsKeepPlaced, EventsKeepPlaced, BeginningsKeepTables, EventsKeepTables}
 use Rattle.papaya_finds.specs.Waiting.{owed_in, owed_by, AreApart}
 use Rattle.papaya_finds.proofs.Owed.{apart_still, all_owe, ended_owe_nothing}
-use Rattle.papaya_finds.proofs.OwedTables.{owed_still}
+use Rattle.papaya_finds.proofs.Owed.Tables.{owed_still}
 use Rattle.papaya_finds.proofs.Placed.{others_keep_placed}
 use Rattle.papaya_finds.proofs.Tables.{each_same, others_keep_tables}
 

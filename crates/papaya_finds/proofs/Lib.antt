@@ -15,7 +15,6 @@ pub mod Owed
 pub mod Counted
 pub mod Placed
 pub mod Life
-pub mod OwedTables
 pub mod Tables
 pub mod Orderly
 pub mod Somewhere

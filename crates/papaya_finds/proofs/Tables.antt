@@ -22,7 +22,7 @@ use Rattle.papaya_settles.proofs.Given.Spots.Unreclaimed.{table_is, same_itself}
 use Rattle.papaya_finds.specs.Tables.{is_owed_table, PassedIsOwed, WaitsBehindOne, TablesAreInOrder, FindsTables, EffectsKeepTables, OthersKeepTables}
 use Rattle.papaya_finds.proofs.Lists.{one_of_them, none_of_them, all_so, all_both}
 use Rattle.papaya_finds.proofs.Owed.{due_keeps}
-use Rattle.papaya_finds.proofs.OwedTables.{still_in, then_in, in_without, passed_in, owed_still, owed_now}
+use Rattle.papaya_finds.proofs.Owed.Tables.{still_in, then_in, in_without, passed_in, owed_still, owed_now}
 
 -- lists
 
