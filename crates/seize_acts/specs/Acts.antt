@@ -76,6 +76,10 @@ may_cut i (InUse o) = true
 may_cut i (Parting h) = h == i
 may_cut i _ = false
 
+-- no root names the block
+abbrev pub NoRootNames : {T : Type 0} → Mem T → ℕ → Type 0
+NoRootNames m b = (r word : ℕ) → word_at m (Root r) ≡ Some word → block_in word ≡ b → ⊥
+
 module _ {T : Type 0} (defers : T → Option ℕ) where
   -- a caller's row takes its next step
   abbrev pub row_steps : ℕ → Row → Grant → World T → Option (World T)
@@ -193,9 +197,6 @@ module _ {T : Type 0} (defers : T → Option ℕ) where
   abbrev pub MayTake : Op T → World T → Type 0
   MayTake (Take b) w = is_left (w.hand b) ≡ true → MayClear b w.log
   MayTake _ w = Unit {0}
-
-  abbrev pub NoRootNames : Mem T → ℕ → Type 0
-  NoRootNames m b = (r word : ℕ) → word_at m (Root r) ≡ Some word → block_in word ≡ b → ⊥
 
   -- And in the world that the act leaves: no root names a block that was unlinked, unless its owner has ended, whose root may lead there until it is taken
   -- away. A block is left over while no row is putting another one on its list, and with just the blocks that are on it.
