@@ -2,7 +2,7 @@
 use Rattle.std.specs.Prelude.{◌-◌, Option, Some, None}
 use Rattle.std.proofs.Common.{◌≡◌, ℕ, zero, suc, ◌+◌, ◌<◌, ◌≤◌, Bool, true, List, [], ◌∷◌, ◌++◌, length, map, inl, inr, refl, sym, ap, subst, ◌∙◌, arith}
 use Rattle.std.proofs.lemmas.List.{length-append}
-use Rattle.papaya_maps.specs.Given.SeizeWords.declared.at.At.TheVariants.{Entry, Word}
+use Rattle.papaya_maps.specs.Given.SeizeWords.declared.at.At.TheVariants.{Entry}
 use Rattle.papaya_maps.specs.Given.SeizeWords.Mem.{Mem, Took, value_at, word_at}
 use Rattle.papaya_maps.specs.Given.SeizeWords.Plan.{Steps}
 use Rattle.papaya_maps.specs.Given.Seize.declared.states.TheConstants.{NEXT}

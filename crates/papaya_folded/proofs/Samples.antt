@@ -1,5 +1,5 @@
 -- What the definitions of what calls hand over refuse.
-use Rattle.std.specs.Prelude.{◌≡◌, ℕ, ◌+◌, true, false, List, [], ◌∷◌, Some}
+use Rattle.std.specs.Prelude.{◌≡◌, ℕ, true, false, List, [], ◌∷◌, Some}
 use Rattle.std.proofs.Common.{refl, arith}
 use Rattle.papaya_histories.specs.Given.Tables.declared.resize_mode.ResizeMode.TheVariants.{Blocking}
 use Rattle.papaya_histories.specs.Given.Schedules.declared.call.Answer.TheVariants.{Completed}

@@ -3,6 +3,7 @@ pub mod Begin
 pub mod Uncounted
 pub mod Sourced
 pub mod Between
+pub mod BetweenMaps
 pub mod CallChanges
 pub mod CallPairs
 pub mod CallReads

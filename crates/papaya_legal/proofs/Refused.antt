@@ -38,7 +38,8 @@ use Rattle.papaya_legal.specs.Between.{IsLike}
 use Rattle.papaya_legal.specs.CallEvents.{IsLegalBut}
 use Rattle.papaya_legal.specs.Carried.{ComesAlone, ShowsRun}
 use Rattle.papaya_legal.specs.MapEvents.{InMakingEvent}
-use Rattle.papaya_legal.proofs.Between.{likes_show, makings_begin}
+use Rattle.papaya_legal.proofs.Between.{likes_show}
+use Rattle.papaya_legal.proofs.BetweenMaps.{makings_begin}
 use Rattle.papaya_legal.proofs.Growths.{growths_leave}
 use Rattle.papaya_legal.proofs.MapsOver.{making_events_follow}
 use Rattle.papaya_legal.proofs.Over.{reading_like, runs_go_on}
