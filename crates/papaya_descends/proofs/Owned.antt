@@ -72,7 +72,7 @@ module _ {K V : Type 0} (same : K → K → Bool) (batch_size i : ℕ) (w : Worl
         sym (ap (λ (l : List ℕ). map f.blocks.pair (pairs_of (is_incremental f.setting.mode) f.chart) ++ (l ++ f.setting.counter ∷ []))
         (tables_one f.blocks.table own.lists own2.lists f.chart.first (f.chart.past - f.chart.first) (λ u l k. lists_same u l (omega (arith, l, k)))))
 
-  Below : (w2 : World (Node K V)) (g : Finishing K V) → Own w2 g → Type 0
+  abbrev Below : (w2 : World (Node K V)) (g : Finishing K V) → Own w2 g → Type 0
   Below w2 g own2 = IsBelow (number_of_own own2.lists g w2.memory) (number_of_own own.lists f w.memory)
 
   -- where it goes on less is ahead, and where it reclaims a block fewer are to be reclaimed

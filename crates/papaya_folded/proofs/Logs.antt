@@ -102,7 +102,7 @@ module _ {K V : Type 0} where
       )
 
   all_fold : (log : List (Entry K V)) → AtEachEvent HandsInOrder log → Folds log
-  all_fold [] all own c is = absurd (cc is)
+  all_fold [] all = λ own c is. absurd (cc is)
   all_fold (e ∷ log) all = folds_on e log all.0 (all_fold log all.1)
 
   owes_none : (clear : Bool) (o : Outcome V) (c : CallThere K V) → clear ≡ true → LeavesOf clear o c → c.owes ≡ []
@@ -140,7 +140,7 @@ module _ {K V : Type 0} (terms : Terms) (moments : List (Moment K V)) (everythin
 pub deferrals_are_right : (K V : Type 0) → DeferralsAreRight K V
 deferrals_are_right K V terms log e life =
     let b = at_work e (moment log) in
-    let moments = moments_of log (acting (caller_of e.event) b) in
+    let moments = moments_of terms log (acting (caller_of e.event) b) in
     each_so (Finds terms (caller_of e.event) (acted_on e.event b) (gives_all e.event) moments)
     (λ v f. (n : ℕ) (t : Table) → f ≡ effect.Deferred n t → ByCall (λ c. MayDefer c.map v n t) (acting (caller_of e.event) v))
     (λ v f its. waits_there terms moments (gives_all e.event) (caller_of e.event) (acted_on e.event b) v f its) (caller_of e.event) (acted_on e.event b) e.effects b life.finds

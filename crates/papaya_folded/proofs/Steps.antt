@@ -75,7 +75,7 @@ module _ {K V : Type 0} (own : List ℕ) (acted : Option ℕ) where
 
 -- Events: one of a call hands over in order where its effects do, one of no call does, and so does one that does nothing.
 module _ {K V : Type 0} (log : List (Entry K V)) (e : Entry K V) where
-  b : Moment K V
+  abbrev b : Moment K V
   b = at_work e (moment log)
 
   pub event_in_order : (own : List ℕ) (map : ℕ) (beginning : Moment K V) → caller_of e.event ≡ Some own → at_work e (moment log) ≡ beginning → acted_on e.event beginning ≡ Some map
