@@ -25,7 +25,7 @@ module _ {K V : Type 0} (setting : Setting) (caller b : ℕ) (w : World (Node K 
     where
       by : (unlinkings b v2.log ≡ unlinkings b v.log) ⊎ IsUnlinkedBy deferred_word size b e v v2 → (unlinkings b v2.log ≡ unlinkings b v.log) ⊎ IsIts caller w c blocks b
       by (inl same) = inl same
-      by (inr (i, is, more)) = inr (subst (IsItsEvent setting caller w c blocks) is its)
+      by (inr (i, is, may, cut)) = inr (subst (IsItsEvent setting caller w c blocks) is its)
 
   its_or_same : (size : ℕ) (events : List (Event (Node K V))) (v v2 : World (Node K V)) → AllUsers events → AllIts setting caller w c blocks events → Runs deferred_word size events v v2
       → (unlinkings b v2.log ≡ unlinkings b v.log) ⊎ IsIts caller w c blocks b

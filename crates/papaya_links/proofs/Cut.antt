@@ -43,7 +43,7 @@ module _ {K V : Type 0} (same : K → K → Bool) (hash : K → ℕ) (w : World 
   due_incremental p copies.Announces (unlinked, done, none) b due = at_link unlinked.0 b p.source.link (ap (λ (x : Table). x.link) unlinked.2.is) due unlinked.4
   due_incremental p (copies.Succeeds table) (unlinked, done, none, is) b due =
       at_link unlinked.0 b p.source.link (ap (λ (x : Table). x.link) unlinked.2.is) (sym is ∙ due) unlinked.4
-  due_incremental p (copies.Retires settle rest) (s, low, to_retire, more) b due =
+  due_incremental p (copies.Retires settle rest) (s, low, to_retire, last, done, none, known) b due =
       at_link s b settle.pending (ap (λ (x : Settle). x.pending) to_retire.0) (ap (λ (x : Settle). x.pending) due) to_retire.1
   due_incremental p _ facts b due = absurd due
 
@@ -65,7 +65,7 @@ module _ {K V : Type 0} (same : K → K → Bool) (hash : K → ℕ) (w : World 
 
   -- nothing is ahead where no word names a table
   none_ahead : (word target b : ℕ) → word ≡ 0 → IsAhead c.past blocks.table word target b → IsCut b
-  none_ahead word target b none (first, next, more) = absurd (let named = next.named in let some = next.some in omega (arith, none, named, some))
+  none_ahead word target b none (first, next, u, from, before, at) = absurd (let named = next.named in let some = next.some in omega (arith, none, named, some))
 
   -- it comes to its own tables, from the one on that the word names
   ahead_cut : (s t word target : ℕ) → s < t → CutFrom s t → word ≡ blocks.table s * 2048 → target ≡ t → (b : ℕ) → IsAhead c.past blocks.table word target b → IsCut b

@@ -69,7 +69,7 @@ module _ {K V : Type 0} (same : K → K → Bool) (hash : K → ℕ) (fits : (k 
 
     -- So a table that may be looked at names the next one, or such a pair.
     pub table_names : (b : ℕ) → TableNames w.memory (blocks.table t) b → ((suc t < c.past) × (b ≡ blocks.table (suc t))) ⊎ HoldsPair c blocks t b
-    table_names b (len, limit, turn, field, value, link, word, there, block, some) = by link
+    table_names b (len, limit, turn, field, value, link, (word, there, block, some)) = by link
       where
         long : suc len ≡ c.len t
         long = same_len (value_at w.memory (blocks.table t)) (suc len) limit turn (c.len t) (c.limit t) t value shown.value

@@ -68,10 +68,10 @@ module _ {K Q : Type 0} (V : Type 0) (same : K → K → Bool) (asks : Q → K �
 
     hands_cut : (x : Copier) → OwesSo x → (b : ℕ) → IsToHandOver w maps m i x b → w.hand b ≡ Cutting i
     hands_cut x (inl (rests, cut)) b (inl (row, due)) = cut.due b due
-    hands_cut x (inl (rests, cut)) b (inr (r, is, later)) = let k = subst (Later x b) (one_some (maps m) r s is here) later in cut.ahead k.0 b k.1
+    hands_cut x (inl (rests, cut)) b (inr (r, is, blocking, ahead)) = let k = subst (Later x b) (one_some (maps m) r s is here) (blocking, ahead) in cut.ahead k.0 b k.1
     hands_cut x (inr (at_row, row, cut)) b (inl (rests, due)) = absurd (row_goes x.stands row (sym at_row ∙ rests))
-    hands_cut x (inr (at_row, row, cut)) b (inr (r, is, later)) =
-        let k = subst (Later x b) (one_some (maps m) r s is here) later in
+    hands_cut x (inr (at_row, row, cut)) b (inr (r, is, blocking, ahead)) =
+        let k = subst (Later x b) (one_some (maps m) r s is here) (blocking, ahead) in
         row_ahead same s.hash w i (in_slot s.setting (slot i)) s.chart (seen_by s.blocks (s.sights (slot i))) x x.stands row cut k.0 b k.1
 
     -- what is known of the copier within a call
@@ -168,6 +168,6 @@ module _ {K Q : Type 0} (V : Type 0) (same : K → K → Bool) (asks : Q → K �
 
   -- So what a call is to hand over some caller has unlinked, and has still.
   pub owed_cut : (enders : ℕ → Option (Finishing K V)) (b : ℕ) → IsOwed w maps calls enders b → (i : ℕ) × (w.hand b ≡ Cutting i)
-  owed_cut enders b (m, i, u, has, x, within, hands) =
+  owed_cut enders b (m, i, u, has, (x, within, hands)) =
       let there = stands_there m i u has (maps m) refl in
       (i, hands_cut m there.0 there.1 i x (owes_so m there.0 there.1 i u x within ((all.each m there.0 there.1).stand i u has)) b hands)

@@ -48,7 +48,7 @@ module _ {K V : Type 0} (size b : ℕ) (w : World (Node K V)) (r : Reached defer
   -- an end of a map takes a pair away, or leaves a table over
   pub deed_cut : (i : ℕ) (deed : Deed) (w2 : World (Node K V)) → Runs deferred_word size (events_of i deed) w w2 → IsCutOff b w w2
   deed_cut i Looks w2 runs = inl (ap (λ (x : World (Node K V)). unlinkings b x.log) runs)
-  deed_cut i (TakesPair c) w2 (v1, h1, v2, h2, v3, h3, e) = by (cases_eq b c)
+  deed_cut i (TakesPair c) w2 (v1, h1, (v2, h2, (v3, h3, e))) = by (cases_eq b c)
     where
       first : v1.log ≡ Unlinked c ∷ w.log
       first = ap (λ (x : World (Node K V)). x.log) h1.1
@@ -65,7 +65,7 @@ module _ {K V : Type 0} (size b : ℕ) (w : World (Node K V)) (r : Reached defer
       by : (b ≡ c) ⊎ (b ≢ c) → IsCutOff b w w2
       by (inl same) = inr (may_reach i c same h1.0, ap (reachable b) all ∙ ap is_somewhere (dropped_place b c c (LeftOver c [] ∷ Unlinked c ∷ w.log) (cut_place b c w.log same)))
       by (inr ne) = inl (ap (unlinkings b) all ∙ other_count b c w.log ne)
-  deed_cut i (LeavesTable c further) w2 (v1, h1, v2, h2, e) = by (cases_eq b c)
+  deed_cut i (LeavesTable c further) w2 (v1, h1, (v2, h2, e)) = by (cases_eq b c)
     where
       first : v1.log ≡ Unlinked c ∷ w.log
       first = ap (λ (x : World (Node K V)). x.log) h1.1

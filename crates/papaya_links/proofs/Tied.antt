@@ -1,6 +1,7 @@
 -- Where all stand together, and each block behind which something may be put is somebody's, whatever links lead to can be reached.
-use Rattle.std.specs.Prelude.{◌^◌, Option, Some}
-use Rattle.std.proofs.Common.{◌≡◌, ◌⊎◌, ℕ, zero, suc, ◌<◌, ◌≤◌, Bool, true, false, inl, inr, refl, arith, ap, sym, subst, ◌∙◌}
+use Rattle.std.specs.Prelude.{◌^◌, Option, Some, None}
+use Rattle.std.proofs.Common.{◌≡◌, ◌⊎◌, ℕ, zero, suc, ◌<◌, ◌≤◌, Bool, cond, true, false, inl, inr, refl, arith, ap, sym, subst, ◌∙◌}
+use Rattle.std.proofs.lemmas.Bool.{ne_eqb}
 use Rattle.papaya_executor.specs.Given.SeizeWords.Mem.{value_at}
 use Rattle.papaya_executor.specs.Given.Seize.Law.{Place, Nowhere, Standing as Stands, With, where_is, is_somewhere, reachable, is_over}
 use Rattle.papaya_executor.specs.Given.Seize.World.{World, times}
@@ -23,6 +24,10 @@ use Rattle.papaya_links.specs.Tied.{RootNames, TableNames, LeadBy, IsTied}
 use Rattle.papaya_links.proofs.Named.{HoldsPair, no_pair, root_first, table_names, pair_there}
 use Rattle.papaya_links.proofs.Owed.{owed_cut}
 use Rattle.papaya_links.proofs.Places.{standing_had, cut_nowhere, behind_no_list}
+
+-- a table that has places carries pairs
+has_list : (K V : Type 0) (len limit turn : ℕ) → deferred_word {K = K} {V = V} (node.Table (suc len) limit turn) ≡ Some DEFERRED
+has_list K V len limit turn = ap (λ (q : Bool). cond q None (Some DEFERRED)) (ne_eqb (suc len) 0 (λ e. omega (arith, e)))
 
 module _ {K Q : Type 0} (V : Type 0) (same : K → K → Bool) (asks : Q → K → Bool) (batch_size roots : ℕ) (slot : ℕ → ℕ)
     (w : World (Node K V)) (maps : ℕ → Option (Standing K)) (calls : ℕ → ℕ → Option (UnderWay K V Q)) (makers : ℕ → Option (Beginning K)) (enders : ℕ → Option (Finishing K V))
@@ -82,7 +87,7 @@ module _ {K Q : Type 0} (V : Type 0) (same : K → K → Bool) (asks : Q → K �
   module _ (theirs : AllAreTheirs w maps calls enders) where
     -- A table that stands is a linked one of a map, or it was over as its owner ended: what a call is to hand over does not stand.
     standing_table : (t len limit turn : ℕ) → where_is t w.log ≡ Stands → is_over t w.log ≡ false → value_at w.memory t ≡ Some (node.Table (suc len) limit turn) → IsLinkedTable w maps t
-    standing_table t len limit turn at over value = by (theirs t (standing_had deferred_word batch_size w reached t at, DEFERRED, node.Table (suc len) limit turn, value, refl))
+    standing_table t len limit turn at over value = by (theirs t (standing_had deferred_word batch_size w reached t at, DEFERRED, node.Table (suc len) limit turn, value, has_list K V len limit turn))
       where
         by : IsTheirs w maps calls enders t → IsLinkedTable w maps t
         by (inl linked) = linked
@@ -99,7 +104,7 @@ module _ {K Q : Type 0} (V : Type 0) (same : K → K → Bool) (asks : Q → K �
         by : (p : Place) → where_is t w.log ≡ p → IsLinkedTable w maps t
         by Nowhere at = absurd (let none = ap is_somewhere at in cc (there, none))
         by Stands at = standing_table t len limit turn at over value
-        by (With u) at = absurd (behind_no_list deferred_word batch_size w reached t u DEFERRED (node.Table (suc len) limit turn) at value refl)
+        by (With u) at = absurd (behind_no_list deferred_word batch_size w reached t u DEFERRED (node.Table (suc len) limit turn) at value (has_list K V len limit turn))
 
     pub is_tied : IsTied w maps
     is_tied b (inl (n, lead)) = (lead_linked n b lead).0

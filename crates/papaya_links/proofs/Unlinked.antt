@@ -164,7 +164,7 @@ module _ {T : Type 0} (defers : T → Option ℕ) (size b : ℕ) where
   pub users_cut : (events : List (Event T)) (w w2 : World T) → Reached defers size w → AllUsers events → Runs defers size events w w2
       → (unlinkings b w2.log ≡ unlinkings b w.log) ⊎ ((i : ℕ) × (w2.hand b ≡ Cutting i))
   users_cut [] w w2 r users runs = inl (ap (λ (x : World T). unlinkings b x.log) runs)
-  users_cut (e ∷ events) w w2 r users runs = by (user_event e w v users.0 runs.1)
+  users_cut (e ∷ events) w w2 r users runs = by (user_event e w v users.0 runs.1) (users_cut events v w2 r1 users.1 runs.2)
     where
       v : World T
       v = runs.0
@@ -177,9 +177,10 @@ module _ {T : Type 0} (defers : T → Option ℕ) (size b : ℕ) where
       then (inl same) e = inl (same ∙ e)
       then (inr cut) e = inr cut
 
-      by : (unlinkings b v.log ≡ unlinkings b w.log) ⊎ IsUnlinkedBy e w v → (unlinkings b w2.log ≡ unlinkings b w.log) ⊎ ((i : ℕ) × (w2.hand b ≡ Cutting i))
-      by (inl same) = then (users_cut events v w2 r1 users.1 runs.2) same
-      by (inr (i, is_it, may, cut)) = inr (i, hand_kept (Cutting i) tt events v w2 r1 users.1 runs.2 cut)
+      by : (unlinkings b v.log ≡ unlinkings b w.log) ⊎ IsUnlinkedBy e w v → (unlinkings b w2.log ≡ unlinkings b v.log) ⊎ ((i : ℕ) × (w2.hand b ≡ Cutting i))
+          → (unlinkings b w2.log ≡ unlinkings b w.log) ⊎ ((i : ℕ) × (w2.hand b ≡ Cutting i))
+      by (inl same) later = then later same
+      by (inr (i, is_it, may, cut)) later = inr (i, hand_kept (Cutting i) tt events v w2 r1 users.1 runs.2 cut)
 
   -- and it can't be reached then
   pub cut_unreached : (w : World T) → Reached defers size w → (i : ℕ) → w.hand b ≡ Cutting i → reachable b w.log ≡ false
