@@ -1,8 +1,4 @@
--- Whole calls: each step, and how the map rests at their end.
+-- Whole calls: what their steps change, and what of the map can be reached.
 pub mod LastsOn
 pub mod Changes
-pub mod Between
-pub mod Told
 pub mod Rests
-pub mod Leads
-pub mod Promised

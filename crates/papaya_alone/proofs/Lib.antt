@@ -4,7 +4,5 @@ pub mod Spared
 pub mod Shards
 pub mod Handed
 pub mod Values
-pub mod Rows
 pub mod Calls
 mod Samples
-pub mod Laws

@@ -6,6 +6,4 @@ pub mod Endings
 pub mod FactsAlone
 pub mod FactsAloneCalls
 pub mod Values
-pub mod WholeCalls
-pub mod LoneCalls
 pub mod Met

@@ -1,29 +1,6 @@
-//! What is promised of whole calls that run alone, and that those never wait.
+//! How many pairs the tries of a call meet that nobody interrupts, and what length of a table that comes to.
 ghost use Rattle.std.specs.Prelude.{ℕ, Bool};
-ghost use Rattle.papaya_alone.specs.WholeCalls.{CallsBeginAlone, CallsGoOnAlone, CallsEndAtRest};
-ghost use Rattle.papaya_alone.specs.LoneCalls.{NewMapsAreAlone, LoneCallsBegin, LoneCallsGoOn};
 ghost use Rattle.papaya_alone.specs.Met.{MetPairsAreFew, TriesMeetPairs, CallsMeetPairs, WordsSayWhatStands, GoesByTheCounterAlone};
-
-/// Over the memory of one owner, a call begins wherever the map rests and its slot is within a section. It may take each of its steps, those of
-/// the collector's rows that it begins included. At its end its answer tells the one change that it made since it began, or what is so where it
-/// made none, and a call that is refused made none. Meanwhile nothing is given back. Then the map rests again, and what the call could look at
-/// is there until its section ends. All blocks that were there are there with their values, and no others but those of the tables that it has
-/// linked and of its own pair where it has stored that; else it has handed the pair back, once. The shards of the counter say how many pairs the map
-/// has, where they did as the call began: it has counted its change, once.
-pub fn calls_run_alone<K, V, Q>()
-    ensures begins { (same : K → K → Bool) (hash : K → ℕ) (asks : Q → K → Bool) → CallsBeginAlone V same hash asks }
-    ensures steps { (same : K → K → Bool) (hash : K → ℕ) (asks : Q → K → Bool) → CallsGoOnAlone V same hash asks }
-    ensures rests { (same : K → K → Bool) (hash : K → ℕ) (asks : Q → K → Bool) → CallsEndAtRest V same hash asks }
-{}
-
-/// Over the memory of one owner, where no other caller has a part in a copying, no step of a call waits, in either mode, nor does one of the
-/// collector's rows that it begins. No caller has such a part before a map has a table, and a call that is alone leaves the others without one:
-/// at each of its steps, and once it has ended, for the next one.
-pub fn calls_never_wait<K, V, Q>()
-    ensures first { NewMapsAreAlone K }
-    ensures begins { (same : K → K → Bool) (hash : K → ℕ) (asks : Q → K → Bool) → LoneCallsBegin V same hash asks }
-    ensures steps { (same : K → K → Bool) (hash : K → ℕ) (asks : Q → K → Bool) → LoneCallsGoOn V same hash asks }
-{}
 
 /// The tries of a hash at a table are at different places, and a pair stands at one place of it. So at the last table they meet no more pairs than the
 /// map has. What a call has met is no more than that either, while nobody else changes the memory: it begins with none in each table, each word that

@@ -1,4 +1,4 @@
-//! Whole calls on one key of a map over a memory that has one owner: what they come to, and that they never wait.
+//! Calls on one key of a map whose copying nobody else has a part in: they never wait; and what they count, and how many pairs they meet.
 #![tactic(auto)]
 
 pub mod law;

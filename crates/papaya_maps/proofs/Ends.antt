@@ -1,7 +1,4 @@
--- A map that ends alone.
+-- How much is left of the end of a map, and that it comes to an end.
 pub mod BlocksFew
-mod Since
-pub mod Whole
 pub mod Lower
 pub mod ComesToEnd
-pub mod OthersRest

@@ -1,85 +1,22 @@
 -- What the laws promise, clause by clause, as far as crates above cite it in proofs.
 use Rattle.std.proofs.Common.{ℕ, Bool}
 use Rattle.papaya_maps.specs.EndingsBegins.{BeginningsLeaveLess}
-use Rattle.papaya_maps.specs.EndingsEnds.{EndsLeaveLess}
 use Rattle.papaya_maps.specs.Listed.{ListsAddUp, InOneOfTwo, FirstOrBehind, WaitsBehindTables, MarkedIsSettledOrOwn}
-use Rattle.papaya_maps.specs.LoneReserves.{LoneReservesBegin, LoneReservesGoOn}
-use Rattle.papaya_maps.specs.RestsOn.{RestsOnAsSlotsChange, RestsOnThroughCalls, RestsOnAsChosen, RestsAtEachSlot, RestsOnWhereSpared}
 use Rattle.papaya_maps.specs.FaultsBegins.{FreeRootsSuffice, MemoryAloneIsRefused}
-use Rattle.papaya_maps.specs.Spares.{SameSlotsAreKept, CallsSpareOthers, ReservationsSpareOthers}
 use Rattle.papaya_maps.specs.WholeBegins.{MapsBeginAlone, MapsGoOnAlone}
-use Rattle.papaya_maps.specs.WholeEnds.{EndsBeginAlone, EndsGoOnAlone, EndsGiveOnce}
-use Rattle.papaya_maps.specs.WholeReserves.{ReservationsGoOnAlone, ReservationsEndAtRest}
 use Rattle.papaya_alone.proofs.Lone.Copies.{settled_or_own}
 use Rattle.papaya_maps.proofs.Begins.Faults.{free_roots_suffice, memory_alone_is_refused}
 use Rattle.papaya_maps.proofs.Begins.Whole.{maps_begin_alone, maps_go_on_alone}
 use Rattle.papaya_finishes.proofs.Ends.CountedBlocks.{times-append, some_here, some_first, some_last, some_of_two, some_of_first}
-use Rattle.papaya_maps.proofs.Ends.Whole.{ends_begin_alone, ends_go_on_alone, ends_give_once}
 use Rattle.papaya_maps.proofs.Begins.ComesToEnd.{beginnings_leave_less}
-use Rattle.papaya_maps.proofs.Ends.ComesToEnd.{ends_leave_less}
 use Rattle.papaya_finishes.proofs.Ends.OrdersOn.{in_waits}
-use Rattle.papaya_maps.proofs.OtherMaps.Calls.{calls_spare_others}
-use Rattle.papaya_maps.proofs.OtherMaps.Plans.{slots_same}
-use Rattle.papaya_maps.proofs.OtherMaps.Reservations.{reservations_spare_others}
-use Rattle.papaya_maps.proofs.Reserves.Lone.{lone_reserves_begin, lone_reserves_go_on}
-use Rattle.papaya_maps.proofs.Reserves.Whole.{reservations_go_on_alone, reservations_end_at_rest}
-use Rattle.papaya_maps.proofs.Rests.On.{rests_on}
-use Rattle.papaya_maps.proofs.Rests.Promised.{rests_on_as_slots_change, rests_on_through_calls, rests_on_as_chosen, rests_at_each_slot}
-
-module _ {K Q : Type 0} (V : Type 0) (same : K → K → Bool) (hash : K → ℕ) (asks : Q → K → Bool) where
-  pub calls_spare_other_maps : CallsSpareOthers V same hash asks
-  calls_spare_other_maps = calls_spare_others V same hash asks
 
 module _ {K : Type 0} (V : Type 0) (same : K → K → Bool) (hash : K → ℕ) where
-  pub reservations_end_resting : ReservationsEndAtRest V same hash
-  reservations_end_resting = reservations_end_at_rest V same hash
-
-  pub reservations_begin_lone : LoneReservesBegin V same hash
-  reservations_begin_lone = lone_reserves_begin V same hash
-
-  pub reservations_go_on_lone : LoneReservesGoOn V same hash
-  reservations_go_on_lone = lone_reserves_go_on V same hash
-
-  pub reservations_go_on : ReservationsGoOnAlone V same hash
-  reservations_go_on = reservations_go_on_alone V same hash
-
-  pub reservations_spare_other_maps : ReservationsSpareOthers V same hash
-  reservations_spare_other_maps = reservations_spare_others V same hash
-
   pub maps_may_begin : MapsBeginAlone V same hash
   maps_may_begin = maps_begin_alone V same hash
 
   pub maps_go_on : MapsGoOnAlone V same hash
   maps_go_on = maps_go_on_alone V same hash
-
-  pub ends_may_begin : EndsBeginAlone V same hash
-  ends_may_begin = ends_begin_alone V same hash
-
-  pub ends_go_on : EndsGoOnAlone V same hash
-  ends_go_on = ends_go_on_alone V same hash
-
-  pub ends_come_nearer : EndsLeaveLess V same hash
-  ends_come_nearer = ends_leave_less V same hash
-
-  pub ends_give_each_once : EndsGiveOnce V same hash
-  ends_give_each_once = ends_give_once V same hash
-
-module _ {K V : Type 0} (same : K → K → Bool) (hash : K → ℕ) where
-  pub rests_as_slots_change : RestsOnAsSlotsChange V same hash
-  rests_as_slots_change = rests_on_as_slots_change same hash
-
-  pub rests_through_calls : RestsOnThroughCalls V same hash
-  rests_through_calls = rests_on_through_calls same hash
-
-  pub rests_as_chosen : RestsOnAsChosen V same hash
-  rests_as_chosen = rests_on_as_chosen same hash
-
-  pub rests_at_any_slot : RestsAtEachSlot V same hash
-  rests_at_any_slot = rests_at_each_slot same hash
-
-  pub rests_where_spared : RestsOnWhereSpared V same hash
-  rests_where_spared setting roots m m2 h h2 c blocks rests back spares had2 stays spared hand =
-      rests_on same hash setting roots m m2 h h2 c blocks rests back spares had2 stays spared hand
 
 pub lists_add_up : ListsAddUp
 lists_add_up = times-append
@@ -104,6 +41,3 @@ free_roots_are_enough = free_roots_suffice
 
 pub only_memory_is_refused : (K V : Type 0) → MemoryAloneIsRefused K V
 only_memory_is_refused = memory_alone_is_refused
-
-pub same_slots_are_kept : {T : Type 0} → SameSlotsAreKept T
-same_slots_are_kept = slots_same

@@ -2,7 +2,6 @@ pub mod Begins
 pub mod Reserves
 pub mod Rests
 pub mod Ends
-mod OtherMaps
 mod NextTables
 mod Samples
 pub mod Laws

@@ -12,8 +12,3 @@ pub mod Counted
 pub mod Sums
 mod Room
 pub mod AtRoot
-mod Values
-pub mod Retires
-pub mod Between
-pub mod Whole
-pub mod Lone

@@ -1,7 +1,2 @@
--- A map rests on while its collector is used otherwise.
-pub mod On
-mod NeverInSets
-mod NotWaiting
-mod CallsSpare
-pub mod Promised
+-- Where nobody else has a part in a copying, no pair is on its way.
 pub mod NoneMoves

@@ -1,15 +1,13 @@
--- What a map's end reclaims, and which retirements a map rests on by, on cases worked by hand.
+-- What the end of a map reclaims, and how it leaves the root, on cases worked by hand.
 use Rattle.std.specs.Prelude.{Some}
 use Rattle.std.proofs.Common.{◌≡◌, ℕ, true, false, [], ◌∷◌, refl}
 use Rattle.papaya_finishes.specs.Given.SeizeWords.declared.at.At.TheVariants.{Root, Used}
 use Rattle.papaya_finishes.specs.Given.SeizeWords.Mem.{Mem, word_at}
-use Rattle.papaya_finishes.specs.Given.Seize.World.{Hand, InUse, Retire}
 use Rattle.papaya_finishes.specs.Given.Tables.declared.setting.Setting.{Setting}
 use Rattle.papaya_finishes.specs.Given.Tables.declared.node.Node.{Node}
 use Rattle.papaya_finishes.specs.Given.Rule.Chart.{Still, Copied, Holds}
 use Rattle.papaya_finishes.specs.FactsEnds.{RootIs}
 use Rattle.papaya_finishes.specs.Orders.{pair_at, tables_in}
-use Rattle.papaya_maps.specs.RestsOn.{RetiresCut}
 
 -- a pair that a later table has is reclaimed there alone, bit by bit
 copied_elsewhere : pair_at true (Holds 7 Copied false) ≡ []
@@ -27,10 +25,6 @@ deferred_first table = refl
 
 deferred_waits : (table : ℕ → ℕ) → tables_in table (λ t. 9 ∷ 8 ∷ []) false 0 2 ≡ table 0 ∷ table 1 ∷ []
 deferred_waits table = refl
-
--- wrong: a block is retired beside a map that its caller has not unlinked
-retired_in_use : (hand : ℕ → Hand) → hand 5 ≡ InUse 0 → RetiresCut (Retire 0 5) hand → ⊥
-retired_in_use hand used cut = cc (used, cut)
 
 module _ {K V : Type 0} where
   -- wrong: a root stays in use behind which nothing waits

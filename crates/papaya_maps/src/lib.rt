@@ -1,4 +1,4 @@
-//! A map over a memory that has one owner: how it begins, makes room, rests while its collector is used otherwise, and ends.
+//! A map over a memory that has one owner: how it begins, what reservations keep to, and that its end comes to an end.
 #![tactic(auto)]
 
 pub mod law;

@@ -22,7 +22,7 @@ use Rattle.papaya_schedules.specs.Beginning.{at_work, begun, with_call}
 use Rattle.papaya_schedules.specs.Effects.{call_by, new_pair, place_by, stored_by, with_effect, with_effects, worked, AtEachEffect}
 use Rattle.papaya_schedules.specs.Entry.{ByCall, Entry, acted_on, acting, caller_of, is_busy, nameless}
 use Rattle.papaya_schedules.specs.Handing.{moments_of, gives_all, AllFind}
-use Rattle.papaya_schedules.specs.Linearizable.{ActsOf, ActsRight, Changes, ChangesOnce, IsLinearizable, MayRemove, RemovesOnly, shift_of, there_for}
+use Rattle.papaya_schedules.specs.Linearizable.{ActsOf, Changes, ChangesOnce, IsLinearizable, MayRemove, RemovesOnly, shift_of, there_for}
 use Rattle.papaya_schedules.specs.Lists.{is_among, put}
 use Rattle.papaya_schedules.specs.Lives.{CallFinds, Finds}
 use Rattle.papaya_schedules.specs.Growing.{only_looks}

@@ -1,21 +1,14 @@
 -- What a call has changed since it was begun, and what it has answered, after one step more.
 use Rattle.std.proofs.Common.{◌≡◌, ◌≢◌, ℕ, suc, ◌+◌, ◌≤◌, ◌<◌, Bool, true, false, cond, eqb, ◌⊎◌, inl, inr, refl, arith, ap, sym, subst, ◌∙◌}
 use Rattle.std.proofs.lemmas.Bool.{cases_lt, eq-eqb, ne_eqb}
-use Rattle.papaya_callers.specs.Given.SeizeWords.Word.{link_word}
-use Rattle.papaya_callers.specs.Given.Seize.World.{World}
 use Rattle.papaya_callers.specs.Given.Tables.Chunks.{is_incremental}
-use Rattle.papaya_callers.specs.Given.Tables.declared.node.Node.{Node}
 use Rattle.papaya_callers.specs.Given.Tables.declared.setting.Setting.{Setting}
-use Rattle.papaya_callers.specs.Given.Raw.declared.machines.answer.KeyAnswer.{KeyAnswer}
-use Rattle.papaya_callers.specs.Given.Raw.declared.machines.answer.KeyAnswer.TheVariants as answers
 use Rattle.papaya_callers.specs.Given.Rule.Chart.{Chart, put}
 use Rattle.papaya_callers.specs.Given.Rule.Rule.{Rule}
 use Rattle.papaya_callers.specs.Given.Rule.Lasts.{Lasts}
-use Rattle.papaya_callers.specs.Given.Rule.Words.{Blocks, mark_bits, byte_of}
 use Rattle.papaya_callers.specs.Given.Rule.Maps.{spot_of, IsAbsent, IsPair}
-use Rattle.papaya_callers.specs.Given.Rule.InWorld.{Moved, SameBlocks, IsMapIn}
-use Rattle.papaya_callers.specs.Given.Points.FactsCalls.{Change, Unchanged, Stored, Replaced, Removed, AnswersOf, Changes}
-use Rattle.papaya_callers.proofs.Given.Rule.World.Hands.{current_known}
+use Rattle.papaya_callers.specs.Given.Rule.InWorld.{Moved}
+use Rattle.papaya_callers.specs.Given.Points.FactsCalls.{Change, Unchanged, Stored, Replaced, Removed, Changes}
 use Rattle.papaya_alone.specs.Alone.{HasChanged, pairs_stored}
 use Rattle.papaya_callers.proofs.Rows.Known.{moved_makes}
 use Rattle.papaya_alone.proofs.Calls.LastsOn.{lasts_on}
@@ -139,38 +132,3 @@ module _ {K : Type 0} (same : K → K → Bool) (hash : K → ℕ) (setting : Se
           lasts = lasts_on same (spot_of hash) (is_incremental setting.mode) c0 c c2 past.lasts lasts;
           stored = (let one = stored_on same hash setting keys c c2 rule rule2 moved lasts change2 told.1 in let none = before.stored in omega (arith, one, none));
         }
-
--- blocks stay where they are
-pub blocks_on : {K : Type 0} (c0 c : Chart K) (blocks0 blocks blocks2 : Blocks) → c0.past ≤ c.past → c0.stored ≤ c.stored → SameBlocks c0 blocks0 blocks → SameBlocks c blocks blocks2
-    → SameBlocks c0 blocks0 blocks2
-blocks_on c0 c blocks0 blocks blocks2 past stored f g = record {
-  tables = λ t made known. (let k = f.tables t made known in let l = g.tables t (omega (arith, made, past)) k.1 in (l.0 ∙ k.0, l.1));
-  pairs = λ n was known. (let k = f.pairs n was known in let l = g.pairs n (omega (arith, was, stored)) k.1 in (l.0 ∙ k.0, l.1));
-  tables_back = λ t made known. f.tables_back t made (g.tables_back t (omega (arith, made, past)) known);
-  pairs_back = λ n was known. f.pairs_back n was (g.pairs_back n (omega (arith, was, stored)) known);
-}
-
-module _ {K V Q : Type 0} (same : K → K → Bool) (hash : K → ℕ) (asks : Q → K → Bool) (caller : ℕ) (setting : Setting) (keys : K → Bool)
-    (w w2 : World (Node K V)) (c c2 : Chart K) (blocks blocks2 : Blocks) (map : IsMapIn same hash setting w c blocks)
-    (lasts : Lasts same (spot_of hash) (is_incremental setting.mode) c c2) (current : c2.current ≡ c.current) (same_blocks : SameBlocks c blocks blocks2) where
-  is_now : (n : ℕ) → c2.current n ≡ c.current n
-  is_now n = ap (λ (f : ℕ → Bool). f n) current
-
-  -- what is so stays so
-  pub answers_last : (change change2 : Change) (answer : KeyAnswer) → AnswersOf same hash asks w caller setting c blocks keys change answer → AnswersOf same hash asks w2 caller setting c2 blocks2 keys change2 answer
-  answers_last change change2 (answers.Found word) (n, phase, borrowed, (e, k, key, asked), is) =
-      let known = current_known same hash setting w c blocks map.map.rule map.map.shows n e in
-      let here = same_blocks.pairs n known.0 known.1 in (
-        n,
-        phase,
-        borrowed,
-        (is_now n ∙ e, k, lasts.keys n known.0 ∙ key, asked),
-        is ∙ ap (λ (b : ℕ). link_word b (byte_of hash (c.key n)) (mark_bits phase borrowed)) (sym here.0)
-            ∙ ap (λ o. link_word (blocks2.pair n) (byte_of hash o) (mark_bits phase borrowed)) (sym (lasts.keys n known.0)),
-      )
-  answers_last change change2 answers.Absent absent = λ n k e key.
-      (let was : c.current n ≡ true = sym (is_now n) ∙ e in
-      absent n k was (sym (lasts.keys n (current_known same hash setting w c blocks map.map.rule map.map.shows n was).0) ∙ key))
-  answers_last change change2 (answers.Stored word) h = absurd h
-  answers_last change change2 (answers.Replaced old new) h = absurd h
-  answers_last change change2 (answers.Removed word) h = absurd h

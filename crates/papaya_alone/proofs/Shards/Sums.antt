@@ -8,11 +8,10 @@ use Rattle.papaya_callers.specs.Given.SeizeWords.declared.at.At.TheVariants.{Wor
 use Rattle.papaya_callers.specs.Given.SeizeWords.Mem.{Mem, same_at, word_at, with_word}
 use Rattle.papaya_callers.proofs.Given.SeizeWords.OneOwner.AfterWrites.{word_at-with_word}
 use Rattle.papaya_callers.specs.Given.Tables.declared.setting.Setting.{Setting}
-use Rattle.papaya_callers.specs.Given.Rule.Chart.{Chart}
 use Rattle.papaya_callers.specs.Given.Rule.Rule.{total}
 use Rattle.papaya_callers.proofs.Given.Rule.Moves.Totals.{total_same}
 use Rattle.papaya_callers.proofs.Given.Rule.Words.WritesWords.{is_some_of}
-use Rattle.papaya_alone.specs.Counting.{number_in, shards_sum, IsCounted}
+use Rattle.papaya_alone.specs.Counting.{number_in, shards_sum}
 use Rattle.papaya_alone.specs.Counted.{HasAdded}
 
 -- a sum in which one item is another one
@@ -63,11 +62,6 @@ module _ {T : Type 0} (m m2 : Mem T) where
       → shards_sum m2 counter shards ≡ shards_sum m counter shards
   shards_words counter shards words =
       total_same number_in (λ shard. word_at m (Word counter shard)) (λ shard. word_at m2 (Word counter shard)) shards (λ shard l. ap number_in (words shard l))
-
-  -- they say how many pairs a map has, where they did
-  pub counted_same : {K : Type 0} (setting : Setting) (c : Chart K) → ((shard : ℕ) → word_at m2 (Word setting.counter shard) ≡ word_at m (Word setting.counter shard))
-      → IsCounted setting m c → IsCounted setting m2 c
-  counted_same setting c words was = ap (λ (x : ℕ). x % 2 ^ 64) (shards_words setting.counter (suc setting.mask) (λ shard l. words shard)) ∙ was
 
   -- so much is added to one of them
   pub shards_added : (counter shards k by old : ℕ) → k < shards → word_at m (Word counter k) ≡ Some old → word_at m2 (Word counter k) ≡ Some ((old + by) % 2 ^ 64)

@@ -1,68 +1,68 @@
--- The end of a map that runs alone comes to its end.
-use Rattle.std.proofs.Common.{◌≡◌, ℕ, zero, suc, ◌+◌, ◌^◌, ◌<◌, ◌≤◌, Bool, List, ◌∷◌, ◌++◌, [], arith}
+-- The end of a map that owns its collector comes to its end.
+use Rattle.std.specs.Prelude.{Option}
+use Rattle.std.proofs.Common.{◌≡◌, ℕ, zero, suc, ◌+◌, ◌^◌, ◌<◌, ◌≤◌, Bool, true, [], ◌∷◌, ◌++◌, refl, ap, subst, ◌∙◌, arith}
 use Rattle.papaya_finishes.specs.Given.SeizeWords.Mem.{Mem, Took, value_at}
 use Rattle.papaya_finishes.specs.Given.SeizeWords.Plan.{Steps}
-use Rattle.papaya_finishes.specs.Given.SeizeAlone.Alone.{History, at_rest}
+use Rattle.papaya_finishes.specs.Given.Seize.World.{World}
 use Rattle.papaya_finishes.specs.Given.Seize.declared.rows.settle.Settled.{Settled}
 use Rattle.papaya_finishes.specs.Given.Seize.declared.rows.settle.Settled.TheVariants as settled
 use Rattle.papaya_finishes.specs.Given.Raw.EndMap.{end_map_plan}
-use Rattle.papaya_finishes.specs.Given.Tables.Nodes.{deferred_word}
 use Rattle.papaya_finishes.specs.Given.Tables.declared.node.Node.{Node}
-use Rattle.papaya_finishes.specs.Given.Tables.declared.setting.Setting.{Setting}
 use Rattle.papaya_finishes.specs.Given.Raw.declared.machines.end_map.EndMap.{EndMap}
-use Rattle.papaya_finishes.specs.Given.Rule.Chart.{Chart}
-use Rattle.papaya_finishes.specs.Given.Points.Steps.{AreLawful}
-use Rattle.papaya_finishes.specs.Given.Rule.Words.{Blocks}
-use Rattle.papaya_maps.specs.AloneEnds.{deferred_by, IsEnding, EndsTo}
+use Rattle.papaya_finishes.specs.Given.Callers.Together.{UnderWay}
+use Rattle.papaya_finishes.specs.Endings.{Finishing}
+use Rattle.papaya_finishes.specs.FactsEnds.{Deed}
+use Rattle.papaya_finishes.specs.Makings.{Beginning}
+use Rattle.papaya_finishes.specs.Maps.{Standing}
+use Rattle.papaya_finishes.specs.Owners.{OwnEnding, OwnEndingTold}
+use Rattle.papaya_finishes.proofs.Among.Owners.{own_endings_stand}
 use Rattle.papaya_alone.specs.Endings.{runs_end}
-use Rattle.papaya_maps.specs.EndingsEnds.{HasMore, ComesToAnEnd, EndsOfMapsEnd, EndsLeaveLess}
+use Rattle.papaya_maps.specs.EndingsEnds.{HasMore, ComesToAnEnd, OwnEndingsEnd}
 use Rattle.papaya_maps.specs.MeasuresEnds.{most_blocks, tables_left, steps_left, end_map_left}
-use Rattle.papaya_maps.specs.WholeEnds.{CanEnd}
-use Rattle.papaya_maps.proofs.Ends.Whole.{stood, goes_on}
 use Rattle.papaya_maps.proofs.Ends.Lower.{fits_in_one, end_falls}
 
-module _ {K : Type 0} (V : Type 0) (same : K → K → Bool) (hash : K → ℕ) (are : AreLawful same hash) (setting : Setting) (roots : ℕ) (m0 : Mem (Node K V)) (h0 : History) (c : Chart K) (blocks : Blocks)
-    (owns : Bool) (can : CanEnd V same hash setting owns roots m0 h0 c blocks) where
-  abbrev Ending : EndMap → Mem (Node K V) → History → List (Node K V) → Type 0
-  Ending e m h given = IsEnding hash setting roots c blocks owns m0 h0 e m h given
+module _ {K Q : Type 0} (V : Type 0) (same : K → K → Bool) (asks : Q → K → Bool) (batch_size roots : ℕ) (slot : ℕ → ℕ) (maps : ℕ → Option (Standing K)) (calls : ℕ → ℕ → Option (UnderWay K V Q))
+    (makers : ℕ → Option (Beginning K)) (enders : ℕ → Option (Finishing K V)) where
+  abbrev Own : World (Node K V) → ℕ → Finishing K V → Type 0
+  Own w i f = OwnEnding V same asks batch_size roots slot maps calls makers enders w i f
 
-  fits : (e : EndMap) (m : Mem (Node K V)) (h : History) (given : List (Node K V)) → Ending e m h given
-      → (tables_left m e e.stands ≤ most_blocks m) × (steps_left m e e.stands < most_blocks m + 2 ^ 49)
-  fits e m h given now =
-      fits_in_one same hash are setting c blocks (deferred_by setting.batch_size h0 blocks) owns 0 (at_rest deferred_word m0 h0) (stood V same hash are setting roots m0 h0 c blocks owns can)
-      (at_rest deferred_word m h) e now.facts.past now.back now.facts.facts
+  fits : (w : World (Node K V)) (i : ℕ) (f : Finishing K V) → Own w i f → (tables_left w.memory f.machine f.machine.stands ≤ most_blocks w.memory) × (steps_left w.memory f.machine f.machine.stands < most_blocks w.memory + 2 ^ 49)
+  fits w i f own =
+      let k = own.facts in
+      fits_in_one same f.hash k.lawful f.setting f.chart f.blocks k.lists true i f.began k.stood w f.machine k.past f.back k.facts
 
-  -- where a step is not the last, the map is ending still, and the number is lower
-  end_map_falls : (e : EndMap) (m : Mem (Node K V)) (h : History) (given : List (Node K V)) → Ending e m h given → (m2 : Mem (Node K V)) (e2 : EndMap) (told : Settled (Node K V)) → HasMore told
-      → Steps Took value_at m (end_map_plan e) m2 (e2, told) → ((h2 : History) × (given2 : List (Node K V)) × Ending e2 m2 h2 given2) × (end_map_left m2 e2 < end_map_left m e)
-  end_map_falls e m h given now m2 e2 told more s = by told more s ((goes_on V same hash are setting roots m0 h0 c blocks owns can e m h given now).1 m2 e2 told s)
-    where
-      falls : (q : Settled (Node K V)) → HasMore q → (q ≡ settled.Waits → ⊥) → Steps Took value_at m (end_map_plan e) m2 (e2, q) → (h2 : History) (given2 : List (Node K V)) → Ending e2 m2 h2 given2
-          → ((h2 : History) × (given2 : List (Node K V)) × Ending e2 m2 h2 given2) × (end_map_left m2 e2 < end_map_left m e)
-      falls q more2 other st h2 given2 now2 = (
-        (h2, given2, now2),
-        end_falls same hash are setting c blocks (deferred_by setting.batch_size h0 blocks) owns 0 (at_rest deferred_word m0 h0) (stood V same hash are setting roots m0 h0 c blocks owns can)
-            (at_rest deferred_word m h) e now.facts.past now.back now.facts.facts (goes_on V same hash are setting roots m0 h0 c blocks owns can e m h given now).0 m2 e2 q more2 other st (fits e2 m2 h2 given2 now2),
-      )
+  -- where a step is not the last, the map is ending still
+  next : (w w2 : World (Node K V)) (i : ℕ) (f : Finishing K V) (deed : Deed) (e2 : EndMap) (told : Settled (Node K V)) → HasMore told
+      → OwnEndingTold V same asks batch_size roots slot maps calls makers enders w i f w2 deed (e2, told) → (told ≡ settled.Waits → ⊥) × (g : Finishing K V) × Own w2 i g × (g.machine ≡ e2)
+  next w w2 i f deed e2 settled.Goes more at = (λ e. cc e, record f { machine = e2 }, at.1, refl)
+  next w w2 i f deed e2 settled.Waits more none = absurd none
+  next w w2 i f deed e2 (settled.Gave value) more at = (λ e. cc e, record f { machine = e2; back = f.back ++ at.0 ∷ [] }, at.3, refl)
+  next w w2 i f deed e2 settled.Done more over = absurd more
 
-      by : (q : Settled (Node K V)) → HasMore q → Steps Took value_at m (end_map_plan e) m2 (e2, q) → EndsTo hash setting roots c blocks owns m0 h0 e2 m2 given q
-          → ((h2 : History) × (given2 : List (Node K V)) × Ending e2 m2 h2 given2) × (end_map_left m2 e2 < end_map_left m e)
-      by settled.Goes more2 st (h2, now2) = falls settled.Goes more2 (λ e. cc e) st h2 given now2
-      by settled.Waits more2 st none = absurd none
-      by (settled.Gave value) more2 st (h2, now2) = falls (settled.Gave value) more2 (λ e. cc e) st h2 (given ++ value ∷ []) now2
-      by settled.Done more2 st over = absurd more2
+  -- and the number is lower
+  falls : (w : World (Node K V)) (i : ℕ) (f : Finishing K V) → Own w i f → (m2 : Mem (Node K V)) (e2 : EndMap) (told : Settled (Node K V)) → HasMore told → Steps Took value_at w.memory (end_map_plan f.machine) m2 (e2, told)
+      → (w2 : World (Node K V)) × (g : Finishing K V) × Own w2 i g × (g.machine ≡ e2) × (w2.memory ≡ m2) × (end_map_left m2 e2 < end_map_left w.memory f.machine)
+  falls w i f own m2 e2 told more s =
+      let stand = own_endings_stand V same asks batch_size roots slot maps calls makers enders w i f own in
+      let did = stand.1 m2 (e2, told) s in
+      let on = next w did.w2 i f did.deed e2 told more did.told in
+      let few : (tables_left m2 e2 e2.stands ≤ most_blocks m2) × (steps_left m2 e2 e2.stands < most_blocks m2 + 2 ^ 49) =
+      subst (λ (e : EndMap). (tables_left m2 e e.stands ≤ most_blocks m2) × (steps_left m2 e e.stands < most_blocks m2 + 2 ^ 49)) on.3
+      (subst (λ (m : Mem (Node K V)). (tables_left m on.1.machine on.1.machine.stands ≤ most_blocks m) × (steps_left m on.1.machine on.1.machine.stands < most_blocks m + 2 ^ 49)) did.memory (fits did.w2 i on.1 on.2)) in
+      let k = own.facts in
+      let lower = end_falls same f.hash k.lawful f.setting f.chart f.blocks k.lists true i f.began k.stood w f.machine k.past f.back k.facts stand.0 m2 e2 told more on.0 s few in
+      (did.w2, on.1, on.2, on.3, did.memory, lower)
 
   -- by the descent of its number
-  within : (k : ℕ) (e : EndMap) (m : Mem (Node K V)) (h : History) (given : List (Node K V)) → Ending e m h given → end_map_left m e < k → ComesToAnEnd e m
-  within zero e m h given now less = absurd (omega (arith, less))
-  within (suc k) e m h given now less = runs_end (e, m) (λ y s.
-      let t = end_map_falls e m h given now y.1 y.0 s.0 s.1 s.2 in
-      let fewer = t.1 in
-      within k y.0 y.1 t.0.0 t.0.1 t.0.2 (omega (arith, less, fewer)))
+  within : (k : ℕ) (w : World (Node K V)) (i : ℕ) (f : Finishing K V) → Own w i f → end_map_left w.memory f.machine < k → ComesToAnEnd f.machine w.memory
+  within zero w i f own less = absurd (omega (arith, less))
+  within (suc k) w i f own less = runs_end (f.machine, w.memory) (λ y s.
+      let t = falls w i f own y.1 y.0 s.0 s.1 s.2 in
+      let fewer = t.5 in
+      let left : end_map_left t.0.memory t.1.machine ≡ end_map_left y.1 y.0 = ap (λ (m : Mem (Node K V)). end_map_left m t.1.machine) t.4 ∙ ap (λ (e : EndMap). end_map_left y.1 e) t.3 in
+      subst (λ (e : EndMap). ComesToAnEnd e y.1) t.3
+      (subst (λ (m : Mem (Node K V)). ComesToAnEnd t.1.machine m) t.4 (within k t.0 i t.1 t.2 (omega (arith, less, fewer, left)))))
 
-pub ends_of_maps_end : {K : Type 0} (V : Type 0) (same : K → K → Bool) (hash : K → ℕ) → EndsOfMapsEnd V same hash
-ends_of_maps_end V same hash are setting roots m0 h0 c blocks owns can e m h given now =
-    within V same hash are setting roots m0 h0 c blocks owns can (suc (end_map_left m e)) e m h given now (omega arith)
-
-pub ends_leave_less : {K : Type 0} (V : Type 0) (same : K → K → Bool) (hash : K → ℕ) → EndsLeaveLess V same hash
-ends_leave_less V same hash are setting roots m0 h0 c blocks owns can e m h given now m2 e2 s = (end_map_falls V same hash are setting roots m0 h0 c blocks owns can e m h given now m2 e2 s.0 s.1 s.2).1
+pub own_endings_end : {K Q : Type 0} (V : Type 0) (same : K → K → Bool) (asks : Q → K → Bool) (batch_size roots : ℕ) (slot : ℕ → ℕ) → OwnEndingsEnd V same asks batch_size roots slot
+own_endings_end V same asks batch_size roots slot maps calls makers enders w i f own =
+    within V same asks batch_size roots slot maps calls makers enders (suc (end_map_left w.memory f.machine)) w i f own (omega arith)

@@ -33,9 +33,9 @@ use Rattle.papaya_finishes.specs.Given.Points.Told.{SumTold}
 use Rattle.papaya_finishes.proofs.Given.Rule.Keys.Always.{Always, AlwaysOf, always_if, always_plan_as, always_steps}
 use Rattle.papaya_finishes.proofs.Given.Points.Making.Sum.{told_sum}
 use Rattle.papaya_finishes.proofs.Given.Rule.World.WentWrote.{counter_of}
-use Rattle.papaya_alone.specs.Counting.{pairs_in, shards_sum, count_ahead, IsCounted}
+use Rattle.papaya_alone.specs.Counting.{shards_sum, count_ahead}
 use Rattle.papaya_finishes.specs.Given.Late.FactsReserves.{ReservingFacts, ReserveFacts}
-use Rattle.papaya_maps.specs.AloneReserves.{HasRoom, SumsUp, ReservingAlone}
+use Rattle.papaya_maps.specs.AloneReserves.{SumsUp}
 use Rattle.papaya_maps.proofs.Reserves.Sums.{Ahead, sum_ahead}
 
 -- a counting has only begun
@@ -87,14 +87,6 @@ module _ (K V : Type 0) (p : Reserve) where
     on_next table need (Made r) = (self, tt)
     on_next table need (Taken value) = (self, tt)
     on_next table need (Roomed r) = (self, tt)
-
-small : (n : ℕ) → n ≤ 2 ^ 53 → count_in n ≡ n
-small n l = grind (arith, l)
-
--- what was counted are the pairs of the map, where the shards say so
-pub room_for : {K T : Type 0} (setting : Setting) (m : Mem T) (c : Chart K) (counted : Type 0) → pairs_in c ≤ 2 ^ 53 → (counted → IsCounted setting m c) → (additional count : ℕ)
-    → needed additional count ≤ c.len c.first → count ≡ count_in (shards_sum m setting.counter (suc setting.mask) % 2 ^ 64) → HasRoom counted c additional
-room_for setting m c counted few counts additional count places is = (count, places, λ k. is ∙ ap count_in (counts k) ∙ small (pairs_in c) few)
 
 module _ {K V : Type 0} (same : K → K → Bool) (hash : K → ℕ) (setting : Setting) (w : World (Node K V)) (c : Chart K) (blocks : Blocks) (map : IsMapIn same hash setting w c blocks)
     (t : ℕ) (p : Reserve) (f : ReserveFacts same hash w 0 setting c blocks p) (m2 : Mem (Node K V)) (end : Reserve × Outcome (Node K V) Unit) where
@@ -177,11 +169,6 @@ module _ {K V : Type 0} (same : K → K → Bool) (hash : K → ℕ) (setting : 
   CountsRoot (at.Sums table sum) = (table.turn ≡ c.first) × (t ≡ c.first)
   CountsRoot at.Over = ⊥
   CountsRoot _ = Unit {0}
-
-  pub counts_root : (stage : Reserving) → ReservingAlone setting c blocks p.additional stage t → CountsRoot stage
-  counts_root (at.Sums table sum) alone = alone
-  counts_root at.Over alone = alone
-  counts_root _ alone = tt
 
   pub sums_on : CountsRoot p.stands → SumsUp setting w.memory p.stands → Steps Took value_at w.memory (reserve_plan hash p) m2 end → SumsTo end
   sums_on root had s = by p.stands refl f.point root had s

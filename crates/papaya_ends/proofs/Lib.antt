@@ -1,3 +1,0 @@
-mod Calls
-mod Reserves
-mod Samples

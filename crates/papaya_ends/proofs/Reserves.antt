@@ -1,3 +1,0 @@
--- Reservations come to their ends.
-mod Rows
-pub mod Whole
