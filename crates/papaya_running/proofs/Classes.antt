@@ -69,17 +69,17 @@ elsewhere map false to at out is = is
 
 fewer_places : (acted : Option ℕ) (deferred : List Deferral) (f : Effect) (place : ℕ → Place) (map n : ℕ) → stores f ≡ false → is_in_map map (place_by acted deferred f place n) ≡ true
     → is_in_map map (place n) ≡ true
-fewer_places acted deferred (effect.Stored k s) place map n no is = absurd (cc no)
-fewer_places acted deferred (effect.Replaced k) place map n no is = elsewhere map (n == k) Out (place n) refl is
-fewer_places acted deferred (effect.Removed k) place map n no is = elsewhere map (n == k) Out (place n) refl is
-fewer_places acted deferred (effect.Retired (APair k)) place map n no is = elsewhere map (n == k) Handed (place n) refl is
-fewer_places acted deferred (effect.Retired (ATable t)) place map n no is = is
-fewer_places acted deferred (effect.Deferred k t) place map n no is = elsewhere map (n == k) Behind (place n) refl is
-fewer_places acted deferred (effect.Reclaimed (APair k)) place map n no is = elsewhere map (n == k) GivenBack (place n) refl is
-fewer_places acted deferred (effect.Reclaimed (ATable t)) place map n no is = elsewhere map (is_among n (behind t deferred)) Handed (place n) refl is
-fewer_places acted deferred (effect.Ended k) place map n no is = elsewhere map (n == k) GivenBack (place n) refl is
-fewer_places acted deferred (effect.Taken t) place map n no is = elsewhere map (is_among n (behind t deferred)) Left (place n) refl is
-fewer_places acted deferred _ place map n no is = is
+fewer_places acted deferred (effect.Stored k s) place map n none is = absurd (cc none)
+fewer_places acted deferred (effect.Replaced k) place map n none is = elsewhere map (n == k) Out (place n) refl is
+fewer_places acted deferred (effect.Removed k) place map n none is = elsewhere map (n == k) Out (place n) refl is
+fewer_places acted deferred (effect.Retired (APair k)) place map n none is = elsewhere map (n == k) Handed (place n) refl is
+fewer_places acted deferred (effect.Retired (ATable t)) place map n none is = is
+fewer_places acted deferred (effect.Deferred k t) place map n none is = elsewhere map (n == k) Behind (place n) refl is
+fewer_places acted deferred (effect.Reclaimed (APair k)) place map n none is = elsewhere map (n == k) GivenBack (place n) refl is
+fewer_places acted deferred (effect.Reclaimed (ATable t)) place map n none is = elsewhere map (is_among n (behind t deferred)) Handed (place n) refl is
+fewer_places acted deferred (effect.Ended k) place map n none is = elsewhere map (n == k) GivenBack (place n) refl is
+fewer_places acted deferred (effect.Taken t) place map n none is = elsewhere map (is_among n (behind t deferred)) Left (place n) refl is
+fewer_places acted deferred _ place map n none is = is
 
 -- what a meaning stores is one value, or none
 one_value : {V : Type 0} (m : Meaning V) → (value_put m ≡ []) ⊎ ((v : V) × (value_put m ≡ v ∷ []))
@@ -91,10 +91,10 @@ one_value Wants = inl refl
 
 module _ {K V : Type 0} where
   stored_still : (o : Option (UnderWay K V)) (f : Effect) (stored : List (K × V)) → stores f ≡ false → stored_by o f stored ≡ stored
-  stored_still (Some c) (effect.Stored n s) stored no = absurd (cc no)
-  stored_still None (effect.Stored n s) stored no = refl
-  stored_still (Some c) _ stored no = refl
-  stored_still None _ stored no = refl
+  stored_still (Some c) (effect.Stored n s) stored none = absurd (cc none)
+  stored_still None (effect.Stored n s) stored none = refl
+  stored_still (Some c) _ stored none = refl
+  stored_still None _ stored none = refl
 
   -- what begins has no part in it
   abbrev Same : Moment K V → Moment K V → Type 0
@@ -114,7 +114,8 @@ module _ {K V : Type 0} where
       by false = called nameless guard its (number_of name m) m
   begins _ o m = (refl, refl)
 
-  no_coming : (its : Call K V) (c : UnderWay K V) (n : ℕ) → MayRemove its c (ComesIn n) → ⊥
+module _ {K V : Type 0} (same : K → K → Bool) where
+  no_coming : (its : Call K V) (c : UnderWay K V) (n : ℕ) → MayRemove same its c (ComesIn n) → ⊥
   no_coming (call.On one) c n h = h
   no_coming (call.Reserve more) c n h = h
   no_coming call.Clear c n h = h
@@ -123,20 +124,19 @@ module _ {K V : Type 0} where
   no_coming call.Walk c n h = h
 
   -- a sweep brings none
-  removes_spare : (its : Call K V) (c : UnderWay K V) (done : List Shift) → RemovesOnly its c done → Spares done
+  removes_spare : (its : Call K V) (c : UnderWay K V) (done : List Shift) → RemovesOnly same its c done → Spares done
   removes_spare its c [] h = tt
   removes_spare its c (ComesIn n ∷ done) h = no_coming its c n h.0
   removes_spare its c (GivesWay p ∷ done) h = removes_spare its c done h.1
   removes_spare its c (GoesOut p ∷ done) h = removes_spare its c done h.1
 
-module _ {K V : Type 0} (same : K → K → Bool) where
   -- of the second moment maps have no pair that they had not at the first
   pub record Fewer (x y : Moment K V) : Type 0 where
     pub stored : y.stored ≡ x.stored
     pub fewer : (map n : ℕ) → is_in_map map (y.place n) ≡ true → is_in_map map (x.place n) ≡ true
 
   one_fewer : (caller : Option (List ℕ)) (acted : Option ℕ) (f : Effect) (x : Moment K V) → stores f ≡ false → Fewer x (with_effect caller acted f x)
-  one_fewer caller acted f x no = record { stored = stored_still (acting caller x) f x.stored no; fewer = λ map n is. fewer_places acted x.deferred f x.place map n no is }
+  one_fewer caller acted f x none = record { stored = stored_still (acting caller x) f x.stored none; fewer = λ map n is. fewer_places acted x.deferred f x.place map n none is }
 
   has_still : (x y : Moment K V) → Fewer x y → (map : ℕ) (k : K) (n : ℕ) → Has same y map k n → Has same x map k n
   has_still x y fewer map k n its = (fewer.fewer map n its.0, subst (λ (xs : List (K × V)). is_key same (pair_at xs n) k ≡ true) fewer.stored its.1)
@@ -185,7 +185,7 @@ module _ {K V : Type 0} (same : K → K → Bool) where
     awaits_first x owns (Puts v) n None none = λ q its. (let some = is_stored x.stored q (key_of one) its.1 in none q some.0 some.1 (both q its))
       where
         both : (q : ℕ) → Has same x acted (key_of one) q → (is_in_map acted (x.place q) && is_key same (pair_at x.stored q) (key_of one)) ≡ true
-        both q its = (let a = its.0 in let b = its.1 in grind (a, b))
+        both q its = (let a = its.0 in let b = its.1 in grind (arith, a, b))
     awaits_first x owns Leaves n (Some p) here = tt
     awaits_first x owns Takes n (Some p) here = tt
     awaits_first x owns (Puts v) n (Some p) here = λ q its. owns acted q p (key_of one) its (and_both (is_in_map acted (x.place p)) (is_key same (pair_at x.stored p) (key_of one)) here.2)
@@ -326,14 +326,14 @@ module _ {K V : Type 0} (same : K → K → Bool) where
     spares none owns = none_come (caller_of e.event) (acted_on e.event b) e.effects b none owns
 
     abbrev OwnsThen : Option (List ℕ) → Option ℕ → Type 0
-    OwnsThen o acted = AtEachEffect (Finds terms o acted (gives_all e.event) (moments_of log (acting (caller_of e.event) b))) o acted e.effects b → HaveTheirOwn same (with_effects o acted e.effects b)
+    OwnsThen o acted = AtEachEffect (Finds terms o acted (gives_all e.event) (moments_of terms log (acting (caller_of e.event) b))) o acted e.effects b → HaveTheirOwn same (with_effects o acted e.effects b)
 
     -- by a call on one key
     on_one : (own : List ℕ) (c : UnderWay K V) (one : OneKey K V) → caller_of e.event ≡ Some own → call_of own b ≡ Some c → c.call ≡ call.On one → ChangesOnce same one c b done → AllFind terms log e b
         → HaveTheirOwn same b → HaveTheirOwn same (after e (moment log))
     on_one own c one caller_is is its changes finds owns =
         subst (λ (o : Option (List ℕ)). OwnsThen o (acted_on e.event b)) (sym caller_is)
-        (subst (OwnsThen (Some own)) (sym (acts e.event b own c caller_is is)) (λ find. keeps c.map one laws own terms (gives_all e.event) (moments_of log (acting (caller_of e.event) b)) e.effects b c is its find (awaits changes) owns)) finds
+        (subst (OwnsThen (Some own)) (sym (acts e.event b own c caller_is is)) (λ find. keeps c.map one laws own terms (gives_all e.event) (moments_of terms log (acting (caller_of e.event) b)) e.effects b c is its find (awaits changes) owns)) finds
       where
         awaits : ChangesOnce same one c b done → Awaits c.map one done b
         awaits (inl none) = subst (λ (l : List Shift). Awaits c.map one l b) (sym none) tt
