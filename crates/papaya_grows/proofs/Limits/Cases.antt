@@ -1,5 +1,5 @@
 -- A step by which a call is refused for the length of a table comes in its case: a table of its map is at the limit, or was since it began; or a reservation has counted too many pairs.
-use Rattle.std.specs.Prelude.{◌≡◌, ◌⊎◌, ◌+◌, ◌-◌, ◌^◌, ◌<◌, ◌%◌, nat_le, max, ℕ, zero, suc, Bool, true, false, List, ◌∷◌, Ok, Err, Some, if◌then◌else◌}
+use Rattle.std.specs.Prelude.{◌≡◌, ◌⊎◌, ◌+◌, ◌^◌, ◌<◌, ◌%◌, nat_le, max, ℕ, zero, suc, Bool, true, false, List, ◌∷◌, Ok, Err, Some, if◌then◌else◌}
 use Rattle.std.proofs.Common.{refl, ap, sym, subst, ◌∙◌, inl, inr, arith}
 use Rattle.std.proofs.lemmas.Bool.{leb-true, lt-ltb}
 use Rattle.papaya_purposes.specs.Given.SeizeWords.Mem.{Mem, Took, value_at}
