@@ -67,7 +67,7 @@ module _ {K V : Type 0} (batch_size roots i : ℕ) (c : ReclaimAll) (w : World (
   row_is (at.Unuses root) is = is.0.rests i
   row_is at.Over is = is.0.rests i
 
-module _ {K : Type 0} (V : Type 0) (same : K → K → Bool) (hash : K → ℕ) (batch_size roots : ℕ) (slot : ℕ → ℕ) where
+module _ {K : Type 0} (V : Type 0) (same : K → K → Bool) (hash : ℕ → K → ℕ) (batch_size roots : ℕ) (slot : ℕ → ℕ) where
   -- the rows of others, by a step of who reclaims all
   others_rest : (s n : Scene K V) (i : ℕ) (lists lists2 : ℕ → List ℕ) (c c2 : ReclaimAll) (g : Grant) (told : Settled (Node K V))
       (on : ReclaimedOn V same batch_size roots slot s i lists c g told n lists2 c2) (j : ℕ) → j ≢ i → on.did.w2.row j ≡ s.world.row j
@@ -145,10 +145,10 @@ module _ {K : Type 0} (V : Type 0) (same : K → K → Bool) (hash : K → ℕ) 
     by_doing (BeginsClearing i) may told told2 begun begun2 = begun_agree i (clearing roots) told told2 begun begun2
     by_doing (StepsReclaiming g) may told told2 one two = stepped_agree g told told2 one two
 
-abbrev SoFar : {K : Type 0} (V : Type 0) (same : K → K → Bool) (hash : K → ℕ) (batch_size roots : ℕ) (slot : ℕ → ℕ) (x y : Reached V same hash batch_size roots slot) → Type 0
+abbrev SoFar : {K : Type 0} (V : Type 0) (same : K → K → Bool) (hash : ℕ → K → ℕ) (batch_size roots : ℕ) (slot : ℕ → ℕ) (x y : Reached V same hash batch_size roots slot) → Type 0
 SoFar V same hash batch_size roots slot x y = AreAlike x.0.0 y.0.0 × (x.1 ≡ y.1) × (reclaiming V same hash batch_size roots slot x.0 ≡ reclaiming V same hash batch_size roots slot y.0)
 
-pub courses_agree : {K : Type 0} (V : Type 0) (same : K → K → Bool) (hash : K → ℕ) (batch_size roots : ℕ) (slot : ℕ → ℕ) → CoursesAgree V same hash batch_size roots slot
+pub courses_agree : {K : Type 0} (V : Type 0) (same : K → K → Bool) (hash : ℕ → K → ℕ) (batch_size roots : ℕ) (slot : ℕ → ℕ) → CoursesAgree V same hash batch_size roots slot
 courses_agree {K} V same hash batch_size roots slot one other [] x y led led2 =
     subst (λ (z : Reached V same hash batch_size roots slot). SoFar V same hash batch_size roots slot z y) (sym led)
     (subst (λ (z : Reached V same hash batch_size roots slot). SoFar V same hash batch_size roots slot ((at_first roots, one.first, inl ((λ r. []), one.left)), []) z) (sym led2)

@@ -106,7 +106,7 @@ module _ {K V : Type 0} where
   begins_counting same slot s j Count c e = let at_start : summing (its slot s j) ≡ c = cc e in ap (λ (x : Sum). x.stands) (sym at_start)
   begins_counting same slot s j _ c e = absurd (cc e)
 
-module _ {K V : Type 0} (same : K → K → Bool) (hash : K → ℕ) (batch_size roots : ℕ) (slot : ℕ → ℕ) (s : Scene K V) (i m : ℕ) (words : List ℕ)
+module _ {K V : Type 0} (same : K → K → Bool) (hash : ℕ → K → ℕ) (batch_size roots : ℕ) (slot : ℕ → ℕ) (s : Scene K V) (i m : ℕ) (words : List ℕ)
     (before : (c : Sum) → s.calls m i ≡ Some (Counting c) → HasRead c words) where
   -- the step of a counting
   module _ (g : Option ℕ) (told : Answer K V) (n : Scene K V) (came : CallCame same hash batch_size roots slot s i m g told n) where
@@ -204,7 +204,7 @@ module _ {K V : Type 0} (same : K → K → Bool) (hash : K → ℕ) (batch_size
         unstopped : (y : Bool) → unless_stopped y u ≡ Some (Counting c) → Some u ≡ Some (Counting c)
         unstopped true e = absurd (cc e)
         unstopped false e = e
-    by_act (BeginsMaking j map given places power sized) told (none, is) = as_it_was (ap (λ (x : Scene K V). x.calls) is)
+    by_act (BeginsMaking j map given places) told (none, is) = as_it_was (ap (λ (x : Scene K V). x.calls) is)
     by_act (StepsMaking j g) told (b, makes, m2, machine, end, computed, told_is, did, came) = by end did came
       where
         by : (end : Counted Setting) (did : MakingStepsAmong V same same batch_size roots slot s.world s.maps s.calls s.makers s.enders j b m2 (machine, end))
@@ -225,7 +225,7 @@ module _ {K V : Type 0} (same : K → K → Bool) (hash : K → ℕ) (batch_size
     by_act (BeginsRow j request) told (w2, happens, maps2, same_maps, none, is) = as_it_was (ap (λ (x : Scene K V). x.calls) is)
     by_act (StepsRow j g) told (w2, computed, happens, maps2, same_maps, none, is) = as_it_was (ap (λ (x : Scene K V). x.calls) is)
 
-module _ {K V : Type 0} (same : K → K → Bool) (hash : K → ℕ) (batch_size roots : ℕ) (slot : ℕ → ℕ) where
+module _ {K V : Type 0} (same : K → K → Bool) (hash : ℕ → K → ℕ) (batch_size roots : ℕ) (slot : ℕ → ℕ) where
   -- whatever is done, who reclaims all has no counting
   by_doing : (i m : ℕ) (words : List ℕ) (p n : Stage V same hash batch_size roots slot) → ((c : Sum) → p.0.calls m i ≡ Some (Counting c) → HasRead c words)
       → (c : Sum) → n.0.calls m i ≡ Some (Counting c) → (doing : Doing K V) (told : Answer K V) → HasDone V same hash batch_size roots slot doing p told n → HasRead c (read_by i m doing p.0 words)
@@ -234,7 +234,7 @@ module _ {K V : Type 0} (same : K → K → Bool) (hash : K → ℕ) (batch_size
   by_doing i m words p n before c now (BeginsClearing j) told (none, is, lists, begun) = before c (ap (λ (s : Scene K V). s.calls m i) (sym is) ∙ now)
   by_doing i m words p n before c now (StepsReclaiming g) told stepped = before c (ap (λ (s : Scene K V). s.calls m i) (sym stepped.did.comes) ∙ now)
 
-module _ {K V : Type 0} (same : K → K → Bool) (hash : K → ℕ) (batch_size roots : ℕ) (slot : ℕ → ℕ) (course : Course V same hash batch_size roots slot) where
+module _ {K V : Type 0} (same : K → K → Bool) (hash : ℕ → K → ℕ) (batch_size roots : ℕ) (slot : ℕ → ℕ) (course : Course V same hash batch_size roots slot) where
   pub countings_add_up : CountingsAddUp same hash batch_size roots slot course
   countings_add_up [] x led i m c here = absurd (cc (here, ap (λ (y : Reached V same hash batch_size roots slot). y.0.0.calls m i) led))
   countings_add_up (doing ∷ doings) x (y, led, may, is) i m c here =

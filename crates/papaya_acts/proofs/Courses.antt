@@ -95,7 +95,7 @@ stopped_as : {K V Q : Type 0} (ready : Bool) (u : UnderWay K V Q) → option_map
 stopped_as true u = refl
 stopped_as false u = refl
 
-module _ {K V : Type 0} (same : K → K → Bool) (hash : K → ℕ) (batch_size roots : ℕ) (slot : ℕ → ℕ) where
+module _ {K V : Type 0} (same : K → K → Bool) (hash : ℕ → K → ℕ) (batch_size roots : ℕ) (slot : ℕ → ℕ) where
   -- a walk that is given up has no row under way
   stop_rests : (s : Scene K V) → AllStand same hash batch_size roots slot s → (m i : ℕ) (u : UnderWay K V K) → s.calls m i ≡ Some u → (ready : Bool) → (machine_asked (machine_of u)).1 ≡ ready
       → unless_stopped ready u ≡ None → s.world.row i ≡ Rests
@@ -281,12 +281,12 @@ module _ {K V : Type 0} (same : K → K → Bool) (hash : K → ℕ) (batch_size
               (told_none machine_of (unless_stopped (machine_asked (machine_of u2)).1 u2) (sym both ∙ ap (option_map machine_of) none)))) is is2,
           told_is ∙ ap (λ (x : Machine K V K). OfAsking (machine_asked x).1) one ∙ sym told_is2,
         )
-    by_act (BeginsMaking i map given places power sized) may told told2 (told_is, is) (told_is2, is2) = (
+    by_act (BeginsMaking i map given places) may told told2 (told_is, is) (told_is2, is2) = (
       to _ _ is is2 (record {
         memory = alike.memory;
         maps = alike.maps;
         calls = alike.calls;
-        makers = both_at (λ (x : Option (Beginning K)). x) s.makers t.makers i (Some (making_begun hash roots map given places)) (Some (making_begun hash roots map given places)) refl alike.makers;
+        makers = both_at (λ (x : Option (Beginning K)). x) s.makers t.makers i (Some (making_begun (hash map) roots map given places)) (Some (making_begun (hash map) roots map given places)) refl alike.makers;
         enders = alike.enders;
         rows = alike.rows;
       }),

@@ -43,8 +43,8 @@ use Rattle.papaya_acts.proofs.ExecutorsBegin.{wants}
 use Rattle.papaya_acts.proofs.Lists.{all_may_step}
 
 module _ {K V S : Type 0} (same : K → K → Bool) (hash : K → ℕ) (e e2 : Executor K V S) (s : Scene K V) (at : IsAt same hash e s) (i : ℕ) where
-  abbrev may : AllMayStep V same hash e.batch_size e.roots slot_of s
-  may = all_may_step same hash e.batch_size e.roots slot_of s at.together
+  abbrev may : AllMayStep V same (λ map. hash) e.batch_size e.roots slot_of s
+  may = all_may_step same (λ map. hash) e.batch_size e.roots slot_of s at.together
 
   -- a step that is told, in the memory of the executor, is computed from the one of its scene
   computed : {R : Type 0} (plan : Plan (Node K V) R) (end : R) → May Can Took value_at s.world.memory plan
@@ -93,7 +93,7 @@ module _ {K V S : Type 0} (same : K → K → Bool) (hash : K → ℕ) (e e2 : E
 
   making_comes : (b : Beginning K) (machine : NewMap) (told : Progress Setting) (did : MakingStepsAmong V same same e.batch_size e.roots slot_of s.world s.maps s.calls s.makers s.enders i b e2.memory.memory (machine, told))
       → MakingComesTo same hash s e e2 i b machine did.step.w2 told
-      → (n : Scene K V) × MakingCame same hash e.batch_size e.roots slot_of s i b did.step.w2 machine n told × IsAt same hash e2 n
+      → (n : Scene K V) × MakingCame same (λ map. hash) e.batch_size e.roots slot_of s i b did.step.w2 machine n told × IsAt same hash e2 n
   making_comes b machine progress.Goes did is = (_, refl, is)
   making_comes b machine progress.Waits did never = absurd never
   making_comes b machine (progress.Done setting) did (standing, made, is) = (_, (standing, made, refl), is)
@@ -108,7 +108,7 @@ module _ {K V S : Type 0} (same : K → K → Bool) (hash : K → ℕ) (e e2 : E
 
   ending_comes : (f : Finishing K V) (machine : EndMap) (told : Settled (Node K V)) (did : StepsOfEnding V same same e.batch_size e.roots slot_of s.world s.maps s.calls s.makers s.enders i f e2.memory.memory (machine, told))
       → EndingComesTo same hash s e2 i f machine did.w2 did.deed told
-      → (n : Scene K V) × EndingCame same hash e.batch_size e.roots slot_of s i f did.w2 did.deed machine n told × IsAt same hash e2 n
+      → (n : Scene K V) × EndingCame same (λ map. hash) e.batch_size e.roots slot_of s i f did.w2 did.deed machine n told × IsAt same hash e2 n
   ending_comes f machine settled.Goes did (none, is) = (_, (none, refl), is)
   ending_comes f machine settled.Waits did never = absurd never
   ending_comes f machine (settled.Gave value) did (b, there, taken, is) = (_, (b, there, taken, refl), is)

@@ -1,6 +1,5 @@
 -- A making or an end of a map that begins, or takes a step: all stand together then.
-use Rattle.std.specs.Prelude.{◌≡◌, ℕ, ◌≤◌, ◌^◌, Bool, [], ◌∷◌, ◌++◌, max, Some, None}
-use Rattle.std.specs.Int.{IsPowerOfTwo}
+use Rattle.std.specs.Prelude.{◌≡◌, ℕ, Bool, [], ◌∷◌, ◌++◌, Some, None}
 use Rattle.std.proofs.Common.{refl}
 use Rattle.papaya_executor.specs.Given.Seize.World.{with_at, with_effect}
 use Rattle.papaya_executor.specs.Given.Seize.Law.{Ended}
@@ -11,7 +10,6 @@ use Rattle.papaya_executor.specs.Given.Seize.declared.rows.settle.Settled.TheVar
 use Rattle.seize_acts.specs.Answers.{Grant, then_on}
 use Rattle.seize_acts.proofs.Answers.{some, was_stepped}
 use Rattle.papaya_executor.specs.Given.SeizeWords.Mem.{Mem}
-use Rattle.papaya_executor.specs.Given.Tables.Lengths.{IsTableLen}
 use Rattle.papaya_executor.specs.Given.Tables.declared.node.Node.{Node}
 use Rattle.papaya_executor.specs.Given.Tables.declared.setting.Setting.{Setting}
 use Rattle.papaya_executor.specs.Given.Resize.NewMap.{new_map_plan}
@@ -31,21 +29,21 @@ use Rattle.papaya_acts.specs.Acts.{Answer, Nothing, OfMaking, OfEnding, BeginsMa
 use Rattle.papaya_acts.specs.Leads.{MayBe, AllStand, Led, MakingCame, EndingCame, making_begun, making_steps, ending_steps}
 use Rattle.papaya_acts.proofs.Tests.{none_is, some_is}
 
-module _ {K V : Type 0} (same : K → K → Bool) (hash : K → ℕ) (batch_size roots : ℕ) (slot : ℕ → ℕ) (s : Scene K V) (all : AllStand same hash batch_size roots slot s) (i : ℕ) where
+module _ {K V : Type 0} (same : K → K → Bool) (hash : ℕ → K → ℕ) (batch_size roots : ℕ) (slot : ℕ → ℕ) (s : Scene K V) (all : AllStand same hash batch_size roots slot s) (i : ℕ) where
   abbrev Stands : Scene K V → Type 0
   Stands n = AllStand same hash batch_size roots slot n
 
-  pub making_begins : AreLawful same hash → (map : ℕ) (given : Setting) (places : ℕ) (power : IsPowerOfTwo given.initial) (sized : max places 8 ≤ 2 ^ 48 → IsTableLen (max places 8))
-      → MayBe same hash batch_size roots slot (BeginsMaking i map given places power sized) s
-      → (n : Scene K V) × Led same hash batch_size roots slot (BeginsMaking i map given places power sized) s Nothing n × Stands n
-  making_begins lawful map given places power sized (free, no_map, others, batches, mask, some) =
-      let b : Beginning K = making_begun hash roots map given places in
+  pub making_begins : (map : ℕ) → AreLawful same (hash map) → (given : Setting) (places : ℕ)
+      → MayBe same hash batch_size roots slot (BeginsMaking i map given places) s
+      → (n : Scene K V) × Led same hash batch_size roots slot (BeginsMaking i map given places) s Nothing n × Stands n
+  making_begins map lawful given places (free, no_map, others, batches, mask, some, power, sized) =
+      let b : Beginning K = making_begun (hash map) roots map given places in
       let no_call : (m : ℕ) → s.calls m i ≡ None = λ m. none_is (s.calls m i) (free.no_call m) in (
         record s { makers = with_at s.makers i (Some b) },
         (refl, refl),
         makings_begin_among {Q = K} V same same batch_size roots slot s.world s.maps s.calls s.makers s.enders all i (none_is (s.enders i) free.no_ending) b
             (makings_begin {Q = K} V same same batch_size roots slot s.world s.maps s.calls s.makers all.makings i (none_is (s.makers i) free.no_making) no_call
-            map (none_is (s.maps map) no_map) others given hash places lawful power batches mask some sized) refl,
+            map (none_is (s.maps map) no_map) others given (hash map) places lawful power batches mask some sized) refl,
       )
 
   -- by what a making tells

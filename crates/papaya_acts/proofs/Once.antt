@@ -1,7 +1,10 @@
 -- That an act may be made, or a step of who reclaims all, is known in one way alone, so a course leads by a list to one stage.
-use Rattle.std.specs.Prelude.{◌≡◌, ℕ, Bool, [], ◌∷◌}
+use Rattle.std.specs.Prelude.{◌≡◌, ◌⊎◌, ℕ, ◌<◌, ◌^◌, Bool, [], ◌∷◌}
+use Rattle.std.specs.Int.{IsPowerOfTwo}
 use Rattle.std.specs.Coded.{Coded-set, coded_bool, coded_ℕ, le_prop}
-use Rattle.std.proofs.Common.{refl, sym, ap, subst, ◌∙◌}
+use Rattle.std.proofs.Common.{inl, inr, refl, sym, ap, subst, arith, ◌∙◌}
+use Rattle.std.proofs.Math.Pow.{pow-lt}
+use Rattle.std.proofs.lemmas.Bool.{cases_order}
 use Rattle.papaya_executor.specs.Given.Seize.World.{Request, Register', Enter', Leave', LeaveOwned, Refresh, Unregister', Retire, Flush, Defer'}
 use Rattle.papaya_executor.specs.Given.Callers.Together.{IsOfSlots}
 use Rattle.papaya_executor.specs.IsAt.{Scene}
@@ -12,6 +15,24 @@ use Rattle.papaya_acts.specs.Lists.{Course, Reached, on_by, IsDetermined}
 
 bool_set : IsSet Bool
 bool_set = Coded-set coded_bool
+
+-- a number is a power of two in one way
+same_power : (j k : ℕ) → 2 ^ j ≡ 2 ^ k → j ≡ k
+same_power j k e = by (cases_order j k)
+  where
+    by : (j ≡ k) ⊎ ((j < k) ⊎ (k < j)) → j ≡ k
+    by (inl is) = is
+    by (inr (inl less)) = absurd (let far = pow-lt {i = j} {j = k} less in omega (arith, e, far))
+    by (inr (inr less)) = absurd (let far = pow-lt {i = k} {j = j} less in omega (arith, e, far))
+
+abbrev power_by : (n k : ℕ) → n ≡ 2 ^ k → IsPowerOfTwo n
+power_by n k is = (k, is)
+
+power_prop : (n : ℕ) → IsProp (IsPowerOfTwo n)
+power_prop n (j, is) (k, is2) = by k (same_power j k (sym is ∙ is2)) is2
+  where
+    by : (i : ℕ) → j ≡ i → (e : n ≡ 2 ^ i) → power_by n j is ≡ power_by n i e
+    by i one = subst (λ (x : ℕ). (e : n ≡ 2 ^ x) → power_by n j is ≡ power_by n x e) one (λ e. ap (power_by n j) (Coded-set coded_ℕ n (2 ^ j) is e))
 
 of_slots_prop : (request : Request) → IsProp (IsOfSlots request)
 of_slots_prop (Retire s b) x y = absurd x
@@ -31,14 +52,14 @@ module _ {K V : Type 0} (s : Scene K V) where
   few_prop : (i m : ℕ) → IsProp (AreFewWith s i m)
   few_prop i m = hlevel le_prop
 
-module _ {K V : Type 0} (same : K → K → Bool) (hash : K → ℕ) (batch_size roots : ℕ) (slot : ℕ → ℕ) where
+module _ {K V : Type 0} (same : K → K → Bool) (hash : ℕ → K → ℕ) (batch_size roots : ℕ) (slot : ℕ → ℕ) where
   pub may_prop : (act : Act K V) (s : Scene K V) → IsProp (MayBe same hash batch_size roots slot act s)
   may_prop (BeginsCall i m wanted) s = hlevel (bool_set, free_prop s i, few_prop s i m)
   may_prop (StepsCall i m g) s = bool_set _ _
   may_prop (TellsCall i m reply) s = bool_set _ _
   may_prop (AsksCall i m) s = bool_set _ _
   may_prop (StopsCall i m) s = bool_set _ _
-  may_prop (BeginsMaking i map given places power sized) s = hlevel (bool_set, free_prop s i, Coded-set coded_ℕ, le_prop)
+  may_prop (BeginsMaking i map given places) s = hlevel (bool_set, free_prop s i, Coded-set coded_ℕ, le_prop, power_prop)
   may_prop (StepsMaking i g) s = bool_set _ _
   may_prop (BeginsEnding i m) s = hlevel (bool_set, free_prop s i)
   may_prop (StepsEnding i g) s = bool_set _ _

@@ -14,7 +14,7 @@ use Rattle.papaya_acts.specs.Acts.{Nothing, BeginsRow, StepsRow}
 use Rattle.papaya_acts.specs.Leads.{MayBe, AllStand, Led}
 use Rattle.papaya_acts.proofs.Tests.{none_is, some_is}
 
-module _ {K V : Type 0} (same : K → K → Bool) (hash : K → ℕ) (batch_size roots : ℕ) (slot : ℕ → ℕ) (s : Scene K V) (all : AllStand same hash batch_size roots slot s) (i : ℕ) where
+module _ {K V : Type 0} (same : K → K → Bool) (hash : ℕ → K → ℕ) (batch_size roots : ℕ) (slot : ℕ → ℕ) (s : Scene K V) (all : AllStand same hash batch_size roots slot s) (i : ℕ) where
   abbrev Stands : Scene K V → Type 0
   Stands n = AllStand same hash batch_size roots slot n
 

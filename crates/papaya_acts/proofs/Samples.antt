@@ -1,7 +1,8 @@
 -- Acts that may be made at first, and some that may not.
-use Rattle.std.specs.Prelude.{◌≡◌, ℕ, ◌+◌, ◌<◌, ◌≤◌, ◌^◌, Bool, List, [], max, Some, None}
+use Rattle.std.specs.Prelude.{◌≡◌, ℕ, zero, suc, ◌+◌, ◌*◌, ◌<◌, ◌≤◌, ◌^◌, Bool, List, [], max, Some, None}
 use Rattle.std.specs.Int.{IsPowerOfTwo}
-use Rattle.std.proofs.Common.{inl, inr, refl, arith}
+use Rattle.std.proofs.Common.{inl, inr, refl, arith, sym, ◌∙◌}
+use Rattle.std.proofs.Math.Nat.{pow-suc}
 use Rattle.papaya_executor.specs.Given.Seize.World.{Register', with_at}
 use Rattle.papaya_executor.specs.Given.Seize.declared.rows.reclaim_all.ReclaimAll.{ReclaimAll}
 use Rattle.seize_acts.specs.Answers.{Grant}
@@ -16,15 +17,24 @@ use Rattle.papaya_acts.specs.Doings.{Does, BeginsReclaiming, BeginsClearing, Ste
 use Rattle.papaya_acts.specs.Leads.{AllStand, IsFree, MayBe, making_begun}
 use Rattle.papaya_acts.specs.Reclaiming.{IsReclaimingAll}
 
-module _ {K : Type 0} (V : Type 0) (same : K → K → Bool) (hash : K → ℕ) (batch_size : ℕ) (slot : ℕ → ℕ) where
+-- 3 is no power of two
+not_three : (k : ℕ) → 3 ≡ 2 ^ k → ⊥
+not_three zero e = omega (arith, e)
+not_three (suc k) e = let twice : 2 ^ suc k ≡ 2 ^ k * 2 = pow-suc 2 k in omega (arith, e, twice)
+
+module _ {K : Type 0} (V : Type 0) (same : K → K → Bool) (hash : ℕ → K → ℕ) (batch_size : ℕ) (slot : ℕ → ℕ) where
   abbrev First : Act K V → Type 0
   First act = MayBe same hash batch_size 1 slot act (at_first 1)
 
   -- At first any caller may begin to make a map, or take a slot.
-  may_make : (i map places : ℕ) (given : Setting) (power : IsPowerOfTwo given.initial) (sized : max places 8 ≤ 2 ^ 48 → IsTableLen (max places 8))
-      → given.batch_size ≡ batch_size → given.mask + 1 < 2 ^ 64 → First (BeginsMaking i map given places power sized)
+  may_make : (i map places : ℕ) (given : Setting) → IsPowerOfTwo given.initial → (max places 8 ≤ 2 ^ 48 → IsTableLen (max places 8))
+      → given.batch_size ≡ batch_size → given.mask + 1 < 2 ^ 64 → First (BeginsMaking i map given places)
   may_make i map places given power sized batches mask =
-      (record { no_call = λ m. refl; no_making = refl; no_ending = refl }, refl, (λ j d has e. cc has), batches, mask, omega arith)
+      (record { no_call = λ m. refl; no_making = refl; no_ending = refl }, refl, (λ j d has e. cc has), batches, mask, omega arith, power, sized)
+
+  -- No map is made whose tables would begin with a length that is no power of two.
+  none_of_three : (i map places : ℕ) (given : Setting) → given.initial ≡ 3 → First (BeginsMaking i map given places) → ⊥
+  none_of_three i map places given three may = not_three may.6.0 (sym three ∙ may.6.1)
 
   may_register : (i : ℕ) (enters : Bool) → First (BeginsRow i (Register' enters))
   may_register i enters = ((λ m. refl), refl, tt, (λ m j u has closes. closes), refl)
@@ -39,7 +49,7 @@ module _ {K : Type 0} (V : Type 0) (same : K → K → Bool) (hash : K → ℕ) 
   module _ (given : Setting) where
     -- A map is being made. Its caller has something under way, and may take the next step, which takes the root.
     abbrev b : Beginning K
-    b = making_begun hash 1 0 given 0
+    b = making_begun (hash 0) 1 0 given 0
 
     abbrev Makes : Beginning K → Scene K V
     Makes b = record (at_first 1) { makers = with_at (λ i. None) 0 (Some b) }

@@ -1,11 +1,9 @@
 -- An act is what one caller does at once, as plain data: it begins something, takes one step of what it has under way, or tells its call something.
-use Rattle.std.specs.Prelude.{ℕ, ◌≤◌, ◌^◌, Bool, [], Option, Some, None, Result, max}
-use Rattle.std.specs.Int.{IsPowerOfTwo}
+use Rattle.std.specs.Prelude.{ℕ, Bool, [], Option, Some, None, Result}
 use Rattle.papaya_executor.specs.Given.Seize.World.{Request}
 use Rattle.papaya_executor.specs.Given.Seize.declared.progress.Progress.{Progress as Told}
 use Rattle.papaya_executor.specs.Given.Seize.declared.rows.settle.Settled.{Settled}
 use Rattle.seize_acts.specs.Answers.{Grant}
-use Rattle.papaya_executor.specs.Given.Tables.Lengths.{IsTableLen}
 use Rattle.papaya_executor.specs.Given.Tables.declared.node.Node.{Node}
 use Rattle.papaya_executor.specs.Given.Tables.declared.setting.Setting.{Setting}
 use Rattle.papaya_executor.specs.Given.Resize.Sum.{summing}
@@ -48,7 +46,7 @@ pub data Act (K V : Type 0) : Type 0 where
   AsksCall : ℕ → ℕ → Act K V  -- or is asked for its next pair
   StopsCall : ℕ → ℕ → Act K V  -- or is given up, if it is a walk that is ready
   -- this caller begins to make this map, with this setting and a first table of so many places, or none for 0
-  BeginsMaking : ℕ → ℕ → (given : Setting) → (places : ℕ) → IsPowerOfTwo given.initial → (max places 8 ≤ 2 ^ 48 → IsTableLen (max places 8)) → Act K V
+  BeginsMaking : ℕ → ℕ → Setting → ℕ → Act K V
   StepsMaking : ℕ → Grant → Act K V
   BeginsEnding : ℕ → ℕ → Act K V  -- this caller begins to end this map
   StepsEnding : ℕ → Grant → Act K V

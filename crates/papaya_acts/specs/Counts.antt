@@ -53,7 +53,7 @@ module _ {K V : Type 0} (i m : ℕ) where
   read_by (Does act) s words = read_on act s words
   read_by doing s words = words
 
-module _ {K V : Type 0} (same : K → K → Bool) (hash : K → ℕ) (batch_size roots : ℕ) (slot : ℕ → ℕ) (course : Course V same hash batch_size roots slot) where
+module _ {K V : Type 0} (same : K → K → Bool) (hash : ℕ → K → ℕ) (batch_size roots : ℕ) (slot : ℕ → ℕ) (course : Course V same hash batch_size roots slot) where
   -- The words that the counting has read that this caller has under way on this map: each is that of its shard, at a moment since the counting began.
   abbrev pub words_read : ℕ → ℕ → (doings : List (Doing K V)) (x : Reached V same hash batch_size roots slot) → LedTo V same hash batch_size roots slot course doings x → List ℕ
   words_read i m [] x led = []

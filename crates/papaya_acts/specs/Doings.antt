@@ -53,7 +53,7 @@ abbrev pub still : {T : Type 0} → Settled T → ℕ × ReclaimAll → Option (
 still settled.Done it = None
 still told it = Some it
 
-module _ {K : Type 0} (V : Type 0) (same : K → K → Bool) (hash : K → ℕ) (batch_size roots : ℕ) (slot : ℕ → ℕ) where
+module _ {K : Type 0} (V : Type 0) (same : K → K → Bool) (hash : ℕ → K → ℕ) (batch_size roots : ℕ) (slot : ℕ → ℕ) where
   -- The promise of one act: what ended maps have left stays there, whichever comes to it.
   abbrev pub ActsLeaveIt : Type 0
   ActsLeaveIt =

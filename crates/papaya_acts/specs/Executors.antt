@@ -1,4 +1,4 @@
--- What an executor does, it does by acts: where it is, its acts have led.
+-- What an executor does, it does by acts: where it is, its acts have led. All its maps have one hash.
 use Rattle.std.specs.Prelude.{◌≡◌, ℕ, ◌+◌, ◌<◌, ◌≤◌, ◌^◌, length, max, Bool, Some, Result}
 use Rattle.std.specs.Int.{IsPowerOfTwo}
 use Rattle.papaya_executor.specs.Given.Seize.declared.progress.Progress.{Progress}
@@ -38,7 +38,7 @@ use Rattle.papaya_acts.specs.Leads.{Led}
 module _ {K V S : Type 0} (same : K → K → Bool) (hash : K → ℕ) (e e2 : Executor K V S) (s : Scene K V) where
   -- from this scene, in which the first executor is, the act leads, and tells this, to one in which the second is
   abbrev pub IsAct : Act K V → Answer K V → Type 0
-  IsAct act told = (n : Scene K V) × Led same hash e.batch_size e.roots slot_of act s told n × IsAt same hash e2 n
+  IsAct act told = (n : Scene K V) × Led same (λ map. hash) e.batch_size e.roots slot_of act s told n × IsAt same hash e2 n
 
   -- The promise of what callers do with calls: they begin, and take steps, they are told something, asked for a pair, or given up.
   pub record CallsAreActs (i : ℕ) : Type 0 where
@@ -51,9 +51,9 @@ module _ {K V S : Type 0} (same : K → K → Bool) (hash : K → ℕ) (e e2 : E
 
   -- Of makings, of ends of maps, and of rows on slots.
   pub record OthersAreActs (i : ℕ) : Type 0 where
-    pub making_begins : (given : Setting) (places : ℕ) → MakingBegins same hash given places i s e e2 → AreLawful same hash → (power : IsPowerOfTwo given.initial)
-        → given.batch_size ≡ e.batch_size → given.mask + 1 < 2 ^ 64 → 0 < e.roots → (sized : max places 8 ≤ 2 ^ 48 → IsTableLen (max places 8))
-        → IsAct (BeginsMaking i (length e.maps.items) given places power sized) Nothing
+    pub making_begins : (given : Setting) (places : ℕ) → MakingBegins same hash given places i s e e2 → AreLawful same hash → IsPowerOfTwo given.initial
+        → given.batch_size ≡ e.batch_size → given.mask + 1 < 2 ^ 64 → 0 < e.roots → (max places 8 ≤ 2 ^ 48 → IsTableLen (max places 8))
+        → IsAct (BeginsMaking i (length e.maps.items) given places) Nothing
     pub making : (told : Progress Setting) → MakingLeads same hash i told s e e2 → (b : Beginning K) → s.makers i ≡ Some b → (g : Grant) × IsAct (StepsMaking i g) (OfMaking told)
     pub ending_begins : (m : ℕ) → EndingBegins same hash m i s e e2 → NoCallOn e m → IsAct (BeginsEnding i m) Nothing
     pub ending : (told : Settled (Node K V)) → EndingLeads same hash i told s e e2 → (f : Finishing K V) → s.enders i ≡ Some f → (g : Grant) × IsAct (StepsEnding i g) (OfEnding told)

@@ -1,5 +1,6 @@
 -- When an act may be made, and from which scene to which one it leads, with what it tells.
-use Rattle.std.specs.Prelude.{◌≡◌, ◌≢◌, ◌⊎◌, ℕ, ◌+◌, ◌<◌, ◌^◌, Bool, true, false, [], ◌∷◌, ◌++◌, Option, Some, None}
+use Rattle.std.specs.Prelude.{◌≡◌, ◌≢◌, ◌⊎◌, ℕ, ◌+◌, ◌<◌, ◌≤◌, ◌^◌, max, Bool, true, false, [], ◌∷◌, ◌++◌, Option, Some, None}
+use Rattle.std.specs.Int.{IsPowerOfTwo}
 use Rattle.std.specs.Option.{is_none}
 use Rattle.papaya_executor.specs.Given.SeizeWords.Mem.{Mem, value_at}
 use Rattle.papaya_executor.specs.Given.Seize.World.{World, Begin, Step, Happens, with_at}
@@ -10,6 +11,7 @@ use Rattle.papaya_executor.specs.Given.Seize.declared.rows.settle.Settled.TheVar
 use Rattle.seize_acts.specs.Acts.{rests, is_within, begun as row_begun, row_steps}
 use Rattle.seize_acts.specs.Answers.{Grant, then_on, stepped}
 use Rattle.papaya_executor.specs.Given.Tables.Chunks.{is_incremental}
+use Rattle.papaya_executor.specs.Given.Tables.Lengths.{IsTableLen}
 use Rattle.papaya_executor.specs.Given.Tables.Nodes.{deferred_word}
 use Rattle.papaya_executor.specs.Given.Tables.declared.node.Node.{Node}
 use Rattle.papaya_executor.specs.Given.Tables.declared.setting.Setting.{Setting}
@@ -56,8 +58,8 @@ module _ {K V : Type 0} where
 abbrev pub making_begun : {K : Type 0} → (K → ℕ) → ℕ → ℕ → Setting → ℕ → Beginning K
 making_begun hash roots map given places = record { map = map; given = given; places = places; hash = hash; machine = opening given roots places }
 
--- All keys have one hash; a batch has such a size, there are so many roots, and each caller has a slot.
-module _ {K V : Type 0} (same : K → K → Bool) (hash : K → ℕ) (batch_size roots : ℕ) (slot : ℕ → ℕ) where
+-- Each map has a hash, by its number; a batch has such a size, there are so many roots, and each caller has a slot.
+module _ {K V : Type 0} (same : K → K → Bool) (hash : ℕ → K → ℕ) (batch_size roots : ℕ) (slot : ℕ → ℕ) where
   -- what the next step of a call, of a making, and of an end comes to, if they are there and the memory may choose so
   abbrev pub call_steps : Scene K V → Grant → Standing K × UnderWay K V K → Option (Mem (Node K V) × (Machine K V K × CallProgress (Node K V)))
   call_steps s g it = stepped s.world.memory g (machine_plan same same it.0.hash (machine_of it.1))
@@ -69,7 +71,8 @@ module _ {K V : Type 0} (same : K → K → Bool) (hash : K → ℕ) (batch_size
   ending_steps s g f = stepped s.world.memory g (end_map_plan f.machine)
 
   -- When an act may be made. A call begins within a section, on a map that stands; a step is taken where the memory may choose so; a map that has no number yet
-  -- is made; one ends on which nobody has a call; a row begins on a slot between calls, as that is used, and ends no section in which a call is under way.
+  -- is made, with lengths that tables may have; one ends on which nobody has a call; a row begins on a slot between calls, as that is used, and ends no section
+  -- in which a call is under way.
   abbrev pub MayBe : Act K V → Scene K V → Type 0
   MayBe (BeginsCall i m wanted) s =
       IsFree s i × (rests (s.world.row i) ≡ true) × (is_within (s.world.uses (slot i)) ≡ true) × (is_none (s.maps m) ≡ false) × AreFewWith s i m
@@ -77,9 +80,9 @@ module _ {K V : Type 0} (same : K → K → Bool) (hash : K → ℕ) (batch_size
   MayBe (TellsCall i m reply) s = is_none (call_at s i m) ≡ false
   MayBe (AsksCall i m) s = is_none (call_at s i m) ≡ false
   MayBe (StopsCall i m) s = is_none (call_at s i m) ≡ false
-  MayBe (BeginsMaking i map given places power sized) s =
+  MayBe (BeginsMaking i map given places) s =
       IsFree s i × (is_none (s.maps map) ≡ true) × ((j : ℕ) (d : Beginning K) → s.makers j ≡ Some d → map ≢ d.map)
-      × (given.batch_size ≡ batch_size) × (given.mask + 1 < 2 ^ 64) × (0 < roots)
+      × (given.batch_size ≡ batch_size) × (given.mask + 1 < 2 ^ 64) × (0 < roots) × IsPowerOfTwo given.initial × (max places 8 ≤ 2 ^ 48 → IsTableLen (max places 8))
   MayBe (StepsMaking i g) s = is_none (then_on (s.makers i) (making_steps s g)) ≡ false
   MayBe (BeginsEnding i m) s = IsFree s i × (is_none (s.maps m) ≡ false) × ((j : ℕ) → is_none (s.calls m j) ≡ true)
   MayBe (StepsEnding i g) s = is_none (then_on (s.enders i) (ending_steps s g)) ≡ false
@@ -140,7 +143,7 @@ module _ {K V : Type 0} (same : K → K → Bool) (hash : K → ℕ) (batch_size
   Led (StopsCall i m) s told n =
       (u : UnderWay K V K) × (s.calls m i ≡ Some u) × (told ≡ OfAsking (machine_asked (machine_of u)).1)
       × (n ≡ record s { calls = with_call s.calls m i (unless_stopped (machine_asked (machine_of u)).1 u) })
-  Led (BeginsMaking i map given places power sized) s told n = (told ≡ Nothing) × (n ≡ record s { makers = with_at s.makers i (Some (making_begun hash roots map given places)) })
+  Led (BeginsMaking i map given places) s told n = (told ≡ Nothing) × (n ≡ record s { makers = with_at s.makers i (Some (making_begun (hash map) roots map given places)) })
   Led (StepsMaking i g) s told n =
       (b : Beginning K) × (s.makers i ≡ Some b) × (m2 : Mem (Node K V)) × (machine : NewMap) × (progress : Progress Setting)
       × (making_steps s g b ≡ Some (m2, (machine, progress))) × (told ≡ OfMaking progress)

@@ -29,7 +29,7 @@ use Rattle.papaya_acts.specs.Acts.{Answer}
 use Rattle.papaya_acts.specs.Doings.{Doing, IsLeft, Stage, MayDo, HasDone}
 use Rattle.papaya_acts.specs.Leads.{AllStand, HasNoCall, call_steps, making_steps, ending_steps}
 
-module _ {K : Type 0} (V : Type 0) (same : K → K → Bool) (hash : K → ℕ) (batch_size roots : ℕ) (slot : ℕ → ℕ) where
+module _ {K : Type 0} (V : Type 0) (same : K → K → Bool) (hash : ℕ → K → ℕ) (batch_size roots : ℕ) (slot : ℕ → ℕ) where
   -- whichever caller takes the next step of what it has under way, it may take it: all that the step looks at is there
   pub record AllMayStep (s : Scene K V) : Type 0 where
     pub calls : (m i : ℕ) (standing : Standing K) (u : UnderWay K V K) → s.maps m ≡ Some standing → s.calls m i ≡ Some u
@@ -87,4 +87,4 @@ module _ {K : Type 0} (V : Type 0) (same : K → K → Bool) (hash : K → ℕ) 
   -- The promise of lists: there is a course, and by each one a list of plain data determines world, maps, calls, makings, ends, who reclaims all, and all
   -- that was told.
   abbrev pub ListsDetermine : Type 0
-  ListsDetermine = AreLawful same hash → Course × ((course : Course) → IsDetermined course)
+  ListsDetermine = ((map : ℕ) → AreLawful same (hash map)) → Course × ((course : Course) → IsDetermined course)

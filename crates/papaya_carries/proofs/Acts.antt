@@ -37,7 +37,7 @@ use Rattle.papaya_carries.proofs.Makings.{makings_keep_theirs}
 use Rattle.papaya_carries.proofs.Owed.{one_some}
 use Rattle.papaya_carries.proofs.Told.{told_on, next_on, not_stopped}
 
-module _ {K V : Type 0} (same : K → K → Bool) (hash : K → ℕ) (batch_size roots : ℕ) (slot : ℕ → ℕ) (s n : Scene K V) (all : AllStand same hash batch_size roots slot s)
+module _ {K V : Type 0} (same : K → K → Bool) (hash : ℕ → K → ℕ) (batch_size roots : ℕ) (slot : ℕ → ℕ) (s n : Scene K V) (all : AllStand same hash batch_size roots slot s)
     (stand : AllStand same hash batch_size roots slot n) (theirs : AreTheirs s) where
   to : (x : Scene K V) → n ≡ x → AreTheirs x → AreTheirs n
   to x is so = subst AreTheirs (sym is) so
@@ -98,7 +98,7 @@ module _ {K V : Type 0} (same : K → K → Bool) (hash : K → ℕ) (batch_size
   by_act (StopsCall i m) may told (u, here, told_is, is) =
       to _ is (changed m i (unless_stopped (machine_asked (machine_of u)).1 u)
       (λ v p there has. let k = of_call m i u here v p there has in (u, not_stopped p u (machine_asked (machine_of u)).1 refl k, k)))
-  by_act (BeginsMaking i map given places power sized) may told (told_is, is) = to _ is theirs
+  by_act (BeginsMaking i map given places) may told (told_is, is) = to _ is theirs
   by_act (StepsMaking i g) may told (b, makes, m2, machine, end, computed, told_is, did, came) = made i b makes m2 machine end did came
   by_act (BeginsEnding i m) may told (standing, stands, told_is, is) =
       to _ is (endings_begin_and_keep_theirs V same same batch_size roots slot s.world s.maps s.calls s.makers s.enders theirs i (none_is (s.enders i) may.0.no_ending) m standing stands
@@ -109,5 +109,5 @@ module _ {K V : Type 0} (same : K → K → Bool) (hash : K → ℕ) (batch_size
   by_act (StepsRow i g) may told (w2, computed, happens, maps2, same_maps, told_is, is) =
       to _ is ((guards_keep_theirs V same same batch_size roots slot s.world s.maps s.calls s.makers s.enders all theirs i (λ m. none_is (s.calls m i) (may.0 m)) w2 maps2 same_maps).1 happens)
 
-pub acts_keep_theirs : {K : Type 0} (V : Type 0) (same : K → K → Bool) (hash : K → ℕ) (batch_size roots : ℕ) (slot : ℕ → ℕ) → ActsKeepTheirs V same hash batch_size roots slot
+pub acts_keep_theirs : {K : Type 0} (V : Type 0) (same : K → K → Bool) (hash : ℕ → K → ℕ) (batch_size roots : ℕ) (slot : ℕ → ℕ) → ActsKeepTheirs V same hash batch_size roots slot
 acts_keep_theirs V same hash batch_size roots slot s n all stand act may told led theirs = by_act same hash batch_size roots slot s n all stand theirs act may told led

@@ -28,7 +28,7 @@ use Rattle.papaya_carries.proofs.Guards.{none_begins}
 use Rattle.papaya_carries.proofs.Reclaimed.{reclaiming_comes_to_end}
 use Rattle.papaya_carries.proofs.Reclaiming.{reclaiming_keeps_theirs, nothing_else_waits}
 
-module _ {K : Type 0} (V : Type 0) (same : K → K → Bool) (hash : K → ℕ) (batch_size roots : ℕ) (slot : ℕ → ℕ) where
+module _ {K : Type 0} (V : Type 0) (same : K → K → Bool) (hash : ℕ → K → ℕ) (batch_size roots : ℕ) (slot : ℕ → ℕ) where
   -- at first users have nothing, and all roots are free
   none_at_first : AreTheirs (at_first {K = K} {V = V} roots)
   none_at_first =

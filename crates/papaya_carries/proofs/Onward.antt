@@ -41,7 +41,7 @@ has_ended settled.Waits it none = absurd (cc none)
 has_ended (settled.Gave value) it none = absurd (cc none)
 has_ended settled.Done it none = refl
 
-module _ {K : Type 0} (V : Type 0) (same : K → K → Bool) (hash : K → ℕ) (batch_size roots : ℕ) (slot : ℕ → ℕ) (course : Course V same hash batch_size roots slot) where
+module _ {K : Type 0} (V : Type 0) (same : K → K → Bool) (hash : ℕ → K → ℕ) (batch_size roots : ℕ) (slot : ℕ → ℕ) (course : Course V same hash batch_size roots slot) where
   abbrev At : Type 0
   At = Reached V same hash batch_size roots slot
 

@@ -32,7 +32,7 @@ pub record IsAtRest {K V : Type 0} (s : Scene K V) : Type 0 where
   pub no_enders : (i : ℕ) → s.enders i ≡ None
   pub rows : AllRest s.world
 
-module _ {K : Type 0} (V : Type 0) (same : K → K → Bool) (hash : K → ℕ) (batch_size roots : ℕ) (slot : ℕ → ℕ) where
+module _ {K : Type 0} (V : Type 0) (same : K → K → Bool) (hash : ℕ → K → ℕ) (batch_size roots : ℕ) (slot : ℕ → ℕ) where
   -- The promise of one act: where each such block is somebody's, each is then.
   abbrev pub ActsKeepTheirs : Type 0
   ActsKeepTheirs =

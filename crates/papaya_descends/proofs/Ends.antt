@@ -38,8 +38,8 @@ module _ {K V : Type 0} (same : K → K → Bool) (batch_size : ℕ) (w : World 
   all_is = sym (back_same f.setting f.chart f.blocks facts.lists (λ t. []) false refl)
 
   falls : (m2 : Mem (Node K V)) (end : EndMap × Settled (Node K V)) → Steps Took value_at w.memory (end_map_plan f.machine) m2 end
-      → To same f.hash facts.lawful f.setting f.chart f.blocks facts.lists i f.began facts.stood w f.machine facts.past f.back facts.facts f.machine.stands m2 end
-  falls m2 end s = falls_at same f.hash facts.lawful f.setting f.chart f.blocks facts.lists i f.began facts.stood w f.machine facts.past f.back facts.facts f.machine.stands
+      → To same f.hash facts.lawful f.setting f.chart f.blocks facts.lists false i f.began facts.stood w f.machine facts.past f.back facts.facts f.machine.stands m2 end
+  falls m2 end s = falls_at same f.hash facts.lawful f.setting f.chart f.blocks facts.lists false i f.began facts.stood w f.machine facts.past f.back facts.facts f.machine.stands
       facts.facts.root facts.facts.point m2 end s
 
   -- one more was reclaimed
@@ -67,10 +67,10 @@ module _ {K V : Type 0} (same : K → K → Bool) (batch_size : ℕ) (w w2 : Wor
       here_is = let a = j.pair_is in let b = j2.pair_is in omega (arith, a, b)
 
       once : (x : ℕ) → times x (j.before ++ j.here ∷ j.rest) ≤ 1
-      once = joined_once same f.hash facts.lawful f.setting f.chart f.blocks facts.lists i f.began facts.stood w f.machine facts.past f.back facts.facts t pair j is_past
+      once = joined_once same f.hash facts.lawful f.setting f.chart f.blocks facts.lists false i f.began facts.stood w f.machine facts.past f.back facts.facts t pair j is_past
 
       once2 : (x : ℕ) → times x (j2.before ++ j2.here ∷ j2.rest) ≤ 1
-      once2 = joined_once same f.hash facts2.lawful f.setting f.chart f.blocks facts2.lists i f.began facts2.stood w2 f.machine facts2.past f.back facts2.facts t2 pair j2 is_past2
+      once2 = joined_once same f.hash facts2.lawful f.setting f.chart f.blocks facts2.lists false i f.began facts2.stood w2 f.machine facts2.past f.back facts2.facts t2 pair j2 is_past2
 
       waits : j.before ++ j.here ∷ j.rest ≡ j2.before ++ j2.here ∷ j2.rest
       waits =

@@ -1,3 +1,4 @@
 mod Lists
 mod Points
 mod Ends
+mod Owned

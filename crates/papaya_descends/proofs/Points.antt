@@ -46,13 +46,13 @@ fewer place len k = grind (arith, k)
 behind_some : (all back : List ℕ) (x : ℕ) (rest : List ℕ) → all ≡ back ++ x ∷ rest → length back < length all
 behind_some all back x rest is = let long = length-append back (x ∷ rest) in let e = ap length is in omega (arith, long, e)
 
-module _ {K V : Type 0} (same : K → K → Bool) (hash : K → ℕ) (are : AreLawful same hash) (setting : Setting) (c : Chart K) (blocks : Blocks) (lists : ℕ → List ℕ) (caller : ℕ)
-    (w0 : World (Node K V)) (may : BeganIn setting c blocks lists false same hash w0) where
-  module _ (w : World (Node K V)) (e : EndMap) (past : ℕ) (back : List ℕ) (f : EndFacts setting c blocks lists false caller hash w0 w e past back) where
+module _ {K V : Type 0} (same : K → K → Bool) (hash : K → ℕ) (are : AreLawful same hash) (setting : Setting) (c : Chart K) (blocks : Blocks) (lists : ℕ → List ℕ) (owns : Bool) (caller : ℕ)
+    (w0 : World (Node K V)) (may : BeganIn setting c blocks lists owns same hash w0) where
+  module _ (w : World (Node K V)) (e : EndMap) (past : ℕ) (back : List ℕ) (f : EndFacts setting c blocks lists owns caller hash w0 w e past back) where
     -- where it goes on, less is ahead; where it reclaims a block, fewer were reclaimed than are to be
     abbrev pub To : Ending → Mem (Node K V) → EndMap × Settled (Node K V) → Type 0
     To spot m2 (e2, settled.Goes) = IsBelow (ahead c.past m2 e2 e2.stands) (ahead c.past w.memory e spot)
-    To spot m2 (e2, settled.Gave value) = length back < length (back_of setting c blocks lists false)
+    To spot m2 (e2, settled.Gave value) = length back < length (back_of setting c blocks lists owns)
     To spot m2 (e2, _) = Unit {0}
 
     to : (spot : Ending) (m2 : Mem (Node K V)) (end other : EndMap × Settled (Node K V)) → end ≡ other → To spot m2 other → To spot m2 end
@@ -81,8 +81,8 @@ module _ {K V : Type 0} (same : K → K → Bool) (hash : K → ℕ) (are : AreL
         ]
 
     -- a later table is the next one
-    next_falls : (t : ℕ) (here : AtPairs setting c blocks lists false e past t) (roots : RootAt hash setting c blocks w.memory at.Reads)
-        (all : back_of setting c blocks lists false ≡ back ++ (map blocks.pair (pairs_behind (is_incremental setting.mode) c t) ++ from_table setting c blocks lists false c.first))
+    next_falls : (t : ℕ) (here : AtPairs setting c blocks lists owns e past t) (roots : RootAt hash setting c blocks w.memory at.Reads)
+        (all : back_of setting c blocks lists owns ≡ back ++ (map blocks.pair (pairs_behind (is_incremental setting.mode) c t) ++ from_table setting c blocks lists owns c.first))
         (link : ℕ) → word_at w.memory (Word (e.table.link / 2048) NEXT) ≡ Some link → (end : EndMap × Settled (Node K V)) → Ends (value_at w.memory) (next_read e (Found link)) end → To at.Nexts w.memory end
     next_falls t here roots all link read end ends =
         elim (ends_if (value_at w.memory) (not (link == 0) && is_incremental e.setting.mode)
@@ -93,13 +93,13 @@ module _ {K V : Type 0} (same : K → K → Bool) (hash : K → ℕ) (are : AreL
         ]
       where
         there : word_at w.memory (Word (e.table.link / 2048) NEXT) ≡ Some (next_word hash c blocks t)
-        there = next_there same hash are setting c blocks lists false caller w0 may e f.setting_is f.owns_is past w back f.since roots t here all
+        there = next_there same hash are setting c blocks lists owns caller w0 may e f.setting_is f.owns_is past w back f.since roots t here all
 
         Is : ℕ → Type 0
-        Is = NextIs same hash are setting c blocks lists false caller w0 may e f.setting_is f.owns_is past w back f.since roots t here all
+        Is = NextIs same hash are setting c blocks lists owns caller w0 may e f.setting_is f.owns_is past w back f.since roots t here all
 
         known : Is (next_word hash c blocks t)
-        known = next_is same hash are setting c blocks lists false caller w0 may e f.setting_is f.owns_is past w back f.since roots t here all
+        known = next_is same hash are setting c blocks lists owns caller w0 may e f.setting_is f.owns_is past w back f.since roots t here all
 
         none : (x : ℕ) (b : Bool) → x ≡ 0 → (not (x == 0) && b) ≡ true → ⊥
         none x b z k = grind (arith, z, k)
@@ -111,7 +111,7 @@ module _ {K V : Type 0} (same : K → K → Bool) (hash : K → ℕ) (are : AreL
             → c.past - (table_seen link value).turn < c.past - e.table.turn
         later (inl over) some value seen = absurd (none link (is_incremental e.setting.mode) over.0 some)
         later (inr (is, made, other)) some value seen =
-            let found = next_seen same hash are setting c blocks lists false caller w0 may e f.setting_is f.owns_is past w back f.since roots t here all made in
+            let found = next_seen same hash are setting c blocks lists owns caller w0 may e f.setting_is f.owns_is past w back f.since roots t here all made in
             let value_is : value ≡ node.Table (c.len (suc t)) (c.limit (suc t)) (suc t) = same_value (sym seen ∙ ap (λ (x : ℕ). value_at w.memory (x / 2048)) is ∙ ap (value_at w.memory) (block_of_link (blocks.table (suc t))) ∙ found) in
             let turn_is : (table_seen link value).turn ≡ suc t = ap (λ (x : Node K V). (table_seen link x).turn) value_is in
             let from : e.table.turn ≡ t = ap (λ (x : Table). x.turn) here.here.table in
@@ -144,12 +144,12 @@ module _ {K V : Type 0} (same : K → K → Bool) (hash : K → ℕ) (are : AreL
             ]
 
     -- of a list that is joined to those before, none stands twice
-    pub joined_once : (t pair : ℕ) (j : Joins setting c blocks lists false w.memory e t back pair) → past ≡ suc t → (x : ℕ) → times x (j.before ++ j.here ∷ j.rest) ≤ 1
+    pub joined_once : (t pair : ℕ) (j : Joins setting c blocks lists owns w.memory e t back pair) → past ≡ suc t → (x : ℕ) → times x (j.before ++ j.here ∷ j.rest) ≤ 1
     joined_once t pair j is_past x =
-        let a = f.since.once x in let k = ap (times x) (ap (wait_before setting c blocks lists false) is_past ∙ j.waiting) in omega (arith, a, k)
+        let a = f.since.once x in let k = ap (times x) (ap (wait_before setting c blocks lists owns) is_past ∙ j.waiting) in omega (arith, a, k)
 
     -- it is shorter behind one of its blocks
-    follows_falls : (t pair : ℕ) (j : Joins setting c blocks lists false w.memory e t back pair) → past ≡ suc t → (next : ℕ) → word_at w.memory (Entry (pair / 2048) LINK) ≡ Some next
+    follows_falls : (t pair : ℕ) (j : Joins setting c blocks lists owns w.memory e t back pair) → past ≡ suc t → (next : ℕ) → word_at w.memory (Entry (pair / 2048) LINK) ≡ Some next
         → (end : EndMap × Settled (Node K V)) → Ends (value_at w.memory) (follower_read e pair (Found next)) end → To (at.Follows pair) w.memory end
     follows_falls t pair j is_past next read end ends =
         elim (ends_if (value_at w.memory) e.owns (Now (standing e (at.Gives pair next), settled.Goes))
@@ -179,7 +179,16 @@ module _ {K V : Type 0} (same : K → K → Bool) (hash : K → ℕ) (are : AreL
               | inr h ↦ to (at.Follows pair) w.memory end _ h.1 (inr (refl, inr (refl, inl shorter)))
             ]
 
-    drops_falls : (next : ℕ) (m2 m3 : Mem (Node K V)) (value : Node K V) → length back < length (back_of setting c blocks lists false)
+    -- one that owns its collector reclaims the block
+    owned_falls : (pair : ℕ) → e.owns ≡ true → (next : ℕ) (end : EndMap × Settled (Node K V)) → Ends (value_at w.memory) (follower_read e pair (Found next)) end → To (at.Follows pair) w.memory end
+    owned_falls pair owned next end ends =
+        elim (ends_if (value_at w.memory) e.owns (Now (standing e (at.Gives pair next), settled.Goes))
+        (if next == 0 then Now (standing e at.Afters, settled.Goes) else Now (record e { last = next; stands = at.Follows next }, settled.Goes)) end ends) as (λ _. To (at.Follows pair) w.memory end) [
+          | inl h ↦ to (at.Follows pair) w.memory end _ h.1 (inl (omega arith))
+          | inr h ↦ absurd (let shared = h.0 in cc (owned, shared))
+        ]
+
+    drops_falls : (next : ℕ) (m2 m3 : Mem (Node K V)) (value : Node K V) → length back < length (back_of setting c blocks lists owns)
         → (end : EndMap × Settled (Node K V)) → Ends (value_at m3) (dropped e next (Taken value)) end → To (at.Drops next) m2 end
     drops_falls next m2 m3 value some end ends =
         elim (ends_if (value_at m3) (next == 0) (Now (standing e at.Shards, settled.Gave value))
@@ -198,7 +207,7 @@ module _ {K V : Type 0} (same : K → K → Bool) (hash : K → ℕ) (are : AreL
     still : (spot : Ending) (m2 : Mem (Node K V)) (end : EndMap × Settled (Node K V)) → m2 ≡ w.memory → To spot w.memory end → To spot m2 end
     still spot m2 end is t = subst (λ (x : Mem (Node K V)). To spot x end) (sym is) t
 
-    pub falls_at : (spot : Ending) → RootAt hash setting c blocks w.memory spot → EndingFacts setting c blocks lists false caller hash w e past back spot → (m2 : Mem (Node K V)) (end : EndMap × Settled (Node K V))
+    pub falls_at : (spot : Ending) → RootAt hash setting c blocks w.memory spot → EndingFacts setting c blocks lists owns caller hash w e past back spot → (m2 : Mem (Node K V)) (end : EndMap × Settled (Node K V))
         → Steps Took value_at w.memory (plan_at e spot) m2 end → To spot m2 end
     falls_at at.Reads roots point m2 end s = let d = loaded w.memory (root_read e) (Root e.setting.root) m2 end s in still at.Reads m2 end d.2 (root_falls d.0 end d.3)
     falls_at at.Words roots point m2 end s =
@@ -213,11 +222,15 @@ module _ {K V : Type 0} (same : K → K → Bool) (hash : K → ℕ) (are : AreL
     falls_at (at.Joins pair) roots point m2 end s =
         let d = stored w.memory (λ out. Now (record e { last = pair; stands = at.Follows pair }, settled.Goes)) (Entry (e.last / 2048) LINK) pair m2 end s in
         to (at.Joins pair) m2 end _ d.1 (inl (omega arith))
-    falls_at (at.Follows pair) roots (t, here, is_past, inl (q, rest, link, g)) m2 end s = absurd (let own = g.owned in cc own)
+    falls_at (at.Follows pair) roots (t, here, is_past, inl (q, rest, link, g)) m2 end s =
+        let d = loaded w.memory (follower_read e pair) (Entry (pair / 2048) LINK) m2 end s in
+        still (at.Follows pair) m2 end d.2 (owned_falls pair (f.owns_is ∙ g.owned) d.0 end d.3)
     falls_at (at.Follows pair) roots (t, here, is_past, inr j) m2 end s =
         let d = loaded w.memory (follower_read e pair) (Entry (pair / 2048) LINK) m2 end s in
         still (at.Follows pair) m2 end d.2 (follows_falls t pair j is_past d.0 d.1 end d.3)
-    falls_at (at.Gives pair next) roots (t, here, is_past, q, rest, link, g, list) m2 end s = absurd (let own = g.owned in cc own)
+    falls_at (at.Gives pair next) roots (t, here, is_past, q, rest, link, g, list) m2 end s =
+        let d = taken w.memory (given_back e (standing e (if next == 0 then at.Afters else at.Follows next))) (pair / 2048) m2 end s in
+        to (at.Gives pair next) m2 end _ d.3 (behind_some _ back q _ g.all)
     falls_at at.Afters roots point m2 end s =
         let d = loaded w.memory (after_read e) (Word (e.table.link / 2048) NEXT) m2 end s in still at.Afters m2 end d.2 (to at.Afters w.memory end _ d.3 (inl (omega arith)))
     falls_at (at.Drops next) roots (t, here, is_past, next_is, joined, all) m2 end s =

@@ -1,3 +1,4 @@
 pub mod Numbers
 pub mod Falls
 pub mod ComeToAnEnd
+pub mod Owned

@@ -4,18 +4,21 @@ ghost use Rattle.papaya_maps.specs.EndingsBegins.{BeginningsEnd, BeginningsLeave
 ghost use Rattle.papaya_descends.specs.ComeToAnEnd.{CountingsEnd, EndingsEnd};
 ghost use Rattle.papaya_descends.specs.Numbers.{EndingNumbersAreAsMany};
 ghost use Rattle.papaya_descends.specs.Falls.{CountingsFall, EndingsFall, OthersLeaveEndings};
+ghost use Rattle.papaya_descends.specs.Owned.{OwnEndingsEnd, OwnEndingsFall};
 
 /// Whatever other callers have under way, each step of a counting, of the making of a map, or of the end of one, that goes on, lowers its number, in either
 /// mode. The numbers of a counting and of a making are read off the machine alone, that of an end off what its caller has under way, and off the list of
 /// what waits, which is its own. So nothing that others do between two such steps changes them. And as a descent of numbers comes to an end, so
-/// does each of them by its own steps, whatever others do between these.
+/// does each of them by its own steps, whatever others do between these. So it is of the end of a map that owns its collector, where what its tables carry counts, too.
 pub fn own_steps_lower_the_number<K, V, Q>()
     ensures countings { CountingsFall K V }
     ensures makings { BeginningsLeaveLess K V }
     ensures endings { (same : K → K → Bool) (asks : Q → K → Bool) (batch_size roots : ℕ) (slot : ℕ → ℕ) → EndingsFall V same asks batch_size roots slot }
     ensures others { (same : K → K → Bool) (asks : Q → K → Bool) (batch_size roots : ℕ) (slot : ℕ → ℕ) → OthersLeaveEndings V same asks batch_size roots slot }
+    ensures own_endings { (same : K → K → Bool) (asks : Q → K → Bool) (batch_size roots : ℕ) (slot : ℕ → ℕ) (i : ℕ) → OwnEndingsFall V same asks batch_size roots slot i }
     ensures many { EndingNumbersAreAsMany K V }
     ensures countings_end { CountingsEnd K V }
     ensures makings_end { BeginningsEnd K V }
     ensures endings_end { (same : K → K → Bool) (asks : Q → K → Bool) (batch_size roots : ℕ) (slot : ℕ → ℕ) (i : ℕ) → EndingsEnd V same asks batch_size roots slot i }
+    ensures own_endings_end { (same : K → K → Bool) (asks : Q → K → Bool) (batch_size roots : ℕ) (slot : ℕ → ℕ) (i : ℕ) → OwnEndingsEnd V same asks batch_size roots slot i }
 {}

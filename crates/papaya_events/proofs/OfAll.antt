@@ -26,6 +26,7 @@ use Rattle.papaya_reclaims.specs.Reclaims.{IsRootOf}
 use Rattle.papaya_reclaims.proofs.Left.Stays.{nothing_is_left}
 use Rattle.papaya_reclaiming.specs.Reclaiming.{IsReclaiming, MayReclaim, NobodyHas}
 use Rattle.papaya_finds.specs.Little.{ReclaimsAll}
+use Rattle.papaya_folded.proofs.Steps.{none_in_order}
 use Rattle.papaya_legal.proofs.Come.{events_bring_things}
 use Rattle.papaya_legal.proofs.Heads.Chains.{all_step, all_taken}
 use Rattle.papaya_legal.proofs.Heads.Rows.{slots_stay, taken_then}
@@ -234,6 +235,7 @@ module _ {K V S : Type 0} (same : K → K → Bool) (hash : K → ℕ) (terms : 
         } in (
           record {
             legal = its.0;
+            hands = none_in_order log e (busy_still log s.world event of_all 0).caller;
             runs = record {
               stands = stands_in same hash terms (moment (e ∷ log)) new so name last_scene shown named;
               shows = its.2;

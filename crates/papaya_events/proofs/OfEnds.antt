@@ -43,7 +43,6 @@ use Rattle.papaya_effects.specs.Known.{Known, known}
 use Rattle.papaya_effects.specs.declared.acting.Acting.TheVariants as acts
 use Rattle.papaya_effects.specs.declared.role.Role.TheVariants as role
 use Rattle.papaya_executor.proofs.Fresh.{no_ending_yet}
-use Rattle.papaya_legal.proofs.Come.{events_bring_things}
 use Rattle.papaya_legal.proofs.Heads.Chains.{endings_taken}
 use Rattle.papaya_legal.proofs.Heads.Rows.{slots_stay}
 use Rattle.papaya_legal.specs.CallEvents.{IsLegalBut}
@@ -64,25 +63,21 @@ use Rattle.papaya_rows.proofs.Lists.{found_has}
 use Rattle.papaya_scheduler.specs.Mapping.{AreApart}
 use Rattle.papaya_scheduler.specs.Played.{IsDue, IsPlayed, entry_of}
 use Rattle.papaya_scheduler.specs.Works.{HasEndedMap, WorksOnEnd}
-use Rattle.papaya_named.specs.declared.caller.Callers.{Callers}
 use Rattle.papaya_scheduler.specs.declared.played.Played.{Played}
 use Rattle.papaya_scheduler.specs.declared.scheduler.Scheduler.{Scheduler}
 use Rattle.papaya_mapping.proofs.MapsEnded.{here as ending_here, no_call, no_other, shown_mid}
 use Rattle.papaya_mapping.proofs.MapLists.{by_recursion}
 use Rattle.papaya_scheduler.proofs.Maps.{number_is}
 use Rattle.papaya_scheduler.proofs.Rights.{entry, entry_is}
-use Rattle.papaya_events.proofs.OfCalls.Worth.{have_values_then, nobody_says}
 use Rattle.papaya_events.specs.Asked.{Holds}
-use Rattle.papaya_events.specs.OfCalls.{HaveShards, HaveValues, Runs, RunsOn}
+use Rattle.papaya_events.specs.OfCalls.{HaveShards, Runs, RunsOn}
 use Rattle.papaya_events.specs.OfRows.{KeepsRun}
 use Rattle.papaya_works.proofs.Ends.{ends_find_all}
 use Rattle.papaya_works.proofs.Reached.{ends_note_more}
-use Rattle.papaya_events.proofs.OfCalls.Scenes.{AreNamed, its_named, stands_in}
+use Rattle.papaya_events.proofs.OfRows.Over.{over_runs}
 use Rattle.papaya_events.proofs.OfRows.Chain.{come_as, come_by}
 use Rattle.papaya_events.proofs.OfRows.Lone.{alone_follows}
 use Rattle.papaya_events.proofs.OfRows.Quiet.{refused_still, still_keeps}
-use Rattle.papaya_events.proofs.Reached.{reached_after}
-use Rattle.papaya_events.proofs.Remaining.{counted_in}
 
 -- What an end does it may do: pairs end with their map, and then its tables.
 module _ {K V : Type 0} (own : List ℕ) (m : Moment K V) where
@@ -413,9 +408,6 @@ module _ {K V S : Type 0} (same : K → K → Bool) (hash : K → ℕ) (terms : 
         (alone_follows same hash terms log old run (EndMap own) refl) (suc d.gone.1.0) (come_by (far effects new.logged) y.now y.scene) chain y.is_at played.steps effects refl acts_so over others may_end
         finds whole right
 
-    named : AreNamed name new.calls.items.items
-    named = subst (λ (c : Callers V). AreNamed name c.items.items) (sym calls) (its_named same hash terms m old run.stands)
-
     shards : HaveShards terms new.logged.executor
     shards n setting is = by (cases_eq n map)
       where
@@ -426,11 +418,6 @@ module _ {K V S : Type 0} (same : K → K → Bool) (hash : K → ℕ) (terms : 
         by (inl one) = absurd (let none = ap (option_map (λ (st : Standing K). st.setting)) (at_same s.maps map None n one) in cc (none, now_is))
         by (inr ne) = run.shards n setting (sym (run.stands.shown.is_at.maps n) ∙ sym (ap (option_map (λ (st : Standing K). st.setting)) (at_other s.maps map None n ne)) ∙ now_is)
 
-    values : HaveValues (moment (e ∷ log)) y.scene new.calls.items.items
-    values =
-        subst (λ (c : Callers V). HaveValues (moment (e ∷ log)) y.scene c.items.items) (sym calls)
-        (have_values_then m (moment (e ∷ log)) (nobody_says e m refl) s y.scene y.calls old.calls.items.items run.values)
-
     -- no bucket of slots is forgotten
     grows : (known old.logged.notes).buckets ≤ (known new.logged.notes).buckets
     grows =
@@ -438,27 +425,12 @@ module _ {K V S : Type 0} (same : K → K → Bool) (hash : K → ℕ) (terms : 
         (come_by (far effects new.logged) y.now y.scene) chain (omega arith)
 
     keeps_done : KeepsAs e
-    keeps_done so right = record {
-      legal = (it right).0;
-      runs = record {
-        stands = stands_in same hash terms (moment (e ∷ log)) new so name y.scene
-            (record {
-              is_at = y.is_at;
-              shows = (it right).1.calls.whole;
-              kept = (it right).1.calls.kept;
-              counted = counted_in same hash terms (moment (e ∷ log)) new so y.scene y.is_at y.counted.remains.lists y.counted.remains.left;
-            }) named;
-        shows = (it right).1;
-        come = events_bring_things K V terms log e run.come (it right).0.life.finds;
-        values = values;
-        taken = slots_stay s1.world.memory y.scene.world.memory m.slots
-            (endings_taken same hash terms i map (suc d.gone.1.0) (record { executor = d.began.executor; did = []; now = m; notes = known old.logged.notes; scene = s1 })
-            (come_by (far effects new.logged) y.now y.scene) chain) run.taken;
-        size = y.size;
-        shards = shards;
-        reached = reached_after same hash terms log e old new right so grows run.reached;
-      };
-    }
+    keeps_done so right =
+        over_runs same hash terms log e old new run refl y.scene y.is_at y.counted.remains.lists y.counted.remains.left calls y.calls so right (it right).0 (it right).1
+        (slots_stay s1.world.memory y.scene.world.memory m.slots
+        (endings_taken same hash terms i map (suc d.gone.1.0) (record { executor = d.began.executor; did = []; now = m; notes = known old.logged.notes; scene = s1 }) (come_by (far effects new.logged) y.now y.scene)
+        chain) run.taken)
+        y.size shards grows
 
     end_keeps : RunsOn same hash terms log (entry_of (EndMap own) played) new
     end_keeps = subst KeepsAs (sym (entry_is (EndMap own) played Done played.steps effects done refl refl)) keeps_done after right_so
@@ -475,5 +447,5 @@ module _ {K V S : Type 0} (same : K → K → Bool) (hash : K → ℕ) (terms : 
 module _ {K V S : Type 0} (same : K → K → Bool) (hash : K → ℕ) (event : Event K V) (own : List ℕ) (is : event ≡ EndMap own) (old new : Scheduler K V S) where
   pub ends_keep : {X : Type 0} → (result : Result (Played V) X) → IfOk result (λ played. WorksOnEnd played old new own) → IfOk result (λ played. KeepsRun same hash event played old new)
   ends_keep (Ok played) works =
-      subst (λ (x : Event K V). KeepsRun same hash x played old new) (sym is) (λ of terms log holds run turn after right begun. map_end_keeps same hash terms log own played old new holds run turn after right works)
+      subst (λ (x : Event K V). KeepsRun same hash x played old new) (sym is) (λ of terms log holds run turn after right. map_end_keeps same hash terms log own played old new holds run turn after right works)
   ends_keep (Err x) works = tt

@@ -1,12 +1,11 @@
--- An event that makes a map keeps its promises, and a run goes on with it.
+-- An event that makes a map keeps its promises, and a run goes on with it, whether the map was made or its making was refused.
 use Rattle.std.specs.Prelude.{◌≡◌, ◌≤◌, ◌⊎◌, ◌==◌, ◌&&◌, ◌<◌, ◌+◌, ◌-◌, ◌^◌, ◌++◌, if◌then◌else◌, nat_le, ℕ, suc, Bool, true, false, List, [], ◌∷◌, find, is_none, length, max, not, nat_lt, cond, Option, Some, None, option_map, slice_index_or, Result, Ok, Err, IfOk}
-use Rattle.std.specs.Int.{IsPowerOfTwo}
 use Rattle.std.specs.List.{AllByRecursion}
 use Rattle.std.proofs.Common.{refl, sym, ap, subst, inl, inr, ◌∙◌, arith}
 use Rattle.std.proofs.lemmas.Bool.{eq-eqb, ne_eqb}
 use Rattle.std.proofs.lemmas.Nat.{pow_pos}
 use Rattle.papaya_histories.specs.Given.Seize.declared.progress.Progress.{Progress}
-use Rattle.papaya_histories.specs.Given.Seize.World.{with_at}
+use Rattle.papaya_histories.specs.Given.Seize.declared.progress.Progress.TheVariants as progress
 use Rattle.papaya_histories.specs.Given.Runs.Same.{is_same}
 use Rattle.papaya_histories.specs.Given.Tables.declared.resize_mode.ResizeMode.{ResizeMode}
 use Rattle.papaya_histories.specs.Given.Tables.Lengths.{places_for}
@@ -23,7 +22,6 @@ use Rattle.papaya_runs.proofs.Sames.{same_refl}
 use Rattle.papaya_schedules.specs.declared.effect.Effect.{Effect}
 use Rattle.papaya_schedules.specs.declared.event.Event.{Event}
 use Rattle.papaya_schedules.specs.declared.event.Event.TheVariants.{MakeMap}
-use Rattle.papaya_schedules.specs.declared.outcome.Outcome.{Outcome}
 use Rattle.papaya_schedules.specs.declared.outcome.Outcome.TheVariants.{Done, Refused}
 use Rattle.papaya_schedules.specs.After.{moment}
 use Rattle.papaya_schedules.specs.Beginning.{used_roots, with_map}
@@ -37,9 +35,6 @@ use Rattle.papaya_schedules.specs.Terms.{Terms, shards_of}
 use Rattle.papaya_schedules.specs.Views.{map_at, map_of, number_of, tables_of}
 use Rattle.papaya_effects.specs.Known.{Known, known}
 use Rattle.papaya_effects.specs.declared.notes.Notes.{Notes}
-use Rattle.papaya_executor.specs.MakingBegins.{next_making}
-use Rattle.papaya_executor.proofs.Fresh.{no_making_yet}
-use Rattle.papaya_legal.proofs.Come.{events_bring_things}
 use Rattle.papaya_legal.proofs.Heads.Chains.{makings_taken}
 use Rattle.papaya_legal.proofs.Heads.Rows.{slots_stay}
 use Rattle.papaya_finds.proofs.Capacities.{given_are_for}
@@ -63,8 +58,7 @@ use Rattle.papaya_named.specs.Places.{first_places}
 use Rattle.papaya_scheduler.specs.Mapping.{MayMap, may_make_of}
 use Rattle.papaya_scheduler.specs.Played.{IsPlayed, entry_of}
 use Rattle.papaya_named.specs.Seen.{named as named_of_map, number_named}
-use Rattle.papaya_scheduler.specs.Works.{HasMadeMap, WorksOnMap}
-use Rattle.papaya_named.specs.declared.caller.Callers.{Callers}
+use Rattle.papaya_scheduler.specs.Works.{MakingHasRun, WorksOnMap}
 use Rattle.papaya_scheduler.specs.declared.played.Played.{Played}
 use Rattle.papaya_scheduler.specs.declared.scheduler.Scheduler.{Scheduler}
 use Rattle.papaya_mapping.proofs.MapLists.{by_recursion}
@@ -72,20 +66,22 @@ use Rattle.papaya_mapping.proofs.MapsMade.{new_one, shown_there as shown_by}
 use Rattle.papaya_scheduler.proofs.Maps.{number_is}
 use Rattle.papaya_scheduler.proofs.RanOn.{maps_named}
 use Rattle.papaya_scheduler.proofs.Rights.{entry, entry_is}
-use Rattle.papaya_events.proofs.OfCalls.Worth.{have_values_then, nobody_says}
 use Rattle.papaya_events.specs.Asked.{Holds}
-use Rattle.papaya_events.specs.OfCalls.{HaveShards, HaveValues, Runs, RunsOn}
-use Rattle.papaya_events.specs.OfRows.{HasNotBegun, KeepsRun}
+use Rattle.papaya_events.specs.OfCalls.{HaveShards, Runs, RunsOn}
+use Rattle.papaya_events.specs.OfRows.{KeepsRun}
 use Rattle.papaya_works.proofs.Reached.{makings_note_more}
-use Rattle.papaya_events.proofs.OfCalls.Scenes.{AreNamed, its_named, stands_in}
-use Rattle.papaya_events.proofs.OfMakings.Chain.{MakingComes, Midway, making_comes_on, makings_come, masks}
+use Rattle.papaya_events.proofs.OfMakings.Begun.{begun_as, begun_in, begun_shown, none_begun}
+use Rattle.papaya_events.proofs.OfMakings.Chain.{HasFound, MakingComes, Midway, comes_on, found_on, makings_come, masks}
+use Rattle.papaya_events.proofs.OfMakings.Refused.{refused_runs}
 use Rattle.papaya_events.proofs.OfRows.Chain.{come_by}
 use Rattle.papaya_events.proofs.OfRows.Lone.{alone_follows}
+use Rattle.papaya_events.proofs.OfRows.Over.{over_runs}
 use Rattle.papaya_events.proofs.OfRows.May.{all_by}
 use Rattle.papaya_events.proofs.OfRows.Quiet.{refused_still, still_keeps}
-use Rattle.papaya_events.proofs.Reached.{reached_after}
-use Rattle.papaya_events.proofs.Remaining.{counted_in, nobody_makes}
+use Rattle.papaya_events.proofs.Remaining.{nobody_makes}
 pub mod Chain
+pub mod Begun
+pub mod Refused
 
 -- one that is put behind those of which none is it is the one that is found
 found_last : {X : Type 0} (p : X → Bool) (xs : List X) (x : X) → find p xs ≡ None → p x ≡ true → find p (xs ++ x ∷ []) ≡ Some x
@@ -136,7 +132,7 @@ module _ {K V S : Type 0} (same : K → K → Bool) (hash : K → ℕ) (terms : 
   KeepsAs x = IsPlayed same hash terms (x ∷ log) new → ComesRight terms log x → RunsOn same hash terms log x new
 
   -- the map was made
-  module _ (calls : new.calls ≡ old.calls) (d : HasMadeMap played old new own mode capacity) where
+  module _ (calls : new.calls ≡ old.calls) (setting : Setting) (d : MakingHasRun played old new own mode capacity (progress.Done setting)) where
     abbrev i : ℕ
     i = d.caller
 
@@ -147,7 +143,7 @@ module _ {K V S : Type 0} (same : K → K → Bool) (hash : K → ℕ) (terms : 
     e = entry event Done played.steps effects
 
     abbrev b : Beginning K
-    b = next_making hash d.given d.places old.logged.executor
+    b = begun_as run holds d
 
     abbrev there : MapThere
     there = record { name = own; number = m.made; root = least_free (used_roots m); mode = mode; capacity = capacity; first = 0 }
@@ -156,19 +152,13 @@ module _ {K V S : Type 0} (same : K → K → Bool) (hash : K → ℕ) (terms : 
     bm = with_map there m
 
     abbrev s1 : Scene K V
-    s1 = record s { makers = with_at s.makers i (Some b) }
+    s1 = begun_in run holds d
 
     begins : MakingIsBegun same hash name m s d.given d.places i old.logged d.began
     begins = d.begins same hash name m s run.stands.shown
 
-    small_mask : d.given.mask + 1 < 2 ^ 64
-    small_mask = let few = holds.counts.processors in let half = d.is_given.mask.2 in omega (arith, few, half)
-
     at1 : IsAt same hash d.began.executor s1
-    at1 = (begins holds.lawful (subst IsPowerOfTwo (sym d.is_given.initial) d.first.0) d.is_given.batches small_mask d.some (λ l. d.first.1)).is_at
-
-    idle : s.makers i ≡ None
-    idle = subst (λ (n : ℕ). s.makers n ≡ None) (sym d.fresh) (no_making_yet same hash old.logged.executor s run.stands.shown.is_at 0 (omega arith))
+    at1 = (begun_shown run holds d).is_at
 
     map_is : b.map ≡ m.made
     map_is = holds.counts.next
@@ -182,21 +172,21 @@ module _ {K V S : Type 0} (same : K → K → Bool) (hash : K → ℕ) (terms : 
     midst : InMakingEvent same name terms log event b.map bm [] bm (known d.began.notes) s1
     midst =
         subst (λ (k : Known). InMakingEvent same name terms log event b.map bm [] bm k s1) (sym begins_so)
-        (making_events_begin_so K V S same hash name terms log (known old.logged.notes) s old.logged.executor d.began.executor run.stands.shown.is_at run.shows own mode capacity there refl i b idle map_is
+        (making_events_begin_so K V S same hash name terms log (known old.logged.notes) s old.logged.executor d.began.executor run.stands.shown.is_at run.shows own mode capacity there refl i b (none_begun run holds d) map_is
         (λ made. absurd made) lone at1)
 
     below : b.map < bm.made
     below = let is = map_is in omega (arith, is)
 
     -- it is there as a new one
-    is_new : IsNew b.map d.setting bm
+    is_new : IsNew b.map setting bm
     is_new =
-        new_one same hash terms log old own mode capacity may d.faultless d.free d.some d.places d.first d.given d.is_given i d.began begins (length old.logged.executor.maps.items) refl d.setting new.logged []
+        new_one same hash terms log old own mode capacity may d.faultless d.free d.some d.places d.first d.given d.is_given i d.began begins (length old.logged.executor.maps.items) refl setting new.logged []
         effects refl d.there d.ran d.finds
 
     shown_there : IsShown same hash name bm d.began s1
     shown_there =
-        shown_by same hash terms log old own mode capacity may d.faultless d.free d.some d.places d.first d.given d.is_given i d.began begins (length old.logged.executor.maps.items) refl d.setting new.logged []
+        shown_by same hash terms log old own mode capacity may d.faultless d.free d.some d.places d.first d.given d.is_given i d.began begins (length old.logged.executor.maps.items) refl setting new.logged []
         effects refl d.there d.ran d.finds
 
     abbrev x : Come K V S
@@ -208,7 +198,7 @@ module _ {K V S : Type 0} (same : K → K → Bool) (hash : K → ℕ) (terms : 
         subst (λ (n : ℕ). map_at n bm ≡ Some there) (sym map_is)
         (found_last (λ (f : MapThere). f.number == m.made) m.maps there (none_numbered m.made m.maps (by_recursion _ m.maps holds.counts.apart.numbers.below)) (eq-eqb m.made m.made refl))
 
-    first : Midway same hash terms name log own mode capacity i b bm below d.setting s.maps there d.faultless d.places_are 0 x (far [] d.began)
+    first : Midway same hash terms name log own mode capacity i b bm there d.faultless d.places_are below setting s.maps 0 x (far [] d.began)
     first = (
       record {
         now = bm;
@@ -217,29 +207,35 @@ module _ {K V S : Type 0} (same : K → K → Bool) (hash : K → ℕ) (terms : 
         is_at = at1;
         size = d.stays.1 ∙ run.size;
         midst = midst;
-        made = refl;
         calls = refl;
         counted = shown_there.counted;
         firsts = refl;
+      },
+      (b.machine, at_same s.makers i (Some b) i refl, refl),
+      is_new,
+      record {
+        made = refl;
+        made_for = given_are_for K V bm b.map there there_so d.faultless b.given (d.is_given.initial ∙ ap (λ (n : ℕ). max n 1) d.places_are);
         found = tt;
         openings = makings_open K V s (λ j c makes. absurd (let none = nobody_makes same hash terms m old run.stands j in cc (none, makes))) i b d.given old.logged.executor.roots d.places refl;
         there_is = there_so;
-        made_for = given_are_for K V bm b.map there there_so d.faultless b.given (d.is_given.initial ∙ ap (λ (n : ℕ). max n 1) d.places_are);
       },
-      (b.machine, at_same s.makers i (Some b) i refl, is_new, refl),
     )
 
-    prev : Midway same hash terms name log own mode capacity i b bm below d.setting s.maps there d.faultless d.places_are d.gone.1.0 x d.gone.0
-    prev = makings_come same hash terms name log own mode capacity i b bm below d.setting s.maps there d.faultless d.places_are d.gone.1.0 x (far [] d.began) d.gone.0 d.gone.1.1 first
+    prev : Midway same hash terms name log own mode capacity i b bm there d.faultless d.places_are below setting s.maps d.gone.1.0 x d.gone.0
+    prev = makings_come same hash terms name log own mode capacity i b bm there d.faultless d.places_are below setting s.maps d.gone.1.0 x (far [] d.began) d.gone.0 d.gone.1.1 first
 
     abbrev mid : Logged K V S
     mid = d.gone.2
 
     was : WasNew b.map d.gone.3.said prev.0.now
-    was = subst (λ (t : Progress Setting). WasNew b.map t prev.0.now) (sym d.gone.4) prev.1.2
+    was = subst (λ (t : Progress Setting). WasNew b.map t prev.0.now) (sym d.gone.4) prev.2
 
-    abbrev y : MakingComes same hash terms name log own mode capacity i b bm below d.setting s.maps there d.faultless d.places_are (suc d.gone.1.0) x (far effects mid)
-    y = making_comes_on same hash terms name log own mode capacity i b bm below d.setting s.maps there d.faultless d.places_are d.gone.1.0 x d.gone.0 (far effects mid) prev.0 prev.1 d.gone.3 was
+    abbrev y : MakingComes same hash terms name log own mode capacity i b bm (suc d.gone.1.0) x (far effects mid)
+    y = comes_on same hash terms name log own mode capacity i b bm there d.faultless d.places_are below d.gone.1.0 x d.gone.0 (far effects mid) prev.0 s.maps prev.1 d.gone.3 was setting prev.2 prev.3
+
+    found : HasFound same hash terms name log own mode capacity i b bm there d.faultless d.places_are below effects y.now y.scene
+    found = found_on same hash terms name log own mode capacity i b bm there d.faultless d.places_are below d.gone.1.0 x d.gone.0 (far effects mid) prev.0 s.maps prev.1 d.gone.3 was setting prev.2 prev.3
 
     chain : StepChain (MakingSteps same hash terms i b.map) (suc d.gone.1.0) (record { executor = d.began.executor; did = []; now = bm; notes = known old.logged.notes; scene = s1 })
         (come_by (far effects mid) y.now y.scene)
@@ -300,15 +296,12 @@ module _ {K V S : Type 0} (same : K → K → Bool) (hash : K → ℕ) (terms : 
 
     it : ComesRight terms log e → IsLegalBut same terms log e × ShowsRun same name terms (e ∷ log) (known mid.notes) y.scene
     it right =
-        makings_run_to_their_ends K V S same hash name terms log (known old.logged.notes) s old.logged.executor d.began.executor run.stands.shown.is_at run.shows own mode capacity there refl i b idle map_is
+        makings_run_to_their_ends K V S same hash name terms log (known old.logged.notes) s old.logged.executor d.began.executor run.stands.shown.is_at run.shows own mode capacity there refl i b (none_begun run holds d) map_is
         (λ made. absurd made) lone at1 (suc d.gone.1.0) (come_by (far effects mid) y.now y.scene) chain played.steps effects refl refl named_so
-        (all_by is_first_making (may_do event m) (λ f is. is) effects y.firsts) y.found whole right
+        (all_by is_first_making (may_do event m) (λ f is. is) effects y.firsts) found.found whole right
 
     shows : ComesRight terms log e → ShowsRun same name terms (e ∷ log) (known new.logged.notes) y.scene
     shows right = subst (λ (n : Notes). ShowsRun same name terms (e ∷ log) (known n) y.scene) (sym d.gone.5) (it right).1
-
-    named : AreNamed name new.calls.items.items
-    named = subst (λ (c : Callers V). AreNamed name c.items.items) (sym calls) (its_named same hash terms m old run.stands)
 
     mask_is : d.given.mask + 1 ≡ shards_of terms
     mask_is =
@@ -316,27 +309,22 @@ module _ {K V S : Type 0} (same : K → K → Bool) (hash : K → ℕ) (terms : 
         ∙ ap (λ (t : Terms). shards_of t) run.stands.given
 
     shards : HaveShards terms new.logged.executor
-    shards n setting is = by (masks same hash terms name log own mode capacity i b bm below d.setting s.maps there d.faultless d.places_are d.gone.1.0 x d.gone.0 (far effects mid) prev.0 prev.1 d.gone.3 was d.gone.4 n)
+    shards n its is = by (masks same hash terms name log own mode capacity i b bm d.gone.1.0 x d.gone.0 (far effects mid) prev.0 s.maps prev.1 d.gone.3 setting d.gone.4 n)
       where
-        now_is : option_map (λ (st : Standing K). st.setting) (y.scene.maps n) ≡ Some setting
+        now_is : option_map (λ (st : Standing K). st.setting) (y.scene.maps n) ≡ Some its
         now_is = at_end.maps n ∙ is
 
-        by : (y.scene.maps n ≡ s.maps n) ⊎ ((standing : Standing K) × (y.scene.maps n ≡ Some standing) × (standing.setting.mask ≡ d.given.mask)) → setting.mask + 1 ≡ shards_of terms
-        by (inl as_before) = run.shards n setting (sym (run.stands.shown.is_at.maps n) ∙ sym (ap (option_map (λ (st : Standing K). st.setting)) as_before) ∙ now_is)
+        by : (y.scene.maps n ≡ s.maps n) ⊎ ((standing : Standing K) × (y.scene.maps n ≡ Some standing) × (standing.setting.mask ≡ d.given.mask)) → its.mask + 1 ≡ shards_of terms
+        by (inl as_before) = run.shards n its (sym (run.stands.shown.is_at.maps n) ∙ sym (ap (option_map (λ (st : Standing K). st.setting)) as_before) ∙ now_is)
         by (inr (st, stands, mask)) =
-            let one : Some st.setting ≡ Some setting = sym (ap (option_map (λ (x : Standing K). x.setting)) stands) ∙ now_is in
-            let its : st.setting ≡ setting = cc one in
-            ap (λ (x : Setting). x.mask + 1) (sym its) ∙ ap (λ (q : ℕ). q + 1) mask ∙ mask_is
+            let one : Some st.setting ≡ Some its = sym (ap (option_map (λ (x : Standing K). x.setting)) stands) ∙ now_is in
+            let same_one : st.setting ≡ its = cc one in
+            ap (λ (x : Setting). x.mask + 1) (sym same_one) ∙ ap (λ (q : ℕ). q + 1) mask ∙ mask_is
 
     -- what ended maps left over is where it was
     left_behind : LeftAmong new.logged.executor.roots y.scene.world y.scene.maps y.scene.makers y.scene.enders y.counted.remains.lists
     left_behind =
         subst (λ (r : ℕ). LeftAmong r y.scene.world y.scene.maps y.scene.makers y.scene.enders y.counted.remains.lists) (sym (ap (λ (x : Executor K V S). x.roots) d.gone.6)) y.counted.remains.left
-
-    values : HaveValues (moment (e ∷ log)) y.scene new.calls.items.items
-    values =
-        subst (λ (c : Callers V). HaveValues (moment (e ∷ log)) y.scene c.items.items) (sym calls)
-        (have_values_then m (moment (e ∷ log)) (nobody_says e m refl) s y.scene y.calls old.calls.items.items run.values)
 
     -- no bucket of slots is forgotten
     grows : (known old.logged.notes).buckets ≤ (known new.logged.notes).buckets
@@ -346,45 +334,30 @@ module _ {K V S : Type 0} (same : K → K → Bool) (hash : K → ℕ) (terms : 
         (come_by (far effects mid) y.now y.scene) chain (omega arith))
 
     keeps_made : KeepsAs e
-    keeps_made so right = record {
-      legal = (it right).0;
-      runs = record {
-        stands = stands_in same hash terms (moment (e ∷ log)) new so name y.scene (record {
-          is_at = at_end;
-          shows = (shows right).calls.whole;
-          kept = (shows right).calls.kept;
-          counted = counted_in same hash terms (moment (e ∷ log)) new so y.scene at_end y.counted.remains.lists left_behind;
-        }) named;
-        shows = shows right;
-        come = events_bring_things K V terms log e run.come (it right).0.life.finds;
-        values = values;
-        taken = slots_stay s1.world.memory y.scene.world.memory m.slots
-            (makings_taken same hash terms i b.map (suc d.gone.1.0) (record { executor = d.began.executor; did = []; now = bm; notes = known old.logged.notes; scene = s1 })
-            (come_by (far effects mid) y.now y.scene) chain) run.taken;
-        size = ap (λ (x : Executor K V S). x.batch_size) d.gone.6 ∙ y.size;
-        shards = shards;
-        reached = reached_after same hash terms log e old new right so grows run.reached;
-      };
-    }
+    keeps_made so right =
+        over_runs same hash terms log e old new run refl y.scene at_end y.counted.remains.lists left_behind calls y.calls so right (it right).0 (shows right)
+        (slots_stay s1.world.memory y.scene.world.memory m.slots
+        (makings_taken same hash terms i b.map (suc d.gone.1.0) (record { executor = d.began.executor; did = []; now = bm; notes = known old.logged.notes; scene = s1 }) (come_by (far effects mid) y.now y.scene) chain)
+        run.taken)
+        (ap (λ (x : Executor K V S). x.batch_size) d.gone.6 ∙ y.size) shards grows
 
   refused_keeps : (fault : Fault) → played.outcome ≡ Refused fault → played.effects.items ≡ [] → new.logged ≡ old.logged → new.calls ≡ old.calls → KeepsAs (entry_of event played)
   refused_keeps fault is none still calls =
       subst KeepsAs (sym (entry_is event played (Refused fault) played.steps [] is refl none))
       (λ so rest. still_keeps same hash terms log old run (entry event (Refused fault) played.steps []) new refl (refused_still log s.world event refl fault played.steps) still calls so rest refl)
 
-  -- it was refused, and nothing was done; or it was made; nothing is said of one that was refused once it had begun
+  -- it was refused, and nothing was done; or its making was refused; or it was made
   map_made_keeps : WorksOnMap played old new own mode capacity → IsPlayed same hash terms (entry_of event played ∷ log) new → ComesRight terms log (entry_of event played)
-      → HasNotBegun event played.outcome played.effects.items old new → RunsOn same hash terms log (entry_of event played) new
-  map_made_keeps (calls, inl (fault, is, (none, still))) after right begun = refused_keeps fault is none still calls after right
-  map_made_keeps (calls, inr (inl (fault, is))) after right begun =
-      let so : (played.effects.items ≡ []) × (new.logged ≡ old.logged) = subst (λ (o : Outcome V). HasNotBegun event o played.effects.items old new) is begun in
-      refused_keeps fault is so.0 so.1 calls after right
-  map_made_keeps (calls, inr (inr (done, d))) after right begun = subst KeepsAs (sym (entry_is event played Done played.steps played.effects.items done refl refl)) (keeps_made calls d) after right
+      → RunsOn same hash terms log (entry_of event played) new
+  map_made_keeps (calls, inl (fault, is, (none, still))) = refused_keeps fault is none still calls
+  map_made_keeps (calls, inr (inl (fault, is, d))) =
+      subst KeepsAs (sym (entry_is event played (Refused fault) played.steps played.effects.items is refl refl)) (refused_runs same hash terms log own mode capacity played old new holds run turn calls fault d)
+  map_made_keeps (calls, inr (inr (done, setting, d))) = subst KeepsAs (sym (entry_is event played Done played.steps played.effects.items done refl refl)) (keeps_made calls setting d)
 
 -- So it is by what its function says.
 module _ {K V S : Type 0} (same : K → K → Bool) (hash : K → ℕ) (event : Event K V) (own : List ℕ) (mode : ResizeMode) (capacity : ℕ) (is : event ≡ MakeMap own mode capacity) (old new : Scheduler K V S) where
   pub makings_keep : {X : Type 0} → (result : Result (Played V) X) → IfOk result (λ played. WorksOnMap played old new own mode capacity) → IfOk result (λ played. KeepsRun same hash event played old new)
   makings_keep (Ok played) works =
       subst (λ (x : Event K V). KeepsRun same hash x played old new) (sym is)
-      (λ of terms log holds run turn after right begun. map_made_keeps same hash terms log own mode capacity played old new holds run turn works after right begun)
+      (λ of terms log holds run turn after right. map_made_keeps same hash terms log own mode capacity played old new holds run turn works after right)
   makings_keep (Err x) works = tt

@@ -42,7 +42,6 @@ use Rattle.papaya_promises.specs.Others.{SparesGuards}
 use Rattle.papaya_promises.specs.Protected.{is_of_slots, there_in}
 use Rattle.papaya_models.specs.OnSlots.{IsRowFor}
 use Rattle.papaya_finds.specs.Little.{ReclaimsAll}
-use Rattle.papaya_legal.proofs.Come.{events_bring_things}
 use Rattle.papaya_legal.proofs.Heads.Registers.{IsOtherCall, ThenSo, other_begun, others_taken, registers_taken}
 use Rattle.papaya_legal.specs.CallEvents.{IsLegalBut}
 use Rattle.papaya_legal.specs.Carried.{ShowsRun}
@@ -54,33 +53,29 @@ use Rattle.papaya_legal.proofs.Found.{row_chains_find}
 use Rattle.papaya_legal.proofs.Slots.{slot_events_begin_so}
 use Rattle.papaya_logged.specs.Goes.{far}
 use Rattle.papaya_logged.specs.OnSlots.{has_come}
-use Rattle.papaya_logged.specs.Shown.{IsShown}
 use Rattle.papaya_remains.specs.Slots.{SlotsNoted}
 use Rattle.papaya_rows.specs.Rows.{RowRan, left_as}
 use Rattle.papaya_rows.proofs.Facts.{row_rests}
 use Rattle.papaya_scheduler.specs.Played.{IsPlayed, entry_of}
 use Rattle.papaya_scheduler.specs.Works.{ComesBy, IsAbout, IsItsRow, WorksOnSlot, told_so}
-use Rattle.papaya_named.specs.declared.caller.Callers.{Callers}
 use Rattle.papaya_scheduler.specs.declared.played.Played.{Played}
 use Rattle.papaya_scheduler.specs.declared.scheduler.Scheduler.{Scheduler}
 use Rattle.papaya_scheduler.proofs.Rights.{entry, entry_is}
-use Rattle.papaya_events.proofs.OfCalls.Worth.{have_values_then, nobody_says}
-use Rattle.papaya_events.specs.OfCalls.{HaveShards, HaveValues, Runs, RunsOn}
+use Rattle.papaya_events.specs.OfCalls.{HaveShards, Runs, RunsOn}
 use Rattle.papaya_events.specs.OfRows.{KeepsRun, is_of_rows}
 use Rattle.papaya_scheduler.proofs.Vacancies.{first_is, none_on_vacant}
 use Rattle.papaya_works.specs.Rows.{may_row}
 use Rattle.papaya_works.proofs.Mays.{rows_do_theirs}
 use Rattle.papaya_works.proofs.Needs.{none_need, reclaiming_asks_none, registers_need}
 use Rattle.papaya_works.proofs.Reached.{rows_note_more}
-use Rattle.papaya_events.proofs.OfCalls.Scenes.{AreNamed, its_named, stands_in}
+use Rattle.papaya_events.proofs.OfRows.Over.{over_runs}
 use Rattle.papaya_events.proofs.OfRows.Chain.{RowComes, come_by, rows_come}
 use Rattle.papaya_events.proofs.OfRows.Facts.{RowFacts, facts}
 use Rattle.papaya_events.proofs.OfRows.Lone.{alone_follows}
 use Rattle.papaya_events.proofs.OfRows.May.{flush_inside, may_by}
 use Rattle.papaya_events.proofs.OfRows.Quiet.{none_still, refused_still, still_keeps}
-use Rattle.papaya_events.proofs.Reached.{reached_after}
-use Rattle.papaya_events.proofs.Remaining.{counted_in}
 pub mod Chain
+pub mod Over
 pub mod Facts
 pub mod Quiet
 pub mod Kept
@@ -251,17 +246,6 @@ module _ {K V S : Type 0} (same : K → K → Bool) (hash : K → ℕ) (terms : 
         leads spares (alone_follows same hash terms log old run event (all_facts_of event of on).0) ran.goes.0 (come_by (far played.effects.items new.logged) y.now y.scene) chain refl rests
         (f.inside y.scene.world y.is_at.uses played.outcome comes) (f.not_busy played.outcome comes) allowed finds (λ alone. is_row) right (reclaims_none log e of on)
 
-    shown : IsShown same hash name (moment (e ∷ log)) new.logged y.scene
-    shown = record {
-      is_at = y.is_at;
-      shows = it.1.calls.whole;
-      kept = it.1.calls.kept;
-      counted = counted_in same hash terms (moment (e ∷ log)) new after y.scene y.is_at y.counted.remains.lists y.counted.remains.left;
-    }
-
-    named : AreNamed name new.calls.items.items
-    named = subst (λ (c : Callers V). AreNamed name c.items.items) (sym calls) (its_named same hash terms m old run.stands)
-
     -- a row that does not register takes no slot, and one that does so takes the slot that it tells
     abbrev after_row : Mem (Node K V)
     after_row = new.logged.executor.memory.memory
@@ -323,25 +307,10 @@ module _ {K V S : Type 0} (same : K → K → Bool) (hash : K → ℕ) (terms : 
     shards : HaveShards terms new.logged.executor
     shards n setting is = run.shards n setting (sym (run.stands.shown.is_at.maps n) ∙ sym (f.led.settings n) ∙ f.led.at.maps n ∙ is)
 
-    values : HaveValues (moment (e ∷ log)) y.scene new.calls.items.items
-    values =
-        subst (λ (c : Callers V). HaveValues (moment (e ∷ log)) y.scene c.items.items) (sym calls)
-        (have_values_then m (moment (e ∷ log)) (nobody_says e m (refused_still log s.world event of Busy 0).no_call) s y.scene y.calls old.calls.items.items run.values)
-
     row_keeps : RunsOn same hash terms log e new
-    row_keeps = record {
-      legal = it.0;
-      runs = record {
-        stands = stands_in same hash terms (moment (e ∷ log)) new after name y.scene shown named;
-        shows = it.1;
-        come = events_bring_things K V terms log e run.come it.0.life.finds;
-        values = values;
-        taken = taken;
-        size = y.size;
-        shards = shards;
-        reached = reached_after same hash terms log e old new right after grows run.reached;
-      };
-    }
+    row_keeps =
+        over_runs same hash terms log e old new run (refused_still log s.world event of Busy 0).no_call y.scene y.is_at y.counted.remains.lists y.counted.remains.left calls y.calls after right it.0 it.1 taken y.size
+        shards grows
 
   -- and so it is of one that has done nothing
   abbrev KeepsAs : Entry K V → Type 0
@@ -361,12 +330,12 @@ module _ {K V S : Type 0} (same : K → K → Bool) (hash : K → ℕ) (terms : 
 module _ {K V S : Type 0} (same : K → K → Bool) (hash : K → ℕ) (event form : Event K V) (is : event ≡ form) (old new : Scheduler K V S) where
   pub rows_keep : {X : Type 0} → is_of_slots form ≡ true → (result : Result (Played V) X) → IfOk result (λ played. WorksOnSlot played old new form) → IfOk result (λ played. KeepsRun same hash event played old new)
   rows_keep on (Ok played) works =
-      subst (λ (x : Event K V). KeepsRun same hash x played old new) (sym is) (λ of terms log holds run turn after right begun. slot_keeps same hash terms log form played old new of on run turn after right works)
+      subst (λ (x : Event K V). KeepsRun same hash x played old new) (sym is) (λ of terms log holds run turn after right. slot_keeps same hash terms log form played old new of on run turn after right works)
   rows_keep on (Err x) works = tt
 
   -- of others nothing is said
   pub others_keep : is_of_rows form ≡ false → (played : Played V) → KeepsRun same hash event played old new
-  others_keep none played = subst (λ (x : Event K V). KeepsRun same hash x played old new) (sym is) (λ of terms log holds run turn after right begun. absurd (cc (of, none)))
+  others_keep none played = subst (λ (x : Event K V). KeepsRun same hash x played old new) (sym is) (λ of terms log holds run turn after right. absurd (cc (of, none)))
 
   pub others_keep_if : {X : Type 0} → is_of_rows form ≡ false → (result : Result (Played V) X) → IfOk result (λ played. KeepsRun same hash event played old new)
   others_keep_if none (Ok played) = others_keep none played

@@ -129,6 +129,7 @@ module _ {K V S : Type 0} (same : K → K → Bool) (hash : K → ℕ) (terms : 
     choice_on : RunsOn same hash terms log e chosen
     choice_on = record {
       legal = it.0;
+      hands = tt;
       runs = record {
         stands = stands_in same hash terms (moment (e ∷ log)) chosen after name s shown_then (its_named same hash terms (moment log) old run.stands);
         shows = it.1;

@@ -34,6 +34,7 @@ use Rattle.papaya_legal.specs.CallEvents.{InCallEvent, IsLegalBut}
 use Rattle.papaya_legal.specs.CallSwept.{TellsOf}
 use Rattle.papaya_legal.specs.Carried.{ShowsRun}
 use Rattle.papaya_legal.specs.Noted.{HaveCome}
+use Rattle.papaya_folded.specs.Folded.{HandsInOrder}
 use Rattle.papaya_scheduler.specs.Played.{IsPlayed, entry_of}
 use Rattle.papaya_named.specs.Seen.{kind_of}
 use Rattle.papaya_scheduler.specs.declared.played.Played.{Played}
@@ -67,9 +68,10 @@ module _ {K V S : Type 0} (same : K → K → Bool) (hash : K → ℕ) where
     pub shards : HaveShards terms p.logged.executor
     pub reached : AreReached (moment log).slots (known p.logged.notes)
 
-  -- What is promised of an event: it is legal but for what it comes to, and a run goes on with it.
+  -- What is promised of an event: it is legal but for what it comes to, what it hands over it hands over in order, and a run goes on with it.
   pub record RunsOn (terms : Terms) (log : List (Entry K V)) (e : Entry K V) (p : Scheduler K V S) : Type 0 where
     pub legal : IsLegalBut same terms log e
+    pub hands : HandsInOrder log e
     pub runs : Runs terms (e ∷ log) p
 
 -- a slot is active in the sets of the model while a row of a call is under way

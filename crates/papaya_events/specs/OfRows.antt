@@ -1,10 +1,7 @@
 -- What is had of an event whose work is a row on a slot, the making of a map, or the end of one: it keeps its promises, and the run goes on with it.
-use Rattle.std.specs.Prelude.{◌≡◌, ℕ, Bool, true, false, List, [], ◌∷◌}
-use Rattle.papaya_schedules.specs.declared.effect.Effect.{Effect}
+use Rattle.std.specs.Prelude.{◌≡◌, ℕ, Bool, true, false, List, ◌∷◌}
 use Rattle.papaya_schedules.specs.declared.event.Event.{Event}
 use Rattle.papaya_schedules.specs.declared.event.Event.TheVariants.{DropGuard, EndMap, Enter, Flush, MakeMap, Own, Refresh, Register, Unregister}
-use Rattle.papaya_schedules.specs.declared.outcome.Outcome.{Outcome}
-use Rattle.papaya_schedules.specs.declared.outcome.Outcome.TheVariants.{Refused}
 use Rattle.papaya_schedules.specs.After.{moment}
 use Rattle.papaya_schedules.specs.Entry.{Entry}
 use Rattle.papaya_schedules.specs.InTurn.{ComesRight, is_kept_out}
@@ -29,23 +26,15 @@ module _ {K V : Type 0} where
   is_of_rows (EndMap name) = true
   is_of_rows _ = false
 
-module _ {K V S : Type 0} where
-  -- Of a making that was refused once it had begun nothing is said.
-  abbrev pub HasNotBegun : Event K V → Outcome V → List Effect → (old new : Scheduler K V S) → Type 0
-  HasNotBegun (MakeMap name mode capacity) (Refused fault) effects old new = (effects ≡ []) × (new.logged ≡ old.logged)
-  HasNotBegun _ outcome effects old new = Unit {0}
-
 module _ {K V S : Type 0} (same : K → K → Bool) (hash : K → ℕ) where
   -- What is promised of one that is in turn, if it comes to what is right: it keeps its promises, and the run goes on.
   abbrev pub KeepsRun : Event K V → Played V → (old new : Scheduler K V S) → Type 0
   KeepsRun event played old new =
       is_of_rows event ≡ true → (terms : Terms) (log : List (Entry K V)) → Holds same hash terms (moment log) old → Runs same hash terms log old → is_kept_out terms event (moment log) ≡ false
-      → IsPlayed same hash terms (entry_of event played ∷ log) new → ComesRight terms log (entry_of event played) → HasNotBegun event played.outcome played.effects.items old new
-      → RunsOn same hash terms log (entry_of event played) new
+      → IsPlayed same hash terms (entry_of event played ∷ log) new → ComesRight terms log (entry_of event played) → RunsOn same hash terms log (entry_of event played) new
 
   -- and so of one that is kept out
   abbrev pub KeepsRunAt : Event K V → Played V → (old new : Scheduler K V S) → Type 0
   KeepsRunAt event played old new =
       is_of_rows event ≡ true → (terms : Terms) (log : List (Entry K V)) → Holds same hash terms (moment log) old → Runs same hash terms log old
-      → IsPlayed same hash terms (entry_of event played ∷ log) new → ComesRight terms log (entry_of event played) → HasNotBegun event played.outcome played.effects.items old new
-      → RunsOn same hash terms log (entry_of event played) new
+      → IsPlayed same hash terms (entry_of event played ∷ log) new → ComesRight terms log (entry_of event played) → RunsOn same hash terms log (entry_of event played) new

@@ -4,7 +4,8 @@ use Rattle.papaya_late.specs.Given.SeizeWords.Mem.{Mem, Took, value_at}
 use Rattle.papaya_late.specs.Given.SeizeWords.Plan.{Steps}
 use Rattle.papaya_late.specs.Given.Seize.World.{World}
 use Rattle.papaya_late.specs.Given.Raw.Call.{call_plan}
-use Rattle.papaya_late.specs.Given.Raw.declared.machines.answer.Called.TheVariants.{Goes}
+use Rattle.papaya_late.specs.Given.Raw.declared.machines.answer.Called.{Called}
+use Rattle.papaya_late.specs.Given.Raw.declared.machines.answer.Called.TheVariants.{Goes, Gave, Unstored}
 use Rattle.papaya_late.specs.Given.Raw.declared.machines.call.KeyCall.{KeyCall}
 use Rattle.papaya_late.specs.Given.Tables.declared.node.Node.{Node}
 use Rattle.papaya_late.specs.Given.Tables.declared.setting.Setting.{Setting}
@@ -18,13 +19,20 @@ use Rattle.papaya_late.specs.Given.Points.Told.{IsRowOfCall}
 use Rattle.papaya_late.specs.LateCalls.{LateCallFacts}
 use Rattle.papaya_falls.specs.Calls.{number_of_call}
 
+-- A call that tells this has taken a step, and needs further ones. It may have handed out a value that was reclaimed, or its own pair, which was not stored.
+abbrev pub GoesFurther : {T : Type 0} → Called T → Type 0
+GoesFurther Goes = Unit {0}
+GoesFurther (Gave value) = Unit {0}
+GoesFurther (Unstored value) = Unit {0}
+GoesFurther _ = ⊥
+
 module _ {K Q : Type 0} (V : Type 0) (same : K → K → Bool) (hash : K → ℕ) (asks : Q → K → Bool) where
   -- A step of a call leads from here to there, where it goes on: whatever the tables are that the memory shows then, the number of the call is lower.
   abbrev pub Lowers : (setting : Setting) (w : World (Node K V)) (caller : ℕ) (c : Chart K) (blocks : Blocks) (p : KeyCall K V Q) → Type 0
   Lowers setting w caller c blocks p =
-      (m2 : Mem (Node K V)) (p2 : KeyCall K V Q) → Steps Took value_at w.memory (call_plan asks same hash p) m2 (p2, Goes)
+      (m2 : Mem (Node K V)) (end : KeyCall K V Q × Called (Node K V)) → Steps Took value_at w.memory (call_plan asks same hash p) m2 end → GoesFurther end.1
       → (went : Went same hash setting caller w c blocks m2 (λ w2 c2 blocks2. Unit {0}))
-      → IsBelow (number_of_call hash went.c2 went.blocks2 p2) (number_of_call hash c blocks p)
+      → IsBelow (number_of_call hash went.c2 went.blocks2 end.0) (number_of_call hash c blocks p)
 
   -- so does each step, none of a row of the collector, of a call that knows what its point knows
   abbrev pub CallsFall : Type 0
@@ -43,10 +51,10 @@ module _ {K Q : Type 0} (V : Type 0) (same : K → K → Bool) (hash : K → ℕ
   -- The steps of a row of the collector within a call leave its number as it is, but for the last, which lowers it: the tables stay as they are.
   abbrev pub RowsFall : Type 0
   RowsFall =
-      (p p2 : KeyCall K V Q) → IsRowOfCall p.stands → (m m2 : Mem (Node K V)) → Steps Took value_at m (call_plan asks same hash p) m2 (p2, Goes)
-      → (c : Chart K) (blocks : Blocks)
-      → ((IsRowOfCall p2.stands) × (number_of_call hash c blocks p2 ≡ number_of_call hash c blocks p))
-      ⊎ ((IsRowOfCall p2.stands → ⊥) × IsBelow (number_of_call hash c blocks p2) (number_of_call hash c blocks p))
+      (p : KeyCall K V Q) → IsRowOfCall p.stands → (m m2 : Mem (Node K V)) (end : KeyCall K V Q × Called (Node K V))
+      → Steps Took value_at m (call_plan asks same hash p) m2 end → GoesFurther end.1 → (c : Chart K) (blocks : Blocks)
+      → ((IsRowOfCall end.0.stands) × (number_of_call hash c blocks end.0 ≡ number_of_call hash c blocks p))
+      ⊎ ((IsRowOfCall end.0.stands → ⊥) × IsBelow (number_of_call hash c blocks end.0) (number_of_call hash c blocks p))
 
 -- a call always has as many numbers, so that its descents come to an end
 abbrev pub NumbersAreAsMany : (K V Q : Type 0) → Type 0

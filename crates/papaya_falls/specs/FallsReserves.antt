@@ -5,7 +5,7 @@ use Rattle.papaya_late.specs.Given.SeizeWords.Plan.{Steps}
 use Rattle.papaya_late.specs.Given.Seize.World.{World}
 use Rattle.papaya_late.specs.Given.Tables.declared.node.Node.{Node}
 use Rattle.papaya_late.specs.Given.Tables.declared.setting.Setting.{Setting}
-use Rattle.papaya_late.specs.Given.Resize.declared.outcome.Outcome.TheVariants.{Goes}
+use Rattle.papaya_late.specs.Given.Resize.declared.outcome.Outcome.{Outcome}
 use Rattle.papaya_late.specs.Given.Reserves.Reserve.{reserve_plan}
 use Rattle.papaya_late.specs.Given.Reserves.declared.reserve.Reserve.{Reserve}
 use Rattle.papaya_late.specs.Given.Rule.Chart.{Chart}
@@ -16,15 +16,16 @@ use Rattle.papaya_late.specs.Given.Points.Steps.{AreLawful}
 use Rattle.papaya_late.specs.FactsReserves.{ReserveFacts}
 use Rattle.papaya_late.specs.LateReserves.{LateReserveFacts}
 use Rattle.papaya_late.specs.ToldReserves.{IsRowOfReserve}
+use Rattle.papaya_falls.specs.FallsWithin.{GoesFurther}
 use Rattle.papaya_falls.specs.Reserves.{number_of_reserve}
 
 module _ {K : Type 0} (V : Type 0) (same : K → K → Bool) (hash : K → ℕ) where
   -- A step of a reservation leads from here to there, where it goes on: whatever the tables are that the memory shows then, its number is lower.
   abbrev pub ReserveLowers : (setting : Setting) (w : World (Node K V)) (caller : ℕ) (c : Chart K) (blocks : Blocks) (p : Reserve) → Type 0
   ReserveLowers setting w caller c blocks p =
-      (m2 : Mem (Node K V)) (p2 : Reserve) → Steps Took value_at w.memory (reserve_plan hash p) m2 (p2, Goes)
+      (m2 : Mem (Node K V)) (end : Reserve × Outcome (Node K V) Unit) → Steps Took value_at w.memory (reserve_plan hash p) m2 end → GoesFurther end.1
       → (went : Went same hash setting caller w c blocks m2 (λ w2 c2 blocks2. Unit {0}))
-      → IsBelow (number_of_reserve went.c2 went.blocks2 p2) (number_of_reserve c blocks p)
+      → IsBelow (number_of_reserve went.c2 went.blocks2 end.0) (number_of_reserve c blocks p)
 
   -- so does each step, none of a row of the collector, of a reservation that knows what its point knows
   abbrev pub ReservesFall : Type 0
@@ -43,10 +44,10 @@ module _ {K : Type 0} (V : Type 0) (same : K → K → Bool) (hash : K → ℕ) 
 -- The steps of a row of the collector within a reservation leave its number as it is, but for the last, which lowers it: the tables stay as they are.
 abbrev pub ReserveRowsFall : (K V : Type 0) → Type 0
 ReserveRowsFall K V =
-    (hash : K → ℕ) (p p2 : Reserve) → IsRowOfReserve p.stands → (m m2 : Mem (Node K V)) → Steps Took value_at m (reserve_plan hash p) m2 (p2, Goes)
-    → (c : Chart K) (blocks : Blocks)
-    → ((IsRowOfReserve p2.stands) × (number_of_reserve c blocks p2 ≡ number_of_reserve c blocks p))
-    ⊎ ((IsRowOfReserve p2.stands → ⊥) × IsBelow (number_of_reserve c blocks p2) (number_of_reserve c blocks p))
+    (hash : K → ℕ) (p : Reserve) → IsRowOfReserve p.stands → (m m2 : Mem (Node K V)) (end : Reserve × Outcome (Node K V) Unit)
+    → Steps Took value_at m (reserve_plan hash p) m2 end → GoesFurther end.1 → (c : Chart K) (blocks : Blocks)
+    → ((IsRowOfReserve end.0.stands) × (number_of_reserve c blocks end.0 ≡ number_of_reserve c blocks p))
+    ⊎ ((IsRowOfReserve end.0.stands → ⊥) × IsBelow (number_of_reserve c blocks end.0) (number_of_reserve c blocks p))
 
 -- a reservation always has as many numbers, so that its descents come to an end
 abbrev pub ReserveNumbersAreAsMany : Type 0 → Type 0

@@ -6,8 +6,10 @@ use Rattle.papaya_late.specs.Given.Seize.World.{World}
 use Rattle.papaya_late.specs.Given.Tables.Chunks.{is_incremental}
 use Rattle.papaya_late.specs.Given.Tables.declared.node.Node.{Node}
 use Rattle.papaya_late.specs.Given.Tables.declared.setting.Setting.{Setting}
+use Rattle.papaya_late.specs.Given.Tables.declared.table.Table.{Table}
 use Rattle.papaya_late.specs.Given.Resize.Copier.{copier_plan}
-use Rattle.papaya_late.specs.Given.Resize.declared.outcome.Outcome.TheVariants.{Goes}
+use Rattle.papaya_late.specs.Given.Resize.declared.outcome.Outcome.{Outcome}
+use Rattle.papaya_late.specs.Given.Resize.declared.outcome.Outcome.TheVariants.{Goes, Gave}
 use Rattle.papaya_late.specs.Given.Resize.declared.copier.Copier.{Copier}
 use Rattle.papaya_late.specs.Given.Rule.Chart.{Chart}
 use Rattle.papaya_late.specs.Given.Rule.Words.{Blocks}
@@ -22,6 +24,12 @@ use Rattle.papaya_falls.specs.Room.{planned_in_copying, tables_to_come}
 use Rattle.papaya_falls.specs.Copies.{number_of_copier}
 use Rattle.papaya_falls.specs.CopiesBlocking.{number_of_copier_blocking}
 
+-- What tells this has taken a step, and needs further ones. It may have handed out a value that was reclaimed.
+abbrev pub GoesFurther : {T R : Type 0} → Outcome T R → Type 0
+GoesFurther Goes = Unit {0}
+GoesFurther (Gave value) = Unit {0}
+GoesFurther _ = ⊥
+
 -- the tables that can still be linked, and then its number
 abbrev pub with_room : {K : Type 0} → (Chart K → Blocks → Copier → List ℕ) → Chart K → Blocks → Copier → List ℕ
 with_room number c blocks p = tables_to_come c.past (planned_in_copying p.stands) ∷ number c blocks p
@@ -30,9 +38,9 @@ module _ {K : Type 0} (V : Type 0) (same : K → K → Bool) (hash : K → ℕ) 
   -- a step of a copier leads from here to there, where it goes on: whatever the tables are that the memory shows then, this number of the copier is lower
   abbrev pub CopierLowers : (Chart K → Blocks → Copier → List ℕ) → (setting : Setting) (w : World (Node K V)) (caller : ℕ) (c : Chart K) (blocks : Blocks) (p : Copier) → Type 0
   CopierLowers number setting w caller c blocks p =
-      (m2 : Mem (Node K V)) (p2 : Copier) → Steps Took value_at w.memory (copier_plan hash p) m2 (p2, Goes)
+      (m2 : Mem (Node K V)) (end : Copier × Outcome (Node K V) Table) → Steps Took value_at w.memory (copier_plan hash p) m2 end → GoesFurther end.1
       → (went : Went same hash setting caller w c blocks m2 (λ w2 c2 blocks2. Unit {0}))
-      → IsBelow (with_room number went.c2 went.blocks2 p2) (with_room number c blocks p)
+      → IsBelow (with_room number went.c2 went.blocks2 end.0) (with_room number c blocks p)
 
   -- so does each step, none of a row, of a copier that knows what its point knows: in incremental mode,
   abbrev pub CopiersFall : Type 0

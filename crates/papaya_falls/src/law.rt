@@ -7,9 +7,9 @@ ghost use Rattle.papaya_falls.specs.FallsWithin.{CopiersFall, BlockingCopiersFal
 
 /// In any state of a map that the rule allows, in both modes, and whatever other callers have under way: a step of a call on one key which goes on
 /// and is none of a row of the collector, of a call that asks, too, leads to lower numbers, of the call and of the tables that the memory shows then.
-/// So it does in a table that the root has left. No number falls while a call waits for a reply, and a reply may raise them. Steps of a row within a
-/// call leave its numbers as they are, and the last one, where the call goes on with it, lowers them. They are always as many, and each descent of as
-/// many numbers comes to an end.
+/// So does one that hands out the pair which was not stored. So it is in a table that the root has left. No number falls while a call waits for a
+/// reply, and a reply may raise them. Steps of a row within a call, those that hand out what they have reclaimed, too, leave its numbers as they are,
+/// and the last one, where the call goes on with it, lowers them. They are always as many, and each descent of as many numbers comes to an end.
 pub fn steps_lower_the_number<K, V, Q>()
     ensures calls { (same : K → K → Bool) (hash : K → ℕ) (asks : Q → K → Bool) → CallsFall V same hash asks }
     ensures late { (same : K → K → Bool) (hash : K → ℕ) (asks : Q → K → Bool) → LateCallsFall V same hash asks }

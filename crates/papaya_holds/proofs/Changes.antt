@@ -72,8 +72,8 @@ module _ {K V : Type 0} (m0 m1 : Mem (Node K V)) (none : NoneCame m0 m1) where
         let t = calls_take_none_away K V Q S asks same hashes b setting m1 keys given xs h ran.0 ran.1 ran.2 ran.3 m2 (Err fault) ran.4 in
         none_keeps m0 m2 t.1.0 xs (stood_before m0 m1 none t.1.0 xs t.1.1) t.1.2 (none_since m2 t.0)
 
-    pub sweep_holds_on : {purpose : Purpose} → HasSwept hashes b setting purpose m1 m2 → HoldsOn [] xs (held_in m0) (held_in m2)
-    sweep_holds_on {purpose} ran =
+    pub sweep_holds_on : {purpose : Purpose} {result : Result Unit Fault} → HasSwept hashes b setting purpose m1 m2 result → HoldsOn [] xs (held_in m0) (held_in m2)
+    sweep_holds_on {purpose} {result} ran =
         let t = sweeps_take_none_away K V S same hashes b setting m1 xs h purpose ran.0 ran.1 ran.2 ran.3 m2 ran.4 ran.5 in
         none_keeps m0 m2 t.1.0 xs (stood_before m0 m1 none t.1.0 xs t.1.1) t.1.2 (none_since m2 t.0)
 

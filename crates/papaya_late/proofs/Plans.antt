@@ -8,7 +8,7 @@ use Rattle.papaya_points.specs.Given.SeizeWords.declared.at.At.{At}
 use Rattle.papaya_points.specs.Given.SeizeWords.declared.at.At.TheVariants.{Root, Word}
 use Rattle.papaya_points.specs.Given.SeizeWords.Mem.{Mem, Took, value_at, word_at, with_word}
 use Rattle.papaya_points.specs.Given.SeizeWords.Op.{Store, Exchange}
-use Rattle.papaya_points.specs.Given.SeizeWords.Plan.{Plan, Do, Now, Steps}
+use Rattle.papaya_points.specs.Given.SeizeWords.Plan.{Plan, Turn, Do, Now, Steps}
 use Rattle.papaya_points.proofs.Given.SeizeWords.OneOwner.AfterWrites.{word_at-with_word}
 use Rattle.papaya_points.proofs.Given.SeizeWords.OneOwner.Operations.{stored, exchanged}
 use Rattle.papaya_points.proofs.Given.SeizeRule.Words.Named.{same_at-refl}
@@ -40,20 +40,27 @@ use Rattle.papaya_points.specs.Steps.{AreLawful}
 use Rattle.papaya_late.proofs.Known.Steps.{lasts_went, others_step}
 use Rattle.papaya_points.proofs.Given.Rule.Words.TablesSeen.{block_of_link}
 
--- An insertion whose exchange was lost answers that the key is missing, and stores nothing.
+-- An insertion that answers that the key was missing, and that nothing changed, is refused by what an insertion may answer.
 module _ {K V Q : Type 0} where
+  none_is_absent : (present : There) (takes : Takes) (p : KeyCall K V Q) → ComesFit present missing.Puts takes (told_answer p answers.Absent) → ⊥
+  none_is_absent present takes p f = ⊎_elim (λ e. cc e) (λ asks. cc asks.0) f.1
+
+  -- One answers so at once, and has not tried to store its pair.
+  abbrev pub answers_at_once : KeyCall K V Q → Plan (Node K V) (KeyCall K V Q × Called (Node K V))
+  answers_at_once p = Turn (Now (told_answer p answers.Absent))
+
+  pub tries_nothing : (present : There) (takes : Takes) (p : KeyCall K V Q) (m m2 : Mem (Node K V)) (end : KeyCall K V Q × Called (Node K V)) → Steps Took value_at m (answers_at_once p) m2 end → ComesFit present missing.Puts takes end → ⊥
+  tries_nothing present takes p m m2 end s fits = none_is_absent present takes p (subst (ComesFit present missing.Puts takes) s.1 fits)
+
+  -- Another makes its exchange, and answers so whether that was lost or not.
   abbrev pub forgets_its_pair : KeyCall K V Q → Plan (Node K V) (KeyCall K V Q × Called (Node K V))
   forgets_its_pair p = Do (Exchange (at_place p.trial.table p.trial.probe.i) 0 p.own) (λ out. Now (told_answer p answers.Absent))
 
-  -- it is refused by what an insertion may answer
   pub stores_nothing : (present : There) (takes : Takes) (p : KeyCall K V Q) (m m2 : Mem (Node K V)) (end : KeyCall K V Q × Called (Node K V)) → Steps Took value_at m (forgets_its_pair p) m2 end → ComesFit present missing.Puts takes end → ⊥
   stores_nothing present takes p m m2 end s fits = elim (exchanged m (λ out. Now (told_answer p answers.Absent)) (at_place p.trial.table p.trial.probe.i) 0 p.own m2 end s) as (λ _. ⊥) [
-    | inl d ↦ none (subst (ComesFit present missing.Puts takes) d.3 fits)
-    | inr d ↦ none (subst (ComesFit present missing.Puts takes) d.3 fits)
+    | inl d ↦ none_is_absent present takes p (subst (ComesFit present missing.Puts takes) d.3 fits)
+    | inr d ↦ none_is_absent present takes p (subst (ComesFit present missing.Puts takes) d.3 fits)
   ]
-    where
-      none : ComesFit present missing.Puts takes (told_answer p answers.Absent) → ⊥
-      none f = ⊎_elim (λ e. cc e) (λ asks. cc asks.0) f.1
 
 module _ {K V : Type 0} (p : Copier) where
   -- A copier that comes late writes the root once more: with a table before it.

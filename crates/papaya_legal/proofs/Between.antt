@@ -1,27 +1,24 @@
--- What a moment shows of calls is so on between the steps of events.
-use Rattle.std.specs.Prelude.{◌≡◌, ◌≤◌, ◌==◌, nat_lt, ℕ, Bool, true, false, List, [], ◌∷◌, not, Option, Some, None, if◌then◌else◌}
-use Rattle.std.proofs.Common.{refl, ap, sym, subst, ◌∙◌, inl, inr, arith}
+-- What a moment shows of calls is so on between the steps of events, and where calls begin and go on.
+use Rattle.std.specs.Prelude.{◌≡◌, nat_lt, ℕ, Bool, true, false, List, [], ◌∷◌, Option, Some, None, if◌then◌else◌}
+use Rattle.std.proofs.Common.{refl, ap, sym, subst, ◌∙◌, inl, inr}
 use Rattle.papaya_histories.specs.Given.SeizeWords.declared.fault.Fault.TheVariants.{Memory}
-use Rattle.papaya_histories.specs.Given.Seize.World.{with_at}
 use Rattle.papaya_histories.specs.Given.Sweeps.SweepPoints.{after_next, next_at}
 use Rattle.papaya_histories.specs.Given.Sweeps.declared.sweep.Sweep.{Sweep}
 use Rattle.papaya_histories.specs.Given.Sweeps.declared.sweep.Sweeping.{Sweeping}
 use Rattle.papaya_histories.specs.Given.Sweeps.declared.sweep.Sweeping.TheVariants as sweeping
 use Rattle.papaya_histories.specs.Given.Raw.declared.machines.machine.Machine.{Machine}
 use Rattle.papaya_histories.specs.Given.Points.FactsCalls.{Unchanged}
-use Rattle.papaya_histories.specs.Given.Runs.Same.{is_same}
 use Rattle.papaya_histories.specs.Given.Schedules.declared.effect.Thing.TheVariants.{APair}
 use Rattle.papaya_histories.specs.Given.Schedules.After.{moment}
-use Rattle.papaya_histories.specs.Given.Schedules.Beginning.{with_call, with_map}
+use Rattle.papaya_histories.specs.Given.Schedules.Beginning.{with_call}
 use Rattle.papaya_histories.specs.Given.Schedules.declared.outcome.Outcome.TheVariants.{Refused}
 use Rattle.papaya_histories.specs.Given.Schedules.Moment.{UnderWay as CallThere, Stands, Asking, Moment}
-use Rattle.papaya_histories.specs.Given.Schedules.Views.{call_of, map_at}
+use Rattle.papaya_histories.specs.Given.Schedules.Views.{call_of}
 use Rattle.papaya_histories.specs.Given.Callers.OverAll.{CallOverAll, gone_on}
 use Rattle.papaya_histories.specs.Given.Callers.Rooms.{CallForRoom}
 use Rattle.papaya_histories.specs.Given.Callers.Together.{UnderWay, CallOnKey, OnKey, ForRoom, Counting, OverAll}
 use Rattle.papaya_histories.specs.Given.Effects.Known.{Known}
 use Rattle.papaya_histories.specs.Given.Executor.Beginning.{Begins}
-use Rattle.papaya_histories.specs.Given.Executor.Ending.{ending_begun}
 use Rattle.papaya_histories.specs.Given.Executor.IsAt.{Scene, HasCall}
 use Rattle.papaya_histories.specs.Given.Executor.Replying.{scene_with, unless_stopped}
 use Rattle.papaya_histories.specs.Given.Finishes.Machines.{machine_of}
@@ -31,17 +28,11 @@ use Rattle.papaya_histories.specs.Given.Follows.Shows.{Shows}
 use Rattle.papaya_histories.specs.Given.Follows.Calls.{IsCalled, ShowsCalls as IsThere}
 use Rattle.papaya_histories.specs.Given.Hands.Asked.{as_told}
 use Rattle.papaya_histories.specs.Given.Others.Elsewhere.{HasSame}
-use Rattle.papaya_histories.specs.Given.Others.Endings.{without_map}
 use Rattle.papaya_histories.specs.Given.Others.Walks.{given_up}
 use Rattle.papaya_histories.proofs.Given.Hands.Asking.{which}
 use Rattle.papaya_histories.proofs.Given.Follows.Steps.{one_of}
 use Rattle.papaya_histories.specs.Given.Moments.Numbers.{NumbersMaps, PairsAreBelow}
 use Rattle.papaya_histories.proofs.Given.Moments.Calls.{calls_begin_whole, calls_take_whole}
-use Rattle.papaya_histories.proofs.Given.Moments.Ends.{endings_begin_whole}
-use Rattle.papaya_histories.proofs.Given.Moments.MapsCome.{makings_begin_whole, maps_come_whole}
-use Rattle.papaya_histories.proofs.Given.Moments.NewMaps.{pairs_stay_as_maps_come, pairs_stay_as_maps_go}
-use Rattle.papaya_histories.proofs.Given.Moments.Numbers.{maps_come_by_number, maps_go, numbers_are_below}
-use Rattle.papaya_histories.proofs.Given.Moments.Over.{endings_are_over_whole}
 use Rattle.papaya_histories.proofs.Given.Moments.Walks.{walks_go_on_whole, walks_stop_whole}
 use Rattle.papaya_histories.specs.Answers.{NamesPair}
 use Rattle.papaya_histories.specs.AsCalled.{IsAsCalled, IsSweptAs, SweepAsks}
@@ -56,14 +47,12 @@ use Rattle.papaya_histories.proofs.Questions.{calls_begin_questions, calls_come_
 use Rattle.papaya_histories.specs.Questions.{AsksStill, ShowsQuestions}
 use Rattle.papaya_settles.specs.Hand.{ShowsOwed, in_hand}
 use Rattle.papaya_settles.proofs.Hand.Asked.{asked_stays, told_stays}
-use Rattle.papaya_finds.specs.Capacities.{StoodSo}
 use Rattle.papaya_finds.proofs.Grows.Between.{calls_begin_growing, calls_take_growing, walks_go_on_growing}
 use Rattle.papaya_finds.proofs.Waits.Between.{calls_begin_waits}
 use Rattle.papaya_kept.specs.Kept.{ShowsKept}
 use Rattle.papaya_kept.proofs.Between.{calls_begin_kept, calls_take_kept, uncounted_at_first, walks_go_on_kept, walks_stop_kept}
-use Rattle.papaya_kept.proofs.Others.{endings_begin_kept}
 use Rattle.papaya_kept.proofs.Renamed.{asked, renamed, shows}
-use Rattle.papaya_kept.proofs.Stays.{makings_begin_kept, renamed_kept, stays_kept}
+use Rattle.papaya_kept.proofs.Stays.{renamed_kept, stays_kept}
 use Rattle.papaya_purposes.specs.Kept.{AsksAboutIt}
 use Rattle.papaya_purposes.proofs.Between.{calls_begin_purposes, events_keep_purposes}
 use Rattle.papaya_purposes.proofs.Elsewhere.{purposes_stay}
@@ -71,17 +60,16 @@ use Rattle.papaya_purposes.proofs.Told.{calls_take_purposes}
 use Rattle.papaya_shards.specs.Adds.{adds_in_sweeping, adds_of}
 use Rattle.papaya_shards.specs.ShardWords.{ShowsCounters}
 use Rattle.papaya_shards.proofs.ShardBetween.{calls_begin_counters, calls_take_counters, counters_stay, fewer_add}
-use Rattle.papaya_shards.proofs.ShardOthers.{endings_begin_counters, makings_begin_counters}
-use Rattle.papaya_legal.specs.Between.{CallsBegin, CallsTake, EndsBegin, LikesShow, LogsGrow, MakingsBegin, MapsCome, MapsGo, NamesChange, WalksGoOn, WalksStop}
+use Rattle.papaya_legal.specs.Between.{CallsBegin, CallsTake, LikesShow, LogsGrow, NamesChange, WalksGoOn, WalksStop}
 use Rattle.papaya_legal.specs.Carried.{NoneCounted, ShowsCalls}
 use Rattle.papaya_grows.specs.Finding.{ShowsFinding}
 use Rattle.papaya_sources.specs.Sources.{ShowsSources}
-use Rattle.papaya_legal.proofs.Sourced.{ends_leave, sources_so}
+use Rattle.papaya_legal.proofs.Sourced.{sources_so}
 use Rattle.papaya_grows.proofs.Finding.Alike.{finding_fewer, stood_as}
-use Rattle.papaya_grows.proofs.Limits.Shows.{calls_begin_limits, calls_take_limits, limits_grow, limits_where, walks_go_on_limits, walks_stop_limits}
-use Rattle.papaya_grows.proofs.Finding.Nexts.{calls_begin_nexts, calls_take_nexts, nexts_grow, nexts_where, walks_go_on_nexts, walks_stop_nexts}
+use Rattle.papaya_grows.proofs.Limits.Shows.{calls_begin_limits, calls_take_limits, limits_grow, walks_go_on_limits, walks_stop_limits}
+use Rattle.papaya_grows.proofs.Finding.Nexts.{calls_begin_nexts, calls_take_nexts, nexts_grow, walks_go_on_nexts, walks_stop_nexts}
 use Rattle.papaya_grows.proofs.Finding.Making.Between.{calls_begin_further, calls_take_further, walks_go_on_further}
-use Rattle.papaya_grows.proofs.Finding.Between.{asked_same, fewer_calls, finding_where, found_beside, found_kept, none_at_first, puts_begun, puts_on, replied_same, waits_on}
+use Rattle.papaya_grows.proofs.Finding.Between.{asked_same, fewer_calls, none_at_first, puts_begun, puts_on, replied_same, waits_on}
 
 pub likes_show : (K V : Type 0) (same : K → K → Bool) → LikesShow K V same
 likes_show K V same name log m v known s all like = subst (λ (x : Moment K V). ShowsCalls same name log x known s) (sym like) (record {
@@ -414,94 +402,3 @@ module _ (K V S : Type 0) (same : K → K → Bool) (hash : K → ℕ) where
           record { shards = went.shards; makes = went.makes; adds = fewer_add same name m (given_up (name i) true m) (at_end true) fewer went.adds (name i) (apart refl) refl }
       by false apart =
           on_counters name m s map i (Some u) (λ x e removed adds. (u, here, ap (λ (y : UnderWay K V K). adds_of (machine_of y)) (one_of u x e) ∙ adds)) all.counters
-
-  pub maps_come : MapsCome K V S same hash
-  maps_come name log m known s e at all there number =
-      let come = maps_come_by_number K V m all.numbers.0 there number in (
-        record {
-          whole = maps_come_whole K V same name m known s all.whole there come.1;
-          numbers = (come.0, pairs_stay_as_maps_come K V m all.numbers.1 there);
-          kept = stays_kept K V name m (with_map there m) known s s all.kept refl refl refl refl refl refl refl refl refl;
-          finding = finding_where same hash name m (with_map there m) known s e at still refl refl refl refl refl refl all.finding;
-          sources = sources_so K V same name m (with_map there m) known known s s all.sources (maps_come_whole K V same name m known s all.whole there come.1).all.shown refl refl refl (λ n st is. is);
-          nexts = nexts_where same hash name log m (with_map there m) s e at all.nexts still refl refl;
-          limits = limits_where same hash name log m (with_map there m) s e at all.limits still refl refl;
-          counters = counters_stay K V name m (with_map there m) s s all.counters refl refl refl refl refl (λ of j x is removed adds. (x, is, adds));
-          uncounted = λ of low. (let l : m.made ≤ of = omega (arith, low) in all.uncounted of l);
-          dues = (dues_stay K V S same hash name log).maps_come m known s e e at all.whole all.dues there come.1;
-          as_called = (as_called_stays K V S same hash name).maps_come m known s e e at all.whole all.as_called there come.1;
-          questions = all.questions;
-          purposes = (purposes_stay K V S same hash name log).maps_come m known s e e at all.whole all.purposes there come.1;
-        },
-        (let l : m.made ≤ there.number = omega (arith, number) in all.uncounted there.number l),
-      )
-    where
-      still : (n : ℕ) (st : Standing K) → s.maps n ≡ Some st → map_at n (with_map there m) ≡ map_at n m
-      still n st stands =
-          let f = (all.whole.all.shown.maps n st stands).there in
-          let below = numbers_are_below K V m all.numbers.0 n f.there f.is in
-          found_beside m.maps there n (λ one. omega (arith, one, below, number))
-
-  pub makings_begin : MakingsBegin K V S same hash
-  makings_begin name log m known s old new at all i b none not_made uncounted at2 = record {
-    whole = makings_begin_whole K V same name m known s all.whole i b not_made;
-    numbers = all.numbers;
-    kept = makings_begin_kept K V name m known s all.kept i b none;
-    finding = record { growing = all.finding.growing; further = all.finding.further; capacities = all.finding.capacities; waits = all.finding.waits; puts = all.finding.puts };
-    sources = sources_so K V same name m m known known s (record s { makers = with_at s.makers i (Some b) }) all.sources (makings_begin_whole K V same name m known s all.whole i b not_made).all.shown refl refl refl (λ n st is. is);
-    nexts = all.nexts;
-    limits = all.limits;
-    counters = makings_begin_counters K V name m s all.counters i b not_made uncounted;
-    uncounted = all.uncounted;
-    dues = (dues_stay K V S same hash name log).makings_begin m known s old new at all.whole all.dues i b at2;
-    as_called = (as_called_stays K V S same hash name).makings_begin m known s old new at all.whole all.as_called i b at2;
-    questions = all.questions;
-    purposes = (purposes_stay K V S same hash name log).makings_begin m known s old new at all.whole all.purposes i b at2;
-  }
-
-  pub ends_begin : EndsBegin K V S same hash
-  ends_begin name log m known s old new at all map i standing there idle at2 = record {
-    whole = endings_begin_whole K V S same hash name m known s new all.whole map i standing there at2;
-    numbers = all.numbers;
-    kept = kept;
-    finding = finding_fewer K V same name m m known s (ending_begun map i standing s) all.whole.all.shown.calls all.kept.owed kept.owed (λ n j x is. is) stood refl refl refl refl refl refl all.finding;
-    sources = sources_so K V same name m m known known s (ending_begun map i standing s) all.sources (endings_begin_whole K V S same hash name m known s new all.whole map i standing there at2).all.shown refl refl refl
-        (ends_leave s map i standing);
-    nexts = all.nexts;
-    limits = all.limits;
-    counters = endings_begin_counters K V name m s all.counters map i standing;
-    uncounted = all.uncounted;
-    dues = (dues_stay K V S same hash name log).endings_begin m known s old new at all.whole all.dues map i standing there at2;
-    as_called = (as_called_stays K V S same hash name).endings_begin m known s old new at all.whole all.as_called map i standing there at2;
-    questions = all.questions;
-    purposes = (purposes_stay K V S same hash name log).endings_begin m known s old new at all.whole all.purposes map i standing there at2;
-  }
-    where
-      kept : ShowsKept name m known (ending_begun map i standing s)
-      kept = endings_begin_kept K V S same hash name m known s old new at all.kept map i standing idle at2
-
-      stood : StoodSo s (ending_begun map i standing s)
-      stood n st stands = (st, ends_leave s map i standing n st stands, refl)
-
-  pub maps_gone : MapsGo K V S same hash
-  maps_gone name log m known s e at all own remains apart = record {
-    whole = endings_are_over_whole K V same name m known s all.whole own remains all.numbers.0.found apart;
-    numbers = (maps_go K V m all.numbers.0 own remains, pairs_stay_as_maps_go K V m all.numbers.1 own remains);
-    kept = stays_kept K V name m (without_map own remains m) known s s all.kept refl refl refl refl refl refl refl refl refl;
-    finding = finding_where same hash name m (without_map own remains m) known s e at still refl refl refl refl refl refl all.finding;
-    sources = sources_so K V same name m (without_map own remains m) known known s s all.sources (endings_are_over_whole K V same name m known s all.whole own remains all.numbers.0.found apart).all.shown refl refl refl
-        (λ n st is. is);
-    nexts = nexts_where same hash name log m (without_map own remains m) s e at all.nexts still refl refl;
-    limits = limits_where same hash name log m (without_map own remains m) s e at all.limits still refl refl;
-    counters = counters_stay K V name m (without_map own remains m) s s all.counters refl refl refl refl refl (λ of j x is removed adds. (x, is, adds));
-    uncounted = all.uncounted;
-    dues = (dues_stay K V S same hash name log).endings_over m known s e e at all.whole all.dues own remains apart;
-    as_called = (as_called_stays K V S same hash name).endings_over m known s e e at all.whole all.as_called own remains apart;
-    questions = all.questions;
-    purposes = (purposes_stay K V S same hash name log).endings_over m known s e e at all.whole all.purposes own remains apart;
-  }
-    where
-      still : (n : ℕ) (st : Standing K) → s.maps n ≡ Some st → map_at n (without_map own remains m) ≡ map_at n m
-      still n st stands =
-          let f = (all.whole.all.shown.maps n st stands).there in
-          found_kept (λ g. g.number == n) (λ g. not (is_same g.name own)) m.maps f.there f.is (ap not (apart n st f.there stands f.is)) ∙ sym f.is

@@ -54,8 +54,8 @@ module _ (K V S : Type 0) (same : K → K → Bool) (hash : K → ℕ) where
       keeps x y step midst = subst Midst (sym step.comes)
           (subst (λ (of : ℕ). InMakingEvent same name terms log event of beginning (after_step x y step).did (after_step x y step).now (after_step x y step).notes (after_step x y step).scene) step.map_is
           (making_events_go_on_so K V S same hash name terms log event beginning x.did x.now x.notes x.scene i step.making step.here
-          (subst (λ (of : ℕ). InMakingEvent same name terms log event of beginning x.did x.now x.notes x.scene) (sym step.map_is) midst) x.executor y.executor step.is_at step.size step.below step.said
-          step.leads step.was_new step.made_for))
+          (subst (λ (of : ℕ). InMakingEvent same name terms log event of beginning x.did x.now x.notes x.scene) (sym step.map_is) midst) x.executor y.executor step.is_at step.size step.said
+          step.leads step.was_new step.finds))
         where
           after_step : (x y : Come K V S) → MakingSteps same hash terms i map x y → Come K V S
           after_step x y step = record {

@@ -3,6 +3,7 @@ pub mod Begin
 pub mod Uncounted
 pub mod Sourced
 pub mod Between
+pub mod BetweenMaps
 pub mod CallChanges
 pub mod CallPairs
 pub mod CallReads
@@ -12,6 +13,7 @@ pub mod CallFollows
 pub mod CallsEnd
 pub mod Slots
 pub mod SlotsEnd
+pub mod Growths
 pub mod Maps
 pub mod MapsEnd
 pub mod LeftTold
@@ -28,6 +30,7 @@ pub mod Begun
 pub mod Choices
 pub mod Again
 pub mod MapsOver
+pub mod Refused
 pub mod Chains
 pub mod OfAll
 pub mod Legal

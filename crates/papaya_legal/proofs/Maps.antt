@@ -35,7 +35,7 @@ use Rattle.papaya_histories.proofs.Given.Moments.After.{effects_after}
 use Rattle.papaya_histories.proofs.Given.Moments.NewMaps.{effects_keep_pairs}
 use Rattle.papaya_histories.proofs.Given.Moments.Numbers.{steps_keep_numbers}
 use Rattle.papaya_histories.proofs.Given.Moments.Ends.{endings_keep_whole}
-use Rattle.papaya_histories.proofs.Given.Moments.MakingSteps.{makings_keep_whole}
+use Rattle.papaya_histories.proofs.Given.Moments.MakingSteps.{makings_go_beside, makings_keep_whole}
 use Rattle.papaya_kept.proofs.Others.{endings_find_kept, endings_keep_kept, makings_keep_kept}
 use Rattle.papaya_shards.proofs.ShardMakes.{makings_keep_counters}
 use Rattle.papaya_shards.proofs.ShardOthers.{endings_keep_counters}
@@ -52,14 +52,21 @@ use Rattle.papaya_models.specs.Ends.{FollowsInEnd}
 use Rattle.papaya_models.specs.MapEvents.{FollowsInMaking}
 use Rattle.papaya_models.proofs.Ends.{ends_go_on}
 use Rattle.papaya_models.proofs.MapEvents.{making_events_go_on}
-use Rattle.papaya_legal.specs.MapEvents.{EndEventsGoOn, MakingEventsGoOn}
+use Rattle.papaya_legal.specs.MapEvents.{EndEventsGoOn, FindsItsMap, HasNotMade, MakingEventsGoOn}
 use Rattle.papaya_shards.proofs.ShardKept.{none_shards}
 use Rattle.papaya_grows.proofs.Limits.Shows.{endings_keep_limits, makings_keep_limits}
 use Rattle.papaya_histories.proofs.Given.Spots.Effects.{AllAside}
 use Rattle.papaya_legal.proofs.Sourced.{making_none, making_sources, so_aside}
-use Rattle.papaya_grows.proofs.Finding.Aside.{endings_aside, makings_aside}
+use Rattle.papaya_grows.specs.Finding.{ShowsFinding}
+use Rattle.papaya_grows.proofs.Finding.Alike.{stood_as}
+use Rattle.papaya_grows.proofs.Finding.Aside.{endings_aside, makings_aside, makings_leave_spots}
+use Rattle.papaya_grows.proofs.Finding.Beside.{finding_beside}
+use Rattle.papaya_grows.proofs.Finding.Making.Lengths.{effects_keep_lengths}
 use Rattle.papaya_grows.proofs.Finding.NextsOthers.{endings_keep_nexts, makings_keep_nexts}
 use Rattle.papaya_grows.proofs.Finding.Others.{endings_keep_finding, makings_keep_finding}
+use Rattle.papaya_finds.proofs.Capacities.{capacities_stay, effects_keep_capacities}
+use Rattle.papaya_finds.proofs.Grows.Steps.{tables_have_been}
+use Rattle.papaya_legal.proofs.Growths.{growths_leave}
 use Rattle.papaya_legal.proofs.Uncounted.{none_counted}
 
 -- a map that stands as it does
@@ -98,6 +105,13 @@ module _ {K V S : Type 0} (same : K → K → Bool) (hash : K → ℕ) (s : Scen
   made_same (progress.Done setting) leads = refl
   made_same (progress.Refused fault) leads = refl
 
+  -- maps stand as they stood, as long as it has not made its own
+  pub unmade_maps : (said : Making Setting) (leads : MakingLeads same hash i said s old new) → HasNotMade said → (led said leads).maps ≡ s.maps
+  unmade_maps progress.Goes leads none = refl
+  unmade_maps progress.Waits leads none = refl
+  unmade_maps (progress.Done setting) leads none = absurd none
+  unmade_maps (progress.Refused fault) leads none = refl
+
   made_calls : (said : Making Setting) (leads : MakingLeads same hash i said s old new) (n j : ℕ) (x : UnderWay K V K) → (led said leads).calls n j ≡ Some x → s.calls n j ≡ Some x
   made_calls said leads n j x is = subst (λ (calls : ℕ → ℕ → Option (UnderWay K V K)). calls n j ≡ Some x) (made_same said leads) is
 
@@ -113,15 +127,15 @@ module _ {K V S : Type 0} (same : K → K → Bool) (hash : K → ℕ) (s : Scen
   made_stood (progress.Refused fault) leads n j x is st there = stands_so s.maps n st there
 
 pub making_events_go_on_so : (K V S : Type 0) (same : K → K → Bool) (hash : K → ℕ) → MakingEventsGoOn K V S same hash
-making_events_go_on_so K V S same hash name terms log event beginning done m known s i b here midst old new at size below said leads was_new made_for = (
+making_events_go_on_so K V S same hash name terms log event beginning done m known s i b here midst old new at size said leads was_new finds = (
   record {
     of_maps = midst.0.of_maps;
     calls = record {
       whole = then_whole;
-      numbers = numbers_then m midst.0.calls.numbers b.map below (acts.Making b.map) refl known new.memory.changed;
+      numbers = numbers_by finds;
       kept = makings_keep_kept K V S same hash name m known s old new at whole midst.0.calls.kept i said leads b here (Some b.map) was_new
           (made_at same hash s old new at i b here said leads) then_whole.all.shown;
-      finding = makings_keep_finding K V S same hash name m known s old new at whole midst.0.calls.finding i said leads b here was_new made_for (made_at same hash s old new at i b here said leads) then_whole;
+      finding = finding_by finds;
       sources = making_sources K V S same hash name m known then_known s old new i b here (Some b.map) effects aside midst.0.calls.sources midst.2 said leads then_whole.all.shown;
       nexts = makings_keep_nexts K V S same hash name log m known s old new midst.0.calls.nexts at whole i said leads b here was_new;
       limits = makings_keep_limits K V S same hash name log m known s old new midst.0.calls.limits at whole i said leads b here was_new;
@@ -164,6 +178,23 @@ making_events_go_on_so K V S same hash name terms log event beginning done m kno
 
     then_whole : ShowsWhole same name v then_known (led same hash s old new at i b here said leads)
     then_whole = makings_keep_whole K V S same hash name m known s old new at whole i said leads b here (Some b.map) was_new
+
+    -- the map is there by its number, or the moment is as it was
+    numbers_by : FindsItsMap b said effects m → NumbersMaps v × PairsAreBelow v
+    numbers_by (inl there) = numbers_then m midst.0.calls.numbers b.map there.0 (acts.Making b.map) refl known new.memory.changed
+    numbers_by (inr asks) = subst (λ (x : Moment K V). NumbersMaps x × PairsAreBelow x) (sym (growths_leave (Some b.map) effects m asks.1)) midst.0.calls.numbers
+
+    -- it was made for its capacity, or maps stand as they stood
+    finding_by : FindsItsMap b said effects m → ShowsFinding name v then_known (led same hash s old new at i b here said leads)
+    finding_by (inl there) =
+        makings_keep_finding K V S same hash name m known s old new at whole midst.0.calls.finding i said leads b here was_new there.1 (made_at same hash s old new at i b here said leads) then_whole
+    finding_by (inr asks) =
+        finding_beside same hash name m v known then_known s (led same hash s old new at i b here said leads) new (made_at same hash s old new at i b here said leads) then_whole
+        (makings_go_beside K V S same hash name m known s old new at whole i said leads b here (Some b.map) was_new) midst.0.calls.finding
+        (makings_leave_spots same hash name m known s old new at whole.all.shown i said leads b here (Some b.map)) (tables_have_been K V None (Some b.map) effects m)
+        (effects_keep_lengths None (Some b.map) effects m)
+        (capacities_stay K V m v s (led same hash s old new at i b here said leads) midst.0.calls.finding.capacities (λ n st is. effects_keep_capacities K V None (Some b.map) effects m n)
+        (stood_as s (led same hash s old new at i b here said leads) (unmade_maps same hash s old new at i b here said leads asks.0)))
 
 -- A step of an end.
 

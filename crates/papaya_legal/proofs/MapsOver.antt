@@ -35,7 +35,8 @@ use Rattle.papaya_finds.specs.Life.{StoresOne}
 use Rattle.papaya_legal.specs.Between.{IsLike}
 use Rattle.papaya_legal.specs.Carried.{ComesAlone, ShowsCalls}
 use Rattle.papaya_legal.specs.Over.{EndEventsBegin, EndEventsEnd, EndEventsFollow, MakingEventsBegin, MakingEventsEnd, MakingEventsFollow}
-use Rattle.papaya_legal.proofs.Between.{ends_begin, likes_show, makings_begin, maps_come, maps_gone}
+use Rattle.papaya_legal.proofs.Between.{likes_show}
+use Rattle.papaya_legal.proofs.BetweenMaps.{ends_begin, makings_begin, maps_come, maps_gone}
 use Rattle.papaya_legal.proofs.CallFollows.{by_model_so, of_no_slot, was_alone}
 use Rattle.papaya_sources.specs.Stays.{NoneBorn}
 use Rattle.papaya_legal.proofs.Sourced.{none_born}

@@ -37,11 +37,10 @@ use Rattle.papaya_histories.specs.Given.Schedules.Moment.{UnderWay as CallThere}
 use Rattle.papaya_histories.specs.Given.Callers.Together.{UnderWay, HandsOver}
 use Rattle.papaya_histories.specs.Given.Executor.IsAt.{slot_of}
 use Rattle.papaya_histories.specs.Given.Executor.Stepping.{StepLeads, scene_after}
-use Rattle.papaya_finds.specs.Linking.{IsMadeFor}
 use Rattle.papaya_purposes.specs.Kept.{ShowsNone}
 use Rattle.papaya_models.specs.CallEvents.{IsNoted, things_then}
 use Rattle.papaya_legal.specs.CallEvents.{InCallEvent}
-use Rattle.papaya_legal.specs.MapEvents.{InEndEvent, InMakingEvent}
+use Rattle.papaya_legal.specs.MapEvents.{FindsItsMap, InEndEvent, InMakingEvent}
 use Rattle.papaya_histories.specs.Given.Seize.World.{Rests}
 use Rattle.papaya_histories.specs.Given.Schedules.After.{moment}
 use Rattle.papaya_histories.specs.Given.Schedules.Beginning.{at_work}
@@ -110,7 +109,7 @@ module _ {K V S : Type 0} (same : K → K → Bool) (hash : K → ℕ) (terms : 
       scene = scene_then same hash (Step i) from.scene from.executor to.executor (leads row here).4;
     }
 
-  -- of the making of a map, which was made by its number, and is new,
+  -- of the making of a map, which is there by its number, and new; or one that just asks for blocks,
   pub record MakingSteps (i map : ℕ) (from to : Come K V S) : Type 0 where
     pub is_at : IsAt same hash from.executor from.scene
     pub size : from.executor.batch_size ≡ terms.batch_size
@@ -119,9 +118,8 @@ module _ {K V S : Type 0} (same : K → K → Bool) (hash : K → ℕ) (terms : 
     pub making : Beginning K
     pub here : from.scene.makers i ≡ Some making
     pub map_is : making.map ≡ map
-    pub below : making.map < from.now.made
     pub was_new : WasNew making.map said from.now
-    pub made_for : IsMadeFor making.map from.now making.given
+    pub finds : FindsItsMap making said (effects_of (acts.Making making.map) from.notes to.executor.memory.changed) from.now
     pub comes : to ≡ record {
       executor = to.executor;
       did = from.did ++ effects_of (acts.Making making.map) from.notes to.executor.memory.changed;

@@ -1,7 +1,8 @@
 -- Events that make a map, or end one, and those that do nothing: in the midst of one, and at its end.
-use Rattle.std.specs.Prelude.{◌≡◌, ◌<◌, ℕ, Bool, true, false, List, [], ◌++◌, Some, None}
+use Rattle.std.specs.Prelude.{◌≡◌, ◌<◌, ◌⊎◌, ℕ, Bool, true, false, List, [], ◌++◌, Some, None}
 use Rattle.std.specs.List.{list_all}
 use Rattle.papaya_histories.specs.Given.Seize.declared.progress.Progress.{Progress as Making}
+use Rattle.papaya_histories.specs.Given.Seize.declared.progress.Progress.TheVariants as progress
 use Rattle.papaya_histories.specs.Given.Seize.declared.rows.settle.Settled.{Settled}
 use Rattle.papaya_histories.specs.Given.Tables.declared.node.Node.{Node}
 use Rattle.papaya_histories.specs.Given.Tables.declared.setting.Setting.{Setting}
@@ -11,6 +12,7 @@ use Rattle.papaya_histories.specs.Given.Schedules.After.{moment, after}
 use Rattle.papaya_histories.specs.Given.Schedules.Effects.{with_effects, AtEachEffect, worked}
 use Rattle.papaya_histories.specs.Given.Schedules.Entry.{Entry, IfCall, acting, caller_of, acted_on}
 use Rattle.papaya_histories.specs.Given.Schedules.Handing.{is_granted, may_do, IsWhole, LeavesOf, comes_clear}
+use Rattle.papaya_histories.specs.Given.Schedules.InTurn.{is_growth}
 use Rattle.papaya_histories.specs.Given.Schedules.Lives.{Finds}
 use Rattle.papaya_histories.specs.Given.Schedules.Model.{sets_in, things_in, changes_of, left_last, IsByModel}
 use Rattle.papaya_histories.specs.Given.Schedules.Moment.{Moment}
@@ -63,13 +65,23 @@ module _ {K V : Type 0} (same : K → K → Bool) (name : ℕ → List ℕ) (ter
   InEndEvent first i done m known s =
       InMapEvent done m known s × (ComesAlone event log → FollowsInEnd terms.batch_size terms.roots (things_in log) (sets_in terms.batch_size log) first i done known s.world)
 
+-- it has not made its map
+abbrev pub HasNotMade : Making Setting → Type 0
+HasNotMade (progress.Done setting) = ⊥
+HasNotMade said = Unit {0}
+
+-- A step of the making of a map finds it there, as it was to be made; or it just asks for blocks, and has not made it.
+abbrev pub FindsItsMap : {K V : Type 0} → Beginning K → Making Setting → List Effect → Moment K V → Type 0
+FindsItsMap b said effects m = ((b.map < m.made) × IsMadeFor b.map m b.given) ⊎ (HasNotMade said × (list_all is_growth effects ≡ true))
+
 module _ (K V S : Type 0) (same : K → K → Bool) (hash : K → ℕ) where
-  -- The promises: a making goes on so, that began with a setting for the capacity of its map,
+  -- The promises: a making goes on so, whose map is there, made for its capacity, or which just asks for blocks,
   abbrev pub MakingEventsGoOn : Type 0
   MakingEventsGoOn =
       (name : ℕ → List ℕ) (terms : Terms) (log : List (Entry K V)) (event : Event K V) (beginning : Moment K V) (done : List Effect) (m : Moment K V) (known : Known) (s : Scene K V) (i : ℕ) (b : Beginning K)
       (here : s.makers i ≡ Some b) → InMakingEvent same name terms log event b.map beginning done m known s → (old new : Executor K V S) → IsAt same hash old s
-      → old.batch_size ≡ terms.batch_size → b.map < m.made → (said : Making Setting) (leads : MakingLeads same hash i said s old new) → WasNew b.map said m → IsMadeFor b.map m b.given
+      → old.batch_size ≡ terms.batch_size → (said : Making Setting) (leads : MakingLeads same hash i said s old new) → WasNew b.map said m
+      → FindsItsMap b said (effects_of (acts.Making b.map) known new.memory.changed) m
       → (let to = leads b here in
       let effects = effects_of (acts.Making b.map) known new.memory.changed in
       InMakingEvent same name terms log event b.map beginning (done ++ effects) (with_effects None (Some b.map) effects m) (known_after (acts.Making b.map) new.memory.changed known)

@@ -90,7 +90,7 @@ pub fn reclaiming_all<K, V, S>()
     ensures ends { (same : K → K → Bool) (hash : K → ℕ) → AllRunsToItsEnd K V S same hash }
 {}
 
-/// An event that makes a map, or ends one, is in its midst where that begins, and still after each step, an end if it takes tables of its map alone.
+/// An event that makes a map, or ends one, is in its midst where that begins, and still after each step, a making if its map is there, or if it just asks for blocks, an end if it takes tables of its map alone.
 /// Once its work is done it keeps its promises, if what it did it may do, and finds what it must, if it is whole, and by the model; which it is if it was not kept out, and its end is over. The moment after it shows all that the next event
 /// needs, where no map that stands has the name of one that has ended.
 pub fn map_events<K, V, S>()

@@ -22,7 +22,7 @@ use Rattle.papaya_schedules.specs.declared.outcome.Outcome.TheVariants.{Done, Re
 use Rattle.papaya_schedules.specs.After.{is_alone_on, moment}
 use Rattle.papaya_schedules.specs.Beginning.{used_roots, with_map}
 use Rattle.papaya_schedules.specs.Effects.{with_effects}
-use Rattle.papaya_schedules.specs.Entry.{Entry}
+use Rattle.papaya_schedules.specs.Entry.{Entry, is_busy}
 use Rattle.papaya_schedules.specs.InTurn.{InTurn, IsMade, has_grown, may_make}
 use Rattle.papaya_schedules.specs.Lists.{is_among, least_free}
 use Rattle.papaya_schedules.specs.Moment.{MapThere, Moment}
@@ -203,13 +203,20 @@ module _ {K V S : Type 0} (same : K → K → Bool) (hash : K → ℕ) (terms : 
             went = (ran.3 same hash stands.name m s1 shown_mid b here (sym is_number) (number_of own m)).1 tt (subst (λ (n : ℕ). NumbersUpTo n m) (sym is_number) stands.shown.counted.numbered.numbers)
 
             -- it was not refused as busy
-            quiet_by : (x : Fault) → FindsRoot p.logged.executor.roots (λ q. is_among q used) after new.executor.memory.memory (progress.Refused x) → IsQuiet {V = V} (Refused x) after
-            quiet_by RootsUsedUp so = tt
-            quiet_by Memory so = tt
-            quiet_by _ so = absurd so
+            never_by : (x : Fault) → FindsRoot p.logged.executor.roots (λ q. is_among q used) after new.executor.memory.memory (progress.Refused x) → is_busy {V = V} (Refused x) ≡ false
+            never_by RootsUsedUp so = refl
+            never_by Memory so = refl
+            never_by _ so = absurd so
+
+            pub refused_never : is_busy {V = V} (Refused fault) ≡ false
+            refused_never = never_by fault (found no_map new before after empty ran finds)
+
+            quiet_by : (x : Fault) → is_busy {V = V} (Refused x) ≡ false → IsQuiet {V = V} (Refused x) after
+            quiet_by Busy never = absurd (cc never)
+            quiet_by _ never = tt
 
             pub refused_quiet : IsQuiet {V = V} (Refused fault) after
-            refused_quiet = quiet_by fault (found no_map new before after empty ran finds)
+            refused_quiet = quiet_by fault refused_never
 
             abbrev refusal : Entry K V
             refusal = entry event (Refused fault) 0 after

@@ -42,7 +42,8 @@ use Rattle.papaya_others.specs.Makings.{IsNew, WasNew, making_after}
 use Rattle.papaya_others.proofs.Leads.{word_says}
 use Rattle.papaya_others.proofs.MakingGoes.{makings_note_counters}
 use Rattle.papaya_others.proofs.MakingPlans.{TellsMaking}
-use Rattle.papaya_others.proofs.Makes.{still_made, lasting_there, no_table_word, not_going, not_refused, came_first, tells, left, makings_are_shown}
+use Rattle.papaya_others.proofs.MadeBlocks.{still_made, lasting_there}
+use Rattle.papaya_others.proofs.Makes.{no_table_word, not_going, not_refused, came_first, tells, left, makings_are_shown}
 use Rattle.papaya_others.proofs.Quiet.{calls_none, stored_none}
 use Rattle.papaya_spots.proofs.Calm.{put_back}
 use Rattle.papaya_spots.proofs.Makings.{makings_leave_places}

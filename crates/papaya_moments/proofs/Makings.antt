@@ -44,7 +44,8 @@ use Rattle.papaya_others.proofs.Given.Follows.Writes.{nothing_free}
 use Rattle.papaya_others.specs.Makings.{IsNew, WasNew}
 use Rattle.papaya_others.proofs.Leads.{word_says}
 use Rattle.papaya_others.proofs.MakingPlans.{TellsMaking}
-use Rattle.papaya_others.proofs.Makes.{still_made, lasting_there, linked_stays, no_table_word, tells, left, not_going, not_refused}
+use Rattle.papaya_others.proofs.MadeBlocks.{still_made, lasting_there}
+use Rattle.papaya_others.proofs.Makes.{linked_stays, no_table_word, tells, left, not_going, not_refused}
 use Rattle.papaya_others.proofs.Quiet.{all_quiet}
 use Rattle.papaya_others.proofs.Retired.{any_kept}
 use Rattle.papaya_spots.specs.Unreclaimed.{is_unreclaimed, ShowsUnreclaimed}

@@ -15,6 +15,7 @@ pub mod Users
 pub mod NewMap
 pub mod MakeBegins
 pub mod MakingPlans
+pub mod MadeBlocks
 pub mod Makes
 pub mod MakingGoes
 pub mod Noted

@@ -1,5 +1,5 @@
 -- A step of the making of a map: the moment after its effects shows the scene after it, and by the last one the map.
-use Rattle.std.specs.Prelude.{◌≡◌, ◌≢◌, ℕ, zero, suc, ◌*◌, ◌<◌, ◌≤◌, ◌==◌, Bool, true, cond, eqb, max, List, [], ◌∷◌, ◌++◌, length, filter, Option, Some, None, IsSome, if◌then◌else◌}
+use Rattle.std.specs.Prelude.{◌≡◌, ◌≢◌, ℕ, ◌*◌, ◌<◌, ◌≤◌, ◌==◌, Bool, true, cond, eqb, max, List, [], ◌∷◌, ◌++◌, length, filter, Option, Some, None, IsSome, if◌then◌else◌}
 use Rattle.std.proofs.Common.{refl, ap, sym, subst, ◌∙◌, arith, inl, inr, append-nil}
 use Rattle.std.proofs.lemmas.Bool.{ne_eqb, eq-eqb, cases_eq}
 use Rattle.std.proofs.lemmas.List.Elements.{filter-append}
@@ -31,7 +31,6 @@ use Rattle.papaya_follows.specs.Given.Schedules.Effects.{with_effects}
 use Rattle.papaya_follows.specs.Given.Schedules.Lists.{put}
 use Rattle.papaya_follows.specs.Given.Schedules.Moment.{IsLinked, TableThere, Moment}
 use Rattle.papaya_follows.specs.Given.Schedules.Views.{tables_of}
-use Rattle.papaya_follows.specs.Given.Teller.Changed.{kind_of}
 use Rattle.papaya_follows.specs.Given.Teller.declared.changed.Changed.{Changed}
 use Rattle.papaya_follows.specs.Given.Teller.declared.changed.Changed.TheVariants as changed
 use Rattle.papaya_follows.specs.Given.Teller.declared.changed.Kind.{Kind}
@@ -70,42 +69,13 @@ use Rattle.papaya_follows.proofs.Writes.{Says, root_says, nothing_free, own_tabl
 use Rattle.papaya_others.specs.After.{ShowsAfter}
 use Rattle.papaya_others.specs.Makings.{IsNew, WasNew, NotesCounter, making_after, MakingsAreShown}
 use Rattle.papaya_others.proofs.Leads.{DoesNothing, word_says, calls_then, nothing, made, gone_quiet}
+use Rattle.papaya_others.proofs.MadeBlocks.{not_pair, still_made, made_has, lasting_there}
 use Rattle.papaya_others.proofs.MakingPlans.{KeepsValues, TellsMaking, DoneBy, making_tells, making_keeps, has_root, making_done}
 use Rattle.papaya_others.proofs.NewMap.{no_tables_shown, one_table_shown, new_shown}
 use Rattle.papaya_others.proofs.Quiet.{all_quiet, stored_none}
 use Rattle.papaya_others.proofs.Scenes.{one_put}
 use Rattle.papaya_others.proofs.Stays.{StaysBlock, same_maps}
 use Rattle.papaya_others.proofs.Users.{events_stay}
-
--- a new block is no pair that was stored, and makes none
-not_pair : (its : Acting) (k : Kind) (n : ℕ) → made_role its k ≡ role.Pair n → ⊥
-not_pair its kind.Pair n e = cc e
-not_pair its (kind.Table len limit turn) n e = cc e
-not_pair its kind.Shards n e = cc e
-
-pub still_made : (its : Acting) (k : Kind) → AllStill (Asked ABlock ∷ made_by its k)
-still_made its kind.Pair = (refl, (refl, tt))
-still_made its (kind.Table len limit turn) = (refl, (refl, tt))
-still_made its kind.Shards = (refl, tt)
-
-module _ {K V : Type 0} (w : World (Node K V)) (stored : List (K × V)) where
-  -- it is what it is told as
-  made_has : (its : Acting) (b : ℕ) (value : Node K V) → value_at w.memory b ≡ Some value → HasRole w stored b (made_role its (kind_of value))
-  made_has its b (node.Pair k v) is = (node.Pair k v, is, refl)
-  made_has its b (node.Table zero limit turn) is = (node.Table zero limit turn, is, refl)
-  made_has its b (node.Table (suc len) limit turn) is =
-      subst (λ (k : Kind). HasRole w stored b (made_role its k)) (sym (ap (λ q. if q then kind.Pair else kind.Table (suc len) limit turn) (ne_eqb (suc len) 0 (λ e. omega (arith, e)))))
-      (λ e. omega (arith, e), is)
-  made_has its b node.Shards is = is
-
-  -- what was linked, or is a counter, is there
-  pub lasting_there : (b : ℕ) (r : Role) → HasRole w stored b r → IsLasting r → value_at w.memory b ≡ None → ⊥
-  lasting_there b role.Free has last none = last
-  lasting_there b (role.OwnPair caller) has last none = last
-  lasting_there b (role.OwnTable turn shape) has last none = last
-  lasting_there b (role.Pair n) has last none = (let there = has.3 in cc (there, none))
-  lasting_there b (role.Table t len) has last none = (let there = has.1 in cc (there, none))
-  lasting_there b (role.Counter map) has last none = cc (has, none)
 
 module _ {K V S : Type 0} (same : K → K → Bool) (hash : K → ℕ) (name : ℕ → List ℕ) (m : Moment K V) (known : Known) (s : Scene K V) (old new : Executor K V S) (at : IsAt same hash old s)
     (shown : Shows same name m known s) (i : ℕ) (b : Beginning K) (here : s.makers i ≡ Some b) (end : NewMap) (said : Progress Setting) (steps : MakingStepsFrom b.machine old new end said)

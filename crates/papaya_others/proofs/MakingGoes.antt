@@ -38,7 +38,8 @@ use Rattle.papaya_follows.proofs.Steps.{one_of}
 use Rattle.papaya_others.specs.Counters.{NotesCounters, MakingsNoteCounters}
 use Rattle.papaya_others.specs.Makings.{IsNew, NotesCounter, making_after, NewMapsStay}
 use Rattle.papaya_others.proofs.Leads.{word_says}
-use Rattle.papaya_others.proofs.Makes.{facts, tells, left, linked_stays, no_table_word, not_going, still_made}
+use Rattle.papaya_others.proofs.MadeBlocks.{still_made}
+use Rattle.papaya_others.proofs.Makes.{facts, tells, left, linked_stays, no_table_word, not_going}
 use Rattle.papaya_others.proofs.MakingPlans.{TellsMaking, counter_from}
 use Rattle.papaya_others.proofs.Noted.{counter_on}
 use Rattle.papaya_others.proofs.Quiet.{all_quiet}

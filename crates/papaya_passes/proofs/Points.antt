@@ -55,6 +55,7 @@ use Rattle.papaya_falls.proofs.Onward.{Onward, past_kept, table_on}
 use Rattle.papaya_falls.proofs.Calls.MachineFacts.{dispose_stands}
 use Rattle.papaya_falls.proofs.Copiers.CopierOn.{past_still, past_place}
 use Rattle.papaya_falls.proofs.Reserves.CopiesLower.{CopyFalls, copies_fall}
+use Rattle.papaya_falls.proofs.Within.DisposalRows.{RowGoesFurther}
 use Rattle.papaya_falls.proofs.Within.Disposals.{disposed_on, disposed_still}
 use Rattle.papaya_late.specs.FactsSweeps.{GoesOver, CopiesTable, SweepingFacts, SweepFacts}
 use Rattle.papaya_late.specs.ToldSweeps.{IsRowOfSweep}
@@ -139,7 +140,7 @@ module _ {K V : Type 0} (same : K → K → Bool) (hash : K → ℕ) (setting : 
             → Goal (at.Copies copier) (copied p to)
         by (next, outcome.Goes) falls goes = falls
         by (next, outcome.Waits) falls goes = absurd goes
-        by (next, outcome.Gave value) falls goes = absurd goes
+        by (next, outcome.Gave value) falls goes = falls
         by (next, outcome.Done root) falls goes =
             let h = entering_is hash c2 blocks2 p root in
             subst (λ (ys : List ℕ). IsBelow ys (numbers_at hash c blocks p (at.Copies copier))) (sym h.3)
@@ -235,29 +236,23 @@ module _ {K V : Type 0} (same : K → K → Bool) (hash : K → ℕ) (setting : 
           (by (still (disposed_still w.memory m2 dispose none b.0 b.1)) b.0
           (disposed_on same hash setting w.memory c blocks m2 c2 blocks2 on dispose f.0 f.1 f.2 none b.0 b.1))
         where
-          by : c2.past ≡ c.past → (to : Dispose × Settled (Node K V))
-              → (to.1 ≡ settled.Goes → IsBelow (number_of_dispose c2 blocks2 to.0) (number_of_dispose c blocks dispose))
-              → Goal (at.Disposes dispose) (disposed p to)
-          by past (next, settled.Goes) below goes =
+          further : c2.past ≡ c.past → (next : Dispose) → IsBelow (number_of_dispose c2 blocks2 next) (number_of_dispose c blocks dispose)
+              → IsBelow (number_of_sweep hash c2 blocks2 (going {T = Node K V} p (at.Disposes next)).0) (numbers_at hash c blocks p (at.Disposes dispose))
+          further past next below =
               inr (
                 to_come hash c blocks c2 blocks2 past p,
                 inr (
                   ap (λ (x : ℕ). x - p.table.turn) past,
-                  inr (
-                    refl,
-                    inr (
-                      refl,
-                      inr (
-                        refl,
-                        below_followed (number_of_dispose c2 blocks2 next)
-                            (number_of_dispose c blocks dispose) _ _ (below refl),
-                      ),
-                    ),
-                  ),
+                  inr (refl, inr (refl, inr (refl, below_followed (number_of_dispose c2 blocks2 next) (number_of_dispose c blocks dispose) _ _ below))),
                 ),
               )
+
+          by : c2.past ≡ c.past → (to : Dispose × Settled (Node K V))
+              → (RowGoesFurther to.1 → IsBelow (number_of_dispose c2 blocks2 to.0) (number_of_dispose c blocks dispose))
+              → Goal (at.Disposes dispose) (disposed p to)
+          by past (next, settled.Goes) below goes = further past next (below tt)
           by past (next, settled.Waits) below goes = absurd goes
-          by past (next, settled.Gave value) below goes = absurd goes
+          by past (next, settled.Gave value) below goes = further past next (below tt)
           by past (next, settled.Done) below goes =
               further_on same hash setting w caller c blocks began map p t over inside c2 blocks2 past
               (0 ∷ (number_of_dispose c blocks dispose ++ (0 ∷ 0 ∷ 0 ∷ 0 ∷ 0 ∷ [])))

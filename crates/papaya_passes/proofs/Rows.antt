@@ -22,7 +22,6 @@ use Rattle.papaya_late.specs.Given.Sweeps.declared.sweep.Sweep.{Sweep}
 use Rattle.papaya_late.specs.Given.Sweeps.declared.sweep.Sweeping.{Sweeping}
 use Rattle.papaya_late.specs.Given.Sweeps.declared.sweep.Sweeping.TheVariants as at
 use Rattle.papaya_late.specs.Given.Sweeps.declared.sweep.Swept.{Swept}
-use Rattle.papaya_late.specs.Given.Sweeps.declared.sweep.Swept.TheVariants as swept
 use Rattle.papaya_late.specs.Given.Rule.Chart.{Chart}
 use Rattle.papaya_late.specs.Given.Rule.Words.{Blocks}
 use Rattle.papaya_late.specs.Given.Rule.InWorld.{IsMapIn}
@@ -34,7 +33,7 @@ use Rattle.papaya_falls.proofs.Within.DisposalRows.{StaysInRow, stays_in_row, no
 use Rattle.papaya_late.specs.FactsSweeps.{CopiesPairs}
 use Rattle.papaya_late.specs.RowsSweeps.{Rests}
 use Rattle.papaya_late.specs.ToldSweeps.{IsRowOfSweep}
-use Rattle.papaya_passes.specs.FallsSweeps.{SweepRowsFall}
+use Rattle.papaya_passes.specs.FallsSweeps.{ComesOn, SweepRowsFall}
 use Rattle.papaya_passes.specs.Sweeps.{at_place, numbers_at, number_of_sweep}
 use Rattle.papaya_passes.proofs.Over.{further_on}
 use Rattle.papaya_passes.proofs.Within.{none_done, row_copied}
@@ -54,7 +53,7 @@ module _ {K V : Type 0} (same : K → K → Bool) (hash : K → ℕ) (setting : 
   -- it is in the row still, and its number is what it was, or the row is over, and it is lower
   abbrev Goal : Sweeping → Sweep × Swept (Node K V) → Type 0
   Goal stands end =
-      end.1 ≡ swept.Goes
+      ComesOn stands end.1
       → ((IsRowOfSweep end.0.stands) × (number_of_sweep hash c blocks end.0 ≡ numbers_at hash c blocks p stands))
       ⊎ ((IsRowOfSweep end.0.stands → ⊥) × IsBelow (number_of_sweep hash c blocks end.0) (numbers_at hash c blocks p stands))
 
@@ -64,11 +63,15 @@ module _ {K V : Type 0} (same : K → K → Bool) (hash : K → ℕ) (setting : 
       → Goal (at.Disposes dispose) (disposed p to)
   disposed_on dispose row rests (next, settled.Goes) stays goes =
       inl (
-        stays refl,
-        ap (λ xs. tables_to_come c.past 0 ∷ at_place hash c blocks p 0 xs) (none_in_row c blocks next (stays refl) ∙ sym (none_in_row c blocks dispose row)),
+        stays tt,
+        ap (λ xs. tables_to_come c.past 0 ∷ at_place hash c blocks p 0 xs) (none_in_row c blocks next (stays tt) ∙ sym (none_in_row c blocks dispose row)),
       )
-  disposed_on dispose row rests (next, settled.Waits) stays goes = absurd (cc goes)
-  disposed_on dispose row rests (next, settled.Gave value) stays goes = absurd (cc goes)
+  disposed_on dispose row rests (next, settled.Waits) stays goes = absurd goes
+  disposed_on dispose row rests (next, settled.Gave value) stays goes =
+      inl (
+        stays tt,
+        ap (λ xs. tables_to_come c.past 0 ∷ at_place hash c blocks p 0 xs) (none_in_row c blocks next (stays tt) ∙ sym (none_in_row c blocks dispose row)),
+      )
   disposed_on dispose row rests (next, settled.Done) stays goes =
       inr (
         none_further p,
@@ -80,11 +83,11 @@ module _ {K V : Type 0} (same : K → K → Bool) (hash : K → ℕ) (setting : 
   copied_on : (copier : Copier) → IsRowOfSweep (at.Copies copier) → (to : Copier × Outcome (Node K V) Table)
       → Steps Took value_at w.memory (copier_plan hash copier) m2 to
       → Goal (at.Copies copier) (copied p to)
-  copied_on copier row (next, outcome.Goes) s goes = row_copied hash w.memory m2 c blocks p.setting copier next row s
-  copied_on copier row (next, outcome.Waits) s goes = absurd (cc goes)
-  copied_on copier row (next, outcome.Gave value) s goes = absurd (cc goes)
+  copied_on copier row (next, outcome.Goes) s goes = row_copied hash w.memory m2 c blocks p.setting copier next row outcome.Goes tt s
+  copied_on copier row (next, outcome.Waits) s goes = absurd goes
+  copied_on copier row (next, outcome.Gave value) s goes = row_copied hash w.memory m2 c blocks p.setting copier next row (outcome.Gave value) tt s
   copied_on copier row (next, outcome.Done root) s goes = absurd (none_done hash w.memory m2 c blocks p.setting copier next row root s)
-  copied_on copier row (next, outcome.Refused fault) s goes = absurd (cc goes)
+  copied_on copier row (next, outcome.Refused fault) s goes = absurd goes
 
   on_at : (stands : Sweeping) → IsRowOfSweep stands → ((CopiesPairs stands → ⊥) → Rests same hash w caller setting c blocks began p)
       → (end : Sweep × Swept (Node K V))
@@ -99,5 +102,5 @@ module _ {K V : Type 0} (same : K → K → Bool) (hash : K → ℕ) (setting : 
   on_at _ row rests end s = absurd row
 
 pub sweep_rows_fall : {K : Type 0} (V : Type 0) (same : K → K → Bool) (hash : K → ℕ) → SweepRowsFall V same hash
-sweep_rows_fall V same hash setting w caller c blocks began p p2 map row rests m2 s =
-    on_at same hash setting w caller c blocks began p map m2 p.stands row rests (p2, swept.Goes) s refl
+sweep_rows_fall V same hash setting w caller c blocks began p map row rests m2 end s goes =
+    on_at same hash setting w caller c blocks began p map m2 p.stands row rests end s goes

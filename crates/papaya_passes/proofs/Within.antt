@@ -15,7 +15,7 @@ use Rattle.papaya_late.specs.Given.Resize.Copier.{copier_plan}
 use Rattle.papaya_late.specs.Given.Resize.CopierPromotes.{retired}
 use Rattle.papaya_late.specs.Given.Resize.declared.copier.Copier.{Copier}
 use Rattle.papaya_late.specs.Given.Resize.declared.outcome.Outcome.{Outcome}
-use Rattle.papaya_late.specs.Given.Resize.declared.outcome.Outcome.TheVariants.{Goes, Done}
+use Rattle.papaya_late.specs.Given.Resize.declared.outcome.Outcome.TheVariants.{Goes, Waits, Gave, Done, Refused}
 use Rattle.papaya_late.specs.Given.Reserves.Reserve.{copied}
 use Rattle.papaya_late.specs.Given.Reserves.declared.reserve.Reserve.{Reserve}
 use Rattle.papaya_late.specs.Given.Reserves.declared.reserve.Reserving.TheVariants as at
@@ -23,6 +23,7 @@ use Rattle.papaya_late.specs.Given.Rule.Chart.{Chart}
 use Rattle.papaya_late.specs.Given.Rule.Words.{Blocks}
 use Rattle.papaya_late.specs.Given.Points.Measures.{IsBelow}
 use Rattle.papaya_late.specs.Given.Points.Told.{IsRowOfCopier}
+use Rattle.papaya_falls.specs.FallsWithin.{GoesFurther}
 use Rattle.papaya_falls.specs.Reserves.{numbers_at}
 use Rattle.papaya_falls.proofs.Calls.LateFacts.{late_copying}
 use Rattle.papaya_falls.proofs.Copiers.Rows.{in_row, retires_back}
@@ -66,8 +67,16 @@ module _ {K V : Type 0} (hash : K → ℕ) (m m2 : Mem (Node K V)) (c : Chart K)
       by rest (settle, settled.Gave value) e = let told = ap (λ (x : Copier × Outcome (Node K V) Table). x.1) e in cc told
       by rest (settle, settled.Done) e = let told = ap (λ (x : Copier × Outcome (Node K V) Table). x.1) e in cc told
 
-  pub row_copied : IsRowOfCopier copier.stands → Steps Took value_at m (copier_plan hash copier) m2 (next, Goes)
-      → (IsRowOfCopier next.stands × (numbers next ≡ numbers copier)) ⊎ ((IsRowOfCopier next.stands → ⊥) × IsBelow (numbers next) (numbers copier))
-  row_copied row s =
-      reserve_rows_fall hash (reserve_with own copier) (reserve_with own next) row m m2
-      (steps_as (copied (reserve_with own copier)) Can Took value_at m m2 (copier_plan hash copier) (next, Goes) s) c blocks
+  abbrev RowOn : Type 0
+  RowOn = (IsRowOfCopier next.stands × (numbers next ≡ numbers copier)) ⊎ ((IsRowOfCopier next.stands → ⊥) × IsBelow (numbers next) (numbers copier))
+
+  pub row_copied : IsRowOfCopier copier.stands → (told : Outcome (Node K V) Table) → GoesFurther told → Steps Took value_at m (copier_plan hash copier) m2 (next, told) → RowOn
+  row_copied row Goes goes s =
+      reserve_rows_fall hash (reserve_with own copier) row m m2 (copied (reserve_with own copier) (next, Goes))
+      (steps_as (copied (reserve_with own copier)) Can Took value_at m m2 (copier_plan hash copier) (next, Goes) s) tt c blocks
+  row_copied row (Gave value) goes s =
+      reserve_rows_fall hash (reserve_with own copier) row m m2 (copied (reserve_with own copier) (next, Gave value))
+      (steps_as (copied (reserve_with own copier)) Can Took value_at m m2 (copier_plan hash copier) (next, Gave value) s) tt c blocks
+  row_copied row Waits goes s = absurd goes
+  row_copied row (Done root) goes s = absurd goes
+  row_copied row (Refused fault) goes s = absurd goes

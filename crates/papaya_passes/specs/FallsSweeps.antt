@@ -22,10 +22,11 @@ use Rattle.papaya_late.specs.RowsSweeps.{Rests}
 use Rattle.papaya_late.specs.ToldSweeps.{IsRowOfSweep}
 use Rattle.papaya_passes.specs.Sweeps.{number_of_sweep}
 
--- A step from here goes on, or shows a pair, or comes to be asked for the next one, or to be told whether one is to be kept. One that only says again
--- what the sweep is to be asked or told does not.
+-- A step from here goes on, and may have handed out a value that was reclaimed; or it shows a pair, or comes to be asked for the next one, or to be told
+-- whether one is to be kept. One that only says again what the sweep is to be asked or told does not.
 abbrev pub ComesOn : {T : Type 0} → Sweeping → Swept T → Type 0
 ComesOn stands swept.Goes = Unit {0}
+ComesOn stands (swept.Gave value) = Unit {0}
 ComesOn stands (swept.Pair word) = Unit {0}
 ComesOn stands swept.Ready = stands ≢ at.Ready
 ComesOn stands (swept.Asks word) = stands ≢ at.Asks word
@@ -59,12 +60,12 @@ module _ {K : Type 0} (V : Type 0) (same : K → K → Bool) (hash : K → ℕ) 
   -- is within the copying of a table, or the sweep knows what it knows on while the pair that it has removed is disposed of.
   abbrev pub SweepRowsFall : Type 0
   SweepRowsFall =
-      (setting : Setting) (w : World (Node K V)) (caller : ℕ) (c : Chart K) (blocks : Blocks) (began : ℕ) (p p2 : Sweep)
+      (setting : Setting) (w : World (Node K V)) (caller : ℕ) (c : Chart K) (blocks : Blocks) (began : ℕ) (p : Sweep)
       → IsMapIn same hash setting w c blocks → IsRowOfSweep p.stands
       → ((CopiesPairs p.stands → ⊥) → Rests same hash w caller setting c blocks began p)
-      → (m2 : Mem (Node K V)) → Steps Took value_at w.memory (sweep_plan hash p) m2 (p2, swept.Goes)
-      → ((IsRowOfSweep p2.stands) × (number_of_sweep hash c blocks p2 ≡ number_of_sweep hash c blocks p))
-      ⊎ ((IsRowOfSweep p2.stands → ⊥) × IsBelow (number_of_sweep hash c blocks p2) (number_of_sweep hash c blocks p))
+      → (m2 : Mem (Node K V)) (end : Sweep × Swept (Node K V)) → Steps Took value_at w.memory (sweep_plan hash p) m2 end → ComesOn p.stands end.1
+      → ((IsRowOfSweep end.0.stands) × (number_of_sweep hash c blocks end.0 ≡ number_of_sweep hash c blocks p))
+      ⊎ ((IsRowOfSweep end.0.stands → ⊥) × IsBelow (number_of_sweep hash c blocks end.0) (number_of_sweep hash c blocks p))
 
 -- a sweep always has as many numbers, so that its descents come to an end
 abbrev pub SweepNumbersAreAsMany : Type 0 → Type 0

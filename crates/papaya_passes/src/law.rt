@@ -6,7 +6,8 @@ ghost use Rattle.papaya_passes.specs.FallsSweeps.{SweepsFall, TellingFalls, Swee
 /// In any state of a map that the rule allows, in both modes, and whatever other callers have under way, also once the root has left its table: a step
 /// of a sweep which goes on and is none of a row of the collector leads to lower numbers, of the sweep and of the tables that the memory shows then. So
 /// does a step that shows a pair, or comes to be asked or told, and so it is with what it is asked for and told: no reply raises them. Steps of a row
-/// within a sweep leave its numbers as they are, and the last one, where the sweep goes on with it, lowers them. They are always as many, and each
+/// within a sweep, those that hand out what they have reclaimed, too, leave its numbers as they are, and the last one, where the sweep goes on with
+/// it, lowers them. They are always as many, and each
 /// descent of as many numbers comes to an end.
 pub fn sweeps_lower_the_number<K, V>()
     ensures steps { (same : K → K → Bool) (hash : K → ℕ) → SweepsFall V same hash }

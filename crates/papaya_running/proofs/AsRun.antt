@@ -11,7 +11,7 @@ use Rattle.papaya_schedules.specs.Terms.{Terms}
 use Rattle.papaya_finds.specs.TornDown.{StoredAreSomewhere}
 use Rattle.papaya_finds.specs.Waiting.{is_unborn}
 use Rattle.papaya_tally.specs.Told.{ArePlaced}
-use Rattle.papaya_running.specs.Back.{ReclaimsRight, TellsBack}
+use Rattle.papaya_running.specs.Back.{ReclaimsRight}
 use Rattle.papaya_running.specs.Run.{IsRightRun}
 use Rattle.papaya_running.proofs.Mays.{reclaims_right}
 
@@ -22,7 +22,7 @@ module _ {K V : Type 0} where
 
   module _ (same : K → K → Bool) (terms : Terms) where
     -- events that do what they may reclaim pairs only where that may be so
-    all_reclaim_right : (log : List (Entry K V)) → AtEachEvent (IsLegal same terms) log → AtEachEvent ReclaimsRight log
+    pub all_reclaim_right : (log : List (Entry K V)) → AtEachEvent (IsLegal same terms) log → AtEachEvent ReclaimsRight log
     all_reclaim_right [] all = tt
     all_reclaim_right (e ∷ log) all = (reclaims_right terms log e all.0.life, all_reclaim_right log all.1)
 
@@ -37,9 +37,6 @@ module _ {K V : Type 0} where
       tells = tells_end;
     }
       where
-        back : TellsBack (moment (log_of schedule run)) run
-        back = is.back (all_reclaim_right (log_of schedule run) legal)
-
         tells_end : TellsEnd (moment (log_of schedule run)) run
         tells_end = record {
           stored = is.tells.stored;
@@ -47,8 +44,8 @@ module _ {K V : Type 0} where
           waiting = is.tells.waiting;
           ascending = is.tells.ascending;
           tables = is.tells.tables;
-          given_back = back.given_back;
-          contents = back.contents;
+          given_back = is.back.given_back;
+          contents = is.back.contents;
           kept = is.tells.kept;
-          pairs = back.pairs (are_placed (moment (log_of schedule run)) somewhere);
+          pairs = is.back.pairs (are_placed (moment (log_of schedule run)) somewhere);
         }

@@ -1,11 +1,9 @@
 -- By all that is said of an event that has happened it keeps its promises, and the run goes on with it.
 use Rattle.std.specs.Prelude.{◌≡◌, ◌==◌, ℕ, Bool, true, false, List, ◌∷◌}
 use Rattle.std.proofs.Common.{refl}
-use Rattle.papaya_schedules.specs.declared.effect.Effect.{Effect}
 use Rattle.papaya_schedules.specs.declared.event.Event.{Event}
 use Rattle.papaya_schedules.specs.declared.event.Event.TheVariants as event
 use Rattle.papaya_schedules.specs.declared.outcome.Outcome.{Outcome}
-use Rattle.papaya_schedules.specs.declared.outcome.Outcome.TheVariants.{Refused}
 use Rattle.papaya_schedules.specs.After.{moment}
 use Rattle.papaya_schedules.specs.Entry.{Entry}
 use Rattle.papaya_schedules.specs.Handing.{gives_all}
@@ -19,19 +17,12 @@ use Rattle.papaya_scheduler.specs.Played.{entry_of}
 use Rattle.papaya_scheduler.specs.declared.played.Played.{Played}
 use Rattle.papaya_scheduler.specs.declared.scheduler.Scheduler.{Scheduler}
 use Rattle.papaya_events.specs.Asked.{FindsBy, FindsRight, Happens, HappensAt, Holds, is_of_calls}
-use Rattle.papaya_running.specs.Keeping.{IsAskedOf, IsNotRefused}
 use Rattle.papaya_events.specs.OfAll.{KeepsAll}
+use Rattle.papaya_folded.specs.Folded.{HandsInOrder}
 use Rattle.papaya_events.specs.OfCalls.{KeepsAt, Runs, RunsOn}
-use Rattle.papaya_events.specs.OfRows.{HasNotBegun, KeepsRunAt, is_of_rows}
+use Rattle.papaya_events.specs.OfRows.{KeepsRunAt, is_of_rows}
 use Rattle.papaya_events.specs.OfSetups.{KeepsSetup, is_of_setups}
 use Rattle.papaya_events.proofs.Nobody.{is_word, shows_nobody}
-
-module _ {K V S : Type 0} where
-  -- a making that was not refused has not been refused once it had begun
-  not_begun : (its : Event K V) (outcome : Outcome V) (effects : List Effect) (old new : Scheduler K V S) → IsNotRefused its outcome → HasNotBegun its outcome effects old new
-  not_begun (event.MakeMap own mode capacity) (Refused fault) effects old new never = absurd never
-  not_begun (event.MakeMap own mode capacity) _ effects old new never = tt
-  not_begun _ outcome effects old new never = tt
 
 module _ {K V : Type 0} where
   -- an event of no call, whose work is no row, no making and no end, and which does not reclaim all, is one by which no steps run
@@ -77,29 +68,29 @@ module _ {K V S : Type 0} (same : K → K → Bool) (hash : K → ℕ) (is_first
   of_all calls keeps all = keeps all terms log holds runs it.played (right calls)
 
   -- and any other
-  of_others : KeepsAt same hash its played old new → KeepsRunAt same hash its played old new → KeepsSetup same hash its played old new → gives_all its ≡ false → IsAskedOf terms log e → RunsOn same hash terms log e new
-  of_others calls rows setups none asked = by (is_of_calls its) (is_of_rows its) refl refl
+  of_others : KeepsAt same hash its played old new → KeepsRunAt same hash its played old new → KeepsSetup same hash its played old new → gives_all its ≡ false → RunsOn same hash terms log e new
+  of_others calls rows setups none = by (is_of_calls its) (is_of_rows its) refl refl
     where
       by : (p q : Bool) → is_of_calls its ≡ p → is_of_rows its ≡ q → RunsOn same hash terms log e new
       by true q is of_rows = (calls is terms log runs).1 (right calls)
-      by false true is of_rows =
-          rows of_rows terms log holds runs it.played (right calls) (not_begun its played.outcome played.effects.items old new asked.made)
+      by false true is of_rows = rows of_rows terms log holds runs it.played (right calls)
       by false false is of_rows = setups (is_setup its none is of_rows) terms log runs it.played (right calls)
 
   goes_on : KeepsAt same hash its played old new → KeepsRunAt same hash its played old new → KeepsSetup same hash its played old new → KeepsAll same hash its played old new
-      → IsAskedOf terms log e → RunsOn same hash terms log e new × ReclaimsAll log e
-  goes_on calls rows setups all asked = by (gives_all its) refl
+      → RunsOn same hash terms log e new × ReclaimsAll log e
+  goes_on calls rows setups all = by (gives_all its) refl
     where
       by : (q : Bool) → gives_all its ≡ q → RunsOn same hash terms log e new × ReclaimsAll log e
       by true is = of_all calls all is
-      by false none = (of_others calls rows setups none asked, reclaims_none its played.outcome none _)
+      by false none = (of_others calls rows setups none, reclaims_none its played.outcome none _)
 
-  -- so it is legal, and the run goes on
+  -- so it is legal, the run goes on, and it hands over in order
   pub legal_on : KeepsAt same hash its played old new → KeepsRunAt same hash its played old new → KeepsSetup same hash its played old new → KeepsAll same hash its played old new
-      → IsAskedOf terms log e → IsLegal same terms log e × Runs same hash terms (e ∷ log) new
-  legal_on calls rows setups all asked =
-      let on = goes_on calls rows setups all asked in (
+      → IsLegal same terms log e × Runs same hash terms (e ∷ log) new × HandsInOrder log e
+  legal_on calls rows setups all =
+      let on = goes_on calls rows setups all in (
         events_are_legal K V same on.0.runs.stands.name terms log e (known new.logged.notes) on.0.runs.stands.scene (is_word same hash terms (e ∷ log) new on.0.runs) (right calls) it.makes
             it.does on.0.legal on.0.runs.shows on.1 (shows_nobody same hash terms (e ∷ log) new on.0.runs),
         on.0.runs,
+        on.0.hands,
       )

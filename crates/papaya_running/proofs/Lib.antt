@@ -12,3 +12,4 @@ mod Turns
 mod Counts
 mod Held
 pub mod Joined
+mod Classes

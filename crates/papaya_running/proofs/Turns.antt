@@ -14,7 +14,7 @@ use Rattle.papaya_schedules.specs.After.{AtEachEvent, moment}
 use Rattle.papaya_schedules.specs.Beginning.{at_work}
 use Rattle.papaya_schedules.specs.Entry.{Entry, acted_on, caller_of, is_busy}
 use Rattle.papaya_schedules.specs.Moment.{Place, Deferral, MapThere, TableThere, Moment, start}
-use Rattle.papaya_schedules.specs.Runs.{IsLegal, IsLegalLog, Lists, ShowsMaps, log_of, log_on, trace_of}
+use Rattle.papaya_schedules.specs.Runs.{IsLegal, IsLegalLog, IsRunOf, Lists, ShowsMaps, log_of, log_on, trace_of}
 use Rattle.papaya_schedules.specs.Terms.{Terms}
 use Rattle.papaya_schedules.specs.Views.{is_in_map, is_retired}
 use Rattle.papaya_scheduler.specs.Played.{entry_of}
@@ -26,9 +26,10 @@ use Rattle.papaya_running.specs.Acting.{acting_of, map_acted, singles_as, traced
 use Rattle.papaya_events.specs.Asked.{Happens, Holds}
 use Rattle.papaya_running.specs.Back.{BackSoFar, ReclaimsBy, ReclaimsRight, TellsBack}
 use Rattle.papaya_running.specs.Ending.{shown_of, told_map}
-use Rattle.papaya_running.specs.Keeping.{IsAskedOf}
 use Rattle.papaya_events.specs.OfCalls.{Runs}
-use Rattle.papaya_running.specs.Run.{GoesRight, IsRightRun, IsWholeRun, RunsSoFar, SoFar, TellsMost, log_so}
+use Rattle.papaya_folded.specs.Folded.{HandsInOrder}
+use Rattle.papaya_folded.proofs.Logs.{ended_calls_fold}
+use Rattle.papaya_running.specs.Run.{GoesRight, HandsOn, IsRightRun, SoFar, TellsMost, log_so}
 use Rattle.papaya_tally.specs.Tally.{Tells, TellsAll, TellsMoment, counted, deferral, flag_of}
 use Rattle.papaya_running.specs.declared.record.Record.{Record}
 use Rattle.papaya_logged.specs.Back.{ComesBack}
@@ -38,7 +39,7 @@ use Rattle.papaya_tally.specs.declared.tally.Tally.{Tally}
 use Rattle.papaya_tally.specs.declared.tally.Whereabouts.{Whereabouts}
 use Rattle.papaya_tally.specs.declared.tally.Whereabouts.TheVariants.{Unborn}
 use Rattle.papaya_finds.specs.TornDown.{StoredAreSomewhere}
-use Rattle.papaya_running.proofs.AsRun.{as_run}
+use Rattle.papaya_running.proofs.AsRun.{all_reclaim_right, as_run}
 use Rattle.papaya_running.proofs.Logs.{acted_so, begun_same, log_long, log_more, singles_are}
 use Rattle.papaya_tally.proofs.Numbers.{lists_map}
 use Rattle.papaya_tally.proofs.Tallies.{told_moment}
@@ -96,20 +97,20 @@ module _ {K V S : Type 0} (same : K → K → Bool) (hash : K → ℕ) (terms : 
           ∙ ap (λ (l : List Single). trace_of log ++ l) (singles_are (length log) e)
 
       -- the event has happened, too
-      pub next_so : {p2 : Scheduler K V S} → GoesRight terms log e → Holds same hash terms (moment (e ∷ log)) p2
-          → (Runs same hash terms log p → IsAskedOf terms log e → IsLegal same terms log e × Runs same hash terms (e ∷ log) p2)
-          → SoFar same hash terms (events ++ event ∷ []) rec2 tally2 p2
-      next_so {p2} goes holds on = record {
+      pub next_so : {p2 : Scheduler K V S} → Happens same hash terms log e p2 → Holds same hash terms (moment (e ∷ log)) p2
+          → (Runs same hash terms log p → IsLegal same terms log e × Runs same hash terms (e ∷ log) p2 × HandsInOrder log e) → SoFar same hash terms (events ++ event ∷ []) rec2 tally2 p2
+      next_so {p2} happens holds on = record {
         outcomes = one_more rec.outcomes.items rec2.outcomes.items played.outcome outcomes so.outcomes;
         steps = one_more rec.steps.items rec2.steps.items played.steps steps so.steps;
         effects = one_more rec.effects.items rec2.effects.items played.effects effects so.effects;
         trace = traced_then ∙ ap trace_of (sym more);
-        goes = subst (AtEachEvent (GoesRight terms)) (sym more) (goes, so.goes);
+        goes = subst (AtEachEvent (GoesRight terms)) (sym more)
+            (record { right = (on so.runs).0.right; makes = happens.makes; does = happens.does; is_quiet = happens.is_quiet }, so.goes);
         holds = subst (λ (l : List (Entry K V)). Holds same hash terms (moment l) p2) (sym more) holds;
         told = subst (λ (l : List (Entry K V)). TellsMoment tally2 (moment l)) (sym more) tells_then;
-        runs = subst (λ (l : List (Entry K V)). RunsSoFar same hash terms l p2) (sym more) (λ asked.
-            (let before = so.runs asked.1 in
-            let next = on before.1 asked.0 in ((next.0, before.0), next.1)));
+        legal = subst (IsLegalLog same terms) (sym more) ((on so.runs).0, so.legal);
+        hands = subst (AtEachEvent HandsInOrder) (sym more) ((on so.runs).2, so.hands);
+        runs = subst (λ (l : List (Entry K V)). Runs same hash terms l p2) (sym more) (on so.runs).1;
       }
 
       -- and what it reclaims has come back
@@ -118,11 +119,6 @@ module _ {K V S : Type 0} (same : K → K → Bool) (hash : K → ℕ) (terms : 
       back_so {b0} {b1} before comes = subst (λ (l : List (Entry K V)). BackSoFar l b1) (sym more) (λ right.
           (let c = comes right.0 in
           subst (AreBack (moment (e ∷ log))) (sym c.follow) (back_then e (moment log) b0 c.more (before right.1) c.reclaimed c.contents)))
-
--- what is promised of an event, as a run tells it
-pub goes_so : {K V S : Type 0} (same : K → K → Bool) (hash : K → ℕ) (terms : Terms) (log : List (Entry K V)) (e : Entry K V) (p : Scheduler K V S)
-    → Happens same hash terms log e p → GoesRight terms log e
-goes_so same hash terms _ e p happens = record { right = λ finds. (happens.plays finds).right; makes = happens.makes; does = happens.does; is_quiet = happens.is_quiet }
 
 -- before all events
 pub start_so : {K V S : Type 0} (same : K → K → Bool) (hash : K → ℕ) (terms : Terms) (rec : Record V) (tally : Tally) (p : Scheduler K V S) → rec.outcomes.items ≡ [] → rec.steps.items ≡ [] → rec.effects.items ≡ []
@@ -140,7 +136,9 @@ start_so {K} {V} same hash terms rec tally p outcomes steps effects trace pairs 
     behind = ap (map deferral) behind;
     flags = flags;
   });
-  runs = subst (λ (l : List (Entry K V)). RunsSoFar same hash terms l p) (sym none) (λ asked. (tt, runs));
+  legal = subst (IsLegalLog same terms) (sym none) tt;
+  hands = subst (AtEachEvent HandsInOrder) (sym none) tt;
+  runs = subst (λ (l : List (Entry K V)). Runs same hash terms l p) (sym none) runs;
 }
   where
     none : log_so {K = K} {V = V} [] rec ≡ []
@@ -201,14 +199,23 @@ module _ {K V S : Type 0} (same : K → K → Bool) (hash : K → ℕ) (terms : 
         trace = ap (λ v. v.items) trace ∙ so.trace ∙ ap trace_of (sym same_log);
         goes = subst (AtEachEvent (GoesRight terms)) (sym same_log) so.goes;
         tells = subst (λ (l : List (Entry K V)). TellsMost (moment l) run) (sym same_log) tells;
-        back = subst (λ (l : List (Entry K V)). AtEachEvent ReclaimsRight l → TellsBack (moment l) run) (sym same_log) back;
+        back = subst (λ (l : List (Entry K V)). TellsBack (moment l) run) (sym same_log) (back (all_reclaim_right same terms (log_so events rec) so.legal));
       }
 
-  -- and it has all that is promised of one, if each event has what is still asked of it
+  -- and it has all that is promised of one
   pub whole_so : (run : Run K V) → run.outcomes ≡ rec.outcomes → run.steps ≡ rec.steps → run.effects ≡ rec.effects → run.trace ≡ rec.trace → TellsMost (moment (log_so events rec)) run
-      → (AtEachEvent ReclaimsRight (log_so events rec) → TellsBack (moment (log_so events rec)) run) → IsWholeRun same terms events run
-  whole_so run outcomes steps effects trace tells back asked =
+      → (AtEachEvent ReclaimsRight (log_so events rec) → TellsBack (moment (log_so events rec)) run) → IsRunOf same terms events run
+  whole_so run outcomes steps effects trace tells back =
       let same_log : log_of events run ≡ log_so events rec = λ i. log_on [] events (outcomes i).items (steps i).items (map (λ v. v.items) (effects i).items) in
-      let on = so.runs (subst (AtEachEvent (IsAskedOf terms)) same_log asked) in
-      as_run same terms events run (run_so run outcomes steps effects trace tells back) (subst (IsLegalLog same terms) (sym same_log) on.0)
-      (subst (λ (l : List (Entry K V)). StoredAreSomewhere (moment l)) (sym same_log) on.1.shows.order.0.somewhere)
+      as_run same terms events run (run_so run outcomes steps effects trace tells back) (subst (IsLegalLog same terms) (sym same_log) so.legal)
+      (subst (λ (l : List (Entry K V)). StoredAreSomewhere (moment l)) (sym same_log) so.runs.shows.order.0.somewhere)
+
+  -- each of its events hands over in order, and so each call what it took out
+  pub hands_so : (run : Run K V) → run.outcomes ≡ rec.outcomes → run.steps ≡ rec.steps → run.effects ≡ rec.effects → AtEachEvent HandsOn (log_of events run)
+  hands_so run outcomes steps effects =
+      let same_log : log_of events run ≡ log_so events rec = λ i. log_on [] events (outcomes i).items (steps i).items (map (λ v. v.items) (effects i).items) in
+      subst (AtEachEvent HandsOn) (sym same_log) (all_hand (log_so events rec) so.hands so.legal)
+    where
+      all_hand : (log : List (Entry K V)) → AtEachEvent HandsInOrder log → IsLegalLog same terms log → AtEachEvent HandsOn log
+      all_hand [] hands legal = tt
+      all_hand (e ∷ log) hands legal = (record { order = hands.0; whole = ended_calls_fold K V terms log e hands legal.0.life }, all_hand log hands.1 legal.1)

@@ -1,5 +1,5 @@
+pub mod Classes
 pub mod Back
 pub mod Ending
 pub mod Acting
 pub mod Run
-pub mod Keeping

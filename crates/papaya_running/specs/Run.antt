@@ -11,17 +11,17 @@ use Rattle.papaya_schedules.specs.Beginning.{at_work}
 use Rattle.papaya_schedules.specs.Entry.{Entry, acting, caller_of}
 use Rattle.papaya_schedules.specs.InTurn.{ComesRight}
 use Rattle.papaya_schedules.specs.Moment.{Moment}
-use Rattle.papaya_schedules.specs.Runs.{IsLegalLog, IsRunOf, Lists, ShowsMaps, log_of, log_on, trace_of}
+use Rattle.papaya_schedules.specs.Runs.{IsLegalLog, Lists, ShowsMaps, log_of, log_on, trace_of}
 use Rattle.papaya_schedules.specs.Steps.{DoesFew, MakesSteps, stands_or}
 use Rattle.papaya_schedules.specs.Terms.{Terms}
 use Rattle.papaya_schedules.specs.Views.{is_in_a_map, is_retired, is_waiting}
 use Rattle.papaya_scheduler.specs.declared.scheduler.Given.{Given}
 use Rattle.papaya_scheduler.specs.Quiet.{IsQuiet}
 use Rattle.papaya_scheduler.specs.declared.scheduler.Scheduler.{Scheduler}
-use Rattle.papaya_events.specs.Asked.{FindsRight, Holds}
-use Rattle.papaya_running.specs.Back.{ReclaimsRight, TellsBack}
-use Rattle.papaya_running.specs.Keeping.{IsAskedOf}
+use Rattle.papaya_events.specs.Asked.{Holds}
+use Rattle.papaya_running.specs.Back.{TellsBack}
 use Rattle.papaya_events.specs.OfCalls.{Runs}
+use Rattle.papaya_folded.specs.Folded.{HandsAllOver, HandsInOrder}
 use Rattle.papaya_tally.specs.Tally.{TellsMoment}
 use Rattle.papaya_running.specs.declared.record.Record.{Record}
 use Rattle.papaya_tally.specs.declared.tally.Tally.{Tally}
@@ -35,12 +35,17 @@ module _ {K V : Type 0} where
   abbrev pub log_so : List (Event K V) → Record V → List (Entry K V)
   log_so events rec = log_on [] events rec.outcomes.items rec.steps.items (map (λ v. v.items) rec.effects.items)
 
-  -- An event comes to what is right, where it finds what it must; it makes as many steps as it may, and does not more; and where it is refused as busy, it did nothing.
+  -- An event comes to what is right; it makes as many steps as it may, and does not more; and where it is refused as busy, it did nothing.
   pub record GoesRight (terms : Terms) (log : List (Entry K V)) (e : Entry K V) : Type 0 where
-    pub right : FindsRight terms log e → ComesRight terms log e
+    pub right : ComesRight terms log e
     pub makes : MakesSteps e.event (stands_or (acting (caller_of e.event) (at_work e (moment log)))) e.steps e.outcome
     pub does : DoesFew (caller_of e.event) e.steps e.effects
     pub is_quiet : IsQuiet e.outcome e.effects
+
+  -- An event hands over first what its call owes first; and a call that has ended with it, or is ready, has handed over just what it took out, in that order.
+  pub record HandsOn (log : List (Entry K V)) (e : Entry K V) : Type 0 where
+    pub order : HandsInOrder log e
+    pub whole : HandsAllOver log e
 
   -- What a run tells at its end of maps, and of what is not reclaimed, is what its events say, also while calls are under way; pairs that are left are as they were stored.
   pub record TellsMost (m : Moment K V) (run : Run K V) : Type 0 where
@@ -60,18 +65,10 @@ module _ {K V : Type 0} where
     pub trace : run.trace.items ≡ trace_of (log_of schedule run)
     pub goes : AtEachEvent (GoesRight terms) (log_of schedule run)
     pub tells : TellsMost (moment (log_of schedule run)) run
-    pub back : AtEachEvent ReclaimsRight (log_of schedule run) → TellsBack (moment (log_of schedule run)) run
-
--- The run is one of this schedule, with all that is promised of one, if each event has what is still asked of it.
-abbrev pub IsWholeRun : {K V : Type 0} → (K → K → Bool) → Terms → List (Event K V) → Run K V → Type 0
-IsWholeRun same terms schedule run = AtEachEvent (IsAskedOf terms) (log_of schedule run) → IsRunOf same terms schedule run
+    pub back : TellsBack (moment (log_of schedule run)) run
 
 module _ {K V S : Type 0} (same : K → K → Bool) (hash : K → ℕ) where
-  -- If each event so far has what is still asked of it, each has kept its promises, and the run is as the next one needs.
-  abbrev pub RunsSoFar : Terms → List (Entry K V) → Scheduler K V S → Type 0
-  RunsSoFar terms log p = AtEachEvent (IsAskedOf terms) log → IsLegalLog same terms log × Runs same hash terms log p
-
-  -- These events have happened so far: the scheduler stands for the moment after them, and what events ask of it is so; the tally tells where pairs and tables are then; and each kept its promises, as far as is asked.
+  -- These events have happened so far: the scheduler stands for the moment after them, and what events ask of it is so; the tally tells where pairs and tables are then; each kept its promises, and the run is as the next one needs.
   pub record SoFar (terms : Terms) (events : List (Event K V)) (rec : Record V) (tally : Tally) (p : Scheduler K V S) : Type 0 where
     pub outcomes : length rec.outcomes.items ≡ length events
     pub steps : length rec.steps.items ≡ length events
@@ -80,4 +77,6 @@ module _ {K V S : Type 0} (same : K → K → Bool) (hash : K → ℕ) where
     pub goes : AtEachEvent (GoesRight terms) (log_so events rec)
     pub holds : Holds same hash terms (moment (log_so events rec)) p
     pub told : TellsMoment tally (moment (log_so events rec))
-    pub runs : RunsSoFar terms (log_so events rec) p
+    pub legal : IsLegalLog same terms (log_so events rec)
+    pub hands : AtEachEvent HandsInOrder (log_so events rec)
+    pub runs : Runs same hash terms (log_so events rec) p

@@ -4,5 +4,6 @@
 pub mod acting;
 pub mod ending;
 pub mod happening;
+pub mod law;
 pub mod record;
 pub mod running;

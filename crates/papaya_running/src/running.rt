@@ -1,11 +1,12 @@
 //! A schedule runs, event by event.
 ghost use Rattle.std.specs.Prelude.{◌≡◌, ◌++◌, ◌∷◌, [], ℕ, Bool, List, IfOk, IfErr, OnOk};
 ghost use Rattle.papaya_schedules.specs.After.{AtEachEvent, moment};
+ghost use Rattle.papaya_schedules.specs.Runs.{IsRunOf, log_of};
 ghost use Rattle.papaya_schedules.specs.Terms.{Terms};
 ghost use Rattle.papaya_schedules.specs.declared.event.Event.{Event};
 ghost use Rattle.papaya_scheduler.specs.Played.{terms_given};
 ghost use Rattle.papaya_running.specs.Back.{BackSoFar, ReclaimsRight, TellsBack};
-ghost use Rattle.papaya_running.specs.Run.{IsRightRun, IsWholeRun, SoFar, TellsMost, bounded, log_so};
+ghost use Rattle.papaya_running.specs.Run.{HandsOn, IsRightRun, SoFar, TellsMost, bounded, log_so};
 
 use crate::acting::{acting_of, traced_as};
 use crate::ending::living;
@@ -56,7 +57,8 @@ pub fn run<K: Eq + Hash + Drop, V: Drop, S: BuildHasher + Drop>(
     choices: Vec<u64>,
 ) -> Result<Run<K, V>, Fault>
     ensures run { IfOk result (λ run. IsRightRun (terms_given (bounded given)) schedule.items run) }
-    ensures whole { IfOk result (λ run. IsWholeRun K.eq (terms_given (bounded given)) schedule.items run) }
+    ensures whole { IfOk result (λ run. IsRunOf K.eq (terms_given (bounded given)) schedule.items run) }
+    ensures hands { IfOk result (λ run. AtEachEvent HandsOn (log_of schedule.items run)) }
     ensures memory { IfErr result (λ fault. fault ≡ Fault.Memory) }
 {
     run_refusing(alloc, given, hasher, schedule, choices, &[])
@@ -73,7 +75,8 @@ pub fn run_refusing<K: Eq + Hash + Drop, V: Drop, S: BuildHasher + Drop>(
     growths: &[u64],
 ) -> Result<Run<K, V>, Fault>
     ensures run { IfOk result (λ run. IsRightRun (terms_given (bounded given)) schedule.items run) }
-    ensures whole { IfOk result (λ run. IsWholeRun K.eq (terms_given (bounded given)) schedule.items run) }
+    ensures whole { IfOk result (λ run. IsRunOf K.eq (terms_given (bounded given)) schedule.items run) }
+    ensures hands { IfOk result (λ run. AtEachEvent HandsOn (log_of schedule.items run)) }
     ensures memory { IfErr result (λ fault. fault ≡ Fault.Memory) }
 {
     let mut scheduler = Scheduler::new(alloc, bounded(given), hasher)?;

@@ -33,10 +33,6 @@ fn table(turn: u64) -> Table {
     Table { map: 0, turn }
 }
 
-fn spot(turn: u64, place: u64) -> Spot {
-    Spot { turn, place }
-}
-
 impl Deed {
     /// What it does to a table, or asks for.
     fn on_tables(self) -> Effect {
@@ -61,11 +57,11 @@ impl Deed {
             Deed::GivenUp => Effect::PairGivenUp,
             Deed::Copied(pair, turn, place) => Effect::Copied {
                 pair,
-                into: spot(turn, place),
+                into: Spot { turn, place },
             },
             Deed::Stored(pair, turn, place) => Effect::Stored {
                 pair,
-                at: spot(turn, place),
+                at: Spot { turn, place },
             },
             Deed::Replaced(pair) => Effect::Replaced(pair),
             Deed::Removed(pair) => Effect::Removed(pair),

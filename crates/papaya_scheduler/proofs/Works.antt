@@ -2,7 +2,6 @@
 use Rattle.std.specs.Prelude.{◌≡◌, ℕ, true, List, []}
 use Rattle.std.proofs.Common.{refl, sym, subst, inl, inr}
 use Rattle.seize.specs.declared.progress.Progress.{Progress}
-use Rattle.seize.specs.declared.progress.Progress.TheVariants as progress
 use Rattle.seize_words.specs.declared.fault.Fault.{Fault}
 use Rattle.papaya_histories.specs.Given.Tables.declared.node.Node.{Node}
 use Rattle.papaya_histories.specs.Given.Tables.declared.setting.Setting.{Setting}
@@ -55,23 +54,20 @@ module _ {K V S : Type 0} (event : Event K V) (old : Scheduler K V S) (played : 
       did_row comes ran = did_told ran.0 (comes ran.0) ran.1
 
 -- What has run from an empty list is so, of the map by its number, and by what was told.
-module _ {K V S : Type 0} (i map number : ℕ) (is : map ≡ number) (said : Progress Setting) (setting : Setting) (told : said ≡ progress.Done setting) (before after : List Effect) (nothing : before ≡ [])
-    (began new : Logged K V S) where
+module _ {K V S : Type 0} (i map number : ℕ) (is : map ≡ number) (said last : Progress Setting) (told : said ≡ last) (before after : List Effect) (nothing : before ≡ []) (began new : Logged K V S) where
   abbrev So : (ℕ → Progress Setting → List Effect → Type 0) → Type 0
-  So P = P map said before → P number (progress.Done setting) []
+  So P = P map said before → P number last []
 
   so : (P : ℕ → Progress Setting → List Effect → Type 0) → So P
-  so P it =
-      subst (λ (xs : List Effect). P number (progress.Done setting) xs) nothing
-      (subst (λ (x : Progress Setting). P number x before) told (subst (λ (n : ℕ). P n said before) is it))
+  so P it = subst (λ (xs : List Effect). P number last xs) nothing (subst (λ (x : Progress Setting). P number x before) told (subst (λ (n : ℕ). P n said before) is it))
 
-  pub run_as : MakingRan i map said before after began new → MakingRan i number (progress.Done setting) [] after began new
+  pub run_as : MakingRan i map said before after began new → MakingRan i number last [] after began new
   run_as = so (λ n x xs. MakingRan i n x xs after began new)
 
-  pub finds_as : MakingFinds i map said before after began new → MakingFinds i number (progress.Done setting) [] after began new
+  pub finds_as : MakingFinds i map said before after began new → MakingFinds i number last [] after began new
   finds_as = so (λ n x xs. MakingFinds i n x xs after began new)
 
-  pub gone_as : MakingGone i map said before after began new → MakingGone i number (progress.Done setting) [] after began new
+  pub gone_as : MakingGone i map said before after began new → MakingGone i number last [] after began new
   gone_as = so (λ n x xs. MakingGone i n x xs after began new)
 
 module _ {K V S : Type 0} (i number : ℕ) (before after : List Effect) (nothing : before ≡ []) (began new : Logged K V S) where

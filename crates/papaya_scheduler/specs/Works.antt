@@ -1,6 +1,7 @@
 -- What an event has done by a row on a slot, by the making of a map, or by the end of one: which steps ran; and what one has done by which none runs.
 use Rattle.std.specs.Prelude.{◌≡◌, ◌≢◌, ◌<◌, ◌⊎◌, ℕ, Bool, true, false, ◌==◌, List, [], length, is_some, option_map, Some, None, ◌+◌, ◌*◌}
 use Rattle.std.specs.List.{list_any}
+use Rattle.seize.specs.declared.progress.Progress.{Progress}
 use Rattle.seize.specs.declared.progress.Progress.TheVariants as progress
 use Rattle.seize.specs.declared.states.TheConstants.{BATCH, HELD}
 use Rattle.seize_words.specs.Mem.{word_at}
@@ -102,8 +103,8 @@ module _ {K V S : Type 0} (played : Played V) (old new : Scheduler K V S) where
       ⊎ ((called : SlotCall) × IsItsRow event old slot called × (said : RowTold (Node K V)) × ComesBy event said played.outcome
       × RowRan slot called said [] played.effects.items old.logged new.logged))))
 
-  -- A map has been made by the next number, by such steps, from what it was to begin with.
-  pub record HasMadeMap (own : List ℕ) (mode : ResizeMode) (capacity : ℕ) : Type 0 where
+  -- The making of a map has run by the next number, by such steps, from what it was to begin with; they told this at last.
+  pub record MakingHasRun (own : List ℕ) (mode : ResizeMode) (capacity : ℕ) (told : Progress Setting) : Type 0 where
     pub caller : ℕ
     pub fresh : caller ≡ length old.logged.executor.workers.items * SLOTS + 0
     pub faultless : map_fault mode capacity ≡ None
@@ -114,21 +115,23 @@ module _ {K V S : Type 0} (played : Played V) (old new : Scheduler K V S) where
     pub first : IsFirstLen places
     pub is_given : IsGivenFor mode places (record old { is_mapped = true }) given
     pub some : 0 < old.logged.executor.roots
-    pub setting : Setting
     pub began : Logged K V S
     pub begins : (same : K → K → Bool) (hash : K → ℕ) (name : ℕ → List ℕ) (m : Moment K V) (s : Scene K V) → IsShown same hash name m old.logged s
         → MakingIsBegun same hash name m s given places caller old.logged began
     pub noted : began.notes ≡ old.logged.notes
     pub stays : StaysGiven old.logged.executor began.executor
     pub there : MapIsThere began
-    pub ran : MakingRan caller (length old.logged.executor.maps.items) (progress.Done setting) [] played.effects.items began new.logged
-    pub finds : MakingFinds caller (length old.logged.executor.maps.items) (progress.Done setting) [] played.effects.items began new.logged
-    pub gone : MakingGone caller (length old.logged.executor.maps.items) (progress.Done setting) [] played.effects.items began new.logged
+    pub ran : MakingRan caller (length old.logged.executor.maps.items) told [] played.effects.items began new.logged
+    pub finds : MakingFinds caller (length old.logged.executor.maps.items) told [] played.effects.items began new.logged
+    pub gone : MakingGone caller (length old.logged.executor.maps.items) told [] played.effects.items began new.logged
 
-  -- It was refused, and has done nothing; or its making was refused; or it was made. Callers are as they were.
+  -- It was refused, and has done nothing; or its making was refused, as it told; or it was made. Callers are as they were.
   abbrev pub WorksOnMap : List ℕ → ResizeMode → ℕ → Type 0
   WorksOnMap own mode capacity =
-      (new.calls ≡ old.calls) × (((fault : Fault) × (played.outcome ≡ Refused fault) × DidNothing) ⊎ (((fault : Fault) × (played.outcome ≡ Refused fault)) ⊎ ((played.outcome ≡ Done) × HasMadeMap own mode capacity)))
+      (new.calls ≡ old.calls)
+      × (((fault : Fault) × (played.outcome ≡ Refused fault) × DidNothing)
+      ⊎ (((fault : Fault) × (played.outcome ≡ Refused fault) × MakingHasRun own mode capacity (progress.Refused fault))
+      ⊎ ((played.outcome ≡ Done) × (setting : Setting) × MakingHasRun own mode capacity (progress.Done setting))))
 
   -- The map of this name has ended, by such steps: no call was on it.
   pub record HasEndedMap (own : List ℕ) : Type 0 where

@@ -1,5 +1,6 @@
 -- Lemmas on maps for one owner.
 mod Done
+mod Getting
 mod Kept
 mod Members
 mod Ordered

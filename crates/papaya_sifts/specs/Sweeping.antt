@@ -46,11 +46,16 @@ module _ {K V S : Type 0} (hashes : S → K → ℕ) (b : Bor S) (setting : Sett
     asked : (x : OverPairs S) (m : Mem (Node K V)) → IsSweeping x m → (x2 : OverPairs S) (m2 : Mem (Node K V)) (word : ℕ) → RunsTo (over_pairs_plan {K = K} {V = V} hashes) x m x2 m2 (Ok (pause.Asks word))
         → (keeps : Bool) → IsSweeping (record x2 { sweep = after_reply x2.sweep keeps }) m2
 
--- One for this purpose has stopped, with whatever result.
-abbrev pub HasSwept : {K V S : Type 0} → (S → K → ℕ) → Bor S → Setting → Purpose → Mem (Node K V) → Mem (Node K V) → Type 0
-HasSwept {K} {V} {S} hashes b setting purpose m0 m =
-    (x : OverPairs S) × (n : Mem (Node K V)) × IsSweeping hashes b setting purpose m0 x n × (y : OverPairs S) × (result : Result Pause Fault)
-    × RunsTo (over_pairs_plan {K = K} {V = V} hashes) x n y m result
+-- how one has stopped, wherever it stands
+abbrev pub swept_by : Result Pause Fault → Result Unit Fault
+swept_by (Ok end) = Ok tt
+swept_by (Err fault) = Err fault
+
+-- One for this purpose has stopped so.
+abbrev pub HasSwept : {K V S : Type 0} → (S → K → ℕ) → Bor S → Setting → Purpose → Mem (Node K V) → Mem (Node K V) → Result Unit Fault → Type 0
+HasSwept {K} {V} {S} hashes b setting purpose m0 m result =
+    (x : OverPairs S) × (n : Mem (Node K V)) × IsSweeping hashes b setting purpose m0 x n × (y : OverPairs S) × (end : Result Pause Fault)
+    × RunsTo (over_pairs_plan {K = K} {V = V} hashes) x n y m end × (result ≡ swept_by end)
 
 -- What a clearing has come to: the map has no pair, or it was refused, and has the same pairs, for the length of a table only where none can follow the last one.
 abbrev pub ClearedBy : {K V : Type 0} → (K → K → Bool) → (K → ℕ) → Setting → Mem (Node K V) → List (K × V) → Result Pause Fault → Type 0

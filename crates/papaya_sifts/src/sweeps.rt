@@ -27,7 +27,7 @@ pub fn empty<K: Eq + Hash + Drop, V: Drop, S: Hashes<K>>(
     ensures refused { (xs : List (K × V)) → Holds K.eq (S.hash hasher.now) setting memory.old xs → OnErr result (Holds K.eq (S.hash hasher.now) setting memory.new xs) }
     ensures fault { IfErr result IsRoom }
     ensures capacity { (xs : List (K × V)) → Holds K.eq (S.hash hasher.now) setting memory.old xs → IfErr result (λ fault. fault ≡ Capacity → CannotGrowIn memory.new setting) }
-    ensures ran { HasSwept S.hash hasher.entry setting Clears memory.old memory.new }
+    ensures ran { HasSwept S.hash hasher.entry setting Clears memory.old memory.new result }
 {
     let sweep = Sweep::clear(setting);
     let mut machine = OverPairs { sweep, hasher };
@@ -55,7 +55,7 @@ pub fn sift<K: Eq + Hash + Drop, V: Drop, S: Hashes<K>, F: FnMut(&K, &V) -> bool
     ensures refused { (xs : List (K × V)) → Holds K.eq (S.hash hasher.now) setting memory.old xs → OnErr result (Holds K.eq (S.hash hasher.now) setting memory.new xs) }
     ensures fault { IfErr result IsRoom }
     ensures capacity { (xs : List (K × V)) → Holds K.eq (S.hash hasher.now) setting memory.old xs → IfErr result (λ fault. fault ≡ Capacity → CannotGrowIn memory.new setting) }
-    ensures ran { HasSwept S.hash hasher.entry setting Retains memory.old memory.new }
+    ensures ran { HasSwept S.hash hasher.entry setting Retains memory.old memory.new result }
 {
     let sweep = Sweep::retain(setting);
     let mut machine = OverPairs { sweep, hasher };

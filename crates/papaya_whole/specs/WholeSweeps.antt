@@ -24,7 +24,7 @@ use Rattle.papaya_maps.specs.Given.Points.Steps.{AreLawful}
 use Rattle.papaya_maps.specs.Given.Alone.Counting.{pairs_in, shards_sum, IsCounted}
 use Rattle.papaya_maps.specs.Given.Alone.Endings.{RunsEnd}
 use Rattle.papaya_maps.specs.Given.Late.Covers.{times, Came}
-use Rattle.papaya_passes.specs.FallsSweeps.{ComesOn}
+pub use Rattle.papaya_passes.specs.FallsSweeps.{ComesOn}
 use Rattle.papaya_maps.specs.Given.Callers.OverAll.{CallOverAll, begun_over_all, gone_on, come_to, told_of, RemovesTold}
 use Rattle.papaya_maps.specs.Given.Callers.Sights.{Sight}
 use Rattle.papaya_maps.specs.Given.Callers.Together.{OverAll, in_slot, IsReclaimed}
@@ -78,16 +78,11 @@ TellingCountsNothing = (p : Sweep) → (uncounted (after_next p).stands ≡ unco
 abbrev pub TellingKeepsThePurpose : Type 0
 TellingKeepsThePurpose = (p : Sweep) → ((after_next p).purpose ≡ p.purpose) × ((keeps : Bool) → (after_reply p keeps).purpose ≡ p.purpose)
 
--- A sweep that tells this takes a further step, or is asked, or told. One that only says again what it is to be asked or told does not.
-abbrev pub TakesMore : {T : Type 0} → Sweeping → Swept T → Type 0
-TakesMore stands (swept.Gave value) = Unit {0}
-TakesMore stands end = ComesOn stands end
-
 module _ {K V : Type 0} (hash : K → ℕ) where
   -- a sweep takes a step, or is asked for the next pair, or told whether to keep one
   abbrev pub SweepsOn : Sweep × Mem (Node K V) → Sweep × Mem (Node K V) → Type 0
   SweepsOn x y =
-      ((end : Swept (Node K V)) × TakesMore x.0.stands end × Steps Took value_at x.1 (sweep_plan hash x.0) y.1 (y.0, end))
+      ((end : Swept (Node K V)) × ComesOn x.0.stands end × Steps Took value_at x.1 (sweep_plan hash x.0) y.1 (y.0, end))
       ⊎ ((y.1 ≡ x.1) × (((x.0.stands ≡ at.Ready) × (y.0 ≡ after_next x.0)) ⊎ ((word : ℕ) × (x.0.stands ≡ at.Asks word) × (keeps : Bool) × (y.0 ≡ after_reply x.0 keeps))))
 
   -- the whole sweep comes to an end, whatever it is told

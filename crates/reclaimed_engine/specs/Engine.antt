@@ -1,13 +1,13 @@
 -- What the program writes for what it reads.
-use Rattle.std.specs.Prelude.{◌≡◌, ◌^◌, ℕ, min, Bool, true, false, List, Option, Ok, Err, codes, ◌⊎◌}
+use Rattle.std.specs.Prelude.{◌≡◌, ◌^◌, ℕ, min, Bool, true, false, nat_eq, List, Option, Ok, Err, codes, ◌⊎◌}
 use Rattle.std.specs.Io.KnownBytes.{Keeps, Appends}
 use Rattle.reclaimed_script.specs.declared.fault.Stop.{Stop}
 use Rattle.reclaimed_script.specs.declared.fault.Stop.TheVariants.{Line, ReadFailed, NoMemory}
 use Rattle.reclaimed_script.specs.FaultTexts.{fault_text}
 use Rattle.reclaimed_script.specs.Lines.{ScriptEvent}
 use Rattle.reclaimed_script.specs.Reading.{Answers}
+use Rattle.papaya_schedules.specs.Runs.{IsRunOf}
 use Rattle.papaya_schedules.specs.Terms.{Terms}
-use Rattle.papaya_running.specs.Run.{IsRightRun}
 use Rattle.reclaimed_script.specs.Script.{script_of, setup_of}
 use Rattle.reclaimed_text.specs.Text.{WordRun, text_of, fault_line}
 
@@ -41,9 +41,9 @@ terms_of events = record {
   is_one_map = true;
 }
 
--- it is a run of these events, and tells at its end what they say
+-- it is a run of these events, each of which keeps all that is promised of one, and tells at its end what they say
 abbrev pub IsRunFor : List ScriptEvent → WordRun → Type 0
-IsRunFor events run = IsRightRun (terms_of events) events run
+IsRunFor events run = IsRunOf nat_eq (terms_of events) events run
 
 -- the text is what is printed for a run of these events
 abbrev pub IsTextFor : List ScriptEvent → List ℕ → Type 0

@@ -1,6 +1,6 @@
 -- A row rests after so many steps, or waits, while nobody else steps: each of its steps that does not wait leaves it less to go.
 use Rattle.std.specs.Prelude.{Option, ◌==◌, if◌then◌else◌}
-use Rattle.std.proofs.Common.{◌≡◌, ℕ, zero, suc, ◌+◌, ◌<◌, ◌≤◌, Bool, true, false, ◌⊎◌, inl, inr, refl, arith, ap, sym, subst, ◌∙◌}
+use Rattle.std.proofs.Common.{◌≡◌, ℕ, zero, suc, ◌+◌, ◌<◌, ◌≤◌, Bool, true, false, List, ◌⊎◌, inl, inr, refl, arith, ap, sym, subst, ◌∙◌}
 use Rattle.seize_words.specs.declared.at.At.TheVariants.{Slot}
 use Rattle.seize_words.specs.Mem.{Mem, Took, value_at}
 use Rattle.seize_words.specs.Plan.{Steps, Ends, Now}
@@ -23,7 +23,7 @@ use Rattle.seize.specs.Settle as plans
 use Rattle.seize.specs.Leave.{leave_plan, standing}
 use Rattle.seize.specs.Register.{register_plan}
 use Rattle.seize.specs.World as world
-use Rattle.seize.specs.World.{World, Row, Rests, Registers, Enters, Settles, Leaves, Defers, Frees, Steps', settles_on, leaves_on, registers_on, defers_on, at_start}
+use Rattle.seize.specs.World.{World, Row, Rests, Registers, Enters, Settles, Leaves, Defers, Frees, Event, Runs, Steps', settles_on, leaves_on, registers_on, defers_on, at_start}
 use Rattle.seize_rule.proofs.Rows.Others.{with_here}
 use Rattle.seize_rule.proofs.Rows.SizesKept.{happens_sized}
 use Rattle.seize_rule.proofs.World.Kept.{happens_good}
@@ -35,7 +35,7 @@ use Rattle.seize_ends.proofs.Rows.Leaving.{leave_steps_left}
 use Rattle.seize_ends.proofs.Rows.Register.{register_to_go, register_ends}
 use Rattle.seize_ends.proofs.Settling.Most.{goes_further, settle_steps_left}
 use Rattle.seize_alone.proofs.Histories.Reached.{runs_reached}
-use Rattle.seize_acts.specs.Ends.{RestsOrWaitsWithin, RowsRestOrWait}
+use Rattle.seize_acts.specs.Ends.{RestsOrWaitsWithin, RowsRestOrWait, RowsFall}
 use Rattle.seize_acts.proofs.Waits.{leave_waits}
 
 module _ {T : Type 0} (defers : T → Option ℕ) where
@@ -134,7 +134,18 @@ module _ {T : Type 0} (defers : T → Option ℕ) where
         by v (inl waits) later = inl waits
         by v (inr less) later = inr (later (omega (arith, le, less)))
 
-pub rows_rest_or_wait : {T : Type 0} (defers : T → Option ℕ) → RowsRestOrWait defers
-rows_rest_or_wait {T} defers size roots i events w runs =
+-- each world that comes about from the start is such a one
+came_by : {T : Type 0} (defers : T → Option ℕ) (size roots i : ℕ) (events : List (Event T)) (w : World T)
+    → Runs defers size events (at_start defers roots) w → Came defers size i w
+came_by defers size roots i events w runs =
     let r = runs_reached defers size events (at_start defers roots) w (record { good = start_good defers (LAST_SLOT + 1) size roots; sized = λ j. tt }) runs in
-    (row_steps_left defers w.memory (w.row i), rests_or_waits defers size i (row_steps_left defers w.memory (w.row i)) w (record { good = r.good; sized = r.sized }) (omega arith))
+    record { good = r.good; sized = r.sized }
+
+pub rows_rest_or_wait : {T : Type 0} (defers : T → Option ℕ) → RowsRestOrWait defers
+rows_rest_or_wait defers size roots i events w runs =
+    let left = row_steps_left defers w.memory (w.row i) in
+    (left, rests_or_waits defers size i left w (came_by defers size roots i events w runs) (omega arith))
+
+pub rows_fall : {T : Type 0} (defers : T → Option ℕ) → RowsFall defers
+rows_fall defers =
+    (row_steps_left defers, λ size roots i events w n runs st. step_further defers size i w (came_by defers size roots i events w runs) (w.row i) n refl st)

@@ -1,10 +1,10 @@
 -- An act is what one caller does at once: one operation on the memory, and what belongs to it. A list of acts determines the world after it.
 use Rattle.std.specs.Prelude.{◌≡◌, ℕ, zero, suc, ◌==◌, ◌&&◌, ◌||◌, ◌++◌, not, Bool, true, false, List, [], ◌∷◌, Option, Some, None, Ok, if◌then◌else◌, nat_lt}
-use Rattle.seize_words.specs.Word.{link_to}
+use Rattle.seize_words.specs.Word.{link_to, block_in}
 use Rattle.seize_words.specs.declared.at.At.{At}
 use Rattle.seize_words.specs.declared.at.At.TheVariants.{Root, Used, Slot, Entry, Word}
 use Rattle.seize_words.specs.Op.{Op, Out, Load, Store, Swap, Add, Or, Exchange, Make, Take, Rewrite, Room, Made}
-use Rattle.seize_words.specs.Mem.{Mem, after, value_at}
+use Rattle.seize_words.specs.Mem.{Mem, after, value_at, word_at}
 use Rattle.seize_words.specs.Plan.{Plan}
 use Rattle.seize.specs.declared.states.TheConstants.{IDLE, ACTIVE, NEXT}
 use Rattle.seize.specs.declared.rows.register.Registering.TheVariants as registering
@@ -194,9 +194,13 @@ module _ {T : Type 0} (defers : T → Option ℕ) where
   MayTake (Take b) w = is_left (w.hand b) ≡ true → MayClear b w.log
   MayTake _ w = Unit {0}
 
-  -- And beside that: a block is left over while no row is putting another one on its list, and with just
-  -- the blocks that are on it.
+  abbrev pub NoRootNames : Mem T → ℕ → Type 0
+  NoRootNames m b = (r word : ℕ) → word_at m (Root r) ≡ Some word → block_in word ≡ b → ⊥
+
+  -- And in the world that the act leaves: no root names a block that was unlinked, unless its owner has ended, whose root may lead there until it is taken
+  -- away. A block is left over while no row is putting another one on its list, and with just the blocks that are on it.
   abbrev pub MayChange : World T → Change → Type 0
+  MayChange w (Unlinks b) = is_orphan b w.log ≡ false → NoRootNames w.memory b
   MayChange w (LeavesOver b further) = ((j : ℕ) → IsOnto b (w.row j) → ⊥) × FurtherAre defers w.memory b further
   MayChange w _ = Unit {0}
 

@@ -1,6 +1,7 @@
 -- When a row comes to its end.
-use Rattle.std.specs.Prelude.{◌≡◌, ℕ, zero, suc, List, Option, Some, ◌⊎◌}
-use Rattle.seize.specs.World.{World, Rests, Event, Runs, Steps', at_start}
+use Rattle.std.specs.Prelude.{◌≡◌, ℕ, zero, suc, ◌<◌, List, Option, Some, ◌⊎◌}
+use Rattle.seize_words.specs.Mem.{Mem}
+use Rattle.seize.specs.World.{World, Row, Rests, Event, Runs, Steps', at_start}
 use Rattle.seize_acts.specs.Answers.{Grant}
 use Rattle.seize_acts.specs.Acts.{Act, Step, AllDid, became}
 
@@ -30,3 +31,11 @@ module _ {T : Type 0} (defers : T → Option ℕ) where
   abbrev pub RowsRestOrWait : Type 0
   RowsRestOrWait =
       (batch_size roots i : ℕ) (events : List (Event T)) (w : World T) → Runs defers batch_size events (at_start defers roots) w → (steps : ℕ) × RestsOrWaitsWithin steps i w
+
+  -- There is a number of each row and the memory that each step of the row lowers, unless it waits, whatever others have done before it. A step of another
+  -- may raise it, by what it leaves in the memory.
+  abbrev pub RowsFall : Type 0
+  RowsFall =
+      (number : Mem T → Row → ℕ)
+      × ((batch_size roots i : ℕ) (events : List (Event T)) (w n : World T) → Runs defers batch_size events (at_start defers roots) w → Steps' defers i (w.row i) w n
+      → ((n.row i ≡ w.row i) × (n.memory ≡ w.memory)) ⊎ (number n.memory (n.row i) < number w.memory (w.row i)))

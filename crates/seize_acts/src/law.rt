@@ -1,7 +1,7 @@
 //! What is promised of every list of acts, whoever makes which one when.
 ghost use Rattle.std.specs.Prelude.{Option, ℕ};
 ghost use Rattle.seize_acts.specs.Laws.{ActsAreSound, ActsMayStep, StepsAreActs, SlotsAreFirst, NothingIsLost, ActsAreBounded};
-ghost use Rattle.seize_acts.specs.Ends.{LoneRowsEnd, RowsRestOrWait};
+ghost use Rattle.seize_acts.specs.Ends.{LoneRowsEnd, RowsRestOrWait, RowsFall};
 ghost use Rattle.seize_acts.specs.Reclaimed.{EverythingCanBeReclaimed};
 ghost use Rattle.seize_acts.specs.Refused.{UsedUpIfAllAreHad, NoMemoryIfNoRoom, OnlyTwoFaults};
 ghost use Rattle.seize_acts.specs.Stays.{HeldAreThere, HeldStay};
@@ -57,9 +57,11 @@ pub fn lone_rows_end<T>()
     ensures ends { (defers : T → Option ℕ) → LoneRowsEnd defers }
 {}
 
-/// While nobody else steps, a row comes to its end by its own steps, or to one that waits, whatever rows others have stopped in the midst of.
+/// While nobody else steps, a row comes to its end by its own steps, or to one that waits, whatever rows others have stopped in the midst of. Each
+/// step that does not wait lowers a number of the row and the memory, whatever others have done before it.
 pub fn rows_rest_or_wait<T>()
     ensures rests { (defers : T → Option ℕ) → RowsRestOrWait defers }
+    ensures falls { (defers : T → Option ℕ) → RowsFall defers }
 {}
 
 /// Everything can be reclaimed, after any acts at whose end no row is under way: any caller can do so, by whole rows that take slots again,

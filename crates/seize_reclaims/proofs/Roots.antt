@@ -1,5 +1,6 @@
 -- What ended maps left behind the roots is reclaimed.
 pub mod Cleared
+pub mod First
 mod Freed
 pub mod Given
 pub mod Listed

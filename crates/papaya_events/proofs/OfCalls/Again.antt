@@ -140,5 +140,5 @@ module _ {K V S : Type 0} (same : K → K → Bool) (hash : K → ℕ) (terms : 
     pub again_on : RunsOn same hash terms log (entry_of event played) new
     again_on =
         subst (λ (x : Entry K V). RunsOn same hash terms log x new) (sym entry_as)
-        (as_before same hash terms log old new runs (ap (λ (x : Scheduler K V S). x.logged) again.3) (ap (λ (x : Scheduler K V S). x.calls) again.3) e legal.0 legal.1 (says_again event on said is (moment log))
+        (as_before same hash terms log old new runs (ap (λ (x : Scheduler K V S). x.logged) again.3) (ap (λ (x : Scheduler K V S). x.calls) again.3) e refl legal.0 legal.1 (says_again event on said is (moment log))
         (subst (λ (x : Entry K V). IsPlayed same hash terms (x ∷ log) new) entry_as plays) (subst (ComesRight terms log) entry_as right) (no_slot said is))

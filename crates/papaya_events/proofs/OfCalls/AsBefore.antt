@@ -1,5 +1,5 @@
 -- An event after which executor, notes and callers are as they were: the run goes on with it, in the same scene, if it is legal.
-use Rattle.std.specs.Prelude.{◌≡◌, ℕ, Bool, List, ◌∷◌}
+use Rattle.std.specs.Prelude.{◌≡◌, ℕ, Bool, List, [], ◌∷◌}
 use Rattle.std.proofs.Common.{ap, refl, subst, sym, ◌∙◌}
 use Rattle.papaya_histories.specs.Given.Schedules.After.{moment, slots_on}
 use Rattle.papaya_histories.specs.Given.Schedules.Entry.{Entry}
@@ -19,6 +19,7 @@ use Rattle.papaya_logged.specs.declared.logged.Logged.{Logged}
 use Rattle.papaya_scheduler.specs.Played.{IsPlayed}
 use Rattle.papaya_named.specs.declared.caller.Callers.{Callers}
 use Rattle.papaya_scheduler.specs.declared.scheduler.Scheduler.{Scheduler}
+use Rattle.papaya_folded.proofs.Steps.{idle_in_order}
 use Rattle.papaya_events.proofs.OfCalls.Worth.{SaidIn, have_values_then}
 use Rattle.papaya_events.specs.OfCalls.{HaveShards, HaveValues, Runs, RunsOn}
 use Rattle.papaya_events.proofs.OfCalls.Scenes.{AreNamed, its_named, stands_in}
@@ -26,7 +27,7 @@ use Rattle.papaya_events.proofs.Remaining.{counted_in}
 use Rattle.papaya_events.proofs.Reached.{reached_by}
 
 module _ {K V S : Type 0} (same : K → K → Bool) (hash : K → ℕ) (terms : Terms) (log : List (Entry K V)) (old new : Scheduler K V S) (runs : Runs same hash terms log old) (logged_is : new.logged ≡ old.logged)
-    (calls_are : new.calls ≡ old.calls) (e : Entry K V) (legal : IsLegalBut same terms log e) (run : ShowsRun same runs.stands.name terms (e ∷ log) (known old.logged.notes) runs.stands.scene)
+    (calls_are : new.calls ≡ old.calls) (e : Entry K V) (nothing : e.effects ≡ []) (legal : IsLegalBut same terms log e) (run : ShowsRun same runs.stands.name terms (e ∷ log) (known old.logged.notes) runs.stands.scene)
     (said : SaidIn (moment log).calls (moment (e ∷ log)).calls) (plays : IsPlayed same hash terms (e ∷ log) new) (right : ComesRight terms log e) (no_slot : slots_on e.outcome (moment log).slots ≡ (moment log).slots) where
   is_at : IsAt same hash new.logged.executor runs.stands.scene
   is_at = subst (λ (l : Logged K V S). IsAt same hash l.executor runs.stands.scene) (sym logged_is) runs.stands.shown.is_at
@@ -47,6 +48,7 @@ module _ {K V S : Type 0} (same : K → K → Bool) (hash : K → ℕ) (terms : 
   pub as_before : RunsOn same hash terms log e new
   as_before = record {
     legal = legal;
+    hands = idle_in_order log e nothing;
     runs = record {
       stands = stands_in same hash terms (moment (e ∷ log)) new plays runs.stands.name runs.stands.scene shown
           (subst (λ (cs : Callers V). AreNamed runs.stands.name cs.items.items) (sym calls_are) (its_named same hash terms (moment log) old runs.stands));

@@ -254,6 +254,7 @@ module _ {K V S : Type 0} (same : K → K → Bool) (hash : K → ℕ) (terms : 
       pub begun_on : RunsOn same hash terms log (e own) new
       begun_on = record {
         legal = goes_on.0;
+        hands = tt;
         runs = record {
           stands = stands_in same hash terms (moment (e own ∷ log)) new plays names then_at (record { is_at = shown_begun.is_at; shows = run_then.calls.whole; kept = run_then.calls.kept; counted = counted_here }) named_here;
           shows = run_then;

@@ -49,11 +49,13 @@ use Rattle.papaya_named.specs.declared.kind.Kind.{Kind}
 use Rattle.papaya_scheduler.specs.declared.played.Played.{Played}
 use Rattle.papaya_scheduler.specs.declared.scheduler.Scheduler.{Scheduler}
 use Rattle.papaya_stepping.specs.Stepping.{ComesAs, IsStepped, outcome_of}
+use Rattle.papaya_folded.specs.Folded.{HandInOrder}
+use Rattle.papaya_folded.proofs.Steps.{event_in_order}
 use Rattle.papaya_events.specs.OfCalls.{HaveValues, RunsOn}
 use Rattle.papaya_events.proofs.OfCalls.Answers.{last_steps_tell}
 use Rattle.papaya_events.proofs.OfCalls.Found.{mask_is}
 use Rattle.papaya_events.proofs.OfCalls.Scenes.{stands_in}
-use Rattle.papaya_events.proofs.OfCalls.Steps.{HasCome, IsStep, as_told, caller_is, follows, leads, named_then, noted_so, noted_then, shards_then, shown_then, size_then, taken_then, then_known, then_now, then_scene, there_now, values_then}
+use Rattle.papaya_events.proofs.OfCalls.Steps.{HasCome, IsStep, as_told, caller_is, follows, hands_then, leads, named_then, noted_so, noted_then, shards_then, shown_then, size_then, taken_then, then_known, then_now, then_scene, there_now, values_then}
 use Rattle.papaya_events.proofs.OfCalls.Worth.{SaidIn, TellsNone, event_says, have_values_then}
 use Rattle.papaya_values.specs.Values.{KeepsValue}
 use Rattle.papaya_events.proofs.OfCalls.Words.{not_busy, shows_as_told, tells_end}
@@ -183,6 +185,10 @@ module _ {K V S : Type 0} (same : K → K → Bool) (hash : K → ℕ) (name : �
     pub runs_on : RunsOn same hash terms log e new
     runs_on = record {
       legal = goes_on.0;
+      hands = event_in_order log e (name i) map beginning come.midst.of_call begins acted
+          (subst (λ (l : List Effect). HandInOrder (Some (name i)) (Some map) l beginning)
+          (sym (follows same hash name terms log event beginning map i c place n mid played.effects.items p new come its))
+          (hands_then same hash name terms log event beginning map i c place n mid played.effects.items p new come its));
       runs = record {
         stands = stands_in same hash terms (moment (e ∷ log)) new plays name at_end shown
             (named_then same hash name terms log event beginning map i c place n mid played.effects.items p new played.outcome come step);

@@ -83,4 +83,4 @@ module _ {K V S : Type 0} (same : K → K → Bool) (hash : K → ℕ) (terms : 
         (others_hand_over K V log e no_slot).1 reclaims leaves legal.1
 
     pub quiet_on : RunsOn same hash terms log e new
-    quiet_on = as_before same hash terms log old new runs logged_is calls_are e legal.0 run (busy_says event m) plays right refl
+    quiet_on = as_before same hash terms log old new runs logged_is calls_are e refl legal.0 run (busy_says event m) plays right refl

@@ -68,6 +68,8 @@ use Rattle.papaya_remains.proofs.Slots.{buckets_grow}
 use Rattle.papaya_works.specs.Needs.{AreReached}
 use Rattle.papaya_works.proofs.Reached.{reached_still}
 use Rattle.papaya_events.specs.OfCalls.{HaveShards}
+use Rattle.papaya_folded.specs.Folded.{HandInOrder}
+use Rattle.papaya_folded.proofs.Steps.{more_in_order}
 use Rattle.papaya_events.proofs.OfCalls.Scenes.{AreNamed, named_left, named_set}
 use Rattle.papaya_events.proofs.OfCalls.Words.{shows_none}
 
@@ -108,7 +110,7 @@ module _ {K V S : Type 0} (same : K → K → Bool) (hash : K → ℕ) where
 module _ {K V S : Type 0} (same : K → K → Bool) (hash : K → ℕ) (name : ℕ → List ℕ) (terms : Terms) (log : List (Entry K V)) (event : Event K V) (beginning : Moment K V)
     (map i : ℕ) (c : CallThere K V) (place : ℕ) where
   -- After so many steps, which did this: whose call it is stands at its place, callers have their names, and the event is in its midst in the scene in which the moment shows the executor. The guard
-  -- of the call is on the slot of its caller, and callers keep their values.
+  -- of the call is on the slot of its caller, callers keep their values, and what was handed over was so in order.
   pub record HasCome (steps : ℕ) (did : List Effect) (p : Scheduler K V S) : Type 0 where
     pub caller : Caller V
     pub at : slice_get p.calls.items.items place ≡ Some caller
@@ -131,6 +133,7 @@ module _ {K V S : Type 0} (same : K → K → Bool) (hash : K → ℕ) (name : �
     pub others : AreWorth (name i) beginning scene p.calls.items.items
     pub midst : InCallEvent same name terms log event beginning map i c steps did now (known p.logged.notes) scene under
     pub taken : SlotsTaken scene.world.memory (moment log).slots
+    pub hands : HandInOrder (Some (name i)) (Some map) did beginning
 
   -- a step from there
   module _ (n : ℕ) (mid after : List Effect) (p new : Scheduler K V S) (come : HasCome n mid p) (step : IsStep same hash place mid after p new) where
@@ -267,6 +270,12 @@ module _ {K V S : Type 0} (same : K → K → Bool) (hash : K → ℕ) (name : �
         (call_taken same hash name come.now (known p.logged.notes) come.scene p.logged.executor new.logged.executor come.shown.is_at come.midst.calls.whole map i come.under its_here step.said leads)
         come.taken
 
+    -- and what it did with the step handed over in order
+    pub hands_then : HandInOrder (Some (name i)) (Some map) (mid ++ did) beginning
+    hands_then =
+        more_in_order K V S same hash name come.now (known p.logged.notes) come.scene p.logged.executor new.logged.executor come.shown.is_at come.midst.calls.whole come.midst.calls.kept map i come.under its_here
+        step.said leads mid beginning come.midst.worked come.hands
+
     -- where it goes on it has come one step further, if callers have their names then
     module _ (none : ShowsNone step.said) (on : has_ended step.said ≡ false) (then_caller : Caller V) (there : slice_get new.calls.items.items place ≡ Some then_caller)
         (number : then_caller.number ≡ step.caller.number) (on_map : then_caller.map ≡ step.caller.map) (kind : then_caller.kind ≡ step.caller.kind) (named : AreNamed name new.calls.items.items)
@@ -306,6 +315,7 @@ module _ {K V S : Type 0} (same : K → K → Bool) (hash : K → ℕ) (name : �
             (call_events_go_on_so K V S same hash name terms log event beginning map i c n mid come.now (known p.logged.notes) come.scene come.under come.midst p.logged.executor new.logged.executor
             come.shown.is_at come.size step.said leads none noted_so next.0 next.1);
         taken = taken_then;
+        hands = hands_then;
       })
 
   -- one of which its caller was told

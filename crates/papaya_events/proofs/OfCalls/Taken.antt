@@ -123,6 +123,7 @@ module _ {K V S : Type 0} (same : K → K → Bool) (hash : K → ℕ) (terms : 
         runs.shows.reading runs.shows.sections runs.shows.follows event map i (of_call ∙ ap Some (sym name_is)) u under c c_is
         (λ alone j goes. only_its_row same hash terms log old runs.stands event own speaks alone map i u under name_is j goes);
     taken = runs.taken;
+    hands = tt;
   }
 
   -- its slot is active, where calls came one after another

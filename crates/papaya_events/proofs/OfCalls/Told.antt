@@ -57,6 +57,7 @@ use Rattle.papaya_values.specs.Values.{KeepsValue}
 use Rattle.papaya_values.proofs.Values.{values_taken}
 use Rattle.papaya_rows.proofs.Lists.{all_so, found_has, set_all}
 use Rattle.papaya_events.proofs.OfCalls.Worth.{all_left, event_says, found_changed, found_unchanged, is_worth_then}
+use Rattle.papaya_folded.proofs.Steps.{idle_in_order}
 use Rattle.papaya_events.specs.OfCalls.{HaveValues, IsWorth, Runs, RunsOn}
 use Rattle.papaya_events.proofs.OfCalls.Scenes.{AreNamed, its_named, named_left, named_set, stands_in}
 use Rattle.papaya_events.proofs.Remaining.{counted_in}
@@ -100,7 +101,7 @@ module _ {K V S : Type 0} (same : K → K → Bool) (hash : K → ℕ) (terms : 
   name = runs.stands.name
 
   -- the run goes on in a scene with the same maps
-  module _ (e : Entry K V) (t : Scene K V) (run : ShowsRun same name terms (e ∷ log) (known old.logged.notes) t) (legal : IsLegalBut same terms log e) (is_at : IsAt same hash new.logged.executor t) (maps : t.maps ≡ s.maps)
+  module _ (e : Entry K V) (nothing : e.effects ≡ []) (t : Scene K V) (run : ShowsRun same name terms (e ∷ log) (known old.logged.notes) t) (legal : IsLegalBut same terms log e) (is_at : IsAt same hash new.logged.executor t) (maps : t.maps ≡ s.maps)
       (left : LeftAmong new.logged.executor.roots t.world t.maps t.makers t.enders runs.stands.shown.counted.remains.lists) (notes : new.logged.notes ≡ old.logged.notes) (on_size : new.logged.executor.batch_size ≡ old.logged.executor.batch_size) (named : AreNamed name new.calls.items.items)
       (values : HaveValues (moment (e ∷ log)) t new.calls.items.items) (plays : IsPlayed same hash terms (e ∷ log) new) (right : ComesRight terms log e) (memory : t.world.memory ≡ s.world.memory) (no_slot : slots_on e.outcome m.slots ≡ m.slots) where
     run_then : ShowsRun same name terms (e ∷ log) (known new.logged.notes) t
@@ -112,6 +113,7 @@ module _ {K V S : Type 0} (same : K → K → Bool) (hash : K → ℕ) (terms : 
     pub then_on : RunsOn same hash terms log e new
     then_on = record {
       legal = legal;
+      hands = idle_in_order log e nothing;
       runs = record {
         stands = stands_in same hash terms (moment (e ∷ log)) new plays name t (record { is_at = is_at; shows = run_then.calls.whole; kept = run_then.calls.kept; counted = counted }) named;
         shows = run_then;
@@ -227,7 +229,7 @@ module _ {K V S : Type 0} (same : K → K → Bool) (hash : K → ℕ) (terms : 
         (told_events_end K V S same hash name terms log (known old.logged.notes) s old.logged.executor new.logged.executor runs.stands.shown.is_at runs.shows d.map d.number u here.way.1 here.call
         (ap (λ (x : List ℕ). call_of x m) name_is ∙ here.call_is) question.0 asking led.0 led.2 reply led.1 led.3 takes_ok led.5 taken led.7 0
         (subst (λ (x : List ℕ). ComesRight terms log (e x)) (sym name_is) right)) in
-        then_on (e own) t on.1 on.0 led.7 refl (behind given) has.notes given.1
+        then_on (e own) refl t on.1 on.0 led.7 refl (behind given) has.notes given.1
         (subst (AreNamed name) (sym (has.calls d here.at)) (named_set name old.calls.items.items has.place (record d { stands = far.Goes; value = has.value }) here.way.2 (its_named same hash terms m old runs.stands))) values_told plays right refl refl
 
   -- a walk was given up
@@ -293,5 +295,5 @@ module _ {K V S : Type 0} (same : K → K → Bool) (hash : K → ℕ) (terms : 
         let on = subst (λ (x : List ℕ). IsLegalBut same terms log (f x) × ShowsRun same name terms (f x ∷ log) (known old.logged.notes) after) named_so
         (stopped_events_end K V S same hash name terms log (known old.logged.notes) s old.logged.executor new.logged.executor runs.stands.shown.is_at runs.shows its.number led_so its.map there.way.0
         there.way.1 0 none_named (subst (λ (x : List ℕ). ComesRight terms log (f x)) (sym named_so) right)) in
-        then_on (f own) after on.1 on.0 (led_so its.map there.way.0 there.way.1).2 refl (behind given) has.notes given.1
+        then_on (f own) refl after on.1 on.0 (led_so its.map there.way.0 there.way.1).2 refl (behind given) has.notes given.1
         (subst (AreNamed name) (sym has.calls) (named_left name old.calls.items.items has.place (its_named same hash terms m old runs.stands))) values_stopped plays right refl refl

@@ -278,6 +278,7 @@ module _ {K V S : Type 0} (same : K → K → Bool) (hash : K → ℕ) (terms : 
     others = others_next old.calls.items.items (its_named same hash terms m old runs.stands) runs.values;
     midst = subst (λ (k : Known). InCallEvent same name terms log event m map i c 0 [] m k then_at next) notes_are midst;
     taken = runs.taken;
+    hands = tt;
   }
 
   come : Come walked.steps walked.mid walked.led

@@ -162,6 +162,7 @@ module _ {K V S : Type 0} (same : K → K → Bool) (hash : K → ℕ) (terms : 
     midst = subst (λ (k : Known). InCallEvent same names terms log event m1 map i c 0 [] m1 k (begun.then_at same hash terms log old runs nameless guard on call mid led)
         (begun.u same hash terms log old runs nameless guard on call mid led)) (sym (begun.notes_here same hash terms log old runs nameless guard on call mid led)) whole.1;
     taken = runs.taken;
+    hands = tt;
   }
 
   active : ComesAlone event log → 1 ≤ count (slot_of i) (sets_in terms.batch_size log).active

@@ -1,4 +1,4 @@
--- The steps of an event that makes a map: it is in the midst of its work after each of them.
+-- The steps of an event that makes a map: it is in the midst of its work after each of them, and has found what it must.
 use Rattle.std.specs.Prelude.{◌≡◌, ◌≢◌, ◌⊎◌, ◌==◌, ◌&&◌, ◌<◌, ◌+◌, ◌-◌, ◌++◌, ℕ, zero, suc, Bool, true, false, List, [], ◌∷◌, find, Option, Some, None}
 use Rattle.std.specs.List.{list_all}
 use Rattle.std.proofs.Common.{refl, sym, ap, subst, inl, inr, ◌∙◌}
@@ -39,8 +39,9 @@ use Rattle.papaya_others.proofs.MakingGoes.{new_maps_stay}
 use Rattle.papaya_finds.specs.Linking.{IsMadeFor}
 use Rattle.papaya_finds.proofs.Capacities.{effects_keep_capacities}
 use Rattle.papaya_legal.specs.Chains.{Chain, Come, MakingSteps}
-use Rattle.papaya_legal.specs.MapEvents.{InMakingEvent}
+use Rattle.papaya_legal.specs.MapEvents.{FindsItsMap, HasNotMade, InMakingEvent}
 use Rattle.papaya_legal.proofs.Chains.{makings_chain}
+use Rattle.papaya_legal.proofs.Maps.{unmade_maps}
 use Rattle.papaya_grows.proofs.Finding.Alike.{made_still}
 use Rattle.papaya_legal.proofs.Slots.{each_join}
 use Rattle.papaya_works.specs.Firsts.{ShowsOpenings}
@@ -76,12 +77,6 @@ module _ {K V S : Type 0} (same : K → K → Bool) (hash : K → ℕ) (s : Scen
   making_on progress.Waits leads more = absurd (leads b here).3
   making_on (progress.Done setting) leads more = absurd (cc more)
   making_on (progress.Refused fault) leads more = absurd (cc more)
-
-  maps_still : (said : Progress Setting) (leads : Leads said) → is_over said ≡ false → (next_scene said leads).maps ≡ s.maps
-  maps_still progress.Goes leads more = refl
-  maps_still progress.Waits leads more = absurd (leads b here).3
-  maps_still (progress.Done setting) leads more = absurd (cc more)
-  maps_still (progress.Refused fault) leads more = absurd (cc more)
 
   pub calls_still : (said : Progress Setting) (leads : Leads said) → (next_scene said leads).calls ≡ s.calls
   calls_still progress.Goes leads = refl
@@ -127,21 +122,26 @@ maps_as_before of (f ∷ fs) m all =
     by _ is = absurd (cc is)
 
 -- what is told until the last step needs no new map
-none_new : {K V : Type 0} (map : ℕ) (said : Progress Setting) (m : Moment K V) → is_over said ≡ false → WasNew map said m
+pub none_new : {K V : Type 0} (map : ℕ) (said : Progress Setting) (m : Moment K V) → is_over said ≡ false → WasNew map said m
 none_new map progress.Goes m more = tt
 none_new map progress.Waits m more = tt
 none_new map (progress.Done setting) m more = absurd (cc more)
 none_new map (progress.Refused fault) m more = absurd (cc more)
 
--- A making is under way, the map is as new, and the others stand as they stood.
-module _ {K V : Type 0} (i : ℕ) (b : Beginning K) (setting : Setting) (stood : ℕ → Option (Standing K)) where
-  abbrev pub IsUnder : Moment K V → Scene K V → Type 0
-  IsUnder m s = (z : NewMap) × (s.makers i ≡ Some (record b { machine = z })) × IsNew b.map setting m × (s.maps ≡ stood)
+-- and has made no map
+pub none_made : (said : Progress Setting) → is_over said ≡ false → HasNotMade said
+none_made progress.Goes more = tt
+none_made progress.Waits more = tt
+none_made (progress.Done setting) more = absurd (cc more)
+none_made (progress.Refused fault) more = absurd (cc more)
 
-module _ {K V S : Type 0} (same : K → K → Bool) (hash : K → ℕ) (terms : Terms) (name : ℕ → List ℕ) (log : List (Entry K V)) (own : List ℕ) (mode : ResizeMode) (capacity i : ℕ) (b : Beginning K)
-    (began : Moment K V) (below : b.map < began.made) (setting : Setting) (stood : ℕ → Option (Standing K))
-    (there : MapThere) (faultless : map_fault there.mode there.capacity ≡ None) (places_are : b.places ≡ first_places there.capacity) where
-  -- So many steps of the making have led to where the run is: the executor is there in the scene, and the event is in its midst; what it did are effects of a making, which found what they must.
+-- A making is under way, and maps stand as they stood.
+module _ {K V : Type 0} (i : ℕ) (b : Beginning K) (stood : ℕ → Option (Standing K)) where
+  abbrev pub IsUnder : Scene K V → Type 0
+  IsUnder s = (z : NewMap) × (s.makers i ≡ Some (record b { machine = z })) × (s.maps ≡ stood)
+
+module _ {K V S : Type 0} (same : K → K → Bool) (hash : K → ℕ) (terms : Terms) (name : ℕ → List ℕ) (log : List (Entry K V)) (own : List ℕ) (mode : ResizeMode) (capacity i : ℕ) (b : Beginning K) (began : Moment K V) where
+  -- So many steps of the making have led to where the run is: the executor is there in the scene, and the event is in its midst; what it did are effects of a making.
   pub record MakingComes (n : ℕ) (x : Come K V S) (f : Far K V S) : Type 0 where
     pub now : Moment K V
     pub scene : Scene K V
@@ -149,16 +149,11 @@ module _ {K V S : Type 0} (same : K → K → Bool) (hash : K → ℕ) (terms : 
     pub is_at : IsAt same hash f.logged.executor scene
     pub size : f.logged.executor.batch_size ≡ terms.batch_size
     pub midst : InMakingEvent same name terms log (MakeMap own mode capacity) b.map began f.effects now (known f.logged.notes) scene
-    pub made : now.made ≡ began.made
     pub calls : scene.calls ≡ x.scene.calls
-    pub made_for : IsMadeFor b.map now b.given
     pub counted : IsCounted now f.logged scene
     pub firsts : list_all is_first_making f.effects ≡ true
-    pub found : AtEachEffect (EventFinds (Some b.map) false) None (Some b.map) f.effects began
-    pub openings : ShowsOpenings scene
-    pub there_is : map_at b.map now ≡ Some there
 
-  module _ (n : ℕ) (x : Come K V S) (mid to : Far K V S) (y : MakingComes n x mid) (it : IsUnder i b setting stood y.now y.scene) (step : MakingGoes i b.map mid to) (was_new : WasNew b.map step.said y.now) where
+  module _ (n : ℕ) (x : Come K V S) (mid to : Far K V S) (y : MakingComes n x mid) (stood : ℕ → Option (Standing K)) (it : IsUnder i b stood y.scene) (step : MakingGoes i b.map mid to) where
     abbrev d : Beginning K
     d = record b { machine = it.0 }
 
@@ -174,87 +169,126 @@ module _ {K V S : Type 0} (same : K → K → Bool) (hash : K → ℕ) (terms : 
     abbrev w : Moment K V
     w = with_effects None (Some b.map) step_did y.now
 
-    pub one : MakingSteps same hash terms i b.map (come_by mid y.now y.scene) (come_by to w next)
-    one = record {
-      is_at = y.is_at;
-      size = y.size;
-      said = step.said;
-      leads = leads;
-      making = d;
-      here = it.1;
-      map_is = refl;
-      below = subst (λ (q : ℕ). b.map < q) (sym y.made) below;
-      was_new = was_new;
-      made_for = y.made_for;
-      comes = come_as to.logged.executor w next to.effects (mid.effects ++ step_did) (known to.logged.notes) (known_after (acts.Making b.map) to.logged.executor.memory.changed (known mid.logged.notes))
-          step.is_noted.did step.is_noted.noted;
-    }
-
-    pub next_midst : InMakingEvent same name terms log (MakeMap own mode capacity) b.map began to.effects w (known to.logged.notes) next
-    next_midst = makings_chain K V S same hash name terms log (MakeMap own mode capacity) i b.map began 1 (come_by mid y.now y.scene) (come_by to w next) (come_by mid y.now y.scene, refl, one) y.midst
-
-    -- what the step did are effects of a making, and found what they must
-    pub step_firsts : list_all is_first_making step_did ≡ true
+    -- what the step did are effects of a making
+    step_firsts : list_all is_first_making step_did ≡ true
     step_firsts =
         makings_do_theirs K V S same hash name y.now (known mid.logged.notes) y.scene mid.logged.executor to.logged.executor y.is_at y.midst.0.calls.whole.all.shown i step.said leads d it.1
         (y.midst.0.calls.whole.counters i d it.1)
 
-    shown_then : Shows same name w (known_after (acts.Making b.map) to.logged.executor.memory.changed (known mid.logged.notes)) next
-    shown_then = subst (λ (k : Known). Shows same name w k next) step.is_noted.noted next_midst.0.calls.whole.all.shown
-
-    step_found : AtEachEffect (EventFinds (Some b.map) false) None (Some b.map) step_did y.now
-    step_found =
-        makings_find_theirs K V S same hash name y.now (known mid.logged.notes) y.scene mid.logged.executor to.logged.executor y.is_at y.midst.0.calls.whole.all.shown y.midst.0.calls.kept.tables
-        y.openings i step.said leads d it.1 (y.midst.0.calls.whole.counters i d it.1) (Some b.map) there y.there_is it.2.no_tables faultless places_are shown_then
-
-    pub all_found : AtEachEffect (EventFinds (Some b.map) false) None (Some b.map) to.effects began
-    all_found =
-        subst (λ (fs : List Effect). AtEachEffect (EventFinds (Some b.map) false) None (Some b.map) fs began) (sym step.is_noted.did)
-        (each_join (EventFinds (Some b.map) false) None (Some b.map) mid.effects step_did began y.found
-        (subst (λ (z : Moment K V). AtEachEffect (EventFinds (Some b.map) false) None (Some b.map) step_did z) y.midst.0.worked step_found))
-
-    abbrev pub making_comes_on : MakingComes (suc n) x to
-    making_comes_on = record {
-      now = w;
-      scene = next;
-      chain = (come_by mid y.now y.scene, y.chain, one);
-      is_at = is_there same hash y.scene mid.logged.executor to.logged.executor i d it.1 step.said leads;
-      size = step.is_noted.given.1 ∙ y.size;
-      midst = next_midst;
-      made = made_stays None (Some b.map) step_did y.now ∙ y.made;
-      calls = calls_still same hash y.scene mid.logged.executor to.logged.executor i d it.1 step.said leads ∙ y.calls;
-      made_for = made_still y.now w b.map b.given (effects_keep_capacities K V None (Some b.map) step_did y.now b.map) y.made_for;
-      counted = counted_making_steps same hash mid.logged to.logged.executor to.logged.notes step.is_noted.given y.now y.scene y.is_at y.counted i step.said leads d it.1 (Some b.map) step.is_noted.noted
-          (makings_note_left same hash name y.now (known mid.logged.notes) y.scene mid.logged.executor to.logged.executor y.is_at y.midst.0.calls.whole i step.said leads d it.1 (Some b.map) was_new next.world);
-      firsts = ap (list_all is_first_making) step.is_noted.did ∙ list_all-append is_first_making mid.effects step_did ∙ ap (λ (q : Bool). q && list_all is_first_making step_did) y.firsts ∙ step_firsts;
-      found = all_found;
-      openings = makings_go_on K V S same hash y.scene mid.logged.executor to.logged.executor y.openings i step.said leads d it.1;
-      there_is = ap (λ (fs : List MapThere). find (λ (f : MapThere). f.number == b.map) fs) (maps_as_before (Some b.map) step_did y.now step_firsts) ∙ y.there_is;
-    }
-
-    making_under : is_over step.said ≡ false → IsUnder i b setting stood w next
+    pub making_under : is_over step.said ≡ false → IsUnder i b stood next
     making_under more = (
       (leads d it.1).0,
       making_on same hash y.scene mid.logged.executor to.logged.executor i d it.1 step.said leads more,
-      new_still same hash y.scene mid.logged.executor to.logged.executor i d it.1 name y.now (known mid.logged.notes) y.is_at y.midst.0.calls.whole.all.shown (Some b.map) setting step.said leads more it.2,
-      maps_still same hash y.scene mid.logged.executor to.logged.executor i d it.1 step.said leads more ∙ it.3,
+      unmade_maps same hash y.scene mid.logged.executor to.logged.executor y.is_at i d it.1 step.said leads (none_made step.said more) ∙ it.2,
     )
 
     -- of each map that stands once it was made the count falls into as many shards as before, and of the new one as it was to begin
-    pub masks : step.said ≡ progress.Done setting → (n2 : ℕ) → (next.maps n2 ≡ stood n2) ⊎ ((standing : Standing K) × (next.maps n2 ≡ Some standing) × (standing.setting.mask ≡ b.given.mask))
-    masks is n2 = by (made_maps same hash y.scene mid.logged.executor to.logged.executor i d it.1 step.said leads setting is n2)
+    pub masks : (setting : Setting) → step.said ≡ progress.Done setting → (k : ℕ)
+        → (next.maps k ≡ stood k) ⊎ ((standing : Standing K) × (next.maps k ≡ Some standing) × (standing.setting.mask ≡ b.given.mask))
+    masks setting is k = by (made_maps same hash y.scene mid.logged.executor to.logged.executor i d it.1 step.said leads setting is k)
       where
-        by : ((n2 ≢ b.map) × (next.maps n2 ≡ y.scene.maps n2)) ⊎ ((standing : Standing K) × (next.maps n2 ≡ Some standing) × (standing.setting.mask ≡ b.given.mask))
-            → (next.maps n2 ≡ stood n2) ⊎ ((standing : Standing K) × (next.maps n2 ≡ Some standing) × (standing.setting.mask ≡ b.given.mask))
-        by (inl (ne, same_one)) = inl (same_one ∙ ap (λ (g : ℕ → Option (Standing K)). g n2) it.3)
+        by : ((k ≢ b.map) × (next.maps k ≡ y.scene.maps k)) ⊎ ((standing : Standing K) × (next.maps k ≡ Some standing) × (standing.setting.mask ≡ b.given.mask))
+            → (next.maps k ≡ stood k) ⊎ ((standing : Standing K) × (next.maps k ≡ Some standing) × (standing.setting.mask ≡ b.given.mask))
+        by (inl (ne, same_one)) = inl (same_one ∙ ap (λ (g : ℕ → Option (Standing K)). g k) it.2)
         by (inr made) = inr made
 
-  abbrev pub Midway : ℕ → Come K V S → Far K V S → Type 0
-  Midway n x f = (y : MakingComes n x f) × IsUnder i b setting stood y.now y.scene
+    -- it comes on, if it finds its map there, or just asks for blocks
+    module _ (was_new : WasNew b.map step.said y.now) (finds : FindsItsMap b step.said (effects_of (acts.Making b.map) (known mid.logged.notes) to.logged.executor.memory.changed) y.now) where
+      one : MakingSteps same hash terms i b.map (come_by mid y.now y.scene) (come_by to w next)
+      one = record {
+        is_at = y.is_at;
+        size = y.size;
+        said = step.said;
+        leads = leads;
+        making = d;
+        here = it.1;
+        map_is = refl;
+        was_new = was_new;
+        finds = finds;
+        comes = come_as to.logged.executor w next to.effects (mid.effects ++ step_did) (known to.logged.notes) (known_after (acts.Making b.map) to.logged.executor.memory.changed (known mid.logged.notes))
+            step.is_noted.did step.is_noted.noted;
+      }
 
-  pub makings_come : (n : ℕ) (x : Come K V S) (from to : Far K V S) → GoesFor (MakingOn i b.map) n from to → Midway 0 x from → Midway n x to
-  makings_come zero x from to is at = subst (Midway 0 x) is at
-  makings_come (suc n) x from to (mid, went, on) at =
-      let z = makings_come n x from mid went at in
-      let was = none_new b.map on.0.said z.0.now on.1 in
-      (making_comes_on n x mid to z.0 z.1 on.0 was, making_under n x mid to z.0 z.1 on.0 was on.1)
+      next_midst : InMakingEvent same name terms log (MakeMap own mode capacity) b.map began to.effects w (known to.logged.notes) next
+      next_midst = makings_chain K V S same hash name terms log (MakeMap own mode capacity) i b.map began 1 (come_by mid y.now y.scene) (come_by to w next) (come_by mid y.now y.scene, refl, one) y.midst
+
+      abbrev pub making_comes_on : MakingComes (suc n) x to
+      making_comes_on = record {
+        now = w;
+        scene = next;
+        chain = (come_by mid y.now y.scene, y.chain, one);
+        is_at = is_there same hash y.scene mid.logged.executor to.logged.executor i d it.1 step.said leads;
+        size = step.is_noted.given.1 ∙ y.size;
+        midst = next_midst;
+        calls = calls_still same hash y.scene mid.logged.executor to.logged.executor i d it.1 step.said leads ∙ y.calls;
+        counted = counted_making_steps same hash mid.logged to.logged.executor to.logged.notes step.is_noted.given y.now y.scene y.is_at y.counted i step.said leads d it.1 (Some b.map) step.is_noted.noted
+            (makings_note_left same hash name y.now (known mid.logged.notes) y.scene mid.logged.executor to.logged.executor y.is_at y.midst.0.calls.whole i step.said leads d it.1 (Some b.map) was_new next.world);
+        firsts = ap (list_all is_first_making) step.is_noted.did ∙ list_all-append is_first_making mid.effects step_did ∙ ap (λ (q : Bool). q && list_all is_first_making step_did) y.firsts ∙ step_firsts;
+      }
+
+  -- The map is there, and is to be made so.
+  module _ (there : MapThere) (faultless : map_fault there.mode there.capacity ≡ None) (places_are : b.places ≡ first_places there.capacity) (below : b.map < began.made) where
+    -- So it is still, and what was done found what it must.
+    pub record HasFound (effects : List Effect) (m : Moment K V) (s : Scene K V) : Type 0 where
+      pub made : m.made ≡ began.made
+      pub made_for : IsMadeFor b.map m b.given
+      pub found : AtEachEffect (EventFinds (Some b.map) false) None (Some b.map) effects began
+      pub openings : ShowsOpenings s
+      pub there_is : map_at b.map m ≡ Some there
+
+    module _ (n : ℕ) (x : Come K V S) (mid to : Far K V S) (y : MakingComes n x mid) (stood : ℕ → Option (Standing K)) (it : IsUnder i b stood y.scene) (step : MakingGoes i b.map mid to)
+        (was_new : WasNew b.map step.said y.now) (setting : Setting) (is_new : IsNew b.map setting y.now) (so : HasFound mid.effects y.now y.scene) where
+      abbrev pub comes_on : MakingComes (suc n) x to
+      comes_on = making_comes_on n x mid to y stood it step was_new (inl (subst (λ (q : ℕ). b.map < q) (sym so.made) below, so.made_for))
+
+      abbrev did_now : List Effect
+      did_now = step_did n x mid to y stood it step
+
+      abbrev its : Beginning K
+      its = d n x mid to y stood it step
+
+      abbrev goes : MakingLeads same hash i step.said y.scene mid.logged.executor to.logged.executor
+      goes = leads n x mid to y stood it step
+
+      shown_then : Shows same name comes_on.now (known_after (acts.Making b.map) to.logged.executor.memory.changed (known mid.logged.notes)) comes_on.scene
+      shown_then = subst (λ (k : Known). Shows same name comes_on.now k comes_on.scene) step.is_noted.noted comes_on.midst.0.calls.whole.all.shown
+
+      step_found : AtEachEffect (EventFinds (Some b.map) false) None (Some b.map) did_now y.now
+      step_found =
+          makings_find_theirs K V S same hash name y.now (known mid.logged.notes) y.scene mid.logged.executor to.logged.executor y.is_at y.midst.0.calls.whole.all.shown y.midst.0.calls.kept.tables
+          so.openings i step.said goes its it.1 (y.midst.0.calls.whole.counters i its it.1) (Some b.map) there so.there_is is_new.no_tables faultless places_are shown_then
+
+      all_found : AtEachEffect (EventFinds (Some b.map) false) None (Some b.map) to.effects began
+      all_found =
+          subst (λ (fs : List Effect). AtEachEffect (EventFinds (Some b.map) false) None (Some b.map) fs began) (sym step.is_noted.did)
+          (each_join (EventFinds (Some b.map) false) None (Some b.map) mid.effects did_now began so.found
+          (subst (λ (z : Moment K V). AtEachEffect (EventFinds (Some b.map) false) None (Some b.map) did_now z) y.midst.0.worked step_found))
+
+      pub found_on : HasFound to.effects comes_on.now comes_on.scene
+      found_on = record {
+        made = made_stays None (Some b.map) did_now y.now ∙ so.made;
+        made_for = made_still y.now comes_on.now b.map b.given (effects_keep_capacities K V None (Some b.map) did_now y.now b.map) so.made_for;
+        found = all_found;
+        openings = makings_go_on K V S same hash y.scene mid.logged.executor to.logged.executor so.openings i step.said goes its it.1;
+        there_is = ap (λ (fs : List MapThere). find (λ (f : MapThere). f.number == b.map) fs) (maps_as_before (Some b.map) did_now y.now (step_firsts n x mid to y stood it step)) ∙ so.there_is;
+      }
+
+      new_on : is_over step.said ≡ false → IsNew b.map setting comes_on.now
+      new_on more =
+          new_still same hash y.scene mid.logged.executor to.logged.executor i its it.1 name y.now (known mid.logged.notes) y.is_at y.midst.0.calls.whole.all.shown (Some b.map) setting step.said goes more is_new
+
+    module _ (setting : Setting) (stood : ℕ → Option (Standing K)) where
+      -- It is on its way, and the map is as new.
+      abbrev pub Midway : ℕ → Come K V S → Far K V S → Type 0
+      Midway n x f = (y : MakingComes n x f) × IsUnder i b stood y.scene × IsNew b.map setting y.now × HasFound f.effects y.now y.scene
+
+      pub makings_come : (n : ℕ) (x : Come K V S) (from to : Far K V S) → GoesFor (MakingOn i b.map) n from to → Midway 0 x from → Midway n x to
+      makings_come zero x from to is at = subst (Midway 0 x) is at
+      makings_come (suc n) x from to (mid, went, on) at =
+          let z = makings_come n x from mid went at in
+          let was = none_new b.map on.0.said z.0.now on.1 in (
+            comes_on n x mid to z.0 stood z.1 on.0 was setting z.2 z.3,
+            making_under n x mid to z.0 stood z.1 on.0 on.1,
+            new_on n x mid to z.0 stood z.1 on.0 was setting z.2 z.3 on.1,
+            found_on n x mid to z.0 stood z.1 on.0 was setting z.2 z.3,
+          )

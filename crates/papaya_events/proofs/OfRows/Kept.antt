@@ -52,12 +52,12 @@ not_of_rows _ of = absurd (cc of)
 
 module _ {K V S : Type 0} (same : K → K → Bool) (hash : K → ℕ) (event : Event K V) where
   pub calls_keep : {X : Type 0} → is_of_calls event ≡ true → (old new : Scheduler K V S) (result : Result (Played V) X) → IfOk result (λ played. KeepsRun same hash event played old new)
-  calls_keep calls old new (Ok played) = λ of terms log holds run turn after right begun. absurd (let none = not_of_rows event calls in cc (of, none))
+  calls_keep calls old new (Ok played) = λ of terms log holds run turn after right. absurd (let none = not_of_rows event calls in cc (of, none))
   calls_keep calls old new (Err x) = tt
 
   module _ (old new : Scheduler K V S) where
     pub kept_out : (played : Played V) → IsKeptOut event played.outcome → played.effects.items ≡ [] → new ≡ record old { is_mapped = mapped_on event old.is_mapped } → KeepsRunAt same hash event played old new
-    kept_out played is none mapped of terms log holds run after right begun =
+    kept_out played is none mapped of terms log holds run after right =
         let out = out_refused event played.outcome of is in
         subst (λ (x : Entry K V). IsPlayed same hash terms (x ∷ log) new → ComesRight terms log x → RunsOn same hash terms log x new)
         (sym (entry_is event played (Refused out.0) played.steps [] out.1 refl none))
@@ -66,5 +66,5 @@ module _ {K V S : Type 0} (same : K → K → Bool) (hash : K → ℕ) (event : 
 
     pub kept_in_turn : {X : Type 0} (result : Result (Played V) X) → IfOk result (λ played. KeepsRun same hash event played old new) → keeps_out event old ≡ false
         → IfOk result (λ played. KeepsRunAt same hash event played old new)
-    kept_in_turn (Ok played) keeps out = λ of terms log holds run after right begun. keeps of terms log holds run (kept_out_is same hash terms (moment log) old holds.stands event ∙ out) after right begun
+    kept_in_turn (Ok played) keeps out = λ of terms log holds run after right. keeps of terms log holds run (kept_out_is same hash terms (moment log) old holds.stands event ∙ out) after right
     kept_in_turn (Err x) keeps out = tt

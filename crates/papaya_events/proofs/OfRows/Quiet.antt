@@ -98,7 +98,7 @@ module _ {K V S : Type 0} (same : K → K → Bool) (hash : K → ℕ) (terms : 
   -- So the run goes on, where executor, notes and callers are as they were.
   pub still_keeps : (e : Entry K V) (new : Scheduler K V S) → e.effects ≡ [] → IsStill log run.stands.scene.world e → new.logged ≡ old.logged → new.calls ≡ old.calls
       → IsPlayed same hash terms (e ∷ log) new → ComesRight terms log e → slots_on e.outcome (moment log).slots ≡ (moment log).slots → RunsOn same hash terms log e new
-  still_keeps e new nothing still logged calls played right no_slot = as_before same hash terms log old new run logged calls e legal.0 shows (nobody_says e (moment log) still.no_call) played right no_slot
+  still_keeps e new nothing still logged calls played right no_slot = as_before same hash terms log old new run logged calls e nothing legal.0 shows (nobody_says e (moment log) still.no_call) played right no_slot
     where
       legal : IsLegalBut same terms log e × SectionsHold (after e (moment log)) (known old.logged.notes) run.stands.scene.world
       legal = still_legal same terms log (known old.logged.notes) run.stands.scene.world e nothing still run.shows.sections

@@ -15,7 +15,6 @@ use Rattle.papaya_late.specs.Given.Raw.CallFills.{taken_back, filled, putting_by
 use Rattle.papaya_late.specs.Given.Raw.CallPoints.{word_to, going}
 use Rattle.papaya_late.specs.Given.Raw.Replies.{value_for, as_own, back, back_present, with_back}
 use Rattle.papaya_late.specs.Given.Raw.declared.machines.answer.Called.{Called}
-use Rattle.papaya_late.specs.Given.Raw.declared.machines.answer.Called.TheVariants.{Goes}
 use Rattle.papaya_late.specs.Given.Raw.declared.machines.asking.Asking.{Asking}
 use Rattle.papaya_late.specs.Given.Raw.declared.machines.asking.Asking.TheVariants as asking
 use Rattle.papaya_late.specs.Given.Raw.declared.machines.asking.Replies.{Replies}
@@ -30,6 +29,7 @@ use Rattle.papaya_late.proofs.Given.Rule.Words.WritesWords.{is_some_of}
 use Rattle.papaya_late.specs.Given.Points.Measures.{IsBelow}
 use Rattle.papaya_falls.specs.Room.{tables_to_come}
 use Rattle.papaya_falls.specs.Calls.{to_empty, stale, trying, number_at_asking, number_of_call}
+use Rattle.papaya_falls.specs.Falls.{GoesFurther}
 use Rattle.papaya_falls.proofs.Onward.{Onward, KeepsTables, links_kept, past_kept, value_before, value_after}
 use Rattle.papaya_falls.proofs.Kept.{keeps_made, keeps_rewritten, keeps_taken}
 use Rattle.papaya_falls.proofs.Stands.{HasPairInside, AskingStands}
@@ -54,7 +54,7 @@ key_back r key value = by r.absent
 module _ {K V Q : Type 0} (same : K → K → Bool) (hash : K → ℕ) (setting : Setting) (m : Mem (Node K V)) (c : Chart K) (blocks : Blocks) (m2 : Mem (Node K V)) (c2 : Chart K) (blocks2 : Blocks)
     (on : Onward same hash setting m c blocks m2 c2 blocks2) (p : KeyCall K V Q) (end : KeyCall K V Q × Called (Node K V)) where
   abbrev Goal : Asking → KeyCall K V Q × Called (Node K V) → Type 0
-  Goal asks e = e.1 ≡ Goes → IsBelow (number_of_call hash c2 blocks2 e.0) (number_at_asking hash c blocks p asks)
+  Goal asks e = GoesFurther e.1 → IsBelow (number_of_call hash c2 blocks2 e.0) (number_at_asking hash c blocks p asks)
 
   ends_as : (asks : Asking) (e : KeyCall K V Q × Called (Node K V)) → end ≡ e → Goal asks e → Goal asks end
   ends_as asks e is = subst (λ (x : KeyCall K V Q × Called (Node K V)). Goal asks x) (sym is)
@@ -82,7 +82,7 @@ module _ {K V Q : Type 0} (same : K → K → Bool) (hash : K → ℕ) (setting 
         elim (made_by_step m (filled (record p { replies = replies }) word) (node.Pair key value) 0 m2 end s) as (λ _. Goal (asking.Fills word) end) [
           | inl d ↦ ends_as (asking.Fills word) (going (record p { replies = replies; own = word_to d.0 p.hash }) (at.Tries word (word_to d.0 p.hash))) d.3
               (λ goes. tries_filled (keeps_made setting.root c blocks m (node.Pair key value) 0 d.0 d.1.0 m2 d.2 (value_before same hash setting m c blocks m2 c2 blocks2 on)))
-          | inr d ↦ ends_as (asking.Fills word) _ d.3 (λ goes. absurd (cc (goes)))
+          | inr d ↦ ends_as (asking.Fills word) _ d.3 (λ goes. inl (omega arith))
         ]
     on_putting replies key value false s =
         let d = rewritten m (filled (record p { replies = replies }) word) (block_in p.own) (node.Pair key value) m2 end s in
@@ -123,7 +123,7 @@ module _ {K V Q : Type 0} (same : K → K → Bool) (hash : K → ℕ) (setting 
         by node.Shards keeps ends = ends_as (asking.GivesUp word) (going (record p { own = 0 }) (at.Tries word TOMBSTONE)) ends (λ goes. tries keeps)
 
   pub on_asking : (asks : Asking) → AskingStands setting m c blocks p asks → Steps Took value_at m (asks_at p asks) m2 end → Goal asks end
-  on_asking (asking.Absent gap) f s = ends_as (asking.Absent gap) _ s.1 (λ goes. absurd (cc (goes)))
-  on_asking (asking.Present word) f s = ends_as (asking.Present word) _ s.1 (λ goes. absurd (cc (goes)))
+  on_asking (asking.Absent gap) f s = ends_as (asking.Absent gap) _ s.1 (λ goes. absurd goes)
+  on_asking (asking.Present word) f s = ends_as (asking.Present word) _ s.1 (λ goes. absurd goes)
   on_asking (asking.Fills word) f s = on_fills f.0.0 f.0.1 f.0.2 word f.1.0 f.1.1 f.2 s
   on_asking (asking.GivesUp word) f s = on_gives_up f.0 f.1 f.2 word s

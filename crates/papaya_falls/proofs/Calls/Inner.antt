@@ -18,7 +18,6 @@ use Rattle.papaya_late.specs.Given.Raw.CallPoints.{going, entering, went_on}
 use Rattle.papaya_late.specs.Given.Raw.declared.machines.answer.End.TheVariants as ends
 use Rattle.papaya_late.specs.Given.Raw.declared.machines.answer.KeyAnswer.{KeyAnswer}
 use Rattle.papaya_late.specs.Given.Raw.declared.machines.answer.Called.{Called}
-use Rattle.papaya_late.specs.Given.Raw.declared.machines.answer.Called.TheVariants.{Goes}
 use Rattle.papaya_late.specs.Given.Raw.declared.machines.call.KeyCall.{KeyCall}
 use Rattle.papaya_late.specs.Given.Raw.declared.machines.call.Calling.TheVariants as at
 use Rattle.papaya_late.specs.Given.Resize.CopierStates.{helping, copying_all}
@@ -40,11 +39,13 @@ use Rattle.papaya_falls.specs.Room.{planned, planned_in_copying, tables_to_come}
 use Rattle.papaya_falls.specs.Copies.{number_of_copier, number_at as incremental_at, tables_from_before}
 use Rattle.papaya_falls.specs.CopiesBlocking.{number_of_copier_blocking, number_at as blocking_at, targets}
 use Rattle.papaya_falls.specs.Calls.{two_of_eight, number_at, number_of_call}
+use Rattle.papaya_falls.specs.Falls.{GoesFurther}
 use Rattle.papaya_falls.proofs.Below.{at_most, below_followed, no_more, fewer}
 use Rattle.papaya_falls.proofs.Onward.{Onward}
 use Rattle.papaya_falls.proofs.Stands.{IsBehind}
 use Rattle.papaya_falls.proofs.Making.MakingOn.{MadeOn}
-use Rattle.papaya_falls.proofs.Copiers.CopierOn.{CopierOn}
+use Rattle.papaya_falls.proofs.Copiers.CopierOn.{FallsTo, CopierOn}
+use Rattle.papaya_falls.proofs.Within.DisposalRows.{RowGoesFurther}
 use Rattle.papaya_falls.proofs.Calls.Tries.{ending_below}
 
 -- the numbers of a copier in blocking mode begin with the tables from its target on
@@ -93,7 +94,7 @@ copies_target setting source target = by setting.mode refl
 
 module _ {K V Q : Type 0} (hash : K → ℕ) (c c2 : Chart K) (blocks blocks2 : Blocks) (p : KeyCall K V Q) where
   abbrev pub Goal : List ℕ → KeyCall K V Q × Called (Node K V) → Type 0
-  Goal before end = end.1 ≡ Goes → IsBelow (number_of_call hash c2 blocks2 end.0) before
+  Goal before end = GoesFurther end.1 → IsBelow (number_of_call hash c2 blocks2 end.0) before
 
   -- it goes on in a table behind all those that were left, or a table was linked
   pub entering_below : (table : Table) (turn tables : ℕ) (xs : List ℕ)
@@ -138,34 +139,39 @@ module _ {K V Q : Type 0} (hash : K → ℕ) (c c2 : Chart K) (blocks blocks2 : 
       → Goal (number_at hash c blocks p (at.Looks l)) (looked p end)
   looked_below l (next, progress.Goes) below goes =
       inr (refl, inr (refl, inr (refl, inr (refl, inr (refl, inr (refl, below_followed (number_of_lookup c2 next) (number_of_lookup c l) _ _ (below refl)))))))
-  looked_below l (next, progress.Waits) below goes = absurd (cc)
-  looked_below l (next, progress.Done (Some found)) below goes = absurd (cc)
-  looked_below l (next, progress.Done None) below goes = absurd (cc)
-  looked_below l (next, progress.Refused fault) below goes = absurd (cc)
+  looked_below l (next, progress.Waits) below goes = absurd goes
+  looked_below l (next, progress.Done (Some found)) below goes = absurd goes
+  looked_below l (next, progress.Done None) below goes = absurd goes
+  looked_below l (next, progress.Refused fault) below goes = absurd goes
 
   -- a disposal
-  pub disposed_below : (d : Dispose) (answer : KeyAnswer) (end : Dispose × Settled (Node K V)) → (end.1 ≡ settled.Goes → IsBelow (number_of_dispose c2 blocks2 end.0) (number_of_dispose c blocks d))
+  pub disposed_below : (d : Dispose) (answer : KeyAnswer) (end : Dispose × Settled (Node K V)) → (RowGoesFurther end.1 → IsBelow (number_of_dispose c2 blocks2 end.0) (number_of_dispose c blocks d))
       → Goal (number_at hash c blocks p (at.Disposes d answer)) (disposed p answer end)
   disposed_below d answer (next, settled.Goes) below goes =
-      inr (refl, inr (refl, inr (refl, inr (refl, inr (refl, inr (refl, below_followed (number_of_dispose c2 blocks2 next) (number_of_dispose c blocks d) _ _ (below refl)))))))
-  disposed_below d answer (next, settled.Waits) below goes = absurd (cc)
-  disposed_below d answer (next, settled.Gave value) below goes = absurd (cc)
-  disposed_below d answer (next, settled.Done) below goes = absurd (cc)
+      inr (refl, inr (refl, inr (refl, inr (refl, inr (refl, inr (refl, below_followed (number_of_dispose c2 blocks2 next) (number_of_dispose c blocks d) _ _ (below tt)))))))
+  disposed_below d answer (next, settled.Waits) below goes = absurd goes
+  disposed_below d answer (next, settled.Gave value) below goes =
+      inr (refl, inr (refl, inr (refl, inr (refl, inr (refl, inr (refl, below_followed (number_of_dispose c2 blocks2 next) (number_of_dispose c blocks d) _ _ (below tt)))))))
+  disposed_below d answer (next, settled.Done) below goes = absurd goes
 
   -- a help
-  pub helped_below : (copier : Copier) (goal : Table) (end : Copier × Outcome (Node K V) Table)
-      → CopierOn c.past c2.past (incremental_at c blocks copier) (number_of_copier c2 blocks2) copier copier.stands end
-      → Goal (number_at hash c blocks p (at.Helps copier goal)) (helped p goal end)
-  helped_below copier goal (next, outcome.Goes) (inl h) goes =
+  helps_further : (copier next : Copier) (goal : Table) → FallsTo c.past c2.past (incremental_at c blocks copier) (number_of_copier c2 blocks2) copier.stands next
+      → IsBelow (number_of_call hash c2 blocks2 (going {V = V} p (at.Helps next goal)).0) (number_at hash c blocks p (at.Helps copier goal))
+  helps_further copier next goal (inl h) =
       inr (refl, inl (fewer c.past c2.past (planned_in_copying copier.stands) (planned_in_copying next.stands) h.1 h.0 h.2))
-  helped_below copier goal (next, outcome.Goes) (inr h) goes =
+  helps_further copier next goal (inr h) =
       inr (
         refl,
         at_most _ _ (no_more c.past c2.past (planned_in_copying copier.stands) (planned_in_copying next.stands) (let past = h.0 in omega (arith, past)) h.1)
             (inr (ap (λ x. x - goal.turn) h.0, inr (refl, inr (refl, inr (refl, h.2))))),
       )
-  helped_below copier goal (next, outcome.Waits) told goes = absurd (cc)
-  helped_below copier goal (next, outcome.Gave value) told goes = absurd (cc)
+
+  pub helped_below : (copier : Copier) (goal : Table) (end : Copier × Outcome (Node K V) Table)
+      → CopierOn c.past c2.past (incremental_at c blocks copier) (number_of_copier c2 blocks2) copier copier.stands end
+      → Goal (number_at hash c blocks p (at.Helps copier goal)) (helped p goal end)
+  helped_below copier goal (next, outcome.Goes) told goes = helps_further copier next goal told
+  helped_below copier goal (next, outcome.Waits) told goes = absurd goes
+  helped_below copier goal (next, outcome.Gave value) told goes = helps_further copier next goal told
   helped_below copier goal (next, outcome.Done table) told goes =
       inr (
         refl,
@@ -175,12 +181,11 @@ module _ {K V Q : Type 0} (hash : K → ℕ) (c c2 : Chart K) (blocks blocks2 : 
   helped_below copier goal (next, outcome.Refused fault) told goes = ending_below hash c2 blocks2 p (ends.Refused fault) 5 _ (omega arith) goes
 
   -- a copying of a whole table
-  pub copied_below : (copier : Copier) (end : Copier × Outcome (Node K V) Table)
-      → CopierOn c.past c2.past (blocking_at c blocks copier) (number_of_copier_blocking c2 blocks2) copier copier.stands end
-      → Goal (number_at hash c blocks p (at.Copies copier)) (copied p end)
-  copied_below copier (next, outcome.Goes) (inl h) goes =
+  copies_further : (copier next : Copier) → FallsTo c.past c2.past (blocking_at c blocks copier) (number_of_copier_blocking c2 blocks2) copier.stands next
+      → IsBelow (number_of_call hash c2 blocks2 (going {V = V} p (at.Copies next)).0) (number_at hash c blocks p (at.Copies copier))
+  copies_further copier next (inl h) =
       inr (refl, inl (fewer c.past c2.past (planned_in_copying copier.stands) (planned_in_copying next.stands) h.1 h.0 h.2))
-  copied_below copier (next, outcome.Goes) (inr h) goes =
+  copies_further copier next (inr h) =
       let f = targets_first c blocks copier copier.stands in
       let f2 = targets_first c2 blocks2 next next.stands in
       inr (
@@ -188,8 +193,13 @@ module _ {K V Q : Type 0} (hash : K → ℕ) (c c2 : Chart K) (blocks blocks2 : 
         at_most _ _ (no_more c.past c2.past (planned_in_copying copier.stands) (planned_in_copying next.stands) (let past = h.0 in omega (arith, past)) h.1)
             (behind_targets (targets c2 blocks2 next) (targets c blocks copier) (number_of_copier_blocking c2 blocks2 next) (number_of_copier_blocking c blocks copier) f2.0 f.0 f2.1 f.1 h.2),
       )
-  copied_below copier (next, outcome.Waits) told goes = absurd (cc)
-  copied_below copier (next, outcome.Gave value) told goes = absurd (cc)
+
+  pub copied_below : (copier : Copier) (end : Copier × Outcome (Node K V) Table)
+      → CopierOn c.past c2.past (blocking_at c blocks copier) (number_of_copier_blocking c2 blocks2) copier copier.stands end
+      → Goal (number_at hash c blocks p (at.Copies copier)) (copied p end)
+  copied_below copier (next, outcome.Goes) told goes = copies_further copier next told
+  copied_below copier (next, outcome.Waits) told goes = absurd goes
+  copied_below copier (next, outcome.Gave value) told goes = copies_further copier next told
   copied_below copier (next, outcome.Done table) told goes =
       inr (
         refl,
@@ -227,7 +237,7 @@ module _ {K V Q : Type 0} (same : K → K → Bool) (hash : K → ℕ) (setting 
   pub first_below : (end : NewTable × Progress Table) → Made end → (end.1 ≡ progress.Goes → IsBelow (number_of_new_table end.0) (number_of_new_table making))
       → Goal hash c c2 blocks blocks2 p (number_at hash c blocks p (at.Firsts making)) (first_made p end)
   first_below (next, progress.Goes) made below goes = made_further (suc c.past) (suc c2.past) 0 next (ap suc made.0) made (below refl)
-  first_below (next, progress.Waits) made below goes = absurd (cc)
+  first_below (next, progress.Waits) made below goes = absurd goes
   first_below (next, progress.Done table) made below goes =
       entering_below hash c c2 blocks blocks2 p table _ (suc c.past) (0 ∷ 0 ∷ 0 ∷ two_of_eight (number_of_new_table making)) (less_to_come table made (suc c.past) (λ h. let past = h.0 in omega (arith, past))) goes
   first_below (next, progress.Refused fault) made below goes = ending_below hash c2 blocks2 p (ends.Refused fault) 5 _ (omega arith) goes
@@ -238,7 +248,7 @@ module _ {K V Q : Type 0} (same : K → K → Bool) (hash : K → ℕ) (setting 
       → Goal hash c c2 blocks blocks2 p (number_at hash c blocks p (at.Allocs making)) (next_made p end)
   next_below t turn_is made_t behind next_turn (next, progress.Goes) made below goes =
       made_further (c.past - p.trial.table.turn) (c2.past - p.trial.table.turn) 0 next (ap (λ x. x - p.trial.table.turn) made.0) made (below refl)
-  next_below t turn_is made_t behind next_turn (next, progress.Waits) made below goes = absurd (cc)
+  next_below t turn_is made_t behind next_turn (next, progress.Waits) made below goes = absurd goes
   next_below t turn_is made_t behind next_turn (next, progress.Done table) made below goes =
       on_below hash c c2 blocks blocks2 p table _ (c.past - p.trial.table.turn) (0 ∷ 0 ∷ 0 ∷ two_of_eight (number_of_new_table making))
       (less_to_come table made (c.past - p.trial.table.turn)

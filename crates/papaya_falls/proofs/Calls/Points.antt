@@ -1,6 +1,6 @@
 -- Each step of a call that goes on, and is none of a row of the collector, leads to lower numbers.
 use Rattle.std.specs.Prelude.{◌/◌, ◌==◌, bit_and, if◌then◌else◌, ◌∷◌, Option, None, Some}
-use Rattle.std.proofs.Common.{◌≡◌, ◌≢◌, ℕ, suc, ◌-◌, ◌^◌, ◌<◌, Bool, true, false, inl, inr, refl, ap, sym, subst, arith}
+use Rattle.std.proofs.Common.{◌≡◌, ℕ, suc, ◌-◌, ◌^◌, ◌<◌, Bool, true, false, inl, inr, refl, ap, sym, subst, arith}
 use Rattle.papaya_late.specs.Given.SeizeWords.declared.at.At.TheVariants.{Root, Word}
 use Rattle.papaya_late.specs.Given.SeizeWords.Mem.{Mem, Took, value_at}
 use Rattle.papaya_late.specs.Given.SeizeWords.Plan.{Now, Seeing, Steps, Turn}
@@ -25,7 +25,6 @@ use Rattle.papaya_late.specs.Given.Raw.declared.machines.answer.Missing.TheVaria
 use Rattle.papaya_late.specs.Given.Raw.declared.machines.answer.End.{End}
 use Rattle.papaya_late.specs.Given.Raw.declared.machines.answer.End.TheVariants as ends
 use Rattle.papaya_late.specs.Given.Raw.declared.machines.answer.Called.{Called}
-use Rattle.papaya_late.specs.Given.Raw.declared.machines.answer.Called.TheVariants.{Goes}
 use Rattle.papaya_late.specs.Given.Raw.declared.machines.asking.Gap.TheVariants as gaps
 use Rattle.papaya_late.specs.Given.Raw.declared.machines.call.KeyCall.{KeyCall}
 use Rattle.papaya_late.specs.Given.Raw.declared.machines.call.Calling.{Calling}
@@ -45,6 +44,7 @@ use Rattle.papaya_late.specs.Given.Points.Measures.{IsBelow}
 use Rattle.papaya_late.specs.Given.Points.Told.{IsRowOfCall}
 use Rattle.papaya_falls.specs.Room.{planned, tables_to_come}
 use Rattle.papaya_falls.specs.Calls.{nothing_within, number_at, number_of_call}
+use Rattle.papaya_falls.specs.Falls.{GoesFurther}
 use Rattle.papaya_falls.proofs.Below.{at_most, no_more}
 use Rattle.papaya_falls.proofs.Onward.{Onward, past_kept}
 use Rattle.papaya_falls.proofs.Kept.{keeps_still}
@@ -64,7 +64,7 @@ module _ {K V Q : Type 0} (same : K → K → Bool) (hash : K → ℕ) (asks : Q
     (m : Mem (Node K V)) (c : Chart K) (blocks : Blocks) (m2 : Mem (Node K V)) (c2 : Chart K) (blocks2 : Blocks) (on : Onward same hash setting m c blocks m2 c2 blocks2) (p : KeyCall K V Q) where
   -- what is to be shown of a step from there
   abbrev Goal : Calling → KeyCall K V Q × Called (Node K V) → Type 0
-  Goal stands end = end.1 ≡ Goes → IsBelow (number_of_call hash c2 blocks2 end.0) (number_at hash c blocks p stands)
+  Goal stands end = GoesFurther end.1 → IsBelow (number_of_call hash c2 blocks2 end.0) (number_at hash c blocks p stands)
 
   ends_as : (stands : Calling) (end e : KeyCall K V Q × Called (Node K V)) → end ≡ e → Goal stands e → Goal stands end
   ends_as stands end e is = subst (λ (x : KeyCall K V Q × Called (Node K V)). Goal stands x) (sym is)
@@ -85,7 +85,7 @@ module _ {K V Q : Type 0} (same : K → K → Bool) (hash : K → ℕ) (asks : Q
         by (Some node) s =
             elim (made_by_step m (made p) node 0 m2 end s) as (λ _. Goal at.Makes end) [
               | inl d ↦ ends_as at.Makes end _ d.3 (λ goes. inl (omega arith))
-              | inr d ↦ ends_as at.Makes end _ d.3 (λ goes. absurd (cc))
+              | inr d ↦ ends_as at.Makes end _ d.3 (λ goes. inl (omega arith))
             ]
 
     -- the root is read
@@ -120,20 +120,20 @@ module _ {K V Q : Type 0} (same : K → K → Bool) (hash : K → ℕ) (asks : Q
         by : (b : Bool) → Goal (at.Counts removed)
             (if b then (record p { stands = at.Over (ends.Answered (answers.Stored p.own)) }, ended {T = Node K V} (ends.Answered (answers.Stored p.own)))
             else going p (at.Disposes (disposing p.setting removed p.trial.table) (answers.Removed removed)))
-        by true goes = absurd (cc)
+        by true goes = absurd goes
         by false goes = inl (omega arith)
 
     -- its own block is taken away
     on_drops : (over : End) → Steps Took value_at m (drops p over) m2 end → Goal (at.Drops over) end
-    on_drops over s = let d = taken m (dropped p over) (p.own / 2048) m2 end s in ends_as (at.Drops over) end _ d.3 (λ goes. absurd (cc goes))
+    on_drops over s = let d = taken m (dropped p over) (p.own / 2048) m2 end s in ends_as (at.Drops over) end _ d.3 (λ goes. inl (omega arith))
 
     -- it has ended
     on_over : (over : End) → Steps {R = KeyCall K V Q × Called (Node K V)} Took value_at m (Turn (Now (p, ended over))) m2 end → Goal (at.Over over) end
     on_over over s = ends_as (at.Over over) end (p, ended over) s.1 (λ goes. absurd (not_on over goes))
       where
-        not_on : (over : End) → ended {T = Node K V} over ≢ Goes
-        not_on (ends.Answered answer) e = cc
-        not_on (ends.Refused fault) e = cc
+        not_on : (over : End) → GoesFurther (ended {T = Node K V} over) → ⊥
+        not_on (ends.Answered answer) goes = goes
+        not_on (ends.Refused fault) goes = goes
 
     -- the link to the next table is read
     module _ (t : ℕ) (entered : IsTable c blocks p.trial.table t) where
@@ -177,7 +177,7 @@ module _ {K V Q : Type 0} (same : K → K → Bool) (hash : K → ℕ) (asks : Q
             let d = steps_back (looked p) m m2 (lookup_plan (asks q) l) end s in
             ends_as (at.Looks l) end (looked p d.0) d.2
             (looked_below hash c c2 blocks blocks2 p l d.0 (looked_on same hash setting m c blocks m2 c2 blocks2 on l (asks q) stands d.0 d.1).1)
-        by None s = ends_as (at.Looks l) end _ s.1 (λ goes. absurd (cc goes))
+        by None s = ends_as (at.Looks l) end _ s.1 (λ goes. absurd goes)
 
     on_at : (stands : Calling) → CallingStands setting m c blocks p stands → (IsRowOfCall stands → ⊥) → Steps Took value_at m (plan_at asks same hash p stands) m2 end → Goal stands end
     on_at at.Makes f none s = on_makes s
@@ -216,5 +216,5 @@ module _ {K V Q : Type 0} (same : K → K → Bool) (hash : K → ℕ) (asks : Q
 module _ {K V Q : Type 0} (same : K → K → Bool) (hash : K → ℕ) (asks : Q → K → Bool) (fits : (k : K) → hash k < 2 ^ 64) (setting : Setting)
     (m : Mem (Node K V)) (c : Chart K) (blocks : Blocks) (m2 : Mem (Node K V)) (c2 : Chart K) (blocks2 : Blocks) (on : Onward same hash setting m c blocks m2 c2 blocks2) (p : KeyCall K V Q) where
   pub called_on : CallStands setting m c blocks p → (IsRowOfCall p.stands → ⊥) → (end : KeyCall K V Q × Called (Node K V)) → Steps Took value_at m (call_plan asks same hash p) m2 end
-      → end.1 ≡ Goes → IsBelow (number_of_call hash c2 blocks2 end.0) (number_of_call hash c blocks p)
+      → GoesFurther end.1 → IsBelow (number_of_call hash c2 blocks2 end.0) (number_of_call hash c blocks p)
   called_on stands none end s = on_at same hash asks fits setting m c blocks m2 c2 blocks2 on p end p.stands stands.point none s

@@ -12,7 +12,6 @@ use Rattle.papaya_late.specs.Given.Tables.declared.table.Table.{Table}
 use Rattle.papaya_late.specs.Given.Raw.Call.{disposed, helped, copied, plan_at, call_plan}
 use Rattle.papaya_late.specs.Given.Raw.declared.machines.answer.KeyAnswer.{KeyAnswer}
 use Rattle.papaya_late.specs.Given.Raw.declared.machines.answer.Called.{Called}
-use Rattle.papaya_late.specs.Given.Raw.declared.machines.answer.Called.TheVariants.{Goes}
 use Rattle.papaya_late.specs.Given.Raw.declared.machines.call.KeyCall.{KeyCall}
 use Rattle.papaya_late.specs.Given.Raw.declared.machines.call.Calling.{Calling}
 use Rattle.papaya_late.specs.Given.Raw.declared.machines.call.Calling.TheVariants as at
@@ -29,6 +28,7 @@ use Rattle.papaya_late.specs.Given.Points.Measures.{IsBelow}
 use Rattle.papaya_late.specs.Given.Points.MeasuresDisposes.{turn_of}
 use Rattle.papaya_late.specs.Given.Points.Told.{IsRowOf, IsRowOfCall}
 use Rattle.papaya_falls.specs.Calls.{one_of_eight, ending, number_at, number_of_call}
+use Rattle.papaya_falls.specs.Falls.{GoesFurther}
 use Rattle.papaya_falls.proofs.Copiers.Rows.{in_row, retires_back}
 use Rattle.papaya_falls.proofs.Within.DisposalRows.{StaysInRow, stays_in_row, none_in_row}
 
@@ -40,14 +40,15 @@ module _ {K V Q : Type 0} (same : K → K → Bool) (hash : K → ℕ) (asks : Q
       ⊎ ((IsRowOfCall p2.stands → ⊥) × IsBelow (number_of_call hash c blocks p2) (number_at hash c blocks p stands))
 
   abbrev Goal : Calling → KeyCall K V Q × Called (Node K V) → Type 0
-  Goal stands end = end.1 ≡ Goes → RowOn stands end.0
+  Goal stands end = GoesFurther end.1 → RowOn stands end.0
 
   disposed_on : (d : Dispose) (answer : KeyAnswer) → IsRowOf d.stands → (inner : Dispose × Settled (Node K V)) → StaysInRow m m2 d inner → Goal (at.Disposes d answer) (disposed p answer inner)
   disposed_on d answer row (next, settled.Goes) stays goes =
-      inl (stays refl, ap (λ xs. ending hash c blocks p 3 (one_of_eight xs)) (none_in_row c blocks next (stays refl) ∙ sym (none_in_row c blocks d row)))
-  disposed_on d answer row (next, settled.Waits) stays goes = absurd (cc)
-  disposed_on d answer row (next, settled.Gave value) stays goes = absurd (cc)
-  disposed_on d answer row (next, settled.Done) stays goes = absurd (cc)
+      inl (stays tt, ap (λ xs. ending hash c blocks p 3 (one_of_eight xs)) (none_in_row c blocks next (stays tt) ∙ sym (none_in_row c blocks d row)))
+  disposed_on d answer row (next, settled.Waits) stays goes = absurd goes
+  disposed_on d answer row (next, settled.Gave value) stays goes =
+      inl (stays tt, ap (λ xs. ending hash c blocks p 3 (one_of_eight xs)) (none_in_row c blocks next (stays tt) ∙ sym (none_in_row c blocks d row)))
+  disposed_on d answer row (next, settled.Done) stays goes = absurd goes
 
   -- a copier that retires a table: it does so still, or it goes on with the next one
   module _ (copier : Copier) (settle : Settle) (rest : ℕ) where
@@ -75,14 +76,14 @@ module _ {K V Q : Type 0} (same : K → K → Bool) (hash : K → ℕ) (asks : Q
 
     helps_on : (goal : Table) (inner : Settle × Settled (Node K V)) → Goal (at.Helps (standing copier (copies.Retires settle rest)) goal) (helped p goal (retired copier rest inner))
     helps_on goal (next, settled.Goes) goes = inl (tt, refl)
-    helps_on goal (next, settled.Waits) goes = absurd (cc)
-    helps_on goal (next, settled.Gave value) goes = absurd (cc)
+    helps_on goal (next, settled.Waits) goes = absurd goes
+    helps_on goal (next, settled.Gave value) goes = inl (tt, refl)
     helps_on goal (next, settled.Done) goes = helps_over goal
 
     copies_on : (inner : Settle × Settled (Node K V)) → Goal (at.Copies (standing copier (copies.Retires settle rest))) (copied p (retired copier rest inner))
     copies_on (next, settled.Goes) goes = inl (tt, refl)
-    copies_on (next, settled.Waits) goes = absurd (cc)
-    copies_on (next, settled.Gave value) goes = absurd (cc)
+    copies_on (next, settled.Waits) goes = absurd goes
+    copies_on (next, settled.Gave value) goes = inl (tt, refl)
     copies_on (next, settled.Done) goes = copies_over
 
   on_at : (stands : Calling) → IsRowOfCall stands → (end : KeyCall K V Q × Called (Node K V)) → Steps Took value_at m (plan_at asks same hash p stands) m2 end → Goal stands end
@@ -114,7 +115,7 @@ module _ {K V Q : Type 0} (same : K → K → Bool) (hash : K → ℕ) (asks : Q
   on_at (at.Drops over) row end s = absurd row
   on_at (at.Over over) row end s = absurd row
 
-  pub row_on : IsRowOfCall p.stands → (end : KeyCall K V Q × Called (Node K V)) → Steps Took value_at m (call_plan asks same hash p) m2 end → end.1 ≡ Goes
+  pub row_on : IsRowOfCall p.stands → (end : KeyCall K V Q × Called (Node K V)) → Steps Took value_at m (call_plan asks same hash p) m2 end → GoesFurther end.1
       → ((IsRowOfCall end.0.stands) × (number_of_call hash c blocks end.0 ≡ number_of_call hash c blocks p))
       ⊎ ((IsRowOfCall end.0.stands → ⊥) × IsBelow (number_of_call hash c blocks end.0) (number_of_call hash c blocks p))
   row_on row end s goes = on_at p.stands row end s goes

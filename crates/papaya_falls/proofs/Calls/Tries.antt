@@ -1,6 +1,6 @@
 -- A call at a try: what it finds there leads it to lower numbers, if it goes on.
 use Rattle.std.specs.Prelude.{◌+◌, ◌==◌, List, ◌∷◌, if◌then◌else◌}
-use Rattle.std.proofs.Common.{◌≡◌, ◌≢◌, ℕ, suc, ◌<◌, ◌≤◌, Bool, true, false, Option, Some, None, inl, inr, refl, ap, sym, ◌∙◌, arith}
+use Rattle.std.proofs.Common.{◌≡◌, ℕ, suc, ◌<◌, ◌≤◌, Bool, true, false, Option, Some, None, inl, inr, refl, ap, sym, ◌∙◌, arith}
 use Rattle.std.proofs.lemmas.Bool.{eq-eqb}
 use Rattle.papaya_late.specs.Given.SeizeWords.Word.{block_in}
 use Rattle.papaya_late.specs.Given.Tables.Chunks.{is_incremental}
@@ -25,7 +25,6 @@ use Rattle.papaya_late.specs.Given.Raw.declared.machines.answer.Missing.TheVaria
 use Rattle.papaya_late.specs.Given.Raw.declared.machines.answer.End.{End}
 use Rattle.papaya_late.specs.Given.Raw.declared.machines.answer.End.TheVariants as ends
 use Rattle.papaya_late.specs.Given.Raw.declared.machines.answer.Called.{Called}
-use Rattle.papaya_late.specs.Given.Raw.declared.machines.answer.Called.TheVariants.{Goes}
 use Rattle.papaya_late.specs.Given.Raw.declared.machines.asking.Asking.TheVariants as asking
 use Rattle.papaya_late.specs.Given.Raw.declared.machines.asking.Gap.{Gap}
 use Rattle.papaya_late.specs.Given.Raw.declared.machines.asking.Gap.TheVariants as gaps
@@ -41,6 +40,7 @@ use Rattle.papaya_late.proofs.Given.Rule.Words.PlaceWords.{HasBlock, HasByte}
 use Rattle.papaya_late.proofs.Given.Rule.Words.PlaceWordsFinding.{finding-tombstone, finding-other, finding-still, finding-copying, finding-copied}
 use Rattle.papaya_late.specs.Given.Points.Measures.{IsBelow}
 use Rattle.papaya_falls.specs.Calls.{to_empty, stale, trying, number_of_call}
+use Rattle.papaya_falls.specs.Falls.{GoesFurther}
 use Rattle.papaya_falls.proofs.Calls.TrySeen.{at_try_is}
 
 module _ (block byte : ℕ → ℕ) where
@@ -71,25 +71,25 @@ one_most (Some key) = omega arith
 
 module _ {K V Q : Type 0} (hash : K → ℕ) (c : Chart K) (blocks : Blocks) where
   -- a call that ends doesn't go on, or gives up its own block first
-  pub ending_below : (p : KeyCall K V Q) (end : End) (stage : ℕ) (xs : List ℕ) → 1 < stage → (ending p end).1 ≡ Goes → IsBelow (number_of_call hash c blocks (ending p end).0) (stage ∷ xs)
+  pub ending_below : (p : KeyCall K V Q) (end : End) (stage : ℕ) (xs : List ℕ) → 1 < stage → GoesFurther (ending {V = V} p end).1 → IsBelow (number_of_call hash c blocks (ending p end).0) (stage ∷ xs)
   ending_below p end stage xs l goes = by_own (p.own == 0) goes
     where
-      not_on : (end : End) → ended {T = Node K V} end ≢ Goes
-      not_on (ends.Answered answer) e = cc
-      not_on (ends.Refused fault) e = cc
+      not_on : (end : End) → GoesFurther (ended {T = Node K V} end) → ⊥
+      not_on (ends.Answered answer) goes = goes
+      not_on (ends.Refused fault) goes = goes
 
-      by_own : (b : Bool) → (if b then (record p { stands = at.Over end }, ended {T = Node K V} end) else going p (at.Drops end)).1 ≡ Goes
+      by_own : (b : Bool) → GoesFurther (if b then (record p { stands = at.Over end }, ended {T = Node K V} end) else going p (at.Drops end)).1
           → IsBelow (number_of_call hash c blocks (if b then (record p { stands = at.Over end }, ended {T = Node K V} end) else going p (at.Drops end)).0) (stage ∷ xs)
       by_own true e = absurd (not_on end e)
       by_own false e = inl l
 
   -- where the key is missing, it asks, or goes on
-  pub asking_below : (p : KeyCall K V Q) (gap : Gap) (xs : List ℕ) → ((at_gap gap p).1 ≡ Goes → IsBelow (number_of_call hash c blocks (at_gap gap p).0) xs)
-      → (asking_at gap p).1 ≡ Goes → IsBelow (number_of_call hash c blocks (asking_at gap p).0) xs
+  pub asking_below : (p : KeyCall K V Q) (gap : Gap) (xs : List ℕ) → (GoesFurther (at_gap {V = V} gap p).1 → IsBelow (number_of_call hash c blocks (at_gap gap p).0) xs)
+      → GoesFurther (asking_at {V = V} gap p).1 → IsBelow (number_of_call hash c blocks (asking_at gap p).0) xs
   asking_below p gap xs goes_on = by p.replies.absent
     where
-      by : (told : Told V) → (gap_by told gap p).1 ≡ Goes → IsBelow (number_of_call hash c blocks (gap_by told gap p).0) xs
-      by tells.Nothing goes = absurd (cc (goes))
+      by : (told : Told V) → GoesFurther (gap_by told gap p).1 → IsBelow (number_of_call hash c blocks (gap_by told gap p).0) xs
+      by tells.Nothing goes = absurd goes
       by (tells.Value value) goes = goes_on goes
       by tells.Own goes = goes_on goes
       by tells.Removes goes = goes_on goes
@@ -105,7 +105,7 @@ module _ {K V Q : Type 0} (hash : K → ℕ) (c : Chart K) (blocks : Blocks) whe
         (next : IsNext c blocks p.hash t (next_trial p.trial) j) (word : ℕ) (word_is : word ≡ place_word hash c blocks (c.place t (spot_at (c.len t) p.hash j)))
         (loaded : Bool) (point : ℕ) (some_left : 2 < point) (more_left : loaded ≡ false → 3 < point) where
       abbrev Leads : KeyCall K V Q × Called (Node K V) → Type 0
-      Leads end = end.1 ≡ Goes → IsBelow (number_of_call hash c blocks end.0) (trying hash c blocks p point)
+      Leads end = GoesFurther end.1 → IsBelow (number_of_call hash c blocks end.0) (trying hash c blocks p point)
 
       -- it stays at the try
       stays : (lower : ℕ) → lower < point → IsBelow (trying hash c blocks p lower) (trying hash c blocks p point)
@@ -143,7 +143,7 @@ module _ {K V Q : Type 0} (hash : K → ℕ) (c : Chart K) (blocks : Blocks) whe
           by false = gives_there
 
       told_of_pair : (told : Told V) → Leads (pair_by told p word)
-      told_of_pair tells.Nothing goes = absurd (cc (goes))
+      told_of_pair tells.Nothing goes = absurd goes
       told_of_pair tells.Removes goes = buries goes
       told_of_pair (tells.Value value) goes = stores (tells.Value value) word refl goes
       told_of_pair tells.Own goes = stores tells.Own word refl goes
@@ -187,7 +187,7 @@ module _ {K V Q : Type 0} (hash : K → ℕ) (c : Chart K) (blocks : Blocks) whe
           inr (refl, inr (refl, inr (omega (arith, turn, turn2), inr (refl, inl (omega (arith, limit, limit2, try, try2, most))))))
 
       halts : (b : Bool) → b ≡ loaded → Leads (halted b p)
-      halts true e goes = absurd (cc)
+      halts true e goes = absurd goes
       halts false e goes = inr (refl, inr (refl, inr (refl, inr (refl, inr (refl, inl (more_left (sym e)))))))
 
       pairs : (x : There) → p.there ≡ x → Leads (at_pair x p word)
@@ -204,6 +204,6 @@ module _ {K V Q : Type 0} (hash : K → ℕ) (c : Chart K) (blocks : Blocks) whe
       by_finding flag is.There e = pairs p.there refl
 
       -- what the word says leads to lower numbers
-      pub told_below : (flag : Bool) → (told loaded p word flag).1 ≡ Goes → IsBelow (number_of_call hash c blocks (told loaded p word flag).0) (trying hash c blocks p point)
+      pub told_below : (flag : Bool) → GoesFurther (told {V = V} loaded p word flag).1 → IsBelow (number_of_call hash c blocks (told loaded p word flag).0) (trying hash c blocks p point)
       told_below flag =
           by_finding flag (finding p.setting.mode (aim_of p.missing) word flag) (sym (ap (λ (x : ℕ). finding p.setting.mode (aim_of p.missing) x flag) word_is))

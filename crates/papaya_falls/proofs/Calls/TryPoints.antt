@@ -15,7 +15,6 @@ use Rattle.papaya_late.specs.Given.Raw.Call.{have_one_key, key_read, pair_read, 
 use Rattle.papaya_late.specs.Given.Raw.CallPoints.{going, changed, told}
 use Rattle.papaya_late.specs.Given.Raw.declared.machines.answer.KeyAnswer.TheVariants as answers
 use Rattle.papaya_late.specs.Given.Raw.declared.machines.answer.Called.{Called}
-use Rattle.papaya_late.specs.Given.Raw.declared.machines.answer.Called.TheVariants.{Goes}
 use Rattle.papaya_late.specs.Given.Raw.declared.machines.call.KeyCall.{KeyCall}
 use Rattle.papaya_late.specs.Given.Raw.declared.machines.call.Calling.{Calling}
 use Rattle.papaya_late.specs.Given.Raw.declared.machines.call.Calling.TheVariants as at
@@ -30,6 +29,7 @@ use Rattle.papaya_late.specs.Given.Rule.Maps.{spot_of}
 use Rattle.papaya_late.specs.Given.Points.Measures.{IsBelow}
 use Rattle.papaya_falls.specs.Room.{tables_to_come}
 use Rattle.papaya_falls.specs.Calls.{nothing_within, trying, number_at, number_of_call}
+use Rattle.papaya_falls.specs.Falls.{GoesFurther}
 use Rattle.papaya_falls.proofs.Onward.{Onward, past_kept}
 use Rattle.papaya_falls.proofs.Kept.{keeps_still}
 use Rattle.papaya_falls.proofs.Calls.Tries.{told_below}
@@ -39,7 +39,7 @@ module _ {K V Q : Type 0} (same : K → K → Bool) (hash : K → ℕ) (asks : Q
     (m : Mem (Node K V)) (c : Chart K) (blocks : Blocks) (m2 : Mem (Node K V)) (c2 : Chart K) (blocks2 : Blocks) (on : Onward same hash setting m c blocks m2 c2 blocks2) (p : KeyCall K V Q) where
   -- what is to be shown of a step from there
   abbrev Goal : Calling → KeyCall K V Q × Called (Node K V) → Type 0
-  Goal stands end = end.1 ≡ Goes → IsBelow (number_of_call hash c2 blocks2 end.0) (number_at hash c blocks p stands)
+  Goal stands end = GoesFurther end.1 → IsBelow (number_of_call hash c2 blocks2 end.0) (number_at hash c blocks p stands)
 
   ends_as : (stands : Calling) (end e : KeyCall K V Q × Called (Node K V)) → end ≡ e → Goal stands e → Goal stands end
   ends_as stands end e is = subst (λ (x : KeyCall K V Q × Called (Node K V)). Goal stands x) (sym is)
@@ -49,10 +49,11 @@ module _ {K V Q : Type 0} (same : K → K → Bool) (hash : K → ℕ) (asks : Q
 
   module _ (end : KeyCall K V Q × Called (Node K V)) where
     -- its change is made
-    changed_below : (word new : ℕ) (xs : List ℕ) → (changed {V = V} p word new).1 ≡ Goes → IsBelow (number_of_call hash c2 blocks2 (changed {V = V} p word new).0) (5 ∷ xs)
+    changed_below : (word new : ℕ) (xs : List ℕ) → GoesFurther (changed {V = V} p word new).1 → IsBelow (number_of_call hash c2 blocks2 (changed {V = V} p word new).0) (5 ∷ xs)
     changed_below word new xs = by (new == TOMBSTONE) (word == 0)
       where
-        by : (b e : Bool) → (if b then going p (at.Counts word) else (if e then going p (at.Counts 0) else going p (at.Disposes (disposing p.setting word p.trial.table) (answers.Replaced word p.own)))).1 ≡ Goes
+        by : (b e : Bool)
+            → GoesFurther (if b then going {V = V} p (at.Counts word) else (if e then going p (at.Counts 0) else going p (at.Disposes (disposing p.setting word p.trial.table) (answers.Replaced word p.own)))).1
             → IsBelow (number_of_call hash c2 blocks2 (if b then going p (at.Counts word) else (if e then going p (at.Counts 0) else going p (at.Disposes (disposing p.setting word p.trial.table) (answers.Replaced word p.own)))).0) (5 ∷ xs)
         by true e goes = inl (omega arith)
         by false true goes = inl (omega arith)
@@ -70,14 +71,14 @@ module _ {K V Q : Type 0} (same : K → K → Bool) (hash : K → ℕ) (asks : Q
       module _ (is : m2 ≡ m) (just_read : Bool) (word : ℕ) (word_is : word ≡ place_word hash c2 blocks2 (c2.place t (spot_at (c2.len t) p.hash j))) (point : ℕ) (some_left : 2 < point)
           (more_left : just_read ≡ false → 3 < point) (e : KeyCall K V Q × Called (Node K V)) where
         abbrev Below : Type 0
-        Below = e.1 ≡ Goes → IsBelow (number_of_call hash c2 blocks2 e.0) (trying hash c blocks p point)
+        Below = GoesFurther e.1 → IsBelow (number_of_call hash c2 blocks2 e.0) (trying hash c blocks p point)
 
         before_same : trying hash c2 blocks2 p point ≡ trying hash c blocks p point
         before_same = ap (λ x. 5 ∷ tables_to_come x 0 ∷ (x - p.trial.table.turn) ∷ 0 ∷ suc (p.trial.table.limit - p.trial.probe.len) ∷ point ∷ nothing_within) (still is)
 
         by_flag : (flag : Bool) → e ≡ told just_read p word flag → Below
         by_flag flag is =
-            subst (λ (x : KeyCall K V Q × Called (Node K V)). x.1 ≡ Goes → IsBelow (number_of_call hash c2 blocks2 x.0) (trying hash c blocks p point)) (sym is)
+            subst (λ (x : KeyCall K V Q × Called (Node K V)). GoesFurther x.1 → IsBelow (number_of_call hash c2 blocks2 x.0) (trying hash c blocks p point)) (sym is)
             (λ goes. subst (λ (xs : List ℕ). IsBelow (number_of_call hash c2 blocks2 (told just_read p word flag).0) xs) before_same
             (told_below hash c2 blocks2 p t j same_try
             (shown_block hash m2 c2 blocks2 setting.root on.map2.shows (are_stored same (spot_of hash) (is_incremental setting.mode) c2 on.map2.rule.common) t (spot_at (c2.len t) p.hash j) same_try.table.made same_try.table.known)
@@ -109,6 +110,6 @@ module _ {K V Q : Type 0} (same : K → K → Bool) (hash : K → ℕ) (asks : Q
       on_tries word new s =
           elim (exchanged m (tried asks same p word new) (place_tried p.trial) word new m2 end s) as (λ _. Goal (at.Tries word new) end) [
             | inl d ↦ ends_as (at.Tries word new) end (changed p word new) d.3 (changed_below word new _)
-            | inr d ↦ subst (λ (x : ℕ). end.1 ≡ Goes → IsBelow (number_of_call hash c2 blocks2 end.0) (trying hash c blocks p x)) (sym (stale_is same hash setting m c blocks m2 c2 blocks2 on p t j trial word d.0 d.1.0 d.1.1))
+            | inr d ↦ subst (λ (x : ℕ). GoesFurther end.1 → IsBelow (number_of_call hash c2 blocks2 end.0) (trying hash c blocks p x)) (sym (stale_is same hash setting m c blocks m2 c2 blocks2 on p t j trial word d.0 d.1.0 d.1.1))
                 (read_below d.2 false d.0 (is_found d.2 d.0 d.1.0) 4 (omega arith) (λ e. omega arith) end d.3)
           ]

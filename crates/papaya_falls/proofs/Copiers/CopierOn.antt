@@ -36,7 +36,7 @@ module _ (past past2 : ℕ) (before : Point → List ℕ) (after : Copier → Li
     CopierOn stands (q, outcome.Goes) = FallsTo stands q
     CopierOn stands (q, outcome.Done table) = (past2 ≡ past) × (table ≡ p.target)
     CopierOn stands (q, outcome.Waits) = Unit {0}
-    CopierOn stands (q, outcome.Gave value) = Unit {0}
+    CopierOn stands (q, outcome.Gave value) = FallsTo stands q
     CopierOn stands (q, outcome.Refused fault) = Unit {0}
 
     pub by_end : (stands : Point) (end e : Copier × Outcome (Node K V) Table) → end ≡ e → CopierOn stands e → CopierOn stands end

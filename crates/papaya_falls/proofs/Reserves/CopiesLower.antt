@@ -25,7 +25,7 @@ use Rattle.papaya_falls.specs.Copies.{number_at, number_of_copier}
 use Rattle.papaya_falls.specs.CopiesBlocking.{number_at as blocking_at, number_of_copier_blocking, targets}
 use Rattle.papaya_falls.proofs.Onward.{Onward}
 use Rattle.papaya_falls.proofs.Calls.Inner.{targets_first}
-use Rattle.papaya_falls.proofs.Copiers.CopierOn.{CopierOn}
+use Rattle.papaya_falls.proofs.Copiers.CopierOn.{FallsTo, CopierOn}
 use Rattle.papaya_falls.proofs.Copiers.Incremental.{copied_on}
 use Rattle.papaya_falls.proofs.Copiers.Blocking.{copied_on_blocking}
 use Rattle.papaya_falls.proofs.Copiers.CopiersTarget.{target_stays}
@@ -62,7 +62,7 @@ module _ {K V : Type 0} (same : K → K → Bool) (hash : K → ℕ) (setting : 
   CopyFalls b (copier2, outcome.Goes) = Lowered b c blocks c2 blocks2 (at.Copies copier) (at.Copies copier2)
   CopyFalls b (copier2, outcome.Done root) = (sum : Sum) → Lowered b c blocks c2 blocks2 (at.Copies copier) (at.Sums root sum)
   CopyFalls b (copier2, outcome.Waits) = Unit {0}
-  CopyFalls b (copier2, outcome.Gave value) = Unit {0}
+  CopyFalls b (copier2, outcome.Gave value) = Lowered b c blocks c2 blocks2 (at.Copies copier) (at.Copies copier2)
   CopyFalls b (copier2, outcome.Refused fault) = Unit {0}
 
   -- at its end, it has its target
@@ -72,29 +72,37 @@ module _ {K V : Type 0} (same : K → K → Bool) (hash : K → ℕ) (setting : 
       (inr (ap (λ (x : ℕ). x - table.turn) done.0 ∙ ap (λ (x : Table). c.past - x.turn) done.1, inl (omega arith)))
 
   -- in incremental mode
-  bits_fall : (copier2 : Copier) → copier2.target ≡ copier.target → (told : Outcome (Node K V) Table)
-      → CopierOn c.past c2.past (number_at c blocks copier) (number_of_copier c2 blocks2) copier copier.stands (copier2, told) → CopyFalls true (copier2, told)
-  bits_fall copier2 target outcome.Goes (inl linked) = lowers_linked true c blocks c2 blocks2 (at.Copies copier) (at.Copies copier2) linked.0 linked.1 linked.2
-  bits_fall copier2 target outcome.Goes (inr own) =
+  bits_further : (copier2 : Copier) → copier2.target ≡ copier.target → FallsTo c.past c2.past (number_at c blocks copier) (number_of_copier c2 blocks2) copier.stands copier2
+      → Lowered true c blocks c2 blocks2 (at.Copies copier) (at.Copies copier2)
+  bits_further copier2 target (inl linked) = lowers_linked true c blocks c2 blocks2 (at.Copies copier) (at.Copies copier2) linked.0 linked.1 linked.2
+  bits_further copier2 target (inr own) =
       lowers_kept true c blocks c2 blocks2 own.0 (at.Copies copier) (at.Copies copier2) own.1
       (inr (ap (λ (x : ℕ). x - copier2.target.turn) own.0 ∙ ap (λ (x : Table). c.past - x.turn) target, inr (refl, own.2)))
+
+  bits_fall : (copier2 : Copier) → copier2.target ≡ copier.target → (told : Outcome (Node K V) Table)
+      → CopierOn c.past c2.past (number_at c blocks copier) (number_of_copier c2 blocks2) copier copier.stands (copier2, told) → CopyFalls true (copier2, told)
+  bits_fall copier2 target outcome.Goes falls = bits_further copier2 target falls
   bits_fall copier2 target (outcome.Done table) done = λ sum. done_falls true table sum done
   bits_fall copier2 target outcome.Waits on_it = tt
-  bits_fall copier2 target (outcome.Gave value) on_it = tt
+  bits_fall copier2 target (outcome.Gave value) falls = bits_further copier2 target falls
   bits_fall copier2 target (outcome.Refused fault) on_it = tt
 
   -- and in blocking mode
-  once_falls : (copier2 : Copier) (told : Outcome (Node K V) Table)
-      → CopierOn c.past c2.past (blocking_at c blocks copier) (number_of_copier_blocking c2 blocks2) copier copier.stands (copier2, told) → CopyFalls false (copier2, told)
-  once_falls copier2 outcome.Goes (inl linked) = lowers_linked false c blocks c2 blocks2 (at.Copies copier) (at.Copies copier2) linked.0 linked.1 linked.2
-  once_falls copier2 outcome.Goes (inr own) =
+  once_further : (copier2 : Copier) → FallsTo c.past c2.past (blocking_at c blocks copier) (number_of_copier_blocking c2 blocks2) copier.stands copier2
+      → Lowered false c blocks c2 blocks2 (at.Copies copier) (at.Copies copier2)
+  once_further copier2 (inl linked) = lowers_linked false c blocks c2 blocks2 (at.Copies copier) (at.Copies copier2) linked.0 linked.1 linked.2
+  once_further copier2 (inr own) =
       let f = targets_first c blocks copier copier.stands in
       let f2 = targets_first c2 blocks2 copier2 copier2.stands in
       lowers_kept false c blocks c2 blocks2 own.0 (at.Copies copier) (at.Copies copier2) own.1
       (with_first (targets c2 blocks2 copier2) (targets c blocks copier) (number_of_copier_blocking c2 blocks2 copier2) (number_of_copier_blocking c blocks copier) f2.0 f.0 f2.1 f.1 own.2)
+
+  once_falls : (copier2 : Copier) (told : Outcome (Node K V) Table)
+      → CopierOn c.past c2.past (blocking_at c blocks copier) (number_of_copier_blocking c2 blocks2) copier copier.stands (copier2, told) → CopyFalls false (copier2, told)
+  once_falls copier2 outcome.Goes falls = once_further copier2 falls
   once_falls copier2 (outcome.Done table) done = λ sum. done_falls false table sum done
   once_falls copier2 outcome.Waits on_it = tt
-  once_falls copier2 (outcome.Gave value) on_it = tt
+  once_falls copier2 (outcome.Gave value) falls = once_further copier2 falls
   once_falls copier2 (outcome.Refused fault) on_it = tt
 
   pub copies_fall : (b : Bool) → WholeStands setting m c blocks b copier → (end : Copier × Outcome (Node K V) Table) → Steps Took value_at m (copier_plan hash copier) m2 end → CopyFalls b end

@@ -49,6 +49,7 @@ use Rattle.papaya_falls.proofs.Kept.{keeps_still}
 use Rattle.papaya_falls.proofs.Stands.{IsBehind, NewTableStands}
 use Rattle.papaya_falls.proofs.Making.MakingBounds.{making_within, first_within}
 use Rattle.papaya_falls.proofs.Making.MakingOn.{MadeOn, made_on, sum_still}
+use Rattle.papaya_falls.specs.FallsWithin.{GoesFurther}
 use Rattle.papaya_falls.specs.Reserves.{planned_in_reserve, number_within, number_here, numbers_at, number_of_reserve}
 
 module _ {K : Type 0} (incremental : Bool) (c : Chart K) (blocks : Blocks) (c2 : Chart K) (blocks2 : Blocks) where
@@ -72,7 +73,7 @@ module _ {K V : Type 0} (same : K → K → Bool) (hash : K → ℕ) (setting : 
 
   -- where it goes on, the numbers are lower than where it stood
   abbrev pub Falls : Reserving → Reserve × Outcome (Node K V) Unit → Type 0
-  Falls spot to = to.1 ≡ outcome.Goes → IsBelow (number_of_reserve c2 blocks2 to.0) (numbers_at incremental c blocks spot)
+  Falls spot to = GoesFurther to.1 → IsBelow (number_of_reserve c2 blocks2 to.0) (numbers_at incremental c blocks spot)
 
   pub leads : (spot : Reserving) (to : Reserve × Outcome (Node K V) Unit) → end ≡ to → Falls spot to → Falls spot end
   leads spot to is f = subst (λ (x : Reserve × Outcome (Node K V) Unit). Falls spot x) (sym is) f
@@ -127,9 +128,9 @@ module _ {K V : Type 0} (same : K → K → Bool) (hash : K → ℕ) (setting : 
     where
       by : (long short : Bool)
           → Falls (at.Sums table sum) (if long then refusing p Capacity else (if short then (standing p (at.Follows table need), outcome.Goes) else (standing p at.Over, outcome.Done tt)))
-      by true short goes = absurd (cc goes)
+      by true short goes = absurd goes
       by false true goes = kept past (at.Sums table sum) (at.Follows table need) (omega arith) (inr (ap (λ (x : ℕ). x - table.turn) past, inl (omega arith)))
-      by false false goes = absurd (cc goes)
+      by false false goes = absurd goes
 
   sum_falls : (table : Table) (sum : Sum) (to : Sum × Progress ℕ) → c2.past ≡ c.past → Steps Took value_at m (sum_plan sum) m2 to → end ≡ summed p table to → Falls (at.Sums table sum) end
   sum_falls table sum (next, progress.Goes) past s is = leads (at.Sums table sum) _ is (λ goes.
@@ -142,9 +143,9 @@ module _ {K V : Type 0} (same : K → K → Bool) (hash : K → ℕ) (setting : 
       alone : (x y : ℕ) → IsBelow (x ∷ []) (y ∷ []) → IsBelow (one_of_eight (x ∷ [])) (one_of_eight (y ∷ []))
       alone x y (inl l) = inl l
       alone x y (inr h) = absurd h.1
-  sum_falls table sum (next, progress.Waits) past s is = leads (at.Sums table sum) _ is (λ goes. absurd (cc goes))
+  sum_falls table sum (next, progress.Waits) past s is = leads (at.Sums table sum) _ is (λ goes. absurd goes)
   sum_falls table sum (next, progress.Done count) past s is = compared_falls table sum (needed p.additional count) past is
-  sum_falls table sum (next, progress.Refused fault) past s is = leads (at.Sums table sum) _ is (λ goes. absurd (cc goes))
+  sum_falls table sum (next, progress.Refused fault) past s is = leads (at.Sums table sum) _ is (λ goes. absurd goes)
 
   -- of a making
   module _ (link : At) (turn : ℕ) (making : NewTable) where
@@ -158,23 +159,23 @@ module _ {K V : Type 0} (same : K → K → Bool) (hash : K → ℕ) (setting : 
     made_falls (next, progress.Goes) s on_it is = leads (at.Makes making) _ is (λ goes.
         kept on_it.0 (at.Makes making) (at.Makes next) on_it.1
         (inr (ap suc on_it.0, inr (refl, below_followed (number_of_new_table next) (number_of_new_table making) _ _ (lowers (next, progress.Goes) s refl)))))
-    made_falls (next, progress.Waits) s on_it is = leads (at.Makes making) _ is (λ goes. absurd (cc goes))
+    made_falls (next, progress.Waits) s on_it is = leads (at.Makes making) _ is (λ goes. absurd goes)
     made_falls (next, progress.Done table) s (inl linked) is = leads (at.Makes making) _ is (λ goes.
         lowers_linked incremental c blocks c2 blocks2 (at.Makes making) (counting p table).stands linked.0 linked.1 (omega arith))
     made_falls (next, progress.Done table) s (inr found) is = leads (at.Makes making) _ is (λ goes.
         kept found.0 (at.Makes making) (counting p table).stands (omega arith) (inl (let past = found.0 in omega (arith, past))))
-    made_falls (next, progress.Refused fault) s on_it is = leads (at.Makes making) _ is (λ goes. absurd (cc goes))
+    made_falls (next, progress.Refused fault) s on_it is = leads (at.Makes making) _ is (λ goes. absurd goes)
 
     grown_falls : (table : Table) (t : ℕ) → table.turn ≡ t → t < c.past → turn ≡ suc t → IsBehind link → (to : NewTable × Progress Table)
         → Steps Took value_at m (new_table_plan making) m2 to → Made to → end ≡ grown p table to → Falls (at.Grows table making) end
     grown_falls table t turn_is made_t next_turn behind (next, progress.Goes) s on_it is = leads (at.Grows table making) _ is (λ goes.
         kept on_it.0 (at.Grows table making) (at.Grows table next) on_it.1
         (inr (ap (λ (x : ℕ). x - table.turn) on_it.0, inr (refl, below_followed (number_of_new_table next) (number_of_new_table making) _ _ (lowers (next, progress.Goes) s refl)))))
-    grown_falls table t turn_is made_t next_turn behind (next, progress.Waits) s on_it is = leads (at.Grows table making) _ is (λ goes. absurd (cc goes))
+    grown_falls table t turn_is made_t next_turn behind (next, progress.Waits) s on_it is = leads (at.Grows table making) _ is (λ goes. absurd goes)
     grown_falls table t turn_is made_t next_turn behind (next, progress.Done new) s (inl linked) is = copies_linked (at.Grows table making) table new is linked.0 linked.1
     grown_falls table t turn_is made_t next_turn behind (next, progress.Done new) s (inr found) is = copies_kept (at.Grows table making) table new
         (let past = found.0 in let low = found.1 in let new_is = (found.2 behind).0 in omega (arith, past, low, new_is, next_turn, turn_is, made_t)) is found.0 (λ x l xs. inl l)
-    grown_falls table t turn_is made_t next_turn behind (next, progress.Refused fault) s on_it is = leads (at.Grows table making) _ is (λ goes. absurd (cc goes))
+    grown_falls table t turn_is made_t next_turn behind (next, progress.Refused fault) s on_it is = leads (at.Grows table making) _ is (λ goes. absurd goes)
 
   -- each such step
   pub reads_fall : Steps Took value_at m (plan_at hash p at.Reads) m2 end → Falls at.Reads end

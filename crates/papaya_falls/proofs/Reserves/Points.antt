@@ -1,5 +1,5 @@
 -- Each step of a reservation that is none of a row and goes on leads to lower numbers.
-use Rattle.std.proofs.Common.{◌≡◌, ℕ, Bool, sym, subst}
+use Rattle.std.proofs.Common.{ℕ, Bool, sym, subst}
 use Rattle.papaya_late.specs.Given.SeizeWords.Mem.{Mem, Took, value_at}
 use Rattle.papaya_late.specs.Given.SeizeWords.Plan.{Steps}
 use Rattle.papaya_late.proofs.Given.SeizeRule.Rows.Leaving.{steps_back}
@@ -20,6 +20,7 @@ use Rattle.papaya_late.specs.Given.Rule.Chart.{Chart}
 use Rattle.papaya_late.specs.Given.Rule.Words.{Blocks}
 use Rattle.papaya_late.specs.Given.Points.Measures.{IsBelow}
 use Rattle.papaya_late.specs.ToldReserves.{IsRowOfReserve}
+use Rattle.papaya_falls.specs.FallsWithin.{GoesFurther}
 use Rattle.papaya_falls.specs.Reserves.{number_of_reserve}
 use Rattle.papaya_falls.proofs.Onward.{Onward}
 use Rattle.papaya_falls.proofs.Reserves.CopiesLower.{CopyFalls, copies_fall}
@@ -36,10 +37,10 @@ module _ {K V : Type 0} (same : K → K → Bool) (hash : K → ℕ) (setting : 
     copied_falls : (copier : Copier) (none : IsRowOfReserve (at.Copies copier) → ⊥) (to : Copier × Outcome (Node K V) Table)
         → CopyFalls same hash setting m c blocks m2 c2 blocks2 on copier none (is_incremental p.setting.mode) to → FallsFrom (at.Copies copier) (copied p to)
     copied_falls copier none (next, outcome.Goes) falls goes = falls
-    copied_falls copier none (next, outcome.Waits) falls goes = absurd (cc goes)
-    copied_falls copier none (next, outcome.Gave value) falls goes = absurd (cc goes)
+    copied_falls copier none (next, outcome.Waits) falls goes = absurd goes
+    copied_falls copier none (next, outcome.Gave value) falls goes = falls
     copied_falls copier none (next, outcome.Done root) falls goes = falls (summing p.setting)
-    copied_falls copier none (next, outcome.Refused fault) falls goes = absurd (cc goes)
+    copied_falls copier none (next, outcome.Refused fault) falls goes = absurd goes
 
     on_at : (spot : Reserving) → ReservingStands setting m c blocks (is_incremental p.setting.mode) spot → (IsRowOfReserve spot → ⊥) → Steps Took value_at m (plan_at hash p spot) m2 end
         → FallsFrom spot end
@@ -52,9 +53,9 @@ module _ {K V : Type 0} (same : K → K → Bool) (hash : K → ℕ) (setting : 
         let b = steps_back (copied p) m m2 (copier_plan hash copier) end s in
         subst (λ (x : Reserve × Outcome (Node K V) Unit). FallsFrom (at.Copies copier) x) (sym b.2)
         (copied_falls copier none b.0 (copies_fall same hash setting m c blocks m2 c2 blocks2 on copier none (is_incremental p.setting.mode) f b.0 b.1))
-    on_at at.Over f none s = leads same hash setting m c blocks m2 c2 blocks2 on p end at.Over _ s.1 (λ goes. absurd (cc goes))
-    on_at (at.Refused fault) f none s = leads same hash setting m c blocks m2 c2 blocks2 on p end (at.Refused fault) _ s.1 (λ goes. absurd (cc goes))
+    on_at at.Over f none s = leads same hash setting m c blocks m2 c2 blocks2 on p end at.Over _ s.1 (λ goes. absurd goes)
+    on_at (at.Refused fault) f none s = leads same hash setting m c blocks m2 c2 blocks2 on p end (at.Refused fault) _ s.1 (λ goes. absurd goes)
 
   pub reserved_on : ReserveStands setting m c blocks p → (IsRowOfReserve p.stands → ⊥) → (end : Reserve × Outcome (Node K V) Unit) → Steps Took value_at m (reserve_plan hash p) m2 end
-      → end.1 ≡ outcome.Goes → IsBelow (number_of_reserve c2 blocks2 end.0) (number_of_reserve c blocks p)
+      → GoesFurther end.1 → IsBelow (number_of_reserve c2 blocks2 end.0) (number_of_reserve c blocks p)
   reserved_on f none end s = on_at end p.stands f none s

@@ -1,6 +1,5 @@
 -- What is promised of the number of a reservation.
-use Rattle.std.proofs.Common.{ℕ, Bool, refl}
-use Rattle.papaya_late.specs.Given.Resize.declared.outcome.Outcome.TheVariants.{Goes}
+use Rattle.std.proofs.Common.{ℕ, Bool}
 use Rattle.papaya_falls.specs.FallsReserves.{ReservesFall, LateReservesFall}
 use Rattle.papaya_falls.proofs.Led.{onward}
 use Rattle.papaya_falls.proofs.Reserves.Points.{reserved_on}
@@ -8,11 +7,11 @@ use Rattle.papaya_falls.proofs.Reserves.Stands.{reserve_stands, late_reserve_sta
 
 module _ {K : Type 0} (V : Type 0) (same : K → K → Bool) (hash : K → ℕ) where
   pub reserves_fall : ReservesFall V same hash
-  reserves_fall are setting w caller c blocks p map facts none m2 p2 s went =
+  reserves_fall are setting w caller c blocks p map facts none m2 end s goes went =
       reserved_on same hash setting w.memory c blocks m2 went.c2 went.blocks2 (onward same hash are.lawful setting w caller c blocks map m2 went) p
-      (reserve_stands same hash w caller setting c blocks p facts) none (p2, Goes) s refl
+      (reserve_stands same hash w caller setting c blocks p facts) none end s goes
 
   pub late_reserves_fall : LateReservesFall V same hash
-  late_reserves_fall are setting w caller c blocks began p map facts none m2 p2 s went =
+  late_reserves_fall are setting w caller c blocks began p map facts none m2 end s goes went =
       reserved_on same hash setting w.memory c blocks m2 went.c2 went.blocks2 (onward same hash are.lawful setting w caller c blocks map m2 went) p
-      (late_reserve_stands same hash w caller setting c blocks began p facts) none (p2, Goes) s refl
+      (late_reserve_stands same hash w caller setting c blocks began p facts) none end s goes

@@ -15,7 +15,6 @@ use Rattle.papaya_late.specs.Given.Resize.CopierStates as copying
 use Rattle.papaya_late.specs.Given.Resize.declared.copier.Copier.{Copier}
 use Rattle.papaya_late.specs.Given.Resize.declared.copier.Copying.TheVariants as copies
 use Rattle.papaya_late.specs.Given.Resize.declared.outcome.Outcome.{Outcome}
-use Rattle.papaya_late.specs.Given.Resize.declared.outcome.Outcome.TheVariants as outcome
 use Rattle.papaya_late.specs.Given.Reserves.Reserve.{copied, plan_at}
 use Rattle.papaya_late.specs.Given.Reserves.declared.reserve.Reserve.{Reserve}
 use Rattle.papaya_late.specs.Given.Reserves.declared.reserve.Reserving.{Reserving}
@@ -27,6 +26,7 @@ use Rattle.papaya_late.specs.Given.Points.Told.{IsRowOfCopier}
 use Rattle.papaya_late.specs.ToldReserves.{IsRowOfReserve}
 use Rattle.papaya_falls.specs.Reserves.{numbers_at, number_of_reserve}
 use Rattle.papaya_falls.specs.FallsReserves.{ReserveRowsFall}
+use Rattle.papaya_falls.specs.FallsWithin.{GoesFurther}
 use Rattle.papaya_falls.proofs.Copiers.Rows.{in_row, retires_back}
 use Rattle.papaya_falls.proofs.Reserves.CopiesLower.{retired_lowers}
 
@@ -45,7 +45,7 @@ module _ {K V : Type 0} (hash : K → ℕ) (p : Reserve) (m m2 : Mem (Node K V))
   -- it is in the row still, and its number is what it was, or the row is over, and it is lower
   abbrev Goal : Reserving → Reserve × Outcome (Node K V) Unit → Type 0
   Goal spot end =
-      end.1 ≡ outcome.Goes
+      GoesFurther end.1
       → ((IsRowOfReserve end.0.stands) × (number_of_reserve c blocks end.0 ≡ numbers spot)) ⊎ ((IsRowOfReserve end.0.stands → ⊥) × IsBelow (number_of_reserve c blocks end.0) (numbers spot))
 
   -- its copier retires a table: it does so still, or it goes on with the next one
@@ -55,8 +55,8 @@ module _ {K V : Type 0} (hash : K → ℕ) (p : Reserve) (m m2 : Mem (Node K V))
 
     copies_on : (inner : Settle × Settled (Node K V)) → Goal (at.Copies retiring) (copied p (retired retiring rest inner))
     copies_on (next, settled.Goes) goes = inl (tt, refl)
-    copies_on (next, settled.Waits) goes = absurd (cc goes)
-    copies_on (next, settled.Gave value) goes = absurd (cc goes)
+    copies_on (next, settled.Waits) goes = absurd goes
+    copies_on (next, settled.Gave value) goes = inl (tt, refl)
     copies_on (next, settled.Done) goes = inr (none_over retiring rest, retired_lowers (is_incremental p.setting.mode) c blocks retiring settle settle rest refl)
 
   on_at : (spot : Reserving) → IsRowOfReserve spot → (end : Reserve × Outcome (Node K V) Unit) → Steps Took value_at m (plan_at hash p spot) m2 end → Goal spot end
@@ -69,4 +69,4 @@ module _ {K V : Type 0} (hash : K → ℕ) (p : Reserve) (m m2 : Mem (Node K V))
   on_at _ row end s = absurd row
 
 pub reserve_rows_fall : {K V : Type 0} → ReserveRowsFall K V
-reserve_rows_fall hash p p2 row m m2 s c blocks = on_at hash p m m2 c blocks p.stands row (p2, outcome.Goes) s refl
+reserve_rows_fall hash p row m m2 end s goes c blocks = on_at hash p m m2 c blocks p.stands row end s goes

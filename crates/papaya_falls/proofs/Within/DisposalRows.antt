@@ -22,22 +22,28 @@ use Rattle.papaya_late.specs.Given.Rule.Words.{Blocks}
 use Rattle.papaya_late.specs.Given.Points.MeasuresDisposes.{number_at_disposing, number_of_dispose}
 use Rattle.papaya_late.specs.Given.Points.Told.{IsRowOf}
 
+-- what a row tells that goes on, and may have handed out what it reclaimed
+abbrev pub RowGoesFurther : {T : Type 0} → Settled T → Type 0
+RowGoesFurther settled.Goes = Unit {0}
+RowGoesFurther (settled.Gave value) = Unit {0}
+RowGoesFurther _ = ⊥
+
 module _ {K V : Type 0} (m m2 : Mem (Node K V)) (d : Dispose) where
   -- where it goes on, it is in the row
   abbrev pub StaysInRow : Dispose × Settled (Node K V) → Type 0
-  StaysInRow end = end.1 ≡ settled.Goes → IsRowOf end.0.stands
+  StaysInRow end = RowGoesFurther end.1 → IsRowOf end.0.stands
 
   settles_on : (inner : Settle × Settled (Node K V)) → StaysInRow (settled_on d inner)
   settles_on (next, settled.Goes) goes = tt
-  settles_on (next, settled.Waits) goes = absurd (cc goes)
-  settles_on (next, settled.Gave value) goes = absurd (cc goes)
-  settles_on (next, settled.Done) goes = absurd (cc goes)
+  settles_on (next, settled.Waits) goes = absurd goes
+  settles_on (next, settled.Gave value) goes = tt
+  settles_on (next, settled.Done) goes = absurd goes
 
   defers_on : (inner : Defer × Progress Unit) → StaysInRow (deferred_on d inner)
   defers_on (next, progress.Goes) goes = tt
-  defers_on (next, progress.Waits) goes = absurd (cc goes)
-  defers_on (next, progress.Done end) goes = absurd (cc goes)
-  defers_on (next, progress.Refused fault) goes = absurd (cc goes)
+  defers_on (next, progress.Waits) goes = absurd goes
+  defers_on (next, progress.Done end) goes = absurd goes
+  defers_on (next, progress.Refused fault) goes = absurd goes
 
   stays_at : (stands : Disposing) → IsRowOf stands → (end : Dispose × Settled (Node K V)) → Steps Took value_at m (plan_at d stands) m2 end → StaysInRow end
   stays_at (at.Settles settle) row end s =

@@ -7,7 +7,6 @@ use Rattle.papaya_late.specs.Given.SeizeWords.Plan.{Steps}
 use Rattle.papaya_late.proofs.Given.SeizeWords.OneOwner.Operations.{loaded}
 use Rattle.papaya_late.proofs.Given.SeizeWords.Plans.{ends_if}
 use Rattle.papaya_late.specs.Given.Seize.declared.rows.settle.Settled.{Settled}
-use Rattle.papaya_late.specs.Given.Seize.declared.rows.settle.Settled.TheVariants as settled
 use Rattle.papaya_late.specs.Given.Tables.Nodes.{table_seen}
 use Rattle.papaya_late.specs.Given.Tables.declared.node.Node.{Node}
 use Rattle.papaya_late.specs.Given.Tables.declared.setting.Setting.{Setting}
@@ -26,12 +25,13 @@ use Rattle.papaya_late.specs.Given.Points.MeasuresDisposes.{turn_of, number_at_d
 use Rattle.papaya_late.specs.Given.Points.Told.{IsRowOf}
 use Rattle.papaya_falls.proofs.Onward.{Onward, grows, known_on, link_behind}
 use Rattle.papaya_falls.proofs.Stands.{DisposingStands}
+use Rattle.papaya_falls.proofs.Within.DisposalRows.{RowGoesFurther}
 
 module _ {K V : Type 0} (same : K → K → Bool) (hash : K → ℕ) (setting : Setting) (m : Mem (Node K V)) (c : Chart K) (blocks : Blocks) (m2 : Mem (Node K V)) (c2 : Chart K) (blocks2 : Blocks)
     (on : Onward same hash setting m c blocks m2 c2 blocks2) (d : Dispose) (t : ℕ) (own : IsTable c blocks d.table t) where
   -- if it goes on, its number is lower
   abbrev Lowers : Disposing → Dispose × Settled (Node K V) → Type 0
-  Lowers stands end = end.1 ≡ settled.Goes → IsBelow (number_of_dispose c2 blocks2 end.0) (number_at_disposing c blocks d.table.turn stands)
+  Lowers stands end = RowGoesFurther end.1 → IsBelow (number_of_dispose c2 blocks2 end.0) (number_at_disposing c blocks d.table.turn stands)
 
   by_end : (stands : Disposing) (end e : Dispose × Settled (Node K V)) → end ≡ e → Lowers stands e → Lowers stands end
   by_end stands end e is = subst (λ x. Lowers stands x) (sym is)
@@ -53,7 +53,7 @@ module _ {K V : Type 0} (same : K → K → Bool) (hash : K → ℕ) (setting : 
       → Steps Took value_at m (plan_at d stands) m2 end → Lowers stands end
   on_at (at.Settles settle) facts none end s = absurd (none tt)
   on_at (at.Defers defer) facts none end s = absurd (none tt)
-  on_at at.Over facts none end s = by_end at.Over end _ s.1 (λ goes. absurd (cc goes))
+  on_at at.Over facts none end s = by_end at.Over end _ s.1 (λ goes. absurd goes)
   on_at at.Reads facts none end s =
       let r = loaded m (root_read d) (Root d.setting.root) m2 end s in
       elim (ends_if (value_at m) (nat_lt (table_seen r.0 r.3.0).turn d.table.turn) (goes d (at.Walks r.0)) (goes d (retires d.setting d.pair)) end r.3.2) as (λ _. Lowers at.Reads end) [
@@ -73,7 +73,7 @@ module _ {K V : Type 0} (same : K → K → Bool) (hash : K → ℕ) (setting : 
       ]
 
   pub disposed_on : DisposingStands setting m c blocks t d.stands → (IsRowOf d.stands → ⊥) → (end : Dispose × Settled (Node K V)) → Steps Took value_at m (dispose_plan d) m2 end
-      → end.1 ≡ settled.Goes → IsBelow (number_of_dispose c2 blocks2 end.0) (number_of_dispose c blocks d)
+      → RowGoesFurther end.1 → IsBelow (number_of_dispose c2 blocks2 end.0) (number_of_dispose c blocks d)
   disposed_on facts none end s = on_at d.stands facts none end s
 
 -- such a step writes nothing

@@ -1,6 +1,6 @@
 -- Whatever happens, where a copier makes a table its map has a second table, or had one at a moment since the call began.
-use Rattle.std.specs.Prelude.{◌≡◌, ◌≢◌, ◌<◌, ◌≤◌, ◌+◌, ◌==◌, ℕ, Bool, true, false, cond, not, List, ◌∷◌, find, length, map as list_map, Option, Some, if◌then◌else◌}
-use Rattle.std.proofs.Common.{refl, ap, sym, subst, ◌∙◌, arith, inl, inr}
+use Rattle.std.specs.Prelude.{◌≡◌, ◌<◌, ◌≤◌, ◌==◌, ℕ, Bool, true, List, ◌∷◌, find, length, Option, Some}
+use Rattle.std.proofs.Common.{ap, sym, subst, inl, inr}
 use Rattle.papaya_histories.specs.Given.SeizeWords.Mem.{Mem, word_at}
 use Rattle.papaya_histories.specs.Given.SeizeWords.Plan.{Do, Now, Plan, Seeing, Sure, Then, Turn}
 use Rattle.papaya_histories.specs.Given.Tables.TablePlaces.{at_word}
@@ -13,17 +13,15 @@ use Rattle.papaya_histories.specs.Given.Raw.Machine.{machine_asked, machine_plan
 use Rattle.papaya_histories.specs.Given.Raw.declared.machines.asking.Reply.{Reply as MachineReply}
 use Rattle.papaya_histories.specs.Given.Raw.declared.machines.machine.Machine.{Machine}
 use Rattle.papaya_histories.specs.Given.Raw.declared.machines.progress.Progress.{Progress}
-use Rattle.papaya_histories.specs.Given.Runs.Same.{is_same}
 use Rattle.papaya_histories.specs.Given.Schedules.declared.call.Call.{Call}
 use Rattle.papaya_histories.specs.Given.Schedules.declared.call.Reply.{Reply}
 use Rattle.papaya_histories.specs.Given.Schedules.declared.effect.Effect.{Effect}
 use Rattle.papaya_histories.specs.Given.Schedules.declared.outcome.Outcome.{Outcome}
-use Rattle.papaya_histories.specs.Given.Schedules.After.{moment, replied, without_call}
-use Rattle.papaya_histories.specs.Given.Schedules.Beginning.{fresh_call, with_call}
+use Rattle.papaya_histories.specs.Given.Schedules.After.{moment}
+use Rattle.papaya_histories.specs.Given.Schedules.Beginning.{with_call}
 use Rattle.papaya_histories.specs.Given.Schedules.Effects.{with_effects}
 use Rattle.papaya_histories.specs.Given.Schedules.Entry.{Entry, ends_call}
 use Rattle.papaya_histories.specs.Given.Schedules.Growing.{HasNext}
-use Rattle.papaya_histories.specs.Given.Schedules.Lists.{OneOf}
 use Rattle.papaya_histories.specs.Given.Schedules.Moment.{MapThere, Moment, TableThere, UnderWay as CallThere}
 use Rattle.papaya_histories.specs.Given.Schedules.Views.{call_of, first_of, first_or, map_at}
 use Rattle.papaya_histories.specs.Given.Teller.declared.changed.Changed.{Changed}
@@ -38,32 +36,24 @@ use Rattle.papaya_histories.specs.Given.Executor.IsAt.{IsAt, Scene}
 use Rattle.papaya_histories.specs.Given.Executor.Replying.{scene_with, unless_stopped}
 use Rattle.papaya_histories.specs.Given.Executor.Stepping.{StepLeads, scene_after}
 use Rattle.papaya_histories.specs.Given.Executor.declared.executor.Executor.{Executor}
-use Rattle.papaya_histories.proofs.Given.Executor.Changed.{standing_is}
 use Rattle.papaya_histories.proofs.Given.Executor.Forgotten.{as_step}
 use Rattle.papaya_histories.specs.Given.Finishes.Machines.{machine_of}
 use Rattle.papaya_histories.specs.Given.Finishes.Maps.{Standing, with_call as with_in}
 use Rattle.papaya_histories.specs.Given.Follows.Calling.{NoneNamed, come_to, told}
 use Rattle.papaya_histories.specs.Given.Follows.Calls.{ShowsCalls as IsThere}
-use Rattle.papaya_histories.proofs.Given.Follows.Calling.{apart_back, come, come_of_same, found_kept, replied_same}
-use Rattle.papaya_histories.proofs.Given.Follows.Calls.{found}
-use Rattle.papaya_histories.proofs.Given.Follows.Steps.{WentTo, one_of, went_to}
-use Rattle.papaya_histories.proofs.Given.Hands.Asking.{which}
-use Rattle.papaya_histories.proofs.Given.Hands.Calling.{caller_is}
+use Rattle.papaya_histories.proofs.Given.Follows.Steps.{WentTo, went_to}
 use Rattle.papaya_histories.specs.Given.Others.Walks.{given_up}
 use Rattle.papaya_histories.specs.Given.Moments.Whole.{ShowsWhole}
-use Rattle.papaya_histories.proofs.Begun.{comes_begun, effects_begun, if_begun, replied_begun}
-use Rattle.papaya_histories.proofs.Logs.{last_there, moments_grow}
-use Rattle.papaya_owes.proofs.Calls.{goes_as_one}
 use Rattle.papaya_finds.proofs.CopiersNext.{second_there}
 use Rattle.papaya_grows.specs.Further.{MachineMakes}
-use Rattle.papaya_grows.specs.Nexts.{HadNext, MayFollow, OthersHadNext, ShowsNexts}
-use Rattle.papaya_grows.proofs.Finding.Between.{fewer_calls}
+use Rattle.papaya_grows.specs.Nexts.{MayFollow, OthersHadNext, ShowsNexts}
 use Rattle.papaya_grows.proofs.Finding.Making.Ahead.{IsFollowed, begins_ahead}
 use Rattle.papaya_grows.proofs.Finding.Making.Between.{none_made}
 use Rattle.papaya_grows.proofs.Finding.Making.Machines.{Ends, asked_makes, machine_makes, reply_makes}
 use Rattle.papaya_grows.proofs.Finding.Making.OffRoot.{HasCopier, NoTable, machine_none, machine_off}
 use Rattle.papaya_grows.proofs.Finding.Making.Such.{machine_more}
 use Rattle.papaya_grows.proofs.Finding.Making.Unpromoted.{OffRoot, effects_keep_next, many_from, off_promotes_none}
+use Rattle.papaya_grows.proofs.Since as since
 
 -- A map has a second table where it is there with the same root, and the same tables.
 
@@ -74,143 +64,65 @@ next_where m v tables n there next =
 pub next_same : {K V : Type 0} (m v : Moment K V) → v.maps ≡ m.maps → v.tables ≡ m.tables → (n : ℕ) → HasNext n m → HasNext n v
 next_same m v maps tables n next = next_where m v tables n (ap (λ (fs : List MapThere). find (λ f. f.number == n) fs) maps) next
 
--- a call is found as it was, where calls are the same
-found_same : {K V : Type 0} (m v : Moment K V) → v.calls ≡ m.calls → (own : List ℕ) (d : CallThere K V) → call_of own v ≡ Some d → call_of own m ≡ Some d
-found_same {K} {V} m v calls own d is = ap (λ (l : List (CallThere K V)). find (λ y. is_same y.caller own) l) (sym calls) ∙ is
+-- What is so of each machine: where its copier makes a table, whatever follows from its map.
+module _ (K V : Type 0) where
+  abbrev Of : Type 0 → Machine K V K → Type 0
+  Of Why machine = MachineMakes (λ (k : NewTable). Why) machine
 
-module _ {K V : Type 0} (log : List (Entry K V)) (m v : Moment K V) where
-  -- so it is of the same machine, on a map that has a second table still, and of a call that began with the same event
-  moved : (n n2 b b2 : ℕ) (machine machine2 : Machine K V K) → n2 ≡ n → b2 ≡ b → machine2 ≡ machine → (HasNext n m → HasNext n v) → MachineMakes (λ (k : NewTable). MayFollow n b log m) machine
-      → MachineMakes (λ (k : NewTable). MayFollow n2 b2 log v) machine2
-  moved n n2 b b2 machine machine2 same_map begun same_machine keeps makes =
-      subst (λ (q : ℕ). MachineMakes (λ (k : NewTable). MayFollow q b2 log v) machine2) (sym same_map)
-      (subst (λ (q : ℕ). MachineMakes (λ (k : NewTable). MayFollow n q log v) machine2) (sym begun)
-      (subst (λ (q : Machine K V K). MachineMakes (λ (k : NewTable). MayFollow n b log v) q) (sym same_machine)
-      (machine_more (λ (k : NewTable). MayFollow n b log m) (λ (k : NewTable). MayFollow n b log v) (λ k so. follow so) machine makes)))
-    where
-      follow : MayFollow n b log m → MayFollow n b log v
-      follow (inl had) = inl had
-      follow (inr now) = inr (keeps now)
+  more : (A B : Type 0) → (A → B) → (machine : Machine K V K) → Of A machine → Of B machine
+  more A B leads machine makes = machine_more (λ (k : NewTable). A) (λ (k : NewTable). B) (λ k so. leads so) machine makes
 
-module _ {K V : Type 0} (name : ℕ → List ℕ) (log : List (Entry K V)) (m v : Moment K V) (s t : Scene K V) (nexts : ShowsNexts name log m s) where
-  -- where calls are as they were, or are under way no more
-  pub nexts_stay : ((n : ℕ) → HasNext n m → HasNext n v) → ((n j : ℕ) (x : UnderWay K V K) → t.calls n j ≡ Some x → s.calls n j ≡ Some x)
-      → ((n j : ℕ) (x : UnderWay K V K) → t.calls n j ≡ Some x → (d : CallThere K V) → call_of (name j) v ≡ Some d → (c : CallThere K V) × (call_of (name j) m ≡ Some c) × (d.begun ≡ c.begun)) → ShowsNexts name log v t
-  nexts_stay keeps was calls n j x is d d_is =
-      let c = calls n j x is d d_is in moved log m v n n c.0.begun d.begun (machine_of x) (machine_of x) refl c.2 refl (keeps n) (nexts n j x (was n j x is) c.0 c.1)
+  replies : (A : Type 0) (machine : Machine K V K) (reply : MachineReply V) → Of A machine → Of A (machine_replied machine reply).0
+  replies A machine reply makes = reply_makes (λ (k : NewTable). A) K V K machine reply makes
 
-  pub nexts_alike : v.calls ≡ m.calls → ((n : ℕ) → HasNext n m → HasNext n v) → ((n j : ℕ) (x : UnderWay K V K) → t.calls n j ≡ Some x → s.calls n j ≡ Some x) → ShowsNexts name log v t
-  nexts_alike calls keeps was = nexts_stay keeps was (λ n j x is d d_is. (d, found_same m v calls (name j) d d_is, refl))
+  asked : (A : Type 0) (machine : Machine K V K) → Of A machine → Of A (machine_asked machine).0
+  asked A machine makes = asked_makes (λ (k : NewTable). A) K V K machine makes
+
+  abbrev So : ℕ → Moment K V → Type 0
+  So map m = HasNext map m
+
+-- where calls are as they were, or are under way no more
+pub nexts_alike : {K V : Type 0} (name : ℕ → List ℕ) (log : List (Entry K V)) (m v : Moment K V) (s t : Scene K V) → ShowsNexts name log m s → v.calls ≡ m.calls → ((n : ℕ) → HasNext n m → HasNext n v)
+    → ((n j : ℕ) (x : UnderWay K V K) → t.calls n j ≡ Some x → s.calls n j ≡ Some x) → ShowsNexts name log v t
+nexts_alike {K} {V} name log m v s t nexts calls keeps was = since.so_alike (Of K V) (more K V) (replies K V) (asked K V) (So K V) next_where name log m v s t nexts calls keeps was
 
 -- at a moment with other maps, where those that stand are found as they were
 pub nexts_where : {K V S : Type 0} (same : K → K → Bool) (hash : K → ℕ) (name : ℕ → List ℕ) (log : List (Entry K V)) (m v : Moment K V) (s : Scene K V) (e : Executor K V S) → IsAt same hash e s → ShowsNexts name log m s
     → ((n : ℕ) (st : Standing K) → s.maps n ≡ Some st → map_at n v ≡ map_at n m) → v.tables ≡ m.tables → v.calls ≡ m.calls → ShowsNexts name log v s
-nexts_where same hash name log m v s e at nexts still tables calls n j x is d d_is =
-    let st = standing_is same hash e s at n j x is in
-    moved log m v n n d.begun d.begun (machine_of x) (machine_of x) refl refl refl (next_where m v tables n (still n st.0 st.1)) (nexts n j x is d (found_same m v calls (name j) d d_is))
+nexts_where {K} {V} same hash name log m v s e at nexts still tables calls =
+    since.so_where_found (Of K V) (more K V) (replies K V) (asked K V) (So K V) next_where same hash name log m v s e at nexts still tables calls
 
 -- with a further event of the log
 pub nexts_grow : {K V : Type 0} (name : ℕ → List ℕ) (log : List (Entry K V)) (e : Entry K V) (m : Moment K V) (s : Scene K V)
     → ((map i : ℕ) (u : UnderWay K V K) → s.calls map i ≡ Some u → (c : CallThere K V) → call_of (name i) m ≡ Some c → c.begun ≤ length log) → ShowsNexts name log m s → ShowsNexts name (e ∷ log) m s
-nexts_grow name log e m s begun nexts n j x is c c_is =
-    machine_more (λ (k : NewTable). MayFollow n c.begun log m) (λ (k : NewTable). MayFollow n c.begun (e ∷ log) m) (λ k so. follow so) (machine_of x) (nexts n j x is c c_is)
-  where
-    follow : MayFollow n c.begun log m → MayFollow n c.begun (e ∷ log) m
-    follow (inl had) = inl (subst (OneOf (HasNext n)) (sym (moments_grow c.begun e log (let b = begun n j x is c c_is in omega (arith, b)))) (inr had))
-    follow (inr now) = inr now
+nexts_grow {K} {V} name log e m s begun nexts = since.so_grow (Of K V) (more K V) (replies K V) (asked K V) (So K V) next_where name log e m s begun nexts
 
 -- Where a call begins, is told, is asked for its next pair, or is given up.
 
 module _ {K V : Type 0} (same : K → K → Bool) (name : ℕ → List ℕ) (log : List (Entry K V)) (m : Moment K V) (s : Scene K V) (nexts : ShowsNexts name log m s) (map i : ℕ) (u : UnderWay K V K) where
   pub calls_begin_nexts : (guard : List ℕ) (its : Call K V) (standing : Standing K) → Begins same standing i u → NoneNamed name (name i) s
       → ShowsNexts name log (with_call (name i) guard its (Some map) m) (scene_with map i u s)
-  calls_begin_nexts guard its standing begins apart n j x is d d_is =
-      elim (which s.calls map i (Some u) n j x is) as (λ _. MachineMakes (λ (k : NewTable). MayFollow n d.begun log (with_call (name i) guard its (Some map) m)) (machine_of x)) [
-        | inl own ↦
-            subst (λ (z : UnderWay K V K). MachineMakes (λ (k : NewTable). MayFollow n d.begun log (with_call (name i) guard its (Some map) m)) (machine_of z)) (one_of u x own.2)
-            (none_made (λ (k : NewTable). MayFollow n d.begun log (with_call (name i) guard its (Some map) m)) same standing i u begins)
-        | inr was ↦ nexts n j x was.1 d (found_now j (apart n j x was.1) d d_is)
-      ]
-    where
-      found_now : (j : ℕ) → is_same (name i) (name j) ≡ false → (d : CallThere K V) → call_of (name j) (with_call (name i) guard its (Some map) m) ≡ Some d → call_of (name j) m ≡ Some d
-      found_now j e d d_is = sym (ap (λ (z : Bool). cond z (Some (fresh_call (name i) guard its map m.events)) (find (λ c. is_same c.caller (name j)) m.calls)) e) ∙ d_is
+  calls_begin_nexts guard its standing begins apart =
+      since.calls_begin_so (Of K V) (more K V) (replies K V) (asked K V) (So K V) next_where same name log m s nexts map i u guard its (λ Why. none_made (λ (k : NewTable). Why) same standing i u begins) apart
 
   module _ (here : s.calls map i ≡ Some u) (shown : IsThere same name m s.calls) (next : UnderWay K V K) where
     pub calls_take_nexts : (reply : Reply V) (machine_reply : MachineReply V) → machine_of next ≡ (machine_replied (machine_of u) machine_reply).0 → ShowsNexts name log (told (name i) reply m) (scene_with map i next s)
-    calls_take_nexts reply machine_reply next_is n j x is d d_is =
-        elim (which s.calls map i (Some next) n j x is) as (λ _. MachineMakes (λ (k : NewTable). MayFollow n d.begun log (told (name i) reply m)) (machine_of x)) [
-          | inl own ↦
-              (let c = shown map i u here in
-              moved log m (told (name i) reply m) map n c.0.begun d.begun (machine_replied (machine_of u) machine_reply).0 (machine_of x) own.0
-              (begun_same j d c.0 (ap (λ (k : ℕ). call_of (name k) m) own.1 ∙ c.1) d_is) (ap (λ (z : UnderWay K V K). machine_of z) (sym (one_of next x own.2)) ∙ next_is) (λ has. has)
-              (reply_makes (λ (k : NewTable). MayFollow map c.0.begun log m) K V K (machine_of u) machine_reply (nexts map i u here c.0 c.1)))
-          | inr was ↦
-              (let c = shown n j x was.1 in
-              moved log m (told (name i) reply m) n n c.0.begun d.begun (machine_of x) (machine_of x) refl (begun_same j d c.0 c.1 d_is) refl (λ has. has) (nexts n j x was.1 c.0 c.1))
-        ]
-      where
-        tells : CallThere K V → CallThere K V
-        tells y = replied reply y y.stands
-
-        begun_same : (j : ℕ) (d b : CallThere K V) → call_of (name j) m ≡ Some b → call_of (name j) (told (name i) reply m) ≡ Some d → d.begun ≡ b.begun
-        begun_same j d b b_is d_is =
-            let one : d ≡ (if is_same b.caller (name i) then tells b else b) =
-            one_of d (if is_same b.caller (name i) then tells b else b) (sym d_is ∙ found tells (λ y. replied_same reply y y.stands) (name i) (name j) m.calls b b_is) in
-            ap (λ (y : CallThere K V). y.begun) one ∙ if_begun tells (λ y. replied_begun reply y y.stands) b (is_same b.caller (name i))
+    calls_take_nexts reply machine_reply next_is = since.calls_take_so (Of K V) (more K V) (replies K V) (asked K V) (So K V) next_where same name log m s nexts map i u here shown next reply machine_reply next_is
 
     pub walks_go_on_nexts : machine_of next ≡ (machine_asked (machine_of u)).0 → ShowsNexts name log m (scene_with map i next s)
-    walks_go_on_nexts next_is n j x is d d_is = elim (which s.calls map i (Some next) n j x is) as (λ _. MachineMakes (λ (k : NewTable). MayFollow n d.begun log m) (machine_of x)) [
-      | inl own ↦
-          moved log m m map n d.begun d.begun (machine_asked (machine_of u)).0 (machine_of x) own.0 refl (ap (λ (z : UnderWay K V K). machine_of z) (sym (one_of next x own.2)) ∙ next_is) (λ has. has)
-          (asked_makes (λ (k : NewTable). MayFollow map d.begun log m) K V K (machine_of u) (nexts map i u here d (ap (λ (k : ℕ). call_of (name k) m) (sym own.1) ∙ d_is)))
-      | inr was ↦ nexts n j x was.1 d d_is
-    ]
+    walks_go_on_nexts next_is = since.walks_go_on_so (Of K V) (more K V) (replies K V) (asked K V) (So K V) next_where same name log m s nexts map i u here shown next next_is
 
     abbrev at_end : Bool → Scene K V
     at_end q = record s { calls = with_in s.calls map i (unless_stopped q u) }
 
     pub walks_stop_nexts : (q : Bool) → (q ≡ true → NoneNamed name (name i) (at_end q)) → ShowsNexts name log (given_up (name i) q m) (at_end q)
-    walks_stop_nexts false none n j x is d d_is = nexts n j x (fewer_calls s map i u here false n j x is) d d_is
-    walks_stop_nexts true none n j x is d d_is = nexts n j x (fewer_calls s map i u here true n j x is) d found_there
-      where
-        found_there : call_of (name j) m ≡ Some d
-        found_there =
-            let had = shown n j x (fewer_calls s map i u here true n j x is) in
-            let named = caller_is (name j) m had.0 had.1 in
-            let kept : not (is_same had.0.caller (name i)) ≡ true = ap (λ (l : List ℕ). not (is_same l (name i))) named ∙ ap not (apart_back (name i) (name j) (none refl n j x is)) in
-            let now = found_kept (λ (y : CallThere K V). is_same y.caller (name j)) (λ (y : CallThere K V). not (is_same y.caller (name i))) m.calls had.0 had.1 kept in had.1 ∙ sym now ∙ d_is
+    walks_stop_nexts q none = since.walks_stop_so (Of K V) (more K V) (replies K V) (asked K V) (So K V) next_where same name log m s nexts map i u here shown next q none
 
 -- Where a call comes to an outcome.
-module _ {K V : Type 0} (same : K → K → Bool) (name : ℕ → List ℕ) (log : List (Entry K V)) (m : Moment K V) (s : Scene K V) (nexts : ShowsNexts name log m s) (shown : IsThere same name m s.calls) (own : List ℕ) (o : Outcome V)
-    (steps : ℕ) (ended : ends_call o ≡ true → NoneNamed name own s) where
-  came : (n j : ℕ) (x : UnderWay K V K) → s.calls n j ≡ Some x → (c : CallThere K V) → call_of (name j) m ≡ Some c → (d : CallThere K V) → call_of (name j) (come_to own o steps m) ≡ Some d
-      → d ≡ (if is_same (name j) own then come o steps c else c)
-  came n j x is c c_is d d_is = by (ends_call o) refl
-    where
-      found_then : (q : Bool) → ends_call o ≡ q
-          → find (λ y. is_same y.caller (name j)) (if q then without_call own m.calls else list_map (λ y. if is_same y.caller own then come o steps y else y) m.calls) ≡ Some d
-      found_then q e =
-          sym (ap (λ (z : Bool). find (λ y. is_same y.caller (name j)) (if z then without_call own m.calls else list_map (λ y. if is_same y.caller own then come o steps y else y) m.calls)) e) ∙ d_is
-
-      named : c.caller ≡ name j
-      named = caller_is (name j) m c c_is
-
-      by : (q : Bool) → ends_call o ≡ q → d ≡ (if is_same (name j) own then come o steps c else c)
-      by true e =
-          let other : is_same (name j) own ≡ false = apart_back own (name j) (ended e n j x is) in
-          let kept : not (is_same c.caller own) ≡ true = ap (λ (l : List ℕ). not (is_same l own)) named ∙ ap not other in
-          one_of d c (sym (found_then true e) ∙ found_kept (λ y. is_same y.caller (name j)) (λ y. not (is_same y.caller own)) m.calls c c_is kept)
-          ∙ sym (ap (λ (q : Bool). if q then come o steps c else c) other)
-      by false e =
-          one_of d (if is_same c.caller own then come o steps c else c) (sym (found_then false e) ∙ found (come o steps) (come_of_same o steps) own (name j) m.calls c c_is)
-          ∙ ap (λ (l : List ℕ). if is_same l own then come o steps c else c) named
-
-  pub calls_come_to_nexts : ShowsNexts name log (come_to own o steps m) s
-  calls_come_to_nexts n j x is d d_is =
-      let c = shown n j x is in
-      moved log m (come_to own o steps m) n n c.0.begun d.begun (machine_of x) (machine_of x) refl
-      (ap (λ (y : CallThere K V). y.begun) (came n j x is c.0 c.1 d d_is) ∙ if_begun (come o steps) (λ y. comes_begun o (record y { steps = y.steps + steps })) c.0 (is_same (name j) own)) refl (λ has. has)
-      (nexts n j x is c.0 c.1)
+pub calls_come_to_nexts : {K V : Type 0} (same : K → K → Bool) (name : ℕ → List ℕ) (log : List (Entry K V)) (m : Moment K V) (s : Scene K V) → ShowsNexts name log m s → IsThere same name m s.calls → (own : List ℕ) (o : Outcome V) (steps : ℕ)
+    → (ends_call o ≡ true → NoneNamed name own s) → ShowsNexts name log (come_to own o steps m) s
+calls_come_to_nexts {K} {V} same name log m s nexts shown own o steps ended =
+    since.calls_come_to_so (Of K V) (more K V) (replies K V) (asked K V) (So K V) next_where same name log m s nexts shown own o steps ended
 
 -- A step of a call.
 
@@ -246,18 +158,8 @@ module _ {K V S : Type 0} (same : K → K → Bool) (hash : K → ℕ) (name : �
   abbrev led : Scene K V
   led = scene_after same hash s old new map i st u to.1 said to.4
 
-  -- a call of v is one of m, begun by the same event
-  was_begun : (j : ℕ) (c d : CallThere K V) → call_of (name j) m ≡ Some c → call_of (name j) v ≡ Some d → d.begun ≡ c.begun
-  was_begun j c d c_is d_is =
-      let kept = effects_begun (name i) map (name j) effects m c c_is in ap (λ (y : CallThere K V). y.begun) (one_of d kept.0 (sym d_is ∙ kept.1)) ∙ kept.2
-
   pub others_go_on : OthersHadNext name log i v led
-  others_go_on n j x is ne d d_is = elim (which s.calls map i to.4.next n j x is) as (λ _. MachineMakes (λ (k : NewTable). HadNext n d.begun log) (machine_of x)) [
-    | inl own ↦ absurd (ne own.1)
-    | inr was ↦
-        (let c = whole.all.shown.calls n j x was.1 in
-        subst (λ (b : ℕ). MachineMakes (λ (k : NewTable). HadNext n b log) (machine_of x)) (sym (was_begun j c.0 d c.1 d_is)) (others n j x was.1 ne c.0 c.1))
-  ]
+  others_go_on = since.others_go_on (Of K V) (more K V) (replies K V) (asked K V) (So K V) next_where same hash name log m known s old new at whole map i u here said leads others
 
   module _ (nexts : ShowsNexts name log m s) (c : CallThere K V) (c_is : call_of (name i) m ≡ Some c) where
     abbrev Before : NewTable → Type 0
@@ -292,27 +194,12 @@ module _ {K V S : Type 0} (same : K → K → Bool) (hash : K → ℕ) (name : �
           | inr followed ↦ machine_more NoTable After (λ n nothing. absurd nothing) to.1 (none_by followed.0 followed.1 followed.2)
         ]
 
-    -- another call is of another caller
-    apart : (n j : ℕ) (x : UnderWay K V K) → s.calls n j ≡ Some x → (n ≡ map → j ≡ i → ⊥) → j ≢ i
-    apart n j x is other e =
-        let its = whole.all.shown.calls n j x is in
-        let own = whole.all.shown.calls map i u here in
-        let one : its.0 ≡ own.0 = one_of its.0 own.0 (sym its.1 ∙ ap (λ (k : ℕ). call_of (name k) m) e ∙ own.1) in other (sym its.2 ∙ ap (λ (y : CallThere K V). y.map) one ∙ own.2) e
-
     pub nexts_go_on : ShowsNexts name log v led
-    nexts_go_on n j x is d d_is = elim (which s.calls map i to.4.next n j x is) as (λ _. MachineMakes (λ (k : NewTable). MayFollow n d.begun log v) (machine_of x)) [
-      | inl own ↦
-          moved log v v map n c.begun d.begun to.1 (machine_of x) own.0 (was_begun j c d (ap (λ (k : ℕ). call_of (name k) m) own.1 ∙ c_is) d_is) (goes_as_one to.1 said to.4.next to.4.goes_on x own.2) (λ has. has) own_makes
-      | inr was ↦
-          machine_more (λ (k : NewTable). HadNext n d.begun log) (λ (k : NewTable). MayFollow n d.begun log v) (λ k had. inl had) (machine_of x) (others_go_on n j x is (apart n j x was.1 was.0) d d_is)
-    ]
+    nexts_go_on =
+        since.so_go_on (Of K V) (more K V) (replies K V) (asked K V) (So K V) next_where same hash name log m known s old new at whole map i u here said leads others c c_is (λ x is. own_makes)
 
 -- Where an event of a call begins, others are as the log says.
 pub others_at_first : {K V : Type 0} (name : ℕ → List ℕ) (log : List (Entry K V)) (i : ℕ) (m : Moment K V) (s : Scene K V) → m.maps ≡ (moment log).maps → m.tables ≡ (moment log).tables
     → ((map j : ℕ) (u : UnderWay K V K) → s.calls map j ≡ Some u → (c : CallThere K V) → call_of (name j) m ≡ Some c → c.begun ≤ length log) → ShowsNexts name log m s → OthersHadNext name log i m s
-others_at_first name log i m s maps tables begun nexts n j x is ne c c_is =
-    machine_more (λ (k : NewTable). MayFollow n c.begun log m) (λ (k : NewTable). HadNext n c.begun log) (λ k so. had so) (machine_of x) (nexts n j x is c c_is)
-  where
-    had : MayFollow n c.begun log m → HadNext n c.begun log
-    had (inl before) = before
-    had (inr now) = last_there (HasNext n) c.begun log (begun n j x is c c_is) (next_same m (moment log) (sym maps) (sym tables) n now)
+others_at_first {K} {V} name log i m s maps tables begun nexts =
+    since.others_at_first (Of K V) (more K V) (replies K V) (asked K V) (So K V) next_where name log i m s maps tables begun nexts

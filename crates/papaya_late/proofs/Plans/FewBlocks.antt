@@ -1,6 +1,6 @@
 -- A world of a few blocks: a map of two tables, of which the root has left the first. The wrong plans take their steps there, and no law holds of
 -- what they leave.
-use Rattle.std.specs.Prelude.{◌≡◌, ℕ, zero, suc, ◌+◌, ◌<◌, ◌≤◌, true, false, eqb, [], ◌∷◌, Some, None, Ok, replicate}
+use Rattle.std.specs.Prelude.{◌≡◌, ℕ, zero, suc, ◌+◌, ◌<◌, ◌≤◌, true, false, eqb, [], ◌∷◌, Some, None, Ok, Err, replicate}
 use Rattle.std.proofs.Common.{refl, arith}
 use Rattle.std.proofs.lemmas.Cmp.{nat_eq_equiv}
 use Rattle.papaya_points.specs.Given.SeizeWords.Mem.{Mem, Took, value_at, word_at, with_word}
@@ -39,7 +39,7 @@ use Rattle.papaya_points.proofs.Given.Rule.Moves.Promised.{moves_keep}
 use Rattle.papaya_points.proofs.Given.Rule.Moves.RuleBegins.{rule_begins}
 use Rattle.papaya_late.specs.Kinds.{ComesFit}
 use Rattle.papaya_points.specs.Steps.{AreLawful}
-use Rattle.papaya_late.proofs.Plans.{forgets_its_pair, stores_nothing, lowers, lowers_the_root, gives_up, aborts_a_promoted}
+use Rattle.papaya_late.proofs.Plans.{answers_at_once, tries_nothing, forgets_its_pair, stores_nothing, lowers, lowers_the_root, gives_up, aborts_a_promoted}
 
 -- all keys have one hash
 abbrev pub hash : ℕ → ℕ
@@ -225,12 +225,25 @@ gives_up_is_refused : (m : Mem (Node ℕ ℕ)) (end : Copier × ℕ) → Steps T
     → Went eqb hash setting 5 world chart blocks m Told → ⊥
 gives_up_is_refused m end s Told went = aborts_a_promoted eqb hash setting lawful 5 world chart blocks is_map stands.1 late refl m end Told went 1 new_is refl s
 
--- An insertion at the first place of the second table makes its exchange, and answers that the key is missing.
-abbrev insertion : KeyCall ℕ ℕ ℕ
-insertion = record (entering (inserting setting 0 7 9) new).0 { own = 8192; unmade = None }
+-- An insertion is at the first place of a table, with the pair that its caller has made.
+abbrev insertion : Table → KeyCall ℕ ℕ ℕ
+insertion table = record (entering (inserting setting 0 7 9) table).0 { own = 8192; unmade = None }
 
-forgets_steps : (m : Mem (Node ℕ ℕ)) × (end : KeyCall ℕ ℕ ℕ × Called (Node ℕ ℕ)) × Steps Took value_at memory (forgets_its_pair insertion) m end
-forgets_steps = (with_word memory (Word 3 PLACES) 8192, told_answer insertion answers.Absent, (Exchanged (Ok 0), ((refl, refl), refl), refl))
+-- It answers that the key was missing: at once;
+at_once_steps : (m : Mem (Node ℕ ℕ)) × (end : KeyCall ℕ ℕ ℕ × Called (Node ℕ ℕ)) × Steps Took value_at memory (answers_at_once (insertion new)) m end
+at_once_steps = (memory, told_answer (insertion new) answers.Absent, (refl, refl))
 
-forgets_is_refused : (m : Mem (Node ℕ ℕ)) (end : KeyCall ℕ ℕ ℕ × Called (Node ℕ ℕ)) → Steps Took value_at memory (forgets_its_pair insertion) m end → ComesFit there.Puts missing.Puts takes.Nothing end → ⊥
-forgets_is_refused m end s fits = stores_nothing there.Puts takes.Nothing insertion memory m end s fits
+at_once_is_refused : (m : Mem (Node ℕ ℕ)) (end : KeyCall ℕ ℕ ℕ × Called (Node ℕ ℕ)) → Steps Took value_at memory (answers_at_once (insertion new)) m end → ComesFit there.Puts missing.Puts takes.Nothing end → ⊥
+at_once_is_refused m end s fits = tries_nothing there.Puts takes.Nothing (insertion new) memory m end s fits
+
+-- as it has lost its exchange, since its place in the first table is marked by now, so that its pair is nowhere;
+forgets_steps : (m : Mem (Node ℕ ℕ)) × (end : KeyCall ℕ ℕ ℕ × Called (Node ℕ ℕ)) × Steps Took value_at memory (forgets_its_pair (insertion old)) m end
+forgets_steps = (memory, told_answer (insertion old) answers.Absent, (Exchanged (Err 1), ((refl, λ e. cc e), refl), refl))
+
+-- or although its pair stands in the second one now.
+hides_steps : (m : Mem (Node ℕ ℕ)) × (end : KeyCall ℕ ℕ ℕ × Called (Node ℕ ℕ)) × Steps Took value_at memory (forgets_its_pair (insertion new)) m end
+hides_steps = (with_word memory (Word 3 PLACES) 8192, told_answer (insertion new) answers.Absent, (Exchanged (Ok 0), ((refl, refl), refl), refl))
+
+forgets_is_refused : (table : Table) (m : Mem (Node ℕ ℕ)) (end : KeyCall ℕ ℕ ℕ × Called (Node ℕ ℕ)) → Steps Took value_at memory (forgets_its_pair (insertion table)) m end
+    → ComesFit there.Puts missing.Puts takes.Nothing end → ⊥
+forgets_is_refused table m end s fits = stores_nothing there.Puts takes.Nothing (insertion table) memory m end s fits

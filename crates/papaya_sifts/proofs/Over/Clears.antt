@@ -14,7 +14,7 @@ use Rattle.papaya_owned.specs.Given.Late.Faults.{IsRoom, RoomInSweeping}
 use Rattle.papaya_owned.specs.Given.Shown.Chain.{CannotGrowIn}
 use Rattle.papaya_owned.specs.Ending.{Ends, RunsTo}
 use Rattle.papaya_owned.specs.Owned.{Holds}
-use Rattle.papaya_sifts.specs.Sweeping.{ClearedBy, HasSwept, IsSweeping, over_pairs_plan}
+use Rattle.papaya_sifts.specs.Sweeping.{ClearedBy, HasSwept, IsSweeping, over_pairs_plan, swept_by}
 use Rattle.papaya_sifts.specs.Sweeping as sweeps
 use Rattle.papaya_sifts.specs.declared.sweeping.OverPairs.{OverPairs}
 use Rattle.papaya_sifts.specs.declared.sweeping.Pause.{Pause}
@@ -69,7 +69,7 @@ module _ {K V S : Type 0} (same : K → K → Bool) (hashes : S → K → ℕ) (
   pub clearing_faults : (x : OverPairs S) (m : Mem (Node K V)) (fault : Fault) → RunsTo (over_pairs_plan {V = V} hashes) (record { sweep = p; hasher = b }) m0 x m (Err fault) → IsRoom fault
   clearing_faults x m fault runs = (runs_room hashes (record { sweep = p; hasher = b }) m0 x m (Err fault) runs (subst (λ (y : Sweep). RoomInSweeping y.stands) (sym is) tt)).1
 
-  -- a sweep has stopped
-  pub clearing_ran : (x : OverPairs S) (m : Mem (Node K V)) (result : Result Pause Fault) → RunsTo (over_pairs_plan {V = V} hashes) (record { sweep = p; hasher = b }) m0 x m result → HasSwept hashes b setting Clears m0 m
+  -- a sweep has stopped so
+  pub clearing_ran : (x : OverPairs S) (m : Mem (Node K V)) (result : Result Pause Fault) → RunsTo (over_pairs_plan {V = V} hashes) (record { sweep = p; hasher = b }) m0 x m result → HasSwept hashes b setting Clears m0 m (swept_by result)
   clearing_ran x m result runs =
-      (record { sweep = p; hasher = b }, m0, subst (λ (y : Sweep). IsSweeping hashes b setting Clears m0 (record { sweep = y; hasher = b }) m0) (sym is) sweeps.begun, x, result, runs)
+      (record { sweep = p; hasher = b }, m0, subst (λ (y : Sweep). IsSweeping hashes b setting Clears m0 (record { sweep = y; hasher = b }) m0) (sym is) sweeps.begun, x, result, runs, refl)

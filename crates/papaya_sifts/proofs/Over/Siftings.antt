@@ -25,7 +25,7 @@ use Rattle.papaya_owned.proofs.Given.Whole.Contents.Numbered.{all_those}
 use Rattle.papaya_owned.specs.Ending.{Ends, RunsTo}
 use Rattle.papaya_owned.specs.Owned.{Holds, NamesAPair}
 use Rattle.papaya_sifts.specs.Retaining.{AskedAbout, AskedAlong, KeepsOf}
-use Rattle.papaya_sifts.specs.Sweeping.{HasSwept, IsSweeping, over_pairs_plan}
+use Rattle.papaya_sifts.specs.Sweeping.{HasSwept, IsSweeping, over_pairs_plan, swept_by}
 use Rattle.papaya_sifts.specs.Sweeping as sweeps
 use Rattle.papaya_sifts.specs.declared.sweeping.OverPairs.{OverPairs}
 use Rattle.papaya_sifts.specs.declared.sweeping.Pause.{Pause}
@@ -186,8 +186,8 @@ module _ {F K V S : Type 0} (g : Mut F (Bor K × (Bor V × Unit {0})) Bool) (f0 
     pub sifting_faults : (x2 : OverPairs S) (m2 : Mem (Node K V)) (fault : Fault) → RunsTo (over_pairs_plan {V = V} hashes) x m x2 m2 (Err fault) → IsRoom fault
     sifting_faults x2 m2 fault runs = (runs_room hashes x m x2 m2 (Err fault) runs s.room).1
 
-    pub sifting_ran : (x2 : OverPairs S) (m2 : Mem (Node K V)) (result : Result Pause Fault) → RunsTo (over_pairs_plan {V = V} hashes) x m x2 m2 result → HasSwept hashes b setting Retains m0 m2
-    sifting_ran x2 m2 result runs = (x, m, s.since, x2, result, runs)
+    pub sifting_ran : (x2 : OverPairs S) (m2 : Mem (Node K V)) (result : Result Pause Fault) → RunsTo (over_pairs_plan {V = V} hashes) x m x2 m2 result → HasSwept hashes b setting Retains m0 m2 (swept_by result)
+    sifting_ran x2 m2 result runs = (x, m, s.since, x2, result, runs, refl)
 
   module _ (x : OverPairs S) (m : Mem (Node K V)) (left word : ℕ) (f : F) (a : Asking x m left word f) where
     abbrev pub asked_about : Question same hashes b setting m0 xs h a.said m word

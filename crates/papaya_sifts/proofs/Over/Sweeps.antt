@@ -40,7 +40,7 @@ use Rattle.papaya_owned.specs.Given.Whole.Limits.{IsForTheLast, IsTheLast}
 use Rattle.papaya_owned.specs.Given.Whole.LoneSweeps.{goes_once}
 use Rattle.papaya_owned.specs.Given.Whole.Owner.{AtRest, IsAlone}
 use Rattle.papaya_owned.specs.Given.Whole.SweptPairs.{HasSwept, AreNumbered, pairs_of, left_by}
-use Rattle.papaya_owned.specs.Given.Whole.WholeSweeps.{SweepsOn, SweepStepLeads, IsCountedBut, TakesMore}
+use Rattle.papaya_owned.specs.Given.Whole.WholeSweeps.{SweepsOn, SweepStepLeads, IsCountedBut, ComesOn}
 use Rattle.papaya_owned.proofs.Given.Whole.Contents.Numbered.{numbers_are, numbers_go}
 use Rattle.papaya_owned.proofs.Given.Whole.Contents.Swept.{swept_begins, refused, sweeps_leave}
 use Rattle.papaya_owned.proofs.Given.Whole.Sweeps.Begins.{sweeps_begin_alone}
@@ -296,7 +296,7 @@ module _ {K V S : Type 0} (same : K → K → Bool) (hashes : S → K → ℕ) (
         subst (λ y. Next said y.0 m2 y.1) (sym k.2) (subst (λ p. Next said (over_pairs_settled (it p) k.0.1).0 m2 (over_pairs_settled (it p) k.0.1).1) d.1 (next_by said d.0 m2 k.0.1 d.2))
 
   OnTo : Said → Sweep → Mem (Node K V) → Sweeping → Swept (Node K V) → Type 0
-  OnTo said p2 m2 stands told = TakesMore stands told × (v : Under said (over_pairs_settled (it p2) told).0 m2) × (v.o.sweep ≡ p2)
+  OnTo said p2 m2 stands told = ComesOn stands told × (v : Under said (over_pairs_settled (it p2) told).0 m2) × (v.o.sweep ≡ p2)
 
   on_told : (said : Said) (o : CallOverAll) (p2 : Sweep) → o.sweep ≡ p2 → (m2 : Mem (Node K V)) (stands : Sweeping) (told : Swept (Node K V)) → CourseTo said o m2 told
       → GoesOn (over_pairs_settled (it p2) told).1 → OnTo said p2 m2 stands told

@@ -123,5 +123,5 @@ module _ {K V Q : Type 0} (same : K → K → Bool) (hash : K → ℕ) (asks : Q
       alone = own.still_alone same hash asks setting slot lawful w c blocks sights u a none initial m2 p2 called.Goes st lone.told.0.facts (lone.told.1 a.lone) refl;
       lower = lower_more (number_of_call hash lone.c2 seen2 p2) (number_of_call hash c (seen_by blocks (sights (slot 0))) u.call) _ _
           (calls_fall V same hash asks lawful (own.here same hash asks setting slot lawful w c blocks sights u a) w 0 c (own.seen same hash asks setting slot lawful w c blocks sights u a) u.keys u.change u.call
-          (own.map same hash asks setting slot lawful w c blocks sights u a) (own.knows_here same hash asks setting slot lawful w c blocks sights u a none).2 none m2 p2 st to);
+          (own.map same hash asks setting slot lawful w c blocks sights u a) (own.knows_here same hash asks setting slot lawful w c blocks sights u a none).2 none m2 (p2, called.Goes) st tt to);
     }

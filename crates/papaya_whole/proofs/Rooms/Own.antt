@@ -266,4 +266,4 @@ module _ {K V Q : Type 0} (same : K → K → Bool) (hash : K → ℕ) (asks : Q
         }
 
         pub own_lower : Steps Took value_at w.memory (reserve_plan hash r.reserve) m2 (p2, outcome.Goes) → IsBelow (number_of_reserve went.c2 seen2 p2) (number_of_reserve c seen r.reserve)
-        own_lower st = reserves_fall V same hash lawful here w 0 c seen r.reserve map knows_here.2 none m2 p2 st to
+        own_lower st = reserves_fall V same hash lawful here w 0 c seen r.reserve map knows_here.2 none m2 (p2, outcome.Goes) st tt to

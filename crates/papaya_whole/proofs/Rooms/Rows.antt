@@ -272,7 +272,8 @@ module _ {K V Q : Type 0} (same : K → K → Bool) (hash : K → ℕ) (asks : Q
         (lower_last (number_of_reserve c seen r.reserve) (row_left (row_of_room e.0.stands) m2) (row_left (row_of_room r.reserve.stands) w.memory) (omega (arith, less, was, then)))
     lower_account e is more (RoomOver _ tells none past alone) =
         let goes : (p2, end) ≡ (e.0, outcome.Goes) = sym is ∙ ap (λ (x : Outcome (Node K V) Unit). (e.0, x)) tells in
-        elim (reserve_rows_fall {K = K} {V = V} hash r.reserve e.0 is_row w.memory m2 (subst (λ (x : Reserve × Outcome (Node K V) Unit). Steps Took value_at w.memory (reserve_plan hash r.reserve) m2 x) goes steps) c seen)
+        elim (reserve_rows_fall {K = K} {V = V} hash r.reserve is_row w.memory m2 (e.0, outcome.Goes)
+        (subst (λ (x : Reserve × Outcome (Node K V) Unit). Steps Took value_at w.memory (reserve_plan hash r.reserve) m2 x) goes steps) tt c seen)
         as (λ _. Lower e.0) [
           | inl same_row ↦ absurd (none same_row.0)
           | inr fallen ↦ lower_more (number_of_reserve c seen e.0) (number_of_reserve c seen r.reserve) _ _ fallen.1

@@ -66,7 +66,8 @@ module _ {K V Q : Type 0} (same : K → K → Bool) (hash : K → ℕ) (asks : Q
       ]
   by_account end is more (Over _ tells none past alone) =
       let goes : (p2, progress) ≡ (end.0, called.Goes) = sym is ∙ ap (λ (x : Called (Node K V)). (end.0, x)) tells in
-      elim (rows_fall V same hash asks u.call end.0 is_row w.memory m2 (subst (λ (e : KeyCall K V Q × Called (Node K V)). Steps Took value_at w.memory (call_plan asks same hash u.call) m2 e) goes steps) c seen)
+      elim (rows_fall V same hash asks u.call is_row w.memory m2 (end.0, called.Goes)
+      (subst (λ (e : KeyCall K V Q × Called (Node K V)). Steps Took value_at w.memory (call_plan asks same hash u.call) m2 e) goes steps) tt c seen)
       as (λ _. Lower end.0) [
         | inl same_row ↦ absurd (none same_row.0)
         | inr fallen ↦ lower_more (number_of_call hash c seen end.0) (number_of_call hash c seen u.call) _ _ fallen.1

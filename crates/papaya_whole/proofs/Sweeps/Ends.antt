@@ -28,11 +28,10 @@ use Rattle.papaya_maps.specs.Given.Callers.OverAll.{CallOverAll, gone_on, come_t
 use Rattle.papaya_maps.specs.Given.Callers.Sights.{Sight, seen_by}
 use Rattle.papaya_maps.specs.Given.Callers.Together.{OverAll}
 use Rattle.papaya_whole.specs.Owner.{IsAlone}
-use Rattle.papaya_whole.specs.WholeSweeps.{TakesMore, SweepsOn, ComesToAnEnd, SweepLeads, SweepsComeToAnEnd}
+use Rattle.papaya_whole.specs.WholeSweeps.{SweepsOn, ComesToAnEnd, SweepLeads, SweepsComeToAnEnd}
 use Rattle.papaya_whole.proofs.Keys.Falls.{row_left, lower_more}
 use Rattle.papaya_whole.proofs.Sweeps.Falls.{sweep_numbers, row_lower}
 use Rattle.papaya_whole.proofs.Sweeps.Leads.{sweep_decided}
-use Rattle.papaya_whole.proofs.Sweeps.Lone.{LeadsSweep}
 use Rattle.papaya_whole.proofs.Sweeps.Own as own
 use Rattle.papaya_whole.proofs.Sweeps.Rows as rows
 use Rattle.papaya_whole.proofs.Sweeps.ToldOn.{told_on}
@@ -56,7 +55,7 @@ module _ {K V Q : Type 0} (same : K → K → Bool) (hash : K → ℕ) (asks : Q
       → IsBelow (numbers w c blocks sights o) (numbers w0 c0 blocks0 sights0 o0) → Ends o.sweep w.memory
 
   -- where it goes on it is alone
-  alone_of : (w w2 : World (Node K V)) (c2 : Chart K) (blocks2 : Blocks) (sights2 : ℕ → Sight) (o2 : CallOverAll) (stands : Sweeping) (x : Swept (Node K V)) → TakesMore stands x
+  alone_of : (w w2 : World (Node K V)) (c2 : Chart K) (blocks2 : Blocks) (sights2 : ℕ → Sight) (o2 : CallOverAll) (stands : Sweeping) (x : Swept (Node K V)) → ComesOn stands x
       → SweepLeads {Q = Q} same hash asks setting slot w w2 c2 blocks2 sights2 o2 x → Alone w2 c2 blocks2 sights2 o2
   alone_of w w2 c2 blocks2 sights2 o2 stands swept.Goes more l = l
   alone_of w w2 c2 blocks2 sights2 o2 stands swept.Waits more l = absurd l
@@ -67,36 +66,24 @@ module _ {K V Q : Type 0} (same : K → K → Bool) (hash : K → ℕ) (asks : Q
   alone_of w w2 c2 blocks2 sights2 o2 stands swept.Done more l = absurd more
   alone_of w w2 c2 blocks2 sights2 o2 stands (swept.Refused fault) more l = absurd more
 
-  -- a step of its own reclaims nothing, so it comes on
-  comes_on : (b : Bool) (c : Chart K) (p : Sweep) (stands : Sweeping) (x : Swept (Node K V)) → TakesMore stands x → LeadsSweep b 0 c (p, x) → ComesOn stands x
-  comes_on b c p stands (swept.Gave value) more leads = leads
-  comes_on b c p stands swept.Goes more leads = more
-  comes_on b c p stands swept.Waits more leads = more
-  comes_on b c p stands swept.Ready more leads = more
-  comes_on b c p stands (swept.Pair word) more leads = more
-  comes_on b c p stands (swept.Asks word) more leads = more
-  comes_on b c p stands swept.Done more leads = more
-  comes_on b c p stands (swept.Refused fault) more leads = more
-
   module _ (w : World (Node K V)) (c : Chart K) (blocks : Blocks) (sights : ℕ → Sight) (o : CallOverAll) (a : Alone w c blocks sights o) (on : OnBelow w c blocks sights o) where
     abbrev seen : Blocks
     seen = seen_by blocks (sights (slot 0))
 
-    own_ends : (none : IsRowOfSweep o.sweep.stands → ⊥) (m2 : Mem (Node K V)) (p2 : Sweep) (end : Swept (Node K V)) → TakesMore o.sweep.stands end
+    own_ends : (none : IsRowOfSweep o.sweep.stands → ⊥) (m2 : Mem (Node K V)) (p2 : Sweep) (end : Swept (Node K V)) → ComesOn o.sweep.stands end
         → Steps Took value_at w.memory (sweep_plan hash o.sweep) m2 (p2, end) → Ends p2 m2
     own_ends none m2 p2 end more st =
         let went = own.went same hash asks setting slot lawful w c blocks sights o a none initial m2 p2 end st in
         let stepped = own.stepped same hash asks setting slot lawful w c blocks sights o a none initial m2 p2 end st in
         let seen2 = own.seen2 same hash asks setting slot lawful w c blocks sights o a none initial m2 p2 end st in
         let l = own.leads same hash asks setting slot lawful w c blocks sights o a none initial m2 p2 end st in
-        let comes = comes_on _ went.c2 p2 o.sweep.stands end more went.told.leads in
         subst (Ends p2) went.memory
         (on went.w2 went.c2 stepped.blocks2 stepped.sights2 (come_to o stepped.entered2 stepped.done2 p2)
         (alone_of w went.w2 went.c2 stepped.blocks2 stepped.sights2 (come_to o stepped.entered2 stepped.done2 p2) o.sweep.stands end more l)
         (lower_more (number_of_sweep hash went.c2 seen2 p2) (number_of_sweep hash c seen o.sweep) _ _
-        (own.own_lower same hash asks setting slot lawful w c blocks sights o a none initial m2 p2 end st comes)))
+        (own.own_lower same hash asks setting slot lawful w c blocks sights o a none initial m2 p2 end st more)))
 
-    row_ends : (is_row : IsRowOfSweep o.sweep.stands) (m2 : Mem (Node K V)) (p2 : Sweep) (end : Swept (Node K V)) → TakesMore o.sweep.stands end
+    row_ends : (is_row : IsRowOfSweep o.sweep.stands) (m2 : Mem (Node K V)) (p2 : Sweep) (end : Swept (Node K V)) → ComesOn o.sweep.stands end
         → Steps Took value_at w.memory (sweep_plan hash o.sweep) m2 (p2, end) → Ends p2 m2
     row_ends is_row m2 p2 end more st =
         let led = rows.led same hash asks setting slot lawful w c blocks sights o a is_row m2 p2 end st in
@@ -106,7 +93,7 @@ module _ {K V Q : Type 0} (same : K → K → Bool) (hash : K → ℕ) (asks : Q
         (on led.w2 c blocks sights (gone_on o p2) (alone_of w led.w2 c blocks sights (gone_on o p2) o.sweep.stands end more l)
         (subst (λ (x : Mem (Node K V)). IsBelow (sweep_numbers hash (slot 0) c seen p2 x) (numbers w c blocks sights o)) (sym led.memory) lower))
 
-    step_ends : (m2 : Mem (Node K V)) (p2 : Sweep) (end : Swept (Node K V)) → TakesMore o.sweep.stands end → Steps Took value_at w.memory (sweep_plan hash o.sweep) m2 (p2, end) → Ends p2 m2
+    step_ends : (m2 : Mem (Node K V)) (p2 : Sweep) (end : Swept (Node K V)) → ComesOn o.sweep.stands end → Steps Took value_at w.memory (sweep_plan hash o.sweep) m2 (p2, end) → Ends p2 m2
     step_ends m2 p2 end more st = elim (sweep_decided o.sweep.stands) as (λ _. Ends p2 m2) [
       | inl is_row ↦ row_ends is_row m2 p2 end more st
       | inr none ↦ own_ends none m2 p2 end more st

@@ -27,7 +27,7 @@ use Rattle.papaya_maps.specs.Given.Callers.OverAll.{CallOverAll, row_of_sweep, p
 use Rattle.papaya_maps.specs.Given.Callers.Sights.{Sight, seen_by}
 use Rattle.papaya_maps.specs.Given.Callers.Together.{OverAll}
 use Rattle.papaya_whole.specs.Owner.{IsAlone}
-use Rattle.papaya_whole.specs.WholeSweeps.{TakesMore}
+use Rattle.papaya_passes.specs.FallsSweeps.{ComesOn}
 use Rattle.papaya_whole.proofs.Keys.Falls.{row_left, lower_more, lower_last}
 use Rattle.papaya_whole.proofs.Rows.Settles.{settling_lowers, deferring_lowers}
 use Rattle.papaya_whole.proofs.Sweeps.Account.{SweepAccount, SweepSettling, SweepDeferring, TableOver, PairOver}
@@ -67,14 +67,14 @@ module _ {K V Q : Type 0} (same : K → K → Bool) (hash : K → ℕ) (asks : Q
   -- the row is over, and the sweep goes on
   over_lower : (q : Sweep) → ◌≡◌ {A = Sweep × Swept (Node K V)} (p2, end) (q, swept.Goes) → (IsRowOfSweep q.stands → ⊥) → ((CopiesPairs o.sweep.stands → ⊥) → Rests same hash now.v 0 here c seen o.began o.sweep) → Lower q
   over_lower q is none knows =
-      elim (sweep_rows_fall V same hash here now.v 0 c seen o.began o.sweep q (rows.map_now same hash asks setting slot lawful w c blocks sights o a is_row) is_row knows m2
+      elim (sweep_rows_fall V same hash here now.v 0 c seen o.began o.sweep (rows.map_now same hash asks setting slot lawful w c blocks sights o a is_row) is_row knows m2 (q, swept.Goes)
       (subst (λ (x : Sweep × Swept (Node K V)). Steps Took value_at now.v.memory (sweep_plan hash o.sweep) m2 x) is
-      (rows.steps_now same hash asks setting slot lawful w c blocks sights o a is_row m2 p2 end steps))) as (λ _. Lower q) [
+      (rows.steps_now same hash asks setting slot lawful w c blocks sights o a is_row m2 p2 end steps)) tt) as (λ _. Lower q) [
         | inl same_row ↦ absurd (none same_row.0)
         | inr fallen ↦ lower_more (number_of_sweep hash c seen q) (number_of_sweep hash c seen o.sweep) _ _ fallen.1
       ]
 
-  pair_lower : (d : Dispose) → o.sweep.stands ≡ at.Disposes d → ◌≡◌ {A = Sweep × Swept (Node K V)} (p2, end) (telling (further o.sweep)) → TakesMore o.sweep.stands end → Lower p2
+  pair_lower : (d : Dispose) → o.sweep.stands ≡ at.Disposes d → ◌≡◌ {A = Sweep × Swept (Node K V)} (p2, end) (telling (further o.sweep)) → ComesOn o.sweep.stands end → Lower p2
   pair_lower d is e more = over_lower p2 (ap (λ (x : Swept (Node K V)). (p2, x)) (further_by (λ x. (further o.sweep).stands ≡ x → end ≡ swept.Goes) o.sweep on on over refl)) none (λ copies. record {
     setting_is = now.knows.facts.setting_is;
     taking = point.0;
@@ -96,9 +96,9 @@ module _ {K V Q : Type 0} (same : K → K → Bool) (hash : K → ℕ) (asks : Q
       on is = end_is ∙ ap told is
 
       over : (further o.sweep).stands ≡ at.Over → end ≡ swept.Goes
-      over is = absurd (subst (TakesMore o.sweep.stands) (end_is ∙ ap told is) more)
+      over is = absurd (subst (ComesOn o.sweep.stands) (end_is ∙ ap told is) more)
 
-  by_account : (x : Sweep × Swept (Node K V)) → x ≡ (p2, end) → TakesMore o.sweep.stands end → SweepAccount hash (slot 0) o.sweep now.v.memory m2 x → Lower x.0
+  by_account : (x : Sweep × Swept (Node K V)) → x ≡ (p2, end) → ComesOn o.sweep.stands end → SweepAccount hash (slot 0) o.sweep now.v.memory m2 x → Lower x.0
   by_account x is more (SweepSettling y z e _ row st going tells row2 s) =
       let less = settling_lowers setting.batch_size now.v now.together.ground.came 0 now.rows y (now.row_is ∙ row) m2 z e st going in
       let was = left_before (Settles y) row in
@@ -115,5 +115,5 @@ module _ {K V Q : Type 0} (same : K → K → Bool) (hash : K → ℕ) (asks : Q
       over_lower x.0 (sym is ∙ ap (λ (y : Swept (Node K V)). (x.0, y)) tells) r.none (λ copies. absurd (copies (subst CopiesPairs (sym r.was) tt)))
   by_account x is more (PairOver _ d disposes e) = subst (λ (y : Sweep × Swept (Node K V)). Lower y.0) (sym is) (pair_lower d disposes (sym is ∙ e) more)
 
-  pub row_lower : TakesMore o.sweep.stands end → Lower p2
+  pub row_lower : ComesOn o.sweep.stands end → Lower p2
   row_lower more = by_account (p2, end) refl more (rows.its_account same hash asks setting slot lawful w c blocks sights o a is_row m2 p2 end steps)

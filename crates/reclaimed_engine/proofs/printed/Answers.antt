@@ -1,5 +1,6 @@
-use Rattle.std.proofs.Common.{◌≡◌, ap, ◌∙◌, subst}
-use Rattle.papaya_running.specs.Run.{IsRightRun, bounded}
+use Rattle.std.proofs.Common.{◌≡◌, ap, ◌∙◌, subst, nat_eq}
+use Rattle.papaya_running.specs.Run.{bounded}
+use Rattle.papaya_schedules.specs.Runs.{IsRunOf}
 use Rattle.papaya_scheduler.specs.Played.{terms_given}
 use Rattle.reclaimed_engine.specs.Engine.{terms_of}
 use Rattle.reclaimed_engine.proofs.printed.Goals as goal
@@ -7,4 +8,4 @@ use Rattle.reclaimed_engine.proofs.printed.Goals as goal
 pub returns-clause-ok : goal.returns-clause-ok
 returns-clause-ok c =
     let asked : terms_given (bounded c.given_for-given.result) ≡ terms_of c.args.script.events.items = c.given_for-given.ensures ∙ ap terms_of c.deref.ensures.value in
-    (c.in-Ok.run', subst (λ terms. IsRightRun terms c.args.script.events.items c.in-Ok.run') asked c.in-Ok.ensures.run, c.in-Ok-text_of.ensures)
+    (c.in-Ok.run', subst (λ terms. IsRunOf nat_eq terms c.args.script.events.items c.in-Ok.run') asked c.in-Ok.ensures.whole, c.in-Ok-text_of.ensures)

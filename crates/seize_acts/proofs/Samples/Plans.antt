@@ -1,7 +1,7 @@
 -- Wrong plans, each of them stepped in a world of a few blocks, and the clause of a law that is false of what it leaves.
 use Rattle.std.specs.Prelude.{Some, None, Err}
 use Rattle.std.proofs.Common.{◌≡◌, ℕ, zero, suc, ◌*◌, Bool, true, false, cond, eqb, List, [], ◌∷◌, ◌++◌, refl, arith, inl, inr, subst, sym, ap, ◌∙◌}
-use Rattle.seize_words.specs.Word.{link_to}
+use Rattle.seize_words.specs.Word.{link_to, block_in}
 use Rattle.seize_words.specs.declared.at.At.TheVariants.{Root, Slot, Entry}
 use Rattle.seize_words.specs.Mem.{Mem, word_at}
 use Rattle.seize_words.specs.Op.{Out, Load, Store, Exchange, Make, Take, Exchanged}
@@ -19,10 +19,10 @@ use Rattle.seize.specs.Defer.{defer_plan, push_told}
 use Rattle.seize.specs.Further.{FurtherAre, FurtherFrom, ListFrom}
 use Rattle.seize.specs.Law.{holds, IsSound}
 use Rattle.seize.specs.WaitingSets.{is_one_of}
-use Rattle.seize.specs.World.{World, Row, Rests, IsOnto, Settles, Handed, Leave', Retire, Flush, Defer', at_start}
+use Rattle.seize.specs.World.{World, Row, Rests, IsOnto, Settles, Handed, Cutting, Leave', Retire, Flush, Defer', at_start}
 use Rattle.seize_ends.specs.Holders.{has_batch}
 use Rattle.seize_acts.specs.Answers.{stepped}
-use Rattle.seize_acts.specs.Acts.{Begin, Step, Operate, Links, Unlinks, Ends, LeavesOver, MayTake, AllMayChange}
+use Rattle.seize_acts.specs.Acts.{Begin, Step, Operate, Links, Unlinks, Ends, LeavesOver, MayTake, NoRootNames, AllMayChange}
 use Rattle.seize_acts.specs.Laws.{IsNotLost}
 use Rattle.seize_acts.specs.Waits.{AnotherHasIt}
 use Rattle.seize_acts.proofs.Answers.{same_some}
@@ -177,6 +177,28 @@ right_looks_again :
     stepped grown.memory None (settle_plan plain flusher) ≡ Some (grown.memory, (record flusher { last = 0; stands = settling.Sees }, settled.Goes))
 right_looks_again = refl
 
+-- A user unlinks a block while its root still leads there: refused by what an act may change.
+
+abbrev by_reading : World ℕ
+by_reading = after plain 1 (links ++ Operate 0 (Load (Root 0)) None (Unlinks 1 ∷ []) ∷ []) (at_start plain 1)
+
+is_cut : by_reading.hand 1 ≡ Cutting 0
+is_cut = refl
+
+unlinks_is_refused : AllMayChange plain by_reading (Unlinks 1 ∷ []) → ⊥
+unlinks_is_refused may = may.0 refl 0 (link_to 1) refl refl
+
+-- The right one takes it off the root by the same act.
+abbrev by_writing : World ℕ
+by_writing = after plain 1 (links ++ Operate 0 (Store (Root 0) 0) None (Unlinks 1 ∷ []) ∷ []) (at_start plain 1)
+
+names_none : NoRootNames by_writing.memory 1
+names_none zero word at names = let k : 0 ≡ 1 = ap (λ (w : ℕ). block_in w) (same_some 0 word at) ∙ names in cc k
+names_none (suc r) word at names = cc at
+
+right_unlinks : AllMayChange plain by_writing (Unlinks 1 ∷ [])
+right_unlinks = ((λ alive. names_none), tt)
+
 -- The end of a map takes away what its tables deferred, inside a section that holds it: refused by `ActsAreSound`.
 
 -- Block 2 is deferred on block 1. Then their owner ends, and caller 1 takes block 1 off the root and leaves both over.
@@ -190,7 +212,7 @@ nobody_defers zero onto = onto
 nobody_defers (suc j) onto = let none : ended.row (suc j) ≡ Rests = grind arith in subst (λ (row : Row). IsOnto 1 row) none onto
 
 so_it_ended : AllMayChange lists ended (Unlinks 1 ∷ LeavesOver 1 (2 ∷ []) ∷ [])
-so_it_ended = (tt, ((nobody_defers, (5, refl, (link_to 2, refl, (0, omega arith, refl, refl, refl)))), tt))
+so_it_ended = ((λ alive. absurd (cc alive)), ((nobody_defers, (5, refl, (link_to 2, refl, (0, omega arith, refl, refl, refl)))), tt))
 
 -- it takes block 2 without asking who holds it
 abbrev taken_away : World ℕ

@@ -35,7 +35,8 @@ use Rattle.seize_sets.proofs.Turns.Heads.{has_words, has_word, idle_word}
 use Rattle.seize_reclaims.proofs.AllReclaimed.Ends.{left_now, slots, between, back_is}
 use Rattle.seize_reclaims.proofs.AllReclaimed.Only.{only_twice}
 use Rattle.seize_alone.proofs.Histories.Calls.{history_rested}
-use Rattle.seize_reclaims.proofs.Roots.Cleared.{clear_begins, clear_may, IsFirst}
+use Rattle.seize_reclaims.proofs.Roots.Cleared.{clear_may}
+use Rattle.seize_reclaims.proofs.Roots.First.{clear_begins, IsFirst}
 use Rattle.seize_alone.proofs.Whole.Begins.{leave_begins, flush_begins}
 use Rattle.seize_alone.proofs.Whole.Enter.{unregister_may}
 use Rattle.seize_alone.proofs.Whole.Steps.{call_may}

@@ -31,7 +31,8 @@ use Rattle.seize_reclaims.proofs.AllReclaimed.Only.{only_same}
 use Rattle.seize_reclaims.proofs.AllReclaimed.Points.{Point, AtSlots, AtRoots, arrives, point_may}
 use Rattle.seize_reclaims.proofs.AllReclaimed.Steps.{After as Comes, point_on, walks_on}
 use Rattle.seize_alone.proofs.Histories.Sets.{active_now}
-use Rattle.seize_reclaims.proofs.Roots.Cleared.{clear_first, clear_still}
+use Rattle.seize_reclaims.proofs.Roots.Cleared.{clear_still}
+use Rattle.seize_reclaims.proofs.Roots.First.{clear_first}
 use Rattle.seize_alone.proofs.Whole.Steps.{call_told}
 
 no_values : {T : Type 0} (m : Mem T) (blocks : List ℕ) → map (value_at m) blocks ≡ map Some [] → blocks ≡ []

@@ -1,5 +1,6 @@
 -- What is shown of calls is shown between the steps of events.
-use Rattle.papaya_legal.proofs.Between.{calls_begin, calls_take, ends_begin, likes_show, logs_grow, makings_begin, maps_come, maps_gone, names_change, walks_go_on, walks_stop}
+use Rattle.papaya_legal.proofs.Between.{calls_begin, calls_take, likes_show, logs_grow, names_change, walks_go_on, walks_stop}
+use Rattle.papaya_legal.proofs.BetweenMaps.{ends_begin, makings_begin, maps_come, maps_gone}
 use Rattle.papaya_legal.proofs.law.calls_stay.Goals as goal
 
 pub returns : goal.returns

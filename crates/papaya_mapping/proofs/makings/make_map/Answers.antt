@@ -135,13 +135,11 @@ pub returns-then-scheduler-eq0-clause-works : goal.returns-then-scheduler-eq0-cl
 returns-then-scheduler-eq0-clause-works g c = (refl, inl (RootsUsedUp, c.quietly-then-scheduler-eq0.ensures.outcome, (c.quietly-then-scheduler-eq0.ensures.effects, refl)))
 
 pub returns-in-Refused-clause-works : goal.returns-in-Refused-clause-works
-returns-in-Refused-clause-works g c = (refl, inr (inl (c.in-Refused.fault, refl)))
-
-pub returns-in_ok-push-in-Done-clause-works : goal.returns-in_ok-push-in-Done-clause-works
-returns-in_ok-push-in-Done-clause-works g c =
+returns-in-Refused-clause-works g c =
     let count : c.len-number.result ≡ length c.args.scheduler.now.logged.executor.maps.items = search (rules, c.len-number.ensures) in (
       refl,
-      inr (inr (
+      inr (inl (
+        c.in-Refused.fault,
         refl,
         record {
           caller = c.in_ok-caller.caller;
@@ -154,17 +152,49 @@ returns-in_ok-push-in-Done-clause-works g c =
           first = c.in-Ok.ensures.first;
           is_given = c.setting_for-given.ensures;
           some = (let ne = c.if-scheduler-eq0.false in omega (arith, ne));
-          setting = c.in-Done.field-0;
           began = c.begin_making.new.self;
           begins = λ same hash name m s shown. c.in_ok-caller.ensures.leads same hash name m s shown;
           noted = c.in_ok-caller.ensures.notes;
           stays = c.begin_making.ensures.given;
           there = c.in_ok-caller.ensures.there;
-          ran = run_as c.in_ok-caller.caller c.len-number.result _ count c.in_ok-told.told c.in-Done.field-0 c.in-Done.is c.no_effects-effects.result.items c.run_making.new.effects.items c.no_effects-effects.ensures
+          ran = run_as c.in_ok-caller.caller c.len-number.result _ count c.in_ok-told.told _ c.in-Refused.is c.no_effects-effects.result.items c.run_making.new.effects.items c.no_effects-effects.ensures
               c.begin_making.new.self c.run_making.new.self c.in_ok-told.ensures.ran;
-          finds = finds_as c.in_ok-caller.caller c.len-number.result _ count c.in_ok-told.told c.in-Done.field-0 c.in-Done.is c.no_effects-effects.result.items c.run_making.new.effects.items
+          finds = finds_as c.in_ok-caller.caller c.len-number.result _ count c.in_ok-told.told _ c.in-Refused.is c.no_effects-effects.result.items c.run_making.new.effects.items
               c.no_effects-effects.ensures c.begin_making.new.self c.run_making.new.self c.in_ok-told.ensures.finds;
-          gone = gone_as c.in_ok-caller.caller c.len-number.result _ count c.in_ok-told.told c.in-Done.field-0 c.in-Done.is c.no_effects-effects.result.items c.run_making.new.effects.items c.no_effects-effects.ensures
+          gone = gone_as c.in_ok-caller.caller c.len-number.result _ count c.in_ok-told.told _ c.in-Refused.is c.no_effects-effects.result.items c.run_making.new.effects.items c.no_effects-effects.ensures
+              c.begin_making.new.self c.run_making.new.self c.in_ok-told.ensures.gone;
+        },
+      )),
+    )
+
+pub returns-in_ok-push-in-Done-clause-works : goal.returns-in_ok-push-in-Done-clause-works
+returns-in_ok-push-in-Done-clause-works g c =
+    let count : c.len-number.result ≡ length c.args.scheduler.now.logged.executor.maps.items = search (rules, c.len-number.ensures) in (
+      refl,
+      inr (inr (
+        refl,
+        c.in-Done.field-0,
+        record {
+          caller = c.in_ok-caller.caller;
+          fresh = c.in_ok-caller.ensures.number;
+          faultless = c.in-Ok.ensures.none;
+          free = sym c.may_make.ensures ∙ c.if-not-may_make.false;
+          places = c.in-Ok.places;
+          given = c.setting_for-given.result;
+          places_are = c.in-Ok.ensures.places;
+          first = c.in-Ok.ensures.first;
+          is_given = c.setting_for-given.ensures;
+          some = (let ne = c.if-scheduler-eq0.false in omega (arith, ne));
+          began = c.begin_making.new.self;
+          begins = λ same hash name m s shown. c.in_ok-caller.ensures.leads same hash name m s shown;
+          noted = c.in_ok-caller.ensures.notes;
+          stays = c.begin_making.ensures.given;
+          there = c.in_ok-caller.ensures.there;
+          ran = run_as c.in_ok-caller.caller c.len-number.result _ count c.in_ok-told.told _ c.in-Done.is c.no_effects-effects.result.items c.run_making.new.effects.items c.no_effects-effects.ensures
+              c.begin_making.new.self c.run_making.new.self c.in_ok-told.ensures.ran;
+          finds = finds_as c.in_ok-caller.caller c.len-number.result _ count c.in_ok-told.told _ c.in-Done.is c.no_effects-effects.result.items c.run_making.new.effects.items
+              c.no_effects-effects.ensures c.begin_making.new.self c.run_making.new.self c.in_ok-told.ensures.finds;
+          gone = gone_as c.in_ok-caller.caller c.len-number.result _ count c.in_ok-told.told _ c.in-Done.is c.no_effects-effects.result.items c.run_making.new.effects.items c.no_effects-effects.ensures
               c.begin_making.new.self c.run_making.new.self c.in_ok-told.ensures.gone;
         },
       )),

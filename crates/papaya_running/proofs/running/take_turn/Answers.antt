@@ -11,7 +11,7 @@ use Rattle.papaya_tally.specs.Tally.{TellsAll}
 use Rattle.papaya_running.proofs.Joined.{legal_on}
 use Rattle.papaya_running.proofs.Logs.{events_are}
 use Rattle.papaya_tally.proofs.Tallies.{ok_four}
-use Rattle.papaya_running.proofs.Turns.{back_so, goes_so, long, next_so}
+use Rattle.papaya_running.proofs.Turns.{back_so, long, next_so}
 use Rattle.papaya_running.proofs.running.take_turn.Goals as goal
 
 pub happen-requires : goal.happen-requires
@@ -40,10 +40,10 @@ returns g c =
           (next_so eq hash terms events rec tally c.args.scheduler.now so c.args.event played tally2 told c.add.new.self outcomes steps effects
           (subst (λ t. c.add.new.self.trace.items ≡ rec.trace.items ++ (if is_busy played.outcome then single.Whole (length rec.outcomes.items) ∷ [] else singles_as (length rec.outcomes.items) t played.steps))
           c.traced_as-traced.ensures trace)
-          (goes_so eq hash terms log _ c.happen.new.scheduler (c.in_ok-played.ensures.happens terms log first so.holds))
+          (c.in_ok-played.ensures.happens terms log first so.holds)
           (c.in_ok-played.ensures.holds terms log first so.holds)
-          (λ runs asked. legal_on eq hash c.is_empty.result c.args.event played c.args.scheduler.now c.happen.new.scheduler c.in_ok-played.ensures.happens terms log first so.holds runs
-          c.in_ok-played.ensures.keeps c.in_ok-played.ensures.rows c.in_ok-played.ensures.setups c.in_ok-played.ensures.all asked)));
+          (λ runs. legal_on eq hash c.is_empty.result c.args.event played c.args.scheduler.now c.happen.new.scheduler c.in_ok-played.ensures.happens terms log first so.holds runs
+          c.in_ok-played.ensures.keeps c.in_ok-played.ensures.rows c.in_ok-played.ensures.setups c.in_ok-played.ensures.all)));
       back =
           ok_four c.add.result _ _ _ _ _ c.add.ensures.outcomes c.add.ensures.steps c.add.ensures.effects c.add.ensures.trace
           (λ outcomes steps effects trace. λ terms events so before.

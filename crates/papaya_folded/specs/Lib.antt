@@ -1,0 +1,2 @@
+pub mod Folded
+pub mod Steps

@@ -1,0 +1,136 @@
+-- A making that is refused once it has begun just asks for blocks: its event is in its midst at the moment itself, without the map, and once it is over the event keeps its promises and the run goes on.
+use Rattle.std.specs.Prelude.{◌≡◌, ℕ, Bool, true, false, List, [], ◌∷◌, flat_map, Option, Some, None}
+use Rattle.std.specs.List.{list_all}
+use Rattle.std.proofs.Common.{refl, sym, subst, inl, arith}
+use Rattle.papaya_histories.specs.Given.SeizeWords.declared.fault.Fault.{Fault}
+use Rattle.papaya_histories.specs.Given.SeizeWords.declared.fault.Fault.TheVariants.{Busy}
+use Rattle.papaya_histories.specs.Given.Seize.World.{with_at}
+use Rattle.papaya_histories.specs.Given.Tables.declared.resize_mode.ResizeMode.{ResizeMode}
+use Rattle.papaya_histories.specs.Given.Schedules.declared.effect.Effect.{Effect}
+use Rattle.papaya_histories.specs.Given.Schedules.declared.effect.Effect.TheVariants.{Asked}
+use Rattle.papaya_histories.specs.Given.Schedules.declared.effect.Growth.TheVariants.{ABlock, ABucket}
+use Rattle.papaya_histories.specs.Given.Schedules.declared.event.Event.TheVariants.{MakeMap}
+use Rattle.papaya_histories.specs.Given.Schedules.declared.outcome.Outcome.TheVariants.{Refused}
+use Rattle.papaya_histories.specs.Given.Schedules.After.{after, moment}
+use Rattle.papaya_histories.specs.Given.Schedules.Effects.{AtEachEffect, with_effect, worked}
+use Rattle.papaya_histories.specs.Given.Schedules.Entry.{Entry, acted_on, is_busy}
+use Rattle.papaya_histories.specs.Given.Schedules.Handing.{IsWhole, is_first_making}
+use Rattle.papaya_histories.specs.Given.Schedules.InTurn.{ComesRight, is_growth}
+use Rattle.papaya_histories.specs.Given.Schedules.Linearizable.{shift_of}
+use Rattle.papaya_histories.specs.Given.Schedules.Lives.{Finds}
+use Rattle.papaya_histories.specs.Given.Schedules.Model.{IsByModel, sets_in, things_in}
+use Rattle.papaya_histories.specs.Given.Schedules.Moment.{MapThere, Moment}
+use Rattle.papaya_histories.specs.Given.Schedules.Reclaims.{IsProtected}
+use Rattle.papaya_histories.specs.Given.Schedules.Terms.{Terms}
+use Rattle.papaya_histories.specs.Given.Effects.Known.{Known}
+use Rattle.papaya_histories.specs.Given.Executor.IsAt.{Scene, IsAt}
+use Rattle.papaya_histories.specs.Given.Executor.declared.executor.Executor.{Executor}
+use Rattle.papaya_histories.specs.Given.Finishes.Makings.{Beginning, HasMade}
+use Rattle.papaya_histories.proofs.OtherCalls.{no_calls_are_linearizable}
+use Rattle.papaya_promises.specs.Sheltered.{SectionsHold}
+use Rattle.papaya_promises.proofs.Protected.{other_events_end_protected}
+use Rattle.papaya_purposes.proofs.Nothing.{no_calls_are_swept}
+use Rattle.papaya_models.specs.Follows.{FollowsModel}
+use Rattle.papaya_models.proofs.MapEvents.{making_events_begin as making_sets_begin}
+use Rattle.papaya_finds.specs.Life.{StoresOne}
+use Rattle.papaya_sources.specs.Stays.{NoneBorn}
+use Rattle.papaya_legal.specs.Between.{IsLike}
+use Rattle.papaya_legal.specs.CallEvents.{IsLegalBut}
+use Rattle.papaya_legal.specs.Carried.{ComesAlone, ShowsRun}
+use Rattle.papaya_legal.specs.MapEvents.{InMakingEvent}
+use Rattle.papaya_legal.proofs.Between.{likes_show}
+use Rattle.papaya_legal.proofs.BetweenMaps.{makings_begin}
+use Rattle.papaya_legal.proofs.Growths.{growths_leave}
+use Rattle.papaya_legal.proofs.MapsOver.{making_events_follow}
+use Rattle.papaya_legal.proofs.Over.{reading_like, runs_go_on}
+use Rattle.papaya_legal.proofs.Sourced.{none_born}
+
+-- As it begins the event is in its midst.
+module _ (K V S : Type 0) (same : K → K → Bool) (hash : K → ℕ) (name : ℕ → List ℕ) (terms : Terms) (log : List (Entry K V)) (known : Known) (s : Scene K V) (old new : Executor K V S) (at : IsAt same hash old s)
+    (run : ShowsRun same name terms log known s) (own : List ℕ) (mode : ResizeMode) (capacity : ℕ) (there : MapThere) (number : there.number ≡ (moment log).made) (i : ℕ) (b : Beginning K) where
+  pub refused_begins : s.makers i ≡ None → b.map ≡ there.number → (HasMade b.machine.stands → ⊥)
+      → (ComesAlone (MakeMap own mode capacity) log → FollowsModel terms.batch_size terms.roots log known s.world) → IsAt same hash new (record s { makers = with_at s.makers i (Some b) })
+      → InMakingEvent same name terms log (MakeMap own mode capacity) b.map (moment log) [] (moment log) known (record s { makers = with_at s.makers i (Some b) })
+  refused_begins idle map_is not_made before at2 = (
+    record {
+      of_maps = refl;
+      calls = makings_begin K V S same hash name log (moment log) known s old new at run.calls i b idle not_made (run.calls.uncounted b.map (omega (arith, map_is, number))) at2;
+      reading = record { begun = run.reading.begun; reads = run.reading.reads };
+      worked = refl;
+      granted = refl;
+      protects = record { inside = run.sections.0; sheltered = run.sections.1; spared = refl };
+    },
+    λ alone. making_sets_begin K V terms.batch_size terms.roots (things_in log) (sets_in terms.batch_size log) known s.world (before alone),
+    subst (λ (n : ℕ). NoneBorn n (moment log)) (sym map_is) (none_born K V (moment log) run.order.0 run.calls.numbers.0 there number),
+  )
+
+-- blocks are asked for at any moment, and store nothing
+module _ {K V : Type 0} (terms : Terms) (of : Option ℕ) where
+  asks_find : (fs : List Effect) (m : Moment K V) → list_all is_growth fs ≡ true → list_all is_first_making fs ≡ true → AtEachEffect (Finds terms None of false []) None of fs m
+  asks_find [] m asks firsts = tt
+  asks_find (Asked ABlock ∷ fs) m asks firsts = (tt, asks_find fs (with_effect None of (Asked ABlock) m) asks firsts)
+  asks_find (Asked ABucket ∷ fs) m asks firsts = absurd (cc firsts)
+  asks_find (_ ∷ fs) m asks firsts = absurd (cc asks)
+
+  asks_store : (fs : List Effect) (m : Moment K V) → list_all is_growth fs ≡ true → AtEachEffect (StoresOne None) None of fs m
+  asks_store [] m asks = tt
+  asks_store (Asked growth ∷ fs) m asks = (tt, asks_store fs (with_effect None of (Asked growth) m) asks)
+  asks_store (_ ∷ fs) m asks = absurd (cc asks)
+
+asks_shift : (fs : List Effect) → list_all is_growth fs ≡ true → flat_map shift_of fs ≡ []
+asks_shift [] asks = refl
+asks_shift (Asked growth ∷ fs) asks = asks_shift fs asks
+asks_shift (_ ∷ fs) asks = absurd (cc asks)
+
+module _ (K V S : Type 0) (same : K → K → Bool) (name : ℕ → List ℕ) (terms : Terms) (log : List (Entry K V)) (known known2 : Known) (before s : Scene K V) (own : List ℕ) (mode : ResizeMode) (capacity : ℕ) (fault : Fault)
+    (steps map : ℕ) (effects : List Effect) (midst : InMakingEvent same name terms log (MakeMap own mode capacity) map (moment log) effects (moment log) known2 s)
+    (asks : list_all is_growth effects ≡ true) (firsts : list_all is_first_making effects ≡ true) (never : is_busy {V = V} (Refused fault) ≡ false) (run : ShowsRun same name terms log known before) where
+  abbrev e : Entry K V
+  e = record { event = MakeMap own mode capacity; outcome = Refused fault; steps = steps; effects = effects }
+
+  abbrev m : Moment K V
+  m = moment log
+
+  worked_is : worked e m ≡ m
+  worked_is = growths_leave (acted_on e.event m) effects m asks
+
+  whole : IsWhole e.event (Refused fault) effects m (worked e m)
+  whole = by fault never
+    where
+      by : (its : Fault) → is_busy {V = V} (Refused its) ≡ false → IsWhole (MakeMap own mode capacity) (Refused its) effects m (worked e m)
+      by Busy none = absurd (cc none)
+      by _ none = asks
+
+  follows : IsByModel terms log e × ((moment (e ∷ log)).is_alone ≡ true → FollowsModel terms.batch_size terms.roots (e ∷ log) known2 s.world)
+  follows = making_events_follow K V same name terms log map m m known2 s e midst never
+
+  safe : IsProtected log e × SectionsHold (after e m) known2 s.world
+  safe = other_events_end_protected K V log e m m None (acted_on e.event m) known2 s.world refl refl refl refl (sym worked_is) midst.0.protects
+
+  legal : IsLegalBut same terms log e
+  legal = record {
+    brief = tt;
+    linearizable = no_calls_are_linearizable K V same log e refl (asks_shift effects asks);
+    swept = no_calls_are_swept K V same terms log e refl;
+    life = record {
+      finds = asks_find terms (acted_on e.event m) effects m asks firsts;
+      may = firsts;
+      granted = midst.0.granted;
+      refuses = refl;
+      whole = whole;
+      leaves = tt;
+    };
+    protected = safe.0;
+    by_model = follows.0;
+  }
+
+  like : IsLike m (moment (e ∷ log))
+  like = subst (λ (x : Moment K V). IsLike x (moment (e ∷ log))) worked_is refl
+
+  -- Once it is over the event is legal, and the run goes on.
+  pub refused_ends : ComesRight terms log e → IsLegalBut same terms log e × ShowsRun same name terms (e ∷ log) known2 s
+  refused_ends right = (
+    legal,
+    runs_go_on K V same name name terms log known known2 before s run e right legal.life (asks_store terms (acted_on e.event m) effects m asks) tt
+        (likes_show K V same name log m (moment (e ∷ log)) known2 s midst.0.calls like) (reading_like name log (λ j. 0) m (moment (e ∷ log)) s midst.0.reading like) safe.1 (λ alone. inl (follows.1 alone)),
+  )

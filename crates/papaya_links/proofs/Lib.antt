@@ -1,0 +1,12 @@
+pub mod Cut
+pub mod Owed
+pub mod Places
+pub mod Named
+pub mod Tied
+pub mod Closed
+pub mod Unlinked
+pub mod Before
+pub mod Makings
+pub mod Steps
+pub mod Lists
+mod Samples
