@@ -1,14 +1,2 @@
--- What each event does to the state of a run.
-pub mod All
-mod Cases
-mod Changed
-mod Emptied
-mod Emptying
-mod EndedPlaces
-pub mod Kinds
-pub mod Plain
+-- Guards and their slots.
 pub mod Seats
-pub mod Served
-pub mod Spent
-mod Storing
-mod Tables

@@ -7,9 +7,7 @@ use Rattle.std.proofs.lemmas.Grind.{get_or-set_at}
 use Rattle.std.proofs.lemmas.List.{get_or-set_other, get_or_default}
 use Rattle.std.proofs.lemmas.List.Folds.{find-append}
 use Rattle.papaya_runs.specs.declared.record.Pair.{Pair}
-use Rattle.papaya_runs.specs.declared.record.Run.{Run}
 use Rattle.papaya_runs.specs.PairPlaces.{ArePlaces}
-use Rattle.papaya_runs.specs.Record.{pair_of}
 
 at_append : {X : Type 0} → (xs ys : List X) (i : ℕ) (x : X) → slice_get xs i ≡ Some x → slice_get (xs ++ ys) i ≡ Some x
 at_append [] ys i x at = absurd (cc)
@@ -19,13 +17,6 @@ at_append (y ∷ xs) ys (suc i) x at = at_append xs ys i x at
 at_end : {X : Type 0} → (xs : List X) (x : X) → slice_get (xs ++ x ∷ []) (length xs) ≡ Some x
 at_end [] x = refl
 at_end (y ∷ xs) x = at_end xs x
-
--- a number without a place behind the others
-pub none_behind : (places : List (Option ℕ)) (n : ℕ) → slice_index_or (places ++ None ∷ []) n None ≡ slice_index_or places n None
-none_behind [] zero = refl
-none_behind [] (suc n) = refl
-none_behind (x ∷ places) zero = refl
-none_behind (x ∷ places) (suc n) = none_behind places n
 
 -- what was read at a place
 pub none_there : (places : List (Option ℕ)) (n : ℕ) (o : Option ℕ) → o ≡ slice_index_or places n o → is_none o ≡ true → slice_index_or places n None ≡ None
@@ -42,13 +33,6 @@ none_left [] none = refl
 none_left (x ∷ xs) none = absurd (omega (arith, none))
 
 module _ {K V : Type 0} where
-  -- the pair of a number, reclaimed or not
-  pub pair_of-first : (run : Run K V) (n : ℕ) (pair : Pair K V) → find (λ p. p.number == n) run.given_back ≡ Some pair → pair_of run n ≡ Some pair
-  pair_of-first run n pair is = find-append (λ p. p.number == n) run.given_back run.kept ∙ ap (λ o. option_or o (find (λ p. p.number == n) run.kept)) is
-
-  pub pair_of-second : (run : Run K V) (n : ℕ) → find (λ p. p.number == n) run.given_back ≡ None → pair_of run n ≡ find (λ p. p.number == n) run.kept
-  pair_of-second run n is = find-append (λ p. p.number == n) run.given_back run.kept ∙ ap (λ o. option_or o (find (λ p. p.number == n) run.kept)) is
-
   -- more room for places
   pub places_same : (pairs : List (Pair K V)) (places more : List (Option ℕ)) → ArePlaces pairs places
       → ((n : ℕ) → slice_index_or more n None ≡ slice_index_or places n None) → ArePlaces pairs more

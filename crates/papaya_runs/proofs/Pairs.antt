@@ -1,6 +1,2 @@
--- The pairs of a run: in the map by their key classes, waiting, and reclaimed.
-pub mod Agreement
-pub mod Classes
-pub mod Given
+-- Lists of pairs, by their numbers.
 pub mod Held
-pub mod Moves

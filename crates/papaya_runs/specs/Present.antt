@@ -1,5 +1,5 @@
 -- Who is there at a moment: registrations, each with its slot, and guards, each on a slot.
-use Rattle.std.specs.Prelude.{◌≡◌, ℕ, ◌+◌, ◌==◌, ◌<◌, ◌≤◌, Bool, true, false, not, ◌&&◌, ◌||◌, List, [], ◌∷◌, ◌++◌, filter, find, map, Option, Some, None, if◌then◌else◌}
+use Rattle.std.specs.Prelude.{ℕ, ◌+◌, ◌==◌, ◌≤◌, Bool, true, false, not, ◌&&◌, List, [], ◌∷◌, ◌++◌, filter, find, map, Option, Some, None, if◌then◌else◌}
 use Rattle.std.specs.List.{list_any, list_all}
 use Rattle.papaya_runs.specs.Same.{is_same}
 use Rattle.papaya_runs.specs.declared.holders.Registration.{Registration}
@@ -57,14 +57,6 @@ all_forgotten guards = list_all (λ g. g.forgotten) guards
 abbrev pub has_registration : ℕ → List Registration → Bool
 has_registration slot registrations = list_any (λ r. r.slot == slot) registrations
 
--- a slot is in use from its registration on, until that has ended and no guard is left on it
-abbrev pub IsUsed : ℕ → Present → Type 0
-IsUsed slot there = (has_registration slot there.registrations || not (guards_on slot there.guards == 0)) ≡ true
-
--- the slot is the least that is not in use
-abbrev pub IsNewSlot : ℕ → Present → Type 0
-IsNewSlot slot there = (IsUsed slot there → ⊥) × ((t : ℕ) → t < slot → IsUsed t there)
-
 -- how many guards have this name
 abbrev pub guards_named : List ℕ → List Guard → ℕ
 guards_named name [] = 0
@@ -84,19 +76,6 @@ pub record HaveNames (there : Present) : Type 0 where
   pub guards : (name : List ℕ) → guards_named name there.guards ≤ 1
   pub registrations : (name : List ℕ) → registrations_named name there.registrations ≤ 1
   pub slots : (slot : ℕ) → registrations_on slot there.registrations ≤ 1
-
--- a guard that lives is on the slot of a registration
-abbrev pub HaveHomes : Present → Type 0
-HaveHomes there = (slot : ℕ) → 0 < living_on slot there.guards → has_registration slot there.registrations ≡ true
-
--- the guard of this name lives, and was not forgotten
-abbrev pub IsLiving : List ℕ → Present → Type 0
-IsLiving name there = (g : Guard) × (guard_of name there.guards ≡ Some g) × (g.forgotten ≡ false)
-
--- each guard that is there was forgotten
-abbrev pub AllForgotten : List Guard → Type 0
-AllForgotten [] = Unit {0}
-AllForgotten (g ∷ guards) = (g.forgotten ≡ true) × AllForgotten guards
 
 -- what changes
 

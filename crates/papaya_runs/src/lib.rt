@@ -1,4 +1,4 @@
-//! What a run of a schedule is: its events, what each comes to and does, and what is promised of it.
+//! Words of runs of schedules: names, pairs, tables, single events, and who holds a slot.
 #![tactic(auto)]
 
 pub mod event;
