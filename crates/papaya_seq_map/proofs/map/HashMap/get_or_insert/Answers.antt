@@ -1,6 +1,6 @@
 -- By what the insertion came to that was tried, and what it met.
 use Rattle.std.proofs.Common.{refl}
-use Rattle.papaya_seq_map.proofs.Getting.{tried_got, tried_meets}
+use Rattle.papaya_seq_map.proofs.Got.{tried_got, tried_meets}
 use Rattle.papaya_seq_map.proofs.map.HashMap.get_or_insert.Goals as goal
 
 pub returns-in-Some : goal.returns-in-Some

@@ -1,6 +1,6 @@
 -- By what the call did that stores a value that is begun, and what it met.
 use Rattle.std.proofs.Common.{refl}
-use Rattle.papaya_seq_map.proofs.Getting.{done_got, done_meets}
+use Rattle.papaya_seq_map.proofs.Got.{done_got, done_meets}
 use Rattle.papaya_seq_map.proofs.map.HashMap.get_or_insert_with.Goals as goal
 
 pub returns-in-Some : goal.returns-in-Some
