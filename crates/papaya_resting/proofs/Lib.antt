@@ -1,4 +1,5 @@
 -- Lemmas on the memory of a map for one owner, between its calls.
+mod Because
 mod Done
 pub mod Given
 mod Keeps

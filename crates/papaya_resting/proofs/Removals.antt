@@ -32,6 +32,7 @@ use Rattle.papaya_owned.specs.declared.machines.Stop.TheVariants as stop
 use Rattle.papaya_raw.specs.declared.machines.answer.KeyAnswer.TheVariants as answers
 use Rattle.papaya_resting.specs.Calls.{has_removed}
 use Rattle.papaya_resting.specs.Lasts.{IsPairOf, RestsWith, words_of_stop}
+use Rattle.papaya_resting.specs.Refreshed.{HasRefreshed}
 use Rattle.papaya_resting.specs.declared.last.Last.{Last}
 use Rattle.papaya_owned.proofs.Owned.Refreshes.{refreshing_ends, refreshed, begins_refreshing}
 use Rattle.papaya_owned.proofs.Runs.Steps.{ends_on, may_step}
@@ -79,6 +80,9 @@ module _ {K V : Type 0} (same : K → K → Bool) (hash : K → ℕ) (setting : 
         by true e = absurd (true≢false e)
         by false e = refl
 
+    pub passed_refreshes : head ≤ ACTIVE → HasRefreshed setting m n
+    passed_refreshes le = (record { leave = standing begun leave_at.Over }, Ok tt, passed le)
+
     pub none_waits : head ≤ ACTIVE → Holds same hash setting n xs
     none_waits le = refresh_holds same hash setting m xs h begun refl (record { leave = standing begun leave_at.Over }) n (Ok tt) (passed le)
 
@@ -105,6 +109,9 @@ module _ {K V : Type 0} (same : K → K → Bool) (hash : K → ℕ) (setting : 
       pub counted_holds : (x : Refreshes) (m2 : Mem (Node K V)) (result : Result Unit Fault) → RunsTo plan_of (counting settle) n x m2 result → Holds same hash setting m2 xs
       counted_holds x m2 result runs =
           refresh_holds same hash setting m xs h begun refl x m2 result (goes (record { leave = begun }) m (counting settle) n progress.Goes tt taken x m2 result runs)
+
+      pub counted_refreshes : (x : Refreshes) (m2 : Mem (Node K V)) (result : Result Unit Fault) → RunsTo plan_of (counting settle) n x m2 result → HasRefreshed setting m m2
+      counted_refreshes x m2 result runs = (x, result, goes (record { leave = begun }) m (counting settle) n progress.Goes tt taken x m2 result runs)
 
       pub counted_none : (x : Refreshes) (m2 : Mem (Node K V)) (result : Result Unit Fault) → RunsTo plan_of (counting settle) n x m2 result → NoneCame m m2
       counted_none x m2 result runs =

@@ -3,4 +3,5 @@ pub mod Calls
 pub mod Given
 pub mod Held
 pub mod Lasts
+pub mod Refreshed
 pub mod Storing

@@ -1,5 +1,5 @@
 //! Refreshes of the owner's section, and removals. Each change begins with a refresh.
-ghost use Rattle.std.specs.Prelude.{◌≡◌, List, [], None, is_some, IfErr, IfOk, OnOk, OnErr};
+ghost use Rattle.std.specs.Prelude.{◌≡◌, List, [], None, is_some, IfErr, IfOk, OnOk, OnErr, Err};
 ghost use Rattle.papaya_owned.specs.Given.Late.Faults.{IsRoom};
 ghost use Rattle.papaya_owned.specs.Given.Shown.Chain.{CannotGrowIn};
 ghost use Rattle.seize_words.specs.declared.fault.Fault.TheVariants.{Capacity};
@@ -8,6 +8,11 @@ ghost use Rattle.papaya_holds.specs.Held.{HoldsOn, held_in};
 ghost use Rattle.papaya_owned.specs.Owned.{Holds, found_by, hashed_by, left_by};
 ghost use Rattle.papaya_resting.specs.Calls.{has_removed};
 ghost use Rattle.papaya_resting.specs.Lasts.{RestsWith};
+ghost use Rattle.papaya_resting.specs.Refreshed.{HasRefreshed, OnceRefreshed};
+ghost use Rattle.papaya_owned.specs.Calling.{HasStopped};
+ghost use Rattle.papaya_owned.specs.Given.Callers.Pairs.{Begun};
+ghost use Rattle.papaya_owned.specs.Given.Callers.Kind.{removes};
+ghost use Rattle.papaya_asks.specs.Asking.{by_lent};
 
 use crate::last::{Last, told_at};
 use papaya_owned::{Refreshes, Stop, run};
@@ -28,6 +33,7 @@ pub fn refresh<K: Eq + Hash + Drop, V: Drop, S: BuildHasher>(
     ensures holds { (xs : List (K × V)) → Holds K.eq (hashed_by S.Hasher.finish S.Hasher.write S.build_hasher K.hash_input _hasher.now) setting memory.old xs
         → Holds K.eq (hashed_by S.Hasher.finish S.Hasher.write S.build_hasher K.hash_input _hasher.now) setting memory.new xs }
     ensures none { NoneCame memory.old memory.new }
+    ensures ran { HasRefreshed setting memory.old memory.new }
 {
     let head = memory.swap(At::Slot(setting.slot, HEAD), ACTIVE);
     if head <= ACTIVE {
@@ -68,6 +74,7 @@ pub fn remove<K: Eq + Hash + Drop, V: Drop, Q: Equivalent<K>, S: BuildHasher>(
         → OnErr result (RestsWith K.eq (hashed_by S.Hasher.finish S.Hasher.write S.build_hasher K.hash_input hasher.now) setting memory.new last.new xs None None) }
     ensures fault { IfErr result IsRoom }
     ensures capacity { (xs : List (K × V)) → Holds K.eq (hashed_by S.Hasher.finish S.Hasher.write S.build_hasher K.hash_input hasher.now) setting memory.old xs → IfErr result (λ fault. fault ≡ Capacity → CannotGrowIn memory.new setting) }
+    ensures because { IfErr result (λ fault. OnceRefreshed setting memory.old (λ m. HasStopped (by_lent Q.Equivalent.equivalent) K.eq (hashed_by S.Hasher.finish S.Hasher.write S.build_hasher K.hash_input) hasher.entry setting m (Q.Equivalent.equivalent asked.now) (Begun removes None) memory.new (Err fault))) }
     ensures keeps { (xs : List (K × V)) → Holds K.eq (hashed_by S.Hasher.finish S.Hasher.write S.build_hasher K.hash_input hasher.now) setting memory.old xs
         → HoldsOn [] xs (held_in memory.old) (held_in memory.new) }
 {

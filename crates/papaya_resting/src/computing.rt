@@ -1,5 +1,5 @@
 //! A call that computes what is to be done with a key, after a refresh.
-ghost use Rattle.std.specs.Prelude.{◌≡◌, List, Some, IfErr};
+ghost use Rattle.std.specs.Prelude.{◌≡◌, List, Some, IfErr, [], Err};
 ghost use Rattle.papaya_asks.specs.Closures.{ComputesAs, ComputingTakes};
 ghost use Rattle.papaya_holds.specs.Held.{HoldsOn, held_in};
 ghost use Rattle.papaya_owned.specs.Given.Shown.Chain.{CannotGrowIn};
@@ -8,6 +8,10 @@ ghost use Rattle.papaya_resting.specs.Asking.{ComputesToIt};
 ghost use Rattle.papaya_resting.specs.Held.{stored_computing};
 ghost use Rattle.papaya_resting.specs.Lasts.{RestsWith, pair_in};
 ghost use Rattle.seize_words.specs.declared.fault.Fault.TheVariants.{Capacity};
+ghost use Rattle.papaya_resting.specs.Refreshed.{OnceRefreshed};
+ghost use Rattle.papaya_owned.specs.Calling.{HasStopped};
+ghost use Rattle.papaya_owned.specs.Given.Callers.Pairs.{IsTold};
+ghost use Rattle.papaya_owned.specs.Given.Callers.Kind.{computes};
 
 use crate::change::{Compute, computed};
 use crate::changes::refresh;
@@ -38,6 +42,7 @@ pub fn compute<
         → ComputesToIt (K.eq key) (Some key) (ComputesAs F.FnOnce decide) xs (RestsWith K.eq (hashed_by S.Hasher.finish S.Hasher.write S.build_hasher K.hash_input hasher.now) setting memory.new last.new) (λ r. r.fault) result }
     ensures back { IfErr result (λ r. r.key ≡ key) }
     ensures capacity { (xs : List (K × V)) → Holds K.eq (hashed_by S.Hasher.finish S.Hasher.write S.build_hasher K.hash_input hasher.now) setting memory.old xs → IfErr result (λ r. r.fault ≡ Capacity → CannotGrowIn memory.new setting) }
+    ensures because { IfErr result (λ r. OnceRefreshed setting memory.old (λ m. HasStopped K.eq K.eq (hashed_by S.Hasher.finish S.Hasher.write S.build_hasher K.hash_input) hasher.entry setting m (K.eq key) (IsTold computes (Some key) []) memory.new (Err r.fault))) }
     ensures keeps { (xs : List (K × V)) → Holds K.eq (hashed_by S.Hasher.finish S.Hasher.write S.build_hasher K.hash_input hasher.now) setting memory.old xs
         → HoldsOn (stored_computing result (pair_in memory.new last.new.met)) xs (held_in memory.old) (held_in memory.new) }
 {

@@ -1,6 +1,6 @@
 //! Insertions, each after a refresh.
-ghost use Rattle.std.specs.Prelude.{◌≡◌, true, false, List, [], ◌∷◌, ◌++◌, None, Some, is_some, IsTrue, IfOk, IfErr, OnOk, OnErr};
-ghost use Rattle.papaya_owned.specs.Given.Callers.Kind.{Kind};
+ghost use Rattle.std.specs.Prelude.{◌≡◌, true, false, List, [], ◌∷◌, ◌++◌, None, Some, is_some, IsTrue, IfOk, IfErr, OnOk, OnErr, Err};
+ghost use Rattle.papaya_owned.specs.Given.Callers.Kind.{Kind, inserts, tries_to_insert};
 ghost use Rattle.papaya_owned.specs.Given.Late.Faults.{IsRoom};
 ghost use Rattle.papaya_owned.specs.Given.Shown.Chain.{CannotGrowIn};
 ghost use Rattle.seize_words.specs.declared.fault.Fault.TheVariants.{Capacity};
@@ -13,6 +13,7 @@ ghost use Rattle.papaya_resting.specs.Storing.{storing};
 ghost use Rattle.papaya_resting.specs.Calls.{StoresPair, has_found, has_replaced};
 ghost use Rattle.papaya_resting.specs.Held.{if_stored, if_tried};
 ghost use Rattle.papaya_resting.specs.Lasts.{RestsWith};
+ghost use Rattle.papaya_resting.specs.Refreshed.{OnceRefreshed};
 
 use crate::changes::refresh;
 use crate::last::{Last, told_at};
@@ -105,6 +106,7 @@ pub fn insert<K: Eq + Hash + Drop, V: Drop, S: BuildHasher>(
     ensures back { IfErr result (λ r. (r.key ≡ key) × (r.value ≡ value)) }
     ensures fault { IfErr result (λ r. IsRoom r.fault) }
     ensures capacity { (xs : List (K × V)) → Holds K.eq (hashed_by S.Hasher.finish S.Hasher.write S.build_hasher K.hash_input hasher.now) setting memory.old xs → IfErr result (λ r. r.fault ≡ Capacity → CannotGrowIn memory.new setting) }
+    ensures because { IfErr result (λ r. OnceRefreshed setting memory.old (λ m. HasStopped K.eq K.eq (hashed_by S.Hasher.finish S.Hasher.write S.build_hasher K.hash_input) hasher.entry setting m (K.eq key) (Begun inserts (Some (node.Pair key value))) memory.new (Err r.fault))) }
     ensures keeps { (xs : List (K × V)) → Holds K.eq (hashed_by S.Hasher.finish S.Hasher.write S.build_hasher K.hash_input hasher.now) setting memory.old xs
         → HoldsOn (if_stored result (key, value)) xs (held_in memory.old) (held_in memory.new) }
 {
@@ -140,6 +142,7 @@ pub fn try_insert<K: Eq + Hash + Drop, V: Drop, S: BuildHasher>(
     ensures back { IfErr result (λ r. (r.key ≡ key) × (r.value ≡ value)) }
     ensures fault { IfErr result (λ r. IsRoom r.fault) }
     ensures capacity { (xs : List (K × V)) → Holds K.eq (hashed_by S.Hasher.finish S.Hasher.write S.build_hasher K.hash_input hasher.now) setting memory.old xs → IfErr result (λ r. r.fault ≡ Capacity → CannotGrowIn memory.new setting) }
+    ensures because { IfErr result (λ r. OnceRefreshed setting memory.old (λ m. HasStopped K.eq K.eq (hashed_by S.Hasher.finish S.Hasher.write S.build_hasher K.hash_input) hasher.entry setting m (K.eq key) (Begun tries_to_insert (Some (node.Pair key value))) memory.new (Err r.fault))) }
     ensures keeps { (xs : List (K × V)) → Holds K.eq (hashed_by S.Hasher.finish S.Hasher.write S.build_hasher K.hash_input hasher.now) setting memory.old xs
         → HoldsOn (if_tried result (key, value)) xs (held_in memory.old) (held_in memory.new) }
 {

@@ -4,6 +4,10 @@ ghost use Rattle.papaya_owned.specs.Given.Late.Faults.{IsRoom};
 ghost use Rattle.papaya_holds.specs.Held.{HoldsOn, held_in};
 ghost use Rattle.papaya_owned.specs.Owned.{Holds, hashed_by};
 ghost use Rattle.papaya_owned.specs.Rooms.{CannotMakeRoom, HasRoomFor};
+ghost use Rattle.papaya_owned.specs.Ending.{HasCome};
+ghost use Rattle.papaya_owned.specs.Given.Reserves.Reserve.{reserving};
+ghost use Rattle.papaya_owned.specs.Machines.{for_room_plan};
+ghost use Rattle.papaya_resting.specs.Refreshed.{OnceRefreshed};
 ghost use Rattle.seize_words.specs.declared.fault.Fault.TheVariants.{Capacity};
 
 use crate::changes::refresh;
@@ -27,6 +31,7 @@ pub fn reserve<K: Eq + Hash + Drop, V: Drop, S: BuildHasher>(
     ensures fault { IfErr result IsRoom }
     ensures capacity { (xs : List (K × V)) → Holds K.eq (hashed_by S.Hasher.finish S.Hasher.write S.build_hasher K.hash_input hasher.now) setting memory.old xs
         → IfErr result (λ fault. fault ≡ Capacity → CannotMakeRoom setting memory.new additional (length xs)) }
+    ensures ran { OnceRefreshed setting memory.old (λ m. HasCome (for_room_plan (hashed_by S.Hasher.finish S.Hasher.write S.build_hasher K.hash_input)) (record { reserve = reserving setting additional; hasher = hasher.entry }) m memory.new result) }
     ensures keeps { (xs : List (K × V)) → Holds K.eq (hashed_by S.Hasher.finish S.Hasher.write S.build_hasher K.hash_input hasher.now) setting memory.old xs
         → HoldsOn [] xs (held_in memory.old) (held_in memory.new) }
 {

@@ -6,6 +6,12 @@ use Rattle.papaya_owned.specs.Owned.{hashed_by}
 use Rattle.papaya_resting.proofs.Done.{with_as, pair_comes_back, pair_capacity}
 use Rattle.papaya_asks.specs.declared.refused.Refused.{Refused}
 use Rattle.papaya_resting.proofs.Keeps.{change_holds_on}
+use Rattle.std.specs.Prelude.{[], Some}
+use Rattle.papaya_owned.specs.Given.Callers.Kind.{updates_or_inserts}
+use Rattle.papaya_owned.specs.Given.Callers.Pairs.{IsTold}
+use Rattle.papaya_owned.specs.Calling.{HasStopped}
+use Rattle.papaya_resting.specs.Refreshed.{OnceRefreshed}
+use Rattle.papaya_resting.proofs.Because.{refused_because}
 use Rattle.papaya_resting.proofs.asking.update_or_insert.Goals as goal
 
 pub refresh-requires : goal.refresh-requires
@@ -33,3 +39,8 @@ returns-clause-capacity g c = λ xs has.
 pub returns-clause-keeps : goal.returns-clause-keeps
 returns-clause-keeps g c = λ xs has.
     change_holds_on _ _ c.refresh.ensures.none g.K.PartialEq.eq (hashed_by g.S.Hasher.Hasher.finish g.S.Hasher.Hasher.write g.S.BuildHasher.build_hasher g.K.Hash.hash_input) c.args.hasher c.args.setting xs (c.refresh.ensures.holds xs has) _ _ _ _ (λ (e : Refused _ _). e.fault) c.update_or_insert.result c.update_or_insert.ensures.ran c.ended.new.last c.ended.ensures.words c.ended.result c.ended.ensures.done
+
+pub returns-clause-because : goal.returns-clause-because
+returns-clause-because g c =
+    refused_because (λ end. OnceRefreshed c.args.setting c.args.memory.now (λ m. HasStopped g.K.PartialEq.eq g.K.PartialEq.eq (hashed_by g.S.Hasher.Hasher.finish g.S.Hasher.Hasher.write g.S.BuildHasher.build_hasher g.K.Hash.hash_input) c.args.hasher c.args.setting m (g.K.PartialEq.eq c.args.key) (IsTold updates_or_inserts (Some c.args.key) []) c.update_or_insert.new.memory end))
+    (λ (e : Refused _ _). e.fault) c.update_or_insert.result (_, c.refresh.ensures.ran, c.update_or_insert.ensures.ran) c.ended.result c.ended.ensures.done

@@ -1,5 +1,5 @@
 -- The list of the slot is taken, and counted down, if there is one: the map has the same pairs.
-use Rattle.papaya_resting.proofs.Removals.{head_can, none_came, none_waits, counting_ends, counted_holds, counted_none}
+use Rattle.papaya_resting.proofs.Removals.{head_can, none_came, none_waits, counting_ends, counted_holds, counted_none, counted_refreshes, passed_refreshes}
 use Rattle.papaya_resting.proofs.changes.refresh.Goals as goal
 
 pub swap-head-requires : goal.swap-head-requires
@@ -25,3 +25,12 @@ pub returns-clause-none : goal.returns-clause-none
 returns-clause-none g c =
     let r = c.requires in
     counted_none _ _ c.args.setting c.args.memory.now c.swap-head.new.self r.0 r.1 c.swap-head.result c.swap-head.ensures c.if-head-le-ACTIVE.false _ c.count_down-settle.ensures _ _ _ c.run.ensures
+
+pub returns-then-head-le-ACTIVE-clause-ran : goal.returns-then-head-le-ACTIVE-clause-ran
+returns-then-head-le-ACTIVE-clause-ran g c =
+    let r = c.requires in passed_refreshes _ _ c.args.setting c.args.memory.now c.swap-head.new.self r.0 r.1 c.swap-head.result c.swap-head.ensures c.if-head-le-ACTIVE.true
+
+pub returns-clause-ran : goal.returns-clause-ran
+returns-clause-ran g c =
+    let r = c.requires in
+    counted_refreshes _ _ c.args.setting c.args.memory.now c.swap-head.new.self r.0 r.1 c.swap-head.result c.swap-head.ensures c.if-head-le-ACTIVE.false _ c.count_down-settle.ensures _ _ _ c.run.ensures

@@ -3,6 +3,12 @@ use Rattle.papaya_asks.specs.Closures.{ComputesAs}
 use Rattle.papaya_owned.specs.Owned.{hashed_by}
 use Rattle.papaya_resting.proofs.Done.{computes_as, computing_capacity, key_of_computing}
 use Rattle.papaya_resting.proofs.Keeps.{computing_holds_on}
+use Rattle.std.specs.Prelude.{[], Some}
+use Rattle.papaya_owned.specs.Given.Callers.Kind.{computes}
+use Rattle.papaya_owned.specs.Given.Callers.Pairs.{IsTold}
+use Rattle.papaya_owned.specs.Calling.{HasStopped}
+use Rattle.papaya_resting.specs.Refreshed.{OnceRefreshed}
+use Rattle.papaya_resting.proofs.Because.{computing_because}
 use Rattle.papaya_resting.proofs.computing.compute.Goals as goal
 
 pub refresh-requires : goal.refresh-requires
@@ -30,3 +36,8 @@ returns-clause-capacity g c = λ xs has.
 pub returns-clause-keeps : goal.returns-clause-keeps
 returns-clause-keeps g c = λ xs has.
     computing_holds_on _ _ c.refresh.ensures.none g.K.PartialEq.eq (hashed_by g.S.Hasher.Hasher.finish g.S.Hasher.Hasher.write g.S.BuildHasher.build_hasher g.K.Hash.hash_input) c.args.hasher c.args.setting xs (c.refresh.ensures.holds xs has) _ _ _ _ c.args.key (ComputesAs g.F.FnOnce c.args.decide) c.compute.result (c.compute.ensures.comes xs (c.refresh.ensures.holds xs has)) c.compute.ensures.ran c.computed.new.last c.computed.ensures.words c.computed.result c.computed.ensures.done
+
+pub returns-clause-because : goal.returns-clause-because
+returns-clause-because g c =
+    computing_because (λ end. OnceRefreshed c.args.setting c.args.memory.now (λ m. HasStopped g.K.PartialEq.eq g.K.PartialEq.eq (hashed_by g.S.Hasher.Hasher.finish g.S.Hasher.Hasher.write g.S.BuildHasher.build_hasher g.K.Hash.hash_input) c.args.hasher c.args.setting m (g.K.PartialEq.eq c.args.key) (IsTold computes (Some c.args.key) []) c.compute.new.memory end))
+    c.compute.result (_, c.refresh.ensures.ran, c.compute.ensures.ran) c.computed.result c.computed.ensures.done

@@ -8,6 +8,10 @@ use Rattle.papaya_owned.specs.Owned.{hashed_by}
 use Rattle.papaya_resting.proofs.Removals.{room_of}
 use Rattle.papaya_resting.proofs.Stores.{stored_so, refused_so, back_so, inserts_this, same_pair}
 use Rattle.papaya_resting.proofs.Keeps.{insertion_holds_on, refused}
+use Rattle.papaya_owned.specs.Given.Callers.Pairs.{Begun}
+use Rattle.papaya_owned.specs.Calling.{HasStopped}
+use Rattle.papaya_resting.specs.Refreshed.{OnceRefreshed}
+use Rattle.papaya_resting.proofs.Because.{storing_because}
 use Rattle.papaya_resting.proofs.insertions.insert.Goals as goal
 
 pub store-requires-clause-call : goal.store-requires-clause-call
@@ -74,3 +78,9 @@ returns-in-Err-default-clause-keeps g c = λ xs has.
 pub returns-in-Ok-default-clause-keeps : goal.returns-in-Ok-default-clause-keeps
 returns-in-Ok-default-clause-keeps g c = λ xs has.
     insertion_holds_on _ _ c.refresh.ensures.none g.K.PartialEq.eq (hashed_by g.S.Hasher.Hasher.finish g.S.Hasher.Hasher.write g.S.BuildHasher.build_hasher g.K.Hash.hash_input) c.args.hasher c.args.setting xs (c.refresh.ensures.holds xs has) _ _ _ _ c.args.key c.args.value c.store.result.0 (c.store.ensures.ends xs inserts c.args.key c.args.value (c.refresh.ensures.holds xs has) (inserts_this ((hashed_by g.S.Hasher.Hasher.finish g.S.Hasher.Hasher.write g.S.BuildHasher.build_hasher g.K.Hash.hash_input) c.args.hasher.now) c.args.setting c.args.key c.args.value _ _ c.hash_of-hash.ensures refl)) (c.store.ensures.ran inserts c.args.key c.args.value (inserts_this ((hashed_by g.S.Hasher.Hasher.finish g.S.Hasher.Hasher.write g.S.BuildHasher.build_hasher g.K.Hash.hash_input) c.args.hasher.now) c.args.setting c.args.key c.args.value _ _ c.hash_of-hash.ensures refl)) c.in-Ok-default.stop c.in-Ok-default.is-0
+
+pub returns-in-Err-default-clause-because : goal.returns-in-Err-default-clause-because
+returns-in-Err-default-clause-because g c =
+    storing_because (λ end. OnceRefreshed c.args.setting c.args.memory.now (λ m. HasStopped g.K.PartialEq.eq g.K.PartialEq.eq (hashed_by g.S.Hasher.Hasher.finish g.S.Hasher.Hasher.write g.S.BuildHasher.build_hasher g.K.Hash.hash_input) c.args.hasher c.args.setting m (g.K.PartialEq.eq c.args.key) (Begun inserts (Some (node.Pair c.args.key c.args.value))) c.store.new.memory end))
+    c.store.result.0 c.in-Err-default.fault _ c.in-Err-default.is-0 c.refused.ensures.fault
+    (_, c.refresh.ensures.ran, c.store.ensures.ran inserts c.args.key c.args.value (inserts_this ((hashed_by g.S.Hasher.Hasher.finish g.S.Hasher.Hasher.write g.S.BuildHasher.build_hasher g.K.Hash.hash_input) c.args.hasher.now) c.args.setting c.args.key c.args.value _ _ c.hash_of-hash.ensures refl))

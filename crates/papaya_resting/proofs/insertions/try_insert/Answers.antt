@@ -9,6 +9,10 @@ use Rattle.papaya_resting.proofs.Removals.{room_of}
 use Rattle.std.proofs.lemmas.Result.{on_ok_weaker, on_err_weaker}
 use Rattle.papaya_resting.proofs.Stores.{tried_so, back_found, refused_so, back_so, tries_this, same_pair, value_back}
 use Rattle.papaya_resting.proofs.Keeps.{refused, try_holds_on}
+use Rattle.papaya_owned.specs.Given.Callers.Pairs.{Begun}
+use Rattle.papaya_owned.specs.Calling.{HasStopped}
+use Rattle.papaya_resting.specs.Refreshed.{OnceRefreshed}
+use Rattle.papaya_resting.proofs.Because.{storing_because}
 use Rattle.papaya_resting.proofs.insertions.try_insert.Goals as goal
 
 pub store-requires-clause-call : goal.store-requires-clause-call
@@ -91,3 +95,9 @@ returns-in-Err-default-clause-keeps g c = λ xs has.
 pub returns-in-Ok-default-clause-keeps : goal.returns-in-Ok-default-clause-keeps
 returns-in-Ok-default-clause-keeps g c = λ xs has.
     try_holds_on _ _ c.refresh.ensures.none g.K.PartialEq.eq (hashed_by g.S.Hasher.Hasher.finish g.S.Hasher.Hasher.write g.S.BuildHasher.build_hasher g.K.Hash.hash_input) c.args.hasher c.args.setting xs (c.refresh.ensures.holds xs has) _ _ _ _ c.args.key c.args.value c.store.result.0 (c.store.ensures.ends xs tries_to_insert c.args.key c.args.value (c.refresh.ensures.holds xs has) (tries_this ((hashed_by g.S.Hasher.Hasher.finish g.S.Hasher.Hasher.write g.S.BuildHasher.build_hasher g.K.Hash.hash_input) c.args.hasher.now) c.args.setting c.args.key c.args.value _ _ c.hash_of-hash.ensures refl)) (c.store.ensures.ran tries_to_insert c.args.key c.args.value (tries_this ((hashed_by g.S.Hasher.Hasher.finish g.S.Hasher.Hasher.write g.S.BuildHasher.build_hasher g.K.Hash.hash_input) c.args.hasher.now) c.args.setting c.args.key c.args.value _ _ c.hash_of-hash.ensures refl)) c.in-Ok-default.stop c.in-Ok-default.is-0 c.tried.result c.tried.ensures.stored c.tried.ensures.found
+
+pub returns-in-Err-default-clause-because : goal.returns-in-Err-default-clause-because
+returns-in-Err-default-clause-because g c =
+    storing_because (λ end. OnceRefreshed c.args.setting c.args.memory.now (λ m. HasStopped g.K.PartialEq.eq g.K.PartialEq.eq (hashed_by g.S.Hasher.Hasher.finish g.S.Hasher.Hasher.write g.S.BuildHasher.build_hasher g.K.Hash.hash_input) c.args.hasher c.args.setting m (g.K.PartialEq.eq c.args.key) (Begun tries_to_insert (Some (node.Pair c.args.key c.args.value))) c.store.new.memory end))
+    c.store.result.0 c.in-Err-default.fault _ c.in-Err-default.is-0 c.refused.ensures.fault
+    (_, c.refresh.ensures.ran, c.store.ensures.ran tries_to_insert c.args.key c.args.value (tries_this ((hashed_by g.S.Hasher.Hasher.finish g.S.Hasher.Hasher.write g.S.BuildHasher.build_hasher g.K.Hash.hash_input) c.args.hasher.now) c.args.setting c.args.key c.args.value _ _ c.hash_of-hash.ensures refl))

@@ -19,3 +19,6 @@ returns-clause-capacity g c = λ xs has. room_capacity _ _ _ _ _ xs _ (c.make_ro
 pub returns-clause-keeps : goal.returns-clause-keeps
 returns-clause-keeps g c = λ xs has.
     room_holds_on _ _ c.refresh.ensures.none g.K.PartialEq.eq (hashed_by g.S.Hasher.Hasher.finish g.S.Hasher.Hasher.write g.S.BuildHasher.build_hasher g.K.Hash.hash_input) c.args.hasher c.args.setting xs (c.refresh.ensures.holds xs has) _ c.make_room.ensures.ran (room_holds _ _ _ _ _ xs _ (c.make_room.ensures.room xs (c.refresh.ensures.holds xs has)))
+
+pub returns-clause-ran : goal.returns-clause-ran
+returns-clause-ran g c = (_, c.refresh.ensures.ran, c.make_room.ensures.ran)

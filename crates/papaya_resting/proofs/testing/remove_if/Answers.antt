@@ -1,9 +1,15 @@
 -- By what the call comes to, after the refresh.
-use Rattle.std.specs.Prelude.{None}
+use Rattle.std.specs.Prelude.{[], None}
 use Rattle.papaya_asks.specs.Closures.{Removing, TestsAs}
 use Rattle.papaya_owned.specs.Owned.{hashed_by}
 use Rattle.papaya_resting.proofs.Done.{ends_as, end_capacity}
 use Rattle.papaya_resting.proofs.Keeps.{chosen_holds_on}
+use Rattle.papaya_owned.specs.Given.Callers.Kind.{removes_if}
+use Rattle.papaya_owned.specs.Given.Callers.Pairs.{IsTold}
+use Rattle.papaya_owned.specs.Calling.{HasStopped}
+use Rattle.papaya_resting.specs.Refreshed.{OnceRefreshed}
+use Rattle.papaya_asks.specs.Asking.{by_lent}
+use Rattle.papaya_resting.proofs.Because.{refused_because}
 use Rattle.papaya_resting.proofs.testing.remove_if.Goals as goal
 
 pub refresh-requires : goal.refresh-requires
@@ -25,3 +31,8 @@ returns-clause-capacity g c = λ xs has.
 pub returns-clause-keeps : goal.returns-clause-keeps
 returns-clause-keeps g c = λ xs has.
     chosen_holds_on _ _ c.refresh.ensures.none g.K.PartialEq.eq (hashed_by g.S.Hasher.Hasher.finish g.S.Hasher.Hasher.write g.S.BuildHasher.build_hasher g.K.Hash.hash_input) c.args.hasher c.args.setting xs (c.refresh.ensures.holds xs has) _ _ _ _ (g.Q.Equivalent.equivalent c.args.asked.now) (Removing (TestsAs g.F.FnOnce c.args.test)) c.remove_if.result (c.remove_if.ensures.comes xs (c.refresh.ensures.holds xs has)) c.remove_if.ensures.ran
+
+pub returns-clause-because : goal.returns-clause-because
+returns-clause-because g c =
+    refused_because (λ end. OnceRefreshed c.args.setting c.args.memory.now (λ m. HasStopped (by_lent g.Q.Equivalent.equivalent) g.K.PartialEq.eq (hashed_by g.S.Hasher.Hasher.finish g.S.Hasher.Hasher.write g.S.BuildHasher.build_hasher g.K.Hash.hash_input) c.args.hasher c.args.setting m (g.Q.Equivalent.equivalent c.args.asked.now) (IsTold removes_if None []) c.remove_if.new.memory end))
+    (λ fault. fault) c.remove_if.result (_, c.refresh.ensures.ran, c.remove_if.ensures.ran) c.ended.result c.ended.ensures.done

@@ -1,0 +1,29 @@
+-- A change that is refused is one whose own machine was, run on the memory once it was refreshed.
+use Rattle.std.specs.Prelude.{◌≡◌, Result, Ok, Err, IfErr}
+use Rattle.std.proofs.Common.{ap, sym, subst, ◌∙◌}
+use Rattle.seize_words.specs.declared.fault.Fault.{Fault}
+use Rattle.papaya_raw.specs.declared.machines.answer.KeyAnswer.{KeyAnswer}
+use Rattle.papaya_asks.specs.declared.computing.Computed.{Computed}
+use Rattle.papaya_asks.specs.declared.computing.Computed.TheVariants as computed
+use Rattle.papaya_owned.specs.Calling.{stop_by}
+use Rattle.papaya_owned.specs.declared.machines.Stop.{Stop}
+use Rattle.papaya_asks.specs.Closures.{computing_stop}
+use Rattle.papaya_asks.specs.declared.refused.RefusedKey.{RefusedKey}
+use Rattle.papaya_resting.specs.Asking.{ended_by, computing_ended_by}
+use Rattle.papaya_resting.specs.declared.change.Change.{Change}
+use Rattle.papaya_resting.specs.declared.change.Compute.{Compute}
+
+-- of a run that has come to this
+module _ (Ran : Result Stop Fault → Type 0) where
+  pub refused_because : {E : Type 0} (fault_of : E → Fault) (r : Result KeyAnswer E) → Ran (stop_by fault_of r) → (d : Result Change E) → d ≡ ended_by r → IfErr d (λ e. Ran (Err (fault_of e)))
+  refused_because fault_of (Ok answer) ran d is = subst (λ x. IfErr x (λ e. Ran (Err (fault_of e)))) (sym is) tt
+  refused_because fault_of (Err e) ran d is = subst (λ x. IfErr x (λ e. Ran (Err (fault_of e)))) (sym is) ran
+
+  pub computing_because : {K T : Type 0} (r : Result (Computed T) (RefusedKey K)) → Ran (computing_stop r) → (d : Result (Compute T) (RefusedKey K)) → d ≡ computing_ended_by r
+      → IfErr d (λ (e : RefusedKey K). Ran (Err e.fault))
+  computing_because {K} (Ok (computed.Changed answer)) ran d is = subst (λ x. IfErr x (λ (e : RefusedKey K). Ran (Err e.fault))) (sym is) tt
+  computing_because {K} (Ok (computed.Aborted end answer)) ran d is = subst (λ x. IfErr x (λ (e : RefusedKey K). Ran (Err e.fault))) (sym is) tt
+  computing_because {K} (Err e) ran d is = subst (λ x. IfErr x (λ (e : RefusedKey K). Ran (Err e.fault))) (sym is) ran
+
+  pub storing_because : (end : Result Stop Fault) (fault told : Fault) → end ≡ Err fault → told ≡ fault → Ran end → Ran (Err told)
+  storing_because end fault told is same ran = subst Ran (is ∙ ap (λ (f : Fault). Err f) (sym same)) ran
