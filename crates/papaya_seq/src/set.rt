@@ -20,8 +20,8 @@ use std::marker::Model;
 /// It has its memory and its collector for itself, as a map has. The element that the last change took out of the set can be looked at until the
 /// next one, by `taken`, and the one that it put there, by `met`.
 ///
-/// A contract sees its elements, its hasher, and these two elements. The elements are in the order in which a walk shows them; a change may put
-/// them in any other order.
+/// A contract sees its elements, its hasher, these two elements, what the memory holds, the elements that were stored and not given back, and how many
+/// places its tables have. The elements are in the order in which a walk shows them; a change may put them in any other order.
 #[derive(Drop)]
 pub struct HashSet<K: Eq + Hash, S: BuildHasher> {
     pub(crate) map: HashMap<K, (), S>,

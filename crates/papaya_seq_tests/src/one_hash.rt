@@ -1,6 +1,6 @@
-//! Keys that all have one hash, the lowest or the highest there is: those that were stored are found, and no others.
+//! Keys that all have one hash, the lowest or the highest there is: those that were stored in a map, or put into a set, are found, and no others.
 
-use papaya_seq::{Fault, HashMap};
+use papaya_seq::{Fault, HashMap, HashSet};
 use std::alloc::Global;
 use std::hash::{BuildHasher, Hasher};
 
@@ -66,9 +66,41 @@ fn stores_and_finds(alloc: Global, hash: u64) -> Result<bool, Fault> {
     Ok(fills(&mut map) && finds(&map))
 }
 
+/// Puts each of these keys into a set, and tells whether that was done.
+fn puts(set: &mut HashSet<i32, Always>) -> bool {
+    for key in 0..100 {
+        if set.insert(key).is_err() {
+            return false;
+        }
+    }
+    true
+}
+
+/// Whether a set has each of them, and none of the others.
+fn has(set: &HashSet<i32, Always>) -> bool {
+    for key in 0..100 {
+        if set.get(&key) != Some(&key) {
+            return false;
+        }
+    }
+    for key in OTHERS {
+        if set.contains(&key) {
+            return false;
+        }
+    }
+    set.len() == 100
+}
+
+/// Whether they are put and found, where each has this hash.
+fn puts_and_has(alloc: Global, hash: u64) -> Result<bool, Fault> {
+    let mut set = HashSet::with_hasher(alloc, Always { hash })?;
+    Ok(puts(&mut set) && has(&set))
+}
+
 #[test]
 fn keys_of_one_hash_are_found(rt: HostRuntime) {
     for hash in [0, u64::MAX] {
         assert!(rt; stores_and_finds(rt.alloc(), hash) == Ok(true), "{hash}");
+        assert!(rt; puts_and_has(rt.alloc(), hash) == Ok(true), "{hash}");
     }
 }
