@@ -110,5 +110,5 @@ module _ {K Q : Type 0} (V : Type 0) (same : K → K → Bool) (asks : Q → K �
     is_tied b (inl (n, lead)) = (lead_linked n b lead).0
     is_tied b (inr (t, there, over, names)) = (table_linked t b (reached_table t names.0 names.1 names.2 there over names.4) names).0
 
-pub scenes_are_tied : {K : Type 0} (V : Type 0) (same : K → K → Bool) (hash : K → ℕ) (batch_size roots : ℕ) (slot : ℕ → ℕ) → ScenesAreTied V same hash batch_size roots slot
+pub scenes_are_tied : {K : Type 0} (V : Type 0) (same : K → K → Bool) (hash : ℕ → K → ℕ) (batch_size roots : ℕ) (slot : ℕ → ℕ) → ScenesAreTied V same hash batch_size roots slot
 scenes_are_tied V same hash batch_size roots slot s all theirs = is_tied V same same batch_size roots slot s.world s.maps s.calls s.makers s.enders all theirs
