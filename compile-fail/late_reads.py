@@ -34,6 +34,8 @@ LENT = [
     ("values", "map: &mut Map", "map.values().next()", "lent.is_some_and(|value| *value == 2)"),
     ("taken", "map: &mut Map", "map.taken()", "lent.is_some_and(|pair| *pair.1 == 2)"),
     ("met", "map: &mut Map", "map.met()", "lent.is_some_and(|pair| *pair.1 == 2)"),
+    ("get_or_insert", "map: &mut Map", "map.get_or_insert(1, 2)", "lent.is_ok_and(|value| *value == 2)"),
+    ("get_or_insert_with", "map: &mut Map", "map.get_or_insert_with(1, || 2)", "lent.is_ok_and(|value| *value == 2)"),
     ("remove", "map: &mut Map", "map.remove(&1)", "lent.is_ok_and(|value| value.is_some_and(|value| *value == 2))"),
     ("remove_entry", "map: &mut Map", "map.remove_entry(&1)", "lent.is_ok_and(|pair| pair.is_some_and(|pair| *pair.1 == 2))"),
     ("get_of_a_set", "map: &mut Set", "map.get(&1)", "lent.is_some_and(|element| *element == 1)"),

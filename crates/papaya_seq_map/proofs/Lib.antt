@@ -1,5 +1,6 @@
 -- Lemmas on maps for one owner.
 mod Done
+mod Got
 mod Kept
 mod Members
 mod Ordered

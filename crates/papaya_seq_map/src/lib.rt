@@ -9,6 +9,7 @@ mod counting;
 mod equal;
 mod extending;
 mod formatting;
+mod getting;
 mod insertions;
 mod json;
 mod last;

@@ -15,6 +15,8 @@ pub(crate) enum Call {
     UpdateOrInsert(u64),
     UpdateOrInsertWith(u64),
     TryInsertWith(u64),
+    GetOrInsert(u64),
+    GetOrInsertWith(u64),
     RemoveIf(u64),
     Put(u64),
     Take(u64),
@@ -34,7 +36,7 @@ pub(crate) enum Whole {
 type Row = (Call, &'static str, u64, Option<u64>, Option<u64>);
 
 /// Each is made of a map with ten times the key for each of the keys from 0 to 7.
-pub(crate) const ROWS: [Row; 19] = [
+pub(crate) const ROWS: [Row; 21] = [
     (Call::Insert(8), "insert", 9, Some(30), Some(5)),
     (Call::Insert(3), "insert in place", 8, Some(5), None),
     (Call::TryInsert(8), "try_insert", 9, Some(30), Some(5)),
@@ -76,6 +78,14 @@ pub(crate) const ROWS: [Row; 19] = [
         Some(30),
         Some(5),
     ),
+    (Call::GetOrInsert(8), "get_or_insert", 9, Some(30), Some(5)),
+    (
+        Call::GetOrInsertWith(8),
+        "get_or_insert_with",
+        9,
+        Some(30),
+        Some(5),
+    ),
     (Call::RemoveIf(3), "remove_if", 7, None, None),
     (Call::Put(3), "compute", 8, Some(5), None),
     (Call::Put(8), "compute of none", 9, Some(30), Some(5)),
@@ -103,6 +113,21 @@ fn stored(map: &mut Numbers, call: Call) -> Result<(), Fault> {
         Call::TryInsertWith(key) => match map.try_insert_with(key, || 5) {
             Ok(_) => Ok(()),
             Err(refused) => Err(refused.fault),
+        },
+        _ => Ok(()),
+    }
+}
+
+/// A call that lends a value drops its key where it is refused.
+fn got(map: &mut Numbers, call: Call) -> Result<(), Fault> {
+    match call {
+        Call::GetOrInsert(key) => match map.get_or_insert(key, 5) {
+            Ok(_) => Ok(()),
+            Err(fault) => Err(fault),
+        },
+        Call::GetOrInsertWith(key) => match map.get_or_insert_with(key, || 5) {
+            Ok(_) => Ok(()),
+            Err(fault) => Err(fault),
         },
         _ => Ok(()),
     }
@@ -182,6 +207,7 @@ fn made(map: &mut Numbers, call: Call) -> Result<(), Fault> {
         Call::Update(_) | Call::UpdateOrInsert(_) | Call::UpdateOrInsertWith(_) => {
             updated(map, call)
         }
+        Call::GetOrInsert(_) | Call::GetOrInsertWith(_) => got(map, call),
         Call::Put(_) | Call::Take(_) => computed(map, call),
         Call::Remove(_) | Call::RemoveEntry(_) | Call::RemoveIf(_) => removed(map, call),
         Call::Whole(whole) => changed(map, whole),

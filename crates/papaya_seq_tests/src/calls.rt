@@ -10,6 +10,10 @@ pub(crate) enum Call {
     Insert(u64, u64),
     /// Stores a pair where there is none.
     TryInsert(u64, u64),
+    /// Looks for the value of a key, and stores one where there is none.
+    GetOrInsert(u64, u64),
+    /// Looks for the value of a key, and stores one that is begun where there is none.
+    GetOrBegin(u64, u64),
     /// Removes the pair of a key.
     Remove(u64),
     /// Looks for the value of a key.
@@ -62,6 +66,20 @@ fn tried<S: BuildHasher>(map: &mut HashMap<u64, u64, S>, key: u64, value: u64) -
     }
 }
 
+fn got<S: BuildHasher>(map: &mut HashMap<u64, u64, S>, key: u64, value: u64) -> Answer {
+    match map.get_or_insert(key, value) {
+        Ok(there) => Answer::Value(Some(*there)),
+        Err(fault) => Answer::Faulty(fault),
+    }
+}
+
+fn got_or_begun<S: BuildHasher>(map: &mut HashMap<u64, u64, S>, key: u64, value: u64) -> Answer {
+    match map.get_or_insert_with(key, || value) {
+        Ok(there) => Answer::Value(Some(*there)),
+        Err(fault) => Answer::Faulty(fault),
+    }
+}
+
 fn removed<S: BuildHasher>(map: &mut HashMap<u64, u64, S>, key: u64) -> Answer {
     match map.remove(&key) {
         Ok(was) => Answer::Was(was.is_some()),
@@ -82,6 +100,8 @@ pub(crate) fn called<S: BuildHasher>(map: &mut HashMap<u64, u64, S>, call: Call)
     match call {
         Call::Insert(key, value) => inserted(map, key, value),
         Call::TryInsert(key, value) => tried(map, key, value),
+        Call::GetOrInsert(key, value) => got(map, key, value),
+        Call::GetOrBegin(key, value) => got_or_begun(map, key, value),
         Call::Remove(key) => removed(map, key),
         Call::Get(key) => Answer::Value(map.get(&key).copied()),
         Call::Pair(key) => Answer::KeyValue(copied(map.get_key_value(&key))),

@@ -1,13 +1,15 @@
 //! Pairs are stored, replaced, removed and looked for, also those that a change took out or met, with hashes that differ and with one hash.
 use crate::calls::Answer::{Back, Count, KeyValue, Stored, Value, Was};
-use crate::calls::Call::{Contains, Get, Insert, Len, Met, Pair, Remove, Taken, TryInsert};
+use crate::calls::Call::{
+    Contains, Get, GetOrBegin, GetOrInsert, Insert, Len, Met, Pair, Remove, Taken, TryInsert,
+};
 use crate::calls::{Answer, Call, answers};
 use papaya_runs::key_hash::KeyHash;
 use papaya_seq::{Fault, HashMap};
 use std::alloc::Global;
 
-/// Eight pairs are stored, then one more for a key that is there, and then two are removed.
-const STORED_AND_REMOVED: [(Call, Answer); 38] = [
+/// Eight pairs are stored, then one more for a key that is there, and then two are removed; and two are got that are there then, or are stored.
+const STORED_AND_REMOVED: [(Call, Answer); 46] = [
     (Len, Count(0)),
     (Get(0), Value(None)),
     (Remove(0), Was(false)),
@@ -46,6 +48,14 @@ const STORED_AND_REMOVED: [(Call, Answer); 38] = [
     (Get(0), Value(None)),
     (Pair(0), KeyValue(None)),
     (Len, Count(7)),
+    (GetOrInsert(0, 5), Value(Some(5))),
+    (Met, KeyValue(Some((0, 5)))),
+    (GetOrInsert(0, 6), Value(Some(5))),
+    (Taken, KeyValue(None)),
+    (GetOrBegin(0, 7), Value(Some(5))),
+    (GetOrBegin(9, 7), Value(Some(7))),
+    (Get(9), Value(Some(7))),
+    (Len, Count(9)),
 ];
 
 /// Whether the calls answer so.
