@@ -38,7 +38,7 @@ use Rattle.papaya_links.proofs.Steps.{deed_cut, rows_none, kind_cut}
 use Rattle.papaya_links.proofs.Tied.{is_held_inside, scenes_are_tied}
 use Rattle.papaya_links.proofs.Unlinked.{IsCutOff, begin_none, step_none}
 
-module _ {K V : Type 0} (same : K → K → Bool) (hash : K → ℕ) (batch_size roots : ℕ) (slot : ℕ → ℕ) (s n : Scene K V) (all : AllStand same hash batch_size roots slot s) (stand : AllStand same hash batch_size roots slot n) (b : ℕ) where
+module _ {K V : Type 0} (same : K → K → Bool) (hash : ℕ → K → ℕ) (batch_size roots : ℕ) (slot : ℕ → ℕ) (s n : Scene K V) (all : AllStand same hash batch_size roots slot s) (stand : AllStand same hash batch_size roots slot n) (b : ℕ) where
   reached : IsReached deferred_word batch_size s.world
   reached = came_reached batch_size s.world all.makings.standing.came
 
@@ -86,7 +86,7 @@ module _ {K V : Type 0} (same : K → K → Bool) (hash : K → ℕ) (batch_size
   act_cut (TellsCall i m reply) told (standing, stands, u, next, here, machine_is, told_is, kind, is) = to _ is (inl refl)
   act_cut (AsksCall i m) told (u, next, here, machine_is, told_is, is) = to _ is (inl refl)
   act_cut (StopsCall i m) told (u, here, told_is, is) = to _ is (inl refl)
-  act_cut (BeginsMaking i map given places power sized) told (told_is, is) = to _ is (inl refl)
+  act_cut (BeginsMaking i map given places) told (told_is, is) = to _ is (inl refl)
   act_cut (StepsMaking i g) told (d, makes, m2, machine, end, computed, told_is, did, came) = made i d m2 machine end did came
   act_cut (BeginsEnding i m) told (standing, stands, told_is, is) = to _ is (inl refl)
   act_cut (StepsEnding i g) told (f, ends, m2, machine, end, computed, told_is, did, came) = ended i f m2 machine end did came
@@ -94,7 +94,7 @@ module _ {K V : Type 0} (same : K → K → Bool) (hash : K → ℕ) (batch_size
   act_cut (StepsRow i g) told (w2, computed, happens, maps2, same_maps, told_is, is) = to _ is (inl (step_none deferred_word batch_size b i s.world w2 reached happens))
 
 -- what links lead to can be reached, so none lead to what can't
-unlinked_unnamed : {K : Type 0} (V : Type 0) (same : K → K → Bool) (hash : K → ℕ) (batch_size roots : ℕ) (slot : ℕ → ℕ) (w : World (Node K V)) (n : Scene K V) → AllStand same hash batch_size roots slot n → AreTheirs n
+unlinked_unnamed : {K : Type 0} (V : Type 0) (same : K → K → Bool) (hash : ℕ → K → ℕ) (batch_size roots : ℕ) (slot : ℕ → ℕ) (w : World (Node K V)) (n : Scene K V) → AllStand same hash batch_size roots slot n → AreTheirs n
     → ((b : ℕ) → IsCutOff b w n.world) → UnlinksWhatNoneNames w n.world n.maps
 unlinked_unnamed {K} V same hash batch_size roots slot w n stand theirs cut b more = by (cut b)
   where
@@ -102,12 +102,12 @@ unlinked_unnamed {K} V same hash batch_size roots slot w n stand theirs cut b mo
     by (inl same_often) = absurd (omega (arith, same_often, more))
     by (inr (before, none)) = (before, none, λ lead. let there = scenes_are_tied V same hash batch_size roots slot n stand theirs b lead in cc (none, there))
 
-pub acts_unlink : {K : Type 0} (V : Type 0) (same : K → K → Bool) (hash : K → ℕ) (batch_size roots : ℕ) (slot : ℕ → ℕ) → ActsUnlink V same hash batch_size roots slot
+pub acts_unlink : {K : Type 0} (V : Type 0) (same : K → K → Bool) (hash : ℕ → K → ℕ) (batch_size roots : ℕ) (slot : ℕ → ℕ) → ActsUnlink V same hash batch_size roots slot
 acts_unlink V same hash batch_size roots slot s n all stand theirs act may told led =
     unlinked_unnamed V same hash batch_size roots slot s.world n stand (acts_keep_theirs V same hash batch_size roots slot s n all stand act may told led theirs)
     (λ b. act_cut same hash batch_size roots slot s n all stand b act told led)
 
-module _ {K : Type 0} (V : Type 0) (same : K → K → Bool) (hash : K → ℕ) (batch_size roots : ℕ) (slot : ℕ → ℕ) where
+module _ {K : Type 0} (V : Type 0) (same : K → K → Bool) (hash : ℕ → K → ℕ) (batch_size roots : ℕ) (slot : ℕ → ℕ) where
   -- a step of a caller that reclaims all
   module _ (s : Scene K V) (all : AllStand same hash batch_size roots slot s) (b : ℕ) where
     there : IsReached deferred_word batch_size s.world

@@ -8,7 +8,7 @@ use Rattle.papaya_acts.specs.Lists.{Course, Reached, LedTo}
 use Rattle.papaya_carries.specs.Lists.{AreTheirs}
 use Rattle.papaya_links.specs.Tied.{IsTied, IsHeldInside, AllAreClosed, UnlinksWhatNoneNames}
 
-module _ {K : Type 0} (V : Type 0) (same : K → K → Bool) (hash : K → ℕ) (batch_size roots : ℕ) (slot : ℕ → ℕ) where
+module _ {K : Type 0} (V : Type 0) (same : K → K → Bool) (hash : ℕ → K → ℕ) (batch_size roots : ℕ) (slot : ℕ → ℕ) where
   -- The promise of a scene: where all stand together, and each block behind which something may be put is somebody's, the world is tied.
   abbrev pub ScenesAreTied : Type 0
   ScenesAreTied = (s : Scene K V) → AllStand same hash batch_size roots slot s → AreTheirs s → IsTied s.world s.maps

@@ -3,14 +3,15 @@ use Rattle.std.specs.Prelude.{◌≡◌, ◌++◌, ◌∷◌, ◌%◌, ◌^◌, 
 use Rattle.std.proofs.Common.{rules, arith, ap, subst, sym, ◌∙◌, append_assoc}
 use Rattle.std.proofs.lemmas.List.{append-nil, nil_from_length}
 use Rattle.papaya_schedules.specs.declared.event.Event.{Event}
-use Rattle.papaya_schedules.specs.Runs.{IsRunOf}
+use Rattle.papaya_schedules.specs.After.{AtEachEvent}
+use Rattle.papaya_schedules.specs.Runs.{IsRunOf, log_of}
 use Rattle.papaya_scheduler.specs.Played.{terms_given}
 use Rattle.papaya_scheduler.specs.declared.scheduler.Given.{Given}
 use Rattle.papaya_scheduler.specs.declared.scheduler.Scheduler.{Scheduler}
-use Rattle.papaya_running.specs.Run.{IsRightRun, SoFar, bounded}
+use Rattle.papaya_running.specs.Run.{HandsOn, IsRightRun, SoFar, bounded}
 use Rattle.papaya_running.proofs.Beginning.{Begins, are_few, begins_first, first_holds, first_runs, still_begins}
 use Rattle.papaya_running.proofs.LawfulKeys.{are_lawful}
-use Rattle.papaya_running.proofs.Turns.{back_first, run_so, start_so, whole_so}
+use Rattle.papaya_running.proofs.Turns.{back_first, hands_so, run_so, start_so, whole_so}
 use Rattle.papaya_running.proofs.running.run_refusing.Goals as goal
 
 pub loop-choice-init : goal.loop-choice-init
@@ -97,3 +98,14 @@ returns-clause-whole g c =
     c.in_ok-end.ensures.steps c.in_ok-end.ensures.effects c.in_ok-end.ensures.trace
     (c.in_ok-end.ensures.tells g.K.PartialEq.eq hash (terms_given (bounded c.args.given)) events c.loop-event.invariant.2)
     (c.in_ok-end.ensures.back g.K.PartialEq.eq hash (terms_given (bounded c.args.given)) events c.loop-event.invariant.2 c.loop-event.invariant.3))
+
+pub returns-clause-hands : goal.returns-clause-hands
+returns-clause-hands g c =
+    let hash : g.row.K.Denot → ℕ = λ key. g.S.Hasher.Hasher.finish (fold g.S.Hasher.Hasher.write (g.S.BuildHasher.build_hasher c.loop-event.scheduler.logged.executor.hasher) (g.K.Hash.hash_input key)) % 2 ^ 64 in
+    let events = c.loop-event.invariant.0 in
+    let empty : c.loop-event.event-iterator.rest.items ≡ [] =
+    nil_from_length c.loop-event.event-iterator.rest.items (let a = c.loop-event.event-iterator.rest.ok in let s = c.in-None-event.ensures.steps in omega (arith, a, s.0)) in
+    let all : events ≡ c.args.schedule.items = sym (append-nil events) ∙ ap (λ (l : List (Event g.row.K.Denot g.row.V.Denot)). events ++ l) (sym empty) ∙ c.loop-event.invariant.1 in
+    subst (λ (l : List (Event g.row.K.Denot g.row.V.Denot)). AtEachEvent HandsOn (log_of l c.in_ok-end.field-0)) all
+    (hands_so g.K.PartialEq.eq hash (terms_given (bounded c.args.given)) events c.loop-event.written c.loop-event.tally c.loop-event.scheduler c.loop-event.invariant.2 c.in_ok-end.field-0 c.in_ok-end.ensures.outcomes
+    c.in_ok-end.ensures.steps c.in_ok-end.ensures.effects)
