@@ -103,9 +103,6 @@ module _ {K V Q : Type 0} where
   abbrev pub GoesSeeking : KeyCall K V Q → KeyCall K V Q × Called (Node K V) → Type 0
   GoesSeeking p e = (kept_of e.0 ≡ kept_of p) × Leads p.own e.1 e.0.stands
 
-  pub own_kept : (p : KeyCall K V Q) (e : KeyCall K V Q × Called (Node K V)) → GoesSeeking p e → e.0.own ≡ p.own
-  own_kept p e g = ap (λ (x : ℕ × Replies K V). x.0) g.0
-
   pub told_kept : (p : KeyCall K V Q) (e : KeyCall K V Q × Called (Node K V)) → GoesSeeking p e → e.0.replies ≡ p.replies
   told_kept p e g = ap (λ (x : ℕ × Replies K V). x.1) g.0
 
