@@ -1,7 +1,7 @@
 //! Who makes an operation.
 
 /// Who makes an operation.
-#[derive(Clone, Copy, Debug, PartialEq, Eq)]
+#[derive(Clone, Copy)]
 pub enum Acting {
     /// A call that is under way.
     Call {

@@ -3,7 +3,7 @@ use papaya_runs::outcome::TableShape;
 use papaya_schedules::effect::Table;
 
 /// What a block is.
-#[derive(Clone, Copy, Debug, PartialEq, Eq)]
+#[derive(Clone, Copy)]
 pub enum Role {
     /// There is no such block.
     Free,

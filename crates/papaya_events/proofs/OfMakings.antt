@@ -72,7 +72,7 @@ use Rattle.papaya_events.specs.OfRows.{KeepsRun}
 use Rattle.papaya_works.proofs.Reached.{makings_note_more}
 use Rattle.papaya_events.proofs.OfMakings.Begun.{begun_as, begun_in, begun_shown, none_begun}
 use Rattle.papaya_events.proofs.OfMakings.Chain.{HasFound, MakingComes, Midway, comes_on, found_on, makings_come, masks}
-use Rattle.papaya_events.proofs.OfMakings.Refused.{refused_runs}
+use Rattle.papaya_events.proofs.OfMakings.Unmade.{refused_runs}
 use Rattle.papaya_events.proofs.OfRows.Chain.{come_by}
 use Rattle.papaya_events.proofs.OfRows.Lone.{alone_follows}
 use Rattle.papaya_events.proofs.OfRows.Over.{over_runs}
@@ -81,7 +81,7 @@ use Rattle.papaya_events.proofs.OfRows.Quiet.{refused_still, still_keeps}
 use Rattle.papaya_events.proofs.Remaining.{nobody_makes}
 pub mod Chain
 pub mod Begun
-pub mod Refused
+pub mod Unmade
 
 -- one that is put behind those of which none is it is the one that is found
 found_last : {X : Type 0} (p : X → Bool) (xs : List X) (x : X) → find p xs ≡ None → p x ≡ true → find p (xs ++ x ∷ []) ≡ Some x
@@ -234,7 +234,7 @@ module _ {K V S : Type 0} (same : K → K → Bool) (hash : K → ℕ) (terms : 
     abbrev y : MakingComes same hash terms name log own mode capacity i b bm (suc d.gone.1.0) x (far effects mid)
     y = comes_on same hash terms name log own mode capacity i b bm there d.faultless d.places_are below d.gone.1.0 x d.gone.0 (far effects mid) prev.0 s.maps prev.1 d.gone.3 was setting prev.2 prev.3
 
-    found : HasFound same hash terms name log own mode capacity i b bm there d.faultless d.places_are below effects y.now y.scene
+    found : HasFound b bm there effects y.now y.scene
     found = found_on same hash terms name log own mode capacity i b bm there d.faultless d.places_are below d.gone.1.0 x d.gone.0 (far effects mid) prev.0 s.maps prev.1 d.gone.3 was setting prev.2 prev.3
 
     chain : StepChain (MakingSteps same hash terms i b.map) (suc d.gone.1.0) (record { executor = d.began.executor; did = []; now = bm; notes = known old.logged.notes; scene = s1 })

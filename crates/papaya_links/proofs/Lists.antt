@@ -30,12 +30,12 @@ use Rattle.papaya_acts.specs.Lists.{Course, on_by}
 use Rattle.papaya_carries.specs.Lists.{AreTheirs}
 use Rattle.papaya_carries.proofs.Acts.{acts_keep_theirs}
 use Rattle.papaya_carries.proofs.Lists.{lists_keep_theirs}
-use Rattle.papaya_links.specs.Lists.{ActsUnlink, ListsAreTied, ListsUnlink, ListsAreClosed}
+use Rattle.papaya_links.specs.Lists.{ActsUnlink, ListsAreTied, ListsHold, ListsUnlink, ListsAreClosed}
 use Rattle.papaya_links.specs.Tied.{LinksLead, UnlinksWhatNoneNames, unlinkings}
 use Rattle.papaya_links.proofs.Closed.{scenes_are_closed}
 use Rattle.papaya_links.proofs.Makings.{first_in_use, making_cut_off}
 use Rattle.papaya_links.proofs.Steps.{deed_cut, rows_none, kind_cut}
-use Rattle.papaya_links.proofs.Tied.{scenes_are_tied}
+use Rattle.papaya_links.proofs.Tied.{is_held_inside, scenes_are_tied}
 use Rattle.papaya_links.proofs.Unlinked.{IsCutOff, begin_none, step_none}
 
 module _ {K V : Type 0} (same : K → K → Bool) (hash : ℕ → K → ℕ) (batch_size roots : ℕ) (slot : ℕ → ℕ) (s n : Scene K V) (all : AllStand same hash batch_size roots slot s) (stand : AllStand same hash batch_size roots slot n) (b : ℕ) where
@@ -136,6 +136,10 @@ module _ {K : Type 0} (V : Type 0) (same : K → K → Bool) (hash : ℕ → K �
   module _ (course : Course V same hash batch_size roots slot) where
     pub lists_are_tied : ListsAreTied V same hash batch_size roots slot course
     lists_are_tied doings x led = scenes_are_tied V same hash batch_size roots slot x.0.0 x.0.1 (lists_keep_theirs V same hash batch_size roots slot course doings x led)
+
+    pub lists_hold : ListsHold V same hash batch_size roots slot course
+    lists_hold doings x led =
+        is_held_inside V same same batch_size roots slot x.0.0.world x.0.0.maps x.0.0.calls x.0.0.makers x.0.0.enders x.0.1 (lists_keep_theirs V same hash batch_size roots slot course doings x led)
 
     pub lists_unlink : ListsUnlink V same hash batch_size roots slot course
     lists_unlink doings x led doing may =

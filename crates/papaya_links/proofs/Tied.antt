@@ -5,7 +5,9 @@ use Rattle.std.proofs.lemmas.Bool.{ne_eqb}
 use Rattle.papaya_executor.specs.Given.SeizeWords.Mem.{value_at}
 use Rattle.papaya_executor.specs.Given.Seize.Law.{Place, Nowhere, Standing as Stands, With, where_is, is_somewhere, reachable, is_over}
 use Rattle.papaya_executor.specs.Given.Seize.World.{World, times}
+use Rattle.papaya_executor.proofs.Given.SeizeMoves.State.Logs.{reached_held}
 use Rattle.papaya_executor.proofs.Given.SeizeAlone.Histories.Reached.{Reached}
+use Rattle.papaya_executor.proofs.Given.SeizeAlone.Histories.Uses.{inside_open}
 use Rattle.papaya_executor.specs.Given.Tables.Nodes.{deferred_word}
 use Rattle.papaya_executor.specs.Given.Tables.declared.node.Node.{Node}
 use Rattle.papaya_executor.specs.Given.Tables.declared.node.Node.TheVariants as node
@@ -20,7 +22,7 @@ use Rattle.papaya_executor.specs.Given.Finishes.Maps.{Standing}
 use Rattle.papaya_reclaims.specs.Deferred.{IsLinkedTable}
 use Rattle.papaya_carries.specs.Theirs.{IsTheirs, AllAreTheirs}
 use Rattle.papaya_links.specs.Lists.{ScenesAreTied}
-use Rattle.papaya_links.specs.Tied.{RootNames, TableNames, LeadBy, IsTied}
+use Rattle.papaya_links.specs.Tied.{RootNames, TableNames, LeadBy, IsTied, IsHeldInside}
 use Rattle.papaya_links.proofs.Named.{HoldsPair, no_pair, root_first, table_names, pair_there}
 use Rattle.papaya_links.proofs.Owed.{owed_cut}
 use Rattle.papaya_links.proofs.Places.{standing_had, cut_nowhere, behind_no_list}
@@ -109,6 +111,10 @@ module _ {K Q : Type 0} (V : Type 0) (same : K → K → Bool) (asks : Q → K �
     pub is_tied : IsTied w maps
     is_tied b (inl (n, lead)) = (lead_linked n b lead).0
     is_tied b (inr (t, there, over, names)) = (table_linked t b (reached_table t names.0 names.1 names.2 there over names.4) names).0
+
+    -- a section that is open holds what can be reached
+    pub is_held_inside : IsHeldInside w maps
+    is_held_inside x inside b lead = reached_held x b w.log (is_tied b lead) (inside_open deferred_word batch_size w reached x inside)
 
 pub scenes_are_tied : {K : Type 0} (V : Type 0) (same : K → K → Bool) (hash : ℕ → K → ℕ) (batch_size roots : ℕ) (slot : ℕ → ℕ) → ScenesAreTied V same hash batch_size roots slot
 scenes_are_tied V same hash batch_size roots slot s all theirs = is_tied V same same batch_size roots slot s.world s.maps s.calls s.makers s.enders all theirs

@@ -6,7 +6,7 @@ use Rattle.papaya_acts.specs.Doings.{Doing, MayDo}
 use Rattle.papaya_acts.specs.Leads.{MayBe, AllStand, Led}
 use Rattle.papaya_acts.specs.Lists.{Course, Reached, LedTo}
 use Rattle.papaya_carries.specs.Lists.{AreTheirs}
-use Rattle.papaya_links.specs.Tied.{IsTied, AllAreClosed, UnlinksWhatNoneNames}
+use Rattle.papaya_links.specs.Tied.{IsTied, IsHeldInside, AllAreClosed, UnlinksWhatNoneNames}
 
 module _ {K : Type 0} (V : Type 0) (same : K → K → Bool) (hash : ℕ → K → ℕ) (batch_size roots : ℕ) (slot : ℕ → ℕ) where
   -- The promise of a scene: where all stand together, and each block behind which something may be put is somebody's, the world is tied.
@@ -27,6 +27,10 @@ module _ {K : Type 0} (V : Type 0) (same : K → K → Bool) (hash : ℕ → K �
     -- The promise: wherever a list of acts has led, what links lead to can be reached.
     abbrev pub ListsAreTied : Type 0
     ListsAreTied = (doings : List (Doing K V)) (x : Reached V same hash batch_size roots slot) → LedTo V same hash batch_size roots slot course doings x → IsTied x.0.0.world x.0.0.maps
+
+    -- Each section that is open there holds it.
+    abbrev pub ListsHold : Type 0
+    ListsHold = (doings : List (Doing K V)) (x : Reached V same hash batch_size roots slot) → LedTo V same hash batch_size roots slot course doings x → IsHeldInside x.0.0.world x.0.0.maps
 
     -- And what one more step unlinks no links lead to then.
     abbrev pub ListsUnlink : Type 0

@@ -50,6 +50,10 @@ module _ {K V : Type 0} (w : World (Node K V)) (maps : ℕ → Option (Standing 
   abbrev pub IsTied : Type 0
   IsTied = (b : ℕ) → LinksLead b → reachable b w.log ≡ true
 
+  -- Each section that somebody is inside holds it.
+  abbrev pub IsHeldInside : Type 0
+  IsHeldInside = (slot : ℕ) → IsInside (w.uses slot) → (b : ℕ) → LinksLead b → holds slot b w.log ≡ true
+
 module _ {K V : Type 0} (w : World (Node K V)) where
   -- What a section sees of a map is closed: what the root names it sees, and with a table what a link of that names. And it holds what it sees.
   pub record IsClosed (s : Standing K) (slot : ℕ) : Type 0 where

@@ -12,7 +12,7 @@ use std::mem;
 const ENTRY_WORDS: u64 = 4;
 
 /// What a block holds.
-#[derive(Clone, Copy, Debug, PartialEq, Eq)]
+#[derive(Clone, Copy, PartialEq, Eq)]
 pub enum Kind {
     /// A pair with this key.
     Pair(u64),

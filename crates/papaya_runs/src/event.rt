@@ -1,7 +1,7 @@
 //! What a collector is made with.
 
 /// What a collector is made with.
-#[derive(Clone, Copy, Debug, PartialEq, Eq)]
+#[derive(Clone, Copy)]
 pub struct Setup {
     /// A batch of this length is tried; 0 acts as 1.
     pub batch_size: u64,

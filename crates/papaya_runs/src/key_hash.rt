@@ -5,7 +5,7 @@ ghost use Rattle.papaya_runs.specs.KeyHashes.{word_of, hash_by};
 use std::hash::{BuildHasher, Hasher};
 
 /// How the keys of a run get their hashes, where they are numbers.
-#[derive(Clone, Copy, Debug, PartialEq, Eq)]
+#[derive(Clone, Copy)]
 pub enum KeyHash {
     /// The hash of a key is the key.
     Key,
@@ -14,7 +14,7 @@ pub enum KeyHash {
 }
 
 /// Takes in one number, and gives its hash.
-#[derive(Clone, Copy, Debug, PartialEq, Eq)]
+#[derive(Clone, Copy)]
 pub struct KeyHasher {
     /// How.
     pub by: KeyHash,

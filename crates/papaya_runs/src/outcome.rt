@@ -1,7 +1,7 @@
 //! What a run says of tables, and of its single events.
 
 /// A table of a map.
-#[derive(Clone, Copy, Debug, PartialEq, Eq)]
+#[derive(Clone, Copy, PartialEq, Eq)]
 pub struct TableShape {
     /// How many places it has.
     pub len: u64,
@@ -10,7 +10,7 @@ pub struct TableShape {
 }
 
 /// A single event of a schedule, by the place of the event that it stems from, from 0 on.
-#[derive(Clone, Copy, Debug, PartialEq, Eq)]
+#[derive(Clone, Copy)]
 pub enum Single {
     /// The event itself.
     Whole(u64),

@@ -2,7 +2,7 @@
 use papaya_runs::outcome::TableShape;
 
 /// A table. The k-th map that a run makes has the number k, from 0 on, and a map's tables have turns, from 0 on.
-#[derive(Clone, Copy, Debug, PartialEq, Eq)]
+#[derive(Clone, Copy, PartialEq, Eq)]
 pub struct Table {
     /// The number of its map.
     pub map: u64,
@@ -11,7 +11,7 @@ pub struct Table {
 }
 
 /// Where a pair lies in its map.
-#[derive(Clone, Copy, Debug, PartialEq, Eq)]
+#[derive(Clone, Copy, PartialEq, Eq)]
 pub struct Spot {
     /// The turn of the table.
     pub turn: u64,
@@ -20,7 +20,7 @@ pub struct Spot {
 }
 
 /// What is handed to the collector and reclaimed.
-#[derive(Clone, Copy, Debug, PartialEq, Eq)]
+#[derive(Clone, Copy, PartialEq, Eq)]
 pub enum Thing {
     /// The pair of this number.
     APair(u64),
@@ -29,7 +29,7 @@ pub enum Thing {
 }
 
 /// What memory is asked for.
-#[derive(Clone, Copy, Debug, PartialEq, Eq)]
+#[derive(Clone, Copy, PartialEq, Eq)]
 pub enum Growth {
     /// A block: of a pair, of a table, or of the shards of a map's count.
     ABlock,
@@ -38,7 +38,7 @@ pub enum Growth {
 }
 
 /// What an event did.
-#[derive(Clone, Copy, Debug, PartialEq, Eq)]
+#[derive(Clone, Copy, PartialEq, Eq)]
 pub enum Effect {
     /// A growth was asked for. It was refused unless what was to be made follows.
     Asked(Growth),

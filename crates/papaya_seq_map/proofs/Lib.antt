@@ -1,6 +1,6 @@
 -- Lemmas on maps for one owner.
 mod Done
-mod Getting
+mod Got
 mod Kept
 mod Members
 mod Ordered

@@ -2,5 +2,5 @@ pub mod Json
 pub mod Maps
 pub mod Stored
 pub mod Lent
-pub mod Getting
+pub mod Got
 pub mod Given

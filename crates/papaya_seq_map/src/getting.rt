@@ -1,5 +1,5 @@
 //! Calls on a map for one owner that lend the value of a key, and store one where there is none. Each begins with a refresh.
-ghost use Rattle.std.specs.Prelude.{◌≡◌, ◌++◌, [], None, Some, IfOk, IfErr, MatchResult};
+ghost use Rattle.std.specs.Prelude.{◌≡◌, ◌++◌, [], None, Some, IfOk, IfErr, OnOk, OnErr, MatchResult};
 ghost use Rattle.std.specs.Borrow.{sem};
 ghost use Rattle.std.specs.Fn.{FnOnceReturns};
 ghost use Rattle.std.specs.Option.{ForNone};
@@ -7,13 +7,51 @@ ghost use Rattle.papaya_owned.specs.Given.Late.Faults.{IsRoom};
 ghost use Rattle.papaya_shown.specs.Chain.{CannotGrow};
 ghost use Rattle.seize_words.specs.declared.fault.Fault.TheVariants.{Capacity};
 ghost use Rattle.papaya_resting.specs.Given.{found_by};
-ghost use Rattle.papaya_seq_map.specs.Getting.{IsGot, found_or, if_missing};
+ghost use Rattle.papaya_seq_map.specs.Got.{HasGot, IsGot, found_or, if_missing};
 ghost use Rattle.papaya_seq_map.specs.Lent.{EndsSo};
 ghost use Rattle.papaya_seq_map.specs.Maps.{HasNow, Keeps};
 
 use crate::map::HashMap;
 use seize_words::Fault;
 use std::hash::{BuildHasher, Hash};
+
+/// Stores a pair, if its key is not there yet, and drops what it was given otherwise.
+fn put_if_missing<K: Eq + Hash + Drop, V: Drop, S: BuildHasher>(
+    map: &mut HashMap<K, V, S>,
+    key: K,
+    value: V,
+) -> Result<(), Fault>
+    ensures put { OnOk result (HasGot K.eq key (λ new. new ≡ value) map.old map.new) }
+    ensures refused { OnErr result (HasNow map.new map.old.pairs None None × Keeps [] map.old map.new) }
+    ensures fault { IfErr result IsRoom }
+    ensures capacity { IfErr result (λ fault. fault ≡ Capacity → CannotGrow map.new.tables) }
+    ensures hasher { map.new.hasher ≡ map.old.hasher }
+{
+    match map.try_insert(key, value) {
+        Ok(Ok(())) => Ok(()),
+        Ok(Err(_)) => Ok(()),
+        Err(refused) => Err(refused.fault),
+    }
+}
+
+/// Stores a value that is begun, if its key is not there yet. The key is dropped where it is refused.
+fn begin_if_missing<K: Eq + Hash + Drop, V: Drop, S: BuildHasher, B: FnOnce() -> V>(
+    map: &mut HashMap<K, V, S>,
+    key: K,
+    begin: B,
+) -> Result<(), Fault>
+    requires callable { ForNone (found_by (K.eq key) map.old.pairs) (B.pre begin) }
+    ensures put { OnOk result (HasGot K.eq key (λ new. FnOnceReturns B.FnOnce begin tt new) map.old map.new) }
+    ensures refused { OnErr result (HasNow map.new map.old.pairs None None × Keeps [] map.old map.new) }
+    ensures fault { IfErr result IsRoom }
+    ensures capacity { IfErr result (λ fault. fault ≡ Capacity → CannotGrow map.new.tables) }
+    ensures hasher { map.new.hasher ≡ map.old.hasher }
+{
+    match map.try_insert_with(key, begin) {
+        Ok(_) => Ok(()),
+        Err(refused) => Err(refused.fault),
+    }
+}
 
 impl<K: Eq + Hash + Drop, V: Drop, S: BuildHasher> HashMap<K, V, S> {
     /// Lends the value of a key until the next change. Where the key is not there, this one is stored first. The faults are `Fault::Capacity`, where no
@@ -24,12 +62,12 @@ impl<K: Eq + Hash + Drop, V: Drop, S: BuildHasher> HashMap<K, V, S> {
         ensures value { IfOk result (λ got. IsGot (found_by (K.eq key) self.old.pairs) (λ new. new ≡ value) got.now) }
         ensures fault { IfErr result IsRoom }
     {
-        match self.try_insert(key, value) {
-            Ok(_) => match self.met() {
+        match put_if_missing(self, key, value) {
+            Ok(()) => match self.met() {
                 Some((_, value)) => Ok(value),
                 None => unreachable!(),
             },
-            Err(refused) => Err(refused.fault),
+            Err(fault) => Err(fault),
         }
     }
 
@@ -42,12 +80,12 @@ impl<K: Eq + Hash + Drop, V: Drop, S: BuildHasher> HashMap<K, V, S> {
         ensures value { IfOk result (λ got. IsGot (found_by (K.eq key) self.old.pairs) (λ new. FnOnceReturns B.FnOnce begin tt new) got.now) }
         ensures fault { IfErr result IsRoom }
     {
-        match self.try_insert_with(key, begin) {
-            Ok(_) => match self.met() {
+        match begin_if_missing(self, key, begin) {
+            Ok(()) => match self.met() {
                 Some((_, there)) => Ok(there),
                 None => unreachable!(),
             },
-            Err(refused) => Err(refused.fault),
+            Err(fault) => Err(fault),
         }
     }
 }

@@ -6,7 +6,7 @@ use papaya_tables::Node;
 use seize_words::At;
 
 /// What the value of a block is, without what a pair holds. A table of no places stands in a block whose pair is out.
-#[derive(Clone, Copy, Debug, PartialEq, Eq)]
+#[derive(Clone, Copy)]
 pub enum Kind {
     /// A pair.
     Pair,
@@ -41,7 +41,7 @@ impl Kind {
 }
 
 /// What an operation has changed.
-#[derive(Clone, Copy, Debug, PartialEq, Eq)]
+#[derive(Clone, Copy)]
 pub enum Changed {
     /// Nothing: a load, an exchange that found another word, or no operation. A value that was rewritten in its block is not told.
     Nothing,

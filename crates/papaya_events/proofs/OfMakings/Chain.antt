@@ -140,6 +140,15 @@ module _ {K V : Type 0} (i : ℕ) (b : Beginning K) (stood : ℕ → Option (Sta
   abbrev pub IsUnder : Scene K V → Type 0
   IsUnder s = (z : NewMap) × (s.makers i ≡ Some (record b { machine = z })) × (s.maps ≡ stood)
 
+-- The map is there, and is made for its capacity; and what was done since then found what it must.
+module _ {K V : Type 0} (b : Beginning K) (began : Moment K V) (there : MapThere) where
+  pub record HasFound (effects : List Effect) (m : Moment K V) (s : Scene K V) : Type 0 where
+    pub made : m.made ≡ began.made
+    pub made_for : IsMadeFor b.map m b.given
+    pub found : AtEachEffect (EventFinds (Some b.map) false) None (Some b.map) effects began
+    pub openings : ShowsOpenings s
+    pub there_is : map_at b.map m ≡ Some there
+
 module _ {K V S : Type 0} (same : K → K → Bool) (hash : K → ℕ) (terms : Terms) (name : ℕ → List ℕ) (log : List (Entry K V)) (own : List ℕ) (mode : ResizeMode) (capacity i : ℕ) (b : Beginning K) (began : Moment K V) where
   -- So many steps of the making have led to where the run is: the executor is there in the scene, and the event is in its midst; what it did are effects of a making.
   pub record MakingComes (n : ℕ) (x : Come K V S) (f : Far K V S) : Type 0 where
@@ -170,7 +179,7 @@ module _ {K V S : Type 0} (same : K → K → Bool) (hash : K → ℕ) (terms : 
     w = with_effects None (Some b.map) step_did y.now
 
     -- what the step did are effects of a making
-    step_firsts : list_all is_first_making step_did ≡ true
+    pub step_firsts : list_all is_first_making step_did ≡ true
     step_firsts =
         makings_do_theirs K V S same hash name y.now (known mid.logged.notes) y.scene mid.logged.executor to.logged.executor y.is_at y.midst.0.calls.whole.all.shown i step.said leads d it.1
         (y.midst.0.calls.whole.counters i d it.1)
@@ -194,7 +203,7 @@ module _ {K V S : Type 0} (same : K → K → Bool) (hash : K → ℕ) (terms : 
 
     -- it comes on, if it finds its map there, or just asks for blocks
     module _ (was_new : WasNew b.map step.said y.now) (finds : FindsItsMap b step.said (effects_of (acts.Making b.map) (known mid.logged.notes) to.logged.executor.memory.changed) y.now) where
-      one : MakingSteps same hash terms i b.map (come_by mid y.now y.scene) (come_by to w next)
+      pub one : MakingSteps same hash terms i b.map (come_by mid y.now y.scene) (come_by to w next)
       one = record {
         is_at = y.is_at;
         size = y.size;
@@ -209,7 +218,7 @@ module _ {K V S : Type 0} (same : K → K → Bool) (hash : K → ℕ) (terms : 
             step.is_noted.did step.is_noted.noted;
       }
 
-      next_midst : InMakingEvent same name terms log (MakeMap own mode capacity) b.map began to.effects w (known to.logged.notes) next
+      pub next_midst : InMakingEvent same name terms log (MakeMap own mode capacity) b.map began to.effects w (known to.logged.notes) next
       next_midst = makings_chain K V S same hash name terms log (MakeMap own mode capacity) i b.map began 1 (come_by mid y.now y.scene) (come_by to w next) (come_by mid y.now y.scene, refl, one) y.midst
 
       abbrev pub making_comes_on : MakingComes (suc n) x to
@@ -228,16 +237,8 @@ module _ {K V S : Type 0} (same : K → K → Bool) (hash : K → ℕ) (terms : 
 
   -- The map is there, and is to be made so.
   module _ (there : MapThere) (faultless : map_fault there.mode there.capacity ≡ None) (places_are : b.places ≡ first_places there.capacity) (below : b.map < began.made) where
-    -- So it is still, and what was done found what it must.
-    pub record HasFound (effects : List Effect) (m : Moment K V) (s : Scene K V) : Type 0 where
-      pub made : m.made ≡ began.made
-      pub made_for : IsMadeFor b.map m b.given
-      pub found : AtEachEffect (EventFinds (Some b.map) false) None (Some b.map) effects began
-      pub openings : ShowsOpenings s
-      pub there_is : map_at b.map m ≡ Some there
-
     module _ (n : ℕ) (x : Come K V S) (mid to : Far K V S) (y : MakingComes n x mid) (stood : ℕ → Option (Standing K)) (it : IsUnder i b stood y.scene) (step : MakingGoes i b.map mid to)
-        (was_new : WasNew b.map step.said y.now) (setting : Setting) (is_new : IsNew b.map setting y.now) (so : HasFound mid.effects y.now y.scene) where
+        (was_new : WasNew b.map step.said y.now) (setting : Setting) (is_new : IsNew b.map setting y.now) (so : HasFound b began there mid.effects y.now y.scene) where
       abbrev pub comes_on : MakingComes (suc n) x to
       comes_on = making_comes_on n x mid to y stood it step was_new (inl (subst (λ (q : ℕ). b.map < q) (sym so.made) below, so.made_for))
 
@@ -264,7 +265,7 @@ module _ {K V S : Type 0} (same : K → K → Bool) (hash : K → ℕ) (terms : 
           (each_join (EventFinds (Some b.map) false) None (Some b.map) mid.effects did_now began so.found
           (subst (λ (z : Moment K V). AtEachEffect (EventFinds (Some b.map) false) None (Some b.map) did_now z) y.midst.0.worked step_found))
 
-      pub found_on : HasFound to.effects comes_on.now comes_on.scene
+      pub found_on : HasFound b began there to.effects comes_on.now comes_on.scene
       found_on = record {
         made = made_stays None (Some b.map) did_now y.now ∙ so.made;
         made_for = made_still y.now comes_on.now b.map b.given (effects_keep_capacities K V None (Some b.map) did_now y.now b.map) so.made_for;
@@ -280,7 +281,7 @@ module _ {K V S : Type 0} (same : K → K → Bool) (hash : K → ℕ) (terms : 
     module _ (setting : Setting) (stood : ℕ → Option (Standing K)) where
       -- It is on its way, and the map is as new.
       abbrev pub Midway : ℕ → Come K V S → Far K V S → Type 0
-      Midway n x f = (y : MakingComes n x f) × IsUnder i b stood y.scene × IsNew b.map setting y.now × HasFound f.effects y.now y.scene
+      Midway n x f = (y : MakingComes n x f) × IsUnder i b stood y.scene × IsNew b.map setting y.now × HasFound b began there f.effects y.now y.scene
 
       pub makings_come : (n : ℕ) (x : Come K V S) (from to : Far K V S) → GoesFor (MakingOn i b.map) n from to → Midway 0 x from → Midway n x to
       makings_come zero x from to is at = subst (Midway 0 x) is at

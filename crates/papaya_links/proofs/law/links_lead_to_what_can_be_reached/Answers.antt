@@ -1,6 +1,6 @@
 -- What links lead to where all stand together, over each act, and wherever a list of acts has led.
 use Rattle.papaya_links.proofs.Closed.{scenes_are_closed}
-use Rattle.papaya_links.proofs.Lists.{acts_unlink, lists_are_tied, lists_unlink, lists_are_closed}
+use Rattle.papaya_links.proofs.Lists.{acts_unlink, lists_are_tied, lists_hold, lists_unlink, lists_are_closed}
 use Rattle.papaya_links.proofs.Tied.{scenes_are_tied}
 use Rattle.papaya_links.proofs.law.links_lead_to_what_can_be_reached.Goals as goal
 
@@ -10,6 +10,7 @@ returns c d = record {
   acts = acts_unlink _;
   sights = scenes_are_closed _;
   tied = lists_are_tied _;
+  held = lists_hold _;
   unlinking = lists_unlink _;
   closed = lists_are_closed _;
 }

@@ -138,7 +138,7 @@ module _ {K V S : Type 0} (same : K → K → Bool) (hash : K → ℕ) (terms : 
       ap (list_all is_growth) d.ran.1
       ∙ (((d.ran.3 same hash name m s1 (begun_shown run holds d) b (at_same s.makers i (Some b) i refl) refl None).1 tt run.stands.shown.counted.numbered.numbers).3 tt).1
 
-  may : MayMap same hash terms log (MakeMap own mode capacity) old
+  abbrev may : MayMap same hash terms log (MakeMap own mode capacity) old
   may = record { due = record { played = run.stands; in_turn = turn }; lawful = holds.lawful; counts = holds.counts }
 
   never : is_busy {V = V} (Refused fault) ≡ false
