@@ -30,6 +30,7 @@ use Rattle.papaya_schedules.specs.Sequential.{Deed, Leaves, Puts, Takes, Meaning
 use Rattle.papaya_schedules.specs.Terms.{Terms}
 use Rattle.papaya_schedules.specs.Views.{behind, call_of, is_in_map, number_of, reply_to}
 use Rattle.papaya_events.proofs.Given.Histories.Found.{FoundIn, found}
+use Rattle.papaya_events.proofs.Given.Follows.Contents.{pair_next}
 use Rattle.papaya_events.proofs.Given.Follows.Calls.{changed, changed_same, of_same, found as found_on}
 use Rattle.papaya_events.proofs.Given.Spots.Unreclaimed.{and_both}
 use Rattle.papaya_events.proofs.Given.Finds.Over.{acts}
@@ -109,6 +110,18 @@ one_value Refuses = inl refl
 one_value Wants = inl refl
 
 module _ {K V : Type 0} where
+  -- a pair that comes behind others leaves these as they are
+  pair_past : (stored : List (K × V)) → pair_at stored (suc (length stored)) ≡ None
+  pair_past [] = refl
+  pair_past (s ∷ stored) = pair_past stored
+
+  pair_other : (stored : List (K × V)) (x : K × V) (n : ℕ) → n ≢ suc (length stored) → pair_at (stored ++ x ∷ []) n ≡ pair_at stored n
+  pair_other stored x zero other = refl
+  pair_other [] x (suc zero) other = absurd (other refl)
+  pair_other [] x (suc (suc n)) other = refl
+  pair_other (s ∷ stored) x (suc zero) other = refl
+  pair_other (s ∷ stored) x (suc (suc n)) other = pair_other stored x (suc n) (λ e. other (ap suc e))
+
   stored_still : (o : Option (UnderWay K V)) (f : Effect) (stored : List (K × V)) → stores f ≡ false → stored_by o f stored ≡ stored
   stored_still (Some c) (effect.Stored n s) stored none = absurd (cc none)
   stored_still None (effect.Stored n s) stored none = refl
@@ -216,7 +229,7 @@ module _ {K V : Type 0} (same : K → K → Bool) where
         where
           by : (o : Option (K × V)) → is_key same o k ≡ true → is_key same o (key_of one) ≡ true
           by None h = absurd (cc h)
-          by (Some p) h = one_class laws p.0 (key_of one) k h e
+          by (Some p) h = laws.congr p.0 k (key_of one) h ∙ laws.symm k (key_of one) ∙ e
 
       -- a pair comes in under the next number
       module _ (x : Moment K V) (new : ℕ) (next : new ≡ suc (length x.stored)) (stored : List (K × V)) where
@@ -265,7 +278,7 @@ module _ {K V : Type 0} (same : K → K → Bool) where
             where
               by : (value ≡ []) ⊎ ((v : V) × (value ≡ v ∷ [])) → pair_at (x.stored ++ map (λ v. (key_of one, v)) value) n ≡ pair_at x.stored n
               by (inl none) = ap (λ (vs : List V). pair_at (x.stored ++ map (λ v. (key_of one, v)) vs) n) none ∙ ap (λ (xs : List (K × V)). pair_at xs n) (append-nil x.stored)
-              by (inr some) = ap (λ (vs : List V). pair_at (x.stored ++ map (λ v. (key_of one, v)) vs) n) some.1 ∙ pair_at-other x.stored (key_of one, some.0) n (λ e. other (e ∙ sym is_next))
+              by (inr some) = ap (λ (vs : List V). pair_at (x.stored ++ map (λ v. (key_of one, v)) vs) n) some.1 ∙ pair_other x.stored (key_of one, some.0) n (λ e. other (e ∙ sym is_next))
 
           its_key : (k : K) → is_key same (pair_at then_at.stored new) k ≡ true → same (key_of one) k ≡ true
           its_key k has = by (one_value (means one (reply_to c.replacing c.replies) c.replacing new))
@@ -277,12 +290,12 @@ module _ {K V : Type 0} (same : K → K → Bool) where
               by (inl none) =
                   let at : pair_at then_at.stored new ≡ None =
                   ap (λ (xs : List (K × V)). pair_at xs new) stored_is ∙ ap (λ (vs : List V). pair_at (x.stored ++ map (λ v. (key_of one, v)) vs) new) none
-                  ∙ ap (λ (xs : List (K × V)). pair_at xs new) (append-nil x.stored) ∙ ap (pair_at x.stored) is_next ∙ pair_at-past x.stored in
+                  ∙ ap (λ (xs : List (K × V)). pair_at xs new) (append-nil x.stored) ∙ ap (pair_at x.stored) is_next ∙ pair_past x.stored in
                   let it : false ≡ true = key_at None at in absurd (cc it)
               by (inr some) =
                   key_at (Some (key_of one, some.0)) (ap (λ (xs : List (K × V)). pair_at xs new) stored_is
                   ∙ ap (λ (vs : List V). pair_at (x.stored ++ map (λ v. (key_of one, v)) vs) new) some.1
-                  ∙ ap (pair_at (x.stored ++ (key_of one, some.0) ∷ [])) is_next ∙ pair_at-next x.stored (key_of one, some.0))
+                  ∙ pair_next x.stored (key_of one, some.0) new next)
 
           after_store : IsFree x → HaveTheirOwn same x → HaveTheirOwn same then_at
           after_store free owns = own_new x new is_next then_at.stored others its_key free owns
