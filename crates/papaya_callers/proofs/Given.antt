@@ -3,8 +3,8 @@ pub use Rattle.papaya_late.proofs.Given.SeizeWords
 pub use Rattle.papaya_late.proofs.Given.SeizeWaiting
 pub use Rattle.papaya_late.proofs.Given.SeizeMoves
 pub use Rattle.papaya_late.proofs.Given.SeizeRule
-pub use Rattle.seize_sets.proofs as SeizeSets
-pub use Rattle.seize_ends.proofs as SeizeEnds
+pub use Rattle.seize_alone.proofs.Given.SeizeSets
+pub use Rattle.seize_alone.proofs.Given.SeizeEnds
 pub use Rattle.seize_alone.proofs as SeizeAlone
 pub use Rattle.papaya_late.proofs.Given.Tables
 pub use Rattle.papaya_late.proofs.Given.Rule

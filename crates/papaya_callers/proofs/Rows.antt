@@ -1,7 +1,6 @@
 -- What the steps of rows of the collector leave of a map, and of what is looked at of it.
 pub mod Keep
 pub mod Retired
-pub mod Held
 pub mod UsersHeld
 pub mod Forgotten
 pub mod Forgets

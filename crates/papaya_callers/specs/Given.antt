@@ -2,8 +2,8 @@
 pub use Rattle.papaya_late.specs.Given.SeizeWords
 pub use Rattle.papaya_late.specs.Given.Seize
 pub use Rattle.papaya_late.specs.Given.SeizeWaiting
-pub use Rattle.seize_sets.specs as SeizeSets
-pub use Rattle.seize_ends.specs as SeizeEnds
+pub use Rattle.seize_alone.specs.Given.SeizeSets
+pub use Rattle.seize_alone.specs.Given.SeizeEnds
 pub use Rattle.seize_alone.specs as SeizeAlone
 pub use Rattle.papaya_late.specs.Given.Tables
 pub use Rattle.papaya_late.specs.Given.Resize

@@ -29,17 +29,6 @@ module _ {K V : Type 0} (w : World (Node K V)) where
   abbrev pub IsKeptBlock : ℕ → Type 0
   IsKeptBlock b = IsUsersOwn (w.hand b) ⊎ (reachable b w.log ≡ true)
 
-  -- The section of a slot that somebody is inside holds the block, if it isn't kept.
-  abbrev pub IsHeldBlock : ℕ → ℕ → Type 0
-  IsHeldBlock slot b = IsKeptBlock b ⊎ (holds slot b w.log ≡ true)
-
-  -- Until that section ends, all that could be looked at since it began is there, too.
-  pub record AllHeld (slot : ℕ) (c : Chart K) (blocks : Blocks) (setting : Setting) : Type 0 where
-    pub inside : IsInside (w.uses slot)
-    pub tables : (t : ℕ) → t < c.past → blocks.table_known t ≡ true → IsHeldBlock slot (blocks.table t)
-    pub pairs : (n : ℕ) → n < c.stored → blocks.pair_known n ≡ true → IsHeldBlock slot (blocks.pair n)
-    pub counter : IsKeptBlock setting.counter
-
   -- The section of this slot holds all that can be looked at, and the users have the counter.
   pub record IsWithin (slot : ℕ) (c : Chart K) (blocks : Blocks) (setting : Setting) : Type 0 where
     pub inside : IsInside (w.uses slot)

@@ -1,3 +1,4 @@
 pub mod Did
 pub mod Effects
 pub mod Known
+pub mod Given

@@ -2,7 +2,7 @@
 use Rattle.std.specs.Prelude.{ℕ, refl}
 use Rattle.seize_words.specs.Op.{Op, Out}
 use Rattle.seize_words.specs.Plan.{Plan, May}
-use Rattle.papaya_tables.specs.declared.node.Node.{Node}
+use Rattle.papaya_effects.specs.Given.Tables.declared.node.Node.{Node}
 use Rattle.papaya_open.specs.declared.open.Open.{Open}
 use Rattle.papaya_open.specs.contracts.open.OpenLookNodeU64U64.TheImpl.{can-value, took-value, shown-value}
 use Rattle.papaya_open.proofs.Bare.{IsBare, bare_may}

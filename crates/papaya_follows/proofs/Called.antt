@@ -15,8 +15,8 @@ use Rattle.papaya_executor.specs.Given.Raw.declared.machines.answer.Called.{Call
 use Rattle.papaya_executor.specs.Given.Raw.declared.machines.answer.Called.TheVariants as called
 use Rattle.papaya_executor.specs.Given.Raw.declared.machines.machine.Machine.{Machine}
 use Rattle.papaya_executor.specs.Given.Raw.declared.machines.progress.Progress.{Progress}
-use Rattle.papaya_schedules.specs.declared.call.Call.{Call}
-use Rattle.papaya_schedules.specs.declared.call.Call.TheVariants as call
+use Rattle.papaya_effects.specs.Given.Schedules.declared.call.Call.{Call}
+use Rattle.papaya_effects.specs.Given.Schedules.declared.call.Call.TheVariants as call
 use Rattle.papaya_executor.specs.Given.Callers.OverAll.{CallOverAll}
 use Rattle.papaya_executor.specs.Given.Callers.Rooms.{CallForRoom}
 use Rattle.papaya_executor.specs.Given.Callers.Together.{CallOnKey, UnderWay, OnKey, ForRoom, Counting, OverAll, next_of, next_for_room, next_of_counting, next_over_all}

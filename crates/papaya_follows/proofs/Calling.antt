@@ -3,17 +3,17 @@ use Rattle.std.specs.Prelude.{◌≡◌, ◌≢◌, ℕ, ◌+◌, ◌==◌, Bool
 use Rattle.std.proofs.Common.{refl, ap, sym, subst, ◌∙◌, arith, inl, inr}
 use Rattle.std.proofs.lemmas.Bool.{eq-eqb, cases_eq}
 use Rattle.papaya_executor.specs.Given.Seize.World.{with_at}
-use Rattle.papaya_runs.specs.Same.{is_same}
+use Rattle.papaya_effects.specs.Given.Runs.Same.{is_same}
 use Rattle.papaya_executor.specs.Given.Raw.declared.machines.asking.Reply.{Reply as MachineReply}
-use Rattle.papaya_schedules.specs.declared.call.Call.{Call}
-use Rattle.papaya_schedules.specs.declared.call.Reply.{Reply}
-use Rattle.papaya_schedules.specs.declared.outcome.Outcome.{Outcome}
-use Rattle.papaya_schedules.specs.declared.outcome.Outcome.TheVariants as outcome
-use Rattle.papaya_schedules.specs.After.{asks_on, comes_to, replied, without_call}
-use Rattle.papaya_schedules.specs.Beginning.{fresh_call, with_call}
-use Rattle.papaya_schedules.specs.Entry.{ends_call}
-use Rattle.papaya_schedules.specs.Moment.{Stands, Going, Asking, Told, IsReady, UnderWay as CallThere, Moment}
-use Rattle.papaya_schedules.specs.Views.{call_of}
+use Rattle.papaya_effects.specs.Given.Schedules.declared.call.Call.{Call}
+use Rattle.papaya_effects.specs.Given.Schedules.declared.call.Reply.{Reply}
+use Rattle.papaya_effects.specs.Given.Schedules.declared.outcome.Outcome.{Outcome}
+use Rattle.papaya_effects.specs.Given.Schedules.declared.outcome.Outcome.TheVariants as outcome
+use Rattle.papaya_effects.specs.Given.Schedules.After.{asks_on, comes_to, replied, without_call}
+use Rattle.papaya_effects.specs.Given.Schedules.Beginning.{fresh_call, with_call}
+use Rattle.papaya_effects.specs.Given.Schedules.Entry.{ends_call}
+use Rattle.papaya_effects.specs.Given.Schedules.Moment.{Stands, Going, Asking, Told, IsReady, UnderWay as CallThere, Moment}
+use Rattle.papaya_effects.specs.Given.Schedules.Views.{call_of}
 use Rattle.papaya_executor.specs.Given.Callers.OverAll.{CallOverAll}
 use Rattle.papaya_executor.specs.Given.Callers.Together.{CallOnKey, UnderWay, OnKey, ForRoom, Counting, OverAll}
 use Rattle.papaya_executor.proofs.Given.Callers.Together.At.{at_other, at_same}

@@ -3,14 +3,14 @@ use Rattle.std.specs.Prelude.{◌≡◌, ◌≢◌, ℕ, Bool, true, false, cond
 use Rattle.std.proofs.Common.{refl, ap, sym, subst, ◌∙◌, inl, inr}
 use Rattle.std.proofs.lemmas.Bool.{cases_eq}
 use Rattle.papaya_executor.specs.Given.Seize.World.{with_at}
-use Rattle.papaya_runs.specs.Same.{is_same}
-use Rattle.papaya_schedules.specs.declared.call.Call.{Call}
-use Rattle.papaya_schedules.specs.declared.call.Call.TheVariants as call
-use Rattle.papaya_schedules.specs.declared.effect.Effect.{Effect}
-use Rattle.papaya_schedules.specs.declared.effect.Effect.TheVariants as effect
-use Rattle.papaya_schedules.specs.Effects.{due_for, call_by, with_effect, with_effects}
-use Rattle.papaya_schedules.specs.Moment.{UnderWay as CallThere, Moment}
-use Rattle.papaya_schedules.specs.Views.{call_of}
+use Rattle.papaya_effects.specs.Given.Runs.Same.{is_same}
+use Rattle.papaya_effects.specs.Given.Schedules.declared.call.Call.{Call}
+use Rattle.papaya_effects.specs.Given.Schedules.declared.call.Call.TheVariants as call
+use Rattle.papaya_effects.specs.Given.Schedules.declared.effect.Effect.{Effect}
+use Rattle.papaya_effects.specs.Given.Schedules.declared.effect.Effect.TheVariants as effect
+use Rattle.papaya_effects.specs.Given.Schedules.Effects.{due_for, call_by, with_effect, with_effects}
+use Rattle.papaya_effects.specs.Given.Schedules.Moment.{UnderWay as CallThere, Moment}
+use Rattle.papaya_effects.specs.Given.Schedules.Views.{call_of}
 use Rattle.papaya_executor.specs.Given.Callers.Together.{UnderWay}
 use Rattle.papaya_executor.proofs.Given.Callers.Together.At.{at_other, at_same}
 use Rattle.papaya_executor.specs.Given.Finishes.Maps.{with_call}

@@ -6,14 +6,14 @@ use Rattle.std.proofs.lemmas.Bool.{eq-eqb, cases_eq}
 use Rattle.std.proofs.lemmas.List.{length-append}
 use Rattle.papaya_executor.specs.Given.Tables.Chunks.{is_incremental}
 use Rattle.papaya_executor.specs.Given.Tables.declared.table_words.TheConstants.{PLACES}
-use Rattle.papaya_schedules.specs.declared.effect.Effect.{Effect}
-use Rattle.papaya_schedules.specs.declared.effect.Effect.TheVariants.{Asked, PairMade, PairGivenUp, TableMade, TableGivenUp, Linked, Promoted, Copied, Stored, Replaced, Removed, Counted, Deferred, Retired, Reclaimed, Ended, Taken}
-use Rattle.papaya_schedules.specs.Effects.{AtEachEffect, with_effect}
-use Rattle.papaya_schedules.specs.Growing.{ComesNext}
-use Rattle.papaya_schedules.specs.Lives.{IsFrom}
-use Rattle.papaya_schedules.specs.Moment.{Stage, TableThere, Moment}
-use Rattle.papaya_schedules.specs.Things.{same_table}
-use Rattle.papaya_schedules.specs.Views.{map_at, first_or, grows_in_chunks, is_linked, first_of, tables_of, is_stage, is_place}
+use Rattle.papaya_effects.specs.Given.Schedules.declared.effect.Effect.{Effect}
+use Rattle.papaya_effects.specs.Given.Schedules.declared.effect.Effect.TheVariants.{Asked, PairMade, PairGivenUp, TableMade, TableGivenUp, Linked, Promoted, Copied, Stored, Replaced, Removed, Counted, Deferred, Retired, Reclaimed, Ended, Taken}
+use Rattle.papaya_effects.specs.Given.Schedules.Effects.{AtEachEffect, with_effect}
+use Rattle.papaya_effects.specs.Given.Schedules.Growing.{ComesNext}
+use Rattle.papaya_effects.specs.Given.Schedules.Lives.{IsFrom}
+use Rattle.papaya_effects.specs.Given.Schedules.Moment.{Stage, TableThere, Moment}
+use Rattle.papaya_effects.specs.Given.Schedules.Things.{same_table}
+use Rattle.papaya_effects.specs.Given.Schedules.Views.{map_at, first_or, grows_in_chunks, is_linked, first_of, tables_of, is_stage, is_place}
 use Rattle.papaya_executor.specs.Given.Rule.Chart.{Chart}
 use Rattle.papaya_executor.specs.Given.Finishes.Maps.{Standing}
 use Rattle.papaya_effects.specs.Effects.{spot_at}

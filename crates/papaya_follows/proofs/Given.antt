@@ -13,5 +13,5 @@ pub use Rattle.papaya_executor.proofs.Given.Late
 pub use Rattle.papaya_executor.proofs.Given.Tells
 pub use Rattle.papaya_executor.proofs.Given.Callers
 pub use Rattle.papaya_executor.proofs.Given.Finishes
-pub use Rattle.papaya_runs.proofs as Runs
+pub use Rattle.papaya_effects.proofs.Given.Runs
 pub use Rattle.papaya_executor.proofs as Executor

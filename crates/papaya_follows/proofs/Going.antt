@@ -1,7 +1,7 @@
 -- What a step of a call leaves as it was, where the moment after its effects shows the scene after it.
 use Rattle.std.specs.Prelude.{◌≡◌, ℕ, suc, ◌+◌, ◌<◌, ◌≤◌, Bool, List, Some, None, ◌⊎◌}
-use Rattle.papaya_schedules.specs.Moment.{Moment}
-use Rattle.papaya_schedules.specs.Views.{map_at}
+use Rattle.papaya_effects.specs.Given.Schedules.Moment.{Moment}
+use Rattle.papaya_effects.specs.Given.Schedules.Views.{map_at}
 use Rattle.papaya_executor.specs.Given.Finishes.Maps.{Standing}
 use Rattle.papaya_effects.specs.Known.{Known}
 use Rattle.papaya_effects.specs.declared.role.Role.{Role}

@@ -4,9 +4,9 @@ use Rattle.std.proofs.Common.{refl, ap, sym, subst, ◌∙◌, inl}
 use Rattle.papaya_executor.specs.Given.SeizeWords.Mem.{Mem}
 use Rattle.papaya_executor.specs.Given.Seize.World.{World}
 use Rattle.papaya_executor.specs.Given.Tables.declared.node.Node.{Node}
-use Rattle.papaya_schedules.specs.declared.effect.Effect.{Effect}
-use Rattle.papaya_schedules.specs.Effects.{AtEachEffect, with_effects}
-use Rattle.papaya_schedules.specs.Moment.{Moment}
+use Rattle.papaya_effects.specs.Given.Schedules.declared.effect.Effect.{Effect}
+use Rattle.papaya_effects.specs.Given.Schedules.Effects.{AtEachEffect, with_effects}
+use Rattle.papaya_effects.specs.Given.Schedules.Moment.{Moment}
 use Rattle.papaya_executor.specs.Given.Rule.Chart.{Chart}
 use Rattle.papaya_executor.specs.Given.Rule.Words.{Blocks}
 use Rattle.papaya_executor.specs.Given.Rule.InWorld.{IsMapIn, Went}

@@ -5,17 +5,17 @@ use Rattle.std.proofs.lemmas.Bool.{eq-eqb, cases_eq}
 use Rattle.std.proofs.lemmas.List.Elements.{filter-append}
 use Rattle.papaya_executor.specs.Given.SeizeWords.Mem.{Mem, value_at}
 use Rattle.papaya_executor.specs.Given.Seize.World.{World}
-use Rattle.papaya_runs.specs.declared.outcome.TableShape.{TableShape}
+use Rattle.papaya_effects.specs.Given.Runs.declared.outcome.TableShape.{TableShape}
 use Rattle.papaya_executor.specs.Given.Tables.declared.node.Node.{Node}
 use Rattle.papaya_executor.specs.Given.Tables.declared.node.Node.TheVariants as node
-use Rattle.papaya_schedules.specs.declared.effect.Effect.{Effect}
-use Rattle.papaya_schedules.specs.declared.effect.Effect.TheVariants.{Linked, Promoted}
-use Rattle.papaya_schedules.specs.declared.effect.Table.{Table}
-use Rattle.papaya_schedules.specs.Entry.{acting}
-use Rattle.papaya_schedules.specs.Effects.{promoted, stored_by, with_effect}
-use Rattle.papaya_schedules.specs.Lists.{put}
-use Rattle.papaya_schedules.specs.Moment.{IsLinked, Stage, MapThere, TableThere, UnderWay, Moment}
-use Rattle.papaya_schedules.specs.Views.{tables_of}
+use Rattle.papaya_effects.specs.Given.Schedules.declared.effect.Effect.{Effect}
+use Rattle.papaya_effects.specs.Given.Schedules.declared.effect.Effect.TheVariants.{Linked, Promoted}
+use Rattle.papaya_effects.specs.Given.Schedules.declared.effect.Table.{Table}
+use Rattle.papaya_effects.specs.Given.Schedules.Entry.{acting}
+use Rattle.papaya_effects.specs.Given.Schedules.Effects.{promoted, stored_by, with_effect}
+use Rattle.papaya_effects.specs.Given.Schedules.Lists.{put}
+use Rattle.papaya_effects.specs.Given.Schedules.Moment.{IsLinked, Stage, MapThere, TableThere, UnderWay, Moment}
+use Rattle.papaya_effects.specs.Given.Schedules.Views.{tables_of}
 use Rattle.papaya_executor.specs.Given.Rule.Chart.{Chart}
 use Rattle.papaya_executor.specs.Given.Rule.Words.{Blocks}
 use Rattle.papaya_executor.specs.Given.Rule.InWorld.{IsMapIn, Went}

@@ -7,18 +7,18 @@ use Rattle.papaya_executor.specs.Given.SeizeWords.declared.at.At.TheVariants.{Ro
 use Rattle.papaya_executor.specs.Given.SeizeWords.Mem.{Mem, value_at}
 use Rattle.papaya_executor.specs.Given.SeizeWords.Word.{block_in}
 use Rattle.papaya_executor.specs.Given.Seize.World.{World}
-use Rattle.papaya_runs.specs.declared.outcome.TableShape.{TableShape}
+use Rattle.papaya_effects.specs.Given.Runs.declared.outcome.TableShape.{TableShape}
 use Rattle.papaya_executor.specs.Given.Tables.Chunks.{is_incremental}
 use Rattle.papaya_executor.specs.Given.Tables.declared.marks.TheConstants.{TOMBSTONE}
 use Rattle.papaya_executor.specs.Given.Tables.declared.node.Node.{Node}
 use Rattle.papaya_executor.specs.Given.Tables.declared.setting.Setting.{Setting}
 use Rattle.papaya_executor.specs.Given.Tables.declared.table_words.TheConstants.{PLACES}
-use Rattle.papaya_schedules.specs.declared.effect.Effect.{Effect}
-use Rattle.papaya_schedules.specs.declared.effect.Effect.TheVariants.{Copied, Stored, Replaced, Removed, Linked, Promoted}
-use Rattle.papaya_schedules.specs.declared.effect.Spot.{Spot}
-use Rattle.papaya_schedules.specs.Entry.{acting}
-use Rattle.papaya_schedules.specs.Effects.{with_effect, AtEachEffect}
-use Rattle.papaya_schedules.specs.Moment.{Moment}
+use Rattle.papaya_effects.specs.Given.Schedules.declared.effect.Effect.{Effect}
+use Rattle.papaya_effects.specs.Given.Schedules.declared.effect.Effect.TheVariants.{Copied, Stored, Replaced, Removed, Linked, Promoted}
+use Rattle.papaya_effects.specs.Given.Schedules.declared.effect.Spot.{Spot}
+use Rattle.papaya_effects.specs.Given.Schedules.Entry.{acting}
+use Rattle.papaya_effects.specs.Given.Schedules.Effects.{with_effect, AtEachEffect}
+use Rattle.papaya_effects.specs.Given.Schedules.Moment.{Moment}
 use Rattle.papaya_executor.specs.Given.Teller.declared.changed.Changed.{Changed}
 use Rattle.papaya_executor.specs.Given.Teller.declared.changed.Changed.TheVariants as changed
 use Rattle.papaya_executor.specs.Given.Tells.Seen.{Seen, Wrote}

@@ -2,7 +2,7 @@
 use Rattle.std.specs.Prelude.{◌≡◌, ℕ, zero, suc, ◌<◌, true, List, ◌∷◌, ◌++◌, []}
 use Rattle.std.proofs.Common.{refl, ap, sym, subst, ◌∙◌, arith}
 use Rattle.papaya_executor.specs.Given.Tables.declared.setting.Setting.{Setting}
-use Rattle.papaya_schedules.specs.Moment.{Stage, TableThere, Moment}
+use Rattle.papaya_effects.specs.Given.Schedules.Moment.{Stage, TableThere, Moment}
 use Rattle.papaya_executor.specs.Given.Rule.Chart.{Chart}
 use Rattle.papaya_executor.specs.Given.Rule.Words.{Blocks}
 use Rattle.papaya_executor.specs.Given.Callers.Sights.{IsPartOf, IsGrown}

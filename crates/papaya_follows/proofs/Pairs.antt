@@ -6,13 +6,13 @@ use Rattle.std.proofs.lemmas.List.{length-append}
 use Rattle.papaya_executor.specs.Given.SeizeWords.Mem.{Mem, value_at}
 use Rattle.papaya_executor.specs.Given.Tables.declared.node.Node.{Node}
 use Rattle.papaya_executor.specs.Given.Tables.declared.node.Node.TheVariants as node
-use Rattle.papaya_schedules.specs.declared.effect.Effect.TheVariants.{Stored}
-use Rattle.papaya_schedules.specs.declared.effect.Spot.{Spot}
-use Rattle.papaya_schedules.specs.declared.effect.Table.{Table}
-use Rattle.papaya_schedules.specs.Effects.{stored_by}
-use Rattle.papaya_schedules.specs.Lists.{put}
-use Rattle.papaya_schedules.specs.Moment.{Place, InMap, Out, UnderWay, Moment}
-use Rattle.papaya_schedules.specs.Views.{is_in_map}
+use Rattle.papaya_effects.specs.Given.Schedules.declared.effect.Effect.TheVariants.{Stored}
+use Rattle.papaya_effects.specs.Given.Schedules.declared.effect.Spot.{Spot}
+use Rattle.papaya_effects.specs.Given.Schedules.declared.effect.Table.{Table}
+use Rattle.papaya_effects.specs.Given.Schedules.Effects.{stored_by}
+use Rattle.papaya_effects.specs.Given.Schedules.Lists.{put}
+use Rattle.papaya_effects.specs.Given.Schedules.Moment.{Place, InMap, Out, UnderWay, Moment}
+use Rattle.papaya_effects.specs.Given.Schedules.Views.{is_in_map}
 use Rattle.papaya_executor.specs.Given.Finishes.Maps.{Standing}
 use Rattle.papaya_effects.specs.Known.{Known}
 use Rattle.papaya_effects.specs.declared.role.Role.TheVariants as role

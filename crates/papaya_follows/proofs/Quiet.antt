@@ -13,8 +13,8 @@ use Rattle.papaya_executor.specs.Given.Tables.declared.node.Node.TheVariants as 
 use Rattle.papaya_executor.specs.Given.Tables.declared.setting.Setting.{Setting}
 use Rattle.papaya_executor.specs.Given.Tables.declared.table_words.TheConstants.{NEXT, DEFERRED, PLACES}
 use Rattle.papaya_executor.proofs.Given.Tables.Lists.{table_list}
-use Rattle.papaya_schedules.specs.declared.effect.Effect.{Effect}
-use Rattle.papaya_schedules.specs.declared.effect.Table.{Table}
+use Rattle.papaya_effects.specs.Given.Schedules.declared.effect.Effect.{Effect}
+use Rattle.papaya_effects.specs.Given.Schedules.declared.effect.Table.{Table}
 use Rattle.papaya_executor.specs.Given.Tells.Tells.{KeepsNames}
 use Rattle.papaya_executor.specs.Given.Rule.Chart.{Chart}
 use Rattle.papaya_executor.specs.Given.Rule.Words.{Blocks}

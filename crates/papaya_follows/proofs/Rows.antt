@@ -20,11 +20,11 @@ use Rattle.papaya_executor.specs.Given.Tables.declared.node.Node.TheVariants as 
 use Rattle.papaya_executor.specs.Given.Tables.declared.setting.Setting.{Setting}
 use Rattle.papaya_executor.specs.Given.Tables.declared.table_words.TheConstants.{NEXT, DEFERRED}
 use Rattle.papaya_executor.proofs.Given.Tables.Lists.{its_list}
-use Rattle.papaya_schedules.specs.declared.effect.Effect.{Effect}
-use Rattle.papaya_schedules.specs.declared.effect.Effect.TheVariants as effect
-use Rattle.papaya_schedules.specs.declared.effect.Table.{Table}
-use Rattle.papaya_schedules.specs.declared.effect.Thing.{Thing}
-use Rattle.papaya_schedules.specs.declared.effect.Thing.TheVariants.{APair, ATable}
+use Rattle.papaya_effects.specs.Given.Schedules.declared.effect.Effect.{Effect}
+use Rattle.papaya_effects.specs.Given.Schedules.declared.effect.Effect.TheVariants as effect
+use Rattle.papaya_effects.specs.Given.Schedules.declared.effect.Table.{Table}
+use Rattle.papaya_effects.specs.Given.Schedules.declared.effect.Thing.{Thing}
+use Rattle.papaya_effects.specs.Given.Schedules.declared.effect.Thing.TheVariants.{APair, ATable}
 use Rattle.papaya_executor.proofs.Given.Rule.World.Hands.{at_cases}
 use Rattle.papaya_executor.specs.Given.Callers.Together.{CameAbout, HandsOver, IsOneStep}
 use Rattle.papaya_executor.proofs.Given.Callers.Together.Came.{came_reached, came_next}

@@ -13,11 +13,11 @@ use Rattle.papaya_executor.specs.Given.Tables.declared.setting.Setting.{Setting}
 use Rattle.papaya_executor.specs.Given.Raw.Machine.{machine_plan}
 use Rattle.papaya_executor.specs.Given.Raw.declared.machines.machine.Machine.{Machine}
 use Rattle.papaya_executor.specs.Given.Raw.declared.machines.progress.Progress.{Progress}
-use Rattle.papaya_schedules.specs.declared.effect.Effect.{Effect}
-use Rattle.papaya_schedules.specs.declared.effect.Table.{Table}
-use Rattle.papaya_schedules.specs.Effects.{AtEachEffect, with_effects}
-use Rattle.papaya_schedules.specs.Moment.{Moment}
-use Rattle.papaya_schedules.specs.Views.{map_at}
+use Rattle.papaya_effects.specs.Given.Schedules.declared.effect.Effect.{Effect}
+use Rattle.papaya_effects.specs.Given.Schedules.declared.effect.Table.{Table}
+use Rattle.papaya_effects.specs.Given.Schedules.Effects.{AtEachEffect, with_effects}
+use Rattle.papaya_effects.specs.Given.Schedules.Moment.{Moment}
+use Rattle.papaya_effects.specs.Given.Schedules.Views.{map_at}
 use Rattle.papaya_executor.specs.Given.Teller.declared.changed.Changed.{Changed}
 use Rattle.papaya_executor.specs.Given.Teller.declared.changed.Changed.TheVariants as changed
 use Rattle.papaya_executor.specs.Given.Tells.Seen.{Seen, Unseen, Wrote, seen_of}

@@ -6,15 +6,15 @@ use Rattle.papaya_executor.specs.Given.SeizeWords.Mem.{Mem, value_at}
 use Rattle.papaya_executor.specs.Given.Seize.World.{World}
 use Rattle.papaya_executor.specs.Given.Tables.declared.node.Node.{Node}
 use Rattle.papaya_executor.specs.Given.Tables.declared.node.Node.TheVariants as node
-use Rattle.papaya_runs.specs.Log.{pair_at}
-use Rattle.papaya_schedules.specs.declared.effect.Effect.{Effect}
-use Rattle.papaya_schedules.specs.declared.effect.Effect.TheVariants.{Stored, Replaced, Removed}
-use Rattle.papaya_schedules.specs.declared.effect.Spot.{Spot}
-use Rattle.papaya_schedules.specs.Entry.{acting}
-use Rattle.papaya_schedules.specs.Effects.{stored_by, with_effect}
-use Rattle.papaya_schedules.specs.Lists.{put}
-use Rattle.papaya_schedules.specs.Moment.{Place, Unborn, InMap, Out, Handed, Behind, Left, GivenBack, UnderWay, Moment}
-use Rattle.papaya_schedules.specs.Views.{is_in_map}
+use Rattle.papaya_effects.specs.Given.Runs.Log.{pair_at}
+use Rattle.papaya_effects.specs.Given.Schedules.declared.effect.Effect.{Effect}
+use Rattle.papaya_effects.specs.Given.Schedules.declared.effect.Effect.TheVariants.{Stored, Replaced, Removed}
+use Rattle.papaya_effects.specs.Given.Schedules.declared.effect.Spot.{Spot}
+use Rattle.papaya_effects.specs.Given.Schedules.Entry.{acting}
+use Rattle.papaya_effects.specs.Given.Schedules.Effects.{stored_by, with_effect}
+use Rattle.papaya_effects.specs.Given.Schedules.Lists.{put}
+use Rattle.papaya_effects.specs.Given.Schedules.Moment.{Place, Unborn, InMap, Out, Handed, Behind, Left, GivenBack, UnderWay, Moment}
+use Rattle.papaya_effects.specs.Given.Schedules.Views.{is_in_map}
 use Rattle.papaya_executor.specs.Given.Rule.Chart.{Still, Holds, Chart, is_settled}
 use Rattle.papaya_executor.specs.Given.Rule.Rule.{Rule}
 use Rattle.papaya_executor.specs.Given.Rule.Moves.{Promotes, MayChange, Allowed}

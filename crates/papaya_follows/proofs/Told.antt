@@ -8,10 +8,10 @@ use Rattle.papaya_executor.specs.Given.Seize.World.{World}
 use Rattle.papaya_executor.specs.Given.Tables.declared.node.Node.{Node}
 use Rattle.papaya_executor.specs.Given.Tables.declared.node.Node.TheVariants as node
 use Rattle.papaya_executor.specs.Given.Tables.declared.setting.Setting.{Setting}
-use Rattle.papaya_schedules.specs.declared.effect.Effect.{Effect}
-use Rattle.papaya_schedules.specs.declared.effect.Effect.TheVariants.{Asked}
-use Rattle.papaya_schedules.specs.declared.effect.Growth.TheVariants.{ABlock, ABucket}
-use Rattle.papaya_schedules.specs.Lists.{put}
+use Rattle.papaya_effects.specs.Given.Schedules.declared.effect.Effect.{Effect}
+use Rattle.papaya_effects.specs.Given.Schedules.declared.effect.Effect.TheVariants.{Asked}
+use Rattle.papaya_effects.specs.Given.Schedules.declared.effect.Growth.TheVariants.{ABlock, ABucket}
+use Rattle.papaya_effects.specs.Given.Schedules.Lists.{put}
 use Rattle.papaya_executor.specs.Given.Teller.Changed.{kind_of}
 use Rattle.papaya_executor.specs.Given.Teller.declared.changed.Changed.{Changed}
 use Rattle.papaya_executor.specs.Given.Teller.declared.changed.Changed.TheVariants as changed

@@ -1,6 +1,6 @@
 -- How a run begins: nothing is noted, and the scene has no map and no caller.
 use Rattle.std.specs.Prelude.{ℕ, Bool, List}
-use Rattle.papaya_schedules.specs.Moment.{start}
+use Rattle.papaya_effects.specs.Given.Schedules.Moment.{start}
 use Rattle.papaya_effects.specs.Known.{nothing_known}
 use Rattle.papaya_executor.specs.IsAt.{at_first}
 use Rattle.papaya_follows.specs.Shows.{Shows}

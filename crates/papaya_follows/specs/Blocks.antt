@@ -5,8 +5,8 @@ use Rattle.papaya_executor.specs.Given.Seize.World.{World, Hand, NoBlock, Making
 use Rattle.papaya_executor.specs.Given.Tables.Nodes.{deferred_word}
 use Rattle.papaya_executor.specs.Given.Tables.declared.node.Node.{Node}
 use Rattle.papaya_executor.specs.Given.Tables.declared.node.Node.TheVariants as node
-use Rattle.papaya_runs.specs.Log.{pair_at}
-use Rattle.papaya_schedules.specs.Moment.{Moment}
+use Rattle.papaya_effects.specs.Given.Runs.Log.{pair_at}
+use Rattle.papaya_effects.specs.Given.Schedules.Moment.{Moment}
 use Rattle.papaya_effects.specs.Known.{Known}
 use Rattle.papaya_effects.specs.declared.role.Role.{Role}
 use Rattle.papaya_effects.specs.declared.role.Role.TheVariants as role

@@ -1,16 +1,16 @@
 -- Calls between their steps: where one begins, is told a reply, or has come to an outcome, the moment shows the scene then.
 use Rattle.std.specs.Prelude.{◌≡◌, ℕ, Bool, true, false, List, Some}
-use Rattle.papaya_runs.specs.Same.{is_same}
+use Rattle.papaya_effects.specs.Given.Runs.Same.{is_same}
 use Rattle.papaya_executor.specs.Given.Raw.declared.machines.asking.Reply.{Reply as MachineReply}
-use Rattle.papaya_schedules.specs.declared.call.Call.{Call}
-use Rattle.papaya_schedules.specs.declared.call.Reply.{Reply}
-use Rattle.papaya_schedules.specs.declared.event.Event.TheVariants.{Replied}
-use Rattle.papaya_schedules.specs.declared.outcome.Outcome.{Outcome}
-use Rattle.papaya_schedules.specs.declared.outcome.Outcome.TheVariants.{Goes}
-use Rattle.papaya_schedules.specs.After.{stepped, calls_on}
-use Rattle.papaya_schedules.specs.Beginning.{with_call}
-use Rattle.papaya_schedules.specs.Entry.{ends_call}
-use Rattle.papaya_schedules.specs.Moment.{Moment}
+use Rattle.papaya_effects.specs.Given.Schedules.declared.call.Call.{Call}
+use Rattle.papaya_effects.specs.Given.Schedules.declared.call.Reply.{Reply}
+use Rattle.papaya_effects.specs.Given.Schedules.declared.event.Event.TheVariants.{Replied}
+use Rattle.papaya_effects.specs.Given.Schedules.declared.outcome.Outcome.{Outcome}
+use Rattle.papaya_effects.specs.Given.Schedules.declared.outcome.Outcome.TheVariants.{Goes}
+use Rattle.papaya_effects.specs.Given.Schedules.After.{stepped, calls_on}
+use Rattle.papaya_effects.specs.Given.Schedules.Beginning.{with_call}
+use Rattle.papaya_effects.specs.Given.Schedules.Entry.{ends_call}
+use Rattle.papaya_effects.specs.Given.Schedules.Moment.{Moment}
 use Rattle.papaya_executor.specs.Given.Callers.Together.{UnderWay}
 use Rattle.papaya_executor.specs.Given.Finishes.Machines.{ToldOfKind}
 use Rattle.papaya_executor.specs.Given.Finishes.Maps.{Standing}

@@ -17,7 +17,7 @@ pub use Rattle.papaya_executor.specs.Given.Tells
 pub use Rattle.papaya_executor.specs.Given.Teller
 pub use Rattle.papaya_executor.specs.Given.Callers
 pub use Rattle.papaya_executor.specs.Given.Finishes
-pub use Rattle.papaya_runs.specs as Runs
-pub use Rattle.papaya_schedules.specs as Schedules
+pub use Rattle.papaya_effects.specs.Given.Runs
+pub use Rattle.papaya_effects.specs.Given.Schedules
 pub use Rattle.papaya_effects.specs as Effects
 pub use Rattle.papaya_executor.specs as Executor

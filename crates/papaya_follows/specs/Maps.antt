@@ -1,9 +1,9 @@
 -- What a map that stands shows at a moment of a run: its pairs, by their numbers, and its tables.
 use Rattle.std.specs.Prelude.{◌≡◌, ℕ, zero, suc, ◌<◌, ◌≤◌, true, List, [], ◌∷◌, ◌++◌, length, Some}
-use Rattle.papaya_runs.specs.declared.outcome.TableShape.{TableShape}
-use Rattle.papaya_schedules.specs.declared.effect.Table.{Table}
-use Rattle.papaya_schedules.specs.Moment.{InMap, MapThere, Stage, IsLinked, TableThere, Moment}
-use Rattle.papaya_schedules.specs.Views.{is_in_map, map_at, tables_of}
+use Rattle.papaya_effects.specs.Given.Runs.declared.outcome.TableShape.{TableShape}
+use Rattle.papaya_effects.specs.Given.Schedules.declared.effect.Table.{Table}
+use Rattle.papaya_effects.specs.Given.Schedules.Moment.{InMap, MapThere, Stage, IsLinked, TableThere, Moment}
+use Rattle.papaya_effects.specs.Given.Schedules.Views.{is_in_map, map_at, tables_of}
 use Rattle.papaya_executor.specs.Given.Rule.Chart.{Chart}
 use Rattle.papaya_executor.specs.Given.Finishes.Maps.{Standing}
 use Rattle.papaya_effects.specs.Known.{Known}

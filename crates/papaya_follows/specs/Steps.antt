@@ -8,13 +8,13 @@ use Rattle.papaya_executor.specs.Given.Tables.declared.node.Node.{Node}
 use Rattle.papaya_executor.specs.Given.Tables.declared.node.Node.TheVariants as node
 use Rattle.papaya_executor.specs.Given.Raw.declared.machines.machine.Machine.{Machine}
 use Rattle.papaya_executor.specs.Given.Raw.declared.machines.progress.Progress.{Progress}
-use Rattle.papaya_schedules.specs.declared.effect.Effect.{Effect}
-use Rattle.papaya_schedules.specs.declared.effect.Effect.TheVariants.{Stored, Deferred, Retired}
-use Rattle.papaya_schedules.specs.declared.effect.Thing.TheVariants.{APair, ATable}
-use Rattle.papaya_schedules.specs.Entry.{acting}
-use Rattle.papaya_schedules.specs.Effects.{new_pair, with_effects, AtEachEffect}
-use Rattle.papaya_schedules.specs.Moment.{UnderWay as CallThere, MapThere, Moment}
-use Rattle.papaya_schedules.specs.Views.{is_in_a_map, map_at}
+use Rattle.papaya_effects.specs.Given.Schedules.declared.effect.Effect.{Effect}
+use Rattle.papaya_effects.specs.Given.Schedules.declared.effect.Effect.TheVariants.{Stored, Deferred, Retired}
+use Rattle.papaya_effects.specs.Given.Schedules.declared.effect.Thing.TheVariants.{APair, ATable}
+use Rattle.papaya_effects.specs.Given.Schedules.Entry.{acting}
+use Rattle.papaya_effects.specs.Given.Schedules.Effects.{new_pair, with_effects, AtEachEffect}
+use Rattle.papaya_effects.specs.Given.Schedules.Moment.{UnderWay as CallThere, MapThere, Moment}
+use Rattle.papaya_effects.specs.Given.Schedules.Views.{is_in_a_map, map_at}
 use Rattle.papaya_executor.specs.Given.Teller.declared.changed.Changed.{Changed}
 use Rattle.papaya_executor.specs.Given.Teller.declared.changed.Changed.TheVariants as changed
 use Rattle.papaya_effects.specs.Effects.{effects_of, known_after}

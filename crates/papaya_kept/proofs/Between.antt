@@ -53,7 +53,7 @@ use Rattle.papaya_lives.proofs.Lying.{others_leave_lying}
 use Rattle.papaya_lives.proofs.Order.{others_leave_order}
 use Rattle.papaya_lives.proofs.Reclaimed.{others_leave_retired}
 use Rattle.papaya_lives.proofs.Waiting.{others_leave_waiting}
-use Rattle.papaya_owned.specs.Given.Waits.Others.{copier_in, copier_in_room, copier_in_sweep, copier_of}
+use Rattle.papaya_sifts.specs.Given.Waits.Others.{copier_in, copier_in_room, copier_in_sweep, copier_of}
 use Rattle.papaya_kept.proofs.Ends.{calls_begin_ends, calls_take_ends, walks_go_on_ends, walks_stop_ends}
 use Rattle.papaya_kept.specs.Steps.{CallsBeginKept, CallsTakeKept, WalksGoOnKept, WalksStopKept}
 

@@ -2,10 +2,10 @@
 use Rattle.std.specs.Prelude.{Bool, true, List, Option, Some}
 use Rattle.std.specs.Int.{IsPowerOfTwo}
 use Rattle.std.proofs.Common.{◌≡◌, ℕ, inl, inr, refl, ap, sym, subst, ◌∙◌, false}
-use Rattle.papaya_owned.specs.Given.Waits.Others.{HaveEnds, copier_in, copier_in_room, copier_in_sweep}
-use Rattle.papaya_owned.proofs.Given.Waits.CallsEnd.{calls_keep_ends}
-use Rattle.papaya_owned.proofs.Given.Waits.EndingCalls.{copier_then}
-use Rattle.papaya_owned.proofs.Given.Waits.RoomsEnd.{rooms_keep_ends, sweeps_keep_ends}
+use Rattle.papaya_sifts.specs.Given.Waits.Others.{HaveEnds, copier_in, copier_in_room, copier_in_sweep}
+use Rattle.papaya_sifts.proofs.Given.Waits.CallsEnd.{calls_keep_ends}
+use Rattle.papaya_sifts.proofs.Given.Waits.EndingCalls.{copier_then}
+use Rattle.papaya_sifts.proofs.Given.Waits.RoomsEnd.{rooms_keep_ends, sweeps_keep_ends}
 use Rattle.papaya_waiters.specs.Blocking.{HaveEndsBlocking}
 use Rattle.papaya_waiters.proofs.Likes.{IsFreshCopier, IsIdleAt, IsIdleCopier}
 use Rattle.papaya_waiters.proofs.RowsFresh.{key_row_fresh, room_row_fresh, sweep_row_fresh}

@@ -2,8 +2,8 @@
 use Rattle.std.specs.Prelude.{Bool, true, false, List, Option, Some, None, nat_lt, if◌then◌else◌}
 use Rattle.std.proofs.Common.{◌≡◌, ℕ, ◌≤◌, ◌⊎◌, inl, inr, refl, ap, sym, subst, ◌∙◌, arith}
 use Rattle.std.proofs.lemmas.Bool.{cases_eq}
-use Rattle.papaya_owned.specs.Given.Waits.Others.{copier_in, copier_in_room, copier_in_sweep, copier_of}
-use Rattle.papaya_owned.proofs.Given.Waits.EndingCalls.{AllOrOwn, as_own, copier_then, keeps_still, with_own}
+use Rattle.papaya_sifts.specs.Given.Waits.Others.{copier_in, copier_in_room, copier_in_sweep, copier_of}
+use Rattle.papaya_sifts.proofs.Given.Waits.EndingCalls.{AllOrOwn, as_own, copier_then, keeps_still, with_own}
 use Rattle.papaya_waiters.proofs.Likes.{IsFreshCopier, IsIdleCopier, idle_ends, like_keeps_blocking}
 use Rattle.papaya_lives.specs.Given.Seize.declared.rows.settle.Settled.{Settled}
 use Rattle.papaya_lives.specs.Given.Seize.declared.rows.settle.Settled.TheVariants as settled

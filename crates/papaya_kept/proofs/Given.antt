@@ -5,15 +5,15 @@ pub use Rattle.papaya_lives.proofs.Given.SeizeRule
 pub use Rattle.papaya_lives.proofs.Given.SeizeSets
 pub use Rattle.papaya_lives.proofs.Given.SeizeEnds
 pub use Rattle.papaya_lives.proofs.Given.SeizeAlone
-pub use Rattle.papaya_owned.proofs.Given.SeizeActs
+pub use Rattle.papaya_sifts.proofs.Given.SeizeActs
 pub use Rattle.papaya_lives.proofs.Given.Rule
 pub use Rattle.papaya_lives.proofs.Given.Late
 pub use Rattle.papaya_lives.proofs.Given.Callers
-pub use Rattle.papaya_owned.proofs.Given.Waits
+pub use Rattle.papaya_sifts.proofs.Given.Waits
 pub use Rattle.papaya_waiters.proofs as Waiters
 pub use Rattle.papaya_lives.proofs.Given.Finishes
-pub use Rattle.papaya_owned.proofs.Given.Maps
-pub use Rattle.papaya_owned.proofs.Given.Whole
+pub use Rattle.papaya_sifts.proofs.Given.Maps
+pub use Rattle.papaya_sifts.proofs.Given.Whole
 pub use Rattle.papaya_lives.proofs.Given.Follows
 pub use Rattle.papaya_lives.proofs.Given.Hands
 pub use Rattle.papaya_lives.proofs.Given.Others

@@ -1,7 +1,7 @@
 -- Told what it asked, no call begins a copying by that.
 use Rattle.std.specs.Prelude.{◌==◌, Bool, true, false, if◌then◌else◌}
 use Rattle.std.proofs.Common.{◌≡◌, ℕ, sym, subst}
-use Rattle.papaya_owned.specs.Given.Waits.Others.{copier_in, copier_in_sweep}
+use Rattle.papaya_sifts.specs.Given.Waits.Others.{copier_in, copier_in_sweep}
 use Rattle.papaya_waiters.proofs.BeginsSweeps.{quiet_none}
 use Rattle.papaya_waiters.proofs.Likes.{IsFreshCopier}
 use Rattle.papaya_lives.specs.Given.SeizeWords.declared.fault.Fault.TheVariants.{RemoveNothing}

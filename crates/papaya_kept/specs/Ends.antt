@@ -5,7 +5,7 @@ use Rattle.papaya_lives.specs.Given.Rule.Chart.{Chart}
 use Rattle.papaya_lives.specs.Given.Callers.Together.{UnderWay}
 use Rattle.papaya_lives.specs.Given.Executor.IsAt.{Scene}
 use Rattle.papaya_lives.specs.Given.Finishes.Maps.{Standing}
-use Rattle.papaya_owned.specs.Given.Waits.Others.{HaveEnds}
+use Rattle.papaya_sifts.specs.Given.Waits.Others.{HaveEnds}
 use Rattle.papaya_waiters.specs.Blocking.{HaveEndsBlocking}
 
 -- in either mode

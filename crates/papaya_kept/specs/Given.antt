@@ -1,7 +1,7 @@
 -- The words of the crates below, given on to the crates above: these list this crate in place of those.
 pub use Rattle.papaya_lives.specs.Given.SeizeWords
 pub use Rattle.papaya_lives.specs.Given.SeizeEnds
-pub use Rattle.papaya_owned.specs.Given.SeizeActs
+pub use Rattle.papaya_sifts.specs.Given.SeizeActs
 pub use Rattle.papaya_lives.specs.Given.Tables
 pub use Rattle.papaya_lives.specs.Given.Resize
 pub use Rattle.papaya_lives.specs.Given.Sweeps
@@ -11,9 +11,9 @@ pub use Rattle.papaya_lives.specs.Given.Points
 pub use Rattle.papaya_lives.specs.Given.Late
 pub use Rattle.papaya_lives.specs.Given.Tells
 pub use Rattle.papaya_lives.specs.Given.Callers
-pub use Rattle.papaya_owned.specs.Given.Waits
+pub use Rattle.papaya_sifts.specs.Given.Waits
 pub use Rattle.papaya_lives.specs.Given.Finishes
-pub use Rattle.papaya_owned.specs.Given.Maps
+pub use Rattle.papaya_sifts.specs.Given.Maps
 pub use Rattle.papaya_lives.specs.Given.Follows
 pub use Rattle.papaya_lives.specs.Given.Hands
 pub use Rattle.papaya_lives.specs.Given.Others

@@ -1,4 +1,3 @@
--- How much is left of the end of a map, and that it comes to an end.
+-- How much is left of the end of a map.
 pub mod BlocksFew
 pub mod Lower
-pub mod ComesToEnd

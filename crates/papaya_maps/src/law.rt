@@ -1,8 +1,7 @@
-//! What is promised of maps that begin alone, that the end of a map with its collector comes to its end, and of the table after the last one.
+//! What is promised of maps that begin alone, and of the table after the last one.
 ghost use Rattle.std.specs.Prelude.{ℕ, Bool};
 ghost use Rattle.papaya_maps.specs.Listed.{ListsAddUp, InOneOfTwo, FirstOrBehind, WaitsBehindTables, MarkedIsSettledOrOwn};
 ghost use Rattle.papaya_maps.specs.EndingsBegins.{BeginningsEnd, BeginningsLeaveLess};
-ghost use Rattle.papaya_maps.specs.EndingsEnds.{OwnEndingsEnd};
 ghost use Rattle.papaya_maps.specs.NextTables.{NextTablesGoByTheCounter};
 ghost use Rattle.papaya_maps.specs.WholeBegins.{MapsBeginAlone, MapsGoOnAlone};
 ghost use Rattle.papaya_maps.specs.FaultsBegins.{FreeRootsSuffice, MemoryAloneIsRefused};
@@ -24,11 +23,6 @@ pub fn maps_begin_alone<K, V>()
 pub fn beginnings_need_memory_alone<K, V>()
     ensures begins { FreeRootsSuffice K V }
     ensures steps { MemoryAloneIsRefused K V }
-{}
-
-/// The end of a map that owns its collector comes to its end, wherever it has come to: no run of its steps goes on for ever.
-pub fn maps_that_own_their_collector_end<K, V, Q>()
-    ensures ends { (same : K → K → Bool) (asks : Q → K → Bool) (batch_size roots : ℕ) (slot : ℕ → ℕ) → OwnEndingsEnd V same asks batch_size roots slot }
 {}
 
 /// How often a block stands in lists. What waits where a map ends waits behind one of its tables. A place that is marked is settled, or claimed by

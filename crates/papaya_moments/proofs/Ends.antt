@@ -3,48 +3,48 @@ use Rattle.std.specs.Prelude.{◌≡◌, ℕ, zero, suc, Bool, true, ◌&&◌, L
 use Rattle.std.specs.List.{list_any}
 use Rattle.std.proofs.Common.{refl, ap, sym, subst, ◌∙◌, arith, inl, inr}
 use Rattle.std.proofs.lemmas.Bool.{cases_eq}
-use Rattle.papaya_others.specs.Given.SeizeWords.Mem.{value_at}
-use Rattle.papaya_others.specs.Given.Seize.World.{World, with_at, times}
-use Rattle.papaya_others.specs.Given.Seize.declared.rows.settle.Settled.{Settled}
-use Rattle.papaya_others.specs.Given.Seize.declared.rows.settle.Settled.TheVariants as settled
-use Rattle.papaya_others.specs.Given.Tables.declared.node.Node.{Node}
-use Rattle.papaya_others.specs.Given.Raw.declared.machines.end_map.EndMap.{EndMap}
-use Rattle.papaya_others.specs.Given.Schedules.declared.effect.Effect.{Effect}
-use Rattle.papaya_others.specs.Given.Schedules.declared.effect.Effect.TheVariants.{Stored, Deferred, Taken}
-use Rattle.papaya_others.specs.Given.Schedules.Effects.{with_effect, with_effects, AtEachEffect}
-use Rattle.papaya_others.specs.Given.Schedules.Moment.{Place, Left, GivenBack, IsTaken, Moment}
-use Rattle.papaya_others.specs.Given.Schedules.Things.{same_table}
-use Rattle.papaya_others.specs.Given.Schedules.Views.{behind, is_there}
-use Rattle.papaya_others.specs.Given.Teller.declared.changed.Changed.{Changed}
-use Rattle.papaya_others.specs.Given.Teller.declared.changed.Changed.TheVariants as changed
-use Rattle.papaya_others.proofs.Given.Callers.Together.At.{at_other, at_same}
-use Rattle.papaya_others.specs.Given.Effects.Effects.{taken_by, effects_of, known_after}
-use Rattle.papaya_others.specs.Given.Effects.Known.{Known, with_role}
-use Rattle.papaya_others.specs.Given.Effects.declared.acting.Acting.{Acting}
-use Rattle.papaya_others.specs.Given.Effects.declared.acting.Acting.TheVariants.{Ending}
-use Rattle.papaya_others.specs.Given.Effects.declared.role.Role.{Role}
-use Rattle.papaya_others.specs.Given.Effects.declared.role.Role.TheVariants as role
-use Rattle.papaya_others.specs.Given.Executor.Ending.{EndingStepsFrom, EndingComesTo, ending_begun}
-use Rattle.papaya_others.specs.Given.Executor.IsAt.{Scene, IsAt, slot_of}
-use Rattle.papaya_others.specs.Given.Executor.declared.executor.Executor.{Executor}
-use Rattle.papaya_others.specs.Given.Finishes.Endings.{Finishing, StepsOfEnding}
-use Rattle.papaya_others.specs.Given.Finishes.FactsEnds.{taken_by as taken_of, left_by}
-use Rattle.papaya_others.specs.Given.Finishes.Maps.{Standing}
-use Rattle.papaya_others.proofs.Given.Follows.Alike.{is_calm, AllCalm, AreSame, calm_still, put_elsewhere}
-use Rattle.papaya_others.proofs.Given.Follows.Onward.{IsOfMap}
-use Rattle.papaya_others.proofs.Given.Follows.Operations.{LeavesBy}
+use Rattle.papaya_spots.specs.Given.SeizeWords.Mem.{value_at}
+use Rattle.papaya_spots.specs.Given.Seize.World.{World, with_at, times}
+use Rattle.papaya_spots.specs.Given.Seize.declared.rows.settle.Settled.{Settled}
+use Rattle.papaya_spots.specs.Given.Seize.declared.rows.settle.Settled.TheVariants as settled
+use Rattle.papaya_spots.specs.Given.Tables.declared.node.Node.{Node}
+use Rattle.papaya_spots.specs.Given.Raw.declared.machines.end_map.EndMap.{EndMap}
+use Rattle.papaya_spots.specs.Given.Schedules.declared.effect.Effect.{Effect}
+use Rattle.papaya_spots.specs.Given.Schedules.declared.effect.Effect.TheVariants.{Stored, Deferred, Taken}
+use Rattle.papaya_spots.specs.Given.Schedules.Effects.{with_effect, with_effects, AtEachEffect}
+use Rattle.papaya_spots.specs.Given.Schedules.Moment.{Place, Left, GivenBack, IsTaken, Moment}
+use Rattle.papaya_spots.specs.Given.Schedules.Things.{same_table}
+use Rattle.papaya_spots.specs.Given.Schedules.Views.{behind, is_there}
+use Rattle.papaya_spots.specs.Given.Teller.declared.changed.Changed.{Changed}
+use Rattle.papaya_spots.specs.Given.Teller.declared.changed.Changed.TheVariants as changed
+use Rattle.papaya_spots.proofs.Given.Callers.Together.At.{at_other, at_same}
+use Rattle.papaya_spots.specs.Given.Effects.Effects.{taken_by, effects_of, known_after}
+use Rattle.papaya_spots.specs.Given.Effects.Known.{Known, with_role}
+use Rattle.papaya_spots.specs.Given.Effects.declared.acting.Acting.{Acting}
+use Rattle.papaya_spots.specs.Given.Effects.declared.acting.Acting.TheVariants.{Ending}
+use Rattle.papaya_spots.specs.Given.Effects.declared.role.Role.{Role}
+use Rattle.papaya_spots.specs.Given.Effects.declared.role.Role.TheVariants as role
+use Rattle.papaya_spots.specs.Given.Executor.Ending.{EndingStepsFrom, EndingComesTo, ending_begun}
+use Rattle.papaya_spots.specs.Given.Executor.IsAt.{Scene, IsAt, slot_of}
+use Rattle.papaya_spots.specs.Given.Executor.declared.executor.Executor.{Executor}
+use Rattle.papaya_spots.specs.Given.Finishes.Endings.{Finishing, StepsOfEnding}
+use Rattle.papaya_spots.specs.Given.Finishes.FactsEnds.{taken_by as taken_of, left_by}
+use Rattle.papaya_spots.specs.Given.Finishes.Maps.{Standing}
+use Rattle.papaya_spots.proofs.Given.Follows.Alike.{is_calm, AllCalm, AreSame, calm_still, put_elsewhere}
+use Rattle.papaya_spots.proofs.Given.Follows.Onward.{IsOfMap}
+use Rattle.papaya_spots.proofs.Given.Follows.Operations.{LeavesBy}
 use Rattle.papaya_hands.specs.Hands.{IsInUse}
 use Rattle.papaya_hands.specs.Rows.{ShowsRows}
 use Rattle.papaya_hands.proofs.Others.{endings_begin_aside, endings_go_aside}
-use Rattle.papaya_others.specs.After.{ShowsAfter}
-use Rattle.papaya_others.specs.Counters.{NotesCounters}
-use Rattle.papaya_others.specs.Endings.{ending_after}
-use Rattle.papaya_others.specs.Gone.{EndsWith}
-use Rattle.papaya_others.proofs.Counters.{endings_note_counters}
-use Rattle.papaya_others.proofs.EndBegins.{endings_begin_shown}
-use Rattle.papaya_others.proofs.Ends.{left, says_or_takes, endings_are_shown}
-use Rattle.papaya_others.proofs.Quiet.{all_quiet}
-use Rattle.papaya_others.proofs.Stays.{same_maps}
+use Rattle.papaya_spots.specs.Given.Others.After.{ShowsAfter}
+use Rattle.papaya_spots.specs.Given.Others.Counters.{NotesCounters}
+use Rattle.papaya_spots.specs.Given.Others.Endings.{ending_after}
+use Rattle.papaya_spots.specs.Given.Others.Gone.{EndsWith}
+use Rattle.papaya_spots.proofs.Given.Others.Counters.{endings_note_counters}
+use Rattle.papaya_spots.proofs.Given.Others.EndBegins.{endings_begin_shown}
+use Rattle.papaya_spots.proofs.Given.Others.Ends.{left, says_or_takes, endings_are_shown}
+use Rattle.papaya_spots.proofs.Given.Others.Quiet.{all_quiet}
+use Rattle.papaya_spots.proofs.Given.Others.Stays.{same_maps}
 use Rattle.papaya_spots.specs.Deferred.{WaitOutside, FindsNumbers}
 use Rattle.papaya_spots.specs.Spots.{ShowsPlaces}
 use Rattle.papaya_spots.specs.Unreclaimed.{is_unreclaimed, ShowsUnreclaimed}

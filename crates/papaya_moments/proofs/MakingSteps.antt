@@ -2,49 +2,49 @@
 use Rattle.std.specs.Prelude.{◌≡◌, ℕ, ◌<◌, ◌≤◌, Bool, true, false, List, [], ◌∷◌, Option, Some, None, IsSome, if◌then◌else◌, ◌⊎◌}
 use Rattle.std.proofs.Common.{refl, ap, sym, subst, ◌∙◌, inl, inr, arith}
 use Rattle.std.proofs.lemmas.Bool.{cases_eq}
-use Rattle.papaya_others.specs.Given.SeizeWords.Mem.{value_at}
-use Rattle.papaya_others.specs.Given.SeizeWords.Word.{block_in}
-use Rattle.papaya_others.specs.Given.SeizeWords.declared.at.At.TheVariants.{Root, Used, Slot, Entry, Word}
-use Rattle.papaya_others.specs.Given.Seize.World.{World, Hand, NoBlock, Making, InUse, Parting, Cutting, Handed, LeftTo, with_at}
-use Rattle.papaya_others.specs.Given.Seize.declared.progress.Progress.{Progress}
-use Rattle.papaya_others.specs.Given.Seize.declared.progress.Progress.TheVariants as progress
-use Rattle.papaya_others.specs.Given.Tables.declared.node.Node.{Node}
-use Rattle.papaya_others.specs.Given.Tables.declared.setting.Setting.{Setting}
-use Rattle.papaya_others.specs.Given.Resize.declared.new_map.NewMap.{NewMap}
-use Rattle.papaya_others.specs.Given.Runs.declared.outcome.TableShape.{TableShape}
-use Rattle.papaya_others.specs.Given.Schedules.declared.effect.Effect.TheVariants.{Linked}
-use Rattle.papaya_others.specs.Given.Schedules.Effects.{with_effects}
-use Rattle.papaya_others.specs.Given.Schedules.Moment.{Moment}
-use Rattle.papaya_others.specs.Given.Teller.declared.changed.Changed.{Changed}
-use Rattle.papaya_others.specs.Given.Teller.declared.changed.Changed.TheVariants as changed
-use Rattle.papaya_others.specs.Given.Rule.InWorld.{IsOut, IsMapIn}
-use Rattle.papaya_others.proofs.Given.Callers.Together.At.{at_other, at_same}
-use Rattle.papaya_others.specs.Given.Finishes.Endings.{MakingStepsAmong}
-use Rattle.papaya_others.specs.Given.Finishes.Makings.{Beginning, IsMade}
-use Rattle.papaya_others.specs.Given.Finishes.Maps.{Standing}
-use Rattle.papaya_others.specs.Given.Effects.Effects.{table_at, made_role, taken_by, led_to, linked_on, named, names_same, effects_of, known_after}
-use Rattle.papaya_others.specs.Given.Effects.Known.{Known, with_role}
-use Rattle.papaya_others.specs.Given.Effects.declared.acting.Acting.{Acting}
-use Rattle.papaya_others.specs.Given.Effects.declared.acting.Acting.TheVariants as acts
-use Rattle.papaya_others.specs.Given.Effects.declared.role.Role.{Role}
-use Rattle.papaya_others.specs.Given.Effects.declared.role.Role.TheVariants as role
-use Rattle.papaya_others.specs.Given.Executor.IsAt.{Scene, IsAt, slot_of}
-use Rattle.papaya_others.specs.Given.Executor.Making.{MakingLeads, MakingStepsFrom}
-use Rattle.papaya_others.specs.Given.Executor.declared.executor.Executor.{Executor}
-use Rattle.papaya_others.proofs.Given.Follows.Alike.{AllStill, calm_still, put_here, put_elsewhere}
-use Rattle.papaya_others.proofs.Given.Follows.Onward.{IsOfMap}
-use Rattle.papaya_others.proofs.Given.Follows.Operations.{LeavesBy}
-use Rattle.papaya_others.proofs.Given.Follows.Steps.{one_of}
+use Rattle.papaya_spots.specs.Given.SeizeWords.Mem.{value_at}
+use Rattle.papaya_spots.specs.Given.SeizeWords.Word.{block_in}
+use Rattle.papaya_spots.specs.Given.SeizeWords.declared.at.At.TheVariants.{Root, Used, Slot, Entry, Word}
+use Rattle.papaya_spots.specs.Given.Seize.World.{World, Hand, NoBlock, Making, InUse, Parting, Cutting, Handed, LeftTo, with_at}
+use Rattle.papaya_spots.specs.Given.Seize.declared.progress.Progress.{Progress}
+use Rattle.papaya_spots.specs.Given.Seize.declared.progress.Progress.TheVariants as progress
+use Rattle.papaya_spots.specs.Given.Tables.declared.node.Node.{Node}
+use Rattle.papaya_spots.specs.Given.Tables.declared.setting.Setting.{Setting}
+use Rattle.papaya_spots.specs.Given.Resize.declared.new_map.NewMap.{NewMap}
+use Rattle.papaya_spots.specs.Given.Runs.declared.outcome.TableShape.{TableShape}
+use Rattle.papaya_spots.specs.Given.Schedules.declared.effect.Effect.TheVariants.{Linked}
+use Rattle.papaya_spots.specs.Given.Schedules.Effects.{with_effects}
+use Rattle.papaya_spots.specs.Given.Schedules.Moment.{Moment}
+use Rattle.papaya_spots.specs.Given.Teller.declared.changed.Changed.{Changed}
+use Rattle.papaya_spots.specs.Given.Teller.declared.changed.Changed.TheVariants as changed
+use Rattle.papaya_spots.specs.Given.Rule.InWorld.{IsOut, IsMapIn}
+use Rattle.papaya_spots.proofs.Given.Callers.Together.At.{at_other, at_same}
+use Rattle.papaya_spots.specs.Given.Finishes.Endings.{MakingStepsAmong}
+use Rattle.papaya_spots.specs.Given.Finishes.Makings.{Beginning, IsMade}
+use Rattle.papaya_spots.specs.Given.Finishes.Maps.{Standing}
+use Rattle.papaya_spots.specs.Given.Effects.Effects.{table_at, made_role, taken_by, led_to, linked_on, named, names_same, effects_of, known_after}
+use Rattle.papaya_spots.specs.Given.Effects.Known.{Known, with_role}
+use Rattle.papaya_spots.specs.Given.Effects.declared.acting.Acting.{Acting}
+use Rattle.papaya_spots.specs.Given.Effects.declared.acting.Acting.TheVariants as acts
+use Rattle.papaya_spots.specs.Given.Effects.declared.role.Role.{Role}
+use Rattle.papaya_spots.specs.Given.Effects.declared.role.Role.TheVariants as role
+use Rattle.papaya_spots.specs.Given.Executor.IsAt.{Scene, IsAt, slot_of}
+use Rattle.papaya_spots.specs.Given.Executor.Making.{MakingLeads, MakingStepsFrom}
+use Rattle.papaya_spots.specs.Given.Executor.declared.executor.Executor.{Executor}
+use Rattle.papaya_spots.proofs.Given.Follows.Alike.{AllStill, calm_still, put_here, put_elsewhere}
+use Rattle.papaya_spots.proofs.Given.Follows.Onward.{IsOfMap}
+use Rattle.papaya_spots.proofs.Given.Follows.Operations.{LeavesBy}
+use Rattle.papaya_spots.proofs.Given.Follows.Steps.{one_of}
 use Rattle.papaya_hands.specs.Hands.{IsInUse}
 use Rattle.papaya_hands.specs.Rows.{ShowsRows}
 use Rattle.papaya_hands.proofs.Others.{makings_go_aside}
-use Rattle.papaya_others.specs.Makings.{IsNew, WasNew, making_after}
-use Rattle.papaya_others.proofs.Leads.{word_says}
-use Rattle.papaya_others.proofs.MakingGoes.{makings_note_counters}
-use Rattle.papaya_others.proofs.MakingPlans.{TellsMaking}
-use Rattle.papaya_others.proofs.MadeBlocks.{still_made, lasting_there}
-use Rattle.papaya_others.proofs.Makes.{no_table_word, not_going, not_refused, came_first, tells, left, makings_are_shown}
-use Rattle.papaya_others.proofs.Quiet.{calls_none, stored_none}
+use Rattle.papaya_spots.specs.Given.Others.Makings.{IsNew, WasNew, making_after}
+use Rattle.papaya_spots.proofs.Given.Others.Leads.{word_says}
+use Rattle.papaya_spots.proofs.Given.Others.MakingGoes.{makings_note_counters}
+use Rattle.papaya_spots.proofs.Given.Others.MakingPlans.{TellsMaking}
+use Rattle.papaya_spots.proofs.Given.Others.MadeBlocks.{still_made, lasting_there}
+use Rattle.papaya_spots.proofs.Given.Others.Makes.{no_table_word, not_going, not_refused, came_first, tells, left, makings_are_shown}
+use Rattle.papaya_spots.proofs.Given.Others.Quiet.{calls_none, stored_none}
 use Rattle.papaya_spots.proofs.Calm.{put_back}
 use Rattle.papaya_spots.proofs.Makings.{makings_leave_places}
 use Rattle.papaya_moments.specs.Makings.{MakingsKeepWhole}

@@ -4,20 +4,20 @@ use Rattle.std.specs.Option.{option_or}
 use Rattle.std.proofs.Common.{refl, ap, sym, subst, ◌∙◌}
 use Rattle.std.proofs.lemmas.Bool.{eqb-true}
 use Rattle.std.proofs.lemmas.List.Folds.{find-append}
-use Rattle.papaya_others.specs.Given.Runs.Same.{is_same}
-use Rattle.papaya_others.specs.Given.Schedules.declared.effect.Table.{Table}
-use Rattle.papaya_others.specs.Given.Schedules.Beginning.{with_map}
-use Rattle.papaya_others.specs.Given.Schedules.Moment.{UnderWay as CallThere, MapThere, Moment}
-use Rattle.papaya_others.specs.Given.Schedules.Views.{map_at}
-use Rattle.papaya_others.specs.Given.Effects.Known.{Known}
-use Rattle.papaya_others.specs.Given.Effects.declared.role.Role.TheVariants as role
-use Rattle.papaya_others.specs.Given.Executor.IsAt.{Scene}
-use Rattle.papaya_others.specs.Given.Follows.Shows.{Shows}
+use Rattle.papaya_spots.specs.Given.Runs.Same.{is_same}
+use Rattle.papaya_spots.specs.Given.Schedules.declared.effect.Table.{Table}
+use Rattle.papaya_spots.specs.Given.Schedules.Beginning.{with_map}
+use Rattle.papaya_spots.specs.Given.Schedules.Moment.{UnderWay as CallThere, MapThere, Moment}
+use Rattle.papaya_spots.specs.Given.Schedules.Views.{map_at}
+use Rattle.papaya_spots.specs.Given.Effects.Known.{Known}
+use Rattle.papaya_spots.specs.Given.Effects.declared.role.Role.TheVariants as role
+use Rattle.papaya_spots.specs.Given.Executor.IsAt.{Scene}
+use Rattle.papaya_spots.specs.Given.Follows.Shows.{Shows}
 use Rattle.papaya_hands.specs.Asked.{IsAsked, ShowsAsked}
 use Rattle.papaya_hands.specs.Hands.{IsInUse}
-use Rattle.papaya_others.specs.After.{ShowsAfter}
-use Rattle.papaya_others.proofs.Counters.{beginnings_note_counters}
-use Rattle.papaya_others.proofs.MakeBegins.{maps_are_there}
+use Rattle.papaya_spots.specs.Given.Others.After.{ShowsAfter}
+use Rattle.papaya_spots.proofs.Given.Others.Counters.{beginnings_note_counters}
+use Rattle.papaya_spots.proofs.Given.Others.MakeBegins.{maps_are_there}
 use Rattle.papaya_moments.specs.Makings.{MakingsBeginWhole, MapsComeWhole}
 use Rattle.papaya_moments.proofs.Makings.{none_of_it}
 

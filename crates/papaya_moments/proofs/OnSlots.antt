@@ -2,57 +2,57 @@
 use Rattle.std.specs.Prelude.{◌&&◌, ◌≡◌, ℕ, zero, suc, nat_lt, Bool, true, false, List, [], ◌∷◌, Option, Some, None, IsSome, if◌then◌else◌}
 use Rattle.std.proofs.Common.{refl, ap, sym, subst, ◌∙◌, arith, inl, inr}
 use Rattle.std.proofs.lemmas.Bool.{cases_eq}
-use Rattle.papaya_others.specs.Given.SeizeWords.declared.at.At.TheVariants.{Root, Used, Slot, Entry, Word}
-use Rattle.papaya_others.specs.Given.SeizeWords.Mem.{Mem, value_at}
-use Rattle.papaya_others.specs.Given.Seize.Sequence.{taken_in}
-use Rattle.papaya_others.specs.Given.Seize.World.{World, Hand, Begin, Step, Begins, times}
-use Rattle.papaya_others.proofs.Given.SeizeRule.Rows.Effects.{hand_kept}
-use Rattle.papaya_others.proofs.Given.SeizeAlone.Spared.Rows.{RowStepped}
-use Rattle.papaya_others.proofs.Given.SeizeAlone.Histories.NotTaken.{did, taken_gone}
-use Rattle.papaya_others.proofs.Given.SeizeAlone.Histories.Reached.{Reached}
-use Rattle.papaya_others.specs.Given.Tables.Nodes.{deferred_word}
-use Rattle.papaya_others.specs.Given.Tables.declared.node.Node.{Node}
-use Rattle.papaya_others.specs.Given.Schedules.declared.effect.Effect.{Effect}
-use Rattle.papaya_others.specs.Given.Schedules.declared.effect.Effect.TheVariants.{Asked, Reclaimed}
-use Rattle.papaya_others.specs.Given.Schedules.declared.effect.Growth.TheVariants.{ABucket}
-use Rattle.papaya_others.specs.Given.Schedules.declared.effect.Thing.TheVariants.{APair, ATable}
-use Rattle.papaya_others.specs.Given.Schedules.Effects.{with_effect, with_effects, all_at, AtEachEffect}
-use Rattle.papaya_others.specs.Given.Schedules.Lists.{put, is_among}
-use Rattle.papaya_others.specs.Given.Schedules.Moment.{Place, InMap, Handed, GivenBack, Moment}
-use Rattle.papaya_others.specs.Given.Schedules.Views.{behind}
-use Rattle.papaya_others.specs.Given.Teller.declared.changed.Changed.{Changed}
-use Rattle.papaya_others.specs.Given.Teller.declared.changed.Changed.TheVariants as changed
-use Rattle.papaya_others.proofs.Given.Callers.Together.Came.{came_reached}
-use Rattle.papaya_others.specs.Given.Finishes.Maps.{Standing, IsSameMap}
-use Rattle.papaya_others.specs.Given.Effects.Effects.{names_same, taken_by, effects_of, known_after}
-use Rattle.papaya_others.specs.Given.Effects.Known.{Known}
-use Rattle.papaya_others.specs.Given.Effects.declared.acting.Acting.TheVariants.{Row}
-use Rattle.papaya_others.specs.Given.Effects.declared.role.Role.{Role}
-use Rattle.papaya_others.specs.Given.Effects.declared.role.Role.TheVariants as role
-use Rattle.papaya_others.specs.Given.Executor.IsAt.{Scene, IsAt, slot_of, work_of}
-use Rattle.papaya_others.specs.Given.Executor.OnSlots.{MayBegin, RowBegins, RowSteps, HappensAt}
-use Rattle.papaya_others.specs.Given.Executor.Rows.{request_of}
-use Rattle.papaya_others.specs.Given.Executor.declared.executor.Executor.{Executor}
-use Rattle.papaya_others.specs.Given.Executor.declared.row.RowTold.{RowTold}
-use Rattle.papaya_others.specs.Given.Executor.declared.row.SlotCall.{SlotCall}
-use Rattle.papaya_others.specs.Given.Executor.declared.row.SlotCall.TheVariants as call
-use Rattle.papaya_others.specs.Given.Executor.declared.row.SlotRow.{SlotRow}
-use Rattle.papaya_others.specs.Given.Executor.declared.worker.Work.TheVariants as work
-use Rattle.papaya_others.proofs.Given.Executor.OnSlots.{row_at, may_taken}
-use Rattle.papaya_others.proofs.Given.Follows.Alike.{AllStill, put_here, put_elsewhere}
-use Rattle.papaya_others.proofs.Given.Follows.Onward.{IsOfMap}
-use Rattle.papaya_others.proofs.Given.Follows.Operations.{LeavesBy, operated_leaves}
-use Rattle.papaya_others.proofs.Given.Follows.Steps.{one_of}
-use Rattle.papaya_others.proofs.Given.Follows.Told.{roomed_as_many}
+use Rattle.papaya_spots.specs.Given.SeizeWords.declared.at.At.TheVariants.{Root, Used, Slot, Entry, Word}
+use Rattle.papaya_spots.specs.Given.SeizeWords.Mem.{Mem, value_at}
+use Rattle.papaya_spots.specs.Given.Seize.Sequence.{taken_in}
+use Rattle.papaya_spots.specs.Given.Seize.World.{World, Hand, Begin, Step, Begins, times}
+use Rattle.papaya_spots.proofs.Given.SeizeRule.Rows.Effects.{hand_kept}
+use Rattle.papaya_spots.proofs.Given.SeizeAlone.Spared.Rows.{RowStepped}
+use Rattle.papaya_spots.proofs.Given.SeizeAlone.Histories.NotTaken.{did, taken_gone}
+use Rattle.papaya_spots.proofs.Given.SeizeAlone.Histories.Reached.{Reached}
+use Rattle.papaya_spots.specs.Given.Tables.Nodes.{deferred_word}
+use Rattle.papaya_spots.specs.Given.Tables.declared.node.Node.{Node}
+use Rattle.papaya_spots.specs.Given.Schedules.declared.effect.Effect.{Effect}
+use Rattle.papaya_spots.specs.Given.Schedules.declared.effect.Effect.TheVariants.{Asked, Reclaimed}
+use Rattle.papaya_spots.specs.Given.Schedules.declared.effect.Growth.TheVariants.{ABucket}
+use Rattle.papaya_spots.specs.Given.Schedules.declared.effect.Thing.TheVariants.{APair, ATable}
+use Rattle.papaya_spots.specs.Given.Schedules.Effects.{with_effect, with_effects, all_at, AtEachEffect}
+use Rattle.papaya_spots.specs.Given.Schedules.Lists.{put, is_among}
+use Rattle.papaya_spots.specs.Given.Schedules.Moment.{Place, InMap, Handed, GivenBack, Moment}
+use Rattle.papaya_spots.specs.Given.Schedules.Views.{behind}
+use Rattle.papaya_spots.specs.Given.Teller.declared.changed.Changed.{Changed}
+use Rattle.papaya_spots.specs.Given.Teller.declared.changed.Changed.TheVariants as changed
+use Rattle.papaya_spots.proofs.Given.Callers.Together.Came.{came_reached}
+use Rattle.papaya_spots.specs.Given.Finishes.Maps.{Standing, IsSameMap}
+use Rattle.papaya_spots.specs.Given.Effects.Effects.{names_same, taken_by, effects_of, known_after}
+use Rattle.papaya_spots.specs.Given.Effects.Known.{Known}
+use Rattle.papaya_spots.specs.Given.Effects.declared.acting.Acting.TheVariants.{Row}
+use Rattle.papaya_spots.specs.Given.Effects.declared.role.Role.{Role}
+use Rattle.papaya_spots.specs.Given.Effects.declared.role.Role.TheVariants as role
+use Rattle.papaya_spots.specs.Given.Executor.IsAt.{Scene, IsAt, slot_of, work_of}
+use Rattle.papaya_spots.specs.Given.Executor.OnSlots.{MayBegin, RowBegins, RowSteps, HappensAt}
+use Rattle.papaya_spots.specs.Given.Executor.Rows.{request_of}
+use Rattle.papaya_spots.specs.Given.Executor.declared.executor.Executor.{Executor}
+use Rattle.papaya_spots.specs.Given.Executor.declared.row.RowTold.{RowTold}
+use Rattle.papaya_spots.specs.Given.Executor.declared.row.SlotCall.{SlotCall}
+use Rattle.papaya_spots.specs.Given.Executor.declared.row.SlotCall.TheVariants as call
+use Rattle.papaya_spots.specs.Given.Executor.declared.row.SlotRow.{SlotRow}
+use Rattle.papaya_spots.specs.Given.Executor.declared.worker.Work.TheVariants as work
+use Rattle.papaya_spots.proofs.Given.Executor.OnSlots.{row_at, may_taken}
+use Rattle.papaya_spots.proofs.Given.Follows.Alike.{AllStill, put_here, put_elsewhere}
+use Rattle.papaya_spots.proofs.Given.Follows.Onward.{IsOfMap}
+use Rattle.papaya_spots.proofs.Given.Follows.Operations.{LeavesBy, operated_leaves}
+use Rattle.papaya_spots.proofs.Given.Follows.Steps.{one_of}
+use Rattle.papaya_spots.proofs.Given.Follows.Told.{roomed_as_many}
 use Rattle.papaya_hands.specs.Hands.{IsInUse}
 use Rattle.papaya_hands.proofs.Others.{rows_begin_aside, rows_go_aside}
-use Rattle.papaya_others.specs.Gone.{WasRetired}
-use Rattle.papaya_others.specs.Rows.{scene_then}
-use Rattle.papaya_others.proofs.Counters.{rows_note_counters}
-use Rattle.papaya_others.proofs.Quiet.{calls_none, all_quiet}
-use Rattle.papaya_others.proofs.RowBegins.{rows_begin_shown}
-use Rattle.papaya_others.proofs.RowPlans.{TellsRow, row_tells, row_operated}
-use Rattle.papaya_others.proofs.Rows.{rows_on_slots_are_shown}
+use Rattle.papaya_spots.specs.Given.Others.Gone.{WasRetired}
+use Rattle.papaya_spots.specs.Given.Others.Rows.{scene_then}
+use Rattle.papaya_spots.proofs.Given.Others.Counters.{rows_note_counters}
+use Rattle.papaya_spots.proofs.Given.Others.Quiet.{calls_none, all_quiet}
+use Rattle.papaya_spots.proofs.Given.Others.RowBegins.{rows_begin_shown}
+use Rattle.papaya_spots.proofs.Given.Others.RowPlans.{TellsRow, row_tells, row_operated}
+use Rattle.papaya_spots.proofs.Given.Others.Rows.{rows_on_slots_are_shown}
 use Rattle.papaya_spots.specs.Deferred.{WaitOutside, FindsNumbers}
 use Rattle.papaya_spots.proofs.Calm.{put_back}
 use Rattle.papaya_spots.proofs.Deferred.{effects_leave_outside, each_waits_outside}

@@ -1,27 +1,27 @@
 -- Walks that go on, or are given up, keep all that a moment shows.
 use Rattle.std.specs.Prelude.{◌≡◌, ℕ, Bool, true, false, List, Option, Some, None, ◌⊎◌}
 use Rattle.std.proofs.Common.{refl, ap, sym, subst, ◌∙◌, inl, inr}
-use Rattle.papaya_others.specs.Given.SeizeWords.declared.fault.Fault.TheVariants.{Memory}
-use Rattle.papaya_others.specs.Given.Raw.Machine.{machine_asked}
-use Rattle.papaya_others.specs.Given.Schedules.declared.outcome.Outcome.TheVariants.{Refused}
-use Rattle.papaya_others.specs.Given.Schedules.Moment.{UnderWay as CallThere, Moment}
-use Rattle.papaya_others.specs.Given.Schedules.Views.{call_of}
-use Rattle.papaya_others.specs.Given.Callers.Together.{UnderWay, OnKey, ForRoom, Counting, OverAll}
-use Rattle.papaya_others.specs.Given.Effects.Known.{Known}
-use Rattle.papaya_others.specs.Given.Executor.IsAt.{Scene}
-use Rattle.papaya_others.specs.Given.Executor.Replying.{unless_stopped}
-use Rattle.papaya_others.specs.Given.Finishes.Machines.{machine_of}
-use Rattle.papaya_others.specs.Given.Finishes.Maps.{Standing, with_call}
-use Rattle.papaya_others.specs.Given.Follows.Calling.{NoneNamed}
-use Rattle.papaya_others.proofs.Given.Follows.Steps.{one_of}
+use Rattle.papaya_spots.specs.Given.SeizeWords.declared.fault.Fault.TheVariants.{Memory}
+use Rattle.papaya_spots.specs.Given.Raw.Machine.{machine_asked}
+use Rattle.papaya_spots.specs.Given.Schedules.declared.outcome.Outcome.TheVariants.{Refused}
+use Rattle.papaya_spots.specs.Given.Schedules.Moment.{UnderWay as CallThere, Moment}
+use Rattle.papaya_spots.specs.Given.Schedules.Views.{call_of}
+use Rattle.papaya_spots.specs.Given.Callers.Together.{UnderWay, OnKey, ForRoom, Counting, OverAll}
+use Rattle.papaya_spots.specs.Given.Effects.Known.{Known}
+use Rattle.papaya_spots.specs.Given.Executor.IsAt.{Scene}
+use Rattle.papaya_spots.specs.Given.Executor.Replying.{unless_stopped}
+use Rattle.papaya_spots.specs.Given.Finishes.Machines.{machine_of}
+use Rattle.papaya_spots.specs.Given.Finishes.Maps.{Standing, with_call}
+use Rattle.papaya_spots.specs.Given.Follows.Calling.{NoneNamed}
+use Rattle.papaya_spots.proofs.Given.Follows.Steps.{one_of}
 use Rattle.papaya_hands.specs.Asked.{IsAsked, ShowsAsked}
 use Rattle.papaya_hands.specs.Calling.{AsksJust}
 use Rattle.papaya_hands.proofs.Asking.{which}
 use Rattle.papaya_hands.proofs.HandsOn.{hands_with}
 use Rattle.papaya_hands.proofs.Others.{calls_go_aside}
-use Rattle.papaya_others.specs.After.{ShowsAfter}
-use Rattle.papaya_others.specs.Walks.{given_up}
-use Rattle.papaya_others.proofs.Walks.{fewer_calls, with_calls, walks_go_on, walks_are_given_up}
+use Rattle.papaya_spots.specs.Given.Others.After.{ShowsAfter}
+use Rattle.papaya_spots.specs.Given.Others.Walks.{given_up}
+use Rattle.papaya_spots.proofs.Given.Others.Walks.{fewer_calls, with_calls, walks_go_on, walks_are_given_up}
 use Rattle.papaya_moments.specs.Walks.{WalksGoOnWhole, WalksStopWhole}
 use Rattle.papaya_moments.specs.Whole.{ShowsWhole}
 use Rattle.papaya_moments.proofs.Calls.{calls_come_to_whole}

@@ -1,21 +1,21 @@
 -- Makings of maps: where one begins, its map comes, and it takes its steps, the moment shows all of the scene then.
 use Rattle.std.specs.Prelude.{◌≡◌, ℕ, Bool, List, [], Option, Some, None}
-use Rattle.papaya_others.specs.Given.Seize.World.{with_at}
-use Rattle.papaya_others.specs.Given.Seize.declared.progress.Progress.{Progress}
-use Rattle.papaya_others.specs.Given.Tables.declared.setting.Setting.{Setting}
-use Rattle.papaya_others.specs.Given.Schedules.Beginning.{with_map}
-use Rattle.papaya_others.specs.Given.Schedules.Effects.{with_effects}
-use Rattle.papaya_others.specs.Given.Schedules.Moment.{MapThere, Moment}
-use Rattle.papaya_others.specs.Given.Schedules.Views.{tables_of}
-use Rattle.papaya_others.specs.Given.Effects.Effects.{effects_of, known_after}
-use Rattle.papaya_others.specs.Given.Effects.Known.{Known}
-use Rattle.papaya_others.specs.Given.Effects.declared.acting.Acting.TheVariants.{Making}
-use Rattle.papaya_others.specs.Given.Executor.IsAt.{Scene, IsAt}
-use Rattle.papaya_others.specs.Given.Executor.Making.{MakingLeads}
-use Rattle.papaya_others.specs.Given.Executor.declared.executor.Executor.{Executor}
-use Rattle.papaya_others.specs.Given.Finishes.Makings.{Beginning, HasMade}
-use Rattle.papaya_others.specs.Given.Follows.Shows.{Shows}
-use Rattle.papaya_others.specs.Makings.{WasNew, making_after}
+use Rattle.papaya_spots.specs.Given.Seize.World.{with_at}
+use Rattle.papaya_spots.specs.Given.Seize.declared.progress.Progress.{Progress}
+use Rattle.papaya_spots.specs.Given.Tables.declared.setting.Setting.{Setting}
+use Rattle.papaya_spots.specs.Given.Schedules.Beginning.{with_map}
+use Rattle.papaya_spots.specs.Given.Schedules.Effects.{with_effects}
+use Rattle.papaya_spots.specs.Given.Schedules.Moment.{MapThere, Moment}
+use Rattle.papaya_spots.specs.Given.Schedules.Views.{tables_of}
+use Rattle.papaya_spots.specs.Given.Effects.Effects.{effects_of, known_after}
+use Rattle.papaya_spots.specs.Given.Effects.Known.{Known}
+use Rattle.papaya_spots.specs.Given.Effects.declared.acting.Acting.TheVariants.{Making}
+use Rattle.papaya_spots.specs.Given.Executor.IsAt.{Scene, IsAt}
+use Rattle.papaya_spots.specs.Given.Executor.Making.{MakingLeads}
+use Rattle.papaya_spots.specs.Given.Executor.declared.executor.Executor.{Executor}
+use Rattle.papaya_spots.specs.Given.Finishes.Makings.{Beginning, HasMade}
+use Rattle.papaya_spots.specs.Given.Follows.Shows.{Shows}
+use Rattle.papaya_spots.specs.Given.Others.Makings.{WasNew, making_after}
 use Rattle.papaya_spots.specs.Unreclaimed.{ShowsUnreclaimed}
 use Rattle.papaya_moments.specs.Whole.{ShowsWhole}
 

@@ -1,25 +1,25 @@
 -- Rows on slots: where one begins, and takes its steps, the moment shows all of the scene then.
 use Rattle.std.specs.Prelude.{◌≡◌, ℕ, Bool, true, List, Some, None}
-use Rattle.papaya_others.specs.Given.Seize.World.{Begin, Step}
-use Rattle.papaya_others.specs.Given.Tables.declared.node.Node.{Node}
-use Rattle.papaya_others.specs.Given.Schedules.declared.effect.Effect.{Effect}
-use Rattle.papaya_others.specs.Given.Schedules.declared.effect.Effect.TheVariants.{Reclaimed}
-use Rattle.papaya_others.specs.Given.Schedules.declared.effect.Thing.TheVariants.{ATable}
-use Rattle.papaya_others.specs.Given.Schedules.Effects.{with_effects, AtEachEffect}
-use Rattle.papaya_others.specs.Given.Schedules.Moment.{Moment}
-use Rattle.papaya_others.specs.Given.Schedules.Views.{is_retired, is_stage}
-use Rattle.papaya_others.specs.Given.Effects.Effects.{effects_of, known_after}
-use Rattle.papaya_others.specs.Given.Effects.Known.{Known}
-use Rattle.papaya_others.specs.Given.Effects.declared.acting.Acting.TheVariants.{Row}
-use Rattle.papaya_others.specs.Given.Executor.IsAt.{Scene, IsAt, slot_of, work_of}
-use Rattle.papaya_others.specs.Given.Executor.OnSlots.{MayBegin, RowBegins, RowLeads}
-use Rattle.papaya_others.specs.Given.Executor.Rows.{request_of}
-use Rattle.papaya_others.specs.Given.Executor.declared.executor.Executor.{Executor}
-use Rattle.papaya_others.specs.Given.Executor.declared.row.RowTold.{RowTold}
-use Rattle.papaya_others.specs.Given.Executor.declared.row.SlotCall.{SlotCall}
-use Rattle.papaya_others.specs.Given.Executor.declared.row.SlotRow.{SlotRow}
-use Rattle.papaya_others.specs.Given.Executor.declared.worker.Work.TheVariants.{OnSlot}
-use Rattle.papaya_others.specs.Rows.{scene_then}
+use Rattle.papaya_spots.specs.Given.Seize.World.{Begin, Step}
+use Rattle.papaya_spots.specs.Given.Tables.declared.node.Node.{Node}
+use Rattle.papaya_spots.specs.Given.Schedules.declared.effect.Effect.{Effect}
+use Rattle.papaya_spots.specs.Given.Schedules.declared.effect.Effect.TheVariants.{Reclaimed}
+use Rattle.papaya_spots.specs.Given.Schedules.declared.effect.Thing.TheVariants.{ATable}
+use Rattle.papaya_spots.specs.Given.Schedules.Effects.{with_effects, AtEachEffect}
+use Rattle.papaya_spots.specs.Given.Schedules.Moment.{Moment}
+use Rattle.papaya_spots.specs.Given.Schedules.Views.{is_retired, is_stage}
+use Rattle.papaya_spots.specs.Given.Effects.Effects.{effects_of, known_after}
+use Rattle.papaya_spots.specs.Given.Effects.Known.{Known}
+use Rattle.papaya_spots.specs.Given.Effects.declared.acting.Acting.TheVariants.{Row}
+use Rattle.papaya_spots.specs.Given.Executor.IsAt.{Scene, IsAt, slot_of, work_of}
+use Rattle.papaya_spots.specs.Given.Executor.OnSlots.{MayBegin, RowBegins, RowLeads}
+use Rattle.papaya_spots.specs.Given.Executor.Rows.{request_of}
+use Rattle.papaya_spots.specs.Given.Executor.declared.executor.Executor.{Executor}
+use Rattle.papaya_spots.specs.Given.Executor.declared.row.RowTold.{RowTold}
+use Rattle.papaya_spots.specs.Given.Executor.declared.row.SlotCall.{SlotCall}
+use Rattle.papaya_spots.specs.Given.Executor.declared.row.SlotRow.{SlotRow}
+use Rattle.papaya_spots.specs.Given.Executor.declared.worker.Work.TheVariants.{OnSlot}
+use Rattle.papaya_spots.specs.Given.Others.Rows.{scene_then}
 use Rattle.papaya_spots.specs.OnSlots.{WaitUnreclaimed}
 use Rattle.papaya_moments.specs.Whole.{ShowsWhole}
 

@@ -1,14 +1,14 @@
 -- Walks: where one goes on, or is given up, the moment shows all of the scene then.
 use Rattle.std.specs.Prelude.{◌≡◌, ℕ, Bool, true, List, Some}
-use Rattle.papaya_others.specs.Given.Schedules.Moment.{Moment}
-use Rattle.papaya_others.specs.Given.Callers.Together.{UnderWay}
-use Rattle.papaya_others.specs.Given.Finishes.Maps.{with_call}
-use Rattle.papaya_others.specs.Given.Effects.Known.{Known}
-use Rattle.papaya_others.specs.Given.Executor.IsAt.{Scene}
-use Rattle.papaya_others.specs.Given.Executor.Replying.{AskLeads, StopLeads, scene_with, unless_stopped}
-use Rattle.papaya_others.specs.Given.Executor.declared.executor.Executor.{Executor}
-use Rattle.papaya_others.specs.Given.Follows.Calling.{NoneNamed}
-use Rattle.papaya_others.specs.Walks.{given_up}
+use Rattle.papaya_spots.specs.Given.Schedules.Moment.{Moment}
+use Rattle.papaya_spots.specs.Given.Callers.Together.{UnderWay}
+use Rattle.papaya_spots.specs.Given.Finishes.Maps.{with_call}
+use Rattle.papaya_spots.specs.Given.Effects.Known.{Known}
+use Rattle.papaya_spots.specs.Given.Executor.IsAt.{Scene}
+use Rattle.papaya_spots.specs.Given.Executor.Replying.{AskLeads, StopLeads, scene_with, unless_stopped}
+use Rattle.papaya_spots.specs.Given.Executor.declared.executor.Executor.{Executor}
+use Rattle.papaya_spots.specs.Given.Follows.Calling.{NoneNamed}
+use Rattle.papaya_spots.specs.Given.Others.Walks.{given_up}
 use Rattle.papaya_moments.specs.Whole.{ShowsWhole}
 
 module _ (K V S : Type 0) (same : K → K → Bool) (hash : K → ℕ) where

@@ -1,34 +1,34 @@
 -- What a moment of a run, with what is noted of the memory, shows of a scene of the executor, in one piece.
 use Rattle.std.specs.Prelude.{◌≡◌, ℕ, Bool, true, List, Option, Some, Ok}
-use Rattle.papaya_others.specs.Given.Seize.World.{Rests}
-use Rattle.papaya_others.specs.Given.Tables.declared.node.Node.{Node}
-use Rattle.papaya_others.specs.Given.Runs.Same.{is_same}
-use Rattle.papaya_others.specs.Given.Raw.Machine.{machine_replied}
-use Rattle.papaya_others.specs.Given.Raw.declared.machines.progress.Progress.{Progress}
-use Rattle.papaya_others.specs.Given.Schedules.declared.call.Call.{Call}
-use Rattle.papaya_others.specs.Given.Schedules.declared.call.Reply.{Reply}
-use Rattle.papaya_others.specs.Given.Schedules.declared.outcome.Outcome.{Outcome}
-use Rattle.papaya_others.specs.Given.Schedules.Beginning.{with_call}
-use Rattle.papaya_others.specs.Given.Schedules.Effects.{with_effects}
-use Rattle.papaya_others.specs.Given.Schedules.Entry.{ends_call}
-use Rattle.papaya_others.specs.Given.Schedules.Moment.{Asking, UnderWay as CallThere, Moment, start}
-use Rattle.papaya_others.specs.Given.Schedules.Views.{call_of}
-use Rattle.papaya_others.specs.Given.Callers.Together.{UnderWay}
-use Rattle.papaya_others.specs.Given.Effects.Effects.{effects_of, known_after}
-use Rattle.papaya_others.specs.Given.Effects.Known.{Known, nothing_known}
-use Rattle.papaya_others.specs.Given.Effects.declared.acting.Acting.TheVariants as acts
-use Rattle.papaya_others.specs.Given.Executor.IsAt.{Scene, IsAt, at_first, slot_of}
-use Rattle.papaya_others.specs.Given.Executor.Replying.{scene_with}
-use Rattle.papaya_others.specs.Given.Executor.Stepping.{StepLeads, scene_after}
-use Rattle.papaya_others.specs.Given.Executor.declared.executor.Executor.{Executor}
-use Rattle.papaya_others.specs.Given.Finishes.Machines.{machine_of, ToldOfKind}
-use Rattle.papaya_others.specs.Given.Finishes.Maps.{Standing}
-use Rattle.papaya_others.specs.Given.Follows.Calling.{NoneNamed, told, come_to}
-use Rattle.papaya_others.specs.Given.Follows.Calls.{IsCalled}
+use Rattle.papaya_spots.specs.Given.Seize.World.{Rests}
+use Rattle.papaya_spots.specs.Given.Tables.declared.node.Node.{Node}
+use Rattle.papaya_spots.specs.Given.Runs.Same.{is_same}
+use Rattle.papaya_spots.specs.Given.Raw.Machine.{machine_replied}
+use Rattle.papaya_spots.specs.Given.Raw.declared.machines.progress.Progress.{Progress}
+use Rattle.papaya_spots.specs.Given.Schedules.declared.call.Call.{Call}
+use Rattle.papaya_spots.specs.Given.Schedules.declared.call.Reply.{Reply}
+use Rattle.papaya_spots.specs.Given.Schedules.declared.outcome.Outcome.{Outcome}
+use Rattle.papaya_spots.specs.Given.Schedules.Beginning.{with_call}
+use Rattle.papaya_spots.specs.Given.Schedules.Effects.{with_effects}
+use Rattle.papaya_spots.specs.Given.Schedules.Entry.{ends_call}
+use Rattle.papaya_spots.specs.Given.Schedules.Moment.{Asking, UnderWay as CallThere, Moment, start}
+use Rattle.papaya_spots.specs.Given.Schedules.Views.{call_of}
+use Rattle.papaya_spots.specs.Given.Callers.Together.{UnderWay}
+use Rattle.papaya_spots.specs.Given.Effects.Effects.{effects_of, known_after}
+use Rattle.papaya_spots.specs.Given.Effects.Known.{Known, nothing_known}
+use Rattle.papaya_spots.specs.Given.Effects.declared.acting.Acting.TheVariants as acts
+use Rattle.papaya_spots.specs.Given.Executor.IsAt.{Scene, IsAt, at_first, slot_of}
+use Rattle.papaya_spots.specs.Given.Executor.Replying.{scene_with}
+use Rattle.papaya_spots.specs.Given.Executor.Stepping.{StepLeads, scene_after}
+use Rattle.papaya_spots.specs.Given.Executor.declared.executor.Executor.{Executor}
+use Rattle.papaya_spots.specs.Given.Finishes.Machines.{machine_of, ToldOfKind}
+use Rattle.papaya_spots.specs.Given.Finishes.Maps.{Standing}
+use Rattle.papaya_spots.specs.Given.Follows.Calling.{NoneNamed, told, come_to}
+use Rattle.papaya_spots.specs.Given.Follows.Calls.{IsCalled}
 use Rattle.papaya_hands.specs.Asked.{as_told}
 use Rattle.papaya_hands.specs.Calling.{IsBegunFor, AsksJust}
 use Rattle.papaya_hands.specs.Shows.{ShowsAll}
-use Rattle.papaya_others.specs.Counters.{NotesCounters}
+use Rattle.papaya_spots.specs.Given.Others.Counters.{NotesCounters}
 use Rattle.papaya_spots.specs.Deferred.{WaitOutside}
 use Rattle.papaya_spots.specs.Spots.{ShowsPlaces}
 use Rattle.papaya_spots.specs.Unreclaimed.{ShowsUnreclaimed}

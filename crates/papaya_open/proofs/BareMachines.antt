@@ -1,35 +1,35 @@
 -- The plans of calls, sweeps and reservations, and of the beginning and end of a map rely on no fact.
 use Rattle.std.specs.Prelude.{ℕ, ◌==◌, Bool, true, false, Option, Some, None}
 use Rattle.seize_words.specs.Op.{Taken}
-use Rattle.papaya_tables.specs.declared.node.Node.{Node}
-use Rattle.papaya_tables.specs.declared.node.Node.TheVariants as node
-use Rattle.papaya_resize.specs.declared.lookup.Lookup.{Lookup}
-use Rattle.papaya_resize.specs.declared.lookup.Looking.{Looking}
-use Rattle.papaya_resize.specs.declared.lookup.Looking.TheVariants as looking
+use Rattle.papaya_raw.specs.Given.Tables.declared.node.Node.{Node}
+use Rattle.papaya_raw.specs.Given.Tables.declared.node.Node.TheVariants as node
+use Rattle.papaya_raw.specs.Given.Resize.declared.lookup.Lookup.{Lookup}
+use Rattle.papaya_raw.specs.Given.Resize.declared.lookup.Looking.{Looking}
+use Rattle.papaya_raw.specs.Given.Resize.declared.lookup.Looking.TheVariants as looking
 use Rattle.papaya_raw.specs.declared.machines.asking.Asking.{Asking}
 use Rattle.papaya_raw.specs.declared.machines.asking.Asking.TheVariants as asking
 use Rattle.papaya_raw.specs.declared.machines.call.KeyCall.{KeyCall}
 use Rattle.papaya_raw.specs.declared.machines.call.Calling.{Calling}
 use Rattle.papaya_raw.specs.declared.machines.call.Calling.TheVariants as calling
-use Rattle.papaya_resize.specs.declared.new_map.NewMap.{NewMap}
-use Rattle.papaya_resize.specs.declared.new_map.Opening.{Opening}
-use Rattle.papaya_resize.specs.declared.new_map.Opening.TheVariants as opening
-use Rattle.papaya_sweeps.specs.declared.sweep.Sweep.{Sweep}
-use Rattle.papaya_sweeps.specs.declared.sweep.Sweeping.{Sweeping}
-use Rattle.papaya_sweeps.specs.declared.sweep.Sweeping.TheVariants as sweeping
-use Rattle.papaya_reserves.specs.declared.reserve.Reserve.{Reserve}
-use Rattle.papaya_reserves.specs.declared.reserve.Reserving.{Reserving}
-use Rattle.papaya_reserves.specs.declared.reserve.Reserving.TheVariants as reserving
+use Rattle.papaya_raw.specs.Given.Resize.declared.new_map.NewMap.{NewMap}
+use Rattle.papaya_raw.specs.Given.Resize.declared.new_map.Opening.{Opening}
+use Rattle.papaya_raw.specs.Given.Resize.declared.new_map.Opening.TheVariants as opening
+use Rattle.papaya_raw.specs.Given.Sweeps.declared.sweep.Sweep.{Sweep}
+use Rattle.papaya_raw.specs.Given.Sweeps.declared.sweep.Sweeping.{Sweeping}
+use Rattle.papaya_raw.specs.Given.Sweeps.declared.sweep.Sweeping.TheVariants as sweeping
+use Rattle.papaya_raw.specs.Given.Reserves.declared.reserve.Reserve.{Reserve}
+use Rattle.papaya_raw.specs.Given.Reserves.declared.reserve.Reserving.{Reserving}
+use Rattle.papaya_raw.specs.Given.Reserves.declared.reserve.Reserving.TheVariants as reserving
 use Rattle.papaya_raw.specs.declared.machines.end_map.EndMap.{EndMap}
 use Rattle.papaya_raw.specs.declared.machines.end_map.Ending.{Ending}
 use Rattle.papaya_raw.specs.declared.machines.end_map.Ending.TheVariants as ending
-use Rattle.papaya_resize.specs.Lookup as lookup
+use Rattle.papaya_raw.specs.Given.Resize.Lookup as lookup
 use Rattle.papaya_raw.specs.Call as call
 use Rattle.papaya_raw.specs.CallFills as fill
 use Rattle.papaya_raw.specs.Replies.{value_for}
-use Rattle.papaya_resize.specs.NewMap as new_map
-use Rattle.papaya_sweeps.specs.Sweep as sweep
-use Rattle.papaya_reserves.specs.Reserve as reserve
+use Rattle.papaya_raw.specs.Given.Resize.NewMap as new_map
+use Rattle.papaya_raw.specs.Given.Sweeps.Sweep as sweep
+use Rattle.papaya_raw.specs.Given.Reserves.Reserve as reserve
 use Rattle.papaya_raw.specs.EndMap as end_map
 use Rattle.papaya_open.proofs.Bare.{IsBare, IsBareThen, bare, bare_do, bare_as}
 use Rattle.papaya_open.proofs.BareParts.{sum_bare, new_table_bare, dispose_bare, copier_bare}

@@ -8,25 +8,25 @@ use Rattle.seize.specs.declared.rows.defer.Deferring.{Deferring}
 use Rattle.seize.specs.declared.rows.defer.Deferring.TheVariants as deferring
 use Rattle.seize.specs.Settle as settle
 use Rattle.seize.specs.Defer as defer
-use Rattle.papaya_resize.specs.declared.sum.Sum.{Sum}
-use Rattle.papaya_resize.specs.declared.sum.Summing.{Summing}
-use Rattle.papaya_resize.specs.declared.sum.Summing.TheVariants as summing
-use Rattle.papaya_resize.specs.declared.new_table.NewTable.{NewTable}
-use Rattle.papaya_resize.specs.declared.new_table.Making.{Making}
-use Rattle.papaya_resize.specs.declared.new_table.Making.TheVariants as making
-use Rattle.papaya_resize.specs.declared.dispose.Dispose.{Dispose}
-use Rattle.papaya_resize.specs.declared.dispose.Disposing.{Disposing}
-use Rattle.papaya_resize.specs.declared.dispose.Disposing.TheVariants as disposing
-use Rattle.papaya_resize.specs.declared.copier.Copier.{Copier}
-use Rattle.papaya_resize.specs.declared.copier.Copying.{Copying}
-use Rattle.papaya_resize.specs.declared.copier.Copying.TheVariants as copying
-use Rattle.papaya_resize.specs.Sum as sum
-use Rattle.papaya_resize.specs.NewTable as new_table
-use Rattle.papaya_resize.specs.Dispose as dispose
-use Rattle.papaya_resize.specs.Copier as copier
-use Rattle.papaya_resize.specs.CopierFurther as further
-use Rattle.papaya_resize.specs.CopierPromotes as promotes
-use Rattle.papaya_tables.specs.Nodes.{deferred_word}
+use Rattle.papaya_raw.specs.Given.Resize.declared.sum.Sum.{Sum}
+use Rattle.papaya_raw.specs.Given.Resize.declared.sum.Summing.{Summing}
+use Rattle.papaya_raw.specs.Given.Resize.declared.sum.Summing.TheVariants as summing
+use Rattle.papaya_raw.specs.Given.Resize.declared.new_table.NewTable.{NewTable}
+use Rattle.papaya_raw.specs.Given.Resize.declared.new_table.Making.{Making}
+use Rattle.papaya_raw.specs.Given.Resize.declared.new_table.Making.TheVariants as making
+use Rattle.papaya_raw.specs.Given.Resize.declared.dispose.Dispose.{Dispose}
+use Rattle.papaya_raw.specs.Given.Resize.declared.dispose.Disposing.{Disposing}
+use Rattle.papaya_raw.specs.Given.Resize.declared.dispose.Disposing.TheVariants as disposing
+use Rattle.papaya_raw.specs.Given.Resize.declared.copier.Copier.{Copier}
+use Rattle.papaya_raw.specs.Given.Resize.declared.copier.Copying.{Copying}
+use Rattle.papaya_raw.specs.Given.Resize.declared.copier.Copying.TheVariants as copying
+use Rattle.papaya_raw.specs.Given.Resize.Sum as sum
+use Rattle.papaya_raw.specs.Given.Resize.NewTable as new_table
+use Rattle.papaya_raw.specs.Given.Resize.Dispose as dispose
+use Rattle.papaya_raw.specs.Given.Resize.Copier as copier
+use Rattle.papaya_raw.specs.Given.Resize.CopierFurther as further
+use Rattle.papaya_raw.specs.Given.Resize.CopierPromotes as promotes
+use Rattle.papaya_raw.specs.Given.Tables.Nodes.{deferred_word}
 use Rattle.papaya_open.proofs.Bare.{IsBare, IsBareThen, bare, bare_as}
 
 module _ (T : Type 0) where

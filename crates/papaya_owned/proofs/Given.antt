@@ -1,5 +1,4 @@
 -- What is so by the crates below, given on to the crates above: these list this crate in place of those.
-pub use Rattle.seize_words.proofs as SeizeWords
 pub use Rattle.papaya_whole.proofs.Given.SeizeRule
 pub use Rattle.papaya_whole.proofs.Given.SeizeAlone
 pub use Rattle.papaya_whole.proofs.Given.SeizeActs

@@ -1,13 +1,10 @@
 -- The words of the crates below, given on to the crates above: these list this crate in place of those.
-pub use Rattle.seize_words.specs as SeizeWords
 pub use Rattle.seize.specs as Seize
 pub use Rattle.papaya_whole.specs.Given.SeizeAlone
 pub use Rattle.papaya_whole.specs.Given.SeizeActs
-pub use Rattle.papaya_tables.specs as Tables
 pub use Rattle.papaya_resize.specs as Resize
 pub use Rattle.papaya_whole.specs.Given.Sweeps
 pub use Rattle.papaya_whole.specs.Given.Reserves
-pub use Rattle.papaya_raw.specs as Raw
 pub use Rattle.papaya_whole.specs.Given.Rule
 pub use Rattle.papaya_shown.specs as Shown
 pub use Rattle.papaya_whole.specs.Given.Points

@@ -1,17 +1,17 @@
 -- What the disposal of a pair knows, at each of its points.
 use Rattle.std.specs.Prelude.{◌≡◌, ◌≢◌, ℕ, suc, ◌*◌, ◌<◌, ◌≤◌, Bool, true, false}
-use Rattle.seize_words.specs.declared.at.At.TheVariants.{Word}
-use Rattle.seize.specs.World.{World, Parting, Cutting}
-use Rattle.seize.specs.Settle.{retiring}
-use Rattle.seize.specs.Defer.{deferring}
-use Rattle.seize.specs.declared.rows.settle.Settle.{Settle}
-use Rattle.papaya_tables.specs.Chunks.{is_incremental}
-use Rattle.papaya_tables.specs.declared.node.Node.{Node}
-use Rattle.papaya_tables.specs.declared.setting.Setting.{Setting}
-use Rattle.papaya_tables.specs.declared.table_words.TheConstants.{DEFERRED}
-use Rattle.papaya_resize.specs.declared.dispose.Dispose.{Dispose}
-use Rattle.papaya_resize.specs.declared.dispose.Disposing.{Disposing}
-use Rattle.papaya_resize.specs.declared.dispose.Disposing.TheVariants as at
+use Rattle.papaya_rule.specs.Given.SeizeWords.declared.at.At.TheVariants.{Word}
+use Rattle.papaya_rule.specs.Given.Seize.World.{World, Parting, Cutting}
+use Rattle.papaya_rule.specs.Given.Seize.Settle.{retiring}
+use Rattle.papaya_rule.specs.Given.Seize.Defer.{deferring}
+use Rattle.papaya_rule.specs.Given.Seize.declared.rows.settle.Settle.{Settle}
+use Rattle.papaya_rule.specs.Given.Tables.Chunks.{is_incremental}
+use Rattle.papaya_rule.specs.Given.Tables.declared.node.Node.{Node}
+use Rattle.papaya_rule.specs.Given.Tables.declared.setting.Setting.{Setting}
+use Rattle.papaya_rule.specs.Given.Tables.declared.table_words.TheConstants.{DEFERRED}
+use Rattle.papaya_rule.specs.Given.Resize.declared.dispose.Dispose.{Dispose}
+use Rattle.papaya_rule.specs.Given.Resize.declared.dispose.Disposing.{Disposing}
+use Rattle.papaya_rule.specs.Given.Resize.declared.dispose.Disposing.TheVariants as at
 use Rattle.papaya_rule.specs.Chart.{Phase, Holds, Chart}
 use Rattle.papaya_rule.specs.Words.{Blocks}
 use Rattle.papaya_rule.specs.Maps.{IsTable}

@@ -1,10 +1,10 @@
 -- The words of the crates below, given on to the crates above: these list this crate in place of those.
-pub use Rattle.seize_words.specs as SeizeWords
-pub use Rattle.seize.specs as Seize
-pub use Rattle.seize_waiting.specs as SeizeWaiting
-pub use Rattle.papaya_tables.specs as Tables
-pub use Rattle.papaya_resize.specs as Resize
-pub use Rattle.papaya_sweeps.specs as Sweeps
-pub use Rattle.papaya_reserves.specs as Reserves
+pub use Rattle.papaya_rule.specs.Given.SeizeWords
+pub use Rattle.papaya_rule.specs.Given.Seize
+pub use Rattle.papaya_rule.specs.Given.SeizeWaiting
+pub use Rattle.papaya_rule.specs.Given.Tables
+pub use Rattle.papaya_rule.specs.Given.Resize
+pub use Rattle.papaya_raw.specs.Given.Sweeps
+pub use Rattle.papaya_raw.specs.Given.Reserves
 pub use Rattle.papaya_raw.specs as Raw
 pub use Rattle.papaya_rule.specs as Rule

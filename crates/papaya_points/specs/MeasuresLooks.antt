@@ -1,14 +1,14 @@
 -- How far a lookup is from its end, and how many loads it makes.
 use Rattle.std.specs.Prelude.{◌≡◌, ℕ, suc, ◌+◌, ◌-◌, ◌≤◌, List, [], ◌∷◌, Option}
-use Rattle.seize_words.specs.declared.at.At.{At}
-use Rattle.seize_words.specs.Op.{Load}
-use Rattle.seize_words.specs.Plan.{Plan, Turn, Do}
-use Rattle.seize.specs.declared.progress.Progress.{Progress}
-use Rattle.seize.specs.declared.progress.Progress.TheVariants as progress
-use Rattle.papaya_tables.specs.declared.table.Table.{Table}
-use Rattle.papaya_resize.specs.declared.lookup.Lookup.{Lookup}
-use Rattle.papaya_resize.specs.declared.lookup.Looking.{Looking}
-use Rattle.papaya_resize.specs.declared.lookup.Looking.TheVariants as at
+use Rattle.papaya_rule.specs.Given.SeizeWords.declared.at.At.{At}
+use Rattle.papaya_rule.specs.Given.SeizeWords.Op.{Load}
+use Rattle.papaya_rule.specs.Given.SeizeWords.Plan.{Plan, Turn, Do}
+use Rattle.papaya_rule.specs.Given.Seize.declared.progress.Progress.{Progress}
+use Rattle.papaya_rule.specs.Given.Seize.declared.progress.Progress.TheVariants as progress
+use Rattle.papaya_rule.specs.Given.Tables.declared.table.Table.{Table}
+use Rattle.papaya_rule.specs.Given.Resize.declared.lookup.Lookup.{Lookup}
+use Rattle.papaya_rule.specs.Given.Resize.declared.lookup.Looking.{Looking}
+use Rattle.papaya_rule.specs.Given.Resize.declared.lookup.Looking.TheVariants as at
 use Rattle.papaya_rule.specs.Chart.{Chart}
 
 -- the step makes a load

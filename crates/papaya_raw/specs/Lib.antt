@@ -7,3 +7,4 @@ pub mod EndMap
 pub mod Machine
 pub mod Progress
 pub mod Replies
+pub mod Given

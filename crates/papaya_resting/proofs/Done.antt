@@ -17,7 +17,7 @@ use Rattle.papaya_asks.specs.declared.computing.Computed.TheVariants as computed
 use Rattle.papaya_asks.specs.declared.computing.Operation.{Operation}
 use Rattle.papaya_asks.specs.declared.refused.RefusedKey.{RefusedKey}
 use Rattle.papaya_asks.specs.declared.refused.Refused.{Refused}
-use Rattle.papaya_owned.specs.Given.Shown.Chain.{CannotGrowIn}
+use Rattle.papaya_sifts.specs.Given.Shown.Chain.{CannotGrowIn}
 use Rattle.papaya_owned.specs.Owned.{found_by}
 use Rattle.papaya_resting.specs.Asking.{HasDone, IsRefusedFor, ComesToIt, ComputesToIt, changed_by, ended_by, computing_ended_by}
 use Rattle.papaya_resting.specs.Lasts.{RestsWith, no_words, words_of, words_of_computing, words_of_end}

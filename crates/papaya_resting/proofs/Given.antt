@@ -3,4 +3,4 @@ pub use Rattle.papaya_holds.proofs.Changes.{holds_its_own}
 pub use Rattle.papaya_holds.proofs.Lists.Lived.{balanced_first, balanced_more, balanced_still, kept_balances, lives_hold}
 pub use Rattle.papaya_owned.proofs.Walks.{holds_moves_none, holds_pairs, holds_stands}
 pub use Rattle.papaya_sifts.proofs.Over.Questions.{keeps_by_test}
-pub use Rattle.papaya_owned.proofs.Given.Whole.Contents.Below.{one_each_below}
+pub use Rattle.papaya_sifts.proofs.Given.Whole.Contents.Below.{one_each_below}

@@ -8,9 +8,9 @@ use Rattle.papaya_tables.specs.declared.node.Node.{Node}
 use Rattle.papaya_tables.specs.declared.setting.Setting.{Setting}
 use Rattle.papaya_resize.specs.Lookup.{looking}
 use Rattle.papaya_resize.specs.declared.lookup.Lookup.{Lookup}
-use Rattle.papaya_owned.specs.Given.Rule.Maps.{IsClass}
-use Rattle.papaya_owned.specs.Given.Alone.Counting.{shards_sum, number_in}
-use Rattle.papaya_owned.proofs.Given.Whole.Contents.Length.{countings_come_to}
+use Rattle.papaya_sifts.specs.Given.Rule.Maps.{IsClass}
+use Rattle.papaya_sifts.specs.Given.Alone.Counting.{shards_sum, number_in}
+use Rattle.papaya_sifts.proofs.Given.Whole.Contents.Length.{countings_come_to}
 use Rattle.papaya_owned.specs.Looking.{LooksIn, Finds}
 use Rattle.papaya_owned.specs.Owned.{Holds, IsWordOf, found_by}
 use Rattle.papaya_owned.proofs.Owned.Lookups.{look_in, finds_word}

@@ -19,9 +19,9 @@ use Rattle.seize.specs.declared.states.TheConstants.{ACTIVE, HEAD}
 use Rattle.papaya_tables.specs.Nodes.{deferred_word}
 use Rattle.papaya_tables.specs.declared.node.Node.{Node}
 use Rattle.papaya_tables.specs.declared.setting.Setting.{Setting}
-use Rattle.papaya_owned.specs.Given.Callers.Kind.{Kind, removes}
-use Rattle.papaya_owned.specs.Given.Late.Faults.{IsRoom}
-use Rattle.papaya_owned.specs.Given.Late.Kinds.{FaultFits}
+use Rattle.papaya_sifts.specs.Given.Callers.Kind.{Kind, removes}
+use Rattle.papaya_sifts.specs.Given.Late.Faults.{IsRoom}
+use Rattle.papaya_sifts.specs.Given.Late.Kinds.{FaultFits}
 use Rattle.papaya_raw.specs.declared.machines.asking.Takes.TheVariants as replies
 use Rattle.papaya_owned.specs.Ending.{Ends, RunsTo, stops, goes}
 use Rattle.papaya_owned.specs.Machines.{refreshes_plan, refreshes_after}

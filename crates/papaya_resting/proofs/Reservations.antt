@@ -5,7 +5,7 @@ use Rattle.seize_words.specs.declared.fault.Fault.{Fault}
 use Rattle.seize_words.specs.declared.fault.Fault.TheVariants.{Capacity}
 use Rattle.papaya_tables.specs.declared.node.Node.{Node}
 use Rattle.papaya_tables.specs.declared.setting.Setting.{Setting}
-use Rattle.papaya_owned.specs.Given.Late.Faults.{IsRoom}
+use Rattle.papaya_sifts.specs.Given.Late.Faults.{IsRoom}
 use Rattle.papaya_owned.specs.Owned.{Holds}
 use Rattle.papaya_owned.specs.Rooms.{CannotMakeRoom, HasRoomFor, RoomBy}
 

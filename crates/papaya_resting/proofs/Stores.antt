@@ -6,17 +6,17 @@ use Rattle.seize_words.specs.Mem.{Mem, value_at}
 use Rattle.seize_words.specs.Word.{block_in}
 use Rattle.seize_words.specs.declared.fault.Fault.{Fault}
 use Rattle.seize_words.specs.declared.fault.Fault.TheVariants.{Capacity}
-use Rattle.papaya_owned.specs.Given.Shown.Chain.{CannotGrowIn}
+use Rattle.papaya_sifts.specs.Given.Shown.Chain.{CannotGrowIn}
 use Rattle.papaya_tables.specs.declared.node.Node.{Node}
 use Rattle.papaya_tables.specs.declared.node.Node.TheVariants as node
 use Rattle.papaya_tables.specs.declared.setting.Setting.{Setting}
 use Rattle.papaya_raw.specs.CallPoints.{inserting, trying_to_insert}
 use Rattle.papaya_raw.specs.declared.machines.answer.KeyAnswer.TheVariants as answers
 use Rattle.papaya_raw.specs.declared.machines.call.KeyCall.{KeyCall}
-use Rattle.papaya_owned.specs.Given.Callers.Kind.{Kind, inserts, tries_to_insert}
-use Rattle.papaya_owned.specs.Given.Callers.Pairs.{Begun}
-use Rattle.papaya_owned.specs.Given.Callers.Together.{Inserts, TriesToInsert}
-use Rattle.papaya_owned.specs.Given.Late.Kinds.{FaultFits}
+use Rattle.papaya_sifts.specs.Given.Callers.Kind.{Kind, inserts, tries_to_insert}
+use Rattle.papaya_sifts.specs.Given.Callers.Pairs.{Begun}
+use Rattle.papaya_sifts.specs.Given.Callers.Together.{Inserts, TriesToInsert}
+use Rattle.papaya_sifts.specs.Given.Late.Kinds.{FaultFits}
 use Rattle.papaya_owned.specs.Calling.{IsCalling, HasStopped, begun}
 use Rattle.papaya_owned.specs.Ending.{Ends, RunsTo}
 use Rattle.papaya_owned.specs.Machines.{on_key_plan}

@@ -1,7 +1,7 @@
 //! Refreshes of the owner's section, and removals. Each change begins with a refresh.
 ghost use Rattle.std.specs.Prelude.{◌≡◌, List, [], None, is_some, IfErr, IfOk, OnOk, OnErr, Err};
-ghost use Rattle.papaya_owned.specs.Given.Late.Faults.{IsRoom};
-ghost use Rattle.papaya_owned.specs.Given.Shown.Chain.{CannotGrowIn};
+ghost use Rattle.papaya_sifts.specs.Given.Late.Faults.{IsRoom};
+ghost use Rattle.papaya_sifts.specs.Given.Shown.Chain.{CannotGrowIn};
 ghost use Rattle.seize_words.specs.declared.fault.Fault.TheVariants.{Capacity};
 ghost use Rattle.papaya_holds.specs.Came.{NoneCame};
 ghost use Rattle.papaya_holds.specs.Held.{HoldsOn, held_in};
@@ -10,8 +10,8 @@ ghost use Rattle.papaya_resting.specs.Calls.{has_removed};
 ghost use Rattle.papaya_resting.specs.Lasts.{RestsWith};
 ghost use Rattle.papaya_resting.specs.Refreshed.{HasRefreshed, OnceRefreshed};
 ghost use Rattle.papaya_owned.specs.Calling.{HasStopped};
-ghost use Rattle.papaya_owned.specs.Given.Callers.Pairs.{Begun};
-ghost use Rattle.papaya_owned.specs.Given.Callers.Kind.{removes};
+ghost use Rattle.papaya_sifts.specs.Given.Callers.Pairs.{Begun};
+ghost use Rattle.papaya_sifts.specs.Given.Callers.Kind.{removes};
 ghost use Rattle.papaya_asks.specs.Asking.{by_lent};
 
 use crate::last::{Last, told_at};

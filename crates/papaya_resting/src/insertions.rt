@@ -1,12 +1,12 @@
 //! Insertions, each after a refresh.
 ghost use Rattle.std.specs.Prelude.{◌≡◌, true, false, List, [], ◌∷◌, ◌++◌, None, Some, is_some, IsTrue, IfOk, IfErr, OnOk, OnErr, Err};
-ghost use Rattle.papaya_owned.specs.Given.Callers.Kind.{Kind, inserts, tries_to_insert};
-ghost use Rattle.papaya_owned.specs.Given.Late.Faults.{IsRoom};
-ghost use Rattle.papaya_owned.specs.Given.Shown.Chain.{CannotGrowIn};
+ghost use Rattle.papaya_sifts.specs.Given.Callers.Kind.{Kind, inserts, tries_to_insert};
+ghost use Rattle.papaya_sifts.specs.Given.Late.Faults.{IsRoom};
+ghost use Rattle.papaya_sifts.specs.Given.Shown.Chain.{CannotGrowIn};
 ghost use Rattle.seize_words.specs.declared.fault.Fault.TheVariants.{Capacity};
 ghost use Rattle.papaya_tables.specs.declared.node.Node.TheVariants as node;
 ghost use Rattle.papaya_holds.specs.Held.{HoldsOn, held_in};
-ghost use Rattle.papaya_owned.specs.Given.Callers.Pairs.{Begun};
+ghost use Rattle.papaya_sifts.specs.Given.Callers.Pairs.{Begun};
 ghost use Rattle.papaya_owned.specs.Calling.{HasStopped};
 ghost use Rattle.papaya_owned.specs.Owned.{Holds, EndsBy, ComesBack, found_by, hashed_by, left_by};
 ghost use Rattle.papaya_resting.specs.Storing.{storing};

@@ -5,7 +5,7 @@ ghost use Rattle.seize_words.specs.Mem.{value_at, word_at};
 ghost use Rattle.seize_words.specs.declared.at.At.TheVariants.{Root, Used};
 ghost use Rattle.seize_words.specs.declared.fault.Fault.TheVariants.{Capacity, Memory};
 ghost use Rattle.seize.specs.World.{IsInside};
-ghost use Rattle.papaya_owned.specs.Given.SeizeAlone.Alone.{History, IsHistory};
+ghost use Rattle.papaya_sifts.specs.Given.SeizeAlone.Alone.{History, IsHistory};
 ghost use Rattle.papaya_tables.specs.Lengths.{IsTableLen};
 ghost use Rattle.papaya_tables.specs.Nodes.{deferred_word};
 ghost use Rattle.papaya_holds.specs.Held.{held_in};

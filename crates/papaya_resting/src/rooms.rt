@@ -1,11 +1,11 @@
 //! Room for further pairs, after a refresh.
 ghost use Rattle.std.specs.Prelude.{◌≡◌, List, [], length, IfErr, OnOk};
-ghost use Rattle.papaya_owned.specs.Given.Late.Faults.{IsRoom};
+ghost use Rattle.papaya_sifts.specs.Given.Late.Faults.{IsRoom};
 ghost use Rattle.papaya_holds.specs.Held.{HoldsOn, held_in};
 ghost use Rattle.papaya_owned.specs.Owned.{Holds, hashed_by};
 ghost use Rattle.papaya_owned.specs.Rooms.{CannotMakeRoom, HasRoomFor};
 ghost use Rattle.papaya_owned.specs.Ending.{HasCome};
-ghost use Rattle.papaya_owned.specs.Given.Reserves.Reserve.{reserving};
+ghost use Rattle.papaya_sifts.specs.Given.Reserves.Reserve.{reserving};
 ghost use Rattle.papaya_owned.specs.Machines.{for_room_plan};
 ghost use Rattle.papaya_resting.specs.Refreshed.{OnceRefreshed};
 ghost use Rattle.seize_words.specs.declared.fault.Fault.TheVariants.{Capacity};

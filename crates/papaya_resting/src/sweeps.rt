@@ -1,11 +1,11 @@
 //! What goes over all pairs, and removes them, each after a refresh.
 ghost use Rattle.std.specs.Prelude.{◌≡◌, List, [], IfErr, OnOk, OnErr};
-ghost use Rattle.papaya_owned.specs.Given.Late.Faults.{IsRoom};
-ghost use Rattle.papaya_owned.specs.Given.Shown.Chain.{CannotGrowIn};
+ghost use Rattle.papaya_sifts.specs.Given.Late.Faults.{IsRoom};
+ghost use Rattle.papaya_sifts.specs.Given.Shown.Chain.{CannotGrowIn};
 ghost use Rattle.papaya_holds.specs.Held.{HoldsOn, held_in};
 ghost use Rattle.papaya_owned.specs.Owned.{Holds, hashed_by};
 ghost use Rattle.papaya_sifts.specs.Retaining.{KeepsOf};
-ghost use Rattle.papaya_owned.specs.Given.Sweeps.declared.sweep.Purpose.TheVariants.{Clears, Retains};
+ghost use Rattle.papaya_sifts.specs.Given.Sweeps.declared.sweep.Purpose.TheVariants.{Clears, Retains};
 ghost use Rattle.papaya_resting.specs.Refreshed.{OnceRefreshed};
 ghost use Rattle.papaya_sifts.specs.Sweeping.{HasSwept};
 ghost use Rattle.seize_words.specs.declared.fault.Fault.TheVariants.{Capacity};

@@ -8,3 +8,4 @@ pub mod World
 pub mod Shares
 pub mod Spared
 pub mod Laws
+pub mod Given

@@ -11,3 +11,4 @@ pub mod Beside
 pub mod Counters
 pub mod Known
 pub mod Links
+pub mod Given

@@ -2,11 +2,11 @@
 use Rattle.std.specs.Prelude.{◌≡◌, ℕ, ◌+◌, ◌^◌, ◌<◌, ◌≤◌, ◌==◌, nat_le, nat_lt, Bool, true, false, not, ◌||◌, List, [], length, None, Result, Ok, Err, ◌⊎◌}
 use Rattle.std.specs.List.{list_all}
 use Rattle.seize_words.specs.declared.fault.Fault.{Fault}
-use Rattle.seize.specs.Register.{MayNeedRoom}
-use Rattle.papaya_tables.specs.declared.lengths.Reason.{Reason}
-use Rattle.papaya_tables.specs.declared.lengths.Reason.TheVariants.{Full, Reserved, NoPlace}
-use Rattle.papaya_tables.specs.Lengths.{places_for, entries_of, len_of, next_len, next_limit}
-use Rattle.papaya_tables.specs.Probes.{limit_of}
+use Rattle.papaya_raw.specs.Given.Seize.Register.{MayNeedRoom}
+use Rattle.papaya_raw.specs.Given.Tables.declared.lengths.Reason.{Reason}
+use Rattle.papaya_raw.specs.Given.Tables.declared.lengths.Reason.TheVariants.{Full, Reserved, NoPlace}
+use Rattle.papaya_raw.specs.Given.Tables.Lengths.{places_for, entries_of, len_of, next_len, next_limit}
+use Rattle.papaya_raw.specs.Given.Tables.Probes.{limit_of}
 use Rattle.papaya_runs.specs.declared.outcome.TableShape.{TableShape}
 use Rattle.papaya_schedules.specs.declared.call.Call.{Call}
 use Rattle.papaya_schedules.specs.declared.call.Call.TheVariants.{On, Reserve, Len}

@@ -1,6 +1,6 @@
 -- What a run is made with, and how much of the language of schedules it lets happen.
 use Rattle.std.specs.Prelude.{ℕ, Bool}
-use Rattle.papaya_tables.specs.Powers.{next_power}
+use Rattle.papaya_raw.specs.Given.Tables.Powers.{next_power}
 
 pub record Terms : Type 0 where
   pub batch_size : ℕ

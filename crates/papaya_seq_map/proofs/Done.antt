@@ -7,9 +7,9 @@ use Rattle.seize_words.specs.Mem.{Mem}
 use Rattle.seize_words.specs.declared.fault.Fault.{Fault}
 use Rattle.papaya_tables.specs.declared.node.Node.{Node}
 use Rattle.papaya_tables.specs.declared.setting.Setting.{Setting}
-use Rattle.papaya_owned.specs.Given.Raw.declared.machines.asking.Reply.{Reply}
-use Rattle.papaya_owned.specs.Given.Raw.declared.machines.asking.Reply.TheVariants as reply
-use Rattle.papaya_owned.specs.Given.Late.Faults.{IsRoom}
+use Rattle.papaya_sifts.specs.Given.Raw.declared.machines.asking.Reply.{Reply}
+use Rattle.papaya_sifts.specs.Given.Raw.declared.machines.asking.Reply.TheVariants as reply
+use Rattle.papaya_sifts.specs.Given.Late.Faults.{IsRoom}
 use Rattle.papaya_asks.specs.Closures.{Computing}
 use Rattle.papaya_asks.specs.declared.computing.Operation.{Operation}
 use Rattle.papaya_asks.specs.declared.computing.Operation.TheVariants as operation

@@ -1,9 +1,9 @@
 -- The words of the crates below in which the calls of a map speak, given on to who speaks of maps.
 pub use Rattle.papaya_asks.specs.declared.refused.RefusedKey.{RefusedKey}
 pub use Rattle.papaya_resting.specs.Given.{Balanced, HoldsOn, IsLife, found_by, left_by, AreTooMany, IsUnmade, AskedAlong, KeepsOf}
-pub use Rattle.papaya_owned.specs.Given.Late.Faults.{IsRoom}
-pub use Rattle.papaya_owned.specs.Given.Reserves.Reserve.{needed}
-pub use Rattle.papaya_owned.specs.Rooms.{NeedTooMany, tables_for}
+pub use Rattle.papaya_sifts.specs.Given.Late.Faults.{IsRoom}
+pub use Rattle.papaya_sifts.specs.Given.Reserves.Reserve.{needed}
+pub use Rattle.papaya_sifts.specs.Given.Owned.Rooms.{NeedTooMany, tables_for}
 pub use Rattle.papaya_shown.specs.Chain.{CannotGrow, FirstHas}
 pub use Rattle.papaya_pairs.specs.Each.{found_is_so, left_are_so, ordered_are_so, put_are_so, puts_are_so, value_is_so}
 pub use Rattle.papaya_pairs.specs.Elements.{left_in}

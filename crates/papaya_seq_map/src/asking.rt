@@ -3,7 +3,7 @@ ghost use Rattle.std.specs.Prelude.{◌≡◌, None, Some, IfOk, IfErr, OnErr};
 ghost use Rattle.std.specs.Fn.{FnOnceReturns, FnOnceReturnsAt, FnOnceTakesAt};
 ghost use Rattle.std.specs.Option.{ForNone, ForSome};
 ghost use Rattle.papaya_asks.specs.Closures.{Updating, UpdatingOrStoring, Storing};
-ghost use Rattle.papaya_owned.specs.Given.Late.Faults.{IsRoom};
+ghost use Rattle.papaya_sifts.specs.Given.Late.Faults.{IsRoom};
 ghost use Rattle.papaya_shown.specs.Chain.{CannotGrow};
 ghost use Rattle.seize_words.specs.declared.fault.Fault.TheVariants.{Capacity};
 ghost use Rattle.papaya_resting.specs.Given.{found_by};

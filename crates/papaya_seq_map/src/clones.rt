@@ -1,7 +1,7 @@
 //! Maps for one owner with clones of the pairs of another map, or of an array.
 ghost use Rattle.std.specs.Prelude.{◌≡◌, [], IfOk, IfErr, OnOk};
 ghost use Rattle.std.specs.List.Sorted.{IsPermutation};
-ghost use Rattle.papaya_owned.specs.Given.Late.Faults.{IsRoom};
+ghost use Rattle.papaya_sifts.specs.Given.Late.Faults.{IsRoom};
 ghost use Rattle.papaya_pairs.specs.Puts.{ClonesAreSame, IsCloneOf, put_all};
 ghost use Rattle.papaya_seq_map.specs.Stored.{HasPut, IsMadeOfClones};
 

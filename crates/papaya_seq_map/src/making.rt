@@ -1,7 +1,7 @@
 //! How a map for one owner is made.
 ghost use Rattle.std.specs.Prelude.{◌≡◌, [], None, IfOk, IfErr, OnOk};
 ghost use Rattle.seize_words.specs.declared.fault.Fault.TheVariants.{Memory};
-ghost use Rattle.papaya_owned.specs.Rooms.{tables_for};
+ghost use Rattle.papaya_sifts.specs.Given.Owned.Rooms.{tables_for};
 ghost use Rattle.papaya_resting.specs.Given.{AreTooMany, IsUnmade};
 ghost use Rattle.papaya_seq_map.specs.Maps.{LastTook};
 

@@ -1,9 +1,9 @@
 //! Room for further pairs in a map for one owner. It begins with a refresh, as a change does.
 ghost use Rattle.std.specs.Prelude.{◌≡◌, ◌⊎◌, [], None, IfErr, OnOk, length};
 ghost use Rattle.std.specs.List.Sorted.{IsPermutation};
-ghost use Rattle.papaya_owned.specs.Given.Late.Faults.{IsRoom};
-ghost use Rattle.papaya_owned.specs.Given.Reserves.Reserve.{needed};
-ghost use Rattle.papaya_owned.specs.Rooms.{NeedTooMany};
+ghost use Rattle.papaya_sifts.specs.Given.Late.Faults.{IsRoom};
+ghost use Rattle.papaya_sifts.specs.Given.Reserves.Reserve.{needed};
+ghost use Rattle.papaya_sifts.specs.Given.Owned.Rooms.{NeedTooMany};
 ghost use Rattle.papaya_shown.specs.Chain.{CannotGrow, FirstHas};
 ghost use Rattle.seize_words.specs.declared.fault.Fault.TheVariants.{Capacity};
 ghost use Rattle.papaya_seq_map.specs.Maps.{Keeps, LastTook};

@@ -1,2 +1,3 @@
 -- Lemmas on what one owner sweeps.
 pub mod Over
+pub mod Given

@@ -1,2 +1,3 @@
 pub mod Retaining
 pub mod Sweeping
+pub mod Given

@@ -25,3 +25,4 @@ pub mod Steps
 pub mod OnSlots
 pub mod Makings
 pub mod There
+pub mod Given

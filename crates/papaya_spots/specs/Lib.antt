@@ -5,3 +5,4 @@ pub mod Placed
 pub mod Steps
 pub mod OnSlots
 pub mod Makings
+pub mod Given

@@ -1,39 +1,39 @@
 -- A row rests after so many steps, or waits, while nobody else steps: each of its steps that does not wait leaves it less to go.
 use Rattle.std.specs.Prelude.{Option, ◌==◌, if◌then◌else◌}
 use Rattle.std.proofs.Common.{◌≡◌, ℕ, zero, suc, ◌+◌, ◌<◌, ◌≤◌, Bool, true, false, List, ◌⊎◌, inl, inr, refl, arith, ap, sym, subst, ◌∙◌}
-use Rattle.seize_words.specs.declared.at.At.TheVariants.{Slot}
-use Rattle.seize_words.specs.Mem.{Mem, Took, value_at}
-use Rattle.seize_words.specs.Plan.{Steps, Ends, Now}
-use Rattle.seize_words.proofs.OneOwner.Operations.{loaded}
-use Rattle.seize.specs.declared.states.TheConstants.{BATCH, HELD, LAST_SLOT}
-use Rattle.seize.specs.declared.progress.Progress.{Progress}
-use Rattle.seize.specs.declared.progress.Progress.TheVariants as progress
-use Rattle.seize.specs.declared.rows.settle.Settle.{Settle}
-use Rattle.seize.specs.declared.rows.settle.Settling.{Settling}
-use Rattle.seize.specs.declared.rows.settle.Settling.TheVariants as at
-use Rattle.seize.specs.declared.rows.settle.Settled.{Settled}
-use Rattle.seize.specs.declared.rows.settle.Settled.TheVariants as settled
-use Rattle.seize.specs.declared.rows.leave.Leave.{Leave}
-use Rattle.seize.specs.declared.rows.leave.Leaving.{Leaving}
-use Rattle.seize.specs.declared.rows.leave.Leaving.TheVariants as leaving
-use Rattle.seize.specs.declared.rows.defer.Defer.{Defer}
-use Rattle.seize.specs.declared.rows.register.Register.{Register}
-use Rattle.seize.specs.Settle.{plan_at, seen, settle_plan}
-use Rattle.seize.specs.Settle as plans
-use Rattle.seize.specs.Leave.{leave_plan, standing}
-use Rattle.seize.specs.Register.{register_plan}
-use Rattle.seize.specs.World as world
-use Rattle.seize.specs.World.{World, Row, Rests, Registers, Enters, Settles, Leaves, Defers, Frees, Event, Runs, Steps', settles_on, leaves_on, registers_on, defers_on, at_start}
-use Rattle.seize_rule.proofs.Rows.Others.{with_here}
-use Rattle.seize_rule.proofs.Rows.SizesKept.{happens_sized}
-use Rattle.seize_rule.proofs.World.Kept.{happens_good}
-use Rattle.seize_rule.proofs.World.Start.{start_good}
-use Rattle.seize_ends.proofs.Batches.Held.{waits_held}
-use Rattle.seize_ends.proofs.Rows.Among.{Came, row_steps_left, settles_go_lower, leaves_go_lower}
-use Rattle.seize_ends.proofs.Rows.Defer.{Lower, defer_to_go, defer_ends}
-use Rattle.seize_ends.proofs.Rows.Leaving.{leave_steps_left}
-use Rattle.seize_ends.proofs.Rows.Register.{register_to_go, register_ends}
-use Rattle.seize_ends.proofs.Settling.Most.{goes_further, settle_steps_left}
+use Rattle.seize_alone.specs.Given.SeizeWords.declared.at.At.TheVariants.{Slot}
+use Rattle.seize_alone.specs.Given.SeizeWords.Mem.{Mem, Took, value_at}
+use Rattle.seize_alone.specs.Given.SeizeWords.Plan.{Steps, Ends, Now}
+use Rattle.seize_alone.proofs.Given.SeizeWords.OneOwner.Operations.{loaded}
+use Rattle.seize_alone.specs.Given.Seize.declared.states.TheConstants.{BATCH, HELD, LAST_SLOT}
+use Rattle.seize_alone.specs.Given.Seize.declared.progress.Progress.{Progress}
+use Rattle.seize_alone.specs.Given.Seize.declared.progress.Progress.TheVariants as progress
+use Rattle.seize_alone.specs.Given.Seize.declared.rows.settle.Settle.{Settle}
+use Rattle.seize_alone.specs.Given.Seize.declared.rows.settle.Settling.{Settling}
+use Rattle.seize_alone.specs.Given.Seize.declared.rows.settle.Settling.TheVariants as at
+use Rattle.seize_alone.specs.Given.Seize.declared.rows.settle.Settled.{Settled}
+use Rattle.seize_alone.specs.Given.Seize.declared.rows.settle.Settled.TheVariants as settled
+use Rattle.seize_alone.specs.Given.Seize.declared.rows.leave.Leave.{Leave}
+use Rattle.seize_alone.specs.Given.Seize.declared.rows.leave.Leaving.{Leaving}
+use Rattle.seize_alone.specs.Given.Seize.declared.rows.leave.Leaving.TheVariants as leaving
+use Rattle.seize_alone.specs.Given.Seize.declared.rows.defer.Defer.{Defer}
+use Rattle.seize_alone.specs.Given.Seize.declared.rows.register.Register.{Register}
+use Rattle.seize_alone.specs.Given.Seize.Settle.{plan_at, seen, settle_plan}
+use Rattle.seize_alone.specs.Given.Seize.Settle as plans
+use Rattle.seize_alone.specs.Given.Seize.Leave.{leave_plan, standing}
+use Rattle.seize_alone.specs.Given.Seize.Register.{register_plan}
+use Rattle.seize_alone.specs.Given.Seize.World as world
+use Rattle.seize_alone.specs.Given.Seize.World.{World, Row, Rests, Registers, Enters, Settles, Leaves, Defers, Frees, Event, Runs, Steps', settles_on, leaves_on, registers_on, defers_on, at_start}
+use Rattle.seize_alone.proofs.Given.SeizeRule.Rows.Others.{with_here}
+use Rattle.seize_alone.proofs.Given.SeizeRule.Rows.SizesKept.{happens_sized}
+use Rattle.seize_alone.proofs.Given.SeizeRule.World.Kept.{happens_good}
+use Rattle.seize_alone.proofs.Given.SeizeRule.World.Start.{start_good}
+use Rattle.seize_alone.proofs.Given.SeizeEnds.Batches.Held.{waits_held}
+use Rattle.seize_alone.proofs.Given.SeizeEnds.Rows.Among.{Came, row_steps_left, settles_go_lower, leaves_go_lower}
+use Rattle.seize_alone.proofs.Given.SeizeEnds.Rows.Defer.{Lower, defer_to_go, defer_ends}
+use Rattle.seize_alone.proofs.Given.SeizeEnds.Rows.Leaving.{leave_steps_left}
+use Rattle.seize_alone.proofs.Given.SeizeEnds.Rows.Register.{register_to_go, register_ends}
+use Rattle.seize_alone.proofs.Given.SeizeEnds.Settling.Most.{goes_further, settle_steps_left}
 use Rattle.seize_alone.proofs.Histories.Reached.{runs_reached}
 use Rattle.seize_acts.specs.Ends.{RestsOrWaitsWithin, RowsRestOrWait, RowsFall}
 use Rattle.seize_acts.proofs.Waits.{leave_waits}

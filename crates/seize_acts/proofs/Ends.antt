@@ -1,37 +1,37 @@
 -- A row that is alone under way comes to its end: each of its steps leaves it less to go.
 use Rattle.std.specs.Prelude.{Option, Some, None, IsSome, Ok, Err, ◌==◌, if◌then◌else◌}
 use Rattle.std.proofs.Common.{◌≡◌, ℕ, zero, suc, ◌+◌, ◌<◌, ◌≤◌, Bool, true, false, [], ◌∷◌, inl, inr, refl, arith, ap, sym, subst, ◌∙◌}
-use Rattle.seize_words.specs.Op.{Op, Out, Load, Store, Swap, Add, Or, Exchange, Make, Take, Rewrite, Room, Found, Stored, Made, Taken, Roomed}
-use Rattle.seize_words.specs.Mem.{Mem, Can, Took, after, value_at, word_at}
-use Rattle.seize_words.specs.Plan.{Plan, Turn, Do, May, Steps}
-use Rattle.seize.specs.declared.states.TheConstants.{LAST_SLOT}
-use Rattle.seize.specs.declared.progress.Progress.{Progress}
-use Rattle.seize.specs.declared.progress.Progress.TheVariants as progress
-use Rattle.seize.specs.declared.rows.settle.Settle.{Settle}
-use Rattle.seize.specs.declared.rows.settle.Settled.{Settled}
-use Rattle.seize.specs.declared.rows.settle.Settled.TheVariants as settled
-use Rattle.seize.specs.declared.rows.leave.Leave.{Leave}
-use Rattle.seize.specs.declared.rows.defer.Defer.{Defer}
-use Rattle.seize.specs.declared.rows.register.Register.{Register}
-use Rattle.seize.specs.Settle.{settle_plan}
-use Rattle.seize.specs.Leave.{leave_plan}
-use Rattle.seize.specs.Defer.{defer_plan}
-use Rattle.seize.specs.Register.{register_plan}
-use Rattle.seize.specs.Enter.{enter_plan, unregister_plan}
-use Rattle.seize.specs.Law.{Entered}
-use Rattle.seize.specs.World as world
-use Rattle.seize.specs.World.{World, Row, Rests, Registers, Enters, Settles, Leaves, Defers, Frees, Steps', MayStep, settles_on, leaves_on, registers_on, defers_on, at_start}
-use Rattle.seize_rule.proofs.Rows.Others.{with_here}
-use Rattle.seize_rule.proofs.World.Kept.{row_may}
-use Rattle.seize_rule.proofs.World.Rested.{Lone, steps_lone}
-use Rattle.seize_rule.proofs.World.Start.{start_good}
-use Rattle.seize_rule.proofs.Words.View.{view}
-use Rattle.seize_ends.proofs.Batches.Held.{HoldsAlone}
-use Rattle.seize_ends.proofs.Batches.Rows.{HeldByRows, happens_held, runs_held, start_held, settles_alone}
-use Rattle.seize_ends.proofs.Rows.Register.{register_to_go, register_ends}
-use Rattle.seize_ends.proofs.Rows.Lone.{leave_to_go, settles_lower, leaves_lower}
-use Rattle.seize_ends.proofs.Rows.Defer.{Lower, defer_to_go, defer_ends}
-use Rattle.seize_ends.proofs.Settling.Most.{settle_to_go}
+use Rattle.seize_alone.specs.Given.SeizeWords.Op.{Op, Out, Load, Store, Swap, Add, Or, Exchange, Make, Take, Rewrite, Room, Found, Stored, Made, Taken, Roomed}
+use Rattle.seize_alone.specs.Given.SeizeWords.Mem.{Mem, Can, Took, after, value_at, word_at}
+use Rattle.seize_alone.specs.Given.SeizeWords.Plan.{Plan, Turn, Do, May, Steps}
+use Rattle.seize_alone.specs.Given.Seize.declared.states.TheConstants.{LAST_SLOT}
+use Rattle.seize_alone.specs.Given.Seize.declared.progress.Progress.{Progress}
+use Rattle.seize_alone.specs.Given.Seize.declared.progress.Progress.TheVariants as progress
+use Rattle.seize_alone.specs.Given.Seize.declared.rows.settle.Settle.{Settle}
+use Rattle.seize_alone.specs.Given.Seize.declared.rows.settle.Settled.{Settled}
+use Rattle.seize_alone.specs.Given.Seize.declared.rows.settle.Settled.TheVariants as settled
+use Rattle.seize_alone.specs.Given.Seize.declared.rows.leave.Leave.{Leave}
+use Rattle.seize_alone.specs.Given.Seize.declared.rows.defer.Defer.{Defer}
+use Rattle.seize_alone.specs.Given.Seize.declared.rows.register.Register.{Register}
+use Rattle.seize_alone.specs.Given.Seize.Settle.{settle_plan}
+use Rattle.seize_alone.specs.Given.Seize.Leave.{leave_plan}
+use Rattle.seize_alone.specs.Given.Seize.Defer.{defer_plan}
+use Rattle.seize_alone.specs.Given.Seize.Register.{register_plan}
+use Rattle.seize_alone.specs.Given.Seize.Enter.{enter_plan, unregister_plan}
+use Rattle.seize_alone.specs.Given.Seize.Law.{Entered}
+use Rattle.seize_alone.specs.Given.Seize.World as world
+use Rattle.seize_alone.specs.Given.Seize.World.{World, Row, Rests, Registers, Enters, Settles, Leaves, Defers, Frees, Steps', MayStep, settles_on, leaves_on, registers_on, defers_on, at_start}
+use Rattle.seize_alone.proofs.Given.SeizeRule.Rows.Others.{with_here}
+use Rattle.seize_alone.proofs.Given.SeizeRule.World.Kept.{row_may}
+use Rattle.seize_alone.proofs.Given.SeizeRule.World.Rested.{Lone, steps_lone}
+use Rattle.seize_alone.proofs.Given.SeizeRule.World.Start.{start_good}
+use Rattle.seize_alone.proofs.Given.SeizeRule.Words.View.{view}
+use Rattle.seize_alone.proofs.Given.SeizeEnds.Batches.Held.{HoldsAlone}
+use Rattle.seize_alone.proofs.Given.SeizeEnds.Batches.Rows.{HeldByRows, happens_held, runs_held, start_held, settles_alone}
+use Rattle.seize_alone.proofs.Given.SeizeEnds.Rows.Register.{register_to_go, register_ends}
+use Rattle.seize_alone.proofs.Given.SeizeEnds.Rows.Lone.{leave_to_go, settles_lower, leaves_lower}
+use Rattle.seize_alone.proofs.Given.SeizeEnds.Rows.Defer.{Lower, defer_to_go, defer_ends}
+use Rattle.seize_alone.proofs.Given.SeizeEnds.Settling.Most.{settle_to_go}
 use Rattle.seize_alone.proofs.Histories.Reached.{runs_reached}
 use Rattle.seize_acts.specs.Answers.{Grant, then_on, exchanged, compared, taken, found, stored, answer, ends, stepped}
 use Rattle.seize_acts.specs.Acts.{Step, became, row_steps, turns, turned, rests}

@@ -1,30 +1,30 @@
 -- Nothing that was handed to the collector is lost: where no row is under way it is in a batch, or on the list of a block that is there.
 use Rattle.std.specs.Prelude.{Option, Some, None}
 use Rattle.std.proofs.Common.{◌≡◌, ℕ, ◌+◌, Bool, true, false, List, [], ◌∷◌, length, ◌⊎◌, inl, inr, refl, arith, ap, sym, subst, ◌∙◌}
-use Rattle.seize_words.specs.declared.at.At.TheVariants.{Entry, Word}
-use Rattle.seize_words.specs.Mem.{value_at, word_at}
-use Rattle.seize.specs.declared.states.TheConstants.{LAST_SLOT, NEXT}
-use Rattle.seize.specs.Law.{is_retired}
-use Rattle.seize.specs.WaitingSets.{is_one_of}
-use Rattle.seize.specs.Further.{FurtherFrom, FurtherAre}
-use Rattle.seize.specs.World.{World, Row, Rests, Hand, NoBlock, Making, InUse, Parting, Cutting, Handed, LeftTo, at_start}
+use Rattle.seize_alone.specs.Given.SeizeWords.declared.at.At.TheVariants.{Entry, Word}
+use Rattle.seize_alone.specs.Given.SeizeWords.Mem.{value_at, word_at}
+use Rattle.seize_alone.specs.Given.Seize.declared.states.TheConstants.{LAST_SLOT, NEXT}
+use Rattle.seize_alone.specs.Given.Seize.Law.{is_retired}
+use Rattle.seize_alone.specs.Given.Seize.WaitingSets.{is_one_of}
+use Rattle.seize_alone.specs.Given.Seize.Further.{FurtherFrom, FurtherAre}
+use Rattle.seize_alone.specs.Given.Seize.World.{World, Row, Rests, Hand, NoBlock, Making, InUse, Parting, Cutting, Handed, LeftTo, at_start}
 use Rattle.seize_acts.specs.Laws.{IsPutBehind, NothingIsLost}
 use Rattle.seize_acts.specs.Reclaimed.{IsStillHad, IsPutBehindOthers}
-use Rattle.seize_moves.proofs.State.Ghost.{Life, IsFree, IsOwned, IsLinked, IsUnlinked, IsDeferring, IsDeferred, IsPending, IsIn, IsDoomed, IsLeft, State, lies_with, can_carry}
-use Rattle.seize_rule.proofs.Points.Aside.{HandFits}
-use Rattle.seize_rule.proofs.Words.Chains.{Chain}
-use Rattle.seize_rule.proofs.Words.Lists.{list_from, some_word, deferred_of}
-use Rattle.seize_rule.proofs.Words.Shows.{DeferredIs, DrainedIs, CarrierIs, lives}
-use Rattle.seize_rule.proofs.Words.View.{view, list_in}
-use Rattle.seize_rule.proofs.Words.Named.{word_found}
-use Rattle.seize_rule.proofs.Words.There.{entry_there, list_there, value_there}
-use Rattle.seize_rule.proofs.Rows.Known.{Idles, FitsRow}
-use Rattle.seize_rule.proofs.World.Good.{Good}
-use Rattle.seize_rule.proofs.World.Kept.{runs_good}
-use Rattle.seize_rule.proofs.World.Start.{start_good}
+use Rattle.seize_alone.proofs.Given.SeizeMoves.State.Ghost.{Life, IsFree, IsOwned, IsLinked, IsUnlinked, IsDeferring, IsDeferred, IsPending, IsIn, IsDoomed, IsLeft, State, lies_with, can_carry}
+use Rattle.seize_alone.proofs.Given.SeizeRule.Points.Aside.{HandFits}
+use Rattle.seize_alone.proofs.Given.SeizeRule.Words.Chains.{Chain}
+use Rattle.seize_alone.proofs.Given.SeizeRule.Words.Lists.{list_from, some_word, deferred_of}
+use Rattle.seize_alone.proofs.Given.SeizeRule.Words.Shows.{DeferredIs, DrainedIs, CarrierIs, lives}
+use Rattle.seize_alone.proofs.Given.SeizeRule.Words.View.{view, list_in}
+use Rattle.seize_alone.proofs.Given.SeizeRule.Words.Named.{word_found}
+use Rattle.seize_alone.proofs.Given.SeizeRule.Words.There.{entry_there, list_there, value_there}
+use Rattle.seize_alone.proofs.Given.SeizeRule.Rows.Known.{Idles, FitsRow}
+use Rattle.seize_alone.proofs.Given.SeizeRule.World.Good.{Good}
+use Rattle.seize_alone.proofs.Given.SeizeRule.World.Kept.{runs_good}
+use Rattle.seize_alone.proofs.Given.SeizeRule.World.Start.{start_good}
 use Rattle.seize_acts.proofs.Fine.{all_fine}
 use Rattle.std.proofs.lemmas.Bool.{eq-eqb}
-use Rattle.seize_waiting.specs.Held.{count}
+use Rattle.seize_alone.specs.Given.SeizeWaiting.Held.{count}
 
 counted_in : (b : ℕ) (l : List ℕ) → (count b l ≡ 0 → ⊥) → is_one_of b l ≡ true
 counted_in b [] ne = absurd (ne refl)

@@ -1,12 +1,12 @@
 -- Everything can be reclaimed.
 use Rattle.std.specs.Prelude.{◌≡◌, ℕ, ◌<◌, ◌≤◌, ◌^◌, ◌==◌, Bool, true, false, List, [], ◌∷◌, Option, Some}
-use Rattle.seize_words.specs.declared.at.At.TheVariants.{Slot}
-use Rattle.seize_words.specs.Mem.{word_at}
-use Rattle.seize.specs.declared.states.TheConstants.{BATCH, LAST_SLOT}
-use Rattle.seize.specs.Law.{is_retired}
-use Rattle.seize.specs.WaitingSets.{is_one_of}
-use Rattle.seize.specs.Further.{FurtherAre}
-use Rattle.seize.specs.World.{World, Rests, Vacant, Hand, InUse, Parting, Cutting, Handed, Register', Leave', Flush, Unregister', at_start}
+use Rattle.seize_alone.specs.Given.SeizeWords.declared.at.At.TheVariants.{Slot}
+use Rattle.seize_alone.specs.Given.SeizeWords.Mem.{word_at}
+use Rattle.seize_alone.specs.Given.Seize.declared.states.TheConstants.{BATCH, LAST_SLOT}
+use Rattle.seize_alone.specs.Given.Seize.Law.{is_retired}
+use Rattle.seize_alone.specs.Given.Seize.WaitingSets.{is_one_of}
+use Rattle.seize_alone.specs.Given.Seize.Further.{FurtherAre}
+use Rattle.seize_alone.specs.Given.Seize.World.{World, Rests, Vacant, Hand, InUse, Parting, Cutting, Handed, Register', Leave', Flush, Unregister', at_start}
 use Rattle.seize_acts.specs.Acts.{Act, Begin, Step, AllDid}
 
 -- This caller registers without entering, leaves a slot, flushes it or gives it up, or goes on with such a row.

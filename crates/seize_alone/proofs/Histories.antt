@@ -6,7 +6,6 @@ pub mod LeftTo
 pub mod NotTaken
 pub mod Onto
 pub mod Outside
-pub mod Owned
 pub mod Reached
 pub mod Sets
 pub mod Users

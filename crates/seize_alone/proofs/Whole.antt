@@ -1,6 +1,5 @@
 -- Whole calls, from their beginning to their end.
 pub mod Begins
-pub mod Defer
 pub mod Ends
 pub mod Enter
 pub mod Midway

@@ -9,7 +9,7 @@ use Rattle.seize.specs.declared.states.TheConstants.{HEAD, NEXT}
 use Rattle.seize.specs.declared.rows.settle.Settled.{Settled}
 use Rattle.seize_alone.specs.declared.calls.WholeCall.{WholeCall}
 use Rattle.seize_alone.specs.declared.calls.WholeCall.TheVariants as call
-use Rattle.seize.specs.Law.{Effect, Entered, Linked, Unlinked, Dropped, Made, Ended}
+use Rattle.seize.specs.Law.{Effect, Entered, Linked, Unlinked, Dropped, Made}
 use Rattle.seize.specs.Room.{NeedsRoom}
 use Rattle.seize.specs.Settle.{settle_plan}
 use Rattle.seize.specs.Leave.{leave_plan}
@@ -60,10 +60,6 @@ unlinked b = with_hand_of b (Cutting 0) (Unlinked b ∷ [])
 
 abbrev pub dropped : ℕ → History → History
 dropped b = with_hand_of b NoBlock (Dropped b ∷ [])
-
--- an owner ends
-abbrev pub ended_owner : ℕ → History → History
-ended_owner o h = record { before = h.before; uses = h.uses; hand = h.hand; log = Ended o ∷ h.log }
 
 -- a block that was left over is taken away
 abbrev pub cleared : ℕ → History → History

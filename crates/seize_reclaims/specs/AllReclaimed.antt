@@ -14,7 +14,7 @@ use Rattle.seize.specs.Law.{reachable, where_is, is_retired}
 use Rattle.seize.specs.ReclaimAll.{reclaiming_all, clearing, reclaim_all_plan}
 use Rattle.seize.specs.WaitingSets.{Sets, After, all_changed, all_reclaimed, at_start as sets_at_start}
 use Rattle.seize.specs.World.{Vacant, times}
-use Rattle.seize_sets.specs.Reclaims.{NothingWaits}
+use Rattle.seize_alone.specs.Given.SeizeSets.Reclaims.{NothingWaits}
 use Rattle.seize_alone.specs.Alone.{IsOfUsers, History, IsHistory, AreValues, Spares, SameLeft}
 use Rattle.seize_reclaims.specs.Roots.{LeftAt, IsCleared}
 

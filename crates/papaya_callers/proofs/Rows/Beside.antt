@@ -7,7 +7,7 @@ use Rattle.seize_alone.proofs.Histories.NotTaken.{did, not_taken, kept_value, ke
 use Rattle.seize_alone.proofs.Histories.Reached.{Reached}
 use Rattle.papaya_late.specs.Given.Tables.Nodes.{deferred_word}
 use Rattle.papaya_late.specs.Given.Tables.declared.node.Node.{Node}
-use Rattle.papaya_late.specs.Given.Rule.InWorld.{SparesPairs, IsHeldBy, KeepsBlocks}
+use Rattle.papaya_late.specs.Given.Rule.InWorld.{IsHeldBy, KeepsBlocks}
 use Rattle.papaya_callers.specs.Kept.{IsUsersOwn, IsMaking}
 use Rattle.papaya_callers.proofs.Rows.Keep.{kept_block}
 
@@ -37,16 +37,6 @@ module _ {K V : Type 0} (size : ℕ) (w : World (Node K V)) (r : Reached deferre
 
   pub users_value : (b : ℕ) → IsUsersOwn (w.hand b) → value_at w2.memory b ≡ value_at w.memory b
   users_value b own = kept_value deferred_word size w r i w2 step b (kept_block w b (inl own))
-
-  pub making_stays : (b caller : ℕ) → w.hand b ≡ Making caller → w2.hand b ≡ Making caller
-  making_stays b caller e = users_hand b (subst IsUsersOwn (sym e) tt) ∙ e
-
-  pub cutting_stays : (b caller : ℕ) → w.hand b ≡ Cutting caller → w2.hand b ≡ Cutting caller
-  cutting_stays b caller e = users_hand b (subst IsUsersOwn (sym e) tt) ∙ e
-
-  -- pairs that callers have made and not linked
-  pub row_spares : SparesPairs w w2
-  row_spares b j k v making is = (making_stays b j making, users_value b (subst IsUsersOwn (sym making) tt))
 
   -- all words of what a caller has made stay, too
   pub users_word : (b caller f : ℕ) → w.hand b ≡ Making caller → word_at w2.memory (Word b f) ≡ word_at w.memory (Word b f)

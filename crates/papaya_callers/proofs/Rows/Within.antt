@@ -1,6 +1,6 @@
 -- A step of a row leaves a caller within its section.
-use Rattle.std.proofs.Common.{ℕ, inl, inr, sym, subst}
-use Rattle.papaya_late.specs.Given.Seize.World.{World, Use, Vacant, Outside, Inside, Changing, IsTaken, IsInside, Steps', one_more}
+use Rattle.std.proofs.Common.{ℕ, sym, subst}
+use Rattle.papaya_late.specs.Given.Seize.World.{World, Use, Vacant, Outside, Inside, Changing, IsTaken, IsInside, Steps'}
 use Rattle.seize_alone.proofs.Histories.NotTaken.{still_held}
 use Rattle.seize_alone.proofs.Histories.Reached.{Reached}
 use Rattle.seize_alone.proofs.Histories.Uses.{inside_kept}
@@ -9,18 +9,10 @@ use Rattle.papaya_late.specs.Given.Tables.declared.node.Node.{Node}
 use Rattle.papaya_late.specs.Given.Tables.declared.setting.Setting.{Setting}
 use Rattle.papaya_late.specs.Given.Rule.Chart.{Chart}
 use Rattle.papaya_late.specs.Given.Rule.Words.{Blocks}
-use Rattle.papaya_callers.specs.Kept.{AllHeld, IsMaking, IsWithin}
+use Rattle.papaya_callers.specs.Kept.{IsMaking, IsWithin}
 use Rattle.papaya_callers.proofs.Rows.Beside.{users_hand, making_own}
 
 module _ {K V : Type 0} (setting : Setting) (w : World (Node K V)) (c : Chart K) (blocks : Blocks) where
-  pub all_held : IsWithin w setting.slot c blocks setting → AllHeld w setting.slot c blocks setting
-  all_held within = record {
-    inside = within.inside;
-    tables = λ t made known. inr (within.tables t made known);
-    pairs = λ n was known. inr (within.pairs n was known);
-    counter = inl (making_own (w.hand setting.counter) within.counter);
-  }
-
   -- a step of a row leaves the call within its section
   pub row_within : Reached deferred_word setting.batch_size w → (i : ℕ) (w2 : World (Node K V)) → Steps' deferred_word i (w.row i) w w2 → IsWithin w setting.slot c blocks setting
       → IsWithin w2 setting.slot c blocks setting
@@ -36,9 +28,3 @@ inside_taken Vacant h = h
 inside_taken (Outside k) h = tt
 inside_taken (Inside k) h = tt
 inside_taken Changing h = h
-
-pub inside_more : (u : Use) → IsInside u → IsInside (one_more u)
-inside_more Vacant h = h
-inside_more (Outside k) h = h
-inside_more (Inside k) h = tt
-inside_more Changing h = h

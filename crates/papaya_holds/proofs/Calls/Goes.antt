@@ -2,51 +2,51 @@
 use Rattle.std.specs.Prelude.{◌==◌, Option, Some, None, Ok, Err, if◌then◌else◌}
 use Rattle.std.proofs.Common.{◌≡◌, ◌≢◌, ℕ, Bool, true, false, ◌⊎◌, inl, inr, refl, sym, ◌∙◌, subst, eqb-true}
 use Rattle.std.proofs.lemmas.Bool.{eqb-false}
-use Rattle.papaya_owned.specs.Given.SeizeWords.Op.{Out, Found, Stored, Exchanged, Made, Taken, Roomed}
-use Rattle.papaya_owned.specs.Given.SeizeWords.Word.{block_in}
-use Rattle.papaya_owned.specs.Given.Seize.declared.progress.Progress.{Progress}
-use Rattle.papaya_owned.specs.Given.Seize.declared.progress.Progress.TheVariants as progress
-use Rattle.papaya_owned.specs.Given.Seize.declared.rows.settle.Settled.{Settled}
-use Rattle.papaya_owned.specs.Given.Seize.declared.rows.settle.Settled.TheVariants as settled
-use Rattle.papaya_owned.specs.Given.Tables.Chunks.{is_incremental}
-use Rattle.papaya_owned.specs.Given.Tables.Finding.{may_name}
-use Rattle.papaya_owned.specs.Given.Tables.Trials.{next_trial, with_met}
-use Rattle.papaya_owned.specs.Given.Tables.declared.finding.Finding.{Finding}
-use Rattle.papaya_owned.specs.Given.Tables.declared.finding.Finding.TheVariants as finds
-use Rattle.papaya_owned.specs.Given.Tables.declared.marks.TheConstants.{TOMBSTONE}
-use Rattle.papaya_owned.specs.Given.Tables.declared.node.Node.{Node}
-use Rattle.papaya_owned.specs.Given.Tables.declared.table.Table.{Table}
-use Rattle.papaya_owned.specs.Given.Resize.CopierStates.{copying_all}
-use Rattle.papaya_owned.specs.Given.Resize.Dispose.{disposing}
-use Rattle.papaya_owned.specs.Given.Resize.declared.copier.Copier.{Copier}
-use Rattle.papaya_owned.specs.Given.Resize.declared.dispose.Dispose.{Dispose}
-use Rattle.papaya_owned.specs.Given.Resize.declared.lookup.Lookup.{Lookup}
-use Rattle.papaya_owned.specs.Given.Resize.declared.new_table.NewTable.{NewTable}
-use Rattle.papaya_owned.specs.Given.Resize.declared.outcome.Outcome.{Outcome}
-use Rattle.papaya_owned.specs.Given.Resize.declared.outcome.Outcome.TheVariants as outcome
-use Rattle.papaya_owned.specs.Given.Raw.Answers.{ended}
-use Rattle.papaya_owned.specs.Given.Raw.Call.{root_found, next_found, key_read, pair_read, word_read, word_found, tried, looked, first_made, next_made, disposed, helped, copied}
-use Rattle.papaya_owned.specs.Given.Raw.CallPoints.{going, standing, over, ending, following_made, storing, burying, at_gap, gap_by, asking_at, pair_by, tableless, at_free, at_last, at_pair, told_of, entering, went_on, changed, counted, having_met}
-use Rattle.papaya_owned.specs.Given.Raw.declared.machines.answer.KeyAnswer.{KeyAnswer}
-use Rattle.papaya_owned.specs.Given.Raw.declared.machines.answer.KeyAnswer.TheVariants as answers
-use Rattle.papaya_owned.specs.Given.Raw.declared.machines.answer.Called.{Called}
-use Rattle.papaya_owned.specs.Given.Raw.declared.machines.answer.Called.TheVariants as called
-use Rattle.papaya_owned.specs.Given.Raw.declared.machines.answer.End.{End}
-use Rattle.papaya_owned.specs.Given.Raw.declared.machines.answer.End.TheVariants as ends
-use Rattle.papaya_owned.specs.Given.Raw.declared.machines.answer.Missing.{Missing}
-use Rattle.papaya_owned.specs.Given.Raw.declared.machines.answer.Missing.TheVariants as missing
-use Rattle.papaya_owned.specs.Given.Raw.declared.machines.answer.There.{There}
-use Rattle.papaya_owned.specs.Given.Raw.declared.machines.answer.There.TheVariants as there
-use Rattle.papaya_owned.specs.Given.Raw.declared.machines.asking.Asking.TheVariants as asking
-use Rattle.papaya_owned.specs.Given.Raw.declared.machines.asking.Gap.{Gap}
-use Rattle.papaya_owned.specs.Given.Raw.declared.machines.asking.Gap.TheVariants as gaps
-use Rattle.papaya_owned.specs.Given.Raw.declared.machines.asking.Told.{Told}
-use Rattle.papaya_owned.specs.Given.Raw.declared.machines.asking.Told.TheVariants as tells
-use Rattle.papaya_owned.specs.Given.Raw.declared.machines.call.Calling.{Calling}
-use Rattle.papaya_owned.specs.Given.Raw.declared.machines.call.Calling.TheVariants as at
-use Rattle.papaya_owned.specs.Given.Raw.declared.machines.call.KeyCall.{KeyCall}
-use Rattle.papaya_owned.proofs.Given.Points.Calls.Asked.{passed_so}
-use Rattle.papaya_owned.proofs.Given.Rule.Keys.Always.{Always, always_if}
+use Rattle.papaya_sifts.specs.Given.SeizeWords.Op.{Out, Found, Stored, Exchanged, Made, Taken, Roomed}
+use Rattle.papaya_sifts.specs.Given.SeizeWords.Word.{block_in}
+use Rattle.papaya_sifts.specs.Given.Seize.declared.progress.Progress.{Progress}
+use Rattle.papaya_sifts.specs.Given.Seize.declared.progress.Progress.TheVariants as progress
+use Rattle.papaya_sifts.specs.Given.Seize.declared.rows.settle.Settled.{Settled}
+use Rattle.papaya_sifts.specs.Given.Seize.declared.rows.settle.Settled.TheVariants as settled
+use Rattle.papaya_sifts.specs.Given.Tables.Chunks.{is_incremental}
+use Rattle.papaya_sifts.specs.Given.Tables.Finding.{may_name}
+use Rattle.papaya_sifts.specs.Given.Tables.Trials.{next_trial, with_met}
+use Rattle.papaya_sifts.specs.Given.Tables.declared.finding.Finding.{Finding}
+use Rattle.papaya_sifts.specs.Given.Tables.declared.finding.Finding.TheVariants as finds
+use Rattle.papaya_sifts.specs.Given.Tables.declared.marks.TheConstants.{TOMBSTONE}
+use Rattle.papaya_sifts.specs.Given.Tables.declared.node.Node.{Node}
+use Rattle.papaya_sifts.specs.Given.Tables.declared.table.Table.{Table}
+use Rattle.papaya_sifts.specs.Given.Resize.CopierStates.{copying_all}
+use Rattle.papaya_sifts.specs.Given.Resize.Dispose.{disposing}
+use Rattle.papaya_sifts.specs.Given.Resize.declared.copier.Copier.{Copier}
+use Rattle.papaya_sifts.specs.Given.Resize.declared.dispose.Dispose.{Dispose}
+use Rattle.papaya_sifts.specs.Given.Resize.declared.lookup.Lookup.{Lookup}
+use Rattle.papaya_sifts.specs.Given.Resize.declared.new_table.NewTable.{NewTable}
+use Rattle.papaya_sifts.specs.Given.Resize.declared.outcome.Outcome.{Outcome}
+use Rattle.papaya_sifts.specs.Given.Resize.declared.outcome.Outcome.TheVariants as outcome
+use Rattle.papaya_sifts.specs.Given.Raw.Answers.{ended}
+use Rattle.papaya_sifts.specs.Given.Raw.Call.{root_found, next_found, key_read, pair_read, word_read, word_found, tried, looked, first_made, next_made, disposed, helped, copied}
+use Rattle.papaya_sifts.specs.Given.Raw.CallPoints.{going, standing, over, ending, following_made, storing, burying, at_gap, gap_by, asking_at, pair_by, tableless, at_free, at_last, at_pair, told_of, entering, went_on, changed, counted, having_met}
+use Rattle.papaya_sifts.specs.Given.Raw.declared.machines.answer.KeyAnswer.{KeyAnswer}
+use Rattle.papaya_sifts.specs.Given.Raw.declared.machines.answer.KeyAnswer.TheVariants as answers
+use Rattle.papaya_sifts.specs.Given.Raw.declared.machines.answer.Called.{Called}
+use Rattle.papaya_sifts.specs.Given.Raw.declared.machines.answer.Called.TheVariants as called
+use Rattle.papaya_sifts.specs.Given.Raw.declared.machines.answer.End.{End}
+use Rattle.papaya_sifts.specs.Given.Raw.declared.machines.answer.End.TheVariants as ends
+use Rattle.papaya_sifts.specs.Given.Raw.declared.machines.answer.Missing.{Missing}
+use Rattle.papaya_sifts.specs.Given.Raw.declared.machines.answer.Missing.TheVariants as missing
+use Rattle.papaya_sifts.specs.Given.Raw.declared.machines.answer.There.{There}
+use Rattle.papaya_sifts.specs.Given.Raw.declared.machines.answer.There.TheVariants as there
+use Rattle.papaya_sifts.specs.Given.Raw.declared.machines.asking.Asking.TheVariants as asking
+use Rattle.papaya_sifts.specs.Given.Raw.declared.machines.asking.Gap.{Gap}
+use Rattle.papaya_sifts.specs.Given.Raw.declared.machines.asking.Gap.TheVariants as gaps
+use Rattle.papaya_sifts.specs.Given.Raw.declared.machines.asking.Told.{Told}
+use Rattle.papaya_sifts.specs.Given.Raw.declared.machines.asking.Told.TheVariants as tells
+use Rattle.papaya_sifts.specs.Given.Raw.declared.machines.call.Calling.{Calling}
+use Rattle.papaya_sifts.specs.Given.Raw.declared.machines.call.Calling.TheVariants as at
+use Rattle.papaya_sifts.specs.Given.Raw.declared.machines.call.KeyCall.{KeyCall}
+use Rattle.papaya_sifts.proofs.Given.Points.Calls.Asked.{passed_so}
+use Rattle.papaya_sifts.proofs.Given.Rule.Keys.Always.{Always, always_if}
 use Rattle.papaya_holds.specs.Came.{TellsOwn, EndsOwn, OwnsAt, Owns}
 
 -- an end that tells nothing of its own block

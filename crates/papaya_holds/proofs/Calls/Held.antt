@@ -2,47 +2,47 @@
 use Rattle.std.specs.Prelude.{◌≡◌, ◌≢◌, ℕ, ◌<◌, Bool, true, List, Option, Some, None, Result, Ok, Err}
 use Rattle.std.proofs.Common.{refl, sym, ◌∙◌, ap, subst, arith, inl, inr}
 use denote.Ref.{Bor}
-use Rattle.papaya_owned.specs.Given.SeizeWords.Mem.{Mem, Can, Took, value_at}
-use Rattle.papaya_owned.specs.Given.SeizeWords.Plan.{May, Steps}
-use Rattle.papaya_owned.specs.Given.SeizeWords.Word.{block_in}
-use Rattle.papaya_owned.specs.Given.SeizeWords.declared.fault.Fault.{Fault}
-use Rattle.papaya_owned.specs.Given.Seize.World.{World}
-use Rattle.papaya_owned.specs.Given.Seize.declared.progress.Progress.{Progress}
-use Rattle.papaya_owned.specs.Given.Seize.declared.progress.Progress.TheVariants as progress
-use Rattle.papaya_owned.proofs.Given.SeizeRule.Rows.Leaving.{steps_back}
-use Rattle.papaya_owned.specs.Given.Tables.declared.node.Node.{Node}
-use Rattle.papaya_owned.specs.Given.Tables.declared.node.Node.TheVariants as node
-use Rattle.papaya_owned.specs.Given.Tables.declared.setting.Setting.{Setting}
-use Rattle.papaya_owned.specs.Given.Raw.Call.{call_plan}
-use Rattle.papaya_owned.specs.Given.Raw.CallAsks.{replied}
-use Rattle.papaya_owned.specs.Given.Raw.declared.machines.answer.Called.{Called}
-use Rattle.papaya_owned.specs.Given.Raw.declared.machines.answer.Called.TheVariants as called
-use Rattle.papaya_owned.specs.Given.Raw.declared.machines.answer.KeyAnswer.{KeyAnswer}
-use Rattle.papaya_owned.specs.Given.Raw.declared.machines.answer.KeyAnswer.TheVariants as answers
-use Rattle.papaya_owned.specs.Given.Raw.declared.machines.asking.Asking.{Asking}
-use Rattle.papaya_owned.specs.Given.Raw.declared.machines.asking.Reply.{Reply}
-use Rattle.papaya_owned.specs.Given.Raw.declared.machines.call.Calling.TheVariants as at
-use Rattle.papaya_owned.specs.Given.Raw.declared.machines.call.KeyCall.{KeyCall}
-use Rattle.papaya_owned.specs.Given.Rule.Chart.{Chart}
-use Rattle.papaya_owned.specs.Given.Rule.Words.{Blocks}
-use Rattle.papaya_owned.specs.Given.Callers.Pairs.{Given}
-use Rattle.papaya_owned.specs.Given.Callers.Sights.{Sight}
-use Rattle.papaya_owned.specs.Given.Callers.Together.{CallOnKey, OnKey as OnKeyOf, IsBegun, Gets, Removes, Inserts, TriesToInsert, Computes, Updates, UpdatesOrInserts, TriesToInsertWith, RemovesIf, begun_at, told_about}
-use Rattle.papaya_owned.proofs.Given.Whole.Contents.Runs.{runs_begin}
-use Rattle.papaya_owned.proofs.Given.Whole.Keys.Begins.{calls_begin_alone}
-use Rattle.papaya_owned.proofs.Given.Whole.Keys.Replies.{replies_lead_on}
-use Rattle.papaya_owned.proofs.Given.Whole.Keys.Whole.{calls_go_on_alone}
-use Rattle.papaya_owned.specs.Given.Whole.Contents.{HasRun}
-use Rattle.papaya_owned.specs.Given.Whole.Owner.{IsAlone}
-use Rattle.papaya_owned.specs.Given.Whole.Whole.{StepLeads, then_so}
-use Rattle.papaya_owned.proofs.Owned.Rests.{rests_as}
-use Rattle.papaya_owned.specs.Calling.{IsCalling, begun, asked}
-use Rattle.papaya_owned.specs.Ending.{GoesOn, Tells, RunsTo, stops, goes}
-use Rattle.papaya_owned.specs.Machines.{on_key_after, on_key_plan, on_key_settled}
-use Rattle.papaya_owned.specs.Owned.{Holds}
-use Rattle.papaya_owned.specs.declared.machines.OnKey.{OnKey}
-use Rattle.papaya_owned.specs.declared.machines.Stop.{Stop}
-use Rattle.papaya_owned.specs.declared.machines.Stop.TheVariants as stop
+use Rattle.papaya_sifts.specs.Given.SeizeWords.Mem.{Mem, Can, Took, value_at}
+use Rattle.papaya_sifts.specs.Given.SeizeWords.Plan.{May, Steps}
+use Rattle.papaya_sifts.specs.Given.SeizeWords.Word.{block_in}
+use Rattle.papaya_sifts.specs.Given.SeizeWords.declared.fault.Fault.{Fault}
+use Rattle.papaya_sifts.specs.Given.Seize.World.{World}
+use Rattle.papaya_sifts.specs.Given.Seize.declared.progress.Progress.{Progress}
+use Rattle.papaya_sifts.specs.Given.Seize.declared.progress.Progress.TheVariants as progress
+use Rattle.papaya_sifts.proofs.Given.SeizeRule.Rows.Leaving.{steps_back}
+use Rattle.papaya_sifts.specs.Given.Tables.declared.node.Node.{Node}
+use Rattle.papaya_sifts.specs.Given.Tables.declared.node.Node.TheVariants as node
+use Rattle.papaya_sifts.specs.Given.Tables.declared.setting.Setting.{Setting}
+use Rattle.papaya_sifts.specs.Given.Raw.Call.{call_plan}
+use Rattle.papaya_sifts.specs.Given.Raw.CallAsks.{replied}
+use Rattle.papaya_sifts.specs.Given.Raw.declared.machines.answer.Called.{Called}
+use Rattle.papaya_sifts.specs.Given.Raw.declared.machines.answer.Called.TheVariants as called
+use Rattle.papaya_sifts.specs.Given.Raw.declared.machines.answer.KeyAnswer.{KeyAnswer}
+use Rattle.papaya_sifts.specs.Given.Raw.declared.machines.answer.KeyAnswer.TheVariants as answers
+use Rattle.papaya_sifts.specs.Given.Raw.declared.machines.asking.Asking.{Asking}
+use Rattle.papaya_sifts.specs.Given.Raw.declared.machines.asking.Reply.{Reply}
+use Rattle.papaya_sifts.specs.Given.Raw.declared.machines.call.Calling.TheVariants as at
+use Rattle.papaya_sifts.specs.Given.Raw.declared.machines.call.KeyCall.{KeyCall}
+use Rattle.papaya_sifts.specs.Given.Rule.Chart.{Chart}
+use Rattle.papaya_sifts.specs.Given.Rule.Words.{Blocks}
+use Rattle.papaya_sifts.specs.Given.Callers.Pairs.{Given}
+use Rattle.papaya_sifts.specs.Given.Callers.Sights.{Sight}
+use Rattle.papaya_sifts.specs.Given.Callers.Together.{CallOnKey, OnKey as OnKeyOf, IsBegun, Gets, Removes, Inserts, TriesToInsert, Computes, Updates, UpdatesOrInserts, TriesToInsertWith, RemovesIf, begun_at, told_about}
+use Rattle.papaya_sifts.proofs.Given.Whole.Contents.Runs.{runs_begin}
+use Rattle.papaya_sifts.proofs.Given.Whole.Keys.Begins.{calls_begin_alone}
+use Rattle.papaya_sifts.proofs.Given.Whole.Keys.Replies.{replies_lead_on}
+use Rattle.papaya_sifts.proofs.Given.Whole.Keys.Whole.{calls_go_on_alone}
+use Rattle.papaya_sifts.specs.Given.Whole.Contents.{HasRun}
+use Rattle.papaya_sifts.specs.Given.Whole.Owner.{IsAlone}
+use Rattle.papaya_sifts.specs.Given.Whole.Whole.{StepLeads, then_so}
+use Rattle.papaya_sifts.proofs.Given.Owned.Owned.Rests.{rests_as}
+use Rattle.papaya_sifts.specs.Given.Owned.Calling.{IsCalling, begun, asked}
+use Rattle.papaya_sifts.specs.Given.Owned.Ending.{GoesOn, Tells, RunsTo, stops, goes}
+use Rattle.papaya_sifts.specs.Given.Owned.Machines.{on_key_after, on_key_plan, on_key_settled}
+use Rattle.papaya_sifts.specs.Given.Owned.Owned.{Holds}
+use Rattle.papaya_sifts.specs.Given.Owned.declared.machines.OnKey.{OnKey}
+use Rattle.papaya_sifts.specs.Given.Owned.declared.machines.Stop.{Stop}
+use Rattle.papaya_sifts.specs.Given.Owned.declared.machines.Stop.TheVariants as stop
 use Rattle.papaya_holds.proofs.Calls.Runs.{calls_begin, replies_put_none, replies_keep_own, answered, none_so}
 use Rattle.papaya_holds.proofs.Calls.Steps.{OwnComes, step_comes}
 use Rattle.papaya_holds.proofs.Calls.Goes.{TellsSo}

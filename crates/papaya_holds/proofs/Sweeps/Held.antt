@@ -2,33 +2,33 @@
 use Rattle.std.specs.Prelude.{◌≡◌, ℕ, ◌<◌, ◌≤◌, Bool, true, List, Result, Ok, Err}
 use Rattle.std.proofs.Common.{refl, sym, ◌∙◌, ap, subst, arith}
 use denote.Ref.{Bor}
-use Rattle.papaya_owned.specs.Given.SeizeWords.Mem.{Mem, Can, Took, value_at}
-use Rattle.papaya_owned.specs.Given.SeizeWords.Plan.{May, Steps}
-use Rattle.papaya_owned.specs.Given.SeizeWords.declared.fault.Fault.{Fault}
-use Rattle.papaya_owned.specs.Given.Seize.World.{World}
-use Rattle.papaya_owned.specs.Given.Seize.declared.progress.Progress.{Progress}
-use Rattle.papaya_owned.specs.Given.Seize.declared.progress.Progress.TheVariants as progress
-use Rattle.papaya_owned.proofs.Given.SeizeRule.Rows.Leaving.{steps_back}
-use Rattle.papaya_owned.specs.Given.Tables.declared.node.Node.{Node}
-use Rattle.papaya_owned.specs.Given.Tables.declared.setting.Setting.{Setting}
-use Rattle.papaya_owned.specs.Given.Sweeps.Sweep.{sweep_plan}
-use Rattle.papaya_owned.specs.Given.Sweeps.SweepPoints.{sweeping, after_reply}
-use Rattle.papaya_owned.specs.Given.Sweeps.declared.sweep.Purpose.{Purpose}
-use Rattle.papaya_owned.specs.Given.Sweeps.declared.sweep.Sweep.{Sweep}
-use Rattle.papaya_owned.specs.Given.Sweeps.declared.sweep.Sweeping.TheVariants as at
-use Rattle.papaya_owned.specs.Given.Sweeps.declared.sweep.Swept.{Swept}
-use Rattle.papaya_owned.specs.Given.Sweeps.declared.sweep.Swept.TheVariants as swept
-use Rattle.papaya_owned.specs.Given.Rule.Chart.{Chart}
-use Rattle.papaya_owned.specs.Given.Rule.Words.{Blocks}
-use Rattle.papaya_owned.specs.Given.Callers.OverAll.{CallOverAll, begun_over_all, told_of}
-use Rattle.papaya_owned.specs.Given.Callers.Sights.{Sight}
-use Rattle.papaya_owned.specs.Given.Callers.Together.{OverAll, in_slot}
-use Rattle.papaya_owned.proofs.Given.Whole.Sweeps.Begins.{sweeps_begin_alone}
-use Rattle.papaya_owned.proofs.Given.Whole.Sweeps.Leads.{sweeps_go_on_alone}
-use Rattle.papaya_owned.proofs.Given.Whole.Sweeps.ToldOn.{sweeps_told_alone}
-use Rattle.papaya_owned.specs.Given.Whole.Owner.{IsAlone}
-use Rattle.papaya_owned.specs.Ending.{GoesOn, Tells, RunsTo, stops, goes}
-use Rattle.papaya_owned.specs.Owned.{Holds}
+use Rattle.papaya_sifts.specs.Given.SeizeWords.Mem.{Mem, Can, Took, value_at}
+use Rattle.papaya_sifts.specs.Given.SeizeWords.Plan.{May, Steps}
+use Rattle.papaya_sifts.specs.Given.SeizeWords.declared.fault.Fault.{Fault}
+use Rattle.papaya_sifts.specs.Given.Seize.World.{World}
+use Rattle.papaya_sifts.specs.Given.Seize.declared.progress.Progress.{Progress}
+use Rattle.papaya_sifts.specs.Given.Seize.declared.progress.Progress.TheVariants as progress
+use Rattle.papaya_sifts.proofs.Given.SeizeRule.Rows.Leaving.{steps_back}
+use Rattle.papaya_sifts.specs.Given.Tables.declared.node.Node.{Node}
+use Rattle.papaya_sifts.specs.Given.Tables.declared.setting.Setting.{Setting}
+use Rattle.papaya_sifts.specs.Given.Sweeps.Sweep.{sweep_plan}
+use Rattle.papaya_sifts.specs.Given.Sweeps.SweepPoints.{sweeping, after_reply}
+use Rattle.papaya_sifts.specs.Given.Sweeps.declared.sweep.Purpose.{Purpose}
+use Rattle.papaya_sifts.specs.Given.Sweeps.declared.sweep.Sweep.{Sweep}
+use Rattle.papaya_sifts.specs.Given.Sweeps.declared.sweep.Sweeping.TheVariants as at
+use Rattle.papaya_sifts.specs.Given.Sweeps.declared.sweep.Swept.{Swept}
+use Rattle.papaya_sifts.specs.Given.Sweeps.declared.sweep.Swept.TheVariants as swept
+use Rattle.papaya_sifts.specs.Given.Rule.Chart.{Chart}
+use Rattle.papaya_sifts.specs.Given.Rule.Words.{Blocks}
+use Rattle.papaya_sifts.specs.Given.Callers.OverAll.{CallOverAll, begun_over_all, told_of}
+use Rattle.papaya_sifts.specs.Given.Callers.Sights.{Sight}
+use Rattle.papaya_sifts.specs.Given.Callers.Together.{OverAll, in_slot}
+use Rattle.papaya_sifts.proofs.Given.Whole.Sweeps.Begins.{sweeps_begin_alone}
+use Rattle.papaya_sifts.proofs.Given.Whole.Sweeps.Leads.{sweeps_go_on_alone}
+use Rattle.papaya_sifts.proofs.Given.Whole.Sweeps.ToldOn.{sweeps_told_alone}
+use Rattle.papaya_sifts.specs.Given.Whole.Owner.{IsAlone}
+use Rattle.papaya_sifts.specs.Given.Owned.Ending.{GoesOn, Tells, RunsTo, stops, goes}
+use Rattle.papaya_sifts.specs.Given.Owned.Owned.{Holds}
 use Rattle.papaya_sifts.specs.Sweeping.{IsSweeping, begun, asked, over_pairs_after, over_pairs_plan, over_pairs_settled}
 use Rattle.papaya_sifts.specs.declared.sweeping.OverPairs.{OverPairs}
 use Rattle.papaya_sifts.specs.declared.sweeping.Pause.{Pause}

@@ -2,26 +2,26 @@
 use Rattle.std.specs.Prelude.{Some}
 use Rattle.std.proofs.Common.{◌≡◌, ℕ, ◌+◌, ◌%◌, ◌^◌, ◌<◌, ◌≤◌, ◌==◌, Bool, true, false, cond, eqb, ◌⊎◌, inl, inr, refl, ap, sym, subst, ◌∙◌, arith}
 use Rattle.std.proofs.lemmas.Bool.{cases_eq, eq-eqb, ne_eqb, eqb-true, eqb-false}
-use Rattle.seize_words.specs.Mem.{Mem, Took, value_at, word_at, with_word}
-use Rattle.seize_words.specs.Op.{Add, Store, Found, Stored}
-use Rattle.seize_words.specs.Plan.{Steps}
-use Rattle.seize_words.proofs.OneOwner.Operations.{added, stored}
-use Rattle.seize_words.proofs.Plans.{ends_if}
-use Rattle.seize.specs.World.{World}
-use Rattle.papaya_tables.specs.Chunks.{is_incremental}
-use Rattle.papaya_tables.specs.declared.node.Node.{Node}
-use Rattle.papaya_resize.specs.declared.outcome.Outcome.{Outcome}
-use Rattle.papaya_resize.specs.declared.outcome.Outcome.TheVariants.{Goes}
-use Rattle.papaya_tables.specs.declared.setting.Setting.{Setting}
-use Rattle.papaya_tables.specs.declared.status.TheConstants.Status.{ABORTED}
-use Rattle.papaya_tables.specs.declared.table.Table.{Table}
-use Rattle.papaya_tables.specs.declared.table_words.TheConstants.{COPIED, STATUS}
-use Rattle.papaya_resize.specs.declared.copier.Copier.{Copier}
-use Rattle.papaya_resize.specs.declared.copier.Copying.TheVariants as at
-use Rattle.papaya_tables.specs.TablePlaces.{at_word}
-use Rattle.papaya_resize.specs.CopierStates.{standing, behind}
-use Rattle.papaya_resize.specs.CopierCounts.{counts, counted}
-use Rattle.papaya_resize.specs.CopierFurther.{aborts, to}
+use Rattle.papaya_rule.specs.Given.SeizeWords.Mem.{Mem, Took, value_at, word_at, with_word}
+use Rattle.papaya_rule.specs.Given.SeizeWords.Op.{Add, Store, Found, Stored}
+use Rattle.papaya_rule.specs.Given.SeizeWords.Plan.{Steps}
+use Rattle.papaya_rule.proofs.Given.SeizeWords.OneOwner.Operations.{added, stored}
+use Rattle.papaya_rule.proofs.Given.SeizeWords.Plans.{ends_if}
+use Rattle.papaya_rule.specs.Given.Seize.World.{World}
+use Rattle.papaya_rule.specs.Given.Tables.Chunks.{is_incremental}
+use Rattle.papaya_rule.specs.Given.Tables.declared.node.Node.{Node}
+use Rattle.papaya_rule.specs.Given.Resize.declared.outcome.Outcome.{Outcome}
+use Rattle.papaya_rule.specs.Given.Resize.declared.outcome.Outcome.TheVariants.{Goes}
+use Rattle.papaya_rule.specs.Given.Tables.declared.setting.Setting.{Setting}
+use Rattle.papaya_rule.specs.Given.Tables.declared.status.TheConstants.Status.{ABORTED}
+use Rattle.papaya_rule.specs.Given.Tables.declared.table.Table.{Table}
+use Rattle.papaya_rule.specs.Given.Tables.declared.table_words.TheConstants.{COPIED, STATUS}
+use Rattle.papaya_rule.specs.Given.Resize.declared.copier.Copier.{Copier}
+use Rattle.papaya_rule.specs.Given.Resize.declared.copier.Copying.TheVariants as at
+use Rattle.papaya_rule.specs.Given.Tables.TablePlaces.{at_word}
+use Rattle.papaya_rule.specs.Given.Resize.CopierStates.{standing, behind}
+use Rattle.papaya_rule.specs.Given.Resize.CopierCounts.{counts, counted}
+use Rattle.papaya_rule.specs.Given.Resize.CopierFurther.{aborts, to}
 use Rattle.papaya_rule.specs.Chart.{Share, Claimed, Counted, Chart}
 use Rattle.papaya_rule.specs.Rule.{IsLawful}
 use Rattle.papaya_rule.proofs.Moves.Counts.{counted_behind}

@@ -2,18 +2,18 @@
 use Rattle.std.specs.Prelude.{Some}
 use Rattle.std.proofs.Common.{◌≡◌, ◌≢◌, ℕ, suc, ◌*◌, ◌/◌, ◌<◌, ◌≤◌, ◌==◌, Bool, true, false, cond, refl, ap, ◌∙◌, arith}
 use Rattle.std.proofs.lemmas.Bool.{eq-eqb, ne_eqb, lt-ltb}
-use Rattle.seize_words.specs.declared.at.At.TheVariants.{Word}
-use Rattle.seize_words.specs.Mem.{Can, Took, value_at, word_at}
-use Rattle.seize_words.specs.Plan.{May}
-use Rattle.seize_words.proofs.OneOwner.Operations.{may_load}
-use Rattle.seize.specs.Settle.{retiring}
-use Rattle.seize.specs.World.{World, Cutting}
-use Rattle.papaya_tables.specs.declared.node.Node.{Node}
-use Rattle.papaya_tables.specs.declared.setting.Setting.{Setting}
-use Rattle.papaya_tables.specs.declared.table.Table.{Table}
-use Rattle.papaya_tables.specs.declared.table_words.TheConstants.{NEXT}
-use Rattle.papaya_resize.specs.CopierPromotes.{also_retired, successor_read, succeeds}
-use Rattle.papaya_resize.specs.declared.copier.Copier.{Copier}
+use Rattle.papaya_rule.specs.Given.SeizeWords.declared.at.At.TheVariants.{Word}
+use Rattle.papaya_rule.specs.Given.SeizeWords.Mem.{Can, Took, value_at, word_at}
+use Rattle.papaya_rule.specs.Given.SeizeWords.Plan.{May}
+use Rattle.papaya_rule.proofs.Given.SeizeWords.OneOwner.Operations.{may_load}
+use Rattle.papaya_rule.specs.Given.Seize.Settle.{retiring}
+use Rattle.papaya_rule.specs.Given.Seize.World.{World, Cutting}
+use Rattle.papaya_rule.specs.Given.Tables.declared.node.Node.{Node}
+use Rattle.papaya_rule.specs.Given.Tables.declared.setting.Setting.{Setting}
+use Rattle.papaya_rule.specs.Given.Tables.declared.table.Table.{Table}
+use Rattle.papaya_rule.specs.Given.Tables.declared.table_words.TheConstants.{NEXT}
+use Rattle.papaya_rule.specs.Given.Resize.CopierPromotes.{also_retired, successor_read, succeeds}
+use Rattle.papaya_rule.specs.Given.Resize.declared.copier.Copier.{Copier}
 use Rattle.papaya_rule.specs.Chart.{Chart}
 use Rattle.papaya_rule.specs.InWorld.{IsMapIn}
 use Rattle.papaya_rule.specs.Maps.{IsTable}

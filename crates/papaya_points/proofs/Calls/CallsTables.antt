@@ -2,23 +2,23 @@
 use Rattle.std.specs.Prelude.{◌≡◌, ℕ, suc, ◌<◌, ◌≤◌, Bool, true, false, cond, if◌then◌else◌}
 use Rattle.std.specs.Int.{IsPowerOfTwo}
 use Rattle.std.proofs.Common.{refl, ap, sym, subst, ◌∙◌, arith}
-use Rattle.seize.specs.World.{World}
-use Rattle.papaya_tables.specs.Chunks.{is_incremental}
+use Rattle.papaya_rule.specs.Given.Seize.World.{World}
+use Rattle.papaya_rule.specs.Given.Tables.Chunks.{is_incremental}
 use Rattle.papaya_raw.specs.CallPoints.{going, tableless, following_made, asking_at, at_last, answering, entering, went_on}
-use Rattle.papaya_resize.specs.CopierStates.{resting, helping, copying_all}
-use Rattle.papaya_resize.specs.NewTable.{first_table, table_after}
-use Rattle.papaya_tables.specs.Trials.{first_trial}
-use Rattle.papaya_tables.specs.declared.lengths.TheConstants.{FIRST_LEN}
-use Rattle.papaya_tables.specs.declared.lengths.Reason.TheVariants.{Full}
-use Rattle.papaya_tables.specs.declared.node.Node.{Node}
-use Rattle.papaya_tables.specs.declared.setting.Setting.{Setting}
-use Rattle.papaya_tables.specs.declared.status.TheConstants.Status.{ABORTED}
-use Rattle.papaya_tables.specs.declared.table.Table.{Table}
+use Rattle.papaya_rule.specs.Given.Resize.CopierStates.{resting, helping, copying_all}
+use Rattle.papaya_rule.specs.Given.Resize.NewTable.{first_table, table_after}
+use Rattle.papaya_rule.specs.Given.Tables.Trials.{first_trial}
+use Rattle.papaya_rule.specs.Given.Tables.declared.lengths.TheConstants.{FIRST_LEN}
+use Rattle.papaya_rule.specs.Given.Tables.declared.lengths.Reason.TheVariants.{Full}
+use Rattle.papaya_rule.specs.Given.Tables.declared.node.Node.{Node}
+use Rattle.papaya_rule.specs.Given.Tables.declared.setting.Setting.{Setting}
+use Rattle.papaya_rule.specs.Given.Tables.declared.status.TheConstants.Status.{ABORTED}
+use Rattle.papaya_rule.specs.Given.Tables.declared.table.Table.{Table}
 use Rattle.papaya_raw.specs.declared.machines.answer.Missing.{Missing}
 use Rattle.papaya_raw.specs.declared.machines.answer.Missing.TheVariants as missing
 use Rattle.papaya_raw.specs.declared.machines.answer.KeyAnswer.TheVariants as answers
 use Rattle.papaya_raw.specs.declared.machines.asking.Gap.TheVariants as gaps
-use Rattle.papaya_resize.specs.declared.copier.Copying.TheVariants as copying
+use Rattle.papaya_rule.specs.Given.Resize.declared.copier.Copying.TheVariants as copying
 use Rattle.papaya_raw.specs.declared.machines.call.KeyCall.{KeyCall}
 use Rattle.papaya_raw.specs.declared.machines.call.Calling.TheVariants as at
 use Rattle.papaya_rule.specs.Chart.{Chart}

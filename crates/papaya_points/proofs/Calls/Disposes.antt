@@ -1,22 +1,22 @@
 -- A call disposes of the pair that was there.
 use Rattle.std.specs.Prelude.{◌≡◌, ℕ, ◌<◌, Bool, true, false}
 use Rattle.std.proofs.Common.{refl, ap, sym, subst, ◌∙◌, inl, inr}
-use Rattle.seize_words.specs.Word.{link_word}
-use Rattle.seize_words.specs.Mem.{Mem, value_at, Took}
-use Rattle.seize_words.specs.Plan.{Steps}
-use Rattle.seize_rule.proofs.Rows.Leaving.{steps_back}
-use Rattle.seize.specs.World.{World}
-use Rattle.seize.specs.declared.rows.settle.Settled.{Settled}
-use Rattle.seize.specs.declared.rows.settle.Settled.TheVariants as settled
+use Rattle.papaya_rule.specs.Given.SeizeWords.Word.{link_word}
+use Rattle.papaya_rule.specs.Given.SeizeWords.Mem.{Mem, value_at, Took}
+use Rattle.papaya_rule.specs.Given.SeizeWords.Plan.{Steps}
+use Rattle.papaya_rule.proofs.Given.SeizeRule.Rows.Leaving.{steps_back}
+use Rattle.papaya_rule.specs.Given.Seize.World.{World}
+use Rattle.papaya_rule.specs.Given.Seize.declared.rows.settle.Settled.{Settled}
+use Rattle.papaya_rule.specs.Given.Seize.declared.rows.settle.Settled.TheVariants as settled
 use Rattle.papaya_raw.specs.Call.{disposed, disposes}
-use Rattle.papaya_resize.specs.Dispose.{dispose_plan}
-use Rattle.papaya_tables.specs.declared.node.Node.{Node}
-use Rattle.papaya_tables.specs.declared.setting.Setting.{Setting}
+use Rattle.papaya_rule.specs.Given.Resize.Dispose.{dispose_plan}
+use Rattle.papaya_rule.specs.Given.Tables.declared.node.Node.{Node}
+use Rattle.papaya_rule.specs.Given.Tables.declared.setting.Setting.{Setting}
 use Rattle.papaya_raw.specs.declared.machines.answer.KeyAnswer.{KeyAnswer}
 use Rattle.papaya_raw.specs.declared.machines.answer.KeyAnswer.TheVariants as answers
 use Rattle.papaya_raw.specs.declared.machines.answer.Called.{Called}
 use Rattle.papaya_raw.specs.declared.machines.call.KeyCall.{KeyCall}
-use Rattle.papaya_resize.specs.declared.dispose.Dispose.{Dispose}
+use Rattle.papaya_rule.specs.Given.Resize.declared.dispose.Dispose.{Dispose}
 use Rattle.papaya_rule.specs.Chart.{Phase, Still, Holds, Chart}
 use Rattle.papaya_rule.specs.Words.{Blocks, mark_bits, byte_of, place_word}
 use Rattle.papaya_rule.specs.InWorld.{IsMapIn, SameBlocks, Went, SparesPairs}

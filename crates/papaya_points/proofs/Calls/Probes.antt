@@ -1,23 +1,23 @@
 -- A call reads the word of its try.
 use Rattle.std.specs.Prelude.{◌≡◌, ℕ, ◌/◌, ◌^◌, ◌<◌, Bool, true, false, Option, None, Some, IsSome}
 use Rattle.std.proofs.Common.{refl, ap, sym, subst, ◌∙◌, inl, inr, arith}
-use Rattle.seize_words.specs.Mem.{Mem, value_at, word_at, Can, Took}
-use Rattle.seize_words.specs.Plan.{Now, May, MaySee, Steps, Ends}
-use Rattle.seize_words.proofs.OneOwner.Operations.{may_load, loaded}
-use Rattle.seize_words.proofs.Plans.{see_if, ends_if}
-use Rattle.seize.specs.World.{World}
-use Rattle.papaya_tables.specs.Chunks.{is_incremental}
+use Rattle.papaya_rule.specs.Given.SeizeWords.Mem.{Mem, value_at, word_at, Can, Took}
+use Rattle.papaya_rule.specs.Given.SeizeWords.Plan.{Now, May, MaySee, Steps, Ends}
+use Rattle.papaya_rule.proofs.Given.SeizeWords.OneOwner.Operations.{may_load, loaded}
+use Rattle.papaya_rule.proofs.Given.SeizeWords.Plans.{see_if, ends_if}
+use Rattle.papaya_rule.specs.Given.Seize.World.{World}
+use Rattle.papaya_rule.specs.Given.Tables.Chunks.{is_incremental}
 use Rattle.papaya_raw.specs.Call.{have_one_key, key_read, pair_read, word_read, word_found, probes}
 use Rattle.papaya_raw.specs.CallPoints.{told}
-use Rattle.papaya_tables.specs.Finding.{may_name}
-use Rattle.papaya_resize.specs.Lookup.{names_pair}
-use Rattle.papaya_tables.specs.Trials.{place_tried}
-use Rattle.papaya_tables.specs.declared.node.Node.{Node}
-use Rattle.papaya_tables.specs.declared.node.Node.TheVariants as node
-use Rattle.papaya_tables.specs.declared.setting.Setting.{Setting}
+use Rattle.papaya_rule.specs.Given.Tables.Finding.{may_name}
+use Rattle.papaya_rule.specs.Given.Resize.Lookup.{names_pair}
+use Rattle.papaya_rule.specs.Given.Tables.Trials.{place_tried}
+use Rattle.papaya_rule.specs.Given.Tables.declared.node.Node.{Node}
+use Rattle.papaya_rule.specs.Given.Tables.declared.node.Node.TheVariants as node
+use Rattle.papaya_rule.specs.Given.Tables.declared.setting.Setting.{Setting}
 use Rattle.papaya_raw.specs.declared.machines.answer.Called.{Called}
 use Rattle.papaya_raw.specs.declared.machines.call.KeyCall.{KeyCall}
-use Rattle.papaya_tables.specs.TablePlaces.{at_place}
+use Rattle.papaya_rule.specs.Given.Tables.TablePlaces.{at_place}
 use Rattle.papaya_rule.specs.Chart.{Chart}
 use Rattle.papaya_rule.specs.Rule.{IsLawful}
 use Rattle.papaya_rule.specs.Words.{Blocks, place_word}

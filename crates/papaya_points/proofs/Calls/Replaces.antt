@@ -2,20 +2,20 @@
 use Rattle.std.specs.Prelude.{suc, ◌≡◌, ◌≢◌, ℕ, ◌+◌, ◌^◌, ◌<◌, ◌≤◌, ◌==◌, Bool, true, false, cond, eqb, [], ◌∷◌, Some, if◌then◌else◌}
 use Rattle.std.proofs.Common.{refl, ap, sym, subst, ◌∙◌, inl, inr, arith}
 use Rattle.std.proofs.lemmas.Bool.{eq-eqb}
-use Rattle.seize_words.specs.declared.at.At.TheVariants.{Word}
-use Rattle.seize_words.specs.Mem.{Mem, word_at, with_word}
-use Rattle.seize.specs.Law.{Unlinked}
-use Rattle.seize.specs.World.{Hand, Making, World, InUse, Parting, Cutting, Parts, Unlinks, with_at, MayCut}
-use Rattle.papaya_tables.specs.Chunks.{is_incremental}
+use Rattle.papaya_rule.specs.Given.SeizeWords.declared.at.At.TheVariants.{Word}
+use Rattle.papaya_rule.specs.Given.SeizeWords.Mem.{Mem, word_at, with_word}
+use Rattle.papaya_rule.specs.Given.Seize.Law.{Unlinked}
+use Rattle.papaya_rule.specs.Given.Seize.World.{Hand, Making, World, InUse, Parting, Cutting, Parts, Unlinks, with_at, MayCut}
+use Rattle.papaya_rule.specs.Given.Tables.Chunks.{is_incremental}
 use Rattle.papaya_raw.specs.CallPoints.{going, changed}
-use Rattle.papaya_tables.specs.Trials.{place_tried}
-use Rattle.papaya_tables.specs.declared.marks.TheConstants.{TOMBSTONE}
-use Rattle.papaya_tables.specs.declared.node.Node.{Node}
-use Rattle.papaya_tables.specs.declared.setting.Setting.{Setting}
-use Rattle.papaya_tables.specs.declared.table_words.TheConstants.{PLACES}
+use Rattle.papaya_rule.specs.Given.Tables.Trials.{place_tried}
+use Rattle.papaya_rule.specs.Given.Tables.declared.marks.TheConstants.{TOMBSTONE}
+use Rattle.papaya_rule.specs.Given.Tables.declared.node.Node.{Node}
+use Rattle.papaya_rule.specs.Given.Tables.declared.setting.Setting.{Setting}
+use Rattle.papaya_rule.specs.Given.Tables.declared.table_words.TheConstants.{PLACES}
 use Rattle.papaya_raw.specs.declared.machines.call.KeyCall.{KeyCall}
 use Rattle.papaya_raw.specs.declared.machines.call.Calling.TheVariants as at
-use Rattle.seize_rule.proofs.Rows.Others.{with_here}
+use Rattle.papaya_rule.proofs.Given.SeizeRule.Rows.Others.{with_here}
 use Rattle.papaya_rule.specs.Chart.{Phase, Still, Place, Holds, Chart, put}
 use Rattle.papaya_rule.specs.Rule.{IsLawful}
 use Rattle.papaya_rule.specs.Moves.{after, Allowed, without}
@@ -35,9 +35,9 @@ use Rattle.papaya_points.proofs.Calls.CallsFound.{inside}
 use Rattle.papaya_points.proofs.Calls.Makes.{CallWent}
 use Rattle.papaya_points.proofs.Calls.Tries.{went_changed}
 use Rattle.std.proofs.lemmas.Bool.{ne_eqb}
-use Rattle.seize.specs.Law.{Linked}
-use Rattle.seize.specs.World.{Links}
-use Rattle.papaya_resize.specs.Dispose.{disposing}
+use Rattle.papaya_rule.specs.Given.Seize.Law.{Linked}
+use Rattle.papaya_rule.specs.Given.Seize.World.{Links}
+use Rattle.papaya_rule.specs.Given.Resize.Dispose.{disposing}
 use Rattle.papaya_raw.specs.declared.machines.answer.KeyAnswer.TheVariants as answers
 use Rattle.papaya_raw.specs.declared.machines.answer.Called.{Called}
 use Rattle.papaya_rule.specs.Rule.{is_of}

@@ -2,29 +2,29 @@
 use Rattle.std.specs.Prelude.{◌*◌, ◌/◌, if◌then◌else◌, Some, IsSome}
 use Rattle.std.proofs.Common.{◌≡◌, ℕ, suc, ◌≤◌, Bool, true, inl, inr, refl, ap, sym, subst, ◌∙◌, arith}
 use Rattle.std.proofs.lemmas.Bool.{eq-eqb}
-use Rattle.seize_words.specs.declared.at.At.{At}
-use Rattle.seize_words.specs.declared.at.At.TheVariants.{Word}
-use Rattle.seize_words.specs.declared.fault.Fault.{Fault}
-use Rattle.seize_words.specs.Mem.{Mem, value_at, word_at, with_word, Can, Took}
-use Rattle.seize_words.specs.Op.{Store, Stored}
-use Rattle.seize_words.specs.Plan.{Turn, Now, May, Steps}
-use Rattle.seize_words.proofs.OneOwner.Operations.{may_load, loaded, may_store, stored}
-use Rattle.seize.specs.World.{World, IsOwn}
-use Rattle.seize.specs.Settle.{retiring}
-use Rattle.papaya_tables.specs.Chunks.{is_incremental}
-use Rattle.papaya_tables.specs.Nodes.{deferred_word}
-use Rattle.papaya_tables.specs.TablePlaces.{at_word}
-use Rattle.papaya_resize.specs.CopierStates.{standing}
-use Rattle.papaya_resize.specs.CopierPromotes.{to, announces, succeeds, successor_read, retiring_table, also_retired}
-use Rattle.papaya_tables.specs.declared.node.Node.{Node}
-use Rattle.papaya_resize.specs.declared.outcome.Outcome.{Outcome}
-use Rattle.papaya_resize.specs.declared.outcome.Outcome.TheVariants as outcome
-use Rattle.papaya_tables.specs.declared.setting.Setting.{Setting}
-use Rattle.papaya_tables.specs.declared.status.TheConstants.Status.{PROMOTED}
-use Rattle.papaya_tables.specs.declared.table.Table.{Table}
-use Rattle.papaya_tables.specs.declared.table_words.TheConstants.{NEXT, STATUS}
-use Rattle.papaya_resize.specs.declared.copier.Copier.{Copier}
-use Rattle.papaya_resize.specs.declared.copier.Copying.TheVariants as at
+use Rattle.papaya_rule.specs.Given.SeizeWords.declared.at.At.{At}
+use Rattle.papaya_rule.specs.Given.SeizeWords.declared.at.At.TheVariants.{Word}
+use Rattle.papaya_rule.specs.Given.SeizeWords.declared.fault.Fault.{Fault}
+use Rattle.papaya_rule.specs.Given.SeizeWords.Mem.{Mem, value_at, word_at, with_word, Can, Took}
+use Rattle.papaya_rule.specs.Given.SeizeWords.Op.{Store, Stored}
+use Rattle.papaya_rule.specs.Given.SeizeWords.Plan.{Turn, Now, May, Steps}
+use Rattle.papaya_rule.proofs.Given.SeizeWords.OneOwner.Operations.{may_load, loaded, may_store, stored}
+use Rattle.papaya_rule.specs.Given.Seize.World.{World, IsOwn}
+use Rattle.papaya_rule.specs.Given.Seize.Settle.{retiring}
+use Rattle.papaya_rule.specs.Given.Tables.Chunks.{is_incremental}
+use Rattle.papaya_rule.specs.Given.Tables.Nodes.{deferred_word}
+use Rattle.papaya_rule.specs.Given.Tables.TablePlaces.{at_word}
+use Rattle.papaya_rule.specs.Given.Resize.CopierStates.{standing}
+use Rattle.papaya_rule.specs.Given.Resize.CopierPromotes.{to, announces, succeeds, successor_read, retiring_table, also_retired}
+use Rattle.papaya_rule.specs.Given.Tables.declared.node.Node.{Node}
+use Rattle.papaya_rule.specs.Given.Resize.declared.outcome.Outcome.{Outcome}
+use Rattle.papaya_rule.specs.Given.Resize.declared.outcome.Outcome.TheVariants as outcome
+use Rattle.papaya_rule.specs.Given.Tables.declared.setting.Setting.{Setting}
+use Rattle.papaya_rule.specs.Given.Tables.declared.status.TheConstants.Status.{PROMOTED}
+use Rattle.papaya_rule.specs.Given.Tables.declared.table.Table.{Table}
+use Rattle.papaya_rule.specs.Given.Tables.declared.table_words.TheConstants.{NEXT, STATUS}
+use Rattle.papaya_rule.specs.Given.Resize.declared.copier.Copier.{Copier}
+use Rattle.papaya_rule.specs.Given.Resize.declared.copier.Copying.TheVariants as at
 use Rattle.papaya_rule.specs.Chart.{Chart, put}
 use Rattle.papaya_rule.specs.Rule.{IsLawful}
 use Rattle.papaya_rule.specs.Moves.{Announces}

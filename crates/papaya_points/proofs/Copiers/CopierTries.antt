@@ -1,21 +1,21 @@
 -- In incremental mode, what a copier knows that tries the places of a pair's key in later tables.
 use Rattle.std.specs.Prelude.{◌-◌, nat_lt, if◌then◌else◌, Some, None}
 use Rattle.std.proofs.Common.{◌≡◌, ℕ, suc, ◌<◌, Bool, true, false, ap, ◌∙◌, arith}
-use Rattle.seize.specs.World.{World}
-use Rattle.papaya_tables.specs.Lengths.{IsTableLen}
-use Rattle.papaya_tables.specs.Chunks.{is_incremental}
-use Rattle.papaya_resize.specs.CopierStates.{standing}
-use Rattle.papaya_resize.specs.CopierMarks.{probing}
-use Rattle.papaya_resize.specs.CopierPlaces.{next_try}
-use Rattle.papaya_tables.specs.Probes.{probe_from, probe_after}
-use Rattle.papaya_tables.specs.Trials.{trial_at}
-use Rattle.papaya_tables.specs.declared.node.Node.{Node}
-use Rattle.papaya_tables.specs.declared.probe.Probe.{Probe}
-use Rattle.papaya_tables.specs.declared.setting.Setting.{Setting}
-use Rattle.papaya_tables.specs.declared.table.Table.{Table}
-use Rattle.papaya_resize.specs.declared.copier.Copier.{Copier}
-use Rattle.papaya_resize.specs.declared.copier.Copying.{Copying as Point}
-use Rattle.papaya_resize.specs.declared.copier.Copying.TheVariants as at
+use Rattle.papaya_rule.specs.Given.Seize.World.{World}
+use Rattle.papaya_rule.specs.Given.Tables.Lengths.{IsTableLen}
+use Rattle.papaya_rule.specs.Given.Tables.Chunks.{is_incremental}
+use Rattle.papaya_rule.specs.Given.Resize.CopierStates.{standing}
+use Rattle.papaya_rule.specs.Given.Resize.CopierMarks.{probing}
+use Rattle.papaya_rule.specs.Given.Resize.CopierPlaces.{next_try}
+use Rattle.papaya_rule.specs.Given.Tables.Probes.{probe_from, probe_after}
+use Rattle.papaya_rule.specs.Given.Tables.Trials.{trial_at}
+use Rattle.papaya_rule.specs.Given.Tables.declared.node.Node.{Node}
+use Rattle.papaya_rule.specs.Given.Tables.declared.probe.Probe.{Probe}
+use Rattle.papaya_rule.specs.Given.Tables.declared.setting.Setting.{Setting}
+use Rattle.papaya_rule.specs.Given.Tables.declared.table.Table.{Table}
+use Rattle.papaya_rule.specs.Given.Resize.declared.copier.Copier.{Copier}
+use Rattle.papaya_rule.specs.Given.Resize.declared.copier.Copying.{Copying as Point}
+use Rattle.papaya_rule.specs.Given.Resize.declared.copier.Copying.TheVariants as at
 use Rattle.papaya_rule.specs.Chart.{Chart, is_taken}
 use Rattle.papaya_rule.specs.Rule.{tried}
 use Rattle.papaya_rule.specs.Moves.{Taken}

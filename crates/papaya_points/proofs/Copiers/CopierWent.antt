@@ -1,14 +1,14 @@
 -- What a step of a copier tells of where it led, where pairs are copied in blocking mode; and a step that changed nothing.
 use Rattle.std.specs.Prelude.{◌≡◌, ℕ, Bool, refl}
 use Rattle.std.proofs.Common.{sym, subst}
-use Rattle.seize_words.specs.Mem.{Mem}
-use Rattle.seize.specs.World.{World}
-use Rattle.papaya_tables.specs.declared.node.Node.{Node}
-use Rattle.papaya_resize.specs.declared.outcome.Outcome.{Outcome}
-use Rattle.papaya_resize.specs.declared.outcome.Outcome.TheVariants.{Goes}
-use Rattle.papaya_tables.specs.declared.setting.Setting.{Setting}
-use Rattle.papaya_tables.specs.declared.table.Table.{Table}
-use Rattle.papaya_resize.specs.declared.copier.Copier.{Copier}
+use Rattle.papaya_rule.specs.Given.SeizeWords.Mem.{Mem}
+use Rattle.papaya_rule.specs.Given.Seize.World.{World}
+use Rattle.papaya_rule.specs.Given.Tables.declared.node.Node.{Node}
+use Rattle.papaya_rule.specs.Given.Resize.declared.outcome.Outcome.{Outcome}
+use Rattle.papaya_rule.specs.Given.Resize.declared.outcome.Outcome.TheVariants.{Goes}
+use Rattle.papaya_rule.specs.Given.Tables.declared.setting.Setting.{Setting}
+use Rattle.papaya_rule.specs.Given.Tables.declared.table.Table.{Table}
+use Rattle.papaya_rule.specs.Given.Resize.declared.copier.Copier.{Copier}
 use Rattle.papaya_rule.specs.Chart.{Chart}
 use Rattle.papaya_rule.specs.Words.{Blocks}
 use Rattle.papaya_rule.specs.InWorld.{IsMapIn, Went, SparesPairs}

@@ -1,37 +1,37 @@
 -- A copier copies a whole table, or does not, from its first step to its last; and it has unlinked no table until it promotes one.
 use Rattle.std.specs.Prelude.{◌≡◌, ℕ, ◌+◌, ◌%◌, ◌^◌, ◌-◌, ◌/◌, ◌==◌, Bool, true, false, nat_lt, Ok, Err, if◌then◌else◌}
 use Rattle.std.proofs.Common.{◌⊎◌, inl, inr, refl}
-use Rattle.seize_words.specs.Mem.{Mem, value_at, Took}
-use Rattle.seize_words.specs.Op.{Out, Found, Stored, Exchanged, Made, Taken, Roomed}
-use Rattle.seize_words.specs.Plan.{Then, Steps}
-use Rattle.seize.specs.declared.progress.Progress.{Progress}
-use Rattle.seize.specs.declared.progress.Progress.TheVariants as progress
-use Rattle.seize.specs.declared.rows.settle.Settle.{Settle}
-use Rattle.seize.specs.declared.rows.settle.Settled.{Settled}
-use Rattle.seize.specs.declared.rows.settle.Settled.TheVariants as settled
-use Rattle.seize.specs.Settle.{settle_plan}
-use Rattle.seize_words.specs.declared.fault.Fault.{Fault}
-use Rattle.papaya_tables.specs.Probes.{probe_after}
-use Rattle.papaya_tables.specs.Chunks.{is_incremental}
-use Rattle.papaya_tables.specs.Nodes.{deferred_word}
-use Rattle.papaya_resize.specs.NewTable.{new_table_plan}
-use Rattle.papaya_resize.specs.Copier.{plan_at, copier_plan}
-use Rattle.papaya_resize.specs.CopierStates.{standing, behind, none_left, next_place, place_done}
-use Rattle.papaya_resize.specs.CopierPlaces.{next_try, place_read, put_told}
-use Rattle.papaya_resize.specs.CopierMarks.{is_mine, is_awaited, mine_marked, marked}
-use Rattle.papaya_resize.specs.CopierClaims.{root_read, next_read, status_read, claim_read, claimed}
-use Rattle.papaya_resize.specs.CopierCounts.{refusing, counted}
-use Rattle.papaya_resize.specs.CopierFurther.{further_read, grown, replacement_read, remade}
-use Rattle.papaya_resize.specs.CopierPromotes.{promoted, table_retired, successor_read, retired}
-use Rattle.papaya_tables.specs.declared.node.Node.{Node}
-use Rattle.papaya_resize.specs.declared.outcome.Outcome.{Outcome}
-use Rattle.papaya_tables.specs.declared.probe.Probe.{Probe}
-use Rattle.papaya_tables.specs.declared.status.TheConstants.Status.{PROMOTED, ABORTED}
-use Rattle.papaya_tables.specs.declared.table.Table.{Table}
-use Rattle.papaya_resize.specs.declared.copier.Copier.{Copier}
-use Rattle.papaya_resize.specs.declared.copier.Copying.{Copying}
-use Rattle.papaya_resize.specs.declared.copier.Copying.TheVariants as at
-use Rattle.papaya_resize.specs.declared.new_table.NewTable.{NewTable}
+use Rattle.papaya_rule.specs.Given.SeizeWords.Mem.{Mem, value_at, Took}
+use Rattle.papaya_rule.specs.Given.SeizeWords.Op.{Out, Found, Stored, Exchanged, Made, Taken, Roomed}
+use Rattle.papaya_rule.specs.Given.SeizeWords.Plan.{Then, Steps}
+use Rattle.papaya_rule.specs.Given.Seize.declared.progress.Progress.{Progress}
+use Rattle.papaya_rule.specs.Given.Seize.declared.progress.Progress.TheVariants as progress
+use Rattle.papaya_rule.specs.Given.Seize.declared.rows.settle.Settle.{Settle}
+use Rattle.papaya_rule.specs.Given.Seize.declared.rows.settle.Settled.{Settled}
+use Rattle.papaya_rule.specs.Given.Seize.declared.rows.settle.Settled.TheVariants as settled
+use Rattle.papaya_rule.specs.Given.Seize.Settle.{settle_plan}
+use Rattle.papaya_rule.specs.Given.SeizeWords.declared.fault.Fault.{Fault}
+use Rattle.papaya_rule.specs.Given.Tables.Probes.{probe_after}
+use Rattle.papaya_rule.specs.Given.Tables.Chunks.{is_incremental}
+use Rattle.papaya_rule.specs.Given.Tables.Nodes.{deferred_word}
+use Rattle.papaya_rule.specs.Given.Resize.NewTable.{new_table_plan}
+use Rattle.papaya_rule.specs.Given.Resize.Copier.{plan_at, copier_plan}
+use Rattle.papaya_rule.specs.Given.Resize.CopierStates.{standing, behind, none_left, next_place, place_done}
+use Rattle.papaya_rule.specs.Given.Resize.CopierPlaces.{next_try, place_read, put_told}
+use Rattle.papaya_rule.specs.Given.Resize.CopierMarks.{is_mine, is_awaited, mine_marked, marked}
+use Rattle.papaya_rule.specs.Given.Resize.CopierClaims.{root_read, next_read, status_read, claim_read, claimed}
+use Rattle.papaya_rule.specs.Given.Resize.CopierCounts.{refusing, counted}
+use Rattle.papaya_rule.specs.Given.Resize.CopierFurther.{further_read, grown, replacement_read, remade}
+use Rattle.papaya_rule.specs.Given.Resize.CopierPromotes.{promoted, table_retired, successor_read, retired}
+use Rattle.papaya_rule.specs.Given.Tables.declared.node.Node.{Node}
+use Rattle.papaya_rule.specs.Given.Resize.declared.outcome.Outcome.{Outcome}
+use Rattle.papaya_rule.specs.Given.Tables.declared.probe.Probe.{Probe}
+use Rattle.papaya_rule.specs.Given.Tables.declared.status.TheConstants.Status.{PROMOTED, ABORTED}
+use Rattle.papaya_rule.specs.Given.Tables.declared.table.Table.{Table}
+use Rattle.papaya_rule.specs.Given.Resize.declared.copier.Copier.{Copier}
+use Rattle.papaya_rule.specs.Given.Resize.declared.copier.Copying.{Copying}
+use Rattle.papaya_rule.specs.Given.Resize.declared.copier.Copying.TheVariants as at
+use Rattle.papaya_rule.specs.Given.Resize.declared.new_table.NewTable.{NewTable}
 use Rattle.papaya_points.specs.Unlinked.{has_unlinked}
 use Rattle.papaya_points.proofs.Steps.RootSteps.{is_promoting}
 use Rattle.papaya_rule.proofs.Keys.Always.{Always, AlwaysOf, always_if, always_plan_as, always_steps}

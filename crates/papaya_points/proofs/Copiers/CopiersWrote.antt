@@ -1,16 +1,16 @@
 -- A step of a copier, in incremental mode, that wrote one word of a table.
 use Rattle.std.specs.Prelude.{IsSome}
 use Rattle.std.proofs.Common.{sym, ◌∙◌, ◌≡◌, ℕ, Bool, true, inl, inr, refl}
-use Rattle.seize_words.specs.declared.at.At.{At}
-use Rattle.seize_words.specs.Mem.{Mem, word_at, with_word, Gives, after as mem_after}
-use Rattle.seize_words.specs.Op.{Op, Out}
-use Rattle.seize.specs.World.{World}
-use Rattle.papaya_tables.specs.Chunks.{is_incremental}
-use Rattle.papaya_tables.specs.declared.node.Node.{Node}
-use Rattle.papaya_resize.specs.declared.outcome.Outcome.{Outcome}
-use Rattle.papaya_tables.specs.declared.setting.Setting.{Setting}
-use Rattle.papaya_tables.specs.declared.table.Table.{Table}
-use Rattle.papaya_resize.specs.declared.copier.Copier.{Copier}
+use Rattle.papaya_rule.specs.Given.SeizeWords.declared.at.At.{At}
+use Rattle.papaya_rule.specs.Given.SeizeWords.Mem.{Mem, word_at, with_word, Gives, after as mem_after}
+use Rattle.papaya_rule.specs.Given.SeizeWords.Op.{Op, Out}
+use Rattle.papaya_rule.specs.Given.Seize.World.{World}
+use Rattle.papaya_rule.specs.Given.Tables.Chunks.{is_incremental}
+use Rattle.papaya_rule.specs.Given.Tables.declared.node.Node.{Node}
+use Rattle.papaya_rule.specs.Given.Resize.declared.outcome.Outcome.{Outcome}
+use Rattle.papaya_rule.specs.Given.Tables.declared.setting.Setting.{Setting}
+use Rattle.papaya_rule.specs.Given.Tables.declared.table.Table.{Table}
+use Rattle.papaya_rule.specs.Given.Resize.declared.copier.Copier.{Copier}
 use Rattle.papaya_rule.specs.Chart.{Share, Chart}
 use Rattle.papaya_rule.specs.Rule.{IsLawful}
 use Rattle.papaya_rule.specs.Moves.{Move, Links, Stores, Replaces, Removes, Marks, MarksBlocking, Skips, Unmarks, Puts, Covers, PutsLate, Claims, Reclaims, Counts, GivesUp, Aborts, Promotes, Announces, after, Allowed}

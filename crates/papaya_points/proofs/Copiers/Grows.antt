@@ -3,28 +3,28 @@ use Rattle.std.specs.Prelude.{◌==◌, if◌then◌else◌}
 use Rattle.std.proofs.Common.{◌≡◌, ℕ, suc, ◌<◌, Bool, true, false, inl, inr, refl, sym, subst, arith}
 use Rattle.std.specs.Int.{IsPowerOfTwo}
 use Rattle.std.proofs.lemmas.Bool.{eqb-true}
-use Rattle.seize_words.specs.declared.at.At.TheVariants.{Word}
-use Rattle.seize_words.specs.declared.fault.Fault.{Fault}
-use Rattle.seize_words.specs.Mem.{Mem, value_at, Can, Took}
-use Rattle.seize_words.specs.Plan.{May, Steps}
-use Rattle.seize_words.proofs.Plans.{as_may}
-use Rattle.seize.specs.World.{World}
-use Rattle.seize.specs.declared.progress.Progress.{Progress}
-use Rattle.seize.specs.declared.progress.Progress.TheVariants as progress
-use Rattle.seize_rule.proofs.Rows.Leaving.{steps_back}
-use Rattle.papaya_tables.specs.Chunks.{is_incremental}
-use Rattle.papaya_resize.specs.NewTable.{new_table_plan}
-use Rattle.papaya_resize.specs.CopierStates.{standing}
-use Rattle.papaya_resize.specs.CopierCounts.{refusing}
-use Rattle.papaya_resize.specs.CopierFurther.{grown, grows}
-use Rattle.papaya_tables.specs.declared.node.Node.{Node}
-use Rattle.papaya_resize.specs.declared.outcome.Outcome.{Outcome}
-use Rattle.papaya_tables.specs.declared.setting.Setting.{Setting}
-use Rattle.papaya_tables.specs.declared.table.Table.{Table}
-use Rattle.papaya_tables.specs.declared.table_words.TheConstants.{NEXT}
-use Rattle.papaya_resize.specs.declared.new_table.NewTable.{NewTable}
-use Rattle.papaya_resize.specs.declared.copier.Copier.{Copier}
-use Rattle.papaya_resize.specs.declared.copier.Copying.TheVariants as at
+use Rattle.papaya_rule.specs.Given.SeizeWords.declared.at.At.TheVariants.{Word}
+use Rattle.papaya_rule.specs.Given.SeizeWords.declared.fault.Fault.{Fault}
+use Rattle.papaya_rule.specs.Given.SeizeWords.Mem.{Mem, value_at, Can, Took}
+use Rattle.papaya_rule.specs.Given.SeizeWords.Plan.{May, Steps}
+use Rattle.papaya_rule.proofs.Given.SeizeWords.Plans.{as_may}
+use Rattle.papaya_rule.specs.Given.Seize.World.{World}
+use Rattle.papaya_rule.specs.Given.Seize.declared.progress.Progress.{Progress}
+use Rattle.papaya_rule.specs.Given.Seize.declared.progress.Progress.TheVariants as progress
+use Rattle.papaya_rule.proofs.Given.SeizeRule.Rows.Leaving.{steps_back}
+use Rattle.papaya_rule.specs.Given.Tables.Chunks.{is_incremental}
+use Rattle.papaya_rule.specs.Given.Resize.NewTable.{new_table_plan}
+use Rattle.papaya_rule.specs.Given.Resize.CopierStates.{standing}
+use Rattle.papaya_rule.specs.Given.Resize.CopierCounts.{refusing}
+use Rattle.papaya_rule.specs.Given.Resize.CopierFurther.{grown, grows}
+use Rattle.papaya_rule.specs.Given.Tables.declared.node.Node.{Node}
+use Rattle.papaya_rule.specs.Given.Resize.declared.outcome.Outcome.{Outcome}
+use Rattle.papaya_rule.specs.Given.Tables.declared.setting.Setting.{Setting}
+use Rattle.papaya_rule.specs.Given.Tables.declared.table.Table.{Table}
+use Rattle.papaya_rule.specs.Given.Tables.declared.table_words.TheConstants.{NEXT}
+use Rattle.papaya_rule.specs.Given.Resize.declared.new_table.NewTable.{NewTable}
+use Rattle.papaya_rule.specs.Given.Resize.declared.copier.Copier.{Copier}
+use Rattle.papaya_rule.specs.Given.Resize.declared.copier.Copying.TheVariants as at
 use Rattle.papaya_rule.specs.Chart.{Chart, put}
 use Rattle.papaya_rule.specs.Moves.{Links, NamedInRootAlone, after}
 use Rattle.papaya_rule.specs.Rule.{IsLawful}

@@ -2,23 +2,23 @@
 use Rattle.std.specs.Prelude.{◌==◌, Some, IsSome}
 use Rattle.std.proofs.Common.{◌≡◌, ◌≢◌, ℕ, ◌<◌, Bool, true, false, ◌⊎◌, inl, inr, refl, ap, sym, subst, ◌∙◌}
 use Rattle.std.proofs.lemmas.Bool.{eqb-false}
-use Rattle.seize_words.specs.Mem.{Mem, value_at, word_at, Can, Took}
-use Rattle.seize_words.specs.Plan.{May, Steps}
-use Rattle.seize_words.proofs.OneOwner.Operations.{may_load, loaded}
-use Rattle.seize_words.proofs.Plans.{see_if, ends_if}
-use Rattle.seize.specs.World.{World}
-use Rattle.papaya_tables.specs.Chunks.{is_incremental}
-use Rattle.papaya_resize.specs.CopierStates.{standing}
-use Rattle.papaya_resize.specs.CopierPlaces.{next_try, place_read, probes, to}
-use Rattle.papaya_tables.specs.TablePlaces.{at_place}
-use Rattle.papaya_tables.specs.declared.node.Node.{Node}
-use Rattle.papaya_resize.specs.declared.outcome.Outcome.{Outcome}
-use Rattle.papaya_resize.specs.declared.outcome.Outcome.TheVariants.{Goes}
-use Rattle.papaya_tables.specs.declared.probe.Probe.{Probe}
-use Rattle.papaya_tables.specs.declared.setting.Setting.{Setting}
-use Rattle.papaya_tables.specs.declared.table.Table.{Table}
-use Rattle.papaya_resize.specs.declared.copier.Copier.{Copier}
-use Rattle.papaya_resize.specs.declared.copier.Copying.TheVariants as at
+use Rattle.papaya_rule.specs.Given.SeizeWords.Mem.{Mem, value_at, word_at, Can, Took}
+use Rattle.papaya_rule.specs.Given.SeizeWords.Plan.{May, Steps}
+use Rattle.papaya_rule.proofs.Given.SeizeWords.OneOwner.Operations.{may_load, loaded}
+use Rattle.papaya_rule.proofs.Given.SeizeWords.Plans.{see_if, ends_if}
+use Rattle.papaya_rule.specs.Given.Seize.World.{World}
+use Rattle.papaya_rule.specs.Given.Tables.Chunks.{is_incremental}
+use Rattle.papaya_rule.specs.Given.Resize.CopierStates.{standing}
+use Rattle.papaya_rule.specs.Given.Resize.CopierPlaces.{next_try, place_read, probes, to}
+use Rattle.papaya_rule.specs.Given.Tables.TablePlaces.{at_place}
+use Rattle.papaya_rule.specs.Given.Tables.declared.node.Node.{Node}
+use Rattle.papaya_rule.specs.Given.Resize.declared.outcome.Outcome.{Outcome}
+use Rattle.papaya_rule.specs.Given.Resize.declared.outcome.Outcome.TheVariants.{Goes}
+use Rattle.papaya_rule.specs.Given.Tables.declared.probe.Probe.{Probe}
+use Rattle.papaya_rule.specs.Given.Tables.declared.setting.Setting.{Setting}
+use Rattle.papaya_rule.specs.Given.Tables.declared.table.Table.{Table}
+use Rattle.papaya_rule.specs.Given.Resize.declared.copier.Copier.{Copier}
+use Rattle.papaya_rule.specs.Given.Resize.declared.copier.Copying.TheVariants as at
 use Rattle.papaya_rule.specs.Chart.{Chart, Place, Empty}
 use Rattle.papaya_rule.specs.Rule.{tried}
 use Rattle.papaya_rule.specs.Words.{Blocks, place_word}

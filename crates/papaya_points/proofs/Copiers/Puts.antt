@@ -1,29 +1,29 @@
 -- In incremental mode, a copier puts its pair into an empty place of a later table, unless another caller was faster.
 use Rattle.std.specs.Prelude.{◌+◌, if◌then◌else◌, Some, Ok}
 use Rattle.std.proofs.Common.{◌≡◌, ◌≢◌, ℕ, ◌<◌, ◌≤◌, Bool, true, false, ◌⊎◌, inl, inr, refl, ap, ap₂, sym, subst, ◌∙◌, arith}
-use Rattle.seize_words.specs.declared.at.At.{At}
-use Rattle.seize_words.specs.declared.at.At.TheVariants.{Word}
-use Rattle.seize_words.specs.Mem.{Mem, value_at, word_at, with_word, Can, Took}
-use Rattle.seize_words.specs.Op.{Exchange, Exchanged}
-use Rattle.seize_words.specs.Plan.{May, Steps}
-use Rattle.seize_words.proofs.OneOwner.Operations.{may_exchange, exchanged}
-use Rattle.seize.specs.World.{World, InUse, IsOwn}
-use Rattle.papaya_tables.specs.Chunks.{is_incremental}
-use Rattle.papaya_tables.specs.Marks.{unmarked_in}
-use Rattle.papaya_tables.specs.Nodes.{deferred_word}
-use Rattle.papaya_resize.specs.CopierStates.{standing, place_done}
-use Rattle.papaya_resize.specs.CopierPlaces.{copied_word, next_try, pair_put, put_told, puts}
-use Rattle.papaya_tables.specs.TablePlaces.{at_place}
-use Rattle.papaya_tables.specs.declared.marks.TheConstants.{BORROWED}
-use Rattle.papaya_tables.specs.declared.node.Node.{Node}
-use Rattle.papaya_resize.specs.declared.outcome.Outcome.{Outcome}
-use Rattle.papaya_resize.specs.declared.outcome.Outcome.TheVariants.{Goes}
-use Rattle.papaya_tables.specs.declared.probe.Probe.{Probe}
-use Rattle.papaya_tables.specs.declared.setting.Setting.{Setting}
-use Rattle.papaya_tables.specs.declared.table.Table.{Table}
-use Rattle.papaya_tables.specs.declared.table_words.TheConstants.{PLACES}
-use Rattle.papaya_resize.specs.declared.copier.Copier.{Copier}
-use Rattle.papaya_resize.specs.declared.copier.Copying.TheVariants as at
+use Rattle.papaya_rule.specs.Given.SeizeWords.declared.at.At.{At}
+use Rattle.papaya_rule.specs.Given.SeizeWords.declared.at.At.TheVariants.{Word}
+use Rattle.papaya_rule.specs.Given.SeizeWords.Mem.{Mem, value_at, word_at, with_word, Can, Took}
+use Rattle.papaya_rule.specs.Given.SeizeWords.Op.{Exchange, Exchanged}
+use Rattle.papaya_rule.specs.Given.SeizeWords.Plan.{May, Steps}
+use Rattle.papaya_rule.proofs.Given.SeizeWords.OneOwner.Operations.{may_exchange, exchanged}
+use Rattle.papaya_rule.specs.Given.Seize.World.{World, InUse, IsOwn}
+use Rattle.papaya_rule.specs.Given.Tables.Chunks.{is_incremental}
+use Rattle.papaya_rule.specs.Given.Tables.Marks.{unmarked_in}
+use Rattle.papaya_rule.specs.Given.Tables.Nodes.{deferred_word}
+use Rattle.papaya_rule.specs.Given.Resize.CopierStates.{standing, place_done}
+use Rattle.papaya_rule.specs.Given.Resize.CopierPlaces.{copied_word, next_try, pair_put, put_told, puts}
+use Rattle.papaya_rule.specs.Given.Tables.TablePlaces.{at_place}
+use Rattle.papaya_rule.specs.Given.Tables.declared.marks.TheConstants.{BORROWED}
+use Rattle.papaya_rule.specs.Given.Tables.declared.node.Node.{Node}
+use Rattle.papaya_rule.specs.Given.Resize.declared.outcome.Outcome.{Outcome}
+use Rattle.papaya_rule.specs.Given.Resize.declared.outcome.Outcome.TheVariants.{Goes}
+use Rattle.papaya_rule.specs.Given.Tables.declared.probe.Probe.{Probe}
+use Rattle.papaya_rule.specs.Given.Tables.declared.setting.Setting.{Setting}
+use Rattle.papaya_rule.specs.Given.Tables.declared.table.Table.{Table}
+use Rattle.papaya_rule.specs.Given.Tables.declared.table_words.TheConstants.{PLACES}
+use Rattle.papaya_rule.specs.Given.Resize.declared.copier.Copier.{Copier}
+use Rattle.papaya_rule.specs.Given.Resize.declared.copier.Copying.TheVariants as at
 use Rattle.papaya_rule.specs.Chart.{Phase, Still, Copying, Chart, Place, Empty, Holds, put_in, is_settled}
 use Rattle.papaya_rule.specs.Rule.{Rule, IsLawful}
 use Rattle.papaya_rule.specs.Moves.{Puts, Allowed, after, lent_place}

@@ -2,17 +2,17 @@
 use Rattle.std.specs.Prelude.{◌≡◌, ℕ, suc, ◌+◌, ◌-◌, ◌<◌, true, nat_lt}
 use Rattle.std.proofs.Common.{sym, subst, inl, inr, arith}
 use Rattle.std.proofs.lemmas.Bool.{ltb-true}
-use Rattle.seize_words.specs.Mem.{Mem, Took, value_at}
-use Rattle.seize_words.specs.Plan.{Steps}
-use Rattle.seize_words.specs.declared.at.At.TheVariants.{Word}
-use Rattle.seize_words.proofs.OneOwner.Operations.{loaded}
-use Rattle.seize_words.proofs.Plans.{ends_if}
-use Rattle.seize.specs.declared.progress.Progress.{Progress}
-use Rattle.seize.specs.declared.progress.Progress.TheVariants as progress
-use Rattle.papaya_resize.specs.declared.sum.Sum.{Sum}
-use Rattle.papaya_resize.specs.declared.sum.Summing.{Summing}
-use Rattle.papaya_resize.specs.declared.sum.Summing.TheVariants as sums
-use Rattle.papaya_resize.specs.Sum.{added, plan_at, sum_plan}
+use Rattle.papaya_rule.specs.Given.SeizeWords.Mem.{Mem, Took, value_at}
+use Rattle.papaya_rule.specs.Given.SeizeWords.Plan.{Steps}
+use Rattle.papaya_rule.specs.Given.SeizeWords.declared.at.At.TheVariants.{Word}
+use Rattle.papaya_rule.proofs.Given.SeizeWords.OneOwner.Operations.{loaded}
+use Rattle.papaya_rule.proofs.Given.SeizeWords.Plans.{ends_if}
+use Rattle.papaya_rule.specs.Given.Seize.declared.progress.Progress.{Progress}
+use Rattle.papaya_rule.specs.Given.Seize.declared.progress.Progress.TheVariants as progress
+use Rattle.papaya_rule.specs.Given.Resize.declared.sum.Sum.{Sum}
+use Rattle.papaya_rule.specs.Given.Resize.declared.sum.Summing.{Summing}
+use Rattle.papaya_rule.specs.Given.Resize.declared.sum.Summing.TheVariants as sums
+use Rattle.papaya_rule.specs.Given.Resize.Sum.{added, plan_at, sum_plan}
 use Rattle.papaya_points.specs.Measures.{IsBelow}
 use Rattle.papaya_points.specs.MeasuresTables.{shards_left, number_of_sum}
 

@@ -1,18 +1,18 @@
 -- The steps of a counting: each reads one shard.
 use Rattle.std.specs.Prelude.{◌≡◌, ℕ, ◌+◌, ◌≤◌, true, nat_lt, IsSome}
 use Rattle.std.proofs.Common.{refl, ap, sym, subst, inl, inr, arith}
-use Rattle.seize_words.specs.Mem.{Mem, Can, Took, value_at, word_at}
-use Rattle.seize_words.specs.Plan.{May, Steps}
-use Rattle.seize_words.specs.declared.at.At.TheVariants.{Word}
-use Rattle.seize_words.proofs.OneOwner.Operations.{may_load, loaded}
-use Rattle.seize_words.proofs.Plans.{see_if, ends_if}
-use Rattle.seize.specs.declared.progress.Progress.{Progress}
-use Rattle.papaya_tables.specs.declared.node.Node.{Node}
-use Rattle.papaya_tables.specs.declared.setting.Setting.{Setting}
-use Rattle.papaya_resize.specs.declared.sum.Sum.{Sum}
-use Rattle.papaya_resize.specs.declared.sum.Summing.{Summing}
-use Rattle.papaya_resize.specs.declared.sum.Summing.TheVariants as sums
-use Rattle.papaya_resize.specs.Sum.{added, plan_at, sum_plan}
+use Rattle.papaya_rule.specs.Given.SeizeWords.Mem.{Mem, Can, Took, value_at, word_at}
+use Rattle.papaya_rule.specs.Given.SeizeWords.Plan.{May, Steps}
+use Rattle.papaya_rule.specs.Given.SeizeWords.declared.at.At.TheVariants.{Word}
+use Rattle.papaya_rule.proofs.Given.SeizeWords.OneOwner.Operations.{may_load, loaded}
+use Rattle.papaya_rule.proofs.Given.SeizeWords.Plans.{see_if, ends_if}
+use Rattle.papaya_rule.specs.Given.Seize.declared.progress.Progress.{Progress}
+use Rattle.papaya_rule.specs.Given.Tables.declared.node.Node.{Node}
+use Rattle.papaya_rule.specs.Given.Tables.declared.setting.Setting.{Setting}
+use Rattle.papaya_rule.specs.Given.Resize.declared.sum.Sum.{Sum}
+use Rattle.papaya_rule.specs.Given.Resize.declared.sum.Summing.{Summing}
+use Rattle.papaya_rule.specs.Given.Resize.declared.sum.Summing.TheVariants as sums
+use Rattle.papaya_rule.specs.Given.Resize.Sum.{added, plan_at, sum_plan}
 use Rattle.papaya_points.specs.FactsTables.{CountsShards, SumFacts}
 use Rattle.papaya_points.specs.Told.{SumTold}
 use Rattle.papaya_rule.proofs.World.WentWrote.{HasCounter}

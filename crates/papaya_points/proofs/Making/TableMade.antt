@@ -2,33 +2,33 @@
 use Rattle.std.specs.Prelude.{◌≡◌, ℕ, suc, ◌+◌, ◌/◌, ◌%◌, ◌^◌, Bool, [], IsSome}
 use Rattle.std.specs.Int.{IsPowerOfTwo}
 use Rattle.std.proofs.Common.{refl, ap, sym, subst, ◌∙◌, inl, inr, arith}
-use Rattle.seize_words.specs.Op.{Store, Stored}
-use Rattle.seize_words.specs.Mem.{Mem, Can, Took, value_at, word_at, with_word}
-use Rattle.seize_words.specs.Plan.{Now, May, Steps, plan_as}
-use Rattle.seize_words.specs.declared.at.At.{At}
-use Rattle.seize_words.specs.declared.at.At.TheVariants.{Root, Word}
-use Rattle.seize_words.proofs.OneOwner.Operations.{may_store, stored, may_make, made as make_made}
-use Rattle.seize_words.proofs.Plans.{as_may}
-use Rattle.seize_rule.proofs.Rows.Leaving.{steps_back}
-use Rattle.seize.specs.World.{World, IsOwn}
-use Rattle.seize.specs.declared.progress.Progress.{Progress}
-use Rattle.seize.specs.declared.progress.Progress.TheVariants as progress
-use Rattle.papaya_tables.specs.Nodes.{deferred_word}
-use Rattle.papaya_tables.specs.Lengths.{next_len, IsTableLen}
-use Rattle.papaya_resize.specs.NewTable.{standing, goes, counted, with_block, after_making, made, makes, promotes, making_of}
-use Rattle.papaya_resize.specs.Sum.{sum_plan}
-use Rattle.papaya_tables.proofs.Lists.{its_list, has_list_word}
-use Rattle.papaya_tables.specs.declared.lengths.Reason.{Reason}
-use Rattle.papaya_tables.specs.declared.node.Node.{Node}
-use Rattle.papaya_tables.specs.declared.node.Node.TheVariants as node
-use Rattle.papaya_tables.specs.declared.setting.Setting.{Setting}
-use Rattle.papaya_tables.specs.declared.status.TheConstants.Status.{PENDING, PROMOTED}
-use Rattle.papaya_tables.specs.declared.table.Table.{Table}
-use Rattle.papaya_tables.specs.declared.table_words.TheConstants.{NEXT, STATUS, PLACES}
-use Rattle.papaya_resize.specs.declared.sum.Sum.{Sum}
-use Rattle.papaya_resize.specs.declared.new_table.NewTable.{NewTable}
-use Rattle.papaya_resize.specs.declared.new_table.Making.{Making as Point}
-use Rattle.papaya_resize.specs.declared.new_table.Making.TheVariants as at
+use Rattle.papaya_rule.specs.Given.SeizeWords.Op.{Store, Stored}
+use Rattle.papaya_rule.specs.Given.SeizeWords.Mem.{Mem, Can, Took, value_at, word_at, with_word}
+use Rattle.papaya_rule.specs.Given.SeizeWords.Plan.{Now, May, Steps, plan_as}
+use Rattle.papaya_rule.specs.Given.SeizeWords.declared.at.At.{At}
+use Rattle.papaya_rule.specs.Given.SeizeWords.declared.at.At.TheVariants.{Root, Word}
+use Rattle.papaya_rule.proofs.Given.SeizeWords.OneOwner.Operations.{may_store, stored, may_make, made as make_made}
+use Rattle.papaya_rule.proofs.Given.SeizeWords.Plans.{as_may}
+use Rattle.papaya_rule.proofs.Given.SeizeRule.Rows.Leaving.{steps_back}
+use Rattle.papaya_rule.specs.Given.Seize.World.{World, IsOwn}
+use Rattle.papaya_rule.specs.Given.Seize.declared.progress.Progress.{Progress}
+use Rattle.papaya_rule.specs.Given.Seize.declared.progress.Progress.TheVariants as progress
+use Rattle.papaya_rule.specs.Given.Tables.Nodes.{deferred_word}
+use Rattle.papaya_rule.specs.Given.Tables.Lengths.{next_len, IsTableLen}
+use Rattle.papaya_rule.specs.Given.Resize.NewTable.{standing, goes, counted, with_block, after_making, made, makes, promotes, making_of}
+use Rattle.papaya_rule.specs.Given.Resize.Sum.{sum_plan}
+use Rattle.papaya_rule.proofs.Given.Tables.Lists.{its_list, has_list_word}
+use Rattle.papaya_rule.specs.Given.Tables.declared.lengths.Reason.{Reason}
+use Rattle.papaya_rule.specs.Given.Tables.declared.node.Node.{Node}
+use Rattle.papaya_rule.specs.Given.Tables.declared.node.Node.TheVariants as node
+use Rattle.papaya_rule.specs.Given.Tables.declared.setting.Setting.{Setting}
+use Rattle.papaya_rule.specs.Given.Tables.declared.status.TheConstants.Status.{PENDING, PROMOTED}
+use Rattle.papaya_rule.specs.Given.Tables.declared.table.Table.{Table}
+use Rattle.papaya_rule.specs.Given.Tables.declared.table_words.TheConstants.{NEXT, STATUS, PLACES}
+use Rattle.papaya_rule.specs.Given.Resize.declared.sum.Sum.{Sum}
+use Rattle.papaya_rule.specs.Given.Resize.declared.new_table.NewTable.{NewTable}
+use Rattle.papaya_rule.specs.Given.Resize.declared.new_table.Making.{Making as Point}
+use Rattle.papaya_rule.specs.Given.Resize.declared.new_table.Making.TheVariants as at
 use Rattle.papaya_rule.specs.Chart.{Chart}
 use Rattle.papaya_rule.specs.Words.{Blocks}
 use Rattle.papaya_rule.specs.Maps.{IsTable}

@@ -2,21 +2,21 @@
 use Rattle.std.specs.Prelude.{◌≡◌, ℕ, suc, ◌^◌, ◌<◌, nat_le, cond, max, Ok}
 use Rattle.std.specs.Int.{IsPowerOfTwo}
 use Rattle.std.proofs.Common.{refl, ap, sym, subst, inl, inr, arith}
-use Rattle.seize_words.specs.declared.at.At.TheVariants.{Root, Word}
-use Rattle.seize.specs.World.{World}
-use Rattle.papaya_tables.specs.Chunks.{is_incremental}
-use Rattle.papaya_tables.specs.Lengths.{next_turn, IsTableLen}
-use Rattle.papaya_tables.specs.Probes.{limit_of}
-use Rattle.papaya_resize.specs.NewTable.{planned, making_of, first_table, behind, begun_for, table_after, table_reserved}
-use Rattle.papaya_tables.specs.declared.lengths.Reason.{Reason}
-use Rattle.papaya_tables.specs.declared.lengths.Reason.TheVariants.{Full, Reserved, NoPlace}
-use Rattle.papaya_tables.specs.declared.node.Node.{Node}
-use Rattle.papaya_tables.specs.declared.setting.Setting.{Setting}
-use Rattle.papaya_tables.specs.declared.status.TheConstants.Status.{ABORTED}
-use Rattle.papaya_tables.specs.declared.table.Table.{Table}
-use Rattle.papaya_tables.specs.declared.table_words.TheConstants.{NEXT}
-use Rattle.papaya_resize.specs.declared.new_table.Making.{Making as Point}
-use Rattle.papaya_resize.specs.declared.new_table.Making.TheVariants as at
+use Rattle.papaya_rule.specs.Given.SeizeWords.declared.at.At.TheVariants.{Root, Word}
+use Rattle.papaya_rule.specs.Given.Seize.World.{World}
+use Rattle.papaya_rule.specs.Given.Tables.Chunks.{is_incremental}
+use Rattle.papaya_rule.specs.Given.Tables.Lengths.{next_turn, IsTableLen}
+use Rattle.papaya_rule.specs.Given.Tables.Probes.{limit_of}
+use Rattle.papaya_rule.specs.Given.Resize.NewTable.{planned, making_of, first_table, behind, begun_for, table_after, table_reserved}
+use Rattle.papaya_rule.specs.Given.Tables.declared.lengths.Reason.{Reason}
+use Rattle.papaya_rule.specs.Given.Tables.declared.lengths.Reason.TheVariants.{Full, Reserved, NoPlace}
+use Rattle.papaya_rule.specs.Given.Tables.declared.node.Node.{Node}
+use Rattle.papaya_rule.specs.Given.Tables.declared.setting.Setting.{Setting}
+use Rattle.papaya_rule.specs.Given.Tables.declared.status.TheConstants.Status.{ABORTED}
+use Rattle.papaya_rule.specs.Given.Tables.declared.table.Table.{Table}
+use Rattle.papaya_rule.specs.Given.Tables.declared.table_words.TheConstants.{NEXT}
+use Rattle.papaya_rule.specs.Given.Resize.declared.new_table.Making.{Making as Point}
+use Rattle.papaya_rule.specs.Given.Resize.declared.new_table.Making.TheVariants as at
 use Rattle.papaya_rule.specs.Chart.{Chart}
 use Rattle.papaya_rule.specs.Words.{Blocks}
 use Rattle.papaya_rule.specs.Maps.{IsTable}

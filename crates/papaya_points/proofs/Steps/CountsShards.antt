@@ -2,15 +2,15 @@
 use Rattle.std.specs.Prelude.{◌≡◌, ℕ, ◌+◌, ◌%◌, ◌^◌, Bool, bit_and, [], Some, IsSome}
 use Rattle.std.proofs.Common.{refl, ap, sym, subst, ◌∙◌, inl, inr}
 use Rattle.std.proofs.lemmas.Nat.{and_le_r}
-use Rattle.seize_words.specs.declared.at.At.{At}
-use Rattle.seize_words.specs.declared.at.At.TheVariants.{Word}
-use Rattle.seize_words.specs.Mem.{Mem, value_at, word_at, with_word}
-use Rattle.seize_words.specs.Op.{Add, Found}
-use Rattle.seize.specs.World.{World, IsOwn}
-use Rattle.papaya_tables.specs.Nodes.{deferred_word}
-use Rattle.papaya_tables.specs.declared.node.Node.{Node}
-use Rattle.papaya_tables.specs.declared.node.Node.TheVariants as node
-use Rattle.papaya_tables.specs.declared.setting.Setting.{Setting}
+use Rattle.papaya_rule.specs.Given.SeizeWords.declared.at.At.{At}
+use Rattle.papaya_rule.specs.Given.SeizeWords.declared.at.At.TheVariants.{Word}
+use Rattle.papaya_rule.specs.Given.SeizeWords.Mem.{Mem, value_at, word_at, with_word}
+use Rattle.papaya_rule.specs.Given.SeizeWords.Op.{Add, Found}
+use Rattle.papaya_rule.specs.Given.Seize.World.{World, IsOwn}
+use Rattle.papaya_rule.specs.Given.Tables.Nodes.{deferred_word}
+use Rattle.papaya_rule.specs.Given.Tables.declared.node.Node.{Node}
+use Rattle.papaya_rule.specs.Given.Tables.declared.node.Node.TheVariants as node
+use Rattle.papaya_rule.specs.Given.Tables.declared.setting.Setting.{Setting}
 use Rattle.papaya_rule.specs.Chart.{Chart}
 use Rattle.papaya_rule.specs.Words.{Blocks}
 use Rattle.papaya_rule.specs.InWorld.{InFootprint, IsMapIn, Went}

@@ -1,39 +1,39 @@
 -- No step of a call writes the root of a map that has one, but the exchange that promotes a table.
 use Rattle.std.specs.Prelude.{◌==◌, Option, Some, None}
 use Rattle.std.proofs.Common.{◌≡◌, ℕ, Bool, true, false, inl, inr, refl}
-use Rattle.seize_words.specs.Mem.{Mem, value_at, Took}
-use Rattle.seize_words.specs.Plan.{Steps}
+use Rattle.papaya_rule.specs.Given.SeizeWords.Mem.{Mem, value_at, Took}
+use Rattle.papaya_rule.specs.Given.SeizeWords.Plan.{Steps}
 use Rattle.papaya_raw.specs.Call.{looked, looks_for, makes_of, first_made, next_made, helped, copied, disposed, plan_at as call_plan_at}
 use Rattle.papaya_raw.specs.CallFills.{putting_by, fill_by, fills_with, asks_at}
 use Rattle.papaya_raw.specs.Replies.{value_for}
-use Rattle.papaya_resize.specs.Copier.{plan_at as copier_plan_at}
-use Rattle.papaya_resize.specs.CopierFurther.{grown, remade}
-use Rattle.papaya_resize.specs.Dispose.{plan_at as dispose_plan_at}
-use Rattle.papaya_resize.specs.Lookup.{plan_at as lookup_plan_at, lookup_plan}
-use Rattle.papaya_resize.specs.NewTable.{counted, plan_at as new_table_plan_at, new_table_plan}
-use Rattle.papaya_resize.specs.Sum.{plan_at as sum_plan_at, sum_plan}
-use Rattle.papaya_tables.specs.declared.node.Node.{Node}
+use Rattle.papaya_rule.specs.Given.Resize.Copier.{plan_at as copier_plan_at}
+use Rattle.papaya_rule.specs.Given.Resize.CopierFurther.{grown, remade}
+use Rattle.papaya_rule.specs.Given.Resize.Dispose.{plan_at as dispose_plan_at}
+use Rattle.papaya_rule.specs.Given.Resize.Lookup.{plan_at as lookup_plan_at, lookup_plan}
+use Rattle.papaya_rule.specs.Given.Resize.NewTable.{counted, plan_at as new_table_plan_at, new_table_plan}
+use Rattle.papaya_rule.specs.Given.Resize.Sum.{plan_at as sum_plan_at, sum_plan}
+use Rattle.papaya_rule.specs.Given.Tables.declared.node.Node.{Node}
 use Rattle.papaya_raw.specs.declared.machines.answer.Called.{Called}
 use Rattle.papaya_raw.specs.declared.machines.asking.Asking.{Asking}
 use Rattle.papaya_raw.specs.declared.machines.asking.Asking.TheVariants as asking
 use Rattle.papaya_raw.specs.declared.machines.call.KeyCall.{KeyCall}
 use Rattle.papaya_raw.specs.declared.machines.call.Calling.{Calling}
 use Rattle.papaya_raw.specs.declared.machines.call.Calling.TheVariants as at
-use Rattle.papaya_resize.specs.declared.copier.Copier.{Copier}
-use Rattle.papaya_resize.specs.declared.copier.Copying.{Copying}
-use Rattle.papaya_resize.specs.declared.copier.Copying.TheVariants as copies
-use Rattle.papaya_resize.specs.declared.dispose.Dispose.{Dispose}
-use Rattle.papaya_resize.specs.declared.dispose.Disposing.{Disposing}
-use Rattle.papaya_resize.specs.declared.dispose.Disposing.TheVariants as disposes
-use Rattle.papaya_resize.specs.declared.lookup.Lookup.{Lookup}
-use Rattle.papaya_resize.specs.declared.lookup.Looking.{Looking}
-use Rattle.papaya_resize.specs.declared.lookup.Looking.TheVariants as looks
-use Rattle.papaya_resize.specs.declared.new_table.NewTable.{NewTable}
-use Rattle.papaya_resize.specs.declared.new_table.Making.{Making}
-use Rattle.papaya_resize.specs.declared.new_table.Making.TheVariants as making
-use Rattle.papaya_resize.specs.declared.sum.Sum.{Sum}
-use Rattle.papaya_resize.specs.declared.sum.Summing.{Summing}
-use Rattle.papaya_resize.specs.declared.sum.Summing.TheVariants as sums
+use Rattle.papaya_rule.specs.Given.Resize.declared.copier.Copier.{Copier}
+use Rattle.papaya_rule.specs.Given.Resize.declared.copier.Copying.{Copying}
+use Rattle.papaya_rule.specs.Given.Resize.declared.copier.Copying.TheVariants as copies
+use Rattle.papaya_rule.specs.Given.Resize.declared.dispose.Dispose.{Dispose}
+use Rattle.papaya_rule.specs.Given.Resize.declared.dispose.Disposing.{Disposing}
+use Rattle.papaya_rule.specs.Given.Resize.declared.dispose.Disposing.TheVariants as disposes
+use Rattle.papaya_rule.specs.Given.Resize.declared.lookup.Lookup.{Lookup}
+use Rattle.papaya_rule.specs.Given.Resize.declared.lookup.Looking.{Looking}
+use Rattle.papaya_rule.specs.Given.Resize.declared.lookup.Looking.TheVariants as looks
+use Rattle.papaya_rule.specs.Given.Resize.declared.new_table.NewTable.{NewTable}
+use Rattle.papaya_rule.specs.Given.Resize.declared.new_table.Making.{Making}
+use Rattle.papaya_rule.specs.Given.Resize.declared.new_table.Making.TheVariants as making
+use Rattle.papaya_rule.specs.Given.Resize.declared.sum.Sum.{Sum}
+use Rattle.papaya_rule.specs.Given.Resize.declared.sum.Summing.{Summing}
+use Rattle.papaya_rule.specs.Given.Resize.declared.sum.Summing.TheVariants as sums
 use Rattle.papaya_points.specs.Told.{IsRowOf, IsRowOfCopier, IsRowOfCall}
 use Rattle.papaya_rule.proofs.World.RootSpared.{PlanSparesRoot, spares_as, RootStays, step_stays}
 

@@ -1,12 +1,12 @@
 -- A step that makes no block, takes none away and rewrites no value leaves the values of all blocks.
 use Rattle.std.specs.Prelude.{◌≡◌, ℕ, ◌+◌, ◌%◌, ◌^◌, IsSome, bit_or}
 use Rattle.std.proofs.Common.{refl, ap, ◌∙◌, inl, inr}
-use Rattle.seize_words.specs.declared.at.At.{At}
-use Rattle.seize_words.specs.Op.{Op, Out, Load, Store, Swap, Add, Or, Exchange, Make, Take, Rewrite, Room}
-use Rattle.seize_words.specs.Mem.{Mem, Can, Took, value_at, word_at, with_word}
-use Rattle.seize_words.specs.Plan.{Plan, Then, Turn, Do, Now, May, Steps, plan_as}
-use Rattle.seize_words.proofs.OneOwner.AfterWrites.{value_at-with_word}
-use Rattle.seize_words.proofs.OneOwner.Operations.{loaded, stored, swapped, added, ored, exchanged}
+use Rattle.papaya_rule.specs.Given.SeizeWords.declared.at.At.{At}
+use Rattle.papaya_rule.specs.Given.SeizeWords.Op.{Op, Out, Load, Store, Swap, Add, Or, Exchange, Make, Take, Rewrite, Room}
+use Rattle.papaya_rule.specs.Given.SeizeWords.Mem.{Mem, Can, Took, value_at, word_at, with_word}
+use Rattle.papaya_rule.specs.Given.SeizeWords.Plan.{Plan, Then, Turn, Do, Now, May, Steps, plan_as}
+use Rattle.papaya_rule.proofs.Given.SeizeWords.OneOwner.AfterWrites.{value_at-with_word}
+use Rattle.papaya_rule.proofs.Given.SeizeWords.OneOwner.Operations.{loaded, stored, swapped, added, ored, exchanged}
 
 module _ {T : Type 0} where
   -- the operation makes no block, takes none away and rewrites no value

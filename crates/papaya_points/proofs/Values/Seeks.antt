@@ -1,9 +1,9 @@
 -- A call that seeks has changed nothing, and has its pair in its own block, if it has one.
-use Rattle.std.specs.Prelude.{◌≡◌, ◌≢◌, ℕ, ◌<◌, ◌^◌, Bool, Option, ◌⊎◌}
-use Rattle.std.proofs.Common.{refl, inl, inr, arith}
-use Rattle.seize.specs.World.{World}
-use Rattle.papaya_tables.specs.declared.node.Node.{Node}
-use Rattle.papaya_tables.specs.declared.setting.Setting.{Setting}
+use Rattle.std.specs.Prelude.{◌≡◌, ℕ, Bool, Option, ◌⊎◌}
+use Rattle.std.proofs.Common.{refl, inl, inr}
+use Rattle.papaya_rule.specs.Given.Seize.World.{World}
+use Rattle.papaya_rule.specs.Given.Tables.declared.node.Node.{Node}
+use Rattle.papaya_rule.specs.Given.Tables.declared.setting.Setting.{Setting}
 use Rattle.papaya_raw.specs.declared.machines.answer.KeyAnswer.{KeyAnswer}
 use Rattle.papaya_raw.specs.declared.machines.answer.KeyAnswer.TheVariants as answers
 use Rattle.papaya_raw.specs.declared.machines.asking.Asking.TheVariants as asking
@@ -12,32 +12,11 @@ use Rattle.papaya_raw.specs.declared.machines.call.Calling.{Calling}
 use Rattle.papaya_raw.specs.declared.machines.call.Calling.TheVariants as at
 use Rattle.papaya_rule.specs.Chart.{Chart}
 use Rattle.papaya_rule.specs.Words.{Blocks}
-use Rattle.papaya_points.specs.FactsCalls.{Change, Unchanged, Stored, Replaced, Removed, Holding, Apart, InBlock, ByReply, holding, Seeks, IsOwnPair, HasOwn, HasIts, Tells, CallingFacts, CallFacts}
-use Rattle.papaya_points.proofs.Calls.Probes.{own_block}
+use Rattle.papaya_points.specs.FactsCalls.{Change, Unchanged, Stored, Replaced, Removed, Holding, Apart, InBlock, ByReply, holding, IsOwnPair, HasOwn, HasIts, Tells, CallingFacts}
 use Rattle.papaya_points.proofs.Values.Sought.{IsSought, IsLook}
 
 module _ {K V Q : Type 0} (same : K → K → Bool) (hash : K → ℕ) (asks : Q → K → Bool) (w : World (Node K V)) (caller : ℕ) (setting : Setting) (c : Chart K) (blocks : Blocks)
     (keys : K → Bool) (change : Change) where
-  sought_seeks : (stands : Calling) → IsSought stands → Seeks same hash asks w caller setting c blocks keys change stands
-  sought_seeks at.Makes so = absurd so
-  sought_seeks (at.Looks lookup) so = tt
-  sought_seeks at.Roots so = tt
-  sought_seeks at.Probes so = tt
-  sought_seeks (at.Tries word new) so = tt
-  sought_seeks (at.Counts removed) so = absurd so
-  sought_seeks at.Nexts so = tt
-  sought_seeks (at.Firsts making) so = tt
-  sought_seeks (at.Allocs making) so = tt
-  sought_seeks (at.Helps copier goal) so = tt
-  sought_seeks (at.Copies copier) so = tt
-  sought_seeks (at.Disposes dispose answer) so = absurd so
-  sought_seeks (at.Asks asks_at) so = tt
-  sought_seeks (at.Drops end) so = tt
-  sought_seeks (at.Over end) so = absurd so
-
-  pub sought_unchanged : (p : KeyCall K V Q) → CallFacts same hash asks w caller setting c blocks keys change p → IsSought p.stands → change ≡ Unchanged
-  sought_unchanged p f so = f.unchanged (sought_seeks p.stands so)
-
   -- it has no block of its own, or one with its pair
   abbrev pub HasNoneOr : ℕ → ℕ → Type 0
   HasNoneOr own code = (own ≡ 0) ⊎ IsOwnPair same hash asks w caller setting c blocks keys change own code
@@ -71,10 +50,6 @@ module _ {K V Q : Type 0} (same : K → K → Bool) (hash : K → ℕ) (asks : Q
     sought_own (at.Asks (asking.GivesUp word)) so f = its_or p f.0
     sought_own (at.Drops end) so f = inr f.1
     sought_own (at.Over end) so f = absurd so
-
-  module _ (own code : ℕ) (few : code < 2 ^ 64) (h : IsOwnPair same hash asks w caller setting c blocks keys change own code) where
-    pub its_some : own ≢ 0
-    its_some z = let b = own_block same hash asks caller setting keys w c blocks change own code few h in let small = h.number in omega (arith, z, b, small.0)
 
 -- an answer that tells a change is none of one that changes nothing
 pub look_unchanged : {K V Q : Type 0} (same : K → K → Bool) (hash : K → ℕ) (asks : Q → K → Bool) (w : World (Node K V)) (caller : ℕ) (setting : Setting) (c : Chart K) (blocks : Blocks)

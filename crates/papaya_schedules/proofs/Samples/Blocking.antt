@@ -2,8 +2,8 @@
 use Rattle.std.specs.Prelude.{codes}
 use Rattle.std.proofs.Common.{◌≡◌, ◌≤◌, ℕ, List, [], ◌∷◌, ◌++◌, inl, refl, arith}
 use Rattle.seize_words.specs.declared.fault.Fault.TheVariants.{Memory}
-use Rattle.papaya_tables.specs.declared.lengths.Reason.TheVariants.{Full, NoPlace}
-use Rattle.papaya_tables.specs.declared.resize_mode.ResizeMode.TheVariants.{Blocking}
+use Rattle.papaya_raw.specs.Given.Tables.declared.lengths.Reason.TheVariants.{Full, NoPlace}
+use Rattle.papaya_raw.specs.Given.Tables.declared.resize_mode.ResizeMode.TheVariants.{Blocking}
 use Rattle.papaya_schedules.specs.declared.call.Call.TheVariants.{On}
 use Rattle.papaya_schedules.specs.declared.call.OneKey.TheVariants.{Get, Insert}
 use Rattle.papaya_schedules.specs.declared.call.Answer.TheVariants as answer

@@ -2,7 +2,7 @@
 use Rattle.std.specs.Prelude.{codes, drop, nat_eq}
 use Rattle.std.proofs.Common.{ℕ, true, false, List, [], ◌∷◌, inl, inr, refl, arith}
 use Rattle.seize_words.specs.declared.fault.Fault.TheVariants.{RootsUsedUp}
-use Rattle.papaya_tables.specs.declared.resize_mode.ResizeMode.TheVariants.{Incremental, Blocking}
+use Rattle.papaya_raw.specs.Given.Tables.declared.resize_mode.ResizeMode.TheVariants.{Incremental, Blocking}
 use Rattle.papaya_schedules.specs.declared.call.Call.{Call}
 use Rattle.papaya_schedules.specs.declared.call.Call.TheVariants.{On}
 use Rattle.papaya_schedules.specs.declared.call.OneKey.TheVariants.{Get, Insert, Remove}

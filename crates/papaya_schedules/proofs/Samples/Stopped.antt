@@ -2,7 +2,7 @@
 use Rattle.std.specs.Prelude.{codes, nat_eq, length}
 use Rattle.std.proofs.Common.{◌≡◌, ℕ, false, List, [], ◌∷◌, inl, inr, refl, arith}
 use Rattle.seize_words.specs.declared.fault.Fault.TheVariants.{ZeroChunk, Busy, Memory}
-use Rattle.papaya_tables.specs.declared.resize_mode.ResizeMode.TheVariants.{Incremental}
+use Rattle.papaya_raw.specs.Given.Tables.declared.resize_mode.ResizeMode.TheVariants.{Incremental}
 use Rattle.papaya_schedules.specs.declared.call.Call.TheVariants.{On, Clear}
 use Rattle.papaya_schedules.specs.declared.call.OneKey.TheVariants.{Get, Insert}
 use Rattle.papaya_schedules.specs.declared.call.Answer.TheVariants as answer

@@ -2,20 +2,20 @@
 use Rattle.std.specs.Prelude.{Option}
 use Rattle.std.proofs.Common.{◌≡◌, ℕ, zero, suc, ◌+◌, ◌<◌, ◌≤◌, ◌^◌, false, List, [], ◌∷◌, length, inl, inr, refl, arith, ap, sym, subst, ◌∙◌}
 use Rattle.std.proofs.lemmas.Bool.{cases_eq, cases_lt}
-use Rattle.seize.specs.declared.states.TheConstants.{LAST_SLOT}
-use Rattle.seize.specs.declared.rows.enter.Unregister.{Unregister}
-use Rattle.seize.specs.Law.{is_retired}
-use Rattle.seize.specs.WaitingSets.{Sets}
-use Rattle.seize.specs.World.{World, Use, Vacant, Outside, Changing, Frees, Unregister', IsOutside, with_row, with_use, at_start}
-use Rattle.seize_waiting.proofs.Flushes.{much}
-use Rattle.seize_rule.proofs.World.Start.{start_good}
-use Rattle.seize_ends.proofs.Batches.Rows.{HeldByRows, runs_held, start_held}
+use Rattle.seize_alone.specs.Given.Seize.declared.states.TheConstants.{LAST_SLOT}
+use Rattle.seize_alone.specs.Given.Seize.declared.rows.enter.Unregister.{Unregister}
+use Rattle.seize_alone.specs.Given.Seize.Law.{is_retired}
+use Rattle.seize_alone.specs.Given.Seize.WaitingSets.{Sets}
+use Rattle.seize_alone.specs.Given.Seize.World.{World, Use, Vacant, Outside, Changing, Frees, Unregister', IsOutside, with_row, with_use, at_start}
+use Rattle.seize_alone.proofs.Given.SeizeWaiting.Flushes.{much}
+use Rattle.seize_alone.proofs.Given.SeizeRule.World.Start.{start_good}
+use Rattle.seize_alone.proofs.Given.SeizeEnds.Batches.Rows.{HeldByRows, runs_held, start_held}
 use Rattle.seize_alone.proofs.Histories.Reached.{runs_reached}
-use Rattle.seize_sets.proofs.Reclaims.Ends.{none_retired}
-use Rattle.seize_sets.proofs.Slots.Kept.{given_up_vacant}
-use Rattle.seize_sets.proofs.Turns.All.{calls_come}
-use Rattle.seize_sets.proofs.Turns.Begins.{Shown}
-use Rattle.seize_rule.proofs.Rows.Short.{tries_on}
+use Rattle.seize_alone.proofs.Given.SeizeSets.Reclaims.Ends.{none_retired}
+use Rattle.seize_alone.proofs.Given.SeizeSets.Slots.Kept.{given_up_vacant}
+use Rattle.seize_alone.proofs.Given.SeizeSets.Turns.All.{calls_come}
+use Rattle.seize_alone.proofs.Given.SeizeSets.Turns.Begins.{Shown}
+use Rattle.seize_alone.proofs.Given.SeizeRule.Rows.Short.{tries_on}
 use Rattle.seize_acts.specs.Reclaimed.{HasNothingLeft, EverythingCanBeReclaimed}
 use Rattle.seize_acts.proofs.Fine.{all_fine}
 use Rattle.seize_acts.proofs.Lost.{behind_others}

@@ -1,25 +1,25 @@
 -- A row that may begin while all others rest can come to its end, and that whole call is a list of its caller's acts.
 use Rattle.std.specs.Prelude.{Option, Some, None, if◌then◌else◌, ◌==◌, ◌++◌}
 use Rattle.std.proofs.Common.{◌≡◌, ℕ, zero, suc, ◌+◌, ◌≤◌, Bool, true, false, List, [], ◌∷◌, refl, arith, ap, sym, subst, ◌∙◌}
-use Rattle.seize_words.specs.Mem.{Mem}
-use Rattle.seize_words.specs.Plan.{Plan, Turn, Do}
-use Rattle.seize.specs.declared.states.TheConstants.{LAST_SLOT, IDLE}
-use Rattle.seize.specs.declared.rows.register.Register.{Register}
-use Rattle.seize.specs.declared.rows.register.Registering.TheVariants as registering
-use Rattle.seize.specs.declared.rows.enter.Unregister.{Unregister}
-use Rattle.seize.specs.Settle.{settle_plan, flushing}
-use Rattle.seize.specs.Leave.{leave_plan, leaving as leaving_slot}
-use Rattle.seize.specs.Defer.{defer_plan}
-use Rattle.seize.specs.Register.{register_plan}
-use Rattle.seize.specs.Enter.{enter_plan, unregister_plan}
-use Rattle.seize.specs.Law.{Entered}
-use Rattle.seize.specs.World as world
-use Rattle.seize.specs.World.{World, Row, Rests, Registers, Enters, Settles, Leaves, Defers, Frees, Use, Vacant, Outside, Inside, Changing, Request, Register', Leave', Flush, Unregister', Steps', Begins, IsTaken, registers_on, settles_on, leaves_on, defers_on, with_row, with_use, one_more}
-use Rattle.seize.specs.Sequence.{RunsOn, Calls, Whole, changes}
-use Rattle.seize_rule.proofs.Rows.Others.{with_here}
-use Rattle.seize_rule.proofs.World.Kept.{row_may}
-use Rattle.seize_rule.proofs.World.Rested.{Rested, Lone, begins_lone, steps_lone, calls_rested}
-use Rattle.seize_ends.proofs.Batches.Rows.{HeldByRows, happens_held, turns_held}
+use Rattle.seize_alone.specs.Given.SeizeWords.Mem.{Mem}
+use Rattle.seize_alone.specs.Given.SeizeWords.Plan.{Plan, Turn, Do}
+use Rattle.seize_alone.specs.Given.Seize.declared.states.TheConstants.{LAST_SLOT, IDLE}
+use Rattle.seize_alone.specs.Given.Seize.declared.rows.register.Register.{Register}
+use Rattle.seize_alone.specs.Given.Seize.declared.rows.register.Registering.TheVariants as registering
+use Rattle.seize_alone.specs.Given.Seize.declared.rows.enter.Unregister.{Unregister}
+use Rattle.seize_alone.specs.Given.Seize.Settle.{settle_plan, flushing}
+use Rattle.seize_alone.specs.Given.Seize.Leave.{leave_plan, leaving as leaving_slot}
+use Rattle.seize_alone.specs.Given.Seize.Defer.{defer_plan}
+use Rattle.seize_alone.specs.Given.Seize.Register.{register_plan}
+use Rattle.seize_alone.specs.Given.Seize.Enter.{enter_plan, unregister_plan}
+use Rattle.seize_alone.specs.Given.Seize.Law.{Entered}
+use Rattle.seize_alone.specs.Given.Seize.World as world
+use Rattle.seize_alone.specs.Given.Seize.World.{World, Row, Rests, Registers, Enters, Settles, Leaves, Defers, Frees, Use, Vacant, Outside, Inside, Changing, Request, Register', Leave', Flush, Unregister', Steps', Begins, IsTaken, registers_on, settles_on, leaves_on, defers_on, with_row, with_use, one_more}
+use Rattle.seize_alone.specs.Given.Seize.Sequence.{RunsOn, Calls, Whole, changes}
+use Rattle.seize_alone.proofs.Given.SeizeRule.Rows.Others.{with_here}
+use Rattle.seize_alone.proofs.Given.SeizeRule.World.Kept.{row_may}
+use Rattle.seize_alone.proofs.Given.SeizeRule.World.Rested.{Rested, Lone, begins_lone, steps_lone, calls_rested}
+use Rattle.seize_alone.proofs.Given.SeizeEnds.Batches.Rows.{HeldByRows, happens_held, turns_held}
 use Rattle.seize_acts.specs.Answers.{Grant, then_on, stepped, is_turn}
 use Rattle.seize_acts.specs.Acts.{Act, Begin, Step, AllDid, begun, rests, is_inside, is_outside, is_taken, row_steps, turns, turned, steps}
 use Rattle.seize_acts.specs.Reclaimed.{is_reclaiming, AllReclaim}

@@ -1,55 +1,55 @@
 -- A slot that can be taken stays as it is with each step of a row, or is taken by it.
 use Rattle.std.specs.Prelude.{Option, IsSome, Ok, ◌&&◌, not}
 use Rattle.std.proofs.Common.{◌≡◌, ℕ, ◌+◌, ◌<◌, Bool, true, false, eqb, eqb-true, length, ◌⊎◌, inl, inr, refl, arith, ap, sym, subst, ◌∙◌}
-use Rattle.seize_words.specs.declared.at.At.TheVariants.{Slot}
-use Rattle.seize_words.specs.Mem.{Mem, Can, Took, after, value_at, word_at, with_word}
-use Rattle.seize_words.specs.Op.{Out, Room, Roomed}
-use Rattle.seize_words.specs.Plan.{Plan, Steps, May, Now}
-use Rattle.seize_words.proofs.OneOwner.Operations.{stored, swapped, exchanged}
-use Rattle.seize.specs.declared.states.TheConstants.{HEAD, FREE, IDLE, ACTIVE, LAST_SLOT}
-use Rattle.seize.specs.declared.progress.Progress.{Progress}
-use Rattle.seize.specs.declared.progress.Progress.TheVariants.{Done}
-use Rattle.seize.specs.declared.rows.settle.Settle.{Settle}
-use Rattle.seize.specs.declared.rows.settle.Settling.{Settling}
-use Rattle.seize.specs.declared.rows.settle.Settling.TheVariants as settling
-use Rattle.seize.specs.declared.rows.settle.Settled.{Settled}
-use Rattle.seize.specs.declared.rows.settle.Settled.TheVariants as settled
-use Rattle.seize.specs.declared.rows.leave.Leave.{Leave}
-use Rattle.seize.specs.declared.rows.leave.Leaving.{Leaving}
-use Rattle.seize.specs.declared.rows.leave.Leaving.TheVariants as leaving
-use Rattle.seize.specs.declared.rows.register.Register.{Register}
-use Rattle.seize.specs.declared.rows.register.Registering.{Registering}
-use Rattle.seize.specs.declared.rows.register.Registering.TheVariants as registering
-use Rattle.seize.specs.declared.rows.enter.Enter.{Enter}
-use Rattle.seize.specs.declared.rows.enter.Unregister.{Unregister}
-use Rattle.seize.specs.declared.rows.defer.Defer.{Defer}
-use Rattle.seize.specs.declared.rows.defer.Deferring.{Deferring}
-use Rattle.seize.specs.declared.rows.defer.Deferring.TheVariants as deferring
-use Rattle.seize.specs.Settle as settles
-use Rattle.seize.specs.Settle.{settle_plan}
-use Rattle.seize.specs.Leave as leaves
-use Rattle.seize.specs.Leave.{list_taken, standing}
-use Rattle.seize.specs.Register as registers
-use Rattle.seize.specs.Register.{can_be_taken}
-use Rattle.seize.specs.Defer as defer
-use Rattle.seize.specs.World.{World, Row, Rests, Registers, Enters, Settles, Leaves, Defers, Frees, Steps'}
-use Rattle.seize_moves.proofs.State.Ghost.{Head, Idle}
-use Rattle.seize_rule.proofs.Words.Named.{words_of, wrote, word_found, write_here, write_apart}
-use Rattle.seize_rule.proofs.Words.View.{View, view}
-use Rattle.seize_rule.proofs.Words.Shows.{HeadIs}
-use Rattle.seize_rule.proofs.Words.Kept.{IsQuietPlan, settle_quiet}
-use Rattle.seize_rule.proofs.Points.Known.{FitsAt, Fits, bare}
-use Rattle.seize_rule.proofs.Points.May.{may_at}
-use Rattle.seize_rule.proofs.Rows.Known.{OnSlot, FitsRow, FitsLeave, FitsDefer, word_of}
-use Rattle.seize_rule.proofs.Rows.Leave.{leaves_may}
-use Rattle.seize_rule.proofs.Rows.Leaving.{steps_back}
-use Rattle.seize_rule.proofs.Rows.Register.{room_view, registers_may}
-use Rattle.seize_rule.proofs.Rows.Slots.{idle_head, enters_may, frees_may}
-use Rattle.seize_rule.proofs.Rows.Deferring.{defers_may}
-use Rattle.seize_rule.proofs.World.Good.{Good}
-use Rattle.seize_rule.proofs.World.Start.{words_good}
-use Rattle.seize_ends.proofs.Batches.Free.{is_field, spares_plan, plan_same}
-use Rattle.seize_ends.proofs.Batches.Rows.{registers_memory, settles_memory, defers_memory}
+use Rattle.seize_alone.specs.Given.SeizeWords.declared.at.At.TheVariants.{Slot}
+use Rattle.seize_alone.specs.Given.SeizeWords.Mem.{Mem, Can, Took, after, value_at, word_at, with_word}
+use Rattle.seize_alone.specs.Given.SeizeWords.Op.{Out, Room, Roomed}
+use Rattle.seize_alone.specs.Given.SeizeWords.Plan.{Plan, Steps, May, Now}
+use Rattle.seize_alone.proofs.Given.SeizeWords.OneOwner.Operations.{stored, swapped, exchanged}
+use Rattle.seize_alone.specs.Given.Seize.declared.states.TheConstants.{HEAD, FREE, IDLE, ACTIVE, LAST_SLOT}
+use Rattle.seize_alone.specs.Given.Seize.declared.progress.Progress.{Progress}
+use Rattle.seize_alone.specs.Given.Seize.declared.progress.Progress.TheVariants.{Done}
+use Rattle.seize_alone.specs.Given.Seize.declared.rows.settle.Settle.{Settle}
+use Rattle.seize_alone.specs.Given.Seize.declared.rows.settle.Settling.{Settling}
+use Rattle.seize_alone.specs.Given.Seize.declared.rows.settle.Settling.TheVariants as settling
+use Rattle.seize_alone.specs.Given.Seize.declared.rows.settle.Settled.{Settled}
+use Rattle.seize_alone.specs.Given.Seize.declared.rows.settle.Settled.TheVariants as settled
+use Rattle.seize_alone.specs.Given.Seize.declared.rows.leave.Leave.{Leave}
+use Rattle.seize_alone.specs.Given.Seize.declared.rows.leave.Leaving.{Leaving}
+use Rattle.seize_alone.specs.Given.Seize.declared.rows.leave.Leaving.TheVariants as leaving
+use Rattle.seize_alone.specs.Given.Seize.declared.rows.register.Register.{Register}
+use Rattle.seize_alone.specs.Given.Seize.declared.rows.register.Registering.{Registering}
+use Rattle.seize_alone.specs.Given.Seize.declared.rows.register.Registering.TheVariants as registering
+use Rattle.seize_alone.specs.Given.Seize.declared.rows.enter.Enter.{Enter}
+use Rattle.seize_alone.specs.Given.Seize.declared.rows.enter.Unregister.{Unregister}
+use Rattle.seize_alone.specs.Given.Seize.declared.rows.defer.Defer.{Defer}
+use Rattle.seize_alone.specs.Given.Seize.declared.rows.defer.Deferring.{Deferring}
+use Rattle.seize_alone.specs.Given.Seize.declared.rows.defer.Deferring.TheVariants as deferring
+use Rattle.seize_alone.specs.Given.Seize.Settle as settles
+use Rattle.seize_alone.specs.Given.Seize.Settle.{settle_plan}
+use Rattle.seize_alone.specs.Given.Seize.Leave as leaves
+use Rattle.seize_alone.specs.Given.Seize.Leave.{list_taken, standing}
+use Rattle.seize_alone.specs.Given.Seize.Register as registers
+use Rattle.seize_alone.specs.Given.Seize.Register.{can_be_taken}
+use Rattle.seize_alone.specs.Given.Seize.Defer as defer
+use Rattle.seize_alone.specs.Given.Seize.World.{World, Row, Rests, Registers, Enters, Settles, Leaves, Defers, Frees, Steps'}
+use Rattle.seize_alone.proofs.Given.SeizeMoves.State.Ghost.{Head, Idle}
+use Rattle.seize_alone.proofs.Given.SeizeRule.Words.Named.{words_of, wrote, word_found, write_here, write_apart}
+use Rattle.seize_alone.proofs.Given.SeizeRule.Words.View.{View, view}
+use Rattle.seize_alone.proofs.Given.SeizeRule.Words.Shows.{HeadIs}
+use Rattle.seize_alone.proofs.Given.SeizeRule.Words.Kept.{IsQuietPlan, settle_quiet}
+use Rattle.seize_alone.proofs.Given.SeizeRule.Points.Known.{FitsAt, Fits, bare}
+use Rattle.seize_alone.proofs.Given.SeizeRule.Points.May.{may_at}
+use Rattle.seize_alone.proofs.Given.SeizeRule.Rows.Known.{OnSlot, FitsRow, FitsLeave, FitsDefer, word_of}
+use Rattle.seize_alone.proofs.Given.SeizeRule.Rows.Leave.{leaves_may}
+use Rattle.seize_alone.proofs.Given.SeizeRule.Rows.Leaving.{steps_back}
+use Rattle.seize_alone.proofs.Given.SeizeRule.Rows.Register.{room_view, registers_may}
+use Rattle.seize_alone.proofs.Given.SeizeRule.Rows.Slots.{idle_head, enters_may, frees_may}
+use Rattle.seize_alone.proofs.Given.SeizeRule.Rows.Deferring.{defers_may}
+use Rattle.seize_alone.proofs.Given.SeizeRule.World.Good.{Good}
+use Rattle.seize_alone.proofs.Given.SeizeRule.World.Start.{words_good}
+use Rattle.seize_alone.proofs.Given.SeizeEnds.Batches.Free.{is_field, spares_plan, plan_same}
+use Rattle.seize_alone.proofs.Given.SeizeEnds.Batches.Rows.{registers_memory, settles_memory, defers_memory}
 
 module _ {T : Type 0} where
   -- each slot that can be taken is as it was, or it is taken

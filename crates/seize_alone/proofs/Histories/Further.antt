@@ -18,7 +18,6 @@ use Rattle.seize_rule.proofs.Words.There.{entry_there, list_there, value_there}
 use Rattle.seize_rule.proofs.World.Good.{Good}
 use Rattle.seize_rule.proofs.Rows.Onto.{row_onto}
 use Rattle.seize_alone.proofs.Histories.Hands.{times_counted}
-use Rattle.seize_alone.proofs.Histories.Reached.{history_reached}
 use Rattle.std.proofs.lemmas.Bool.{eq-eqb}
 use Rattle.seize_sets.proofs.Turns.All.{turns_shown, start_shown}
 use Rattle.seize_alone.specs.Alone.{History, IsHistory, at_rest}
@@ -152,18 +151,6 @@ module _ {T : Type 0} {size : ℕ} (defers : T → Option ℕ) (w : World T) (go
       no_more x l = grind arith
 
 module _ {T : Type 0} (defers : T → Option ℕ) (size roots : ℕ) (word : size < 2 ^ 64) (mem : Mem T) (h : History) (had : IsHistory defers size roots mem h) where
-  -- what is behind a block in use is what the waiting sets say
-  pub behind_history : (b o : ℕ) → h.hand b ≡ InUse o → (value : T) → value_at mem b ≡ Some value
-      → (k : Behind defers (at_rest defers mem h) b) × (further_of b (all_changed size h.before sets_at_start).sets.further ≡ k.blocks)
-  unfolding behind_it
-  behind_history b o used value is =
-      let shown = turns_shown defers (LAST_SLOT + 1) size refl word had.0 (at_start defers roots) (at_rest defers mem h) h.before sets_at_start (start_shown defers (LAST_SLOT + 1) size refl word roots) had.1 in
-      (behind_it defers (at_rest defers mem h) shown.rested.good b (λ j onto. onto) o used value is, shown.models.put b)
-
-  -- nothing is behind a block without a list
-  pub none_behind_history : (b x : ℕ) (value : T) → value_at mem b ≡ Some value → defers value ≡ None → where_is x h.log ≡ With b → ⊥
-  none_behind_history b x value is none behind = none_behind defers (at_rest defers mem h) (history_reached defers size roots mem h had).good b (λ j onto. onto) x value is none behind
-
   -- nor in the waiting sets
   pub none_put_history : (b : ℕ) (value : T) → value_at mem b ≡ Some value → defers value ≡ None → further_of b (all_changed size h.before sets_at_start).sets.further ≡ []
   none_put_history b value is none =

@@ -3,8 +3,8 @@ use Rattle.std.specs.Prelude.{Option, Ok}
 use Rattle.std.proofs.Common.{◌≡◌, ℕ, [], ◌∷◌, ◌++◌, replicate, refl, subst, sym}
 use Rattle.seize_words.specs.Op.{Op, Out, Make, Take, Made}
 use Rattle.seize_words.specs.Mem.{Mem, Took}
-use Rattle.seize.specs.World.{Making, InUse, LeftTo, Makes, Links, Unlinks, Operates, Clears, Chooses, HasListWord, IsOwnOp, MayClear, MayCut, Ends}
-use Rattle.seize_alone.specs.Alone.{History, IsHistory, nothing_yet, made, linked, unlinked, cleared, ended_owner}
+use Rattle.seize.specs.World.{Making, InUse, LeftTo, Makes, Links, Unlinks, Operates, Clears, Chooses, HasListWord, IsOwnOp, MayClear, MayCut}
+use Rattle.seize_alone.specs.Alone.{History, IsHistory, nothing_yet, made, linked, unlinked, cleared}
 use Rattle.seize_alone.proofs.Histories.Calls.{happened_history}
 
 -- a memory with as many roots, and nothing else
@@ -29,9 +29,6 @@ module _ {T : Type 0} (defers : T → Option ℕ) (batch_size roots : ℕ) (m : 
 
   pub unlinked_history : (b o : ℕ) → h.hand b ≡ InUse o → IsHistory defers batch_size roots m (unlinked b h)
   unlinked_history b o linked = happened_history defers batch_size roots m m h (unlinked b h) had (Unlinks 0 b) tt refl (subst (MayCut 0) (sym linked) tt, refl) refl
-
-  pub ended_owner_history : (o : ℕ) → IsHistory defers batch_size roots m (ended_owner o h)
-  ended_owner_history o = happened_history defers batch_size roots m m h (ended_owner o h) had (Ends 0 o) tt refl refl refl
 
   pub chosen_history : (choice : ℕ) → IsHistory defers batch_size roots (record m { choices = m.choices ++ choice ∷ [] }) h
   chosen_history choice =

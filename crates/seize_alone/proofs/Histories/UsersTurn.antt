@@ -1,15 +1,13 @@
 -- What users do, one event after another where every row rests, leaves the uses of slots and what has changed in the waiting sets.
 use Rattle.std.specs.Prelude.{Option, Ok, Err}
-use Rattle.std.proofs.Common.{◌≡◌, ℕ, List, [], ◌∷◌, ◌++◌, refl, subst, sym, ap, ◌∙◌}
-use Rattle.std.proofs.lemmas.List.{append-nil, append_assoc}
+use Rattle.std.proofs.Common.{◌≡◌, ℕ, List, [], ◌∷◌, refl, subst, sym, ap}
 use Rattle.seize_words.specs.Op.{Out, Found, Stored, Exchanged, Made, Taken, Roomed}
 use Rattle.seize_words.specs.Mem.{Mem}
 use Rattle.seize.specs.World.{World, Rests, Event, Begin, Step, Makes, Drops, Links, Parts, Unlinks, Rewrites, Operates, Chooses, Happens, Runs, made_by, LeavesOver, Relinks, Clears, Ends}
-use Rattle.seize.specs.WaitingSets.{Change}
 use Rattle.seize.specs.Sequence.{IsUsers, IsBetween, ended_by}
 use Rattle.seize_alone.specs.Alone.{History, IsHistory, at_rest}
 use Rattle.seize_rule.proofs.Rows.Others.{users_rows}
-use Rattle.seize_alone.proofs.Histories.Calls.{happened_history, ended_history}
+use Rattle.seize_alone.proofs.Histories.Calls.{happened_history}
 
 -- none of these is a step of a row or begins one
 abbrev pub AreUsers : {T : Type 0} → List (Event T) → Type 0
@@ -20,11 +18,6 @@ AreUsers (e ∷ events) = IsUsers e × AreUsers events
 abbrev pub AreBetween : {T : Type 0} → List (Event T) → Type 0
 AreBetween [] = Unit {0}
 AreBetween (e ∷ events) = IsBetween e × AreBetween events
-
--- what they change in the waiting sets
-abbrev pub all_ended : {T : Type 0} → List (Event T) → List Change
-all_ended [] = []
-all_ended (e ∷ events) = ended_by e ++ all_ended events
 
 -- users leave nothing over
 users_end_none : {T : Type 0} (e : Event T) → IsUsers e → ended_by e ≡ []
@@ -113,33 +106,4 @@ module _ {T : Type 0} (defers : T → Option ℕ) (size roots : ℕ) where
         further.0,
         λ had. further.1
             (happened_history defers size roots m v.memory h (since h v) had e (users_between e u.0) (users_end_none e u.0) (subst (λ (x : World T). Happens defers size e (at_rest defers m h) x) rests r.1) refl),
-      )
-
-  -- and since events between rows, of what ends, too
-  abbrev pub ended_since : History → List (Event T) → World T → History
-  ended_since h events w = record { before = h.before ++ all_ended events; uses = h.uses; hand = w.hand; log = w.log }
-
-  ended_there : (h : History) (events : List (Event T)) (w : World T) → w.row ≡ (λ i. Rests) → w.uses ≡ h.uses → w ≡ at_rest defers w.memory (ended_since h events w)
-  ended_there h events w rows uses = λ i. record { memory = w.memory; row = rows i; uses = uses i; hand = w.hand; log = w.log }
-
-  pub between_turn : (events : List (Event T)) (m : Mem T) (h : History) (w : World T) → AreBetween events → Runs defers size events (at_rest defers m h) w
-      → (w ≡ at_rest defers w.memory (ended_since h events w)) × (IsHistory defers size roots m h → IsHistory defers size roots w.memory (ended_since h events w))
-  between_turn [] m h w u r = (
-    ended_there h [] w (ap (λ (v : World T). v.row) r) (ap (λ (v : World T). v.uses) r),
-    λ had. subst (λ (k : List Change). IsHistory defers size roots w.memory (record { before = k; uses = h.uses; hand = w.hand; log = w.log })) (sym (append-nil h.before))
-        (subst (λ (v : World T). IsHistory defers size roots v.memory (since h v)) (sym r) had),
-  )
-  between_turn (e ∷ events) m h w u r =
-      let v = r.0 in
-      let k = ended_since h (e ∷ []) v in
-      let rests = ended_there h (e ∷ []) v (users_rows defers size (at_rest defers m h) v e u.0 r.1) (between_uses defers size (at_rest defers m h) v e u.0 r.1) in
-      let further = between_turn events v.memory k w u.1 (subst (λ (x : World T). Runs defers size events x w) rests r.2) in
-      let all : h.before ++ ((ended_by e ++ []) ++ all_ended events) ≡ h.before ++ (ended_by e ++ all_ended events) =
-      ap (λ (l : List Change). h.before ++ (l ++ all_ended events)) (append-nil (ended_by e)) in
-      let both : (h.before ++ (ended_by e ++ [])) ++ all_ended events ≡ h.before ++ (ended_by e ++ all_ended events) =
-      append_assoc h.before (ended_by e ++ []) (all_ended events) ∙ all in (
-        subst (λ (l : List Change). w ≡ at_rest defers w.memory (record { before = l; uses = h.uses; hand = w.hand; log = w.log })) both further.0,
-        λ had. subst (λ (l : List Change). IsHistory defers size roots w.memory (record { before = l; uses = h.uses; hand = w.hand; log = w.log })) both
-            (further.1 (ended_history defers size roots m v.memory h k had e u.0 (subst (λ (x : World T). Happens defers size e (at_rest defers m h) x) rests r.1)
-            (ap (λ (l : List Change). h.before ++ l) (append-nil (ended_by e))))),
       )

@@ -140,9 +140,6 @@ module _ {T : Type 0} {size : ℕ} (defers : T → Option ℕ) (w : World T) (go
       by (deferring.Pushes head) here r st = defer_pushed s c head r m2 end st
       by deferring.Over here r st = defer_sparing s c deferring.Over here is m2 end tt refl st
 
-  pub defer_framed : (s : ℕ) (c : Defer) → w.row i ≡ Defers s c → (m2 : Mem T) (end : Defer × Progress Unit) → Steps Took value_at w.memory (defer.defer_plan c) m2 end → Frames defers w.memory m2 []
-  defer_framed s c is m2 end st = (defer_both s c is m2 end st).0
-
   -- nobody else is in the section that it ends
   not_inside : (c : Leave) → w.row i ≡ Leaves c → c.stands ≡ leaving.Swaps → (s : ℕ) → IsInside (w.uses s) → c.slot ≡ s → ⊥
   not_inside c is p s inside e =

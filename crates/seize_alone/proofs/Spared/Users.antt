@@ -1,6 +1,6 @@
 -- What rows leave of their users' words: the roots, and the values and the words of blocks that are not taken, save the words that hold further values.
 use Rattle.std.specs.Prelude.{Option, Some, None, IsSome, if◌then◌else◌}
-use Rattle.std.proofs.Common.{◌≡◌, ◌≢◌, ℕ, ◌<◌, Bool, true, false, List, [], ◌++◌, refl, sym, subst, ap, ◌∙◌}
+use Rattle.std.proofs.Common.{◌≡◌, ◌≢◌, ℕ, ◌<◌, Bool, true, false, List, [], refl, sym, subst, ap, ◌∙◌}
 use Rattle.seize_words.specs.declared.at.At.TheVariants as name
 use Rattle.seize_words.specs.Mem.{Mem, same_at, value_at, word_at, with_word}
 use Rattle.seize_words.proofs.OneOwner.AfterWrites.{word_at-with_word, value_at-with_word}
@@ -9,7 +9,6 @@ use Rattle.seize.specs.World.{times, IsOwn}
 use Rattle.seize_alone.specs.Alone.{Spares}
 use Rattle.seize_rule.proofs.Words.View.{list_in}
 use Rattle.seize_rule.proofs.Words.Named.{same_at-true}
-use Rattle.seize_alone.proofs.Spared.Operations.{none_first, none_last}
 
 module _ {T : Type 0} (defers : T → Option ℕ) where
   -- no list of further values begins with the word
@@ -26,15 +25,6 @@ module _ {T : Type 0} (defers : T → Option ℕ) where
 
   pub frames_spared : (m m2 : Mem T) (back : List ℕ) → Spares m m2 back → Frames m m2 back
   frames_spared m m2 back h = record { roots = h.roots; used = h.used; values = h.values; words = λ b f none no. h.words b f none; slots = h.taken }
-
-  pub frames_twice : (m m2 m3 : Mem T) (a c : List ℕ) → Frames m m2 a → Frames m2 m3 c → Frames m m3 (a ++ c)
-  frames_twice m m2 m3 a c h k = record {
-    roots = k.roots ∙ h.roots;
-    used = k.used ∙ h.used;
-    values = λ b e. k.values b (none_last b a c e) ∙ h.values b (none_first b a c e);
-    words = λ b f e apart. k.words b f (none_last b a c e) (λ value v. apart value (sym (h.values b (none_first b a c e)) ∙ v)) ∙ h.words b f (none_first b a c e) apart;
-    slots = λ s head e pos. (let t = h.slots s head e pos in k.slots s t.0 t.1 t.2);
-  }
 
   -- a list begins with another value
   pub frames_list : (m : Mem T) (t d w : ℕ) → list_in defers (value_at m t) ≡ Some d → IsSome (word_at m (name.Word t d)) → Frames m (with_word m (name.Word t d) w) []

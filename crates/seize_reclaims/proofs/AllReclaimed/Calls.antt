@@ -7,7 +7,7 @@ use Rattle.seize_alone.specs.declared.calls.WholeCall.{WholeCall}
 use Rattle.seize.specs.Law.{Effect, is_somewhere, reachable, where_is}
 use Rattle.seize.specs.World.{World, Hand, Request, Flush, Leave', Begin, Steps', handed_by, times}
 use Rattle.seize.specs.Sequence.{taken_in}
-use Rattle.seize_waiting.specs.Held.{count}
+use Rattle.seize_alone.specs.Given.SeizeWaiting.Held.{count}
 use Rattle.seize_alone.specs.Alone.{IsOfUsers, History, IsHistory, IsMidway, TakesSteps, CallSteps, SameLeft, at_rest, called, given_back, hand_at, row_of}
 use Rattle.seize_reclaims.specs.AllReclaimed.{IsKnown, OnlyReclaims}
 use Rattle.seize_alone.proofs.Histories.Hands.{times_counted, hand_spared, hand_gone}
@@ -16,7 +16,7 @@ use Rattle.seize_alone.proofs.Histories.Reached.{Reached, happens_reached, histo
 use Rattle.seize_reclaims.proofs.Roots.Listed.{times_append}
 use Rattle.seize_alone.proofs.Whole.Midway.{taken_append}
 use Rattle.seize_alone.proofs.Whole.Steps.{WholeEnd, call_whole, stepped_left}
-use Rattle.seize_rule.proofs.Rows.Effects.{place_kept}
+use Rattle.seize_alone.proofs.Given.SeizeRule.Rows.Effects.{place_kept}
 
 module _ {T : Type 0} (defers : T → Option ℕ) (size : ℕ) where
   -- the block can be reached, or a caller has it

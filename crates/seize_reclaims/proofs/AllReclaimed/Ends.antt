@@ -10,16 +10,16 @@ use Rattle.seize.specs.Further.{ListFrom}
 use Rattle.seize.specs.WaitingSets.{Sets, After, at_start as sets_at_start}
 use Rattle.seize.specs.World.{World, LeftTo, times, at_start}
 use Rattle.seize.specs.Sequence.{taken_in}
-use Rattle.seize_sets.specs.Reclaims.{Reclaims}
+use Rattle.seize_alone.specs.Given.SeizeSets.Reclaims.{Reclaims}
 use Rattle.seize_alone.specs.Alone.{History, at_rest}
 use Rattle.seize_reclaims.specs.AllReclaimed.{OnlyReclaims, MayReclaimAll, SlotsReclaimed, all, sets_in}
 use Rattle.seize_reclaims.specs.Roots.{LeadsTo, LeftAt, all_lists}
-use Rattle.seize_rule.proofs.World.Rested.{start_rested}
-use Rattle.seize_sets.proofs.Reclaims.Ends.{Left, all_left_so}
-use Rattle.seize_sets.proofs.Reclaims.NeverTaken.{NonePast, turns_past}
-use Rattle.seize_sets.proofs.Turns.All.{turns_shown, start_shown, changed_then}
-use Rattle.seize_sets.proofs.Turns.Append.{turns_append}
-use Rattle.seize_sets.proofs.Turns.Begins.{Shown}
+use Rattle.seize_alone.proofs.Given.SeizeRule.World.Rested.{start_rested}
+use Rattle.seize_alone.proofs.Given.SeizeSets.Reclaims.Ends.{Left, all_left_so}
+use Rattle.seize_alone.proofs.Given.SeizeSets.Reclaims.NeverTaken.{NonePast, turns_past}
+use Rattle.seize_alone.proofs.Given.SeizeSets.Turns.All.{turns_shown, start_shown, changed_then}
+use Rattle.seize_alone.proofs.Given.SeizeSets.Turns.Append.{turns_append}
+use Rattle.seize_alone.proofs.Given.SeizeSets.Turns.Begins.{Shown}
 use Rattle.seize_reclaims.proofs.AllReclaimed.Only.{known_value, known_hand, left_known}
 use Rattle.seize_reclaims.proofs.Roots.Listed.{times_append, times_here, lists_split}
 

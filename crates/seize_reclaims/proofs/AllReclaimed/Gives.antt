@@ -13,15 +13,15 @@ use Rattle.seize.specs.WaitingSets.{Sets, flushed, given, with_open, is_enough, 
 use Rattle.seize.specs.World.{Settles, Use, Vacant, Outside, Flush, IsTaken, at_start}
 use Rattle.seize_alone.specs.Alone.{History, IsHistory, IsMidway, at_rest, given_back}
 use Rattle.seize_reclaims.specs.AllReclaimed.{MayReclaimAll, sets_in}
-use Rattle.seize_moves.proofs.Sets.Shown.{ascending}
-use Rattle.seize_rule.proofs.World.Rested.{start_rested}
-use Rattle.seize_ends.proofs.Batches.Rows.{none_held, start_held, turns_held}
-use Rattle.seize_rule.proofs.Words.Chains.{last_of}
-use Rattle.seize_rule.proofs.Words.Named.{word_found, link}
-use Rattle.seize_sets.proofs.Reclaims.Sets.{is_inside}
-use Rattle.seize_sets.proofs.Reclaims.Stages.{StageAt, IsFresh, others_vacant}
-use Rattle.seize_sets.proofs.Turns.All.{turns_shown, start_shown}
-use Rattle.seize_sets.proofs.Turns.Begins.{Shown}
+use Rattle.seize_alone.proofs.Given.SeizeMoves.Sets.Shown.{ascending}
+use Rattle.seize_alone.proofs.Given.SeizeRule.World.Rested.{start_rested}
+use Rattle.seize_alone.proofs.Given.SeizeEnds.Batches.Rows.{none_held, start_held, turns_held}
+use Rattle.seize_alone.proofs.Given.SeizeRule.Words.Chains.{last_of}
+use Rattle.seize_alone.proofs.Given.SeizeRule.Words.Named.{word_found, link}
+use Rattle.seize_alone.proofs.Given.SeizeSets.Reclaims.Sets.{is_inside}
+use Rattle.seize_alone.proofs.Given.SeizeSets.Reclaims.Stages.{StageAt, IsFresh, others_vacant}
+use Rattle.seize_alone.proofs.Given.SeizeSets.Turns.All.{turns_shown, start_shown}
+use Rattle.seize_alone.proofs.Given.SeizeSets.Turns.Begins.{Shown}
 use Rattle.seize_reclaims.proofs.AllReclaimed.Steps.{Arrived}
 use Rattle.seize_alone.proofs.Histories.Calls.{history_rested}
 use Rattle.seize_alone.proofs.Histories.Sets.{active_now}

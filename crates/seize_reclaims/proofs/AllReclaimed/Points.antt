@@ -23,15 +23,15 @@ use Rattle.seize.specs.Settle.{settle_plan, flushing}
 use Rattle.seize.specs.ReclaimAll.{standing, first_batch, next_head, next_batch, next_free, to, within, head_read, batch_read, plan_at, reclaim_all_plan}
 use Rattle.seize.specs.World.{World, Leaves, Settles, Use, Outside, Flush, Leave', IsTaken, times}
 use Rattle.seize.specs.Sequence.{taken_in}
-use Rattle.seize_sets.specs.Reclaims.{AllSettle, Reclaims}
+use Rattle.seize_alone.specs.Given.SeizeSets.Reclaims.{AllSettle, Reclaims}
 use Rattle.seize_alone.specs.Alone.{History, IsHistory, IsMidway, AreValues, at_rest}
 use Rattle.seize_reclaims.specs.Roots.{IsClearing}
 use Rattle.seize_reclaims.specs.AllReclaimed.{OnlyReclaims, MayReclaimAll, SlotsReclaimed, all}
-use Rattle.seize_rule.proofs.World.Rested.{Rested}
-use Rattle.seize_rule.proofs.Words.Named.{words_of, word_found}
-use Rattle.seize_rule.proofs.Words.Room.{slot_there}
-use Rattle.seize_sets.proofs.Reclaims.Stages.{StageAt, IsFresh, Stage}
-use Rattle.seize_sets.proofs.Turns.Heads.{has_words, has_word, idle_word}
+use Rattle.seize_alone.proofs.Given.SeizeRule.World.Rested.{Rested}
+use Rattle.seize_alone.proofs.Given.SeizeRule.Words.Named.{words_of, word_found}
+use Rattle.seize_alone.proofs.Given.SeizeRule.Words.Room.{slot_there}
+use Rattle.seize_alone.proofs.Given.SeizeSets.Reclaims.Stages.{StageAt, IsFresh, Stage}
+use Rattle.seize_alone.proofs.Given.SeizeSets.Turns.Heads.{has_words, has_word, idle_word}
 use Rattle.seize_reclaims.proofs.AllReclaimed.Ends.{left_now, slots, between, back_is}
 use Rattle.seize_reclaims.proofs.AllReclaimed.Only.{only_twice}
 use Rattle.seize_alone.proofs.Histories.Calls.{history_rested}

@@ -18,8 +18,8 @@ use Rattle.seize.specs.World.{Flush, Settles}
 use Rattle.seize_alone.specs.Alone.{History, IsMidway, AreValues, blocks_in, given_back}
 use Rattle.seize_reclaims.specs.AllReclaimed.{IsReclaiming, IsAllReclaimed, all, is_within, is_flushing, weight_at}
 use Rattle.seize_reclaims.specs.Roots.{all_lists}
-use Rattle.seize_rule.proofs.Rows.LeavesTold.{leave_quiet}
-use Rattle.seize_rule.proofs.Words.Kept.{IsQuietPlan, quiet_as, settle_quiet}
+use Rattle.seize_alone.proofs.Given.SeizeRule.Rows.LeavesTold.{leave_quiet}
+use Rattle.seize_alone.proofs.Given.SeizeRule.Words.Kept.{IsQuietPlan, quiet_as, settle_quiet}
 use Rattle.seize_reclaims.proofs.AllReclaimed.Points.{values_then}
 use Rattle.seize_reclaims.proofs.AllReclaimed.Traces.{is_point, reclaim_may, reclaim_still, reclaim_gave, reclaim_done, flush_begun, flush_still}
 use Rattle.seize_reclaims.proofs.AllReclaimed.Weights.{row_to_go, point_lower, row_less, row_falls, row_not_done}

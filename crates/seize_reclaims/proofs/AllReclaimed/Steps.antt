@@ -26,9 +26,9 @@ use Rattle.seize.specs.Sequence.{taken_in}
 use Rattle.seize_alone.specs.declared.calls.WholeCall.TheVariants as call
 use Rattle.seize_alone.specs.Alone.{History, IsHistory, at_rest, blocks_in, called, given_back, given_up, registered}
 use Rattle.seize_reclaims.specs.AllReclaimed.{MayReclaimAll, IsAllReclaimed, OnlyReclaims, is_within}
-use Rattle.seize_rule.proofs.Rows.Leaving.{steps_back}
-use Rattle.seize_rule.proofs.World.Rested.{Rested}
-use Rattle.seize_sets.proofs.Reclaims.Stages.{StageAt, retake_on, leave_on, head_on, flush_on, batch_on, give_up_on}
+use Rattle.seize_alone.proofs.Given.SeizeRule.Rows.Leaving.{steps_back}
+use Rattle.seize_alone.proofs.Given.SeizeRule.World.Rested.{Rested}
+use Rattle.seize_alone.proofs.Given.SeizeSets.Reclaims.Stages.{StageAt, retake_on, leave_on, head_on, flush_on, batch_on, give_up_on}
 use Rattle.seize_reclaims.proofs.AllReclaimed.Calls.{leave_end, flush_end}
 use Rattle.seize_reclaims.proofs.AllReclaimed.Only.{only_retaken, only_given_up}
 use Rattle.seize_reclaims.proofs.AllReclaimed.Points.{SoFar, so_far_more, so_far_quiet, Within, OnSlots, OnRoots, AtSlots, AtRoots, Point, OneStage, arrives}

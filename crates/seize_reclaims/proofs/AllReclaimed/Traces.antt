@@ -16,15 +16,15 @@ use Rattle.seize.specs.Settle.{settle_plan}
 use Rattle.seize.specs.WaitingSets.{After, quietly}
 use Rattle.seize.specs.World.{Vacant, Flush, Settles}
 use Rattle.seize.specs.Sequence.{taken_in}
-use Rattle.seize_sets.specs.Reclaims.{NothingWaits}
+use Rattle.seize_alone.specs.Given.SeizeSets.Reclaims.{NothingWaits}
 use Rattle.seize_alone.specs.declared.calls.WholeCall.TheVariants as call
 use Rattle.seize_alone.specs.Alone.{History, IsMidway, IsEnded, at_rest, blocks_in, given_back}
 use Rattle.seize_reclaims.specs.AllReclaimed.{MayReclaimAll, Starts, HasCome, Tells, IsReclaiming, IsAllReclaimed, SlotsReclaimed, OnlyReclaims, all, sets_in, is_within, is_flushing}
 use Rattle.seize_reclaims.specs.Roots.{IsClearing, StandsAt}
-use Rattle.seize_rule.proofs.Rows.Leaving.{steps_back}
-use Rattle.seize_sets.proofs.Reclaims.Ends.{none_closed, none_retired}
-use Rattle.seize_sets.proofs.Reclaims.Rounds.{reclaimed_quiet}
-use Rattle.seize_sets.proofs.Reclaims.Stages.{first_stage}
+use Rattle.seize_alone.proofs.Given.SeizeRule.Rows.Leaving.{steps_back}
+use Rattle.seize_alone.proofs.Given.SeizeSets.Reclaims.Ends.{none_closed, none_retired}
+use Rattle.seize_alone.proofs.Given.SeizeSets.Reclaims.Rounds.{reclaimed_quiet}
+use Rattle.seize_alone.proofs.Given.SeizeSets.Reclaims.Stages.{first_stage}
 use Rattle.seize_reclaims.proofs.AllReclaimed.Ends.{shown}
 use Rattle.seize_reclaims.proofs.AllReclaimed.Gives.{begins_flush}
 use Rattle.seize_reclaims.proofs.AllReclaimed.Only.{only_same}

@@ -24,9 +24,9 @@ use Rattle.seize_alone.specs.declared.calls.WholeCall.TheVariants as call
 use Rattle.seize_alone.specs.Alone.{History}
 use Rattle.seize_reclaims.specs.AllReclaimed.{is_within, is_flushing, weight_at}
 use Rattle.seize_reclaims.specs.Roots.{StandsAt}
-use Rattle.seize_ends.proofs.Settling.Most.{settle_to_go}
-use Rattle.seize_ends.proofs.Rows.Lone.{leave_to_go}
-use Rattle.seize_rule.proofs.Rows.Leaving.{steps_back}
+use Rattle.seize_alone.proofs.Given.SeizeEnds.Settling.Most.{settle_to_go}
+use Rattle.seize_alone.proofs.Given.SeizeEnds.Rows.Lone.{leave_to_go}
+use Rattle.seize_alone.proofs.Given.SeizeRule.Rows.Leaving.{steps_back}
 use Rattle.seize_reclaims.proofs.AllReclaimed.Points.{OnSlots, Point, AtSlots, AtRoots}
 use Rattle.seize_reclaims.proofs.Roots.Cleared.{clear_to_go, clear_still}
 use Rattle.seize_alone.proofs.Whole.Ends.{call_ends}

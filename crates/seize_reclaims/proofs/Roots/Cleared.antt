@@ -19,7 +19,7 @@ use Rattle.seize.specs.Law.{holds}
 use Rattle.seize.specs.World.{IsOutside, LeftTo, Use, Vacant, times}
 use Rattle.seize_alone.specs.Alone.{History, IsHistory, AreValues, at_rest, blocks_in, cleared}
 use Rattle.seize_reclaims.specs.Roots.{all_lists, all_cleared, LeadsTo, LeftAt, Frees, named_at, unused_at, IsIn, IsPast, StandsAt, IsClearing, IsCleared}
-use Rattle.seize_rule.proofs.Words.Named.{link-block}
+use Rattle.seize_alone.proofs.Given.SeizeRule.Words.Named.{link-block}
 use Rattle.seize_alone.proofs.Histories.Reached.{history_reached}
 use Rattle.seize_alone.proofs.Histories.Users.{operated_history, cleared_history}
 use Rattle.seize_alone.proofs.Histories.Uses.{none_held}

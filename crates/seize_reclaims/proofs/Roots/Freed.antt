@@ -9,7 +9,7 @@ use Rattle.seize_words.proofs.OneOwner.AfterWrites.{word_at-with_word, block_of-
 use Rattle.seize.specs.declared.states.TheConstants.{NEXT}
 use Rattle.seize.specs.World.{times}
 use Rattle.seize_reclaims.specs.Roots.{Frees, freed}
-use Rattle.seize_rule.proofs.Words.Named.{block_there}
+use Rattle.seize_alone.proofs.Given.SeizeRule.Words.Named.{block_there}
 use Rattle.seize_reclaims.proofs.Roots.Listed.{times_append}
 
 module _ {T : Type 0} where

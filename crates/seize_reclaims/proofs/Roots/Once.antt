@@ -7,7 +7,7 @@ use Rattle.seize.specs.declared.states.TheConstants.{NEXT}
 use Rattle.seize.specs.Further.{ListFrom}
 use Rattle.seize_alone.specs.Alone.{History}
 use Rattle.seize_reclaims.specs.Roots.{LeadsTo, LeftAt}
-use Rattle.seize_rule.proofs.Words.Named.{link-block}
+use Rattle.seize_alone.proofs.Given.SeizeRule.Words.Named.{link-block}
 
 module _ {T : Type 0} (m : Mem T) where
   same_next : (a b : Option ℕ) (v w : ℕ) → a ≡ b → a ≡ Some v → b ≡ Some w → v ≡ w

@@ -6,8 +6,8 @@ use Rattle.papaya_resting.proofs.Done.{comes_as, key_comes_back, key_capacity}
 use Rattle.papaya_asks.specs.declared.refused.RefusedKey.{RefusedKey}
 use Rattle.papaya_resting.proofs.Keeps.{change_holds_on}
 use Rattle.std.specs.Prelude.{[], Some}
-use Rattle.papaya_owned.specs.Given.Callers.Kind.{tries_to_insert_with}
-use Rattle.papaya_owned.specs.Given.Callers.Pairs.{IsTold}
+use Rattle.papaya_sifts.specs.Given.Callers.Kind.{tries_to_insert_with}
+use Rattle.papaya_sifts.specs.Given.Callers.Pairs.{IsTold}
 use Rattle.papaya_owned.specs.Calling.{HasStopped}
 use Rattle.papaya_resting.specs.Refreshed.{OnceRefreshed}
 use Rattle.papaya_resting.proofs.Because.{refused_because}

@@ -7,8 +7,8 @@ use Rattle.papaya_resting.proofs.Done.{with_as, pair_comes_back, pair_capacity}
 use Rattle.papaya_asks.specs.declared.refused.Refused.{Refused}
 use Rattle.papaya_resting.proofs.Keeps.{change_holds_on}
 use Rattle.std.specs.Prelude.{[], Some}
-use Rattle.papaya_owned.specs.Given.Callers.Kind.{updates_or_inserts}
-use Rattle.papaya_owned.specs.Given.Callers.Pairs.{IsTold}
+use Rattle.papaya_sifts.specs.Given.Callers.Kind.{updates_or_inserts}
+use Rattle.papaya_sifts.specs.Given.Callers.Pairs.{IsTold}
 use Rattle.papaya_owned.specs.Calling.{HasStopped}
 use Rattle.papaya_resting.specs.Refreshed.{OnceRefreshed}
 use Rattle.papaya_resting.proofs.Because.{refused_because}

@@ -4,7 +4,7 @@ use Rattle.std.proofs.Common.{false, [], subst, sym}
 use Rattle.seize_tests.specs.declared.leaf.Leaf.{Leaf}
 use Rattle.seize.specs.World.{Outside, IsTaken, Retire}
 use Rattle.seize_alone.specs.Alone.{nothing_yet, registered, made, linked, unlinked}
-use Rattle.seize_rule.proofs.Rows.Others.{with_here}
+use Rattle.seize_alone.proofs.Given.SeizeRule.Rows.Others.{with_here}
 use Rattle.seize_tests.proofs.Slots.{started, cut_history, cut_hand}
 use Rattle.seize_tests.proofs.finishing.leaves_its_block.Goals as goal
 

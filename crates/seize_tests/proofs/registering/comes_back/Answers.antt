@@ -2,7 +2,7 @@
 use Rattle.std.specs.Prelude.{None}
 use Rattle.seize.specs.World.{Outside}
 use Rattle.seize_alone.specs.Alone.{nothing_yet, registered, given_up}
-use Rattle.seize_rule.proofs.Rows.Others.{with_here}
+use Rattle.seize_alone.proofs.Given.SeizeRule.Rows.Others.{with_here}
 use Rattle.std.proofs.Common.{false}
 use Rattle.seize_tests.proofs.Slots.{started}
 use Rattle.seize_tests.proofs.registering.comes_back.Goals as goal

@@ -1,7 +1,7 @@
 -- A refresh leaves the section open.
 use Rattle.std.proofs.Common.{ℕ, ap, [], ◌∙◌}
 use Rattle.seize.specs.World.{Use, Inside, Refresh, with_at}
-use Rattle.seize_rule.proofs.Rows.Others.{with_here}
+use Rattle.seize_alone.proofs.Given.SeizeRule.Rows.Others.{with_here}
 use Rattle.seize_tests.proofs.Slots.{still_inside}
 use Rattle.seize_tests.proofs.sections.refreshed.Goals as goal
 
