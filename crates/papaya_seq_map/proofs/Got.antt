@@ -2,7 +2,7 @@
 use Rattle.std.specs.Prelude.{is_some, IsTrue, OnOk, OnErr, MatchResult}
 use Rattle.std.specs.List.Sorted.{IsPermutation}
 use Rattle.std.specs.Option.{unwrap_or}
-use Rattle.std.proofs.Common.{◌≡◌, Bool, List, [], ◌∷◌, ◌++◌, Option, Some, None, Result, Ok, Err, refl, sym, ◌∙◌, ap, subst}
+use Rattle.std.proofs.Common.{◌≡◌, Bool, [], ◌∷◌, ◌++◌, Option, Some, None, Result, Ok, Err, refl, sym, ◌∙◌, ap, subst}
 use Rattle.std.proofs.lemmas.List.{append-nil}
 use Rattle.papaya_asks.specs.Closures.{Storing}
 use Rattle.papaya_asks.specs.declared.refused.Refused.{Refused}
