@@ -8,18 +8,14 @@ use crate::steps::{ABSENT, ASKS_NONE, COMPLETED, NOTHING_TO_REMOVE, READY, Shown
 use papaya_raw::ResizeMode::{self, Blocking, Incremental};
 use papaya_runs::key_hash::KeyHash;
 
-/// What the keys of a map have after a call.
+/// What the keys of a map have after a call: what they had; at this key the pair of this number, or none, and at others what they had; or none has a pair. Or
+/// it is not looked at: the call is still under way.
 #[derive(Clone, Copy)]
 pub enum Then {
-    /// What they had.
     Same,
-    /// This key has the pair of this number, the others what they had.
     Has(u64, u64),
-    /// This key has none, the others what they had.
     Lacks(u64),
-    /// None has a pair.
     Empty,
-    /// It is not looked at: the call is still under way.
     Unseen,
 }
 

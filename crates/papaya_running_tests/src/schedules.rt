@@ -5,11 +5,13 @@ use crate::deeds::Deed::{
 };
 use crate::steps::Made::{Compute, Insert, Remove, RemoveIf, TryInsert, Walk};
 use crate::steps::Step::{
-    Call, Choose, Close, End, Enter, Go, Leave, Make, MakeOther, Next, ReclaimAll, Register, Says,
-    Shape, Stop, Unregister,
+    Beside, Call, Choose, Close, End, Enter, Go, GoBeside, Leave, Make, MakeOther, Next,
+    ReclaimAll, Register, Says, Shape, Stop, Unregister,
 };
 use crate::steps::Told::{Decides, Gives};
-use crate::steps::{ABSENT, BUSY, DONE, GOES, READY, SLOT, Shown, Step, ZERO_CHUNK, shown};
+use crate::steps::{
+    ABSENT, ASKS_NONE, BUSY, DONE, GOES, READY, SLOT, Shown, Step, ZERO_CHUNK, shown,
+};
 use papaya_raw::ResizeMode::{Blocking, Incremental};
 use papaya_running::running::run;
 use papaya_runs::event::Setup;
@@ -43,23 +45,17 @@ const SMALL: [Line; 3] = [
     (Enter, DONE, &[]),
 ];
 
+const FIRST_TABLE: &[Deed] = &[Block, Block, TableMade(0), Linked(0, 8, 7)];
+
 const INCREMENTAL: [Line; 3] = [
     (Register, SLOT, &[Bucket]),
-    (
-        Make(Incremental(1), 6),
-        DONE,
-        &[Block, Block, TableMade(0), Linked(0, 8, 7)],
-    ),
+    (Make(Incremental(1), 6), DONE, FIRST_TABLE),
     (Enter, DONE, &[]),
 ];
 
 const BLOCKING: [Line; 3] = [
     (Register, SLOT, &[Bucket]),
-    (
-        Make(Blocking, 6),
-        DONE,
-        &[Block, Block, TableMade(0), Linked(0, 8, 7)],
-    ),
+    (Make(Blocking, 6), DONE, FIRST_TABLE),
     (Enter, DONE, &[]),
 ];
 
@@ -338,7 +334,22 @@ const ASKS: [Line; 10] = [
     (Leave, DONE, &[TableBack(0), Back(1)]),
 ];
 
-const SCHEDULES: [Schedule; 8] = [
+/// A call that asked about none asks about the pair, too, that another caller has stored there meanwhile.
+const ASKS_TWICE: [Line; 7] = [
+    (Call(Compute(1)), ASKS_NONE, &[]),
+    (Beside(Insert(1, 7)), GOES, &[]),
+    (GoBeside, ABSENT, &[Block, Pair, Stored(1, 0, 1), Counted]),
+    (Says(Gives(5)), GOES, &[]),
+    (Go, ("asks", 1, 0), &[Block, Pair]),
+    (Says(Gives(9)), GOES, &[]),
+    (
+        Go,
+        ("updated", 1, 2),
+        &[Replaced(1), Stored(2, 0, 1), Retired(1)],
+    ),
+];
+
+const SCHEDULES: [Schedule; 9] = [
     Schedule {
         batch_size: 1,
         parts: &[&INCREMENTAL, &EIGHT, &CARRIES, &LEAVES],
@@ -374,6 +385,15 @@ const SCHEDULES: [Schedule; 8] = [
         waiting: &[],
         tables: 0,
         living: Some(8),
+    },
+    Schedule {
+        batch_size: 1,
+        parts: &[&INCREMENTAL, &ASKS_TWICE],
+        stored: 2,
+        given_back: 0,
+        waiting: &[1],
+        tables: 0,
+        living: Some(1),
     },
     Schedule {
         batch_size: 1,
@@ -420,7 +440,7 @@ fn given(batch_size: u64) -> Given {
             processors: 1,
             roots: 1,
         },
-        is_one_by_one: true,
+        is_one_by_one: false,
         is_one_map: true,
     }
 }

@@ -95,6 +95,9 @@ pub enum Step {
     ReclaimAll,
     Close,
     Call(Made),
+    /// A call of the caller B, and its steps.
+    Beside(Made),
+    GoBeside,
     Says(Told),
     Go,
     Next,
@@ -132,6 +135,16 @@ fn of_call(alloc: Global, step: Step) -> Result<Event<u64, u64>, AllocError> {
             guard: word(alloc, b"g")?,
             map: word(alloc, b"m")?,
             call: made.call(),
+        },
+        Step::Beside(made) => Event::Begin {
+            caller: word(alloc, b"B")?,
+            guard: word(alloc, b"g")?,
+            map: word(alloc, b"m")?,
+            call: made.call(),
+        },
+        Step::GoBeside => Event::Go {
+            caller: word(alloc, b"B")?,
+            refuse: false,
         },
         Step::Says(told) => Event::Replied {
             caller: word(alloc, b"-")?,
