@@ -26,18 +26,12 @@ use std::test::Fail;
 /// An event, what it comes to, and what it does.
 type Line = (Step, Shown, &'static [Deed]);
 
-/// The lines of a schedule, and what its run tells at its end.
-#[derive(Clone, Copy)]
-struct Schedule {
-    batch_size: u64,
-    parts: &'static [&'static [Line]],
-    stored: u64,
-    given_back: usize,
-    waiting: &'static [u64],
-    tables: u64,
-    /// How many pairs the map has, if it lives.
-    living: Option<usize>,
-}
+/// How a run ends: how many pairs it has stored, how many came back, which ones wait, how many tables do, and how many pairs the map has, if it
+/// lives.
+type Ends = (u64, usize, &'static [u64], u64, Option<usize>);
+
+/// The size of batches, the lines of a schedule, and how its run ends.
+type Schedule = (u64, &'static [&'static [Line]], Ends);
 
 const SMALL: [Line; 3] = [
     (Register, SLOT, &[Bucket]),
@@ -349,88 +343,59 @@ const ASKS_TWICE: [Line; 7] = [
     ),
 ];
 
-const SCHEDULES: [Schedule; 9] = [
-    Schedule {
-        batch_size: 1,
-        parts: &[&INCREMENTAL, &EIGHT, &CARRIES, &LEAVES],
-        stored: 9,
-        given_back: 0,
-        waiting: &[1],
-        tables: 0,
-        living: Some(8),
-    },
-    Schedule {
-        batch_size: 1,
-        parts: &[&INCREMENTAL, &EIGHT, &CARRIES, &ENDS],
-        stored: 9,
-        given_back: 7,
-        waiting: &[1, 2],
-        tables: 0,
-        living: None,
-    },
-    Schedule {
-        batch_size: 1,
-        parts: &[&INCREMENTAL, &EIGHT, &CARRIES, &ENDS, &GIVES_BACK],
-        stored: 9,
-        given_back: 9,
-        waiting: &[],
-        tables: 0,
-        living: None,
-    },
-    Schedule {
-        batch_size: 1,
-        parts: &[&INCREMENTAL, &EIGHT, &ASKS],
-        stored: 9,
-        given_back: 1,
-        waiting: &[],
-        tables: 0,
-        living: Some(8),
-    },
-    Schedule {
-        batch_size: 1,
-        parts: &[&INCREMENTAL, &ASKS_TWICE],
-        stored: 2,
-        given_back: 0,
-        waiting: &[1],
-        tables: 0,
-        living: Some(1),
-    },
-    Schedule {
-        batch_size: 1,
-        parts: &[&BLOCKING, &EIGHT, &RETIRES],
-        stored: 9,
-        given_back: 9,
-        waiting: &[],
-        tables: 0,
-        living: None,
-    },
-    Schedule {
-        batch_size: 1,
-        parts: &[&SMALL, &OCCUPIED],
-        stored: 1,
-        given_back: 1,
-        waiting: &[],
-        tables: 0,
-        living: None,
-    },
-    Schedule {
-        batch_size: 32,
-        parts: &[&SMALL, &CLOSES],
-        stored: 3,
-        given_back: 3,
-        waiting: &[],
-        tables: 0,
-        living: None,
-    },
-    Schedule {
-        batch_size: 1,
-        parts: &[&SMALL, &COMES_LATE],
-        stored: 0,
-        given_back: 0,
-        waiting: &[],
-        tables: 0,
-        living: None,
-    },
+/// A call is under way while another caller begins a resize, which copies the pair that the one has asked about: it is not asked again.
+const RESIZED_BESIDE: [Line; 5] = [
+    (Call(Compute(0)), ("asks", 1, 0), &[]),
+    (Beside(Insert(8, 8)), GOES, &[]),
+    (
+        GoBeside,
+        ABSENT,
+        &[
+            Block,
+            Pair,
+            Block,
+            TableMade(1),
+            Linked(1, 16, 15),
+            Copied(1, 1, 0),
+            Stored(9, 1, 8),
+            Counted,
+        ],
+    ),
+    (Says(Gives(25)), GOES, &[]),
+    (
+        Go,
+        ("updated", 1, 10),
+        &[Block, Pair, Replaced(1), Stored(10, 1, 0), Deferred(1, 0)],
+    ),
+];
+
+const SCHEDULES: [Schedule; 10] = [
+    (
+        1,
+        &[&INCREMENTAL, &EIGHT, &CARRIES, &LEAVES],
+        (9, 0, &[1], 0, Some(8)),
+    ),
+    (
+        1,
+        &[&INCREMENTAL, &EIGHT, &CARRIES, &ENDS],
+        (9, 7, &[1, 2], 0, None),
+    ),
+    (
+        1,
+        &[&INCREMENTAL, &EIGHT, &CARRIES, &ENDS, &GIVES_BACK],
+        (9, 9, &[], 0, None),
+    ),
+    (1, &[&INCREMENTAL, &EIGHT, &ASKS], (9, 1, &[], 0, Some(8))),
+    (
+        1,
+        &[&INCREMENTAL, &EIGHT, &RESIZED_BESIDE],
+        (10, 0, &[1], 0, Some(9)),
+    ),
+    (1, &[&INCREMENTAL, &ASKS_TWICE], (2, 0, &[1], 0, Some(1))),
+    (1, &[&BLOCKING, &EIGHT, &RETIRES], (9, 9, &[], 0, None)),
+    (1, &[&SMALL, &OCCUPIED], (1, 1, &[], 0, None)),
+    (32, &[&SMALL, &CLOSES], (3, 3, &[], 0, None)),
+    (1, &[&SMALL, &COMES_LATE], (0, 0, &[], 0, None)),
 ];
 
 fn given(batch_size: u64) -> Given {
@@ -487,15 +452,16 @@ fn is_as_told(rt: &impl Abort, run: &Run<u64, u64>, parts: &[&[Line]]) {
     }
 }
 
-/// The run tells this at its end.
-fn ends_as_told(rt: &impl Abort, run: &Run<u64, u64>, schedule: &Schedule) {
+/// The run ends so.
+fn ends_as_told(rt: &impl Abort, run: &Run<u64, u64>, ends: Ends) {
+    let (stored, given_back, waiting, tables, living) = ends;
     assert_eq!(rt;
         (run.stored, run.given_back.len(), run.tables),
-        (schedule.stored, schedule.given_back, schedule.tables)
+        (stored, given_back, tables)
     );
-    assert_eq!(rt; run.waiting.as_slice(), schedule.waiting);
-    match (run.maps.first(), schedule.living) {
-        (None, None) => assert_eq!(rt; run.kept.len(), schedule.waiting.len()),
+    assert_eq!(rt; run.waiting.as_slice(), waiting);
+    match (run.maps.first(), living) {
+        (None, None) => assert_eq!(rt; run.kept.len(), waiting.len()),
         (Some(map), Some(pairs)) => assert_eq!(rt; map.pairs.len(), pairs),
         _ => panic!(rt; "another map"),
     }
@@ -504,10 +470,10 @@ fn ends_as_told(rt: &impl Abort, run: &Run<u64, u64>, schedule: &Schedule) {
 #[test]
 fn schedules_come_to_what_is_told_of_them(rt: HostRuntime) -> Result<(), Fail> {
     let alloc = rt.alloc();
-    for schedule in SCHEDULES {
-        let run = played(alloc, schedule.batch_size, schedule.parts)?;
-        is_as_told(&rt, &run, schedule.parts);
-        ends_as_told(&rt, &run, &schedule);
+    for (batch_size, parts, ends) in SCHEDULES {
+        let run = played(alloc, batch_size, parts)?;
+        is_as_told(&rt, &run, parts);
+        ends_as_told(&rt, &run, ends);
     }
     Ok(())
 }
