@@ -343,7 +343,8 @@ const ASKS_TWICE: [Line; 7] = [
     ),
 ];
 
-/// A call is under way while another caller begins a resize, which copies the pair that the one has asked about: it is not asked again.
+/// A call is under way while another caller begins a resize, which copies the pair that the one has asked about: it goes on to the second table, copies the
+/// next chunk on its way, and does not ask again.
 const RESIZED_BESIDE: [Line; 5] = [
     (Call(Compute(0)), ("asks", 1, 0), &[]),
     (Beside(Insert(8, 8)), GOES, &[]),
@@ -365,7 +366,14 @@ const RESIZED_BESIDE: [Line; 5] = [
     (
         Go,
         ("updated", 1, 10),
-        &[Block, Pair, Replaced(1), Stored(10, 1, 0), Deferred(1, 0)],
+        &[
+            Block,
+            Pair,
+            Copied(2, 1, 1),
+            Replaced(1),
+            Stored(10, 1, 0),
+            Deferred(1, 0),
+        ],
     ),
 ];
 
