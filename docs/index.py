@@ -20,7 +20,7 @@ HEAD = """# The files
 
 An index of all crates: each file with the first sentence of its first comment. It is made by `docs/index.py`, so change the comment
 and run that, and not this page. What the crates are for, and how they stand on one another, is told in
-[ARCHITECTURE.md](ARCHITECTURE.md).
+[CRATES.md](CRATES.md).
 
 `Answers.antt` and `Invariants.antt` below `proofs/` hold goals that are answered by hand, and the invariants of loops, of the one
 function that their folder is named for. They are counted here and not listed.

@@ -1,4 +1,4 @@
-//! What a call under way has yet to settle: what it has to count, and what it has in hand.
+//! The words in which pairs of a map are counted: they are those of the moment, whoever takes a step.
 #![tactic(auto)]
 
 pub mod law;
