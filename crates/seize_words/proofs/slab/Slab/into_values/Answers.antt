@@ -1,36 +1,20 @@
-use Rattle.std.proofs.Common.{◌≡◌, ◌∷◌, ◌++◌, [], Option, None, Some, length, sym, ap, refl, ◌∙◌, arith}
-use Rattle.std.proofs.lemmas.List.{append_assoc}
-use Rattle.std.specs.Vec.Iter.{into_iter_items}
-use Rattle.seize_words.specs.declared.block.Block.{Block}
-use Rattle.seize_words.proofs.Values.{values_with_none, values_with_some}
+use Rattle.std.proofs.Common.{rules, ◌≡◌, ◌<◌, ◌≤◌, ◌^◌, ◌+◌, ◌-◌, [], ◌∷◌, ◌++◌, None, Some, IsSome, IfOk, IfErr, OnOk, OnErr, length, slice_index_or, slice_set, ℕ, ◌*◌, ◌/◌, ◌%◌, Bool, true, false, nat_eq, nat_lt, List, bit_and, bit_or, Fits, w8, w32, w64, Bor, MutBor}
+use Rattle.std.specs.Vec.{vec_capacity, vec_len}
+use Rattle.seize_words.specs.Mem.{free_from, value_in, entry_in, word_in, with_entry, with_word_in, with_value_in, values_in, picked, with_made}
 use Rattle.seize_words.proofs.slab.Slab.into_values.Goals as goal
 
-pub loop-block-preserved-in-Some-block : goal.loop-block-preserved-in-Some-block
-loop-block-preserved-in-Some-block g c =
-    let steps = c.in-Some.ensures.steps in
-    let was = c.loop-block.invariant in
-    record {
-      values_are =
-          c.in_ok-push.ensures.items ∙ ap (λ vs. vs ++ c.in-Some-block.block.value ∷ []) was.values_are
-          ∙ sym (rw c.in-Some-block.is (values_with_some c.loop-block.yielded c.in-Some-block.block));
-      all =
-          append_assoc c.loop-block.yielded (c.in-Some.block ∷ []) (into_iter_items c.next.new.self)
-          ∙ ap (λ es. c.loop-block.yielded ++ es) (sym steps.0) ∙ was.all;
-      counted = omega (arith, steps.1, ap length steps.0, was.counted);
-    }
+-- src/slab.rt:223:9
+pub loop-value-init : goal.loop-value-init
+loop-value-init g c = ?
 
-none_of : {T : Type 0} (x : Option (Block T)) → ((b : Block T) → x ≡ Some b → ⊥) → x ≡ None
-none_of None f = refl
-none_of (Some b) f = absurd (f b refl)
+-- src/slab.rt:223:9
+pub loop-value-preserved-in-Continue-1 : goal.loop-value-preserved-in-Continue-1
+loop-value-preserved-in-Continue-1 g c = ?
 
-pub loop-block-preserved : goal.loop-block-preserved
-loop-block-preserved g c =
-    let steps = c.in-Some.ensures.steps in
-    let was = c.loop-block.invariant in
-    record {
-      values_are = was.values_are ∙ sym (rw (none_of c.in-Some.block c.in_default.not-Some) (values_with_none c.loop-block.yielded));
-      all =
-          append_assoc c.loop-block.yielded (c.in-Some.block ∷ []) (into_iter_items c.next.new.self)
-          ∙ ap (λ es. c.loop-block.yielded ++ es) (sym steps.0) ∙ was.all;
-      counted = omega (arith, steps.1, ap length steps.0, was.counted);
-    }
+-- src/slab.rt:223:9
+pub loop-value-preserved : goal.loop-value-preserved
+loop-value-preserved g c = ?
+
+-- src/slab.rt:219:5
+pub returns : goal.returns
+returns g c = ?

@@ -1,12 +1,7 @@
-use Rattle.std.proofs.Common.{◌≡◌, ◌++◌, length}
-use Rattle.std.specs.Vec.Iter.{into_iter_items, into_iter_len}
-use Rattle.seize_words.specs.Mem.{values_in}
+use Rattle.std.proofs.Common.{◌≡◌, ◌<◌, ◌≤◌, ◌^◌, ◌+◌, ◌-◌, [], ◌∷◌, ◌++◌, None, Some, IsSome, IfOk, IfErr, OnOk, OnErr, length, slice_index_or, slice_set, ℕ, ◌*◌}
+use Rattle.std.specs.Vec.{vec_capacity, vec_len}
+use Rattle.seize_words.specs.Mem.{free_from, value_in, entry_in, word_in, with_entry, with_word_in, with_value_in, values_in, picked, with_made}
 use Rattle.seize_words.proofs.slab.Slab.into_values.Given as goal
 
--- the values of the blocks so far, and the others are left
-abbrev pub invariant-loop-block : goal.invariant-loop-block
-invariant-loop-block g l = record {
-  values_are : l.values.items ≡ values_in l.yielded;
-  all : l.yielded ++ into_iter_items l.block-iterator ≡ l.fn.self;
-  counted : length (into_iter_items l.block-iterator) ≡ into_iter_len l.block-iterator;
-}
+abbrev pub invariant-loop-value : goal.invariant-loop-value
+invariant-loop-value g l = ?
