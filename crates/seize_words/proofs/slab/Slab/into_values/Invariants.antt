@@ -1,7 +1,12 @@
-use Rattle.std.proofs.Common.{◌≡◌, ◌<◌, ◌≤◌, ◌^◌, ◌+◌, ◌-◌, [], ◌∷◌, ◌++◌, None, Some, IsSome, IfOk, IfErr, OnOk, OnErr, length, slice_index_or, slice_set, ℕ, ◌*◌}
-use Rattle.std.specs.Vec.{vec_capacity, vec_len}
-use Rattle.seize_words.specs.Mem.{free_from, value_in, entry_in, word_in, with_entry, with_word_in, with_value_in, values_in, picked, with_made}
+use Rattle.std.proofs.Common.{◌≡◌, ◌++◌, length}
+use Rattle.std.specs.Vec.Iter.{into_iter_items, into_iter_len}
+use Rattle.seize_words.proofs.Joined.{values_of}
 use Rattle.seize_words.proofs.slab.Slab.into_values.Given as goal
 
+-- the values so far, and the others are left
 abbrev pub invariant-loop-value : goal.invariant-loop-value
-invariant-loop-value g l = ?
+invariant-loop-value g l = record {
+  values_are : l.values.items ≡ values_of l.yielded;
+  all : l.yielded ++ into_iter_items l.value-iterator ≡ l.self-inside.values.items;
+  counted : length (into_iter_items l.value-iterator) ≡ into_iter_len l.value-iterator;
+}
