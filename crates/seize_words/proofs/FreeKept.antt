@@ -13,7 +13,7 @@ use Rattle.seize_words.proofs.FreeNumbers.{IsFree, free_at}
 
 module _ {T : Type 0} where
   -- another block in place of one
-  free_from-set_some : (n : ℕ) (blocks : List (Option (Block T))) (i : ℕ) (x y : Block T) → slice_index_or blocks i (Some x) ≡ Some x
+  free_from-set_some : (n : ℕ) (blocks : List (Option (Block T))) (i : ℕ) (x y : Block T) → slice_index_or blocks i None ≡ Some x
       → free_from n (slice_set blocks i (Some y)) ≡ free_from n blocks
   free_from-set_some n [] i x y is = refl
   free_from-set_some n (None ∷ rest) zero x y is = absurd (cc)
@@ -83,11 +83,11 @@ module _ {T : Type 0} where
       ∙ flagged-given n i (flags_of blocks) (omega (arith, within, length-flags blocks))
       ∙ ap (with_number (n + i)) (sym (free_from-flags n blocks))
 
-  pub IsKept-set_some : (blocks : List (Option (Block T))) (free : FreeNumbers) (i : ℕ) (old : Option (Block T)) (x y : Block T)
-      → IsKept blocks free → old ≡ slice_index_or blocks i old → old ≡ Some x → IsKept (slice_set blocks i (Some y)) free
-  IsKept-set_some blocks free i old x y kept at is = record {
+  pub IsKept-set_some : (blocks : List (Option (Block T))) (free : FreeNumbers) (i : ℕ) (x y : Block T) → IsKept blocks free
+      → slice_index_or blocks i None ≡ Some x → IsKept (slice_set blocks i (Some y)) free
+  IsKept-set_some blocks free i x y kept is = record {
     few = omega (arith, kept.few, length-set blocks i (Some y));
-    are_free = kept.are_free ∙ sym (free_from-set_some 1 blocks i x y (sym (subst (λ (o : Option (Block T)). o ≡ slice_index_or blocks i o) is at)));
+    are_free = kept.are_free ∙ sym (free_from-set_some 1 blocks i x y is);
     fit = omega (arith, kept.fit, length-set blocks i (Some y));
   }
 
@@ -125,13 +125,6 @@ module _ {T : Type 0} where
 
   pub free_few : (blocks : List (Option (Block T))) (free : FreeNumbers) → IsKept blocks free → length free.numbers < 2 ^ 53
   free_few blocks free kept = omega (arith, kept.few, ap length kept.are_free, length-free_from 1 blocks)
-
-  pub no_block_there : (blocks : List (Option (Block T))) (number : ℕ) (old : Option (Block T)) (x : Block T) → IsFree 1 blocks number
-      → old ≡ slice_index_or blocks (number - 1) old → old ≡ Some x → ⊥
-  no_block_there blocks number old x f at is =
-      let none : slice_index_or blocks (number - 1) old ≡ None =
-      get_or_default blocks (number - 1) old None (omega (arith, f.least, f.most)) ∙ f.none in
-      cc
 
   pub IsKept-room : (blocks : List (Option (Block T))) (free more : FreeNumbers) → IsKept blocks free → more.numbers ≡ free.numbers
       → length blocks ≤ more.room → IsKept blocks more

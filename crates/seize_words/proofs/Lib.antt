@@ -2,7 +2,8 @@ mod FreeFlags
 mod FreeKept
 mod FreeNumbers
 mod FreeTrees
+mod Joined
+mod SlabKept
 pub mod OneOwner
 pub mod Places
 pub mod Plans
-mod Values

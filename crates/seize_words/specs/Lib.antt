@@ -8,3 +8,4 @@ pub mod Plan
 pub mod Buckets
 pub mod FreeNumbers
 pub mod Free
+pub mod Slab

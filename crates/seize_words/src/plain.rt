@@ -100,8 +100,8 @@ impl<T> Plain<T> {
             At::Root(root) => self.roots.get(root),
             At::Used(root) => self.used.get(root),
             At::Slot(slot, field) => self.slots.get(slot, field),
-            At::Entry(block, place) => self.blocks.block(block - 1).entry.get(place),
-            At::Word(block, place) => self.blocks.block(block - 1).words.get(place),
+            At::Entry(block, place) => self.blocks.entry(block - 1, place),
+            At::Word(block, place) => self.blocks.word(block - 1, place),
         }
     }
 
@@ -110,7 +110,7 @@ impl<T> Plain<T> {
         requires { IsSome (value_at self.now block) }
         ensures { value_at self.now block ≡ Some result.now }
     {
-        &self.blocks.block(block - 1).value
+        self.blocks.value(block - 1)
     }
 
     #[inline(always)]

@@ -1,9 +1,12 @@
 //! Blocks by their numbers, and the numbers that are free.
-ghost use Rattle.std.specs.Prelude.{◌≡◌, ◌<◌, ◌^◌, ◌+◌, ◌-◌, [], ◌∷◌, ◌++◌, None, Some, IsSome, IfOk, IfErr, length, slice_index_or, slice_set};
+ghost use Rattle.std.specs.Prelude.{◌≡◌, ◌<◌, ◌≤◌, ◌^◌, ◌+◌, ◌-◌, [], ◌∷◌, ◌++◌, None, Some, IsSome, IfOk, IfErr, OnOk, OnErr, length, slice_index_or, slice_set};
+ghost use Rattle.std.specs.Vec.{vec_capacity, vec_len};
 ghost use Rattle.seize_words.specs.Mem.{free_from, value_in, entry_in, word_in, with_entry, with_word_in, with_value_in, values_in, picked, with_made};
 
-use crate::block::Block;
+use crate::block::{Block, ENTRY_WORDS};
 use crate::free_numbers::FreeNumbers;
+use crate::word_array::WordArray;
+use crate::words::Words;
 use std::alloc::{AllocError, Global};
 use std::marker::Model;
 use std::mem;
@@ -11,24 +14,48 @@ use std::mem;
 /// Block numbers are below this one.
 const NUMBERS: u64 = 1 << 53;
 
-/// Blocks by their numbers, in one growing table. The block of number n stands at place n - 1.
+/// Blocks by their numbers, in three tables that grow together: who asks for values alone does not read the words. The parts of the
+/// block of number n stand at place n - 1.
 #[derive(Drop)]
 pub(crate) struct Slab<T> {
-    blocks: Vec<Option<Block<T>>>,
+    alloc: Global,
+    values: Vec<Option<T>>,
+    entries: Vec<Words<ENTRY_WORDS>>,
+    words: Vec<WordArray>,
     free: FreeNumbers,
 }
 
 impl<T> Model for Slab<T> {
     ghost use Rattle.std.specs.Prelude.{List, Option};
     ghost use Rattle.seize_words.specs.declared.block.Block.{Block};
-    ghost use Rattle.seize_words.specs.Free.{IsKept};
+    ghost use Rattle.seize_words.specs.Slab.{IsSlab, joined};
 
     ghost Value = { List (Option (Block T)) };
 
-    ghost view = { λ t. t.blocks.items };
+    ghost view = { λ t. joined t.values.items t.entries.items t.words.items };
 
-    // The free numbers are those of the table, and each block's number has room among them.
-    ghost invariant = { λ t. IsKept t.blocks.items t.free };
+    // The tables are of one length, the free numbers are theirs, and each block's number has room among them.
+    ghost invariant = { λ t. IsSlab t.values.items t.entries.items t.words.items t.free };
+}
+
+/// Makes room for the words of a further block, and for its number among the free ones. On an error no number has changed.
+fn grow(
+    entries: &mut Vec<Words<ENTRY_WORDS>>,
+    words: &mut Vec<WordArray>,
+    free: &mut FreeNumbers,
+    number: u64,
+) -> Result<(), AllocError>
+    requires { number ≤ free.old.room + 1 }
+    ensures entries { entries.new.items ≡ entries.old.items }
+    ensures words { words.new.items ≡ words.old.items }
+    ensures numbers { free.new.numbers ≡ free.old.numbers }
+    ensures room { OnOk result (number ≤ free.new.room) }
+    ensures fits { OnOk result ((vec_len entries.new < vec_capacity entries.new) × (vec_len words.new < vec_capacity words.new)) }
+    ensures err { OnErr result (free.new ≡ free.old) }
+{
+    entries.reserve(1)?;
+    words.reserve(1)?;
+    free.make_room(number)
 }
 
 impl<T> Slab<T> {
@@ -37,42 +64,60 @@ impl<T> Slab<T> {
         ensures { result ≡ [] }
     {
         Slab {
-            blocks: Vec::new(alloc),
+            alloc,
+            values: Vec::new(alloc),
+            entries: Vec::new(alloc),
+            words: Vec::new(alloc),
             free: FreeNumbers::none(alloc),
         }
     }
 
-    /// The block at a place.
-    pub(crate) fn block(&self, place: u64) -> &Block<T>
-        requires { IsSome (slice_index_or self.now place None) }
-        ensures { slice_index_or self.now place None ≡ Some result.now }
+    /// The value of the block at a place.
+    #[inline(always)]
+    pub(crate) fn value(&self, place: u64) -> &T
+        requires { IsSome (value_in (slice_index_or self.now place None)) }
+        ensures { value_in (slice_index_or self.now place None) ≡ Some result.now }
     {
-        match &self.blocks[place as usize] {
+        match &self.values[place as usize] {
             Some(found) => found,
             None => unreachable!(),
         }
     }
 
+    /// A word of the entry of the block at a place.
+    #[inline(always)]
+    pub(crate) fn entry(&self, place: u64, index: u64) -> u64
+        requires { IsSome (entry_in (slice_index_or self.now place None) index) }
+        ensures { entry_in (slice_index_or self.now place None) index ≡ Some result }
+    {
+        self.entries[place as usize].get(index)
+    }
+
+    /// A word of the block at a place.
+    #[inline(always)]
+    pub(crate) fn word(&self, place: u64, index: u64) -> u64
+        requires { IsSome (word_in (slice_index_or self.now place None) index) }
+        ensures { word_in (slice_index_or self.now place None) index ≡ Some result }
+    {
+        self.words[place as usize].get(index)
+    }
+
     /// Writes a word of the entry of the block at a place.
+    #[inline(always)]
     pub(crate) fn set_entry(&mut self, place: u64, index: u64, word: u64)
         requires { IsSome (entry_in (slice_index_or self.old place None) index) }
         ensures { self.new ≡ slice_set self.old place (with_entry (slice_index_or self.old place None) index word) }
     {
-        match &mut self.blocks[place as usize] {
-            Some(found) => found.entry.set(index, word),
-            None => unreachable!(),
-        }
+        self.entries[place as usize].set(index, word);
     }
 
     /// Writes a word of the block at a place.
+    #[inline(always)]
     pub(crate) fn set_word(&mut self, place: u64, index: u64, word: u64)
         requires { IsSome (word_in (slice_index_or self.old place None) index) }
         ensures { self.new ≡ slice_set self.old place (with_word_in (slice_index_or self.old place None) index word) }
     {
-        match &mut self.blocks[place as usize] {
-            Some(found) => found.words.set(index, word),
-            None => unreachable!(),
-        }
+        self.words[place as usize].set(index, word);
     }
 
     /// Replaces the value of the block at a place, and answers the one before.
@@ -81,8 +126,8 @@ impl<T> Slab<T> {
         ensures before { value_in (slice_index_or self.old place None) ≡ Some result }
         ensures after { self.new ≡ slice_set self.old place (with_value_in (slice_index_or self.old place None) value) }
     {
-        match &mut self.blocks[place as usize] {
-            Some(found) => mem::replace(&mut found.value, value),
+        match &mut self.values[place as usize] {
+            Some(found) => mem::replace(found, value),
             None => unreachable!(),
         }
     }
@@ -93,9 +138,16 @@ impl<T> Slab<T> {
         ensures number { result ≡ slice_index_or (free_from 1 self.old) before result }
         ensures after { self.new ≡ slice_set self.old (result - 1) (Some made) }
     {
-        let blocks = &mut self.blocks;
         let number = self.free.take(before);
-        match mem::replace(&mut blocks[(number - 1) as usize], Some(made)) {
+        let place = (number - 1) as usize;
+        let Block {
+            value,
+            entry,
+            words,
+        } = made;
+        self.entries[place] = entry;
+        self.words[place] = words;
+        match mem::replace(&mut self.values[place], Some(value)) {
             None => number,
             Some(_) => unreachable!(),
         }
@@ -106,17 +158,26 @@ impl<T> Slab<T> {
         ensures ok { IfOk result (λ number. (number ≡ length self.old + 1) × (number < 2 ^ 53) × (self.new ≡ self.old ++ Some made ∷ [])) }
         ensures err { IfErr result (λ back. (back ≡ made.value) × (self.new ≡ self.old)) }
     {
-        let number = self.blocks.len() as u64 + 1;
+        let number = self.values.len() as u64 + 1;
         if number >= NUMBERS {
             return Err(made.into_value());
         }
-        let Ok(()) = self.free.make_room(number) else {
+        let Ok(()) = grow(&mut self.entries, &mut self.words, &mut self.free, number) else {
             return Err(made.into_value());
         };
-        match self.blocks.push(Some(made)) {
-            Ok(()) => Ok(number),
+        let Block {
+            value,
+            entry,
+            words,
+        } = made;
+        match self.values.push(Some(value)) {
+            Ok(()) => {
+                let _ = self.entries.push(entry);
+                let _ = self.words.push(words);
+                Ok(number)
+            }
             Err(refused) => match refused.value {
-                Some(made) => Err(made.into_value()),
+                Some(value) => Err(value),
                 None => unreachable!(),
             },
         }
@@ -142,11 +203,12 @@ impl<T> Slab<T> {
         ensures before { value_in (slice_index_or self.old place None) ≡ Some result }
         ensures after { self.new ≡ slice_set self.old place None }
     {
-        let taken = mem::replace(&mut self.blocks[place as usize], None);
+        let taken = mem::replace(&mut self.values[place as usize], None);
+        self.words[place as usize] = WordArray::none(self.alloc);
         let number = place + 1;
         self.free.give(number);
         match taken {
-            Some(found) => found.into_value(),
+            Some(found) => found,
             None => unreachable!(),
         }
     }
@@ -158,9 +220,9 @@ impl<T: Drop> Slab<T> {
         ensures { IfOk result (λ values. values.items ≡ values_in self) }
     {
         let mut values = Vec::new(alloc);
-        for block in self.blocks {
-            if let Some(block) = block {
-                values.push(block.value)?;
+        for value in self.values {
+            if let Some(value) = value {
+                values.push(value)?;
             }
         }
         Ok(values)

@@ -1,5 +1,5 @@
 //! Rows of words, as many as are asked for.
-ghost use Rattle.std.specs.Prelude.{◌≡◌, IsSome, IfOk, slice_get, slice_set, replicate};
+ghost use Rattle.std.specs.Prelude.{◌≡◌, [], IsSome, IfOk, slice_get, slice_set, replicate};
 
 use std::alloc::{AllocError, Global};
 use std::marker::Model;
@@ -19,6 +19,15 @@ impl Model for WordArray {
 }
 
 impl WordArray {
+    /// No word. It takes no memory.
+    pub fn none(alloc: Global) -> Self
+        ensures { result ≡ [] }
+    {
+        WordArray {
+            items: Vec::new(alloc),
+        }
+    }
+
     /// As many words, each 0.
     pub fn zeros(alloc: Global, count: u64) -> Result<Self, AllocError>
         ensures { IfOk result (λ row. row ≡ replicate count 0) }

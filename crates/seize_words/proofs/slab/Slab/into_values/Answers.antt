@@ -1,36 +1,42 @@
-use Rattle.std.proofs.Common.{◌≡◌, ◌∷◌, ◌++◌, [], Option, None, Some, length, sym, ap, refl, ◌∙◌, arith}
-use Rattle.std.proofs.lemmas.List.{append_assoc}
+use Rattle.std.proofs.Common.{rules, ◌≡◌, ◌∷◌, ◌++◌, [], None, Some, length, sym, ap, ◌∙◌, arith, append-nil}
+use Rattle.std.proofs.lemmas.List.{append_assoc, nil_from_length}
 use Rattle.std.specs.Vec.Iter.{into_iter_items}
-use Rattle.seize_words.specs.declared.block.Block.{Block}
-use Rattle.seize_words.proofs.Values.{values_with_none, values_with_some}
+use Rattle.seize_words.proofs.Joined.{values_in-joined, values_of, values_of-more}
 use Rattle.seize_words.proofs.slab.Slab.into_values.Goals as goal
 
-pub loop-block-preserved-in-Some-block : goal.loop-block-preserved-in-Some-block
-loop-block-preserved-in-Some-block g c =
+pub loop-value-preserved-in-Continue-1 : goal.loop-value-preserved-in-Continue-1
+loop-value-preserved-in-Continue-1 g c =
     let steps = c.in-Some.ensures.steps in
-    let was = c.loop-block.invariant in
+    let was = c.loop-value.invariant in
     record {
       values_are =
-          c.in_ok-push.ensures.items ∙ ap (λ vs. vs ++ c.in-Some-block.block.value ∷ []) was.values_are
-          ∙ sym (rw c.in-Some-block.is (values_with_some c.loop-block.yielded c.in-Some-block.block));
+          c.in_ok-push.ensures.items ∙ ap (λ vs. vs ++ c.in-Some-value.value ∷ []) was.values_are
+          ∙ sym (rw c.in-Some-value.is (values_of-more c.loop-value.yielded (Some c.in-Some-value.value)));
       all =
-          append_assoc c.loop-block.yielded (c.in-Some.block ∷ []) (into_iter_items c.next.new.self)
-          ∙ ap (λ es. c.loop-block.yielded ++ es) (sym steps.0) ∙ was.all;
+          append_assoc c.loop-value.yielded (c.in-Some.value ∷ []) (into_iter_items c.next.new.self)
+          ∙ ap (λ es. c.loop-value.yielded ++ es) (sym steps.0) ∙ was.all;
       counted = omega (arith, steps.1, ap length steps.0, was.counted);
     }
 
-none_of : {T : Type 0} (x : Option (Block T)) → ((b : Block T) → x ≡ Some b → ⊥) → x ≡ None
-none_of None f = refl
-none_of (Some b) f = absurd (f b refl)
-
-pub loop-block-preserved : goal.loop-block-preserved
-loop-block-preserved g c =
+pub loop-value-preserved : goal.loop-value-preserved
+loop-value-preserved g c =
     let steps = c.in-Some.ensures.steps in
-    let was = c.loop-block.invariant in
+    let was = c.loop-value.invariant in
     record {
-      values_are = was.values_are ∙ sym (rw (none_of c.in-Some.block c.in_default.not-Some) (values_with_none c.loop-block.yielded));
+      values_are = was.values_are ∙ sym (rw c.in_default.is (values_of-more c.loop-value.yielded None) ∙ append-nil (values_of c.loop-value.yielded));
       all =
-          append_assoc c.loop-block.yielded (c.in-Some.block ∷ []) (into_iter_items c.next.new.self)
-          ∙ ap (λ es. c.loop-block.yielded ++ es) (sym steps.0) ∙ was.all;
+          append_assoc c.loop-value.yielded (c.in-Some.value ∷ []) (into_iter_items c.next.new.self)
+          ∙ ap (λ es. c.loop-value.yielded ++ es) (sym steps.0) ∙ was.all;
       counted = omega (arith, steps.1, ap length steps.0, was.counted);
     }
+
+pub returns : goal.returns
+returns g c =
+    let t = c.self.inside in
+    let was = c.loop-value.invariant in
+    let none : into_iter_items c.loop-value.value-iterator ≡ [] = nil_from_length (into_iter_items c.loop-value.value-iterator) (was.counted ∙ c.in-None.ensures.steps.0) in
+    let all : c.loop-value.yielded ≡ t.values.items =
+    sym (append-nil c.loop-value.yielded) ∙ ap (λ es. c.loop-value.yielded ++ es) (sym none) ∙ was.all in
+    rw (← c.self.view_is)
+    (was.values_are ∙ ap values_of all
+    ∙ values_in-joined t.values.items t.entries.items t.words.items c.self.invariant.entries_fit c.self.invariant.rows_fit)

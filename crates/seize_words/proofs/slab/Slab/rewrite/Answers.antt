@@ -1,7 +1,36 @@
-use Rattle.seize_words.proofs.FreeKept.{IsKept-set_some}
+use Rattle.std.proofs.Common.{rules, ◌≡◌, None, Some, IsSome, sym, ap, ◌∙◌}
+use Rattle.std.specs.Prelude.{slice_index_or}
+use Rattle.seize_words.specs.Mem.{value_in}
+use Rattle.seize_words.specs.Slab.{joined}
+use Rattle.seize_words.proofs.SlabKept.{value_within, value_found, value_written, IsSlab-value}
 use Rattle.seize_words.proofs.slab.Slab.rewrite.Goals as goal
+
+pub index_mut-requires : goal.index_mut-requires
+index_mut-requires g c =
+    let t = c.self.inside in
+    search (rules, value_within t.values.items t.entries.items t.words.items t.free c.self.invariant c.args.place (rw c.self.view_is c.requires))
+
+pub unreachable-requires : goal.unreachable-requires
+unreachable-requires g c =
+    let t = c.self.inside in
+    let some : IsSome (value_in (slice_index_or (joined t.values.items t.entries.items t.words.items) c.args.place None)) = rw c.self.view_is c.requires in
+    let e = value_found t.values.items t.entries.items t.words.items t.free c.self.invariant c.args.place some c.index_mut.result.now c.index_mut.ensures.value in
+    let none : IsSome {T = g.row.T.Denot} None = rw (e ∙ c.in-None.is) at some in
+    absurd (cc)
 
 pub invariant_of-self : goal.invariant_of-self
 invariant_of-self g c =
-    IsKept-set_some c.self.inside.blocks.items c.self.inside.free c.args.place c.index_mut.result.now _ _ c.self.invariant
-    c.index_mut.ensures.value c.in-Some.is
+    let t = c.self.inside in
+    IsSlab-value t.values.items t.entries.items t.words.items t.free c.self.invariant c.args.place (rw c.self.view_is c.requires) c.replace.new.dest
+
+pub returns-clause-before : goal.returns-clause-before
+returns-clause-before g c =
+    let t = c.self.inside in
+    let e = value_found t.values.items t.entries.items t.words.items t.free c.self.invariant c.args.place (rw c.self.view_is c.requires) c.index_mut.result.now c.index_mut.ensures.value in
+    rw (← c.self.view_is) (e ∙ c.in-Some.is ∙ ap Some (sym c.replace.ensures.value))
+
+pub returns-clause-after : goal.returns-clause-after
+returns-clause-after g c =
+    let t = c.self.inside in
+    rw (← c.self.view_is, ← c.replace.ensures.after)
+    (value_written t.values.items t.entries.items t.words.items t.free c.self.invariant c.args.place (rw c.self.view_is c.requires) c.replace.new.dest)
