@@ -1,3 +1,4 @@
+pub mod Places
 pub mod Tallies
 pub mod Numbers
 mod Taken

@@ -4,7 +4,7 @@ use Rattle.std.proofs.Common.{◌≡◌, ◌+◌, ◌<◌, ◌≤◌, ℕ, suc, 
 use Rattle.papaya_tally.specs.Tally.{flagged}
 use Rattle.papaya_tally.specs.declared.tally.Flagged.{Flagged}
 use Rattle.papaya_tally.proofs.Tallies.{changed_length, set_all, set_next, unchanged_at}
-use Rattle.papaya_tally.proofs.tally.flag.Goals as goal
+use Rattle.papaya_tally.proofs.tally.flag_each.Goals as goal
 
 pub loop-place-init : goal.loop-place-init
 loop-place-init c = refl
