@@ -1,4 +1,4 @@
-pub mod Places
+pub mod Leading
 pub mod Tallies
 pub mod Numbers
 mod Taken

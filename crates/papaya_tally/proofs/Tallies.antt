@@ -21,7 +21,7 @@ use Rattle.papaya_tally.specs.declared.tally.Flagged.{Flagged}
 use Rattle.papaya_tally.specs.declared.tally.Tally.{Tally}
 use Rattle.papaya_tally.specs.declared.tally.Whereabouts.{Whereabouts}
 use Rattle.papaya_tally.specs.declared.tally.Whereabouts.TheVariants.{Unborn, Waits}
-use Rattle.papaya_tally.proofs.Places.{leads_then, same_leads, still_leads}
+use Rattle.papaya_tally.proofs.Leading.{leads_then, same_leads, still_leads}
 
 pub ok_so : {X E : Type 0} (r : Result X E) (P Q : Type 0) → OnOk r P → (P → Q) → OnOk r Q
 ok_so (Ok x) P Q p f = f p

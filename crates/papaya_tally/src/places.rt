@@ -1,6 +1,7 @@
 //! Where each table stands in the list of those that ever were tables of maps.
-ghost use Rattle.std.specs.Prelude.{◌≡◌, OnOk};
-ghost use Rattle.papaya_tally.specs.Places.{Comes, place_of};
+ghost use Rattle.std.specs.Prelude.{◌≡◌, true, None, OnOk};
+ghost use Rattle.papaya_schedules.specs.declared.effect.Table.{Table};
+ghost use Rattle.papaya_tally.specs.Places.{Comes, place_of, put_at};
 
 use papaya_schedules::effect::Table;
 use std::alloc::{AllocError, Global};
@@ -16,7 +17,10 @@ pub struct Places {
 
 impl Places {
     /// No table came yet.
-    pub fn nothing(alloc: Global) -> Self {
+    pub fn nothing(alloc: Global) -> Self
+        ensures whole { result.is_whole ≡ true }
+        ensures places { (table : Table) → put_at table result ≡ None }
+    {
         Places {
             by_turn: HashMap::new(alloc),
             is_whole: true,

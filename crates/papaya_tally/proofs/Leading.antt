@@ -3,7 +3,7 @@ use Rattle.std.specs.Prelude.{◌≡◌, ℕ, zero, suc, ◌+◌, ◌<◌, Bool,
 use Rattle.std.proofs.Common.{refl, sym, ap, subst, ◌∙◌, arith}
 use Rattle.papaya_schedules.specs.declared.effect.Table.{Table}
 use Rattle.papaya_schedules.specs.Things.{same_table}
-use Rattle.papaya_tally.specs.Places.{AreFound, Comes, Leads, put_at}
+use Rattle.papaya_tally.specs.Places.{AreFound, Comes, Leads, place_of, put_at}
 use Rattle.papaya_tally.specs.Tally.{flagged}
 use Rattle.papaya_tally.specs.declared.places.Places.{Places}
 use Rattle.papaya_tally.specs.declared.tally.Flagged.{Flagged}
@@ -12,6 +12,14 @@ use Rattle.papaya_tally.specs.declared.tally.Flagged.{Flagged}
 same_place : (t u : Table) (places : Places) → same_table t u ≡ true → put_at t places ≡ put_at u places
 same_place t u places same =
     let maps : t.map ≡ u.map = grind (arith, same) in let turns : t.turn ≡ u.turn = grind (arith, same) in λ i. put_at (record { map = maps i; turn = turns i }) places
+
+-- what has a place has it where no table came twice
+found_whole : (places : Places) (t : Table) (n : ℕ) → place_of t places ≡ Some n → (places.is_whole ≡ true) × (put_at t places ≡ Some n)
+found_whole places t n = by places.is_whole
+  where
+    by : (b : Bool) → (if b then put_at t places else None) ≡ Some n → (b ≡ true) × (put_at t places ≡ Some n)
+    by true is = (refl, is)
+    by false is = absurd (cc is)
 
 -- the places and their list are the same
 pub same_leads : (old new : Places) (before after : List Flagged) → new ≡ old → after ≡ before → Leads old before → Leads new after
@@ -32,13 +40,17 @@ module _ (places : Places) (t : Table) (flag : Bool) where
   all_others (u ∷ tables) k n its before found =
       λ i. other u k n its found.0 (λ e. omega (arith, before, e)) i ∷ all_others tables k (suc n) its (omega (arith, before)) found.1 i
 
-  -- it goes to the place alone where the table is found
-  pub one_flag : (tables : List Flagged) (k n : ℕ) (d : Flagged) → put_at t places ≡ Some (n + k) → AreFound places n tables
+  one_flag : (tables : List Flagged) (k n : ℕ) (d : Flagged) → put_at t places ≡ Some (n + k) → AreFound places n tables
       → map (flagged t flag) tables ≡ slice_set tables k (flagged t flag (slice_index_or tables k d))
   one_flag [] k n d its found = refl
   one_flag (u ∷ tables) zero n d its found = ap (λ (l : List Flagged). flagged t flag u ∷ l) (all_others tables (n + 0) (suc n) its (omega arith) found.1)
   one_flag (u ∷ tables) (suc k) n d its found =
       λ i. other u (n + suc k) n its found.0 (λ e. omega (arith, e)) i ∷ one_flag tables k (suc n) d (its ∙ ap Some (omega arith)) found.1 i
+
+  -- it goes to the place alone where the table is found
+  pub flag_there : (tables : List Flagged) (k : ℕ) (d : Flagged) → place_of t places ≡ Some k → Leads places tables
+      → map (flagged t flag) tables ≡ slice_set tables k (flagged t flag (slice_index_or tables k d))
+  flag_there tables k d its leads = let found = found_whole places t k its in one_flag tables k 0 d (found.1 ∙ ap Some (omega arith)) (leads found.0)
 
   still_found : (tables : List Flagged) (n : ℕ) → AreFound places n tables → AreFound places n (map (flagged t flag) tables)
   still_found [] n found = tt
@@ -62,4 +74,4 @@ module _ (t : Table) (place : ℕ) (old new : Places) (comes : Comes t place old
       by false same = comes.others u.table same ∙ found.0
 
   pub leads_then : (tables : List Flagged) → place ≡ length tables → Leads old tables → Leads new (tables ++ record { table = t; is_retired = false } ∷ [])
-  leads_then tables is leads whole = let first = comes.first whole in found_then tables 0 first.1 is (leads first.0)
+  leads_then tables is leads whole = let first = comes.first whole in found_then tables 0 first.1 (omega (arith, is)) (leads first.0)
