@@ -1,5 +1,5 @@
 -- Tables that are found at their places: another flag goes to one place, and a table that comes stands behind the others.
-use Rattle.std.specs.Prelude.{◌≡◌, ℕ, zero, suc, ◌+◌, ◌<◌, Bool, true, false, List, [], ◌∷◌, ◌++◌, length, map, Some, None, slice_index_or, slice_set, if◌then◌else◌}
+use Rattle.std.specs.Prelude.{◌≡◌, ℕ, zero, suc, ◌+◌, ◌<◌, ◌&&◌, Bool, true, false, List, [], ◌∷◌, ◌++◌, length, map, Option, Some, None, is_none, slice_index_or, slice_set, if◌then◌else◌}
 use Rattle.std.proofs.Common.{refl, sym, ap, subst, ◌∙◌, arith}
 use Rattle.papaya_schedules.specs.declared.effect.Table.{Table}
 use Rattle.papaya_schedules.specs.Things.{same_table}
@@ -74,4 +74,9 @@ module _ (t : Table) (place : ℕ) (old new : Places) (comes : Comes t place old
       by false same = comes.others u.table same ∙ found.0
 
   pub leads_then : (tables : List Flagged) → place ≡ length tables → Leads old tables → Leads new (tables ++ record { table = t; is_retired = false } ∷ [])
-  leads_then tables is leads whole = let first = comes.first whole in found_then tables 0 first.1 (omega (arith, is)) (leads first.0)
+  leads_then tables is leads whole = let first = both old.is_whole (put_at t old) (sym comes.whole ∙ whole) in found_then tables 0 first.1 (omega (arith, is)) (leads first.0)
+    where
+      both : (b : Bool) (o : Option ℕ) → (b && is_none o) ≡ true → (b ≡ true) × (o ≡ None)
+      both true None e = (refl, refl)
+      both true (Some n) e = absurd (cc e)
+      both false o e = absurd (cc e)

@@ -1,5 +1,5 @@
 -- Where tables stand in a list, and that each is found there.
-use Rattle.std.specs.Prelude.{◌≡◌, ℕ, suc, ◌&&◌, Bool, true, false, nat_eq, List, [], ◌∷◌, Option, Some, None, if◌then◌else◌}
+use Rattle.std.specs.Prelude.{◌≡◌, ℕ, suc, ◌&&◌, true, false, nat_eq, List, [], ◌∷◌, Option, Some, None, is_none, if◌then◌else◌}
 use Rattle.std.specs.HashMap.{get_by}
 use Rattle.papaya_schedules.specs.declared.effect.Table.{Table}
 use Rattle.papaya_schedules.specs.Things.{same_table}
@@ -23,8 +23,8 @@ AreFound places n (u ∷ tables) = (put_at u.table places ≡ Some n) × AreFoun
 abbrev pub Leads : Places → List Flagged → Type 0
 Leads places tables = places.is_whole ≡ true → AreFound places 0 tables
 
--- a table comes, to stand at this place
+-- a table comes, to stand at this place; no table came twice if none had, and this one had not come
 pub record Comes (t : Table) (place : ℕ) (old new : Places) : Type 0 where
-  pub first : new.is_whole ≡ true → (old.is_whole ≡ true) × (put_at t old ≡ None)
+  pub whole : new.is_whole ≡ (old.is_whole && is_none (put_at t old))
   pub here : put_at t new ≡ Some place
   pub others : (u : Table) → same_table t u ≡ false → put_at u new ≡ put_at u old
