@@ -30,6 +30,7 @@ use Rattle.papaya_events.specs.OfCalls.{Runs}
 use Rattle.papaya_events.specs.Given.Folded.Folded.{HandsInOrder}
 use Rattle.papaya_events.proofs.Given.Folded.Logs.{ended_calls_fold}
 use Rattle.papaya_running.specs.Run.{GoesRight, HandsOn, IsRightRun, SoFar, TellsMost, log_so}
+use Rattle.papaya_tally.specs.Places.{Leads}
 use Rattle.papaya_tally.specs.Tally.{Tells, TellsAll, TellsMoment, counted, deferral, flag_of}
 use Rattle.papaya_running.specs.declared.record.Record.{Record}
 use Rattle.papaya_logged.specs.Back.{ComesBack}
@@ -74,7 +75,7 @@ module _ {K V S : Type 0} (same : K → K → Bool) (hash : K → ℕ) (terms : 
         let acted : acted_on event b ≡ map_acted (acting_of event p) played.outcome = acted_so same hash terms (moment log) p so.holds.stands so.holds.counts.next e in
         let noted = subst (λ (x : Option ℕ). TellsAll x played.effects.items tally tally2) (sym acted) tells in
         let told = told_moment (caller_of event) (acted_on event b) played.effects.items b tally2 (noted b.place b.deferred b.tables begun_tells) in
-        record { pairs = told.pairs; behind = told.behind; flags = told.flags }
+        record { pairs = told.pairs; behind = told.behind; flags = told.flags; places = told.places }
 
     module _ (rec2 : Record V) (outcomes : rec2.outcomes.items ≡ rec.outcomes.items ++ played.outcome ∷ []) (steps : rec2.steps.items ≡ rec.steps.items ++ played.steps ∷ [])
         (effects : rec2.effects.items ≡ rec.effects.items ++ played.effects ∷ [])
@@ -135,6 +136,7 @@ start_so {K} {V} same hash terms rec tally p outcomes steps effects trace pairs 
     pairs = λ n. ap (λ (l : List Whereabouts). slice_index_or l n Unborn) pairs;
     behind = ap (map deferral) behind;
     flags = flags;
+    places = subst (Leads tally.places) (sym flags) (λ whole. tt);
   });
   legal = subst (IsLegalLog same terms) (sym none) tt;
   hands = subst (AtEachEvent HandsInOrder) (sym none) tt;

@@ -1,3 +1,4 @@
+pub mod Leading
 pub mod Tallies
 pub mod Numbers
 mod Taken

@@ -14,12 +14,14 @@ use Rattle.papaya_schedules.specs.Moment.{Place, Stage, Deferral, TableThere, Mo
 use Rattle.papaya_schedules.specs.Moment as at
 use Rattle.papaya_schedules.specs.Things.{same_table}
 use Rattle.papaya_schedules.specs.Views.{behind, is_retired}
+use Rattle.papaya_tally.specs.Places.{Comes, Leads}
 use Rattle.papaya_tally.specs.Tally.{Tells, TellsAll, TellsMoment, TellsNext, deferral, flag_of, flagged, numbers_behind, stored_in, told_all, told_of}
 use Rattle.papaya_tally.specs.declared.tally.Behind.{Behind}
 use Rattle.papaya_tally.specs.declared.tally.Flagged.{Flagged}
 use Rattle.papaya_tally.specs.declared.tally.Tally.{Tally}
 use Rattle.papaya_tally.specs.declared.tally.Whereabouts.{Whereabouts}
 use Rattle.papaya_tally.specs.declared.tally.Whereabouts.TheVariants.{Unborn, Waits}
+use Rattle.papaya_tally.proofs.Leading.{leads_then, same_leads, still_leads}
 
 pub ok_so : {X E : Type 0} (r : Result X E) (P Q : Type 0) → OnOk r P → (P → Q) → OnOk r Q
 ok_so (Ok x) P Q p f = f p
@@ -72,14 +74,20 @@ flags_so t stage flag is [] = refl
 flags_so t stage flag is (u ∷ tables) = λ i. flag_so t stage flag is u i ∷ flags_so t stage flag is tables i
 
 module _ (old new : Tally) (place : ℕ → Place) (deferred : List Deferral) (tables : List TableThere) (tells : Tells old place deferred tables) where
+  -- one table has another flag
+  reflagged_leads : (t : Table) (flag : Bool) → new.tables.items ≡ map (flagged t flag) old.tables.items → new.places ≡ old.places → Leads new.places new.tables.items
+  reflagged_leads t flag tables_then places_same =
+      same_leads old.places new.places (map (flagged t flag) old.tables.items) new.tables.items places_same tables_then (still_leads old.places t flag old.tables.items tells.places)
+
   -- a pair is put somewhere
   pub put_tells : (n : ℕ) (there : Whereabouts) (to : Place) → there ≡ told_of to
       → ((k : ℕ) → slice_index_or new.pairs.items k Unborn ≡ (if k == n then there else slice_index_or old.pairs.items k Unborn)) → new.behind.items ≡ old.behind.items → new.tables.items ≡ old.tables.items
-      → Tells new (put n to place) deferred tables
-  put_tells n there to is pairs behind_same tables_same = record {
+      → new.places ≡ old.places → Tells new (put n to place) deferred tables
+  put_tells n there to is pairs behind_same tables_same places_same = record {
     pairs = λ k. pairs k ∙ by (k == n) k;
     behind = ap (map deferral) behind_same ∙ tells.behind;
     flags = tables_same ∙ tells.flags;
+    places = same_leads old.places new.places old.tables.items new.tables.items places_same tables_same tells.places;
   }
     where
       by : (b : Bool) (k : ℕ) → (if b then there else slice_index_or old.pairs.items k Unborn) ≡ told_of (if b then to else place k)
@@ -88,11 +96,12 @@ module _ (old new : Tally) (place : ℕ → Place) (deferred : List Deferral) (t
 
   -- or behind a table
   pub behind_tells : (n : ℕ) (t : Table) → ((k : ℕ) → slice_index_or new.pairs.items k Unborn ≡ (if k == n then Waits else slice_index_or old.pairs.items k Unborn))
-      → new.behind.items ≡ record { pair = n; table = t } ∷ old.behind.items → new.tables.items ≡ old.tables.items → Tells new (put n at.Behind place) (record { pair = n; behind = t } ∷ deferred) tables
-  behind_tells n t pairs behind_more tables_same = record {
+      → new.behind.items ≡ record { pair = n; table = t } ∷ old.behind.items → new.tables.items ≡ old.tables.items → new.places ≡ old.places → Tells new (put n at.Behind place) (record { pair = n; behind = t } ∷ deferred) tables
+  behind_tells n t pairs behind_more tables_same places_same = record {
     pairs = λ k. pairs k ∙ by (k == n) k;
     behind = ap (map deferral) behind_more ∙ ap (λ (l : List Deferral). record { pair = n; behind = t } ∷ l) tells.behind;
     flags = tables_same ∙ tells.flags;
+    places = same_leads old.places new.places old.tables.items new.tables.items places_same tables_same tells.places;
   }
     where
       by : (b : Bool) (k : ℕ) → (if b then Waits else slice_index_or old.pairs.items k Unborn) ≡ told_of (if b then at.Behind else place k)
@@ -102,12 +111,14 @@ module _ (old new : Tally) (place : ℕ → Place) (deferred : List Deferral) (t
   -- a table goes, with what waits behind it
   pub gone_tells : (t : Table) (to : Place) → Waits ≡ told_of to → (stage : Stage) → is_retired stage ≡ false
       → ((k : ℕ) → slice_index_or new.pairs.items k Unborn ≡ (if is_among k (numbers_behind t old.behind.items) then Waits else slice_index_or old.pairs.items k Unborn))
-      → new.behind.items ≡ filter (λ w. not (same_table w.table t)) old.behind.items → new.tables.items ≡ map (flagged t false) old.tables.items
+      → new.behind.items ≡ filter (λ w. not (same_table w.table t)) old.behind.items
+      → (Leads old.places old.tables.items → new.tables.items ≡ map (flagged t false) old.tables.items) → new.places ≡ old.places
       → Tells new (all_at to (behind t deferred) place) (filter (λ d. not (same_table d.behind t)) deferred) (map (at_stage t stage) tables)
-  gone_tells t to is stage not_retired pairs behind_less tables_then = record {
+  gone_tells t to is stage not_retired pairs behind_less tables_then places_same = record {
     pairs = λ k. pairs k ∙ ap (λ (l : List ℕ). if is_among k l then Waits else slice_index_or old.pairs.items k Unborn) (behind_is t old.behind.items ∙ ap (behind t) tells.behind) ∙ by (is_among k (behind t deferred)) k;
     behind = ap (map deferral) behind_less ∙ without_is t old.behind.items ∙ ap (filter (λ d. not (same_table d.behind t))) tells.behind;
-    flags = tables_then ∙ ap (map (flagged t false)) tells.flags ∙ flags_so t stage false not_retired tables;
+    flags = tables_then tells.places ∙ ap (map (flagged t false)) tells.flags ∙ flags_so t stage false not_retired tables;
+    places = reflagged_leads t false (tables_then tells.places) places_same;
   }
     where
       by : (b : Bool) (k : ℕ) → (if b then Waits else slice_index_or old.pairs.items k Unborn) ≡ told_of (if b then to else place k)
@@ -115,22 +126,24 @@ module _ (old new : Tally) (place : ℕ → Place) (deferred : List Deferral) (t
       by false k = tells.pairs k
 
   -- a table is retired
-  pub retired_tells : (t : Table) → new.pairs.items ≡ old.pairs.items → new.behind.items ≡ old.behind.items → new.tables.items ≡ map (flagged t true) old.tables.items
-      → Tells new place deferred (map (at_stage t at.IsRetired) tables)
-  retired_tells t pairs behind_same tables_then = record {
+  pub retired_tells : (t : Table) → new.pairs.items ≡ old.pairs.items → new.behind.items ≡ old.behind.items
+      → (Leads old.places old.tables.items → new.tables.items ≡ map (flagged t true) old.tables.items) → new.places ≡ old.places → Tells new place deferred (map (at_stage t at.IsRetired) tables)
+  retired_tells t pairs behind_same tables_then places_same = record {
     pairs = λ k. ap (λ (l : List Whereabouts). slice_index_or l k Unborn) pairs ∙ tells.pairs k;
     behind = ap (map deferral) behind_same ∙ tells.behind;
-    flags = tables_then ∙ ap (map (flagged t true)) tells.flags ∙ flags_so t at.IsRetired true refl tables;
+    flags = tables_then tells.places ∙ ap (map (flagged t true)) tells.flags ∙ flags_so t at.IsRetired true refl tables;
+    places = reflagged_leads t true (tables_then tells.places) places_same;
   }
 
   -- or comes
   pub linked_tells : (t : Table) (shape : TableShape) → new.pairs.items ≡ old.pairs.items → new.behind.items ≡ old.behind.items
-      → new.tables.items ≡ old.tables.items ++ record { table = t; is_retired = false } ∷ [] → Tells new place deferred (tables ++ record { table = t; shape = shape; stage = at.IsLinked } ∷ [])
-  linked_tells t shape pairs behind_same tables_then = record {
+      → new.tables.items ≡ old.tables.items ++ record { table = t; is_retired = false } ∷ [] → Comes t (length old.tables.items) old.places new.places → Tells new place deferred (tables ++ record { table = t; shape = shape; stage = at.IsLinked } ∷ [])
+  linked_tells t shape pairs behind_same tables_then comes = record {
     pairs = λ k. ap (λ (l : List Whereabouts). slice_index_or l k Unborn) pairs ∙ tells.pairs k;
     behind = ap (map deferral) behind_same ∙ tells.behind;
     flags = tables_then ∙ ap (λ (l : List Flagged). l ++ record { table = t; is_retired = false } ∷ []) tells.flags
         ∙ sym (map-append flag_of tables (record { table = t; shape = shape; stage = at.IsLinked } ∷ []));
+    places = subst (Leads new.places) (sym tables_then) (leads_then t (length old.tables.items) old.places new.places comes old.tables.items refl tells.places);
   }
 
 -- where a pair is stored

@@ -1,3 +1,4 @@
+pub mod Places
 pub mod Tally
 pub mod Left
 pub mod Told

@@ -7,6 +7,7 @@ use Rattle.papaya_schedules.specs.Moment.{Place, Deferral, TableThere, Moment}
 use Rattle.papaya_schedules.specs.Moment as at
 use Rattle.papaya_schedules.specs.Things.{same_table}
 use Rattle.papaya_schedules.specs.Views.{is_retired}
+use Rattle.papaya_tally.specs.Places.{Leads}
 use Rattle.papaya_tally.specs.declared.tally.Behind.{Behind}
 use Rattle.papaya_tally.specs.declared.tally.Flagged.{Flagged}
 use Rattle.papaya_tally.specs.declared.tally.Tally.{Tally}
@@ -65,11 +66,12 @@ deferral w = record { pair = w.pair; behind = w.table }
 abbrev pub flag_of : TableThere → Flagged
 flag_of u = record { table = u.table; is_retired = is_retired u.stage }
 
--- It tells where pairs are, what waits behind tables, and which tables wait.
+-- It tells where pairs are, what waits behind tables, and which tables wait; each table is found at its place.
 pub record Tells (tally : Tally) (place : ℕ → Place) (deferred : List Deferral) (tables : List TableThere) : Type 0 where
   pub pairs : (n : ℕ) → slice_index_or tally.pairs.items n Unborn ≡ told_of (place n)
   pub behind : map deferral tally.behind.items ≡ deferred
   pub flags : tally.tables.items ≡ map flag_of tables
+  pub places : Leads tally.places tally.tables.items
 
 abbrev pub TellsMoment : {K V : Type 0} → Tally → Moment K V → Type 0
 TellsMoment tally m = Tells tally m.place m.deferred m.tables

@@ -2,4 +2,5 @@
 #![tactic(auto)]
 
 pub mod left;
+pub mod places;
 pub mod tally;

@@ -3,9 +3,11 @@ ghost use Rattle.std.specs.Prelude.{◌≡◌, ◌==◌, ◌<◌, ◌++◌, ◌�
 ghost use Rattle.papaya_schedules.specs.Lists.{is_among};
 ghost use Rattle.papaya_schedules.specs.declared.effect.Effect.TheVariants as effect;
 ghost use Rattle.papaya_schedules.specs.Things.{same_table};
+ghost use Rattle.papaya_tally.specs.Places.{Comes, Leads};
 ghost use Rattle.papaya_tally.specs.Tally.{TellsAll, TellsNext, counted, flagged, is_there, numbers_at, numbers_behind, passes, stored_in, waits};
 ghost use Rattle.papaya_tally.specs.declared.tally.Whereabouts.TheVariants.{Unborn, Waits};
 
+use crate::places::Places;
 use papaya_schedules::effect::{Effect, Table, Thing};
 use std::alloc::{AllocError, Global};
 
@@ -49,6 +51,8 @@ pub struct Tally {
     pub behind: Vec<Behind>,
     /// The tables that ever were tables of maps.
     pub tables: Vec<Flagged>,
+    /// Where each stands among them.
+    pub places: Places,
 }
 
 /// Whether two tables are one.
@@ -108,11 +112,24 @@ fn with_flag(it: Flagged, table: Table, is_retired: bool) -> Flagged
     }
 }
 
-/// Whether a table waits is this from now on.
-fn flag(tables: &mut Vec<Flagged>, table: Table, is_retired: bool)
+/// Whether a table waits is this from now on, by a look at each.
+fn flag_each(tables: &mut Vec<Flagged>, table: Table, is_retired: bool)
     ensures { tables.new.items ≡ map (flagged table is_retired) tables.old.items }
 {
     for place in 0..tables.len() {
+        tables[place] = with_flag(tables[place], table, is_retired);
+    }
+}
+
+/// Whether a table waits is this from now on.
+fn flag(tables: &mut Vec<Flagged>, places: &Places, table: Table, is_retired: bool)
+    ensures { Leads places.now tables.old.items → tables.new.items ≡ map (flagged table is_retired) tables.old.items }
+{
+    let Some(place) = places.get(table) else {
+        flag_each(tables, table, is_retired);
+        return;
+    };
+    if place < tables.len() {
         tables[place] = with_flag(tables[place], table, is_retired);
     }
 }
@@ -172,6 +189,7 @@ impl Tally {
             pairs: Vec::new(alloc),
             behind: Vec::new(alloc),
             tables: Vec::new(alloc),
+            places: Places::nothing(alloc),
         }
     }
 
@@ -187,11 +205,12 @@ impl Tally {
     fn go(&mut self, table: Table) -> Result<(), AllocError>
         ensures pairs { OnOk result ((n : ℕ) → slice_index_or self.new.pairs.items n Unborn ≡ if is_among n (numbers_behind table self.old.behind.items) then Waits else slice_index_or self.old.pairs.items n Unborn) }
         ensures behind { OnOk result (self.new.behind.items ≡ filter (λ waiting. not (same_table waiting.table table)) self.old.behind.items) }
-        ensures tables { OnOk result (self.new.tables.items ≡ map (flagged table false) self.old.tables.items) }
+        ensures tables { OnOk result (Leads self.old.places self.old.tables.items → self.new.tables.items ≡ map (flagged table false) self.old.tables.items) }
+        ensures places { self.new.places ≡ self.old.places }
     {
         release(&mut self.pairs, self.behind.as_slice(), table)?;
         without(&mut self.behind, table);
-        flag(&mut self.tables, table, false);
+        flag(&mut self.tables, &self.places, table, false);
         Ok(())
     }
 
@@ -200,6 +219,7 @@ impl Tally {
         ensures pairs { OnOk result ((n : ℕ) → slice_index_or self.new.pairs.items n Unborn ≡ if n == pair then Waits else slice_index_or self.old.pairs.items n Unborn) }
         ensures behind { OnOk result (self.new.behind.items ≡ record { pair = pair; table = table } ∷ self.old.behind.items) }
         ensures tables { self.new.tables ≡ self.old.tables }
+        ensures places { self.new.places ≡ self.old.places }
     {
         self.put(pair, Whereabouts::Waits)?;
         self.behind.insert(0, Behind { pair, table })?;
@@ -213,7 +233,7 @@ impl Tally {
         match thing {
             Thing::APair(pair) => self.put(pair, Whereabouts::Waits),
             Thing::ATable(table) => {
-                flag(&mut self.tables, table, true);
+                flag(&mut self.tables, &self.places, table, true);
                 Ok(())
             }
         }
@@ -232,9 +252,11 @@ impl Tally {
     /// A table comes.
     fn link(&mut self, table: Table) -> Result<(), AllocError>
         ensures tables { OnOk result (self.new.tables.items ≡ self.old.tables.items ++ record { table = table; is_retired = false } ∷ []) }
-        ensures rest { self.new ≡ record self.old { tables = self.new.tables } }
+        ensures places { OnOk result (Comes table (length self.old.tables.items) self.old.places self.new.places) }
+        ensures rest { self.new ≡ record self.old { tables = self.new.tables; places = self.new.places } }
     {
         let is_retired = false;
+        self.places.put(table, self.tables.len())?;
         self.tables.push(Flagged { table, is_retired })?;
         Ok(())
     }

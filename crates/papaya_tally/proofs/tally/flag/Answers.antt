@@ -1,34 +1,20 @@
--- Each table has its flag.
-use Rattle.std.specs.Prelude.{◌++◌, drop, length, map, slice_index_or, slice_set, take}
-use Rattle.std.proofs.Common.{◌≡◌, ◌+◌, ◌<◌, ◌≤◌, ℕ, suc, List, refl, sym, ap, ◌∙◌, arith}
+-- The table has its flag.
+use Rattle.std.specs.Prelude.{◌≤◌, length, slice_set}
+use Rattle.std.proofs.Common.{sym, ap, ◌∙◌, arith}
+use Rattle.std.proofs.lemmas.List.{set_past}
 use Rattle.papaya_tally.specs.Tally.{flagged}
 use Rattle.papaya_tally.specs.declared.tally.Flagged.{Flagged}
-use Rattle.papaya_tally.proofs.Tallies.{changed_length, set_all, set_next, unchanged_at}
+use Rattle.papaya_tally.proofs.Leading.{flag_there}
 use Rattle.papaya_tally.proofs.tally.flag.Goals as goal
 
-pub loop-place-init : goal.loop-place-init
-loop-place-init c = refl
+pub returns-then-place-len : goal.returns-then-place-len
+returns-then-place-len c = λ leads.
+    ap (slice_set c.args.tables.now.items c.in-Some.place) (c.with_flag.ensures ∙ ap (flagged c.args.table c.args.is_retired) c.index.ensures)
+    ∙ sym (flag_there c.args.places.now c.args.table c.args.is_retired c.args.tables.now.items c.in-Some.place c.index.result.now (sym c.get.ensures ∙ c.in-Some.is) leads)
 
--- the place is one of the list, which is as long as it was
-pub index-requires : goal.index-requires
-index-requires c =
-    let long = ap length c.loop-place.invariant ∙ changed_length (flagged c.args.table c.args.is_retired) c.args.tables.now.items c.loop-place.place in
-    let test = c.loop-place-test.true in omega (arith, long, test)
-
-pub loop-place-preserved : goal.loop-place-preserved
-loop-place-preserved c =
-    let f = flagged c.args.table c.args.is_retired in
-    let old = c.args.tables.now.items in
-    let i = c.loop-place.place in
-    let x = c.index.result.now in
-    let inside : i < length old = (let test = c.loop-place-test.true in let long = c.len-place-end.ensures in omega (arith, test, long)) in
-    -- what is read there has not been changed yet
-    let is : slice_index_or old i x ≡ x = sym (unchanged_at f old i x inside) ∙ ap (λ (l : List Flagged). slice_index_or l i x) (sym c.loop-place.invariant) ∙ sym c.index.ensures in
-    let on : suc i ≡ i + 1 = omega arith in
-    ap (λ (l : List Flagged). slice_set l i c.with_flag.result) c.loop-place.invariant ∙ ap (λ (y : Flagged). slice_set (map f (take i old) ++ drop i old) i y) c.with_flag.ensures
-    ∙ set_next f old i x inside is ∙ ap (λ (k : ℕ). map f (take k old) ++ drop k old) on
-
-pub returns : goal.returns
-returns c =
-    let past : length c.args.tables.now.items ≤ c.loop-place.place = (let test = c.loop-place-test.false in let long = c.len-place-end.ensures in omega (arith, test, long)) in
-    c.loop-place.invariant ∙ set_all (flagged c.args.table c.args.is_retired) c.args.tables.now.items c.loop-place.place past
+pub returns-else-place-len : goal.returns-else-place-len
+returns-else-place-len c = λ leads.
+    let none : Flagged = record { table = c.args.table; is_retired = c.args.is_retired } in
+    let past : length c.args.tables.now.items ≤ c.in-Some.place = (let test = c.if-place-len.false in let long = c.len.ensures in omega (arith, test, long)) in
+    sym (flag_there c.args.places.now c.args.table c.args.is_retired c.args.tables.now.items c.in-Some.place none (sym c.get.ensures ∙ c.in-Some.is) leads
+    ∙ set_past c.args.tables.now.items c.in-Some.place _ past)

@@ -1,7 +1,7 @@
 -- The tables so far have their flags.
 use Rattle.std.specs.Prelude.{◌≡◌, ◌++◌, drop, map, take}
 use Rattle.papaya_tally.specs.Tally.{flagged}
-use Rattle.papaya_tally.proofs.tally.flag.Given as goal
+use Rattle.papaya_tally.proofs.tally.flag_each.Given as goal
 
 abbrev pub invariant-loop-place : goal.invariant-loop-place
 invariant-loop-place l =
