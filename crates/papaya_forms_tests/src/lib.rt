@@ -1,11 +1,9 @@
-//! Tests of the JSON forms of keys and values, and of texts as keys.
+//! Tests of the JSON forms of keys and values by examples, and of the texts that no clause says.
 #![tactic(auto)]
 
 #[cfg(test)]
-mod arrays;
-#[cfg(test)]
 mod forms;
 #[cfg(test)]
-mod objects;
+mod listed;
 #[cfg(test)]
-mod texts;
+mod shown;

@@ -1,25 +1,9 @@
-//! Tests of the map for one owner: calls with what each answers, calls that are refused memory, and what goes over all pairs.
+//! Tests of the map and the set for one owner: what no clause of theirs says, and examples that were worked by hand.
 #![tactic(auto)]
 
 #[cfg(test)]
-mod asked;
+mod debugged;
 #[cfg(test)]
-mod calls;
-#[cfg(test)]
-mod collected;
-#[cfg(test)]
-mod filled;
-#[cfg(test)]
-mod found_again;
-#[cfg(test)]
-mod held;
-#[cfg(test)]
-mod makers;
+mod json;
 #[cfg(test)]
 mod one_hash;
-#[cfg(test)]
-mod rows;
-#[cfg(test)]
-mod sets;
-#[cfg(test)]
-mod swept;
