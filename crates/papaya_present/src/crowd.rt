@@ -44,10 +44,9 @@ fn place_in<T: HasName>(comers: &[Option<T>], places: &Places, name: &Token) -> 
     ensures { MatchOption result (IsAbsent T.name_of name.now comers.now) (IsHome T.name_of name.now comers.now) }
 {
     let place = places.get(name)?;
-    match comers.get(place) {
-        Some(Some(comer)) if comer.name().is(name) => Some(place),
-        _ => None,
-    }
+    let held = comers.get(place)?;
+    let comer = held.as_ref()?;
+    comer.name().is(name).then_some(place)
 }
 
 impl<T: HasName> Crowd<T> {

@@ -1,6 +1,7 @@
 -- Names lead home, where an item comes, changes or leaves.
-use Rattle.std.specs.Prelude.{find, is_some, slice_get, slice_index_or, slice_set, MatchOption, Option, Some, None}
-use Rattle.std.proofs.Common.{◌≡◌, ℕ, zero, suc, ◌+◌, ◌<◌, ◌⊎◌, inl, inr, false, List, [], ◌∷◌, ◌++◌, length, refl, sym, ap, subst, arith, ◌∙◌}
+use Rattle.std.specs.Prelude.{find, is_some, Bool, IsTrue, ◌↔◌, slice_get, slice_index_or, slice_set, MatchOption, Option, Some, None}
+use Rattle.std.specs.Bool.{then_some}
+use Rattle.std.proofs.Common.{◌≡◌, ℕ, zero, suc, ◌+◌, ◌<◌, ◌≤◌, ◌⊎◌, inl, inr, true, false, List, [], ◌∷◌, ◌++◌, length, refl, sym, ap, subst, arith, ◌∙◌}
 use Rattle.papaya_present.specs.Places.{IsElsewhere, place_of}
 use Rattle.papaya_present.specs.Crowd.{IsAbsent, IsHome, LeadsHome, StandsAt, is_named, kept}
 use Rattle.papaya_present.specs.declared.places.Places.{Places}
@@ -45,7 +46,57 @@ module _ {T : Type 0} where
   stands_read (y ∷ comers) zero t x s e = e ∙ cc s
   stands_read (y ∷ comers) (suc place) t x s e = stands_read comers place t x s e
 
+  -- and what is read of a place that the list has stands there
+  pub reads : (comers : List (Option T)) (place : ℕ) (x : Option T) → place < length comers → x ≡ slice_index_or comers place x
+      → slice_get comers place ≡ Some x
+  reads [] place x within e = absurd (omega (arith, within))
+  reads (y ∷ comers) zero x within e = ap (λ (z : Option T). Some z) (sym e)
+  reads (y ∷ comers) (suc place) x within e = reads comers place x (omega (arith, within)) e
+
   module _ (name_of : T → List ℕ) where
+    -- no item has a name that leads nowhere, out of the list, or to a place where none of that name stands
+    pub leads_nowhere : (comers : List (Option T)) (places : Places) (name : List ℕ) → LeadsHome name_of comers places → place_of name places ≡ None
+        → IsAbsent name_of name comers
+    leads_nowhere comers places name leads none p t s e =
+        let led : place_of name places ≡ Some p = ap (λ (l : List ℕ). place_of l places) (sym e) ∙ leads.home p t s in
+        cc (none, led)
+
+    leads_there : (comers : List (Option T)) (places : Places) (name : List ℕ) (place : ℕ) → LeadsHome name_of comers places
+        → place_of name places ≡ Some place → ((t : T) → StandsAt comers place t → name_of t ≡ name → ⊥) → IsAbsent name_of name comers
+    leads_there comers places name place leads told other p t s e =
+        let led : place_of name places ≡ Some p = ap (λ (l : List ℕ). place_of l places) (sym e) ∙ leads.home p t s in
+        let same : p ≡ place = cc (told, led) in
+        other t (subst (λ (k : ℕ). StandsAt comers k t) same s) e
+
+    pub leads_out : (comers : List (Option T)) (places : Places) (name : List ℕ) (place : ℕ) → LeadsHome name_of comers places
+        → place_of name places ≡ Some place → length comers ≤ place → IsAbsent name_of name comers
+    leads_out comers places name place leads told out =
+        leads_there comers places name place leads told (λ t s e. absurd (omega (arith, stands_within comers place t s, out)))
+
+    pub leads_to_other : (comers : List (Option T)) (places : Places) (name : List ℕ) (place : ℕ) (x : Option T) → LeadsHome name_of comers places
+        → place_of name places ≡ Some place → place < length comers → x ≡ slice_index_or comers place x → ((t : T) → x ≡ Some t → name_of t ≡ name → ⊥)
+        → IsAbsent name_of name comers
+    leads_to_other comers places name place x leads told within read other =
+        leads_there comers places name place leads told (λ t s e. other t (held t (sym (reads comers place x within read) ∙ s)) e)
+      where
+        held : (t : T) → Some x ≡ Some (Some t) → x ≡ Some t
+        held t h = cc h
+
+    -- whether the item to which a name leads has it tells where the item of this name stands
+    pub told_by_name : (comers : List (Option T)) (places : Places) (name : List ℕ) (place : ℕ) (x : Option T) (t : T) (told : List ℕ) (is : Bool)
+        → LeadsHome name_of comers places → place_of name places ≡ Some place → place < length comers → x ≡ slice_index_or comers place x → Some t ≡ x
+        → told ≡ name_of t → (IsTrue is ↔ (told ≡ name)) → MatchOption (then_some is place) (IsAbsent name_of name comers) (IsHome name_of name comers)
+    told_by_name comers places name place x t told true leads led within read held names same =
+        (t, reads comers place x within read ∙ ap (λ (z : Option T). Some z) (sym held), sym names ∙ same.0 refl)
+    told_by_name comers places name place x t told false leads led within read held names same =
+        leads_to_other comers places name place x leads led within read (λ u e named. never (same.1 (names ∙ ap (λ (z : T). name_of z) (one u (held ∙ e)) ∙ named)))
+      where
+        never : IsTrue false → ⊥
+        never h = cc
+
+        one : (u : T) → Some t ≡ Some u → t ≡ u
+        one u h = cc h
+
     pub home_alone : (comers : List (Option T)) (places : Places) (name : List ℕ) (place : ℕ) → LeadsHome name_of comers places
         → IsHome name_of name comers place → IsAlone name_of name comers place
     home_alone comers places name place leads h p t s e =
@@ -98,6 +149,9 @@ module _ {T : Type 0} where
 pub none_told : {A : Type 0} (B : ℕ → Type 0) (r : Option ℕ) → is_some r ≡ false → MatchOption r A B → A
 none_told B None e m = m
 none_told B (Some place) e m = absurd (cc e)
+
+pub none_held : {A : Type 0} (B : ℕ → Type 0) (r : Option ℕ) → r ≡ None → A → MatchOption r A B
+none_held {A} B r e a = let Q : Option ℕ → Type 0 = λ o. MatchOption o A B in subst Q (sym e) a
 
 pub some_told : (A : Type 0) {T : Type 0} (P : T → Type 0) (r : Option T) (t : T) → r ≡ Some t → P t → MatchOption r A P
 some_told A {T} P r t e p = let Q : Option T → Type 0 = λ o. MatchOption o A P in subst Q (sym e) p

@@ -7,20 +7,20 @@ use Rattle.papaya_schedules.specs.declared.call.Call.TheVariants.{On}
 use Rattle.papaya_schedules.specs.declared.call.OneKey.TheVariants.{Insert, Get, TryInsertWith, GetOrInsertWith, Update, UpdateOrInsert, UpdateOrInsertWith, Compute, Remove, RemoveIf}
 use Rattle.papaya_schedules.specs.declared.call.Reply.{Reply}
 use Rattle.papaya_schedules.specs.declared.call.Reply.TheVariants.{Gives, Removes, Aborts, Decides}
-use Rattle.papaya_schedules.specs.declared.call.Answer.{Answer}
 use Rattle.papaya_schedules.specs.declared.call.Answer.TheVariants as answer
 use Rattle.papaya_schedules.specs.declared.event.Event.TheVariants.{Begin, Replied}
 use Rattle.papaya_schedules.specs.declared.effect.Effect.TheVariants.{Asked, PairMade, Stored, Replaced, Removed, Counted, Retired}
 use Rattle.papaya_schedules.specs.declared.effect.Growth.TheVariants.{ABlock}
 use Rattle.papaya_schedules.specs.declared.effect.Thing.TheVariants.{APair}
+use Rattle.papaya_schedules.specs.declared.outcome.Outcome.{Outcome}
 use Rattle.papaya_schedules.specs.declared.outcome.Outcome.TheVariants.{Goes, Asks, Answered, Refused}
-use Rattle.papaya_schedules.specs.Sequential.{Answers, Deed, Leaves, Puts, Takes, GoesOut, shifts}
+use Rattle.papaya_schedules.specs.Sequential.{Meaning, Answers, Refuses, Wants, Leaves, Puts, Takes, ComesIn, GivesWay, GoesOut}
 use Rattle.papaya_schedules.specs.Entry.{Entry}
 use Rattle.papaya_schedules.specs.InTurn.{ComesRight}
 use Rattle.papaya_schedules.specs.Steps.{TakesSteps}
 use Rattle.papaya_schedules.specs.Linearizable.{IsLinearizable}
 use Rattle.papaya_schedules.specs.Handing.{MovesOn}
-use Rattle.papaya_schedules.proofs.Samples.Words.{no_yes, yes_no, wants_no, owes_one, either, strict, entry, spot, shape, makes_pair, makes_table, begin, go, call, entered, inserted}
+use Rattle.papaya_schedules.proofs.Samples.Words.{no_yes, yes_no, found_none, wants_no, owes_one, puts_leaves, answers_refuses, AsksThere, asks_answered, Changed, goes_busy, one_shift, either, strict, entry, spot, shape, makes_pair, makes_table, begin, go, call, entered, inserted}
 
 -- caller c begins a call, and gets a reply
 abbrev begun : Call ℕ ℕ → List (Entry ℕ ℕ)
@@ -36,12 +36,19 @@ asked = go (Asks (Some 1)) 3 [] ∷ begun (On (Compute 1))
 asks : IsLinearizable nat_eq (begun (On (Compute 1))) (go (Asks (Some 1)) 3 [])
 asks = record { changes = inl refl; ends = tt; asks = (refl, inl (refl, refl), inr refl) }
 
+-- that it asks about pair 1 is not that it asks about none, or about another one
+pair_none : AsksThere (Some 1) None Wants → ⊥
+pair_none (same, wants) = cc same
+
+pair_other : AsksThere (Some 1) (Some 7) Wants → ⊥
+pair_other (same, wants) = cc same
+
 -- wrong: about none, or about another one
 asks_none : IsLinearizable nat_eq (begun (On (Compute 1))) (go (Asks None) 3 []) → ⊥
-asks_none h = either (λ e. cc (e.0)) (either (λ e. cc (e.0)) (λ e. e)) h.asks.1
+asks_none h = either pair_none (either pair_none (λ e. e)) h.asks.1
 
 asks_other : IsLinearizable nat_eq (begun (On (Compute 1))) (go (Asks (Some 7)) 3 []) → ⊥
-asks_other h = either (λ e. cc (e.0)) (either (λ e. cc (e.0)) (λ e. e)) h.asks.1
+asks_other h = either pair_other (either pair_other (λ e. e)) h.asks.1
 
 -- while there is no reply it is told again, and nothing is done
 asks_on : ComesRight strict asked (go (Asks (Some 1)) 0 [])
@@ -50,8 +57,11 @@ asks_on = refl
 asks_on_idly : TakesSteps asked (go (Asks (Some 1)) 0 [])
 asks_on_idly = record { makes = refl; does = omega arith; brief = tt }
 
+answers_asking : ◌≡◌ {A = Outcome ℕ} (Answered (answer.Aborted 5)) (Asks (Some 1)) → ⊥
+answers_asking h = cc
+
 goes_unasked : ComesRight strict asked (go (Answered (answer.Aborted 5)) 3 []) → ⊥
-goes_unasked h = cc h
+goes_unasked h = answers_asking h
 
 -- it is told to store, and the pair of the reply is replaced
 abbrev told : List (Entry ℕ ℕ)
@@ -65,10 +75,10 @@ updates = record { changes = inr (refl, answer.Updated 1 2, Puts 20, refl, refl)
 
 -- wrong: a reply of another kind is taken, or one that nobody asked for
 other_kind : ComesRight strict asked (reply (Decides true)) → ⊥
-other_kind h = cc h
+other_kind h = goes_busy h
 
 unasked : ComesRight strict told (reply (Gives 21)) → ⊥
-unasked h = cc h
+unasked h = goes_busy h
 
 -- wrong: it asks about the same pair again
 asks_twice : IsLinearizable nat_eq told (go (Asks (Some 1)) 3 []) → ⊥
@@ -82,8 +92,11 @@ asks_after : IsLinearizable nat_eq changed (go (Asks (Some 2)) 3 []) → ⊥
 asks_after h = owes_one (answer.Updated 1 2) (h.asks.0)
 
 -- wrong: it aborts though it was told to store, or stores another value
+updates_aborts : ◌≡◌ {A = Meaning ℕ} (Answers (answer.Updated 1 2) (Puts 20)) (Answers (answer.Aborted 20) Leaves) → ⊥
+updates_aborts h = cc
+
 aborts_instead : IsLinearizable nat_eq told (go (Answered (answer.Aborted 20)) 3 []) → ⊥
-aborts_instead h = either (λ e. cc e) (either (λ e. cc e) (either (λ e. cc e) (either (λ e. cc e) (λ e. e)))) h.ends
+aborts_instead h = either updates_aborts (either updates_aborts (either updates_aborts (either updates_aborts (λ e. e)))) h.ends
 
 -- it is told to abort, or to remove
 aborts : IsLinearizable nat_eq (reply (Aborts 5) ∷ asked) (go (Answered (answer.Aborted 5)) 3 [])
@@ -93,12 +106,15 @@ removes : IsLinearizable nat_eq (reply Removes ∷ asked) (go (Answered (answer.
 removes = record { changes = inr (refl, answer.Removed 1, Takes, refl, refl); ends = refl; asks = tt }
 
 -- wrong: there is something to remove, and it is refused as if there were nothing
+taken : ◌≡◌ {A = Meaning ℕ} (Answers (answer.Removed 1) Takes) Refuses → ⊥
+taken h = answers_refuses (answer.Removed 1) Takes h
+
 refuses_removal : IsLinearizable nat_eq (reply Removes ∷ asked) (go (Refused RemoveNothing) 3 []) → ⊥
-refuses_removal h = either (λ e. cc e) (either (λ e. cc e) (either (λ e. cc e) (either (λ e. cc e) (λ e. e)))) h.ends.1
+refuses_removal h = either taken (either taken (either taken (either taken (λ e. e)))) h.ends.1
 
 -- wrong: an aborted `compute` keeps a block that it made
 keeps_block : MovesOn strict (reply (Aborts 5) ∷ asked) (go (Answered (answer.Aborted 5)) 9 (Asked ABlock ∷ PairMade ∷ [])) → ⊥
-keeps_block h = cc (h.leaves.0.block)
+keeps_block h = yes_no (h.leaves.0.block)
 
 -- meanwhile another call puts pair 2 in the place of pair 1: then it asks about that one
 abbrev meanwhile : List (Entry ℕ ℕ)
@@ -110,7 +126,7 @@ asks_new = record { changes = inl refl; ends = tt; asks = (refl, inl (refl, refl
 -- wrong: it takes the reply for pair 1 as one for pair 2
 mistakes_pair :
     IsLinearizable nat_eq meanwhile (go (Answered (answer.Updated 2 3)) 9 (makes_pair (Replaced 2 ∷ Stored 3 (spot 0 1) ∷ Retired (APair 2) ∷ []))) → ⊥
-mistakes_pair h = either (λ e. cc e) (λ e. wants_no e.1 e.2 e.3) h.changes
+mistakes_pair h = either (one_shift (GivesWay 2) (ComesIn 3 ∷ [])) (wants_no (Some 2) 3 (GivesWay 2 ∷ ComesIn 3 ∷ [])) h.changes
 
 -- a key without a pair is asked about with none, also before there is a table, and once
 abbrev asked_none : List (Entry ℕ ℕ)
@@ -141,17 +157,29 @@ removes_with_table h = no_yes (h.finds.1.1.0.1.2.0)
 abbrev UnneededFor : Call ℕ ℕ → ℕ → Type 0
 UnneededFor called n = IsLinearizable nat_eq (begun called) (go (Asks (Some n)) 3 []) → ⊥
 
+keeps_one : AsksThere (Some 1) (Some 1) (Answers (answer.Kept 1) Leaves) → ⊥
+keeps_one = asks_answered (Some 1) (Some 1) (answer.Kept 1) Leaves
+
+finds_one : AsksThere (Some 1) (Some 1) (Answers (answer.Found 1) Leaves) → ⊥
+finds_one = asks_answered (Some 1) (Some 1) (answer.Found 1) Leaves
+
+finds_none : AsksThere None None (Answers answer.Absent Leaves) → ⊥
+finds_none = asks_answered None None answer.Absent Leaves
+
+stores_two : AsksThere None None (Answers (answer.Stored 2) (Puts 50)) → ⊥
+stores_two = asks_answered None None (answer.Stored 2) (Puts 50)
+
 try_insert_with : UnneededFor (On (TryInsertWith 1)) 1
-try_insert_with h = either (λ e. cc (e.1)) (either (λ e. cc (e.1)) (λ e. e)) h.asks.1
+try_insert_with h = either keeps_one (either keeps_one (λ e. e)) h.asks.1
 
 get_or_insert_with : UnneededFor (On (GetOrInsertWith 1)) 1
-get_or_insert_with h = either (λ e. cc (e.1)) (either (λ e. cc (e.1)) (λ e. e)) h.asks.1
+get_or_insert_with h = either finds_one (either finds_one (λ e. e)) h.asks.1
 
 update : IsLinearizable nat_eq (begun (On (Update 5))) (go (Asks None) 3 []) → ⊥
-update h = either (λ e. cc (e.1)) (either (λ e. cc (e.1)) (λ e. e)) h.asks.1
+update h = either finds_none (either finds_none (λ e. e)) h.asks.1
 
 update_or_insert : IsLinearizable nat_eq (begun (On (UpdateOrInsert 5 50))) (go (Asks None) 3 []) → ⊥
-update_or_insert h = either (λ e. cc (e.1)) (either (λ e. cc (e.1)) (λ e. e)) h.asks.1
+update_or_insert h = either stores_two (either stores_two (λ e. e)) h.asks.1
 
 insertion_asks : ComesRight strict (begun (On (Insert 1 20))) (go (Asks (Some 1)) 3 []) → ⊥
 insertion_asks h = no_yes h
@@ -175,15 +203,15 @@ asks_again = record { changes = inl refl; ends = tt; asks = (refl, inl (refl, re
 
 -- wrong: it removes a pair that it was not told of, or one that was to stay
 removes_untold : IsLinearizable nat_eq (begun (On (RemoveIf 1))) (go (Answered (answer.Found 1)) 9 (Removed 1 ∷ Retired (APair 1) ∷ Counted 0 ∷ [])) → ⊥
-removes_untold h = either (λ e. cc e) (λ e. wants_no e.1 e.2 e.3) h.changes
+removes_untold h = either (one_shift (GoesOut 1) []) (wants_no (Some 1) 2 (GoesOut 1 ∷ [])) h.changes
 
-kept_stays : (a : Answer ℕ) (d : Deed ℕ) → Answers (answer.Kept 1) Leaves ≡ Answers a d → GoesOut 1 ∷ [] ≡ shifts (Some 1) 2 d → ⊥
-kept_stays a Leaves means same = cc same
-kept_stays a (Puts v) means same = cc means
-kept_stays a Takes means same = cc means
+kept_stays : Changed None (Answers (answer.Kept 1) Leaves) (Some 1) 2 (GoesOut 1 ∷ []) → ⊥
+kept_stays (owes, a, Leaves, means, same) = cc same
+kept_stays (owes, a, Puts v, means, same) = cc means
+kept_stays (owes, a, Takes, means, same) = cc means
 
 removes_kept : IsLinearizable nat_eq (removing (Decides false)) (go (Answered (answer.Found 1)) 9 (Removed 1 ∷ Retired (APair 1) ∷ Counted 0 ∷ [])) → ⊥
-removes_kept h = either (λ e. cc) (λ e. kept_stays e.1 e.2 e.3 e.4) h.changes
+removes_kept h = either (one_shift (GoesOut 1) []) kept_stays h.changes
 
 -- what comes after a reply is promised like all else: a lookup then tells what is there
 looks_after : IsLinearizable nat_eq told (call (On (Get 1)) (Answered (answer.Found 1)) 3 [])
@@ -191,10 +219,10 @@ looks_after = record { changes = inl refl; ends = inl refl; asks = tt }
 
 -- wrong: it tells none; an insertion stores nothing; a pair is removed by nobody's call
 looks_wrong : IsLinearizable nat_eq told (call (On (Get 1)) (Answered answer.Absent) 3 []) → ⊥
-looks_wrong h = either (λ e. cc e) (λ e. e) h.ends
+looks_wrong h = either (found_none 1) (λ e. e) h.ends
 
 stores_nothing : IsLinearizable nat_eq told (call (On (Insert 5 50)) (Answered answer.Absent) 3 []) → ⊥
-stores_nothing h = either (λ e. cc e) (λ e. e) h.ends
+stores_nothing h = either (puts_leaves answer.Absent 50) (λ e. e) h.ends
 
 removes_nobody : IsLinearizable nat_eq told (entry (Begin (codes "d") (codes "g") (codes "m") (On (Get 1))) Goes 0 (Removed 1 ∷ [])) → ⊥
-removes_nobody h = cc h
+removes_nobody h = one_shift (GoesOut 1) [] h

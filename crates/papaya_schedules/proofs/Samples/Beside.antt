@@ -1,6 +1,6 @@
 -- Calls beside one another: which runs of two callers are right, and which are wrong.
 use Rattle.std.specs.Prelude.{codes, nat_eq}
-use Rattle.std.proofs.Common.{◌≡◌, ◌<◌, ◌≤◌, ℕ, false, List, [], ◌∷◌, inl, inr, refl, arith, Some}
+use Rattle.std.proofs.Common.{◌≡◌, ◌≤◌, ℕ, false, List, [], ◌∷◌, inl, inr, refl, arith, Some}
 use Rattle.seize_words.specs.declared.fault.Fault.TheVariants.{ZeroChunk, Busy, Memory}
 use Rattle.papaya_raw.specs.Given.Tables.declared.resize_mode.ResizeMode.TheVariants.{Incremental}
 use Rattle.papaya_schedules.specs.declared.call.Call.TheVariants.{On}
@@ -20,7 +20,7 @@ use Rattle.papaya_schedules.specs.Steps.{TakesSteps}
 use Rattle.papaya_schedules.specs.Linearizable.{IsLinearizable}
 use Rattle.papaya_schedules.specs.Handing.{MovesOn}
 use Rattle.papaya_schedules.specs.Reclaims.{IsProtected}
-use Rattle.papaya_schedules.proofs.Samples.Words.{no_yes, yes_no, one_two, four_two, found_none, either, strict, loose, entry, spot, table, shape, makes_pair, makes_table, call}
+use Rattle.papaya_schedules.proofs.Samples.Words.{no_yes, yes_no, found, one_two, four_two, found_none, goes_busy, done_busy, answered_busy, behind_there, zero_next, nothing_below, nothing_between, either, strict, loose, entry, spot, table, shape, makes_pair, makes_table, call}
 use Rattle.papaya_schedules.proofs.Samples.Filled.{made, put_there}
 
 -- a map of two pairs; caller c asks about pair 1
@@ -66,17 +66,17 @@ fault_meanwhile : ComesRight strict asked (entry (MakeMap (codes "z") (Increment
 fault_meanwhile = refl
 
 served_meanwhile : ComesRight strict asked put_three → ⊥
-served_meanwhile h = cc h
+served_meanwhile h = answered_busy answer.Absent h
 
 -- wrong: a guard that a call uses ends; a map ends on which a call is under way; a caller begins twice
 drops_used : ComesRight loose asked (drop_g []) → ⊥
-drops_used h = cc h
+drops_used h = done_busy h
 
 ends_called : ComesRight loose asked (entry (EndMap (codes "m")) Done 0 []) → ⊥
-ends_called h = cc h
+ends_called h = done_busy h
 
 begins_twice : ComesRight loose asked begin → ⊥
-begins_twice h = cc h
+begins_twice h = goes_busy h
 
 -- c may wait while the resize is under way and another call, and not alone
 waits_alone : ComesRight loose told (go Waits []) → ⊥
@@ -94,9 +94,6 @@ waits_for_lookup h = no_yes h
 -- wrong: the old pair is retired while the table that it was copied out of is the root, or put behind the one in which it lies
 retires_at_once : MovesOn loose told (updates (Retired (APair 1) ∷ [])) → ⊥
 retires_at_once h = nothing_below (h.finds.1.1.1.1.1.0.1.1)
-  where
-    nothing_below : 1 ≤ 0 → ⊥
-    nothing_below past = omega (arith, past)
 
 other_turn : ◌≡◌ {A = ℕ} 1 2 → ⊥
 other_turn lies = cc
@@ -109,9 +106,6 @@ defers_uncopied :
     MovesOn loose told (entry (OneCall (codes "g") (codes "m") (On (Remove 8))) (Answered (answer.Found 3)) 9 (Removed 3 ∷ Deferred 3 (table 0)
     ∷ Counted 0 ∷ [])) → ⊥
 defers_uncopied h = nothing_between (h.finds.1.0.1.1.2)
-  where
-    nothing_between : 1 < 1 → ⊥
-    nothing_between copied = omega (arith, copied)
 
 -- wrong: the root comes to the next table before all pairs do
 passes_early : MovesOn loose told (go Goes (Promoted (table 1) ∷ [])) → ⊥
@@ -119,7 +113,7 @@ passes_early h = no_yes (h.finds.0.1.3)
 
 -- wrong: a pair is copied that has left, backwards, or to a place of no table
 copies_left : MovesOn loose updated (entry (OneCall (codes "g") (codes "m") (On (Remove 1))) Goes 9 (Copied 1 (spot 1 9) ∷ [])) → ⊥
-copies_left h = cc (h.finds.0.1.0)
+copies_left h = behind_there (h.finds.0.1.0)
 
 copies_nowhere : MovesOn loose told (go Goes (Copied 2 (spot 1 16) ∷ [])) → ⊥
 copies_nowhere h = no_yes (h.finds.0.1.3)
@@ -168,19 +162,22 @@ tells_other h = either four_two (either one_two (either one_two (either one_two 
 tells_none : IsLinearizable nat_eq looks (go (Answered answer.Absent) []) → ⊥
 tells_none h = either (found_none 4) (either (found_none 1) (either (found_none 1) (either (found_none 1) (either (found_none 1) (λ e. e))))) h.ends
 
+four_one : found 4 ≡ found 1 → ⊥
+four_one h = cc
+
 tells_too_old : IsLinearizable nat_eq looks (call (On (Get 0)) (Answered (answer.Found 1)) 5 []) → ⊥
-tells_too_old h = either (λ e. cc e) (λ e. e) h.ends
+tells_too_old h = either four_one (λ e. e) h.ends
 
 -- it reads the root, and of each of the two tables the words up to the last try and what comes next
 reads_few : TakesSteps looks (entry (Go (codes "c") false) (Answered (answer.Found 4)) 26 [])
 reads_few = record { makes = omega arith; does = omega arith; brief = inl (omega arith) }
 
 -- wrong: it reads more
+too_many : 28 ≤ 27 → ⊥
+too_many few = omega (arith, few)
+
 reads_on : TakesSteps looks (entry (Go (codes "c") false) (Answered (answer.Found 4)) 27 []) → ⊥
 reads_on h = either too_many (either too_many (either too_many (either too_many (either too_many (λ e. e))))) h.brief
-  where
-    too_many : 28 ≤ 27 → ⊥
-    too_many few = omega (arith, few)
 
 -- wrong: it takes memory, is refused for want of it, or copies a pair
 lookup_asks : MovesOn loose looks (go Goes (Asked ABlock ∷ [])) → ⊥
@@ -193,8 +190,11 @@ lookup_copies : MovesOn loose looks (go Goes (Copied 2 (spot 1 2) ∷ [])) → �
 lookup_copies h = yes_no (h.finds.0.0)
 
 -- wrong: one step does two things, or none
+one_at_most : 2 ≤ 1 → ⊥
+one_at_most few = omega (arith, few)
+
 two_at_once : TakesSteps told (entry (Step (codes "c") false) Goes 1 (Asked ABlock ∷ PairMade ∷ Copied 2 (spot 1 1) ∷ [])) → ⊥
-two_at_once h = let few = h.does in omega (arith, few)
+two_at_once h = one_at_most h.does
 
 none_at_once : TakesSteps beside (entry (Step (codes "d") false) Goes 0 []) → ⊥
-none_at_once h = let one = h.makes in cc
+none_at_once h = zero_next 0 h.makes

@@ -11,13 +11,13 @@ use Rattle.papaya_schedules.specs.declared.event.Event.TheVariants.{Enter, MakeM
 use Rattle.papaya_schedules.specs.declared.effect.Effect.{Effect}
 use Rattle.papaya_schedules.specs.declared.effect.Effect.TheVariants.{Asked, PairGivenUp, Promoted, Copied, Stored, Counted, Retired, Ended, Taken}
 use Rattle.papaya_schedules.specs.declared.effect.Growth.TheVariants.{ABlock}
-use Rattle.papaya_schedules.specs.declared.effect.Thing.{Thing}
 use Rattle.papaya_schedules.specs.declared.effect.Thing.TheVariants.{ATable}
 use Rattle.papaya_schedules.specs.declared.outcome.Outcome.TheVariants.{Done, Answered, Refused}
+use Rattle.papaya_schedules.specs.Moment.{Place, InMap, GivenBack}
 use Rattle.papaya_schedules.specs.Entry.{Entry}
 use Rattle.papaya_schedules.specs.Steps.{TakesSteps}
 use Rattle.papaya_schedules.specs.Handing.{MovesOn}
-use Rattle.papaya_schedules.proofs.Samples.Words.{no_yes, either, strict, entry, spot, table, shape, makes_pair, makes_table, call, registered}
+use Rattle.papaya_schedules.proofs.Samples.Words.{no_yes, either, some_thing, strict, entry, spot, table, shape, makes_pair, makes_table, call, registered}
 
 -- a map with a first table of 8 places, and two pairs in it
 abbrev made : List (Entry ℕ ℕ)
@@ -31,6 +31,9 @@ put key n = call (On (Insert key 10)) (Answered answer.Absent) 9 (makes_pair (St
 
 abbrev filled : List (Entry ℕ ℕ)
 filled = put 5 2 ∷ put 1 1 ∷ made
+
+there_back : ◌≡◌ {A = Place} (InMap 0) GivenBack → ⊥
+there_back h = cc
 
 -- the third finds no place; the first copy fits into the next table and the second does not; the table after that has places for both
 abbrev resize : List Effect → List Effect
@@ -63,7 +66,7 @@ resizes =
               (
                 (refl, (refl, refl, (Full 0, 2, 8, refl, refl, refl, refl))),
                 (
-                  (refl, (omega arith, omega arith, refl, λ e. cc e, omega arith, refl)),
+                  (refl, (omega arith, omega arith, refl, there_back, omega arith, refl)),
                   (
                     (refl, (refl, inl refl)),
                     (
@@ -71,9 +74,9 @@ resizes =
                       (
                         (refl, (refl, refl, (NoPlace, 0, 8, refl, inl (omega arith), refl, refl))),
                         (
-                          (refl, (omega arith, omega arith, refl, λ e. cc e, omega arith, refl)),
+                          (refl, (omega arith, omega arith, refl, there_back, omega arith, refl)),
                           (
-                            (refl, (omega arith, omega arith, refl, λ e. cc e, omega arith, refl)),
+                            (refl, (omega arith, omega arith, refl, there_back, omega arith, refl)),
                             (
                               (refl, (refl, refl, (omega arith, refl), refl)),
                               (
@@ -98,9 +101,6 @@ resizes =
       whole = tt;
       leaves = (record { owes = refl; block = refl; table = refl; counted = refl }, refl);
     }
-
-some_thing : (x : Thing) (things : List Thing) → x ∷ things ≡ [] → ⊥
-some_thing x things h = cc h
 
 other_turn : ◌≡◌ {A = ℕ} 1 0 → ⊥
 other_turn h = omega (arith, h)

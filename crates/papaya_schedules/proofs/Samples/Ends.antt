@@ -8,6 +8,7 @@ use Rattle.papaya_runs.specs.declared.outcome.TableShape.{TableShape}
 use Rattle.papaya_schedules.specs.declared.event.Event.TheVariants.{Unregister, ReclaimAll, Close, MakeMap, EndMap, ShowShape}
 use Rattle.papaya_schedules.specs.declared.effect.Effect.{Effect}
 use Rattle.papaya_schedules.specs.declared.effect.Effect.TheVariants.{Reclaimed, Ended, Taken}
+use Rattle.papaya_schedules.specs.declared.effect.Table.{Table}
 use Rattle.papaya_schedules.specs.declared.effect.Thing.TheVariants.{APair}
 use Rattle.papaya_schedules.specs.declared.outcome.Outcome.TheVariants.{Done, Shape, Refused}
 use Rattle.papaya_schedules.specs.Entry.{Entry}
@@ -15,7 +16,7 @@ use Rattle.papaya_schedules.specs.InTurn.{ComesRight}
 use Rattle.papaya_schedules.specs.Handing.{MovesOn}
 use Rattle.papaya_schedules.specs.Model.{IsByModel}
 use Rattle.papaya_schedules.specs.Reclaims.{LeavesLittle}
-use Rattle.papaya_schedules.proofs.Samples.Words.{strict, loose, entry, table, shape, drop_guard}
+use Rattle.papaya_schedules.proofs.Samples.Words.{no_yes, behind_there, next_zero, strict, loose, entry, table, shape, drop_guard}
 use Rattle.papaya_schedules.proofs.Samples.Resized.{grown, removed}
 
 -- while the resize goes on both tables are shown, the root's first
@@ -23,8 +24,11 @@ shows_both : (v : Vec TableShape) → v.items ≡ shape 8 7 ∷ shape 16 15 ∷ 
 shows_both v is = is
 
 -- wrong: one is left out, or has another last try
+fewer : (shown : List TableShape) → shown ≡ shape 8 7 ∷ [] → shown ≡ shape 8 7 ∷ shape 16 15 ∷ [] → ⊥
+fewer shown one both = cc
+
 shows_root : (v : Vec TableShape) → v.items ≡ shape 8 7 ∷ [] → ComesRight strict grown (entry (ShowShape (codes "m")) (Shape v) 0 []) → ⊥
-shows_root v is h = cc
+shows_root v is h = fewer v.items is h
 
 abbrev limits : List TableShape → List ℕ
 limits shapes = map (λ s. s.limit) shapes
@@ -58,16 +62,19 @@ ends_in_order =
 
 -- wrong: they come by their numbers; one is kept; the pair that waits is reclaimed with them; a table is kept
 ends_by_number : MovesOn strict removed (end_m (Ended 2 ∷ Ended 3 ∷ Ended 4 ∷ Ended 5 ∷ Ended 6 ∷ Ended 7 ∷ Ended 8 ∷ Ended 9 ∷ [])) → ⊥
-ends_by_number h = cc (h.whole.order)
+ends_by_number h = no_yes (h.whole.order)
 
 keeps_pair : MovesOn strict removed (end_m (Ended 3 ∷ Ended 4 ∷ Ended 5 ∷ Ended 6 ∷ Ended 7 ∷ Ended 8 ∷ Ended 2 ∷ [])) → ⊥
-keeps_pair h = cc (h.whole.all)
+keeps_pair h = next_zero 0 (h.whole.all)
 
 ends_waiting : MovesOn strict removed (end_m (Ended 1 ∷ in_order_of_places)) → ⊥
-ends_waiting h = cc (h.finds.0)
+ends_waiting h = behind_there (h.finds.0)
+
+one_of_two : ◌≡◌ {A = List Table} (table 0 ∷ []) (table 0 ∷ table 1 ∷ []) → ⊥
+one_of_two h = cc
 
 keeps_table : MovesOn strict removed (entry (EndMap (codes "m")) Done 0 (in_order_of_places ++ Taken (table 0) ∷ [])) → ⊥
-keeps_table h = cc (h.whole.tables)
+keeps_table h = one_of_two (h.whole.tables)
 
 -- what it left over comes back with everything, and holds the map's root till then
 abbrev left_over : List (Entry ℕ ℕ)
@@ -90,7 +97,7 @@ left_moves_on = record { finds = (refl, tt); may = refl; granted = refl; refuses
 
 -- wrong: it waits on; the collector ends without it; it is reclaimed by a call
 waits_on : LeavesLittle strict left_over (reclaim_all []) → ⊥
-waits_on h = cc (h.emptied.0.pairs)
+waits_on h = no_yes (h.emptied.0.pairs)
 
 is_torn_down : LeavesLittle strict left_over (entry Close Done 0 (Reclaimed (APair 1) ∷ []))
 is_torn_down =
@@ -102,4 +109,4 @@ is_torn_down =
     }
 
 is_torn_down_short : LeavesLittle strict left_over (entry Close Done 0 []) → ⊥
-is_torn_down_short h = cc (h.torn_down)
+is_torn_down_short h = no_yes (h.torn_down)

@@ -1,6 +1,6 @@
 -- A run worked by hand with two maps, an owned guard beside another one, and a batch that waits for both. And wrong runs.
 use Rattle.std.specs.Prelude.{codes, drop, nat_eq}
-use Rattle.std.proofs.Common.{ℕ, true, false, List, [], ◌∷◌, inl, inr, refl, arith}
+use Rattle.std.proofs.Common.{◌≡◌, ℕ, true, false, List, [], ◌∷◌, inl, inr, refl, arith}
 use Rattle.seize_words.specs.declared.fault.Fault.TheVariants.{RootsUsedUp}
 use Rattle.papaya_raw.specs.Given.Tables.declared.resize_mode.ResizeMode.TheVariants.{Incremental, Blocking}
 use Rattle.papaya_schedules.specs.declared.call.Call.{Call}
@@ -23,7 +23,7 @@ use Rattle.papaya_schedules.specs.Linearizable.{IsLinearizable}
 use Rattle.papaya_schedules.specs.Reclaims.{IsProtected}
 use Rattle.papaya_schedules.specs.Model.{IsByModel}
 use Rattle.papaya_schedules.specs.Runs.{IsLegalLog}
-use Rattle.papaya_schedules.proofs.Samples.Words.{yes_no, either, entry, spot, shape, makes_pair, makes_table, registered}
+use Rattle.papaya_schedules.proofs.Samples.Words.{yes_no, one_two, either, entry, spot, shape, makes_pair, makes_table, registered}
 
 -- room for two maps, and calls one by one
 abbrev roomy : Terms
@@ -354,22 +354,34 @@ two_maps = (
 third_map : ComesRight roomy made (entry (MakeMap (codes "p") Blocking 0) (Refused RootsUsedUp) 0 [])
 third_map = refl
 
+done_refused : ◌≡◌ {A = Outcome ℕ} Done (Refused RootsUsedUp) → ⊥
+done_refused h = cc
+
 third_map_made : ComesRight roomy made (entry (MakeMap (codes "p") Blocking 0) Done 0 []) → ⊥
-third_map_made h = cc h
+third_map_made h = done_refused h
 
 -- wrong: the first guard's end reclaims; the refresh reclaims in another order, or nothing
+two_back : ◌≡◌ {A = List ℕ} (1 ∷ 3 ∷ []) [] → ⊥
+two_back h = cc
+
 first_end : IsByModel roomy removed (drop_g (Reclaimed (APair 1) ∷ Reclaimed (APair 2) ∷ [])) → ⊥
-first_end h = cc h
+first_end h = two_back h
 
 first_end_unprotected : IsProtected removed (drop_g (Reclaimed (APair 1) ∷ [])) → ⊥
 first_end_unprotected h = yes_no h
 
+turned : ◌≡◌ {A = List ℕ} (3 ∷ 1 ∷ []) (1 ∷ 3 ∷ []) → ⊥
+turned h = cc
+
 other_order : IsByModel roomy (drop_g [] ∷ removed) (refresh (Reclaimed (APair 2) ∷ Reclaimed (APair 1) ∷ [])) → ⊥
-other_order h = cc h
+other_order h = turned h
+
+none_back : ◌≡◌ {A = List ℕ} [] (1 ∷ 3 ∷ []) → ⊥
+none_back h = cc
 
 nothing_back : IsByModel roomy (drop_g [] ∷ removed) (refresh []) → ⊥
-nothing_back h = cc h
+nothing_back h = none_back h
 
 -- wrong: a lookup in one map tells the pair of the other
 other_map : IsLinearizable nat_eq stored (look (Answered (answer.Found 2))) → ⊥
-other_map h = either (λ e. cc e) (λ e. e) h.ends
+other_map h = either one_two (λ e. e) h.ends

@@ -1,6 +1,6 @@
 -- Reservations, growths and refusals: each in its case alone. And wrong runs.
 use Rattle.std.specs.Prelude.{codes, nat_eq, ◌+◌, ◌%◌, ◌^◌, nat_le, max, if◌then◌else◌}
-use Rattle.std.proofs.Common.{◌≡◌, ◌≤◌, ◌<◌, ℕ, Bool, true, false, List, [], ◌∷◌, ◌++◌, inl, inr, refl, arith, Ok, Err}
+use Rattle.std.proofs.Common.{◌≡◌, ◌≤◌, ℕ, Bool, true, false, List, [], ◌∷◌, ◌++◌, inl, inr, refl, arith, Ok, Err}
 use Rattle.seize_words.specs.declared.fault.Fault.TheVariants.{Capacity, SlotsUsedUp, Memory}
 use Rattle.papaya_raw.specs.Given.Tables.declared.lengths.Reason.TheVariants.{Full, Reserved, NoPlace}
 use Rattle.papaya_raw.specs.Given.Seize.Register.{MayNeedRoom}
@@ -27,7 +27,7 @@ use Rattle.papaya_schedules.specs.After.{moments_from}
 use Rattle.papaya_schedules.specs.InTurn.{ComesRight}
 use Rattle.papaya_schedules.specs.Sweeps.{IsSwept, Fits, FindsRoom}
 use Rattle.papaya_schedules.specs.Handing.{MovesOn}
-use Rattle.papaya_schedules.proofs.Samples.Words.{no_yes, yes_no, either, strict, loose, entry, spot, table, shape, makes_pair, makes_table, begin, call, inserted, entered}
+use Rattle.papaya_schedules.proofs.Samples.Words.{no_yes, yes_no, next_zero, nothing_between, either, strict, loose, entry, spot, table, shape, makes_pair, makes_table, begin, call, inserted, entered}
 
 abbrev reserve : ℕ → Outcome ℕ → List Effect → Entry ℕ ℕ
 reserve more outcome effects = call (Reserve more) outcome 200 effects
@@ -163,37 +163,46 @@ makes_refused h = no_yes (h.refuses)
 
 -- wrong: a removal asks for memory where there is one table; a reservation for a table that cannot be had
 removal_asks : MovesOn strict inserted (call (On (Remove 1)) (Refused Memory) 9 (Asked ABlock ∷ [])) → ⊥
-removal_asks h = either no_yes (either nothing_above (either nothing_above (λ e. e))) (h.finds.0.1.1)
-  where
-    nothing_above : 1 < 1 → ⊥
-    nothing_above next = omega (arith, next)
+removal_asks h = either no_yes (either nothing_between (either nothing_between (λ e. e))) (h.finds.0.1.1)
 
 -- a registration gets the least slot that is free, and asks for words only where that was never taken and may need them
 registers_least : ComesRight strict inserted (entry (Register (codes "q")) (Slot 1) 0 [])
 registers_least = inl refl
 
+two_one : ◌≡◌ {A = Outcome ℕ} (Slot 2) (Slot 1) → ⊥
+two_one h = cc
+
+slot_refused : ◌≡◌ {A = Outcome ℕ} (Slot 2) (Refused Memory) → ⊥
+slot_refused h = cc
+
 registers_higher : ComesRight strict inserted (entry (Own (codes "o")) (Slot 2) 0 []) → ⊥
-registers_higher h = either (λ e. cc) (λ e. cc) h
+registers_higher h = either two_one (λ e. slot_refused e.0) h
+
+refused_slot : ◌≡◌ {A = Outcome ℕ} (Refused SlotsUsedUp) (Slot 1) → ⊥
+refused_slot h = cc
+
+used_memory : ◌≡◌ {A = Outcome ℕ} (Refused SlotsUsedUp) (Refused Memory) → ⊥
+used_memory h = cc
 
 registers_none : ComesRight strict inserted (entry (Register (codes "q")) (Refused SlotsUsedUp) 0 []) → ⊥
-registers_none h = either (λ e. cc) (λ e. cc) h
+registers_none h = either refused_slot (λ e. used_memory e.0) h
+
+needs_none : MayNeedRoom 1 → ⊥
+needs_none (inl e) = next_zero 0 e
+needs_none (inr e) = e refl
 
 asks_for_words : MovesOn strict inserted (entry (Register (codes "q")) (Refused Memory) 0 (Asked ABucket ∷ [])) → ⊥
-asks_for_words h = by h.finds.0.1
-  where
-    by : MayNeedRoom 1 → ⊥
-    by (inl e) = cc e
-    by (inr e) = e refl
+asks_for_words h = needs_none h.finds.0.1
 
 -- wrong: a table comes in with a turn too high; the first one with another length, or another last try
 abbrev grow : ℕ → Entry ℕ ℕ
 grow turn = call (On (Insert 9 10)) (Answered answer.Absent) 40 (makes_pair (makes_table turn (shape 64 30) (Stored 2 (spot turn 9) ∷ Counted 0 ∷ [])))
 
+too_high : 2 ≤ 1 → ⊥
+too_high turn = omega (arith, turn)
+
 turn_too_high : MovesOn strict inserted (grow 2) → ⊥
 turn_too_high h = too_high h.finds.1.1.1.0.1.3
-  where
-    too_high : 2 ≤ 1 → ⊥
-    too_high turn = omega (arith, turn)
 
 abbrev begins : TableShape → Entry ℕ ℕ
 begins first = call (On (Insert 1 10)) (Answered answer.Absent) 12 (makes_pair (makes_table 0 first (Stored 1 (spot 0 1) ∷ Counted 0 ∷ [])))

@@ -1,6 +1,6 @@
 -- Calls that are stopped in their midst: one on a key may have changed its map once, a sweep many times, and either says so. And wrong runs.
-use Rattle.std.specs.Prelude.{codes, nat_eq, length}
-use Rattle.std.proofs.Common.{◌≡◌, ℕ, false, List, [], ◌∷◌, inl, inr, refl, arith}
+use Rattle.std.specs.Prelude.{codes, nat_eq}
+use Rattle.std.proofs.Common.{◌≡◌, ℕ, false, List, [], ◌∷◌, inl, inr, refl, arith, Some}
 use Rattle.seize_words.specs.declared.fault.Fault.TheVariants.{ZeroChunk, Busy, Memory}
 use Rattle.papaya_raw.specs.Given.Tables.declared.resize_mode.ResizeMode.TheVariants.{Incremental}
 use Rattle.papaya_schedules.specs.declared.call.Call.TheVariants.{On, Clear}
@@ -14,7 +14,7 @@ use Rattle.papaya_schedules.specs.declared.effect.Thing.TheVariants.{APair}
 use Rattle.papaya_schedules.specs.declared.outcome.Outcome.{Outcome}
 use Rattle.papaya_schedules.specs.declared.outcome.Outcome.TheVariants.{Done, Goes, Answered, Refused}
 use Rattle.papaya_schedules.specs.declared.record.Run.{Run}
-use Rattle.papaya_schedules.specs.Sequential.{Puts, GivesWay, ComesIn}
+use Rattle.papaya_schedules.specs.Sequential.{Answers, Puts, GivesWay, ComesIn}
 use Rattle.papaya_schedules.specs.Entry.{Entry}
 use Rattle.papaya_schedules.specs.After.{moment}
 use Rattle.papaya_schedules.specs.InTurn.{ComesRight}
@@ -22,7 +22,7 @@ use Rattle.papaya_schedules.specs.Steps.{TakesSteps}
 use Rattle.papaya_schedules.specs.Linearizable.{IsLinearizable}
 use Rattle.papaya_schedules.specs.Handing.{MovesOn}
 use Rattle.papaya_schedules.specs.Runs.{TellsEnd}
-use Rattle.papaya_schedules.proofs.Samples.Words.{one_shift, owes_one, either, strict, loose, entry, spot, makes_pair, call, inserted}
+use Rattle.papaya_schedules.proofs.Samples.Words.{one_two, owes_one, owes_still, puts_leaves, absent_found, done_busy, answered_busy, one_shift, some_thing, either, strict, loose, entry, spot, makes_pair, call, inserted}
 
 -- a call is stopped right after the step in which it stored pair 2 in the place of pair 1
 abbrev stop : List Effect → Entry ℕ ℕ
@@ -70,29 +70,32 @@ go_on_moves =
 
 -- wrong: it answers another thing, stores again, is refused, or forgets the old pair
 answers_else : IsLinearizable nat_eq stopped (go_on (Answered answer.Absent) (Retired (APair 1) ∷ [])) → ⊥
-answers_else h = cc (h.ends)
+answers_else h = absent_found 1 (h.ends)
 
 refused_after : IsLinearizable nat_eq stopped (go_on (Refused Memory) []) → ⊥
-refused_after h = cc (h.ends)
+refused_after h = owes_one (answer.Found 1) (h.ends)
 
 stores_again : IsLinearizable nat_eq stopped (go_on (Answered (answer.Found 1)) (makes_pair (Replaced 2 ∷ Stored 3 (spot 0 1) ∷ []))) → ⊥
-stores_again h = either (one_shift (GivesWay 2) (ComesIn 3 ∷ [])) (λ e. owes_one (answer.Found 1) e.0) h.changes
+stores_again h = either (one_shift (GivesWay 2) (ComesIn 3 ∷ [])) (owes_still (answer.Found 1) (Answers (answer.Found 2) (Puts 20)) (Some 2) 3 (GivesWay 2 ∷ ComesIn 3 ∷ [])) h.changes
 
 forgets_old : MovesOn strict stopped (go_on (Answered (answer.Found 1)) []) → ⊥
-forgets_old h = cc (h.leaves.0.owes)
+forgets_old h = some_thing (APair 1) [] (h.leaves.0.owes)
 
 -- wrong: it hides its change. Then it has no answer, lookups do not see the pair, and the end of the run cannot tell it.
 abbrev hidden : List (Entry ℕ ℕ)
 hidden = stop [] ∷ inserted
 
 hidden_answers : IsLinearizable nat_eq hidden (go_on (Answered (answer.Found 1)) []) → ⊥
-hidden_answers h = either (λ e. cc e) (either (λ e. cc e) (λ e. e)) h.ends
+hidden_answers h = either (puts_leaves (answer.Found 1) 20) (either (puts_leaves (answer.Found 1) 20) (λ e. e)) h.ends
 
 hidden_seen : IsLinearizable nat_eq hidden (entry (OneCall (codes "g") (codes "m") (On (Get 1))) (Answered (answer.Found 2)) 3 []) → ⊥
-hidden_seen h = either (λ e. cc e) (λ e. e) h.ends
+hidden_seen h = either one_two (λ e. e) h.ends
+
+not_both : (n : ℕ) → n ≡ 2 → n ≡ 1 → ⊥
+not_both n two one = omega (arith, two, one)
 
 hidden_stored : (run : Run ℕ ℕ) → run.stored ≡ 2 → TellsEnd (moment hidden) run → ⊥
-hidden_stored run two tells = let one : run.stored ≡ length (moment hidden).stored = tells.stored in omega (arith, two, one)
+hidden_stored run two tells = not_both run.stored two tells.stored
 
 -- one that is stopped before its exchange has changed nothing, and may change it later
 stop_before : IsLinearizable nat_eq inserted (stop (Asked ABlock ∷ PairMade ∷ []))
@@ -133,11 +136,11 @@ looks_out_of_turn : ComesRight strict stopped (call (On (Get 1)) (Refused Busy) 
 looks_out_of_turn = refl
 
 looks_in_turn : ComesRight strict stopped (call (On (Get 1)) (Answered (answer.Found 2)) 3 []) → ⊥
-looks_in_turn h = cc h
+looks_in_turn h = answered_busy (answer.Found 2) h
 
 -- and where they do not, other events go on, but the end of the guard that it uses
 enters_on : ComesRight loose stopped (entry (Enter (codes "h") (codes "r")) Done 0 [])
 enters_on = refl
 
 drops_used : ComesRight loose stopped (entry (DropGuard (codes "g")) Done 0 []) → ⊥
-drops_used h = cc h
+drops_used h = done_busy h

@@ -1,8 +1,9 @@
 -- Walks, `clear`, `retain` and `len`. And wrong runs.
 use Rattle.std.specs.Prelude.{codes, nat_eq}
-use Rattle.std.proofs.Common.{ℕ, Bool, true, false, List, [], ◌∷◌, inl, refl, Some}
+use Rattle.std.proofs.Common.{◌≡◌, ℕ, Bool, true, false, List, [], ◌∷◌, inl, refl, Option, Some, None}
 use Rattle.papaya_schedules.specs.declared.call.Call.{Call}
 use Rattle.papaya_schedules.specs.declared.call.Call.TheVariants.{Clear, Retain, Len, Walk}
+use Rattle.papaya_schedules.specs.declared.call.Reply.{Reply}
 use Rattle.papaya_schedules.specs.declared.call.Reply.TheVariants.{Decides}
 use Rattle.papaya_schedules.specs.declared.call.Answer.TheVariants as answer
 use Rattle.papaya_schedules.specs.declared.event.Event.TheVariants.{Go, Replied, Next}
@@ -14,7 +15,7 @@ use Rattle.papaya_schedules.specs.declared.outcome.Outcome.TheVariants.{Goes, As
 use Rattle.papaya_schedules.specs.Entry.{Entry}
 use Rattle.papaya_schedules.specs.Linearizable.{IsLinearizable}
 use Rattle.papaya_schedules.specs.Sweeps.{IsSwept}
-use Rattle.papaya_schedules.proofs.Samples.Words.{no_yes, yes_no, either, strict, entry, call}
+use Rattle.papaya_schedules.proofs.Samples.Words.{no_yes, yes_no, zero_next, either, strict, entry, call}
 use Rattle.papaya_schedules.proofs.Samples.Stored.{replaced}
 
 abbrev swept : Call ℕ ℕ → Outcome ℕ → List Effect → Entry ℕ ℕ
@@ -45,11 +46,17 @@ removes_no = record { changes = (refl, tt); ends = tt; asks = tt }
 retains_no : IsSwept nat_eq strict (retaining false) (go_on (Answered answer.Completed) []) → ⊥
 retains_no h = no_yes h
 
+yes_for_no : ◌≡◌ {A = Option (Reply ℕ)} (Some (Decides true)) (Some (Decides false)) → ⊥
+yes_for_no h = cc
+
 removes_yes : IsLinearizable nat_eq (retaining true) (go_on (Answered answer.Completed) (Removed 2 ∷ Retired (APair 2) ∷ Counted 0 ∷ [])) → ⊥
-removes_yes h = cc (h.changes.0)
+removes_yes h = yes_for_no (h.changes.0)
+
+no_reply : ◌≡◌ {A = Option (Reply ℕ)} None (Some (Decides false)) → ⊥
+no_reply h = cc
 
 removes_unasked : IsLinearizable nat_eq replaced (swept Retain (Answered answer.Completed) (Removed 2 ∷ Retired (APair 2) ∷ Counted 0 ∷ [])) → ⊥
-removes_unasked h = cc (h.changes.0)
+removes_unasked h = no_reply (h.changes.0)
 
 asks_left : IsLinearizable nat_eq replaced (swept Retain (Asks (Some 1)) []) → ⊥
 asks_left h = either no_yes (λ e. e) h.asks
@@ -69,7 +76,7 @@ shows_one : IsSwept nat_eq strict walks (next (Shows 1)) → ⊥
 shows_one h = either no_yes (either no_yes (λ e. e)) h.0
 
 shows_none : IsSwept nat_eq strict walks (next (Answered answer.Absent)) → ⊥
-shows_none h = let once = h 1 (refl, (refl, tt)) in cc once
+shows_none h = zero_next 0 (h 1 (refl, (refl, tt)))
 
 shows_twice : IsSwept nat_eq strict (next (Shows 2) ∷ walks) (next (Shows 2)) → ⊥
 shows_twice h = yes_no (h.1)

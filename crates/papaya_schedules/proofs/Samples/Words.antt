@@ -1,6 +1,7 @@
 -- What the samples are told with: entries of logs, and a first log at each of its moments.
-use Rattle.std.specs.Prelude.{codes}
-use Rattle.std.proofs.Common.{◌≡◌, ℕ, true, false, List, [], ◌∷◌, ◌⊎◌, inl, inr, Some, None}
+use Rattle.std.specs.Prelude.{codes, ◌+◌}
+use Rattle.std.proofs.Common.{◌≡◌, ◌<◌, ◌≤◌, ℕ, true, false, List, [], ◌∷◌, ◌⊎◌, inl, inr, arith, Option, Some, None}
+use Rattle.seize_words.specs.declared.fault.Fault.TheVariants.{Busy}
 use Rattle.papaya_raw.specs.Given.Tables.declared.resize_mode.ResizeMode.TheVariants.{Incremental}
 use Rattle.papaya_runs.specs.declared.outcome.TableShape.{TableShape}
 use Rattle.papaya_schedules.specs.declared.call.Call.{Call}
@@ -15,10 +16,12 @@ use Rattle.papaya_schedules.specs.declared.effect.Effect.TheVariants.{Asked, Pai
 use Rattle.papaya_schedules.specs.declared.effect.Growth.TheVariants.{ABlock, ABucket}
 use Rattle.papaya_schedules.specs.declared.effect.Spot.{Spot}
 use Rattle.papaya_schedules.specs.declared.effect.Table.{Table}
+use Rattle.papaya_schedules.specs.declared.effect.Thing.{Thing}
 use Rattle.papaya_schedules.specs.declared.outcome.Outcome.{Outcome}
-use Rattle.papaya_schedules.specs.declared.outcome.Outcome.TheVariants.{Done, Slot, Goes, Answered}
-use Rattle.papaya_schedules.specs.Sequential.{Meaning, Answers, Wants, Deed, Leaves, Shift}
+use Rattle.papaya_schedules.specs.declared.outcome.Outcome.TheVariants.{Done, Slot, Goes, Answered, Refused}
+use Rattle.papaya_schedules.specs.Sequential.{Meaning, Answers, Refuses, Wants, Deed, Leaves, Puts, Shift, shifts}
 use Rattle.papaya_schedules.specs.Terms.{Terms}
+use Rattle.papaya_schedules.specs.Moment.{Place, InMap, Behind}
 use Rattle.papaya_schedules.specs.Entry.{Entry}
 
 -- neither of two is so
@@ -46,16 +49,81 @@ four_two h = cc
 pub found_none : (n : ℕ) → found n ≡ Answers answer.Absent Leaves → ⊥
 found_none n h = cc
 
--- nor that it wants a reply; and an answer that is owed is no reason to ask
-pub wants_no : (a : Answer ℕ) (d : Deed ℕ) → Wants ≡ Answers a d → ⊥
-wants_no a d h = cc
-
+-- an answer that is owed is no reason to ask
 pub owes_one : (a : Answer ℕ) → Some a ≡ None → ⊥
 owes_one a h = cc
+
+-- nor that a call means to do a thing is not that it does nothing, is refused, or wants a reply
+pub puts_leaves : (a : Answer ℕ) (v : ℕ) → Answers a (Puts v) ≡ Answers a Leaves → ⊥
+puts_leaves a v h = cc
+
+pub answers_refuses : (a : Answer ℕ) (d : Deed ℕ) → Answers a d ≡ Refuses → ⊥
+answers_refuses a d h = cc
+
+pub answers_wants : (a : Answer ℕ) (d : Deed ℕ) → Answers a d ≡ Wants → ⊥
+answers_wants a d h = cc
+
+-- an answer that there is no pair is none that there is one
+pub absent_found : (n : ℕ) → ◌≡◌ {A = Answer ℕ} answer.Absent (answer.Found n) → ⊥
+absent_found n h = cc
+
+-- what an event comes to is not that it is busy
+pub goes_busy : ◌≡◌ {A = Outcome ℕ} Goes (Refused Busy) → ⊥
+goes_busy h = cc
+
+pub done_busy : ◌≡◌ {A = Outcome ℕ} Done (Refused Busy) → ⊥
+done_busy h = cc
+
+pub answered_busy : (a : Answer ℕ) → ◌≡◌ {A = Outcome ℕ} (Answered a) (Refused Busy) → ⊥
+answered_busy a h = cc
 
 -- a change is not none
 pub one_shift : (shift : Shift) (shifts : List Shift) → shift ∷ shifts ≡ [] → ⊥
 one_shift shift shifts h = cc
+
+-- A call has made these changes: it owes no answer, and does what it means to do, where its key has this pair or none, and the next one gets this number.
+abbrev pub Changed : Option (Answer ℕ) → Meaning ℕ → Option ℕ → ℕ → List Shift → Type 0
+Changed due meaning old new done = (due ≡ None) × (a : Answer ℕ) × (d : Deed ℕ) × (meaning ≡ Answers a d) × (done ≡ shifts old new d)
+
+-- wrong: it wants a reply, or owes an answer
+pub wants_no : (old : Option ℕ) (new : ℕ) (done : List Shift) → Changed None Wants old new done → ⊥
+wants_no old new done (owes, a, d, means, same) = cc means
+
+pub owes_still : (a : Answer ℕ) (meaning : Meaning ℕ) (old : Option ℕ) (new : ℕ) (done : List Shift) → Changed (Some a) meaning old new done → ⊥
+owes_still a meaning old new done changed = owes_one a changed.0
+
+-- It asks about a pair, or about none, where its key has this pair or none, by what it means there.
+abbrev pub AsksThere : Option ℕ → Option ℕ → Meaning ℕ → Type 0
+AsksThere old question meaning = (old ≡ question) × (meaning ≡ Wants)
+
+-- wrong: it has its answer
+pub asks_answered : (old question : Option ℕ) (a : Answer ℕ) (d : Deed ℕ) → AsksThere old question (Answers a d) → ⊥
+asks_answered old question a d asks = answers_wants a d asks.1
+
+-- a thing that is owed is not none
+pub some_thing : (x : Thing) (things : List Thing) → x ∷ things ≡ [] → ⊥
+some_thing x things h = cc
+
+-- a pair that waits behind a table is not in the map
+pub behind_there : ◌≡◌ {A = Place} Behind (InMap 0) → ⊥
+behind_there h = cc
+
+-- a table that was made is not none
+pub some_table : (t : Table) → Some t ≡ None → ⊥
+some_table t h = cc
+
+-- numbers that are not the same, or in the wrong order
+pub zero_next : (n : ℕ) → ◌≡◌ {A = ℕ} 0 (n + 1) → ⊥
+zero_next n h = omega (arith, h)
+
+pub next_zero : (n : ℕ) → ◌≡◌ {A = ℕ} (n + 1) 0 → ⊥
+next_zero n h = omega (arith, h)
+
+pub nothing_below : 1 ≤ 0 → ⊥
+nothing_below h = omega (arith, h)
+
+pub nothing_between : 1 < 1 → ⊥
+nothing_between h = omega (arith, h)
 
 -- any schedule, on a collector with batches of one
 abbrev pub loose : Terms
