@@ -1,17 +1,19 @@
 //! Schedules, what each of their events comes to and does, and how the runs end.
+use crate::beside::{
+    ABORTS, ASKS_ANEW, ASKS_THERE, ASKS_TWICE, COMPUTES, REMOVES, REMOVES_IF, RESIZES_BESIDE,
+    UPDATES, UPDATES_THERE,
+};
 use crate::deeds::Deed::{
     self, Back, Block, Bucket, Copied, Counted, Deferred, Ended, GivenUp, Linked, Pair, Promoted,
     Removed, Replaced, Retired, Stored, TableBack, TableMade, TableRetired, Taken,
 };
 use crate::steps::Made::{Compute, Insert, Remove, RemoveIf, TryInsert, Walk};
 use crate::steps::Step::{
-    Beside, Call, Choose, Close, End, Enter, Go, GoBeside, Leave, Make, MakeOther, Next,
-    ReclaimAll, Register, Says, Shape, Stop, Unregister,
+    Call, Choose, Close, End, Enter, Go, Leave, Make, MakeOther, Next, ReclaimAll, Register, Says,
+    Shape, Stop, Unregister,
 };
 use crate::steps::Told::{Decides, Gives};
-use crate::steps::{
-    ABSENT, ASKS_NONE, BUSY, DONE, GOES, READY, SLOT, Shown, Step, ZERO_CHUNK, shown,
-};
+use crate::steps::{ABSENT, BUSY, DONE, GOES, READY, SLOT, Shown, Step, ZERO_CHUNK, shown};
 use papaya_raw::ResizeMode::{Blocking, Incremental};
 use papaya_running::running::run;
 use papaya_runs::event::Setup;
@@ -24,7 +26,7 @@ use std::process::Abort;
 use std::test::Fail;
 
 /// An event, what it comes to, and what it does.
-type Line = (Step, Shown, &'static [Deed]);
+pub type Line = (Step, Shown, &'static [Deed]);
 
 /// How a run ends: how many pairs it has stored, how many came back, which ones wait, how many tables do, and how many pairs the map has, if it
 /// lives.
@@ -328,56 +330,7 @@ const ASKS: [Line; 10] = [
     (Leave, DONE, &[TableBack(0), Back(1)]),
 ];
 
-/// A call that asked about none asks about the pair, too, that another caller has stored there meanwhile.
-const ASKS_TWICE: [Line; 7] = [
-    (Call(Compute(1)), ASKS_NONE, &[]),
-    (Beside(Insert(1, 7)), GOES, &[]),
-    (GoBeside, ABSENT, &[Block, Pair, Stored(1, 0, 1), Counted]),
-    (Says(Gives(5)), GOES, &[]),
-    (Go, ("asks", 1, 0), &[Block, Pair]),
-    (Says(Gives(9)), GOES, &[]),
-    (
-        Go,
-        ("updated", 1, 2),
-        &[Replaced(1), Stored(2, 0, 1), Retired(1)],
-    ),
-];
-
-/// A call is under way while another caller begins a resize, which copies the pair that the one has asked about: it goes on to the second table, copies the
-/// next chunk on its way, and does not ask again.
-const RESIZED_BESIDE: [Line; 5] = [
-    (Call(Compute(0)), ("asks", 1, 0), &[]),
-    (Beside(Insert(8, 8)), GOES, &[]),
-    (
-        GoBeside,
-        ABSENT,
-        &[
-            Block,
-            Pair,
-            Block,
-            TableMade(1),
-            Linked(1, 16, 15),
-            Copied(1, 1, 0),
-            Stored(9, 1, 8),
-            Counted,
-        ],
-    ),
-    (Says(Gives(25)), GOES, &[]),
-    (
-        Go,
-        ("updated", 1, 10),
-        &[
-            Block,
-            Pair,
-            Copied(2, 1, 1),
-            Replaced(1),
-            Stored(10, 1, 0),
-            Deferred(1, 0),
-        ],
-    ),
-];
-
-const SCHEDULES: [Schedule; 10] = [
+const SCHEDULES: [Schedule; 14] = [
     (
         1,
         &[&INCREMENTAL, &EIGHT, &CARRIES, &LEAVES],
@@ -396,10 +349,42 @@ const SCHEDULES: [Schedule; 10] = [
     (1, &[&INCREMENTAL, &EIGHT, &ASKS], (9, 1, &[], 0, Some(8))),
     (
         1,
-        &[&INCREMENTAL, &EIGHT, &RESIZED_BESIDE],
+        &[
+            &INCREMENTAL,
+            &EIGHT,
+            &COMPUTES,
+            &RESIZES_BESIDE,
+            &UPDATES_THERE,
+        ],
         (10, 0, &[1], 0, Some(9)),
     ),
-    (1, &[&INCREMENTAL, &ASKS_TWICE], (2, 0, &[1], 0, Some(1))),
+    (
+        1,
+        &[
+            &INCREMENTAL,
+            &EIGHT,
+            &REMOVES_IF,
+            &RESIZES_BESIDE,
+            &ASKS_THERE,
+        ],
+        (9, 0, &[], 0, Some(9)),
+    ),
+    (
+        1,
+        &[&INCREMENTAL, &ASKS_TWICE, &UPDATES],
+        (2, 0, &[1], 0, Some(1)),
+    ),
+    (
+        1,
+        &[&INCREMENTAL, &ASKS_TWICE, &REMOVES],
+        (1, 0, &[1], 0, Some(0)),
+    ),
+    (
+        1,
+        &[&INCREMENTAL, &ASKS_TWICE, &ABORTS],
+        (1, 0, &[], 0, Some(1)),
+    ),
+    (1, &[&INCREMENTAL, &ASKS_ANEW], (2, 0, &[1, 2], 0, Some(0))),
     (1, &[&BLOCKING, &EIGHT, &RETIRES], (9, 9, &[], 0, None)),
     (1, &[&SMALL, &OCCUPIED], (1, 1, &[], 0, None)),
     (32, &[&SMALL, &CLOSES], (3, 3, &[], 0, None)),

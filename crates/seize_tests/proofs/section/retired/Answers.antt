@@ -5,7 +5,7 @@ use Rattle.seize_tests.specs.declared.leaf.Leaf.{Leaf}
 use Rattle.seize.specs.World.{Use, Retire}
 use Rattle.seize_alone.specs.Alone.{made, linked, unlinked}
 use Rattle.seize_tests.proofs.Slots.{cut_history, cut_hand, inside_taken, still_inside}
-use Rattle.seize_tests.proofs.sections.retired.Goals as goal
+use Rattle.seize_tests.proofs.section.retired.Goals as goal
 
 pub retire-requires-clause-may : goal.retire-requires-clause-may
 retire-requires-clause-may c =

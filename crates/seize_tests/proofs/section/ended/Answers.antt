@@ -1,7 +1,7 @@
 -- A call that runs to its end.
 use Rattle.std.proofs.Common.{[], ◌∷◌, ◌++◌, refl}
 use Rattle.seize_alone.specs.Alone.{called}
-use Rattle.seize_tests.proofs.sections.ended.Goals as goal
+use Rattle.seize_tests.proofs.section.ended.Goals as goal
 
 pub loop-value-init : goal.loop-value-init
 loop-value-init c = λ size m h request given mid. (given, mid)

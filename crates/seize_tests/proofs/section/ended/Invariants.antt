@@ -5,7 +5,7 @@ use Rattle.seize_words.specs.Mem.{Mem}
 use Rattle.seize_tests.specs.declared.leaf.Leaf.{Leaf}
 use Rattle.seize.specs.World.{Request}
 use Rattle.seize_alone.specs.Alone.{History, IsMidway, row_of, blocks_in}
-use Rattle.seize_tests.proofs.sections.ended.Given as goal
+use Rattle.seize_tests.proofs.section.ended.Given as goal
 
 -- the call is under way still
 abbrev pub invariant-loop-value : goal.invariant-loop-value

@@ -1,7 +1,7 @@
 -- A section that is open may end.
 use Rattle.std.proofs.Common.{ℕ, ap, [], ◌∙◌}
 use Rattle.seize.specs.World.{Use, Leave'}
-use Rattle.seize_tests.proofs.sections.left.Goals as goal
+use Rattle.seize_tests.proofs.section.left.Goals as goal
 
 pub leave-requires : goal.leave-requires
 leave-requires c = let r = c.requires in (0, r.1.0, r.1.1, ap (λ (f : ℕ → Use). f c.args.slot) r.1.2 ∙ r.2)

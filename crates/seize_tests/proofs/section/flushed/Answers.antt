@@ -2,7 +2,7 @@
 use Rattle.std.proofs.Common.{ℕ, ap, [], ◌∙◌}
 use Rattle.seize.specs.World.{Use, Flush}
 use Rattle.seize_tests.proofs.Slots.{inside_taken, still_inside}
-use Rattle.seize_tests.proofs.sections.flushed.Goals as goal
+use Rattle.seize_tests.proofs.section.flushed.Goals as goal
 
 pub flush-requires : goal.flush-requires
 flush-requires c = let r = c.requires in (0, r.1.0, r.1.1, inside_taken c.args.size c.args.memory.now c.args.slot r)
