@@ -9,11 +9,10 @@ use crate::deeds::Deed::{
 };
 use crate::steps::Made::{Compute, Insert, Remove, RemoveIf, TryInsert, Walk};
 use crate::steps::Step::{
-    Call, Choose, Close, End, Enter, Go, Leave, Make, MakeOther, Next, ReclaimAll, Register, Says,
-    Shape, Stop, Unregister,
+    Call, Close, End, Enter, Go, Leave, Make, Next, ReclaimAll, Register, Says, Stop, Unregister,
 };
 use crate::steps::Told::{Decides, Gives};
-use crate::steps::{ABSENT, BUSY, DONE, GOES, READY, SLOT, Shown, Step, ZERO_CHUNK, shown};
+use crate::steps::{ABSENT, DONE, GOES, READY, SLOT, Shown, Step, shown};
 use papaya_raw::ResizeMode::{Blocking, Incremental};
 use papaya_running::running::run;
 use papaya_runs::event::Setup;
@@ -123,8 +122,8 @@ const CARRIES: [Line; 2] = [
 
 const LEAVES: [Line; 1] = [(Leave, DONE, &[])];
 
-/// The map ends while a table carries two of its pairs. Afterwards nothing but what is open can end.
-const ENDS: [Line; 6] = [
+/// The map ends while a table carries two of its pairs.
+const ENDS: [Line; 3] = [
     (
         Call(Remove(1)),
         ("found", 2, 0),
@@ -145,9 +144,6 @@ const ENDS: [Line; 6] = [
             Taken(1),
         ],
     ),
-    (End, BUSY, &[]),
-    (MakeOther(Incremental(1)), BUSY, &[]),
-    (ReclaimAll, BUSY, &[]),
     (Leave, DONE, &[]),
 ];
 
@@ -160,7 +156,7 @@ const GIVES_BACK: [Line; 4] = [
 ];
 
 /// What was retired waits on as its map ends.
-const RETIRES: [Line; 8] = [
+const RETIRES: [Line; 5] = [
     (
         Call(Insert(8, 8)),
         ABSENT,
@@ -208,9 +204,6 @@ const RETIRES: [Line; 8] = [
             Taken(1),
         ],
     ),
-    (End, BUSY, &[]),
-    (MakeOther(Blocking), BUSY, &[]),
-    (ReclaimAll, BUSY, &[]),
     (Leave, DONE, &[Back(2), Back(1), TableBack(0)]),
 ];
 
@@ -274,22 +267,6 @@ const CLOSES: [Line; 8] = [
     (Close, DONE, &[Back(1), Back(3)]),
 ];
 
-/// The collector ends last, and each event after it is refused.
-const COMES_LATE: [Line; 12] = [
-    (Close, BUSY, &[]),
-    (Leave, DONE, &[]),
-    (End, DONE, &[]),
-    (Close, BUSY, &[]),
-    (Unregister, DONE, &[]),
-    (Close, DONE, &[]),
-    (Close, BUSY, &[]),
-    (ReclaimAll, BUSY, &[]),
-    (Choose(0), BUSY, &[]),
-    (Register, BUSY, &[]),
-    (MakeOther(Incremental(1)), BUSY, &[]),
-    (MakeOther(Incremental(0)), ZERO_CHUNK, &[]),
-];
-
 /// A call that asks makes what it needs once it was told, and a walk completes the resize.
 const ASKS: [Line; 10] = [
     (Call(Compute(8)), ("asks", 0, 0), &[]),
@@ -330,7 +307,7 @@ const ASKS: [Line; 10] = [
     (Leave, DONE, &[TableBack(0), Back(1)]),
 ];
 
-const SCHEDULES: [Schedule; 14] = [
+const SCHEDULES: [Schedule; 13] = [
     (
         1,
         &[&INCREMENTAL, &EIGHT, &CARRIES, &LEAVES],
@@ -388,7 +365,6 @@ const SCHEDULES: [Schedule; 14] = [
     (1, &[&BLOCKING, &EIGHT, &RETIRES], (9, 9, &[], 0, None)),
     (1, &[&SMALL, &OCCUPIED], (1, 1, &[], 0, None)),
     (32, &[&SMALL, &CLOSES], (3, 3, &[], 0, None)),
-    (1, &[&SMALL, &COMES_LATE], (0, 0, &[], 0, None)),
 ];
 
 fn given(batch_size: u64) -> Given {
