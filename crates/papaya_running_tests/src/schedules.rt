@@ -1,17 +1,18 @@
 //! Schedules, what each of their events comes to and does, and how the runs end.
+use crate::beside::{
+    ABORTS, ASKS_ANEW, ASKS_THERE, ASKS_TWICE, COMPUTES, REMOVES, REMOVES_IF, RESIZES_BESIDE,
+    UPDATES, UPDATES_THERE,
+};
 use crate::deeds::Deed::{
     self, Back, Block, Bucket, Copied, Counted, Deferred, Ended, GivenUp, Linked, Pair, Promoted,
     Removed, Replaced, Retired, Stored, TableBack, TableMade, TableRetired, Taken,
 };
 use crate::steps::Made::{Compute, Insert, Remove, RemoveIf, TryInsert, Walk};
 use crate::steps::Step::{
-    Beside, Call, Choose, Close, End, Enter, Go, GoBeside, Leave, Make, MakeOther, Next,
-    ReclaimAll, Register, Says, Shape, Stop, Unregister,
+    Call, Close, End, Enter, Go, Leave, Make, Next, ReclaimAll, Register, Says, Stop, Unregister,
 };
 use crate::steps::Told::{Decides, Gives};
-use crate::steps::{
-    ABSENT, ASKS_NONE, BUSY, DONE, GOES, READY, SLOT, Shown, Step, ZERO_CHUNK, shown,
-};
+use crate::steps::{ABSENT, DONE, GOES, READY, SLOT, Shown, Step, shown};
 use papaya_raw::ResizeMode::{Blocking, Incremental};
 use papaya_running::running::run;
 use papaya_runs::event::Setup;
@@ -24,7 +25,7 @@ use std::process::Abort;
 use std::test::Fail;
 
 /// An event, what it comes to, and what it does.
-type Line = (Step, Shown, &'static [Deed]);
+pub type Line = (Step, Shown, &'static [Deed]);
 
 /// How a run ends: how many pairs it has stored, how many came back, which ones wait, how many tables do, and how many pairs the map has, if it
 /// lives.
@@ -121,8 +122,8 @@ const CARRIES: [Line; 2] = [
 
 const LEAVES: [Line; 1] = [(Leave, DONE, &[])];
 
-/// The map ends while a table carries two of its pairs. Afterwards nothing but what is open can end.
-const ENDS: [Line; 6] = [
+/// The map ends while a table carries two of its pairs.
+const ENDS: [Line; 3] = [
     (
         Call(Remove(1)),
         ("found", 2, 0),
@@ -143,9 +144,6 @@ const ENDS: [Line; 6] = [
             Taken(1),
         ],
     ),
-    (End, BUSY, &[]),
-    (MakeOther(Incremental(1)), BUSY, &[]),
-    (ReclaimAll, BUSY, &[]),
     (Leave, DONE, &[]),
 ];
 
@@ -158,7 +156,7 @@ const GIVES_BACK: [Line; 4] = [
 ];
 
 /// What was retired waits on as its map ends.
-const RETIRES: [Line; 8] = [
+const RETIRES: [Line; 5] = [
     (
         Call(Insert(8, 8)),
         ABSENT,
@@ -206,9 +204,6 @@ const RETIRES: [Line; 8] = [
             Taken(1),
         ],
     ),
-    (End, BUSY, &[]),
-    (MakeOther(Blocking), BUSY, &[]),
-    (ReclaimAll, BUSY, &[]),
     (Leave, DONE, &[Back(2), Back(1), TableBack(0)]),
 ];
 
@@ -272,22 +267,6 @@ const CLOSES: [Line; 8] = [
     (Close, DONE, &[Back(1), Back(3)]),
 ];
 
-/// The collector ends last, and each event after it is refused.
-const COMES_LATE: [Line; 12] = [
-    (Close, BUSY, &[]),
-    (Leave, DONE, &[]),
-    (End, DONE, &[]),
-    (Close, BUSY, &[]),
-    (Unregister, DONE, &[]),
-    (Close, DONE, &[]),
-    (Close, BUSY, &[]),
-    (ReclaimAll, BUSY, &[]),
-    (Choose(0), BUSY, &[]),
-    (Register, BUSY, &[]),
-    (MakeOther(Incremental(1)), BUSY, &[]),
-    (MakeOther(Incremental(0)), ZERO_CHUNK, &[]),
-];
-
 /// A call that asks makes what it needs once it was told, and a walk completes the resize.
 const ASKS: [Line; 10] = [
     (Call(Compute(8)), ("asks", 0, 0), &[]),
@@ -328,56 +307,7 @@ const ASKS: [Line; 10] = [
     (Leave, DONE, &[TableBack(0), Back(1)]),
 ];
 
-/// A call that asked about none asks about the pair, too, that another caller has stored there meanwhile.
-const ASKS_TWICE: [Line; 7] = [
-    (Call(Compute(1)), ASKS_NONE, &[]),
-    (Beside(Insert(1, 7)), GOES, &[]),
-    (GoBeside, ABSENT, &[Block, Pair, Stored(1, 0, 1), Counted]),
-    (Says(Gives(5)), GOES, &[]),
-    (Go, ("asks", 1, 0), &[Block, Pair]),
-    (Says(Gives(9)), GOES, &[]),
-    (
-        Go,
-        ("updated", 1, 2),
-        &[Replaced(1), Stored(2, 0, 1), Retired(1)],
-    ),
-];
-
-/// A call is under way while another caller begins a resize, which copies the pair that the one has asked about: it goes on to the second table, copies the
-/// next chunk on its way, and does not ask again.
-const RESIZED_BESIDE: [Line; 5] = [
-    (Call(Compute(0)), ("asks", 1, 0), &[]),
-    (Beside(Insert(8, 8)), GOES, &[]),
-    (
-        GoBeside,
-        ABSENT,
-        &[
-            Block,
-            Pair,
-            Block,
-            TableMade(1),
-            Linked(1, 16, 15),
-            Copied(1, 1, 0),
-            Stored(9, 1, 8),
-            Counted,
-        ],
-    ),
-    (Says(Gives(25)), GOES, &[]),
-    (
-        Go,
-        ("updated", 1, 10),
-        &[
-            Block,
-            Pair,
-            Copied(2, 1, 1),
-            Replaced(1),
-            Stored(10, 1, 0),
-            Deferred(1, 0),
-        ],
-    ),
-];
-
-const SCHEDULES: [Schedule; 10] = [
+const SCHEDULES: [Schedule; 13] = [
     (
         1,
         &[&INCREMENTAL, &EIGHT, &CARRIES, &LEAVES],
@@ -396,14 +326,45 @@ const SCHEDULES: [Schedule; 10] = [
     (1, &[&INCREMENTAL, &EIGHT, &ASKS], (9, 1, &[], 0, Some(8))),
     (
         1,
-        &[&INCREMENTAL, &EIGHT, &RESIZED_BESIDE],
+        &[
+            &INCREMENTAL,
+            &EIGHT,
+            &COMPUTES,
+            &RESIZES_BESIDE,
+            &UPDATES_THERE,
+        ],
         (10, 0, &[1], 0, Some(9)),
     ),
-    (1, &[&INCREMENTAL, &ASKS_TWICE], (2, 0, &[1], 0, Some(1))),
+    (
+        1,
+        &[
+            &INCREMENTAL,
+            &EIGHT,
+            &REMOVES_IF,
+            &RESIZES_BESIDE,
+            &ASKS_THERE,
+        ],
+        (9, 0, &[], 0, Some(9)),
+    ),
+    (
+        1,
+        &[&INCREMENTAL, &ASKS_TWICE, &UPDATES],
+        (2, 0, &[1], 0, Some(1)),
+    ),
+    (
+        1,
+        &[&INCREMENTAL, &ASKS_TWICE, &REMOVES],
+        (1, 0, &[1], 0, Some(0)),
+    ),
+    (
+        1,
+        &[&INCREMENTAL, &ASKS_TWICE, &ABORTS],
+        (1, 0, &[], 0, Some(1)),
+    ),
+    (1, &[&INCREMENTAL, &ASKS_ANEW], (2, 0, &[1, 2], 0, Some(0))),
     (1, &[&BLOCKING, &EIGHT, &RETIRES], (9, 9, &[], 0, None)),
     (1, &[&SMALL, &OCCUPIED], (1, 1, &[], 0, None)),
     (32, &[&SMALL, &CLOSES], (3, 3, &[], 0, None)),
-    (1, &[&SMALL, &COMES_LATE], (0, 0, &[], 0, None)),
 ];
 
 fn given(batch_size: u64) -> Given {

@@ -80,17 +80,14 @@ impl Told {
     }
 }
 
-/// An event. The registration is A, the guard g, and the map m, unless it is another one; the caller has no name.
+/// An event. The registration is A, the guard g, and the map m; the caller has no name.
 #[derive(Clone, Copy)]
 pub enum Step {
-    Choose(u64),
     Register,
     Unregister,
     Enter,
     Leave,
     Make(ResizeMode, u64),
-    MakeOther(ResizeMode),
-    Shape,
     End,
     ReclaimAll,
     Close,
@@ -114,14 +111,6 @@ fn of_map(alloc: Global, step: Step) -> Result<Event<u64, u64>, AllocError> {
             map: word(alloc, b"m")?,
             mode,
             capacity,
-        },
-        Step::MakeOther(mode) => Event::MakeMap {
-            map: word(alloc, b"n")?,
-            mode,
-            capacity: 0,
-        },
-        Step::Shape => Event::ShowShape {
-            map: word(alloc, b"m")?,
         },
         _ => Event::EndMap {
             map: word(alloc, b"m")?,
@@ -167,7 +156,6 @@ fn of_call(alloc: Global, step: Step) -> Result<Event<u64, u64>, AllocError> {
 impl Step {
     pub fn event(self, alloc: Global) -> Result<Event<u64, u64>, AllocError> {
         Ok(match self {
-            Step::Choose(choice) => Event::Choose(choice),
             Step::Register => Event::Register {
                 registration: word(alloc, b"A")?,
             },
@@ -206,11 +194,7 @@ pub const READY: Shown = ("ready", 0, 0);
 /// A call asks about no pair.
 pub const ASKS_NONE: Shown = ("asks", 0, 0);
 
-pub const BUSY: Shown = ("busy", 0, 0);
-
 pub const NO_MEMORY: Shown = ("no memory", 0, 0);
-
-pub const ZERO_CHUNK: Shown = ("zero chunk", 0, 0);
 
 pub const NOTHING_TO_REMOVE: Shown = ("nothing to remove", 0, 0);
 
@@ -220,9 +204,7 @@ pub fn found(number: u64) -> Shown {
 
 fn refused(fault: Fault) -> Shown {
     match fault {
-        Fault::Busy => BUSY,
         Fault::Memory => NO_MEMORY,
-        Fault::ZeroChunk => ZERO_CHUNK,
         Fault::RemoveNothing => NOTHING_TO_REMOVE,
         other => ("refused", u64::from(other.number()), 0),
     }

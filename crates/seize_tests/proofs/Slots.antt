@@ -8,7 +8,7 @@ use Rattle.seize.specs.World.{Use, Inside, Cutting, IsTaken, HasListWord}
 use Rattle.seize_alone.specs.Alone.{History, IsHistory, SlotsAre, TellsSlot, nothing_yet, registered, made, linked, unlinked}
 use Rattle.seize_alone.proofs.Given.SeizeRule.Rows.Others.{with_here}
 use Rattle.seize_alone.proofs.Histories.Users.{made_history, linked_history, unlinked_history, start_history}
-use Rattle.seize_tests.specs.Sections.{IsInside}
+use Rattle.seize_tests.specs.Section.{IsInside}
 
 module _ {T : Type 0} (defers : T → Option ℕ) (size roots : ℕ) where
   -- nothing has happened at the start

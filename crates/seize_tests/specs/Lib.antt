@@ -1,1 +1,1 @@
-pub mod Sections
+pub mod Section

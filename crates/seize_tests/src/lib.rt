@@ -1,15 +1,11 @@
-//! Tests of the collector: of its memory, its numbers and its whole calls. Its rows are tested step by step beside the machines of maps.
+//! Tests of the collector: of its words and slots, of registrations that are refused memory, and of its whole calls.
 #![tactic(auto)]
 
 #[cfg(test)]
-mod finishing;
-#[cfg(test)]
 mod leaf;
-#[cfg(test)]
-mod plain;
 #[cfg(test)]
 mod registering;
 #[cfg(test)]
-mod sections;
+mod section;
 #[cfg(test)]
 mod tables;

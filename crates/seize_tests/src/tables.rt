@@ -1,6 +1,6 @@
-//! Words of links, places of slots and numbers of faults, worked by hand.
+//! Words of links and places of slots, worked by hand.
+use seize_words::Link;
 use seize_words::slots::{bucket_capacity, place_of};
-use seize_words::{Fault, Link};
 
 /// A word, and the block, the byte and the marks that it holds.
 type Word = (u64, u64, u8, u8);
@@ -19,13 +19,6 @@ fn holds(row: Word) -> bool {
     let (word, block, byte, marks) = row;
     let link = Link::unpack(word);
     link.block == block && link.byte == byte && link.marks == marks && link.pack() == word
-}
-
-#[test]
-fn a_word_holds_block_byte_and_marks(rt: HostRuntime) {
-    for row in WORDS {
-        assert!(rt; holds(row), "word {}", row.0);
-    }
 }
 
 /// A slot, its bucket, how many slots the bucket holds, and the slot's index there.
@@ -48,25 +41,11 @@ fn lies_so(row: Place) -> bool {
 }
 
 #[test]
-fn slots_fill_one_bucket_after_another(rt: HostRuntime) {
+fn words_hold_their_parts_and_slots_fill_one_bucket_after_another(rt: HostRuntime) {
+    for row in WORDS {
+        assert!(rt; holds(row), "word {}", row.0);
+    }
     for row in PLACES {
         assert!(rt; lies_so(row), "slot {}", row.0);
-    }
-}
-
-/// Whether a fault has this number.
-fn is_numbered(fault: Fault, number: u8) -> bool {
-    fault.number() == number
-}
-
-#[test]
-fn faults_are_numbered_in_the_order_of_their_tests(rt: HostRuntime) {
-    for (fault, number) in [
-        (Fault::ForeignGuard, 1),
-        (Fault::SlotsUsedUp, 4),
-        (Fault::RemoveNothing, 8),
-        (Fault::Memory, 10),
-    ] {
-        assert!(rt; is_numbered(fault, number), "fault {number}");
     }
 }

@@ -1,5 +1,0 @@
-pub mod Bare
-pub mod BareMachine
-pub mod BareMachines
-mod BareParts
-pub mod BareRows
