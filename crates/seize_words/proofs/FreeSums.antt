@@ -74,32 +74,3 @@ pub record IsScanned (flags : List ℕ) (first before place left : ℕ) : Type 0
   pub low : first ≤ place
   pub high : place < first + 32
   pub rank : sum_from flags first (place - first) + left ≡ before
-
-module _ (flags : List ℕ) (first before : ℕ) (few : before < sum_from flags first 32) where
-  pub scan-begins : IsScanned flags first before first before
-  scan-begins =
-      let e : first - first ≡ zero = omega arith in
-      record {
-        low = omega arith;
-        high = omega arith;
-        rank = rw e (omega arith);
-      }
-
-  pub scan-more : (place left : ℕ) → IsScanned flags first before place left → get_or flags place 0 ≤ left
-      → IsScanned flags first before (place + 1) (left - get_or flags place 0)
-  scan-more place left s le = record {
-    low = omega (arith, s.low);
-    high = elim (cases_lt (place + 1) (first + 32)) as (λ _. place + 1 < first + 32) [
-      | inl less ↦ less
-      | inr past ↦ absurd (let n : place + 1 - first ≡ 32 = omega (arith, past, s.high) in
-          let all : sum_from flags first 32 + (left - get_or flags place 0) ≡ before = rw n at rank_next in
-          omega (arith, all, few))
-    ];
-    rank = rank_next;
-  }
-    where
-      rank_next : sum_from flags first (place + 1 - first) + (left - get_or flags place 0) ≡ before
-      rank_next =
-          let n : place + 1 - first ≡ suc (place - first) = omega (arith, s.low) in
-          let i : first + (place - first) ≡ place = omega (arith, s.low) in
-          rw n (rw i (omega (arith, s.rank, le)))

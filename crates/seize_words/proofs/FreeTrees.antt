@@ -142,14 +142,11 @@ module _ (room : ℕ) (was flags : List ℕ) (tree : IsTree room was) (counted :
   chunk_lt : chunk < room
   chunk_lt = omega (arith, within, counted.long)
 
-  pub chunk_within : room + chunk < length was
+  chunk_within : room + chunk < length was
   chunk_within = omega (arith, chunk_lt, tree.twice)
 
-  pub flag_in : get_or flags place 0 ≤ get_or was (room + chunk) 0
+  flag_in : get_or flags place 0 ≤ get_or was (room + chunk) 0
   flag_in = rw (counted.chunks chunk chunk_lt) (sum_from-has flags place (chunk * 32) 32 within (omega arith) (omega arith))
-
-  pub count_few : get_or was (room + chunk) 0 ≤ 32
-  count_few = rw (counted.chunks chunk chunk_lt) (sum_from-le flags counted.small (chunk * 32) 32)
 
   small_after : AreFlags (set flags place flag)
   small_after k = elim (cases_eq k place) as (λ _. get_or (set flags place flag) k 0 ≤ 1) [
