@@ -1,7 +1,7 @@
 -- Flags of numbers, and the ascending list of the numbers whose flags are set.
 use Rattle.std.proofs.Common.{◌≡◌, ℕ, zero, suc, ◌+◌, ◌<◌, ◌≤◌, List, [], ◌∷◌, length, get_or, set, refl, sym, ap, ◌∙◌, arith, add-zero}
 use Rattle.std.specs.Prelude.{remove}
-use Rattle.seize_words.specs.FreeNumbers.{flagged_from, with_number}
+use Rattle.seize_words.specs.FreeNumbers.{AreFlags, flagged_from, with_number}
 
 -- trailing zeros do not count
 pub flagged-same : (n : ℕ) (xs ys : List ℕ) → ((k : ℕ) → get_or xs k 0 ≡ get_or ys k 0) → flagged_from n xs ≡ flagged_from n ys
@@ -57,9 +57,6 @@ sum_before-more [] j = refl
 sum_before-more (x ∷ []) zero = omega arith
 sum_before-more (x ∷ y ∷ flags) zero = omega arith
 sum_before-more (x ∷ flags) (suc j) = omega (arith, sum_before-more flags j)
-
-abbrev pub AreFlags : List ℕ → Type 0
-AreFlags flags = (k : ℕ) → get_or flags k 0 ≤ 1
 
 -- the number of a flag that is set stands behind those of the set flags before it
 pub flagged-at : (n j d : ℕ) (flags : List ℕ) → AreFlags flags → get_or flags j 0 ≡ 1 → get_or (flagged_from n flags) (sum_before flags j) d ≡ n + j

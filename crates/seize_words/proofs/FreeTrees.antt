@@ -1,13 +1,15 @@
 -- Counts of flags in a tree.
-use Rattle.std.proofs.Common.{◌≡◌, ℕ, zero, suc, ◌+◌, ◌*◌, ◌-◌, ◌<◌, ◌≤◌, List, [], ◌∷◌, length, get_or, set, drop, replicate, refl, sym, ap, ◌∙◌, arith, subst, get_or-drop, inl, inr, length-drop}
+use Rattle.std.proofs.Common.{◌≡◌, ℕ, zero, suc, ◌+◌, ◌*◌, ◌/◌, ◌-◌, ◌^◌, ◌<◌, ◌≤◌, List, [], ◌∷◌, length, get_or, set, replicate, refl, sym, ap, ◌∙◌, arith, inl, inr}
 use Rattle.std.specs.Prelude.{◌≢◌, ◌⊎◌, remove}
 use Rattle.std.proofs.Math.Nat.{add-mul, mul-add}
 use Rattle.std.proofs.lemmas.Bool.{cases_eq, cases_lt}
+use Rattle.std.proofs.lemmas.Nat.{mul-le}
 use Rattle.std.proofs.lemmas.Grind.{get_or-set_at}
-use Rattle.std.proofs.lemmas.List.{drop-set-add, drop-set-lt, get_or-set_other, length-replicate, length-set}
-use Rattle.seize_words.specs.FreeNumbers.{IsTree, doubled, flagged_from, sum_from, wider, with_number}
+use Rattle.std.proofs.lemmas.List.{get_or-set_other, length-replicate, length-set, nil_from_length}
+use Rattle.seize_words.specs.FreeNumbers.{AreCounted, AreFlags, IsRow, IsTree, doubled, flagged_from, sum_from, wider, with_number}
 use Rattle.std.proofs.Math.ListN.{get_or-eq_default}
-use Rattle.seize_words.proofs.FreeFlags.{AreFlags, flagged-at, flagged-given, flagged-same, flagged-taken, length-flagged, sum_before, sum_before-more}
+use Rattle.seize_words.proofs.FreeFlags.{flagged-at, flagged-given, flagged-same, flagged-taken, length-flagged, sum_before}
+use Rattle.seize_words.proofs.FreeSums.{sum-chunks, sum_from-add, sum_from-flags, sum_from-has, sum_from-le, sum_from-set, sum_from-set_other}
 
 -- the sum over two rows of the tree that lie below one another
 pub sum_from-below : (counts : List ℕ) (a n : ℕ) → ((k : ℕ) → a ≤ k → k < a + n → get_or counts k 0 ≡ get_or counts (k + k) 0 + get_or counts (k + k + 1) 0)
@@ -37,26 +39,13 @@ module _ (room : ℕ) (counts : List ℕ) (tree : IsTree room counts) where
       sum_from-row times (first + first) is (omega arith)
       ∙ sum_from-below counts first first (λ k low high. tree.sums k (omega arith) (omega (arith, le, is)))
 
-  pub flags_are : AreFlags (drop room counts)
-  flags_are k = rw get_or-drop (tree.flags (room + k) (omega arith))
-
-  pub sum_from-flags : (j : ℕ) → sum_from counts room j ≡ sum_before (drop room counts) j
-  sum_from-flags zero = go (drop room counts)
-    where
-      go : (flags : List ℕ) → 0 ≡ sum_before flags zero
-      go [] = refl
-      go (x ∷ flags) = refl
-  sum_from-flags (suc j) =
-      let d = get_or-drop room counts j 0 in
-      omega (arith, sum_from-flags j, sum_before-more (drop room counts) j, d)
-
   -- the root counts all
-  pub sum-root : 0 < room → sum_before (drop room counts) room ≡ get_or counts 1 0
+  pub sum-root : 0 < room → sum_from counts room room ≡ get_or counts 1 0
   sum-root some =
       let w = tree.whole some in
-      sym (sum_from-flags room) ∙ sum_from-row w.0 1 w.1 (omega arith) ∙ omega arith
+      sum_from-row w.0 1 w.1 (omega arith) ∙ omega arith
 
--- On the way down to the flag behind as many others: `left` of them are below this node of the row that begins here, and before the flag.
+-- On the way down to the chunk with the flag behind as many others: `left` of them are below this node of the row that begins here, and before the flag.
 pub record IsOnWay (room : ℕ) (counts : List ℕ) (before first node left : ℕ) : Type 0 where
   pub some : 0 < first
   pub deep : (times : ℕ) × (room ≡ doubled times first)
@@ -118,217 +107,245 @@ module _ (room : ℕ) (counts : List ℕ) (tree : IsTree room counts) (before : 
     pub way-first : room ≤ first → first ≡ room
     way-first past = omega (arith, past, doubled-le on.deep.0 first, on.deep.1)
 
-    pub way-flag : room ≤ first → (left ≡ 0) × (get_or counts node 0 ≡ 1)
-    way-flag past =
-        let f = tree.flags node (omega (arith, way-first past, on.low)) in
-        (omega (arith, f, on.few), omega (arith, f, on.few))
-
-    pub way-rank : room ≤ first → sum_from counts room (node - room) ≡ before
-    way-rank past =
+    pub way-ends : room ≤ first → (node - room < room) × (left < get_or counts (room + (node - room)) 0) × (sum_from counts room (node - room) + left ≡ before)
+    way-ends past =
         let e = way-first past in
-        let z = (way-flag past).0 in
-        let r : sum_from counts room (node - room) + left ≡ before = rw e at on.rank in
-        omega (arith, r, z)
+        let n : room + (node - room) ≡ node = omega (arith, e, on.low) in
+        (omega (arith, e, on.high, on.low), rw n on.few, rw e at on.rank)
 
--- A flag of a tree was written, and each count above it up to this node: only the count of the node above that one may be another one than it is to be.
-pub record IsMended (room : ℕ) (was : List ℕ) (place flag : ℕ) (counts : List ℕ) (node : ℕ) : Type 0 where
+-- A flag was written, and each count above it up to this node: only the count of the node above that one may be another one than it is to be.
+pub record IsMended (room : ℕ) (counts flags : List ℕ) (node : ℕ) : Type 0 where
   pub twice : length counts ≡ room + room
+  pub row : IsRow room
   pub some : 0 < node
   pub within : node < room + room
   pub sums : (k : ℕ) → 0 < k → k < room → k + k ≢ node → k + k + 1 ≢ node → get_or counts k 0 ≡ get_or counts (k + k) 0 + get_or counts (k + k + 1) 0
-  pub flags : (k : ℕ) → room ≤ k → get_or counts k 0 ≤ 1
-  pub light : (k : ℕ) → k * get_or counts k 0 ≤ room + room
-  pub same : drop room counts ≡ set (drop room was) place flag
+  pub light : (k : ℕ) → k * get_or counts k 0 ≤ (room + room) * 32
+  pub counted : AreCounted room counts flags
 
-light_sum : (k a b room : ℕ) → (k + k) * a ≤ room + room → (k + k + 1) * b ≤ room + room → k * (a + b) ≤ room + room
-light_sum k a b room la lb =
+light_sum : (k a b top : ℕ) → (k + k) * a ≤ top → (k + k + 1) * b ≤ top → k * (a + b) ≤ top
+light_sum k a b top la lb =
     let pa : (k + k) * a ≡ k * a + k * a = add-mul k k a in
     let pb : (k + k + 1) * b ≡ (k + k) * b + 1 * b = add-mul (k + k) 1 b in
     let pc : (k + k) * b ≡ k * b + k * b = add-mul k k b in
     let s = mul-add k a b in
     omega (arith, pa, pb, pc, s, la, lb)
 
-times_flag : (k flag : ℕ) → flag ≤ 1 → k * flag ≤ k
-times_flag k zero h = omega arith
-times_flag k (suc zero) h = omega arith
-times_flag k (suc (suc n)) h = absurd (omega (arith, h))
+module _ (room : ℕ) (was flags : List ℕ) (tree : IsTree room was) (counted : AreCounted room was flags) (place flag : ℕ)
+    (within : place < length flags) (small : flag ≤ 1) where
+  abbrev chunk : ℕ
+  chunk = place / 32
 
-module _ (room : ℕ) (was : List ℕ) (place flag : ℕ) where
-  pub mended-begins : IsTree room was → place < room → flag ≤ 1 → IsMended room was place flag (set was (room + place) flag) (room + place)
-  mended-begins tree within small = record {
-    twice = length-set was (room + place) flag ∙ tree.twice;
-    some = omega (arith, within);
-    within = omega (arith, within);
+  abbrev count : ℕ
+  count = get_or was (room + chunk) 0 - get_or flags place 0 + flag
+
+  chunk_lt : chunk < room
+  chunk_lt = omega (arith, within, counted.long)
+
+  chunk_within : room + chunk < length was
+  chunk_within = omega (arith, chunk_lt, tree.twice)
+
+  flag_in : get_or flags place 0 ≤ get_or was (room + chunk) 0
+  flag_in = rw (counted.chunks chunk chunk_lt) (sum_from-has flags place (chunk * 32) 32 within (omega arith) (omega arith))
+
+  small_after : AreFlags (set flags place flag)
+  small_after k = elim (cases_eq k place) as (λ _. get_or (set flags place flag) k 0 ≤ 1) [
+    | inl e ↦ rw (get_or-set_at flags place k flag 0 e within) small
+    | inr other ↦ rw (get_or-set_other flags place k flag 0 other) (counted.small k)
+  ]
+
+  count_is : count ≡ sum_from (set flags place flag) (chunk * 32) 32
+  count_is =
+      let s = sum_from-set flags place flag (chunk * 32) 32 within (omega arith) (omega arith) in
+      let c = counted.chunks chunk chunk_lt in
+      omega (arith, s, c, flag_in)
+
+  chunks_after : (c : ℕ) → c < room → (c ≡ chunk) ⊎ (c ≢ chunk)
+      → get_or (set was (room + chunk) count) (room + c) 0 ≡ sum_from (set flags place flag) (c * 32) 32
+  chunks_after c less (inl e) =
+      let i : room + c ≡ room + chunk = omega (arith, e) in
+      get_or-set_at was (room + chunk) (room + c) count 0 i chunk_within ∙ rw e count_is
+  chunks_after c less (inr other) =
+      get_or-set_other was (room + chunk) (room + c) count 0 (λ e. other (omega (arith, e))) ∙ counted.chunks c less
+      ∙ sym (sum_from-set_other flags place flag (c * 32) 32 (λ k few e. other (omega (arith, few, e))))
+
+  pub mended-begins : IsMended room (set was (room + chunk) count) (set flags place flag) (room + chunk)
+  mended-begins = record {
+    twice = length-set was (room + chunk) count ∙ tree.twice;
+    row = tree.whole;
+    some = omega (arith, chunk_lt);
+    within = omega (arith, chunk_lt);
     sums = λ k some low left right.
-        let a = get_or-set_other was (room + place) k flag 0 (λ e. absurd (omega (arith, e, low))) in
-        let b = get_or-set_other was (room + place) (k + k) flag 0 left in
-        let c = get_or-set_other was (room + place) (k + k + 1) flag 0 right in
+        let a = get_or-set_other was (room + chunk) k count 0 (λ e. absurd (omega (arith, e, low))) in
+        let b = get_or-set_other was (room + chunk) (k + k) count 0 left in
+        let c = get_or-set_other was (room + chunk) (k + k + 1) count 0 right in
         omega (arith, a, b, c, tree.sums k some low);
-    flags = λ k past. written k (λ v. v ≤ 1) small (tree.flags k past);
-    light = λ k. light_at k (cases_eq k (room + place));
-    same = drop-set-add room was place flag;
+    light = λ k. light_at k (cases_eq k (room + chunk));
+    counted = record {
+      long = length-set flags place flag ∙ counted.long;
+      small = small_after;
+      chunks = λ c less. chunks_after c less (cases_eq c chunk);
+    };
   }
     where
-      fits : room + place < length was
-      fits = omega (arith, within, tree.twice)
-
-      written : (k : ℕ) (P : ℕ → Type 0) → P flag → P (get_or was k 0) → P (get_or (set was (room + place) flag) k 0)
-      written k P here there =
-          elim (cases_eq k (room + place)) as (λ _. P (get_or (set was (room + place) flag) k 0)) [
-            | inl e ↦ subst P (sym (get_or-set_at was (room + place) k flag 0 e fits)) here
-            | inr n ↦ subst P (sym (get_or-set_other was (room + place) k flag 0 n)) there
-          ]
-
-      light_at : (k : ℕ) → (k ≡ room + place) ⊎ (k ≢ room + place) → k * get_or (set was (room + place) flag) k 0 ≤ room + room
+      light_at : (k : ℕ) → (k ≡ room + chunk) ⊎ (k ≢ room + chunk) → k * get_or (set was (room + chunk) count) k 0 ≤ (room + room) * 32
       light_at k (inl e) =
-          let a = get_or-set_at was (room + place) k flag 0 e fits in
-          let b : k * flag ≤ k = times_flag k flag small in
-          rw a (omega (arith, b, e, within))
+          let a = get_or-set_at was (room + chunk) k count 0 e chunk_within in
+          let c : count ≤ 32 = rw count_is (sum_from-le (set flags place flag) small_after (chunk * 32) 32) in
+          let b : k * count ≤ k * 32 = mul-le k count k 32 (omega arith) c in
+          rw a (omega (arith, b, e, chunk_lt))
       light_at k (inr n) =
-          let a = get_or-set_other was (room + place) k flag 0 n in
+          let a = get_or-set_other was (room + chunk) k count 0 n in
           rw a (tree.light k)
 
-  module _ (counts : List ℕ) (node up : ℕ) (m : IsMended room was place flag counts node) (above : (node ≡ up + up) ⊎ (node ≡ up + up + 1)) (some : 0 < up) where
-    low : up < room
-    low = elim above as (λ _. up < room) [
-      | inl e ↦ omega (arith, e, m.within)
-      | inr e ↦ omega (arith, e, m.within)
-    ]
+module _ (room : ℕ) (counts flags : List ℕ) (node up : ℕ) (m : IsMended room counts flags node) (above : (node ≡ up + up) ⊎ (node ≡ up + up + 1)) (some : 0 < up) where
+  low : up < room
+  low = elim above as (λ _. up < room) [
+    | inl e ↦ omega (arith, e, m.within)
+    | inr e ↦ omega (arith, e, m.within)
+  ]
 
-    abbrev new : ℕ
-    new = get_or counts (up + up) 0 + get_or counts (up + up + 1) 0
+  abbrev new : ℕ
+  new = get_or counts (up + up) 0 + get_or counts (up + up + 1) 0
 
-    pub light-new : up * new ≤ room + room
-    light-new = light_sum up (get_or counts (up + up) 0) (get_or counts (up + up + 1) 0) room (m.light (up + up)) (m.light (up + up + 1))
+  pub light-new : up * new ≤ (room + room) * 32
+  light-new = light_sum up (get_or counts (up + up) 0) (get_or counts (up + up + 1) 0) ((room + room) * 32) (m.light (up + up)) (m.light (up + up + 1))
 
-    sums_new : (k : ℕ) → 0 < k → k < room → k + k ≢ up → k + k + 1 ≢ up → (k ≡ up) ⊎ (k ≢ up)
-        → get_or (set counts up new) k 0 ≡ get_or (set counts up new) (k + k) 0 + get_or (set counts up new) (k + k + 1) 0
-    sums_new k one less left right same =
-        let b = get_or-set_other counts up (k + k) new 0 left in
-        let c = get_or-set_other counts up (k + k + 1) new 0 right in
-        elim same as (λ _. get_or (set counts up new) k 0 ≡ get_or (set counts up new) (k + k) 0 + get_or (set counts up new) (k + k + 1) 0) [
-          | inl e ↦ (let a = get_or-set_at counts up k new 0 e (omega (arith, low, m.twice)) in
-              let i : get_or counts (k + k) 0 ≡ get_or counts (up + up) 0 = ap (λ x. get_or counts (x + x) 0) e in
-              let j : get_or counts (k + k + 1) 0 ≡ get_or counts (up + up + 1) 0 = ap (λ x. get_or counts (x + x + 1) 0) e in
-              omega (arith, a, b, c, i, j))
-          | inr n ↦ (let a = get_or-set_other counts up k new 0 n in
-              let s = m.sums k one less (λ e. not_above k n (inl e)) (λ e. not_above k n (inr e)) in
-              omega (arith, a, b, c, s))
-        ]
-      where
-        not_above : (k : ℕ) → k ≢ up → (k + k ≡ node) ⊎ (k + k + 1 ≡ node) → ⊥
-        not_above k n (inl e) = n (elim above as (λ _. k ≡ up) [ inl f ↦ omega (arith, e, f) | inr f ↦ omega (arith, e, f) ])
-        not_above k n (inr e) = n (elim above as (λ _. k ≡ up) [ inl f ↦ omega (arith, e, f) | inr f ↦ omega (arith, e, f) ])
+  pub new-fits : (room + room) * 32 < 2 ^ 64 → new < 2 ^ 64
+  new-fits fits =
+      let l : 1 * new ≤ up * new = mul-le 1 new up new some (omega arith) in
+      omega (arith, l, light-new, fits)
 
-    pub mended-more : IsMended room was place flag (set counts up new) up
-    mended-more = record {
-      twice = length-set counts up new ∙ m.twice;
-      some = some;
-      within = omega (arith, low);
-      sums = λ k one less left right. sums_new k one less left right (cases_eq k up);
-      flags = λ k past. rw (get_or-set_other counts up k new 0 (λ e. absurd (omega (arith, e, low, past)))) (m.flags k past);
-      light = λ k. light_at k (cases_eq k up);
-      same = drop-set-lt room counts up new low ∙ m.same;
-    }
-      where
-        light_at : (k : ℕ) → (k ≡ up) ⊎ (k ≢ up) → k * get_or (set counts up new) k 0 ≤ room + room
-        light_at k (inl e) =
-            let a = get_or-set_at counts up k new 0 e (omega (arith, low, m.twice)) in
-            let b : k * new ≡ up * new = ap (λ x. x * new) e in
-            rw a (omega (arith, b, light-new))
-        light_at k (inr n) = rw (get_or-set_other counts up k new 0 n) (m.light k)
+  sums_new : (k : ℕ) → 0 < k → k < room → k + k ≢ up → k + k + 1 ≢ up → (k ≡ up) ⊎ (k ≢ up)
+      → get_or (set counts up new) k 0 ≡ get_or (set counts up new) (k + k) 0 + get_or (set counts up new) (k + k + 1) 0
+  sums_new k one less left right same =
+      let b = get_or-set_other counts up (k + k) new 0 left in
+      let c = get_or-set_other counts up (k + k + 1) new 0 right in
+      elim same as (λ _. get_or (set counts up new) k 0 ≡ get_or (set counts up new) (k + k) 0 + get_or (set counts up new) (k + k + 1) 0) [
+        | inl e ↦ (let a = get_or-set_at counts up k new 0 e (omega (arith, low, m.twice)) in
+            let i : get_or counts (k + k) 0 ≡ get_or counts (up + up) 0 = ap (λ x. get_or counts (x + x) 0) e in
+            let j : get_or counts (k + k + 1) 0 ≡ get_or counts (up + up + 1) 0 = ap (λ x. get_or counts (x + x + 1) 0) e in
+            omega (arith, a, b, c, i, j))
+        | inr n ↦ (let a = get_or-set_other counts up k new 0 n in
+            let s = m.sums k one less (λ e. not_above k n (inl e)) (λ e. not_above k n (inr e)) in
+            omega (arith, a, b, c, s))
+      ]
+    where
+      not_above : (k : ℕ) → k ≢ up → (k + k ≡ node) ⊎ (k + k + 1 ≡ node) → ⊥
+      not_above k n (inl e) = n (elim above as (λ _. k ≡ up) [ inl f ↦ omega (arith, e, f) | inr f ↦ omega (arith, e, f) ])
+      not_above k n (inr e) = n (elim above as (λ _. k ≡ up) [ inl f ↦ omega (arith, e, f) | inr f ↦ omega (arith, e, f) ])
+
+  pub mended-more : IsMended room (set counts up new) flags up
+  mended-more = record {
+    twice = length-set counts up new ∙ m.twice;
+    row = m.row;
+    some = some;
+    within = omega (arith, low);
+    sums = λ k one less left right. sums_new k one less left right (cases_eq k up);
+    light = λ k. light_at k (cases_eq k up);
+    counted = record {
+      long = m.counted.long;
+      small = m.counted.small;
+      chunks = λ c less. get_or-set_other counts up (room + c) new 0 (λ e. absurd (omega (arith, e, low))) ∙ m.counted.chunks c less;
+    };
+  }
+    where
+      light_at : (k : ℕ) → (k ≡ up) ⊎ (k ≢ up) → k * get_or (set counts up new) k 0 ≤ (room + room) * 32
+      light_at k (inl e) =
+          let a = get_or-set_at counts up k new 0 e (omega (arith, low, m.twice)) in
+          let b : k * new ≡ up * new = ap (λ x. x * new) e in
+          rw a (omega (arith, b, light-new))
+      light_at k (inr n) = rw (get_or-set_other counts up k new 0 n) (m.light k)
 
 -- A wider tree of the same flags, as far as they were copied.
-pub record IsCopied (room : ℕ) (counts : List ℕ) (wide place : ℕ) (more : List ℕ) : Type 0 where
+pub record IsCopied (flags : List ℕ) (wide place : ℕ) (more more_flags : List ℕ) : Type 0 where
   pub tree : IsTree wide more
-  pub done : (k : ℕ) → k < place → get_or (drop wide more) k 0 ≡ get_or (drop room counts) k 0
-  pub rest : (k : ℕ) → place ≤ k → get_or (drop wide more) k 0 ≡ 0
+  pub counted : AreCounted wide more more_flags
+  pub done : (k : ℕ) → k < place → get_or more_flags k 0 ≡ get_or flags k 0
+  pub rest : (k : ℕ) → place ≤ k → get_or more_flags k 0 ≡ 0
 
 zeros_at : (n k : ℕ) → ◌≡◌ {A = ℕ} (get_or (replicate n 0) k 0) 0
 zeros_at zero k = refl
 zeros_at (suc n) zero = refl
 zeros_at (suc n) (suc k) = zeros_at n k
 
+sum_of_zeros : (m a n : ℕ) → ◌≡◌ {A = ℕ} 0 (sum_from (replicate m 0) a n)
+sum_of_zeros m a zero = refl
+sum_of_zeros m a (suc n) = omega (arith, sum_of_zeros m a n, zeros_at m (a + n))
+
 wider_some : (n : ℕ) → wider (suc n) ≡ suc n + suc n
 wider_some n = grind arith
 
-module _ (room : ℕ) (counts : List ℕ) (tree : IsTree room counts) where
-  whole_wider : (height : ℕ) × (wider room ≡ doubled height 1)
-  whole_wider = go room tree.whole
-    where
-      go : (room : ℕ) → (0 < room → (height : ℕ) × (room ≡ doubled height 1)) → (height : ℕ) × (wider room ≡ doubled height 1)
-      go zero whole = (0, refl)
-      go (suc n) whole = let w = whole (omega arith) in (suc w.0, wider_some n ∙ ap (λ x. x + x) w.1 ∙ doubled-twice w.0 1)
+IsRow-wider : (room : ℕ) → IsRow room → (height : ℕ) × (wider room ≡ doubled height 1)
+IsRow-wider zero row = (0, refl)
+IsRow-wider (suc n) row = let w = row (omega arith) in (suc w.0, wider_some n ∙ ap (λ x. x + x) w.1 ∙ doubled-twice w.0 1)
 
-  pub copied-begins : IsCopied room counts (wider room) 0 (replicate (wider room + wider room) 0)
+module _ (room : ℕ) (flags : List ℕ) (row : IsRow room) where
+  pub copied-begins : IsCopied flags (wider room) 0 (replicate (wider room + wider room) 0) (replicate (wider room * 32) 0)
   copied-begins = record {
     tree = record {
       twice = length-replicate (wider room + wider room) 0;
-      whole = λ some. whole_wider;
+      whole = λ some. IsRow-wider room row;
       sums = λ k some low.
           let a = zeros_at (wider room + wider room) k in
           let b = zeros_at (wider room + wider room) (k + k) in
           let c = zeros_at (wider room + wider room) (k + k + 1) in
           omega (arith, a, b, c);
-      flags = λ k past. let a = zeros_at (wider room + wider room) k in omega (arith, a);
       light = λ k. rw (zeros_at (wider room + wider room) k) (omega arith);
     };
+    counted = record {
+      long = length-replicate (wider room * 32) 0;
+      small = λ k. let a = zeros_at (wider room * 32) k in omega (arith, a);
+      chunks = λ c less. zeros_at (wider room + wider room) (wider room + c) ∙ sum_of_zeros (wider room * 32) (c * 32) 32;
+    };
     done = λ k less. absurd (omega (arith, less));
-    rest = λ k past. get_or-drop (wider room) (replicate (wider room + wider room) 0) k 0 ∙ zeros_at (wider room + wider room) (wider room + k);
+    rest = λ k past. zeros_at (wider room * 32) k;
   }
 
-  pub copied-ends : (wide : ℕ) (more : List ℕ) → IsCopied room counts wide room more → flagged_from 1 (drop wide more) ≡ flagged_from 1 (drop room counts)
-  copied-ends wide more copied = flagged-same 1 (drop wide more) (drop room counts) (λ k. at k (cases_lt k room))
+  pub copied-ends : (wide : ℕ) (more more_flags : List ℕ) → IsCopied flags wide (length flags) more more_flags → flagged_from 1 more_flags ≡ flagged_from 1 flags
+  copied-ends wide more more_flags copied = flagged-same 1 more_flags flags (λ k. at k (cases_lt k (length flags)))
     where
-      at : (k : ℕ) → (k < room) ⊎ (room ≤ k) → get_or (drop wide more) k 0 ≡ get_or (drop room counts) k 0
+      at : (k : ℕ) → (k < length flags) ⊎ (length flags ≤ k) → get_or more_flags k 0 ≡ get_or flags k 0
       at k (inl less) = copied.done k less
-      at k (inr past) =
-          let l : length (drop room counts) ≡ length counts - room = length-drop room counts in
-          copied.rest k past ∙ sym (get_or-eq_default (drop room counts) 0 (omega (arith, l, past, tree.twice)))
+      at k (inr past) = copied.rest k past ∙ sym (get_or-eq_default flags 0 past)
 
 -- what the flags of a tree show
-module _ (room : ℕ) (counts : List ℕ) (tree : IsTree room counts) where
-  long : length (drop room counts) ≡ room
-  long = let l : length (drop room counts) ≡ length counts - room = length-drop room counts in omega (arith, l, tree.twice)
-
-  pub how-many : 0 < room → length (flagged_from 1 (drop room counts)) ≡ get_or counts 1 0
+module _ (room : ℕ) (counts flags : List ℕ) (tree : IsTree room counts) (counted : AreCounted room counts flags) where
+  pub how-many : 0 < room → length (flagged_from 1 flags) ≡ get_or counts 1 0
   how-many some =
-      length-flagged 1 (drop room counts) (flags_are room counts tree) ∙ ap (sum_before (drop room counts)) long ∙ sum-root room counts tree some
+      length-flagged 1 flags counted.small ∙ ap (sum_before flags) counted.long ∙ sym (sum_from-flags flags (room * 32))
+      ∙ sym (sum-chunks room counts flags counted room (omega arith)) ∙ sum-root room counts tree some
 
-  pub number-given : (number : ℕ) (after : List ℕ) → 0 < number → number ≤ room → drop room after ≡ set (drop room counts) (number - 1) 1
-      → flagged_from 1 (drop room after) ≡ with_number number (flagged_from 1 (drop room counts))
-  number-given number after some within same =
+  pub number-given : (number : ℕ) → 0 < number → number ≤ room * 32
+      → flagged_from 1 (set flags (number - 1) 1) ≡ with_number number (flagged_from 1 flags)
+  number-given number some within =
       let e : 1 + (number - 1) ≡ number = omega (arith, some) in
-      ap (flagged_from 1) same ∙ flagged-given 1 (number - 1) (drop room counts) (omega (arith, long, some, within))
-      ∙ ap (λ b. with_number b (flagged_from 1 (drop room counts))) e
+      flagged-given 1 (number - 1) flags (omega (arith, counted.long, some, within)) ∙ ap (λ b. with_number b (flagged_from 1 flags)) e
 
-  module _ (place before : ℕ) (flag : get_or counts (room + place) 0 ≡ 1) (rank : sum_from counts room place ≡ before) where
-    set_there : get_or (drop room counts) place 0 ≡ 1
-    set_there = get_or-drop room counts place 0 ∙ flag
+  -- a flag that is found in its chunk
+  module _ (chunk left place before : ℕ) (less : chunk < room) (low : chunk * 32 ≤ place) (flag : get_or flags place 0 ≡ 1)
+      (inside : sum_from flags (chunk * 32) (place - chunk * 32) ≡ left) (rank : sum_from counts room chunk + left ≡ before) where
+    behind : sum_before flags place ≡ before
+    behind =
+        let e : chunk * 32 + (place - chunk * 32) ≡ place = omega (arith, low) in
+        let i : 0 + chunk * 32 ≡ chunk * 32 = omega arith in
+        let s = sum_from-add flags 0 (chunk * 32) (place - chunk * 32) in
+        let c = sum-chunks room counts flags counted chunk (omega (arith, less)) in
+        sym (sum_from-flags flags place) ∙ omega (arith, rw (e, i) at s, c, inside, rank)
 
-    behind : sum_before (drop room counts) place ≡ before
-    behind = sym (sum_from-flags room counts tree place) ∙ rank
-
-    pub number-at : place + 1 ≡ get_or (flagged_from 1 (drop room counts)) before (place + 1)
+    pub number-at : place + 1 ≡ get_or (flagged_from 1 flags) before (place + 1)
     number-at =
         let e : 1 + place ≡ place + 1 = omega arith in
-        sym (ap (λ c. get_or (flagged_from 1 (drop room counts)) c (place + 1)) (sym behind)
-        ∙ flagged-at 1 place (place + 1) (drop room counts) (flags_are room counts tree) set_there ∙ e)
+        sym (ap (λ c. get_or (flagged_from 1 flags) c (place + 1)) (sym behind) ∙ flagged-at 1 place (place + 1) flags counted.small flag ∙ e)
 
-    pub number-taken : (after : List ℕ) → drop room after ≡ set (drop room counts) place 0
-        → flagged_from 1 (drop room after) ≡ remove (flagged_from 1 (drop room counts)) before
-    number-taken after same =
-        ap (flagged_from 1) same ∙ flagged-taken 1 place (drop room counts) (flags_are room counts tree) set_there
-        ∙ ap (remove (flagged_from 1 (drop room counts))) behind
+    pub number-taken : flagged_from 1 (set flags place 0) ≡ remove (flagged_from 1 flags) before
+    number-taken = flagged-taken 1 place flags counted.small flag ∙ ap (remove (flagged_from 1 flags)) behind
 
-  pub has-room : (before : ℕ) → before < length (flagged_from 1 (drop room counts)) → 0 < room
+  pub has-room : (before : ℕ) → before < length (flagged_from 1 flags) → 0 < room
   has-room before few = elim (cases_lt 0 room) as (λ _. 0 < room) [
     | inl some ↦ some
-    | inr none ↦ absurd (let e : room ≡ 0 = omega (arith, none) in
-        let l = length-flagged 1 (drop room counts) (flags_are room counts tree) ∙ ap (sum_before (drop room counts)) (long ∙ e) ∙ no_sum (drop room counts) in
-        omega (arith, l, few))
+    | inr none ↦ absurd (let l : length flags ≡ 0 = omega (arith, none, counted.long) in
+        let e : flags ≡ [] = nil_from_length flags l in
+        let n : length (flagged_from 1 flags) ≡ 0 = ap (λ fs. length (flagged_from 1 fs)) e in
+        omega (arith, n, few))
   ]
-    where
-      no_sum : (flags : List ℕ) → sum_before flags 0 ≡ 0
-      no_sum [] = refl
-      no_sum (x ∷ flags) = refl

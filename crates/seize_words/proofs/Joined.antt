@@ -1,8 +1,6 @@
 -- The blocks of three tables, as the tables change.
-use Rattle.std.proofs.Common.{◌≡◌, ℕ, zero, suc, ◌+◌, ◌<◌, List, [], ◌∷◌, ◌++◌, length, Option, Some, None, IsSome, ap, refl, sym, ◌∙◌, arith, get_or, set}
+use Rattle.std.proofs.Common.{◌≡◌, ℕ, zero, suc, List, [], ◌∷◌, ◌++◌, length, Option, Some, None, IsSome, ap, refl, arith}
 use Rattle.std.specs.Prelude.{slice_get, slice_index_or, slice_set}
-use Rattle.std.proofs.lemmas.List.{set-get_or}
-use Rattle.seize_words.specs.declared.block.Block.{Block}
 use Rattle.seize_words.specs.Mem.{entry_in, value_in, values_in, with_entry, with_value_in, with_word_in, word_in}
 use Rattle.seize_words.specs.Slab.{joined, whole}
 

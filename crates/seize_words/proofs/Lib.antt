@@ -1,6 +1,7 @@
 mod FreeFlags
 mod FreeKept
 mod FreeNumbers
+mod FreeSums
 mod FreeTrees
 mod Joined
 mod SlabKept

@@ -32,11 +32,24 @@ doubled (suc times) n = doubled times (n + n)
 abbrev pub wider : ℕ → ℕ
 wider room = if room == 0 then 1 else room + room
 
--- Counts in a whole tree: the root at 1, below the place k the places 2 k and 2 k + 1, and the flags of the numbers in order from the place `room` on.
--- Each count is that of the flags below it.
+-- a row of a tree has as many places as the root doubled so many times
+abbrev pub IsRow : ℕ → Type 0
+IsRow room = 0 < room → (height : ℕ) × (room ≡ doubled height 1)
+
+-- flags are 0 or 1
+abbrev pub AreFlags : List ℕ → Type 0
+AreFlags flags = (k : ℕ) → slice_index flags k ≤ 1
+
+-- Counts in a whole tree: the root at 1, below the place k the places 2 k and 2 k + 1, the lowest from the place `room` on. Each of the others is the sum of
+-- those below it.
 pub record IsTree (room : ℕ) (counts : List ℕ) : Type 0 where
   pub twice : length counts ≡ room + room
-  pub whole : 0 < room → (height : ℕ) × (room ≡ doubled height 1)
+  pub whole : IsRow room
   pub sums : (k : ℕ) → 0 < k → k < room → slice_index counts k ≡ slice_index counts (k + k) + slice_index counts (k + k + 1)
-  pub flags : (k : ℕ) → room ≤ k → slice_index counts k ≤ 1
-  pub light : (k : ℕ) → k * slice_index counts k ≤ room + room
+  pub light : (k : ℕ) → k * slice_index counts k ≤ (room + room) * 32
+
+-- Each of the lowest counts is of the 32 flags of a chunk, in order.
+pub record AreCounted (room : ℕ) (counts flags : List ℕ) : Type 0 where
+  pub long : length flags ≡ room * 32
+  pub small : AreFlags flags
+  pub chunks : (chunk : ℕ) → chunk < room → slice_index counts (room + chunk) ≡ sum_from flags (chunk * 32) 32

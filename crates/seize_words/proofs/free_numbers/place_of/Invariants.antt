@@ -1,10 +1,10 @@
-use Rattle.std.proofs.Common.{◌-◌}
-use Rattle.seize_words.proofs.FreeTrees.{IsOnWay}
+use Rattle.std.proofs.Common.{◌+◌, ◌-◌}
+use Rattle.seize_words.proofs.FreeSums.{IsScanned}
 use Rattle.seize_words.proofs.free_numbers.place_of.Given as goal
 
-abbrev pub invariant-loop-first : goal.invariant-loop-first
-invariant-loop-first l = IsOnWay l.room l.counts l.before l.first l.node l.left
+abbrev pub invariant-loop-left : goal.invariant-loop-left
+invariant-loop-left l = IsScanned l.flags l.first l.before l.place l.left
 
--- a row further down each time
-abbrev pub decreases-loop-first : goal.decreases-loop-first
-decreases-loop-first l = l.room - l.first
+-- a flag further each time
+abbrev pub decreases-loop-left : goal.decreases-loop-left
+decreases-loop-left l = l.first + 32 - l.place

@@ -1,4 +1,4 @@
-use Rattle.std.proofs.Common.{rules, ◌≡◌, ◌+◌, ◌<◌, ◌≤◌, ◌^◌, ◌∷◌, ◌++◌, [], IsOk, length, sym, ap, ◌∙◌, arith}
+use Rattle.std.proofs.Common.{rules, ◌≡◌, ◌+◌, ◌<◌, ◌≤◌, ◌^◌, IsOk, length, sym, ap, ◌∙◌, arith}
 use Rattle.seize_words.proofs.Joined.{length-joined}
 use Rattle.seize_words.proofs.SlabKept.{pushed, IsSlab-pushed, IsSlab-room}
 use Rattle.seize_words.proofs.slab.Slab.append.Goals as goal

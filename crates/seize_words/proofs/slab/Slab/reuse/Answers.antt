@@ -1,6 +1,4 @@
-use Rattle.std.proofs.Common.{rules, ◌≡◌, ◌+◌, ◌-◌, ◌<◌, length, sym, ap, ◌∙◌, arith}
-use Rattle.seize_words.specs.Mem.{free_from}
-use Rattle.seize_words.specs.Slab.{joined}
+use Rattle.std.proofs.Common.{rules, ◌-◌, ◌<◌, length, sym, ◌∙◌, arith}
 use Rattle.seize_words.proofs.SlabKept.{number_some, number_within, no_value_there, reused, IsSlab-reused}
 use Rattle.seize_words.proofs.slab.Slab.reuse.Goals as goal
 

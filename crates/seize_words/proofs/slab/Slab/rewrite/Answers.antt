@@ -1,4 +1,4 @@
-use Rattle.std.proofs.Common.{rules, ◌≡◌, None, Some, IsSome, sym, ap, ◌∙◌}
+use Rattle.std.proofs.Common.{rules, None, Some, IsSome, sym, ap, ◌∙◌}
 use Rattle.std.specs.Prelude.{slice_index_or}
 use Rattle.seize_words.specs.Mem.{value_in}
 use Rattle.seize_words.specs.Slab.{joined}

@@ -1,4 +1,4 @@
-use Rattle.std.proofs.Common.{rules, ◌≡◌, ◌<◌, IsSome, None, length, sym, ◌∙◌, ap, arith}
+use Rattle.std.proofs.Common.{rules, IsSome, None}
 use Rattle.std.specs.Prelude.{slice_index_or}
 use Rattle.seize_words.specs.Mem.{word_in}
 use Rattle.seize_words.specs.Slab.{joined}

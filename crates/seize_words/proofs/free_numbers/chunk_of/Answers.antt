@@ -1,6 +1,6 @@
 use Rattle.std.proofs.Common.{◌≡◌, ◌<◌, ◌≤◌, ◌+◌, ◌*◌, arith, get_or}
-use Rattle.seize_words.proofs.FreeTrees.{way-wide, way-lower, way-upper, way-rank}
-use Rattle.seize_words.proofs.free_numbers.place_of.Goals as goal
+use Rattle.seize_words.proofs.FreeTrees.{way-wide, way-lower, way-upper, way-ends}
+use Rattle.seize_words.proofs.free_numbers.chunk_of.Goals as goal
 
 pub bounds-counts-node : goal.bounds-counts-node
 bounds-counts-node c =
@@ -26,7 +26,11 @@ loop-first-preserved c =
     let few : c.loop-first.left < get_or c.args.counts.now (c.loop-first.node * 2) 0 = omega (arith, c.if-left-lower.false) in
     rw (n, f) (way-lower c.args.room c.args.counts.now c.requires.tree c.args.before c.loop-first.first c.loop-first.node c.loop-first.left o less (rw n at few))
 
+pub returns-clause-within : goal.returns-clause-within
+returns-clause-within c = (way-ends c.args.room c.args.counts.now c.requires.tree c.args.before c.loop-first.first c.loop-first.node c.loop-first.left c.loop-first.invariant (omega (arith, c.loop-first-test.false))).0
+
+pub returns-clause-few : goal.returns-clause-few
+returns-clause-few c = (way-ends c.args.room c.args.counts.now c.requires.tree c.args.before c.loop-first.first c.loop-first.node c.loop-first.left c.loop-first.invariant (omega (arith, c.loop-first-test.false))).1
+
 pub returns-clause-rank : goal.returns-clause-rank
-returns-clause-rank c =
-    let o = c.loop-first.invariant in
-    way-rank c.args.room c.args.counts.now c.requires.tree c.args.before c.loop-first.first c.loop-first.node c.loop-first.left o (omega (arith, c.loop-first-test.false))
+returns-clause-rank c = (way-ends c.args.room c.args.counts.now c.requires.tree c.args.before c.loop-first.first c.loop-first.node c.loop-first.left c.loop-first.invariant (omega (arith, c.loop-first-test.false))).2
