@@ -15,10 +15,8 @@ use std::io;
 /// Whether a call goes as its row says, or why it can't be made, or what it makes is not there.
 fn goes_so(alloc: Global, row: Row) -> Result<bool, JsonFault> {
     match row.on {
-        "map" => Ok(maps::is_changed(alloc, row)?),
-        "set" => Ok(sets::is_changed(alloc, row)?),
-        "new-map" => Ok(maps::is_made(alloc, row)?),
-        "new-set" => Ok(sets::is_made(alloc, row)?),
+        "map" | "new-map" => Ok(maps::goes_so(alloc, row)?),
+        "set" | "new-set" => Ok(sets::goes_so(alloc, row)?),
         "map-of-texts" => texts::map_goes_so(alloc, row.call),
         "set-of-texts" => texts::set_goes_so(alloc, row.call),
         _ => Ok(false),

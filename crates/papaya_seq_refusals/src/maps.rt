@@ -10,6 +10,10 @@ pub(crate) type Hashing = BuildHasherDefault<FoldHasher>;
 
 type Numbers = HashMap<u64, u64, Hashing>;
 
+/// What a name that no call has is answered by.
+pub(crate) const NO_CALL: Fault = Fault::RemoveNothing;
+
+/// Ten times the key for each of the keys from 0 to 7.
 const PAIRS: [(u64, u64); 8] = [
     (0, 0),
     (1, 10),
@@ -21,16 +25,7 @@ const PAIRS: [(u64, u64); 8] = [
     (7, 70),
 ];
 
-/// A map with ten times the key for each of the keys from 0 to 7, whose table has no place left: a further pair needs a table.
-fn filled(alloc: Global) -> Result<Numbers, Fault> {
-    let mut map = Numbers::with_capacity(alloc, 6)?;
-    match map.extend(PAIRS.iter().copied()) {
-        Ok(()) => Ok(map),
-        Err(refused) => Err(refused.fault),
-    }
-}
-
-/// Whether a map is as that one was.
+/// Whether a map has ten times the key for each of the keys from 0 to 7.
 fn is_filled(map: &Numbers) -> bool {
     for key in 0..8 {
         if map.get(&key).copied() != Some(key.wrapping_mul(10)) {
@@ -45,12 +40,7 @@ fn is_as(map: &Numbers, row: Row) -> bool {
     map.len() == row.len && map.get(&3).copied() == row.three && map.get(&8).copied() == row.eight
 }
 
-fn cloned(alloc: Global) -> Result<Numbers, Fault> {
-    let map = filled(alloc)?;
-    map.clone(alloc)
-}
-
-fn made(alloc: Global, call: &str) -> Result<Numbers, Fault> {
+fn made(alloc: Global, call: &str, original: &Numbers) -> Result<Numbers, Fault> {
     match call {
         "new" => Numbers::new(alloc),
         "with_capacity" => Numbers::with_capacity(alloc, 100),
@@ -60,13 +50,14 @@ fn made(alloc: Global, call: &str) -> Result<Numbers, Fault> {
         }
         "try_collect" => Numbers::try_collect(alloc, PAIRS.iter().copied()),
         "from_array" => Numbers::from_array(alloc, PAIRS.as_slice()),
-        _ => cloned(alloc),
+        "clone" => original.clone(alloc),
+        _ => Err(NO_CALL),
     }
 }
 
-/// Whether a map that is made is as a row says.
-pub(crate) fn is_made(alloc: Global, row: Row) -> Result<bool, Fault> {
-    let map = made(alloc, row.call)?;
+/// Whether a map that is made is as its row says.
+fn is_made(alloc: Global, original: &Numbers, row: Row) -> Result<bool, Fault> {
+    let map = made(alloc, row.call, original)?;
     Ok(is_as(&map, row))
 }
 
@@ -120,7 +111,8 @@ fn changed(map: &mut Numbers, call: &str) -> Result<(), Fault> {
         "reserve" => map.reserve(1000),
         "extend" => fault_of(map.extend([(8, 5)].iter().copied())),
         "retain" => map.retain(|key, _| *key % 2 == 0),
-        _ => map.clear(),
+        "clear" => map.clear(),
+        _ => Err(NO_CALL),
     }
 }
 
@@ -146,7 +138,7 @@ fn stored(map: &mut Numbers, call: &str, key: u64) -> Result<(), Fault> {
 }
 
 /// Whether a change is made at once, or was refused for want of memory, with all pairs as before, and is made then; and the map is then as its row says.
-fn goes_so(map: &mut Numbers, row: Row) -> bool {
+fn is_changed(map: &mut Numbers, row: Row) -> bool {
     let done = match stored(map, row.call, row.key) {
         Ok(()) => true,
         Err(Fault::Memory) => is_filled(map) && stored(map, row.call, row.key).is_ok(),
@@ -155,8 +147,18 @@ fn goes_so(map: &mut Numbers, row: Row) -> bool {
     done && is_as(map, row)
 }
 
-/// Whether it goes so on a map that is filled.
-pub(crate) fn is_changed(alloc: Global, row: Row) -> Result<bool, Fault> {
-    let mut map = filled(alloc)?;
-    Ok(goes_so(&mut map, row))
+/// The call of a row, beside or on a map whose table has no place left: a further pair needs a table.
+fn on_filled(alloc: Global, map: &mut Numbers, row: Row) -> Result<bool, Fault> {
+    fault_of(map.extend(PAIRS.iter().copied()))?;
+    if row.on == "map" {
+        Ok(is_changed(map, row))
+    } else {
+        is_made(alloc, map, row)
+    }
+}
+
+/// Whether the call of a row goes so, or why the map is not filled.
+pub(crate) fn goes_so(alloc: Global, row: Row) -> Result<bool, Fault> {
+    let mut map = Numbers::with_capacity(alloc, 6)?;
+    on_filled(alloc, &mut map, row)
 }

@@ -22,16 +22,6 @@ fn value_of(alloc: Global, text: &str) -> Result<Value, JsonFault> {
     }
 }
 
-fn read_map(alloc: Global) -> Result<Map, JsonFault> {
-    let value = value_of(alloc, MAP)?;
-    Map::from_value(alloc, &value)
-}
-
-fn read_set(alloc: Global) -> Result<Set, JsonFault> {
-    let value = value_of(alloc, SET)?;
-    Set::from_value(alloc, &value)
-}
-
 /// Whether a map has just the pairs that are written.
 fn has_pairs(map: &Map) -> bool {
     for (key, value) in [("a", 1), ("b", 2), ("c", 3)] {
@@ -52,30 +42,40 @@ fn has_elements(set: &Set) -> bool {
     set.len() == 3
 }
 
-fn is_map_of(alloc: Global, call: &str, map: &Map) -> Result<bool, JsonFault> {
+/// Whether a map that was read, its clone or what it is written as is what it should be.
+fn is_map_of(alloc: Global, call: &str, map: &Map, value: &Value) -> Result<bool, JsonFault> {
     match call {
+        "clone" => {
+            let again = map.clone(alloc)?;
+            Ok(has_pairs(&again))
+        }
+        "to_value" => Ok(map.to_value(alloc)? == *value),
         "from_value" => Ok(has_pairs(map)),
-        "clone" => Ok(has_pairs(&map.clone(alloc)?)),
-        _ => Ok(map.to_value(alloc)?.to_string(alloc)?.as_str() == MAP),
+        _ => Ok(false),
     }
 }
 
-/// Whether a call on a map goes so: what is read, cloned or written is what it should be.
 pub(crate) fn map_goes_so(alloc: Global, call: &str) -> Result<bool, JsonFault> {
-    let map = read_map(alloc)?;
-    is_map_of(alloc, call, &map)
+    let value = value_of(alloc, MAP)?;
+    let map = Map::from_value(alloc, &value)?;
+    is_map_of(alloc, call, &map, &value)
 }
 
-fn is_set_of(alloc: Global, call: &str, set: &Set) -> Result<bool, JsonFault> {
+/// So of a set.
+fn is_set_of(alloc: Global, call: &str, set: &Set, value: &Value) -> Result<bool, JsonFault> {
     match call {
+        "clone" => {
+            let again = set.clone(alloc)?;
+            Ok(has_elements(&again))
+        }
+        "to_value" => Ok(set.to_value(alloc)? == *value),
         "from_value" => Ok(has_elements(set)),
-        "clone" => Ok(has_elements(&set.clone(alloc)?)),
-        _ => Ok(set.to_value(alloc)?.to_string(alloc)?.as_str() == SET),
+        _ => Ok(false),
     }
 }
 
-/// Whether a call on a set goes so.
 pub(crate) fn set_goes_so(alloc: Global, call: &str) -> Result<bool, JsonFault> {
-    let set = read_set(alloc)?;
-    is_set_of(alloc, call, &set)
+    let value = value_of(alloc, SET)?;
+    let set = Set::from_value(alloc, &value)?;
+    is_set_of(alloc, call, &set, &value)
 }
