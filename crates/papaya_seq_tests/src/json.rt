@@ -1,5 +1,6 @@
-//! Worked examples of the JSON of maps and sets.
+//! Worked examples of the JSON of maps, of sets, and of lists of elements that have no hash.
 
+use papaya_forms::{Listed, array_of, elements_of};
 use papaya_seq::{HashMap, HashSet, JsonFault};
 use serde_json::Value;
 use std::alloc::Global;
@@ -10,7 +11,7 @@ type Map = HashMap<u8, u8, BuildHasherDefault<DefaultHasher>>;
 type Set = HashSet<u8, BuildHasherDefault<DefaultHasher>>;
 
 /// Whether a map is the worked one: 0 to 4, 1 to 3, 2 to 2, 3 to 1, 4 to 0.
-fn is_worked(map: &Map) -> bool {
+fn is_worked_map(map: &Map) -> bool {
     for key in 0..5 {
         if map.get(&key) != Some(&(4 - key)) {
             return false;
@@ -19,32 +20,55 @@ fn is_worked(map: &Map) -> bool {
     map.len() == 5
 }
 
-/// Whether the worked map is read of this JSON, and written as it again; or why none is read.
-fn map_of(alloc: Global, text: &str) -> Result<bool, JsonFault> {
-    let Ok(value) = Value::from_str(alloc, text) else {
-        return Ok(false);
-    };
-    let map = Map::from_value(alloc, &value)?;
-    Ok(is_worked(&map) && map.to_value(alloc)? == value)
+/// Whether the worked map is read of a value, and written as it; or why none is read.
+fn map_of(alloc: Global, value: &Value) -> Result<bool, JsonFault> {
+    let map = Map::from_value(alloc, value)?;
+    Ok(is_worked_map(&map) && map.to_value(alloc)? == *value)
 }
 
-/// Whether the set of 0 to 4 is read of this JSON, and written as it again; or why none is read.
-fn set_of(alloc: Global, text: &str) -> Result<bool, JsonFault> {
+/// Whether a set is the worked one: 0 to 4.
+fn is_worked_set(set: &Set) -> bool {
+    for element in 0..5 {
+        if !set.contains(&element) {
+            return false;
+        }
+    }
+    set.len() == 5
+}
+
+/// So of the worked set.
+fn set_of(alloc: Global, value: &Value) -> Result<bool, JsonFault> {
+    let set = Set::from_value(alloc, value)?;
+    Ok(is_worked_set(&set) && set.to_value(alloc)? == *value)
+}
+
+/// Whether the elements that are read of a value are written as it.
+fn list_of(alloc: Global, value: &Value) -> Result<bool, JsonFault> {
+    let list: Listed<u16> = elements_of(alloc, value)?;
+    Ok(array_of(alloc, list.iter())? == *value)
+}
+
+/// What is answered for a text of JSON.
+fn of_text(alloc: Global, what: &str, text: &str) -> Result<bool, JsonFault> {
     let Ok(value) = Value::from_str(alloc, text) else {
         return Ok(false);
     };
-    let set = Set::from_value(alloc, &value)?;
-    Ok(set.len() == 5 && (0..5).all(|key| set.contains(&key)) && set.to_value(alloc)? == value)
+    match what {
+        "map" => map_of(alloc, &value),
+        "set" => set_of(alloc, &value),
+        _ => list_of(alloc, &value),
+    }
 }
 
 fn are_read_so(alloc: Global) -> bool {
-    map_of(alloc, r#"{"0":4,"1":3,"2":2,"3":1,"4":0}"#) == Ok(true)
-        && map_of(alloc, r#"{"0":1.5}"#) == Err(JsonFault::BadElement)
-        && map_of(alloc, r#"{"00":1}"#) == Err(JsonFault::BadKey)
-        && map_of(alloc, "[]") == Err(JsonFault::NotAnObject)
-        && set_of(alloc, "[0,1,2,3,4]") == Ok(true)
-        && set_of(alloc, "[1.5]") == Err(JsonFault::BadElement)
-        && set_of(alloc, "{}") == Err(JsonFault::NotAnArray)
+    of_text(alloc, "map", r#"{"0":4,"1":3,"2":2,"3":1,"4":0}"#) == Ok(true)
+        && of_text(alloc, "map", r#"{"0":1.5}"#) == Err(JsonFault::BadElement)
+        && of_text(alloc, "map", r#"{"00":1}"#) == Err(JsonFault::BadKey)
+        && of_text(alloc, "map", "[]") == Err(JsonFault::NotAnObject)
+        && of_text(alloc, "set", "[0,1,2,3,4]") == Ok(true)
+        && of_text(alloc, "set", "[1.5]") == Err(JsonFault::BadElement)
+        && of_text(alloc, "set", "{}") == Err(JsonFault::NotAnArray)
+        && of_text(alloc, "list", "[1,10,100,9]") == Ok(true)
 }
 
 #[test]

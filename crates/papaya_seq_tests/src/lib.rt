@@ -6,8 +6,6 @@ mod forms;
 #[cfg(test)]
 mod json;
 #[cfg(test)]
-mod listed;
-#[cfg(test)]
 mod one_hash;
 #[cfg(test)]
 mod shown;
