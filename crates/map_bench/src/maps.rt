@@ -1,8 +1,7 @@
 //! The maps that are timed, behind one trait.
 
-use std::alloc::Global;
+use std::collections;
 use std::hash::{BuildHasherDefault, FoldHasher};
-use std::{collections, io};
 
 /// The map for one owner, with the hasher of std's maps.
 pub(crate) type Owned = papaya_seq::HashMap<u64, u64, BuildHasherDefault<FoldHasher>>;
@@ -12,9 +11,6 @@ pub(crate) type Std = collections::HashMap<u64, u64>;
 
 /// A map from numbers to numbers.
 pub(crate) trait Numbers {
-    /// One with no pair.
-    fn make(alloc: Global) -> io::Result<Self>;
-
     /// The value of a key.
     fn value(&self, key: u64) -> Option<u64>;
 
@@ -29,13 +25,6 @@ pub(crate) trait Numbers {
 }
 
 impl Numbers for Owned {
-    fn make(alloc: Global) -> io::Result<Self> {
-        match Owned::new(alloc) {
-            Ok(map) => Ok(map),
-            Err(fault) => Err(io::Error::other(fault.name())),
-        }
-    }
-
     fn value(&self, key: u64) -> Option<u64> {
         self.get(&key).copied()
     }
@@ -58,10 +47,6 @@ impl Numbers for Owned {
 }
 
 impl Numbers for Std {
-    fn make(alloc: Global) -> io::Result<Self> {
-        Ok(Std::new(alloc))
-    }
-
     fn value(&self, key: u64) -> Option<u64> {
         self.get(&key).copied()
     }

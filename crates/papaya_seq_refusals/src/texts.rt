@@ -1,60 +1,24 @@
-//! Maps and sets with texts are cloned, written as JSON and read of it, and again where that was refused.
+//! Maps and sets with texts are read of JSON, cloned, and written as it, and looked at by texts that are lent.
 
-use crate::numbers::Hashing;
-use papaya_forms::{JsonFault, Text, TextRef};
-use papaya_seq::{Fault, HashMap, HashSet};
+use crate::maps::Hashing;
+use papaya_seq::{Fault, HashMap, HashSet, JsonFault, Text, TextRef};
 use serde_json::Value;
-use std::alloc::{AllocError, Global};
+use std::alloc::Global;
 
 type Map = HashMap<Text, u64, Hashing>;
 
 type Set = HashSet<Text, Hashing>;
-
-/// What is done.
-#[derive(Clone, Copy)]
-pub(crate) enum Call {
-    ReadMap,
-    CloneMap,
-    WriteMap,
-    ReadSet,
-    CloneSet,
-    WriteSet,
-}
-
-/// Each call, with its name.
-pub(crate) const ROWS: [(Call, &str); 6] = [
-    (Call::ReadMap, "map from_value"),
-    (Call::CloneMap, "map clone with texts"),
-    (Call::WriteMap, "map to_value"),
-    (Call::ReadSet, "set from_value"),
-    (Call::CloneSet, "set clone with texts"),
-    (Call::WriteSet, "set to_value"),
-];
 
 /// A map as it is written.
 const MAP: &str = r#"{"a":1,"b":2,"c":3}"#;
 /// A set as it is written.
 const SET: &str = r#"["a","b","c"]"#;
 
-/// The value of a text. It is asked for again where it is refused: one request alone is.
-fn value_of(alloc: Global, text: &str) -> Option<Value> {
+/// The value of a text of JSON.
+fn value_of(alloc: Global, text: &str) -> Result<Value, JsonFault> {
     match Value::from_str(alloc, text) {
-        Ok(value) => Some(value),
-        Err(_) => match Value::from_str(alloc, text) {
-            Ok(value) => Some(value),
-            Err(_) => None,
-        },
-    }
-}
-
-/// Whether this is the compact text of a value.
-fn is_written(alloc: Global, value: &Value, text: &str) -> bool {
-    match value.to_string(alloc) {
-        Ok(written) => written.as_str() == text,
-        Err(_) => match value.to_string(alloc) {
-            Ok(written) => written.as_str() == text,
-            Err(_) => false,
-        },
+        Ok(value) => Ok(value),
+        Err(_) => Err(JsonFault::Refused(Fault::Memory)),
     }
 }
 
@@ -78,114 +42,40 @@ fn has_elements(set: &Set) -> bool {
     set.len() == 3
 }
 
-/// The map of a value. Where it is refused for want of memory, it is read again.
-fn read_map(alloc: Global, value: &Value) -> Option<Map> {
-    match Map::from_value(alloc, value) {
-        Ok(map) => Some(map),
-        Err(JsonFault::Refused(Fault::Memory)) => match Map::from_value(alloc, value) {
-            Ok(map) => Some(map),
-            Err(_) => None,
-        },
-        Err(_) => None,
-    }
-}
-
-/// The set of a value.
-fn read_set(alloc: Global, value: &Value) -> Option<Set> {
-    match Set::from_value(alloc, value) {
-        Ok(set) => Some(set),
-        Err(JsonFault::Refused(Fault::Memory)) => match Set::from_value(alloc, value) {
-            Ok(set) => Some(set),
-            Err(_) => None,
-        },
-        Err(_) => None,
-    }
-}
-
-fn is_cloned(alloc: Global, map: &Map) -> bool {
-    match map.clone(alloc) {
-        Ok(again) => has_pairs(&again),
-        Err(Fault::Memory) => match map.clone(alloc) {
-            Ok(again) => has_pairs(&again),
-            Err(_) => false,
-        },
-        Err(_) => false,
-    }
-}
-
-fn is_cloned_set(alloc: Global, set: &Set) -> bool {
-    match set.clone(alloc) {
-        Ok(again) => has_elements(&again),
-        Err(Fault::Memory) => match set.clone(alloc) {
-            Ok(again) => has_elements(&again),
-            Err(_) => false,
-        },
-        Err(_) => false,
-    }
-}
-
-/// Whether what is written has this text, where it is refused the first time, too.
-fn is_text_of(
-    alloc: Global,
-    written: Result<Value, AllocError>,
-    again: Result<Value, AllocError>,
-    text: &str,
-) -> bool {
-    let first = match &written {
-        Ok(value) => is_written(alloc, value, text),
-        Err(_) => true,
-    };
-    let second = match &again {
-        Ok(value) => is_written(alloc, value, text),
-        Err(_) => written.is_ok(),
-    };
-    first && second
-}
-
-/// Whether a call on a map that is read goes so, and leaves it as it was.
-fn goes_on_map(alloc: Global, call: Call, map: &Map) -> bool {
-    let so = match call {
-        Call::CloneMap => is_cloned(alloc, map),
-        Call::WriteMap => is_text_of(alloc, map.to_value(alloc), map.to_value(alloc), MAP),
-        _ => true,
-    };
-    so && has_pairs(map)
-}
-
-/// Whether a call on a set that is read goes so, and leaves it as it was.
-fn goes_on_set(alloc: Global, call: Call, set: &Set) -> bool {
-    let so = match call {
-        Call::CloneSet => is_cloned_set(alloc, set),
-        Call::WriteSet => is_text_of(alloc, set.to_value(alloc), set.to_value(alloc), SET),
-        _ => true,
-    };
-    so && has_elements(set)
-}
-
-fn is_so_of_map(alloc: Global, call: Call) -> bool {
-    let Some(value) = value_of(alloc, MAP) else {
-        return false;
-    };
-    match read_map(alloc, &value) {
-        Some(map) => goes_on_map(alloc, call, &map),
-        None => false,
-    }
-}
-
-fn is_so_of_set(alloc: Global, call: Call) -> bool {
-    let Some(value) = value_of(alloc, SET) else {
-        return false;
-    };
-    match read_set(alloc, &value) {
-        Some(set) => goes_on_set(alloc, call, &set),
-        None => false,
-    }
-}
-
-/// Whether a call goes so.
-pub(crate) fn is_so(alloc: Global, call: Call) -> bool {
+/// Whether a map that was read, its clone or what it is written as is what it should be.
+fn is_map_of(alloc: Global, call: &str, map: &Map, value: &Value) -> Result<bool, JsonFault> {
     match call {
-        Call::ReadMap | Call::CloneMap | Call::WriteMap => is_so_of_map(alloc, call),
-        Call::ReadSet | Call::CloneSet | Call::WriteSet => is_so_of_set(alloc, call),
+        "clone" => {
+            let again = map.clone(alloc)?;
+            Ok(has_pairs(&again))
+        }
+        "to_value" => Ok(map.to_value(alloc)? == *value),
+        "from_value" => Ok(has_pairs(map)),
+        _ => Ok(false),
     }
+}
+
+pub(crate) fn map_goes_so(alloc: Global, call: &str) -> Result<bool, JsonFault> {
+    let value = value_of(alloc, MAP)?;
+    let map = Map::from_value(alloc, &value)?;
+    is_map_of(alloc, call, &map, &value)
+}
+
+/// So of a set.
+fn is_set_of(alloc: Global, call: &str, set: &Set, value: &Value) -> Result<bool, JsonFault> {
+    match call {
+        "clone" => {
+            let again = set.clone(alloc)?;
+            Ok(has_elements(&again))
+        }
+        "to_value" => Ok(set.to_value(alloc)? == *value),
+        "from_value" => Ok(has_elements(set)),
+        _ => Ok(false),
+    }
+}
+
+pub(crate) fn set_goes_so(alloc: Global, call: &str) -> Result<bool, JsonFault> {
+    let value = value_of(alloc, SET)?;
+    let set = Set::from_value(alloc, &value)?;
+    is_set_of(alloc, call, &set, &value)
 }

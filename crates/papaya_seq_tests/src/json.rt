@@ -1,86 +1,77 @@
-//! Worked examples of the JSON of maps and sets: what is read of a text equals what was made by hand, and is written as the text again.
+//! Worked examples of the JSON of maps, of sets, and of lists of elements that have no hash.
 
-use papaya_seq::{HashMap, HashSet, JsonFault, Text, TextRef};
+use papaya_forms::{Listed, array_of, elements_of};
+use papaya_seq::{HashMap, HashSet, JsonFault};
 use serde_json::Value;
 use std::alloc::Global;
 use std::hash::{BuildHasherDefault, DefaultHasher};
-use std::test::Fail;
 
-type Map<K> = HashMap<K, u8, BuildHasherDefault<DefaultHasher>>;
+type Map = HashMap<u8, u8, BuildHasherDefault<DefaultHasher>>;
 
 type Set = HashSet<u8, BuildHasherDefault<DefaultHasher>>;
 
-/// The map and the set that were made by hand, and their texts.
-const PAIRS: [(u8, u8); 5] = [(4, 0), (3, 1), (2, 2), (1, 3), (0, 4)];
-
-const MAP: &str = r#"{"0":4,"1":3,"2":2,"3":1,"4":0}"#;
-
-const ELEMENTS: [u8; 5] = [4, 3, 2, 1, 0];
-
-const SET: &str = "[0,1,2,3,4]";
-
-/// Texts, and why no map is read of them; or that the one above is.
-const MAPS: [(&str, Result<bool, JsonFault>); 4] = [
-    (MAP, Ok(true)),
-    (r#"{"0":1.5}"#, Err(JsonFault::BadElement)),
-    (r#"{"00":1}"#, Err(JsonFault::BadKey)),
-    ("[]", Err(JsonFault::NotAnObject)),
-];
-
-/// So of sets.
-const SETS: [(&str, Result<bool, JsonFault>); 3] = [
-    (SET, Ok(true)),
-    ("[1.5]", Err(JsonFault::BadElement)),
-    ("{}", Err(JsonFault::NotAnArray)),
-];
-
-/// Whether a map is the one that was made by hand, and is written as its text.
-fn is_map(alloc: Global, map: &Map<u8>) -> Result<bool, JsonFault> {
-    let written = map.to_value(alloc)?.to_string(alloc)?;
-    Ok(*map == Map::from_array(alloc, PAIRS.as_slice())? && written.as_str() == MAP)
+/// Whether a map is the worked one: 0 to 4, 1 to 3, 2 to 2, 3 to 1, 4 to 0.
+fn is_worked_map(map: &Map) -> bool {
+    for key in 0..5 {
+        if map.get(&key) != Some(&(4 - key)) {
+            return false;
+        }
+    }
+    map.len() == 5
 }
 
-fn reads_map(alloc: Global, value: &Value) -> Result<bool, JsonFault> {
+/// Whether the worked map is read of a value, and written as it; or why none is read.
+fn map_of(alloc: Global, value: &Value) -> Result<bool, JsonFault> {
     let map = Map::from_value(alloc, value)?;
-    is_map(alloc, &map)
+    Ok(is_worked_map(&map) && map.to_value(alloc)? == *value)
 }
 
-/// Whether a set is the one that was made by hand, and is written as its text.
-fn is_set(alloc: Global, set: &Set) -> Result<bool, JsonFault> {
-    let written = set.to_value(alloc)?.to_string(alloc)?;
-    Ok(*set == Set::from_array(alloc, ELEMENTS.as_slice())? && written.as_str() == SET)
+/// Whether a set is the worked one: 0 to 4.
+fn is_worked_set(set: &Set) -> bool {
+    for element in 0..5 {
+        if !set.contains(&element) {
+            return false;
+        }
+    }
+    set.len() == 5
 }
 
-fn reads_set(alloc: Global, value: &Value) -> Result<bool, JsonFault> {
+/// So of the worked set.
+fn set_of(alloc: Global, value: &Value) -> Result<bool, JsonFault> {
     let set = Set::from_value(alloc, value)?;
-    is_set(alloc, &set)
+    Ok(is_worked_set(&set) && set.to_value(alloc)? == *value)
+}
+
+/// Whether the elements that are read of a value are written as it.
+fn list_of(alloc: Global, value: &Value) -> Result<bool, JsonFault> {
+    let list: Listed<u16> = elements_of(alloc, value)?;
+    Ok(array_of(alloc, list.iter())? == *value)
+}
+
+/// What is answered for a text of JSON.
+fn of_text(alloc: Global, what: &str, text: &str) -> Result<bool, JsonFault> {
+    let Ok(value) = Value::from_str(alloc, text) else {
+        return Ok(false);
+    };
+    match what {
+        "map" => map_of(alloc, &value),
+        "set" => set_of(alloc, &value),
+        _ => list_of(alloc, &value),
+    }
+}
+
+fn are_read_so(alloc: Global) -> bool {
+    of_text(alloc, "map", r#"{"0":4,"1":3,"2":2,"3":1,"4":0}"#) == Ok(true)
+        && of_text(alloc, "map", r#"{"0":1.5}"#) == Err(JsonFault::BadElement)
+        && of_text(alloc, "map", r#"{"00":1}"#) == Err(JsonFault::BadKey)
+        && of_text(alloc, "map", "[]") == Err(JsonFault::NotAnObject)
+        && of_text(alloc, "set", "[0,1,2,3,4]") == Ok(true)
+        && of_text(alloc, "set", "[1.5]") == Err(JsonFault::BadElement)
+        && of_text(alloc, "set", "{}") == Err(JsonFault::NotAnArray)
+        && of_text(alloc, "list", "[1,10,100,9]") == Ok(true)
 }
 
 #[test]
-fn a_map_is_an_object_and_a_set_an_array(rt: HostRuntime) -> Result<(), Fail> {
-    let alloc = rt.alloc();
-    for (text, expected) in MAPS {
-        let value = Value::from_str(alloc, text)?;
-        assert!(rt; reads_map(alloc, &value) == expected, "{text}");
-    }
-    for (text, expected) in SETS {
-        let value = Value::from_str(alloc, text)?;
-        assert!(rt; reads_set(alloc, &value) == expected, "{text}");
-    }
-    Ok(())
-}
-
-/// What a map that is read, with texts for keys, has of this key. It is asked for by a text that is lent.
-fn found(alloc: Global, value: &Value, key: &str) -> Result<Option<u8>, JsonFault> {
-    let map = Map::<Text>::from_value(alloc, value)?;
-    Ok(map.get(&TextRef::new(key)).copied())
-}
-
-#[test]
-fn a_text_is_found_by_one_that_is_lent(rt: HostRuntime) -> Result<(), Fail> {
-    let value = Value::from_str(rt.alloc(), r#"{"00":1,"\u00e4":2}"#)?;
-    for (key, there) in [("00", Some(1)), ("\u{e4}", Some(2)), ("0", None)] {
-        assert!(rt; found(rt.alloc(), &value, key) == Ok(there), "{key}");
-    }
-    Ok(())
+fn maps_are_objects_and_sets_arrays(rt: HostRuntime) {
+    assert!(rt; are_read_so(rt.alloc()));
 }

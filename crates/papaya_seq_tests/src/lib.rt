@@ -1,9 +1,11 @@
-//! Tests of the map and the set for one owner: what no clause of theirs says, and examples that were worked by hand.
+//! Tests of the map and the set for one owner and of their JSON: examples that were worked by hand, and what no clause says.
 #![tactic(auto)]
 
 #[cfg(test)]
-mod debugged;
+mod forms;
 #[cfg(test)]
 mod json;
 #[cfg(test)]
 mod one_hash;
+#[cfg(test)]
+mod shown;

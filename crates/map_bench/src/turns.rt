@@ -2,37 +2,6 @@
 
 use crate::maps::Numbers;
 
-/// What is done in each turn.
-#[derive(Clone, Copy)]
-pub(crate) enum Kind {
-    /// A key is looked for that is there.
-    Hit,
-    /// A key is looked for that is not there.
-    Miss,
-    /// A key is stored that is not there; the map grows.
-    Insert,
-    /// The value of a key that is there is replaced.
-    Replace,
-    /// A key is removed and stored again.
-    InTurn,
-    /// A pair of a walk over all is read.
-    Iterate,
-}
-
-impl Kind {
-    pub(crate) fn named(name: &str) -> Option<Kind> {
-        match name {
-            "hit" => Some(Kind::Hit),
-            "miss" => Some(Kind::Miss),
-            "insert" => Some(Kind::Insert),
-            "replace" => Some(Kind::Replace),
-            "in_turn" => Some(Kind::InTurn),
-            "iterate" => Some(Kind::Iterate),
-            _ => None,
-        }
-    }
-}
-
 /// Keys are scattered over all numbers of 64 bits.
 fn key(index: u64) -> u64 {
     index.wrapping_mul(0xd134_2543_de82_ef95)
@@ -83,22 +52,24 @@ fn look<M: Numbers>(map: &M, first: u64, keys: u64, turns: u64) -> u64 {
 }
 
 /// Adds one to the index that each key has.
-fn replace<M: Numbers>(map: &mut M, keys: u64, turns: u64) {
+fn replace<M: Numbers>(map: &mut M, keys: u64, turns: u64) -> u64 {
     let mut leaps = Leaps::below(keys);
     for _ in 0..turns {
         let index = leaps.leap();
         map.store(key(index), index.wrapping_add(1));
     }
+    map.total()
 }
 
 /// Removes keys, and stores each again before the next.
-fn remove_and_store<M: Numbers>(map: &mut M, keys: u64, turns: u64) {
+fn remove_and_store<M: Numbers>(map: &mut M, keys: u64, turns: u64) -> u64 {
     let mut leaps = Leaps::below(keys);
     for _ in 0..turns {
         let index = leaps.leap();
         map.lose(key(index));
         map.store(key(index), index);
     }
+    map.total()
 }
 
 /// The sum of all values, read again and again until so many were read.
@@ -110,20 +81,15 @@ fn walk<M: Numbers>(map: &M, keys: u64, turns: u64) -> u64 {
     sum
 }
 
-/// Takes so many turns on a map that was filled, and answers the sum of what was found, or of what there is then.
-pub(crate) fn take_turns<M: Numbers>(map: &mut M, kind: Kind, keys: u64, turns: u64) -> u64 {
+/// Takes so many turns on a map that was filled, and answers the sum of what was found, or of what there is then: a key is looked for that is there, or that is
+/// not; its value is replaced; it is removed and stored again; or a pair of a walk over all is read.
+pub(crate) fn take<M: Numbers>(map: &mut M, kind: &str, keys: u64, turns: u64) -> u64 {
     match kind {
-        Kind::Hit => look(map, 0, keys, turns),
-        Kind::Miss => look(map, keys, keys, turns),
-        Kind::Iterate => walk(map, keys, turns),
-        Kind::Insert => map.total(),
-        Kind::Replace => {
-            replace(map, keys, turns);
-            map.total()
-        }
-        Kind::InTurn => {
-            remove_and_store(map, keys, turns);
-            map.total()
-        }
+        "hit" => look(map, 0, keys, turns),
+        "miss" => look(map, keys, keys, turns),
+        "replace" => replace(map, keys, turns),
+        "in_turn" => remove_and_store(map, keys, turns),
+        "iterate" => walk(map, keys, turns),
+        _ => 0,
     }
 }
