@@ -3,3 +3,4 @@ pub mod Members
 pub mod Items
 pub mod Readings
 pub mod OneArray
+mod Narrow

@@ -1,11 +1,19 @@
 -- A step of the help is the call's, with its outcome turned.
 use Rattle.std.proofs.Common.{refl, subst, sym}
-use Rattle.seize_words.specs.Plan.{Steps}
+use Rattle.seize_words.specs.Plan.{May, Steps}
+use Rattle.seize_words.proofs.Plans.{may_as}
 use Rattle.seize.proofs.StepsInto.{steps_into}
 use Rattle.papaya_resize.specs.Copier.{copier_plan}
 use Rattle.papaya_raw.specs.declared.machines.call.Calling.{Calling}
 use Rattle.papaya_raw.specs.Call.{plan_at, helped}
 use Rattle.papaya_raw.proofs.machines.call.KeyCall.helps.Goals as goal
+
+pub step-progress-requires : goal.step-progress-requires
+step-progress-requires g c =
+    may_as (helped c.args.self.now c.in-Helps.goal) g.M.Look.can g.M.Look.took g.M.Look.shown c.args.memory.now
+    (copier_plan (g.S.Hashes.hash c.args.hasher.now) c.in-Helps.copier)
+    (subst (λ (stands : Calling). May g.M.Look.can g.M.Look.took g.M.Look.shown c.args.memory.now
+    (plan_at g.Q.Equivalent.equivalent g.K.PartialEq.eq (g.S.Hashes.hash c.args.hasher.now) c.args.self.now stands)) c.in-Helps.is c.requires.may)
 
 pub returns : goal.returns
 returns g c =

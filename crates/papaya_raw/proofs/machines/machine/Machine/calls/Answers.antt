@@ -9,11 +9,11 @@ use Rattle.papaya_raw.proofs.machines.machine.Machine.calls.Goals as goal
 
 pub step-told-requires : goal.step-told-requires
 step-told-requires g c =
-    may_as (called {Q = g.row.Q.Denot}) g.M.Look.can g.M.Look.took g.M.Look.shown c.args.memory.now
+    may_as (called {K = g.row.K.Denot} {V = g.row.V.Denot} {Q = g.row.Q.Denot}) g.M.Look.can g.M.Look.took g.M.Look.shown c.args.memory.now
     (call_plan g.Q.Equivalent.equivalent g.K.PartialEq.eq (g.S.Hashes.hash c.args.hasher.now) c.args.call.now) c.requires
 
 pub returns : goal.returns
 returns g c =
-    steps_into called g.M.Look.can g.M.Look.took g.M.Look.shown c.args.memory.now c.step-told.new.memory
+    steps_into (called {K = g.row.K.Denot} {V = g.row.V.Denot} {Q = g.row.Q.Denot}) g.M.Look.can g.M.Look.took g.M.Look.shown c.args.memory.now c.step-told.new.memory
     (call_plan g.Q.Equivalent.equivalent g.K.PartialEq.eq (g.S.Hashes.hash c.args.hasher.now) c.args.call.now)
     (c.step-told.new.self, c.step-told.result) _ (ap (λ x. (kinds.Key c.step-told.new.self, x)) c.of_called.ensures) c.step-told.ensures
