@@ -43,6 +43,12 @@ fn shows_map(alloc: Global) -> Result<bool, Fault> {
     Ok(shows(alloc, &map, "{42: 0, 16: 8}", "{16: 8, 42: 0}")?)
 }
 
+/// Of pairs with one key a map that collects them has the last.
+fn shows_collected(alloc: Global) -> Result<bool, Fault> {
+    let map = Map::try_collect(alloc, [(0, 1), (0, 2), (0, 3)])?;
+    Ok(map.len() == 1 && shows(alloc, &map, "{0: 3}", "")?)
+}
+
 fn shows_set(alloc: Global) -> Result<bool, Fault> {
     let set = Set::from_array(alloc, &[42, 16])?;
     Ok(shows(alloc, &set, "{42, 16}", "{16, 42}")?)
@@ -53,5 +59,6 @@ fn faults_have_names_and_debug_shows_texts_maps_and_sets(rt: HostRuntime) {
     assert!(rt; faults_have_names(rt.alloc()) == Ok(true));
     assert!(rt; shows_text(rt.alloc()) == Ok(true));
     assert!(rt; shows_map(rt.alloc()) == Ok(true));
+    assert!(rt; shows_collected(rt.alloc()) == Ok(true));
     assert!(rt; shows_set(rt.alloc()) == Ok(true));
 }
