@@ -41,7 +41,7 @@ abbrev pub AreFlags : List ℕ → Type 0
 AreFlags flags = (k : ℕ) → slice_index flags k ≤ 1
 
 -- Counts in a whole tree: the root at 1, below the place k the places 2 k and 2 k + 1, the lowest from the place `room` on. Each of the others is the sum of
--- those below it.
+-- those below it. A chunk has 32 numbers, so the further down a count is the less it can be.
 pub record IsTree (room : ℕ) (counts : List ℕ) : Type 0 where
   pub twice : length counts ≡ room + room
   pub whole : IsRow room

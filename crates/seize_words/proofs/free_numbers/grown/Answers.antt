@@ -1,4 +1,4 @@
-use Rattle.std.proofs.Common.{rules, ◌≡◌, ◌+◌, ◌*◌, ◌<◌, ◌^◌, arith, length, replicate}
+use Rattle.std.proofs.Common.{rules, ◌≡◌, ◌+◌, ◌*◌, arith, length, replicate}
 use Rattle.seize_words.proofs.FreeTrees.{copied-begins, copied-ends}
 use Rattle.seize_words.proofs.free_numbers.grown.Goals as goal
 

@@ -1,4 +1,4 @@
-use Rattle.std.proofs.Common.{◌≡◌, ◌≤◌, ◌<◌, ◌+◌, ◌*◌, ◌^◌, ◌∙◌, ap, sym, length, arith}
+use Rattle.std.proofs.Common.{◌≡◌, ◌≤◌, ◌*◌, ◌∙◌, ap, sym, length, arith}
 use Rattle.std.specs.Prelude.{◌-◌, slice_set}
 use Rattle.std.proofs.lemmas.List.{length-set, with_items_is}
 use Rattle.seize_words.proofs.FreeTrees.{number-given}
