@@ -20,10 +20,11 @@ fn is_worked_map(map: &Map) -> bool {
     map.len() == 5
 }
 
-/// Whether the worked map is read of a value, and written as it; or why none is read.
-fn map_of(alloc: Global, value: &Value) -> Result<bool, JsonFault> {
+/// Whether the worked map is read of the value of a text, and written as it; or why none is read.
+fn map_of(alloc: Global, value: &Value, text: &str) -> Result<bool, JsonFault> {
     let map = Map::from_value(alloc, value)?;
-    Ok(is_worked_map(&map) && map.to_value(alloc)? == *value)
+    let written = map.to_value(alloc)?.to_string(alloc)?;
+    Ok(is_worked_map(&map) && written.as_str() == text)
 }
 
 /// Whether a set is the worked one: 0 to 4.
@@ -37,9 +38,10 @@ fn is_worked_set(set: &Set) -> bool {
 }
 
 /// So of the worked set.
-fn set_of(alloc: Global, value: &Value) -> Result<bool, JsonFault> {
+fn set_of(alloc: Global, value: &Value, text: &str) -> Result<bool, JsonFault> {
     let set = Set::from_value(alloc, value)?;
-    Ok(is_worked_set(&set) && set.to_value(alloc)? == *value)
+    let written = set.to_value(alloc)?.to_string(alloc)?;
+    Ok(is_worked_set(&set) && written.as_str() == text)
 }
 
 /// Whether the elements that are read of a value are written as it.
@@ -54,8 +56,8 @@ fn of_text(alloc: Global, what: &str, text: &str) -> Result<bool, JsonFault> {
         return Ok(false);
     };
     match what {
-        "map" => map_of(alloc, &value),
-        "set" => set_of(alloc, &value),
+        "map" => map_of(alloc, &value, text),
+        "set" => set_of(alloc, &value, text),
         _ => list_of(alloc, &value),
     }
 }
