@@ -36,3 +36,7 @@ returns-clause-last g c = (none_in _, none_in _)
 
 pub returns-clause-held : goal.returns-clause-held
 returns-clause-held g c = c.in_ok-setting.ensures.bare (λ b. c.in_ok-slot.ensures.spares.values b refl ∙ nothing_there {K = g.row.K.Denot} {V = g.row.V.Denot} c.in_ok-memory.memory c.in_ok-memory.ensures b)
+
+pub returns-in_err-setting-clause-fault : goal.returns-in_err-setting-clause-fault
+returns-in_err-setting-clause-fault g c =
+    let p = err_from_is_err_and c.from_residual-in_err-setting.result c.from_residual-in_err-setting.ensures.1 in rw (p.1, p.2) (inr (c.in_err-setting.ensures.fault, c.in_ok-places.ensures.few))
