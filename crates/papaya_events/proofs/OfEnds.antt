@@ -33,7 +33,7 @@ use Rattle.papaya_folded.specs.Given.Schedules.After.{moment}
 use Rattle.papaya_folded.specs.Given.Schedules.Effects.{AtEachEffect, with_effects, worked}
 use Rattle.papaya_folded.specs.Given.Schedules.Entry.{Entry}
 use Rattle.papaya_folded.specs.Given.Schedules.Handing.{EndsMap, EndsNamed, IsWhole, may_do}
-use Rattle.papaya_folded.specs.Given.Schedules.InTurn.{ComesRight, is_kept_out}
+use Rattle.papaya_folded.specs.Given.Schedules.InTurn.{ComesRight}
 use Rattle.papaya_folded.specs.Given.Schedules.Lives.{Finds}
 use Rattle.papaya_folded.specs.Given.Schedules.Moment.{MapThere, Moment}
 use Rattle.papaya_folded.specs.Given.Schedules.Terms.{Terms, shards_of}
@@ -230,7 +230,7 @@ module _ {K V S : Type 0} (same : K → K → Bool) (hash : K → ℕ) (terms : 
       (end_comes_on n x mid to z.0 z.1 on.0, end_under n x mid to z.0 z.1 on.0 on.1)
 
 module _ {K V S : Type 0} (same : K → K → Bool) (hash : K → ℕ) (terms : Terms) (log : List (Entry K V)) (own : List ℕ) (played : Played V) (old new : Scheduler K V S) (holds : Holds same hash terms (moment log) old)
-    (run : Runs same hash terms log old) (turn : is_kept_out terms (EndMap own) (moment log) ≡ false) (after : IsPlayed same hash terms (entry_of (EndMap own) played ∷ log) new)
+    (run : Runs same hash terms log old) (turn : (moment log).is_closed ≡ false) (after : IsPlayed same hash terms (entry_of (EndMap own) played ∷ log) new)
     (right_so : ComesRight terms log (entry_of (EndMap own) played)) where
   abbrev m : Moment K V
   m = moment log

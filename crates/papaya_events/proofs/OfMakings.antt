@@ -28,7 +28,7 @@ use Rattle.papaya_folded.specs.Given.Schedules.Beginning.{used_roots, with_map}
 use Rattle.papaya_folded.specs.Given.Schedules.Effects.{with_effects, worked}
 use Rattle.papaya_folded.specs.Given.Schedules.Entry.{Entry}
 use Rattle.papaya_folded.specs.Given.Schedules.Handing.{IsWhole, is_first_making, may_do, tables_named}
-use Rattle.papaya_folded.specs.Given.Schedules.InTurn.{ComesRight, is_kept_out}
+use Rattle.papaya_folded.specs.Given.Schedules.InTurn.{ComesRight}
 use Rattle.papaya_folded.specs.Given.Schedules.Lists.{least_free}
 use Rattle.papaya_folded.specs.Given.Schedules.Moment.{MapThere, Moment}
 use Rattle.papaya_folded.specs.Given.Schedules.Terms.{Terms, shards_of}
@@ -55,7 +55,7 @@ use Rattle.papaya_folded.proofs.Given.Logged.GivenBack.{with_maps}
 use Rattle.papaya_folded.proofs.Given.Rows.Lists.{found_alike}
 use Rattle.papaya_folded.proofs.Given.Tables.Logarithms.{next-power-unique}
 use Rattle.papaya_folded.specs.Given.Named.Places.{first_places}
-use Rattle.papaya_scheduler.specs.Mapping.{MayMap, may_make_of}
+use Rattle.papaya_scheduler.specs.Mapping.{MayMap}
 use Rattle.papaya_scheduler.specs.Played.{IsPlayed, entry_of}
 use Rattle.papaya_folded.specs.Given.Named.Seen.{named as named_of_map, number_named}
 use Rattle.papaya_scheduler.specs.Works.{MakingHasRun, WorksOnMap}
@@ -111,7 +111,7 @@ none_numbered n (f ∷ fs) all =
     ap (λ (q : Bool). cond q (Some f) (find (λ (g : MapThere). g.number == n) fs)) (ne_eqb f.number n (λ e. (let l = all.0 in omega (arith, l, e)))) ∙ none_numbered n fs all.1
 
 module _ {K V S : Type 0} (same : K → K → Bool) (hash : K → ℕ) (terms : Terms) (log : List (Entry K V)) (own : List ℕ) (mode : ResizeMode) (capacity : ℕ) (played : Played V) (old new : Scheduler K V S)
-    (holds : Holds same hash terms (moment log) old) (run : Runs same hash terms log old) (turn : is_kept_out terms (MakeMap own mode capacity) (moment log) ≡ false) where
+    (holds : Holds same hash terms (moment log) old) (run : Runs same hash terms log old) (turn : (moment log).is_closed ≡ false) where
   abbrev event : Event K V
   event = MakeMap own mode capacity
 
@@ -254,13 +254,9 @@ module _ {K V S : Type 0} (same : K → K → Bool) (hash : K → ℕ) (terms : 
     named_so =
         ap (option_map (λ (f : MapThere). f.number)) (found_last (λ (f : MapThere). is_same f.name own) m.maps there (none_named (map_of own m) refl) (same_refl own)) ∙ ap Some (sym map_is)
       where
-        none_had : (o : Option ℕ) → number_named own old.maps.items ≡ o → may_make_of own old.given.is_one_map (length old.logged.executor.maps.items) old.maps.items ≡ true
-            → (is_none o && not (old.given.is_one_map && nat_lt 0 (length old.logged.executor.maps.items))) ≡ true
-        none_had o is free = ap (λ (q : Option ℕ). is_none q && not (old.given.is_one_map && nat_lt 0 (length old.logged.executor.maps.items))) (sym is) ∙ free
-
         none_by : (o : Option ℕ) → number_named own old.maps.items ≡ o → o ≡ None
         none_by None is = refl
-        none_by (Some n) is = absurd (let had = none_had (Some n) is d.free in cc had)
+        none_by (Some n) is = absurd (let had = sym (ap is_none is) ∙ d.free in cc had)
 
         none_named : (o : Option MapThere) → map_of own m ≡ o → map_of own m ≡ None
         none_named None is = is

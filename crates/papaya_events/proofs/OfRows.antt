@@ -27,7 +27,7 @@ use Rattle.papaya_folded.specs.Given.Schedules.Beginning.{begun}
 use Rattle.papaya_folded.specs.Given.Schedules.Effects.{AtEachEffect}
 use Rattle.papaya_folded.specs.Given.Schedules.Entry.{Entry, acted_on, speaker}
 use Rattle.papaya_folded.specs.Given.Schedules.Handing.{asks_for_bucket, gives_all, is_only, is_reclaiming, may_do}
-use Rattle.papaya_folded.specs.Given.Schedules.InTurn.{ComesRight, is_kept_out}
+use Rattle.papaya_folded.specs.Given.Schedules.InTurn.{ComesRight}
 use Rattle.papaya_folded.specs.Given.Schedules.Lives.{Finds}
 use Rattle.papaya_folded.specs.Given.Schedules.Moment.{Moment}
 use Rattle.papaya_folded.specs.Given.Schedules.InUse.{used_slots}
@@ -137,7 +137,7 @@ module _ {K V : Type 0} where
       by _ of on = absurd (cc (of, on))
 
 module _ {K V S : Type 0} (same : K → K → Bool) (hash : K → ℕ) (terms : Terms) (log : List (Entry K V)) (event : Event K V) (played : Played V) (old new : Scheduler K V S)
-    (of : is_of_rows event ≡ true) (on : is_of_slots event ≡ true) (run : Runs same hash terms log old) (turn : is_kept_out terms event (moment log) ≡ false)
+    (of : is_of_rows event ≡ true) (on : is_of_slots event ≡ true) (run : Runs same hash terms log old) (turn : (moment log).is_closed ≡ false)
     (after : IsPlayed same hash terms (entry_of event played ∷ log) new) (right : ComesRight terms log (entry_of event played)) where
   abbrev e : Entry K V
   e = entry_of event played

@@ -12,7 +12,7 @@ use Rattle.papaya_folded.specs.Given.Schedules.declared.outcome.Outcome.TheVaria
 use Rattle.papaya_folded.specs.Given.Schedules.After.{moment, slots_on}
 use Rattle.papaya_folded.specs.Given.Schedules.Entry.{Entry}
 use Rattle.papaya_folded.specs.Given.Schedules.Handing.{IsWhole}
-use Rattle.papaya_folded.specs.Given.Schedules.InTurn.{ComesRight, ComesTo, InTurn, IsDone, IsKeptOut, IsShapeOf, chain_named, is_kept_out}
+use Rattle.papaya_folded.specs.Given.Schedules.InTurn.{ComesRight, ComesTo, InTurn, IsDone, IsKeptOut, IsShapeOf, chain_named}
 use Rattle.papaya_folded.specs.Given.Schedules.InUse.{is_free_guard}
 use Rattle.papaya_folded.specs.Given.Schedules.Moment.{Moment, TableThere}
 use Rattle.papaya_folded.specs.Given.Schedules.Terms.{Terms}
@@ -67,7 +67,7 @@ module _ {K V : Type 0} (log : List (Entry K V)) (w : World (Node K V)) where
 
   -- and takes no slot
   no_slot : (terms : Terms) (its : Event K V) → is_of_setups its ≡ true → (outcome : Outcome V) (steps : ℕ) → ComesRight terms log (entry its outcome steps []) → slots_on outcome (moment log).slots ≡ (moment log).slots
-  no_slot terms its of outcome steps right = by (is_kept_out terms its (moment log)) its of right
+  no_slot terms its of outcome steps right = by (moment log).is_closed its of right
     where
       busy : (o : Outcome V) → o ≡ Refused Busy → slots_on o (moment log).slots ≡ (moment log).slots
       busy o is = ap (λ (x : Outcome V). slots_on x (moment log).slots) is

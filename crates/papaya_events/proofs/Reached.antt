@@ -27,7 +27,7 @@ use Rattle.papaya_folded.specs.Given.Schedules.After.{moment, moments_from, slot
 use Rattle.papaya_folded.specs.Given.Schedules.Coming.{Progresses}
 use Rattle.papaya_folded.specs.Given.Schedules.Effects.{worked}
 use Rattle.papaya_folded.specs.Given.Schedules.Entry.{ByCall, Entry, acting, caller_of}
-use Rattle.papaya_folded.specs.Given.Schedules.InTurn.{ComesRight, ComesTo, GoesOn, InTurn, IsDone, IsEntered, IsFlushed, IsKeptOut, IsMade, IsNext, IsShapeOf, chain_named, is_kept_out}
+use Rattle.papaya_folded.specs.Given.Schedules.InTurn.{ComesRight, ComesTo, GoesOn, InTurn, IsDone, IsEntered, IsFlushed, IsKeptOut, IsMade, IsNext, IsShapeOf, chain_named}
 use Rattle.papaya_folded.specs.Given.Schedules.InUse.{is_held, used_slots}
 use Rattle.papaya_folded.specs.Given.Schedules.Lists.{is_among}
 use Rattle.papaya_folded.specs.Given.Schedules.Moment.{Asking, IsReady, Moment, Stands, UnderWay as CallThere}
@@ -207,7 +207,7 @@ module _ {K V : Type 0} (terms : Terms) (log : List (Entry K V)) (e : Entry K V)
   comes (event.Stop caller) event_is right = out_of _ IsDone right not_done
 
   slot_is_used : ComesRight terms log e → Uses
-  slot_is_used right = by (is_kept_out terms e.event m) right
+  slot_is_used right = by m.is_closed right
     where
       by : (q : Bool) → MatchBool q (IsKeptOut e.event e.outcome) (ComesTo terms log m e e.event e.outcome) → Uses
       by true out = kept e.event out

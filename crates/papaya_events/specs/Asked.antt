@@ -7,7 +7,6 @@ use Rattle.papaya_folded.specs.Given.Schedules.declared.outcome.Outcome.{Outcome
 use Rattle.papaya_folded.specs.Given.Schedules.After.{moment}
 use Rattle.papaya_folded.specs.Given.Schedules.Beginning.{at_work}
 use Rattle.papaya_folded.specs.Given.Schedules.Entry.{Entry, acting, caller_of}
-use Rattle.papaya_folded.specs.Given.Schedules.InTurn.{is_kept_out}
 use Rattle.papaya_folded.specs.Given.Schedules.Moment.{Moment}
 use Rattle.papaya_folded.specs.Given.Schedules.Steps.{DoesFew, MakesSteps, stands_or}
 use Rattle.papaya_folded.specs.Given.Schedules.Terms.{Terms}
@@ -88,7 +87,7 @@ module _ {K V S : Type 0} (same : K → K → Bool) (hash : K → ℕ) where
 
   -- and one that is in turn
   abbrev pub MayHappenDue : Event K V → Scheduler K V S → Type 0
-  MayHappenDue event p = (terms : Terms) × (log : List (Entry K V)) × Holds terms (moment log) p × (is_kept_out terms event (moment log) ≡ false)
+  MayHappenDue event p = (terms : Terms) × (log : List (Entry K V)) × Holds terms (moment log) p × ((moment log).is_closed ≡ false)
 
   abbrev pub HappensAt : Bool → Event K V → Played V → (old new : Scheduler K V S) → Type 0
   HappensAt is_first event played old new =
@@ -96,7 +95,7 @@ module _ {K V S : Type 0} (same : K → K → Bool) (hash : K → ℕ) where
 
   abbrev pub HappensDue : Bool → Event K V → Played V → (old new : Scheduler K V S) → Type 0
   HappensDue is_first event played old new =
-      (terms : Terms) (log : List (Entry K V)) → is_first ≡ ((moment log).events == 0) → Holds terms (moment log) old → is_kept_out terms event (moment log) ≡ false
+      (terms : Terms) (log : List (Entry K V)) → is_first ≡ ((moment log).events == 0) → Holds terms (moment log) old → (moment log).is_closed ≡ false
       → Happens terms log (entry_of event played) new
 
   -- and after it the scheduler is as the next one asks

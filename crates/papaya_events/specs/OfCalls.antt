@@ -12,7 +12,7 @@ use Rattle.papaya_folded.specs.Given.Schedules.declared.effect.Effect.{Effect}
 use Rattle.papaya_folded.specs.Given.Schedules.declared.event.Event.{Event}
 use Rattle.papaya_folded.specs.Given.Schedules.After.{moment}
 use Rattle.papaya_folded.specs.Given.Schedules.Entry.{Entry}
-use Rattle.papaya_folded.specs.Given.Schedules.InTurn.{ComesRight, is_kept_out}
+use Rattle.papaya_folded.specs.Given.Schedules.InTurn.{ComesRight}
 use Rattle.papaya_folded.specs.Given.Schedules.declared.effect.Thing.{Thing}
 use Rattle.papaya_folded.specs.Given.Schedules.Model.{things_in}
 use Rattle.papaya_folded.specs.Given.Schedules.Moment.{UnderWay as CallThere, Moment}
@@ -96,7 +96,7 @@ module _ {K V S : Type 0} (same : K → K → Bool) (hash : K → ℕ) where
   -- What is promised of an event of a call that is in turn: it finds what it must to come to what is right; and if it does, it keeps its promises, and the run goes on.
   abbrev pub KeepsDue : Event K V → Played V → (old new : Scheduler K V S) → Type 0
   KeepsDue event played old new =
-      (terms : Terms) (log : List (Entry K V)) → Runs same hash terms log old → is_kept_out terms event (moment log) ≡ false
+      (terms : Terms) (log : List (Entry K V)) → Runs same hash terms log old → (moment log).is_closed ≡ false
       → FindsRight terms log (entry_of event played) × (ComesRight terms log (entry_of event played) → RunsOn same hash terms log (entry_of event played) new)
 
   -- And so it is of one that is kept out.

@@ -4,7 +4,7 @@ use Rattle.papaya_folded.specs.Given.Schedules.declared.event.Event.{Event}
 use Rattle.papaya_folded.specs.Given.Schedules.declared.event.Event.TheVariants.{DropGuard, EndMap, Enter, Flush, MakeMap, Own, Refresh, Register, Unregister}
 use Rattle.papaya_folded.specs.Given.Schedules.After.{moment}
 use Rattle.papaya_folded.specs.Given.Schedules.Entry.{Entry}
-use Rattle.papaya_folded.specs.Given.Schedules.InTurn.{ComesRight, is_kept_out}
+use Rattle.papaya_folded.specs.Given.Schedules.InTurn.{ComesRight}
 use Rattle.papaya_folded.specs.Given.Schedules.Terms.{Terms}
 use Rattle.papaya_scheduler.specs.Played.{IsPlayed, entry_of}
 use Rattle.papaya_scheduler.specs.declared.played.Played.{Played}
@@ -30,7 +30,7 @@ module _ {K V S : Type 0} (same : K → K → Bool) (hash : K → ℕ) where
   -- What is promised of one that is in turn, if it comes to what is right: it keeps its promises, and the run goes on.
   abbrev pub KeepsRun : Event K V → Played V → (old new : Scheduler K V S) → Type 0
   KeepsRun event played old new =
-      is_of_rows event ≡ true → (terms : Terms) (log : List (Entry K V)) → Holds same hash terms (moment log) old → Runs same hash terms log old → is_kept_out terms event (moment log) ≡ false
+      is_of_rows event ≡ true → (terms : Terms) (log : List (Entry K V)) → Holds same hash terms (moment log) old → Runs same hash terms log old → (moment log).is_closed ≡ false
       → IsPlayed same hash terms (entry_of event played ∷ log) new → ComesRight terms log (entry_of event played) → RunsOn same hash terms log (entry_of event played) new
 
   -- and so of one that is kept out

@@ -17,7 +17,7 @@ use Rattle.papaya_settles.specs.Given.Schedules.declared.outcome.Outcome.TheVari
 use Rattle.papaya_settles.specs.Given.Schedules.After.{moment}
 use Rattle.papaya_settles.specs.Given.Schedules.Beginning.{with_call, with_map, begun}
 use Rattle.papaya_settles.specs.Given.Schedules.Entry.{Entry, is_busy, nameless}
-use Rattle.papaya_settles.specs.Given.Schedules.InTurn.{IsKeptOut, is_kept_out, is_called, ComesTo}
+use Rattle.papaya_settles.specs.Given.Schedules.InTurn.{IsKeptOut, is_called, ComesTo}
 use Rattle.papaya_settles.specs.Given.Schedules.Moment.{UnderWay, MapThere, Moment}
 use Rattle.papaya_settles.specs.Given.Schedules.Terms.{Terms}
 use Rattle.papaya_settles.specs.Given.Schedules.Views.{call_of, map_of, number_of, map_at}
@@ -130,7 +130,7 @@ module _ {K V : Type 0} (terms : Terms) (log : List (Entry K V)) (e : Entry K V)
   m = moment log
 
   abbrev Right : Event K V → Outcome V → Type 0
-  Right event outcome = MatchBool (is_kept_out terms event m) (IsKeptOut event outcome) (ComesTo terms log m e event outcome)
+  Right event outcome = MatchBool m.is_closed (IsKeptOut event outcome) (ComesTo terms log m e event outcome)
 
   -- an event in turn has what it needs
   pub in_turn : (turn : Bool) (Wanted : Type 0) (outcome : Outcome V) → MatchBool turn Wanted (outcome ≡ Refused Busy) → is_busy outcome ≡ false → turn ≡ true
@@ -143,7 +143,7 @@ module _ {K V : Type 0} (terms : Terms) (log : List (Entry K V)) (e : Entry K V)
   not_kept_out false Out In outcome so right calm = right
 
   pub makes_new : (event : Event K V) (outcome : Outcome V) → Right event outcome → MakesNew event outcome m
-  makes_new (MakeMap name mode capacity) Done right = by (is_kept_out terms (MakeMap name mode capacity) m) right
+  makes_new (MakeMap name mode capacity) Done right = by m.is_closed right
     where
       by : (q : Bool) → MatchBool q (IsKeptOut {K = K} (MakeMap name mode capacity) (was_done V)) (ComesTo terms log m e (MakeMap name mode capacity) (was_done V)) → map_of name m ≡ None
       by true out = absurd (let busy = of_fault V (map_fault mode capacity) (was_done V ≡ Refused Busy) out in cc busy)
@@ -155,7 +155,7 @@ module _ {K V : Type 0} (terms : Terms) (log : List (Entry K V)) (e : Entry K V)
   ends_uncalled name right = by (is_called (number_of name m) m) refl
     where
       turn : (is_some (map_of name m) && not (is_called (number_of name m) m)) ≡ true
-      turn = in_turn _ _ Done (not_kept_out (is_kept_out terms (EndMap name) m) _ _ Done (λ out. out) right refl) refl
+      turn = in_turn _ _ Done (not_kept_out m.is_closed _ _ Done (λ out. out) right refl) refl
 
       by : (q : Bool) → is_called (number_of name m) m ≡ q → is_called (number_of name m) m ≡ false
       by true is = absurd (let two = (and_parts (is_some (map_of name m)) (not (is_called (number_of name m) m)) turn).1 in let no_more : not (is_called (number_of name m) m) ≡ false = ap not is in cc (two, no_more))
@@ -164,11 +164,11 @@ module _ {K V : Type 0} (terms : Terms) (log : List (Entry K V)) (e : Entry K V)
   pub all_begun : (event : Event K V) (outcome : Outcome V) → Right event outcome → AllIsInOrder m → AllIsInOrder (begun event outcome m)
   all_begun (MakeMap name mode capacity) Done right h = makes m h _ refl refl (makes_new (MakeMap name mode capacity) Done right)
   all_begun (Begin caller guard name call) Goes right h =
-      begins m h caller guard call name (and_parts (is_none (call_of caller m)) _ (and_parts _ _ (in_turn _ _ Goes (not_kept_out (is_kept_out terms (Begin caller guard name call) m) _ _ Goes (λ out. out) right refl) refl)).0).0
+      begins m h caller guard call name (and_parts (is_none (call_of caller m)) _ (and_parts _ _ (in_turn _ _ Goes (not_kept_out m.is_closed _ _ Goes (λ out. out) right refl) refl)).0).0
   all_begun (OneCall guard name call) outcome right h = by (is_busy outcome) refl
     where
       by : (q : Bool) → is_busy outcome ≡ q → AllIsInOrder (if q then m else with_call nameless guard call (number_of name m) m)
       by true busy = h
       by false calm =
-          begins m h nameless guard call name (and_parts (is_none (call_of nameless m)) _ (and_parts _ _ (in_turn _ _ outcome (not_kept_out (is_kept_out terms (OneCall guard name call) m) _ _ outcome (λ out. out) right calm) calm)).0).0
+          begins m h nameless guard call name (and_parts (is_none (call_of nameless m)) _ (and_parts _ _ (in_turn _ _ outcome (not_kept_out m.is_closed _ _ outcome (λ out. out) right calm) calm)).0).0
   all_begun _ _ right h = h

@@ -13,11 +13,11 @@ use Rattle.papaya_settles.specs.Given.Schedules.declared.event.Event.{Event}
 use Rattle.papaya_settles.specs.Given.Schedules.declared.event.Event.TheVariants as event
 use Rattle.papaya_settles.specs.Given.Schedules.declared.outcome.Outcome.{Outcome}
 use Rattle.papaya_settles.specs.Given.Schedules.declared.outcome.Outcome.TheVariants.{Done, Refused}
-use Rattle.papaya_settles.specs.Given.Schedules.After.{calls_on, closed_on, after, moment, is_by}
+use Rattle.papaya_settles.specs.Given.Schedules.After.{calls_on, closed_on, after, moment}
 use Rattle.papaya_settles.specs.Given.Schedules.Effects.{maps_by, with_effect, with_effects, worked}
-use Rattle.papaya_settles.specs.Given.Schedules.Entry.{Entry, speaker}
+use Rattle.papaya_settles.specs.Given.Schedules.Entry.{Entry}
 use Rattle.papaya_settles.specs.Given.Schedules.Handing.{IsWhole}
-use Rattle.papaya_settles.specs.Given.Schedules.InTurn.{is_growth, is_kept_out, IsKeptOut, ComesTo}
+use Rattle.papaya_settles.specs.Given.Schedules.InTurn.{is_growth, IsKeptOut, ComesTo}
 use Rattle.papaya_settles.specs.Given.Schedules.InUse.{is_left}
 use Rattle.papaya_settles.specs.Given.Schedules.Lists.{is_empty}
 use Rattle.papaya_settles.specs.Given.Schedules.Moment.{Place, TableThere, Moment}
@@ -130,16 +130,16 @@ module _ {K V : Type 0} where
     abbrev m : Moment K V
     m = moment log
 
-    closes : (steps : ℕ) (effects : List Effect) → MatchBool (is_kept_out terms event.Close m) (was_done V ≡ Refused Busy) (ComesTo terms log m (entry event.Close (was_done V) steps effects) event.Close (was_done V)) → m.maps ≡ []
+    closes : (steps : ℕ) (effects : List Effect) → MatchBool m.is_closed (was_done V ≡ Refused Busy) (ComesTo terms log m (entry event.Close (was_done V) steps effects) event.Close (was_done V)) → m.maps ≡ []
     closes steps effects right =
         none_there m.maps (and_parts (is_left m) (is_empty m.maps) (in_turn terms log (entry event.Close (was_done V) steps effects) (is_left m && is_empty m.maps) (was_done V ≡ Done) (was_done V)
-        (not_kept_out terms log (entry event.Close (was_done V) steps effects) (is_kept_out terms event.Close m) (was_done V ≡ Refused Busy) _ (was_done V) (λ out. out) right refl) refl)).1
+        (not_kept_out terms log (entry event.Close (was_done V) steps effects) m.is_closed (was_done V ≡ Refused Busy) _ (was_done V) (λ out. out) right refl) refl)).1
 
     over_back : (its : Event K V) (came : Outcome V) (steps : ℕ) (effects : List Effect) → GoesInOrder terms log (entry its came steps effects) → ReclaimsAll log (entry its came steps effects)
         → (q : Bool) → m.is_closed ≡ q → (q ≡ true → Back m) → closed_on its came q ≡ true → Back (after (entry its came steps effects) m)
     over_back its came steps effects goes reclaims true is before closed =
         stays its came steps effects m
-        (subst (λ (q : Bool). MatchBool (q || (terms.is_one_by_one && not (list_all (is_by (speaker its)) m.calls))) (IsKeptOut its came) (ComesTo terms log m (entry its came steps effects) its came)) is goes.right)
+        (subst (λ (q : Bool). MatchBool q (IsKeptOut its came) (ComesTo terms log m (entry its came steps effects) its came)) is goes.right)
         goes.life.whole (before refl)
     over_back event.Close Done steps effects goes reclaims false is before closed = (reclaims.0, none_stay None effects m (closes steps effects goes.right))
     over_back _ _ steps effects goes reclaims false is before closed = absurd (cc closed)

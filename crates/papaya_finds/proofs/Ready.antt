@@ -16,7 +16,6 @@ use Rattle.papaya_settles.specs.Given.Schedules.Coming.{Progresses, is_ready, sh
 use Rattle.papaya_settles.specs.Given.Schedules.Effects.{call_by, calls_by, with_effect, with_effects, worked}
 use Rattle.papaya_settles.specs.Given.Schedules.Entry.{Entry, is_busy, nameless, ByCall, IfCall, ends_call, caller_of, acting, acted_on}
 use Rattle.papaya_settles.specs.Given.Schedules.Handing.{IsWhole, LeavesOf, comes_clear}
-use Rattle.papaya_settles.specs.Given.Schedules.InTurn.{is_kept_out}
 use Rattle.papaya_settles.specs.Given.Schedules.Moment.{Stands, Going, Asking, Told, IsReady, UnderWay, Moment}
 use Rattle.papaya_settles.specs.Given.Schedules.Terms.{Terms}
 use Rattle.papaya_settles.specs.Given.Schedules.Views.{call_of, number_of}
@@ -243,7 +242,7 @@ module _ {K V : Type 0} (terms : Terms) (log : List (Entry K V)) where
     where
       turn : shows_now (call_of caller m) ≡ true
       turn = in_turn terms log (entry (event.Stop caller) outcome.Done steps effects) (shows_now (call_of caller m)) (was_done V ≡ outcome.Done) (was_done V)
-          (not_kept_out terms log (entry (event.Stop caller) outcome.Done steps effects) (is_kept_out terms (event.Stop caller) m) (was_done V ≡ outcome.Refused Busy) _ (was_done V) (λ out. out) goes.right refl) refl
+          (not_kept_out terms log (entry (event.Stop caller) outcome.Done steps effects) m.is_closed (was_done V ≡ outcome.Refused Busy) _ (was_done V) (λ out. out) goes.right refl) refl
 
       by : (o : Option (UnderWay K V)) → call_of caller m ≡ o → shows_now o ≡ true → IfCall (λ (c : UnderWay K V). c.owes ≡ []) o
       by None is shows = tt

@@ -21,7 +21,6 @@ use Rattle.papaya_grows.specs.Given.Schedules.Effects.{AtEachEffect, all_at, in_
 use Rattle.papaya_grows.specs.Given.Schedules.Entry.{Entry, ByCall, acted_on, acting, caller_of, is_busy, nameless}
 use Rattle.papaya_grows.specs.Given.Schedules.Growing.{only_looks}
 use Rattle.papaya_grows.specs.Given.Schedules.Handing.{gives_all, is_ending, is_only, may_do, moments_of, IsWhole}
-use Rattle.papaya_grows.specs.Given.Schedules.InTurn.{is_kept_out}
 use Rattle.papaya_grows.specs.Given.Schedules.Lists.{is_among, is_in, put}
 use Rattle.papaya_grows.specs.Given.Schedules.Lives.{Finds, MayReclaim}
 use Rattle.papaya_grows.specs.Given.Schedules.Moment.{Place, Unborn, InMap, Out, Handed, Behind, Left, GivenBack, Deferral, Remains, UnderWay, Moment}
@@ -405,14 +404,14 @@ module _ {K V : Type 0} (terms : Terms) (log : List (Entry K V)) where
   tells_left : (its : Event K V) (came : Outcome V) (steps : ℕ) (effects : List Effect) → Goes_so its came steps effects → ReclaimsAll log (entry its came steps effects) → AllIsInOrder m → LeftIsTold m
       → Tells its came steps effects
   tells_left (event.EndMap own) came steps effects goes reclaims order before =
-      elim (done_or_busy (is_kept_out terms (event.EndMap own) m) _ came goes.right) as (λ _. Tells (event.EndMap own) came steps effects) [
+      elim (done_or_busy m.is_closed _ came goes.right) as (λ _. Tells (event.EndMap own) came steps effects) [
         | inl done ↦ subst (λ (o : Outcome V). Goes_so (event.EndMap own) o steps effects → Tells (event.EndMap own) o steps effects) (sym done) (λ its. end_tells own steps effects its before) goes
         | inr busy ↦
             subst (λ (o : Outcome V). Goes_so (event.EndMap own) o steps effects → Tells (event.EndMap own) o steps effects) (sym busy)
             (λ its. busy_tells (event.EndMap own) steps effects refl its before) goes
       ]
   tells_left event.ReclaimAll came steps effects goes reclaims order before =
-      elim (done_or_busy (is_kept_out terms event.ReclaimAll m) _ came goes.right) as (λ _. Tells event.ReclaimAll came steps effects) [
+      elim (done_or_busy m.is_closed _ came goes.right) as (λ _. Tells event.ReclaimAll came steps effects) [
         | inl done ↦
             subst (λ (o : Outcome V). ReclaimsAll log (entry event.ReclaimAll o steps effects) → Tells event.ReclaimAll o steps effects) (sym done) (λ its n. its.0.nothing.left n) reclaims
         | inr busy ↦
@@ -420,7 +419,7 @@ module _ {K V : Type 0} (terms : Terms) (log : List (Entry K V)) where
             (λ its. busy_tells event.ReclaimAll steps effects refl its before) goes
       ]
   tells_left event.Close came steps effects goes reclaims order before =
-      elim (done_or_busy (is_kept_out terms event.Close m) _ came goes.right) as (λ _. Tells event.Close came steps effects) [
+      elim (done_or_busy m.is_closed _ came goes.right) as (λ _. Tells event.Close came steps effects) [
         | inl done ↦ subst (λ (o : Outcome V). ReclaimsAll log (entry event.Close o steps effects) → Tells event.Close o steps effects) (sym done) (λ its n. its.0.nothing.left n) reclaims
         | inr busy ↦
             subst (λ (o : Outcome V). Goes_so event.Close o steps effects → Tells event.Close o steps effects) (sym busy) (λ its. busy_tells event.Close steps effects refl its before) goes

@@ -23,7 +23,7 @@ use Rattle.papaya_schedules.specs.After.{is_alone_on, moment}
 use Rattle.papaya_schedules.specs.Beginning.{used_roots, with_map}
 use Rattle.papaya_schedules.specs.Effects.{with_effects}
 use Rattle.papaya_schedules.specs.Entry.{Entry, is_busy}
-use Rattle.papaya_schedules.specs.InTurn.{InTurn, IsMade, has_grown, may_make}
+use Rattle.papaya_schedules.specs.InTurn.{InTurn, IsMade, has_grown}
 use Rattle.papaya_schedules.specs.Lists.{is_among, least_free}
 use Rattle.papaya_schedules.specs.Moment.{MapThere, Moment}
 use Rattle.papaya_schedules.specs.Terms.{Terms}
@@ -47,7 +47,7 @@ use Rattle.papaya_scheduler.specs.Given.Logged.declared.logged.Logged.{Logged}
 use Rattle.papaya_scheduler.proofs.Given.Rows.Elsewhere.{elsewhere}
 use Rattle.papaya_scheduler.proofs.Given.Rows.Least.{least_is}
 use Rattle.papaya_scheduler.proofs.Given.Rows.Lists.{all_so}
-use Rattle.papaya_scheduler.specs.Mapping.{CountsMaps, IsGivenFor, MayMap, may_make_of}
+use Rattle.papaya_scheduler.specs.Mapping.{CountsMaps, IsGivenFor, MayMap}
 use Rattle.papaya_scheduler.specs.Played.{Plays, StandsFor}
 use Rattle.papaya_scheduler.specs.Quiet.{IsQuiet}
 use Rattle.papaya_named.specs.Seen.{named, named_of}
@@ -89,7 +89,7 @@ module _ {K V S : Type 0} (same : K → K → Bool) (hash : K → ℕ) (terms : 
 
   -- what it comes to that has no fault, and what one that has
   abbrev Comes : List Effect → Outcome V → Option Fault → Type 0
-  Comes did o found = MatchOption found (InTurn (may_make terms.is_one_map own m) (Wanted did) o) (λ fault. o ≡ Refused fault)
+  Comes did o found = MatchOption found (InTurn (is_none (map_of own m)) (Wanted did) o) (λ fault. o ≡ Refused fault)
 
   refused : (fault : Fault) → Comes [] (Refused fault) (map_fault mode capacity) → Plays same hash terms log (quiet event (Refused fault)) p1
   refused fault comes = plays same hash terms log event p1 may.due (quiet event (Refused fault)) refl comes (faulty_stands same hash terms m p stands own mode capacity fault)
@@ -100,22 +100,19 @@ module _ {K V S : Type 0} (same : K → K → Bool) (hash : K → ℕ) (terms : 
   roots_are : terms.roots ≡ p.logged.executor.roots
   roots_are = sym (ap (λ (t : Terms). t.roots) stands.given) ∙ sym counts.roots
 
-  may_make_is : may_make terms.is_one_map own m ≡ may_make_of own p.given.is_one_map (length p.logged.executor.maps.items) p.maps.items
-  may_make_is =
-      ap (λ (one : Bool). may_make one own m) (sym (ap (λ (t : Terms). t.is_one_map) stands.given))
-      ∙ ap (λ (n : ℕ). is_none (map_of own m) && not (p.given.is_one_map && nat_lt 0 n)) (sym counts.next)
-      ∙ ap (λ (q : Bool). not q && not (p.given.is_one_map && nat_lt 0 (length p.logged.executor.maps.items))) (map_some same hash terms m p stands own)
+  may_make_is : is_none (map_of own m) ≡ is_none (number_named own p.maps.items)
+  may_make_is = ap not (map_some same hash terms m p stands own)
 
   module _ (none : map_fault mode capacity ≡ None) where
-    faultless : (did : List Effect) (o : Outcome V) → InTurn (may_make terms.is_one_map own m) (Wanted did) o → Comes did o (map_fault mode capacity)
+    faultless : (did : List Effect) (o : Outcome V) → InTurn (is_none (map_of own m)) (Wanted did) o → Comes did o (map_fault mode capacity)
     faultless did o turn = subst (Comes did o) (sym none) turn
 
-    pub not_now : may_make_of own p.given.is_one_map (length p.logged.executor.maps.items) p.maps.items ≡ false → Plays same hash terms log (quiet event (Refused Busy)) p1
-    not_now out = refused Busy (faultless [] (Refused Busy) (out_of_turn (Wanted []) (may_make terms.is_one_map own m) (Refused Busy) (may_make_is ∙ out) refl))
+    pub not_now : is_none (number_named own p.maps.items) ≡ false → Plays same hash terms log (quiet event (Refused Busy)) p1
+    not_now out = refused Busy (faultless [] (Refused Busy) (out_of_turn (Wanted []) (is_none (map_of own m)) (Refused Busy) (may_make_is ∙ out) refl))
 
-    module _ (in_its_turn : may_make_of own p.given.is_one_map (length p.logged.executor.maps.items) p.maps.items ≡ true) where
+    module _ (in_its_turn : is_none (number_named own p.maps.items) ≡ true) where
       turns : (did : List Effect) (o : Outcome V) → Wanted did o → Comes did o (map_fault mode capacity)
-      turns did o so = faultless did o (in_turn (Wanted did) (may_make terms.is_one_map own m) o (may_make_is ∙ in_its_turn) so)
+      turns did o so = faultless did o (in_turn (Wanted did) (is_none (map_of own m)) o (may_make_is ∙ in_its_turn) so)
 
       -- all roots are used, or one is free
       abbrev By : List Effect → Outcome V → Bool → Type 0

@@ -1,10 +1,11 @@
 //! Maps are made.
-ghost use Rattle.std.specs.Prelude.{◌≡◌, ◌≤◌, ◌^◌, ℕ, Bool, List, length, IfOk};
+ghost use Rattle.std.specs.Prelude.{◌≡◌, ◌≤◌, ◌^◌, ℕ, Bool, List, is_none, length, IfOk};
 ghost use Rattle.papaya_schedules.specs.Entry.{Entry};
 ghost use Rattle.papaya_schedules.specs.Terms.{Terms};
 ghost use Rattle.papaya_schedules.specs.declared.event.Event.TheVariants as event;
 ghost use Rattle.papaya_scheduler.specs.Given.Executor.IsAt.{StaysGiven};
-ghost use Rattle.papaya_scheduler.specs.Mapping.{MayMap, PlaysMaking, IsGivenFor, may_make_of, numbers_made};
+ghost use Rattle.papaya_scheduler.specs.Mapping.{MayMap, PlaysMaking, IsGivenFor, numbers_made};
+ghost use Rattle.papaya_named.specs.Seen.{number_named};
 ghost use Rattle.papaya_scheduler.specs.Quiet.{IsQuiet};
 ghost use Rattle.papaya_scheduler.specs.Works.{WorksOnMap};
 
@@ -19,14 +20,11 @@ use seize::Progress;
 use seize_words::Fault;
 use std::alloc::AllocError;
 
-/// Whether a map of this name can be made: none has it, and there may be one more.
+/// Whether a map of this name can be made: none has it.
 fn may_make<K: Drop, V: Drop, S>(scheduler: &Scheduler<K, V, S>, map: &Token) -> bool
-    ensures { result ≡ may_make_of map.now scheduler.now.given.is_one_map (length scheduler.now.logged.executor.maps.items) scheduler.now.maps.items }
+    ensures { result ≡ is_none (number_named map.now scheduler.now.maps.items) }
 {
-    if scheduler.number_of(map).is_some() {
-        return false;
-    }
-    !(scheduler.given.is_one_map && !scheduler.logged.executor.maps.is_empty())
+    scheduler.number_of(map).is_none()
 }
 
 /// With what a map begins that is to have so many places at first.
@@ -35,7 +33,7 @@ fn setting_for<K: Drop, V: Drop, S>(
     mode: ResizeMode,
     places: u64,
 ) -> Setting
-    requires { scheduler.now.given.setup.processors ≤ 2 ^ 63 }
+    requires { scheduler.now.setup.processors ≤ 2 ^ 63 }
     ensures { IsGivenFor mode places scheduler.now result }
 {
     Setting {
@@ -44,7 +42,7 @@ fn setting_for<K: Drop, V: Drop, S>(
         root: 0,
         mode,
         counter: 0,
-        mask: Counter::new(scheduler.given.setup.processors).mask,
+        mask: Counter::new(scheduler.setup.processors).mask,
         initial: places.max(1),
     }
 }

@@ -1,5 +1,4 @@
 pub mod Seen
 pub mod Machines
 pub mod Telling
-pub mod Turns
 pub mod Places

@@ -7,4 +7,3 @@ pub mod machines;
 pub mod named_map;
 pub mod places;
 pub mod telling;
-pub mod turns;

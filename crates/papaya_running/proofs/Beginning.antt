@@ -30,7 +30,7 @@ use Rattle.papaya_scheduler.specs.First.{HasJustBegun}
 use Rattle.papaya_scheduler.specs.Mapping.{CountsMaps}
 use Rattle.papaya_scheduler.specs.Played.{IsPlayed, StandsFor, terms_given}
 use Rattle.papaya_scheduler.specs.Reclaiming.{MayGiveAll}
-use Rattle.papaya_scheduler.specs.declared.scheduler.Given.{Given}
+use Rattle.papaya_runs.specs.declared.event.Setup.{Setup}
 use Rattle.papaya_scheduler.specs.declared.scheduler.Scheduler.{Scheduler}
 use Rattle.papaya_scheduler.proofs.Chosen.{stands_chosen}
 use Rattle.papaya_named.specs.Seen.{seen, seen_of}
@@ -41,73 +41,73 @@ use Rattle.papaya_running.specs.Run.{bounded}
 use Rattle.papaya_events.proofs.OfCalls.Scenes.{its_named, stands_in}
 
 -- Nothing is under way in a world that came about by what was chosen of numbers of blocks.
-pub record BeginsIn {K V S : Type 0} (same : K → K → Bool) (hash : K → ℕ) (given : Given) (p : Scheduler K V S) : Type 0 where
+pub record BeginsIn {K V S : Type 0} (same : K → K → Bool) (hash : K → ℕ) (setup : Setup) (p : Scheduler K V S) : Type 0 where
   pub world : World (Node K V)
-  pub shown : (name : ℕ → List ℕ) → IsShown same hash name start p.logged (record (at_first given.setup.roots) { world = world })
-  pub came : CameByTurns deferred_word given.setup.batch_size given.setup.roots world []
+  pub shown : (name : ℕ → List ℕ) → IsShown same hash name start p.logged (record (at_first setup.roots) { world = world })
+  pub came : CameByTurns deferred_word setup.batch_size setup.roots world []
 
 -- Nothing has happened, whatever keys and hashes are.
-pub record Begins {K V S : Type 0} (given : Given) (p : Scheduler K V S) : Type 0 where
-  pub played : (same : K → K → Bool) (hash : K → ℕ) → IsPlayed same hash (terms_given given) [] p
-  pub begun : HasJustBegun given p
-  pub first : (same : K → K → Bool) (hash : K → ℕ) → BeginsIn same hash given p
+pub record Begins {K V S : Type 0} (setup : Setup) (p : Scheduler K V S) : Type 0 where
+  pub played : (same : K → K → Bool) (hash : K → ℕ) → IsPlayed same hash (terms_given setup) [] p
+  pub begun : HasJustBegun setup p
+  pub first : (same : K → K → Bool) (hash : K → ℕ) → BeginsIn same hash setup p
 
 -- So it is as a scheduler was made,
-pub begins_first : {K V S : Type 0} (given : Given) (p : Scheduler K V S) → ((same : K → K → Bool) (hash : K → ℕ) → IsPlayed same hash (terms_given given) [] p) → HasJustBegun given p
-    → ((same : K → K → Bool) (hash : K → ℕ) (name : ℕ → List ℕ) → IsShown same hash name start p.logged (at_first given.setup.roots)) → Begins given p
-begins_first {K} {V} given p played begun shown = record {
+pub begins_first : {K V S : Type 0} (setup : Setup) (p : Scheduler K V S) → ((same : K → K → Bool) (hash : K → ℕ) → IsPlayed same hash (terms_given setup) [] p) → HasJustBegun setup p
+    → ((same : K → K → Bool) (hash : K → ℕ) (name : ℕ → List ℕ) → IsShown same hash name start p.logged (at_first setup.roots)) → Begins setup p
+begins_first {K} {V} setup p played begun shown = record {
   played = played;
   begun = begun;
   first = λ same hash. record {
-    world = (at_first {K = K} {V = V} given.setup.roots).world;
+    world = (at_first {K = K} {V = V} setup.roots).world;
     shown = shown same hash;
-    came = turns_begin deferred_word given.setup.batch_size given.setup.roots;
+    came = turns_begin deferred_word setup.batch_size setup.roots;
   };
 }
 
 -- and after a choice of a block's number, too.
-pub still_begins : {K V S : Type 0} (given : Given) (p : Scheduler K V S) → Begins given p → (choice : ℕ) (logged : Logged K V S) → logged ≡ logged_chosen choice p.logged
-    → Begins given (record p { logged = logged })
-still_begins {K} {V} {S} given p begins choice logged is =
+pub still_begins : {K V S : Type 0} (setup : Setup) (p : Scheduler K V S) → Begins setup p → (choice : ℕ) (logged : Logged K V S) → logged ≡ logged_chosen choice p.logged
+    → Begins setup (record p { logged = logged })
+still_begins {K} {V} {S} setup p begins choice logged is =
     let b = begins.begun in
-    subst (λ (l : Logged K V S). Begins given (record p { logged = l })) (sym is) (record {
-      played = λ same hash. stands_chosen same hash (terms_given given) start p (begins.played same hash) choice;
+    subst (λ (l : Logged K V S). Begins setup (record p { logged = l })) (sym is) (record {
+      played = λ same hash. stands_chosen same hash (terms_given setup) start p (begins.played same hash) choice;
       begun = record { maps = b.maps; known_is = b.known_is; many = b.many; batches = b.batches; free = b.free; nowhere = b.nowhere; slots = b.slots };
       first = λ same hash.
           let f = begins.first same hash in
           record {
             world = record f.world { memory = memory_chosen choice f.world.memory };
-            shown = λ name. choice_shown choice p.logged same hash name start (record (at_first given.setup.roots) { world = f.world }) (f.shown name);
+            shown = λ name. choice_shown choice p.logged same hash name start (record (at_first setup.roots) { world = f.world }) (f.shown name);
             came =
-                events_follow deferred_word given.setup.batch_size given.setup.roots f.world (record f.world { memory = memory_chosen choice f.world.memory }) [] f.came (Chooses choice) tt refl;
+                events_follow deferred_word setup.batch_size setup.roots f.world (record f.world { memory = memory_chosen choice f.world.memory }) [] f.came (Chooses choice) tt refl;
           };
     })
 
-module _ {K V S : Type 0} (same : K → K → Bool) (hash : K → ℕ) (given : Given) (p : Scheduler K V S) (begins : Begins given p) where
+module _ {K V S : Type 0} (same : K → K → Bool) (hash : K → ℕ) (setup : Setup) (p : Scheduler K V S) (begins : Begins setup p) where
   abbrev memory : Mem (Node K V)
   memory = p.logged.executor.memory.memory
 
   abbrev roots : ℕ
   roots = p.logged.executor.roots
 
-  abbrev stands : StandsFor same hash (terms_given given) start p
+  abbrev stands : StandsFor same hash (terms_given setup) start p
   stands = begins.played same hash
 
-  below : (r : ℕ) → r < roots → r < given.setup.roots
+  below : (r : ℕ) → r < roots → r < setup.roots
   below r l = subst (λ (n : ℕ). r < n) begins.begun.many l
 
   -- each root is free, and leads nowhere
   free : (r : ℕ) → r < roots → word_at memory (Used r) ≡ Some 0
-  free r l = ap (λ (l : List ℕ). slice_get l r) begins.begun.free ∙ zero_at given.setup.roots r (below r l)
+  free r l = ap (λ (l : List ℕ). slice_get l r) begins.begun.free ∙ zero_at setup.roots r (below r l)
 
   nowhere : (r : ℕ) → r < roots → word_at memory (Root r) ≡ Some 0
-  nowhere r l = ap (λ (l : List ℕ). slice_get l r) begins.begun.nowhere ∙ zero_at given.setup.roots r (below r l)
+  nowhere r l = ap (λ (l : List ℕ). slice_get l r) begins.begun.nowhere ∙ zero_at setup.roots r (below r l)
 
   -- the run is made with what was given
-  many : roots ≡ p.given.setup.roots
+  many : roots ≡ p.setup.roots
   many = begins.begun.many ∙ sym (ap (λ (t : Terms). t.roots) stands.given)
 
-  counts : given.setup.processors ≤ 2 ^ 63 → CountsMaps start p
+  counts : setup.processors ≤ 2 ^ 63 → CountsMaps start p
   counts few = record {
     apart = record { numbers = numbers_begin K V; names = λ own. omega arith };
     pairs = pairs_begin K V;
@@ -135,14 +135,14 @@ module _ {K V S : Type 0} (same : K → K → Bool) (hash : K → ℕ) (given : 
       }
 
   -- the run is as the first event needs
-  first : BeginsIn same hash given p
+  first : BeginsIn same hash setup p
   first = begins.first same hash
 
-  no_shards : HaveShards (terms_given given) p.logged.executor
+  no_shards : HaveShards (terms_given setup) p.logged.executor
   no_shards n setting is = absurd (let none = ap (λ (xs : List (Option Setting)). slice_index_or xs n None) begins.begun.maps in cc (none, is))
 
   -- no call is under way
-  no_values : (calls : List (Caller V)) → map seen (start {K = K} {V = V}).calls ≡ map seen_of calls → HaveValues (start {K = K} {V = V}) (record (at_first given.setup.roots) { world = first.world }) calls
+  no_values : (calls : List (Caller V)) → map seen (start {K = K} {V = V}).calls ≡ map seen_of calls → HaveValues (start {K = K} {V = V}) (record (at_first setup.roots) { world = first.world }) calls
   no_values [] alike = tt
   no_values (d ∷ calls) alike = absurd (cc alike)
 
@@ -154,11 +154,11 @@ module _ {K V S : Type 0} (same : K → K → Bool) (hash : K → ℕ) (given : 
         λ s head l is. absurd (let none : slot_word memory.slots s HEAD ≡ None = ap (λ (slots : List (List ℕ)). slot_word slots s HEAD) begins.begun.slots in cc (none, is)),
       )
 
-  pub first_runs : Runs same hash (terms_given given) [] p
+  pub first_runs : Runs same hash (terms_given setup) [] p
   first_runs = record {
-    stands = stands_in same hash (terms_given given) start p stands stands.name (record (at_first given.setup.roots) { world = first.world }) (first.shown stands.name)
-        (its_named same hash (terms_given given) start p stands);
-    shows = runs_begin_in K V same (terms_given given) stands.name (known p.logged.notes) first.world (first.shown stands.name).shows (first.shown stands.name).kept first.came;
+    stands = stands_in same hash (terms_given setup) start p stands stands.name (record (at_first setup.roots) { world = first.world }) (first.shown stands.name)
+        (its_named same hash (terms_given setup) start p stands);
+    shows = runs_begin_in K V same (terms_given setup) stands.name (known p.logged.notes) first.world (first.shown stands.name).shows (first.shown stands.name).kept first.came;
     come = nothing_has_come K V;
     values = no_values p.calls.items.items stands.calls.listed;
     taken = none_taken;
@@ -168,12 +168,12 @@ module _ {K V S : Type 0} (same : K → K → Bool) (hash : K → ℕ) (given : 
   }
 
   -- all that events ask of it, where keys have lawful hashes, and processors are not too many
-  pub first_holds : AreLawful same hash → given.setup.processors ≤ 2 ^ 63 → Holds same hash (terms_given given) start p
+  pub first_holds : AreLawful same hash → setup.processors ≤ 2 ^ 63 → Holds same hash (terms_given setup) start p
   first_holds lawful few = record { stands = stands; lawful = lawful; counts = counts few; gives = gives }
 
 -- as many as a run is made with are not
-pub are_few : (given : Given) → (bounded given).setup.processors ≤ 2 ^ 63
-are_few given = at_most given.setup.processors (2 ^ 63)
+pub are_few : (setup : Setup) → (bounded setup).processors ≤ 2 ^ 63
+are_few setup = at_most setup.processors (2 ^ 63)
   where
     at_most : (n most : ℕ) → min n most ≤ most
     at_most n most = omega arith

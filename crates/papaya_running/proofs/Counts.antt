@@ -16,7 +16,7 @@ use Rattle.papaya_schedules.specs.declared.outcome.Outcome.TheVariants.{Done, Go
 use Rattle.papaya_schedules.specs.After.{maps_on, moment}
 use Rattle.papaya_schedules.specs.Beginning.{begun, used_roots, with_call}
 use Rattle.papaya_schedules.specs.Entry.{Entry, is_busy, nameless}
-use Rattle.papaya_schedules.specs.InTurn.{ComesTo, InTurn, IsKeptOut, IsMade, is_kept_out, may_make}
+use Rattle.papaya_schedules.specs.InTurn.{ComesTo, InTurn, IsKeptOut, IsMade}
 use Rattle.papaya_schedules.specs.Moment.{MapThere, Moment}
 use Rattle.papaya_schedules.specs.Terms.{Terms}
 use Rattle.papaya_schedules.specs.Views.{map_of, number_of}
@@ -84,10 +84,6 @@ more_apart xs x none apart own = by (is_same x.name own) refl (count_more (λ f.
         → length (filter (λ f. is_same f.name own) (xs ++ x ∷ [])) ≤ 1
     by true e long = let no = none_of_it own (same_is x.name own e) in omega (arith, no, long)
     by false e long = let few = apart own in omega (arith, few, long)
-
-none_of_both : {X : Type 0} (o : Option X) (q : Bool) → (is_none o && q) ≡ true → o ≡ None
-none_of_both None q e = refl
-none_of_both (Some x) q e = absurd (cc e)
 
 -- an event that is done is refused nothing
 never_done : (V : Type 0) (fault : Option Fault) → MatchOption fault (◌≡◌ {A = Outcome V} Done (Refused Busy)) (λ f. ◌≡◌ {A = Outcome V} Done (Refused f)) → ⊥
@@ -217,20 +213,20 @@ module _ {K V : Type 0} where
     m = moment log
 
     abbrev Right : Event K V → Outcome V → Type 0
-    Right event o = MatchBool (is_kept_out terms event m) (IsKeptOut event o) (ComesTo terms log m e event o)
+    Right event o = MatchBool m.is_closed (IsKeptOut event o) (ComesTo terms log m e event o)
 
     -- a map that was made has a new name
     new_name : (n : List ℕ) (mode : ResizeMode) (c : ℕ) → Right (MakeMap n mode c) Done → map_of n m ≡ None
-    new_name n mode c right = by (is_kept_out terms (MakeMap n mode c) m) (map_fault mode c) (may_make terms.is_one_map n m) refl right
+    new_name n mode c right = by m.is_closed (map_fault mode c) (map_of n m) refl right
       where
-        by : (out : Bool) (fault : Option Fault) (may : Bool) → may_make terms.is_one_map n m ≡ may
+        by : (out : Bool) (fault : Option Fault) (there : Option MapThere) → map_of n m ≡ there
             → MatchBool out (MatchOption fault (◌≡◌ {A = Outcome V} Done (Refused Busy)) (λ f. ◌≡◌ {A = Outcome V} Done (Refused f)))
-            (MatchOption fault (InTurn {V = V} may (IsMade (nat_lt (length (used_roots m)) terms.roots) e.effects) Done) (λ f. ◌≡◌ {A = Outcome V} Done (Refused f)))
+            (MatchOption fault (InTurn {V = V} (is_none there) (IsMade (nat_lt (length (used_roots m)) terms.roots) e.effects) Done) (λ f. ◌≡◌ {A = Outcome V} Done (Refused f)))
             → map_of n m ≡ None
-        by true fault may is so = absurd (never_done V fault so)
-        by false (Some f) may is so = absurd (cc so)
-        by false None false is so = absurd (cc so)
-        by false None true is so = none_of_both (map_of n m) (not (terms.is_one_map && nat_lt 0 m.made)) is
+        by true fault there is so = absurd (never_done V fault so)
+        by false (Some f) there is so = absurd (cc so)
+        by false None (Some f) is so = absurd (cc so)
+        by false None None is so = is
 
     -- and so does what an event begins
     pub begun_apart : (event : Event K V) (o : Outcome V) → (FindsBy terms log e event → Right event o) → NamesApart (begun event o m).maps

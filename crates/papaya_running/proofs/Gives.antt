@@ -10,10 +10,8 @@ use Rattle.papaya_schedules.specs.After.{moment}
 use Rattle.papaya_schedules.specs.Effects.{pairs_back}
 use Rattle.papaya_logged.specs.Back.{ComesBack}
 use Rattle.papaya_scheduler.specs.Back.{GivesAllBack, GivesBack}
-use Rattle.papaya_scheduler.specs.Turns.{keeps_out}
 use Rattle.papaya_scheduler.specs.declared.played.Played.{Played}
 use Rattle.papaya_scheduler.specs.declared.scheduler.Scheduler.{Scheduler}
-use Rattle.papaya_scheduler.proofs.KeptOut.{kept_out_is}
 use Rattle.papaya_events.specs.Asked.{is_of_calls}
 use Rattle.papaya_running.specs.Back.{GivesAt, GivesDue, ReclaimsBy}
 use Rattle.papaya_running.proofs.Happened.{due_so}
@@ -64,7 +62,7 @@ module _ {K V S : Type 0} (same : K → K → Bool) (hash : K → ℕ) (event : 
   pub gave_out : (played : Played V) (b : List (Pair K V)) → played.effects.items ≡ [] → GivesAt same hash event played old b b
   gave_out played b none terms log holds reclaims = quiet _ played.effects.items b (subst (λ (xs : List Effect). flat_map pairs_back xs ≡ []) (sym none) refl)
 
-  pub gave_in_turn : {X : Type 0} (result : Result (Played V) X) (b0 b1 : List (Pair K V)) → IfOk result (λ played. GivesDue same hash event played old b0 b1) → keeps_out event old ≡ false
+  pub gave_in_turn : {X : Type 0} (result : Result (Played V) X) (b0 b1 : List (Pair K V)) → IfOk result (λ played. GivesDue same hash event played old b0 b1) → old.is_closed ≡ false
       → IfOk result (λ played. GivesAt same hash event played old b0 b1)
-  gave_in_turn (Ok played) b0 b1 gives out = λ terms log holds reclaims. gives terms log holds (kept_out_is same hash terms (moment log) old holds.stands event ∙ out) reclaims
+  gave_in_turn (Ok played) b0 b1 gives out = λ terms log holds reclaims. gives terms log holds (holds.stands.closed ∙ out) reclaims
   gave_in_turn (Err x) b0 b1 gives out = tt

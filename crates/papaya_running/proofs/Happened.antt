@@ -6,7 +6,7 @@ use Rattle.papaya_schedules.specs.declared.event.Event.TheVariants.{Next}
 use Rattle.papaya_schedules.specs.After.{moment}
 use Rattle.papaya_schedules.specs.Beginning.{at_work}
 use Rattle.papaya_schedules.specs.Entry.{Entry, acting, caller_of}
-use Rattle.papaya_schedules.specs.InTurn.{IsKeptOut, is_kept_out}
+use Rattle.papaya_schedules.specs.InTurn.{IsKeptOut}
 use Rattle.papaya_schedules.specs.Steps.{stands_or}
 use Rattle.papaya_schedules.specs.Terms.{Terms}
 use Rattle.papaya_scheduler.specs.KeptOut.{PlaysKeptOut}
@@ -14,24 +14,22 @@ use Rattle.papaya_scheduler.specs.Mapping.{MayMap}
 use Rattle.papaya_scheduler.specs.Played.{IsDue, MayPlay, Plays, entry_of}
 use Rattle.papaya_scheduler.specs.Quiet.{IsQuiet}
 use Rattle.papaya_scheduler.specs.Reclaiming.{MayReclaimAll}
-use Rattle.papaya_scheduler.specs.Turns.{keeps_out}
 use Rattle.papaya_scheduler.specs.declared.played.Played.{Played}
 use Rattle.papaya_scheduler.specs.declared.scheduler.Scheduler.{Scheduler}
 use Rattle.papaya_stepping.specs.Stepping.{ComesInCase, PlaysNextAt, PlaysOnAt}
 use Rattle.papaya_scheduler.proofs.Busy.{none_quiet}
-use Rattle.papaya_scheduler.proofs.KeptOut.{kept_out_is}
 use Rattle.papaya_events.specs.Asked.{FindsRight, Happens, HappensAt, HappensDue, Holds, MayHappenDue, takes_steps}
 use Rattle.papaya_running.proofs.Forms.{does_none, does_nothing, makes_none, makes_out}
 
 module _ {K V S : Type 0} (same : K → K → Bool) (hash : K → ℕ) (event form : Event K V) (is : event ≡ form) (old : Scheduler K V S) where
   -- it may happen in this form, too
-  abbrev pub due_so : (terms : Terms) (log : List (Entry K V)) → Holds same hash terms (moment log) old → is_kept_out terms event (moment log) ≡ false → IsDue same hash terms log form old
-  due_so terms log holds out = record { played = holds.stands; in_turn = subst (λ (x : Event K V). is_kept_out terms x (moment log) ≡ false) is out }
+  abbrev pub due_so : (terms : Terms) (log : List (Entry K V)) → Holds same hash terms (moment log) old → (moment log).is_closed ≡ false → IsDue same hash terms log form old
+  due_so terms log holds out = record { played = holds.stands; in_turn = subst (λ (x : Event K V). (moment log).is_closed ≡ false) is out }
 
   pub may_play : MayHappenDue same hash event old → MayPlay same hash form old
   may_play may = (may.0, may.1, due_so may.0 may.1 may.2 may.3)
 
-  pub may_map : (terms : Terms) (log : List (Entry K V)) → Holds same hash terms (moment log) old → is_kept_out terms event (moment log) ≡ false → MayMap same hash terms log form old
+  pub may_map : (terms : Terms) (log : List (Entry K V)) → Holds same hash terms (moment log) old → (moment log).is_closed ≡ false → MayMap same hash terms log form old
   may_map terms log holds out = record { due = due_so terms log holds out; lawful = holds.lawful; counts = holds.counts }
 
   pub may_give : MayHappenDue same hash event old → MayReclaimAll same hash form old
@@ -41,7 +39,7 @@ module _ {K V S : Type 0} (same : K → K → Bool) (hash : K → ℕ) (event fo
     -- what is promised of an event of this form, but for its steps
     abbrev pub PlaysForm : Played V → Type 0
     PlaysForm played =
-        (terms : Terms) (log : List (Entry K V)) → is_first ≡ ((moment log).events == 0) → Holds same hash terms (moment log) old → is_kept_out terms event (moment log) ≡ false
+        (terms : Terms) (log : List (Entry K V)) → is_first ≡ ((moment log).events == 0) → Holds same hash terms (moment log) old → (moment log).is_closed ≡ false
         → Plays same hash terms log (entry_of form played) new
 
     abbrev Due : Played V → Type 0
@@ -86,11 +84,11 @@ module _ {K V S : Type 0} (same : K → K → Bool) (hash : K → ℕ) (event : 
 
 -- An event is kept out, or in turn.
 module _ {K V S : Type 0} (same : K → K → Bool) (hash : K → ℕ) (event : Event K V) (old : Scheduler K V S) where
-  pub out_so : (terms : Terms) (log : List (Entry K V)) → Holds same hash terms (moment log) old → (told out : Bool) → told ≡ keeps_out event old → told ≡ out → is_kept_out terms event (moment log) ≡ out
-  out_so terms log holds told out by is = kept_out_is same hash terms (moment log) old holds.stands event ∙ sym by ∙ is
+  pub out_so : (terms : Terms) (log : List (Entry K V)) → Holds same hash terms (moment log) old → (told out : Bool) → told ≡ old.is_closed → told ≡ out → (moment log).is_closed ≡ out
+  out_so terms log holds told out by is = holds.stands.closed ∙ sym by ∙ is
 
   module _ (is_first : Bool) (new : Scheduler K V S) where
-    pub stays_out : (played : Played V) → IsKeptOut event played.outcome → played.steps ≡ 0 → played.effects.items ≡ [] → PlaysKeptOut same hash event played old new → keeps_out event old ≡ true
+    pub stays_out : (played : Played V) → IsKeptOut event played.outcome → played.steps ≡ 0 → played.effects.items ≡ [] → PlaysKeptOut same hash event played old new → old.is_closed ≡ true
         → HappensAt same hash is_first event played old new
     stays_out played kept none nothing plays out = λ terms log first holds. record {
       played = (plays terms log holds.stands out).played;
@@ -100,7 +98,7 @@ module _ {K V S : Type 0} (same : K → K → Bool) (hash : K → ℕ) (event : 
       is_quiet = none_quiet played.outcome played.effects.items nothing;
     }
 
-    pub in_turn_if : {X : Type 0} (result : Result (Played V) X) → IfOk result (λ played. HappensDue same hash is_first event played old new) → keeps_out event old ≡ false
+    pub in_turn_if : {X : Type 0} (result : Result (Played V) X) → IfOk result (λ played. HappensDue same hash is_first event played old new) → old.is_closed ≡ false
         → IfOk result (λ played. HappensAt same hash is_first event played old new)
-    in_turn_if (Ok played) due out = λ terms log first holds. due terms log first holds (kept_out_is same hash terms (moment log) old holds.stands event ∙ out)
+    in_turn_if (Ok played) due out = λ terms log first holds. due terms log first holds (holds.stands.closed ∙ out)
     in_turn_if (Err x) due out = tt

@@ -190,7 +190,7 @@ module _ {K V S : Type 0} (same : K → K → Bool) (hash : K → ℕ) (terms : 
         (named_apart b.maps (worked e m).maps (maps_named (caller_of e.event) (acted_on e.event b) e.effects b)
         (begun_apart terms log e holds.counts.apart.names e.event e.outcome (λ finds. (right finds).right)))
 
-    same_terms : terms_given p.given ≡ terms_given new.given
+    same_terms : terms_given p.setup ≡ terms_given new.setup
     same_terms = holds.stands.given ∙ sym played.given
 
     counts_then : CountsMaps w new

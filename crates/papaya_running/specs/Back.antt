@@ -12,7 +12,6 @@ use Rattle.papaya_schedules.specs.declared.record.Run.{Run}
 use Rattle.papaya_schedules.specs.After.{AtEachEvent, moment}
 use Rattle.papaya_schedules.specs.Effects.{pairs_back}
 use Rattle.papaya_schedules.specs.Entry.{Entry}
-use Rattle.papaya_schedules.specs.InTurn.{is_kept_out}
 use Rattle.papaya_schedules.specs.Moment.{Moment}
 use Rattle.papaya_schedules.specs.Runs.{pair_of}
 use Rattle.papaya_schedules.specs.Terms.{Terms}
@@ -60,5 +59,5 @@ module _ {K V S : Type 0} (same : K → K → Bool) (hash : K → ℕ) where
   -- so it is of one that is in turn
   abbrev pub GivesDue : Event K V → Played V → Scheduler K V S → (before after : List (Pair K V)) → Type 0
   GivesDue event played old before after =
-      (terms : Terms) (log : List (Entry K V)) → Holds same hash terms (moment log) old → is_kept_out terms event (moment log) ≡ false → ReclaimsBy event played.effects.items
+      (terms : Terms) (log : List (Entry K V)) → Holds same hash terms (moment log) old → (moment log).is_closed ≡ false → ReclaimsBy event played.effects.items
       → ComesBack (moment log).stored played.effects.items before after

@@ -15,7 +15,7 @@ use Rattle.papaya_schedules.specs.Runs.{IsLegalLog, Lists, ShowsMaps, log_of, lo
 use Rattle.papaya_schedules.specs.Steps.{DoesFew, MakesSteps, stands_or}
 use Rattle.papaya_schedules.specs.Terms.{Terms}
 use Rattle.papaya_schedules.specs.Views.{is_in_a_map, is_retired, is_waiting}
-use Rattle.papaya_scheduler.specs.declared.scheduler.Given.{Given}
+use Rattle.papaya_runs.specs.declared.event.Setup.{Setup}
 use Rattle.papaya_scheduler.specs.Quiet.{IsQuiet}
 use Rattle.papaya_scheduler.specs.declared.scheduler.Scheduler.{Scheduler}
 use Rattle.papaya_events.specs.Asked.{Holds}
@@ -27,8 +27,8 @@ use Rattle.papaya_running.specs.declared.record.Record.{Record}
 use Rattle.papaya_tally.specs.declared.tally.Tally.{Tally}
 
 -- more processors than these count as so many
-abbrev pub bounded : Given → Given
-bounded given = record given { setup = record given.setup { processors = min given.setup.processors (2 ^ 63) } }
+abbrev pub bounded : Setup → Setup
+bounded setup = record setup { processors = min setup.processors (2 ^ 63) }
 
 module _ {K V : Type 0} where
   -- the log of these events, by what they came to

@@ -164,7 +164,7 @@ pub fn happen<K: Eq + Hash + Drop, V: Drop, S: Hashes<K>>(
     ensures keeps { IfOk result (λ played. KeepsAt K.eq (S.hash scheduler.old.logged.executor.hasher) event played scheduler.old scheduler.new) }
     ensures given { StaysGiven scheduler.old.logged.executor scheduler.new.logged.executor }
 {
-    if scheduler.keeps_out(&event) {
+    if scheduler.is_closed {
         return Ok(scheduler.refuse(event));
     }
     if is_of_calls(&event) {

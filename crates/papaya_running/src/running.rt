@@ -17,7 +17,7 @@ use papaya_raw::Hashes;
 use papaya_runs::event::Setup;
 use papaya_runs::pair_list::PairList;
 use papaya_runs::record::Pair;
-use papaya_scheduler::scheduler::{Given, Scheduler};
+use papaya_scheduler::scheduler::Scheduler;
 use papaya_schedules::event::Event;
 use papaya_schedules::record::Run;
 use papaya_tally::left::pairs_left;
@@ -51,35 +51,35 @@ fn take_turn<K: Eq + Hash + Drop, V: Drop, S: Hashes<K> + Drop>(
 /// Memory, where the lists of the run itself find none: a refused event of the schedule is an outcome.
 pub fn run<K: Eq + Hash + Drop, V: Drop, S: BuildHasher + Drop>(
     alloc: Global,
-    given: Given,
+    setup: Setup,
     hasher: S,
     schedule: Vec<Event<K, V>>,
     choices: Vec<u64>,
 ) -> Result<Run<K, V>, Fault>
-    ensures run { IfOk result (λ run. IsRightRun (terms_given (bounded given)) schedule.items run) }
-    ensures whole { IfOk result (λ run. IsRunOf K.eq (terms_given (bounded given)) schedule.items run) }
+    ensures run { IfOk result (λ run. IsRightRun (terms_given (bounded setup)) schedule.items run) }
+    ensures whole { IfOk result (λ run. IsRunOf K.eq (terms_given (bounded setup)) schedule.items run) }
     ensures hands { IfOk result (λ run. AtEachEvent HandsOn (log_of schedule.items run)) }
     ensures memory { IfErr result (λ fault. fault ≡ Fault.Memory) }
 {
-    run_refusing(alloc, given, hasher, schedule, choices, &[])
+    run_refusing(alloc, setup, hasher, schedule, choices, &[])
 }
 
 /// Runs a schedule whose memory finds no more: before each event, by its place, it is told how many growths it meets from then on, and each later one is refused. Past the end of
 /// these numbers nothing is told.
 pub fn run_refusing<K: Eq + Hash + Drop, V: Drop, S: BuildHasher + Drop>(
     alloc: Global,
-    given: Given,
+    setup: Setup,
     hasher: S,
     schedule: Vec<Event<K, V>>,
     choices: Vec<u64>,
     growths: &[u64],
 ) -> Result<Run<K, V>, Fault>
-    ensures run { IfOk result (λ run. IsRightRun (terms_given (bounded given)) schedule.items run) }
-    ensures whole { IfOk result (λ run. IsRunOf K.eq (terms_given (bounded given)) schedule.items run) }
+    ensures run { IfOk result (λ run. IsRightRun (terms_given (bounded setup)) schedule.items run) }
+    ensures whole { IfOk result (λ run. IsRunOf K.eq (terms_given (bounded setup)) schedule.items run) }
     ensures hands { IfOk result (λ run. AtEachEvent HandsOn (log_of schedule.items run)) }
     ensures memory { IfErr result (λ fault. fault ≡ Fault.Memory) }
 {
-    let mut scheduler = Scheduler::new(alloc, bounded(given), hasher)?;
+    let mut scheduler = Scheduler::new(alloc, bounded(setup), hasher)?;
     for choice in choices {
         scheduler.logged.choose(choice)?;
     }
@@ -107,15 +107,13 @@ fn refuse_as_told<K: Drop, V: Drop, S>(
 }
 
 /// More processors than 2^63 count as 2^63.
-fn bounded(given: Given) -> Given
-    ensures { result ≡ bounded given }
+fn bounded(setup: Setup) -> Setup
+    ensures { result ≡ bounded setup }
 {
-    let processors = given.setup.processors.min(1 << 63);
-    let setup = Setup {
-        processors,
-        ..given.setup
-    };
-    Given { setup, ..given }
+    Setup {
+        processors: setup.processors.min(1 << 63),
+        ..setup
+    }
 }
 
 /// The run that has come to its end.

@@ -7,19 +7,14 @@ use papaya_raw::ResizeMode;
 use papaya_running::running::run_refusing;
 use papaya_runs::event::Setup;
 use papaya_runs::key_hash::KeyHash;
-use papaya_scheduler::scheduler::Given;
 use std::alloc::{AllocError, Global};
 use std::process::Abort;
 use std::test::Fail;
 
-const GIVEN: Given = Given {
-    setup: Setup {
-        batch_size: 1,
-        processors: 1,
-        roots: 1,
-    },
-    is_one_by_one: true,
-    is_one_map: true,
+const SETUP: Setup = Setup {
+    batch_size: 1,
+    processors: 1,
+    roots: 1,
 };
 
 /// An event, how many growths it may ask for, and what it is to come to.
@@ -35,7 +30,7 @@ fn plays(rt: &impl Abort, alloc: Global, hasher: KeyHash, planned: &[Planned]) -
     }
     let run = run_refusing(
         alloc,
-        GIVEN,
+        SETUP,
         hasher,
         events,
         Vec::new(alloc),

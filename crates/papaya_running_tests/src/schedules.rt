@@ -17,7 +17,6 @@ use papaya_raw::ResizeMode::{Blocking, Incremental};
 use papaya_running::running::run;
 use papaya_runs::event::Setup;
 use papaya_runs::key_hash::KeyHash;
-use papaya_scheduler::scheduler::Given;
 use papaya_schedules::effect::Effect;
 use papaya_schedules::record::Run;
 use std::alloc::Global;
@@ -367,15 +366,11 @@ const SCHEDULES: [Schedule; 13] = [
     (32, &[&SMALL, &CLOSES], (3, 3, &[], 0, None)),
 ];
 
-fn given(batch_size: u64) -> Given {
-    Given {
-        setup: Setup {
-            batch_size,
-            processors: 1,
-            roots: 1,
-        },
-        is_one_by_one: false,
-        is_one_map: true,
+fn setup(batch_size: u64) -> Setup {
+    Setup {
+        batch_size,
+        processors: 1,
+        roots: 1,
     }
 }
 
@@ -389,7 +384,7 @@ fn played(alloc: Global, batch_size: u64, parts: &[&[Line]]) -> Result<Run<u64, 
     }
     Ok(run(
         alloc,
-        given(batch_size),
+        setup(batch_size),
         KeyHash::Key,
         events,
         Vec::new(alloc),

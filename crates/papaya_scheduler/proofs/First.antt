@@ -21,7 +21,7 @@ module _ {K V S : Type 0} (same : K → K → Bool) (hash : K → ℕ) (p : Sche
   name : ℕ → List ℕ
   name i = []
 
-  pub stands_first : IsPlayed same hash (terms_given p.given) [] p
+  pub stands_first : IsPlayed same hash (terms_given p.setup) [] p
   stands_first = record {
     name = name;
     scene = at_first roots;

@@ -1,6 +1,5 @@
 -- An event that is out of turn changes nothing, and every event is where it is kept out.
 use Rattle.std.specs.Prelude.{◌≡◌, ◌+◌, ◌&&◌, ◌||◌, ℕ, Bool, true, false, not, List, Option, Some, None, MatchOption, MatchBool, if◌then◌else◌}
-use Rattle.std.specs.List.{list_all}
 use Rattle.std.proofs.Common.{refl, sym, ap, subst, ◌∙◌}
 use Rattle.seize_words.specs.declared.fault.Fault.{Fault}
 use Rattle.seize_words.specs.declared.fault.Fault.TheVariants.{Busy}
@@ -11,9 +10,9 @@ use Rattle.papaya_schedules.specs.declared.event.Event.{Event}
 use Rattle.papaya_schedules.specs.declared.event.Event.TheVariants.{Collector, Hash, Choose, Register, Unregister, Enter, Own, Refresh, Flush, DropGuard, Forget, ReclaimAll, Close, MakeMap, EndMap, ShowShape, Begin, Step, Go, Replied, OneCall, Next, Stop}
 use Rattle.papaya_schedules.specs.declared.outcome.Outcome.{Outcome}
 use Rattle.papaya_schedules.specs.declared.outcome.Outcome.TheVariants.{Refused}
-use Rattle.papaya_schedules.specs.After.{after, comes_to, is_alone_on, is_by, mapped_on, moment}
-use Rattle.papaya_schedules.specs.Entry.{Entry, nameless, speaker}
-use Rattle.papaya_schedules.specs.InTurn.{ComesRight, ComesTo, IsKeptOut, is_kept_out}
+use Rattle.papaya_schedules.specs.After.{after, comes_to, is_alone_on, mapped_on, moment}
+use Rattle.papaya_schedules.specs.Entry.{Entry, nameless}
+use Rattle.papaya_schedules.specs.InTurn.{ComesRight, ComesTo, IsKeptOut}
 use Rattle.papaya_schedules.specs.Moment.{UnderWay as CallThere, Moment}
 use Rattle.papaya_schedules.specs.Terms.{Terms}
 use Rattle.papaya_logged.specs.Given.Callers.Together.{UnderWay, OnKey, ForRoom, Counting, OverAll}
@@ -23,30 +22,15 @@ use Rattle.papaya_logged.specs.Given.Hands.Calling.{AsksJust}
 use Rattle.papaya_logged.proofs.Given.Moments.Calls.{calls_come_to_whole}
 use Rattle.papaya_logged.proofs.Given.Kept.Stays.{calls_come_to_kept}
 use Rattle.papaya_scheduler.specs.Played.{IsPlayed, Plays, StandsFor}
-use Rattle.papaya_named.specs.Seen.{Seen, seen, seen_of}
-use Rattle.papaya_named.specs.Turns.{is_that}
-use Rattle.papaya_scheduler.specs.Turns.{keeps_out}
+use Rattle.papaya_named.specs.Seen.{seen}
 use Rattle.papaya_scheduler.specs.declared.scheduler.Scheduler.{Scheduler}
 use Rattle.papaya_logged.proofs.Counted.{counted_calls}
 use Rattle.papaya_rows.proofs.Elsewhere.{elsewhere, shown_elsewhere, kept_elsewhere, counted_elsewhere}
-use Rattle.papaya_rows.proofs.Lists.{all_alike, all_same, unseen}
+use Rattle.papaya_rows.proofs.Lists.{unseen}
 use Rattle.papaya_scheduler.proofs.Quiet.{stands_on}
 use Rattle.papaya_scheduler.proofs.Rights.{quiet}
 
--- whose event it is
-by_name : {K V : Type 0} (o : Option (List ℕ)) (c : CallThere K V) → is_by o c ≡ is_that o c.caller
-by_name None c = refl
-by_name (Some caller) c = refl
-
 module _ {K V S : Type 0} (same : K → K → Bool) (hash : K → ℕ) (terms : Terms) (m : Moment K V) (p : Scheduler K V S) (stands : StandsFor same hash terms m p) where
-  pub kept_out_is : (event : Event K V) → is_kept_out terms event m ≡ keeps_out event p
-  kept_out_is event =
-      ap (λ (b : Bool). b || (terms.is_one_by_one && not (list_all (is_by (speaker event)) m.calls))) stands.closed
-      ∙ ap (λ (t : Terms). p.is_closed || (t.is_one_by_one && not (list_all (is_by (speaker event)) m.calls))) (sym stands.given)
-      ∙ ap (λ (b : Bool). p.is_closed || (p.given.is_one_by_one && not b))
-      (all_same (is_by (speaker event)) (λ c. is_that (speaker event) c.caller) (by_name (speaker event)) m.calls
-      ∙ all_alike seen seen_of m.calls p.calls.items.items stands.calls.listed (λ (z : Seen). is_that (speaker event) z.name))
-
   -- of a call nothing has changed that is out of turn
   asks_nothing : (known : Known) (u : UnderWay K V K) → AsksJust {K = K} {V = V} known u (Refused Busy)
   asks_nothing known (OnKey u) = tt
@@ -155,13 +139,13 @@ module _ {K V S : Type 0} (same : K → K → Bool) (hash : K → ℕ) (terms : 
       stands_on same hash terms mapped_m (record p { is_mapped = true }) (stands_mapped true) (m.events + 1) (alone (quiet (MakeMap n mode c) (Refused fault))) m.slots m.sheltered
 
 -- An event that is kept out comes to what it must.
-module _ {K V S : Type 0} (same : K → K → Bool) (hash : K → ℕ) (terms : Terms) (log : List (Entry K V)) (p : Scheduler K V S) (played : IsPlayed same hash terms log p) (event : Event K V) (out : keeps_out event p ≡ true) where
+module _ {K V S : Type 0} (same : K → K → Bool) (hash : K → ℕ) (terms : Terms) (log : List (Entry K V)) (p : Scheduler K V S) (played : IsPlayed same hash terms log p) (event : Event K V) (out : p.is_closed ≡ true) where
   abbrev m : Moment K V
   m = moment log
 
   right : (outcome : Outcome V) → IsKeptOut event outcome → ComesRight terms log (quiet event outcome)
   right outcome kept =
-      subst (λ (b : Bool). MatchBool b (IsKeptOut event outcome) (ComesTo terms log m (quiet event outcome) event outcome)) (sym (kept_out_is same hash terms m p played event ∙ out)) kept
+      subst (λ (b : Bool). MatchBool b (IsKeptOut event outcome) (ComesTo terms log m (quiet event outcome) event outcome)) (sym (played.closed ∙ out)) kept
 
   pub kept_out : (outcome : Outcome V) → IsKeptOut event outcome → Plays same hash terms log (quiet event outcome) (record p { is_mapped = mapped_on event p.is_mapped })
   kept_out outcome kept = record { right = right outcome kept; played = by event outcome kept }

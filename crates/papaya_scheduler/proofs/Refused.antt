@@ -14,16 +14,11 @@ use Rattle.papaya_schedules.specs.Entry.{Entry}
 use Rattle.papaya_schedules.specs.InTurn.{IsKeptOut}
 use Rattle.papaya_schedules.specs.Terms.{Terms}
 use Rattle.papaya_scheduler.specs.Played.{IsPlayed, Plays, entry_of}
-use Rattle.papaya_scheduler.specs.Turns.{IsMakingOut, keeps_out}
+use Rattle.papaya_scheduler.specs.Turns.{IsMakingOut}
 use Rattle.papaya_scheduler.specs.declared.played.Played.{Played}
 use Rattle.papaya_scheduler.specs.declared.scheduler.Scheduler.{Scheduler}
 use Rattle.papaya_scheduler.proofs.KeptOut.{kept_out}
 use Rattle.papaya_scheduler.proofs.Rights.{so_played}
-
--- another caller's call is under way, where calls come one by one
-pub held_out : (closed one all told : Bool) → closed ≡ false → one ≡ true → told ≡ all → not told ≡ (closed || (one && not all))
-held_out closed one all told still so is =
-    ap not is ∙ sym (ap (λ (b : Bool). b || (one && not all)) still ∙ ap (λ (b : Bool). b && not all) so)
 
 -- what is told of the making of a map
 module _ {V : Type 0} (mode : ResizeMode) (capacity : ℕ) (outcome : Outcome V) where
@@ -74,7 +69,7 @@ module _ {K V : Type 0} where
 
   -- and so it has played the log with the event
   pub refused_plays : {S : Type 0} (same : K → K → Bool) (hash : K → ℕ) (terms : Terms) (log : List (Entry K V)) (p : Scheduler K V S) → IsPlayed same hash terms log p
-      → (event : Event K V) → keeps_out event p ≡ true → (played : Played V) → IsKeptOut event played.outcome → played.steps ≡ 0 → played.effects.items ≡ []
+      → (event : Event K V) → p.is_closed ≡ true → (played : Played V) → IsKeptOut event played.outcome → played.steps ≡ 0 → played.effects.items ≡ []
       → (q : Scheduler K V S) → q ≡ record p { is_mapped = mapped_on event p.is_mapped } → Plays same hash terms log (entry_of event played) q
   refused_plays {S} same hash terms log p is event out played kept steps effects q q_is =
       subst (λ (x : Scheduler K V S). Plays same hash terms log (entry_of event played) x) (sym q_is)

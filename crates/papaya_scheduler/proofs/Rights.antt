@@ -8,7 +8,7 @@ use Rattle.papaya_schedules.specs.declared.outcome.Outcome.{Outcome}
 use Rattle.papaya_schedules.specs.declared.outcome.Outcome.TheVariants.{Refused}
 use Rattle.papaya_schedules.specs.After.{moment}
 use Rattle.papaya_schedules.specs.Entry.{Entry}
-use Rattle.papaya_schedules.specs.InTurn.{ComesRight, ComesTo, InTurn, IsKeptOut, is_kept_out}
+use Rattle.papaya_schedules.specs.InTurn.{ComesRight, ComesTo, InTurn, IsKeptOut}
 use Rattle.papaya_schedules.specs.Terms.{Terms}
 use Rattle.papaya_scheduler.specs.Played.{IsDue, IsPlayed, Plays, entry_of}
 use Rattle.papaya_scheduler.specs.declared.played.Played.{Played}
@@ -22,7 +22,7 @@ module _ {V : Type 0} (wanted : Outcome V → Type 0) where
   out_of_turn turn outcome is so = subst (λ (b : Bool). MatchBool b (wanted outcome) (outcome ≡ Refused Busy)) (sym is) so
 
 module _ {K V : Type 0} where
-  pub comes_right : (terms : Terms) (log : List (Entry K V)) (e : Entry K V) → is_kept_out terms e.event (moment log) ≡ false → ComesTo terms log (moment log) e e.event e.outcome → ComesRight terms log e
+  pub comes_right : (terms : Terms) (log : List (Entry K V)) (e : Entry K V) → (moment log).is_closed ≡ false → ComesTo terms log (moment log) e e.event e.outcome → ComesRight terms log e
   comes_right terms log e is to = subst (λ (b : Bool). MatchBool b (IsKeptOut e.event e.outcome) (ComesTo terms log (moment log) e e.event e.outcome)) (sym is) to
 
   -- an event that came to this, by so many steps, which did this
@@ -41,7 +41,7 @@ module _ {K V S : Type 0} (same : K → K → Bool) (hash : K → ℕ) (terms : 
   -- what is promised of an event that came to what it must
   pub plays : {q : Scheduler K V S} → IsDue same hash terms log event q → (e : Entry K V) → e.event ≡ event → ComesTo terms log (moment log) e e.event e.outcome → IsPlayed same hash terms (e ∷ log) p
       → Plays same hash terms log e p
-  plays due e is to played = record { right = comes_right terms log e (subst (λ (x : Event K V). is_kept_out terms x (moment log) ≡ false) (sym is) due.in_turn) to; played = played }
+  plays due e is to played = record { right = comes_right terms log e (subst (λ (x : Event K V). (moment log).is_closed ≡ false) (sym is) due.in_turn) to; played = played }
 
 module _ {K V S : Type 0} (same : K → K → Bool) (hash : K → ℕ) (terms : Terms) (log : List (Entry K V)) (p : Scheduler K V S) (event : Event K V) (played : Played V) where
   -- what is told of an event is what it came to

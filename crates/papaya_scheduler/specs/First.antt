@@ -1,15 +1,15 @@
 -- How a scheduler begins.
 use Rattle.std.specs.Prelude.{◌≡◌, [], replicate}
 use Rattle.papaya_logged.specs.Given.Effects.Known.{known, nothing_known}
-use Rattle.papaya_scheduler.specs.declared.scheduler.Given.{Given}
+use Rattle.papaya_runs.specs.declared.event.Setup.{Setup}
 use Rattle.papaya_scheduler.specs.declared.scheduler.Scheduler.{Scheduler}
 
 -- No map was made. Of the memory nothing is known, and there is no slot; the roots are as many as given, are free, and lead nowhere; batches have the size that was given. Which numbers blocks get is open.
-pub record HasJustBegun {K V S : Type 0} (given : Given) (p : Scheduler K V S) : Type 0 where
+pub record HasJustBegun {K V S : Type 0} (setup : Setup) (p : Scheduler K V S) : Type 0 where
   pub maps : p.logged.executor.maps.items ≡ []
   pub known_is : known p.logged.notes ≡ nothing_known
-  pub many : p.logged.executor.roots ≡ given.setup.roots
-  pub batches : p.logged.executor.batch_size ≡ given.setup.batch_size
-  pub free : p.logged.executor.memory.memory.used ≡ replicate given.setup.roots 0
-  pub nowhere : p.logged.executor.memory.memory.roots ≡ replicate given.setup.roots 0
+  pub many : p.logged.executor.roots ≡ setup.roots
+  pub batches : p.logged.executor.batch_size ≡ setup.batch_size
+  pub free : p.logged.executor.memory.memory.used ≡ replicate setup.roots 0
+  pub nowhere : p.logged.executor.memory.memory.roots ≡ replicate setup.roots 0
   pub slots : p.logged.executor.memory.memory.slots ≡ []

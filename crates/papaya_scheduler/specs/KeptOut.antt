@@ -4,7 +4,6 @@ use Rattle.papaya_schedules.specs.declared.event.Event.{Event}
 use Rattle.papaya_schedules.specs.Entry.{Entry}
 use Rattle.papaya_schedules.specs.Terms.{Terms}
 use Rattle.papaya_scheduler.specs.Played.{IsPlayed, Plays, entry_of}
-use Rattle.papaya_scheduler.specs.Turns.{keeps_out}
 use Rattle.papaya_scheduler.specs.declared.played.Played.{Played}
 use Rattle.papaya_scheduler.specs.declared.scheduler.Scheduler.{Scheduler}
 
@@ -12,4 +11,4 @@ module _ {K V S : Type 0} (same : K → K → Bool) (hash : K → ℕ) where
   -- It has come to what is right for it, and the scheduler has played the log with it.
   abbrev pub PlaysKeptOut : Event K V → Played V → (old new : Scheduler K V S) → Type 0
   PlaysKeptOut event played old new =
-      (terms : Terms) (log : List (Entry K V)) → IsPlayed same hash terms log old → keeps_out event old ≡ true → Plays same hash terms log (entry_of event played) new
+      (terms : Terms) (log : List (Entry K V)) → IsPlayed same hash terms log old → old.is_closed ≡ true → Plays same hash terms log (entry_of event played) new

@@ -1,5 +1,5 @@
 -- What is asked of a moment before a map is made or ends, and what is promised then.
-use Rattle.std.specs.Prelude.{◌≡◌, ◌<◌, ◌≤◌, ◌+◌, ◌^◌, ℕ, Bool, true, List, length, filter, is_none, max, not, ◌&&◌, nat_lt}
+use Rattle.std.specs.Prelude.{◌≡◌, ◌<◌, ◌≤◌, ◌+◌, ◌^◌, ℕ, true, List, length, filter, max}
 use Rattle.std.specs.Int.{IsNextPowerOfTwo}
 use Rattle.papaya_logged.specs.Given.Tables.declared.resize_mode.ResizeMode.{ResizeMode}
 use Rattle.papaya_logged.specs.Given.Tables.declared.setting.Setting.{Setting}
@@ -23,10 +23,6 @@ use Rattle.papaya_scheduler.specs.declared.played.Played.{Played}
 use Rattle.papaya_named.specs.declared.named_map.NamedMap.{NamedMap}
 use Rattle.papaya_scheduler.specs.declared.scheduler.Scheduler.{Scheduler}
 
--- a map of this name can be made: none has it, and there may be one more
-abbrev pub may_make_of : List ℕ → Bool → ℕ → List NamedMap → Bool
-may_make_of own is_one_map made maps = is_none (number_named own maps) && not (is_one_map && nat_lt 0 made)
-
 -- so many maps have a number, of so many before, once the making of one came to this
 abbrev pub numbers_made : {V : Type 0} → Outcome V → ℕ → ℕ
 numbers_made Done count = count + 1
@@ -36,7 +32,7 @@ numbers_made _ count = count
 pub record IsGivenFor {K V S : Type 0} (mode : ResizeMode) (places : ℕ) (p : Scheduler K V S) (given : Setting) : Type 0 where
   pub batches : given.batch_size ≡ p.logged.executor.batch_size
   pub mode_is : given.mode ≡ mode
-  pub mask : IsNextPowerOfTwo p.given.setup.processors (given.mask + 1)
+  pub mask : IsNextPowerOfTwo p.setup.processors (given.mask + 1)
   pub initial : given.initial ≡ max places 1
 
 -- each map that is there has a number and a name of its own, and the numbers of all are below that of the next one
@@ -52,8 +48,8 @@ pub record CountsMaps {K V S : Type 0} (m : Moment K V) (p : Scheduler K V S) : 
   pub taken : AreTaken p.logged.executor.roots (λ r. is_among r (used_roots m)) p.logged.executor.memory.memory
   pub once : (r : ℕ) → times r (used_roots m) ≤ 1
   pub below : (r : ℕ) → is_among r (used_roots m) ≡ true → r < p.logged.executor.roots
-  pub roots : p.logged.executor.roots ≡ p.given.setup.roots
-  pub processors : p.given.setup.processors ≤ 2 ^ 63
+  pub roots : p.logged.executor.roots ≡ p.setup.roots
+  pub processors : p.setup.processors ≤ 2 ^ 63
 
 module _ {K V S : Type 0} (same : K → K → Bool) (hash : K → ℕ) where
   -- the event may happen, where keys have lawful hashes, and roots and numbers are so

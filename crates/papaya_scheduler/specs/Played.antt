@@ -11,6 +11,7 @@ use Rattle.papaya_logged.specs.Given.Hands.Asked.{as_told}
 use Rattle.papaya_raw.specs.declared.machines.asking.Reply.{Reply as MachineReply}
 use Rattle.papaya_raw.specs.declared.machines.machine.Machine.{Machine}
 use Rattle.papaya_runs.specs.Present.{Present, HaveNames, guard_of, living_slot}
+use Rattle.papaya_runs.specs.declared.event.Setup.{Setup}
 use Rattle.papaya_schedules.specs.declared.call.Call.{Call}
 use Rattle.papaya_schedules.specs.declared.call.Reply.{Reply}
 use Rattle.papaya_schedules.specs.declared.event.Event.{Event}
@@ -18,7 +19,7 @@ use Rattle.papaya_schedules.specs.declared.outcome.Outcome.TheVariants.{Done, Go
 use Rattle.papaya_schedules.specs.After.{moment}
 use Rattle.papaya_schedules.specs.Beginning.{with_call}
 use Rattle.papaya_schedules.specs.Entry.{Entry}
-use Rattle.papaya_schedules.specs.InTurn.{ComesRight, is_kept_out}
+use Rattle.papaya_schedules.specs.InTurn.{ComesRight}
 use Rattle.papaya_schedules.specs.InUse.{is_living}
 use Rattle.papaya_schedules.specs.Moment.{Moment}
 use Rattle.papaya_schedules.specs.Terms.{Terms}
@@ -34,19 +35,12 @@ use Rattle.papaya_named.specs.Seen.{is_named, kind_of, named, named_of, ready_pl
 use Rattle.papaya_named.specs.declared.caller.Caller.{Caller}
 use Rattle.papaya_named.specs.declared.caller.Stands.TheVariants as far
 use Rattle.papaya_scheduler.specs.declared.played.Played.{Played}
-use Rattle.papaya_scheduler.specs.declared.scheduler.Given.{Given}
 use Rattle.papaya_named.specs.declared.named_map.NamedMap.{NamedMap}
 use Rattle.papaya_scheduler.specs.declared.scheduler.Scheduler.{Scheduler}
 
 -- what the run is made with
-abbrev pub terms_given : Given → Terms
-terms_given given = record {
-  batch_size = given.setup.batch_size;
-  processors = given.setup.processors;
-  roots = given.setup.roots;
-  is_one_by_one = given.is_one_by_one;
-  is_one_map = given.is_one_map;
-}
+abbrev pub terms_given : Setup → Terms
+terms_given setup = record { batch_size = setup.batch_size; processors = setup.processors; roots = setup.roots }
 
 -- an event, with what it came to
 abbrev pub entry_of : {K V : Type 0} → Event K V → Played V → Entry K V
@@ -90,7 +84,7 @@ pub record StandsAs {K V S : Type 0} (Far : Caller V → Machine K V K → Type 
   pub name : ℕ → List ℕ
   pub scene : Scene K V
   pub shown : IsShown same hash name m p.logged scene
-  pub given : terms_given p.given ≡ terms
+  pub given : terms_given p.setup ≡ terms
   pub there : m.there ≡ p.there
   pub mapped : m.is_mapped ≡ p.is_mapped
   pub closed : m.is_closed ≡ p.is_closed
@@ -111,7 +105,7 @@ module _ {K V S : Type 0} (same : K → K → Bool) (hash : K → ℕ) where
     -- The event may happen: the scheduler has played the log, and the event is not kept out.
     pub record IsDue (event : Event K V) (p : Scheduler K V S) : Type 0 where
       pub played : IsPlayed terms log p
-      pub in_turn : is_kept_out terms event (moment log) ≡ false
+      pub in_turn : (moment log).is_closed ≡ false
 
     -- What is promised of it: it has come to what is right for it, and the scheduler has played the log with it.
     pub record Plays (e : Entry K V) (p : Scheduler K V S) : Type 0 where

@@ -1,5 +1,5 @@
 -- What an event has done by a row on a slot, by the making of a map, or by the end of one: which steps ran; and what one has done by which none runs.
-use Rattle.std.specs.Prelude.{◌≡◌, ◌≢◌, ◌<◌, ◌⊎◌, ℕ, Bool, true, false, ◌==◌, List, [], length, is_some, option_map, Some, None, ◌+◌, ◌*◌}
+use Rattle.std.specs.Prelude.{◌≡◌, ◌≢◌, ◌<◌, ◌⊎◌, ℕ, Bool, true, false, ◌==◌, List, [], length, is_none, is_some, option_map, Some, None, ◌+◌, ◌*◌}
 use Rattle.std.specs.List.{list_any}
 use Rattle.seize.specs.declared.progress.Progress.{Progress}
 use Rattle.seize.specs.declared.progress.Progress.TheVariants as progress
@@ -32,7 +32,7 @@ use Rattle.papaya_logged.specs.Roots.{MakingFinds}
 use Rattle.papaya_logged.specs.Shown.{IsShown}
 use Rattle.papaya_logged.specs.declared.logged.Logged.{Logged}
 use Rattle.papaya_rows.specs.Rows.{RowRan, left_as}
-use Rattle.papaya_scheduler.specs.Mapping.{IsGivenFor, may_make_of}
+use Rattle.papaya_scheduler.specs.Mapping.{IsGivenFor}
 use Rattle.papaya_named.specs.Seen.{free_slot, number_named}
 use Rattle.papaya_scheduler.specs.declared.played.Played.{Played}
 use Rattle.papaya_scheduler.specs.declared.scheduler.Scheduler.{Scheduler}
@@ -108,7 +108,7 @@ module _ {K V S : Type 0} (played : Played V) (old new : Scheduler K V S) where
     pub caller : ℕ
     pub fresh : caller ≡ length old.logged.executor.workers.items * SLOTS + 0
     pub faultless : map_fault mode capacity ≡ None
-    pub free : may_make_of own old.given.is_one_map (length old.logged.executor.maps.items) old.maps.items ≡ true
+    pub free : is_none (number_named own old.maps.items) ≡ true
     pub places : ℕ
     pub given : Setting
     pub places_are : places ≡ first_places capacity

@@ -26,24 +26,13 @@ use papaya_schedules::effect::Effect;
 use papaya_schedules::outcome::Outcome;
 use std::alloc::{AllocError, Global};
 
-/// What a run is made with.
-#[derive(Clone, Copy)]
-pub struct Given {
-    /// The collector's setup.
-    pub setup: Setup,
-    /// Whether each event is refused that is not of the caller whose call is under way.
-    pub is_one_by_one: bool,
-    /// Whether a run makes one map at most.
-    pub is_one_map: bool,
-}
-
 /// The executor with what is noted of its memory, and who is there by name.
 #[derive(Drop)]
 pub struct Scheduler<K, V, S> {
     /// The executor, whose steps are written down.
     pub logged: Logged<K, V, S>,
-    /// What the run is made with.
-    pub given: Given,
+    /// What the collector is made with.
+    pub setup: Setup,
     /// The registrations and the guards.
     pub there: Present,
     /// The maps that are there, in the order in which they were made.
@@ -58,16 +47,15 @@ pub struct Scheduler<K, V, S> {
 
 impl<K: Drop, V: Drop, S: Drop> Scheduler<K, V, S> {
     /// Nobody is there, and there is no map.
-    pub fn new(alloc: Global, given: Given, hasher: S) -> Result<Self, AllocError>
-        ensures played { IfOk result (λ scheduler. (same : K → K → Bool) (hash : K → ℕ) → IsPlayed same hash (terms_given given) [] scheduler) }
-        ensures begun { IfOk result (HasJustBegun given) }
-        ensures shown { IfOk result (λ scheduler. (same : K → K → Bool) (hash : K → ℕ) (name : ℕ → List ℕ) → IsShown same hash name start scheduler.logged (at_first given.setup.roots)) }
+    pub fn new(alloc: Global, setup: Setup, hasher: S) -> Result<Self, AllocError>
+        ensures played { IfOk result (λ scheduler. (same : K → K → Bool) (hash : K → ℕ) → IsPlayed same hash (terms_given setup) [] scheduler) }
+        ensures begun { IfOk result (HasJustBegun setup) }
+        ensures shown { IfOk result (λ scheduler. (same : K → K → Bool) (hash : K → ℕ) (name : ℕ → List ℕ) → IsShown same hash name start scheduler.logged (at_first setup.roots)) }
         ensures hasher { IfOk result (λ scheduler. scheduler.logged.executor.hasher ≡ hasher) }
     {
-        let setup = given.setup;
         Ok(Scheduler {
             logged: Logged::new(alloc, hasher, setup.batch_size, setup.roots)?,
-            given,
+            setup,
             there: Present::nobody(alloc),
             maps: Vec::new(alloc),
             calls: Callers::nobody(alloc),

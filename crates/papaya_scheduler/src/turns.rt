@@ -1,10 +1,10 @@
-//! Events that are kept out.
+//! Events that are kept out, once the collector has ended.
 ghost use Rattle.std.specs.Prelude.{◌≡◌, ℕ, Bool, true, []};
 ghost use Rattle.papaya_runs.specs.Runs.{map_fault};
 ghost use Rattle.papaya_schedules.specs.After.{mapped_on};
 ghost use Rattle.papaya_schedules.specs.InTurn.{IsKeptOut};
 ghost use Rattle.papaya_scheduler.specs.KeptOut.{PlaysKeptOut};
-ghost use Rattle.papaya_scheduler.specs.Turns.{IsMakingOut, keeps_out};
+ghost use Rattle.papaya_scheduler.specs.Turns.{IsMakingOut};
 
 use crate::played::Played;
 use crate::scheduler::Scheduler;
@@ -27,19 +27,6 @@ fn fault_of(mode: ResizeMode, capacity: u64) -> Option<Fault>
 }
 
 impl<K: Drop, V: Drop, S> Scheduler<K, V, S> {
-    /// Whether every event of this kind is refused: the collector has ended, or, where calls come one by one, the call of another caller is under way.
-    pub fn keeps_out(&self, event: &Event<K, V>) -> bool
-        ensures { result ≡ keeps_out event.now self.now }
-    {
-        if self.is_closed {
-            return true;
-        }
-        if !self.given.is_one_by_one {
-            return false;
-        }
-        !self.calls.are_of(event)
-    }
-
     /// A map is not made, as busy, but that what is wrong in making it is told first.
     fn refuse_map(&mut self, mode: ResizeMode, capacity: u64) -> Played<V>
         ensures outcome { IsMakingOut mode capacity result.outcome }

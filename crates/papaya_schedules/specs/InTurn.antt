@@ -15,10 +15,10 @@ use Rattle.papaya_schedules.specs.Lists.{is_empty, least_free}
 use Rattle.papaya_schedules.specs.Terms.{Terms}
 use Rattle.papaya_schedules.specs.Moment.{TableThere, Moment}
 use Rattle.papaya_schedules.specs.Views.{call_of, map_of, number_of, chain_of}
-use Rattle.papaya_schedules.specs.Entry.{Entry, ByCall, caller_of, speaker, acting, nameless}
+use Rattle.papaya_schedules.specs.Entry.{Entry, ByCall, caller_of, acting, nameless}
 use Rattle.papaya_schedules.specs.Beginning.{used_roots}
 use Rattle.papaya_schedules.specs.Effects.{worked}
-use Rattle.papaya_schedules.specs.After.{moment, moments_from, is_by}
+use Rattle.papaya_schedules.specs.After.{moment, moments_from}
 use Rattle.papaya_schedules.specs.InUse.{used_slots, is_registered, is_guard, is_living, is_free_guard, is_left, is_held}
 use Rattle.papaya_schedules.specs.Coming.{Progresses, fits_reply, shows_now}
 
@@ -72,10 +72,6 @@ IsNext (Answered answer.Absent) = Unit {0}
 IsNext _ = ⊥
 
 module _ {K V : Type 0} where
-  -- a map of this name can be made
-  abbrev pub may_make : Bool → List ℕ → Moment K V → Bool
-  may_make is_one_map name m = is_none (map_of name m) && not (is_one_map && nat_lt 0 m.made)
-
   -- some call on the map of this name is under way
   abbrev pub is_called : Option ℕ → Moment K V → Bool
   is_called None m = false
@@ -85,14 +81,10 @@ module _ {K V : Type 0} where
   chain_named None m = []
   chain_named (Some map) m = chain_of map m
 
-  -- every event is busy, but that what is wrong in making a map is told first
+  -- once the collector has ended every event is busy, but that what is wrong in making a map is told first
   abbrev pub IsKeptOut : Event K V → Outcome V → Type 0
   IsKeptOut (MakeMap name mode capacity) outcome = MatchOption (map_fault mode capacity) (outcome ≡ Refused Busy) (λ fault. outcome ≡ Refused fault)
   IsKeptOut _ outcome = outcome ≡ Refused Busy
-
-  -- so it is once the collector has ended, and, where calls come one by one, for each event that is not of the caller whose call is under way
-  abbrev pub is_kept_out : Terms → Event K V → Moment K V → Bool
-  is_kept_out terms event m = m.is_closed || (terms.is_one_by_one && not (list_all (is_by (speaker event)) m.calls))
 
 module _ {K V : Type 0} (terms : Terms) where
   -- the call of the event's caller goes on
@@ -119,7 +111,7 @@ module _ {K V : Type 0} (terms : Terms) where
   ComesTo log m e Close outcome = InTurn (is_left m && is_empty m.maps) IsDone outcome
   ComesTo log m e (MakeMap name mode capacity) outcome =
       MatchOption (map_fault mode capacity)
-      (InTurn (may_make terms.is_one_map name m) (IsMade (nat_lt (length (used_roots m)) terms.roots) e.effects) outcome)
+      (InTurn (is_none (map_of name m)) (IsMade (nat_lt (length (used_roots m)) terms.roots) e.effects) outcome)
       (λ fault. outcome ≡ Refused fault)
   ComesTo log m e (EndMap name) outcome = InTurn (is_some (map_of name m) && not (is_called (number_of name m) m)) IsDone outcome
   ComesTo log m e (ShowShape name) outcome = InTurn (is_some (map_of name m)) (IsShapeOf (chain_named (number_of name m) m)) outcome
@@ -136,4 +128,4 @@ module _ {K V : Type 0} (terms : Terms) where
   -- the event comes to what is right for it
   abbrev pub ComesRight : List (Entry K V) → Entry K V → Type 0
   ComesRight log e =
-      let m = moment log in MatchBool (is_kept_out terms e.event m) (IsKeptOut e.event e.outcome) (ComesTo log m e e.event e.outcome)
+      let m = moment log in MatchBool m.is_closed (IsKeptOut e.event e.outcome) (ComesTo log m e e.event e.outcome)

@@ -31,14 +31,12 @@ pub record Streams : Type 0 where
 abbrev pub SaysOnly : List ℕ → Streams → Type 0
 SaysOnly line s = Keeps s.output_before s.output_after × (s.errors_failed ≡ false → Appends s.errors_before s.errors_after line)
 
--- with what a script is run: calls come one by one, and it makes one map at most
+-- with what a script is run
 abbrev pub terms_of : List ScriptEvent → Terms
 terms_of events = record {
   batch_size = (setup_of events).batch_size;
   processors = min (setup_of events).processors (2 ^ 63);
   roots = (setup_of events).roots;
-  is_one_by_one = true;
-  is_one_map = true;
 }
 
 -- it is a run of these events, each of which keeps all that is promised of one, and tells at its end what they say

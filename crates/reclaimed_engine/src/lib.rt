@@ -3,15 +3,10 @@
 
 ghost use Rattle.std.specs.Prelude.{◌≡◌, false, IfOk, IfErr, OnErr, IfSome};
 ghost use Rattle.std.specs.Io.KnownBytes.{Keeps, Appends};
-ghost use Rattle.papaya_running.specs.Run.{bounded};
-ghost use Rattle.papaya_scheduler.specs.Played.{terms_given};
-ghost use Rattle.reclaimed_engine.specs.Engine.{stop_line, terms_of, EndsWith, IsTextFor};
+ghost use Rattle.reclaimed_engine.specs.Engine.{stop_line, EndsWith, IsTextFor};
 ghost use Rattle.reclaimed_text.specs.Output.{has_failed, writer_of};
 
 use papaya_running::running::run;
-use papaya_runs::token::Token;
-use papaya_scheduler::scheduler::Given;
-use papaya_schedules::event::Event;
 use reclaimed_script::{Script, Stop, hasher_of, read, setup_of};
 pub use reclaimed_text::Output;
 use reclaimed_text::{fault_line, text_of, write};
@@ -29,26 +24,15 @@ fn stop_line(alloc: Global, stop: Stop) -> Result<Vec<u8>, AllocError>
     }
 }
 
-/// What a run of these events is made with: calls come one by one, and a run makes one map at most.
-fn given_for(events: &[Event<u64, Token>]) -> Given
-    ensures { terms_given (bounded result) ≡ terms_of events.now }
-{
-    Given {
-        setup: setup_of(events),
-        is_one_by_one: true,
-        is_one_map: true,
-    }
-}
-
 /// What is printed for a script, or, where memory runs out, that it did.
 fn printed(alloc: Global, script: Script) -> Result<Vec<u8>, Stop>
     ensures ok { IfOk result (λ text. IsTextFor script.events.items text.items) }
     ensures err { IfErr result (λ stop. stop ≡ Stop.NoMemory script.lines) }
 {
     let lines = script.lines;
-    let given = given_for(&script.events);
+    let setup = setup_of(&script.events);
     let hasher = hasher_of(&script.events);
-    match run(alloc, given, hasher, script.events, Vec::new(alloc)) {
+    match run(alloc, setup, hasher, script.events, Vec::new(alloc)) {
         Err(_) => Err(Stop::NoMemory { lines }),
         Ok(run) => match text_of(alloc, &run) {
             Err(_) => Err(Stop::NoMemory { lines }),

@@ -12,17 +12,15 @@ use Rattle.papaya_folded.specs.Given.Schedules.declared.outcome.Outcome.TheVaria
 use Rattle.papaya_folded.specs.Given.Schedules.After.{moment}
 use Rattle.papaya_folded.specs.Given.Schedules.Coming.{fits_reply, shows_now}
 use Rattle.papaya_folded.specs.Given.Schedules.Entry.{Entry}
-use Rattle.papaya_folded.specs.Given.Schedules.InTurn.{ComesRight, ComesTo, IsKeptOut, is_kept_out}
+use Rattle.papaya_folded.specs.Given.Schedules.InTurn.{ComesRight, ComesTo, IsKeptOut}
 use Rattle.papaya_folded.specs.Given.Schedules.Terms.{Terms}
 use Rattle.papaya_folded.specs.Given.Schedules.Views.{call_of}
 use Rattle.papaya_folded.specs.Given.Logged.Calling.{MakesNoMore}
 use Rattle.papaya_scheduler.specs.KeptOut.{PlaysKeptOut}
 use Rattle.papaya_scheduler.specs.Played.{Began, IsDue, IsPlayed, PlaysAt, Replies, Stops, entry_of}
 use Rattle.papaya_scheduler.specs.Quiet.{StaysBusy}
-use Rattle.papaya_scheduler.specs.Turns.{keeps_out}
 use Rattle.papaya_scheduler.specs.declared.played.Played.{Played}
 use Rattle.papaya_scheduler.specs.declared.scheduler.Scheduler.{Scheduler}
-use Rattle.papaya_scheduler.proofs.KeptOut.{kept_out_is}
 use Rattle.papaya_scheduler.proofs.Rights.{entry_is}
 use Rattle.papaya_stepping.specs.Stepping.{PlaysNextAt, PlaysOnAt, TookNext, TookSteps, TookWhole}
 use Rattle.papaya_events.specs.Asked.{is_of_calls}
@@ -32,7 +30,7 @@ use Rattle.papaya_events.proofs.OfCalls.Finds.{go_finds, not_busy, quiet_in_case
 use Rattle.papaya_events.proofs.OfCalls.Told.{stopped_on, told_on}
 
 -- one that is in turn comes to what it must
-in_turn_comes : {K V : Type 0} (terms : Terms) (log : List (Entry K V)) (e : Entry K V) → is_kept_out terms e.event (moment log) ≡ false → ComesRight terms log e
+in_turn_comes : {K V : Type 0} (terms : Terms) (log : List (Entry K V)) (e : Entry K V) → (moment log).is_closed ≡ false → ComesRight terms log e
     → ComesTo terms log (moment log) e e.event e.outcome
 in_turn_comes terms log e out right = subst (λ (b : Bool). MatchBool b (IsKeptOut e.event e.outcome) (ComesTo terms log (moment log) e e.event e.outcome)) out right
 
@@ -142,7 +140,7 @@ module _ {K V S : Type 0} (same : K → K → Bool) (hash : K → ℕ) (old new 
 -- An event is kept out, or in turn, or none of a call.
 module _ {K V S : Type 0} (same : K → K → Bool) (hash : K → ℕ) (happens : Event K V) (old new : Scheduler K V S) where
   pub out_keeps : (mapped : Bool) → new ≡ record old { is_mapped = mapped } → (played : Played V) → IsKeptOut happens played.outcome → played.steps ≡ 0 → played.effects.items ≡ []
-      → PlaysKeptOut same hash happens played old new → keeps_out happens old ≡ true → KeepsAt same hash happens played old new
+      → PlaysKeptOut same hash happens played old new → old.is_closed ≡ true → KeepsAt same hash happens played old new
   out_keeps mapped is played kept none nothing plays out = by happens kept plays out
     where
       logged_is : new.logged ≡ old.logged
@@ -151,7 +149,7 @@ module _ {K V S : Type 0} (same : K → K → Bool) (hash : K → ℕ) (happens 
       calls_are : new.calls ≡ old.calls
       calls_are = ap (λ (x : Scheduler K V S). x.calls) is
 
-      by : (x : Event K V) → IsKeptOut x played.outcome → PlaysKeptOut same hash x played old new → keeps_out x old ≡ true → KeepsAt same hash x played old new
+      by : (x : Event K V) → IsKeptOut x played.outcome → PlaysKeptOut same hash x played old new → old.is_closed ≡ true → KeepsAt same hash x played old new
       by (event.Step own refuse) busy so kept_so = λ calls terms log runs. (
         quiet_in_case terms log (entry_of (event.Step own refuse) played) (not_busy played.outcome busy),
         λ left.
@@ -189,10 +187,10 @@ module _ {K V S : Type 0} (same : K → K → Bool) (hash : K → ℕ) (happens 
       )
       by _ busy so kept_so = λ calls. absurd (cc calls)
 
-  pub turn_keeps : {X : Type 0} (result : Result (Played V) X) → IfOk result (λ played. KeepsDue same hash happens played old new) → keeps_out happens old ≡ false
+  pub turn_keeps : {X : Type 0} (result : Result (Played V) X) → IfOk result (λ played. KeepsDue same hash happens played old new) → old.is_closed ≡ false
       → IfOk result (λ played. KeepsAt same hash happens played old new)
   turn_keeps (Ok played) due out = λ calls terms log runs.
-      let in_turn = kept_out_is same hash terms (moment log) old runs.stands happens ∙ out in
+      let in_turn = runs.stands.closed ∙ out in
       due terms log runs in_turn
   turn_keeps (Err x) due out = tt
 

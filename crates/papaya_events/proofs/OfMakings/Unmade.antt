@@ -21,7 +21,7 @@ use Rattle.papaya_folded.specs.Given.Schedules.declared.event.Event.TheVariants.
 use Rattle.papaya_folded.specs.Given.Schedules.declared.outcome.Outcome.TheVariants.{Refused}
 use Rattle.papaya_folded.specs.Given.Schedules.After.{moment}
 use Rattle.papaya_folded.specs.Given.Schedules.Entry.{Entry, is_busy}
-use Rattle.papaya_folded.specs.Given.Schedules.InTurn.{ComesRight, is_growth, is_kept_out}
+use Rattle.papaya_folded.specs.Given.Schedules.InTurn.{ComesRight, is_growth}
 use Rattle.papaya_folded.specs.Given.Schedules.Moment.{MapThere, Moment}
 use Rattle.papaya_folded.specs.Given.Schedules.Terms.{Terms}
 use Rattle.papaya_folded.specs.Given.Effects.Effects.{effects_of}
@@ -100,7 +100,7 @@ module _ {K V S : Type 0} (same : K → K → Bool) (hash : K → ℕ) (terms : 
       )
 
 module _ {K V S : Type 0} (same : K → K → Bool) (hash : K → ℕ) (terms : Terms) (log : List (Entry K V)) (own : List ℕ) (mode : ResizeMode) (capacity : ℕ) (played : Played V) (old new : Scheduler K V S)
-    (holds : Holds same hash terms (moment log) old) (run : Runs same hash terms log old) (turn : is_kept_out terms (MakeMap own mode capacity) (moment log) ≡ false) (calls : new.calls ≡ old.calls) (fault : Fault)
+    (holds : Holds same hash terms (moment log) old) (run : Runs same hash terms log old) (turn : (moment log).is_closed ≡ false) (calls : new.calls ≡ old.calls) (fault : Fault)
     (d : MakingHasRun played old new own mode capacity (progress.Refused fault)) where
   abbrev m : Moment K V
   m = moment log

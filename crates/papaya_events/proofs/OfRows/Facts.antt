@@ -19,7 +19,6 @@ use Rattle.papaya_folded.specs.Given.Schedules.declared.outcome.Outcome.TheVaria
 use Rattle.papaya_folded.specs.Given.Schedules.After.{moment}
 use Rattle.papaya_folded.specs.Given.Schedules.Beginning.{begun}
 use Rattle.papaya_folded.specs.Given.Schedules.Entry.{Entry, is_busy}
-use Rattle.papaya_folded.specs.Given.Schedules.InTurn.{is_kept_out}
 use Rattle.papaya_folded.specs.Given.Schedules.Moment.{Moment}
 use Rattle.papaya_folded.specs.Given.Schedules.Terms.{Terms}
 use Rattle.papaya_folded.specs.Given.Executor.IsAt.{IsUsedAs, use_at, work_of}
@@ -108,7 +107,7 @@ module _ {K V S : Type 0} (same : K → K → Bool) (hash : K → ℕ) (terms : 
   by_done : (P : Outcome V → Type 0) (outcome : Outcome V) → outcome ≡ Done → P Done → P outcome
   by_done P outcome is so = subst P (sym is) so
 
-  module _ (guard registration : List ℕ) (turn : is_kept_out terms (Enter guard registration) (moment log) ≡ false) where
+  module _ (guard registration : List ℕ) (turn : (moment log).is_closed ≡ false) where
     abbrev enter_due : IsDue same hash terms log (Enter guard registration) p
     enter_due = record { played = stands; in_turn = turn }
 
@@ -135,7 +134,7 @@ module _ {K V S : Type 0} (same : K → K → Bool) (hash : K → ℕ) (terms : 
         none_on : guards_on (slot_of_registration registration m.there) m.there.guards ≡ 0
         none_on = ap (λ (x : ℕ). guards_on x m.there.guards) its_slot ∙ ap (λ (x : Present). guards_on slot x.guards) stands.there ∙ first
 
-  module _ (registration : List ℕ) (turn : is_kept_out terms (Unregister registration) (moment log) ≡ false) where
+  module _ (registration : List ℕ) (turn : (moment log).is_closed ≡ false) where
     abbrev unregister_due : IsDue same hash terms log (Unregister registration) p
     unregister_due = record { played = stands; in_turn = turn }
 
@@ -152,7 +151,7 @@ module _ {K V S : Type 0} (same : K → K → Bool) (hash : K → ℕ) (terms : 
           inside = λ w fits outcome is. tt;
         }
 
-  module _ (guard : List ℕ) (turn : is_kept_out terms (Refresh guard) (moment log) ≡ false) where
+  module _ (guard : List ℕ) (turn : (moment log).is_closed ≡ false) where
     abbrev refresh_due : IsDue same hash terms log (Refresh guard) p
     refresh_due = record { played = stands; in_turn = turn }
 
@@ -180,7 +179,7 @@ module _ {K V S : Type 0} (same : K → K → Bool) (hash : K → ℕ) (terms : 
         lives : living_slot (guard_of guard p.there.guards) ≡ Some slot
         lives = free_lives same hash terms m p stands guard slot free
 
-  module _ (guard : List ℕ) (turn : is_kept_out terms (DropGuard guard) (moment log) ≡ false) where
+  module _ (guard : List ℕ) (turn : (moment log).is_closed ≡ false) where
     abbrev drop_due : IsDue same hash terms log (DropGuard guard) p
     drop_due = record { played = stands; in_turn = turn }
 
@@ -211,7 +210,7 @@ module _ {K V S : Type 0} (same : K → K → Bool) (hash : K → ℕ) (terms : 
         row after true = subst (λ (x : ℕ). IsRowFor (Leave' x) before after (DropGuard guard) Done m) (slot_is same hash terms log p stands guard slot lives) ((rows after).leaves guard (one_on same hash terms log p stands guard slot lives one))
         row after false = subst (λ (x : ℕ). IsRowFor (LeaveOwned x) before after (DropGuard guard) Done m) (slot_is same hash terms log p stands guard slot lives) ((rows after).leaves_owned guard (one_on same hash terms log p stands guard slot lives one))
 
-  module _ (guard : List ℕ) (turn : is_kept_out terms (Flush guard) (moment log) ≡ false) where
+  module _ (guard : List ℕ) (turn : (moment log).is_closed ≡ false) where
     abbrev flush_due : IsDue same hash terms log (Flush guard) p
     flush_due = record { played = stands; in_turn = turn }
 
@@ -319,7 +318,7 @@ module _ {K V S : Type 0} (same : K → K → Bool) (hash : K → ℕ) (terms : 
       inside w fits outcome is (inr (fault, so, why)) = subst (λ (o : Outcome V). EndsInside w (Own guard) o m.there) (sym (is ∙ ap told_so so)) tt
 
   -- whichever event it is
-  pub facts : (event : Event K V) → is_kept_out terms event (moment log) ≡ false → (slot : ℕ) → IsAbout event p slot → (called : SlotCall) → IsItsRow event p slot called → FactsAt event slot called
+  pub facts : (event : Event K V) → (moment log).is_closed ≡ false → (slot : ℕ) → IsAbout event p slot → (called : SlotCall) → IsItsRow event p slot called → FactsAt event slot called
   facts (Register registration) turn slot about called is =
       subst (λ (x : ℕ). FactsAt (Register registration) x called) (sym about.0) (subst (λ (c : SlotCall). FactsAt (Register registration) 0 c) (sym is) (register_facts registration))
   facts (Own guard) turn slot about called is =

@@ -12,10 +12,8 @@ use Rattle.papaya_folded.specs.Given.Schedules.After.{mapped_on, moment}
 use Rattle.papaya_folded.specs.Given.Schedules.Entry.{Entry}
 use Rattle.papaya_folded.specs.Given.Schedules.InTurn.{ComesRight, IsKeptOut}
 use Rattle.papaya_scheduler.specs.Played.{IsPlayed}
-use Rattle.papaya_scheduler.specs.Turns.{keeps_out}
 use Rattle.papaya_scheduler.specs.declared.played.Played.{Played}
 use Rattle.papaya_scheduler.specs.declared.scheduler.Scheduler.{Scheduler}
-use Rattle.papaya_scheduler.proofs.KeptOut.{kept_out_is}
 use Rattle.papaya_scheduler.proofs.Rights.{entry, entry_is}
 use Rattle.papaya_events.specs.Asked.{is_of_calls}
 use Rattle.papaya_events.specs.OfCalls.{RunsOn}
@@ -64,7 +62,7 @@ module _ {K V S : Type 0} (same : K → K → Bool) (hash : K → ℕ) (event : 
         (λ so rest. still_keeps same hash terms log old run (entry event (Refused out.0) played.steps []) new refl (refused_still log run.stands.scene.world event of out.0 played.steps)
         (ap (λ (p : Scheduler K V S). p.logged) mapped) (ap (λ (p : Scheduler K V S). p.calls) mapped) so rest refl) after right
 
-    pub kept_in_turn : {X : Type 0} (result : Result (Played V) X) → IfOk result (λ played. KeepsRun same hash event played old new) → keeps_out event old ≡ false
+    pub kept_in_turn : {X : Type 0} (result : Result (Played V) X) → IfOk result (λ played. KeepsRun same hash event played old new) → old.is_closed ≡ false
         → IfOk result (λ played. KeepsRunAt same hash event played old new)
-    kept_in_turn (Ok played) keeps out = λ of terms log holds run after right. keeps of terms log holds run (kept_out_is same hash terms (moment log) old holds.stands event ∙ out) after right
+    kept_in_turn (Ok played) keeps out = λ of terms log holds run after right. keeps of terms log holds run (holds.stands.closed ∙ out) after right
     kept_in_turn (Err x) keeps out = tt

@@ -17,7 +17,7 @@ use Rattle.papaya_folded.specs.Given.Schedules.Beginning.{at_work}
 use Rattle.papaya_folded.specs.Given.Schedules.Effects.{AtEachEffect, worked}
 use Rattle.papaya_folded.specs.Given.Schedules.Entry.{Entry, IfCall, acted_on, acting, caller_of}
 use Rattle.papaya_folded.specs.Given.Schedules.Handing.{IsWhole, LeavesOf, comes_clear, gives_all, is_granted, is_made, may_do, moments_of, refuses as refuses_growth}
-use Rattle.papaya_folded.specs.Given.Schedules.InTurn.{ComesRight, is_kept_out}
+use Rattle.papaya_folded.specs.Given.Schedules.InTurn.{ComesRight}
 use Rattle.papaya_folded.specs.Given.Schedules.Lives.{Finds}
 use Rattle.papaya_folded.specs.Given.Schedules.Model.{changes_of, left_last}
 use Rattle.papaya_folded.specs.Given.Schedules.Moment.{UnderWay as CallThere, Moment}
@@ -156,7 +156,7 @@ module _ {K V S : Type 0} (same : K → K → Bool) (hash : K → ℕ) (terms : 
   others_on guard slot its many one =
       many (sym (ap (λ (x : ℕ). guards_on x m.there.guards) its ∙ ap (λ (x : Present). guards_on slot x.guards) stands.there) ∙ one)
 
-  pub none_still : (event : Event K V) → is_kept_out terms event m ≡ false → (steps slot : ℕ) → IsAbout event p slot → HasNoRow event p.there slot → IsStill log w (entry event Done steps [])
+  pub none_still : (event : Event K V) → m.is_closed ≡ false → (steps slot : ℕ) → IsAbout event p slot → HasNoRow event p.there slot → IsStill log w (entry event Done steps [])
   none_still (Unregister registration) turn steps slot about some = record { caller = refl; no_call = refl; changes = refl; left = refl; enters = tt; whole = tt; leaves = tt; reclaims = tt }
   none_still (Enter guard registration) turn steps slot (none, found) some = record {
     caller = refl;

@@ -20,7 +20,7 @@ use Rattle.papaya_grows.specs.Given.Schedules.Beginning.{at_work}
 use Rattle.papaya_grows.specs.Given.Schedules.Effects.{with_effect, with_effects, AtEachEffect}
 use Rattle.papaya_grows.specs.Given.Schedules.Entry.{Entry, acted_on, caller_of}
 use Rattle.papaya_grows.specs.Given.Schedules.Handing.{gives_all, is_reclaiming, may_do}
-use Rattle.papaya_grows.specs.Given.Schedules.InTurn.{ComesRight, IsKeptOut, is_kept_out}
+use Rattle.papaya_grows.specs.Given.Schedules.InTurn.{ComesRight, IsKeptOut}
 use Rattle.papaya_grows.specs.Given.Schedules.InUse.{is_left}
 use Rattle.papaya_grows.specs.Given.Schedules.Lists.{is_empty}
 use Rattle.papaya_grows.specs.Given.Schedules.Lives.{Finds}
@@ -127,10 +127,10 @@ module _ {K V : Type 0} (terms : Terms) (log : List (Entry K V)) (steps : ℕ) (
   pub none_called : (its : Event K V) → gives_all its ≡ true → ComesRight terms log (entry its) → m.calls ≡ []
   none_called event.ReclaimAll of_all right =
       nobody_calls (in_turn terms log (entry event.ReclaimAll) (is_left m) _ (was_done V)
-      (not_kept_out terms log (entry event.ReclaimAll) (is_kept_out terms event.ReclaimAll m) (IsKeptOut {K = K} {V = V} event.ReclaimAll (was_done V)) _ (was_done V) (λ out. out) right refl) refl)
+      (not_kept_out terms log (entry event.ReclaimAll) m.is_closed (IsKeptOut {K = K} {V = V} event.ReclaimAll (was_done V)) _ (was_done V) (λ out. out) right refl) refl)
   none_called event.Close of_all right =
       nobody_calls (and_both (is_left m) (is_empty m.maps) (in_turn terms log (entry event.Close) (is_left m && is_empty m.maps) _ (was_done V)
-      (not_kept_out terms log (entry event.Close) (is_kept_out terms event.Close m) (IsKeptOut {K = K} {V = V} event.Close (was_done V)) _ (was_done V) (λ out. out) right refl) refl)).0
+      (not_kept_out terms log (entry event.Close) m.is_closed (IsKeptOut {K = K} {V = V} event.Close (was_done V)) _ (was_done V) (λ out. out) right refl) refl)).0
   none_called _ of_all right = absurd (cc of_all)
 
   calls_then : (its : Event K V) → gives_all its ≡ true → (moment (entry its ∷ log)).calls ≡ m.calls

@@ -20,7 +20,7 @@ use Rattle.papaya_schedules.specs.InTurn.{ComesRight}
 use Rattle.papaya_schedules.specs.Steps.{TakesSteps}
 use Rattle.papaya_schedules.specs.Linearizable.{IsLinearizable}
 use Rattle.papaya_schedules.specs.Handing.{MovesOn}
-use Rattle.papaya_schedules.proofs.Samples.Words.{no_yes, yes_no, found_none, wants_no, owes_one, puts_leaves, answers_refuses, AsksThere, asks_answered, Changed, goes_busy, one_shift, either, strict, entry, spot, shape, makes_pair, makes_table, begin, go, call, entered, inserted}
+use Rattle.papaya_schedules.proofs.Samples.Words.{no_yes, yes_no, found_none, wants_no, owes_one, puts_leaves, answers_refuses, AsksThere, asks_answered, Changed, goes_busy, one_shift, either, small, entry, spot, shape, makes_pair, makes_table, begin, go, call, entered, inserted}
 
 -- caller c begins a call, and gets a reply
 abbrev begun : Call ℕ ℕ → List (Entry ℕ ℕ)
@@ -51,7 +51,7 @@ asks_other : IsLinearizable nat_eq (begun (On (Compute 1))) (go (Asks (Some 7)) 
 asks_other h = either pair_other (either pair_other (λ e. e)) h.asks.1
 
 -- while there is no reply it is told again, and nothing is done
-asks_on : ComesRight strict asked (go (Asks (Some 1)) 0 [])
+asks_on : ComesRight small asked (go (Asks (Some 1)) 0 [])
 asks_on = refl
 
 asks_on_idly : TakesSteps asked (go (Asks (Some 1)) 0 [])
@@ -60,24 +60,24 @@ asks_on_idly = record { makes = refl; does = omega arith; brief = tt }
 answers_asking : ◌≡◌ {A = Outcome ℕ} (Answered (answer.Aborted 5)) (Asks (Some 1)) → ⊥
 answers_asking h = cc
 
-goes_unasked : ComesRight strict asked (go (Answered (answer.Aborted 5)) 3 []) → ⊥
+goes_unasked : ComesRight small asked (go (Answered (answer.Aborted 5)) 3 []) → ⊥
 goes_unasked h = answers_asking h
 
 -- it is told to store, and the pair of the reply is replaced
 abbrev told : List (Entry ℕ ℕ)
 told = reply (Gives 20) ∷ asked
 
-reply_taken : ComesRight strict asked (reply (Gives 20))
+reply_taken : ComesRight small asked (reply (Gives 20))
 reply_taken = refl
 
 updates : IsLinearizable nat_eq told (go (Answered (answer.Updated 1 2)) 9 (makes_pair (Replaced 1 ∷ Stored 2 (spot 0 1) ∷ Retired (APair 1) ∷ [])))
 updates = record { changes = inr (refl, answer.Updated 1 2, Puts 20, refl, refl); ends = refl; asks = tt }
 
 -- wrong: a reply of another kind is taken, or one that nobody asked for
-other_kind : ComesRight strict asked (reply (Decides true)) → ⊥
+other_kind : ComesRight small asked (reply (Decides true)) → ⊥
 other_kind h = goes_busy h
 
-unasked : ComesRight strict told (reply (Gives 21)) → ⊥
+unasked : ComesRight small told (reply (Gives 21)) → ⊥
 unasked h = goes_busy h
 
 -- wrong: it asks about the same pair again
@@ -113,7 +113,7 @@ refuses_removal : IsLinearizable nat_eq (reply Removes ∷ asked) (go (Refused R
 refuses_removal h = either taken (either taken (either taken (either taken (λ e. e)))) h.ends.1
 
 -- wrong: an aborted `compute` keeps a block that it made
-keeps_block : MovesOn strict (reply (Aborts 5) ∷ asked) (go (Answered (answer.Aborted 5)) 9 (Asked ABlock ∷ PairMade ∷ [])) → ⊥
+keeps_block : MovesOn small (reply (Aborts 5) ∷ asked) (go (Answered (answer.Aborted 5)) 9 (Asked ABlock ∷ PairMade ∷ [])) → ⊥
 keeps_block h = yes_no (h.leaves.0.block)
 
 -- meanwhile another call puts pair 2 in the place of pair 1: then it asks about that one
@@ -147,10 +147,10 @@ inserts :
 inserts = record { changes = inr (refl, answer.Inserted 1, Puts 50, refl, refl); ends = refl; asks = tt }
 
 -- wrong: an aborted `compute`, or a removal, makes the first table
-aborts_with_table : MovesOn strict (reply (Aborts 5) ∷ asked_none) (go (Answered (answer.Aborted 5)) 9 (makes_table 0 (shape 32 25) [])) → ⊥
+aborts_with_table : MovesOn small (reply (Aborts 5) ∷ asked_none) (go (Answered (answer.Aborted 5)) 9 (makes_table 0 (shape 32 25) [])) → ⊥
 aborts_with_table h = no_yes (h.finds.1.1.0.1.2.0)
 
-removes_with_table : MovesOn strict entered (call (On (Remove 5)) (Answered answer.Absent) 9 (makes_table 0 (shape 32 25) [])) → ⊥
+removes_with_table : MovesOn small entered (call (On (Remove 5)) (Answered answer.Absent) 9 (makes_table 0 (shape 32 25) [])) → ⊥
 removes_with_table h = no_yes (h.finds.1.1.0.1.2.0)
 
 -- where its value is not needed a closure is not asked: there is a pair, or there is none
@@ -181,7 +181,7 @@ update h = either finds_none (either finds_none (λ e. e)) h.asks.1
 update_or_insert : IsLinearizable nat_eq (begun (On (UpdateOrInsert 5 50))) (go (Asks None) 3 []) → ⊥
 update_or_insert h = either stores_two (either stores_two (λ e. e)) h.asks.1
 
-insertion_asks : ComesRight strict (begun (On (Insert 1 20))) (go (Asks (Some 1)) 3 []) → ⊥
+insertion_asks : ComesRight small (begun (On (Insert 1 20))) (go (Asks (Some 1)) 3 []) → ⊥
 insertion_asks h = no_yes h
 
 -- and where it is needed it is

@@ -20,7 +20,7 @@ use Rattle.papaya_schedules.specs.Steps.{TakesSteps}
 use Rattle.papaya_schedules.specs.Linearizable.{IsLinearizable}
 use Rattle.papaya_schedules.specs.Handing.{MovesOn}
 use Rattle.papaya_schedules.specs.Reclaims.{IsProtected}
-use Rattle.papaya_schedules.proofs.Samples.Words.{no_yes, yes_no, found, one_two, four_two, found_none, goes_busy, done_busy, answered_busy, behind_there, zero_next, nothing_below, nothing_between, either, strict, loose, entry, spot, table, shape, makes_pair, makes_table, call}
+use Rattle.papaya_schedules.proofs.Samples.Words.{no_yes, yes_no, found, one_two, four_two, found_none, goes_busy, done_busy, answered_busy, behind_there, zero_next, nothing_below, nothing_between, either, small, entry, spot, table, shape, makes_pair, makes_table, call}
 use Rattle.papaya_schedules.proofs.Samples.Filled.{made, put_there}
 
 -- a map of two pairs; caller c asks about pair 1
@@ -58,71 +58,69 @@ updated = updates (Deferred 1 (table 0) ∷ []) ∷ told
 abbrev drop_g : List Effect → Entry ℕ ℕ
 drop_g effects = entry (DropGuard (codes "g")) Done 0 effects
 
--- the same, where another call is taken one by one: each event that is not of caller c is out of turn
-busy_meanwhile : ComesRight strict asked (call (On (Insert 8 10)) (Refused Busy) 0 [])
-busy_meanwhile = refl
-
-fault_meanwhile : ComesRight strict asked (entry (MakeMap (codes "z") (Incremental 0) 0) (Refused ZeroChunk) 0 [])
+-- what is wrong in making a map is told meanwhile, too
+fault_meanwhile : ComesRight small asked (entry (MakeMap (codes "z") (Incremental 0) 0) (Refused ZeroChunk) 0 [])
 fault_meanwhile = refl
 
-served_meanwhile : ComesRight strict asked put_three → ⊥
-served_meanwhile h = answered_busy answer.Absent h
+-- wrong: a call is refused since that of another caller is under way
+busy_meanwhile : ComesRight small asked (call (On (Insert 8 10)) (Refused Busy) 0 []) → ⊥
+busy_meanwhile h = h
 
 -- wrong: a guard that a call uses ends; a map ends on which a call is under way; a caller begins twice
-drops_used : ComesRight loose asked (drop_g []) → ⊥
+drops_used : ComesRight small asked (drop_g []) → ⊥
 drops_used h = done_busy h
 
-ends_called : ComesRight loose asked (entry (EndMap (codes "m")) Done 0 []) → ⊥
+ends_called : ComesRight small asked (entry (EndMap (codes "m")) Done 0 []) → ⊥
 ends_called h = done_busy h
 
-begins_twice : ComesRight loose asked begin → ⊥
+begins_twice : ComesRight small asked begin → ⊥
 begins_twice h = goes_busy h
 
 -- c may wait while the resize is under way and another call, and not alone
-waits_alone : ComesRight loose told (go Waits []) → ⊥
+waits_alone : ComesRight small told (go Waits []) → ⊥
 waits_alone h = no_yes h
 
 abbrev beside : List (Entry ℕ ℕ)
 beside = entry (Begin (codes "d") (codes "g") (codes "m") (On (Remove 3))) Goes 0 [] ∷ told
 
-waits_beside : ComesRight loose beside (go Waits [])
+waits_beside : ComesRight small beside (go Waits [])
 waits_beside = refl
 
-waits_for_lookup : ComesRight loose (entry (Begin (codes "d") (codes "g") (codes "m") (On (Get 3))) Goes 0 [] ∷ told) (go Waits []) → ⊥
+waits_for_lookup : ComesRight small (entry (Begin (codes "d") (codes "g") (codes "m") (On (Get 3))) Goes 0 [] ∷ told) (go Waits []) → ⊥
 waits_for_lookup h = no_yes h
 
 -- wrong: the old pair is retired while the table that it was copied out of is the root, or put behind the one in which it lies
-retires_at_once : MovesOn loose told (updates (Retired (APair 1) ∷ [])) → ⊥
+retires_at_once : MovesOn small told (updates (Retired (APair 1) ∷ [])) → ⊥
 retires_at_once h = nothing_below (h.finds.1.1.1.1.1.0.1.1)
 
 other_turn : ◌≡◌ {A = ℕ} 1 2 → ⊥
 other_turn lies = cc
 
-waits_behind_newest : MovesOn loose told (updates (Deferred 1 (table 1) ∷ [])) → ⊥
+waits_behind_newest : MovesOn small told (updates (Deferred 1 (table 1) ∷ [])) → ⊥
 waits_behind_newest h = other_turn (h.finds.1.1.1.1.1.0.1.1.1)
 
 -- wrong: a pair that was never copied is put behind a table
 defers_uncopied :
-    MovesOn loose told (entry (OneCall (codes "g") (codes "m") (On (Remove 8))) (Answered (answer.Found 3)) 9 (Removed 3 ∷ Deferred 3 (table 0)
+    MovesOn small told (entry (OneCall (codes "g") (codes "m") (On (Remove 8))) (Answered (answer.Found 3)) 9 (Removed 3 ∷ Deferred 3 (table 0)
     ∷ Counted 0 ∷ [])) → ⊥
 defers_uncopied h = nothing_between (h.finds.1.0.1.1.2)
 
 -- wrong: the root comes to the next table before all pairs do
-passes_early : MovesOn loose told (go Goes (Promoted (table 1) ∷ [])) → ⊥
+passes_early : MovesOn small told (go Goes (Promoted (table 1) ∷ [])) → ⊥
 passes_early h = no_yes (h.finds.0.1.3)
 
 -- wrong: a pair is copied that has left, backwards, or to a place of no table
-copies_left : MovesOn loose updated (entry (OneCall (codes "g") (codes "m") (On (Remove 1))) Goes 9 (Copied 1 (spot 1 9) ∷ [])) → ⊥
+copies_left : MovesOn small updated (entry (OneCall (codes "g") (codes "m") (On (Remove 1))) Goes 9 (Copied 1 (spot 1 9) ∷ [])) → ⊥
 copies_left h = behind_there (h.finds.0.1.0)
 
-copies_nowhere : MovesOn loose told (go Goes (Copied 2 (spot 1 16) ∷ [])) → ⊥
+copies_nowhere : MovesOn small told (go Goes (Copied 2 (spot 1 16) ∷ [])) → ⊥
 copies_nowhere h = no_yes (h.finds.0.1.3)
 
 -- wrong: one place is taken by two pairs; a pair takes another place than the one that it replaces
-one_place : MovesOn loose told (entry (OneCall (codes "g") (codes "m") (On (Insert 9 10))) Goes 9 (makes_pair (Stored 4 (spot 1 0) ∷ []))) → ⊥
+one_place : MovesOn small told (entry (OneCall (codes "g") (codes "m") (On (Insert 9 10))) Goes 9 (makes_pair (Stored 4 (spot 1 0) ∷ []))) → ⊥
 one_place h = yes_no (h.finds.1.1.0.1.4)
 
-other_place : MovesOn loose told (go (Answered (answer.Updated 1 4)) (makes_pair (Replaced 1 ∷ Stored 4 (spot 1 7) ∷ []))) → ⊥
+other_place : MovesOn small told (go (Answered (answer.Updated 1 4)) (makes_pair (Replaced 1 ∷ Stored 4 (spot 1 7) ∷ []))) → ⊥
 other_place h = no_yes (h.finds.1.1.1.0.1.4)
 
 -- wrong: the pair comes back as one of two guards ends that were open as it was replaced; and the end of one of two reclaims nothing
@@ -134,7 +132,7 @@ two_guards =
 back_too_early : IsProtected two_guards (drop_g (Reclaimed (APair 1) ∷ [])) → ⊥
 back_too_early h = yes_no h
 
-first_reclaims : MovesOn loose two_guards (drop_g (Reclaimed (APair 1) ∷ [])) → ⊥
+first_reclaims : MovesOn small two_guards (drop_g (Reclaimed (APair 1) ∷ [])) → ⊥
 first_reclaims h = no_yes (h.may)
 
 both_ended : IsProtected (drop_g [] ∷ two_guards) (entry (DropGuard (codes "h")) Done 0 (Reclaimed (APair 1) ∷ []))
@@ -180,13 +178,13 @@ reads_on : TakesSteps looks (entry (Go (codes "c") false) (Answered (answer.Foun
 reads_on h = either too_many (either too_many (either too_many (either too_many (either too_many (λ e. e))))) h.brief
 
 -- wrong: it takes memory, is refused for want of it, or copies a pair
-lookup_asks : MovesOn loose looks (go Goes (Asked ABlock ∷ [])) → ⊥
+lookup_asks : MovesOn small looks (go Goes (Asked ABlock ∷ [])) → ⊥
 lookup_asks h = yes_no (h.finds.0.0)
 
-lookup_refused : ComesRight loose looks (go (Refused Memory) []) → ⊥
+lookup_refused : ComesRight small looks (go (Refused Memory) []) → ⊥
 lookup_refused h = no_yes h
 
-lookup_copies : MovesOn loose looks (go Goes (Copied 2 (spot 1 2) ∷ [])) → ⊥
+lookup_copies : MovesOn small looks (go Goes (Copied 2 (spot 1 2) ∷ [])) → ⊥
 lookup_copies h = yes_no (h.finds.0.0)
 
 -- wrong: one step does two things, or none

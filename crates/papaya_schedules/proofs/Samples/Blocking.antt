@@ -17,7 +17,7 @@ use Rattle.papaya_schedules.specs.Moment.{Place, InMap, GivenBack}
 use Rattle.papaya_schedules.specs.Entry.{Entry}
 use Rattle.papaya_schedules.specs.Steps.{TakesSteps}
 use Rattle.papaya_schedules.specs.Handing.{MovesOn}
-use Rattle.papaya_schedules.proofs.Samples.Words.{no_yes, either, some_thing, strict, entry, spot, table, shape, makes_pair, makes_table, call, registered}
+use Rattle.papaya_schedules.proofs.Samples.Words.{no_yes, either, some_thing, small, entry, spot, table, shape, makes_pair, makes_table, call, registered}
 
 -- a map with a first table of 8 places, and two pairs in it
 abbrev made : List (Entry ℕ ℕ)
@@ -51,7 +51,7 @@ retires = Retired (ATable (table 0)) ∷ Retired (ATable (table 1)) ∷ []
 abbrev stores : List Effect
 stores = Stored 3 (spot 2 9) ∷ Counted 0 ∷ []
 
-resizes : MovesOn strict filled (put_three (retires ++ stores))
+resizes : MovesOn small filled (put_three (retires ++ stores))
 unfolding lib.Count.count_leading_zeros
 resizes =
     record {
@@ -106,17 +106,17 @@ other_turn : ◌≡◌ {A = ℕ} 1 0 → ⊥
 other_turn h = omega (arith, h)
 
 -- wrong: the table between is dropped out of sight
-drops_table : MovesOn strict filled (put_three (Retired (ATable (table 0)) ∷ stores)) → ⊥
+drops_table : MovesOn small filled (put_three (Retired (ATable (table 0)) ∷ stores)) → ⊥
 drops_table h = some_thing (ATable (table 1)) [] h.leaves.0.owes
 
 -- wrong: the root comes to the table that had no place; the pair goes into a table that the root has not come to
 abbrev resize_half : List Effect → Entry ℕ ℕ
 resize_half effects = call (On (Insert 9 10)) (Answered answer.Absent) 90 (makes_pair (makes_table 1 (shape 8 7) (Copied 2 (spot 1 0) ∷ effects)))
 
-passes_early : MovesOn strict filled (resize_half (Promoted (table 1) ∷ [])) → ⊥
+passes_early : MovesOn small filled (resize_half (Promoted (table 1) ∷ [])) → ⊥
 passes_early h = no_yes h.finds.1.1.1.1.1.1.0.1.3
 
-stores_ahead : MovesOn strict filled (resize_half (Stored 3 (spot 1 3) ∷ [])) → ⊥
+stores_ahead : MovesOn small filled (resize_half (Stored 3 (spot 1 3) ∷ [])) → ⊥
 stores_ahead h = other_turn h.finds.1.1.1.1.1.1.0.1.3
 
 -- the further table is refused, and the map ends: its pairs come by the places of the root's table, whatever was copied
@@ -127,7 +127,7 @@ unfinished =
 abbrev end_m : List Effect → Entry ℕ ℕ
 end_m effects = entry (EndMap (codes "m")) Done 0 (effects ++ Taken (table 0) ∷ Taken (table 1) ∷ [])
 
-ends_in_order : MovesOn strict unfinished (end_m (Ended 1 ∷ Ended 2 ∷ []))
+ends_in_order : MovesOn small unfinished (end_m (Ended 1 ∷ Ended 2 ∷ []))
 ends_in_order =
     record {
       finds = (refl, (refl, ((refl, refl), ((refl, refl), tt))));
@@ -139,7 +139,7 @@ ends_in_order =
     }
 
 -- wrong: by the places of copies
-ends_by_copies : MovesOn strict unfinished (end_m (Ended 2 ∷ Ended 1 ∷ [])) → ⊥
+ends_by_copies : MovesOn small unfinished (end_m (Ended 2 ∷ Ended 1 ∷ [])) → ⊥
 ends_by_copies h = no_yes h.whole.order
 
 -- a lookup stays in the root's table

@@ -16,18 +16,18 @@ use Rattle.papaya_schedules.specs.InTurn.{ComesRight}
 use Rattle.papaya_schedules.specs.Handing.{MovesOn}
 use Rattle.papaya_schedules.specs.Model.{IsByModel}
 use Rattle.papaya_schedules.specs.Reclaims.{LeavesLittle}
-use Rattle.papaya_schedules.proofs.Samples.Words.{no_yes, behind_there, next_zero, strict, loose, entry, table, shape, drop_guard}
+use Rattle.papaya_schedules.proofs.Samples.Words.{no_yes, behind_there, next_zero, small, entry, table, shape, drop_guard}
 use Rattle.papaya_schedules.proofs.Samples.Resized.{grown, removed}
 
 -- while the resize goes on both tables are shown, the root's first
-shows_both : (v : Vec TableShape) → v.items ≡ shape 8 7 ∷ shape 16 15 ∷ [] → ComesRight strict grown (entry (ShowShape (codes "m")) (Shape v) 0 [])
+shows_both : (v : Vec TableShape) → v.items ≡ shape 8 7 ∷ shape 16 15 ∷ [] → ComesRight small grown (entry (ShowShape (codes "m")) (Shape v) 0 [])
 shows_both v is = is
 
 -- wrong: one is left out, or has another last try
 fewer : (shown : List TableShape) → shown ≡ shape 8 7 ∷ [] → shown ≡ shape 8 7 ∷ shape 16 15 ∷ [] → ⊥
 fewer shown one both = cc
 
-shows_root : (v : Vec TableShape) → v.items ≡ shape 8 7 ∷ [] → ComesRight strict grown (entry (ShowShape (codes "m")) (Shape v) 0 []) → ⊥
+shows_root : (v : Vec TableShape) → v.items ≡ shape 8 7 ∷ [] → ComesRight small grown (entry (ShowShape (codes "m")) (Shape v) 0 []) → ⊥
 shows_root v is h = fewer v.items is h
 
 abbrev limits : List TableShape → List ℕ
@@ -39,7 +39,7 @@ limits_of shapes others same = cc
 apart : {shown : List ℕ} → shown ≡ 7 ∷ 3 ∷ [] → shown ≡ 7 ∷ 15 ∷ [] → ⊥
 apart told are = cc
 
-shows_other : (v : Vec TableShape) → v.items ≡ shape 8 7 ∷ shape 16 3 ∷ [] → ComesRight strict grown (entry (ShowShape (codes "m")) (Shape v) 0 []) → ⊥
+shows_other : (v : Vec TableShape) → v.items ≡ shape 8 7 ∷ shape 16 3 ∷ [] → ComesRight small grown (entry (ShowShape (codes "m")) (Shape v) 0 []) → ⊥
 shows_other v is h = apart (limits_of v.items (shape 8 7 ∷ shape 16 3 ∷ []) is) (limits_of v.items (shape 8 7 ∷ shape 16 15 ∷ []) h)
 
 -- the map ends while the resize goes on: its pairs come table by table, place by place, and what waited behind a table is left over
@@ -49,7 +49,7 @@ end_m effects = entry (EndMap (codes "m")) Done 0 (effects ++ Taken (table 0) �
 abbrev pub in_order_of_places : List Effect
 in_order_of_places = Ended 3 ∷ Ended 4 ∷ Ended 5 ∷ Ended 6 ∷ Ended 7 ∷ Ended 8 ∷ Ended 2 ∷ Ended 9 ∷ []
 
-ends_in_order : MovesOn strict removed (end_m in_order_of_places)
+ends_in_order : MovesOn small removed (end_m in_order_of_places)
 ends_in_order =
     record {
       finds = (refl, (refl, (refl, (refl, (refl, (refl, (refl, (refl, ((refl, refl), ((refl, refl), tt))))))))));
@@ -61,19 +61,19 @@ ends_in_order =
     }
 
 -- wrong: they come by their numbers; one is kept; the pair that waits is reclaimed with them; a table is kept
-ends_by_number : MovesOn strict removed (end_m (Ended 2 ∷ Ended 3 ∷ Ended 4 ∷ Ended 5 ∷ Ended 6 ∷ Ended 7 ∷ Ended 8 ∷ Ended 9 ∷ [])) → ⊥
+ends_by_number : MovesOn small removed (end_m (Ended 2 ∷ Ended 3 ∷ Ended 4 ∷ Ended 5 ∷ Ended 6 ∷ Ended 7 ∷ Ended 8 ∷ Ended 9 ∷ [])) → ⊥
 ends_by_number h = no_yes (h.whole.order)
 
-keeps_pair : MovesOn strict removed (end_m (Ended 3 ∷ Ended 4 ∷ Ended 5 ∷ Ended 6 ∷ Ended 7 ∷ Ended 8 ∷ Ended 2 ∷ [])) → ⊥
+keeps_pair : MovesOn small removed (end_m (Ended 3 ∷ Ended 4 ∷ Ended 5 ∷ Ended 6 ∷ Ended 7 ∷ Ended 8 ∷ Ended 2 ∷ [])) → ⊥
 keeps_pair h = next_zero 0 (h.whole.all)
 
-ends_waiting : MovesOn strict removed (end_m (Ended 1 ∷ in_order_of_places)) → ⊥
+ends_waiting : MovesOn small removed (end_m (Ended 1 ∷ in_order_of_places)) → ⊥
 ends_waiting h = behind_there (h.finds.0)
 
 one_of_two : ◌≡◌ {A = List Table} (table 0 ∷ []) (table 0 ∷ table 1 ∷ []) → ⊥
 one_of_two h = cc
 
-keeps_table : MovesOn strict removed (entry (EndMap (codes "m")) Done 0 (in_order_of_places ++ Taken (table 0) ∷ [])) → ⊥
+keeps_table : MovesOn small removed (entry (EndMap (codes "m")) Done 0 (in_order_of_places ++ Taken (table 0) ∷ [])) → ⊥
 keeps_table h = one_of_two (h.whole.tables)
 
 -- what it left over comes back with everything, and holds the map's root till then
@@ -83,23 +83,20 @@ left_over = entry (Unregister (codes "r")) Done 0 [] ∷ drop_guard [] ∷ end_m
 abbrev reclaim_all : List Effect → Entry ℕ ℕ
 reclaim_all effects = entry ReclaimAll Done 0 effects
 
-root_is_held : ComesRight loose left_over (entry (MakeMap (codes "n") Blocking 0) (Refused RootsUsedUp) 0 [])
+root_is_held : ComesRight small left_over (entry (MakeMap (codes "n") Blocking 0) (Refused RootsUsedUp) 0 [])
 root_is_held = refl
 
-one_map_alone : ComesRight strict left_over (entry (MakeMap (codes "n") Blocking 0) (Refused Busy) 0 [])
-one_map_alone = refl
-
-left_comes_back : IsByModel strict left_over (reclaim_all (Reclaimed (APair 1) ∷ []))
+left_comes_back : IsByModel small left_over (reclaim_all (Reclaimed (APair 1) ∷ []))
 left_comes_back = refl
 
-left_moves_on : MovesOn strict left_over (reclaim_all (Reclaimed (APair 1) ∷ []))
+left_moves_on : MovesOn small left_over (reclaim_all (Reclaimed (APair 1) ∷ []))
 left_moves_on = record { finds = (refl, tt); may = refl; granted = refl; refuses = refl; whole = tt; leaves = tt }
 
 -- wrong: it waits on; the collector ends without it; it is reclaimed by a call
-waits_on : LeavesLittle strict left_over (reclaim_all []) → ⊥
+waits_on : LeavesLittle small left_over (reclaim_all []) → ⊥
 waits_on h = no_yes (h.emptied.0.pairs)
 
-is_torn_down : LeavesLittle strict left_over (entry Close Done 0 (Reclaimed (APair 1) ∷ []))
+is_torn_down : LeavesLittle small left_over (entry Close Done 0 (Reclaimed (APair 1) ∷ []))
 is_torn_down =
     record {
       bounded = omega arith;
@@ -108,5 +105,5 @@ is_torn_down =
       torn_down = refl;
     }
 
-is_torn_down_short : LeavesLittle strict left_over (entry Close Done 0 []) → ⊥
+is_torn_down_short : LeavesLittle small left_over (entry Close Done 0 []) → ⊥
 is_torn_down_short h = no_yes (h.torn_down)

@@ -12,7 +12,7 @@ use Rattle.papaya_schedules.specs.declared.outcome.Outcome.TheVariants.{Done, An
 use Rattle.papaya_schedules.specs.Sequential.{Puts}
 use Rattle.papaya_schedules.specs.Entry.{Entry}
 use Rattle.papaya_schedules.specs.Runs.{IsLegalLog}
-use Rattle.papaya_schedules.proofs.Samples.Words.{loose, entry, spot, shape, makes_pair, makes_table, call, registered}
+use Rattle.papaya_schedules.proofs.Samples.Words.{small, entry, spot, shape, makes_pair, makes_table, call, registered}
 
 -- a map with a first table of 8 places, of which a call copies one at a time
 abbrev pub made : List (Entry ℕ ℕ)
@@ -30,7 +30,7 @@ abbrev pub filled : List (Entry ℕ ℕ)
 filled = put_there 7 8 ∷ put_there 6 7 ∷ put_there 5 6 ∷ put_there 4 5 ∷ put_there 3 4 ∷ put_there 2 3 ∷ put_there 1 2 ∷ put_there 0 1 ∷ made
 
 -- event by event, the promises are kept
-after_1 : IsLegalLog nat_eq loose (drop 11 filled)
+after_1 : IsLegalLog nat_eq small (drop 11 filled)
 after_1 = (
   record {
     right = refl;
@@ -46,7 +46,7 @@ after_1 = (
   tt,
 )
 
-after_2 : IsLegalLog nat_eq loose (drop 10 filled)
+after_2 : IsLegalLog nat_eq small (drop 10 filled)
 after_2 = (
   record {
     right = inl refl;
@@ -62,7 +62,7 @@ after_2 = (
   after_1,
 )
 
-after_3 : IsLegalLog nat_eq loose (drop 9 filled)
+after_3 : IsLegalLog nat_eq small (drop 9 filled)
 unfolding lib.Count.count_leading_zeros
 after_3 = (
   record {
@@ -87,7 +87,7 @@ after_3 = (
   after_2,
 )
 
-after_4 : IsLegalLog nat_eq loose (drop 8 filled)
+after_4 : IsLegalLog nat_eq small (drop 8 filled)
 after_4 = (
   record {
     right = refl;
@@ -103,7 +103,7 @@ after_4 = (
   after_3,
 )
 
-after_5 : IsLegalLog nat_eq loose (drop 7 filled)
+after_5 : IsLegalLog nat_eq small (drop 7 filled)
 after_5 = (
   record {
     right = refl;
@@ -129,7 +129,7 @@ after_5 = (
   after_4,
 )
 
-after_6 : IsLegalLog nat_eq loose (drop 6 filled)
+after_6 : IsLegalLog nat_eq small (drop 6 filled)
 after_6 = (
   record {
     right = refl;
@@ -155,7 +155,7 @@ after_6 = (
   after_5,
 )
 
-after_7 : IsLegalLog nat_eq loose (drop 5 filled)
+after_7 : IsLegalLog nat_eq small (drop 5 filled)
 after_7 = (
   record {
     right = refl;
@@ -181,7 +181,7 @@ after_7 = (
   after_6,
 )
 
-after_8 : IsLegalLog nat_eq loose (drop 4 filled)
+after_8 : IsLegalLog nat_eq small (drop 4 filled)
 after_8 = (
   record {
     right = refl;
@@ -207,7 +207,7 @@ after_8 = (
   after_7,
 )
 
-after_9 : IsLegalLog nat_eq loose (drop 3 filled)
+after_9 : IsLegalLog nat_eq small (drop 3 filled)
 after_9 = (
   record {
     right = refl;
@@ -233,7 +233,7 @@ after_9 = (
   after_8,
 )
 
-after_10 : IsLegalLog nat_eq loose (drop 2 filled)
+after_10 : IsLegalLog nat_eq small (drop 2 filled)
 after_10 = (
   record {
     right = refl;
@@ -259,7 +259,7 @@ after_10 = (
   after_9,
 )
 
-after_11 : IsLegalLog nat_eq loose (drop 1 filled)
+after_11 : IsLegalLog nat_eq small (drop 1 filled)
 after_11 = (
   record {
     right = refl;
@@ -285,7 +285,7 @@ after_11 = (
   after_10,
 )
 
-pub filled_run : IsLegalLog nat_eq loose filled
+pub filled_run : IsLegalLog nat_eq small filled
 filled_run = (
   record {
     right = refl;

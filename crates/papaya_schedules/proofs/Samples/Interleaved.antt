@@ -15,7 +15,7 @@ use Rattle.papaya_schedules.specs.declared.outcome.Outcome.TheVariants.{Done, Sl
 use Rattle.papaya_schedules.specs.Sequential.{Puts}
 use Rattle.papaya_schedules.specs.Entry.{Entry}
 use Rattle.papaya_schedules.specs.Runs.{IsLegalLog}
-use Rattle.papaya_schedules.proofs.Samples.Words.{loose, entry, spot, table, makes_pair, call}
+use Rattle.papaya_schedules.proofs.Samples.Words.{small, entry, spot, table, makes_pair, call}
 use Rattle.papaya_schedules.proofs.Samples.Filled.{filled, filled_run}
 use Rattle.papaya_schedules.proofs.Samples.Resized.{grows, passes}
 
@@ -64,7 +64,7 @@ abbrev reclaimed : List (Entry ℕ ℕ)
 reclaimed = drop_named (codes "i") (Reclaimed (ATable (table 0)) ∷ Reclaimed (APair 1) ∷ []) ∷ passed
 
 -- event by event, the promises are kept
-since_1 : IsLegalLog nat_eq loose (drop 12 reclaimed)
+since_1 : IsLegalLog nat_eq small (drop 12 reclaimed)
 since_1 = (
   record {
     right = inl refl;
@@ -80,7 +80,7 @@ since_1 = (
   filled_run,
 )
 
-since_2 : IsLegalLog nat_eq loose (drop 11 reclaimed)
+since_2 : IsLegalLog nat_eq small (drop 11 reclaimed)
 since_2 = (
   record {
     right = refl;
@@ -96,7 +96,7 @@ since_2 = (
   since_1,
 )
 
-since_3 : IsLegalLog nat_eq loose (drop 10 reclaimed)
+since_3 : IsLegalLog nat_eq small (drop 10 reclaimed)
 since_3 = (
   record {
     right = refl;
@@ -112,7 +112,7 @@ since_3 = (
   since_2,
 )
 
-since_4 : IsLegalLog nat_eq loose (drop 9 reclaimed)
+since_4 : IsLegalLog nat_eq small (drop 9 reclaimed)
 since_4 = (
   record {
     right = refl;
@@ -128,7 +128,7 @@ since_4 = (
   since_3,
 )
 
-since_5 : IsLegalLog nat_eq loose (drop 8 reclaimed)
+since_5 : IsLegalLog nat_eq small (drop 8 reclaimed)
 unfolding lib.Count.count_leading_zeros
 since_5 = (
   record {
@@ -170,7 +170,7 @@ since_5 = (
   since_4,
 )
 
-since_6 : IsLegalLog nat_eq loose (drop 7 reclaimed)
+since_6 : IsLegalLog nat_eq small (drop 7 reclaimed)
 since_6 = (
   record {
     right = refl;
@@ -186,7 +186,7 @@ since_6 = (
   since_5,
 )
 
-since_7 : IsLegalLog nat_eq loose (drop 6 reclaimed)
+since_7 : IsLegalLog nat_eq small (drop 6 reclaimed)
 since_7 = (
   record {
     right = refl;
@@ -224,7 +224,7 @@ since_7 = (
   since_6,
 )
 
-since_8 : IsLegalLog nat_eq loose (drop 5 reclaimed)
+since_8 : IsLegalLog nat_eq small (drop 5 reclaimed)
 since_8 = (
   record {
     right = refl;
@@ -240,7 +240,7 @@ since_8 = (
   since_7,
 )
 
-since_9 : IsLegalLog nat_eq loose (drop 4 reclaimed)
+since_9 : IsLegalLog nat_eq small (drop 4 reclaimed)
 since_9 = (
   record {
     right = refl;
@@ -256,7 +256,7 @@ since_9 = (
   since_8,
 )
 
-since_10 : IsLegalLog nat_eq loose (drop 3 reclaimed)
+since_10 : IsLegalLog nat_eq small (drop 3 reclaimed)
 since_10 = (
   record {
     right = refl;
@@ -272,7 +272,7 @@ since_10 = (
   since_9,
 )
 
-since_11 : IsLegalLog nat_eq loose (drop 2 reclaimed)
+since_11 : IsLegalLog nat_eq small (drop 2 reclaimed)
 since_11 = (
   record {
     right = refl;
@@ -310,7 +310,7 @@ since_11 = (
   since_10,
 )
 
-since_12 : IsLegalLog nat_eq loose (drop 1 reclaimed)
+since_12 : IsLegalLog nat_eq small (drop 1 reclaimed)
 since_12 = (
   record {
     right = refl;
@@ -326,7 +326,7 @@ since_12 = (
   since_11,
 )
 
-two_callers : IsLegalLog nat_eq loose reclaimed
+two_callers : IsLegalLog nat_eq small reclaimed
 two_callers = (
   record {
     right = refl;

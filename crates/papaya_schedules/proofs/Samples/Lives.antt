@@ -16,15 +16,15 @@ use Rattle.papaya_schedules.specs.Handing.{MovesOn}
 use Rattle.papaya_schedules.specs.Linearizable.{IsLinearizable}
 use Rattle.papaya_schedules.specs.Model.{IsByModel}
 use Rattle.papaya_schedules.specs.Reclaims.{IsProtected, LeavesLittle}
-use Rattle.papaya_schedules.proofs.Samples.Words.{no_yes, yes_no, puts_leaves, absent_found, some_thing, some_table, zero_next, next_zero, nothing_below, nothing_between, either, strict, entry, spot, table, shape, makes_pair, call, inserted, drop_guard}
+use Rattle.papaya_schedules.proofs.Samples.Words.{no_yes, yes_no, puts_leaves, absent_found, some_thing, some_table, zero_next, next_zero, nothing_below, nothing_between, either, small, entry, spot, table, shape, makes_pair, call, inserted, drop_guard}
 use Rattle.papaya_schedules.proofs.Samples.Stored.{put_two, replaced, dropped}
 use Rattle.papaya_schedules.proofs.Samples.Resized as resized
 
 -- wrong: a pair is put behind a table that it was never copied past, or behind one that never was
-behind_newest : MovesOn strict inserted (put_two (Answered (answer.Found 1)) (Deferred 1 (table 0) ∷ [])) → ⊥
+behind_newest : MovesOn small inserted (put_two (Answered (answer.Found 1)) (Deferred 1 (table 0) ∷ [])) → ⊥
 behind_newest h = zero_next 0 (h.finds.1.1.1.1.0.1.1.1)
 
-behind_none : MovesOn strict inserted (put_two (Answered (answer.Found 1)) (Deferred 1 (table 1000) ∷ [])) → ⊥
+behind_none : MovesOn small inserted (put_two (Answered (answer.Found 1)) (Deferred 1 (table 1000) ∷ [])) → ⊥
 behind_none h = zero_next 1000 (h.finds.1.1.1.1.0.1.1.1)
 
 -- wrong: tables are retired that never were, thirty of them, or one that the root has not passed
@@ -32,49 +32,49 @@ abbrev retire_tables : ℕ → List Effect
 retire_tables zero = []
 retire_tables (suc n) = Retired (ATable (table (n + 1))) ∷ retire_tables n
 
-thirty_tables : MovesOn strict inserted (put_two (Answered (answer.Found 1)) (Retired (APair 1) ∷ retire_tables 30)) → ⊥
+thirty_tables : MovesOn small inserted (put_two (Answered (answer.Found 1)) (Retired (APair 1) ∷ retire_tables 30)) → ⊥
 thirty_tables h = no_yes (h.finds.1.1.1.1.1.0.1)
 
-retires_root : MovesOn strict inserted (put_two (Answered (answer.Found 1)) (Retired (APair 1) ∷ Retired (ATable (table 0)) ∷ [])) → ⊥
+retires_root : MovesOn small inserted (put_two (Answered (answer.Found 1)) (Retired (APair 1) ∷ Retired (ATable (table 0)) ∷ [])) → ⊥
 retires_root h = no_yes (h.finds.1.1.1.1.1.0.1)
 
 -- wrong: the pair is not handed over, or twice
-keeps_for_ever : MovesOn strict inserted (put_two (Answered (answer.Found 1)) []) → ⊥
+keeps_for_ever : MovesOn small inserted (put_two (Answered (answer.Found 1)) []) → ⊥
 keeps_for_ever h = some_thing (APair 1) [] (h.leaves.0.owes)
 
-hands_twice : MovesOn strict inserted (put_two (Answered (answer.Found 1)) (Retired (APair 1) ∷ Retired (APair 1) ∷ [])) → ⊥
+hands_twice : MovesOn small inserted (put_two (Answered (answer.Found 1)) (Retired (APair 1) ∷ Retired (APair 1) ∷ [])) → ⊥
 hands_twice h = no_yes (h.finds.1.1.1.1.1.0.1.0)
 
 -- wrong: a pair is reclaimed that is in the map, or that was never stored; or twice
-back_in_map : MovesOn strict inserted (drop_guard (Reclaimed (APair 1) ∷ [])) → ⊥
+back_in_map : MovesOn small inserted (drop_guard (Reclaimed (APair 1) ∷ [])) → ⊥
 back_in_map h = h.finds.0
 
-back_unstored : MovesOn strict replaced (drop_guard (Reclaimed (APair 3) ∷ [])) → ⊥
+back_unstored : MovesOn small replaced (drop_guard (Reclaimed (APair 3) ∷ [])) → ⊥
 back_unstored h = h.finds.0
 
-back_twice : MovesOn strict replaced (drop_guard (Reclaimed (APair 1) ∷ Reclaimed (APair 1) ∷ [])) → ⊥
+back_twice : MovesOn small replaced (drop_guard (Reclaimed (APair 1) ∷ Reclaimed (APair 1) ∷ [])) → ⊥
 back_twice h = h.finds.1.0
 
-back_again : MovesOn strict dropped (entry (Refresh (codes "g")) Done 0 (Reclaimed (APair 1) ∷ [])) → ⊥
+back_again : MovesOn small dropped (entry (Refresh (codes "g")) Done 0 (Reclaimed (APair 1) ∷ [])) → ⊥
 back_again h = h.finds.0
 
 -- wrong: it comes back while the guard is open under which it was replaced; by a flush; or not at all as that guard ends
 back_too_early : IsProtected inserted (put_two (Answered (answer.Found 1)) (Retired (APair 1) ∷ Reclaimed (APair 1) ∷ [])) → ⊥
 back_too_early h = yes_no h
 
-back_by_call : MovesOn strict inserted (put_two (Answered (answer.Found 1)) (Retired (APair 1) ∷ Reclaimed (APair 1) ∷ [])) → ⊥
+back_by_call : MovesOn small inserted (put_two (Answered (answer.Found 1)) (Retired (APair 1) ∷ Reclaimed (APair 1) ∷ [])) → ⊥
 back_by_call h = no_yes (h.may)
 
-back_by_flush : MovesOn strict replaced (entry (Flush (codes "g")) Done 0 (Reclaimed (APair 1) ∷ [])) → ⊥
+back_by_flush : MovesOn small replaced (entry (Flush (codes "g")) Done 0 (Reclaimed (APair 1) ∷ [])) → ⊥
 back_by_flush h = no_yes (h.may)
 
 none_back : ◌≡◌ {A = List ℕ} [] (1 ∷ []) → ⊥
 none_back h = cc
 
-nothing_back : IsByModel strict replaced (drop_guard []) → ⊥
+nothing_back : IsByModel small replaced (drop_guard []) → ⊥
 nothing_back h = none_back h
 
-waits_at_rest : LeavesLittle strict replaced (drop_guard []) → ⊥
+waits_at_rest : LeavesLittle small replaced (drop_guard []) → ⊥
 waits_at_rest h = nothing_below (h.bounded)
 
 -- wrong: the insertion tells that there was no pair, or changes nothing; another number is given; the same block is stored twice
@@ -90,34 +90,34 @@ absent_and_nothing h = either (puts_leaves answer.Absent 20) (λ e. e) h.ends
 three_two : ◌≡◌ {A = ℕ} 3 2 → ⊥
 three_two h = omega (arith, h)
 
-numbers_on : MovesOn strict inserted (call (On (Insert 2 20)) (Answered answer.Absent) 9 (makes_pair (Stored 3 (spot 0 2) ∷ Counted 0 ∷ []))) → ⊥
+numbers_on : MovesOn small inserted (call (On (Insert 2 20)) (Answered answer.Absent) 9 (makes_pair (Stored 3 (spot 0 2) ∷ Counted 0 ∷ []))) → ⊥
 numbers_on h = three_two (h.finds.1.1.0.1.0)
 
-stores_unmade : MovesOn strict inserted (call (On (Insert 2 20)) (Answered answer.Absent) 9 (Stored 2 (spot 0 2) ∷ Counted 0 ∷ [])) → ⊥
+stores_unmade : MovesOn small inserted (call (On (Insert 2 20)) (Answered answer.Absent) 9 (Stored 2 (spot 0 2) ∷ Counted 0 ∷ [])) → ⊥
 stores_unmade h = no_yes (h.finds.0.1.1)
 
 -- wrong: what it stored is not counted, or in another shard
-counts_nothing : MovesOn strict inserted (call (On (Insert 2 20)) (Answered answer.Absent) 9 (makes_pair (Stored 2 (spot 0 2) ∷ []))) → ⊥
+counts_nothing : MovesOn small inserted (call (On (Insert 2 20)) (Answered answer.Absent) 9 (makes_pair (Stored 2 (spot 0 2) ∷ []))) → ⊥
 counts_nothing h = next_zero 0 (h.leaves.0.counted)
 
-counts_elsewhere : MovesOn strict inserted (call (On (Insert 2 20)) (Answered answer.Absent) 9 (makes_pair (Stored 2 (spot 0 2) ∷ Counted 1 ∷ []))) → ⊥
+counts_elsewhere : MovesOn small inserted (call (On (Insert 2 20)) (Answered answer.Absent) 9 (makes_pair (Stored 2 (spot 0 2) ∷ Counted 1 ∷ []))) → ⊥
 counts_elsewhere h = next_zero 0 (h.finds.1.1.1.0.1.1)
 
 -- a table that comes too late is given up; wrong: it is kept, or comes in with a turn too high, a length or a last try of no rule
 abbrev grow : List Effect → Entry ℕ ℕ
 grow effects = call (On (Insert 9 10)) (Answered answer.Absent) 40 (makes_pair effects)
 
-keeps_table : MovesOn strict inserted (grow (Asked ABlock ∷ TableMade (table 1) ∷ Stored 2 (spot 0 2) ∷ Counted 0 ∷ [])) → ⊥
+keeps_table : MovesOn small inserted (grow (Asked ABlock ∷ TableMade (table 1) ∷ Stored 2 (spot 0 2) ∷ Counted 0 ∷ [])) → ⊥
 keeps_table h = some_table (table 1) (h.leaves.0.table)
 
-gives_up_first : MovesOn strict inserted (grow (Asked ABlock ∷ TableMade (table 1) ∷ TableGivenUp (table 1) ∷ Stored 2 (spot 0 2) ∷ Counted 0 ∷ [])) → ⊥
+gives_up_first : MovesOn small inserted (grow (Asked ABlock ∷ TableMade (table 1) ∷ TableGivenUp (table 1) ∷ Stored 2 (spot 0 2) ∷ Counted 0 ∷ [])) → ⊥
 gives_up_first h = nothing_between (h.finds.1.1.1.1.0.1.1)
 
 no_table : (t : Table) → None ≡ Some t → ⊥
 no_table t h = cc
 
-links_unmade : MovesOn strict inserted (grow (Linked (table 1) (shape 64 30) ∷ Stored 2 (spot 0 2) ∷ Counted 0 ∷ [])) → ⊥
+links_unmade : MovesOn small inserted (grow (Linked (table 1) (shape 64 30) ∷ Stored 2 (spot 0 2) ∷ Counted 0 ∷ [])) → ⊥
 links_unmade h = no_table (table 1) (h.finds.1.1.0.1.0)
 
-retires_in_disorder : MovesOn strict resized.removed (call (On (Insert 20 1)) (Answered answer.Absent) 40 (Promoted (table 2) ∷ [])) → ⊥
+retires_in_disorder : MovesOn small resized.removed (call (On (Insert 20 1)) (Answered answer.Absent) 40 (Promoted (table 2) ∷ [])) → ⊥
 retires_in_disorder h = no_yes (h.finds.0.1.1)

@@ -27,7 +27,7 @@ use Rattle.papaya_schedules.proofs.Samples.Words.{yes_no, one_two, either, entry
 
 -- room for two maps, and calls one by one
 abbrev roomy : Terms
-roomy = record { batch_size = 1; processors = 1; roots = 2; is_one_by_one = true; is_one_map = false }
+roomy = record { batch_size = 1; processors = 1; roots = 2 }
 
 abbrev made : List (Entry ℕ ℕ)
 made =

@@ -27,13 +27,13 @@ use Rattle.papaya_schedules.specs.After.{moments_from}
 use Rattle.papaya_schedules.specs.InTurn.{ComesRight}
 use Rattle.papaya_schedules.specs.Sweeps.{IsSwept, Fits, FindsRoom}
 use Rattle.papaya_schedules.specs.Handing.{MovesOn}
-use Rattle.papaya_schedules.proofs.Samples.Words.{no_yes, yes_no, next_zero, nothing_between, either, strict, loose, entry, spot, table, shape, makes_pair, makes_table, begin, call, inserted, entered}
+use Rattle.papaya_schedules.proofs.Samples.Words.{no_yes, yes_no, next_zero, nothing_between, either, small, entry, spot, table, shape, makes_pair, makes_table, begin, call, inserted, entered}
 
 abbrev reserve : ℕ → Outcome ℕ → List Effect → Entry ℕ ℕ
 reserve more outcome effects = call (Reserve more) outcome 200 effects
 
 -- one pair is counted, in 32 places: there is room for 23 more
-reserves : IsSwept nat_eq strict inserted (reserve 23 (Answered answer.Completed) [])
+reserves : IsSwept nat_eq small inserted (reserve 23 (Answered answer.Completed) [])
 unfolding lib.Count.count_leading_zeros
 reserves = (1, (1, inl (0, refl, refl), refl), inl (inl (omega arith)))
 
@@ -41,7 +41,7 @@ reserves = (1, (1, inl (0, refl, refl), refl), inl (inl (omega arith)))
 abbrev grows : List Effect
 grows = makes_table 1 (shape 64 30) (Copied 1 (spot 1 1) ∷ Promoted (table 1) ∷ Retired (ATable (table 0)) ∷ [])
 
-reserves_more : IsSwept nat_eq strict inserted (reserve 24 (Answered answer.Completed) grows)
+reserves_more : IsSwept nat_eq small inserted (reserve 24 (Answered answer.Completed) grows)
 unfolding lib.Count.count_leading_zeros
 reserves_more = (1, (1, inl (0, refl, refl), refl), inl (inl (omega arith)))
 
@@ -59,7 +59,7 @@ rooted first =
 abbrev reserving : UnderWay ℕ ℕ
 reserving = fresh_call [] [] (Reserve 8) 0 0
 
-passes_by : FindsRoom strict 8 reserving (rooted 2 ∷ rooted 0 ∷ []) (rooted 2)
+passes_by : FindsRoom small 8 reserving (rooted 2 ∷ rooted 0 ∷ []) (rooted 2)
 unfolding lib.Count.count_leading_zeros
 passes_by = (0, (0, inl (0, refl, refl), refl), inr (inl (inr (inl (omega arith)))))
 
@@ -68,7 +68,7 @@ lacks : (n : ℕ) → n ≡ 0 → Fits (len_of (n + 8)) 8 → ⊥
 unfolding lib.Count.count_leading_zeros
 lacks n none fits = let few : 16 ≤ 8 = rw none at fits in omega (arith, few)
 
-passed_before : FindsRoom strict 8 reserving (rooted 2 ∷ []) (rooted 2) → ⊥
+passed_before : FindsRoom small 8 reserving (rooted 2 ∷ []) (rooted 2) → ⊥
 passed_before (n, (sum, adds, counts), fits) = by adds
   where
     by : AddsUp 0 (rooted 2 ∷ []) 1 sum → ⊥
@@ -90,7 +90,7 @@ short : (n : ℕ) → n ≡ 1 → Fits (len_of (n + 24)) 32 → ⊥
 unfolding lib.Count.count_leading_zeros
 short n one fits = let few : 64 ≤ 32 = rw one at fits in omega (arith, few)
 
-reserves_nothing : IsSwept nat_eq strict inserted (reserve 24 (Answered answer.Completed) []) → ⊥
+reserves_nothing : IsSwept nat_eq small inserted (reserve 24 (Answered answer.Completed) []) → ⊥
 reserves_nothing (n, (sum, adds, counts), fits) = by adds
   where
     never : n ≡ 1 → ⊥
@@ -104,7 +104,7 @@ reserves_nothing (n, (sum, adds, counts), fits) = by adds
 none_fits : (n : ℕ) → n ≡ 1 → Fits (len_of (n + 18446744073709551615)) 32 → ⊥
 none_fits n one fits = let never : ⊥ = rw one at fits in never
 
-reserves_all : IsSwept nat_eq strict inserted (reserve 18446744073709551615 (Answered answer.Completed) []) → ⊥
+reserves_all : IsSwept nat_eq small inserted (reserve 18446744073709551615 (Answered answer.Completed) []) → ⊥
 reserves_all (n, (sum, adds, counts), fits) = by adds
   where
     never : n ≡ 1 → ⊥
@@ -116,16 +116,16 @@ reserves_all (n, (sum, adds, counts), fits) = by adds
     by (inr (inr e)) = e
 
 -- wrong: `len` tells another number
-counts_two : IsSwept nat_eq strict inserted (call Len (Answered (answer.Counted 2)) 9 []) → ⊥
+counts_two : IsSwept nat_eq small inserted (call Len (Answered (answer.Counted 2)) 9 []) → ⊥
 counts_two (sum, inl (rest, none, is), counts) = let one = counted sum rest 2 none is counts in omega (arith, one)
 counts_two (sum, inr e, counts) = e
 
 -- it is refused, as no table can be had, and asks for none
-refuses_all : ComesRight strict inserted (reserve 18446744073709551615 (Refused Capacity) [])
+refuses_all : ComesRight small inserted (reserve 18446744073709551615 (Refused Capacity) [])
 refuses_all = (refl, inl (1, (1, inl (0, refl, refl), refl), refl))
 
 -- wrong: one that can be had is refused so
-refuses_some : ComesRight strict inserted (reserve 24 (Refused Capacity) []) → ⊥
+refuses_some : ComesRight small inserted (reserve 24 (Refused Capacity) []) → ⊥
 refuses_some (looks, inl (n, (sum, adds, counts), many)) = by adds
   where
     fits : n ≡ 1 → ⊥
@@ -138,35 +138,35 @@ refuses_some (looks, inl (n, (sum, adds, counts), many)) = by adds
 refuses_some (looks, inr e) = either no_yes (either no_yes (λ e. e)) e
 
 -- wrong: an insertion is refused for its capacity where each table is short; a lookup ever
-capacity_at_will : ComesRight strict inserted (call (On (Insert 1 20)) (Refused Capacity) 9 []) → ⊥
+capacity_at_will : ComesRight small inserted (call (On (Insert 1 20)) (Refused Capacity) 9 []) → ⊥
 capacity_at_will h = either (λ e. e) (either no_yes (either no_yes (λ e. e))) h.1
 
-lookup_at_capacity : ComesRight strict inserted (call (On (Get 1)) (Refused Capacity) 9 []) → ⊥
+lookup_at_capacity : ComesRight small inserted (call (On (Get 1)) (Refused Capacity) 9 []) → ⊥
 lookup_at_capacity h = yes_no h.0
 
 -- an insertion is refused for want of memory where it has asked for some; wrong: where it has not, or was given it
-refused_memory : ComesRight strict inserted (call (On (Insert 1 20)) (Refused Memory) 9 (Asked ABlock ∷ []))
+refused_memory : ComesRight small inserted (call (On (Insert 1 20)) (Refused Memory) 9 (Asked ABlock ∷ []))
 refused_memory = refl
 
-memory_unasked : ComesRight strict inserted (call (On (Insert 1 20)) (Refused Memory) 9 []) → ⊥
+memory_unasked : ComesRight small inserted (call (On (Insert 1 20)) (Refused Memory) 9 []) → ⊥
 memory_unasked h = no_yes h
 
-memory_given : ComesRight strict inserted (call (On (Insert 1 20)) (Refused Memory) 9 (makes_pair [])) → ⊥
+memory_given : ComesRight small inserted (call (On (Insert 1 20)) (Refused Memory) 9 (makes_pair [])) → ⊥
 memory_given h = no_yes h
 
 -- wrong: it goes on without the growth that it was refused, or makes one that was to be refused
-goes_without : MovesOn strict inserted (call (On (Insert 1 20)) (Answered (answer.Found 1)) 9 (Asked ABlock ∷ [])) → ⊥
+goes_without : MovesOn small inserted (call (On (Insert 1 20)) (Answered (answer.Found 1)) 9 (Asked ABlock ∷ [])) → ⊥
 goes_without h = yes_no (h.leaves.1)
 
-makes_refused : MovesOn loose (begin (On (Insert 1 20)) ∷ inserted) (entry (Go (codes "c") true) Goes 9 (makes_pair [])) → ⊥
+makes_refused : MovesOn small (begin (On (Insert 1 20)) ∷ inserted) (entry (Go (codes "c") true) Goes 9 (makes_pair [])) → ⊥
 makes_refused h = no_yes (h.refuses)
 
 -- wrong: a removal asks for memory where there is one table; a reservation for a table that cannot be had
-removal_asks : MovesOn strict inserted (call (On (Remove 1)) (Refused Memory) 9 (Asked ABlock ∷ [])) → ⊥
+removal_asks : MovesOn small inserted (call (On (Remove 1)) (Refused Memory) 9 (Asked ABlock ∷ [])) → ⊥
 removal_asks h = either no_yes (either nothing_between (either nothing_between (λ e. e))) (h.finds.0.1.1)
 
 -- a registration gets the least slot that is free, and asks for words only where that was never taken and may need them
-registers_least : ComesRight strict inserted (entry (Register (codes "q")) (Slot 1) 0 [])
+registers_least : ComesRight small inserted (entry (Register (codes "q")) (Slot 1) 0 [])
 registers_least = inl refl
 
 two_one : ◌≡◌ {A = Outcome ℕ} (Slot 2) (Slot 1) → ⊥
@@ -175,7 +175,7 @@ two_one h = cc
 slot_refused : ◌≡◌ {A = Outcome ℕ} (Slot 2) (Refused Memory) → ⊥
 slot_refused h = cc
 
-registers_higher : ComesRight strict inserted (entry (Own (codes "o")) (Slot 2) 0 []) → ⊥
+registers_higher : ComesRight small inserted (entry (Own (codes "o")) (Slot 2) 0 []) → ⊥
 registers_higher h = either two_one (λ e. slot_refused e.0) h
 
 refused_slot : ◌≡◌ {A = Outcome ℕ} (Refused SlotsUsedUp) (Slot 1) → ⊥
@@ -184,14 +184,14 @@ refused_slot h = cc
 used_memory : ◌≡◌ {A = Outcome ℕ} (Refused SlotsUsedUp) (Refused Memory) → ⊥
 used_memory h = cc
 
-registers_none : ComesRight strict inserted (entry (Register (codes "q")) (Refused SlotsUsedUp) 0 []) → ⊥
+registers_none : ComesRight small inserted (entry (Register (codes "q")) (Refused SlotsUsedUp) 0 []) → ⊥
 registers_none h = either refused_slot (λ e. used_memory e.0) h
 
 needs_none : MayNeedRoom 1 → ⊥
 needs_none (inl e) = next_zero 0 e
 needs_none (inr e) = e refl
 
-asks_for_words : MovesOn strict inserted (entry (Register (codes "q")) (Refused Memory) 0 (Asked ABucket ∷ [])) → ⊥
+asks_for_words : MovesOn small inserted (entry (Register (codes "q")) (Refused Memory) 0 (Asked ABucket ∷ [])) → ⊥
 asks_for_words h = needs_none h.finds.0.1
 
 -- wrong: a table comes in with a turn too high; the first one with another length, or another last try
@@ -201,7 +201,7 @@ grow turn = call (On (Insert 9 10)) (Answered answer.Absent) 40 (makes_pair (mak
 too_high : 2 ≤ 1 → ⊥
 too_high turn = omega (arith, turn)
 
-turn_too_high : MovesOn strict inserted (grow 2) → ⊥
+turn_too_high : MovesOn small inserted (grow 2) → ⊥
 turn_too_high h = too_high h.finds.1.1.1.0.1.3
 
 abbrev begins : TableShape → Entry ℕ ℕ
@@ -210,13 +210,13 @@ begins first = call (On (Insert 1 10)) (Answered answer.Absent) 12 (makes_pair (
 other_length : ◌≡◌ {A = ℕ} 64 32 → ⊥
 other_length h = omega (arith, h)
 
-first_too_long : MovesOn strict entered (begins (shape 64 30)) → ⊥
+first_too_long : MovesOn small entered (begins (shape 64 30)) → ⊥
 first_too_long h = other_length h.finds.1.1.1.1.0.1.2.1.0
 
 other_try : ◌≡◌ {A = ℕ} 31 25 → ⊥
 other_try h = omega (arith, h)
 
-tries_on : MovesOn strict entered (begins (shape 32 31)) → ⊥
+tries_on : MovesOn small entered (begins (shape 32 31)) → ⊥
 unfolding lib.Count.count_leading_zeros
 tries_on h = other_try h.finds.1.1.1.1.0.1.2.1.1
 
@@ -246,7 +246,7 @@ other_power : ◌≡◌ {A = ℕ} 128 64 → ⊥
 other_power h = omega (arith, h)
 
 -- so one of four times the length comes in by no rule, but for a reservation
-no_rule : (c : UnderWay ℕ ℕ) (moments : List (Moment ℕ ℕ)) → c.call ≡ On (Insert 9 10) → IsNextShape strict c moments 0 32 (shape 128 35) → ⊥
+no_rule : (c : UnderWay ℕ ℕ) (moments : List (Moment ℕ ℕ)) → c.call ≡ On (Insert 9 10) → IsNextShape small c moments 0 32 (shape 128 35) → ⊥
 no_rule c moments called (Full met, count, initial, one, may, is, limit) = of_count met count initial one is
 no_rule c moments called (NoPlace, count, initial, one, may, is, limit) = other_power is
 no_rule c moments called (Reserved more, count, initial, one, may, is, limit) = let never : ⊥ = rw called at may in never

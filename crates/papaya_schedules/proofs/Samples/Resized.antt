@@ -13,7 +13,7 @@ use Rattle.papaya_schedules.specs.declared.outcome.Outcome.TheVariants.{Done, Re
 use Rattle.papaya_schedules.specs.Sequential.{Puts, Takes}
 use Rattle.papaya_schedules.specs.Entry.{Entry}
 use Rattle.papaya_schedules.specs.Runs.{IsLegalLog}
-use Rattle.papaya_schedules.proofs.Samples.Words.{loose, entry, spot, table, shape, makes_pair, makes_table, call, drop_guard}
+use Rattle.papaya_schedules.proofs.Samples.Words.{small, entry, spot, table, shape, makes_pair, makes_table, call, drop_guard}
 use Rattle.papaya_schedules.proofs.Samples.Filled.{filled, filled_run}
 
 -- the ninth goes into the next table, and pair 1 is copied there
@@ -54,7 +54,7 @@ abbrev pub resized : List (Entry ℕ ℕ)
 resized = drop_h (Reclaimed (ATable (table 0)) ∷ Reclaimed (APair 1) ∷ []) ∷ passed
 
 -- event by event, the promises are kept
-since_1 : IsLegalLog nat_eq loose (drop 6 resized)
+since_1 : IsLegalLog nat_eq small (drop 6 resized)
 unfolding lib.Count.count_leading_zeros
 since_1 = (
   record {
@@ -96,7 +96,7 @@ since_1 = (
   filled_run,
 )
 
-since_2 : IsLegalLog nat_eq loose (drop 5 resized)
+since_2 : IsLegalLog nat_eq small (drop 5 resized)
 since_2 = (
   record {
     right = refl;
@@ -122,7 +122,7 @@ since_2 = (
   since_1,
 )
 
-since_3 : IsLegalLog nat_eq loose (drop 4 resized)
+since_3 : IsLegalLog nat_eq small (drop 4 resized)
 since_3 = (
   record {
     right = refl;
@@ -138,7 +138,7 @@ since_3 = (
   since_2,
 )
 
-since_4 : IsLegalLog nat_eq loose (drop 3 resized)
+since_4 : IsLegalLog nat_eq small (drop 3 resized)
 since_4 = (
   record {
     right = refl;
@@ -154,7 +154,7 @@ since_4 = (
   since_3,
 )
 
-since_5 : IsLegalLog nat_eq loose (drop 2 resized)
+since_5 : IsLegalLog nat_eq small (drop 2 resized)
 since_5 = (
   record {
     right = refl;
@@ -192,7 +192,7 @@ since_5 = (
   since_4,
 )
 
-since_6 : IsLegalLog nat_eq loose (drop 1 resized)
+since_6 : IsLegalLog nat_eq small (drop 1 resized)
 since_6 = (
   record {
     right = refl;
@@ -208,7 +208,7 @@ since_6 = (
   since_5,
 )
 
-resized_run : IsLegalLog nat_eq loose resized
+resized_run : IsLegalLog nat_eq small resized
 resized_run = (
   record {
     right = refl;

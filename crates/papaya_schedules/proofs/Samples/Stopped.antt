@@ -22,7 +22,7 @@ use Rattle.papaya_schedules.specs.Steps.{TakesSteps}
 use Rattle.papaya_schedules.specs.Linearizable.{IsLinearizable}
 use Rattle.papaya_schedules.specs.Handing.{MovesOn}
 use Rattle.papaya_schedules.specs.Runs.{TellsEnd}
-use Rattle.papaya_schedules.proofs.Samples.Words.{one_two, owes_one, owes_still, puts_leaves, absent_found, done_busy, answered_busy, one_shift, some_thing, either, strict, loose, entry, spot, makes_pair, call, inserted}
+use Rattle.papaya_schedules.proofs.Samples.Words.{one_two, owes_one, owes_still, puts_leaves, absent_found, done_busy, answered_busy, one_shift, some_thing, either, small, entry, spot, makes_pair, call, inserted}
 
 -- a call is stopped right after the step in which it stored pair 2 in the place of pair 1
 abbrev stop : List Effect → Entry ℕ ℕ
@@ -34,7 +34,7 @@ changes = makes_pair (Replaced 1 ∷ Stored 2 (spot 0 1) ∷ [])
 abbrev stopped : List (Entry ℕ ℕ)
 stopped = stop changes ∷ inserted
 
-stop_is_right : ComesRight strict inserted (stop changes)
+stop_is_right : ComesRight small inserted (stop changes)
 stop_is_right = tt
 
 stop_is_legal : IsLinearizable nat_eq inserted (stop changes)
@@ -57,7 +57,7 @@ go_on outcome effects = entry (Go (codes "-") false) outcome 3 effects
 go_on_is_legal : IsLinearizable nat_eq stopped (go_on (Answered (answer.Found 1)) (Retired (APair 1) ∷ []))
 go_on_is_legal = record { changes = inl refl; ends = refl; asks = tt }
 
-go_on_moves : MovesOn strict stopped (go_on (Answered (answer.Found 1)) (Retired (APair 1) ∷ []))
+go_on_moves : MovesOn small stopped (go_on (Answered (answer.Found 1)) (Retired (APair 1) ∷ []))
 go_on_moves =
     record {
       finds = ((refl, (refl, tt)), tt);
@@ -78,7 +78,7 @@ refused_after h = owes_one (answer.Found 1) (h.ends)
 stores_again : IsLinearizable nat_eq stopped (go_on (Answered (answer.Found 1)) (makes_pair (Replaced 2 ∷ Stored 3 (spot 0 1) ∷ []))) → ⊥
 stores_again h = either (one_shift (GivesWay 2) (ComesIn 3 ∷ [])) (owes_still (answer.Found 1) (Answers (answer.Found 2) (Puts 20)) (Some 2) 3 (GivesWay 2 ∷ ComesIn 3 ∷ [])) h.changes
 
-forgets_old : MovesOn strict stopped (go_on (Answered (answer.Found 1)) []) → ⊥
+forgets_old : MovesOn small stopped (go_on (Answered (answer.Found 1)) []) → ⊥
 forgets_old h = some_thing (APair 1) [] (h.leaves.0.owes)
 
 -- wrong: it hides its change. Then it has no answer, lookups do not see the pair, and the end of the run cannot tell it.
@@ -117,7 +117,7 @@ clear_stops : IsLinearizable nat_eq two (clear Goes (Removed 1 ∷ Retired (APai
 clear_stops = record { changes = (tt, (tt, tt)); ends = tt; asks = tt }
 
 clear_goes_on :
-    MovesOn strict (clear Goes (Removed 1 ∷ Retired (APair 1) ∷ Removed 2 ∷ []) ∷ two) (go_on (Answered answer.Completed) (Retired (APair 2) ∷ Counted 0 ∷ []))
+    MovesOn small (clear Goes (Removed 1 ∷ Retired (APair 1) ∷ Removed 2 ∷ []) ∷ two) (go_on (Answered answer.Completed) (Retired (APair 2) ∷ Counted 0 ∷ []))
 clear_goes_on =
     record {
       finds = ((refl, (refl, tt)), ((refl, (omega arith, refl)), tt));
@@ -128,19 +128,16 @@ clear_goes_on =
       leaves = (record { owes = refl; block = refl; table = refl; counted = refl }, refl);
     }
 
--- where calls come one by one each other event is out of turn till it has ended, but that what is wrong in making a map is told first
-fault_first : ComesRight strict stopped (entry (MakeMap (codes "z") (Incremental 0) 0) (Refused ZeroChunk) 0 [])
-fault_first = refl
-
-looks_out_of_turn : ComesRight strict stopped (call (On (Get 1)) (Refused Busy) 0 [])
+-- its caller can't begin another call till it has ended
+looks_out_of_turn : ComesRight small stopped (call (On (Get 1)) (Refused Busy) 0 [])
 looks_out_of_turn = refl
 
-looks_in_turn : ComesRight strict stopped (call (On (Get 1)) (Answered (answer.Found 2)) 3 []) → ⊥
+looks_in_turn : ComesRight small stopped (call (On (Get 1)) (Answered (answer.Found 2)) 3 []) → ⊥
 looks_in_turn h = answered_busy (answer.Found 2) h
 
--- and where they do not, other events go on, but the end of the guard that it uses
-enters_on : ComesRight loose stopped (entry (Enter (codes "h") (codes "r")) Done 0 [])
+-- and others go on, but the end of the guard that it uses
+enters_on : ComesRight small stopped (entry (Enter (codes "h") (codes "r")) Done 0 [])
 enters_on = refl
 
-drops_used : ComesRight loose stopped (entry (DropGuard (codes "g")) Done 0 []) → ⊥
+drops_used : ComesRight small stopped (entry (DropGuard (codes "g")) Done 0 []) → ⊥
 drops_used h = done_busy h

@@ -12,7 +12,7 @@ use Rattle.papaya_schedules.specs.declared.outcome.Outcome.TheVariants.{Answered
 use Rattle.papaya_schedules.specs.Sequential.{Puts}
 use Rattle.papaya_schedules.specs.Entry.{Entry}
 use Rattle.papaya_schedules.specs.Runs.{IsLegalLog}
-use Rattle.papaya_schedules.proofs.Samples.Words.{strict, spot, makes_pair, call, inserted, drop_guard}
+use Rattle.papaya_schedules.proofs.Samples.Words.{small, spot, makes_pair, call, inserted, drop_guard}
 
 -- pair 2 takes the place of pair 1, which is retired
 abbrev pub put_two : Outcome ℕ → List Effect → Entry ℕ ℕ
@@ -26,7 +26,7 @@ abbrev pub dropped : List (Entry ℕ ℕ)
 dropped = drop_guard (Reclaimed (APair 1) ∷ []) ∷ replaced
 
 -- event by event, its promises are kept
-after_1 : IsLegalLog nat_eq strict (drop 6 dropped)
+after_1 : IsLegalLog nat_eq small (drop 6 dropped)
 after_1 = (
   record {
     right = refl;
@@ -42,7 +42,7 @@ after_1 = (
   tt,
 )
 
-after_2 : IsLegalLog nat_eq strict (drop 5 dropped)
+after_2 : IsLegalLog nat_eq small (drop 5 dropped)
 after_2 = (
   record {
     right = inl refl;
@@ -58,7 +58,7 @@ after_2 = (
   after_1,
 )
 
-after_3 : IsLegalLog nat_eq strict (drop 4 dropped)
+after_3 : IsLegalLog nat_eq small (drop 4 dropped)
 after_3 = (
   record {
     right = inl refl;
@@ -74,7 +74,7 @@ after_3 = (
   after_2,
 )
 
-after_4 : IsLegalLog nat_eq strict (drop 3 dropped)
+after_4 : IsLegalLog nat_eq small (drop 3 dropped)
 after_4 = (
   record {
     right = refl;
@@ -90,7 +90,7 @@ after_4 = (
   after_3,
 )
 
-after_5 : IsLegalLog nat_eq strict (drop 2 dropped)
+after_5 : IsLegalLog nat_eq small (drop 2 dropped)
 unfolding lib.Count.count_leading_zeros
 after_5 = (
   record {
@@ -129,7 +129,7 @@ after_5 = (
   after_4,
 )
 
-after_6 : IsLegalLog nat_eq strict (drop 1 dropped)
+after_6 : IsLegalLog nat_eq small (drop 1 dropped)
 after_6 = (
   record {
     right = refl;
@@ -155,7 +155,7 @@ after_6 = (
   after_5,
 )
 
-stored_run : IsLegalLog nat_eq strict dropped
+stored_run : IsLegalLog nat_eq small dropped
 stored_run = (
   record {
     right = refl;

@@ -15,18 +15,18 @@ use Rattle.papaya_schedules.specs.declared.outcome.Outcome.TheVariants.{Goes, As
 use Rattle.papaya_schedules.specs.Entry.{Entry}
 use Rattle.papaya_schedules.specs.Linearizable.{IsLinearizable}
 use Rattle.papaya_schedules.specs.Sweeps.{IsSwept}
-use Rattle.papaya_schedules.proofs.Samples.Words.{no_yes, yes_no, zero_next, either, strict, entry, call}
+use Rattle.papaya_schedules.proofs.Samples.Words.{no_yes, yes_no, zero_next, either, small, entry, call}
 use Rattle.papaya_schedules.proofs.Samples.Stored.{replaced}
 
 abbrev swept : Call ℕ ℕ → Outcome ℕ → List Effect → Entry ℕ ℕ
 swept called outcome effects = call called outcome 40 effects
 
 -- pair 2 is in the map, and `clear` removes it
-clears : IsSwept nat_eq strict replaced (swept Clear (Answered answer.Completed) (Removed 2 ∷ Retired (APair 2) ∷ Counted 0 ∷ []))
+clears : IsSwept nat_eq small replaced (swept Clear (Answered answer.Completed) (Removed 2 ∷ Retired (APair 2) ∷ Counted 0 ∷ []))
 clears = refl
 
 -- wrong: it leaves it
-clears_nothing : IsSwept nat_eq strict replaced (swept Clear (Answered answer.Completed) []) → ⊥
+clears_nothing : IsSwept nat_eq small replaced (swept Clear (Answered answer.Completed) []) → ⊥
 clears_nothing h = no_yes h
 
 -- `retain` asks about it, and removes it where the reply was no
@@ -36,14 +36,14 @@ retaining reply = entry (Replied (codes "-") (Decides reply)) Goes 0 [] ∷ swep
 abbrev go_on : Outcome ℕ → List Effect → Entry ℕ ℕ
 go_on outcome effects = entry (Go (codes "-") false) outcome 9 effects
 
-retains_yes : IsSwept nat_eq strict (retaining true) (go_on (Answered answer.Completed) [])
+retains_yes : IsSwept nat_eq small (retaining true) (go_on (Answered answer.Completed) [])
 retains_yes = refl
 
 removes_no : IsLinearizable nat_eq (retaining false) (go_on (Answered answer.Completed) (Removed 2 ∷ Retired (APair 2) ∷ Counted 0 ∷ []))
 removes_no = record { changes = (refl, tt); ends = tt; asks = tt }
 
 -- wrong: it keeps a pair answered no, removes one answered yes, or one that it has not asked about; or asks about one that left before
-retains_no : IsSwept nat_eq strict (retaining false) (go_on (Answered answer.Completed) []) → ⊥
+retains_no : IsSwept nat_eq small (retaining false) (go_on (Answered answer.Completed) []) → ⊥
 retains_no h = no_yes h
 
 yes_for_no : ◌≡◌ {A = Option (Reply ℕ)} (Some (Decides true)) (Some (Decides false)) → ⊥
@@ -68,19 +68,19 @@ walks = swept Walk Ready [] ∷ replaced
 abbrev next : Outcome ℕ → Entry ℕ ℕ
 next outcome = entry (Next (codes "-")) outcome 9 []
 
-shows_two : IsSwept nat_eq strict walks (next (Shows 2))
+shows_two : IsSwept nat_eq small walks (next (Shows 2))
 shows_two = (inl refl, refl)
 
 -- wrong: it shows one that left before it began, none at all, or one twice
-shows_one : IsSwept nat_eq strict walks (next (Shows 1)) → ⊥
+shows_one : IsSwept nat_eq small walks (next (Shows 1)) → ⊥
 shows_one h = either no_yes (either no_yes (λ e. e)) h.0
 
-shows_none : IsSwept nat_eq strict walks (next (Answered answer.Absent)) → ⊥
+shows_none : IsSwept nat_eq small walks (next (Answered answer.Absent)) → ⊥
 shows_none h = zero_next 0 (h 1 (refl, (refl, tt)))
 
-shows_twice : IsSwept nat_eq strict (next (Shows 2) ∷ walks) (next (Shows 2)) → ⊥
+shows_twice : IsSwept nat_eq small (next (Shows 2) ∷ walks) (next (Shows 2)) → ⊥
 shows_twice h = yes_no (h.1)
 
 -- `len` is the size
-counts_one : IsSwept nat_eq strict replaced (swept Len (Answered (answer.Counted 1)) [])
+counts_one : IsSwept nat_eq small replaced (swept Len (Answered (answer.Counted 1)) [])
 counts_one = (1, inl (0, refl, refl), refl)

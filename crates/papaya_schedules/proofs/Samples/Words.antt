@@ -125,13 +125,9 @@ nothing_below h = omega (arith, h)
 pub nothing_between : 1 < 1 → ⊥
 nothing_between h = omega (arith, h)
 
--- any schedule, on a collector with batches of one
-abbrev pub loose : Terms
-loose = record { batch_size = 1; processors = 1; roots = 1; is_one_by_one = false; is_one_map = false }
-
--- whole calls alone
-abbrev pub strict : Terms
-strict = record { batch_size = 1; processors = 1; roots = 1; is_one_by_one = true; is_one_map = true }
+-- a collector with batches of one, one processor, and room for one map
+abbrev pub small : Terms
+small = record { batch_size = 1; processors = 1; roots = 1 }
 
 abbrev pub entry : Event ℕ ℕ → Outcome ℕ → ℕ → List Effect → Entry ℕ ℕ
 entry event outcome steps effects = record { event = event; outcome = outcome; steps = steps; effects = effects }

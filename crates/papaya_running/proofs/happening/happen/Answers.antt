@@ -12,14 +12,14 @@ use Rattle.papaya_events.proofs.OfRows.Kept.{calls_keep, kept_in_turn, kept_out}
 use Rattle.papaya_events.proofs.OfSetups.{calls_set_none, none_set, setup_out}
 use Rattle.papaya_running.proofs.happening.happen.Goals as goal
 
-pub returns-then-keeps_out : goal.returns-then-keeps_out
-returns-then-keeps_out g c =
+pub returns-then-scheduler : goal.returns-then-scheduler
+returns-then-c.is_closed =
     let given : StaysGiven c.args.scheduler.now.logged.executor c.refuse.new.self.logged.executor =
     (ap (λ p. p.logged.executor.hasher) c.refuse.ensures.mapped, ap (λ p. p.logged.executor.batch_size) c.refuse.ensures.mapped, ap (λ p. p.logged.executor.roots) c.refuse.ensures.mapped) in
     let happens : HappensAt g.K.PartialEq.eq (g.S.Hashes.hash c.args.scheduler.now.logged.executor.hasher) c.args.is_first c.args.event c.refuse.result c.args.scheduler.now c.refuse.new.self =
     stays_out g.K.PartialEq.eq (g.S.Hashes.hash c.args.scheduler.now.logged.executor.hasher) c.args.event c.args.scheduler.now c.args.is_first c.refuse.new.self c.refuse.result
     c.refuse.ensures.outcome c.refuse.ensures.steps c.refuse.ensures.effects
-    (c.refuse.ensures.plays g.K.PartialEq.eq (g.S.Hashes.hash c.args.scheduler.now.logged.executor.hasher)) (sym c.keeps_out.ensures ∙ c.if-keeps_out.true) in
+    (c.refuse.ensures.plays g.K.PartialEq.eq (g.S.Hashes.hash c.args.scheduler.now.logged.executor.hasher)) (c.if-scheduler.true) in
     record {
       happens = happens;
       holds =
@@ -29,7 +29,7 @@ returns-then-keeps_out g c =
       back = gave_out g.K.PartialEq.eq (g.S.Hashes.hash c.args.scheduler.now.logged.executor.hasher) c.args.event c.args.scheduler.now c.refuse.result c.args.back.now.items c.refuse.ensures.effects;
       keeps =
           out_keeps g.K.PartialEq.eq (g.S.Hashes.hash c.args.scheduler.now.logged.executor.hasher) c.args.event c.args.scheduler.now c.refuse.new.self _ c.refuse.ensures.mapped c.refuse.result c.refuse.ensures.outcome c.refuse.ensures.steps
-          c.refuse.ensures.effects (c.refuse.ensures.plays g.K.PartialEq.eq (g.S.Hashes.hash c.args.scheduler.now.logged.executor.hasher)) (sym c.keeps_out.ensures ∙ c.if-keeps_out.true);
+          c.refuse.ensures.effects (c.refuse.ensures.plays g.K.PartialEq.eq (g.S.Hashes.hash c.args.scheduler.now.logged.executor.hasher)) (c.if-scheduler.true);
       given = given;
       rows =
           kept_out g.K.PartialEq.eq (g.S.Hashes.hash c.args.scheduler.now.logged.executor.hasher) c.args.event c.args.scheduler.now c.refuse.new.self c.refuse.result c.refuse.ensures.outcome c.refuse.ensures.effects c.refuse.ensures.mapped;
@@ -49,21 +49,21 @@ returns-then-is_of_calls g c = record {
   rows =
       kept_in_turn g.K.PartialEq.eq (g.S.Hashes.hash c.args.scheduler.now.logged.executor.hasher) c.args.event c.args.scheduler.now c.of_calls.new.scheduler c.of_calls.result
       (calls_keep g.K.PartialEq.eq (g.S.Hashes.hash c.args.scheduler.now.logged.executor.hasher) c.args.event (sym c.is_of_calls.ensures ∙ c.if-is_of_calls.true) c.args.scheduler.now c.of_calls.new.scheduler c.of_calls.result)
-      (sym c.keeps_out.ensures ∙ c.if-keeps_out.false);
+      (c.if-scheduler.false);
   happens =
       in_turn_if g.K.PartialEq.eq (g.S.Hashes.hash c.args.scheduler.now.logged.executor.hasher) c.args.event c.args.scheduler.now c.args.is_first c.of_calls.new.scheduler c.of_calls.result
-      c.of_calls.ensures.happens (sym c.keeps_out.ensures ∙ c.if-keeps_out.false);
+      c.of_calls.ensures.happens (c.if-scheduler.false);
   holds =
       holds_if g.K.PartialEq.eq (g.S.Hashes.hash c.args.scheduler.now.logged.executor.hasher) c.args.event c.args.is_first c.args.scheduler.now c.of_calls.new.scheduler (c.of_calls.ensures.given.0, c.of_calls.ensures.given.1, c.of_calls.ensures.given.2) c.of_calls.result
       (in_turn_if g.K.PartialEq.eq (g.S.Hashes.hash c.args.scheduler.now.logged.executor.hasher) c.args.event c.args.scheduler.now c.args.is_first c.of_calls.new.scheduler c.of_calls.result
-      c.of_calls.ensures.happens (sym c.keeps_out.ensures ∙ c.if-keeps_out.false))
+      c.of_calls.ensures.happens (c.if-scheduler.false))
       (counts_still c.args.event c.of_calls.result (length c.args.scheduler.now.logged.executor.maps.items) (length c.of_calls.new.scheduler.logged.executor.maps.items) (calls_make_none c.args.event (sym c.is_of_calls.ensures ∙ c.if-is_of_calls.true)) c.of_calls.ensures.given.3);
   back =
       gave_in_turn g.K.PartialEq.eq (g.S.Hashes.hash c.args.scheduler.now.logged.executor.hasher) c.args.event c.args.scheduler.now c.of_calls.result c.args.back.now.items c.args.back.now.items
       (gave_none_if g.K.PartialEq.eq (g.S.Hashes.hash c.args.scheduler.now.logged.executor.hasher) c.args.event c.args.event refl c.args.scheduler.now
-      (calls_reclaim_none c.args.event (sym c.is_of_calls.ensures ∙ c.if-is_of_calls.true)) c.of_calls.result c.args.back.now.items) (sym c.keeps_out.ensures ∙ c.if-keeps_out.false);
+      (calls_reclaim_none c.args.event (sym c.is_of_calls.ensures ∙ c.if-is_of_calls.true)) c.of_calls.result c.args.back.now.items) (c.if-scheduler.false);
   keeps = turn_keeps g.K.PartialEq.eq (g.S.Hashes.hash c.args.scheduler.now.logged.executor.hasher) c.args.event c.args.scheduler.now c.of_calls.new.scheduler c.of_calls.result c.of_calls.ensures.keeps
-      (sym c.keeps_out.ensures ∙ c.if-keeps_out.false);
+      (c.if-scheduler.false);
   setups = none_set g.K.PartialEq.eq (g.S.Hashes.hash c.args.scheduler.now.logged.executor.hasher) c.args.event c.args.scheduler.now c.of_calls.new.scheduler (calls_set_none c.args.event (sym c.is_of_calls.ensures ∙ c.if-is_of_calls.true)) c.of_calls.result;
   all = none_keep g.K.PartialEq.eq (g.S.Hashes.hash c.args.scheduler.now.logged.executor.hasher) c.args.event c.args.scheduler.now c.of_calls.new.scheduler (calls_give_none c.args.event (sym c.is_of_calls.ensures ∙ c.if-is_of_calls.true)) c.of_calls.result;
   given = (c.of_calls.ensures.given.0, c.of_calls.ensures.given.1, c.of_calls.ensures.given.2);
@@ -79,18 +79,18 @@ of_maps-requires g c =
 pub returns-then-is_of_maps : goal.returns-then-is_of_maps
 returns-then-is_of_maps g c = record {
   rows = kept_in_turn g.K.PartialEq.eq (g.S.Hashes.hash c.args.scheduler.now.logged.executor.hasher) c.args.event c.args.scheduler.now c.of_maps.new.scheduler c.of_maps.result c.of_maps.ensures.rows
-      (sym c.keeps_out.ensures ∙ c.if-keeps_out.false);
+      (c.if-scheduler.false);
   happens =
       in_turn_if g.K.PartialEq.eq (g.S.Hashes.hash c.args.scheduler.now.logged.executor.hasher) c.args.event c.args.scheduler.now c.args.is_first c.of_maps.new.scheduler c.of_maps.result
-      c.of_maps.ensures.happens (sym c.keeps_out.ensures ∙ c.if-keeps_out.false);
+      c.of_maps.ensures.happens (c.if-scheduler.false);
   holds =
       holds_if g.K.PartialEq.eq (g.S.Hashes.hash c.args.scheduler.now.logged.executor.hasher) c.args.event c.args.is_first c.args.scheduler.now c.of_maps.new.scheduler c.of_maps.ensures.given c.of_maps.result
       (in_turn_if g.K.PartialEq.eq (g.S.Hashes.hash c.args.scheduler.now.logged.executor.hasher) c.args.event c.args.scheduler.now c.args.is_first c.of_maps.new.scheduler c.of_maps.result
-      c.of_maps.ensures.happens (sym c.keeps_out.ensures ∙ c.if-keeps_out.false))
+      c.of_maps.ensures.happens (c.if-scheduler.false))
       c.of_maps.ensures.count;
   back =
       gave_in_turn g.K.PartialEq.eq (g.S.Hashes.hash c.args.scheduler.now.logged.executor.hasher) c.args.event c.args.scheduler.now c.of_maps.result c.args.back.now.items c.of_maps.new.back.items c.of_maps.ensures.back
-      (sym c.keeps_out.ensures ∙ c.if-keeps_out.false);
+      (c.if-scheduler.false);
   keeps = other_keeps g.K.PartialEq.eq (g.S.Hashes.hash c.args.scheduler.now.logged.executor.hasher) c.args.event c.args.scheduler.now c.of_maps.new.scheduler (sym c.is_of_calls.ensures ∙ c.if-is_of_calls.false) c.of_maps.result;
   setups = c.of_maps.ensures.setups;
   all = c.of_maps.ensures.all;
@@ -108,18 +108,18 @@ of_slots-requires g c =
 pub returns : goal.returns
 returns g c = record {
   rows = kept_in_turn g.K.PartialEq.eq (g.S.Hashes.hash c.args.scheduler.now.logged.executor.hasher) c.args.event c.args.scheduler.now c.of_slots.new.scheduler c.of_slots.result c.of_slots.ensures.rows
-      (sym c.keeps_out.ensures ∙ c.if-keeps_out.false);
+      (c.if-scheduler.false);
   happens =
       in_turn_if g.K.PartialEq.eq (g.S.Hashes.hash c.args.scheduler.now.logged.executor.hasher) c.args.event c.args.scheduler.now c.args.is_first c.of_slots.new.scheduler c.of_slots.result
-      c.of_slots.ensures.happens (sym c.keeps_out.ensures ∙ c.if-keeps_out.false);
+      c.of_slots.ensures.happens (c.if-scheduler.false);
   holds =
       holds_if g.K.PartialEq.eq (g.S.Hashes.hash c.args.scheduler.now.logged.executor.hasher) c.args.event c.args.is_first c.args.scheduler.now c.of_slots.new.scheduler (c.of_slots.ensures.given.0, c.of_slots.ensures.given.1, c.of_slots.ensures.given.2) c.of_slots.result
       (in_turn_if g.K.PartialEq.eq (g.S.Hashes.hash c.args.scheduler.now.logged.executor.hasher) c.args.event c.args.scheduler.now c.args.is_first c.of_slots.new.scheduler c.of_slots.result
-      c.of_slots.ensures.happens (sym c.keeps_out.ensures ∙ c.if-keeps_out.false))
+      c.of_slots.ensures.happens (c.if-scheduler.false))
       (counts_still c.args.event c.of_slots.result (length c.args.scheduler.now.logged.executor.maps.items) (length c.of_slots.new.scheduler.logged.executor.maps.items) (slots_make_none c.args.event (sym c.is_of_maps.ensures ∙ c.if-is_of_maps.false)) c.of_slots.ensures.given.3);
   back =
       gave_in_turn g.K.PartialEq.eq (g.S.Hashes.hash c.args.scheduler.now.logged.executor.hasher) c.args.event c.args.scheduler.now c.of_slots.result c.args.back.now.items c.of_slots.new.back.items c.of_slots.ensures.back
-      (sym c.keeps_out.ensures ∙ c.if-keeps_out.false);
+      (c.if-scheduler.false);
   keeps = other_keeps g.K.PartialEq.eq (g.S.Hashes.hash c.args.scheduler.now.logged.executor.hasher) c.args.event c.args.scheduler.now c.of_slots.new.scheduler (sym c.is_of_calls.ensures ∙ c.if-is_of_calls.false) c.of_slots.result;
   setups = c.of_slots.ensures.setups;
   all = none_keep g.K.PartialEq.eq (g.S.Hashes.hash c.args.scheduler.now.logged.executor.hasher) c.args.event c.args.scheduler.now c.of_slots.new.scheduler (slots_give_none c.args.event (sym c.is_of_maps.ensures ∙ c.if-is_of_maps.false)) c.of_slots.result;
