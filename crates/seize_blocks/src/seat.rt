@@ -16,3 +16,11 @@ pub struct Seat<T, R: Rule<T>> {
 impl<T, R: Rule<T>> Model for Seat<T, R> {
     ghost also_owns = { λ s. seat_owns R.View.row.coded.code s.base s.id s.view };
 }
+
+impl<T, R: Rule<T>> Drop for Seat<T, R> {
+    fn drop(self) {
+        let Self { marker: _ } = self;
+    }
+}
+
+unsafe impl<T, R: Rule<T>> Send for Seat<T, R> {}

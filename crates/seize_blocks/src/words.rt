@@ -1,11 +1,13 @@
 //! The words, and what one step of a seat does to them: one atomic operation on a word, or none.
-ghost use Rattle.std.specs.Prelude.{◌≡◌};
+ghost use Rattle.std.specs.Prelude.{◌≡◌, ℕ, length, slice_index};
 ghost use Rattle.seize_words.specs.Op.{Load, Store, Swap, Add, Or, Exchange, Room, Found, Stored, Exchanged, Roomed};
-ghost use Rattle.seize_seats.specs.State.{Allows, Turns, Comes};
+ghost use Rattle.seize_seats.specs.State.{Allows, Turns, Comes, Starts};
+ghost use Rattle.seize_seats.specs.Lines.{long};
 ghost use Rattle.seize_seats.specs.Steps.{roomed};
 ghost use Rattle.seize_seats.specs.Owned.{BaseId, base_id_coded, words_own, words_share};
 ghost use Rattle.seize_blocks.specs.Placed.{IsItsPlace};
 
+use crate::row::Row;
 use crate::rule::{Rule, Turn};
 use crate::seat::Seat;
 use seize_words::At;
@@ -15,7 +17,7 @@ use std::sync::atomic::raw;
 
 /// The words of roots and slots.
 pub struct Words<T, R: Rule<T>> {
-    words: *mut u64,
+    pub(crate) words: *mut u64,
     marker: PhantomData<(T, R)>,
     pub ghost id: { BaseId } by { base_id_coded },
     pub ghost fixed: { R.Fixed } by { R.Fixed.code },
@@ -28,6 +30,28 @@ impl<T, R: Rule<T>> Model for Words<T, R> {
 }
 
 impl<T, R: Rule<T>> Words<T, R> {
+    /// The words, each 0, of so many roots go under the rule.
+    pub(crate) fn open(row: Row<u64>, _roots: u64, fixed: &R::Fixed) -> Self
+        requires {
+            ((k : ℕ) → slice_index row.items k ≡ 0) × (length row.items ≡ long _roots) × Starts (R.holds fixed.now) _roots
+        }
+        ensures { (result.words ≡ row.at) × (result.id.roots ≡ _roots) × (result.fixed ≡ fixed.now) }
+    {
+        let Row { at } = row;
+        Words {
+            words: at,
+            marker: PhantomData,
+        }
+    }
+
+    /// The words come back from under the rule.
+    pub(crate) fn close(self) -> Row<u64>
+        ensures { (result.at ≡ self.words) × (length result.items ≡ long self.id.roots) }
+    {
+        let Words { words, marker: _ } = self;
+        Row { at: words }
+    }
+
     /// A seat more.
     pub fn seat(&self) -> Seat<T, R>
         requires { Comes (R.holds self.now.fixed) R.keeps (R.newcomer self.now.fixed) }
@@ -143,3 +167,7 @@ impl<T, R: Rule<T>> Words<T, R> {
         unsafe { raw::compare_exchange::<Brand>(self.words.add(place as usize), old, new, SeqCst, SeqCst) }
     }
 }
+
+unsafe impl<T: Send + Sync, R: Rule<T>> Send for Words<T, R> {}
+
+unsafe impl<T: Send + Sync, R: Rule<T>> Sync for Words<T, R> {}
