@@ -31,10 +31,14 @@ module _ (X R V F : RattleType) (g : Ghosts R.Denot X.Denot V.Denot F.Denot) whe
   Data = Struct (shape (words.the_type X R V F g))
 
   pub told : (p : Ptr) (vs : List Val) → Is Data (p, (tt, tt)) vs → vs ≡ hand_of p ∷ []
-  told p vs is = is.1.0 ∙ ap (λ (ws : List Val). vstruct (of_list (ws ++ (is.0.1.0 ++ []))) ∷ []) is.1.1.0 ∙ ap (λ (ws : List Val). vstruct (of_list (ptr_val p ∷ (ws ++ []))) ∷ []) is.1.1.1.0.1.0
+  told p vs is = is.1.0 ∙ ap (λ (ws : List Val). vstruct (of_list (ws ++ (is.0.1.0 ++ []))) ∷
+      []) is.1.1.0 ∙ ap (λ (ws : List Val). vstruct (of_list (ptr_val p ∷ (ws ++ []))) ∷ []) is.1.1.1.0.1.0
 
   pub opened : {M : Type 1} {𝓤 : Ura M} (𝓛 : Logic 𝓤) → Opens 𝓛 Data
-  opened {M} {𝓤 = 𝓤} 𝓛 = (Struct-Copied 𝓛 (shape (words.the_type X R V F g)) (refl, (refl, tt)) (RawPtr-copy.copied M 𝓤 𝓛, ((field_copy (marker.the_type (Tuple (X ∷ R ∷ []))) tt).copied M 𝓤 𝓛, tt))).opens
+  opened {M} {𝓤 = 𝓤} 𝓛 = (Struct-Copied 𝓛 (shape (words.the_type X R V F g)) (refl, (refl, tt)) (
+    RawPtr-copy.copied M 𝓤 𝓛,
+    ((field_copy (marker.the_type (Tuple (X ∷ R ∷ []))) tt).copied M 𝓤 𝓛, tt),
+  )).opens
 
 -- a seat, which has no bytes
 abbrev pub token : Val
@@ -45,7 +49,22 @@ module _ (X R V F : RattleType) (g : Ghosts R.Denot X.Denot V.Denot F.Denot) whe
   Token = Struct (shape (seat.the_type X R V F g))
 
   pub token_made : {M : Type 1} {𝓤 : Ura M} (𝓛 : Logic 𝓤) → ent 𝓤 (emp 𝓤) (sem 𝓛 (Token.own_val (tt, tt) (token ∷ [])))
-  token_made 𝓛 = makes_shadow 𝓛 (Token.own_val (tt, tt) (token ∷ [])) (λ vss. (tt, ((λ uss. (tt, tt)), tt))) ((vstruct vnil ∷ [], tt), (refl, ((tt, (refl, tt)), tt)))
+  token_made 𝓛 = makes_shadow 𝓛 (Token.own_val (tt, tt) (token ∷ [])) (λ vss. (tt, ((λ uss. (tt, tt)), tt))) (
+    (vstruct vnil ∷ [], tt),
+    (
+      refl,
+      (
+        (
+          tt,
+          (
+            refl,
+            tt,
+          ),
+        ),
+        tt,
+      ),
+    ),
+  )
 
 -- an address alone
 abbrev pub one_of : Ptr → Val
@@ -72,4 +91,10 @@ hand_good null_ptr = (tt, ((Ptr-Good null_ptr).1, (tt, tt)))
 
 module _ (X R V F : RattleType) (g : Ghosts R.Denot X.Denot V.Denot F.Denot) where
   pub hand_made : {M : Type 1} {𝓤 : Ura M} (𝓛 : Logic 𝓤) (p : Ptr) → ent 𝓤 (emp 𝓤) (sem 𝓛 ((Data X R V F g).own_val (p, (tt, tt)) (hand_of p ∷ [])))
-  hand_made 𝓛 p = makes_shadow 𝓛 ((Data X R V F g).own_val (p, (tt, tt)) (hand_of p ∷ [])) (λ vss. (tt, (tt, ((λ uss. (tt, tt)), tt)))) ((ptr_val p ∷ [], (vstruct vnil ∷ [], tt)), (refl, (refl, ((tt, (refl, tt)), tt))))
+  hand_made 𝓛 p = makes_shadow 𝓛 ((Data X R V F g).own_val (p, (tt, tt)) (hand_of p ∷ [])) (λ vss. (tt, (tt, ((λ uss. (tt, tt)), tt)))) (
+    (
+      ptr_val p ∷ [],
+      (vstruct vnil ∷ [], tt),
+    ),
+    (refl, (refl, ((tt, (refl, tt)), tt))),
+  )

@@ -96,7 +96,8 @@ impl<T, R: Rule<T>> Blocks<T, R> {
         match at {
             At::Root(root) if root < self.roots => root * 16,
             At::Used(root) if root < self.roots => (self.roots + root) * 16,
-            At::Slot(slot, field) if slot < 32 && field < 2 => (self.roots + self.roots + slot) * 16 + field,
+            At::Slot(slot, field) if slot < 32 && field < 2 => (self.roots + self.roots + slot) * 16
+                + field,
             _ => 0,
         }
     }
@@ -128,7 +129,11 @@ impl<T, R: Rule<T>> Blocks<T, R> {
         ensures goes { R.then seat.old.view (Room bucket) (Roomed result) seat.new.view }
     {
         self.words.room(seat, bucket);
-        if bucket == 0 { Ok(()) } else { Err(Fault::Memory) }
+        if bucket == 0 {
+            Ok(())
+        } else {
+            Err(Fault::Memory)
+        }
     }
 
     /// The word of a name.
@@ -189,9 +194,7 @@ impl<T, R: Rule<T>> Blocks<T, R> {
     /// Writes a new word where the old one, the whole word, is found, and answers the word found: `Ok` where it was written.
     pub fn exchange(&self, seat: &mut Seat<T, R>, at: At, old: u64, new: u64) -> Result<u64, u64>
         requires own { seat.old.base ≡ self.now.words.id.views_name }
-        requires may {
-            Allows (R.holds self.now.words.fixed) R.keeps seat.old.id seat.old.view (Exchange at old new) (R.then seat.old.view (Exchange at old new))
-        }
+        requires may { Allows (R.holds self.now.words.fixed) R.keeps seat.old.id seat.old.view (Exchange at old new) (R.then seat.old.view (Exchange at old new)) }
         ensures same { (seat.new.base ≡ seat.old.base) × (seat.new.id ≡ seat.old.id) }
         ensures goes { R.then seat.old.view (Exchange at old new) (Exchanged result) seat.new.view }
     {

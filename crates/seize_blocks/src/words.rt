@@ -32,9 +32,7 @@ impl<T, R: Rule<T>> Model for Words<T, R> {
 impl<T, R: Rule<T>> Words<T, R> {
     /// The words, each 0, of so many roots go under the rule.
     pub(crate) fn open(row: Row<u64>, _roots: u64, fixed: &R::Fixed) -> Self
-        requires {
-            ((k : ℕ) → slice_index row.items k ≡ 0) × (length row.items ≡ long _roots) × Starts (R.holds fixed.now) _roots
-        }
+        requires { ((k : ℕ) → slice_index row.items k ≡ 0) × (length row.items ≡ long _roots) × Starts (R.holds fixed.now) _roots }
         ensures { (result.words ≡ row.at) × (result.id.roots ≡ _roots) × (result.fixed ≡ fixed.now) }
     {
         let Row { at } = row;
@@ -64,107 +62,86 @@ impl<T, R: Rule<T>> Words<T, R> {
 
     /// A step without an operation.
     pub fn turn<M: Turn<R::View>>(&self, seat: &mut Seat<T, R>)
-        requires {
-            (seat.old.base ≡ self.now.id.views_name)
-            × Turns (R.holds self.now.fixed) R.keeps seat.old.id seat.old.view (M.to seat.old.view)
-        }
+        requires { (seat.old.base ≡ self.now.id.views_name)
+            × Turns (R.holds self.now.fixed) R.keeps seat.old.id seat.old.view (M.to seat.old.view) }
         ensures { (seat.new.base ≡ seat.old.base) × (seat.new.id ≡ seat.old.id) × M.to seat.old.view seat.new.view }
     {}
 
     /// Asks for the words of a bucket of slots: those of the first are there from now on.
     pub fn room(&self, seat: &mut Seat<T, R>, bucket: u64)
-        requires {
-            (seat.old.base ≡ self.now.id.views_name)
-            × Allows (R.holds self.now.fixed) R.keeps seat.old.id seat.old.view (Room bucket) (R.then seat.old.view (Room bucket))
-        }
-        ensures {
-            (seat.new.base ≡ seat.old.base) × (seat.new.id ≡ seat.old.id)
-            × R.then seat.old.view (Room bucket) (Roomed (roomed bucket)) seat.new.view
-        }
+        requires { (seat.old.base ≡ self.now.id.views_name)
+            × Allows (R.holds self.now.fixed) R.keeps seat.old.id seat.old.view (Room bucket) (R.then seat.old.view (Room bucket)) }
+        ensures { (seat.new.base ≡ seat.old.base) × (seat.new.id ≡ seat.old.id)
+            × R.then seat.old.view (Room bucket) (Roomed (roomed bucket)) seat.new.view }
     {}
 
     /// Reads the word of a name, which lies at this place.
     pub fn load(&self, seat: &mut Seat<T, R>, at: &At, place: u64) -> u64
-        requires {
-            (seat.old.base ≡ self.now.id.views_name) × IsItsPlace self.now.id at.now place
-            × Allows (R.holds self.now.fixed) R.keeps seat.old.id seat.old.view (Load at.now) (R.then seat.old.view (Load at.now))
-        }
-        ensures {
-            (seat.new.base ≡ seat.old.base) × (seat.new.id ≡ seat.old.id)
-            × R.then seat.old.view (Load at.now) (Found result) seat.new.view
-        }
+        requires { (seat.old.base ≡ self.now.id.views_name) × IsItsPlace self.now.id at.now place
+            × Allows (R.holds self.now.fixed) R.keeps seat.old.id seat.old.view (Load at.now) (R.then seat.old.view (Load at.now)) }
+        ensures { (seat.new.base ≡ seat.old.base) × (seat.new.id ≡ seat.old.id)
+            × R.then seat.old.view (Load at.now) (Found result) seat.new.view }
     {
         unsafe { raw::load::<Brand>(self.words.add(place as usize), SeqCst) }
     }
 
     /// Writes the word of a name.
     pub fn store(&self, seat: &mut Seat<T, R>, at: &At, place: u64, word: u64)
-        requires {
-            (seat.old.base ≡ self.now.id.views_name) × IsItsPlace self.now.id at.now place
-            × Allows (R.holds self.now.fixed) R.keeps seat.old.id seat.old.view (Store at.now word) (R.then seat.old.view (Store at.now word))
-        }
-        ensures {
-            (seat.new.base ≡ seat.old.base) × (seat.new.id ≡ seat.old.id)
-            × R.then seat.old.view (Store at.now word) Stored seat.new.view
-        }
+        requires { (seat.old.base ≡ self.now.id.views_name) × IsItsPlace self.now.id at.now place
+            × Allows (R.holds self.now.fixed) R.keeps seat.old.id seat.old.view (Store at.now word) (R.then seat.old.view (Store at.now word)) }
+        ensures { (seat.new.base ≡ seat.old.base) × (seat.new.id ≡ seat.old.id)
+            × R.then seat.old.view (Store at.now word) Stored seat.new.view }
     {
         unsafe { raw::store::<Brand>(self.words.add(place as usize), word, SeqCst) }
     }
 
     /// Writes the word of a name, and answers the one before.
     pub fn swap(&self, seat: &mut Seat<T, R>, at: &At, place: u64, word: u64) -> u64
-        requires {
-            (seat.old.base ≡ self.now.id.views_name) × IsItsPlace self.now.id at.now place
-            × Allows (R.holds self.now.fixed) R.keeps seat.old.id seat.old.view (Swap at.now word) (R.then seat.old.view (Swap at.now word))
-        }
-        ensures {
-            (seat.new.base ≡ seat.old.base) × (seat.new.id ≡ seat.old.id)
-            × R.then seat.old.view (Swap at.now word) (Found result) seat.new.view
-        }
+        requires { (seat.old.base ≡ self.now.id.views_name) × IsItsPlace self.now.id at.now place
+            × Allows (R.holds self.now.fixed) R.keeps seat.old.id seat.old.view (Swap at.now word) (R.then seat.old.view (Swap at.now word)) }
+        ensures { (seat.new.base ≡ seat.old.base) × (seat.new.id ≡ seat.old.id)
+            × R.then seat.old.view (Swap at.now word) (Found result) seat.new.view }
     {
         unsafe { raw::swap::<Brand>(self.words.add(place as usize), word, SeqCst) }
     }
 
     /// Adds to the word of a name, round at 2^64, and answers the one before.
     pub fn add(&self, seat: &mut Seat<T, R>, at: &At, place: u64, by: u64) -> u64
-        requires {
-            (seat.old.base ≡ self.now.id.views_name) × IsItsPlace self.now.id at.now place
-            × Allows (R.holds self.now.fixed) R.keeps seat.old.id seat.old.view (Add at.now by) (R.then seat.old.view (Add at.now by))
-        }
-        ensures {
-            (seat.new.base ≡ seat.old.base) × (seat.new.id ≡ seat.old.id)
-            × R.then seat.old.view (Add at.now by) (Found result) seat.new.view
-        }
+        requires { (seat.old.base ≡ self.now.id.views_name) × IsItsPlace self.now.id at.now place
+            × Allows (R.holds self.now.fixed) R.keeps seat.old.id seat.old.view (Add at.now by) (R.then seat.old.view (Add at.now by)) }
+        ensures { (seat.new.base ≡ seat.old.base) × (seat.new.id ≡ seat.old.id)
+            × R.then seat.old.view (Add at.now by) (Found result) seat.new.view }
     {
         unsafe { raw::fetch_add::<Brand>(self.words.add(place as usize), by, SeqCst) }
     }
 
     /// Sets bits of the word of a name, and answers the one before.
     pub fn or(&self, seat: &mut Seat<T, R>, at: &At, place: u64, bits: u64) -> u64
-        requires {
-            (seat.old.base ≡ self.now.id.views_name) × IsItsPlace self.now.id at.now place
-            × Allows (R.holds self.now.fixed) R.keeps seat.old.id seat.old.view (Or at.now bits) (R.then seat.old.view (Or at.now bits))
-        }
-        ensures {
-            (seat.new.base ≡ seat.old.base) × (seat.new.id ≡ seat.old.id)
-            × R.then seat.old.view (Or at.now bits) (Found result) seat.new.view
-        }
+        requires { (seat.old.base ≡ self.now.id.views_name) × IsItsPlace self.now.id at.now place
+            × Allows (R.holds self.now.fixed) R.keeps seat.old.id seat.old.view (Or at.now bits) (R.then seat.old.view (Or at.now bits)) }
+        ensures { (seat.new.base ≡ seat.old.base) × (seat.new.id ≡ seat.old.id)
+            × R.then seat.old.view (Or at.now bits) (Found result) seat.new.view }
     {
         unsafe { raw::fetch_or::<Brand>(self.words.add(place as usize), bits, SeqCst) }
     }
 
     /// Writes a new word where the old one, the whole word, is found, and answers the word found: `Ok` where it was written.
-    pub fn exchange(&self, seat: &mut Seat<T, R>, at: &At, place: u64, old: u64, new: u64) -> Result<u64, u64>
-        requires {
-            (seat.old.base ≡ self.now.id.views_name) × IsItsPlace self.now.id at.now place
-            × Allows (R.holds self.now.fixed) R.keeps seat.old.id seat.old.view (Exchange at.now old new) (R.then seat.old.view (Exchange at.now old new))
-        }
-        ensures {
-            (seat.new.base ≡ seat.old.base) × (seat.new.id ≡ seat.old.id)
-            × R.then seat.old.view (Exchange at.now old new) (Exchanged result) seat.new.view
-        }
+    pub fn exchange(
+        &self,
+        seat: &mut Seat<T, R>,
+        at: &At,
+        place: u64,
+        old: u64,
+        new: u64,
+    ) -> Result<u64, u64>
+        requires { (seat.old.base ≡ self.now.id.views_name) × IsItsPlace self.now.id at.now place
+            × Allows (R.holds self.now.fixed) R.keeps seat.old.id seat.old.view (Exchange at.now old new) (R.then seat.old.view (Exchange at.now old new)) }
+        ensures { (seat.new.base ≡ seat.old.base) × (seat.new.id ≡ seat.old.id)
+            × R.then seat.old.view (Exchange at.now old new) (Exchanged result) seat.new.view }
     {
-        unsafe { raw::compare_exchange::<Brand>(self.words.add(place as usize), old, new, SeqCst, SeqCst) }
+        unsafe {
+            raw::compare_exchange::<Brand>(self.words.add(place as usize), old, new, SeqCst, SeqCst)
+        }
     }
 }
 

@@ -13,7 +13,8 @@ use Rattle.seize_seats.specs.Laws.{WordsLie, WordsAreApart}
 column_get : (k : ℕ) (ws : List ℕ) (o i w : ℕ) → slice_get (column k ws o) i ≡ Some w → (i < k) × (slice_index ws (i * 16 + o) ≡ w)
 column_get zero ws o i w e = absurd (cc e)
 column_get (suc k) ws o zero w e = (omega arith, ap (slice_index ws) (let s : 0 * 16 + o ≡ o = omega arith in s) ∙ cc e)
-column_get (suc k) ws o (suc i) w e = let r = column_get k ws (o + 16) i w e in (omega (arith, r.0), ap (slice_index ws) (let s : suc i * 16 + o ≡ i * 16 + (o + 16) = omega arith in s) ∙ r.1)
+column_get (suc k) ws o (suc i) w e = let r = column_get k ws (o + 16) i w e in
+    (omega (arith, r.0), ap (slice_index ws) (let s : suc i * 16 + o ≡ i * 16 + (o + 16) = omega arith in s) ∙ r.1)
 
 column_else : (k : ℕ) (ws : List ℕ) (o p w : ℕ) → ((i : ℕ) → i < k → i * 16 + o ≢ p) → column k (slice_set ws p w) o ≡ column k ws o
 column_else zero ws o p w other = refl
@@ -47,8 +48,10 @@ slots_get (suc k) ws o (suc s) f w e =
 slots_else : (k : ℕ) (ws : List ℕ) (o p w : ℕ) → ((s f : ℕ) → s < k → f < 2 → s * 16 + o + f ≢ p) → slots_from k (slice_set ws p w) o ≡ slots_from k ws o
 slots_else zero ws o p w other = refl
 slots_else (suc k) ws o p w other =
-    let first : slice_index (slice_set ws p w) o ≡ slice_index ws o = get_or-set_other ws p o w 0 (λ e. other 0 0 (omega arith) (omega arith) (omega (arith, e))) in
-    let second : slice_index (slice_set ws p w) (o + 1) ≡ slice_index ws (o + 1) = get_or-set_other ws p (o + 1) w 0 (λ e. other 0 1 (omega arith) (omega arith) (omega (arith, e))) in
+    let first : slice_index (slice_set ws p w) o ≡ slice_index ws o =
+    get_or-set_other ws p o w 0 (λ e. other 0 0 (omega arith) (omega arith) (omega (arith, e))) in
+    let second : slice_index (slice_set ws p w) (o + 1) ≡ slice_index ws (o + 1) =
+    get_or-set_other ws p (o + 1) w 0 (λ e. other 0 1 (omega arith) (omega arith) (omega (arith, e))) in
     let rest = slots_else k ws (o + 16) p w (λ s f lt le e. other (suc s) f (omega (arith, lt)) le (omega (arith, e))) in
     cc (first, second, rest)
 
@@ -98,8 +101,12 @@ words_lie T roots slots ws (Used r) w laid e =
     let g = column_get roots ws (roots * 16) r w e in let lt : r < roots = g.0 in
     (lt, omega (arith, laid.all, lt), ap (slice_index ws) (let s : (roots + r) * 16 ≡ r * 16 + roots * 16 = omega arith in s) ∙ g.1)
 words_lie T roots slots ws (Slot s f) w laid e =
-    let g = slots_get slots ws ((roots + roots) * 16) s f w e in let lt : s < slots = g.0 in let low : f < 2 = g.1 in let few = slots_bound roots slots ws laid in
-    ((omega (arith, lt, few), low), omega (arith, laid.all, lt, low, few), ap (slice_index ws) (let q : (roots + roots + s) * 16 + f ≡ s * 16 + (roots + roots) * 16 + f = omega arith in q) ∙ g.2)
+    let g = slots_get slots ws ((roots + roots) * 16) s f w e in let lt : s < slots = g.0 in let low : f < 2 = g.1 in
+    let few = slots_bound roots slots ws laid in (
+      (omega (arith, lt, few), low),
+      omega (arith, laid.all, lt, low, few),
+      ap (slice_index ws) (let q : (roots + roots + s) * 16 + f ≡ s * 16 + (roots + roots) * 16 + f = omega arith in q) ∙ g.2,
+    )
 words_lie T roots slots ws (Entry b i) w laid e = absurd (let n = ap (λ x. entry_in x i) (none_is T roots slots ws b) in cc (e, n))
 words_lie T roots slots ws (Word b i) w laid e = absurd (let n = ap (λ x. word_in x i) (none_is T roots slots ws b) in cc (e, n))
 
@@ -132,16 +139,18 @@ words_are_apart T roots slots ws (Slot s f) w new laid e =
     let h = slots_get slots ws ((roots + roots) * 16) s f w e in
     let g = words_lie T roots slots ws (Slot s f) w laid e in let lt : s < slots = h.0 in let low : f < 2 = h.1 in
     let p : ℕ = (roots + roots + s) * 16 + f in let same : (roots + roots + s) * 16 + f ≡ s * 16 + (roots + roots) * 16 + f = omega arith in
-    let here = ap (λ q. slots_from slots (slice_set ws q new) ((roots + roots) * 16)) same ∙ slots_set slots ws ((roots + roots) * 16) s f new lt low (omega (arith, g.1, same)) in
+    let here = ap (λ q. slots_from slots (slice_set ws q new)
+    ((roots + roots) * 16)) same ∙ slots_set slots ws ((roots + roots) * 16) s f new lt low (omega (arith, g.1, same)) in
     let links = column_else roots ws 0 p new (λ i le q. omega (arith, q, le)) in
     let used = column_else roots ws (roots * 16) p new (λ i le q. omega (arith, q, le)) in
     (record { all = length-set ws p new ∙ laid.all; slots_are = some laid lt }, cc (here, links, used))
   where
     some : AreLaid roots slots ws → s < slots
         → ((slots ≡ 0) × ((k : ℕ) → (roots + roots) * 16 ≤ k → slice_index (slice_set ws ((roots + roots + s) * 16 + f) new) k ≡ 0)) ⊎ (slots ≡ 32)
-    some laid lt = elim laid.slots_are as (λ _. ((slots ≡ 0) × ((k : ℕ) → (roots + roots) * 16 ≤ k → slice_index (slice_set ws ((roots + roots + s) * 16 + f) new) k ≡ 0)) ⊎ (slots ≡ 32)) [
-      | inl none ↦ absurd (let z = none.0 in omega (arith, z, lt))
-      | inr all ↦ inr all
-    ]
+    some laid lt = elim laid.slots_are as (λ _. ((slots ≡ 0) × ((k : ℕ) → (roots + roots) * 16 ≤ k
+        → slice_index (slice_set ws ((roots + roots + s) * 16 + f) new) k ≡ 0)) ⊎ (slots ≡ 32)) [
+          | inl none ↦ absurd (let z = none.0 in omega (arith, z, lt))
+          | inr all ↦ inr all
+        ]
 words_are_apart T roots slots ws (Entry b i) w new laid e = absurd (words_lie T roots slots ws (Entry b i) w laid e).0
 words_are_apart T roots slots ws (Word b i) w new laid e = absurd (words_lie T roots slots ws (Word b i) w laid e).0

@@ -29,7 +29,8 @@ use Rattle.seize_seats.proofs.Rows.{Puts, row_at}
 use Rattle.seize_seats.proofs.Ledgers as Ledgers
 use Rattle.seize_seats.proofs.Rooms as Rooms
 
-module _ {M : Type 1} {𝓤 : Ura M} (𝓛 : Logic 𝓤) (T : Type 0) {V W : Type 0} (cv : Coded V) (holds : State T V W → Type 0) (keeps : V → V → W → ℕ → Type 0) (p : Ptr) (z : BaseId) where
+module _ {M : Type 1} {𝓤 : Ura M} (𝓛 : Logic 𝓤) (T : Type 0) {V W : Type 0} (cv : Coded V) (holds : State T V W → Type 0) (keeps : V → V → W → ℕ
+    → Type 0) (p : Ptr) (z : BaseId) where
   open 𝓛 use {H, A}
 
   abbrev Pr : Type 2
@@ -77,13 +78,15 @@ module _ {M : Type 1} {𝓤 : Ura M} (𝓛 : Logic 𝓤) (T : Type 0) {V W : Typ
   module _ (id : ℕ) (v : V) where
     -- the words as they are then, the views and the seat make the invariant again
     back : (t : Inside V W) (ws : List ℕ) (slots : ℕ) (so : V → Type 0) → AreLaid z.roots slots ws → slice_get t.views id ≡ Some v
-        → (g : Goes holds keeps (state_of T z t) (memory_of z.roots slots ws) id so) → ⟦ row b o ws ⟧ ∗ ⟦ Led t.blank t.views ⟧ ∗ ⟦ seat id v ⟧ ⊢ upd 𝓤 (⟦ I ⟧ ∗ ⟦ gone_on id so ⟧)
+        → (g : Goes holds keeps (state_of T z t) (memory_of z.roots slots ws) id so)
+        → ⟦ row b o ws ⟧ ∗ ⟦ Led t.blank t.views ⟧ ∗ ⟦ seat id v ⟧ ⊢ upd 𝓤 (⟦ I ⟧ ∗ ⟦ gone_on id so ⟧)
     back t ws slots so laid at g = let Z : Pr = ⟦ I ⟧ ∗ ⟦ gone_on id so ⟧ in let w : V = g.0 in let us : List V = set t.views id w in
         let n : Inside V W = record { words = ws; slots = slots; blank = t.blank; views = us; world = g.1 } in
         qed 𝓛 (‵ (row b o ws) ∷ ‵ (Led t.blank t.views) ∷ ‵ (seat id v) ∷ []) ∵ move ! (1 ∷ 2 ∷ []) $
         use2 𝓛 (raw (upd 𝓤 (⟦ Led t.blank us ⟧ ∗ ⟦ seat id w ⟧))) (Ledgers.turns 𝓛 cv z.views_name t.blank t.views id v w at) $
         settle 𝓛 Z (‵ (Led t.blank us) ⊛ ‵ (seat id w)) $ split ! $ suffices ! _ (upd_i 𝓤 Z) $
-        nothing ! $ fpack ! (holds (state_of T z n) × AreLaid z.roots slots ws) (λ _. ftrue) (g.2, laid) $ move ! (3 ∷ 1 ∷ 0 ∷ []) $ fjoin3 ! $ fpack ! (Inside V W) At_inside n $ frame ! $
+        nothing ! $ fpack ! (holds (state_of T z n) × AreLaid z.roots slots ws) (λ _. ftrue) (g.2, laid) $ move ! (3 ∷ 1 ∷ 0 ∷ []) $ fjoin3 ! $
+        fpack ! (Inside V W) At_inside n $ frame ! $
         nothing ! $ fpack ! (so w) (λ _. ftrue) g.4 $ fjoin ! $ fpack ! V (next id so) w $ done !
 
     -- the state, as the seat sees it
@@ -95,16 +98,19 @@ module _ {M : Type 1} {𝓤 : Ura M} (𝓛 : Logic 𝓤) (T : Type 0) {V W : Typ
 
     opened : ⟦ I ⟧ ∗ ⟦ seat id v ⟧ ⊢ ex 𝓤 Open
     opened = qed 𝓛 (‵ I ∷ ‵ (seat id v) ∷ []) ∵ fpick ! (λ t. fsplit3 ! $ move ! (2 ∷ []) $ fpick ! (λ so. drop ! $ move ! (1 ∷ 2 ∷ []) $
-        use2 𝓛 (given (slice_get t.views id ≡ Some v) (‵ (Led t.blank t.views) ⊛ ‵ (seat id v))) (Ledgers.sits 𝓛 cv z.views_name t.blank t.views id three_quarters v) $ learn ! (λ at. split ! $
+        use2 𝓛 (given (slice_get t.views id ≡ Some v) (‵ (Led t.blank t.views) ⊛
+        ‵ (seat id v))) (Ledgers.sits 𝓛 cv z.views_name t.blank t.views id three_quarters v) $ learn ! (λ at. split ! $
         show ! Open t $ check ! (so.0, so.1, at) $ move ! (2 ∷ 0 ∷ 1 ∷ []) $ done !)))
 
     abbrev opening : types.Kit.Item 𝓤
     opening = items (λ (t : Inside V W). given (Stands t) (‵ (row b o t.words) ⊛ ‵ (Led t.blank t.views) ⊛ ‵ (seat id v)))
 
     -- No word changes: the seat goes on without an operation, or with one that makes no step on a word.
-    module _ (so : V → Type 0) (law : (t : Inside V W) → Stands t → (slots : ℕ) × AreLaid z.roots slots t.words × Goes holds keeps (state_of T z t) (memory_of z.roots slots t.words) id so) where
+    module _ (so : V → Type 0) (law : (t : Inside V W) → Stands t
+        → (slots : ℕ) × AreLaid z.roots slots t.words × Goes holds keeps (state_of T z t) (memory_of z.roots slots t.words) id so) where
       moves : ⟦ I ⟧ ∗ ⟦ seat id v ⟧ ⊢ upd 𝓤 (⟦ I ⟧ ∗ ⟦ gone_on id so ⟧)
-      moves = qed 𝓛 (‵ I ∷ ‵ (seat id v) ∷ []) ∵ use2 𝓛 opening opened $ pick ! (λ t. learn ! (λ f. let r = law t f in by ! (back t t.words r.0 so r.1 f.2 r.2)))
+      moves = qed 𝓛 (‵ I ∷ ‵ (seat id v) ∷ []) ∵ use2 𝓛 opening opened $
+          pick ! (λ t. learn ! (λ f. let r = law t f in by ! (back t t.words r.0 so r.1 f.2 r.2)))
 
   -- the invariant is opened once, and no step is taken
   reach : (q : Share) (K Q : Pr) → ⟦ I ⟧ ∗ K ⊢ upd 𝓤 (⟦ I ⟧ ∗ Q) → ⟦ finv (fbor α I) ⟧ ∗ A.lft α q ∗ K ⊢ H.⇛ (Q ∗ A.lft α q)
@@ -112,8 +118,10 @@ module _ {M : Type 1} {𝓤 : Ura M} (𝓛 : Logic 𝓤) (T : Type 0) {V W : Typ
       use1 𝓛 (items (λ (n : ℕ). ‵ (fnamed n (fbor α I)))) (𝓛.invs.inv_named (fbor α I)) $ pick ! (λ n. by ! (named n))
     where
       named : (n : ℕ) → A.named n (fbor α I) ∗ A.lft α q ∗ K ⊢ H.⇛ (Q ∗ A.lft α q)
-      named n = let Z : Pr = ⟦ I ⟧ ∗ emp 𝓤 ∗ Q in via 𝓤 _ (qed 𝓛 (‵ (fnamed n (fbor α I)) ∷ ‵ (flft α q) ∷ raw K ∷ []) ∵ use0 𝓛 (‵ ftrue) (id⊢ 𝓤 (emp 𝓤)) $ move ! (1 ∷ 0 ∷ []) $ fjoin ! $ frame ! $ frame ! $
-          assume ! (‵ I ⊛ ‵ ftrue) $ split ! $ move ! (0 ∷ 2 ∷ []) $ use2 𝓛 (raw (upd 𝓤 (⟦ I ⟧ ∗ Q))) go $ settle 𝓛 Z (‵ I ⊛ raw Q) $ split ! $ suffices ! _ (upd_i 𝓤 Z) $ frame ! $ move ! (1 ∷ 0 ∷ []) $ done !)
+      named n = let Z : Pr = ⟦ I ⟧ ∗ emp 𝓤 ∗ Q in via 𝓤 _ (qed 𝓛 (‵ (fnamed n (fbor α I)) ∷ ‵ (flft α q) ∷ raw K ∷ []) ∵ use0 𝓛 (‵ ftrue) (id⊢ 𝓤 (emp 𝓤)) $
+          move ! (1 ∷ 0 ∷ []) $ fjoin ! $ frame ! $ frame ! $
+          assume ! (‵ I ⊛ ‵ ftrue) $ split ! $ move ! (0 ∷ 2 ∷ []) $ use2 𝓛 (raw (upd 𝓤 (⟦ I ⟧ ∗ Q))) go $ settle 𝓛 Z (‵ I ⊛ raw Q) $ split ! $
+          suffices ! _ (upd_i 𝓤 Z) $ frame ! $ move ! (1 ∷ 0 ∷ []) $ done !)
           (𝓛.invs.invs_bor_acc n α q I [] Q ((λ m. not-mem-nil m), tt))
 
   -- the same by what a `&` to the words has
@@ -122,7 +130,8 @@ module _ {M : Type 1} {𝓤 : Ura M} (𝓛 : Logic 𝓤) (T : Type 0) {V W : Typ
     reaches = qed 𝓛 (‵ (words_share T cv.code holds p z κ) ∷ ‵ (flft κ q) ∷ raw K ∷ []) ∵ updating ! $ fsplit ! $ move ! (1 ∷ []) $ fsplit ! $ drop ! $
         -- [the invariant; its lifetime lasts; the token; K]
         move ! (1 ∷ 2 ∷ []) $ shr_bor-open ! tt (tokens_halve 𝓛 α) (λ s. move ! (2 ∷ 1 ∷ 3 ∷ []) $
-        use3 𝓛 (later (raw Q ⊛ ‵ (flft α s))) (reach s K Q go) $ await ! tt $ split ! $ move ! (2 ∷ 1 ∷ []) $ obor_close ! tt $ drop ! $ now ! $ move ! (1 ∷ 0 ∷ []) $ done !)
+        use3 𝓛 (later (raw Q ⊛ ‵ (flft α s))) (reach s K Q go) $ await ! tt $ split ! $ move ! (2 ∷ 1 ∷ []) $ obor_close ! tt $ drop ! $ now ! $
+        move ! (1 ∷ 0 ∷ []) $ done !)
 
   -- a step without an operation
   pub turns : (κ : Lft) (q : Share) (id : ℕ) (v : V) (so : V → Type 0) → Turns holds keeps id v so
@@ -144,11 +153,14 @@ module _ {M : Type 1} {𝓤 : Ura M} (𝓛 : Logic 𝓤) (T : Type 0) {V W : Typ
   comes κ q v law = reaches κ q (emp 𝓤) ⟦ newcomer v ⟧ grows
     where
       grows : ⟦ I ⟧ ∗ emp 𝓤 ⊢ upd 𝓤 (⟦ I ⟧ ∗ ⟦ newcomer v ⟧)
-      grows = let Z : Pr = ⟦ I ⟧ ∗ ⟦ newcomer v ⟧ in qed 𝓛 (‵ I ∷ ‵ ftrue ∷ []) ∵ move ! (1 ∷ []) $ drop ! $ fpick ! (λ t. fsplit3 ! $ move ! (2 ∷ []) $ fpick ! (λ so. drop ! $
-          let g = law (state_of T z t) so.0 in let us : List V = t.views ++ v ∷ [] in let n : Inside V W = record { words = t.words; slots = t.slots; blank = t.blank; views = us; world = g.0 } in
+      grows = let Z : Pr = ⟦ I ⟧ ∗ ⟦ newcomer v ⟧ in qed 𝓛 (‵ I ∷ ‵ ftrue ∷ []) ∵ move ! (1 ∷ []) $ drop ! $ fpick ! (λ t. fsplit3 ! $ move ! (2 ∷ []) $
+          fpick ! (λ so. drop ! $
+          let g = law (state_of T z t) so.0 in let us : List V = t.views ++ v ∷ [] in
+          let n : Inside V W = record { words = t.words; slots = t.slots; blank = t.blank; views = us; world = g.0 } in
           move ! (1 ∷ []) $ use1 𝓛 (raw (upd 𝓤 (⟦ Led t.blank us ⟧ ∗ ⟦ seat (length t.views) v ⟧))) (Ledgers.comes 𝓛 cv z.views_name t.blank t.views v) $
           settle 𝓛 Z (‵ (Led t.blank us) ⊛ ‵ (seat (length t.views) v)) $ split ! $ suffices ! _ (upd_i 𝓤 Z) $
-          nothing ! $ fpack ! (holds (state_of T z n) × AreLaid z.roots t.slots t.words) (λ _. ftrue) (g.1, so.1) $ move ! (3 ∷ 1 ∷ 0 ∷ []) $ fjoin3 ! $ fpack ! (Inside V W) At_inside n $ frame ! $
+          nothing ! $ fpack ! (holds (state_of T z n) × AreLaid z.roots t.slots t.words) (λ _. ftrue) (g.1, so.1) $ move ! (3 ∷ 1 ∷ 0 ∷ []) $ fjoin3 ! $
+          fpack ! (Inside V W) At_inside n $ frame ! $
           fpack ! ℕ (λ id. seat id v) (length t.views) $ done !))
 
   -- One step on a word: it becomes f of what it was, and that is the operation of the word's name.
@@ -161,17 +173,20 @@ module _ {M : Type 1} {𝓤 : Ura M} (𝓛 : Logic 𝓤) (T : Type 0) {V W : Typ
       e = i * 8 + o
 
       abbrev Goes-on : Inside V W → ℕ → Type 0
-      Goes-on t n = AreLaid z.roots t.slots (slice_set t.words i (f n)) × Goes holds keeps (state_of T z t) (memory_of z.roots t.slots (slice_set t.words i (f n))) id (so (out n))
+      Goes-on t n = AreLaid z.roots t.slots (slice_set t.words i (f n)) ×
+          Goes holds keeps (state_of T z t) (memory_of z.roots t.slots (slice_set t.words i (f n))) id (so (out n))
 
       -- the word is there, at its place, and what follows from it
       there : (t : Inside V W) → Stands id v t → (i < length t.words) × Goes-on t (get_or t.words i 0)
       there t g = let a = law (state_of T z t) g.0 g.2 in let found = is.needs (state_of T z t).memory a.0 in let w : ℕ = found.0 in
           let where_is = words_lie T z.roots t.slots t.words at w g.1 found.1 in let same : i ≡ place_of z.roots at = is.lies where_is.0 in
           let word_is : w ≡ get_or t.words i 0 = sym (ap (slice_index t.words) same ∙ where_is.2) in
-          let made = is.makes t.slots t.words w g.1 found.1 in
-          (subst (λ (k : ℕ). k < length t.words) (sym same) where_is.1,
-          subst (Goes-on t) word_is (subst (λ (k : ℕ). AreLaid z.roots t.slots (slice_set t.words k (f w)) × Goes holds keeps (state_of T z t) (memory_of z.roots t.slots (slice_set t.words k (f w))) id (so (out w))) (sym same)
-          (made.0, a.1 (out w) (memory_of z.roots t.slots (slice_set t.words (place_of z.roots at) (f w))) made.1)))
+          let made = is.makes t.slots t.words w g.1 found.1 in (
+            subst (λ (k : ℕ). k < length t.words) (sym same) where_is.1,
+            subst (Goes-on t) word_is (subst (λ (k : ℕ). AreLaid z.roots t.slots (slice_set t.words k (f w)) ×
+                Goes holds keeps (state_of T z t) (memory_of z.roots t.slots (slice_set t.words k (f w))) id (so (out w))) (sym same)
+                (made.0, a.1 (out w) (memory_of z.roots t.slots (slice_set t.words (place_of z.roots at) (f w))) made.1)),
+          )
 
       pub steps : (q : Share) → ⟦ finv (fbor α I) ⟧ ∗ (A.lft α q ∗ ⟦ seat id v ⟧) ⊢ asks 𝓛 (block_ptr b e) f always (λ n. fsep (flft α q) (told n))
       steps q = let G : Pr = ex 𝓤 (Lies 𝓛 α q I b e f always told) in borrowed 𝓛 α q I b e f always told ⟦ seat id v ⟧
@@ -179,7 +194,8 @@ module _ {M : Type 1} {𝓤 : Ura M} (𝓛 : Logic 𝓤) (T : Type 0) {V W : Typ
           let r = there t g in let n : ℕ = get_or t.words i 0 in let Z : Pr = ⟦ I ⟧ ∗ ⟦ told n ⟧ in let ws : List ℕ = slice_set t.words i (f n) in
           -- [the words; the views; the seat]
           use1 𝓛 (‵ (word b e n) ⊛ raw (all 𝓤 (Puts 𝓛 b o t.words i e))) (row_at 𝓛 b t.words o i e refl r.0) $ split ! $
-          show ! (Lies 𝓛 α q I b e f always told) n $ frame ! $ each ! (λ (_ : Unit {0}). Again 𝓛 α q I b e f always told n) (λ _. assume ! (‵ (word b e (f n))) $
+          show ! (Lies 𝓛 α q I b e f always told) n $ frame ! $
+          each ! (λ (_ : Unit {0}). Again 𝓛 α q I b e f always told n) (λ _. assume ! (‵ (word b e (f n))) $
           -- [the word; the others; the views; the seat]
           move ! (1 ∷ []) $ use1 𝓛 (raw (Puts 𝓛 b o t.words i e (f n))) (all_e 𝓤 (Puts 𝓛 b o t.words i e) (f n)) $ move ! (1 ∷ 0 ∷ []) $
           use2 𝓛 (‵ (row b o ws)) (apply∗ 𝓤 ⟦ word b e (f n) ⟧ ⟦ row b o ws ⟧) $ by ! (back id v t ws t.slots (so (out n)) r.1.0 g.2 r.1.1)))))

@@ -31,7 +31,12 @@ module _ {M : Type 1} {𝓤 : Ura M} (𝓛 : Logic 𝓤) (T : Type 0) {V W : Typ
   abbrev ⟦◌⟧ : Fml → SProp 𝓤
   ⟦ P ⟧ = sem 𝓛 P
 
-  module _ (roots : ℕ) (blank : V) (ws : List ℕ) (none : AreZeros ws) (all : length ws ≡ long roots) (placed : IsPlaced p record { atom = 0; views_name = 0; roots = roots }) (starts : Starts holds roots) where
+  module _ (roots : ℕ) (blank : V) (ws : List ℕ) (none : AreZeros ws) (all : length ws ≡ long roots) (placed : IsPlaced p record {
+    atom = 0;
+    views_name =
+        0;
+    roots = roots;
+  }) (starts : Starts holds roots) where
     abbrev pub Opened : BaseId → SProp 𝓤
     Opened z = guard 𝓤 (z.roots ≡ roots) ⟦ words_own T cv.code holds p z ⟧
 
@@ -40,14 +45,27 @@ module _ {M : Type 1} {𝓤 : Ura M} (𝓛 : Logic 𝓤) (T : Type 0) {V W : Typ
 
     pub opens : ent 𝓤 ⟦ row (block_of p) (count_of p) ws ⟧ (H.⇛ (ex 𝓤 Opened))
     opens = qed 𝓛 (‵ (row (block_of p) (count_of p) ws) ∷ []) ∵ updating ! $ lft_new ! tt (λ a. let α : Lft = a ∷ [] in
-        use0 𝓛 (later (items (λ (γ : ℕ). ‵ (ledger cv.code γ blank [])))) (via 𝓤 _ (Ledgers.begins 𝓛 cv 0 blank) (basic 𝓛 (ex 𝓤 (λ (γ : ℕ). ⟦ ledger cv.code γ blank [] ⟧)))) $ await ! tt $ pick ! (λ γ.
+        use0 𝓛 (later (items (λ (γ : ℕ). ‵ (ledger cv.code γ blank [])))) (via 𝓤 _ (Ledgers.begins 𝓛 cv 0 blank)
+        (basic 𝓛 (ex 𝓤 (λ (γ : ℕ). ⟦ ledger cv.code γ blank [] ⟧)))) $ await ! tt $ pick ! (λ γ.
         -- [the views; the token; the words]
         let z : BaseId = record { atom = a; views_name = γ; roots = roots } in let I : Fml = inner T cv.code holds p z in
         let links = column_zeros roots ws 0 none in let used = column_zeros roots ws (roots * 16) none in
-        let so : holds (state_of T z first) = subst (λ (m : List ℕ × List ℕ). holds record { memory = record { roots = m.0; used = m.1; slots = []; blocks = []; choices = [] }; views = []; world = starts.0 })
-            (λ i. (sym links i, sym used i)) starts.1 in
+        let so : holds (state_of T z first) = subst (λ (m : List ℕ × List ℕ). holds record {
+          memory = record {
+            roots = m.0;
+            used = m.1;
+            slots = [];
+            blocks =
+                [];
+            choices = [];
+          };
+          views = [];
+          world = starts.0;
+        })
+        (λ i. (sym links i, sym used i)) starts.1 in
         let laid : AreLaid roots 0 ws = record { all = all; slots_are = inl (refl, λ k le. none k) } in
-        nothing ! $ fpack ! (holds (state_of T z first) × AreLaid z.roots 0 ws) (λ _. ftrue) (so, laid) $ move ! (3 ∷ 1 ∷ 0 ∷ []) $ fjoin3 ! $ fpack ! (Inside V W) (standing T cv.code holds p z) first $
+        nothing ! $ fpack ! (holds (state_of T z first) × AreLaid z.roots 0 ws) (λ _. ftrue) (so, laid) $ move ! (3 ∷ 1 ∷ 0 ∷ []) $ fjoin3 ! $
+        fpack ! (Inside V W) (standing T cv.code holds p z) first $
         bor_new ! tt α $ use1 𝓛 (later (‵ (finv (fbor α I)))) (𝓛.invs.inv_new (fbor α I)) $ await ! tt $
         nothing ! $ fpack ! (IsPlaced p z) (λ _. ftrue) placed $ move ! (0 ∷ 1 ∷ []) $ fjoin ! $ move ! (0 ∷ 1 ∷ []) $ fjoin ! $ move ! (1 ∷ 0 ∷ []) $ fjoin ! $
         now ! $ show ! Opened z $ check ! refl $ done !))

@@ -22,7 +22,16 @@ module _ {V : Type 0} (c : V → Gv) (γ : ℕ) where
 
 module _ (T : Type 0) {V W : Type 0} (c : V → Gv) (holds : State T V W → Type 0) (p : Ptr) (z : BaseId) where
   inner_keyless : Keyless (inner T c holds p z)
-  inner_keyless = λ t. (row_keyless (block_of p) (count_of p) t.words, ((quarters_keyless c z.views_name 0 t.views, entries_keyless shared_view z.views_name (length t.views) _), λ _. tt))
+  inner_keyless = λ t. (
+    row_keyless (block_of p) (count_of p) t.words,
+    (
+      (
+        quarters_keyless c z.views_name 0 t.views,
+        entries_keyless shared_view z.views_name (length t.views) _,
+      ),
+      λ _. tt,
+    ),
+  )
 
   pub owns_keyless : Keyless (words_own T c holds p z)
   owns_keyless = (tt, (((λ _. tt), inner_keyless), inner_keyless))

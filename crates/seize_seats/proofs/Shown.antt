@@ -40,13 +40,18 @@ module _ (T : Type 0) {V W : Type 0} (cv : Coded V) (holds : State T V W → Typ
       nothing ! $ fpack ! (IsPlaced p z) (λ _. ftrue) i $ fjoin ! $ move ! (1 ∷ []) $ nothing ! $ fpack ! (IsPlaced p z) (λ _. ftrue) i $ fjoin ! $ done !)
 
   pub words_laws : ShrLaws (words_share T cv.code holds p z)
-  words_laws = beside_shr_laws (one Φ) (said C) (one_shr_laws Φ) record { contraction = λ M 𝓤 𝓛 ν. twice 𝓛; mono = λ M 𝓤 𝓛 μ ν. snd∗ 𝓤 (sem 𝓛 (base.Before.before μ ν)) (sem 𝓛 C) }
+  words_laws = beside_shr_laws (one Φ) (said C) (one_shr_laws Φ) record {
+    contraction = λ M 𝓤 𝓛 ν. twice 𝓛;
+    mono =
+        λ M 𝓤 𝓛 μ ν. snd∗ 𝓤 (sem 𝓛 (base.Before.before μ ν)) (sem 𝓛 C);
+  }
 
   module _ {M : Type 1} {𝓤 : Ura M} (𝓛 : Logic 𝓤) (l : Lft) where
     open 𝓛 use {H, A}
 
     token : Lends 𝓛 (Φ full_share) (one Φ) l
-    token ν ts inc sp = qed 𝓛 (‵ (fbor ν (Φ full_share)) ∷ raw (lfts 𝓛 ts) ∷ []) {P = H.⇛ (sep 𝓤 (sem 𝓛 (fshr_bor ν Φ)) (lfts 𝓛 ts))} (updating ! $ bor_fracture ! tt Φ full_share $ now ! $ done !)
+    token ν ts inc sp = qed 𝓛 (‵ (fbor ν (Φ full_share)) ∷ raw (lfts 𝓛 ts) ∷ []) {P = H.⇛ (sep 𝓤 (sem 𝓛 (fshr_bor ν Φ)) (lfts 𝓛 ts))} (updating ! $
+        bor_fracture ! tt Φ full_share $ now ! $ done !)
 
     knowledge : Lends 𝓛 (fsep C (flent α I)) (said C) l
     knowledge ν ts inc sp = let P : Fml = fsep C (flent α I) in let Back = H.⇛ (sep 𝓤 (A.bor ν P) (lfts 𝓛 ts)) in

@@ -29,12 +29,14 @@ module _ (T : Type 0) (roots : ℕ) (at : At) (i : ℕ) (lies : IsWord roots at 
       × Took (memory_of {T = T} roots slots ws) op (out w) (memory_of {T = T} roots slots (slice_set ws (place_of roots at) (f w)))
 
   -- a step that leaves the word with another number is that operation, where it gives this answer and leaves this memory
-  writes : (op : Op T) (f : ℕ → ℕ) (out : ℕ → Out T) → ((m : Mem T) (w : ℕ) → word_at m at ≡ Some w → Gives m op (out w) × (after m op (out w) ≡ with_word m at (f w))) → Made op f out
+  writes : (op : Op T) (f : ℕ → ℕ) (out : ℕ → Out T) → ((m : Mem T) (w : ℕ) → word_at m at ≡ Some w
+      → Gives m op (out w) × (after m op (out w) ≡ with_word m at (f w))) → Made op f out
   writes op f out says slots ws w laid e =
       let a = words_are_apart T roots slots ws at w (f w) laid e in let s = says (memory_of roots slots ws) w e in (a.0, (s.0, a.1 ∙ sym s.1))
 
   -- one that leaves the word as it was leaves all as it was
-  keeps : (op : Op T) (f : ℕ → ℕ) (out : ℕ → Out T) → ((m : Mem T) (w : ℕ) → word_at m at ≡ Some w → (f w ≡ w) × Gives m op (out w) × (after m op (out w) ≡ m)) → Made op f out
+  keeps : (op : Op T) (f : ℕ → ℕ) (out : ℕ → Out T) → ((m : Mem T) (w : ℕ) → word_at m at ≡ Some w
+      → (f w ≡ w) × Gives m op (out w) × (after m op (out w) ≡ m)) → Made op f out
   keeps op f out says slots ws w laid e =
       let l = words_lie T roots slots ws at w laid e in let s = says (memory_of roots slots ws) w e in
       let same : slice_set ws (place_of roots at) (f w) ≡ ws = ap (slice_set ws (place_of roots at)) (s.0 ∙ sym l.2) ∙ set-get_or ws (place_of roots at) 0 in
@@ -66,13 +68,18 @@ module _ (T : Type 0) (roots : ℕ) (at : At) (i : ℕ) (lies : IsWord roots at 
 
       by : (slots : ℕ) (ws : List ℕ) (w : ℕ) → AreLaid roots slots ws → word_at (memory_of {T = T} roots slots ws) at ≡ Some w → (w ≡ old) ⊎ (w ≢ old)
           → AreLaid roots slots (slice_set ws (place_of roots at) (either (w == old) new w))
-          × Took (memory_of {T = T} roots slots ws) (Exchange at old new) (Exchanged (exchanged old w)) (memory_of {T = T} roots slots (slice_set ws (place_of roots at) (either (w == old) new w)))
+          × Took (memory_of {T = T} roots slots ws) (Exchange at old new) (Exchanged (exchanged old w)) (memory_of {T =
+          T} roots slots (slice_set ws (place_of roots at) (either (w == old) new w)))
       by slots ws w laid e (inl is) =
           let r = writes (Exchange at old new) (λ _. new) (λ n. Exchanged (Ok n)) in
-          subst (λ (y : Bool). AreLaid roots slots (slice_set ws (place_of roots at) (either y new w)) × Took (memory_of {T = T} roots slots ws) (Exchange at old new) (Exchanged (if y then Ok w else Err w)) (memory_of {T = T} roots slots (slice_set ws (place_of roots at) (either y new w))))
+          subst (λ (y : Bool). AreLaid roots slots (slice_set ws (place_of roots at) (either y new w)) × Took (memory_of {T =
+          T} roots slots ws) (Exchange at old new) (Exchanged (if y then Ok w else Err w)) (memory_of {T =
+          T} roots slots (slice_set ws (place_of roots at) (either y new w))))
           (sym (eq-eqb w old is)) (let a = words_are_apart T roots slots ws at w new laid e in (a.0, ((e, is), a.1)))
       by slots ws w laid e (inr ne) =
-          subst (λ (y : Bool). AreLaid roots slots (slice_set ws (place_of roots at) (either y new w)) × Took (memory_of {T = T} roots slots ws) (Exchange at old new) (Exchanged (if y then Ok w else Err w)) (memory_of {T = T} roots slots (slice_set ws (place_of roots at) (either y new w))))
+          subst (λ (y : Bool). AreLaid roots slots (slice_set ws (place_of roots at) (either y new w)) × Took (memory_of {T =
+          T} roots slots ws) (Exchange at old new) (Exchanged (if y then Ok w else Err w)) (memory_of {T =
+          T} roots slots (slice_set ws (place_of roots at) (either y new w))))
           (sym (ne_eqb w old ne))
           (let l = words_lie T roots slots ws at w laid e in
           let same : slice_set ws (place_of roots at) w ≡ ws = ap (slice_set ws (place_of roots at)) (sym l.2) ∙ set-get_or ws (place_of roots at) 0 in

@@ -24,7 +24,12 @@ module _ {T V W : Type 0} where
   -- The rule holds of a memory with as many roots and nothing else, before there is a seat.
   abbrev pub Starts : (State T V W → Type 0) → ℕ → Type 0
   Starts holds roots =
-      (w : W) × holds record { memory = record { roots = replicate roots 0; used = replicate roots 0; slots = []; blocks = []; choices = [] }; views = []; world = w }
+      (w : W) × holds record {
+        memory = record { roots = replicate roots 0; used = replicate roots 0; slots = []; blocks = []; choices = [] };
+        views =
+            [];
+        world = w;
+      }
 
   -- What a rule says: `holds` of the state between any two steps, and which blocks the view of one seat keeps in a world, as long as what another seat
   -- owns lasts.

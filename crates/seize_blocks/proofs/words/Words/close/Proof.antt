@@ -41,7 +41,8 @@ use Rattle.seize_blocks.proofs.words.Words.close.Code as code
 
 pub close_spec : {M : Type 1} → statement M
 close_spec 𝓤 𝓛 𝓜 𝓡 wired X P U F LX LP LU LF g d _ =
-    let H = 𝓛.H in let 𝓣 = tables 𝓤 H 𝓜 𝓡 𝓡.env in let R₀ : RattleType = param 0 X in let R₁ : RattleType = param 1 P in let R₂ : RattleType = param 2 U in let R₃ : RattleType = param 3 F in
+    let H = 𝓛.H in let 𝓣 = tables 𝓤 H 𝓜 𝓡 𝓡.env in let R₀ : RattleType = param 0 X in let R₁ : RattleType = param 1 P in let R₂ : RattleType = param 2 U in
+    let R₃ : RattleType = param 3 F in
     let En = ended X P U F g d in let c = clauses X P U F g d 𝓛 𝓜.mem 𝓡.returns in
     let inst = bounded (a_type ∷ a_type ∷ a_type ∷ a_type ∷ []) (X, (P, (U, (F, tt)))) (dcons d dnil) in let fn = inst_fn inst code.function in
     let Row : RattleType = words.the_row R₀ R₁ R₂ R₃ g in let Rw : RattleType = row.the_row u64 in
@@ -54,9 +55,11 @@ close_spec 𝓤 𝓛 𝓜 𝓡 wired X P U F LX LP LU LF g d _ =
     qed 𝓛 ((raw (alive 𝓛 En.signature κs qs) ⊛ ‵ (owns (types_at En.signature.params κs) a y.0.4)) ∷ raw ((c κs a).requires gh) ∷ []) ∵
     split ! $ move ! (1 ∷ []) $ fsplit ! $ fsplit ! $ keep ! (1 ∷ 3 ∷ []) $
     enter ! 𝓣.C 𝓣.Λ fn (hand_of p ∷ []) Post $ alloc_all ! (λ l. pass_all ! refl (hand_good p, tt) $
-    use1 𝓛 (later (items (λ (ws : List ℕ). given ((length ws ≡ long z.roots) × IsPlaced p z) (‵ (Owned.row (block_of p) (count_of p) ws))))) (closes 𝓛 X.Denot cv holds p z) $ await ! tt $ pick ! (λ ws. learn ! (λ is.
+    use1 𝓛 (later (items (λ (ws : List ℕ). given ((length ws ≡ long z.roots) ×
+    IsPlaced p z) (‵ (Owned.row (block_of p) (count_of p) ws))))) (closes 𝓛 X.Denot cv holds p z) $ await ! tt $ pick ! (λ ws. learn ! (λ is.
     use1 𝓛 (‵ (Placing.Whole 𝓛 p ws)) (whole_in 𝓛 p ws (is.1.0, subst (λ (n : ℕ). n * 8 < 2 ^ 63) (sym is.0) is.1.1)) $
-    sets ! (of_opd ! (get_in ! (fld ! refl (stop !)) (sub ! 0 refl (whole !)))) refl (Ptr-Good p) $ sets ! (agg ! (and_then ! (get ! refl) (no_more !))) refl (one_good p) $
+    sets ! (of_opd ! (get_in ! (fld ! refl (stop !)) (sub ! 0 refl (whole !)))) refl (Ptr-Good p) $
+    sets ! (agg ! (and_then ! (get ! refl) (no_more !))) refl (one_good p) $
     let r : Rw.Denot = record { at = p; items = ws } in let Told : Type 0 = (p ≡ p) × (length ws ≡ long z.roots) in
     use0 𝓛 (‵ ((Places u64).own_val (p, tt) (one_of p ∷ []))) (places_made u64 𝓛 p) $ fjoin ! $
     nothing ! $ nothing ! $ fjoin ! $ use0 𝓛 (raw (fact 𝓤 Told)) (fact_i 𝓤 Told (emp 𝓤) (refl, is.0)) $
