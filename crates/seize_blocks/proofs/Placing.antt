@@ -1,7 +1,7 @@
 -- Slots that give up their places, and places that are slots again. Assumes `Logic`.
 use Rattle.std.proofs.Common.{◌≡◌, ℕ, suc, ◌+◌, ◌*◌, ◌^◌, ◌<◌, Bool, true, false, List, [], ◌∷◌, ◌++◌, length, get_or, replicate, T, refl, sym, ap, ◌∙◌, subst, arith}
 use seplogic.Ra.Ura.{Ura}
-use mir.Val.{Val, vint, vptr, vstruct, vcons, vnil, of_list, has_ty, WT}
+use mir.Val.{Val, vint, vptr, vstruct, of_list, has_ty, WT}
 use mir.Syntax.{w64}
 use base.Fraction.{full_share}
 use base.Logic.{SProp, ent, sep, ex, guard, emp, never, mono∗, id⊢}
@@ -26,7 +26,6 @@ use Rattle.core.specs.Mem.Slots.{slots_items, slots_filled, slots_ptr, slots_len
 use Rattle.core.specs.contracts.slots.Slots.from_raw_parts as back
 use Rattle.core.specs.contracts.slots.Slots.into_raw_parts as out
 use Rattle.core.proofs.mem.Param.{El, R, el_x}
-use Rattle.core.proofs.slots.Places.{sz}
 use Rattle.seize_seats.specs.Owned.{row}
 use Rattle.core.proofs.slots.Opens.{Sr, words_val, row_val, row_had, row_made}
 

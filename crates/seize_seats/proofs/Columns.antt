@@ -1,13 +1,12 @@
 -- Words and their places: another word at a place is another word of its name.
-use Rattle.std.specs.Prelude.{◌≡◌, ◌≢◌, ℕ, zero, suc, ◌+◌, ◌*◌, ◌-◌, ◌<◌, ◌≤◌, ◌==◌, ◌⊎◌, Bool, true, false, if◌then◌else◌, List, [], ◌∷◌, length, Option, Some, None, slice_get, slice_index, slice_index_or, slice_set}
-use Rattle.std.proofs.Common.{refl, sym, ap, ◌∙◌, subst, arith, inl, inr, length-set}
+use Rattle.std.specs.Prelude.{◌≡◌, ◌≢◌, ℕ, zero, suc, ◌+◌, ◌*◌, ◌-◌, ◌<◌, ◌≤◌, ◌==◌, ◌⊎◌, Bool, true, false, if◌then◌else◌, List, [], length, Option, Some, None, slice_get, slice_index, slice_index_or, slice_set}
+use Rattle.std.proofs.Common.{refl, ap, ◌∙◌, arith, inl, inr, length-set}
 use Rattle.std.proofs.lemmas.List.{get_or-set_same, get_or-set_other}
-use Rattle.seize_words.specs.Mem.{Mem, block_of, entry_in, word_in, word_at, with_word}
+use Rattle.seize_words.specs.Mem.{block_of, entry_in, word_in}
 use Rattle.seize_words.specs.declared.block.Block.{Block}
 use Rattle.seize_words.specs.SlotWords.{slot_word, with_slot_word}
-use Rattle.seize_words.specs.declared.at.At.{At}
 use Rattle.seize_words.specs.declared.at.At.TheVariants.{Root, Used, Slot, Entry, Word}
-use Rattle.seize_seats.specs.Lines.{column, slots_from, long, place_of, memory_of, IsWord, AreLaid}
+use Rattle.seize_seats.specs.Lines.{column, slots_from, memory_of, AreLaid}
 use Rattle.seize_seats.specs.Laws.{WordsLie, WordsAreApart}
 
 column_get : (k : ℕ) (ws : List ℕ) (o i w : ℕ) → slice_get (column k ws o) i ≡ Some w → (i < k) × (slice_index ws (i * 16 + o) ≡ w)

@@ -1,5 +1,5 @@
 -- The list of views: a quarter of each stands in it, three quarters are with the seat. Assumes `Logic`.
-use Rattle.std.proofs.Common.{◌≡◌, ℕ, zero, suc, ◌+◌, List, [], ◌∷◌, ◌++◌, length, set, sym, refl, ap, ◌∙◌, subst, arith, Option, Some, None}
+use Rattle.std.proofs.Common.{◌≡◌, ℕ, zero, suc, ◌+◌, List, [], ◌∷◌, ◌++◌, length, set, sym, refl, ap, subst, arith, Some}
 use Rattle.std.specs.Prelude.{slice_get}
 use mathlib.Core.Path.{Path}
 use mathlib.Mathlib.Data.Part.{◌∈◌}
@@ -15,8 +15,8 @@ use base.Share.{quarter, three_quarters}
 use base.SetCodes.{coded, SetCoded-set}
 use base.Stored.{Gv, Coded}
 use base.Logic.{SProp, ent, sep, wand, ex, all, guard, upd, via, apply∗, all_e, ex_e, guard_e, guard_i, upd_i, upd_mono}
-use base.Fml.{Share, Fml, ftrue, fsep}
-use types.Keyed.{entry, entries_from, entries_take, entries_beside, entry_cut, entry_glue, entry_set, entries_new}
+use base.Fml.{Share, Fml, ftrue}
+use types.Keyed.{entry, entries_take, entries_beside, entry_cut, entry_glue, entry_set, entries_new}
 use types.Logic.{Logic, sem}
 use types.Kit.{‵, raw, ◌⊛◌, given, ◌$◌, ◌∵◌, !, qed, move, split, split3, join, fsplit, fjoin, learn, check, frame, each, assume, suffices, settle, use1, use2, use3, rewrite, done}
 use Rattle.seize_seats.specs.Owned.{itself, shared_view, seen, unborn, quarters, ledger}

@@ -1,29 +1,26 @@
 -- What seats do to the words and the views, under any rule: one step on a word, a step without an operation, and a seat that comes. Assumes `Logic`.
 use Rattle.std.specs.Prelude.{slice_get, slice_set, slice_index}
-use Rattle.std.proofs.Common.{◌≡◌, ℕ, zero, suc, ◌+◌, ◌*◌, ◌<◌, List, [], ◌∷◌, ◌++◌, length, set, get_or, sym, refl, ap, ◌∙◌, subst, arith, Option, Some, None}
+use Rattle.std.proofs.Common.{◌≡◌, ℕ, ◌+◌, ◌*◌, ◌<◌, List, [], ◌∷◌, ◌++◌, length, set, get_or, sym, refl, ap, ◌∙◌, subst, Some}
 use mathlib.Core.List.{not-mem-nil}
 use seplogic.Ra.Ura.{Ura}
-use base.Fraction.{full_share}
-use base.Share
 use base.Share.{three_quarters}
 use base.Stored.{Coded}
-use base.Logic.{SProp, ent, sep, wand, ex, all, guard, upd, emp, id⊢, via, apply∗, all_e, upd_i}
-use base.Fml.{Lft, Share, Fml, ftrue, fsep, fex, flft, flent, fbor, finv, fnamed, fshr_bor}
+use base.Logic.{SProp, ent, sep, ex, all, guard, upd, emp, id⊢, via, apply∗, all_e, upd_i}
+use base.Fml.{Lft, Share, Fml, ftrue, fsep, fex, flft, fbor, finv, fnamed}
 use types.Logic.{Logic, sem}
 use types.Kit.{‵, raw, ◌⊛◌, some as items, given, later, ◌$◌, ◌∵◌, !, qed, by, move, keep, drop, split, split3, join, fsplit, fsplit3, fjoin, fjoin3, fpick, fpack, pick, learn, check, show, frame, each, assume, suffices, settle, use0, use1, use2, use3, updating, await, now, done}
 use types.Tokens.{shr_bor-open, obor_close}
 use types.Within.{tokens_halve}
-use denote.RawPtr.{Ptr, InBlock, block_ptr, block_of, count_of}
+use denote.RawPtr.{Ptr, block_ptr, block_of, count_of}
 use denote.Steps.{nothing}
 use Rattle.core.specs.Sync.RawAtomic.{word, asks, always}
 use Rattle.core.proofs.raw_atomic.Asked.{borrowed, Lies, Again}
-use Rattle.seize_words.specs.Mem.{Mem, Can, Took, word_at}
 use Rattle.seize_words.specs.Op.{Op, Out, Room, Roomed}
 use Rattle.seize_words.specs.declared.at.At.{At}
-use Rattle.seize_seats.specs.State.{State, view_of, after, joined, Goes, Allows, Turns, Comes}
-use Rattle.seize_seats.specs.Lines.{place_of, memory_of, IsWord, AreLaid}
+use Rattle.seize_seats.specs.State.{State, Goes, Allows, Turns, Comes}
+use Rattle.seize_seats.specs.Lines.{place_of, memory_of, AreLaid}
 use Rattle.seize_seats.specs.Steps.{IsStepOf, roomed}
-use Rattle.seize_seats.specs.Owned.{fact, row, quarters, ledger, BaseId, age, Inside, state_of, IsPlaced, standing, inner, common, words_share, seat_owns}
+use Rattle.seize_seats.specs.Owned.{fact, row, ledger, BaseId, age, Inside, state_of, standing, inner, words_share, seat_owns}
 use Rattle.seize_seats.proofs.Columns.{words_lie}
 use Rattle.seize_seats.proofs.Rows.{Puts, row_at}
 use Rattle.seize_seats.proofs.Ledgers as Ledgers

@@ -1,20 +1,19 @@
 -- Words that are 0 go under a rule that holds of them, and come back at the end. Assumes `Logic`.
 use Rattle.std.specs.Prelude.{slice_index, replicate}
-use Rattle.std.proofs.Common.{◌≡◌, ℕ, zero, suc, ◌+◌, ◌*◌, ◌^◌, ◌<◌, ◌≤◌, List, [], ◌∷◌, length, refl, sym, ap, ◌∙◌, subst, arith, inl}
+use Rattle.std.proofs.Common.{◌≡◌, ℕ, zero, suc, ◌+◌, ◌*◌, List, [], ◌∷◌, length, refl, sym, subst, inl}
 use seplogic.Ra.Ura.{Ura}
-use base.Fraction.{full_share}
-use base.Stored.{Gv, Coded}
-use base.Logic.{SProp, ent, sep, ex, guard, emp, via}
-use base.Fml.{Lft, Fml, ftrue, fsep, fex, flft, fdead, flent, fbor, finv}
+use base.Stored.{Coded}
+use base.Logic.{SProp, ent, ex, guard, via}
+use base.Fml.{Lft, Fml, ftrue, fbor, finv}
 use types.Logic.{Logic, sem}
 use types.Owned.{basic}
 use types.Tokens.{lft_new, lft_end, bor_new, lent_back}
-use types.Kit.{‵, raw, ◌⊛◌, some as items, given, later, ◌$◌, ◌∵◌, !, qed, move, keep, drop, split, fsplit, fsplit3, fjoin, fjoin3, fpick, fpack, pick, learn, check, show, use0, use1, updating, await, now, done}
+use types.Kit.{‵, some as items, later, ◌$◌, ◌∵◌, !, qed, move, keep, drop, fsplit, fsplit3, fjoin, fjoin3, fpick, fpack, pick, check, show, use0, use1, updating, await, now, done}
 use denote.RawPtr.{Ptr, block_of, count_of}
 use denote.Steps.{nothing}
 use Rattle.seize_seats.specs.State.{State, Starts}
-use Rattle.seize_seats.specs.Lines.{column, slots_from, long, memory_of, AreLaid}
-use Rattle.seize_seats.specs.Owned.{fact, row, ledger, BaseId, age, Inside, state_of, IsPlaced, standing, inner, common, words_own}
+use Rattle.seize_seats.specs.Lines.{column, long, AreLaid}
+use Rattle.seize_seats.specs.Owned.{row, ledger, BaseId, Inside, state_of, IsPlaced, standing, inner, words_own}
 use Rattle.seize_seats.proofs.Ledgers as Ledgers
 
 -- each word is 0

@@ -1,10 +1,10 @@
 -- The slots of the first bucket come to have their words, without a step on a word.
-use Rattle.std.specs.Prelude.{◌≡◌, ◌≢◌, ℕ, zero, suc, ◌+◌, ◌*◌, ◌^◌, ◌<◌, ◌≤◌, ◌==◌, Bool, true, false, List, [], ◌∷◌, ◌++◌, length, Result, Ok, Err, slice_index, replicate, if◌then◌else◌}
-use Rattle.std.proofs.Common.{refl, sym, ap, ◌∙◌, subst, arith, inl, inr, ◌⊎◌}
-use Rattle.std.proofs.lemmas.Bool.{cases_eq, eq-eqb, ne_eqb}
+use Rattle.std.specs.Prelude.{◌≡◌, ◌≢◌, ℕ, zero, suc, ◌+◌, ◌*◌, ◌^◌, ◌≤◌, Bool, List, ◌++◌, length, Result, Ok, Err, slice_index, replicate, if◌then◌else◌}
+use Rattle.std.proofs.Common.{refl, sym, ap, subst, arith, inl, inr, ◌⊎◌}
+use Rattle.std.proofs.lemmas.Bool.{cases_eq, ne_eqb}
 use native.Mathlib.Numerals.{unary_clauses}
 use Rattle.seize_words.specs.Mem.{Mem, Can, Took, with_room}
-use Rattle.seize_words.specs.Op.{Op, Room, Roomed}
+use Rattle.seize_words.specs.Op.{Room, Roomed}
 use Rattle.seize_words.specs.Place.{capacity}
 use Rattle.seize_words.specs.SlotWords.{with_bucket}
 use Rattle.seize_words.specs.declared.fault.Fault.TheVariants.{Memory}

@@ -1,10 +1,10 @@
 -- Words side by side, one of them opened at a time. Assumes `Logic`.
-use Rattle.std.proofs.Common.{◌≡◌, ℕ, zero, suc, ◌+◌, ◌*◌, ◌<◌, List, [], ◌∷◌, length, set, get_or, sym, refl, ap, ◌∙◌, arith}
+use Rattle.std.proofs.Common.{◌≡◌, ℕ, zero, suc, ◌+◌, ◌*◌, ◌<◌, List, [], ◌∷◌, length, set, get_or, sym, refl, arith}
 use seplogic.Ra.Ura.{Ura}
 use base.Logic.{SProp, ent, sep, wand, all, apply∗, all_e}
-use base.Fml.{Fml, ftrue}
+use base.Fml.{Fml}
 use types.Logic.{Logic, sem}
-use types.Kit.{‵, raw, ◌⊛◌, ◌$◌, ◌∵◌, !, qed, by, move, split, frame, each, assume, use1, use2, rewrite, done}
+use types.Kit.{‵, raw, ◌⊛◌, ◌$◌, ◌∵◌, !, qed, move, split, frame, each, assume, use1, use2, rewrite, done}
 use Rattle.core.specs.Sync.RawAtomic.{word}
 use Rattle.seize_seats.specs.Owned.{row}
 

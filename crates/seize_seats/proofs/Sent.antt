@@ -1,12 +1,12 @@
 -- The words may be shared, and a seat may go to another thread: nothing of them is tied to one. Assumes nothing.
-use Rattle.std.proofs.Common.{ℕ, zero, suc, ◌+◌, List, [], ◌∷◌, length}
+use Rattle.std.proofs.Common.{ℕ, suc, ◌+◌, List, [], ◌∷◌, length}
 use base.Stored.{Gv}
-use base.Fml.{Lft, Fml}
+use base.Fml.{Lft}
 use base.Shift.{Keyless}
 use denote.RawPtr.{Ptr, block_of, count_of}
 use types.Keyed.{entry_keyless, entries_keyless}
 use Rattle.seize_seats.specs.State.{State}
-use Rattle.seize_seats.specs.Owned.{shared_view, row, seen, unborn, quarters, ledger, BaseId, inner, words_own, words_share, seat_owns}
+use Rattle.seize_seats.specs.Owned.{shared_view, row, quarters, BaseId, inner, words_own, words_share, seat_owns}
 
 row_keyless : (b o : ℕ) (ns : List ℕ) → Keyless (row b o ns)
 row_keyless b o [] = tt

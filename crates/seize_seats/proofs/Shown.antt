@@ -2,12 +2,11 @@
 use Rattle.std.proofs.Common.{[], ◌∷◌}
 use seplogic.Ra.Ura.{Ura}
 use base.Fraction.{full_share}
-use base.Share
 use base.Stored.{Coded}
-use base.Logic.{SProp, ent, sep, wand, apply∗, snd∗}
+use base.Logic.{ent, sep, wand, apply∗, snd∗}
 use base.Fml.{Lft, Share, Fml, ftrue, fsep, flft, flent, fbor, finv, fshr_bor}
 use types.Logic.{Logic, sem, lfts}
-use types.Kit.{‵, raw, ◌⊛◌, given, later, ◌$◌, ◌∵◌, !, qed, move, drop, split, fsplit, fjoin, fpick, fpack, check, use1, use2, updating, await, now, done}
+use types.Kit.{‵, raw, ◌⊛◌, later, ◌$◌, ◌∵◌, !, qed, move, drop, split, fsplit, fjoin, fpick, fpack, check, use1, use2, updating, await, now, done}
 use types.Tokens.{bor_fracture}
 use base.Logic.{guard}
 use denote.RawPtr.{Ptr}

@@ -1,6 +1,6 @@
 -- What is promised of the places of words.
 use Rattle.std.specs.Prelude.{◌≡◌, ℕ, ◌<◌, List, Some, length, slice_index, slice_set}
-use Rattle.seize_words.specs.Mem.{Mem, word_at, with_word}
+use Rattle.seize_words.specs.Mem.{word_at, with_word}
 use Rattle.seize_words.specs.declared.at.At.{At}
 use Rattle.seize_seats.specs.Lines.{place_of, memory_of, IsWord, AreLaid}
 

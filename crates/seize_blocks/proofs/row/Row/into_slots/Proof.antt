@@ -1,23 +1,23 @@
 -- Places are slots again.
-use Rattle.std.proofs.Common.{◌≡◌, ℕ, ◌*◌, ◌^◌, ◌<◌, Bool, true, false, List, [], ◌∷◌, length, get_or, replicate, sym, refl, ap, ◌∙◌, subst}
+use Rattle.std.proofs.Common.{◌≡◌, ℕ, ◌^◌, ◌<◌, Bool, true, false, List, [], ◌∷◌, length, get_or, replicate, sym, refl, ap, ◌∙◌, subst}
 use Rattle.std.proofs.lemmas.List.{length-replicate, get_or-replicate}
 use mir.Syntax.{w64, a_type}
 use mir.MapTy.{inst_fn}
 use mir.Val.{Val, WT, vint}
 use prog.Wp.{WpFn}
-use base.Logic.{SProp, ent, emp, id⊢, never}
-use base.Fml.{Lft, Share, Fml, ftrue, flft}
-use types.Kit.{‵, raw, ◌⊛◌, some as items, given, later, at_ret, ◌$◌, ◌∵◌, !, qed, by, move, keep, split, join, fsplit, fjoin, pick, learn, use0, use1, use2, await, rewrite, regoal, prop, suffices}
+use base.Logic.{SProp, emp, id⊢, never}
+use base.Fml.{Lft, Share, ftrue, flft}
+use types.Kit.{‵, raw, ◌⊛◌, some as items, given, later, at_ret, ◌$◌, ◌∵◌, !, qed, by, move, keep, split, join, fsplit, fjoin, pick, learn, use0, use1, use2, await, rewrite, regoal, prop}
 use types.Run.{stop, fld, of_opd, no_more, and_then, first, blocks, exec, returns, enter}
 use types.ByLocal.{alloc_all, pass_all, free_all, look_at, get, get_in, sets, lands_last, is, env}
-use types.Part.{agg, sub, whole}
+use types.Part.{sub, whole}
 use contract.Running.{tables}
 use contract.BorrowLft.{◌⊑◌}
 use contract.Monad.{fact, fact_i}
 use denote.Exit.{yes, no}
 use denote.RattleType.{RattleType, owns}
 use denote.Signature.{types_at, plain}
-use denote.RawPtr.{Ptr, block_ptr, block_of, count_of, at_block, InBlock, in_block, in_a_block}
+use denote.RawPtr.{Ptr, block_ptr, in_block, in_a_block}
 use denote.Steps.{nothing, heard}
 use denote.Param.{param, layouts}
 use denote.Builtin.{usize}
@@ -25,14 +25,14 @@ use denote.Plain.{uint_vals, uint_Tells}
 use denote.Triple.Call.{calls_at_last}
 use denote.Triple.Walked.{Stays, stay_dropped, walk_of, Goes-dropped}
 use Rattle.core.proofs.atomic.Steps.{tail}
-use Rattle.core.specs.Mem.Slots.{slots_items, slots_filled, slots_ptr, slots_len, slots_counts, IsFull}
+use Rattle.core.specs.Mem.Slots.{slots_items, slots_ptr, slots_len, IsFull}
 use Rattle.core.specs.Mem.Slots.Ownership.{owned, slots}
 use Rattle.core.proofs.mem.Param.{El}
-use Rattle.core.proofs.slots.Opens.{Sr, row_val, row_had, row_made}
-use Rattle.std.proofs.raw_atomic.Walks.{proved, proved_at, leaves}
+use Rattle.core.proofs.slots.Opens.{Sr, row_val}
+use Rattle.std.proofs.raw_atomic.Walks.{proved, leaves}
 use Rattle.std.proofs.raw_atomic.Calls.{fm}
 use Rattle.seize_blocks.specs.contracts.row.Row as row
-use Rattle.seize_blocks.proofs.Fields.{one_of, Places, places_told, places_made}
+use Rattle.seize_blocks.proofs.Fields.{one_of, places_told}
 use Rattle.core.proofs.slots.Slots.from_raw_parts.Met as callee
 use Rattle.seize_blocks.proofs.Placing.{Back, at_back, goes_back, came_back, Is_made, row_typed}
 use Rattle.seize_blocks.specs.contracts.row.Row.into_slots.{ended, clauses}

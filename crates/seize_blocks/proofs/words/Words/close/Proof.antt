@@ -1,26 +1,22 @@
 -- `close` ends the lifetime of the words, and they come back.
-use Rattle.std.proofs.Common.{◌≡◌, ℕ, List, [], ◌∷◌, length, ◌*◌, ◌^◌, ◌<◌, sym, refl, ap, ◌∙◌, subst, w64}
-use Rattle.std.specs.Prelude.{slice_index}
-use mir.Syntax.{dcons, dnil, a_type, named}
+use Rattle.std.proofs.Common.{◌≡◌, ℕ, List, [], ◌∷◌, length, ◌*◌, ◌^◌, ◌<◌, sym, refl, subst}
+use mir.Syntax.{dcons, dnil, a_type}
 use mir.MapTy.{inst_fn}
-use mir.Val.{Val, vint, vptr}
-use base.Logic.{SProp, ent, emp}
-use base.Fml.{Lft, Fml, ftrue, fsep, flft}
-use types.Kit.{‵, raw, ◌⊛◌, some as items, given, later, ◌$◌, ◌∵◌, !, qed, by, move, keep, drop, split, join, fsplit, fsplit3, fjoin, pick, learn, use0, use1, await}
+use mir.Val.{Val}
+use base.Logic.{SProp, emp}
+use types.Kit.{‵, raw, ◌⊛◌, some as items, given, later, ◌$◌, ◌∵◌, !, qed, by, move, keep, split, fsplit, fjoin, pick, learn, use0, use1, await}
 use types.Run.{stop, fld, of_opd, no_more, and_then, returns, enter}
-use types.ByLocal.{alloc_all, pass_all, free_all, look_at, get, get_in, sets, env}
+use types.ByLocal.{alloc_all, pass_all, free_all, look_at, get, get_in, sets}
 use types.Part.{agg, sub, whole}
 use contract.Running.{tables}
 use contract.Monad.{fact, fact_i}
-use denote.Exit.{yes, no}
+use denote.Exit.{no}
 use denote.RattleType.{RattleType, owns}
 use denote.Signature.{types_at, plain}
 use denote.RawPtr.{Ptr, block_of, count_of}
-use denote.Steps.{nothing, heard}
+use denote.Steps.{nothing}
 use denote.Param.{param, bounded}
-use denote.Builtin.{RefOf, u64}
-use denote.Plain.{uint_vals, uint_Tells}
-use denote.Ref.{shr_vals, shr_Tells}
+use denote.Builtin.{u64}
 use denote.Triple.Walked.{Stays, stay_dropped, walk_of, Goes-dropped}
 use denote.Triple.Entry.{alive}
 use Rattle.core.proofs.atomic.Steps.{Ptr-Good}
@@ -30,7 +26,7 @@ use Rattle.seize_seats.specs.Owned.{BaseId, IsPlaced, words_own}
 use Rattle.seize_seats.specs.Owned as Owned
 use Rattle.seize_blocks.specs.contracts.words.Words as words
 use Rattle.seize_blocks.specs.contracts.row.Row as row
-use Rattle.seize_blocks.proofs.Fields.{hand_of, told, hand_good, hand_made, one_of, one_good, places_told, Places, places_made, Data}
+use Rattle.seize_blocks.proofs.Fields.{hand_of, told, hand_good, one_of, one_good, Places, places_made}
 use Rattle.seize_blocks.proofs.Placing.{whole_in}
 use Rattle.seize_blocks.proofs.Placing as Placing
 use Rattle.seize_seats.proofs.Opening.{closes}

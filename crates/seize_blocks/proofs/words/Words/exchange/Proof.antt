@@ -1,12 +1,12 @@
 -- `exchange` is one step on the word, and the seat goes with it.
-use Rattle.std.proofs.Common.{◌≡◌, ℕ, List, [], ◌∷◌, ◌++◌, ◌+◌, ◌*◌, ◌%◌, ◌^◌, ◌<◌, ◌==◌, subst, sym, refl, ap, ◌∙◌, lit<, w64, arith}
+use Rattle.std.proofs.Common.{◌≡◌, ℕ, List, [], ◌∷◌, ◌+◌, ◌*◌, ◌^◌, ◌<◌, ◌==◌, subst, sym, refl, ap, ◌∙◌, lit<, w64, arith}
 use mir.Syntax.{dcons, dnil, a_type, named}
 use mir.MapTy.{inst_fn}
 use mir.Val.{Val, vint, vptr}
 use base.Logic.{SProp, emp, via}
 use base.Fml.{Lft, Fml, ftrue, fsep, flft, fhide}
 use prog.Atomic.{either}
-use types.Kit.{‵, raw, ◌⊛◌, given, mean, pick, await, at_ret, ◌$◌, ◌∵◌, !, qed, by, move, keep, drop, split, split3, join, fsplit, fsplit3, fjoin, fjoin3, fpick, learn, use0, use1, use3, rewrite, feq_i, flt_i}
+use types.Kit.{‵, raw, ◌⊛◌, given, mean, pick, await, at_ret, ◌$◌, ◌∵◌, !, qed, by, move, keep, drop, split, split3, join, fsplit, fsplit3, fjoin, fjoin3, fpick, learn, use0, use1, use3, rewrite, feq_i}
 use types.Run.{stop, fld, load, lit, of_opd, bin, no_more, and_then, first, blocks, exec, Calls-last, returns, enter}
 use types.ByLocal.{alloc_all, pass_all, free_all, look_at, get, through, sets, env, lands_last}
 use types.Part.{agg, sub, whole, look_in}
@@ -17,7 +17,7 @@ use contract.Monad.{fact, fact_i}
 use denote.Exit.{yes}
 use denote.RattleType.{RattleType, owns}
 use denote.Signature.{types_at, plain}
-use denote.RawPtr.{Ptr, block_ptr, block_of, count_of, at_block, ptr_val}
+use denote.RawPtr.{Ptr, block_ptr, block_of, count_of, at_block}
 use denote.Steps.{nothing, peeks, heard, looks, shuts, opens, closes}
 use denote.Opens.{unhide}
 use denote.Laws.{Is, shows}
@@ -40,7 +40,7 @@ use denote.Param.Shared.{copy_shared}
 use Rattle.std.specs.contracts.marker.PhantomData as marker
 use Rattle.std.proofs.raw_atomic.Walks.{proved, leaves}
 use Rattle.std.proofs.raw_atomic.Calls.{fm, seq_cst}
-use Rattle.seize_blocks.proofs.Exchanged.{Res, Fits, answered, exchanges}
+use Rattle.seize_blocks.proofs.Exchanged.{Res, answered, exchanges}
 use Rattle.seize_seats.specs.Steps.{exchanged}
 use Rattle.seize_words.specs.Op.{Out, Exchange, Exchanged}
 use Rattle.seize_words.specs.declared.at.At.{At}

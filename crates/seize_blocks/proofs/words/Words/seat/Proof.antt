@@ -1,12 +1,12 @@
 -- `seat` opens the invariant once, and the list of views grows.
-use Rattle.std.proofs.Common.{◌≡◌, ℕ, List, [], ◌∷◌, ◌++◌, sym, refl, w64}
+use Rattle.std.proofs.Common.{◌≡◌, ℕ, [], ◌∷◌, refl}
 use mir.Syntax.{dcons, dnil, a_type, named}
 use mir.MapTy.{inst_fn}
-use mir.Val.{Val, vint, vptr, vunit}
+use mir.Val.{Val, vptr}
 use base.Logic.{SProp, emp}
 use base.Fml.{Lft, Fml, ftrue, fsep, flft, fhide}
-use types.Kit.{‵, raw, ◌⊛◌, later, ◌$◌, ◌∵◌, !, qed, by, move, keep, drop, split, split3, join, fsplit, fsplit3, fjoin, fjoin3, fpick, use0, use1, use2, use3, await, rewrite, feq_i, flt_i}
-use types.Run.{of_opd, unit_lit, no_more, and_then, returns, enter}
+use types.Kit.{‵, raw, ◌⊛◌, later, ◌$◌, ◌∵◌, !, qed, by, move, keep, drop, split, join, fsplit, fjoin, fpick, use0, use1, use3, await}
+use types.Run.{no_more, and_then, returns, enter}
 use types.ByLocal.{alloc_all, pass_all, free_all, look_at, get, sets, env}
 use types.Part.{agg}
 use contract.Running.{tables}
@@ -14,22 +14,20 @@ use contract.Monad.{fact, fact_i}
 use denote.Exit.{yes}
 use denote.RattleType.{RattleType, owns}
 use denote.Signature.{types_at, plain}
-use denote.RawPtr.{Ptr, block_of, count_of}
-use denote.Steps.{nothing, heard, opens, closes}
+use denote.RawPtr.{Ptr}
+use denote.Steps.{nothing, heard}
 use denote.Opens.{unhide}
 use denote.Memory.{hidden_shr}
 use denote.Param.{param, bounded}
-use denote.Builtin.{RefOf, u64}
-use denote.Plain.{uint_vals, uint_Tells}
-use denote.Ref.{shr_vals, shr_Tells, mut_vals, mut_Tells}
+use denote.Builtin.{RefOf}
+use denote.Ref.{shr_vals, shr_Tells}
 use denote.Struct.Tuple.{Tuple}
 use denote.Struct.Lending.{lent_out}
-use denote.Triple.Walked.{Stays, stay_dropped, stay_ref, walk_of, Goes-dropped, Goes-ref}
+use denote.Triple.Walked.{Stays, stay_dropped, walk_of, Goes-dropped}
 use Rattle.std.specs.contracts.marker.PhantomData as marker
 use Rattle.std.proofs.raw_atomic.Walks.{proved, leaves}
-use denote.RattleType.{Valss}
 use Rattle.seize_seats.specs.State.{Comes}
-use Rattle.seize_seats.specs.Owned.{BaseId, words_share, seat_owns}
+use Rattle.seize_seats.specs.Owned.{BaseId, words_share}
 use Rattle.seize_seats.proofs.Moves.{comes, newcomer}
 use Rattle.seize_blocks.specs.contracts.words.Words as words
 use Rattle.seize_blocks.specs.contracts.seat.Seat as seat

@@ -1,26 +1,24 @@
 -- `turn` opens the invariant once, and takes no step of the machine.
-use Rattle.std.proofs.Common.{◌≡◌, ℕ, List, [], ◌∷◌, ◌++◌, sym, refl, w64}
+use Rattle.std.proofs.Common.{◌≡◌, ℕ, List, [], ◌∷◌, sym, refl}
 use mir.Syntax.{dcons, dnil, a_type, named}
 use mir.MapTy.{inst_fn}
-use mir.Val.{Val, vint, vptr, vunit}
+use mir.Val.{Val, vptr, vunit}
 use base.Logic.{SProp, emp}
 use base.Fml.{Lft, Fml, ftrue, fsep, flft, fhide}
-use types.Kit.{‵, raw, ◌⊛◌, later, ◌$◌, ◌∵◌, !, qed, by, move, keep, drop, split, split3, join, fsplit, fsplit3, fjoin, fjoin3, fpick, use0, use1, use2, use3, await, rewrite, feq_i, flt_i}
-use types.Run.{of_opd, unit_lit, no_more, and_then, returns, enter}
-use types.ByLocal.{alloc_all, pass_all, free_all, look_at, get, sets, env}
-use types.Part.{agg}
+use types.Kit.{‵, raw, ◌⊛◌, later, ◌$◌, ◌∵◌, !, qed, by, move, keep, drop, split, split3, join, fsplit, fsplit3, fjoin, fjoin3, fpick, use0, use1, use3, await, rewrite, feq_i}
+use types.Run.{of_opd, unit_lit, returns, enter}
+use types.ByLocal.{alloc_all, pass_all, free_all, look_at, sets, env}
 use contract.Running.{tables}
 use contract.Monad.{fact, fact_i}
 use denote.Exit.{yes}
 use denote.RattleType.{RattleType, owns}
 use denote.Signature.{types_at, plain}
-use denote.RawPtr.{Ptr, block_of, count_of}
+use denote.RawPtr.{Ptr}
 use denote.Steps.{nothing, heard, opens, closes}
 use denote.Opens.{unhide}
 use denote.Memory.{hidden_shr}
 use denote.Param.{param, bounded}
-use denote.Builtin.{RefOf, u64}
-use denote.Plain.{uint_vals, uint_Tells}
+use denote.Builtin.{RefOf}
 use denote.Ref.{shr_vals, shr_Tells, mut_vals, mut_Tells}
 use denote.Struct.Tuple.{Tuple}
 use denote.Struct.Lending.{lent_out}
