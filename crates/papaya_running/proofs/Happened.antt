@@ -84,9 +84,6 @@ module _ {K V S : Type 0} (same : K → K → Bool) (hash : K → ℕ) (event : 
 
 -- An event is kept out, or in turn.
 module _ {K V S : Type 0} (same : K → K → Bool) (hash : K → ℕ) (event : Event K V) (old : Scheduler K V S) where
-  pub out_so : (terms : Terms) (log : List (Entry K V)) → Holds same hash terms (moment log) old → (told out : Bool) → told ≡ old.is_closed → told ≡ out → (moment log).is_closed ≡ out
-  out_so terms log holds told out by is = holds.stands.closed ∙ sym by ∙ is
-
   module _ (is_first : Bool) (new : Scheduler K V S) where
     pub stays_out : (played : Played V) → IsKeptOut event played.outcome → played.steps ≡ 0 → played.effects.items ≡ [] → PlaysKeptOut same hash event played old new → old.is_closed ≡ true
         → HappensAt same hash is_first event played old new
