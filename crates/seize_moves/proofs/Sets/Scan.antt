@@ -14,14 +14,14 @@ pub record MarksActive (x : ℕ) (m : State) : Type 0 where
   pub marks : (t : ℕ) → t < m.seen x → waits (m.debt x t) ≡ is_active (m.head t)
   pub stay : NoneGone x m
 
-pub begins_marking : (n x : ℕ) (m : State) → Inv n m → m.seen x ≡ 0 → MarksActive x m
-begins_marking n x m inv e = record {
+pub begins_marking : (x : ℕ) (m : State) → ((t : ℕ) → SeenIs (m.debt x t) t (m.seen x)) → m.seen x ≡ 0 → MarksActive x m
+begins_marking x m scanned e = record {
   marks = λ t l. absurd (omega (arith, e, l));
-  stay = λ t gone. let p = subst (λ (d : Debt). SeenIs d t (m.seen x)) gone (inv.debts.scanned x t) in omega (arith, e, p);
+  stay = λ t gone. let p = subst (λ (d : Debt). SeenIs d t (m.seen x)) gone (scanned t) in omega (arith, e, p);
 }
 
 -- a debt that is put is another one
-put_stay : (debt : ℕ → ℕ → Debt) (x u : ℕ) (v : Debt) → ((t : ℕ) → debt x t ≡ Gone → ⊥) → (v ≡ Gone → ⊥) → (t : ℕ) → put debt x (put (debt x) u v) x t ≡ Gone → ⊥
+pub put_stay : (debt : ℕ → ℕ → Debt) (x u : ℕ) (v : Debt) → ((t : ℕ) → debt x t ≡ Gone → ⊥) → (v ≡ Gone → ⊥) → (t : ℕ) → put debt x (put (debt x) u v) x t ≡ Gone → ⊥
 put_stay debt x u v none other t = here (eqb x x)
   where
     there : (q : Bool) → cond q v (debt x t) ≡ Gone → ⊥
