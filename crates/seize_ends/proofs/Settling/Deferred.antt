@@ -17,7 +17,6 @@ use Rattle.seize.specs.Settle as plans
 use Rattle.seize_waiting.specs.Held.{count}
 use Rattle.seize_waiting.proofs.Counts.{count-append}
 use Rattle.seize_moves.proofs.State.Ghost.{State, Life, put, is_deferred, is_pending}
-use Rattle.seize_moves.proofs.State.Ghost as Ghosts
 use Rattle.seize_moves.proofs.State.Rule.{Inv}
 use Rattle.seize_moves.proofs.State.Moves
 use Rattle.seize_rule.proofs.Words.Named.{link, link-block, words_of, word_found, wrote}

@@ -11,12 +11,12 @@ use Rattle.seize.specs.declared.rows.settle.Settled.{Settled}
 use Rattle.seize.specs.declared.rows.settle.Settled.TheVariants.{Goes, Waits, Gave, Done}
 use Rattle.seize.specs.Settle.{plan_at, settle_plan}
 use Rattle.seize_waiting.specs.Held.{count, same}
-use Rattle.seize_moves.proofs.State.Ghost.{State, Life, Entry, is_pending}
+use Rattle.seize_moves.proofs.State.Ghost.{State, Life, is_pending}
 use Rattle.seize_moves.proofs.State.Rule.{Inv}
 use Rattle.seize_rule.proofs.Words.Chains.{blocks_of}
 use Rattle.seize_rule.proofs.Words.Sums.{sum_of, sum_same, sum_le, list_below, count_stands, blocks_long}
 use Rattle.seize_rule.proofs.Words.View.{View, view}
-use Rattle.seize_rule.proofs.Words.Shows.{Spot, Nowhere, Unspent, On, InHands, SpotLife, Extra, Shows, lives, both, stands, is_in_hands}
+use Rattle.seize_rule.proofs.Words.Shows.{Spot, Nowhere, Unspent, On, InHands, SpotLife, Extra, Shows, lives, stands, is_in_hands}
 use Rattle.seize_rule.proofs.Words.Kept.{settle_quiet}
 use Rattle.seize_rule.proofs.Points.Settle.{is_over}
 use Rattle.seize_ends.proofs.Settling.Measure.{weight, behind_of, point, ahead_of, ends}
