@@ -176,13 +176,13 @@ module _ (n i : ℕ) (small : n < 2 ^ 64) (c c2 : Settle) (m m2 : State) (inv : 
       knows = λ z is. by z (eqb z y) is;
     }
       where
-        by : (z : ℕ) (b : Bool) → m.stage z ≡ Closing i → awaits (cond b (put (m.debt y) t Skipped) (m.debt z) s) ≡ true
-        by z true its = put_debt (m.debt y) t s Skipped (λ e. absurd (stays e left)) (known y stage)
-        by z false its = known z its
-
         stays : s ≡ t → HasLeft m y t → ⊥
         stays e (inl idle) = other_slot t idle e
         stays e (inr gone) = let here = known y stage in let k = ap (λ (u : ℕ). awaits (m.debt y u)) e in let none = ap awaits gone in cc (here, k, none)
+
+        by : (z : ℕ) (b : Bool) → m.stage z ≡ Closing i → awaits (cond b (put (m.debt y) t Skipped) (m.debt z) s) ≡ true
+        by z true its = put_debt (m.debt y) t s Skipped (λ e. absurd (stays e left)) (known y stage)
+        by z false its = known z its
 
     -- the number of entries is added, and is not zero
     never_last : (y : ℕ) → m.stage y ≡ Closing i → m.todo y ≡ [] → (m.counter y + total was_put (m.debt y) n) % 2 ^ 64 ≡ 0 → ((z : ℕ) → m.stage z ≡ Closing i → awaits (m.debt z s) ≡ true) → ⊥
