@@ -5,8 +5,7 @@ ghost use Rattle.seize_words.specs.declared.fault.Fault.TheVariants.{Memory};
 
 use std::alloc::{AllocError, AllocFailed};
 use std::error::Error;
-use std::fmt;
-use std::io;
+use std::{fmt, io};
 
 /// Why an event was refused. The faults are tested in this order.
 #[derive(Clone, Copy, Debug, PartialEq, Eq)]
@@ -64,7 +63,8 @@ impl Fault {
         ensures { result.now ≡ text_of self }
     {
         match self {
-            Fault::ForeignGuard => "ForeignGuard: a guard, registration or pass of another collector",
+            Fault::ForeignGuard =>
+                "ForeignGuard: a guard, registration or pass of another collector",
             Fault::ZeroChunk => "ZeroChunk: a chunk has no places",
             Fault::Capacity => "Capacity: a table would be too long, or a count too great",
             Fault::SlotsUsedUp => "SlotsUsedUp: each slot is in use",
