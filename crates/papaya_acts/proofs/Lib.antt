@@ -1,9 +1,9 @@
 pub mod Tests
-mod Calls
+pub mod Calls
 mod Makings
-mod Rows
+pub mod Rows
 pub mod Left
-mod Lists
+pub mod Lists
 mod Once
 mod Sums
 mod Counts

@@ -40,11 +40,13 @@ impl<K, Q: Hash> Hash for Lent<'_, K, Q> {
 }
 
 impl<K: Eq + Hash, Q: Equivalent<K>> Equivalent<K> for Lent<'_, K, Q> {
+    ghost stands_for = { λ x. Q.Equivalent.stands_for x.asked.now };
+
     ghost equivalent = { λ x key. Q.Equivalent.equivalent x.asked.now key };
 
-    ghost respects_hash = { λ x key is. Q.Equivalent.respects_hash x.asked.now key is };
+    ghost stands = { λ x key. Q.Equivalent.stands x.asked.now key };
 
-    ghost respects_eq = { λ x key other is. Q.Equivalent.respects_eq x.asked.now key other is };
+    ghost hashed = { λ x. Q.Equivalent.hashed x.asked.now };
 
     fn equivalent(&self, key: &K) -> bool {
         self.asked.equivalent(key)

@@ -130,11 +130,15 @@ impl<'a> Hash for TextRef<'a> {
 }
 
 impl<'a> Equivalent<Text> for TextRef<'a> {
+    ghost use Rattle.std.specs.Prelude.{refl};
+
+    ghost stands_for = { λ text. text };
+
     ghost equivalent = { bytes_eq };
 
-    ghost respects_hash = { Prim.search rules };
+    ghost stands = { λ _ _. refl };
 
-    ghost respects_eq = { nat_list_eq_equiv.congr };
+    ghost hashed = { λ _. refl };
 
     fn equivalent(&self, key: &Text) -> bool {
         self.text == key.text.as_str()

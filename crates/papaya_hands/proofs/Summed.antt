@@ -14,7 +14,7 @@ use Rattle.papaya_follows.specs.Given.Seize.Law.{holds, is_open}
 use Rattle.papaya_follows.specs.Given.Seize.Settle as plans
 use Rattle.papaya_follows.specs.Given.Seize.World.{World}
 use Rattle.papaya_follows.specs.Given.SeizeWaiting.Held.{count}
-use Rattle.papaya_follows.proofs.Given.SeizeMoves.State.Ghost.{Debt, Unscanned, Marked, Skipped, Owing, Loose, Counted, Head, Never, Stage, Closing, Life, IsIn, State, is_active, is_marked, owes, counts, was_put, total}
+use Rattle.papaya_follows.proofs.Given.SeizeMoves.State.Ghost.{Debt, Unscanned, Marked, Gone, Skipped, Owing, Loose, Counted, Head, Never, Stage, Closing, Life, IsIn, State, is_active, is_marked, owes, counts, was_put, total}
 use Rattle.papaya_follows.proofs.Given.SeizeMoves.State.Logs.{held_open}
 use Rattle.papaya_follows.proofs.Given.SeizeMoves.State.Rule.{IsLive, Waits, IsGuarded, SeenIs, AtStage}
 use Rattle.papaya_follows.proofs.Given.SeizeMoves.State.Sums.{put_parts, put_le, total_le}
@@ -47,6 +47,7 @@ same_link a b e = sym (link-block a) ∙ ap (λ k. k / 2048) e ∙ link-block b
 owes_one : (d : Debt) (n slot seen : ℕ) → slot < n → n ≤ seen → SeenIs d slot seen → 0 ≡ is_marked d → Waits d → owes d ≡ 1
 owes_one Unscanned n slot seen l all is none waits = absurd (omega (arith, l, all, is))
 owes_one Marked n slot seen l all is none waits = absurd (omega (arith, none))
+owes_one Gone n slot seen l all is none waits = absurd waits
 owes_one Skipped n slot seen l all is none waits = absurd waits
 owes_one Owing n slot seen l all is none waits = refl
 owes_one (Loose i) n slot seen l all is none waits = absurd waits

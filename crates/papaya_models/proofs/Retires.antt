@@ -13,7 +13,7 @@ use Rattle.papaya_histories.specs.Given.Seize.declared.rows.settle.Settled.{Sett
 use Rattle.papaya_histories.specs.Given.Seize.declared.rows.settle.Settled.TheVariants as settled
 use Rattle.papaya_histories.specs.Given.Seize.declared.rows.settle.Settling.{Settling}
 use Rattle.papaya_histories.specs.Given.Seize.declared.rows.settle.Settling.TheVariants as at
-use Rattle.papaya_histories.specs.Given.Seize.Settle.{standing, with_batch, onward, behind, pushed_of, closed, scanning, to, goes, seen, taken_hold, popped, first_read, counted, scanned, marked_next, slot_read, push_told, next_pushed, summed, plan_at}
+use Rattle.papaya_histories.specs.Given.Seize.Settle.{standing, with_batch, onward, behind, pushed_of, needs_none, closed, scanning, to, goes, seen, taken_hold, popped, first_read, counted, scanned, marked_next, slot_read, push_told, next_pushed, summed, plan_at}
 use Rattle.papaya_histories.specs.Given.Seize.World.{World, Rests, Settles, settles_on}
 use Rattle.papaya_histories.proofs.Given.SeizeRule.Points.Retire.{of_link}
 use Rattle.papaya_histories.proofs.Given.SeizeRule.Rows.Others.{with_here}
@@ -178,9 +178,9 @@ module _ {T : Type 0} (defers : T → Option ℕ) (b : ℕ) (some : 0 < b) (m m2
 
     push_on : (block left pushed slot : ℕ) (out : Out T) → Ends (value_at m2) (push_told c block left pushed slot out) end → Past end
     push_on block left pushed slot (Exchanged (Ok w)) h = subst Past (sym h) (none, pushed_past block left ((pushed + 1) % 2 ^ 64))
-    push_on block left pushed slot (Exchanged (Err head)) h = by (nat_lt head ACTIVE) h
+    push_on block left pushed slot (Exchanged (Err head)) h = by (needs_none c head) h
       where
-        by : (q : Bool) → Ends (value_at m2) (if q then goes c (pushed_of block left pushed) else goes c (at.Links block left pushed slot head)) end → Past end
+        by : (q : Bool) → Ends (value_at m2) (if q then goes c (pushed_of block left pushed) else to (record c { lost = c.lost + 1; stands = at.Links block left pushed slot head })) end → Past end
         by true h = subst Past (sym h) (none, pushed_past block left pushed)
         by false h = subst Past (sym h) (none, tt)
     push_on block left pushed slot _ h = stays h

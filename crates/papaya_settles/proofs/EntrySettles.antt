@@ -177,7 +177,7 @@ module _ (Blank : ℕ → Type 0) where
         push_one : (block left pushed slot : ℕ) (out : Out T) → AllOf (plans.push_told c block left pushed slot out)
         push_one block left pushed slot (Exchanged (Ok w)) = goes_to (plans.pushed_of block left ((pushed + 1) % 2 ^ 64)) (pushed_past block left ((pushed + 1) % 2 ^ 64))
         push_one block left pushed slot (Exchanged (Err w)) =
-            either (nat_lt w ACTIVE) (plans.goes c (plans.pushed_of block left pushed)) (plans.goes c (at.Links block left pushed slot w))
+            either (plans.needs_none c w) (plans.goes c (plans.pushed_of block left pushed)) (plans.to (record c { lost = c.lost + 1; stands = at.Links block left pushed slot w }))
             (λ e. goes_to (plans.pushed_of block left pushed) (pushed_past block left pushed)) none
         push_one block left pushed slot _ = stays
 

@@ -1,4 +1,5 @@
 pub mod AllPlaces
+pub mod Classes
 pub mod Ends
 pub mod Lists
 pub mod Logarithms

@@ -4,7 +4,7 @@ ghost use Rattle.papaya_teller.specs.declared.changed.Changed.TheVariants.{Nothi
 
 use crate::changed::{Changed, Kind};
 use papaya_tables::Node;
-use seize_words::{At, Fault, Look, Memory};
+use seize_words::{At, Fault, Look, Memory, Refuses};
 
 /// A memory, and what its last operation has changed. It makes a store as a swap, which tells the word before. Where it is told to, it refuses each block.
 #[derive(Drop)]
@@ -59,7 +59,7 @@ impl<K, V, M: Memory<Node<K, V>>> Look<Node<K, V>> for Teller<M> {
     }
 }
 
-impl<K, V, M: Memory<Node<K, V>>> Memory<Node<K, V>> for Teller<M> {
+impl<K, V, M: Refuses<Node<K, V>>> Memory<Node<K, V>> for Teller<M> {
     fn store(&mut self, at: At, word: u64) {
         let old = self.memory.swap(at, word);
         self.changed = Changed::Wrote { at, old, new: word };
@@ -116,13 +116,6 @@ impl<K, V, M: Memory<Node<K, V>>> Memory<Node<K, V>> for Teller<M> {
         made
     }
 
-    fn refuse(&mut self, value: Node<K, V>, words: u64) -> Node<K, V> {
-        self.changed = Changed::Unmade {
-            kind: Kind::of(&value),
-        };
-        self.memory.refuse(value, words)
-    }
-
     fn take(&mut self, block: u64) -> Node<K, V> {
         self.changed = Changed::Took { block };
         self.memory.take(block)
@@ -140,5 +133,14 @@ impl<K, V, M: Memory<Node<K, V>>> Memory<Node<K, V>> for Teller<M> {
             had: roomed.is_ok(),
         };
         roomed
+    }
+}
+
+impl<K, V, M: Refuses<Node<K, V>>> Refuses<Node<K, V>> for Teller<M> {
+    fn refuse(&mut self, value: Node<K, V>, words: u64) -> Node<K, V> {
+        self.changed = Changed::Unmade {
+            kind: Kind::of(&value),
+        };
+        self.memory.refuse(value, words)
     }
 }

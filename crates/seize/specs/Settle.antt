@@ -1,10 +1,10 @@
 -- What a slot does with its batch, step by step: what each step's operation is, and what follows its answer.
-use Rattle.std.specs.Prelude.{ℕ, ◌%◌, ◌+◌, ◌-◌, ◌^◌, ◌==◌, true, false, nat_lt, if◌then◌else◌, Option, Some, None, Ok, Err}
+use Rattle.std.specs.Prelude.{ℕ, ◌%◌, ◌+◌, ◌-◌, ◌^◌, ◌==◌, ◌||◌, not, Bool, true, false, nat_lt, if◌then◌else◌, Option, Some, None, Ok, Err}
 use Rattle.seize_words.specs.Word.{block_in}
 use Rattle.seize_words.specs.declared.at.At.TheVariants.{Slot, Entry, Word}
 use Rattle.seize_words.specs.Op.{Out, Load, Store, Add, Exchange, Take, Found, Exchanged, Taken}
 use Rattle.seize_words.specs.Plan.{Plan, Then, Turn, Do, Now, Seeing}
-use Rattle.seize.specs.declared.states.TheConstants.{HEAD, BATCH, NEVER, ACTIVE, HELD, NEXT, LINK, FIRST, COUNT, LAST_SLOT}
+use Rattle.seize.specs.declared.states.TheConstants.{HEAD, BATCH, NEVER, ACTIVE, HELD, NEXT, LINK, FIRST, COUNT, LAST_SLOT, MOST_LOST}
 use Rattle.seize.specs.declared.rows.settle.Settle.{Settle}
 use Rattle.seize.specs.declared.rows.settle.Settling.{Settling}
 use Rattle.seize.specs.declared.rows.settle.Settling.TheVariants as at
@@ -25,6 +25,7 @@ resting slot size stands = record {
   first = 0;
   put_first = 0;
   put_last = 0;
+  lost = 0;
   stands = stands;
 }
 
@@ -77,6 +78,11 @@ behind slot block marks = if nat_lt slot LAST_SLOT then at.Scans (slot + 1) bloc
 -- a block less is left to be pushed
 abbrev pub pushed_of : ℕ → ℕ → ℕ → Settling
 pushed_of block left pushed = if nat_lt 1 left then at.Pushed block (left - 1) pushed else at.Sums pushed
+
+-- The slot with this head needs no entry: it is no longer active; or its list has changed as often as there are numbers of blocks, so it was taken since the
+-- slot was found active.
+abbrev pub needs_none : Settle → ℕ → Bool
+needs_none c head = nat_lt head ACTIVE || not (nat_lt c.lost MOST_LOST)
 
 -- further values stand behind those that the batch had put: all that a batch put is to be retired first
 abbrev pub with_put : Settle → Settle
@@ -191,7 +197,7 @@ module _ {T : Type 0} where
 
   -- the block is to follow no entry, until its push finds one
   abbrev pub slot_read : Settle → ℕ → ℕ → ℕ → Out T → Then T (Settle × Settled T)
-  slot_read c block left pushed (Found slot) = goes c (at.Links block left pushed slot ACTIVE)
+  slot_read c block left pushed (Found slot) = to (record c { lost = 0; stands = at.Links block left pushed slot ACTIVE })
   slot_read c block left pushed _ = to c
 
   -- reads the slot that the block is marked with
@@ -202,11 +208,11 @@ module _ {T : Type 0} where
   abbrev pub links : Settle → ℕ → ℕ → ℕ → ℕ → ℕ → Plan T (Settle × Settled T)
   links c block left pushed slot head = Do (Store (Entry (block_in block) LINK) head) (λ out. goes c (at.Pushes block left pushed slot head))
 
-  -- a slot that is no longer active needs no entry; where only its list has changed, the block is linked anew
+  -- Where only the slot's list has changed, the block is linked anew.
   abbrev pub push_told : Settle → ℕ → ℕ → ℕ → ℕ → Out T → Then T (Settle × Settled T)
   push_told c block left pushed slot (Exchanged (Ok _)) = goes c (pushed_of block left ((pushed + 1) % 2 ^ 64))
   push_told c block left pushed slot (Exchanged (Err head)) =
-      if nat_lt head ACTIVE then goes c (pushed_of block left pushed) else goes c (at.Links block left pushed slot head)
+      if needs_none c head then goes c (pushed_of block left pushed) else to (record c { lost = c.lost + 1; stands = at.Links block left pushed slot head })
   push_told c block left pushed slot _ = to c
 
   -- pushes the block on the slot's list

@@ -35,3 +35,6 @@ pub const COUNT: u64 = 3;
 
 /// The last slot. No slot above it is ever taken.
 pub const LAST_SLOT: u64 = 65_535;
+
+/// The most exchanges that a push loses and still goes on. There are no more numbers of blocks.
+pub const MOST_LOST: u64 = 9_007_199_254_740_991;

@@ -8,6 +8,6 @@ pub mod Reclaimed
 mod Refused
 mod Samples
 pub mod Slots
-mod Stays
+pub mod Stays
 pub mod Steps
 pub mod Waits

@@ -1,6 +1,7 @@
 -- Acts worked by hand, and wrong plans that the laws refuse.
 mod Acts
 mod Base
+mod Passes
 mod Plans
 mod Reclaimed
 mod Refused

@@ -112,11 +112,11 @@ module _ {T : Type 0} (defers : T → Option ℕ) (size : ℕ) where
     event_value (Chooses choice) v over h = by_world v _ h refl
 
   -- what the section holds through a run
-  record StaysIn (s b : ℕ) (w n : World T) : Type 0 where
-    logged : Stays s b w.log n.log
-    value : value_at n.memory b ≡ value_at w.memory b
+  pub record StaysIn (s b : ℕ) (w n : World T) : Type 0 where
+    pub logged : Stays s b w.log n.log
+    pub value : value_at n.memory b ≡ value_at w.memory b
 
-  run_stays : (events : List (Event T)) (w n : World T) (s b : ℕ) → Reached defers size w → holds s b w.log ≡ true → is_over b w.log ≡ false → GoesOn defers s b w n → Runs defers size events w n
+  pub run_stays : (events : List (Event T)) (w n : World T) (s b : ℕ) → Reached defers size w → holds s b w.log ≡ true → is_over b w.log ≡ false → GoesOn defers s b w n → Runs defers size events w n
       → StaysIn s b w n
   run_stays [] w n s b r held over on h =
       subst (λ (v : World T). StaysIn s b w v) (sym h) (record { logged = record { held = held; not_over = over; owner = refl; made = refl }; value = refl })

@@ -1,4 +1,4 @@
--- An act is what one caller does at once: one operation on the memory, and what belongs to it. A list of acts determines the world after it.
+-- An act is what one caller does at once: one operation on the memory, and what belongs to it. A list of acts, the newest last, determines the world after it.
 use Rattle.std.specs.Prelude.{◌≡◌, ℕ, zero, suc, ◌==◌, ◌&&◌, ◌||◌, ◌++◌, not, Bool, true, false, List, [], ◌∷◌, Option, Some, None, Ok, if◌then◌else◌, nat_lt}
 use Rattle.seize_alone.specs.Given.SeizeWords.Word.{link_to, block_in}
 use Rattle.seize_alone.specs.Given.SeizeWords.declared.at.At.{At}
@@ -255,7 +255,7 @@ module _ {T : Type 0} (defers : T → Option ℕ) (batch_size : ℕ) where
   abbrev pub Did : Act T → World T → World T → Type 0
   Did act w n = (became act w ≡ Some n) × Allows act w n
 
-  -- these acts were made, one after another
+  -- these acts were made, one after another: the newest stands last
   abbrev pub AllDid : List (Act T) → World T → World T → Type 0
   AllDid [] w n = n ≡ w
   AllDid (act ∷ acts) w n = (v : World T) × Did act w v × AllDid acts v n

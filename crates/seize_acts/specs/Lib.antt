@@ -1,5 +1,6 @@
 pub mod Acts
 pub mod Answers
+pub mod Codes
 pub mod Ends
 pub mod Laws
 pub mod Reclaimed

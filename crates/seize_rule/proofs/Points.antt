@@ -8,6 +8,7 @@ mod Hold
 pub mod Known
 pub mod KnownLasts
 mod Lists
+pub mod Lost
 mod Mark
 pub mod May
 mod NothingLeft

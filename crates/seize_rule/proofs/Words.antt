@@ -8,5 +8,6 @@ pub mod Rewritten
 pub mod Room
 pub mod Shows
 pub mod ShowsStart
+pub mod Sums
 pub mod There
 pub mod View

@@ -27,3 +27,16 @@ name_of GuardsFull = codes "GuardsFull"
 name_of RemoveNothing = codes "RemoveNothing"
 name_of Busy = codes "Busy"
 name_of Memory = codes "Memory"
+
+-- its name, and what it says in a few words
+abbrev pub text_of : Fault → List ℕ
+text_of ForeignGuard = codes "ForeignGuard: a guard, registration or pass of another collector"
+text_of ZeroChunk = codes "ZeroChunk: a chunk has no places"
+text_of Capacity = codes "Capacity: a table would be too long, or a count too great"
+text_of SlotsUsedUp = codes "SlotsUsedUp: each slot is in use"
+text_of CollectorsUsedUp = codes "CollectorsUsedUp: each number of a collector was given"
+text_of RootsUsedUp = codes "RootsUsedUp: each root is in use"
+text_of GuardsFull = codes "GuardsFull: the registration can count no further guard"
+text_of RemoveNothing = codes "RemoveNothing: nothing is there to be removed"
+text_of Busy = codes "Busy: out of turn, or of an unknown name"
+text_of Memory = codes "Memory: memory was refused"

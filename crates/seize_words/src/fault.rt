@@ -1,9 +1,11 @@
 //! What a call can be refused for.
-ghost use Rattle.std.specs.Prelude.{◌≡◌};
-ghost use Rattle.seize_words.specs.Fault.{name_of, number_of};
+ghost use Rattle.std.specs.Prelude.{◌≡◌, Some};
+ghost use Rattle.seize_words.specs.Fault.{name_of, number_of, text_of};
 ghost use Rattle.seize_words.specs.declared.fault.Fault.TheVariants.{Memory};
 
 use std::alloc::{AllocError, AllocFailed};
+use std::error::Error;
+use std::{fmt, io};
 
 /// Why an event was refused. The faults are tested in this order.
 #[derive(Clone, Copy, Debug, PartialEq, Eq)]
@@ -54,6 +56,41 @@ impl Fault {
             Fault::Busy => "Busy",
             Fault::Memory => "Memory",
         }
+    }
+
+    /// Its name, and what it says in a few words.
+    pub fn text(self) -> &'static str
+        ensures { result.now ≡ text_of self }
+    {
+        match self {
+            Fault::ForeignGuard =>
+                "ForeignGuard: a guard, registration or pass of another collector",
+            Fault::ZeroChunk => "ZeroChunk: a chunk has no places",
+            Fault::Capacity => "Capacity: a table would be too long, or a count too great",
+            Fault::SlotsUsedUp => "SlotsUsedUp: each slot is in use",
+            Fault::CollectorsUsedUp => "CollectorsUsedUp: each number of a collector was given",
+            Fault::RootsUsedUp => "RootsUsedUp: each root is in use",
+            Fault::GuardsFull => "GuardsFull: the registration can count no further guard",
+            Fault::RemoveNothing => "RemoveNothing: nothing is there to be removed",
+            Fault::Busy => "Busy: out of turn, or of an unknown name",
+            Fault::Memory => "Memory: memory was refused",
+        }
+    }
+}
+
+impl fmt::Display for Fault {
+    ghost output = { λ fault. Some (text_of fault) };
+
+    fn fmt<W: fmt::Write>(&self, f: &mut fmt::Formatter<W>) -> fmt::Result {
+        f.write_str(self.text())
+    }
+}
+
+impl Error for Fault {}
+
+impl From<Fault> for io::Error {
+    fn from(fault: Fault) -> io::Error {
+        io::Error::other(fault.text())
     }
 }
 

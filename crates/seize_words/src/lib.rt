@@ -20,7 +20,7 @@ pub use block::{Block, ENTRY_WORDS};
 pub use fault::Fault;
 pub use lent::Lent;
 pub use link::Link;
-pub use memory::{Look, Memory};
+pub use memory::{Look, Memory, Refuses};
 pub use plain::Plain;
 pub use word_array::WordArray;
 pub use words::Words;

@@ -29,7 +29,6 @@ pub trait Look<T> {
 
 /// A memory whose words change and whose blocks come and go, each operation by itself. It keeps its allocator.
 pub trait Memory<T>: Look<T> {
-    ghost use Rattle.std.specs.Prelude.{Err};
     ghost use Rattle.seize_words.specs.Op.{Store, Swap, Add, Or, Exchange, Make, Take, Rewrite, Room, Found, Stored, Exchanged, Made, Taken, Roomed};
 
     /// Writes the word of a name.
@@ -62,11 +61,6 @@ pub trait Memory<T>: Look<T> {
         requires { Self.can self.old (Make value words) }
         ensures { Self.took self.old (Make value words) (Made result) self.new };
 
-    /// Refuses to make a block of a value and as many words, as a memory may at any time, and gives the value back.
-    fn refuse(&mut self, value: T, words: u64) -> T
-        requires { Self.can self.old (Make value words) }
-        ensures { Self.took self.old (Make value words) (Made (Err result)) self.new };
-
     /// Takes a block away, and answers its value. Its number is free from then on.
     fn take(&mut self, block: u64) -> T
         requires { Self.can self.old (Take block) }
@@ -82,4 +76,15 @@ pub trait Memory<T>: Look<T> {
     fn room(&mut self, bucket: u64) -> Result<(), Fault>
         requires { Self.can self.old (Room bucket) }
         ensures { Self.took self.old (Room bucket) (Roomed result) self.new };
+}
+
+/// A memory that can be told to refuse a block, as a run tells its own. One that callers share has no such operation.
+pub trait Refuses<T>: Memory<T> {
+    ghost use Rattle.std.specs.Prelude.{Err};
+    ghost use Rattle.seize_words.specs.Op.{Make, Made};
+
+    /// Refuses to make a block of a value and as many words, as a memory may at any time, and gives the value back.
+    fn refuse(&mut self, value: T, words: u64) -> T
+        requires { Self.can self.old (Make value words) }
+        ensures { Self.took self.old (Make value words) (Made (Err result)) self.new };
 }

@@ -7,7 +7,7 @@ use crate::at::At;
 use crate::block::{Block, ENTRY_WORDS};
 use crate::fault::Fault;
 use crate::lent::Lent;
-use crate::memory::{Look, Memory};
+use crate::memory::{Look, Memory, Refuses};
 use crate::slab::Slab;
 use crate::slots::Slots;
 use crate::word_array::WordArray;
@@ -218,10 +218,6 @@ impl<T> Memory<T> for Plain<T> {
         Ok(number)
     }
 
-    fn refuse(&mut self, value: T, _words: u64) -> T {
-        value
-    }
-
     fn take(&mut self, block: u64) -> T {
         self.blocks.take(block - 1)
     }
@@ -241,5 +237,11 @@ impl<T> Memory<T> for Plain<T> {
             Ok(()) => Ok(()),
             Err(_) => Err(Fault::Memory),
         }
+    }
+}
+
+impl<T> Refuses<T> for Plain<T> {
+    fn refuse(&mut self, value: T, _words: u64) -> T {
+        value
     }
 }

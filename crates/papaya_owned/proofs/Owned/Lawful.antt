@@ -1,8 +1,9 @@
 -- Keys whose hashes come from what they write are lawful, and so is what stands for them.
 use Rattle.std.specs.Cmp.{IsEquivalence}
-use Rattle.std.specs.Prelude.{◌%◌, fold, IsTrue}
-use Rattle.std.proofs.Common.{◌≡◌, ℕ, ◌+◌, ◌<◌, ◌^◌, Bool, true, List, ap, arith, sym}
+use Rattle.std.specs.Prelude.{◌%◌, fold}
+use Rattle.std.proofs.Common.{◌≡◌, ℕ, ◌+◌, ◌<◌, ◌^◌, Bool, true, List, ap, arith, sym, ◌∙◌}
 use Rattle.std.proofs.Math.Nat.{mod-lt}
+use Rattle.papaya_tables.proofs.Classes.{asked_equal, one_class}
 use Rattle.papaya_tables.specs.Probes.{triangular}
 use Rattle.papaya_whole.specs.Given.Rule.Maps.{IsClass, spot_at}
 use Rattle.papaya_whole.specs.Given.Points.Steps.{AreLawful}
@@ -25,10 +26,13 @@ module _ {K S H : Type 0} (eq : K → K → Bool) (finish : H → ℕ) (write : 
       word : (n : ℕ) → n % 2 ^ 64 < 2 ^ 64
       word n = omega arith
 
-  -- what stands for keys is of one class with them
-  pub is_class : {Q : Type 0} (asks : Q → K → Bool) (q_input : Q → List (List ℕ)) → ((asked : Q) (key : K) → IsTrue (asks asked key) → q_input asked ≡ input key)
-      → ((asked : Q) (key other : K) → IsTrue (asks asked key) → asks asked other ≡ eq key other) → (asked : Q) → IsClass eq (hashed_by finish write build input hasher) (asks asked) (hashed_by finish write build q_input hasher asked)
-  is_class asks q_input hashes ones asked = record {
-    hashes = λ k is. ap (λ (written : List (List ℕ)). finish (fold write (build hasher) written) % 2 ^ 64) (sym (hashes asked k is));
-    one = λ k other is. ones asked k other is;
+  -- what stands for a key is of one class with the keys equal to it
+  pub is_class : {Q : Type 0} (asks : Q → K → Bool) (q_input : Q → List (List ℕ)) (stands_for : Q → K) → ((asked : Q) (key : K) → asks asked key ≡ eq (stands_for asked) key)
+      → ((asked : Q) → q_input asked ≡ input (stands_for asked)) → IsEquivalence eq → ((x y : K) → eq x y ≡ true → input x ≡ input y)
+      → (asked : Q) → IsClass eq (hashed_by finish write build input hasher) (asks asked) (hashed_by finish write build q_input hasher asked)
+  is_class asks q_input stands_for stands hashed classes respects asked = record {
+    hashes = λ k is.
+        ap (λ (written : List (List ℕ)). finish (fold write (build hasher) written) % 2 ^ 64)
+        (sym (hashed asked ∙ respects (stands_for asked) k (asked_equal eq classes stands_for asks stands asked k is)));
+    one = λ k other is. one_class eq classes stands_for asks stands asked k other is;
   }

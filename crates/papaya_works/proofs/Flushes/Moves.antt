@@ -1,10 +1,10 @@
 -- A flush of a slot that is active takes nothing away: the batch that it closes waits for that slot.
-use Rattle.std.proofs.Common.{◌≡◌, ℕ, ◌+◌, ◌%◌, ◌^◌, ◌<◌, ◌≤◌, Bool, true, false, cond, eqb, ltb, List, [], ◌∷◌, ◌++◌, refl, ap, sym, subst, ◌∙◌, arith, eqb-true}
+use Rattle.std.proofs.Common.{◌≡◌, ℕ, ◌+◌, ◌%◌, ◌^◌, ◌<◌, ◌≤◌, Bool, true, false, cond, eqb, ltb, List, [], ◌∷◌, ◌++◌, refl, ap, sym, subst, ◌∙◌, arith, eqb-true, inl, inr}
 use Rattle.papaya_legal.specs.Given.Seize.declared.rows.settle.Settle.{Settle}
 use Rattle.papaya_legal.specs.Given.SeizeWaiting.Held.{count}
-use Rattle.papaya_legal.proofs.Given.SeizeMoves.State.Ghost.{put, Debt, Unscanned, Marked, Skipped, Owing, Loose, Counted, Entry, Active, Stage, Open, Closing, State, is_active, is_marked, owes, counts, was_put, total}
+use Rattle.papaya_legal.proofs.Given.SeizeMoves.State.Ghost.{put, Debt, Unscanned, Marked, Gone, Skipped, Owing, Loose, Counted, Entry, Active, Stage, Open, Closing, State, is_active, is_marked, owes, counts, was_put, total}
 use Rattle.papaya_legal.proofs.Given.SeizeMoves.State.Moves as moves
-use Rattle.papaya_legal.proofs.Given.SeizeMoves.State.Rule.{AtStage, Inv, SeenIs}
+use Rattle.papaya_legal.proofs.Given.SeizeMoves.State.Rule.{AtStage, HasLeft, Inv, SeenIs}
 use Rattle.papaya_legal.proofs.Given.SeizeMoves.State.Sums.{put_le, put_parts, total_le}
 use Rattle.papaya_legal.proofs.Given.SeizeRule.Points.Passed.{passed_rest}
 use Rattle.papaya_legal.proofs.Given.SeizeRule.Points.Told as told
@@ -15,6 +15,7 @@ use Rattle.papaya_legal.proofs.Given.SeizeRule.Words.Apart.{put_here}
 abbrev pub awaits : Debt → Bool
 awaits Unscanned = true
 awaits Marked = true
+awaits Gone = false
 awaits Skipped = false
 awaits Owing = true
 awaits (Loose i) = false
@@ -54,6 +55,7 @@ put_debt d t s v here there = by (eqb s t) (eqb-true s t)
 unseen : (d : Debt) (t k : ℕ) → k ≡ 0 → SeenIs d t k → awaits d ≡ true
 unseen Unscanned t k none l = refl
 unseen Marked t k none l = refl
+unseen Gone t k none l = absurd (omega (arith, none, l))
 unseen Skipped t k none l = absurd (omega (arith, none, l))
 unseen Owing t k none l = refl
 unseen (Loose i) t k none l = absurd (omega (arith, none, l))
@@ -62,6 +64,7 @@ unseen Counted t k none l = absurd (omega (arith, none, l))
 passed_awaits : (d : Debt) → (d ≡ Unscanned → ⊥) → awaits d ≡ true → awaits (moves.passed d) ≡ true
 passed_awaits Unscanned seen e = absurd (seen refl)
 passed_awaits Marked seen e = refl
+passed_awaits Gone seen e = absurd (cc e)
 passed_awaits Skipped seen e = absurd (cc e)
 passed_awaits Owing seen e = refl
 passed_awaits (Loose i) seen e = absurd (cc e)
@@ -71,6 +74,7 @@ passed_awaits Counted seen e = absurd (cc e)
 owed : (d : Debt) → awaits d ≡ true → is_marked d ≡ 0 → (d ≡ Unscanned → ⊥) → owes d ≡ 1
 owed Unscanned e none seen = absurd (seen refl)
 owed Marked e none seen = absurd (omega (arith, none))
+owed Gone e none seen = absurd (cc e)
 owed Skipped e none seen = absurd (cc e)
 owed Owing e none seen = refl
 owed (Loose i) e none seen = absurd (cc e)
@@ -164,16 +168,20 @@ module _ (n i : ℕ) (small : n < 2 ^ 64) (c c2 : Settle) (m m2 : State) (inv : 
         by z false is its = known z its
 
     -- or it has none any more, which is another slot
-    missed_as : (y t : ℕ) (rest : List ℕ) → m.stage y ≡ Closing i → is_active (m.head t) ≡ false → ((z : ℕ) → m.stage z ≡ Closing i → awaits (m.debt z s) ≡ true)
+    missed_as : (y t : ℕ) (rest : List ℕ) → m.stage y ≡ Closing i → HasLeft m y t → ((z : ℕ) → m.stage z ≡ Closing i → awaits (m.debt z s) ≡ true)
         → FlushesOn i s told.Pushing (moves.missed m y t rest)
-    missed_as y t rest stage idle known = record {
+    missed_as y t rest stage left known = record {
       none = record { loose = on.none.loose; left = on.none.left; pending = on.none.pending; puts = on.none.puts };
       active = on.active;
       knows = λ z is. by z (eqb z y) is;
     }
       where
+        stays : s ≡ t → HasLeft m y t → ⊥
+        stays e (inl idle) = other_slot t idle e
+        stays e (inr gone) = let here = known y stage in let k = ap (λ (u : ℕ). awaits (m.debt y u)) e in let none = ap awaits gone in cc (here, k, none)
+
         by : (z : ℕ) (b : Bool) → m.stage z ≡ Closing i → awaits (cond b (put (m.debt y) t Skipped) (m.debt z) s) ≡ true
-        by z true its = put_debt (m.debt y) t s Skipped (λ e. absurd (other_slot t idle e)) (known y stage)
+        by z true its = put_debt (m.debt y) t s Skipped (λ e. absurd (stays e left)) (known y stage)
         by z false its = known z its
 
     -- the number of entries is added, and is not zero
@@ -224,7 +232,7 @@ module _ (n i : ℕ) (small : n < 2 ^ 64) (c c2 : Settle) (m m2 : State) (inv : 
         (record { none = record { loose = on.none.loose; left = on.none.left; pending = on.none.pending; puts = on.none.puts }; active = on.active; knows = (knows_at told.Trying p_is).0 })
     flush_by (told.Closes all enough some is p_is pushing none_left) = into (moves.closed n m i s x) told.Pushing is pushing (shut_as all (knows_at told.Trying p_is))
     flush_by (told.Pushes y t d es rest stage todo head is p_is pushing) = into (moves.pushed m y t d es rest) told.Pushing is pushing (pushed_as y t d es rest stage (knows_at told.Pushing p_is))
-    flush_by (told.Misses y t rest stage todo idle is p_is pushing) = into (moves.missed m y t rest) told.Pushing is pushing (missed_as y t rest stage idle (knows_at told.Pushing p_is))
+    flush_by (told.Misses y t rest stage todo left is p_is pushing) = into (moves.missed m y t rest) told.Pushing is pushing (missed_as y t rest stage left (knows_at told.Pushing p_is))
     flush_by (told.Sums y stage todo some is p_is plain none_left) =
         into (moves.summed n m i y) told.Plain is plain
         (record { none = record { loose = on.none.loose; left = on.none.left; pending = on.none.pending; puts = on.none.puts }; active = on.active; knows = put_here m.closing i 0 })

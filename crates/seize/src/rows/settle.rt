@@ -171,6 +171,8 @@ pub struct Settle {
     pub put_first: u64,
     /// The last of those that were joined.
     pub put_last: u64,
+    /// How many exchanges the present push has lost to others.
+    pub lost: u64,
     /// Where it stands.
     pub stands: Settling,
 }
@@ -236,6 +238,7 @@ impl Settle {
             first: 0,
             put_first: 0,
             put_last: 0,
+            lost: 0,
             stands,
         }
     }

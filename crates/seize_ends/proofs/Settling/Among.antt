@@ -41,6 +41,7 @@ module _ {T : Type 0} (defers : T → Option ℕ) (n bound i : ℕ) (last : n �
     lists = r.stocked.lists;
     slots = λ t k l h. r.room.bucketed.there t k (r.room.enough t t h (omega arith) (taken t h)) l;
     behind = λ t k l h lt. r.room.bucketed.there (t + 1) k (r.room.enough t (t + 1) h (omega arith) lt) l;
+    few = r.stocked.few;
   }
     where
       taken : (t : ℕ) → is_never (m.head t) ≡ false → t < n

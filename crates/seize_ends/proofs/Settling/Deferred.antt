@@ -17,7 +17,6 @@ use Rattle.seize.specs.Settle as plans
 use Rattle.seize_waiting.specs.Held.{count}
 use Rattle.seize_waiting.proofs.Counts.{count-append}
 use Rattle.seize_moves.proofs.State.Ghost.{State, Life, put, is_deferred, is_pending}
-use Rattle.seize_moves.proofs.State.Ghost as Ghosts
 use Rattle.seize_moves.proofs.State.Rule.{Inv}
 use Rattle.seize_moves.proofs.State.Moves
 use Rattle.seize_rule.proofs.Words.Named.{link, link-block, words_of, word_found, wrote}
@@ -28,6 +27,7 @@ use Rattle.seize_rule.proofs.Points.Told.{Plain, Draining, part, part_at, Told}
 use Rattle.seize_rule.proofs.Points.Known.{Fits, Backs, Drains, Joins, Tails, Downs, bare, list_word}
 use Rattle.seize_rule.proofs.Points.Deferred.{next_left, list_read}
 use Rattle.seize_rule.proofs.Points.Down.{word_of_list}
+use Rattle.seize_rule.proofs.Words.Sums.{blocks_long}
 use Rattle.seize_ends.proofs.Settling.Measure.{weighs, ahead_of, here, behind_of, behind_there}
 use Rattle.seize_ends.proofs.Settling.Moves.{Below, not_more, drained_so, drained_falls, puts_same, counted_less}
 use Rattle.seize_ends.proofs.Settling.Points.{at_point, downs_falls}
@@ -43,10 +43,6 @@ chains_long e next w (c ∷ l) (d ∷ k) small a b =
     let same : c ≡ d = omega (arith, p, q) in
     let ih = chains_long e next (next c) l k small a.2 (subst (λ (u : ℕ). Chain e next (next u) k) (sym same) b.2) in
     omega (arith, ih)
-
-pub blocks_long : (es : List Ghosts.Entry) → length (blocks_of es) ≡ length es
-blocks_long [] = refl
-blocks_long (e ∷ es) = let ih = blocks_long es in omega (arith, ih)
 
 -- the list that a row goes on with
 onward_hand : (n i : ℕ) (g : View) (m : State) (x : Extra) (d : Settle) → Fits n i g m x (plans.onward d) → x.hand i ≡ list_word d.list

@@ -1,15 +1,14 @@
 -- How much is left to do for a settling row that runs alone: a number that each of its steps lowers.
 use Rattle.std.specs.Prelude.{if◌then◌else◌, nat_lt, ◌==◌, ◌/◌}
-use Rattle.std.proofs.Common.{◌≡◌, ℕ, zero, suc, ◌+◌, ◌-◌, ◌*◌, ◌<◌, ◌≤◌, Bool, true, false, cond, eqb, List, [], ◌∷◌, ◌++◌, length, refl, arith, ap, eqb-true}
-use Rattle.std.proofs.lemmas.Bool.{eqb-false}
+use Rattle.std.proofs.Common.{◌≡◌, ℕ, ◌+◌, ◌-◌, ◌*◌, ◌≤◌, Bool, true, false, cond, eqb, List, [], ◌∷◌, ◌++◌, length, refl, arith}
 use Rattle.seize.specs.declared.states.TheConstants.{ACTIVE}
 use Rattle.seize.specs.declared.rows.settle.Settle.{Settle}
 use Rattle.seize.specs.declared.rows.settle.Settling.{Settling}
 use Rattle.seize.specs.declared.rows.settle.Settling.TheVariants as at
 use Rattle.seize.specs.Settle.{onward, with_batch, standing}
-use Rattle.seize_waiting.specs.Held.{same, count}
+use Rattle.seize_waiting.specs.Held.{count}
 use Rattle.seize_moves.proofs.State.Ghost.{State, Life, IsFree, IsOwned, IsLinked, IsUnlinked, IsDeferring, IsDeferred, IsPending, IsIn, IsDoomed, IsLeft}
-use Rattle.seize_rule.proofs.Words.Chains.{count_first}
+use Rattle.seize_rule.proofs.Words.Sums.{sum_of}
 use Rattle.seize_rule.proofs.Words.View.{View}
 
 -- A block goes from the list that it is deferred on to those to be retired, into a batch, and is taken. What it weighs at each of these pays for the work up
@@ -25,11 +24,6 @@ weight n (IsPending i) = 10 * n + 15
 weight n (IsIn x) = 6
 weight n (IsDoomed i) = 6
 weight n (IsLeft i) = 0
-
--- the sum of f over the numbers below k
-abbrev pub sum_of : (ℕ → ℕ) → ℕ → ℕ
-sum_of f zero = 0
-sum_of f (suc k) = sum_of f k + f k
 
 -- how many of a list stand behind the first of this number
 abbrev pub behind_of : ℕ → List ℕ → ℕ
@@ -104,60 +98,6 @@ module _ (n : ℕ) (f : View) (puts : List ℕ) (c : Settle) where
       one true true false true h = omega arith
       one true true false false true = omega arith
       one true true false false false = omega arith
-
--- sums
-
-pub sum_le : (f g : ℕ → ℕ) (k : ℕ) → ((c : ℕ) → g c ≤ f c) → sum_of g k ≤ sum_of f k
-sum_le f g zero h = omega arith
-sum_le f g (suc k) h = let ih = sum_le f g k h in let p = h k in omega (arith, ih, p)
-
-pub sum_parts : (f g h : ℕ → ℕ) (k : ℕ) → ((c : ℕ) → g c + h c ≤ f c) → sum_of g k + sum_of h k ≤ sum_of f k
-sum_parts f g h zero p = omega arith
-sum_parts f g h (suc k) p = let ih = sum_parts f g h k p in let q = p k in omega (arith, ih, q)
-
-sum_both : (f g : ℕ → ℕ) (k : ℕ) → sum_of (λ c. f c + g c) k ≡ sum_of f k + sum_of g k
-sum_both f g zero = omega arith
-sum_both f g (suc k) = let ih = sum_both f g k in omega (arith, ih)
-
-sum_none : (f : ℕ → ℕ) (k : ℕ) → ((c : ℕ) → c < k → f c ≡ 0) → sum_of f k ≡ 0
-sum_none f zero h = refl
-sum_none f (suc k) h = let ih = sum_none f k (λ c l. h c (omega (arith, l))) in let q = h k (omega arith) in omega (arith, ih, q)
-
-sum_one : (b k : ℕ) → b < k → sum_of (λ c. same c b) k ≡ 1
-sum_one b zero l = absurd (omega arith)
-sum_one b (suc k) l = last (eqb k b) refl (sum_one b k)
-  where
-    apart : (c : ℕ) → k ≡ b → c < k → same c b ≡ 0
-    apart c e h = grind arith
-
-    last : (t : Bool) → eqb k b ≡ t → (b < k → sum_of (λ c. same c b) k ≡ 1) → sum_of (λ c. same c b) (suc k) ≡ 1
-    last true e ih = let q = eqb-true k b e in let z = sum_none (λ c. same c b) k (λ c h. apart c q h) in grind (arith, z, e)
-    last false e ih = let q = eqb-false k b e in let z = ih (omega (arith, l, q)) in grind (arith, z, e)
-
--- a list of numbers that are below a number
-pub sum_count : (l : List ℕ) (k : ℕ) → ((c : ℕ) → 0 < count c l → c < k) → sum_of (λ c. count c l) k ≡ length l
-sum_count [] k h = sum_none (λ c. 0) k (λ c l. refl)
-sum_count (b ∷ l) k h =
-    let a = sum_one b k (h b (count_first b l)) in
-    let z = sum_count l k (λ c p. h c (more c p)) in
-    let s = sum_both (λ c. same c b) (λ c. count c l) k in
-    omega (arith, a, z, s)
-  where
-    more : (c : ℕ) → 0 < count c l → 0 < count c (b ∷ l)
-    more c p = omega (arith, p)
-
-sum_times : (f : ℕ → ℕ) (j k : ℕ) → sum_of (λ c. j * f c) k ≡ j * sum_of f k
-sum_times f j zero = omega arith
-sum_times f j (suc k) = let ih = sum_times f j k in omega (arith, ih)
-
--- what falls by j at each number of a list
-pub sum_falls : (f g : ℕ → ℕ) (j : ℕ) (l : List ℕ) (k : ℕ) → ((c : ℕ) → g c + j * count c l ≤ f c) → ((c : ℕ) → 0 < count c l → c < k)
-    → sum_of g k + j * length l ≤ sum_of f k
-sum_falls f g j l k p h =
-    let a = sum_parts f g (λ c. j * count c l) k p in
-    let b = sum_times (λ c. count c l) j k in
-    let z = ap (λ n. j * n) (sum_count l k h) in
-    omega (arith, a, b, z)
 
 -- what stands behind a block that stands in a list once
 pub behind_there : (d : ℕ) (u l : List ℕ) → count d u ≡ 0 → behind_of d (u ++ d ∷ l) ≡ length l

@@ -11,32 +11,19 @@ use Rattle.seize.specs.declared.rows.settle.Settled.{Settled}
 use Rattle.seize.specs.declared.rows.settle.Settled.TheVariants.{Goes, Waits, Gave, Done}
 use Rattle.seize.specs.Settle.{plan_at, settle_plan}
 use Rattle.seize_waiting.specs.Held.{count, same}
-use Rattle.seize_moves.proofs.State.Ghost.{State, Life, Entry, is_pending}
+use Rattle.seize_moves.proofs.State.Ghost.{State, Life, is_pending}
 use Rattle.seize_moves.proofs.State.Rule.{Inv}
 use Rattle.seize_rule.proofs.Words.Chains.{blocks_of}
+use Rattle.seize_rule.proofs.Words.Sums.{sum_of, sum_same, sum_le, list_below, count_stands, blocks_long}
 use Rattle.seize_rule.proofs.Words.View.{View, view}
-use Rattle.seize_rule.proofs.Words.Shows.{Spot, Nowhere, Unspent, On, InHands, SpotLife, Extra, Shows, lives, both, stands, is_in_hands}
+use Rattle.seize_rule.proofs.Words.Shows.{Spot, Nowhere, Unspent, On, InHands, SpotLife, Extra, Shows, lives, stands, is_in_hands}
 use Rattle.seize_rule.proofs.Words.Kept.{settle_quiet}
 use Rattle.seize_rule.proofs.Points.Settle.{is_over}
-use Rattle.seize_ends.proofs.Settling.Measure.{weight, sum_of, behind_of, point, ahead_of, ends, sum_le, sum_count}
+use Rattle.seize_ends.proofs.Settling.Measure.{weight, behind_of, point, ahead_of, ends}
 use Rattle.seize_ends.proofs.Settling.Moves.{Below}
-use Rattle.seize_ends.proofs.Settling.Deferred.{blocks_long}
 use Rattle.seize_ends.proofs.Settling.Among.{Among, among_on, below_lives}
 use Rattle.seize_ends.proofs.Batches.Held.{GoesOn}
 use Rattle.seize_ends.proofs.Rows.Run.{EndsWithin, to_go, to_go_falls}
-
--- lists of different numbers below a number
-
-sum_same : (j k : ℕ) → sum_of (λ c. j) k ≡ k * j
-sum_same j zero = omega arith
-sum_same j (suc k) = let ih = sum_same j k in omega (arith, ih)
-
-pub list_below : (l : List ℕ) (k : ℕ) → ((c : ℕ) → count c l ≤ 1) → ((c : ℕ) → 0 < count c l → c < k) → length l ≤ k
-list_below l k once below =
-    let a = sum_le (λ c. 1) (λ c. count c l) k once in
-    let b = sum_same 1 k in
-    let z = sum_count l k below in
-    omega (arith, a, b, z)
 
 behind_le : (d : ℕ) (l : List ℕ) → behind_of d l ≤ length l
 behind_le d [] = omega arith
@@ -48,21 +35,6 @@ behind_le d (c ∷ l) = one (eqb d c) (behind_le d l)
 
 weight_le : (n : ℕ) (l : Life) → weight n l ≤ 10 * n + 16
 weight_le n l = grind arith
-
--- the blocks of entries are different, where each is of one batch
-count_stands : (c x : ℕ) (es : List Entry) → ((b : ℕ) → stands c b es ≤ same b x) → count c (blocks_of es) ≤ stands c x es
-count_stands c x [] h = omega arith
-count_stands c x (e ∷ es) h =
-    let ih = count_stands c x es (λ b. let k = h b in omega (arith, k)) in
-    let k = h e.batch in
-    let a = one e (fewer (both c e.batch e) (stands c e.batch es) (same e.batch x) k) in
-    omega (arith, ih, a)
-  where
-    fewer : (a b k : ℕ) → a + b ≤ k → a ≤ k
-    fewer a b k h = omega (arith, h)
-
-    one : (e : Entry) → both c e.batch e ≤ same e.batch x → same c e.block ≤ both c x e
-    one e k = grind (arith, k)
 
 module _ (n bound i : ℕ) (f : View) (m : State) (x : Extra) (inv : Inv n m) (v : Shows n f m x) (below : Below bound m.life) where
   loose_once : (c : ℕ) → (count c (blocks_of (m.loose i)) ≤ 1) × (0 < count c (blocks_of (m.loose i)) → lives (m.life c) ≡ true)

@@ -12,7 +12,8 @@ use Rattle.seize_moves.proofs.Moves.Takes.{first_doomed}
 use Rattle.seize_rule.proofs.Points.Passed.{passed_rest}
 use Rattle.seize_rule.proofs.Words.Shows.{lives}
 use Rattle.seize_rule.proofs.Points.Told.{Part, Plain, Draining, part, batch_now, Told, Stays, Holds, HoldsNone, Gives, Begins, Appends, Fills, Skips, Passes, Finds, Marks, GivesUp, Closes, Pushes, Misses, Sums, SumsLast, Drains, DrainsNone, Takes, TakesLast, Joins, Counts, CountsLast}
-use Rattle.seize_ends.proofs.Settling.Measure.{weight, weighs, sum_le, sum_falls}
+use Rattle.seize_ends.proofs.Settling.Measure.{weight, weighs}
+use Rattle.seize_rule.proofs.Words.Sums.{sum_le, sum_falls}
 
 -- every block that lives is below this number
 abbrev pub Below : ℕ → (ℕ → Life) → Type 0

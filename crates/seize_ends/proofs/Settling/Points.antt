@@ -196,7 +196,7 @@ module _ {T : Type 0} (defers : T → Option ℕ) (n i : ℕ) (mem mem2 : Mem T)
   pub reads_falls : (block left pushed : ℕ) → Steps Took value_at mem (plans.reads c block left pushed) mem2 end → after < before (at.Reads block left pushed)
   reads_falls block left pushed st =
       let d = loaded mem (plans.slot_read c block left pushed) (Entry (block / 2048) LINK) mem2 end st in
-      to (before (at.Reads block left pushed)) (plans.standing c (at.Links block left pushed d.0 ACTIVE)) Goes d.3 (one (eqb ((view defers mem2).heads d.0) ACTIVE))
+      to (before (at.Reads block left pushed)) (record c { lost = 0; stands = at.Links block left pushed d.0 ACTIVE }) Goes d.3 (one (eqb ((view defers mem2).heads d.0) ACTIVE))
     where
       one : (t : Bool) → ahead_of n c + (6 * left + cond t 4 6) < before (at.Reads block left pushed)
       one true = omega arith
@@ -229,7 +229,7 @@ module _ {T : Type 0} (defers : T → Option ℕ) (n i : ℕ) (mem mem2 : Mem T)
         | inl d ↦ to (before (at.Pushes block left pushed slot head)) (plans.standing c (plans.pushed_of block left ((pushed + 1) % 2 ^ 64))) Goes d.3
             (pushed_of_falls block left ((pushed + 1) % 2 ^ 64) (before (at.Pushes block left pushed slot head)) some (omega (arith, k)) (omega (arith, k, some)))
         | inr d ↦ let word = word_found mem (Slot slot HEAD) d.0 d.1.0 in
-            one d.0 (nat_lt d.0 ACTIVE) (pick_other ((view defers mem).heads slot) head 3 5 (λ e. d.1.1 (sym word ∙ e))) (ap (λ (q : Mem T). words_of q (Slot slot HEAD)) d.2 ∙ word) d.3
+            one d.0 (plans.needs_none c d.0) (pick_other ((view defers mem).heads slot) head 3 5 (λ e. d.1.1 (sym word ∙ e))) (ap (λ (q : Mem T). words_of q (Slot slot HEAD)) d.2 ∙ word) d.3
       ]
     where
       at_least : (t : Bool) → 3 ≤ pick t 3 5
@@ -237,14 +237,14 @@ module _ {T : Type 0} (defers : T → Option ℕ) (n i : ℕ) (mem mem2 : Mem T)
       at_least false = omega arith
 
       one : (w : ℕ) (t : Bool) → pick (eqb ((view defers mem).heads slot) head) 3 5 ≡ 5 → (view defers mem2).heads slot ≡ w
-          → Ends (value_at mem) (if t then plans.goes {T = T} c (plans.pushed_of block left pushed) else plans.goes c (at.Links block left pushed slot w)) end
+          → Ends (value_at mem) (if t then plans.goes {T = T} c (plans.pushed_of block left pushed) else plans.to (record c { lost = c.lost + 1; stands = at.Links block left pushed slot w })) end
           → after < before (at.Pushes block left pushed slot head)
       one w true k word e =
           to (before (at.Pushes block left pushed slot head)) (plans.standing c (plans.pushed_of block left pushed)) Goes e
           (pushed_of_falls block left pushed (before (at.Pushes block left pushed slot head)) some (omega (arith, k)) (omega (arith, k, some)))
       one w false k word e =
           let q = pick_same ((view defers mem2).heads slot) w 4 6 word in
-          to (before (at.Pushes block left pushed slot head)) (plans.standing c (at.Links block left pushed slot w)) Goes e (omega (arith, k, q))
+          to (before (at.Pushes block left pushed slot head)) (record c { lost = c.lost + 1; stands = at.Links block left pushed slot w }) Goes e (omega (arith, k, q))
 
   pub pushed_falls : (block left pushed : ℕ) → Steps Took value_at mem (plans.pushed_next c block left pushed) mem2 end → after < before (at.Pushed block left pushed)
   pushed_falls block left pushed st =

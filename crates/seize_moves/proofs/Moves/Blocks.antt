@@ -1,5 +1,5 @@
 -- The moves of blocks before they are retired: each keeps the rule, and leaves to the other rows what they know.
-use Rattle.std.proofs.Common.{◌≡◌, ℕ, ◌+◌, Bool, true, false, cond, eqb, List, ◌∷◌, ◌⊎◌, refl, arith, subst, eqb-true}
+use Rattle.std.proofs.Common.{◌≡◌, ℕ, ◌+◌, Bool, true, false, cond, eqb, List, ◌∷◌, ◌⊎◌, refl, arith, subst, eqb-true, []}
 use Rattle.std.proofs.lemmas.Bool.{eq-eqb}
 use Rattle.seize.specs.Law.{Effect, Deferred, Dropped, holds, is_over}
 use Rattle.seize_moves.proofs.State.Ghost.{put, Life, IsFree, IsOwned, IsLinked, IsUnlinked, IsDeferring, IsDeferred, IsPending, IsIn, IsDoomed, IsLeft, State, of_dropper, lies_with, can_carry}
@@ -48,6 +48,7 @@ made_moves n i s m b k inv h = record {
     lives = λ j c e f. grind arith;
     lists = λ j c e f. refl;
     taken_slots = λ t e. e;
+    marked = λ j x t ne closing d. (d, ([], refl));
     lengths = λ t l. not_longer _;
   };
 }
@@ -102,6 +103,7 @@ dropped_moves n i s m b inv h may = record {
     lives = λ j c e f. grind arith;
     lists = λ j c e f. refl;
     taken_slots = λ t e. e;
+    marked = λ j x t ne closing d. (d, ([], refl));
     lengths = λ t l. not_longer _;
   };
 }
@@ -147,6 +149,7 @@ linked_moves n i s m b o inv h = record {
     lives = λ j c e f. grind arith;
     lists = λ j c e f. refl;
     taken_slots = λ t e. e;
+    marked = λ j x t ne closing d. (d, ([], refl));
     lengths = λ t l. not_longer _;
   };
 }
@@ -178,6 +181,7 @@ ended_moves n i s m o inv = record {
     lives = λ j c e f. (refl, refl);
     lists = λ j c e f. refl;
     taken_slots = λ t e. e;
+    marked = λ j x t ne closing d. (d, ([], refl));
     lengths = λ t l. not_longer _;
   };
 }
@@ -215,6 +219,7 @@ unlinked_moves n i s m b inv h = record {
     lives = λ j c e f. grind arith;
     lists = λ j c e f. refl;
     taken_slots = λ t e. e;
+    marked = λ j x t ne closing d. (d, ([], refl));
     lengths = λ t l. not_longer _;
   };
 }
@@ -252,6 +257,7 @@ begins_retire_moves n i s m b holder inv h = record {
     lives = λ j c e f. grind arith;
     lists = λ j c e f. refl;
     taken_slots = λ t e. e;
+    marked = λ j x t ne closing d. (d, ([], refl));
     lengths = λ t l. not_longer _;
   };
 }
@@ -318,6 +324,7 @@ begins_defer_moves n i s m b t inv h no_carrier carrier hs none held left = reco
     lives = λ j c e f. grind arith;
     lists = λ j c e f. refl;
     taken_slots = λ t e. e;
+    marked = λ j x t ne closing d. (d, ([], refl));
     lengths = λ t l. not_longer _;
   };
 }
@@ -360,6 +367,7 @@ deferred_to_moves n i s m b t inv h = record {
     lives = λ j c e f. grind arith;
     lists = λ j c e f. grind (arith, inv.logged.on_way b i s t h, inv.logged.guarded s t, inv.places.carries b t);
     taken_slots = λ t e. e;
+    marked = λ j x t ne closing d. (d, ([], refl));
     lengths = λ t l. not_longer _;
   };
 }

@@ -1,6 +1,6 @@
 -- What has ended: the moves keep the rule, and leave to the other rows what they know.
 use Rattle.std.specs.Prelude.{◌||◌}
-use Rattle.std.proofs.Common.{◌≡◌, ℕ, Bool, true, false, cond, eqb, List, ◌∷◌, refl, arith, ◌∙◌}
+use Rattle.std.proofs.Common.{◌≡◌, ℕ, Bool, true, false, cond, eqb, List, ◌∷◌, refl, arith, ◌∙◌, []}
 use Rattle.seize.specs.Law.{is_orphan}
 use Rattle.seize.specs.WaitingSets.{is_one_of}
 use Rattle.seize_waiting.specs.Held.{count}
@@ -72,6 +72,7 @@ left_over_moves n k i s m b holder inv h orphan none = record {
     lives = λ j c e f. grind arith;
     lists = λ j c e f. grind arith;
     taken_slots = λ t e. e;
+    marked = λ j x t ne closing d. (d, ([], refl));
     lengths = λ t l. not_longer _;
   };
 }

@@ -1,19 +1,49 @@
 -- The moves of a batch that is closed: each keeps the rule, and leaves to the other rows what they know.
-use Rattle.std.proofs.Common.{◌≡◌, ℕ, ◌+◌, ◌-◌, ◌%◌, ◌^◌, ◌<◌, ◌≤◌, Bool, true, false, cond, eqb, List, [], ◌∷◌, refl, arith, eqb-true, subst, sym}
+use Rattle.std.proofs.Common.{◌≡◌, ℕ, ◌+◌, ◌-◌, ◌%◌, ◌^◌, ◌<◌, ◌≤◌, Bool, true, false, cond, eqb, List, [], ◌∷◌, refl, arith, eqb-true, subst, sym, ap, ◌∙◌, inl, inr}
 use Rattle.std.proofs.lemmas.Bool.{eqb-false}
 use Rattle.seize.specs.Law.{Effect}
-use Rattle.seize_waiting.specs.Held.{count}
-use Rattle.seize_moves.proofs.State.Ghost.{put, Entry, Active, Debt, Marked, Loose, Counted, Stage, Unused, Open, Closing, Closed, Dead, Life, State, is_active, is_loose, on_list, is_marked, owes, counts, was_put, total, is_in, entries}
-use Rattle.seize_moves.proofs.State.Rule.{AllLoose, AllMarked, Boxed, Housed, IsLive, SameUnlessDead, SeenIs, Scanned, AtStage, Tally, Guarded, Inv, Moved, same_row, row_of, same_slot, slot_of, not_longer}
-use Rattle.seize_moves.proofs.State.Logs.{held_open}
+use Rattle.seize_waiting.specs.Held.{count, same}
+use Rattle.seize_moves.proofs.State.Ghost.{put, Entry, Active, Debt, Unscanned, Marked, Gone, Skipped, Owing, Loose, Counted, Head, list_of, is_active, Stage, Unused, Open, Closing, Closed, Dead, Life, IsFree, IsOwned, IsLinked, IsUnlinked, IsDeferring, IsDeferred, IsPending, IsIn, IsDoomed, IsLeft, State, is_loose, on_list, is_marked, owes, counts, was_put, total, is_in, entries}
+use Rattle.seize_moves.proofs.State.Rule.{Listed, AllLoose, AllMarked, Boxed, Housed, IsLive, SameUnlessDead, SeenIs, Scanned, AtStage, Tally, Guarded, IsGuarded, Waits, HasLeft, Inv, Moved, same_row, row_of, same_slot, slot_of, not_longer}
 use Rattle.seize_moves.proofs.State.Sums.{total-put, total_same, total_le, put_parts, put_le, put_both}
 use Rattle.seize_moves.proofs.Moves.Tries.{put_alike, loose_put, same_box}
+use Rattle.seize_moves.proofs.State.Logs.{held_open}
+use Rattle.seize_moves.proofs.State.Grown.{one_grown, other_marked}
 use Rattle.seize_moves.proofs.State.Moves
 
--- the first slot to do is marked
+-- the first slot to do is marked, whether it has left since or not
 pub first_marked : (todo : ℕ → List ℕ) (debt : ℕ → ℕ → Debt) (x t : ℕ) (rest : List ℕ)
-    → AllMarked todo debt → todo x ≡ t ∷ rest → debt x t ≡ Marked
-first_marked todo debt x t rest h e = grind (arith, h x t)
+    → AllMarked todo debt → todo x ≡ t ∷ rest → is_marked (debt x t) ≡ 1
+first_marked todo debt x t rest h e = one (debt x t) (grind (arith, h x t))
+  where
+    one : (d : Debt) → 0 < is_marked d → is_marked d ≡ 1
+    one Unscanned k = absurd (omega (arith, k))
+    one Marked k = refl
+    one Gone k = refl
+    one Skipped k = absurd (omega (arith, k))
+    one Owing k = absurd (omega (arith, k))
+    one (Loose j) k = absurd (omega (arith, k))
+    one Counted k = absurd (omega (arith, k))
+
+-- so it is neither on a list nor counted
+pub not_put : (d : Debt) → is_marked d ≡ 1 → (on_list d ≡ 0) × (counts d ≡ 0) × (was_put d ≡ 0) × ((i : ℕ) → is_loose i d ≡ 0)
+not_put Unscanned e = absurd (omega (arith, e))
+not_put Marked e = (refl, refl, refl, λ i. refl)
+not_put Gone e = (refl, refl, refl, λ i. refl)
+not_put Skipped e = absurd (omega (arith, e))
+not_put Owing e = absurd (omega (arith, e))
+not_put (Loose j) e = absurd (omega (arith, e))
+not_put Counted e = absurd (omega (arith, e))
+
+-- and the batch has scanned it
+pub marked_seen : (d : Debt) (t k : ℕ) → is_marked d ≡ 1 → SeenIs d t k → t < k
+marked_seen Unscanned t k e s = absurd (omega (arith, e))
+marked_seen Marked t k e s = s
+marked_seen Gone t k e s = s
+marked_seen Skipped t k e s = s
+marked_seen Owing t k e s = s
+marked_seen (Loose j) t k e s = s
+marked_seen Counted t k e s = s
 
 rest_marked : (todo : ℕ → List ℕ) (debt : ℕ → ℕ → Debt) (x t : ℕ) (rest : List ℕ) (v : Debt)
     → AllMarked todo debt → todo x ≡ t ∷ rest → is_marked v ≡ 0 → AllMarked (put todo x rest) (put debt x (put (debt x) t v))
@@ -53,23 +83,43 @@ closing_tally n i stage counter debt seen todo x t v rest h hs e y = at (eqb y x
         (rw (p refl) (total_same counts (debt x) (put (debt x) t v) n (λ u. grind (arith, e)))) (h y)
     at false p = h y
 
+-- the entry stands on the slot's list
+pushed_listed : (head : ℕ → Head) (debt : ℕ → ℕ → Debt) (x t c : ℕ) (es : List Entry) → Listed head debt → head t ≡ Active es → on_list (debt x t) ≡ 0
+    → Listed (put head t (Active (record { block = c; batch = x } ∷ es))) (put debt x (put (debt x) t Owing))
+pushed_listed head debt x t c es listed is none y u = at (eqb u t) (eqb-true u t) refl
+  where
+    had : entries y es ≡ on_list (debt y t)
+    had = sym (ap (λ (l : List Entry). entries y l) (ap list_of is)) ∙ listed y t
+
+    there : (q : Bool) → eqb y x ≡ q → u ≡ t → eqb u t ≡ true → same y x + entries y es ≡ on_list (cond q (put (debt x) t Owing) (debt y) u)
+    there true e same_slot here = let one = eqb-true y x e in let k = ap (λ (a : ℕ). on_list (debt a t)) one in grind (arith, e, here, had, k, none)
+    there false e same_slot here = let k = ap (λ (a : ℕ). on_list (debt y a)) same_slot in grind (arith, e, had, k)
+
+    elsewhere : (q : Bool) → eqb y x ≡ q → eqb u t ≡ false → entries y (list_of (head u)) ≡ on_list (cond q (put (debt x) t Owing) (debt y) u)
+    elsewhere true e here = let k = ap (λ (a : ℕ). on_list (debt a u)) (eqb-true y x e) in grind (arith, here, listed y u, k)
+    elsewhere false e here = listed y u
+
+    at : (p : Bool) → (p ≡ true → u ≡ t) → eqb u t ≡ p → entries y (list_of (cond p (Active (record { block = c; batch = x } ∷ es)) (head u))) ≡ on_list (put debt x (put (debt x) t Owing) y u)
+    at true same_slot here = there (eqb y x) refl (same_slot refl) here
+    at false same_slot here = elsewhere (eqb y x) refl here
+
 -- slot t is given an entry
 pub pushed_moves : (n i s : ℕ) (m : State) (x t c : ℕ) (es : List Entry) (rest : List ℕ)
     → Inv n m → m.stage x ≡ Closing i → m.todo x ≡ t ∷ rest → m.head t ≡ Active es → Moved n i s m (Moves.pushed m x t c es rest)
 pushed_moves n i s m x t c es rest inv hs ht h = record {
   inv = record {
     debts = record {
-      listed = λ y u. grind (arith, inv.debts.listed y u, first_marked m.todo m.debt x t rest inv.debts.marked ht);
-      loosed = loose_put m.loose m.from m.debt x t _ inv.debts.loosed (λ j. grind (arith, first_marked m.todo m.debt x t rest inv.debts.marked ht));
+      listed = pushed_listed m.head m.debt x t c es inv.debts.listed h (not_put (m.debt x t) (first_marked m.todo m.debt x t rest inv.debts.marked ht)).0;
+      loosed = loose_put m.loose m.from m.debt x t _ inv.debts.loosed (λ j. grind (arith, (not_put (m.debt x t) (first_marked m.todo m.debt x t rest inv.debts.marked ht)).3 j));
       marked = rest_marked m.todo m.debt x t rest _ inv.debts.marked ht refl;
-      scanned = seen_put m.seen m.debt x t _ inv.debts.scanned (grind (arith, inv.debts.scanned x t, first_marked m.todo m.debt x t rest inv.debts.marked ht));
+      scanned = seen_put m.seen m.debt x t _ inv.debts.scanned (marked_seen (m.debt x t) t (m.seen x) (first_marked m.todo m.debt x t rest inv.debts.marked ht) (inv.debts.scanned x t));
       seen_le = inv.debts.seen_le;
     };
     batches = record {
       fresh = inv.batches.fresh;
       blank = inv.batches.blank;
       tally = closing_tally n i m.stage m.counter m.debt m.seen m.todo x t _ rest inv.batches.tally hs
-          (grind (arith, first_marked m.todo m.debt x t rest inv.debts.marked ht));
+          (grind (arith, (not_put (m.debt x t) (first_marked m.todo m.debt x t rest inv.debts.marked ht)).1));
       mine = inv.batches.mine;
       sole = inv.batches.sole;
       below = inv.batches.below;
@@ -100,27 +150,60 @@ pushed_moves n i s m x t c es rest inv hs ht h = record {
     lives = λ j c e f. (refl, refl);
     lists = λ j c e f. refl;
     taken_slots = λ u e. grind arith;
+    marked = λ j y u ne closing d. (other_marked m.stage m.debt _ j y x u closing (λ e. grind (arith, ne, hs, e)) d, one_grown m.head _ es t u h);
     lengths = λ t l. not_longer _;
   };
 }
 
--- slot t has left
+-- another debt of a batch that waits no longer for the slot
+put_guarded : (debt : ℕ → ℕ → Debt) (x t u : ℕ) (v : Debt) (l : Life) → (Waits (debt x t) → u ≡ t → ⊥) → IsGuarded l debt u → IsGuarded l (put debt x (put (debt x) t v)) u
+put_guarded debt x t u v IsFree never g = g
+put_guarded debt x t u v (IsOwned j) never g = g
+put_guarded debt x t u v IsLinked never g = g
+put_guarded debt x t u v (IsUnlinked j) never g = g
+put_guarded debt x t u v (IsDeferring j s c) never g = g
+put_guarded debt x t u v (IsDeferred c) never g = g
+put_guarded debt x t u v (IsPending j) never g = g
+put_guarded debt x t u v (IsDoomed j) never g = g
+put_guarded debt x t u v (IsLeft j) never g = g
+put_guarded debt x t u v (IsIn y) never g = of_batch (eqb y x) (eqb-true y x)
+  where
+    of_slot : (q : Bool) → (q ≡ true → u ≡ t) → y ≡ x → Waits (cond q v (debt x u))
+    of_slot true same_slot same_batch =
+        let here : Waits (debt x t) = subst (λ (a : ℕ). Waits (debt a t)) same_batch (subst (λ (a : ℕ). Waits (debt y a)) (same_slot refl) g) in
+        absurd (never here (same_slot refl))
+    of_slot false same_slot same_batch = subst (λ (a : ℕ). Waits (debt a u)) same_batch g
+
+    of_batch : (q : Bool) → (q ≡ true → y ≡ x) → Waits (cond q (put (debt x) t v) (debt y) u)
+    of_batch true same_batch = of_slot (eqb u t) (eqb-true u t) (same_batch refl)
+    of_batch false same_batch = g
+
+-- no open section holds a block of a batch whose mark its slot has left
+missed_guarded : (n x t : ℕ) (m : State) → Inv n m → HasLeft m x t → Guarded m.log m.life (put m.debt x (put (m.debt x) t Skipped))
+missed_guarded n x t m inv left u b e = put_guarded m.debt x t u Skipped (m.life b) (never left) (inv.logged.guarded u b e)
+  where
+    never : HasLeft m x t → Waits (m.debt x t) → u ≡ t → ⊥
+    never (inl idle) w same_slot =
+        let active = inv.logged.opens u (held_open u b m.log e) in cc (subst (λ (a : ℕ). is_active (m.head a) ≡ true) same_slot active, idle)
+    never (inr gone) w same_slot = subst (λ (d : Debt). Waits d) gone w
+
+-- slot t has left since it was marked
 pub missed_moves : (n i s : ℕ) (m : State) (x t : ℕ) (rest : List ℕ)
-    → Inv n m → m.stage x ≡ Closing i → m.todo x ≡ t ∷ rest → is_active (m.head t) ≡ false → Moved n i s m (Moves.missed m x t rest)
+    → Inv n m → m.stage x ≡ Closing i → m.todo x ≡ t ∷ rest → HasLeft m x t → Moved n i s m (Moves.missed m x t rest)
 missed_moves n i s m x t rest inv hs ht h = record {
   inv = record {
     debts = record {
-      listed = λ y u. grind (arith, inv.debts.listed y u, first_marked m.todo m.debt x t rest inv.debts.marked ht);
-      loosed = loose_put m.loose m.from m.debt x t _ inv.debts.loosed (λ j. grind (arith, first_marked m.todo m.debt x t rest inv.debts.marked ht));
+      listed = λ y u. grind (arith, inv.debts.listed y u, (not_put (m.debt x t) (first_marked m.todo m.debt x t rest inv.debts.marked ht)).0);
+      loosed = loose_put m.loose m.from m.debt x t _ inv.debts.loosed (λ j. grind (arith, (not_put (m.debt x t) (first_marked m.todo m.debt x t rest inv.debts.marked ht)).3 j));
       marked = rest_marked m.todo m.debt x t rest _ inv.debts.marked ht refl;
-      scanned = seen_put m.seen m.debt x t _ inv.debts.scanned (grind (arith, inv.debts.scanned x t, first_marked m.todo m.debt x t rest inv.debts.marked ht));
+      scanned = seen_put m.seen m.debt x t _ inv.debts.scanned (marked_seen (m.debt x t) t (m.seen x) (first_marked m.todo m.debt x t rest inv.debts.marked ht) (inv.debts.scanned x t));
       seen_le = inv.debts.seen_le;
     };
     batches = record {
       fresh = inv.batches.fresh;
       blank = inv.batches.blank;
       tally = closing_tally n i m.stage m.counter m.debt m.seen m.todo x t _ rest inv.batches.tally hs
-          (grind (arith, first_marked m.todo m.debt x t rest inv.debts.marked ht));
+          (grind (arith, (not_put (m.debt x t) (first_marked m.todo m.debt x t rest inv.debts.marked ht)).1));
       mine = inv.batches.mine;
       sole = inv.batches.sole;
       below = inv.batches.below;
@@ -129,7 +212,7 @@ missed_moves n i s m x t rest inv hs ht h = record {
     };
     places = inv.places;
     logged = record {
-      guarded = λ u b e. grind (arith, inv.logged.guarded u b e, held_open u b m.log e, inv.logged.opens u);
+      guarded = λ u b e. missed_guarded n x t m inv h u b e;
       opens = inv.logged.opens;
       inside = inv.logged.inside;
       reaches = inv.logged.reaches;
@@ -148,9 +231,22 @@ missed_moves n i s m x t rest inv hs ht h = record {
     lives = λ j c e f. (refl, refl);
     lists = λ j c e f. refl;
     taken_slots = λ t e. e;
+    marked = λ j y u ne closing d. (other_marked m.stage m.debt _ j y x u closing (λ e. grind (arith, ne, hs, e)) d, ([], refl));
     lengths = λ t l. not_longer _;
   };
 }
+
+-- what is counted is not marked
+still_marked : (debt : ℕ → ℕ → Debt) (x t y u : ℕ) → put debt x (put (debt x) t Counted) y u ≡ Marked → debt y u ≡ Marked
+still_marked debt x t y u = one (eqb y x) (eqb-true y x)
+  where
+    there : (q : Bool) → y ≡ x → cond q Counted (debt x u) ≡ Marked → debt y u ≡ Marked
+    there true e k = absurd (cc k)
+    there false e k = ap (λ (a : ℕ). debt a u) e ∙ k
+
+    one : (q : Bool) → (q ≡ true → y ≡ x) → cond q (put (debt x) t Counted) (debt y) u ≡ Marked → debt y u ≡ Marked
+    one true e k = there (eqb u t) (e refl) k
+    one false e k = k
 
 -- a batch that stays one with its blocks
 stage_boxed : (stage : ℕ → Stage) (blocks : ℕ → List ℕ) (life : ℕ → Life) (x : ℕ) (v : Stage)
@@ -222,6 +318,7 @@ summed_moves n i s m x small inv hs ht = record {
     lives = λ j c e f. (refl, refl);
     lists = λ j c e f. refl;
     taken_slots = λ t e. e;
+    marked = λ j x t ne closing d. (d, ([], refl));
     lengths = λ t l. not_longer _;
   };
 }
@@ -319,6 +416,7 @@ counted_moves n i s m e es small inv h hd = record {
     lives = λ j c e f. (refl, refl);
     lists = λ j c e f. refl;
     taken_slots = λ t e. e;
+    marked = λ j y u ne closing d. (still_marked m.debt e.batch (m.from i) y u d, ([], refl));
     lengths = λ t l. not_longer _;
   };
 }

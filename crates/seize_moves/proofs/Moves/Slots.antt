@@ -1,12 +1,20 @@
 -- The moves of slots, sections and holds: each keeps the rule, and leaves to the other rows what they know.
-use Rattle.std.proofs.Common.{◌≡◌, ℕ, ◌+◌, ◌<◌, Bool, true, false, cond, eqb, List, [], refl, arith, eqb-true}
+use Rattle.std.proofs.Common.{◌≡◌, ℕ, ◌+◌, ◌<◌, Bool, true, false, cond, eqb, List, [], refl, arith, eqb-true, ap}
 use Rattle.std.proofs.lemmas.Bool.{eqb-false}
 use Rattle.seize.specs.Law.{is_open}
-use Rattle.seize_moves.proofs.State.Ghost.{put, Entry, Head, Idle, Active, Debt, Stage, Unused, Open, Closing, Closed, Dead, State, is_active, is_never, on_list, is_loose, owes, counts, was_put, total, entries}
+use Rattle.seize_moves.proofs.State.Ghost.{put, Entry, Head, Never, Free, Idle, Active, list_of, Debt, Stage, Unused, Open, Closing, Closed, Dead, State, is_active, is_never, on_list, is_loose, owes, counts, was_put, total, entries}
 use Rattle.seize_moves.proofs.State.Rule.{Listed, AllLoose, AtStage, Tally, Inv, Moved, same_row, row_of, same_slot, slot_of, same_batch, batch_of, not_longer}
 use Rattle.seize_moves.proofs.State.Sums.{total_same}
+use Rattle.seize_moves.proofs.State.Grown.{left_grown, none_grown}
 use Rattle.seize_moves.proofs.State.Moves.{loosened, loosened_at}
 use Rattle.seize_moves.proofs.State.Moves
+
+-- a slot that isn't active has no list
+no_list : (h : Head) → is_active h ≡ false → list_of h ≡ []
+no_list Never e = refl
+no_list Free e = refl
+no_list Idle e = refl
+no_list (Active es) e = absurd (cc e)
 
 -- a slot that isn't active is taken; those below it were taken before
 pub registered_moves : (n i s : ℕ) (m : State)
@@ -45,6 +53,7 @@ registered_moves n i s m l inv h first = record {
     lives = λ j c e f. (refl, refl);
     lists = λ j c e f. refl;
     taken_slots = λ t e. grind arith;
+    marked = λ j x t ne closing d. (d, none_grown m.head _ s t (no_list (m.head s) h) refl);
     lengths = λ t l. not_longer _;
   };
 }
@@ -84,6 +93,7 @@ freed_moves n i s m inv h = record {
     lives = λ j c e f. (refl, refl);
     lists = λ j c e f. refl;
     taken_slots = λ t e. grind arith;
+    marked = λ j x t ne closing d. (d, none_grown m.head _ s t (ap list_of h) refl);
     lengths = λ t l. not_longer _;
   };
 }
@@ -124,6 +134,7 @@ entered_moves n i s m inv h = record {
     lives = λ j c e f. (refl, refl);
     lists = λ j c e f. refl;
     taken_slots = λ t e. grind arith;
+    marked = λ j x t ne closing d. (d, none_grown m.head _ s t (ap list_of h) refl);
     lengths = λ t l. not_longer _;
   };
 }
@@ -225,6 +236,7 @@ has_left_moves n i s m es inv h hl none = record {
     lives = λ j c e f. (refl, refl);
     lists = λ j c e f. refl;
     taken_slots = λ t e. grind arith;
+    marked = λ j x t ne closing d. left_grown m.head (m.debt x) _ i s t d;
     lengths = λ t l. not_longer _;
   };
 }
@@ -275,6 +287,7 @@ refreshed_moves n i s m es inv h hl none = record {
     lives = λ j c e f. (refl, refl);
     lists = λ j c e f. refl;
     taken_slots = λ t e. grind arith;
+    marked = λ j x t ne closing d. left_grown m.head (m.debt x) _ i s t d;
     lengths = λ t l. not_longer _;
   };
 }
@@ -306,6 +319,7 @@ reopened_moves n i s m inv h = record {
     lives = λ j c e f. (refl, refl);
     lists = λ j c e f. refl;
     taken_slots = λ t e. e;
+    marked = λ j x t ne closing d. (d, ([], refl));
     lengths = λ t l. not_longer _;
   };
 }
@@ -337,6 +351,7 @@ begins_call_moves n i s m inv h none = record {
     lives = λ j c e f. (refl, refl);
     lists = λ j c e f. refl;
     taken_slots = λ t e. e;
+    marked = λ j x t ne closing d. (d, ([], refl));
     lengths = λ t l. not_longer _;
   };
 }
@@ -367,6 +382,7 @@ ends_call_moves n i s m inv none = record {
     lives = λ j c e f. (refl, refl);
     lists = λ j c e f. refl;
     taken_slots = λ t e. e;
+    marked = λ j x t ne closing d. (d, ([], refl));
     lengths = λ t l. not_longer _;
   };
 }
@@ -398,6 +414,7 @@ held_moves n i s m inv h = record {
     lives = λ j c e f. (refl, refl);
     lists = λ j c e f. refl;
     taken_slots = λ t e. e;
+    marked = λ j x t ne closing d. (d, ([], refl));
     lengths = λ t l. not_longer _;
   };
 }
@@ -430,6 +447,7 @@ gave_moves n i s m inv h unseen untried = record {
     lives = λ j c e f. (refl, refl);
     lists = λ j c e f. refl;
     taken_slots = λ t e. e;
+    marked = λ j x t ne closing d. (d, ([], refl));
     lengths = λ t l. not_longer _;
   };
 }

@@ -96,6 +96,7 @@ gives_up_moves n i s m x inv hs hz hl = record {
     lives = λ j c e f. grind arith;
     lists = λ j c e f. refl;
     taken_slots = λ t e. e;
+    marked = λ j x t ne closing d. (d, ([], refl));
     lengths = λ t l. not_longer _;
   };
 }
@@ -138,6 +139,7 @@ drained_moves n i s m b inv h = record {
     lives = λ j c e f. grind arith;
     lists = λ j c e f. grind arith;
     taken_slots = λ t e. e;
+    marked = λ j x t ne closing d. (d, ([], refl));
     lengths = λ t l. not_longer _;
   };
 }
@@ -167,6 +169,7 @@ joined_moves n i s m inv = record {
     lives = λ j c e f. (refl, refl);
     lists = λ j c e f. refl;
     taken_slots = λ t e. e;
+    marked = λ j x t ne closing d. (d, ([], refl));
     lengths = λ t l. not_longer _;
   };
 }
@@ -219,6 +222,7 @@ taken_moves n i s m b bs inv hl h hd = record {
     lives = λ j c e f. grind arith;
     lists = λ j c e f. refl;
     taken_slots = λ t e. e;
+    marked = λ j x t ne closing d. (d, ([], refl));
     lengths = λ t l. not_longer _;
   };
 }

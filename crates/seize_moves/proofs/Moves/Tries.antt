@@ -8,6 +8,7 @@ use Rattle.seize_moves.proofs.State.Ghost.{put, Entry, Head, Debt, Unscanned, St
 use Rattle.seize_moves.proofs.State.Rule.{Housed, IsLive, Boxed, SameUnlessDead, AllLoose, SeenIs, Scanned, AtStage, Tally, Guarded, Opens, Inv, Moved, same_row, row_of, same_slot, slot_of, not_longer, open_length, retirals}
 use Rattle.seize_moves.proofs.State.Logs.{held_open}
 use Rattle.seize_moves.proofs.State.Sums.{total-put, total_zero, total_none, total_same, put_parts}
+use Rattle.seize_moves.proofs.State.Grown.{other_marked}
 use Rattle.seize_moves.proofs.State.Moves.{passed, passed_all}
 use Rattle.seize_moves.proofs.State.Moves
 
@@ -81,6 +82,7 @@ skipped_moves n i s m x t inv hs hh hx l h = record {
     lives = λ j c e f. (refl, refl);
     lists = λ j c e f. refl;
     taken_slots = λ t e. e;
+    marked = λ j y u ne closing d. (other_marked m.stage m.debt _ j y x u closing (λ e. grind (arith, hs, e)) d, ([], refl));
     lengths = λ t l. not_longer _;
   };
 }
@@ -128,6 +130,7 @@ marked_moves n i s m x t inv hs hh hx l = record {
     lives = λ j c e f. (refl, refl);
     lists = λ j c e f. refl;
     taken_slots = λ t e. e;
+    marked = λ j y u ne closing d. (other_marked m.stage m.debt _ j y x u closing (λ e. grind (arith, hs, e)) d, ([], refl));
     lengths = λ t l. not_longer _;
   };
 }
@@ -178,6 +181,7 @@ given_up_moves n i s m x inv hs hh = record {
     lives = λ j c e f. (refl, refl);
     lists = λ j c e f. refl;
     taken_slots = λ t e. e;
+    marked = λ j y u ne closing d. (other_marked m.stage m.debt _ j y x u closing (λ e. grind (arith, hs, e)) d, ([], refl));
     lengths = λ t l. not_longer _;
   };
 }
@@ -324,6 +328,7 @@ closed_moves n i s m x inv hs hh none rest = record {
     lives = λ j c e f. (refl, refl);
     lists = λ j c e f. refl;
     taken_slots = λ t e. e;
+    marked = λ j y u ne closing d. (other_marked m.stage m.debt _ j y x u closing (λ e. grind (arith, hs, e)) d, ([], refl));
     lengths = λ t l. let p = closed_length n s t m inv in omega (arith, p);
   };
 }
@@ -393,6 +398,7 @@ appended_moves n i s m b bs x inv hs hh hx hp h = record {
     lives = λ j c e f. grind arith;
     lists = λ j c e f. refl;
     taken_slots = λ t e. e;
+    marked = λ j x t ne closing d. (d, ([], refl));
     lengths = λ t l. appended_length n s t m b x hs l inv;
   };
 }

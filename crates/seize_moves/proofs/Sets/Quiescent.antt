@@ -2,7 +2,7 @@
 use Rattle.std.proofs.Common.{◌≡◌, ℕ, ◌<◌, true, false, [], refl, arith}
 use Rattle.seize.specs.Law.{is_retired}
 use Rattle.seize_waiting.specs.Held.{count}
-use Rattle.seize_moves.proofs.State.Ghost.{State, Debt, Unscanned, Marked, Skipped, Owing, Loose, Counted, Stage, Unused, Open, Closing, Closed, Dead, Life, IsFree, IsOwned, IsLinked, IsUnlinked, IsDeferring, IsDeferred, IsPending, IsIn, IsDoomed, IsLeft, is_active, owes}
+use Rattle.seize_moves.proofs.State.Ghost.{State, Debt, Unscanned, Marked, Gone, Skipped, Owing, Loose, Counted, Stage, Unused, Open, Closing, Closed, Dead, Life, IsFree, IsOwned, IsLinked, IsUnlinked, IsDeferring, IsDeferred, IsPending, IsIn, IsDoomed, IsLeft, is_active, owes}
 use Rattle.seize_moves.proofs.Sets.Shown.{is_shut}
 use Rattle.seize_moves.proofs.State.Rule.{Inv, Pending}
 use Rattle.seize_moves.proofs.State.Sums.{total_some}
@@ -29,6 +29,7 @@ none_owes n x t m inv q = one (m.debt x t) refl
     one : (d : Debt) → m.debt x t ≡ d → owes d ≡ 0
     one Unscanned e = refl
     one Marked e = refl
+    one Gone e = refl
     one Skipped e = refl
     one Owing e = absurd (grind (arith, inv.debts.listed x t, q.slots t))
     one (Loose i) e = absurd (grind (arith, inv.debts.loosed x t i, (q.rows i).loose))

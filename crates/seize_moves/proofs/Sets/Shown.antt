@@ -4,12 +4,13 @@ use Rattle.std.proofs.Common.{◌≡◌, ℕ, zero, suc, ◌<◌, ◌≤◌, Boo
 use Rattle.seize.specs.WaitingSets.{Batch, Sets, further_of, at_start}
 use Rattle.seize_waiting.specs.Held.{count}
 use Rattle.seize_waiting.proofs.Counts.{map_same, filter_same}
-use Rattle.seize_moves.proofs.State.Ghost.{Debt, Unscanned, Marked, Skipped, Owing, Loose, Counted, Stage, Unused, Open, Closing, Closed, Dead, Entry, State, list_of, is_active, opening, start}
+use Rattle.seize_moves.proofs.State.Ghost.{Debt, Unscanned, Marked, Gone, Skipped, Owing, Loose, Counted, Stage, Unused, Open, Closing, Closed, Dead, Entry, State, list_of, is_active, opening, start}
 
 -- the batch waits for this slot, whether its entry is still to be put, is on the list, or taken and not yet counted
 abbrev pub waits : Debt → Bool
 waits Unscanned = false
 waits Marked = true
+waits Gone = true
 waits Skipped = false
 waits Owing = true
 waits (Loose i) = true
@@ -18,6 +19,7 @@ waits Counted = false
 abbrev pub is_owing : Debt → Bool
 is_owing Unscanned = false
 is_owing Marked = false
+is_owing Gone = false
 is_owing Skipped = false
 is_owing Owing = true
 is_owing (Loose i) = false

@@ -5,7 +5,7 @@ use Rattle.std.proofs.lemmas.Bool.{eqb-false, lt-ltb}
 use Rattle.seize.specs.WaitingSets.{Batch, Sets, with_open, closing}
 use Rattle.seize_waiting.specs.Held.{count}
 use Rattle.seize_waiting.proofs.Counts.{map_same, filter_same}
-use Rattle.seize_moves.proofs.State.Ghost.{put, Debt, Unscanned, Marked, Skipped, Owing, Loose, Counted, Open, Closing, Entry, Head, Active, State, was_put, list_of, is_active}
+use Rattle.seize_moves.proofs.State.Ghost.{put, Debt, Unscanned, Marked, Gone, Skipped, Owing, Loose, Counted, Open, Closing, Entry, Head, Active, State, was_put, list_of, is_active}
 use Rattle.seize_moves.proofs.State.Rule.{Inv}
 use Rattle.seize_moves.proofs.State.Sums.{total_zero}
 use Rattle.seize_moves.proofs.Sets.Shown.{waits, is_owing, is_shut, ascending, ascending_same, batch_shown, batches_in, listed_in, Models, shut_in}
@@ -21,6 +21,7 @@ none_owing n s x t m inv e = at (m.debt x t) refl (ltb t n) refl
     at : (d : Debt) → m.debt x t ≡ d → (b : Bool) → ltb t n ≡ b → is_owing d ≡ false
     at Unscanned k b l = refl
     at Marked k b l = refl
+    at Gone k b l = refl
     at Skipped k b l = refl
     at Owing k b l = absurd (grind (arith, inv.batches.tally x, inv.debts.scanned x t, inv.debts.seen_le x, total_zero was_put (m.debt x) n t))
     at (Loose i) k b l = refl

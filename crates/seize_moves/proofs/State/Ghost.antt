@@ -23,6 +23,7 @@ pub data Head : Type 0 where
 pub data Debt : Type 0 where
   Unscanned : Debt
   Marked : Debt  -- the slot is to be given an entry
+  Gone : Debt  -- it was to be given one, and its section has ended since
   Skipped : Debt
   Owing : Debt  -- an entry of the batch is on the slot's list
   Loose : ℕ → Debt  -- the entry is taken off the list, and this row hasn't counted it yet
@@ -105,6 +106,7 @@ emptied (Active es) = Active []
 abbrev pub is_marked : Debt → ℕ
 is_marked Unscanned = 0
 is_marked Marked = 1
+is_marked Gone = 1
 is_marked Skipped = 0
 is_marked Owing = 0
 is_marked (Loose i) = 0
@@ -113,6 +115,7 @@ is_marked Counted = 0
 abbrev pub on_list : Debt → ℕ
 on_list Unscanned = 0
 on_list Marked = 0
+on_list Gone = 0
 on_list Skipped = 0
 on_list Owing = 1
 on_list (Loose i) = 0
@@ -121,6 +124,7 @@ on_list Counted = 0
 abbrev pub is_loose : ℕ → Debt → ℕ
 is_loose i Unscanned = 0
 is_loose i Marked = 0
+is_loose i Gone = 0
 is_loose i Skipped = 0
 is_loose i Owing = 0
 is_loose i (Loose j) = same i j
@@ -130,6 +134,7 @@ is_loose i Counted = 0
 abbrev pub owes : Debt → ℕ
 owes Unscanned = 0
 owes Marked = 0
+owes Gone = 0
 owes Skipped = 0
 owes Owing = 1
 owes (Loose i) = 1
@@ -138,6 +143,7 @@ owes Counted = 0
 abbrev pub counts : Debt → ℕ
 counts Unscanned = 0
 counts Marked = 0
+counts Gone = 0
 counts Skipped = 0
 counts Owing = 0
 counts (Loose i) = 0
@@ -147,6 +153,7 @@ counts Counted = 1
 abbrev pub was_put : Debt → ℕ
 was_put Unscanned = 0
 was_put Marked = 0
+was_put Gone = 0
 was_put Skipped = 0
 was_put Owing = 1
 was_put (Loose i) = 1

@@ -1,7 +1,7 @@
 -- The moves: the few changes of the state that the program points of all rows come down to. What each one asks for stands with its lemma.
 use Rattle.std.proofs.Common.{ℕ, ◌+◌, ◌-◌, ◌%◌, ◌^◌, ◌++◌, Bool, cond, eqb, ltb, List, [], ◌∷◌}
 use Rattle.seize.specs.Law.{Entered, Left, Made, Linked, Unlinked, Deferred, Retired, Taken, Dropped, Ended, LeftOver}
-use Rattle.seize_moves.proofs.State.Ghost.{put, Entry, Free, Idle, Active, Debt, Unscanned, Marked, Skipped, Owing, Loose, Counted, Open, Closing, Closed, Dead, Life, IsFree, IsOwned, IsLinked, IsUnlinked, IsDeferring, IsDeferred, IsPending, IsIn, IsDoomed, IsLeft, State, was_put, total}
+use Rattle.seize_moves.proofs.State.Ghost.{put, Entry, Free, Idle, Active, Debt, Unscanned, Marked, Gone, Skipped, Owing, Loose, Counted, Open, Closing, Closed, Dead, Life, IsFree, IsOwned, IsLinked, IsUnlinked, IsDeferring, IsDeferred, IsPending, IsIn, IsDoomed, IsLeft, State, was_put, total}
 
 -- blocks
 
@@ -45,13 +45,14 @@ entered m s = record m { head = put m.head s (Active []); log = Entered s ∷ m.
 
 abbrev pub loosened : ℕ → Debt → Debt
 loosened i Unscanned = Unscanned
-loosened i Marked = Marked
+loosened i Marked = Gone
+loosened i Gone = Gone
 loosened i Skipped = Skipped
 loosened i Owing = Loose i
 loosened i (Loose j) = Loose j
 loosened i Counted = Counted
 
--- row i has the entries of slot s in its hands
+-- row i has the entries of slot s in its hands, and no batch that marked it has to give it one any more
 abbrev pub loosened_at : ℕ → ℕ → (ℕ → Debt) → ℕ → Debt
 loosened_at i s d t = cond (eqb t s) (loosened i (d t)) (d t)
 
@@ -123,6 +124,7 @@ given_up m x = record m { debt = put m.debt x (λ t. Unscanned); seen = put m.se
 abbrev pub passed : Debt → Debt
 passed Unscanned = Skipped
 passed Marked = Marked
+passed Gone = Gone
 passed Skipped = Skipped
 passed Owing = Owing
 passed (Loose j) = Loose j
@@ -153,7 +155,7 @@ pushed m x t c es rest =
       todo = put m.todo x rest;
     }
 
--- slot t, the first to do, isn't active any more
+-- slot t, the first to do, has left since it was marked
 abbrev pub missed : State → ℕ → ℕ → List ℕ → State
 missed m x t rest = record m { debt = put m.debt x (put (m.debt x) t Skipped); todo = put m.todo x rest }
 

@@ -1,8 +1,8 @@
 -- The rule: what holds of the state between any two moves, and what a move of one row leaves to the others.
-use Rattle.std.proofs.Common.{◌≡◌, ℕ, ◌+◌, ◌%◌, ◌^◌, ◌<◌, ◌≤◌, Bool, true, false, cond, eqb, List, [], ◌∷◌, length, refl, arith}
+use Rattle.std.proofs.Common.{◌≡◌, ℕ, ◌+◌, ◌%◌, ◌^◌, ◌<◌, ◌≤◌, Bool, true, false, cond, eqb, List, [], ◌∷◌, ◌++◌, length, ◌⊎◌, refl, arith}
 use Rattle.seize.specs.Law.{Effect, Retired, where_is, is_open, holds, was_linked, is_retired, IsSound}
 use Rattle.seize_waiting.specs.Held.{count}
-use Rattle.seize_moves.proofs.State.Ghost.{Entry, Head, Never, Debt, Unscanned, Marked, Skipped, Owing, Loose, Counted, Stage, Unused, Open, Closing, Closed, Dead, Life, IsFree, IsOwned, IsLinked, IsUnlinked, IsDeferring, IsDeferred, IsPending, IsIn, IsDoomed, IsLeft, State, entries, list_of, is_active, is_never, emptied, is_marked, on_list, is_loose, owes, counts, was_put, total, is_in, is_doomed, is_pending, is_deferred, is_given, is_used, of_row, lies_with, can_carry, place_of}
+use Rattle.seize_moves.proofs.State.Ghost.{Entry, Head, Never, Debt, Unscanned, Marked, Gone, Skipped, Owing, Loose, Counted, Stage, Unused, Open, Closing, Closed, Dead, Life, IsFree, IsOwned, IsLinked, IsUnlinked, IsDeferring, IsDeferred, IsPending, IsIn, IsDoomed, IsLeft, State, entries, list_of, is_active, is_never, emptied, is_marked, on_list, is_loose, owes, counts, was_put, total, is_in, is_doomed, is_pending, is_deferred, is_given, is_used, of_row, lies_with, can_carry, place_of}
 
 -- a slot's list has just the entries that it owes, each once
 abbrev pub Listed : (ℕ → Head) → (ℕ → ℕ → Debt) → Type 0
@@ -18,6 +18,7 @@ AllMarked todo debt = (x t : ℕ) → count t (todo x) ≡ is_marked (debt x t)
 abbrev pub SeenIs : Debt → ℕ → ℕ → Type 0
 SeenIs Unscanned t k = k ≤ t
 SeenIs Marked t k = t < k
+SeenIs Gone t k = t < k
 SeenIs Skipped t k = t < k
 SeenIs Owing t k = t < k
 SeenIs (Loose i) t k = t < k
@@ -67,6 +68,7 @@ Tally n stage counter debt seen todo = (x : ℕ) → AtStage n (stage x) (counte
 abbrev pub Waits : Debt → Type 0
 Waits Unscanned = Unit {0}
 Waits Marked = Unit {0}
+Waits Gone = ⊥
 Waits Skipped = ⊥
 Waits Owing = Unit {0}
 Waits (Loose i) = ⊥
@@ -260,6 +262,14 @@ retirals (_ ∷ log) = retirals log
 abbrev pub open_length : State → ℕ → ℕ
 open_length m t = length (m.blocks (m.open_batch t))
 
+-- a slot that was marked by this batch needs no entry: it isn't active, or has left since
+abbrev pub HasLeft : State → ℕ → ℕ → Type 0
+HasLeft m x t = (is_active (m.head t) ≡ false) ⊎ (m.debt x t ≡ Gone)
+
+-- a list of which nothing was taken: whatever is new stands before the rest
+abbrev pub Grows : List Entry → List Entry → Type 0
+Grows es es2 = (front : List Entry) × (es2 ≡ front ++ es)
+
 pub not_longer : (k : ℕ) → k ≤ k
 not_longer k = omega arith
 
@@ -272,6 +282,8 @@ pub record Keeps (n i s : ℕ) (m m2 : State) : Type 0 where
   pub lives : (j c : ℕ) → (j ≡ i → ⊥) → of_row j (m.life c) ≡ true → (m2.life c ≡ m.life c) × (m2.carrier c ≡ m.carrier c)
   pub lists : (j c : ℕ) → (j ≡ i → ⊥) → m.life c ≡ IsDoomed j → m2.deferred c ≡ m.deferred c
   pub taken_slots : (t : ℕ) → is_never (m.head t) ≡ false → is_never (m2.head t) ≡ false
+  -- a slot that another's batch has marked, and that has not left since: it was marked before, and its list has only grown
+  pub marked : (j x t : ℕ) → (j ≡ i → ⊥) → m.stage x ≡ Closing j → m2.debt x t ≡ Marked → (m.debt x t ≡ Marked) × Grows (list_of (m.head t)) (list_of (m2.head t))
   pub lengths : (t : ℕ) → t < n → open_length m2 t + cond (eqb t s) (retirals m.log) 0 ≤ open_length m t + cond (eqb t s) (retirals m2.log) 0
 
 pub record Moved (n i s : ℕ) (m m2 : State) : Type 0 where

@@ -1,8 +1,9 @@
 -- The rule at the start, moves one after another, and what a row may rely on within a section.
-use Rattle.std.proofs.Common.{◌≡◌, ℕ, ◌≤◌, ◌+◌, Bool, true, false, eqb, refl, arith, eqb-true}
+use Rattle.std.proofs.Common.{◌≡◌, ℕ, ◌≤◌, ◌+◌, Bool, true, false, eqb, [], refl, arith, ◌∙◌, eqb-true}
 use Rattle.std.proofs.lemmas.Bool.{eqb-false}
-use Rattle.seize_moves.proofs.State.Ghost.{State, Stage, Unused, Open, Closing, Closed, Dead, is_never, IsDoomed, was_put, start}
-use Rattle.seize_moves.proofs.State.Rule.{Inv, IsOf, SameRow, SameBatch, SameSlot, row_of, batch_of, slot_of, same_row, same_batch, same_slot, Keeps, Moved, Pending, not_longer}
+use Rattle.seize_moves.proofs.State.Ghost.{State, Stage, Unused, Open, Closing, Closed, Dead, is_never, IsDoomed, Marked, was_put, start, list_of}
+use Rattle.seize_moves.proofs.State.Rule.{Inv, IsOf, SameRow, SameBatch, SameSlot, row_of, batch_of, slot_of, same_row, same_batch, same_slot, Grows, Keeps, Moved, Pending, not_longer}
+use Rattle.seize_moves.proofs.State.Grown.{grows_then}
 use Rattle.seize_moves.proofs.State.Sums.{total_none}
 
 pub rule_start : (n : ℕ) → Inv n (start n)
@@ -54,6 +55,7 @@ stays n i s m inv = record {
     lives = λ j c e f. (refl, refl);
     lists = λ j c e f. refl;
     taken_slots = λ t e. e;
+    marked = λ j x t ne closing d. (d, ([], refl));
     lengths = λ t l. not_longer _;
   };
 }
@@ -110,12 +112,20 @@ then n i s m m2 m3 a b k = record {
     lives = λ j c e f. let p = a.keeps.lives j c e f in let q = b.keeps.lives j c e (rw (p.0) f) in (cc (p.0, q.0), cc (p.1, q.1));
     lists = λ j c e f. let p = a.keeps.lists j c e f in cc (p, b.keeps.lists j c e (doomed_still j c e f));
     taken_slots = λ t e. b.keeps.taken_slots t (a.keeps.taken_slots t e);
+    marked = marked_still;
     lengths = λ t l. let p = a.keeps.lengths t l in let q = b.keeps.lengths t l in omega (arith, p, q);
   };
 }
   where
     doomed_still : (j c : ℕ) → (j ≡ i → ⊥) → m.life c ≡ IsDoomed j → m2.life c ≡ IsDoomed j
     doomed_still j c e f = cc ((a.keeps.lives j c e (grind (arith, f))).0, f)
+
+    marked_still : (j x t : ℕ) → (j ≡ i → ⊥) → m.stage x ≡ Closing j → m3.debt x t ≡ Marked → (m.debt x t ≡ Marked) × Grows (list_of (m.head t)) (list_of (m3.head t))
+    marked_still j x t ne closing d =
+        let p = a.keeps.batches j x ne (rw closing (grind arith)) in
+        let q = b.keeps.marked j x t ne (p.stage ∙ closing) d in
+        let r = a.keeps.marked j x t ne closing q.0 in
+        (r.0, grows_then (list_of (m.head t)) (list_of (m2.head t)) (list_of (m3.head t)) r.1 q.1)
 
     section_still : (j t : ℕ) → m.section j ≡ t + 1 → m2.section j ≡ t + 1
     section_still j t e = at (eqb j i) (eqb-true j i) (eqb-false j i)

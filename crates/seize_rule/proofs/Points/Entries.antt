@@ -11,7 +11,7 @@ use Rattle.seize.specs.declared.rows.settle.Settled.{Settled}
 use Rattle.seize.specs.declared.rows.settle.Settled.TheVariants.{Goes}
 use Rattle.seize.specs.declared.rows.settle.Settling.TheVariants as at
 use Rattle.seize.specs.Settle.{standing, goes, slot_read, reads, links, next_pushed, pushed_next}
-use Rattle.seize_moves.proofs.State.Ghost.{State}
+use Rattle.seize_moves.proofs.State.Ghost.{State, list_of}
 use Rattle.seize_moves.proofs.State.Rule.{Inv}
 use Rattle.seize_moves.proofs.State.Together.{stays}
 use Rattle.seize_moves.proofs.State.Moves.{pushed}
@@ -24,6 +24,7 @@ use Rattle.seize_rule.proofs.Points.Aside.{aside_same}
 use Rattle.seize_rule.proofs.Points.Told.{Pushing, Stays}
 use Rattle.seize_rule.proofs.Points.Stepped.{HasWords, Went, went_loaded, went_written}
 use Rattle.seize_rule.proofs.Points.Known.{Reads, Links, Pushed, bare}
+use Rattle.seize_rule.proofs.Points.Lost.{behind_none}
 use Rattle.seize_rule.proofs.Points.Retire.{of_link}
 
 module _ {T : Type 0} (defers : T → Option ℕ) (n i : ℕ) (mem mem2 : Mem T) (m : State) (x : Extra) (c : Settle) (end : Settle × Settled T)
@@ -36,7 +37,7 @@ module _ {T : Type 0} (defers : T → Option ℕ) (n i : ℕ) (mem mem2 : Mem T)
       let p = r.shuts in
       let mark : (view defers mem).links r.d ≡ r.t = mark_read n i r.y r.d r.t r.rs r.ts (view defers mem) m x v p.rest_is p.todo p.aimed_is in
       let w : l.0 ≡ r.t = sym (word_found mem (Entry (block / 2048) LINK) l.0 l.1) ∙ ap (λ a. words_of mem (Entry a LINK)) (of_link block r.d r.block_is) ∙ mark in
-      went_loaded defers n i c Pushing mem m x [] mem2 (standing c (at.Links block left pushed l.0 ACTIVE)) Goes end tt l.3 l.2
+      went_loaded defers n i c Pushing mem m x [] mem2 (record c { lost = 0; stands = at.Links block left pushed l.0 ACTIVE }) Goes end tt l.3 l.2
       (record {
         m2 = m;
         x2 = aimed_at x r.y;
@@ -81,6 +82,7 @@ module _ {T : Type 0} (defers : T → Option ℕ) (n i : ℕ) (mem mem2 : Mem T)
           };
           slot_is = w;
           active = omega arith;
+          lost = λ d. behind_none (list_of (m.head r.t));
         };
       })
 

@@ -5,9 +5,9 @@ use Rattle.seize.specs.declared.rows.settle.Settle.{Settle}
 use Rattle.seize.specs.declared.rows.settle.Settling.{Settling}
 use Rattle.seize.specs.declared.rows.settle.Settling.TheVariants as at
 use Rattle.seize_waiting.specs.Held.{count}
-use Rattle.seize_moves.proofs.State.Ghost.{Entry, Head, Closing, State, is_never, was_put, total}
+use Rattle.seize_moves.proofs.State.Ghost.{Entry, Head, Marked as MarkedDebt, Closing, State, list_of, is_never, was_put, total}
 use Rattle.seize_rule.proofs.Words.Named.{link}
-use Rattle.seize_rule.proofs.Words.Chains.{first_or, last_of}
+use Rattle.seize_rule.proofs.Words.Chains.{first_or, last_of, blocks_of}
 use Rattle.seize_rule.proofs.Words.View.{View}
 use Rattle.seize_rule.proofs.Words.Shows.{Extra}
 use Rattle.seize_rule.proofs.Written.Append.{awaits}
@@ -243,10 +243,23 @@ pub record Reads (n i : ℕ) (m : State) (x : Extra) (c : Settle) (block left pu
   pub block_is : block ≡ link d
   pub room : length ts ≤ length rs
 
+-- At least so many of the entries stand from this word on, which is the link of the first of them, or ends the list.
+pub record Behind (es : List Entry) (head k : ℕ) : Type 0 where
+  pub front : List Entry
+  pub back : List Entry
+  pub split : es ≡ front ++ back
+  pub from : first_or 3 (blocks_of back) ≡ head
+  pub many : k ≤ length back
+
+-- As long as the slot that the batch has marked has not left, its list has had a further entry with each exchange that the push has lost.
+abbrev pub Lost : State → ℕ → ℕ → ℕ → ℕ → Type 0
+Lost m y t head k = m.debt y t ≡ MarkedDebt → Behind (list_of (m.head t)) head k
+
 pub record Links (n i : ℕ) (m : State) (x : Extra) (c : Settle) (block left pushed slot head : ℕ) : Type 0 where
   pub reads : Reads n i m x c block left pushed true
   pub slot_is : slot ≡ reads.t
   pub active : 2 < head
+  pub lost : Lost m reads.y reads.t head c.lost
 
 pub record Pushes (n i : ℕ) (f : View) (m : State) (x : Extra) (c : Settle) (block left pushed slot head : ℕ) : Type 0 where
   pub links : Links n i m x c block left pushed slot head

@@ -4,7 +4,7 @@ use Rattle.seize.specs.declared.rows.settle.Settle.{Settle}
 use Rattle.seize.specs.declared.rows.settle.Settling.{Settling}
 use Rattle.seize.specs.declared.rows.settle.Settling.TheVariants as at
 use Rattle.seize_waiting.specs.Held.{count}
-use Rattle.seize_moves.proofs.State.Ghost.{Entry, Stage, Open, Closing, Life, IsPending, IsDoomed, State, is_doomed}
+use Rattle.seize_moves.proofs.State.Ghost.{Entry, Stage, Open, Closing, Life, IsPending, IsDoomed, State, list_of, is_doomed}
 use Rattle.seize_moves.proofs.State.Rule.{IsOf, Inv, Keeps}
 use Rattle.seize_rule.proofs.Words.Chains.{count_first}
 use Rattle.seize_rule.proofs.Words.View.{View}
@@ -13,6 +13,7 @@ use Rattle.seize_rule.proofs.Written.Marks.{is_unspent_one}
 use Rattle.seize_rule.proofs.Written.Append.{awaits}
 use Rattle.seize_moves.proofs.Moves.Tries.{first_pending}
 use Rattle.seize_moves.proofs.Moves.Takes.{first_doomed}
+use Rattle.seize_rule.proofs.Points.Lost.{behind_grown}
 use Rattle.seize_rule.proofs.Points.Known.{AllTaken, AllFresh, TakenBelow, Empty, Outside, Common, Holding, MayHold, open_blocks, Rest, Retiring, Putting, Batches, Ends, Appends, Counts, Tries, Shuts, Reads, Links, Pushed, Backs, Drains, Owns, FirstsOf, FitsAt}
 
 of_open : (j s : ℕ) (holder : ℕ → ℕ) (g : Stage) → g ≡ Open s → holder s ≡ j + 1 → IsOf j holder g ≡ true
@@ -232,7 +233,12 @@ module _ (n i s j : ℕ) (f g : View) (m m2 : State) (x y : Extra) (k : Keeps n 
   }
 
   abbrev links_last : (c : Settle) (block left pushed slot head : ℕ) → Links n j m x c block left pushed slot head → Links n j m2 y c block left pushed slot head
-  links_last c block left pushed slot head r = record { reads = reads_last c block left pushed true r.reads; slot_is = r.slot_is; active = r.active }
+  links_last c block left pushed slot head r = record {
+    reads = reads_last c block left pushed true r.reads;
+    slot_is = r.slot_is;
+    active = r.active;
+    lost = λ d. let a = k.marked j r.reads.y r.reads.t ne r.reads.shuts.stage d in behind_grown (list_of (m.head r.reads.t)) (list_of (m2.head r.reads.t)) head c.lost a.1 (r.lost a.0);
+  }
 
   -- the link of the block whose entry is to be pushed
   aimed_link : (z d : ℕ) (rs : List ℕ) → m.stage z ≡ Closing j → x.rest z ≡ d ∷ rs → g.links d ≡ f.links d

@@ -202,7 +202,7 @@ module _ {T : Type 0} (defers : T → Option ℕ) (n i : ℕ) (mem : Mem T) (m :
   may_at (at.Pushes block left pushed slot head) r =
       may_exchange mem (plans.push_told c block left pushed slot) (Slot slot HEAD) head block
       (words.slots slot HEAD (omega arith) (subst (λ (t : ℕ). is_never (m.head t) ≡ false) (sym r.links.slot_is) (taken_in m.head r.links.reads.t r.links.reads.ts r.links.reads.shuts.active)))
-      (λ w e. tt) (λ w e. see_if (value_at mem) (nat_lt w ACTIVE) _ _ tt tt)
+      (λ w e. tt) (λ w e. see_if (value_at mem) (plans.needs_none c w) _ _ tt tt)
   may_at (at.Pushed block left pushed) r =
       may_load mem (plans.next_pushed c left pushed) (Entry (block / 2048) NEXT)
       (entry_at block r.d NEXT r.block_is (omega arith) (shut_lives r.y r.shuts.stage r.before (r.e ∷ r.rs) r.d r.blocks)) (λ w e. tt)

@@ -1,9 +1,10 @@
 -- A scan that finds a slot never taken is over: no slot behind it was ever taken, and all of them are passed in one move.
-use Rattle.std.proofs.Common.{◌≡◌, ℕ, ◌+◌, ◌<◌, ◌≤◌, Bool, true, false, cond, eqb, List, refl, arith, eqb-true}
+use Rattle.std.proofs.Common.{◌≡◌, ℕ, ◌+◌, ◌<◌, ◌≤◌, Bool, true, false, cond, eqb, List, [], refl, arith, eqb-true}
 use Rattle.seize_moves.proofs.State.Ghost.{put, Debt, Stage, Open, State, is_active, was_put}
 use Rattle.seize_moves.proofs.State.Rule.{Inv, Moved, AtStage, Tally, same_row, row_of, same_slot, slot_of, not_longer}
 use Rattle.seize_moves.proofs.State.Moves.{passed_all}
 use Rattle.seize_moves.proofs.Moves.Tries.{passed_loose, passed_scanned, passed_guarded, passed_total, passed_put}
+use Rattle.seize_moves.proofs.State.Grown.{other_marked}
 use Rattle.seize_rule.proofs.Words.View.{View}
 use Rattle.seize_rule.proofs.Words.Shows.{Extra, Shows, Written, keeps_like}
 
@@ -60,6 +61,7 @@ passed_rest_moves n i s m x inv hs hh rest = record {
     lives = λ j c e f. (refl, refl);
     lists = λ j c e f. refl;
     taken_slots = λ t e. e;
+    marked = λ j y t ne closing d. (other_marked m.stage m.debt _ j y x t closing (λ e. grind (arith, hs, e)) d, ([], refl));
     lengths = λ t l. not_longer _;
   };
 }

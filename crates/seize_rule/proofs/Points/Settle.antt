@@ -56,7 +56,7 @@ module _ {T : Type 0} (defers : T → Option ℕ) (n i : ℕ) (mem mem2 : Mem T)
   settle_steps (at.Closes marks) e o r st = closes_steps defers n i mem mem2 m x c end inv v last words marks r st
   settle_steps (at.Reads block left pushed) e o r st = reads_steps defers n i mem mem2 m x c end inv v block left pushed r st
   settle_steps (at.Links block left pushed slot head) e o r st = links_steps defers n i mem mem2 m x c end inv v block left pushed slot head words r st
-  settle_steps (at.Pushes block left pushed slot head) e o r st = pushes_steps defers n i mem mem2 m x c end small inv v block left pushed slot head r st
+  settle_steps (at.Pushes block left pushed slot head) e o r st = pushes_steps defers n i mem mem2 m x c end small words inv v block left pushed slot head r st
   settle_steps (at.Pushed block left pushed) e o r st = pushed_steps defers n i mem mem2 m x c end inv v block left pushed r st
   settle_steps (at.Sums pushed) e o r st = sums_steps defers n i mem mem2 m x c end small inv v pushed r st
   settle_steps at.Nexts e o r st = nexts_steps defers n i mem m x c inv v mem2 end r st

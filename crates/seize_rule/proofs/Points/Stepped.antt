@@ -1,6 +1,6 @@
 -- What a step of a settling row comes to: a move, words that show the state after it, and what the row knows then.
 use Rattle.std.specs.Prelude.{Option, Some, is_some, List, [], ◌++◌}
-use Rattle.std.proofs.Common.{◌≡◌, ℕ, ◌+◌, ◌<◌, true, false, refl, sym, subst}
+use Rattle.std.proofs.Common.{◌≡◌, ℕ, ◌+◌, ◌<◌, ◌^◌, true, false, refl, sym, subst}
 use Rattle.seize_words.specs.declared.at.At.{At}
 use Rattle.seize_words.specs.declared.at.At.TheVariants.{Slot, Entry, Word}
 use Rattle.seize_words.specs.Mem.{Mem, value_at, with_word}
@@ -37,12 +37,13 @@ IsGoing Waits = Unit {0}
 IsGoing (Gave value) = Unit {0}
 IsGoing Done = ⊥
 
--- the words of a memory that rows use are there: those of blocks that live, and of slots ever taken, and the head behind them
+-- the words of a memory that rows use are there: those of blocks that live, and of slots ever taken, and the head behind them; and numbers of blocks are few
 pub record HasWords {T : Type 0} (defers : T → Option ℕ) (n : ℕ) (mem : Mem T) (head : ℕ → Head) : Type 0 where
   pub entries : (b k : ℕ) → k < 4 → is_some (value_at mem b) ≡ true → has mem (Entry b k) ≡ true
   pub lists : (b d : ℕ) → list_in defers (value_at mem b) ≡ Some d → has mem (Word b d) ≡ true
   pub slots : (t k : ℕ) → k < 2 → is_never (head t) ≡ false → has mem (Slot t k) ≡ true
   pub behind : (t k : ℕ) → k < 2 → is_never (head t) ≡ false → t + 1 < n → has mem (Slot (t + 1) k) ≡ true
+  pub few : (b : ℕ) → is_some (value_at mem b) ≡ true → b < 2 ^ 53
 
 -- the row goes on, and no word was written and nothing moved
 pub unmoved : (n i : ℕ) (c0 : Settle) (p : Part) (f : View) (m : State) (x : Extra) (c : Settle) → Inv n m → Shows n f m x → c.slot ≡ c0.slot → Told n i c0 p m c m → Fits n i f m x c

@@ -7,7 +7,7 @@ use Rattle.seize.specs.declared.rows.settle.Settling.TheVariants as at
 use Rattle.seize.specs.declared.states.TheConstants.{ACTIVE}
 use Rattle.seize.specs.Settle.{onward, with_batch, standing}
 use Rattle.seize_moves.proofs.State.Ghost.{Entry, Active, Closing, Loose, State, was_put, total, is_active}
-use Rattle.seize_moves.proofs.State.Rule.{open_length}
+use Rattle.seize_moves.proofs.State.Rule.{open_length, HasLeft}
 use Rattle.seize_rule.proofs.Points.Passed.{passed_rest}
 use Rattle.seize_moves.proofs.State.Moves
 
@@ -87,7 +87,7 @@ pub data Told (n i : ℕ) (c : Settle) (p : Part) (m : State) (c2 : Settle) (m2 
   -- entries are put
   Pushes : (y t d : ℕ) (es : List Entry) (rest : List ℕ) → m.stage y ≡ Closing i → m.todo y ≡ t ∷ rest → m.head t ≡ Active es → m2 ≡ Moves.pushed m y t d es rest
       → p ≡ Pushing → part c2 ≡ Pushing → Told n i c p m c2 m2
-  Misses : (y t : ℕ) (rest : List ℕ) → m.stage y ≡ Closing i → m.todo y ≡ t ∷ rest → is_active (m.head t) ≡ false → m2 ≡ Moves.missed m y t rest
+  Misses : (y t : ℕ) (rest : List ℕ) → m.stage y ≡ Closing i → m.todo y ≡ t ∷ rest → HasLeft m y t → m2 ≡ Moves.missed m y t rest
       → p ≡ Pushing → part c2 ≡ Pushing → Told n i c p m c2 m2
   Sums : (y : ℕ) → m.stage y ≡ Closing i → m.todo y ≡ [] → 0 < (m.counter y + total was_put (m.debt y) n) % 2 ^ 64 → m2 ≡ Moves.summed n m i y
       → p ≡ Pushing → part c2 ≡ Plain → NoneLeft i m → Told n i c p m c2 m2

@@ -150,7 +150,7 @@ module _ {T : Type 0} {size : ℕ} (defers : T → Option ℕ) (n : ℕ) (last :
 
   room_stays : (bucket : ℕ) → Stays defers w.memory (with_room w.memory bucket)
   room_stays bucket = record {
-    stocked = record { entries = good.stocked.entries; lists = good.stocked.lists };
+    stocked = record { entries = good.stocked.entries; lists = good.stocked.lists; few = good.stocked.few };
     lists = λ a d h k. h;
     more = grown (length w.memory.slots) (length (with_room w.memory bucket).slots) (slots_grow w.memory bucket);
   }

@@ -167,7 +167,7 @@ module _ {T : Type 0} where
   push_told_of c block left pushed slot (Found w) = refl
   push_told_of c block left pushed slot Stored = refl
   push_told_of c block left pushed slot (Exchanged (Ok w)) = refl
-  push_told_of c block left pushed slot (Exchanged (Err w)) = either c.batch_size (nat_lt w ACTIVE) (plans.goes c (plans.pushed_of block left pushed)) (plans.goes c (at.Links block left pushed slot w)) (refl) (refl)
+  push_told_of c block left pushed slot (Exchanged (Err w)) = either c.batch_size (plans.needs_none c w) (plans.goes c (plans.pushed_of block left pushed)) (plans.to (record c { lost = c.lost + 1; stands = at.Links block left pushed slot w })) (refl) (refl)
   push_told_of c block left pushed slot (Made r) = refl
   push_told_of c block left pushed slot (Taken x) = refl
   push_told_of c block left pushed slot (Roomed r) = refl

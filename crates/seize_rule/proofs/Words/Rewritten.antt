@@ -56,4 +56,5 @@ module _ {T : Type 0} (m : Mem T) (b : ℕ) (new old : T) (h : value_at m b ≡ 
   stocked_rewritten defers same s = record {
     entries = λ c i k l. rewritten_had (Entry c i) ∙ s.entries c i (subst (λ (v : View). v.live c ≡ true) (view_rewritten defers same) k) l;
     lists = λ c d k. rewritten_had (Word c d) ∙ s.lists c d (subst (λ (v : View). v.lists c ≡ Some d) (view_rewritten defers same) k);
+    few = λ c k. s.few c (subst (λ (v : View). v.live c ≡ true) (view_rewritten defers same) k);
   }

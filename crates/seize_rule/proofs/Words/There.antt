@@ -1,6 +1,6 @@
 -- Which words are there: each live block's entry has its four, and its list's first word. And what a number without a block has.
 use Rattle.std.specs.Prelude.{Option, Some, None, is_some, IsSome}
-use Rattle.std.proofs.Common.{◌≡◌, ℕ, zero, suc, ◌<◌, Bool, true, false, cond, eqb, refl, arith, subst, sym, ap, ◌∙◌, eqb-true}
+use Rattle.std.proofs.Common.{◌≡◌, ℕ, zero, suc, ◌<◌, ◌^◌, Bool, true, false, cond, eqb, refl, arith, subst, sym, ap, ◌∙◌, eqb-true}
 use Rattle.seize_words.specs.declared.at.At.{At}
 use Rattle.seize_words.specs.declared.at.At.TheVariants.{Entry, Word}
 use Rattle.seize_words.specs.declared.block.Block.{Block}
@@ -28,25 +28,33 @@ module _ {T : Type 0} where
   pub free_word : (m : Mem T) (b d : ℕ) → value_at m b ≡ None → words_of m (Word b d) ≡ 0
   free_word m b d h = ap (λ o. or_zero (word_in o d)) (no_block (block_of m b) h)
 
--- the words of the blocks that live
+-- the words of the blocks that live, and that there are so few numbers of blocks
 pub record Stocked {T : Type 0} (defers : T → Option ℕ) (m : Mem T) : Type 0 where
   pub entries : (b i : ℕ) → is_some (value_at m b) ≡ true → i < 4 → has m (Entry b i) ≡ true
   pub lists : (b d : ℕ) → list_in defers (value_at m b) ≡ Some d → has m (Word b d) ≡ true
+  pub few : (b : ℕ) → is_some (value_at m b) ≡ true → b < 2 ^ 53
 
 module _ {T : Type 0} (defers : T → Option ℕ) where
   pub stocked_written : (m : Mem T) (at : At) (w : ℕ) (n : Mem T) → Wrote m at w n → Stocked defers m → Stocked defers n
   stocked_written m at w n h s = record {
     entries = λ b i k l. h.had (Entry b i) ∙ s.entries b i (subst (λ (v : ℕ → Option T). is_some (v b) ≡ true) h.values k) l;
     lists = λ b d k. h.had (Word b d) ∙ s.lists b d (subst (λ (v : ℕ → Option T). list_in defers (v b) ≡ Some d) h.values k);
+    few = λ b k. s.few b (subst (λ (v : ℕ → Option T). is_some (v b) ≡ true) h.values k);
   }
 
   -- a block is made with the words that its value asks for
-  pub stocked_made : (m : Mem T) (value : T) (k b : ℕ) (n : Mem T) → Made_one m value k b n → ((d : ℕ) → defers value ≡ Some d → d < k) → Stocked defers m → Stocked defers n
-  stocked_made m value k b n h enough s = record {
+  pub stocked_made : (m : Mem T) (value : T) (k b : ℕ) (n : Mem T) → Made_one m value k b n → b < 2 ^ 53 → ((d : ℕ) → defers value ≡ Some d → d < k) → Stocked defers m
+      → Stocked defers n
+  stocked_made m value k b n h low enough s = record {
     entries = λ c i l lt. entry c i (eqb c b) refl (subst (λ (v : ℕ → Option T). is_some (v c) ≡ true) h.values l) lt;
     lists = λ c d l. list c d (eqb c b) refl (subst (λ (v : ℕ → Option T). list_in defers (v c) ≡ Some d) h.values l);
+    few = λ c l. number c (eqb c b) refl (subst (λ (v : ℕ → Option T). is_some (v c) ≡ true) h.values l);
   }
     where
+      number : (c : ℕ) (t : Bool) → eqb c b ≡ t → is_some (cond t (Some value) (value_at m c)) ≡ true → c < 2 ^ 53
+      number c true e l = let is = eqb-true c b e in omega (arith, is, low)
+      number c false e l = s.few c l
+
       entry : (c i : ℕ) (t : Bool) → eqb c b ≡ t → is_some (cond t (Some value) (value_at m c)) ≡ true → i < 4 → has n (Entry c i) ≡ true
       entry c i true e l lt = subst (λ (a : ℕ). has n (Entry a i) ≡ true) (sym (eqb-true c b e)) (h.entry i ∙ grind arith)
       entry c i false e l lt = h.had (Entry c i) e ∙ s.entries c i l lt
@@ -59,8 +67,13 @@ module _ {T : Type 0} (defers : T → Option ℕ) where
   stocked_taken m b n h s = record {
     entries = λ c i l lt. entry c i (eqb c b) refl (subst (λ (v : ℕ → Option T). is_some (v c) ≡ true) h.values l) lt;
     lists = λ c d l. list c d (eqb c b) refl (subst (λ (v : ℕ → Option T). list_in defers (v c) ≡ Some d) h.values l);
+    few = λ c l. number c (eqb c b) (subst (λ (v : ℕ → Option T). is_some (v c) ≡ true) h.values l);
   }
     where
+      number : (c : ℕ) (t : Bool) → is_some (cond t None (value_at m c)) ≡ true → c < 2 ^ 53
+      number c true l = absurd (cc l)
+      number c false l = s.few c l
+
       entry : (c i : ℕ) (t : Bool) → eqb c b ≡ t → is_some (cond t None (value_at m c)) ≡ true → i < 4 → has n (Entry c i) ≡ true
       entry c i true e l lt = absurd (cc l)
       entry c i false e l lt = h.had (Entry c i) e ∙ s.entries c i l lt

@@ -122,7 +122,7 @@ module _ {T : Type 0} (defers : T → Option ℕ) (n size : ℕ) (w w2 : World T
   makes i value words (Exchanged r) mem2 has took = absurd took.0
   makes i value words (Made (Ok b)) mem2 has took =
       subst (λ (k : Mem T). StillGood defers n size good.state (with_effect (with_hand (record w { memory = k }) b (Making i)) (law.Made b))) (sym took.1)
-      (made_good defers n w good i b value words took.0.0 (list_word (defers value) words has))
+      (made_good defers n w good i b value words took.0.0 took.0.1 (list_word (defers value) words has))
   makes i value words (Made (Err back)) mem2 has took = by_memory mem2 took.1
   makes i value words (Taken x) mem2 has took = absurd took.0
   makes i value words (Roomed r) mem2 has took = absurd took.0

@@ -50,7 +50,7 @@ module _ {T : Type 0} {size : ℕ} (defers : T → Option ℕ) (n : ℕ) (w : Wo
   chosen_good choice =
       unseen_good (record w.memory { choices = w.memory.choices ++ choice ∷ [] }) refl
       (record { bucketed = record { there = good.room.bucketed.there; number = good.room.bucketed.number; whole = good.room.bucketed.whole }; enough = good.room.enough })
-      (record { entries = good.stocked.entries; lists = good.stocked.lists }) at_most
+      (record { entries = good.stocked.entries; lists = good.stocked.lists; few = good.stocked.few }) at_most
     where
       at_most : length w.memory.slots ≤ length w.memory.slots
       at_most = omega arith

@@ -42,6 +42,7 @@ module _ {T : Type 0} (defers : T → Option ℕ) (n : ℕ) where
         stocked = record {
           entries = λ b i h l. absurd (none_live mem b (none b) h);
           lists = λ b d h. absurd (cc (sym (ap (list_in defers) (none b)) ∙ h));
+          few = λ b h. absurd (none_live mem b (none b) h);
         };
         short = λ t l none. record { below = λ limit word pos big taken. pos; untaken = λ e. refl };
       }
@@ -61,6 +62,7 @@ module _ {T : Type 0} {size : ℕ} (defers : T → Option ℕ) (n : ℕ) (w : Wo
     lists = good.stocked.lists;
     slots = λ t k l h. good.room.bucketed.there t k (good.room.enough t t h (omega arith) (taken_below t h)) l;
     behind = λ t k l h lt. good.room.bucketed.there (t + 1) k (good.room.enough t (t + 1) h (omega arith) lt) l;
+    few = good.stocked.few;
   }
 
   pub settles_may : (i : ℕ) (c : Settle) → w.row i ≡ Settles c → May Can Took value_at w.memory (settle_plan defers c)

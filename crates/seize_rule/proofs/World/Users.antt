@@ -1,6 +1,6 @@
 -- What users do beside the rows: blocks are made, dropped, linked and unlinked. The world stays good.
 use Rattle.std.specs.Prelude.{Option, Some, None, is_some, IsSome, Ok, if◌then◌else◌}
-use Rattle.std.proofs.Common.{◌≡◌, ℕ, ◌+◌, ◌<◌, ◌≤◌, Bool, true, false, cond, eqb, List, ◌∷◌, length, refl, arith, subst, sym, ap, ◌∙◌, eqb-true}
+use Rattle.std.proofs.Common.{◌≡◌, ℕ, ◌+◌, ◌<◌, ◌≤◌, ◌^◌, Bool, true, false, cond, eqb, List, [], ◌∷◌, length, refl, arith, subst, sym, ap, ◌∙◌, eqb-true}
 use Rattle.seize_words.specs.Mem.{Mem, value_at, with_block, after, IsFreeNumber}
 use Rattle.seize_words.specs.Op.{Make, Made}
 use Rattle.seize.specs.Law as law
@@ -48,6 +48,7 @@ keeps_lives n i s m life2 carrier2 log2 lives same = record {
   lives = λ j c e f. lives j c f;
   lists = λ j c e f. refl;
   taken_slots = λ t e. e;
+  marked = λ j x t ne closing d. (d, ([], refl));
   lengths = λ t l. as_long (open_length m t) (retirals m.log) (retirals log2) (eqb t s) same;
 }
 
@@ -168,9 +169,9 @@ module _ {T : Type 0} {size : ℕ} (defers : T → Option ℕ) (n : ℕ) (w : Wo
       (unmoved_kept n good.state (unlinked good.state i b) refl refl refl refl refl refl refl (put_waits good.state.life b (IsUnlinked i) (ap is_in_wait used)) refl)
 
   -- a caller makes a block
-  pub made_good : (i b : ℕ) (value : T) (words : ℕ) → IsFreeNumber w.memory b → ((d : ℕ) → defers value ≡ Some d → d < words)
+  pub made_good : (i b : ℕ) (value : T) (words : ℕ) → IsFreeNumber w.memory b → b < 2 ^ 53 → ((d : ℕ) → defers value ≡ Some d → d < words)
       → StillGood defers n size good.state (with_effect (with_hand (record w { memory = after w.memory (Make value words) (Made (Ok b)) }) b (Making i)) (law.Made b))
-  made_good i b value words is enough =
+  made_good i b value words is low enough =
       let one = made_one w.memory value words b is in
       let mem2 = after w.memory (Make value words) (Made (Ok b)) in
       let seen : view defers mem2 ≡ with_new (view defers w.memory) b (defers value) = view_made defers w.memory value words b mem2 one in
@@ -185,7 +186,7 @@ module _ {T : Type 0} {size : ℕ} (defers : T → Option ℕ) (n : ℕ) (w : Wo
       (λ k. subst (λ (g : View). KeepsWords k (view defers w.memory) good.state good.extra g good.extra) (sym seen) ((wrote k).keeps))
       (hands_put b (Making i) (IsOwned i) refl) (used_still (law.Made b ∷ good.state.log) (λ s. refl)) (room_made n good.state.head w.memory value words b good.room)
       (record {
-        stocked = stocked_made defers w.memory value words b mem2 one enough good.stocked;
+        stocked = stocked_made defers w.memory value words b mem2 one low enough good.stocked;
         lists = subst (λ (g : View). ListsLast (view defers w.memory) g) (sym seen) (λ c d has live. list_kept c d (eqb c b) (eqb-true c b) one.was_free has);
         more = omega arith;
       }) (λ t. refl) refl (unmoved_kept n good.state (made good.state i b (is_some (defers value))) refl refl refl refl refl refl refl (put_waits good.state.life b (IsOwned i) (ap is_in_wait free)) refl)

@@ -10,7 +10,7 @@ use Rattle.seize_waiting.proofs.Bound.{rounds}
 use Rattle.seize_waiting.proofs.Counts.{filter_same}
 use Rattle.seize_waiting.proofs.Work.{counted_begins}
 use Rattle.seize_waiting.proofs.Retired.{retired_bound}
-use Rattle.seize_moves.proofs.State.Ghost.{Debt, Unscanned, Marked, Skipped, Owing, Loose, Counted, Closed, Entry, Active, State, list_of}
+use Rattle.seize_moves.proofs.State.Ghost.{Debt, Unscanned, Marked, Gone, Skipped, Owing, Loose, Counted, Closed, Entry, Active, State, list_of}
 use Rattle.seize_moves.proofs.State.Rule.{Inv, not_longer}
 use Rattle.seize_rule.proofs.Words.Shows.{Extra}
 use Rattle.seize_rule.proofs.Points.Known.{Empty}
@@ -97,6 +97,7 @@ waits_listed n i s x m inv alone none closed = at (m.debt x s) refl
     at : (d : Debt) → m.debt x s ≡ d → waits d ≡ is_owing d
     at Unscanned e = refl
     at Marked e = absurd (grind (arith, e, closed, inv.debts.marked x s, inv.batches.tally x))
+    at Gone e = absurd (grind (arith, e, closed, inv.debts.marked x s, inv.batches.tally x))
     at Skipped e = refl
     at Owing e = refl
     at (Loose j) e = let a = no_loose j (eqb j i) refl in absurd (grind (arith, e, a, inv.debts.loosed x s j))

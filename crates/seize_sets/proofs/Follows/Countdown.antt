@@ -10,7 +10,7 @@ use Rattle.seize_waiting.proofs.Bound.{rounds}
 use Rattle.seize_waiting.proofs.Counts.{count-append, map_same, filter_same}
 use Rattle.seize_waiting.proofs.Work.{rest_given, given_begins}
 use Rattle.seize_waiting.proofs.Retired.{given_bound}
-use Rattle.seize_moves.proofs.State.Ghost.{put, Debt, Unscanned, Marked, Skipped, Owing, Loose, Counted, Stage, Unused, Open, Closing, Closed, Dead, Entry, Life, State, owes, is_in}
+use Rattle.seize_moves.proofs.State.Ghost.{put, Debt, Unscanned, Marked, Gone, Skipped, Owing, Loose, Counted, Stage, Unused, Open, Closing, Closed, Dead, Entry, Life, State, owes, is_in}
 use Rattle.seize_moves.proofs.State.Rule.{Inv, Pending}
 use Rattle.seize_moves.proofs.State.Sums.{total_zero}
 use Rattle.seize_moves.proofs.Moves.Pushes.{counted_moves}
@@ -85,6 +85,7 @@ nothing_owed n x t m inv e z = at (m.debt x t) refl
     at : (d : Debt) → m.debt x t ≡ d → is_owing d ≡ false
     at Unscanned k = refl
     at Marked k = refl
+    at Gone k = refl
     at Skipped k = refl
     at Owing k = absurd (grind (arith, k, e, z, inv.batches.tally x, inv.debts.scanned x t, inv.debts.seen_le x, total_zero owes (m.debt x) n t))
     at (Loose i) k = refl

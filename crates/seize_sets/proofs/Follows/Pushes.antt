@@ -1,6 +1,6 @@
 -- The entries of a closed batch that are put, and the number of them that is added to its counter, follow the waiting sets.
 use Rattle.std.specs.Prelude.{◌==◌, not}
-use Rattle.std.proofs.Common.{◌≡◌, ℕ, zero, suc, ◌+◌, ◌%◌, ◌^◌, ◌<◌, ◌≤◌, Bool, true, false, cond, eqb, List, [], ◌∷◌, ◌++◌, length, refl, arith, ap, sym, subst, eqb-true, ◌∙◌}
+use Rattle.std.proofs.Common.{◌≡◌, ℕ, zero, suc, ◌+◌, ◌%◌, ◌^◌, ◌<◌, ◌≤◌, Bool, true, false, cond, eqb, List, [], ◌∷◌, ◌++◌, length, refl, arith, ap, sym, subst, eqb-true, ◌∙◌, inl, inr}
 use Rattle.std.proofs.lemmas.List.{append-nil}
 use Rattle.seize.specs.Sequence.{taken_in}
 use Rattle.seize.specs.WaitingSets.{Batch, Further, Sets, After, with_open, with_closed, closing, further_of_all, retired_all}
@@ -9,8 +9,9 @@ use Rattle.seize_waiting.specs.Changes.{kept}
 use Rattle.seize_waiting.proofs.Behind.{kept_nil}
 use Rattle.seize_waiting.proofs.Bound.{one, rounds, set_opened}
 use Rattle.seize_waiting.proofs.Work.{rest_given, all_given}
-use Rattle.seize_moves.proofs.State.Ghost.{put, Debt, Unscanned, Marked, Skipped, Owing, Loose, Counted, Closing, Closed, Entry, Head, Active, State, counts, was_put, is_marked, total, is_active}
-use Rattle.seize_moves.proofs.State.Rule.{Inv}
+use Rattle.seize_moves.proofs.State.Ghost.{put, Debt, Unscanned, Marked, Gone, Skipped, Owing, Loose, Counted, Closing, Closed, Entry, Head, Active, State, counts, was_put, is_marked, total, is_active}
+use Rattle.seize_moves.proofs.State.Rule.{Inv, HasLeft}
+use Rattle.seize_moves.proofs.Sets.Scan.{NoneGone, put_stay}
 use Rattle.seize_moves.proofs.State.Moves
 use Rattle.seize_rule.proofs.Words.Apart.{put_here}
 use Rattle.seize_moves.proofs.State.Sums.{total_zero, put_parts, put_le, total_same}
@@ -29,17 +30,18 @@ same_batch n i y z m inv e f = grind (arith, inv.batches.shut i y e, inv.batches
 
 -- an entry is put
 
--- the slot is marked
-first_marked : (n y t : ℕ) (rest : List ℕ) (m : State) → Inv n m → m.todo y ≡ t ∷ rest → m.debt y t ≡ Marked
-first_marked n y t rest m inv e = at (m.debt y t) (inv.debts.marked y t)
+-- the slot is marked, and has not left since
+first_marked : (n y t : ℕ) (rest : List ℕ) (m : State) → Inv n m → NoneGone y m → m.todo y ≡ t ∷ rest → m.debt y t ≡ Marked
+first_marked n y t rest m inv stay e = at (m.debt y t) refl (inv.debts.marked y t)
   where
-    at : (d : Debt) → count t (m.todo y) ≡ is_marked d → d ≡ Marked
-    at Unscanned k = absurd (grind (arith, k, e))
-    at Marked k = refl
-    at Skipped k = absurd (grind (arith, k, e))
-    at Owing k = absurd (grind (arith, k, e))
-    at (Loose j) k = absurd (grind (arith, k, e))
-    at Counted k = absurd (grind (arith, k, e))
+    at : (d : Debt) → m.debt y t ≡ d → count t (m.todo y) ≡ is_marked d → d ≡ Marked
+    at Unscanned is k = absurd (grind (arith, k, e))
+    at Marked is k = refl
+    at Gone is k = absurd (stay t is)
+    at Skipped is k = absurd (grind (arith, k, e))
+    at Owing is k = absurd (grind (arith, k, e))
+    at (Loose j) is k = absurd (grind (arith, k, e))
+    at Counted is k = absurd (grind (arith, k, e))
 
 active_still : (head : ℕ → Head) (t : ℕ) (es : List Entry) (ts : List ℕ) → AllActive head ts → AllActive (put head t (Active es)) ts
 active_still head t es [] h = tt
@@ -86,7 +88,7 @@ pushes_here : (batch_size n i s : ℕ) (m : State) (before : List ℕ) (target :
     → m.todo h.y ≡ t ∷ rest → m.head t ≡ Active es → Puts batch_size n i s (Moves.pushed m h.y t d es rest) before target
 pushes_here batch_size n i s m before target inv t d es rest h todo head =
     let m2 = Moves.pushed m h.y t d es rest in
-    let marked = first_marked n h.y t rest m inv todo in
+    let marked = first_marked n h.y t rest m inv h.stay todo in
     let debt2 : m2.debt h.y ≡ put_debts (m.debt h.y) t = put_here m.debt h.y (put (m.debt h.y) t Owing) in
     let b = base_kept batch_size n i s m m2 before target (h.y ∷ h.order) (h.y ∷ h.order) (closing s h.sets) (closing s h.sets) _ _ [] [] [] h.base
     (λ aside k. pushed_models n i h.y t d es rest m h.order (with_closed (closing s h.sets) ((closing s h.sets).closed ++ aside)) h.stage marked head k)
@@ -106,6 +108,7 @@ pushes_here batch_size n i s m before target inv t d es rest h todo head =
       uncounted = ap (λ (e : ℕ → Debt). total counts e n) debt2 ∙ put_uncounted (m.debt h.y) t n marked ∙ h.uncounted;
       not_loose = λ u j e. put_not_loose (m.debt h.y) t h.not_loose u j (sym (ap (λ (g : ℕ → Debt). g u) debt2) ∙ e);
       active = subst (λ (l : List ℕ). AllActive m2.head l) (sym (put_here m.todo h.y rest)) (active_still m.head t (record { block = d; batch = h.y } ∷ es) rest (active_rest m.head (m.todo h.y) rest t todo h.active));
+      stay = put_stay m.debt h.y t Owing h.stay (λ e. cc e);
       waits_for = ap (λ (e : ℕ → Debt). not (length (waiting n e) == 0)) debt2 ∙ ap (λ (l : List ℕ). not (length l == 0)) (put_waiting (m.debt h.y) t n marked) ∙ h.waits_for;
       newest = ap (count h.y) b.1 ∙ h.newest;
     }
@@ -120,12 +123,16 @@ pushes_follows batch_size n i s m before target here y t d es rest stage todo he
 
 -- a slot that was marked stays active, so no entry is missed
 pub misses_follows : (batch_size n i s : ℕ) (m : State) (before : List ℕ) (target : After) → Setting batch_size n i s Pushing m → (y t : ℕ) (rest : List ℕ)
-    → m.stage y ≡ Closing i → m.todo y ≡ t ∷ rest → is_active (m.head t) ≡ false
+    → m.stage y ≡ Closing i → m.todo y ≡ t ∷ rest → HasLeft m y t
     → Puts batch_size n i s m before target → Puts batch_size n i s (Moves.missed m y t rest) before target
-misses_follows batch_size n i s m before target here y t rest stage todo idle h =
-    let e = same_batch n i h.y y m here.inv h.stage stage in
-    let a = (subst (λ (q : List ℕ). AllActive m.head q) (ap m.todo e ∙ todo) h.active).0 in
-    absurd (cc (a, idle))
+misses_follows batch_size n i s m before target here y t rest stage todo left h =
+    absurd (elim left as (λ _. ⊥) [
+      | inl idle ↦ cc ((subst (λ (q : List ℕ). AllActive m.head q) (ap m.todo same ∙ todo) h.active).0, idle)
+      | inr gone ↦ h.stay t (ap (λ (x : ℕ). m.debt x t) same ∙ gone)
+    ])
+  where
+    same : h.y ≡ y
+    same = same_batch n i h.y y m here.inv h.stage stage
 
 -- the number of entries is added
 
@@ -204,6 +211,7 @@ none_owes n y t m inv z = at (m.debt y t) refl
     at : (d : Debt) → m.debt y t ≡ d → is_owing d ≡ false
     at Unscanned k = refl
     at Marked k = refl
+    at Gone k = refl
     at Skipped k = refl
     at Owing k = absurd (grind (arith, k, z, inv.debts.scanned y t, inv.debts.seen_le y, total_zero was_put (m.debt y) n t))
     at (Loose j) k = refl

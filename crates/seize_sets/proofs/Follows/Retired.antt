@@ -85,7 +85,7 @@ reheld_tries batch_size n i s m holder before target h = record {
   base = reheld_base batch_size n i s m holder before target h.order h.sets _ [] h.base;
   bounds = h.bounds;
   none_left = record { left = h.none_left.left; puts = h.none_left.puts };
-  marks = h.marks;
+  marks = record { marks = h.marks.marks; stay = h.marks.stay };
 }
 
 reheld_puts : (batch_size n i s : ℕ) (m : State) (holder : ℕ → ℕ) (before : List ℕ) (target : After)
@@ -106,6 +106,7 @@ reheld_puts batch_size n i s m holder before target h = record {
   uncounted = h.uncounted;
   not_loose = h.not_loose;
   active = h.active;
+  stay = h.stay;
   waits_for = h.waits_for;
   newest = h.newest;
 }
@@ -205,7 +206,7 @@ begins_follows batch_size n i s m before target st none e ne fresh h =
         back = back_bound s (m.pending i) h.sets models.unused (once_counted (h.sets.open_batch s) (m.pending i) h.sets.further once) e;
       };
       none_left = none;
-      marks = begins_marking (m.open_batch s) m fresh.seen;
+      marks = begins_marking (m.open_batch s) m (st.inv.debts.scanned (m.open_batch s)) fresh.seen;
     }
 
 -- a block is retired
@@ -310,7 +311,7 @@ appended_tries batch_size n i s b bs m before target st p none long fresh h (suc
           (rest_on batch_size n i s m2 before target h.order v _ _ [] rest (appended_base batch_size k n i s b bs m before target h.order sets st base));
       bounds = subst (λ (l : List ℕ). TryBounds (suc k) k s l v) (sym same) bounds;
       none_left = appended_none m i b (m.open_batch s) bs none;
-      marks = begins_marking (m.open_batch s) m2 fresh.seen;
+      marks = begins_marking (m.open_batch s) m2 (st.inv.debts.scanned (m.open_batch s)) fresh.seen;
     }
 
 pub fills_follows : (batch_size n i s : ℕ) (m : State) (before : List ℕ) (target : After) → Setting batch_size n i s Plain m

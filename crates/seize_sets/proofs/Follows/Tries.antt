@@ -6,13 +6,13 @@ use Rattle.seize.specs.WaitingSets.{Batch, Sets, After, with_open, with_closed, 
 use Rattle.seize_waiting.specs.Held.{same, count}
 use Rattle.seize_waiting.proofs.Bound.{tried}
 use Rattle.seize_waiting.proofs.Work.{rest_given}
-use Rattle.seize_moves.proofs.State.Ghost.{put, Debt, Loose, Open, Closing, Head, State, counts, was_put, is_marked, total, is_active}
+use Rattle.seize_moves.proofs.State.Ghost.{put, Debt, Unscanned, Marked, Gone, Skipped, Owing, Loose, Counted, Open, Closing, Head, State, counts, was_put, is_marked, total, is_active}
 use Rattle.seize_moves.proofs.State.Rule.{Inv, SeenIs}
 use Rattle.seize_moves.proofs.State.Sums.{put_parts, total_zero}
 use Rattle.seize_moves.proofs.Sets.Shown.{waits, ascending, ascending_same, waiting, Models, Alike, models_alike}
 use Rattle.seize_moves.proofs.Sets.Counters.{waiting_length}
 use Rattle.seize_moves.proofs.Sets.Moved.{given_up_alike, skipped_alike, marked_alike}
-use Rattle.seize_moves.proofs.Sets.Scan.{MarksActive, skipped_marks, marked_marks, all_marked}
+use Rattle.seize_moves.proofs.Sets.Scan.{NoneGone, MarksActive, skipped_marks, marked_marks, all_marked}
 use Rattle.seize_moves.proofs.Sets.Tries.{closed_models}
 use Rattle.seize_moves.proofs.State.Moves
 use Rattle.seize_rule.proofs.Points.Passed.{passed_rest}
@@ -66,16 +66,36 @@ passed_alike n s x m e = record {
   put = λ t. refl;
 }
 
-passed_marks : (n x : ℕ) (m : State) → Inv n m → MarksActive x m → ((t : ℕ) → m.seen x ≤ t → t < n → is_active (m.head t) ≡ false) → MarksActive x (passed_rest n m x)
-passed_marks n x m inv h rest t l = at (eqb x x) (eqb-false x x) l
-  where
-    there : (b : Bool) → ltb t n ≡ b → t < n → waits (cond b (Moves.passed (m.debt x t)) (m.debt x t)) ≡ is_active (m.head t)
-    there true e k = all_marked n x m inv h rest t k
-    there false e k = absurd (cc (e, lt-ltb t n k))
+passed_gone : (d : Debt) → Moves.passed d ≡ Gone → d ≡ Gone
+passed_gone Unscanned e = absurd (cc e)
+passed_gone Marked e = absurd (cc e)
+passed_gone Gone e = refl
+passed_gone Skipped e = absurd (cc e)
+passed_gone Owing e = absurd (cc e)
+passed_gone (Loose j) e = absurd (cc e)
+passed_gone Counted e = absurd (cc e)
 
-    at : (b : Bool) → (b ≡ false → x ≡ x → ⊥) → t < cond b n (m.seen x) → waits (cond b (Moves.passed_all n (m.debt x)) (m.debt x) t) ≡ is_active (m.head t)
-    at true g k = there (ltb t n) refl k
-    at false g k = absurd (g refl refl)
+passed_stay : (n x : ℕ) (m : State) → NoneGone x m → (t : ℕ) → put m.debt x (Moves.passed_all n (m.debt x)) x t ≡ Gone → ⊥
+passed_stay n x m none t = at (eqb x x)
+  where
+    there : (b : Bool) → cond b (Moves.passed (m.debt x t)) (m.debt x t) ≡ Gone → ⊥
+    there true e = none t (passed_gone (m.debt x t) e)
+    there false e = none t e
+
+    at : (b : Bool) → cond b (Moves.passed_all n (m.debt x)) (m.debt x) t ≡ Gone → ⊥
+    at true e = there (ltb t n) e
+    at false e = none t e
+
+passed_marks : (n x : ℕ) (m : State) → Inv n m → MarksActive x m → ((t : ℕ) → m.seen x ≤ t → t < n → is_active (m.head t) ≡ false) → MarksActive x (passed_rest n m x)
+passed_marks n x m inv h rest = record { marks = λ t l. at t (eqb x x) (eqb-false x x) l; stay = passed_stay n x m h.stay }
+  where
+    there : (t : ℕ) (b : Bool) → ltb t n ≡ b → t < n → waits (cond b (Moves.passed (m.debt x t)) (m.debt x t)) ≡ is_active (m.head t)
+    there t true e k = all_marked n x m inv h rest t k
+    there t false e k = absurd (cc (e, lt-ltb t n k))
+
+    at : (t : ℕ) (b : Bool) → (b ≡ false → x ≡ x → ⊥) → t < cond b n (m.seen x) → waits (cond b (Moves.passed_all n (m.debt x)) (m.debt x) t) ≡ is_active (m.head t)
+    at t true g k = there t (ltb t n) refl k
+    at t false g k = absurd (g refl refl)
 
 -- or all that are left
 pub passes_follows : (batch_size n i s : ℕ) (m : State) (before : List ℕ) (target : After) → Setting batch_size n i s Trying m
@@ -218,7 +238,7 @@ not_enough n s t m order sets aside l inv h k e active full marks =
     ap not (lt-ltb (length (sets.open_batch s)) (length sets.active) (omega (arith, a, b, c, d, full)))
   where
     below : (u : ℕ) (b : Bool) → ltb u (m.seen (m.open_batch s)) ≡ b → waits (m.debt (m.open_batch s) u) ≡ true → is_active (m.head u) ≡ true
-    below u true g w = let r = marks u (ltb-true u (m.seen (m.open_batch s)) g) in cc (r, w)
+    below u true g w = let r = marks.marks u (ltb-true u (m.seen (m.open_batch s)) g) in cc (r, w)
     below u false g w = let r = unseen_waits (m.debt (m.open_batch s) u) u (m.seen (m.open_batch s)) (inv.debts.scanned (m.open_batch s) u) (ltb-false u (m.seen (m.open_batch s)) g) in absurd (cc (r, w))
 
 given_up_only : (i x : ℕ) (m : State) → OpenOnly i x m (Moves.given_up m x)
@@ -260,7 +280,7 @@ todo_active n x m inv h = marks_active x m.head (m.todo x) one
     one t ne =
         let k : is_marked (m.debt x t) ≡ 0 → ⊥ = λ z. ne (cc (inv.debts.marked x t, z)) in
         let a = marked_waits (m.debt x t) k in
-        let b = h t (seen_marked (m.debt x t) t (m.seen x) k (inv.debts.scanned x t)) in
+        let b = h.marks t (seen_marked (m.debt x t) t (m.seen x) k (inv.debts.scanned x t)) in
         cc (a, b)
 
 -- as many slots are active as are marked, and no more than the batch has blocks
@@ -269,7 +289,7 @@ is_enough_marked : (n s : ℕ) (m : State) (order : List ℕ) (sets : Sets) (asi
 is_enough_marked n s m order sets aside l inv h e few marks =
     let x = m.open_batch s in
     let a = open_waiting n s x m inv (inv.batches.mine s l) in
-    let b = ap (λ (z : List ℕ). length z) (ascending_same (λ t. waits (m.debt x t)) (λ t. is_active (m.head t)) n (λ t k. marks t (omega (arith, k, e)))) in
+    let b = ap (λ (z : List ℕ). length z) (ascending_same (λ t. waits (m.debt x t)) (λ t. is_active (m.head t)) n (λ t k. marks.marks t (omega (arith, k, e)))) in
     let c = ap (λ (z : List ℕ). length z) h.active in
     let d = ap (λ (z : List ℕ). length z) (h.opened s l) in
     ap not (le-ltb (length (sets.open_batch s)) (length sets.active) (omega (arith, a, b, c, d, few)))
@@ -366,6 +386,7 @@ closes_follows batch_size n i s m before target st e few ne none h =
           uncounted = uncounted;
           not_loose = λ t j k. passed_not_loose (ltb t n) (m.debt x t) j (not_loose_open n s x t j m st.inv now) (cc (ap (λ (d : ℕ → Debt). d t) (closed_here n x m.debt), k));
           active = todo_active n x m st.inv h.marks;
+          stay = passed_stay n x m h.marks.stay;
           waits_for = ap (λ (l : List ℕ). not (length l == 0)) (closed_waits n s x m2 h.order h.sets (b.working.passed ++ b.working.to_come) b.working.models);
           newest = let a = ap (count x) same in let c = not_behind n i s x m h.order h.base.working.to_come _ h.base.lined models now in cc (a, c);
         }

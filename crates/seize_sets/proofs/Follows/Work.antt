@@ -11,7 +11,7 @@ use Rattle.seize_waiting.proofs.Work.{rest_given}
 use Rattle.seize_moves.proofs.State.Ghost.{Loose, Closing, State, counts, total, is_active, Head}
 use Rattle.seize_moves.proofs.State.Rule.{Inv, Pending, open_length}
 use Rattle.seize_moves.proofs.Sets.Shown.{waits, waiting, batch_shown, batches_in, Models}
-use Rattle.seize_moves.proofs.Sets.Scan.{MarksActive}
+use Rattle.seize_moves.proofs.Sets.Scan.{NoneGone, MarksActive}
 use Rattle.seize_moves.proofs.Sets.Working.{after_these, Working, on_comes}
 use Rattle.seize_rule.proofs.Points.Told.{Part, Plain, Flushing, Trying, Marking, Pushing, Draining, NoneLeft}
 
@@ -89,6 +89,7 @@ pub record Puts (batch_size n i s : ℕ) (m : State) (before : List ℕ) (target
   pub uncounted : total counts (m.debt y) n ≡ 0
   pub not_loose : (t j : ℕ) → m.debt y t ≡ Loose j → ⊥
   pub active : AllActive m.head (m.todo y)
+  pub stay : NoneGone y m
   pub waits_for : not (length (waiting n (m.debt y)) == 0) ≡ some
   pub newest : count y base.lined.behind ≡ 0
 

@@ -14,15 +14,15 @@ find-requires g c =
       r.1.blocks,
       look_ready _ _ _ _ r.0 r.1 _ _
           (is_class g.K.PartialEq.eq g.S.Hasher.Hasher.finish g.S.Hasher.Hasher.write g.S.BuildHasher.build_hasher g.K.Hash.hash_input c.args.hasher.now g.Q.Equivalent.equivalent g.Q.Hash.hash_input
-          g.met.Q.Equivalent.respects_hash g.met.Q.Equivalent.respects_eq c.args.asked.now) _ (c.new-lookup.ensures ∙ ap (λ x. looking c.args.setting.root c.args.setting.mode x) c.hash_of-hash.ensures),
+          g.Q.Equivalent.stands_for g.met.Q.Equivalent.stands g.met.Q.Equivalent.hashed g.met.K.Eq.laws g.met.K.Hash.respects_eq c.args.asked.now) _ (c.new-lookup.ensures ∙ ap (λ x. looking c.args.setting.root c.args.setting.mode x) c.hash_of-hash.ensures),
     )
 
 pub returns : goal.returns
 returns g c = λ xs has.
     look_found _ _ _ _ xs has _ _
     (is_class g.K.PartialEq.eq g.S.Hasher.Hasher.finish g.S.Hasher.Hasher.write g.S.BuildHasher.build_hasher g.K.Hash.hash_input c.args.hasher.now g.Q.Equivalent.equivalent g.Q.Hash.hash_input
-    g.met.Q.Equivalent.respects_hash g.met.Q.Equivalent.respects_eq c.args.asked.now) _ (c.new-lookup.ensures ∙ ap (λ x. looking c.args.setting.root c.args.setting.mode x) c.hash_of-hash.ensures)
+    g.Q.Equivalent.stands_for g.met.Q.Equivalent.stands g.met.Q.Equivalent.hashed g.met.K.Eq.laws g.met.K.Hash.respects_eq c.args.asked.now) _ (c.new-lookup.ensures ∙ ap (λ x. looking c.args.setting.root c.args.setting.mode x) c.hash_of-hash.ensures)
     _ (c.find.ensures _ has.chart has.blocks
     (look_ready _ _ _ _ xs has _ _
     (is_class g.K.PartialEq.eq g.S.Hasher.Hasher.finish g.S.Hasher.Hasher.write g.S.BuildHasher.build_hasher g.K.Hash.hash_input c.args.hasher.now g.Q.Equivalent.equivalent g.Q.Hash.hash_input
-    g.met.Q.Equivalent.respects_hash g.met.Q.Equivalent.respects_eq c.args.asked.now) _ (c.new-lookup.ensures ∙ ap (λ x. looking c.args.setting.root c.args.setting.mode x) c.hash_of-hash.ensures)))
+    g.Q.Equivalent.stands_for g.met.Q.Equivalent.stands g.met.Q.Equivalent.hashed g.met.K.Eq.laws g.met.K.Hash.respects_eq c.args.asked.now) _ (c.new-lookup.ensures ∙ ap (λ x. looking c.args.setting.root c.args.setting.mode x) c.hash_of-hash.ensures)))

@@ -3,6 +3,7 @@ use Rattle.std.specs.Prelude.{[]}
 use Rattle.papaya_pairs.proofs.Orders.{left_same}
 use Rattle.papaya_seq_map.proofs.Kept.{either_rested, either_shown, holds_err, holds_ok}
 use Rattle.papaya_seq_map.proofs.Shows.{capacity_shown, counts, seen_first, seen_held, seen_keeps, shows_done, shows_refused, told_same}
+use Rattle.papaya_tables.proofs.Classes.{one_class}
 use Rattle.papaya_seq_map.proofs.changes.take.Goals as goal
 
 pub remove-requires : goal.remove-requires
@@ -23,7 +24,7 @@ invariant_of-map g c =
 pub returns-clause-some : goal.returns-clause-some
 returns-clause-some g c =
     let held = c.map.invariant in
-    told_same (g.Q.Equivalent.equivalent c.args.asked.now) held.0 _ (seen_first _ _ _ _ held.0 held.1 c.map.inside.resting.tables _ _ _ _ c.map.view_is (g.Q.Equivalent.equivalent c.args.asked.now) (λ x y. g.met.Q.Equivalent.respects_eq c.args.asked.now x y)) c.remove.result (c.remove.ensures.some held.0 held.1)
+    told_same (g.Q.Equivalent.equivalent c.args.asked.now) held.0 _ (seen_first _ _ _ _ held.0 held.1 c.map.inside.resting.tables _ _ _ _ c.map.view_is (g.Q.Equivalent.equivalent c.args.asked.now) (one_class g.K.PartialEq.eq g.met.K.Eq.laws g.Q.Equivalent.stands_for g.Q.Equivalent.equivalent g.met.Q.Equivalent.stands c.args.asked.now)) c.remove.result (c.remove.ensures.some held.0 held.1)
 
 pub returns-clause-removed : goal.returns-clause-removed
 returns-clause-removed g c =
@@ -39,7 +40,7 @@ pub returns-clause-last : goal.returns-clause-last
 returns-clause-last g c =
     let held = c.map.invariant in
     either_shown _ _ _ _ _ c.remove.result _ _ _ _ _ _ (c.remove.ensures.removed held.0 held.1) (c.remove.ensures.refused held.0 held.1) _
-    (seen_first _ _ _ _ held.0 held.1 c.map.inside.resting.tables _ _ _ _ c.map.view_is (g.Q.Equivalent.equivalent c.args.asked.now) (λ x y. g.met.Q.Equivalent.respects_eq c.args.asked.now x y))
+    (seen_first _ _ _ _ held.0 held.1 c.map.inside.resting.tables _ _ _ _ c.map.view_is (g.Q.Equivalent.equivalent c.args.asked.now) (one_class g.K.PartialEq.eq g.met.K.Eq.laws g.Q.Equivalent.stands_for g.Q.Equivalent.equivalent g.met.Q.Equivalent.stands c.args.asked.now))
 
 pub returns-clause-keeps : goal.returns-clause-keeps
 returns-clause-keeps g c =

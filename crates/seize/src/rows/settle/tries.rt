@@ -3,7 +3,7 @@ ghost use Rattle.seize_words.specs.Plan.{May, Steps};
 ghost use Rattle.seize.specs.Settle.{scans, marks_block, marked, closes, reads, links, pushes, pushed_next, sums};
 
 use crate::rows::settle::{Settle, Settled, Settling};
-use crate::states::{ACTIVE, COUNT, HEAD, LAST_SLOT, LINK, NEVER, NEXT};
+use crate::states::{ACTIVE, COUNT, HEAD, LAST_SLOT, LINK, MOST_LOST, NEVER, NEXT};
 use seize_words::{At, Link, Memory};
 
 impl Settle {
@@ -100,6 +100,7 @@ impl Settle {
         ensures { Steps M.took M.shown memory.old (reads self.old block left pushed) memory.new (self.new, result) }
     {
         let slot = memory.load(At::Entry(Link::block_of(block), LINK));
+        self.lost = 0;
         self.stands = Settling::Links {
             block,
             left,
@@ -135,7 +136,8 @@ impl Settle {
         Settled::Goes
     }
 
-    /// Pushes a block on a slot's list. A slot that is no longer active needs none.
+    /// Pushes a block on a slot's list. A slot that is no longer active needs none, nor does one whose list has changed as often as there are
+    /// numbers of blocks: each change has put a further block on it, so it was taken since the try found the slot active.
     #[inline(always)]
     pub(super) fn pushes<T, M: Memory<T>>(
         &mut self,
@@ -149,22 +151,23 @@ impl Settle {
         requires { May M.can M.took M.shown memory.old (pushes self.old block left pushed slot head) }
         ensures { Steps M.took M.shown memory.old (pushes self.old block left pushed slot head) memory.new (self.new, result) }
     {
-        self.stands = match memory.exchange(At::Slot(slot, HEAD), head, block) {
-            Ok(_) => Settling::pushed(block, left, pushed.wrapping_add(1)),
+        match memory.exchange(At::Slot(slot, HEAD), head, block) {
+            Ok(_) => self.stands = Settling::pushed(block, left, pushed.wrapping_add(1)),
             Err(found) => {
-                if found < ACTIVE {
-                    Settling::pushed(block, left, pushed)
+                if found < ACTIVE || self.lost >= MOST_LOST {
+                    self.stands = Settling::pushed(block, left, pushed);
                 } else {
-                    Settling::Links {
+                    self.lost += 1;
+                    self.stands = Settling::Links {
                         block,
                         left,
                         pushed,
                         slot,
                         head: found,
-                    }
+                    };
                 }
             }
-        };
+        }
         Settled::Goes
     }
 

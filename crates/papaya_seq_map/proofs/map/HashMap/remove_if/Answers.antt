@@ -6,12 +6,13 @@ use Rattle.seize_words.specs.declared.fault.Fault.{Fault}
 use Rattle.papaya_resting.specs.Given.{hashed_by}
 use Rattle.papaya_seq_map.proofs.Done.{comes_rests, room_alone, shows_changed, shows_unchanged}
 use Rattle.papaya_seq_map.proofs.Shows.{capacity_shown, counts, seen_first, seen_held, seen_keeps}
+use Rattle.papaya_tables.proofs.Classes.{one_class}
 use Rattle.papaya_seq_map.proofs.map.HashMap.remove_if.Goals as goal
 
 pub remove_if-requires : goal.remove_if-requires
 remove_if-requires g c =
     let held = c.self.invariant in
-    let first = seen_first _ _ _ _ held.0 held.1 c.self.inside.resting.tables _ _ _ _ c.self.view_is (g.Q.Equivalent.equivalent c.args.asked.now) (λ x y. g.met.Q.Equivalent.respects_eq c.args.asked.now x y) in
+    let first = seen_first _ _ _ _ held.0 held.1 c.self.inside.resting.tables _ _ _ _ c.self.view_is (g.Q.Equivalent.equivalent c.args.asked.now) (one_class g.K.PartialEq.eq g.met.K.Eq.laws g.Q.Equivalent.stands_for g.Q.Equivalent.equivalent g.met.Q.Equivalent.stands c.args.asked.now) in
     record { holds = (held.0, held.1, λ x there. c.requires.callable x (first ∙ there)) }
 
 pub invariant_of-self-inside : goal.invariant_of-self-inside
@@ -32,7 +33,7 @@ pub returns-clause-done : goal.returns-clause-done
 returns-clause-done g c =
     let held = c.self.invariant in
     shows_changed g.K.PartialEq.eq (hashed_by g.S.Hasher.Hasher.finish g.S.Hasher.Hasher.write g.S.BuildHasher.build_hasher g.K.Hash.hash_input c.self.inside.hasher) c.self.inside.resting.setting c.remove_if.new.memory c.remove_if.new.last (g.Q.Equivalent.equivalent c.args.asked.now) None held.0 _ _
-    (seen_first _ _ _ _ held.0 held.1 c.self.inside.resting.tables _ _ _ _ c.self.view_is (g.Q.Equivalent.equivalent c.args.asked.now) (λ x y. g.met.Q.Equivalent.respects_eq c.args.asked.now x y))
+    (seen_first _ _ _ _ held.0 held.1 c.self.inside.resting.tables _ _ _ _ c.self.view_is (g.Q.Equivalent.equivalent c.args.asked.now) (one_class g.K.PartialEq.eq g.met.K.Eq.laws g.Q.Equivalent.stands_for g.Q.Equivalent.equivalent g.met.Q.Equivalent.stands c.args.asked.now))
     (seen_held _ _ _ _ held.0 held.1 c.self.inside.resting.tables _ _ _ _ c.self.view_is)
     (Removing (TestsAs g.F.FnOnce c.args.test)) (λ (e : Fault). e) c.remove_if.result (c.remove_if.ensures.comes held.0 held.1)
 
@@ -40,7 +41,7 @@ pub returns-clause-refused : goal.returns-clause-refused
 returns-clause-refused g c =
     let held = c.self.invariant in
     shows_unchanged g.K.PartialEq.eq (hashed_by g.S.Hasher.Hasher.finish g.S.Hasher.Hasher.write g.S.BuildHasher.build_hasher g.K.Hash.hash_input c.self.inside.hasher) c.self.inside.resting.setting c.remove_if.new.memory c.remove_if.new.last (g.Q.Equivalent.equivalent c.args.asked.now) None held.0 _ _
-    (seen_first _ _ _ _ held.0 held.1 c.self.inside.resting.tables _ _ _ _ c.self.view_is (g.Q.Equivalent.equivalent c.args.asked.now) (λ x y. g.met.Q.Equivalent.respects_eq c.args.asked.now x y))
+    (seen_first _ _ _ _ held.0 held.1 c.self.inside.resting.tables _ _ _ _ c.self.view_is (g.Q.Equivalent.equivalent c.args.asked.now) (one_class g.K.PartialEq.eq g.met.K.Eq.laws g.Q.Equivalent.stands_for g.Q.Equivalent.equivalent g.met.Q.Equivalent.stands c.args.asked.now))
     (seen_held _ _ _ _ held.0 held.1 c.self.inside.resting.tables _ _ _ _ c.self.view_is)
     (Removing (TestsAs g.F.FnOnce c.args.test)) (λ (e : Fault). e) c.remove_if.result (c.remove_if.ensures.comes held.0 held.1)
 
