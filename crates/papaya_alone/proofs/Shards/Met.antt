@@ -129,7 +129,7 @@ module _ {K : Type 0} (hash : K → ℕ) (c : Chart K) (blocks : Blocks) (code t
 same_next : (trial : Trial) → IfSome (next_trial trial) (λ next. next.met ≡ trial.met)
 same_next trial = by (nat_lt trial.probe.len trial.table.limit)
   where
-    by : (q : Bool) → IfSome (if q then Some record { table = trial.table; probe = probe_after trial.probe (trial.table.len - 1); met = trial.met } else None) (λ (next : Trial). next.met ≡ trial.met)
+    by : (q : Bool) → IfSome (if q then Some record { table = trial.table; probe = probe_after trial.probe (trial.table.len - 1); met = trial.met; most = trial.most } else None) (λ (next : Trial). next.met ≡ trial.met)
     by true = refl
     by false = tt
 
