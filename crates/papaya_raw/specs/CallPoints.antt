@@ -53,6 +53,10 @@ aim_of missing.Asks = Stores
 abbrev pub word_to : ℕ → ℕ → ℕ
 word_to block hash = (link_to block % 2 ^ 64 + hash / 2 ^ 57 * 8) % 2 ^ 64
 
+-- why a table is made behind the one of a try: that is full. It is to have places for as many pairs as its tries have met, or those of a table before.
+abbrev pub full_for : Trial → Reason
+full_for trial = Full trial.met (found_full trial).most
+
 -- nothing was tried yet
 abbrev pub untried : Trial
 untried = record { table = record { link = 0; len = 0; limit = 0; turn = 0 }; probe = record { i = 0; len = 0 }; met = 0; most = 0 }
@@ -110,11 +114,7 @@ module _ {K V Q : Type 0} where
   abbrev pub answering : KeyCall K V Q → KeyAnswer → KeyCall K V Q × Called (Node K V)
   answering c answer = ending c (ends.Answered answer)
 
-  -- No table follows the one that was tried, which is full: who needs one makes it, for as many pairs at least as its tries have met, here or where it found
-  -- a table full before.
-  abbrev pub full_for : Trial → Reason
-  full_for trial = Full trial.met (found_full trial).most
-
+  -- no table follows the one that was tried, which is full: who needs one makes it
   abbrev pub following_made : KeyCall K V Q → KeyCall K V Q × Called (Node K V)
   following_made c = going (record c { trial = found_full c.trial }) (at.Allocs (table_after c.setting c.trial.table (full_for c.trial)))
 

@@ -13,7 +13,8 @@ use Rattle.papaya_others.specs.Given.Schedules.declared.effect.Effect.TheVariant
 use Rattle.papaya_others.specs.Given.Schedules.declared.effect.Growth.TheVariants.{ABucket}
 use Rattle.papaya_others.specs.Given.Schedules.declared.effect.Spot.{Spot}
 use Rattle.papaya_others.specs.Given.Schedules.Lists.{numbers_from}
-use Rattle.papaya_others.specs.Given.Schedules.Lives.{has_pair_at, MayCopy}
+use Rattle.papaya_others.specs.Given.Schedules.Lives.{MayCopy}
+use Rattle.papaya_others.specs.Given.Schedules.Tries.{has_pair_at}
 use Rattle.papaya_others.specs.Given.Schedules.declared.effect.Table.{Table}
 use Rattle.papaya_others.specs.Given.Schedules.Moment.{Place, GivenBack, Stage, TableThere, Moment}
 use Rattle.papaya_others.specs.Given.Schedules.Things.{same_table, same_spot}
