@@ -6,4 +6,4 @@ pub mod Fewer
 pub mod PairsChanged
 pub mod Met
 pub mod MetOn
-mod MostMet
+pub mod MostMet

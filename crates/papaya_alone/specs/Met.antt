@@ -115,6 +115,6 @@ CallsKeepMost {K} {Q} V same hash asks =
     → ((asking : Asking) → p.stands ≢ at.Asks asking) → Steps Took value_at m (call_plan asks same hash p) m2 end → end.0.trial.most ≤ n
 
 -- So where the counter says how many pairs the map has, what a call has met changes nothing.
-abbrev pub GoesByTheCounterAlone : Type 0
-GoesByTheCounterAlone = {K : Type 0} (c : Chart K) (trial : Trial) (len initial : ℕ) → trial.most ≤ pairs_in c
+abbrev pub GoesByTheCounterAlone : Type 0 → Type 0
+GoesByTheCounterAlone K = (c : Chart K) (trial : Trial) (len initial : ℕ) → trial.most ≤ pairs_in c
     → next_len (Full trial.met trial.most) len (pairs_in c) initial ≡ next_len (Full 0 0) len (pairs_in c) initial

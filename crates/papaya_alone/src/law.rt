@@ -14,5 +14,5 @@ pub fn met_pairs_are_few<K, V, Q>()
     ensures words { (same : K → K → Bool) (hash : K → ℕ) → WordsSayWhatStands V same hash }
     ensures full { (same : K → K → Bool) (hash : K → ℕ) → MeetsNoMore V Q same hash }
     ensures most { (same : K → K → Bool) (hash : K → ℕ) (asks : Q → K → Bool) → CallsKeepMost V same hash asks }
-    ensures lengths { GoesByTheCounterAlone }
+    ensures lengths { GoesByTheCounterAlone K }
 {}

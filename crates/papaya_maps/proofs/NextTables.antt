@@ -50,7 +50,7 @@ module _ {K V Q : Type 0} (same : K → K → Bool) (hash : K → ℕ) (asks : Q
       ap (λ (x : Reason). next_len x before.len count n.setting.initial) so.1
       ∙ ap (λ (k : ℕ). next_len (Full p.trial.met p.trial.most) before.len k n.setting.initial) counts
       ∙ ap (λ (x : Setting). next_len (Full p.trial.met p.trial.most) before.len (pairs_in c) x.initial) of_setting
-      ∙ goes_by_the_counter c p.trial before.len setting.initial few
+      ∙ goes_by_the_counter K c p.trial before.len setting.initial few
 
   module _ (m2 : Mem (Node K V)) (end : KeyCall K V Q × Called (Node K V)) where
     abbrev So : Type 0

@@ -24,7 +24,7 @@ use Rattle.papaya_callers.specs.Given.Rule.Maps.{spot_at, spot_of, IsMap, IsTabl
 use Rattle.papaya_callers.proofs.Given.Rule.Keys.TriesSeen.{spot_inside}
 use Rattle.papaya_callers.proofs.Given.Rule.Words.TablesSeen.{place_there}
 use Rattle.papaya_alone.specs.Counting.{one_if, pairs_in}
-use Rattle.papaya_alone.specs.Met.{has_pair, met_in, MetPairsAreFew, TriesMeetPairs, names_block, words_met, WordsSayWhatStands, GoesByTheCounterAlone, IsAtTry}
+use Rattle.papaya_alone.specs.Met.{has_pair, met_in, MetPairsAreFew, TriesMeetPairs, names_block, words_met, WordsSayWhatStands, MeetsNoMore, GoesByTheCounterAlone, IsAtTry}
 use Rattle.papaya_alone.proofs.Shards.Fewer.{no_more}
 
 -- what is not marked was not copied
@@ -163,8 +163,8 @@ module _ {K V : Type 0} (same : K → K → Bool) (hash : K → ℕ) (mode : Res
 pub words_say : {K : Type 0} (V : Type 0) (same : K → K → Bool) (hash : K → ℕ) → WordsSayWhatStands V same hash
 words_say V same hash mode root m c blocks map table t is code tries = words_few same hash mode root m c blocks map table t is code tries
 
-pub goes_by_the_counter : GoesByTheCounterAlone
-goes_by_the_counter c trial len initial few = go_by_the_counter trial.met trial.most len (pairs_in c) initial few
+pub goes_by_the_counter : (K : Type 0) → GoesByTheCounterAlone K
+goes_by_the_counter K c trial len initial few = go_by_the_counter trial.met trial.most len (pairs_in c) initial few
 
 pub meets_no_more : {K : Type 0} (V Q : Type 0) (same : K → K → Bool) (hash : K → ℕ) → MeetsNoMore V Q same hash
 meets_no_more V Q same hash lawful mode root m c blocks map p t is last at_root is_len met =
