@@ -18,7 +18,7 @@ use Rattle.papaya_settles.specs.Given.Schedules.Terms.{Terms}
 use Rattle.papaya_settles.specs.Given.Schedules.Tries.{IsFull}
 use Rattle.papaya_settles.specs.Given.Schedules.Views.{map_at, capacity_or, tables_of}
 use Rattle.papaya_settles.specs.Given.Points.FactsCalls.{IsCopying}
-use Rattle.papaya_settles.specs.Given.Callers.Together.{CallOnKey, OnKey}
+use Rattle.papaya_settles.specs.Given.Callers.Together.{CallOnKey, UnderWay, OnKey}
 use Rattle.papaya_settles.specs.Given.Effects.Effects.{effects_of}
 use Rattle.papaya_settles.specs.Given.Effects.Known.{Known}
 use Rattle.papaya_settles.specs.Given.Effects.declared.acting.Acting.TheVariants as acts
@@ -48,6 +48,10 @@ there_of map t = record { table = table_of map t.turn; shape = record { len = t.
 abbrev pub HasFoundFull : {K V Q : Type 0} → ℕ → ℕ → List (Moment K V) → KeyCall K V Q → Calling → Type 0
 HasFoundFull map many moments p (at.Allocs making) = suc p.trial.table.turn ≡ many → IsFull map (there_of map p.trial.table) moments p.trial.met
 HasFoundFull map many moments p _ = Unit {0}
+
+abbrev pub FoundFull : {K V : Type 0} → ℕ → ℕ → List (Moment K V) → UnderWay K V K → Type 0
+FoundFull map many moments (OnKey u) = HasFoundFull map many moments u.call u.call.stands
+FoundFull map many moments _ = Unit {0}
 
 -- the map was made with the capacity that the moment says: no later table has fewer entries than it
 abbrev pub IsMadeFor : {K V : Type 0} → ℕ → Moment K V → Setting → Type 0

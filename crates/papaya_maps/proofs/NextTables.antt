@@ -1,5 +1,5 @@
 -- A call that is alone makes the table after the last one for as many pairs as the counter says.
-use Rattle.std.specs.Prelude.{◌≡◌, ℕ, ◌≤◌, Result}
+use Rattle.std.specs.Prelude.{◌≡◌, ℕ, ◌≤◌, Bool, Result}
 use Rattle.std.proofs.Common.{ap, sym, subst, ◌∙◌, inl, inr}
 use Rattle.papaya_finishes.specs.Given.SeizeWords.declared.fault.Fault.{Fault}
 use Rattle.papaya_finishes.specs.Given.SeizeWords.Mem.{Mem, Took, value_at}
