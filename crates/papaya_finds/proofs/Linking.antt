@@ -195,7 +195,6 @@ module _ {K V : Type 0} (same : K → K → Bool) (terms : Terms) (moments : Lis
     follows_first p so [] e = first_follows p so c.call its_call asked
     follows_first p so (t ∷ tables) e = absurd (omega (arith, e))
 
-
 -- what effects find that link no table
 module _ {K V : Type 0} (terms : Terms) (moments : List (Moment K V)) (own : List ℕ) (map : ℕ) where
   shape_by : (f : Effect) (m : Moment K V) (c : CallThere K V) → call_of own m ≡ Some c → FindsShape terms moments m f c → ByCall (FindsShape terms moments m f) (call_of own m)

@@ -19,7 +19,7 @@ module _ {K V : Type 0} (map : ℕ) (number number2 : ℕ → ℕ) (st st2 : Sta
   as_many = ap (λ (c : Chart K). c.stored) same_chart
 
   -- each pair has the number that it had
-  numbers_stay : (n : ℕ) → n < st.chart.stored → number2 n ≡ number n
+  pub numbers_stay : (n : ℕ) → n < st.chart.stored → number2 n ≡ number n
   numbers_stay n l =
       same_numbers number number2 st.chart.stored shown.pairs.rising (λ x y less l2. shown2.pairs.rising x y less (omega (arith, l2, as_many))) among n (st.chart.stored - suc n) l (omega (arith, l))
     where
