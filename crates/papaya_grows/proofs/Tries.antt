@@ -6,4 +6,5 @@ pub mod Facts
 pub mod Stays
 pub mod Shows
 pub mod Steps
+pub mod Others
 pub mod Log

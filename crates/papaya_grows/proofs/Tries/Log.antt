@@ -75,7 +75,7 @@ module _ {K V : Type 0} (map begun : ℕ) (log : List (Entry K V)) (m : Moment K
   meets_so zero met so = so
   meets_so (suc try) met (before, pairs, rest, why, sum) = by why
     where
-      abbrev So : Moment K V → Type 0
+      So : Moment K V → Type 0
       So x = (before : ℕ) × (pairs : ℕ) × Meets map turn len hash moments try before × FindsTaken map (try_at turn len hash try) x pairs × (met ≡ before + pairs)
 
       at : (x : Moment K V) → many_of map x ≤ many_of map m → TakenOrPassed map (try_at turn len hash try, pairs) x → So x
