@@ -1,5 +1,5 @@
 -- Where a table has a tombstone a pair lay, after a step of a call that is none of a row: where one had one before, and where the step removes a pair.
-use Rattle.std.specs.Prelude.{◌≡◌, ◌≢◌, ℕ, ◌+◌, ◌<◌, ◌≤◌, Bool, true, false, cond, List, [], ◌∷◌, length, Option, Some}
+use Rattle.std.specs.Prelude.{◌≡◌, ◌≢◌, ◌⊎◌, ℕ, ◌+◌, ◌<◌, ◌≤◌, Bool, true, false, cond, List, [], ◌∷◌, length, Option, Some}
 use Rattle.std.proofs.Common.{refl, ap, sym, subst, ◌∙◌, arith, inl, inr}
 use Rattle.papaya_finds.specs.Given.SeizeWords.Mem.{Mem}
 use Rattle.papaya_finds.specs.Given.Seize.World.{World}

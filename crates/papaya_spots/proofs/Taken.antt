@@ -32,18 +32,18 @@ spot_from s t e = let two = and_both (s.turn == t.turn) (s.place == t.place) e i
     number_is : (a b : ℕ) → (a == b) ≡ true → a ≡ b
     number_is a b e = grind (arith, e)
 
+or_second : (a b : Bool) → b ≡ true → (a || b) ≡ true
+or_second true b e = refl
+or_second false b e = e
+
 -- one of so many numbers passes a test
 pub number_among : (test : ℕ → Bool) (first many n : ℕ) → first ≤ n → n < first + many → test n ≡ true → list_any test (numbers_from first many) ≡ true
 number_among test first zero n from to passes = absurd (omega (arith, from, to))
-number_among test first (suc many) n from to passes = by (cases_eq n first)
-  where
-    or_second : (a b : Bool) → b ≡ true → (a || b) ≡ true
-    or_second true b e = refl
-    or_second false b e = e
-
-    by : (n ≡ first) ⊎ (n ≡ first → ⊥) → (test first || list_any test (numbers_from (suc first) many)) ≡ true
-    by (inl e) = ap (λ (q : Bool). q || list_any test (numbers_from (suc first) many)) (ap test (sym e) ∙ passes)
-    by (inr other) = or_second (test first) _ (number_among test (suc first) many n (omega (arith, from, other)) (omega (arith, to)) passes)
+number_among test first (suc many) n from to passes =
+    elim (cases_eq n first) as (λ _. (test first || list_any test (numbers_from (suc first) many)) ≡ true) [
+      | inl e ↦ ap (λ (q : Bool). q || list_any test (numbers_from (suc first) many)) (ap test (sym e) ∙ passes)
+      | inr other ↦ or_second (test first) (list_any test (numbers_from (suc first) many)) (number_among test (suc first) many n (omega (arith, from, other)) (omega (arith, to)) passes)
+    ]
 
 module _ {K V : Type 0} (map : ℕ) (m : Moment K V) where
   -- one that was stored in the map lies there, or did

@@ -14,7 +14,7 @@ use Rattle.papaya_settles.specs.Given.Tables.Chunks.{is_incremental}
 use Rattle.papaya_settles.specs.Given.Tables.Finding.{may_name, finding}
 use Rattle.papaya_settles.specs.Given.Tables.Nodes.{table_seen}
 use Rattle.papaya_settles.specs.Given.Tables.TablePlaces.{at_word}
-use Rattle.papaya_settles.specs.Given.Tables.Trials.{next_trial, with_met, place_tried}
+use Rattle.papaya_settles.specs.Given.Tables.Trials.{found_full, next_trial, with_met, place_tried}
 use Rattle.papaya_settles.specs.Given.Tables.declared.finding.Finding.{Finding}
 use Rattle.papaya_settles.specs.Given.Tables.declared.finding.Finding.TheVariants as is
 use Rattle.papaya_settles.specs.Given.Tables.declared.marks.TheConstants.{TOMBSTONE}

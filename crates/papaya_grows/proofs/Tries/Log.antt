@@ -1,5 +1,5 @@
 -- Maps have no fewer tables at later moments of a run. So a call that makes a table behind the last one has found that full, at moments since it began.
-use Rattle.std.specs.Prelude.{◌≡◌, ◌⊎◌, ◌<◌, ◌≤◌, ◌==◌, nat_lt, ℕ, zero, suc, Bool, true, false, List, [], ◌∷◌, Option, Some, None, length, if◌then◌else◌}
+use Rattle.std.specs.Prelude.{◌≡◌, ◌⊎◌, ◌+◌, ◌<◌, ◌≤◌, ◌==◌, nat_lt, ℕ, zero, suc, Bool, true, false, List, [], ◌∷◌, Option, Some, None, length, if◌then◌else◌}
 use Rattle.std.proofs.Common.{refl, subst, arith, inl, inr}
 use Rattle.papaya_purposes.specs.Given.Raw.declared.machines.call.Calling.{Calling}
 use Rattle.papaya_purposes.specs.Given.Raw.declared.machines.call.Calling.TheVariants as at
@@ -48,45 +48,49 @@ module _ {K V : Type 0} (map : ℕ) where
       omega (arith, begins, works)
 
   -- what was so at a moment of the log was so where the map had no more tables than at the last one
-  pub one_late : (P : Moment K V → Type 0) (begun : ℕ) (log : List (Entry K V)) → OneOf P (moments_from begun log) → OneOf (λ x. P x × (many_of map x ≤ many_of map (moment log))) (moments_from begun log)
-  one_late P begun [] one = by (begun == 0) one
-    where
-      by : (q : Bool) → OneOf P (if q then start ∷ [] else []) → OneOf (λ x. P x × (many_of map x ≤ many_of map (moment {K = K} {V = V} []))) (if q then start ∷ [] else [])
-      by true (inl so) = inl (so, omega arith)
-      by true (inr none) = inr none
-      by false none = none
-  one_late P begun (e ∷ log) one = by (nat_lt (length (e ∷ log)) begun) one
-    where
-      by : (q : Bool) → OneOf P (if q then [] else moment (e ∷ log) ∷ moments_from begun log)
-          → OneOf (λ x. P x × (many_of map x ≤ many_of map (moment (e ∷ log)))) (if q then [] else moment (e ∷ log) ∷ moments_from begun log)
-      by true none = none
-      by false (inl so) = inl (so, omega arith)
-      by false (inr there) =
-          let more = many_grows e (moment log) in
-          inr (each_of (λ x. P x × (many_of map x ≤ many_of map (moment log))) (λ x. P x × (many_of map x ≤ many_of map (moment (e ∷ log)))) (moments_from begun log)
-          (λ x so. (so.0, (let few = so.1 in omega (arith, few, more)))) (one_late P begun log there))
+  module _ (P : Moment K V → Type 0) where
+    abbrev Late : List (Entry K V) → Moment K V → Type 0
+    Late log x = P x × (many_of map x ≤ many_of map (moment log))
+
+    none_late : (q : Bool) → OneOf P (if q then start ∷ [] else []) → OneOf (Late []) (if q then start ∷ [] else [])
+    none_late true (inl so) = inl (so, omega arith)
+    none_late true (inr none) = inr none
+    none_late false none = none
+
+    -- with one more event
+    more_late : (e : Entry K V) (log : List (Entry K V)) (ms : List (Moment K V)) → (OneOf P ms → OneOf (Late log) ms) → (q : Bool) → OneOf P (if q then [] else moment (e ∷ log) ∷ ms)
+        → OneOf (Late (e ∷ log)) (if q then [] else moment (e ∷ log) ∷ ms)
+    more_late e log ms late true none = none
+    more_late e log ms late false (inl so) = inl (so, omega arith)
+    more_late e log ms late false (inr there) =
+        let more = many_grows e (moment log) in inr (each_of (Late log) (Late (e ∷ log)) ms (λ x so. (so.0, (let few = so.1 in omega (arith, few, more)))) (late there))
+
+    pub one_late : (begun : ℕ) (log : List (Entry K V)) → OneOf P (moments_from begun log) → OneOf (Late log) (moments_from begun log)
+    one_late begun [] one = none_late (begun == 0) one
+    one_late begun (e ∷ log) one = more_late e log (moments_from begun log) (one_late begun log) (nat_lt (length (e ∷ log)) begun) one
 
 -- so tries at the last table meet what they meet at these moments
 module _ {K V : Type 0} (map begun : ℕ) (log : List (Entry K V)) (m : Moment K V) (more : many_of map (moment log) ≤ many_of map m) (turn len hash : ℕ) (last : suc turn ≡ many_of map m) where
   abbrev moments : List (Moment K V)
   moments = m ∷ moments_from begun log
 
+  module _ (try met before pairs : ℕ) (rest : Meets map turn len hash moments try before) (sum : met ≡ before + pairs) where
+    abbrev Found : Moment K V → Type 0
+    Found x = (b : ℕ) × (q : ℕ) × Meets map turn len hash moments try b × FindsTaken map (try_at turn len hash try) x q × (met ≡ b + q)
+
+    found_at : (x : Moment K V) → many_of map x ≤ many_of map m → TakenOrPassed map (try_at turn len hash try, pairs) x → Found x
+    found_at x few (inl found) = (before, pairs, rest, found, sum)
+    found_at x few (inr passed) = absurd (omega (arith, few, passed, last))
+
+    found_one : HasTaken map begun log m (try_at turn len hash try, pairs) → OneOf Found moments
+    found_one (inr now) = inl (found_at m (omega arith) now)
+    found_one (inl had) =
+        inr (each_of (λ x. TakenOrPassed map (try_at turn len hash try, pairs) x × (many_of map x ≤ many_of map (moment log))) Found (moments_from begun log)
+        (λ x so. found_at x (let few = so.1 in omega (arith, few, more)) so.0) (one_late map (λ x. TakenOrPassed map (try_at turn len hash try, pairs) x) begun log had))
+
   meets_so : (tries met : ℕ) → MeetsBy (HasTaken map begun log m) turn len hash tries met → Meets map turn len hash moments tries met
   meets_so zero met so = so
-  meets_so (suc try) met (before, pairs, rest, why, sum) = by why
-    where
-      So : Moment K V → Type 0
-      So x = (before : ℕ) × (pairs : ℕ) × Meets map turn len hash moments try before × FindsTaken map (try_at turn len hash try) x pairs × (met ≡ before + pairs)
-
-      at : (x : Moment K V) → many_of map x ≤ many_of map m → TakenOrPassed map (try_at turn len hash try, pairs) x → So x
-      at x few (inl found) = (before, pairs, meets_so try before rest, found, sum)
-      at x few (inr passed) = absurd (omega (arith, few, passed, last))
-
-      by : HasTaken map begun log m (try_at turn len hash try, pairs) → OneOf So moments
-      by (inr now) = inl (at m (omega arith) now)
-      by (inl had) =
-          inr (each_of (λ x. TakenOrPassed map (try_at turn len hash try, pairs) x × (many_of map x ≤ many_of map (moment log))) So (moments_from begun log)
-          (λ x so. at x (let few = so.1 in omega (arith, few, more)) so.0) (one_late map (λ x. TakenOrPassed map (try_at turn len hash try, pairs) x) begun log had))
+  meets_so (suc try) met (before, pairs, rest, why, sum) = found_one try met before pairs (meets_so try before rest) sum why
 
 -- The promise: what a call finds full it has found full since it began.
 pub found_full_so : {K V : Type 0} (name : ℕ → List ℕ) (log : List (Entry K V)) (m : Moment K V) (s : Scene K V) → ShowsTries name log m s → (map i : ℕ) → many_of map (moment log) ≤ many_of map m

@@ -153,7 +153,7 @@ module _ {K V S : Type 0} (same : K → K → Bool) (hash : K → ℕ) (name : �
       passed_or : (y : Spot × ℕ) → y.0.turn ≡ t → suc t ≢ st.chart.past → Before y
       passed_or y e ne = let made = is.table.made in inr (inr (omega (arith, e, ne, made, many_now)))
 
-      tries_within : (x.call.trial.probe.len ≤ x.call.trial.table.limit) × (x.call.trial.table.limit < 2 ^ 64)
+      tries_within : (x.call.trial.probe.len ≤ x.call.trial.table.limit) × (suc x.call.trial.table.limit < 2 ^ 64)
       tries_within = (
         (let try = is.try in let most = is.most in omega (arith, try, most, limit_is)),
         (let sized = (is_map.map.shows.sized t is.table.made).most in let low = (is_map.map.rule.common.lens t is.table.made).1 in omega (arith, sized, low, limit_is)),

@@ -13,6 +13,7 @@ use Rattle.papaya_purposes.specs.Given.Seize.declared.rows.settle.Settled.{Settl
 use Rattle.papaya_purposes.specs.Given.Seize.declared.rows.settle.Settled.TheVariants as settled
 use Rattle.papaya_purposes.specs.Given.Tables.Chunks.{is_incremental}
 use Rattle.papaya_purposes.specs.Given.Tables.Finding.{finding, may_name}
+use Rattle.papaya_purposes.specs.Given.Tables.Lengths.{next_len}
 use Rattle.papaya_purposes.specs.Given.Tables.Nodes.{table_seen}
 use Rattle.papaya_purposes.specs.Given.Tables.Probes.{probe_after}
 use Rattle.papaya_purposes.specs.Given.Tables.Trials.{next_trial, place_tried, with_met}
@@ -48,6 +49,7 @@ use Rattle.papaya_purposes.specs.Given.Raw.Call.{call_plan, copied, disposed, dr
 use Rattle.papaya_purposes.specs.Given.Raw.CallFills.{asks_at, fill_by, fills_with, gives_up, putting_by}
 use Rattle.papaya_purposes.specs.Given.Raw.CallPoints.{aim_of, at_free, at_last, at_pair, changed, counted, entering, following_made, gap_by, going, having_met, over, pair_by, passed, standing, tableless, told_of, went_on}
 use Rattle.papaya_purposes.specs.Given.Raw.CallPoints.{told as tells_of}
+use Rattle.papaya_purposes.specs.Given.Raw.Replies.{as_own, value_for}
 use Rattle.papaya_purposes.specs.Given.Raw.declared.machines.answer.Called.{Called}
 use Rattle.papaya_purposes.specs.Given.Raw.declared.machines.answer.Called.TheVariants as called
 use Rattle.papaya_purposes.specs.Given.Raw.declared.machines.answer.End.TheVariants as ends
@@ -189,7 +191,7 @@ module _ (Why : Spot × ℕ → Type 0) {K V Q : Type 0} where
     pair_tried there.Asks word =
         either Why (block_in word == q.replies.pair) (pair_by q.replies.present q word) (pair_by tells.Nothing q word) (pair_told_tried q.replies.present word) (pair_told_tried tells.Nothing word)
 
-    module _ (within : q.trial.probe.len ≤ q.trial.table.limit) (few : q.trial.table.limit < 2 ^ 64) (word : ℕ)
+    module _ (within : q.trial.probe.len ≤ q.trial.table.limit) (few : suc q.trial.table.limit < 2 ^ 64) (word : ℕ)
         (takes : word ≢ 0 → Why (try_at q.trial.table.turn q.trial.table.len q.hash q.trial.probe.len, if block_in word == 0 then 0 else 1))
         (moves : (flag : Bool) → finding q.setting.mode (aim_of q.missing) word flag ≡ finds.Moved → (x : Spot × ℕ) → x.0.turn ≡ q.trial.table.turn → Why x) where
       -- the word of the try is counted
@@ -247,11 +249,11 @@ module _ (Why : Spot × ℕ → Type 0) {K V Q : Type 0} where
         pair_read_tried None = key_tried q.replies.key
 
         read_tried : Always So (word_read asks same loaded q word)
-        read_tried = always_if So (may_name q.hash word) _ _ (pair_read_tried q.asked) (told_tried loaded _)
+        read_tried = always_if So (may_name q.hash word) _ _ (pair_read_tried q.asked) (told_tried loaded false)
 
 -- A step of a call leaves it at no try, or at the first one, whatever it was so by; or it writes no such word, and the call has met what its tries meet.
 module _ {K V Q : Type 0} (Why : Spot × ℕ → Type 0) (asks : Q → K → Bool) (same : K → K → Bool) (hash : K → ℕ) (m m2 : Mem (Node K V)) (told : Changed) (p : KeyCall K V Q) (end : KeyCall K V Q × Called (Node K V))
-    (within : (at.Probes ≡ p.stands) ⊎ ((word new : ℕ) × (at.Tries word new ≡ p.stands)) → (p.trial.probe.len ≤ p.trial.table.limit) × (p.trial.table.limit < 2 ^ 64))
+    (within : (at.Probes ≡ p.stands) ⊎ ((word new : ℕ) × (at.Tries word new ≡ p.stands)) → (p.trial.probe.len ≤ p.trial.table.limit) × (suc p.trial.table.limit < 2 ^ 64))
     (takes : (at.Probes ≡ p.stands) ⊎ ((word new : ℕ) × (at.Tries word new ≡ p.stands)) → (word : ℕ) → word_at m (place_tried p.trial) ≡ Some word → word ≢ 0
     → Why (try_at p.trial.table.turn p.trial.table.len p.hash p.trial.probe.len, if block_in word == 0 then 0 else 1))
     (moves : (at.Probes ≡ p.stands) ⊎ ((word new : ℕ) × (at.Tries word new ≡ p.stands)) → (word : ℕ) → word_at m (place_tried p.trial) ≡ Some word
@@ -319,9 +321,9 @@ module _ {K V Q : Type 0} (Why : Spot × ℕ → Type 0) (asks : Q → K → Boo
     off_nothing is = subst OffWords (sym is) tt
 
     by_count : (before : Table) (reason : Reason) (b : Sum × Counting ℕ) → told ≡ changes.Nothing → Made_so (making.counted n before reason b)
-    by_count before reason (sum, progress.Goes) is = goes_on (off_nothing is) _
+    by_count before reason (sum, progress.Goes) is = goes_on (off_nothing is) (making.standing n (makes.Sums before reason sum))
     by_count before reason (sum, progress.Waits) is = inr (off_nothing is, all)
-    by_count before reason (sum, progress.Done count) is = goes_on (off_nothing is) _
+    by_count before reason (sum, progress.Done count) is = goes_on (off_nothing is) (making.standing n (making.making_of reason before (next_len reason before.len count n.setting.initial)))
     by_count before reason (sum, progress.Refused fault) is = inl (ending_tried OfNone p (ends.Refused fault))
 
     count_quiet : (sum : Sum) (x : Summing) (b : Sum × Counting ℕ) → Step (summing.plan_at {T = Node K V} sum x) b → told ≡ changes.Nothing
@@ -336,16 +338,16 @@ module _ {K V Q : Type 0} (Why : Spot × ℕ → Type 0) (asks : Q → K → Boo
     made_at : (x : Making) (e : NewTable × Counting Table) → Step (making.plan_at {K = K} {V = V} n x) e → Made_so e
     made_at (makes.Sums before reason sum) e s =
         let it = told_in m m2 told (making.counted n before reason) (sum_plan sum) e s in is_so e (making.counted n before reason it.0) it.1 (by_count before reason it.0 (count_quiet sum sum.stands it.0 it.2))
-    made_at (makes.Makes table) e (Made (Ok block), took, ends) = is_so e _ ends (goes_on (subst OffWords (sym took.1) tt) _)
+    made_at (makes.Makes table) e (Made (Ok block), took, ends) = is_so e _ ends (goes_on (subst OffWords (sym took.1) tt) (making.standing n (making.after_making n.link (making.with_block table block))))
     made_at (makes.Makes table) e (Made (Err back), took, ends) = is_so e _ ends (inl (ending_tried OfNone p _))
     made_at (makes.Makes table) e (Found word, took, ends) = absurd took.0.0
     made_at (makes.Makes table) e (Stored, took, ends) = absurd took.0.0
     made_at (makes.Makes table) e (Exchanged r, took, ends) = absurd took.0.0
     made_at (makes.Makes table) e (Taken value, took, ends) = absurd took.0.0
     made_at (makes.Makes table) e (Roomed r, took, ends) = absurd took.0.0
-    made_at (makes.Promotes table) e (out, took, ends) = is_so e _ ends (goes_on (subst OffWords (sym took.1) refl) _)
+    made_at (makes.Promotes table) e (out, took, ends) = is_so e _ ends (goes_on (subst OffWords (sym took.1) refl) (making.standing n (makes.Links table)))
     made_at (makes.Links table) e (Exchanged (Ok found), took, ends) = is_so e _ ends (inl (on_tried OfNone p table))
-    made_at (makes.Links table) e (Exchanged (Err found), took, ends) = is_so e _ ends (goes_on (off_nothing took.1) _)
+    made_at (makes.Links table) e (Exchanged (Err found), took, ends) = is_so e _ ends (goes_on (off_nothing took.1) (making.standing n (makes.Drops table found)))
     made_at (makes.Links table) e (Found word, took, ends) = absurd took.0.0
     made_at (makes.Links table) e (Stored, took, ends) = absurd took.0.0
     made_at (makes.Links table) e (Made r, took, ends) = absurd took.0.0
@@ -362,37 +364,34 @@ module _ {K V Q : Type 0} (Why : Spot × ℕ → Type 0) (asks : Q → K → Boo
 
   -- where it asks, or goes by what it was told
   module _ (word : ℕ) (here : HasTried Why p p.trial.probe.len) where
-    put_made : (b : Bool) (q : KeyCall K V Q) → HasTried Why q q.trial.probe.len → TriedAt Why q q.stands → (key : K) (value : V) → Step (putting_by b q word key value) end → Goal
-    put_made true q so self key value (Made (Ok block), took, e) = inr (subst OffWords (sym took.1) tt, subst (Tried Why) (sym e) so)
-    put_made true q so self key value (Made (Err back), took, e) = inl (subst (Tried OfNone) (sym e) tt)
-    put_made true q so self key value (Found found, took, e) = absurd took.0.0
-    put_made true q so self key value (Stored, took, e) = absurd took.0.0
-    put_made true q so self key value (Exchanged r, took, e) = absurd took.0.0
-    put_made true q so self key value (Taken node, took, e) = absurd took.0.0
-    put_made true q so self key value (Roomed r, took, e) = absurd took.0.0
-    put_made false q so self key value (Taken node, took, e) = inr (subst OffWords (sym took.1) tt, subst (Tried Why) (sym e) so)
-    put_made false q so self key value (Made r, took, e) = absurd took.0.0
-    put_made false q so self key value (Found found, took, e) = absurd took.0.0
-    put_made false q so self key value (Stored, took, e) = absurd took.0.0
-    put_made false q so self key value (Exchanged r, took, e) = absurd took.0.0
-    put_made false q so self key value (Roomed r, took, e) = absurd took.0.0
+    put_made : (b : Bool) (q : KeyCall K V Q) → HasTried Why q q.trial.probe.len → (key : K) (value : V) → Step (putting_by b q word key value) end → Goal
+    put_made true q so key value (Made (Ok block), took, e) = inr (subst OffWords (sym took.1) tt, subst (Tried Why) (sym e) so)
+    put_made true q so key value (Made (Err back), took, e) = inl (subst (Tried OfNone) (sym e) tt)
+    put_made true q so key value (Found found, took, e) = absurd took.0.0
+    put_made true q so key value (Stored, took, e) = absurd took.0.0
+    put_made true q so key value (Exchanged r, took, e) = absurd took.0.0
+    put_made true q so key value (Taken node, took, e) = absurd took.0.0
+    put_made true q so key value (Roomed r, took, e) = absurd took.0.0
+    put_made false q so key value (Taken node, took, e) = inr (subst OffWords (sym took.1) tt, subst (Tried Why) (sym e) so)
+    put_made false q so key value (Made r, took, e) = absurd took.0.0
+    put_made false q so key value (Found found, took, e) = absurd took.0.0
+    put_made false q so key value (Stored, took, e) = absurd took.0.0
+    put_made false q so key value (Exchanged r, took, e) = absurd took.0.0
+    put_made false q so key value (Roomed r, took, e) = absurd took.0.0
 
-    fill_told : (value : Option V) (q : KeyCall K V Q) → HasTried Why q q.trial.probe.len → TriedAt Why q q.stands → (key : K) → Step (fill_by value q word key) end → Goal
-    fill_told (Some value) q so self key s = put_made (q.own == 0) (record q { replies = record q.replies { key = None } }) so (same_at q.stands self) key value s
-      where
-        same_at : (stands : Calling) → TriedAt Why q stands → TriedAt Why (record q { replies = record q.replies { key = None } }) stands
-        same_at stands so = so
-    fill_told None q so self key s = quiet s.2 (subst (Tried Why) (sym s.1) so)
+    fill_told : (value : Option V) (q : KeyCall K V Q) → HasTried Why q q.trial.probe.len → (key : K) → Step (fill_by value q word key) end → Goal
+    fill_told (Some value) q so key s = put_made (q.own == 0) (record q { replies = record q.replies { key = None } }) so key value s
+    fill_told None q so key s = quiet s.2 (subst (Tried Why) (sym s.1) so)
 
-    at_fills : TriedAt Why p p.stands → (key : Option K) → Step (fills_with key p word) end → Goal
-    at_fills self (Some key) s = fill_told _ _ here self key s
-    at_fills self None (Taken (node.Pair key value), took, e) = inr (subst OffWords (sym took.1) tt, subst (Tried Why) (sym e) here)
-    at_fills self None (Taken value, took, e) = inr (subst OffWords (sym took.1) tt, subst (Tried Why) (sym e) here)
-    at_fills self None (Made r, took, e) = absurd took.0.0
-    at_fills self None (Found found, took, e) = absurd took.0.0
-    at_fills self None (Stored, took, e) = absurd took.0.0
-    at_fills self None (Exchanged r, took, e) = absurd took.0.0
-    at_fills self None (Roomed r, took, e) = absurd took.0.0
+    at_fills : (key : Option K) → Step (fills_with key p word) end → Goal
+    at_fills (Some key) s = fill_told (value_for p.replies word) (record p { replies = as_own p.replies word }) here key s
+    at_fills None (Taken (node.Pair key value), took, e) = inr (subst OffWords (sym took.1) tt, subst (Tried Why) (sym e) here)
+    at_fills None (Taken value, took, e) = inr (subst OffWords (sym took.1) tt, subst (Tried Why) (sym e) here)
+    at_fills None (Made r, took, e) = absurd took.0.0
+    at_fills None (Found found, took, e) = absurd took.0.0
+    at_fills None (Stored, took, e) = absurd took.0.0
+    at_fills None (Exchanged r, took, e) = absurd took.0.0
+    at_fills None (Roomed r, took, e) = absurd took.0.0
 
     at_gives_up : Step (gives_up p word) end → Goal
     at_gives_up (Taken (node.Pair key value), took, e) = inr (subst OffWords (sym took.1) tt, subst (Tried Why) (sym e) here)
@@ -422,7 +421,7 @@ module _ {K V Q : Type 0} (Why : Spot × ℕ → Type 0) (asks : Q → K → Boo
   on_looks l None = tt
 
   on_root : TriedAt OfNone p p.stands → (out : Out (Node K V)) → Always (Tried OfNone) (root_found p out)
-  on_root self (Found link) = always_if (Tried OfNone) (link == 0) _ _ (tableless_tried OfNone p.missing p) (λ value. entering_tried OfNone p _)
+  on_root self (Found link) = always_if (Tried OfNone) (link == 0) _ _ (tableless_tried OfNone p.missing p) (λ value. entering_tried OfNone p (table_seen link value))
   on_root self Stored = self
   on_root self (Exchanged r) = self
   on_root self (Made r) = self
@@ -444,7 +443,7 @@ module _ {K V Q : Type 0} (Why : Spot × ℕ → Type 0) (asks : Q → K → Boo
   at_asks : (a : Asking) → TriedAt Why p (at.Asks a) → TriedAt Why p p.stands → Step (asks_at p a) end → Goal
   at_asks (asking.Absent gap) so self s = quiet s.2 (subst (Tried Why) (sym s.1) self)
   at_asks (asking.Present word) so self s = quiet s.2 (subst (Tried Why) (sym s.1) self)
-  at_asks (asking.Fills word) so self s = at_fills word so self p.replies.key s
+  at_asks (asking.Fills word) so self s = at_fills word so p.replies.key s
   at_asks (asking.GivesUp word) so self s = at_gives_up word so s
 
   by_point : (stands : Calling) → stands ≡ p.stands → TriedAt Why p stands → Step (plan_at asks same hash p stands) end → Goal
