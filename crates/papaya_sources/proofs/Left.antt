@@ -40,7 +40,6 @@ use Rattle.papaya_finds.proofs.Given.Spots.Effects.{AllAside, AreAside, aside_al
 use Rattle.papaya_finds.proofs.Given.Spots.Placed.{lies_named}
 use Rattle.papaya_finds.proofs.Given.Spots.Stills.{still_spot}
 use Rattle.papaya_sources.specs.Sources.{AreNumbered, WereLeft}
-use Rattle.papaya_sources.proofs.New.{aside_stores_none, copied_stores_none, promoted_stores_none}
 
 -- what was a tombstone, marked or not
 abbrev pub IsTombstone : Place → Type 0
@@ -203,45 +202,48 @@ module _ {K V : Type 0} (same : K → K → Bool) (slot caller map : ℕ) (name 
   calm_done : (d : Chart K) → went.c2 ≡ d → ((t i : ℕ) (mark : Bool) → d.place t i ≡ Tombstone mark → IsTombstone (c.place t i)) → AllAside effects → Goal
   calm_done d is back all = as_done effects refl d is (aside_left d (led effects) back (aside_all name (Some map) effects m all))
 
+  abbrev then_by : Move K → Chart K
+  then_by move = after (spot_of s.hash) q move c
+
   by_move : (move : Move K) (allowed : Allowed same (spot_of s.hash) q move c) → went.c2 ≡ after (spot_of s.hash) q move c → By move → Goal
   by_move (Links len limit) allowed is (b, own, done) =
-      as_done _ done.0 _ is (aside_left _ _ (λ t i mark there. (mark, there)) (aside_all name (Some map) (Linked (table_of map c.past) (record { len = len; limit = limit }) ∷ []) m (refl, tt)))
+      as_done _ done.0 (then_by (Links len limit)) is (aside_left (then_by (Links len limit)) (led (Linked (table_of map c.past) (record { len = len; limit = limit }) ∷ [])) (λ t i mark there. (mark, there)) (aside_all name (Some map) (Linked (table_of map c.past) (record { len = len; limit = limit }) ∷ []) m (refl, tt)))
   by_move (Stores t k j) allowed is (i, b, own, its_block, done) =
-      as_done _ done.0 _ is
-      (store_left _ (led (Stored (known.stored + 1) (spot_in t (spot_of s.hash (c.len t) k j)) ∷ [])) t (spot_of s.hash (c.len t) k j)
+      as_done _ done.0 (then_by (Stores t k j)) is
+      (store_left (then_by (Stores t k j)) (led (Stored (known.stored + 1) (spot_in t (spot_of s.hash (c.len t) k j)) ∷ [])) t (spot_of s.hash (c.len t) k j)
       (λ x y mark there. written (spot_of s.hash) q c x y t (spot_of s.hash (c.len t) k j) _ (λ none. absurd (cc none.1)) (mark, there)) refl refl)
   by_move (Replaces t i k) allowed is (n, borrowed, held, (j, b, own, its_block, done)) =
-      as_done _ done.0 _ is
-      (store_left _ (led (Replaced (number n) ∷ Stored (known.stored + 1) (spot_in t i) ∷ [])) t i (λ x y mark there. written (spot_of s.hash) q c x y t i _ (λ none. absurd (cc none.1)) (mark, there)) refl refl)
+      as_done _ done.0 (then_by (Replaces t i k)) is
+      (store_left (then_by (Replaces t i k)) (led (Replaced (number n) ∷ Stored (known.stored + 1) (spot_in t i) ∷ [])) t i (λ x y mark there. written (spot_of s.hash) q c x y t i _ (λ none. absurd (cc none.1)) (mark, there)) refl refl)
   by_move (Removes t i) (k, still, may) is (n, borrowed, held, done) =
-      as_done _ done.0 _ is (remove_left t i n borrowed k held may (rule.common.keyed t i n Still borrowed held).0)
+      as_done _ done.0 (then_by (Removes t i)) is (remove_left t i n borrowed k held may (rule.common.keyed t i n Still borrowed held).0)
   by_move (Puts by i t k j) allowed is (n, borrowed, held, l, seen, done) =
-      as_done _ done.0 _ is
-      (copy_left _ n _ (λ x y mark there. written (spot_of s.hash) q c x y t (spot_of s.hash (c.len t) k j) _ (λ none. absurd (cc (none.1, ap (lent_place (spot_of s.hash) q) held))) (mark, there))
+      as_done _ done.0 (then_by (Puts by i t k j)) is
+      (copy_left (then_by (Puts by i t k j)) n _ (λ x y mark there. written (spot_of s.hash) q c x y t (spot_of s.hash (c.len t) k j) _ (λ none. absurd (cc (none.1, ap (lent_place (spot_of s.hash) q) held))) (mark, there))
       (λ e. rule.common.is_current c.first i n Copying borrowed held (λ z. cc z) (root_home q)))
     where
       root_home : (z : Bool) → cond z (c.first ≤ c.first) (c.first ≡ c.first)
       root_home true = omega arith
       root_home false = refl
   by_move (PutsLate t i n) allowed is (l, seen, seen_table, done) =
-      as_done _ done.0 _ is (copy_left _ n _ (λ x y mark there. written (spot_of s.hash) q c x y t i _ (λ none. absurd (cc none.1)) (mark, there)) (λ e. absurd (let alone = allowed.0 in cc (e, alone))))
-  by_move (Promotes t) allowed is done = as_done _ done.0 _ is (promote_left t)
+      as_done _ done.0 (then_by (PutsLate t i n)) is (copy_left (then_by (PutsLate t i n)) n _ (λ x y mark there. written (spot_of s.hash) q c x y t i _ (λ none. absurd (cc none.1)) (mark, there)) (λ e. absurd (let alone = allowed.0 in cc (e, alone))))
+  by_move (Promotes t) allowed is done = as_done _ done.0 (then_by (Promotes t)) is (promote_left t)
   by_move (Marks by i) allowed is calm =
-      calm_done _ is (λ x y mark there. written (spot_of s.hash) q c x y c.first i _ (of_marked (spot_of s.hash) q c x y (c.place c.first i)) (mark, there)) (calm_aside effects calm.calm)
+      calm_done (then_by (Marks by i)) is (λ x y mark there. written (spot_of s.hash) q c x y c.first i _ (of_marked (spot_of s.hash) q c x y (c.place c.first i)) (mark, there)) (calm_aside effects calm.calm)
   by_move (MarksBlocking i) allowed is calm =
-      calm_done _ is (λ x y mark there. written (spot_of s.hash) q c x y c.first i _ (of_marked (spot_of s.hash) q c x y (c.place c.first i)) (mark, there)) (calm_aside effects calm.calm)
+      calm_done (then_by (MarksBlocking i)) is (λ x y mark there. written (spot_of s.hash) q c x y c.first i _ (of_marked (spot_of s.hash) q c x y (c.place c.first i)) (mark, there)) (calm_aside effects calm.calm)
   by_move (Skips by t i) allowed is calm =
-      calm_done _ is (λ x y mark there. written (spot_of s.hash) q c x y c.first i _ (of_marked (spot_of s.hash) q c x y (c.place c.first i)) (mark, there)) (calm_aside effects calm.calm)
+      calm_done (then_by (Skips by t i)) is (λ x y mark there. written (spot_of s.hash) q c x y c.first i _ (of_marked (spot_of s.hash) q c x y (c.place c.first i)) (mark, there)) (calm_aside effects calm.calm)
   by_move (Unmarks by i) allowed is calm =
-      calm_done _ is (λ x y mark there. written (spot_of s.hash) q c x y c.first i _ (of_still (spot_of s.hash) q c x y (c.place c.first i)) (mark, there)) (calm_aside effects calm.calm)
+      calm_done (then_by (Unmarks by i)) is (λ x y mark there. written (spot_of s.hash) q c x y c.first i _ (of_still (spot_of s.hash) q c x y (c.place c.first i)) (mark, there)) (calm_aside effects calm.calm)
   by_move (Covers by i) allowed is calm =
-      calm_done _ is (λ x y mark there. written (spot_of s.hash) q c x y c.first i _ (of_copied (spot_of s.hash) q c x y (c.place c.first i)) (mark, there)) (calm_aside effects calm.calm)
-  by_move (Claims by t chunk) allowed is calm = calm_done _ is (λ x y mark there. (mark, there)) (calm_aside effects calm.calm)
-  by_move (Reclaims t claim) allowed is calm = calm_done _ is (λ x y mark there. (mark, there)) (calm_aside effects calm.calm)
-  by_move (Counts by t many) allowed is calm = calm_done _ is (λ x y mark there. (mark, there)) (calm_aside effects calm.calm)
-  by_move (GivesUp by t) allowed is calm = calm_done _ is (λ x y mark there. (mark, there)) (calm_aside effects calm.calm)
-  by_move (Aborts t) allowed is calm = calm_done _ is (λ x y mark there. (mark, there)) (calm_aside effects calm.calm)
-  by_move (Announces t) allowed is calm = calm_done _ is (λ x y mark there. (mark, there)) (calm_aside effects calm.calm)
+      calm_done (then_by (Covers by i)) is (λ x y mark there. written (spot_of s.hash) q c x y c.first i _ (of_copied (spot_of s.hash) q c x y (c.place c.first i)) (mark, there)) (calm_aside effects calm.calm)
+  by_move (Claims by t chunk) allowed is calm = calm_done (then_by (Claims by t chunk)) is (λ x y mark there. (mark, there)) (calm_aside effects calm.calm)
+  by_move (Reclaims t claim) allowed is calm = calm_done (then_by (Reclaims t claim)) is (λ x y mark there. (mark, there)) (calm_aside effects calm.calm)
+  by_move (Counts by t many) allowed is calm = calm_done (then_by (Counts by t many)) is (λ x y mark there. (mark, there)) (calm_aside effects calm.calm)
+  by_move (GivesUp by t) allowed is calm = calm_done (then_by (GivesUp by t)) is (λ x y mark there. (mark, there)) (calm_aside effects calm.calm)
+  by_move (Aborts t) allowed is calm = calm_done (then_by (Aborts t)) is (λ x y mark there. (mark, there)) (calm_aside effects calm.calm)
+  by_move (Announces t) allowed is calm = calm_done (then_by (Announces t)) is (λ x y mark there. (mark, there)) (calm_aside effects calm.calm)
 
   pub own_left : DidMoved same slot caller map name number s lawful w sight is_sight is_map m2 Told went blocks2 grown sights2 m known shown shown_blocks told left went.moved → Goal
   own_left did = by went.moved did

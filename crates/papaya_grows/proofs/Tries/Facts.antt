@@ -147,5 +147,5 @@ module _ {K V : Type 0} (same : K → K → Bool) (map : ℕ) (number : ℕ → 
             (shown_byte s.hash fits c.key here) (λ n phase borrowed is. let it = is_map.rule.common.keyed t i n phase borrowed is in (it.1, it.2)) (λ n phase borrowed k is has. refl)
 
         by : Says (λ k. flag) c.key here (is_incremental mode) aim finds.Moved → ⊥
-        by (inl (incremental, n, borrowed, is, key)) = let mark = ap is_marked is in let free = unmarked in cc (mark, free)
+        by (inl (incremental, n, borrowed, holds)) = let mark = ap is_marked holds.0 in let free = unmarked in cc (mark, free)
         by (inr (alone, looks_none, mark)) = let free = unmarked in cc (mark, free)

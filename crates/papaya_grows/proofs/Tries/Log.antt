@@ -11,7 +11,7 @@ use Rattle.papaya_purposes.specs.Given.Schedules.declared.outcome.Outcome.{Outco
 use Rattle.papaya_purposes.specs.Given.Schedules.declared.outcome.Outcome.TheVariants.{Done, Goes}
 use Rattle.papaya_purposes.specs.Given.Schedules.After.{after, moment, moments_from}
 use Rattle.papaya_purposes.specs.Given.Schedules.Beginning.{at_work, begun, with_call}
-use Rattle.papaya_purposes.specs.Given.Schedules.Entry.{Entry, acted_on, caller_of, is_busy}
+use Rattle.papaya_purposes.specs.Given.Schedules.Entry.{Entry, acted_on, caller_of, is_busy, nameless}
 use Rattle.papaya_purposes.specs.Given.Schedules.Lists.{OneOf}
 use Rattle.papaya_purposes.specs.Given.Schedules.Moment.{Moment, UnderWay as CallThere, start}
 use Rattle.papaya_purposes.specs.Given.Schedules.Tries.{FindsTaken, Meets, try_at}
@@ -35,9 +35,9 @@ module _ {K V : Type 0} (map : ℕ) where
   begun_tables (Begin caller guard name call) Goes m = call_tables caller guard call (number_of name m) m
   begun_tables (OneCall guard name call) outcome m = by (is_busy outcome)
     where
-      by : (q : Bool) → (if q then m else with_call _ guard call (number_of name m) m).tables ≡ m.tables
+      by : (q : Bool) → (if q then m else with_call nameless guard call (number_of name m) m).tables ≡ m.tables
       by true = refl
-      by false = call_tables _ guard call (number_of name m) m
+      by false = call_tables nameless guard call (number_of name m) m
   begun_tables (MakeMap name mode capacity) Done m = refl
   begun_tables _ _ m = refl
 

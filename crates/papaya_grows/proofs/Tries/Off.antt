@@ -1,18 +1,20 @@
 -- Where a call writes no root, and no word that says what stands in a table, pairs are where they were.
-use Rattle.std.specs.Prelude.{◌≡◌, ℕ, Bool, true, List, [], ◌∷◌, Some, if◌then◌else◌}
+use Rattle.std.specs.Prelude.{◌≡◌, ◌&&◌, nat_lt, ℕ, Bool, true, false, List, [], ◌∷◌, Some, if◌then◌else◌}
 use Rattle.std.specs.List.{list_all}
 use Rattle.std.proofs.Common.{refl, subst, sym}
 use Rattle.papaya_purposes.specs.Given.SeizeWords.declared.at.At.{At}
 use Rattle.papaya_purposes.specs.Given.SeizeWords.declared.at.At.TheVariants.{Entry, Root, Slot, Used, Word}
 use Rattle.papaya_purposes.specs.Given.Tables.declared.table_words.TheConstants.{STATUS}
 use Rattle.papaya_purposes.specs.Given.Schedules.declared.effect.Effect.{Effect}
+use Rattle.papaya_purposes.specs.Given.Schedules.declared.effect.Effect.TheVariants as effect
+use Rattle.papaya_purposes.specs.Given.Schedules.declared.effect.Growth.TheVariants.{ABucket}
 use Rattle.papaya_purposes.specs.Given.Schedules.Effects.{with_effects}
 use Rattle.papaya_purposes.specs.Given.Schedules.Handing.{is_call_effect}
 use Rattle.papaya_purposes.specs.Given.Schedules.Moment.{Moment}
 use Rattle.papaya_purposes.specs.Given.Teller.declared.changed.Changed.{Changed}
 use Rattle.papaya_purposes.specs.Given.Teller.declared.changed.Changed.TheVariants as changes
-use Rattle.papaya_purposes.specs.Given.Teller.declared.kind.Kind.{Kind}
-use Rattle.papaya_purposes.specs.Given.Teller.declared.kind.Kind.TheVariants as kind
+use Rattle.papaya_purposes.specs.Given.Teller.declared.changed.Kind.{Kind}
+use Rattle.papaya_purposes.specs.Given.Teller.declared.changed.Kind.TheVariants as kind
 use Rattle.papaya_purposes.specs.Given.Effects.Effects.{effects_of, in_block, made_by, named, names_same, taken_by}
 use Rattle.papaya_purposes.specs.Given.Effects.Known.{Known}
 use Rattle.papaya_purposes.specs.Given.Effects.declared.acting.Acting.{Acting}
@@ -65,7 +67,7 @@ module _ (caller map : ℕ) (known : Known) where
   calm_off (changes.Made k b) off all = (refl, made_calm k)
   calm_off (changes.Unmade k) off all = (refl, tt)
   calm_off (changes.Took b) off all = taken_calm (known.roles b) all
-  calm_off (changes.Roomed bucket had) off all = calm_if _ [] _ tt (refl, tt)
+  calm_off (changes.Roomed bucket had) off all = calm_if (had && nat_lt bucket known.buckets) [] (effect.Asked ABucket ∷ []) tt (refl, tt)
 
   pub same_pairs : {K V : Type 0} (own : List ℕ) (m : Moment K V) (told : Changed) → OffWords told → list_all is_call_effect (effects_of its known told) ≡ true
       → HasSamePairs m (with_effects (Some own) (Some map) (effects_of its known told) m)

@@ -200,8 +200,8 @@ module _ {K V S : Type 0} (same : K → K → Bool) (hash : K → ℕ) (name : �
       no_row _ trying row = row
 
       now : (stands : Calling) → Tries stands → CallingFacts same st.hash same s.world i (in_slot st.setting (slot_of i)) st.chart seen x.keys x.change x.call stands → At x
-      now calling.Probes trying facts = (facts.1, facts.2, facts.3, λ alone last. facts.5 alone)
-      now (calling.Tries word new) trying facts = (facts.2, facts.3, facts.4, λ alone last. facts.6 alone)
+      now calling.Probes trying facts = (facts.1.0, facts.1.1, facts.1.2, λ alone last. facts.1.4 alone)
+      now (calling.Tries word new) trying facts = (facts.2.0, facts.2.1, facts.2.2, λ alone last. facts.2.4 alone)
       now calling.Makes trying facts = absurd (other calling.Makes (λ e. cc e) (λ word new e. cc e) trying)
       now (calling.Looks l) trying facts = absurd (other (calling.Looks l) (λ e. cc e) (λ word new e. cc e) trying)
       now calling.Roots trying facts = absurd (other calling.Roots (λ e. cc e) (λ word new e. cc e) trying)
@@ -221,7 +221,7 @@ module _ {K V S : Type 0} (same : K → K → Bool) (hash : K → ℕ) (name : �
       no_last t began gone last = let behind = gone.behind in let root = is_map.map.rule.common.rooted (omega (arith, last)) in omega (arith, behind, root, last)
 
       then_late : (began : ℕ) (stands : Calling) → Tries stands → LateCalling same st.hash same s.world i (in_slot st.setting (slot_of i)) st.chart seen x.keys began x.call stands → At x
-      then_late began calling.Probes trying late = (late.1, late.2, late.3, λ alone last. absurd (no_last late.1 began late.5 last))
+      then_late began calling.Probes trying late = (late.1.0, late.1.1, late.1.2, λ alone last. absurd (no_last late.1.0 began late.1.4 last))
       then_late began (calling.Tries word new) trying late = (late.1.0, late.1.1, late.1.2, λ alone last. absurd (no_last late.1.0 began late.1.4 last))
       then_late began (calling.Looks l) trying late = absurd (other (calling.Looks l) (λ e. cc e) (λ word new e. cc e) trying)
       then_late began calling.Nexts trying late = absurd (other calling.Nexts (λ e. cc e) (λ word new e. cc e) trying)
