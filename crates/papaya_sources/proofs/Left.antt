@@ -24,7 +24,7 @@ use Rattle.papaya_finds.proofs.Given.Rule.Moves.Writes.{put_in_cases}
 use Rattle.papaya_finds.specs.Given.Points.Steps.{AreLawful}
 use Rattle.papaya_finds.specs.Given.Callers.Sights.{Sight, seen_by, IsGrown, IsSight}
 use Rattle.papaya_finds.specs.Given.Callers.Together.{in_slot}
-use Rattle.papaya_finds.specs.Given.Effects.Effects.{effects_of, known_after}
+use Rattle.papaya_finds.specs.Given.Effects.Effects.{effects_of}
 use Rattle.papaya_finds.specs.Given.Effects.Known.{Known}
 use Rattle.papaya_finds.specs.Given.Effects.declared.acting.Acting.TheVariants.{Call}
 use Rattle.papaya_finds.specs.Given.Finishes.Maps.{Standing}

@@ -20,7 +20,7 @@ use Rattle.papaya_finds.specs.Given.Teller.declared.changed.Changed.TheVariants 
 use Rattle.papaya_finds.specs.Given.Tells.Seen.{Seen, Unseen, Wrote, seen_of}
 use Rattle.papaya_finds.specs.Given.Tells.Tells.{IsTold}
 use Rattle.papaya_finds.proofs.Given.Tells.Promised.{operations_tell, still_steps_tell}
-use Rattle.papaya_finds.specs.Given.Rule.Chart.{Tombstone, Chart}
+use Rattle.papaya_finds.specs.Given.Rule.Chart.{Chart}
 use Rattle.papaya_finds.specs.Given.Rule.InWorld.{IsMapIn, Went}
 use Rattle.papaya_finds.specs.Given.Rule.Words.{Blocks}
 use Rattle.papaya_finds.proofs.Given.Rule.Laws.{current_is_known}

@@ -1,8 +1,8 @@
 -- What the effects of a step of a call find where pairs lie.
-use Rattle.std.specs.Prelude.{◌≡◌, ℕ, zero, suc, ◌+◌, ◌<◌, ◌≤◌, ◌==◌, nat_lt, Bool, true, false, ◌&&◌, ◌||◌, List, [], ◌∷◌, filter, length, Option, if◌then◌else◌, ◌⊎◌}
+use Rattle.std.specs.Prelude.{◌≡◌, ℕ, zero, suc, ◌+◌, ◌<◌, ◌≤◌, ◌==◌, nat_lt, Bool, true, false, ◌&&◌, ◌||◌, List, [], ◌∷◌, filter, Option, if◌then◌else◌, ◌⊎◌}
 use Rattle.std.specs.List.{list_any}
 use Rattle.std.proofs.Common.{refl, ap, sym, subst, ◌∙◌, arith, inl, inr}
-use Rattle.std.proofs.lemmas.Bool.{eq-eqb, cases_eq, cases_lt}
+use Rattle.std.proofs.lemmas.Bool.{eq-eqb, cases_eq}
 use Rattle.papaya_others.specs.Given.SeizeWords.Mem.{Mem}
 use Rattle.papaya_others.specs.Given.Seize.World.{World}
 use Rattle.papaya_others.specs.Given.Tables.Chunks.{is_incremental}
@@ -17,7 +17,7 @@ use Rattle.papaya_others.specs.Given.Schedules.Tries.{has_pair_at}
 use Rattle.papaya_others.specs.Given.Schedules.declared.effect.Table.{Table}
 use Rattle.papaya_others.specs.Given.Schedules.Moment.{Place, GivenBack, Stage, TableThere, Moment}
 use Rattle.papaya_others.specs.Given.Schedules.Things.{same_table, same_spot}
-use Rattle.papaya_others.specs.Given.Schedules.Views.{is_in_map, is_there, is_linked, is_stage, is_place}
+use Rattle.papaya_others.specs.Given.Schedules.Views.{is_there, is_linked, is_stage, is_place}
 use Rattle.papaya_others.specs.Given.Teller.declared.changed.Changed.{Changed}
 use Rattle.papaya_others.specs.Given.Teller.declared.changed.Changed.TheVariants as changed
 use Rattle.papaya_others.specs.Given.Rule.Chart.{Still, Copying, Empty, Holds, Chart}

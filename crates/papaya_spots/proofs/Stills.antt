@@ -1,5 +1,5 @@
 -- Where a pair of the map lies that a table names as one that is not being copied: there, if no later table names it.
-use Rattle.std.specs.Prelude.{◌≡◌, ℕ, ◌<◌, ◌≤◌, Bool, true, false}
+use Rattle.std.specs.Prelude.{◌≡◌, ℕ, ◌≤◌, Bool, true, false}
 use Rattle.std.proofs.Common.{refl, ap, sym, ◌∙◌, arith, inl, inr}
 use Rattle.std.proofs.lemmas.Bool.{cases_lt}
 use Rattle.papaya_others.specs.Given.Schedules.declared.effect.Spot.{Spot}

@@ -1,7 +1,7 @@
 -- Whether a pair of a map lies at a place of a table, and whether one did, by what the table names there.
 use Rattle.std.specs.Prelude.{◌≡◌, ◌≢◌, ℕ, zero, suc, ◌+◌, ◌<◌, ◌≤◌, ◌==◌, ◌&&◌, ◌||◌, Bool, true, false, List, [], ◌∷◌, length}
 use Rattle.std.specs.List.{list_any}
-use Rattle.std.proofs.Common.{refl, ap, sym, subst, ◌∙◌, arith, inl, inr}
+use Rattle.std.proofs.Common.{refl, ap, sym, ◌∙◌, arith, inl, inr}
 use Rattle.std.proofs.lemmas.Bool.{cases_eq, eq-eqb}
 use Rattle.papaya_others.specs.Given.Schedules.declared.effect.Spot.{Spot}
 use Rattle.papaya_others.specs.Given.Schedules.Lists.{numbers_from}
@@ -9,7 +9,6 @@ use Rattle.papaya_others.specs.Given.Schedules.Moment.{Moment}
 use Rattle.papaya_others.specs.Given.Schedules.Things.{same_spot}
 use Rattle.papaya_others.specs.Given.Schedules.Tries.{has_pair_at, is_taken_at}
 use Rattle.papaya_others.specs.Given.Schedules.Views.{is_in_map}
-use Rattle.papaya_others.specs.Given.Rule.Chart.{Chart}
 use Rattle.papaya_others.specs.Given.Finishes.Maps.{Standing}
 use Rattle.papaya_others.specs.Given.Effects.Known.{Known}
 use Rattle.papaya_others.specs.Given.Follows.Maps.{ShowsMap}

@@ -23,7 +23,7 @@ use Rattle.papaya_purposes.specs.Given.Schedules.declared.effect.Effect.{Effect}
 use Rattle.papaya_purposes.specs.Given.Schedules.declared.effect.Effect.TheVariants as effect
 use Rattle.papaya_purposes.specs.Given.Schedules.declared.effect.Growth.TheVariants.{ABlock}
 use Rattle.papaya_purposes.specs.Given.Schedules.Effects.{AtEachEffect}
-use Rattle.papaya_purposes.specs.Given.Schedules.Growing.{Follows, Has, HasNext, IsNextShape, MayMakeFor}
+use Rattle.papaya_purposes.specs.Given.Schedules.Growing.{Follows, Has, HasNext, MayMakeFor}
 use Rattle.papaya_purposes.specs.Given.Schedules.Lists.{OneOf}
 use Rattle.papaya_purposes.specs.Given.Schedules.Moment.{Moment, TableThere, UnderWay as CallThere}
 use Rattle.papaya_purposes.specs.Given.Schedules.Terms.{Terms}

@@ -32,7 +32,7 @@ use Rattle.papaya_purposes.specs.Given.Schedules.After.{moments_from}
 use Rattle.papaya_purposes.specs.Given.Schedules.Counts.{Counts}
 use Rattle.papaya_purposes.specs.Given.Schedules.Effects.{AtEachEffect}
 use Rattle.papaya_purposes.specs.Given.Schedules.Entry.{Entry}
-use Rattle.papaya_purposes.specs.Given.Schedules.Growing.{Follows, Has, HasNext, IsFirstOf, IsNextShape, MayGrow, MayMakeFor, is_too_many}
+use Rattle.papaya_purposes.specs.Given.Schedules.Growing.{Follows, Has, HasNext, IsFirstOf, MayGrow, MayMakeFor, is_too_many}
 use Rattle.papaya_purposes.specs.Given.Schedules.Lists.{OneOf}
 use Rattle.papaya_purposes.specs.Given.Schedules.Moment.{Moment, TableThere, UnderWay as CallThere}
 use Rattle.papaya_purposes.specs.Given.Schedules.Terms.{Terms, shards_of}
@@ -78,7 +78,7 @@ use Rattle.papaya_purposes.proofs.Sums.{counts_wider}
 use Rattle.papaya_purposes.proofs.RoomFacts.{Point, StandsSo, room_point, room_setting}
 use Rattle.papaya_grows.specs.Further.{IsFurther, RoomMakes, ShowsFurther, at_turn, lengths_in, lengths_of}
 use Rattle.papaya_grows.proofs.Finding.Links.{linked, links_by, such_of_copier}
-use Rattle.papaya_grows.proofs.Finding.Making.Lengths.{last_at, table_length}
+use Rattle.papaya_grows.proofs.Finding.Making.Lengths.{table_length}
 
 -- what a reservation is called for
 pub its_more : {K V : Type 0} (r : CallForRoom) (its : Call K V) → IsFor (ForRoom r) its → its ≡ call.Reserve r.reserve.additional

@@ -1,7 +1,7 @@
 -- What the word of a try tells of its place: where the table is the last one it is taken, and a pair lies there if the word names one.
-use Rattle.std.specs.Prelude.{◌≡◌, ◌≢◌, ◌⊎◌, ℕ, zero, suc, ◌+◌, ◌<◌, ◌≤◌, ◌==◌, ◌^◌, ltb, Bool, true, false, cond, length, Option, Some, if◌then◌else◌}
+use Rattle.std.specs.Prelude.{◌≡◌, ◌≢◌, ℕ, suc, ◌<◌, ◌≤◌, ◌==◌, ◌^◌, Bool, true, false, cond, Some, if◌then◌else◌}
 use Rattle.std.proofs.Common.{refl, ap, sym, subst, ◌∙◌, arith, inl, inr}
-use Rattle.std.proofs.lemmas.Bool.{cases_eq, cases_lt, ne_eqb}
+use Rattle.std.proofs.lemmas.Bool.{cases_eq, ne_eqb}
 use Rattle.papaya_purposes.specs.Given.SeizeWords.Mem.{Mem, word_at}
 use Rattle.papaya_purposes.specs.Given.SeizeWords.Word.{block_in}
 use Rattle.papaya_purposes.specs.Given.Tables.Chunks.{is_incremental}
@@ -9,18 +9,16 @@ use Rattle.papaya_purposes.specs.Given.Tables.Finding.{finding}
 use Rattle.papaya_purposes.specs.Given.Tables.TablePlaces.{at_place}
 use Rattle.papaya_purposes.specs.Given.Tables.Trials.{place_tried}
 use Rattle.papaya_purposes.specs.Given.Tables.declared.finding.Aim.{Aim}
-use Rattle.papaya_purposes.specs.Given.Tables.declared.finding.Finding.{Finding}
 use Rattle.papaya_purposes.specs.Given.Tables.declared.finding.Finding.TheVariants as finds
 use Rattle.papaya_purposes.specs.Given.Tables.declared.node.Node.{Node}
 use Rattle.papaya_purposes.specs.Given.Tables.declared.resize_mode.ResizeMode.{ResizeMode}
 use Rattle.papaya_purposes.specs.Given.Tables.declared.table.Table.{Table}
 use Rattle.papaya_purposes.specs.Given.Tables.declared.trial.Trial.{Trial}
-use Rattle.papaya_purposes.specs.Given.Schedules.declared.effect.Spot.{Spot}
 use Rattle.papaya_purposes.specs.Given.Schedules.Moment.{Moment}
-use Rattle.papaya_purposes.specs.Given.Schedules.Tries.{FindsTaken, has_pair_at, is_taken_at, try_at}
+use Rattle.papaya_purposes.specs.Given.Schedules.Tries.{FindsTaken, try_at}
 use Rattle.papaya_purposes.specs.Given.Schedules.Views.{is_in_map}
 use Rattle.papaya_purposes.specs.Given.Rule.Chart.{Chart, Copied, Copying, Empty, Holds, Phase, Place, Share, Still, Tombstone, is_marked}
-use Rattle.papaya_purposes.specs.Given.Rule.Maps.{IsMap, IsTable, IsTrial, spot_at, spot_of}
+use Rattle.papaya_purposes.specs.Given.Rule.Maps.{IsMap, IsTrial, spot_at, spot_of}
 use Rattle.papaya_purposes.specs.Given.Rule.Rule.{Agrees, IsLawful, Rule}
 use Rattle.papaya_purposes.specs.Given.Rule.Words.{Blocks, byte_of, place_word}
 use Rattle.papaya_purposes.proofs.Given.Rule.Keys.TriesSeen.{spot_inside}
@@ -31,7 +29,7 @@ use Rattle.papaya_purposes.proofs.Given.Rule.Words.WordsSeen.{Says, says}
 use Rattle.papaya_purposes.specs.Given.Effects.Known.{Known}
 use Rattle.papaya_purposes.specs.Given.Finishes.Maps.{Standing}
 use Rattle.papaya_purposes.specs.Given.Follows.Maps.{ShowsMap}
-use Rattle.papaya_purposes.specs.Given.Spots.Spots.{LiesAt, ThePair, named_by, spot_in}
+use Rattle.papaya_purposes.specs.Given.Spots.Spots.{LiesAt, named_by, spot_in}
 use Rattle.papaya_purposes.proofs.Given.Spots.Stills.{still_spot}
 use Rattle.papaya_purposes.proofs.Given.Spots.Taken.{no_pair_there, pair_there, taken_there}
 use Rattle.papaya_sources.specs.Sources.{WereLeft}

@@ -1,10 +1,9 @@
 -- Maps have no fewer tables at later moments of a run. So a call that makes a table behind the last one has found that full, at moments since it began.
-use Rattle.std.specs.Prelude.{◌≡◌, ◌⊎◌, ◌+◌, ◌<◌, ◌≤◌, ◌==◌, nat_lt, ℕ, zero, suc, Bool, true, false, List, [], ◌∷◌, Option, Some, None, length, if◌then◌else◌}
-use Rattle.std.proofs.Common.{refl, subst, arith, inl, inr}
+use Rattle.std.specs.Prelude.{◌≡◌, ◌+◌, ◌≤◌, ◌==◌, nat_lt, ℕ, zero, suc, Bool, true, false, List, [], ◌∷◌, Option, Some, None, length, if◌then◌else◌}
+use Rattle.std.proofs.Common.{refl, arith, inl, inr}
 use Rattle.papaya_purposes.specs.Given.Raw.declared.machines.call.Calling.{Calling}
 use Rattle.papaya_purposes.specs.Given.Raw.declared.machines.call.Calling.TheVariants as at
 use Rattle.papaya_purposes.specs.Given.Schedules.declared.call.Call.{Call}
-use Rattle.papaya_purposes.specs.Given.Schedules.declared.effect.Spot.{Spot}
 use Rattle.papaya_purposes.specs.Given.Schedules.declared.event.Event.{Event}
 use Rattle.papaya_purposes.specs.Given.Schedules.declared.event.Event.TheVariants.{Begin, MakeMap, OneCall}
 use Rattle.papaya_purposes.specs.Given.Schedules.declared.outcome.Outcome.{Outcome}
@@ -22,7 +21,7 @@ use Rattle.papaya_purposes.proofs.Given.Histories.Logs.{each_of}
 use Rattle.papaya_purposes.specs.Given.Finds.Linking.{FoundFull, HasFoundFull}
 use Rattle.papaya_purposes.specs.Given.Finds.Within.{many_of}
 use Rattle.papaya_purposes.proofs.Given.Finds.Grows.Steps.{tables_have_been}
-use Rattle.papaya_grows.specs.Tries.{HadTaken, HasTaken, MeetsBy, ShowsTries, TakenOrPassed, TriedAt}
+use Rattle.papaya_grows.specs.Tries.{HasTaken, MeetsBy, ShowsTries, TakenOrPassed, TriedAt}
 use Rattle.papaya_grows.proofs.Finding.Alike.{many_same}
 
 module _ {K V : Type 0} (map : ℕ) where

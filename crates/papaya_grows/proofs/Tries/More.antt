@@ -1,5 +1,5 @@
 -- What a call has met at the tries of its table is so by whatever follows from what it was so by; and so it is where it goes on by a reply.
-use Rattle.std.specs.Prelude.{◌≡◌, ◌≢◌, ◌⊎◌, ◌+◌, ◌<◌, ◌≤◌, ◌==◌, ℕ, zero, suc, Bool, true, false, if◌then◌else◌}
+use Rattle.std.specs.Prelude.{◌≡◌, ◌≤◌, ◌==◌, ℕ, zero, suc, Bool, true, false, if◌then◌else◌}
 use Rattle.std.proofs.Common.{refl, subst, arith, inl, inr}
 use Rattle.std.proofs.lemmas.Bool.{cases_eq}
 use Rattle.papaya_purposes.specs.Given.Tables.declared.marks.TheConstants.{TOMBSTONE}

@@ -2,7 +2,6 @@
 use Rattle.std.specs.Prelude.{◌≡◌, ◌&&◌, nat_lt, ℕ, Bool, true, false, List, [], ◌∷◌, Some, if◌then◌else◌}
 use Rattle.std.specs.List.{list_all}
 use Rattle.std.proofs.Common.{refl, subst, sym}
-use Rattle.papaya_purposes.specs.Given.SeizeWords.declared.at.At.{At}
 use Rattle.papaya_purposes.specs.Given.SeizeWords.declared.at.At.TheVariants.{Entry, Root, Slot, Used, Word}
 use Rattle.papaya_purposes.specs.Given.Tables.declared.table_words.TheConstants.{STATUS}
 use Rattle.papaya_purposes.specs.Given.Schedules.declared.effect.Effect.{Effect}

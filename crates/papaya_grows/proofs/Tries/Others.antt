@@ -4,14 +4,11 @@ use Rattle.std.proofs.Common.{refl}
 use Rattle.papaya_purposes.specs.Given.Seize.World.{Begin, Step}
 use Rattle.papaya_purposes.specs.Given.Seize.declared.progress.Progress.{Progress as Making}
 use Rattle.papaya_purposes.specs.Given.Seize.declared.rows.settle.Settled.{Settled}
-use Rattle.papaya_purposes.specs.Given.Seize.declared.rows.settle.Settled.TheVariants as settled
 use Rattle.papaya_purposes.specs.Given.Tables.declared.node.Node.{Node}
 use Rattle.papaya_purposes.specs.Given.Tables.declared.setting.Setting.{Setting}
-use Rattle.papaya_purposes.specs.Given.Schedules.declared.effect.Effect.{Effect}
 use Rattle.papaya_purposes.specs.Given.Schedules.Effects.{with_effects}
 use Rattle.papaya_purposes.specs.Given.Schedules.Entry.{Entry}
 use Rattle.papaya_purposes.specs.Given.Schedules.Moment.{Moment}
-use Rattle.papaya_purposes.specs.Given.Callers.Together.{OnKey, UnderWay}
 use Rattle.papaya_purposes.specs.Given.Effects.Effects.{effects_of, known_after}
 use Rattle.papaya_purposes.specs.Given.Effects.Known.{Known}
 use Rattle.papaya_purposes.specs.Given.Effects.declared.acting.Acting.TheVariants as acts
@@ -27,7 +24,6 @@ use Rattle.papaya_purposes.specs.Given.Executor.declared.row.SlotRow.{SlotRow}
 use Rattle.papaya_purposes.specs.Given.Executor.declared.worker.Work.TheVariants.{OnSlot}
 use Rattle.papaya_purposes.specs.Given.Finishes.Endings.{Finishing}
 use Rattle.papaya_purposes.specs.Given.Finishes.Makings.{Beginning}
-use Rattle.papaya_purposes.specs.Given.Finishes.Maps.{IsSameMap}
 use Rattle.papaya_purposes.specs.Given.Others.Endings.{ending_after}
 use Rattle.papaya_purposes.specs.Given.Others.Makings.{WasNew, making_after}
 use Rattle.papaya_purposes.specs.Given.Others.Rows.{scene_then}
@@ -35,15 +31,10 @@ use Rattle.papaya_purposes.specs.Given.Moments.Whole.{ShowsWhole}
 use Rattle.papaya_purposes.proofs.Given.Moments.Ends.{end_beside}
 use Rattle.papaya_purposes.proofs.Given.Moments.MakingSteps.{makings_go_beside}
 use Rattle.papaya_purposes.proofs.Given.Moments.OnSlots.{row_beside, rows_begin_beside}
-use Rattle.papaya_purposes.specs.Given.Finds.Linking.{IsMadeFor}
 use Rattle.papaya_purposes.specs.Given.Finds.Within.{many_of}
-use Rattle.papaya_purposes.proofs.Given.Finds.Capacities.{capacities_stay, effects_keep_capacities, makings_keep_capacities, same_maps_stood}
 use Rattle.papaya_purposes.proofs.Given.Finds.Grows.Steps.{tables_have_been}
-use Rattle.papaya_grows.proofs.Finding.Making.Lengths.{effects_keep_lengths}
-use Rattle.papaya_grows.specs.Finding.{ShowsFinding}
-use Rattle.papaya_grows.proofs.Finding.Alike.{itself, stood_as}
+use Rattle.papaya_grows.proofs.Finding.Alike.{itself}
 use Rattle.papaya_grows.proofs.Finding.Aside.{endings_leave_spots, makings_leave_spots, rows_leave_spots}
-use Rattle.papaya_grows.proofs.Finding.Beside.{finding_beside}
 use Rattle.papaya_sources.specs.Sources.{ShowsSources}
 use Rattle.papaya_grows.specs.Tries.{ShowsTries}
 use Rattle.papaya_grows.proofs.Finding.Others.{ended, ended_calls, ended_maps, ended_world}

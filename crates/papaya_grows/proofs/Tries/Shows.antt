@@ -1,7 +1,6 @@
 -- Whatever happens between the steps of calls, a call has met what its tries meet, at moments since it began.
-use Rattle.std.specs.Prelude.{◌≡◌, ◌⊎◌, ◌≤◌, ◌==◌, ℕ, Bool, true, List, ◌∷◌, find, Option, Some, None, length}
-use Rattle.std.proofs.Common.{ap, refl, sym, subst, ◌∙◌, inl, inr}
-use Rattle.papaya_purposes.specs.Given.Tables.declared.node.Node.{Node}
+use Rattle.std.specs.Prelude.{◌≡◌, ◌≤◌, ◌==◌, ℕ, Bool, true, List, ◌∷◌, find, Option, Some, length}
+use Rattle.std.proofs.Common.{ap, sym, ◌∙◌, inl, inr}
 use Rattle.papaya_purposes.specs.Given.Raw.Machine.{machine_asked, machine_replied}
 use Rattle.papaya_purposes.specs.Given.Raw.declared.machines.asking.Reply.{Reply as MachineReply}
 use Rattle.papaya_purposes.specs.Given.Raw.declared.machines.call.KeyCall.{KeyCall}
@@ -15,9 +14,7 @@ use Rattle.papaya_purposes.specs.Given.Schedules.Beginning.{with_call}
 use Rattle.papaya_purposes.specs.Given.Schedules.Entry.{Entry, ends_call}
 use Rattle.papaya_purposes.specs.Given.Schedules.Moment.{MapThere, Moment, UnderWay as CallThere}
 use Rattle.papaya_purposes.specs.Given.Schedules.Views.{call_of, map_at}
-use Rattle.papaya_purposes.specs.Given.Callers.OverAll.{CallOverAll}
 use Rattle.papaya_purposes.specs.Given.Callers.Pairs.{Given}
-use Rattle.papaya_purposes.specs.Given.Callers.Rooms.{CallForRoom}
 use Rattle.papaya_purposes.specs.Given.Callers.Together.{Computes, Counting, ForRoom, Gets, Inserts, IsBegun, OnKey, OverAll, Removes, RemovesIf, TriesToInsert, TriesToInsertWith, UnderWay, Updates, UpdatesOrInserts}
 use Rattle.papaya_purposes.specs.Given.Effects.Known.{Known}
 use Rattle.papaya_purposes.specs.Given.Executor.Beginning.{Begins}

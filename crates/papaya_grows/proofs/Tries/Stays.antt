@@ -1,12 +1,11 @@
 -- A place is found taken at a moment as it was at another one, where the pairs of its map lie where they lay.
-use Rattle.std.specs.Prelude.{◌≡◌, ◌≢◌, ◌⊎◌, ◌<◌, ◌≤◌, ◌==◌, ◌&&◌, ◌||◌, ℕ, suc, Bool, true, false, List, [], ◌∷◌, Some, length, if◌then◌else◌}
+use Rattle.std.specs.Prelude.{◌≡◌, ◌<◌, ◌≤◌, ◌==◌, ◌&&◌, ◌||◌, ℕ, Bool, true, false, List, [], ◌∷◌, length, if◌then◌else◌}
 use Rattle.std.specs.List.{list_any}
-use Rattle.std.proofs.Common.{refl, ap, sym, subst, ◌∙◌, arith, inl, inr}
-use Rattle.std.proofs.lemmas.Bool.{eq-eqb}
+use Rattle.std.proofs.Common.{refl, ap, sym, ◌∙◌, arith, inl, inr}
 use Rattle.papaya_purposes.specs.Given.Schedules.declared.effect.Spot.{Spot}
 use Rattle.papaya_purposes.specs.Given.Schedules.declared.effect.Table.{Table}
 use Rattle.papaya_purposes.specs.Given.Schedules.Lists.{numbers_from}
-use Rattle.papaya_purposes.specs.Given.Schedules.Moment.{InMap, Moment, Place, TableThere}
+use Rattle.papaya_purposes.specs.Given.Schedules.Moment.{Moment, Place}
 use Rattle.papaya_purposes.specs.Given.Schedules.Things.{same_spot}
 use Rattle.papaya_purposes.specs.Given.Schedules.Tries.{FindsTaken, has_pair_at, is_taken_at}
 use Rattle.papaya_purposes.specs.Given.Schedules.Views.{is_in_map, map_at}

@@ -4,7 +4,6 @@ use Rattle.std.proofs.Common.{refl, ap, sym, subst, ◌∙◌, arith, inl, inr}
 use Rattle.std.proofs.lemmas.Bool.{cases_eq}
 use Rattle.papaya_purposes.specs.Given.SeizeWords.Mem.{Mem, word_at}
 use Rattle.papaya_purposes.specs.Given.SeizeWords.Word.{block_in}
-use Rattle.papaya_purposes.specs.Given.Seize.World.{IsInside}
 use Rattle.papaya_purposes.specs.Given.Tables.Chunks.{is_incremental}
 use Rattle.papaya_purposes.specs.Given.Tables.Finding.{finding}
 use Rattle.papaya_purposes.specs.Given.Tables.Trials.{place_tried}
@@ -28,7 +27,6 @@ use Rattle.papaya_purposes.specs.Given.Raw.declared.machines.call.Calling.{Calli
 use Rattle.papaya_purposes.specs.Given.Raw.declared.machines.call.Calling.TheVariants as calling
 use Rattle.papaya_purposes.specs.Given.Raw.declared.machines.call.KeyCall.{KeyCall}
 use Rattle.papaya_purposes.specs.Given.Raw.declared.machines.machine.Machine.{Machine}
-use Rattle.papaya_purposes.specs.Given.Raw.declared.machines.machine.Machine.TheVariants as kinds
 use Rattle.papaya_purposes.specs.Given.Raw.declared.machines.progress.Progress.{Progress}
 use Rattle.papaya_purposes.specs.Given.Schedules.declared.effect.Effect.{Effect}
 use Rattle.papaya_purposes.specs.Given.Schedules.declared.effect.Spot.{Spot}
@@ -40,7 +38,6 @@ use Rattle.papaya_purposes.specs.Given.Schedules.Views.{call_of}
 use Rattle.papaya_purposes.specs.Given.Teller.Tells.{StepsTold}
 use Rattle.papaya_purposes.specs.Given.Teller.declared.changed.Changed.{Changed}
 use Rattle.papaya_purposes.specs.Given.Teller.declared.changed.Changed.TheVariants as changes
-use Rattle.papaya_purposes.specs.Given.Rule.Chart.{Chart}
 use Rattle.papaya_purposes.specs.Given.Rule.InWorld.{IsMapIn}
 use Rattle.papaya_purposes.specs.Given.Rule.Maps.{IsTrial}
 use Rattle.papaya_purposes.specs.Given.Rule.Words.{Blocks}
@@ -50,7 +47,7 @@ use Rattle.papaya_purposes.specs.Given.Points.Steps.{AreLawful}
 use Rattle.papaya_purposes.specs.Given.Points.Told.{IsRowOfCall}
 use Rattle.papaya_purposes.specs.Given.Late.LateCalls.{LateCalling}
 use Rattle.papaya_purposes.specs.Given.Late.Left.{Left}
-use Rattle.papaya_purposes.specs.Given.Callers.Sights.{IsSight, Sight, seen_by}
+use Rattle.papaya_purposes.specs.Given.Callers.Sights.{IsSight, seen_by}
 use Rattle.papaya_purposes.specs.Given.Callers.Together.{CallOnKey, Counting, ForRoom, OnKey, OverAll, Together, UnderWay, in_slot}
 use Rattle.papaya_purposes.proofs.Given.Callers.Sights.Seen.{map_seen}
 use Rattle.papaya_purposes.proofs.Given.Callers.Together.Fits.{map_in_slot}
@@ -71,7 +68,7 @@ use Rattle.papaya_purposes.specs.Given.Finds.Within.{many_of}
 use Rattle.papaya_purposes.proofs.Given.Finds.Grows.Steps.{tables_have_been}
 use Rattle.papaya_purposes.proofs.Given.Finds.Steps.{steps_do_theirs}
 use Rattle.papaya_sources.specs.Sources.{ShowsSources}
-use Rattle.papaya_grows.specs.Tries.{HadTaken, HasTaken, MachineTried, OthersHadTried, ShowsTries, TakenOrPassed}
+use Rattle.papaya_grows.specs.Tries.{HasTaken, MachineTried, OthersHadTried, ShowsTries}
 use Rattle.papaya_grows.proofs.Since as since
 use Rattle.papaya_grows.proofs.Since.{HasSamePairs}
 use Rattle.papaya_grows.proofs.Tries.Facts.{at_try, moves_none, takes_here}

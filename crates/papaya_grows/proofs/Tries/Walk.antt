@@ -1,11 +1,11 @@
 -- A step of a call on one key: at the table where it tries it has met what its tries meet, still; or it is at none, or at the first try.
-use Rattle.std.specs.Prelude.{◌≡◌, ◌≢◌, ◌⊎◌, ◌+◌, ◌-◌, ◌<◌, ◌≤◌, ◌%◌, ◌^◌, ◌==◌, nat_lt, ℕ, suc, Bool, true, false, Option, Some, None, Result, Ok, Err, if◌then◌else◌}
-use Rattle.std.proofs.Common.{refl, ap, sym, subst, arith, inl, inr}
+use Rattle.std.specs.Prelude.{◌≡◌, ◌≢◌, ◌⊎◌, ◌+◌, ◌-◌, ◌<◌, ◌≤◌, ◌%◌, ◌^◌, ◌==◌, nat_lt, ℕ, suc, Bool, true, false, Option, Some, None, Ok, Err, if◌then◌else◌}
+use Rattle.std.proofs.Common.{refl, sym, subst, arith, inl, inr}
 use Rattle.std.proofs.lemmas.Bool.{ltb-true}
 use Rattle.papaya_purposes.specs.Given.SeizeWords.declared.at.At.TheVariants.{Entry, Root, Word}
 use Rattle.papaya_purposes.specs.Given.SeizeWords.Mem.{Mem, value_at, word_at}
-use Rattle.papaya_purposes.specs.Given.SeizeWords.Op.{Exchanged, Found, Made, Make, Out, Roomed, Stored, Taken}
-use Rattle.papaya_purposes.specs.Given.SeizeWords.Plan.{Ends, Plan}
+use Rattle.papaya_purposes.specs.Given.SeizeWords.Op.{Exchanged, Found, Made, Out, Roomed, Stored, Taken}
+use Rattle.papaya_purposes.specs.Given.SeizeWords.Plan.{Plan}
 use Rattle.papaya_purposes.specs.Given.SeizeWords.Word.{block_in}
 use Rattle.papaya_purposes.specs.Given.Seize.declared.progress.Progress.{Progress as Counting}
 use Rattle.papaya_purposes.specs.Given.Seize.declared.progress.Progress.TheVariants as progress
@@ -16,16 +16,15 @@ use Rattle.papaya_purposes.specs.Given.Tables.Finding.{finding, may_name}
 use Rattle.papaya_purposes.specs.Given.Tables.Lengths.{next_len}
 use Rattle.papaya_purposes.specs.Given.Tables.Nodes.{table_seen}
 use Rattle.papaya_purposes.specs.Given.Tables.Probes.{probe_after}
-use Rattle.papaya_purposes.specs.Given.Tables.Trials.{next_trial, place_tried, with_met}
+use Rattle.papaya_purposes.specs.Given.Tables.Trials.{place_tried, with_met}
 use Rattle.papaya_purposes.specs.Given.Tables.declared.finding.Finding.{Finding}
 use Rattle.papaya_purposes.specs.Given.Tables.declared.finding.Finding.TheVariants as finds
 use Rattle.papaya_purposes.specs.Given.Tables.declared.lengths.Reason.{Reason}
 use Rattle.papaya_purposes.specs.Given.Tables.declared.marks.TheConstants.{TOMBSTONE}
 use Rattle.papaya_purposes.specs.Given.Tables.declared.node.Node.{Node}
 use Rattle.papaya_purposes.specs.Given.Tables.declared.node.Node.TheVariants as node
-use Rattle.papaya_purposes.specs.Given.Tables.declared.setting.Setting.{Setting}
 use Rattle.papaya_purposes.specs.Given.Tables.declared.table.Table.{Table}
-use Rattle.papaya_purposes.specs.Given.Tables.declared.table_words.TheConstants.{PLACES, STATUS}
+use Rattle.papaya_purposes.specs.Given.Tables.declared.table_words.TheConstants.{STATUS}
 use Rattle.papaya_purposes.specs.Given.Resize.Copier.{copier_plan}
 use Rattle.papaya_purposes.specs.Given.Resize.CopierStates.{copying_all, helping}
 use Rattle.papaya_purposes.specs.Given.Resize.Dispose.{dispose_plan, disposing}
@@ -45,7 +44,7 @@ use Rattle.papaya_purposes.specs.Given.Resize.declared.outcome.Outcome.TheVarian
 use Rattle.papaya_purposes.specs.Given.Resize.declared.sum.Sum.{Sum}
 use Rattle.papaya_purposes.specs.Given.Resize.declared.sum.Summing.{Summing}
 use Rattle.papaya_purposes.specs.Given.Resize.declared.sum.Summing.TheVariants as sums
-use Rattle.papaya_purposes.specs.Given.Raw.Call.{call_plan, copied, disposed, dropped, first_made, helped, key_read, looked, looks_for, made, makes_of, next_found, next_made, next_read, pair_read, plan_at, root_found, word_read}
+use Rattle.papaya_purposes.specs.Given.Raw.Call.{call_plan, copied, disposed, dropped, first_made, helped, key_read, looked, looks_for, made, makes_of, next_made, next_read, pair_read, plan_at, root_found, word_read}
 use Rattle.papaya_purposes.specs.Given.Raw.CallFills.{asks_at, fill_by, fills_with, gives_up, putting_by}
 use Rattle.papaya_purposes.specs.Given.Raw.CallPoints.{aim_of, at_free, at_last, at_pair, changed, counted, entering, following_made, gap_by, going, having_met, over, pair_by, passed, standing, tableless, told_of, went_on}
 use Rattle.papaya_purposes.specs.Given.Raw.CallPoints.{told as tells_of}
@@ -72,10 +71,8 @@ use Rattle.papaya_purposes.specs.Given.Raw.declared.machines.call.KeyCall.{KeyCa
 use Rattle.papaya_purposes.specs.Given.Schedules.declared.effect.Spot.{Spot}
 use Rattle.papaya_purposes.specs.Given.Schedules.Tries.{try_at}
 use Rattle.papaya_purposes.specs.Given.Teller.Tells.{StepsTold}
-use Rattle.papaya_purposes.specs.Given.Teller.Tells.{told_of as tells_what}
 use Rattle.papaya_purposes.specs.Given.Teller.declared.changed.Changed.{Changed}
 use Rattle.papaya_purposes.specs.Given.Teller.declared.changed.Changed.TheVariants as changes
-use Rattle.papaya_purposes.specs.Given.Tells.Seen.{seen_of}
 use Rattle.papaya_purposes.proofs.Given.Points.Calls.Asked.{beyond_so}
 use Rattle.papaya_purposes.proofs.Given.Rule.Keys.Always.{Always, AlwaysOf, always_ends, always_if, always_plan_as, always_steps}
 use Rattle.papaya_purposes.proofs.Given.Executor.Forgotten.{as_step}
