@@ -1,9 +1,7 @@
 -- The most that a call has met at tables which it found full, from one step to the next: it is no more where it finds the next one full that has no more.
-use Rattle.std.specs.Prelude.{◌==◌, ◌-◌, ◌%◌, ◌^◌, nat_lt, Option, Some, None, Ok, Err, if◌then◌else◌}
-use Rattle.std.proofs.Common.{◌≡◌, ◌≢◌, ℕ, ◌+◌, ◌≤◌, Bool, true, false, refl, sym, subst, arith}
-use Rattle.papaya_callers.specs.Given.SeizeWords.Mem.{Mem, value_at, Took}
+use Rattle.std.specs.Prelude.{◌==◌, ◌-◌, nat_lt, Option, Some, None, Ok, Err, if◌then◌else◌}
+use Rattle.std.proofs.Common.{◌≡◌, ◌≢◌, ℕ, ◌≤◌, Bool, true, false, refl, arith}
 use Rattle.papaya_callers.specs.Given.SeizeWords.Op.{Out, Found, Stored, Exchanged, Made, Taken, Roomed}
-use Rattle.papaya_callers.specs.Given.SeizeWords.Plan.{Steps}
 use Rattle.papaya_callers.specs.Given.Seize.declared.progress.Progress.{Progress}
 use Rattle.papaya_callers.specs.Given.Seize.declared.progress.Progress.TheVariants as progress
 use Rattle.papaya_callers.specs.Given.Seize.declared.rows.settle.Settled.{Settled}
