@@ -6,3 +6,4 @@ pub mod Fewer
 pub mod PairsChanged
 pub mod Met
 pub mod MetOn
+pub mod MostMet

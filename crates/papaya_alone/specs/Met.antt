@@ -74,9 +74,9 @@ module _ {K V Q : Type 0} where
   abbrev pub HasMet : Mem (Node K V) → KeyCall K V Q → ℕ → Type 0
   HasMet m p tries = p.trial.met ≤ words_met m p.trial.table p.hash tries
 
-  -- it makes the next table for them, and counts the pairs first
+  -- it makes the next table for them, or for the most that it has met where it found a table full, and counts the pairs first
   abbrev pub MetMaking : Mem (Node K V) → KeyCall K V Q → Making → Type 0
-  MetMaking m p (makes.Sums before reason sum) = (before ≡ p.trial.table) × (reason ≡ Full p.trial.met) × HasMet m p (suc p.trial.table.limit)
+  MetMaking m p (makes.Sums before reason sum) = (before ≡ p.trial.table) × (reason ≡ Full p.trial.met p.trial.most) × HasMet m p (suc p.trial.table.limit)
   MetMaking m p _ = Unit {0}
 
   -- so it is from the first try at a table on, until the pairs are counted for the next one
@@ -100,10 +100,21 @@ WordsSayWhatStands {K} V same hash =
     (mode : ResizeMode) (root : ℕ) (m : Mem (Node K V)) (c : Chart K) (blocks : Blocks) → IsMap same hash mode root m c blocks
     → (table : Table) (t : ℕ) → IsTable c blocks table t → (code tries : ℕ) → words_met m table code tries ≤ met_in c code t tries
 
--- So where a call makes the table after the last one, and the counter says how many pairs the map has, what it has met changes nothing.
-abbrev pub GoesByTheCounterAlone : {K : Type 0} → Type 0 → Type 0 → (K → K → Bool) → (K → ℕ) → Type 0
-GoesByTheCounterAlone {K} V Q same hash =
+-- So a call that finds the last table full has met no more pairs there than the map has.
+abbrev pub MeetsNoMore : {K : Type 0} → Type 0 → Type 0 → (K → K → Bool) → (K → ℕ) → Type 0
+MeetsNoMore {K} V Q same hash =
     IsLawful same (spot_of hash) → (mode : ResizeMode) (root : ℕ) (m : Mem (Node K V)) (c : Chart K) (blocks : Blocks) → IsMap same hash mode root m c blocks
     → (p : KeyCall K V Q) (t : ℕ) → IsTable c blocks p.trial.table t → suc t ≡ c.past → (is_incremental mode ≡ false → t ≡ c.first) → IsTableLen (c.len t)
-    → HasMet m p (suc p.trial.table.limit)
-    → (len initial : ℕ) → next_len (Full p.trial.met) len (pairs_in c) initial ≡ next_len (Full 0) len (pairs_in c) initial
+    → HasMet m p (suc p.trial.table.limit) → p.trial.met ≤ pairs_in c
+
+-- Nor has it met more at any table that it found full, if it had not before: a step of a call that does not ask leaves the most that it has met where it was,
+-- or takes what it has met at the table which it finds to be the last.
+abbrev pub CallsKeepMost : {K Q : Type 0} → Type 0 → (K → K → Bool) → (K → ℕ) → (Q → K → Bool) → Type 0
+CallsKeepMost {K} {Q} V same hash asks =
+    (m m2 : Mem (Node K V)) (p : KeyCall K V Q) (end : KeyCall K V Q × Called (Node K V)) (n : ℕ) → p.trial.most ≤ n → (p.stands ≡ at.Nexts → p.trial.met ≤ n)
+    → ((asking : Asking) → p.stands ≢ at.Asks asking) → Steps Took value_at m (call_plan asks same hash p) m2 end → end.0.trial.most ≤ n
+
+-- So where the counter says how many pairs the map has, what a call has met changes nothing.
+abbrev pub GoesByTheCounterAlone : Type 0 → Type 0
+GoesByTheCounterAlone K = (c : Chart K) (trial : Trial) (len initial : ℕ) → trial.most ≤ pairs_in c
+    → next_len (Full trial.met trial.most) len (pairs_in c) initial ≡ next_len (Full 0 0) len (pairs_in c) initial

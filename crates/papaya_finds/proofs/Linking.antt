@@ -3,7 +3,7 @@ use Rattle.std.specs.Prelude.{◌≡◌, ℕ, suc, ◌<◌, ◌++◌, Bool, fals
 use Rattle.std.proofs.Common.{refl, ap, sym, subst, ◌∙◌, inl, inr, arith}
 use Rattle.papaya_settles.specs.Given.Seize.World.{World}
 use Rattle.papaya_settles.specs.Given.SeizeWords.declared.at.At.{At}
-use Rattle.papaya_settles.specs.Given.Tables.Lengths.{entries_of}
+use Rattle.papaya_settles.specs.Given.Tables.Lengths.{entries_of, next_len, next_limit}
 use Rattle.papaya_settles.specs.Given.Tables.declared.lengths.Reason.{Reason}
 use Rattle.papaya_settles.specs.Given.Tables.declared.lengths.Reason.TheVariants.{Full}
 use Rattle.papaya_settles.specs.Given.Tables.declared.node.Node.{Node}
@@ -16,6 +16,7 @@ use Rattle.papaya_settles.specs.Given.Raw.declared.machines.call.Calling.{Callin
 use Rattle.papaya_settles.specs.Given.Raw.declared.machines.call.Calling.TheVariants as at_point
 use Rattle.papaya_settles.specs.Given.Raw.declared.machines.call.KeyCall.{KeyCall}
 use Rattle.papaya_settles.specs.Given.Raw.declared.machines.progress.Progress.{Progress}
+use Rattle.papaya_settles.specs.Given.Runs.declared.outcome.TableShape.{TableShape}
 use Rattle.papaya_settles.specs.Given.Schedules.declared.call.Call.{Call}
 use Rattle.papaya_settles.specs.Given.Schedules.declared.call.Call.TheVariants as call
 use Rattle.papaya_settles.specs.Given.Schedules.declared.effect.Effect.{Effect}
@@ -26,7 +27,8 @@ use Rattle.papaya_settles.specs.Given.Schedules.Entry.{ByCall}
 use Rattle.papaya_settles.specs.Given.Schedules.Growing.{Has, IsFirstOf, MayMakeFor, IsNextShape, Follows}
 use Rattle.papaya_settles.specs.Given.Schedules.Moment.{UnderWay as CallThere, Stage, TableThere, Moment}
 use Rattle.papaya_settles.specs.Given.Schedules.Terms.{Terms}
-use Rattle.papaya_settles.specs.Given.Schedules.Views.{map_at, capacity_or, call_of, tables_of, last_length}
+use Rattle.papaya_settles.specs.Given.Schedules.Tries.{IsFull}
+use Rattle.papaya_settles.specs.Given.Schedules.Views.{map_at, capacity_or, call_of, tables_of, last_of}
 use Rattle.papaya_settles.specs.Given.Rule.Chart.{Chart}
 use Rattle.papaya_settles.specs.Given.Rule.Words.{Blocks}
 use Rattle.papaya_settles.specs.Given.Rule.Maps.{IsTable}
@@ -58,7 +60,7 @@ use Rattle.papaya_owes.proofs.Tables.Leaves.{Stays, IsMade, IsGivenUp, IsLinked}
 use Rattle.papaya_owes.proofs.Tables.Roles.{of_table, NoneOfTable}
 use Rattle.papaya_owes.proofs.Tables.Step.{left_tables}
 use Rattle.papaya_finds.specs.Growing.{GrowsAt, ShowsGrowing}
-use Rattle.papaya_finds.specs.Linking.{FindsShape, FindShapes, IsMadeFor, KeyCallsLink}
+use Rattle.papaya_finds.specs.Linking.{FindsShape, FindShapes, there_of, HasFoundFull, IsMadeFor, KeyCallsLink}
 use Rattle.papaya_finds.specs.Shaping.{ShapedAt, IsFirstTable, IsNextTable}
 use Rattle.papaya_finds.specs.Within.{many_of}
 use Rattle.papaya_finds.proofs.Grows.Given.{HasGivenForNone, called_valued, knows_for_none}
@@ -67,15 +69,23 @@ use Rattle.papaya_finds.proofs.StoresNone.{given_stores}
 
 -- the newest table is the last one
 
-last_added : (xs : List TableThere) (x : TableThere) → last_length (xs ++ x ∷ []) ≡ x.shape.len
-last_added [] x = refl
-last_added (y ∷ []) x = refl
-last_added (y ∷ z ∷ xs) x = last_added (z ∷ xs) x
+last_added : (y : TableThere) (ys : List TableThere) (x : TableThere) → last_of y (ys ++ x ∷ []) ≡ x
+last_added y [] x = refl
+last_added y (z ∷ ys) x = last_added z ys x
 
-last_of : {K : Type 0} (map : ℕ) (c : Chart K) (stage : ℕ → Stage) (t n : ℕ) → n ≡ suc t → last_length (tables_to map c stage n) ≡ c.len t
-last_of map c stage t n e =
-    ap (λ (x : ℕ). last_length (tables_to map c stage x)) e
-    ∙ last_added (tables_to map c stage t) (record { table = table_of map t; shape = shape_at map c t; stage = stage t })
+abbrev newest_of : {K : Type 0} → ℕ → Chart K → (ℕ → Stage) → ℕ → TableThere
+newest_of map c stage t = record { table = table_of map t; shape = shape_at map c t; stage = stage t }
+
+-- so what comes after it follows them all
+module _ {K V : Type 0} (terms : Terms) (moments : List (Moment K V)) (c : CallThere K V) (capacity : ℕ) (shape : TableShape) where
+  follows_last : (xs : List TableThere) (x : TableThere) → IsNextShape terms c moments capacity x shape → Follows terms c moments capacity shape (xs ++ x ∷ [])
+  follows_last [] x next = next
+  follows_last (y ∷ ys) x next = subst (λ (t : TableThere). IsNextShape terms c moments capacity t shape) (sym (last_added y ys x)) next
+
+  follows_newest : (map : ℕ) (chart : Chart K) (stage : ℕ → Stage) (t n : ℕ) → n ≡ suc t → IsNextShape terms c moments capacity (newest_of map chart stage t) shape
+      → Follows terms c moments capacity shape (tables_to map chart stage n)
+  follows_newest map chart stage t n e next =
+      subst (λ (k : ℕ). Follows terms c moments capacity shape (tables_to map chart stage k)) (sym e) (follows_last (tables_to map chart stage t) (newest_of map chart stage t) next)
 
 -- The table that a making has made is as it was to be, and has the turn that it was to have.
 
@@ -151,13 +161,14 @@ module _ {K V : Type 0} (same : K → K → Bool) (terms : Terms) (moments : Lis
     (apart : (n o : ℕ) → n < stored → o < stored → number n ≡ number o → n ≡ o) (known : Known) (has : HasGivenForNone u.pair) where
   -- it has a value, and stores where its key is missing
 
-  may_make : (its : Call K V) → IsCalled same (OnKey u) its → IsAskedAs number stored known u its c → (count met : ℕ) → MayMakeFor terms c moments its count (Full met)
-  may_make (call.On one) is asked count met = called_valued same number stored known u c (call.On one) is asked has
-  may_make (call.Reserve more) is asked count met = absurd is
-  may_make call.Clear is asked count met = absurd is
-  may_make call.Retain is asked count met = absurd is
-  may_make call.Len is asked count met = absurd is
-  may_make call.Walk is asked count met = absurd is
+  may_make : (t : TableThere) (its : Call K V) → IsCalled same (OnKey u) its → IsAskedAs number stored known u its c → (count met most : ℕ) → IsFull c.map t moments met
+      → MayMakeFor terms c moments t its count (Full met most)
+  may_make t (call.On one) is asked count met most full = (called_valued same number stored known u c (call.On one) is asked has, full)
+  may_make t (call.Reserve more) is asked count met most full = absurd is
+  may_make t call.Clear is asked count met most full = absurd is
+  may_make t call.Retain is asked count met most full = absurd is
+  may_make t call.Len is asked count met most full = absurd is
+  may_make t call.Walk is asked count met most full = absurd is
 
   first_follows : (p : Planned) → IsFirstTable p → (its : Call K V) → IsCalled same (OnKey u) its → IsAskedAs number stored known u its c → IsFirstOf terms its c (shape_of p)
   first_follows p so (call.On one) is asked = (given_stores number stored apart c.replies u.pair has one asked.asked asked.replies asked.given, so)
@@ -168,16 +179,21 @@ module _ {K V : Type 0} (same : K → K → Bool) (terms : Terms) (moments : Lis
   first_follows p so call.Walk is asked = absurd is
 
   module _ (its_call : IsCalled same (OnKey u) c.call) (asked : IsAskedAs number stored known u c.call c) (capacity : ℕ) (setting : Setting) (made_for : Has (entries_of capacity) setting.initial) where
-    next_follows : (before p : Planned) → IsNextTable setting before p → IsNextShape terms c moments capacity before.len (shape_of p)
-    next_follows before p next = (Full next.1, next.0, setting.initial, made_for, may_make c.call its_call asked next.0 next.1, next.2, next.3)
+    next_follows : (before p : Planned) (met : ℕ) → IsNextTable setting before met p → (t : TableThere) → t.shape.len ≡ before.len → t.shape.limit ≡ before.limit → IsFull c.map t moments met
+        → IsNextShape terms c moments capacity t (shape_of p)
+    next_follows before p met next t len_is limit_is full = (
+      Full met next.1,
+      next.0,
+      setting.initial,
+      made_for,
+      may_make t c.call its_call asked next.0 met next.1 full,
+      subst (λ (n : ℕ). Has (next_len (Full met next.1) n next.0 setting.initial) p.len) (sym len_is) next.2,
+      next.3 ∙ ap (λ (n : ℕ). next_limit (Full met next.1) n before.limit p.len) (sym len_is) ∙ ap (λ (n : ℕ). next_limit (Full met next.1) t.shape.len n p.len) (sym limit_is),
+    )
 
     follows_first : (p : Planned) → IsFirstTable p → (tables : List TableThere) → length tables ≡ 0 → Follows terms c moments capacity (shape_of p) tables
     follows_first p so [] e = first_follows p so c.call its_call asked
     follows_first p so (t ∷ tables) e = absurd (omega (arith, e))
-
-    follows_next : (before p : Planned) → IsNextTable setting before p → (tables : List TableThere) → (length tables ≡ 0 → ⊥) → before.len ≡ last_length tables → Follows terms c moments capacity (shape_of p) tables
-    follows_next before p next [] some len_is = absurd (some refl)
-    follows_next before p next (t ∷ tables) some len_is = subst (λ (len : ℕ). IsNextShape terms c moments capacity len (shape_of p)) len_is (next_follows before p next)
 
 -- what effects find that link no table
 module _ {K V : Type 0} (terms : Terms) (moments : List (Moment K V)) (own : List ℕ) (map : ℕ) where
@@ -209,7 +225,7 @@ module _ {K V : Type 0} (terms : Terms) (moments : List (Moment K V)) (own : Lis
 module _ {K V S : Type 0} (same : K → K → Bool) (hash : K → ℕ) (name : ℕ → List ℕ) (m : Moment K V) (known : Known) (s : Scene K V) (old new : Executor K V S) (at : IsAt same hash old s)
     (whole : ShowsWhole same name m known s) (tables : ShowsTables name m known s) (growing : ShowsGrowing m s) (map i : ℕ) (u : CallOnKey K V K) (here : s.calls map i ≡ Some (OnKey u))
     (said : Progress (Node K V)) (leads : StepLeads same hash i said s old new) (copies_none : IsCopying u.call.stands → ⊥) (made_for : IsMadeFor map m (leads map (OnKey u) here).0.setting)
-    (terms : Terms) (moments : List (Moment K V)) where
+    (terms : Terms) (moments : List (Moment K V)) (found_full : HasFoundFull map (many_of map m) (m ∷ moments) u.call u.call.stands) where
   abbrev st : Standing K
   st = (leads map (OnKey u) here).0
 
@@ -257,34 +273,36 @@ module _ {K V S : Type 0} (same : K → K → Bool) (hash : K → ℕ) (name : �
           follows_first same terms (m ∷ moments) u c (whole.all.shown.number map) st.chart.stored (numbers_apart map (whole.all.shown.number map) st m known (whole.all.shown.maps map st st_is).pairs) known has
           its_call.3 asked (capacity_or (map_at map m)) st.setting made_for
 
-      abbrev follow_next : (before q : Planned) → IsNextTable st.setting before q → (ts : List TableThere) → (length ts ≡ 0 → ⊥) → before.len ≡ last_length ts
-          → Follows terms c (m ∷ moments) (capacity_or (map_at map m)) (shape_of q) ts
-      follow_next =
-          follows_next same terms (m ∷ moments) u c (whole.all.shown.number map) st.chart.stored (numbers_apart map (whole.all.shown.number map) st m known (whole.all.shown.maps map st st_is).pairs) known has
-          its_call.3 asked (capacity_or (map_at map m)) st.setting made_for
+      -- the table that the call has tried is the newest, and it follows that
+      module _ (t : ℕ) (entered : IsTable st.chart seen u.call.trial.table t) (turn : p.turn ≡ suc t) where
+        abbrev tried : Planned
+        tried = u.call.trial.table
 
-      -- the table that the call has tried is the newest
-      newest : (t : ℕ) → IsTable st.chart seen u.call.trial.table t → p.turn ≡ suc t → u.call.trial.table.len ≡ last_length (tables_of map m)
-      newest t entered turn =
-          let past : st.chart.past ≡ suc t = many_now ∙ sym turn_is ∙ turn in
-          ap (λ (x : Planned). x.len) entered.is
-          ∙ sym (ap last_length (whole.all.shown.maps map st st_is).tables.listed ∙ last_of map st.chart (whole.all.shown.maps map st st_is).tables.stage t st.chart.past past)
+        newest : suc tried.turn ≡ many_of map m
+        newest = ap (λ (x : Planned). suc x.turn) entered.is ∙ sym turn ∙ turn_is
 
-      next_as : (before : Planned) → IsNextTable u.call.setting before p → IsNextTable st.setting before p
-      next_as before next = subst (λ (x : Setting). IsNextTable x before p) setting_is next
+        follow_next : IsNextTable u.call.setting tried u.call.trial.met p → (suc tried.turn ≡ many_of map m → IsFull map (there_of map tried) (m ∷ moments) u.call.trial.met) → Shape
+        follow_next next full =
+            subst (λ (ts : List TableThere). Follows terms c (m ∷ moments) (capacity_or (map_at map m)) (shape_of p) ts) (sym (whole.all.shown.maps map st st_is).tables.listed)
+            (follows_newest terms (m ∷ moments) c (capacity_or (map_at map m)) (shape_of p) map st.chart (whole.all.shown.maps map st st_is).tables.stage t st.chart.past (many_now ∙ sym turn_is ∙ turn)
+            (next_follows same terms (m ∷ moments) u c (whole.all.shown.number map) st.chart.stored (numbers_apart map (whole.all.shown.number map) st m known (whole.all.shown.maps map st st_is).pairs) known has
+            its_call.3 asked (capacity_or (map_at map m)) st.setting made_for tried p u.call.trial.met (subst (λ (x : Setting). IsNextTable x tried u.call.trial.met p) setting_is next)
+            (newest_of map st.chart (whole.all.shown.maps map st st_is).tables.stage t) (sym (ap (λ (x : Planned). x.len) entered.is)) (sym (ap (λ (x : Planned). x.limit) entered.is))
+            (subst (λ (k : ℕ). IsFull k (newest_of map st.chart (whole.all.shown.maps map st st_is).tables.stage t) (m ∷ moments) u.call.trial.met) (sym its_call.2)
+            (subst (λ (x : Planned). IsFull map (there_of map x) (m ∷ moments) u.call.trial.met) entered.is (full newest)))))
 
-      by_point : (q : Calling) (n : NewTable) → making_in_calling q ≡ Some n → table_in n.stands ≡ Some p → (IsCopying q → ⊥) → GrowsAt (many_of map m) u.call q → IsWhich s.world i (in_slot st.setting (slot_of i)) st.chart seen p u.call q → Shape
-      by_point (at_point.Firsts k) n is made other grows turn =
+      by_point : (q : Calling) (n : NewTable) → making_in_calling q ≡ Some n → table_in n.stands ≡ Some p → (IsCopying q → ⊥) → GrowsAt (many_of map m) u.call q → HasFoundFull map (many_of map m) (m ∷ moments) u.call q → IsWhich s.world i (in_slot st.setting (slot_of i)) st.chart seen p u.call q → Shape
+      by_point (at_point.Firsts k) n is made other grows full turn =
           let one : n ≡ k = (let back : k ≡ n = cc is in sym back) in
           follow_first p (made_so (λ before reason. ⊥) IsFirstTable k.stands p grows.1 (subst (λ (y : NewTable). table_in y.stands ≡ Some p) one made)) (tables_of map m) (sym turn_is ∙ turn)
-      by_point (at_point.Allocs k) n is made other grows after =
+      by_point (at_point.Allocs k) n is made other grows full after =
           let one : n ≡ k = (let back : k ≡ n = cc is in sym back) in
-          let next = made_so (λ b reason. (b ≡ u.call.trial.table) × (met : ℕ) × (reason ≡ Full met)) (IsNextTable u.call.setting u.call.trial.table) k.stands p grows.1.1
+          let next = made_so (λ b reason. (b ≡ u.call.trial.table) × (most : ℕ) × (reason ≡ Full u.call.trial.met most)) (IsNextTable u.call.setting u.call.trial.table u.call.trial.met) k.stands p grows.1.1
           (subst (λ (y : NewTable). table_in y.stands ≡ Some p) one made) in
-          follow_next u.call.trial.table p (next_as u.call.trial.table next) (tables_of map m) (λ none. (let turn = after.2 in omega (arith, turn_is, none, turn))) (newest after.0 after.1 after.2)
-      by_point (at_point.Helps copier goal) n is made other grows turn = absurd (other tt)
-      by_point (at_point.Copies copier) n is made other grows turn = absurd (other tt)
-      by_point _ n is made other grows turn = absurd (cc is)
+          follow_next after.0 after.1 after.2 next full
+      by_point (at_point.Helps copier goal) n is made other grows full turn = absurd (other tt)
+      by_point (at_point.Copies copier) n is made other grows full turn = absurd (other tt)
+      by_point _ n is made other grows full turn = absurd (cc is)
 
     -- by what it knows
     follows_so : Shape
@@ -297,10 +315,10 @@ module _ {K V S : Type 0} (same : K → K → Bool) (hash : K → ℕ) (name : �
               (let has = knows_for_none same st.hash st.setting slot_of s.world st.chart seen i u u.call k.1 (many_of map m) (growing map i u here) n is copies_none in
               elim (k.1.facts) as (λ _. Shape) [
                 | inl facts ↦
-                    by_point has facts.setting_is u.call.stands n is made copies_none (growing map i u here)
+                    by_point has facts.setting_is u.call.stands n is made copies_none (growing map i u here) found_full
                     (which_now s.world i (in_slot st.setting (slot_of i)) st.chart seen p same st.hash u.keys u.change u.call u.call.stands n facts.point is made)
                 | inr late ↦
-                    by_point has late.1.setting_is u.call.stands n is made copies_none (growing map i u here)
+                    by_point has late.1.setting_is u.call.stands n is made copies_none (growing map i u here) found_full
                     (which_late s.world i (in_slot st.setting (slot_of i)) st.chart seen p same st.hash u.keys u.began u.call u.call.stands n late.1.point is made)
               ])
         ]
@@ -324,5 +342,5 @@ module _ {K V S : Type 0} (same : K → K → Bool) (hash : K → ℕ) (name : �
   ]
 
 pub key_calls_link : (K V S : Type 0) (same : K → K → Bool) (hash : K → ℕ) → KeyCallsLink K V S same hash
-key_calls_link K V S same hash name m known s old new at whole tables growing map i u here said leads copies_none made_for terms moments =
-    key_links same hash name m known s old new at whole tables growing map i u here said leads copies_none made_for terms moments
+key_calls_link K V S same hash name m known s old new at whole tables growing map i u here said leads copies_none made_for terms moments found_full =
+    key_links same hash name m known s old new at whole tables growing map i u here said leads copies_none made_for terms moments found_full

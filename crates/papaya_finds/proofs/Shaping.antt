@@ -104,31 +104,32 @@ few_is x len e = by (nat_le x (2 ^ 48)) e
     by true is = (let one : x ≡ len = cc is in sym one)
     by false is = absurd (cc is)
 
-module _ (setting : Setting) (before : Table) where
+module _ (setting : Setting) (before : Table) (met : ℕ) where
   abbrev Follows' : Making → Type 0
-  Follows' p = ShapedAt (λ b reason. (b ≡ before) × (met : ℕ) × (reason ≡ Full met)) (IsNextTable setting before) p
+  Follows' p = ShapedAt (λ b reason. (b ≡ before) × (most : ℕ) × (reason ≡ Full met most)) (IsNextTable setting before met) p
 
-  next_shaped : (met count len : ℕ) → next_len (Full met) before.len count setting.initial ≡ Ok len → (turn : Result ℕ Fault) → Follows' (following (Full met) before (max len 8) turn)
-  next_shaped met count len is (Err fault) = tt
-  next_shaped met count len is (Ok turn) = by (nat_le (max len 8) (2 ^ 48))
+  next_shaped : (most count len : ℕ) → next_len (Full met most) before.len count setting.initial ≡ Ok len → (turn : Result ℕ Fault) → Follows' (following (Full met most) before (max len 8) turn)
+  next_shaped most count len is (Err fault) = tt
+  next_shaped most count len is (Ok turn) = by (nat_le (max len 8) (2 ^ 48))
     where
       long : max len 8 ≡ len
-      long = at_least_eight (by_count before.len (max count met) setting.initial) len (few_is (max (by_count before.len (max count met) setting.initial) 8) len is)
+      long = at_least_eight (by_count before.len (max count most) setting.initial) len (few_is (max (by_count before.len (max count most) setting.initial) 8) len is)
 
-      by : (q : Bool) → Follows' (if q then makes.Makes (record { link = 0; len = max len 8; limit = next_limit (Full met) before.len (max len 8); turn = turn }) else makes.Refused Capacity)
-      by true = (count, met, subst (λ (r : Result ℕ Fault). Has r (max len 8)) (sym is) long, refl)
+      by : (q : Bool) → Follows' (if q then makes.Makes (record { link = 0; len = max len 8; limit = next_limit (Full met most) before.len before.limit (max len 8); turn = turn }) else makes.Refused Capacity)
+      by true = (count, most, subst (λ (r : Result ℕ Fault). Has r (max len 8)) (sym is) long, refl)
       by false = tt
 
-  next_counted : (met count : ℕ) (r : Result ℕ Fault) → next_len (Full met) before.len count setting.initial ≡ r → Follows' (making_of (Full met) before r)
-  next_counted met count (Ok len) is = next_shaped met count len is (next_turn before.turn)
-  next_counted met count (Err fault) is = tt
+  next_counted : (most count : ℕ) (r : Result ℕ Fault) → next_len (Full met most) before.len count setting.initial ≡ r → Follows' (making_of (Full met most) before r)
+  next_counted most count (Ok len) is = next_shaped most count len is (next_turn before.turn)
+  next_counted most count (Err fault) is = tt
 
-  counts_so : (n : NewTable) → n.setting ≡ setting → (b : Table) (reason : Reason) (count : ℕ) → (b ≡ before) × (met : ℕ) × (reason ≡ Full met) → Follows' (making_of reason b (next_len reason b.len count n.setting.initial))
-  counts_so n setting_is b reason count (b_is, met, reason_is) =
+  counts_so : (n : NewTable) → n.setting ≡ setting → (b : Table) (reason : Reason) (count : ℕ) → (b ≡ before) × (most : ℕ) × (reason ≡ Full met most)
+      → Follows' (making_of reason b (next_len reason b.len count n.setting.initial))
+  counts_so n setting_is b reason count (b_is, most, reason_is) =
       subst (λ (t : Table). Follows' (making_of reason t (next_len reason t.len count n.setting.initial))) (sym b_is)
       (subst (λ (r : Reason). Follows' (making_of r before (next_len r before.len count n.setting.initial))) (sym reason_is)
-      (subst (λ (x : Setting). Follows' (making_of (Full met) before (next_len (Full met) before.len count x.initial))) (sym setting_is)
-      (next_counted met count (next_len (Full met) before.len count setting.initial) refl)))
+      (subst (λ (x : Setting). Follows' (making_of (Full met most) before (next_len (Full met most) before.len count x.initial))) (sym setting_is)
+      (next_counted most count (next_len (Full met most) before.len count setting.initial) refl)))
 
   abbrev pub NextGoes : NewTable → NewTable × Progress Table → Type 0
   NextGoes n e = (e.0.setting ≡ n.setting) × Follows' e.0.stands
@@ -136,7 +137,7 @@ module _ (setting : Setting) (before : Table) where
   module _ (K V : Type 0) where
     pub next_goes : (n : NewTable) → n.setting ≡ setting → Follows' n.stands → AlwaysOf (NextGoes n) (new_table_plan {K = K} {V = V} n)
     next_goes n setting_is so =
-        goes_shaped (λ b reason. (b ≡ before) × (met : ℕ) × (reason ≡ Full met)) (IsNextTable setting before) (λ t b is. is) n (counts_so n setting_is) K V so
+        goes_shaped (λ b reason. (b ≡ before) × (most : ℕ) × (reason ≡ Full met most)) (IsNextTable setting before met) (λ t b is. is) n (counts_so n setting_is) K V so
 
-pub next_begun : (setting : Setting) (before : Table) (met : ℕ) → IsNextMaking setting before (table_after setting before (Full met))
-next_begun setting before met = (refl, (refl, met, refl))
+pub next_begun : (setting : Setting) (before : Table) (met most : ℕ) → IsNextMaking setting before met (table_after setting before (Full met most))
+next_begun setting before met most = (refl, (refl, most, refl))

@@ -43,7 +43,7 @@ HasForNone p = (p.missing ≡ missing.Puts) ⊎ ((p.missing ≡ missing.Asks) ×
 -- tried is not the last of so many.
 abbrev pub GrowsAt : {K V Q : Type 0} → ℕ → KeyCall K V Q → Calling → Type 0
 GrowsAt many p (at.Firsts making) = HasForNone p × IsFirstMaking making
-GrowsAt many p (at.Allocs making) = HasForNone p × IsNextMaking p.setting p.trial.table making
+GrowsAt many p (at.Allocs making) = HasForNone p × IsNextMaking p.setting p.trial.table p.trial.met making
 GrowsAt many p at.Nexts = is_incremental p.setting.mode ≡ false → HasForNone p ⊎ (suc p.trial.table.turn < many)
 GrowsAt many p (at.Asks (asking.Absent gap)) = p.missing ≡ missing.Asks
 GrowsAt many p _ = Unit {0}

@@ -1,19 +1,24 @@
 -- Which table a call on one key links, while it copies no pairs: the first one of its map, or the one that follows the newest, as its length and a count of the pairs say.
-use Rattle.std.specs.Prelude.{◌≡◌, ℕ, Bool, List, ◌∷◌, Some}
+use Rattle.std.specs.Prelude.{◌≡◌, ℕ, suc, Bool, List, ◌∷◌, Some}
 use Rattle.papaya_settles.specs.Given.Tables.Lengths.{entries_of}
 use Rattle.papaya_settles.specs.Given.Tables.declared.node.Node.{Node}
 use Rattle.papaya_settles.specs.Given.Tables.declared.setting.Setting.{Setting}
+use Rattle.papaya_settles.specs.Given.Tables.declared.table.Table.{Table}
+use Rattle.papaya_settles.specs.Given.Raw.declared.machines.call.Calling.{Calling}
+use Rattle.papaya_settles.specs.Given.Raw.declared.machines.call.Calling.TheVariants as at
+use Rattle.papaya_settles.specs.Given.Raw.declared.machines.call.KeyCall.{KeyCall}
 use Rattle.papaya_settles.specs.Given.Raw.declared.machines.progress.Progress.{Progress}
 use Rattle.papaya_settles.specs.Given.Schedules.declared.effect.Effect.{Effect}
 use Rattle.papaya_settles.specs.Given.Schedules.declared.effect.Effect.TheVariants.{Linked}
 use Rattle.papaya_settles.specs.Given.Schedules.Effects.{AtEachEffect}
 use Rattle.papaya_settles.specs.Given.Schedules.Entry.{ByCall, acting}
 use Rattle.papaya_settles.specs.Given.Schedules.Growing.{Has, Follows}
-use Rattle.papaya_settles.specs.Given.Schedules.Moment.{UnderWay as CallThere, Moment}
+use Rattle.papaya_settles.specs.Given.Schedules.Moment.{UnderWay as CallThere, IsLinked, TableThere, Moment}
 use Rattle.papaya_settles.specs.Given.Schedules.Terms.{Terms}
+use Rattle.papaya_settles.specs.Given.Schedules.Tries.{IsFull}
 use Rattle.papaya_settles.specs.Given.Schedules.Views.{map_at, capacity_or, tables_of}
 use Rattle.papaya_settles.specs.Given.Points.FactsCalls.{IsCopying}
-use Rattle.papaya_settles.specs.Given.Callers.Together.{CallOnKey, OnKey}
+use Rattle.papaya_settles.specs.Given.Callers.Together.{CallOnKey, UnderWay, OnKey}
 use Rattle.papaya_settles.specs.Given.Effects.Effects.{effects_of}
 use Rattle.papaya_settles.specs.Given.Effects.Known.{Known}
 use Rattle.papaya_settles.specs.Given.Effects.declared.acting.Acting.TheVariants as acts
@@ -22,7 +27,9 @@ use Rattle.papaya_settles.specs.Given.Executor.Stepping.{StepLeads}
 use Rattle.papaya_settles.specs.Given.Executor.declared.executor.Executor.{Executor}
 use Rattle.papaya_settles.specs.Given.Moments.Whole.{ShowsWhole}
 use Rattle.papaya_owes.specs.Tables.{ShowsTables}
+use Rattle.papaya_settles.specs.Given.Follows.Maps.{table_of}
 use Rattle.papaya_finds.specs.Growing.{ShowsGrowing}
+use Rattle.papaya_finds.specs.Within.{many_of}
 
 module _ {K V : Type 0} (terms : Terms) where
   -- what is left of an effect that links a table: it follows
@@ -32,6 +39,19 @@ module _ {K V : Type 0} (terms : Terms) where
 
   abbrev pub FindShapes : List (Moment K V) → List ℕ → ℕ → List Effect → Moment K V → Type 0
   FindShapes moments own map effects m = AtEachEffect (λ v f. ByCall (FindsShape moments v f) (acting (Some own) v)) (Some own) (Some map) effects m
+
+-- a table in the words of a run
+abbrev pub there_of : ℕ → Table → TableThere
+there_of map t = record { table = table_of map t.turn; shape = record { len = t.len; limit = t.limit }; stage = IsLinked }
+
+-- where the call makes the table behind the one that it has tried, and that is the newest of so many: it found it full, by these moments
+abbrev pub HasFoundFull : {K V Q : Type 0} → ℕ → ℕ → List (Moment K V) → KeyCall K V Q → Calling → Type 0
+HasFoundFull map many moments p (at.Allocs making) = suc p.trial.table.turn ≡ many → IsFull map (there_of map p.trial.table) moments p.trial.met
+HasFoundFull map many moments p _ = Unit {0}
+
+abbrev pub FoundFull : {K V : Type 0} → ℕ → ℕ → List (Moment K V) → UnderWay K V K → Type 0
+FoundFull map many moments (OnKey u) = HasFoundFull map many moments u.call u.call.stands
+FoundFull map many moments _ = Unit {0}
 
 -- the map was made with the capacity that the moment says: no later table has fewer entries than it
 abbrev pub IsMadeFor : {K V : Type 0} → ℕ → Moment K V → Setting → Type 0
@@ -43,4 +63,5 @@ KeyCallsLink K V S same hash =
     (name : ℕ → List ℕ) (m : Moment K V) (known : Known) (s : Scene K V) (old new : Executor K V S) → IsAt same hash old s → ShowsWhole same name m known s → ShowsTables name m known s → ShowsGrowing m s
     → (map i : ℕ) (u : CallOnKey K V K) (here : s.calls map i ≡ Some (OnKey u)) (said : Progress (Node K V)) (leads : StepLeads same hash i said s old new)
     → (IsCopying u.call.stands → ⊥) → IsMadeFor map m (leads map (OnKey u) here).0.setting → (terms : Terms) (moments : List (Moment K V))
+    → HasFoundFull map (many_of map m) (m ∷ moments) u.call u.call.stands
     → FindShapes terms moments (name i) map (effects_of (acts.Call i map) known new.memory.changed) m

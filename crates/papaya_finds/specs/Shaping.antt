@@ -27,10 +27,11 @@ IsFirstTable table = (table.len ≡ 32) × (table.limit ≡ limit_of table.len)
 abbrev pub IsFirstMaking : NewTable → Type 0
 IsFirstMaking n = ShapedAt (λ before reason. ⊥) IsFirstTable n.stands
 
--- a further one follows a table that is full
-abbrev pub IsNextTable : Setting → Table → Table → Type 0
-IsNextTable setting before table =
-    (count met : ℕ) × Has (next_len (Full met) before.len count setting.initial) table.len × (table.limit ≡ next_limit (Full met) before.len table.len)
+-- a further one follows a table that is full, where the tries of the call met so many pairs
+abbrev pub IsNextTable : Setting → Table → ℕ → Table → Type 0
+IsNextTable setting before met table =
+    (count most : ℕ) × Has (next_len (Full met most) before.len count setting.initial) table.len × (table.limit ≡ next_limit (Full met most) before.len before.limit table.len)
 
-abbrev pub IsNextMaking : Setting → Table → NewTable → Type 0
-IsNextMaking setting before n = (n.setting ≡ setting) × ShapedAt (λ b reason. (b ≡ before) × (met : ℕ) × (reason ≡ Full met)) (IsNextTable setting before) n.stands
+abbrev pub IsNextMaking : Setting → Table → ℕ → NewTable → Type 0
+IsNextMaking setting before met n =
+    (n.setting ≡ setting) × ShapedAt (λ b reason. (b ≡ before) × (most : ℕ) × (reason ≡ Full met most)) (IsNextTable setting before met) n.stands

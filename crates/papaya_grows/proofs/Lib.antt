@@ -1,4 +1,5 @@
 pub mod Finding
 pub mod Limits
+pub mod Tries
 pub mod Since
 pub mod Given

@@ -43,15 +43,23 @@ use Rattle.papaya_purposes.proofs.Given.Histories.Logs.{last_there, moments_grow
 use Rattle.papaya_purposes.proofs.Given.Owes.Calls.{goes_as_one}
 use Rattle.papaya_grows.proofs.Finding.Between.{fewer_calls}
 
-module _ {K V : Type 0} (Of : Type 0 → Machine K V K → Type 0) (more : (A B : Type 0) → (A → B) → (machine : Machine K V K) → Of A machine → Of B machine)
-    (replies : (A : Type 0) (machine : Machine K V K) (reply : MachineReply V) → Of A machine → Of A (machine_replied machine reply).0) (asked : (A : Type 0) (machine : Machine K V K) → Of A machine → Of A (machine_asked machine).0)
-    (So : ℕ → Moment K V → Type 0) (so_where : (m v : Moment K V) → v.tables ≡ m.tables → (n : ℕ) → map_at n v ≡ map_at n m → So n m → So n v) where
-  -- it was so at a moment of the log since then, or is so now
-  abbrev pub HadSo : ℕ → ℕ → List (Entry K V) → Type 0
-  HadSo map begun log = OneOf (So map) (moments_from begun log)
+-- pairs are where they were
+pub record HasSamePairs {K V : Type 0} (m v : Moment K V) : Type 0 where
+  pub stored : v.stored ≡ m.stored
+  pub place : v.place ≡ m.place
+  pub born : v.born ≡ m.born
+  pub spot : v.spot ≡ m.spot
 
-  abbrev pub HasSo : ℕ → ℕ → List (Entry K V) → Moment K V → Type 0
-  HasSo map begun log m = HadSo map begun log ⊎ So map m
+module _ {K V X : Type 0} (Of : (X → Type 0) → Machine K V K → Type 0) (more : (A B : X → Type 0) → ((x : X) → A x → B x) → (machine : Machine K V K) → Of A machine → Of B machine)
+    (replies : (A : X → Type 0) (machine : Machine K V K) (reply : MachineReply V) → Of A machine → Of A (machine_replied machine reply).0) (asked : (A : X → Type 0) (machine : Machine K V K) → Of A machine → Of A (machine_asked machine).0)
+    (So : ℕ → X → Moment K V → Type 0) (Alike : Moment K V → Moment K V → Type 0) (alike : (m v : Moment K V) → HasSamePairs m v → Alike m v)
+    (so_where : (m v : Moment K V) → Alike m v → v.tables ≡ m.tables → (n : ℕ) → map_at n v ≡ map_at n m → (x : X) → So n x m → So n x v) where
+  -- it was so at a moment of the log since then, or is so now
+  abbrev pub HadSo : ℕ → ℕ → List (Entry K V) → X → Type 0
+  HadSo map begun log x = OneOf (So map x) (moments_from begun log)
+
+  abbrev pub HasSo : ℕ → ℕ → List (Entry K V) → Moment K V → X → Type 0
+  HasSo map begun log m x = HadSo map begun log x ⊎ So map x m
 
   abbrev pub ShowsSo : (ℕ → List ℕ) → List (Entry K V) → Moment K V → Scene K V → Type 0
   ShowsSo name log m s =
@@ -61,8 +69,8 @@ module _ {K V : Type 0} (Of : Type 0 → Machine K V K → Type 0) (more : (A B 
   OthersSo name log i m s =
       (map j : ℕ) (u : UnderWay K V K) → s.calls map j ≡ Some u → j ≢ i → (c : CallThere K V) → call_of (name j) m ≡ Some c → Of (HadSo map c.begun log) (machine_of u)
 
-  so_same : (m v : Moment K V) → v.maps ≡ m.maps → v.tables ≡ m.tables → (n : ℕ) → So n m → So n v
-  so_same m v maps tables n is = so_where m v tables n (ap (λ (fs : List MapThere). find (λ f. f.number == n) fs) maps) is
+  so_same : (m v : Moment K V) → Alike m v → v.maps ≡ m.maps → v.tables ≡ m.tables → (n : ℕ) (x : X) → So n x m → So n x v
+  so_same m v pairs maps tables n x is = so_where m v pairs tables n (ap (λ (fs : List MapThere). find (λ f. f.number == n) fs) maps) x is
 
   -- a call is found as it was, where calls are the same
   found_same : (m v : Moment K V) → v.calls ≡ m.calls → (own : List ℕ) (d : CallThere K V) → call_of own v ≡ Some d → call_of own m ≡ Some d
@@ -70,49 +78,49 @@ module _ {K V : Type 0} (Of : Type 0 → Machine K V K → Type 0) (more : (A B 
 
   module _ (log : List (Entry K V)) (m v : Moment K V) where
     -- so it is of the same machine, on a map that has a second table still, and of a call that began with the same event
-    moved : (n n2 b b2 : ℕ) (machine machine2 : Machine K V K) → n2 ≡ n → b2 ≡ b → machine2 ≡ machine → (So n m → So n v) → Of (HasSo n b log m) machine
+    moved : (n n2 b b2 : ℕ) (machine machine2 : Machine K V K) → n2 ≡ n → b2 ≡ b → machine2 ≡ machine → ((x : X) → So n x m → So n x v) → Of (HasSo n b log m) machine
         → Of (HasSo n2 b2 log v) machine2
     moved n n2 b b2 machine machine2 same_map begun same_machine keeps makes =
         subst (λ (q : ℕ). Of (HasSo q b2 log v) machine2) (sym same_map)
         (subst (λ (q : ℕ). Of (HasSo n q log v) machine2) (sym begun)
         (subst (λ (q : Machine K V K). Of (HasSo n b log v) q) (sym same_machine)
-        (more (HasSo n b log m) (HasSo n b log v) (λ so. follow so) machine makes)))
+        (more (HasSo n b log m) (HasSo n b log v) (λ x so. follow x so) machine makes)))
       where
-        follow : HasSo n b log m → HasSo n b log v
-        follow (inl had) = inl had
-        follow (inr now) = inr (keeps now)
+        follow : (x : X) → HasSo n b log m x → HasSo n b log v x
+        follow x (inl had) = inl had
+        follow x (inr now) = inr (keeps x now)
 
   module _ (name : ℕ → List ℕ) (log : List (Entry K V)) (m v : Moment K V) (s t : Scene K V) (shows : ShowsSo name log m s) where
     -- where calls are as they were, or are under way no more
-    pub so_stay : ((n : ℕ) → So n m → So n v) → ((n j : ℕ) (x : UnderWay K V K) → t.calls n j ≡ Some x → s.calls n j ≡ Some x)
+    pub so_stay : ((n j : ℕ) (x : UnderWay K V K) → t.calls n j ≡ Some x → (y : X) → So n y m → So n y v) → ((n j : ℕ) (x : UnderWay K V K) → t.calls n j ≡ Some x → s.calls n j ≡ Some x)
         → ((n j : ℕ) (x : UnderWay K V K) → t.calls n j ≡ Some x → (d : CallThere K V) → call_of (name j) v ≡ Some d → (c : CallThere K V) × (call_of (name j) m ≡ Some c) × (d.begun ≡ c.begun)) → ShowsSo name log v t
     so_stay keeps was calls n j x is d d_is =
-        let c = calls n j x is d d_is in moved log m v n n c.0.begun d.begun (machine_of x) (machine_of x) refl c.2 refl (keeps n) (shows n j x (was n j x is) c.0 c.1)
+        let c = calls n j x is d d_is in moved log m v n n c.0.begun d.begun (machine_of x) (machine_of x) refl c.2 refl (keeps n j x is) (shows n j x (was n j x is) c.0 c.1)
 
-    pub so_alike : v.calls ≡ m.calls → ((n : ℕ) → So n m → So n v) → ((n j : ℕ) (x : UnderWay K V K) → t.calls n j ≡ Some x → s.calls n j ≡ Some x) → ShowsSo name log v t
+    pub so_alike : v.calls ≡ m.calls → ((n j : ℕ) (x : UnderWay K V K) → t.calls n j ≡ Some x → (y : X) → So n y m → So n y v) → ((n j : ℕ) (x : UnderWay K V K) → t.calls n j ≡ Some x → s.calls n j ≡ Some x) → ShowsSo name log v t
     so_alike calls keeps was = so_stay keeps was (λ n j x is d d_is. (d, found_same m v calls (name j) d d_is, refl))
 
   -- at a moment with other maps, where those that stand are found as they were
   pub so_where_found : {S : Type 0} (same : K → K → Bool) (hash : K → ℕ) (name : ℕ → List ℕ) (log : List (Entry K V)) (m v : Moment K V) (s : Scene K V) (e : Executor K V S) → IsAt same hash e s → ShowsSo name log m s
-      → ((n : ℕ) (st : Standing K) → s.maps n ≡ Some st → map_at n v ≡ map_at n m) → v.tables ≡ m.tables → v.calls ≡ m.calls → ShowsSo name log v s
-  so_where_found same hash name log m v s e at shows still tables calls n j x is d d_is =
+      → ((n : ℕ) (st : Standing K) → s.maps n ≡ Some st → map_at n v ≡ map_at n m) → Alike m v → v.tables ≡ m.tables → v.calls ≡ m.calls → ShowsSo name log v s
+  so_where_found same hash name log m v s e at shows still pairs tables calls n j x is d d_is =
       let st = standing_is same hash e s at n j x is in
-      moved log m v n n d.begun d.begun (machine_of x) (machine_of x) refl refl refl (so_where m v tables n (still n st.0 st.1)) (shows n j x is d (found_same m v calls (name j) d d_is))
+      moved log m v n n d.begun d.begun (machine_of x) (machine_of x) refl refl refl (so_where m v pairs tables n (still n st.0 st.1)) (shows n j x is d (found_same m v calls (name j) d d_is))
 
   -- with a further event of the log
   pub so_grow : (name : ℕ → List ℕ) (log : List (Entry K V)) (e : Entry K V) (m : Moment K V) (s : Scene K V)
       → ((map i : ℕ) (u : UnderWay K V K) → s.calls map i ≡ Some u → (c : CallThere K V) → call_of (name i) m ≡ Some c → c.begun ≤ length log) → ShowsSo name log m s → ShowsSo name (e ∷ log) m s
   so_grow name log e m s begun shows n j x is c c_is =
-      more (HasSo n c.begun log m) (HasSo n c.begun (e ∷ log) m) (λ so. follow so) (machine_of x) (shows n j x is c c_is)
+      more (HasSo n c.begun log m) (HasSo n c.begun (e ∷ log) m) (λ y so. follow y so) (machine_of x) (shows n j x is c c_is)
     where
-      follow : HasSo n c.begun log m → HasSo n c.begun (e ∷ log) m
-      follow (inl had) = inl (subst (OneOf (So n)) (sym (moments_grow c.begun e log (let b = begun n j x is c c_is in omega (arith, b)))) (inr had))
-      follow (inr now) = inr now
+      follow : (y : X) → HasSo n c.begun log m y → HasSo n c.begun (e ∷ log) m y
+      follow y (inl had) = inl (subst (OneOf (So n y)) (sym (moments_grow c.begun e log (let b = begun n j x is c c_is in omega (arith, b)))) (inr had))
+      follow y (inr now) = inr now
 
   -- Where a call begins, is told, is asked for its next pair, or is given up.
 
   module _ (same : K → K → Bool) (name : ℕ → List ℕ) (log : List (Entry K V)) (m : Moment K V) (s : Scene K V) (shows : ShowsSo name log m s) (map i : ℕ) (u : UnderWay K V K) where
-    pub calls_begin_so : (guard : List ℕ) (its : Call K V) → ((Why : Type 0) → Of Why (machine_of u)) → NoneNamed name (name i) s
+    pub calls_begin_so : (guard : List ℕ) (its : Call K V) → ((Why : X → Type 0) → Of Why (machine_of u)) → NoneNamed name (name i) s
         → ShowsSo name log (with_call (name i) guard its (Some map) m) (scene_with map i u s)
     calls_begin_so guard its none apart n j x is d d_is =
         elim (which s.calls map i (Some u) n j x is) as (λ _. Of (HasSo n d.begun log (with_call (name i) guard its (Some map) m)) (machine_of x)) [
@@ -120,7 +128,7 @@ module _ {K V : Type 0} (Of : Type 0 → Machine K V K → Type 0) (more : (A B 
               subst (λ (z : UnderWay K V K). Of (HasSo n d.begun log (with_call (name i) guard its (Some map) m)) (machine_of z)) (one_of u x own.2)
               (none (HasSo n d.begun log (with_call (name i) guard its (Some map) m)))
           | inr was ↦
-              moved log m (with_call (name i) guard its (Some map) m) n n d.begun d.begun (machine_of x) (machine_of x) refl refl refl (so_same m (with_call (name i) guard its (Some map) m) refl refl n)
+              moved log m (with_call (name i) guard its (Some map) m) n n d.begun d.begun (machine_of x) (machine_of x) refl refl refl (so_same m (with_call (name i) guard its (Some map) m) (alike m (with_call (name i) guard its (Some map) m) (record { stored = refl; place = refl; born = refl; spot = refl })) refl refl n)
               (shows n j x was.1 d (found_now j (apart n j x was.1) d d_is))
         ]
       where
@@ -134,11 +142,11 @@ module _ {K V : Type 0} (Of : Type 0 → Machine K V K → Type 0) (more : (A B 
             | inl own ↦
                 (let c = shown map i u here in
                 moved log m (told (name i) reply m) map n c.0.begun d.begun (machine_replied (machine_of u) machine_reply).0 (machine_of x) own.0
-                (begun_same j d c.0 (ap (λ (k : ℕ). call_of (name k) m) own.1 ∙ c.1) d_is) (ap (λ (z : UnderWay K V K). machine_of z) (sym (one_of next x own.2)) ∙ next_is) (so_same m (told (name i) reply m) refl refl map)
+                (begun_same j d c.0 (ap (λ (k : ℕ). call_of (name k) m) own.1 ∙ c.1) d_is) (ap (λ (z : UnderWay K V K). machine_of z) (sym (one_of next x own.2)) ∙ next_is) (so_same m (told (name i) reply m) (alike m (told (name i) reply m) (record { stored = refl; place = refl; born = refl; spot = refl })) refl refl map)
                 (replies (HasSo map c.0.begun log m) (machine_of u) machine_reply (shows map i u here c.0 c.1)))
             | inr was ↦
                 (let c = shown n j x was.1 in
-                moved log m (told (name i) reply m) n n c.0.begun d.begun (machine_of x) (machine_of x) refl (begun_same j d c.0 c.1 d_is) refl (so_same m (told (name i) reply m) refl refl n) (shows n j x was.1 c.0 c.1))
+                moved log m (told (name i) reply m) n n c.0.begun d.begun (machine_of x) (machine_of x) refl (begun_same j d c.0 c.1 d_is) refl (so_same m (told (name i) reply m) (alike m (told (name i) reply m) (record { stored = refl; place = refl; born = refl; spot = refl })) refl refl n) (shows n j x was.1 c.0 c.1))
           ]
         where
           tells : CallThere K V → CallThere K V
@@ -153,7 +161,7 @@ module _ {K V : Type 0} (Of : Type 0 → Machine K V K → Type 0) (more : (A B 
       pub walks_go_on_so : machine_of next ≡ (machine_asked (machine_of u)).0 → ShowsSo name log m (scene_with map i next s)
       walks_go_on_so next_is n j x is d d_is = elim (which s.calls map i (Some next) n j x is) as (λ _. Of (HasSo n d.begun log m) (machine_of x)) [
         | inl own ↦
-            moved log m m map n d.begun d.begun (machine_asked (machine_of u)).0 (machine_of x) own.0 refl (ap (λ (z : UnderWay K V K). machine_of z) (sym (one_of next x own.2)) ∙ next_is) (λ has. has)
+            moved log m m map n d.begun d.begun (machine_asked (machine_of u)).0 (machine_of x) own.0 refl (ap (λ (z : UnderWay K V K). machine_of z) (sym (one_of next x own.2)) ∙ next_is) (λ y has. has)
             (asked (HasSo map d.begun log m) (machine_of u) (shows map i u here d (ap (λ (k : ℕ). call_of (name k) m) (sym own.1) ∙ d_is)))
         | inr was ↦ shows n j x was.1 d d_is
       ]
@@ -164,7 +172,7 @@ module _ {K V : Type 0} (Of : Type 0 → Machine K V K → Type 0) (more : (A B 
       pub walks_stop_so : (q : Bool) → (q ≡ true → NoneNamed name (name i) (at_end q)) → ShowsSo name log (given_up (name i) q m) (at_end q)
       walks_stop_so false none n j x is d d_is = shows n j x (fewer_calls s map i u here false n j x is) d d_is
       walks_stop_so true none n j x is d d_is =
-          moved log m (given_up (name i) true m) n n d.begun d.begun (machine_of x) (machine_of x) refl refl refl (so_same m (given_up (name i) true m) refl refl n)
+          moved log m (given_up (name i) true m) n n d.begun d.begun (machine_of x) (machine_of x) refl refl refl (so_same m (given_up (name i) true m) (alike m (given_up (name i) true m) (record { stored = refl; place = refl; born = refl; spot = refl })) refl refl n)
           (shows n j x (fewer_calls s map i u here true n j x is) d found_there)
         where
           found_there : call_of (name j) m ≡ Some d
@@ -203,7 +211,7 @@ module _ {K V : Type 0} (Of : Type 0 → Machine K V K → Type 0) (more : (A B 
     calls_come_to_so n j x is d d_is =
         let c = shown n j x is in
         moved log m (come_to own o steps m) n n c.0.begun d.begun (machine_of x) (machine_of x) refl
-        (ap (λ (y : CallThere K V). y.begun) (came n j x is c.0 c.1 d d_is) ∙ if_begun (come o steps) (λ y. comes_begun o (record y { steps = y.steps + steps })) c.0 (is_same (name j) own)) refl (so_same m (come_to own o steps m) refl refl n)
+        (ap (λ (y : CallThere K V). y.begun) (came n j x is c.0 c.1 d d_is) ∙ if_begun (come o steps) (λ y. comes_begun o (record y { steps = y.steps + steps })) c.0 (is_same (name j) own)) refl (so_same m (come_to own o steps m) (alike m (come_to own o steps m) (record { stored = refl; place = refl; born = refl; spot = refl })) refl refl n)
         (shows n j x is c.0 c.1)
 
   -- A step of a call.
@@ -247,17 +255,17 @@ module _ {K V : Type 0} (Of : Type 0 → Machine K V K → Type 0) (more : (A B 
     pub so_go_on : (c : CallThere K V) → call_of (name i) m ≡ Some c → ((x : UnderWay K V K) → to.4.next ≡ Some x → Of (HasSo map c.begun log v) to.1) → ShowsSo name log v led
     so_go_on c c_is own_so n j x is d d_is = elim (which s.calls map i to.4.next n j x is) as (λ _. Of (HasSo n d.begun log v) (machine_of x)) [
       | inl own ↦
-          moved log v v map n c.begun d.begun to.1 (machine_of x) own.0 (was_begun j c d (ap (λ (k : ℕ). call_of (name k) m) own.1 ∙ c_is) d_is) (goes_as_one to.1 said to.4.next to.4.goes_on x own.2) (λ has. has)
+          moved log v v map n c.begun d.begun to.1 (machine_of x) own.0 (was_begun j c d (ap (λ (k : ℕ). call_of (name k) m) own.1 ∙ c_is) d_is) (goes_as_one to.1 said to.4.next to.4.goes_on x own.2) (λ y has. has)
           (own_so x own.2)
-      | inr was ↦ more (HadSo n d.begun log) (HasSo n d.begun log v) (λ had. inl had) (machine_of x) (others_go_on n j x is (apart n j x was.1 was.0) d d_is)
+      | inr was ↦ more (HadSo n d.begun log) (HasSo n d.begun log v) (λ y had. inl had) (machine_of x) (others_go_on n j x is (apart n j x was.1 was.0) d d_is)
     ]
 
   -- Where an event of a call begins, others are as the log says.
-  pub others_at_first : (name : ℕ → List ℕ) (log : List (Entry K V)) (i : ℕ) (m : Moment K V) (s : Scene K V) → m.maps ≡ (moment log).maps → m.tables ≡ (moment log).tables
+  pub others_at_first : (name : ℕ → List ℕ) (log : List (Entry K V)) (i : ℕ) (m : Moment K V) (s : Scene K V) → Alike m (moment log) → m.maps ≡ (moment log).maps → m.tables ≡ (moment log).tables
       → ((map j : ℕ) (u : UnderWay K V K) → s.calls map j ≡ Some u → (c : CallThere K V) → call_of (name j) m ≡ Some c → c.begun ≤ length log) → ShowsSo name log m s → OthersSo name log i m s
-  others_at_first name log i m s maps tables begun shows n j x is ne c c_is =
-      more (HasSo n c.begun log m) (HadSo n c.begun log) (λ so. had so) (machine_of x) (shows n j x is c c_is)
+  others_at_first name log i m s pairs maps tables begun shows n j x is ne c c_is =
+      more (HasSo n c.begun log m) (HadSo n c.begun log) (λ y so. had y so) (machine_of x) (shows n j x is c c_is)
     where
-      had : HasSo n c.begun log m → HadSo n c.begun log
-      had (inl before) = before
-      had (inr now) = last_there (So n) c.begun log (begun n j x is c c_is) (so_same m (moment log) (sym maps) (sym tables) n now)
+      had : (y : X) → HasSo n c.begun log m y → HadSo n c.begun log y
+      had y (inl before) = before
+      had y (inr now) = last_there (So n y) c.begun log (begun n j x is c c_is) (so_same m (moment log) pairs (sym maps) (sym tables) n y now)

@@ -37,7 +37,7 @@ lengths_of map m = lengths_in (tables_of map m)
 
 -- it follows a table of such a length, and is there since a copy has found no place in that
 abbrev pub IsBehind : List ℕ → Table → Type 0
-IsBehind lengths table = (t len : ℕ) × (table.turn ≡ suc t) × (at_turn lengths t ≡ Some len) × Has (next_len NoPlace len 0 0) table.len × (table.limit ≡ next_limit NoPlace len table.len)
+IsBehind lengths table = (t len : ℕ) × (table.turn ≡ suc t) × (at_turn lengths t ≡ Some len) × Has (next_len NoPlace len 0 0) table.len × (table.limit ≡ next_limit NoPlace len 0 table.len)
 
 -- a making makes such a table, for which no pairs are counted
 abbrev pub IsFurther : List ℕ → NewTable → Type 0

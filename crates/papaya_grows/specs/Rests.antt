@@ -20,14 +20,16 @@ use Rattle.papaya_purposes.specs.Given.Executor.declared.executor.Executor.{Exec
 use Rattle.papaya_purposes.specs.Given.Finishes.Machines.{machine_of}
 use Rattle.papaya_purposes.specs.Given.Moments.Whole.{ShowsWhole}
 use Rattle.papaya_kept.specs.Kept.{ShowsKept}
+use Rattle.papaya_purposes.specs.Given.Finds.Linking.{FoundFull}
 use Rattle.papaya_purposes.specs.Given.Finds.Nexts.{making_of_copier}
 use Rattle.papaya_purposes.specs.Given.Finds.Parts.{FindRest}
-use Rattle.papaya_purposes.specs.Given.Finds.Within.{AllIsInOrder}
+use Rattle.papaya_purposes.specs.Given.Finds.Within.{AllIsInOrder, many_of}
 use Rattle.papaya_sources.specs.Sources.{ShowsSources}
 use Rattle.papaya_purposes.specs.Purposes.{ShowsPurposes}
 use Rattle.papaya_grows.specs.Finding.{ShowsFinding}
 
--- The promise, of a step of a call, at a moment at which all is in order, where the map of each copier that makes a table has a second one, or had one.
+-- The promise, of a step of a call, at a moment at which all is in order, where the map of each copier that makes a table has a second one, or had one, and a call on one key that
+-- makes one behind the newest has found that full.
 abbrev pub StepsFindRest : (K V S : Type 0) (same : K → K → Bool) (hash : K → ℕ) → Type 0
 StepsFindRest K V S same hash =
     (name : ℕ → List ℕ) (log : List (Entry K V)) (m : Moment K V) (known : Known) (s : Scene K V) (old new : Executor K V S) → IsAt same hash old s → ShowsWhole same name m known s
@@ -36,5 +38,5 @@ StepsFindRest K V S same hash =
     → (terms : Terms) (c : CallThere K V) → call_of (name i) m ≡ Some c → (leads map u here).0.setting.mask + 1 ≡ shards_of terms
     → (let effects = effects_of (acts.Call i map) known new.memory.changed in
     let moments = moments_from c.begun log in
-    ((n : NewTable) → making_of_copier (machine_of u) ≡ Some n → OneOf (HasNext map) (m ∷ moments))
+    ((n : NewTable) → making_of_copier (machine_of u) ≡ Some n → OneOf (HasNext map) (m ∷ moments)) → FoundFull map (many_of map m) (m ∷ moments) u
     → FindRest terms moments (name i) map effects m)

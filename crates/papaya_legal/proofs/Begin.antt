@@ -30,9 +30,10 @@ runs_begin_in K V same terms name known w whole kept came = record {
       waits = λ n i u is word some c found k owed. absurd (cc is);
       puts = λ n i u is word place due. absurd (cc is);
     };
-    sources = record { shown = whole.all.shown; numbered = λ n st is. absurd (cc is); came = λ n st is chunks. absurd (cc is) };
+    sources = record { shown = whole.all.shown; numbered = λ n st is. absurd (cc is); came = λ n st is chunks. absurd (cc is); left = λ n st is. absurd (cc is) };
     nexts = λ n i u is c found. absurd (cc is);
     limits = λ n i u is c found. absurd (cc is);
+    tries = λ n i u is c found. absurd (cc is);
     counters = record {
       shards = λ n st is shard few. absurd (cc is);
       makes = λ i b is. absurd (cc is);

@@ -67,6 +67,7 @@ use Rattle.papaya_grows.specs.Given.Sources.Sources.{ShowsSources}
 use Rattle.papaya_legal.proofs.Sourced.{sources_so}
 use Rattle.papaya_grows.proofs.Finding.Alike.{finding_fewer, stood_as}
 use Rattle.papaya_grows.proofs.Limits.Shows.{calls_begin_limits, calls_take_limits, limits_grow, walks_go_on_limits, walks_stop_limits}
+use Rattle.papaya_grows.proofs.Tries.Shows.{calls_begin_tries, calls_take_tries, tries_grow, walks_go_on_tries, walks_stop_tries}
 use Rattle.papaya_grows.proofs.Finding.Nexts.{calls_begin_nexts, calls_take_nexts, nexts_grow, walks_go_on_nexts, walks_stop_nexts}
 use Rattle.papaya_grows.proofs.Finding.Making.Between.{calls_begin_further, calls_take_further, walks_go_on_further}
 use Rattle.papaya_grows.proofs.Finding.Between.{asked_same, fewer_calls, none_at_first, puts_begun, puts_on, replied_same, waits_on}
@@ -81,6 +82,7 @@ likes_show K V same name log m v known s all like = subst (λ (x : Moment K V). 
       (λ n st is. is);
   nexts = all.nexts;
   limits = all.limits;
+  tries = all.tries;
   counters = counters_stay K V name m other s s all.counters refl refl refl refl refl (λ of j x is removed adds. (x, is, adds));
   uncounted = all.uncounted;
   dues = (dues_stay K V (Unit {0}) same (λ k. 0) name log).alike m other known s all.dues alike;
@@ -113,6 +115,7 @@ logs_grow K V same name log e known s all = record {
   sources = all.sources;
   nexts = nexts_grow name log e (moment (e ∷ log)) s all.purposes.begun all.nexts;
   limits = limits_grow name log e (moment (e ∷ log)) s all.purposes.begun all.limits;
+  tries = tries_grow name log e (moment (e ∷ log)) s all.purposes.begun all.tries;
   counters = all.counters;
   uncounted = all.uncounted;
   dues = events_keep_due K V same name log e known s all.dues;
@@ -138,9 +141,10 @@ names_change K V same name name2 log m known s agree all = record {
     waits = λ map i u is word some c c_is k owed. all.finding.waits map i u is word some c (as_named map i u is c c_is) k owed;
     puts = all.finding.puts;
   };
-  sources = record { shown = shows same name name2 m known s agree all.sources.shown; numbered = all.sources.numbered; came = all.sources.came };
+  sources = record { shown = shows same name name2 m known s agree all.sources.shown; numbered = all.sources.numbered; came = all.sources.came; left = all.sources.left };
   nexts = λ map i u is c c_is. all.nexts map i u is c (as_named map i u is c c_is);
   limits = λ map i u is c c_is. all.limits map i u is c (as_named map i u is c c_is);
+  tries = λ map i u is c c_is. all.tries map i u is c (as_named map i u is c c_is);
   counters = record {
     shards = all.counters.shards;
     makes = all.counters.makes;
@@ -267,6 +271,7 @@ module _ (K V S : Type 0) (same : K → K → Bool) (hash : K → ℕ) where
         sources = sources_so K V same name m v known known s then_at all.sources whole.all.shown refl refl refl (λ n st is. is);
         nexts = calls_begin_nexts same name log m s all.nexts map i u guard call standing begins none;
         limits = calls_begin_limits same name log m s all.limits map i u guard call standing begins none;
+        tries = calls_begin_tries same name log m s all.tries map i u guard call standing begins none;
         counters = calls_begin_counters K V name m s all.counters map i u call guard none (uncounted_at_first K V same standing i u begins);
         uncounted = all.uncounted;
         dues = calls_begin_due K V S same hash name log m known s old at all.dues map i u call guard standing there (began_now same standing i u begins) (unchanged same standing i u begins) none right.called
@@ -294,6 +299,7 @@ module _ (K V S : Type 0) (same : K → K → Bool) (hash : K → ℕ) where
         sources = sources_so K V same name m (told (name i) is_told m) known known s (scene_with map i next s) all.sources whole.all.shown refl refl refl (λ n st is. is);
         nexts = calls_take_nexts same name log m s all.nexts map i u here all.whole.all.shown.calls next is_told (as_told is_told) next_is;
         limits = calls_take_limits same name log m s all.limits map i u here all.whole.all.shown.calls next is_told (as_told is_told) next_is;
+        tries = calls_take_tries same name log m s all.tries map i u here all.whole.all.shown.calls next is_told (as_told is_told) next_is;
         counters = calls_take_counters K V same name m known s all.whole all.counters map i u here (as_told is_told) next next_is is_told;
         uncounted = all.uncounted;
         dues = calls_take_due K V S same hash name log m known s old at all.dues map i u here c c_is question asks standing there is_told next next_is takes told_kind taken;
@@ -330,6 +336,7 @@ module _ (K V S : Type 0) (same : K → K → Bool) (hash : K → ℕ) where
         (λ n st is. is);
     nexts = walks_go_on_nexts same name log m s all.nexts map i (OverAll o) here all.whole.all.shown.calls next (leads map (OverAll o) here).1;
     limits = walks_go_on_limits same name log m s all.limits map i (OverAll o) here all.whole.all.shown.calls next (leads map (OverAll o) here).1;
+    tries = walks_go_on_tries same name log m s all.tries map i (OverAll o) here all.whole.all.shown.calls next (leads map (OverAll o) here).1;
     counters = on_counters name m s map i (Some next) its all.counters;
     uncounted = all.uncounted;
     dues = (dues_stay K V S same hash name log).walks m known s old new at all.whole all.dues i leads map o here is;
@@ -364,6 +371,7 @@ module _ (K V S : Type 0) (same : K → K → Bool) (hash : K → ℕ) where
     sources = given_sources stopped (walks_stop_whole K V S same hash name m known s old new all.whole i stopped leads map u here none).all.shown;
     nexts = walks_stop_nexts same name log m s all.nexts map i u here all.whole.all.shown.calls u stopped none;
     limits = walks_stop_limits same name log m s all.limits map i u here all.whole.all.shown.calls u stopped none;
+    tries = walks_stop_tries same name log m s all.tries map i u here all.whole.all.shown.calls u stopped none;
     counters = by stopped none;
     uncounted = given_uncounted (name i) m stopped all.uncounted;
     dues = (dues_stay K V S same hash name log).walks_stop m known s old new at all.whole all.dues i stopped leads map u here none;

@@ -25,6 +25,7 @@ use Rattle.papaya_legal.specs.Between.{EndsBegin, MakingsBegin, MapsCome, MapsGo
 use Rattle.papaya_legal.proofs.Sourced.{ends_leave, sources_so}
 use Rattle.papaya_grows.proofs.Finding.Alike.{finding_fewer}
 use Rattle.papaya_grows.proofs.Limits.Shows.{limits_where}
+use Rattle.papaya_grows.proofs.Tries.Shows.{tries_where}
 use Rattle.papaya_grows.proofs.Finding.Nexts.{nexts_where}
 use Rattle.papaya_grows.proofs.Finding.Between.{finding_where, found_beside, found_kept}
 
@@ -40,6 +41,7 @@ module _ (K V S : Type 0) (same : K → K → Bool) (hash : K → ℕ) where
           sources = sources_so K V same name m (with_map there m) known known s s all.sources (maps_come_whole K V same name m known s all.whole there come.1).all.shown refl refl refl (λ n st is. is);
           nexts = nexts_where same hash name log m (with_map there m) s e at all.nexts still refl refl;
           limits = limits_where same hash name log m (with_map there m) s e at all.limits still refl refl;
+          tries = tries_where same hash name log m (with_map there m) s e at all.tries still (record { stored = refl; place = refl; born = refl; spot = refl }) refl refl;
           counters = counters_stay K V name m (with_map there m) s s all.counters refl refl refl refl refl (λ of j x is removed adds. (x, is, adds));
           uncounted = λ of low. (let l : m.made ≤ of = omega (arith, low) in all.uncounted of l);
           dues = (dues_stay K V S same hash name log).maps_come m known s e e at all.whole all.dues there come.1;
@@ -65,6 +67,7 @@ module _ (K V S : Type 0) (same : K → K → Bool) (hash : K → ℕ) where
     sources = sources_so K V same name m m known known s (record s { makers = with_at s.makers i (Some b) }) all.sources (makings_begin_whole K V same name m known s all.whole i b not_made).all.shown refl refl refl (λ n st is. is);
     nexts = all.nexts;
     limits = all.limits;
+    tries = all.tries;
     counters = makings_begin_counters K V name m s all.counters i b not_made uncounted;
     uncounted = all.uncounted;
     dues = (dues_stay K V S same hash name log).makings_begin m known s old new at all.whole all.dues i b at2;
@@ -83,6 +86,7 @@ module _ (K V S : Type 0) (same : K → K → Bool) (hash : K → ℕ) where
         (ends_leave s map i standing);
     nexts = all.nexts;
     limits = all.limits;
+    tries = all.tries;
     counters = endings_begin_counters K V name m s all.counters map i standing;
     uncounted = all.uncounted;
     dues = (dues_stay K V S same hash name log).endings_begin m known s old new at all.whole all.dues map i standing there at2;
@@ -107,6 +111,7 @@ module _ (K V S : Type 0) (same : K → K → Bool) (hash : K → ℕ) where
         (λ n st is. is);
     nexts = nexts_where same hash name log m (without_map own remains m) s e at all.nexts still refl refl;
     limits = limits_where same hash name log m (without_map own remains m) s e at all.limits still refl refl;
+    tries = tries_where same hash name log m (without_map own remains m) s e at all.tries still (record { stored = refl; place = refl; born = refl; spot = refl }) refl refl;
     counters = counters_stay K V name m (without_map own remains m) s s all.counters refl refl refl refl refl (λ of j x is removed adds. (x, is, adds));
     uncounted = all.uncounted;
     dues = (dues_stay K V S same hash name log).endings_over m known s e e at all.whole all.dues own remains apart;

@@ -56,6 +56,10 @@ use Rattle.papaya_grows.proofs.Given.Sources.Steps.{calls_keep_sources}
 use Rattle.papaya_grows.proofs.Finding.Calls.{calls_keep_finding}
 use Rattle.papaya_grows.proofs.Limits.Shows.{limits_at_first}
 use Rattle.papaya_grows.proofs.Limits.Steps.{limits_go_on, limits_others}
+use Rattle.papaya_grows.proofs.Tries.Shows.{tries_at_first}
+use Rattle.papaya_grows.proofs.Tries.Steps.{tries_go_on, tries_others}
+use Rattle.papaya_grows.proofs.Finding.Alike.{many_same}
+use Rattle.papaya_grows.proofs.Given.Finds.Grows.Steps.{tables_have_been}
 use Rattle.papaya_grows.proofs.Finding.Nexts.{nexts_go_on, others_at_first, others_go_on}
 use Rattle.papaya_legal.proofs.Uncounted.{calls_leave_uncounted}
 
@@ -74,12 +78,14 @@ module _ {K V : Type 0} (own : List ℕ) (m : Moment K V) (known : Known) (w : W
   begins_protected _ is = absurd (cc is)
 
 pub call_events_begin_so : (K V S : Type 0) (same : K → K → Bool) (hash : K → ℕ) → CallEventsBegin K V S same hash
-call_events_begin_so K V S same hash name terms log beginning begins maps tables shards tableless known s x at all reading sections follows event map i caller_is u here c c_is only = record {
+call_events_begin_so K V S same hash name terms log beginning begins maps tables shards born spot tableless known s x at all reading sections follows event map i caller_is u here c c_is only = record {
   of_call = caller_is;
   event_so = events_begin K V S same hash name log beginning begins known s x at all.whole all.dues all.as_called map i u here c c_is;
   calls = all;
   others = others_at_first name log i beginning s maps tables all.purposes.begun all.nexts;
   other_limits = limits_at_first name log i beginning s maps tables all.purposes.begun all.limits;
+  other_tries = tries_at_first name log i beginning s (record { stored = sym begins.1; place = sym begins.0; born = sym born; spot = sym spot }) maps tables all.purposes.begun all.tries;
+  tables = many_same (moment log) beginning tables;
   worked = refl;
   few = let none : 0 ≤ 0 = omega arith in none;
   granted = refl;
@@ -139,6 +145,7 @@ call_events_go_on_so K V S same hash name terms log event beginning map i c step
     finding = calls_keep_finding K V S same hash name m known s old new at whole midst.calls.kept midst.calls.finding map i u here said leads;
     sources = calls_keep_sources K V S same hash name m known s old new at whole midst.calls.sources map i u here said leads;
     nexts = nexts_go_on same hash name log m known s old new at whole map i u here said leads midst.others midst.calls.nexts (whole.all.shown.calls map i u here).0 (whole.all.shown.calls map i u here).1;
+    tries = tries_go_on same hash name log m known s old new at whole map i u here said leads midst.calls.sources midst.calls.tries (whole.all.shown.calls map i u here).0 (whole.all.shown.calls map i u here).1 midst.other_tries;
     limits = limits_go_on same hash name log m known s old new at whole map i u here said leads midst.calls.limits midst.calls.finding.capacities (whole.all.shown.calls map i u here).0 (whole.all.shown.calls map i u here).1 midst.other_limits;
     counters = calls_keep_counters K V S same hash name m known s old new at whole midst.calls.kept.counts midst.calls.counters map i u here said leads;
     uncounted = calls_leave_uncounted same hash name m known s old new at whole midst.calls.kept midst.calls.counters midst.calls.uncounted map i u here said leads below;
@@ -153,6 +160,8 @@ call_events_go_on_so K V S same hash name terms log event beginning map i c step
   };
   others = others_go_on same hash name log m known s old new at whole map i u here said leads midst.others;
   other_limits = limits_others same hash name log m known s old new at whole map i u here said leads midst.other_limits;
+  other_tries = tries_others same hash name log m known s old new at whole map i u here said leads midst.other_tries;
+  tables = λ of. (let had = midst.tables of in let more = tables_have_been K V (Some (name i)) (Some map) effects m of in omega (arith, had, more));
   worked = ap (λ (x : Moment K V). with_effects (Some (name i)) (Some map) effects x) midst.worked ∙ sym (effects_after (Some (name i)) (Some map) done effects beginning);
   few = parts_add_up steps 1 done effects midst.few (operations_are_single (acts.Call i map) known new.memory.changed).0;
   granted = grants_add_up done effects midst.granted (operations_are_single (acts.Call i map) known new.memory.changed).1;

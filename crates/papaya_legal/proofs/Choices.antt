@@ -59,8 +59,9 @@ module _ {K V : Type 0} (choice : ℕ) (same : K → K → Bool) (name : ℕ →
     purposes = record { shown = shown_then all.purposes.shown; begun = all.purposes.begun; is_for = all.purposes.is_for; come = all.purposes.come };
     finding = record { growing = all.finding.growing; further = all.finding.further; capacities = all.finding.capacities; waits = all.finding.waits; puts = all.finding.puts };
     nexts = all.nexts;
-    sources = record { shown = shown_then all.sources.shown; numbered = all.sources.numbered; came = all.sources.came };
+    sources = record { shown = shown_then all.sources.shown; numbered = all.sources.numbered; came = all.sources.came; left = all.sources.left };
     limits = all.limits;
+    tries = all.tries;
   }
 
   reading_then : ShowsReading name log (λ i. 0) m s → ShowsReading name log (λ i. 0) m (scene_chosen choice s)

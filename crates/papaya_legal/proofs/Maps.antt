@@ -55,6 +55,7 @@ use Rattle.papaya_models.proofs.MapEvents.{making_events_go_on}
 use Rattle.papaya_legal.specs.MapEvents.{EndEventsGoOn, FindsItsMap, HasNotMade, MakingEventsGoOn}
 use Rattle.papaya_grows.proofs.Given.Shards.ShardKept.{none_shards}
 use Rattle.papaya_grows.proofs.Limits.Shows.{endings_keep_limits, makings_keep_limits}
+use Rattle.papaya_grows.proofs.Tries.Others.{endings_keep_tries, makings_keep_tries}
 use Rattle.papaya_grows.proofs.Given.Spots.Effects.{AllAside}
 use Rattle.papaya_legal.proofs.Sourced.{making_none, making_sources, so_aside}
 use Rattle.papaya_grows.specs.Finding.{ShowsFinding}
@@ -138,6 +139,7 @@ making_events_go_on_so K V S same hash name terms log event beginning done m kno
       finding = finding_by finds;
       sources = making_sources K V S same hash name m known then_known s old new i b here (Some b.map) effects aside midst.0.calls.sources midst.2 said leads then_whole.all.shown;
       nexts = makings_keep_nexts K V S same hash name log m known s old new midst.0.calls.nexts at whole i said leads b here was_new;
+      tries = makings_keep_tries K V S same hash name log m known s old new midst.0.calls.sources midst.0.calls.tries at whole i said leads b here was_new (made_at same hash s old new at i b here said leads) then_whole;
       limits = makings_keep_limits K V S same hash name log m known s old new midst.0.calls.limits at whole i said leads b here was_new;
       counters = makings_keep_counters K V S same hash name m known s old new at whole midst.0.calls.counters i said leads b here (Some b.map);
       uncounted = none_counted None (Some b.map) effects m midst.0.calls.uncounted (none_shards (Some b.map) effects m);
@@ -249,6 +251,7 @@ end_events_go_on_so K V S same hash name terms log event map beginning first don
           (endings_aside same hash name m known s old new at whole i said leads f here map not_there) midst.0.calls.sources then_whole.all.shown
           (λ n st is. ap (λ (maps : ℕ → Option (Standing K)). maps n) (sym (ended_maps same hash s old new i f here said leads)) ∙ is);
       nexts = endings_keep_nexts K V S same hash name log m known s old new midst.0.calls.nexts at whole i f here said leads map not_there;
+      tries = endings_keep_tries K V S same hash name log m known s old new midst.0.calls.sources midst.0.calls.tries at whole i f here said leads map not_there (ended_at same hash s old new i f here said leads) then_whole;
       limits = endings_keep_limits K V S same hash name log m known s old new midst.0.calls.limits at whole i f here said leads map not_there;
       counters = endings_keep_counters K V S same hash name m known s old new at midst.0.calls.counters i said leads f here map;
       uncounted = none_counted None (Some map) effects m midst.0.calls.uncounted (none_shards (Some map) effects m);

@@ -44,6 +44,7 @@ use Rattle.papaya_models.proofs.OnSlots.{slot_events_begin, slot_events_go_on}
 use Rattle.papaya_legal.specs.SlotEvents.{SlotEventsBegin, SlotEventsGoOn}
 use Rattle.papaya_grows.proofs.Given.Shards.ShardKept.{none_shards}
 use Rattle.papaya_grows.proofs.Limits.Shows.{rows_begin_limits, rows_keep_limits}
+use Rattle.papaya_grows.proofs.Tries.Others.{rows_begin_tries, rows_keep_tries}
 use Rattle.papaya_legal.proofs.Sourced.{same_maps_aside, sources_same}
 use Rattle.papaya_grows.proofs.Finding.Aside.{rows_aside}
 use Rattle.papaya_grows.proofs.Finding.NextsOthers.{rows_begin_nexts, rows_keep_nexts}
@@ -96,6 +97,7 @@ slot_events_begin_so K V S same hash name terms log known s old new at size run 
         finding = rows_begin_finding K V S same hash name m known s old new run.calls.finding called i may leads whole2;
         sources = sources_same K V same name m m known known s (scene_then same hash (Begin i request) s old new to) run.calls.sources whole2.all.shown refl refl refl to.3;
         nexts = rows_begin_nexts K V S same hash name log m known s old new run.calls.nexts called i may leads;
+        tries = rows_begin_tries K V S same hash name log m known s old new run.calls.sources run.calls.tries called i may leads whole2;
         limits = rows_begin_limits K V S same hash name log m known s old new run.calls.limits called i may leads;
         counters = rows_begin_counters K V S same hash name m s old new at run.calls.counters called i may leads;
         uncounted = run.calls.uncounted;
@@ -126,6 +128,7 @@ slot_events_go_on_so K V S same hash name terms log event i called first began d
     sources = same_maps_aside K V same name m known (known_after acts.Row new.memory.changed known) s (scene_then same hash (Step i) s old new (leads row here).4) None None effects
         (rows_aside same hash name m known s old new at i said leads row here) midst.calls.sources whole2.all.shown (leads row here).4.3;
     nexts = rows_keep_nexts K V S same hash name log m known s old new midst.calls.nexts at whole i said leads row here;
+    tries = rows_keep_tries K V S same hash name log m known s old new midst.calls.sources midst.calls.tries at whole i said leads row here whole2;
     limits = rows_keep_limits K V S same hash name log m known s old new midst.calls.limits at whole i said leads row here;
     counters = rows_keep_counters K V S same hash name m known s old new at whole midst.calls.counters i said leads row here;
     uncounted = none_counted None None effects m midst.calls.uncounted (none_shards None effects m);

@@ -1,5 +1,5 @@
 -- Where pairs were copied from is so still as anything happens but steps of calls, which may copy and store.
-use Rattle.std.specs.Prelude.{◌≡◌, ℕ, ◌<◌, ◌≤◌, Bool, List, [], ◌∷◌, length, map, Option, Some, None}
+use Rattle.std.specs.Prelude.{◌≡◌, ◌≢◌, ℕ, ◌<◌, ◌≤◌, Bool, List, [], ◌∷◌, length, map, Option, Some, None}
 use Rattle.std.proofs.Common.{refl, ap, sym, subst, ◌∙◌, inl, inr, arith}
 use Rattle.std.proofs.lemmas.Bool.{cases_eq}
 use Rattle.papaya_grows.specs.Given.Seize.declared.progress.Progress.{Progress as Making}
@@ -13,7 +13,7 @@ use Rattle.papaya_grows.specs.Given.Schedules.declared.effect.Table.{Table}
 use Rattle.papaya_grows.specs.Given.Schedules.declared.effect.Thing.{Thing}
 use Rattle.papaya_grows.specs.Given.Schedules.Effects.{with_effects}
 use Rattle.papaya_grows.specs.Given.Schedules.Moment.{MapThere, Moment}
-use Rattle.papaya_grows.specs.Given.Rule.Chart.{Chart}
+use Rattle.papaya_grows.specs.Given.Rule.Chart.{Tombstone, Chart}
 use Rattle.papaya_grows.proofs.Given.Callers.Together.At.{at_same, at_other}
 use Rattle.papaya_grows.specs.Given.Effects.Known.{Known}
 use Rattle.papaya_grows.specs.Given.Executor.Ending.{ending_begun}
@@ -103,6 +103,14 @@ new_stored : {K : Type 0} (hash : K → ℕ) (setting : Setting) (places : ℕ) 
 new_stored {K} hash setting places c (inl new) = ap (λ (x : Chart K). x.stored) new.1
 new_stored {K} hash setting places c (inr new) = ap (λ (x : Chart K). x.stored) new.2
 
+-- nor was one removed there
+abbrev HasNoTombstone : {K : Type 0} → Chart K → Type 0
+HasNoTombstone c = (t i : ℕ) (mark : Bool) → c.place t i ≢ Tombstone mark
+
+new_bare : {K : Type 0} (hash : K → ℕ) (setting : Setting) (places : ℕ) (c : Chart K) → IsNewChart hash setting places c → HasNoTombstone c
+new_bare {K} hash setting places c (inl new) t i mark is = let none = ap (λ (x : Chart K). x.place t i) new.1 in cc (is, none)
+new_bare {K} hash setting places c (inr new) t i mark is = let none = ap (λ (x : Chart K). x.place t i) new.2 in cc (is, none)
+
 -- as a map is made
 module _ (K V S : Type 0) (same : K → K → Bool) (hash : K → ℕ) (name : ℕ → List ℕ) (m : Moment K V) (known known2 : Known) (s : Scene K V) (old new : Executor K V S) (i : ℕ) (b : Beginning K) (here : s.makers i ≡ Some b)
     (acted : Option ℕ) (effects : List Effect) (all : AllAside effects) (sources : ShowsSources same name m known s) (none : NoneBorn b.map m) where
@@ -134,6 +142,7 @@ module _ (K V S : Type 0) (same : K → K → Bool) (hash : K → ℕ) (name : �
             inr (
               ap (λ (x : Standing K). x.chart.stored) one ∙ new_stored b.hash setting b.places made.chart (leads b here).3.1.chart_is,
               subst (λ (x : ℕ). NoneBorn x then_at) (sym e) making_none,
+              subst (λ (x : Standing K). HasNoTombstone x.chart) (sym one) (new_bare b.hash setting b.places made.chart (leads b here).3.1.chart_is),
             )
         | inr ne ↦ inl (st2, sym (at_other s.maps b.map (Some made) n ne) ∙ is, refl, refl)
       ]

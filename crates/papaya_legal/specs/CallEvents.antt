@@ -59,7 +59,9 @@ use Rattle.papaya_grows.specs.Given.Purposes.Tableless.{TablelessUncounted}
 use Rattle.papaya_legal.specs.Between.{IsBegunRight}
 use Rattle.papaya_legal.specs.Carried.{ComesAlone, FollowsOrRows, ShowsCalls, ShowsRun}
 use Rattle.papaya_grows.specs.Limits.{OthersHadLimit}
+use Rattle.papaya_grows.specs.Given.Finds.Within.{many_of}
 use Rattle.papaya_grows.specs.Nexts.{OthersHadNext}
+use Rattle.papaya_grows.specs.Tries.{OthersHadTried}
 
 -- each pair that is in this map is the one of its class there
 abbrev pub EachIsItsOwn : {K V : Type 0} → (K → K → Bool) → ℕ → Moment K V → Type 0
@@ -75,6 +77,9 @@ module _ {K V : Type 0} (same : K → K → Bool) (name : ℕ → List ℕ) (ter
     pub others : OthersHadNext name log i m s
     -- and where it can have no further table one at the limit
     pub other_limits : OthersHadLimit name log i m s
+    -- what each other one has met at tries it has met at moments of the log, and no map has fewer tables than then
+    pub other_tries : OthersHadTried name log i m s
+    pub tables : (of : ℕ) → many_of of (moment log) ≤ many_of of m
     pub worked : m ≡ with_effects (Some (name i)) (Some map) done beginning
     -- steps: each did one thing at most, and had what it made granted; a lookup has read so many words
     pub few : AreDoneBy steps done
@@ -108,7 +113,7 @@ module _ (K V S : Type 0) (same : K → K → Bool) (hash : K → ℕ) where
   abbrev pub CallEventsBegin : Type 0
   CallEventsBegin =
       (name : ℕ → List ℕ) (terms : Terms) (log : List (Entry K V)) (beginning : Moment K V) → HasJustBegun log beginning → beginning.maps ≡ (moment log).maps → beginning.tables ≡ (moment log).tables
-      → beginning.shards ≡ (moment log).shards → TablelessUncounted (moment log)
+      → beginning.shards ≡ (moment log).shards → beginning.born ≡ (moment log).born → beginning.spot ≡ (moment log).spot → TablelessUncounted (moment log)
       → (known : Known) (s : Scene K V) (x : Executor K V S) → IsAt same hash x s → ShowsCalls same name log beginning known s → ShowsReading name log (λ j. 0) beginning s
       → SectionsHold beginning known s.world → ((moment log).is_alone ≡ true → FollowsOrRows terms log known s.world)
       → (event : Event K V) (map i : ℕ) → caller_of event ≡ Some (name i) → (u : UnderWay K V K) → s.calls map i ≡ Some u → (c : CallThere K V) → call_of (name i) beginning ≡ Some c

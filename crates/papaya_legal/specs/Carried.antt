@@ -34,6 +34,7 @@ use Rattle.papaya_grows.specs.Given.Sources.Sources.{ShowsSources}
 use Rattle.papaya_grows.specs.Finding.{ShowsFinding}
 use Rattle.papaya_grows.specs.Limits.{ShowsLimits}
 use Rattle.papaya_grows.specs.Nexts.{ShowsNexts}
+use Rattle.papaya_grows.specs.Tries.{ShowsTries}
 
 -- calls came one after another so far, and the event is one of those that do
 abbrev pub ComesAlone : {K V : Type 0} → Event K V → List (Entry K V) → Type 0
@@ -43,7 +44,7 @@ ComesAlone event log = ((moment log).is_alone && list_all (is_by (speaker event)
 abbrev pub NoneCounted : {K V : Type 0} → Moment K V → Type 0
 NoneCounted m = (of : ℕ) → m.made ≤ of → IsUncounted of m
 
--- What a moment shows beside who is there, wherever in an event it is, so far since the log: numbers of maps; what every step keeps; by what steps of calls find what they must, for what copiers make tables, and where calls can have no further one; the shards of maps;
+-- What a moment shows beside who is there, wherever in an event it is, so far since the log: numbers of maps; what every step keeps; by what steps of calls find what they must, for what copiers make tables, where calls can have no further one, and what they have met at tries; the shards of maps;
 -- what calls owe as answers, are called for, have asked, and are for.
 pub record ShowsCalls {K V : Type 0} (same : K → K → Bool) (name : ℕ → List ℕ) (log : List (Entry K V)) (m : Moment K V) (known : Known) (s : Scene K V) : Type 0 where
   pub whole : ShowsWhole same name m known s
@@ -52,6 +53,7 @@ pub record ShowsCalls {K V : Type 0} (same : K → K → Bool) (name : ℕ → L
   pub finding : ShowsFinding name m known s
   pub nexts : ShowsNexts name log m s
   pub limits : ShowsLimits name log m s
+  pub tries : ShowsTries name log m s
   pub sources : ShowsSources same name m known s
   pub counters : ShowsCounters name m s
   pub uncounted : NoneCounted m

@@ -1,5 +1,5 @@
 -- A call that is alone makes the table after the last one for as many pairs as the counter says.
-use Rattle.std.specs.Prelude.{◌≡◌, ℕ, suc, Bool, false, Result}
+use Rattle.std.specs.Prelude.{◌≡◌, ℕ, ◌≤◌, Bool, Result}
 use Rattle.std.proofs.Common.{ap, sym, subst, ◌∙◌, inl, inr}
 use Rattle.papaya_finishes.specs.Given.SeizeWords.declared.fault.Fault.{Fault}
 use Rattle.papaya_finishes.specs.Given.SeizeWords.Mem.{Mem, Took, value_at}
@@ -8,8 +8,7 @@ use Rattle.papaya_finishes.proofs.Given.SeizeRule.Rows.Leaving.{steps_back}
 use Rattle.papaya_finishes.specs.Given.Seize.World.{World}
 use Rattle.papaya_finishes.specs.Given.Seize.declared.progress.Progress.{Progress}
 use Rattle.papaya_finishes.specs.Given.Seize.declared.progress.Progress.TheVariants as progress
-use Rattle.papaya_finishes.specs.Given.Tables.Chunks.{is_incremental}
-use Rattle.papaya_finishes.specs.Given.Tables.Lengths.{next_len, IsTableLen}
+use Rattle.papaya_finishes.specs.Given.Tables.Lengths.{next_len}
 use Rattle.papaya_finishes.specs.Given.Tables.declared.lengths.Reason.{Reason}
 use Rattle.papaya_finishes.specs.Given.Tables.declared.lengths.Reason.TheVariants.{Full}
 use Rattle.papaya_finishes.specs.Given.Tables.declared.node.Node.{Node}
@@ -29,7 +28,7 @@ use Rattle.papaya_finishes.specs.Given.Raw.declared.machines.call.Calling.TheVar
 use Rattle.papaya_finishes.specs.Given.Rule.Chart.{Chart}
 use Rattle.papaya_finishes.specs.Given.Rule.Rule.{IsLawful}
 use Rattle.papaya_finishes.specs.Given.Rule.Words.{Blocks}
-use Rattle.papaya_finishes.specs.Given.Rule.Maps.{spot_of, IsTable}
+use Rattle.papaya_finishes.specs.Given.Rule.Maps.{spot_of}
 use Rattle.papaya_finishes.specs.Given.Rule.InWorld.{IsMapIn}
 use Rattle.papaya_finishes.proofs.Given.Rule.World.WentWrote.{counter_of}
 use Rattle.papaya_finishes.specs.Given.Points.FactsTables.{SumFacts}
@@ -43,16 +42,15 @@ use Rattle.papaya_maps.proofs.Reserves.Sums.{Ahead, sum_ahead}
 
 module _ {K V Q : Type 0} (same : K → K → Bool) (hash : K → ℕ) (asks : Q → K → Bool) (lawful : IsLawful same (spot_of hash)) (setting : Setting) (w : World (Node K V)) (c : Chart K) (blocks : Blocks)
     (map : IsMapIn same hash setting w c blocks) (p : KeyCall K V Q) (n : NewTable) (before : Table) (reason : Reason) (sum : Sum) (here : p.stands ≡ at.Allocs n) (of_setting : n.setting ≡ setting)
-    (counting : n.stands ≡ makes.Sums before reason sum) (facts : SumFacts setting sum) (met : MetMaking w.memory p n.stands) (ahead : count_ahead setting w.memory sum.stands ≡ pairs_in c)
-    (t : ℕ) (is : IsTable c blocks p.trial.table t) (last : suc t ≡ c.past) (at_root : is_incremental setting.mode ≡ false → t ≡ c.first) (is_len : IsTableLen (c.len t)) where
+    (counting : n.stands ≡ makes.Sums before reason sum) (facts : SumFacts setting sum) (met : MetMaking w.memory p n.stands) (few : p.trial.most ≤ pairs_in c) (ahead : count_ahead setting w.memory sum.stands ≡ pairs_in c) where
   -- the length for so many pairs is the same, whatever was met
-  same_len : (count : ℕ) → count ≡ pairs_in c → next_len reason before.len count n.setting.initial ≡ next_len (Full 0) before.len (pairs_in c) setting.initial
+  same_len : (count : ℕ) → count ≡ pairs_in c → next_len reason before.len count n.setting.initial ≡ next_len (Full 0 0) before.len (pairs_in c) setting.initial
   same_len count counts =
       let so = subst (MetMaking w.memory p) counting met in
       ap (λ (x : Reason). next_len x before.len count n.setting.initial) so.1
-      ∙ ap (λ (k : ℕ). next_len (Full p.trial.met) before.len k n.setting.initial) counts
-      ∙ ap (λ (x : Setting). next_len (Full p.trial.met) before.len (pairs_in c) x.initial) of_setting
-      ∙ goes_by_the_counter V Q same hash lawful setting.mode setting.root w.memory c blocks map.map p t is last at_root is_len so.2 before.len setting.initial
+      ∙ ap (λ (k : ℕ). next_len (Full p.trial.met p.trial.most) before.len k n.setting.initial) counts
+      ∙ ap (λ (x : Setting). next_len (Full p.trial.met p.trial.most) before.len (pairs_in c) x.initial) of_setting
+      ∙ goes_by_the_counter K c p.trial before.len setting.initial few
 
   module _ (m2 : Mem (Node K V)) (end : KeyCall K V Q × Called (Node K V)) where
     abbrev So : Type 0
@@ -77,5 +75,5 @@ module _ {K V Q : Type 0} (same : K → K → Bool) (hash : K → ℕ) (asks : Q
         by_count told.0 counts.0 (made.2 ∙ ap (next_made p) counts.2) told.1 (sum_ahead setting w.memory sum facts.0 facts.1 m2 counts.0 counts.1)
 
 pub next_tables_go_by_the_counter : {K Q : Type 0} (V : Type 0) (same : K → K → Bool) (hash : K → ℕ) (asks : Q → K → Bool) → NextTablesGoByTheCounter V same hash asks
-next_tables_go_by_the_counter V same hash asks lawful setting w c blocks map p n before reason sum here of_setting counting facts met ahead t is last at_root is_len m2 end s =
-    counts_next same hash asks lawful setting w c blocks map p n before reason sum here of_setting counting facts met ahead t is last at_root is_len m2 end s
+next_tables_go_by_the_counter V same hash asks lawful setting w c blocks map p n before reason sum here of_setting counting facts met few ahead m2 end s =
+    counts_next same hash asks lawful setting w c blocks map p n before reason sum here of_setting counting facts met few ahead m2 end s

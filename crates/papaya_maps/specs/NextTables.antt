@@ -1,10 +1,9 @@
 -- The table after the last one, where a call that is alone counts the pairs for it.
-use Rattle.std.specs.Prelude.{◌≡◌, ℕ, suc, Bool, false, ◌⊎◌}
+use Rattle.std.specs.Prelude.{◌≡◌, ℕ, ◌≤◌, Bool, ◌⊎◌}
 use Rattle.papaya_finishes.specs.Given.SeizeWords.Mem.{Mem, Took, value_at}
 use Rattle.papaya_finishes.specs.Given.SeizeWords.Plan.{Steps}
 use Rattle.papaya_finishes.specs.Given.Seize.World.{World}
-use Rattle.papaya_finishes.specs.Given.Tables.Chunks.{is_incremental}
-use Rattle.papaya_finishes.specs.Given.Tables.Lengths.{next_len, IsTableLen}
+use Rattle.papaya_finishes.specs.Given.Tables.Lengths.{next_len}
 use Rattle.papaya_finishes.specs.Given.Tables.declared.lengths.Reason.{Reason}
 use Rattle.papaya_finishes.specs.Given.Tables.declared.lengths.Reason.TheVariants.{Full}
 use Rattle.papaya_finishes.specs.Given.Tables.declared.node.Node.{Node}
@@ -22,7 +21,7 @@ use Rattle.papaya_finishes.specs.Given.Raw.declared.machines.call.Calling.TheVar
 use Rattle.papaya_finishes.specs.Given.Rule.Chart.{Chart}
 use Rattle.papaya_finishes.specs.Given.Rule.Rule.{IsLawful}
 use Rattle.papaya_finishes.specs.Given.Rule.Words.{Blocks}
-use Rattle.papaya_finishes.specs.Given.Rule.Maps.{spot_of, IsTable}
+use Rattle.papaya_finishes.specs.Given.Rule.Maps.{spot_of}
 use Rattle.papaya_finishes.specs.Given.Rule.InWorld.{IsMapIn}
 use Rattle.papaya_finishes.specs.Given.Points.FactsTables.{SumFacts}
 use Rattle.papaya_alone.specs.Counting.{pairs_in, count_ahead}
@@ -32,14 +31,13 @@ use Rattle.papaya_alone.specs.Met.{MetMaking}
 abbrev pub CountsOrMakes : {K T : Type 0} → Setting → Mem T → Chart K → NewTable → Table → Reason → Calling → Type 0
 CountsOrMakes setting m c n before reason stands =
     ((sum : Sum) × (stands ≡ at.Allocs (standing n (makes.Sums before reason sum))) × SumFacts setting sum × (count_ahead setting m sum.stands ≡ pairs_in c))
-    ⊎ (stands ≡ at.Allocs (standing n (making_of reason before (next_len (Full 0) before.len (pairs_in c) setting.initial))))
+    ⊎ (stands ≡ at.Allocs (standing n (making_of reason before (next_len (Full 0 0) before.len (pairs_in c) setting.initial))))
 
--- Where a call makes the table after the last one, has met no more pairs than its tries meet, and will count as many as the map has, a step leads there.
+-- Where a call makes the table after the last one, has met no more pairs than the map has at any that it found full, and will count as many, a step leads there.
 abbrev pub NextTablesGoByTheCounter : {K Q : Type 0} → Type 0 → (K → K → Bool) → (K → ℕ) → (Q → K → Bool) → Type 0
 NextTablesGoByTheCounter {K} {Q} V same hash asks =
     IsLawful same (spot_of hash) → (setting : Setting) (w : World (Node K V)) (c : Chart K) (blocks : Blocks) → IsMapIn same hash setting w c blocks
     → (p : KeyCall K V Q) (n : NewTable) (before : Table) (reason : Reason) (sum : Sum) → p.stands ≡ at.Allocs n → n.setting ≡ setting → n.stands ≡ makes.Sums before reason sum
-    → SumFacts setting sum → MetMaking w.memory p n.stands → count_ahead setting w.memory sum.stands ≡ pairs_in c
-    → (t : ℕ) → IsTable c blocks p.trial.table t → suc t ≡ c.past → (is_incremental setting.mode ≡ false → t ≡ c.first) → IsTableLen (c.len t)
+    → SumFacts setting sum → MetMaking w.memory p n.stands → p.trial.most ≤ pairs_in c → count_ahead setting w.memory sum.stands ≡ pairs_in c
     → (m2 : Mem (Node K V)) (end : KeyCall K V Q × Called (Node K V)) → Steps Took value_at w.memory (call_plan asks same hash p) m2 end
     → CountsOrMakes setting m2 c n before reason end.0.stands

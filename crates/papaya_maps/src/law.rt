@@ -35,7 +35,7 @@ pub fn blocks_are_listed<K>()
     ensures marked { MarkedIsSettledOrOwn }
 {}
 
-/// Where a call counts the pairs for the table after the last one, has met no more of them than its tries meet, and will count as many as the map has,
+/// Where a call counts the pairs for the table after the last one, has met no more of them than the map has, at any table that it found full, and will count as many,
 /// each step of that counts on, or makes the table for so many pairs, as long as it is by the counter alone.
 pub fn next_tables_go_by_the_counter<K, V, Q>()
     ensures steps { (same : K → K → Bool) (hash : K → ℕ) (asks : Q → K → Bool) → NextTablesGoByTheCounter V same hash asks }

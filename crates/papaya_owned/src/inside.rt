@@ -20,7 +20,7 @@ ghost use Rattle.papaya_owned.specs.declared.machines.Stop.TheVariants as stop;
 use crate::machines::{OnKey, Stop};
 use papaya_raw::Outcome;
 use papaya_raw::machines::{Calling, Copier, Dispose, Disposing, End, KeyAnswer};
-use papaya_tables::{Equivalent, Hashes, Node, Table, Trial};
+use papaya_tables::{Equivalent, Hashes, Node, Table};
 use seize::rows::{Settle, Settled};
 use seize::{Machine, Progress};
 use seize_words::Plain;
@@ -100,7 +100,7 @@ impl<K: Eq + Hash + Drop, V: Drop, Q: Equivalent<K>, S: Hashes<K>> OnKey<'_, K, 
         match told {
             Outcome::Goes | Outcome::Waits | Outcome::Gave(_) => Progress::Goes,
             Outcome::Done(_) => {
-                self.call.trial = Trial::first(goal, self.call.hash);
+                self.call.trial = self.call.trial.on(goal, self.call.hash);
                 self.call.stands = Calling::Probes;
                 Progress::Goes
             }

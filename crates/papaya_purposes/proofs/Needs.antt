@@ -133,7 +133,7 @@ module _ {K V : Type 0} (of : ℕ) (moments : List (Moment K V)) (p : Reserve) w
       turned (Err fault) e = tt
       turned (Ok turn) e = by (nat_le (max need 8) (2 ^ 48))
         where
-          by : (b : Bool) → ShapedAt (λ before reason. ⊥) (IsLaterFor of moments p table) (if b then makes.Makes (planned (max need 8) (next_limit (Reserved 0) table.len (max need 8)) turn) else makes.Refused Capacity)
+          by : (b : Bool) → ShapedAt (λ before reason. ⊥) (IsLaterFor of moments p table) (if b then makes.Makes (planned (max need 8) (next_limit (Reserved 0) table.len table.limit (max need 8)) turn) else makes.Refused Capacity)
           by true = (long, refl, next_of table.turn turn e)
           by false = tt
 

@@ -23,7 +23,7 @@ module _ {K V : Type 0} (of : ℕ) (moments : List (Moment K V)) (p : Reserve) w
 
   -- a later table has so many, and is the one behind the root
   abbrev pub IsLaterFor : Table → Table → Type 0
-  IsLaterFor before table = Needs table.len × (table.limit ≡ next_limit (Reserved p.additional) before.len table.len) × (table.turn ≡ suc before.turn)
+  IsLaterFor before table = Needs table.len × (table.limit ≡ next_limit (Reserved p.additional) before.len before.limit table.len) × (table.turn ≡ suc before.turn)
 
   -- So it is where it makes a table, and where it looks for the one behind the root.
   abbrev pub NeedsAt : Reserving → Type 0

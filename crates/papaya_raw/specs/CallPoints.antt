@@ -2,7 +2,7 @@
 use Rattle.std.specs.Prelude.{ℕ, ◌+◌, ◌*◌, ◌/◌, ◌%◌, ◌^◌, ◌==◌, Bool, true, false, if◌then◌else◌, Option, Some, None}
 use Rattle.seize_words.specs.Word.{link_to, block_in}
 use Rattle.papaya_tables.specs.Chunks.{is_incremental}
-use Rattle.papaya_tables.specs.Trials.{first_trial, with_met, next_trial}
+use Rattle.papaya_tables.specs.Trials.{first_trial, trial_on, with_met, found_full, next_trial}
 use Rattle.papaya_tables.specs.Finding.{finding}
 use Rattle.papaya_resize.specs.Lookup.{looking}
 use Rattle.papaya_raw.specs.Answers.{ended}
@@ -11,6 +11,7 @@ use Rattle.papaya_resize.specs.NewTable.{first_table, table_after}
 use Rattle.papaya_resize.specs.Dispose.{disposing}
 use Rattle.papaya_resize.specs.CopierStates.{helping, copying_all}
 use Rattle.papaya_tables.specs.declared.lengths.TheConstants.{FIRST_LEN}
+use Rattle.papaya_tables.specs.declared.lengths.Reason.{Reason}
 use Rattle.papaya_tables.specs.declared.lengths.Reason.TheVariants.{Full}
 use Rattle.papaya_tables.specs.declared.marks.TheConstants.{TOMBSTONE}
 use Rattle.papaya_tables.specs.declared.node.Node.{Node}
@@ -52,9 +53,13 @@ aim_of missing.Asks = Stores
 abbrev pub word_to : ℕ → ℕ → ℕ
 word_to block hash = (link_to block % 2 ^ 64 + hash / 2 ^ 57 * 8) % 2 ^ 64
 
+-- why a table is made behind the one of a try: that is full. It is to have places for as many pairs as its tries have met, or those of a table before.
+abbrev pub full_for : Trial → Reason
+full_for trial = Full trial.met (found_full trial).most
+
 -- nothing was tried yet
 abbrev pub untried : Trial
-untried = record { table = record { link = 0; len = 0; limit = 0; turn = 0 }; probe = record { i = 0; len = 0 }; met = 0 }
+untried = record { table = record { link = 0; len = 0; limit = 0; turn = 0 }; probe = record { i = 0; len = 0 }; met = 0; most = 0 }
 
 module _ {K V Q : Type 0} where
   -- a call that begins
@@ -109,9 +114,9 @@ module _ {K V Q : Type 0} where
   abbrev pub answering : KeyCall K V Q → KeyAnswer → KeyCall K V Q × Called (Node K V)
   answering c answer = ending c (ends.Answered answer)
 
-  -- no table follows the one that was tried: who needs one makes it, for the pairs that its tries have met at least
+  -- no table follows the one that was tried, which is full: who needs one makes it
   abbrev pub following_made : KeyCall K V Q → KeyCall K V Q × Called (Node K V)
-  following_made c = going c (at.Allocs (table_after c.setting c.trial.table (Full c.trial.met)))
+  following_made c = going (record c { trial = found_full c.trial }) (at.Allocs (table_after c.setting c.trial.table (full_for c.trial)))
 
   -- It puts its own block in the place of a word, once that has the value which it was told.
   abbrev pub storing : Told V → KeyCall K V Q → ℕ → KeyCall K V Q × Called (Node K V)
@@ -208,7 +213,7 @@ module _ {K V Q : Type 0} where
 
   -- a table is entered
   abbrev pub entering : KeyCall K V Q → Table → KeyCall K V Q × Called (Node K V)
-  entering c table = going (record c { trial = first_trial table c.hash }) at.Probes
+  entering c table = going (record c { trial = trial_on c.trial table c.hash }) at.Probes
 
   -- A table follows the one that was tried. Where pairs move in incremental mode, a call helps once before it goes on there; else the
   -- whole table is copied first.

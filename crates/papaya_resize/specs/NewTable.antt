@@ -37,7 +37,7 @@ making_first len = if nat_le len (2 ^ 48) then at.Makes (planned len (limit_of l
 -- the table of a length after another one, if it has a turn and is not too long
 abbrev pub following : Reason → Table → ℕ → Result ℕ Fault → Making
 following reason before len (Ok turn) =
-    if nat_le len (2 ^ 48) then at.Makes (planned len (next_limit reason before.len len) turn) else at.Refused Capacity
+    if nat_le len (2 ^ 48) then at.Makes (planned len (next_limit reason before.len before.limit len) turn) else at.Refused Capacity
 following reason before len (Err fault) = at.Refused fault
 
 -- the table after another one, with eight places at least, if it can have a length
@@ -55,7 +55,7 @@ behind setting before stands = record { setting = setting; link = Word (block_in
 
 -- the table after another one: its length goes by the count of the pairs, and by the table before where a copy found no place
 abbrev pub begun_for : Setting → Table → Reason → Making
-begun_for setting before (Full met) = at.Sums before (Full met) (summing setting)
+begun_for setting before (Full met most) = at.Sums before (Full met most) (summing setting)
 begun_for setting before (Reserved additional) = at.Sums before (Reserved additional) (summing setting)
 begun_for setting before NoPlace = making_of NoPlace before (next_len NoPlace before.len 0 setting.initial)
 

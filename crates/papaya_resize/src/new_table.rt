@@ -256,7 +256,7 @@ impl Making {
             Ok(turn) => Making::Makes(Table {
                 link: 0,
                 len,
-                limit: limit_after(reason, before.len, len),
+                limit: limit_after(reason, before.len, before.limit, len),
                 turn,
             }),
             Err(fault) => Making::Refused(fault),

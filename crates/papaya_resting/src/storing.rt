@@ -118,6 +118,7 @@ fn no_trial() -> Trial
         },
         probe: Probe { i: 0, len: 0 },
         met: 0,
+        most: 0,
     }
 }
 

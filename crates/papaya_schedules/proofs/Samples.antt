@@ -12,4 +12,5 @@ mod Stopped
 mod Sweeps
 mod Refusals
 mod Blocking
+mod Crowded
 mod Maps

@@ -1,5 +1,5 @@
 -- The tables of a map: for what memory is asked, and which table comes after which.
-use Rattle.std.specs.Prelude.{◌≡◌, ℕ, ◌+◌, ◌^◌, ◌<◌, ◌≤◌, ◌==◌, nat_le, nat_lt, Bool, true, false, not, ◌||◌, List, [], length, None, Result, Ok, Err, ◌⊎◌}
+use Rattle.std.specs.Prelude.{◌≡◌, ℕ, ◌+◌, ◌^◌, ◌<◌, ◌≤◌, ◌==◌, nat_le, nat_lt, Bool, true, false, not, ◌||◌, List, [], ◌∷◌, length, None, Result, Ok, Err, ◌⊎◌}
 use Rattle.std.specs.List.{list_all}
 use Rattle.seize_words.specs.declared.fault.Fault.{Fault}
 use Rattle.papaya_raw.specs.Given.Seize.Register.{MayNeedRoom}
@@ -15,7 +15,8 @@ use Rattle.papaya_schedules.specs.Sequential.{means, is_lookup, has_value, puts_
 use Rattle.papaya_schedules.specs.Terms.{Terms, shards_of}
 use Rattle.papaya_schedules.specs.Counts.{Counts}
 use Rattle.papaya_schedules.specs.Moment.{UnderWay, TableThere, Moment}
-use Rattle.papaya_schedules.specs.Views.{is_in_map, reply_to, has_gift, chain_of, last_length}
+use Rattle.papaya_schedules.specs.Views.{is_in_map, reply_to, has_gift, chain_of, last_of}
+use Rattle.papaya_schedules.specs.Tries.{IsFull}
 
 -- a table for so many pairs would be too long
 abbrev pub is_too_many : ℕ → Bool
@@ -76,22 +77,22 @@ module _ {K V : Type 0} (terms : Terms) where
   IsFirstOf (Reserve more) c shape = IsFirstShape (len_of more) shape
   IsFirstOf call c shape = (stores_where_none call c ≡ true) × IsFirstShape (Ok 32) shape
 
-  -- why a call makes a further table: it has found no place for its pair, it reserves, or a copy has found no place
-  abbrev pub MayMakeFor : UnderWay K V → List (Moment K V) → Call K V → ℕ → Reason → Type 0
-  MayMakeFor c moments (Reserve more) count (Reserved additional) = (additional ≡ more) × Counts (shards_of terms) c.map moments count
-  MayMakeFor c moments call count (Full met) = has_value_for call c ≡ true
-  MayMakeFor c moments call count NoPlace = OneOf (HasNext c.map) moments
-  MayMakeFor c moments call count reason = ⊥
+  -- why a call makes a table after this one: it has found no place for its pair, but so many pairs; it reserves; or a copy has found no place
+  abbrev pub MayMakeFor : UnderWay K V → List (Moment K V) → TableThere → Call K V → ℕ → Reason → Type 0
+  MayMakeFor c moments t (Reserve more) count (Reserved additional) = (additional ≡ more) × Counts (shards_of terms) c.map moments count
+  MayMakeFor c moments t call count (Full met most) = (has_value_for call c ≡ true) × IsFull c.map t moments met
+  MayMakeFor c moments t call count NoPlace = OneOf (HasNext c.map) moments
+  MayMakeFor c moments t call count reason = ⊥
 
-  -- The table after one of a length: by the reason and a count. Only that of a reservation is promised to be what the call counts.
-  abbrev pub IsNextShape : UnderWay K V → List (Moment K V) → ℕ → ℕ → TableShape → Type 0
-  IsNextShape c moments capacity len shape =
-      (reason : Reason) × (count initial : ℕ) × Has (entries_of capacity) initial × MayMakeFor c moments c.call count reason
-      × Has (next_len reason len count initial) shape.len × (shape.limit ≡ next_limit reason len shape.len)
+  -- The table after this one: by the reason and a count. Only that of a reservation is promised to be what the call counts.
+  abbrev pub IsNextShape : UnderWay K V → List (Moment K V) → ℕ → TableThere → TableShape → Type 0
+  IsNextShape c moments capacity t shape =
+      (reason : Reason) × (count initial : ℕ) × Has (entries_of capacity) initial × MayMakeFor c moments t c.call count reason
+      × Has (next_len reason t.shape.len count initial) shape.len × (shape.limit ≡ next_limit reason t.shape.len t.shape.limit shape.len)
 
   abbrev pub Follows : UnderWay K V → List (Moment K V) → ℕ → TableShape → List TableThere → Type 0
   Follows c moments capacity shape [] = IsFirstOf c.call c shape
-  Follows c moments capacity shape tables = IsNextShape c moments capacity (last_length tables) shape
+  Follows c moments capacity shape (t ∷ tables) = IsNextShape c moments capacity (last_of t tables) shape
 
 -- the root's way
 

@@ -9,6 +9,7 @@ pub mod Beginning
 pub mod Effects
 pub mod After
 pub mod Counts
+pub mod Tries
 pub mod Growing
 pub mod InUse
 pub mod Lives

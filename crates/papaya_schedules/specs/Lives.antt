@@ -1,6 +1,5 @@
 -- The life of each pair, table and block: what an effect finds.
-use Rattle.std.specs.Prelude.{◌≡◌, ℕ, ◌+◌, ◌%◌, ◌<◌, ◌≤◌, nat_le, nat_lt, Bool, true, false, ◌&&◌, List, [], ◌∷◌, length, filter, sum_by, Option, Some, None, MatchBool}
-use Rattle.std.specs.List.{list_any}
+use Rattle.std.specs.Prelude.{◌≡◌, ℕ, ◌+◌, ◌%◌, ◌<◌, ◌≤◌, nat_le, nat_lt, Bool, true, false, List, [], ◌∷◌, length, filter, sum_by, Option, Some, None, MatchBool}
 use Rattle.papaya_raw.specs.Given.Tables.Lengths.{len_of}
 use Rattle.papaya_runs.specs.declared.outcome.TableShape.{TableShape}
 use Rattle.papaya_runs.specs.Present.{slot_of_guard}
@@ -11,11 +10,12 @@ use Rattle.papaya_schedules.specs.declared.effect.Spot.{Spot}
 use Rattle.papaya_schedules.specs.declared.effect.Table.{Table}
 use Rattle.papaya_schedules.specs.declared.effect.Thing.{Thing}
 use Rattle.papaya_schedules.specs.declared.effect.Thing.TheVariants.{APair, ATable}
-use Rattle.papaya_schedules.specs.Lists.{is_in, least_free, numbers_from}
+use Rattle.papaya_schedules.specs.Lists.{is_in, least_free}
 use Rattle.papaya_schedules.specs.Things.{same_table, same_thing, same_spot}
 use Rattle.papaya_schedules.specs.Terms.{Terms, shards_of}
 use Rattle.papaya_schedules.specs.Moment.{Place, InMap, Handed, Left, GivenBack, UnderWay, MapThere, Moment}
-use Rattle.papaya_schedules.specs.Views.{is_in_map, map_at, grows_in_chunks, capacity_or, is_there, is_linked, is_retired, first_of, tables_of, is_stage, is_place, behind}
+use Rattle.papaya_schedules.specs.Views.{map_at, grows_in_chunks, capacity_or, is_there, is_linked, is_retired, first_of, tables_of, is_stage, is_place, behind}
+use Rattle.papaya_schedules.specs.Tries.{has_pair_at}
 use Rattle.papaya_schedules.specs.Growing.{only_looks, AsksForBlock, AsksForBucket, Follows, IsFirstShape, ComesNext, has_value_for, none_before}
 use Rattle.papaya_schedules.specs.Entry.{ByCall, acting}
 use Rattle.papaya_schedules.specs.InUse.{used_slots}
@@ -28,9 +28,6 @@ IsFrom true first turn = first ≤ turn
 IsFrom false first turn = turn ≡ first
 
 module _ {K V : Type 0} where
-  abbrev pub has_pair_at : ℕ → Spot → Moment K V → Bool
-  has_pair_at map s m = list_any (λ n. is_in_map map (m.place n) && same_spot (m.spot n) s) (numbers_from 1 (length m.stored))
-
   -- at the place of the pair that it replaces, or at one that no pair of the map has
   abbrev pub IsFreeFor : Option ℕ → ℕ → Spot → Moment K V → Type 0
   IsFreeFor (Some p) map s m = same_spot (m.spot p) s ≡ true

@@ -126,12 +126,12 @@ module _ {K V : Type 0} where
 abbrev pub behind : Table → List Deferral → List ℕ
 behind t deferred = map (λ d. d.pair) (filter (λ d. same_table d.behind t) deferred)
 
--- the length of the root's table, and of the newest one
+-- the length of the root's table
 abbrev pub root_length : List TableThere → ℕ
 root_length [] = 0
 root_length (t ∷ tables) = t.shape.len
 
-abbrev pub last_length : List TableThere → ℕ
-last_length [] = 0
-last_length (t ∷ []) = t.shape.len
-last_length (t ∷ tables) = last_length tables
+-- the newest one of these
+abbrev pub last_of : TableThere → List TableThere → TableThere
+last_of t [] = t
+last_of t (u ∷ tables) = last_of u tables

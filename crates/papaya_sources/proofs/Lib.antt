@@ -4,6 +4,7 @@ mod Counting
 mod Places
 mod Room
 mod Own
+mod Left
 pub mod New
 mod Rising
 pub mod Begin

@@ -9,7 +9,7 @@ use Rattle.papaya_finds.specs.Given.Effects.Known.{Known}
 use Rattle.papaya_finds.specs.Given.Finishes.Maps.{Standing}
 use Rattle.papaya_finds.specs.Given.Follows.Maps.{ShowsMap}
 use Rattle.papaya_finds.specs.Given.Rule.Chart.{Chart}
-use Rattle.papaya_sources.specs.Sources.{AreNumbered, CameFromPlaces, HasSource}
+use Rattle.papaya_sources.specs.Sources.{AreNumbered, CameFromPlaces, HasSource, WereLeft}
 use Rattle.papaya_sources.specs.Stays.{StandsAsBefore, PairsStay, SourcesStay}
 use Rattle.papaya_sources.proofs.Rising.{same_numbers}
 
@@ -19,7 +19,7 @@ module _ {K V : Type 0} (map : ℕ) (number number2 : ℕ → ℕ) (st st2 : Sta
   as_many = ap (λ (c : Chart K). c.stored) same_chart
 
   -- each pair has the number that it had
-  numbers_stay : (n : ℕ) → n < st.chart.stored → number2 n ≡ number n
+  pub numbers_stay : (n : ℕ) → n < st.chart.stored → number2 n ≡ number n
   numbers_stay n l =
       same_numbers number number2 st.chart.stored shown.pairs.rising (λ x y less l2. shown2.pairs.rising x y less (omega (arith, l2, as_many))) among n (st.chart.stored - suc n) l (omega (arith, l))
     where
@@ -47,20 +47,31 @@ module _ {K V : Type 0} (map : ℕ) (number number2 : ℕ → ℕ) (st st2 : Sta
       (subst (λ (x : Spot). HasSource st.chart n x.turn) (sym spot)
       (came n here (subst (λ (x : Table). x.turn < (m.spot (number n)).turn) born (subst (λ (x : Spot). (v.born (number2 n)).turn < x.turn) spot ahead))))
 
+-- what was removed lay where it lies
+left_still : {K V : Type 0} (map : ℕ) (m v : Moment K V) → PairsStay m v → (c : Chart K) → WereLeft c map m → WereLeft c map v
+left_still map m v pairs c left x i mark is =
+    let it = left x i mark is in
+    (it.0, it.1, (let most = it.2 in let more = pairs.stored in omega (arith, most, more)), ap (λ (y : Table). y.map) (pairs.born it.0 it.2) ∙ it.3, pairs.spot it.0 it.2 ∙ it.4)
+
 pub sources_stay : (K V : Type 0) → SourcesStay K V
 sources_stay K V same name m v known known2 s t sources shown2 pairs stands = record {
   shown = shown2;
   numbered = λ map st2 there. by_numbers map st2 there (stands map st2 there);
   came = λ map st2 there chunks. by_came map st2 there chunks (stands map st2 there);
+  left = λ map st2 there. by_left map st2 there (stands map st2 there);
 }
   where
     by_numbers : (map : ℕ) (st2 : Standing K) (there : t.maps map ≡ Some st2) → StandsAsBefore m v s map st2 → AreNumbered map (shown2.number map) st2 v
     by_numbers map st2 there (inl (st, was, is, mode)) =
         numbered_still map (sources.shown.number map) (shown2.number map) st st2 m v known known2 pairs is (sources.shown.maps map st was) (shown2.maps map st2 there) (sources.numbered map st was)
-    by_numbers map st2 there (inr (none, nobody)) = λ k some most is. absurd (nobody k some most is)
+    by_numbers map st2 there (inr (none, nobody, bare)) = λ k some most is. absurd (nobody k some most is)
 
     by_came : (map : ℕ) (st2 : Standing K) (there : t.maps map ≡ Some st2) → is_incremental st2.setting.mode ≡ true → StandsAsBefore m v s map st2 → CameFromPlaces st2.chart (shown2.number map) v
     by_came map st2 there chunks (inl (st, was, is, mode)) =
         came_still map (sources.shown.number map) (shown2.number map) st st2 m v known known2 pairs is (sources.shown.maps map st was) (shown2.maps map st2 there) (sources.numbered map st was)
         (sources.came map st was (mode ∙ chunks))
-    by_came map st2 there chunks (inr (none, nobody)) = λ n l ahead. absurd (omega (arith, l, none))
+    by_came map st2 there chunks (inr (none, nobody, bare)) = λ n l ahead. absurd (omega (arith, l, none))
+
+    by_left : (map : ℕ) (st2 : Standing K) (there : t.maps map ≡ Some st2) → StandsAsBefore m v s map st2 → WereLeft st2.chart map v
+    by_left map st2 there (inl (st, was, is, mode)) = left_still map m v pairs st2.chart (subst (λ (c : Chart K). WereLeft c map m) (sym is) (sources.left map st was))
+    by_left map st2 there (inr (none, nobody, bare)) = λ x i mark is. absurd (bare x i mark is)

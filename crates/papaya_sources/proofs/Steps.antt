@@ -45,15 +45,16 @@ use Rattle.papaya_finds.proofs.Given.Follows.Steps.{WentTo, went_to, made_so, is
 use Rattle.papaya_finds.specs.Given.Spots.Spots.{LiesAt}
 use Rattle.papaya_finds.proofs.Given.Spots.Done.{DidMoved, did_moved}
 use Rattle.papaya_finds.proofs.Given.Spots.Effects.{AllAside, aside_all, calm_aside}
-use Rattle.papaya_finds.proofs.Given.Spots.Elsewhere.{IsElsewhere, moved_leaves}
+use Rattle.papaya_finds.proofs.Given.Spots.Elsewhere.{IsElsewhere, moved_leaves, stored_grows}
 use Rattle.papaya_finds.proofs.Given.Spots.Rows.{row_aside}
 use Rattle.papaya_finds.proofs.Given.Spots.Steps.{stayed_calm}
 use Rattle.papaya_finds.specs.Given.Moments.Whole.{ShowsWhole}
 use Rattle.papaya_finds.proofs.Given.Histories.Steps.{led_on}
-use Rattle.papaya_sources.specs.Sources.{AreNumbered, CameFromPlaces, HasSource, ShowsSources}
+use Rattle.papaya_sources.specs.Sources.{AreNumbered, CameFromPlaces, HasSource, ShowsSources, WereLeft}
 use Rattle.papaya_sources.specs.Steps.{CallsKeepSources}
 use Rattle.papaya_sources.proofs.Frame.{numbered_then, came_then}
 use Rattle.papaya_sources.proofs.New.{new_are_there, aside_stores_none}
+use Rattle.papaya_sources.proofs.Left.{own_left}
 use Rattle.papaya_sources.proofs.Own.{own_came}
 use Rattle.papaya_sources.proofs.Stays.{sources_stay}
 
@@ -199,6 +200,9 @@ module _ {K V S : Type 0} (same : K → K → Bool) (hash : K → ℕ) (name : �
     news = new_are_there same (slot_of i) i map (Some (name i)) (shown.number map) standing lawful w sight is_sight is_map m2 (λ w2 c2 blocks2. Unit {0}) went blocks2 grown sights2 m known
         (shown.maps map standing to.2) shown.blocks told left on.shows.blocks.stored did
 
+    many_more : length m.stored ≤ length v.stored
+    many_more = stored_grows (Some (name i)) (Some map) effects m
+
     -- of the map of the call
     module _ (st2 : Standing K) (there : s2.maps map ≡ Some st2) where
       is_then : st2 ≡ record standing { chart = had.c2; blocks = blocks2; sights = sights2 }
@@ -226,6 +230,12 @@ module _ {K V S : Type 0} (same : K → K → Bool) (hash : K → ℕ) (name : �
           (λ n l ahead. subst (λ (x : Chart K). HasSource x n (v.spot (shown.number map n)).turn) (sym chart_is)
           (own_came same (slot_of i) i map (Some (name i)) (shown.number map) standing lawful w sight is_sight is_map m2 (λ w2 c2 blocks2. Unit {0}) went blocks2 grown sights2 m known (shown.maps map standing to.2)
           shown.blocks told left lies chunked (sources.came map standing to.2 chunked) did n l ahead))
+
+      were_left : WereLeft st2.chart map v
+      were_left =
+          subst (λ (c : Chart K). WereLeft c map v) (sym chart_is)
+          (own_left same (slot_of i) i map (Some (name i)) (shown.number map) standing lawful w sight is_sight is_map m2 (λ w2 c2 blocks2. Unit {0}) went blocks2 grown sights2 m known (shown.maps map standing to.2)
+          shown.blocks told left lies (sources.numbered map standing to.2) (sources.left map standing to.2) many_more did)
 
     -- of another map
     module _ (of : ℕ) (ne : of ≢ map) (st2 : Standing K) (there : s2.maps of ≡ Some st2) where
@@ -262,6 +272,18 @@ module _ {K V S : Type 0} (same : K → K → Bool) (hash : K → ℕ) (name : �
           (sources.came of was.0 was.1 (ap (λ (x : Setting). is_incremental x.mode) was.3 ∙ chunks) n l
           (subst (λ (x : Table). x.turn < (m.spot (shown.number of n)).turn) born (subst (λ (x : Spot). (v.born (shown.number of n)).turn < x.turn) spot ahead)))))
 
+      -- and so do those that were removed
+      other_left : WereLeft st2.chart of v
+      other_left t i mark is =
+          let it = sources.left of was.0 was.1 t i mark (ap (λ (c : Chart K). c.place t i) (sym was.2) ∙ is) in
+          let born : (m.born it.0).map ≢ map = (λ e. ne (sym it.3 ∙ e)) in (
+            it.0,
+            it.1,
+            (let most = it.2 in let more = many_more in omega (arith, most, more)),
+            ap (λ (x : Table). x.map) (elsewhere.born it.0 it.2) ∙ it.3,
+            elsewhere.spot it.0 it.2 born (not_in_it map (m.place it.0) (λ is. born (whole.all.hands.born it.0 map is).1)) ∙ it.4,
+          )
+
     moved_sources : Goal
     moved_sources = record {
       shown = on.shows;
@@ -272,6 +294,10 @@ module _ {K V S : Type 0} (same : K → K → Bool) (hash : K → ℕ) (name : �
       came = λ of st2 there chunks. elim (cases_eq of map) as (λ _. CameFromPlaces st2.chart (on.shows.number of) v) [
         | inl e ↦ subst (λ (x : ℕ). CameFromPlaces st2.chart (on.shows.number x) v) (sym e) (came_from st2 (ap s2.maps (sym e) ∙ there) chunks)
         | inr ne ↦ other_came of ne st2 there chunks
+      ];
+      left = λ of st2 there. elim (cases_eq of map) as (λ _. WereLeft st2.chart of v) [
+        | inl e ↦ subst (λ (x : ℕ). WereLeft st2.chart x v) (sym e) (were_left st2 (ap s2.maps (sym e) ∙ there))
+        | inr ne ↦ other_left of ne st2 there
       ];
     }
 

@@ -1,12 +1,13 @@
--- Where pairs were copied from: an older table names each pair for ever that was put into a later one.
+-- Where pairs were copied from: an older table names each pair for ever that was put into a later one. And where those lay that were removed.
 use Rattle.std.specs.Prelude.{◌≡◌, ◌≢◌, ℕ, ◌<◌, ◌≤◌, Bool, true, List, length, Some}
 use Rattle.papaya_finds.specs.Given.Tables.Chunks.{is_incremental}
 use Rattle.papaya_finds.specs.Given.Schedules.Moment.{Moment}
-use Rattle.papaya_finds.specs.Given.Rule.Chart.{Phase, Still, Holds, Chart}
+use Rattle.papaya_finds.specs.Given.Rule.Chart.{Phase, Still, Tombstone, Holds, Chart}
 use Rattle.papaya_finds.specs.Given.Effects.Known.{Known}
 use Rattle.papaya_finds.specs.Given.Executor.IsAt.{Scene}
 use Rattle.papaya_finds.specs.Given.Finishes.Maps.{Standing}
 use Rattle.papaya_finds.specs.Given.Follows.Shows.{Shows}
+use Rattle.papaya_finds.specs.Given.Spots.Spots.{spot_in}
 
 module _ {K : Type 0} (c : Chart K) (n : ℕ) where
   -- this place of a table names the pair, and it is being copied, or was
@@ -35,8 +36,14 @@ module _ {K V : Type 0} (map : ℕ) (number : ℕ → ℕ) (st : Standing K) (m 
   abbrev pub AreNumbered : Type 0
   AreNumbered = (k : ℕ) → 0 < k → k ≤ length m.stored → (m.born k).map ≡ map → (n : ℕ) × (n < st.chart.stored) × (number n ≡ k)
 
--- Of each map that stands: each pair that was stored there has its number; and in one that grows in chunks each that lies in a later table than the one in which it was stored came from a place of an older one.
+module _ {K V : Type 0} (c : Chart K) (map : ℕ) (m : Moment K V) where
+  -- where a table has a tombstone a pair lay that was stored in the map
+  abbrev pub WereLeft : Type 0
+  WereLeft = (t i : ℕ) (mark : Bool) → c.place t i ≡ Tombstone mark → (k : ℕ) × (0 < k) × (k ≤ length m.stored) × ((m.born k).map ≡ map) × (m.spot k ≡ spot_in t i)
+
+-- Of each map that stands: each pair that was stored there has its number; in one that grows in chunks each that lies in a later table than the one in which it was stored came from a place of an older one; and where a table has a tombstone a pair lay.
 pub record ShowsSources {K V : Type 0} (same : K → K → Bool) (name : ℕ → List ℕ) (m : Moment K V) (known : Known) (s : Scene K V) : Type 0 where
   pub shown : Shows same name m known s
   pub numbered : (map : ℕ) (st : Standing K) → s.maps map ≡ Some st → AreNumbered map (shown.number map) st m
   pub came : (map : ℕ) (st : Standing K) → s.maps map ≡ Some st → is_incremental st.setting.mode ≡ true → CameFromPlaces st.chart (shown.number map) m
+  pub left : (map : ℕ) (st : Standing K) → s.maps map ≡ Some st → WereLeft st.chart map m

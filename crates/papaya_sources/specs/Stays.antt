@@ -1,10 +1,11 @@
 -- Where pairs were copied from is so still wherever tables are as they were, and pairs lie where they lay.
-use Rattle.std.specs.Prelude.{◌≡◌, ◌⊎◌, ℕ, ◌<◌, ◌≤◌, Bool, List, length, Some}
+use Rattle.std.specs.Prelude.{◌≡◌, ◌≢◌, ◌⊎◌, ℕ, ◌<◌, ◌≤◌, Bool, List, length, Some}
 use Rattle.papaya_finds.specs.Given.Tables.Chunks.{is_incremental}
 use Rattle.papaya_finds.specs.Given.Schedules.Moment.{Moment, start}
 use Rattle.papaya_finds.specs.Given.Effects.Known.{Known, nothing_known}
 use Rattle.papaya_finds.specs.Given.Executor.IsAt.{Scene, at_first}
 use Rattle.papaya_finds.specs.Given.Finishes.Maps.{Standing}
+use Rattle.papaya_finds.specs.Given.Rule.Chart.{Tombstone}
 use Rattle.papaya_finds.specs.Given.Follows.Shows.{Shows}
 use Rattle.papaya_sources.specs.Sources.{ShowsSources}
 
@@ -19,11 +20,11 @@ module _ {K V : Type 0} where
   abbrev pub NoneBorn : ℕ → Moment K V → Type 0
   NoneBorn map v = (k : ℕ) → 0 < k → k ≤ length v.stored → (v.born k).map ≡ map → ⊥
 
-  -- a map stood before with these tables; or it is new, and no pair was stored there
+  -- a map stood before with these tables; or it is new, and no pair was stored there, nor removed
   abbrev pub StandsAsBefore : Moment K V → Moment K V → Scene K V → ℕ → Standing K → Type 0
   StandsAsBefore m v s map st2 =
       ((st : Standing K) × (s.maps map ≡ Some st) × (st2.chart ≡ st.chart) × (is_incremental st.setting.mode ≡ is_incremental st2.setting.mode))
-      ⊎ ((st2.chart.stored ≡ 0) × NoneBorn map v)
+      ⊎ ((st2.chart.stored ≡ 0) × NoneBorn map v × ((t i : ℕ) (mark : Bool) → st2.chart.place t i ≢ Tombstone mark))
 
 -- The promises: so it is as a run begins,
 abbrev pub SourcesBegin : Type 0 → Type 0 → Type 0

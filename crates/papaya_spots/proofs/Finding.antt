@@ -1,8 +1,8 @@
 -- What the effects of a step of a call find where pairs lie.
-use Rattle.std.specs.Prelude.{◌≡◌, ℕ, zero, suc, ◌+◌, ◌<◌, ◌≤◌, ◌==◌, nat_lt, Bool, true, false, ◌&&◌, ◌||◌, List, [], ◌∷◌, filter, length, Option, if◌then◌else◌, ◌⊎◌}
+use Rattle.std.specs.Prelude.{◌≡◌, ℕ, zero, suc, ◌+◌, ◌<◌, ◌≤◌, ◌==◌, nat_lt, Bool, true, false, ◌&&◌, ◌||◌, List, [], ◌∷◌, filter, Option, if◌then◌else◌, ◌⊎◌}
 use Rattle.std.specs.List.{list_any}
 use Rattle.std.proofs.Common.{refl, ap, sym, subst, ◌∙◌, arith, inl, inr}
-use Rattle.std.proofs.lemmas.Bool.{eq-eqb, cases_eq, cases_lt}
+use Rattle.std.proofs.lemmas.Bool.{eq-eqb, cases_eq}
 use Rattle.papaya_others.specs.Given.SeizeWords.Mem.{Mem}
 use Rattle.papaya_others.specs.Given.Seize.World.{World}
 use Rattle.papaya_others.specs.Given.Tables.Chunks.{is_incremental}
@@ -12,12 +12,12 @@ use Rattle.papaya_others.specs.Given.Schedules.declared.effect.Effect.{Effect}
 use Rattle.papaya_others.specs.Given.Schedules.declared.effect.Effect.TheVariants.{Asked, Stored, Replaced, Copied}
 use Rattle.papaya_others.specs.Given.Schedules.declared.effect.Growth.TheVariants.{ABucket}
 use Rattle.papaya_others.specs.Given.Schedules.declared.effect.Spot.{Spot}
-use Rattle.papaya_others.specs.Given.Schedules.Lists.{numbers_from}
-use Rattle.papaya_others.specs.Given.Schedules.Lives.{has_pair_at, MayCopy}
+use Rattle.papaya_others.specs.Given.Schedules.Lives.{MayCopy}
+use Rattle.papaya_others.specs.Given.Schedules.Tries.{has_pair_at}
 use Rattle.papaya_others.specs.Given.Schedules.declared.effect.Table.{Table}
 use Rattle.papaya_others.specs.Given.Schedules.Moment.{Place, GivenBack, Stage, TableThere, Moment}
 use Rattle.papaya_others.specs.Given.Schedules.Things.{same_table, same_spot}
-use Rattle.papaya_others.specs.Given.Schedules.Views.{is_in_map, is_there, is_linked, is_stage, is_place}
+use Rattle.papaya_others.specs.Given.Schedules.Views.{is_there, is_linked, is_stage, is_place}
 use Rattle.papaya_others.specs.Given.Teller.declared.changed.Changed.{Changed}
 use Rattle.papaya_others.specs.Given.Teller.declared.changed.Changed.TheVariants as changed
 use Rattle.papaya_others.specs.Given.Rule.Chart.{Still, Copying, Empty, Holds, Chart}
@@ -27,7 +27,6 @@ use Rattle.papaya_others.specs.Given.Rule.Moves.{Move, Links, Stores, Replaces, 
 use Rattle.papaya_others.specs.Given.Rule.Words.{Blocks}
 use Rattle.papaya_others.specs.Given.Rule.Maps.{spot_of}
 use Rattle.papaya_others.specs.Given.Rule.InWorld.{IsMapIn, Moved, Went}
-use Rattle.papaya_others.proofs.Given.Rule.Moves.StoodAlone.{alone_there, never_later}
 use Rattle.papaya_others.specs.Given.Points.Steps.{AreLawful}
 use Rattle.papaya_others.specs.Given.Callers.Sights.{Sight, seen_by, IsGrown, IsSight}
 use Rattle.papaya_others.specs.Given.Callers.Together.{in_slot}
@@ -50,9 +49,8 @@ use Rattle.papaya_spots.specs.Unreclaimed.{is_unreclaimed, ShowsUnreclaimed}
 use Rattle.papaya_spots.proofs.Born.{late_born}
 use Rattle.papaya_spots.proofs.Copies.{less_is, copied_from_root}
 use Rattle.papaya_spots.proofs.Done.{DidBy, DidMoved}
-use Rattle.papaya_spots.proofs.Moves.{names_none}
-use Rattle.papaya_spots.proofs.Names.{holds_is}
-use Rattle.papaya_spots.proofs.Placed.{lies_named}
+use Rattle.papaya_spots.proofs.Stills.{still_spot}
+use Rattle.papaya_spots.proofs.Taken.{spot_same, no_pair_there}
 use Rattle.papaya_spots.proofs.Unreclaimed.{any_either, or_right, and_both, table_is}
 
 -- such effects find nothing there
@@ -77,10 +75,6 @@ taken_finds caller map m (role.Table t len) = tt
 taken_finds caller map m (role.Counter of) = tt
 
 module _ {X : Type 0} (p : X → Bool) where
-  any_none : ((x : X) → p x ≡ false) → (xs : List X) → list_any p xs ≡ false
-  any_none none [] = refl
-  any_none none (x ∷ xs) = ap (λ (q : Bool). q || list_any p xs) (none x) ∙ any_none none xs
-
   any_kept : (f : X → Bool) → ((x : X) → p x ≡ true → f x ≡ true) → (xs : List X) → list_any p xs ≡ true → list_any p (filter f xs) ≡ true
   any_kept f passes [] e = e
   any_kept f passes (x ∷ xs) e = by (p x) refl (any_kept f passes xs)
@@ -131,16 +125,6 @@ listed_there map number s m known shown test t there =
     ∙ any_kept (AtStage map s.chart shown.tables.stage test t) (λ u. u.table.map == map)
     (λ u e. let two = and_both (same_table u.table (table_of map t)) (test u.stage) e in ap (λ (x : Table). x.map == map) (table_is u.table (table_of map t) two.0) ∙ eq-eqb map map refl) m.tables there
 
--- a spot is the same as itself
-spot_same : (s t : Spot) → s ≡ t → same_spot s t ≡ true
-spot_same s t e = ap (λ (x : Spot). same_spot x t) e ∙ ap (λ (q : Bool). q && (t.place == t.place)) (eq-eqb t.turn t.turn refl) ∙ eq-eqb t.place t.place refl
-
-spot_from : (s t : Spot) → same_spot s t ≡ true → (s.turn ≡ t.turn) × (s.place ≡ t.place)
-spot_from s t e = let two = and_both (s.turn == t.turn) (s.place == t.place) e in (number_is s.turn t.turn two.0, number_is s.place t.place two.1)
-  where
-    number_is : (a b : ℕ) → (a == b) ≡ true → a ≡ b
-    number_is a b e = grind (arith, e)
-
 module _ {K V : Type 0} (same : K → K → Bool) (slot caller map : ℕ) (name : Option (List ℕ)) (number : ℕ → ℕ) (s : Standing K) (lawful : AreLawful same s.hash)
     (w : World (Node K V)) (sight : Sight) (is_sight : IsSight s.chart s.blocks sight) (is_map : IsMapIn same s.hash (in_slot s.setting slot) w s.chart (seen_by s.blocks sight))
     (m2 : Mem (Node K V)) (Told : World (Node K V) → Chart K → Blocks → Type 0)
@@ -176,44 +160,17 @@ module _ {K V : Type 0} (same : K → K → Bool) (slot caller map : ℕ) (name 
 
   -- no pair of the map lies where none is named
   empty_free : (t i : ℕ) → c.place t i ≡ Empty false → has_pair_at map (spot_in t i) m ≡ false
-  empty_free t i empty = any_none (λ k. is_in_map map (m.place k) && same_spot (m.spot k) (spot_in t i)) (λ k. by k (is_in_map map (m.place k)) refl (same_spot (m.spot k) (spot_in t i)) refl) (numbers_from 1 (length m.stored))
-    where
-      not_here : (k : ℕ) → is_in_map map (m.place k) ≡ true → same_spot (m.spot k) (spot_in t i) ≡ true → ⊥
-      not_here k in_map at =
-          let it = shown.pairs.all k (in_map_true map (m.place k) in_map) in
-          let current : c.current it.0 ≡ true = sym (shown.pairs.here it.0 it.1) ∙ ap (λ (x : ℕ). is_in_map map (m.place x)) (sym it.2) ∙ in_map in
-          let lies = lies_named c q it.0 (m.spot (number it.0)) (m.born (number it.0)).turn (where_it_lies it.0 current) in
-          let spot = spot_from (m.spot k) (spot_in t i) at in
-          names_none (c.place t i) false it.0 empty lies.1
-          (ap (λ (x : ℕ). named_by (c.place x i)) (sym spot.0) ∙ ap (λ (x : ℕ). named_by (c.place (m.spot k).turn x)) (sym spot.1) ∙ ap (λ (x : ℕ). named_by (c.place (m.spot x).turn (m.spot x).place)) it.2 ∙ lies.2)
-
-      by : (k : ℕ) (a : Bool) → is_in_map map (m.place k) ≡ a → (b : Bool) → same_spot (m.spot k) (spot_in t i) ≡ b → (is_in_map map (m.place k) && same_spot (m.spot k) (spot_in t i)) ≡ false
-      by k true in_map true at = absurd (not_here k in_map at)
-      by k true in_map false at = ap (λ (x : Bool). x && same_spot (m.spot k) (spot_in t i)) in_map ∙ at
-      by k false in_map b at = ap (λ (x : Bool). x && same_spot (m.spot k) (spot_in t i)) in_map
+  empty_free t i empty = no_pair_there map number s m known shown q where_it_lies t i (λ n b named. absurd (cc (empty, named)))
 
   -- a pair that may be changed lies where it is changed
   module _ (t i n : ℕ) (borrowed : Bool) (k : K) (has : c.place t i ≡ Holds n Still borrowed) where
-    its_spot : (x : Bool) → Rule same (spot_of s.hash) x c → MayChange same (spot_of s.hash) x c t k → (at : Spot) (born : ℕ) → LiesAt c x n at born → at ≡ spot_in t i
-    its_spot true r may at born h =
-        let it = holds_is (c.place at.turn at.place) n _ h.1 in
-        let before : t ≤ at.turn = h.2 t i borrowed (ap named_by has) in
-        let turn : at.turn ≡ t = elim (cases_lt t at.turn) as (λ _. at.turn ≡ t) [
-          | inl l ↦ absurd (never_later same (spot_of s.hash) lawful.lawful c r.common r.in_mode t at.turn i at.place n it.0 borrowed _ has it.1 l)
-          | inr l ↦ omega (arith, l, before)
-        ] in
-        let place = (alone_there same (spot_of s.hash) true lawful.lawful c r.common t at.place i n it.0 Still _ borrowed (r.in_mode.never_aborted t) (ap (λ (x : ℕ). c.place x at.place) (sym turn) ∙ it.1) has).0 in
-        ap (λ (x : ℕ). spot_in x at.place) turn ∙ ap (spot_in t) place
-    its_spot false r may at born h =
-        let it = holds_is (c.place at.turn at.place) n false h.1 in
-        let turn : at.turn ≡ t = h.0 ∙ sym may in
-        let place = (alone_there same (spot_of s.hash) false lawful.lawful c r.common c.first at.place i n it.0 Still false borrowed r.common.live
-        (ap (λ (x : ℕ). c.place x at.place) (sym h.0) ∙ it.1) (ap (λ (x : ℕ). c.place x i) (sym may) ∙ has)).0 in
-        ap (λ (x : ℕ). spot_in x at.place) turn ∙ ap (spot_in t) place
+    at_root : (x : Bool) → MayChange same (spot_of s.hash) x c t k → x ≡ false → t ≡ c.first
+    at_root true may e = absurd (cc e)
+    at_root false may e = may
 
     replaced_there : MayChange same (spot_of s.hash) q c t k → same_spot (m.spot (number n)) (spot_in t i) ≡ true
     replaced_there may = spot_same (m.spot (number n)) (spot_in t i)
-        (its_spot q rule may (m.spot (number n)) (m.born (number n)).turn (where_it_lies n (still_current same (spot_of s.hash) c t i n borrowed k has q rule may)))
+        (still_spot same s.hash lawful.lawful c t i n borrowed has q rule (at_root q may) (m.spot (number n)) (m.born (number n)).turn (where_it_lies n (still_current same (spot_of s.hash) c t i n borrowed k has q rule may)))
 
   -- the place of a table that is there
   place_there : (t i : ℕ) → t < c.past → s.blocks.table_known t ≡ true → i < c.len t → is_place is_there map (spot_in t i) m ≡ true

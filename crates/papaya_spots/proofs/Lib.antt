@@ -15,6 +15,8 @@ pub mod Named
 pub mod Unreclaimed
 pub mod Gone
 pub mod Placed
+pub mod Stills
+pub mod Taken
 pub mod Finding
 pub mod Handing
 pub mod Holding

@@ -8,7 +8,8 @@ use Rattle.papaya_others.specs.Given.Tables.declared.table_words.TheConstants.{P
 use Rattle.papaya_others.specs.Given.Raw.declared.machines.progress.Progress.{Progress}
 use Rattle.papaya_others.specs.Given.Schedules.declared.effect.Effect.{Effect}
 use Rattle.papaya_others.specs.Given.Schedules.declared.effect.Effect.TheVariants.{Stored, Replaced, Copied}
-use Rattle.papaya_others.specs.Given.Schedules.Lives.{has_pair_at, MayCopy}
+use Rattle.papaya_others.specs.Given.Schedules.Lives.{MayCopy}
+use Rattle.papaya_others.specs.Given.Schedules.Tries.{has_pair_at}
 use Rattle.papaya_others.specs.Given.Schedules.Moment.{InMap, Moment}
 use Rattle.papaya_others.specs.Given.Schedules.Things.{same_spot}
 use Rattle.papaya_others.specs.Given.Schedules.Views.{map_at, grows_in_chunks}

@@ -17,7 +17,7 @@ few_at : (places : ℕ) → IfOk (if_few places places) (λ len. len ≤ 2 ^ 48)
 few_at places = if_few-holds places places (λ len. len ≤ 2 ^ 48) (λ few. few)
 
 pub next_few : (reason : Reason) (len count initial : ℕ) → IfOk (next_len reason len count initial) (λ next. next ≤ 2 ^ 48)
-next_few (Full met) len count initial = few_at (max (by_count len (max count met) initial) 8)
+next_few (Full met most) len count initial = few_at (max (by_count len (max count most) initial) 8)
 next_few (Reserved additional) len count initial =
     if_few-holds (places_for (count + additional)) (max (next_power (places_for (count + additional))) 8) (λ next. next ≤ 2 ^ 48)
     (λ few. let most = next-power-most (places_for (count + additional)) few in omega (arith, most))
@@ -48,8 +48,8 @@ full_long len count initial fits more = by (nat_le (len / 2) count) (nat_le coun
     by false false long = omega (arith, long)
 
 long_then : (reason : Reason) (len count initial : ℕ) → GoesByTable reason → initial ≤ 2 ^ 48 → IsRefused (next_len reason len count initial) → 2 ^ 48 < len * 2
-long_then (Full met) len count initial by_table fits long =
-    full_long len (max count met) initial fits (more_at (max (by_count len (max count met) initial) 8) (max (by_count len (max count met) initial) 8) long)
+long_then (Full met most) len count initial by_table fits long =
+    full_long len (max count most) initial fits (more_at (max (by_count len (max count most) initial) 8) (max (by_count len (max count most) initial) 8) long)
 long_then (Reserved additional) len count initial by_table fits long = absurd by_table
 long_then NoPlace len count initial by_table fits long = let more = more_at (max (len * 2) 8) (max (len * 2) 8) long in omega (arith, more)
 

@@ -12,7 +12,7 @@ use Rattle.papaya_tables.specs.Lengths.{entries_of, len_of, next_len, next_limit
 use Rattle.papaya_tables.specs.Probes.{place_at, probe_from, probe_after, limit_of}
 use Rattle.papaya_tables.specs.Counts.{count_in}
 use Rattle.papaya_tables.specs.Chunks.{chunk_of}
-use Rattle.papaya_tables.specs.Trials.{first_trial, place_tried, with_met, next_trial}
+use Rattle.papaya_tables.specs.Trials.{first_trial, trial_on, place_tried, with_met, found_full, next_trial}
 
 -- a length has room for a third more than the pairs
 
@@ -26,21 +26,21 @@ lengths_for_pairs = refl
 
 -- the length after another goes by what made it necessary
 
-full_of_pairs : next_len (Full 8) 8 8 8 ∷ next_len (Full 26) 32 26 1 ∷ next_len (Full 0) (2 ^ 48) (2 ^ 48) 1 ∷ [] ≡ Ok 16 ∷ Ok 64 ∷ Err Capacity ∷ []
+full_of_pairs : next_len (Full 8 8) 8 8 8 ∷ next_len (Full 26 26) 32 26 1 ∷ next_len (Full 0 0) (2 ^ 48) (2 ^ 48) 1 ∷ [] ≡ Ok 16 ∷ Ok 64 ∷ Err Capacity ∷ []
 full_of_pairs = refl
 
-few_pairs : next_len (Full 8) 64 8 1 ∷ next_len (Full 0) 64 8 64 ∷ next_len (Full 0) 8 0 1 ∷ [] ≡ Ok 32 ∷ Ok 64 ∷ Ok 8 ∷ []
+few_pairs : next_len (Full 8 8) 64 8 1 ∷ next_len (Full 0 0) 64 8 64 ∷ next_len (Full 0 0) 8 0 1 ∷ [] ≡ Ok 32 ∷ Ok 64 ∷ Ok 8 ∷ []
 few_pairs = refl
 
-one_hash : next_len (Full 31) 64 31 1 ∷ next_len NoPlace 64 0 1 ∷ [] ≡ Ok 64 ∷ Ok 128 ∷ []
+one_hash : next_len (Full 31 31) 64 31 1 ∷ next_len NoPlace 64 0 1 ∷ [] ≡ Ok 64 ∷ Ok 128 ∷ []
 one_hash = refl
 
 -- A probe that met more pairs than were counted goes by those: of 64 places, 9 are more than an eighth, and 32 are half of them; 4 of 32 are an eighth.
-more_met : next_len (Full 9) 64 8 1 ∷ next_len (Full 32) 64 0 1 ∷ next_len (Full 4) 32 0 1 ∷ next_len (Full 8) 8 0 8 ∷ [] ≡ Ok 64 ∷ Ok 128 ∷ Ok 16 ∷ Ok 16 ∷ []
+more_met : next_len (Full 9 9) 64 8 1 ∷ next_len (Full 32 32) 64 0 1 ∷ next_len (Full 4 4) 32 0 1 ∷ next_len (Full 8 8) 8 0 8 ∷ [] ≡ Ok 64 ∷ Ok 128 ∷ Ok 16 ∷ Ok 16 ∷ []
 more_met = refl
 
 -- and the counter tells of pairs that it did not meet
-fewer_met : next_len (Full 0) 64 32 1 ∷ next_len (Full 31) 64 32 1 ∷ next_len (Full 7) 64 9 1 ∷ [] ≡ Ok 128 ∷ Ok 128 ∷ Ok 64 ∷ []
+fewer_met : next_len (Full 0 0) 64 32 1 ∷ next_len (Full 31 31) 64 32 1 ∷ next_len (Full 7 7) 64 9 1 ∷ [] ≡ Ok 128 ∷ Ok 128 ∷ Ok 64 ∷ []
 fewer_met = refl
 
 room_for_all : next_len (Reserved 10) 8 0 1 ∷ next_len (Reserved 14) 16 10 1 ∷ next_len (Reserved (2 ^ 64 - 1)) 16 1 1 ∷ [] ≡ Ok 16 ∷ Ok 32 ∷ Err Capacity ∷ []
@@ -53,9 +53,23 @@ limits : map limit_of (1 ∷ 8 ∷ 16 ∷ 32 ∷ 64 ∷ []) ≡ 0 ∷ 7 ∷ 15 �
 unfolding lib.Count.count_leading_zeros
 limits = refl
 
-limits_after : next_limit (Full 32) 32 64 ∷ next_limit (Full 32) 64 64 ∷ next_limit NoPlace 64 128 ∷ next_limit (Reserved 14) 16 32 ∷ [] ≡ 30 ∷ 63 ∷ 127 ∷ 25 ∷ []
+limits_after : next_limit (Full 26 26) 32 25 64 ∷ next_limit (Full 31 31) 64 30 64 ∷ next_limit NoPlace 64 30 128 ∷ next_limit (Reserved 14) 16 15 32 ∷ [] ≡ 30 ∷ 63 ∷ 127 ∷ 25 ∷ []
 unfolding lib.Count.count_leading_zeros
 limits_after = refl
+
+-- A table of 64 places has 31 tries. Behind one whose tries met 28 pairs, an eighth fewer at most, one of the same length is tried everywhere; but not where they
+-- met 27, or none, and tombstones else. Nor is one that a reservation makes.
+same_length : next_limit (Full 28 28) 64 30 64 ∷ next_limit (Full 27 27) 64 30 64 ∷ next_limit (Full 0 0) 64 30 64 ∷ next_limit (Reserved 14) 64 30 64 ∷ [] ≡ 63 ∷ 30 ∷ 30 ∷ 30 ∷ []
+unfolding lib.Count.count_leading_zeros
+same_length = refl
+
+-- What was met at an earlier table counts for the length, but not for the limit.
+met_earlier : next_len (Full 5 33) 64 0 1 ∷ next_len (Full 5 20) 64 0 1 ∷ [] ≡ Ok 128 ∷ Ok 64 ∷ []
+met_earlier = refl
+
+limit_met_earlier : next_limit (Full 5 31) 64 30 64 ≡ 30
+unfolding lib.Count.count_leading_zeros
+limit_met_earlier = refl
 
 turns : next_turn 0 ∷ next_turn (2 ^ 63) ∷ [] ≡ Ok 1 ∷ Err Capacity ∷ []
 turns = refl
@@ -97,6 +111,10 @@ meets_pairs = refl
 
 met_before : then_on (next_trial (with_met (first_trial table 15) (3 * 2048))) (λ trial. Some trial.met) ≡ Some 1
 met_before = refl
+
+-- What was met at a table that was full is kept at the next one, where nothing is met yet.
+kept_full : (trial_on (found_full (with_met (first_trial table 15) (3 * 2048))) table 15).most ∷ (trial_on (with_met (first_trial table 15) (3 * 2048)) table 15).most ∷ [] ≡ 1 ∷ 0 ∷ []
+kept_full = refl
 
 -- pairs are counted in the shard of the slot, and a negative sum is none
 

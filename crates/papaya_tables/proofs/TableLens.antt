@@ -85,7 +85,7 @@ counted len count initial is_len is_initial =
     ]
 
 made_after : (reason : Reason) (len count initial : ℕ) → IsTableLen len → IsPowerOfTwo initial → IfOk (next_len reason len count initial) IsTableLen
-made_after (Full met) len count initial is_len is_initial = within (by_count len (max count met) initial) (counted len (max count met) initial is_len is_initial)
+made_after (Full met most) len count initial is_len is_initial = within (by_count len (max count most) initial) (counted len (max count most) initial is_len is_initial)
 made_after (Reserved additional) len count initial is_len is_initial = made_for (count + additional)
 made_after NoPlace len count initial is_len is_initial = within (len * 2) (twice len is_len.power)
 
@@ -93,8 +93,8 @@ pub have_table_lens : HaveTableLens
 have_table_lens = record { made_for = made_for; made_after = made_after }
 
 pub go_by_the_counter : GoByTheCounter
-go_by_the_counter met len count initial fewer =
-    ap (λ (n : ℕ). if_few (max (by_count len n initial) 8) (max (by_count len n initial) 8)) most_counted
+go_by_the_counter met most len count initial fewer =
+    ap (λ (n : ℕ). if_few (max (by_count len n initial) 8) (max (by_count len n initial) 8)) same_count
   where
-    most_counted : max count met ≡ max count 0
-    most_counted = omega (arith, fewer)
+    same_count : max count most ≡ max count 0
+    same_count = omega (arith, fewer)

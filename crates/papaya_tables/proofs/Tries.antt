@@ -15,7 +15,7 @@ tries_meet_few trial word low few = (counted (block_in word == 0), goes_on (nat_
     counted false = omega (arith, few)
 
     goes_on : (b : Bool) → nat_lt trial.probe.len trial.table.limit ≡ b
-        → IfSome (if b then Some record { table = trial.table; probe = probe_after trial.probe (trial.table.len - 1); met = (with_met trial word).met } else None)
+        → IfSome (if b then Some record { table = trial.table; probe = probe_after trial.probe (trial.table.len - 1); met = (with_met trial word).met; most = trial.most } else None)
         (λ (next : Trial). next.met ≤ next.probe.len)
     goes_on true e =
         let before = ltb-true trial.probe.len trial.table.limit e in

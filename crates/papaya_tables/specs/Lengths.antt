@@ -1,5 +1,5 @@
 -- How long the tables of a map are, and where they are too long.
-use Rattle.std.specs.Prelude.{◌≡◌, ℕ, ◌+◌, ◌-◌, ◌*◌, ◌/◌, ◌^◌, ◌<◌, ◌≤◌, ◌⊎◌, ◌==◌, nat_le, nat_lt, if◌then◌else◌, max, Result, Ok, Err, IfOk}
+use Rattle.std.specs.Prelude.{◌≡◌, ℕ, ◌+◌, ◌-◌, ◌*◌, ◌/◌, ◌^◌, ◌<◌, ◌≤◌, ◌⊎◌, ◌==◌, ◌&&◌, Bool, nat_le, nat_lt, if◌then◌else◌, max, Result, Ok, Err, IfOk}
 use Rattle.std.specs.Int.{IsPowerOfTwo}
 use Rattle.seize_words.specs.declared.fault.Fault.{Fault}
 use Rattle.seize_words.specs.declared.fault.Fault.TheVariants.{Capacity}
@@ -29,20 +29,24 @@ abbrev pub by_count : ℕ → ℕ → ℕ → ℕ
 by_count len count initial =
     if nat_le (len / 2) count then len * 2 else (if nat_le count (len / 8) then max initial (len / 2) else len)
 
--- The length of the table after one of this length. Where a probe found no place, the count of the pairs is that of the counter, or that of those
--- which it met, whichever is greater: others may have stored pairs that they have not counted yet.
+-- The length of the table after one of this length. Where a probe found no place, the count of the pairs is that of the counter, or the most that its
+-- call met at a table which it found full, whichever is greater: others may have stored pairs that they have not counted yet.
 abbrev pub next_len : Reason → ℕ → ℕ → ℕ → Result ℕ Fault
-next_len (Full met) len count initial =
-    if_few (max (by_count len (max count met) initial) 8) (max (by_count len (max count met) initial) 8)
+next_len (Full met most) len count initial =
+    if_few (max (by_count len (max count most) initial) 8) (max (by_count len (max count most) initial) 8)
 next_len (Reserved additional) len count initial = len_of (count + additional)
 next_len NoPlace len count initial = if_few (max (len * 2) 8) (max (len * 2) 8)
 
--- The last try at the table after one of a length. All places are tried where the table is as long as the one before, which
--- pairs with one hash can fill, and where it is there since a pair found no place.
-abbrev pub next_limit : Reason → ℕ → ℕ → ℕ
-next_limit (Full met) before len = if len == before then len - 1 else limit_of len
-next_limit (Reserved additional) before len = if len == before then len - 1 else limit_of len
-next_limit NoPlace before len = len - 1
+-- of the tries at a table with this limit so many met pairs: seven eighths at least
+abbrev pub is_crowded : ℕ → ℕ → Bool
+is_crowded met limit = nat_le ((limit + 1) * 7) (met * 8)
+
+-- The last try at the table after one of this length, with this last try. All places are tried where the table is as long as the one before and the tries
+-- there met pairs, as those with one hash do, not what others left behind that were removed; and where it is there since a copied pair found no place.
+abbrev pub next_limit : Reason → ℕ → ℕ → ℕ → ℕ
+next_limit (Full met most) before tried len = if (len == before) && is_crowded met tried then len - 1 else limit_of len
+next_limit (Reserved additional) before tried len = limit_of len
+next_limit NoPlace before tried len = len - 1
 
 -- the turn of the table after one with this turn
 abbrev pub next_turn : ℕ → Result ℕ Fault
@@ -72,9 +76,9 @@ pub record HaveTableLens : Type 0 where
   pub made_for : (pairs : ℕ) → IfOk (len_of pairs) IsTableLen
   pub made_after : (reason : Reason) (len count initial : ℕ) → IsTableLen len → IsPowerOfTwo initial → IfOk (next_len reason len count initial) IsTableLen
 
--- where a probe met no more pairs than the counter says, the length is that by the counter alone
+-- where a call met no more pairs than the counter says, the length is that by the counter alone
 abbrev pub GoByTheCounter : Type 0
-GoByTheCounter = (met len count initial : ℕ) → met ≤ count → next_len (Full met) len count initial ≡ next_len (Full 0) len count initial
+GoByTheCounter = (met most len count initial : ℕ) → most ≤ count → next_len (Full met most) len count initial ≡ next_len (Full 0 0) len count initial
 
 -- Where none can be made for such a reason, whatever the count, the one before cannot be followed.
 abbrev pub OnlyTheLastEnds : Type 0

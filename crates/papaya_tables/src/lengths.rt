@@ -1,7 +1,7 @@
 //! How long the tables of a map are.
 ghost use Rattle.std.specs.Prelude.{◌≡◌, ◌*◌, ◌≤◌, ◌^◌, max, IfOk};
 ghost use Rattle.std.specs.Int.{IsNextPowerOfTwo};
-ghost use Rattle.papaya_tables.specs.Lengths.{if_few, places_for, entries_of, len_of, by_count, next_len, next_limit, next_turn, HaveTableLens, GoByTheCounter, OnlyTheLastEnds};
+ghost use Rattle.papaya_tables.specs.Lengths.{if_few, places_for, entries_of, len_of, by_count, next_len, is_crowded, next_limit, next_turn, HaveTableLens, GoByTheCounter, OnlyTheLastEnds};
 
 use crate::probe::limit;
 use seize_words::Fault;
@@ -21,8 +21,13 @@ pub const LAST_TURN: u64 = 1 << 63;
 /// What made a further table necessary.
 #[derive(Clone, Copy, PartialEq, Eq)]
 pub enum Reason {
-    /// A probe went past the limit. Of its tries, so many had words that named a pair.
-    Full(u64),
+    /// A probe went past the limit.
+    Full {
+        /// How many of its tries had words that named a pair.
+        met: u64,
+        /// The most that tries of its call had, at this table or at an earlier one that it found full.
+        most: u64,
+    },
     /// Room for this many more pairs was asked for.
     Reserved(u64),
     /// A copied pair found no place.
@@ -48,12 +53,12 @@ pub fn len_for(pairs: u64) -> Result<u64, Fault>
 }
 
 /// The length of the table after one of this length, for a map with this many pairs by its counter that was made with
-/// `initial` places. A probe that met more pairs than that knows better. The fault is Capacity.
+/// `initial` places. A call that met more pairs than that knows better. The fault is Capacity.
 pub fn len_after(reason: Reason, len: u64, count: u64, initial: u64) -> Result<u64, Fault>
     ensures { result ≡ next_len reason len count initial }
 {
     match reason {
-        Reason::Full(met) => len_by(len, count.max(met), initial),
+        Reason::Full { most, .. } => len_by(len, count.max(most), initial),
         Reason::Reserved(additional) => match count.checked_add(additional) {
             Some(pairs) => len_for(pairs),
             None => Err(Fault::Capacity),
@@ -62,15 +67,22 @@ pub fn len_after(reason: Reason, len: u64, count: u64, initial: u64) -> Result<u
     }
 }
 
-/// The limit of a table of length `len` that is made after one of length `before`.
-pub fn limit_after(reason: Reason, before: u64, len: u64) -> u64
-    requires { 1 ≤ len }
-    ensures { result ≡ next_limit reason before len }
+/// Whether tries at a table with this limit met pairs alone, or all but: seven eighths of them at least.
+fn is_crowded(met: u64, limit: u64) -> bool
+    ensures { result ≡ is_crowded met limit }
 {
-    if reason == Reason::NoPlace || len == before {
-        len - 1
-    } else {
-        limit(len)
+    u128::from(met) * 8 >= (u128::from(limit) + 1) * 7
+}
+
+/// The limit of a table of length `len` that is made after one of length `before`, which has the limit `tried`.
+pub fn limit_after(reason: Reason, before: u64, tried: u64, len: u64) -> u64
+    requires { 1 ≤ len }
+    ensures { result ≡ next_limit reason before tried len }
+{
+    match reason {
+        Reason::Full { met, .. } if len == before && is_crowded(met, tried) => len - 1,
+        Reason::NoPlace => len - 1,
+        Reason::Full { .. } | Reason::Reserved(_) => limit(len),
     }
 }
 

@@ -1,6 +1,6 @@
 //! One try after another at a table.
 ghost use Rattle.std.specs.Prelude.{◌≡◌};
-ghost use Rattle.papaya_tables.specs.Trials.{first_trial, place_tried, with_met, next_trial, TriesMeetFew};
+ghost use Rattle.papaya_tables.specs.Trials.{first_trial, trial_on, place_tried, with_met, found_full, next_trial, TriesMeetFew};
 
 use crate::hash::h1;
 use crate::probe::Probe;
@@ -16,6 +16,8 @@ pub struct Trial {
     pub probe: Probe,
     /// How many tries at the table had words that named a pair, of those that were counted.
     pub met: u64,
+    /// The most that tries had at a table which was found full.
+    pub most: u64,
 }
 
 impl Trial {
@@ -27,6 +29,17 @@ impl Trial {
             table,
             probe: Probe::start(h1(hash), table.mask()),
             met: 0,
+            most: 0,
+        }
+    }
+
+    /// The first try for a hash at another table. What was met where all was full is kept.
+    pub fn on(self, table: Table, hash: u64) -> Trial
+        ensures { result ≡ trial_on self table hash }
+    {
+        Trial {
+            most: self.most,
+            ..Trial::first(table, hash)
         }
     }
 
@@ -47,6 +60,16 @@ impl Trial {
             self.met.wrapping_add(1)
         };
         Trial { met, ..self }
+    }
+
+    /// The same try, once its table was found full: what was met there is kept.
+    pub fn found_full(self) -> Trial
+        ensures { result ≡ found_full self }
+    {
+        Trial {
+            most: self.most.max(self.met),
+            ..self
+        }
     }
 
     /// The next try, up to the last one of the table.

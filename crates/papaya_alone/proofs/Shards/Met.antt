@@ -24,7 +24,7 @@ use Rattle.papaya_callers.specs.Given.Rule.Maps.{spot_at, spot_of, IsMap, IsTabl
 use Rattle.papaya_callers.proofs.Given.Rule.Keys.TriesSeen.{spot_inside}
 use Rattle.papaya_callers.proofs.Given.Rule.Words.TablesSeen.{place_there}
 use Rattle.papaya_alone.specs.Counting.{one_if, pairs_in}
-use Rattle.papaya_alone.specs.Met.{has_pair, met_in, MetPairsAreFew, TriesMeetPairs, names_block, words_met, WordsSayWhatStands, GoesByTheCounterAlone, IsAtTry}
+use Rattle.papaya_alone.specs.Met.{has_pair, met_in, MetPairsAreFew, TriesMeetPairs, names_block, words_met, WordsSayWhatStands, MeetsNoMore, GoesByTheCounterAlone, IsAtTry}
 use Rattle.papaya_alone.proofs.Shards.Fewer.{no_more}
 
 -- what is not marked was not copied
@@ -129,7 +129,7 @@ module _ {K : Type 0} (hash : K → ℕ) (c : Chart K) (blocks : Blocks) (code t
 same_next : (trial : Trial) → IfSome (next_trial trial) (λ next. next.met ≡ trial.met)
 same_next trial = by (nat_lt trial.probe.len trial.table.limit)
   where
-    by : (q : Bool) → IfSome (if q then Some record { table = trial.table; probe = probe_after trial.probe (trial.table.len - 1); met = trial.met } else None) (λ (next : Trial). next.met ≡ trial.met)
+    by : (q : Bool) → IfSome (if q then Some record { table = trial.table; probe = probe_after trial.probe (trial.table.len - 1); met = trial.met; most = trial.most } else None) (λ (next : Trial). next.met ≡ trial.met)
     by true = refl
     by false = tt
 
@@ -163,20 +163,20 @@ module _ {K V : Type 0} (same : K → K → Bool) (hash : K → ℕ) (mode : Res
 pub words_say : {K : Type 0} (V : Type 0) (same : K → K → Bool) (hash : K → ℕ) → WordsSayWhatStands V same hash
 words_say V same hash mode root m c blocks map table t is code tries = words_few same hash mode root m c blocks map table t is code tries
 
-pub goes_by_the_counter : {K : Type 0} (V Q : Type 0) (same : K → K → Bool) (hash : K → ℕ) → GoesByTheCounterAlone V Q same hash
-goes_by_the_counter V Q same hash lawful mode root m c blocks map p t is last at_root is_len met len initial = go_by_the_counter p.trial.met len (pairs_in c) initial fewer
+pub goes_by_the_counter : (K : Type 0) → GoesByTheCounterAlone K
+goes_by_the_counter K c trial len initial few = go_by_the_counter trial.met trial.most len (pairs_in c) initial few
+
+pub meets_no_more : {K : Type 0} (V Q : Type 0) (same : K → K → Bool) (hash : K → ℕ) → MeetsNoMore V Q same hash
+meets_no_more V Q same hash lawful mode root m c blocks map p t is last at_root is_len met =
+    let words = words_few same hash mode root m c blocks map p.trial.table t is p.hash (suc p.trial.table.limit) in
+    let pairs = met_pairs_are_few same hash (is_incremental mode) lawful c map.rule t last at_root is_len p.hash (suc p.trial.table.limit) within in
+    omega (arith, met, words, pairs)
   where
     limit_is : p.trial.table.limit ≡ c.limit t
     limit_is = ap (λ (x : Table). x.limit) is.is
 
     within : suc p.trial.table.limit ≤ c.len t
     within = let low = (map.rule.common.lens t is.made).1 in omega (arith, low, limit_is)
-
-    fewer : p.trial.met ≤ pairs_in c
-    fewer =
-        let words = words_few same hash mode root m c blocks map p.trial.table t is p.hash (suc p.trial.table.limit) in
-        let pairs = met_pairs_are_few same hash (is_incremental mode) lawful c map.rule t last at_root is_len p.hash (suc p.trial.table.limit) within in
-        omega (arith, met, words, pairs)
 
 -- what is known of a try, by the call alone
 module _ {K V Q : Type 0} where

@@ -218,7 +218,7 @@ module _ {K V Q : Type 0} (m : Mem (Node K V)) where
           omega (arith, counted_in, more)
 
       passed_met : (b : Bool) → nat_lt q.trial.probe.len q.trial.table.limit ≡ b
-          → On (passed (having_met q word) (if b then Some record { table = q.trial.table; probe = probe_after q.trial.probe (q.trial.table.len - 1); met = (with_met q.trial word).met } else None))
+          → On (passed (having_met q word) (if b then Some record { table = q.trial.table; probe = probe_after q.trial.probe (q.trial.table.len - 1); met = (with_met q.trial word).met; most = q.trial.most } else None))
       passed_met true e = subst (λ (n : ℕ). (with_met q.trial word).met ≤ words_met m q.trial.table q.hash n) next with_this
         where
           next : suc q.trial.probe.len ≡ (q.trial.probe.len + 1) % 2 ^ 64
@@ -262,7 +262,7 @@ module _ {K V Q : Type 0} (m : Mem (Node K V)) where
     following_none : (reason : Reason) (before : Table) (len : ℕ) (turn : Result ℕ Fault) → MetMaking m q (making.following reason before len turn)
     following_none reason before len (Ok turn) = by (nat_le len (2 ^ 48))
       where
-        by : (b : Bool) → MetMaking m q (if b then makes.Makes (making.planned len (next_limit reason before.len len) turn) else makes.Refused Capacity)
+        by : (b : Bool) → MetMaking m q (if b then makes.Makes (making.planned len (next_limit reason before.len before.limit len) turn) else makes.Refused Capacity)
         by true = tt
         by false = tt
     following_none reason before len (Err fault) = tt

@@ -13,7 +13,7 @@ use Rattle.papaya_owned.specs.Given.Seize.declared.progress.Progress.TheVariants
 use Rattle.papaya_owned.specs.Given.Seize.declared.rows.settle.Settled.{Settled}
 use Rattle.papaya_owned.specs.Given.Seize.declared.rows.settle.Settled.TheVariants as settled
 use Rattle.papaya_raw.specs.Call.{first_made, next_made, disposed, helped, copied}
-use Rattle.papaya_raw.specs.CallPoints.{going, standing, over, ending, storing, at_gap, gap_by, asking_at, pair_by, tableless, at_free, at_last, at_pair, told_of, entering, went_on, changed, counted, having_met}
+use Rattle.papaya_raw.specs.CallPoints.{going, standing, over, ending, following_made, storing, at_gap, gap_by, asking_at, pair_by, tableless, at_free, at_last, at_pair, told_of, entering, went_on, changed, counted, having_met}
 use Rattle.papaya_raw.specs.Replies.{value_told, value_for}
 use Rattle.papaya_tables.specs.Chunks.{is_incremental}
 use Rattle.papaya_tables.specs.Finding.{finding, vacant, named, marked}
@@ -29,8 +29,6 @@ use Rattle.papaya_tables.specs.declared.resize_mode.ResizeMode.{ResizeMode}
 use Rattle.papaya_tables.specs.declared.table.Table.{Table}
 use Rattle.papaya_owned.specs.Given.Resize.CopierStates.{copying_all}
 use Rattle.papaya_owned.specs.Given.Resize.Dispose.{disposing}
-use Rattle.papaya_owned.specs.Given.Resize.NewTable.{table_after}
-use Rattle.papaya_tables.specs.declared.lengths.Reason.TheVariants.{Full}
 use Rattle.papaya_owned.specs.Given.Resize.declared.copier.Copier.{Copier}
 use Rattle.papaya_owned.specs.Given.Resize.declared.dispose.Dispose.{Dispose}
 use Rattle.papaya_owned.specs.Given.Resize.declared.new_table.NewTable.{NewTable}
@@ -236,7 +234,7 @@ module _ {K V Q : Type 0} (its : Option K) (known value : Option V) (seeks : Boo
             subst (λ (t : Told V). So (storing t p 0)) (sym told)
             (goes_on (at.Asks (asking.Fills 0)) ((bare.0, h.1, h.2, bare.1 ∙ h.2, v, h.0, ap value_told told), empty))
         stays_gap v is told gaps.Past empty = goes_on at.Nexts (seek, bare)
-        stays_gap v is told gaps.Last empty = goes_on _ (seek, bare)
+        stays_gap v is told gaps.Last empty = record { present = asks; absent = absent; point = (seek, bare) }
 
         stays_asking : (gap : Gap) → GapIs m2 p gap → So (asking_at gap p)
         stays_asking gap empty = by known refl
@@ -258,8 +256,8 @@ module _ {K V Q : Type 0} (its : Option K) (known value : Option V) (seeks : Boo
         stays_free missing.Puts so empty = absurd so
         stays_free missing.Asks so empty = stays_asking gaps.Free (empty refl)
 
-        stays_made : So (going p (at.Allocs (table_after p.setting p.trial.table (Full p.trial.met))))
-        stays_made = goes_on _ (seek, bare)
+        stays_made : So (following_made p)
+        stays_made = record { present = asks; absent = absent; point = (seek, bare) }
 
         pub stays_last : (x : Missing) → AsksMissing x → So (at_last x p)
         stays_last missing.Answers so = either (is_incremental p.setting.mode) _ _ (stays_ending (ends.Answered answers.Absent)) stays_made

@@ -30,6 +30,7 @@ use Rattle.papaya_folded.specs.Given.Grows.Nexts.{MayFollow}
 use Rattle.papaya_folded.proofs.Given.Legal.CallFinds.{steps_find_all}
 use Rattle.papaya_folded.proofs.Given.Grows.Finding.Links.{such_of_making}
 use Rattle.papaya_folded.proofs.Given.Grows.Finding.Rest.{steps_find_rest}
+use Rattle.papaya_folded.proofs.Given.Grows.Tries.Log.{found_full_so}
 use Rattle.papaya_folded.specs.Given.Named.Seen.{Seen, seen}
 use Rattle.papaya_folded.proofs.Given.Rows.Lists.{both_some, found_alike}
 use Rattle.papaya_scheduler.specs.declared.scheduler.Scheduler.{Scheduler}
@@ -111,7 +112,8 @@ module _ {K V S : Type 0} (same : K → K → Bool) (hash : K → ℕ) (name : �
         here step.said led terms its_mask its.0 its.1 (come.slot its.0 its.1) (moments_from c.begun log)
         (subst (λ (b : ℕ). FindRest terms (moments_from b log) (name i) map its_did come.now) same_begun
         (steps_find_rest K V S same hash name log come.now (known p.logged.notes) come.scene p.logged.executor new.logged.executor come.shown.is_at come.midst.calls.whole come.midst.calls.kept
-        come.midst.calls.finding come.midst.calls.sources here_order come.midst.calls.purposes map i come.under here step.said led terms its.0 its.1 its_mask nexts))
+        come.midst.calls.finding come.midst.calls.sources here_order come.midst.calls.purposes map i come.under here step.said led terms its.0 its.1 its_mask nexts
+        (found_full_so name log come.now come.scene come.midst.calls.tries map i (come.midst.tables map) come.under here its.0 its.1)))
 
     -- and so do all, where those before do
     pub all_find : All name terms map i c (moments_from c.begun log) mid beginning → All name terms map i c (moments_from c.begun log) after beginning

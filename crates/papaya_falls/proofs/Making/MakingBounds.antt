@@ -30,10 +30,10 @@ module _ (past : ℕ) (reason : Reason) (before : Table) where
           l : before.turn < 2 ^ 63
           l = ltb-true before.turn (2 ^ 63) e
 
-          both : (few : Bool) → IsWithin past before (if nat_le len (2 ^ 48) then at.Makes (with_turn len (next_limit reason before.len len) (before.turn + 1)) else at.Refused Capacity)
+          both : (few : Bool) → IsWithin past before (if nat_le len (2 ^ 48) then at.Makes (with_turn len (next_limit reason before.len before.limit len) (before.turn + 1)) else at.Refused Capacity)
           both few = on (nat_le len (2 ^ 48))
             where
-              on : (few : Bool) → IsWithin past before (if few then at.Makes (with_turn len (next_limit reason before.len len) (before.turn + 1)) else at.Refused Capacity)
+              on : (few : Bool) → IsWithin past before (if few then at.Makes (with_turn len (next_limit reason before.len before.limit len) (before.turn + 1)) else at.Refused Capacity)
               on true = (omega (arith, l), omega arith)
               on false = (omega arith, omega arith)
       by false e few = (omega arith, omega arith)

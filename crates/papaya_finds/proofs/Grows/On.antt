@@ -14,7 +14,7 @@ use Rattle.papaya_settles.specs.Given.Tables.Chunks.{is_incremental}
 use Rattle.papaya_settles.specs.Given.Tables.Finding.{may_name, finding}
 use Rattle.papaya_settles.specs.Given.Tables.Nodes.{table_seen}
 use Rattle.papaya_settles.specs.Given.Tables.TablePlaces.{at_word}
-use Rattle.papaya_settles.specs.Given.Tables.Trials.{next_trial, with_met, place_tried}
+use Rattle.papaya_settles.specs.Given.Tables.Trials.{found_full, next_trial, with_met, place_tried}
 use Rattle.papaya_settles.specs.Given.Tables.declared.finding.Finding.{Finding}
 use Rattle.papaya_settles.specs.Given.Tables.declared.finding.Finding.TheVariants as is
 use Rattle.papaya_settles.specs.Given.Tables.declared.marks.TheConstants.{TOMBSTONE}
@@ -135,7 +135,7 @@ module _ {K V : Type 0} (many : ℕ) where
     -- where the key is missing
 
     following_so : HasForNone p → GrowsSo (following_made p)
-    following_so has = (has, next_begun p.setting p.trial.table p.trial.met)
+    following_so has = (has, next_begun p.setting p.trial.table p.trial.met (found_full p.trial).most)
 
     gap_so : HasForNone p → (gap : Gap) → GrowsSo (at_gap gap p)
     gap_so has gaps.NoTable = (has, first_begun p.setting)
@@ -233,7 +233,7 @@ module _ {K V : Type 0} (many : ℕ) where
     first_so has n (making, progress.Done table) so = tt
     first_so has n (making, progress.Refused fault) so = ending_so p (ends.Refused fault)
 
-    next_so : HasForNone p → (n : NewTable) → n.setting ≡ p.setting → (e : NewTable × Progress Table) → NextGoes p.setting p.trial.table n e → GrowsSo (next_made p e)
+    next_so : HasForNone p → (n : NewTable) → n.setting ≡ p.setting → (e : NewTable × Progress Table) → NextGoes p.setting p.trial.table p.trial.met n e → GrowsSo (next_made p e)
     next_so has n setting_is (making, progress.Goes) so = (has, (so.0 ∙ setting_is, so.1))
     next_so has n setting_is (making, progress.Waits) so = (has, (so.0 ∙ setting_is, so.1))
     next_so has n setting_is (making, progress.Done table) so = on_so table
@@ -385,8 +385,8 @@ module _ {K V : Type 0} (many : ℕ) where
         always_so (at.Firsts making) (always_plan_more (FirstGoes making) GrowsSo (first_made p) (first_so p grows.0 making) (new_table_plan making) (first_goes K V making grows.1)) s
     by_point (at.Allocs making) is grows table stays s =
         always_so (at.Allocs making)
-        (always_plan_more (NextGoes p.setting p.trial.table making) GrowsSo (next_made p) (next_so p grows.0 making grows.1.0) (new_table_plan making)
-        (next_goes p.setting p.trial.table K V making grows.1.0 grows.1.1)) s
+        (always_plan_more (NextGoes p.setting p.trial.table p.trial.met making) GrowsSo (next_made p) (next_so p grows.0 making grows.1.0) (new_table_plan making)
+        (next_goes p.setting p.trial.table p.trial.met K V making grows.1.0 grows.1.1)) s
     by_point (at.Helps copier goal) is grows table stays s = always_so (at.Helps copier goal) (always_plan_as GrowsSo (helped p goal) (helped_so p goal) (copier_plan hash copier)) s
     by_point (at.Copies copier) is grows table stays s = always_so (at.Copies copier) (always_plan_as GrowsSo (copied p) (copied_so p) (copier_plan hash copier)) s
     by_point (at.Asks (asking.Absent gap)) is grows table stays s = always_so (at.Asks (asking.Absent gap)) stays s

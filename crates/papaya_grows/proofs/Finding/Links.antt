@@ -1,7 +1,7 @@
 -- The table that a call links by its copier follows the last one of its map; and a counting links none.
 use Rattle.std.specs.Prelude.{◌≡◌, ℕ, Bool, List, [], ◌∷◌, length, Option, Some, None}
 use Rattle.std.proofs.Common.{sym, subst, ◌∙◌}
-use Rattle.papaya_purposes.specs.Given.Tables.Lengths.{entries_of}
+use Rattle.papaya_purposes.specs.Given.Tables.Lengths.{entries_of, next_len}
 use Rattle.papaya_purposes.specs.Given.Tables.declared.lengths.Reason.TheVariants.{NoPlace}
 use Rattle.papaya_purposes.specs.Given.Tables.declared.node.Node.{Node}
 use Rattle.papaya_purposes.specs.Given.Tables.declared.table.Table.{Table as Planned}
@@ -23,11 +23,11 @@ use Rattle.papaya_purposes.specs.Given.Schedules.declared.effect.Effect.{Effect}
 use Rattle.papaya_purposes.specs.Given.Schedules.declared.effect.Effect.TheVariants as effect
 use Rattle.papaya_purposes.specs.Given.Schedules.declared.effect.Growth.TheVariants.{ABlock}
 use Rattle.papaya_purposes.specs.Given.Schedules.Effects.{AtEachEffect}
-use Rattle.papaya_purposes.specs.Given.Schedules.Growing.{Follows, Has, HasNext, IsNextShape, MayMakeFor}
+use Rattle.papaya_purposes.specs.Given.Schedules.Growing.{Follows, Has, HasNext, MayMakeFor}
 use Rattle.papaya_purposes.specs.Given.Schedules.Lists.{OneOf}
 use Rattle.papaya_purposes.specs.Given.Schedules.Moment.{Moment, TableThere, UnderWay as CallThere}
 use Rattle.papaya_purposes.specs.Given.Schedules.Terms.{Terms}
-use Rattle.papaya_purposes.specs.Given.Schedules.Views.{call_of, capacity_or, map_at, tables_of}
+use Rattle.papaya_purposes.specs.Given.Schedules.Views.{call_of, capacity_or, last_of, map_at, tables_of}
 use Rattle.papaya_purposes.specs.Given.Points.FactsCalls.{IsCopying}
 use Rattle.papaya_purposes.specs.Given.Callers.Together.{Counting, ForRoom, OnKey, OverAll, UnderWay}
 use Rattle.papaya_purposes.specs.Given.Effects.Effects.{effects_of}
@@ -93,19 +93,19 @@ module _ (Such : NewTable → Type 0) (n : NewTable) where
 
 -- a table behind the last one of a map follows it, as a copy has found no place
 module _ {K V : Type 0} (terms : Terms) (moments : List (Moment K V)) (c : CallThere K V) (capacity initial : ℕ) (made_for : Has (entries_of capacity) initial) (next : OneOf (HasNext c.map) moments) where
-  may_make : (its : Call K V) (count : ℕ) → MayMakeFor terms c moments its count NoPlace
-  may_make (call.On one) count = next
-  may_make (call.Reserve more) count = next
-  may_make call.Clear count = next
-  may_make call.Retain count = next
-  may_make call.Len count = next
-  may_make call.Walk count = next
+  may_make : (t : TableThere) (its : Call K V) (count : ℕ) → MayMakeFor terms c moments t its count NoPlace
+  may_make t (call.On one) count = next
+  may_make t (call.Reserve more) count = next
+  may_make t call.Clear count = next
+  may_make t call.Retain count = next
+  may_make t call.Len count = next
+  may_make t call.Walk count = next
 
   behind_follows : (p : Planned) (ts : List TableThere) → IsBehind (lengths_in ts) p → p.turn ≡ length ts → Follows terms c moments capacity (shape_of p) ts
   behind_follows p [] is turn = absurd (let none = is.3 in cc none)
   behind_follows p (x ∷ ts) is turn =
-      subst (λ (n : ℕ). IsNextShape terms c moments capacity n (shape_of p)) (sym (last_at (x ∷ ts) is.0 is.1 is.3 (sym is.2 ∙ turn)))
-      (NoPlace, 0, initial, made_for, may_make c.call 0, is.4, is.5)
+      let last = last_of x ts in
+      (NoPlace, 0, initial, made_for, may_make last c.call 0, subst (λ (n : ℕ). Has (next_len NoPlace n 0 0) p.len) (sym (last_at x ts is.0 is.1 is.3 (sym is.2 ∙ turn))) is.4, is.5)
 
 module _ {K V S : Type 0} (same : K → K → Bool) (hash : K → ℕ) (name : ℕ → List ℕ) (m : Moment K V) (known : Known) (s : Scene K V) (old new : Executor K V S) (at : IsAt same hash old s)
     (whole : ShowsWhole same name m known s) (tables : ShowsTables name m known s) (map i : ℕ) (u : UnderWay K V K) (here : s.calls map i ≡ Some u) (said : Progress (Node K V))

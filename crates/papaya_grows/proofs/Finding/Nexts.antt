@@ -66,36 +66,42 @@ next_same m v maps tables n next = next_where m v tables n (ap (λ (fs : List Ma
 
 -- What is so of each machine: where its copier makes a table, whatever follows from its map.
 module _ (K V : Type 0) where
-  abbrev Of : Type 0 → Machine K V K → Type 0
-  Of Why machine = MachineMakes (λ (k : NewTable). Why) machine
+  abbrev Of : (Unit {0} → Type 0) → Machine K V K → Type 0
+  Of Why machine = MachineMakes (λ (k : NewTable). Why tt) machine
 
-  more : (A B : Type 0) → (A → B) → (machine : Machine K V K) → Of A machine → Of B machine
-  more A B leads machine makes = machine_more (λ (k : NewTable). A) (λ (k : NewTable). B) (λ k so. leads so) machine makes
+  more : (A B : Unit {0} → Type 0) → ((x : Unit {0}) → A x → B x) → (machine : Machine K V K) → Of A machine → Of B machine
+  more A B leads machine makes = machine_more (λ (k : NewTable). A tt) (λ (k : NewTable). B tt) (λ k so. leads tt so) machine makes
 
-  replies : (A : Type 0) (machine : Machine K V K) (reply : MachineReply V) → Of A machine → Of A (machine_replied machine reply).0
-  replies A machine reply makes = reply_makes (λ (k : NewTable). A) K V K machine reply makes
+  replies : (A : Unit {0} → Type 0) (machine : Machine K V K) (reply : MachineReply V) → Of A machine → Of A (machine_replied machine reply).0
+  replies A machine reply makes = reply_makes (λ (k : NewTable). A tt) K V K machine reply makes
 
-  asked : (A : Type 0) (machine : Machine K V K) → Of A machine → Of A (machine_asked machine).0
-  asked A machine makes = asked_makes (λ (k : NewTable). A) K V K machine makes
+  asked : (A : Unit {0} → Type 0) (machine : Machine K V K) → Of A machine → Of A (machine_asked machine).0
+  asked A machine makes = asked_makes (λ (k : NewTable). A tt) K V K machine makes
 
-  abbrev So : ℕ → Moment K V → Type 0
-  So map m = HasNext map m
+  abbrev So : ℕ → Unit {0} → Moment K V → Type 0
+  So map x m = HasNext map m
+
+  so_where : (m v : Moment K V) → Unit {0} → v.tables ≡ m.tables → (n : ℕ) → map_at n v ≡ map_at n m → (x : Unit {0}) → So n x m → So n x v
+  so_where m v pairs tables n there x next = next_where m v tables n there next
+
+  abbrev AnyPairs : Moment K V → Moment K V → Type 0
+  AnyPairs m v = Unit {0}
 
 -- where calls are as they were, or are under way no more
 pub nexts_alike : {K V : Type 0} (name : ℕ → List ℕ) (log : List (Entry K V)) (m v : Moment K V) (s t : Scene K V) → ShowsNexts name log m s → v.calls ≡ m.calls → ((n : ℕ) → HasNext n m → HasNext n v)
     → ((n j : ℕ) (x : UnderWay K V K) → t.calls n j ≡ Some x → s.calls n j ≡ Some x) → ShowsNexts name log v t
-nexts_alike {K} {V} name log m v s t nexts calls keeps was = since.so_alike (Of K V) (more K V) (replies K V) (asked K V) (So K V) next_where name log m v s t nexts calls keeps was
+nexts_alike {K} {V} name log m v s t nexts calls keeps was = since.so_alike (Of K V) (more K V) (replies K V) (asked K V) (So K V) (AnyPairs K V) (λ m v pairs. tt) (so_where K V) name log m v s t nexts calls (λ n j x is y has. keeps n has) was
 
 -- at a moment with other maps, where those that stand are found as they were
 pub nexts_where : {K V S : Type 0} (same : K → K → Bool) (hash : K → ℕ) (name : ℕ → List ℕ) (log : List (Entry K V)) (m v : Moment K V) (s : Scene K V) (e : Executor K V S) → IsAt same hash e s → ShowsNexts name log m s
     → ((n : ℕ) (st : Standing K) → s.maps n ≡ Some st → map_at n v ≡ map_at n m) → v.tables ≡ m.tables → v.calls ≡ m.calls → ShowsNexts name log v s
 nexts_where {K} {V} same hash name log m v s e at nexts still tables calls =
-    since.so_where_found (Of K V) (more K V) (replies K V) (asked K V) (So K V) next_where same hash name log m v s e at nexts still tables calls
+    since.so_where_found (Of K V) (more K V) (replies K V) (asked K V) (So K V) (AnyPairs K V) (λ m v pairs. tt) (so_where K V) same hash name log m v s e at nexts still tt tables calls
 
 -- with a further event of the log
 pub nexts_grow : {K V : Type 0} (name : ℕ → List ℕ) (log : List (Entry K V)) (e : Entry K V) (m : Moment K V) (s : Scene K V)
     → ((map i : ℕ) (u : UnderWay K V K) → s.calls map i ≡ Some u → (c : CallThere K V) → call_of (name i) m ≡ Some c → c.begun ≤ length log) → ShowsNexts name log m s → ShowsNexts name (e ∷ log) m s
-nexts_grow {K} {V} name log e m s begun nexts = since.so_grow (Of K V) (more K V) (replies K V) (asked K V) (So K V) next_where name log e m s begun nexts
+nexts_grow {K} {V} name log e m s begun nexts = since.so_grow (Of K V) (more K V) (replies K V) (asked K V) (So K V) (AnyPairs K V) (λ m v pairs. tt) (so_where K V) name log e m s begun nexts
 
 -- Where a call begins, is told, is asked for its next pair, or is given up.
 
@@ -103,26 +109,26 @@ module _ {K V : Type 0} (same : K → K → Bool) (name : ℕ → List ℕ) (log
   pub calls_begin_nexts : (guard : List ℕ) (its : Call K V) (standing : Standing K) → Begins same standing i u → NoneNamed name (name i) s
       → ShowsNexts name log (with_call (name i) guard its (Some map) m) (scene_with map i u s)
   calls_begin_nexts guard its standing begins apart =
-      since.calls_begin_so (Of K V) (more K V) (replies K V) (asked K V) (So K V) next_where same name log m s nexts map i u guard its (λ Why. none_made (λ (k : NewTable). Why) same standing i u begins) apart
+      since.calls_begin_so (Of K V) (more K V) (replies K V) (asked K V) (So K V) (AnyPairs K V) (λ m v pairs. tt) (so_where K V) same name log m s nexts map i u guard its (λ Why. none_made (λ (k : NewTable). Why tt) same standing i u begins) apart
 
   module _ (here : s.calls map i ≡ Some u) (shown : IsThere same name m s.calls) (next : UnderWay K V K) where
     pub calls_take_nexts : (reply : Reply V) (machine_reply : MachineReply V) → machine_of next ≡ (machine_replied (machine_of u) machine_reply).0 → ShowsNexts name log (told (name i) reply m) (scene_with map i next s)
-    calls_take_nexts reply machine_reply next_is = since.calls_take_so (Of K V) (more K V) (replies K V) (asked K V) (So K V) next_where same name log m s nexts map i u here shown next reply machine_reply next_is
+    calls_take_nexts reply machine_reply next_is = since.calls_take_so (Of K V) (more K V) (replies K V) (asked K V) (So K V) (AnyPairs K V) (λ m v pairs. tt) (so_where K V) same name log m s nexts map i u here shown next reply machine_reply next_is
 
     pub walks_go_on_nexts : machine_of next ≡ (machine_asked (machine_of u)).0 → ShowsNexts name log m (scene_with map i next s)
-    walks_go_on_nexts next_is = since.walks_go_on_so (Of K V) (more K V) (replies K V) (asked K V) (So K V) next_where same name log m s nexts map i u here shown next next_is
+    walks_go_on_nexts next_is = since.walks_go_on_so (Of K V) (more K V) (replies K V) (asked K V) (So K V) (AnyPairs K V) (λ m v pairs. tt) (so_where K V) same name log m s nexts map i u here shown next next_is
 
     abbrev at_end : Bool → Scene K V
     at_end q = record s { calls = with_in s.calls map i (unless_stopped q u) }
 
     pub walks_stop_nexts : (q : Bool) → (q ≡ true → NoneNamed name (name i) (at_end q)) → ShowsNexts name log (given_up (name i) q m) (at_end q)
-    walks_stop_nexts q none = since.walks_stop_so (Of K V) (more K V) (replies K V) (asked K V) (So K V) next_where same name log m s nexts map i u here shown next q none
+    walks_stop_nexts q none = since.walks_stop_so (Of K V) (more K V) (replies K V) (asked K V) (So K V) (AnyPairs K V) (λ m v pairs. tt) (so_where K V) same name log m s nexts map i u here shown next q none
 
 -- Where a call comes to an outcome.
 pub calls_come_to_nexts : {K V : Type 0} (same : K → K → Bool) (name : ℕ → List ℕ) (log : List (Entry K V)) (m : Moment K V) (s : Scene K V) → ShowsNexts name log m s → IsThere same name m s.calls → (own : List ℕ) (o : Outcome V) (steps : ℕ)
     → (ends_call o ≡ true → NoneNamed name own s) → ShowsNexts name log (come_to own o steps m) s
 calls_come_to_nexts {K} {V} same name log m s nexts shown own o steps ended =
-    since.calls_come_to_so (Of K V) (more K V) (replies K V) (asked K V) (So K V) next_where same name log m s nexts shown own o steps ended
+    since.calls_come_to_so (Of K V) (more K V) (replies K V) (asked K V) (So K V) (AnyPairs K V) (λ m v pairs. tt) (so_where K V) same name log m s nexts shown own o steps ended
 
 -- A step of a call.
 
@@ -159,7 +165,7 @@ module _ {K V S : Type 0} (same : K → K → Bool) (hash : K → ℕ) (name : �
   led = scene_after same hash s old new map i st u to.1 said to.4
 
   pub others_go_on : OthersHadNext name log i v led
-  others_go_on = since.others_go_on (Of K V) (more K V) (replies K V) (asked K V) (So K V) next_where same hash name log m known s old new at whole map i u here said leads others
+  others_go_on = since.others_go_on (Of K V) (more K V) (replies K V) (asked K V) (So K V) (AnyPairs K V) (λ m v pairs. tt) (so_where K V) same hash name log m known s old new at whole map i u here said leads others
 
   module _ (nexts : ShowsNexts name log m s) (c : CallThere K V) (c_is : call_of (name i) m ≡ Some c) where
     abbrev Before : NewTable → Type 0
@@ -196,10 +202,10 @@ module _ {K V S : Type 0} (same : K → K → Bool) (hash : K → ℕ) (name : �
 
     pub nexts_go_on : ShowsNexts name log v led
     nexts_go_on =
-        since.so_go_on (Of K V) (more K V) (replies K V) (asked K V) (So K V) next_where same hash name log m known s old new at whole map i u here said leads others c c_is (λ x is. own_makes)
+        since.so_go_on (Of K V) (more K V) (replies K V) (asked K V) (So K V) (AnyPairs K V) (λ m v pairs. tt) (so_where K V) same hash name log m known s old new at whole map i u here said leads others c c_is (λ x is. own_makes)
 
 -- Where an event of a call begins, others are as the log says.
 pub others_at_first : {K V : Type 0} (name : ℕ → List ℕ) (log : List (Entry K V)) (i : ℕ) (m : Moment K V) (s : Scene K V) → m.maps ≡ (moment log).maps → m.tables ≡ (moment log).tables
     → ((map j : ℕ) (u : UnderWay K V K) → s.calls map j ≡ Some u → (c : CallThere K V) → call_of (name j) m ≡ Some c → c.begun ≤ length log) → ShowsNexts name log m s → OthersHadNext name log i m s
 others_at_first {K} {V} name log i m s maps tables begun nexts =
-    since.others_at_first (Of K V) (more K V) (replies K V) (asked K V) (So K V) next_where name log i m s maps tables begun nexts
+    since.others_at_first (Of K V) (more K V) (replies K V) (asked K V) (So K V) (AnyPairs K V) (λ m v pairs. tt) (so_where K V) name log i m s tt maps tables begun nexts

@@ -33,7 +33,8 @@ use Rattle.papaya_purposes.proofs.Given.Owes.Walks.{sum_at}
 use Rattle.papaya_purposes.specs.Given.Settles.Due.{OwnAreMade}
 use Rattle.papaya_kept.proofs.Calls.{own_made}
 use Rattle.papaya_purposes.specs.Given.Finds.Growing.{FindAsked}
-use Rattle.papaya_purposes.specs.Given.Finds.Linking.{FindShapes}
+use Rattle.papaya_purposes.specs.Given.Finds.Linking.{FindShapes, FoundFull}
+use Rattle.papaya_purposes.specs.Given.Finds.Within.{many_of}
 use Rattle.papaya_purposes.specs.Given.Finds.Nexts.{MakesByCopier, making_of_copier}
 use Rattle.papaya_purposes.proofs.Given.Finds.CopiersAsk.{copiers_may_ask}
 use Rattle.papaya_purposes.proofs.Given.Finds.Grows.Asked.{Asks, made_of, may_ask}
@@ -93,16 +94,16 @@ module _ {K V S : Type 0} (same : K → K → Bool) (hash : K → ℕ) (name : �
   copier_linked u here nexts copies =
       copier_links same hash name m known s old new at whole tables map i u here said leads terms since finding.further copies (finding.capacities map (leads map u here).0 (leads map u here).2) nexts
 
-  call_links : (u : UnderWay K V K) (here : s.calls map i ≡ Some u) → (leads map u here).0.setting.mask + 1 ≡ shards_of terms → NextsOf u → Linked
-  call_links (OnKey x) is mask_is nexts = elim (copies_or x.call.stands) as (λ _. Linked) [
+  call_links : (u : UnderWay K V K) (here : s.calls map i ≡ Some u) → (leads map u here).0.setting.mask + 1 ≡ shards_of terms → NextsOf u → FoundFull map (many_of map m) (m ∷ since) u → Linked
+  call_links (OnKey x) is mask_is nexts full = elim (copies_or x.call.stands) as (λ _. Linked) [
     | inl copies ↦ copier_linked (OnKey x) is nexts copies
     | inr other ↦
         key_calls_link K V S same hash name m known s old new at whole tables finding.growing map i x is said leads other (finding.capacities map (leads map (OnKey x) is).0 (leads map (OnKey x) is).2) terms
-        since
+        since full
   ]
-  call_links (OverAll o) is mask_is nexts = copier_linked (OverAll o) is nexts tt
-  call_links (Counting sum) is mask_is nexts = none_links same hash name m known s old new at whole tables map i (Counting sum) is said leads terms since refl
-  call_links (ForRoom r) is mask_is nexts =
+  call_links (OverAll o) is mask_is nexts full = copier_linked (OverAll o) is nexts tt
+  call_links (Counting sum) is mask_is nexts full = none_links same hash name m known s old new at whole tables map i (Counting sum) is said leads terms since refl
+  call_links (ForRoom r) is mask_is nexts full =
       room_links same hash name log m known s old new at whole purposes map i r is said leads terms c c_is mask_is tables finding.further
       (finding.capacities map (leads map (ForRoom r) is).0 (leads map (ForRoom r) is).2) nexts
 
@@ -117,10 +118,10 @@ module _ {K V S : Type 0} (same : K → K → Bool) (hash : K → ℕ) (name : �
   call_asks (ForRoom r) is mask_is nexts = room_asks same hash name log m known s old new at whole purposes map i r is said leads terms c c_is mask_is
 
 pub steps_find_rest : (K V S : Type 0) (same : K → K → Bool) (hash : K → ℕ) → StepsFindRest K V S same hash
-steps_find_rest K V S same hash name log m known s old new at whole kept finding sources order purposes map i u here said leads terms c c_is mask_is nexts =
+steps_find_rest K V S same hash name log m known s old new at whole kept finding sources order purposes map i u here said leads terms c c_is mask_is nexts full =
     rest_is_all K V terms (moments_from c.begun log) (name i) map effects m
     (call_asks same hash name log m known s old new at whole kept.tables finding purposes map i said leads terms c c_is u here mask_is nexts)
-    (call_links same hash name log m known s old new at whole kept.tables finding purposes map i said leads terms c c_is u here mask_is nexts)
+    (call_links same hash name log m known s old new at whole kept.tables finding purposes map i said leads terms c c_is u here mask_is nexts full)
     (past_is_handed K V (name i) map effects m past behind_it
     (calls_find_space K V S same hash name m known s old new at whole kept.entries owning kept.owed sources order map i u here said leads past behind_it))
   where

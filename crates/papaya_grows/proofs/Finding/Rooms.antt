@@ -32,11 +32,11 @@ use Rattle.papaya_purposes.specs.Given.Schedules.After.{moments_from}
 use Rattle.papaya_purposes.specs.Given.Schedules.Counts.{Counts}
 use Rattle.papaya_purposes.specs.Given.Schedules.Effects.{AtEachEffect}
 use Rattle.papaya_purposes.specs.Given.Schedules.Entry.{Entry}
-use Rattle.papaya_purposes.specs.Given.Schedules.Growing.{Follows, Has, HasNext, IsFirstOf, IsNextShape, MayGrow, MayMakeFor, is_too_many}
+use Rattle.papaya_purposes.specs.Given.Schedules.Growing.{Follows, Has, HasNext, IsFirstOf, MayGrow, MayMakeFor, is_too_many}
 use Rattle.papaya_purposes.specs.Given.Schedules.Lists.{OneOf}
 use Rattle.papaya_purposes.specs.Given.Schedules.Moment.{Moment, TableThere, UnderWay as CallThere}
 use Rattle.papaya_purposes.specs.Given.Schedules.Terms.{Terms, shards_of}
-use Rattle.papaya_purposes.specs.Given.Schedules.Views.{call_of, capacity_or, map_at, tables_of}
+use Rattle.papaya_purposes.specs.Given.Schedules.Views.{call_of, capacity_or, last_of, map_at, tables_of}
 use Rattle.papaya_purposes.specs.Given.Teller.Tells.{StepsTold}
 use Rattle.papaya_purposes.specs.Given.Teller.declared.changed.Changed.{Changed}
 use Rattle.papaya_purposes.specs.Given.Teller.declared.changed.Changed.TheVariants.{Nothing}
@@ -78,7 +78,7 @@ use Rattle.papaya_purposes.proofs.Sums.{counts_wider}
 use Rattle.papaya_purposes.proofs.RoomFacts.{Point, StandsSo, room_point, room_setting}
 use Rattle.papaya_grows.specs.Further.{IsFurther, RoomMakes, ShowsFurther, at_turn, lengths_in, lengths_of}
 use Rattle.papaya_grows.proofs.Finding.Links.{linked, links_by, such_of_copier}
-use Rattle.papaya_grows.proofs.Finding.Making.Lengths.{last_at, table_length}
+use Rattle.papaya_grows.proofs.Finding.Making.Lengths.{table_length}
 
 -- what a reservation is called for
 pub its_more : {K V : Type 0} (r : CallForRoom) (its : Call K V) → IsFor (ForRoom r) its → its ≡ call.Reserve r.reserve.additional
@@ -97,15 +97,14 @@ module _ {K V : Type 0} (terms : Terms) (moments : List (Moment K V)) (c : CallT
   first_follows is (x ∷ ts) turn = absurd (let first = is.2 in omega (arith, turn, first))
 
   module _ (shards : suc p.setting.mask ≡ shards_of terms) (before : Planned) (is : IsLaterFor c.map moments p before table) where
-    may_make : MayMakeFor terms c moments c.call is.0.0 (Reserved p.additional)
-    may_make =
-        subst (λ (z : Call K V). MayMakeFor terms c moments z is.0.0 (Reserved p.additional)) (sym its) (refl, subst (λ (n : ℕ). Counts n c.map moments is.0.0) shards is.0.1)
+    may_make : (t : TableThere) → MayMakeFor terms c moments t c.call is.0.0 (Reserved p.additional)
+    may_make t =
+        subst (λ (z : Call K V). MayMakeFor terms c moments t z is.0.0 (Reserved p.additional)) (sym its) (refl, subst (λ (n : ℕ). Counts n c.map moments is.0.0) shards is.0.1)
 
     later_follows : (ts : List TableThere) → table.turn ≡ length ts → at_turn (lengths_in ts) before.turn ≡ Some before.len → Follows terms c moments capacity (shape_of table) ts
     later_follows [] turn has = absurd (cc has)
     later_follows (x ∷ ts) turn has =
-        subst (λ (n : ℕ). IsNextShape terms c moments capacity n (shape_of table)) (sym (last_at (x ∷ ts) before.turn before.len has (sym is.2 ∙ turn)))
-        (Reserved p.additional, is.0.0, initial, made_for, may_make, is.0.2, is.1)
+        (Reserved p.additional, is.0.0, initial, made_for, may_make (last_of x ts), is.0.2, is.1)
 
 -- a first table that can be had is for no more pairs than can be
 

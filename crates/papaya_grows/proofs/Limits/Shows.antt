@@ -82,36 +82,42 @@ module _ {K V : Type 0} (same : K → K → Bool) (Why : Type 0) where
 
 -- what is so of each machine
 module _ (K V : Type 0) where
-  abbrev pub Of : Type 0 → Machine K V K → Type 0
-  Of Why machine = MachineEnds Why machine
+  abbrev pub Of : (Unit {0} → Type 0) → Machine K V K → Type 0
+  Of Why machine = MachineEnds (Why tt) machine
 
-  pub more : (A B : Type 0) → (A → B) → (machine : Machine K V K) → Of A machine → Of B machine
-  more A B leads machine so = machine_for A B leads machine so
+  pub more : (A B : Unit {0} → Type 0) → ((x : Unit {0}) → A x → B x) → (machine : Machine K V K) → Of A machine → Of B machine
+  more A B leads machine so = machine_for (A tt) (B tt) (leads tt) machine so
 
-  pub replies : (A : Type 0) (machine : Machine K V K) (reply : MachineReply V) → Of A machine → Of A (machine_replied machine reply).0
-  replies A machine reply so = reply_ends A K V K machine reply so
+  pub replies : (A : Unit {0} → Type 0) (machine : Machine K V K) (reply : MachineReply V) → Of A machine → Of A (machine_replied machine reply).0
+  replies A machine reply so = reply_ends (A tt) K V K machine reply so
 
-  pub asked : (A : Type 0) (machine : Machine K V K) → Of A machine → Of A (machine_asked machine).0
-  asked A machine so = asked_ends A K V K machine so
+  pub asked : (A : Unit {0} → Type 0) (machine : Machine K V K) → Of A machine → Of A (machine_asked machine).0
+  asked A machine so = asked_ends (A tt) K V K machine so
 
-  abbrev pub So : ℕ → Moment K V → Type 0
-  So map m = IsAtLimit map m
+  abbrev pub So : ℕ → Unit {0} → Moment K V → Type 0
+  So map x m = IsAtLimit map m
+
+  pub so_where : (m v : Moment K V) → Unit {0} → v.tables ≡ m.tables → (n : ℕ) → map_at n v ≡ map_at n m → (x : Unit {0}) → So n x m → So n x v
+  so_where m v pairs tables n there x at_limit = limit_where m v tables n there at_limit
+
+  abbrev pub AnyPairs : Moment K V → Moment K V → Type 0
+  AnyPairs m v = Unit {0}
 
 module _ {K V : Type 0} (name : ℕ → List ℕ) (log : List (Entry K V)) (m v : Moment K V) (s t : Scene K V) (limits : ShowsLimits name log m s) where
   -- where calls are as they were, or are under way no more
   pub limits_alike : v.calls ≡ m.calls → ((n : ℕ) → IsAtLimit n m → IsAtLimit n v) → ((n j : ℕ) (x : UnderWay K V K) → t.calls n j ≡ Some x → s.calls n j ≡ Some x) → ShowsLimits name log v t
-  limits_alike calls keeps was = since.so_alike (Of K V) (more K V) (replies K V) (asked K V) (So K V) limit_where name log m v s t limits calls keeps was
+  limits_alike calls keeps was = since.so_alike (Of K V) (more K V) (replies K V) (asked K V) (So K V) (AnyPairs K V) (λ m v pairs. tt) (so_where K V) name log m v s t limits calls (λ n j x is y has. keeps n has) was
 
 -- at a moment with other maps, where those that stand are found as they were
 pub limits_where : {K V S : Type 0} (same : K → K → Bool) (hash : K → ℕ) (name : ℕ → List ℕ) (log : List (Entry K V)) (m v : Moment K V) (s : Scene K V) (e : Executor K V S) → IsAt same hash e s → ShowsLimits name log m s
     → ((n : ℕ) (st : Standing K) → s.maps n ≡ Some st → map_at n v ≡ map_at n m) → v.tables ≡ m.tables → v.calls ≡ m.calls → ShowsLimits name log v s
 limits_where {K} {V} same hash name log m v s e at limits still tables calls =
-    since.so_where_found (Of K V) (more K V) (replies K V) (asked K V) (So K V) limit_where same hash name log m v s e at limits still tables calls
+    since.so_where_found (Of K V) (more K V) (replies K V) (asked K V) (So K V) (AnyPairs K V) (λ m v pairs. tt) (so_where K V) same hash name log m v s e at limits still tt tables calls
 
 -- with a further event of the log
 pub limits_grow : {K V : Type 0} (name : ℕ → List ℕ) (log : List (Entry K V)) (e : Entry K V) (m : Moment K V) (s : Scene K V)
     → ((map i : ℕ) (u : UnderWay K V K) → s.calls map i ≡ Some u → (c : CallThere K V) → call_of (name i) m ≡ Some c → c.begun ≤ length log) → ShowsLimits name log m s → ShowsLimits name (e ∷ log) m s
-limits_grow {K} {V} name log e m s begun limits = since.so_grow (Of K V) (more K V) (replies K V) (asked K V) (So K V) limit_where name log e m s begun limits
+limits_grow {K} {V} name log e m s begun limits = since.so_grow (Of K V) (more K V) (replies K V) (asked K V) (So K V) (AnyPairs K V) (λ m v pairs. tt) (so_where K V) name log e m s begun limits
 
 -- Where a call begins, is told, is asked for its next pair, or is given up.
 
@@ -119,33 +125,33 @@ module _ {K V : Type 0} (same : K → K → Bool) (name : ℕ → List ℕ) (log
   pub calls_begin_limits : (guard : List ℕ) (its : Call K V) (standing : Standing K) → Begins same standing i u → NoneNamed name (name i) s
       → ShowsLimits name log (with_call (name i) guard its (Some map) m) (scene_with map i u s)
   calls_begin_limits guard its standing begins apart =
-      since.calls_begin_so (Of K V) (more K V) (replies K V) (asked K V) (So K V) limit_where same name log m s limits map i u guard its (λ Why. begun_ends same Why standing i u begins) apart
+      since.calls_begin_so (Of K V) (more K V) (replies K V) (asked K V) (So K V) (AnyPairs K V) (λ m v pairs. tt) (so_where K V) same name log m s limits map i u guard its (λ Why. begun_ends same (Why tt) standing i u begins) apart
 
   module _ (here : s.calls map i ≡ Some u) (shown : IsThere same name m s.calls) (next : UnderWay K V K) where
     pub calls_take_limits : (reply : Reply V) (machine_reply : MachineReply V) → machine_of next ≡ (machine_replied (machine_of u) machine_reply).0 → ShowsLimits name log (told (name i) reply m) (scene_with map i next s)
     calls_take_limits reply machine_reply next_is =
-        since.calls_take_so (Of K V) (more K V) (replies K V) (asked K V) (So K V) limit_where same name log m s limits map i u here shown next reply machine_reply next_is
+        since.calls_take_so (Of K V) (more K V) (replies K V) (asked K V) (So K V) (AnyPairs K V) (λ m v pairs. tt) (so_where K V) same name log m s limits map i u here shown next reply machine_reply next_is
 
     pub walks_go_on_limits : machine_of next ≡ (machine_asked (machine_of u)).0 → ShowsLimits name log m (scene_with map i next s)
-    walks_go_on_limits next_is = since.walks_go_on_so (Of K V) (more K V) (replies K V) (asked K V) (So K V) limit_where same name log m s limits map i u here shown next next_is
+    walks_go_on_limits next_is = since.walks_go_on_so (Of K V) (more K V) (replies K V) (asked K V) (So K V) (AnyPairs K V) (λ m v pairs. tt) (so_where K V) same name log m s limits map i u here shown next next_is
 
     abbrev at_end : Bool → Scene K V
     at_end q = record s { calls = with_in s.calls map i (unless_stopped q u) }
 
     pub walks_stop_limits : (q : Bool) → (q ≡ true → NoneNamed name (name i) (at_end q)) → ShowsLimits name log (given_up (name i) q m) (at_end q)
-    walks_stop_limits q none = since.walks_stop_so (Of K V) (more K V) (replies K V) (asked K V) (So K V) limit_where same name log m s limits map i u here shown next q none
+    walks_stop_limits q none = since.walks_stop_so (Of K V) (more K V) (replies K V) (asked K V) (So K V) (AnyPairs K V) (λ m v pairs. tt) (so_where K V) same name log m s limits map i u here shown next q none
 
 -- Where a call comes to an outcome.
 pub calls_come_to_limits : {K V : Type 0} (same : K → K → Bool) (name : ℕ → List ℕ) (log : List (Entry K V)) (m : Moment K V) (s : Scene K V) → ShowsLimits name log m s → IsThere same name m s.calls → (own : List ℕ) (o : Outcome V) (steps : ℕ)
     → (ends_call o ≡ true → NoneNamed name own s) → ShowsLimits name log (come_to own o steps m) s
 calls_come_to_limits {K} {V} same name log m s limits shown own o steps ended =
-    since.calls_come_to_so (Of K V) (more K V) (replies K V) (asked K V) (So K V) limit_where same name log m s limits shown own o steps ended
+    since.calls_come_to_so (Of K V) (more K V) (replies K V) (asked K V) (So K V) (AnyPairs K V) (λ m v pairs. tt) (so_where K V) same name log m s limits shown own o steps ended
 
 -- Where an event of a call begins, others are as the log says.
 pub limits_at_first : {K V : Type 0} (name : ℕ → List ℕ) (log : List (Entry K V)) (i : ℕ) (m : Moment K V) (s : Scene K V) → m.maps ≡ (moment log).maps → m.tables ≡ (moment log).tables
     → ((map j : ℕ) (u : UnderWay K V K) → s.calls map j ≡ Some u → (c : CallThere K V) → call_of (name j) m ≡ Some c → c.begun ≤ length log) → ShowsLimits name log m s → OthersHadLimit name log i m s
 limits_at_first {K} {V} name log i m s maps tables begun limits =
-    since.others_at_first (Of K V) (more K V) (replies K V) (asked K V) (So K V) limit_where name log i m s maps tables begun limits
+    since.others_at_first (Of K V) (more K V) (replies K V) (asked K V) (So K V) (AnyPairs K V) (λ m v pairs. tt) (so_where K V) name log i m s tt maps tables begun limits
 
 -- After each step of what is no call.
 

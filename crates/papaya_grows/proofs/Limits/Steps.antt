@@ -37,11 +37,11 @@ use Rattle.papaya_purposes.specs.Given.Moments.Whole.{ShowsWhole}
 use Rattle.papaya_purposes.specs.Given.Finds.Capacities.{ShowsCapacities}
 use Rattle.papaya_grows.specs.Limits.{HasLimit, MachineEnds, OthersHadLimit, SaysFor, ShowsLimits}
 use Rattle.papaya_grows.proofs.Finding.Making.Unpromoted.{OffRoot, off_promotes_none}
-use Rattle.papaya_grows.proofs.Limits.Chain.{effects_keep_limit, limit_where}
+use Rattle.papaya_grows.proofs.Limits.Chain.{effects_keep_limit}
 use Rattle.papaya_grows.proofs.Limits.Last.{LastIsFor, limit_there}
 use Rattle.papaya_grows.proofs.Limits.Mays.{under_may}
 use Rattle.papaya_grows.proofs.Limits.Off.{machine_off}
-use Rattle.papaya_grows.proofs.Limits.Shows.{Of, So, asked, more, replies}
+use Rattle.papaya_grows.proofs.Limits.Shows.{AnyPairs, Of, So, asked, more, replies, so_where}
 use Rattle.papaya_grows.proofs.Limits.Walk.{EndsThen, MachineMayEnd, SummedIn, WhyOf, machine_ends, machine_for, machine_on}
 use Rattle.papaya_grows.proofs.Since as since
 
@@ -78,7 +78,7 @@ module _ {K V S : Type 0} (same : K → K → Bool) (hash : K → ℕ) (name : �
 
   -- others are as they were
   pub limits_others : OthersHadLimit name log i m s → OthersHadLimit name log i v led
-  limits_others others = since.others_go_on (Of K V) (more K V) (replies K V) (asked K V) (So K V) limit_where same hash name log m known s old new at whole map i u here said leads others
+  limits_others others = since.others_go_on (Of K V) (more K V) (replies K V) (asked K V) (So K V) (AnyPairs K V) (λ m v pairs. tt) (so_where K V) same hash name log m known s old new at whole map i u here said leads others
 
   module _ (limits : ShowsLimits name log m s) (capacities : ShowsCapacities m s) (c : CallThere K V) (c_is : call_of (name i) m ≡ Some c) where
     abbrev Before : Type 0
@@ -132,7 +132,7 @@ module _ {K V S : Type 0} (same : K → K → Bool) (hash : K → ℕ) (name : �
 
     pub limits_go_on : OthersHadLimit name log i m s → ShowsLimits name log v led
     limits_go_on others =
-        since.so_go_on (Of K V) (more K V) (replies K V) (asked K V) (So K V) limit_where same hash name log m known s old new at whole map i u here said leads others c c_is own_ends
+        since.so_go_on (Of K V) (more K V) (replies K V) (asked K V) (So K V) (AnyPairs K V) (λ m v pairs. tt) (so_where K V) same hash name log m known s old new at whole map i u here said leads others c c_is own_ends
 
     why_more : OffRoot step_told → (machine : Machine K V K) → WhyOf (Before ⊎ Summed) K V K old.memory.memory new.memory.memory machine → WhyOf (After ⊎ Summed) K V K old.memory.memory new.memory.memory machine
     why_more off (kinds.Key p) why = follow_all off why

@@ -122,7 +122,7 @@ module _ {K V Q : Type 0} where
         (λ e. on_to (at.Asks (asking.GivesUp word)) some)
 
     following_so : GoesWith p.own (following_made p)
-    following_so = on_to _ tt
+    following_so = (record { code = o.code; live = o.live; removes = o.removes; point = tt }, tt, refl)
 
     pub gap_so : p.there ≢ there.Removes → (gap : Gap) → GoesWith p.own (at_gap gap p)
     gap_so some gaps.NoTable = on_to _ tt

@@ -3,7 +3,7 @@ use Rattle.std.specs.Prelude.{◌≡◌, ℕ, suc, Bool, true, false, if◌then�
 use Rattle.std.proofs.Common.{ap, sym, subst, ◌∙◌, inl, inr, arith}
 use Rattle.papaya_points.specs.Given.Seize.World.{World}
 use Rattle.papaya_points.specs.Given.Tables.Chunks.{is_incremental}
-use Rattle.papaya_points.specs.Given.Tables.Trials.{first_trial}
+use Rattle.papaya_points.specs.Given.Tables.Trials.{trial_on}
 use Rattle.papaya_points.specs.Given.Tables.declared.node.Node.{Node}
 use Rattle.papaya_points.specs.Given.Tables.declared.setting.Setting.{Setting}
 use Rattle.papaya_points.specs.Given.Tables.declared.table.Table.{Table}
@@ -15,7 +15,7 @@ use Rattle.papaya_points.specs.Given.Rule.Chart.{Chart}
 use Rattle.papaya_points.specs.Given.Rule.Rule.{IsLawful}
 use Rattle.papaya_points.specs.Given.Rule.Words.{Blocks}
 use Rattle.papaya_points.specs.Given.Rule.Maps.{spot_of, IsTable, IsMap}
-use Rattle.papaya_points.proofs.Given.Rule.Keys.TriesSeen.{first_is}
+use Rattle.papaya_points.proofs.Given.Rule.Keys.TriesSeen.{on_is}
 use Rattle.papaya_points.proofs.Calls.CallsOn.{Seeking}
 use Rattle.papaya_points.proofs.Calls.CallsTables.{enters_root}
 use Rattle.papaya_late.specs.Left.{Left, Entered}
@@ -31,8 +31,8 @@ module _ {K V Q : Type 0} (same : K → K → Bool) (hash : K → ℕ) (asks : Q
       let fresh = enters_root same hash asks caller setting keys lawful w c blocks map p s table (subst (λ (x : ℕ). IsTable c blocks table x) root entered) in
       (inl fresh.0, λ answer answered. absurd answered)
   enters_told table t entered (inr left) =
-      goes_late same hash asks caller setting alone keys began w c blocks p s (first_trial table p.hash) at.Probes (λ answer h. h)
-      (s.own, (t, 0, first_is c blocks p.hash t table entered (map.shows.sized t entered.made), (λ k asked g l. absurd (omega (arith, l))), left))
+      goes_late same hash asks caller setting alone keys began w c blocks p s (trial_on p.trial table p.hash) at.Probes (λ answer h. h)
+      (s.own, (t, 0, on_is c blocks p.hash t p.trial table entered (map.shows.sized t entered.made), (λ k asked g l. absurd (omega (arith, l))), left))
 
   -- the one behind its own, which it is to copy first
   pub goes_on_late : (t : ℕ) → IsTable c blocks p.trial.table t → Left c began t → c.from (suc t) ≡ t → (table : Table) → IsTable c blocks table (suc t)

@@ -141,6 +141,7 @@ module _ {K V S : Type 0} (same : K → K → Bool) (hash : K → ℕ) (name : �
         leads.1.as_they_were;
     nexts = λ n j u is c found. absurd (none n j u is);
     limits = λ n j u is c found. absurd (none n j u is);
+    tries = λ n j u is c found. absurd (none n j u is);
     counters = counters_then;
     uncounted = none_counted None None effects m calls.uncounted (none_shards None effects m);
     dues = record {

@@ -39,7 +39,7 @@ use Rattle.papaya_maps.proofs.Begins.MachinesEnd.{lowered_ends}
 
 -- what follows a counting is a later point
 following_left : (reason : Reason) (before : Table) (len : ℕ) (turn : Result ℕ Fault) → making_left (following reason before len turn) < 5
-following_left reason before len (Ok turn) = either (nat_le len (2 ^ 48)) (planned len (next_limit reason before.len len) turn)
+following_left reason before len (Ok turn) = either (nat_le len (2 ^ 48)) (planned len (next_limit reason before.len before.limit len) turn)
   where
     either : (few : Bool) (table : Table) → making_left (if few then at.Makes table else at.Refused Capacity) < 5
     either true table = omega arith

@@ -90,7 +90,7 @@ next_table t n = by (nat_lt t.probe.len t.table.limit)
     some_table None table = Unit {0}
     some_table (Some x) table = x.table ≡ table
 
-    by : (b : Bool) → (if b then Some record { table = t.table; probe = probe_after t.probe (t.table.len - 1); met = t.met } else None) ≡ Some n → n.table ≡ t.table
+    by : (b : Bool) → (if b then Some record { table = t.table; probe = probe_after t.probe (t.table.len - 1); met = t.met; most = t.most } else None) ≡ Some n → n.table ≡ t.table
     by true e = subst (λ (x : Option Trial). some_table x t.table) e refl
     by false e = absurd (subst is_none e tt)
 

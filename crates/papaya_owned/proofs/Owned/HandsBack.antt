@@ -147,7 +147,7 @@ module _ {K V Q : Type 0} where
       keeps_free = subst (λ m. KeepsPair (at_free m p)) (sym absent) (goes_on (at.Tries 0 p.own) (some, no_tombstone))
 
       keeps_last : KeepsPair (at_last p.missing p)
-      keeps_last = subst (λ m. KeepsPair (at_last m p)) (sym absent) (goes_on _ some)
+      keeps_last = subst (λ m. KeepsPair (at_last m p)) (sym absent) (record { absent = absent; present = present; own = no_tombstone; pair = some })
 
       keeps_pair : (t : There) → PutsOrLeaves t → (word : ℕ) → KeepsPair (at_pair t p word)
       keeps_pair there.Answers so word = keeps_ending (ends.Answered (answers.Found word))

@@ -4,12 +4,11 @@ use Rattle.std.specs.Int.{IsPowerOfTwo}
 use Rattle.std.proofs.Common.{refl, ap, sym, subst, ◌∙◌, arith}
 use Rattle.papaya_rule.specs.Given.Seize.World.{World}
 use Rattle.papaya_rule.specs.Given.Tables.Chunks.{is_incremental}
-use Rattle.papaya_raw.specs.CallPoints.{going, tableless, following_made, asking_at, at_last, answering, entering, went_on}
+use Rattle.papaya_raw.specs.CallPoints.{going, tableless, full_for, following_made, asking_at, at_last, answering, entering, went_on}
 use Rattle.papaya_rule.specs.Given.Resize.CopierStates.{resting, helping, copying_all}
 use Rattle.papaya_rule.specs.Given.Resize.NewTable.{first_table, table_after}
-use Rattle.papaya_rule.specs.Given.Tables.Trials.{first_trial}
+use Rattle.papaya_rule.specs.Given.Tables.Trials.{trial_on, found_full}
 use Rattle.papaya_rule.specs.Given.Tables.declared.lengths.TheConstants.{FIRST_LEN}
-use Rattle.papaya_rule.specs.Given.Tables.declared.lengths.Reason.TheVariants.{Full}
 use Rattle.papaya_rule.specs.Given.Tables.declared.node.Node.{Node}
 use Rattle.papaya_rule.specs.Given.Tables.declared.setting.Setting.{Setting}
 use Rattle.papaya_rule.specs.Given.Tables.declared.status.TheConstants.Status.{ABORTED}
@@ -29,7 +28,7 @@ use Rattle.papaya_points.specs.FactsCopies.{HasDone, ClaimsNone}
 use Rattle.papaya_points.specs.FactsCopiesBlocking.{HasNoShares, CopierFactsBlocking}
 use Rattle.papaya_points.specs.FactsCalls.{Unchanged, AnswersOf, ShutUpTo}
 use Rattle.papaya_points.proofs.Making.TablesBegin.{first_table_facts, table_after_facts}
-use Rattle.papaya_rule.proofs.Keys.TriesSeen.{first_is}
+use Rattle.papaya_rule.proofs.Keys.TriesSeen.{on_is}
 use Rattle.papaya_rule.proofs.Keys.ClassesSeen.{absent_rootless}
 use Rattle.papaya_rule.proofs.Keys.ClassesBeyond.{none_at_root, none_behind, absent_behind}
 use Rattle.papaya_points.proofs.Calls.CallsOn.{Seeking, Comes, goes, answers_so}
@@ -43,8 +42,8 @@ module _ {K V Q : Type 0} (same : K → K → Bool) (hash : K → ℕ) (asks : Q
   pub enters : (helped : Bool) (table : Table) (t : ℕ) → IsTable c blocks table t → NoneBefore same hash (is_incremental setting.mode) c keys t 0
       → (is_incremental setting.mode ≡ false → t ≡ c.first) → Comes same hash asks caller setting keys w c blocks (entering (record p { helped = helped }) table)
   enters helped table t entered none root =
-      goes same hash asks caller setting keys w c blocks p s (first_trial table p.hash) helped at.Probes (λ answer h. h)
-      (s.own, (t, 0, first_is c blocks p.hash t table entered (map.shows.sized t entered.made), none, root))
+      goes same hash asks caller setting keys w c blocks p s (trial_on p.trial table p.hash) helped at.Probes (λ answer h. h)
+      (s.own, (t, 0, on_is c blocks p.hash t p.trial table entered (map.shows.sized t entered.made), none, root))
 
   pub enters_root : (table : Table) → IsTable c blocks table c.first → Comes same hash asks caller setting keys w c blocks (entering p table)
   enters_root table entered = enters p.helped table c.first entered (none_at_root same hash lawful keys (is_incremental setting.mode) c map.rule) (λ e. refl)
@@ -74,9 +73,10 @@ module _ {K V Q : Type 0} (same : K → K → Bool) (hash : K → ℕ) (asks : Q
     -- it is the last one
     pub makes_next : IsPowerOfTwo setting.initial → Comes same hash asks caller setting keys w c blocks (following_made p)
     makes_next power =
-        subst (λ (x : Setting). Comes same hash asks caller setting keys w c blocks (going p (at.Allocs (table_after x p.trial.table (Full p.trial.met))))) (sym s.setting_is)
-        (goes same hash asks caller setting keys w c blocks p s p.trial p.helped (at.Allocs (table_after setting p.trial.table (Full p.trial.met))) (λ answer h. h)
-        (s.own, t, (entered, shut), table_after_facts w caller setting c blocks p.trial.table t entered (free (is_incremental setting.mode) refl) (map.shows.sized t entered.made) power (Full p.trial.met)))
+        subst (λ (x : Setting). Comes same hash asks caller setting keys w c blocks (going (record p { trial = found_full p.trial }) (at.Allocs (table_after x p.trial.table (full_for p.trial)))))
+        (sym s.setting_is)
+        (goes same hash asks caller setting keys w c blocks p s (found_full p.trial) p.helped (at.Allocs (table_after setting p.trial.table (full_for p.trial))) (λ answer h. h)
+        (s.own, t, (entered, shut), table_after_facts w caller setting c blocks p.trial.table t entered (free (is_incremental setting.mode) refl) (map.shows.sized t entered.made) power (full_for p.trial)))
       where
         free : (b : Bool) → is_incremental setting.mode ≡ b → cond (is_incremental setting.mode) (Unit {0}) (c.first < t → c.status t ≡ ABORTED)
         free true e = subst (λ (x : Bool). cond x (Unit {0}) (c.first < t → c.status t ≡ ABORTED)) (sym e) tt

@@ -30,7 +30,7 @@ use Rattle.papaya_points.proofs.Making.EndsSum.{sum_lowers}
 
 -- what follows a counting is a later point
 following_below : (reason : Reason) (before : Table) (len : ℕ) (turn : Result ℕ Fault) (sum : Sum) → IsBelow (number_at_making (following reason before len turn)) (5 ∷ number_of_sum sum)
-following_below reason before len (Ok turn) sum = either (nat_le len (2 ^ 48)) (planned len (next_limit reason before.len len) turn)
+following_below reason before len (Ok turn) sum = either (nat_le len (2 ^ 48)) (planned len (next_limit reason before.len before.limit len) turn)
   where
     either : (few : Bool) (table : Table) → IsBelow (number_at_making (if few then at.Makes table else at.Refused Capacity)) (5 ∷ number_of_sum sum)
     either true table = inl (omega arith)

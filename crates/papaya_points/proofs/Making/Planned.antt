@@ -1,11 +1,11 @@
 -- A table that is to be made has a length and a last try.
-use Rattle.std.specs.Prelude.{◌≡◌, ℕ, suc, ◌-◌, ◌^◌, ◌<◌, ◌≤◌, ◌==◌, Bool, true, false, nat_le, if◌then◌else◌, max, min, Result, Ok, Err, IfOk}
+use Rattle.std.specs.Prelude.{◌≡◌, ℕ, suc, ◌-◌, ◌^◌, ◌<◌, ◌≤◌, ◌==◌, ◌&&◌, Bool, true, false, nat_le, if◌then◌else◌, max, min, Result, Ok, Err, IfOk}
 use Rattle.std.specs.Int.{IsPowerOfTwo}
 use Rattle.std.proofs.Common.{refl, sym, subst, ◌∙◌, arith}
 use Rattle.papaya_rule.specs.Given.SeizeWords.declared.at.At.{At}
 use Rattle.papaya_rule.specs.Given.SeizeWords.declared.fault.Fault.{Fault}
 use Rattle.papaya_rule.specs.Given.Seize.World.{World}
-use Rattle.papaya_rule.specs.Given.Tables.Lengths.{next_len, next_limit, next_turn, IsTableLen}
+use Rattle.papaya_rule.specs.Given.Tables.Lengths.{next_len, is_crowded, next_limit, next_turn, IsTableLen}
 use Rattle.papaya_rule.specs.Given.Tables.Probes.{limit_of}
 use Rattle.papaya_rule.specs.Given.Resize.NewTable.{planned, following, making_of}
 use Rattle.papaya_rule.specs.Given.Tables.declared.lengths.Reason.{Reason}
@@ -27,10 +27,10 @@ limit_by : (b : Bool) (len : ℕ) → 8 ≤ len → (if b then len - 1 else limi
 limit_by true len some = omega arith
 limit_by false len some = limit_below _ len some
 
-next_limit_below : (reason : Reason) (before len : ℕ) → 8 ≤ len → next_limit reason before len < len
-next_limit_below (Full met) before len some = limit_by (len == before) len some
-next_limit_below (Reserved additional) before len some = limit_by (len == before) len some
-next_limit_below NoPlace before len some = omega arith
+next_limit_below : (reason : Reason) (before tried len : ℕ) → 8 ≤ len → next_limit reason before tried len < len
+next_limit_below (Full met most) before tried len some = limit_by ((len == before) && is_crowded met tried) len some
+next_limit_below (Reserved additional) before tried len some = limit_below _ len some
+next_limit_below NoPlace before tried len some = omega arith
 
 pub at_least_eight : (len : ℕ) → IsTableLen len → IsTableLen (max len 8)
 at_least_eight len is = let least = is.least in let same : max len 8 ≡ len = omega arith in subst IsTableLen (sym same) is
@@ -45,8 +45,8 @@ module _ {K V : Type 0} (w : World (Node K V)) (caller : ℕ) (setting : Setting
   module _ (reason : Reason) (before : Table) (turn_is : turn ≡ suc before.turn) where
     pub following_facts : (len : ℕ) → IsTableLen len → (r : Result ℕ Fault) → next_turn before.turn ≡ r → MakingFacts w caller setting c blocks link turn (following reason before len r)
     following_facts len is (Ok t) e =
-        facts_if (nat_le len (2 ^ 48)) (at.Makes (planned len (next_limit reason before.len len) t)) _
-        (refl, record { len = is; limit = next_limit_below reason before.len len is.least; turn_is = after e ∙ sym turn_is }) tt
+        facts_if (nat_le len (2 ^ 48)) (at.Makes (planned len (next_limit reason before.len before.limit len) t)) _
+        (refl, record { len = is; limit = next_limit_below reason before.len before.limit len is.least; turn_is = after e ∙ sym turn_is }) tt
       where
         after : next_turn before.turn ≡ Ok t → t ≡ suc before.turn
         after e = grind arith

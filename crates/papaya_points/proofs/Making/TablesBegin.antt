@@ -56,7 +56,7 @@ module _ {K V : Type 0} (w : World (Node K V)) (caller : ℕ) (setting : Setting
     table_after_facts is power reason = behind_facts (begun_for setting before reason) (begun reason)
       where
         begun : (reason : Reason) → MakingFacts w caller setting c blocks (Word (blocks.table t) NEXT) (suc t) (begun_for setting before reason)
-        begun (Full met) = ((t, entered, refl), (refl, omega arith))
+        begun (Full met most) = ((t, entered, refl), (refl, omega arith))
         begun (Reserved additional) = ((t, entered, refl), (refl, omega arith))
         begun NoPlace = counted_facts w caller setting c blocks (Word (blocks.table t) NEXT) (suc t) NoPlace before turn_is power
             (subst IsTableLen (sym (ap (λ (x : Table). x.len) entered.is)) is) 0 setting.initial refl

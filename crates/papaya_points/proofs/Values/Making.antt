@@ -63,7 +63,7 @@ pub first_made_none : (len : ℕ) → MadeNone (making_first len)
 first_made_none len = none_if (nat_le len (2 ^ 48)) _ _ tt tt
 
 following_none : (reason : Reason) (before : Table) (len : ℕ) (turn : Result ℕ Fault) → MadeNone (following reason before len turn)
-following_none reason before len (Ok turn) = none_if (nat_le len (2 ^ 48)) (at.Makes (planned len (next_limit reason before.len len) turn)) (at.Refused Capacity) tt tt
+following_none reason before len (Ok turn) = none_if (nat_le len (2 ^ 48)) (at.Makes (planned len (next_limit reason before.len before.limit len) turn)) (at.Refused Capacity) tt tt
 following_none reason before len (Err fault) = tt
 
 pub next_made_none : (reason : Reason) (before : Table) (len : Result ℕ Fault) → MadeNone (making_of reason before len)

@@ -6,7 +6,7 @@ use Rattle.std.specs.Prelude.{nat_lt, if◌then◌else◌}
 use Rattle.std.proofs.lemmas.Bool.{cases_lt, ltb-true, ltb-false}
 use Rattle.papaya_tables.specs.Lengths.{IsTableLen}
 use Rattle.papaya_tables.specs.Probes.{triangular, probe_from, probe_after, place_at}
-use Rattle.papaya_tables.specs.Trials.{first_trial, next_trial}
+use Rattle.papaya_tables.specs.Trials.{first_trial, trial_on, next_trial}
 use Rattle.papaya_tables.specs.declared.probe.Probe.{Probe}
 use Rattle.papaya_tables.specs.declared.table.Table.{Table}
 use Rattle.papaya_tables.specs.declared.trial.Trial.{Trial}
@@ -55,6 +55,10 @@ module _ {K : Type 0} (c : Chart K) (blocks : Blocks) (code t : ℕ) where
     most = omega arith;
   }
 
+  -- whatever was met at tables before
+  pub on_is : (trial : Trial) (table : Table) → IsTable c blocks table t → IsTableLen (c.len t) → IsTrial c blocks (trial_on trial table code) code t 0
+  on_is trial table entered is_len = let first = first_is table entered is_len in record { table = first.table; place = first.place; try = first.try; most = first.most }
+
   -- whatever was counted of it and those before
   pub trial_met : (trial : Trial) (j met : ℕ) → IsTrial c blocks trial code t j → IsTrial c blocks (record trial { met = met }) code t j
   trial_met trial j met at = record { table = at.table; place = at.place; try = at.try; most = at.most }
@@ -77,7 +81,7 @@ module _ {K : Type 0} (c : Chart K) (blocks : Blocks) (code t : ℕ) where
       goes = next_spot (c.len t) code is_len trial.probe j at.try at.place before_last
 
       by_test : (b : Bool) → nat_lt trial.probe.len trial.table.limit ≡ b
-          → IsNext (if b then Some record { table = trial.table; probe = probe_after trial.probe (trial.table.len - 1); met = trial.met } else None) j
+          → IsNext (if b then Some record { table = trial.table; probe = probe_after trial.probe (trial.table.len - 1); met = trial.met; most = trial.most } else None) j
       by_test true e =
           let l = ltb-true trial.probe.len trial.table.limit e in
           record {
@@ -95,7 +99,7 @@ module _ {K : Type 0} (c : Chart K) (blocks : Blocks) (code t : ℕ) where
   pub next_met : (trial : Trial) (j met : ℕ) → IsNext (next_trial trial) j → IsNext (next_trial (record trial { met = met })) j
   next_met trial j met = by_test (nat_lt trial.probe.len trial.table.limit)
     where
-      by_test : (b : Bool) → IsNext (if b then Some record { table = trial.table; probe = probe_after trial.probe (trial.table.len - 1); met = trial.met } else None) j
-          → IsNext (if b then Some record { table = trial.table; probe = probe_after trial.probe (trial.table.len - 1); met = met } else None) j
+      by_test : (b : Bool) → IsNext (if b then Some record { table = trial.table; probe = probe_after trial.probe (trial.table.len - 1); met = trial.met; most = trial.most } else None) j
+          → IsNext (if b then Some record { table = trial.table; probe = probe_after trial.probe (trial.table.len - 1); met = met; most = trial.most } else None) j
       by_test true next = record { table = next.table; place = next.place; try = next.try; most = next.most }
       by_test false last = last

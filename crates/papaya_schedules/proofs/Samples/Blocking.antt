@@ -5,13 +5,13 @@ use Rattle.seize_words.specs.declared.fault.Fault.TheVariants.{Memory}
 use Rattle.papaya_raw.specs.Given.Tables.declared.lengths.Reason.TheVariants.{Full, NoPlace}
 use Rattle.papaya_raw.specs.Given.Tables.declared.resize_mode.ResizeMode.TheVariants.{Blocking}
 use Rattle.papaya_schedules.specs.declared.call.Call.TheVariants.{On}
-use Rattle.papaya_schedules.specs.declared.call.OneKey.TheVariants.{Get, Insert}
+use Rattle.papaya_schedules.specs.declared.call.OneKey.TheVariants.{Get, Insert, Remove}
 use Rattle.papaya_schedules.specs.declared.call.Answer.TheVariants as answer
 use Rattle.papaya_schedules.specs.declared.event.Event.TheVariants.{Enter, MakeMap, EndMap}
 use Rattle.papaya_schedules.specs.declared.effect.Effect.{Effect}
-use Rattle.papaya_schedules.specs.declared.effect.Effect.TheVariants.{Asked, PairGivenUp, Promoted, Copied, Stored, Counted, Retired, Ended, Taken}
+use Rattle.papaya_schedules.specs.declared.effect.Effect.TheVariants.{Asked, PairGivenUp, Promoted, Copied, Stored, Removed, Counted, Retired, Ended, Taken}
 use Rattle.papaya_schedules.specs.declared.effect.Growth.TheVariants.{ABlock}
-use Rattle.papaya_schedules.specs.declared.effect.Thing.TheVariants.{ATable}
+use Rattle.papaya_schedules.specs.declared.effect.Thing.TheVariants.{APair, ATable}
 use Rattle.papaya_schedules.specs.declared.outcome.Outcome.TheVariants.{Done, Answered, Refused}
 use Rattle.papaya_schedules.specs.Moment.{Place, InMap, GivenBack}
 use Rattle.papaya_schedules.specs.Entry.{Entry}
@@ -19,7 +19,7 @@ use Rattle.papaya_schedules.specs.Steps.{TakesSteps}
 use Rattle.papaya_schedules.specs.Handing.{MovesOn}
 use Rattle.papaya_schedules.proofs.Samples.Words.{no_yes, either, some_thing, small, entry, spot, table, shape, makes_pair, makes_table, call, registered}
 
--- a map with a first table of 8 places, and two pairs in it
+-- a map with a first table of 8 places, and a pair that comes in at the place of its key
 abbrev made : List (Entry ℕ ℕ)
 made =
     entry (Enter (codes "g") (codes "r")) Done 0 []
@@ -29,13 +29,21 @@ made =
 abbrev put : ℕ → ℕ → Entry ℕ ℕ
 put key n = call (On (Insert key 10)) (Answered answer.Absent) 9 (makes_pair (Stored n (spot 0 key) ∷ Counted 0 ∷ []))
 
+-- and removed
+abbrev take : ℕ → ℕ → Entry ℕ ℕ
+take key n = call (On (Remove key)) (Answered (answer.Found n)) 9 (Removed n ∷ Counted 0 ∷ Retired (APair n) ∷ [])
+
+-- eight fill it, and two of them stay
 abbrev filled : List (Entry ℕ ℕ)
-filled = put 5 2 ∷ put 1 1 ∷ made
+filled =
+    take 7 8 ∷ take 6 7 ∷ take 4 6 ∷ take 3 5 ∷ take 2 4 ∷ take 0 3
+    ∷ put 7 8 ∷ put 6 7 ∷ put 4 6 ∷ put 3 5 ∷ put 2 4 ∷ put 0 3 ∷ put 5 2 ∷ put 1 1
+    ∷ made
 
 there_back : ◌≡◌ {A = Place} (InMap 0) GivenBack → ⊥
 there_back h = cc
 
--- the third finds no place; the first copy fits into the next table and the second does not; the table after that has places for both
+-- a further one finds no place, as removed pairs left none; the first copy fits into the next table, the second does not; the one after that has room for both
 abbrev resize : List Effect → List Effect
 resize effects =
     makes_pair
@@ -49,7 +57,7 @@ abbrev retires : List Effect
 retires = Retired (ATable (table 0)) ∷ Retired (ATable (table 1)) ∷ []
 
 abbrev stores : List Effect
-stores = Stored 3 (spot 2 9) ∷ Counted 0 ∷ []
+stores = Stored 9 (spot 2 9) ∷ Counted 0 ∷ []
 
 resizes : MovesOn small filled (put_three (retires ++ stores))
 unfolding lib.Count.count_leading_zeros
@@ -64,7 +72,76 @@ resizes =
             (
               (refl, (refl, refl, refl, omega arith)),
               (
-                (refl, (refl, refl, (Full 0, 2, 8, refl, refl, refl, refl))),
+                (
+                  refl,
+                  (
+                    refl,
+                    refl,
+                    (
+                      Full 2 2,
+                      2,
+                      8,
+                      refl,
+                      (
+                        refl,
+                        (
+                          9,
+                          inl (
+                            1,
+                            1,
+                            inl (
+                              1,
+                              0,
+                              inl (
+                                1,
+                                0,
+                                inl (
+                                  1,
+                                  0,
+                                  inl (
+                                    1,
+                                    0,
+                                    inl (
+                                      1,
+                                      0,
+                                      inl (
+                                        1,
+                                        0,
+                                        inl (
+                                          0,
+                                          1,
+                                          refl,
+                                          (refl, refl),
+                                          refl,
+                                        ),
+                                        (refl, refl),
+                                        refl,
+                                      ),
+                                      (refl, refl),
+                                      refl,
+                                    ),
+                                    (refl, refl),
+                                    refl,
+                                  ),
+                                  (refl, refl),
+                                  refl,
+                                ),
+                                (refl, refl),
+                                refl,
+                              ),
+                              (refl, refl),
+                              refl,
+                            ),
+                            (refl, refl),
+                            refl,
+                          ),
+                        ),
+                      ),
+                      refl,
+                      refl,
+                    ),
+                  ),
+                ),
                 (
                   (refl, (omega arith, omega arith, refl, there_back, omega arith, refl)),
                   (
@@ -116,7 +193,7 @@ resize_half effects = call (On (Insert 9 10)) (Answered answer.Absent) 90 (makes
 passes_early : MovesOn small filled (resize_half (Promoted (table 1) ∷ [])) → ⊥
 passes_early h = no_yes h.finds.1.1.1.1.1.1.0.1.3
 
-stores_ahead : MovesOn small filled (resize_half (Stored 3 (spot 1 3) ∷ [])) → ⊥
+stores_ahead : MovesOn small filled (resize_half (Stored 9 (spot 1 3) ∷ [])) → ⊥
 stores_ahead h = other_turn h.finds.1.1.1.1.1.1.0.1.3
 
 -- the further table is refused, and the map ends: its pairs come by the places of the root's table, whatever was copied

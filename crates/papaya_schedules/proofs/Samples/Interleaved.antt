@@ -147,7 +147,76 @@ since_5 = (
                 (
                   (refl, (refl, refl, refl, omega arith)),
                   (
-                    (refl, (refl, refl, (Full 0, 8, 8, refl, refl, refl, refl))),
+                    (
+                      refl,
+                      (
+                        refl,
+                        refl,
+                        (
+                          Full 8 8,
+                          8,
+                          8,
+                          refl,
+                          (
+                            refl,
+                            (
+                              8,
+                              inl (
+                                7,
+                                1,
+                                inl (
+                                  6,
+                                  1,
+                                  inl (
+                                    5,
+                                    1,
+                                    inl (
+                                      4,
+                                      1,
+                                      inl (
+                                        3,
+                                        1,
+                                        inl (
+                                          2,
+                                          1,
+                                          inl (
+                                            1,
+                                            1,
+                                            inl (
+                                              0,
+                                              1,
+                                              refl,
+                                              (refl, refl),
+                                              refl,
+                                            ),
+                                            (refl, refl),
+                                            refl,
+                                          ),
+                                          (refl, refl),
+                                          refl,
+                                        ),
+                                        (refl, refl),
+                                        refl,
+                                      ),
+                                      (refl, refl),
+                                      refl,
+                                    ),
+                                    (refl, refl),
+                                    refl,
+                                  ),
+                                  (refl, refl),
+                                  refl,
+                                ),
+                                (refl, refl),
+                                refl,
+                              ),
+                            ),
+                          ),
+                          refl,
+                          refl,
+                        ),
+                      ),
+                    ),
                     (
                       (refl, (refl, omega arith, omega arith, refl)),
                       ((refl, (refl, refl, refl, omega arith, refl)), ((refl, (omega arith, refl)), tt)),

@@ -233,20 +233,20 @@ of_full x count is h = by (nat_le 16 count) (nat_le count 4) is
     by false true e = omega (arith, h, e)
     by false false e = omega (arith, h, e)
 
-of_count : (met count initial : ℕ) → initial ≡ 1 → Has (next_len (Full met) 32 count initial) 128 → ⊥
-of_count met count initial one has = of_full (max (by_count 32 (max count met) initial) 8) (max count met) same full
+of_count : (met most count initial : ℕ) → initial ≡ 1 → Has (next_len (Full met most) 32 count initial) 128 → ⊥
+of_count met most count initial one has = of_full (max (by_count 32 (max count most) initial) 8) (max count most) same full
   where
-    full : 128 ≡ max (by_count 32 (max count met) initial) 8
-    full = had (nat_le (max (by_count 32 (max count met) initial) 8) (2 ^ 48)) (max (by_count 32 (max count met) initial) 8) 128 has
+    full : 128 ≡ max (by_count 32 (max count most) initial) 8
+    full = had (nat_le (max (by_count 32 (max count most) initial) 8) (2 ^ 48)) (max (by_count 32 (max count most) initial) 8) 128 has
 
-    same : max (by_count 32 (max count met) initial) 8 ≡ max (by_count 32 (max count met) 1) 8
+    same : max (by_count 32 (max count most) initial) 8 ≡ max (by_count 32 (max count most) 1) 8
     same = cc one
 
 other_power : ◌≡◌ {A = ℕ} 128 64 → ⊥
 other_power h = omega (arith, h)
 
 -- so one of four times the length comes in by no rule, but for a reservation
-no_rule : (c : UnderWay ℕ ℕ) (moments : List (Moment ℕ ℕ)) → c.call ≡ On (Insert 9 10) → IsNextShape small c moments 0 32 (shape 128 35) → ⊥
-no_rule c moments called (Full met, count, initial, one, may, is, limit) = of_count met count initial one is
+no_rule : (c : UnderWay ℕ ℕ) (moments : List (Moment ℕ ℕ)) → c.call ≡ On (Insert 9 10) → IsNextShape small c moments 0 (linked 0 32 25) (shape 128 35) → ⊥
+no_rule c moments called (Full met most, count, initial, one, may, is, limit) = of_count met most count initial one is
 no_rule c moments called (NoPlace, count, initial, one, may, is, limit) = other_power is
 no_rule c moments called (Reserved more, count, initial, one, may, is, limit) = let never : ⊥ = rw called at may in never

@@ -1,6 +1,6 @@
 -- What the samples are told with: entries of logs, and a first log at each of its moments.
-use Rattle.std.specs.Prelude.{codes, ◌+◌}
-use Rattle.std.proofs.Common.{◌≡◌, ◌<◌, ◌≤◌, ℕ, true, false, List, [], ◌∷◌, ◌⊎◌, inl, inr, arith, Option, Some, None}
+use Rattle.std.specs.Prelude.{codes, ◌+◌, ◌&&◌, if◌then◌else◌}
+use Rattle.std.proofs.Common.{◌≡◌, ◌<◌, ◌≤◌, ℕ, zero, suc, Bool, true, false, refl, List, [], ◌∷◌, ◌⊎◌, inl, inr, arith, Option, Some, None}
 use Rattle.seize_words.specs.declared.fault.Fault.TheVariants.{Busy}
 use Rattle.papaya_raw.specs.Given.Tables.declared.resize_mode.ResizeMode.TheVariants.{Incremental}
 use Rattle.papaya_runs.specs.declared.outcome.TableShape.{TableShape}
@@ -21,8 +21,9 @@ use Rattle.papaya_schedules.specs.declared.outcome.Outcome.{Outcome}
 use Rattle.papaya_schedules.specs.declared.outcome.Outcome.TheVariants.{Done, Slot, Goes, Answered, Refused}
 use Rattle.papaya_schedules.specs.Sequential.{Meaning, Answers, Refuses, Wants, Deed, Leaves, Puts, Shift, shifts}
 use Rattle.papaya_schedules.specs.Terms.{Terms}
-use Rattle.papaya_schedules.specs.Moment.{Place, InMap, Behind}
+use Rattle.papaya_schedules.specs.Moment.{Place, InMap, Behind, Moment}
 use Rattle.papaya_schedules.specs.Entry.{Entry}
+use Rattle.papaya_schedules.specs.Tries.{try_at, has_pair_at, is_taken_at, Meets}
 
 -- neither of two is so
 pub either : {A B : Type 0} → (A → ⊥) → (B → ⊥) → A ⊎ B → ⊥
@@ -124,6 +125,28 @@ nothing_below h = omega (arith, h)
 
 pub nothing_between : 1 < 1 → ⊥
 nothing_between h = omega (arith, h)
+
+-- the first so many tries of a hash in a table of the first map are taken at a moment
+abbrev pub are_taken : ℕ → ℕ → ℕ → Moment ℕ ℕ → ℕ → Bool
+are_taken turn len hash m zero = true
+are_taken turn len hash m (suc try) = are_taken turn len hash m try && is_taken_at 0 (try_at turn len hash try) m
+
+-- and so many of them by pairs of the map
+abbrev pub met_at : ℕ → ℕ → ℕ → Moment ℕ ℕ → ℕ → ℕ
+met_at turn len hash m zero = 0
+met_at turn len hash m (suc try) = met_at turn len hash m try + (if has_pair_at 0 (try_at turn len hash try) m then 1 else 0)
+
+-- so a call that tries them then meets so many
+pub tries_meet : (turn len hash : ℕ) (m : Moment ℕ ℕ) (moments : List (Moment ℕ ℕ)) (tries : ℕ) → are_taken turn len hash m tries ≡ true
+    → Meets 0 turn len hash (m ∷ moments) tries (met_at turn len hash m tries)
+tries_meet turn len hash m moments zero taken = refl
+tries_meet turn len hash m moments (suc try) taken =
+    let b = both (are_taken turn len hash m try) (is_taken_at 0 (try_at turn len hash try) m) taken in
+    inl (met_at turn len hash m try, (if has_pair_at 0 (try_at turn len hash try) m then 1 else 0), tries_meet turn len hash m moments try b.0, (b.1, refl), refl)
+  where
+    both : (a b : Bool) → (a && b) ≡ true → (a ≡ true) × (b ≡ true)
+    both true b e = (refl, e)
+    both false b e = absurd (cc e)
 
 -- a collector with batches of one, one processor, and room for one map
 abbrev pub small : Terms

@@ -11,7 +11,7 @@ use Rattle.papaya_purposes.specs.Given.Schedules.declared.effect.Thing.TheVarian
 use Rattle.papaya_purposes.specs.Given.Schedules.Effects.{at_stage, with_effect, with_effects}
 use Rattle.papaya_purposes.specs.Given.Schedules.Moment.{IsReclaimed, IsRetired, IsTaken, Moment, Stage, TableThere}
 use Rattle.papaya_purposes.specs.Given.Schedules.Things.{same_table}
-use Rattle.papaya_purposes.specs.Given.Schedules.Views.{last_length, tables_of}
+use Rattle.papaya_purposes.specs.Given.Schedules.Views.{last_of, tables_of}
 use Rattle.papaya_purposes.specs.Given.Rule.Chart.{Chart}
 use Rattle.papaya_purposes.specs.Given.Effects.Known.{Known}
 use Rattle.papaya_purposes.specs.Given.Finishes.Maps.{Standing}
@@ -30,12 +30,11 @@ at_last : (xs : List ℕ) (x : ℕ) → at_turn (xs ++ x ∷ []) (length xs) ≡
 at_last [] x = refl
 at_last (y ∷ xs) x = at_last xs x
 
-pub last_at : (ts : List TableThere) (t n : ℕ) → at_turn (lengths_in ts) t ≡ Some n → suc t ≡ length ts → last_length ts ≡ n
-last_at [] t n e l = absurd (cc e)
-last_at (x ∷ []) zero n e l = let one : x.shape.len ≡ n = cc e in one
-last_at (x ∷ []) (suc t) n e l = absurd (cc e)
-last_at (x ∷ y ∷ ts) zero n e l = absurd (omega (arith, l))
-last_at (x ∷ y ∷ ts) (suc t) n e l = last_at (y ∷ ts) t n e (omega (arith, l))
+pub last_at : (x : TableThere) (ts : List TableThere) (t n : ℕ) → at_turn (lengths_in (x ∷ ts)) t ≡ Some n → suc t ≡ length (x ∷ ts) → (last_of x ts).shape.len ≡ n
+last_at x [] zero n e l = let one : x.shape.len ≡ n = cc e in one
+last_at x [] (suc t) n e l = absurd (cc e)
+last_at x (y ∷ ts) zero n e l = absurd (omega (arith, l))
+last_at x (y ∷ ts) (suc t) n e l = last_at y ts t n e (omega (arith, l))
 
 -- of a map that is shown, the table of each turn
 

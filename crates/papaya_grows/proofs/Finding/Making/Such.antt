@@ -81,7 +81,7 @@ module _ (lengths : List ℕ) where
         long : max len 8 ≡ len
         long = at_least_eight (before.len * 2) len (few_is (max (before.len * 2) 8) len is)
 
-        by : (q : Bool) → Such (if q then makes.Makes (planned (max len 8) (next_limit NoPlace before.len (max len 8)) turn) else makes.Refused Capacity)
+        by : (q : Bool) → Such (if q then makes.Makes (planned (max len 8) (next_limit NoPlace before.len before.limit (max len 8)) turn) else makes.Refused Capacity)
         by true = (t, before.len, turn_is before.turn turn e ∙ ap (λ (k : ℕ). suc k) there, length_is, subst (λ (r : Result ℕ Fault). Has r (max len 8)) (sym is) long, refl)
         by false = tt
 

@@ -5,13 +5,12 @@ use Rattle.papaya_points.specs.Given.SeizeWords.Op.{Out, Found, Stored, Exchange
 use Rattle.papaya_points.specs.Given.SeizeWords.Word.{block_in}
 use Rattle.papaya_points.specs.Given.SeizeWords.declared.fault.Fault.TheVariants.{RemoveNothing}
 use Rattle.papaya_points.specs.Given.Tables.declared.lengths.TheConstants.{FIRST_LEN}
-use Rattle.papaya_points.specs.Given.Tables.declared.lengths.Reason.TheVariants.{Full}
 use Rattle.papaya_points.specs.Given.Tables.declared.marks.TheConstants.{TOMBSTONE}
 use Rattle.papaya_points.specs.Given.Tables.declared.node.Node.{Node}
 use Rattle.papaya_points.specs.Given.Tables.declared.node.Node.TheVariants as node
 use Rattle.papaya_points.specs.Given.Raw.CallAsks.{with_absent, with_present, absent_told, present_told, told_at}
 use Rattle.papaya_points.specs.Given.Raw.CallFills.{taken_back, filled, putting_by, fill_by, emptied, fills_with, given_up, asks_at}
-use Rattle.papaya_points.specs.Given.Raw.CallPoints.{word_to, standing, going, over, ending, following_made, storing, burying, at_gap, gap_by, asking_at, pair_by, asking_of}
+use Rattle.papaya_points.specs.Given.Raw.CallPoints.{word_to, standing, going, over, ending, full_for, following_made, storing, burying, at_gap, gap_by, asking_at, pair_by, asking_of}
 use Rattle.papaya_points.specs.Given.Raw.Replies.{owned, value_for, as_own, back, back_present, with_back}
 use Rattle.papaya_points.specs.Given.Raw.declared.machines.answer.KeyAnswer.TheVariants as answers
 use Rattle.papaya_points.specs.Given.Raw.declared.machines.answer.Called.{Called}
@@ -126,7 +125,7 @@ module _ {K V Q : Type 0} (present : There) (absent : Missing) (takes : Takes) w
         (λ e. fit_removes more word some may) (λ e. ((is_there, is_missing, is_told, is_own, (more, some, may)), tt))
 
     pub fit_following : IsMore present absent takes → ComesFit present absent takes (following_made p)
-    fit_following more = ((is_there, is_missing, is_told, is_own, (more, table_after_room p.setting p.trial.table (Full p.trial.met))), tt)
+    fit_following more = ((is_there, is_missing, is_told, is_own, (more, table_after_room p.setting p.trial.table (full_for p.trial))), tt)
 
     -- where the key is missing, and it asks there
     module _ (asks : absent ≡ missing.Asks) where

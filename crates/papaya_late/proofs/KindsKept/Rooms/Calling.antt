@@ -16,11 +16,10 @@ use Rattle.papaya_points.proofs.Given.SeizeRule.Rows.Leaving.{steps_back}
 use Rattle.papaya_points.specs.Given.Tables.Chunks.{is_incremental}
 use Rattle.papaya_points.specs.Given.Tables.Finding.{finding, may_name}
 use Rattle.papaya_points.specs.Given.Tables.TablePlaces.{at_word}
-use Rattle.papaya_points.specs.Given.Tables.Trials.{next_trial, with_met}
+use Rattle.papaya_points.specs.Given.Tables.Trials.{found_full, next_trial, with_met}
 use Rattle.papaya_points.specs.Given.Tables.declared.finding.Finding.{Finding}
 use Rattle.papaya_points.specs.Given.Tables.declared.finding.Finding.TheVariants as finds
 use Rattle.papaya_points.specs.Given.Tables.declared.lengths.Reason.{Reason}
-use Rattle.papaya_points.specs.Given.Tables.declared.lengths.Reason.TheVariants.{Full}
 use Rattle.papaya_points.specs.Given.Tables.declared.lengths.TheConstants.{FIRST_LEN}
 use Rattle.papaya_points.specs.Given.Tables.declared.marks.TheConstants.{TOMBSTONE}
 use Rattle.papaya_points.specs.Given.Tables.declared.node.Node.{Node}
@@ -42,7 +41,7 @@ use Rattle.papaya_points.specs.Given.Raw.Call.{call_plan, made, makes_of, root_f
 use Rattle.papaya_points.specs.Given.Raw.Call as calls
 use Rattle.papaya_points.specs.Given.Raw.CallAsks.{absent_told, present_told, told_at, with_absent, with_present}
 use Rattle.papaya_points.specs.Given.Raw.CallFills.{emptied, fill_by, filled, fills_with, given_up, putting_by}
-use Rattle.papaya_points.specs.Given.Raw.CallPoints.{aim_of, asking_at, asking_of, at_free, at_gap, at_last, at_pair, burying, changed, counted, ending, entering, following_made, gap_by, going, having_met, over, pair_by, standing, storing, tableless, told, told_of, went_on}
+use Rattle.papaya_points.specs.Given.Raw.CallPoints.{aim_of, asking_at, asking_of, at_free, at_gap, at_last, at_pair, burying, changed, counted, ending, entering, full_for, following_made, gap_by, going, having_met, over, pair_by, standing, storing, tableless, told, told_of, went_on}
 use Rattle.papaya_points.specs.Given.Raw.Replies.{as_own, value_for}
 use Rattle.papaya_points.specs.Given.Raw.declared.machines.answer.Called.{Called}
 use Rattle.papaya_points.specs.Given.Raw.declared.machines.answer.Called.TheVariants as called
@@ -126,7 +125,7 @@ module _ (Is : Fault → Type 0) (Last : Table → Reason → Type 0) where
     ending_as end so = either (p.own == 0) (over p end) (going p (at.Drops end)) (over_as end so) (drops_as end so)
 
     following_as : IsLastFor Is Last p.trial.table → So (following_made p)
-    following_as last = (table_full_as Is Last p.setting p.trial.table p.trial.met (last (Full p.trial.met) tt), tt)
+    following_as last = (table_full_as Is Last p.setting p.trial.table p.trial.met (found_full p.trial).most (last (full_for p.trial) tt), tt)
 
     -- its first table is not too long
     firsts_as : StandsInMaking Is Last (first_table p.setting FIRST_LEN).stands

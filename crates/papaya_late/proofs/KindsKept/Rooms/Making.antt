@@ -47,7 +47,7 @@ few_long places number = by (nat_le places (2 ^ 48))
     by false = refl
 
 len_long : (r : Reason) (len count initial : ℕ) → IsLong (next_len r len count initial)
-len_long (reason.Full met) len count initial = few_long _ _
+len_long (reason.Full met most) len count initial = few_long _ _
 len_long (reason.Reserved additional) len count initial = few_long _ _
 len_long reason.NoPlace len count initial = few_long _ _
 
@@ -87,7 +87,7 @@ module _ (Is : Fault → Type 0) (Last : Table → Reason → Type 0) where
     where
       by : (b : Bool) → nat_lt before.turn (2 ^ 63) ≡ b → StandsInMaking Is Last (following r before len (if b then Ok (before.turn + 1) else Err Capacity))
       by true e =
-          chosen (nat_le len (2 ^ 48)) (makes.Makes (planned len (next_limit r before.len len) (before.turn + 1))) (makes.Refused Capacity) tt (λ many. long (above len (2 ^ 48) many))
+          chosen (nat_le len (2 ^ 48)) (makes.Makes (planned len (next_limit r before.len before.limit len) (before.turn + 1))) (makes.Refused Capacity) tt (λ many. long (above len (2 ^ 48) many))
       by false e = late (at_least before.turn (2 ^ 63) e)
 
   making_as : (r : Reason) (before : Table) (len : Result ℕ Fault) → IsLong len → IfOk len (λ x. 2 ^ 48 < x → Is Capacity) → (len ≡ Err Capacity → Is Capacity) → (2 ^ 63 ≤ before.turn → Is Capacity)
@@ -109,7 +109,7 @@ module _ (Is : Fault → Type 0) (Last : Table → Reason → Type 0) where
   begun_as : (setting : Setting) (before : Table) (r : Reason) → Last before r → EndsSo Is Last setting → StandsInMaking Is Last (begun_for setting before r)
   begun_as setting before reason.NoPlace last ends = after_as reason.NoPlace before 0 setting.initial (ends before reason.NoPlace 0 last)
   begun_as setting before (reason.Reserved additional) last ends = last
-  begun_as setting before (reason.Full met) last ends = last
+  begun_as setting before (reason.Full met most) last ends = last
 
   pub first_table_as : (setting : Setting) (len : ℕ) → (2 ^ 48 < len → Is Capacity) → StandsInMaking Is Last (first_table setting len).stands
   first_table_as setting len long = first_as (max len 8) (λ more. long (omega (arith, more)))
@@ -117,8 +117,8 @@ module _ (Is : Fault → Type 0) (Last : Table → Reason → Type 0) where
   pub table_after_as : (setting : Setting) (before : Table) (r : Reason) → Last before r → EndsSo Is Last setting → StandsInMaking Is Last (table_after setting before r).stands
   table_after_as setting before r last ends = begun_as setting before r last ends
 
-  pub table_full_as : (setting : Setting) (before : Table) (met : ℕ) → Last before (reason.Full met) → StandsInMaking Is Last (table_after setting before (reason.Full met)).stands
-  table_full_as setting before met last = last
+  pub table_full_as : (setting : Setting) (before : Table) (met most : ℕ) → Last before (reason.Full met most) → StandsInMaking Is Last (table_after setting before (reason.Full met most)).stands
+  table_full_as setting before met most last = last
 
   pub table_reserved_as : (setting : Setting) (before : Table) (len : ℕ) → (2 ^ 48 < len → Is Capacity) → (2 ^ 63 ≤ before.turn → Is Capacity)
       → StandsInMaking Is Last (table_reserved setting before len).stands

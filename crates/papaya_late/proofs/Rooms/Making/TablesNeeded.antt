@@ -39,7 +39,7 @@ module _ {K V : Type 0} (w : World (Node K V)) (caller : ℕ) (setting : Setting
         → MakingFacts w caller setting c blocks (Word (blocks.table t) NEXT) (suc t) (following (Reserved 0) before (max len 8) r)
     too_long len many (Ok turn) =
         subst (λ (b : Bool). MakingFacts w caller setting c blocks (Word (blocks.table t) NEXT) (suc t)
-        (if b then at.Makes (planned (max len 8) (next_limit (Reserved 0) before.len (max len 8)) turn) else at.Refused Capacity)) (sym many) tt
+        (if b then at.Makes (planned (max len 8) (next_limit (Reserved 0) before.len before.limit (max len 8)) turn) else at.Refused Capacity)) (sym many) tt
     too_long len many (Err fault) = tt
 
     pub table_reserved_begins : (len : ℕ) → (len ≤ 2 ^ 48 → IsTableLen len)

@@ -9,9 +9,9 @@ use crate::machines::answer::Called;
 use crate::machines::asking::{Asking, Gap, Told};
 use crate::machines::call::{Calling, KeyCall};
 use papaya_resize::NewTable;
-use papaya_tables::Node;
 use papaya_tables::lengths::{FIRST_LEN, Reason};
 use papaya_tables::marks::TOMBSTONE;
+use papaya_tables::{Node, Trial};
 use seize_words::{Link, Memory};
 
 impl<K, V, Q> KeyCall<K, V, Q> {
@@ -35,8 +35,12 @@ impl<K, V, Q> KeyCall<K, V, Q> {
     pub(super) fn make_next(&mut self) -> Called<Node<K, V>>
         ensures { (self.new, result) ≡ following_made self.old }
     {
-        let (table, met) = (self.trial.table, self.trial.met);
-        self.go_to(Calling::Allocs(NewTable::after(self.setting, table, Reason::Full(met))))
+        self.trial = self.trial.found_full();
+        let Trial {
+            table, met, most, ..
+        } = self.trial;
+        let reason = Reason::Full { met, most };
+        self.go_to(Calling::Allocs(NewTable::after(self.setting, table, reason)))
     }
 
     /// Goes on where the key is missing, to store a pair.

@@ -219,6 +219,7 @@ impl<K, V, Q> KeyCall<K, V, Q> {
                 table,
                 probe: Probe { i: 0, len: 0 },
                 met: 0,
+                most: 0,
             },
             helped: false,
             stands,

@@ -11,7 +11,7 @@ use crate::machines::call::{Calling, KeyCall};
 use papaya_resize::{Copier, NewTable};
 use papaya_tables::lengths::FIRST_LEN;
 use papaya_tables::table_words::NEXT;
-use papaya_tables::{Equivalent, Node, Table, Trial};
+use papaya_tables::{Equivalent, Node, Table};
 use seize::{Machine, Progress};
 use seize_words::{At, Link, Memory};
 use std::hash::Hash;
@@ -72,7 +72,7 @@ impl<K, V, Q> KeyCall<K, V, Q> {
     pub(super) fn enter(&mut self, table: Table) -> Called<Node<K, V>>
         ensures { (self.new, result) ≡ entering self.old table }
     {
-        self.trial = Trial::first(table, self.hash);
+        self.trial = self.trial.on(table, self.hash);
         self.go_to(Calling::Probes)
     }
 

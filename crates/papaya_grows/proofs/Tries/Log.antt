@@ -1,0 +1,104 @@
+-- Maps have no fewer tables at later moments of a run. So a call that makes a table behind the last one has found that full, at moments since it began.
+use Rattle.std.specs.Prelude.{◌≡◌, ◌+◌, ◌≤◌, ◌==◌, nat_lt, ℕ, zero, suc, Bool, true, false, List, [], ◌∷◌, Option, Some, None, length, if◌then◌else◌}
+use Rattle.std.proofs.Common.{refl, arith, inl, inr}
+use Rattle.papaya_purposes.specs.Given.Raw.declared.machines.call.Calling.{Calling}
+use Rattle.papaya_purposes.specs.Given.Raw.declared.machines.call.Calling.TheVariants as at
+use Rattle.papaya_purposes.specs.Given.Schedules.declared.call.Call.{Call}
+use Rattle.papaya_purposes.specs.Given.Schedules.declared.event.Event.{Event}
+use Rattle.papaya_purposes.specs.Given.Schedules.declared.event.Event.TheVariants.{Begin, MakeMap, OneCall}
+use Rattle.papaya_purposes.specs.Given.Schedules.declared.outcome.Outcome.{Outcome}
+use Rattle.papaya_purposes.specs.Given.Schedules.declared.outcome.Outcome.TheVariants.{Done, Goes}
+use Rattle.papaya_purposes.specs.Given.Schedules.After.{after, moment, moments_from}
+use Rattle.papaya_purposes.specs.Given.Schedules.Beginning.{at_work, begun, with_call}
+use Rattle.papaya_purposes.specs.Given.Schedules.Entry.{Entry, acted_on, caller_of, is_busy, nameless}
+use Rattle.papaya_purposes.specs.Given.Schedules.Lists.{OneOf}
+use Rattle.papaya_purposes.specs.Given.Schedules.Moment.{Moment, UnderWay as CallThere, start}
+use Rattle.papaya_purposes.specs.Given.Schedules.Tries.{FindsTaken, Meets, try_at}
+use Rattle.papaya_purposes.specs.Given.Schedules.Views.{call_of, number_of}
+use Rattle.papaya_purposes.specs.Given.Callers.Together.{Counting, ForRoom, OnKey, OverAll, UnderWay}
+use Rattle.papaya_purposes.specs.Given.Executor.IsAt.{Scene}
+use Rattle.papaya_purposes.proofs.Given.Histories.Logs.{each_of}
+use Rattle.papaya_purposes.specs.Given.Finds.Linking.{FoundFull, HasFoundFull}
+use Rattle.papaya_purposes.specs.Given.Finds.Within.{many_of}
+use Rattle.papaya_purposes.proofs.Given.Finds.Grows.Steps.{tables_have_been}
+use Rattle.papaya_grows.specs.Tries.{HasTaken, MeetsBy, ShowsTries, TakenOrPassed, TriedAt}
+use Rattle.papaya_grows.proofs.Finding.Alike.{many_same}
+
+module _ {K V : Type 0} (map : ℕ) where
+  call_tables : (caller guard : List ℕ) (call : Call K V) (o : Option ℕ) (m : Moment K V) → (with_call caller guard call o m).tables ≡ m.tables
+  call_tables caller guard call None m = refl
+  call_tables caller guard call (Some of) m = refl
+
+  -- what an event begins links no table
+  begun_tables : (event : Event K V) (outcome : Outcome V) (m : Moment K V) → (begun event outcome m).tables ≡ m.tables
+  begun_tables (Begin caller guard name call) Goes m = call_tables caller guard call (number_of name m) m
+  begun_tables (OneCall guard name call) outcome m = by (is_busy outcome)
+    where
+      by : (q : Bool) → (if q then m else with_call nameless guard call (number_of name m) m).tables ≡ m.tables
+      by true = refl
+      by false = call_tables nameless guard call (number_of name m) m
+  begun_tables (MakeMap name mode capacity) Done m = refl
+  begun_tables _ _ m = refl
+
+  pub many_grows : (e : Entry K V) (m : Moment K V) → many_of map m ≤ many_of map (after e m)
+  many_grows e m =
+      let begins = many_same m (at_work e m) (begun_tables e.event e.outcome m) map in
+      let works = tables_have_been K V (caller_of e.event) (acted_on e.event (at_work e m)) e.effects (at_work e m) map in
+      omega (arith, begins, works)
+
+  -- what was so at a moment of the log was so where the map had no more tables than at the last one
+  module _ (P : Moment K V → Type 0) where
+    abbrev Late : List (Entry K V) → Moment K V → Type 0
+    Late log x = P x × (many_of map x ≤ many_of map (moment log))
+
+    none_late : (q : Bool) → OneOf P (if q then start ∷ [] else []) → OneOf (Late []) (if q then start ∷ [] else [])
+    none_late true (inl so) = inl (so, omega arith)
+    none_late true (inr none) = inr none
+    none_late false none = none
+
+    -- with one more event
+    more_late : (e : Entry K V) (log : List (Entry K V)) (ms : List (Moment K V)) → (OneOf P ms → OneOf (Late log) ms) → (q : Bool) → OneOf P (if q then [] else moment (e ∷ log) ∷ ms)
+        → OneOf (Late (e ∷ log)) (if q then [] else moment (e ∷ log) ∷ ms)
+    more_late e log ms late true none = none
+    more_late e log ms late false (inl so) = inl (so, omega arith)
+    more_late e log ms late false (inr there) =
+        let more = many_grows e (moment log) in inr (each_of (Late log) (Late (e ∷ log)) ms (λ x so. (so.0, (let few = so.1 in omega (arith, few, more)))) (late there))
+
+    pub one_late : (begun : ℕ) (log : List (Entry K V)) → OneOf P (moments_from begun log) → OneOf (Late log) (moments_from begun log)
+    one_late begun [] one = none_late (begun == 0) one
+    one_late begun (e ∷ log) one = more_late e log (moments_from begun log) (one_late begun log) (nat_lt (length (e ∷ log)) begun) one
+
+-- so tries at the last table meet what they meet at these moments
+module _ {K V : Type 0} (map begun : ℕ) (log : List (Entry K V)) (m : Moment K V) (more : many_of map (moment log) ≤ many_of map m) (turn len hash : ℕ) (last : suc turn ≡ many_of map m) where
+  abbrev moments : List (Moment K V)
+  moments = m ∷ moments_from begun log
+
+  module _ (try met before pairs : ℕ) (rest : Meets map turn len hash moments try before) (sum : met ≡ before + pairs) where
+    abbrev Found : Moment K V → Type 0
+    Found x = (b : ℕ) × (q : ℕ) × Meets map turn len hash moments try b × FindsTaken map (try_at turn len hash try) x q × (met ≡ b + q)
+
+    found_at : (x : Moment K V) → many_of map x ≤ many_of map m → TakenOrPassed map (try_at turn len hash try, pairs) x → Found x
+    found_at x few (inl found) = (before, pairs, rest, found, sum)
+    found_at x few (inr passed) = absurd (omega (arith, few, passed, last))
+
+    found_one : HasTaken map begun log m (try_at turn len hash try, pairs) → OneOf Found moments
+    found_one (inr now) = inl (found_at m (omega arith) now)
+    found_one (inl had) =
+        inr (each_of (λ x. TakenOrPassed map (try_at turn len hash try, pairs) x × (many_of map x ≤ many_of map (moment log))) Found (moments_from begun log)
+        (λ x so. found_at x (let few = so.1 in omega (arith, few, more)) so.0) (one_late map (λ x. TakenOrPassed map (try_at turn len hash try, pairs) x) begun log had))
+
+  meets_so : (tries met : ℕ) → MeetsBy (HasTaken map begun log m) turn len hash tries met → Meets map turn len hash moments tries met
+  meets_so zero met so = so
+  meets_so (suc try) met (before, pairs, rest, why, sum) = found_one try met before pairs (meets_so try before rest) sum why
+
+-- The promise: what a call finds full it has found full since it began.
+pub found_full_so : {K V : Type 0} (name : ℕ → List ℕ) (log : List (Entry K V)) (m : Moment K V) (s : Scene K V) → ShowsTries name log m s → (map i : ℕ) → many_of map (moment log) ≤ many_of map m
+    → (u : UnderWay K V K) → s.calls map i ≡ Some u → (c : CallThere K V) → call_of (name i) m ≡ Some c → FoundFull map (many_of map m) (m ∷ moments_from c.begun log) u
+found_full_so name log m s tries map i more (OnKey u) here c c_is = by u.call.stands (tries map i (OnKey u) here c c_is)
+  where
+    by : (stands : Calling) → TriedAt (HasTaken map c.begun log m) u.call stands → HasFoundFull map (many_of map m) (m ∷ moments_from c.begun log) u.call stands
+    by (at.Allocs making) so = λ last. (u.call.hash, meets_so map c.begun log m more u.call.trial.table.turn u.call.trial.table.len u.call.hash last (suc u.call.trial.table.limit) u.call.trial.met so.1)
+    by _ so = tt
+found_full_so name log m s tries map i more (ForRoom r) here c c_is = tt
+found_full_so name log m s tries map i more (Counting sum) here c c_is = tt
+found_full_so name log m s tries map i more (OverAll o) here c c_is = tt
