@@ -1,118 +1,148 @@
--- Slots that give up their places, and places that are slots again. Assumes `Logic`.
-use Rattle.std.proofs.Common.{◌≡◌, ℕ, suc, ◌+◌, ◌*◌, ◌^◌, ◌<◌, Bool, true, false, List, [], ◌∷◌, ◌++◌, length, get_or, replicate, T, refl, sym, ap, ◌∙◌, subst, arith}
+-- Slots give up their places, and places are slots again: one call each. Assumes `Logic`.
+use Rattle.std.proofs.Common.{◌≡◌, ℕ, zero, suc, ◌+◌, ◌*◌, ◌^◌, ◌<◌, Bool, true, false, T, List, [], ◌∷◌, ◌++◌, length, get_or, refl, sym, ap, ◌∙◌, subst, arith}
+use Rattle.std.proofs.lemmas.List.{length-replicate}
 use seplogic.Ra.Ura.{Ura}
-use mir.Val.{Val, vint, vptr, vstruct, of_list, has_ty, WT}
-use mir.Syntax.{w64}
+use mir.Val.{Val, WT, has_ty, vint, vptr, vstruct, of_list}
+use mir.Syntax.{w64, Callee}
+use prog.Model.{Model}
+use prog.Wired.{Wired}
 use base.Fraction.{full_share}
-use base.Logic.{SProp, ent, sep, ex, guard, emp, never, mono∗, id⊢}
+use base.Logic.{SProp, ent, sep, guard, emp, never, via, fst∗, mono∗, id⊢}
 use base.Fml.{Lft, Share, Fml, ftrue, fsep, flft}
-use prog.Memory.{Memory}
-use prog.Routine.{Routine}
 use types.Logic.{Logic, sem}
-use types.Kit.{‵, raw, ◌⊛◌, some as items, later, ◌$◌, ◌∵◌, !, qed, move, keep, drop, use0, use1, split, join, pick, rewrite, fsplit, fsplit3, fjoin, fjoin3, fpick, feq_l, feq_i, flt_i, flt_l, check, show, await, updating, now, done}
+use types.Kit.{Item, mean, ‵, raw, ◌⊛◌, some as items, given, later, ◌$◌, ◌∵◌, !, qed, move, keep, drop, use0, use1, split, join, pick, rewrite, fsplit, fsplit3, fjoin, fpick, feq_l, feq_i, flt_i, flt_l, check, show, await, updating, now, done}
 use contract.BorrowLft.{◌⊑◌}
-use contract.Monad.{Fun, fact, fact_i}
+use contract.Monad.{fact, fact_i}
+use contract.Running.{Running, MachineTables, tables}
 use denote.RattleType.{RattleType}
 use denote.Builtin.{usize, u64, RawPtr}
 use denote.Param.{layout}
-use denote.RawPtr.{Ptr, block_ptr, block_of, count_of, at_block, InBlock, in_block, in_a_block}
 use denote.Plain.{uint_in, uint_out}
+use denote.RawPtr.{Ptr, block_ptr, block_of, count_of, at_block, InBlock, in_block, in_a_block}
 use denote.Steps.{only, heard, nothing}
 use denote.Struct.Tuple.{Tuple}
 use denote.Triple.Spec.{triple_of}
 use denote.Triple.Statement.{Contract}
-use Rattle.core.specs.Mem.Slots.Ownership.{owned, slots}
-use Rattle.core.specs.Mem.Slots.{slots_items, slots_filled, slots_ptr, slots_len}
-use Rattle.core.specs.contracts.slots.Slots.from_raw_parts as back
-use Rattle.core.specs.contracts.slots.Slots.into_raw_parts as out
-use Rattle.core.proofs.mem.Param.{El, R, el_x}
-use Rattle.seize_seats.specs.Owned.{row}
+use Rattle.core.specs.Mem.Slots.Ownership.{owned, slots, Filled}
+use Rattle.core.specs.Mem.Slots.{slots_items, slots_filled, slots_ptr, slots_len, slots_counts, IsFull}
+use Rattle.core.specs.contracts.slots.Slots.from_raw_parts as joining
+use Rattle.core.specs.contracts.slots.Slots.from_raw_parts.Key as joining_key
+use Rattle.core.proofs.slots.Slots.from_raw_parts.Symbol as joining_symbol
+use Rattle.core.proofs.slots.Slots.from_raw_parts.Met as joining_met
+use Rattle.core.specs.contracts.slots.Slots.into_raw_parts as parting
+use Rattle.core.specs.contracts.slots.Slots.into_raw_parts.Key as parting_key
+use Rattle.core.proofs.slots.Slots.into_raw_parts.Symbol as parting_symbol
+use Rattle.core.proofs.slots.Slots.into_raw_parts.Met as parting_met
+use Rattle.core.proofs.mem.Param.{El, R, args, el_x}
 use Rattle.core.proofs.slots.Opens.{Sr, words_val, row_val, row_had, row_made}
+use Rattle.std.proofs.raw_atomic.Calls.{fm}
+use Rattle.seize_seats.specs.Owned.{row}
+use Rattle.seize_blocks.specs.Placed.{all_full}
 
--- a list of truths is one of as many
-pub all_true : (fs : List Bool) → ((k : ℕ) → k < length fs → get_or fs k false ≡ true) → fs ≡ replicate (length fs) true
-all_true [] full = refl
-all_true (f ∷ fs) full = let first : f ≡ true = full 0 (omega arith) in let rest = all_true fs (λ k lt. full (suc k) (omega (arith, lt))) in cc (first, rest)
+full_is : (fs : List Bool) → Filled fs 0 (length fs) → fs ≡ all_full (length fs)
+full_is [] full = refl
+full_is (f ∷ fs) full = let first : f ≡ true = full 0 (omega arith) (omega arith) in
+    let rest = full_is fs (λ k low lt. full (suc k) (omega arith) (omega (arith, lt))) in cc (first, rest)
 
-module _ (E : El) {M : Type 1} {𝓤 : Ura M} (𝓛 : Logic 𝓤) (at_mem : Memory → SProp 𝓤) (run : Routine → Fun 𝓤) where
+is_full : (n k : ℕ) → k < n → get_or (all_full n) k false ≡ true
+is_full zero k lt = absurd (omega (arith, lt))
+is_full (suc n) zero lt = refl
+is_full (suc n) (suc k) lt = is_full n k (omega (arith, lt))
+
+-- a place and a number are a value of a type of two words
+pub is_pair : (R : RattleType) (v : Val) (b o n : ℕ) → T (has_ty (layout R) (row_val b o n)) → n < 2 ^ 64 → v ≡ row_val b o n → T (has_ty (layout R) v) × WT v
+is_pair R v b o n typed fits same = subst (λ (u : Val). T (has_ty (layout R) u) × WT u) (sym same) (typed, (tt, (record { fits = fits }, tt)))
+
+module _ (E : El) where
+  -- the places of n values from there on, each full
+  abbrev pub Full : ℕ → ℕ → List (el_x E) → Fml
+  Full b o xs = owned (R E) (block_ptr b o) (length xs) xs (all_full (length xs))
+
+  -- slots as one value of two words, with the token of a lifetime
+  abbrev pub Whole_of : {M : Type 1} {𝓤 : Ura M} → (Sr E).Denot → Val → Lft → Share → Item 𝓤
+  Whole_of r v κ q = ‵ ((Sr E).own_val r (v ∷ [])) ⊛ ‵ (flft κ q)
+
+  -- what the first call leaves, and what the second one does
+  abbrev pub parted : {M : Type 1} {𝓤 : Ura M} → ℕ → ℕ → List (el_x E) → Lft → Share → Val → Item 𝓤
+  parted b o xs κ q v = later (given (v ≡ row_val b o (length xs)) (‵ (Full b o xs) ⊛ ‵ (flft κ q)))
+
+  abbrev pub Is_of : ℕ → ℕ → List (el_x E) → (Sr E).Denot → Type 0
+  Is_of b o xs r = (slots_ptr r ≡ block_ptr b o) × (slots_len r ≡ length xs) × (slots_items r ≡ xs) × IsFull r
+
+  abbrev pub joined : {M : Type 1} {𝓤 : Ura M} → ℕ → ℕ → List (el_x E) → Lft → Share → Val → Item 𝓤
+  joined b o xs κ q v = let u : Val = row_val b o (length xs) in later (items (λ (r : (Sr E).Denot). given ((v ≡ u) × Is_of b o xs r) (Whole_of r u κ q)))
+
+module _ (E : El) {M : Type 1} {𝓤 : Ura M} (𝓛 : Logic 𝓤) (𝓜 : Model 𝓤 𝓛.H) (𝓡 : Running 𝓤 𝓛.H 𝓜) where
   open 𝓛 use {H, A}
 
-  abbrev pub Out : Contract 𝓤
-  Out = triple_of 𝓛 (out.signature E.row) (out.spec E.row 𝓛 at_mem run)
+  abbrev 𝓣 : MachineTables 𝓤 H 𝓜
+  𝓣 = tables 𝓤 H 𝓜 𝓡 𝓡.env
 
-  abbrev pub Back : Contract 𝓤
-  Back = triple_of 𝓛 (back.signature E.row) (back.spec E.row 𝓛 at_mem run)
+  -- more is known of a call's end
+  weaker : (k : Callee) (vs : List Val) (Q Z : Val → SProp 𝓤) → ((v : Val) → ent 𝓤 (Q v) (Z v)) → ent 𝓤 (𝓣.C k vs Q) (𝓣.C k vs Z)
+  weaker k vs Q Z turn = via 𝓤 (sep 𝓤 (𝓣.C k vs Q) (emp 𝓤)) (qed 𝓛 (raw (𝓣.C k vs Q) ∷ []) ∵ nothing ! $ move ! (1 ∷ 0 ∷ []) $ done !)
+      (fm 𝓛 𝓜 𝓡 k vs Q Z (emp 𝓤) (λ v. via 𝓤 (Q v) (fst∗ 𝓤 (Q v) (emp 𝓤)) (turn v)))
 
-  module _ (κ : Lft) (q : Share) (r : (Sr E).Denot) (b o : ℕ) where
-    abbrev pub at_out : Out.Ghost
-    at_out = (((κ, tt), (q, tt), tt, (r, tt), (row_val b o (slots_len r) ∷ [], tt)), tt)
-
-    abbrev pub Places : Fml
-    Places = owned (R E) (slots_ptr r) (slots_len r) (slots_items r) (slots_filled r)
-
-    pub goes_out : κ ⊑ E.row.lives → ent 𝓤 (sep 𝓤 (sem 𝓛 ((Sr E).own_val r (row_val b o (slots_len r) ∷ []))) (A.lft κ q)) (Out.pre at_out)
-    goes_out le = let Le : Type 0 = κ ⊑ E.row.lives in qed 𝓛 (‵ ((Sr E).own_val r (row_val b o (slots_len r) ∷ [])) ∷ ‵ (flft κ q) ∷ []) ∵
-        nothing ! $ use0 𝓛 (raw (fact 𝓤 Le)) (fact_i 𝓤 Le (emp 𝓤) le) $ join ! $ nothing ! $ move ! (2 ∷ 0 ∷ []) $ fjoin ! $ nothing ! $
-        move ! (3 ∷ 0 ∷ []) $ join ! $ join ! $ done !
-
-    abbrev Parts : RattleType
-    Parts = Tuple (RawPtr ∷ usize ∷ [])
-
-    abbrev Told : Parts.Denot → Type 0
-    Told p = (p.0 ≡ slots_ptr r) × (p.1 ≡ slots_len r)
-
-    pub came_out : (v : Val) → slots_ptr r ≡ block_ptr b o
-        → ent 𝓤 (Out.post at_out v) (H.⇛ (guard 𝓤 (v ≡ row_val b o (slots_len r)) (sep 𝓤 (sem 𝓛 Places) (A.lft κ q))))
-    came_out v at = qed 𝓛 (raw (Out.post at_out v) ∷ []) ∵ updating ! $
-        use1 𝓛 (later (items (λ (p : Parts.Denot). ((‵ (flft κ q) ⊛ ‵ ftrue) ⊛ ‵ (Parts.own_val p (v ∷
-        []))) ⊛ items (λ (ws : Unit {0} × Unit {0}). ‵ (fsep ftrue ftrue) ⊛ raw (fact 𝓤 (Told p)) ⊛ ‵ Places)))) (id⊢ 𝓤 _) $
-        await ! tt $ pick ! (λ p. split ! $ move ! (1 ∷ []) $ pick ! (λ ws. split ! $ drop ! $ split ! $ heard ! (Told p) (λ is. move ! (1 ∷ []) $ split ! $
+  module _ (κ : Lft) (q : Share) (le : κ ⊑ E.row.lives) (b o : ℕ) where
+    pub parts : Wired 𝓡.env parting_symbol.code → (r : (Sr E).Denot) → slots_ptr r ≡ block_ptr b o → IsFull r
+        → ent 𝓤 (mean 𝓛 (Whole_of E r (row_val b o (slots_len r)) κ q))
+        (𝓣.C (parting_key.name (args E)) (row_val b o (slots_len r) ∷ []) (λ v. mean 𝓛 (parted E b o (slots_items r) κ q v)))
+    parts wired r at full = let xs : List (el_x E) = slots_items r in let n : ℕ = slots_len r in let lx : n ≡ length xs = (slots_counts r).0 in
+        let lf : n ≡ length (slots_filled r) = (slots_counts r).1 in
+        let G : Contract 𝓤 = triple_of 𝓛 (parting.signature E.row) (parting.spec E.row 𝓛 𝓜.mem 𝓡.returns) in
+        let y : G.Ghost = (((κ, tt), (q, tt), tt, (r, tt), (row_val b o n ∷ [], tt)), tt) in
+        let Le : Type 0 = κ ⊑ E.row.lives in let Two : RattleType = Tuple (RawPtr ∷ usize ∷ []) in
+        let Are : Two.Denot → Type 0 = λ w. (w.0 ≡ slots_ptr r) × (w.1 ≡ n) in
+        let Left : Fml = owned (R E) (slots_ptr r) n xs (slots_filled r) in
+        let filled : slots_filled r ≡ all_full (length xs) =
+        full_is (slots_filled r) (λ k low lt. full k low (omega (arith, lf, lt))) ∙ ap all_full (sym lf ∙ lx) in
+        via 𝓤 (G.pre y) (qed 𝓛 (Whole_of E r (row_val b o n) κ q ∷ []) ∵ split ! $ nothing ! $ move ! (1 ∷ 0 ∷ []) $ fjoin ! $ move ! (1 ∷ []) $ nothing ! $
+        move ! (1 ∷ 0 ∷ []) $ join ! $
+        move ! (0 ∷ 1 ∷ []) $ join ! $ nothing ! $ use0 𝓛 (raw (fact 𝓤 Le)) (fact_i 𝓤 Le (emp 𝓤) le) $ join ! $ move ! (1 ∷ 0 ∷ []) $ join ! $ done !)
+        (via 𝓤 _ (parting_met.met 𝓤 𝓛 𝓜 𝓡 wired E.row E.laws y) (weaker (parting_key.name (args E)) (row_val b o n ∷
+        []) (G.post y) (λ v. mean 𝓛 (parted E b o xs κ q v)) (λ v.
+        qed 𝓛 (raw (G.post y v) ∷ []) ∵ updating ! $
+        use1 𝓛 (later (items (λ (w : Two.Denot). ((‵ (flft κ q) ⊛ ‵ ftrue) ⊛ ‵ (Two.own_val w (v ∷
+        []))) ⊛ items (λ (_ : Unit {0} × Unit {0}). ‵ (fsep ftrue ftrue) ⊛ raw (fact 𝓤 (Are w)) ⊛ ‵ Left)))) (id⊢ 𝓤 (G.post y v)) $
+        await ! tt $ pick ! (λ w. split ! $ split ! $ move ! (2 ∷ []) $ pick ! (λ _. split ! $ drop ! $ split ! $ heard ! (Are w) (λ are. move ! (1 ∷ []) $
         split ! $
         -- [the token; nothing; the two words; the places]
-        move ! (2 ∷ []) $ fpick ! (λ vss. fsplit ! $ feq_l ! (λ whole. fsplit3 ! $ feq_l ! (λ e₀. fsplit ! $ feq_l ! (λ e₁. now ! $
-        check ! (ap only whole ∙ (λ i. vstruct (of_list (e₀ i ++ (e₁ i ++ [])))) ∙ (λ i. words_val ((is.0 ∙ at) i) (is.1 i))) $ keep ! (4 ∷ 2 ∷ []) $
-        done !)))))))
+        move ! (3 ∷ []) $ fpick ! (λ us. fsplit ! $ feq_l ! (λ all. fsplit3 ! $ feq_l ! (λ first. fsplit ! $ feq_l ! (λ second.
+        let is : v ≡ row_val b o (length xs) =
+        ap only all ∙ ((λ i. vstruct (of_list (first i ++ (second i ++ [])))) ∙ (λ i. words_val ((are.0 ∙ at) i) ((are.1 ∙ lx) i))) in
+        move ! (4 ∷ 2 ∷ []) $ rewrite ! 0 (λ (t : Ptr × ℕ × List Bool). ‵ (owned (R E) t.0 t.1 xs t.2)) (λ i. (at i, lx i, filled i)) refl $
+        now ! $ check ! is $ keep ! (0 ∷ 1 ∷ []) $ done !))))))))))
 
-  module _ (κ : Lft) (q : Share) (b o n : ℕ) (xs : List (el_x E)) (fs : List Bool) where
-    abbrev pub at_back : Back.Ghost
-    at_back = (((κ, tt), (q, tt), tt, (block_ptr b o, (n, tt)), (vptr b o ∷ [], (vint w64 n ∷ [], tt))), (xs, fs))
-
-    abbrev pub Is_made : (Sr E).Denot → Type 0
-    Is_made r = (slots_ptr r ≡ block_ptr b o) × (slots_len r ≡ n) × (slots_items r ≡ xs) × (slots_filled r ≡ fs)
-
-    pub goes_back : κ ⊑ E.row.lives → n ≡ length xs → n ≡ length fs → n < 2 ^ 64
-        → ent 𝓤 (sep 𝓤 (sem 𝓛 (owned (R E) (block_ptr b o) n xs fs)) (A.lft κ q)) (Back.pre at_back)
-    goes_back le lx lf fn = let Ok : Type 0 = (n ≡ length xs) × (n ≡ length fs) in let Le : Type 0 = κ ⊑ E.row.lives in
-        qed 𝓛 (‵ (owned (R E) (block_ptr b o) n xs fs) ∷ ‵ (flft κ q) ∷ []) ∵ use0 𝓛 (raw (fact 𝓤 Ok)) (fact_i 𝓤 Ok (emp 𝓤) (lx, lf)) $ join ! $
-        use0 𝓛 (raw (fact 𝓤 Le)) (fact_i 𝓤 Le (emp 𝓤) le) $ join ! $
-        nothing ! $ flt_i ! n (2 ^ 64) fn $ feq_i ! (List Val) (vint w64 n ∷ []) (vint w64 n ∷ []) refl $ fjoin ! $
-        feq_i ! (List Val) (vptr b o ∷ []) (vptr b o ∷ []) refl $ fjoin3 ! $
-        nothing ! $ move ! (3 ∷ 0 ∷ []) $ join ! $ join ! $ done !
-
-    pub came_back : (v : Val) → ent 𝓤 (Back.post at_back v)
-        (H.⇛ (ex 𝓤 (λ (r : (Sr E).Denot). guard 𝓤 ((v ≡ row_val b o n) × Is_made r) (sep 𝓤 (sem 𝓛 ((Sr E).own_val r (row_val b o n ∷ []))) (A.lft κ q)))))
-    came_back v = let Had : (Sr E).Denot
-        → SProp 𝓤 = λ r. guard 𝓤 ((v ≡ row_val b o n) × Is_made r) (sep 𝓤 (sem 𝓛 ((Sr E).own_val r (row_val b o n ∷ []))) (A.lft κ q)) in
-        qed 𝓛 (raw (Back.post at_back v) ∷ []) ∵ updating ! $
+    pub joins : Wired 𝓡.env joining_symbol.code → (xs : List (el_x E)) → length xs < 2 ^ 64
+        → ent 𝓤 (mean 𝓛 (‵ (Full E b o xs) ⊛ ‵ (flft κ q)))
+        (𝓣.C (joining_key.name (args E)) (vptr b o ∷ vint w64 (length xs) ∷ []) (λ v. mean 𝓛 (joined E b o xs κ q v)))
+    joins wired xs fits = let n : ℕ = length xs in let fs : List Bool = all_full n in
+        let G : Contract 𝓤 = triple_of 𝓛 (joining.signature E.row) (joining.spec E.row 𝓛 𝓜.mem 𝓡.returns) in
+        let y : G.Ghost = (((κ, tt), (q, tt), tt, (block_ptr b o, (n, tt)), (vptr b o ∷ [], (vint w64 n ∷ [], tt))), (xs, fs)) in
+        let Le : Type 0 = κ ⊑ E.row.lives in let Long : Type 0 = (n ≡ length xs) × (n ≡ length fs) in
+        let Are : (Sr E).Denot → Type 0 = λ r. (slots_ptr r ≡ block_ptr b o) × (slots_len r ≡ n) × (slots_items r ≡ xs) × (slots_filled r ≡ fs) in
+        via 𝓤 (G.pre y) (qed 𝓛 ((‵ (Full E b o xs) ⊛ ‵ (flft κ q)) ∷ []) ∵ split ! $
+        use0 𝓛 (raw (fact 𝓤 Long)) (fact_i 𝓤 Long (emp 𝓤) (refl, sym (length-replicate n true))) $ join ! $
+        use0 𝓛 (raw (fact 𝓤 Le)) (fact_i 𝓤 Le (emp 𝓤) le) $ join ! $ nothing ! $ flt_i ! n (2 ^ 64) fits $
+        feq_i ! (List Val) (vint w64 n ∷ []) (vint w64 n ∷ []) refl $ fjoin ! $ fjoin ! $
+        feq_i ! (List Val) (vptr b o ∷ []) (vptr b o ∷ []) refl $ fjoin ! $ nothing ! $ move ! (3 ∷ 0 ∷ []) $ join ! $ join ! $ done !)
+        (via 𝓤 _ (joining_met.met 𝓤 𝓛 𝓜 𝓡 wired E.row E.laws y) (weaker (joining_key.name (args E)) (vptr b o ∷ vint w64 n ∷
+        []) (G.post y) (λ v. mean 𝓛 (joined E b o xs κ q v)) (λ v.
+        qed 𝓛 (raw (G.post y v) ∷ []) ∵ updating ! $
         use1 𝓛 (later (items (λ (r : (Sr E).Denot). ((‵ (flft κ q) ⊛ ‵ ftrue) ⊛ ‵ ((Sr E).own_val r (v ∷
-        []))) ⊛ items (λ (ws : Unit {0} × (Unit {0} × Unit {0})). ‵ (fsep ftrue (fsep ftrue ftrue)) ⊛ raw (fact 𝓤 (Is_made r)))))) (id⊢ 𝓤 _) $
-        await ! tt $ pick ! (λ r. split ! $ move ! (1 ∷ []) $ pick ! (λ ws. split ! $ drop ! $ heard ! (Is_made r) (λ is. split ! $ split ! $ move ! (2 ∷ []) $
-        row_had E ! r (v ∷ []) (λ b' o' at e fn fit. row_made E ! r b' o' at fn fit $
-        let same : row_val b' o' (slots_len r) ≡ row_val b o n = λ i. words_val ((sym at ∙ is.0) i) (is.1 i) in
-        rewrite ! 0 (λ (u : Val). ‵ ((Sr E).own_val r (u ∷ []))) same refl $ now ! $ show ! Had r $ check ! (ap only e ∙ same, is) $ keep ! (0 ∷ 1 ∷ []) $
-        done !))))
-
--- the two words of slots have their type
-pub row_typed : (E : El) (v : Val) (b o n : ℕ) → v ≡ row_val b o n → n < 2 ^ 64 → T (has_ty (layout (Sr E)) v) × WT v
-row_typed E v b o n e fn = subst (λ (u : Val). T (has_ty (layout (Sr E)) u) × WT u) (sym e) (tt, (tt, (record { fits = fn }, tt)))
-
-pub parts_typed : (v : Val) (b o n : ℕ) → v ≡ row_val b o n → n < 2 ^ 64 → T (has_ty (layout (Tuple (RawPtr ∷ usize ∷ []))) v) × WT v
-parts_typed v b o n e fn = subst (λ (u : Val). T (has_ty (layout (Tuple (RawPtr ∷ usize ∷ []))) u) × WT u) (sym e) (tt, (tt, (record { fits = fn }, tt)))
+        []))) ⊛ items (λ (_ : Unit {0} × (Unit {0} × Unit {0})). ‵ (fsep ftrue (fsep ftrue ftrue)) ⊛ raw (fact 𝓤 (Are r)))))) (id⊢ 𝓤 (G.post y v)) $
+        await ! tt $ pick ! (λ r. split ! $ split ! $ move ! (2 ∷ []) $ pick ! (λ _. split ! $ drop ! $ heard ! (Are r) (λ are. split ! $ move ! (2 ∷ []) $
+        row_had E ! r (v ∷ []) (λ b' o' at is fits' room. row_made E ! r b' o' at fits' room $
+        let there : row_val b' o' (slots_len r) ≡ row_val b o n = λ i. words_val ((sym at ∙ are.0) i) (are.1 i) in
+        let full : IsFull r = λ k low lt. ap (λ (gs : List Bool). get_or gs k false) are.3 ∙ is_full n k (subst (λ (m : ℕ). k < m) are.1 lt) in
+        rewrite ! 0 (λ (u : Val). ‵ ((Sr E).own_val r (u ∷ []))) there refl $ now ! $
+        show ! (λ (s : (Sr E).Denot). mean 𝓛 (given ((v ≡ row_val b o n) × Is_of E b o xs s) (Whole_of E s (row_val b o n) κ q))) r $
+        check ! (ap only is ∙ there, (are.0, are.1, are.2, full)) $ keep ! (0 ∷ 1 ∷ []) $ done !)))))))
 
 -- places of words are words side by side, and the other way round
 module _ {M : Type 1} {𝓤 : Ura M} (𝓛 : Logic 𝓤) (b : ℕ) where
   abbrev Words : ℕ → List ℕ → Fml
-  Words o xs = slots u64 (block_ptr b o) xs (replicate (length xs) true)
+  Words o xs = slots u64 (block_ptr b o) xs (all_full (length xs))
 
   words_out : (xs : List ℕ) (o : ℕ) → ent 𝓤 (sem 𝓛 (Words o xs)) (sem 𝓛 (row b o xs))
   words_out [] o = id⊢ 𝓤 (emp 𝓤)
@@ -124,19 +154,19 @@ module _ {M : Type 1} {𝓤 : Ura M} (𝓛 : Logic 𝓤) (b : ℕ) where
 
 module _ {M : Type 1} {𝓤 : Ura M} (𝓛 : Logic 𝓤) (p : Ptr) (xs : List ℕ) where
   abbrev pub Whole : Fml
-  Whole = owned u64 p (length xs) xs (replicate (length xs) true)
+  Whole = owned u64 p (length xs) xs (all_full (length xs))
 
   abbrev pub Fits : Type 0
   Fits = InBlock p × (length xs * 8 < 2 ^ 63)
 
   pub whole_out : ent 𝓤 (sem 𝓛 Whole) (guard 𝓤 Fits (sem 𝓛 (row (block_of p) (count_of p) xs)))
   whole_out = qed 𝓛 (‵ Whole ∷ []) ∵ fsplit ! $
-      flt_l ! (λ fit. in_a_block ! p (λ (r : Ptr). in_block r (slots u64 r xs (replicate (length xs) true))) (id⊢ 𝓤 (never 𝓤)) (λ b o at.
+      flt_l ! (λ fit. in_a_block ! p (λ (r : Ptr). in_block r (slots u64 r xs (all_full (length xs)))) (id⊢ 𝓤 (never 𝓤)) (λ b o at.
       check ! (subst InBlock (sym at) tt, fit) $ use1 𝓛 (‵ (row b o xs)) (words_out 𝓛 b xs o) $
       rewrite ! 0 (λ (t : ℕ × ℕ). ‵ (row t.0 t.1 xs)) (λ i. (block_of (sym at i), count_of (sym at i))) refl $ done !))
 
   pub whole_in : Fits → ent 𝓤 (sem 𝓛 (row (block_of p) (count_of p) xs)) (sem 𝓛 Whole)
   whole_in fits = let at : p ≡ block_ptr (block_of p) (count_of p) = at_block p fits.0 in qed 𝓛 (‵ (row (block_of p) (count_of p) xs) ∷ []) ∵
-      use1 𝓛 (‵ (slots u64 (block_ptr (block_of p) (count_of p)) xs (replicate (length xs) true))) (words_in 𝓛 (block_of p) xs (count_of p)) $
+      use1 𝓛 (‵ (slots u64 (block_ptr (block_of p) (count_of p)) xs (all_full (length xs)))) (words_in 𝓛 (block_of p) xs (count_of p)) $
       flt_i ! (length xs * 8) (2 ^ 63) fits.1 $ fjoin ! $
-      rewrite ! 0 (λ (r : Ptr). ‵ (owned u64 r (length xs) xs (replicate (length xs) true))) (sym at) refl $ done !
+      rewrite ! 0 (λ (r : Ptr). ‵ (owned u64 r (length xs) xs (all_full (length xs)))) (sym at) refl $ done !

@@ -1,5 +1,5 @@
--- Where the word of a name is looked for.
-use Rattle.std.specs.Prelude.{◌≡◌, ℕ, ◌<◌, ◌^◌}
+-- Where the word of a name is looked for, and places that are all full.
+use Rattle.std.specs.Prelude.{◌≡◌, ℕ, ◌<◌, ◌^◌, Bool, true, List, replicate}
 use Rattle.seize_words.specs.declared.at.At.{At}
 use Rattle.seize_seats.specs.Lines.{place_of, IsWord}
 use Rattle.seize_seats.specs.Owned.{BaseId}
@@ -7,3 +7,7 @@ use Rattle.seize_seats.specs.Owned.{BaseId}
 -- the place is that of the name, if there is such a word, and in any case a small number
 abbrev pub IsItsPlace : BaseId → At → ℕ → Type 0
 IsItsPlace z at place = (IsWord z.roots at → place ≡ place_of z.roots at) × (place < 2 ^ 60)
+
+-- of so many places each is full
+abbrev pub all_full : ℕ → List Bool
+all_full n = replicate n true

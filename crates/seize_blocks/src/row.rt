@@ -1,7 +1,8 @@
 //! Values side by side, which are had by their address alone.
-ghost use Rattle.std.specs.Prelude.{◌≡◌, List, length, true, replicate};
+ghost use Rattle.std.specs.Prelude.{◌≡◌, List, length};
 ghost use Rattle.core.specs.Mem.Slots.{slots_items, slots_ptr, slots_len, IsFull};
 ghost use Rattle.core.specs.Mem.Slots.Ownership.{owned};
+ghost use Rattle.seize_blocks.specs.Placed.{all_full};
 
 use core::slots::Slots;
 use std::marker::Model;
@@ -13,7 +14,7 @@ pub(crate) struct Row<T> {
 }
 
 impl<T> Model for Row<T> {
-    ghost also_owns = { λ s. owned T.row s.at (length s.items) s.items (replicate (length s.items) true) };
+    ghost also_owns = { λ s. owned T.row s.at (length s.items) s.items (all_full (length s.items)) };
 }
 
 impl<T> Row<T> {

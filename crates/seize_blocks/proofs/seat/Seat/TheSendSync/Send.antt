@@ -1,3 +1,4 @@
+-- A seat may go to another thread.
 use denote.RattleType.{RattleType}
 use denote.Param.Send.{IsSend}
 use Rattle.seize_seats.proofs.Sent.{seat_keyless}

@@ -1,3 +1,4 @@
+-- The words may go to another thread.
 use denote.RattleType.{RattleType}
 use denote.Param.Send.{IsSend, IsSync}
 use Rattle.seize_seats.proofs.Sent.{owns_keyless}

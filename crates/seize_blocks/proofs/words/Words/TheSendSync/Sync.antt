@@ -1,3 +1,4 @@
+-- The words may go to another thread.
 use denote.RattleType.{RattleType}
 use denote.Param.Send.{IsSend, IsSync, sendable}
 use denote.Struct.Struct.{Struct}
