@@ -1,0 +1,144 @@
+-- A row that begins, and a step of one, as what a seat has done.
+use Rattle.std.specs.Prelude.{◌≢◌, ◌++◌, Option, Some}
+use Rattle.std.proofs.Common.{◌≡◌, ℕ, ◌+◌, List, [], ◌∷◌, refl, sym, subst, ap, ◌∙◌, arith}
+use Rattle.seize_words.specs.Mem.{Mem}
+use Rattle.seize.specs.declared.states.TheConstants.{LAST_SLOT}
+use Rattle.seize.specs.declared.rows.register.Registering.{Registering}
+use Rattle.seize.specs.declared.rows.register.Registering.TheVariants as at
+use Rattle.seize.specs.Law.{Effect, Entered, Left as LeftSlot, Made, Linked, Unlinked, Deferred, Retired, Taken, Dropped, Ended, LeftOver, holds, is_over}
+use Rattle.seize.specs.World.{World, Row, Use, Vacant, Event, Begin, Step, Request, Steps', Happens, Runs, IsInside, at_start}
+use Rattle.seize.specs.World as world
+use Rattle.seize_rule.proofs.World.Start.{start_good}
+use Rattle.seize_rule.proofs.Rows.Effects.{IsOneStep}
+use Rattle.seize_rule.proofs.Rows.Known.{works_on, registering_on}
+use Rattle.seize_alone.proofs.Spared.Rows.{RowStepped}
+use Rattle.seize_alone.proofs.Histories.Reached.{Reached, runs_reached}
+use Rattle.seize_alone.proofs.Histories.NotTaken.{still_held, did}
+use Rattle.seize_alone.proofs.Histories.Uses.{uses_kept}
+use Rattle.seize_seats.specs.State.{State, view_of}
+use Rattle.seize_shared.specs.Rows.{row_of, use_of, IsSeeking, IsShort, IsUsed, IsQuiet, Fits, Came, Holds}
+use Rattle.seize_shared.specs.declared.view.View.{View}
+use Rattle.seize_shared.specs.declared.view.View.TheVariants.{Rests, Registers, Outside, Enters, Inside, Leaves, Left, Frees}
+use Rattle.seize_shared.specs.declared.view.Fixed.{Fixed}
+use Rattle.seize_shared.proofs.Moved.{Moved, not_vacant, used_so, still_used}
+
+-- one step of a row ends no block's owner
+not_over : (b : ℕ) (effects log : List Effect) → IsOneStep effects → is_over b (effects ++ log) ≡ is_over b log
+not_over b [] log one = refl
+not_over b (e ∷ f ∷ effects) log one = absurd one
+not_over b (Entered s ∷ []) log one = refl
+not_over b (LeftSlot s ∷ []) log one = refl
+not_over b (Retired c ∷ []) log one = refl
+not_over b (Taken c ∷ []) log one = refl
+not_over b (Made c ∷ []) log one = absurd one
+not_over b (Linked c o ∷ []) log one = absurd one
+not_over b (Unlinked c ∷ []) log one = absurd one
+not_over b (Deferred c t ∷ []) log one = absurd one
+not_over b (Dropped c ∷ []) log one = absurd one
+not_over b (Ended o ∷ []) log one = absurd one
+not_over b (LeftOver c further ∷ []) log one = absurd one
+
+-- a row of a seat works on no slot but the seat's
+works_on_own : (size : ℕ) (v : View) → IsShort v → (t : ℕ) → works_on (row_of size v) ≡ t + 1 → (a : Use) × (use_of v ≡ Some (t, a))
+works_on_own size Rests short t e = absurd (omega (arith, e))
+works_on_own size (Registers c) short t e = absurd (by c.stands short.1 e)
+  where
+    by : (p : Registering) → IsSeeking p → registering_on c.slot p ≡ t + 1 → ⊥
+    by at.Begin seeks f = omega (arith, f)
+    by at.Look seeks f = omega (arith, f)
+    by (at.Widen bucket seen) seeks f = omega (arith, f)
+    by (at.Take seen) seeks f = omega (arith, f)
+    by at.Enter seeks f = seeks
+    by at.Registered seeks f = seeks
+    by (at.Refused fault) seeks f = seeks
+works_on_own size (Outside s) short t e = absurd (omega (arith, e))
+works_on_own size (Enters s) short t e = (world.Changing, ap (λ (k : ℕ). Some (k, world.Changing)) (omega (arith, e)))
+works_on_own size (Inside s) short t e = absurd (omega (arith, e))
+works_on_own size (Leaves s) short t e = (world.Changing, ap (λ (k : ℕ). Some (k, world.Changing)) (omega (arith, e)))
+works_on_own size (Left s) short t e = (world.Changing, ap (λ (k : ℕ). Some (k, world.Changing)) (omega (arith, e)))
+works_on_own size (Frees s) short t e = (world.Changing, ap (λ (k : ℕ). Some (k, world.Changing)) (omega (arith, e)))
+
+module _ {T : Type 0} (defers : T → Option ℕ) (fixed : Fixed) where
+  abbrev size : ℕ
+  size = fixed.batch_size
+
+  start_reached : Reached defers size (at_start defers fixed.roots)
+  start_reached = record { good = start_good defers (LAST_SLOT + 1) size fixed.roots; sized = λ i. tt }
+
+  pub reached : (w : World T) → Came defers fixed w → Reached defers size w
+  reached w came = runs_reached defers size came.0 (at_start defers fixed.roots) w start_reached came.1
+
+  runs_then : (events : List (Event T)) (w v n : World T) (e : Event T) → Runs defers size events w v → Happens defers size e v n
+      → Runs defers size (events ++ e ∷ []) w n
+  runs_then [] w v n e h step = (n, subst (λ (u : World T). Happens defers size e u n) h step, refl)
+  runs_then (a ∷ events) w v n e h step = (h.0, h.1, runs_then events h.0 v n e h.2 step)
+
+  pub came_then : (w n : World T) (e : Event T) → Came defers fixed w → Happens defers size e w n → Came defers fixed n
+  came_then w n e came step = (came.0 ++ e ∷ [], runs_then came.0 (at_start defers fixed.roots) w n e came.1 step)
+
+module _ {T : Type 0} (defers : T → Option ℕ) (fixed : Fixed) (s : State T View (World T)) (id : ℕ) (v : View) (h : Holds defers fixed s)
+    (at_id : view_of s id ≡ Some v) where
+  abbrev w : World T
+  w = s.world
+
+  -- the other seats have their slots as before
+  others : (n : World T) → ((t : ℕ) → (w.uses t ≡ Vacant → ⊥) → ((a : Use) → use_of v ≡ Some (t, a) → ⊥) → n.uses t ≡ w.uses t)
+      → (j : ℕ) (x : View) → j ≢ id → view_of s j ≡ Some x → IsUsed n (use_of x)
+  others n same j x ne e =
+      let f = h.seats j x e in
+      still_used w n (use_of x) f.slot (λ t a k. same t (λ z. not_vacant x t a k (sym (used_so w (use_of x) t a f.slot k)
+      ∙ z)) (λ b l. ne (h.apart j id t a b x v e at_id k l)))
+
+  -- a slot that is the seat's already is nobody else's
+  pub alone : (u : View) → ((t : ℕ) (b : Use) → use_of u ≡ Some (t, b) → (a : Use) × (use_of v ≡ Some (t, a)))
+      → (j t : ℕ) (x : View) (a b : Use) → j ≢ id → view_of s j ≡ Some x → use_of x ≡ Some (t, a) → use_of u ≡ Some (t, b) → ⊥
+  alone u stays j t x a b ne e p q = let k = stays t b q in ne (h.apart j id t a k.0 x v e at_id p k.1)
+
+  pub begun : (request : Request) (u : View) (n : World T) → Happens defers fixed.batch_size (Begin id request) w n → n.memory ≡ w.memory → n.log ≡ w.log
+      → ((j : ℕ) → j ≢ id → n.row j ≡ w.row j) → ((t : ℕ) → ((a : Use) → use_of v ≡ Some (t, a) → ⊥) → n.uses t ≡ w.uses t) → Fits fixed.batch_size n id u
+      → ((t : ℕ) (b : Use) → use_of u ≡ Some (t, b) → (a : Use) × (use_of v ≡ Some (t, a))) → Moved defers fixed s id u s.memory n
+  begun request u n happens memory log rows uses own stays = record {
+    came = came_then defers fixed w n (Begin id request) h.came happens;
+    memory = h.memory ∙ sym memory;
+    rows = rows;
+    own = own;
+    others = others n (λ t used. uses t);
+    alone = alone u stays;
+    quiet = h.quiet;
+    kept = λ j b x o ne e keeps. (keeps.0, keeps.1, ap (holds keeps.0 b) log ∙ keeps.2, ap (is_over b) log ∙ keeps.3);
+  }
+
+  pub stepped : (u : View) (m : Mem T) (n : World T) → Steps' defers id (row_of fixed.batch_size v) w n → m ≡ n.memory → Fits fixed.batch_size n id u
+      → ((j t : ℕ) (x : View) (a b : Use) → j ≢ id → view_of s j ≡ Some x → use_of x ≡ Some (t, a) → use_of u ≡ Some (t, b) → ⊥) → IsQuiet m
+      → Moved defers fixed s id u m n
+  stepped u m n taken memory own lone quiet = record {
+    came = came_then defers fixed w n (Step id) h.came step;
+    memory = memory;
+    rows = d.rows;
+    own = own;
+    others = others n (λ t used apart. uses_kept defers fixed.batch_size w r id n step t used
+        (λ on. let k = works_on_own fixed.batch_size v fit.short t (sym (ap works_on fit.row) ∙ on) in apart k.0 k.1));
+    alone = lone;
+    quiet = quiet;
+    kept = λ j b x o ne e keeps. (
+      keeps.0,
+      keeps.1,
+      still_held defers fixed.batch_size w r id n step keeps.0 b (inside j x keeps.0 e keeps.1) keeps.2,
+      ap (is_over b) d.logged ∙ not_over b d.effects w.log d.one ∙ keeps.3,
+    );
+  }
+    where
+      fit : Fits fixed.batch_size w id v
+      fit = h.seats id v at_id
+
+      r : Reached defers fixed.batch_size w
+      r = reached defers fixed w h.came
+
+      step : Steps' defers id (w.row id) w n
+      step = subst (λ (row : Row). Steps' defers id row w n) (sym fit.row) taken
+
+      d : RowStepped defers id w n
+      d = did defers fixed.batch_size w r id n step
+
+      inside : (j : ℕ) (x : View) (t : ℕ) → view_of s j ≡ Some x → x ≡ Inside t → IsInside (w.uses t)
+      inside j x t e k = subst (λ (a : Use). IsInside a) (sym (used_so w (use_of x) t (world.Inside 0) (h.seats j x e).slot (ap use_of k))) tt

@@ -1,0 +1,12 @@
+//! What is promised of the rule of the collector's rows.
+ghost use Rattle.seize_shared.specs.Promises.{RulesStart, SeatsCome, RowsGoOn, RowsTurn};
+
+use seize::rows::Defers;
+
+/// The rule may start, and seats may come. Each row of a seat may begin, go on and end at any moment, whatever the other seats do.
+pub fn rows_go_on<T: Defers>()
+    ensures starts { RulesStart T T.defers }
+    ensures come { SeatsCome T T.defers }
+    ensures on { RowsGoOn T T.defers }
+    ensures turn { RowsTurn T T.defers }
+{}
