@@ -14,5 +14,5 @@ pub use enter::{Enter, Unregister};
 pub use leave::{Leave, Leaving};
 pub use links::{CompareExchange, Copy, Mark, Protect, Swap};
 pub use reclaim_all::{LeftOver, ReclaimAll, Reclaiming};
-pub use register::{Register, Registering};
+pub use register::{Register, Registering, needed_bucket};
 pub use settle::{Defers, Settle, Settled, Settling};

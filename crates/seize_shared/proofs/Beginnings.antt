@@ -29,7 +29,8 @@ module _ {T : Type 0} (defers : T → Option ℕ) (fixed : Fixed) where
   -- a row begins on the slot of a seat that has one, outside of a section or inside
   begins_on : (id t : ℕ) (v u : View) (a : Use) (row : Row) (request : Request) → use_of v ≡ used_as t a → use_of u ≡ used_as t world.Changing
       → row_of fixed.batch_size v ≡ world.Rests → row_of fixed.batch_size u ≡ row
-      → ((s : State T View (World T)) → s.world.uses t ≡ a → world.Begins defers fixed.batch_size id request s.world (with_use (with_row s.world id row) t world.Changing))
+      → ((s : State T View (World T)) → s.world.uses t ≡ a
+      → world.Begins defers fixed.batch_size id request s.world (with_use (with_row s.world id row) t world.Changing))
       → ((s : State T View (World T)) → H s → Fits fixed.batch_size (with_use (with_row s.world id row) t world.Changing) id u)
       → Turns H Keeps id v (λ x. x ≡ u)
   begins_on id t v u a row request mine its rests is happens own s h at_id =
@@ -50,7 +51,8 @@ module _ {T : Type 0} (defers : T → Option ℕ) (fixed : Fixed) where
       slot_is x b e = slot_of (t, world.Changing) (x, b) e
 
   -- the row of a seat fits that has begun
-  begun_fits : (id t : ℕ) (u : View) (row : Row) (s : State T View (World T)) → use_of u ≡ used_as t world.Changing → row_of fixed.batch_size u ≡ row → IsShort u
+  begun_fits : (id t : ℕ) (u : View) (row : Row) (s : State T View (World T)) → use_of u ≡ used_as t world.Changing → row_of fixed.batch_size u ≡ row
+      → IsShort u
       → Fits fixed.batch_size (with_use (with_row s.world id row) t world.Changing) id u
   begun_fits id t u row s its is short =
       let n : World T = with_use (with_row s.world id row) t world.Changing in
@@ -133,7 +135,8 @@ module _ {T : Type 0} (defers : T → Option ℕ) (fixed : Fixed) where
       no_slot : (x : View) (t : ℕ) (a : Use) → Rests ≡ x → use_of x ≡ used_as t a → ⊥
       no_slot x t a e p = cc (ap use_of e, p)
 
-      two : (j k t : ℕ) (a b : Use) (x y : View) → use_of x ≡ used_as t a → use_of y ≡ used_as t b → (view_of s j ≡ Some x) ⊎ ((view_of s j ≡ None) × (Rests ≡ x))
+      two : (j k t : ℕ) (a b : Use) (x y : View) → use_of x ≡ used_as t a → use_of y ≡ used_as t b
+          → (view_of s j ≡ Some x) ⊎ ((view_of s j ≡ None) × (Rests ≡ x))
           → (view_of s k ≡ Some y) ⊎ ((view_of s k ≡ None) × (Rests ≡ y)) → j ≡ k
       two j k t a b x y p q (inl e) (inl f) = h.apart j k t a b x y e f p q
       two j k t a b x y p q (inl e) (inr f) = absurd (no_slot y t b f.1 q)

@@ -5,3 +5,5 @@ pub mod Steps
 pub mod Operations
 pub mod Beginnings
 pub mod Registers
+pub mod Calls
+pub mod Seen

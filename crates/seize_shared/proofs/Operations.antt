@@ -49,7 +49,8 @@ module _ {T : Type 0} (defers : T → Option ℕ) (fixed : Fixed) where
       can : Can s.memory (Store (Slot t HEAD) ACTIVE)
       can = subst (λ (m : Mem T). Can m (Store (Slot t HEAD) ACTIVE)) (sym h.memory) (may s id (Enters t) h at).0
 
-      goes : (out : Out T) (m : Mem T) → Took s.memory (Store (Slot t HEAD) ACTIVE) out m → Goes H Keeps s m id (told (Enters t) (Store (Slot t HEAD) ACTIVE) out)
+      goes : (out : Out T) (m : Mem T) → Took s.memory (Store (Slot t HEAD) ACTIVE) out m
+          → Goes H Keeps s m id (told (Enters t) (Store (Slot t HEAD) ACTIVE) out)
       goes out m took =
           let n : World T = with_use (after_step s.world id m world.Rests (Entered t ∷ [])) t (world.Inside 0) in
           moved defers fixed s id (Enters t) (Inside t) m n (told (Enters t) (Store (Slot t HEAD) ACTIVE) out) h at
@@ -91,9 +92,23 @@ module _ {T : Type 0} (defers : T → Option ℕ) (fixed : Fixed) where
           let c : Leave = leaving t fixed.batch_size IDLE false in let d : Leave = standing c leaving_at.Over in
           let n : World T = leaves_on s.world id c m (d, settled.Goes) in
           moved defers fixed s id (Leaves t) (Left t) m n (λ u. u ≡ Left t) h at
-          (stepped defers fixed s id (Leaves t) h at (Left t) m n
-          (m, (d, settled.Goes), (Found head, subst (λ (x : Mem T). Took x (Swap (Slot t HEAD) IDLE) (Found head) m) h.memory took, rw (short_list head (h.quiet t head took.0)) refl), refl) refl
-          (record { row = with_here s.world.row id (world.Leaves d); slot = with_here s.world.uses t (s.world.uses t) ∙ (h.seats id (Leaves t) at).slot; short = tt })
+          (stepped defers fixed s id (Leaves t) h at (Left t) m n (
+            m,
+            (d, settled.Goes),
+            (
+              Found head,
+              subst (λ (x : Mem T). Took x (Swap (Slot t HEAD) IDLE) (Found head) m) h.memory took,
+              rw (short_list head
+                  (h.quiet t head took.0)) refl,
+            ),
+            refl,
+          ) refl
+          (record {
+            row = with_here s.world.row id (world.Leaves d);
+            slot = with_here s.world.uses t (s.world.uses t)
+                ∙ (h.seats id (Leaves t) at).slot;
+            short = tt;
+          })
           (alone defers fixed s id (Leaves t) h at (Left t) (λ x b e. same_slot t x world.Changing b world.Changing e))
           (subst IsQuiet (sym took.1) (quiet_written s.memory (Slot t HEAD) IDLE (omega arith) can h.quiet)))
           refl

@@ -71,7 +71,12 @@ module _ {T : Type 0} (defers : T → Option ℕ) (fixed : Fixed) (s : State T V
   own : (m : Mem T) (d : Register) (o : Progress ℕ) → IsWell w.uses (d, o) → Fits fixed.batch_size (registers_on w id c m (d, o)) id (left_by (d, o))
   own m d progress.Goes well = record { row = with_here w.row id (world.Registers d); slot = tt; short = well }
   own m d progress.Waits well = record { row = with_here w.row id (world.Registers d); slot = tt; short = well }
-  own m d (progress.Done t) well = record { row = with_here w.row id world.Rests; slot = with_here w.uses t (registered_as c) ∙ outside c.stands short.1; short = tt }
+  own m d (progress.Done t) well = record {
+    row = with_here w.row id world.Rests;
+    slot = with_here w.uses t (registered_as c)
+        ∙ outside c.stands short.1;
+    short = tt;
+  }
   own m d (progress.Refused fault) well = record { row = with_here w.row id world.Rests; slot = tt; short = tt }
 
   lone : (d : Register) (o : Progress ℕ) → IsWell w.uses (d, o)
@@ -87,7 +92,8 @@ module _ {T : Type 0} (defers : T → Option ℕ) (fixed : Fixed) (s : State T V
       → ComesTo (register_plan {T = T} c) out end → IsWell w.uses end → IsQuiet m → Goes (Holds defers fixed) Keeps s m id (told (Registers c) op out)
   goes op out m end steps comes well quiet =
       moved defers fixed s id (Registers c) (left_by end) m (registers_on w id c m end) (told (Registers c) op out) h at_id
-      (stepped defers fixed s id (Registers c) h at_id (left_by end) m (registers_on w id c m end) (m, end, steps, refl) (sym (registers_memory w id m c end.0 end.1))
+      (stepped defers fixed s id (Registers c) h at_id (left_by end) m (registers_on w id c m end) (m, end, steps, refl) (sym
+      (registers_memory w id m c end.0 end.1))
       (own m end.0 end.1 well) (lone end.0 end.1 well) quiet)
       (end, comes, refl, (own m end.0 end.1 well).short)
 
@@ -99,8 +105,10 @@ module _ {T : Type 0} (defers : T → Option ℕ) (fixed : Fixed) (s : State T V
     can = subst (λ (q : Registering). May Can Took value_at w.memory (plan_at c q)) stands (may defers fixed s id (Registers c) h at_id)
 
     -- the step ends so after this answer
-    goes_at : (op : Op T) (rest : Out T → Then T (Register × Progress ℕ)) (out : Out T) (m : Mem T) (end : Register × Progress ℕ) → P ≡ Do op rest → Took s.memory op out m
-        → ((shown : ℕ → Option T) → Ends shown (rest out) end) → IsWell w.uses end → IsQuiet m → Goes (Holds defers fixed) Keeps s m id (told (Registers c) op out)
+    goes_at : (op : Op T) (rest : Out T → Then T (Register × Progress ℕ)) (out : Out T) (m : Mem T) (end : Register × Progress ℕ) → P ≡ Do op rest
+        → Took s.memory op out m
+        → ((shown : ℕ → Option T) → Ends shown (rest out) end) → IsWell w.uses end → IsQuiet m
+        → Goes (Holds defers fixed) Keeps s m id (told (Registers c) op out)
     goes_at op rest out m end is took ends well quiet =
         goes op out m end
         (subst (λ (q : Plan T (Register × Progress ℕ)). Steps Took value_at w.memory q m end) (sym plan_is)
@@ -145,8 +153,10 @@ module _ {T : Type 0} (defers : T → Option ℕ) (fixed : Fixed) (s : State T V
 
   looks : c.stands ≡ at.Look → (out : Out T) (m : Mem T) → Gone (Load (Slot c.slot HEAD)) out m
   looks e (Found head) m took =
-      goes_at at.Look e (Load (Slot c.slot HEAD)) (looked c) (Found head) m (if can_be_taken head then taking c head (bucket_needed c.slot) else further c) refl took (λ shown. refl)
-      (well_either w.uses (can_be_taken head) (taking c head (bucket_needed c.slot)) (further c) (well_taking w.uses c head (bucket_needed c.slot) short.0) (well_further w.uses c short.0))
+      goes_at at.Look e (Load (Slot c.slot HEAD)) (looked c) (Found head) m (if can_be_taken head then taking c head
+      (bucket_needed c.slot) else further c) refl took (λ shown. refl)
+      (well_either w.uses (can_be_taken head) (taking c head (bucket_needed c.slot)) (further c) (well_taking w.uses c head (bucket_needed c.slot) short.0)
+      (well_further w.uses c short.0))
       (subst IsQuiet (sym took.1) h.quiet)
   looks e Stored m took = absurd took.0
   looks e (Exchanged x) m took = absurd took.0
@@ -159,7 +169,8 @@ module _ {T : Type 0} (defers : T → Option ℕ) (fixed : Fixed) (s : State T V
       goes_at (at.Widen bucket seen) e (Room bucket) (widened c seen) (Roomed (Ok made)) m (going c (at.Take seen)) refl took (λ shown. refl) (short.0, tt)
       (subst IsQuiet (sym took.1) (quiet_roomed s.memory bucket h.quiet))
   widens bucket seen e (Roomed (Err fault)) m took =
-      goes_at (at.Widen bucket seen) e (Room bucket) (widened c seen) (Roomed (Err fault)) m (refused c fault) refl took (λ shown. refl) tt (subst IsQuiet (sym took.1) h.quiet)
+      goes_at (at.Widen bucket seen) e (Room bucket) (widened c seen) (Roomed (Err fault)) m (refused c fault) refl took (λ shown. refl) tt (subst IsQuiet
+      (sym took.1) h.quiet)
   widens bucket seen e (Found x) m took = absurd took.0
   widens bucket seen e Stored m took = absurd took.0
   widens bucket seen e (Exchanged x) m took = absurd took.0
@@ -208,10 +219,13 @@ module _ (T : Type 0) (defers : T → Option ℕ) where
   rows_go_on fixed id (Registers c) op e s h at_id = registers defers fixed s id c h at_id op e
   rows_go_on fixed id (Outside t) op e s h at_id = absurd (cc e)
   rows_go_on fixed id (Enters t) op e s h at_id =
-      subst (λ (o : Op T). Allows (Holds defers fixed) Keeps id (Enters t) o (told (Enters t) o)) (same_some (Store (Slot t HEAD) ACTIVE) op e) (enters defers fixed id t) s h at_id
+      subst (λ (o : Op T). Allows (Holds defers fixed) Keeps id (Enters t) o (told (Enters t) o)) (same_some (Store (Slot t HEAD) ACTIVE) op e)
+      (enters defers fixed id t) s h at_id
   rows_go_on fixed id (Inside t) op e s h at_id = absurd (cc e)
   rows_go_on fixed id (Leaves t) op e s h at_id =
-      subst (λ (o : Op T). Allows (Holds defers fixed) Keeps id (Leaves t) o (told (Leaves t) o)) (same_some (Swap (Slot t HEAD) IDLE) op e) (leaves defers fixed id t) s h at_id
+      subst (λ (o : Op T). Allows (Holds defers fixed) Keeps id (Leaves t) o (told (Leaves t) o)) (same_some (Swap (Slot t HEAD) IDLE) op e)
+      (leaves defers fixed id t) s h at_id
   rows_go_on fixed id (Left t) op e s h at_id = absurd (cc e)
   rows_go_on fixed id (Frees t) op e s h at_id =
-      subst (λ (o : Op T). Allows (Holds defers fixed) Keeps id (Frees t) o (told (Frees t) o)) (same_some (Store (Slot t HEAD) FREE) op e) (frees defers fixed id t) s h at_id
+      subst (λ (o : Op T). Allows (Holds defers fixed) Keeps id (Frees t) o (told (Frees t) o)) (same_some (Store (Slot t HEAD) FREE) op e)
+      (frees defers fixed id t) s h at_id

@@ -68,14 +68,16 @@ module _ {T : Type 0} (defers : T → Option ℕ) (fixed : Fixed) where
   pub reached : (w : World T) → Came defers fixed w → Reached defers size w
   reached w came = runs_reached defers size came.0 (at_start defers fixed.roots) w start_reached came.1
 
-  runs_then : (events : List (Event T)) (w v n : World T) (e : Event T) → Runs defers size events w v → Happens defers size e v n → Runs defers size (events ++ e ∷ []) w n
+  runs_then : (events : List (Event T)) (w v n : World T) (e : Event T) → Runs defers size events w v → Happens defers size e v n
+      → Runs defers size (events ++ e ∷ []) w n
   runs_then [] w v n e h step = (n, subst (λ (u : World T). Happens defers size e u n) h step, refl)
   runs_then (a ∷ events) w v n e h step = (h.0, h.1, runs_then events h.0 v n e h.2 step)
 
   pub came_then : (w n : World T) (e : Event T) → Came defers fixed w → Happens defers size e w n → Came defers fixed n
   came_then w n e came step = (came.0 ++ e ∷ [], runs_then came.0 (at_start defers fixed.roots) w n e came.1 step)
 
-module _ {T : Type 0} (defers : T → Option ℕ) (fixed : Fixed) (s : State T View (World T)) (id : ℕ) (v : View) (h : Holds defers fixed s) (at_id : view_of s id ≡ Some v) where
+module _ {T : Type 0} (defers : T → Option ℕ) (fixed : Fixed) (s : State T View (World T)) (id : ℕ) (v : View) (h : Holds defers fixed s)
+    (at_id : view_of s id ≡ Some v) where
   abbrev w : World T
   w = s.world
 
@@ -84,7 +86,8 @@ module _ {T : Type 0} (defers : T → Option ℕ) (fixed : Fixed) (s : State T V
       → (j : ℕ) (x : View) → j ≢ id → view_of s j ≡ Some x → IsUsed n (use_of x)
   others n same j x ne e =
       let f = h.seats j x e in
-      still_used w n (use_of x) f.slot (λ t a k. same t (λ z. not_vacant x t a k (sym (used_so w (use_of x) t a f.slot k) ∙ z)) (λ b l. ne (h.apart j id t a b x v e at_id k l)))
+      still_used w n (use_of x) f.slot (λ t a k. same t (λ z. not_vacant x t a k (sym (used_so w (use_of x) t a f.slot k)
+      ∙ z)) (λ b l. ne (h.apart j id t a b x v e at_id k l)))
 
   -- a slot that is the seat's already is nobody else's
   pub alone : (u : View) → ((t : ℕ) (b : Use) → use_of u ≡ Some (t, b) → (a : Use) × (use_of v ≡ Some (t, a)))

@@ -1,2 +1,4 @@
 pub mod Rows
 pub mod Promises
+pub mod Begun
+pub mod Seeking

@@ -1,4 +1,4 @@
--- The rule of the collector's rows: there is a world that came about, of which the memory is that of the state, and each seat knows its row there, and its slot.
+-- The rule of the collector's rows: there is a world that came about, of which the memory is that of the state; each seat knows its row there, and its slot.
 use Rattle.std.specs.Prelude.{◌≡◌, ℕ, ◌≤◌, true, false, List, Option, Some, None}
 use Rattle.seize_words.specs.Mem.{Mem, Took, value_at, word_at}
 use Rattle.seize_words.specs.Op.{Op, Out}

@@ -1,10 +1,13 @@
-//! The rule of the collector's rows for a memory that threads share: slots are taken, entered, left and given up, by as many seats as there are.
+//! The collector's rows over a memory that threads share: slots are taken, entered, left and given up, by as many threads as there are.
 #![tactic(auto)]
 
+mod caller;
 mod law;
 mod rows;
+mod turns;
 mod view;
 
+pub use caller::Caller;
 pub use law::rows_go_on;
 pub use rows::OfRows;
 pub use view::{Fixed, View};

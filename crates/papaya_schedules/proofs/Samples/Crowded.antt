@@ -11,7 +11,7 @@ use Rattle.papaya_schedules.specs.Beginning.{fresh_call}
 use Rattle.papaya_schedules.specs.Moment.{Place, InMap, GivenBack, UnderWay, TableThere, IsLinked, Moment, start}
 use Rattle.papaya_schedules.specs.Tries.{try_at, is_taken_at, Meets}
 use Rattle.papaya_schedules.specs.Growing.{IsNextShape}
-use Rattle.papaya_schedules.proofs.Samples.Words.{strict, spot, table, shape, tries_meet}
+use Rattle.papaya_schedules.proofs.Samples.Words.{small, spot, table, shape, tries_meet}
 
 -- 31 pairs of hash 0 are at all its tries in a table of 64 places: in the map, or given back; and a call brings one more
 abbrev full : TableThere
@@ -31,12 +31,12 @@ abbrev inserting : UnderWay ℕ ℕ
 inserting = fresh_call [] [] (On (Insert 40 10)) 0 0
 
 -- The map has 31 pairs, less than half of 64 and more than an eighth: the next table is as long, and tried everywhere.
-after_pairs : IsNextShape strict inserting (crowd (InMap 0) ∷ []) 48 full (shape 64 63)
+after_pairs : IsNextShape small inserting (crowd (InMap 0) ∷ []) 48 full (shape 64 63)
 unfolding lib.Count.count_leading_zeros
 after_pairs = (Full 31 31, 31, 64, refl, (refl, (0, tries_meet 0 64 0 (crowd (InMap 0)) [] 31 refl)), refl, refl)
 
 -- It has none, and was made for 48: the next table is as long, and has the limit of that length.
-after_tombstones : IsNextShape strict inserting (crowd GivenBack ∷ []) 48 full (shape 64 30)
+after_tombstones : IsNextShape small inserting (crowd GivenBack ∷ []) 48 full (shape 64 30)
 unfolding lib.Count.count_leading_zeros
 after_tombstones = (Full 0 0, 0, 64, refl, (refl, (0, tries_meet 0 64 0 (crowd GivenBack) [] 31 refl)), refl, refl)
 
@@ -66,7 +66,7 @@ none_met hash (suc try) met (inr e) = absurd e
 short : ◌≡◌ {A = ℕ} 30 63 → ⊥
 short h = omega (arith, h)
 
-stops_early : IsNextShape strict inserting (crowd (InMap 0) ∷ []) 48 full (shape 64 30) → ⊥
+stops_early : IsNextShape small inserting (crowd (InMap 0) ∷ []) 48 full (shape 64 30) → ⊥
 unfolding lib.Count.count_leading_zeros
 stops_early (Full met most, count, initial, made, (valued, (hash, met_so)), is, limit) =
     let all : met ≡ 31 = all_met hash 31 met met_so in
@@ -81,7 +81,7 @@ long h = omega (arith, h)
 twice : ◌≡◌ {A = ℕ} 64 128 → ⊥
 twice h = omega (arith, h)
 
-tries_tombstones : IsNextShape strict inserting (crowd GivenBack ∷ []) 48 full (shape 64 63) → ⊥
+tries_tombstones : IsNextShape small inserting (crowd GivenBack ∷ []) 48 full (shape 64 63) → ⊥
 unfolding lib.Count.count_leading_zeros
 tries_tombstones (Full met most, count, initial, made, (valued, (hash, met_so)), is, limit) =
     let none : met ≡ 0 = none_met hash 31 met met_so in

@@ -56,7 +56,7 @@ pub fn room_is_made_in_time()
 {}
 
 /// The bucket whose words must be there before a slot is taken: where the slot is the last of its bucket, the next one.
-fn needed_bucket(slot: u64) -> Option<u64>
+pub fn needed_bucket(slot: u64) -> Option<u64>
     ensures { result ≡ bucket_needed slot }
 {
     if slot >= LAST_SLOT {

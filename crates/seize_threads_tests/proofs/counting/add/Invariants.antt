@@ -1,5 +1,5 @@
 use Rattle.std.proofs.Common.{◌≡◌}
-use Rattle.seize_blocks_tests.proofs.counting.sees.Given as goal
+use Rattle.seize_threads_tests.proofs.counting.add.Given as goal
 
 -- the seat is one of this memory
 abbrev pub invariant-loop : goal.invariant-loop

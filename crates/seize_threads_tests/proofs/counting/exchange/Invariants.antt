@@ -1,5 +1,5 @@
 use Rattle.std.proofs.Common.{◌≡◌, ◌≤◌}
-use Rattle.seize_blocks_tests.proofs.counting.exchange.Given as goal
+use Rattle.seize_threads_tests.proofs.counting.exchange.Given as goal
 
 -- the seat is one of this memory, and no turn counts twice
 abbrev pub invariant-loop-turn : goal.invariant-loop-turn

@@ -5,7 +5,7 @@ use Rattle.seize_words.specs.Mem.{Mem, Took}
 use Rattle.seize_words.specs.Op.{Out, Add, Exchange, Found, Stored, Exchanged, Made, Taken, Roomed}
 use Rattle.seize_words.specs.declared.at.At.TheVariants.{Root}
 use Rattle.seize_seats.specs.State.{State, Goes, Allows}
-use Rattle.seize_blocks_tests.specs.Root.{HasRoot}
+use Rattle.seize_threads_tests.specs.Root.{HasRoot}
 
 -- nothing is kept
 abbrev pub NoneKept : Unit {0} → Unit {0} → Unit {0} → ℕ → Type 0

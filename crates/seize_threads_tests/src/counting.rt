@@ -1,6 +1,6 @@
 //! Two threads change one word, each by single steps: no change is lost.
 ghost use Rattle.std.specs.Prelude.{◌≡◌};
-ghost use Rattle.seize_blocks_tests.specs.Root.{HasRoot};
+ghost use Rattle.seize_threads_tests.specs.Root.{HasRoot};
 
 use seize_blocks::{Blocks, Home, Rule};
 use seize_words::At;
@@ -8,7 +8,7 @@ use std::test::Fail;
 use std::thread;
 
 /// There is a root, and no more is said.
-struct OneRoot;
+pub(crate) struct OneRoot;
 
 impl Rule<u64> for OneRoot {
     type View = ();
@@ -27,7 +27,7 @@ impl Rule<u64> for OneRoot {
 }
 
 /// Adds 1 so many times.
-fn add(blocks: &Blocks<u64, OneRoot>, times: u64) -> u64 {
+pub(crate) fn add(blocks: &Blocks<u64, OneRoot>, times: u64) -> u64 {
     let mut seat = blocks.seat();
     for _ in 0..times {
         blocks.add(&mut seat, At::Root(0), 1);
@@ -75,7 +75,7 @@ fn each_exchange_that_succeeds_counts_once(rt: HostRuntime) -> Result<(), Fail> 
 }
 
 /// Whether the word was seen within so many turns.
-fn sees(blocks: &Blocks<u64, OneRoot>, word: u64) -> bool {
+pub(crate) fn sees(blocks: &Blocks<u64, OneRoot>, word: u64) -> bool {
     let mut seat = blocks.seat();
     for _ in 0..100_000_000u64 {
         if blocks.load(&mut seat, At::Root(0)) == word {

@@ -1,0 +1,7 @@
+//! Tests of the memory that threads share, and of the collector's rows over it: two threads at a time, each with a seat of its own.
+#![tactic(auto)]
+
+#[cfg(test)]
+mod counting;
+#[cfg(test)]
+mod sections;
