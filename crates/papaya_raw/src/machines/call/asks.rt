@@ -37,7 +37,10 @@ impl<K, V, Q> KeyCall<K, V, Q> {
     {
         self.trial = self.trial.found_full();
         let Trial {
-            table, met, most, ..
+            table,
+            met,
+            most,
+            ..
         } = self.trial;
         let reason = Reason::Full { met, most };
         self.go_to(Calling::Allocs(NewTable::after(self.setting, table, reason)))
