@@ -26,7 +26,7 @@ impl Rule<u64> for OneRoot {
     ghost newcomer = { λ _. tt };
 }
 
-/// Adds 1 so many times.
+/// Adds 1 so many times, and answers what it finds then.
 pub(crate) fn add(blocks: &Blocks<u64, OneRoot>, times: u64) -> u64 {
     let mut seat = blocks.seat();
     for _ in 0..times {
@@ -35,7 +35,7 @@ pub(crate) fn add(blocks: &Blocks<u64, OneRoot>, times: u64) -> u64 {
     blocks.load(&mut seat, At::Root(0))
 }
 
-/// Adds 1 so many times, each time by a load and an exchange, and again where another thread was faster; answers how often it was.
+/// Tries so many times to add 1, each time by a load and an exchange; answers how often no other thread was faster.
 fn exchange(blocks: &Blocks<u64, OneRoot>, times: u64) -> u64 {
     let mut seat = blocks.seat();
     let mut done = 0;
@@ -51,6 +51,7 @@ fn exchange(blocks: &Blocks<u64, OneRoot>, times: u64) -> u64 {
     done
 }
 
+/// If one thread were served after the other, this would pass too: it shows that an addition is one step, not that threads run at once.
 #[test]
 fn no_addition_of_two_threads_is_lost(rt: HostRuntime) -> Result<(), Fail> {
     let home = Home::<u64, OneRoot>::open(rt.alloc(), 1, &())?;
@@ -61,6 +62,7 @@ fn no_addition_of_two_threads_is_lost(rt: HostRuntime) -> Result<(), Fail> {
     Ok(())
 }
 
+/// If one thread were served after the other, each exchange would succeed, and the count would be right too.
 #[test]
 fn each_exchange_that_succeeds_counts_once(rt: HostRuntime) -> Result<(), Fail> {
     let home = Home::<u64, OneRoot>::open(rt.alloc(), 1, &())?;
@@ -86,6 +88,7 @@ pub(crate) fn sees(blocks: &Blocks<u64, OneRoot>, word: u64) -> bool {
     false
 }
 
+/// If one thread were served after the other, the first would wait for the second in vain, and the test would fail.
 #[test]
 fn two_threads_answer_each_other(rt: HostRuntime) -> Result<(), Fail> {
     let home = Home::<u64, OneRoot>::open(rt.alloc(), 1, &())?;
