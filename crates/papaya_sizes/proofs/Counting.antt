@@ -30,7 +30,7 @@ use Rattle.papaya_sizes.proofs.Balance.{IsWorth, Moves, ReplacesFirst, minus_is,
 use Rattle.papaya_sizes.proofs.Places.{EndsNoneOf, TakesFromOne, brings, size_goes, takes}
 
 -- there is a shard
-shards_some : (n : ℕ) → 0 < next_power n
+pub shards_some : (n : ℕ) → 0 < next_power n
 shards_some n = by (nat_le n 1)
   where
     by : (q : Bool) → 0 < (if q then 1 else 2 ^ (floor_log2 (n - 1) + 1))

@@ -144,6 +144,13 @@ module _ {K V : Type 0} (terms : Terms) (log : List (Entry K V)) where
   others_spare k acted its e effects may =
       all_so (λ f. may_do its m f ≡ true) (SparesIt k acted) (λ f may_it n is at. never_ends its e n (sym (ap (may_do its m) is) ∙ may_it)) effects (passes_each (may_do its m) effects may)
 
+  calls_end_none : (its : Event K V) (own : List ℕ) → caller_of its ≡ Some own → ends_none its ≡ true
+  calls_end_none (event.EndMap name) own is = absurd (cc is)
+  calls_end_none _ own is = refl
+
+  pub calls_spare : (k : ℕ) (acted : Option ℕ) (its : Event K V) (own : List ℕ) → caller_of its ≡ Some own → (effects : List Effect) → list_all (may_do its m) effects ≡ true → AllByRecursion (SparesIt k acted) effects
+  calls_spare k acted its own is effects may = others_spare k acted its (calls_end_none its own is) effects may
+
   -- a map that is left as another one ends has another number
   left_spare : (name : List ℕ) → AllIsInOrder m → (f : MapThere) → map_at f.number m ≡ Some f → not (is_same f.name name) ≡ true → (g : Effect) → SparesIt f.number (number_of name m) g
   left_spare name h f found kept g n is at = by (map_of name m) refl at

@@ -10,4 +10,6 @@ mod Ending
 mod Words
 mod Events
 mod Sizes
+mod Lens
 mod Once
+mod Samples
