@@ -1,5 +1,5 @@
 -- What an event begins leaves what is said of each map, and what is there; of a map that it makes nothing is said, and it has no pairs.
-use Rattle.std.specs.Prelude.{◌≡◌, ℕ, zero, suc, ◌+◌, ◌%◌, ◌^◌, ◌<◌, ◌≤◌, ◌==◌, Bool, true, false, List, [], ◌∷◌, ◌++◌, length, sum_by, Option, Some, None, if◌then◌else◌}
+use Rattle.std.specs.Prelude.{◌≡◌, ℕ, zero, suc, ◌+◌, ◌%◌, ◌^◌, ◌<◌, ◌≤◌, ◌==◌, Bool, true, false, List, [], ◌∷◌, ◌++◌, is_some, length, sum_by, Option, Some, None, if◌then◌else◌}
 use Rattle.std.specs.List.{AllByRecursion, list_any}
 use Rattle.std.proofs.Common.{refl, ap, sym, subst, ◌∙◌, arith}
 use Rattle.std.proofs.lemmas.Bool.{ne_eqb}
@@ -79,7 +79,7 @@ module _ {K V : Type 0} where
           omega (arith, words, none, plus, zero_plus)),
       (let places = places_same (is_in_map k) m.place (λ j. Unborn) (length m.stored) (λ j l u. not_there j (is_in_map k (m.place j)) refl) in
           let none = nothing_below (is_in_map k) refl (length m.stored) in
-          let minus = sums_same (minus_of k) (λ c. 0) m.calls (all_so (λ (c : UnderWay K V). c.map < m.made) (λ c. minus_of k c ≡ 0) (λ c l. ap (λ (q : Bool). if q then _ else 0) (other c l)) m.calls (calls_below_made m h)) in
+          let minus = sums_same (minus_of k) (λ c. 0) m.calls (all_so (λ (c : UnderWay K V). c.map < m.made) (λ c. minus_of k c ≡ 0) (λ c l. ap (λ (q : Bool). if q then c.lost + once_if (is_some c.replacing) else 0) (other c l)) m.calls (calls_below_made m h)) in
           let zero_minus = zeros m.calls in
           omega (arith, places, none, minus, zero_minus)),
     )

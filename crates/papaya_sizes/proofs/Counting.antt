@@ -136,7 +136,7 @@ module _ {K V : Type 0} where
 
 -- what one effect does
 module _ {K V : Type 0} (terms : Terms) (k : ℕ) (m : Moment K V) where
-  shards : ℕ
+  abbrev shards : ℕ
   shards = shards_of terms
 
   module _ (moments : List (Moment K V)) (h : AllIsInOrder m) (own : List ℕ) (c : UnderWay K V) (c_is : call_of own m ≡ Some c) where

@@ -17,7 +17,7 @@ use Rattle.papaya_finds.specs.Given.Schedules.Beginning.{begun}
 use Rattle.papaya_finds.specs.Given.Schedules.Effects.{with_effects, worked}
 use Rattle.papaya_finds.specs.Given.Schedules.Entry.{Entry, IfCall, acted_on, caller_of, ends_call}
 use Rattle.papaya_finds.specs.Given.Schedules.Coming.{shows_now}
-use Rattle.papaya_finds.specs.Given.Schedules.Handing.{IsWhole, comes_clear, may_do}
+use Rattle.papaya_finds.specs.Given.Schedules.Handing.{IsWhole, comes_clear, is_only, is_reclaiming, may_do}
 use Rattle.papaya_finds.specs.Given.Schedules.Moment.{MapThere, UnderWay, Moment}
 use Rattle.papaya_finds.specs.Given.Schedules.Terms.{Terms}
 use Rattle.papaya_finds.specs.Given.Schedules.Views.{call_of, map_at, map_of, number_of}
@@ -136,8 +136,8 @@ module _ {K V : Type 0} (terms : Terms) (log : List (Entry K V)) where
 
   never_ends : (its : Event K V) → ends_none its ≡ true → (n : ℕ) → may_do its m (effect.Ended n) ≡ true → ⊥
   never_ends (event.EndMap name) e n may = cc e
-  never_ends (event.Refresh guard) e n may = cc (and_parts _ _ may).1
-  never_ends (event.DropGuard guard) e n may = cc (and_parts _ _ may).1
+  never_ends (event.Refresh guard) e n may = cc (and_parts (is_only guard m) (is_reclaiming (effect.Ended n)) may).1
+  never_ends (event.DropGuard guard) e n may = cc (and_parts (is_only guard m) (is_reclaiming (effect.Ended n)) may).1
   never_ends _ e n may = cc may
 
   others_spare : (k : ℕ) (acted : Option ℕ) (its : Event K V) → ends_none its ≡ true → (effects : List Effect) → list_all (may_do its m) effects ≡ true → AllByRecursion (SparesIt k acted) effects

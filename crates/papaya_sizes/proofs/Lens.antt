@@ -68,6 +68,11 @@ one_same n s f g a b less same small_f small_g sums j = by (cases_eq j s)
     by (inl e) = ap f e ∙ both ∙ ap g (sym e)
     by (inr ne) = same j ne
 
+-- no moments give no sum of a shard
+none_adds : (K V : Type 0) (k n sum : ℕ) → 0 < n → AddsUp {K = K} {V = V} k [] n sum → ⊥
+none_adds K V k zero sum some adds = omega (arith, some)
+none_adds K V k (suc n) sum some adds = adds
+
 module _ {X : Type 0} (P Q : X → Type 0) (G : Type 0) (so : (x : X) → P x → Q x → G) where
   from_one : (xs : List X) → OneOf P xs → AllByRecursion Q xs → G
   from_one [] none all = absurd none
@@ -90,7 +95,7 @@ module _ {K V : Type 0} where
   headed : (begun : ℕ) (log : List (Entry K V)) → (moments_from begun log ≡ []) ⊎ ((rest : List (Moment K V)) × (moments_from begun log ≡ moment log ∷ rest))
   headed begun [] = by (begun == 0)
     where
-      by : (q : Bool) → ((if q then moment [] ∷ [] else []) ≡ []) ⊎ ((rest : List (Moment K V)) × ((if q then moment [] ∷ [] else []) ≡ moment [] ∷ rest))
+      by : (q : Bool) → ((if q then moment {K = K} {V = V} [] ∷ [] else []) ≡ []) ⊎ ((rest : List (Moment K V)) × ((if q then moment {K = K} {V = V} [] ∷ [] else []) ≡ moment {K = K} {V = V} [] ∷ rest))
       by true = inr ([], refl)
       by false = inl refl
   headed begun (e ∷ log) = by (nat_lt (length (e ∷ log)) begun)
@@ -172,7 +177,7 @@ module _ {K V : Type 0} where
     steady : (begun : ℕ) (log : List (Entry K V)) → IsLegalLog eq terms log → StaysCounted k size (moments_from begun log) → Steady k ((moment log).shards k) (moments_from begun log)
     steady begun [] legal stays = by (begun == 0)
       where
-        by : (q : Bool) → Steady k ((moment []).shards k) (if q then moment [] ∷ [] else [])
+        by : (q : Bool) → Steady k ((moment {K = K} {V = V} []).shards k) (if q then moment {K = K} {V = V} [] ∷ [] else [])
         by true = ((λ j. refl), tt)
         by false = tt
     steady begun (e ∷ log) legal stays = by (nat_lt (length (e ∷ log)) begun) stays (steady begun log legal.1)
@@ -194,10 +199,6 @@ module _ {K V : Type 0} where
         by : (q : Bool) → StaysCounted k size (if q then [] else moment (e ∷ log) ∷ moments_from begun log) → Older → Steady k ((moment (e ∷ log)).shards k) (if q then [] else moment (e ∷ log) ∷ moments_from begun log)
         by true stayed rest = tt
         by false stayed rest = ((λ j. refl), older rest stayed.0 stayed.1)
-
-  none_adds : (k n sum : ℕ) → 0 < n → AddsUp {K = K} {V = V} k [] n sum → ⊥
-  none_adds k zero sum some adds = omega (arith, some)
-  none_adds k (suc n) sum some adds = adds
 
   module _ (eq : K → K → Bool) (terms : Terms) (log : List (Entry K V)) (e : Entry K V) (legal : IsLegalLog eq terms (e ∷ log)) (c : UnderWay K V) (c_is : acting (caller_of e.event) (worked e (moment log)) ≡ Some c) where
     abbrev m : Moment K V
@@ -232,7 +233,7 @@ module _ {K V : Type 0} where
     tells n size stays (sum, adds, is) = by (headed c.begun log)
       where
         by : (moments_from c.begun log ≡ []) ⊎ ((rest : List (Moment K V)) × (moments_from c.begun log ≡ m ∷ rest)) → n ≡ count_in (size % 2 ^ 64)
-        by (inl none) = absurd (none_adds c.map (shards_of terms) sum (shards_some terms.processors) (subst (λ (ms : List (Moment K V)). AddsUp c.map ms (shards_of terms) sum) none adds))
+        by (inl none) = absurd (none_adds K V c.map (shards_of terms) sum (shards_some terms.processors) (subst (λ (ms : List (Moment K V)). AddsUp c.map ms (shards_of terms) sum) none adds))
         by (inr some) =
             let still = (subst (StaysCounted c.map size) some.1 stays).0 in
             let all = adds_so c.map (m.shards c.map) (moments_from c.begun log) (steady eq terms c.map size c.begun log legal.1 stays) (shards_of terms) sum adds in

@@ -1,7 +1,7 @@
 -- Each pair of a run stands once among those that it gave back and those that it has kept.
 use Rattle.std.specs.Prelude.{◌≡◌, ℕ, zero, suc, ◌+◌, ◌≤◌, ◌==◌, ◌&&◌, ◌||◌, nat_le, Bool, true, false, cond, List, [], ◌∷◌, ◌++◌, find, length, map, Option, Some, None, option_map, slice_get, if◌then◌else◌}
 use Rattle.std.proofs.Common.{refl, ap, sym, subst, ◌∙◌, arith, inl, inr}
-use Rattle.std.proofs.lemmas.Bool.{eq-eqb, leb-false, leb-true}
+use Rattle.std.proofs.lemmas.Bool.{eq-eqb, le-leb, leb-false, leb-true}
 use Rattle.std.proofs.lemmas.List.{map-append}
 use Rattle.papaya_finds.specs.Given.Runs.declared.record.Pair.{Pair}
 use Rattle.papaya_finds.specs.Given.Runs.LifeCycle.{times}
@@ -24,7 +24,7 @@ use Rattle.papaya_sizes.proofs.Sizes.{all_so_far}
 -- lists
 
 times_both : (n : ℕ) (xs ys : List ℕ) → times n (xs ++ ys) ≡ times n xs + times n ys
-times_both n [] ys = refl
+times_both n [] ys = omega arith
 times_both n (x ∷ xs) ys = let rest = times_both n xs ys in omega (arith, rest)
 
 -- where a pair was stored it is given back, in a map, or waits
@@ -66,13 +66,13 @@ module _ {K V : Type 0} where
   past_last (x ∷ xs) (suc n) l = past_last xs n (omega (arith, l))
 
   module _ (eq : K → K → Bool) (terms : Terms) (schedule : List (Event K V)) (run : Run K V) (is : IsRunOf eq terms schedule run) where
-    m : Moment K V
+    abbrev m : Moment K V
     m = moment (log_of schedule run)
 
     order : AllIsInOrder m
     order = (all_so_far eq terms (log_of schedule run) is.legal).order
 
-    Once : (low high : Bool) (n : ℕ) → Type 0
+    abbrev Once : (low high : Bool) (n : ℕ) → Type 0
     Once low high n = times n (numbers (run.given_back ++ run.kept)) ≡ (if low && high then 1 else 0)
 
     inside : (n : ℕ) → 1 ≤ n → n ≤ length m.stored → Once true true n
@@ -89,7 +89,7 @@ module _ {K V : Type 0} where
 
     pub has_each_once : (n : ℕ) → Once (nat_le 1 n) (nat_le n run.stored) n
     has_each_once zero = outside zero refl
-    has_each_once (suc n) = by (nat_le (suc n) run.stored) refl
+    has_each_once (suc n) = subst (λ (low : Bool). Once low (nat_le (suc n) run.stored) (suc n)) (sym (le-leb 1 (suc n) (omega arith))) (by (nat_le (suc n) run.stored) refl)
       where
         stored : run.stored ≡ length m.stored
         stored = is.tells.stored

@@ -1,5 +1,5 @@
 -- At each moment of a run all is in order, and each map is counted.
-use Rattle.std.specs.Prelude.{◌≡◌, ℕ, ◌+◌, ◌%◌, ◌^◌, ◌==◌, is_some, List, [], ◌∷◌, sum_by, Option, None, if◌then◌else◌}
+use Rattle.std.specs.Prelude.{◌≡◌, ℕ, ◌+◌, ◌%◌, ◌^◌, ◌==◌, Bool, is_some, List, [], ◌∷◌, sum_by, Option, None, if◌then◌else◌}
 use Rattle.std.specs.List.{AllByRecursion}
 use Rattle.std.proofs.Common.{refl, ap, sym, ◌∙◌, arith}
 use Rattle.papaya_finds.specs.Given.Schedules.After.{moment}

@@ -33,6 +33,9 @@ pub record AreWords (made : ℕ) (shards : ℕ → ℕ → ℕ) : Type 0 where
   pub blank : (k s : ℕ) → made ≤ k → shards k s ≡ 0
 
 module _ {K V : Type 0} where
+  word_small : (c : UnderWay K V) (word : ℕ) → word_with c word < 2 ^ 64
+  word_small c word = omega arith
+
   counted_words : (made : ℕ) (c : UnderWay K V) (s : ℕ) (shards : ℕ → ℕ → ℕ) → c.map < made → AreWords made shards → AreWords made (shards_by (Some c) (effect.Counted s) shards)
   counted_words made c s shards below words = record { small = λ k j. small k j (cases_eq k c.map); blank = λ k j past. blank k j past (cases_eq k c.map) }
     where
@@ -43,7 +46,7 @@ module _ {K V : Type 0} where
       new = put s word (shards c.map)
 
       its_small : (j : ℕ) → (j ≡ s) ⊎ (j ≢ s) → new j < 2 ^ 64
-      its_small j (inl e) = subst (λ (n : ℕ). n < 2 ^ 64) (sym (put_here s word (shards c.map) j e)) (omega arith)
+      its_small j (inl e) = subst (λ (n : ℕ). n < 2 ^ 64) (sym (put_here s word (shards c.map) j e)) (word_small c (shards c.map s))
       its_small j (inr ne) = subst (λ (n : ℕ). n < 2 ^ 64) (sym (put_elsewhere s word (shards c.map) j ne)) (words.small c.map j)
 
       small : (k j : ℕ) → (k ≡ c.map) ⊎ (k ≢ c.map) → put c.map new shards k j < 2 ^ 64
@@ -59,9 +62,9 @@ module _ {K V : Type 0} where
   words_by made (Some c) (effect.Counted s) shards below words = counted_words made c s shards below words
   words_by made (Some c) _ shards below words = words
 
-  if_found : (test : UnderWay K V → Bool) (P : UnderWay K V → Type 0) (o : Option (UnderWay K V)) → ((c : UnderWay K V) → o ≡ Some c → P c) → IfCall P o
-  if_found test P None so = tt
-  if_found test P (Some c) so = so c refl
+  if_found : (P : UnderWay K V → Type 0) (o : Option (UnderWay K V)) → ((c : UnderWay K V) → o ≡ Some c → P c) → IfCall P o
+  if_found P None so = tt
+  if_found P (Some c) so = so c refl
 
   -- an effect leaves them such words
   pub one_words : (caller : Option (List ℕ)) (acted : Option ℕ) (m : Moment K V) (f : Effect) → AllIsInOrder m → AreWords m.made m.shards → AreWords m.made (with_effect caller acted f m).shards
@@ -70,7 +73,7 @@ module _ {K V : Type 0} where
       its : (who : Option (List ℕ)) → IfCall (λ (c : UnderWay K V). c.map < m.made) (acting who m)
       its None = tt
       its (Some own) =
-          if_found (λ (d : UnderWay K V). is_same d.caller own) (λ (c : UnderWay K V). c.map < m.made) (call_of own m)
+          if_found (λ (c : UnderWay K V). c.map < m.made) (call_of own m)
           (λ c is. (found_of (λ (d : UnderWay K V). is_same d.caller own) (λ (d : UnderWay K V). d.map < m.made) m.calls c (calls_below_made m h) is).1)
 
   -- so does what an event begins
