@@ -1,6 +1,6 @@
 -- What is said of how many pairs a map has, by its shards and by calls, and how many are there: both go up alike from one moment to another.
-use Rattle.std.specs.Prelude.{◌≡◌, ℕ, ◌+◌, ◌*◌, ◌-◌, ◌/◌, ◌%◌, ◌^◌, ◌==◌, Bool, true, false, is_some, List, sum_by, Option, Some, None, if◌then◌else◌}
-use Rattle.std.proofs.Common.{refl, ap, sym, subst, ◌∙◌, arith}
+use Rattle.std.specs.Prelude.{◌≡◌, ℕ, ◌+◌, ◌*◌, ◌-◌, ◌/◌, ◌%◌, ◌^◌, ◌==◌, Bool, true, false, is_some, List, sum_by, Option, None, if◌then◌else◌}
+use Rattle.std.proofs.Common.{refl, ap, ◌∙◌, arith}
 use Rattle.papaya_finds.specs.Given.Schedules.declared.effect.Effect.{Effect}
 use Rattle.papaya_finds.specs.Given.Schedules.declared.effect.Effect.TheVariants.{Replaced}
 use Rattle.papaya_finds.specs.Given.Schedules.Entry.{ByCall, acting}

@@ -1,5 +1,5 @@
 -- What an event begins leaves what is said of each map, and what is there; of a map that it makes nothing is said, and it has no pairs.
-use Rattle.std.specs.Prelude.{◌≡◌, ℕ, zero, suc, ◌+◌, ◌%◌, ◌^◌, ◌<◌, ◌≤◌, ◌==◌, Bool, true, false, List, [], ◌∷◌, ◌++◌, is_some, length, sum_by, Option, Some, None, if◌then◌else◌}
+use Rattle.std.specs.Prelude.{◌≡◌, ℕ, zero, suc, ◌+◌, ◌%◌, ◌^◌, ◌<◌, ◌≤◌, ◌==◌, Bool, true, false, List, [], ◌∷◌, is_some, length, sum_by, Option, Some, None, if◌then◌else◌}
 use Rattle.std.specs.List.{AllByRecursion, list_any}
 use Rattle.std.proofs.Common.{refl, ap, sym, subst, ◌∙◌, arith}
 use Rattle.std.proofs.lemmas.Bool.{ne_eqb}
@@ -9,10 +9,10 @@ use Rattle.papaya_finds.specs.Given.Schedules.declared.event.Event.{Event}
 use Rattle.papaya_finds.specs.Given.Schedules.declared.event.Event.TheVariants as event
 use Rattle.papaya_finds.specs.Given.Schedules.declared.outcome.Outcome.{Outcome}
 use Rattle.papaya_finds.specs.Given.Schedules.declared.outcome.Outcome.TheVariants as outcome
-use Rattle.papaya_finds.specs.Given.Schedules.Beginning.{begun, fresh_call, with_call, with_map}
+use Rattle.papaya_finds.specs.Given.Schedules.Beginning.{begun, fresh_call, with_call}
 use Rattle.papaya_finds.specs.Given.Schedules.Entry.{is_busy, nameless}
 use Rattle.papaya_finds.specs.Given.Schedules.Moment.{MapThere, Place, Unborn, UnderWay, Moment}
-use Rattle.papaya_finds.specs.Given.Schedules.Views.{is_in_map, number_of, places_below, size_of}
+use Rattle.papaya_finds.specs.Given.Schedules.Views.{is_in_map, number_of, places_below}
 use Rattle.papaya_finds.specs.Waiting.{once_if}
 use Rattle.papaya_finds.specs.Within.{AllIsInOrder, HasItsMap}
 use Rattle.papaya_finds.proofs.Grown.{number_is}

@@ -1,5 +1,5 @@
 -- An effect leaves what is said of how many pairs a map has, and how many are there, alike: a call that stores a pair, or takes one out, has that to count, until it has counted it.
-use Rattle.std.specs.Prelude.{◌≡◌, ◌≢◌, ℕ, ◌+◌, ◌*◌, ◌-◌, ◌%◌, ◌^◌, ◌<◌, ◌==◌, nat_le, Bool, true, false, ◌⊎◌, is_some, List, [], ◌∷◌, map, sum_by, Option, Some, None, if◌then◌else◌}
+use Rattle.std.specs.Prelude.{◌≡◌, ◌≢◌, ℕ, ◌+◌, ◌*◌, ◌-◌, ◌^◌, ◌<◌, ◌==◌, nat_le, Bool, true, false, ◌⊎◌, is_some, List, map, sum_by, Option, Some, None, if◌then◌else◌}
 use Rattle.std.proofs.Common.{refl, ap, sym, subst, ◌∙◌, arith, inl, inr}
 use Rattle.std.proofs.lemmas.Bool.{cases_eq, eq-eqb, ne_eqb}
 use Rattle.std.proofs.Math.Nat.{mod-lt}
@@ -11,12 +11,12 @@ use Rattle.papaya_finds.specs.Given.Schedules.declared.effect.Effect.{Effect}
 use Rattle.papaya_finds.specs.Given.Schedules.declared.effect.Effect.TheVariants as effect
 use Rattle.papaya_finds.specs.Given.Schedules.declared.effect.Spot.{Spot}
 use Rattle.papaya_finds.specs.Given.Schedules.declared.effect.Thing.TheVariants.{APair, ATable}
-use Rattle.papaya_finds.specs.Given.Schedules.Effects.{call_by, due_for, gain, in_map, shards_by, with_effect, word_with}
-use Rattle.papaya_finds.specs.Given.Schedules.Entry.{ByCall, acting}
+use Rattle.papaya_finds.specs.Given.Schedules.Effects.{call_by, due_for, gain, shards_by, with_effect, word_with}
+use Rattle.papaya_finds.specs.Given.Schedules.Entry.{ByCall}
 use Rattle.papaya_finds.specs.Given.Schedules.Growing.{only_looks}
 use Rattle.papaya_finds.specs.Given.Schedules.Lists.{put}
 use Rattle.papaya_finds.specs.Given.Schedules.Lives.{CallFinds, EventFinds, Finds}
-use Rattle.papaya_finds.specs.Given.Schedules.Moment.{InMap, Place, UnderWay, Moment}
+use Rattle.papaya_finds.specs.Given.Schedules.Moment.{Place, UnderWay, Moment}
 use Rattle.papaya_finds.specs.Given.Schedules.Terms.{Terms, shards_of}
 use Rattle.papaya_finds.specs.Given.Schedules.Views.{call_of, is_in_map, size_of}
 use Rattle.papaya_finds.proofs.Given.Follows.Alike.{put_here, put_elsewhere}
@@ -26,7 +26,7 @@ use Rattle.papaya_finds.specs.Within.{AllIsInOrder, ActsOn}
 use Rattle.papaya_finds.proofs.Life.{life_finds_placed}
 use Rattle.papaya_sizes.specs.Sizes.{sum_below}
 use Rattle.papaya_sizes.proofs.Sums.{below_put, its_weight}
-use Rattle.papaya_sizes.proofs.Balance.{IsWorth, Moves, ReplacesFirst, minus_is, minus_of, moves_none, plus_is, plus_of, said, there, word_even}
+use Rattle.papaya_sizes.proofs.Balance.{IsWorth, Moves, ReplacesFirst, minus_is, minus_of, moves_none, plus_is, plus_of, word_even}
 use Rattle.papaya_sizes.proofs.Places.{EndsNoneOf, TakesFromOne, brings, size_goes, takes}
 
 -- there is a shard

@@ -1,5 +1,5 @@
 -- What an event's outcome leaves: what is said of each map, and what is there, as a call that ends has counted all; and a map that ends is none of those that are left.
-use Rattle.std.specs.Prelude.{◌≡◌, ℕ, ◌+◌, ◌==◌, Bool, true, false, not, ◌&&◌, ◌⊎◌, is_some, List, [], ◌∷◌, filter, find, map, sum_by, MatchBool, Option, Some, None, option_map, if◌then◌else◌}
+use Rattle.std.specs.Prelude.{◌≡◌, ℕ, ◌+◌, ◌==◌, Bool, true, false, not, ◌⊎◌, is_some, List, [], filter, map, sum_by, Option, Some, None, option_map, if◌then◌else◌}
 use Rattle.std.specs.List.{AllByRecursion, list_all}
 use Rattle.std.proofs.Common.{refl, ap, sym, subst, ◌∙◌, arith, inl, inr}
 use Rattle.std.proofs.lemmas.Bool.{and_parts}
@@ -14,7 +14,7 @@ use Rattle.papaya_finds.specs.Given.Schedules.declared.outcome.Outcome.{Outcome}
 use Rattle.papaya_finds.specs.Given.Schedules.declared.outcome.Outcome.TheVariants as outcome
 use Rattle.papaya_finds.specs.Given.Schedules.After.{after, calls_on, comes_to, maps_on, moment, replied, stepped, without_call}
 use Rattle.papaya_finds.specs.Given.Schedules.Beginning.{begun}
-use Rattle.papaya_finds.specs.Given.Schedules.Effects.{with_effects, worked}
+use Rattle.papaya_finds.specs.Given.Schedules.Effects.{worked}
 use Rattle.papaya_finds.specs.Given.Schedules.Entry.{Entry, IfCall, acted_on, caller_of, ends_call}
 use Rattle.papaya_finds.specs.Given.Schedules.Coming.{shows_now}
 use Rattle.papaya_finds.specs.Given.Schedules.Handing.{IsWhole, comes_clear, is_only, is_reclaiming, may_do}
@@ -30,7 +30,7 @@ use Rattle.papaya_finds.proofs.Grown.{found_of}
 use Rattle.papaya_finds.proofs.Lists.{all_both, all_so, each_is, passes_each}
 use Rattle.papaya_finds.proofs.Over.{calls_stay}
 use Rattle.papaya_finds.proofs.Tables.{all_kept}
-use Rattle.papaya_sizes.proofs.Balance.{IsWorth, Moves, minus_is, minus_of, moves_none, none_either, plus_is, plus_of, said, there}
+use Rattle.papaya_sizes.proofs.Balance.{IsWorth, Moves, minus_is, minus_of, moves_none, none_either, plus_is, plus_of, there}
 use Rattle.papaya_sizes.proofs.Settled.{CountsNone, IsSettled, Its, comes_worth, in_turn_or, its_clear, named, told_worth}
 use Rattle.papaya_sizes.proofs.Sums.{all_weigh, gone_weigh}
 

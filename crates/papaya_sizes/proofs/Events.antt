@@ -1,5 +1,5 @@
 -- An event of a run: what is said of how many pairs each map has goes as these do.
-use Rattle.std.specs.Prelude.{◌≡◌, ℕ, ◌%◌, ◌^◌, Bool, true, false, not, List, [], ◌∷◌, ◌++◌, filter, flat_map, map, Option, Some, None}
+use Rattle.std.specs.Prelude.{◌≡◌, ℕ, Bool, true, false, not, List, [], ◌∷◌, filter, flat_map, map, Option, Some, None}
 use Rattle.std.specs.List.{AllByRecursion}
 use Rattle.std.proofs.Common.{refl, ap, sym, subst, ◌∙◌}
 use Rattle.papaya_finds.specs.Given.Runs.Same.{is_same}
@@ -39,7 +39,7 @@ use Rattle.papaya_sizes.proofs.Beginning.{Counted, begun_counted, begun_same}
 use Rattle.papaya_sizes.proofs.Counting.{one_moves}
 use Rattle.papaya_sizes.proofs.Ending.{Ends, SparesIt, all_spared, ended_clear, over_moves}
 use Rattle.papaya_sizes.proofs.Places.{EndsNoneOf}
-use Rattle.papaya_sizes.proofs.Settled.{IsSettled, Its, ReadyCountsNone, all_of_both, begun_settled, clear_if_ready, its_ready, named, others_stay_all, over_settled}
+use Rattle.papaya_sizes.proofs.Settled.{IsSettled, ReadyCountsNone, all_of_both, begun_settled, clear_if_ready, its_ready, named, others_stay_all, over_settled}
 use Rattle.papaya_sizes.proofs.Storing.{AllAwait, Awaits, all_end, all_store, changes_await, none_store}
 use Rattle.papaya_sizes.proofs.Words.{AreWords, begun_words, one_words}
 

@@ -1,5 +1,5 @@
 -- A `len` tells how many pairs its map has, where that stays so: an event after which the map has as many, all counted, leaves each of its words.
-use Rattle.std.specs.Prelude.{◌≡◌, ◌≢◌, ℕ, zero, suc, ◌+◌, ◌*◌, ◌%◌, ◌^◌, ◌<◌, ◌≤◌, ◌==◌, nat_lt, Bool, true, false, ◌⊎◌, List, [], ◌∷◌, length, sum_by, Option, Some, None, if◌then◌else◌}
+use Rattle.std.specs.Prelude.{◌≡◌, ◌≢◌, ℕ, zero, suc, ◌+◌, ◌*◌, ◌%◌, ◌^◌, ◌<◌, ◌==◌, nat_lt, Bool, true, false, ◌⊎◌, List, [], ◌∷◌, length, sum_by, Option, Some, None, if◌then◌else◌}
 use Rattle.std.specs.List.{AllByRecursion}
 use Rattle.std.proofs.Common.{refl, ap, sym, subst, ◌∙◌, arith, inl, inr}
 use Rattle.std.proofs.lemmas.Bool.{cases_eq}
@@ -11,8 +11,6 @@ use Rattle.papaya_finds.specs.Given.Schedules.declared.call.Answer.TheVariants a
 use Rattle.papaya_finds.specs.Given.Schedules.declared.call.Call.{Call}
 use Rattle.papaya_finds.specs.Given.Schedules.declared.call.Call.TheVariants as call
 use Rattle.papaya_finds.specs.Given.Schedules.declared.effect.Effect.{Effect}
-use Rattle.papaya_finds.specs.Given.Schedules.declared.event.Event.{Event}
-use Rattle.papaya_finds.specs.Given.Schedules.declared.event.Event.TheVariants as event
 use Rattle.papaya_finds.specs.Given.Schedules.declared.outcome.Outcome.{Outcome}
 use Rattle.papaya_finds.specs.Given.Schedules.declared.outcome.Outcome.TheVariants as outcome
 use Rattle.papaya_finds.specs.Given.Schedules.After.{after, moment, moments_from}
@@ -37,7 +35,7 @@ use Rattle.papaya_sizes.specs.Sizes.{LensTellSize, StaysCounted, gained_on, lost
 use Rattle.papaya_sizes.proofs.Balance.{minus_of}
 use Rattle.papaya_sizes.proofs.Beginning.{Counted, begun_same}
 use Rattle.papaya_sizes.proofs.Counting.{shards_some}
-use Rattle.papaya_sizes.proofs.Ending.{SparesIt, calls_spare}
+use Rattle.papaya_sizes.proofs.Ending.{calls_spare}
 use Rattle.papaya_sizes.proofs.Events.{IsSo, counted_before, event_moves, order_w, then_so}
 use Rattle.papaya_sizes.proofs.Sizes.{all_so_far, minus_is_lost}
 use Rattle.papaya_sizes.proofs.Sums.{below_put, below_same}

@@ -1,6 +1,6 @@
 -- Each pair of a run stands once among those that it gave back and those that it has kept.
 use Rattle.std.specs.Prelude.{◌≡◌, ℕ, zero, suc, ◌+◌, ◌≤◌, ◌==◌, ◌&&◌, ◌||◌, nat_le, Bool, true, false, cond, List, [], ◌∷◌, ◌++◌, find, length, map, Option, Some, None, option_map, slice_get, if◌then◌else◌}
-use Rattle.std.proofs.Common.{refl, ap, sym, subst, ◌∙◌, arith, inl, inr}
+use Rattle.std.proofs.Common.{refl, ap, sym, subst, ◌∙◌, arith}
 use Rattle.std.proofs.lemmas.Bool.{eq-eqb, le-leb, leb-false, leb-true}
 use Rattle.std.proofs.lemmas.List.{map-append}
 use Rattle.papaya_finds.specs.Given.Runs.declared.record.Pair.{Pair}
@@ -12,13 +12,12 @@ use Rattle.papaya_finds.specs.Given.Schedules.declared.record.Run.{Run}
 use Rattle.papaya_finds.specs.Given.Schedules.After.{moment}
 use Rattle.papaya_finds.specs.Given.Schedules.Moment.{Place, Unborn, InMap, Out, Handed, Behind, Left, GivenBack, Moment}
 use Rattle.papaya_finds.specs.Given.Schedules.Runs.{IsRunOf, log_of, pair_of}
-use Rattle.papaya_finds.specs.Given.Schedules.Terms.{Terms, shards_of}
+use Rattle.papaya_finds.specs.Given.Schedules.Terms.{Terms}
 use Rattle.papaya_finds.specs.Given.Schedules.Views.{is_in_a_map, is_waiting}
 use Rattle.papaya_finds.specs.Waiting.{is_back, is_unborn, once_if}
 use Rattle.papaya_finds.specs.Within.{AllIsInOrder}
 use Rattle.papaya_finds.proofs.Grown.{number_is}
 use Rattle.papaya_sizes.specs.Once.{RunsHaveEachOnce}
-use Rattle.papaya_sizes.proofs.Events.{IsSo}
 use Rattle.papaya_sizes.proofs.Sizes.{all_so_far}
 
 -- lists

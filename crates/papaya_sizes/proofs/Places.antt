@@ -1,5 +1,5 @@
 -- How many pairs a map has after an effect: one more where one is stored in it, one less where one leaves it.
-use Rattle.std.specs.Prelude.{◌≡◌, ◌≢◌, ℕ, suc, ◌+◌, ◌≤◌, ◌==◌, Bool, true, false, List, ◌++◌, length, Option, Some, None, if◌then◌else◌}
+use Rattle.std.specs.Prelude.{◌≡◌, ℕ, suc, ◌+◌, Bool, true, false, List, length, Option, Some, None, if◌then◌else◌}
 use Rattle.std.proofs.Common.{refl, ap, sym, subst, ◌∙◌, arith, inl, inr}
 use Rattle.std.proofs.lemmas.Bool.{cases_eq, eq-eqb}
 use Rattle.papaya_finds.specs.Given.Schedules.declared.effect.Effect.{Effect}
@@ -14,7 +14,7 @@ use Rattle.papaya_finds.specs.Given.Schedules.Moment.{Place, Unborn, InMap, Out,
 use Rattle.papaya_finds.specs.Given.Schedules.Things.{same_thing}
 use Rattle.papaya_finds.specs.Given.Schedules.Views.{behind, call_of, is_in_map, places_below, size_of}
 use Rattle.papaya_finds.proofs.Given.Follows.Alike.{put_here, put_elsewhere}
-use Rattle.papaya_finds.specs.Waiting.{FindsPlaced, OwesPair, PairsArePlaced, is_behind_one, is_let_go, is_out, is_unborn, once_if, owed_by, owed_in}
+use Rattle.papaya_finds.specs.Waiting.{FindsPlaced, OwesPair, PairsArePlaced, is_behind_one, is_let_go, is_out, is_unborn, once_if, owed_by}
 use Rattle.papaya_finds.specs.Within.{AllIsInOrder}
 use Rattle.papaya_finds.proofs.Counted.{was_behind}
 use Rattle.papaya_finds.proofs.Grown.{number_is}

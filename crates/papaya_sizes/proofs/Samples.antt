@@ -15,7 +15,6 @@ use Rattle.papaya_finds.specs.Given.Schedules.declared.outcome.Outcome.{Outcome}
 use Rattle.papaya_finds.specs.Given.Schedules.declared.outcome.Outcome.TheVariants.{Answered, Done, Goes}
 use Rattle.papaya_finds.specs.Given.Schedules.declared.record.Run.{Run}
 use Rattle.papaya_finds.specs.Given.Schedules.After.{moment}
-use Rattle.papaya_finds.specs.Given.Schedules.Entry.{Entry}
 use Rattle.papaya_finds.specs.Given.Schedules.Moment.{Moment}
 use Rattle.papaya_finds.specs.Given.Schedules.Terms.{Terms}
 use Rattle.papaya_sizes.specs.Once.{HasEachOnce}

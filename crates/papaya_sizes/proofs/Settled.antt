@@ -1,7 +1,7 @@
 -- Between events no call has a pair to replace, and a walk that is ready has nothing to count.
-use Rattle.std.specs.Prelude.{◌≡◌, ℕ, ◌+◌, ◌==◌, Bool, true, false, cond, not, ◌⊎◌, List, [], ◌∷◌, find, map, MatchBool, Option, Some, None, if◌then◌else◌}
+use Rattle.std.specs.Prelude.{◌≡◌, ℕ, ◌+◌, Bool, true, false, not, ◌⊎◌, List, [], ◌∷◌, find, map, MatchBool, Option, Some, None, if◌then◌else◌}
 use Rattle.std.specs.List.{AllByRecursion, list_all, list_any}
-use Rattle.std.proofs.Common.{refl, ap, sym, subst, ◌∙◌, arith, inl, inr}
+use Rattle.std.proofs.Common.{refl, ap, sym, subst, ◌∙◌, inl, inr}
 use Rattle.papaya_finds.specs.Given.SeizeWords.declared.fault.Fault.TheVariants.{Busy}
 use Rattle.papaya_finds.specs.Given.Runs.Same.{is_same}
 use Rattle.papaya_finds.specs.Given.Schedules.declared.call.Reply.{Reply}
@@ -15,7 +15,7 @@ use Rattle.papaya_finds.specs.Given.Schedules.Beginning.{begun, with_call}
 use Rattle.papaya_finds.specs.Given.Schedules.Coming.{Progresses, is_ready}
 use Rattle.papaya_finds.specs.Given.Schedules.Effects.{call_by, with_effect, with_effects, worked}
 use Rattle.papaya_finds.specs.Given.Schedules.Entry.{ByCall, Entry, IfCall, acting, caller_of, ends_call, is_busy, nameless}
-use Rattle.papaya_finds.specs.Given.Schedules.Handing.{IsClear, IsWhole, LeavesOf, comes_clear}
+use Rattle.papaya_finds.specs.Given.Schedules.Handing.{IsWhole, LeavesOf, comes_clear}
 use Rattle.papaya_finds.specs.Given.Schedules.Moment.{Stands, Going, Asking, Told, IsReady, UnderWay, Moment}
 use Rattle.papaya_finds.specs.Given.Schedules.Terms.{Terms}
 use Rattle.papaya_finds.specs.Given.Schedules.Views.{call_of, number_of}

@@ -14,7 +14,7 @@ use Rattle.papaya_finds.specs.Given.Schedules.declared.effect.Effect.{Effect}
 use Rattle.papaya_finds.specs.Given.Schedules.declared.effect.Effect.TheVariants as effect
 use Rattle.papaya_finds.specs.Given.Schedules.Effects.{AtEachEffect, call_by, due_for, new_pair, stored_by, with_effect, with_effects}
 use Rattle.papaya_finds.specs.Given.Schedules.Entry.{ByCall}
-use Rattle.papaya_finds.specs.Given.Schedules.Linearizable.{Changes, ChangesOnce, MayRemove, RemovesOnly, shift_of, there_for}
+use Rattle.papaya_finds.specs.Given.Schedules.Linearizable.{Changes, MayRemove, RemovesOnly, shift_of, there_for}
 use Rattle.papaya_finds.specs.Given.Schedules.Moment.{UnderWay, Moment}
 use Rattle.papaya_finds.specs.Given.Schedules.Sequential.{Deed, Leaves, Puts, Takes, Meaning, Answers, Shift, ComesIn, GivesWay, GoesOut, key_of, means, shifts, value_put}
 use Rattle.papaya_finds.specs.Given.Schedules.Views.{call_of, reply_to}
