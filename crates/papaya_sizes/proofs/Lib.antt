@@ -11,5 +11,6 @@ mod Words
 mod Events
 mod Sizes
 mod Lens
+mod WholeLens
 mod Once
 mod Samples

@@ -1,6 +1,6 @@
 -- What the definitions refuse: maps whose count says another size than they have, and runs that lose a pair, or have one twice.
-use Rattle.std.specs.Prelude.{◌≡◌, ℕ, ◌&&◌, nat_le, false, List, [], ◌∷◌, ◌++◌, if◌then◌else◌}
-use Rattle.std.proofs.Common.{refl}
+use Rattle.std.specs.Prelude.{◌≡◌, ℕ, ◌+◌, ◌%◌, ◌^◌, ◌&&◌, nat_le, false, List, [], ◌∷◌, ◌++◌, if◌then◌else◌}
+use Rattle.std.proofs.Common.{refl, ap, ◌∙◌, inl, inr}
 use Rattle.papaya_finds.specs.Given.Runs.declared.record.Pair.{Pair}
 use Rattle.papaya_finds.specs.Given.Runs.LifeCycle.{times}
 use Rattle.papaya_finds.specs.Given.Runs.Pairs.{numbers}
@@ -14,7 +14,9 @@ use Rattle.papaya_finds.specs.Given.Schedules.declared.event.Event.TheVariants.{
 use Rattle.papaya_finds.specs.Given.Schedules.declared.outcome.Outcome.{Outcome}
 use Rattle.papaya_finds.specs.Given.Schedules.declared.outcome.Outcome.TheVariants.{Answered, Done, Goes}
 use Rattle.papaya_finds.specs.Given.Schedules.declared.record.Run.{Run}
+use Rattle.papaya_finds.specs.Given.Tables.Counts.{count_in}
 use Rattle.papaya_finds.specs.Given.Schedules.After.{moment}
+use Rattle.papaya_finds.specs.Given.Schedules.Counts.{Counts}
 use Rattle.papaya_finds.specs.Given.Schedules.Moment.{Moment}
 use Rattle.papaya_finds.specs.Given.Schedules.Terms.{Terms}
 use Rattle.papaya_sizes.specs.Once.{HasEachOnce}
@@ -70,12 +72,17 @@ counts_twice all = one_too_many all.0
 counts_before : IsCounted terms (record (after_one Goes []) { shards = λ map shard. 1 }) → ⊥
 counts_before all = one_from_nowhere all.0
 
--- A `len` tells the size of a map of which a pair is still to be counted by nobody.
+-- A `len` tells the size of a map where nobody has a pair of it still to count.
 stays : StaysCounted 0 1 (counted ∷ [])
 stays = ((refl, refl), tt)
 
 stays_not : StaysCounted 0 1 (after_one Goes (stores ∷ []) ∷ []) → ⊥
 stays_not all = one_from_nowhere all.0.0
+
+-- And it tells no other number.
+tells_another : Counts 1 0 (counted ∷ []) 2 → ⊥
+tells_another (sum, inl (rest, none, all), is) = one_too_many (is ∙ ap (λ (n : ℕ). count_in (n % 2 ^ 64)) (all ∙ ap (λ (n : ℕ). n + 1) none))
+tells_another (sum, inr none, is) = none
 
 -- where pairs are at the end of a run
 

@@ -1,17 +1,19 @@
 -- How many pairs maps have, by what is counted of them: the shards of a map, and what calls under way have added to it, and taken out, and not yet counted.
-use Rattle.std.specs.Prelude.{◌≡◌, ℕ, zero, suc, ◌+◌, ◌%◌, ◌^◌, ◌==◌, Bool, List, ◌∷◌, sum_by, Some, if◌then◌else◌}
+use Rattle.std.specs.Prelude.{◌≡◌, ℕ, zero, suc, ◌+◌, ◌%◌, ◌^◌, ◌==◌, Bool, false, List, ◌∷◌, sum_by, Some, if◌then◌else◌}
 use Rattle.std.specs.List.{AllByRecursion}
 use Rattle.papaya_finds.specs.Given.Tables.Counts.{count_in}
 use Rattle.papaya_finds.specs.Given.Schedules.declared.call.Answer.TheVariants.{Counted}
 use Rattle.papaya_finds.specs.Given.Schedules.declared.call.Call.TheVariants.{Len}
+use Rattle.papaya_finds.specs.Given.Schedules.declared.event.Event.TheVariants.{OneCall}
 use Rattle.papaya_finds.specs.Given.Schedules.declared.outcome.Outcome.TheVariants.{Answered}
 use Rattle.papaya_finds.specs.Given.Schedules.After.{moment, moments_from}
 use Rattle.papaya_finds.specs.Given.Schedules.Effects.{worked}
 use Rattle.papaya_finds.specs.Given.Schedules.Entry.{Entry, acting, caller_of}
+use Rattle.papaya_finds.specs.Given.Schedules.InTurn.{is_called}
 use Rattle.papaya_finds.specs.Given.Schedules.Moment.{MapThere, Moment, UnderWay}
 use Rattle.papaya_finds.specs.Given.Schedules.Runs.{IsLegalLog}
 use Rattle.papaya_finds.specs.Given.Schedules.Terms.{Terms, shards_of}
-use Rattle.papaya_finds.specs.Given.Schedules.Views.{size_of}
+use Rattle.papaya_finds.specs.Given.Schedules.Views.{number_of, size_of}
 
 -- the sum of so many words, from the first on
 abbrev pub sum_below : ℕ → (ℕ → ℕ) → ℕ
@@ -43,9 +45,16 @@ module _ (K V : Type 0) where
   abbrev pub ShardsSaySize : Type 0
   ShardsSaySize = (eq : K → K → Bool) (terms : Terms) (log : List (Entry K V)) → IsLegalLog eq terms log → IsCounted terms (moment log)
 
-  -- and a `len` tells how many pairs its map has, where that stayed so during the call: as a number with a sign, so below 2 ^ 63 just that many.
+  -- a `len` tells how many pairs its map has, where that stayed so during the call: as a number with a sign, so below 2 ^ 63 just that many;
   abbrev pub LensTellSize : Type 0
   LensTellSize =
       (eq : K → K → Bool) (terms : Terms) (log : List (Entry K V)) (e : Entry K V) → IsLegalLog eq terms (e ∷ log)
       → (c : UnderWay K V) → acting (caller_of e.event) (worked e (moment log)) ≡ Some c → c.call ≡ Len
       → (n : ℕ) → e.outcome ≡ Answered (Counted n) → (size : ℕ) → StaysCounted c.map size (moments_from c.begun log) → n ≡ count_in (size % 2 ^ 64)
+
+  -- and so a whole `len` does of a map on which nobody has a call.
+  abbrev pub WholeLensTellSize : Type 0
+  WholeLensTellSize =
+      (eq : K → K → Bool) (terms : Terms) (log : List (Entry K V)) (e : Entry K V) → IsLegalLog eq terms (e ∷ log)
+      → (guard name : List ℕ) → e.event ≡ OneCall guard name Len → (map : ℕ) → number_of name (moment log) ≡ Some map → is_called (Some map) (moment log) ≡ false
+      → (n : ℕ) → e.outcome ≡ Answered (Counted n) → n ≡ count_in (size_of map (moment log) % 2 ^ 64)
