@@ -28,7 +28,8 @@ module _ {K V : Type 0} where
   abbrev pub lost_on : ℕ → List (UnderWay K V) → ℕ
   lost_on map calls = sum_by (λ c. if map == c.map then c.lost else 0) calls
 
-  -- The shards of a map, with what was added and not yet counted, come to its pairs, with what was taken out and not yet counted: modulo 2 ^ 64, as shards are words.
+  -- The shards of a map, with what was added and not yet counted, come to its pairs, with what was taken out and not yet counted: modulo 2 ^ 64, as
+  -- shards are words.
   abbrev pub TellsSize : ℕ → Moment K V → MapThere → Type 0
   TellsSize shards m f = (sum_below shards (m.shards f.number) + gained_on f.number m.calls) % 2 ^ 64 ≡ (size_of f.number m + lost_on f.number m.calls) % 2 ^ 64
 

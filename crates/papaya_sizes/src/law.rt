@@ -2,8 +2,9 @@
 ghost use Rattle.papaya_sizes.specs.Once.{RunsHaveEachOnce};
 ghost use Rattle.papaya_sizes.specs.Sizes.{LensTellSize, ShardsSaySize, WholeLensTellSize};
 
-/// The shards of each map, with what calls have added to it, and taken out, and not yet counted, say how many pairs it has, after whichever events of a run. So a `len` tells how many pairs its map has, where
-/// that was the same at each moment of the call, and calls had counted all that they had added and taken out: a whole one does of a map on which nobody has a call.
+/// The shards of each map, with what calls have added to it, and taken out, and not yet counted, say how many pairs it has, after whichever events of a run.
+/// So a `len` tells how many pairs its map has, where that was the same at each moment of the call, and calls had counted all that they had added and taken
+/// out: a whole one does of a map on which nobody has a call.
 pub fn shards_say_the_size<K, V>()
     ensures sizes { ShardsSaySize K V }
     ensures lens { LensTellSize K V }
