@@ -1,0 +1,4 @@
+mod Restricted
+mod Held
+mod Looks
+mod Plans
