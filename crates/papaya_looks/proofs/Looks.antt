@@ -1,10 +1,9 @@
 -- Each block that a step of a call looks at is there; and at no row it is held for it.
-use Rattle.std.specs.Prelude.{◌≡◌, ℕ, suc, Bool, true, List, [], ◌∷◌, Option, Some, IsSome, ◌⊎◌}
+use Rattle.std.specs.Prelude.{◌≡◌, ℕ, Bool, Option, Some, IsSome, ◌⊎◌}
 use Rattle.std.specs.Int.{IsPowerOfTwo}
-use Rattle.std.proofs.Common.{inl, inr, refl, ap, sym, subst}
-use Rattle.papaya_finishes.specs.Given.SeizeWords.declared.block.Block.{Block}
+use Rattle.std.proofs.Common.{inl, inr}
 use Rattle.papaya_finishes.specs.Given.SeizeWords.Mem.{Mem, Can, Took, value_at}
-use Rattle.papaya_finishes.specs.Given.SeizeWords.Plan.{Plan, May}
+use Rattle.papaya_finishes.specs.Given.SeizeWords.Plan.{May}
 use Rattle.papaya_finishes.proofs.Given.SeizeWords.Plans.{as_may}
 use Rattle.papaya_finishes.specs.Given.Seize.World.{World, IsInside}
 use Rattle.papaya_finishes.specs.Given.Tables.declared.node.Node.{Node}
@@ -37,7 +36,8 @@ use Rattle.papaya_finishes.proofs.Among.Machines.{machines_stand_among}
 use Rattle.papaya_looks.specs.Blocks.{LooksAt, MayMake}
 use Rattle.papaya_looks.specs.Looks.{IsAtRow, IsHeldFor, StepsLookAtWhatIsHeld}
 use Rattle.papaya_looks.proofs.Held.{keep, held_for, may_key, may_room, may_sweep, may_count}
-use Rattle.papaya_looks.proofs.Restricted.{kept_from, restricted, looks_kept}
+use Rattle.papaya_looks.proofs.Restricted.{restricted, looks_kept}
+use Rattle.papaya_looks.proofs.There.{blocks_there}
 
 -- a call is at a row, or at none
 abbrev Decided : Type 0 → Type 0
@@ -67,26 +67,6 @@ sweep_decided (sweeping.Copies copier) = copier_decided copier.stands
 sweep_decided (sweeping.Disposes dispose) = disposal_decided dispose.stands
 sweep_decided _ = inr (λ row. row)
 
--- a memory of which all is kept
-abbrev all_of : ℕ → Bool
-all_of b = true
-
-module _ {T : Type 0} where
-  all_from : (n : ℕ) (blocks : List (Option (Block T))) → kept_from all_of n blocks ≡ blocks
-  all_from n [] = refl
-  all_from n (x ∷ blocks) = ap (λ (rest : List (Option (Block T))). x ∷ rest) (all_from (suc n) blocks)
-
-  whole : (m : Mem T) → restricted all_of m ≡ m
-  whole m = ap (λ (blocks : List (Option (Block T))). record { roots = m.roots; used = m.used; slots = m.slots; blocks = blocks; choices = m.choices }) (all_from 1 m.blocks)
-
-  -- what is looked at where the step may be taken is there
-  pub looks_there : {R : Type 0} (m : Mem T) (plan : Plan T R) → May Can Took value_at m plan → (b : ℕ) → LooksAt b m plan → IsSome (value_at m b) ⊎ MayMake b m plan
-  looks_there m plan may b looks =
-      elim (looks_kept all_of m plan (subst (λ (x : Mem T). May Can Took value_at x plan) (sym (whole m)) may) b looks) as (λ _. IsSome (value_at m b) ⊎ MayMake b m plan) [
-        | inl is ↦ inl is.1
-        | inr made ↦ inr made
-      ]
-
 module _ {K Q : Type 0} (V : Type 0) (same : K → K → Bool) (asks : Q → K → Bool) (batch_size roots : ℕ) (slot : ℕ → ℕ) where
   module _ (w : World (Node K V)) (maps : ℕ → Option (Standing K)) (calls : ℕ → ℕ → Option (UnderWay K V Q)) (makers : ℕ → Option (Beginning K)) (enders : ℕ → Option (Finishing K V))
       (all : EndingsTogether V same asks batch_size roots slot w maps calls makers enders) (m : ℕ) (s : Standing K) (here : maps m ≡ Some s) (i : ℕ) where
@@ -112,7 +92,7 @@ module _ {K Q : Type 0} (V : Type 0) (same : K → K → Bool) (asks : Q → K �
       -- at a row
       at_row : IsAtRow u → Looks
       at_row row =
-          elim (looks_there w.memory (machine_plan asks same s.hash (machine_of u)) (machines_stand_among V same asks batch_size roots slot w maps calls makers enders all m s here i u has).0 b looks) as (λ _. Looks) [
+          elim (blocks_there _ _ w.memory (machine_plan asks same s.hash (machine_of u)) (machines_stand_among V same asks batch_size roots slot w maps calls makers enders all m s here i u has).0 b looks) as (λ _. Looks) [
             | inl is ↦ inl (is, inl row)
             | inr made ↦ inr made
           ]

@@ -26,6 +26,19 @@ module _ {T : Type 0} where
   IsDoneTo b (Make value words) = ⊥
   IsDoneTo b (Room bucket) = ⊥
 
+  -- the operation is one on this word
+  abbrev pub IsOn : At → Op T → Type 0
+  IsOn at (Load word) = at ≡ word
+  IsOn at (Store word new) = at ≡ word
+  IsOn at (Swap word new) = at ≡ word
+  IsOn at (Add word by) = at ≡ word
+  IsOn at (Or word bits) = at ≡ word
+  IsOn at (Exchange word old new) = at ≡ word
+  IsOn at (Take block) = ⊥
+  IsOn at (Rewrite block value) = ⊥
+  IsOn at (Make value words) = ⊥
+  IsOn at (Room bucket) = ⊥
+
 module _ {T R : Type 0} where
   -- what is left of a step looks at the value of this block
   abbrev pub Sees : ℕ → (ℕ → Option T) → Then T R → Type 0
