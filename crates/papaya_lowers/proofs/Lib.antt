@@ -10,6 +10,7 @@ mod SweepRows
 mod Machines
 mod Stays
 mod Unwritten
+mod ItsPair
 mod Waits
 mod Looks
 mod Plans

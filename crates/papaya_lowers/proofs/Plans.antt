@@ -28,7 +28,7 @@ use Rattle.papaya_maps.specs.Given.Points.Measures.{IsBelow}
 use Rattle.papaya_maps.specs.Given.Points.MeasuresLooks.{LoadLeads, HasLooked, begun, further, entered}
 use Rattle.papaya_maps.proofs.Given.Late.Plans.FewBlocks.{hash, setting, chart, memory, new}
 use Rattle.papaya_maps.specs.Given.Callers.Rows.{row_of}
-use Rattle.papaya_maps.specs.Given.Callers.Together.{no_blocks, no_sight}
+use Rattle.papaya_maps.specs.Given.Callers.Together.{CallOnKey, OnKey, no_blocks, no_sight}
 use Rattle.papaya_maps.specs.Given.Finishes.Maps.{Standing}
 use Rattle.papaya_whole.specs.Given.SeizeActs.Waits.{SettlesOn}
 use Rattle.papaya_whole.specs.Given.Waits.Waits.{IsBeingCopied, CallAwaits, AnotherHolds}
@@ -48,10 +48,11 @@ module _ {K V Q : Type 0} where
   always_waits p = Do (Load (place_tried p.trial)) (λ out. Now (p, called.Waits))
 
   -- Where no pair is being copied at its place, it has no reason.
-  waits_for_nothing : (s : Standing K) (w : World (Node K V)) (i slot : ℕ) (p : KeyCall K V Q) → p.stands ≡ at.Probes → (IsBeingCopied s.chart p.trial.table.turn p.trial.probe.i → ⊥)
-      → AwaitsACopying s (kinds.Key p) ⊎ AnotherHolds w i (row_within slot (kinds.Key p)) → ⊥
-  waits_for_nothing s w i slot p is none (inl h) = none (subst (λ (x : Calling). CallAwaits s.chart (is_incremental s.setting.mode) p x) is h).1
-  waits_for_nothing s w i slot p is none (inr h) = subst (λ (x : Calling). SettlesOn h.0 (row_of slot x)) is h.1
+  waits_for_nothing : (s : Standing K) (w : World (Node K V)) (i slot : ℕ) (u : CallOnKey K V Q) (p : KeyCall K V Q) → u.call ≡ p → p.stands ≡ at.Probes
+      → (IsBeingCopied s.chart p.trial.table.turn p.trial.probe.i → ⊥) → AwaitsACopying s (OnKey u) ⊎ AnotherHolds w i (row_within slot (kinds.Key u.call)) → ⊥
+  waits_for_nothing s w i slot u p its is none (inl h) =
+      none (subst (λ (x : Calling). CallAwaits s.chart (is_incremental s.setting.mode) p x) is (subst (λ (x : KeyCall K V Q). CallAwaits s.chart (is_incremental s.setting.mode) x x.stands) its h.0)).1
+  waits_for_nothing s w i slot u p its is none (inr h) = subst (λ (x : Calling). SettlesOn h.0 (row_of slot x)) is (subst (λ (x : KeyCall K V Q). SettlesOn h.0 (row_of slot x.stands)) its h.1)
 
   -- A call that reads the word of its try again and again, and goes on.
   abbrev turns_on_a_word : KeyCall K V Q → Plan (Node K V) (KeyCall K V Q × Called (Node K V))
@@ -116,8 +117,8 @@ its_trial = first_trial new 0
 waits_steps : (m : Mem (Node ℕ ℕ)) × (end : KeyCall ℕ ℕ ℕ × Called (Node ℕ ℕ)) × Steps Took value_at memory (always_waits insertion) m end
 waits_steps = (memory, (insertion, called.Waits), (Found 0, (refl, refl), refl))
 
-waits_is_refused : (i slot : ℕ) → AwaitsACopying {V = ℕ} {Q = ℕ} few (kinds.Key insertion) ⊎ AnotherHolds world i (row_within slot (kinds.Key insertion)) → ⊥
-waits_is_refused i slot = waits_for_nothing few world i slot insertion refl (λ copied. let e = copied.2 in cc e)
+waits_is_refused : (u : CallOnKey ℕ ℕ ℕ) → u.call ≡ insertion → (i slot : ℕ) → AwaitsACopying few (OnKey u) ⊎ AnotherHolds world i (row_within slot (kinds.Key u.call)) → ⊥
+waits_is_refused u its i slot = waits_for_nothing few world i slot u insertion its refl (λ copied. let e = copied.2 in cc e)
 
 -- One that writes a word each time that it waits, for whatever reason.
 abbrev waits_writing : Plan (Node ℕ ℕ) (KeyCall ℕ ℕ ℕ × Called (Node ℕ ℕ))

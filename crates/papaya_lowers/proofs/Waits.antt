@@ -33,6 +33,10 @@ use Rattle.papaya_maps.specs.Given.Sweeps.declared.sweep.Sweeping.{Sweeping}
 use Rattle.papaya_maps.specs.Given.Sweeps.declared.sweep.Sweeping.TheVariants as sweeping
 use Rattle.papaya_maps.specs.Given.Sweeps.declared.sweep.Swept.{Swept}
 use Rattle.papaya_maps.specs.Given.Sweeps.declared.sweep.Swept.TheVariants as swept
+use Rattle.papaya_maps.specs.Given.Tables.Chunks.{is_incremental}
+use Rattle.papaya_maps.specs.Given.Raw.declared.machines.call.Calling.{Calling}
+use Rattle.papaya_maps.specs.Given.Raw.declared.machines.call.Calling.TheVariants as at
+use Rattle.papaya_maps.specs.Given.Points.Told.{IsRowOfCall}
 use Rattle.papaya_maps.specs.Given.Points.Steps.{AreLawful}
 use Rattle.papaya_maps.specs.Given.Late.ToldReserves.{IsRowOfReserve}
 use Rattle.papaya_maps.specs.Given.Late.ToldSweeps.{IsRowOfSweep}
@@ -46,12 +50,13 @@ use Rattle.papaya_maps.specs.Given.Finishes.Machines.{machine_of}
 use Rattle.papaya_maps.specs.Given.Finishes.Makings.{Beginning}
 use Rattle.papaya_maps.specs.Given.Finishes.Maps.{Standing}
 use Rattle.papaya_whole.specs.Given.Waits.Waits as waits
-use Rattle.papaya_whole.specs.Given.Waits.Waits.{AnotherHolds}
+use Rattle.papaya_whole.specs.Given.Waits.Waits.{CallAwaits, AnotherHolds}
 use Rattle.papaya_whole.proofs.Given.Waits.Laws as laws
 use Rattle.papaya_whole.proofs.Given.Waits.Promised.{map_of}
 use Rattle.papaya_whole.proofs.Rows.Kinds.{disposal_decided, copier_decided, row_decided}
 use Rattle.papaya_lowers.specs.Numbers.{row_within}
-use Rattle.papaya_lowers.specs.Waits.{AwaitsACopying, StepsWait}
+use Rattle.papaya_lowers.specs.Waits.{AwaitsItsPair, AwaitsACopying, StepsWait}
+use Rattle.papaya_lowers.proofs.ItsPair.{waits_for_its_pair}
 use Rattle.papaya_lowers.proofs.Stays.{key_stays, room_stays, sweep_stays}
 use Rattle.papaya_lowers.proofs.Unwritten.{key_unwritten, room_unwritten, sweep_unwritten}
 
@@ -138,10 +143,30 @@ module _ {K Q : Type 0} (V : Type 0) (same : K → K → Bool) (asks : Q → K �
     lawful = (all.makings.standing.fit m s here).0
 
     abbrev Reason : UnderWay K V Q → Type 0
-    Reason u = (m2 ≡ w.memory) × (machine ≡ machine_of u) × (AwaitsACopying s (machine_of u) ⊎ AnotherHolds w i (row_within (slot i) (machine_of u)))
+    Reason u = (m2 ≡ w.memory) × (machine ≡ machine_of u) × (AwaitsACopying s u ⊎ AnotherHolds w i (row_within (slot i) (machine_of u)))
 
     abbrev Steps' : UnderWay K V Q → Type 0
     Steps' u = Steps Took value_at w.memory (machine_plan asks same s.hash (machine_of u)) m2 (machine, progress.Waits)
+
+    -- at a try, it has come to its own pair
+    its : (u : CallOnKey K V Q) → calls m i ≡ Some (OnKey u) → (IsRowOfCall u.call.stands → ⊥) → (m3 : Mem (Node K V)) (q : KeyCall K V Q)
+        → Steps Took value_at w.memory (call_plan asks same s.hash u.call) m3 (q, called.Waits)
+        → CallAwaits s.chart (is_incremental s.setting.mode) u.call u.call.stands → AwaitsItsPair s u u.call.stands
+    its u has none m3 q st = by u.call.stands refl
+      where
+        known : Stands V same s.hash asks s.setting slot w s.chart (seen_by s.blocks (s.sights (slot i))) i (OnKey u) → u.call.stands ≡ at.Probes
+            → CallAwaits s.chart (is_incremental s.setting.mode) u.call at.Probes → AwaitsItsPair s u at.Probes
+        known (inr (row, is_row, knows)) here awaits = absurd (none is_row)
+        known (inl (rests, knows)) here awaits = elim knows.facts as (λ _. AwaitsItsPair s u at.Probes) [
+          | inl facts ↦
+              waits_for_its_pair same s.hash asks i (in_slot s.setting (slot i)) u.keys lawful w s.chart (seen_by s.blocks (s.sights (slot i)))
+              (map_of V same s.hash asks s.setting slot w s.chart s.blocks s.sights (calls m) stands i (OnKey u) has) u.call u.change facts here m3 q st
+          | inr late ↦ absurd (let blocking = late.1.blocking in let mode = awaits.0 in cc (blocking, mode))
+        ]
+
+        by : (x : Calling) → u.call.stands ≡ x → CallAwaits s.chart (is_incremental s.setting.mode) u.call x → AwaitsItsPair s u x
+        by at.Probes here awaits = known (stands.stand i (OnKey u) has) here awaits
+        by _ here awaits = tt
 
     at_key : (u : CallOnKey K V Q) → calls m i ≡ Some (OnKey u) → Steps' (OnKey u) → Reason (OnKey u)
     at_key u has st = elim (row_decided u.call.stands) as (λ _. Reason (OnKey u)) [
@@ -152,7 +177,7 @@ module _ {K Q : Type 0} (V : Type 0) (same : K → K → Bool) (asks : Q → K �
       )
       | inr none ↦
           (let h = laws.calls_wait_for_a_copying V same s.hash asks s.setting slot lawful w s.chart s.blocks s.sights (calls m) stands i u has none m2 e.0.0 waiting in
-          (key_unwritten w.memory m2 s.hash same asks u.call none e.0.0 waiting, machine_is ∙ ap kinds.Key h.0, inl h.1))
+          (key_unwritten w.memory m2 s.hash same asks u.call none e.0.0 waiting, machine_is ∙ ap kinds.Key h.0, inl (h.1, its u has none m2 e.0.0 waiting h.1)))
     ]
       where
         e : (e : KeyCall K V Q × Called (Node K V)) × Steps Took value_at w.memory (call_plan asks same s.hash u.call) m2 e × ((machine, progress.Waits) ≡ machines.called e)

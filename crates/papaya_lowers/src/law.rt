@@ -13,9 +13,9 @@ pub fn steps_lower_the_numbers<K, V, Q>()
     ensures ends { DescentsEnd }
 {}
 
-/// A step of one answers that it waits only for a reason, and then has changed no word, and leaves it where it stood. On one key in incremental mode: while the pair that its try has come to is
-/// being copied. Else, and in blocking mode: while the copying of a whole table is not over. And at a row of the collector: while just one other row has the batch of its
-/// slot in hand.
+/// A step of one answers that it waits only for a reason, and then has changed no word, and leaves it where it stood. On one key in incremental mode: while the
+/// pair that the map has of its key, to which its try has come, is being copied out of the root. Else, and in blocking mode: while the copying of a whole table is
+/// not over. And at a row of the collector: while just one other row has the batch of its slot in hand.
 pub fn steps_wait_for_a_reason<K, V, Q>()
     ensures waits { (same : K → K → Bool) (asks : Q → K → Bool) (batch_size roots : ℕ) (slot : ℕ → ℕ) → StepsWait V same asks batch_size roots slot }
 {}
