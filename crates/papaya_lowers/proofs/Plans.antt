@@ -1,5 +1,5 @@
 -- Wrong plans beside the laws of steps. Each is stepped in a world of a few blocks, and the clause that refuses it is false of what it leaves.
-use Rattle.std.specs.Prelude.{◌≡◌, ℕ, suc, ◌<◌, List, [], ◌∷◌, length, Option, ◌⊎◌, Some}
+use Rattle.std.specs.Prelude.{◌≡◌, ℕ, suc, ◌<◌, List, [], ◌∷◌, length, Option, ◌⊎◌, Some, true, false, eqb}
 use Rattle.std.proofs.Common.{inl, inr, refl, ap, sym, subst, ◌∙◌, arith}
 use Rattle.papaya_maps.specs.Given.SeizeWords.Mem.{Mem, Took, value_at, word_at, with_word}
 use Rattle.papaya_maps.specs.Given.SeizeWords.Op.{Load, Store, Found, Stored}
@@ -27,6 +27,7 @@ use Rattle.papaya_maps.specs.Given.Raw.declared.machines.machine.Machine.TheVari
 use Rattle.papaya_maps.specs.Given.Points.Measures.{IsBelow}
 use Rattle.papaya_maps.specs.Given.Points.MeasuresLooks.{LoadLeads, HasLooked, begun, further, entered}
 use Rattle.papaya_maps.proofs.Given.Late.Plans.FewBlocks.{hash, setting, chart, memory, new}
+use Rattle.papaya_maps.specs.Given.Rule.Chart.{Copying, Holds}
 use Rattle.papaya_maps.specs.Given.Callers.Rows.{row_of}
 use Rattle.papaya_maps.specs.Given.Callers.Together.{CallOnKey, OnKey, no_blocks, no_sight}
 use Rattle.papaya_maps.specs.Given.Finishes.Maps.{Standing}
@@ -34,7 +35,10 @@ use Rattle.papaya_whole.specs.Given.SeizeActs.Waits.{SettlesOn}
 use Rattle.papaya_whole.specs.Given.Waits.Waits.{IsBeingCopied, CallAwaits, AnotherHolds}
 use Rattle.papaya_maps.specs.Given.Tables.Chunks.{is_incremental}
 use Rattle.papaya_lowers.specs.Numbers.{row_within, numbers_of}
-use Rattle.papaya_lowers.specs.Waits.{AwaitsACopying}
+use Rattle.papaya_lowers.specs.Waits.{AwaitsACopying, AwaitsItsPair}
+
+same_key : (k : ℕ) → Some 9 ≡ Some k → k ≡ 9
+same_key k e = cc e
 
 -- no numbers are below themselves
 not_below : (xs : List ℕ) → IsBelow xs xs → ⊥
@@ -119,6 +123,22 @@ waits_steps = (memory, (insertion, called.Waits), (Found 0, (refl, refl), refl))
 
 waits_is_refused : (u : CallOnKey ℕ ℕ ℕ) → u.call ≡ insertion → (i slot : ℕ) → AwaitsACopying few (OnKey u) ⊎ AnotherHolds world i (row_within slot (kinds.Key u.call)) → ⊥
 waits_is_refused u its i slot = waits_for_nothing few world i slot u insertion its refl (λ copied. let e = copied.2 in cc e)
+
+-- While all that is there is being copied, but is a pair of another key, it has none either.
+abbrev busy : Standing ℕ
+busy = record few { chart = record chart { place = λ t i. Holds 0 Copying false; key = λ n. Some 9; current = λ n. true } }
+
+another_is_copied : CallAwaits busy.chart (is_incremental busy.setting.mode) insertion at.Probes
+another_is_copied = (refl, (0, false, refl))
+
+another_is_refused : (u : CallOnKey ℕ ℕ ℕ) → u.call ≡ insertion → ((k : ℕ) → u.keys k ≡ eqb 7 k) → (i slot : ℕ) → AwaitsACopying busy (OnKey u) ⊎ AnotherHolds world i (row_within slot (kinds.Key u.call)) → ⊥
+another_is_refused u its keys i slot (inl h) = by (subst (λ (x : Calling). AwaitsItsPair busy u x) (ap (λ (x : KeyCall ℕ ℕ ℕ). x.stands) its) h.1)
+  where
+    by : AwaitsItsPair busy u at.Probes → ⊥
+    by (n, borrowed, stands, current, k, has, asked) =
+        let nine : k ≡ 9 = same_key k has in
+        let told : eqb 7 9 ≡ true = sym (keys 9) ∙ ap u.keys (sym nine) ∙ asked in cc told
+another_is_refused u its keys i slot (inr h) = subst (λ (x : KeyCall ℕ ℕ ℕ). SettlesOn h.0 (row_of slot x.stands)) its h.1
 
 -- One that writes a word each time that it waits, for whatever reason.
 abbrev waits_writing : Plan (Node ℕ ℕ) (KeyCall ℕ ℕ ℕ × Called (Node ℕ ℕ))
