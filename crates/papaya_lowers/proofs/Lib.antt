@@ -1,0 +1,16 @@
+mod Widened
+mod Own
+mod Swept
+mod Kept
+mod Within
+mod Rows
+mod KeyRows
+mod RoomRows
+mod SweepRows
+mod Machines
+mod Stays
+mod Unwritten
+mod ItsPair
+mod Waits
+mod Looks
+mod Plans

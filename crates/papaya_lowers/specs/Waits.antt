@@ -1,0 +1,49 @@
+-- What is promised of each step of a machine that answers that it waits.
+use Rattle.std.specs.Prelude.{◌≡◌, ℕ, Bool, true, Option, Some, ◌⊎◌}
+use Rattle.papaya_maps.specs.Given.SeizeWords.Mem.{Mem, Took, value_at}
+use Rattle.papaya_maps.specs.Given.SeizeWords.Plan.{Steps}
+use Rattle.papaya_maps.specs.Given.Seize.World.{World}
+use Rattle.papaya_maps.specs.Given.Tables.Chunks.{is_incremental}
+use Rattle.papaya_maps.specs.Given.Tables.declared.node.Node.{Node}
+use Rattle.papaya_maps.specs.Given.Raw.Machine.{machine_plan}
+use Rattle.papaya_maps.specs.Given.Raw.declared.machines.call.Calling.{Calling}
+use Rattle.papaya_maps.specs.Given.Raw.declared.machines.call.Calling.TheVariants as at
+use Rattle.papaya_maps.specs.Given.Raw.declared.machines.machine.Machine.{Machine}
+use Rattle.papaya_maps.specs.Given.Raw.declared.machines.progress.Progress.TheVariants as progress
+use Rattle.papaya_maps.specs.Given.Rule.Chart.{Copying, Holds}
+use Rattle.papaya_maps.specs.Given.Callers.Together.{UnderWay, CallOnKey, OnKey, ForRoom, Counting, OverAll}
+use Rattle.papaya_maps.specs.Given.Finishes.Endings.{Finishing, EndingsTogether}
+use Rattle.papaya_maps.specs.Given.Finishes.Machines.{machine_of}
+use Rattle.papaya_maps.specs.Given.Finishes.Makings.{Beginning}
+use Rattle.papaya_maps.specs.Given.Finishes.Maps.{Standing}
+use Rattle.papaya_whole.specs.Given.Waits.Waits.{CallAwaits, RoomAwaits, SweepAwaits, AnotherHolds}
+use Rattle.papaya_lowers.specs.Numbers.{row_within}
+
+module _ {K V Q : Type 0} where
+  -- At a try, the pair that the map has of the keys of this call is being copied out of the root, and stands at that place.
+  abbrev pub AwaitsItsPair : Standing K → CallOnKey K V Q → Calling → Type 0
+  AwaitsItsPair s u at.Probes =
+      (n : ℕ) × (borrowed : Bool) × (s.chart.place s.chart.first u.call.trial.probe.i ≡ Holds n Copying borrowed) × (s.chart.current n ≡ true)
+      × (k : K) × (s.chart.key n ≡ Some k) × (u.keys k ≡ true)
+  AwaitsItsPair s u _ = Unit {0}
+
+  -- A copying is awaited on its map: on one key in incremental mode that of the very pair that its try has come to, which is one of its keys, else that of a whole table
+  -- which is not over.
+  abbrev pub AwaitsACopying : Standing K → UnderWay K V Q → Type 0
+  AwaitsACopying s (OnKey u) = CallAwaits s.chart (is_incremental s.setting.mode) u.call u.call.stands × AwaitsItsPair s u u.call.stands
+  AwaitsACopying s (ForRoom r) = RoomAwaits s.chart (is_incremental s.setting.mode) r.reserve.stands
+  AwaitsACopying s (Counting sum) = ⊥
+  AwaitsACopying s (OverAll o) = SweepAwaits s.chart (is_incremental s.setting.mode) o.sweep.stands
+
+module _ {K Q : Type 0} (V : Type 0) (same : K → K → Bool) (asks : Q → K → Bool) (batch_size roots : ℕ) (slot : ℕ → ℕ) where
+  -- The promise: a machine that waits has changed no word, and stands where it stood. It waits for a copying, or, at a row of the collector, while another caller's row,
+  -- and just that one, has the batch of its slot in hand.
+  abbrev pub StepsWait : Type 0
+  StepsWait =
+      (w : World (Node K V)) (maps : ℕ → Option (Standing K)) (calls : ℕ → ℕ → Option (UnderWay K V Q))
+      (makers : ℕ → Option (Beginning K)) (enders : ℕ → Option (Finishing K V))
+      → EndingsTogether V same asks batch_size roots slot w maps calls makers enders
+      → (m : ℕ) (s : Standing K) → maps m ≡ Some s → (i : ℕ) (u : UnderWay K V Q) → calls m i ≡ Some u
+      → (m2 : Mem (Node K V)) (machine : Machine K V Q)
+      → Steps Took value_at w.memory (machine_plan asks same s.hash (machine_of u)) m2 (machine, progress.Waits)
+      → (m2 ≡ w.memory) × (machine ≡ machine_of u) × (AwaitsACopying s u ⊎ AnotherHolds w i (row_within (slot i) (machine_of u)))
