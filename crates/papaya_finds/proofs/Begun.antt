@@ -147,7 +147,7 @@ module _ {K V : Type 0} (terms : Terms) (log : List (Entry K V)) (e : Entry K V)
     where
       by : (q : Bool) → MatchBool q (IsKeptOut {K = K} (MakeMap name mode capacity) (was_done V)) (ComesTo terms log m e (MakeMap name mode capacity) (was_done V)) → map_of name m ≡ None
       by true out = absurd (let busy = of_fault V (map_fault mode capacity) (was_done V ≡ Refused Busy) out in cc busy)
-      by false its = no_one (map_of name m) (and_parts (is_none (map_of name m)) _ (in_turn _ _ Done (of_fault V (map_fault mode capacity) _ its) refl)).0
+      by false its = no_one (map_of name m) (in_turn (is_none (map_of name m)) _ Done (of_fault V (map_fault mode capacity) _ its) refl)
   makes_new _ _ right = tt
 
   -- no call is on a map that ends

@@ -31,6 +31,11 @@ pub record Streams : Type 0 where
 abbrev pub SaysOnly : List ℕ → Streams → Type 0
 SaysOnly line s = Keeps s.output_before s.output_after × (s.errors_failed ≡ false → Appends s.errors_before s.errors_after line)
 
+-- that a write failed is told by a line on the errors, unless that write fails, too; else nothing is written there
+abbrev pub TellsFailure : Bool → Bool → Option (List ℕ) → Option (List ℕ) → Type 0
+TellsFailure true errors_failed before after = errors_failed ≡ false → Appends before after (codes "write failed\n")
+TellsFailure false errors_failed before after = Keeps before after
+
 -- with what a script is run
 abbrev pub terms_of : List ScriptEvent → Terms
 terms_of events = record {
@@ -57,9 +62,10 @@ IsPrinted bytes s =
 abbrev pub IsStopped : List ℕ → Streams → Type 0
 IsStopped bytes s = (stop : Stop) × Answers bytes s.left (Err stop) × SaysOnly (stop_line stop) s
 
--- the script says events, and a write of what is printed for them failed
+-- the script says events, and a write of what is printed for them failed, which is told on the errors
 abbrev pub IsUnwritten : List ℕ → Streams → Type 0
-IsUnwritten bytes s = (events : List ScriptEvent) × (script_of bytes ≡ Ok events) × (s.output_failed ≡ true) × Keeps s.errors_before s.errors_after
+IsUnwritten bytes s =
+    (events : List ScriptEvent) × (script_of bytes ≡ Ok events) × (s.output_failed ≡ true) × TellsFailure true s.errors_failed s.errors_before s.errors_after
 
 -- the status is 0 where all is printed, and else 1
 abbrev pub EndsWith : ℕ → List ℕ → Streams → Type 0

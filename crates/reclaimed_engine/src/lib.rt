@@ -3,8 +3,8 @@
 
 ghost use Rattle.std.specs.Prelude.{◌≡◌, false, IfOk, IfErr, OnErr, IfSome};
 ghost use Rattle.std.specs.Io.KnownBytes.{Keeps, Appends};
-ghost use Rattle.reclaimed_engine.specs.Engine.{stop_line, EndsWith, IsTextFor};
-ghost use Rattle.reclaimed_text.specs.Output.{has_failed, writer_of};
+ghost use Rattle.reclaimed_engine.specs.Engine.{stop_line, EndsWith, IsTextFor, TellsFailure};
+ghost use Rattle.reclaimed_text.specs.Output.{has_failed, writer_of, Writes};
 
 use papaya_running::running::run;
 use reclaimed_script::{Script, Stop, hasher_of, read, setup_of};
@@ -53,9 +53,21 @@ fn say<E: Write>(alloc: Global, errors: &mut Output<E>, stop: Stop) -> Result<u8
     Ok(1)
 }
 
-/// Reads a whole script, runs it, and writes what is printed for it, or the one line that says why it gives no run.
-/// Answers the status: 0 where all was printed. An `Err` is want of memory for even that one line, and nothing is
-/// written then.
+/// Writes what is printed, and answers the status: 0 where all was written. A write that failed is told on the errors.
+fn print<W: Write, E: Write>(output: &mut Output<W>, errors: &mut Output<E>, text: &[u8]) -> u8
+    ensures writes { Writes result text.now (has_failed output.new) (W.contents (writer_of output.old)) (W.contents (writer_of output.new)) }
+    ensures says { TellsFailure (has_failed output.new) (has_failed errors.new) (E.contents (writer_of errors.old)) (E.contents (writer_of errors.new)) }
+{
+    let status = write(output, text);
+    if output.has_failed() {
+        errors.put(b"write failed\n");
+    }
+    status
+}
+
+/// Reads a whole script, runs it, and writes what is printed for it, or the one line that says why it gives no run. Where what is printed can't be
+/// written, `write failed` is written on the errors. Answers the status: 0 where all was printed. An `Err` is want of memory for even the line that says
+/// why there is no run, and nothing is written then.
 pub fn engine<R: Read, W: Write, E: Write>(
     alloc: Global,
     input: &mut R,
@@ -81,6 +93,6 @@ pub fn engine<R: Read, W: Write, E: Write>(
     };
     match printed(alloc, script) {
         Err(stop) => say(alloc, errors, stop),
-        Ok(text) => Ok(write(output, &text)),
+        Ok(text) => Ok(print(output, errors, &text)),
     }
 }
