@@ -1,5 +1,5 @@
 -- What is asked of a moment before a map is made or ends, and what is promised then.
-use Rattle.std.specs.Prelude.{◌≡◌, ◌<◌, ◌≤◌, ◌+◌, ◌^◌, ℕ, true, List, length, filter, max}
+use Rattle.std.specs.Prelude.{◌≡◌, ◌<◌, ◌≤◌, ◌+◌, ◌^◌, ℕ, Bool, true, List, length, filter, max}
 use Rattle.std.specs.Int.{IsNextPowerOfTwo}
 use Rattle.papaya_logged.specs.Given.Tables.declared.resize_mode.ResizeMode.{ResizeMode}
 use Rattle.papaya_logged.specs.Given.Tables.declared.setting.Setting.{Setting}

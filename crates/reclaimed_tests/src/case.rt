@@ -69,21 +69,39 @@ impl Case {
             return Ok(());
         }
         self.line = before.saturating_add(1);
+        if kind == "%" {
+            return self.behave(rest);
+        }
+        self.take_pieces(line)
+    }
+
+    /// Takes in the pieces of a line.
+    fn take_pieces(&mut self, line: &str) -> io::Result<()> {
+        for piece in line.split(" | ") {
+            self.take_piece(piece)?;
+        }
+        Ok(())
+    }
+
+    /// Takes in a piece: a line of the script, or of what is printed or told.
+    fn take_piece(&mut self, piece: &str) -> io::Result<()> {
+        let (kind, rest) = piece.split_once(' ').unwrap_or((piece, ""));
         match kind {
             ">" => append_line(&mut self.script, rest),
             "~" => append_text(&mut self.script, rest),
             "!" => append_line(&mut self.told, rest),
-            "%" => self.behave(rest),
-            _ => append_line(&mut self.printed, line),
+            _ => append_line(&mut self.printed, piece),
         }
     }
 
-    /// How it differs from a plain case: the script goes on with so many times a byte (`repeat 300 61`); one read gives so many bytes at most
-    /// (`pieces 3`); so many reads are interrupted first (`interrupted 3`); the input fails behind the script (`breaks`); a write fails once so many
-    /// bytes were written (`room 3`, `errors_room 3`); it has to end in another way than what stands there (`differs`).
+    /// How it differs from a plain case: a line stands once for each of these numbers, which `*` stands for (`for 1 9 > call g m insert * x | none`); the
+    /// script goes on with so many times a byte (`repeat 300 61`); one read gives so many bytes at most (`pieces 3`); so many reads are interrupted
+    /// first (`interrupted 3`); the input fails behind the script (`breaks`); a write fails once so many bytes were written (`room 3`,
+    /// `errors_room 3`); it has to end in another way than what stands there (`differs`).
     fn behave(&mut self, how: &str) -> io::Result<()> {
         let (word, rest) = how.split_once(' ').unwrap_or((how, ""));
         match word {
+            "for" => self.take_each(rest)?,
             "repeat" => self.repeat(rest)?,
             "pieces" => self.piece = number_of(rest)?,
             "interrupted" => self.interruptions = number_of(rest)? as u64,
@@ -92,6 +110,17 @@ impl Case {
             "errors_room" => self.errors_room = number_of(rest)?,
             "differs" => self.differs = true,
             _ => return Err(malformed()),
+        }
+        Ok(())
+    }
+
+    fn take_each(&mut self, rest: &str) -> io::Result<()> {
+        let (first, rest) = rest.split_once(' ').ok_or(malformed())?;
+        let (last, line) = rest.split_once(' ').ok_or(malformed())?;
+        let alloc = *self.script.allocator();
+        for number in number_of(first)?..number_of(last)?.saturating_add(1) {
+            let digits = number.to_string(alloc)?;
+            self.take_pieces(line.replace(alloc, '*', digits.as_str())?.as_str())?;
         }
         Ok(())
     }

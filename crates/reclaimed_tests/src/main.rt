@@ -9,7 +9,8 @@
 //! - `%`, how the case differs from a plain one (`Case::behave`);
 //! - any other, a line that is printed.
 //!
-//! So the lines of a script stand right above what is printed for them. `\` and two digits of base 16 stand for one byte.
+//! ` | ` parts what else would be lines of their own. So what is printed for a line of the script stands behind it, or right below. `\` and two digits
+//! of base 16 stand for one byte.
 #![tactic(auto)]
 
 mod case;
