@@ -1,3 +1,7 @@
 -- Callers, as they are kept and as they are shown.
+pub mod Comes
+pub mod Found
+pub mod Keeps
 pub mod Kept
 pub mod Newest
+pub mod Trims

@@ -1,7 +1,7 @@
 -- Callers that stand at places of a list, each under its name, and are shown the newest first.
-use Rattle.std.specs.Prelude.{◌≡◌, ℕ, ◌==◌, Bool, List, [], ◌∷◌, ◌++◌, length, position, slice_get, slice_index, Option, Some, None, if◌then◌else◌}
+use Rattle.std.specs.Prelude.{◌≡◌, ◌<◌, ℕ, ◌==◌, Bool, List, [], ◌∷◌, ◌++◌, length, position, slice_get, slice_index, Option, Some, None, if◌then◌else◌}
 use Rattle.papaya_present.specs.Counts.{count_in}
-use Rattle.papaya_present.specs.Crowd.{LeadsHome, kept, weigh}
+use Rattle.papaya_present.specs.Crowd.{LeadsHome, StandsAt, kept, weigh}
 use Rattle.papaya_present.specs.declared.counts.Counts.{Counts}
 use Rattle.papaya_present.specs.declared.places.Places.{Places}
 use Rattle.papaya_runs.specs.Same.{is_same}
@@ -13,6 +13,10 @@ abbrev pub newest : {T : Type 0} → List (Option T) → List T
 newest [] = []
 newest (None ∷ comers) = newest comers
 newest (Some t ∷ comers) = newest comers ++ t ∷ []
+
+-- nobody stands at this place of a list, or behind it
+abbrev pub IsTrimmedAt : {T : Type 0} → ℕ → List (Option T) → Type 0
+IsTrimmedAt {T} length comers = (place : ℕ) (t : T) → StandsAt comers place t → place < length
 
 module _ {V : Type 0} where
   -- who stands at a place of a list, if it is told

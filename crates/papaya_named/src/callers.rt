@@ -2,8 +2,8 @@
 ghost use Rattle.std.specs.Prelude.{◌≡◌, ◌==◌, ◌∷◌, ℕ, List, [], Some, Option, MatchOption, OnOk, is_some, length, option_copied, option_map, position, slice_get, slice_set};
 ghost use Rattle.std.specs.List.{list_any, remove};
 ghost use Rattle.papaya_runs.specs.Same.{is_same};
-ghost use Rattle.papaya_present.specs.Crowd.{IsAbsent, IsHome, LeadsHome, StandsAt, kept as there};
-ghost use Rattle.papaya_named.specs.Roll.{called, name_of, newest};
+ghost use Rattle.papaya_present.specs.Crowd.{IsAbsent, IsHome, LeadsHome};
+ghost use Rattle.papaya_named.specs.Roll.{IsTrimmedAt, called, name_of};
 ghost use Rattle.papaya_named.specs.Seen.{is_named};
 ghost use Rattle.papaya_named.specs.Telling.{kept, kept_by};
 ghost use Rattle.papaya_named.specs.declared.caller.Caller.{Caller};
@@ -100,15 +100,16 @@ fn change<V: Drop>(place: &mut Option<Caller<V>>, stands: Stands, keeps: Keeps<V
     }
 }
 
-/// Places at the end where nobody stands go.
-fn trim<V: Drop>(comers: &mut Vec<Option<Caller<V>>>)
-    ensures newest { newest comers.new.items ≡ newest comers.old.items }
-    ensures there { there comers.new.items ≡ there comers.old.items }
-    ensures stands { (place : ℕ) (caller : Caller V) → StandsAt comers.new.items place caller → StandsAt comers.old.items place caller }
+/// How many places are left once those at the end go where nobody stands.
+fn length_of<V: Drop>(comers: &[Option<Caller<V>>]) -> usize
+    ensures { IsTrimmedAt result comers.now }
 {
-    while let Some(None) = comers.last() {
-        comers.pop();
+    for length in (0..comers.len()).rev() {
+        if comers[length].is_some() {
+            return length + 1;
+        }
     }
+    0
 }
 
 impl<V: Drop> Callers<V> {
@@ -228,7 +229,8 @@ impl<V: Drop> Callers<V> {
         self.under.lessen(&caller.guard);
         self.on.lessen(caller.map, 1);
         self.count -= 1;
-        trim(&mut self.comers);
+        let length = length_of(&self.comers);
+        self.comers.truncate(length);
         Some((caller.kind, caller.value))
     }
 }

@@ -1,5 +1,5 @@
 //! How many there are of each name.
-ghost use Rattle.std.specs.Prelude.{◌≡◌, ◌+◌, ◌<◌, ◌≤◌, ◌^◌, ℕ, List, OnOk};
+ghost use Rattle.std.specs.Prelude.{◌≡◌, ◌+◌, ◌<◌, ◌≤◌, ◌^◌, ℕ, List, OnErr, OnOk};
 ghost use Rattle.papaya_present.specs.Counts.{count_in};
 ghost use Rattle.papaya_present.specs.Places.{IsElsewhere};
 
@@ -38,6 +38,7 @@ impl Counts {
         requires { count_in name.now self.old + 1 < 2 ^ 64 }
         ensures here { OnOk result (count_in name.now self.new ≡ count_in name.now self.old + 1) }
         ensures others { OnOk result ((other : List ℕ) → IsElsewhere name.now other → count_in other self.new ≡ count_in other self.old) }
+        ensures err { OnErr result ((other : List ℕ) → count_in other self.new ≡ count_in other self.old) }
     {
         let count = self.of(name);
         let name = Vec::from_slice(alloc, name.as_bytes())?;

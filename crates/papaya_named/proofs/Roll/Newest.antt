@@ -80,14 +80,18 @@ module _ {T : Type 0} where
   seat_gone (Some u ∷ comers) (suc place) t s =
       ap (λ (l : List T). l ++ u ∷ []) (seat_gone comers place t s) ∙ sym (front_gone (newest comers) (seat comers place) t u (seat_get comers place t s))
 
+  pub longer : (xs : List T) (t : T) → length (xs ++ t ∷ []) ≡ length xs + 1
+  longer [] t = refl
+  longer (x ∷ xs) t = omega (arith, longer xs t)
+
   -- where a test is passed, and where it is not
   module _ (p : T → Bool) where
     abbrev pub Fails : List (Option T) → Type 0
     Fails comers = (place : ℕ) (t : T) → StandsAt comers place t → p t ≡ false
 
     none_more : (xs : List T) (t : T) → list_any p xs ≡ false → p t ≡ false → list_any p (xs ++ t ∷ []) ≡ false
-    none_more [] t none no = ap (λ (b : Bool). b || false) no
-    none_more (x ∷ xs) t none no = by (p x) none (λ h. none_more xs t h no)
+    none_more [] t none fails = ap (λ (b : Bool). b || false) fails
+    none_more (x ∷ xs) t none fails = by (p x) none (λ h. none_more xs t h fails)
       where
         by : (b : Bool) → (b || list_any p xs) ≡ false → (list_any p xs ≡ false → list_any p (xs ++ t ∷ []) ≡ false) → (b || list_any p (xs ++ t ∷ [])) ≡ false
         by true h ih = absurd (cc h)
@@ -99,8 +103,8 @@ module _ {T : Type 0} where
     none_newest (Some t ∷ comers) fails = none_more (newest comers) t (none_newest comers (λ q. fails (suc q))) (fails zero t refl)
 
     first_past : (xs : List T) (t : T) → list_any p xs ≡ false → p t ≡ true → position_or_len p (xs ++ t ∷ []) ≡ length xs
-    first_past [] t none yes = ap (λ (b : Bool). cond (not b) 1 0) yes
-    first_past (x ∷ xs) t none yes = by (p x) none (λ h. first_past xs t h yes)
+    first_past [] t none passes = ap (λ (b : Bool). cond (not b) 1 0) passes
+    first_past (x ∷ xs) t none passes = by (p x) none (λ h. first_past xs t h passes)
       where
         by : (b : Bool) → (b || list_any p xs) ≡ false → (list_any p xs ≡ false → position_or_len p (xs ++ t ∷ []) ≡ length xs)
             → cond (not b) (1 + position_or_len p (xs ++ t ∷ [])) 0 ≡ length (x ∷ xs)
@@ -124,10 +128,6 @@ module _ {T : Type 0} where
         by true h ih = absurd (cc h)
         by false h ih = omega (arith, ih h)
 
-    longer : (xs : List T) (t : T) → length (xs ++ t ∷ []) ≡ length xs + 1
-    longer [] t = refl
-    longer (x ∷ xs) t = omega (arith, longer xs t)
-
     -- none but the one at this place passes
     abbrev pub PassesAlone : List (Option T) → ℕ → Type 0
     PassesAlone comers place = (q : ℕ) (u : T) → StandsAt comers q u → p u ≡ true → q ≡ place
@@ -141,15 +141,15 @@ module _ {T : Type 0} where
 
     seat_first : (comers : List (Option T)) (place : ℕ) (t : T) → StandsAt comers place t → p t ≡ true → PassesAlone comers place
         → (position_or_len p (newest comers) ≡ seat comers place) × (seat comers place < length (newest comers))
-    seat_first [] place t s yes alone = absurd (cc s)
-    seat_first (None ∷ comers) zero t s yes alone = absurd (cc s)
-    seat_first (Some u ∷ comers) zero t s yes alone =
+    seat_first [] place t s passes alone = absurd (cc s)
+    seat_first (None ∷ comers) zero t s passes alone = absurd (cc s)
+    seat_first (Some u ∷ comers) zero t s passes alone =
         let more = longer (newest comers) u in
-        (first_past (newest comers) u (none_newest comers (fails_but (Some u) comers alone)) (ap p (the_one u t s) ∙ yes), omega (arith, more))
-    seat_first (None ∷ comers) (suc place) t s yes alone =
-        seat_first comers place t s yes (λ q u s2 e. let h : suc q ≡ suc place = alone (suc q) u s2 e in omega (arith, h))
-    seat_first (Some u ∷ comers) (suc place) t s yes alone =
-        let r = seat_first comers place t s yes (λ q v s2 e. let h : suc q ≡ suc place = alone (suc q) v s2 e in omega (arith, h)) in
+        (first_past (newest comers) u (none_newest comers (fails_but (Some u) comers alone)) (ap p (the_one u t s) ∙ passes), omega (arith, more))
+    seat_first (None ∷ comers) (suc place) t s passes alone =
+        seat_first comers place t s passes (λ q u s2 e. let h : suc q ≡ suc place = alone (suc q) u s2 e in omega (arith, h))
+    seat_first (Some u ∷ comers) (suc place) t s passes alone =
+        let r = seat_first comers place t s passes (λ q v s2 e. let h : suc q ≡ suc place = alone (suc q) v s2 e in omega (arith, h)) in
         let more = longer (newest comers) u in
         (first_front (newest comers) u (omega (arith, r.0, r.1)) ∙ r.0, omega (arith, r.1, more))
 
@@ -161,8 +161,8 @@ module _ {T : Type 0} where
 
     pub seat_position : (comers : List (Option T)) (place : ℕ) (t : T) → StandsAt comers place t → p t ≡ true → PassesAlone comers place
         → position p (newest comers) ≡ Some (seat comers place)
-    seat_position comers place t s yes alone =
-        let r = seat_first comers place t s yes alone in
+    seat_position comers place t s passes alone =
+        let r = seat_first comers place t s passes alone in
         placed_at (position_or_len p (newest comers)) (length (newest comers)) (omega (arith, r.0, r.1)) ∙ ap (λ (n : ℕ). Some n) r.0
 
     pub no_position : (comers : List (Option T)) → Fails comers → position p (newest comers) ≡ None
