@@ -86,12 +86,35 @@ def crowded(lines):
         yield f"drop g{guard}"
 
 
+def stepped(lines):
+    """Eight callers store distinct keys in two maps, each under a guard of its own: a call is begun, takes six single steps in turn with the others' calls, and goes on."""
+    callers = range(8)
+    yield "register a"
+    yield "map m0 inc 64 0"
+    yield "map m1 block 0"
+    for caller in callers:
+        yield f"enter g{caller} a"
+    key = 0
+    left = lines - 11
+    while left >= 64:
+        for caller in callers:
+            yield f"begin c{caller} g{caller} m{caller % 2} insert {key + caller} v{key}"
+        for _ in range(6):
+            for caller in callers:
+                yield f"step c{caller}"
+        for caller in callers:
+            yield f"go c{caller}"
+        key += 8
+        left -= 64
+
+
 KINDS = {
     "stored": stored,
     "replaced": replaced,
     "in turn": in_turn,
     "looked up": looked_up,
     "crowded": crowded,
+    "stepped": stepped,
 }
 
 

@@ -301,7 +301,7 @@ module _ {K V S : Type 0} (same : K → K → Bool) (hash : K → ℕ) (terms : 
 
     mask_is : d.given.mask + 1 ≡ shards_of terms
     mask_is =
-        next-power-unique old.given.setup.processors (d.given.mask + 1) d.is_given.mask.0.0 holds.counts.processors d.is_given.mask.0.1 d.is_given.mask.1 d.is_given.mask.2
+        next-power-unique old.setup.processors (d.given.mask + 1) d.is_given.mask.0.0 holds.counts.processors d.is_given.mask.0.1 d.is_given.mask.1 d.is_given.mask.2
         ∙ ap (λ (t : Terms). shards_of t) run.stands.given
 
     shards : HaveShards terms new.logged.executor

@@ -50,7 +50,7 @@ use Rattle.papaya_scheduler.proofs.Given.Rows.Lists.{all_so}
 use Rattle.papaya_scheduler.specs.Mapping.{CountsMaps, IsGivenFor, MayMap}
 use Rattle.papaya_scheduler.specs.Played.{Plays, StandsFor}
 use Rattle.papaya_scheduler.specs.Quiet.{IsQuiet}
-use Rattle.papaya_named.specs.Seen.{named, named_of}
+use Rattle.papaya_named.specs.Seen.{named, named_of, number_named}
 use Rattle.papaya_named.specs.declared.named_map.NamedMap.{NamedMap}
 use Rattle.papaya_scheduler.specs.declared.scheduler.Scheduler.{Scheduler}
 use Rattle.papaya_scheduler.proofs.KeptOut.{faulty_stands}

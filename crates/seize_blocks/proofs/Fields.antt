@@ -1,0 +1,100 @@
+-- How the words and a seat are stored: the words are one address, and a seat has no bytes.
+use Rattle.std.proofs.Common.{T, ◌≡◌, List, [], ◌∷◌, ◌++◌, refl, ap, ◌∙◌}
+use mir.Syntax.{ty_ptr, ty_struct, tcons, tnil}
+use mir.Val.{Val, vstruct, vcons, vnil, of_list, has_ty, WT}
+use seplogic.Ra.Ura.{Ura}
+use base.Logic.{ent, emp}
+use types.Logic.{Logic, sem}
+use denote.Shadow.{makes_shadow}
+use denote.RattleType.{RattleType}
+use denote.RawPtr.{Ptr, block_ptr, null_ptr, ptr_val}
+use denote.Laws.{Is}
+use denote.Opens.{Opens}
+use denote.Copied.{Struct-Copied}
+use denote.Struct.Laws.{RawPtr-copy, field_copy}
+use denote.Struct.Struct.{Struct}
+use denote.Struct.Owning.{shape}
+use denote.Struct.Tuple.{Tuple}
+use Rattle.core.proofs.atomic.Steps.{Ptr-Good}
+use Rattle.std.specs.contracts.marker.PhantomData as marker
+use Rattle.seize_blocks.specs.declared.rule.Rule.{Ghosts}
+use Rattle.seize_blocks.specs.contracts.words.Words as words
+use Rattle.seize_blocks.specs.contracts.seat.Seat as seat
+use Rattle.seize_blocks.specs.contracts.row.Row as row
+
+-- an address and no more
+abbrev pub hand_of : Ptr → Val
+hand_of p = vstruct (vcons (ptr_val p) (vcons (vstruct vnil) vnil))
+
+module _ (X R V F : RattleType) (g : Ghosts R.Denot X.Denot V.Denot F.Denot) where
+  abbrev pub Data : RattleType
+  Data = Struct (shape (words.the_type X R V F g))
+
+  pub told : (p : Ptr) (vs : List Val) → Is Data (p, (tt, tt)) vs → vs ≡ hand_of p ∷ []
+  told p vs is = is.1.0 ∙ ap (λ (ws : List Val). vstruct (of_list (ws ++ (is.0.1.0 ++ []))) ∷
+      []) is.1.1.0 ∙ ap (λ (ws : List Val). vstruct (of_list (ptr_val p ∷ (ws ++ []))) ∷ []) is.1.1.1.0.1.0
+
+  pub opened : {M : Type 1} {𝓤 : Ura M} (𝓛 : Logic 𝓤) → Opens 𝓛 Data
+  opened {M} {𝓤 = 𝓤} 𝓛 = (Struct-Copied 𝓛 (shape (words.the_type X R V F g)) (refl, (refl, tt)) (
+    RawPtr-copy.copied M 𝓤 𝓛,
+    ((field_copy (marker.the_type (Tuple (X ∷ R ∷ []))) tt).copied M 𝓤 𝓛, tt),
+  )).opens
+
+-- a seat, which has no bytes
+abbrev pub token : Val
+token = vstruct (vcons (vstruct vnil) vnil)
+
+module _ (X R V F : RattleType) (g : Ghosts R.Denot X.Denot V.Denot F.Denot) where
+  abbrev pub Token : RattleType
+  Token = Struct (shape (seat.the_type X R V F g))
+
+  pub token_made : {M : Type 1} {𝓤 : Ura M} (𝓛 : Logic 𝓤) → ent 𝓤 (emp 𝓤) (sem 𝓛 (Token.own_val (tt, tt) (token ∷ [])))
+  token_made 𝓛 = makes_shadow 𝓛 (Token.own_val (tt, tt) (token ∷ [])) (λ vss. (tt, ((λ uss. (tt, tt)), tt))) (
+    (vstruct vnil ∷ [], tt),
+    (
+      refl,
+      (
+        (
+          tt,
+          (
+            refl,
+            tt,
+          ),
+        ),
+        tt,
+      ),
+    ),
+  )
+
+-- an address alone
+abbrev pub one_of : Ptr → Val
+one_of p = vstruct (vcons (ptr_val p) vnil)
+
+module _ (R : RattleType) where
+  abbrev pub Places : RattleType
+  Places = Struct (shape (row.the_type R))
+
+  pub places_told : (p : Ptr) (vs : List Val) → Is Places (p, tt) vs → vs ≡ one_of p ∷ []
+  places_told p vs is = is.1.0 ∙ ap (λ (ws : List Val). vstruct (of_list (ws ++ [])) ∷ []) is.1.1.0
+
+  pub places_made : {M : Type 1} {𝓤 : Ura M} (𝓛 : Logic 𝓤) (p : Ptr) → ent 𝓤 (emp 𝓤) (sem 𝓛 (Places.own_val (p, tt) (one_of p ∷ [])))
+  places_made 𝓛 p = makes_shadow 𝓛 (Places.own_val (p, tt) (one_of p ∷ [])) (λ vss. (tt, (tt, tt))) ((ptr_val p ∷ [], tt), (refl, (refl, tt)))
+
+-- each of these is stored as its type says
+pub one_good : (p : Ptr) → T (has_ty (ty_struct [] (tcons ty_ptr tnil)) (one_of p)) × WT (one_of p)
+one_good (block_ptr b o) = (tt, (tt, tt))
+one_good null_ptr = (tt, ((Ptr-Good null_ptr).1, tt))
+
+pub hand_good : (p : Ptr) → T (has_ty (ty_struct [] (tcons ty_ptr (tcons (ty_struct [] tnil) tnil))) (hand_of p)) × WT (hand_of p)
+hand_good (block_ptr b o) = (tt, (tt, (tt, tt)))
+hand_good null_ptr = (tt, ((Ptr-Good null_ptr).1, (tt, tt)))
+
+module _ (X R V F : RattleType) (g : Ghosts R.Denot X.Denot V.Denot F.Denot) where
+  pub hand_made : {M : Type 1} {𝓤 : Ura M} (𝓛 : Logic 𝓤) (p : Ptr) → ent 𝓤 (emp 𝓤) (sem 𝓛 ((Data X R V F g).own_val (p, (tt, tt)) (hand_of p ∷ [])))
+  hand_made 𝓛 p = makes_shadow 𝓛 ((Data X R V F g).own_val (p, (tt, tt)) (hand_of p ∷ [])) (λ vss. (tt, (tt, ((λ uss. (tt, tt)), tt)))) (
+    (
+      ptr_val p ∷ [],
+      (vstruct vnil ∷ [], tt),
+    ),
+    (refl, (refl, ((tt, (refl, tt)), tt))),
+  )

@@ -1,0 +1,3 @@
+pub mod Fields
+pub mod Exchanged
+pub mod Placing

@@ -1,0 +1,12 @@
+use denote.RattleType.{RattleType}
+use denote.Param.Send.{IsSend, IsSync}
+use Rattle.seize_seats.proofs.Sent.{owns_keyless}
+use Rattle.seize_blocks.specs.declared.rule.Rule.{Ghosts}
+use Rattle.seize_blocks.specs.contracts.words.Words.{the_row}
+
+pub send : (T R V F : RattleType) (g : Ghosts R.Denot T.Denot V.Denot F.Denot) → IsSend T → IsSync T → IsSend (the_row T R V F g)
+send T R V F g s y = record {
+  owned =
+      λ d vs. ((λ vss. (tt, (tt, ((λ uss. (tt, tt)), tt)))), owns_keyless T.Denot V.coded.code (g.holds d.fixed) d.words d.id);
+  leaving = λ k d w. tt;
+}

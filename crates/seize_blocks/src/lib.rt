@@ -1,0 +1,13 @@
+//! A memory that threads share, under any rule. Each operation on a word is one atomic step, which owes that the rule holds again.
+#![tactic(auto)]
+
+mod blocks;
+mod row;
+mod rule;
+mod seat;
+mod words;
+
+pub use blocks::{Blocks, Home};
+pub use rule::{Rule, Turn};
+pub use seat::Seat;
+pub use words::Words;

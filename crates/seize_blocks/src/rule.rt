@@ -1,0 +1,33 @@
+//! What a rule over a shared memory says, and what a seat of it may do without an operation.
+ghost use Rattle.std.specs.Prelude.{ℕ};
+ghost use Rattle.seize_words.specs.Op.{Op, Out};
+ghost use Rattle.seize_seats.specs.State.{State};
+
+/// What holds of a memory that seats share between any two steps, whoever takes them.
+pub trait Rule<T> {
+    /// What a seat knows. No value of it is made: it is plain data of the proofs.
+    type View;
+
+    /// What is chosen as the memory is opened, and stays.
+    type Fixed;
+
+    /// What the rule keeps beside the memory and the views.
+    ghost World: { Type 0 };
+
+    /// What holds between any two steps.
+    ghost holds: { Self.Fixed → State T Self.View World → Type 0 };
+
+    /// The view of one seat, as long as what another owns lasts, keeps the block of a number in this world.
+    ghost keeps: { Self.View → Self.View → World → ℕ → Type 0 };
+
+    /// What an operation tells its seat: its view before it, the operation, the answer, and its view after it.
+    ghost then: { Self.View → Op T → Out T → Self.View → Type 0 };
+
+    /// What a seat knows that has just come.
+    ghost newcomer: { Self.Fixed → Self.View };
+}
+
+/// What a step without an operation makes of a view.
+pub trait Turn<V> {
+    ghost to: { V → V → Type 0 };
+}

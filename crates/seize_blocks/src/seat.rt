@@ -1,0 +1,26 @@
+//! What one of those knows that share a memory.
+ghost use Rattle.std.specs.Prelude.{ℕ};
+ghost use Rattle.seize_seats.specs.Owned.{seat_owns};
+
+use crate::rule::Rule;
+use std::marker::{Model, PhantomData};
+
+/// The right to take steps, with what is known by those taken so far. It has no bytes.
+pub struct Seat<T, R: Rule<T>> {
+    pub(crate) marker: PhantomData<(T, R)>,
+    pub ghost base: { ℕ },
+    pub ghost id: { ℕ },
+    pub ghost view: { R.View } by { R.View.code },
+}
+
+impl<T, R: Rule<T>> Model for Seat<T, R> {
+    ghost also_owns = { λ s. seat_owns R.View.row.coded.code s.base s.id s.view };
+}
+
+impl<T, R: Rule<T>> Drop for Seat<T, R> {
+    fn drop(self) {
+        let Self { marker: _ } = self;
+    }
+}
+
+unsafe impl<T, R: Rule<T>> Send for Seat<T, R> {}

@@ -1,0 +1,100 @@
+//! Two threads change one word, each by single steps: no change is lost.
+ghost use Rattle.std.specs.Prelude.{◌≡◌};
+ghost use Rattle.seize_blocks_tests.specs.Root.{HasRoot};
+
+use seize_blocks::{Blocks, Home, Rule};
+use seize_words::At;
+use std::test::Fail;
+use std::thread;
+
+/// There is a root, and no more is said.
+struct OneRoot;
+
+impl Rule<u64> for OneRoot {
+    type View = ();
+
+    type Fixed = ();
+
+    ghost World = { Unit {0} };
+
+    ghost holds = { λ _. HasRoot };
+
+    ghost keeps = { λ _ _ _ _. ⊥ };
+
+    ghost then = { λ _ _ _ _. Unit {0} };
+
+    ghost newcomer = { λ _. tt };
+}
+
+/// Adds 1 so many times.
+fn add(blocks: &Blocks<u64, OneRoot>, times: u64) -> u64 {
+    let mut seat = blocks.seat();
+    for _ in 0..times {
+        blocks.add(&mut seat, At::Root(0), 1);
+    }
+    blocks.load(&mut seat, At::Root(0))
+}
+
+/// Adds 1 so many times, each time by a load and an exchange, and again where another thread was faster; answers how often it was.
+fn exchange(blocks: &Blocks<u64, OneRoot>, times: u64) -> u64 {
+    let mut seat = blocks.seat();
+    let mut done = 0;
+    for turn in 0..times {
+        let found = blocks.load(&mut seat, At::Root(0));
+        if blocks
+            .exchange(&mut seat, At::Root(0), found, found.wrapping_add(1))
+            .is_ok()
+        {
+            done += 1;
+        }
+    }
+    done
+}
+
+#[test]
+fn no_addition_of_two_threads_is_lost(rt: HostRuntime) -> Result<(), Fail> {
+    let home = Home::<u64, OneRoot>::open(rt.alloc(), 1, &())?;
+    let blocks = &home.blocks;
+    let (first, second) = thread::join(&rt, || add(blocks, 20_000), || add(blocks, 20_000));
+    assert!(rt; first >= 20_000 && second >= 20_000);
+    assert_eq!(rt; add(blocks, 0), 40_000);
+    Ok(())
+}
+
+#[test]
+fn each_exchange_that_succeeds_counts_once(rt: HostRuntime) -> Result<(), Fail> {
+    let home = Home::<u64, OneRoot>::open(rt.alloc(), 1, &())?;
+    let blocks = &home.blocks;
+    let (first, second) = thread::join(
+        &rt,
+        || exchange(blocks, 20_000),
+        || exchange(blocks, 20_000),
+    );
+    assert_eq!(rt; add(blocks, 0), first.wrapping_add(second));
+    Ok(())
+}
+
+/// Whether the word was seen within so many turns.
+fn sees(blocks: &Blocks<u64, OneRoot>, word: u64) -> bool {
+    let mut seat = blocks.seat();
+    for _ in 0..100_000_000u64 {
+        if blocks.load(&mut seat, At::Root(0)) == word {
+            return true;
+        }
+        thread::yield_now();
+    }
+    false
+}
+
+#[test]
+fn two_threads_answer_each_other(rt: HostRuntime) -> Result<(), Fail> {
+    let home = Home::<u64, OneRoot>::open(rt.alloc(), 1, &())?;
+    let blocks = &home.blocks;
+    let (first, second) = thread::join(
+        &rt,
+        || sees(blocks, 1) && add(blocks, 1) == 2,
+        || add(blocks, 1) >= 1 && sees(blocks, 2),
+    );
+    assert!(rt; first && second);
+    Ok(())
+}

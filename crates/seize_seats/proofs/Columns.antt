@@ -1,0 +1,155 @@
+-- Words and their places: another word at a place is another word of its name.
+use Rattle.std.specs.Prelude.{◌≡◌, ◌≢◌, ℕ, zero, suc, ◌+◌, ◌*◌, ◌-◌, ◌<◌, ◌≤◌, ◌==◌, ◌⊎◌, Bool, true, false, if◌then◌else◌, List, [], length, Option, Some, None, slice_get, slice_index, slice_index_or, slice_set}
+use Rattle.std.proofs.Common.{refl, ap, ◌∙◌, arith, inl, inr, length-set}
+use Rattle.std.proofs.lemmas.List.{get_or-set_same, get_or-set_other}
+use Rattle.seize_words.specs.Mem.{block_of, entry_in, word_in}
+use Rattle.seize_words.specs.declared.block.Block.{Block}
+use Rattle.seize_words.specs.SlotWords.{slot_word, with_slot_word}
+use Rattle.seize_words.specs.declared.at.At.TheVariants.{Root, Used, Slot, Entry, Word}
+use Rattle.seize_seats.specs.Lines.{column, slots_from, memory_of, AreLaid}
+use Rattle.seize_seats.specs.Laws.{WordsLie, WordsAreApart}
+
+column_get : (k : ℕ) (ws : List ℕ) (o i w : ℕ) → slice_get (column k ws o) i ≡ Some w → (i < k) × (slice_index ws (i * 16 + o) ≡ w)
+column_get zero ws o i w e = absurd (cc e)
+column_get (suc k) ws o zero w e = (omega arith, ap (slice_index ws) (let s : 0 * 16 + o ≡ o = omega arith in s) ∙ cc e)
+column_get (suc k) ws o (suc i) w e = let r = column_get k ws (o + 16) i w e in
+    (omega (arith, r.0), ap (slice_index ws) (let s : suc i * 16 + o ≡ i * 16 + (o + 16) = omega arith in s) ∙ r.1)
+
+column_else : (k : ℕ) (ws : List ℕ) (o p w : ℕ) → ((i : ℕ) → i < k → i * 16 + o ≢ p) → column k (slice_set ws p w) o ≡ column k ws o
+column_else zero ws o p w other = refl
+column_else (suc k) ws o p w other =
+    let first : slice_index (slice_set ws p w) o ≡ slice_index ws o = get_or-set_other ws p o w 0 (λ e. other 0 (omega arith) (omega (arith, e))) in
+    let rest = column_else k ws (o + 16) p w (λ i lt e. other (suc i) (omega (arith, lt)) (omega (arith, e))) in
+    cc (first, rest)
+
+column_set : (k : ℕ) (ws : List ℕ) (o i w : ℕ) → i < k → i * 16 + o < length ws → column k (slice_set ws (i * 16 + o) w) o ≡ slice_set (column k ws o) i w
+column_set zero ws o i w lt le = absurd (omega (arith, lt))
+column_set (suc k) ws o zero w lt le =
+    let same : 0 * 16 + o ≡ o = omega arith in
+    let first : slice_index (slice_set ws o w) o ≡ w = get_or-set_same ws o w 0 (omega (arith, le)) in
+    let rest = column_else k ws (o + 16) o w (λ i lt e. omega (arith, e)) in
+    ap (λ p. column (suc k) (slice_set ws p w) o) same ∙ cc (first, rest)
+column_set (suc k) ws o (suc i) w lt le =
+    let same : suc i * 16 + o ≡ i * 16 + (o + 16) = omega arith in
+    let first : slice_index (slice_set ws (i * 16 + (o + 16)) w) o ≡ slice_index ws o = get_or-set_other ws (i * 16 + (o + 16)) o w 0 (λ e. omega (arith, e)) in
+    let rest = column_set k ws (o + 16) i w (omega (arith, lt)) (omega (arith, le, same)) in
+    ap (λ p. column (suc k) (slice_set ws p w) o) same ∙ cc (first, rest)
+
+slots_get : (k : ℕ) (ws : List ℕ) (o s f w : ℕ) → slot_word (slots_from k ws o) s f ≡ Some w → (s < k) × (f < 2) × (slice_index ws (s * 16 + o + f) ≡ w)
+slots_get zero ws o s f w e = absurd (cc e)
+slots_get (suc k) ws o zero zero w e = (omega arith, omega arith, ap (slice_index ws) (let r : 0 * 16 + o + 0 ≡ o = omega arith in r) ∙ cc e)
+slots_get (suc k) ws o zero (suc zero) w e = (omega arith, omega arith, ap (slice_index ws) (let r : 0 * 16 + o + 1 ≡ o + 1 = omega arith in r) ∙ cc e)
+slots_get (suc k) ws o zero (suc (suc f)) w e = absurd (cc e)
+slots_get (suc k) ws o (suc s) f w e =
+    let r = slots_get k ws (o + 16) s f w e in
+    (omega (arith, r.0), r.1, ap (slice_index ws) (let q : suc s * 16 + o + f ≡ s * 16 + (o + 16) + f = omega arith in q) ∙ r.2)
+
+slots_else : (k : ℕ) (ws : List ℕ) (o p w : ℕ) → ((s f : ℕ) → s < k → f < 2 → s * 16 + o + f ≢ p) → slots_from k (slice_set ws p w) o ≡ slots_from k ws o
+slots_else zero ws o p w other = refl
+slots_else (suc k) ws o p w other =
+    let first : slice_index (slice_set ws p w) o ≡ slice_index ws o =
+    get_or-set_other ws p o w 0 (λ e. other 0 0 (omega arith) (omega arith) (omega (arith, e))) in
+    let second : slice_index (slice_set ws p w) (o + 1) ≡ slice_index ws (o + 1) =
+    get_or-set_other ws p (o + 1) w 0 (λ e. other 0 1 (omega arith) (omega arith) (omega (arith, e))) in
+    let rest = slots_else k ws (o + 16) p w (λ s f lt le e. other (suc s) f (omega (arith, lt)) le (omega (arith, e))) in
+    cc (first, second, rest)
+
+slots_set : (k : ℕ) (ws : List ℕ) (o s f w : ℕ) → s < k → f < 2 → s * 16 + o + f < length ws
+    → slots_from k (slice_set ws (s * 16 + o + f) w) o ≡ with_slot_word (slots_from k ws o) s f w
+slots_set zero ws o s f w lt le fits = absurd (omega (arith, lt))
+slots_set (suc k) ws o zero zero w lt le fits =
+    let same : 0 * 16 + o + 0 ≡ o = omega arith in
+    let first : slice_index (slice_set ws o w) o ≡ w = get_or-set_same ws o w 0 (omega (arith, fits)) in
+    let second : slice_index (slice_set ws o w) (o + 1) ≡ slice_index ws (o + 1) = get_or-set_other ws o (o + 1) w 0 (λ e. omega (arith, e)) in
+    let rest = slots_else k ws (o + 16) o w (λ s f lt le e. omega (arith, e)) in
+    ap (λ p. slots_from (suc k) (slice_set ws p w) o) same ∙ cc (first, second, rest)
+slots_set (suc k) ws o zero (suc zero) w lt le fits =
+    let same : 0 * 16 + o + 1 ≡ o + 1 = omega arith in
+    let first : slice_index (slice_set ws (o + 1) w) o ≡ slice_index ws o = get_or-set_other ws (o + 1) o w 0 (λ e. omega (arith, e)) in
+    let second : slice_index (slice_set ws (o + 1) w) (o + 1) ≡ w = get_or-set_same ws (o + 1) w 0 (omega (arith, fits)) in
+    let rest = slots_else k ws (o + 16) (o + 1) w (λ s f lt le e. omega (arith, e, le)) in
+    ap (λ p. slots_from (suc k) (slice_set ws p w) o) same ∙ cc (first, second, rest)
+slots_set (suc k) ws o zero (suc (suc f)) w lt le fits = absurd (omega (arith, le))
+slots_set (suc k) ws o (suc s) f w lt le fits =
+    let same : suc s * 16 + o + f ≡ s * 16 + (o + 16) + f = omega arith in
+    let p : ℕ = s * 16 + (o + 16) + f in
+    let first : slice_index (slice_set ws p w) o ≡ slice_index ws o = get_or-set_other ws p o w 0 (λ e. omega (arith, e)) in
+    let second : slice_index (slice_set ws p w) (o + 1) ≡ slice_index ws (o + 1) = get_or-set_other ws p (o + 1) w 0 (λ e. omega (arith, e)) in
+    let rest = slots_set k ws (o + 16) s f w (omega (arith, lt)) le (omega (arith, fits, same)) in
+    ap (λ q. slots_from (suc k) (slice_set ws q w) o) same ∙ cc (first, second, rest)
+
+slots_bound : (roots slots : ℕ) (ws : List ℕ) → AreLaid roots slots ws → slots ≤ 32
+slots_bound roots slots ws laid = elim laid.slots_are as (λ _. slots ≤ 32) [
+  | inl none ↦ omega (arith, none.0)
+  | inr some ↦ omega (arith, some)
+]
+
+-- there is no block
+none_is : (T : Type 0) (roots slots : ℕ) (ws : List ℕ) (b : ℕ) → block_of (memory_of {T = T} roots slots ws) b ≡ None
+none_is T roots slots ws b = by (b == 0)
+  where
+    by : (y : Bool) → (if y then None else slice_index_or {A = Option (Block T)} [] (b - 1) None) ≡ None
+    by true = refl
+    by false = refl
+
+pub words_lie : (T : Type 0) → WordsLie T
+words_lie T roots slots ws (Root r) w laid e =
+    let g = column_get roots ws 0 r w e in let lt : r < roots = g.0 in
+    (lt, omega (arith, laid.all, lt), ap (slice_index ws) (let s : r * 16 ≡ r * 16 + 0 = omega arith in s) ∙ g.1)
+words_lie T roots slots ws (Used r) w laid e =
+    let g = column_get roots ws (roots * 16) r w e in let lt : r < roots = g.0 in
+    (lt, omega (arith, laid.all, lt), ap (slice_index ws) (let s : (roots + r) * 16 ≡ r * 16 + roots * 16 = omega arith in s) ∙ g.1)
+words_lie T roots slots ws (Slot s f) w laid e =
+    let g = slots_get slots ws ((roots + roots) * 16) s f w e in let lt : s < slots = g.0 in let low : f < 2 = g.1 in
+    let few = slots_bound roots slots ws laid in (
+      (omega (arith, lt, few), low),
+      omega (arith, laid.all, lt, low, few),
+      ap (slice_index ws) (let q : (roots + roots + s) * 16 + f ≡ s * 16 + (roots + roots) * 16 + f = omega arith in q) ∙ g.2,
+    )
+words_lie T roots slots ws (Entry b i) w laid e = absurd (let n = ap (λ x. entry_in x i) (none_is T roots slots ws b) in cc (e, n))
+words_lie T roots slots ws (Word b i) w laid e = absurd (let n = ap (λ x. word_in x i) (none_is T roots slots ws b) in cc (e, n))
+
+-- what lies before the slots changes none of them
+laid_before : (roots slots : ℕ) (ws : List ℕ) (p w : ℕ) → AreLaid roots slots ws → p < (roots + roots) * 16 → AreLaid roots slots (slice_set ws p w)
+laid_before roots slots ws p w laid lt = record {
+  all = length-set ws p w ∙ laid.all;
+  slots_are = elim laid.slots_are as (λ _. ((slots ≡ 0) × ((k : ℕ) → (roots + roots) * 16 ≤ k → slice_index (slice_set ws p w) k ≡ 0)) ⊎ (slots ≡ 32)) [
+    | inl none ↦ inl (none.0, λ k le. get_or-set_other ws p k w 0 (λ e. omega (arith, e, le, lt)) ∙ none.1 k le)
+    | inr some ↦ inr some
+  ];
+}
+
+pub words_are_apart : (T : Type 0) → WordsAreApart T
+words_are_apart T roots slots ws (Root r) w new laid e =
+    let g = words_lie T roots slots ws (Root r) w laid e in let lt : r < roots = g.0 in
+    let p : ℕ = r * 16 in let same : r * 16 ≡ r * 16 + 0 = omega arith in
+    let here = ap (λ q. column roots (slice_set ws q new) 0) same ∙ column_set roots ws 0 r new lt (omega (arith, laid.all, lt)) in
+    let used = column_else roots ws (roots * 16) p new (λ i le q. omega (arith, q, lt, le)) in
+    let rest = slots_else slots ws ((roots + roots) * 16) p new (λ s f le low q. omega (arith, q, lt)) in
+    (laid_before roots slots ws p new laid (omega (arith, lt)), cc (here, used, rest))
+words_are_apart T roots slots ws (Used r) w new laid e =
+    let g = words_lie T roots slots ws (Used r) w laid e in let lt : r < roots = g.0 in
+    let p : ℕ = (roots + r) * 16 in let same : (roots + r) * 16 ≡ r * 16 + roots * 16 = omega arith in
+    let here = ap (λ q. column roots (slice_set ws q new) (roots * 16)) same ∙ column_set roots ws (roots * 16) r new lt (omega (arith, laid.all, lt)) in
+    let links = column_else roots ws 0 p new (λ i le q. omega (arith, q, lt, le)) in
+    let rest = slots_else slots ws ((roots + roots) * 16) p new (λ s f le low q. omega (arith, q, lt)) in
+    (laid_before roots slots ws p new laid (omega (arith, lt)), cc (here, links, rest))
+words_are_apart T roots slots ws (Slot s f) w new laid e =
+    let h = slots_get slots ws ((roots + roots) * 16) s f w e in
+    let g = words_lie T roots slots ws (Slot s f) w laid e in let lt : s < slots = h.0 in let low : f < 2 = h.1 in
+    let p : ℕ = (roots + roots + s) * 16 + f in let same : (roots + roots + s) * 16 + f ≡ s * 16 + (roots + roots) * 16 + f = omega arith in
+    let here = ap (λ q. slots_from slots (slice_set ws q new)
+    ((roots + roots) * 16)) same ∙ slots_set slots ws ((roots + roots) * 16) s f new lt low (omega (arith, g.1, same)) in
+    let links = column_else roots ws 0 p new (λ i le q. omega (arith, q, le)) in
+    let used = column_else roots ws (roots * 16) p new (λ i le q. omega (arith, q, le)) in
+    (record { all = length-set ws p new ∙ laid.all; slots_are = some laid lt }, cc (here, links, used))
+  where
+    some : AreLaid roots slots ws → s < slots
+        → ((slots ≡ 0) × ((k : ℕ) → (roots + roots) * 16 ≤ k → slice_index (slice_set ws ((roots + roots + s) * 16 + f) new) k ≡ 0)) ⊎ (slots ≡ 32)
+    some laid lt = elim laid.slots_are as (λ _. ((slots ≡ 0) × ((k : ℕ) → (roots + roots) * 16 ≤ k
+        → slice_index (slice_set ws ((roots + roots + s) * 16 + f) new) k ≡ 0)) ⊎ (slots ≡ 32)) [
+          | inl none ↦ absurd (let z = none.0 in omega (arith, z, lt))
+          | inr all ↦ inr all
+        ]
+words_are_apart T roots slots ws (Entry b i) w new laid e = absurd (words_lie T roots slots ws (Entry b i) w laid e).0
+words_are_apart T roots slots ws (Word b i) w new laid e = absurd (words_lie T roots slots ws (Word b i) w laid e).0

@@ -1,0 +1,9 @@
+pub mod Columns
+pub mod Rows
+pub mod Ledgers
+pub mod Moves
+pub mod Steps
+pub mod Opening
+pub mod Shown
+pub mod Rooms
+pub mod Sent

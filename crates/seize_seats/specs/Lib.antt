@@ -1,0 +1,5 @@
+pub mod State
+pub mod Lines
+pub mod Steps
+pub mod Owned
+pub mod Laws

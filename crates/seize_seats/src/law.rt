@@ -1,0 +1,8 @@
+//! What is promised of the places of words.
+ghost use Rattle.seize_seats.specs.Laws.{WordsLie, WordsAreApart};
+
+/// Each word of a memory lies at a place of its own: another word there is another word of its name, and leaves all others as they were.
+pub fn words_have_places_of_their_own<T>()
+    ensures lie { WordsLie T }
+    ensures apart { WordsAreApart T }
+{}
