@@ -4,4 +4,5 @@ pub mod Found
 pub mod Keeps
 pub mod Kept
 pub mod Newest
+pub mod Seats
 pub mod Trims
