@@ -39,11 +39,11 @@ pub(crate) fn come_to<K: Drop, V: Drop, S>(
     place: usize,
     progress: Progress<Node<K, V>>,
 ) -> Outcome<V>
-    requires { place < length scheduler.old.calls.items.items }
-    ensures outcome { (caller : Caller V) → slice_get scheduler.old.calls.items.items place ≡ Some caller
+    requires { place < length scheduler.old.calls }
+    ensures outcome { (caller : Caller V) → slice_get scheduler.old.calls place ≡ Some caller
         → result ≡ outcome_of (known scheduler.old.logged.notes) caller.kind caller.value progress }
-    ensures calls { (caller : Caller V) → slice_get scheduler.old.calls.items.items place ≡ Some caller
-        → scheduler.new.calls.items.items ≡ callers_then (known scheduler.old.logged.notes) place caller progress scheduler.old.calls.items.items }
+    ensures calls { (caller : Caller V) → slice_get scheduler.old.calls place ≡ Some caller
+        → scheduler.new.calls ≡ callers_then (known scheduler.old.logged.notes) place caller progress scheduler.old.calls }
     ensures rest { scheduler.new ≡ record scheduler.old { calls = scheduler.new.calls } }
 {
     match progress {

@@ -55,7 +55,7 @@ module _ {K V S : Type 0} (same : K → K → Bool) (hash : K → ℕ) (terms : 
       shows = subst (λ (l : Logged K V S). ShowsRun same runs.stands.name terms (e ∷ log) (known l.notes) runs.stands.scene) (sym logged_is) run;
       come = events_bring_things K V terms log e runs.come legal.life.finds;
       values = subst (λ (cs : Callers V). HaveValues (moment (e ∷ log)) runs.stands.scene cs.items.items) (sym calls_are)
-          (have_values_then (moment log) (moment (e ∷ log)) said runs.stands.scene runs.stands.scene refl old.calls.items.items runs.values);
+          (have_values_then (moment log) (moment (e ∷ log)) said runs.stands.scene runs.stands.scene refl old.calls runs.values);
       taken = subst (SlotsTaken runs.stands.scene.world.memory) (sym no_slot) runs.taken;
       size = ap (λ (l : Logged K V S). l.executor.batch_size) logged_is ∙ runs.size;
       shards = subst (λ (l : Logged K V S). HaveShards terms l.executor) (sym logged_is) runs.shards;

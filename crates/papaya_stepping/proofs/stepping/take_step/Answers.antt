@@ -9,7 +9,7 @@ use Rattle.papaya_stepping.specs.Stepping.{callers_then, outcome_of}
 use Rattle.papaya_stepping.proofs.stepping.take_step.Goals as goal
 
 pub way_of-number-requires : goal.way_of-number-requires
-way_of-number-requires g c = got_within c.args.scheduler.now.calls.items.items c.args.place c.requires.0 c.requires.1
+way_of-number-requires g c = got_within c.args.scheduler.now.calls c.args.place c.requires.0 c.requires.1
 
 pub step-requires : goal.step-requires
 step-requires g c =
@@ -17,7 +17,7 @@ step-requires g c =
     (c.requires.2, c.requires.3, subst (λ n. HasCall c.requires.2 n) (ap (λ x. x.0) (sym read)) c.requires.4)
 
 pub come_to-requires : goal.come_to-requires
-come_to-requires g c = got_within c.args.scheduler.now.calls.items.items c.args.place c.requires.0 c.requires.1
+come_to-requires g c = got_within c.args.scheduler.now.calls c.args.place c.requires.0 c.requires.1
 
 pub returns-clause-stepped : goal.returns-clause-stepped
 returns-clause-stepped g c =
@@ -33,7 +33,7 @@ returns-clause-stepped g c =
           (subst (λ x. CallGoesOn g.K.PartialEq.eq (g.S.Hashes.hash c.args.scheduler.now.logged.executor.hasher) name m s x.0 x.1 c.in_ok-progress.progress c.args.effects.now.items c.step.new.effects.items
           c.args.scheduler.now.logged c.step.new.self) read (c.in_ok-progress.ensures.leads name m s shown));
       outcome_is = subst (λ l. c.come_to.result ≡ outcome_of (known l.notes) c.requires.0.kind c.requires.0.value c.in_ok-progress.progress) (sym logged_is) (c.come_to.ensures.outcome c.requires.0 c.requires.1);
-      calls = subst (λ l. c.come_to.new.scheduler.calls.items.items ≡ callers_then (known l.notes) c.args.place c.requires.0 c.in_ok-progress.progress c.args.scheduler.now.calls.items.items) (sym logged_is)
+      calls = subst (λ l. c.come_to.new.scheduler.calls ≡ callers_then (known l.notes) c.args.place c.requires.0 c.in_ok-progress.progress c.args.scheduler.now.calls) (sym logged_is)
           (c.come_to.ensures.calls c.requires.0 c.requires.1);
       rest = subst (λ l. c.come_to.new.scheduler ≡ record c.args.scheduler.now { logged = l; calls = c.come_to.new.scheduler.calls }) (sym logged_is) c.come_to.ensures.rest;
       given = given_as c.args.scheduler.now (record c.args.scheduler.now { logged = c.step.new.self; calls = c.come_to.new.scheduler.calls }) c.come_to.new.scheduler c.step.ensures.given

@@ -11,7 +11,7 @@ pub far_of-requires : goal.far_of-requires
 far_of-requires g c =
     let r = c.requires.stands in
     let here = here_at g.K.PartialEq.eq (g.S.Hashes.hash c.args.scheduler.now.logged.executor.hasher) r.0 r.1 c.args.scheduler.now r.3 r.2 c.args.place r.4 in
-    got_within c.args.scheduler.now.calls.items.items c.args.place here.caller here.at
+    got_within c.args.scheduler.now.calls c.args.place here.caller here.at
 
 pub returns-in-Asks-clause-taken : goal.returns-in-Asks-clause-taken
 returns-in-Asks-clause-taken g c = λ d at.

@@ -33,7 +33,7 @@ pub way_of-number-requires : goal.way_of-number-requires
 way_of-number-requires g c =
     let r = c.requires in
     let here = asked_here g.K.PartialEq.eq (g.S.Hashes.hash c.args.scheduler.now.logged.executor.hasher) r.0 r.1 c.args.caller.now c.args.scheduler.now r.2 c.in-Some.place (sym c.in-Some.is ∙ c.place_of_ready.ensures) in
-    got_within c.args.scheduler.now.calls.items.items c.in-Some.place here.caller here.at
+    got_within c.args.scheduler.now.calls c.in-Some.place here.caller here.at
 
 pub next-requires : goal.next-requires
 next-requires g c =
@@ -81,7 +81,7 @@ come_to-outcome-requires g c =
     let comes = subst (λ h. WalkComes g.K.PartialEq.eq (g.S.Hashes.hash h) c.in-Some.place c.in_ok-come.come.1 c.in_ok-come.come.0 [] c.walk_on.new.effects.items asked c.walk_on.new.scheduler) c.next.ensures.given.0
     (subst (λ l. WalkComes g.K.PartialEq.eq (g.S.Hashes.hash c.next.new.self.executor.hasher) c.in-Some.place c.in_ok-come.come.1 c.in_ok-come.come.0 l c.walk_on.new.effects.items asked c.walk_on.new.scheduler)
     c.no_effects-effects.ensures c.in_ok-come.ensures.comes) in
-    got_within c.walk_on.new.scheduler.calls.items.items c.in-Some.place _
+    got_within c.walk_on.new.scheduler.calls c.in-Some.place _
     (there g.K.PartialEq.eq hash r.0 r.1 c.args.caller.now c.args.scheduler.now r.2 c.in-Some.place asked stands at_place c.in_ok-come.come.1 c.in_ok-come.come.0 c.walk_on.new.effects.items
     c.walk_on.new.scheduler comes)
 

@@ -11,7 +11,7 @@ use Rattle.papaya_stepping.proofs.NextOn.{logged_on, may_walk, mid_few, mid_firs
 use Rattle.papaya_stepping.proofs.walking.walk_on.Goals as goal
 
 pub way_of-number-requires : goal.way_of-number-requires
-way_of-number-requires g c = let r = c.requires in got_within c.args.scheduler.now.calls.items.items c.args.place r.4.1 r.4.2
+way_of-number-requires g c = let r = c.requires in got_within c.args.scheduler.now.calls c.args.place r.4.1 r.4.2
 
 pub loop-steps-init : goal.loop-steps-init
 loop-steps-init g c = (
@@ -30,7 +30,7 @@ pub step-requires : goal.step-requires
 step-requires g c =
     let r = c.requires in
     let i = c.loop-steps.invariant in
-    let there = ap (λ p. slice_get p.calls.items.items c.args.place) i.2 ∙ r.4.2 in
+    let there = ap (λ p. slice_get p.calls c.args.place) i.2 ∙ r.4.2 in
     let read = c.way_of-number.ensures r.4.1 r.4.2 in
     let may = may_walk g.K.PartialEq.eq (g.S.Hashes.hash c.args.scheduler.now.logged.executor.hasher) r.0 r.2 c.args.place r.1 i.0 c.args.effects.now.items c.loop-steps.effects.items c.loop-steps.scheduler (i.4 r.0 r.1 r.2 r.3 r.4) r.4.1 there in
     (may.0, subst (λ h. IsAt g.K.PartialEq.eq (g.S.Hashes.hash h) c.loop-steps.scheduler.logged.executor may.0) (sym i.3.0) may.1, subst (λ x. HasCall may.0 x.0) (sym read) may.2)
@@ -39,7 +39,7 @@ pub returns-then-not-just_goes-clause-comes : goal.returns-then-not-just_goes-cl
 returns-then-not-just_goes-clause-comes g c =
     let r = c.requires in
     let i = c.loop-steps.invariant in
-    let there = ap (λ p. slice_get p.calls.items.items c.args.place) i.2 ∙ r.4.2 in
+    let there = ap (λ p. slice_get p.calls c.args.place) i.2 ∙ r.4.2 in
     let read = c.way_of-number.ensures r.4.1 r.4.2 in (
       λ goes. (let holds = c.just_goes.ensures.0 goes in let fails = c.if-not-just_goes.true in cc (holds, fails)),
       i.0,
@@ -67,7 +67,7 @@ pub loop-steps-preserved : goal.loop-steps-preserved
 loop-steps-preserved g c =
     let r = c.requires in
     let i = c.loop-steps.invariant in
-    let there = ap (λ p. slice_get p.calls.items.items c.args.place) i.2 ∙ r.4.2 in
+    let there = ap (λ p. slice_get p.calls c.args.place) i.2 ∙ r.4.2 in
     let read = c.way_of-number.ensures r.4.1 r.4.2 in
     let goes = c.just_goes.ensures.1 c.if-not-just_goes.false in (
       i.0 + 1,
