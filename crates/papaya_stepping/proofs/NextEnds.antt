@@ -43,7 +43,7 @@ use Rattle.papaya_named.specs.Machines.{IsFor}
 use Rattle.papaya_scheduler.specs.Played.{AsFar, IsDue, StandsAs, StandsFor}
 use Rattle.papaya_named.specs.Seen.{Seen, is_named, is_ready as is_ready_there, ready_place, seen, seen_of}
 use Rattle.papaya_scheduler.specs.Quiet.{IsQuiet}
-use Rattle.papaya_stepping.specs.Stepping.{IsMidWalk, IsStepOf, PlaysNext, ReadyAt, WalkComes, WalksFar, callers_then, outcome_of}
+use Rattle.papaya_stepping.specs.Stepping.{IsMidWalk, IsPlaced, IsStepOf, PlaysNext, ReadyAt, WalkComes, WalksFar, callers_then, outcome_of}
 use Rattle.papaya_named.specs.Telling.{answer_of, number_by, swept}
 use Rattle.papaya_named.specs.declared.caller.Caller.{Caller}
 use Rattle.papaya_named.specs.declared.caller.Stands.{Stands as HowFar}
@@ -271,6 +271,9 @@ module _ {K V S : Type 0} (same : K → K → Bool) (hash : K → ℕ) (terms : 
 
     pub there : slice_get walked.calls place ≡ Some at_it.caller
     there = ap (λ (l : List (Caller V)). slice_get l place) calls_same ∙ at_it.at
+
+    pub placed_there : IsPlaced own place walked.calls
+    placed_there = midst.ready.0 ∙ ap (λ (l : List (Caller V)). position (is_named own) l) (sym calls_same)
 
     module _ (ready : Some place ≡ ready_place own old.calls) (callers : List (Caller V))
         (told : (caller : Caller V) → slice_get walked.calls place ≡ Some caller → callers ≡ callers_then (known walked.logged.notes) place caller said walked.calls)

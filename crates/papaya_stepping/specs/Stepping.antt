@@ -114,6 +114,19 @@ module _ {K V : Type 0} where
 abbrev pub may_begin : {K V : Type 0} → (guard map : List ℕ) → Moment K V → Bool
 may_begin guard map m = is_none (call_of nameless m) && is_living guard m.there && is_some (map_of map m)
 
+module _ {V : Type 0} where
+  -- the call of this name is that of the caller at this place,
+  abbrev pub IsPlaced : List ℕ → ℕ → List (Caller V) → Type 0
+  IsPlaced own place calls = Some place ≡ position (is_named own) calls
+
+  -- who is this one
+  abbrev pub IsCaller : List ℕ → ℕ → Caller V → List (Caller V) → Type 0
+  IsCaller own place d calls = IsPlaced own place calls × (slice_get calls place ≡ Some d)
+
+  -- somebody has this name
+  abbrev pub HasCaller : List ℕ → List (Caller V) → Type 0
+  HasCaller own calls = (place : ℕ) × (d : Caller V) × IsCaller own place d calls
+
 -- the call of this name is that of the caller at this place, and goes on
 abbrev pub GoesAt : {K V S : Type 0} → List ℕ → ℕ → Scheduler K V S → Type 0
 GoesAt {K} {V} own place p =
@@ -177,9 +190,9 @@ abbrev pub TakesUpTo : {V : Type 0} → ℕ → ℕ → Outcome V → Type 0
 TakesUpTo most steps outcome = (1 ≤ steps) × (steps ≤ most) × (goes_on outcome ≡ true → steps ≡ most)
 
 module _ {K V S : Type 0} (same : K → K → Bool) (hash : K → ℕ) where
-  -- A call is under way at this place.
-  abbrev pub MayStep : ℕ → Scheduler K V S → Type 0
-  MayStep place p = (d : Caller V) × (slice_get p.calls place ≡ Some d) × (s : Scene K V) × IsAt same hash p.logged.executor s × HasCall s d.number
+  -- A call of this name is under way.
+  abbrev pub MayStep : List ℕ → Scheduler K V S → Type 0
+  MayStep own p = (place : ℕ) × (d : Caller V) × IsCaller own place d p.calls × (s : Scene K V) × IsAt same hash p.logged.executor s × HasCall s d.number
 
   -- It has taken a step: what that said, and did, where it has led, and how far the call is then.
   pub record IsStepped (place : ℕ) (outcome : Outcome V) (before after : List Effect) (old new : Scheduler K V S) : Type 0 where
@@ -204,9 +217,9 @@ module _ {K V S : Type 0} (same : K → K → Bool) (hash : K → ℕ) where
   GoneBy place steps outcome before after old new =
       (n : ℕ) × (steps ≡ n + 1) × (mid : List Effect) × (p : Scheduler K V S) × GoneFor place n before mid old p × IsStepped place outcome mid after p new
 
-  -- What a scheduler at whose place a call goes on is asked for its steps,
-  abbrev pub MayGo : ℕ → Scheduler K V S → Type 0
-  MayGo place p = (terms : Terms) × (m : Moment K V) × (own : List ℕ) × StandsFor same hash terms m p × GoesAt own place p
+  -- What a scheduler is asked for the steps of a call of this name that goes on,
+  abbrev pub MayGo : List ℕ → Scheduler K V S → Type 0
+  MayGo own p = (terms : Terms) × (m : Moment K V) × (place : ℕ) × StandsFor same hash terms m p × GoesAt own place p
 
   -- and what so many of them come to.
   abbrev pub StepsCome : (place most steps : ℕ) → Outcome V → (before after : List Effect) → (old new : Scheduler K V S) → Type 0
@@ -229,9 +242,9 @@ module _ {K V S : Type 0} (same : K → K → Bool) (hash : K → ℕ) where
   WalkedFor place zero before after old new = (before ≡ after) × (old ≡ new)
   WalkedFor place (suc n) before after old new = (mid : List Effect) × (p : Scheduler K V S) × WalkedFor place n before mid old p × IsStepOf place progress.Goes mid after p new
 
-  -- What a scheduler is asked at whose place a walk was asked for its next pair,
-  abbrev pub MayWalk : ℕ → Scheduler K V S → Type 0
-  MayWalk place p = (terms : Terms) × (m : Moment K V) × (own : List ℕ) × StandsAs (WalksFar own 0) same hash terms m p × ReadyAt own place p
+  -- What a scheduler is asked for the steps of a walk of this name that was asked for its next pair,
+  abbrev pub MayWalk : List ℕ → Scheduler K V S → Type 0
+  MayWalk own p = (terms : Terms) × (m : Moment K V) × (place : ℕ) × StandsAs (WalksFar own 0) same hash terms m p × ReadyAt own place p
 
   -- and where so many steps have led, of which the last one alone did not just go on.
   abbrev pub WalkComes : (place steps : ℕ) → Progress (Node K V) → (before after : List Effect) → (old new : Scheduler K V S) → Type 0
@@ -241,9 +254,9 @@ module _ {K V S : Type 0} (same : K → K → Bool) (hash : K → ℕ) where
       × ((terms : Terms) (m : Moment K V) (own : List ℕ) → StandsAs (WalksFar own 0) same hash terms m old → ReadyAt own place old → IsMidWalk same hash terms own place m n before mid p)
       × (k : ℕ) × (steps ≡ k + 1) × WalkedFor place k before mid old p
 
-  -- A call stands at this place, however far it is: one that asks, or is ready, says so again, and one that goes on takes steps.
-  abbrev pub StandsAt : ℕ → Scheduler K V S → Type 0
-  StandsAt place p = (terms : Terms) × (m : Moment K V) × (own : List ℕ) × StandsFor same hash terms m p × (Some place ≡ position (is_named own) p.calls)
+  -- What a scheduler is asked for the steps of a call of this name, however far it is: one that asks, or is ready, says so again, and one that goes on takes steps.
+  abbrev pub MayTake : List ℕ → Scheduler K V S → Type 0
+  MayTake own p = (terms : Terms) × (m : Moment K V) × (place : ℕ) × StandsFor same hash terms m p × IsPlaced own place p.calls
 
   abbrev pub SaysAgain : Outcome V → Played V → (old new : Scheduler K V S) → Type 0
   SaysAgain outcome played old new = (played.outcome ≡ outcome) × (played.steps ≡ 0) × (played.effects.items ≡ []) × (new ≡ old)
