@@ -41,7 +41,7 @@ use Rattle.papaya_folded.proofs.Given.Logged.ReclaimsRun.{same_setting}
 use Rattle.papaya_scheduler.specs.AllWorks.{WorksOnAll}
 use Rattle.papaya_scheduler.specs.Played.{IsPlayed, entry_of}
 use Rattle.papaya_scheduler.specs.Reclaiming.{MayGiveAll, are_gone}
-use Rattle.papaya_folded.specs.Given.Named.declared.caller.Callers.{Callers}
+use Rattle.papaya_folded.specs.Given.Named.declared.caller.Caller.{Caller}
 use Rattle.papaya_scheduler.specs.declared.played.Played.{Played}
 use Rattle.papaya_scheduler.specs.declared.scheduler.Scheduler.{Scheduler}
 use Rattle.papaya_mapping.proofs.AllGiven.{may_reclaim, nobody_has}
@@ -197,7 +197,7 @@ module _ {K V S : Type 0} (same : K → K → Bool) (hash : K → ℕ) (terms : 
     there = over_there same hash terms 0 mid end y.now y.scene y.lists y.under_way y.roots ran.5 done
 
     named : AreNamed name new.calls
-    named = subst (λ (c : Callers V). AreNamed name c.items.items) (sym calls) (its_named same hash terms m old run.stands)
+    named = subst (λ (cs : List (Caller V)). AreNamed name cs) (sym calls) (its_named same hash terms m old run.stands)
 
     -- each map stands as it stood
     stood : (k : ℕ) → slice_index_or new.logged.executor.maps.items k None ≡ slice_index_or old.logged.executor.maps.items k None
@@ -217,7 +217,7 @@ module _ {K V S : Type 0} (same : K → K → Bool) (hash : K → ℕ) (terms : 
 
     values : HaveValues (moment (e ∷ log)) last_scene new.calls
     values =
-        subst (λ (c : Callers V). HaveValues (moment (e ∷ log)) last_scene c.items.items) (sym calls)
+        subst (λ (cs : List (Caller V)). HaveValues (moment (e ∷ log)) last_scene cs) (sym calls)
         (have_values_then m (moment (e ∷ log)) (nobody_says e m (busy_still log s.world event of_all 0).no_call) s last_scene y.calls old.calls run.values)
 
     -- no bucket of slots is forgotten
