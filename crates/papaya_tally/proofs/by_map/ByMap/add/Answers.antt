@@ -1,11 +1,11 @@
 -- The list of a map gets a pair.
 use Rattle.std.specs.Prelude.{◌==◌, ◌++◌, ◌∷◌, [], if◌then◌else◌}
-use Rattle.std.proofs.Common.{ap, ◌∙◌}
+use Rattle.std.proofs.Common.{ap, ◌∙◌, arith}
 use Rattle.papaya_tally.proofs.MapLists.{list_pushed}
 use Rattle.papaya_tally.proofs.by_map.ByMap.add.Goals as goal
 
 pub index_mut-requires : goal.index_mut-requires
-index_mut-requires c = c.in_ok-reach.ensures.room
+index_mut-requires c = let room = c.in_ok-reach.ensures.room in let long = c.reach.new.self.lists.ok.0 in omega (arith, room, long)
 
 pub returns : goal.returns
 returns c = λ other.

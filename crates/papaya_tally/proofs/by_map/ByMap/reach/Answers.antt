@@ -4,6 +4,6 @@ use Rattle.papaya_tally.specs.ByMap.{list_at}
 use Rattle.papaya_tally.proofs.MapLists.{list_more}
 use Rattle.papaya_tally.proofs.by_map.ByMap.reach.Goals as goal
 
-pub loop-self-preserved : goal.loop-self-preserved
-loop-self-preserved c = λ other.
-    ap (λ l. list_at l other) c.in_ok-push.ensures.items ∙ list_more c.loop-self.self.lists.items c.new.result c.new.ensures.items other ∙ c.loop-self.invariant other
+pub loop-alloc-preserved : goal.loop-alloc-preserved
+loop-alloc-preserved c = λ other.
+    ap (λ l. list_at l other) c.in_ok-push.ensures.items ∙ list_more c.loop-alloc.self.lists.items c.new.result c.new.ensures.items other ∙ c.loop-alloc.invariant other

@@ -3,8 +3,8 @@ use Rattle.std.proofs.Common.{◌≡◌, ◌-◌, ◌+◌, ℕ, vec_len}
 use Rattle.papaya_tally.specs.ByMap.{list_at}
 use Rattle.papaya_tally.proofs.by_map.ByMap.reach.Given as goal
 
-abbrev pub invariant-loop-self : goal.invariant-loop-self
-invariant-loop-self l = (other : ℕ) → list_at l.self.lists.items other ≡ list_at l.initial.self.lists.items other
+abbrev pub invariant-loop-alloc : goal.invariant-loop-alloc
+invariant-loop-alloc l = (other : ℕ) → list_at l.self.lists.items other ≡ list_at l.initial.self.lists.items other
 
-abbrev pub decreases-loop-self : goal.decreases-loop-self
-decreases-loop-self l = (l.map + 1) - vec_len l.self.lists
+abbrev pub decreases-loop-alloc : goal.decreases-loop-alloc
+decreases-loop-alloc l = (l.map + 1) - vec_len l.self.lists
