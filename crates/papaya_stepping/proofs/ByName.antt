@@ -1,5 +1,5 @@
 -- The call of a name, and its place.
-use Rattle.std.specs.Prelude.{◌≡◌, ℕ, Bool, true, false, List, is_some, position, slice_get, Option, Some, None}
+use Rattle.std.specs.Prelude.{◌≡◌, ℕ, Bool, true, false, List, is_some, position, slice_get, MatchOption, Option, Some, None}
 use Rattle.std.proofs.Common.{refl, sym, ap, subst, ◌∙◌}
 use Rattle.papaya_named.specs.Roll.{at_place, called}
 use Rattle.papaya_named.specs.Seen.{is_named}
@@ -15,6 +15,11 @@ some_there (Some x) e = (x, refl)
 pub none_there : {X : Type 0} (o : Option X) → is_some o ≡ false → o ≡ None
 none_there None e = refl
 none_there (Some x) e = absurd (cc e)
+
+-- what is so where nothing was told
+pub none_told : {A X : Type 0} (P : X → Type 0) (r : Option X) → is_some r ≡ false → MatchOption r A P → A
+none_told P None e so = so
+none_told P (Some x) e so = absurd (cc e)
 
 module _ {V : Type 0} (own : List ℕ) (calls : List (Caller V)) where
   -- who has the name stands at its place

@@ -18,8 +18,8 @@ use Rattle.papaya_stepping.proofs.stepping.one_call.Goals as goal
 pub begins-requires : goal.begins-requires
 begins-requires g c = let r = c.requires in (r.0, moment r.1, r.2.played)
 
-pub returns-else-branch : goal.returns-else-branch
-returns-else-branch g c = record {
+pub returns : goal.returns
+returns g c = record {
   plays = λ terms log due.
       let hash = g.S.Hashes.hash c.args.scheduler.now.logged.executor.hasher in
       let named : c.in_ok-own.own ≡ nameless = search (rules, c.in_ok-own.ensures) in

@@ -1,7 +1,6 @@
 -- The next pair of a walk is shown, or that there is none.
 use Rattle.std.specs.Prelude.{is_some}
 use Rattle.std.proofs.Common.{◌≡◌, [], refl, sym, ap, subst, ◌∙◌}
-use Rattle.papaya_present.proofs.Crowds.Homes.{none_told}
 use Rattle.papaya_scheduler.specs.Given.SeizeWords.declared.fault.Fault.TheVariants.{Busy}
 use Rattle.papaya_schedules.specs.After.{moment}
 use Rattle.papaya_schedules.specs.declared.event.Event.TheVariants.{Next}
@@ -11,6 +10,7 @@ use Rattle.papaya_scheduler.proofs.Given.Logged.KeptGiven.{given_on}
 use Rattle.papaya_scheduler.proofs.KeptGiven.{given_as}
 use Rattle.papaya_scheduler.specs.Given.Logged.Calling.{WalkGoesOn}
 use Rattle.papaya_stepping.specs.Stepping.{MayWalk, PlaysNext, WalkComes}
+use Rattle.papaya_stepping.proofs.ByName.{none_told}
 use Rattle.papaya_stepping.proofs.NextEnds.{asked_here, next_asked, next_busy, next_may, next_ready, placed_there, plays_next, there}
 use Rattle.papaya_stepping.proofs.NextTook.{took_next}
 use Rattle.papaya_stepping.proofs.StepSays.{the}
