@@ -9,8 +9,8 @@ use Rattle.papaya_running.proofs.ending.living.Goals as goal
 
 pub loop-named-init : goal.loop-named-init
 loop-named-init c =
-    let given : c.into_iter-named-iterator.result.rest.items ≡ c.args.maps.items = let i = c.into_iter-named-iterator.ensures.into_iter_gives in search rules in
-    ap (λ (l : List Living). map shown_of l ++ map (told_map c.args.tally.now) c.into_iter-named-iterator.result.rest.items) c.new-living.ensures.items ∙ ap (map (told_map c.args.tally.now)) given
+    let given : c.into_iter-named-iterator.result.rest.items ≡ c.in_ok-maps.maps.items = let i = c.into_iter-named-iterator.ensures.into_iter_gives in search rules in
+    ap (λ (l : List Living). map shown_of l ++ map (told_map c.args.tally.now) c.into_iter-named-iterator.result.rest.items) c.new-living.ensures.items ∙ ap (map (told_map c.args.tally.now)) (given ∙ c.in_ok-maps.ensures)
 
 pub loop-named-preserved : goal.loop-named-preserved
 loop-named-preserved c =
