@@ -3,17 +3,24 @@ ghost use Rattle.std.specs.Prelude.{◌≡◌, map, IfOk};
 ghost use Rattle.papaya_running.specs.Ending.{shown_of, told_map};
 
 use papaya_named::named_map::NamedMap;
+use papaya_present::crowd::Crowd;
 use papaya_runs::record::Living;
 use papaya_tally::tally::Tally;
 use std::alloc::{AllocError, Global};
 
 /// The maps that live, with the numbers of their pairs.
-pub fn living(alloc: Global, maps: Vec<NamedMap>, tally: &Tally) -> Result<Vec<Living>, AllocError>
-    ensures { IfOk result (λ living. map shown_of living.items ≡ map (told_map tally.now) maps.items) }
+pub fn living(
+    alloc: Global,
+    maps: Crowd<NamedMap>,
+    tally: &Tally,
+) -> Result<Vec<Living>, AllocError>
+    ensures { IfOk result (λ living. map shown_of living.items ≡ map (told_map tally.now) maps) }
 {
+    let by_map = tally.by_map(alloc)?;
+    let maps = maps.into_items()?;
     let mut living = Vec::new(alloc);
     for named in maps {
-        let pairs = tally.pairs_of(alloc, named.number)?;
+        let pairs = by_map.pairs_of(alloc, named.number)?;
         living.push(Living {
             name: named.name,
             pairs,

@@ -4,4 +4,4 @@ use Rattle.papaya_running.specs.Ending.{shown_of, told_map}
 use Rattle.papaya_running.proofs.ending.living.Given as goal
 
 abbrev pub invariant-loop-named : goal.invariant-loop-named
-invariant-loop-named l = map shown_of l.living.items ++ map (told_map l.tally) l.named-iterator.rest.items ≡ map (told_map l.tally) l.fn.maps.items
+invariant-loop-named l = map shown_of l.living.items ++ map (told_map l.tally) l.named-iterator.rest.items ≡ map (told_map l.tally) l.fn.maps
