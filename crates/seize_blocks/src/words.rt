@@ -1,12 +1,13 @@
 //! The words, and what one step of a seat does to them: one atomic operation on a word, or none.
-ghost use Rattle.std.specs.Prelude.{◌≡◌, ℕ, length, slice_index};
-ghost use Rattle.seize_words.specs.Op.{Load, Store, Swap, Add, Or, Exchange, Room, Found, Stored, Exchanged, Roomed};
+ghost use Rattle.std.specs.Prelude.{◌≡◌, ℕ, ◌+◌, ◌-◌, ◌*◌, ◌^◌, ◌<◌, ◌≤◌, Some, None, Ok, Err, length, slice_index, slice_index_or};
+ghost use Rattle.seize_words.specs.Op.{Load, Store, Swap, Add, Or, Exchange, Make, Take, Room, Found, Stored, Exchanged, Made, Taken, Roomed};
 ghost use Rattle.seize_seats.specs.State.{Allows, Turns, Comes, Starts};
-ghost use Rattle.seize_seats.specs.Lines.{long};
+ghost use Rattle.seize_seats.specs.Lines.{whole, long};
 ghost use Rattle.seize_seats.specs.Steps.{roomed};
 ghost use Rattle.seize_seats.specs.Owned.{BaseId, base_id_coded, words_own, words_share};
-ghost use Rattle.seize_blocks.specs.Placed.{IsItsPlace};
+ghost use Rattle.seize_blocks.specs.Placed.{IsItsPlace, IsItsNumber};
 
+use crate::claim::Claim;
 use crate::row::Row;
 use crate::rule::{Rule, Turn};
 use crate::seat::Seat;
@@ -24,30 +25,41 @@ pub struct Words<T, R: Rule<T>> {
 }
 
 impl<T, R: Rule<T>> Model for Words<T, R> {
-    ghost also_owns = { λ s. words_own T.row.Denot R.View.row.coded.code (R.holds s.fixed) s.words s.id };
+    ghost also_owns = { λ s. words_own T.row R.View.row.coded.code (R.holds s.fixed) s.words s.id };
 
-    ghost also_shares = { λ s _ κ. words_share T.row.Denot R.View.row.coded.code (R.holds s.fixed) s.words s.id κ };
+    ghost also_shares = { λ s _ κ. words_share T.row R.View.row.coded.code (R.holds s.fixed) s.words s.id κ };
 }
 
 impl<T, R: Rule<T>> Words<T, R> {
-    /// The words, each 0, of so many roots go under the rule.
-    pub(crate) fn open(row: Row<u64>, _roots: u64, fixed: &R::Fixed) -> Self
-        requires { ((k : ℕ) → slice_index row.items k ≡ 0) × (length row.items ≡ long _roots) × Starts (R.holds fixed.now) _roots }
-        ensures { (result.words ≡ row.at) × (result.id.roots ≡ _roots) × (result.fixed ≡ fixed.now) }
+    /// The words, each 0, of so many roots go under the rule, with places for so many values, each of them empty.
+    pub(crate) fn open(
+        row: Row<u64>,
+        values: Row<Option<T>>,
+        _roots: u64,
+        _count: u64,
+        fixed: &R::Fixed,
+    ) -> Self
+        requires { ((k : ℕ) → slice_index row.items k ≡ 0) × (length row.items ≡ whole _roots _count) × Starts (R.holds fixed.now) _roots
+            × ((k : ℕ) → slice_index_or values.items k None ≡ None) × (length values.items ≡ _count) }
+        ensures { (result.words ≡ row.at) × (result.id.roots ≡ _roots) × (result.id.count ≡ _count) × (result.id.values ≡ values.at)
+            × (result.fixed ≡ fixed.now) }
     {
         let Row { at } = row;
+        let Row { at: _ } = values;
         Words {
             words: at,
             marker: PhantomData,
         }
     }
 
-    /// The words come back from under the rule.
-    pub(crate) fn close(self) -> Row<u64>
-        ensures { (result.at ≡ self.words) × (length result.items ≡ long self.id.roots) }
+    /// The words and the values come back from under the rule.
+    pub(crate) fn close(self, values: *mut Option<T>) -> (Row<u64>, Row<Option<T>>)
+        requires { values ≡ self.id.values }
+        ensures { (result.0.at ≡ self.words) × (length result.0.items ≡ whole self.id.roots self.id.count) × (result.1.at ≡ values)
+            × (length result.1.items ≡ self.id.count) }
     {
         let Words { words, marker: _ } = self;
-        Row { at: words }
+        (Row { at: words }, Row { at: values })
     }
 
     /// A seat more.
@@ -65,6 +77,73 @@ impl<T, R: Rule<T>> Words<T, R> {
         requires { (seat.old.base ≡ self.now.id.views_name)
             × Turns (R.holds self.now.fixed) R.keeps seat.old.id seat.old.view (M.to seat.old.view) }
         ensures { (seat.new.base ≡ seat.old.base) × (seat.new.id ≡ seat.old.id) × M.to seat.old.view seat.new.view }
+    {}
+
+    /// Tries to claim a number, whose words lie from this place on: it was free where 0 is found.
+    pub(crate) fn claim(&self, _index: u64, first: u64) -> Claim
+        requires { IsItsNumber self.now.id _index first }
+        ensures { (result.base ≡ self.now.id.hands_name) × (result.index ≡ _index) }
+    {
+        Claim {
+            found: unsafe { raw::fetch_or::<Brand>(self.words.add(first as usize + 4), 1, SeqCst) },
+        }
+    }
+
+    /// Makes a block of a value, under a number that was claimed.
+    pub(crate) fn put(
+        &self,
+        seat: &mut Seat<T, R>,
+        claim: Claim,
+        index: u64,
+        values: *mut Option<T>,
+        value: Option<T>,
+    )
+        requires { (seat.old.base ≡ self.now.id.views_name) × (claim.base ≡ self.now.id.hands_name) × (claim.found ≡ 0) × (claim.index ≡ index)
+            × (index < self.now.id.count) × (index + 1 < 2 ^ 53) × (values ≡ self.now.id.values)
+            × ((x : T) × (value ≡ Some x) × Allows (R.holds self.now.fixed) R.keeps seat.old.id seat.old.view (Make x 0) (R.then seat.old.view (Make x 0))) }
+        ensures { (seat.new.base ≡ seat.old.base) × (seat.new.id ≡ seat.old.id)
+            × ((x : T) → value ≡ Some x → R.then seat.old.view (Make x 0) (Made (Ok (index + 1))) seat.new.view) }
+    {
+        let Claim { found: _ } = claim;
+        unsafe { values.add(index as usize).write(value) }
+    }
+
+    /// Takes a block away, and answers its value. The index is that of its number, if there is such a block.
+    pub(crate) fn take(
+        &self,
+        seat: &mut Seat<T, R>,
+        block: u64,
+        index: u64,
+        first: u64,
+        values: *mut Option<T>,
+        empty: Option<T>,
+    ) -> Option<T>
+        requires { (seat.old.base ≡ self.now.id.views_name) × (0 < block → block ≤ self.now.id.count → index ≡ block - 1)
+            × (first ≡ index * 5 + long self.now.id.roots) × (first < 2 ^ 60) × (values ≡ self.now.id.values) × (empty ≡ None)
+            × Allows (R.holds self.now.fixed) R.keeps seat.old.id seat.old.view (Take block) (R.then seat.old.view (Take block)) }
+        ensures { (seat.new.base ≡ seat.old.base) × (seat.new.id ≡ seat.old.id)
+            × ((x : T) × (result ≡ Some x) × R.then seat.old.view (Take block) (Taken x) seat.new.view) }
+    {
+        unsafe {
+            let words = self.words;
+            let place = values.add(index as usize);
+            let value = place.read();
+            place.write(empty);
+            words.add(first as usize).write(0);
+            words.add(first as usize + 1).write(0);
+            words.add(first as usize + 2).write(0);
+            words.add(first as usize + 3).write(0);
+            raw::store::<Brand>(words.add(first as usize + 4), 0, SeqCst);
+            value
+        }
+    }
+
+    /// A block is refused, and its value stays with its maker.
+    pub(crate) fn refuse(&self, seat: &mut Seat<T, R>, value: &T, words: u64)
+        requires { (seat.old.base ≡ self.now.id.views_name)
+            × Allows (R.holds self.now.fixed) R.keeps seat.old.id seat.old.view (Make value.now words) (R.then seat.old.view (Make value.now words)) }
+        ensures { (seat.new.base ≡ seat.old.base) × (seat.new.id ≡ seat.old.id)
+            × R.then seat.old.view (Make value.now words) (Made (Err value.now)) seat.new.view }
     {}
 
     /// Asks for the words of a bucket of slots: those of the first are there from now on.
