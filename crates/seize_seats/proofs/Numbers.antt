@@ -16,7 +16,7 @@ use Rattle.seize_words.specs.declared.at.At.TheVariants.{Root, Used, Slot, Entry
 use Rattle.seize_words.specs.declared.block.Block.{Block}
 use Rattle.seize_seats.specs.Cells.{Cell, Free, Claimed, Out, Has, block_in, cell_at}
 use Rattle.seize_seats.specs.Lines.{Parts, long, place_of, memory_of, IsWord, IsNoBlocks, AreLaid}
-use Rattle.seize_seats.specs.Owned.{row, stride, resting, hand, place, inside, under, numbers, BaseId, age, all_numbers}
+use Rattle.seize_seats.specs.Owned.{row, stride, resting, hand, place, inside, under, numbers, BaseId, age}
 use Rattle.seize_seats.proofs.Cells.{block_is, entries_lie, entries_are_apart, cell_beyond, get_some}
 use Rattle.seize_seats.proofs.Columns.{words_lie, words_are_apart}
 use Rattle.seize_seats.proofs.Rows.{row_at}
@@ -108,15 +108,15 @@ module _ {M : Type 1} {𝓤 : Ura M} (𝓛 : Logic 𝓤) (R : RattleType) (p : P
     Opens at e w = ent 𝓤 ⟦ Ws s.words s.cells ⟧ (sep 𝓤 ⟦ word b e w ⟧ (all 𝓤 (Rewrites s at e)))
 
     fixed : (at : At) (e w : ℕ) → IsNoBlocks at → word_at (memory_of z.roots s) at ≡ Some w → e ≡ place_of z.roots at * 8 + o → Opens at e w
-    fixed at e w no is at_e =
-        let ws : List ℕ = s.words in let i : ℕ = place_of z.roots at in let l = words_lie R.Denot z.roots z.count s at w laid no is in
+    fixed at e w free is at_e =
+        let ws : List ℕ = s.words in let i : ℕ = place_of z.roots at in let l = words_lie R.Denot z.roots z.count s at w laid free is in
         let N : Fml = numbers R α z.hands_name b (long z.roots * 8 + o) b' o' 0 s.cells in let P = Rows.Puts 𝓛 b o ws i e in
         qed 𝓛 (‵ (row b o ws) ∷ ‵ N ∷ []) ∵
         use1 𝓛 (‵ (word b e (get_or ws i 0)) ⊛ raw (all 𝓤 P)) (row_at 𝓛 b ws o i e at_e l.1) $ split ! $
         rewrite ! 0 (λ (k : ℕ). ‵ (word b e k)) l.2 refl $ frame ! $
         each ! (Rewrites s at e) (λ y. use1 𝓛 (raw (P y)) (all_e 𝓤 P y) $ assume ! (‵ (word b e y)) $
         use2 𝓛 (‵ (row b o (set ws i y))) (apply∗ 𝓤 ⟦ word b e y ⟧ ⟦ row b o (set ws i y) ⟧) $
-        let a = words_are_apart R.Denot z.roots z.count s at w y laid no is in
+        let a = words_are_apart R.Denot z.roots z.count s at w y laid free is in
         show ! (Rewritten s at y) (record { words = set ws i y; slots = s.slots; cells = s.cells; given = s.given }) $ check ! (a.0, a.1) $ fjoin ! $ done !)
 
     entry : (n i e w : ℕ) → word_at (memory_of z.roots s) (Entry n i) ≡ Some w → e ≡ place_of z.roots (Entry n i) * 8 + o → Opens (Entry n i) e w

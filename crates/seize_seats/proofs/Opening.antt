@@ -92,7 +92,7 @@ module _ {M : Type 1} {𝓤 : Ura M} (𝓛 : Logic 𝓤) (R : RattleType) (α : 
   abbrev Torn : ℕ → ℕ → ℕ → List ℕ × List (Option R.Denot) → SProp 𝓤
   Torn n o o' u = guard 𝓤 ((length u.0 ≡ n * 5) × (length u.1 ≡ n)) (sep 𝓤 (sem 𝓛 (row b o u.0)) (sem 𝓛 (places R b' o' u.1)))
 
-  torn_item : ℕ → ℕ → ℕ → List ℕ × List (Option R.Denot) → types.Kit.Item 𝓤
+  abbrev torn_item : ℕ → ℕ → ℕ → List ℕ × List (Option R.Denot) → types.Kit.Item 𝓤
   torn_item n o o' u = given ((length u.0 ≡ n * 5) × (length u.1 ≡ n)) (‵ (row b o u.0) ⊛ ‵ (places R b' o' u.1))
 
   -- four words, a sign and the place, before those of further numbers
@@ -141,7 +141,7 @@ zeros_of zero k = refl
 zeros_of (suc n) zero = refl
 zeros_of (suc n) (suc k) = zeros_of n k
 
-frees_of : {T : Type 0} (n k : ℕ) → cell_at (replicate n (Free {T = T})) k ≡ Free
+frees_of : {T : Type 0} (n k : ℕ) → cell_at {T = T} (replicate n Free) k ≡ Free
 frees_of zero k = refl
 frees_of (suc n) zero = refl
 frees_of (suc n) (suc k) = frees_of n k
@@ -179,7 +179,7 @@ module _ {M : Type 1} {𝓤 : Ura M} (𝓛 : Logic 𝓤) (R : RattleType) {V W :
       counted = length-replicate count Free;
       within = omega arith;
       rest = λ k le. ap block_in (frees_of count k);
-      fours = λ k x us e. absurd (let f : cell_at (replicate count Free) k ≡ Free = frees_of count k in cc (e, f));
+      fours = λ k x us e. absurd (let f : cell_at {T = R.Denot} (replicate count Free) k ≡ Free = frees_of count k in cc (e, f));
     }
 
     begins : holds record { memory = memory_of roots parts; views = []; world = starts.0 }
@@ -197,7 +197,7 @@ module _ {M : Type 1} {𝓤 : Ura M} (𝓛 : Logic 𝓤) (R : RattleType) {V W :
 
     pub opens : ent 𝓤 (sep 𝓤 ⟦ row (block_of p) (count_of p) ws ⟧ ⟦ places R (block_of pv) (count_of pv) (replicate count None) ⟧) (H.⇛ (ex 𝓤 Opened))
     opens = let b : ℕ = block_of p in let o : ℕ = count_of p in let b' : ℕ = block_of pv in let o' : ℕ = count_of pv in let f : ℕ = long roots * 8 + o in
-        let head : List ℕ = replicate (long roots) 0 in let l = length-replicate (long roots) 0 in
+        let head : List ℕ = replicate (long roots) 0 in let l = length-replicate {A = ℕ} (long roots) 0 in
         qed 𝓛 (‵ (row b o ws) ∷ ‵ (places R b' o' (replicate count None)) ∷ []) ∵ updating ! $ lft_new ! tt (λ a. let α : Lft = a ∷ [] in
         use0 𝓛 (later (items (λ (γ : ℕ). ‵ (ledger cv.code γ blank [])))) (via 𝓤 _ (Ledgers.begins 𝓛 cv 0 blank)
         (basic 𝓛 (ex 𝓤 (λ (γ : ℕ). ⟦ ledger cv.code γ blank [] ⟧)))) $ await ! tt $ pick ! (λ γ.
