@@ -25,6 +25,7 @@ use Rattle.seize_blocks.specs.contracts.words.Words as words
 use Rattle.seize_blocks.specs.contracts.seat.Seat as seat
 use Rattle.seize_blocks.specs.contracts.row.Row as row
 use Rattle.seize_blocks.specs.contracts.claim.Claim as claim
+use Rattle.seize_blocks.specs.contracts.place.Place as place
 
 -- an address and no more
 abbrev pub hand_of : Ptr → Val
@@ -124,3 +125,15 @@ pub claim_made : {M : Type 1} {𝓤 : Ura M} (𝓛 : Logic 𝓤) (n : ℕ) → n
 claim_made 𝓛 n fits = qed 𝓛 [] ∵ nothing ! $ flt_i ! n (2 ^ 64) fits $ feq_i ! (List Val) (vint w64 n ∷ []) (vint w64 n ∷ []) refl $ fjoin ! $ fjoin ! $
     feq_i ! (List Val) (claim_of n ∷ []) (claim_of n ∷ []) refl $ fjoin ! $
     fpack ! (Valss (u64 ∷ [])) (within (shape claim.the_type) (n, tt) (claim_of n ∷ [])) (vint w64 n ∷ [], tt) $ done !
+
+-- the address of the places
+module _ (R : RattleType) where
+  pub place_made : {M : Type 1} {𝓤 : Ura M} (𝓛 : Logic 𝓤) (p : Ptr) → ent 𝓤 (emp 𝓤) (sem 𝓛 ((place.the_row R).own_val record { at = p } (one_of p ∷ [])))
+  place_made 𝓛 p = makes_shadow 𝓛 ((place.the_row R).own_val record { at = p } (one_of p ∷ [])) (λ vss. (tt, (tt, tt))) ((ptr_val p ∷ [], tt), (refl, (refl, tt)))
+
+pub words_good : (p q : Ptr) → T (has_ty (ty_struct [] (tcons (ty_struct [] (tcons ty_ptr (tcons (ty_struct [] tnil) tnil))) (tcons (ty_struct [] (tcons ty_ptr tnil)) tnil)))
+    (vstruct (vcons (hand_of p) (vcons (one_of q) vnil)))) × WT (vstruct (vcons (hand_of p) (vcons (one_of q) vnil)))
+words_good (block_ptr b o) (block_ptr c u) = (tt, ((tt, (tt, tt)), ((tt, tt), tt)))
+words_good (block_ptr b o) null_ptr = (tt, ((tt, (tt, tt)), (((Ptr-Good null_ptr).1, tt), tt)))
+words_good null_ptr (block_ptr c u) = (tt, (((Ptr-Good null_ptr).1, (tt, tt)), ((tt, tt), tt)))
+words_good null_ptr null_ptr = (tt, (((Ptr-Good null_ptr).1, (tt, tt)), (((Ptr-Good null_ptr).1, tt), tt)))

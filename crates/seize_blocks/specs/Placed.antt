@@ -8,9 +8,9 @@ use Rattle.seize_seats.specs.Owned.{BaseId}
 abbrev pub IsItsPlace : BaseId → At → ℕ → Type 0
 IsItsPlace z at place = (IsWord z.roots z.count at → place ≡ place_of z.roots at) × (place < 2 ^ 60)
 
--- there is such a number, and its words lie from the place on
-abbrev pub IsItsNumber : BaseId → ℕ → ℕ → Type 0
-IsItsNumber z index first = (first ≡ index * 5 + long z.roots) × (first < 2 ^ 60) × (index < z.count)
+-- there is such a number, and its sign lies at the place
+abbrev pub IsItsSign : BaseId → ℕ → ℕ → Type 0
+IsItsSign z index place = (place ≡ index * 5 + long z.roots + 4) × (place < 2 ^ 60) × (index < z.count)
 
 -- of so many places each is full
 abbrev pub all_full : ℕ → List Bool

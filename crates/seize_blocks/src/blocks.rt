@@ -164,8 +164,8 @@ impl<T, R: Rule<T>> Blocks<T, R> {
         let mut from = self.next.load(SeqCst);
         for _ in 0..self.count {
             let index = if from < self.count { from } else { 0 };
-            let claim = self.words.claim(index, self.first_of(index));
-            if claim.found == 0 {
+            let (found, claim) = self.words.claim(index, self.first_of(index) + 4);
+            if found == 0 {
                 self.next.store(index + 1, SeqCst);
                 return Some((index, claim));
             }
@@ -185,7 +185,7 @@ impl<T, R: Rule<T>> Blocks<T, R> {
         match self.number(words) {
             Some((index, claim)) => {
                 self.words
-                    .put(seat, claim, index, self.values.at, Some(value));
+                    .put(seat, claim, index, self.values.at, value, words);
                 Ok(index + 1)
             }
             None => {
@@ -208,10 +208,18 @@ impl<T, R: Rule<T>> Blocks<T, R> {
             0
         };
         let first = self.first_of(index);
-        match self
-            .words
-            .take(seat, block, index, first, self.values.at, None)
-        {
+        let value = self.words.take(
+            seat,
+            block,
+            index,
+            self.values.at,
+            first,
+            first + 1,
+            first + 2,
+            first + 3,
+            first + 4,
+        );
+        match value {
             Some(value) => value,
             None => unreachable!(),
         }

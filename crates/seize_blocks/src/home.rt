@@ -118,9 +118,7 @@ impl<T: Drop, R: Rule<T>> Home<T, R> {
         let (row, ground) = lay(alloc, long)?;
         match lay_empty::<T>(alloc, count as usize) {
             Ok((empty, places)) => {
-                let at = empty.at;
-                let words = Words::open(row, empty, roots, count, fixed);
-                let values = Place { at };
+                let (words, values) = Words::open(row, empty, roots, count, fixed);
                 let next = AtomicU64::new(0);
                 let blocks = Blocks {
                     words,

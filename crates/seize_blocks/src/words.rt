@@ -5,9 +5,10 @@ ghost use Rattle.seize_seats.specs.State.{Allows, Turns, Comes, Starts};
 ghost use Rattle.seize_seats.specs.Lines.{whole, long};
 ghost use Rattle.seize_seats.specs.Steps.{roomed};
 ghost use Rattle.seize_seats.specs.Owned.{BaseId, base_id_coded, words_own, words_share};
-ghost use Rattle.seize_blocks.specs.Placed.{IsItsPlace, IsItsNumber};
+ghost use Rattle.seize_blocks.specs.Placed.{IsItsPlace, IsItsSign};
 
 use crate::claim::Claim;
+use crate::place::Place;
 use crate::row::Row;
 use crate::rule::{Rule, Turn};
 use crate::seat::Seat;
@@ -38,18 +39,21 @@ impl<T, R: Rule<T>> Words<T, R> {
         _roots: u64,
         _count: u64,
         fixed: &R::Fixed,
-    ) -> Self
+    ) -> (Self, Place<T>)
         requires { ((k : ℕ) → slice_index row.items k ≡ 0) × (length row.items ≡ whole _roots _count) × Starts (R.holds fixed.now) _roots
             × ((k : ℕ) → slice_index_or values.items k None ≡ None) × (length values.items ≡ _count) }
-        ensures { (result.words ≡ row.at) × (result.id.roots ≡ _roots) × (result.id.count ≡ _count) × (result.id.values ≡ values.at)
-            × (result.fixed ≡ fixed.now) }
+        ensures { (result.0.words ≡ row.at) × (result.0.id.roots ≡ _roots) × (result.0.id.count ≡ _count) × (result.0.id.values ≡ values.at)
+            × (result.0.fixed ≡ fixed.now) × (result.1.at ≡ values.at) }
     {
         let Row { at } = row;
-        let Row { at: _ } = values;
-        Words {
-            words: at,
-            marker: PhantomData,
-        }
+        let Row { at: places } = values;
+        (
+            Words {
+                words: at,
+                marker: PhantomData,
+            },
+            Place { at: places },
+        )
     }
 
     /// The words and the values come back from under the rule.
@@ -79,61 +83,66 @@ impl<T, R: Rule<T>> Words<T, R> {
         ensures { (seat.new.base ≡ seat.old.base) × (seat.new.id ≡ seat.old.id) × M.to seat.old.view seat.new.view }
     {}
 
-    /// Tries to claim a number, whose words lie from this place on: it was free where 0 is found.
-    pub(crate) fn claim(&self, _index: u64, first: u64) -> Claim
-        requires { IsItsNumber self.now.id _index first }
-        ensures { (result.base ≡ self.now.id.hands_name) × (result.index ≡ _index) }
+    /// Tries to claim a number, whose sign lies at this place: it was free where 0 is found.
+    pub(crate) fn claim(&self, _index: u64, place: u64) -> (u64, Claim)
+        requires { IsItsSign self.now.id _index place }
+        ensures { (result.1.base ≡ self.now.id.hands_name) × (result.1.index ≡ _index) × (result.1.found ≡ result.0) }
     {
-        Claim {
-            found: unsafe { raw::fetch_or::<Brand>(self.words.add(first as usize + 4), 1, SeqCst) },
-        }
+        let found = unsafe { raw::fetch_or::<Brand>(self.words.add(place as usize), 1, SeqCst) };
+        (found, Claim { found })
     }
 
-    /// Makes a block of a value, under a number that was claimed.
+    /// Makes a block of a value, without words of its own, under a number that was claimed.
     pub(crate) fn put(
         &self,
         seat: &mut Seat<T, R>,
         claim: Claim,
         index: u64,
         values: *mut Option<T>,
-        value: Option<T>,
+        value: T,
+        _words: u64,
     )
         requires { (seat.old.base ≡ self.now.id.views_name) × (claim.base ≡ self.now.id.hands_name) × (claim.found ≡ 0) × (claim.index ≡ index)
             × (index < self.now.id.count) × (index + 1 < 2 ^ 53) × (values ≡ self.now.id.values)
-            × ((x : T) × (value ≡ Some x) × Allows (R.holds self.now.fixed) R.keeps seat.old.id seat.old.view (Make x 0) (R.then seat.old.view (Make x 0))) }
+            × (_words ≡ 0)
+            × Allows (R.holds self.now.fixed) R.keeps seat.old.id seat.old.view (Make value _words) (R.then seat.old.view (Make value _words)) }
         ensures { (seat.new.base ≡ seat.old.base) × (seat.new.id ≡ seat.old.id)
-            × ((x : T) → value ≡ Some x → R.then seat.old.view (Make x 0) (Made (Ok (index + 1))) seat.new.view) }
+            × R.then seat.old.view (Make value _words) (Made (Ok (index + 1))) seat.new.view }
     {
         let Claim { found: _ } = claim;
-        unsafe { values.add(index as usize).write(value) }
+        unsafe { values.add(index as usize).write(Some(value)) }
     }
 
-    /// Takes a block away, and answers its value. The index is that of its number, if there is such a block.
+    /// Takes a block away, and answers its value. The index is that of its number, if there is such a block, and its words lie at these places.
     pub(crate) fn take(
         &self,
         seat: &mut Seat<T, R>,
         block: u64,
         index: u64,
-        first: u64,
         values: *mut Option<T>,
-        empty: Option<T>,
+        first: u64,
+        second: u64,
+        third: u64,
+        fourth: u64,
+        sign: u64,
     ) -> Option<T>
         requires { (seat.old.base ≡ self.now.id.views_name) × (0 < block → block ≤ self.now.id.count → index ≡ block - 1)
-            × (first ≡ index * 5 + long self.now.id.roots) × (first < 2 ^ 60) × (values ≡ self.now.id.values) × (empty ≡ None)
+            × (values ≡ self.now.id.values)
+            × (first ≡ index * 5 + long self.now.id.roots) × (second ≡ first + 1) × (third ≡ first + 2) × (fourth ≡ first + 3) × (sign ≡ first + 4)
+            × (sign < 2 ^ 60)
             × Allows (R.holds self.now.fixed) R.keeps seat.old.id seat.old.view (Take block) (R.then seat.old.view (Take block)) }
-        ensures { (seat.new.base ≡ seat.old.base) × (seat.new.id ≡ seat.old.id)
-            × ((x : T) × (result ≡ Some x) × R.then seat.old.view (Take block) (Taken x) seat.new.view) }
+        ensures { (seat.new.base ≡ seat.old.base) × (seat.new.id ≡ seat.old.id) × ((x : T) × (result ≡ Some x) × R.then seat.old.view (Take block) (Taken x) seat.new.view) }
     {
         unsafe {
             let words = self.words;
             let place = values.add(index as usize);
             let value = place.read();
-            place.write(empty);
+            place.write(None);
             words.add(first as usize).write(0);
-            words.add(first as usize + 1).write(0);
-            words.add(first as usize + 2).write(0);
-            words.add(first as usize + 3).write(0);
-            raw::store::<Brand>(words.add(first as usize + 4), 0, SeqCst);
+            words.add(second as usize).write(0);
+            words.add(third as usize).write(0);
+            words.add(fourth as usize).write(0);
+            raw::store::<Brand>(words.add(sign as usize), 0, SeqCst);
             value
         }
     }

@@ -5,6 +5,6 @@ use Rattle.seize_blocks.proofs.home.drain.Given as goal
 
 -- the places from here on hold what they held
 abbrev pub invariant-loop-index : goal.invariant-loop-index
-invariant-loop-index l =
+invariant-loop-index g l =
     Filled (slots_filled l.slots) l.index (slots_len l.slots) × (slots_ptr l.slots ≡ slots_ptr l.initial.slots)
     × (slots_len l.slots ≡ slots_len l.initial.slots)

@@ -6,7 +6,7 @@ use Rattle.seize_blocks.proofs.home.empty.Given as goal
 
 -- the places so far hold none
 abbrev pub invariant-loop-index : goal.invariant-loop-index
-invariant-loop-index l =
+invariant-loop-index g l =
     ((k : ℕ) → k < l.index → slice_index_or (slots_items l.slots) k None ≡ None) × Filled (slots_filled l.slots) 0 l.index ×
     (slots_ptr l.slots ≡ slots_ptr l.initial.slots)
     × (slots_len l.slots ≡ slots_len l.initial.slots)

@@ -3,10 +3,10 @@ use Rattle.std.proofs.Common.{◌≡◌, ℕ, List, [], ◌∷◌, ◌+◌, ◌*
 use Rattle.std.specs.Prelude.{bit_or}
 use mir.Syntax.{dcons, dnil, a_type, named}
 use mir.MapTy.{inst_fn}
-use mir.Val.{Val, vint, vptr}
+use mir.Val.{Val, vint, vptr, vstruct, vcons, vnil}
 use base.Logic.{SProp, emp, via}
 use base.Fml.{Lft, Fml, ftrue, fsep, flft, fhide}
-use types.Kit.{‵, raw, ◌⊛◌, given, mean, at_ret, ◌$◌, ◌∵◌, !, qed, by, move, keep, drop, split, join, fsplit, fjoin, learn, use0, use1, use3, rewrite}
+use types.Kit.{‵, raw, ◌⊛◌, given, mean, at_ret, ◌$◌, ◌∵◌, !, qed, by, move, keep, drop, split, join, fsplit, fjoin, fpack, feq_i, flt_i, learn, use0, use1, use3, rewrite}
 use types.Run.{stop, fld, load, lit, of_opd, bin, no_more, and_then, first, blocks, exec, Calls-last, returns, enter}
 use types.ByLocal.{alloc_all, pass_all, free_all, look_at, get, through, sets, env, lands_last}
 use types.Part.{agg, sub, whole, look_in}
@@ -15,7 +15,10 @@ use types.Within.{tokens_halve}
 use contract.Running.{tables}
 use contract.Monad.{fact, fact_i}
 use denote.Exit.{yes}
-use denote.RattleType.{RattleType, owns}
+use denote.RattleType.{RattleType, Valss, owns}
+use denote.Struct.Struct.{within}
+use denote.Struct.Declared as declared
+use denote.Struct.Tuple.{tuple_type}
 use denote.Signature.{types_at, plain}
 use denote.RawPtr.{Ptr, block_ptr, block_of, count_of, at_block}
 use denote.Steps.{nothing, peeks, heard, looks, shuts}
@@ -37,7 +40,7 @@ use Rattle.seize_seats.specs.Lines.{long}
 use Rattle.seize_seats.specs.Owned.{BaseId, IsPlaced, age, common, claim_owns, words_share}
 use Rattle.seize_seats.proofs.Shown.{placed}
 use Rattle.seize_seats.proofs.Makings.{claims}
-use Rattle.seize_blocks.specs.Placed.{IsItsNumber}
+use Rattle.seize_blocks.specs.Placed.{IsItsSign}
 use Rattle.seize_blocks.specs.contracts.words.Words as words
 use Rattle.seize_blocks.specs.contracts.claim.Claim as claim
 use Rattle.seize_blocks.proofs.Fields.{hand_of, Data, told, opened, ClaimData, claim_of, claim_made}
@@ -69,7 +72,7 @@ claim_spec 𝓤 𝓛 𝓜 𝓡 wired X P U F LX LP LU LF g d _ =
     let pb : ℕ = block_of p in let po : ℕ = count_of p in let cv = R₂.coded in let α : Lft = age z in let holds = g.holds t.fixed in
     let others : Fml = fsep (flft κs.1.0 qs.1.0) (fsep (flft κs.1.1.0 qs.1.1.0) (fsep (flft κs.1.1.1.0 qs.1.1.1.0)
     (fsep (flft κs.1.1.1.1.0 qs.1.1.1.1.0) ftrue))) in
-    let Asked : Type 0 = IsItsNumber z j i in
+    let Asked : Type 0 = IsItsSign z j i in
     let y : (walk_of 𝓛 En hs c).Ghost = ((κs, qs, bounds, a, (vptr b o ∷ [], (vint w64 j ∷ [], (vint w64 i ∷ [], tt)))), gh) in
     let Post : Val → SProp 𝓤 = (walk_of 𝓛 En hs c).post y in
     qed 𝓛 (((‵ (flft κs.0 qs.0) ⊛ ‵ others) ⊛ ‵ (owns (types_at En.signature.params κs) a y.0.4)) ∷ raw (fact 𝓤 _) ∷ raw (fact 𝓤 _) ∷ raw (fact 𝓤 _) ∷
@@ -83,8 +86,7 @@ claim_spec 𝓤 𝓛 𝓜 𝓡 wired X P U F LX LP LU LF g d _ =
     []))).coded) (words.the_heap R₀ R₁ R₂ R₃ g) (words.the_lent R₀ R₁ R₂ R₃ g) κ t b o) $
     split ! $ move ! (1 ∷ []) $ unhide ! $ fsplit ! $ move ! (1 ∷ []) $
     use1 𝓛 (given (IsPlaced R₀ p z) (‵ (common R₀ cv.code holds p z))) (placed R₀ cv holds p z 𝓛) $ learn ! (λ there. fsplit ! $ drop ! $
-    let low = asked.1 in let at_p : p ≡ block_ptr pb po = at_block p there.0 in let four : i + 4 < 2 ^ 64 = omega (arith, low) in
-    let small : (i + 4) * 8 < 2 ^ 64 = omega (arith, low) in
+    let low = asked.1 in let at_p : p ≡ block_ptr pb po = at_block p there.0 in let small : i * 8 < 2 ^ 64 = omega (arith, low) in
     -- [the invariant; its lifetime lasts; the fields; the token; the others]
     move ! (2 ∷ 3 ∷ []) $ looks ! tt D (opened R₀ R₁ R₂ R₃ g 𝓛) (p, (tt, tt)) b o (λ q vs. move ! (1 ∷ []) $
     peeks ! D (Is D) (shows 𝓛 D) (p, (tt, tt)) vs (λ is_so.
@@ -92,12 +94,11 @@ claim_spec 𝓤 𝓛 𝓜 𝓡 wired X P U F LX LP LU LF g d _ =
     rewrite ! 1 (λ (ws : List Val). ‵ (cell_at q D.mir ws b o)) ev refl $ first ! $ blocks ! $
     sets ! (of_opd ! (load ! (through ! refl (fld ! refl (stop !))) (look_in ! 1 (sub ! 0 refl (whole !))))) refl (tt, tt) $
     sets ! (of_opd ! (get ! refl)) refl (tt, record { fits = are.1.1.0.1 }) $
-    sets ! (bin ! (get ! refl) (lit ! tt) (record { fits = four })) refl (tt, record { fits = four }) $
     sets ! (bin ! (get ! refl) (lit ! tt) (record { fits = small })) refl (tt, record { fits = small }) $
     sets ! (bin ! (get ! refl) (get ! refl) tt) refl (tt, tt) $
     rewrite ! 1 (λ (ws : List Val). ‵ (cell_at q D.mir ws b o)) (sym ev) refl $ move ! (1 ∷ 0 ∷ 2 ∷ []) $ shuts ! tt D q (p, (tt, tt)) vs b o $
     move ! (3 ∷ 0 ∷ []) $
-    let e : ℕ = (i + 4) * 8 + po in let is_at = asked.0 in let at : j * 40 + (long z.roots * 8 + po) + 32 ≡ e = omega (arith, is_at) in
+    let e : ℕ = i * 8 + po in let is_at = asked.0 in let at : j * 40 + (long z.roots * 8 + po) + 32 ≡ e = omega (arith, is_at) in
     shr_bor-open ! tt (tokens_halve 𝓛 α) (λ s. let out : ℕ → Fml = λ n. fsep (flft α s) (claim_owns z.hands_name j n) in
     -- [open; the token; the fields; the invariant; the others]
     nothing ! $ move ! (4 ∷ 2 ∷ 0 ∷ []) $
@@ -109,10 +110,15 @@ claim_spec 𝓤 𝓛 𝓜 𝓡 wired X P U F LX LP LU LF g d _ =
     lands_last ! refl (tt, record { fits = fits }) $ exec ! 𝓣.C 𝓣.Λ Ev (tail fn.body) (at_ret Ev Post) $
     sets ! (of_opd ! (get ! refl)) refl (tt, record { fits = fits }) $
     sets ! (agg ! (and_then ! (get ! refl) (no_more !))) refl (tt, (record { fits = fits }, tt)) $
+    sets ! (agg ! (and_then ! (get ! refl) (and_then ! (get ! refl) (no_more !)))) refl (tt, (record { fits = fits }, ((record { fits = fits }, tt), tt))) $
     fsplit ! $ move ! (2 ∷ 0 ∷ []) $ obor_close ! tt $ drop ! $ move ! (1 ∷ []) $
-    let r : Cl.Denot = record { found = n; base = z.hands_name; index = j } in let Told : Type 0 = (z.hands_name ≡ z.hands_name) × (j ≡ j) in
+    let r : Cl.Denot = record { found = n; base = z.hands_name; index = j } in let Told : Type 0 = (z.hands_name ≡ z.hands_name) × (j ≡ j) × (n ≡ n) in
+    let pair : Val = vstruct (vcons (vint w64 n) (vcons (claim_of n) vnil)) in
     use0 𝓛 (‵ (ClaimData.own_val (n, tt) (claim_of n ∷ []))) (claim_made 𝓛 n fits) $ fjoin ! $
+    nothing ! $ move ! (1 ∷ 0 ∷ []) $ fjoin ! $ flt_i ! n (2 ^ 64) fits $ feq_i ! (List Val) (vint w64 n ∷ []) (vint w64 n ∷ []) refl $ fjoin ! $ fjoin ! $
+    feq_i ! (List Val) (pair ∷ []) (pair ∷ []) refl $ fjoin ! $
+    fpack ! (Valss (u64 ∷ Cl ∷ [])) (within (declared.shape (tuple_type (u64 ∷ Cl ∷ []))) (n, (r, tt)) (pair ∷ [])) (vint w64 n ∷ [], (claim_of n ∷ [], tt)) $
     nothing ! $ nothing ! $ fjoin ! $ nothing ! $ fjoin ! $ nothing ! $ fjoin ! $ move ! (2 ∷ 4 ∷ []) $ join ! $
-    use0 𝓛 (raw (fact 𝓤 Told)) (fact_i 𝓤 Told (emp 𝓤) (refl, refl)) $
+    use0 𝓛 (raw (fact 𝓤 Told)) (fact_i 𝓤 Told (emp 𝓤) (refl, refl, refl)) $
     returns ! (look_at ! 0 refl) $ free_all ! refl $ keep ! (1 ∷ 2 ∷ 3 ∷ 0 ∷ []) $
-    by ! (leaves 𝓛 En hs c y (claim_of n) r (tt, (tt, (tt, tt))) (tt, (tt, (tt, tt)))))))))))))
+    by ! (leaves 𝓛 En hs c y pair (n, r) (tt, (tt, (tt, tt))) (tt, (tt, (tt, tt)))))))))))))
