@@ -147,17 +147,28 @@ takes id n x v is s has at = (subst IsSome (sym there) refl, λ out m took. told
     told (Made r) m took = absurd took.0
     told (Roomed r) m took = absurd took.0
 
-pub comes : Comes AreTheirs NoneLent None
-comes s has = (tt, record { there = λ j n x e. there j n x (push_get s.views j None (Some (n, x)) e); apart = λ j k n x y e f. apart j k n x y (push_get s.views j None (Some (n, x)) e) (push_get s.views k None (Some (n, y)) f) }, λ b u o kept. kept)
-  where
-    there : (j n x : ℕ) → (view_of s j ≡ Some (Some (n, x))) ⊎ (Some (n, x) ≡ None) → value_at s.memory n ≡ Some x
-    there j n x (inl e) = has.there j n x e
-    there j n x (inr no) = absurd (cc no)
+-- one block
+abbrev one : ℕ → ℕ → Own
+one n x = Some (n, x)
 
-    apart : (j k n x y : ℕ) → (view_of s j ≡ Some (Some (n, x))) ⊎ (Some (n, x) ≡ None) → (view_of s k ≡ Some (Some (n, y))) ⊎ (Some (n, y) ≡ None) → j ≡ k
+pub comes : Comes AreTheirs NoneLent None
+comes s has = (
+  tt,
+  record {
+    there = λ j n x e. there j n x (push_get s.views j None (one n x) e);
+    apart = λ j k n x y e f. apart j k n x y (push_get s.views j None (one n x) e) (push_get s.views k None (one n y) f);
+  },
+  λ b u o kept. kept,
+)
+  where
+    there : (j n x : ℕ) → (view_of s j ≡ Some (one n x)) ⊎ (one n x ≡ None) → value_at s.memory n ≡ Some x
+    there j n x (inl e) = has.there j n x e
+    there j n x (inr none) = absurd (cc none)
+
+    apart : (j k n x y : ℕ) → (view_of s j ≡ Some (one n x)) ⊎ (one n x ≡ None) → (view_of s k ≡ Some (one n y)) ⊎ (one n y ≡ None) → j ≡ k
     apart j k n x y (inl e) (inl f) = has.apart j k n x y e f
-    apart j k n x y (inr no) q = absurd (cc no)
-    apart j k n x y (inl e) (inr no) = absurd (cc no)
+    apart j k n x y (inr none) q = absurd (cc none)
+    apart j k n x y (inl e) (inr none) = absurd (cc none)
 
 pub starts : (roots : ℕ) → Starts {T = ℕ} AreTheirs roots
 starts roots = (tt, record { there = λ j n x e. absurd (cc e); apart = λ j k n x y e f. absurd (cc e) })

@@ -9,6 +9,7 @@ use std::test::Fail;
 use std::thread;
 
 /// A value that keeps no list of further values.
+#[derive(Drop)]
 struct Plain;
 
 impl Defers for Plain {
